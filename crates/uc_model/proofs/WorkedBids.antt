@@ -6,7 +6,9 @@ use Rattle.uc_model.specs.Data.{ThermalUnit, BidUnit, Bid, Schedule, Market}
 use Rattle.uc_model.specs.Earnings.{earnings, worth_of, supply_in}
 use Rattle.uc_model.specs.Envelope.{envelope}
 use Rattle.uc_model.specs.PriceRule.{start_prices, is_settled}
-use Rattle.uc_model.specs.Refusals.{refusals, thermal_refusals, Window, MustRun, BidRange, Balance, OfThermal, OfBid, OfCase}
+use Rattle.uc_model.specs.declared.kinds.Kind.TheVariants as kinds
+use Rattle.uc_model.specs.declared.kinds.RuleCode.TheVariants.{Window, MustRun, BidRange, Balance}
+use Rattle.uc_model.specs.Refusals.{refusals, thermal_refusals}
 use Rattle.uc_model.specs.Systems.{plan_cost, total_power}
 use Rattle.uc_model.specs.TaskLists.{unit_numbers}
 use Rattle.uc_model.specs.Data.{units}
@@ -51,8 +53,8 @@ pub met_refusals : refusals with_buyer (met_plan 50) ≡ []
 met_refusals = refl
 
 pub bought_too_much : refusals with_buyer (met_plan 60)
-    ≡ record { rule = BidRange; kind = OfBid; unit = 1; period = 1; left = pos 60; right = pos 50 }
-    ∷ record { rule = Balance; kind = OfCase; unit = 0; period = 1; left = pos 140; right = pos 150 } ∷ []
+    ≡ record { rule = BidRange; kind = kinds.Bid; unit = 1; period = 1; left = pos 60; right = pos 50 }
+    ∷ record { rule = Balance; kind = kinds.Case; unit = 0; period = 1; left = pos 140; right = pos 150 } ∷ []
 bought_too_much = refl
 
 pub buyer_numbers : unit_numbers (Bid buyer) ≡ pos 2 ∷ pos 1 ∷ pos 50 ∷ pos 40 ∷ []
@@ -64,11 +66,11 @@ abbrev marked : Mark → ThermalUnit
 marked m = record block_unit { window = m ∷ [] }
 
 pub must_be_off : thermal_refusals 1 2 (marked MustOff) (one_period true 100 0)
-    ≡ record { rule = Window; kind = OfThermal; unit = 2; period = 1; left = pos 1; right = pos 0 } ∷ []
+    ≡ record { rule = Window; kind = kinds.Thermal; unit = 2; period = 1; left = pos 1; right = pos 0 } ∷ []
 must_be_off = refl
 
 pub must_be_on : thermal_refusals 1 2 (marked MustOn) (one_period false 0 0)
-    ≡ record { rule = Window; kind = OfThermal; unit = 2; period = 1; left = pos 0; right = pos 1 } ∷ []
+    ≡ record { rule = Window; kind = kinds.Thermal; unit = 2; period = 1; left = pos 0; right = pos 1 } ∷ []
 must_be_on = refl
 
 pub may_be_off : thermal_refusals 1 2 (marked Free) (one_period false 0 0) ≡ []
@@ -79,9 +81,9 @@ abbrev torn : ThermalUnit
 torn = record block_unit { must_run = true; window = MustOff ∷ [] }
 
 pub torn_off : thermal_refusals 1 1 torn (one_period false 0 0)
-    ≡ record { rule = MustRun; kind = OfThermal; unit = 1; period = 1; left = pos 0; right = pos 1 } ∷ []
+    ≡ record { rule = MustRun; kind = kinds.Thermal; unit = 1; period = 1; left = pos 0; right = pos 1 } ∷ []
 torn_off = refl
 
 pub torn_on : thermal_refusals 1 1 torn (one_period true 100 0)
-    ≡ record { rule = Window; kind = OfThermal; unit = 1; period = 1; left = pos 1; right = pos 0 } ∷ []
+    ≡ record { rule = Window; kind = kinds.Thermal; unit = 1; period = 1; left = pos 1; right = pos 0 } ∷ []
 torn_on = refl
