@@ -153,3 +153,15 @@ pub can_be_value-empty : (text : List ℕ) → length text ≤ 0 → can_be_valu
 unfolding can_be_value
 can_be_value-empty [] h = refl
 can_be_value-empty (byte ∷ bytes) h = absurd (omega arith)
+
+not_true : (b : Bool) → (b ≡ true → ⊥) → b ≡ false
+not_true true h = absurd (h refl)
+not_true false h = refl
+
+-- what may be a value is no option
+pub is_option-value : (value : List ℕ) → can_be_value value ≡ true → is_option value ≡ false
+unfolding is_option can_be_value
+is_option-value value h = not_true (is_option value) (λ e.
+    let dashes = (starts_is Decides-eqb value (codes "--") (is_option value) refl).0 e in
+    let refused : can_be_value value ≡ false = ap can_be_value dashes in
+    cc)

@@ -1,6 +1,7 @@
 -- A command with its words, with names as their bytes (this project's profile).
 use Rattle.std.specs.Prelude.{ℕ, ℤ, pos, List, Option, Some, None, option_map, unwrap_or}
 use Rattle.hull_words.specs.declared.command.PriceWords.{PriceWords}
+use Rattle.hull_words.specs.declared.command.CheckWords.{CheckWords}
 use Rattle.hull_words.specs.declared.command.Command.{Command}
 use Rattle.hull_words.specs.declared.command.Command.TheVariants as commands
 use Rattle.hull_words.specs.declared.kinds.CommandKind.{CommandKind}
@@ -45,9 +46,12 @@ pub data Asked : Type 0 where
 abbrev pub price_asked : PriceWords → PriceAsked
 price_asked w = record { case_name = w.case_name.items; schedule_name = w.schedule_name.items; proposals = w.proposals; workers = w.workers; ahead = w.ahead }
 
+abbrev pub check_asked : CheckWords → CheckAsked
+check_asked w = record { case_name = w.case_name.items; schedule_name = w.schedule_name.items }
+
 abbrev pub asked : Command → Asked
 asked (commands.Price w) = price (price_asked w)
-asked (commands.Check w) = check (record { case_name = w.case_name.items; schedule_name = w.schedule_name.items })
+asked (commands.Check w) = check (check_asked w)
 asked (commands.Try w) = try (record { number = w.number; proposals = w.proposals; workers = w.workers; ahead = w.ahead })
 asked (commands.Bound w) = bound (record { run = price_asked w.run; radius = w.radius })
 asked (commands.Fixed w) = fixed (price_asked w)

@@ -37,6 +37,15 @@ is_set Workers found = is_some found.workers
 is_set Ahead found = is_some found.ahead
 is_set Radius found = is_some found.radius
 
+-- how many values are set
+abbrev pub flag : Bool → ℕ
+flag true = 1
+flag false = 0
+
+abbrev pub set_count : Found → ℕ
+set_count f = flag (is_some f.case_name) + flag (is_some f.schedule_name) + flag (is_some f.report_name) + flag (is_some f.proposals)
+    + flag (is_some f.workers) + flag (is_some f.ahead) + flag (is_some f.radius) + flag (is_some f.number)
+
 -- a step on a number that is there, and otherwise a bad one
 abbrev pub with_number : Option ℕ → (ℕ → Found) → Result Found WordCode
 with_number None put = Err BadNumber

@@ -1,6 +1,9 @@
 -- The command that a list of words gives, or its first fault (this project's profile).
 -- A rule at a place looks at that word, the next one and the words before it, here from the nearest on.
-use Rattle.std.specs.Prelude.{◌≡◌, ℕ, ◌+◌, Bool, true, false, not, ◌&&◌, ◌||◌, List, [], ◌∷◌, length, Option, Some, None, is_some, option_and_then, Result, Ok, Err, if◌then◌else◌}
+use Rattle.std.specs.Prelude.{◌≡◌, ℕ, ◌+◌, Bool, true, false, not, ◌&&◌, ◌||◌, List, [], ◌∷◌, length, Option, Some, None, is_some, option_and_then, map, Result, Ok, Err, if◌then◌else◌}
+use Rattle.std.specs.Global.{Global}
+use Rattle.std.specs.declared.string.String.{String}
+use Rattle.std.specs.String.{string_bytes}
 use Rattle.std.specs.List.{find, list_any}
 use Rattle.std.specs.Str.{bytes_eq}
 use Rattle.hull_words.specs.declared.kinds.CommandKind.{CommandKind}
@@ -138,7 +141,7 @@ abbrev pub values_of : CommandKind → List (List ℕ) → Result Found WordFaul
 values_of command later = or_fault (first_fault command [] later) (found_in (backwards [] later))
 
 -- what is missing comes last, at the number of words
-abbrev pub or_missing : Option Asked → ℕ → Result Asked WordFault
+abbrev pub or_missing : {A : Type 0} → Option A → ℕ → Result A WordFault
 or_missing None count = Err (fault MissingOption count)
 or_missing (Some a) count = Ok a
 
@@ -154,6 +157,10 @@ later_words (Some command) later = asked_of command (length later + 1) (values_o
 unfoldable pub words_of : List (List ℕ) → Result Asked WordFault
 words_of [] = Err (fault NoCommand 0)
 words_of (first ∷ later) = later_words (command_named first) later
+
+-- words as their bytes
+abbrev pub texts : List (String Global) → List (List ℕ)
+texts words = map string_bytes words
 
 -- ---- what a call answers
 

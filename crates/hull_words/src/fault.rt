@@ -2,7 +2,7 @@
 
 ghost use Rattle.std.specs.Prelude.{◌≡◌};
 ghost use Rattle.hull_words.specs.Codes.{code_number};
-ghost use Rattle.hull_words.specs.declared.fault.WordError.TheVariants.{Memory};
+ghost use Rattle.hull_words.specs.declared.fault.WordError.TheVariants.{Fault, Memory};
 
 use std::alloc::AllocError;
 use thiserror::Error;
@@ -60,5 +60,13 @@ impl From<AllocError> for WordError {
 
     fn from(_e: AllocError) -> WordError {
         WordError::Memory
+    }
+}
+
+impl From<WordFault> for WordError {
+    ghost from_gives = { λ fault e. e ≡ Fault fault };
+
+    fn from(fault: WordFault) -> WordError {
+        WordError::Fault(fault)
     }
 }

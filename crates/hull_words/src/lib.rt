@@ -5,12 +5,12 @@ mod command;
 mod fault;
 mod given;
 mod kinds;
-
+mod reading;
 mod text;
 
 pub use command::{AuditWords, BoundWords, CheckWords, Command, PriceWords, TryWords};
 pub use fault::{WordCode, WordError, WordFault};
-
+pub use reading::read_words;
 
 
 
