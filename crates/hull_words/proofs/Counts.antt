@@ -17,8 +17,17 @@ flag_bound true = omega arith
 flag_bound false = omega arith
 
 pub set_count_bound : (f : Found) → set_count f ≤ 8
-set_count_bound f = omega (arith, flag_bound (is_some f.case_name), flag_bound (is_some f.schedule_name), flag_bound (is_some f.report_name), flag_bound (is_some f.proposals),
-    flag_bound (is_some f.workers), flag_bound (is_some f.ahead), flag_bound (is_some f.radius), flag_bound (is_some f.number))
+set_count_bound f = omega (
+  arith,
+  flag_bound (is_some f.case_name),
+  flag_bound (is_some f.schedule_name),
+  flag_bound (is_some f.report_name),
+  flag_bound (is_some f.proposals),
+  flag_bound (is_some f.workers),
+  flag_bound (is_some f.ahead),
+  flag_bound (is_some f.radius),
+  flag_bound (is_some f.number),
+)
 
 abbrev done : {A : Type 0} → A → Result A WordCode
 done x = Ok x

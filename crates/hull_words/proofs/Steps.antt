@@ -231,9 +231,10 @@ set_option (Err code) o command earlier word later found text at kind fresh valu
     let f : SetFollows o text (Err code) = subst (SetFollows o text) e (set_follows o text found) in
     fault_at-option command earlier word (first_of later) (Some o) false (Some text) at.apart at.option kind fresh value ∙ rw (ok, f.0, f.1) refl
 set_option (Ok after) o command earlier word later found text at kind fresh value ok e =
-    let f : SetFollows o text (Ok after) = subst (SetFollows o text) e (set_follows o text found) in
-    (fault_at-option command earlier word (first_of later) (Some o) false (Some text) at.apart at.option kind fresh value ∙ rw (ok, f) refl,
-    goes_on o (own_value word) command earlier word later found after text at (name_is command (option_name word) o kind) refl value ok e)
+    let f : SetFollows o text (Ok after) = subst (SetFollows o text) e (set_follows o text found) in (
+      fault_at-option command earlier word (first_of later) (Some o) false (Some text) at.apart at.option kind fresh value ∙ rw (ok, f) refl,
+      goes_on o (own_value word) command earlier word later found after text at (name_is command (option_name word) o kind) refl value ok e,
+    )
 
 with_text : (b : Bool) (o : OptionKind) (command : CommandKind) (earlier : List (List ℕ)) (word : List ℕ) (later : List (List ℕ)) (found : Found) (text : List ℕ) → AtOption command earlier word found
     → option_in command (option_name word) ≡ Some o → is_given (option_name word) earlier ≡ false → value_at word (first_of later) ≡ Some text → can_be_value text ≡ b
@@ -273,8 +274,19 @@ agrees-number : (n : ℕ) (earlier : List (List ℕ)) (word : List ℕ) (found :
     → Agrees (word ∷ earlier) (record found { number = Some n })
 unfolding found_in
 agrees-number n earlier word found a plain apart number = record {
-  values = rw (a.values, plain_value word earlier Case plain apart, plain_value word earlier Schedule plain apart, plain_value word earlier Report plain apart, plain_value word earlier Proposals plain apart,
-    plain_value word earlier Workers plain apart, plain_value word earlier Ahead plain apart, plain_value word earlier Radius plain apart, plain, apart, number) refl;
+  values = rw (
+    a.values,
+    plain_value word earlier Case plain apart,
+    plain_value word earlier Schedule plain apart,
+    plain_value word earlier Report plain apart,
+    plain_value word earlier Proposals plain apart,
+    plain_value word earlier Workers plain apart,
+    plain_value word earlier Ahead plain apart,
+    plain_value word earlier Radius plain apart,
+    plain,
+    apart,
+    number,
+  ) refl;
   marks = λ o. number_marks o n found ∙ a.marks o ∙ rw plain refl;
   numbers = rw (plain, apart) refl;
 }

@@ -79,16 +79,28 @@ names_from found = with_both found.case_name found.schedule_name (λ case_name s
 
 abbrev pub price_from : Found → Option PriceAsked
 price_from found = option_map (λ names. record {
-  case_name = names.case_name; schedule_name = names.schedule_name;
-  proposals = unwrap_or found.proposals 100; workers = unwrap_or found.workers 4; ahead = unwrap_or found.ahead 4 }) (names_from found)
+  case_name = names.case_name;
+  schedule_name = names.schedule_name;
+  proposals = unwrap_or found.proposals 100;
+  workers = unwrap_or found.workers 4;
+  ahead = unwrap_or found.ahead 4;
+}) (names_from found)
 
 -- the command with its values, by default where absent; None where one that it requires is absent
 abbrev pub asked_from : CommandKind → Found → Option Asked
 asked_from Price found = option_map price (price_from found)
 asked_from Check found = option_map check (names_from found)
 asked_from Try found = option_map (λ number. try (record {
-  number = number; proposals = unwrap_or found.proposals 100; workers = unwrap_or found.workers 4; ahead = unwrap_or found.ahead 4 })) found.number
+  number = number;
+  proposals = unwrap_or found.proposals 100;
+  workers = unwrap_or found.workers 4;
+  ahead = unwrap_or found.ahead 4;
+})) found.number
 asked_from Bound found = option_map (λ run. bound (record { run = run; radius = pos (unwrap_or found.radius 20_000_000) })) (price_from found)
 asked_from Fixed found = option_map fixed (price_from found)
 asked_from Audit found = with_both (names_from found) found.report_name (λ names report_name. audit (record {
-  case_name = names.case_name; schedule_name = names.schedule_name; report_name = report_name; workers = unwrap_or found.workers 4 }))
+  case_name = names.case_name;
+  schedule_name = names.schedule_name;
+  report_name = report_name;
+  workers = unwrap_or found.workers 4;
+}))

@@ -23,7 +23,8 @@ found_so_far given = record {
   workers = given.workers;
   ahead = given.ahead;
   radius = given.radius;
-  number = given.number }
+  number = given.number;
+}
 
 abbrev pub nothing : Found
 nothing = record { case_name = None; schedule_name = None; report_name = None; proposals = None; workers = None; ahead = None; radius = None; number = None }

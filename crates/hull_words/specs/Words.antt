@@ -130,7 +130,8 @@ found_in words = record {
   workers = option_and_then (setting Workers) (value_of (spelling Workers) None words);
   ahead = option_and_then (setting Ahead) (value_of (spelling Ahead) None words);
   radius = option_and_then (setting Radius) (value_of (spelling Radius) None words);
-  number = option_and_then try_number (first_of (plain_words words)) }
+  number = option_and_then try_number (first_of (plain_words words));
+}
 
 -- the values that the words after the command give, or the first fault
 abbrev pub or_fault : Option WordFault → Found → Result Found WordFault

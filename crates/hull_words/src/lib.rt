@@ -12,5 +12,5 @@ pub use command::{AuditWords, BoundWords, CheckWords, Command, PriceWords, TryWo
 pub use fault::{WordCode, WordError, WordFault};
 pub use reading::read_words;
 
-
-
+#[cfg(test)]
+mod tests;
