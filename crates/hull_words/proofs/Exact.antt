@@ -1,15 +1,15 @@
 -- The reader's pass gives what the rules give.
-use Rattle.std.proofs.Common.{◌≡◌, ℕ, ◌+◌, Bool, true, false, cond, List, [], ◌∷◌, length, Option, Some, None, Result, Ok, Err, refl, sym, ap, subst, ◌∙◌, arith}
+use Rattle.std.proofs.Common.{◌≡◌, ℕ, ◌+◌, Bool, true, false, List, [], ◌∷◌, length, Some, None, Result, Ok, Err, refl, sym, ap, ◌∙◌, arith}
 use Rattle.std.proofs.lemmas.Option.{same_Some}
 use Rattle.hull_words.specs.declared.kinds.CommandKind.{CommandKind}
 use Rattle.hull_words.specs.declared.kinds.OptionKind.{OptionKind}
-use Rattle.hull_words.specs.declared.kinds.OptionKind.TheVariants.{Case, Schedule, Report, Proposals, Workers, Ahead, Radius}
+use Rattle.hull_words.specs.declared.kinds.OptionKind.TheVariants.{Case}
 use Rattle.hull_words.specs.declared.fault.WordCode.{WordCode}
 use Rattle.hull_words.specs.declared.fault.WordFault.{WordFault}
 use Rattle.hull_words.specs.Texts.{is_option, takes_next}
 use Rattle.hull_words.specs.Spelling.{spelling}
 use Rattle.hull_words.specs.Asked.{Found}
-use Rattle.hull_words.specs.Words.{is_given, is_value_after, fault_at, first_of, first_fault, backwards, found_in, or_fault, or_later, fault, values_of, value_of, plain_words}
+use Rattle.hull_words.specs.Words.{is_given, is_value_after, fault_at, first_of, first_fault, backwards, found_in, or_fault, fault, values_of, value_of}
 use Rattle.hull_words.specs.Reading.{nothing, is_set, word_step, then_on, read_from}
 use Rattle.hull_words.proofs.Steps.{Agrees, Goes, Follows, word_follows}
 

@@ -11,7 +11,7 @@ use Rattle.hull_words.specs.declared.fault.WordCode.TheVariants.{NoCommand, Unkn
 use Rattle.hull_words.specs.declared.fault.WordFault.{WordFault}
 use Rattle.hull_words.specs.Spelling.{command_named}
 use Rattle.hull_words.specs.Texts.{takes_next}
-use Rattle.hull_words.specs.Asked.{Found, Asked, asked_from}
+use Rattle.hull_words.specs.Asked.{Found, asked_from}
 use Rattle.hull_words.specs.Words.{first_of, fault, texts, words_of, values_of, asked_of, or_missing}
 use Rattle.hull_words.specs.Reading.{flag, nothing, word_step, read_from}
 use Rattle.hull_words.proofs.Counts.{flag_bound}

@@ -1,8 +1,8 @@
 -- One pass over the words, as the reader makes it: what each step leaves.
-use Rattle.std.specs.Prelude.{ℕ, ◌+◌, Bool, true, false, List, [], ◌∷◌, Option, Some, None, is_some, is_none, Result, Ok, Err, if◌then◌else◌}
+use Rattle.std.specs.Prelude.{ℕ, ◌+◌, Bool, true, false, List, [], ◌∷◌, Option, Some, None, is_some, Result, Ok, Err, if◌then◌else◌}
 use Rattle.std.specs.Option.{option_copied}
 use Rattle.hull_words.specs.declared.kinds.CommandKind.{CommandKind}
-use Rattle.hull_words.specs.declared.kinds.CommandKind.TheVariants.{Price, Check, Try, Bound, Fixed, Audit}
+use Rattle.hull_words.specs.declared.kinds.CommandKind.TheVariants.{Try}
 use Rattle.hull_words.specs.declared.kinds.OptionKind.{OptionKind}
 use Rattle.hull_words.specs.declared.kinds.OptionKind.TheVariants.{Case, Schedule, Report, Proposals, Workers, Ahead, Radius}
 use Rattle.hull_words.specs.declared.fault.WordCode.{WordCode}

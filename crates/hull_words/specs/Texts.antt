@@ -1,5 +1,5 @@
 -- What one word says by itself (this project's profile).
-use Rattle.std.specs.Prelude.{ℕ, ◌==◌, ◌+◌, nat_le, nat_lt, Bool, true, false, not, ◌&&◌, List, [], ◌∷◌, length, drop, Option, Some, None, is_none, if◌then◌else◌, codes}
+use Rattle.std.specs.Prelude.{ℕ, ◌==◌, nat_le, nat_lt, Bool, false, not, ◌&&◌, List, [], ◌∷◌, length, drop, Option, Some, None, is_none, if◌then◌else◌, codes}
 use Rattle.std.specs.List.{starts_with, before_first, after_first, position_or_len, list_all}
 use Rattle.std.specs.Prelude.{nat_eq}
 use Rattle.std.specs.Char.{is_ascii_digit}

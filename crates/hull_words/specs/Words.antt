@@ -1,13 +1,13 @@
 -- The command that a list of words gives, or its first fault (this project's profile).
 -- A rule at a place looks at that word, the next one and the words before it, here from the nearest on.
-use Rattle.std.specs.Prelude.{◌≡◌, ℕ, ◌+◌, Bool, true, false, not, ◌&&◌, ◌||◌, List, [], ◌∷◌, length, Option, Some, None, is_some, option_and_then, map, Result, Ok, Err, if◌then◌else◌}
+use Rattle.std.specs.Prelude.{◌≡◌, ℕ, ◌+◌, Bool, true, false, ◌&&◌, ◌||◌, List, [], ◌∷◌, length, Option, Some, None, is_some, option_and_then, map, Result, Ok, Err, if◌then◌else◌}
 use Rattle.std.specs.Global.{Global}
 use Rattle.std.specs.declared.string.String.{String}
 use Rattle.std.specs.String.{string_bytes}
 use Rattle.std.specs.List.{find, list_any}
 use Rattle.std.specs.Str.{bytes_eq}
 use Rattle.hull_words.specs.declared.kinds.CommandKind.{CommandKind}
-use Rattle.hull_words.specs.declared.kinds.CommandKind.TheVariants.{Price, Check, Try, Bound, Fixed, Audit}
+use Rattle.hull_words.specs.declared.kinds.CommandKind.TheVariants.{Try}
 use Rattle.hull_words.specs.declared.kinds.OptionKind.{OptionKind}
 use Rattle.hull_words.specs.declared.kinds.OptionKind.TheVariants.{Case, Schedule, Report, Proposals, Workers, Ahead, Radius}
 use Rattle.hull_words.specs.declared.fault.WordCode.{WordCode}

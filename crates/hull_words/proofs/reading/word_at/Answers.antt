@@ -1,4 +1,3 @@
-use Rattle.std.proofs.Common.{ap, sym, ◌∙◌}
 use Rattle.hull_words.proofs.Places.{first_of-texts}
 use Rattle.hull_words.proofs.reading.word_at.Goals as goal
 

@@ -1,4 +1,4 @@
-use Rattle.std.proofs.Common.{sym, arith, ◌∙◌, lit<}
+use Rattle.std.proofs.Common.{sym, lit<}
 use Rattle.std.proofs.lemmas.Str.Pattern.{split_once_first}
 use Rattle.std.specs.Prelude.{Some, None}
 use Rattle.hull_words.proofs.TextLemmas.{is_option-false, stripped, name-before, name-whole, value-behind, value-none}
