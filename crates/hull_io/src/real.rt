@@ -25,7 +25,9 @@ pub struct FileShelf<'a, R: Files> {
 
 impl<'a, R: Files> FileShelf<'a, R> {
     /// A shelf with no file open and no fault.
-    pub fn new(rt: &'a R) -> Self {
+    pub fn new(rt: &'a R) -> Self
+        ensures { result.faults ≡ 0 }
+    {
         FileShelf {
             rt,
             open: None,
@@ -106,7 +108,9 @@ pub struct StdSink<W: Write + Drop> {
 
 impl<W: Write + Drop> StdSink<W> {
     /// A sink with no fault.
-    pub fn new(out: W) -> Self {
+    pub fn new(out: W) -> Self
+        ensures { result.faults ≡ 0 }
+    {
         StdSink { out, faults: 0 }
     }
 }

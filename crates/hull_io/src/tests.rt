@@ -1,7 +1,7 @@
 // What no clause says: that calls succeed, and what real files and outputs do.
 use crate::{
-    File, FileShelf, MOST, MemoryShelf, MemorySink, ReadFailed, ReadFault, Shelf, Sink, StdSink,
-    SureShelf, SureSink, WriteFailed, read_whole, write_whole,
+    File, FileShelf, MOST_BYTES, MemoryShelf, MemorySink, ReadFailed, ReadFault, Shelf, Sink,
+    StdSink, SureShelf, SureSink, WriteFailed, read_whole, write_whole,
 };
 use std::alloc::{AllocError, Global};
 use std::test::Fail;
@@ -86,10 +86,10 @@ fn largest_file(rt: HostRuntime) -> Result<(), Fail> {
     let alloc = rt.alloc();
     let mut files = vec![in alloc; file(alloc, "a", b"")?]?;
     for file in files.iter_mut() {
-        file.bytes = vec![in alloc; b' '; MOST]?;
+        file.bytes = vec![in alloc; b' '; MOST_BYTES]?;
     }
     let mut shelf = SureShelf::make(alloc, files.as_slice())?;
-    assert_eq!(rt; read_whole(alloc, &mut shelf, "a")?.len(), MOST);
+    assert_eq!(rt; read_whole(alloc, &mut shelf, "a")?.len(), MOST_BYTES);
     assert_eq!(rt; read_whole(alloc, &mut shelf, "b")?.len(), 0);
     for file in files.iter_mut() {
         file.bytes.push(b' ')?;
