@@ -1,5 +1,5 @@
 -- Bytes under names, in memory. This project's profile.
-use Rattle.std.specs.Prelude.{ℕ, List, ◌≤◌, ◌≡◌, length, take, drop, min, ◌-◌, map, Option, position, find, string_bytes, unwrap_or, []}
+use Rattle.std.specs.Prelude.{ℕ, List, map, Option, position, find, string_bytes, unwrap_or, []}
 use Rattle.std.specs.Option.{option_map}
 use Rattle.std.specs.Str.{bytes_eq}
 use Rattle.hull_io.specs.declared.memory.File.{File}
