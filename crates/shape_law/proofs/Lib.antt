@@ -1,0 +1,4 @@
+pub mod ConvexLaws
+pub mod CurveLaws
+pub mod FrameLaws
+pub mod TableLaws
