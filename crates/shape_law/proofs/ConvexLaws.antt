@@ -2,14 +2,13 @@
 use Rattle.std.proofs.Common.{◌≡◌, ℕ, zero, suc, ◌+◌, ◌-◌, ◌<◌, length, get_or, Option, Some, None, refl, sym, ap, ◌∙◌, arith}
 use Rattle.std.specs.Prelude.{ℤ, pos, ◌+ℤ◌, ◌-ℤ◌, ◌*ℤ◌, ◌≤ℤ◌, ◌<ℤ◌}
 use Rattle.std.proofs.lemmas.Int.{by_lt_z, ints, clamps}
-use Rattle.std.specs.Prelude.{neg_ℤ}
 use Rattle.std.specs.Int.{int_min}
 use Rattle.std.specs.Option.{option_map}
 use Rattle.std.proofs.Math.IntN.{*ℤ-one, one}
 use Rattle.uc_model.proofs.IntLaws.{mul-add, mul-mono_of}
 use Rattle.shape_law.specs.Table.{Table, value_of, IsConvex}
 use Rattle.shape_law.specs.Curve.{reserve_term}
-use Rattle.shape_law.specs.Effect.{IsPoint, IsSame, IsWindow, IsSum}
+use Rattle.shape_law.specs.Effect.{IsWindow, IsSum}
 use Rattle.shape_law.specs.Laws.{PointIsConvex, CopyIsConvex, LineKeepsConvexity, ReserveKeepsConvexity, WindowKeepsConvexity}
 use Rattle.shape_law.proofs.TableLaws.{IsAt, IsAt-from_value, value-from_index, value-from_is_at}
 
@@ -85,7 +84,6 @@ module _ (up down lo hi : ℤ) (f g : Table) (w : IsWindow up down lo hi f g) (h
       let a : v1 ≤ℤ v0 = middle (x +ℤ pos 1) v1 r0.0 v0 p1 r0.1 (omega (arith, ints), omega (arith, ints)) (omega (arith, ints), omega (arith, ints)) in
       let b : v1 ≤ℤ v2 = middle (x +ℤ pos 1) v1 r2.0 v2 p1 r2.1 (omega (arith, ints), omega (arith, ints)) (omega (arith, ints), omega (arith, ints)) in
       omega (arith, ints))
-
 
 -- ---- convexity by places, and sums
 

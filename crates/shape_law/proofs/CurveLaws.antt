@@ -1,5 +1,5 @@
 -- The sum of a convex function and a curve is convex.
-use Rattle.std.proofs.Common.{◌≡◌, ℕ, zero, suc, ◌+◌, ◌<◌, List, [], ◌∷◌, length, get_or, Option, Some, None, refl, sym, ap, ◌∙◌, arith, true, false}
+use Rattle.std.proofs.Common.{◌≡◌, ℕ, suc, ◌<◌, List, [], ◌∷◌, length, get_or, Option, Some, None, refl, sym, ap, ◌∙◌, arith, true, false}
 use Rattle.std.specs.Prelude.{ℤ, pos, ◌+ℤ◌, ◌-ℤ◌, ◌*ℤ◌, ◌≤ℤ◌, ◌<ℤ◌, int_lt, MatchOption}
 use Rattle.std.specs.List.{All}
 use Rattle.std.specs.Option.{option_map}
@@ -9,9 +9,8 @@ use Rattle.uc_model.specs.declared.units.Block.{Block}
 use Rattle.uc_model.specs.declared.units.Curve.{Curve}
 use Rattle.uc_model.specs.Limits as limits
 use Rattle.shape_law.specs.Curve.{rise_at, curve_value}
-use Rattle.shape_law.specs.Effect.{IsCurveSum}
 use Rattle.shape_law.specs.Laws.{CurveKeepsConvexity}
-use Rattle.shape_law.specs.Table.{Table, value_of, IsConvex}
+use Rattle.shape_law.specs.Table.{value_of}
 use Rattle.shape_law.proofs.ConvexLaws.{convex_at, IsConvex-from_places, times_next, same_some}
 
 -- ---- what a test on places chooses

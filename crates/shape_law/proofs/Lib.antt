@@ -1,4 +1,5 @@
 pub mod ConvexLaws
 pub mod CurveLaws
+pub mod EffectLaws
 pub mod FrameLaws
 pub mod TableLaws

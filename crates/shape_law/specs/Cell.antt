@@ -53,3 +53,11 @@ module _ {H S : Type 0} (cell_list : H → List Cell) (is_in : H → S → Type 
     pub gains : (n : ℕ) → IsAmong n own' → (IsAmong n own → ⊥) → IsUsed (cell_list h) n → ⊥
     -- each shape that is apart from it stays in the home
     pub stays : (other : S) → is_in h other → AreApart own (numbers h other) → is_in h' other
+
+-- a refused call leaves what is seen of the shape and the home
+module _ {H S : Type 0} (function : H → S → Table) (numbers : H → S → List ℕ) (cells : S → ℕ) where
+  pub record IsUnchanged (h : H) (s : S) (h' : H) (s' : S) : Type 0 where
+    pub home_same : h' ≡ h
+    pub function_same : function h' s' ≡ function h s
+    pub numbers_same : numbers h' s' ≡ numbers h s
+    pub cells_same : cells s' ≡ cells s

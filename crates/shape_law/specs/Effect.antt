@@ -1,7 +1,7 @@
 -- What each call does to a function, place by place (this project's profile).
 use Rattle.std.specs.Prelude.{◌≡◌, ℤ, ◌+ℤ◌, ◌-ℤ◌, ◌≤ℤ◌, Option, Some, None, MatchOption}
 use Rattle.std.specs.Option.{option_map}
-use Rattle.shape_law.specs.Table.{Table, value_of, IsAmount, IsConvex}
+use Rattle.shape_law.specs.Table.{Table, value_of, IsAmount}
 
 -- one place alone, with that value
 pub record IsPoint (place value : ℤ) (f : Table) : Type 0 where

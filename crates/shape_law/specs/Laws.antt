@@ -1,5 +1,5 @@
 -- What holds of every shape. Each law is the clause of a public function of its name.
-use Rattle.std.specs.Prelude.{◌≡◌, ℕ, ℤ, pos, ◌*ℤ◌, ◌≤ℤ◌, List, []}
+use Rattle.std.specs.Prelude.{◌≡◌, ℕ, ℤ, pos, ◌*ℤ◌, ◌≤ℤ◌, List, [], Option}
 use Rattle.uc_model.specs.declared.units.Curve.{Curve}
 use Rattle.uc_model.specs.Limits as limits
 use Rattle.shape_law.specs.Cell.{Cell, AreApart, Frame}
@@ -53,3 +53,16 @@ CurveKeepsConvexity =
 
 abbrev pub WindowKeepsConvexity : Type 0
 WindowKeepsConvexity = (up down lo hi : ℤ) (f g : Table) → IsWindow up down lo hi f g → IsConvex f → IsConvex g
+
+-- each effect fixes the new function at every place
+abbrev pub PointIsExact : Type 0
+PointIsExact = (place value : ℤ) (g g' : Table) → IsPoint place value g → IsPoint place value g' → IsSame g g'
+
+abbrev pub SumIsExact : Type 0
+SumIsExact = (term : ℤ → ℤ) (f g g' : Table) → IsSum term f g → IsSum term f g' → IsSame g g'
+
+abbrev pub CurveSumIsExact : Type 0
+CurveSumIsExact = (curve : ℤ → Option ℤ) (shift : ℤ) (f g g' : Table) → IsCurveSum curve shift f g → IsCurveSum curve shift f g' → IsSame g g'
+
+abbrev pub WindowIsExact : Type 0
+WindowIsExact = (up down lo hi : ℤ) (f g g' : Table) → IsWindow up down lo hi f g → IsWindow up down lo hi f g' → IsSame g g'

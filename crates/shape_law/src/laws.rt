@@ -1,5 +1,5 @@
 //! Laws of shapes: each is the contract of a function that does nothing.
-ghost use Rattle.shape_law.specs.Laws.{OthersStay, FramesJoin, EndedShapesLeaveNothing, PointIsConvex, CopyIsConvex, LineKeepsConvexity, ReserveKeepsConvexity, CurveKeepsConvexity, WindowKeepsConvexity};
+ghost use Rattle.shape_law.specs.Laws.{OthersStay, FramesJoin, EndedShapesLeaveNothing, PointIsConvex, CopyIsConvex, LineKeepsConvexity, ReserveKeepsConvexity, CurveKeepsConvexity, WindowKeepsConvexity, PointIsExact, SumIsExact, CurveSumIsExact, WindowIsExact};
 
 use crate::Shape;
 
@@ -28,4 +28,12 @@ pub fn effects_keep_convexity()
     ensures reserve { ReserveKeepsConvexity }
     ensures curve { CurveKeepsConvexity }
     ensures window { WindowKeepsConvexity }
+{}
+
+/// Each call's effect fixes the new function at every place.
+pub fn effects_are_exact()
+    ensures point { PointIsExact }
+    ensures sum { SumIsExact }
+    ensures curve { CurveSumIsExact }
+    ensures window { WindowIsExact }
 {}

@@ -2,7 +2,7 @@
 #![tactic(auto)]
 
 ghost use Rattle.std.specs.Prelude.{◌≡◌, ℕ, ℤ, ◌+◌, ◌≤◌, pos, ◌*ℤ◌, ◌≤ℤ◌, List, [], Bool, true, false, IfOk, OnOk, OnErr, IsOk, MatchOption, length};
-ghost use Rattle.shape_law.specs.Cell.{Cell, Frame, AreSameAt, IsAmong, IsUsed, Owns, Balance};
+ghost use Rattle.shape_law.specs.Cell.{Cell, Frame, AreSameAt, IsAmong, IsUsed, IsUnchanged, Owns, Balance};
 ghost use Rattle.shape_law.specs.Curve.{curve_value, reserve_term, IsLimitedCurve};
 ghost use Rattle.shape_law.specs.Effect.{IsPoint, IsSame, IsSum, IsCurveSum, CanAddCurve, IsWindow, IsLeast, IsLeastIn};
 ghost use Rattle.shape_law.specs.Table.{Table, value_of, IsConvex, IsPlace, IsAmount, IsWithinLimits, IsEmpty, CanAdd, HasNone};
@@ -96,7 +96,7 @@ pub trait Shape: Sized {
         ensures frame { Frame Self.Home.cell_list is_in numbers (numbers home.old self.old) (numbers home.new self.new) home.old home.new }
         ensures sure { Self.Home.counts ≡ true → length curve.now.blocks.items ≤ Self.Home.sure home.old → IsOk result }
         ensures balance { Balance Self.Home.counts (length curve.now.blocks.items) (Self.Home.sure home.old) (cells self.old) (Self.Home.sure home.new) (cells self.new) }
-        ensures err { OnErr result ((self.new ≡ self.old) × (home.new ≡ home.old)) };
+        ensures err { OnErr result (IsUnchanged function numbers cells home.old self.old home.new self.new) };
 
     /// Adds `slope * x` to the value at each place x. It takes no cell.
     fn add_line(&mut self, home: &mut Self::Home, slope: i64)
@@ -125,7 +125,7 @@ pub trait Shape: Sized {
         ensures frame { Frame Self.Home.cell_list is_in numbers (numbers home.old self.old) (numbers home.new self.new) home.old home.new }
         ensures sure { Self.Home.counts ≡ true → 1 ≤ Self.Home.sure home.old → IsOk result }
         ensures balance { Balance Self.Home.counts 1 (Self.Home.sure home.old) (cells self.old) (Self.Home.sure home.new) (cells self.new) }
-        ensures err { OnErr result ((self.new ≡ self.old) × (home.new ≡ home.old)) };
+        ensures err { OnErr result (IsUnchanged function numbers cells home.old self.old home.new self.new) };
 
     /// The new value at x is the least old value at the places from `x - up` to `x + down`. The
     /// new interval is the places from `lo` to `hi` where there is one. Its charge is 4.
@@ -149,7 +149,7 @@ pub trait Shape: Sized {
         ensures frame { Frame Self.Home.cell_list is_in numbers (numbers home.old self.old) (numbers home.new self.new) home.old home.new }
         ensures sure { Self.Home.counts ≡ true → 4 ≤ Self.Home.sure home.old → IsOk result }
         ensures balance { Balance Self.Home.counts 4 (Self.Home.sure home.old) (cells self.old) (Self.Home.sure home.new) (cells self.new) }
-        ensures err { OnErr result ((self.new ≡ self.old) × (home.new ≡ home.old)) };
+        ensures err { OnErr result (IsUnchanged function numbers cells home.old self.old home.new self.new) };
 
     /// The least value and its least place, or None on an empty interval.
     fn least(&self, home: &Self::Home) -> Option<(i64, i64)>
