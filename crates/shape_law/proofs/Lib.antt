@@ -2,4 +2,5 @@ pub mod ConvexLaws
 pub mod CurveLaws
 pub mod EffectLaws
 pub mod FrameLaws
+pub mod LimitLaws
 pub mod TableLaws

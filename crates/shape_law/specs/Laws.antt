@@ -4,8 +4,8 @@ use Rattle.uc_model.specs.declared.units.Curve.{Curve}
 use Rattle.uc_model.specs.Limits as limits
 use Rattle.shape_law.specs.Cell.{Cell, AreApart, Frame}
 use Rattle.shape_law.specs.Curve.{curve_value, reserve_term}
-use Rattle.shape_law.specs.Effect.{IsPoint, IsSame, IsSum, IsCurveSum, IsWindow}
-use Rattle.shape_law.specs.Table.{Table, IsConvex}
+use Rattle.shape_law.specs.Effect.{IsPoint, IsSame, IsSum, IsCurveSum, CanAddCurve, IsWindow}
+use Rattle.shape_law.specs.Table.{Table, IsConvex, IsPlace, IsAmount, IsWithinLimits, CanAdd}
 
 module _ {H S : Type 0} (cell_list : H → List Cell) (is_in : H → S → Type 0) (numbers : H → S → List ℕ) (function : H → S → Table) where
   -- what is said of a shape that is apart from the call's shape
@@ -66,3 +66,21 @@ CurveSumIsExact = (curve : ℤ → Option ℤ) (shift : ℤ) (f g g' : Table) �
 
 abbrev pub WindowIsExact : Type 0
 WindowIsExact = (up down lo hi : ℤ) (f g g' : Table) → IsWindow up down lo hi f g → IsWindow up down lo hi f g' → IsSame g g'
+
+-- and keeps places and values within the limits
+abbrev pub PointIsWithinLimits : Type 0
+PointIsWithinLimits = (place value : ℤ) (g : Table) → IsPlace place → IsAmount value → IsPoint place value g → IsWithinLimits g
+
+abbrev pub CopyIsWithinLimits : Type 0
+CopyIsWithinLimits = (f g : Table) → IsSame f g → IsWithinLimits f → IsWithinLimits g
+
+abbrev pub SumIsWithinLimits : Type 0
+SumIsWithinLimits = (term : ℤ → ℤ) (f g : Table) → IsSum term f g → CanAdd term f → IsWithinLimits f → IsWithinLimits g
+
+abbrev pub CurveSumIsWithinLimits : Type 0
+CurveSumIsWithinLimits =
+    (curve : ℤ → Option ℤ) (shift : ℤ) (f g : Table) → IsCurveSum curve shift f g → CanAddCurve curve shift f → IsWithinLimits f → IsWithinLimits g
+
+abbrev pub WindowIsWithinLimits : Type 0
+WindowIsWithinLimits =
+    (up down lo hi : ℤ) (f g : Table) → IsPlace lo → IsPlace hi → IsWindow up down lo hi f g → IsWithinLimits f → IsWithinLimits g

@@ -1,5 +1,5 @@
 //! Laws of shapes: each is the contract of a function that does nothing.
-ghost use Rattle.shape_law.specs.Laws.{OthersStay, FramesJoin, EndedShapesLeaveNothing, PointIsConvex, CopyIsConvex, LineKeepsConvexity, ReserveKeepsConvexity, CurveKeepsConvexity, WindowKeepsConvexity, PointIsExact, SumIsExact, CurveSumIsExact, WindowIsExact};
+ghost use Rattle.shape_law.specs.Laws.{OthersStay, FramesJoin, EndedShapesLeaveNothing, PointIsConvex, CopyIsConvex, LineKeepsConvexity, ReserveKeepsConvexity, CurveKeepsConvexity, WindowKeepsConvexity, PointIsExact, SumIsExact, CurveSumIsExact, WindowIsExact, PointIsWithinLimits, CopyIsWithinLimits, SumIsWithinLimits, CurveSumIsWithinLimits, WindowIsWithinLimits};
 
 use crate::Shape;
 
@@ -36,4 +36,13 @@ pub fn effects_are_exact()
     ensures sum { SumIsExact }
     ensures curve { CurveSumIsExact }
     ensures window { WindowIsExact }
+{}
+
+/// Each call's effect keeps places and values within the limits, under the call's conditions.
+pub fn effects_keep_limits()
+    ensures point { PointIsWithinLimits }
+    ensures copy { CopyIsWithinLimits }
+    ensures sum { SumIsWithinLimits }
+    ensures curve { CurveSumIsWithinLimits }
+    ensures window { WindowIsWithinLimits }
 {}
