@@ -8,9 +8,9 @@ use Rattle.std.proofs.Math.IntN.{*ℤ-zero}
 use Rattle.uc_model.specs.declared.units.Block.{Block}
 use Rattle.uc_model.specs.declared.units.Curve.{Curve}
 use Rattle.uc_model.specs.Limits as limits
-use Rattle.shape_law.specs.Curve.{rise_at, curve_value}
+use Rattle.shape_law.specs.Curve.{rise_at, curve_value, end_of, IsLimitedCurve}
 use Rattle.shape_law.specs.Laws.{CurveKeepsConvexity}
-use Rattle.shape_law.specs.Table.{value_of}
+use Rattle.shape_law.specs.Table.{value_of, IsPlace}
 use Rattle.shape_law.proofs.ConvexLaws.{convex_at, IsConvex-from_places, times_next, same_some}
 
 -- ---- what a test on places chooses
@@ -20,11 +20,12 @@ lt_is a b h = grind (arith, ints)
 not_lt_is : (a b : ℤ) → b ≤ℤ a → int_lt a b ≡ false
 not_lt_is a b h = grind (arith, ints)
 
-past : (b : Block) (bs : List Block) (x : ℤ) → b.width <ℤ x → rise_at (b ∷ bs) x ≡ option_map (λ v. v +ℤ (b.price *ℤ b.width)) (rise_at bs (x -ℤ b.width))
-past b bs x h = rw (lt_is b.width x h)
+-- past the first block, and within it
+pub rise_at-past : (b : Block) (bs : List Block) (x : ℤ) → b.width <ℤ x → rise_at (b ∷ bs) x ≡ option_map (λ v. v +ℤ (b.price *ℤ b.width)) (rise_at bs (x -ℤ b.width))
+rise_at-past b bs x h = rw (lt_is b.width x h)
 
-inside : (b : Block) (bs : List Block) (x : ℤ) → x ≤ℤ b.width → rise_at (b ∷ bs) x ≡ Some (b.price *ℤ x)
-inside b bs x h = rw (not_lt_is b.width x h)
+pub rise_at-inside : (b : Block) (bs : List Block) (x : ℤ) → x ≤ℤ b.width → rise_at (b ∷ bs) x ≡ Some (b.price *ℤ x)
+rise_at-inside b bs x h = rw (not_lt_is b.width x h)
 
 -- blocks whose prices are at least p, and rise from block to block; no width is negative
 abbrev RiseFrom : ℤ → List Block → Type 0
@@ -44,16 +45,16 @@ mapped k v (Some u) h = (u, refl, (cc))
 
 at_start : (p : ℤ) (bs : List Block) → RiseFrom p bs → rise_at bs (pos 0) ≡ Some (pos 0)
 at_start p [] h = refl
-at_start p (b ∷ bs) h = inside b bs (pos 0) h.1 ∙ ap Some (*ℤ-zero b.price)
+at_start p (b ∷ bs) h = rise_at-inside b bs (pos 0) h.1 ∙ ap Some (*ℤ-zero b.price)
 
 -- a value past a block comes from the blocks after it
 past_value : (b : Block) (bs : List Block) (x y v : ℤ) → b.width <ℤ x → x -ℤ b.width ≡ y → rise_at (b ∷ bs) x ≡ Some v → (u : ℤ) × (rise_at bs y ≡ Some u) × (v ≡ u +ℤ (b.price *ℤ b.width))
 past_value b bs x y v h e is =
-    let m = mapped (b.price *ℤ b.width) v (rise_at bs (x -ℤ b.width)) (sym (past b bs x h) ∙ is) in
+    let m = mapped (b.price *ℤ b.width) v (rise_at bs (x -ℤ b.width)) (sym (rise_at-past b bs x h) ∙ is) in
     (m.0, ap (rise_at bs) (sym e) ∙ m.1, m.2)
 
 inside_value : (b : Block) (bs : List Block) (x v : ℤ) → x ≤ℤ b.width → rise_at (b ∷ bs) x ≡ Some v → v ≡ b.price *ℤ x
-inside_value b bs x v h is = same_some (rise_at (b ∷ bs) x) is (inside b bs x h)
+inside_value b bs x v h is = same_some (rise_at (b ∷ bs) x) is (rise_at-inside b bs x h)
 
 none_past_end : (x v : ℤ) → pos 0 <ℤ x → rise_at [] x ≡ Some v → ⊥
 none_past_end x v h is = let n : rise_at [] x ≡ None = rw (lt_is (pos 0) x h) in cc
@@ -160,6 +161,44 @@ curve_rises c is x u v w p q r =
     let from = a.from in
     let i = rises (first_price bs) bs (rise_from_first bs is) (x -ℤ c.at) a.rise b.rise d.rise (omega (arith, ints)) a.there (ap (rise_at bs) (sym next) ∙ b.there) (ap (rise_at bs) (sym last) ∙ d.there) in
     omega (arith, ints, a.is, b.is, d.is)
+
+-- ---- where it ends
+
+later : (b : Block) (bs : List Block) → All (λ d. pos 0 ≤ℤ d.width) (b ∷ bs) → All (λ d. pos 0 ≤ℤ d.width) bs
+later b bs widths k d h = widths (suc k) d (omega arith)
+
+pub rise_at-start : (bs : List Block) → All (λ b. pos 0 ≤ℤ b.width) bs → rise_at bs (pos 0) ≡ Some (pos 0)
+rise_at-start [] widths = refl
+rise_at-start (b ∷ bs) widths = rise_at-inside b bs (pos 0) (widths 0 b (omega arith)) ∙ ap Some (*ℤ-zero b.price)
+
+end_after_start : (bs : List Block) (from : ℤ) → All (λ b. pos 0 ≤ℤ b.width) bs → from ≤ℤ end_of from bs
+end_after_start [] from widths = omega (arith, ints)
+end_after_start (b ∷ bs) from widths =
+    let w = widths 0 b (omega arith) in
+    let i = end_after_start bs (from +ℤ b.width) (later b bs widths) in
+    omega (arith, ints)
+
+up_to_end : (bs : List Block) (from x v : ℤ) → All (λ b. pos 0 ≤ℤ b.width) bs → rise_at bs x ≡ Some v → (from +ℤ x) ≤ℤ end_of from bs
+up_to_end [] from x v widths h = by_lt_z (pos 0) x (λ (l : pos 0 <ℤ x). absurd (none_past_end x v l h)) (λ (l : x ≤ℤ pos 0). omega (arith, ints))
+up_to_end (b ∷ bs) from x v widths h =
+    by_lt_z b.width x
+    (λ (l : b.width <ℤ x).
+    let u = past_value b bs x (x -ℤ b.width) v l refl h in
+    let i = up_to_end bs (from +ℤ b.width) (x -ℤ b.width) u.0 (later b bs widths) u.1 in
+    omega (arith, ints))
+    (λ (l : x ≤ℤ b.width).
+    let e = end_after_start bs (from +ℤ b.width) (later b bs widths) in
+    omega (arith, ints))
+
+-- a place in a curve within the limits is one
+pub IsPlace-on_curve : (c : Curve) → IsLimitedCurve c → (x v : ℤ) → curve_value c x ≡ Some v → IsPlace x
+IsPlace-on_curve c is x v h =
+    let a = IsOnCurve-from_value c x v h in
+    let from = a.from in
+    let to = up_to_end c.blocks.items c.at (x -ℤ c.at) a.rise is.blocks.widths a.there in
+    let first = is.first_place.0 in
+    let last = is.last_place.1 in
+    (omega (arith, ints), omega (arith, ints))
 
 -- what the curve added at a place with a value
 pub record IsRaised (curve : ℤ → Option ℤ) (y : ℤ) (o : Option ℤ) (v : ℤ) : Type 0 where
