@@ -1,0 +1,12 @@
+use Rattle.std.proofs.Common.{◌≡◌, ◌+◌, ◌≤◌, [], map, replicate}
+use Rattle.std.specs.List.{All}
+use Rattle.uc_model.specs.Reserved.{items_in}
+use Rattle.uc_model.specs.TaskRoom.{room_of}
+use Rattle.uc_model.proofs.tasks.empty_blocks.Given as goal
+
+abbrev pub invariant-loop : goal.invariant-loop
+invariant-loop l = record {
+  so_far : map items_in l.lists.items ≡ replicate l.counter [];
+  spare : l.periods ≤ l.lists.spare + l.counter;
+  room : All (λ bs. 8 ≤ room_of bs) l.lists.items;
+}
