@@ -112,7 +112,7 @@ fn windowed(
     ensures len { IfOk result (λ out. length out.items ≡ count) }
     ensures each { IfOk result (λ out. (k : ℕ) → k < count → (y : ℤ) × IsLeastIn ((from +ℤ pos k) -ℤ up) ((from +ℤ pos k) +ℤ down) (table s.now.lo s.now.values.items) (slice_index_or out.items k (pos 0)) y) }
 {
-    let mut out = Vec::new(alloc);
+    let mut out = Vec::with_capacity(alloc, count)?;
     for k in 0..count {
         let least = least_in_reach(&s.values, s.lo, up, down, from + k as i64);
         out.push(least)?;
