@@ -1,0 +1,9 @@
+pub mod CurveLaws
+pub mod CutLaws
+pub mod DivLaws
+pub mod KinkLaws
+pub mod KnotLaws
+pub mod SpreadLaws
+pub mod TimesLaws
+pub mod ValueLaws
+pub mod WindowLaws

@@ -1,0 +1,24 @@
+use Rattle.std.proofs.Common.{◌≡◌, ◌<◌, length, arith, ap, ◌∙◌, below_more, to_z, of_z}
+use Rattle.std.specs.Prelude.{◌+ℤ◌}
+use Rattle.std.specs.Int.{w64}
+use Rattle.ramp_step.specs.declared.breakpoint.Knot.{Knot}
+use Rattle.ramp_step.specs.Knots.{knot}
+use Rattle.ramp_step.specs.Curve.{curve_term}
+use Rattle.ramp_step.proofs.KnotLaws.{knot_same, knot_other}
+use Rattle.ramp_step.proofs.curve.raise_curve.Goals as goal
+
+pub loop-i-preserved : goal.loop-i-preserved
+loop-i-preserved c =
+    let i = c.loop-i.i in
+    let ks = c.loop-i.knots in
+    let q = c.raised.result in
+    let lt : i < length ks = omega arith in
+    let was : knot ks i ≡ knot c.args.knots.now i = c.loop-i.invariant.rest i (omega arith) in
+    record {
+      places = below_more _ _ (λ j below. ap (λ (k : Knot). k.at) (knot_other ks i j q (omega arith)) ∙ c.loop-i.invariant.places j below)
+          (ap (λ (k : Knot). k.at) (knot_same ks i q lt) ∙ c.raised.ensures.at ∙ ap (λ (k : Knot). k.at) was);
+      heights = below_more _ _ (λ j below. ap (λ (k : Knot). k.value) (knot_other ks i j q (omega arith)) ∙ c.loop-i.invariant.heights j below)
+          (ap (λ (k : Knot). k.value) (knot_same ks i q lt) ∙ c.raised.ensures.value
+          ∙ ap (λ (k : Knot). k.value +ℤ curve_term (to_z w64 (of_z w64 c.args.value)) c.args.blocks.now (to_z w64 (of_z w64 c.args.from)) k.at) was);
+      rest = λ j past. knot_other ks i j q (omega arith) ∙ c.loop-i.invariant.rest j (omega arith);
+    }

@@ -1,0 +1,10 @@
+//! Steps over breakpoints that stand for a convex function on a whole interval.
+#![tactic(auto)]
+
+pub mod breakpoint;
+pub mod curve;
+mod cutting;
+pub mod kink;
+pub mod line;
+mod splitting;
+pub mod window;
