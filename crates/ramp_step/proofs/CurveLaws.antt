@@ -9,7 +9,7 @@ use Rattle.ramp_step.specs.declared.breakpoint.Knot.{Knot}
 use Rattle.uc_model.specs.declared.units.Block.{Block}
 use Rattle.ramp_step.specs.Knots.{IsStraight, IsConvex, IsAmount}
 use Rattle.ramp_step.specs.Cut.{IsSplit}
-use Rattle.ramp_step.specs.Curve.{rise_over, curve_term, block_end, AreBlocks, EndsOutside, IsRefined, AreLimitedBlocks}
+use Rattle.ramp_step.specs.Curve.{rise_over, curve_term, block_end, AreBlocks, EndsOutside, IsRefined, IsLimitedCurve}
 use Rattle.ramp_step.proofs.TimesLaws.{times_next, times_prev, times_one}
 use Rattle.ramp_step.proofs.DivLaws.{amount_part}
 use Rattle.ramp_step.proofs.KnotLaws.{HaveSameEnds-then}
@@ -194,19 +194,24 @@ rise_in p (b ∷ bs) s (suc j) d x are h low high =
     let rest = rise_in b.price bs (s +ℤ b.width) j d x are.2 (omega arith) low high in
     omega (arith, ints)
 
--- the rise at a place of block j
-pub record IsRise (bs : List Block) (s : ℤ) (j : ℕ) (d : Block) (x : ℤ) : Type 0 where
-  pub is : rise_over bs s (block_end bs s j) +ℤ (get_or bs j d).price *ℤ (x -ℤ block_end bs s j) ≡ rise_over bs s x
-  pub amount : IsAmount (rise_over bs s x)
+-- the curve's value at a place of block j
+pub record IsOnBlock (v : ℤ) (bs : List Block) (s : ℤ) (j : ℕ) (d : Block) (x : ℤ) : Type 0 where
+  pub is : curve_term v bs s (block_end bs s j) +ℤ (get_or bs j d).price *ℤ (x -ℤ block_end bs s j) ≡ curve_term v bs s x
+  pub amount : IsAmount (curve_term v bs s x)
 
-pub rise_is : (bs : List Block) (s : ℤ) (j : ℕ) (d : Block) (x : ℤ) → AreLimitedBlocks bs s → j < length bs → block_end bs s j ≤ℤ x → x ≤ℤ block_end bs s (j + 1) → IsRise bs s j d x
-rise_is bs s j d x l h low high =
+pub on_block_is : (v : ℤ) (bs : List Block) (s : ℤ) (j : ℕ) (d : Block) (x : ℤ) → IsLimitedCurve v bs s → j < length bs → block_end bs s j ≤ℤ x → x ≤ℤ block_end bs s (j + 1) → IsOnBlock v bs s j d x
+on_block_is v bs s j d x l h low high =
     let next = block_end_next bs s j d h in
     let here = rise_in l.lowest bs s j d x l.blocks h low (omega (arith, ints)) in
     let whole = rise_in l.lowest bs s j d (block_end bs s (j + 1)) l.blocks h (omega (arith, ints)) (omega (arith, ints)) in
-    let part = amount_part (rise_over bs s (block_end bs s j)) (rise_over bs s (block_end bs s (j + 1))) (get_or bs j d).price (x -ℤ block_end bs s j) (block_end bs s (j + 1) -ℤ block_end bs s j)
-    whole (omega (arith, ints)) (omega (arith, ints)) (l.rises j (omega arith)) (l.rises (j + 1) (omega arith)) in
-    record { is = sym here; amount = subst IsAmount (sym here) part }
+    let is : curve_term v bs s x ≡ curve_term v bs s (block_end bs s j) +ℤ (get_or bs j d).price *ℤ (x -ℤ block_end bs s j) = omega (arith, ints) in
+    let part = amount_part (curve_term v bs s (block_end bs s j)) (curve_term v bs s (block_end bs s (j + 1))) (get_or bs j d).price (x -ℤ block_end bs s j) (block_end bs s (j + 1) -ℤ block_end bs s j)
+    (omega (arith, ints)) (omega (arith, ints)) (omega (arith, ints)) (l.values j (omega arith)) (l.values (j + 1) (omega arith)) in
+    record { is = sym is; amount = subst IsAmount (sym is) part }
+
+-- the curve begins with its value
+pub curve_begins : (v : ℤ) (bs : List Block) (s : ℤ) → IsLimitedCurve v bs s → curve_term v bs s s ≡ v
+curve_begins v bs s l = let z = rise_zero l.lowest bs s l.blocks in omega (arith, ints)
 
 pub curve_straight : (v : ℤ) (bs : List Block) (s lo hi : ℤ) → EndsOutside bs s (length bs) lo hi → IsStraight lo hi (curve_term v bs s)
 curve_straight v bs s lo hi out x low high = let h = rise_straight bs s lo hi out x low high in omega (arith, ints)

@@ -240,12 +240,12 @@ StandFor-fewer ks n m f s h = record {
   ];
 }
 
-module _ (ks ks' : List Knot) (n by_ : ℕ) (f : ℤ → ℤ) (s : StandFor ks n f) (inside : by_ < n) (d : AreDropped by_ n ks ks') where
+module _ (ks ks' : List Knot) (n by_ : ℕ) (f : ℤ → ℤ) (s : StandFor ks n f) (inside : by_ < n) (d : AreDropped 0 by_ n ks ks') where
   pub dropped_place : (k : ℕ) → k + by_ < n → place ks' k ≡ place ks (k + by_)
-  dropped_place k h = ap (λ (q : Knot). q.at) (d.moved k h)
+  dropped_place k h = ap (λ (q : Knot). q.at) (d.moved k (omega arith) h)
 
   dropped_height : (k : ℕ) → k + by_ < n → height ks' k ≡ height ks (k + by_)
-  dropped_height k h = ap (λ (q : Knot). q.value) (d.moved k h)
+  dropped_height k h = ap (λ (q : Knot). q.value) (d.moved k (omega arith) h)
 
   pub StandFor-dropped : StandFor ks' (n - by_) f
   StandFor-dropped = record {
@@ -283,7 +283,7 @@ was_some : (ks ks1 : List Knot) (n0 n : ℕ) → HaveSameEnds ks n0 ks1 n → 0 
 was_some ks ks1 n0 n ends h = elim (cases_lt 0 n0) [ inl y ↦ y | inr empty ↦ let z = ends.none (omega arith) in absurd (omega arith) ]
 
 -- after a split at lo the places from lo on are kept
-pub IsCut-below : (ks ks1 ks' : List Knot) (n0 n m : ℕ) (lo : ℤ) → IsShape ks n0 → IsSplit lo ks n0 ks1 n → AreBelow ks1 n lo m → AreDropped m n ks1 ks' → IsCut (λ x. lo ≤ℤ x) ks n0 ks' (n - m)
+pub IsCut-below : (ks ks1 ks' : List Knot) (n0 n m : ℕ) (lo : ℤ) → IsShape ks n0 → IsSplit lo ks n0 ks1 n → AreBelow ks1 n lo m → AreDropped 0 m n ks1 ks' → IsCut (λ x. lo ≤ℤ x) ks n0 ks' (n - m)
 IsCut-below ks ks1 ks' n0 n m lo shape split b d =
     let f = shape.0 in
     let s = split.function f shape.1 in

@@ -3,6 +3,8 @@ pub mod CutLaws
 pub mod DivLaws
 pub mod KinkLaws
 pub mod KnotLaws
+pub mod RaiseLaws
+pub mod SpacedLaws
 pub mod SpreadLaws
 pub mod TimesLaws
 pub mod ValueLaws

@@ -35,12 +35,12 @@ pub record IsRefined (bs : List Block) (s : ℤ) (j : ℕ) (ks : List Knot) (n :
   pub apart : (k : ℕ) → k + 1 < n' → EndsOutside bs s j (place ks' k) (place ks' (k + 1))
   pub ends : HaveSameEnds ks n ks' n'
 
--- the block ends and the rises there are within the limits
-pub record AreLimitedBlocks (bs : List Block) (s : ℤ) : Type 0 where
+-- widths aren't negative, prices don't fall, and the block ends and the values there are within the limits
+pub record IsLimitedCurve (v : ℤ) (bs : List Block) (s : ℤ) : Type 0 where
   pub lowest : ℤ
   pub blocks : AreBlocks lowest bs
   pub ends : (j : ℕ) → j ≤ length bs → IsFar (block_end bs s j)
-  pub rises : (j : ℕ) → j ≤ length bs → IsAmount (rise_over bs s (block_end bs s j))
+  pub values : (j : ℕ) → j ≤ length bs → IsAmount (curve_term v bs s (block_end bs s j))
 
 -- each place of the interval is on the blocks
 abbrev pub IsOver : List Block → ℤ → List Knot → ℕ → Type 0

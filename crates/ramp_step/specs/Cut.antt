@@ -41,9 +41,10 @@ pub record IsCut (P : ℤ → Type 0) (ks : List Knot) (n : ℕ) (ks' : List Kno
   pub inside : (x : ℤ) → IsInside ks' n' x → IsInside ks n x × P x
   pub back : (x : ℤ) → IsInside ks n x → P x → IsInside ks' n' x
 
--- the first `by` knots are dropped
-pub record AreDropped (by_ n : ℕ) (ks ks' : List Knot) : Type 0 where
-  pub moved : (k : ℕ) → k + by_ < n → knot ks' k ≡ knot ks (k + by_)
+-- `by` knots of the first n are dropped from index `from` on
+pub record AreDropped (from by_ n : ℕ) (ks ks' : List Knot) : Type 0 where
+  pub before : (k : ℕ) → k < from → knot ks' k ≡ knot ks k
+  pub moved : (k : ℕ) → from ≤ k → k + by_ < n → knot ks' k ≡ knot ks (k + by_)
 
 -- a knot is put in before index m
 pub record IsInserted (m n : ℕ) (q : Knot) (ks ks' : List Knot) : Type 0 where

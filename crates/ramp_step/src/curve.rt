@@ -1,11 +1,14 @@
 //! A curve is added.
-ghost use Rattle.std.specs.Prelude.{◌≡◌, ℕ, ℤ, ◌+◌, ◌^◌, ◌-◌, ◌<◌, ◌≤◌, ◌+ℤ◌, ◌-ℤ◌, ◌*ℤ◌, ◌≤ℤ◌, length};
+ghost use Rattle.std.specs.Prelude.{◌≡◌, ℕ, ℤ, ◌+◌, ◌^◌, ◌-◌, ◌<◌, ◌≤◌, ◌+ℤ◌, ◌-ℤ◌, ◌*ℤ◌, ◌≤ℤ◌, ◌<ℤ◌, length};
 ghost use Rattle.ramp_step.specs.Knots.{place, height, StandFor, IsShape, IsInside, HaveSameEnds, IsPlace, IsFar, IsAmount, CanAdd, AreRaised, knot};
 ghost use Rattle.ramp_step.specs.Cut.{IsLimited};
-ghost use Rattle.ramp_step.specs.Curve.{rise_over, block_end, IsOver, AreLimitedBlocks, IsRefined, curve_term};
+ghost use Rattle.ramp_step.specs.Curve.{block_end, IsOver, AreBlocks, IsLimitedCurve, IsRefined, curve_term};
+ghost use Rattle.ramp_step.specs.Raise.{line_from, CanRaise, AreRaisedUpto};
 
 use crate::breakpoint::Knot;
-use crate::splitting::{along, split};
+use crate::cutting::drop_from;
+use crate::spaced::{advance, fill, open};
+use crate::splitting::along;
 use uc_model::units::{Block, Curve};
 
 /// Puts a knot in wherever a block ends between two knots.
@@ -13,83 +16,88 @@ fn split_all(knots: &mut [Knot], used: usize, from: i64, blocks: &[Block]) -> us
     requires room { used + length blocks.now ≤ length knots.old }
     requires stand { IsShape knots.old used }
     requires limits { IsLimited knots.old used }
+    requires ascending { (lowest : ℤ) × AreBlocks lowest blocks.now }
     requires places { (j : ℕ) → j ≤ length blocks.now → IsFar (block_end blocks.now from j) }
     ensures refined { IsRefined blocks.now from (length blocks.now) knots.old used knots.new result }
     ensures limits { IsLimited knots.new result }
     ensures charge { result ≤ used + length blocks.now }
 {
-    let mut n = used;
+    let total = used + blocks.len();
+    let mut room = blocks.len();
+    open(knots, used, room);
+    let mut front = 0;
     let mut end = from;
     for block in blocks {
         end += block.width;
-        n = split(knots, n, end);
+        front = advance(knots, front, room, total, end);
+        room = fill(knots, front, room, total, end);
     }
-    n
+    drop_from(knots, front, total, room);
+    total - room
 }
 
-/// The rise at a place in a block.
-fn up_to(rise: i64, block: Block, start: i64, x: i64) -> i64
+/// The knot after a line is added that has this level at `start`.
+fn on_block(knot: Knot, start: i64, level: i64, price: i64) -> Knot
     requires start { IsFar start }
-    requires x { IsFar x }
-    requires before { IsAmount rise }
-    requires after { IsAmount (rise +ℤ block.price *ℤ (x -ℤ start)) }
-    ensures { result ≡ rise +ℤ block.price *ℤ (x -ℤ start) }
-{
-    along(rise, block.price, x - start)
-}
-
-/// The rise from the first block's start to a place on the curve.
-fn rise_at(blocks: &[Block], from: i64, x: i64) -> i64
-    requires blocks { AreLimitedBlocks blocks.now from }
-    requires low { from ≤ℤ x }
-    requires high { x ≤ℤ block_end blocks.now from (length blocks.now) }
-    ensures rise { result ≡ rise_over blocks.now from x }
-    ensures amount { IsAmount result }
-{
-    let mut end = from;
-    let mut rise = 0;
-    for block in blocks {
-        let next = end + block.width;
-        if x <= next {
-            return up_to(rise, *block, end, x);
-        }
-        rise = up_to(rise, *block, end, next);
-        end = next;
-    }
-    rise
-}
-
-/// The knot after a curve is added.
-fn raised(knot: Knot, value: i64, blocks: &[Block], from: i64) -> Knot
-    requires blocks { AreLimitedBlocks blocks.now from }
-    requires value { IsAmount value }
-    requires low { from ≤ℤ knot.at }
-    requires high { knot.at ≤ℤ block_end blocks.now from (length blocks.now) }
-    requires before { IsAmount knot.value }
-    requires after { IsAmount (knot.value +ℤ curve_term value blocks.now from knot.at) }
+    requires level { IsAmount level }
+    requires fits { CanRaise start level price knot }
     ensures at { result.at ≡ knot.at }
-    ensures value { result.value ≡ knot.value +ℤ curve_term value blocks.now from knot.at }
+    ensures value { result.value ≡ knot.value +ℤ line_from start level price knot.at }
 {
-    let rise = rise_at(blocks, from, knot.at);
+    let line = along(level, price, knot.at - start);
     Knot {
         at: knot.at,
-        value: knot.value + (value + rise),
+        value: knot.value + line,
     }
+}
+
+/// Adds the line of a block, which has this level at `start`, to the knots from index `first` on up
+/// to the place `end`, and answers the index of the first knot beyond it.
+fn raise_block(
+    knots: &mut [Knot],
+    first: usize,
+    used: usize,
+    start: i64,
+    level: i64,
+    price: i64,
+    end: i64,
+) -> usize
+    requires order { first ≤ used }
+    requires room { used ≤ length knots.old }
+    requires start { IsFar start }
+    requires level { IsAmount level }
+    requires fits { (k : ℕ) → first ≤ k → k < used → place knots.old k ≤ℤ end → CanRaise start level price (knot knots.old k) }
+    ensures { AreRaisedUpto (line_from start level price) end used first result knots.old knots.new }
+{
+    for i in first..used {
+        let knot = knots[i];
+        if knot.at > end {
+            return i;
+        }
+        knots[i] = on_block(knot, start, level, price);
+    }
+    used
 }
 
 /// Adds a curve to each of the first heights.
 fn raise_curve(knots: &mut [Knot], used: usize, value: i64, blocks: &[Block], from: i64)
     requires room { used ≤ length knots.old }
-    requires blocks { AreLimitedBlocks blocks.now from }
-    requires value { IsAmount value }
+    requires curve { IsLimitedCurve value blocks.now from }
+    requires rise { (k : ℕ) → k + 1 < used → place knots.old k <ℤ place knots.old (k + 1) }
     requires low { (k : ℕ) → k < used → from ≤ℤ place knots.old k }
     requires high { (k : ℕ) → k < used → place knots.old k ≤ℤ block_end blocks.now from (length blocks.now) }
     requires before { (k : ℕ) → k < used → IsAmount (height knots.old k) }
     requires after { (k : ℕ) → k < used → IsAmount (height knots.old k +ℤ curve_term value blocks.now from (place knots.old k)) }
     ensures { AreRaised (curve_term value blocks.now from) used knots.old knots.new }
 {
-    for i in 0..used {
-        knots[i] = raised(knots[i], value, blocks, from);
+    let mut done = raise_block(knots, 0, used, from, value, 0, from);
+    let mut start = from;
+    let mut level = value;
+    for block in blocks {
+        let end = start + block.width;
+        done = raise_block(knots, done, used, start, level, block.price, end);
+        level = along(level, block.price, block.width);
+        start = end;
     }
 }
 
@@ -103,8 +111,7 @@ fn add_blocks(
 ) -> usize
     requires room { used + length blocks.now ≤ length knots.old }
     requires stand { IsShape knots.old used }
-    requires blocks { AreLimitedBlocks blocks.now from }
-    requires value { IsAmount value }
+    requires curve { IsLimitedCurve value blocks.now from }
     requires inside { IsOver blocks.now from knots.old used }
     requires fits { (f : ℤ → ℤ) → StandFor knots.old used f → CanAdd (curve_term value blocks.now from) knots.old used f }
     ensures stand { (f : ℤ → ℤ) → StandFor knots.old used f → StandFor knots.new result (λ x. f x +ℤ curve_term value blocks.now from x) }
@@ -123,8 +130,7 @@ pub fn curve_step(knots: &mut [Knot], used: u32, curve: &Curve, shift: i64) -> u
     requires stand { IsShape knots.old used }
     requires at { IsPlace curve.now.at }
     requires shift { IsPlace shift }
-    requires blocks { AreLimitedBlocks curve.now.blocks.items (curve.now.at -ℤ shift) }
-    requires value { IsAmount curve.now.value }
+    requires curve { IsLimitedCurve curve.now.value curve.now.blocks.items (curve.now.at -ℤ shift) }
     requires inside { IsOver curve.now.blocks.items (curve.now.at -ℤ shift) knots.old used }
     requires fits { (f : ℤ → ℤ) → StandFor knots.old used f → CanAdd (curve_term curve.now.value curve.now.blocks.items (curve.now.at -ℤ shift)) knots.old used f }
     ensures stand { (f : ℤ → ℤ) → StandFor knots.old used f → StandFor knots.new result (λ x. f x +ℤ curve_term curve.now.value curve.now.blocks.items (curve.now.at -ℤ shift) x) }

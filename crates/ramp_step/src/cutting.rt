@@ -6,13 +6,13 @@ ghost use Rattle.ramp_step.specs.Cut.{IsLimited, IsCut, AreDropped};
 use crate::breakpoint::Knot;
 use crate::splitting::{below, split};
 
-/// Drops the first knots.
-fn drop_first(knots: &mut [Knot], used: usize, by: usize)
+/// Drops so many knots from index `from` on.
+pub(crate) fn drop_from(knots: &mut [Knot], from: usize, used: usize, by: usize)
     requires room { used ≤ length knots.old }
-    requires by { by ≤ used }
-    ensures { AreDropped by used knots.old knots.new }
+    requires by { from + by ≤ used }
+    ensures { AreDropped from by used knots.old knots.new }
 {
-    for i in 0..used - by {
+    for i in from..used - by {
         knots[i] = knots[i + by];
     }
 }
@@ -47,6 +47,6 @@ pub(crate) fn cut_below(knots: &mut [Knot], used: usize, lo: i64) -> usize
 {
     let n = split(knots, used, lo);
     let m = below(knots, n, lo);
-    drop_first(knots, n, m);
+    drop_from(knots, 0, n, m);
     n - m
 }

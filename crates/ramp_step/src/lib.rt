@@ -6,5 +6,6 @@ pub mod curve;
 mod cutting;
 pub mod kink;
 pub mod line;
+mod spaced;
 mod splitting;
 pub mod window;

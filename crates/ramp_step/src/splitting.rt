@@ -24,7 +24,7 @@ pub(crate) fn along(value: i64, slope: i64, x: i64) -> i64
 }
 
 /// The knot at a place on the line from one knot to another.
-fn between(a: Knot, b: Knot, x: i64) -> Knot
+pub(crate) fn between(a: Knot, b: Knot, x: i64) -> Knot
     requires line { IsOnLine a b x }
     requires within { AreWithin a b }
     ensures { IsBetween a b x result }

@@ -23,10 +23,11 @@ split_all-n-requires-clause-limits c =
       amounts = λ k h. rw (s.meet k h) ((c.requires.fits f s (place ks k) (is_inside ks c.args.used f k s h)).1);
     }
 
-pub raise_curve-requires-clause-blocks : goal.raise_curve-requires-clause-blocks
-raise_curve-requires-clause-blocks c =
+pub raise_curve-requires-clause-curve : goal.raise_curve-requires-clause-curve
+raise_curve-requires-clause-curve c =
     let e-start : to_z w64 (of_z w64 c.args.from) ≡ c.args.from = to_z-of_z w64 _ c.ranges.from in
-    rw e-start c.requires.blocks
+    let e-value : to_z w64 (of_z w64 c.args.value) ≡ c.args.value = to_z-of_z w64 _ c.ranges.value in
+    rw (e-value, e-start) c.requires.curve
 
 pub raise_curve-requires-clause-low : goal.raise_curve-requires-clause-low
 raise_curve-requires-clause-low c = λ k h.
@@ -74,7 +75,7 @@ returns-clause-stand c = λ f s.
     StandFor-raised (curve_term v bs start) n k1 c.raise_curve.new.knots f s1 raised
     (λ k h. curve_straight v bs start (place k1 k) (place k1 (k + 1)) (refined.apart k h))
     (λ x from to. elim (cases_lt 0 n) [
-      | inl some ↦ curve_convex v c.requires.blocks.lowest bs start (place k1 0) (place k1 (n - 1)) c.requires.blocks.blocks
+      | inl some ↦ curve_convex v c.requires.curve.lowest bs start (place k1 0) (place k1 (n - 1)) c.requires.curve.blocks
           ((c.requires.inside (place k1 0) (inside_same ks k1 c.args.used n (place k1 0) refined.ends (is_inside k1 n f 0 s1 some))).0)
           ((c.requires.inside (place k1 (n - 1)) (inside_same ks k1 c.args.used n (place k1 (n - 1)) refined.ends (is_inside k1 n f (n - 1) s1 (omega arith)))).1)
           x from to
@@ -85,3 +86,6 @@ pub returns-clause-ends : goal.returns-clause-ends
 returns-clause-ends c =
     HaveSameEnds-then c.args.knots.now c.split_all-n.new.knots c.raise_curve.new.knots c.args.used c.split_all-n.result c.split_all-n.result
     c.split_all-n.ensures.refined.ends (HaveSameEnds-raised _ c.split_all-n.result c.split_all-n.new.knots c.raise_curve.new.knots c.raise_curve.ensures)
+
+pub raise_curve-requires-clause-rise : goal.raise_curve-requires-clause-rise
+raise_curve-requires-clause-rise c = (c.split_all-n.ensures.refined.function c.requires.stand.0 c.requires.stand.1).rise

@@ -1,12 +1,11 @@
-use Rattle.std.proofs.Common.{◌≡◌, ℕ, ◌<◌, ◌≤◌}
-use Rattle.std.specs.Prelude.{◌+ℤ◌}
-use Rattle.ramp_step.specs.Knots.{place, height, knot}
-use Rattle.ramp_step.specs.Curve.{curve_term}
+use Rattle.std.proofs.Common.{◌≡◌}
+use Rattle.ramp_step.specs.Curve.{block_end, curve_term}
+use Rattle.ramp_step.specs.Raise.{AreRaisedSoFar}
 use Rattle.ramp_step.proofs.curve.raise_curve.Given as goal
 
-abbrev pub invariant-loop-i : goal.invariant-loop-i
-invariant-loop-i l = record {
-  places : (k : ℕ) → k < l.i → place l.knots k ≡ place l.fn.knots k;
-  heights : (k : ℕ) → k < l.i → height l.knots k ≡ height l.fn.knots k +ℤ curve_term l.value l.blocks l.from (place l.fn.knots k);
-  rest : (k : ℕ) → l.i ≤ k → knot l.knots k ≡ knot l.fn.knots k;
+abbrev pub invariant-loop-block : goal.invariant-loop-block
+invariant-loop-block l = record {
+  raised : AreRaisedSoFar l.value l.blocks l.from l.block-index l.used l.done l.fn.knots l.knots;
+  start : l.start ≡ block_end l.blocks l.from l.block-index;
+  level : l.level ≡ curve_term l.value l.blocks l.from (block_end l.blocks l.from l.block-index);
 }
