@@ -3,6 +3,7 @@ pub mod CutLaws
 pub mod DivLaws
 pub mod KinkLaws
 pub mod KnotLaws
+pub mod LeastLaws
 pub mod RaiseLaws
 pub mod SpacedLaws
 pub mod SpreadLaws

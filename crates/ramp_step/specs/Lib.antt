@@ -4,5 +4,7 @@ pub mod Cut
 pub mod Kink
 pub mod Spaced
 pub mod Raise
+pub mod Read
 pub mod Values
+pub mod Laws
 pub mod Curve

@@ -1,5 +1,5 @@
 -- The least value in reach.
-use Rattle.std.specs.Prelude.{◌≡◌, ℕ, ◌+◌, ◌-◌, ◌<◌, ◌≤◌, ℤ, ◌+ℤ◌, ◌-ℤ◌, ◌≤ℤ◌, List}
+use Rattle.std.specs.Prelude.{◌≡◌, ℕ, ◌+◌, ◌-◌, ◌<◌, ◌≤◌, ℤ, ◌+ℤ◌, ◌-ℤ◌, ◌≤ℤ◌, ◌<ℤ◌, List}
 use Rattle.std.specs.Int.{int_min, int_max}
 use Rattle.ramp_step.specs.declared.breakpoint.Knot.{Knot}
 use Rattle.ramp_step.specs.Knots.{place, height, StandFor, IsInside}
@@ -19,7 +19,7 @@ pub record IsLeastInReach (f : ℤ → ℤ) (a b up down x v : ℤ) : Type 0 whe
 -- the heights of the first n knots fall up to index j, and don't fall at it
 pub record IsTurn (ks : List Knot) (n j : ℕ) : Type 0 where
   pub inside : j < n
-  pub falls : (i : ℕ) → i + 1 ≡ j → height ks j ≤ℤ height ks i
+  pub falls : (i : ℕ) → i + 1 ≡ j → height ks j <ℤ height ks i
   pub rises : j + 1 < n → height ks j ≤ℤ height ks (j + 1)
 
 -- the knots up to index j are moved by -down, and those from j on by up

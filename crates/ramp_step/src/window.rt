@@ -34,7 +34,7 @@ fn earlier(knot: Knot, by: i64) -> Knot
 }
 
 /// The first index at which the heights don't fall.
-fn turn(knots: &[Knot], used: usize) -> usize
+pub(crate) fn turn(knots: &[Knot], used: usize) -> usize
     requires some { 0 < used }
     requires room { used ≤ length knots.now }
     ensures { IsTurn knots.now used result }

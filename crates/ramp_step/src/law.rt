@@ -1,0 +1,9 @@
+//! The law of the window: the contract of a function that does nothing.
+ghost use Rattle.ramp_step.specs.Laws.{WindowMovesParts, WindowMovesKnots};
+
+/// Of a convex function on a whole interval the window moves the falling part by `-down` and the
+/// rising part by `up`, with the flat part between. So do knots that are moved in that way.
+pub fn window_moves_parts()
+    ensures function { WindowMovesParts }
+    ensures knots { WindowMovesKnots }
+{}
