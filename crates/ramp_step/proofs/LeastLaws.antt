@@ -1,13 +1,12 @@
 -- Where a convex function is least.
-use Rattle.std.proofs.Common.{◌≡◌, ℕ, zero, suc, ◌+◌, ◌-◌, ◌<◌, ◌≤◌, List, refl, sym, ap, ◌∙◌, subst, arith, inl, inr}
-use Rattle.std.specs.Prelude.{ℤ, pos, negsuc, ◌+ℤ◌, ◌-ℤ◌, ◌*ℤ◌, ◌≤ℤ◌, ◌<ℤ◌}
+use Rattle.std.proofs.Common.{◌≡◌, ℕ, zero, suc, ◌+◌, ◌-◌, List, refl, sym, ap, subst, arith}
+use Rattle.std.specs.Prelude.{ℤ, pos, ◌+ℤ◌, ◌-ℤ◌, ◌≤ℤ◌, ◌<ℤ◌}
 use Rattle.std.specs.Int.{int_min, int_max}
 use Rattle.std.proofs.lemmas.Int.{ints, clamps, by_lt_z}
-use Rattle.std.proofs.lemmas.Bool.{cases_lt}
-use Rattle.std.proofs.Math.IntN.{*ℤ-zero, *ℤ_comm}
+use Rattle.std.proofs.Math.IntN.{*ℤ-zero}
 use Rattle.uc_model.proofs.IntLaws.{mul-mono_of}
 use Rattle.ramp_step.specs.declared.breakpoint.Knot.{Knot}
-use Rattle.ramp_step.specs.Knots.{knot, place, height, IsStraight, IsConvex, StandFor, IsInside}
+use Rattle.ramp_step.specs.Knots.{knot, place, IsStraight, IsConvex, StandFor, IsInside}
 use Rattle.ramp_step.specs.Window.{nearest, IsLeastInReach, IsTurn}
 use Rattle.ramp_step.specs.Read.{IsLowest, HasNoPlace, IsInsideWithin}
 use Rattle.ramp_step.specs.Laws.{MovesParts}

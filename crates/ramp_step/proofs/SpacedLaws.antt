@@ -1,5 +1,5 @@
 -- Knots with free cells between them.
-use Rattle.std.proofs.Common.{◌≡◌, ◌≢◌, ℕ, ◌+◌, ◌-◌, ◌<◌, ◌≤◌, List, length, take, drop, get_or, refl, sym, ap, ◌∙◌, subst, arith, inl, inr}
+use Rattle.std.proofs.Common.{◌≡◌, ◌≢◌, ℕ, ◌+◌, ◌-◌, ◌<◌, ◌≤◌, List, length, take, drop, get_or, sym, ap, ◌∙◌, subst, arith, inl, inr}
 use Rattle.std.specs.Prelude.{ℤ, pos, ◌≤ℤ◌, ◌<ℤ◌, slice_set}
 use Rattle.std.proofs.lemmas.Int.{ints}
 use Rattle.std.proofs.lemmas.Bool.{cases_lt}
@@ -118,7 +118,6 @@ IsMovedOn-stop ks ks' front room i n x from to fits fits' before moved rest belo
 module _ (ks : List Knot) (front room n : ℕ) (q : Knot) (some : 0 < room) (fits : front + room ≤ length ks) where
   fits' : front + room ≤ length (slice_set ks ((front + room) - 1) q)
   fits' = let len = length-set ks ((front + room) - 1) q in omega (arith, len)
-
 
   pub put_before : (k : ℕ) → k < front → knot (spaced (slice_set ks ((front + room) - 1) q) front (room - 1)) k ≡ knot (spaced ks front room) k
   put_before k h =

@@ -102,13 +102,7 @@ fn raise_curve(knots: &mut [Knot], used: usize, value: i64, blocks: &[Block], fr
 }
 
 /// Adds the blocks' value to the value at each place.
-fn add_blocks(
-    knots: &mut [Knot],
-    used: usize,
-    value: i64,
-    blocks: &[Block],
-    from: i64,
-) -> usize
+fn add_blocks(knots: &mut [Knot], used: usize, value: i64, blocks: &[Block], from: i64) -> usize
     requires room { used + length blocks.now ≤ length knots.old }
     requires stand { IsShape knots.old used }
     requires curve { IsLimitedCurve value blocks.now from }

@@ -91,14 +91,7 @@ fn shift(knots: &mut [Knot], used: usize, up: i64, down: i64) -> usize
 }
 
 /// The least value at the places from `x - up` to `x + down`, at the places from `lo` to `hi`.
-pub fn window_step(
-    knots: &mut [Knot],
-    used: u32,
-    up: i64,
-    down: i64,
-    lo: i64,
-    hi: i64,
-) -> u32
+pub fn window_step(knots: &mut [Knot], used: u32, up: i64, down: i64, lo: i64, hi: i64) -> u32
     requires count { used + 4 < 2 ^ 32 }
     requires room { used + 4 ≤ length knots.old }
     requires stand { IsShape knots.old used }

@@ -1,12 +1,12 @@
 use Rattle.std.proofs.Common.{◌≡◌, ℕ, ◌+◌, length, get_or, refl, sym, ap, ◌∙◌, subst, arith, rules, to_z, of_z}
-use Rattle.std.specs.Prelude.{ℤ, pos, ◌+ℤ◌, FitsSigned}
+use Rattle.std.specs.Prelude.{pos, ◌+ℤ◌, FitsSigned}
 use Rattle.std.specs.Int.{w64}
 use Rattle.std.proofs.lemmas.Int.{ints, to_z-of_z}
 use Rattle.uc_model.specs.declared.units.Block.{Block}
 use Rattle.ramp_step.specs.declared.breakpoint.Knot.{Knot}
-use Rattle.ramp_step.specs.Knots.{knot, place, height, IsAmount}
-use Rattle.ramp_step.specs.Curve.{block_end, curve_term}
-use Rattle.ramp_step.specs.Raise.{AreRaisedSoFar, CanRaise}
+use Rattle.ramp_step.specs.Knots.{knot, IsAmount}
+use Rattle.ramp_step.specs.Curve.{block_end}
+use Rattle.ramp_step.specs.Raise.{AreRaisedSoFar}
 use Rattle.ramp_step.proofs.CurveLaws.{block_end_next, block_end_rise, curve_begins}
 use Rattle.ramp_step.proofs.RaiseLaws.{next_level, CanRaise-begin, CanRaise-on_block, AreRaisedSoFar-begin, AreRaisedSoFar-more, AreRaised-so_far}
 use Rattle.ramp_step.proofs.curve.raise_curve.Goals as goal

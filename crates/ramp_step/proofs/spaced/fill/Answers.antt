@@ -1,9 +1,9 @@
-use Rattle.std.proofs.Common.{◌≡◌, ℕ, ◌+◌, ◌-◌, ap, sym, ◌∙◌, subst, arith, inl, inr, to_z, of_z}
+use Rattle.std.proofs.Common.{◌≡◌, ℕ, ◌+◌, ◌-◌, ap, sym, subst, arith, inl, inr, to_z, of_z}
 use Rattle.std.specs.Prelude.{slice_set}
 use Rattle.std.specs.Int.{w64}
 use Rattle.std.proofs.lemmas.Int.{ints, to_z-of_z}
 use Rattle.ramp_step.specs.declared.breakpoint.Knot.{Knot}
-use Rattle.ramp_step.specs.Knots.{knot, place}
+use Rattle.ramp_step.specs.Knots.{knot}
 use Rattle.ramp_step.specs.Cut.{IsOnLine, AreWithin, IsBetween, IsSplit, IsLimited, AreBelow}
 use Rattle.ramp_step.specs.Spaced.{spaced}
 use Rattle.ramp_step.proofs.CutLaws.{IsSplit-still, IsSplit-inserted, IsLimited-inserted, on_line_between, within_between}
