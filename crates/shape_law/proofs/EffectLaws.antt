@@ -1,0 +1,72 @@
+-- Each effect fixes the new function, and is that of any function with the same values.
+use Rattle.std.proofs.Common.{◌≡◌, Option, Some, None, refl, sym, ap, ◌∙◌, subst, arith}
+use Rattle.std.specs.Prelude.{ℤ, ◌+ℤ◌, ◌≤ℤ◌, MatchOption}
+use Rattle.std.specs.Option.{option_map}
+use Rattle.std.proofs.lemmas.Int.{ints}
+use Rattle.shape_law.specs.Table.{Table, value_of}
+use Rattle.shape_law.specs.Effect.{IsPoint, IsSame, IsSum, IsCurveSum, IsWindow}
+use Rattle.shape_law.specs.Laws.{PointIsExact, SumIsExact, CurveSumIsExact, WindowIsExact}
+use Rattle.shape_law.proofs.ConvexLaws.{same_some}
+
+-- two look-ups agree where each value of one is a value of the other
+same_by : (o p : Option ℤ) → ((v : ℤ) → o ≡ Some v → p ≡ Some v) → ((v : ℤ) → p ≡ Some v → o ≡ Some v) → p ≡ o
+same_by None None there back = refl
+same_by None (Some v) there back = sym (back v refl)
+same_by (Some v) p there back = there v refl
+
+pub point_is_exact : PointIsExact
+point_is_exact place value g g' is is' x = same_by (value_of g x) (value_of g' x) (at g g' is is') (at g' g is' is)
+  where
+    at : (h h' : Table) → IsPoint place value h → IsPoint place value h' → (v : ℤ) → value_of h x ≡ Some v → value_of h' x ≡ Some v
+    at h h' a a' v p =
+        let e = a.only x v p in
+        let s : v ≡ value = same_some (value_of h place) (ap (value_of h) (sym e) ∙ p) a.there in
+        ap (value_of h') e ∙ a'.there ∙ ap Some (sym s)
+
+pub sum_is_exact : SumIsExact
+sum_is_exact term f g g' is is' x = is' x ∙ sym (is x)
+
+curve_by : (curve : ℤ → Option ℤ) (y : ℤ) (o p p' : Option ℤ) → MatchOption o (p ≡ None) (λ v. (c : ℤ) × (curve y ≡ Some c) × (p ≡ Some (v +ℤ c)))
+    → MatchOption o (p' ≡ None) (λ v. (c : ℤ) × (curve y ≡ Some c) × (p' ≡ Some (v +ℤ c))) → p' ≡ p
+curve_by curve y None p p' m m' = m' ∙ sym m
+curve_by curve y (Some v) p p' m m' =
+    let e : m'.0 ≡ m.0 = same_some (curve y) m'.1 m.1 in
+    m'.2 ∙ ap (λ c. Some (v +ℤ c)) e ∙ sym m.2
+
+pub curve_sum_is_exact : CurveSumIsExact
+curve_sum_is_exact curve shift f g g' is is' x = curve_by curve (x +ℤ shift) (value_of f x) (value_of g x) (value_of g' x) (is x) (is' x)
+
+-- of two windows of one function, each value of one is a value of the other
+window_value : (up down lo hi : ℤ) (f g g' : Table) → IsWindow up down lo hi f g → IsWindow up down lo hi f g' → (x v : ℤ) → value_of g x ≡ Some v → value_of g' x ≡ Some v
+window_value up down lo hi f g g' w w' x v p =
+    let r = w.reached x v p in
+    let s = w'.least x r.0 v r.1 r.2 r.3 in
+    let r' = w'.reached x s.0 s.1 in
+    let s' = w.least x r'.0 s.0 r'.1 r'.2 r'.3 in
+    let low : s.0 ≤ℤ v = s.2 in
+    let high : s'.0 ≤ℤ s.0 = s'.2 in
+    let same : s'.0 ≡ v = same_some (value_of g x) s'.1 p in
+    let e : s.0 ≡ v = omega (arith, ints) in
+    s.1 ∙ ap Some e
+
+pub window_is_exact : WindowIsExact
+window_is_exact up down lo hi f g g' w w' x =
+    same_by (value_of g x) (value_of g' x) (window_value up down lo hi f g g' w w' x) (window_value up down lo hi f g' g w' w x)
+
+-- ---- the effects of a function that has the same values as another
+
+pub IsSame-then : (f g h : Table) → IsSame f g → IsSame g h → IsSame f h
+IsSame-then f g h a b x = b x ∙ a x
+
+pub IsSum-from_same : (term : ℤ → ℤ) (f f' g : Table) → IsSame f f' → IsSum term f' g → IsSum term f g
+IsSum-from_same term f f' g same sum x = sum x ∙ ap (option_map (λ v. v +ℤ term x)) (same x)
+
+pub IsCurveSum-from_same : (curve : ℤ → Option ℤ) (shift : ℤ) (f f' g : Table) → IsSame f f' → IsCurveSum curve shift f' g → IsCurveSum curve shift f g
+IsCurveSum-from_same curve shift f f' g same sum x =
+    subst (λ o. MatchOption o (value_of g x ≡ None) (λ v. (c : ℤ) × (curve (x +ℤ shift) ≡ Some c) × (value_of g x ≡ Some (v +ℤ c)))) (same x) (sum x)
+
+pub IsWindow-from_same : (up down lo hi : ℤ) (f f' g : Table) → IsSame f f' → IsWindow up down lo hi f' g → IsWindow up down lo hi f g
+IsWindow-from_same up down lo hi f f' g same w = record {
+  reached = λ x v h. let r = w.reached x v h in (r.0, sym (same r.0) ∙ r.1, r.2, r.3);
+  least = λ x y u h inside reach. w.least x y u (same y ∙ h) inside reach;
+}

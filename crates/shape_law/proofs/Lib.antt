@@ -1,0 +1,6 @@
+pub mod ConvexLaws
+pub mod CurveLaws
+pub mod EffectLaws
+pub mod FrameLaws
+pub mod LimitLaws
+pub mod TableLaws

@@ -1,0 +1,7 @@
+use Rattle.shape_law.proofs.FrameLaws.{ended_shapes_leave_nothing}
+use Rattle.shape_law.proofs.laws.ended_shapes_leave_nothing.Goals as goal
+
+pub returns : goal.returns
+returns g c =
+    let shape = g.S.Shape in
+    ended_shapes_leave_nothing g.S.Home.Cells.cell_list shape.is_in shape.numbers shape.function g.met.S.Shape.same_cells (λ h s here. (g.met.S.Shape.owns h s here).used)

@@ -1,0 +1,86 @@
+-- What holds of every shape. Each law is the clause of a public function of its name.
+use Rattle.std.specs.Prelude.{◌≡◌, ℕ, ℤ, pos, ◌*ℤ◌, ◌≤ℤ◌, List, [], Option}
+use Rattle.uc_model.specs.declared.units.Curve.{Curve}
+use Rattle.uc_model.specs.Limits as limits
+use Rattle.shape_law.specs.Cell.{Cell, AreApart, Frame}
+use Rattle.shape_law.specs.Curve.{curve_value, reserve_term}
+use Rattle.shape_law.specs.Effect.{IsPoint, IsSame, IsSum, IsCurveSum, CanAddCurve, IsWindow}
+use Rattle.shape_law.specs.Table.{Table, IsConvex, IsPlace, IsAmount, IsWithinLimits, CanAdd}
+
+module _ {H S : Type 0} (cell_list : H → List Cell) (is_in : H → S → Type 0) (numbers : H → S → List ℕ) (function : H → S → Table) where
+  -- what is said of a shape that is apart from the call's shape
+  pub record StaysAs (own' : List ℕ) (h h' : H) (other : S) : Type 0 where
+    pub here : is_in h' other
+    pub numbers_same : numbers h' other ≡ numbers h other
+    pub function_same : function h' other ≡ function h other
+    pub apart : AreApart own' (numbers h' other)
+
+  -- a call on one shape leaves every shape that is apart from it with its function and its cells, still in the home, and still apart
+  abbrev pub OthersStay : Type 0
+  OthersStay =
+      (own own' : List ℕ) (h h' : H) → Frame cell_list is_in numbers own own' h h' →
+      (other : S) → is_in h other → AreApart own (numbers h other) → StaysAs own' h h' other
+
+  -- two calls on one shape leave of the others what one call does
+  abbrev pub FramesJoin : Type 0
+  FramesJoin =
+      (own mid own' : List ℕ) (h h' h'' : H) → Frame cell_list is_in numbers own mid h h' →
+      Frame cell_list is_in numbers mid own' h' h'' → Frame cell_list is_in numbers own own' h h''
+
+  -- so do calls on shapes that came and went, and then a call on a shape that was there before
+  abbrev pub EndedShapesLeaveNothing : Type 0
+  EndedShapesLeaveNothing =
+      (own own' : List ℕ) (h h' h'' : H) → Frame cell_list is_in numbers [] [] h h' →
+      Frame cell_list is_in numbers own own' h' h'' → Frame cell_list is_in numbers own own' h h''
+
+-- one place alone is convex
+abbrev pub PointIsConvex : Type 0
+PointIsConvex = (place value : ℤ) (f : Table) → IsPoint place value f → IsConvex f
+
+abbrev pub CopyIsConvex : Type 0
+CopyIsConvex = (f g : Table) → IsSame f g → IsConvex f → IsConvex g
+
+abbrev pub LineKeepsConvexity : Type 0
+LineKeepsConvexity = (slope : ℤ) (f g : Table) → IsSum (λ x. slope *ℤ x) f g → IsConvex f → IsConvex g
+
+abbrev pub ReserveKeepsConvexity : Type 0
+ReserveKeepsConvexity =
+    (mu cap up : ℤ) (f g : Table) → pos 0 ≤ℤ mu → IsSum (reserve_term mu cap up) f g → IsConvex f → IsConvex g
+
+abbrev pub CurveKeepsConvexity : Type 0
+CurveKeepsConvexity =
+    (c : Curve) (shift : ℤ) (f g : Table) → limits.IsCurve c.blocks.items → IsCurveSum (curve_value c) shift f g → IsConvex f → IsConvex g
+
+abbrev pub WindowKeepsConvexity : Type 0
+WindowKeepsConvexity = (up down lo hi : ℤ) (f g : Table) → IsWindow up down lo hi f g → IsConvex f → IsConvex g
+
+-- each effect fixes the new function at every place
+abbrev pub PointIsExact : Type 0
+PointIsExact = (place value : ℤ) (g g' : Table) → IsPoint place value g → IsPoint place value g' → IsSame g g'
+
+abbrev pub SumIsExact : Type 0
+SumIsExact = (term : ℤ → ℤ) (f g g' : Table) → IsSum term f g → IsSum term f g' → IsSame g g'
+
+abbrev pub CurveSumIsExact : Type 0
+CurveSumIsExact = (curve : ℤ → Option ℤ) (shift : ℤ) (f g g' : Table) → IsCurveSum curve shift f g → IsCurveSum curve shift f g' → IsSame g g'
+
+abbrev pub WindowIsExact : Type 0
+WindowIsExact = (up down lo hi : ℤ) (f g g' : Table) → IsWindow up down lo hi f g → IsWindow up down lo hi f g' → IsSame g g'
+
+-- and keeps places and values within the limits
+abbrev pub PointIsWithinLimits : Type 0
+PointIsWithinLimits = (place value : ℤ) (g : Table) → IsPlace place → IsAmount value → IsPoint place value g → IsWithinLimits g
+
+abbrev pub CopyIsWithinLimits : Type 0
+CopyIsWithinLimits = (f g : Table) → IsSame f g → IsWithinLimits f → IsWithinLimits g
+
+abbrev pub SumIsWithinLimits : Type 0
+SumIsWithinLimits = (term : ℤ → ℤ) (f g : Table) → IsSum term f g → CanAdd term f → IsWithinLimits f → IsWithinLimits g
+
+abbrev pub CurveSumIsWithinLimits : Type 0
+CurveSumIsWithinLimits =
+    (curve : ℤ → Option ℤ) (shift : ℤ) (f g : Table) → IsCurveSum curve shift f g → CanAddCurve curve shift f → IsWithinLimits f → IsWithinLimits g
+
+abbrev pub WindowIsWithinLimits : Type 0
+WindowIsWithinLimits =
+    (up down lo hi : ℤ) (f g : Table) → IsPlace lo → IsPlace hi → IsWindow up down lo hi f g → IsWithinLimits f → IsWithinLimits g

@@ -1,0 +1,5 @@
+pub mod Cell
+pub mod Curve
+pub mod Effect
+pub mod Laws
+pub mod Table
