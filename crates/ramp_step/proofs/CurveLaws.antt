@@ -7,21 +7,22 @@ use Rattle.std.proofs.lemmas.Bool.{cases_lt}
 use Rattle.std.proofs.Math.IntN.{*ℤ-zero}
 use Rattle.ramp_step.specs.declared.breakpoint.Knot.{Knot}
 use Rattle.uc_model.specs.declared.units.Block.{Block}
-use Rattle.ramp_step.specs.Knots.{IsStraight, IsConvex, IsAmount}
+use Rattle.ramp_step.specs.Knots.{IsStraight, IsConvex}
+use Rattle.shape_law.specs.Table.{IsAmount}
 use Rattle.ramp_step.specs.Cut.{IsSplit}
 use Rattle.ramp_step.specs.Curve.{rise_over, curve_term, block_end, AreBlocks, EndsOutside, IsRefined, IsLimitedCurve}
-use Rattle.ramp_step.proofs.TimesLaws.{times_next, times_prev, times_one}
+use Rattle.ramp_step.proofs.TimesLaws.{times_prev, times_one, straight_product}
 use Rattle.ramp_step.proofs.DivLaws.{amount_part}
 use Rattle.ramp_step.proofs.KnotLaws.{HaveSameEnds-then}
 
-rise_left : (b : Block) (bs : List Block) (s x : ℤ) → x ≤ℤ (s +ℤ b.width) → rise_over (b ∷ bs) s x ≡ b.price *ℤ (x -ℤ s) +ℤ rise_over bs (s +ℤ b.width) (s +ℤ b.width)
+pub rise_left : (b : Block) (bs : List Block) (s x : ℤ) → x ≤ℤ (s +ℤ b.width) → rise_over (b ∷ bs) s x ≡ b.price *ℤ (x -ℤ s) +ℤ rise_over bs (s +ℤ b.width) (s +ℤ b.width)
 rise_left b bs s x h =
     let m : int_min (x -ℤ s) b.width ≡ x -ℤ s = omega (arith, ints, clamps) in
     let n : int_max x (s +ℤ b.width) ≡ s +ℤ b.width = omega (arith, ints, clamps) in
     ap (λ z. b.price *ℤ z +ℤ rise_over bs (s +ℤ b.width) (int_max x (s +ℤ b.width))) m
     ∙ ap (λ z. b.price *ℤ (x -ℤ s) +ℤ rise_over bs (s +ℤ b.width) z) n
 
-rise_right : (b : Block) (bs : List Block) (s x : ℤ) → (s +ℤ b.width) ≤ℤ x → rise_over (b ∷ bs) s x ≡ b.price *ℤ b.width +ℤ rise_over bs (s +ℤ b.width) x
+pub rise_right : (b : Block) (bs : List Block) (s x : ℤ) → (s +ℤ b.width) ≤ℤ x → rise_over (b ∷ bs) s x ≡ b.price *ℤ b.width +ℤ rise_over bs (s +ℤ b.width) x
 rise_right b bs s x h =
     let m : int_min (x -ℤ s) b.width ≡ b.width = omega (arith, ints, clamps) in
     let n : int_max x (s +ℤ b.width) ≡ x = omega (arith, ints, clamps) in
@@ -30,9 +31,6 @@ rise_right b bs s x h =
 
 before : (x s : ℤ) → (x -ℤ pos 1) -ℤ s ≡ (x -ℤ s) -ℤ pos 1
 before x s = omega (arith, ints)
-
-after : (x s : ℤ) → (x +ℤ pos 1) -ℤ s ≡ (x -ℤ s) +ℤ pos 1
-after x s = omega (arith, ints)
 
 none : (s : ℤ) → s -ℤ s ≡ pos 0
 none s = omega (arith, ints)
@@ -43,14 +41,6 @@ one s = omega (arith, ints)
 next : (j : ℕ) → suc j + 1 ≡ suc (j + 1)
 next j = omega arith
 
-linear : (p s x : ℤ) → ((p *ℤ (x -ℤ s)) +ℤ (p *ℤ (x -ℤ s))) ≡ ((p *ℤ ((x -ℤ pos 1) -ℤ s)) +ℤ (p *ℤ ((x +ℤ pos 1) -ℤ s)))
-linear p s x =
-    let a = ap (λ z. p *ℤ z) (before x s) in
-    let b = ap (λ z. p *ℤ z) (after x s) in
-    let c = times_prev p (x -ℤ s) in
-    let d = times_next p (x -ℤ s) in
-    omega (arith, ints)
-
 -- where no block ends in between, the rise is straight
 pub rise_straight : (bs : List Block) (s lo hi : ℤ) → EndsOutside bs s (length bs) lo hi → IsStraight lo hi (rise_over bs s)
 rise_straight [] s lo hi out x low high = omega (arith, ints)
@@ -60,7 +50,7 @@ rise_straight (b ∷ bs) s lo hi out x low high =
           let e = rise_left b bs s x (omega (arith, ints)) in
           let e0 = rise_left b bs s (x -ℤ pos 1) (omega (arith, ints)) in
           let e1 = rise_left b bs s (x +ℤ pos 1) (omega (arith, ints)) in
-          let l = linear b.price s x in
+          let l = straight_product b.price s x in
           omega (arith, ints)
       | inr right ↦
           let e = rise_right b bs s x (omega (arith, ints)) in
@@ -102,7 +92,7 @@ rise_convex p (b ∷ bs) s are x low high =
     let e = rise_left b bs s x (omega (arith, ints)) in
     let e0 = rise_left b bs s (x -ℤ pos 1) (omega (arith, ints)) in
     let e1 = rise_left b bs s (x +ℤ pos 1) (omega (arith, ints)) in
-    let l = linear b.price s x in
+    let l = straight_product b.price s x in
     omega (arith, ints))
     (λ from. by_lt_z t x
     (λ right.

@@ -4,7 +4,8 @@ use Rattle.std.specs.Prelude.{ℤ, pos, ◌+ℤ◌, ◌-ℤ◌, ◌*ℤ◌, ◌�
 use Rattle.std.proofs.lemmas.Int.{ints, by_lt_z}
 use Rattle.std.proofs.lemmas.Bool.{cases_lt}
 use Rattle.ramp_step.specs.declared.breakpoint.Knot.{Knot}
-use Rattle.ramp_step.specs.Knots.{knot, place, height, IsStraight, StandFor, IsShape, HaveSameEnds, IsFar, IsAmount}
+use Rattle.ramp_step.specs.Knots.{knot, place, height, IsStraight, StandFor, IsShape, HaveSameEnds, IsFar}
+use Rattle.shape_law.specs.Table.{IsAmount}
 use Rattle.ramp_step.specs.Cut.{IsOnLine, IsBetween, AreWithin, IsLimited, AreBelow, IsCut, AreDropped, IsInserted, IsSplit, IsPart}
 use Rattle.ramp_step.proofs.KnotLaws.{rises}
 use Rattle.ramp_step.proofs.WindowLaws.{straight_line}

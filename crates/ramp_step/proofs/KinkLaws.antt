@@ -4,7 +4,7 @@ use Rattle.std.specs.Prelude.{ℤ, pos, ◌+ℤ◌, ◌-ℤ◌, ◌*ℤ◌, ◌�
 use Rattle.std.specs.Int.{int_min}
 use Rattle.std.proofs.lemmas.Int.{ints, clamps}
 use Rattle.ramp_step.specs.Knots.{IsStraight, IsConvex}
-use Rattle.ramp_step.specs.Kink.{reserve_term}
+use Rattle.shape_law.specs.Curve.{reserve_term}
 use Rattle.uc_model.proofs.IntLaws.{mul-add, mul-mono_of}
 use Rattle.ramp_step.proofs.TimesLaws.{times_next, times_prev}
 

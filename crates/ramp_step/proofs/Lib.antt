@@ -1,10 +1,14 @@
+pub mod BreakpointLaws
 pub mod CurveLaws
+pub mod CurveShapeLaws
 pub mod CutLaws
 pub mod DivLaws
 pub mod KinkLaws
 pub mod KnotLaws
 pub mod LeastLaws
+pub mod LimitLaws
 pub mod RaiseLaws
+pub mod ShapeLaws
 pub mod SpacedLaws
 pub mod SpreadLaws
 pub mod TimesLaws

@@ -6,7 +6,8 @@ use Rattle.std.proofs.lemmas.Bool.{cases_lt}
 use Rattle.std.proofs.Math.IntN.{zero-*ℤ}
 use Rattle.ramp_step.specs.declared.breakpoint.Knot.{Knot}
 use Rattle.uc_model.specs.declared.units.Block.{Block}
-use Rattle.ramp_step.specs.Knots.{place, height, IsFar, IsAmount, AreRaised}
+use Rattle.ramp_step.specs.Knots.{place, height, IsWide, AreRaised}
+use Rattle.shape_law.specs.Table.{IsAmount}
 use Rattle.ramp_step.specs.Curve.{block_end, curve_term, IsLimitedCurve}
 use Rattle.ramp_step.specs.Raise.{line_from, CanRaise, AreRaisedUpto, AreRaisedSoFar}
 use Rattle.ramp_step.proofs.KnotLaws.{rises}
@@ -32,7 +33,7 @@ CanRaise-begin v bs s q l low high before after =
     let begins = curve_begins v bs s l in
     let e : curve_term v bs s q.at ≡ v = ap (curve_term v bs s) here ∙ begins in
     record {
-      place = subst IsFar (sym here) (l.ends 0 (omega arith));
+      place = subst IsWide (sym here) (l.ends 0 (omega arith));
       before = before;
       line = subst IsAmount (sym (flat s v q.at)) (subst IsAmount begins (l.values 0 (omega arith)));
       after = subst (λ (z : ℤ). IsAmount (q.value +ℤ z)) (e ∙ sym (flat s v q.at)) after;

@@ -18,7 +18,7 @@ get_values_from f x zero i d h = absurd (omega arith)
 get_values_from f x (suc n) zero d h = ap f (omega (arith, ints))
 get_values_from f x (suc n) (suc i) d h = get_values_from f (x +ℤ pos 1) n i d (omega arith) ∙ ap f (omega (arith, ints))
 
-chosen : (a b : ℤ) (v w : ℤ) → ((a <ℤ b) × (cond (int_lt a b) v w ≡ v)) ⊎ ((b ≤ℤ a) × (cond (int_lt a b) v w ≡ w))
+pub chosen : (a b : ℤ) (v w : ℤ) → ((a <ℤ b) × (cond (int_lt a b) v w ≡ v)) ⊎ ((b ≤ℤ a) × (cond (int_lt a b) v w ≡ w))
 chosen a b v w = by_lt_z a b (λ l. inl (l, grind (arith, ints))) (λ l. inr (l, grind (arith, ints)))
 
 -- the search by knots gives the function's value

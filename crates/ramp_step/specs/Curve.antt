@@ -3,7 +3,8 @@ use Rattle.std.specs.Prelude.{ℕ, zero, suc, ◌+◌, ◌<◌, ◌≤◌, ℤ, 
 use Rattle.std.specs.Int.{int_min, int_max}
 use Rattle.ramp_step.specs.declared.breakpoint.Knot.{Knot}
 use Rattle.uc_model.specs.declared.units.Block.{Block}
-use Rattle.ramp_step.specs.Knots.{place, StandFor, IsInside, HaveSameEnds, IsFar, IsAmount}
+use Rattle.ramp_step.specs.Knots.{place, StandFor, IsInside, HaveSameEnds, IsWide}
+use Rattle.shape_law.specs.Table.{IsAmount}
 
 -- the rise from place s to place x over blocks that begin at s
 abbrev pub rise_over : List Block → ℤ → ℤ → ℤ
@@ -39,7 +40,7 @@ pub record IsRefined (bs : List Block) (s : ℤ) (j : ℕ) (ks : List Knot) (n :
 pub record IsLimitedCurve (v : ℤ) (bs : List Block) (s : ℤ) : Type 0 where
   pub lowest : ℤ
   pub blocks : AreBlocks lowest bs
-  pub ends : (j : ℕ) → j ≤ length bs → IsFar (block_end bs s j)
+  pub ends : (j : ℕ) → j ≤ length bs → IsWide (block_end bs s j)
   pub values : (j : ℕ) → j ≤ length bs → IsAmount (curve_term v bs s (block_end bs s j))
 
 -- each place of the interval is on the blocks

@@ -1,7 +1,8 @@
 -- Parts of the interval, and knots between knots.
 use Rattle.std.specs.Prelude.{◌≡◌, ℕ, ◌+◌, ◌<◌, ◌≤◌, ℤ, ◌+ℤ◌, ◌-ℤ◌, ◌*ℤ◌, ◌≤ℤ◌, ◌<ℤ◌, ◌⊎◌, List}
 use Rattle.ramp_step.specs.declared.breakpoint.Knot.{Knot}
-use Rattle.ramp_step.specs.Knots.{knot, place, height, StandFor, IsInside, HaveSameEnds, IsFar, IsAmount}
+use Rattle.ramp_step.specs.Knots.{knot, place, height, StandFor, IsInside, HaveSameEnds, IsFar}
+use Rattle.shape_law.specs.Table.{IsAmount}
 
 -- a line with a whole slope goes from knot a to knot b, and x is a place on it
 pub record IsOnLine (a b : Knot) (x : ℤ) : Type 0 where

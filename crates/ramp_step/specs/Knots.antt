@@ -1,6 +1,7 @@
 -- What a slice of knots stands for.
 use Rattle.std.specs.Prelude.{◌≡◌, ℕ, ◌+◌, ◌-◌, ◌<◌, ℤ, pos, negsuc, ◌+ℤ◌, ◌-ℤ◌, ◌≤ℤ◌, ◌<ℤ◌, List, slice_index_or}
 use Rattle.ramp_step.specs.declared.breakpoint.Knot.{Knot}
+use Rattle.shape_law.specs.Table.{IsPlace, IsAmount}
 
 -- the knot at an index
 abbrev pub knot : List Knot → ℕ → Knot
@@ -48,16 +49,13 @@ pub record HaveSameEnds (ks : List Knot) (n : ℕ) (ks' : List Knot) (n' : ℕ) 
   pub first : 0 < n → place ks' 0 ≡ place ks 0
   pub last : 0 < n → place ks' (n' - 1) ≡ place ks (n - 1)
 
--- places and values within the limits
-abbrev pub IsPlace : ℤ → Type 0
-IsPlace x = (negsuc 3999999999 ≤ℤ x) × (x ≤ℤ pos 4000000000)
-
 -- a place that may be further out by the length of one move
 abbrev pub IsFar : ℤ → Type 0
 IsFar x = (negsuc 7999999999 ≤ℤ x) × (x ≤ℤ pos 8000000000)
 
-abbrev pub IsAmount : ℤ → Type 0
-IsAmount v = (negsuc 999999999999999999 ≤ℤ v) × (v ≤ℤ pos 1000000000000000000)
+-- a place of a curve that is moved by a shift
+abbrev pub IsWide : ℤ → Type 0
+IsWide x = (negsuc 15999999999 ≤ℤ x) × (x ≤ℤ pos 16000000000)
 
 -- the term may be added: places and values are within the limits, before and after
 abbrev pub CanAdd : (ℤ → ℤ) → List Knot → ℕ → (ℤ → ℤ) → Type 0

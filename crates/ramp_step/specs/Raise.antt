@@ -2,7 +2,8 @@
 use Rattle.std.specs.Prelude.{◌≡◌, ℕ, ◌<◌, ◌≤◌, ℤ, ◌+ℤ◌, ◌-ℤ◌, ◌*ℤ◌, ◌≤ℤ◌, ◌<ℤ◌, List}
 use Rattle.ramp_step.specs.declared.breakpoint.Knot.{Knot}
 use Rattle.uc_model.specs.declared.units.Block.{Block}
-use Rattle.ramp_step.specs.Knots.{knot, place, height, IsFar, IsAmount}
+use Rattle.ramp_step.specs.Knots.{knot, place, height, IsWide}
+use Rattle.shape_law.specs.Table.{IsAmount}
 use Rattle.ramp_step.specs.Curve.{block_end, curve_term}
 
 -- the value at x on the line that has this level at a start
@@ -11,7 +12,7 @@ line_from start level price x = level +ℤ price *ℤ (x -ℤ start)
 
 -- the line may be added to the knot
 pub record CanRaise (start level price : ℤ) (q : Knot) : Type 0 where
-  pub place : IsFar q.at
+  pub place : IsWide q.at
   pub before : IsAmount q.value
   pub line : IsAmount (line_from start level price q.at)
   pub after : IsAmount (q.value +ℤ line_from start level price q.at)

@@ -1,6 +1,7 @@
 //! A curve is added.
 ghost use Rattle.std.specs.Prelude.{◌≡◌, ℕ, ℤ, ◌+◌, ◌^◌, ◌-◌, ◌<◌, ◌≤◌, ◌+ℤ◌, ◌-ℤ◌, ◌*ℤ◌, ◌≤ℤ◌, ◌<ℤ◌, length};
-ghost use Rattle.ramp_step.specs.Knots.{place, height, StandFor, IsShape, IsInside, HaveSameEnds, IsPlace, IsFar, IsAmount, CanAdd, AreRaised, knot};
+ghost use Rattle.ramp_step.specs.Knots.{place, height, StandFor, IsShape, IsInside, HaveSameEnds, IsFar, CanAdd, AreRaised, knot, IsWide};
+ghost use Rattle.shape_law.specs.Table.{IsAmount};
 ghost use Rattle.ramp_step.specs.Cut.{IsLimited};
 ghost use Rattle.ramp_step.specs.Curve.{block_end, IsOver, AreBlocks, IsLimitedCurve, IsRefined, curve_term};
 ghost use Rattle.ramp_step.specs.Raise.{line_from, CanRaise, AreRaisedUpto};
@@ -17,7 +18,7 @@ fn split_all(knots: &mut [Knot], used: usize, from: i64, blocks: &[Block]) -> us
     requires stand { IsShape knots.old used }
     requires limits { IsLimited knots.old used }
     requires ascending { (lowest : ℤ) × AreBlocks lowest blocks.now }
-    requires places { (j : ℕ) → j ≤ length blocks.now → IsFar (block_end blocks.now from j) }
+    requires places { (j : ℕ) → j ≤ length blocks.now → IsWide (block_end blocks.now from j) }
     ensures refined { IsRefined blocks.now from (length blocks.now) knots.old used knots.new result }
     ensures limits { IsLimited knots.new result }
     ensures charge { result ≤ used + length blocks.now }
@@ -38,7 +39,7 @@ fn split_all(knots: &mut [Knot], used: usize, from: i64, blocks: &[Block]) -> us
 
 /// The knot after a line is added that has this level at `start`.
 fn on_block(knot: Knot, start: i64, level: i64, price: i64) -> Knot
-    requires start { IsFar start }
+    requires start { IsWide start }
     requires level { IsAmount level }
     requires fits { CanRaise start level price knot }
     ensures at { result.at ≡ knot.at }
@@ -64,7 +65,7 @@ fn raise_block(
 ) -> usize
     requires order { first ≤ used }
     requires room { used ≤ length knots.old }
-    requires start { IsFar start }
+    requires start { IsWide start }
     requires level { IsAmount level }
     requires fits { (k : ℕ) → first ≤ k → k < used → place knots.old k ≤ℤ end → CanRaise start level price (knot knots.old k) }
     ensures { AreRaisedUpto (line_from start level price) end used first result knots.old knots.new }
@@ -122,8 +123,6 @@ pub fn curve_step(knots: &mut [Knot], used: u32, curve: &Curve, shift: i64) -> u
     requires room { used + length curve.now.blocks.items ≤ length knots.old }
     requires count { used + length curve.now.blocks.items < 2 ^ 32 }
     requires stand { IsShape knots.old used }
-    requires at { IsPlace curve.now.at }
-    requires shift { IsPlace shift }
     requires curve { IsLimitedCurve curve.now.value curve.now.blocks.items (curve.now.at -ℤ shift) }
     requires inside { IsOver curve.now.blocks.items (curve.now.at -ℤ shift) knots.old used }
     requires fits { (f : ℤ → ℤ) → StandFor knots.old used f → CanAdd (curve_term curve.now.value curve.now.blocks.items (curve.now.at -ℤ shift)) knots.old used f }

@@ -1,7 +1,8 @@
 //! The worth of the reserve is taken off.
 ghost use Rattle.std.specs.Prelude.{◌≡◌, ℕ, ℤ, ◌+◌, ◌^◌, ◌-◌, ◌<◌, ◌≤◌, pos, ◌+ℤ◌, ◌≤ℤ◌, length};
-ghost use Rattle.ramp_step.specs.Knots.{place, height, StandFor, IsShape, HaveSameEnds, IsPlace, IsFar, IsAmount, CanAdd, AreRaised, knot};
-ghost use Rattle.ramp_step.specs.Kink.{reserve_term};
+ghost use Rattle.ramp_step.specs.Knots.{place, height, StandFor, IsShape, HaveSameEnds, IsFar, CanAdd, AreRaised, knot};
+ghost use Rattle.shape_law.specs.Table.{IsPlace, IsAmount};
+ghost use Rattle.shape_law.specs.Curve.{reserve_term};
 
 use crate::breakpoint::Knot;
 use crate::splitting::split;

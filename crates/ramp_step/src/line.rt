@@ -1,6 +1,7 @@
 //! A line is added.
 ghost use Rattle.std.specs.Prelude.{◌≡◌, ℕ, ℤ, ◌+◌, ◌<◌, ◌≤◌, ◌+ℤ◌, ◌*ℤ◌, length};
-ghost use Rattle.ramp_step.specs.Knots.{place, height, StandFor, IsShape, HaveSameEnds, IsPlace, IsAmount, CanAdd, AreRaised, knot};
+ghost use Rattle.ramp_step.specs.Knots.{place, height, StandFor, IsShape, HaveSameEnds, CanAdd, AreRaised, knot};
+ghost use Rattle.shape_law.specs.Table.{IsPlace, IsAmount};
 
 use crate::breakpoint::Knot;
 

@@ -1,6 +1,7 @@
 //! A breakpoint is put in between two others.
 ghost use Rattle.std.specs.Prelude.{◌≡◌, ℤ, ◌+◌, ◌-◌, ◌<◌, ◌≤◌, pos, ◌+ℤ◌, ◌*ℤ◌, ◌≤ℤ◌, ◌<ℤ◌, length};
-ghost use Rattle.ramp_step.specs.Knots.{place, IsShape, IsAmount, knot};
+ghost use Rattle.ramp_step.specs.Knots.{place, IsShape, knot};
+ghost use Rattle.shape_law.specs.Table.{IsAmount};
 ghost use Rattle.ramp_step.specs.Cut.{IsOnLine, IsBetween, AreWithin, IsInserted, IsSplit, IsLimited, AreBelow};
 
 use crate::breakpoint::Knot;

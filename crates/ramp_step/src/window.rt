@@ -1,6 +1,7 @@
 //! The least value in reach.
 ghost use Rattle.std.specs.Prelude.{◌≡◌, ℕ, ℤ, ◌+◌, ◌^◌, ◌-◌, ◌<◌, ◌≤◌, pos, ◌+ℤ◌, ◌-ℤ◌, ◌≤ℤ◌, length};
-ghost use Rattle.ramp_step.specs.Knots.{place, height, IsShape, IsPlace, IsAmount, knot};
+ghost use Rattle.ramp_step.specs.Knots.{place, height, IsShape, knot};
+ghost use Rattle.shape_law.specs.Table.{IsPlace, IsAmount};
 ghost use Rattle.ramp_step.specs.Cut.{IsLimited};
 ghost use Rattle.ramp_step.specs.Window.{IsTurn, AreSpread, AreWindow, IsWindow};
 

@@ -4,7 +4,8 @@ use Rattle.std.specs.Int.{w64}
 use Rattle.std.proofs.lemmas.Int.{ints, to_z-of_z}
 use Rattle.uc_model.specs.declared.units.Block.{Block}
 use Rattle.ramp_step.specs.declared.breakpoint.Knot.{Knot}
-use Rattle.ramp_step.specs.Knots.{knot, IsAmount}
+use Rattle.ramp_step.specs.Knots.{knot}
+use Rattle.shape_law.specs.Table.{IsAmount}
 use Rattle.ramp_step.specs.Curve.{block_end}
 use Rattle.ramp_step.specs.Raise.{AreRaisedSoFar}
 use Rattle.ramp_step.proofs.CurveLaws.{block_end_next, block_end_rise, curve_begins}

@@ -3,7 +3,7 @@ use Rattle.std.specs.Prelude.{◌-ℤ◌}
 use Rattle.std.specs.Int.{w64}
 use Rattle.std.proofs.lemmas.Int.{ints, to_z-of_z}
 use Rattle.ramp_step.specs.Knots.{place}
-use Rattle.ramp_step.specs.Kink.{reserve_term}
+use Rattle.shape_law.specs.Curve.{reserve_term}
 use Rattle.ramp_step.proofs.KnotLaws.{is_inside, inside_same, StandFor-raised, HaveSameEnds-raised, HaveSameEnds-then}
 use Rattle.ramp_step.proofs.KinkLaws.{kink_straight, kink_convex}
 use Rattle.ramp_step.proofs.kink.kink_step.Goals as goal
