@@ -8,6 +8,7 @@ pub mod KnotLaws
 pub mod LeastLaws
 pub mod LimitLaws
 pub mod RaiseLaws
+pub mod SameLaws
 pub mod ShapeLaws
 pub mod SpacedLaws
 pub mod SpreadLaws

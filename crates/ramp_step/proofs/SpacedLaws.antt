@@ -36,7 +36,7 @@ module _ (ks ks' : List Knot) (n : ℕ) (same : (k : ℕ) → k < n → knot ks'
   pub same_place : (k : ℕ) → k < n → place ks' k ≡ place ks k
   same_place k h = ap (λ (q : Knot). q.at) (same k h)
 
-  same_height : (k : ℕ) → k < n → height ks' k ≡ height ks k
+  pub same_height : (k : ℕ) → k < n → height ks' k ≡ height ks k
   same_height k h = ap (λ (q : Knot). q.value) (same k h)
 
   pub StandFor-same : (f : ℤ → ℤ) → StandFor ks n f → StandFor ks' n f

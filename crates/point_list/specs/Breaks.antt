@@ -1,0 +1,16 @@
+-- A list of breakpoints, and the function that it stands for (this project's profile).
+use Rattle.std.specs.Prelude.{ℕ, ◌^◌, ◌<◌, List, length}
+use Rattle.shape_law.specs.Table.{Table}
+use Rattle.ramp_step.specs.declared.breakpoint.Knot.{Knot}
+use Rattle.ramp_step.specs.Breakpoints.{AreBreakpoints}
+use Rattle.ramp_step.specs.Tables.{table_of, AreWithinLimits}
+
+-- the whole list is breakpoints with whole slopes that don't fall, within the limits, and few enough to be counted
+pub record AreBreaks (ks : List Knot) : Type 0 where
+  pub points : AreBreakpoints ks (length ks)
+  pub within : AreWithinLimits ks (length ks)
+  pub count : length ks < 2 ^ 32
+
+-- its function
+abbrev pub function_of : List Knot → Table
+function_of ks = table_of ks (length ks)
