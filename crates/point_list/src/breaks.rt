@@ -1,10 +1,10 @@
 //! The shape that keeps its breakpoints.
-ghost use Rattle.std.specs.Prelude.{◌≡◌, ◌≤◌, ◌+◌, vec_len, length, refl, []};
-ghost use Rattle.point_list.specs.Breaks.{AreBreaks, function_of};
+ghost use Rattle.std.specs.Prelude.{◌≡◌, ◌+◌, ◌≤◌, length, refl, [], IfOk};
+ghost use Rattle.std.proofs.Common.{rules};
+ghost use Rattle.point_list.specs.Breaks.{AreBreaks, function_of, convex_of, within_limits};
 
-use crate::steps::{add_curve, add_line, add_reserve, window};
+use crate::steps;
 use ramp_step::breakpoint::Knot;
-use ramp_step::read::{least, least_in, value_at};
 use shape_law::{Heap, Shape};
 use std::alloc::AllocError;
 use uc_model::units::Curve;
@@ -15,4 +15,92 @@ use uc_model::units::Curve;
 pub struct Breaks {
     knots: Vec<Knot>,
     ghost valid: { AreBreaks knots.items },
+}
+
+impl Breaks {
+    /// How many breakpoints it keeps.
+    pub fn count(&self) -> u32
+        ensures { result ≡ length self.now.knots.items }
+    {
+        self.knots.len() as u32
+    }
+}
+
+impl Shape for Breaks {
+    type Home = Heap;
+
+    ghost is_in = { λ _ _. Unit {0} };
+
+    ghost function = { λ _ s. function_of s.knots.items };
+
+    ghost numbers = { λ _ _. [] };
+
+    ghost cells = { λ s. length s.knots.items };
+
+    ghost same_cells = { λ h h' s _ _. (refl, refl) };
+
+    ghost convex = { λ h s _. convex_of s.knots.items s.valid };
+
+    ghost within = { λ h s _. within_limits s.knots.items s.valid };
+
+    ghost owns = { λ h s _. record { used = λ n among. absurd among; distinct = tt } };
+
+    ghost as_many = { λ h s _ e. Prim.search rules };
+
+    ghost no_numbers = { λ h s _. (refl, refl, refl) };
+
+    ghost always_in = { λ h s _. tt };
+
+    fn point(home: &mut Heap, at: i64, value: i64) -> Result<Breaks, AllocError> {
+        let knots = steps::point(home.alloc, at, value)?;
+        Ok(Breaks { knots })
+    }
+
+    fn copy(&self, home: &mut Heap) -> Result<Breaks, AllocError> {
+        let knots = Vec::from_slice(home.alloc, &self.knots)?;
+        Ok(Breaks { knots })
+    }
+
+    fn add_curve(&mut self, _home: &mut Heap, curve: &Curve, shift: i64) -> Result<(), AllocError> {
+        steps::add_curve(&mut self.knots, curve, shift)
+    }
+
+    fn add_line(&mut self, _home: &mut Heap, slope: i64) {
+        steps::add_line(&mut self.knots, slope);
+    }
+
+    fn add_reserve(
+        &mut self,
+        _home: &mut Heap,
+        mu: i64,
+        cap: i64,
+        up: i64,
+    ) -> Result<(), AllocError> {
+        steps::add_reserve(&mut self.knots, mu, cap, up)
+    }
+
+    fn window(
+        &mut self,
+        _home: &mut Heap,
+        up: i64,
+        down: i64,
+        lo: i64,
+        hi: i64,
+    ) -> Result<(), AllocError> {
+        steps::window(&mut self.knots, up, down, lo, hi)
+    }
+
+    fn least(&self, _home: &Heap) -> Option<(i64, i64)> {
+        steps::least(&self.knots)
+    }
+
+    fn least_in(&self, _home: &Heap, lo: i64, hi: i64) -> Option<(i64, i64)> {
+        steps::least_in(&self.knots, lo, hi)
+    }
+
+    fn value_at(&self, _home: &Heap, x: i64) -> Option<i64> {
+        steps::value_at(&self.knots, x)
+    }
+
+    fn give_back(self, _home: &mut Heap) {}
 }

@@ -1,8 +1,8 @@
 //! Steps on a whole list, which take the room that they need first.
-ghost use Rattle.std.specs.Prelude.{◌≡◌, ℕ, ℤ, ◌+◌, ◌^◌, ◌<◌, ◌≤◌, pos, ◌+ℤ◌, ◌*ℤ◌, ◌≤ℤ◌, length, IfOk, OnOk, OnErr};
+ghost use Rattle.std.specs.Prelude.{◌≡◌, ℕ, ℤ, ◌+◌, ◌^◌, ◌<◌, ◌≤◌, pos, ◌+ℤ◌, ◌*ℤ◌, ◌≤ℤ◌, length, IfOk, OnOk, OnErr, MatchOption};
 ghost use Rattle.shape_law.specs.Curve.{curve_value, reserve_term, IsLimitedCurve};
-ghost use Rattle.shape_law.specs.Effect.{IsSum, IsCurveSum, CanAddCurve, IsWindow};
-ghost use Rattle.shape_law.specs.Table.{IsPlace, CanAdd};
+ghost use Rattle.shape_law.specs.Effect.{IsPoint, IsSum, IsCurveSum, CanAddCurve, IsWindow, IsLeast, IsLeastIn};
+ghost use Rattle.shape_law.specs.Table.{value_of, IsPlace, IsAmount, IsEmpty, HasNone, CanAdd};
 ghost use Rattle.ramp_step.specs.Knots.{knot};
 ghost use Rattle.point_list.specs.Breaks.{AreBreaks, function_of};
 
@@ -10,8 +10,9 @@ use ramp_step::breakpoint::Knot;
 use ramp_step::curve::curve_step;
 use ramp_step::kink::kink_step;
 use ramp_step::line::line_step;
+use ramp_step::read;
 use ramp_step::window::window_step;
-use std::alloc::AllocError;
+use std::alloc::{AllocError, Global};
 use uc_model::units::Curve;
 
 /// Puts free cells behind the knots, and answers how many knots there are. Where they could no
@@ -100,4 +101,47 @@ pub(crate) fn window(knots: &mut Vec<Knot>, up: i64, down: i64, lo: i64, hi: i64
     let left = window_step(knots, used, up, down, lo, hi);
     knots.truncate(left as usize);
     Ok(())
+}
+
+/// One breakpoint.
+pub(crate) fn point(alloc: Global, at: i64, value: i64) -> Result<Vec<Knot>, AllocError>
+    requires place { IsPlace at }
+    requires amount { IsAmount value }
+    ensures ok { IfOk result (λ knots. IsPoint at value (function_of knots.items)) }
+    ensures breaks { IfOk result (λ knots. AreBreaks knots.items) }
+    ensures count { IfOk result (λ knots. length knots.items ≡ 1) }
+{
+    let mut knots = Vec::new(alloc);
+    knots.push(Knot { at, value })?;
+    Ok(knots)
+}
+
+/// The least value and its least place.
+pub(crate) fn least(knots: &[Knot]) -> Option<(i64, i64)>
+    requires { AreBreaks knots.now }
+    ensures { MatchOption result (IsEmpty (function_of knots.now)) (λ r. IsLeast (function_of knots.now) r.0 r.1) }
+{
+    match read::least(knots, knots.len() as u32) {
+        Some(lowest) => Some((lowest.value, lowest.at)),
+        None => None,
+    }
+}
+
+/// The least value at the places from `lo` to `hi` and its least place.
+pub(crate) fn least_in(knots: &[Knot], lo: i64, hi: i64) -> Option<(i64, i64)>
+    requires { AreBreaks knots.now }
+    ensures { MatchOption result (HasNone lo hi (function_of knots.now)) (λ r. IsLeastIn lo hi (function_of knots.now) r.0 r.1) }
+{
+    match read::least_in(knots, knots.len() as u32, lo, hi) {
+        Some(lowest) => Some((lowest.value, lowest.at)),
+        None => None,
+    }
+}
+
+/// The value at a place.
+pub(crate) fn value_at(knots: &[Knot], x: i64) -> Option<i64>
+    requires { AreBreaks knots.now }
+    ensures { result ≡ value_of (function_of knots.now) x }
+{
+    read::value_at(knots, knots.len() as u32, x)
 }
