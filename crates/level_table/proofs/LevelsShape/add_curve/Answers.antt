@@ -1,0 +1,60 @@
+use Rattle.std.proofs.Common.{rules, ◌≡◌, ℕ, ◌<◌, length, arith, ap, to_z, of_z, get_or, ◌++◌, List, take, drop, Option, Some}
+use Rattle.std.specs.Prelude.{ℤ, pos, ◌+ℤ◌}
+use Rattle.std.specs.Int.{w64}
+use Rattle.std.proofs.lemmas.Int.{to_z-of_z}
+use Rattle.std.proofs.lemmas.List.{take_at}
+use Rattle.shape_law.specs.Curve.{curve_value}
+use Rattle.shape_law.specs.Effect.{IsCurveSum}
+use Rattle.shape_law.proofs.CurveLaws.{IsConvex-curve_sum}
+use Rattle.shape_law.proofs.LimitLaws.{IsWithinLimits-curve_sum}
+use Rattle.shape_law.proofs.TableLaws.{value-from_index}
+use Rattle.level_table.specs.Values.{table, within_limits}
+use Rattle.level_table.proofs.ValueLaws.{AreWithin-from_limits, added_at}
+use Rattle.level_table.proofs.LevelsShape.add_curve.Goals as goal
+use Rattle.level_table.proofs.LevelsShape.add_curve.Goals.{After-add_term}
+
+pub add_term-requires-clause-fits : goal.add_term-requires-clause-fits
+add_term-requires-clause-fits c = λ k h.
+    let own : to_z w64 (of_z w64 c.args.self.now.lo) ≡ c.args.self.now.lo = to_z-of_z w64 _ (search rules) in
+    let shift : to_z w64 (of_z w64 c.args.shift) ≡ c.args.shift = to_z-of_z w64 _ c.ranges.shift in
+    let items = c.deref_mut.ensures.value in
+    let inside : k < length c.args.self.now.values.items = omega (arith, ap length items) in
+    let fit = c.requires.fits _ _ (value-from_index (table c.args.self.now.lo c.args.self.now.values.items) k inside) in
+    rw (own, shift, items) fit
+
+-- the new values, as they are written back, and what is added to each
+record Raised (lo : ℤ) (added : ℤ → Option ℤ) (old new written : List ℤ) : Type 0 where
+  same : written ≡ new
+  len : length new ≡ length old
+  each : (k : ℕ) → k < length old → (t : ℤ) × (added (lo +ℤ pos k) ≡ Some t) × (get_or new k (pos 0) ≡ get_or old k (pos 0) +ℤ t)
+
+raised : (c : After-add_term) → Raised c.args.self.now.lo (λ x. curve_value c.args.curve.now (x +ℤ c.args.shift)) c.args.self.now.values.items c.add_term.new.values (take c.args.self.now.values.len (c.add_term.new.values ++ drop (length c.add_term.new.values) c.args.self.now.values.items))
+raised c =
+    let own : to_z w64 (of_z w64 c.args.self.now.lo) ≡ c.args.self.now.lo = to_z-of_z w64 _ (search rules) in
+    let shift : to_z w64 (of_z w64 c.args.shift) ≡ c.args.shift = to_z-of_z w64 _ c.ranges.shift in
+    let items = c.deref_mut.ensures.value in
+    let len : length c.add_term.new.values ≡ length c.args.self.now.values.items = omega (arith, ap length items) in
+    record {
+      same = take_at c.add_term.new.values _ _ (omega (arith, c.args.self.now.values.ok.0));
+      len = len;
+      each = rw (own, shift, items) at c.add_term.ensures;
+    }
+
+sum : (c : After-add_term) → IsCurveSum (curve_value c.args.curve.now) c.args.shift (table c.args.self.now.lo c.args.self.now.values.items) (table c.args.self.now.lo c.add_term.new.values)
+sum c = let r = raised c in added_at (λ x. curve_value c.args.curve.now (x +ℤ c.args.shift)) c.args.self.now.lo c.args.self.now.values.items c.add_term.new.values r.len r.each
+
+pub invariant_of-self-clause-convex : goal.invariant_of-self-clause-convex
+invariant_of-self-clause-convex c =
+    let after = (goal.at.invariant_of-self-clause-convex c).After-add_term in
+    rw (raised after).same (IsConvex-curve_sum c.args.curve.now c.args.shift _ _ c.requires.limited.blocks (sum after) c.args.self.now.convex)
+
+pub invariant_of-self-clause-within : goal.invariant_of-self-clause-within
+invariant_of-self-clause-within c =
+    let after = (goal.at.invariant_of-self-clause-within c).After-add_term in
+    let old = within_limits c.args.self.now.lo c.args.self.now.values.items c.args.self.now.within in
+    rw (raised after).same (AreWithin-from_limits c.args.self.now.lo c.add_term.new.values (IsWithinLimits-curve_sum (curve_value c.args.curve.now) c.args.shift _ _ (sum after) c.requires.fits old))
+
+pub returns-clause-ok : goal.returns-clause-ok
+returns-clause-ok c =
+    let after = (goal.at.returns-clause-ok c).After-add_term in
+    rw (raised after).same (sum after)

@@ -1,0 +1,4 @@
+pub mod CurveLaws
+pub mod LeastLaws
+pub mod ValueLaws
+pub mod WindowLaws
