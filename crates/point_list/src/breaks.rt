@@ -39,11 +39,11 @@ impl Shape for Breaks {
 
     ghost is_in = { λ _ _. Unit {0} };
 
-    ghost function = { λ _ s. function_of s.knots.items };
+    ghost function = { λ _ s. shown s };
 
     ghost numbers = { λ _ _. [] };
 
-    ghost cells = { λ s. length s.knots.items };
+    ghost cells = { count_of };
 
     ghost same_cells = { λ h h' s _ _. (refl, refl) };
 

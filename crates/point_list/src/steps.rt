@@ -46,7 +46,12 @@ pub(crate) fn add_line(knots: &mut Vec<Knot>, slope: i64)
 }
 
 /// Subtracts `mu * min(cap, up + x)` at each place x.
-pub(crate) fn add_reserve(knots: &mut Vec<Knot>, mu: i64, cap: i64, up: i64) -> Result<(), AllocError>
+pub(crate) fn add_reserve(
+    knots: &mut Vec<Knot>,
+    mu: i64,
+    cap: i64,
+    up: i64,
+) -> Result<(), AllocError>
     requires breaks { AreBreaks knots.old.items }
     requires mu { pos 0 ≤ℤ mu }
     requires cap { IsPlace cap }
@@ -84,7 +89,13 @@ pub(crate) fn add_curve(knots: &mut Vec<Knot>, curve: &Curve, shift: i64) -> Res
 }
 
 /// The least values at the places from `x - up` to `x + down`, at the places x from `lo` to `hi`.
-pub(crate) fn window(knots: &mut Vec<Knot>, up: i64, down: i64, lo: i64, hi: i64) -> Result<(), AllocError>
+pub(crate) fn window(
+    knots: &mut Vec<Knot>,
+    up: i64,
+    down: i64,
+    lo: i64,
+    hi: i64,
+) -> Result<(), AllocError>
     requires breaks { AreBreaks knots.old.items }
     requires up { pos 0 ≤ℤ up }
     requires up_fits { IsPlace up }

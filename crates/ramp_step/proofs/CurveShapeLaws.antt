@@ -19,19 +19,19 @@ use Rattle.ramp_step.proofs.KnotLaws.{is_inside}
 use Rattle.ramp_step.proofs.CurveLaws.{rise_left, rise_right, rise_zero, block_end_far}
 use Rattle.ramp_step.proofs.ShapeLaws.{value_inside}
 
-lt_is : (a b : ℤ) → a <ℤ b → int_lt a b ≡ true
+pub lt_is : (a b : ℤ) → a <ℤ b → int_lt a b ≡ true
 lt_is a b h = grind (arith, ints)
 
 not_lt_is : (a b : ℤ) → b ≤ℤ a → int_lt a b ≡ false
 not_lt_is a b h = grind (arith, ints)
 
-rise_past : (b : Block) (bs : List Block) (x : ℤ) → b.width <ℤ x → rise_at (b ∷ bs) x ≡ option_map (λ v. v +ℤ (b.price *ℤ b.width)) (rise_at bs (x -ℤ b.width))
+pub rise_past : (b : Block) (bs : List Block) (x : ℤ) → b.width <ℤ x → rise_at (b ∷ bs) x ≡ option_map (λ v. v +ℤ (b.price *ℤ b.width)) (rise_at bs (x -ℤ b.width))
 rise_past b bs x h = rw (lt_is b.width x h)
 
-rise_within : (b : Block) (bs : List Block) (x : ℤ) → x ≤ℤ b.width → rise_at (b ∷ bs) x ≡ Some (b.price *ℤ x)
+pub rise_within : (b : Block) (bs : List Block) (x : ℤ) → x ≤ℤ b.width → rise_at (b ∷ bs) x ≡ Some (b.price *ℤ x)
 rise_within b bs x h = rw (not_lt_is b.width x h)
 
-mapped : (k v : ℤ) (o : Option ℤ) → option_map (λ u. u +ℤ k) o ≡ Some v → (u : ℤ) × (o ≡ Some u)
+pub mapped : (k v : ℤ) (o : Option ℤ) → option_map (λ u. u +ℤ k) o ≡ Some v → (u : ℤ) × (o ≡ Some u)
 mapped k v None h = cc
 mapped k v (Some u) h = (u, refl)
 
@@ -81,7 +81,6 @@ AreBlocks-from b (d ∷ bs) c =
     let r = AreBlocks-from d bs (later b (d ∷ bs) c) in
     (omega (arith, ints), c.widths 0 b (omega arith), (c.rising 0 b (omega arith), r.1, r.2))
 
-
 pub are_blocks : (bs : List Block) → IsCurve bs → (p : ℤ) × AreBlocks p bs
 are_blocks [] c = (pos 0, tt)
 are_blocks (b ∷ bs) c = (b.price, AreBlocks-from b bs c)
@@ -105,7 +104,7 @@ up_to_last p (b ∷ bs) s (suc j) are h = up_to_last b.price bs (s +ℤ b.width)
 moved : (x shift at : ℤ) → (x +ℤ shift) -ℤ at ≡ x -ℤ (at -ℤ shift)
 moved x shift at = omega (arith, ints)
 
-curve_value_is : (c : Curve) (shift p x : ℤ) → AreBlocks p c.blocks.items → (c.at -ℤ shift) ≤ℤ x → x ≤ℤ block_end c.blocks.items (c.at -ℤ shift) (length c.blocks.items)
+pub curve_value_is : (c : Curve) (shift p x : ℤ) → AreBlocks p c.blocks.items → (c.at -ℤ shift) ≤ℤ x → x ≤ℤ block_end c.blocks.items (c.at -ℤ shift) (length c.blocks.items)
     → curve_value c (x +ℤ shift) ≡ Some (curve_term c.value c.blocks.items (c.at -ℤ shift) x)
 curve_value_is c shift p x are low high =
     let bs = c.blocks.items in

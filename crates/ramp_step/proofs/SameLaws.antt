@@ -50,8 +50,7 @@ module _ (ks k1 k2 k3 : List Knot) (n n' : ℕ) (before : (k : ℕ) → k < n �
               let r = g.2 x inside in
               let l = r.2 in
               let low = l.inside.0 in
-              let high = l.inside.1 in
-              (
+              let high = l.inside.1 in (
                 r.0,
                 r.1,
                 record {
