@@ -4,3 +4,5 @@
 pub mod breaks;
 pub mod law;
 mod steps;
+#[cfg(test)]
+mod tests;

@@ -22,7 +22,7 @@ use Rattle.ramp_step.proofs.ShapeLaws.{value_inside}
 pub lt_is : (a b : ℤ) → a <ℤ b → int_lt a b ≡ true
 lt_is a b h = grind (arith, ints)
 
-not_lt_is : (a b : ℤ) → b ≤ℤ a → int_lt a b ≡ false
+pub not_lt_is : (a b : ℤ) → b ≤ℤ a → int_lt a b ≡ false
 not_lt_is a b h = grind (arith, ints)
 
 pub rise_past : (b : Block) (bs : List Block) (x : ℤ) → b.width <ℤ x → rise_at (b ∷ bs) x ≡ option_map (λ v. v +ℤ (b.price *ℤ b.width)) (rise_at bs (x -ℤ b.width))
@@ -85,11 +85,11 @@ pub are_blocks : (bs : List Block) → IsCurve bs → (p : ℤ) × AreBlocks p b
 are_blocks [] c = (pos 0, tt)
 are_blocks (b ∷ bs) c = (b.price, AreBlocks-from b bs c)
 
-end_is : (bs : List Block) (s : ℤ) → block_end bs s (length bs) ≡ end_of s bs
+pub end_is : (bs : List Block) (s : ℤ) → block_end bs s (length bs) ≡ end_of s bs
 end_is [] s = refl
 end_is (b ∷ bs) s = end_is bs (s +ℤ b.width)
 
-end_shifted : (bs : List Block) (s d : ℤ) → block_end bs (s -ℤ d) (length bs) ≡ block_end bs s (length bs) -ℤ d
+pub end_shifted : (bs : List Block) (s d : ℤ) → block_end bs (s -ℤ d) (length bs) ≡ block_end bs s (length bs) -ℤ d
 end_shifted [] s d = refl
 end_shifted (b ∷ bs) s d = ap (λ (z : ℤ). block_end bs z (length bs)) (omega (arith, ints)) ∙ end_shifted bs (s +ℤ b.width) d
 
