@@ -14,10 +14,10 @@ use Rattle.shape_law.specs.Curve.{rise_at, curve_value, IsLimitedCurve}
 use Rattle.shape_law.specs.Table.{IsAmount}
 use Rattle.shape_law.proofs.CurveLaws.{rise_at-past, rise_at-inside, rise_at-start}
 
-not_lt_is : (a b : ℤ) → b ≤ℤ a → int_lt a b ≡ false
+pub not_lt_is : (a b : ℤ) → b ≤ℤ a → int_lt a b ≡ false
 not_lt_is a b h = grind (arith, ints)
 
-lt_is : (a b : ℤ) → a <ℤ b → int_lt a b ≡ true
+pub lt_is : (a b : ℤ) → a <ℤ b → int_lt a b ≡ true
 lt_is a b h = grind (arith, ints)
 
 -- from the place `rest` before x on, the curve is the value there and what the blocks ahead add
@@ -26,7 +26,7 @@ pub record IsAhead (c : Curve) (x value rest : ℤ) (bs : List Block) : Type 0 w
   pub widths : All (λ b. pos 0 ≤ℤ b.width) bs
   pub low : pos 0 ≤ℤ rest
 
-on_value : (c : Curve) (y : ℤ) → c.at ≤ℤ y → curve_value c y ≡ option_map (λ v. v +ℤ c.value) (rise_at c.blocks.items (y -ℤ c.at))
+pub on_value : (c : Curve) (y : ℤ) → c.at ≤ℤ y → curve_value c y ≡ option_map (λ v. v +ℤ c.value) (rise_at c.blocks.items (y -ℤ c.at))
 on_value c y h = rw (not_lt_is y c.at h)
 
 pub ahead_at_start : (c : Curve) (x v : ℤ) → All (λ b. pos 0 ≤ℤ b.width) c.blocks.items → curve_value c x ≡ Some v → IsAhead c x c.value (x -ℤ c.at) c.blocks.items

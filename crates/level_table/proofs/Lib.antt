@@ -1,4 +1,5 @@
 pub mod CurveLaws
 pub mod LeastLaws
+pub mod RowLaws
 pub mod ValueLaws
 pub mod WindowLaws

@@ -1,0 +1,5 @@
+pub mod Edge
+pub mod Named
+pub mod OfShelf
+pub mod OfSink
+pub mod OfSure

@@ -1,0 +1,5 @@
+pub mod TextLemmas
+pub mod Counts
+pub mod Steps
+pub mod Exact
+pub mod Places

@@ -1,0 +1,22 @@
+use Rattle.std.proofs.Common.{◌≡◌, ◌+◌, ◌*◌, ◌≤◌, false, drop}
+use Rattle.hull_words.specs.Asked.{Found}
+use Rattle.hull_words.specs.Words.{texts}
+use Rattle.hull_words.specs.Reading.{flag, set_count, found_so_far, nothing, read_from}
+use Rattle.hull_words.proofs.reading.read_later.Given as goal
+
+abbrev pub invariant-loop-index : goal.invariant-loop-index
+invariant-loop-index l =
+    let found : Found = found_so_far (record {
+      case_name = l.given.0;
+      schedule_name = l.given.1.0;
+      report_name = l.given.1.1.0;
+      proposals = l.given.1.1.1.0;
+      workers = l.given.1.1.1.1.0;
+      ahead = l.given.1.1.1.1.1.0;
+      radius = l.given.1.1.1.1.1.1.0;
+      number = l.given.1.1.1.1.1.1.1.0;
+    }) in
+    record {
+      rest : read_from l.command (l.index + 2) l.is_value (drop l.index (texts l.words)) found ≡ read_from l.command 2 false (texts l.words) nothing;
+      few : l.index + flag l.is_value ≤ 2 * set_count found;
+    }

@@ -1,0 +1,81 @@
+//! The commands, with what their words give them.
+
+use uc_model::lists::Name;
+
+/// The words of `hull price` and of `hull fixed`.
+#[derive(Drop)]
+pub struct PriceWords {
+    /// The name of the file with the case.
+    pub case_name: Name,
+    /// The name of the file with the schedule.
+    pub schedule_name: Name,
+    /// The most price vectors that are tried, 1 to 10,000; 100 where the words don't say.
+    pub proposals: u32,
+    /// The number of workers, 1 to 32; 4 where the words don't say.
+    pub workers: u32,
+    /// How many proposals may be open ahead of the last answered one, 1 to 16; 4 where the words
+    /// don't say.
+    pub ahead: u32,
+}
+
+/// The words of `hull check`.
+#[derive(Drop)]
+pub struct CheckWords {
+    /// The name of the file with the case.
+    pub case_name: Name,
+    /// The name of the file with the schedule.
+    pub schedule_name: Name,
+}
+
+/// The words of `hull try`.
+#[derive(Drop)]
+pub struct TryWords {
+    /// The number that the case and the schedule are generated from.
+    pub number: u64,
+    /// As in [`PriceWords`].
+    pub proposals: u32,
+    /// As in [`PriceWords`].
+    pub workers: u32,
+    /// As in [`PriceWords`].
+    pub ahead: u32,
+}
+
+/// The words of `hull bound`.
+#[derive(Drop)]
+pub struct BoundWords {
+    /// What the run needs, as for `hull price`.
+    pub run: PriceWords,
+    /// How far each price may be from the chosen one, in thousandths of the currency per MW and
+    /// period, 0 to 20,000,000; 20,000,000 where the words don't say.
+    pub radius: i64,
+}
+
+/// The words of `hull audit`.
+#[derive(Drop)]
+pub struct AuditWords {
+    /// The name of the file with the case.
+    pub case_name: Name,
+    /// The name of the file with the schedule.
+    pub schedule_name: Name,
+    /// The name of the file with the report.
+    pub report_name: Name,
+    /// The number of workers, 1 to 32; 4 where the words don't say.
+    pub workers: u32,
+}
+
+/// A command with its words.
+#[derive(Drop)]
+pub enum Command {
+    /// Runs the price rule and reports.
+    Price(PriceWords),
+    /// Checks that a schedule is feasible, and prints its cost.
+    Check(CheckWords),
+    /// Runs the price rule on a generated case.
+    Try(TryWords),
+    /// Certifies how far the chosen prices are from the best ones near by.
+    Bound(BoundWords),
+    /// Compares with the prices that hold where the schedule's commitments are fixed.
+    Fixed(PriceWords),
+    /// Says whether a report is right.
+    Audit(AuditWords),
+}

@@ -1,0 +1,82 @@
+//! The values that the words gave so far.
+ghost use Rattle.std.specs.Prelude.{◌≡◌};
+ghost use Rattle.std.specs.Option.{ok_or};
+ghost use Rattle.hull_words.specs.Texts.{number_in};
+ghost use Rattle.hull_words.specs.Reading.{found_so_far, nothing, is_set, set_to, seen};
+
+use crate::fault::WordCode;
+use crate::kinds::OptionKind;
+use crate::text::number;
+
+/// The values that the words gave so far, each where it was given.
+#[derive(Clone, Copy)]
+pub struct Given<'a> {
+    pub case_name: Option<&'a str>,
+    pub schedule_name: Option<&'a str>,
+    pub report_name: Option<&'a str>,
+    pub proposals: Option<u32>,
+    pub workers: Option<u32>,
+    pub ahead: Option<u32>,
+    pub radius: Option<u32>,
+    pub number: Option<u64>,
+}
+
+/// The number in the range, which is within 32 bits.
+fn small_number(text: &str, least: u32, most: u32) -> Result<u32, WordCode>
+    ensures { result ≡ ok_or (number_in least most text.now) WordCode.BadNumber }
+{
+    match number(text, u64::from(least), u64::from(most)) {
+        Some(value) => Ok(value as u32),
+        None => Err(WordCode::BadNumber),
+    }
+}
+
+impl<'a> Given<'a> {
+    /// No value yet.
+    pub fn nothing() -> Given<'a>
+        ensures { found_so_far result ≡ nothing }
+    {
+        Given {
+            case_name: None,
+            schedule_name: None,
+            report_name: None,
+            proposals: None,
+            workers: None,
+            ahead: None,
+            radius: None,
+            number: None,
+        }
+    }
+
+    /// Whether the option was given.
+    pub fn is_set(&self, option: OptionKind) -> bool
+        ensures { result ≡ is_set option (found_so_far self.now) }
+    {
+        match option {
+            OptionKind::Case => self.case_name.is_some(),
+            OptionKind::Schedule => self.schedule_name.is_some(),
+            OptionKind::Report => self.report_name.is_some(),
+            OptionKind::Proposals => self.proposals.is_some(),
+            OptionKind::Workers => self.workers.is_some(),
+            OptionKind::Ahead => self.ahead.is_some(),
+            OptionKind::Radius => self.radius.is_some(),
+        }
+    }
+
+    /// With this value for the option, where it is one.
+    pub fn set(self, option: OptionKind, text: &'a str) -> Result<Given<'a>, WordCode>
+        ensures { seen found_so_far result ≡ set_to option text.now (found_so_far self.entry) }
+    {
+        let mut given = self;
+        match option {
+            OptionKind::Case => given.case_name = Some(text),
+            OptionKind::Schedule => given.schedule_name = Some(text),
+            OptionKind::Report => given.report_name = Some(text),
+            OptionKind::Proposals => given.proposals = Some(small_number(text, 1, 10_000)?),
+            OptionKind::Workers => given.workers = Some(small_number(text, 1, 32)?),
+            OptionKind::Ahead => given.ahead = Some(small_number(text, 1, 16)?),
+            OptionKind::Radius => given.radius = Some(small_number(text, 0, 20_000_000)?),
+        }
+        Ok(given)
+    }
+}

@@ -1,0 +1,16 @@
+//! The words of the command line: the command that they give, or their first fault.
+#![tactic(auto)]
+
+mod command;
+mod fault;
+mod given;
+mod kinds;
+mod reading;
+mod text;
+
+pub use command::{AuditWords, BoundWords, CheckWords, Command, PriceWords, TryWords};
+pub use fault::{WordCode, WordError, WordFault};
+pub use reading::read_words;
+
+#[cfg(test)]
+mod tests;

@@ -1,0 +1,66 @@
+//! What one word says by itself.
+ghost use Rattle.std.specs.Prelude.{◌≡◌, ◌≤◌, IfSome, IfOk, is_some};
+ghost use Rattle.std.specs.Char.{is_ascii_digit};
+ghost use Rattle.std.specs.List.{list_all};
+ghost use Rattle.std.specs.Option.{option_copied};
+ghost use Rattle.hull_words.specs.Texts.{is_option, option_name, own_value, can_be_value, number_in};
+
+use std::alloc::{AllocError, Global};
+use uc_model::lists::Name;
+
+/// The name of an option, and what follows its `=`. None where the word is no option.
+pub fn option_parts(word: &str) -> Option<(&str, Option<&str>)>
+    ensures option { is_some result ≡ is_option word.now }
+    ensures name { IfSome result (λ parts. parts.0.now ≡ option_name word.now) }
+    ensures value { IfSome result (λ parts. option_copied parts.1 ≡ own_value word.now) }
+{
+    let text = word.strip_prefix("--")?;
+    match text.split_once('=') {
+        Some((name, value)) => Some((name, Some(value))),
+        None => Some((text, None)),
+    }
+}
+
+/// Whether the text may be the value of an option.
+pub fn is_value(text: &str) -> bool
+    ensures { result ≡ can_be_value text.now }
+{
+    match text.as_bytes() {
+        [] => false,
+        [first, ..] => *first != b'-',
+    }
+}
+
+/// Whether each byte is a decimal digit.
+fn is_digits(text: &str) -> bool
+    ensures { result ≡ list_all is_ascii_digit text.now }
+{
+    text.bytes().all(|byte| byte.is_ascii_digit())
+}
+
+/// The number that 1 to 20 decimal digits write, where it is in the range.
+pub fn number(text: &str, least: u64, most: u64) -> Option<u64>
+    ensures exact { result ≡ number_in least most text.now }
+    ensures range { IfSome result (λ n. (least ≤ n) × (n ≤ most)) }
+{
+    if text.len() > 20 || !is_digits(text) {
+        return None;
+    }
+    let value = text.parse::<u64>().ok()?;
+    if value < least || most < value {
+        return None;
+    }
+    Some(value)
+}
+
+/// The text as a name of its own.
+pub fn name_of(alloc: Global, text: &str) -> Result<Name, AllocError>
+    ensures { IfOk result (λ name. name.items ≡ text.now) }
+{
+    let room = u32::try_from(text.len()).map_err(|_| AllocError)?;
+    let mut name = Name::make(alloc, room)?;
+    for letter in text.chars() {
+        name.push(letter);
+    }
+    Ok(name)
+}
