@@ -1,5 +1,5 @@
 -- The bound on cells.
-use Rattle.std.proofs.Common.{◌≡◌, ℕ, zero, suc, ◌+◌, ◌-◌, ◌*◌, ◌<◌, ◌≤◌, refl, sym, ap, ◌∙◌, subst, arith, rules}
+use Rattle.std.proofs.Common.{◌≡◌, ℕ, zero, suc, ◌+◌, ◌*◌, ◌≤◌, ap, arith}
 use Rattle.point_list.specs.Cells.{IsStep, CellsAreBounded}
 
 -- one step takes at most 2 * points + 3 cells

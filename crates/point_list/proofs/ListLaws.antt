@@ -1,6 +1,6 @@
 -- A step on a list that is long enough, whose knots are then kept, is the step on its function.
-use Rattle.std.proofs.Common.{◌≡◌, ℕ, ◌+◌, ◌-◌, ◌^◌, ◌<◌, ◌≤◌, List, ◌++◌, length, take, drop, get_or, Option, Some, refl, sym, ap, ◌∙◌, subst, arith}
-use Rattle.std.specs.Prelude.{ℤ, pos, ◌+ℤ◌, ◌-ℤ◌, ◌≤ℤ◌}
+use Rattle.std.proofs.Common.{◌≡◌, ℕ, ◌^◌, ◌<◌, ◌≤◌, List, ◌++◌, length, take, drop, Option, Some, sym, ◌∙◌, subst, arith}
+use Rattle.std.specs.Prelude.{ℤ, pos, ◌+ℤ◌, ◌-ℤ◌}
 use Rattle.std.proofs.lemmas.List.{length-append, length-take-le, get_or-take, get_or_append_left}
 use Rattle.uc_model.specs.declared.units.Curve.{Curve}
 use Rattle.shape_law.specs.Curve as curves
@@ -13,10 +13,9 @@ use Rattle.shape_law.proofs.LimitLaws as limits
 use Rattle.ramp_step.specs.declared.breakpoint.Knot.{Knot}
 use Rattle.ramp_step.specs.Knots.{knot, place, height, StandFor, IsShape, IsInside, HaveSameEnds, CanAdd}
 use Rattle.ramp_step.specs.Curve.{curve_term, IsLimitedCurve, IsOver}
-use Rattle.ramp_step.specs.Tables.{table_of, AreWithinLimits}
 use Rattle.ramp_step.specs.Window.{IsWindow}
 use Rattle.ramp_step.proofs.BreakpointLaws.{IsShape-breakpoints, AreBreakpoints-shape}
-use Rattle.ramp_step.proofs.CurveShapeLaws.{IsOver-curve, curve_on, CanAdd-curve, IsLimitedCurve-curve}
+use Rattle.ramp_step.proofs.CurveShapeLaws.{IsOver-curve, CanAdd-curve, IsLimitedCurve-curve}
 use Rattle.ramp_step.proofs.LimitLaws.{IsWithinLimits-from_knots}
 use Rattle.ramp_step.proofs.SameLaws.{IsInside-back, IsShape-same, StandFor-carried, HaveSameEnds-carried, IsWindow-carried}
 use Rattle.ramp_step.proofs.ShapeLaws.{IsSum-from_knots, IsCurveSum-from_knots, IsWindow-from_knots, CanAdd-from_table, AreWithinLimits-from_table}

@@ -1,10 +1,10 @@
 -- What the tests check suffices for the conditions of the calls.
-use Rattle.std.proofs.Common.{◌≡◌, ℕ, zero, suc, ◌+◌, ◌-◌, ◌*◌, ◌<◌, ◌≤◌, List, [], ◌∷◌, length, get_or, Option, Some, None, refl, sym, ap, ◌∙◌, subst, arith}
-use Rattle.std.specs.Prelude.{ℤ, pos, neg_ℤ, ◌+ℤ◌, ◌-ℤ◌, ◌*ℤ◌, ◌≤ℤ◌, ◌<ℤ◌, int_lt}
+use Rattle.std.proofs.Common.{◌≡◌, ℕ, zero, suc, ◌+◌, ◌*◌, ◌<◌, List, [], ◌∷◌, length, get_or, Option, Some, None, refl, sym, ap, ◌∙◌, arith, inl, inr}
+use Rattle.std.specs.Prelude.{ℤ, pos, neg_ℤ, ◌+ℤ◌, ◌-ℤ◌, ◌*ℤ◌, ◌≤ℤ◌}
 use Rattle.std.specs.Int.{int_min}
-use Rattle.std.specs.List.{All}
 use Rattle.std.specs.Option.{option_map}
 use Rattle.std.proofs.lemmas.Int.{ints, clamps, by_lt_z}
+use Rattle.std.proofs.lemmas.Bool.{cases_lt}
 use Rattle.std.proofs.Math.IntN.{*ℤ_comm, *ℤ-zero}
 use Rattle.uc_model.specs.declared.units.Block.{Block}
 use Rattle.uc_model.specs.declared.units.Curve.{Curve}
@@ -13,12 +13,72 @@ use Rattle.uc_model.proofs.IntLaws.{mul-sub}
 use Rattle.uc_model.proofs.SignedLaws.{IsWithin, product_within}
 use Rattle.shape_law.specs.Curve.{rise_at, curve_value, end_of, reserve_term, IsLimitedCurve}
 use Rattle.shape_law.specs.Effect.{CanAddCurve}
-use Rattle.shape_law.specs.Table.{Table, value_of, IsPlace, IsAmount, HasNone, CanAdd}
-use Rattle.ramp_step.specs.Curve as terms
-use Rattle.ramp_step.specs.Curve.{curve_term, block_end}
-use Rattle.ramp_step.proofs.CurveLaws.{block_end_far}
+use Rattle.shape_law.specs.Table.{Table, value_of, IsWithinLimits, HasNone, CanAdd}
+use Rattle.ramp_step.specs.Curve.{curve_term}
+use Rattle.ramp_step.proofs.WindowLaws.{steps}
 use Rattle.ramp_step.proofs.CurveShapeLaws.{lt_is, not_lt_is, rise_past, rise_within, are_blocks, end_is, end_shifted, curve_value_is}
-use Rattle.point_list.specs.Small.{IsSmall, IsNear, AreFair}
+use Rattle.point_list.specs.Small.{IsSmall, IsModestAt, IsNear, AreFair}
+
+near : (f : Table) → IsWithinLimits f → HasNone (neg_ℤ (pos 4000000000)) (neg_ℤ (pos 1001)) f → HasNone (pos 1001) (pos 4000000000) f → (x v : ℤ) → value_of f x ≡ Some v → IsNear x
+near f within before after x v h =
+    let p = (within x v h).0 in
+    let p0 = p.0 in
+    let p1 = p.1 in
+    record {
+      at_least = by_lt_z x (neg_ℤ (pos 1000)) (λ l. let none = before x (omega (arith, ints)) (omega (arith, ints)) in absurd (let q = sym none ∙ h in (cc))) (λ l. l);
+      at_most = by_lt_z (pos 1000) x (λ l. let none = after x (omega (arith, ints)) (omega (arith, ints)) in absurd (let q = sym none ∙ h in (cc))) (λ l. l);
+    }
+
+-- what is checked at each place, and beyond them
+pub IsSmall-from : (f : Table) → IsWithinLimits f → HasNone (neg_ℤ (pos 4000000000)) (neg_ℤ (pos 1001)) f → HasNone (pos 1001) (pos 4000000000) f
+    → ((j : ℕ) → j < 2001 → IsModestAt f (pos j -ℤ pos 1000)) → IsSmall f
+IsSmall-from f within before after modest = record {
+  places = near f within before after;
+  values = λ x v h.
+      let n = near f within before after x v h in
+      let low = n.at_least in
+      let high = n.at_most in
+      let k = steps (neg_ℤ (pos 1000)) x low in
+      let is = k.1 in
+      let here : x ≡ pos k.0 -ℤ pos 1000 = omega (arith, ints) in
+      (modest k.0 (omega (arith, ints))).most v (ap (value_of f) (sym here) ∙ h);
+}
+
+-- an element that is there doesn't depend on the default
+same_at : (bs : List Block) (i : ℕ) (d e : Block) → i < length bs → get_or bs i d ≡ get_or bs i e
+same_at [] i d e h = absurd (omega arith)
+same_at (b ∷ bs) zero d e h = refl
+same_at (b ∷ bs) (suc i) d e h = same_at bs i d e (omega arith)
+
+-- one more fair block
+module _ (bs : List Block) (j : ℕ) (last : ℤ) (d0 : Block) (inside : j < length bs) (fair : AreFair bs j) (before : (i : ℕ) (d : Block) → suc i ≡ j → last ≡ (get_or bs i d).price)
+    (w0 : pos 0 ≤ℤ (get_or bs j d0).width) (w1 : (get_or bs j d0).width ≤ℤ pos 1000) (rise : last ≤ℤ (get_or bs j d0).price)
+    (p0 : neg_ℤ (pos 1000000) ≤ℤ (get_or bs j d0).price) (p1 : (get_or bs j d0).price ≤ℤ pos 1000000) where
+  pub last-more : (i : ℕ) (d : Block) → suc i ≡ j + 1 → (get_or bs j d0).price ≡ (get_or bs i d).price
+  last-more i d e =
+      let same : i ≡ j = omega arith in
+      ap (λ (b : Block). b.price) (same_at bs j d0 d inside ∙ ap (λ (k : ℕ). get_or bs k d) (sym same))
+
+  width-more : (i : ℕ) (d : Block) → suc i ≡ j + 1 → (get_or bs j d0).width ≡ (get_or bs i d).width
+  width-more i d e =
+      let same : i ≡ j = omega arith in
+      ap (λ (b : Block). b.width) (same_at bs j d0 d inside ∙ ap (λ (k : ℕ). get_or bs k d) (sym same))
+
+  pub AreFair-more : AreFair bs (j + 1)
+  AreFair-more = record {
+    widths = λ i d h. elim (cases_lt i j) [
+      | inl early ↦ fair.widths i d early
+      | inr now ↦ let e = width-more i d (omega arith) in record { at_least = omega (arith, ints); at_most = omega (arith, ints) }
+    ];
+    prices = λ i d h. elim (cases_lt i j) [
+      | inl early ↦ fair.prices i d early
+      | inr now ↦ let e = last-more i d (omega arith) in record { at_least = omega (arith, ints); at_most = omega (arith, ints) }
+    ];
+    rising = λ i d h. elim (cases_lt (suc i) j) [
+      | inl early ↦ fair.rising i d early
+      | inr now ↦ let e = before i d (omega arith) in let f = last-more (suc i) d (omega arith) in omega (arith, ints)
+    ];
+  }
 
 -- a product of two numbers within 1,000
 near_product : (a x : ℤ) → IsNear a → IsNear x → IsWithin 1000000 (a *ℤ x)
@@ -116,7 +176,7 @@ rise_bound (b ∷ bs) x v f low h =
     let q1 = q.at_most in
     record { at_least = omega (arith, ints); at_most = omega (arith, ints) })
 
-end_bounds : (bs : List Block) (from : ℤ) → AreFair bs (length bs) → (from ≤ℤ end_of from bs) × (end_of from bs ≤ℤ (from +ℤ pos (length bs * 1000)))
+pub end_bounds : (bs : List Block) (from : ℤ) → AreFair bs (length bs) → (from ≤ℤ end_of from bs) × (end_of from bs ≤ℤ (from +ℤ pos (length bs * 1000)))
 end_bounds [] from f = (omega (arith, ints), omega (arith, ints))
 end_bounds (b ∷ bs) from f =
     let w = f.widths 0 b (omega arith) in

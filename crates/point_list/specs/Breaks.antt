@@ -1,5 +1,5 @@
 -- A list of breakpoints, and the function that it stands for (this project's profile).
-use Rattle.std.specs.Prelude.{ℕ, ◌^◌, ◌<◌, List, length}
+use Rattle.std.specs.Prelude.{◌^◌, ◌<◌, List, length}
 use Rattle.shape_law.specs.Table.{Table, IsConvex, IsWithinLimits}
 use Rattle.ramp_step.specs.declared.breakpoint.Knot.{Knot}
 use Rattle.ramp_step.specs.Breakpoints.{AreBreakpoints}

@@ -1,5 +1,5 @@
 -- What the tests check before they make a call.
-use Rattle.std.specs.Prelude.{◌≡◌, ℕ, suc, ◌<◌, ℤ, pos, neg_ℤ, ◌≤ℤ◌, List, length, slice_index_or, Some}
+use Rattle.std.specs.Prelude.{◌≡◌, ℕ, suc, ◌<◌, ℤ, pos, neg_ℤ, ◌≤ℤ◌, List, slice_index_or, Some}
 use Rattle.uc_model.specs.declared.units.Block.{Block}
 use Rattle.uc_model.specs.Limits.{IsFrom}
 use Rattle.shape_law.specs.Table.{Table, value_of}
@@ -12,6 +12,10 @@ IsNear x = IsFrom (neg_ℤ (pos 1000)) (pos 1000) x
 pub record IsSmall (f : Table) : Type 0 where
   pub places : (x v : ℤ) → value_of f x ≡ Some v → IsNear x
   pub values : (x v : ℤ) → value_of f x ≡ Some v → IsFrom (neg_ℤ (pos 1000000000000)) (pos 1000000000000) v
+
+-- the value at x is within 10^12, if there is one
+pub record IsModestAt (f : Table) (x : ℤ) : Type 0 where
+  pub most : (v : ℤ) → value_of f x ≡ Some v → IsFrom (neg_ℤ (pos 1000000000000)) (pos 1000000000000) v
 
 -- the first k blocks are short, and their prices small and not below the one before
 pub record AreFair (bs : List Block) (k : ℕ) : Type 0 where

@@ -1,9 +1,9 @@
 //! The worked rows, and random steps beside the shape that keeps every value.
 ghost use Rattle.std.specs.Prelude.{◌≡◌, ℤ, ◌<◌, ◌≤◌, pos, neg_ℤ, ◌+ℤ◌, ◌≤ℤ◌, IsTrue, IfOk, OnOk, length};
 ghost use Rattle.uc_model.specs.Limits.{IsFrom};
-ghost use Rattle.shape_law.specs.Curve.{IsLimitedCurve, end_of};
-ghost use Rattle.shape_law.specs.Table.{IsPlace};
-ghost use Rattle.point_list.specs.Small.{IsSmall, IsNear, AreFair};
+ghost use Rattle.shape_law.specs.Curve.{end_of};
+ghost use Rattle.shape_law.specs.Table.{HasNone};
+ghost use Rattle.point_list.specs.Small.{IsSmall, IsModestAt, IsNear, AreFair};
 
 use crate::breaks::Breaks;
 use level_table::Levels;
@@ -15,25 +15,50 @@ use std::process::Abort;
 use std::test::Fail;
 use uc_model::units::{Block, Blocks, Curve};
 
+/// Whether no place from `lo` to `hi` is in the interval.
+fn has_none<S: Shape>(s: &S, home: &S::Home, lo: i64, hi: i64) -> bool
+    requires { S.is_in home.now s.now }
+    ensures { IsTrue result → HasNone lo hi (S.function home.now s.now) }
+{
+    match s.least_in(home, lo, hi) {
+        Some(_) => false,
+        None => true,
+    }
+}
+
+/// Whether the value at a place is within 10^12 of 0, if there is one.
+fn is_modest_at<S: Shape>(s: &S, home: &S::Home, x: i64) -> bool
+    requires { S.is_in home.now s.now }
+    ensures { IsTrue result → IsModestAt (S.function home.now s.now) x }
+{
+    match s.value_at(home, x) {
+        Some(value) => {
+            if value > 1_000_000_000_000 {
+                return false;
+            }
+            value >= -1_000_000_000_000
+        }
+        None => true,
+    }
+}
+
 /// Whether no place is further from 0 than 1,000, and no value than 10^12.
 fn is_small<S: Shape>(s: &S, home: &S::Home) -> bool
     requires { S.is_in home.now s.now }
     ensures { IsTrue result → IsSmall (S.function home.now s.now) }
 {
-    if s.least_in(home, -4_000_000_000, -1_001).is_some() {
+    let before = has_none(s, home, -4_000_000_000, -1_001);
+    let after = has_none(s, home, 1_001, 4_000_000_000);
+    if !before {
         return false;
     }
-    if s.least_in(home, 1_001, 4_000_000_000).is_some() {
+    if !after {
         return false;
     }
     for k in 0..2_001u32 {
-        if let Some(value) = s.value_at(home, i64::from(k) - 1_000) {
-            if value > 1_000_000_000_000 {
-                return false;
-            }
-            if value < -1_000_000_000_000 {
-                return false;
-            }
+        let modest = is_modest_at(s, home, i64::from(k) - 1_000);
+        if !modest {
+            return false;
         }
     }
     true
@@ -121,8 +146,9 @@ fn end(curve: &Curve) -> i64
     requires at { IsNear curve.now.at }
     ensures { result ≡ end_of curve.now.at curve.now.blocks.items }
 {
+    let blocks = curve.blocks.as_slice();
     let mut place = curve.at;
-    for block in curve.blocks.as_slice() {
+    for block in blocks {
         place += block.width;
     }
     place
@@ -150,10 +176,12 @@ fn add_curve<S: Shape>(
     }
     let first = curve.at - shift;
     let last = end(curve) - shift;
-    if s.least_in(home, -4_000_000_000, first - 1).is_some() {
+    let before = has_none(s, home, -4_000_000_000, first - 1);
+    let after = has_none(s, home, last + 1, 4_000_000_000);
+    if !before {
         return Ok(false);
     }
-    if s.least_in(home, last + 1, 4_000_000_000).is_some() {
+    if !after {
         return Ok(false);
     }
     s.add_curve(home, curve, shift)?;
@@ -214,12 +242,30 @@ fn rows_on_levels(rt: HostRuntime) -> Result<(), Fail> {
 
 /// Six blocks from 0 to 600, the most that four cost points have.
 const BLOCKS: [Block; 6] = [
-    Block { width: 40, price: 3 },
-    Block { width: 60, price: 4 },
-    Block { width: 150, price: 6 },
-    Block { width: 50, price: 7 },
-    Block { width: 99, price: 20 },
-    Block { width: 201, price: 21 },
+    Block {
+        width: 40,
+        price: 3,
+    },
+    Block {
+        width: 60,
+        price: 4,
+    },
+    Block {
+        width: 150,
+        price: 6,
+    },
+    Block {
+        width: 50,
+        price: 7,
+    },
+    Block {
+        width: 99,
+        price: 20,
+    },
+    Block {
+        width: 201,
+        price: 21,
+    },
 ];
 
 #[test]
@@ -227,12 +273,101 @@ fn few_cells_after_48_steps(rt: HostRuntime) -> Result<(), Fail> {
     let mut home = Heap { alloc: rt.alloc() };
     let curve = curve_of(rt.alloc(), 0, 10, &BLOCKS)?;
     let mut s = Breaks::point(&mut home, 300, 0)?;
-    for period in 0..48 {
+    for period in 0..48u32 {
+        let cap = 590 - 11 * i64::from(period);
         assert!(rt; add_curve(&mut s, &mut home, &curve, 0)?);
-        assert!(rt; add_reserve(&mut s, &mut home, 5 + period, 590 - 11 * period, 7)?);
+        assert!(rt; add_reserve(&mut s, &mut home, 5 + i64::from(period), cap, 7)?);
         s.window(&mut home, 7, 5, 0, 600)?;
-        assert!(rt; i64::from(s.count()) <= 1 + (period + 1) * 11);
+        assert!(rt; s.count() <= 1 + (period + 1) * 11);
     }
     assert!(rt; s.count() <= 529);
+    Ok(())
+}
+
+/// A step, by numbers from which small ones are made.
+#[derive(Clone, Copy)]
+enum Step {
+    Line(u8),
+    Reserve(u8, u8, u8),
+    Curve(u8),
+    Window(u8, u8, u8, u8),
+}
+
+/// A random number of 8 bits.
+fn byte(random: &mut Pcg32) -> u8 {
+    (random.next_word() % 256) as u8
+}
+
+/// A random step.
+fn random_step(random: &mut Pcg32) -> Step {
+    match byte(random) % 5 {
+        0 => Step::Line(byte(random)),
+        1 => Step::Reserve(byte(random), byte(random), byte(random)),
+        2 => Step::Curve(byte(random)),
+        _ => Step::Window(
+            byte(random) % 8,
+            byte(random) % 8,
+            byte(random),
+            byte(random),
+        ),
+    }
+}
+
+/// Makes a step, where all is small.
+fn make<S: Shape>(
+    s: &mut S,
+    home: &mut S::Home,
+    step: Step,
+    curve: &Curve,
+) -> Result<bool, AllocError>
+    requires here { S.is_in home.old s.old }
+    requires few { length curve.now.blocks.items < 100 }
+    requires at { IsNear curve.now.at }
+    requires value { IsNear curve.now.value }
+    ensures here { S.is_in home.new s.new }
+{
+    match step {
+        Step::Line(slope) => Ok(add_line(s, home, i64::from(slope) - 128)),
+        Step::Reserve(mu, cap, up) => {
+            let cap = i64::from(cap) - 128;
+            add_reserve(s, home, i64::from(mu), cap, i64::from(up))
+        }
+        Step::Curve(shift) => add_curve(s, home, curve, i64::from(shift) - 128),
+        Step::Window(up, down, lo, hi) => {
+            let (up, down) = (i64::from(up), i64::from(down));
+            s.window(home, up, down, -i64::from(lo), i64::from(hi))?;
+            Ok(true)
+        }
+    }
+}
+
+/// Two shapes have the same values and the same least values.
+fn agree<A: Shape, B: Shape<Home = A::Home>>(rt: &impl Abort, a: &A, b: &B, home: &A::Home)
+    requires first { A.is_in home.now a.now }
+    requires second { B.is_in home.now b.now }
+{
+    assert_eq!(rt; a.least(home), b.least(home));
+    for k in 0..600u32 {
+        let x = i64::from(k) - 300;
+        assert_eq!(rt; a.value_at(home, x), b.value_at(home, x));
+        assert_eq!(rt; a.least_in(home, x, x + 7), b.least_in(home, x, x + 7));
+    }
+}
+
+#[test]
+fn breaks_agree_with_levels(rt: HostRuntime) -> Result<(), Fail> {
+    let mut home = Heap { alloc: rt.alloc() };
+    let mut random = Pcg32::new(42, 54);
+    let curve = curve_of(rt.alloc(), -400, 0, &BLOCKS)?;
+    for _ in 0..8u32 {
+        let mut breaks = Breaks::point(&mut home, 0, 9)?;
+        let mut levels = Levels::point(&mut home, 0, 9)?;
+        for _ in 0..12u32 {
+            let step = random_step(&mut random);
+            let made = make(&mut breaks, &mut home, step, &curve)?;
+            assert_eq!(rt; made, make(&mut levels, &mut home, step, &curve)?);
+            agree(&rt, &breaks, &levels, &home);
+        }
+    }
     Ok(())
 }

@@ -5,7 +5,7 @@ use Rattle.std.proofs.lemmas.Int.{ints, by_lt_z}
 use Rattle.std.proofs.lemmas.Bool.{cases_lt}
 use Rattle.std.proofs.Math.IntN.{*ℤ-zero}
 use Rattle.ramp_step.specs.declared.breakpoint.Knot.{Knot}
-use Rattle.ramp_step.specs.Knots.{knot, place, height, IsStraight, IsConvex, StandFor, IsShape}
+use Rattle.ramp_step.specs.Knots.{knot, place, height, IsStraight, IsConvex, StandFor}
 use Rattle.ramp_step.specs.Breakpoints.{slope_at, AreBreakpoints, BreakpointsAreShapes, ShapesAreBreakpoints}
 use Rattle.ramp_step.specs.Values.{line_at, value_upto}
 use Rattle.ramp_step.proofs.TimesLaws.{times_one, times_prev, straight_product}

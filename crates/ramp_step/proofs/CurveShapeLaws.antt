@@ -1,7 +1,6 @@
 -- A curve of blocks is the term that the step on knots adds.
-use Rattle.std.proofs.Common.{◌≡◌, ℕ, zero, suc, ◌+◌, ◌-◌, ◌<◌, ◌≤◌, List, [], ◌∷◌, length, get_or, Option, Some, None, true, false, refl, sym, ap, ◌∙◌, subst, arith}
+use Rattle.std.proofs.Common.{◌≡◌, ℕ, zero, suc, ◌<◌, ◌≤◌, List, [], ◌∷◌, length, Option, Some, None, true, false, refl, sym, ap, ◌∙◌, subst, arith}
 use Rattle.std.specs.Prelude.{ℤ, pos, ◌+ℤ◌, ◌-ℤ◌, ◌*ℤ◌, ◌≤ℤ◌, ◌<ℤ◌, int_lt}
-use Rattle.std.specs.List.{All}
 use Rattle.std.specs.Option.{option_map}
 use Rattle.std.proofs.lemmas.Int.{ints, by_lt_z}
 use Rattle.uc_model.specs.declared.units.Block.{Block}
@@ -10,9 +9,9 @@ use Rattle.uc_model.specs.Limits.{IsCurve}
 use Rattle.shape_law.specs.Curve as curves
 use Rattle.shape_law.specs.Curve.{rise_at, curve_value, end_of}
 use Rattle.shape_law.specs.Effect.{CanAddCurve}
-use Rattle.shape_law.specs.Table.{value_of, IsWithinLimits, IsPlace, IsAmount}
+use Rattle.shape_law.specs.Table.{IsWithinLimits, IsAmount}
 use Rattle.ramp_step.specs.declared.breakpoint.Knot.{Knot}
-use Rattle.ramp_step.specs.Knots.{place, StandFor, IsShape, IsInside, CanAdd, IsWide}
+use Rattle.ramp_step.specs.Knots.{place, StandFor, IsShape, IsInside, CanAdd}
 use Rattle.ramp_step.specs.Curve.{rise_over, curve_term, block_end, AreBlocks, IsLimitedCurve, IsOver}
 use Rattle.ramp_step.specs.Tables.{table_of}
 use Rattle.ramp_step.proofs.KnotLaws.{is_inside}

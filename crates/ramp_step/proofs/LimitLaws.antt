@@ -1,16 +1,15 @@
 -- Between knots within the limits every value is within them.
-use Rattle.std.proofs.Common.{◌≡◌, ℕ, ◌+◌, ◌-◌, ◌<◌, List, refl, sym, ap, ◌∙◌, subst, arith, inl, inr}
-use Rattle.std.specs.Prelude.{ℤ, pos, ◌+ℤ◌, ◌-ℤ◌, ◌*ℤ◌, ◌≤ℤ◌, ◌<ℤ◌}
+use Rattle.std.proofs.Common.{◌≡◌, ℕ, ◌+◌, ◌-◌, List, sym, ap, ◌∙◌, subst, arith}
+use Rattle.std.specs.Prelude.{ℤ, pos, ◌+ℤ◌, ◌-ℤ◌}
 use Rattle.std.proofs.lemmas.Int.{ints, by_lt_z}
-use Rattle.std.proofs.lemmas.Bool.{cases_lt}
-use Rattle.shape_law.specs.Table.{IsWithinLimits, IsPlace, IsAmount}
+use Rattle.shape_law.specs.Table.{IsWithinLimits, IsAmount}
 use Rattle.ramp_step.specs.declared.breakpoint.Knot.{Knot}
-use Rattle.ramp_step.specs.Knots.{place, height, StandFor, IsShape, IsInside}
+use Rattle.ramp_step.specs.Knots.{place, StandFor, IsShape, IsInside}
 use Rattle.ramp_step.specs.Cut.{IsLimited}
 use Rattle.ramp_step.specs.Tables.{table_of, AreWithinLimits}
 use Rattle.ramp_step.proofs.DivLaws.{amount_part}
 use Rattle.ramp_step.proofs.WindowLaws.{straight_line}
-use Rattle.ramp_step.proofs.BreakpointLaws.{IsBehind, behind}
+use Rattle.ramp_step.proofs.BreakpointLaws.{behind}
 use Rattle.ramp_step.proofs.ShapeLaws.{inside_value}
 
 pub IsLimited-within : (ks : List Knot) (n : ℕ) → AreWithinLimits ks n → IsLimited ks n

@@ -1,10 +1,10 @@
 -- Lists that have the same first knots.
-use Rattle.std.proofs.Common.{◌≡◌, ℕ, ◌+◌, ◌-◌, ◌<◌, List, sym, ◌∙◌, arith, inl, inr}
-use Rattle.std.specs.Prelude.{ℤ, pos, ◌+ℤ◌, ◌-ℤ◌, ◌≤ℤ◌}
+use Rattle.std.proofs.Common.{◌≡◌, ℕ, ◌-◌, ◌<◌, List, arith}
+use Rattle.std.specs.Prelude.{ℤ, ◌+ℤ◌}
 use Rattle.std.proofs.lemmas.Int.{ints}
 use Rattle.ramp_step.specs.declared.breakpoint.Knot.{Knot}
-use Rattle.ramp_step.specs.Knots.{knot, place, StandFor, IsShape, IsInside, HaveSameEnds}
-use Rattle.ramp_step.specs.Window.{IsLeastInReach, IsWindow}
+use Rattle.ramp_step.specs.Knots.{knot, StandFor, IsShape, IsInside, HaveSameEnds}
+use Rattle.ramp_step.specs.Window.{IsWindow}
 use Rattle.ramp_step.proofs.KnotLaws.{inside_same, HaveSameEnds-then, HaveSameEnds-back}
 use Rattle.ramp_step.proofs.SpacedLaws.{same_place, StandFor-same}
 

@@ -1,4 +1,4 @@
--- What a slice of knots stands for.
+-- What a slice of knots stands for (this project's profile).
 use Rattle.std.specs.Prelude.{◌≡◌, ℕ, ◌+◌, ◌-◌, ◌<◌, ℤ, pos, negsuc, ◌+ℤ◌, ◌-ℤ◌, ◌≤ℤ◌, ◌<ℤ◌, List, slice_index_or}
 use Rattle.ramp_step.specs.declared.breakpoint.Knot.{Knot}
 use Rattle.shape_law.specs.Table.{IsPlace, IsAmount}

@@ -1,4 +1,4 @@
--- What is read off knots.
+-- What is read off knots (this project's profile).
 use Rattle.std.specs.Prelude.{◌≡◌, ℕ, ℤ, ◌≤ℤ◌, List}
 use Rattle.ramp_step.specs.declared.breakpoint.Knot.{Knot}
 use Rattle.ramp_step.specs.Knots.{IsInside}

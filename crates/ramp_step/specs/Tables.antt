@@ -1,4 +1,4 @@
--- The table that knots stand for, and the conditions on it that let a step be made.
+-- The table that knots stand for (this project's profile).
 use Rattle.std.specs.Prelude.{ℕ, ◌<◌, List}
 use Rattle.shape_law.specs.Table.{Table, IsPlace, IsAmount}
 use Rattle.ramp_step.specs.declared.breakpoint.Knot.{Knot}

@@ -1,4 +1,4 @@
--- The list of values over all places, which the first n knots stand for.
+-- The list of values over all places, which the first n knots stand for (this project's profile).
 use Rattle.std.specs.Prelude.{ℕ, zero, suc, ◌+◌, ℤ, pos, ◌+ℤ◌, ◌-ℤ◌, ◌*ℤ◌, if◌then◌else◌, int_lt, int_div, unsigned_abs, List, [], ◌∷◌}
 use Rattle.ramp_step.specs.declared.breakpoint.Knot.{Knot}
 use Rattle.ramp_step.specs.Knots.{knot, place, height}

@@ -118,7 +118,9 @@ fn add_blocks(knots: &mut [Knot], used: usize, value: i64, blocks: &[Block], fro
     n
 }
 
-/// Adds the curve's value at `x + shift` to the value at each place `x`.
+/// Adds the curve's value at `x + shift` to the value at each place x, which has to be in the curve.
+/// Its charge is the number of the curve's blocks, for a knot where a block ends. Places are within
+/// 4 * 10^9, and values and the whole curve's values within 10^18, before and after.
 pub fn curve_step(knots: &mut [Knot], used: u32, curve: &Curve, shift: i64) -> u32
     requires room { used + length curve.now.blocks.items ≤ length knots.old }
     requires count { used + length curve.now.blocks.items < 2 ^ 32 }

@@ -39,7 +39,8 @@ fn lower(knots: &mut [Knot], used: usize, mu: i64, cap: i64, up: i64)
     }
 }
 
-/// Subtracts `mu * min(cap, up + x)` from the value at each place.
+/// Subtracts `mu * min(cap, up + x)` from the value at each place x. Its charge is 1, for a knot at
+/// `cap - up`. Places are within 4 * 10^9 and values within 10^18, before and after.
 pub fn kink_step(knots: &mut [Knot], used: u32, mu: i64, cap: i64, up: i64) -> u32
     requires count { used + 1 < 2 ^ 32 }
     requires room { used < length knots.old }

@@ -32,7 +32,8 @@ fn raise_line(knots: &mut [Knot], used: usize, slope: i64)
     }
 }
 
-/// Adds `slope * x` to the value at each place.
+/// Adds `slope * x` to the value at each place x. It takes no knot. Places are within 4 * 10^9 and
+/// values within 10^18, before and after.
 pub fn line_step(knots: &mut [Knot], used: u32, slope: i64)
     requires room { used ≤ length knots.old }
     requires stand { IsShape knots.old used }

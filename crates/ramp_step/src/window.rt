@@ -91,7 +91,10 @@ fn shift(knots: &mut [Knot], used: usize, up: i64, down: i64) -> usize
     used + 1
 }
 
-/// The least value at the places from `x - up` to `x + down`, at the places from `lo` to `hi`.
+/// The new value at x is the least old value at the places from `x - up` to `x + down`; the new
+/// interval is the places from `lo` to `hi` where there is one. Its charge is 4: one knot for the
+/// flat part, and one at each cut. Places, `up` and `down` are within 4 * 10^9, and values within
+/// 10^18.
 pub fn window_step(knots: &mut [Knot], used: u32, up: i64, down: i64, lo: i64, hi: i64) -> u32
     requires count { used + 4 < 2 ^ 32 }
     requires room { used + 4 ≤ length knots.old }
