@@ -1,0 +1,4 @@
+pub mod Breaks
+pub mod Cells
+pub mod Shown
+pub mod Small

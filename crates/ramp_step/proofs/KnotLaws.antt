@@ -1,0 +1,118 @@
+-- Laws of knots, over the places p and the heights v by index.
+use Rattle.std.proofs.Common.{◌≡◌, ◌≢◌, length, get_or-set_same, get_or-set_other, ℕ, zero, suc, ◌+◌, ◌-◌, ◌<◌, List, refl, sym, ap, ◌∙◌, arith, inl, inr}
+use Rattle.std.specs.Prelude.{slice_set, ℤ, pos, ◌+ℤ◌, ◌-ℤ◌, ◌*ℤ◌, ◌≤ℤ◌, ◌<ℤ◌}
+use Rattle.std.proofs.lemmas.Int.{ints}
+use Rattle.std.proofs.lemmas.Bool.{cases_lt}
+use Rattle.ramp_step.specs.declared.breakpoint.Knot.{Knot}
+use Rattle.ramp_step.specs.Knots.{knot, place, height, IsStraight, IsConvex, Joins, StandFor, IsInside, HaveSameEnds, AreRaised}
+use Rattle.ramp_step.proofs.TimesLaws.{times_next, times_prev}
+
+-- the places rise from each knot to each later one
+pub rises : (n : ℕ) (p : ℕ → ℤ) → ((k : ℕ) → k + 1 < n → p k <ℤ p (k + 1)) → (d i j : ℕ) → j ≡ i + d → j < n → p i ≤ℤ p j
+rises n p rise zero i j e h = let same : p j ≡ p i = ap p (omega arith) in omega (arith, ints)
+rises n p rise (suc d) i j e h =
+    let before : p i ≤ℤ p (i + d) = rises n p rise d i (i + d) refl (omega arith) in
+    let step : p (i + d) <ℤ p ((i + d) + 1) = rise (i + d) (omega arith) in
+    let same : p j ≡ p ((i + d) + 1) = ap p (omega arith) in
+    omega (arith, ints)
+
+-- a knot is in the interval
+pub is_inside : (ks : List Knot) (n : ℕ) (f : ℤ → ℤ) (k : ℕ) → StandFor ks n f → k < n → IsInside ks n (place ks k)
+is_inside ks n f k s h = record {
+  some = omega arith;
+  from_first = rises n (place ks) s.rise k 0 k (omega arith) h;
+  to_last = rises n (place ks) s.rise ((n - 1) - k) k (n - 1) (omega arith) (omega arith);
+}
+
+-- a term that is straight between neighbours, and convex, is added
+pub Joins-raised : (term : ℤ → ℤ) (n : ℕ) (p v p' v' : ℕ → ℤ) (f : ℤ → ℤ)
+    → Joins n p v f
+    → ((k : ℕ) → k < n → p' k ≡ p k) → ((k : ℕ) → k < n → v' k ≡ v k +ℤ term (p k))
+    → ((k : ℕ) → k + 1 < n → IsStraight (p k) (p (k + 1)) term) → IsConvex (p 0) (p (n - 1)) term
+    → Joins n p' v' (λ x. f x +ℤ term x)
+Joins-raised term n p v p' v' f s places heights straight convex = record {
+  rise = λ k h. let a = places k (omega arith) in let b = places (k + 1) h in let r = s.rise k h in omega (arith, ints);
+  meet = λ k h.
+      let a = heights k h in
+      let m = s.meet k h in
+      let ef : f (p' k) ≡ f (p k) = ap f (places k h) in
+      let et : term (p' k) ≡ term (p k) = ap term (places k h) in
+      omega (arith, ints);
+  straight = λ k h x from to.
+      let a = places k (omega arith) in
+      let b = places (k + 1) h in
+      let g = s.straight k h x (omega (arith, ints)) (omega (arith, ints)) in
+      let t = straight k h x (omega (arith, ints)) (omega (arith, ints)) in
+      omega (arith, ints);
+  convex = λ x from to.
+      elim (cases_lt 0 n) [
+        | inl some ↦
+            let a = places 0 some in
+            let b = places (n - 1) (omega arith) in
+            let g = s.convex x (omega (arith, ints)) (omega (arith, ints)) in
+            let t = convex x (omega (arith, ints)) (omega (arith, ints)) in
+            omega (arith, ints)
+        | inr none ↦ absurd (let e : p' (n - 1) ≡ p' 0 = ap p' (omega arith) in omega (arith, ints))
+      ];
+}
+
+pub StandFor-raised : (term : ℤ → ℤ) (n : ℕ) (ks ks' : List Knot) (f : ℤ → ℤ) → StandFor ks n f → AreRaised term n ks ks'
+    → ((k : ℕ) → k + 1 < n → IsStraight (place ks k) (place ks (k + 1)) term) → IsConvex (place ks 0) (place ks (n - 1)) term
+    → StandFor ks' n (λ x. f x +ℤ term x)
+StandFor-raised term n ks ks' f s r straight convex = Joins-raised term n (place ks) (height ks) (place ks') (height ks') f s r.places r.heights straight convex
+
+pub HaveSameEnds-raised : (term : ℤ → ℤ) (n : ℕ) (ks ks' : List Knot) → AreRaised term n ks ks' → HaveSameEnds ks n ks' n
+HaveSameEnds-raised term n ks ks' r = record {
+  some = λ h. h;
+  none = λ h. h;
+  first = λ h. r.places 0 h;
+  last = λ h. r.places (n - 1) (omega arith);
+}
+
+-- a line is straight everywhere
+pub line_straight : (slope x : ℤ) → (slope *ℤ x +ℤ slope *ℤ x) ≡ (slope *ℤ (x -ℤ pos 1) +ℤ slope *ℤ (x +ℤ pos 1))
+line_straight slope x = let a = times_next slope x in let b = times_prev slope x in omega (arith, ints)
+
+pub straight_convex : (a b : ℤ) → a ≡ b → a ≤ℤ b
+straight_convex a b h = omega (arith, ints)
+
+-- a knot is written
+pub knot_same : (ks : List Knot) (i : ℕ) (q : Knot) → i < length ks → knot (slice_set ks i q) i ≡ q
+knot_same ks i q lt = rw get_or-set_same refl
+
+pub knot_other : (ks : List Knot) (i j : ℕ) (q : Knot) → j ≢ i → knot (slice_set ks i q) j ≡ knot ks j
+knot_other ks i j q ne = rw get_or-set_other refl
+
+pub HaveSameEnds-then : (ks ks1 ks2 : List Knot) (n n1 n2 : ℕ) → HaveSameEnds ks n ks1 n1 → HaveSameEnds ks1 n1 ks2 n2 → HaveSameEnds ks n ks2 n2
+HaveSameEnds-then ks ks1 ks2 n n1 n2 a b = record {
+  some = λ h. b.some (a.some h);
+  none = λ h. b.none (a.none h);
+  first = λ h. b.first (a.some h) ∙ a.first h;
+  last = λ h. b.last (a.some h) ∙ a.last h;
+}
+
+pub inside_same : (ks ks' : List Knot) (n n' : ℕ) (x : ℤ) → HaveSameEnds ks n ks' n' → IsInside ks' n' x → IsInside ks n x
+inside_same ks ks' n n' x e h =
+    let some = h.some in
+    let was : 0 < n = elim (cases_lt 0 n) [ inl y ↦ y | inr empty ↦ let z = e.none (omega arith) in absurd (omega arith) ] in
+    let first = e.first was in
+    let last = e.last was in
+    let from = h.from_first in
+    let to = h.to_last in
+    record { some = was; from_first = omega (arith, ints); to_last = omega (arith, ints) }
+
+pub HaveSameEnds-back : (ks ks' : List Knot) (n n' : ℕ) → HaveSameEnds ks n ks' n' → HaveSameEnds ks' n' ks n
+HaveSameEnds-back ks ks' n n' e = elim (cases_lt 0 n) [
+  | inl some ↦ record {
+    some = λ h. some;
+    none = λ h. let z = e.some some in absurd (omega arith);
+    first = λ h. sym (e.first some);
+    last = λ h. sym (e.last some);
+  }
+  | inr empty ↦ record {
+    some = λ h. let z = e.none (omega arith) in absurd (omega arith);
+    none = λ h. omega arith;
+    first = λ h. let z = e.none (omega arith) in absurd (omega arith);
+    last = λ h. let z = e.none (omega arith) in absurd (omega arith);
+  }
+]

@@ -1,0 +1,158 @@
+-- Where a convex function is least.
+use Rattle.std.proofs.Common.{◌≡◌, ℕ, zero, suc, ◌+◌, ◌-◌, List, refl, sym, ap, subst, arith}
+use Rattle.std.specs.Prelude.{ℤ, pos, ◌+ℤ◌, ◌-ℤ◌, ◌≤ℤ◌, ◌<ℤ◌}
+use Rattle.std.specs.Int.{int_min, int_max}
+use Rattle.std.proofs.lemmas.Int.{ints, clamps, by_lt_z}
+use Rattle.std.proofs.Math.IntN.{*ℤ-zero}
+use Rattle.uc_model.proofs.IntLaws.{mul-mono_of}
+use Rattle.ramp_step.specs.declared.breakpoint.Knot.{Knot}
+use Rattle.ramp_step.specs.Knots.{knot, place, IsStraight, IsConvex, StandFor, IsInside}
+use Rattle.ramp_step.specs.Window.{nearest, IsLeastInReach, IsTurn}
+use Rattle.ramp_step.specs.Read.{IsLowest, HasNoPlace, IsInsideWithin}
+use Rattle.ramp_step.specs.Laws.{MovesParts}
+use Rattle.ramp_step.proofs.KnotLaws.{rises}
+use Rattle.ramp_step.proofs.WindowLaws.{slopes, straight_line, straight_slope, falls_to, rises_to, window_law}
+use Rattle.ramp_step.proofs.SpreadLaws.{turn_falls, turn_rises}
+
+-- a straight part that ends lower falls at each place
+pub strict_slope : (f : ℤ → ℤ) (a b : ℤ) → IsStraight a b f → a <ℤ b → f b <ℤ f a → (f (a +ℤ pos 1) -ℤ f a) <ℤ pos 0
+strict_slope f a b straight order low =
+    let s = f (a +ℤ pos 1) -ℤ f a in
+    let e = straight_line f a b straight b (omega (arith, ints)) (omega (arith, ints)) in
+    by_lt_z s (pos 0)
+    (λ down. down)
+    (λ up.
+    let m = mul-mono_of s (pos 0) (b -ℤ a) up (omega (arith, ints)) in
+    let z = *ℤ-zero s in
+    absurd (omega (arith, ints)))
+
+strict_by : (ks : List Knot) (n j : ℕ) (f : ℤ → ℤ) → StandFor ks n f → IsTurn ks n j → (i : ℕ) → i + 1 ≡ j → (x : ℤ) → place ks 0 ≤ℤ x → x <ℤ place ks j → f (x +ℤ pos 1) <ℤ f x
+strict_by ks n j f s t i e x low high =
+    let p = place ks in
+    let inside = t.inside in
+    let same : p (i + 1) ≡ p j = ap p e in
+    let step = s.rise i (omega arith) in
+    let straight : IsStraight (p i) (p j) f = λ y from to. s.straight i (omega arith) y from (omega (arith, ints)) in
+    let meet_i = s.meet i (omega arith) in
+    let meet_j = s.meet j inside in
+    let low_j = t.falls i e in
+    let slope = strict_slope f (p i) (p j) straight (omega (arith, ints)) (omega (arith, ints)) in
+    let last = straight_slope f (p i) (p j) straight (p j -ℤ pos 1) (omega (arith, ints)) (omega (arith, ints)) in
+    let end = rises n p s.rise ((n - 1) - j) j (n - 1) (omega arith) (omega arith) in
+    let order = slopes f (p 0) (p (n - 1)) s.convex x (p j -ℤ pos 1) low (omega (arith, ints)) (omega (arith, ints)) in
+    omega (arith, ints)
+
+strict_from : (ks : List Knot) (n j : ℕ) (f : ℤ → ℤ) → StandFor ks n f → IsTurn ks n j → (k : ℕ) → k ≡ j → (x : ℤ) → place ks 0 ≤ℤ x → x <ℤ place ks j → f (x +ℤ pos 1) <ℤ f x
+strict_from ks n j f s t zero e x low high = let same : place ks 0 ≡ place ks j = ap (place ks) e in absurd (omega (arith, ints))
+strict_from ks n j f s t (suc i) e x low high = strict_by ks n j f s t i (omega arith) x low high
+
+module _ (ks : List Knot) (n j : ℕ) (f : ℤ → ℤ) (s : StandFor ks n f) (t : IsTurn ks n j) where
+  falls_strictly : (x : ℤ) → place ks 0 ≤ℤ x → x <ℤ place ks j → f (x +ℤ pos 1) <ℤ f x
+  falls_strictly = strict_from ks n j f s t j refl
+
+  -- the value falls from each place to each later one up to the turn
+  falls_below : (x y : ℤ) → place ks 0 ≤ℤ x → x <ℤ y → y ≤ℤ place ks j → f y <ℤ f x
+  falls_below x y low order high =
+      let step = falls_strictly x low (omega (arith, ints)) in
+      let rest = falls_to f (place ks 0) (place ks (n - 1)) (place ks j) (turn_falls ks n j f s t) (turn_rises ks n j f s t) (x +ℤ pos 1) y (omega (arith, ints)) (omega (arith, ints)) high in
+      omega (arith, ints)
+
+  rises_after : (x y : ℤ) → place ks j ≤ℤ x → x ≤ℤ y → y ≤ℤ place ks (n - 1) → f x ≤ℤ f y
+  rises_after = rises_to f (place ks 0) (place ks (n - 1)) (place ks j) (turn_falls ks n j f s t) (turn_rises ks n j f s t)
+
+  turn_from_first : place ks 0 ≤ℤ place ks j
+  turn_from_first = let inside = t.inside in rises n (place ks) s.rise j 0 j (omega arith) inside
+
+  turn_to_last : place ks j ≤ℤ place ks (n - 1)
+  turn_to_last = let inside = t.inside in rises n (place ks) s.rise ((n - 1) - j) j (n - 1) (omega arith) (omega arith)
+
+  -- the knot at the turn is the lowest
+  pub IsLowest-turn : IsLowest (IsInside ks n) f (knot ks j)
+  IsLowest-turn =
+      let some = t.inside in
+      let meet = s.meet j some in
+      record {
+        inside = record { some = omega arith; from_first = turn_from_first; to_last = turn_to_last };
+        there = sym meet;
+        least = λ y h.
+            let low = h.from_first in
+            let high = h.to_last in
+            by_lt_z y (place ks j)
+            (λ before. let d = falls_below y (place ks j) low before (omega (arith, ints)) in omega (arith, ints))
+            (λ after. let r = rises_after (place ks j) y (omega (arith, ints)) after high in omega (arith, ints));
+        first = λ y h e.
+            let low = h.from_first in
+            by_lt_z y (place ks j)
+            (λ before. let d = falls_below y (place ks j) low before (omega (arith, ints)) in absurd (omega (arith, ints)))
+            (λ after. after);
+      }
+
+  -- where the turn is cut off, the nearest place to it that is left is the lowest
+  pub IsLowest-within : (lo hi v : ℤ) → lo ≤ℤ hi → IsInside ks n (int_max lo (int_min hi (place ks j))) → v ≡ f (int_max lo (int_min hi (place ks j)))
+      → IsLowest (IsInsideWithin lo hi ks n) f (record { at = int_max lo (int_min hi (place ks j)); value = v })
+  IsLowest-within lo hi v order inside is = record {
+    inside = record { inside = inside; from = omega (arith, ints, clamps); to = omega (arith, ints, clamps) };
+    there = sym is;
+    least = λ y h.
+        let low = h.inside.from_first in
+        let high = h.inside.to_last in
+        let from = h.from in
+        let to = h.to in
+        let x = int_max lo (int_min hi (place ks j)) in
+        let x_low = inside.from_first in
+        by_lt_z y x
+        (λ before. let d = falls_below y x low before (omega (arith, ints, clamps)) in omega (arith, ints))
+        (λ after. by_lt_z x y
+        (λ past. let r = rises_after x y (omega (arith, ints, clamps)) after high in omega (arith, ints))
+        (λ upto. let e : f y ≡ f x = ap f (omega (arith, ints)) in omega (arith, ints)));
+    first = λ y h e.
+        let low = h.inside.from_first in
+        let from = h.from in
+        let x = int_max lo (int_min hi (place ks j)) in
+        by_lt_z y x
+        (λ before. let d = falls_below y x low before (omega (arith, ints, clamps)) in absurd (omega (arith, ints)))
+        (λ after. after);
+  }
+
+  -- where there is a place left, that place is in the interval
+  pub HasNoPlace-within : (lo hi : ℤ) → (IsInside ks n (int_max lo (int_min hi (place ks j))) → ⊥) → HasNoPlace (IsInsideWithin lo hi ks n)
+  HasNoPlace-within lo hi outside y h =
+      let low = h.inside.from_first in
+      let high = h.inside.to_last in
+      let from = h.from in
+      let to = h.to in
+      let a = turn_from_first in
+      let b = turn_to_last in
+      outside (record { some = h.inside.some; from_first = omega (arith, ints, clamps); to_last = omega (arith, ints, clamps) })
+
+-- ---- the law of the window, from convexity alone
+
+module _ (f : ℤ → ℤ) (a b m : ℤ) (convex : IsConvex a b f) (first : a ≤ℤ m) (last : m ≤ℤ b) (least : (y : ℤ) → a ≤ℤ y → y ≤ℤ b → f m ≤ℤ f y) where
+  falls_before : (x : ℤ) → a ≤ℤ x → x <ℤ m → f (x +ℤ pos 1) ≤ℤ f x
+  falls_before x low high =
+      let order = slopes f a b convex x (m -ℤ pos 1) low (omega (arith, ints)) (omega (arith, ints)) in
+      let l = least (m -ℤ pos 1) (omega (arith, ints)) (omega (arith, ints)) in
+      let e : f ((m -ℤ pos 1) +ℤ pos 1) ≡ f m = ap f (omega (arith, ints)) in
+      omega (arith, ints)
+
+  rises_from : (x : ℤ) → m ≤ℤ x → x <ℤ b → f x ≤ℤ f (x +ℤ pos 1)
+  rises_from x low high =
+      let order = slopes f a b convex m x first low high in
+      let l = least (m +ℤ pos 1) (omega (arith, ints)) (omega (arith, ints)) in
+      omega (arith, ints)
+
+  at : (up down x y : ℤ) → pos 0 ≤ℤ up → pos 0 ≤ℤ down → nearest up down m x ≡ y → a ≤ℤ (x +ℤ down) → (x -ℤ up) ≤ℤ b → IsLeastInReach f a b up down x (f y)
+  at up down x y is_up is_down e low high =
+      let P : ℤ → Type 0 = λ z. IsLeastInReach f a b up down x (f z) in
+      subst P e (window_law f a b m falls_before rises_from up down x first last is_up is_down low high)
+
+  pub MovesParts-convex : (up down : ℤ) → pos 0 ≤ℤ up → pos 0 ≤ℤ down → MovesParts f a b m up down
+  MovesParts-convex up down is_up is_down = record {
+    falling = λ x low high.
+        let e : nearest up down m x ≡ x +ℤ down = omega (arith, ints, clamps) in
+        at up down x (x +ℤ down) is_up is_down e (omega (arith, ints)) (omega (arith, ints));
+    flat = λ x low high. let e : nearest up down m x ≡ m = omega (arith, ints, clamps) in at up down x m is_up is_down e (omega (arith, ints)) (omega (arith, ints));
+    rising = λ x low high.
+        let e : nearest up down m x ≡ x -ℤ up = omega (arith, ints, clamps) in
+        at up down x (x -ℤ up) is_up is_down e (omega (arith, ints)) (omega (arith, ints));
+  }

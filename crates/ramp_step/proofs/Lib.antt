@@ -1,0 +1,17 @@
+pub mod BreakpointLaws
+pub mod CurveLaws
+pub mod CurveShapeLaws
+pub mod CutLaws
+pub mod DivLaws
+pub mod KinkLaws
+pub mod KnotLaws
+pub mod LeastLaws
+pub mod LimitLaws
+pub mod RaiseLaws
+pub mod SameLaws
+pub mod ShapeLaws
+pub mod SpacedLaws
+pub mod SpreadLaws
+pub mod TimesLaws
+pub mod ValueLaws
+pub mod WindowLaws

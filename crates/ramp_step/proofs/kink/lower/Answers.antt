@@ -1,0 +1,45 @@
+use Rattle.std.proofs.Common.{◌≡◌, ◌<◌, length, arith, ap, ◌∙◌, below_more, to_z, of_z}
+use Rattle.std.specs.Prelude.{◌+ℤ◌}
+use Rattle.std.specs.Int.{w64}
+use Rattle.std.proofs.lemmas.Int.{to_z-of_z}
+use Rattle.ramp_step.specs.declared.breakpoint.Knot.{Knot}
+use Rattle.ramp_step.specs.Knots.{knot}
+use Rattle.shape_law.specs.Curve.{reserve_term}
+use Rattle.ramp_step.proofs.KnotLaws.{knot_same, knot_other}
+use Rattle.ramp_step.proofs.kink.lower.Goals as goal
+
+pub loop-i-preserved : goal.loop-i-preserved
+loop-i-preserved c =
+    let i = c.loop-i.i in
+    let ks = c.loop-i.knots in
+    let q = c.lowered.result in
+    let lt : i < length ks = omega arith in
+    let was : knot ks i ≡ knot c.args.knots.now i = c.loop-i.invariant.rest i (omega arith) in
+    record {
+      places = below_more _ _ (λ j below. ap (λ (k : Knot). k.at) (knot_other ks i j q (omega arith)) ∙ c.loop-i.invariant.places j below)
+          (ap (λ (k : Knot). k.at) (knot_same ks i q lt) ∙ c.lowered.ensures.at ∙ ap (λ (k : Knot). k.at) was);
+      heights = below_more _ _ (λ j below. ap (λ (k : Knot). k.value) (knot_other ks i j q (omega arith)) ∙ c.loop-i.invariant.heights j below)
+          (ap (λ (k : Knot). k.value) (knot_same ks i q lt) ∙ c.lowered.ensures.value
+          ∙ ap (λ (k : Knot). k.value +ℤ reserve_term (to_z w64 (of_z w64 c.args.mu)) (to_z w64 (of_z w64 c.args.cap)) (to_z w64 (of_z w64 c.args.up)) k.at) was);
+      rest = λ j past. knot_other ks i j q (omega arith) ∙ c.loop-i.invariant.rest j (omega arith);
+    }
+
+pub lowered-requires-clause-after : goal.lowered-requires-clause-after
+lowered-requires-clause-after c =
+    let i = c.loop-i.i in
+    let was : knot c.loop-i.knots i ≡ knot c.args.knots.now i = c.loop-i.invariant.rest i (omega arith) in
+    let e-mu : to_z w64 (of_z w64 c.args.mu) ≡ c.args.mu = to_z-of_z w64 _ c.ranges.mu in
+    let e-cap : to_z w64 (of_z w64 c.args.cap) ≡ c.args.cap = to_z-of_z w64 _ c.ranges.cap in
+    let e-up : to_z w64 (of_z w64 c.args.up) ≡ c.args.up = to_z-of_z w64 _ c.ranges.up in
+    rw (was, e-mu, e-cap, e-up) (c.requires.after i (omega arith))
+
+pub returns : goal.returns
+returns c =
+    let e-mu : to_z w64 (of_z w64 c.args.mu) ≡ c.args.mu = to_z-of_z w64 _ c.ranges.mu in
+    let e-cap : to_z w64 (of_z w64 c.args.cap) ≡ c.args.cap = to_z-of_z w64 _ c.ranges.cap in
+    let e-up : to_z w64 (of_z w64 c.args.up) ≡ c.args.up = to_z-of_z w64 _ c.ranges.up in
+    let heights = rw (e-mu, e-cap, e-up) at c.loop-i.invariant.heights in
+    record {
+      places = λ k h. c.loop-i.invariant.places k (omega arith);
+      heights = λ k h. heights k (omega arith);
+    }

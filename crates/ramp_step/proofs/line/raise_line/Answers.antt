@@ -1,0 +1,35 @@
+use Rattle.std.proofs.Common.{◌≡◌, ◌<◌, length, arith, ap, ◌∙◌, below_more, to_z, of_z}
+use Rattle.std.specs.Prelude.{◌+ℤ◌, ◌*ℤ◌}
+use Rattle.std.specs.Int.{w64}
+use Rattle.std.proofs.lemmas.Int.{to_z-of_z}
+use Rattle.ramp_step.specs.declared.breakpoint.Knot.{Knot}
+use Rattle.ramp_step.specs.Knots.{knot}
+use Rattle.ramp_step.proofs.KnotLaws.{knot_same, knot_other}
+use Rattle.ramp_step.proofs.line.raise_line.Goals as goal
+
+pub on_line-requires : goal.on_line-requires
+on_line-requires c =
+    let i = c.loop-i.i in
+    let was : knot c.loop-i.knots i ≡ knot c.args.knots.now i = c.loop-i.invariant.rest i (omega arith) in
+    let e : to_z w64 (of_z w64 c.args.slope) ≡ c.args.slope = to_z-of_z w64 _ c.ranges.slope in
+    record {
+      at = rw was (c.requires.places i (omega arith));
+      before = rw was (c.requires.before i (omega arith));
+      after = rw (was, e) (c.requires.after i (omega arith));
+    }
+
+pub loop-i-preserved : goal.loop-i-preserved
+loop-i-preserved c =
+    let i = c.loop-i.i in
+    let ks = c.loop-i.knots in
+    let q = c.on_line.result in
+    let lt : i < length ks = omega arith in
+    let was : knot ks i ≡ knot c.args.knots.now i = c.loop-i.invariant.rest i (omega arith) in
+    let e : to_z w64 (of_z w64 c.args.slope) ≡ c.args.slope = to_z-of_z w64 _ c.ranges.slope in
+    record {
+      places = below_more _ _ (λ j below. ap (λ (k : Knot). k.at) (knot_other ks i j q (omega arith)) ∙ c.loop-i.invariant.places j below)
+          (ap (λ (k : Knot). k.at) (knot_same ks i q lt) ∙ c.on_line.ensures.at ∙ ap (λ (k : Knot). k.at) was);
+      heights = below_more _ _ (λ j below. ap (λ (k : Knot). k.value) (knot_other ks i j q (omega arith)) ∙ c.loop-i.invariant.heights j below)
+          (ap (λ (k : Knot). k.value) (knot_same ks i q lt) ∙ c.on_line.ensures.value ∙ ap (λ (k : Knot). k.value +ℤ to_z w64 (of_z w64 c.args.slope) *ℤ k.at) was);
+      rest = λ j past. knot_other ks i j q (omega arith) ∙ c.loop-i.invariant.rest j (omega arith);
+    }

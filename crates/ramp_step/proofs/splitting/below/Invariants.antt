@@ -1,0 +1,7 @@
+use Rattle.std.proofs.Common.{ℕ, ◌<◌}
+use Rattle.std.specs.Prelude.{◌<ℤ◌}
+use Rattle.ramp_step.specs.Knots.{place}
+use Rattle.ramp_step.proofs.splitting.below.Given as goal
+
+abbrev pub invariant-loop-i : goal.invariant-loop-i
+invariant-loop-i l = (k : ℕ) → k < l.i → place l.knots k <ℤ l.x

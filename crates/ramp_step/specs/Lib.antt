@@ -1,0 +1,11 @@
+pub mod Knots
+pub mod Window
+pub mod Cut
+pub mod Breakpoints
+pub mod Spaced
+pub mod Raise
+pub mod Read
+pub mod Values
+pub mod Tables
+pub mod Laws
+pub mod Curve

@@ -1,0 +1,41 @@
+-- The least value in reach (this project's profile).
+use Rattle.std.specs.Prelude.{◌≡◌, ℕ, ◌+◌, ◌-◌, ◌<◌, ◌≤◌, ℤ, ◌+ℤ◌, ◌-ℤ◌, ◌≤ℤ◌, ◌<ℤ◌, List}
+use Rattle.std.specs.Int.{int_min, int_max}
+use Rattle.ramp_step.specs.declared.breakpoint.Knot.{Knot}
+use Rattle.ramp_step.specs.Knots.{place, height, StandFor, IsInside}
+
+-- the place from x - up to x + down that is nearest to m
+abbrev pub nearest : ℤ → ℤ → ℤ → ℤ → ℤ
+nearest up down m x = int_max (x -ℤ up) (int_min (x +ℤ down) m)
+
+-- v is the least value of f at the places from x - up to x + down that are in the interval from a to b
+pub record IsLeastInReach (f : ℤ → ℤ) (a b up down x v : ℤ) : Type 0 where
+  pub at : ℤ
+  pub inside : (a ≤ℤ at) × (at ≤ℤ b)
+  pub reached : ((x -ℤ up) ≤ℤ at) × (at ≤ℤ (x +ℤ down))
+  pub there : f at ≡ v
+  pub least : (y : ℤ) → a ≤ℤ y → y ≤ℤ b → (x -ℤ up) ≤ℤ y → y ≤ℤ (x +ℤ down) → v ≤ℤ f y
+
+-- the heights of the first n knots fall up to index j, and don't fall at it
+pub record IsTurn (ks : List Knot) (n j : ℕ) : Type 0 where
+  pub inside : j < n
+  pub falls : (i : ℕ) → i + 1 ≡ j → height ks j <ℤ height ks i
+  pub rises : j + 1 < n → height ks j ≤ℤ height ks (j + 1)
+
+-- the knots up to index j are moved by -down, and those from j on by up
+pub record AreSpread (up down : ℤ) (n j : ℕ) (ks ks' : List Knot) : Type 0 where
+  pub falling : (k : ℕ) → k ≤ j → (place ks' k ≡ place ks k -ℤ down) × (height ks' k ≡ height ks k)
+  pub rising : (k : ℕ) → j ≤ k → k < n → (place ks' (k + 1) ≡ place ks k +ℤ up) × (height ks' (k + 1) ≡ height ks k)
+
+-- the new knots stand for the least values in reach, over the interval that reaches the old one
+pub record AreWindow (up down : ℤ) (ks : List Knot) (n : ℕ) (ks' : List Knot) (n' : ℕ) : Type 0 where
+  pub some : 0 < n'
+  pub first : place ks' 0 ≡ place ks 0 -ℤ down
+  pub last : place ks' (n' - 1) ≡ place ks (n - 1) +ℤ up
+  pub function : (f : ℤ → ℤ) → StandFor ks n f → (g : ℤ → ℤ) × StandFor ks' n' g × ((x : ℤ) → (place ks 0 -ℤ down) ≤ℤ x → x ≤ℤ (place ks (n - 1) +ℤ up) → IsLeastInReach f (place ks 0) (place ks (n - 1)) up down x (g x))
+
+-- the new knots stand for the least values in reach, at the places from lo to hi that have an old place in reach
+pub record IsWindow (up down lo hi : ℤ) (ks : List Knot) (n : ℕ) (ks' : List Knot) (n' : ℕ) : Type 0 where
+  pub some : 0 < n' → 0 < n
+  pub function : (f : ℤ → ℤ) → StandFor ks n f → (g : ℤ → ℤ) × StandFor ks' n' g × ((x : ℤ) → IsInside ks' n' x → (lo ≤ℤ x) × (x ≤ℤ hi) × IsLeastInReach f (place ks 0) (place ks (n - 1)) up down x (g x))
+  pub places : (x y : ℤ) → IsInside ks n y → (x -ℤ up) ≤ℤ y → y ≤ℤ (x +ℤ down) → lo ≤ℤ x → x ≤ℤ hi → IsInside ks' n' x

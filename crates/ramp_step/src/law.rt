@@ -1,0 +1,17 @@
+//! Laws of breakpoints: each is the contract of a function that does nothing.
+ghost use Rattle.ramp_step.specs.Breakpoints.{BreakpointsAreShapes, ShapesAreBreakpoints};
+ghost use Rattle.ramp_step.specs.Laws.{WindowMovesParts, WindowMovesKnots};
+
+/// Of a convex function on a whole interval the window moves the falling part by `-down` and the
+/// rising part by `up`, with the flat part between. So do knots that are moved in that way.
+pub fn window_moves_parts()
+    ensures function { WindowMovesParts }
+    ensures knots { WindowMovesKnots }
+{}
+
+/// Knots stand for a convex function with whole values exactly where their places rise, the slopes
+/// between neighbours are whole, and no slope is below the one before it.
+pub fn breakpoints_are_shapes()
+    ensures shapes { BreakpointsAreShapes }
+    ensures breakpoints { ShapesAreBreakpoints }
+{}

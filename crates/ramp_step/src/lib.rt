@@ -1,0 +1,17 @@
+//! Steps over breakpoints that stand for a convex function on a whole interval.
+//!
+//! Each step works in place on the first `used` knots of a slice, takes time in proportion to them
+//! (and to a curve's blocks), and answers how many knots there are afterwards: at most `used` and
+//! its charge. The slice has room for as many.
+#![tactic(auto)]
+
+pub mod breakpoint;
+pub mod curve;
+mod cutting;
+pub mod kink;
+pub mod law;
+pub mod line;
+pub mod read;
+mod spaced;
+mod splitting;
+pub mod window;

@@ -1,0 +1,65 @@
+//! Values and least values.
+ghost use Rattle.std.specs.Prelude.{◌≡◌, ℕ, ℤ, ◌<◌, ◌≤◌, length, MatchOption};
+ghost use Rattle.ramp_step.specs.Knots.{StandFor, IsShape, IsInside};
+ghost use Rattle.ramp_step.specs.Cut.{IsLimited};
+ghost use Rattle.ramp_step.specs.Read.{IsLowest, HasNoPlace, IsInsideWithin, IsValueAt};
+
+use crate::breakpoint::Knot;
+use crate::splitting::{below, between};
+use crate::window::turn;
+
+/// The value at a place; None exactly outside the interval.
+pub fn value_at(knots: &[Knot], used: u32, x: i64) -> Option<i64>
+    requires room { used ≤ length knots.now }
+    requires stand { IsShape knots.now used }
+    requires limits { IsLimited knots.now used }
+    ensures { (f : ℤ → ℤ) → StandFor knots.now used f → MatchOption result (IsInside knots.now used x → ⊥) (IsValueAt f knots.now used x) }
+{
+    let m = below(knots, used as usize, x);
+    if m == used as usize {
+        return None;
+    }
+    if knots[m].at == x {
+        return Some(knots[m].value);
+    }
+    if m == 0 {
+        return None;
+    }
+    let knot = between(knots[m - 1], knots[m], x);
+    Some(knot.value)
+}
+
+/// The least value, with the least place where it is; None exactly on an empty interval.
+pub fn least(knots: &[Knot], used: u32) -> Option<Knot>
+    requires room { used ≤ length knots.now }
+    requires stand { IsShape knots.now used }
+    ensures { (f : ℤ → ℤ) → StandFor knots.now used f → MatchOption result (HasNoPlace (IsInside knots.now used)) (IsLowest (IsInside knots.now used) f) }
+{
+    if used == 0 {
+        return None;
+    }
+    let j = turn(knots, used as usize);
+    Some(knots[j])
+}
+
+/// The least value at the places from `lo` to `hi`, with the least place where it is; None exactly
+/// where there is no such place.
+pub fn least_in(knots: &[Knot], used: u32, lo: i64, hi: i64) -> Option<Knot>
+    requires room { used ≤ length knots.now }
+    requires stand { IsShape knots.now used }
+    requires limits { IsLimited knots.now used }
+    ensures { (f : ℤ → ℤ) → StandFor knots.now used f → MatchOption result (HasNoPlace (IsInsideWithin lo hi knots.now used)) (IsLowest (IsInsideWithin lo hi knots.now used) f) }
+{
+    if used == 0 {
+        return None;
+    }
+    if hi < lo {
+        return None;
+    }
+    let j = turn(knots, used as usize);
+    let at = lo.max(hi.min(knots[j].at));
+    match value_at(knots, used, at) {
+        Some(value) => Some(Knot { at, value }),
+        None => None,
+    }
+}
