@@ -1,0 +1,5 @@
+use Rattle.uc_num.proofs.Nearest.{rounded_is, rounded_only}
+use Rattle.uc_num.proofs.laws.rounds_to_nearest.Goals as goal
+
+pub returns : goal.returns
+returns c = λ d scale. (rounded_is d scale, λ n h. rounded_only d scale n h)

@@ -1,0 +1,80 @@
+-- A set that has the names of the members so far.
+use Rattle.std.proofs.Common.{◌≡◌, ℕ, zero, suc, Bool, true, false, true≢false, not, cond, ◌||◌, ◌⊎◌, List, [], ◌∷◌, ◌++◌, bytes_eq, refl, sym, ap, subst, ◌∙◌, arith, inl, inr}
+use Rattle.std.specs.Prelude.{Contains}
+use Rattle.std.specs.List.{list_any}
+use Rattle.std.specs.Global.{Vec}
+use Rattle.std.specs.HashSet.{HashSet, contains_by}
+use Rattle.uc_text.specs.Parts.{IsNewName}
+use Rattle.uc_text.proofs.Views.{equal_bytes, unequal_bytes}
+
+abbrev pub is_there : List ℕ → List (List ℕ) → Bool
+is_there q ks = list_any (λ k. bytes_eq q k) ks
+
+or_true : (a b : Bool) → (a || b) ≡ true → (a ≡ true) ⊎ (b ≡ true)
+or_true true b e = inl refl
+or_true false b e = inr e
+
+or_false : (a b : Bool) → (a || b) ≡ false → (a ≡ false) × (b ≡ false)
+or_false true b e = absurd (true≢false e)
+or_false false b e = (refl, e)
+
+or_with_true : (a : Bool) → (a || true) ≡ true
+or_with_true true = refl
+or_with_true false = refl
+
+last_alone : (c : Bool) → (c || false) ≡ cond c true false
+last_alone true = refl
+last_alone false = refl
+
+or_last : (a b c : Bool) → (a || cond c true b) ≡ cond c true (a || b)
+or_last a b true = or_with_true a
+or_last a b false = refl
+
+same_test : (xs ys : List ℕ) (a b : Bool) → bytes_eq xs ys ≡ a → bytes_eq ys xs ≡ b → bytes_eq xs ys ≡ bytes_eq ys xs
+same_test xs ys true true e f = e ∙ sym f
+same_test xs ys false false e f = e ∙ sym f
+same_test xs ys true false e f = absurd (unequal_bytes ys xs f (sym (equal_bytes xs ys e)))
+same_test xs ys false true e f = absurd (unequal_bytes xs ys e (sym (equal_bytes ys xs f)))
+
+pub there_has : (q : List ℕ) (ks : List (List ℕ)) → is_there q ks ≡ true → Contains ks q
+there_has q [] e = absurd (true≢false (sym e))
+there_has q (k ∷ ks) e =
+    elim (or_true (bytes_eq q k) (is_there q ks) e) [
+      | inl is ↦ (0, omega arith, sym (equal_bytes q k is))
+      | inr is ↦ let r = there_has q ks is in (suc r.0, omega (arith, r.1), r.2)
+    ]
+
+pub there_new : (q : List ℕ) (ks : List (List ℕ)) → is_there q ks ≡ false → IsNewName ks q
+there_new q [] e i d lt same = absurd (omega arith)
+there_new q (k ∷ ks) e zero d lt same = unequal_bytes q k (or_false (bytes_eq q k) (is_there q ks) e).0 (sym same)
+there_new q (k ∷ ks) e (suc i) d lt same = there_new q ks (or_false (bytes_eq q k) (is_there q ks) e).1 i d (omega arith) same
+
+pub there_push : (q : List ℕ) (ks : List (List ℕ)) (k : List ℕ) → is_there q (ks ++ k ∷ []) ≡ cond (bytes_eq k q) true (is_there q ks)
+there_push q [] k = ap (λ (b : Bool). b || false) (same_test q k (bytes_eq q k) (bytes_eq k q) refl refl) ∙ last_alone (bytes_eq k q)
+there_push q (j ∷ ks) k = ap (λ (b : Bool). bytes_eq q j || b) (there_push q ks k) ∙ or_last (bytes_eq q j) (is_there q ks) (bytes_eq k q)
+
+-- The set has these names.
+abbrev pub Knows : {S : Type 0} → HashSet (Vec ℕ) S → List (List ℕ) → Type 0
+Knows s ks = (q : Vec ℕ) → contains_by (λ k. bytes_eq q.items k.items) s ≡ is_there q.items ks
+
+not_false : (b : Bool) → not b ≡ false → b ≡ true
+not_false true e = refl
+not_false false e = absurd (true≢false e)
+
+not_true : (b : Bool) → not b ≡ true → b ≡ false
+not_true true e = absurd (true≢false (sym e))
+not_true false e = refl
+
+pub known_name : {S : Type 0} (s : HashSet (Vec ℕ) S) (ks : List (List ℕ)) (key : Vec ℕ) (k : List ℕ) (new : Bool) → Knows s ks → key.items ≡ k → new ≡ not (contains_by (λ j. bytes_eq key.items j.items) s) → new ≡ false → Contains ks k
+known_name s ks key k new h is e off = subst (λ (j : List ℕ). Contains ks j) is (there_has key.items ks (sym (h key) ∙ not_false _ (sym e ∙ off)))
+
+pub new_name : {S : Type 0} (s : HashSet (Vec ℕ) S) (ks : List (List ℕ)) (key : Vec ℕ) (k : List ℕ) (new : Bool) → Knows s ks → key.items ≡ k → new ≡ not (contains_by (λ j. bytes_eq key.items j.items) s) → new ≡ true → IsNewName ks k
+new_name s ks key k new h is e on = subst (λ (j : List ℕ). IsNewName ks j) is (there_new key.items ks (sym (h key) ∙ not_true _ (sym e ∙ on)))
+
+pub knows_more : {S : Type 0} (s t : HashSet (Vec ℕ) S) (ks js : List (List ℕ)) (key : Vec ℕ) (k : List ℕ) → Knows s ks → key.items ≡ k
+    → ((q : Vec ℕ) → contains_by (λ j. bytes_eq q.items j.items) t ≡ cond (bytes_eq key.items q.items) true (contains_by (λ j. bytes_eq q.items j.items) s)) → js ≡ ks ++ k ∷ [] → Knows t js
+knows_more s t ks js key k h is more same q =
+    more q ∙ ap (λ (b : Bool). cond (bytes_eq key.items q.items) true b) (h q) ∙ ap (λ (j : List ℕ). cond (bytes_eq j q.items) true (is_there q.items ks)) is ∙ sym (there_push q.items ks k) ∙ ap (is_there q.items) (sym same)
+
+pub knows_none : {S : Type 0} (s : HashSet (Vec ℕ) S) (ks : List (List ℕ)) → s.keys ≡ [] → ks ≡ [] → Knows s ks
+knows_none s ks e f q = ap (λ (vs : List (Vec ℕ)). list_any (λ k. bytes_eq q.items k.items) vs) e ∙ ap (is_there q.items) (sym f)

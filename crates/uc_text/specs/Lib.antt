@@ -1,0 +1,17 @@
+pub mod Values
+pub mod Grammar
+pub mod Faults
+pub mod Numbers
+pub mod Strings
+pub mod Tokens
+pub mod Texts
+pub mod Laws
+pub mod View
+pub mod Answers
+pub mod Codes
+pub mod Parts
+pub mod Seen
+pub mod Pieces
+pub mod Places
+pub mod Ahead
+pub mod Goes

@@ -1,0 +1,26 @@
+-- What a token of the program is.
+use Rattle.uc_text.specs.Values.{Scalar, null, flag, number, long_number}
+use Rattle.uc_text.specs.Grammar as grammar
+use Rattle.uc_text.specs.Strings.{said}
+use Rattle.uc_text.specs.declared.token.Word.{Word}
+use Rattle.uc_text.specs.declared.token.Word.TheVariants.{Null, Flag, Number, LongNumber}
+use Rattle.uc_text.specs.declared.token.Token.{Token}
+use Rattle.uc_text.specs.declared.token.Token.TheVariants as tokens
+
+abbrev pub scalar_of : Word → Scalar
+scalar_of Null = null
+scalar_of (Flag b) = flag b
+scalar_of (Number d) = number d
+scalar_of LongNumber = long_number
+
+abbrev pub token_of : Token → grammar.Token
+token_of tokens.OpenList = grammar.open_list
+token_of tokens.CloseList = grammar.close_list
+token_of tokens.OpenObject = grammar.open_object
+token_of tokens.CloseObject = grammar.close_object
+token_of tokens.Comma = grammar.comma
+token_of tokens.Colon = grammar.colon
+token_of (tokens.Word w) = grammar.word (scalar_of w)
+token_of (tokens.Text q) = grammar.key (said q.bytes.now)
+token_of tokens.Bad = grammar.bad
+token_of tokens.End = grammar.end

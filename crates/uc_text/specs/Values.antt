@@ -1,0 +1,29 @@
+-- What a text says: a value of RFC 8259. Keys may repeat. Text is a list of bytes.
+use Rattle.std.specs.Prelude.{ℕ, Bool, List, [], ◌∷◌}
+use Rattle.uc_num.specs.declared.Decimal.{Decimal}
+
+pub data Scalar : Type 0 where
+  null : Scalar
+  flag : Bool → Scalar
+  number : Decimal → Scalar
+  -- a number with too many digits or too large an exponent, whatever they are
+  long_number : Scalar
+  text : List ℕ → Scalar
+
+mutual
+  pub data Value : Type 0 where
+    scalar : Scalar → Value
+    list : Items → Value
+    object : Members → Value
+
+  pub data Items : Type 0 where
+    no_items : Items
+    item : Value → Items → Items
+
+  pub data Members : Type 0 where
+    no_members : Members
+    member : List ℕ → Value → Members → Members
+
+abbrev pub keys : Members → List (List ℕ)
+keys no_members = []
+keys (member k v ms) = k ∷ keys ms

@@ -1,0 +1,215 @@
+//! The number that a run of bytes is.
+ghost use Rattle.std.specs.Prelude.{◌≡◌, ◌<◌, ◌≤◌, ◌^◌, ◌++◌, [], length, drop, IfSome, IfNone, true, if◌then◌else◌, pos, neg_ℤ, ◌-ℤ◌};
+ghost use Rattle.uc_text.specs.Numbers.{AreDigits, value, value_from, front, behind, is_whole_part as whole_part, are_digits as digits_only, number_token as number_spec, power_digits as power_digits_spec, power as power_spec, behind_fraction as behind_fraction_spec, behind_whole as behind_whole_spec, unsigned as unsigned_spec, number_of, exponent_of};
+ghost use Rattle.uc_text.specs.Seen.{token_of};
+ghost use Rattle.uc_text.specs.Goes.{goes};
+
+use crate::bytes::{begins_with, digits_len, rest_from};
+use crate::token::{Token, Word};
+use uc_num::Decimal;
+
+/// The value of the digits behind others, unless it has more than 30 digits.
+fn digits_after(before: u128, digits: &[u8]) -> Option<u128>
+    requires digits { AreDigits digits.now }
+    requires before { before < 10 ^ 30 }
+    ensures some { IfSome result (λ n. (n ≡ value_from before digits.now) × (n < 10 ^ 30)) }
+    ensures none { IfNone result (10 ^ 30 ≤ value_from before digits.now) }
+{
+    let mut n: u128 = before;
+    for b in digits {
+        if 100_000_000_000_000_000_000_000_000_000 <= n {
+            return None;
+        }
+        n = 10 * n + (*b - b'0') as u128;
+    }
+    Some(n)
+}
+
+/// The value of digits, unless it is above the limit.
+fn value_within(digits: &[u8], limit: u32) -> Option<u32>
+    requires digits { AreDigits digits.now }
+    requires small { limit < 1000000 }
+    ensures some { IfSome result (λ n. (n ≡ value digits.now) × (n ≤ limit)) }
+    ensures none { IfNone result (limit < value digits.now) }
+{
+    let mut n: u32 = 0;
+    for b in digits {
+        n = 10 * n + (*b - b'0') as u32;
+        if limit < n {
+            return None;
+        }
+    }
+    Some(n)
+}
+
+/// The digits in front, and the bytes behind them.
+fn split_digits(bytes: &[u8]) -> (&[u8], &[u8])
+    ensures front { result.0.now ≡ front bytes.now }
+    ensures behind { result.1.now ≡ behind bytes.now }
+    ensures digits { AreDigits result.0.now }
+    ensures few { length result.0.now ≤ length bytes.now }
+    ensures fewer { length result.1.now ≤ length bytes.now }
+{
+    let len = digits_len(bytes);
+    (&bytes[..len], rest_from(bytes, len))
+}
+
+fn is_whole_part(digits: &[u8]) -> bool
+    ensures { result ≡ whole_part digits.now }
+{
+    !digits.is_empty() && (digits.len() == 1 || !begins_with(b'0', digits))
+}
+
+fn are_digits(bytes: &[u8]) -> bool
+    ensures is { result ≡ digits_only bytes.now }
+    ensures digits { result ≡ true → AreDigits bytes.now }
+{
+    !bytes.is_empty() && digits_len(bytes) == bytes.len()
+}
+
+/// The power of ten of a number with a written exponent, and digits behind the point.
+fn exponent(lowers: bool, power: u32, places: usize) -> i32
+    requires power { power ≤ 400 }
+    requires places { places < 2 ^ 30 }
+    ensures { result ≡ (if lowers then neg_ℤ (pos power) else pos power) -ℤ pos places }
+{
+    let written = power as i32;
+    let written = if lowers { -written } else { written };
+    written - places as i32
+}
+
+fn number_token<'a>(
+    negative: bool,
+    whole: &[u8],
+    fraction: &[u8],
+    lowers: bool,
+    power: &[u8],
+) -> Token<'a>
+    requires whole { AreDigits whole.now }
+    requires fraction { AreDigits fraction.now }
+    requires power { AreDigits power.now }
+    requires few { length fraction.now < 2 ^ 30 }
+    ensures is { token_of result ≡ number_spec negative whole.now fraction.now lowers power.now }
+    ensures goes { goes (token_of result) ≡ true }
+{
+    let Some(before) = digits_after(0, whole) else {
+        return Token::Word(Word::LongNumber);
+    };
+    let Some(digits) = digits_after(before, fraction) else {
+        return Token::Word(Word::LongNumber);
+    };
+    let Some(written) = value_within(power, 400) else {
+        return Token::Word(Word::LongNumber);
+    };
+    let exponent = exponent(lowers, written, fraction.len());
+    Token::Word(Word::Number(Decimal {
+        negative,
+        digits,
+        exponent,
+    }))
+}
+
+/// Behind the letter and the sign of an exponent.
+#[tactic(auto, unfolding(crate::specs::Numbers::power_digits))]
+fn power_digits<'a>(
+    negative: bool,
+    whole: &[u8],
+    fraction: &[u8],
+    lowers: bool,
+    bytes: &[u8],
+) -> Token<'a>
+    requires whole { AreDigits whole.now }
+    requires fraction { AreDigits fraction.now }
+    requires few { length fraction.now < 2 ^ 30 }
+    ensures is { token_of result ≡ power_digits_spec negative whole.now fraction.now lowers bytes.now }
+    ensures goes { goes (token_of result) ≡ true }
+{
+    if are_digits(bytes) {
+        number_token(negative, whole, fraction, lowers, bytes)
+    } else {
+        Token::Bad
+    }
+}
+
+/// Behind the letter of an exponent.
+#[tactic(auto, unfolding(crate::specs::Numbers::power))]
+fn power<'a>(negative: bool, whole: &[u8], fraction: &[u8], bytes: &[u8]) -> Token<'a>
+    requires whole { AreDigits whole.now }
+    requires fraction { AreDigits fraction.now }
+    requires few { length fraction.now < 2 ^ 30 }
+    ensures is { token_of result ≡ power_spec negative whole.now fraction.now bytes.now }
+    ensures goes { goes (token_of result) ≡ true }
+{
+    if begins_with(b'-', bytes) {
+        power_digits(negative, whole, fraction, true, rest_from(bytes, 1))
+    } else if begins_with(b'+', bytes) {
+        power_digits(negative, whole, fraction, false, rest_from(bytes, 1))
+    } else {
+        power_digits(negative, whole, fraction, false, bytes)
+    }
+}
+
+/// Behind the fraction.
+#[tactic(auto, unfolding(crate::specs::Numbers::behind_fraction))]
+fn behind_fraction<'a>(negative: bool, whole: &[u8], fraction: &[u8], bytes: &[u8]) -> Token<'a>
+    requires whole { AreDigits whole.now }
+    requires fraction { AreDigits fraction.now }
+    requires few { length fraction.now < 2 ^ 30 }
+    ensures is { token_of result ≡ behind_fraction_spec negative whole.now fraction.now bytes.now }
+    ensures goes { goes (token_of result) ≡ true }
+{
+    if bytes.is_empty() {
+        number_token(negative, whole, fraction, false, bytes)
+    } else if begins_with(b'e', bytes) || begins_with(b'E', bytes) {
+        power(negative, whole, fraction, rest_from(bytes, 1))
+    } else {
+        Token::Bad
+    }
+}
+
+/// Behind the whole part.
+#[tactic(auto, unfolding(crate::specs::Numbers::behind_whole))]
+fn behind_whole<'a>(negative: bool, whole: &[u8], bytes: &[u8]) -> Token<'a>
+    requires whole { AreDigits whole.now }
+    requires few { length bytes.now < 2 ^ 30 }
+    ensures is { token_of result ≡ behind_whole_spec negative whole.now bytes.now }
+    ensures goes { goes (token_of result) ≡ true }
+{
+    if !begins_with(b'.', bytes) {
+        return behind_fraction(negative, whole, &bytes[..0], bytes);
+    }
+    let (fraction, others) = split_digits(rest_from(bytes, 1));
+    if fraction.is_empty() {
+        return Token::Bad;
+    }
+    behind_fraction(negative, whole, fraction, others)
+}
+
+/// Behind the sign.
+#[tactic(auto, unfolding(crate::specs::Numbers::unsigned))]
+fn unsigned<'a>(negative: bool, bytes: &[u8]) -> Token<'a>
+    requires few { length bytes.now < 2 ^ 30 }
+    ensures is { token_of result ≡ unsigned_spec negative bytes.now }
+    ensures goes { goes (token_of result) ≡ true }
+{
+    let (whole, others) = split_digits(bytes);
+    if is_whole_part(whole) {
+        behind_whole(negative, whole, others)
+    } else {
+        Token::Bad
+    }
+}
+
+/// The token of a run of bytes of a number.
+#[tactic(auto, unfolding(crate::specs::Numbers::number_of))]
+pub fn number_in<'a>(run: &[u8]) -> Token<'a>
+    requires { length run.now < 2 ^ 30 }
+    ensures is { token_of result ≡ number_of run.now }
+    ensures goes { goes (token_of result) ≡ true }
+{
+    if begins_with(b'-', run) {
+        unsigned(true, rest_from(run, 1))
+    } else {
+        unsigned(false, run)
+    }
+}

@@ -1,0 +1,185 @@
+//! From tokens to a tree.
+ghost use Rattle.std.specs.Prelude.{◌≡◌, ◌<◌, ◌≤◌, ◌^◌, ◌∷◌, [], List, length, IfOk, OnOk, Contains, IsTrue, false};
+ghost use Rattle.uc_text.specs.Grammar.{open_list, open_object};
+ghost use Rattle.uc_text.specs.Parts.{names, IsNewName};
+ghost use Rattle.uc_text.specs.Tokens.{Placed, tokens};
+ghost use Rattle.uc_text.specs.Places.{NextIs, seen, Reads, ReadsItems, ReadsMembers, StuckAt, IfFault};
+ghost use Rattle.uc_text.specs.Ahead.{rest, ahead};
+ghost use Rattle.uc_text.specs.Texts.{IsText, IsFirstFault};
+ghost use Rattle.uc_text.specs.Answers.{GivesTree, GivesFault};
+ghost use Rattle.uc_text.specs.Values.{Value, scalar, long_number};
+ghost use Rattle.uc_text.specs.Faults.{IsShort};
+ghost use Rattle.uc_text.specs.Seen.{scalar_of};
+ghost use Rattle.uc_text.specs.declared.fault.TextFault.{TextFault};
+ghost use Rattle.uc_text.specs.View.{view, views, member_views};
+
+use crate::fault::{TextCode, TextError, TextFault};
+use crate::names::{add, name_of};
+use crate::reader::Reader;
+use crate::strings::text_of;
+use crate::token::{Lexeme, Token, Word};
+use crate::tree::{Member, MemberList, Tree, TreeList};
+use std::alloc::Global;
+use std::collections::HashSet;
+
+/// How many lists and objects may stand within one another.
+const LEVELS: u32 = 32;
+
+fn fault(code: TextCode, place: u32) -> TextError
+    ensures { result ≡ TextError.Fault (record { code = code; place = place }) }
+{
+    TextError::Fault(TextFault { code, place })
+}
+
+/// A value of one token, unless it's a number that is too long.
+fn word_tree(word: Word, place: u32) -> Result<Tree, TextError>
+    ensures ok { IfOk result (λ tree. (view tree ≡ scalar (scalar_of word)) × IsShort (scalar_of word)) }
+    ensures fault { IfFault result (λ f. (scalar_of word ≡ long_number) × (f ≡ record { code = TextCode.NumberTooLong; place = place })) }
+{
+    match word {
+        Word::Null => Ok(Tree::Null),
+        Word::Flag(flag) => Ok(Tree::Flag(flag)),
+        Word::Number(number) => Ok(Tree::Number(number)),
+        Word::LongNumber => Err(fault(TextCode::NumberTooLong, place)),
+    }
+}
+
+/// The value that begins with a token, where so many levels are left.
+#[cycle(read)]
+fn value(
+    alloc: Global,
+    reader: &mut Reader<'_>,
+    first: Lexeme<'_>,
+    left: u32,
+) -> Result<Tree, TextError>
+    ensures ok { IfOk result (λ v. (ts : List Placed) → NextIs ts (seen first.entry) (rest reader.old)
+        → Reads left ts (view v) (rest reader.new)) }
+    ensures fault { IfFault result (λ f. (ts : List Placed) → NextIs ts (seen first.entry) (rest reader.old)
+        → StuckAt left [] ts f) }
+    ensures ahead { OnOk result (ahead reader.new ≤ ahead reader.old) }
+{
+    match first.token {
+        Token::Word(word) => word_tree(word, first.place),
+        Token::Text(quoted) => {
+            let text = text_of(alloc, quoted)?;
+            Ok(Tree::Text(name_of(alloc, text.as_str())?))
+        }
+        Token::OpenList => {
+            if left == 0 {
+                return Err(fault(TextCode::TooDeep, first.place));
+            }
+            Ok(Tree::List(items(alloc, reader, left)?))
+        }
+        Token::OpenObject => {
+            if left == 0 {
+                return Err(fault(TextCode::TooDeep, first.place));
+            }
+            Ok(Tree::Object(members(alloc, reader, left)?))
+        }
+        _ => Err(fault(TextCode::NotJson, first.place)),
+    }
+}
+
+/// The items behind an opening bracket, and the closing bracket.
+#[cycle(read)]
+fn items(alloc: Global, reader: &mut Reader<'_>, left: u32) -> Result<TreeList, TextError>
+    requires { 0 < left }
+    ensures ok { IfOk result (λ v. ReadsItems left (rest reader.old) (views v.items) (rest reader.new)) }
+    ensures fault { IfFault result (λ f. StuckAt left (open_list ∷ []) (rest reader.old) f) }
+    ensures ahead { OnOk result (ahead reader.new ≤ ahead reader.old) }
+{
+    let mut found = Vec::new(alloc);
+    let mut first = reader.next();
+    if let Token::CloseList = first.token {
+        return Ok(found);
+    }
+    'items: loop {
+        let item = value(alloc, reader, first, left - 1)?;
+        found.push(item)?;
+        let behind = reader.next();
+        match behind.token {
+            Token::Comma => first = reader.next(),
+            Token::CloseList => return Ok(found),
+            _ => return Err(fault(TextCode::NotJson, behind.place)),
+        }
+    }
+}
+
+/// The members behind an opening brace, and the closing brace.
+#[cycle(read)]
+fn members(alloc: Global, reader: &mut Reader<'_>, left: u32) -> Result<MemberList, TextError>
+    requires { 0 < left }
+    ensures ok { IfOk result (λ v. ReadsMembers left (rest reader.old) (member_views v.items) (rest reader.new)) }
+    ensures fault { IfFault result (λ f. StuckAt left (open_object ∷ []) (rest reader.old) f) }
+    ensures ahead { OnOk result (ahead reader.new ≤ ahead reader.old) }
+{
+    let mut found = Vec::new(alloc);
+    let mut seen: HashSet<Vec<u8>> = HashSet::new(alloc);
+    let mut first = reader.next();
+    if let Token::CloseObject = first.token {
+        return Ok(found);
+    }
+    'members: loop {
+        let Token::Text(quoted) = first.token else {
+            return Err(fault(TextCode::NotJson, first.place));
+        };
+        let key = text_of(alloc, quoted)?;
+        let name = name_of(alloc, key.as_str())?;
+        let new = add(&mut seen, key.into_bytes())?;
+        if !new {
+            return Err(fault(TextCode::DoubleKey, first.place));
+        }
+        let between = reader.next();
+        let Token::Colon = between.token else {
+            return Err(fault(TextCode::NotJson, between.place));
+        };
+        let start = reader.next();
+        let inner = value(alloc, reader, start, left - 1)?;
+        found.push(Member { name, value: inner })?;
+        let behind = reader.next();
+        match behind.token {
+            Token::Comma => first = reader.next(),
+            Token::CloseObject => return Ok(found),
+            _ => return Err(fault(TextCode::NotJson, behind.place)),
+        }
+    }
+}
+
+/// The tree of a JSON text of RFC 8259, or its first fault.
+///
+/// Tokens are taken in order. The first one that the grammar doesn't allow, or that is a number
+/// too long, a bracket too deep or a key for the second time, is the fault; at one token they are
+/// tried in that order. Where the text ends too early the fault stands at its length. Takes time
+/// in proportion to the bytes, and recursion no deeper than 32 levels. `laws` says that bytes are a
+/// text or have a first fault, and never both.
+pub fn read_tree(alloc: Global, bytes: &[u8]) -> Result<Tree, TextError>
+    requires { length bytes.now ≤ 67108864 }
+    // A tree is the text's.
+    ensures found { IfOk result (λ v. IsText 32 bytes.now (view v)) }
+    // A fault is the first of the text.
+    ensures fault { IfFault result (λ f. IsFirstFault 32 bytes.now f) }
+    // The text of a value is read.
+    ensures only { (v : Value) → IsText 32 bytes.now v → GivesTree result v }
+    // What has a first fault is refused with it.
+    ensures refused { (f : TextFault) → IsFirstFault 32 bytes.now f → GivesFault result f }
+{
+    read_all(alloc, bytes)
+}
+
+fn read_all(alloc: Global, bytes: &[u8]) -> Result<Tree, TextError>
+    requires { length bytes.now ≤ 67108864 }
+    ensures found { IfOk result (λ v. IsText 32 bytes.now (view v)) }
+    ensures fault { IfFault result (λ f. IsFirstFault 32 bytes.now f) }
+{
+    let mut reader = Reader { bytes, at: 0 };
+    let first = reader.next();
+    let tree = value(alloc, &mut reader, first, LEVELS)?;
+    let behind = reader.next();
+    match behind.token {
+        Token::End => Ok(tree),
+        _ => Err(fault(TextCode::NotJson, behind.place)),
+    }
+}
+
+#[cfg(test)]
+mod tests;
