@@ -12,7 +12,7 @@ use Rattle.tiny_units.specs.Counts.{after_of, list_count, flag, flags_of, schedu
 
 -- ---- numbers
 
-below_or : (a b : ℕ) → (a < b) ⊎ (b ≤ a)
+pub below_or : (a b : ℕ) → (a < b) ⊎ (b ≤ a)
 below_or a b = grind arith
 
 -- of two numbers with a lower part below n the higher part decides
@@ -153,19 +153,19 @@ pub record IsCounted (most n : ℕ) (s : Schedule) : Type 0 where
   pub within : IsWithin most s
 
 -- the count, where the flags are over n periods
-abbrev counted : ℕ → ℕ → Schedule → ℕ
+abbrev pub counted : ℕ → ℕ → Schedule → ℕ
 counted most n s = after_of most s.reserve + list_count most n * (after_of most s.power + list_count most n * after_of 1 (flags_of s))
 
-schedules_after-counted : (most n : ℕ) (s : Schedule) → IsCounted most n s → schedules_after most s ≡ counted most n s
+pub schedules_after-counted : (most n : ℕ) (s : Schedule) → IsCounted most n s → schedules_after most s ≡ counted most n s
 schedules_after-counted most n s h = ap (λ (m : ℕ). after_of most s.reserve + list_count most m * (after_of most s.power + list_count most m * after_of 1 (flags_of s))) h.on
 
-power_below : (most n : ℕ) (s : Schedule) → IsCounted most n s → after_of most s.power < list_count most n
+pub power_below : (most n : ℕ) (s : Schedule) → IsCounted most n s → after_of most s.power < list_count most n
 power_below most n s h = subst (λ (m : ℕ). after_of most s.power < list_count most m) h.power (after_is_below most s.power h.within.power)
 
-reserve_below : (most n : ℕ) (s : Schedule) → IsCounted most n s → after_of most s.reserve < list_count most n
+pub reserve_below : (most n : ℕ) (s : Schedule) → IsCounted most n s → after_of most s.reserve < list_count most n
 reserve_below most n s h = subst (λ (m : ℕ). after_of most s.reserve < list_count most m) h.reserve (after_is_below most s.reserve h.within.reserve)
 
-flags_below : (most n : ℕ) (s : Schedule) → IsCounted most n s → after_of 1 (flags_of s) < list_count 1 n
+pub flags_below : (most n : ℕ) (s : Schedule) → IsCounted most n s → after_of 1 (flags_of s) < list_count 1 n
 flags_below most n s h = subst (λ (m : ℕ). after_of 1 (flags_of s) < list_count 1 m) (length-map s.on flag ∙ h.on) (after_is_below 1 (flags_of s) (flags_up_to s.on))
 
 module _ (most n : ℕ) (a b : Schedule) (h : IsCounted most n a) (i : IsCounted most n b) where

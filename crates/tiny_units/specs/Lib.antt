@@ -1,2 +1,4 @@
 pub mod Counts
+pub mod Money
 pub mod Rules
+pub mod Tries

@@ -5,7 +5,9 @@
 
 pub mod commitment;
 pub mod dispatch;
+pub mod earnings;
 pub mod envelope;
 pub mod feasible;
 pub mod order;
 pub mod state;
+pub mod trying;
