@@ -1,9 +1,9 @@
 -- What is kept while schedules are tried, and that at the end it is the least of the best.
-use Rattle.std.proofs.Common.{◌≡◌, ℕ, zero, suc, ◌+◌, ◌*◌, ◌<◌, ◌≤◌, ◌⊎◌, inl, inr, Bool, true, false, ℤ, pos, ◌+ℤ◌, ◌≤ℤ◌, List, [], ◌∷◌, ◌++◌, map, length, replicate, refl, sym, ap, ◌∙◌, subst, arith}
+use Rattle.std.proofs.Common.{◌≡◌, ℕ, zero, suc, ◌+◌, ◌*◌, ◌<◌, ◌≤◌, ◌⊎◌, inl, inr, Bool, true, false, ℤ, pos, negsuc, ◌+ℤ◌, ◌≤ℤ◌, List, [], ◌∷◌, ◌++◌, map, length, replicate, refl, sym, ap, ◌∙◌, subst, arith}
 use Rattle.std.proofs.Math.Nat.{mul-le-mul_left}
 use Rattle.std.proofs.lemmas.Int.{ints}
 use Rattle.std.proofs.lemmas.List.{length-replicate, get_or-replicate, append-nil}
-use Rattle.std.specs.Prelude.{◌<ℤ◌, IsTrue, IsFalse, slice_index, slice_index_or}
+use Rattle.std.specs.Prelude.{◌<ℤ◌, unsigned_abs, IsTrue, IsFalse, slice_index, slice_index_or}
 use Rattle.uc_model.specs.Data.{ThermalUnit, Thermal, PriceLists, Schedule}
 use Rattle.uc_model.specs.Earnings.{earnings, IsBest}
 use Rattle.uc_model.specs.Limits.{IsThermalUnit}
@@ -152,3 +152,8 @@ module _ (g : ThermalUnit) (π : PriceLists) (most : ℕ) (unit : IsThermalUnit 
             | inr r ↦ let place = r.1 in omega (arith, place, later)
           ];
       }
+
+-- a number that isn't negative is its size
+pub size_of : (z : ℤ) → pos 0 ≤ℤ z → pos (unsigned_abs z) ≡ z
+size_of (pos n) h = refl
+size_of (negsuc n) h = absurd (omega (arith, ints, h))
