@@ -59,7 +59,7 @@ module _ (g : ThermalUnit) (π : PriceLists) (most : ℕ) (unit : IsThermalUnit 
   begins first s earned on power reserve =
       let n = length π.energy in
       let zeros : (xs : List ℕ) → xs ≡ replicate n 0 → (k d : ℕ) → k < length xs → slice_index_or xs k d ≤ most = λ xs is. subst (λ (zs : List ℕ). (k d : ℕ) → k < length zs → slice_index_or zs k d ≤ most) (sym is)
-        (λ k d low. let e = get_or-replicate n k 0 d (let l = length-replicate {A = ℕ} n 0 in omega (arith, low, l)) in omega (arith, e)) in
+      (λ k d low. let e = get_or-replicate n k 0 d (let l = length-replicate {A = ℕ} n 0 in omega (arith, low, l)) in omega (arith, e)) in
       let is_counted : IsCounted most n first = record {
         on = ap length on ∙ length-replicate n false;
         power = ap length power ∙ length-replicate {A = ℕ} n 0;
@@ -145,12 +145,12 @@ module _ (g : ThermalUnit) (π : PriceLists) (most : ℕ) (unit : IsThermalUnit 
       record {
         best = record { feasible = h.feasible refl; greatest = most_of };
         first = λ other best before.
-          let later = before-more most n other s (feasible_counted n other best.feasible) (feasible_counted n s (h.feasible refl)) before in
-          let as_good = best.greatest s (h.feasible refl) in
-          elim (h.first refl other best.feasible (omega arith)) [
-            | inl less ↦ omega (arith, ints, less, mine, as_good)
-            | inr r ↦ let place = r.1 in omega (arith, place, later)
-          ];
+            let later = before-more most n other s (feasible_counted n other best.feasible) (feasible_counted n s (h.feasible refl)) before in
+            let as_good = best.greatest s (h.feasible refl) in
+            elim (h.first refl other best.feasible (omega arith)) [
+              | inl less ↦ omega (arith, ints, less, mine, as_good)
+              | inr r ↦ let place = r.1 in omega (arith, place, later)
+            ];
       }
 
 -- a number that isn't negative is its size

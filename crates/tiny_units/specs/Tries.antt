@@ -12,4 +12,4 @@ pub record IsKept (g : ThermalUnit) (π : PriceLists) (most left : ℕ) (found :
   pub earns : IsTrue found → earnings (Thermal g) π s ≡ earned
   pub tried : IsTrue found → left ≤ schedules_after most s
   pub first : IsTrue found → (other : Schedule) → IsThermalFeasible g (length π.energy) other → left ≤ schedules_after most other →
-    (earnings (Thermal g) π other <ℤ earned) ⊎ ((earnings (Thermal g) π other ≡ earned) × (schedules_after most other ≤ schedules_after most s))
+      (earnings (Thermal g) π other <ℤ earned) ⊎ ((earnings (Thermal g) π other ≡ earned) × (schedules_after most other ≤ schedules_after most s))

@@ -115,7 +115,5 @@ fn output_limit(unit: &Unit) -> i64
 pub fn may_stop_at_once(unit: &Unit, response: &Response) -> bool
     ensures { IsTrue result ↔ MayStopAtOnce (thermal_of unit.now) (schedule_of response.now) }
 {
-    response.on.is_empty()
-        || !stops(unit, response, 0)
-        || unit.power0 <= output_limit(unit)
+    response.on.is_empty() || !stops(unit, response, 0) || unit.power0 <= output_limit(unit)
 }

@@ -90,7 +90,11 @@ fn periods_down(unit: &Unit, response: &Response, place: usize) -> u64
 {
     let mut down = if unit.on0 { 0 } else { u64::from(unit.down0) };
     for earlier in 0..place {
-        down = if is_on(response, earlier) { 0 } else { down + 1 };
+        down = if is_on(response, earlier) {
+            0
+        } else {
+            down + 1
+        };
     }
     down
 }
@@ -117,7 +121,10 @@ fn net(unit: &Unit, prices: &Prices, response: &Response, place: usize) -> i128
     ensures bound { IsFrom (neg_ℤ (pos 4835703278458516698824704)) (pos 4835703278458516698824704) result }
 {
     let _limits = prices.energy.len();
-    let costs = plus(production(unit, response, place), start(unit, response, place));
+    let costs = plus(
+        production(unit, response, place),
+        start(unit, response, place),
+    );
     minus(revenue(prices, response, place), costs)
 }
 

@@ -9,5 +9,9 @@ pub mod earnings;
 pub mod envelope;
 pub mod feasible;
 pub mod order;
+pub mod parts;
+pub mod small;
 pub mod state;
+#[cfg(test)]
+mod tests;
 pub mod trying;

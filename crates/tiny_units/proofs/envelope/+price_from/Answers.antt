@@ -19,10 +19,19 @@ price_from-requires t c =
     let l = c.ranges.low in
     let e = simp to_z-of_z at c.half-next.ensures in
     let is = to_z-of_z w128 c.half-next.result a ∙ e in
-    let within = half_within (rises_after c.args.points.now (pos c.args.power) ((c.args.low +ℤ pos (2 ^ (c.args.steps - 1))) -ℤ pos 1)) c.args.low (c.args.steps - 1) c.args.steps less c.requires.low c.requires.high in
-    ( omega (arith, c.decreases)
-    , (c.requires.some
-    , (c.requires.points
-    , (omega (arith, c.requires.steps)
-    , ( subst (λ (z : ℤ). neg_ℤ (pos 70368744177664) ≤ℤ z) (sym is) within.0
-    , subst (λ (z : ℤ). (z +ℤ pos (2 ^ (c.args.steps - 1))) ≤ℤ pos 70368744177664) (sym is) within.1)))))
+    let within = half_within (rises_after c.args.points.now (pos c.args.power) ((c.args.low +ℤ pos (2 ^ (c.args.steps - 1))) -ℤ pos 1)) c.args.low (c.args.steps - 1) c.args.steps less c.requires.low c.requires.high in (
+      omega (arith, c.decreases),
+      (
+        c.requires.some,
+        (
+          c.requires.points,
+          (
+            omega (arith, c.requires.steps),
+            (
+              subst (λ (z : ℤ). neg_ℤ (pos 70368744177664) ≤ℤ z) (sym is) within.0,
+              subst (λ (z : ℤ). (z +ℤ pos (2 ^ (c.args.steps - 1))) ≤ℤ pos 70368744177664) (sym is) within.1,
+            ),
+          ),
+        ),
+      ),
+    )
