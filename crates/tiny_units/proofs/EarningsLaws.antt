@@ -1,19 +1,19 @@
 -- Earnings are the sum of what each period earns, and those of a feasible schedule fit 64 bits.
-use Rattle.std.proofs.Common.{◌≡◌, ℕ, zero, suc, ◌+◌, ◌-◌, ◌*◌, ◌^◌, ◌<◌, ◌≤◌, ◌⊎◌, inl, inr, Bool, true, false, cond, Some, None, ℤ, pos, negsuc, neg_ℤ, ◌+ℤ◌, ◌-ℤ◌, ◌*ℤ◌, ◌≤ℤ◌, List, [], ◌∷◌, map, length, refl, sym, ap, ◌∙◌, subst, arith}
+use Rattle.std.proofs.Common.{◌≡◌, ℕ, zero, suc, ◌-◌, ◌*◌, ◌<◌, ◌≤◌, ◌⊎◌, inl, inr, Bool, true, false, cond, Some, None, ℤ, pos, neg_ℤ, ◌+ℤ◌, ◌-ℤ◌, ◌≤ℤ◌, List, [], ◌∷◌, map, length, refl, sym, ap, subst, arith}
 use Rattle.std.proofs.Math.IntN.{*ℤ_comm, *ℤ-zero}
 use Rattle.std.proofs.lemmas.Int.{ints, clamps}
 use Rattle.std.proofs.lemmas.List.{length-reverse, get_or-reverse}
 use Rattle.std.specs.Int.{w64, int_min}
 use Rattle.std.specs.List.{All, find, fold}
 use Rattle.std.specs.Option.{option_map_or}
-use Rattle.std.specs.Prelude.{FitsSigned, IsTrue, IsFalse, reverse, nat_le, slice_get, slice_index, slice_index_or}
+use Rattle.std.specs.Prelude.{FitsSigned, reverse, nat_le, slice_get, slice_index, slice_index_or}
 use Rattle.uc_model.specs.declared.units.Lag.{Lag}
 use Rattle.uc_model.specs.declared.units.Point.{Point}
 use Rattle.uc_model.specs.Data.{ThermalUnit, Thermal, PriceLists, Schedule}
 use Rattle.uc_model.specs.Earnings.{start_cost_of, earnings}
 use Rattle.uc_model.specs.Envelope.{line_at, least_line, envelope}
-use Rattle.uc_model.specs.Limits.{IsFrom, IsLag, IsPoint, Spans, IsThermalUnit, ArePrices, price_limit}
-use Rattle.uc_model.specs.Schedules.{on_in, power_in, starts_in, time_down, IsPeriod, IsThermalFeasible}
+use Rattle.uc_model.specs.Limits.{IsFrom, IsLag, IsPoint, Spans, IsThermalUnit, ArePrices}
+use Rattle.uc_model.specs.Schedules.{power_in, starts_in, time_down, IsPeriod, IsThermalFeasible}
 use Rattle.uc_model.specs.Sums.{int_at, sum_below}
 use Rattle.uc_model.proofs.EnvelopeLaws.{envelope_is}
 use Rattle.uc_model.proofs.IntLaws.{mul-mono_of, sum_below-add, sum_below-sub}

@@ -1,5 +1,5 @@
 -- A schedule is feasible exactly where each period keeps the rules.
-use Rattle.std.proofs.Common.{◌≡◌, ℕ, zero, suc, ◌+◌, ◌-◌, ◌<◌, ◌≤◌, pos, ◌-ℤ◌, ◌≤ℤ◌, true, false, length, arith, ◌∙◌}
+use Rattle.std.proofs.Common.{◌≡◌, ℕ, zero, suc, ◌+◌, ◌-◌, ◌<◌, ◌≤◌, pos, ◌≤ℤ◌, true, false, length, arith, ◌∙◌}
 use Rattle.std.specs.Prelude.{IsTrue, IsFalse}
 use Rattle.uc_model.specs.declared.units.Mark.TheVariants.{MustOff, MustOn}
 use Rattle.uc_model.specs.Data.{ThermalUnit, Schedule}

@@ -1,9 +1,7 @@
-use Rattle.std.proofs.Common.{rules, length, refl, ◌∙◌}
+use Rattle.std.proofs.Common.{rules, length, refl}
 use Rattle.std.proofs.lemmas.Int.{to_z-of_z}
 use Rattle.std.specs.Int.{w64, w128}
 use Rattle.std.specs.Prelude.{FitsSigned}
-use Rattle.uc_model.specs.Data.{Thermal}
-use Rattle.uc_model.specs.Earnings.{earnings}
 use Rattle.uc_model.specs.PlainUnits.{thermal_of, schedule_of, prices_of}
 use Rattle.tiny_units.proofs.EarningsLaws.{earnings_fit}
 use Rattle.tiny_units.proofs.earnings.feasible_earnings.Goals as goal

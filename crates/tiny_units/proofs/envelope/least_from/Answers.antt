@@ -1,4 +1,4 @@
-use Rattle.std.proofs.Common.{rules, arith, ◌≡◌, ℕ, ◌+◌, ℤ, pos, ap, sym, ◌∙◌, take, length, get_or}
+use Rattle.std.proofs.Common.{rules, arith, ◌≡◌, ℕ, ℤ, pos, ap, sym, ◌∙◌, take, length}
 use Rattle.std.proofs.Math.Seq.{take-length}
 use Rattle.std.proofs.lemmas.Int.{ints, clamps, to_z-of_z}
 use Rattle.std.proofs.lemmas.List.Sums.{fold_more}

@@ -1,7 +1,6 @@
-use Rattle.std.proofs.Common.{rules, arith, ◌*ℤ◌}
+use Rattle.std.proofs.Common.{arith}
 use Rattle.std.proofs.lemmas.Int.{to_z-of_z}
 use Rattle.std.specs.Int.{w128}
-use Rattle.std.specs.Prelude.{FitsSigned}
 use Rattle.tiny_units.proofs.BoundLaws.{product_bound, product_fits}
 use Rattle.tiny_units.proofs.envelope.product.Goals as goal
 

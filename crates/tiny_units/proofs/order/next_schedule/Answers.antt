@@ -1,4 +1,4 @@
-use Rattle.std.proofs.Common.{arith, ◌≡◌, ℕ, suc, ◌+◌, ◌*◌, length, ap, ◌∙◌, refl, map}
+use Rattle.std.proofs.Common.{ℕ, suc, ◌+◌, ◌*◌, length, ap, ◌∙◌, map}
 use Rattle.tiny_units.specs.Counts.{after_of, list_count, flag}
 use Rattle.tiny_units.proofs.StepLaws.{carry_power, carry_flags}
 use Rattle.tiny_units.proofs.order.next_schedule.Goals as goal

@@ -1,9 +1,8 @@
-use Rattle.std.proofs.Common.{rules, arith, ◌≡◌, ℕ, ℤ, ◌≤ℤ◌, length, true, false, sym, subst, ◌∙◌}
+use Rattle.std.proofs.Common.{rules, arith, ◌≡◌, ℕ, ℤ, length, true, sym, subst, ◌∙◌}
 use Rattle.std.proofs.lemmas.Int.{ints, to_z-of_z}
 use Rattle.std.specs.Int.{w64, cast_signed, cast_unsigned}
 use Rattle.std.specs.Prelude.{FitsSigned, IsTrue, ◌<ℤ◌}
-use Rattle.uc_model.specs.Data.{Thermal, Schedule}
-use Rattle.uc_model.specs.Earnings.{earnings}
+use Rattle.uc_model.specs.Data.{Schedule}
 use Rattle.uc_model.specs.PlainUnits.{thermal_of, schedule_of, prices_of}
 use Rattle.uc_model.specs.Schedules.{IsThermalFeasible}
 use Rattle.uc_model.specs.declared.units.Response.{Response}
