@@ -1,11 +1,12 @@
 //! Values of the types of a case from their parts, for tests: each part is within the limits of its type, and the
 //! contract says what the value is in plain records and lists.
-ghost use Rattle.std.specs.Prelude.{◌≡◌, ◌≤◌, ◌<◌, ℤ, pos, ◌≤ℤ◌, length, map, IfOk, slice_set, [], ◌∷◌, ◌+◌};
+ghost use Rattle.std.specs.Prelude.{◌≡◌, ◌≤◌, ◌<◌, ℤ, pos, ◌≤ℤ◌, length, map, IfOk, EachIndex, slice_index, slice_set, [], ◌∷◌, ◌+◌};
 ghost use Rattle.tiny_units.specs.Small.{small_unit_of};
 ghost use Rattle.uc_model.specs.Limits.{IsMarket, IsRenewableUnit, IsBidUnit, ArePrices, AreOneLength};
 ghost use Rattle.uc_model.specs.PlainCases.{market_of, schedules_of, proposal_of, task_unit, chosen_unit};
 ghost use Rattle.uc_model.specs.PlainUnits.{thermal_of, renewable_of, bid_of, named_thermal_of, named_renewable_of, named_bid_of, prices_of, schedule_of};
 ghost use Rattle.uc_model.specs.Reserved.{items_in};
+ghost use Rattle.uc_model.specs.Sums.{int_at};
 
 use crate::small::SmallUnit;
 use std::alloc::{AllocError, Global};
@@ -169,13 +170,18 @@ pub fn row(prices: Prices, value: i128, supply: Amounts, reserve: Amounts) -> Ro
     }
 }
 
-/// A task for the unit of the given kind.
+/// A task of proposal 1 for unit 0, the one of the given kind.
 pub fn task(prices: Prices, kind: UnitKind, thermal: Unit, flat: Renewable, bid: Bid) -> Task
     requires thermal { length thermal.window.items ≡ length prices.energy.items }
     requires flat { length flat.least.items ≡ length prices.energy.items }
     requires bid { length bid.blocks.items ≡ length prices.energy.items }
+    ensures proposal { result.proposal ≡ 1 }
+    ensures number { result.unit ≡ 0 }
     ensures prices { prices_of result.prices ≡ prices_of prices }
     ensures unit { task_unit result ≡ chosen_unit kind thermal flat bid }
+    ensures thermal { thermal_of result.thermal ≡ thermal_of thermal }
+    ensures flat { renewable_of result.flat ≡ renewable_of flat }
+    ensures bid { bid_of result.bid ≡ bid_of bid }
 {
     Task {
         proposal: 1,
@@ -193,7 +199,9 @@ pub fn small_prices(alloc: Global, energy: &[i16], reserve: &[u16]) -> Result<Pr
     requires some { 1 ≤ length energy.now }
     requires limit { length energy.now ≤ 168 }
     requires same { length reserve.now ≡ length energy.now }
-    ensures { IfOk result (λ p. length (prices_of p).energy ≡ length energy.now) }
+    ensures length { IfOk result (λ p. length (prices_of p).energy ≡ length energy.now) }
+    ensures energy { IfOk result (λ p. EachIndex energy.now (λ k. int_at (prices_of p).energy k ≡ int_at energy.now k)) }
+    ensures reserve { IfOk result (λ p. EachIndex reserve.now (λ k. int_at (prices_of p).reserve k ≡ pos (slice_index reserve.now k))) }
 {
     let mut small = Prices::make(alloc, energy.len() as u32)?;
     for place in 0..energy.len() {
