@@ -1,0 +1,10 @@
+use Rattle.std.proofs.Common.{◌≡◌, ◌+◌, ◌≤◌}
+use Rattle.uc_model.specs.PlainUnits.{thermal_of, schedule_of}
+use Rattle.uc_model.specs.Schedules.{time_down}
+use Rattle.tiny_units.proofs.earnings.periods_down.Given as goal
+
+abbrev pub invariant-loop-earlier : goal.invariant-loop-earlier
+invariant-loop-earlier l = record {
+  so_far : l.down ≡ time_down (thermal_of l.unit) (schedule_of l.response) l.earlier;
+  limit : l.down ≤ 1000000 + l.earlier;
+}

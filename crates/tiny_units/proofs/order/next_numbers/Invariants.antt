@@ -1,0 +1,11 @@
+use Rattle.std.proofs.Common.{◌≡◌, ◌≤◌, length}
+use Rattle.std.specs.List.{All}
+use Rattle.tiny_units.proofs.StepLaws.{IsTurned}
+use Rattle.tiny_units.proofs.order.next_numbers.Given as goal
+
+abbrev pub invariant-loop-place : goal.invariant-loop-place
+invariant-loop-place l = record {
+  turned : IsTurned 0 l.fn.most l.place l.initial.list.items l.list.items;
+  within : All (λ x. x ≤ l.fn.most) l.list.items;
+  long : length l.list.items ≡ length l.initial.list.items;
+}

@@ -1,0 +1,5 @@
+pub mod Counts
+pub mod Money
+pub mod Rules
+pub mod Small
+pub mod Tries
