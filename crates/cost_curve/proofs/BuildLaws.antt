@@ -1,28 +1,27 @@
 -- A curve grows by the blocks of an edge, and is right once no edge leads on.
-use Rattle.std.proofs.Common.{◌≡◌, ℕ, zero, suc, ◌+◌, ◌-◌, ◌*◌, ◌<◌, ◌≤◌, ◌⊎◌, inl, inr, ℤ, pos, negsuc, ◌+ℤ◌, ◌-ℤ◌, ◌*ℤ◌, ◌≤ℤ◌, ◌<ℤ◌, Bool, true, false, cond, Option, Some, None, List, [], ◌∷◌, ◌++◌, map, length, slice_index_or, refl, sym, ap, ◌∙◌, subst, arith, length-append, get_or}
+use Rattle.std.proofs.Common.{◌≡◌, ℕ, suc, ◌+◌, ◌-◌, ◌*◌, ◌<◌, ◌≤◌, ◌⊎◌, inl, inr, ℤ, pos, ◌+ℤ◌, ◌-ℤ◌, ◌*ℤ◌, ◌≤ℤ◌, ◌<ℤ◌, Bool, true, false, cond, Some, None, List, [], ◌∷◌, ◌++◌, length, slice_index_or, refl, sym, ap, ◌∙◌, subst, arith, length-append}
 use Rattle.std.proofs.lemmas.Int.{ints}
 use Rattle.std.proofs.lemmas.List.{get_or_append_left, get_or_default}
 use Rattle.std.proofs.Math.Seq.{get_or-append_seam}
 use Rattle.std.proofs.lemmas.List.Elements.{All-append}
-use Rattle.std.proofs.Math.IntN.{*ℤ_comm, zero-*ℤ, *ℤ-zero}
 use Rattle.std.specs.Prelude.{int_lt}
 use Rattle.std.specs.List.{All}
 use Rattle.std.specs.Option.{option_map}
 use Rattle.uc_model.specs.declared.units.Block.{Block}
 use Rattle.uc_model.specs.declared.units.Curve.{Curve}
 use Rattle.uc_model.specs.declared.units.Point.{Point}
-use Rattle.uc_model.specs.Curves.{rise_at, curve_value, end_of}
+use Rattle.uc_model.specs.Curves.{rise_at, curve_value}
 use Rattle.uc_model.specs.Envelope.{envelope, line_at}
-use Rattle.uc_model.specs.Limits.{IsCurve, Spans}
 use Rattle.uc_model.specs.Schedules.{width_of}
-use Rattle.uc_model.proofs.IntLaws.{mul-add, mul-sub}
+use Rattle.uc_model.proofs.IntLaws.{mul-add}
 use Rattle.cost_curve.specs.Building.{rise_of, extended, IsBuilt}
-use Rattle.cost_curve.specs.CostCurve.{AreCostPoints, IsCostCurve}
+use Rattle.cost_curve.specs.CostCurve.{AreCostPoints, IsCostCurve, CanEvaluate}
 use Rattle.cost_curve.specs.Edges.{point_at, IsEdge, IsLast, IsVertex}
-use Rattle.cost_curve.proofs.CurveLaws.{AreWide, width-append, rise-append, rise_old, rise_new, end_is}
-use Rattle.cost_curve.proofs.EdgeLaws.{ordered_powers, IsVertex-next, price_rises}
-use Rattle.cost_curve.proofs.EnvelopeValues.{Spans-ordered, envelope_value, envelope_vertex, IsEnvelope-before, IsEnvelope-after}
+use Rattle.cost_curve.proofs.CurveLaws.{width-append, rise-append, rise_old, rise_new, end_is}
+use Rattle.cost_curve.proofs.EdgeLaws.{ordered_powers, price_rises}
+use Rattle.cost_curve.proofs.EnvelopeValues.{Spans-ordered, envelope_within, envelope_value, envelope_vertex, IsEnvelope-before, IsEnvelope-after}
 use Rattle.cost_curve.proofs.SlopeLaws.{before_times}
+use Rattle.cost_curve.proofs.ValueLaws.{after_start, before_last, is_some_of}
 
 All-one : (P : Block → Type 0) (b : Block) → P b → All P (b ∷ [])
 All-one P b h = λ k d lt. let e : k ≡ 0 = omega (arith, lt) in subst (λ j. P (slice_index_or (b ∷ []) j d)) (sym e) h
@@ -212,6 +211,45 @@ module _ (ps : List Point) (are : AreCostPoints ps) where
             let f : int_lt x c.at ≡ false = not_before x c.at (omega (arith, ints, starts, low)) in
             let back : (envelope ps x -ℤ c.value) +ℤ c.value ≡ envelope ps x = omega (arith, ints) in
             ap (λ (t : Bool). cond t None (option_map (λ (v : ℤ). v +ℤ c.value) (rise_at c.blocks.items (x -ℤ c.at)))) f ∙ ap (option_map (λ (v : ℤ). v +ℤ c.value)) in_it ∙ ap Some back;
+        inside = λ x some.
+            let low = after_start c x some in
+            let high = before_last c x some built.blocks.widths in
+            let b = built.ends in
+            record {
+              first = λ d. let f = ap (λ (p : Point). p.at) (get_or_default ps 0 none d (omega arith)) in omega (arith, ints, low, starts, f);
+              last = λ n d is.
+                  let l = last_power i n lt is last in
+                  let f = ap (λ (p : Point). p.at) (get_or_default ps n none d (omega (arith, is))) in
+                  omega (arith, ints, high, b, l, f);
+            };
         blocks = built.blocks;
         count = omega (arith, few, lt);
+      }
+
+  -- such a curve can be evaluated
+  pub CanEvaluate-curve : (c : Curve) → IsCostCurve ps c → CanEvaluate c
+  CanEvaluate-curve c curve =
+      let none : Point = record { at = pos 0; cost = pos 0 } in
+      let n : ℕ = length ps - 1 in
+      let n_is : suc n ≡ length ps = omega (arith, are.some) in
+      let first = are.points 0 none (omega (arith, are.some)) in
+      let last = are.points n none (omega (arith, are.some)) in
+      let starts = curve.starts none in
+      let ends = curve.ends n none n_is in
+      let a = first.at.at_least in
+      let b = first.at.at_most in
+      let d = last.at.at_least in
+      let f = last.at.at_most in
+      record {
+        widths = curve.blocks.widths;
+        first_place = record { at_least = omega (arith, ints, starts, a); at_most = omega (arith, ints, starts, b) };
+        last_place = record { at_least = omega (arith, ints, ends, d); at_most = omega (arith, ints, ends, f) };
+        values = λ x v is.
+            let span = curve.inside x (is_some_of (curve_value c x) v is) in
+            let limit = envelope_within ps are x span in
+            let same : Some (envelope ps x) ≡ Some v = sym (curve.value x span) ∙ is in
+            let v_is : envelope ps x ≡ v = cc in
+            let low = limit.at_least in
+            let high = limit.at_most in
+            record { at_least = omega (arith, ints, v_is, low); at_most = omega (arith, ints, v_is, high) };
       }

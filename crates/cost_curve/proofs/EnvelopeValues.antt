@@ -1,8 +1,8 @@
 -- What the envelope is at a vertex and on an edge, and what it earns at a price.
-use Rattle.std.proofs.Common.{◌≡◌, ℕ, zero, suc, ◌+◌, ◌<◌, ◌≤◌, ◌⊎◌, inl, inr, ℤ, pos, negsuc, neg_ℤ, ◌+ℤ◌, ◌-ℤ◌, ◌*ℤ◌, ◌≤ℤ◌, ◌<ℤ◌, ◌-◌, List, [], ◌∷◌, map, length, slice_index_or, Some, refl, sym, ap, ◌∙◌, subst, arith}
+use Rattle.std.proofs.Common.{◌≡◌, ℕ, suc, ◌<◌, ◌≤◌, ◌⊎◌, inl, inr, ℤ, pos, ◌+ℤ◌, ◌-ℤ◌, ◌*ℤ◌, ◌≤ℤ◌, ◌-◌, List, [], ◌∷◌, map, length, Some, refl, sym, ap, ◌∙◌, subst, arith}
 use Rattle.std.proofs.lemmas.Int.{ints, clamps}
 use Rattle.std.proofs.lemmas.List.{get_or_default}
-use Rattle.std.proofs.Math.IntN.{*ℤ_comm, zero-*ℤ, *ℤ-zero}
+use Rattle.std.proofs.Math.IntN.{*ℤ_comm, zero-*ℤ}
 use Rattle.std.specs.List.{All, fold, reduce}
 use Rattle.std.specs.Int.{int_max}
 use Rattle.uc_model.specs.declared.units.Point.{Point}
@@ -12,7 +12,7 @@ use Rattle.uc_model.specs.Limits.{IsPoint, IsCost, ArePointsOrdered, Spans}
 use Rattle.uc_model.proofs.EnvelopeLaws.{IsIn, least_le, least_reached, item_is_in, All-is_in, envelope_is, envelope_unique}
 use Rattle.uc_model.proofs.IntLaws.{mul-sub, mul-mono_of}
 use Rattle.cost_curve.specs.CostCurve.{AreCostPoints, EnvelopeIsCost}
-use Rattle.cost_curve.specs.Edges.{point_at, AllFirst, net_at, IsSlope, IsEdge, IsVertex}
+use Rattle.cost_curve.specs.Edges.{point_at, AllFirst, net_at, IsEdge, IsVertex}
 use Rattle.cost_curve.proofs.EdgeLaws.{ordered_powers, cheapest_before, IsVertex-next}
 use Rattle.cost_curve.proofs.SlopeLaws.{before_times}
 

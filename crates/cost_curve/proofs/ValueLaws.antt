@@ -1,16 +1,16 @@
 -- The value of a curve at a place, found block by block.
-use Rattle.std.proofs.Common.{◌≡◌, ℕ, zero, suc, ◌+◌, ◌<◌, ◌⊎◌, inl, inr, ℤ, pos, neg_ℤ, ◌+ℤ◌, ◌-ℤ◌, ◌*ℤ◌, ◌≤ℤ◌, ◌<ℤ◌, Bool, true, false, cond, Option, Some, None, IsSome, List, [], ◌∷◌, length, drop, refl, sym, ap, ◌∙◌, subst, arith}
+use Rattle.std.proofs.Common.{◌≡◌, inl, inr, ℤ, pos, ◌+ℤ◌, ◌-ℤ◌, ◌*ℤ◌, ◌≤ℤ◌, ◌<ℤ◌, Bool, true, false, cond, Option, Some, None, IsSome, List, [], ◌∷◌, refl, sym, ap, ◌∙◌, subst, arith}
 use Rattle.std.proofs.lemmas.Int.{ints}
 use Rattle.std.proofs.Math.IntN.{*ℤ-zero}
 use Rattle.std.specs.Prelude.{int_lt, is_some}
 use Rattle.std.specs.Option.{option_map}
 use Rattle.uc_model.specs.declared.units.Block.{Block}
 use Rattle.uc_model.specs.declared.units.Curve.{Curve}
-use Rattle.uc_model.specs.Curves.{rise_at, curve_value, end_of}
+use Rattle.uc_model.specs.Curves.{rise_at, curve_value}
 use Rattle.uc_model.specs.Limits.{IsFrom}
 use Rattle.uc_model.specs.Schedules.{width_of}
 use Rattle.cost_curve.specs.CostCurve.{IsAmount, CanEvaluate}
-use Rattle.cost_curve.proofs.CurveLaws.{AreWide, head_wide, tail_wide, width_least, end_is, rise_in, rise_past, in_or_past, none_some}
+use Rattle.cost_curve.proofs.CurveLaws.{AreWide, head_wide, tail_wide, width_least, end_is, rise_in, rise_past, in_or_past}
 
 is_not_some : IsSome {T = ℤ} None → ⊥
 is_not_some h = cc
@@ -19,7 +19,7 @@ some_inside : (o : Option ℤ) (g : ℤ) → IsSome (option_map (λ (v : ℤ). v
 some_inside None g h = h
 some_inside (Some v) g h = h
 
-is_some_of : (o : Option ℤ) (v : ℤ) → o ≡ Some v → IsSome o
+pub is_some_of : (o : Option ℤ) (v : ℤ) → o ≡ Some v → IsSome o
 is_some_of o v e = ap is_some e
 
 rise_zero : (bs : List Block) → AreWide bs → rise_at bs (pos 0) ≡ Some (pos 0)
@@ -28,9 +28,9 @@ rise_zero (b ∷ bs) h = rise_in b bs (pos 0) (head_wide b bs h) ∙ ap Some (*�
 
 before_end : (bs : List Block) (y : ℤ) → AreWide bs → IsSome (rise_at bs y) → y ≤ℤ width_of bs
 before_end [] y h some = elim (in_or_past (pos 0) y) [
-    | inl low ↦ low
-    | inr up ↦ let t : int_lt (pos 0) y ≡ true = grind (arith, ints) in absurd (is_not_some (subst IsSome (ap (λ (q : Bool). cond q None (Some (pos 0))) t) some))
-  ]
+  | inl low ↦ low
+  | inr up ↦ let t : int_lt (pos 0) y ≡ true = grind (arith, ints) in absurd (is_not_some (subst IsSome (ap (λ (q : Bool). cond q None (Some (pos 0))) t) some))
+]
 before_end (b ∷ bs) y h some =
     let t = tail_wide b bs h in
     let r = width_least bs t in
@@ -50,8 +50,8 @@ pub record IsReached (found : Option ℤ) (bs : List Block) (value rest : ℤ) :
 turned : (a b : ℤ) → IsAmount (a +ℤ b) → IsAmount (b +ℤ a)
 turned a b h = let e : a +ℤ b ≡ b +ℤ a = omega (arith, ints) in subst IsAmount e h
 
-module _ (c : Curve) (x : ℤ) (can : CanEvaluate c) (inside : IsSome (curve_value c x)) where
-  after_start : c.at ≤ℤ x
+module _ (c : Curve) (x : ℤ) (inside : IsSome (curve_value c x)) where
+  pub after_start : c.at ≤ℤ x
   after_start =
       elim (in_or_past x c.at) [
         | inr up ↦ let t : int_lt x c.at ≡ true = grind (arith, ints) in
@@ -64,12 +64,19 @@ module _ (c : Curve) (x : ℤ) (can : CanEvaluate c) (inside : IsSome (curve_val
       let f : int_lt z c.at ≡ false = grind (arith, ints) in
       ap (λ (q : Bool). cond q None (option_map (λ (v : ℤ). v +ℤ c.value) (rise_at c.blocks.items (z -ℤ c.at)))) f
 
-  pub IsReached-start : IsReached (curve_value c x) c.blocks.items c.value (x -ℤ c.at)
-  IsReached-start =
+  pub before_last : AreWide c.blocks.items → x ≤ℤ (c.at +ℤ width_of c.blocks.items)
+  before_last wide =
+      let low = after_start in
+      let known = value_at x low in
+      let reach = before_end c.blocks.items (x -ℤ c.at) wide (some_inside (rise_at c.blocks.items (x -ℤ c.at)) c.value (subst IsSome known inside)) in
+      omega (arith, ints, reach)
+
+  pub IsReached-start : CanEvaluate c → IsReached (curve_value c x) c.blocks.items c.value (x -ℤ c.at)
+  IsReached-start can =
       let low = after_start in
       let known = value_at x low in
       let end = end_is c.at c.blocks.items in
-      let reach = before_end c.blocks.items (x -ℤ c.at) can.widths (some_inside (rise_at c.blocks.items (x -ℤ c.at)) c.value (subst IsSome known inside)) in
+      let reach = before_last can.widths in
       let first = can.first_place.at_least in
       let last = can.last_place.at_most in
       record {

@@ -1,12 +1,11 @@
 -- The search for the way on, and for the first point, at one more point.
-use Rattle.std.proofs.Common.{◌≡◌, ℕ, ◌+◌, ◌<◌, ◌≤◌, ◌⊎◌, inl, inr, ℤ, pos, ◌+ℤ◌, ◌-ℤ◌, ◌*ℤ◌, ◌≤ℤ◌, ◌<ℤ◌, Option, Some, None, List, length, refl, sym, ap, ◌∙◌, subst, arith}
+use Rattle.std.proofs.Common.{◌≡◌, ℕ, ◌+◌, ◌<◌, ◌≤ℤ◌, ◌<ℤ◌, Option, Some, None, List, length, ap, subst, arith}
 use Rattle.std.proofs.lemmas.Int.{ints}
 use Rattle.uc_model.specs.declared.units.Point.{Point}
-use Rattle.uc_model.specs.Limits.{ArePointsOrdered}
 use Rattle.cost_curve.specs.declared.edges.Edge.{Edge}
 use Rattle.cost_curve.specs.declared.edges.Slope.{Slope}
 use Rattle.cost_curve.specs.CostCurve.{AreCostPoints}
-use Rattle.cost_curve.specs.Edges.{point_at, IsSlope, IsEdge, IsLast, LeadsOn, IsWayOn, IsStart}
+use Rattle.cost_curve.specs.Edges.{point_at, IsSlope, LeadsOn, IsWayOn, IsStart}
 use Rattle.cost_curve.proofs.EdgeLaws.{more, ordered_powers, IsBetter, IsWorse, IsEdge-first, IsEdge-passes, IsEdge-keeps, IsEdge-takes}
 
 module _ (ps : List Point) (from n : ℕ) where

@@ -1,5 +1,5 @@
 -- The curve of a unit's cost points: its envelope at every place (this project's profile).
-use Rattle.std.specs.Prelude.{◌≡◌, ℕ, suc, ◌-◌, ◌*◌, ◌≤◌, ℤ, pos, neg_ℤ, ◌≤ℤ◌, List, length, slice_index_or, Some}
+use Rattle.std.specs.Prelude.{◌≡◌, ℕ, suc, ◌-◌, ◌*◌, ◌≤◌, ℤ, pos, neg_ℤ, ◌≤ℤ◌, List, length, slice_index_or, Some, IsSome}
 use Rattle.std.specs.List.{All}
 use Rattle.uc_model.specs.declared.units.Block.{Block}
 use Rattle.uc_model.specs.declared.units.Curve.{Curve}
@@ -15,11 +15,12 @@ pub record AreCostPoints (ps : List Point) : Type 0 where
   pub points : All IsPoint ps
   pub ordered : ArePointsOrdered ps
 
--- the curve goes from the first to the last point's power, and is the envelope at every place
+-- the curve goes from the first to the last point's power, is the envelope at every place there, and is nowhere else
 pub record IsCostCurve (ps : List Point) (c : Curve) : Type 0 where
   pub starts : (d : Point) → c.at ≡ (slice_index_or ps 0 d).at
   pub ends : (n : ℕ) (d : Point) → suc n ≡ length ps → end_of c.at c.blocks.items ≡ (slice_index_or ps n d).at
   pub value : (x : ℤ) → Spans ps x x → curve_value c x ≡ Some (envelope ps x)
+  pub inside : (x : ℤ) → IsSome (curve_value c x) → Spans ps x x
   pub blocks : IsCurve c.blocks.items
   pub count : length c.blocks.items ≤ 2 * (length ps - 1)
 

@@ -30,7 +30,7 @@ fn push_edge(into: &mut Blocks, from: &Point, to: &Point, slope: Slope)
     requires width { slope.width <ℤ (to.now.at -ℤ from.now.at) }
     ensures items { into.new.items
         ≡ extended (extended into.old.items (record { width = slope.width; price = slope.price -ℤ pos 1 }))
-          (record { width = (to.now.at -ℤ from.now.at) -ℤ slope.width; price = slope.price }) }
+        (record { width = (to.now.at -ℤ from.now.at) -ℤ slope.width; price = slope.price }) }
     ensures room { length into.new.items + into.new.spare ≡ length into.old.items + into.old.spare }
     ensures spare { into.old.spare ≤ into.new.spare + 2 }
 {
@@ -52,6 +52,7 @@ pub fn curve_into(points: &[Point], into: &mut Curve)
     requires points { AreCostPoints points.now }
     requires room { 2 * (length points.now - 1) ≤ length into.old.blocks.items + into.old.blocks.spare }
     ensures curve { IsCostCurve points.now into.new }
+    ensures evaluates { CanEvaluate into.new }
     ensures room { length into.new.blocks.items + into.new.blocks.spare
         ≡ length into.old.blocks.items + into.old.blocks.spare }
 {
@@ -73,7 +74,8 @@ pub fn curve_into(points: &[Point], into: &mut Curve)
 /// The curve of the envelope, as `curve_into` leaves it. `points` are those of a unit.
 pub fn curve_of(alloc: Global, points: &[Point]) -> Result<Curve, AllocError>
     requires { AreCostPoints points.now }
-    ensures { IfOk result (IsCostCurve points.now) }
+    ensures curve { IfOk result (IsCostCurve points.now) }
+    ensures evaluates { IfOk result CanEvaluate }
 {
     let blocks = Blocks::make(alloc, 2 * (points.len() as u32 - 1))?;
     let mut curve = Curve {

@@ -3,6 +3,8 @@
 
 pub mod costs;
 pub mod curves;
-pub mod edges;
+mod edges;
 pub mod laws;
+#[cfg(test)]
+mod tests;
 mod walk;

@@ -1,9 +1,9 @@
-use Rattle.std.proofs.Common.{rules, ◌≡◌, ℕ, suc, ◌-◌, ◌<◌, ◌≤◌, ℤ, pos, neg_ℤ, ◌+ℤ◌, ◌-ℤ◌, ◌≤ℤ◌, ◌<ℤ◌, length, refl, sym, ap, ◌∙◌, subst, w64, FitsSigned, to_z, of_z, arith}
+use Rattle.std.proofs.Common.{rules, ◌≡◌, ℕ, suc, ◌-◌, pos, neg_ℤ, ◌≤ℤ◌, ◌<ℤ◌, length, refl, sym, ap, ◌∙◌, subst, w64, FitsSigned, to_z, of_z, arith}
 use Rattle.std.proofs.lemmas.Int.{ints, to_z-of_z}
 use Rattle.uc_model.specs.declared.units.Point.{Point}
 use Rattle.uc_model.specs.Envelope.{envelope}
 use Rattle.uc_model.specs.Limits.{IsPoint}
-use Rattle.cost_curve.specs.Edges.{point_at, IsVertex, IsWayOn}
+use Rattle.cost_curve.specs.Edges.{point_at, IsWayOn}
 use Rattle.cost_curve.proofs.BuildLaws.{last_power}
 use Rattle.cost_curve.proofs.CostLaws.{x_power, line_within, edge_value, edge_limit}
 use Rattle.cost_curve.proofs.EdgeLaws.{IsVertex-start, IsVertex-next}

@@ -1,4 +1,4 @@
-use Rattle.std.proofs.Common.{◌≡◌, ℕ, ◌-◌, ◌<◌, ◌≤◌, ℤ, ◌≤ℤ◌, length}
+use Rattle.std.proofs.Common.{◌-◌, ◌<◌, ℤ, ◌≤ℤ◌, length}
 use Rattle.cost_curve.specs.Edges.{point_at, IsVertex}
 use Rattle.cost_curve.proofs.costs.envelope_at.Given as goal
 
@@ -7,7 +7,7 @@ invariant-walk l = record {
   within : l.from < length l.points;
   price : ℤ;
   vertex : IsVertex l.points price (point_at l.points l.from);
-  reached : (point_at l.points l.from).at ≤ℤ l.x
+  reached : (point_at l.points l.from).at ≤ℤ l.x;
 }
 
 abbrev pub decreases-walk : goal.decreases-walk

@@ -1,4 +1,4 @@
-use Rattle.std.proofs.Common.{rules, ◌≡◌, ℕ, ◌+◌, ◌<◌, ◌≤◌, ℤ, pos, ◌+ℤ◌, ◌-ℤ◌, ◌*ℤ◌, ◌≤ℤ◌, ◌<ℤ◌, Some, List, [], ◌∷◌, length, get_or, drop, sym, ap, ◌∙◌, subst, w64, FitsSigned, to_z, of_z, arith}
+use Rattle.std.proofs.Common.{rules, ◌≡◌, ◌+◌, ℤ, pos, ◌+ℤ◌, ◌-ℤ◌, ◌*ℤ◌, ◌≤ℤ◌, ◌<ℤ◌, Some, ◌∷◌, get_or, drop, sym, ap, ◌∙◌, subst, w64, FitsSigned, to_z, of_z, arith}
 use Rattle.std.proofs.lemmas.Int.{ints, to_z-of_z}
 use Rattle.std.proofs.lemmas.List.{drop_more}
 use Rattle.uc_model.specs.declared.units.Block.{Block}
@@ -12,7 +12,7 @@ no_block = record { width = pos 0; price = pos 0 }
 
 pub overflow_sub-reached : goal.overflow_sub-reached
 overflow_sub-reached c =
-    let h = IsReached-start c.args.c.now c.args.x c.requires.curve c.requires.inside in
+    let h = IsReached-start c.args.c.now c.args.x c.requires.inside c.requires.curve in
     let low = h.least in
     let high = h.most in
     let first = c.requires.curve.first_place.at_least in
@@ -24,7 +24,7 @@ overflow_sub-reached c =
 
 pub loop-block-init : goal.loop-block-init
 loop-block-init c =
-    let h = IsReached-start c.args.c.now c.args.x c.requires.curve c.requires.inside in
+    let h = IsReached-start c.args.c.now c.args.x c.requires.inside c.requires.curve in
     let low = h.least in
     let high = h.most in
     let first = c.requires.curve.first_place.at_least in

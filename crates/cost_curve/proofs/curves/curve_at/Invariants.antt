@@ -1,4 +1,4 @@
-use Rattle.std.proofs.Common.{ℤ, drop}
+use Rattle.std.proofs.Common.{drop}
 use Rattle.uc_model.specs.Curves.{curve_value}
 use Rattle.cost_curve.proofs.ValueLaws.{IsReached}
 use Rattle.cost_curve.proofs.curves.curve_at.Given as goal

@@ -1,12 +1,10 @@
-use Rattle.std.proofs.Common.{◌≡◌, ℕ, ◌+◌, ◌*◌, ◌<◌, ◌≤◌, ℤ, pos, neg_ℤ, ◌+ℤ◌, ◌-ℤ◌, ◌≤ℤ◌, List, [], length, refl, sym, ap, ◌∙◌, subst, w64, FitsSigned, to_z, of_z, arith}
+use Rattle.std.proofs.Common.{pos, neg_ℤ, ◌-ℤ◌, List, [], length, refl, sym, ap, subst, w64, to_z, of_z, arith}
 use Rattle.std.proofs.lemmas.Int.{ints, to_z-of_z}
 use Rattle.uc_model.specs.declared.units.Block.{Block}
-use Rattle.uc_model.specs.declared.units.Point.{Point}
 use Rattle.uc_model.specs.Limits.{IsPoint}
 use Rattle.cost_curve.specs.Building.{extended, IsBuilt}
-use Rattle.cost_curve.specs.CostCurve.{AreCostPoints}
-use Rattle.cost_curve.specs.Edges.{point_at, IsVertex, IsWayOn}
-use Rattle.cost_curve.proofs.BuildLaws.{IsBuilt-start, IsBuilt-edge, IsCostCurve-built, length-extended}
+use Rattle.cost_curve.specs.Edges.{point_at, IsWayOn}
+use Rattle.cost_curve.proofs.BuildLaws.{IsBuilt-start, IsBuilt-edge, IsCostCurve-built, CanEvaluate-curve, length-extended}
 use Rattle.cost_curve.proofs.EdgeLaws.{ordered_powers, IsVertex-start, IsVertex-next}
 use Rattle.cost_curve.proofs.SlopeLaws.{fits64}
 use Rattle.cost_curve.proofs.curves.curve_into.Goals as goal
@@ -80,3 +78,10 @@ returns-clause-curve c =
     let known = c.walk.invariant in
     let last = subst (λ way. IsWayOn ps c.walk.from (length ps) way) c.in_default.is c.way_on.ensures in
     IsCostCurve-built ps c.requires.points c.walk.into c.walk.from known.price known.within last known.starts known.built known.few
+
+pub returns-clause-evaluates : goal.returns-clause-evaluates
+returns-clause-evaluates c =
+    let ps = c.args.points.now in
+    let known = c.walk.invariant in
+    let last = subst (λ way. IsWayOn ps c.walk.from (length ps) way) c.in_default.is c.way_on.ensures in
+    CanEvaluate-curve ps c.requires.points c.walk.into (IsCostCurve-built ps c.requires.points c.walk.into c.walk.from known.price known.within last known.starts known.built known.few)

@@ -1,4 +1,4 @@
-use Rattle.std.proofs.Common.{rules, ◌≡◌, ℤ, pos, negsuc, ◌+ℤ◌, ◌-ℤ◌, ◌≤ℤ◌, ◌<ℤ◌, List, ap, ◌∙◌, w64, FitsSigned, arith}
+use Rattle.std.proofs.Common.{pos, ◌-ℤ◌, List, ap, ◌∙◌, w64, FitsSigned, arith}
 use Rattle.std.proofs.lemmas.Int.{ints, to_z-of_z}
 use Rattle.uc_model.specs.declared.units.Block.{Block}
 use Rattle.cost_curve.specs.Building.{extended}
