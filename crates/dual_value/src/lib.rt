@@ -10,3 +10,6 @@ mod value;
 
 pub use totals::{add_response, take_bid};
 pub use value::dual_value;
+
+#[cfg(test)]
+mod tests;

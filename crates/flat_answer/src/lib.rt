@@ -1,13 +1,8 @@
-// A library with one function.
+//! The answers of renewable units and demand bids to prices.
 #![tactic(auto)]
 
-ghost use Rattle.std.specs.Prelude.{◌≡◌};
-ghost use Rattle.flat_answer.specs.Echo.{echo_of};
+mod bids;
+mod renewables;
 
-// The `ensures` clause is the contract: what `echo` returns is `echo_of` of its argument, a definition
-// in `specs/Echo.antt`, which a caller's clause can cite too.
-pub fn echo(x: usize) -> usize
-    ensures { result ≡ echo_of x }
-{
-    x
-}
+pub use bids::best_bid;
+pub use renewables::best_flat;
