@@ -1,10 +1,9 @@
 -- Where a unit's powers earn place by place, the least best power at each place makes the least best schedule.
-use Rattle.std.proofs.Common.{◌≡◌, ℕ, zero, suc, ◌+◌, ◌*◌, ◌≤◌, ◌<◌, Bool, true, false, IsTrue, ℤ, pos, neg_ℤ, ◌+ℤ◌, ◌-ℤ◌, ◌*ℤ◌, ◌≤ℤ◌, List, length, get_or, set, slice_index, slice_index_or, refl, ap, sym, subst, ◌∙◌, arith, add-one, below_more, below_none, get_or-set_same, get_or-set_other}
+use Rattle.std.proofs.Common.{◌≡◌, ℕ, zero, suc, ◌+◌, ◌*◌, ◌<◌, true, false, IsTrue, ℤ, pos, ◌+ℤ◌, ◌≤ℤ◌, List, length, set, slice_index, slice_index_or, refl, ap, sym, subst, ◌∙◌, arith, add-one, below_more, get_or-set_same, get_or-set_other}
 use Rattle.std.proofs.lemmas.Int.{ints}
 use Rattle.std.proofs.lemmas.List.{length-set, ext_get_or}
 use Rattle.uc_model.specs.Data.{AnyUnit, PriceLists, Schedule}
 use Rattle.uc_model.specs.Earnings.{earnings, IsBest}
-use Rattle.uc_model.specs.Limits.{IsFrom}
 use Rattle.uc_model.specs.Schedules.{IsFeasible, IsSchedule}
 use Rattle.uc_model.specs.Sums.{sum_below}
 use Rattle.uc_model.specs.Ties.{IsLeast}

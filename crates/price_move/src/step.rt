@@ -59,9 +59,9 @@ pub fn scale_of(norm: i128, age: usize) -> i128
     norm * i128::from(doublings(age))
 }
 
-// How far an entry moves its price, cut toward zero: the product is below 4 * 10^37, and a 128-bit number reaches
-// 1.7 * 10^38.
-fn move_along(step: Step, entry: i64) -> i128
+/// How far an entry moves its price, cut toward zero: the product is below 4 * 10^37, and a 128-bit number reaches
+/// 1.7 * 10^38.
+pub fn move_along(step: Step, entry: i64) -> i128
     requires gap { IsFrom (pos 0) (pos 2000000000000000000000000) step.gap }
     requires scale { IsFrom (pos 1) (pos 1000000000000000000000000000000000000) step.scale }
     requires entry { IsEntry entry }
@@ -71,8 +71,8 @@ fn move_along(step: Step, entry: i64) -> i128
     step.gap * i128::from(entry) / step.scale
 }
 
-// The price that is nearest to a number and within its limits.
-fn price_near(low: i64, number: i128) -> i64
+/// The price that is nearest to a number and within its limits.
+pub fn price_near(low: i64, number: i128) -> i64
     requires { IsFrom (neg_ℤ price_limit) price_limit low }
     ensures { result ≡ clamped low price_limit number }
 {

@@ -1,5 +1,4 @@
-use Rattle.std.proofs.Common.{◌≡◌, ◌<◌, ℕ, length, arith}
-use Rattle.std.proofs.lemmas.Int.{ints}
+use Rattle.std.proofs.Common.{length, arith}
 use Rattle.uc_model.specs.Data.{Bid}
 use Rattle.uc_model.specs.PlainUnits.{bid_of, prices_of, schedule_of}
 use Rattle.flat_answer.proofs.Forms.{bid_can, bid_earns, bid_by_place}

@@ -1,11 +1,9 @@
-use Rattle.std.proofs.Common.{rules, ◌≡◌, pos, ℤ, FitsSigned, List, [], map, slice_index_or, subst, sym, ◌∙◌, arith}
-use Rattle.std.proofs.lemmas.Int.{ints, to_z-of_z}
+use Rattle.std.proofs.Common.{rules, pos, ℤ, FitsSigned, List, [], subst, sym, ◌∙◌}
+use Rattle.std.proofs.lemmas.Int.{to_z-of_z}
 use Rattle.std.proofs.lemmas.Option.{get_or_from_slice_get}
 use Rattle.std.specs.Int.{w64}
 use Rattle.uc_model.specs.declared.units.Block.{Block}
 use Rattle.uc_model.specs.Limits.{IsBlockList}
-use Rattle.uc_model.specs.PlainUnits.{bid_of}
-use Rattle.uc_model.specs.Schedules.{blocks_at}
 use Rattle.uc_model.specs.Sums.{int_at}
 use Rattle.flat_answer.specs.Choices.{IsLeastChoice, IsWithinBlocks, bought_at}
 use Rattle.flat_answer.proofs.Forms.{blocks_read}

@@ -1,4 +1,4 @@
-use Rattle.std.proofs.Common.{rules, ◌*ℤ◌, arith}
+use Rattle.std.proofs.Common.{◌*ℤ◌, arith}
 use Rattle.std.proofs.lemmas.Int.{to_z-of_z}
 use Rattle.std.specs.Int.{w64}
 use Rattle.uc_model.proofs.SignedLaws.{product_within, fits_within}

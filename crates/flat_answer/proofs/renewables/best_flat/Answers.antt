@@ -1,4 +1,4 @@
-use Rattle.std.proofs.Common.{◌≡◌, ◌<◌, ℕ, length, arith}
+use Rattle.std.proofs.Common.{length, arith}
 use Rattle.std.proofs.lemmas.Int.{ints}
 use Rattle.uc_model.specs.Data.{Flat}
 use Rattle.uc_model.specs.PlainUnits.{renewable_of, prices_of, schedule_of}
