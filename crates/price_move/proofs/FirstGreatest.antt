@@ -1,5 +1,5 @@
 -- The first greatest of a list of numbers.
-use Rattle.std.proofs.Common.{◌≡◌, ℕ, zero, suc, ◌+◌, ◌<◌, ◌≤◌, Bool, true, false, ◌&&◌, cond, if◌then◌else◌, nat_lt, int_le, int_lt, ℤ, pos, ◌≤ℤ◌, ◌<ℤ◌, Some, None, List, [], ◌∷◌, map, length, get_or, refl, ap, sym, ◌∙◌, subst, arith, below_more}
+use Rattle.std.proofs.Common.{◌≡◌, ℕ, zero, suc, ◌+◌, ◌<◌, Bool, true, false, ◌&&◌, cond, if◌then◌else◌, nat_lt, int_le, int_lt, ℤ, pos, ◌≤ℤ◌, ◌<ℤ◌, Some, None, List, [], ◌∷◌, map, length, get_or, refl, ap, sym, ◌∙◌, subst, arith, below_more}
 use Rattle.std.proofs.lemmas.Int.{ints, by_lt_z}
 use Rattle.std.proofs.lemmas.List.{length-map}
 use Rattle.std.proofs.lemmas.List.Sums.{position_or_len_is}
@@ -67,13 +67,13 @@ pub first_more : (values : List ℤ) (i best next : ℕ) → IsFirstUpTo values 
 first_more values i best next h is =
     by_lt_z (int_at values best) (int_at values i)
     (λ l.
-      let test : int_lt (int_at values best) (int_at values i) ≡ true = lt_true (int_at values best) (int_at values i) l in
-      let e = is ∙ ap (λ (b : Bool). if b then i else best) test in
-      subst (λ (j : ℕ). IsFirstUpTo values (i + 1) j) (sym e) (takes_first values i best h l))
+    let test : int_lt (int_at values best) (int_at values i) ≡ true = lt_true (int_at values best) (int_at values i) l in
+    let e = is ∙ ap (λ (b : Bool). if b then i else best) test in
+    subst (λ (j : ℕ). IsFirstUpTo values (i + 1) j) (sym e) (takes_first values i best h l))
     (λ l.
-      let test : int_lt (int_at values best) (int_at values i) ≡ false = lt_false (int_at values best) (int_at values i) l in
-      let e = is ∙ ap (λ (b : Bool). if b then i else best) test in
-      subst (λ (j : ℕ). IsFirstUpTo values (i + 1) j) (sym e) (keeps_first values i best h l))
+    let test : int_lt (int_at values best) (int_at values i) ≡ false = lt_false (int_at values best) (int_at values i) l in
+    let e = is ∙ ap (λ (b : Bool). if b then i else best) test in
+    subst (λ (j : ℕ). IsFirstUpTo values (i + 1) j) (sym e) (keeps_first values i best h l))
 
 all_true : (p : ℤ → Bool) (xs : List ℤ) → ((k : ℕ) → k < length xs → p (get_or xs k (pos 0)) ≡ true) → list_all p xs ≡ true
 all_true p [] h = refl

@@ -1,5 +1,5 @@
 -- The price rule, side by side for energy and reserve (this project's profile).
-use Rattle.std.specs.Prelude.{ℕ, suc, ◌-◌, ℤ, pos, neg_ℤ, ◌+ℤ◌, ◌*ℤ◌, Bool, false, int_div, List, length, map, slice_get}
+use Rattle.std.specs.Prelude.{ℕ, ◌-◌, ℤ, pos, neg_ℤ, ◌+ℤ◌, ◌*ℤ◌, Bool, false, int_div, List, length, map, slice_get}
 use Rattle.std.specs.Option.{option_map_or}
 use Rattle.price_move.specs.declared.entries.Side.{Side}
 use Rattle.price_move.specs.declared.entries.Side.TheVariants.{Energy, Reserve}

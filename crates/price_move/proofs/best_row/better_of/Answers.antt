@@ -18,7 +18,7 @@ returns-then-rows-best c =
     let i : FitsSigned w128 (get_or c.args.rows.now c.args.later c.index-rows-later.result).value = subst (λ (r : Row). FitsSigned w128 r.value) c.index-rows-later.is g in
     let test = simp to_z-of_z at c.if-rows-best.true in
     sym (picks (values_of (map proposal_of rows)) c.args.best c.args.later (get_or rows c.args.best a).value (get_or rows c.args.later b).value true
-      (value_at rows c.args.best a c.requires.best) (value_at rows c.args.later b c.requires.later) test)
+    (value_at rows c.args.best a c.requires.best) (value_at rows c.args.later b c.requires.later) test)
 
 pub returns : goal.returns
 returns c =
@@ -31,4 +31,4 @@ returns c =
     let i : FitsSigned w128 (get_or c.args.rows.now c.args.later c.index-rows-later.result).value = subst (λ (r : Row). FitsSigned w128 r.value) c.index-rows-later.is g in
     let test = simp to_z-of_z at c.if-rows-best.false in
     sym (picks (values_of (map proposal_of rows)) c.args.best c.args.later (get_or rows c.args.best a).value (get_or rows c.args.later b).value false
-      (value_at rows c.args.best a c.requires.best) (value_at rows c.args.later b c.requires.later) test)
+    (value_at rows c.args.best a c.requires.best) (value_at rows c.args.later b c.requires.later) test)

@@ -1,7 +1,7 @@
-use Rattle.std.proofs.Common.{map, length, arith}
+use Rattle.std.proofs.Common.{map, arith}
 use Rattle.uc_model.specs.PlainCases.{proposal_of}
 use Rattle.price_move.specs.Moves.{values_of}
-use Rattle.price_move.proofs.FirstGreatest.{first_one, first_more, first_is, length_values}
+use Rattle.price_move.proofs.FirstGreatest.{first_more, first_is, length_values}
 use Rattle.price_move.proofs.best_row.greatest.Goals as goal
 
 pub loop-i-preserved : goal.loop-i-preserved

@@ -1,9 +1,9 @@
-use Rattle.std.proofs.Common.{rules, ◌≡◌, ◌≤◌, ◌*◌, ◌/◌, ◌^◌, min, ℕ, ℤ, pos, ◌-ℤ◌, ◌*ℤ◌, FitsSigned, map, length, ap, ◌∙◌, arith}
+use Rattle.std.proofs.Common.{rules, ◌/◌, ◌^◌, min, ℕ, ℤ, pos, ◌*ℤ◌, FitsSigned, map, ap, ◌∙◌, arith}
 use Rattle.std.proofs.lemmas.Int.{to_z-of_z}
 use Rattle.std.proofs.lemmas.List.{length-map}
 use Rattle.std.specs.Int.{w128}
 use Rattle.uc_model.specs.PlainCases.{market_of, proposal_of}
-use Rattle.uc_model.specs.PriceRule.{squared_length, age}
+use Rattle.uc_model.specs.PriceRule.{squared_length}
 use Rattle.price_move.proofs.Steps.{stepped_is, last_below}
 use Rattle.price_move.proofs.next.next_prices.Goals as goal
 
@@ -28,6 +28,6 @@ returns-clause-made c = λ _.
     let f = simp to_z-of_z at c.take_step-2.ensures.prices in
     stepped_is m rows r c.args.cost c.gap_of-gap.result c.scale_of-scale.result c.take_step.new.into.items c.take_step-2.new.into.items c.last-row.ensures gap_is
     (scale_is
-      ∙ ap (λ (z : ℤ). z *ℤ pos (2 ^ min 20 (c.age_of.result / 10))) c.norm_of-norm.ensures.value
-      ∙ ap (λ (n : ℕ). squared_length m r *ℤ pos (2 ^ min 20 (n / 10))) c.age_of.ensures)
+    ∙ ap (λ (z : ℤ). z *ℤ pos (2 ^ min 20 (c.age_of.result / 10))) c.norm_of-norm.ensures.value
+    ∙ ap (λ (n : ℕ). squared_length m r *ℤ pos (2 ^ min 20 (n / 10))) c.age_of.ensures)
     e f

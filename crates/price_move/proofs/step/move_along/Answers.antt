@@ -1,4 +1,4 @@
-use Rattle.std.proofs.Common.{rules, ◌≡◌, ◌*◌, pos, neg_ℤ, ℤ, ◌*ℤ◌, ◌<ℤ◌, int_div, FitsSigned, ap, sym, ◌∙◌, subst, arith}
+use Rattle.std.proofs.Common.{rules, ◌≡◌, ◌*◌, pos, neg_ℤ, ℤ, ◌*ℤ◌, ◌<ℤ◌, int_div, FitsSigned, ap, sym, subst, arith}
 use Rattle.std.proofs.lemmas.Int.{ints, to_z-of_z, quot_fits}
 use Rattle.std.proofs.Math.IntN.{*ℤ_comm}
 use Rattle.std.specs.Int.{w128}
@@ -38,5 +38,5 @@ returns-clause-bound c =
     let positive : pos 0 <ℤ c.args.step.scale = omega (arith, ints, low) in
     let whole = quot_fits w128 (c.args.step.gap *ℤ c.from.result) c.args.step.scale fits positive in
     let bound : IsFrom (neg_ℤ (pos 40000000000000000000000000000000000000)) (pos 40000000000000000000000000000000000000) (int_div (c.args.step.gap *ℤ c.from.result) c.args.step.scale) =
-      quotient_within 40000000000000000000000000000000000000 (c.args.step.gap *ℤ c.from.result) c.args.step.scale product positive in
+    quotient_within 40000000000000000000000000000000000000 (c.args.step.gap *ℤ c.from.result) c.args.step.scale product positive in
     simp to_z-of_z bound

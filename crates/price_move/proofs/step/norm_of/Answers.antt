@@ -1,4 +1,4 @@
-use Rattle.std.proofs.Common.{rules, ◌≡◌, ℕ, ◌+◌, ◌*◌, ℤ, pos, ◌+ℤ◌, ◌*ℤ◌, FitsSigned, ap, sym, ◌∙◌, add-one, arith}
+use Rattle.std.proofs.Common.{rules, ◌≡◌, ℕ, ◌+◌, ◌*◌, ℤ, pos, ◌+ℤ◌, ◌*ℤ◌, FitsSigned, ap, ◌∙◌, add-one, arith}
 use Rattle.std.proofs.lemmas.Int.{ints, to_z-of_z}
 use Rattle.std.specs.Int.{w64, w128, cast_signed}
 use Rattle.uc_model.specs.Limits.{IsFrom}
@@ -26,13 +26,13 @@ loop-place-preserved c =
     let g = c.square-total.ensures.bound.at_least in
     let h = c.square-total.ensures.bound.at_most in
     let bound : IsFrom (pos 0) (pos ((k + 1) * 400000000000000000000000000)) (cast_signed w128 c.loop-place.total-bits +ℤ c.square-total.result) =
-      record { at_least = omega (arith, ints, a, g); at_most = omega (arith, ints, b, h) } in
+    record { at_least = omega (arith, ints, a, g); at_most = omega (arith, ints, b, h) } in
     let few = c.args.case.now.valid.horizon.at_most in
     let turn = c.loop-place-test.true in
     let top = bound.at_most in
     let base = bound.at_least in
     let within : IsWithin 134400000000000000000000000000 (cast_signed w128 c.loop-place.total-bits +ℤ c.square-total.result) =
-      record { at_least = omega (arith, ints, base); at_most = omega (arith, ints, top, few, turn) } in
+    record { at_least = omega (arith, ints, base); at_most = omega (arith, ints, top, few, turn) } in
     let fits = fits_within w128 134400000000000000000000000000 (cast_signed w128 c.loop-place.total-bits +ℤ c.square-total.result) within (omega arith) in
     let sum : cast_signed w128 c.loop-place.total-bits +ℤ c.square-total.result ≡ sum_below (k + 1) f = omega (arith, ints, more, so_far, term) in
     record { so_far = simp to_z-of_z sum; bound = simp to_z-of_z bound }

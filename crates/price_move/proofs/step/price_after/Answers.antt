@@ -1,4 +1,4 @@
-use Rattle.std.proofs.Common.{rules, ◌≡◌, ℤ, pos, neg_ℤ, ◌+ℤ◌, ◌*ℤ◌, int_div, FitsSigned, ap, sym, ◌∙◌, arith}
+use Rattle.std.proofs.Common.{rules, ◌≡◌, ℤ, ◌+ℤ◌, ◌*ℤ◌, int_div, FitsSigned, ap, ◌∙◌, arith}
 use Rattle.std.proofs.lemmas.Int.{ints, to_z-of_z}
 use Rattle.std.specs.Int.{w64, w128}
 use Rattle.uc_model.specs.Limits.{price_limit}
@@ -27,12 +27,12 @@ returns c =
     let most = c.move_along-by.ensures.bound.at_most in
     let by_is : c.move_along-by.result ≡ int_div (c.args.step.gap *ℤ c.entry_on.result) c.args.step.scale = simp to_z-of_z at c.move_along-by.ensures.value in
     let within : IsWithin 40000000000000000000000000000010000000 (c.from.result +ℤ c.move_along-by.result) =
-      record { at_least = omega (arith, ints, from_is, low, least); at_most = omega (arith, ints, from_is, high, most) } in
+    record { at_least = omega (arith, ints, from_is, low, least); at_most = omega (arith, ints, from_is, high, most) } in
     let fits = fits_within w128 40000000000000000000000000000010000000 (c.from.result +ℤ c.move_along-by.result) within (omega arith) in
     let near : c.price_near.result ≡ clamped c.low_limit.result price_limit (c.from.result +ℤ c.move_along-by.result) = simp to_z-of_z at c.price_near.ensures in
     let entry = ap (λ (z : ℤ). int_div (c.args.step.gap *ℤ z) c.args.step.scale) c.entry_on.ensures.value in
     let sum : c.from.result +ℤ c.move_along-by.result ≡ int_at (prices_on c.args.side r) c.args.k +ℤ int_div (c.args.step.gap *ℤ direction_on m r c.args.side c.args.k) c.args.step.scale =
-      ap (λ (z : ℤ). z +ℤ c.move_along-by.result) (from_is ∙ price) ∙ ap (λ (z : ℤ). int_at (prices_on c.args.side r) c.args.k +ℤ z) (by_is ∙ entry) in
+    ap (λ (z : ℤ). z +ℤ c.move_along-by.result) (from_is ∙ price) ∙ ap (λ (z : ℤ). int_at (prices_on c.args.side r) c.args.k +ℤ z) (by_is ∙ entry) in
     simp to_z-of_z (near
     ∙ ap (λ (l : ℤ). clamped l price_limit (c.from.result +ℤ c.move_along-by.result)) c.low_limit.ensures.value
     ∙ ap (λ (z : ℤ). clamped (low_of c.args.side) price_limit z) sum)

@@ -1,4 +1,4 @@
-use Rattle.std.proofs.Common.{rules, ◌≡◌, ◌*◌, pos, ◌*ℤ◌, FitsSigned, ap, arith}
+use Rattle.std.proofs.Common.{rules, ◌≡◌, ◌*◌, pos, ◌*ℤ◌, FitsSigned, arith}
 use Rattle.std.proofs.lemmas.Int.{ints, to_z-of_z}
 use Rattle.std.specs.Int.{w128}
 use Rattle.uc_model.specs.Limits.{IsFrom}
@@ -22,5 +22,5 @@ returns-clause-bound c =
     let most = within.at_most in
     let rise = mul-mono_of c.args.norm (pos 1) c.from.result (omega (arith, ints, low)) (omega (arith, ints, is, few)) in
     let bound : IsFrom (pos 1) (pos 1000000000000000000000000000000000000) (c.args.norm *ℤ c.from.result) =
-      record { at_least = omega (arith, ints, rise, low); at_most = omega (arith, ints, most) } in
+    record { at_least = omega (arith, ints, rise, low); at_most = omega (arith, ints, most) } in
     simp to_z-of_z bound

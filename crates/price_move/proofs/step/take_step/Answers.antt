@@ -1,11 +1,8 @@
-use Rattle.std.proofs.Common.{rules, ◌≡◌, ℕ, ◌+◌, ◌<◌, ℤ, pos, length, get_or, set, FitsSigned, ap, sym, subst, ◌∙◌, arith, below_more, get_or-set_same, get_or-set_other}
-use Rattle.std.proofs.lemmas.Int.{ints, to_z-of_z}
-use Rattle.std.proofs.lemmas.List.{length-set, get_or_default}
+use Rattle.std.proofs.Common.{ℤ, pos, sym, subst, ◌∙◌, arith}
+use Rattle.std.proofs.lemmas.List.{get_or_default}
 use Rattle.std.proofs.lemmas.List.FromFn.{fill_by_all}
-use Rattle.std.specs.Int.{w64}
 use Rattle.uc_model.specs.Limits.{IsFrom, price_limit}
 use Rattle.uc_model.specs.PlainCases.{market_of, proposal_of}
-use Rattle.uc_model.specs.Sums.{int_at}
 use Rattle.price_move.specs.Moves.{low_of, price_after}
 use Rattle.price_move.proofs.Steps.{price_limits}
 use Rattle.price_move.proofs.step.take_step.Goals as goal
