@@ -7,8 +7,10 @@
 
 mod full_load;
 mod opening;
+mod start;
 
 pub use opening::opening_prices;
+pub use start::start_prices;
 
 #[cfg(test)]
 mod tests;
