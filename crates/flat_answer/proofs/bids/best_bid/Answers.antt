@@ -1,0 +1,25 @@
+use Rattle.std.proofs.Common.{length, arith}
+use Rattle.uc_model.specs.Data.{Bid}
+use Rattle.uc_model.specs.PlainUnits.{bid_of, prices_of, schedule_of}
+use Rattle.flat_answer.proofs.Forms.{bid_can, bid_earns, bid_by_place}
+use Rattle.flat_answer.proofs.Places.{answered_next, answered_all}
+use Rattle.flat_answer.proofs.bids.best_bid.Goals as goal
+
+pub loop-k-preserved : goal.loop-k-preserved
+loop-k-preserved c =
+    answered_next (length c.args.prices.now.energy.items) (bid_can (bid_of c.args.bid.now)) (bid_earns (bid_of c.args.bid.now) (prices_of c.args.prices.now)) c.loop-k.k
+    (schedule_of c.loop-k.into.response) c.loop-k.into.earned c.choice_in-choice.result.power c.choice_in-choice.result.earned
+    (schedule_of c.keep.new.into.response) c.keep.new.into.earned
+    c.loop-k.invariant (omega arith) c.choice_in-choice.ensures c.keep.ensures.schedule c.keep.ensures.earned
+
+pub returns-clause-least : goal.returns-clause-least
+returns-clause-least c =
+    (answered_all (Bid (bid_of c.args.bid.now)) (prices_of c.args.prices.now) (bid_can (bid_of c.args.bid.now)) (bid_earns (bid_of c.args.bid.now) (prices_of c.args.prices.now)) c.loop-k.k
+    (schedule_of c.loop-k.into.response) c.loop-k.into.earned (bid_by_place (bid_of c.args.bid.now) (prices_of c.args.prices.now))
+    (omega arith) c.loop-k.invariant).least
+
+pub returns-clause-earned : goal.returns-clause-earned
+returns-clause-earned c =
+    (answered_all (Bid (bid_of c.args.bid.now)) (prices_of c.args.prices.now) (bid_can (bid_of c.args.bid.now)) (bid_earns (bid_of c.args.bid.now) (prices_of c.args.prices.now)) c.loop-k.k
+    (schedule_of c.loop-k.into.response) c.loop-k.into.earned (bid_by_place (bid_of c.args.bid.now) (prices_of c.args.prices.now))
+    (omega arith) c.loop-k.invariant).earned_is

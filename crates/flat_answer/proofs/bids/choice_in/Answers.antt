@@ -1,0 +1,27 @@
+use Rattle.std.proofs.Common.{rules, pos, ℤ, FitsSigned, List, [], subst, sym, ◌∙◌}
+use Rattle.std.proofs.lemmas.Int.{to_z-of_z}
+use Rattle.std.proofs.lemmas.Option.{get_or_from_slice_get}
+use Rattle.std.specs.Int.{w64}
+use Rattle.uc_model.specs.declared.units.Block.{Block}
+use Rattle.uc_model.specs.Limits.{IsBlockList}
+use Rattle.uc_model.specs.Sums.{int_at}
+use Rattle.flat_answer.specs.Choices.{IsLeastChoice, IsWithinBlocks, bought_at}
+use Rattle.flat_answer.proofs.Forms.{blocks_read}
+use Rattle.flat_answer.proofs.bids.choice_in.Goals as goal
+
+pub choice_of-requires-clause-blocks : goal.choice_of-requires-clause-blocks
+choice_of-requires-clause-blocks c =
+    let e = blocks_read c.args.bid.now.blocks.items c.args.place c.get.result.now c.get.ensures.item in
+    let f = c.as_slice-blocks.ensures in
+    subst IsBlockList (e ∙ sym f) (c.args.bid.now.valid.blocks c.args.place [] c.requires.place)
+
+pub returns : goal.returns
+returns c =
+    let e = blocks_read c.args.bid.now.blocks.items c.args.place c.get.result.now c.get.ensures.item in
+    let f = c.as_slice-blocks.ensures in
+    let a : FitsSigned w64 c.get-2.result.now = search rules in
+    let p = get_or_from_slice_get c.args.prices.now.energy.items c.args.place c.get-2.result.now (pos 0) c.get-2.ensures.item in
+    let r = simp to_z-of_z at c.choice_of.ensures in
+    let own : IsLeastChoice (IsWithinBlocks c.as_slice-blocks.result.now) (bought_at c.as_slice-blocks.result.now (int_at c.args.prices.now.energy.items c.args.place)) c.choice_of.result.power c.choice_of.result.earned =
+    subst (λ (z : ℤ). IsLeastChoice (IsWithinBlocks c.as_slice-blocks.result.now) (bought_at c.as_slice-blocks.result.now z) c.choice_of.result.power c.choice_of.result.earned) (sym p) r in
+    subst (λ (bs : List Block). IsLeastChoice (IsWithinBlocks bs) (bought_at bs (int_at c.args.prices.now.energy.items c.args.place)) c.choice_of.result.power c.choice_of.result.earned) (f ∙ sym e) own

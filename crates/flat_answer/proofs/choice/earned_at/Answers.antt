@@ -1,0 +1,12 @@
+use Rattle.std.proofs.Common.{◌*ℤ◌, arith}
+use Rattle.std.proofs.lemmas.Int.{to_z-of_z}
+use Rattle.std.specs.Int.{w64}
+use Rattle.uc_model.proofs.SignedLaws.{product_within, fits_within}
+use Rattle.flat_answer.proofs.choice.earned_at.Goals as goal
+
+pub overflow_mul-result : goal.overflow_mul-result
+overflow_mul-result c =
+    let a = c.ranges.gain in
+    let b = c.ranges.power in
+    let within = product_within 20000000 1000000000 c.args.gain c.args.power c.requires.gain c.requires.power in
+    simp to_z-of_z (fits_within w64 20000000000000000 (c.args.gain *ℤ c.args.power) within (omega arith))

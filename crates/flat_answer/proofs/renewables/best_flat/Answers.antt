@@ -1,0 +1,35 @@
+use Rattle.std.proofs.Common.{length, arith}
+use Rattle.std.proofs.lemmas.Int.{ints}
+use Rattle.uc_model.specs.Data.{Flat}
+use Rattle.uc_model.specs.PlainUnits.{renewable_of, prices_of, schedule_of}
+use Rattle.flat_answer.proofs.Forms.{flat_can, flat_earns, flat_by_place}
+use Rattle.flat_answer.proofs.Places.{answered_next, answered_all}
+use Rattle.flat_answer.proofs.renewables.best_flat.Goals as goal
+
+pub keep-requires-clause-so_far : goal.keep-requires-clause-so_far
+keep-requires-clause-so_far c =
+    let few = c.args.prices.now.valid.horizon.at_most in
+    let turn = c.loop-k-test.true in
+    let end = c.len-k-end.ensures in
+    let low = c.loop-k.invariant.bound.at_least in
+    let high = c.loop-k.invariant.bound.at_most in
+    record { at_least = omega (arith, ints, low, few, turn, end); at_most = omega (arith, ints, high, few, turn, end) }
+
+pub loop-k-preserved : goal.loop-k-preserved
+loop-k-preserved c =
+    answered_next (length c.args.prices.now.energy.items) (flat_can (renewable_of c.args.flat.now)) (flat_earns (prices_of c.args.prices.now)) c.loop-k.k
+    (schedule_of c.loop-k.into.response) c.loop-k.into.earned c.choice_in-choice.result.power c.choice_in-choice.result.earned
+    (schedule_of c.keep.new.into.response) c.keep.new.into.earned
+    c.loop-k.invariant (omega arith) c.choice_in-choice.ensures c.keep.ensures.schedule c.keep.ensures.earned
+
+pub returns-clause-least : goal.returns-clause-least
+returns-clause-least c =
+    (answered_all (Flat (renewable_of c.args.flat.now)) (prices_of c.args.prices.now) (flat_can (renewable_of c.args.flat.now)) (flat_earns (prices_of c.args.prices.now)) c.loop-k.k
+    (schedule_of c.loop-k.into.response) c.loop-k.into.earned (flat_by_place (renewable_of c.args.flat.now) (prices_of c.args.prices.now))
+    (omega arith) c.loop-k.invariant).least
+
+pub returns-clause-earned : goal.returns-clause-earned
+returns-clause-earned c =
+    (answered_all (Flat (renewable_of c.args.flat.now)) (prices_of c.args.prices.now) (flat_can (renewable_of c.args.flat.now)) (flat_earns (prices_of c.args.prices.now)) c.loop-k.k
+    (schedule_of c.loop-k.into.response) c.loop-k.into.earned (flat_by_place (renewable_of c.args.flat.now) (prices_of c.args.prices.now))
+    (omega arith) c.loop-k.invariant).earned_is

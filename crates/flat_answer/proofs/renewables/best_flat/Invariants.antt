@@ -1,0 +1,8 @@
+use Rattle.std.proofs.Common.{length}
+use Rattle.uc_model.specs.PlainUnits.{renewable_of, prices_of, schedule_of}
+use Rattle.flat_answer.proofs.Forms.{flat_can, flat_earns}
+use Rattle.flat_answer.proofs.Places.{IsAnswered}
+use Rattle.flat_answer.proofs.renewables.best_flat.Given as goal
+
+abbrev pub invariant-loop-k : goal.invariant-loop-k
+invariant-loop-k l = IsAnswered (length l.prices.energy.items) (flat_can (renewable_of l.flat)) (flat_earns (prices_of l.prices)) l.k (schedule_of l.into.response) l.into.earned

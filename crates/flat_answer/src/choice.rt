@@ -1,0 +1,52 @@
+//! A power of one period, and how it is kept.
+ghost use Rattle.std.specs.Prelude.{◌≡◌, ◌<◌, pos, neg_ℤ, ◌+ℤ◌, ◌*ℤ◌, length};
+ghost use Rattle.uc_model.specs.Limits.{IsFrom, IsPower, price_limit};
+ghost use Rattle.uc_model.specs.PlainUnits.{schedule_of};
+ghost use Rattle.flat_answer.specs.Choices.{with_power};
+
+use uc_model::units::Answered;
+
+/// A power in kilowatts, and what it earns in its period.
+#[derive(Clone, Copy)]
+pub struct Choice {
+    pub power: u32,
+    pub earned: i64,
+}
+
+/// What so many kilowatts earn at so much for each: within 2 * 10^16 in magnitude.
+pub fn earned_at(gain: i64, power: i64) -> i64
+    requires gain { IsFrom (neg_ℤ (pos 20000000)) (pos 20000000) gain }
+    requires power { IsPower power }
+    ensures value { result ≡ gain *ℤ power }
+    ensures bound { IsFrom (neg_ℤ (pos 20000000000000000)) (pos 20000000000000000) result }
+{
+    gain * power
+}
+
+/// A power at a price for each kilowatt.
+pub fn choice_at(price: i64, power: i64) -> Choice
+    requires price { IsFrom (neg_ℤ price_limit) price_limit price }
+    requires power { IsPower power }
+    ensures power { pos result.power ≡ power }
+    ensures earned { result.earned ≡ price *ℤ power }
+    ensures bound { IsFrom (neg_ℤ (pos 20000000000000000)) (pos 20000000000000000) result.earned }
+{
+    Choice {
+        power: power as u32,
+        earned: earned_at(price, power),
+    }
+}
+
+/// Keeps the choice of a period: on with that power, no reserve, and what it earns added to what is earned so far.
+pub fn keep(into: &mut Answered, place: usize, choice: Choice)
+    requires place { place < length (schedule_of into.old.response).on }
+    requires so_far { IsFrom (neg_ℤ (pos 4000000000000000000)) (pos 4000000000000000000) into.old.earned }
+    requires choice { IsFrom (neg_ℤ (pos 20000000000000000)) (pos 20000000000000000) choice.earned }
+    ensures schedule { schedule_of into.new.response ≡ with_power (schedule_of into.old.response) place choice.power }
+    ensures earned { into.new.earned ≡ into.old.earned +ℤ choice.earned }
+{
+    into.response.on.set(place, true);
+    into.response.power.set(place, choice.power);
+    into.response.reserve.set(place, 0);
+    into.earned += choice.earned;
+}

@@ -1,0 +1,119 @@
+ghost use Rattle.std.specs.Prelude.{◌≡◌, ◌≤ℤ◌, pos, neg_ℤ, length, IfOk};
+ghost use Rattle.uc_model.specs.Limits.{IsFrom, IsPower, IsBlock, price_limit};
+ghost use Rattle.uc_model.specs.PlainUnits.{renewable_of, bid_of, prices_of, schedule_of};
+
+use crate::{best_bid, best_flat};
+use std::alloc::{AllocError, Global};
+use std::test::Fail;
+use uc_model::lists::Numbers;
+use uc_model::units::{Answered, Bid, Block, BlockLists, Blocks, Prices, Renewable};
+
+fn one_price(alloc: Global, energy: i64) -> Result<Prices, AllocError>
+    requires { IsFrom (neg_ℤ price_limit) price_limit energy }
+    ensures { IfOk result (λ p. length (prices_of p).energy ≡ 1) }
+{
+    let energy = Numbers::filled(alloc, 1, energy)?;
+    let reserve = Numbers::filled(alloc, 1, 0)?;
+    Ok(Prices { energy, reserve })
+}
+
+fn one_range(alloc: Global, least: i64, most: i64) -> Result<Renewable, AllocError>
+    requires least { IsPower least }
+    requires most { IsPower most }
+    requires range { least ≤ℤ most }
+    ensures { IfOk result (λ r. length (renewable_of r).least ≡ 1) }
+{
+    let least = Numbers::filled(alloc, 1, least)?;
+    let most = Numbers::filled(alloc, 1, most)?;
+    Ok(Renewable { least, most })
+}
+
+fn one_block(alloc: Global, block: Block) -> Result<Bid, AllocError>
+    requires { IsBlock block }
+    ensures { IfOk result (λ b. length (bid_of b).blocks ≡ 1) }
+{
+    let mut list = Blocks::make(alloc, 1)?;
+    list.push(block);
+    let mut blocks = BlockLists::make(alloc, 1)?;
+    blocks.push(list);
+    Ok(Bid { blocks })
+}
+
+fn answered(alloc: Global) -> Result<Answered, AllocError>
+    ensures { IfOk result (λ a. length (schedule_of a.response).on ≡ 1) }
+{
+    Answered::make(alloc, 1)
+}
+
+fn sold(alloc: Global, flat: &Renewable, price: i64) -> Result<Answered, AllocError>
+    requires price { IsFrom (neg_ℤ price_limit) price_limit price }
+    requires horizon { length (renewable_of flat.now).least ≡ 1 }
+{
+    let prices = one_price(alloc, price)?;
+    let mut into = answered(alloc)?;
+    best_flat(flat, &prices, &mut into);
+    Ok(into)
+}
+
+fn bought(alloc: Global, bid: &Bid, price: i64) -> Result<Answered, AllocError>
+    requires price { IsFrom (neg_ℤ price_limit) price_limit price }
+    requires horizon { length (bid_of bid.now).blocks ≡ 1 }
+{
+    let prices = one_price(alloc, price)?;
+    let mut into = answered(alloc)?;
+    best_bid(bid, &prices, &mut into);
+    Ok(into)
+}
+
+#[test]
+fn renewable_sells_where_it_is_paid(rt: HostRuntime) -> Result<(), Fail> {
+    let flat = one_range(rt.alloc(), 0, 3_000)?;
+    let answer = sold(rt.alloc(), &flat, 119_660)?;
+    assert_eq!(rt; answer.response.on.as_slice(), [true].as_slice());
+    assert_eq!(rt; answer.response.power.as_slice(), [3_000].as_slice());
+    assert_eq!(rt; answer.response.reserve.as_slice(), [0].as_slice());
+    assert_eq!(rt; answer.earned, 358_980_000);
+    Ok(())
+}
+
+#[test]
+fn renewable_sells_its_least_otherwise(rt: HostRuntime) -> Result<(), Fail> {
+    let flat = one_range(rt.alloc(), 10, 20)?;
+    for (price, earned) in [(0, 0), (-5, -50)] {
+        assert!(rt; price <= 0 && -5 <= price);
+        let answer = sold(rt.alloc(), &flat, price)?;
+        assert_eq!(rt;
+            answer.response.power.as_slice(),
+            [10].as_slice(),
+            "at {price}"
+        );
+        assert_eq!(rt; answer.earned, earned, "at {price}");
+    }
+    Ok(())
+}
+
+#[test]
+fn bid_buys_below_its_price(rt: HostRuntime) -> Result<(), Fail> {
+    let block = Block {
+        width: 50,
+        price: 40,
+    };
+    let bid = one_block(rt.alloc(), block)?;
+    let answer = bought(rt.alloc(), &bid, 30)?;
+    assert_eq!(rt; answer.response.power.as_slice(), [50].as_slice());
+    assert_eq!(rt; answer.earned, 500);
+    Ok(())
+}
+
+#[test]
+fn bid_in_a_tie_buys_nothing(rt: HostRuntime) -> Result<(), Fail> {
+    let block = Block {
+        width: 50,
+        price: 30,
+    };
+    let bid = one_block(rt.alloc(), block)?;
+    let answer = bought(rt.alloc(), &bid, 30)?;
+    assert_eq!(rt; answer.response.power.as_slice(), [0].as_slice());
+    assert_eq!(rt; answer.earned, 0);
+    Ok(())
+}

@@ -1,0 +1,3 @@
+pub mod FirstGreatest
+pub mod Squares
+pub mod Steps

@@ -1,0 +1,4 @@
+pub mod CaseLaws
+pub mod OpeningLaws
+pub mod RuleLaws
+pub mod StartLaws

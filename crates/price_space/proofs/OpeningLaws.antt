@@ -1,0 +1,42 @@
+-- Lists of opening prices.
+use Rattle.std.proofs.Common.{◌≡◌, ℕ, suc, ◌+◌, ◌<◌, ◌≤◌, ℤ, pos, negsuc, neg_ℤ, ◌≤ℤ◌, ◌*ℤ◌, unsigned_abs, FitsSigned, List, [], ◌∷◌, map, replicate, length, refl, ap, sym, ◌∙◌, arith}
+use Rattle.std.proofs.lemmas.Int.{ints, clamps}
+use Rattle.std.proofs.lemmas.List.{ext_get_or, length-replicate, get_or-replicate}
+use Rattle.std.specs.Int.{w64}
+use Rattle.uc_model.specs.Data.{PriceLists}
+use Rattle.uc_model.specs.Limits.{IsFrom, price_limit}
+use Rattle.uc_model.specs.PriceRule.{opening_prices_of}
+use Rattle.uc_model.specs.Sums.{int_at, floor_div, clamped}
+use Rattle.price_space.specs.Opening.{opened}
+
+clamped_limits : (low high x : ℤ) → low ≤ℤ high → IsFrom low high (clamped low high x)
+clamped_limits low high x h = record { at_least = omega (arith, ints, clamps); at_most = omega (arith, ints, clamps) }
+
+pub opened_limits : (n : ℕ) (s : ℤ) → IsFrom (neg_ℤ price_limit) price_limit (opened n s)
+unfolding opened
+opened_limits n s = clamped_limits (neg_ℤ price_limit) price_limit (floor_div (s *ℤ pos (7 + n)) 8) (omega (arith, ints))
+
+pub map_by_places : (f : ℤ → ℤ) (xs ys : List ℤ) → length xs ≡ length ys → ((k : ℕ) → k < length xs → int_at xs k ≡ f (int_at ys k)) → xs ≡ map f ys
+map_by_places f [] [] e h = refl
+map_by_places f [] (y ∷ ys) e h = absurd (omega (arith, e))
+map_by_places f (x ∷ xs) [] e h = absurd (omega (arith, e))
+map_by_places f (x ∷ xs) (y ∷ ys) e h =
+    ap (λ (z : ℤ). z ∷ xs) (h 0 (omega arith))
+    ∙ ap (λ (zs : List ℤ). f y ∷ zs) (map_by_places f xs ys (omega (arith, e)) (λ k i. h (suc k) (omega (arith, i))))
+
+pub zeros_by_places : (n : ℕ) (xs : List ℤ) → length xs ≡ n → ((k : ℕ) → k < length xs → int_at xs k ≡ pos 0) → xs ≡ replicate n (pos 0)
+zeros_by_places n xs e h =
+    ext_get_or (pos 0) xs (replicate n (pos 0)) (e ∙ sym (length-replicate n (pos 0)))
+    (λ k i. h k i ∙ sym (get_or-replicate n k (pos 0) (pos 0) (omega (arith, i, e))))
+
+pub opening_is : (n : ℕ) (start energy reserve : List ℤ) → energy ≡ map (opened n) start → reserve ≡ replicate (length start) (pos 0) →
+    (let π : PriceLists = record { energy = energy; reserve = reserve } in π ≡ opening_prices_of start n)
+unfolding opened
+opening_is n start energy reserve e f =
+    ap (λ (es : List ℤ). let π : PriceLists = record { energy = es; reserve = reserve } in π) e
+    ∙ ap (λ (rs : List ℤ). let π : PriceLists = record { energy = map (opened n) start; reserve = rs } in π) f
+
+-- a 64-bit number is at most 2^63 in magnitude
+pub magnitude : (z : ℤ) → FitsSigned w64 z → unsigned_abs z ≤ 9223372036854775808
+magnitude (pos n) h = let m = h.sfits in omega (arith, m)
+magnitude (negsuc n) h = let m = h.sfits in omega (arith, m)

@@ -1,0 +1,11 @@
+use Rattle.std.proofs.Common.{◌≡◌, ◌*◌, ◌<◌, ◌≤◌, take, pos, ◌<ℤ◌}
+use Rattle.std.specs.List.{sum_by}
+use Rattle.price_space.proofs.StartLaws.{power_of}
+use Rattle.price_space.proofs.start.first_reaching.Given as goal
+
+abbrev pub invariant-loop-unit : goal.invariant-loop-unit
+invariant-loop-unit l = record {
+  so_far : l.power ≡ sum_by power_of (take l.unit-index l.units);
+  too_little : 0 < l.unit-index → pos l.power <ℤ l.short;
+  bound : l.power ≤ l.unit-index * 10000000;
+}

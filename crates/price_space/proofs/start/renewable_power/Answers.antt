@@ -1,0 +1,30 @@
+use Rattle.std.proofs.Common.{◌≡◌, ◌<◌, List, length, get_or, ap, subst, arith}
+use Rattle.std.proofs.lemmas.Int.{ints}
+use Rattle.uc_model.specs.declared.units.NamedFlat.{NamedFlat}
+use Rattle.price_space.proofs.CaseLaws.{flat_horizon, most_more}
+use Rattle.price_space.proofs.start.renewable_power.Goals as goal
+
+pub most_at-power-requires : goal.most_at-power-requires
+most_at-power-requires c =
+    let same = c.as_slice-named-items.ensures in
+    let lengths = ap (length {A = NamedFlat}) same in
+    let test = c.loop-named-test.true in
+    let within : c.loop-named.named-index < length c.args.case.now.flat.items = omega (arith, test, lengths) in
+    let is = subst (λ (xs : List NamedFlat). c.named-item.result ≡ get_or xs c.loop-named.named-index c.named-item.result) same c.named-item.is in
+    let wide = flat_horizon c.args.case.now.periods c.args.case.now.flat.items c.loop-named.named-index c.named-item.result c.args.case.now.valid.flat within is in
+    let inside = c.requires in
+    omega (arith, wide, inside)
+
+pub loop-named-preserved : goal.loop-named-preserved
+loop-named-preserved c =
+    let same = c.as_slice-named-items.ensures in
+    let lengths = ap (length {A = NamedFlat}) same in
+    let test = c.loop-named-test.true in
+    let within : c.loop-named.named-index < length c.args.case.now.flat.items = omega (arith, test, lengths) in
+    let is = subst (λ (xs : List NamedFlat). c.named-item.result ≡ get_or xs c.loop-named.named-index c.named-item.result) same c.named-item.is in
+    let more = most_more c.args.k c.args.case.now.flat.items c.loop-named.named-index c.named-item.result within is in
+    let so_far = c.loop-named.invariant.so_far in
+    let bound = c.loop-named.invariant.bound in
+    let power = c.most_at-power.ensures.power in
+    let few = c.most_at-power.ensures.bound in
+    record { so_far = omega (arith, ints, more, so_far, power); bound = omega (arith, bound, few) }

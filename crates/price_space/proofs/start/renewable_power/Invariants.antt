@@ -1,0 +1,12 @@
+use Rattle.std.proofs.Common.{◌≡◌, ◌*◌, ◌≤◌, drop, map, pos, ◌+ℤ◌}
+use Rattle.uc_model.specs.Data.{NamedRenewableUnit}
+use Rattle.uc_model.specs.PlainUnits.{named_renewable_of}
+use Rattle.uc_model.specs.Sums.{int_at, total}
+use Rattle.price_space.proofs.start.renewable_power.Given as goal
+
+abbrev pub invariant-loop-named : goal.invariant-loop-named
+invariant-loop-named l = record {
+  so_far : pos l.power +ℤ total (map (λ (n : NamedRenewableUnit). int_at n.unit.most l.k) (map named_renewable_of (drop l.named-index l.case.flat.items)))
+      ≡ total (map (λ (n : NamedRenewableUnit). int_at n.unit.most l.k) (map named_renewable_of l.case.flat.items));
+  bound : l.power ≤ l.named-index * 1000000000;
+}

@@ -1,0 +1,99 @@
+use crate::full_load::full_load_price;
+use crate::{opening_prices, start_prices};
+use std::alloc::{AllocError, Global};
+use std::test::Fail;
+use uc_model::cases::Case;
+use uc_model::lists::{Name, Numbers};
+use uc_model::units::{
+    BidList, FlatList, Lags, Mark, Marks, NamedFlat, Point, Points, Prices, Renewable, ThermalList,
+    Unit,
+};
+
+// A unit of exactly 100 kW for 3,000, over one period.
+fn fixed_unit(alloc: Global) -> Result<Unit, AllocError> {
+    let lags = Lags::make(alloc, 0)?;
+    let mut points = Points::make(alloc, 1)?;
+    points.push(Point {
+        at: 100,
+        cost: 3_000,
+    });
+    let window = Marks::filled(alloc, 1, Mark::Free)?;
+    Ok(Unit {
+        must_run: false,
+        min_power: 100,
+        max_power: 100,
+        ramp_up: 1_000,
+        ramp_down: 1_000,
+        start_limit: 1_000,
+        stop_limit: 1_000,
+        min_up: 1,
+        min_down: 1,
+        power0: 0,
+        on0: false,
+        up0: 0,
+        down0: 1,
+        lags,
+        points,
+        window,
+    })
+}
+
+// One period with a demand of 150 kW and no thermal unit.
+fn renewable_case(alloc: Global) -> Result<Case, AllocError> {
+    let least = Numbers::filled(alloc, 1, 0)?;
+    let most = Numbers::filled(alloc, 1, 40)?;
+    let name = Name::make(alloc, 0)?;
+    let mut flat = FlatList::make(alloc, 1)?;
+    flat.push(NamedFlat {
+        name,
+        flat: Renewable { least, most },
+    });
+    let demand = Numbers::filled(alloc, 1, 150)?;
+    let reserves = Numbers::filled(alloc, 1, 0)?;
+    let thermal = ThermalList::make(alloc, 0)?;
+    let bids = BidList::make(alloc, 0)?;
+    Ok(Case {
+        periods: 1,
+        demand,
+        reserves,
+        thermal,
+        flat,
+        bids,
+    })
+}
+
+#[test]
+fn full_load_price_of_a_unit(rt: HostRuntime) -> Result<(), Fail> {
+    let unit = fixed_unit(rt.alloc())?;
+    assert_eq!(rt; full_load_price(&unit), 30);
+    Ok(())
+}
+
+#[test]
+fn start_price_without_thermal_units(rt: HostRuntime) -> Result<(), Fail> {
+    let case = renewable_case(rt.alloc())?;
+    let prices = start_prices(rt.alloc(), &case)?;
+    assert_eq!(rt; prices.as_slice(), [0].as_slice());
+    Ok(())
+}
+
+#[test]
+fn opening_proposals(rt: HostRuntime) -> Result<(), Fail> {
+    let start = Numbers::filled(rt.alloc(), 1, 30)?;
+    let mut prices = Prices::make(rt.alloc(), 1)?;
+    opening_prices(&start, 1, &mut prices);
+    assert_eq!(rt; prices.energy.as_slice(), [30].as_slice());
+    assert_eq!(rt; prices.reserve.as_slice(), [0].as_slice());
+    opening_prices(&start, 2, &mut prices);
+    assert_eq!(rt; prices.energy.as_slice(), [33].as_slice());
+    Ok(())
+}
+
+#[test]
+fn opening_proposals_below_0(rt: HostRuntime) -> Result<(), Fail> {
+    let start = Numbers::filled(rt.alloc(), 1, -30)?;
+    let mut prices = Prices::make(rt.alloc(), 1)?;
+    opening_prices(&start, 2, &mut prices);
+    assert_eq!(rt; prices.energy.as_slice(), [-34].as_slice());
+    Ok(())
+}
