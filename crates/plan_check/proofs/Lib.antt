@@ -1,0 +1,4 @@
+pub mod PlanLaws
+pub mod RunLaws
+pub mod ThermalLaws
+pub mod ToldLaws
