@@ -1,4 +1,7 @@
+pub mod ChangeLaws
+pub mod FindLaws
 pub mod PlanLaws
 pub mod RunLaws
+pub mod ShapeLaws
 pub mod ThermalLaws
 pub mod ToldLaws

@@ -124,10 +124,10 @@ module _ (g : ThermalUnit) (s : Schedule) where
   pub stops_is : (m : ℕ) → IsTrue (stops_in g s (suc m)) → (on_in g s m ≡ true) × (on_in g s (suc m) ≡ false)
   stops_is m h = let p = both_true (on_in g s m) (not (on_in g s (suc m))) h in (p.0, not_true (on_in g s (suc m)) p.1)
 
-  starts_from : (m : ℕ) → on_in g s m ≡ false → on_in g s (suc m) ≡ true → IsTrue (starts_in g s (suc m))
+  pub starts_from : (m : ℕ) → on_in g s m ≡ false → on_in g s (suc m) ≡ true → IsTrue (starts_in g s (suc m))
   starts_from m a b = and_true (not (on_in g s m)) (on_in g s (suc m)) (ap not a) b
 
-  stops_from : (m : ℕ) → on_in g s m ≡ true → on_in g s (suc m) ≡ false → IsTrue (stops_in g s (suc m))
+  pub stops_from : (m : ℕ) → on_in g s m ≡ true → on_in g s (suc m) ≡ false → IsTrue (stops_in g s (suc m))
   stops_from m a b = and_true (on_in g s m) (not (on_in g s (suc m))) a (ap not b)
 
   -- ---- minimum time up: what the test clears, and what it tells

@@ -3,6 +3,7 @@
 
 use uc_model::kinds::{Kind, RuleCode};
 
+mod check;
 pub mod laws;
 mod rules;
 mod states;

@@ -1,0 +1,30 @@
+-- What the shape of a plan and the limits of a case say of one unit with its schedule.
+use Rattle.std.proofs.Common.{◌≡◌, ℕ, zero, suc, ◌+◌, ◌<◌, ◌≤◌, Option, Some, None, List, [], ◌∷◌, map, length, drop, refl, sym, ap, ◌∙◌, subst, arith}
+use Rattle.std.proofs.lemmas.Option.{slice_get-map}
+use Rattle.std.specs.Prelude.{slice_get}
+use Rattle.std.specs.List.{All}
+use Rattle.std.specs.Option.{option_map}
+use Rattle.plan_check.proofs.PlanLaws.{head_of, tail_of}
+use Rattle.plan_check.proofs.ToldLaws.{none_some}
+use Rattle.plan_check.proofs.FindLaws.{same_item}
+
+-- what holds of each item holds of the one at a place
+pub item_of : {X : Type 0} → (P : X → Type 0) (xs : List X) (i : ℕ) (x : X) → All P xs → slice_get xs i ≡ Some x → P x
+item_of P [] i x h e = absurd (none_some x e)
+item_of P (y ∷ ys) zero x h e = subst P (sym (same_item y x e)) (head_of P y ys h)
+item_of P (y ∷ ys) (suc i) x h e = item_of P ys i x (tail_of P y ys h) e
+
+pub map_item : {X Y : Type 0} → (f : X → Y) (xs : List X) (i : ℕ) (x : X) → slice_get xs i ≡ Some x → slice_get (map f xs) i ≡ Some (f x)
+map_item f xs i x e = slice_get-map f xs i ∙ ap (option_map f) e
+
+nothing : {X : Type 0} → (i : ℕ) → slice_get {X = X} [] i ≡ None
+nothing i = refl
+
+shifted : {X : Type 0} → (x : X) (xs : List X) (n i : ℕ) → slice_get xs (n + i) ≡ slice_get (x ∷ xs) (suc n + i)
+shifted x xs n i = let e : suc (n + i) ≡ suc n + i = omega arith in ap (slice_get (x ∷ xs)) e
+
+-- an item behind the first ones
+pub drop_item : {X : Type 0} → (n : ℕ) (xs : List X) (i : ℕ) → slice_get (drop n xs) i ≡ slice_get xs (n + i)
+drop_item zero xs i = ap (slice_get xs) (omega arith)
+drop_item (suc n) [] i = nothing i ∙ sym (nothing (suc n + i))
+drop_item (suc n) (x ∷ xs) i = drop_item n xs i ∙ shifted x xs n i
