@@ -4,7 +4,10 @@ use Rattle.std.proofs.lemmas.Option.{slice_get-map}
 use Rattle.std.specs.Prelude.{slice_get}
 use Rattle.std.specs.List.{All}
 use Rattle.std.specs.Option.{option_map}
-use Rattle.plan_check.proofs.PlanLaws.{head_of, tail_of}
+use Rattle.std.proofs.lemmas.List.{length-map, get_or-map}
+use Rattle.uc_model.specs.declared.units.Response.{Response}
+use Rattle.uc_model.specs.PlainUnits.{schedule_of}
+use Rattle.plan_check.proofs.PlanLaws.{HasLengths, head_of, tail_of}
 use Rattle.plan_check.proofs.ToldLaws.{none_some}
 use Rattle.plan_check.proofs.FindLaws.{same_item}
 
@@ -28,3 +31,17 @@ pub drop_item : {X : Type 0} → (n : ℕ) (xs : List X) (i : ℕ) → slice_get
 drop_item zero xs i = ap (slice_get xs) (omega arith)
 drop_item (suc n) [] i = nothing i ∙ sym (nothing (suc n + i))
 drop_item (suc n) (x ∷ xs) i = drop_item n xs i ∙ shifted x xs n i
+
+-- each response of a plan covers the horizon
+pub covers : (responses : List Response) (periods place : ℕ) → All (HasLengths periods) (map schedule_of responses) → place < periods → All (λ (r : Response). place < length (schedule_of r).on) responses
+covers rs periods place lengths lt = λ k d k_in.
+    let count = length-map rs schedule_of in
+    let item = get_or-map schedule_of rs k d (schedule_of d) k_in in
+    let l = subst (HasLengths periods) item (lengths k (schedule_of d) (omega (arith, count, k_in))) in
+    let on = l.0 in
+    omega (arith, on, lt)
+
+pub drop-map : {X Y : Type 0} → (f : X → Y) (n : ℕ) (xs : List X) → drop n (map f xs) ≡ map f (drop n xs)
+drop-map f zero xs = refl
+drop-map f (suc n) [] = refl
+drop-map f (suc n) (x ∷ xs) = drop-map f n xs

@@ -5,7 +5,7 @@ ghost use Rattle.uc_model.specs.Laws.{HasPlanShape};
 ghost use Rattle.uc_model.specs.Limits.{IsBlockList};
 ghost use Rattle.uc_model.specs.PlainCases.{market_of, schedules_of};
 ghost use Rattle.uc_model.specs.PlainUnits.{thermal_of, renewable_of, bid_of, schedule_of};
-ghost use Rattle.uc_model.specs.Refusals.{told, renewable_broken, bid_broken, thermal_refusals, all_thermal, all_renewable, all_bids};
+ghost use Rattle.uc_model.specs.Refusals.{told, renewable_broken, bid_broken, balance_broken, reserve_broken, thermal_refusals, all_thermal, all_renewable, all_bids, refusals};
 ghost use Rattle.uc_model.specs.Schedules.{width_of};
 ghost use Rattle.plan_check.specs.Checks.{refusal_of, Finds};
 ghost use Rattle.plan_check.specs.States.{sides_of, thermal_broken, told_shift, rule_refusals};
@@ -13,6 +13,7 @@ ghost use Rattle.plan_check.specs.States.{sides_of, thermal_broken, told_shift, 
 use crate::RuleFault;
 use crate::rules;
 use crate::states::Sides;
+use crate::totals;
 use uc_model::cases::{Case, Plan};
 use uc_model::kinds::{Kind, RuleCode};
 use uc_model::units::{Bid, Block, Renewable, Response, Unit};
@@ -221,4 +222,43 @@ fn check_bids(case: &Case, plan: &Plan) -> Result<(), RuleFault>
         check_bid(&bid.bid, response, place as u32 + 1)?;
     }
     Ok(())
+}
+
+// The first period in which the powers don't sum to demand.
+fn check_balance(case: &Case, plan: &Plan) -> Result<(), RuleFault>
+    requires { HasPlanShape (market_of case.now) (schedules_of plan.now) }
+    ensures { Finds (told RuleCode.Balance Kind.Case 0 (market_of case.now).periods 1 (balance_broken (market_of case.now) (schedules_of plan.now))) result }
+{
+    for place in 0..case.periods {
+        if let Some(sides) = totals::balance_sides(case, plan, place as usize) {
+            return Err(fault(RuleCode::Balance, Kind::Case, 0, place + 1, sides));
+        }
+    }
+    Ok(())
+}
+
+// The first period in which the reserves sum to less than the requirement.
+fn check_reserve(case: &Case, plan: &Plan) -> Result<(), RuleFault>
+    requires { HasPlanShape (market_of case.now) (schedules_of plan.now) }
+    ensures { Finds (told RuleCode.Reserve Kind.Case 0 (market_of case.now).periods 1 (reserve_broken (market_of case.now) (schedules_of plan.now))) result }
+{
+    for place in 0..case.periods {
+        if let Some(sides) = totals::reserve_sides(case, plan, place as usize) {
+            return Err(fault(RuleCode::Reserve, Kind::Case, 0, place + 1, sides));
+        }
+    }
+    Ok(())
+}
+
+/// The first rule that the plan breaks: the rules of the thermal units in order, then the ranges of the renewable units,
+/// then those of the bids, then the balance and then the reserve, each over rising periods.
+pub fn check_rules_of_plan(case: &Case, plan: &Plan) -> Result<(), RuleFault>
+    requires { HasPlanShape (market_of case.now) (schedules_of plan.now) }
+    ensures { Finds (refusals (market_of case.now) (schedules_of plan.now)) result }
+{
+    check_thermals(case, plan)?;
+    check_renewables(case, plan)?;
+    check_bids(case, plan)?;
+    check_balance(case, plan)?;
+    check_reserve(case, plan)
 }

@@ -7,6 +7,7 @@ mod check;
 pub mod laws;
 mod rules;
 mod states;
+mod totals;
 
 /// Why a schedule isn't feasible: the first rule that it breaks.
 #[derive(Clone, Copy, PartialEq, Eq)]
