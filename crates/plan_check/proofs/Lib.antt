@@ -1,4 +1,5 @@
 pub mod ChangeLaws
+pub mod CostSums
 pub mod FindLaws
 pub mod PlanLaws
 pub mod RunLaws

@@ -1,8 +1,8 @@
 -- What the shape of a plan and the limits of a case say of one unit with its schedule.
-use Rattle.std.proofs.Common.{◌≡◌, ℕ, zero, suc, ◌+◌, ◌<◌, ◌≤◌, Option, Some, None, List, [], ◌∷◌, map, length, drop, refl, sym, ap, ◌∙◌, subst, arith}
+use Rattle.std.proofs.Common.{◌≡◌, ℕ, zero, suc, ◌+◌, ◌<◌, ◌≤◌, Option, Some, None, List, [], ◌∷◌, ◌++◌, map, length, drop, refl, sym, ap, ◌∙◌, subst, arith}
 use Rattle.std.proofs.lemmas.Option.{slice_get-map}
 use Rattle.std.specs.Prelude.{slice_get}
-use Rattle.std.specs.List.{All}
+use Rattle.std.specs.List.{All, AllZip}
 use Rattle.std.specs.Option.{option_map}
 use Rattle.std.proofs.lemmas.List.{length-map, get_or-map}
 use Rattle.uc_model.specs.declared.units.Response.{Response}
@@ -45,3 +45,15 @@ pub drop-map : {X Y : Type 0} → (f : X → Y) (n : ℕ) (xs : List X) → drop
 drop-map f zero xs = refl
 drop-map f (suc n) [] = refl
 drop-map f (suc n) (x ∷ xs) = drop-map f n xs
+
+-- what holds of each unit with its schedule holds of those at a place
+pub zip_item : {X Y : Type 0} → (R : X → Y → Type 0) (xs : List X) (ys : List Y) (i : ℕ) (x : X) (y : Y) → AllZip R xs ys → slice_get xs i ≡ Some x → slice_get ys i ≡ Some y → R x y
+zip_item R [] ys i x y z e f = absurd (none_some x e)
+zip_item R (a ∷ xs) [] i x y z e f = absurd z
+zip_item R (a ∷ xs) (b ∷ ys) zero x y z e f = subst (λ v. R v y) (sym (same_item a x e)) (subst (R a) (sym (same_item b y f)) z.0)
+zip_item R (a ∷ xs) (b ∷ ys) (suc i) x y z e f = zip_item R xs ys i x y z.1 e f
+
+pub front_item : {X : Type 0} → (xs ys : List X) (i : ℕ) (x : X) → slice_get xs i ≡ Some x → slice_get (xs ++ ys) i ≡ Some x
+front_item [] ys i x e = absurd (none_some x e)
+front_item (a ∷ xs) ys zero x e = e
+front_item (a ∷ xs) ys (suc i) x e = front_item xs ys i x e

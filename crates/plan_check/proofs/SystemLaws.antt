@@ -3,18 +3,20 @@ use Rattle.std.proofs.Common.{◌≡◌, ℕ, zero, suc, ◌+◌, ◌<◌, ◌�
 use Rattle.std.proofs.lemmas.Int.{ints}
 use Rattle.std.proofs.lemmas.List.{length-map}
 use Rattle.std.proofs.lemmas.List.Elements.{All-append}
-use Rattle.std.specs.Prelude.{int_le, slice_index_or}
+use Rattle.std.specs.Prelude.{int_le, slice_get, slice_index_or}
 use Rattle.std.specs.List.{All, zip}
 use Rattle.uc_model.specs.Data.{AnyUnit, Thermal, Flat, Bid, NamedThermalUnit, NamedRenewableUnit, NamedBidUnit, Schedule, Market, units, unit_count}
-use Rattle.uc_model.specs.Earnings.{supply_in}
+use Rattle.uc_model.specs.Earnings.{supply_in, cost_of}
 use Rattle.uc_model.specs.Refusals.{unless, balance_broken}
 use Rattle.uc_model.specs.Schedules.{power_in, reserve_in}
 use Rattle.uc_model.specs.Sums.{int_at, total, zip_with}
-use Rattle.uc_model.specs.Systems.{total_power, total_reserve}
+use Rattle.uc_model.specs.Systems.{total_power, total_reserve, plan_cost}
+use Rattle.plan_check.specs.Costs.{sum_over, thermal_units, bid_units}
 use Rattle.plan_check.specs.Totals.{powers_at, reserves_at}
+use Rattle.plan_check.proofs.FindLaws.{same_item}
 use Rattle.plan_check.proofs.RunLaws.{and_true, true_or_false, both_true}
 use Rattle.plan_check.proofs.ThermalLaws.{le_from_z, le_to_z}
-use Rattle.plan_check.proofs.ToldLaws.{unless_holds}
+use Rattle.plan_check.proofs.ToldLaws.{none_some, unless_holds}
 
 pub total-append : (xs ys : List ℤ) → total (xs ++ ys) ≡ total xs +ℤ total ys
 total-append [] ys = omega (arith, ints)
@@ -24,10 +26,6 @@ total-append (x ∷ xs) ys = omega (arith, ints, total-append xs ys)
 pub total_map-append : {X Y : Type 0} → (g : Y → ℤ) (f : X → Y) (xs : List X) (x : X) → total (map g (map f (xs ++ x ∷ []))) ≡ total (map g (map f xs)) +ℤ g (f x)
 total_map-append g f [] x = omega (arith, ints)
 total_map-append g f (y ∷ xs) x = omega (arith, ints, total_map-append g f xs x)
-
--- the sum of a term over units with their schedules
-abbrev pub sum_over : (AnyUnit → Schedule → ℤ) → List AnyUnit → List Schedule → ℤ
-sum_over f us ss = total (zip_with f us ss)
 
 -- units at the front take the schedules at the front
 pub sum_over-front : (f : AnyUnit → Schedule → ℤ) (us vs : List AnyUnit) (ss : List Schedule) → length us ≤ length ss → sum_over f (us ++ vs) ss ≡ sum_over f us (take (length us) ss) +ℤ sum_over f vs (drop (length us) ss)
@@ -113,3 +111,46 @@ module _ (total_is demand : ℤ) where
 
   pub unbalanced : (total_is ≡ demand → ⊥) → unless (int_le total_is demand && int_le demand total_is) total_is demand ≡ Some (total_is, demand)
   unbalanced h = ap (λ t. unless t total_is demand) (unbalanced_test (int_le total_is demand && int_le demand total_is) refl h)
+
+-- ---- costs
+
+-- one more unit with its schedule
+pub sum_over-more : (f : AnyUnit → Schedule → ℤ) (us : List AnyUnit) (ss : List Schedule) (i : ℕ) (u : AnyUnit) (s : Schedule) → slice_get us i ≡ Some u → slice_get ss i ≡ Some s →
+    sum_over f (take (i + 1) us) ss ≡ sum_over f (take i us) ss +ℤ f u s
+sum_over-more f [] ss i u s e g = absurd (none_some u e)
+sum_over-more f (v ∷ us) [] i u s e g = absurd (none_some s g)
+sum_over-more f (v ∷ us) (t ∷ ss) zero u s e g =
+    let a = ap (λ x. f x t) (same_item v u e) in
+    let b = ap (f u) (same_item t s g) in
+    omega (arith, ints, a, b)
+sum_over-more f (v ∷ us) (t ∷ ss) (suc i) u s e g =
+    let next : suc i + 1 ≡ suc (i + 1) = omega arith in
+    let n = ap (λ (j : ℕ). sum_over f (take j (v ∷ us)) (t ∷ ss)) next in
+    omega (arith, ints, n, sum_over-more f us ss i u s e g)
+
+sum_over-zero : (us : List AnyUnit) (ss : List Schedule) → All (λ u. (s : Schedule) → cost_of u s ≡ pos 0) us → sum_over cost_of us ss ≡ pos 0
+sum_over-zero [] ss h = refl
+sum_over-zero (u ∷ us) [] h = refl
+sum_over-zero (u ∷ us) (s ∷ ss) h = let a = h 0 u (omega arith) s in omega (arith, ints, a, sum_over-zero us ss (λ k d lt. h (suc k) d (omega (arith, lt))))
+
+-- more schedules than units change nothing
+sum_over-take : (f : AnyUnit → Schedule → ℤ) (us : List AnyUnit) (ss : List Schedule) → sum_over f us (take (length us) ss) ≡ sum_over f us ss
+sum_over-take f [] ss = refl
+sum_over-take f (u ∷ us) [] = refl
+sum_over-take f (u ∷ us) (s ∷ ss) = ap (λ (z : ℤ). f u s +ℤ z) (sum_over-take f us ss)
+
+pub plan_cost_is : (m : Market) (plan : List Schedule) → length plan ≡ unit_count m →
+    plan_cost m plan ≡ sum_over cost_of (thermal_units m) plan +ℤ sum_over cost_of (bid_units m) (drop (length m.thermal + length m.flat) plan)
+plan_cost_is m plan count =
+    let n = producers_are m plan count 0 in
+    let ts = thermal_units m in
+    let fs = map (λ (x : NamedRenewableUnit). Flat x.unit) m.flat in
+    let bs = bid_units m in
+    let thermal_count = length-map m.thermal (λ (x : NamedThermalUnit). Thermal x.unit) in
+    let outer = sum_over-front cost_of (ts ++ fs) bs plan (omega (arith, n, count)) in
+    let whole = sum_over-front cost_of ts fs plan (omega (arith, n, count, thermal_count)) in
+    let whole_front = sum_over-take cost_of (ts ++ fs) plan in
+    let whole_zero = sum_over-zero fs (drop (length ts) plan) (λ j d lt. All-map (λ u. (s : Schedule) → cost_of u s ≡ pos 0) (λ (x : NamedRenewableUnit). Flat x.unit) m.flat (λ x s. refl) j d lt) in
+    let whole_thermal = sum_over-take cost_of ts plan in
+    let back = ap (λ (j : ℕ). sum_over cost_of bs (drop j plan)) n in
+    omega (arith, ints, outer, whole, whole_front, whole_zero, whole_thermal, back)

@@ -118,7 +118,7 @@ mark_back MustOff b on off = unless_holds (not b) (pos 1) (pos 0) (ap not (off r
 mark_back MustOn b on off = unless_holds b (pos 0) (pos 1) (on refl)
 
 module _ (g : ThermalUnit) (s : Schedule) where
-  above_on : (k : ℕ) → on_in g s (suc k) ≡ true → above_min g s (suc k) ≡ power_in s (suc k) -ℤ g.min_power
+  pub above_on : (k : ℕ) → on_in g s (suc k) ≡ true → above_min g s (suc k) ≡ power_in s (suc k) -ℤ g.min_power
   above_on k on = ap (λ t. cond t (power_in s (suc k) -ℤ g.min_power) (pos 0)) on
 
   range_on : (k : ℕ) → on_in g s (suc k) ≡ true → range_broken g s k ≡ or_else (unless (int_le g.min_power (power_in s (suc k))) g.min_power (power_in s (suc k)))

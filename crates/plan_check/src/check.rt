@@ -1,5 +1,5 @@
 //! The first rule that a plan breaks.
-ghost use Rattle.std.specs.Prelude.{◌≡◌, ◌≤◌, ◌<◌, ◌+◌, ℕ, length, drop, pos};
+ghost use Rattle.std.specs.Prelude.{◌≡◌, ◌≤◌, ◌<◌, ◌+◌, ℕ, length, drop, pos, ◌↔◌, Some, IsOk, IfOk, IfErr, slice_get};
 ghost use Rattle.std.specs.List.{flat_map};
 ghost use Rattle.uc_model.specs.Laws.{HasPlanShape};
 ghost use Rattle.uc_model.specs.Limits.{IsBlockList};
@@ -7,10 +7,12 @@ ghost use Rattle.uc_model.specs.PlainCases.{market_of, schedules_of};
 ghost use Rattle.uc_model.specs.PlainUnits.{thermal_of, renewable_of, bid_of, schedule_of};
 ghost use Rattle.uc_model.specs.Refusals.{told, renewable_broken, bid_broken, balance_broken, reserve_broken, thermal_refusals, all_thermal, all_renewable, all_bids, refusals};
 ghost use Rattle.uc_model.specs.Schedules.{width_of};
+ghost use Rattle.uc_model.specs.Systems.{plan_cost, IsFeasiblePlan};
 ghost use Rattle.plan_check.specs.Checks.{refusal_of, Finds};
 ghost use Rattle.plan_check.specs.States.{sides_of, thermal_broken, told_shift, rule_refusals};
 
 use crate::RuleFault;
+use crate::costs;
 use crate::rules;
 use crate::states::Sides;
 use crate::totals;
@@ -250,9 +252,9 @@ fn check_reserve(case: &Case, plan: &Plan) -> Result<(), RuleFault>
     Ok(())
 }
 
-/// The first rule that the plan breaks: the rules of the thermal units in order, then the ranges of the renewable units,
-/// then those of the bids, then the balance and then the reserve, each over rising periods.
-pub fn check_rules_of_plan(case: &Case, plan: &Plan) -> Result<(), RuleFault>
+// The first rule that the plan breaks: the rules of the thermal units in order, then the ranges of the renewable units,
+// then those of the bids, then the balance and then the reserve, each over rising periods.
+fn check_all(case: &Case, plan: &Plan) -> Result<(), RuleFault>
     requires { HasPlanShape (market_of case.now) (schedules_of plan.now) }
     ensures { Finds (refusals (market_of case.now) (schedules_of plan.now)) result }
 {
@@ -261,4 +263,18 @@ pub fn check_rules_of_plan(case: &Case, plan: &Plan) -> Result<(), RuleFault>
     check_bids(case, plan)?;
     check_balance(case, plan)?;
     check_reserve(case, plan)
+}
+
+/// The cost of the plan in money, where the plan is feasible; it may be below 0, since what bids buy counts below 0.
+/// Otherwise the first rule that it breaks: thermal units in order and for each its rules in order, then renewable
+/// units, then bids, then the balance, then the reserve, each over rising periods. The plan has a response for each unit
+/// over the whole horizon, and those of renewable units and bids are on in every period with reserve 0. Takes no memory.
+pub fn check_plan(case: &Case, plan: &Plan) -> Result<i128, RuleFault>
+    requires { HasPlanShape (market_of case.now) (schedules_of plan.now) }
+    ensures cost { IfOk result (λ cost. cost ≡ plan_cost (market_of case.now) (schedules_of plan.now)) }
+    ensures feasible { IsOk result ↔ IsFeasiblePlan (market_of case.now) (schedules_of plan.now) }
+    ensures refused { IfErr result (λ f. slice_get (refusals (market_of case.now) (schedules_of plan.now)) 0 ≡ Some (refusal_of f)) }
+{
+    check_all(case, plan)?;
+    Ok(costs::cost_of_plan(case, plan))
 }

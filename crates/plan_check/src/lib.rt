@@ -4,10 +4,13 @@
 use uc_model::kinds::{Kind, RuleCode};
 
 mod check;
+mod costs;
 pub mod laws;
 mod rules;
 mod states;
 mod totals;
+
+pub use check::check_plan;
 
 /// Why a schedule isn't feasible: the first rule that it breaks.
 #[derive(Clone, Copy, PartialEq, Eq)]

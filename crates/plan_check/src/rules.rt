@@ -1,7 +1,8 @@
 //! The rules of a thermal unit, each in one period.
-ghost use Rattle.std.specs.Prelude.{◌≡◌, ◌≤◌, ◌<◌, ◌+◌, ◌-◌, ◌-ℤ◌, ℕ, suc, length, if◌then◌else◌, int_le};
+ghost use Rattle.std.specs.Prelude.{◌≡◌, ◌≤◌, ◌<◌, ◌+◌, ◌-◌, ◌-ℤ◌, ℕ, suc, length, if◌then◌else◌, int_le, slice_index_or, false, pos};
 ghost use Rattle.std.specs.Int.{int_min};
 ghost use Rattle.uc_model.specs.Data.{Schedule};
+ghost use Rattle.uc_model.specs.Limits.{IsFrom};
 ghost use Rattle.uc_model.specs.PlainUnits.{thermal_of, schedule_of};
 ghost use Rattle.uc_model.specs.Schedules.{on_in, power_in, above_min, above_with_reserve};
 ghost use Rattle.uc_model.specs.Refusals as refusals;
@@ -29,8 +30,8 @@ pub fn at_most(value: i64, limit: i64) -> Option<Sides>
     unless(value <= limit, value, limit)
 }
 
-// Whether the unit is on in a period; period 0 is the state before the horizon.
-fn on_in_period(unit: &Unit, response: &Response, period: usize) -> bool
+/// Whether the unit is on in a period; period 0 is the state before the horizon.
+pub fn on_in_period(unit: &Unit, response: &Response, period: usize) -> bool
     requires { period ≤ length (schedule_of response.now).on }
     ensures { result ≡ on_in (thermal_of unit.now) (schedule_of response.now) period }
 {
@@ -189,10 +190,19 @@ pub fn first_of(first: Option<Sides>, second: Option<Sides>) -> Option<Sides>
     }
 }
 
+/// Whether the unit is on at a place.
+pub fn is_on(response: &Response, place: usize) -> bool
+    requires { place < length (schedule_of response.now).on }
+    ensures { result ≡ slice_index_or (schedule_of response.now).on place false }
+{
+    *response.on.get(place)
+}
+
 /// The power at a place.
 pub fn power_at(response: &Response, place: usize) -> i64
     requires { place < length (schedule_of response.now).on }
-    ensures { result ≡ power_in (schedule_of response.now) (suc place) }
+    ensures value { result ≡ power_in (schedule_of response.now) (suc place) }
+    ensures limit { IsFrom (pos 0) (pos 4294967296) result }
 {
     i64::from(*response.power.get(place))
 }
