@@ -1,10 +1,9 @@
 -- Costs and worths within their limits, and one more term of a sum.
-use Rattle.std.proofs.Common.{◌≡◌, ℕ, zero, suc, ◌+◌, ◌<◌, ◌≤◌, ◌⊎◌, inl, inr, ℤ, pos, negsuc, ◌+ℤ◌, ◌-ℤ◌, ◌*ℤ◌, ◌≤ℤ◌, Bool, true, false, cond, Option, Some, None, List, [], ◌∷◌, ◌++◌, reverse, length, refl, sym, ap, ◌∙◌, subst, arith, w64, FitsSigned, to_z, of_z}
+use Rattle.std.proofs.Common.{◌≡◌, ℕ, suc, ◌+◌, ◌<◌, ◌≤◌, inl, inr, ℤ, pos, ◌+ℤ◌, ◌*ℤ◌, Bool, true, false, cond, Some, List, [], ◌∷◌, reverse, length, sym, ap, ◌∙◌, subst, arith, w64, FitsSigned, to_z, of_z}
 use Rattle.std.proofs.lemmas.Int.{ints, clamps, to_z-of_z}
 use Rattle.std.proofs.lemmas.List.{reverse-append}
 use Rattle.std.proofs.lemmas.List.Elements.{All-append}
 use Rattle.std.proofs.Math.IntN.{*ℤ_comm, *ℤ-zero}
-use Rattle.std.specs.Int.{int_min}
 use Rattle.std.specs.List.{All, find}
 use Rattle.std.specs.Option.{option_map_or}
 use Rattle.std.specs.Prelude.{nat_le, slice_get, slice_index_or}
@@ -12,15 +11,13 @@ use Rattle.uc_model.specs.declared.units.Lag.{Lag}
 use Rattle.uc_model.specs.Data.{ThermalUnit, Schedule}
 use Rattle.uc_model.specs.Earnings.{start_cost_of}
 use Rattle.uc_model.specs.Limits.{IsFrom, IsLag, IsThermalUnit, Spans}
-use Rattle.uc_model.specs.Schedules.{on_in, power_in, above_min, IsPeriod, IsThermalFeasible}
+use Rattle.uc_model.specs.Schedules.{on_in, power_in, IsPeriod, IsThermalFeasible}
 use Rattle.uc_model.specs.Sums.{sum_below}
 use Rattle.uc_model.proofs.IntLaws.{mul-mono_of}
 use Rattle.cost_curve.proofs.SlopeLaws.{fits64}
 use Rattle.plan_check.proofs.PlanLaws.{head_of, tail_of}
 use Rattle.plan_check.proofs.RunLaws.{true_or_false}
-use Rattle.plan_check.proofs.ShapeLaws.{item_of}
 use Rattle.plan_check.proofs.ThermalLaws.{above_on}
-use Rattle.plan_check.proofs.ToldLaws.{none_some}
 
 pub sum_more : (n : ℕ) (f : ℕ → ℤ) → sum_below (n + 1) f ≡ sum_below n f +ℤ f n
 sum_more n f = let e : n + 1 ≡ suc n = omega arith in ap (λ (k : ℕ). sum_below k f) e

@@ -1,11 +1,10 @@
 -- The first refusal over lists of rules and of units.
-use Rattle.std.proofs.Common.{◌≡◌, ℕ, zero, suc, ◌+◌, ◌<◌, ◌≤◌, ◌⊎◌, inl, inr, Option, Some, None, List, [], ◌∷◌, ◌++◌, map, length, take, drop, get_or, refl, sym, ap, ◌∙◌, subst, arith, append_assoc, append-nil}
+use Rattle.std.proofs.Common.{◌≡◌, ℕ, zero, suc, ◌+◌, ◌<◌, ◌⊎◌, inl, inr, Some, List, [], ◌∷◌, ◌++◌, length, take, drop, get_or, refl, sym, ap, ◌∙◌, arith, append_assoc, append-nil}
 use Rattle.std.proofs.lemmas.Grind.{flat_map-append}
 use Rattle.std.proofs.lemmas.List.{take_more, drop_more, take-append-drop}
 use Rattle.std.specs.Prelude.{slice_get}
 use Rattle.std.specs.List.{flat_map}
 use Rattle.uc_model.specs.declared.kinds.Kind.TheVariants as kinds
-use Rattle.uc_model.specs.declared.kinds.RuleCode.{RuleCode}
 use Rattle.uc_model.specs.declared.kinds.RuleCode.TheVariants.{RenewableRange, BidRange, MustRun, Initial, MinUp, MinDown, Range, StartCap, StopCap, RampUp, RampDown, Window}
 use Rattle.uc_model.specs.Data.{ThermalUnit, Schedule, NamedThermalUnit, NamedRenewableUnit, NamedBidUnit}
 use Rattle.uc_model.specs.Refusals.{Refusal, told, must_run_broken, initial_broken, min_up_broken, min_down_broken, range_broken, start_broken, stop_broken, ramp_up_broken, ramp_down_broken, window_broken, renewable_broken, bid_broken, thermal_refusals, all_thermal, all_renewable, all_bids}

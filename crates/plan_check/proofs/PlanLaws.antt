@@ -1,14 +1,14 @@
 -- What is refused of a plan is what keeps it from being feasible.
-use Rattle.std.proofs.Common.{◌≡◌, ℕ, zero, suc, ◌+◌, ◌-◌, ◌<◌, ◌≤◌, ◌⊎◌, inl, inr, ℤ, pos, ◌≤ℤ◌, Bool, true, false, ◌&&◌, Option, Some, None, IsTrue, List, [], ◌∷◌, ◌++◌, map, length, drop, refl, sym, ap, ◌∙◌, subst, arith, append_assoc, length-append, length-drop}
+use Rattle.std.proofs.Common.{◌≡◌, ℕ, zero, suc, ◌+◌, ◌<◌, ◌≤◌, ℤ, ◌≤ℤ◌, false, ◌&&◌, None, IsTrue, List, [], ◌∷◌, ◌++◌, map, length, drop, refl, sym, ◌∙◌, subst, arith, append_assoc, length-drop}
 use Rattle.std.proofs.lemmas.Int.{ints}
 use Rattle.std.proofs.lemmas.List.{drop-drop}
 use Rattle.std.specs.List.{All, AllZip}
-use Rattle.std.specs.Prelude.{int_le, slice_index, slice_index_or}
+use Rattle.std.specs.Prelude.{int_le, slice_index_or}
 use Rattle.uc_model.specs.declared.kinds.Kind.TheVariants as kinds
 use Rattle.uc_model.specs.declared.kinds.RuleCode.TheVariants.{RenewableRange, BidRange, Balance, Reserve}
-use Rattle.uc_model.specs.Data.{AnyUnit, Thermal, Flat, Bid, NamedThermalUnit, NamedRenewableUnit, NamedBidUnit, RenewableUnit, BidUnit, Schedule, Market, units, unit_count}
+use Rattle.uc_model.specs.Data.{AnyUnit, Thermal, Flat, Bid, NamedThermalUnit, NamedRenewableUnit, NamedBidUnit, RenewableUnit, BidUnit, Schedule, Market, units}
 use Rattle.uc_model.specs.Laws.{HasPlanShape, RefusalsAreExact}
-use Rattle.uc_model.specs.Refusals.{Refusal, unless, or_else, renewable_broken, bid_broken, balance_broken, reserve_broken, told, thermal_refusals, all_thermal, all_renewable, all_bids, refusals}
+use Rattle.uc_model.specs.Refusals.{Refusal, unless, renewable_broken, bid_broken, balance_broken, reserve_broken, told, thermal_refusals, all_thermal, all_renewable, all_bids, refusals}
 use Rattle.uc_model.specs.Schedules.{power_in, IsFeasible, IsRenewableFeasible, IsBidFeasible, width_of, blocks_at}
 use Rattle.uc_model.specs.Sums.{int_at}
 use Rattle.uc_model.specs.Systems.{total_power, total_reserve, IsFeasiblePlan}
@@ -44,9 +44,10 @@ module _ (periods : ℕ) where
   thermal_feasible first [] ss us le lengths none rest = rest
   thermal_feasible first (n ∷ ns) [] us le lengths none rest = absurd (omega (arith, le))
   thermal_feasible first (n ∷ ns) (s ∷ ss) us le lengths none rest =
-      let l = head_of (HasLengths periods) s ss lengths in
-      (IsThermalFeasible-clear periods n.unit s l.0 l.1 l.2 (IsClear-none periods first n.unit s (append_nil_left (thermal_refusals periods first n.unit s) (all_thermal periods (suc first) ns ss) none)),
-      thermal_feasible (suc first) ns ss us (omega (arith, le)) (tail_of (HasLengths periods) s ss lengths) (append_nil_right (thermal_refusals periods first n.unit s) (all_thermal periods (suc first) ns ss) none) rest)
+      let l = head_of (HasLengths periods) s ss lengths in (
+        IsThermalFeasible-clear periods n.unit s l.0 l.1 l.2 (IsClear-none periods first n.unit s (append_nil_left (thermal_refusals periods first n.unit s) (all_thermal periods (suc first) ns ss) none)),
+        thermal_feasible (suc first) ns ss us (omega (arith, le)) (tail_of (HasLengths periods) s ss lengths) (append_nil_right (thermal_refusals periods first n.unit s) (all_thermal periods (suc first) ns ss) none) rest,
+      )
 
   thermal_none : (first : ℕ) (ns : List NamedThermalUnit) (ss : List Schedule) (us : List AnyUnit) → All (HasLengths periods) ss → AllZip Feasible (thermal ns ++ us) ss →
       (all_thermal periods first ns ss ≡ []) × AllZip Feasible us (drop (length ns) ss)
@@ -86,9 +87,10 @@ module _ (periods : ℕ) where
   renewable_feasible first [] ss us le lengths steady none rest = rest
   renewable_feasible first (n ∷ ns) [] us le lengths steady none rest = absurd (omega (arith, le))
   renewable_feasible first (n ∷ ns) (s ∷ ss) us le lengths steady none rest =
-      let first_told = told RenewableRange kinds.Renewable first periods 1 (renewable_broken n.unit s) in
-      (renewable_is n.unit s (head_of (HasLengths periods) s ss lengths) (head_of IsSteady s ss steady) (told_all RenewableRange kinds.Renewable first periods 1 (renewable_broken n.unit s) (append_nil_left first_told (all_renewable periods (suc first) ns ss) none)),
-      renewable_feasible (suc first) ns ss us (omega (arith, le)) (tail_of (HasLengths periods) s ss lengths) (tail_of IsSteady s ss steady) (append_nil_right first_told (all_renewable periods (suc first) ns ss) none) rest)
+      let first_told = told RenewableRange kinds.Renewable first periods 1 (renewable_broken n.unit s) in (
+        renewable_is n.unit s (head_of (HasLengths periods) s ss lengths) (head_of IsSteady s ss steady) (told_all RenewableRange kinds.Renewable first periods 1 (renewable_broken n.unit s) (append_nil_left first_told (all_renewable periods (suc first) ns ss) none)),
+        renewable_feasible (suc first) ns ss us (omega (arith, le)) (tail_of (HasLengths periods) s ss lengths) (tail_of IsSteady s ss steady) (append_nil_right first_told (all_renewable periods (suc first) ns ss) none) rest,
+      )
 
   renewable_none : (first : ℕ) (ns : List NamedRenewableUnit) (ss : List Schedule) (us : List AnyUnit) → AllZip Feasible (flat ns ++ us) ss → (all_renewable periods first ns ss ≡ []) × AllZip Feasible us (drop (length ns) ss)
   renewable_none first [] ss us z = (refl, z)
@@ -122,9 +124,10 @@ module _ (periods : ℕ) where
   bid_feasible first [] (s ∷ ss) le lengths steady none = absurd (omega (arith, le))
   bid_feasible first (n ∷ ns) [] le lengths steady none = absurd (omega (arith, le))
   bid_feasible first (n ∷ ns) (s ∷ ss) le lengths steady none =
-      let first_told = told BidRange kinds.Bid first periods 1 (bid_broken n.unit s) in
-      (bid_is n.unit s (head_of (HasLengths periods) s ss lengths) (head_of IsSteady s ss steady) (told_all BidRange kinds.Bid first periods 1 (bid_broken n.unit s) (append_nil_left first_told (all_bids periods (suc first) ns ss) none)),
-      bid_feasible (suc first) ns ss (omega (arith, le)) (tail_of (HasLengths periods) s ss lengths) (tail_of IsSteady s ss steady) (append_nil_right first_told (all_bids periods (suc first) ns ss) none))
+      let first_told = told BidRange kinds.Bid first periods 1 (bid_broken n.unit s) in (
+        bid_is n.unit s (head_of (HasLengths periods) s ss lengths) (head_of IsSteady s ss steady) (told_all BidRange kinds.Bid first periods 1 (bid_broken n.unit s) (append_nil_left first_told (all_bids periods (suc first) ns ss) none)),
+        bid_feasible (suc first) ns ss (omega (arith, le)) (tail_of (HasLengths periods) s ss lengths) (tail_of IsSteady s ss steady) (append_nil_right first_told (all_bids periods (suc first) ns ss) none),
+      )
 
   bid_none : (first : ℕ) (ns : List NamedBidUnit) (ss : List Schedule) → AllZip Feasible (bids ns) ss → all_bids periods first ns ss ≡ []
   bid_none first [] ss z = refl
@@ -157,12 +160,16 @@ module _ (m : Market) (plan : List Schedule) (shape : HasPlanShape m plan) where
 
   abbrev p1 : List Refusal
   p1 = all_thermal m.periods 1 m.thermal plan
+
   abbrev p2 : List Refusal
   p2 = all_renewable m.periods 1 m.flat later
+
   abbrev p3 : List Refusal
   p3 = all_bids m.periods 1 m.bids last
+
   abbrev p4 : List Refusal
   p4 = told Balance kinds.Case 0 m.periods 1 (balance_broken m plan)
+
   abbrev p5 : List Refusal
   p5 = told Reserve kinds.Case 0 m.periods 1 (reserve_broken m plan)
 

@@ -1,5 +1,5 @@
 -- How long a unit has been on or off, and that the tests of the minimum times are the rules.
-use Rattle.std.proofs.Common.{◌≡◌, ℕ, zero, suc, ◌+◌, ◌-◌, ◌<◌, ◌≤◌, ◌⊎◌, inl, inr, ℤ, pos, Bool, true, false, not, ◌&&◌, cond, Option, Some, None, IsTrue, IsFalse, refl, sym, ap, ◌∙◌, subst, arith}
+use Rattle.std.proofs.Common.{◌≡◌, ℕ, zero, suc, ◌+◌, ◌-◌, ◌<◌, ◌≤◌, ◌⊎◌, inl, inr, pos, Bool, true, false, not, ◌&&◌, cond, Option, Some, None, IsTrue, refl, sym, ap, ◌∙◌, arith}
 use Rattle.std.specs.Prelude.{nat_le, length}
 use Rattle.std.specs.Option.{option_and_then}
 use Rattle.std.proofs.lemmas.Bool.Decides.{nat_tests}
@@ -239,4 +239,3 @@ module _ (g : ThermalUnit) (s : Schedule) where
 
     pub clear_down : (k : ℕ) → k < length s.on → min_down_broken g s k ≡ None
     clear_down k lt = if_holds (starts_in g s (suc k)) (option_and_then (λ (c : ℕ). unless (nat_le g.min_down (suc k - c)) (pos (suc k - c)) (pos g.min_down)) (changed_in g s k)) (λ ended. down_option k lt ended (changed_in g s k) refl)
-

@@ -1,20 +1,20 @@
 -- Sums over all units are sums over their schedules; what a bid buys counts below 0.
-use Rattle.std.proofs.Common.{◌≡◌, ℕ, zero, suc, ◌+◌, ◌<◌, ◌≤◌, ℤ, pos, neg_ℤ, ◌+ℤ◌, ◌-ℤ◌, ◌≤ℤ◌, Bool, true, false, ◌&&◌, Some, None, List, [], ◌∷◌, ◌++◌, map, length, take, drop, refl, sym, ap, ◌∙◌, subst, arith, length-append, length-take, length-drop}
+use Rattle.std.proofs.Common.{◌≡◌, ℕ, zero, suc, ◌+◌, ◌<◌, ◌≤◌, ℤ, pos, neg_ℤ, ◌+ℤ◌, ◌-ℤ◌, Bool, true, false, ◌&&◌, Some, None, List, [], ◌∷◌, ◌++◌, map, length, take, drop, refl, ap, arith, length-append, length-take, length-drop}
 use Rattle.std.proofs.lemmas.Int.{ints}
 use Rattle.std.proofs.lemmas.List.{length-map}
 use Rattle.std.proofs.lemmas.List.Elements.{All-append}
 use Rattle.std.specs.Prelude.{int_le, slice_get, slice_index_or}
-use Rattle.std.specs.List.{All, zip}
+use Rattle.std.specs.List.{All}
 use Rattle.uc_model.specs.Data.{AnyUnit, Thermal, Flat, Bid, NamedThermalUnit, NamedRenewableUnit, NamedBidUnit, Schedule, Market, units, unit_count}
 use Rattle.uc_model.specs.Earnings.{supply_in, cost_of}
-use Rattle.uc_model.specs.Refusals.{unless, balance_broken}
+use Rattle.uc_model.specs.Refusals.{unless}
 use Rattle.uc_model.specs.Schedules.{power_in, reserve_in}
-use Rattle.uc_model.specs.Sums.{int_at, total, zip_with}
+use Rattle.uc_model.specs.Sums.{total}
 use Rattle.uc_model.specs.Systems.{total_power, total_reserve, plan_cost}
 use Rattle.plan_check.specs.Costs.{sum_over, thermal_units, bid_units}
 use Rattle.plan_check.specs.Totals.{powers_at, reserves_at}
 use Rattle.plan_check.proofs.FindLaws.{same_item}
-use Rattle.plan_check.proofs.RunLaws.{and_true, true_or_false, both_true}
+use Rattle.plan_check.proofs.RunLaws.{and_true, both_true}
 use Rattle.plan_check.proofs.ThermalLaws.{le_from_z, le_to_z}
 use Rattle.plan_check.proofs.ToldLaws.{none_some, unless_holds}
 
@@ -80,11 +80,11 @@ module _ (m : Market) (plan : List Schedule) (count : length plan ≡ unit_count
       let back_length = length-drop (length (thermal ++ flat)) plan in
       let split = sum_over-front supply (thermal ++ flat) bids plan (omega (arith, n, count)) in
       let given = sum_over-plain supply gives (thermal ++ flat) front (omega (arith, n, count, front_length))
-          (All-append (λ u. (s : Schedule) → supply u s ≡ gives s) thermal flat
-          (λ j d lt. All-map (λ u. (s : Schedule) → supply u s ≡ gives s) (λ (x : NamedThermalUnit). Thermal x.unit) m.thermal (λ x s. refl) j d lt)
-          (λ j d lt. All-map (λ u. (s : Schedule) → supply u s ≡ gives s) (λ (x : NamedRenewableUnit). Flat x.unit) m.flat (λ x s. refl) j d lt)) in
+      (All-append (λ u. (s : Schedule) → supply u s ≡ gives s) thermal flat
+      (λ j d lt. All-map (λ u. (s : Schedule) → supply u s ≡ gives s) (λ (x : NamedThermalUnit). Thermal x.unit) m.thermal (λ x s. refl) j d lt)
+      (λ j d lt. All-map (λ u. (s : Schedule) → supply u s ≡ gives s) (λ (x : NamedRenewableUnit). Flat x.unit) m.flat (λ x s. refl) j d lt)) in
       let bought = sum_over-plain supply (λ s. neg_ℤ (gives s)) bids back (omega (arith, n, count, back_length, bid_count))
-          (λ j d lt. All-map (λ u. (s : Schedule) → supply u s ≡ neg_ℤ (gives s)) (λ (x : NamedBidUnit). Bid x.unit) m.bids (λ x s. refl) j d lt) in
+      (λ j d lt. All-map (λ u. (s : Schedule) → supply u s ≡ neg_ℤ (gives s)) (λ (x : NamedBidUnit). Bid x.unit) m.bids (λ x s. refl) j d lt) in
       let negated = total-negated gives back in
       let front_is = ap (λ (j : ℕ). powers_at (take j plan) k) n in
       let back_is = ap (λ (j : ℕ). powers_at (drop j plan) k) n in

@@ -1,7 +1,7 @@
 -- What is refused of a thermal unit's schedule is what keeps it from being feasible.
-use Rattle.std.proofs.Common.{◌≡◌, ℕ, zero, suc, ◌+◌, ◌-◌, ◌<◌, ◌≤◌, ◌⊎◌, inl, inr, ℤ, pos, ◌+ℤ◌, ◌-ℤ◌, ◌≤ℤ◌, Bool, true, false, not, ◌&&◌, cond, Option, Some, None, IsTrue, IsFalse, List, [], ◌++◌, length, refl, sym, ap, ◌∙◌, subst, arith}
+use Rattle.std.proofs.Common.{◌≡◌, ℕ, zero, suc, ◌-◌, ◌<◌, ◌≤◌, inl, inr, ℤ, pos, ◌+ℤ◌, ◌-ℤ◌, ◌≤ℤ◌, Bool, true, false, not, ◌&&◌, cond, None, IsTrue, IsFalse, List, [], ◌++◌, length, refl, sym, ap, ◌∙◌, arith}
 use Rattle.std.proofs.lemmas.Int.{ints, clamps}
-use Rattle.std.specs.Prelude.{nat_le, int_le, slice_index, slice_index_or}
+use Rattle.std.specs.Prelude.{nat_le, int_le, slice_index}
 use Rattle.std.specs.Int.{int_min}
 use Rattle.uc_model.specs.declared.units.Mark.{Mark}
 use Rattle.uc_model.specs.declared.units.Mark.TheVariants.{Free, MustOff, MustOn}
@@ -9,9 +9,9 @@ use Rattle.uc_model.specs.declared.kinds.Kind.TheVariants as kinds
 use Rattle.uc_model.specs.declared.kinds.RuleCode.TheVariants.{MustRun, Initial, MinUp, MinDown, Range, StartCap, StopCap, RampUp, RampDown, Window}
 use Rattle.uc_model.specs.Data.{ThermalUnit, Schedule}
 use Rattle.uc_model.specs.Refusals.{Refusal, unless, or_else, same_flag, must_run_broken, initial_broken, min_up_broken, min_down_broken, range_broken, start_broken, output_in, stop_broken, ramp_up_broken, ramp_down_broken, mark_broken, window_broken, told, thermal_refusals}
-use Rattle.uc_model.specs.Schedules.{on_in, power_in, reserve_in, above_min, above_with_reserve, starts_in, stops_in, IsPeriod, mark_in, KeepsCommitment, cap_of, KeepsDispatch, IsSchedule, IsThermalFeasible}
+use Rattle.uc_model.specs.Schedules.{on_in, power_in, reserve_in, above_min, above_with_reserve, starts_in, stops_in, IsPeriod, mark_in, KeepsCommitment, cap_of, KeepsDispatch, IsThermalFeasible}
 use Rattle.uc_model.specs.TaskLists.{flag_number}
-use Rattle.plan_check.proofs.RunLaws.{true_or_false, false_true, true_false, not_true, both_true, same_is, same_refl, le_from, le_to, starts_is, stops_is, keeps_up, keeps_down, clear_up, clear_down}
+use Rattle.plan_check.proofs.RunLaws.{true_or_false, false_true, not_true, same_is, same_refl, le_from, le_to, starts_is, stops_is, keeps_up, keeps_down, clear_up, clear_down}
 use Rattle.plan_check.proofs.ToldLaws.{append_nil_left, append_nil_right, append_nil, told_none, told_all, unless_none, unless_holds, or_else_none, or_else_holds, if_none, if_holds}
 
 -- ---- no rule of the unit is broken
@@ -31,22 +31,31 @@ pub record IsClear (periods : ℕ) (g : ThermalUnit) (s : Schedule) : Type 0 whe
 module _ (periods unit : ℕ) (g : ThermalUnit) (s : Schedule) where
   abbrev t1 : List Refusal
   t1 = told MustRun kinds.Thermal unit periods 1 (must_run_broken g s)
+
   abbrev t2 : List Refusal
   t2 = told Initial kinds.Thermal unit periods 1 (initial_broken g s)
+
   abbrev t3 : List Refusal
   t3 = told MinUp kinds.Thermal unit periods 1 (min_up_broken g s)
+
   abbrev t4 : List Refusal
   t4 = told MinDown kinds.Thermal unit periods 1 (min_down_broken g s)
+
   abbrev t5 : List Refusal
   t5 = told Range kinds.Thermal unit periods 1 (range_broken g s)
+
   abbrev t6 : List Refusal
   t6 = told StartCap kinds.Thermal unit periods 1 (start_broken g s)
+
   abbrev t7 : List Refusal
   t7 = told StopCap kinds.Thermal unit periods 0 (stop_broken g s)
+
   abbrev t8 : List Refusal
   t8 = told RampUp kinds.Thermal unit periods 1 (ramp_up_broken g s)
+
   abbrev t9 : List Refusal
   t9 = told RampDown kinds.Thermal unit periods 1 (ramp_down_broken g s)
+
   abbrev t10 : List Refusal
   t10 = told Window kinds.Thermal unit periods 1 (window_broken g s)
 
@@ -145,15 +154,17 @@ module _ (periods : ℕ) (g : ThermalUnit) (s : Schedule) (on_length : length s.
     on_range : (k : ℕ) → k < periods → on_in g s (suc k) ≡ true → (g.min_power ≤ℤ power_in s (suc k)) × ((power_in s (suc k) +ℤ reserve_in s (suc k)) ≤ℤ g.max_power)
     on_range k lt on =
         let parts = or_else_none (unless (int_le g.min_power (power_in s (suc k))) g.min_power (power_in s (suc k)))
-        (unless (int_le (power_in s (suc k) +ℤ reserve_in s (suc k)) g.max_power) (power_in s (suc k) +ℤ reserve_in s (suc k)) g.max_power) (sym (range_on g s k on) ∙ c.range k lt) in
-        (le_from_z g.min_power (power_in s (suc k)) (unless_none (int_le g.min_power (power_in s (suc k))) g.min_power (power_in s (suc k)) parts.0),
-        le_from_z (power_in s (suc k) +ℤ reserve_in s (suc k)) g.max_power (unless_none (int_le (power_in s (suc k) +ℤ reserve_in s (suc k)) g.max_power) (power_in s (suc k) +ℤ reserve_in s (suc k)) g.max_power parts.1))
+        (unless (int_le (power_in s (suc k) +ℤ reserve_in s (suc k)) g.max_power) (power_in s (suc k) +ℤ reserve_in s (suc k)) g.max_power) (sym (range_on g s k on) ∙ c.range k lt) in (
+          le_from_z g.min_power (power_in s (suc k)) (unless_none (int_le g.min_power (power_in s (suc k))) g.min_power (power_in s (suc k)) parts.0),
+          le_from_z (power_in s (suc k) +ℤ reserve_in s (suc k)) g.max_power (unless_none (int_le (power_in s (suc k) +ℤ reserve_in s (suc k)) g.max_power) (power_in s (suc k) +ℤ reserve_in s (suc k)) g.max_power parts.1),
+        )
 
     off_range : (k : ℕ) → k < periods → on_in g s (suc k) ≡ false → (slice_index s.power k ≡ 0) × (slice_index s.reserve k ≡ 0)
     off_range k lt off =
-        let parts = or_else_none (unless (int_le (power_in s (suc k)) (pos 0)) (power_in s (suc k)) (pos 0)) (unless (int_le (reserve_in s (suc k)) (pos 0)) (reserve_in s (suc k)) (pos 0)) (sym (range_off g s k off) ∙ c.range k lt) in
-        (zero_power (slice_index s.power k) (le_from_z (power_in s (suc k)) (pos 0) (unless_none (int_le (power_in s (suc k)) (pos 0)) (power_in s (suc k)) (pos 0) parts.0)),
-        zero_power (slice_index s.reserve k) (le_from_z (reserve_in s (suc k)) (pos 0) (unless_none (int_le (reserve_in s (suc k)) (pos 0)) (reserve_in s (suc k)) (pos 0) parts.1)))
+        let parts = or_else_none (unless (int_le (power_in s (suc k)) (pos 0)) (power_in s (suc k)) (pos 0)) (unless (int_le (reserve_in s (suc k)) (pos 0)) (reserve_in s (suc k)) (pos 0)) (sym (range_off g s k off) ∙ c.range k lt) in (
+          zero_power (slice_index s.power k) (le_from_z (power_in s (suc k)) (pos 0) (unless_none (int_le (power_in s (suc k)) (pos 0)) (power_in s (suc k)) (pos 0) parts.0)),
+          zero_power (slice_index s.reserve k) (le_from_z (reserve_in s (suc k)) (pos 0) (unless_none (int_le (reserve_in s (suc k)) (pos 0)) (reserve_in s (suc k)) (pos 0) parts.1)),
+        )
 
     keeps_must_run : IsTrue g.must_run → (t : ℕ) → IsPeriod s t → IsTrue (on_in g s t)
     keeps_must_run m zero p = absurd (omega (arith, p.from_one))

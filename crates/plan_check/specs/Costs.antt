@@ -1,5 +1,5 @@
 -- What one period of a schedule costs, or is worth to a buyer (this project's profile).
-use Rattle.std.specs.Prelude.{ℕ, suc, ℤ, pos, Bool, if◌then◌else◌, List, map}
+use Rattle.std.specs.Prelude.{ℕ, suc, ℤ, pos, if◌then◌else◌, List, map}
 use Rattle.uc_model.specs.Data.{AnyUnit, Thermal, Bid, NamedThermalUnit, NamedBidUnit, ThermalUnit, BidUnit, Schedule, Market}
 use Rattle.uc_model.specs.Earnings.{start_cost_of, worth_of}
 use Rattle.uc_model.specs.Envelope.{envelope}

@@ -11,11 +11,8 @@ ghost use Rattle.uc_model.specs.Systems.{plan_cost, IsFeasiblePlan};
 ghost use Rattle.plan_check.specs.Checks.{refusal_of, Finds};
 ghost use Rattle.plan_check.specs.States.{sides_of, thermal_broken, told_shift, rule_refusals};
 
-use crate::RuleFault;
-use crate::costs;
-use crate::rules;
 use crate::states::Sides;
-use crate::totals;
+use crate::{RuleFault, costs, rules, totals};
 use uc_model::cases::{Case, Plan};
 use uc_model::kinds::{Kind, RuleCode};
 use uc_model::units::{Bid, Block, Renewable, Response, Unit};
@@ -85,7 +82,12 @@ fn shift_of(rule: RuleCode) -> u32
 }
 
 // The first period in which a rule of a thermal unit is broken.
-fn check_rule(rule: RuleCode, unit: &Unit, response: &Response, number: u32) -> Result<(), RuleFault>
+fn check_rule(
+    rule: RuleCode,
+    unit: &Unit,
+    response: &Response,
+    number: u32,
+) -> Result<(), RuleFault>
     requires horizon { length (schedule_of response.now).on ≤ 168 }
     requires window { length (thermal_of unit.now).window ≡ length (schedule_of response.now).on }
     ensures { Finds (rule_refusals (length (schedule_of response.now).on) number (thermal_of unit.now) (schedule_of response.now) rule) result }
@@ -100,7 +102,12 @@ fn check_rule(rule: RuleCode, unit: &Unit, response: &Response, number: u32) -> 
 }
 
 // The first of some rules that a thermal unit breaks.
-fn check_rules(rules: &[RuleCode], unit: &Unit, response: &Response, number: u32) -> Result<(), RuleFault>
+fn check_rules(
+    rules: &[RuleCode],
+    unit: &Unit,
+    response: &Response,
+    number: u32,
+) -> Result<(), RuleFault>
     requires horizon { length (schedule_of response.now).on ≤ 168 }
     requires window { length (thermal_of unit.now).window ≡ length (schedule_of response.now).on }
     ensures { Finds (flat_map (rule_refusals (length (schedule_of response.now).on) number (thermal_of unit.now) (schedule_of response.now)) rules.now) result }
@@ -154,7 +161,13 @@ fn check_renewable(flat: &Renewable, response: &Response, number: u32) -> Result
     for place in 0..response.on.len() {
         if let Some(sides) = renewable_sides(flat, response, place) {
             let period = place as u32 + 1;
-            return Err(fault(RuleCode::RenewableRange, Kind::Renewable, number, period, sides));
+            return Err(fault(
+                RuleCode::RenewableRange,
+                Kind::Renewable,
+                number,
+                period,
+                sides,
+            ));
         }
     }
     Ok(())

@@ -4,7 +4,7 @@
 use uc_model::kinds::{Kind, RuleCode};
 
 mod check;
-mod costs;
+pub mod costs;
 pub mod laws;
 mod rules;
 mod states;

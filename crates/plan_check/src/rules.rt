@@ -177,7 +177,11 @@ pub fn min_down_sides(unit: &Unit, response: &Response, place: usize) -> Option<
     if !on_in_period(unit, response, place + 1) {
         return None;
     }
-    run_sides(change_before(unit, response, place), place + 1, unit.min_down)
+    run_sides(
+        change_before(unit, response, place),
+        place + 1,
+        unit.min_down,
+    )
 }
 
 /// The first of two broken rules.
@@ -215,7 +219,10 @@ pub fn range_sides(unit: &Unit, response: &Response, place: usize) -> Option<Sid
     let power = power_at(response, place);
     let now = state_at(unit, response, place);
     if now.on {
-        return first_of(at_most(unit.min_power, power), at_most(now.output, unit.max_power));
+        return first_of(
+            at_most(unit.min_power, power),
+            at_most(now.output, unit.max_power),
+        );
     }
     first_of(at_most(power, 0), at_most(now.reserve, 0))
 }

@@ -1,4 +1,4 @@
-use Rattle.std.proofs.Common.{◌≡◌, sym, subst}
+use Rattle.std.proofs.Common.{sym, subst}
 use Rattle.uc_model.specs.Limits.{IsBlockList}
 use Rattle.uc_model.specs.PlainUnits.{bid_of}
 use Rattle.uc_model.specs.Reserved.{items_in}

@@ -1,8 +1,7 @@
-use Rattle.std.proofs.Common.{◌≡◌, [], Some, is_ok, refl, sym, ap, ◌∙◌}
+use Rattle.std.proofs.Common.{is_ok, refl, sym, ap, ◌∙◌}
 use Rattle.std.proofs.lemmas.Result.{err_from_is_err_and}
 use Rattle.uc_model.specs.PlainCases.{market_of, schedules_of}
 use Rattle.uc_model.specs.Refusals.{refusals}
-use Rattle.plan_check.specs.Checks.{refusal_of}
 use Rattle.plan_check.proofs.PlanLaws.{refusals_are_exact}
 use Rattle.plan_check.proofs.RunLaws.{false_true}
 use Rattle.plan_check.proofs.ToldLaws.{some_first}
@@ -19,6 +18,7 @@ returns-clause-feasible c =
 pub returns-in_err-check_all-clause-feasible : goal.returns-in_err-check_all-clause-feasible
 returns-in_err-check_all-clause-feasible c =
     let exact = refusals_are_exact (market_of c.args.case.now) (schedules_of c.args.plan.now) c.args.case.now.valid c.requires in
-    let p = err_from_is_err_and c.from_residual.result c.from_residual.ensures.1 in
-    (λ ok. absurd (false_true (sym (ap is_ok p.1) ∙ ok)),
-    λ feasible. absurd (some_first (refusals (market_of c.args.case.now) (schedules_of c.args.plan.now)) _ c.in_err-check_all.ensures (exact.1 feasible)))
+    let p = err_from_is_err_and c.from_residual.result c.from_residual.ensures.1 in (
+      λ ok. absurd (false_true (sym (ap is_ok p.1) ∙ ok)),
+      λ feasible. absurd (some_first (refusals (market_of c.args.case.now) (schedules_of c.args.plan.now)) _ c.in_err-check_all.ensures (exact.1 feasible)),
+    )

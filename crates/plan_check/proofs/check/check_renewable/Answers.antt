@@ -1,6 +1,6 @@
-use Rattle.std.proofs.Common.{rules, ◌≡◌, ℕ, ◌+◌, ◌<◌, ℤ, Some, None, length, sym, ap, ◌∙◌, arith}
+use Rattle.std.proofs.Common.{rules, ◌<◌, Some, length, sym, ap, ◌∙◌, arith}
 use Rattle.uc_model.specs.PlainUnits.{renewable_of, schedule_of}
-use Rattle.uc_model.specs.Refusals.{Refusal, renewable_broken}
+use Rattle.uc_model.specs.Refusals.{renewable_broken}
 use Rattle.uc_model.specs.declared.kinds.Kind.TheVariants as kinds
 use Rattle.uc_model.specs.declared.kinds.RuleCode.TheVariants.{RenewableRange}
 use Rattle.plan_check.proofs.ToldLaws.{told_none, told_first}

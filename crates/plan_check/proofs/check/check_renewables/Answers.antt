@@ -1,15 +1,14 @@
-use Rattle.std.proofs.Common.{rules, ◌≡◌, ℕ, ◌+◌, ◌<◌, ◌≤◌, Some, List, [], map, length, drop, sym, ap, ◌∙◌, subst, arith}
+use Rattle.std.proofs.Common.{◌≡◌, ℕ, ◌+◌, map, length, drop, sym, ap, ◌∙◌, arith}
 use Rattle.std.proofs.lemmas.List.{length-map}
 use Rattle.std.proofs.lemmas.Result.{err_from_is_err_and}
 use Rattle.std.specs.Prelude.{slice_get}
 use Rattle.uc_model.specs.declared.kinds.Kind.TheVariants as kinds
-use Rattle.uc_model.specs.declared.kinds.RuleCode.TheVariants.{RenewableRange, BidRange}
-use Rattle.uc_model.specs.Data.{Schedule, NamedThermalUnit, NamedRenewableUnit, NamedBidUnit}
-use Rattle.uc_model.specs.Limits.{IsThermalUnit, IsRenewableUnit, IsBidUnit}
-use Rattle.uc_model.specs.PlainCases.{market_of, schedules_of}
-use Rattle.uc_model.specs.PlainUnits.{thermal_of, renewable_of, bid_of, schedule_of, named_thermal_of, named_renewable_of, named_bid_of}
-use Rattle.uc_model.specs.Refusals.{told, thermal_refusals, renewable_broken, bid_broken, all_thermal, all_renewable, all_bids}
-use Rattle.plan_check.specs.Checks.{Finds, refusal_of}
+use Rattle.uc_model.specs.declared.kinds.RuleCode.TheVariants.{RenewableRange}
+use Rattle.uc_model.specs.Data.{Schedule, NamedRenewableUnit}
+use Rattle.uc_model.specs.Limits.{IsRenewableUnit}
+use Rattle.uc_model.specs.PlainCases.{schedules_of}
+use Rattle.uc_model.specs.PlainUnits.{renewable_of, schedule_of, named_thermal_of, named_renewable_of}
+use Rattle.uc_model.specs.Refusals.{told, renewable_broken}
 use Rattle.plan_check.proofs.FindLaws.{over_units_first, over_units_none, NoneBefore-more, all_renewable_is}
 use Rattle.plan_check.proofs.PlanLaws.{HasLengths}
 use Rattle.plan_check.proofs.ShapeLaws.{item_of, map_item, drop_item}

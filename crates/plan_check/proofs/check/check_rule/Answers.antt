@@ -1,6 +1,5 @@
-use Rattle.std.proofs.Common.{rules, ◌≡◌, ℕ, ◌+◌, ◌<◌, ℤ, Some, None, length, sym, ap, ◌∙◌, arith}
+use Rattle.std.proofs.Common.{rules, ℕ, ◌+◌, ◌<◌, Some, length, sym, ap, ◌∙◌, arith}
 use Rattle.uc_model.specs.PlainUnits.{thermal_of, schedule_of}
-use Rattle.uc_model.specs.Refusals.{Refusal}
 use Rattle.uc_model.specs.declared.kinds.Kind.TheVariants as kinds
 use Rattle.plan_check.specs.States.{thermal_broken, told_shift}
 use Rattle.plan_check.proofs.ToldLaws.{told_none, told_first}

@@ -1,8 +1,7 @@
-use Rattle.std.proofs.Common.{rules, ◌≡◌, ℕ, length, Some, arith}
+use Rattle.std.proofs.Common.{length}
 use Rattle.std.proofs.lemmas.Result.{err_from_is_err_and}
 use Rattle.uc_model.specs.PlainUnits.{thermal_of, schedule_of}
 use Rattle.uc_model.specs.declared.kinds.RuleCode.TheVariants.{MustRun}
-use Rattle.plan_check.specs.Checks.{refusal_of}
 use Rattle.plan_check.specs.States.{rule_refusals}
 use Rattle.plan_check.proofs.FindLaws.{flat_map_on, flat_map_first}
 use Rattle.plan_check.proofs.check.check_rules.Goals as goal

@@ -1,4 +1,4 @@
-use Rattle.std.proofs.Common.{◌≡◌, length, sym, subst}
+use Rattle.std.proofs.Common.{length, sym, subst}
 use Rattle.uc_model.specs.PlainUnits.{thermal_of, schedule_of}
 use Rattle.plan_check.specs.Checks.{Finds}
 use Rattle.plan_check.proofs.FindLaws.{thermal_rules}

@@ -1,4 +1,4 @@
-use Rattle.std.proofs.Common.{rules, ◌≡◌, ◌+◌, ◌*◌, ℤ, pos, ◌+ℤ◌, ◌≤ℤ◌, ◌∷◌, ◌++◌, [], get_or, take, ap, ◌∙◌, arith}
+use Rattle.std.proofs.Common.{pos, get_or, take, ap, ◌∙◌, arith}
 use Rattle.std.proofs.lemmas.Int.{ints}
 use Rattle.std.proofs.lemmas.List.{take_more}
 use Rattle.uc_model.specs.declared.units.Block.{Block}

@@ -11,5 +11,5 @@ invariant-loop-place l = record {
   down : l.down ≡ time_down (thermal_of l.unit) (schedule_of l.response) l.place;
   down_limit : l.down ≤ 1000000 + l.place;
   is : l.sum ≡ sum_below l.place (start_cost_at (thermal_of l.unit) (schedule_of l.response));
-  limit : IsFrom (pos 0) (pos (10000000000000 * l.place)) l.sum
+  limit : IsFrom (pos 0) (pos (10000000000000 * l.place)) l.sum;
 }

@@ -8,5 +8,5 @@ use Rattle.plan_check.proofs.costs.power_costs.Given as goal
 abbrev pub invariant-loop-place : goal.invariant-loop-place
 invariant-loop-place l = record {
   is : l.sum ≡ sum_below l.place (production_at (thermal_of l.unit) (schedule_of l.response));
-  limit : IsFrom (neg_ℤ (pos (10000000000000 * l.place))) (pos (10000000000000 * l.place)) l.sum
+  limit : IsFrom (neg_ℤ (pos (10000000000000 * l.place))) (pos (10000000000000 * l.place)) l.sum;
 }

@@ -1,17 +1,15 @@
-use Rattle.std.proofs.Common.{rules, ◌≡◌, ℕ, ◌+◌, ◌*◌, ◌<◌, ◌≤◌, ℤ, pos, neg_ℤ, ◌+ℤ◌, ◌-ℤ◌, Some, List, [], ◌++◌, map, length, drop, take, sym, ap, ◌∙◌, subst, arith}
+use Rattle.std.proofs.Common.{ℕ, ◌++◌, map, sym, subst, arith}
 use Rattle.std.proofs.lemmas.Int.{ints}
-use Rattle.std.proofs.lemmas.List.{length-map, take_all}
-use Rattle.std.specs.Prelude.{slice_get}
-use Rattle.uc_model.specs.Data.{AnyUnit, Thermal, Flat, Bid, NamedThermalUnit, NamedRenewableUnit, NamedBidUnit, Schedule}
+use Rattle.std.proofs.lemmas.List.{length-map}
+use Rattle.uc_model.specs.Data.{AnyUnit, Thermal, Flat, NamedThermalUnit, NamedRenewableUnit, Schedule}
 use Rattle.uc_model.specs.Earnings.{cost_of}
-use Rattle.uc_model.specs.Limits.{IsBidUnit}
 use Rattle.uc_model.specs.PlainCases.{market_of, schedules_of}
-use Rattle.uc_model.specs.PlainUnits.{thermal_of, bid_of, schedule_of, named_thermal_of, named_renewable_of, named_bid_of}
+use Rattle.uc_model.specs.PlainUnits.{thermal_of, schedule_of, named_thermal_of}
 use Rattle.uc_model.specs.Schedules.{IsFeasible, IsThermalFeasible}
-use Rattle.plan_check.specs.Costs.{sum_over, thermal_units, bid_units}
+use Rattle.plan_check.specs.Costs.{thermal_units, bid_units}
 use Rattle.plan_check.proofs.PlanLaws.{HasLengths}
-use Rattle.plan_check.proofs.ShapeLaws.{item_of, map_item, drop_item, zip_item, front_item}
-use Rattle.plan_check.proofs.SystemLaws.{sum_over-more, plan_cost_is}
+use Rattle.plan_check.proofs.ShapeLaws.{item_of, map_item, zip_item, front_item}
+use Rattle.plan_check.proofs.SystemLaws.{sum_over-more}
 use Rattle.plan_check.proofs.costs.thermal_costs.Goals as goal
 
 pub power_costs-requires-clause-horizon : goal.power_costs-requires-clause-horizon

@@ -8,5 +8,5 @@ use Rattle.plan_check.proofs.costs.worth.Given as goal
 abbrev pub invariant-loop-place : goal.invariant-loop-place
 invariant-loop-place l = record {
   is : l.sum ≡ sum_below l.place (worth_at (bid_of l.bid) (schedule_of l.response));
-  limit : IsFrom (pos 0) (pos (80000000000000000 * l.place)) l.sum
+  limit : IsFrom (pos 0) (pos (80000000000000000 * l.place)) l.sum;
 }

@@ -1,17 +1,16 @@
-use Rattle.std.proofs.Common.{rules, ◌≡◌, ℕ, ◌+◌, ◌*◌, ◌<◌, ◌≤◌, ℤ, pos, neg_ℤ, ◌+ℤ◌, ◌-ℤ◌, Some, List, [], map, length, drop, take, sym, ap, ◌∙◌, subst, arith}
+use Rattle.std.proofs.Common.{◌≡◌, ℕ, ◌+◌, length, drop, sym, ap, ◌∙◌, arith}
 use Rattle.std.proofs.lemmas.Int.{ints}
-use Rattle.std.proofs.lemmas.List.{length-map, take_all}
+use Rattle.std.proofs.lemmas.List.{length-map}
 use Rattle.std.specs.Prelude.{slice_get}
-use Rattle.uc_model.specs.Data.{AnyUnit, Thermal, Flat, Bid, NamedThermalUnit, NamedRenewableUnit, NamedBidUnit, Schedule}
+use Rattle.uc_model.specs.Data.{Bid, NamedBidUnit}
 use Rattle.uc_model.specs.Earnings.{cost_of}
 use Rattle.uc_model.specs.Limits.{IsBidUnit}
 use Rattle.uc_model.specs.PlainCases.{market_of, schedules_of}
-use Rattle.uc_model.specs.PlainUnits.{thermal_of, bid_of, schedule_of, named_thermal_of, named_renewable_of, named_bid_of}
-use Rattle.uc_model.specs.Schedules.{IsFeasible, IsThermalFeasible}
-use Rattle.plan_check.specs.Costs.{sum_over, thermal_units, bid_units}
+use Rattle.uc_model.specs.PlainUnits.{bid_of, schedule_of, named_thermal_of, named_renewable_of, named_bid_of}
+use Rattle.plan_check.specs.Costs.{bid_units}
 use Rattle.plan_check.proofs.PlanLaws.{HasLengths}
-use Rattle.plan_check.proofs.ShapeLaws.{item_of, map_item, drop_item, zip_item, front_item}
-use Rattle.plan_check.proofs.SystemLaws.{sum_over-more, plan_cost_is}
+use Rattle.plan_check.proofs.ShapeLaws.{item_of, map_item, drop_item}
+use Rattle.plan_check.proofs.SystemLaws.{sum_over-more}
 use Rattle.plan_check.proofs.costs.worth_of_bids.Goals as goal
 
 pub worth-sum-requires-clause-horizon : goal.worth-sum-requires-clause-horizon
@@ -55,7 +54,7 @@ loop-place-preserved c =
     let whole_at = map_item schedule_of c.args.plan.now.responses.items (first + i) c.get-in-loop-place.result.now c.get-in-loop-place.ensures.item in
     let lengths = item_of (HasLengths c.args.case.now.periods) ps (first + i) s c.requires.lengths whole_at in
     let skip : length m.thermal + length m.flat ≡ c.len.result + c.len-2.result =
-        omega (arith, length-map c.args.case.now.thermal.items named_thermal_of, length-map c.args.case.now.flat.items named_renewable_of, c.len.ensures, c.len-2.ensures) in
+    omega (arith, length-map c.args.case.now.thermal.items named_thermal_of, length-map c.args.case.now.flat.items named_renewable_of, c.len.ensures, c.len-2.ensures) in
     let plan_at = drop_item (length m.thermal + length m.flat) ps i ∙ ap (λ (n : ℕ). slice_get ps (n + i)) skip ∙ whole_at in
     let u_at = map_item (λ (n : NamedBidUnit). Bid n.unit) m.bids i (named_bid_of x) unit_at in
     let known = c.loop-place.invariant in

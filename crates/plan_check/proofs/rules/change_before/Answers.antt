@@ -1,4 +1,4 @@
-use Rattle.std.proofs.Common.{rules, ◌≡◌, ℕ, ◌-◌, ◌≤◌, sym, ◌∙◌, arith}
+use Rattle.std.proofs.Common.{rules, ◌≡◌, sym, ◌∙◌, arith}
 use Rattle.uc_model.specs.PlainUnits.{thermal_of, schedule_of}
 use Rattle.plan_check.proofs.ChangeLaws.{changed_here, changed_back}
 use Rattle.plan_check.proofs.rules.change_before.Goals as goal

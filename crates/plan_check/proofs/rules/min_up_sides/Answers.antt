@@ -1,4 +1,4 @@
-use Rattle.std.proofs.Common.{rules, ◌≡◌, ℕ, suc, ◌+◌, true, false, sym, ap, ◌∙◌, arith}
+use Rattle.std.proofs.Common.{rules, ◌≡◌, suc, ◌+◌, true, false, sym, ap, ◌∙◌, arith}
 use Rattle.uc_model.specs.PlainUnits.{thermal_of, schedule_of}
 use Rattle.uc_model.specs.Schedules.{on_in}
 use Rattle.plan_check.specs.States.{run_broken}

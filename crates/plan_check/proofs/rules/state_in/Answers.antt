@@ -1,4 +1,4 @@
-use Rattle.std.proofs.Common.{◌≡◌, ℕ, sym, subst}
+use Rattle.std.proofs.Common.{sym, subst}
 use Rattle.uc_model.specs.PlainUnits.{thermal_of, schedule_of}
 use Rattle.plan_check.specs.States.{IsStateIn}
 use Rattle.plan_check.proofs.rules.state_in.Goals as goal

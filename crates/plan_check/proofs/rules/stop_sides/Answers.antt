@@ -1,4 +1,4 @@
-use Rattle.std.proofs.Common.{rules, ◌≡◌, ℕ, suc, ℤ, Bool, true, false, cond, Option, None, sym, ap, ◌∙◌, w64, FitsSigned}
+use Rattle.std.proofs.Common.{rules, ◌≡◌, suc, ℤ, Bool, true, false, cond, None, sym, ap, ◌∙◌, w64, FitsSigned}
 use Rattle.std.proofs.lemmas.Int.{to_z-of_z}
 use Rattle.std.specs.Prelude.{int_le}
 use Rattle.std.specs.Int.{int_min}

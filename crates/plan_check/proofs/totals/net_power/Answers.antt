@@ -1,20 +1,14 @@
-use Rattle.std.proofs.Common.{rules, ◌≡◌, ◌+◌, ◌<◌, ℕ, suc, ℤ, pos, ◌+ℤ◌, ◌-ℤ◌, Some, List, map, length, take, drop, sym, ap, ◌∙◌, subst, w64, FitsSigned, to_z, of_z, arith}
-use Rattle.std.proofs.lemmas.Int.{ints, to_z-of_z}
+use Rattle.std.proofs.Common.{◌≡◌, ◌+◌, ◌<◌, ℕ, List, map, length, take, drop, sym, ap, ◌∙◌, subst, arith}
+use Rattle.std.proofs.lemmas.Int.{ints}
 use Rattle.std.proofs.lemmas.List.{take-map, length-map}
 use Rattle.std.proofs.lemmas.List.Elements.{All-take, All-drop}
-use Rattle.std.proofs.lemmas.Option.{get_or_from_slice_get}
 use Rattle.std.specs.List.{All}
-use Rattle.std.specs.Prelude.{int_le}
 use Rattle.uc_model.specs.declared.units.Response.{Response}
-use Rattle.uc_model.specs.Data.{units}
 use Rattle.uc_model.specs.PlainCases.{market_of, schedules_of}
 use Rattle.uc_model.specs.PlainUnits.{schedule_of, named_thermal_of, named_renewable_of}
-use Rattle.uc_model.specs.Refusals.{unless}
-use Rattle.uc_model.specs.Sums.{int_at}
-use Rattle.uc_model.specs.Systems.{total_power, total_reserve}
-use Rattle.plan_check.specs.Totals.{powers_at, reserves_at}
+use Rattle.plan_check.specs.Totals.{powers_at}
 use Rattle.plan_check.proofs.ShapeLaws.{covers, drop-map}
-use Rattle.plan_check.proofs.SystemLaws.{total_power_is, total_reserve_is, unbalanced}
+use Rattle.plan_check.proofs.SystemLaws.{total_power_is}
 use Rattle.plan_check.proofs.totals.net_power.Goals as goal
 
 pub totals_at-given-requires-clause-place : goal.totals_at-given-requires-clause-place
@@ -41,7 +35,7 @@ returns-clause-value c =
     let items = c.args.plan.now.responses.items in
     let whole = total_power_is m ps c.requires.shape.count k in
     let count : length m.thermal + length m.flat ≡ c.len.result + c.len-2.result =
-        omega (arith, length-map c.args.case.now.thermal.items named_thermal_of, length-map c.args.case.now.flat.items named_renewable_of, c.len.ensures, c.len-2.ensures) in
+    omega (arith, length-map c.args.case.now.thermal.items named_thermal_of, length-map c.args.case.now.flat.items named_renewable_of, c.len.ensures, c.len-2.ensures) in
     let front_n = ap (λ (j : ℕ). powers_at (take j ps) k) count in
     let back_n = ap (λ (j : ℕ). powers_at (drop j ps) k) count in
     let front = c.split_at.ensures.front ∙ ap (λ (rs : List Response). take (c.len.result + c.len-2.result) rs) c.as_slice.ensures in

@@ -1,20 +1,16 @@
-use Rattle.std.proofs.Common.{rules, ◌≡◌, ◌+◌, ◌<◌, ℕ, suc, ℤ, pos, ◌+ℤ◌, ◌-ℤ◌, Some, List, map, length, take, drop, sym, ap, ◌∙◌, subst, w64, FitsSigned, to_z, of_z, arith}
-use Rattle.std.proofs.lemmas.Int.{ints, to_z-of_z}
-use Rattle.std.proofs.lemmas.List.{take-map, length-map}
-use Rattle.std.proofs.lemmas.List.Elements.{All-take, All-drop}
+use Rattle.std.proofs.Common.{rules, ◌<◌, ℤ, pos, List, map, length, sym, ap, ◌∙◌, subst, w64, FitsSigned}
+use Rattle.std.proofs.lemmas.Int.{to_z-of_z}
 use Rattle.std.proofs.lemmas.Option.{get_or_from_slice_get}
 use Rattle.std.specs.List.{All}
 use Rattle.std.specs.Prelude.{int_le}
 use Rattle.uc_model.specs.declared.units.Response.{Response}
-use Rattle.uc_model.specs.Data.{units}
 use Rattle.uc_model.specs.PlainCases.{market_of, schedules_of}
-use Rattle.uc_model.specs.PlainUnits.{schedule_of, named_thermal_of, named_renewable_of}
+use Rattle.uc_model.specs.PlainUnits.{schedule_of}
 use Rattle.uc_model.specs.Refusals.{unless}
 use Rattle.uc_model.specs.Sums.{int_at}
-use Rattle.uc_model.specs.Systems.{total_power, total_reserve}
-use Rattle.plan_check.specs.Totals.{powers_at, reserves_at}
-use Rattle.plan_check.proofs.ShapeLaws.{covers, drop-map}
-use Rattle.plan_check.proofs.SystemLaws.{total_power_is, total_reserve_is, unbalanced}
+use Rattle.plan_check.specs.Totals.{reserves_at}
+use Rattle.plan_check.proofs.ShapeLaws.{covers}
+use Rattle.plan_check.proofs.SystemLaws.{total_reserve_is}
 use Rattle.plan_check.proofs.totals.reserve_sides.Goals as goal
 
 pub totals_at-totals-requires-clause-place : goal.totals_at-totals-requires-clause-place

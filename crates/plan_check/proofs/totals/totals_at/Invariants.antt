@@ -9,5 +9,5 @@ invariant-loop-response l = record {
   power : l.totals.power ≡ powers_at (map schedule_of (take l.response-index l.responses)) l.place;
   reserve : l.totals.reserve ≡ reserves_at (map schedule_of (take l.response-index l.responses)) l.place;
   power_limit : IsFrom (pos 0) (pos (4294967296 * l.response-index)) l.totals.power;
-  reserve_limit : IsFrom (pos 0) (pos (4294967296 * l.response-index)) l.totals.reserve
+  reserve_limit : IsFrom (pos 0) (pos (4294967296 * l.response-index)) l.totals.reserve;
 }
