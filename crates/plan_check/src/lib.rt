@@ -8,6 +8,8 @@ pub mod costs;
 pub mod laws;
 mod rules;
 mod states;
+#[cfg(test)]
+mod tests;
 mod totals;
 
 pub use check::check_plan;
