@@ -1,0 +1,4 @@
+pub mod Bounds
+pub mod Lists
+pub mod Paid
+pub mod Units

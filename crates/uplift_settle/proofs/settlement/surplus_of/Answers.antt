@@ -1,0 +1,33 @@
+use Rattle.std.proofs.Common.{rules, ◌≡◌, ℕ, ℤ, pos, ◌+ℤ◌, ◌*ℤ◌, sym, ap, ◌∙◌, w64, FitsSigned, arith}
+use Rattle.std.proofs.lemmas.Int.{ints, to_z-of_z}
+use Rattle.std.proofs.lemmas.Option.{get_or_from_slice_get}
+use Rattle.uc_model.specs.PlainCases.{market_of, schedules_of}
+use Rattle.uc_model.specs.Sums.{int_at, sum_below}
+use Rattle.plan_check.proofs.CostSums.{sum_more}
+use Rattle.uplift_settle.specs.Earned.{surplus_at}
+use Rattle.uplift_settle.proofs.settlement.surplus_of.Goals as goal
+
+pub loop-place-preserved : goal.loop-place-preserved
+loop-place-preserved c =
+    let m = market_of c.args.case.now in
+    let ps = schedules_of c.args.plan.now in
+    let k = c.loop-place.place in
+    let f1 : FitsSigned w64 c.get-price.result.now = search rules in
+    let f2 : FitsSigned w64 c.reserve_over.result = search rules in
+    let price = get_or_from_slice_get c.args.prices.now.reserve.items k c.get-price.result.now (pos 0) c.get-price.ensures.item in
+    let paid = simp to_z-of_z at c.pay-sum.ensures.value in
+    let value : c.pay-sum.result ≡ int_at c.args.prices.now.reserve.items k *ℤ surplus_at m ps k =
+        paid ∙ ap (λ (z : ℤ). z *ℤ c.reserve_over.result) (sym price) ∙ ap (λ (z : ℤ). int_at c.args.prices.now.reserve.items k *ℤ z) c.reserve_over.ensures.value in
+    let known = c.loop-place.invariant in
+    let is = known.is in
+    let low = known.limit.at_least in
+    let high = known.limit.at_most in
+    let call_low = c.pay-sum.ensures.limit.at_least in
+    let call_high = c.pay-sum.ensures.limit.at_most in
+    let horizon = c.args.case.now.valid.horizon.at_most in
+    let test = c.loop-place-test.true in
+    let more = sum_more k (λ j. int_at c.args.prices.now.reserve.items j *ℤ surplus_at m ps j) in
+    record {
+      is = omega (arith, ints, is, low, high, value, call_low, call_high, more, horizon, test);
+      limit = record { at_least = omega (arith, ints, low, high, call_low, call_high, horizon, test); at_most = omega (arith, ints, low, high, call_low, call_high, horizon, test) };
+    }

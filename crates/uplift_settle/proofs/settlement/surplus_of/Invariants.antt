@@ -1,0 +1,12 @@
+use Rattle.std.proofs.Common.{◌≡◌, ◌*◌, pos, neg_ℤ, ◌*ℤ◌}
+use Rattle.uc_model.specs.Limits.{IsFrom}
+use Rattle.uc_model.specs.PlainCases.{market_of, schedules_of}
+use Rattle.uc_model.specs.Sums.{int_at, sum_below}
+use Rattle.uplift_settle.specs.Earned.{surplus_at}
+use Rattle.uplift_settle.proofs.settlement.surplus_of.Given as goal
+
+abbrev pub invariant-loop-place : goal.invariant-loop-place
+invariant-loop-place l = record {
+  is : l.sum ≡ sum_below l.place (λ k. int_at l.prices.reserve.items k *ℤ surplus_at (market_of l.case) (schedules_of l.plan) k);
+  limit : IsFrom (neg_ℤ (pos (2000000000000000000000 * l.place))) (pos (2000000000000000000000 * l.place)) l.sum
+}

@@ -1,0 +1,140 @@
+//! What the schedules of a plan earn.
+ghost use Rattle.std.specs.Prelude.{◌≡◌, ◌≤◌, ◌<◌, ◌+◌, pos, neg_ℤ, ◌*ℤ◌, length, Some, slice_get};
+ghost use Rattle.std.specs.List.{All};
+ghost use Rattle.uc_model.specs.Data.{RenewableUnit, Thermal, Flat, Bid as BidOf};
+ghost use Rattle.uc_model.specs.Earnings.{earnings};
+ghost use Rattle.uc_model.specs.Limits.{IsFrom, price_limit};
+ghost use Rattle.uc_model.specs.PlainCases.{market_of, schedules_of};
+ghost use Rattle.uc_model.specs.PlainUnits.{thermal_of, bid_of, prices_of, schedule_of};
+ghost use Rattle.uc_model.specs.Schedules.{IsThermalFeasible};
+ghost use Rattle.uc_model.specs.Systems.{IsFeasiblePlan};
+ghost use Rattle.uplift_settle.specs.Earned.{paid_for, earned_in};
+
+use plan_check::costs::{costs_of_starts, power_costs, worth};
+use uc_model::cases::{Case, Plan};
+use uc_model::lists::{Numbers, Powers};
+use uc_model::units::{Bid, Prices, Response, Unit};
+
+/// What a price pays for so many kilowatts.
+pub fn pay(price: i64, amount: i64) -> i128
+    requires price { IsFrom (neg_ℤ price_limit) price_limit price }
+    requires amount { IsFrom (neg_ℤ (pos 200000000000000)) (pos 200000000000000) amount }
+    ensures value { result ≡ price *ℤ amount }
+    ensures limit { IsFrom (neg_ℤ (pos 2000000000000000000000)) (pos 2000000000000000000000) result }
+{
+    i128::from(price) * i128::from(amount)
+}
+
+// What the prices of all periods pay for the amounts of all periods.
+fn paid(prices: &Numbers, amounts: &Powers) -> i128
+    requires prices { All (IsFrom (neg_ℤ price_limit) price_limit) prices.now.items }
+    requires lengths { length prices.now.items ≡ length amounts.now.items }
+    requires horizon { length amounts.now.items ≤ 168 }
+    ensures value { result ≡ paid_for prices.now.items amounts.now.items }
+    ensures limit { IsFrom (neg_ℤ (pos 1000000000000000000000000)) (pos 1000000000000000000000000) result }
+{
+    let mut sum = 0;
+    for place in 0..amounts.len() {
+        let price = *prices.get(place);
+        let amount = *amounts.get(place);
+        sum += pay(price, i64::from(amount));
+    }
+    sum
+}
+
+// What the schedule of a thermal unit earns: what it is paid for power and reserve, less what it costs.
+fn thermal_earnings(unit: &Unit, prices: &Prices, response: &Response) -> i128
+    requires horizon { length (schedule_of response.now).on ≡ length (prices_of prices.now).energy }
+    requires feasible { IsThermalFeasible (thermal_of unit.now) (length (schedule_of response.now).on) (schedule_of response.now) }
+    ensures { result ≡ earnings (Thermal (thermal_of unit.now)) (prices_of prices.now) (schedule_of response.now) }
+{
+    let energy = paid(&prices.energy, &response.power);
+    let reserve = paid(&prices.reserve, &response.reserve);
+    let cost = power_costs(unit, response) + costs_of_starts(unit, response);
+    energy + reserve - i128::from(cost)
+}
+
+// What the schedule of a renewable unit earns: what it is paid, at no cost.
+fn flat_earnings(prices: &Prices, response: &Response) -> i128
+    requires { length (schedule_of response.now).on ≡ length (prices_of prices.now).energy }
+    ensures { (r : RenewableUnit) → result ≡ earnings (Flat r) (prices_of prices.now) (schedule_of response.now) }
+{
+    paid(&prices.energy, &response.power) + paid(&prices.reserve, &response.reserve)
+}
+
+// What the schedule of a bid earns: what its power is worth to the buyer, less what the buyer pays for it.
+fn bid_earnings(bid: &Bid, prices: &Prices, response: &Response) -> i128
+    requires horizon { length (schedule_of response.now).on ≡ length (prices_of prices.now).energy }
+    requires blocks { length (bid_of bid.now).blocks ≡ length (schedule_of response.now).on }
+    ensures { result ≡ earnings (BidOf (bid_of bid.now)) (prices_of prices.now) (schedule_of response.now) }
+{
+    let energy = paid(&prices.energy, &response.power);
+    let reserve = paid(&prices.reserve, &response.reserve);
+    worth(bid, response) + reserve - energy
+}
+
+// What the thermal unit of a number earns in the plan.
+fn thermal_earned(case: &Case, plan: &Plan, prices: &Prices, number: usize) -> i128
+    requires feasible { IsFeasiblePlan (market_of case.now) (schedules_of plan.now) }
+    requires horizon { length (prices_of prices.now).energy ≡ (market_of case.now).periods }
+    requires number { number < length (market_of case.now).thermal }
+    ensures { slice_get (earned_in (market_of case.now) (schedules_of plan.now) (prices_of prices.now)) number ≡ Some result }
+{
+    let unit = case.thermal.get(number);
+    let response = plan.responses.get(number);
+    thermal_earnings(&unit.unit, prices, response)
+}
+
+// What the renewable unit of a number earns in the plan.
+fn flat_earned(case: &Case, plan: &Plan, prices: &Prices, number: usize) -> i128
+    requires feasible { IsFeasiblePlan (market_of case.now) (schedules_of plan.now) }
+    requires horizon { length (prices_of prices.now).energy ≡ (market_of case.now).periods }
+    requires first { length (market_of case.now).thermal ≤ number }
+    requires last { number < length (market_of case.now).thermal + length (market_of case.now).flat }
+    ensures { slice_get (earned_in (market_of case.now) (schedules_of plan.now) (prices_of prices.now)) number ≡ Some result }
+{
+    let response = plan.responses.get(number);
+    flat_earnings(prices, response)
+}
+
+// What the bid at a place among the bids earns in the plan.
+fn bid_earned(case: &Case, plan: &Plan, prices: &Prices, place: usize) -> i128
+    requires feasible { IsFeasiblePlan (market_of case.now) (schedules_of plan.now) }
+    requires horizon { length (prices_of prices.now).energy ≡ (market_of case.now).periods }
+    requires place { place < length (market_of case.now).bids }
+    ensures { slice_get (earned_in (market_of case.now) (schedules_of plan.now) (prices_of prices.now)) ((length (market_of case.now).thermal + length (market_of case.now).flat) + place) ≡ Some result }
+{
+    let producers = case.thermal.len() + case.flat.len();
+    let bid = case.bids.get(place);
+    let response = plan.responses.get(producers + place);
+    bid_earnings(&bid.bid, prices, response)
+}
+
+// What the unit of a number earns in the plan, in a type that holds it without a look at the plan.
+fn earned_at(case: &Case, plan: &Plan, prices: &Prices, number: usize) -> i128
+    requires feasible { IsFeasiblePlan (market_of case.now) (schedules_of plan.now) }
+    requires horizon { length (prices_of prices.now).energy ≡ (market_of case.now).periods }
+    requires number { number < length (schedules_of plan.now) }
+    ensures { slice_get (earned_in (market_of case.now) (schedules_of plan.now) (prices_of prices.now)) number ≡ Some result }
+{
+    let thermal = case.thermal.len();
+    let producers = thermal + case.flat.len();
+    if number < thermal {
+        return thermal_earned(case, plan, prices, number);
+    }
+    if number < producers {
+        return flat_earned(case, plan, prices, number);
+    }
+    bid_earned(case, plan, prices, number - producers)
+}
+
+/// What the unit of a number earns in a feasible plan at the prices, in money. Numbers count from 0.
+pub fn earned_by(case: &Case, plan: &Plan, prices: &Prices, number: usize) -> i64
+    requires feasible { IsFeasiblePlan (market_of case.now) (schedules_of plan.now) }
+    requires horizon { length (prices_of prices.now).energy ≡ (market_of case.now).periods }
+    requires number { number < length (schedules_of plan.now) }
+    ensures value { slice_get (earned_in (market_of case.now) (schedules_of plan.now) (prices_of prices.now)) number ≡ Some result }
+    ensures limit { IsFrom (neg_ℤ (pos 3500000000000000000)) (pos 3500000000000000000) result }
+{
+    earned_at(case, plan, prices, number) as i64
+}
