@@ -1,6 +1,6 @@
 -- A key looked for, member by member.
 use Rattle.std.proofs.Common.{◌≡◌, ℕ, suc, ◌+◌, ◌<◌, List, ◌∷◌, length, get_or, drop, Some, cond, bytes_eq, refl, sym, ap, ◌∙◌, drop-cons, add-one}
-use Rattle.uc_text.specs.View.{view, member_view, member_views}
+use Rattle.uc_text.specs.View.{member_view, member_views}
 use Rattle.uc_text.specs.declared.tree.Member.{Member}
 use Rattle.uc_case.specs.Inside.{value_of}
 

@@ -1,6 +1,6 @@
 -- A tree and a member, level by level.
 use Rattle.std.proofs.Common.{◌≡◌, List, [], ◌∷◌, Vec, Global, Some, refl, ap, rules}
-use Rattle.uc_text.specs.Values.{Value, list, object}
+use Rattle.uc_text.specs.Values.{Value}
 use Rattle.uc_text.specs.Parts.{Pair, items_of, members_of}
 use Rattle.uc_text.specs.View.{view, views, member_view, member_views}
 use Rattle.uc_text.specs.declared.tree.Tree.{Tree, List as ListOf, Object}

@@ -65,7 +65,11 @@ fn read_thermal(alloc: Global, members: &[Member], periods: u32) -> Result<Therm
 {
     let mut list = ThermalList::make(alloc, members.len() as u32)?;
     for member in members {
-        let at = unit_place(Field::ThermalGenerators, Kind::Thermal, list.len() as u32 + 1);
+        let at = unit_place(
+            Field::ThermalGenerators,
+            Kind::Thermal,
+            list.len() as u32 + 1,
+        );
         let unit = read_named_unit(alloc, at, member, periods)?;
         list.push(unit);
     }
@@ -119,7 +123,11 @@ fn read_flat(alloc: Global, members: &[Member], periods: u32) -> Result<FlatList
 {
     let mut list = FlatList::make(alloc, members.len() as u32)?;
     for member in members {
-        let at = unit_place(Field::RenewableGenerators, Kind::Renewable, list.len() as u32 + 1);
+        let at = unit_place(
+            Field::RenewableGenerators,
+            Kind::Renewable,
+            list.len() as u32 + 1,
+        );
         let unit = read_named_flat(alloc, at, member, periods)?;
         list.push(unit);
     }
@@ -181,12 +189,7 @@ fn read_bids(alloc: Global, members: &[Member], periods: u32) -> Result<BidList,
 }
 
 #[tactic(auto, unfolding(crate::specs::Cases::units))]
-fn read_bid_units(
-    alloc: Global,
-    at: Place,
-    tree: &Tree,
-    periods: u32,
-) -> Result<BidList, FieldStop>
+fn read_bid_units(alloc: Global, at: Place, tree: &Tree, periods: u32) -> Result<BidList, FieldStop>
     requires some { 1 ≤ periods }
     requires horizon { periods ≤ 168 }
     ensures count { IfOk result (λ l. length l.items ≤ 4096) }
@@ -244,10 +247,7 @@ pub fn case_of_tree(alloc: Global, tree: &Tree) -> Result<Case, FieldStop>
     )?;
     let bids = read_demand_bids(alloc, &c, periods)?;
     if thermal.len() == 0 && flat.len() == 0 {
-        return Err(
-            at.field(Field::RenewableGenerators)
-                .stop(CaseCode::NoUnits),
-        );
+        return Err(at.field(Field::RenewableGenerators).stop(CaseCode::NoUnits));
     }
     Ok(Case {
         periods,

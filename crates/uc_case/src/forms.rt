@@ -138,11 +138,7 @@ pub fn read_flag(at: Place, tree: &Tree) -> Result<bool, FieldStop>
 }
 
 /// The value under a key that must be there.
-pub fn value_under<'a>(
-    at: Place,
-    members: &'a [Member],
-    key: &str,
-) -> Result<&'a Tree, FieldStop>
+pub fn value_under<'a>(at: Place, members: &'a [Member], key: &str) -> Result<&'a Tree, FieldStop>
     ensures { Gives (λ t. view t.now) result (under at key.now (member_views members.now)) }
 {
     match find(members, key) {

@@ -2,19 +2,18 @@
 //! order.
 #![tactic(auto)]
 
-pub mod fault;
-pub mod inside;
-pub mod laws;
-pub mod stop;
-
 mod bids;
 mod cases;
+pub mod fault;
 mod forms;
+pub mod inside;
 mod keys;
+pub mod laws;
 mod lists;
 mod names;
 mod parts;
 mod read;
+pub mod stop;
 mod units;
 mod windows;
 

@@ -22,11 +22,11 @@ loop-tree-preserved c =
     let fits : FitsSigned w64 c.in_ok-number.number = search rules in
     let pushed : c.push.new.self.items ≡ c.loop-tree.numbers.items ++ c.in_ok-number.number ∷ [] = rw (to_z-of_z w64 c.in_ok-number.number fits) at c.push.ensures.items in
     record {
-  count = counted c.loop-tree.numbers.items c.push.new.self.items c.in_ok-number.number c.loop-tree.tree-index pushed c.loop-tree.invariant.count;
-  room = omega (arith, c.push.ensures.spare, c.loop-tree.invariant.room);
-  fits = rw pushed (all_push (λ n. IsPower n) c.loop-tree.numbers.items c.in_ok-number.number c.loop-tree.invariant.fits c.in_ok-number.ensures.bound);
-  so_far = rw pushed (item_goes_on one_power c.args.at c.item-place.result c.args.trees.now c.loop-tree.tree-index c.tree-item.result c.loop-tree.numbers.items c.loop-tree.numbers.items c.len.result c.in_ok-number.number (items one_power c.args.at (views c.args.trees.now)) c.loop-tree-test.true c.tree-item.is c.item-place.ensures c.len.ensures refl c.in_ok-number.ensures.value c.loop-tree.invariant.so_far);
-}
+      count = counted c.loop-tree.numbers.items c.push.new.self.items c.in_ok-number.number c.loop-tree.tree-index pushed c.loop-tree.invariant.count;
+      room = omega (arith, c.push.ensures.spare, c.loop-tree.invariant.room);
+      fits = rw pushed (all_push (λ n. IsPower n) c.loop-tree.numbers.items c.in_ok-number.number c.loop-tree.invariant.fits c.in_ok-number.ensures.bound);
+      so_far = rw pushed (item_goes_on one_power c.args.at c.item-place.result c.args.trees.now c.loop-tree.tree-index c.tree-item.result c.loop-tree.numbers.items c.loop-tree.numbers.items c.len.result c.in_ok-number.number (items one_power c.args.at (views c.args.trees.now)) c.loop-tree-test.true c.tree-item.is c.item-place.ensures c.len.ensures refl c.in_ok-number.ensures.value c.loop-tree.invariant.so_far);
+    }
 
 pub returns-clause-value : goal.returns-clause-value
 returns-clause-value c = is_done (λ before. one_power (item_at c.args.at (position before)) before) view c.args.trees.now c.loop-tree.tree-index c.loop-tree.numbers.items (items one_power c.args.at (views c.args.trees.now)) c.loop-tree-test.false c.loop-tree.invariant.so_far
