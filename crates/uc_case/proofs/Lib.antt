@@ -1,0 +1,9 @@
+pub mod FileLaws
+pub mod Views
+pub mod Fits
+pub mod Finds
+pub mod Loops
+pub mod Ordered
+pub mod Limited
+pub mod Answered
+pub mod Worked

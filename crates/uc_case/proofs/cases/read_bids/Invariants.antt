@@ -1,0 +1,19 @@
+use Rattle.std.proofs.Common.{◌≡◌, ◌+◌, ◌≤◌, length, drop, map}
+use Rattle.std.specs.List.{All}
+use Rattle.uc_model.specs.PlainUnits.{named_bid_of}
+use Rattle.uc_text.specs.View.{member_views}
+use Rattle.uc_case.specs.Kept.{IsBidOf}
+use Rattle.uc_case.specs.Places.{place}
+use Rattle.uc_case.specs.Words.{each, position}
+use Rattle.uc_case.specs.Cases.{each_member, bid}
+use Rattle.uc_case.specs.declared.fault.Field.TheVariants as fields
+use Rattle.uc_model.specs.declared.kinds.Kind.TheVariants as kinds
+use Rattle.uc_case.proofs.cases.read_bids.Given as goal
+
+abbrev pub invariant-loop-member : goal.invariant-loop-member
+invariant-loop-member l = record {
+  count : length l.list.items ≡ l.member-index;
+  room : length l.members ≤ l.list.spare + l.member-index;
+  fits : All (λ n. IsBidOf l.periods n) (map named_bid_of l.list.items);
+  so_far : each (λ before. (bid l.periods) (place fields.DemandBids kinds.Bid (position before))) (map named_bid_of l.list.items) (member_views (drop l.member-index l.members)) ≡ each_member fields.DemandBids kinds.Bid (bid l.periods) (member_views l.members);
+}

@@ -1,0 +1,7 @@
+use Rattle.std.proofs.Common.{◌≡◌, drop}
+use Rattle.uc_text.specs.View.{member_views}
+use Rattle.uc_case.specs.Inside.{value_of}
+use Rattle.uc_case.proofs.inside.find.Given as goal
+
+abbrev pub invariant-loop-member : goal.invariant-loop-member
+invariant-loop-member l = value_of l.key (member_views (drop l.member-index l.members)) ≡ value_of l.key (member_views l.members)

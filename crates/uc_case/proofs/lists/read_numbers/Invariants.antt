@@ -1,0 +1,17 @@
+use Rattle.std.proofs.Common.{◌≡◌, ◌+◌, ◌≤◌, length, drop}
+use Rattle.std.specs.List.{All}
+use Rattle.uc_model.specs.Limits.{IsPower}
+use Rattle.uc_text.specs.View.{views}
+use Rattle.uc_case.specs.Words.{each, position}
+use Rattle.uc_case.specs.Places.{item_at}
+use Rattle.uc_case.specs.Forms.{items}
+use Rattle.uc_case.specs.Tables.{one_power}
+use Rattle.uc_case.proofs.lists.read_numbers.Given as goal
+
+abbrev pub invariant-loop-tree : goal.invariant-loop-tree
+invariant-loop-tree l = record {
+  count : length l.numbers.items ≡ l.tree-index;
+  room : length l.trees ≤ l.numbers.spare + l.tree-index;
+  fits : All (λ n. IsPower n) l.numbers.items;
+  so_far : each (λ before. one_power (item_at l.at (position before)) before) l.numbers.items (views (drop l.tree-index l.trees)) ≡ items one_power l.at (views l.trees);
+}

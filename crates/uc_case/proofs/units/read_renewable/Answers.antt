@@ -1,0 +1,13 @@
+use Rattle.std.proofs.Common.{◌≡◌}
+use Rattle.uc_case.specs.Tables.{first_crossed}
+use Rattle.uc_case.proofs.Limited.{renewable_fits}
+use Rattle.uc_case.proofs.units.read_renewable.Goals as goal
+
+pub invariant_of-result : goal.invariant_of-result
+invariant_of-result c =
+    let least = c.in_ok-least in
+    let most = c.in_ok-most in
+    let crossed : c.first_crossing-crossed.result ≡ first_crossed 1 least.least.items most.most.items = rw (← c.as_slice.ensures, ← c.as_slice-2.ensures) c.first_crossing-crossed.ensures in
+    record {
+      valid = renewable_fits least.least.items most.most.items c.args.periods c.first_crossing-crossed.result least.ensures.count most.ensures.count c.requires.some c.requires.horizon least.ensures.fits most.ensures.fits crossed c.if-crossed-gt0.false;
+    }

@@ -1,0 +1,14 @@
+use Rattle.std.proofs.Common.{◌≡◌, ◌+◌, ◌≤◌, length, drop}
+use Rattle.uc_text.specs.View.{views}
+use Rattle.uc_case.specs.Words.{each, position}
+use Rattle.uc_case.specs.Places.{item_at}
+use Rattle.uc_case.specs.Forms.{items}
+use Rattle.uc_case.specs.Tables.{mark}
+use Rattle.uc_case.proofs.windows.read_marks.Given as goal
+
+abbrev pub invariant-loop-tree : goal.invariant-loop-tree
+invariant-loop-tree l = record {
+  count : length l.marks.items ≡ l.tree-index;
+  room : length l.trees ≤ l.marks.spare + l.tree-index;
+  so_far : each (λ before. mark (item_at l.at (position before)) before) l.marks.items (views (drop l.tree-index l.trees)) ≡ items mark l.at (views l.trees);
+}

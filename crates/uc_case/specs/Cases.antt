@@ -1,0 +1,64 @@
+-- The table of a case file: the case of a value, or the fault of the first test that fails (pglib-uc; bids and limits
+-- are this project's profile). Keys that no table names are skipped.
+use Rattle.std.specs.Prelude.{ℕ, ◌&&◌, ◌==◌, nat_lt, List, [], length, Option, Some, None, Ok}
+use Rattle.uc_model.specs.declared.kinds.Kind.{Kind}
+use Rattle.uc_model.specs.declared.kinds.Kind.TheVariants.{Case, Thermal, Renewable, Bid}
+use Rattle.uc_model.specs.Data.{NamedThermalUnit, NamedRenewableUnit, NamedBidUnit, Market}
+use Rattle.uc_text.specs.Values.{Value}
+use Rattle.uc_text.specs.Parts.{Pair}
+use Rattle.uc_case.specs.Places.{fault, field_at, place}
+use Rattle.uc_case.specs.Words.{◌>>=◌, ◌>>◌, refuse, each, position}
+use Rattle.uc_case.specs.Forms.{Read, keys, key, key_or_none, object, time_within}
+use Rattle.uc_case.specs.Tables.{thermal_unit, renewable_unit, bid_unit, powers}
+use Rattle.uc_case.specs.declared.fault.CaseCode.TheVariants.{TooLarge, NoUnits, NoPeriods}
+use Rattle.uc_case.specs.declared.fault.Field.{Field}
+use Rattle.uc_case.specs.declared.fault.Field.TheVariants.{Whole, TimePeriods, Demand, Reserves, ThermalGenerators, RenewableGenerators, DemandBids}
+use Rattle.uc_case.specs.declared.fault.Place.{Place}
+
+unfoldable pub thermal : ℕ → Place → Pair → Read NamedThermalUnit
+thermal periods at m = do
+  u ← thermal_unit periods at m.value
+  Ok (record { name = m.name; unit = u })
+
+unfoldable pub renewable : ℕ → Place → Pair → Read NamedRenewableUnit
+renewable periods at m = do
+  u ← renewable_unit periods at m.value
+  Ok (record { name = m.name; unit = u })
+
+unfoldable pub bid : ℕ → Place → Pair → Read NamedBidUnit
+bid periods at m = do
+  u ← bid_unit periods at m.value
+  Ok (record { name = m.name; unit = u })
+
+-- members in file order, each at the place of its position
+abbrev pub each_member : {A : Type 0} → Field → Kind → (Place → Pair → Read A) → List Pair → Read (List A)
+each_member field kind read ms = each (λ before. read (place field kind (position before))) [] ms
+
+-- an object by name
+unfoldable pub units : {A : Type 0} → Field → Kind → (Place → Pair → Read A) → Place → Value → Read (List A)
+units field kind read at v = do
+  ms ← object at v
+  refuse (fault at TooLarge) (nat_lt 4096 (length ms))
+  each_member field kind read ms
+
+-- an absent one is an empty one
+unfoldable pub bids : ℕ → Place → Option Value → Read (List NamedBidUnit)
+bids periods at None = Ok []
+bids periods at (Some v) = units DemandBids Bid (bid periods) at v
+
+abbrev pub whole : Place
+whole = place Whole Case 0
+
+unfoldable pub case_of : Value → Read Market
+case_of v = do
+  ms ← object whole v
+  let c = keys whole ms
+  periods ← key c TimePeriods (time_within 168)
+  refuse (fault (field_at whole TimePeriods) NoPeriods) (periods == 0)
+  demand ← key c Demand (powers periods)
+  reserves ← key c Reserves (powers periods)
+  thermal ← key c ThermalGenerators (units ThermalGenerators Thermal (thermal periods))
+  flat ← key c RenewableGenerators (units RenewableGenerators Renewable (renewable periods))
+  bids ← key_or_none c DemandBids (bids periods)
+  refuse (fault (field_at whole RenewableGenerators) NoUnits) (length thermal == 0 && length flat == 0)
+  Ok (record { periods = periods; demand = demand; reserves = reserves; thermal = thermal; flat = flat; bids = bids })

@@ -1,0 +1,99 @@
+-- The forms of a case file's fields: each reads one value at a place, with its tests in order.
+use Rattle.std.specs.Prelude.{ℕ, Bool, List, [], Option, Result, Ok, ℤ, pos, nat_abs, unsigned_abs, nat_lt, int_lt, not}
+use Rattle.uc_num.specs.declared.Decimal.{Decimal}
+use Rattle.uc_num.specs.Rounding.{rounded}
+use Rattle.uc_text.specs.Values.{Value}
+use Rattle.uc_text.specs.Parts.{Pair}
+use Rattle.uc_case.specs.Inside.{number_in, list_in, object_in, value_of, is_whole, bit_of}
+use Rattle.uc_case.specs.Places.{fault, field_at, item_at, key_of}
+use Rattle.uc_case.specs.Words.{◌>>=◌, ◌>>◌, refuse, need, each, position}
+use Rattle.uc_case.specs.declared.fault.CaseCode.TheVariants.{Missing, WrongKind, NotWhole, Negative, TooLarge, NotFlag}
+use Rattle.uc_case.specs.declared.fault.Field.{Field}
+use Rattle.uc_case.specs.declared.fault.FieldFault.{FieldFault}
+use Rattle.uc_case.specs.declared.fault.Place.{Place}
+
+-- What tests of a case give: a value, or the fault of the first test that failed.
+abbrev pub Read : Type 0 → Type 0
+Read A = Result A FieldFault
+
+abbrev pub decimal : Place → Value → Read Decimal
+decimal at v = need (fault at WrongKind) (number_in v)
+
+abbrev pub list : Place → Value → Read (List Value)
+list at v = need (fault at WrongKind) (list_in v)
+
+abbrev pub object : Place → Value → Read (List Pair)
+object at v = need (fault at WrongKind) (object_in v)
+
+-- a number at a scale, from 0 to a limit
+unfoldable pub amount : ℕ → ℕ → Place → Value → Read ℤ
+amount scale limit at v = do
+  d ← decimal at v
+  refuse (fault at TooLarge) (nat_lt limit (unsigned_abs (rounded d scale)))
+  refuse (fault at Negative) (int_lt (rounded d scale) (pos 0))
+  Ok (rounded d scale)
+
+-- in thousandths: kilowatts of megawatts
+abbrev pub power : ℕ → Place → Value → Read ℤ
+power = amount 3
+
+-- in millionths of the currency
+unfoldable pub cost : Place → Value → Read ℤ
+cost at v = do
+  d ← decimal at v
+  refuse (fault at TooLarge) (nat_lt 10000000000000 (unsigned_abs (rounded d 6)))
+  Ok (rounded d 6)
+
+abbrev pub start_cost : Place → Value → Read ℤ
+start_cost = amount 6 10000000000000
+
+unfoldable pub time_within : ℕ → Place → Value → Read ℕ
+time_within limit at v = do
+  d ← decimal at v
+  refuse (fault at NotWhole) (not (is_whole d))
+  refuse (fault at TooLarge) (nat_lt limit (unsigned_abs (rounded d 0)))
+  refuse (fault at Negative) (int_lt (rounded d 0) (pos 0))
+  Ok (nat_abs (rounded d 0))
+
+abbrev pub time : Place → Value → Read ℕ
+time = time_within 1000000
+
+unfoldable pub flag : Place → Value → Read Bool
+flag at v = do
+  d ← decimal at v
+  refuse (fault at NotWhole) (not (is_whole d))
+  need (fault at NotFlag) (bit_of d)
+
+-- ---- keys of an object
+
+-- the value under a key that must be there
+abbrev pub under : Place → List ℕ → List Pair → Read Value
+under at key members = need (fault at Missing) (value_of key members)
+
+-- a key of an item, whose faults are those of the item's place
+abbrev pub part : {A : Type 0} → Place → List ℕ → (Place → Value → Read A) → List Pair → Read A
+part at name form members = do
+  v ← under at name members
+  form at v
+
+-- A unit or the case: the place of its faults but for the field, and its members.
+pub record Keys : Type 0 where
+  pub at : Place
+  pub members : List Pair
+
+abbrev pub keys : Place → List Pair → Keys
+keys at members = record { at = at; members = members }
+
+-- a key of a unit or of the case, whose faults name its field
+abbrev pub key : {A : Type 0} → Keys → Field → (Place → Value → Read A) → Read A
+key o f form = do
+  v ← under (field_at o.at f) (key_of f) o.members
+  form (field_at o.at f) v
+
+-- a key that may be absent
+abbrev pub key_or_none : {A : Type 0} → Keys → Field → (Place → Option Value → Read A) → Read A
+key_or_none o f form = form (field_at o.at f) (value_of (key_of f) o.members)
+
+-- the items of a list, each at the place of its position
+abbrev pub items : {A : Type 0} → (Place → List A → Value → Read A) → Place → List Value → Read (List A)
+items read at vs = each (λ before. read (item_at at (position before)) before) [] vs

@@ -1,0 +1,44 @@
+-- The parts of a value that tests look at.
+use Rattle.std.specs.Prelude.{◌==◌, ℕ, Bool, true, false, List, [], ◌∷◌, Option, Some, None, ℤ, pos, negsuc, if◌then◌else◌, bytes_eq}
+use Rattle.uc_num.specs.declared.Decimal.{Decimal}
+use Rattle.uc_num.specs.Rounding.{rounded, is_whole_value}
+use Rattle.uc_text.specs.Values.{number, Value, scalar, list, object, Items, no_items, item, Members, no_members, member}
+use Rattle.uc_text.specs.Parts.{Pair}
+
+abbrev pub values : Items → List Value
+values no_items = []
+values (item v vs) = v ∷ values vs
+
+abbrev pub pairs : Members → List Pair
+pairs no_members = []
+pairs (member n v ms) = record { name = n; value = v } ∷ pairs ms
+
+-- the parts of a value of that kind
+abbrev pub number_in : Value → Option Decimal
+number_in (scalar (number d)) = Some d
+number_in _ = None
+
+abbrev pub list_in : Value → Option (List Value)
+list_in (list vs) = Some (values vs)
+list_in _ = None
+
+abbrev pub object_in : Value → Option (List Pair)
+object_in (object ms) = Some (pairs ms)
+object_in _ = None
+
+-- the value under a key of an object
+unfoldable pub value_of : List ℕ → List Pair → Option Value
+value_of key [] = None
+value_of key (m ∷ ms) = if bytes_eq m.name key then Some m.value else value_of key ms
+
+abbrev pub is_whole : Decimal → Bool
+is_whole d = is_whole_value d.digits d.exponent
+
+-- 0 is no, 1 is yes
+abbrev pub bit : ℤ → Option Bool
+bit (pos n) = if n == 0 then Some false else if n == 1 then Some true else None
+bit (negsuc n) = None
+
+-- a number with value 0 or 1, however it is written
+abbrev pub bit_of : Decimal → Option Bool
+bit_of d = if is_whole d then bit (rounded d 0) else None

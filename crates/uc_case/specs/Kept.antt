@@ -1,0 +1,54 @@
+-- What the parts of a unit keep while they are read: limits and orders.
+use Rattle.std.specs.Prelude.{◌≡◌, ℕ, ◌<◌, ◌≤◌, suc, ◌≤ℤ◌, List, length, slice_index_or}
+use Rattle.std.specs.List.{All}
+use Rattle.uc_model.specs.declared.units.Lag.{Lag}
+use Rattle.uc_model.specs.declared.units.Point.{Point}
+use Rattle.uc_model.specs.declared.units.Block.{Block}
+use Rattle.uc_model.specs.Limits.{IsLag, AreLagsOrdered, IsPoint, ArePointsOrdered, IsBlock, IsPower, IsOutput, IsTime, IsThermalUnit, IsRenewableUnit, IsBidUnit}
+use Rattle.uc_model.specs.Data.{NamedThermalUnit, NamedRenewableUnit, NamedBidUnit}
+use Rattle.uc_case.specs.declared.parts.Output.{Output}
+use Rattle.uc_case.specs.declared.parts.Ramps.{Ramps}
+use Rattle.uc_case.specs.declared.parts.Past.{Past}
+
+pub record AreLags (ls : List Lag) : Type 0 where
+  pub lags : All IsLag ls
+  pub ordered : AreLagsOrdered ls
+
+pub record ArePoints (ps : List Point) : Type 0 where
+  pub points : All IsPoint ps
+  pub ordered : ArePointsOrdered ps
+
+-- no price is above the one before it
+pub record AreBlocks (bs : List Block) : Type 0 where
+  pub blocks : All IsBlock bs
+  pub falling : (k : ℕ) (d : Block) → suc k < length bs → (slice_index_or bs (suc k) d).price ≤ℤ (slice_index_or bs k d).price
+
+pub record IsRange (o : Output) : Type 0 where
+  pub least : IsPower o.least
+  pub most : IsOutput o.most
+  pub range : o.least ≤ℤ o.most
+
+pub record AreRamps (r : Ramps) : Type 0 where
+  pub up : IsPower r.up
+  pub down : IsPower r.down
+  pub start : IsPower r.start
+  pub stop : IsPower r.stop
+
+pub record IsPast (p : Past) : Type 0 where
+  pub min_up : IsTime p.min_up
+  pub some_up : 1 ≤ p.min_up
+  pub min_down : IsTime p.min_down
+  pub some_down : 1 ≤ p.min_down
+  pub power : IsOutput p.power
+  pub up : IsTime p.up
+  pub down : IsTime p.down
+
+-- a unit over the periods of its case
+abbrev pub IsThermalOf : ℕ → NamedThermalUnit → Type 0
+IsThermalOf periods n = IsThermalUnit n.unit × (length n.unit.window ≡ periods)
+
+abbrev pub IsRenewableOf : ℕ → NamedRenewableUnit → Type 0
+IsRenewableOf periods n = IsRenewableUnit n.unit × (length n.unit.least ≡ periods)
+
+abbrev pub IsBidOf : ℕ → NamedBidUnit → Type 0
+IsBidOf periods n = IsBidUnit n.unit × (length n.unit.blocks ≡ periods)

@@ -1,0 +1,12 @@
+-- A file is one case, or has one first fault.
+use Rattle.std.specs.Prelude.{◌≡◌, ℕ, List, Result}
+use Rattle.uc_model.specs.Data.{Market}
+use Rattle.uc_case.specs.CaseFiles.{IsCaseOf}
+use Rattle.uc_case.specs.Files.{FileFault}
+use Rattle.uc_case.specs.declared.fault.FieldFault.{FieldFault}
+
+abbrev pub SomeCase : Type 0
+SomeCase = (bytes : List ℕ) → (r : Result Market (FileFault FieldFault)) × IsCaseOf bytes r
+
+abbrev pub OneCase : Type 0
+OneCase = (bytes : List ℕ) (r s : Result Market (FileFault FieldFault)) → IsCaseOf bytes r → IsCaseOf bytes s → r ≡ s

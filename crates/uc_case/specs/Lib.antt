@@ -1,0 +1,11 @@
+pub mod Places
+pub mod Inside
+pub mod Words
+pub mod Forms
+pub mod Tables
+pub mod Cases
+pub mod Files
+pub mod CaseFiles
+pub mod Given
+pub mod Kept
+pub mod Laws

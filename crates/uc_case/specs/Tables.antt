@@ -1,0 +1,202 @@
+-- The tables of a unit in a case file: each test in order, with its fault (pglib-uc; windows, bids and limits are this
+-- project's profile).
+use Rattle.std.specs.Prelude.{ℕ, ◌-◌, suc, Bool, true, not, ◌||◌, ◌==◌, nat_lt, int_lt, List, [], ◌∷◌, length, map, if◌then◌else◌, codes, Option, Some, None, replicate, Ok, slice_get, ℤ, pos}
+use Rattle.std.specs.Option.{option_map, option_map_or}
+use Rattle.uc_model.specs.declared.units.Lag.{Lag}
+use Rattle.uc_model.specs.declared.units.Point.{Point}
+use Rattle.uc_model.specs.declared.units.Block.{Block}
+use Rattle.uc_model.specs.declared.units.Mark.{Mark}
+use Rattle.uc_model.specs.declared.units.Mark.TheVariants.{Free, MustOff, MustOn}
+use Rattle.uc_model.specs.Data.{ThermalUnit, RenewableUnit, BidUnit}
+use Rattle.uc_model.specs.Sums.{total}
+use Rattle.uc_text.specs.Values.{Value, scalar, null, number}
+use Rattle.uc_case.specs.Inside.{list_in, bit_of}
+use Rattle.uc_case.specs.Places.{fault, field_at, item_at}
+use Rattle.uc_case.specs.Words.{◌>>=◌, ◌>>◌, refuse, need, each, last_is}
+use Rattle.uc_case.specs.Forms.{Read, Keys, keys, key, key_or_none, part, items, list, object, amount, power, cost, start_cost, time, flag}
+use Rattle.uc_case.specs.declared.fault.CaseCode.TheVariants.{TooLarge, WrongLength, CurveOrder, CurveEnds, LagOrder, RangeOrder, WindowShape, BlockOrder}
+use Rattle.uc_case.specs.declared.fault.Field.TheVariants.{MustRun, PowerOutputMinimum, PowerOutputMaximum, RampUpLimit, RampDownLimit, RampStartupLimit, RampShutdownLimit, TimeUpMinimum, TimeDownMinimum, PowerOutputT0, UnitOnT0, TimeUpT0, TimeDownT0, Startup, PiecewiseProduction, Commitment, Blocks}
+use Rattle.uc_case.specs.declared.fault.Place.{Place}
+use Rattle.uc_case.specs.declared.parts.Output.{Output}
+use Rattle.uc_case.specs.declared.parts.Ramps.{Ramps}
+use Rattle.uc_case.specs.declared.parts.Past.{Past}
+
+-- ---- startup
+
+unfoldable pub lag : Place → List Lag → Value → Read Lag
+lag at before v = do
+  o ← object at v
+  lag ← part at (codes "lag") time o
+  cost ← part at (codes "cost") start_cost o
+  refuse (fault at LagOrder) (last_is (λ (b : Lag). nat_lt lag b.lag) before)
+  Ok (record { lag = lag; cost = cost })
+
+unfoldable pub startup : Place → Value → Read (List Lag)
+startup at v = do
+  vs ← list at v
+  refuse (fault at TooLarge) (nat_lt 32 (length vs))
+  items lag at vs
+
+-- ---- piecewise_production
+
+unfoldable pub point : Place → List Point → Value → Read Point
+point at before v = do
+  o ← object at v
+  mw ← part at (codes "mw") (power 1000000000) o
+  cost ← part at (codes "cost") cost o
+  refuse (fault at CurveOrder) (last_is (λ (b : Point). int_lt mw b.at) before)
+  Ok (record { at = mw; cost = cost })
+
+-- there is no first point at most at low, or no last point at least at high
+abbrev pub ends_miss : ℤ → ℤ → List Point → Bool
+ends_miss low high ps =
+    option_map_or (λ (p : Point). int_lt low p.at) (slice_get ps 0) true || option_map_or (λ (p : Point). int_lt p.at high) (slice_get ps (length ps - 1)) true
+
+unfoldable pub piecewise : ℤ → ℤ → Place → Value → Read (List Point)
+piecewise low high at v = do
+  vs ← list at v
+  refuse (fault at TooLarge) (nat_lt 32 (length vs))
+  ps ← items point at vs
+  refuse (fault at CurveEnds) (ends_miss low high ps)
+  Ok ps
+
+-- ---- commitment
+
+abbrev pub mark_in : Value → Option Mark
+mark_in (scalar null) = Some Free
+mark_in (scalar (number d)) = option_map (λ on. if on then MustOn else MustOff) (bit_of d)
+mark_in _ = None
+
+abbrev pub mark : Place → List Mark → Value → Read Mark
+mark at before v = need (fault at WindowShape) (mark_in v)
+
+-- an absent one leaves every period free
+unfoldable pub commitment : ℕ → Place → Option Value → Read (List Mark)
+commitment periods at None = Ok (replicate periods Free)
+commitment periods at (Some v) = do
+  vs ← need (fault at WindowShape) (list_in v)
+  refuse (fault at WindowShape) (not (length vs == periods))
+  items mark at vs
+
+-- ---- a thermal unit
+
+-- 0 is read as 1
+abbrev pub at_least_one : ℕ → ℕ
+at_least_one n = if n == 0 then 1 else n
+
+unfoldable pub output : Keys → Read Output
+output u = do
+  must_run ← key u MustRun flag
+  least ← key u PowerOutputMinimum (power 1000000000)
+  most ← key u PowerOutputMaximum (power 10000000)
+  refuse (fault (field_at u.at PowerOutputMinimum) RangeOrder) (int_lt most least)
+  Ok (record { must_run = must_run; least = least; most = most })
+
+unfoldable pub ramps : Keys → Read Ramps
+ramps u = do
+  up ← key u RampUpLimit (power 1000000000)
+  down ← key u RampDownLimit (power 1000000000)
+  start ← key u RampStartupLimit (power 1000000000)
+  stop ← key u RampShutdownLimit (power 1000000000)
+  Ok (record { up = up; down = down; start = start; stop = stop })
+
+unfoldable pub past : Keys → Read Past
+past u = do
+  min_up ← key u TimeUpMinimum time
+  min_down ← key u TimeDownMinimum time
+  power ← key u PowerOutputT0 (power 10000000)
+  on ← key u UnitOnT0 flag
+  up ← key u TimeUpT0 time
+  down ← key u TimeDownT0 time
+  Ok (record { min_up = at_least_one min_up; min_down = at_least_one min_down; power = power; on = on; up = up; down = down })
+
+unfoldable pub thermal_unit : ℕ → Place → Value → Read ThermalUnit
+thermal_unit periods at v = do
+  ms ← object at v
+  let u = keys at ms
+  o ← output u
+  r ← ramps u
+  p ← past u
+  lags ← key u Startup startup
+  points ← key u PiecewiseProduction (piecewise o.least o.most)
+  window ← key_or_none u Commitment (commitment periods)
+  Ok (record {
+    must_run = o.must_run;
+    min_power = o.least;
+    max_power = o.most;
+    ramp_up = r.up;
+    ramp_down = r.down;
+    start_limit = r.start;
+    stop_limit = r.stop;
+    min_up = p.min_up;
+    min_down = p.min_down;
+    power0 = p.power;
+    on0 = p.on;
+    up0 = p.up;
+    down0 = p.down;
+    lags = lags;
+    points = points;
+    window = window;
+  })
+
+-- ---- a renewable unit, and the lists of the case
+
+-- a power of a list, whatever stands before it
+abbrev pub one_power : Place → List ℤ → Value → Read ℤ
+one_power at before = power 1000000000 at
+
+unfoldable pub powers : ℕ → Place → Value → Read (List ℤ)
+powers periods at v = do
+  vs ← list at v
+  refuse (fault at WrongLength) (not (length vs == periods))
+  items one_power at vs
+
+-- the position of the first item where the least is above the most, or 0
+abbrev pub first_crossed : ℕ → List ℤ → List ℤ → ℕ
+first_crossed k (least ∷ ls) (most ∷ ms) = if int_lt most least then k else first_crossed (suc k) ls ms
+first_crossed k _ _ = 0
+
+unfoldable pub renewable_unit : ℕ → Place → Value → Read RenewableUnit
+renewable_unit periods at v = do
+  ms ← object at v
+  let u = keys at ms
+  least ← key u PowerOutputMinimum (powers periods)
+  most ← key u PowerOutputMaximum (powers periods)
+  let k = first_crossed 1 least most
+  refuse (fault (item_at (field_at at PowerOutputMinimum) k) RangeOrder) (nat_lt 0 k)
+  Ok (record { least = least; most = most })
+
+-- ---- a bid
+
+-- in money for a kilowatt and period
+abbrev pub price : Place → Value → Read ℤ
+price = amount 3 10000000
+
+unfoldable pub block : Place → List Block → Value → Read Block
+block at before v = do
+  o ← object at v
+  mw ← part at (codes "mw") (power 1000000000) o
+  price ← part at (codes "price") price o
+  refuse (fault at BlockOrder) (last_is (λ (b : Block). int_lt b.price price) before)
+  Ok (record { width = mw; price = price })
+
+-- the blocks of one period: all their faults are at the period's place
+unfoldable pub period_blocks : Place → List (List Block) → Value → Read (List Block)
+period_blocks at before v = do
+  vs ← list at v
+  refuse (fault at TooLarge) (nat_lt 8 (length vs))
+  bs ← each (block at) [] vs
+  refuse (fault at TooLarge) (int_lt (pos 1000000000) (total (map (λ (b : Block). b.width) bs)))
+  Ok bs
+
+unfoldable pub blocks : ℕ → Place → Value → Read (List (List Block))
+blocks periods at v = do
+  vs ← list at v
+  refuse (fault at WrongLength) (not (length vs == periods))
+  items period_blocks at vs
+
+unfoldable pub bid_unit : ℕ → Place → Value → Read BidUnit
+bid_unit periods at v = do
+  ms ← object at v
+  bs ← key (keys at ms) Blocks (blocks periods)
+  Ok (record { blocks = bs })

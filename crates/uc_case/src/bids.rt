@@ -1,0 +1,129 @@
+//! The demand bids of a case.
+ghost use Rattle.std.specs.Prelude.{◌≡◌, ◌≤◌, [], length, map, IfOk, false, int_lt};
+ghost use Rattle.std.specs.List.{All};
+ghost use Rattle.uc_model.specs.Limits.{IsBlock, IsBlockList, IsBidUnit};
+ghost use Rattle.uc_model.specs.PlainUnits.{bid_of};
+ghost use Rattle.uc_model.specs.Reserved.{items_in};
+ghost use Rattle.uc_model.specs.Sums.{total};
+ghost use Rattle.uc_model.specs.declared.units.Block.{Block as PlainBlock};
+ghost use Rattle.uc_text.specs.View.{view, views, member_views};
+ghost use Rattle.uc_case.specs.Given.{Gives};
+ghost use Rattle.uc_case.specs.Kept.{AreBlocks};
+ghost use Rattle.uc_case.specs.Words.{each, last_is};
+ghost use Rattle.uc_case.specs.Forms.{key, keys, items};
+ghost use Rattle.uc_case.specs.Tables.{block, period_blocks, blocks, bid_unit};
+
+use crate::fault::{CaseCode, Field, Place};
+use crate::forms::{FieldStop, list_of, object_of, read_amount, read_power, value_under};
+use crate::keys::Keys;
+use std::alloc::Global;
+use uc_model::units::{Bid, Block, BlockLists, Blocks};
+use uc_text::Tree;
+
+const MOST_BLOCKS: usize = 8;
+
+#[tactic(auto, unfolding(crate::specs::Tables::block))]
+fn read_block(at: Place, before: &[Block], tree: &Tree) -> Result<Block, FieldStop>
+    ensures fits { IfOk result (λ b. IsBlock b) }
+    ensures order { IfOk result (λ b. last_is (λ (a : PlainBlock). int_lt a.price b.price) before.now ≡ false) }
+    ensures value { Gives (λ b. b) result (block at before.now (view tree.now)) }
+{
+    let members = object_of(at, tree)?;
+    let width = read_power(at, value_under(at, members, "mw")?, 1_000_000_000)?;
+    let price = read_amount(at, value_under(at, members, "price")?, 3, 10_000_000)?;
+    if let Some(last) = before.last() {
+        if last.price < price {
+            return Err(at.stop(CaseCode::BlockOrder));
+        }
+    }
+    Ok(Block { width, price })
+}
+
+fn read_blocks(alloc: Global, at: Place, trees: &[Tree]) -> Result<Blocks, FieldStop>
+    requires { length trees.now ≤ 8 }
+    ensures count { IfOk result (λ bs. length bs.items ≡ length trees.now) }
+    ensures fits { IfOk result (λ bs. AreBlocks bs.items) }
+    ensures value { Gives (λ bs. bs.items) result (each (block at) [] (views trees.now)) }
+{
+    let mut blocks = Blocks::make(alloc, trees.len() as u32)?;
+    for tree in trees {
+        let block = read_block(at, blocks.as_slice(), tree)?;
+        blocks.push(block);
+    }
+    Ok(blocks)
+}
+
+/// The sum of the widths.
+fn total_width(blocks: &[Block]) -> i64
+    requires count { length blocks.now ≤ 8 }
+    requires fits { All (λ b. IsBlock b) blocks.now }
+    ensures { result ≡ total (map (λ (b : PlainBlock). b.width) blocks.now) }
+{
+    let mut sum = 0;
+    for block in blocks {
+        sum += block.width;
+    }
+    sum
+}
+
+#[tactic(auto, unfolding(crate::specs::Tables::period_blocks))]
+fn read_period(alloc: Global, at: Place, tree: &Tree) -> Result<Blocks, FieldStop>
+    ensures fits { IfOk result (λ bs. IsBlockList bs.items) }
+    ensures value { Gives (λ bs. bs.items) result (period_blocks at [] (view tree.now)) }
+{
+    let trees = list_of(at, tree)?;
+    if trees.len() > MOST_BLOCKS {
+        return Err(at.stop(CaseCode::TooLarge));
+    }
+    let blocks = read_blocks(alloc, at, trees)?;
+    if total_width(blocks.as_slice()) > 1_000_000_000 {
+        return Err(at.stop(CaseCode::TooLarge));
+    }
+    Ok(blocks)
+}
+
+fn read_periods(alloc: Global, at: Place, trees: &[Tree]) -> Result<BlockLists, FieldStop>
+    requires { length trees.now ≤ 4096 }
+    ensures count { IfOk result (λ ls. length ls.items ≡ length trees.now) }
+    ensures fits { IfOk result (λ ls. All (λ bs. IsBlockList bs) (map items_in ls.items)) }
+    ensures value { Gives (λ ls. map items_in ls.items) result (items period_blocks at (views trees.now)) }
+{
+    let mut lists = BlockLists::make(alloc, trees.len() as u32)?;
+    for tree in trees {
+        let place = at.item(lists.len() as u32 + 1);
+        let blocks = read_period(alloc, place, tree)?;
+        lists.push(blocks);
+    }
+    Ok(lists)
+}
+
+#[tactic(auto, unfolding(crate::specs::Tables::blocks))]
+fn read_block_lists(alloc: Global, u: &Keys, periods: u32) -> Result<BlockLists, FieldStop>
+    requires { periods ≤ 168 }
+    ensures count { IfOk result (λ ls. length ls.items ≡ periods) }
+    ensures fits { IfOk result (λ ls. All (λ bs. IsBlockList bs) (map items_in ls.items)) }
+    ensures value { Gives (λ ls. map items_in ls.items) result (key (keys u.now.at (member_views u.now.members.now)) Field.Blocks (blocks periods)) }
+{
+    let at = u.at.field(Field::Blocks);
+    let trees = list_of(at, u.value(Field::Blocks)?)?;
+    if trees.len() != periods as usize {
+        return Err(at.stop(CaseCode::WrongLength));
+    }
+    read_periods(alloc, at, trees)
+}
+
+#[tactic(auto, unfolding(crate::specs::Tables::bid_unit))]
+pub fn read_bid(alloc: Global, at: Place, tree: &Tree, periods: u32) -> Result<Bid, FieldStop>
+    requires some { 1 ≤ periods }
+    requires horizon { periods ≤ 168 }
+    ensures fits { IfOk result (λ b. IsBidUnit (bid_of b)) }
+    ensures count { IfOk result (λ b. length b.blocks.items ≡ periods) }
+    ensures value { Gives bid_of result (bid_unit periods at (view tree.now)) }
+{
+    let u = Keys {
+        at,
+        members: object_of(at, tree)?,
+    };
+    let blocks = read_block_lists(alloc, &u, periods)?;
+    Ok(Bid { blocks })
+}

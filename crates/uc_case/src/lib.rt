@@ -1,0 +1,20 @@
+//! The case of a file: a case of unit commitment as pglib-uc has it, with demand bids, or the first fault in a fixed
+//! order.
+#![tactic(auto)]
+
+mod bids;
+mod cases;
+pub mod fault;
+mod forms;
+pub mod inside;
+mod keys;
+pub mod laws;
+mod lists;
+mod names;
+mod parts;
+mod read;
+pub mod stop;
+mod units;
+mod windows;
+
+pub use read::read_case;

@@ -1,0 +1,170 @@
+//! The lists of a unit.
+ghost use Rattle.std.specs.Prelude.{◌≡◌, ◌≤◌, IfOk, length, codes, false, nat_lt, int_lt};
+ghost use Rattle.std.specs.List.{All};
+ghost use Rattle.uc_model.specs.Limits.{IsLag, IsPoint, IsPower, Spans};
+ghost use Rattle.uc_model.specs.declared.units.Lag.{Lag as PlainLag};
+ghost use Rattle.uc_model.specs.declared.units.Point.{Point as PlainPoint};
+ghost use Rattle.uc_text.specs.View.{view, views, member_views};
+ghost use Rattle.uc_case.specs.Given.{Gives};
+ghost use Rattle.uc_case.specs.Kept.{AreLags, ArePoints};
+ghost use Rattle.uc_case.specs.Words.{last_is};
+ghost use Rattle.uc_case.specs.Forms.{key, keys, items, part, power, cost, start_cost, time};
+ghost use Rattle.uc_case.specs.Tables.{lag, startup, point, piecewise, powers, one_power, ends_miss};
+
+use crate::fault::{CaseCode, Field, Place};
+use crate::forms::{
+    FieldStop, list_of, object_of, read_cost, read_power, read_start_cost, read_time, value_under,
+};
+use crate::keys::Keys;
+use std::alloc::Global;
+use uc_model::lists::Numbers;
+use uc_model::units::{Lag, Lags, Point, Points};
+use uc_text::Tree;
+
+#[tactic(auto, unfolding(crate::specs::Tables::lag))]
+fn read_lag(at: Place, before: &[Lag], tree: &Tree) -> Result<Lag, FieldStop>
+    ensures fits { IfOk result (λ l. IsLag l) }
+    ensures order { IfOk result (λ l. last_is (λ (b : PlainLag). nat_lt l.lag b.lag) before.now ≡ false) }
+    ensures value { Gives (λ l. l) result (lag at before.now (view tree.now)) }
+{
+    let members = object_of(at, tree)?;
+    let lag = read_time(at, value_under(at, members, "lag")?, 1_000_000)?;
+    let cost = read_start_cost(at, value_under(at, members, "cost")?)?;
+    if let Some(last) = before.last() {
+        if lag < last.lag {
+            return Err(at.stop(CaseCode::LagOrder));
+        }
+    }
+    Ok(Lag { lag, cost })
+}
+
+fn read_lags(alloc: Global, at: Place, trees: &[Tree]) -> Result<Lags, FieldStop>
+    requires { length trees.now ≤ 4096 }
+    ensures count { IfOk result (λ ls. length ls.items ≡ length trees.now) }
+    ensures fits { IfOk result (λ ls. AreLags ls.items) }
+    ensures value { Gives (λ ls. ls.items) result (items lag at (views trees.now)) }
+{
+    let mut lags = Lags::make(alloc, trees.len() as u32)?;
+    for tree in trees {
+        let place = at.item(lags.len() as u32 + 1);
+        let lag = read_lag(place, lags.as_slice(), tree)?;
+        lags.push(lag);
+    }
+    Ok(lags)
+}
+
+#[tactic(auto, unfolding(crate::specs::Tables::startup))]
+pub fn read_startup(alloc: Global, u: &Keys) -> Result<Lags, FieldStop>
+    ensures count { IfOk result (λ ls. length ls.items ≤ 32) }
+    ensures fits { IfOk result (λ ls. AreLags ls.items) }
+    ensures value { Gives (λ ls. ls.items) result (key (keys u.now.at (member_views u.now.members.now)) Field.Startup startup) }
+{
+    let at = u.at.field(Field::Startup);
+    let trees = list_of(at, u.value(Field::Startup)?)?;
+    if trees.len() > 32 {
+        return Err(at.stop(CaseCode::TooLarge));
+    }
+    read_lags(alloc, at, trees)
+}
+
+#[tactic(auto, unfolding(crate::specs::Tables::point))]
+fn read_point(at: Place, before: &[Point], tree: &Tree) -> Result<Point, FieldStop>
+    ensures fits { IfOk result (λ p. IsPoint p) }
+    ensures order { IfOk result (λ p. last_is (λ (b : PlainPoint). int_lt p.at b.at) before.now ≡ false) }
+    ensures value { Gives (λ p. p) result (point at before.now (view tree.now)) }
+{
+    let members = object_of(at, tree)?;
+    let mw = read_power(at, value_under(at, members, "mw")?, 1_000_000_000)?;
+    let cost = read_cost(at, value_under(at, members, "cost")?)?;
+    if let Some(last) = before.last() {
+        if mw < last.at {
+            return Err(at.stop(CaseCode::CurveOrder));
+        }
+    }
+    Ok(Point { at: mw, cost })
+}
+
+fn read_points(alloc: Global, at: Place, trees: &[Tree]) -> Result<Points, FieldStop>
+    requires { length trees.now ≤ 4096 }
+    ensures count { IfOk result (λ ps. length ps.items ≡ length trees.now) }
+    ensures fits { IfOk result (λ ps. ArePoints ps.items) }
+    ensures value { Gives (λ ps. ps.items) result (items point at (views trees.now)) }
+{
+    let mut points = Points::make(alloc, trees.len() as u32)?;
+    for tree in trees {
+        let place = at.item(points.len() as u32 + 1);
+        let point = read_point(place, points.as_slice(), tree)?;
+        points.push(point);
+    }
+    Ok(points)
+}
+
+/// Whether the points begin above the least power or end below the greatest.
+fn misses_ends(low: i64, high: i64, points: &[Point]) -> bool
+    ensures { result ≡ ends_miss low high points.now }
+{
+    let first_misses = match points.first() {
+        Some(first) => low < first.at,
+        None => true,
+    };
+    let last_misses = match points.last() {
+        Some(last) => last.at < high,
+        None => true,
+    };
+    first_misses || last_misses
+}
+
+#[tactic(auto, using(crate::proofs::Ordered::spans), unfolding(crate::specs::Tables::piecewise))]
+pub fn read_piecewise(alloc: Global, u: &Keys, low: i64, high: i64) -> Result<Points, FieldStop>
+    ensures count { IfOk result (λ ps. length ps.items ≤ 32) }
+    ensures some { IfOk result (λ ps. 1 ≤ length ps.items) }
+    ensures fits { IfOk result (λ ps. ArePoints ps.items) }
+    ensures span { IfOk result (λ ps. Spans ps.items low high) }
+    ensures value { Gives (λ ps. ps.items) result (key (keys u.now.at (member_views u.now.members.now)) Field.PiecewiseProduction (piecewise low high)) }
+{
+    let at = u.at.field(Field::PiecewiseProduction);
+    let trees = list_of(at, u.value(Field::PiecewiseProduction)?)?;
+    if trees.len() > 32 {
+        return Err(at.stop(CaseCode::TooLarge));
+    }
+    let points = read_points(alloc, at, trees)?;
+    if misses_ends(low, high, points.as_slice()) {
+        return Err(at.stop(CaseCode::CurveEnds));
+    }
+    Ok(points)
+}
+
+fn read_numbers(alloc: Global, at: Place, trees: &[Tree]) -> Result<Numbers, FieldStop>
+    requires { length trees.now ≤ 4096 }
+    ensures count { IfOk result (λ ns. length ns.items ≡ length trees.now) }
+    ensures fits { IfOk result (λ ns. All (λ n. IsPower n) ns.items) }
+    ensures value { Gives (λ ns. ns.items) result (items one_power at (views trees.now)) }
+{
+    let mut numbers = Numbers::make(alloc, trees.len() as u32)?;
+    for tree in trees {
+        let place = at.item(numbers.len() as u32 + 1);
+        let number = read_power(place, tree, 1_000_000_000)?;
+        numbers.push(number);
+    }
+    Ok(numbers)
+}
+
+#[tactic(auto, unfolding(crate::specs::Tables::powers))]
+pub fn read_powers(
+    alloc: Global,
+    u: &Keys,
+    field: Field,
+    periods: u32,
+) -> Result<Numbers, FieldStop>
+    requires { periods ≤ 168 }
+    ensures count { IfOk result (λ ns. length ns.items ≡ periods) }
+    ensures fits { IfOk result (λ ns. All (λ n. IsPower n) ns.items) }
+    ensures value { Gives (λ ns. ns.items) result (key (keys u.now.at (member_views u.now.members.now)) field (powers periods)) }
+{
+    let at = u.at.field(field);
+    let trees = list_of(at, u.value(field)?)?;
+    if trees.len() != periods as usize {
+        return Err(at.stop(CaseCode::WrongLength));
+    }
+    read_numbers(alloc, at, trees)
+}

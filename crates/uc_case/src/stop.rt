@@ -1,0 +1,31 @@
+//! Why a reader of a tree stops.
+use std::alloc::{AllocError, AllocFailed};
+
+/// A test failed, or memory ran out.
+#[derive(Clone, Copy, Debug, Drop)]
+pub enum Stop<F> {
+    Fault(F),
+    Memory,
+}
+
+impl<F: Drop> From<AllocError> for Stop<F> {
+    ghost use Rattle.std.specs.Prelude.{◌≡◌};
+    ghost use Rattle.uc_case.specs.declared.stop.Stop.TheVariants.{Memory};
+
+    ghost from_gives = { λ _ e. e ≡ Memory };
+
+    fn from(_: AllocError) -> Stop<F> {
+        Stop::Memory
+    }
+}
+
+impl<T: Drop, F: Drop> From<AllocFailed<T>> for Stop<F> {
+    ghost use Rattle.std.specs.Prelude.{◌≡◌};
+    ghost use Rattle.uc_case.specs.declared.stop.Stop.TheVariants.{Memory};
+
+    ghost from_gives = { λ _ e. e ≡ Memory };
+
+    fn from(_: AllocFailed<T>) -> Stop<F> {
+        Stop::Memory
+    }
+}

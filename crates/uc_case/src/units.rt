@@ -1,0 +1,175 @@
+//! The units of a case.
+ghost use Rattle.std.specs.Prelude.{◌≡◌, ◌≤◌, IfOk, length};
+ghost use Rattle.uc_model.specs.PlainUnits.{thermal_of, renewable_of};
+ghost use Rattle.uc_model.specs.Limits.{IsThermalUnit, IsRenewableUnit};
+ghost use Rattle.uc_text.specs.View.{view, member_views};
+ghost use Rattle.uc_case.specs.Given.{Gives};
+ghost use Rattle.uc_case.specs.Kept.{IsRange, AreRamps, IsPast};
+ghost use Rattle.uc_case.specs.Forms.{keys};
+ghost use Rattle.uc_case.specs.Tables.{thermal_unit, renewable_unit, first_crossed, at_least_one, output, ramps, past};
+
+use crate::fault::{CaseCode, Field, Place};
+use crate::forms::{FieldStop, object_of};
+use crate::keys::Keys;
+use crate::lists::{read_piecewise, read_powers, read_startup};
+use crate::parts::{Output, Past, Ramps};
+use crate::windows::read_commitment;
+use std::alloc::Global;
+use uc_model::units::{Renewable, Unit};
+use uc_text::Tree;
+
+const POWER: u64 = 1_000_000_000;
+
+const OUTPUT: u64 = 10_000_000;
+
+const TIME: u64 = 1_000_000;
+
+fn raised_to_one(time: u32) -> u32
+    ensures { result ≡ at_least_one time }
+{
+    if time == 0 { 1 } else { time }
+}
+
+#[tactic(auto, unfolding(crate::specs::Tables::output))]
+fn read_output(u: &Keys) -> Result<Output, FieldStop>
+    ensures fits { IfOk result (λ o. IsRange o) }
+    ensures value { Gives (λ o. o) result (output (keys u.now.at (member_views u.now.members.now))) }
+{
+    let must_run = u.flag(Field::MustRun)?;
+    let least = u.power(Field::PowerOutputMinimum, POWER)?;
+    let most = u.power(Field::PowerOutputMaximum, OUTPUT)?;
+    if most < least {
+        return Err(
+            u.at.field(Field::PowerOutputMinimum)
+                .stop(CaseCode::RangeOrder),
+        );
+    }
+    Ok(Output {
+        must_run,
+        least,
+        most,
+    })
+}
+
+#[tactic(auto, unfolding(crate::specs::Tables::ramps))]
+fn read_ramps(u: &Keys) -> Result<Ramps, FieldStop>
+    ensures fits { IfOk result (λ r. AreRamps r) }
+    ensures value { Gives (λ r. r) result (ramps (keys u.now.at (member_views u.now.members.now))) }
+{
+    let up = u.power(Field::RampUpLimit, POWER)?;
+    let down = u.power(Field::RampDownLimit, POWER)?;
+    let start = u.power(Field::RampStartupLimit, POWER)?;
+    let stop = u.power(Field::RampShutdownLimit, POWER)?;
+    Ok(Ramps {
+        up,
+        down,
+        start,
+        stop,
+    })
+}
+
+#[tactic(auto, unfolding(crate::specs::Tables::past))]
+fn read_past(u: &Keys) -> Result<Past, FieldStop>
+    ensures fits { IfOk result (λ p. IsPast p) }
+    ensures value { Gives (λ p. p) result (past (keys u.now.at (member_views u.now.members.now))) }
+{
+    let min_up = raised_to_one(u.time(Field::TimeUpMinimum, TIME)?);
+    let min_down = raised_to_one(u.time(Field::TimeDownMinimum, TIME)?);
+    let power = u.power(Field::PowerOutputT0, OUTPUT)?;
+    let on = u.flag(Field::UnitOnT0)?;
+    let up = u.time(Field::TimeUpT0, TIME)?;
+    let down = u.time(Field::TimeDownT0, TIME)?;
+    Ok(Past {
+        min_up,
+        min_down,
+        power,
+        on,
+        up,
+        down,
+    })
+}
+
+#[tactic(auto, unfolding(crate::specs::Tables::thermal_unit))]
+pub fn read_unit(alloc: Global, at: Place, tree: &Tree, periods: u32) -> Result<Unit, FieldStop>
+    requires some { 1 ≤ periods }
+    requires horizon { periods ≤ 168 }
+    ensures fits { IfOk result (λ u. IsThermalUnit (thermal_of u)) }
+    ensures count { IfOk result (λ u. length u.window.items ≡ periods) }
+    ensures value { Gives thermal_of result (thermal_unit periods at (view tree.now)) }
+{
+    let u = Keys {
+        at,
+        members: object_of(at, tree)?,
+    };
+    let output = read_output(&u)?;
+    let ramps = read_ramps(&u)?;
+    let past = read_past(&u)?;
+    let lags = read_startup(alloc, &u)?;
+    let points = read_piecewise(alloc, &u, output.least, output.most)?;
+    let window = read_commitment(alloc, &u, periods)?;
+    Ok(Unit {
+        must_run: output.must_run,
+        min_power: output.least,
+        max_power: output.most,
+        ramp_up: ramps.up,
+        ramp_down: ramps.down,
+        start_limit: ramps.start,
+        stop_limit: ramps.stop,
+        min_up: past.min_up,
+        min_down: past.min_down,
+        power0: past.power,
+        on0: past.on,
+        up0: past.up,
+        down0: past.down,
+        lags,
+        points,
+        window,
+    })
+}
+
+/// The position of the first least power above its greatest, or 0.
+fn first_crossing(least: &[i64], most: &[i64]) -> u32
+    requires one { length least.now ≤ 168 }
+    requires same { length most.now ≡ length least.now }
+    ensures { result ≡ first_crossed 1 least.now most.now }
+{
+    let mut position = 0;
+    for low in least {
+        let high = most[position as usize];
+        position += 1;
+        if high < *low {
+            return position;
+        }
+    }
+    0
+}
+
+#[tactic(auto, unfolding(crate::specs::Tables::renewable_unit))]
+pub fn read_renewable(
+    alloc: Global,
+    at: Place,
+    tree: &Tree,
+    periods: u32,
+) -> Result<Renewable, FieldStop>
+    requires some { 1 ≤ periods }
+    requires horizon { periods ≤ 168 }
+    ensures fits { IfOk result (λ r. IsRenewableUnit (renewable_of r)) }
+    ensures count { IfOk result (λ r. length r.least.items ≡ periods) }
+    ensures value { Gives renewable_of result (renewable_unit periods at (view tree.now)) }
+{
+    let u = Keys {
+        at,
+        members: object_of(at, tree)?,
+    };
+    let least = read_powers(alloc, &u, Field::PowerOutputMinimum, periods)?;
+    let most = read_powers(alloc, &u, Field::PowerOutputMaximum, periods)?;
+    let crossed = first_crossing(least.as_slice(), most.as_slice());
+    if crossed > 0 {
+        return Err(
+            at.field(Field::PowerOutputMinimum)
+                .item(crossed)
+                .stop(CaseCode::RangeOrder),
+        );
+    }
+    Ok(Renewable { least, most })
+}

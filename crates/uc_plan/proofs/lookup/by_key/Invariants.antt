@@ -1,0 +1,9 @@
+use Rattle.std.proofs.Common.{◌≡◌, ℕ, ◌-◌, ◌≤◌, List, length, drop, bytes_eq}
+use Rattle.std.specs.Option.{option_map}
+use Rattle.indexmap.specs.IndexMap.{get_by}
+use Rattle.uc_text.specs.View.{view, member_views}
+use Rattle.uc_case.specs.Inside.{value_of}
+use Rattle.uc_plan.proofs.lookup.by_key.Given as goal
+
+abbrev pub invariant-loop-done : goal.invariant-loop-done
+invariant-loop-done l = (q : List ℕ) → option_map (λ t. view t.now) (get_by (λ k. bytes_eq q k.now) l.values) ≡ value_of q (member_views (drop (length l.members - l.done) l.members))

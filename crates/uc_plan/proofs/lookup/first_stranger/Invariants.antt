@@ -1,0 +1,11 @@
+use Rattle.std.proofs.Common.{◌≡◌, ℕ, ◌+◌, List, drop, bytes_eq}
+use Rattle.indexmap.specs.IndexSet.{contains_by}
+use Rattle.uc_text.specs.View.{member_views}
+use Rattle.uc_plan.specs.Plans.{is_among, first_unknown}
+use Rattle.uc_plan.proofs.lookup.first_stranger.Given as goal
+
+abbrev pub invariant-loop-member : goal.invariant-loop-member
+invariant-loop-member l = record {
+  count : l.position ≡ l.member-index;
+  so_far : (ns : List (List ℕ)) → ((q : List ℕ) → contains_by (λ k. bytes_eq q k.now) l.names ≡ is_among q ns) → first_unknown ns (l.member-index + 1) (member_views (drop l.member-index l.known)) ≡ first_unknown ns 1 (member_views l.known);
+}

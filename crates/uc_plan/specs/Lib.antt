@@ -1,0 +1,4 @@
+pub mod Shapes
+pub mod Plans
+pub mod PlanFiles
+pub mod Views

@@ -1,0 +1,152 @@
+-- The tables of a schedule file: the schedules of a value for a case, or the fault of the first test that fails (this
+-- project's profile). Keys that no table names are skipped.
+use Rattle.std.specs.Prelude.{ℕ, Bool, true, false, not, ◌==◌, nat_lt, int_lt, List, [], ◌∷◌, ◌++◌, length, map, replicate, if◌then◌else◌, codes, Option, Some, None, Result, Ok, bytes_eq, pos, nat_abs, unsigned_abs}
+use Rattle.std.specs.Option.{option_and_then}
+use Rattle.uc_model.specs.Data.{Schedule, Market, NamedThermalUnit, NamedRenewableUnit, NamedBidUnit}
+use Rattle.uc_model.specs.declared.kinds.Kind.{Kind}
+use Rattle.uc_model.specs.declared.kinds.Kind.TheVariants.{Case, Thermal, Renewable, Bid}
+use Rattle.uc_num.specs.declared.Decimal.{Decimal}
+use Rattle.uc_num.specs.Rounding.{rounded}
+use Rattle.uc_text.specs.Values.{Value}
+use Rattle.uc_text.specs.Parts.{Pair}
+use Rattle.uc_case.specs.Inside.{number_in, list_in, object_in, value_of, is_whole, bit_of}
+use Rattle.uc_case.specs.Words.{◌>>=◌, ◌>>◌, refuse, need, each, position}
+use Rattle.uc_plan.specs.Shapes.{fault}
+use Rattle.uc_plan.specs.declared.fault.Seat.{Seat}
+use Rattle.uc_plan.specs.declared.fault.ShapeCode.TheVariants.{UnknownUnit, MissingUnit, PlanShape, PlanNumber}
+use Rattle.uc_plan.specs.declared.fault.ShapeFault.{ShapeFault}
+
+-- What tests of a schedule give: a value, or the fault of the first test that failed.
+abbrev pub Read : Type 0 → Type 0
+Read A = Result A ShapeFault
+
+abbrev pub seat : Kind → ℕ → Seat
+seat kind unit = record { kind = kind; unit = unit }
+
+-- ---- numbers
+
+-- a whole number from 0 to the limit
+abbrev pub kilowatts_of : Decimal → Option ℕ
+kilowatts_of d =
+    if not (is_whole d) then None
+    else if nat_lt 1000000000 (unsigned_abs (rounded d 0)) then None
+    else if int_lt (rounded d 0) (pos 0) then None
+    else Some (nat_abs (rounded d 0))
+
+abbrev pub kilowatts_in : Value → Option ℕ
+kilowatts_in v = option_and_then kilowatts_of (number_in v)
+
+abbrev pub flag_in : Value → Option Bool
+flag_in v = option_and_then bit_of (number_in v)
+
+-- the items of a list, each a number of that kind
+unfoldable pub numbers : {A : Type 0} → (Value → Option A) → Seat → List Value → Read (List A)
+numbers number at vs = each (λ before v. need (fault at (position before) PlanNumber) (number v)) [] vs
+
+-- ---- shapes
+
+-- a list of an item for each period
+abbrev pub full_list : ℕ → Value → Option (List Value)
+full_list periods v = option_and_then (λ (vs : List Value). if length vs == periods then Some vs else None) (list_in v)
+
+abbrev pub list_under : ℕ → List ℕ → List Pair → Option (List Value)
+list_under periods key ms = option_and_then (full_list periods) (value_of key ms)
+
+-- the three lists of a thermal unit
+unfoldable pub thermal_schedule : ℕ → Seat → Value → Read Schedule
+thermal_schedule periods at v = do
+  ms ← need (fault at 0 PlanShape) (object_in v)
+  ons ← need (fault at 0 PlanShape) (list_under periods (codes "on") ms)
+  powers ← need (fault at 0 PlanShape) (list_under periods (codes "power") ms)
+  reserves ← need (fault at 0 PlanShape) (list_under periods (codes "reserve") ms)
+  on ← numbers flag_in at ons
+  power ← numbers kilowatts_in at powers
+  reserve ← numbers kilowatts_in at reserves
+  Ok (record { on = on; power = power; reserve = reserve })
+
+-- the one list of a renewable unit or a bid: it is on in every period with reserve 0
+unfoldable pub flat_schedule : ℕ → Seat → Value → Read Schedule
+flat_schedule periods at v = do
+  vs ← need (fault at 0 PlanShape) (full_list periods v)
+  power ← numbers kilowatts_in at vs
+  Ok (record { on = replicate periods true; power = power; reserve = replicate periods 0 })
+
+abbrev pub schedule_by : Kind → ℕ → Seat → Value → Read Schedule
+schedule_by Thermal = thermal_schedule
+schedule_by _ = flat_schedule
+
+unfoldable pub schedule : ℕ → Seat → Value → Read Schedule
+schedule periods at v = schedule_by at.kind periods at v
+
+-- ---- units by name
+
+abbrev pub is_among : List ℕ → List (List ℕ) → Bool
+is_among name [] = false
+is_among name (n ∷ ns) = if bytes_eq n name then true else is_among name ns
+
+-- the schedule under a unit's name
+unfoldable pub named : ℕ → List Pair → Seat → List ℕ → Read Schedule
+named periods members at name = do
+  v ← need (fault at 0 MissingUnit) (value_of name members)
+  schedule periods at v
+
+-- the position of the first member whose name isn't one of these, or 0
+abbrev pub first_unknown : List (List ℕ) → ℕ → List Pair → ℕ
+first_unknown names k [] = 0
+first_unknown names k (m ∷ ms) = if is_among m.name names then first_unknown names (suc k) ms else k
+
+unfoldable pub all_known : Kind → List (List ℕ) → List Pair → Read (Unit {0})
+all_known kind names ms =
+    refuse (fault (seat kind (first_unknown names 1 ms)) 0 UnknownUnit) (nat_lt 0 (first_unknown names 1 ms))
+
+-- the schedule of each unit in the order of the case
+unfoldable pub schedules : ℕ → Kind → List Pair → List (List ℕ) → Read (List Schedule)
+schedules periods kind members names = each (λ before. named periods members (seat kind (position before))) [] names
+
+-- ---- the plan
+
+abbrev pub whole : Seat
+whole = seat Case 0
+
+abbrev pub object_under : List ℕ → List Pair → Option (List Pair)
+object_under key ms = option_and_then object_in (value_of key ms)
+
+-- absent bids are none, where the case has none
+abbrev pub bids_in : ℕ → Option Value → Option (List Pair)
+bids_in count None = if count == 0 then Some [] else None
+bids_in count (Some v) = object_in v
+
+abbrev pub thermal_names : Market → List (List ℕ)
+thermal_names m = map (λ (n : NamedThermalUnit). n.name) m.thermal
+
+abbrev pub renewable_names : Market → List (List ℕ)
+renewable_names m = map (λ (n : NamedRenewableUnit). n.name) m.flat
+
+abbrev pub bid_names : Market → List (List ℕ)
+bid_names m = map (λ (n : NamedBidUnit). n.name) m.bids
+
+-- the objects of a schedule, by unit name
+pub record Groups : Type 0 where
+  pub thermal : List Pair
+  pub renewable : List Pair
+  pub bids : List Pair
+
+unfoldable pub groups : ℕ → Value → Read Groups
+groups count v = do
+  ms ← need (fault whole 0 PlanShape) (object_in v)
+  thermal ← need (fault whole 0 PlanShape) (object_under (codes "thermal") ms)
+  renewable ← need (fault whole 0 PlanShape) (object_under (codes "renewable") ms)
+  bids ← need (fault whole 0 PlanShape) (bids_in count (value_of (codes "bids") ms))
+  Ok (record { thermal = thermal; renewable = renewable; bids = bids })
+
+-- the schedules in the order of the units' numbers
+unfoldable pub plan_of : Market → Value → Read (List Schedule)
+plan_of m v = do
+  g ← groups (length m.bids) v
+  all_known Thermal (thermal_names m) g.thermal
+  all_known Renewable (renewable_names m) g.renewable
+  all_known Bid (bid_names m) g.bids
+  thermal ← schedules m.periods Thermal g.thermal (thermal_names m)
+  renewable ← schedules m.periods Renewable g.renewable (renewable_names m)
+  bids ← schedules m.periods Bid g.bids (bid_names m)
+  Ok (thermal ++ (renewable ++ bids))

@@ -1,0 +1,16 @@
+-- The faults of a schedule file.
+use Rattle.std.specs.Prelude.{ℕ}
+use Rattle.uc_plan.specs.declared.fault.ShapeCode.{ShapeCode}
+use Rattle.uc_plan.specs.declared.fault.ShapeCode.TheVariants.{UnknownUnit, MissingUnit, PlanShape, PlanNumber}
+use Rattle.uc_plan.specs.declared.fault.Seat.{Seat}
+use Rattle.uc_plan.specs.declared.fault.ShapeFault.{ShapeFault}
+
+-- the number under which a fault is printed (this project's profile)
+abbrev pub shape_number : ShapeCode → ℕ
+shape_number UnknownUnit = 40
+shape_number MissingUnit = 41
+shape_number PlanShape = 42
+shape_number PlanNumber = 43
+
+abbrev pub fault : Seat → ℕ → ShapeCode → ShapeFault
+fault seat item code = record { code = code; kind = seat.kind; unit = seat.unit; item = item }
