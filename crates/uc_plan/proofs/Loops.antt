@@ -1,5 +1,5 @@
 -- The numbers of a list, read one after the other as a loop does.
-use Rattle.std.proofs.Common.{◌≡◌, ℕ, ◌+◌, ◌<◌, ◌≤◌, List, [], ◌∷◌, ◌++◌, length, get_or, drop, Option, Some, None, Result, Ok, Err, refl, sym, ap, ◌∙◌}
+use Rattle.std.proofs.Common.{◌≡◌, ℕ, ◌+◌, ◌<◌, ◌≤◌, List, [], ◌∷◌, ◌++◌, length, get_or, drop, Option, Some, None, Result, Ok, Err, refl, ap}
 use Rattle.uc_text.specs.Values.{Value}
 use Rattle.uc_text.specs.View.{view, views}
 use Rattle.uc_text.specs.declared.tree.Tree.{Tree}

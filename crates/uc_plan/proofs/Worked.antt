@@ -31,20 +31,20 @@ small = record {
   bids = [];
 }
 
-abbrev schedule : List ℕ → Value → Value
-schedule name v = object (members_of (under (codes "thermal") (object (members_of [])) ∷ under (codes "renewable") (object (members_of (under name v ∷ []))) ∷ []))
+abbrev file : List ℕ → Value → Value
+file name v = object (members_of (under (codes "thermal") (object (members_of [])) ∷ under (codes "renewable") (object (members_of (under name v ∷ []))) ∷ []))
 
 -- W gives 100 MW
-pub smallest_plan : plan_of small (schedule (codes "W") (one (whole_number 100000))) ≡ Ok (record { on = true ∷ []; power = 100000 ∷ []; reserve = 0 ∷ [] } ∷ [])
+pub smallest_plan : plan_of small (file (codes "W") (one (whole_number 100000))) ≡ Ok (record { on = true ∷ []; power = 100000 ∷ []; reserve = 0 ∷ [] } ∷ [])
 unfolding plan_of groups value_of all_known schedules named schedule flat_schedule numbers each rounded rounded_size
 smallest_plan = refl
 
 -- V isn't in the case: 40 comes before 41
-pub unknown_name : plan_of small (schedule (codes "V") (one (whole_number 100000))) ≡ Err (record { code = codes_of.UnknownUnit; kind = kinds.Renewable; unit = 1; item = 0 })
+pub unknown_name : plan_of small (file (codes "V") (one (whole_number 100000))) ≡ Err (record { code = codes_of.UnknownUnit; kind = kinds.Renewable; unit = 1; item = 0 })
 unfolding plan_of groups value_of all_known schedules named schedule flat_schedule numbers each rounded rounded_size
 unknown_name = refl
 
 -- a number too large in period 1
-pub large_number : plan_of small (schedule (codes "W") (one (whole_number 1000000001))) ≡ Err (record { code = codes_of.PlanNumber; kind = kinds.Renewable; unit = 1; item = 1 })
+pub large_number : plan_of small (file (codes "W") (one (whole_number 1000000001))) ≡ Err (record { code = codes_of.PlanNumber; kind = kinds.Renewable; unit = 1; item = 1 })
 unfolding plan_of groups value_of all_known schedules named schedule flat_schedule numbers each rounded rounded_size
 large_number = refl

@@ -1,6 +1,6 @@
 -- The tables of a schedule file: the schedules of a value for a case, or the fault of the first test that fails (this
 -- project's profile). Keys that no table names are skipped.
-use Rattle.std.specs.Prelude.{ℕ, Bool, true, false, not, ◌==◌, nat_lt, int_lt, List, [], ◌∷◌, ◌++◌, length, map, replicate, if◌then◌else◌, codes, Option, Some, None, Result, Ok, bytes_eq, pos, nat_abs, unsigned_abs}
+use Rattle.std.specs.Prelude.{ℕ, suc, Bool, true, false, not, ◌==◌, nat_lt, int_lt, List, [], ◌∷◌, ◌++◌, length, map, replicate, if◌then◌else◌, codes, Option, Some, None, Result, Ok, bytes_eq, pos, nat_abs, unsigned_abs}
 use Rattle.std.specs.Option.{option_and_then}
 use Rattle.uc_model.specs.Data.{Schedule, Market, NamedThermalUnit, NamedRenewableUnit, NamedBidUnit}
 use Rattle.uc_model.specs.declared.kinds.Kind.{Kind}

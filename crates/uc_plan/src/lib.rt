@@ -2,9 +2,14 @@
 #![tactic(auto)]
 
 pub mod fault;
+pub mod laws;
 
 mod lookup;
 mod named;
 mod numbers;
+mod plans;
+mod read;
 mod shapes;
 mod units;
+
+pub use read::read_plan;

@@ -37,7 +37,8 @@ pub fn names_of<'a, N: Named>(
 {
     let mut names = IndexSet::with_capacity(alloc, units.len())?;
     for done in 0..units.len() {
-        names.insert(units[units.len() - 1 - done].name())?;
+        let unit = &units[units.len() - 1 - done];
+        names.insert(unit.name())?;
     }
     Ok(names)
 }

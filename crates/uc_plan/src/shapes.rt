@@ -40,6 +40,7 @@ fn members_under<'a>(members: &'a [Member], key: &str) -> Option<&'a [Member]>
 }
 
 /// The objects of a schedule, by unit name.
+#[derive(Clone, Copy)]
 pub struct Groups<'a> {
     pub thermal: &'a [Member],
     pub renewable: &'a [Member],

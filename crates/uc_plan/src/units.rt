@@ -3,6 +3,7 @@ ghost use Rattle.std.specs.Prelude.{◌≡◌, ◌≤◌, IfOk, length};
 ghost use Rattle.uc_model.specs.PlainUnits.{schedule_of};
 ghost use Rattle.uc_text.specs.View.{view};
 ghost use Rattle.uc_case.specs.Given.{Gives};
+ghost use Rattle.uc_plan.specs.Added.{HasLengths, IsFlat, IsShaped};
 ghost use Rattle.uc_plan.specs.Plans.{thermal_schedule, flat_schedule, schedule};
 
 use crate::fault::{Seat, ShapeCode, ShapeStop};
@@ -23,7 +24,8 @@ fn read_thermal(
     periods: u32,
 ) -> Result<Response, ShapeStop>
     requires { periods ≤ 168 }
-    ensures { Gives schedule_of result (thermal_schedule periods at (view tree.now)) }
+    ensures lengths { IfOk result (λ r. HasLengths periods (schedule_of r)) }
+    ensures value { Gives schedule_of result (thermal_schedule periods at (view tree.now)) }
 {
     let Some(members) = as_object(tree) else {
         return Err(at.stop(0, ShapeCode::PlanShape));
@@ -51,7 +53,9 @@ fn read_flat(
     periods: u32,
 ) -> Result<Response, ShapeStop>
     requires { periods ≤ 168 }
-    ensures { Gives schedule_of result (flat_schedule periods at (view tree.now)) }
+    ensures lengths { IfOk result (λ r. HasLengths periods (schedule_of r)) }
+    ensures flat { IfOk result (λ r. IsFlat (schedule_of r)) }
+    ensures value { Gives schedule_of result (flat_schedule periods at (view tree.now)) }
 {
     let Some(items) = full_items(tree, periods) else {
         return Err(at.stop(0, ShapeCode::PlanShape));
@@ -70,10 +74,13 @@ pub fn read_schedule(
     periods: u32,
 ) -> Result<Response, ShapeStop>
     requires { periods ≤ 168 }
-    ensures { Gives schedule_of result (schedule periods at (view tree.now)) }
+    ensures shape { IfOk result (λ r. IsShaped at.kind periods (schedule_of r)) }
+    ensures value { Gives schedule_of result (schedule periods at (view tree.now)) }
 {
     match at.kind {
         Kind::Thermal => read_thermal(alloc, at, tree, periods),
-        _ => read_flat(alloc, at, tree, periods),
+        Kind::Case => read_flat(alloc, at, tree, periods),
+        Kind::Renewable => read_flat(alloc, at, tree, periods),
+        Kind::Bid => read_flat(alloc, at, tree, periods),
     }
 }

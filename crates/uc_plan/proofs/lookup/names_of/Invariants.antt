@@ -1,0 +1,7 @@
+use Rattle.std.proofs.Common.{◌≡◌, ℕ, ◌-◌, List, length, drop, map, bytes_eq}
+use Rattle.indexmap.specs.IndexSet.{contains_by}
+use Rattle.uc_plan.specs.Plans.{is_among}
+use Rattle.uc_plan.proofs.lookup.names_of.Given as goal
+
+abbrev pub invariant-loop-done : goal.invariant-loop-done
+invariant-loop-done g l = (q : List ℕ) → contains_by (λ k. bytes_eq q k.now) l.names ≡ is_among q (map g.N.Named.name_of (drop (length l.units - l.done) l.units))

@@ -1,0 +1,112 @@
+//! The schedules of all units of a case.
+ghost use Rattle.std.specs.Prelude.{◌≡◌, ◌≤◌, ◌+◌, ℕ, List, IfOk, OnOk, length, map, bytes_eq};
+ghost use Rattle.std.specs.Option.{option_map};
+ghost use Rattle.indexmap.specs.IndexMap.{get_by};
+ghost use Rattle.uc_model.specs.Laws.{HasPlanShape};
+ghost use Rattle.uc_model.specs.PlainCases.{market_of, schedules_of};
+ghost use Rattle.uc_model.specs.PlainUnits.{schedule_of};
+ghost use Rattle.uc_text.specs.Parts.{Pair};
+ghost use Rattle.uc_text.specs.View.{view, member_views};
+ghost use Rattle.uc_case.specs.Given.{Gives};
+ghost use Rattle.uc_case.specs.Inside.{value_of};
+ghost use Rattle.uc_plan.specs.Added.{Adds, IsShaped};
+ghost use Rattle.uc_plan.specs.Plans.{named, schedules, all_known, plan_of};
+
+use crate::fault::{Seat, ShapeCode, ShapeStop};
+use crate::lookup::{by_key, first_stranger, names_of};
+use crate::named::Named;
+use crate::shapes::read_groups;
+use crate::units::read_schedule;
+use indexmap::IndexMap;
+use std::alloc::Global;
+use uc_case::fault::Kind;
+use uc_case::stop::Stop;
+use uc_model::cases::{Case, Plan};
+use uc_model::units::{Response, ResponseList};
+use uc_text::{Member, Tree};
+
+/// Refuses the first member whose name isn't that of a unit.
+#[tactic(auto, unfolding(crate::specs::Plans::all_known))]
+fn check_names<N: Named>(
+    alloc: Global,
+    kind: Kind,
+    members: &[Member],
+    units: &[N],
+) -> Result<(), ShapeStop>
+    ensures { Gives (λ _. tt) result (all_known kind (map N.name_of units.now) (member_views members.now)) }
+{
+    let names = names_of(alloc, units)?;
+    let position = first_stranger(&names, members);
+    if position > 0 {
+        // There is no room for an object of so many members.
+        let Ok(unit) = u32::try_from(position) else {
+            return Err(Stop::Memory);
+        };
+        return Err(Seat { kind, unit }.stop(0, ShapeCode::UnknownUnit));
+    }
+    Ok(())
+}
+
+#[tactic(auto, unfolding(crate::specs::Plans::named))]
+fn read_named(
+    alloc: Global,
+    values: &IndexMap<&str, &Tree>,
+    at: Seat,
+    name: &str,
+    periods: u32,
+) -> Result<Response, ShapeStop>
+    requires { periods ≤ 168 }
+    ensures shape { IfOk result (λ r. IsShaped at.kind periods (schedule_of r)) }
+    ensures value { (ms : List Pair) → ((q : List ℕ) → option_map (λ t. view t.now) (get_by (λ k. bytes_eq q k.now) values.now) ≡ value_of q ms) → Gives schedule_of result (named periods ms at name.now) }
+{
+    match values.get(name) {
+        Some(tree) => read_schedule(alloc, at, tree, periods),
+        None => Err(at.stop(0, ShapeCode::MissingUnit)),
+    }
+}
+
+/// Adds the schedule of each unit to a plan that has room for them.
+fn read_schedules<N: Named>(
+    alloc: Global,
+    kind: Kind,
+    members: &[Member],
+    units: &[N],
+    periods: u32,
+    plan: &mut ResponseList,
+) -> Result<(), ShapeStop>
+    requires few { length units.now ≤ 4096 }
+    requires horizon { periods ≤ 168 }
+    requires room { length units.now ≤ plan.old.spare }
+    ensures spare { OnOk result (plan.new.spare + length units.now ≡ plan.old.spare) }
+    ensures value { Adds (λ s. IsShaped kind periods s) (length units.now) (map schedule_of plan.old.items) (map schedule_of plan.new.items) result (schedules periods kind (member_views members.now) (map N.name_of units.now)) }
+{
+    let values = by_key(alloc, members)?;
+    let mut unit = 0;
+    for named in units {
+        unit += 1;
+        let response = read_named(alloc, &values, Seat { kind, unit }, named.name(), periods)?;
+        plan.push(response);
+    }
+    Ok(())
+}
+
+/// The plan of a tree, or the fault of the first test that fails.
+#[tactic(auto, unfolding(crate::specs::Plans::plan_of))]
+pub fn plan_of_tree(alloc: Global, case: &Case, tree: &Tree) -> Result<Plan, ShapeStop>
+    ensures shape { IfOk result (λ p. HasPlanShape (market_of case.now) (schedules_of p)) }
+    ensures value { Gives schedules_of result (plan_of (market_of case.now) (view tree.now)) }
+{
+    let thermal = case.thermal.as_slice();
+    let flat = case.flat.as_slice();
+    let bids = case.bids.as_slice();
+    let groups = read_groups(tree, bids.len())?;
+    check_names(alloc, Kind::Thermal, groups.thermal, thermal)?;
+    check_names(alloc, Kind::Renewable, groups.renewable, flat)?;
+    check_names(alloc, Kind::Bid, groups.bids, bids)?;
+    let count = thermal.len() + flat.len() + bids.len();
+    let mut responses = ResponseList::make(alloc, count as u32)?;
+    read_schedules(alloc, Kind::Thermal, groups.thermal, thermal, case.periods, &mut responses)?;
+    read_schedules(alloc, Kind::Renewable, groups.renewable, flat, case.periods, &mut responses)?;
+    read_schedules(alloc, Kind::Bid, groups.bids, bids, case.periods, &mut responses)?;
+    Ok(Plan { responses })
+}
