@@ -1,0 +1,9 @@
+use Rattle.std.proofs.Common.{rules, w64, FitsSigned}
+use Rattle.cost_curve.proofs.CostLaws.{block_sum}
+use Rattle.cost_curve.proofs.curves.after_block.Goals as goal
+
+pub returns-clause-value : goal.returns-clause-value
+returns-clause-value c =
+    let p : FitsSigned w64 c.args.block.now.price = search rules in
+    let w : FitsSigned w64 c.args.block.now.width = search rules in
+    block_sum c.args.reached.value c.args.block.now.price c.args.block.now.width p w c.requires.value c.requires.sum

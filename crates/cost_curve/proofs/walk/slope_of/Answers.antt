@@ -1,0 +1,25 @@
+use Rattle.cost_curve.proofs.SlopeLaws.{next_fits, even_slope, even_price, up_slope, up_price, up_width}
+use Rattle.std.proofs.Common.{arith}
+use Rattle.std.proofs.lemmas.Int.{ints}
+use Rattle.cost_curve.proofs.walk.slope_of.Goals as goal
+
+pub overflow_add-result : goal.overflow_add-result
+overflow_add-result c = next_fits c.args.from.now c.args.to.now c.requires.from_limits c.requires.to_limits c.requires.rising _ _ c.div_euclid-price.ensures c.rem_euclid-rest.ensures.value
+
+pub invariant_of-result : goal.invariant_of-result
+invariant_of-result c = record {
+  price_limit = even_price c.args.from.now c.args.to.now c.requires.from_limits c.requires.to_limits c.requires.rising _ _ c.div_euclid-price.ensures c.rem_euclid-rest.ensures.value;
+  width_limit = record { at_least = omega (arith, ints); at_most = omega (arith, ints) };
+}
+
+pub returns-then-rest-eq0 : goal.returns-then-rest-eq0
+returns-then-rest-eq0 c = even_slope c.args.from.now c.args.to.now c.requires.from_limits c.requires.to_limits c.requires.rising _ _ c.div_euclid-price.ensures c.rem_euclid-rest.ensures.value c.if-rest-eq0.true
+
+pub invariant_of-result-2 : goal.invariant_of-result-2
+invariant_of-result-2 c = record {
+  price_limit = up_price c.args.from.now c.args.to.now c.requires.from_limits c.requires.to_limits c.requires.rising _ _ c.div_euclid-price.ensures c.rem_euclid-rest.ensures.value c.if-rest-eq0.false;
+  width_limit = up_width c.args.from.now c.args.to.now c.requires.from_limits c.requires.to_limits c.requires.rising _ _ c.div_euclid-price.ensures c.rem_euclid-rest.ensures.value c.if-rest-eq0.false;
+}
+
+pub returns : goal.returns
+returns c = up_slope c.args.from.now c.args.to.now c.requires.from_limits c.requires.to_limits c.requires.rising _ _ c.div_euclid-price.ensures c.rem_euclid-rest.ensures.value c.if-rest-eq0.false

@@ -1,0 +1,14 @@
+//! Laws over the definitions: each is the contract of a function that does nothing.
+ghost use Rattle.uc_model.specs.Laws.{EnvelopeEarnsAsPoints};
+ghost use Rattle.cost_curve.specs.CostCurve.{EnvelopeIsCost};
+
+/// At each whole price the best earnings of one period over the envelope are those over the points: the cost is as
+/// good as the lower convex envelope of the points.
+pub fn envelope_earns_as_points()
+    ensures { EnvelopeEarnsAsPoints }
+{}
+
+/// The envelope is within the limit of a point's cost.
+pub fn envelope_is_cost()
+    ensures { EnvelopeIsCost }
+{}

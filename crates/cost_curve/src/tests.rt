@@ -1,0 +1,77 @@
+//! Worked curves: what they are at whole places, and their blocks.
+ghost use Rattle.uc_model.specs.Limits.{Spans};
+ghost use Rattle.cost_curve.specs.CostCurve.{AreCostPoints, IsCostCurve, CanEvaluate};
+
+use crate::costs::envelope_at;
+use crate::curves::{curve_at, curve_into, curve_of};
+use std::process::Abort;
+use std::test::Fail;
+use uc_model::units::{Blocks, Curve, Point};
+
+// The cost at a place, by the points and by a curve of them.
+fn has_cost(rt: &impl Abort, points: &[Point], curve: &Curve, x: i64, cost: i64)
+    requires points { AreCostPoints points.now }
+    requires place { Spans points.now x x }
+    requires curve { IsCostCurve points.now curve.now }
+    requires evaluates { CanEvaluate curve.now }
+{
+    assert_eq!(rt; envelope_at(points, x), cost, "at {x}");
+    assert_eq!(rt; curve_at(curve, x), cost, "at {x}");
+}
+
+fn block_is(rt: &impl Abort, curve: &Curve, place: usize, width: i64, price: i64) {
+    assert!(rt; place < curve.blocks.len());
+    let block = curve.blocks.get(place);
+    assert_eq!(rt; block.width, width);
+    assert_eq!(rt; block.price, price);
+}
+
+// A slope between whole prices: 2 kilowatts at 3, and then 1 at 4.
+#[test]
+fn rounds_at_whole_prices(rt: HostRuntime) -> Result<(), Fail> {
+    let points = [Point { at: 0, cost: 0 }, Point { at: 3, cost: 10 }];
+    let curve = curve_of(rt.alloc(), &points)?;
+    has_cost(&rt, &points, &curve, 0, 0);
+    has_cost(&rt, &points, &curve, 1, 3);
+    has_cost(&rt, &points, &curve, 2, 6);
+    has_cost(&rt, &points, &curve, 3, 10);
+    assert_eq!(rt; curve.blocks.len(), 2);
+    block_is(&rt, &curve, 0, 2, 3);
+    block_is(&rt, &curve, 1, 1, 4);
+    Ok(())
+}
+
+// The middle point costs 3, and the envelope there only 2.
+#[test]
+fn passes_below_a_point(rt: HostRuntime) -> Result<(), Fail> {
+    let points = [
+        Point { at: 0, cost: 0 },
+        Point { at: 2, cost: 3 },
+        Point { at: 4, cost: 6 },
+    ];
+    let blocks = Blocks::make(rt.alloc(), 4)?;
+    let mut curve = Curve {
+        at: 7,
+        value: 7,
+        blocks,
+    };
+    curve_into(&points, &mut curve);
+    has_cost(&rt, &points, &curve, 0, 0);
+    has_cost(&rt, &points, &curve, 1, 1);
+    has_cost(&rt, &points, &curve, 2, 2);
+    has_cost(&rt, &points, &curve, 3, 4);
+    has_cost(&rt, &points, &curve, 4, 6);
+    Ok(())
+}
+
+#[test]
+fn one_point_has_no_block(rt: HostRuntime) -> Result<(), Fail> {
+    let points = [Point {
+        at: 100,
+        cost: 3000,
+    }];
+    let curve = curve_of(rt.alloc(), &points)?;
+    has_cost(&rt, &points, &curve, 100, 3000);
+    assert_eq!(rt; curve.blocks.len(), 0);
+    Ok(())
+}

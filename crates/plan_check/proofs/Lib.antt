@@ -1,0 +1,9 @@
+pub mod ChangeLaws
+pub mod CostSums
+pub mod FindLaws
+pub mod PlanLaws
+pub mod RunLaws
+pub mod ShapeLaws
+pub mod SystemLaws
+pub mod ThermalLaws
+pub mod ToldLaws

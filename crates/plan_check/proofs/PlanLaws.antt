@@ -1,0 +1,225 @@
+-- What is refused of a plan is what keeps it from being feasible.
+use Rattle.std.proofs.Common.{◌≡◌, ℕ, zero, suc, ◌+◌, ◌<◌, ◌≤◌, ℤ, ◌≤ℤ◌, false, ◌&&◌, None, IsTrue, List, [], ◌∷◌, ◌++◌, map, length, drop, refl, sym, ◌∙◌, subst, arith, append_assoc, length-drop}
+use Rattle.std.proofs.lemmas.Int.{ints}
+use Rattle.std.proofs.lemmas.List.{drop-drop}
+use Rattle.std.specs.List.{All, AllZip}
+use Rattle.std.specs.Prelude.{int_le, slice_index_or}
+use Rattle.uc_model.specs.declared.kinds.Kind.TheVariants as kinds
+use Rattle.uc_model.specs.declared.kinds.RuleCode.TheVariants.{RenewableRange, BidRange, Balance, Reserve}
+use Rattle.uc_model.specs.Data.{AnyUnit, Thermal, Flat, Bid, NamedThermalUnit, NamedRenewableUnit, NamedBidUnit, RenewableUnit, BidUnit, Schedule, Market, units}
+use Rattle.uc_model.specs.Laws.{HasPlanShape, RefusalsAreExact}
+use Rattle.uc_model.specs.Refusals.{Refusal, unless, renewable_broken, bid_broken, balance_broken, reserve_broken, told, thermal_refusals, all_thermal, all_renewable, all_bids, refusals}
+use Rattle.uc_model.specs.Schedules.{power_in, IsFeasible, IsRenewableFeasible, IsBidFeasible, width_of, blocks_at}
+use Rattle.uc_model.specs.Sums.{int_at}
+use Rattle.uc_model.specs.Systems.{total_power, total_reserve, IsFeasiblePlan}
+use Rattle.plan_check.proofs.RunLaws.{both_true, and_true, true_false}
+use Rattle.plan_check.proofs.ThermalLaws.{IsClear-none, none_clear, IsThermalFeasible-clear, IsClear-feasible, le_from_z, le_to_z}
+use Rattle.plan_check.proofs.ToldLaws.{append_nil_left, append_nil_right, append_nil, told_none, told_all, unless_none, unless_holds, or_else_none, or_else_holds}
+
+-- ---- lists of schedules
+
+abbrev pub HasLengths : ℕ → Schedule → Type 0
+HasLengths periods s = (length s.on ≡ periods) × (length s.power ≡ periods) × (length s.reserve ≡ periods)
+
+abbrev pub IsSteady : Schedule → Type 0
+IsSteady s = All IsTrue s.on × All (λ (r : ℕ). r ≡ 0) s.reserve
+
+pub head_of : {X : Type 0} → (P : X → Type 0) (x : X) (xs : List X) → All P (x ∷ xs) → P x
+head_of P x xs h = h 0 x (omega arith)
+
+pub tail_of : {X : Type 0} → (P : X → Type 0) (x : X) (xs : List X) → All P (x ∷ xs) → All P xs
+tail_of P x xs h = λ k d lt. h (suc k) d (omega (arith, lt))
+
+module _ (periods : ℕ) where
+  abbrev Feasible : AnyUnit → Schedule → Type 0
+  Feasible u s = IsFeasible u periods s
+
+  abbrev thermal : List NamedThermalUnit → List AnyUnit
+  thermal ns = map (λ (n : NamedThermalUnit). Thermal n.unit) ns
+
+  -- ---- the thermal units
+
+  thermal_feasible : (first : ℕ) (ns : List NamedThermalUnit) (ss : List Schedule) (us : List AnyUnit) → length ns ≤ length ss → All (HasLengths periods) ss → all_thermal periods first ns ss ≡ [] →
+      AllZip Feasible us (drop (length ns) ss) → AllZip Feasible (thermal ns ++ us) ss
+  thermal_feasible first [] ss us le lengths none rest = rest
+  thermal_feasible first (n ∷ ns) [] us le lengths none rest = absurd (omega (arith, le))
+  thermal_feasible first (n ∷ ns) (s ∷ ss) us le lengths none rest =
+      let l = head_of (HasLengths periods) s ss lengths in (
+        IsThermalFeasible-clear periods n.unit s l.0 l.1 l.2 (IsClear-none periods first n.unit s (append_nil_left (thermal_refusals periods first n.unit s) (all_thermal periods (suc first) ns ss) none)),
+        thermal_feasible (suc first) ns ss us (omega (arith, le)) (tail_of (HasLengths periods) s ss lengths) (append_nil_right (thermal_refusals periods first n.unit s) (all_thermal periods (suc first) ns ss) none) rest,
+      )
+
+  thermal_none : (first : ℕ) (ns : List NamedThermalUnit) (ss : List Schedule) (us : List AnyUnit) → All (HasLengths periods) ss → AllZip Feasible (thermal ns ++ us) ss →
+      (all_thermal periods first ns ss ≡ []) × AllZip Feasible us (drop (length ns) ss)
+  thermal_none first [] ss us lengths z = (refl, z)
+  thermal_none first (n ∷ ns) [] us lengths z = absurd z
+  thermal_none first (n ∷ ns) (s ∷ ss) us lengths z =
+      let l = head_of (HasLengths periods) s ss lengths in
+      let r = thermal_none (suc first) ns ss us (tail_of (HasLengths periods) s ss lengths) z.1 in
+      (append_nil (thermal_refusals periods first n.unit s) (all_thermal periods (suc first) ns ss) (none_clear periods first n.unit s (IsClear-feasible periods n.unit s l.0 l.1 l.2 z.0)) r.0, r.1)
+
+  -- ---- the renewable units
+
+  abbrev flat : List NamedRenewableUnit → List AnyUnit
+  flat ns = map (λ (n : NamedRenewableUnit). Flat n.unit) ns
+
+  renewable_is : (u : RenewableUnit) (s : Schedule) → HasLengths periods s → IsSteady s → ((k : ℕ) → k < periods → renewable_broken u s k ≡ None) → IsRenewableFeasible u periods s
+  renewable_is u s l steady none =
+      let a = l.0 in
+      let b = l.2 in
+      let on : (k : ℕ) → k < periods → IsTrue (slice_index_or s.on k false) = λ k lt. steady.0 k false (omega (arith, a, lt)) in
+      record {
+        schedule = record { on = l.0; power = l.1; reserve = l.2; off = λ k lt off. absurd (true_false (sym (on k lt) ∙ off)) };
+        on = on;
+        reserve = λ k lt. steady.1 k 0 (omega (arith, b, lt));
+        least = λ k lt. let parts = or_else_none (unless (int_le (int_at u.least k) (power_in s (suc k))) (int_at u.least k) (power_in s (suc k))) (unless (int_le (power_in s (suc k)) (int_at u.most k)) (power_in s (suc k)) (int_at u.most k)) (none k lt) in
+            le_from_z (int_at u.least k) (power_in s (suc k)) (unless_none (int_le (int_at u.least k) (power_in s (suc k))) (int_at u.least k) (power_in s (suc k)) parts.0);
+        most = λ k lt. let parts = or_else_none (unless (int_le (int_at u.least k) (power_in s (suc k))) (int_at u.least k) (power_in s (suc k))) (unless (int_le (power_in s (suc k)) (int_at u.most k)) (power_in s (suc k)) (int_at u.most k)) (none k lt) in
+            le_from_z (power_in s (suc k)) (int_at u.most k) (unless_none (int_le (power_in s (suc k)) (int_at u.most k)) (power_in s (suc k)) (int_at u.most k) parts.1);
+      }
+
+  renewable_clear : (u : RenewableUnit) (s : Schedule) → IsRenewableFeasible u periods s → (k : ℕ) → k < periods → renewable_broken u s k ≡ None
+  renewable_clear u s f k lt = or_else_holds (unless (int_le (int_at u.least k) (power_in s (suc k))) (int_at u.least k) (power_in s (suc k))) (unless (int_le (power_in s (suc k)) (int_at u.most k)) (power_in s (suc k)) (int_at u.most k))
+      (unless_holds (int_le (int_at u.least k) (power_in s (suc k))) (int_at u.least k) (power_in s (suc k)) (le_to_z (int_at u.least k) (power_in s (suc k)) (f.least k lt)))
+      (unless_holds (int_le (power_in s (suc k)) (int_at u.most k)) (power_in s (suc k)) (int_at u.most k) (le_to_z (power_in s (suc k)) (int_at u.most k) (f.most k lt)))
+
+  renewable_feasible : (first : ℕ) (ns : List NamedRenewableUnit) (ss : List Schedule) (us : List AnyUnit) → length ns ≤ length ss → All (HasLengths periods) ss → All IsSteady ss → all_renewable periods first ns ss ≡ [] → AllZip Feasible us (drop (length ns) ss) → AllZip Feasible (flat ns ++ us) ss
+  renewable_feasible first [] ss us le lengths steady none rest = rest
+  renewable_feasible first (n ∷ ns) [] us le lengths steady none rest = absurd (omega (arith, le))
+  renewable_feasible first (n ∷ ns) (s ∷ ss) us le lengths steady none rest =
+      let first_told = told RenewableRange kinds.Renewable first periods 1 (renewable_broken n.unit s) in (
+        renewable_is n.unit s (head_of (HasLengths periods) s ss lengths) (head_of IsSteady s ss steady) (told_all RenewableRange kinds.Renewable first periods 1 (renewable_broken n.unit s) (append_nil_left first_told (all_renewable periods (suc first) ns ss) none)),
+        renewable_feasible (suc first) ns ss us (omega (arith, le)) (tail_of (HasLengths periods) s ss lengths) (tail_of IsSteady s ss steady) (append_nil_right first_told (all_renewable periods (suc first) ns ss) none) rest,
+      )
+
+  renewable_none : (first : ℕ) (ns : List NamedRenewableUnit) (ss : List Schedule) (us : List AnyUnit) → AllZip Feasible (flat ns ++ us) ss → (all_renewable periods first ns ss ≡ []) × AllZip Feasible us (drop (length ns) ss)
+  renewable_none first [] ss us z = (refl, z)
+  renewable_none first (n ∷ ns) [] us z = absurd z
+  renewable_none first (n ∷ ns) (s ∷ ss) us z =
+      let r = renewable_none (suc first) ns ss us z.1 in
+      (append_nil (told RenewableRange kinds.Renewable first periods 1 (renewable_broken n.unit s)) (all_renewable periods (suc first) ns ss) (told_none RenewableRange kinds.Renewable first periods 1 (renewable_broken n.unit s) (renewable_clear n.unit s z.0)) r.0, r.1)
+
+  -- ---- the bids
+
+  abbrev bids : List NamedBidUnit → List AnyUnit
+  bids ns = map (λ (n : NamedBidUnit). Bid n.unit) ns
+
+  bid_is : (u : BidUnit) (s : Schedule) → HasLengths periods s → IsSteady s → ((k : ℕ) → k < periods → bid_broken u s k ≡ None) → IsBidFeasible u periods s
+  bid_is u s l steady none =
+      let a = l.0 in
+      let b = l.2 in
+      let on : (k : ℕ) → k < periods → IsTrue (slice_index_or s.on k false) = λ k lt. steady.0 k false (omega (arith, a, lt)) in
+      record {
+        schedule = record { on = l.0; power = l.1; reserve = l.2; off = λ k lt off. absurd (true_false (sym (on k lt) ∙ off)) };
+        on = on;
+        reserve = λ k lt. steady.1 k 0 (omega (arith, b, lt));
+        most = λ k lt. le_from_z (power_in s (suc k)) (width_of (blocks_at u k)) (unless_none (int_le (power_in s (suc k)) (width_of (blocks_at u k))) (power_in s (suc k)) (width_of (blocks_at u k)) (none k lt));
+      }
+
+  bid_clear : (u : BidUnit) (s : Schedule) → IsBidFeasible u periods s → (k : ℕ) → k < periods → bid_broken u s k ≡ None
+  bid_clear u s f k lt = unless_holds (int_le (power_in s (suc k)) (width_of (blocks_at u k))) (power_in s (suc k)) (width_of (blocks_at u k)) (le_to_z (power_in s (suc k)) (width_of (blocks_at u k)) (f.most k lt))
+
+  bid_feasible : (first : ℕ) (ns : List NamedBidUnit) (ss : List Schedule) → length ns ≡ length ss → All (HasLengths periods) ss → All IsSteady ss → all_bids periods first ns ss ≡ [] → AllZip Feasible (bids ns) ss
+  bid_feasible first [] [] le lengths steady none = tt
+  bid_feasible first [] (s ∷ ss) le lengths steady none = absurd (omega (arith, le))
+  bid_feasible first (n ∷ ns) [] le lengths steady none = absurd (omega (arith, le))
+  bid_feasible first (n ∷ ns) (s ∷ ss) le lengths steady none =
+      let first_told = told BidRange kinds.Bid first periods 1 (bid_broken n.unit s) in (
+        bid_is n.unit s (head_of (HasLengths periods) s ss lengths) (head_of IsSteady s ss steady) (told_all BidRange kinds.Bid first periods 1 (bid_broken n.unit s) (append_nil_left first_told (all_bids periods (suc first) ns ss) none)),
+        bid_feasible (suc first) ns ss (omega (arith, le)) (tail_of (HasLengths periods) s ss lengths) (tail_of IsSteady s ss steady) (append_nil_right first_told (all_bids periods (suc first) ns ss) none),
+      )
+
+  bid_none : (first : ℕ) (ns : List NamedBidUnit) (ss : List Schedule) → AllZip Feasible (bids ns) ss → all_bids periods first ns ss ≡ []
+  bid_none first [] ss z = refl
+  bid_none first (n ∷ ns) [] z = absurd z
+  bid_none first (n ∷ ns) (s ∷ ss) z =
+      append_nil (told BidRange kinds.Bid first periods 1 (bid_broken n.unit s)) (all_bids periods (suc first) ns ss) (told_none BidRange kinds.Bid first periods 1 (bid_broken n.unit s) (bid_clear n.unit s z.0)) (bid_none (suc first) ns ss z.1)
+
+-- ---- the plan
+
+All-drop : {X : Type 0} → (P : X → Type 0) (n : ℕ) (xs : List X) → All P xs → All P (drop n xs)
+All-drop P zero xs h = h
+All-drop P (suc n) [] h = h
+All-drop P (suc n) (x ∷ xs) h = All-drop P n xs (tail_of P x xs h)
+
+drop_twice : {X : Type 0} → (a b : ℕ) (xs : List X) → drop (a + b) xs ≡ drop b (drop a xs)
+drop_twice a b xs = sym (drop-drop b a xs)
+
+same_number : (a b : ℤ) → a ≤ℤ b → b ≤ℤ a → a ≡ b
+same_number a b h i = omega (arith, ints, h, i)
+
+below : (a b : ℤ) → a ≡ b → a ≤ℤ b
+below a b e = omega (arith, ints, e)
+
+module _ (m : Market) (plan : List Schedule) (shape : HasPlanShape m plan) where
+  abbrev later : List Schedule
+  later = drop (length m.thermal) plan
+
+  abbrev last : List Schedule
+  last = drop (length m.thermal + length m.flat) plan
+
+  abbrev p1 : List Refusal
+  p1 = all_thermal m.periods 1 m.thermal plan
+
+  abbrev p2 : List Refusal
+  p2 = all_renewable m.periods 1 m.flat later
+
+  abbrev p3 : List Refusal
+  p3 = all_bids m.periods 1 m.bids last
+
+  abbrev p4 : List Refusal
+  p4 = told Balance kinds.Case 0 m.periods 1 (balance_broken m plan)
+
+  abbrev p5 : List Refusal
+  p5 = told Reserve kinds.Case 0 m.periods 1 (reserve_broken m plan)
+
+  lengths : All (HasLengths m.periods) plan
+  lengths = shape.lengths
+
+  units_are : units m ≡ thermal m.periods m.thermal ++ (flat m.periods m.flat ++ bids m.periods m.bids)
+  units_are = append_assoc (thermal m.periods m.thermal) (flat m.periods m.flat) (bids m.periods m.bids)
+
+  last_is : last ≡ drop (length m.flat) later
+  last_is = drop_twice (length m.thermal) (length m.flat) plan
+
+  steady_last : All IsSteady last
+  steady_last = subst (All IsSteady) (sym last_is) (All-drop IsSteady (length m.flat) later shape.always_on)
+
+  feasible_none : refusals m plan ≡ [] → IsFeasiblePlan m plan
+  feasible_none none =
+      let count = shape.count in
+      let e4 = append_nil_left (p1 ++ p2 ++ p3 ++ p4) p5 none in
+      let e3 = append_nil_left (p1 ++ p2 ++ p3) p4 e4 in
+      let e2 = append_nil_left (p1 ++ p2) p3 e3 in
+      let later_length = length-drop (length m.thermal) plan in
+      let last_length = length-drop (length m.thermal + length m.flat) plan in
+      let later_lengths = All-drop (HasLengths m.periods) (length m.thermal) plan lengths in
+      let last_lengths = All-drop (HasLengths m.periods) (length m.thermal + length m.flat) plan lengths in
+      let z3 = bid_feasible m.periods 1 m.bids last (omega (arith, count, last_length)) last_lengths steady_last (append_nil_right (p1 ++ p2) p3 e3) in
+      let z2 = renewable_feasible m.periods 1 m.flat later (bids m.periods m.bids) (omega (arith, count, later_length)) later_lengths shape.always_on (append_nil_right p1 p2 e2) (subst (AllZip (Feasible m.periods) (bids m.periods m.bids)) last_is z3) in
+      let z1 = thermal_feasible m.periods 1 m.thermal plan (flat m.periods m.flat ++ bids m.periods m.bids) (omega (arith, count)) lengths (append_nil_left p1 p2 e2) z2 in
+      record {
+        feasible = subst (λ us. AllZip (Feasible m.periods) us plan) (sym units_are) z1;
+        balance = λ k lt.
+            let test = unless_none (int_le (total_power (units m) plan k) (int_at m.demand k) && int_le (int_at m.demand k) (total_power (units m) plan k)) (total_power (units m) plan k) (int_at m.demand k) (told_all Balance kinds.Case 0 m.periods 1 (balance_broken m plan) (append_nil_right (p1 ++ p2 ++ p3) p4 e4) k lt) in
+            let both = both_true (int_le (total_power (units m) plan k) (int_at m.demand k)) (int_le (int_at m.demand k) (total_power (units m) plan k)) test in
+            same_number (total_power (units m) plan k) (int_at m.demand k) (le_from_z (total_power (units m) plan k) (int_at m.demand k) both.0) (le_from_z (int_at m.demand k) (total_power (units m) plan k) both.1);
+        reserve = λ k lt. le_from_z (int_at m.reserves k) (total_reserve (units m) plan k) (unless_none (int_le (int_at m.reserves k) (total_reserve (units m) plan k)) (int_at m.reserves k) (total_reserve (units m) plan k) (told_all Reserve kinds.Case 0 m.periods 1 (reserve_broken m plan) (append_nil_right (p1 ++ p2 ++ p3 ++ p4) p5 none) k lt));
+      }
+
+  none_feasible : IsFeasiblePlan m plan → refusals m plan ≡ []
+  none_feasible f =
+      let z1 = thermal_none m.periods 1 m.thermal plan (flat m.periods m.flat ++ bids m.periods m.bids) lengths (subst (λ us. AllZip (Feasible m.periods) us plan) units_are f.feasible) in
+      let z2 = renewable_none m.periods 1 m.flat later (bids m.periods m.bids) z1.1 in
+      let z3 = bid_none m.periods 1 m.bids last (subst (AllZip (Feasible m.periods) (bids m.periods m.bids)) (sym last_is) z2.1) in
+      let e2 = append_nil p1 p2 z1.0 z2.0 in
+      let e3 = append_nil (p1 ++ p2) p3 e2 z3 in
+      let e4 = append_nil (p1 ++ p2 ++ p3) p4 e3 (told_none Balance kinds.Case 0 m.periods 1 (balance_broken m plan) (λ k lt.
+      unless_holds (int_le (total_power (units m) plan k) (int_at m.demand k) && int_le (int_at m.demand k) (total_power (units m) plan k)) (total_power (units m) plan k) (int_at m.demand k)
+      (let b = f.balance k lt in
+      and_true (int_le (total_power (units m) plan k) (int_at m.demand k)) (int_le (int_at m.demand k) (total_power (units m) plan k)) (le_to_z (total_power (units m) plan k) (int_at m.demand k) (below (total_power (units m) plan k) (int_at m.demand k) b)) (le_to_z (int_at m.demand k) (total_power (units m) plan k) (below (int_at m.demand k) (total_power (units m) plan k) (sym b)))))) in
+      append_nil (p1 ++ p2 ++ p3 ++ p4) p5 e4 (told_none Reserve kinds.Case 0 m.periods 1 (reserve_broken m plan) (λ k lt.
+      unless_holds (int_le (int_at m.reserves k) (total_reserve (units m) plan k)) (int_at m.reserves k) (total_reserve (units m) plan k) (le_to_z (int_at m.reserves k) (total_reserve (units m) plan k) (f.reserve k lt))))
+
+pub refusals_are_exact : RefusalsAreExact
+refusals_are_exact = λ m plan market shape. (feasible_none m plan shape, none_feasible m plan shape)

@@ -1,0 +1,241 @@
+-- How long a unit has been on or off, and that the tests of the minimum times are the rules.
+use Rattle.std.proofs.Common.{◌≡◌, ℕ, zero, suc, ◌+◌, ◌-◌, ◌<◌, ◌≤◌, ◌⊎◌, inl, inr, pos, Bool, true, false, not, ◌&&◌, cond, Option, Some, None, IsTrue, refl, sym, ap, ◌∙◌, arith}
+use Rattle.std.specs.Prelude.{nat_le, length}
+use Rattle.std.specs.Option.{option_and_then}
+use Rattle.std.proofs.lemmas.Bool.Decides.{nat_tests}
+use Rattle.uc_model.specs.Data.{ThermalUnit, Schedule}
+use Rattle.uc_model.specs.Refusals.{unless, same_flag, changed_in, min_up_broken, min_down_broken}
+use Rattle.uc_model.specs.Schedules.{on_in, starts_in, stops_in, IsPeriod}
+use Rattle.plan_check.proofs.ToldLaws.{none_some, unless_none, unless_holds, if_none, if_holds}
+
+-- ---- flags
+
+pub true_or_false : (b : Bool) → (b ≡ true) ⊎ (b ≡ false)
+true_or_false true = inl refl
+true_or_false false = inr refl
+
+pub false_true : false ≡ true → ⊥
+false_true h = cc
+
+pub both_true : (a b : Bool) → a && b ≡ true → (a ≡ true) × (b ≡ true)
+both_true true b e = (refl, e)
+both_true false b e = absurd (false_true e)
+
+pub and_true : (a b : Bool) → a ≡ true → b ≡ true → a && b ≡ true
+and_true a b e f = ap (λ t. t && b) e ∙ f
+
+pub not_true : (a : Bool) → not a ≡ true → a ≡ false
+not_true true e = absurd (false_true e)
+not_true false e = refl
+
+pub same_is : (a b : Bool) → same_flag a b ≡ true → b ≡ a
+same_is true b e = e
+same_is false b e = not_true b e
+
+pub same_refl : (b : Bool) → same_flag b b ≡ true
+same_refl true = refl
+same_refl false = refl
+
+differ_is : (a b : Bool) → same_flag a b ≡ false → a ≡ not b
+differ_is true true e = absurd (false_true (sym e))
+differ_is true false e = refl
+differ_is false true e = refl
+differ_is false false e = absurd (false_true (sym e))
+
+pub true_false : true ≡ false → ⊥
+true_false h = cc
+
+opposite : (b : Bool) → same_flag (not b) b ≡ false
+opposite true = refl
+opposite false = refl
+
+inner_or_last : (j k : ℕ) → j ≤ suc k → (j ≤ k) ⊎ (j ≡ suc k)
+inner_or_last j k h = grind arith
+
+le_or_gt : (a b : ℕ) → (a ≤ b) ⊎ (b < a)
+le_or_gt a b = grind arith
+
+pub le_from : (a b : ℕ) → nat_le a b ≡ true → a ≤ b
+le_from a b h = grind (arith, nat_tests)
+
+pub le_to : (a b : ℕ) → a ≤ b → nat_le a b ≡ true
+le_to a b h = grind (arith, nat_tests)
+
+some_same : {X : Type 0} → {a b : X} → Some a ≡ Some b → b ≡ a
+some_same e = cc
+
+-- ---- the last change
+
+module _ (g : ThermalUnit) (s : Schedule) where
+  -- over a run that a change began, the last change is that one
+  changed_run : (b : Bool) (m d : ℕ) → on_in g s m ≡ not b → ((j : ℕ) → suc m ≤ j → j ≤ suc m + d → on_in g s j ≡ b) → changed_in g s (suc m + d) ≡ Some (suc m)
+  changed_run b m zero before on =
+      let here = on (suc m) (omega arith) (omega arith) in
+      let differ : same_flag (on_in g s m) (on_in g s (suc m)) ≡ false = ap (λ t. same_flag t (on_in g s (suc m))) before ∙ ap (same_flag (not b)) here ∙ opposite b in
+      let place : suc m + 0 ≡ suc m = omega arith in
+      ap (changed_in g s) place ∙ ap (λ t. cond t (changed_in g s m) (Some (suc m))) differ
+  changed_run b m (suc d) before on =
+      let here = on (suc (suc m + d)) (omega arith) (omega arith) in
+      let last = on (suc m + d) (omega arith) (omega arith) in
+      let same : same_flag (on_in g s (suc m + d)) (on_in g s (suc (suc m + d))) ≡ true = ap (λ t. same_flag t (on_in g s (suc (suc m + d)))) last ∙ ap (same_flag b) here ∙ same_refl b in
+      let place : suc m + suc d ≡ suc (suc m + d) = omega arith in
+      ap (changed_in g s) place ∙ ap (λ t. cond t (changed_in g s (suc m + d)) (Some (suc (suc m + d)))) same
+      ∙ changed_run b m d before (λ j low high. on j low (omega (arith, high)))
+
+  -- what the last change says
+  pub record IsRunSince (k c : ℕ) : Type 0 where
+    pub before : ℕ
+    pub is : c ≡ suc before
+    pub reached : suc before ≤ k
+    pub changed : on_in g s before ≡ not (on_in g s (suc before))
+    pub run : (j : ℕ) → suc before ≤ j → j ≤ k → on_in g s j ≡ on_in g s k
+
+  IsRunSince-changed : (k c : ℕ) → changed_in g s k ≡ Some c → IsRunSince k c
+  IsRunSince-changed zero c e = absurd (none_some c e)
+  IsRunSince-changed (suc k) c e =
+      elim (true_or_false (same_flag (on_in g s k) (on_in g s (suc k)))) [
+        | inl same ↦
+            let r = IsRunSince-changed k c (sym (ap (λ t. cond t (changed_in g s k) (Some (suc k))) same) ∙ e) in
+            let on = same_is (on_in g s k) (on_in g s (suc k)) same in
+            let reached = r.reached in
+            record {
+              before = r.before;
+              is = r.is;
+              reached = omega (arith, reached);
+              changed = r.changed;
+              run = λ j low high. elim (inner_or_last j k high) [ inl inner ↦ r.run j low inner ∙ sym on | inr end ↦ ap (on_in g s) end ];
+            }
+        | inr differ ↦
+            let c_is : Some (suc k) ≡ Some c = sym (ap (λ t. cond t (changed_in g s k) (Some (suc k))) differ) ∙ e in
+            record {
+              before = k;
+              is = some_same c_is;
+              reached = omega arith;
+              changed = differ_is (on_in g s k) (on_in g s (suc k)) differ;
+              run = λ j low high. let end : j ≡ suc k = omega (arith, low, high) in ap (on_in g s) end;
+            }
+      ]
+
+  -- ---- starts and stops
+
+  pub starts_is : (m : ℕ) → IsTrue (starts_in g s (suc m)) → (on_in g s m ≡ false) × (on_in g s (suc m) ≡ true)
+  starts_is m h = let p = both_true (not (on_in g s m)) (on_in g s (suc m)) h in (not_true (on_in g s m) p.0, p.1)
+
+  pub stops_is : (m : ℕ) → IsTrue (stops_in g s (suc m)) → (on_in g s m ≡ true) × (on_in g s (suc m) ≡ false)
+  stops_is m h = let p = both_true (on_in g s m) (not (on_in g s (suc m))) h in (p.0, not_true (on_in g s (suc m)) p.1)
+
+  pub starts_from : (m : ℕ) → on_in g s m ≡ false → on_in g s (suc m) ≡ true → IsTrue (starts_in g s (suc m))
+  starts_from m a b = and_true (not (on_in g s m)) (on_in g s (suc m)) (ap not a) b
+
+  pub stops_from : (m : ℕ) → on_in g s m ≡ true → on_in g s (suc m) ≡ false → IsTrue (stops_in g s (suc m))
+  stops_from m a b = and_true (on_in g s m) (not (on_in g s (suc m))) a (ap not b)
+
+  -- ---- minimum time up: what the test clears, and what it tells
+
+  module _ (clear : (k : ℕ) → k < length s.on → min_up_broken g s k ≡ None) where
+    still_up : (m d : ℕ) → IsTrue (starts_in g s (suc m)) → suc d < g.min_up → suc m + suc d ≤ length s.on → ((j : ℕ) → suc m ≤ j → j ≤ suc m + d → on_in g s j ≡ true) → on_in g s (suc (suc m + d)) ≡ true
+    still_up m d begun short within before =
+        elim (true_or_false (on_in g s (suc (suc m + d)))) [
+          | inl as_it_was ↦ as_it_was
+          | inr turned ↦
+              let k : ℕ = suc m + d in
+              let ended = stops_from k (before k (omega arith) (omega arith)) turned in
+              let since = changed_run true m d (starts_is m begun).0 before in
+              let inner = if_none (stops_in g s (suc k)) (option_and_then (λ (c : ℕ). unless (nat_le g.min_up (suc k - c)) (pos (suc k - c)) (pos g.min_up)) (changed_in g s k)) (clear k (omega (arith, within))) ended in
+              let test = unless_none (nat_le g.min_up (suc k - suc m)) (pos (suc k - suc m)) (pos g.min_up) (sym (ap (option_and_then (λ (c : ℕ). unless (nat_le g.min_up (suc k - c)) (pos (suc k - c)) (pos g.min_up))) since) ∙ inner) in
+              let long = le_from g.min_up (suc k - suc m) test in
+              absurd (omega (arith, long, short))
+        ]
+
+    up_run : (m d : ℕ) → IsTrue (starts_in g s (suc m)) → d < g.min_up → suc m + d ≤ length s.on → (j : ℕ) → suc m ≤ j → j ≤ suc m + d → on_in g s j ≡ true
+    up_run m zero begun short within j low high = let here : j ≡ suc m = omega (arith, low, high) in ap (on_in g s) here ∙ (starts_is m begun).1
+    up_run m (suc d) begun short within j low high =
+        let before = up_run m d begun (omega (arith, short)) (omega (arith, within)) in
+        elim (inner_or_last j (suc m + d) (omega (arith, high))) [
+          | inl inner ↦ before j low inner
+          | inr end ↦ ap (on_in g s) end ∙ still_up m d begun short within before
+        ]
+
+    pub keeps_up : (begun t : ℕ) → IsTrue (starts_in g s begun) → begun ≤ t → t < begun + g.min_up → IsPeriod s t → on_in g s t ≡ true
+    keeps_up zero t h low high period = absurd (false_true h)
+    keeps_up (suc m) t h low high period =
+        let last = period.to_last in
+        up_run m (t - suc m) h (omega (arith, low, high)) (omega (arith, low, last)) t low (omega (arith, low))
+
+  module _ (keeps : (begun t : ℕ) → IsTrue (starts_in g s begun) → begun ≤ t → t < begun + g.min_up → IsPeriod s t → on_in g s t ≡ true) where
+    up_test : (k c : ℕ) → k < length s.on → IsTrue (stops_in g s (suc k)) → changed_in g s k ≡ Some c → unless (nat_le g.min_up (suc k - c)) (pos (suc k - c)) (pos g.min_up) ≡ None
+    up_test k c lt ended since =
+        let r = IsRunSince-changed k c since in
+        let reached = r.reached in
+        let is = r.is in
+        let now = (stops_is k ended).0 in
+        let first = r.run (suc r.before) (omega arith) reached ∙ now in
+        let begun = starts_from r.before (r.changed ∙ ap not first) first in
+        elim (le_or_gt g.min_up (suc k - c)) [
+          | inl long ↦ unless_holds (nat_le g.min_up (suc k - c)) (pos (suc k - c)) (pos g.min_up) (le_to g.min_up (suc k - c) long)
+          | inr short ↦
+              let on = keeps (suc r.before) (suc k) begun (omega (arith, reached)) (omega (arith, short, is)) (record { from_one = omega arith; to_last = omega (arith, lt) }) in
+              absurd (false_true (sym (stops_is k ended).1 ∙ on))
+        ]
+
+    up_option : (k : ℕ) → k < length s.on → IsTrue (stops_in g s (suc k)) → (o : Option ℕ) → changed_in g s k ≡ o → option_and_then (λ (c : ℕ). unless (nat_le g.min_up (suc k - c)) (pos (suc k - c)) (pos g.min_up)) o ≡ None
+    up_option k lt ended None e = refl
+    up_option k lt ended (Some c) e = up_test k c lt ended e
+
+    pub clear_up : (k : ℕ) → k < length s.on → min_up_broken g s k ≡ None
+    clear_up k lt = if_holds (stops_in g s (suc k)) (option_and_then (λ (c : ℕ). unless (nat_le g.min_up (suc k - c)) (pos (suc k - c)) (pos g.min_up)) (changed_in g s k)) (λ ended. up_option k lt ended (changed_in g s k) refl)
+
+  -- ---- minimum time down
+
+  module _ (clear : (k : ℕ) → k < length s.on → min_down_broken g s k ≡ None) where
+    still_down : (m d : ℕ) → IsTrue (stops_in g s (suc m)) → suc d < g.min_down → suc m + suc d ≤ length s.on → ((j : ℕ) → suc m ≤ j → j ≤ suc m + d → on_in g s j ≡ false) → on_in g s (suc (suc m + d)) ≡ false
+    still_down m d begun short within before =
+        elim (true_or_false (on_in g s (suc (suc m + d)))) [
+          | inr as_it_was ↦ as_it_was
+          | inl turned ↦
+              let k : ℕ = suc m + d in
+              let ended = starts_from k (before k (omega arith) (omega arith)) turned in
+              let since = changed_run false m d (stops_is m begun).0 before in
+              let inner = if_none (starts_in g s (suc k)) (option_and_then (λ (c : ℕ). unless (nat_le g.min_down (suc k - c)) (pos (suc k - c)) (pos g.min_down)) (changed_in g s k)) (clear k (omega (arith, within))) ended in
+              let test = unless_none (nat_le g.min_down (suc k - suc m)) (pos (suc k - suc m)) (pos g.min_down) (sym (ap (option_and_then (λ (c : ℕ). unless (nat_le g.min_down (suc k - c)) (pos (suc k - c)) (pos g.min_down))) since) ∙ inner) in
+              let long = le_from g.min_down (suc k - suc m) test in
+              absurd (omega (arith, long, short))
+        ]
+
+    down_run : (m d : ℕ) → IsTrue (stops_in g s (suc m)) → d < g.min_down → suc m + d ≤ length s.on → (j : ℕ) → suc m ≤ j → j ≤ suc m + d → on_in g s j ≡ false
+    down_run m zero begun short within j low high = let here : j ≡ suc m = omega (arith, low, high) in ap (on_in g s) here ∙ (stops_is m begun).1
+    down_run m (suc d) begun short within j low high =
+        let before = down_run m d begun (omega (arith, short)) (omega (arith, within)) in
+        elim (inner_or_last j (suc m + d) (omega (arith, high))) [
+          | inl inner ↦ before j low inner
+          | inr end ↦ ap (on_in g s) end ∙ still_down m d begun short within before
+        ]
+
+    pub keeps_down : (begun t : ℕ) → IsTrue (stops_in g s begun) → begun ≤ t → t < begun + g.min_down → IsPeriod s t → on_in g s t ≡ false
+    keeps_down zero t h low high period = absurd (false_true h)
+    keeps_down (suc m) t h low high period =
+        let last = period.to_last in
+        down_run m (t - suc m) h (omega (arith, low, high)) (omega (arith, low, last)) t low (omega (arith, low))
+
+  module _ (keeps : (begun t : ℕ) → IsTrue (stops_in g s begun) → begun ≤ t → t < begun + g.min_down → IsPeriod s t → on_in g s t ≡ false) where
+    down_test : (k c : ℕ) → k < length s.on → IsTrue (starts_in g s (suc k)) → changed_in g s k ≡ Some c → unless (nat_le g.min_down (suc k - c)) (pos (suc k - c)) (pos g.min_down) ≡ None
+    down_test k c lt ended since =
+        let r = IsRunSince-changed k c since in
+        let reached = r.reached in
+        let is = r.is in
+        let now = (starts_is k ended).0 in
+        let first = r.run (suc r.before) (omega arith) reached ∙ now in
+        let begun = stops_from r.before (r.changed ∙ ap not first) first in
+        elim (le_or_gt g.min_down (suc k - c)) [
+          | inl long ↦ unless_holds (nat_le g.min_down (suc k - c)) (pos (suc k - c)) (pos g.min_down) (le_to g.min_down (suc k - c) long)
+          | inr short ↦
+              let on = keeps (suc r.before) (suc k) begun (omega (arith, reached)) (omega (arith, short, is)) (record { from_one = omega arith; to_last = omega (arith, lt) }) in
+              absurd (true_false (sym (starts_is k ended).1 ∙ on))
+        ]
+
+    down_option : (k : ℕ) → k < length s.on → IsTrue (starts_in g s (suc k)) → (o : Option ℕ) → changed_in g s k ≡ o → option_and_then (λ (c : ℕ). unless (nat_le g.min_down (suc k - c)) (pos (suc k - c)) (pos g.min_down)) o ≡ None
+    down_option k lt ended None e = refl
+    down_option k lt ended (Some c) e = down_test k c lt ended e
+
+    pub clear_down : (k : ℕ) → k < length s.on → min_down_broken g s k ≡ None
+    clear_down k lt = if_holds (starts_in g s (suc k)) (option_and_then (λ (c : ℕ). unless (nat_le g.min_down (suc k - c)) (pos (suc k - c)) (pos g.min_down)) (changed_in g s k)) (λ ended. down_option k lt ended (changed_in g s k) refl)

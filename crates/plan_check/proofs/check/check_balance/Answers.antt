@@ -1,0 +1,17 @@
+use Rattle.std.proofs.Common.{rules, ◌<◌, Some, sym, ap, ◌∙◌, arith}
+use Rattle.uc_model.specs.PlainCases.{market_of, schedules_of}
+use Rattle.uc_model.specs.Refusals.{balance_broken}
+use Rattle.uc_model.specs.declared.kinds.Kind.TheVariants as kinds
+use Rattle.uc_model.specs.declared.kinds.RuleCode.TheVariants.{Balance}
+use Rattle.plan_check.proofs.ToldLaws.{told_none, told_first}
+use Rattle.plan_check.proofs.check.check_balance.Goals as goal
+
+pub returns-in-Some : goal.returns-in-Some
+returns-in-Some c =
+    let lt : c.loop-place.place < c.args.case.now.periods = search rules in
+    told_first Balance kinds.Case 0 c.args.case.now.periods 1 (balance_broken (market_of c.args.case.now) (schedules_of c.args.plan.now))
+    c.loop-place.place (c.in-Some.sides.left, c.in-Some.sides.right) lt c.loop-place.invariant (sym c.in-Some.ensures) ∙ ap Some (sym c.fault.ensures)
+
+pub returns : goal.returns
+returns c =
+    told_none Balance kinds.Case 0 c.args.case.now.periods 1 (balance_broken (market_of c.args.case.now) (schedules_of c.args.plan.now)) (λ k lt. c.loop-place.invariant k (omega (arith, lt)))

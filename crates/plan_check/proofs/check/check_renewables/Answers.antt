@@ -1,0 +1,74 @@
+use Rattle.std.proofs.Common.{◌≡◌, ℕ, ◌+◌, map, length, drop, sym, ap, ◌∙◌, arith}
+use Rattle.std.proofs.lemmas.List.{length-map}
+use Rattle.std.proofs.lemmas.Result.{err_from_is_err_and}
+use Rattle.std.specs.Prelude.{slice_get}
+use Rattle.uc_model.specs.declared.kinds.Kind.TheVariants as kinds
+use Rattle.uc_model.specs.declared.kinds.RuleCode.TheVariants.{RenewableRange}
+use Rattle.uc_model.specs.Data.{Schedule, NamedRenewableUnit}
+use Rattle.uc_model.specs.Limits.{IsRenewableUnit}
+use Rattle.uc_model.specs.PlainCases.{schedules_of}
+use Rattle.uc_model.specs.PlainUnits.{renewable_of, schedule_of, named_thermal_of, named_renewable_of}
+use Rattle.uc_model.specs.Refusals.{told, renewable_broken}
+use Rattle.plan_check.proofs.FindLaws.{over_units_first, over_units_none, NoneBefore-more, all_renewable_is}
+use Rattle.plan_check.proofs.PlanLaws.{HasLengths}
+use Rattle.plan_check.proofs.ShapeLaws.{item_of, map_item, drop_item}
+use Rattle.plan_check.proofs.check.check_renewables.Goals as goal
+
+pub check_renewable-requires-clause-horizon : goal.check_renewable-requires-clause-horizon
+check_renewable-requires-clause-horizon c =
+    let n = named_renewable_of c.get-flat.result.now in
+    let s = schedule_of c.get-response.result.now in
+    let unit_at = map_item named_renewable_of c.args.case.now.flat.items c.loop-place.place c.get-flat.result.now c.get-flat.ensures.item in
+    let whole_at = map_item schedule_of c.args.plan.now.responses.items (c.len-first.result + c.loop-place.place) c.get-response.result.now c.get-response.ensures.item in
+    let first_is : length (map named_thermal_of c.args.case.now.thermal.items) + c.loop-place.place ≡ c.len-first.result + c.loop-place.place = omega (arith, length-map c.args.case.now.thermal.items named_thermal_of, c.len-first.ensures) in
+    let plan_at = drop_item (length (map named_thermal_of c.args.case.now.thermal.items)) (schedules_of c.args.plan.now) c.loop-place.place ∙ ap (slice_get (schedules_of c.args.plan.now)) first_is ∙ whole_at in
+    let lengths = item_of (HasLengths c.args.case.now.periods) (schedules_of c.args.plan.now) (c.len-first.result + c.loop-place.place) s c.requires.lengths whole_at in
+    let on = lengths.0 in
+    let most = c.args.case.now.valid.horizon.at_most in
+    omega (arith, on, most)
+
+pub check_renewable-requires-clause-range : goal.check_renewable-requires-clause-range
+check_renewable-requires-clause-range c =
+    let n = named_renewable_of c.get-flat.result.now in
+    let s = schedule_of c.get-response.result.now in
+    let unit_at = map_item named_renewable_of c.args.case.now.flat.items c.loop-place.place c.get-flat.result.now c.get-flat.ensures.item in
+    let whole_at = map_item schedule_of c.args.plan.now.responses.items (c.len-first.result + c.loop-place.place) c.get-response.result.now c.get-response.ensures.item in
+    let first_is : length (map named_thermal_of c.args.case.now.thermal.items) + c.loop-place.place ≡ c.len-first.result + c.loop-place.place = omega (arith, length-map c.args.case.now.thermal.items named_thermal_of, c.len-first.ensures) in
+    let plan_at = drop_item (length (map named_thermal_of c.args.case.now.thermal.items)) (schedules_of c.args.plan.now) c.loop-place.place ∙ ap (slice_get (schedules_of c.args.plan.now)) first_is ∙ whole_at in
+    let lengths = item_of (HasLengths c.args.case.now.periods) (schedules_of c.args.plan.now) (c.len-first.result + c.loop-place.place) s c.requires.lengths whole_at in
+    let limits = item_of (λ (n : NamedRenewableUnit). IsRenewableUnit n.unit × (length n.unit.least ≡ c.args.case.now.periods)) (map named_renewable_of c.args.case.now.flat.items) c.loop-place.place n c.args.case.now.valid.flat unit_at in
+    limits.1 ∙ sym lengths.0
+
+pub returns-in_err-check_renewable : goal.returns-in_err-check_renewable
+returns-in_err-check_renewable c =
+    let n = named_renewable_of c.get-flat.result.now in
+    let s = schedule_of c.get-response.result.now in
+    let unit_at = map_item named_renewable_of c.args.case.now.flat.items c.loop-place.place c.get-flat.result.now c.get-flat.ensures.item in
+    let whole_at = map_item schedule_of c.args.plan.now.responses.items (c.len-first.result + c.loop-place.place) c.get-response.result.now c.get-response.ensures.item in
+    let first_is : length (map named_thermal_of c.args.case.now.thermal.items) + c.loop-place.place ≡ c.len-first.result + c.loop-place.place = omega (arith, length-map c.args.case.now.thermal.items named_thermal_of, c.len-first.ensures) in
+    let plan_at = drop_item (length (map named_thermal_of c.args.case.now.thermal.items)) (schedules_of c.args.plan.now) c.loop-place.place ∙ ap (slice_get (schedules_of c.args.plan.now)) first_is ∙ whole_at in
+    let lengths = item_of (HasLengths c.args.case.now.periods) (schedules_of c.args.plan.now) (c.len-first.result + c.loop-place.place) s c.requires.lengths whole_at in
+    let p = err_from_is_err_and c.from_residual.result c.from_residual.ensures.1 in
+    let number : 1 + c.loop-place.place ≡ c.loop-place.place + 1 = omega arith in
+    rw (p.1, p.2) (ap (λ xs. slice_get xs 0) (all_renewable_is c.args.case.now.periods 1 (map named_renewable_of c.args.case.now.flat.items) (drop (length (map named_thermal_of c.args.case.now.thermal.items)) (schedules_of c.args.plan.now)))
+    ∙ over_units_first (λ (n : NamedRenewableUnit) (s : Schedule) (unit : ℕ). told RenewableRange kinds.Renewable unit c.args.case.now.periods 1 (renewable_broken n.unit s)) 1 c.loop-place.place (map named_renewable_of c.args.case.now.flat.items) (drop (length (map named_thermal_of c.args.case.now.thermal.items)) (schedules_of c.args.plan.now)) n s _ unit_at plan_at c.loop-place.invariant
+    (ap (λ (x : ℕ). slice_get (told RenewableRange kinds.Renewable (1 + c.loop-place.place) x 1 (renewable_broken (renewable_of c.get-flat.result.now.flat) s)) 0) (sym lengths.0) ∙ ap (λ (x : ℕ). slice_get (told RenewableRange kinds.Renewable x (length s.on) 1 (renewable_broken (renewable_of c.get-flat.result.now.flat) s)) 0) number ∙ c.in_err-check_renewable.ensures))
+
+pub loop-place-preserved : goal.loop-place-preserved
+loop-place-preserved c =
+    let n = named_renewable_of c.get-flat.result.now in
+    let s = schedule_of c.get-response.result.now in
+    let unit_at = map_item named_renewable_of c.args.case.now.flat.items c.loop-place.place c.get-flat.result.now c.get-flat.ensures.item in
+    let whole_at = map_item schedule_of c.args.plan.now.responses.items (c.len-first.result + c.loop-place.place) c.get-response.result.now c.get-response.ensures.item in
+    let first_is : length (map named_thermal_of c.args.case.now.thermal.items) + c.loop-place.place ≡ c.len-first.result + c.loop-place.place = omega (arith, length-map c.args.case.now.thermal.items named_thermal_of, c.len-first.ensures) in
+    let plan_at = drop_item (length (map named_thermal_of c.args.case.now.thermal.items)) (schedules_of c.args.plan.now) c.loop-place.place ∙ ap (slice_get (schedules_of c.args.plan.now)) first_is ∙ whole_at in
+    let lengths = item_of (HasLengths c.args.case.now.periods) (schedules_of c.args.plan.now) (c.len-first.result + c.loop-place.place) s c.requires.lengths whole_at in
+    let number : 1 + c.loop-place.place ≡ c.loop-place.place + 1 = omega arith in
+    NoneBefore-more (λ (n : NamedRenewableUnit) (s : Schedule) (unit : ℕ). told RenewableRange kinds.Renewable unit c.args.case.now.periods 1 (renewable_broken n.unit s)) 1 c.loop-place.place (map named_renewable_of c.args.case.now.flat.items) (drop (length (map named_thermal_of c.args.case.now.thermal.items)) (schedules_of c.args.plan.now)) n s unit_at plan_at c.loop-place.invariant
+    (ap (λ (x : ℕ). told RenewableRange kinds.Renewable (1 + c.loop-place.place) x 1 (renewable_broken (renewable_of c.get-flat.result.now.flat) s)) (sym lengths.0) ∙ ap (λ (x : ℕ). told RenewableRange kinds.Renewable x (length s.on) 1 (renewable_broken (renewable_of c.get-flat.result.now.flat) s)) number ∙ c.in_ok-check_renewable.ensures)
+
+pub returns : goal.returns
+returns c =
+    let count = length-map c.args.case.now.flat.items named_renewable_of in
+    all_renewable_is c.args.case.now.periods 1 (map named_renewable_of c.args.case.now.flat.items) (drop (length (map named_thermal_of c.args.case.now.thermal.items)) (schedules_of c.args.plan.now))
+    ∙ over_units_none (λ (n : NamedRenewableUnit) (s : Schedule) (unit : ℕ). told RenewableRange kinds.Renewable unit c.args.case.now.periods 1 (renewable_broken n.unit s)) 1 (map named_renewable_of c.args.case.now.flat.items) (drop (length (map named_thermal_of c.args.case.now.thermal.items)) (schedules_of c.args.plan.now)) (λ j n s lt e f. c.loop-place.invariant j n s (omega (arith, lt, count)) e f)

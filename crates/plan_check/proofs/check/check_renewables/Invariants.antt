@@ -1,0 +1,11 @@
+use Rattle.std.proofs.Common.{length, drop}
+use Rattle.uc_model.specs.PlainCases.{market_of, schedules_of}
+use Rattle.uc_model.specs.Refusals.{told, renewable_broken}
+use Rattle.uc_model.specs.declared.kinds.Kind.TheVariants as kinds
+use Rattle.uc_model.specs.declared.kinds.RuleCode.TheVariants.{RenewableRange}
+use Rattle.plan_check.proofs.FindLaws.{NoneBefore}
+use Rattle.plan_check.proofs.check.check_renewables.Given as goal
+
+abbrev pub invariant-loop-place : goal.invariant-loop-place
+invariant-loop-place l =
+    NoneBefore (λ n s unit. told RenewableRange kinds.Renewable unit (market_of l.case).periods 1 (renewable_broken n.unit s)) 1 l.place (market_of l.case).flat (drop (length (market_of l.case).thermal) (schedules_of l.plan))

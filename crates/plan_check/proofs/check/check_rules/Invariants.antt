@@ -1,0 +1,9 @@
+use Rattle.std.proofs.Common.{◌≡◌, [], length, take}
+use Rattle.std.specs.List.{flat_map}
+use Rattle.uc_model.specs.PlainUnits.{thermal_of, schedule_of}
+use Rattle.plan_check.specs.States.{rule_refusals}
+use Rattle.plan_check.proofs.check.check_rules.Given as goal
+
+abbrev pub invariant-loop-rule : goal.invariant-loop-rule
+invariant-loop-rule l =
+    flat_map (rule_refusals (length (schedule_of l.response).on) l.number (thermal_of l.unit) (schedule_of l.response)) (take l.rule-index l.rules) ≡ []

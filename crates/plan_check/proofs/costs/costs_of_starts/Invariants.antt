@@ -1,0 +1,15 @@
+use Rattle.std.proofs.Common.{◌≡◌, ◌≤◌, ◌+◌, ◌*◌, pos}
+use Rattle.uc_model.specs.Limits.{IsFrom}
+use Rattle.uc_model.specs.PlainUnits.{thermal_of, schedule_of}
+use Rattle.uc_model.specs.Schedules.{time_down}
+use Rattle.uc_model.specs.Sums.{sum_below}
+use Rattle.plan_check.specs.Costs.{start_cost_at}
+use Rattle.plan_check.proofs.costs.costs_of_starts.Given as goal
+
+abbrev pub invariant-loop-place : goal.invariant-loop-place
+invariant-loop-place l = record {
+  down : l.down ≡ time_down (thermal_of l.unit) (schedule_of l.response) l.place;
+  down_limit : l.down ≤ 1000000 + l.place;
+  is : l.sum ≡ sum_below l.place (start_cost_at (thermal_of l.unit) (schedule_of l.response));
+  limit : IsFrom (pos 0) (pos (10000000000000 * l.place)) l.sum;
+}

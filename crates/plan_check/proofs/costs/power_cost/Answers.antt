@@ -1,0 +1,18 @@
+use Rattle.std.proofs.Common.{rules, ◌≡◌, suc, ℤ, true, List, sym, ◌∙◌, subst, w64, FitsSigned}
+use Rattle.std.proofs.lemmas.Int.{to_z-of_z}
+use Rattle.uc_model.specs.declared.units.Point.{Point}
+use Rattle.uc_model.specs.Limits.{Spans}
+use Rattle.uc_model.specs.PlainUnits.{thermal_of, schedule_of}
+use Rattle.uc_model.specs.Schedules.{on_in, power_in}
+use Rattle.plan_check.proofs.CostSums.{power_spans}
+use Rattle.plan_check.proofs.costs.power_cost.Goals as goal
+
+pub envelope_at-requires-clause-within : goal.envelope_at-requires-clause-within
+envelope_at-requires-clause-within c =
+    let g = thermal_of c.args.unit.now in
+    let s = schedule_of c.args.response.now in
+    let on : on_in (thermal_of c.args.unit.now) (schedule_of c.args.response.now) (suc c.args.place) ≡ true = search rules in
+    let spans = power_spans g s c.args.place c.args.unit.now.valid c.requires.feasible c.requires.within on in
+    let f : FitsSigned w64 c.power_at.result = search rules in
+    let x_is = to_z-of_z w64 c.power_at.result f ∙ c.power_at.ensures.value in
+    subst (λ (x : ℤ). Spans c.as_slice.result.now x x) (sym x_is) (subst (λ (ps : List Point). Spans ps (power_in s (suc c.args.place)) (power_in s (suc c.args.place))) (sym c.as_slice.ensures) spans)

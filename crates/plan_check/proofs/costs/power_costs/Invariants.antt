@@ -1,0 +1,12 @@
+use Rattle.std.proofs.Common.{◌≡◌, ◌*◌, pos, neg_ℤ}
+use Rattle.uc_model.specs.Limits.{IsFrom}
+use Rattle.uc_model.specs.PlainUnits.{thermal_of, schedule_of}
+use Rattle.uc_model.specs.Sums.{sum_below}
+use Rattle.plan_check.specs.Costs.{production_at}
+use Rattle.plan_check.proofs.costs.power_costs.Given as goal
+
+abbrev pub invariant-loop-place : goal.invariant-loop-place
+invariant-loop-place l = record {
+  is : l.sum ≡ sum_below l.place (production_at (thermal_of l.unit) (schedule_of l.response));
+  limit : IsFrom (neg_ℤ (pos (10000000000000 * l.place))) (pos (10000000000000 * l.place)) l.sum;
+}

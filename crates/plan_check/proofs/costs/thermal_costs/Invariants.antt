@@ -1,0 +1,12 @@
+use Rattle.std.proofs.Common.{◌≡◌, ◌*◌, pos, neg_ℤ, take}
+use Rattle.uc_model.specs.Earnings.{cost_of}
+use Rattle.uc_model.specs.Limits.{IsFrom}
+use Rattle.uc_model.specs.PlainCases.{market_of, schedules_of}
+use Rattle.plan_check.specs.Costs.{sum_over, thermal_units}
+use Rattle.plan_check.proofs.costs.thermal_costs.Given as goal
+
+abbrev pub invariant-loop-place : goal.invariant-loop-place
+invariant-loop-place l = record {
+  is : l.sum ≡ sum_over cost_of (take l.place (thermal_units (market_of l.case))) (schedules_of l.plan);
+  limit : IsFrom (neg_ℤ (pos (4000000000000000 * l.place))) (pos (4000000000000000 * l.place)) l.sum;
+}

@@ -1,0 +1,44 @@
+use Rattle.std.proofs.Common.{rules, suc, List, [], sym, ap, ◌∙◌, subst, w64, FitsSigned, arith}
+use Rattle.std.proofs.lemmas.Int.{ints, to_z-of_z}
+use Rattle.std.proofs.lemmas.Option.{get_or_from_slice_get}
+use Rattle.uc_model.specs.declared.units.Block.{Block}
+use Rattle.uc_model.specs.Earnings.{worth_of}
+use Rattle.uc_model.specs.Limits.{IsBlockList}
+use Rattle.uc_model.specs.PlainUnits.{bid_of, schedule_of}
+use Rattle.uc_model.specs.Reserved.{items_in}
+use Rattle.uc_model.specs.Schedules.{power_in}
+use Rattle.plan_check.specs.Costs.{worth_at}
+use Rattle.plan_check.proofs.CostSums.{sum_more}
+use Rattle.plan_check.proofs.ShapeLaws.{item_of, map_item}
+use Rattle.plan_check.proofs.costs.worth.Goals as goal
+
+pub worth_in-requires-clause-blocks : goal.worth_in-requires-clause-blocks
+worth_in-requires-clause-blocks c =
+    subst IsBlockList (sym c.as_slice-blocks.ensures)
+    (item_of IsBlockList (bid_of c.args.bid.now).blocks c.loop-place.place (items_in c.get.result.now) c.args.bid.now.valid.blocks
+    (map_item items_in c.args.bid.now.blocks.items c.loop-place.place c.get.result.now c.get.ensures.item))
+
+pub loop-place-preserved : goal.loop-place-preserved
+loop-place-preserved c =
+    let b = bid_of c.args.bid.now in
+    let s = schedule_of c.args.response.now in
+    let k = c.loop-place.place in
+    let known = c.loop-place.invariant in
+    let is = known.is in
+    let low = known.limit.at_least in
+    let high = known.limit.at_most in
+    let f : FitsSigned w64 c.power_at.result = search rules in
+    let blocks = get_or_from_slice_get b.blocks k (items_in c.get.result.now) [] (map_item items_in c.args.bid.now.blocks.items k c.get.result.now c.get.ensures.item) in
+    let power = to_z-of_z w64 c.power_at.result f ∙ c.power_at.ensures.value in
+    let value = c.worth_in.ensures.value ∙ ap (worth_of c.as_slice-blocks.result.now) power ∙ ap (λ (l : List Block). worth_of l (power_in s (suc k))) (c.as_slice-blocks.ensures ∙ sym blocks) in
+    let call_low = c.worth_in.ensures.limit.at_least in
+    let call_high = c.worth_in.ensures.limit.at_most in
+    let wide = c.from-sum.ensures in
+    let horizon = c.requires.horizon in
+    let test = c.loop-place-test.true in
+    let len = c.len-place-end.ensures in
+    let more = sum_more k (worth_at b s) in
+    record {
+      is = omega (arith, ints, is, low, high, value, call_low, call_high, wide, more, horizon, test, len);
+      limit = record { at_least = omega (arith, ints, low, high, call_low, call_high, wide, horizon, test, len); at_most = omega (arith, ints, low, high, call_low, call_high, wide, horizon, test, len) };
+    }

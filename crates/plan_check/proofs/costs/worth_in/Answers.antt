@@ -1,0 +1,28 @@
+use Rattle.std.proofs.Common.{◌+◌, pos, List, drop, get_or, ap, arith}
+use Rattle.std.proofs.lemmas.Int.{ints}
+use Rattle.std.proofs.lemmas.List.{drop_more}
+use Rattle.uc_model.specs.declared.units.Block.{Block}
+use Rattle.uc_model.specs.Earnings.{worth_of}
+use Rattle.plan_check.proofs.costs.worth_in.Goals as goal
+
+pub loop-block-preserved : goal.loop-block-preserved
+loop-block-preserved c =
+    let bs = c.args.blocks.now in
+    let i = c.loop-block.block-index in
+    let none : Block = record { width = pos 0; price = pos 0 } in
+    let b = get_or bs i none in
+    let rest = drop (i + 1) bs in
+    let known = c.loop-block.invariant in
+    let called = c.with_block-bought.ensures in
+    let is = known.is in
+    let cut = ap (λ (l : List Block). worth_of l c.loop-block.bought.rest) (drop_more bs i none c.loop-block-test.true) in
+    let worth = called.worth in
+    let left = ap (worth_of rest) called.rest in
+    let most = known.worth_limit.at_most in
+    let worth_low = called.worth_limit.at_least in
+    let worth_high = called.worth_limit.at_most in
+    record {
+      is = omega (arith, ints, is, cut, worth, left);
+      worth_limit = record { at_least = worth_low; at_most = omega (arith, ints, most, worth_high) };
+      rest_limit = called.rest_limit;
+    }

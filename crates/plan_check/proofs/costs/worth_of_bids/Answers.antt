@@ -1,0 +1,78 @@
+use Rattle.std.proofs.Common.{◌≡◌, ℕ, ◌+◌, length, drop, sym, ap, ◌∙◌, arith}
+use Rattle.std.proofs.lemmas.Int.{ints}
+use Rattle.std.proofs.lemmas.List.{length-map}
+use Rattle.std.specs.Prelude.{slice_get}
+use Rattle.uc_model.specs.Data.{Bid, NamedBidUnit}
+use Rattle.uc_model.specs.Earnings.{cost_of}
+use Rattle.uc_model.specs.Limits.{IsBidUnit}
+use Rattle.uc_model.specs.PlainCases.{market_of, schedules_of}
+use Rattle.uc_model.specs.PlainUnits.{bid_of, schedule_of, named_thermal_of, named_renewable_of, named_bid_of}
+use Rattle.plan_check.specs.Costs.{bid_units}
+use Rattle.plan_check.proofs.PlanLaws.{HasLengths}
+use Rattle.plan_check.proofs.ShapeLaws.{item_of, map_item, drop_item}
+use Rattle.plan_check.proofs.SystemLaws.{sum_over-more}
+use Rattle.plan_check.proofs.costs.worth_of_bids.Goals as goal
+
+pub worth-sum-requires-clause-horizon : goal.worth-sum-requires-clause-horizon
+worth-sum-requires-clause-horizon c =
+    let m = market_of c.args.case.now in
+    let ps = schedules_of c.args.plan.now in
+    let i = c.loop-place.place in
+    let first = c.len.result + c.len-2.result in
+    let x = c.get.result.now in
+    let s = schedule_of c.get-in-loop-place.result.now in
+    let unit_at = map_item named_bid_of c.args.case.now.bids.items i x c.get.ensures.item in
+    let whole_at = map_item schedule_of c.args.plan.now.responses.items (first + i) c.get-in-loop-place.result.now c.get-in-loop-place.ensures.item in
+    let lengths = item_of (HasLengths c.args.case.now.periods) ps (first + i) s c.requires.lengths whole_at in
+    let on = lengths.0 in
+    let most = c.args.case.now.valid.horizon.at_most in
+    omega (arith, on, most)
+
+pub worth-sum-requires-clause-blocks : goal.worth-sum-requires-clause-blocks
+worth-sum-requires-clause-blocks c =
+    let m = market_of c.args.case.now in
+    let ps = schedules_of c.args.plan.now in
+    let i = c.loop-place.place in
+    let first = c.len.result + c.len-2.result in
+    let x = c.get.result.now in
+    let s = schedule_of c.get-in-loop-place.result.now in
+    let unit_at = map_item named_bid_of c.args.case.now.bids.items i x c.get.ensures.item in
+    let whole_at = map_item schedule_of c.args.plan.now.responses.items (first + i) c.get-in-loop-place.result.now c.get-in-loop-place.ensures.item in
+    let lengths = item_of (HasLengths c.args.case.now.periods) ps (first + i) s c.requires.lengths whole_at in
+    let limits = item_of (λ (n : NamedBidUnit). IsBidUnit n.unit × (length n.unit.blocks ≡ c.args.case.now.periods)) m.bids i (named_bid_of x) c.args.case.now.valid.bids unit_at in
+    limits.1 ∙ sym lengths.0
+
+pub loop-place-preserved : goal.loop-place-preserved
+loop-place-preserved c =
+    let m = market_of c.args.case.now in
+    let ps = schedules_of c.args.plan.now in
+    let i = c.loop-place.place in
+    let first = c.len.result + c.len-2.result in
+    let x = c.get.result.now in
+    let s = schedule_of c.get-in-loop-place.result.now in
+    let unit_at = map_item named_bid_of c.args.case.now.bids.items i x c.get.ensures.item in
+    let whole_at = map_item schedule_of c.args.plan.now.responses.items (first + i) c.get-in-loop-place.result.now c.get-in-loop-place.ensures.item in
+    let lengths = item_of (HasLengths c.args.case.now.periods) ps (first + i) s c.requires.lengths whole_at in
+    let skip : length m.thermal + length m.flat ≡ c.len.result + c.len-2.result =
+    omega (arith, length-map c.args.case.now.thermal.items named_thermal_of, length-map c.args.case.now.flat.items named_renewable_of, c.len.ensures, c.len-2.ensures) in
+    let plan_at = drop_item (length m.thermal + length m.flat) ps i ∙ ap (λ (n : ℕ). slice_get ps (n + i)) skip ∙ whole_at in
+    let u_at = map_item (λ (n : NamedBidUnit). Bid n.unit) m.bids i (named_bid_of x) unit_at in
+    let known = c.loop-place.invariant in
+    let is = known.is in
+    let low = known.limit.at_least in
+    let high = known.limit.at_most in
+    let value = c.worth-sum.ensures.value in
+    let call_low = c.worth-sum.ensures.limit.at_least in
+    let call_high = c.worth-sum.ensures.limit.at_most in
+    let count = c.args.case.now.valid.bid_count in
+    let mapped = length-map c.args.case.now.bids.items named_bid_of in
+    let test = c.loop-place-test.true in
+    let len = c.len-place-end.ensures in
+    let more = sum_over-more cost_of (bid_units m) (drop (length m.thermal + length m.flat) ps) i (Bid (bid_of x.bid)) s u_at plan_at in
+    record {
+      is = omega (arith, ints, is, low, high, value, call_low, call_high, more, count, mapped, test, len);
+      limit = record {
+        at_least = omega (arith, ints, low, high, call_low, call_high, count, mapped, test, len);
+        at_most = omega (arith, ints, low, high, call_low, call_high, count, mapped, test, len);
+      };
+    }

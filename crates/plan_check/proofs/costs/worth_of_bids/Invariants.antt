@@ -1,0 +1,12 @@
+use Rattle.std.proofs.Common.{◌≡◌, ◌+◌, ◌*◌, pos, neg_ℤ, length, drop, take}
+use Rattle.uc_model.specs.Earnings.{cost_of}
+use Rattle.uc_model.specs.Limits.{IsFrom}
+use Rattle.uc_model.specs.PlainCases.{market_of, schedules_of}
+use Rattle.plan_check.specs.Costs.{sum_over, bid_units}
+use Rattle.plan_check.proofs.costs.worth_of_bids.Given as goal
+
+abbrev pub invariant-loop-place : goal.invariant-loop-place
+invariant-loop-place l = record {
+  is : l.sum ≡ neg_ℤ (sum_over cost_of (take l.place (bid_units (market_of l.case))) (drop (length (market_of l.case).thermal + length (market_of l.case).flat) (schedules_of l.plan)));
+  limit : IsFrom (pos 0) (pos (20000000000000000000 * l.place)) l.sum;
+}

@@ -1,0 +1,22 @@
+use Rattle.std.proofs.Common.{rules, ◌≡◌, sym, ◌∙◌, arith}
+use Rattle.uc_model.specs.PlainUnits.{thermal_of, schedule_of}
+use Rattle.plan_check.proofs.ChangeLaws.{changed_here, changed_back}
+use Rattle.plan_check.proofs.rules.change_before.Goals as goal
+
+pub returns-then-on_in_period-on : goal.returns-then-on_in_period-on
+returns-then-on_in_period-on c =
+    let known = c.back.invariant in
+    let differ : c.on_in_period.result ≡ c.on_in_period-on.result → ⊥ = search rules in
+    sym (changed_here (thermal_of c.args.unit.now) (schedule_of c.args.response.now) c.back.since (search rules) (λ e. differ (c.on_in_period.ensures ∙ e ∙ known.on))) ∙ sym known.since
+
+pub back-preserved : goal.back-preserved
+back-preserved c =
+    let known = c.back.invariant in
+    let within = known.within in
+    let same : c.on_in_period.result ≡ c.on_in_period-on.result = search rules in
+    let on = sym c.on_in_period.ensures ∙ same in
+    record {
+      within = omega (arith, within);
+      on = on;
+      since = known.since ∙ changed_back (thermal_of c.args.unit.now) (schedule_of c.args.response.now) c.back.since (search rules) (on ∙ sym known.on);
+    }

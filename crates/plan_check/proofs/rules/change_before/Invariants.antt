@@ -1,0 +1,15 @@
+use Rattle.std.proofs.Common.{◌≡◌, ◌≤◌}
+use Rattle.uc_model.specs.PlainUnits.{thermal_of, schedule_of}
+use Rattle.uc_model.specs.Refusals.{changed_in}
+use Rattle.uc_model.specs.Schedules.{on_in}
+use Rattle.plan_check.proofs.rules.change_before.Given as goal
+
+abbrev pub invariant-back : goal.invariant-back
+invariant-back l = record {
+  within : l.since ≤ l.period;
+  on : on_in (thermal_of l.unit) (schedule_of l.response) l.since ≡ l.on;
+  since : changed_in (thermal_of l.unit) (schedule_of l.response) l.period ≡ changed_in (thermal_of l.unit) (schedule_of l.response) l.since;
+}
+
+abbrev pub decreases-back : goal.decreases-back
+decreases-back l = l.since

@@ -1,0 +1,23 @@
+use Rattle.std.proofs.Common.{rules, ◌≡◌, ℤ, pos, Some, sym, ap, ◌∙◌, w64, FitsSigned, to_z, of_z}
+use Rattle.std.proofs.lemmas.Int.{to_z-of_z}
+use Rattle.std.proofs.lemmas.Option.{get_or_from_slice_get}
+use Rattle.uc_model.specs.Data.{units}
+use Rattle.uc_model.specs.PlainCases.{market_of, schedules_of}
+use Rattle.uc_model.specs.Sums.{int_at}
+use Rattle.uc_model.specs.Systems.{total_power}
+use Rattle.plan_check.proofs.SystemLaws.{unbalanced}
+use Rattle.plan_check.proofs.totals.balance_sides.Goals as goal
+
+pub returns : goal.returns
+returns c =
+    let m = market_of c.args.case.now in
+    let ps = schedules_of c.args.plan.now in
+    let k = c.args.place in
+    let f1 : FitsSigned w64 c.net_power-total.result = search rules in
+    let f2 : FitsSigned w64 c.get-demand.result.now = search rules in
+    let value = c.net_power-total.ensures.value in
+    let demand = get_or_from_slice_get c.args.case.now.demand.items k c.get-demand.result.now (pos 0) c.get-demand.ensures.item in
+    let differ : total_power (units m) ps k ≡ int_at m.demand k → ⊥ = λ e. c.if-total-demand.false (ap (of_z w64) (value ∙ e ∙ demand)) in
+    ap (λ (x : ℤ). Some (x, to_z w64 (of_z w64 c.get-demand.result.now))) (to_z-of_z w64 c.net_power-total.result f1 ∙ value)
+    ∙ ap (λ (y : ℤ). Some (total_power (units m) ps k, y)) (to_z-of_z w64 c.get-demand.result.now f2 ∙ sym demand)
+    ∙ sym (unbalanced (total_power (units m) ps k) (int_at m.demand k) differ)

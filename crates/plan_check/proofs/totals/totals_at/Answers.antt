@@ -1,0 +1,38 @@
+use Rattle.std.proofs.Common.{suc, List, [], ◌∷◌, ◌++◌, map, take, sym, ap, ◌∙◌, arith}
+use Rattle.std.proofs.lemmas.Int.{ints}
+use Rattle.std.proofs.lemmas.List.{take_more}
+use Rattle.uc_model.specs.declared.units.Response.{Response}
+use Rattle.uc_model.specs.Data.{Schedule}
+use Rattle.uc_model.specs.PlainUnits.{schedule_of}
+use Rattle.uc_model.specs.Schedules.{power_in, reserve_in}
+use Rattle.plan_check.specs.Totals.{powers_at, reserves_at}
+use Rattle.plan_check.proofs.SystemLaws.{total_map-append}
+use Rattle.plan_check.proofs.totals.totals_at.Goals as goal
+
+pub loop-response-preserved : goal.loop-response-preserved
+loop-response-preserved c =
+    let rs = c.args.responses.now in
+    let i = c.loop-response.response-index in
+    let k = c.args.place in
+    let x = c.response-item.result in
+    let known = c.loop-response.invariant in
+    let called = c.with_response-totals.ensures in
+    let more = take_more rs i x c.loop-response-test.true ∙ ap (λ (y : Response). take i rs ++ y ∷ []) (sym c.response-item.is) in
+    let powers = ap (λ (l : List Response). powers_at (map schedule_of l) k) more ∙ total_map-append (λ (s : Schedule). power_in s (suc k)) schedule_of (take i rs) x in
+    let reserves = ap (λ (l : List Response). reserves_at (map schedule_of l) k) more ∙ total_map-append (λ (s : Schedule). reserve_in s (suc k)) schedule_of (take i rs) x in
+    let p = known.power in
+    let q = known.reserve in
+    let p_high = known.power_limit.at_most in
+    let q_high = known.reserve_limit.at_most in
+    let cp = called.power in
+    let cq = called.reserve in
+    let cp_low = called.power_limit.at_least in
+    let cp_high = called.power_limit.at_most in
+    let cq_low = called.reserve_limit.at_least in
+    let cq_high = called.reserve_limit.at_most in
+    record {
+      power = omega (arith, ints, p, cp, powers);
+      reserve = omega (arith, ints, q, cq, reserves);
+      power_limit = record { at_least = cp_low; at_most = omega (arith, ints, p_high, cp_high) };
+      reserve_limit = record { at_least = cq_low; at_most = omega (arith, ints, q_high, cq_high) };
+    }

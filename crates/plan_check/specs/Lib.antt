@@ -1,0 +1,4 @@
+pub mod Checks
+pub mod Costs
+pub mod States
+pub mod Totals

@@ -1,0 +1,7 @@
+//! Laws over the definitions: each is the contract of a function that does nothing.
+ghost use Rattle.uc_model.specs.Laws.{RefusalsAreExact};
+
+/// A plan is feasible exactly where nothing is refused.
+pub fn refusals_are_exact()
+    ensures { RefusalsAreExact }
+{}

@@ -1,0 +1,29 @@
+//! Whether a schedule of all units keeps the rules, and what it costs.
+#![tactic(auto)]
+
+use uc_model::kinds::{Kind, RuleCode};
+
+mod check;
+pub mod costs;
+pub mod laws;
+mod rules;
+mod states;
+#[cfg(test)]
+mod tests;
+mod totals;
+
+pub use check::check_plan;
+
+/// Why a schedule isn't feasible: the first rule that it breaks.
+#[derive(Clone, Copy, PartialEq, Eq)]
+pub struct RuleFault {
+    pub code: RuleCode,
+    pub kind: Kind,
+    /// The unit's position within its kind, from 1, and 0 for the case.
+    pub unit: u32,
+    /// Periods count from 1; before a stop in period 1 stands period 0.
+    pub period: u32,
+    /// The two numbers that the rule compares.
+    pub left: i128,
+    pub right: i128,
+}

@@ -1,0 +1,319 @@
+//! The rules of a thermal unit, each in one period.
+ghost use Rattle.std.specs.Prelude.{◌≡◌, ◌≤◌, ◌<◌, ◌+◌, ◌-◌, ◌-ℤ◌, ℕ, suc, length, if◌then◌else◌, int_le, slice_index_or, false, pos};
+ghost use Rattle.std.specs.Int.{int_min};
+ghost use Rattle.uc_model.specs.Data.{Schedule};
+ghost use Rattle.uc_model.specs.Limits.{IsFrom};
+ghost use Rattle.uc_model.specs.PlainUnits.{thermal_of, schedule_of};
+ghost use Rattle.uc_model.specs.Schedules.{on_in, power_in, above_min, above_with_reserve};
+ghost use Rattle.uc_model.specs.Refusals as refusals;
+ghost use Rattle.uc_model.specs.Refusals.{changed_in, or_else, must_run_broken, initial_broken, min_up_broken, min_down_broken, range_broken, start_broken, stop_broken, ramp_up_broken, ramp_down_broken, window_broken};
+ghost use Rattle.plan_check.specs.States.{sides_of, run_broken, IsStateIn};
+
+use crate::states::{Sides, State};
+use uc_model::units::{Mark, Response, Unit};
+
+/// The numbers where a test fails.
+pub fn unless(holds: bool, left: i64, right: i64) -> Option<Sides>
+    ensures { sides_of result ≡ refusals.unless holds left right }
+{
+    if holds {
+        None
+    } else {
+        Some(Sides { left, right })
+    }
+}
+
+/// The numbers where a value is above its limit.
+pub fn at_most(value: i64, limit: i64) -> Option<Sides>
+    ensures { sides_of result ≡ refusals.unless (int_le value limit) value limit }
+{
+    unless(value <= limit, value, limit)
+}
+
+/// Whether the unit is on in a period; period 0 is the state before the horizon.
+pub fn on_in_period(unit: &Unit, response: &Response, period: usize) -> bool
+    requires { period ≤ length (schedule_of response.now).on }
+    ensures { result ≡ on_in (thermal_of unit.now) (schedule_of response.now) period }
+{
+    if period == 0 {
+        return unit.on0;
+    }
+    *response.on.get(period - 1)
+}
+
+// What is seen in period 0.
+fn state_before(unit: &Unit) -> State
+    ensures { (s : Schedule) → IsStateIn (thermal_of unit.now) s 0 result }
+{
+    if unit.on0 {
+        return State {
+            on: true,
+            above: unit.power0 - unit.min_power,
+            reserve: 0,
+            output: unit.power0,
+        };
+    }
+    State {
+        on: false,
+        above: 0,
+        reserve: 0,
+        output: unit.power0,
+    }
+}
+
+// What is seen in a period of the horizon, which is at a place.
+fn state_at(unit: &Unit, response: &Response, place: usize) -> State
+    requires { place < length (schedule_of response.now).on }
+    ensures { IsStateIn (thermal_of unit.now) (schedule_of response.now) (suc place) result }
+{
+    let on = *response.on.get(place);
+    let power = i64::from(*response.power.get(place));
+    let reserve = i64::from(*response.reserve.get(place));
+    State {
+        on,
+        above: if on { power - unit.min_power } else { 0 },
+        reserve,
+        output: power + reserve,
+    }
+}
+
+// What is seen in a period; period 0 is the state before the horizon.
+fn state_in(unit: &Unit, response: &Response, period: usize) -> State
+    requires { period ≤ length (schedule_of response.now).on }
+    ensures { IsStateIn (thermal_of unit.now) (schedule_of response.now) period result }
+{
+    if period == 0 {
+        return state_before(unit);
+    }
+    state_at(unit, response, period - 1)
+}
+
+/// A must-run unit is on.
+pub fn must_run_sides(unit: &Unit, response: &Response, place: usize) -> Option<Sides>
+    requires { place < length (schedule_of response.now).on }
+    ensures { sides_of result ≡ must_run_broken (thermal_of unit.now) (schedule_of response.now) place }
+{
+    let on = state_at(unit, response, place).on;
+    unless(!(unit.must_run && !on), 0, 1)
+}
+
+// The periods from 1 on in which the unit stays as it was before.
+fn initial_time(unit: &Unit) -> u32
+    ensures { result ≡ (if unit.now.on0 then unit.now.min_up - unit.now.up0 else unit.now.min_down - unit.now.down0) }
+{
+    if unit.on0 {
+        unit.min_up.saturating_sub(unit.up0)
+    } else {
+        unit.min_down.saturating_sub(unit.down0)
+    }
+}
+
+/// A unit stays as it was before the horizon until its minimum time is over.
+pub fn initial_sides(unit: &Unit, response: &Response, place: usize) -> Option<Sides>
+    requires { place < length (schedule_of response.now).on }
+    ensures { sides_of result ≡ initial_broken (thermal_of unit.now) (schedule_of response.now) place }
+{
+    if initial_time(unit) as usize <= place {
+        return None;
+    }
+    let on = on_in_period(unit, response, place + 1);
+    unless(unit.on0 == on, i64::from(on), i64::from(unit.on0))
+}
+
+// The start or stop since which the unit is as it is in a period, where one lies in the horizon.
+fn change_before(unit: &Unit, response: &Response, period: usize) -> Option<usize>
+    requires { period ≤ length (schedule_of response.now).on }
+    ensures { result ≡ changed_in (thermal_of unit.now) (schedule_of response.now) period }
+{
+    let on = on_in_period(unit, response, period);
+    let mut since = period;
+    'back: while since > 0 {
+        if on_in_period(unit, response, since - 1) != on {
+            return Some(since);
+        }
+        since -= 1;
+    }
+    None
+}
+
+// A run that a change in the horizon began is as long as the minimum time.
+fn run_sides(since: Option<usize>, end: usize, minimum: u32) -> Option<Sides>
+    requires { end < 1000 }
+    ensures { sides_of result ≡ run_broken since end minimum }
+{
+    match since {
+        None => None,
+        Some(start) => {
+            let run = end.saturating_sub(start);
+            unless(minimum as usize <= run, run as i64, i64::from(minimum))
+        }
+    }
+}
+
+/// A unit that started in the horizon stops only after its minimum time up.
+pub fn min_up_sides(unit: &Unit, response: &Response, place: usize) -> Option<Sides>
+    requires within { place < length (schedule_of response.now).on }
+    requires horizon { length (schedule_of response.now).on ≤ 168 }
+    ensures { sides_of result ≡ min_up_broken (thermal_of unit.now) (schedule_of response.now) place }
+{
+    if !on_in_period(unit, response, place) {
+        return None;
+    }
+    if on_in_period(unit, response, place + 1) {
+        return None;
+    }
+    run_sides(change_before(unit, response, place), place + 1, unit.min_up)
+}
+
+/// A unit that stopped in the horizon starts only after its minimum time down.
+pub fn min_down_sides(unit: &Unit, response: &Response, place: usize) -> Option<Sides>
+    requires within { place < length (schedule_of response.now).on }
+    requires horizon { length (schedule_of response.now).on ≤ 168 }
+    ensures { sides_of result ≡ min_down_broken (thermal_of unit.now) (schedule_of response.now) place }
+{
+    if on_in_period(unit, response, place) {
+        return None;
+    }
+    if !on_in_period(unit, response, place + 1) {
+        return None;
+    }
+    run_sides(
+        change_before(unit, response, place),
+        place + 1,
+        unit.min_down,
+    )
+}
+
+/// The first of two broken rules.
+pub fn first_of(first: Option<Sides>, second: Option<Sides>) -> Option<Sides>
+    ensures { sides_of result ≡ or_else (sides_of first) (sides_of second) }
+{
+    match first {
+        Some(sides) => Some(sides),
+        None => second,
+    }
+}
+
+/// Whether the unit is on at a place.
+pub fn is_on(response: &Response, place: usize) -> bool
+    requires { place < length (schedule_of response.now).on }
+    ensures { result ≡ slice_index_or (schedule_of response.now).on place false }
+{
+    *response.on.get(place)
+}
+
+/// The power at a place.
+pub fn power_at(response: &Response, place: usize) -> i64
+    requires { place < length (schedule_of response.now).on }
+    ensures value { result ≡ power_in (schedule_of response.now) (suc place) }
+    ensures limit { IsFrom (pos 0) (pos 4294967296) result }
+{
+    i64::from(*response.power.get(place))
+}
+
+/// An on unit gives at least its least power, and with reserve at most its greatest; an off unit gives nothing.
+pub fn range_sides(unit: &Unit, response: &Response, place: usize) -> Option<Sides>
+    requires { place < length (schedule_of response.now).on }
+    ensures { sides_of result ≡ range_broken (thermal_of unit.now) (schedule_of response.now) place }
+{
+    let power = power_at(response, place);
+    let now = state_at(unit, response, place);
+    if now.on {
+        return first_of(
+            at_most(unit.min_power, power),
+            at_most(now.output, unit.max_power),
+        );
+    }
+    first_of(at_most(power, 0), at_most(now.reserve, 0))
+}
+
+// A limit that isn't above the greatest power.
+fn limit_within(unit: &Unit, limit: i64) -> i64
+    ensures { result ≡ int_min limit unit.now.max_power }
+{
+    limit.min(unit.max_power)
+}
+
+/// In a start period the output is within the start limit.
+pub fn start_sides(unit: &Unit, response: &Response, place: usize) -> Option<Sides>
+    requires { place < length (schedule_of response.now).on }
+    ensures { sides_of result ≡ start_broken (thermal_of unit.now) (schedule_of response.now) place }
+{
+    if on_in_period(unit, response, place) {
+        return None;
+    }
+    let now = state_at(unit, response, place);
+    if !now.on {
+        return None;
+    }
+    at_most(now.output, limit_within(unit, unit.start_limit))
+}
+
+/// In the last on period before a stop the output is within the stop limit.
+pub fn stop_sides(unit: &Unit, response: &Response, period: usize) -> Option<Sides>
+    requires { period < length (schedule_of response.now).on }
+    ensures { sides_of result ≡ stop_broken (thermal_of unit.now) (schedule_of response.now) period }
+{
+    let last = state_in(unit, response, period);
+    if !last.on {
+        return None;
+    }
+    if state_at(unit, response, period).on {
+        return None;
+    }
+    at_most(last.output, limit_within(unit, unit.stop_limit))
+}
+
+// How far the power with reserve rises above the power of the period before.
+fn rise_at(unit: &Unit, response: &Response, place: usize) -> i64
+    requires { place < length (schedule_of response.now).on }
+    ensures { result ≡ above_with_reserve (thermal_of unit.now) (schedule_of response.now) (suc place)
+        -ℤ above_min (thermal_of unit.now) (schedule_of response.now) place }
+{
+    let before = state_in(unit, response, place);
+    let now = state_at(unit, response, place);
+    now.above + now.reserve - before.above
+}
+
+// How far the power falls below that of the period before.
+fn fall_at(unit: &Unit, response: &Response, place: usize) -> i64
+    requires { place < length (schedule_of response.now).on }
+    ensures { result ≡ above_min (thermal_of unit.now) (schedule_of response.now) place
+        -ℤ above_min (thermal_of unit.now) (schedule_of response.now) (suc place) }
+{
+    let before = state_in(unit, response, place);
+    let now = state_at(unit, response, place);
+    before.above - now.above
+}
+
+/// The power with reserve rises by at most the ramp.
+pub fn ramp_up_sides(unit: &Unit, response: &Response, place: usize) -> Option<Sides>
+    requires { place < length (schedule_of response.now).on }
+    ensures { sides_of result ≡ ramp_up_broken (thermal_of unit.now) (schedule_of response.now) place }
+{
+    let rise = rise_at(unit, response, place);
+    at_most(rise, unit.ramp_up)
+}
+
+/// The power falls by at most the ramp.
+pub fn ramp_down_sides(unit: &Unit, response: &Response, place: usize) -> Option<Sides>
+    requires { place < length (schedule_of response.now).on }
+    ensures { sides_of result ≡ ramp_down_broken (thermal_of unit.now) (schedule_of response.now) place }
+{
+    let fall = fall_at(unit, response, place);
+    at_most(fall, unit.ramp_down)
+}
+
+/// A unit is on where its window says so, and off where it says so.
+pub fn window_sides(unit: &Unit, response: &Response, place: usize) -> Option<Sides>
+    requires within { place < length (schedule_of response.now).on }
+    requires window { length (thermal_of unit.now).window ≡ length (schedule_of response.now).on }
+    ensures { sides_of result ≡ window_broken (thermal_of unit.now) (schedule_of response.now) place }
+{
+    let on = on_in_period(unit, response, place + 1);
+    match *unit.window.get(place) {
+        Mark::Free => None,
+        Mark::MustOff => unless(!on, 1, 0),
+        Mark::MustOn => unless(on, 0, 1),
+    }
+}

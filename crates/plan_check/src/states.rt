@@ -1,0 +1,25 @@
+//! What is seen of a thermal unit in one period.
+ghost use Rattle.std.specs.Prelude.{◌≡◌, ◌≤◌, ◌<◌, ◌+◌, ◌-◌, pos, neg_ℤ, length};
+ghost use Rattle.uc_model.specs.Limits.{IsFrom};
+
+use uc_model::units::{Response, Unit};
+
+/// The two numbers that a broken rule compares.
+#[derive(Clone, Copy)]
+pub struct Sides {
+    pub left: i64,
+    pub right: i64,
+}
+
+/// Kilowatts of a unit in a period: the power above the least power, which is 0 in an off period, the reserve, and the
+/// output, which is power with reserve. All are within 20,000,000,000.
+#[derive(Clone, Copy)]
+pub struct State {
+    pub on: bool,
+    pub above: i64,
+    pub reserve: i64,
+    pub output: i64,
+    ghost above_limit: { IsFrom (neg_ℤ (pos 20000000000)) (pos 20000000000) above },
+    ghost reserve_limit: { IsFrom (pos 0) (pos 20000000000) reserve },
+    ghost output_limit: { IsFrom (pos 0) (pos 20000000000) output },
+}

@@ -1,0 +1,104 @@
+//! Sums of powers and reserves over schedules.
+ghost use Rattle.std.specs.Prelude.{◌≡◌, ◌≤◌, ◌<◌, ◌+◌, ℕ, suc, pos, neg_ℤ, ◌+ℤ◌, length, map};
+ghost use Rattle.std.specs.List.{All};
+ghost use Rattle.uc_model.specs.declared.units.Response.{Response};
+ghost use Rattle.uc_model.specs.Data.{units};
+ghost use Rattle.uc_model.specs.Laws.{HasPlanShape};
+ghost use Rattle.uc_model.specs.Limits.{IsFrom};
+ghost use Rattle.uc_model.specs.PlainCases.{market_of, schedules_of};
+ghost use Rattle.uc_model.specs.PlainUnits.{schedule_of};
+ghost use Rattle.uc_model.specs.Refusals.{balance_broken, reserve_broken};
+ghost use Rattle.uc_model.specs.Schedules.{power_in, reserve_in};
+ghost use Rattle.uc_model.specs.Systems.{total_power};
+ghost use Rattle.plan_check.specs.States.{sides_of};
+ghost use Rattle.plan_check.specs.Totals.{powers_at, reserves_at};
+
+use crate::rules;
+use crate::states::Sides;
+use uc_model::cases::{Case, Plan};
+use uc_model::units::Response;
+
+/// Sums over schedules in one period, in kilowatts.
+#[derive(Clone, Copy)]
+pub struct Totals {
+    pub power: i64,
+    pub reserve: i64,
+}
+
+// The sums with one more schedule.
+fn with_response(totals: Totals, response: &Response, place: usize) -> Totals
+    requires place { place < length (schedule_of response.now).on }
+    requires power { IsFrom (pos 0) (pos 1000000000000000) totals.power }
+    requires reserve { IsFrom (pos 0) (pos 1000000000000000) totals.reserve }
+    ensures power { result.power ≡ totals.power +ℤ power_in (schedule_of response.now) (suc place) }
+    ensures reserve { result.reserve ≡ totals.reserve +ℤ reserve_in (schedule_of response.now) (suc place) }
+    ensures power_limit { IsFrom (pos 0) (totals.power +ℤ pos 4294967296) result.power }
+    ensures reserve_limit { IsFrom (pos 0) (totals.reserve +ℤ pos 4294967296) result.reserve }
+{
+    let power = i64::from(*response.power.get(place));
+    let reserve = i64::from(*response.reserve.get(place));
+    Totals {
+        power: totals.power + power,
+        reserve: totals.reserve + reserve,
+    }
+}
+
+/// The sums over schedules at a place.
+pub fn totals_at(responses: &[Response], place: usize) -> Totals
+    requires count { length responses.now ≤ 20000 }
+    requires place { All (λ (r : Response). place < length (schedule_of r).on) responses.now }
+    ensures power { result.power ≡ powers_at (map schedule_of responses.now) place }
+    ensures reserve { result.reserve ≡ reserves_at (map schedule_of responses.now) place }
+    ensures power_limit { IsFrom (pos 0) (pos 100000000000000) result.power }
+    ensures reserve_limit { IsFrom (pos 0) (pos 100000000000000) result.reserve }
+{
+    let mut totals = Totals {
+        power: 0,
+        reserve: 0,
+    };
+    for response in responses {
+        totals = with_response(totals, response, place);
+    }
+    totals
+}
+
+// The power at a place that the thermal and renewable units give, less what the bids buy.
+fn net_power(case: &Case, plan: &Plan, place: usize) -> i64
+    requires shape { HasPlanShape (market_of case.now) (schedules_of plan.now) }
+    requires within { place < (market_of case.now).periods }
+    ensures value { result ≡ total_power (units (market_of case.now)) (schedules_of plan.now) place }
+    ensures limit { IsFrom (neg_ℤ (pos 100000000000000)) (pos 100000000000000) result }
+{
+    let producers = case.thermal.len() + case.flat.len();
+    let (producing, buying) = plan.responses.as_slice().split_at(producers);
+    let given = totals_at(producing, place);
+    let bought = totals_at(buying, place);
+    given.power - bought.power
+}
+
+/// What keeps the powers from summing to demand at a place.
+pub fn balance_sides(case: &Case, plan: &Plan, place: usize) -> Option<Sides>
+    requires shape { HasPlanShape (market_of case.now) (schedules_of plan.now) }
+    requires within { place < (market_of case.now).periods }
+    ensures { sides_of result ≡ balance_broken (market_of case.now) (schedules_of plan.now) place }
+{
+    let total = net_power(case, plan, place);
+    let demand = *case.demand.get(place);
+    if total == demand {
+        return None;
+    }
+    Some(Sides {
+        left: total,
+        right: demand,
+    })
+}
+
+/// What the reserves lack at a place.
+pub fn reserve_sides(case: &Case, plan: &Plan, place: usize) -> Option<Sides>
+    requires shape { HasPlanShape (market_of case.now) (schedules_of plan.now) }
+    requires within { place < (market_of case.now).periods }
+    ensures { sides_of result ≡ reserve_broken (market_of case.now) (schedules_of plan.now) place }
+{
+    let totals = totals_at(plan.responses.as_slice(), place);
+    rules::at_most(*case.reserves.get(place), totals.reserve)
+}
