@@ -1,7 +1,7 @@
 // What no clause says: whole runs over memory, by their status and the bytes that the sink holds. The expected lines
 // were worked by hand.
 use hull_engine::hull_run;
-use hull_io::{File, MOST_BYTES, MemoryShelf, MemorySink};
+use hull_io::{File, MemoryShelf, MemorySink};
 use std::alloc::{AllocError, Global};
 use std::test::Fail;
 
@@ -213,32 +213,5 @@ fn a_missing_schedule_fails_to_read(rt: HostRuntime) -> Result<(), Fail> {
     let (status, bytes) = run(rt.alloc(), &words, CASE, SCHEDULE, (&[], &[], &[]))?;
     assert_eq!(rt; status, 2);
     assert_eq!(rt; bytes.as_slice(), b"fault 2 read schedule\n".as_slice());
-    Ok(())
-}
-
-// The largest file is read, and one byte more is too many.
-#[test]
-fn the_largest_file(rt: HostRuntime) -> Result<(), Fail> {
-    let alloc = rt.alloc();
-    for (more, want) in [(0usize, 0u8), (1, 3)] {
-        let mut case = file(alloc, "c", CASE)?;
-        for _ in CASE.len()..MOST_BYTES + more {
-            case.bytes.push(b' ')?;
-        }
-        let files = vec![in alloc; case, file(alloc, "s", SCHEDULE)?]?;
-        let mut shelf = MemoryShelf::make(alloc, files.as_slice(), &[])?;
-        let mut out = MemorySink::make(alloc, 4096, 4096, &[], &[])?;
-        let words = words_in(alloc, &WORDS)?;
-        assert_eq!(rt;
-            hull_run(alloc, words.as_slice(), &mut shelf, &mut out),
-            want
-        );
-        let line = if more == 0 {
-            TEXT
-        } else {
-            b"fault 3 case 32\n".as_slice()
-        };
-        assert_eq!(rt; out.bytes(), line);
-    }
     Ok(())
 }
