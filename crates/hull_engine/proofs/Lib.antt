@@ -1,0 +1,3 @@
+pub mod DueLaws
+pub mod EndLemmas
+pub mod OneDue

@@ -1,0 +1,40 @@
+use Rattle.std.proofs.Common.{ℕ, List}
+use Rattle.std.specs.Prelude.{IsSomeAnd}
+use Rattle.hull_io.specs.Edge.{Rose}
+use Rattle.hull_words.specs.Asked.{CheckAsked}
+use Rattle.hull_words.specs.Words.{texts}
+use Rattle.hull_report.specs.declared.fault.FileKind.{FileKind}
+use Rattle.hull_engine.specs.Due.{IsAcceptedWith}
+use Rattle.hull_engine.specs.Ladder.{words_due, IsDue}
+use Rattle.hull_engine.specs.Ends.{name_at, IsReached}
+use Rattle.hull_engine.proofs.EndLemmas.{ended, status_refused, completes, none_read}
+use Rattle.hull_engine.proofs.OneDue.{one_due}
+use Rattle.hull_engine.proofs.hull_run.Goals as goal
+
+pub returns-clause-refused : goal.returns-clause-refused
+returns-clause-refused g c =
+    let held = g.S.Sink.held in
+    let faults = g.S.Sink.faults in
+    let last = g.S.Sink.last in
+    let words = words_due (texts c.args.words.now) in
+    let told = g.F.Shelf.told c.args.shelf.now in
+    let due = IsDue (texts c.args.words.now) told in
+    let rose = λ (names : CheckAsked) (file : FileKind). IsSomeAnd (name_at names file) (λ (name : List ℕ). Rose g.F.Shelf.last (g.F.Shelf.faults c.args.shelf.now name) (g.F.Shelf.faults c.decide-decided.new.shelf name)) in
+    let reached = λ (names : CheckAsked) (file : FileKind). IsReached told names file in
+    let reads = λ (file : FileKind). IsAcceptedWith words (λ (names : CheckAsked). rose names file × reached names file) in
+    let end = ended held faults last c.args.out.now c.finish-end.new.out due reads c.status.result c.decide-decided.result c.finish-end.result c.status.ensures c.decide-decided.ensures.answers c.decide-decided.ensures.failed c.finish-end.ensures in
+    status_refused held faults last c.args.out.now c.finish-end.new.out due reads c.status.result end
+
+pub returns-clause-complete : goal.returns-clause-complete
+returns-clause-complete g c =
+    let held = g.S.Sink.held in
+    let faults = g.S.Sink.faults in
+    let last = g.S.Sink.last in
+    let words = words_due (texts c.args.words.now) in
+    let told = g.F.Shelf.told c.args.shelf.now in
+    let due = IsDue (texts c.args.words.now) told in
+    let rose = λ (names : CheckAsked) (file : FileKind). IsSomeAnd (name_at names file) (λ (name : List ℕ). Rose g.F.Shelf.last (g.F.Shelf.faults c.args.shelf.now name) (g.F.Shelf.faults c.decide-decided.new.shelf name)) in
+    let reached = λ (names : CheckAsked) (file : FileKind). IsReached told names file in
+    let reads = λ (file : FileKind). IsAcceptedWith words (λ (names : CheckAsked). rose names file × reached names file) in
+    let end = ended held faults last c.args.out.now c.finish-end.new.out due reads c.status.result c.decide-decided.result c.finish-end.result c.status.ensures c.decide-decided.ensures.answers c.decide-decided.ensures.failed c.finish-end.ensures in
+    λ d is unread unrisen. completes held faults last c.args.out.now c.finish-end.new.out due reads c.status.result end (one_due (texts c.args.words.now) told) (none_read words rose reached unread) unrisen d is

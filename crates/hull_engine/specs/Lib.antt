@@ -1,0 +1,4 @@
+pub mod Due
+pub mod Ladder
+pub mod Ends
+pub mod Runs

@@ -1,0 +1,6 @@
+pub mod Parts
+pub mod Words
+pub mod FaultLines
+pub mod CheckText
+pub mod ReportText
+pub mod Pending

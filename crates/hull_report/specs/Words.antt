@@ -1,0 +1,23 @@
+-- The words of fault lines (this project's profile).
+use Rattle.std.specs.Prelude.{ℕ, List, codes}
+use Rattle.uc_model.specs.declared.kinds.Kind.{Kind}
+use Rattle.uc_model.specs.declared.kinds.Kind.TheVariants as kinds
+use Rattle.hull_report.specs.declared.fault.FileKind.{FileKind}
+use Rattle.hull_report.specs.declared.fault.FileKind.TheVariants.{CaseFile, ScheduleFile, ReportFile}
+
+abbrev pub kind_word : Kind → List ℕ
+kind_word kinds.Case = codes "case"
+kind_word kinds.Thermal = codes "thermal"
+kind_word kinds.Renewable = codes "renewable"
+kind_word kinds.Bid = codes "bid"
+
+abbrev pub file_word : FileKind → List ℕ
+file_word CaseFile = codes "case"
+file_word ScheduleFile = codes "schedule"
+file_word ReportFile = codes "report"
+
+-- the status of a fault of such a file
+abbrev pub file_status : FileKind → ℕ
+file_status CaseFile = 3
+file_status ScheduleFile = 4
+file_status ReportFile = 8

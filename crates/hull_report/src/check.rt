@@ -1,0 +1,33 @@
+//! The text of `hull check`.
+ghost use Rattle.hull_io.specs.Edge.{Writes};
+ghost use Rattle.uc_model.specs.PlainCases.{market_of};
+ghost use Rattle.hull_report.specs.CheckText.{check_text};
+
+use crate::parts::{Part, write_parts};
+use hull_io::{Sink, WriteFailed};
+use uc_model::cases::Case;
+
+/// Writes that the schedule is feasible, and its `cost` in money.
+#[tactic(auto, unfolding(crate::specs::CheckText::check_text))]
+pub fn write_check<S: Sink>(case: &Case, cost: i128, out: &mut S) -> Result<(), WriteFailed>
+    ensures { Writes S.held S.faults S.last out.old out.new result (check_text (market_of case.now) cost) }
+{
+    let thermal = case.thermal.len();
+    let flat = case.flat.len();
+    let bids = case.bids.len();
+    write_parts(
+        out,
+        &[
+            Part::Text(b"hull-check 1\nperiods "),
+            Part::Count(case.periods as u64),
+            Part::Text(b" thermal "),
+            Part::Count(thermal as u64),
+            Part::Text(b" renewable "),
+            Part::Count(flat as u64),
+            Part::Tally(b" bid ", bids as u64),
+            Part::Text(b"\ncost "),
+            Part::Amount(cost),
+            Part::Text(b"\nfeasible\n"),
+        ],
+    )
+}

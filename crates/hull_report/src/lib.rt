@@ -1,0 +1,12 @@
+//! The texts that the engine writes: what a command prints, and the line of a fault.
+#![tactic(auto)]
+
+pub mod check;
+pub mod fault;
+pub mod parts;
+mod pieces;
+pub mod report;
+
+pub use check::write_check;
+pub use fault::{FileKind, ReportFault, TopFault, WorkFault, write_fault};
+pub use parts::{Part, write_parts};
