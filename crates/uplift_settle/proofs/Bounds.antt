@@ -1,18 +1,18 @@
 -- What a feasible schedule earns is far from the limits of 64 bits.
-use Rattle.std.proofs.Common.{◌≡◌, ℕ, zero, suc, ◌+◌, ◌*◌, ◌<◌, ◌≤◌, ◌⊎◌, inl, inr, ℤ, pos, negsuc, neg_ℤ, ◌+ℤ◌, ◌-ℤ◌, ◌*ℤ◌, ◌≤ℤ◌, Bool, true, false, cond, Some, List, [], ◌∷◌, ◌++◌, map, length, refl, sym, ap, ◌∙◌, subst, arith}
+use Rattle.std.proofs.Common.{◌≡◌, ℕ, zero, suc, ◌+◌, ◌*◌, ◌<◌, ◌≤◌, inl, inr, ℤ, pos, negsuc, neg_ℤ, ◌+ℤ◌, ◌-ℤ◌, ◌*ℤ◌, ◌≤ℤ◌, Bool, true, false, cond, Some, List, [], ◌∷◌, ◌++◌, map, length, refl, sym, ap, ◌∙◌, subst, arith}
 use Rattle.std.proofs.lemmas.Int.{ints, clamps}
 use Rattle.std.proofs.lemmas.List.Elements.{All-append, All-map}
 use Rattle.std.proofs.Math.Nat.{mul-le-mul_left}
 use Rattle.std.proofs.Math.IntN.{*ℤ_comm, *ℤ-zero}
 use Rattle.std.specs.Int.{int_min}
 use Rattle.std.specs.List.{All, AllZip}
-use Rattle.std.specs.Prelude.{slice_get, slice_index, slice_index_or}
+use Rattle.std.specs.Prelude.{slice_get, slice_index}
 use Rattle.uc_model.specs.declared.units.Block.{Block}
-use Rattle.uc_model.specs.Data.{AnyUnit, Thermal, Flat, Bid, ThermalUnit, RenewableUnit, BidUnit, NamedThermalUnit, NamedRenewableUnit, NamedBidUnit, PriceLists, Schedule, Market, units}
-use Rattle.uc_model.specs.Earnings.{revenue, supply_in, production_cost, start_costs, worth_of, bid_worth, cost_of, earnings, IsTop}
+use Rattle.uc_model.specs.Data.{AnyUnit, Thermal, Flat, Bid, ThermalUnit, BidUnit, NamedThermalUnit, NamedRenewableUnit, NamedBidUnit, PriceLists, Schedule, Market, units}
+use Rattle.uc_model.specs.Earnings.{revenue, supply_in, worth_of, bid_worth, cost_of, earnings, IsTop}
 use Rattle.uc_model.specs.Envelope.{envelope}
-use Rattle.uc_model.specs.Limits.{IsFrom, IsPower, IsCost, IsBlock, IsBlockList, IsThermalUnit, IsRenewableUnit, IsBidUnit, IsMarket, ArePrices, price_limit}
-use Rattle.uc_model.specs.Schedules.{on_in, power_in, reserve_in, starts_in, time_down, blocks_at, width_of, IsPeriod, IsFeasible, IsThermalFeasible, IsRenewableFeasible, IsBidFeasible}
+use Rattle.uc_model.specs.Limits.{IsFrom, IsPower, IsBlock, IsBlockList, IsThermalUnit, IsRenewableUnit, IsBidUnit, IsMarket, ArePrices, price_limit}
+use Rattle.uc_model.specs.Schedules.{on_in, power_in, reserve_in, starts_in, time_down, blocks_at, IsPeriod, IsFeasible, IsThermalFeasible}
 use Rattle.uc_model.specs.Sums.{int_at, sum_below, zip_with}
 use Rattle.uc_model.proofs.IntLaws.{mul-sub, mul-mono_of}
 use Rattle.uc_model.proofs.SignedLaws.{IsWithin, sum_within, product_within}
@@ -100,19 +100,19 @@ thermal_output : (g : ThermalUnit) (n : ℕ) (s : Schedule) (k : ℕ) → IsTher
 thermal_output g n s k limits f lt =
     elim (true_or_false (on_in g s (suc k))) [
       | inl on ↦
-        let len = f.schedule.on in
-        let period : IsPeriod s (suc k) = record { from_one = omega arith; to_last = omega (arith, lt, len) } in
-        let a = above_on g s k on in
-        let low = f.dispatch.least (suc k) period on in
-        let high = f.dispatch.greatest (suc k) period on in
-        let most = limits.max_power.at_most in
-        let least = limits.min_power.at_least in
-        record { power = omega (arith, ints, clamps, a, low, high, most, least); reserve = omega (arith, ints, clamps, a, low, high, most, least) }
+          let len = f.schedule.on in
+          let period : IsPeriod s (suc k) = record { from_one = omega arith; to_last = omega (arith, lt, len) } in
+          let a = above_on g s k on in
+          let low = f.dispatch.least (suc k) period on in
+          let high = f.dispatch.greatest (suc k) period on in
+          let most = limits.max_power.at_most in
+          let least = limits.min_power.at_least in
+          record { power = omega (arith, ints, clamps, a, low, high, most, least); reserve = omega (arith, ints, clamps, a, low, high, most, least) }
       | inr off ↦
-        let none = f.schedule.off k lt off in
-        let p = none.0 in
-        let r = none.1 in
-        record { power = omega (arith, ints, p); reserve = omega (arith, ints, r) }
+          let none = f.schedule.off k lt off in
+          let p = none.0 in
+          let r = none.1 in
+          record { power = omega (arith, ints, p); reserve = omega (arith, ints, r) }
     ]
 
 output : (u : AnyUnit) (n : ℕ) (s : Schedule) (k : ℕ) → IsUnit u → IsFeasible u n s → k < n → IsOutputAt s k
@@ -172,11 +172,11 @@ production_within : (g : ThermalUnit) (s : Schedule) (k : ℕ) → IsThermalUnit
 production_within g s k limits f lt =
     elim (true_or_false (on_in g s (suc k))) [
       | inl on ↦
-        subst (λ (b : Bool). IsWithin 10000000000000 (cond b (envelope g.points (power_in s (suc k))) (pos 0))) (sym on)
-        (envelope_within g.points (record { some = limits.some_point; count = limits.point_count; points = limits.points; ordered = limits.points_ordered }) (power_in s (suc k)) (power_spans g s k limits f lt on))
+          subst (λ (b : Bool). IsWithin 10000000000000 (cond b (envelope g.points (power_in s (suc k))) (pos 0))) (sym on)
+          (envelope_within g.points (record { some = limits.some_point; count = limits.point_count; points = limits.points; ordered = limits.points_ordered }) (power_in s (suc k)) (power_spans g s k limits f lt on))
       | inr off ↦
-        subst (λ (b : Bool). IsWithin 10000000000000 (cond b (envelope g.points (power_in s (suc k))) (pos 0))) (sym off)
-        (record { at_least = omega (arith, ints); at_most = omega (arith, ints) })
+          subst (λ (b : Bool). IsWithin 10000000000000 (cond b (envelope g.points (power_in s (suc k))) (pos 0))) (sym off)
+          (record { at_least = omega (arith, ints); at_most = omega (arith, ints) })
     ]
 
 worth_within : (bs : List Block) (x : ℤ) → All IsBlock bs → pos 0 ≤ℤ x → IsFrom (pos 0) (pos 10000000 *ℤ x) (worth_of bs x)

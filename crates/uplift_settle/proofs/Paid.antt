@@ -1,7 +1,6 @@
 -- What prices pay for the power and the reserve of a schedule.
-use Rattle.std.proofs.Common.{◌≡◌, ℕ, suc, ℤ, pos, neg_ℤ, ◌+ℤ◌, ◌-ℤ◌, ◌*ℤ◌, List, length, ap, ◌∙◌, arith}
+use Rattle.std.proofs.Common.{◌≡◌, ℕ, suc, ℤ, neg_ℤ, ◌+ℤ◌, ◌-ℤ◌, ◌*ℤ◌, length, ap, arith}
 use Rattle.std.proofs.lemmas.Int.{ints}
-use Rattle.std.specs.Prelude.{slice_index}
 use Rattle.uc_model.specs.Data.{ThermalUnit, RenewableUnit, BidUnit, Thermal, Flat, Bid, PriceLists, Schedule}
 use Rattle.uc_model.specs.Earnings.{revenue}
 use Rattle.uc_model.specs.Limits.{AreOneLength}
@@ -41,7 +40,7 @@ module _ (π : PriceLists) (s : Schedule) (one : AreOneLength s) where
   pub bid_paid : (b : BidUnit) → revenue (Bid b) π s ≡ paid_for π.reserve s.reserve -ℤ paid_for π.energy s.power
   bid_paid b =
       let same = sum_below-same (length s.on) (λ k. (int_at π.energy k *ℤ neg_ℤ (power_in s (suc k))) +ℤ reserve k) (λ k. reserve k -ℤ energy k)
-          (λ k lt. let e = mul-neg (int_at π.energy k) (power_in s (suc k)) in omega (arith, ints, e)) in
+      (λ k lt. let e = mul-neg (int_at π.energy k) (power_in s (suc k)) in omega (arith, ints, e)) in
       let apart = sum_below-sub (length s.on) reserve energy in
       let a = energy_is in
       let d = reserve_is in

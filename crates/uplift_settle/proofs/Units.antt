@@ -1,12 +1,12 @@
 -- The unit of a number, by its kind, and its schedule in a plan.
-use Rattle.std.proofs.Common.{◌≡◌, ℕ, zero, suc, ◌+◌, ◌-◌, ◌<◌, ◌≤◌, ℤ, Some, List, [], ◌∷◌, ◌++◌, map, length, refl, sym, ap, ◌∙◌, subst, arith, length-append}
+use Rattle.std.proofs.Common.{◌≡◌, ℕ, zero, suc, ◌+◌, ◌-◌, ◌<◌, ◌≤◌, ℤ, Some, List, [], ◌∷◌, ◌++◌, map, length, sym, ap, ◌∙◌, arith, length-append}
 use Rattle.std.proofs.lemmas.List.{length-map}
 use Rattle.std.proofs.lemmas.Option.{slice_get-get_or}
 use Rattle.std.specs.Prelude.{slice_get, slice_index_or}
 use Rattle.std.specs.List.{All, AllZip}
 use Rattle.uc_model.specs.Data.{AnyUnit, Thermal, Flat, Bid, NamedThermalUnit, NamedRenewableUnit, NamedBidUnit, RenewableUnit, PriceLists, Schedule, Market, units, unit_count}
 use Rattle.uc_model.specs.Earnings.{earnings}
-use Rattle.uc_model.specs.Schedules.{IsSchedule, IsFeasible}
+use Rattle.uc_model.specs.Schedules.{IsFeasible}
 use Rattle.uc_model.specs.Systems.{IsFeasiblePlan}
 use Rattle.plan_check.proofs.PlanLaws.{HasLengths}
 use Rattle.plan_check.proofs.ShapeLaws.{map_item, front_item}

@@ -1,19 +1,15 @@
-use Rattle.std.proofs.Common.{rules, ◌≡◌, ◌+◌, ◌-◌, ◌<◌, ◌≤◌, ℕ, suc, ℤ, pos, ◌+ℤ◌, ◌-ℤ◌, Some, List, map, length, sym, ap, ◌∙◌, subst, FitsSigned, arith}
-use Rattle.std.proofs.lemmas.Int.{ints, to_z-of_z}
+use Rattle.std.proofs.Common.{rules, ◌≡◌, ◌+◌, ℕ, Some, length, sym, ap, ◌∙◌, FitsSigned, arith}
+use Rattle.std.proofs.lemmas.Int.{to_z-of_z}
 use Rattle.std.specs.Int.{w128}
 use Rattle.std.proofs.lemmas.List.{length-map}
 use Rattle.std.specs.Prelude.{slice_get}
-use Rattle.uc_model.specs.Data.{AnyUnit, Thermal, Flat, Bid, NamedThermalUnit, NamedRenewableUnit, NamedBidUnit, Schedule, units}
-use Rattle.uc_model.specs.Earnings.{earnings, revenue}
+use Rattle.uc_model.specs.Data.{Bid, NamedBidUnit}
 use Rattle.uc_model.specs.Limits.{IsBidUnit}
 use Rattle.uc_model.specs.PlainCases.{market_of, schedules_of}
-use Rattle.uc_model.specs.PlainUnits.{thermal_of, bid_of, schedule_of, prices_of, named_thermal_of, named_renewable_of, named_bid_of}
-use Rattle.uc_model.specs.Schedules.{IsFeasible, IsThermalFeasible}
+use Rattle.uc_model.specs.PlainUnits.{bid_of, schedule_of, prices_of, named_thermal_of, named_renewable_of, named_bid_of}
 use Rattle.plan_check.proofs.PlanLaws.{HasLengths}
-use Rattle.plan_check.proofs.ShapeLaws.{item_of, map_item, zip_item}
-use Rattle.uplift_settle.specs.Earned.{paid_for}
-use Rattle.uplift_settle.proofs.Paid.{thermal_paid, flat_paid, bid_paid}
-use Rattle.uplift_settle.proofs.Units.{thermal_at, flat_number, bid_at, plan_length, plan_lengths, earned_item}
+use Rattle.plan_check.proofs.ShapeLaws.{item_of, map_item}
+use Rattle.uplift_settle.proofs.Units.{bid_at, plan_length, plan_lengths, earned_item}
 use Rattle.uplift_settle.proofs.earned.bid_earned.Goals as goal
 
 pub get-response-requires : goal.get-response-requires
@@ -55,9 +51,9 @@ returns c =
     let s = schedule_of c.get-response.result.now in
     let f : FitsSigned w128 c.bid_earnings.result = search rules in
     let skipped : length m.thermal + length m.flat ≡ c.len.result + c.len-2.result =
-        omega (arith, length-map c.args.case.now.thermal.items named_thermal_of, length-map c.args.case.now.flat.items named_renewable_of, c.len.ensures, c.len-2.ensures) in
+    omega (arith, length-map c.args.case.now.thermal.items named_thermal_of, length-map c.args.case.now.flat.items named_renewable_of, c.len.ensures, c.len-2.ensures) in
     let response_at = ap (λ (n : ℕ). slice_get ps (n + c.args.place)) skipped
-        ∙ map_item schedule_of c.args.plan.now.responses.items (c.len.result + c.len-2.result + c.args.place) c.get-response.result.now c.get-response.ensures.item in
+    ∙ map_item schedule_of c.args.plan.now.responses.items (c.len.result + c.len-2.result + c.args.place) c.get-response.result.now c.get-response.ensures.item in
     let bid = map_item named_bid_of c.args.case.now.bids.items c.args.place c.get-bid.result.now c.get-bid.ensures.item in
     earned_item m ps (prices_of c.args.prices.now) ((length m.thermal + length m.flat) + c.args.place) (Bid (bid_of c.get-bid.result.now.bid)) s _
     (bid_at m c.args.place (named_bid_of c.get-bid.result.now) bid) response_at (to_z-of_z w128 c.bid_earnings.result f ∙ c.bid_earnings.ensures)

@@ -14,7 +14,7 @@ overflow_cast-result c =
     let ps = schedules_of c.args.plan.now in
     let f : FitsSigned w128 c.earned_at.result = search rules in
     let within : IsWithin 3500000000000000000 c.earned_at.result =
-        scheduled_within (prices_of c.args.prices.now) m.periods (units m) ps c.args.number c.earned_at.result c.args.prices.now.valid c.args.case.now.valid.horizon.at_most (units_are m c.args.case.now.valid) c.requires.feasible.feasible c.earned_at.ensures in
+    scheduled_within (prices_of c.args.prices.now) m.periods (units m) ps c.args.number c.earned_at.result c.args.prices.now.valid c.args.case.now.valid.horizon.at_most (units_are m c.args.case.now.valid) c.requires.feasible.feasible c.earned_at.ensures in
     let fits = fits_within w64 3500000000000000000 c.earned_at.result within (omega arith) in
     simp to_z-of_z fits
 
@@ -24,7 +24,7 @@ returns-clause-value c =
     let ps = schedules_of c.args.plan.now in
     let f : FitsSigned w128 c.earned_at.result = search rules in
     let within : IsWithin 3500000000000000000 c.earned_at.result =
-        scheduled_within (prices_of c.args.prices.now) m.periods (units m) ps c.args.number c.earned_at.result c.args.prices.now.valid c.args.case.now.valid.horizon.at_most (units_are m c.args.case.now.valid) c.requires.feasible.feasible c.earned_at.ensures in
+    scheduled_within (prices_of c.args.prices.now) m.periods (units m) ps c.args.number c.earned_at.result c.args.prices.now.valid c.args.case.now.valid.horizon.at_most (units_are m c.args.case.now.valid) c.requires.feasible.feasible c.earned_at.ensures in
     let fits = fits_within w64 3500000000000000000 c.earned_at.result within (omega arith) in
     simp to_z-of_z c.earned_at.ensures
 
@@ -34,6 +34,6 @@ returns-clause-limit c =
     let ps = schedules_of c.args.plan.now in
     let f : FitsSigned w128 c.earned_at.result = search rules in
     let within : IsWithin 3500000000000000000 c.earned_at.result =
-        scheduled_within (prices_of c.args.prices.now) m.periods (units m) ps c.args.number c.earned_at.result c.args.prices.now.valid c.args.case.now.valid.horizon.at_most (units_are m c.args.case.now.valid) c.requires.feasible.feasible c.earned_at.ensures in
+    scheduled_within (prices_of c.args.prices.now) m.periods (units m) ps c.args.number c.earned_at.result c.args.prices.now.valid c.args.case.now.valid.horizon.at_most (units_are m c.args.case.now.valid) c.requires.feasible.feasible c.earned_at.ensures in
     let fits = fits_within w64 3500000000000000000 c.earned_at.result within (omega arith) in
     simp to_z-of_z within

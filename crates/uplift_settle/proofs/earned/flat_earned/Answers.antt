@@ -1,19 +1,13 @@
-use Rattle.std.proofs.Common.{rules, ◌≡◌, ◌+◌, ◌-◌, ◌<◌, ◌≤◌, ℕ, suc, ℤ, pos, ◌+ℤ◌, ◌-ℤ◌, Some, List, map, length, sym, ap, ◌∙◌, subst, FitsSigned, arith}
-use Rattle.std.proofs.lemmas.Int.{ints, to_z-of_z}
+use Rattle.std.proofs.Common.{rules, sym, ◌∙◌, FitsSigned, arith}
+use Rattle.std.proofs.lemmas.Int.{to_z-of_z}
 use Rattle.std.specs.Int.{w128}
 use Rattle.std.proofs.lemmas.List.{length-map}
-use Rattle.std.specs.Prelude.{slice_get}
-use Rattle.uc_model.specs.Data.{AnyUnit, Thermal, Flat, Bid, NamedThermalUnit, NamedRenewableUnit, NamedBidUnit, Schedule, units}
-use Rattle.uc_model.specs.Earnings.{earnings, revenue}
-use Rattle.uc_model.specs.Limits.{IsBidUnit}
+use Rattle.uc_model.specs.Data.{Flat}
 use Rattle.uc_model.specs.PlainCases.{market_of, schedules_of}
-use Rattle.uc_model.specs.PlainUnits.{thermal_of, bid_of, schedule_of, prices_of, named_thermal_of, named_renewable_of, named_bid_of}
-use Rattle.uc_model.specs.Schedules.{IsFeasible, IsThermalFeasible}
+use Rattle.uc_model.specs.PlainUnits.{schedule_of, prices_of}
 use Rattle.plan_check.proofs.PlanLaws.{HasLengths}
-use Rattle.plan_check.proofs.ShapeLaws.{item_of, map_item, zip_item}
-use Rattle.uplift_settle.specs.Earned.{paid_for}
-use Rattle.uplift_settle.proofs.Paid.{thermal_paid, flat_paid, bid_paid}
-use Rattle.uplift_settle.proofs.Units.{thermal_at, flat_number, bid_at, plan_length, plan_lengths, earned_item}
+use Rattle.plan_check.proofs.ShapeLaws.{item_of, map_item}
+use Rattle.uplift_settle.proofs.Units.{flat_number, plan_length, plan_lengths, earned_item}
 use Rattle.uplift_settle.proofs.earned.flat_earned.Goals as goal
 
 pub get-response-requires : goal.get-response-requires
@@ -29,7 +23,7 @@ flat_earnings-requires c =
     let ps = schedules_of c.args.plan.now in
     let s = schedule_of c.get-response.result.now in
     let lengths = item_of (HasLengths c.args.case.now.periods) ps c.args.number s (plan_lengths m ps c.requires.feasible)
-        (map_item schedule_of c.args.plan.now.responses.items c.args.number c.get-response.result.now c.get-response.ensures.item) in
+    (map_item schedule_of c.args.plan.now.responses.items c.args.number c.get-response.result.now c.get-response.ensures.item) in
     lengths.0 ∙ sym c.requires.horizon
 
 pub returns : goal.returns

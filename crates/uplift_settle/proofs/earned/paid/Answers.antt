@@ -1,10 +1,9 @@
-use Rattle.std.proofs.Common.{rules, ◌≡◌, ◌+◌, ◌*◌, ℕ, ℤ, pos, neg_ℤ, ◌+ℤ◌, ◌-ℤ◌, ◌*ℤ◌, sym, ap, ◌∙◌, subst, w64, FitsSigned, arith}
+use Rattle.std.proofs.Common.{rules, ◌≡◌, ℤ, pos, neg_ℤ, ◌*ℤ◌, sym, ap, ◌∙◌, w64, FitsSigned, arith}
 use Rattle.std.proofs.lemmas.Int.{ints, to_z-of_z}
 use Rattle.std.proofs.lemmas.Option.{get_or_from_slice_get}
 use Rattle.std.specs.Prelude.{slice_index}
 use Rattle.uc_model.specs.Limits.{IsFrom, price_limit}
-use Rattle.uc_model.specs.Sums.{int_at, sum_below}
-use Rattle.uc_model.proofs.SignedLaws.{IsWithin}
+use Rattle.uc_model.specs.Sums.{int_at}
 use Rattle.plan_check.proofs.CostSums.{sum_more}
 use Rattle.plan_check.proofs.ShapeLaws.{item_of}
 use Rattle.uplift_settle.proofs.earned.paid.Goals as goal
@@ -24,7 +23,7 @@ loop-place-preserved c =
     let wide = c.from.ensures in
     let paid = simp to_z-of_z at c.pay-sum.ensures.value in
     let value : c.pay-sum.result ≡ int_at c.args.prices.now.items k *ℤ pos (slice_index c.args.amounts.now.items k) =
-        paid ∙ ap (λ (z : ℤ). z *ℤ c.from.result) (sym price) ∙ ap (λ (z : ℤ). int_at c.args.prices.now.items k *ℤ z) (wide ∙ ap pos (sym amount)) in
+    paid ∙ ap (λ (z : ℤ). z *ℤ c.from.result) (sym price) ∙ ap (λ (z : ℤ). int_at c.args.prices.now.items k *ℤ z) (wide ∙ ap pos (sym amount)) in
     let known = c.loop-place.invariant in
     let is = known.is in
     let low = known.limit.at_least in

@@ -1,19 +1,15 @@
-use Rattle.std.proofs.Common.{rules, ◌≡◌, ◌+◌, ◌-◌, ◌<◌, ◌≤◌, ℕ, suc, ℤ, pos, ◌+ℤ◌, ◌-ℤ◌, Some, List, map, length, sym, ap, ◌∙◌, subst, FitsSigned, arith}
-use Rattle.std.proofs.lemmas.Int.{ints, to_z-of_z}
+use Rattle.std.proofs.Common.{rules, ◌≡◌, ℕ, Some, sym, ◌∙◌, subst, FitsSigned, arith}
+use Rattle.std.proofs.lemmas.Int.{to_z-of_z}
 use Rattle.std.specs.Int.{w128}
 use Rattle.std.proofs.lemmas.List.{length-map}
 use Rattle.std.specs.Prelude.{slice_get}
-use Rattle.uc_model.specs.Data.{AnyUnit, Thermal, Flat, Bid, NamedThermalUnit, NamedRenewableUnit, NamedBidUnit, Schedule, units}
-use Rattle.uc_model.specs.Earnings.{earnings, revenue}
-use Rattle.uc_model.specs.Limits.{IsBidUnit}
+use Rattle.uc_model.specs.Data.{AnyUnit, Thermal, Schedule, units}
 use Rattle.uc_model.specs.PlainCases.{market_of, schedules_of}
-use Rattle.uc_model.specs.PlainUnits.{thermal_of, bid_of, schedule_of, prices_of, named_thermal_of, named_renewable_of, named_bid_of}
+use Rattle.uc_model.specs.PlainUnits.{thermal_of, schedule_of, prices_of, named_thermal_of}
 use Rattle.uc_model.specs.Schedules.{IsFeasible, IsThermalFeasible}
 use Rattle.plan_check.proofs.PlanLaws.{HasLengths}
 use Rattle.plan_check.proofs.ShapeLaws.{item_of, map_item, zip_item}
-use Rattle.uplift_settle.specs.Earned.{paid_for}
-use Rattle.uplift_settle.proofs.Paid.{thermal_paid, flat_paid, bid_paid}
-use Rattle.uplift_settle.proofs.Units.{thermal_at, flat_number, bid_at, plan_length, plan_lengths, earned_item}
+use Rattle.uplift_settle.proofs.Units.{thermal_at, plan_length, plan_lengths, earned_item}
 use Rattle.uplift_settle.proofs.earned.thermal_earned.Goals as goal
 
 pub get-response-requires : goal.get-response-requires
@@ -45,7 +41,7 @@ thermal_earnings-requires-clause-feasible c =
     let s = schedule_of c.get-response.result.now in
     let g = thermal_of c.get-unit.result.now.unit in
     let feasible = zip_item (λ (u : AnyUnit) (t : Schedule). IsFeasible u m.periods t) (units m) ps c.args.number (Thermal g) s c.requires.feasible.feasible (unit_at c)
-        (map_item schedule_of c.args.plan.now.responses.items c.args.number c.get-response.result.now c.get-response.ensures.item) in
+    (map_item schedule_of c.args.plan.now.responses.items c.args.number c.get-response.result.now c.get-response.ensures.item) in
     subst (λ (n : ℕ). IsThermalFeasible g n s) (sym (lengths c).0) feasible
 
 pub returns : goal.returns
@@ -55,7 +51,7 @@ returns c =
     let s = schedule_of c.get-response.result.now in
     let f : FitsSigned w128 c.thermal_earnings.result = search rules in
     let at = thermal_at m c.args.number (named_thermal_of c.get-unit.result.now)
-        (map_item named_thermal_of c.args.case.now.thermal.items c.args.number c.get-unit.result.now c.get-unit.ensures.item) in
+    (map_item named_thermal_of c.args.case.now.thermal.items c.args.number c.get-unit.result.now c.get-unit.ensures.item) in
     earned_item m ps (prices_of c.args.prices.now) c.args.number (Thermal (thermal_of c.get-unit.result.now.unit)) s _ at
     (map_item schedule_of c.args.plan.now.responses.items c.args.number c.get-response.result.now c.get-response.ensures.item)
     (to_z-of_z w128 c.thermal_earnings.result f ∙ c.thermal_earnings.ensures)

@@ -1,4 +1,4 @@
-use Rattle.std.proofs.Common.{◌≡◌, ◌+◌, ◌*◌, ℕ, suc, ℤ, pos, ◌+ℤ◌, List, [], ◌∷◌, ◌++◌, map, take, sym, ap, ◌∙◌, arith}
+use Rattle.std.proofs.Common.{suc, List, [], ◌∷◌, ◌++◌, map, take, sym, ap, ◌∙◌, arith}
 use Rattle.std.proofs.lemmas.Int.{ints}
 use Rattle.std.proofs.lemmas.List.{take_more}
 use Rattle.uc_model.specs.declared.units.Response.{Response}

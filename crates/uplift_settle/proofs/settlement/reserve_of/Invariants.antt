@@ -7,5 +7,5 @@ use Rattle.uplift_settle.proofs.settlement.reserve_of.Given as goal
 abbrev pub invariant-loop-response : goal.invariant-loop-response
 invariant-loop-response l = record {
   is : l.sum ≡ reserves_at (map schedule_of (take l.response-index l.responses)) l.place;
-  limit : IsFrom (pos 0) (pos (4294967296 * l.response-index)) l.sum
+  limit : IsFrom (pos 0) (pos (4294967296 * l.response-index)) l.sum;
 }

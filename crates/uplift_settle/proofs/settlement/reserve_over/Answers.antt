@@ -1,5 +1,5 @@
-use Rattle.std.proofs.Common.{rules, ◌≡◌, ◌+◌, ◌<◌, ◌≤◌, ℕ, suc, ℤ, pos, ◌+ℤ◌, ◌-ℤ◌, List, map, length, sym, ap, ◌∙◌, subst, w64, FitsSigned, arith}
-use Rattle.std.proofs.lemmas.Int.{ints, to_z-of_z}
+use Rattle.std.proofs.Common.{◌≡◌, ◌<◌, pos, List, map, length, sym, ap, ◌∙◌, subst, arith}
+use Rattle.std.proofs.lemmas.Int.{ints}
 use Rattle.std.proofs.lemmas.List.{length-map}
 use Rattle.std.proofs.lemmas.Option.{get_or_from_slice_get}
 use Rattle.std.specs.List.{All}
@@ -8,12 +8,10 @@ use Rattle.uc_model.specs.Data.{units}
 use Rattle.uc_model.specs.Limits.{IsPower}
 use Rattle.uc_model.specs.PlainCases.{market_of, schedules_of}
 use Rattle.uc_model.specs.PlainUnits.{schedule_of}
-use Rattle.uc_model.specs.Sums.{int_at}
 use Rattle.uc_model.specs.Systems.{total_reserve}
 use Rattle.plan_check.specs.Totals.{reserves_at}
 use Rattle.plan_check.proofs.ShapeLaws.{covers, item_of}
 use Rattle.plan_check.proofs.SystemLaws.{total_reserve_is}
-use Rattle.uplift_settle.specs.Earned.{surplus_at}
 use Rattle.uplift_settle.proofs.Units.{plan_length, plan_lengths}
 use Rattle.uplift_settle.proofs.settlement.reserve_over.Goals as goal
 

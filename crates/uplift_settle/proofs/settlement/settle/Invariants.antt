@@ -15,5 +15,5 @@ invariant-loop-number l = record {
   total : l.into.total ≡ total l.into.payments.items;
   limit : IsFrom (neg_ℤ (pos (7000000000000000000 * l.number))) (pos (7000000000000000000 * l.number)) l.into.total;
   scheduled_room : l.number + l.into.scheduled.spare ≡ unit_count (market_of l.case) + l.fn.into.scheduled.spare;
-  payments_room : l.number + l.into.payments.spare ≡ unit_count (market_of l.case) + l.fn.into.payments.spare
+  payments_room : l.number + l.into.payments.spare ≡ unit_count (market_of l.case) + l.fn.into.payments.spare;
 }

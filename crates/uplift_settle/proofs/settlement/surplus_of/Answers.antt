@@ -1,8 +1,8 @@
-use Rattle.std.proofs.Common.{rules, ◌≡◌, ℕ, ℤ, pos, ◌+ℤ◌, ◌*ℤ◌, sym, ap, ◌∙◌, w64, FitsSigned, arith}
+use Rattle.std.proofs.Common.{rules, ◌≡◌, ℤ, pos, ◌*ℤ◌, sym, ap, ◌∙◌, w64, FitsSigned, arith}
 use Rattle.std.proofs.lemmas.Int.{ints, to_z-of_z}
 use Rattle.std.proofs.lemmas.Option.{get_or_from_slice_get}
 use Rattle.uc_model.specs.PlainCases.{market_of, schedules_of}
-use Rattle.uc_model.specs.Sums.{int_at, sum_below}
+use Rattle.uc_model.specs.Sums.{int_at}
 use Rattle.plan_check.proofs.CostSums.{sum_more}
 use Rattle.uplift_settle.specs.Earned.{surplus_at}
 use Rattle.uplift_settle.proofs.settlement.surplus_of.Goals as goal
@@ -17,7 +17,7 @@ loop-place-preserved c =
     let price = get_or_from_slice_get c.args.prices.now.reserve.items k c.get-price.result.now (pos 0) c.get-price.ensures.item in
     let paid = simp to_z-of_z at c.pay-sum.ensures.value in
     let value : c.pay-sum.result ≡ int_at c.args.prices.now.reserve.items k *ℤ surplus_at m ps k =
-        paid ∙ ap (λ (z : ℤ). z *ℤ c.reserve_over.result) (sym price) ∙ ap (λ (z : ℤ). int_at c.args.prices.now.reserve.items k *ℤ z) c.reserve_over.ensures.value in
+    paid ∙ ap (λ (z : ℤ). z *ℤ c.reserve_over.result) (sym price) ∙ ap (λ (z : ℤ). int_at c.args.prices.now.reserve.items k *ℤ z) c.reserve_over.ensures.value in
     let known = c.loop-place.invariant in
     let is = known.is in
     let low = known.limit.at_least in

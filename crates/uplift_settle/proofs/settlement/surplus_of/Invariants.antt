@@ -8,5 +8,5 @@ use Rattle.uplift_settle.proofs.settlement.surplus_of.Given as goal
 abbrev pub invariant-loop-place : goal.invariant-loop-place
 invariant-loop-place l = record {
   is : l.sum ≡ sum_below l.place (λ k. int_at l.prices.reserve.items k *ℤ surplus_at (market_of l.case) (schedules_of l.plan) k);
-  limit : IsFrom (neg_ℤ (pos (2000000000000000000000 * l.place))) (pos (2000000000000000000000 * l.place)) l.sum
+  limit : IsFrom (neg_ℤ (pos (2000000000000000000000 * l.place))) (pos (2000000000000000000000 * l.place)) l.sum;
 }
