@@ -1,10 +1,10 @@
 -- The schedules of the three kinds make up the plan.
-use Rattle.std.proofs.Common.{◌≡◌, ℕ, ◌+◌, List, [], ◌∷◌, ◌++◌, length, map, drop, Result, Ok, Err, IsTrue, refl, sym, ap, ◌∙◌, arith, length-append, subst}
+use Rattle.std.proofs.Common.{◌≡◌, ℕ, List, [], ◌∷◌, ◌++◌, length, map, Result, Ok, refl, sym, ap, ◌∙◌, arith, length-append, subst}
 use Rattle.std.specs.List.{All}
 use Rattle.std.proofs.Math.Seq.{drop-append_seam}
 use Rattle.std.proofs.lemmas.List.{append_assoc}
 use Rattle.std.proofs.lemmas.List.Elements.{All-append}
-use Rattle.uc_model.specs.Data.{Schedule, Market, NamedThermalUnit, NamedRenewableUnit, NamedBidUnit, unit_count}
+use Rattle.uc_model.specs.Data.{Schedule, Market, NamedThermalUnit, NamedRenewableUnit, NamedBidUnit}
 use Rattle.uc_model.specs.Laws.{HasPlanShape}
 use Rattle.uc_model.specs.PlainUnits.{named_thermal_of, named_renewable_of, named_bid_of}
 use Rattle.uc_model.specs.declared.kinds.Kind.TheVariants.{Thermal, Renewable, Bid}

@@ -1,9 +1,8 @@
 -- Look-ups by name, while a map or a set of names is filled from the last one on.
-use Rattle.std.proofs.Common.{◌≡◌, ℕ, suc, ◌+◌, ◌-◌, ◌<◌, ◌≤◌, Bool, true, false, not, cond, List, [], ◌∷◌, length, map, get_or, drop, Option, Some, None, bytes_eq, refl, sym, ap, ◌∙◌, if◌then◌else◌, drop-cons, add-one, arith, Bor}
+use Rattle.std.proofs.Common.{◌≡◌, ℕ, suc, ◌+◌, ◌-◌, ◌<◌, ◌≤◌, Bool, true, false, cond, List, [], length, map, get_or, drop, Option, Some, None, bytes_eq, refl, sym, ap, ◌∙◌, if◌then◌else◌, drop-cons, add-one, arith, Bor}
 use Rattle.std.specs.Option.{option_map}
 use Rattle.std.proofs.lemmas.List.{nil_from_length, length-drop}
 use Rattle.uc_text.specs.Values.{Value}
-use Rattle.uc_text.specs.Parts.{Pair}
 use Rattle.uc_text.specs.View.{view, member_view, member_views}
 use Rattle.uc_text.specs.declared.tree.Tree.{Tree}
 use Rattle.uc_text.specs.declared.tree.Member.{Member}

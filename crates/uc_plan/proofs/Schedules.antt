@@ -1,5 +1,5 @@
 -- The schedules of units, read one after the other as a loop does.
-use Rattle.std.proofs.Common.{◌≡◌, ℕ, ◌+◌, ◌<◌, ◌≤◌, List, [], ◌∷◌, ◌++◌, length, map, get_or, drop, Result, Ok, Err, refl, sym, ap, subst, ◌∙◌, arith}
+use Rattle.std.proofs.Common.{◌≡◌, ℕ, ◌+◌, ◌<◌, ◌≤◌, List, [], ◌∷◌, ◌++◌, length, map, get_or, drop, Ok, refl, sym, subst, ◌∙◌}
 use Rattle.std.specs.List.{All}
 use Rattle.std.proofs.lemmas.List.{map_push, append-nil, append_assoc}
 use Rattle.uc_model.specs.Data.{Schedule}
@@ -10,7 +10,6 @@ use Rattle.uc_text.specs.Parts.{Pair}
 use Rattle.uc_case.specs.Given.{Fails}
 use Rattle.uc_case.specs.Words.{each, position}
 use Rattle.uc_case.specs.declared.stop.Stop.{Stop}
-use Rattle.uc_case.specs.declared.stop.Stop.TheVariants as stops
 use Rattle.uc_case.proofs.Loops.{goes_on, ends, is_done, counted}
 use Rattle.uc_case.proofs.Ordered.{all_push, all_none}
 use Rattle.uc_plan.specs.Added.{IsShaped}

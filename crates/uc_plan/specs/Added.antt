@@ -1,5 +1,5 @@
 -- What a reader that adds schedules to a list leaves there.
-use Rattle.std.specs.Prelude.{◌≡◌, ◌≢◌, ℕ, List, ◌++◌, length, Result, Ok, Err, IsTrue}
+use Rattle.std.specs.Prelude.{◌≡◌, ℕ, List, ◌++◌, length, Result, Ok, Err, IsTrue}
 use Rattle.std.specs.List.{All}
 use Rattle.uc_model.specs.Data.{Schedule}
 use Rattle.uc_model.specs.declared.kinds.Kind.{Kind}

@@ -3,7 +3,6 @@
 
 pub mod fault;
 pub mod laws;
-
 mod lookup;
 mod named;
 mod numbers;

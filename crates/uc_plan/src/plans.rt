@@ -105,8 +105,29 @@ pub fn plan_of_tree(alloc: Global, case: &Case, tree: &Tree) -> Result<Plan, Sha
     check_names(alloc, Kind::Bid, groups.bids, bids)?;
     let count = thermal.len() + flat.len() + bids.len();
     let mut responses = ResponseList::make(alloc, count as u32)?;
-    read_schedules(alloc, Kind::Thermal, groups.thermal, thermal, case.periods, &mut responses)?;
-    read_schedules(alloc, Kind::Renewable, groups.renewable, flat, case.periods, &mut responses)?;
-    read_schedules(alloc, Kind::Bid, groups.bids, bids, case.periods, &mut responses)?;
+    read_schedules(
+        alloc,
+        Kind::Thermal,
+        groups.thermal,
+        thermal,
+        case.periods,
+        &mut responses,
+    )?;
+    read_schedules(
+        alloc,
+        Kind::Renewable,
+        groups.renewable,
+        flat,
+        case.periods,
+        &mut responses,
+    )?;
+    read_schedules(
+        alloc,
+        Kind::Bid,
+        groups.bids,
+        bids,
+        case.periods,
+        &mut responses,
+    )?;
     Ok(Plan { responses })
 }

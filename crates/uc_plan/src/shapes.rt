@@ -7,8 +7,8 @@ ghost use Rattle.uc_case.specs.Inside.{value_of};
 ghost use Rattle.uc_plan.specs.Plans.{full_list, list_under, object_under, bids_in, groups};
 ghost use Rattle.uc_plan.specs.Views.{groups_of};
 
-use uc_case::fault::Kind;
 use crate::fault::{Seat, ShapeCode, ShapeStop};
+use uc_case::fault::Kind;
 use uc_case::inside::{as_list, as_object, find};
 use uc_text::{Member, Tree};
 
@@ -52,13 +52,7 @@ fn bid_members<'a>(members: &'a [Member], bids: usize) -> Option<&'a [Member]>
 {
     match find(members, "bids") {
         Some(tree) => as_object(tree),
-        None => {
-            if bids == 0 {
-                Some(&[])
-            } else {
-                None
-            }
-        }
+        None => { if bids == 0 { Some(&[]) } else { None } }
     }
 }
 

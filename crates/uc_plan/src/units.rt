@@ -17,12 +17,7 @@ use uc_model::units::Response;
 use uc_text::Tree;
 
 #[tactic(auto, unfolding(crate::specs::Plans::thermal_schedule))]
-fn read_thermal(
-    alloc: Global,
-    at: Seat,
-    tree: &Tree,
-    periods: u32,
-) -> Result<Response, ShapeStop>
+fn read_thermal(alloc: Global, at: Seat, tree: &Tree, periods: u32) -> Result<Response, ShapeStop>
     requires { periods ≤ 168 }
     ensures lengths { IfOk result (λ r. HasLengths periods (schedule_of r)) }
     ensures value { Gives schedule_of result (thermal_schedule periods at (view tree.now)) }
@@ -46,12 +41,7 @@ fn read_thermal(
 }
 
 #[tactic(auto, unfolding(crate::specs::Plans::flat_schedule))]
-fn read_flat(
-    alloc: Global,
-    at: Seat,
-    tree: &Tree,
-    periods: u32,
-) -> Result<Response, ShapeStop>
+fn read_flat(alloc: Global, at: Seat, tree: &Tree, periods: u32) -> Result<Response, ShapeStop>
     requires { periods ≤ 168 }
     ensures lengths { IfOk result (λ r. HasLengths periods (schedule_of r)) }
     ensures flat { IfOk result (λ r. IsFlat (schedule_of r)) }

@@ -24,7 +24,8 @@ fn fault_of(alloc: Global, case: &Case, bytes: &[u8]) -> Option<PlanFault> {
     }
 }
 
-const SMALLEST: &[u8] = b"{\"time_periods\":1,\"demand\":[100],\"reserves\":[0],\"thermal_generators\":{},\"renewable_generators\":{\"W\":{\"power_output_minimum\":[0],\"power_output_maximum\":[100]}}}";
+const SMALLEST: &[u8] =
+    b"{\"time_periods\":1,\"demand\":[100],\"reserves\":[0],\"thermal_generators\":{},\"renewable_generators\":{\"W\":{\"power_output_minimum\":[0],\"power_output_maximum\":[100]}}}";
 
 #[test]
 fn schedules_of_the_smallest_case(rt: HostRuntime) -> Result<(), Fail> {
@@ -33,14 +34,27 @@ fn schedules_of_the_smallest_case(rt: HostRuntime) -> Result<(), Fail> {
         (b"[]", fault(ShapeCode::PlanShape, Kind::Case, 0, 0)),
         (b"{}", fault(ShapeCode::PlanShape, Kind::Case, 0, 0)),
         (b"null", fault(ShapeCode::PlanShape, Kind::Case, 0, 0)),
-        (b"{\"thermal\":{},\"renewable\":{\"W\":[1e400]}}", fault(ShapeCode::PlanNumber, Kind::Renewable, 1, 1)),
-        (b"{\"thermal\":{},\"renewable\":{\"W\":[1E+400]}}", fault(ShapeCode::PlanNumber, Kind::Renewable, 1, 1)),
-        (b"{\"thermal\":{},\"renewable\":{\"W\":[1e-400]}}", fault(ShapeCode::PlanNumber, Kind::Renewable, 1, 1)),
+        (
+            b"{\"thermal\":{},\"renewable\":{\"W\":[1e400]}}",
+            fault(ShapeCode::PlanNumber, Kind::Renewable, 1, 1),
+        ),
+        (
+            b"{\"thermal\":{},\"renewable\":{\"W\":[1E+400]}}",
+            fault(ShapeCode::PlanNumber, Kind::Renewable, 1, 1),
+        ),
+        (
+            b"{\"thermal\":{},\"renewable\":{\"W\":[1e-400]}}",
+            fault(ShapeCode::PlanNumber, Kind::Renewable, 1, 1),
+        ),
     ];
     for (bytes, want) in rows {
         assert_eq!(rt; fault_of(rt.alloc(), &case, bytes), Some(want), "{bytes:?}");
     }
-    let plan = read_plan(rt.alloc(), &case, b"{\"thermal\":{},\"renewable\":{\"W\":[100000]}}")?;
+    let plan = read_plan(
+        rt.alloc(),
+        &case,
+        b"{\"thermal\":{},\"renewable\":{\"W\":[100000]}}",
+    )?;
     assert_eq!(rt; plan.responses.len(), 1);
     let response = plan.responses.get(0);
     assert_eq!(rt; response.on.as_slice(), [true].as_slice());
@@ -49,11 +63,14 @@ fn schedules_of_the_smallest_case(rt: HostRuntime) -> Result<(), Fail> {
     Ok(())
 }
 
-const TWO_UNITS: &[u8] = b"{\"time_periods\":1,\"demand\":[0.15],\"reserves\":[0],\"thermal_generators\":{\"A\":{\"must_run\":0,\"power_output_minimum\":0,\"power_output_maximum\":0.1,\"ramp_up_limit\":1,\"ramp_down_limit\":1,\"ramp_startup_limit\":1,\"ramp_shutdown_limit\":1,\"time_up_minimum\":1,\"time_down_minimum\":1,\"power_output_t0\":0,\"unit_on_t0\":0,\"time_up_t0\":0,\"time_down_t0\":1,\"startup\":[],\"piecewise_production\":[{\"mw\":0,\"cost\":0},{\"mw\":0.1,\"cost\":0.001}]},\"B\":{\"must_run\":0,\"power_output_minimum\":0.1,\"power_output_maximum\":0.1,\"ramp_up_limit\":1,\"ramp_down_limit\":1,\"ramp_startup_limit\":1,\"ramp_shutdown_limit\":1,\"time_up_minimum\":1,\"time_down_minimum\":1,\"power_output_t0\":0,\"unit_on_t0\":0,\"time_up_t0\":0,\"time_down_t0\":1,\"startup\":[],\"piecewise_production\":[{\"mw\":0.1,\"cost\":0.003}]}},\"renewable_generators\":{},\"demand_bids\":{\"X\":{\"blocks\":[[{\"mw\":0.05,\"price\":0.04}]]}}}";
+const TWO_UNITS: &[u8] =
+    b"{\"time_periods\":1,\"demand\":[0.15],\"reserves\":[0],\"thermal_generators\":{\"A\":{\"must_run\":0,\"power_output_minimum\":0,\"power_output_maximum\":0.1,\"ramp_up_limit\":1,\"ramp_down_limit\":1,\"ramp_startup_limit\":1,\"ramp_shutdown_limit\":1,\"time_up_minimum\":1,\"time_down_minimum\":1,\"power_output_t0\":0,\"unit_on_t0\":0,\"time_up_t0\":0,\"time_down_t0\":1,\"startup\":[],\"piecewise_production\":[{\"mw\":0,\"cost\":0},{\"mw\":0.1,\"cost\":0.001}]},\"B\":{\"must_run\":0,\"power_output_minimum\":0.1,\"power_output_maximum\":0.1,\"ramp_up_limit\":1,\"ramp_down_limit\":1,\"ramp_startup_limit\":1,\"ramp_shutdown_limit\":1,\"time_up_minimum\":1,\"time_down_minimum\":1,\"power_output_t0\":0,\"unit_on_t0\":0,\"time_up_t0\":0,\"time_down_t0\":1,\"startup\":[],\"piecewise_production\":[{\"mw\":0.1,\"cost\":0.003}]}},\"renewable_generators\":{},\"demand_bids\":{\"X\":{\"blocks\":[[{\"mw\":0.05,\"price\":0.04}]]}}}";
 
 /// A schedule of two units, with A's member and the rest of the file.
 fn schedule(alloc: Global, a: &str, others: &str) -> Result<String, Fail> {
-    Ok(format!(in alloc; "{{\"thermal\":{{\"B\":{{\"on\":[1],\"power\":[100],\"reserve\":[0]}}{a}}},\"renewable\":{{}}{others}}}")?)
+    Ok(format!(in alloc;
+        "{{\"thermal\":{{\"B\":{{\"on\":[1],\"power\":[100],\"reserve\":[0]}}{a}}},\"renewable\":{{}}{others}}}"
+    )?)
 }
 
 #[test]
@@ -63,20 +80,60 @@ fn schedules_of_two_units_and_a_bid(rt: HostRuntime) -> Result<(), Fail> {
     let bid = ",\"bids\":{\"X\":[50]}";
     let rows = [
         (a, "", fault(ShapeCode::PlanShape, Kind::Case, 0, 0)),
-        (a, ",\"bids\":[]", fault(ShapeCode::PlanShape, Kind::Case, 0, 0)),
+        (
+            a,
+            ",\"bids\":[]",
+            fault(ShapeCode::PlanShape, Kind::Case, 0, 0),
+        ),
         ("", bid, fault(ShapeCode::MissingUnit, Kind::Thermal, 1, 0)),
-        (",\"C\":{}", bid, fault(ShapeCode::UnknownUnit, Kind::Thermal, 2, 0)),
-        (",\"X\":{}", bid, fault(ShapeCode::UnknownUnit, Kind::Thermal, 2, 0)),
-        (a, ",\"bids\":{\"A\":[50]}", fault(ShapeCode::UnknownUnit, Kind::Bid, 1, 0)),
-        (",\"A\":{\"on\":[1,1],\"power\":[50],\"reserve\":[0]}", bid, fault(ShapeCode::PlanShape, Kind::Thermal, 1, 0)),
-        (",\"A\":{\"on\":[2],\"power\":[50],\"reserve\":[0]}", bid, fault(ShapeCode::PlanNumber, Kind::Thermal, 1, 1)),
-        (",\"A\":{\"on\":[1],\"power\":[0.5],\"reserve\":[0]}", bid, fault(ShapeCode::PlanNumber, Kind::Thermal, 1, 1)),
-        (",\"A\":{\"on\":[1],\"power\":[50],\"reserve\":[-1]}", bid, fault(ShapeCode::PlanNumber, Kind::Thermal, 1, 1)),
-        (a, ",\"bids\":{\"X\":[1000000001]}", fault(ShapeCode::PlanNumber, Kind::Bid, 1, 1)),
+        (
+            ",\"C\":{}",
+            bid,
+            fault(ShapeCode::UnknownUnit, Kind::Thermal, 2, 0),
+        ),
+        (
+            ",\"X\":{}",
+            bid,
+            fault(ShapeCode::UnknownUnit, Kind::Thermal, 2, 0),
+        ),
+        (
+            a,
+            ",\"bids\":{\"A\":[50]}",
+            fault(ShapeCode::UnknownUnit, Kind::Bid, 1, 0),
+        ),
+        (
+            ",\"A\":{\"on\":[1,1],\"power\":[50],\"reserve\":[0]}",
+            bid,
+            fault(ShapeCode::PlanShape, Kind::Thermal, 1, 0),
+        ),
+        (
+            ",\"A\":{\"on\":[2],\"power\":[50],\"reserve\":[0]}",
+            bid,
+            fault(ShapeCode::PlanNumber, Kind::Thermal, 1, 1),
+        ),
+        (
+            ",\"A\":{\"on\":[1],\"power\":[0.5],\"reserve\":[0]}",
+            bid,
+            fault(ShapeCode::PlanNumber, Kind::Thermal, 1, 1),
+        ),
+        (
+            ",\"A\":{\"on\":[1],\"power\":[50],\"reserve\":[-1]}",
+            bid,
+            fault(ShapeCode::PlanNumber, Kind::Thermal, 1, 1),
+        ),
+        (
+            a,
+            ",\"bids\":{\"X\":[1000000001]}",
+            fault(ShapeCode::PlanNumber, Kind::Bid, 1, 1),
+        ),
     ];
     for (a, others, want) in rows {
         let text = schedule(rt.alloc(), a, others)?;
-        assert_eq!(rt; fault_of(rt.alloc(), &case, text.as_bytes()), Some(want), "{text}");
+        assert_eq!(rt;
+            fault_of(rt.alloc(), &case, text.as_bytes()),
+            Some(want),
+            "{text}"
+        );
     }
     let text = schedule(rt.alloc(), a, bid)?;
     assert!(rt; text.len() < 1000);
@@ -86,7 +143,11 @@ fn schedules_of_two_units_and_a_bid(rt: HostRuntime) -> Result<(), Fail> {
         assert!(rt; unit < plan.responses.len());
         let response = plan.responses.get(unit);
         assert_eq!(rt; response.on.as_slice(), [true].as_slice());
-        assert_eq!(rt; response.power.as_slice(), [power].as_slice(), "of unit {unit}");
+        assert_eq!(rt;
+            response.power.as_slice(),
+            [power].as_slice(),
+            "of unit {unit}"
+        );
         assert_eq!(rt; response.reserve.as_slice(), [0].as_slice());
     }
     Ok(())

@@ -1,7 +1,4 @@
-use Rattle.std.proofs.Common.{ℕ, List, Bor, sym, ◌∙◌, ap, bytes_eq, rules, arith}
-use Rattle.std.specs.Option.{option_map}
-use Rattle.std.proofs.lemmas.Grind.{common_steps}
-use Rattle.uc_text.specs.View.{view}
+use Rattle.std.proofs.Common.{ℕ, List, Bor, rules}
 use Rattle.uc_plan.proofs.Lookups.{none_yet, put_member}
 use Rattle.uc_plan.proofs.lookup.by_key.Goals as goal
 

@@ -13,8 +13,8 @@ pub loop-member-preserved : goal.loop-member-preserved
 loop-member-preserved c = record {
   count = ap (λ n. n + 1) c.loop-member.invariant.count;
   so_far = λ ns known.
-    let there : is_among (member_view c.member-item.result).name ns ≡ true = rw (← c.name_of.ensures) (sym (known c.name_of.result.now) ∙ sym c.if-not-contains.ensures) in
-    unknown_later ns c.args.known.now (c.loop-member.member-index + 1) c.loop-member.member-index _ c.member-item.result c.loop-member-test.true c.member-item.is there (c.loop-member.invariant.so_far ns known);
+      let there : is_among (member_view c.member-item.result).name ns ≡ true = rw (← c.name_of.ensures) (sym (known c.name_of.result.now) ∙ sym c.if-not-contains.ensures) in
+      unknown_later ns c.args.known.now (c.loop-member.member-index + 1) c.loop-member.member-index _ c.member-item.result c.loop-member-test.true c.member-item.is there (c.loop-member.invariant.so_far ns known);
 }
 
 pub returns : goal.returns

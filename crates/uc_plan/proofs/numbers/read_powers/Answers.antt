@@ -1,5 +1,4 @@
-use Rattle.std.proofs.Common.{sym, ◌∙◌, ap, arith}
-use Rattle.uc_text.specs.View.{view}
+use Rattle.std.proofs.Common.{sym, arith}
 use Rattle.uc_case.proofs.Loops.{counted}
 use Rattle.uc_plan.specs.Plans.{kilowatts_in}
 use Rattle.uc_plan.proofs.Loops.{number_goes_on, number_ends, numbers_done, numbers_begin}
