@@ -1,0 +1,6 @@
+//! The best response of a thermal unit to prices: a dynamic program over its spells of on periods.
+#![tactic(auto)]
+
+mod answer;
+
+pub use answer::best_response;
