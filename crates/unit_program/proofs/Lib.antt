@@ -1,8 +1,13 @@
-pub mod ListLaws
 pub mod BuildLaws
 pub mod CommitLaws
 pub mod CostLaws
+pub mod EndLaws
+pub mod EntryLaws
+pub mod ListLaws
+pub mod RowLaws
 pub mod RunLaws
 pub mod ShapeLaws
 pub mod SpellLaws
+pub mod StartCosts
 pub mod TableLaws
+pub mod UpdateLaws
