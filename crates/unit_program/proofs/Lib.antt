@@ -7,6 +7,7 @@ pub mod ListLaws
 pub mod RowLaws
 pub mod RunLaws
 pub mod ShapeLaws
+pub mod SpanLaws
 pub mod SpellLaws
 pub mod StartCosts
 pub mod TableLaws
