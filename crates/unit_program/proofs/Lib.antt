@@ -3,6 +3,7 @@ pub mod CommitLaws
 pub mod CostLaws
 pub mod EndLaws
 pub mod EntryLaws
+pub mod FillLaws
 pub mod ListLaws
 pub mod RowLaws
 pub mod RunLaws
