@@ -1,3 +1,5 @@
+pub mod BackLaws
+pub mod BestLaws
 pub mod BuildLaws
 pub mod CommitLaws
 pub mod CostLaws
