@@ -8,10 +8,28 @@ use Rattle.uc_model.specs.Data.{ThermalUnit, PriceLists}
 use Rattle.spell_run.specs.Spells.{IsSpellAnswer}
 use Rattle.unit_program.specs.declared.table.Ended.{Ended}
 use Rattle.unit_program.specs.Spells.{IsSpell, IsGap, StopsAtOnce, off_time}
-use Rattle.unit_program.specs.Tables.{HasAtMost, IsEntry, IsLeastEntry, IsTable, IsUpdate}
+use Rattle.unit_program.specs.Tables.{HasAtMost, IsEntryAfter, IsEntry, IsLeastEntry, IsTable, IsUpdate}
 use Rattle.unit_program.specs.Rows.{row_at, cost_at, first_at, before_at, AreWithin, IsWithinTimes, IsFilled, IsAdded}
 use Rattle.unit_program.proofs.RowLaws.{cost_from, cost-is, first-is, before-is}
 use Rattle.unit_program.proofs.TableLaws.{table_none, table_skip, table_more, at_once_some, at_once_none}
+
+module _ (g : ThermalUnit) where
+  -- a start in period 1 is of a unit that is off before it
+  pub starts_off : (ends : ℕ → Option ℤ) (last : ℕ) (e : ℤ) → 1 ≤ g.min_down → IsEntryAfter g ends 1 last e → IsFalse g.on0
+  starts_off ends last e some entry = elim entry [
+    | inl h ↦ let none = h.0 in absurd (omega (arith, none))
+    | inr st ↦
+        let first = st.first in
+        let order = st.gap.off.order in
+        let z : last ≡ 0 = omega (arith, order, first) in
+        let k : st.before ≡ 0 = omega (arith, first) in
+        let down = st.gap.min_down in
+        let time : off_time g last st.before ≡ off_time g 0 0 = ap (λ (l : ℕ). off_time g l st.before) z ∙ ap (off_time g 0) k in
+        elim (g.on0) as (λ b. g.on0 ≡ b → IsFalse b) [
+          | false ↦ λ off. refl
+          | true ↦ λ on. (let none : off_time g 0 0 ≡ 0 = ap (λ (b : Bool). cond b 0 (g.down0 + 0)) on in absurd (omega (arith, none, time, down, some)))
+        ] refl
+  ]
 
 module _ (g : ThermalUnit) (π : PriceLists) where
   -- ---- one more first period
@@ -29,23 +47,6 @@ module _ (g : ThermalUnit) (π : PriceLists) where
           (λ l spell. (let order = spell.order in added.right l (omega (arith, one, order)) spell)) added.update;
       within = added.within;
     }
-
-  -- a start in period 1 is of a unit that is off before it
-  pub starts_off : (ends : ℕ → Option ℤ) (last : ℕ) (e : ℤ) → 1 ≤ g.min_down → IsLeastEntry g ends 1 last e → IsFalse g.on0
-  starts_off ends last e some least = elim (least.entry) [
-    | inl h ↦ let none = h.0 in absurd (omega (arith, none))
-    | inr st ↦
-        let first = st.first in
-        let order = st.gap.off.order in
-        let z : last ≡ 0 = omega (arith, order, first) in
-        let k : st.before ≡ 0 = omega (arith, first) in
-        let down = st.gap.min_down in
-        let time : off_time g last st.before ≡ off_time g 0 0 = ap (λ (l : ℕ). off_time g l st.before) z ∙ ap (off_time g 0) k in
-        elim (g.on0) as (λ b. g.on0 ≡ b → IsFalse b) [
-          | false ↦ λ off. refl
-          | true ↦ λ on. (let none : off_time g 0 0 ≡ 0 = ap (λ (b : Bool). cond b 0 (g.down0 + 0)) on in absurd (omega (arith, none, time, down, some)))
-        ] refl
-  ]
 
   -- ---- what ends before period 1
 
