@@ -1,9 +1,9 @@
 -- What the way back has written from the least end is a best schedule.
-use Rattle.std.proofs.Common.{◌≡◌, ℕ, suc, ◌<◌, Option, Some, ℤ, pos, neg_ℤ, ◌≤ℤ◌, List, length, sym, subst, ◌∙◌, arith}
-use Rattle.std.specs.Prelude.{slice_index}
+use Rattle.std.proofs.Common.{◌≡◌, ℕ, zero, suc, ◌<◌, ◌≤◌, false, refl, ap, Option, Some, ℤ, pos, neg_ℤ, ◌≤ℤ◌, List, length, sym, subst, ◌∙◌, arith}
+use Rattle.std.specs.Prelude.{slice_index, slice_index_or, IsFalse}
 use Rattle.std.proofs.lemmas.Int.{ints}
 use Rattle.uc_model.specs.Data.{ThermalUnit, Thermal, PriceLists, Schedule}
-use Rattle.uc_model.specs.Schedules.{IsSchedule}
+use Rattle.uc_model.specs.Schedules.{IsSchedule, on_in, power_in, reserve_in}
 use Rattle.uc_model.specs.Earnings.{earnings, IsBest}
 use Rattle.uc_model.specs.Schedules.{IsThermalFeasible}
 use Rattle.unit_program.specs.Spells.{IsOffRun}
@@ -15,6 +15,21 @@ use Rattle.unit_program.specs.Backs.{IsSameIn, IsZeroOff}
 
 zero_of : (n : ℕ) → pos n ≡ pos 0 → n ≡ 0
 zero_of n h = omega (arith, ints, h)
+
+-- a schedule with every period off
+module _ (g : ThermalUnit) (a : Schedule) (off : (k : ℕ) → slice_index_or a.on k false ≡ false) (power : (k : ℕ) → slice_index a.power k ≡ 0) (reserve : (k : ℕ) → slice_index a.reserve k ≡ 0) where
+  pub cleared_idle : (l : ℕ) → IsIdle g a 0 l
+  cleared_idle l = record {
+    off = λ t. elim t as (λ t. 0 < t → t ≤ l → IsFalse (on_in g a t)) [ zero ↦ λ above until. absurd (omega (arith, above)) | suc k ↦ λ above until. off k ];
+    power = λ t. elim t as (λ t. 0 < t → t ≤ l → power_in a t ≡ pos 0) [ zero ↦ λ above until. refl | suc k ↦ λ above until. ap pos (power k) ];
+    reserve = λ t. elim t as (λ t. 0 < t → t ≤ l → reserve_in a t ≡ pos 0) [ zero ↦ λ above until. refl | suc k ↦ λ above until. ap pos (reserve k) ];
+  }
+
+  pub cleared_zero : IsZeroOff g a
+  cleared_zero = λ t. elim t as (λ t. 1 ≤ t → IsFalse (on_in g a t) → (power_in a t ≡ pos 0) × (reserve_in a t ≡ pos 0)) [
+    | zero ↦ λ one here. (refl, refl)
+    | suc k ↦ λ one here. (ap pos (power k), ap pos (reserve k))
+  ]
 
 module _ (g : ThermalUnit) (π : PriceLists) (periods : ℕ) (horizon : periods ≡ length π.energy) (ends : ℕ → Option ℤ) (firsts lasts : ℕ → ℕ)
     (ramp_up : pos 0 ≤ℤ g.ramp_up) (ramp_down : pos 0 ≤ℤ g.ramp_down)
