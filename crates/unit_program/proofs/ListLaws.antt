@@ -68,13 +68,13 @@ module _ (g : ThermalUnit) (s : Schedule) (dispatch : KeepsDispatch g s) (steps 
               let start : IsTrue (on_in g s (suc k)) = subst (λ (t : ℕ). IsTrue (on_in g s t)) is (since.1.run.on f (omega arith) order) in
               let gap = gap_of entered.0 k off (omega (arith, order, low, is)) start in
               let rest = spells_to n entered.0 (omega (arith, back, order, is, near)) (omega (arith, back, order, is, low)) off.on
-                  (λ last_on inside. elim (cases_lt entered.0 k) [
-                    | inl less ↦ off.off (suc entered.0) (omega arith) (omega (arith, less))
-                    | inr same ↦
-                        let z : k ≡ entered.0 = omega (arith, same, back) in
-                        let last_off : IsFalse (on_in g s entered.0) = subst (λ (t : ℕ). IsFalse (on_in g s t)) z off.here in
-                        cc
-                  ]) in
+              (λ last_on inside. elim (cases_lt entered.0 k) [
+                | inl less ↦ off.off (suc entered.0) (omega arith) (omega (arith, less))
+                | inr same ↦
+                    let z : k ≡ entered.0 = omega (arith, same, back) in
+                    let last_off : IsFalse (on_in g s entered.0) = subst (λ (t : ℕ). IsFalse (on_in g s t)) z off.here in
+                    cc
+              ]) in
               (record { first = f; last = l } ∷ rest.0, (refl, spell, inr (k, is, (entered.0, gap, off.off, rest.1))))
         ] refl
   ]
@@ -93,13 +93,15 @@ module _ (g : ThermalUnit) (s : Schedule) (dispatch : KeepsDispatch g s) (steps 
             (r.0, record { last = l; spells = r.1; rest = off_run_of l end off.1 (omega arith); off = off.1.off })
         | inl since ↦
             let order = since.1.run.order in
-            let r = spells_to (suc end) end (omega arith) (omega arith) (λ one. since.1.run.on end order (omega arith)) (λ last_on inside. absurd (omega (arith, inside))) in
-            (r.0, record {
-              last = end;
-              spells = r.1;
-              rest = record { order = omega arith; must_run = λ _. omega arith; marks = λ t above until mark. absurd (omega (arith, above, until)) };
-              off = λ t above until. absurd (omega (arith, above, until));
-            })
+            let r = spells_to (suc end) end (omega arith) (omega arith) (λ one. since.1.run.on end order (omega arith)) (λ last_on inside. absurd (omega (arith, inside))) in (
+              r.0,
+              record {
+                last = end;
+                spells = r.1;
+                rest = record { order = omega arith; must_run = λ _. omega arith; marks = λ t above until mark. absurd (omega (arith, above, until)) };
+                off = λ t above until. absurd (omega (arith, above, until));
+              },
+            )
       ]
 
 pub schedules_are_spells : SchedulesAreSpells

@@ -43,15 +43,7 @@ fn add_beginning<S: Shape>(
     if until < first.max(1) {
         return Ok(());
     }
-    spell_costs::<S>(
-        home,
-        unit,
-        curve,
-        prices,
-        first.max(1),
-        first > 0,
-        costs,
-    )?;
+    spell_costs::<S>(home, unit, curve, prices, first.max(1), first > 0, costs)?;
     let periods = prices.energy.len() as u32;
     add_spells(
         unit,
@@ -89,9 +81,7 @@ fn add_first<S: Shape>(
     ensures sure { S.Home.counts ≡ true → S.Home.sure home.new ≡ S.Home.sure home.old }
 {
     match least_entry(unit, table.as_slice(), first - 1) {
-        Some(entry) => add_beginning::<S>(
-            home, unit, curve, prices, first, &entry, costs, table,
-        ),
+        Some(entry) => add_beginning::<S>(home, unit, curve, prices, first, &entry, costs, table),
         None => Ok(()),
     }
 }
@@ -173,15 +163,7 @@ pub fn fill<S: Shape>(
 {
     begin::<S>(home, unit, curve, prices, costs, table)?;
     for place in 0..prices.energy.len() {
-        add_first::<S>(
-            home,
-            unit,
-            curve,
-            prices,
-            place as u32 + 1,
-            costs,
-            table,
-        )?;
+        add_first::<S>(home, unit, curve, prices, place as u32 + 1, costs, table)?;
     }
     Ok(())
 }
