@@ -1,15 +1,15 @@
 -- Every feasible schedule is a list of spells: from the last period back, by the run or the time off that a period is in.
-use Rattle.std.proofs.Common.{◌≡◌, ℕ, zero, suc, ◌<◌, ◌≤◌, true, false, inl, inr, List, [], ◌∷◌, length, refl, sym, ap, ◌∙◌, subst, arith}
+use Rattle.std.proofs.Common.{◌≡◌, ℕ, zero, suc, ◌<◌, ◌≤◌, inl, inr, List, [], ◌∷◌, length, refl, subst, arith}
 use Rattle.std.specs.Prelude.{IsTrue, IsFalse}
 use Rattle.std.proofs.lemmas.Bool.{cases_lt}
 use Rattle.uc_model.specs.Data.{ThermalUnit, PriceLists, Schedule}
-use Rattle.uc_model.specs.Schedules.{on_in, IsThermalFeasible, KeepsDispatch}
-use Rattle.unit_program.specs.Steps.{IsStep, time_up}
-use Rattle.unit_program.specs.Spells.{on_time, IsOffRun, IsGap}
-use Rattle.unit_program.specs.Lists.{Run, HasSpell, IsOffFrom, AreSpells, IsListOfSpells, SchedulesAreSpells}
+use Rattle.uc_model.specs.Schedules.{on_in, KeepsDispatch}
+use Rattle.unit_program.specs.Steps.{IsStep}
+use Rattle.unit_program.specs.Spells.{IsOffRun, IsGap}
+use Rattle.unit_program.specs.Lists.{Run, HasSpell, AreSpells, IsListOfSpells, SchedulesAreSpells}
 use Rattle.unit_program.proofs.CommitLaws.{steps_from_rules}
-use Rattle.unit_program.proofs.SpellLaws.{IsRun, dispatch_of_run, not_must_off, not_must_on, runs_must}
-use Rattle.unit_program.proofs.ShapeLaws.{IsOffAfter, IsOnSince, Shape, shape_of}
+use Rattle.unit_program.proofs.SpellLaws.{dispatch_of_run, not_must_off, not_must_on, runs_must}
+use Rattle.unit_program.proofs.ShapeLaws.{IsOffAfter, IsOnSince, shape_of}
 
 -- no price is looked at
 abbrev free : PriceLists

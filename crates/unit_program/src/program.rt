@@ -6,7 +6,7 @@ ghost use Rattle.uc_model.specs.PlainUnits.{thermal_of, prices_of};
 ghost use Rattle.unit_program.specs.Rows.{row_at, IsWithinTimes, AreWithin, IsAdded, IsFilled};
 ghost use Rattle.unit_program.specs.Spells.{StopsAtOnce};
 
-use crate::commitment::{open_until, stops_at_once};
+use crate::commitment::{may_end, open_until, stops_at_once};
 use crate::table::{Ended, Entry, Table, add_spells, least_entry};
 use shape_law::Shape;
 use spell_run::{SpellCosts, spell_costs};
@@ -39,12 +39,16 @@ fn add_beginning<S: Shape>(
     ensures frame { Frame S.Home.cell_list S.is_in S.numbers [] [] home.old home.new }
     ensures sure { S.Home.counts ≡ true → S.Home.sure home.new ≡ S.Home.sure home.old }
 {
+    let periods = prices.energy.len() as u32;
     let until = open_until(unit, first);
     if until < first.max(1) {
         return Ok(());
     }
+    // The longest spell is the first to last long enough.
+    if !may_end(unit, periods, first, until) {
+        return Ok(());
+    }
     spell_costs::<S>(home, unit, curve, prices, first.max(1), first > 0, costs)?;
-    let periods = prices.energy.len() as u32;
     add_spells(
         unit,
         periods,
@@ -162,8 +166,9 @@ pub fn fill<S: Shape>(
     ensures sure { S.Home.counts ≡ true → S.Home.sure home.new ≡ S.Home.sure home.old }
 {
     begin::<S>(home, unit, curve, prices, costs, table)?;
-    for place in 0..prices.energy.len() {
-        add_first::<S>(home, unit, curve, prices, place as u32 + 1, costs, table)?;
+    let periods = prices.energy.len() as u32;
+    for first in 1..periods + 1 {
+        add_first::<S>(home, unit, curve, prices, first, costs, table)?;
     }
     Ok(())
 }

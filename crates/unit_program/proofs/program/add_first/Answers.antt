@@ -1,8 +1,6 @@
-use Rattle.std.proofs.Common.{◌≡◌, ℕ, suc, ◌-◌, arith, subst}
+use Rattle.std.proofs.Common.{◌≡◌, suc, ◌-◌, arith}
 use Rattle.std.proofs.lemmas.Result.{on_ok_weaker}
 use Rattle.uc_model.specs.PlainUnits.{thermal_of, prices_of}
-use Rattle.unit_program.specs.Tables.{IsEntry, IsLeastEntry}
-use Rattle.unit_program.specs.Rows.{cost_at}
 use Rattle.unit_program.proofs.FillLaws.{filled_skip, filled_more}
 use Rattle.unit_program.proofs.program.add_first.Goals as goal
 

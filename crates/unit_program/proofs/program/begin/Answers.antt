@@ -1,4 +1,4 @@
-use Rattle.std.proofs.Common.{pos, arith}
+use Rattle.std.proofs.Common.{arith}
 use Rattle.std.proofs.lemmas.Result.{on_ok_weaker}
 use Rattle.uc_model.specs.PlainUnits.{thermal_of, prices_of}
 use Rattle.unit_program.proofs.FillLaws.{begun, filled_off, filled_on, within_first}
