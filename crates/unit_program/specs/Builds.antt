@@ -1,4 +1,5 @@
--- A schedule that is right up to a last on period: what the way back has at hand after each spell that it writes.
+-- A schedule that keeps the rules of pglib-uc up to a last on period: what the way back has at hand after each spell
+-- that it writes.
 use Rattle.std.specs.Prelude.{◌≡◌, ℕ, suc, ◌<◌, ◌≤◌, ℤ, pos, ◌+ℤ◌, ◌-ℤ◌, ◌≤ℤ◌, IsTrue, IsFalse, true, false}
 use Rattle.std.specs.Int.{int_min}
 use Rattle.uc_model.specs.Data.{ThermalUnit, PriceLists, Schedule}

@@ -14,7 +14,7 @@ use std::alloc::AllocError;
 use uc_model::units::{Curve, Prices, Unit};
 
 // Adds the spells that begin with period `first` after an entry, with one pass over the prices if one may begin there.
-fn add_beginning<S: Shape>(
+fn add_spells_from<S: Shape>(
     home: &mut S::Home,
     unit: &Unit,
     curve: &Curve,
@@ -85,7 +85,7 @@ fn add_first<S: Shape>(
     ensures sure { S.Home.counts ≡ true → S.Home.sure home.new ≡ S.Home.sure home.old }
 {
     match least_entry(unit, table.as_slice(), first - 1) {
-        Some(entry) => add_beginning::<S>(home, unit, curve, prices, first, &entry, costs, table),
+        Some(entry) => add_spells_from::<S>(home, unit, curve, prices, first, &entry, costs, table),
         None => Ok(()),
     }
 }
@@ -141,7 +141,7 @@ fn begin<S: Shape>(
         return Ok(());
     }
     let entry = Entry { cost: 0, last: 0 };
-    add_beginning::<S>(home, unit, curve, prices, 0, &entry, costs, table)
+    add_spells_from::<S>(home, unit, curve, prices, 0, &entry, costs, table)
 }
 
 /// Fills the table for a unit at prices over its horizon of T periods. `curve` is the curve of the unit's points; `costs`

@@ -72,7 +72,7 @@ const BARRED: SmallUnit = SmallUnit {
     ..OFF
 };
 
-// What a unit with no window answers.
+// A best response of a small unit.
 fn answer_of<S: Shape>(
     alloc: Global,
     home: &mut S::Home,
@@ -98,8 +98,15 @@ fn earned_in(answer: &Option<Answered>) -> Option<i64> {
     }
 }
 
-fn assert_powers(rt: &impl Abort, answer: &Option<Answered>, power: &[u32], reserve: &[u32]) {
+fn assert_response(
+    rt: &impl Abort,
+    answer: &Option<Answered>,
+    on: &[bool],
+    power: &[u32],
+    reserve: &[u32],
+) {
     if let Some(answered) = answer {
+        assert_eq!(rt; answered.response.on.as_slice(), on);
         assert_eq!(rt; answered.response.power.as_slice(), power);
         assert_eq!(rt; answered.response.reserve.as_slice(), reserve);
     }
@@ -111,10 +118,10 @@ fn worked_units<S: Shape>(rt: &impl Abort, alloc: Global, home: &mut S::Home) ->
     assert_eq!(rt; earned_in(&falling), Some(2000));
     let alone = answer_of::<S>(alloc, home, &OFF, &free, &[-1000, 100, -1000], &[0, 1, 0])?;
     assert_eq!(rt; earned_in(&alone), Some(4010));
-    assert_powers(rt, &alone, &[0, 40, 0], &[0, 10, 0]);
+    assert_response(rt, &alone, &[false, true, false], &[0, 40, 0], &[0, 10, 0]);
     let kinked = answer_of::<S>(alloc, home, &KINKED, &free[..2], &[1, 0], &[10, 10])?;
     assert_eq!(rt; earned_in(&kinked), Some(1240));
-    assert_powers(rt, &kinked, &[40, 0], &[20, 100]);
+    assert_response(rt, &kinked, &[true, true], &[40, 0], &[20, 100]);
     let barred = answer_of::<S>(alloc, home, &BARRED, &free[..1], &[30], &[0])?;
     assert_eq!(rt; earned_in(&barred), None);
     let kept_off = answer_of::<S>(alloc, home, &KINKED, &[Mark::MustOff], &[30], &[0])?;
