@@ -44,7 +44,7 @@ fn add_spells_from<S: Shape>(
     if until < first.max(1) {
         return Ok(());
     }
-    // The longest spell is the first to last long enough.
+    // Where the longest spell is too short to stop, each is.
     if !may_end(unit, periods, first, until) {
         return Ok(());
     }
