@@ -8,9 +8,96 @@ ghost use Rattle.spell_run.specs.Spells.{spell_first, IsBestDispatch, HasNoDispa
 ghost use Rattle.uc_model.specs.PlainUnits.{thermal_of, prices_of, schedule_of};
 
 use crate::spell::Spell;
+use crate::step::{Step, add_kink, beginning, step_of, stepped};
 use shape_law::Shape;
 use std::alloc::AllocError;
 use uc_model::units::{Answered, Curve, Prices, Unit};
+
+/// The least cost of a spell, and a power from which the periods that are written make it, with what comes before.
+#[derive(Clone, Copy)]
+struct Found {
+    cost: i64,
+    power: i64,
+}
+
+/// The least cost and its power.
+fn end_of<S: Shape>(home: &S::Home, shape: &S) -> Option<Found> {
+    match shape.least(home) {
+        Some((cost, power)) => Some(Found { cost, power }),
+        None => None,
+    }
+}
+
+/// The best reserve at a power after another.
+fn reserve_of(step: Step, before: i64, power: i64) -> i64 {
+    if step.reserve_price == 0 {
+        return 0;
+    }
+    (step.cap - power).min(step.ramp_up + before - power)
+}
+
+/// Writes a period, whose place counts from 0.
+fn write(into: &mut Answered, place: usize, power: i64, reserve: i64) {
+    into.response.on.set(place, true);
+    into.response.power.set(place, power as u32);
+    into.response.reserve.set(place, reserve as u32);
+}
+
+/// Chooses the power before a period whose own power is found, and writes the period.
+fn choose<S: Shape>(
+    home: &mut S::Home,
+    before: &mut S,
+    step: Step,
+    place: usize,
+    found: Found,
+    into: &mut Answered,
+) -> Result<Option<Found>, AllocError> {
+    add_kink(home, before, step)?;
+    let least = found.power - step.ramp_up;
+    let most = found.power + step.ramp_down;
+    match before.least_in(home, least, most) {
+        Some((_, power)) => {
+            write(into, place, found.power, reserve_of(step, power, found.power));
+            Ok(Some(Found {
+                cost: found.cost,
+                power,
+            }))
+        }
+        None => Ok(None),
+    }
+}
+
+/// The step of a spell over the period at a place.
+fn step_in(unit: &Unit, prices: &Prices, spell: &Spell, place: usize) -> Step {
+    let starts = spell.started && place + 1 == spell.first as usize;
+    let stops = spell.stops && place + 1 == spell.last as usize;
+    step_of(unit, prices, place, starts, stops)
+}
+
+/// Writes the periods from a place to the spell's last one, cheapest with what comes before them.
+fn way_from<S: Shape>(
+    home: &mut S::Home,
+    unit: &Unit,
+    curve: &Curve,
+    prices: &Prices,
+    spell: &Spell,
+    place: usize,
+    before: &mut S,
+    into: &mut Answered,
+) -> Result<Option<Found>, AllocError> {
+    let step = step_in(unit, prices, spell, place);
+    let mut after = stepped(home, before, step, curve)?;
+    let found = if place + 1 == spell.last as usize {
+        Ok(end_of(home, &after))
+    } else {
+        way_from(home, unit, curve, prices, spell, place + 1, &mut after, into)
+    };
+    after.give_back(home);
+    match found? {
+        Some(found) => choose(home, before, step, place, found, into),
+        None => Ok(None),
+    }
+}
 
 /// Answers the least net cost of a dispatch of the spell, and leaves such a dispatch in the spell's periods of `into`,
 /// on in each. None exactly where there is no dispatch; then `into` is unchanged. All other periods, and what is
@@ -41,5 +128,12 @@ pub fn spell_best<S: Shape>(
     ensures frame { Frame S.Home.cell_list S.is_in S.numbers [] [] home.old home.new }
     ensures sure { S.Home.counts ≡ true → S.Home.sure home.new ≡ S.Home.sure home.old }
 {
-    Err(AllocError)
+    let mut start: S = beginning(home, unit, spell.started)?;
+    let place = spell.first as usize - 1;
+    let found = way_from(home, unit, curve, prices, spell, place, &mut start, into);
+    start.give_back(home);
+    match found? {
+        Some(found) => Ok(Some(found.cost)),
+        None => Ok(None),
+    }
 }
