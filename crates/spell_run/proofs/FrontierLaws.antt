@@ -14,8 +14,9 @@ use Rattle.uc_model.specs.Limits.{IsFrom, IsOutput, IsThermalUnit, ArePrices}
 use Rattle.uc_model.specs.Schedules.{power_in, reserve_in}
 use Rattle.uc_model.specs.Sums.{int_at}
 use Rattle.uc_model.proofs.SignedLaws.{IsWithin}
+use Rattle.spell_run.specs.Entries.{IsSpellStart}
 use Rattle.spell_run.specs.Frontier.{IsReached, IsFrontier}
-use Rattle.spell_run.specs.Spells.{IsDispatch, HasNoDispatch, net_cost_at, net_cost, spell_cost, IsLeastSpell, IsSpellAnswer, IsSpellWithin}
+use Rattle.spell_run.specs.Spells.{spell_first, IsDispatch, HasNoDispatch, net_cost_at, net_cost, spell_cost, IsLeastSpell, IsSpellAnswer, IsSpellWithin}
 use Rattle.spell_run.specs.Steps.{cap_at, step_at, IsMove, level, IsRun, IsStepped, IsSmall, IsLeastCost, IsLeastCostIn}
 use Rattle.spell_run.proofs.RunLaws.{level_before, level_within, level_power, IsAlike, level_same, move_same, run_alike, run_more, run_less, cost_alike, cost_more, cost_none, cost_zero, with_period, written_power, written_reserve, written_alike, blank, blank_reserve, natural, reserve_not_negative, MayEnd, move_parts, move_whole, dispatch_from_run, run_from_dispatch, end_from_dispatch}
 use Rattle.spell_run.proofs.StepLaws.{IsUnder, under_cap, cap_over, under_most, most_over, IsFromMove, step_sound, step_complete, net_within}
@@ -85,6 +86,20 @@ frontier_start g π b f unit point =
 pub frontier_goes_on : (g : ThermalUnit) (π : PriceLists) (f : Table) → IsThermalUnit g → IsPoint g.power0 (pos 0) f → IsFrontier g π 0 0 f
 frontier_goes_on g π f unit point =
     begin_at g π 0 0 g.power0 f point unit.power0 (λ k from until. absurd (omega (arith, until))) (λ d. let e = level_within g 0 d 0 (omega arith) in omega (arith, ints, e)) (λ d. cost_zero g π d)
+
+begin_started : (g : ThermalUnit) (π : PriceLists) (first : ℕ) (f : Table) → IsThermalUnit g → 1 ≤ first → IsPoint g.min_power (pos 0) f → IsFrontier g π first (first - 1) f
+begin_started g π zero f unit one point = absurd (omega (arith, one))
+begin_started g π (suc b) f unit one point =
+    let z : b ≡ suc b - 1 = omega arith in
+    subst (λ (t : ℕ). IsFrontier g π (suc b) t f) z (frontier_start g π b f unit point)
+
+pub frontier_begin : (g : ThermalUnit) (π : PriceLists) (periods first : ℕ) (started : Bool) (f : Table) → IsThermalUnit g → IsSpellStart g periods first started →
+    IsPoint (cond started g.min_power g.power0) (pos 0) f → IsFrontier g π (spell_first started first) (first - 1) f
+frontier_begin g π periods first true f unit start point = begin_started g π first f unit start.from_one point
+frontier_begin g π periods first false f unit start point =
+    let one = (start.goes_on refl).0 in
+    let z : 0 ≡ first - 1 = omega (arith, one) in
+    subst (λ (t : ℕ). IsFrontier g π 0 t f) z (frontier_goes_on g π f unit point)
 
 -- ---- one more period
 

@@ -1,4 +1,5 @@
 pub mod BoundLaws
+pub mod FairLaws
 pub mod FrameLaws
 pub mod FrontierLaws
 pub mod ReserveLaws

@@ -86,7 +86,7 @@ fn way_from<S: Shape>(
     into: &mut Answered,
 ) -> Result<Option<Found>, AllocError> {
     let step = step_in(unit, prices, spell, place);
-    let mut after = stepped(home, before, step, curve)?;
+    let mut after: S = stepped(home, before, step, curve)?;
     let found = if place + 1 == spell.last as usize {
         Ok(end_of(home, &after))
     } else {

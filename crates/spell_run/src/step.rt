@@ -1,8 +1,10 @@
 //! One period of a spell, as a step on the function of least costs by the power at its end.
-ghost use Rattle.std.specs.Prelude.{◌≡◌, ◌+◌, ◌<◌, ◌≤◌, pos, true, if◌then◌else◌, length, [], OnOk, OnErr, IfOk, IsOk};
+ghost use Rattle.std.specs.Prelude.{◌≡◌, suc, ◌==◌, ◌+◌, ◌^◌, ◌<◌, ◌≤◌, pos, ◌+ℤ◌, true, if◌then◌else◌, length, [], OnOk, OnErr, IfOk, IsOk};
+ghost use Rattle.std.specs.Int.{int_min};
 ghost use Rattle.shape_law.specs.Cell.{Frame, Balance};
 ghost use Rattle.shape_law.specs.Effect.{IsPoint};
-ghost use Rattle.spell_run.specs.Steps.{step_at, IsFairStep, IsCostOf, IsKinked, IsStepped, IsSmall};
+ghost use Rattle.spell_run.specs.Spells.{spell_first};
+ghost use Rattle.spell_run.specs.Steps.{cap_at, step_at, IsFairStep, IsCostOf, IsKinked, IsStepped, IsSmall};
 ghost use Rattle.uc_model.specs.PlainUnits.{thermal_of, prices_of};
 
 use shape_law::Shape;
@@ -26,27 +28,49 @@ pub struct Step {
     pub slope: i64,
 }
 
+/// Whether a spell starts in the period at a place.
+pub(crate) fn starts_at(first: u32, started: bool, place: usize) -> bool
+    requires { suc place < 2 ^ 32 }
+    ensures { result ≡ (spell_first started first == suc place) }
+{
+    started && first as usize == place + 1
+}
+
+/// The greatest power with reserve in a period where the unit starts, or stops after it.
+fn cap_in(unit: &Unit, starts: bool, stops: bool) -> i64
+    ensures { result ≡ cap_at (thermal_of unit.now) starts stops }
+{
+    cap(unit, starts, stops) + unit.min_power
+}
+
+/// The greatest power under a cap: before a stop it is within a fall of the least power.
+fn most_in(unit: &Unit, cap: i64, stops: bool) -> i64
+    ensures { result ≡ (if stops then int_min cap (unit.now.min_power +ℤ unit.now.ramp_down) else cap) }
+{
+    if stops {
+        cap.min(unit.min_power + unit.ramp_down)
+    } else {
+        cap
+    }
+}
+
 /// The step over the period at a place of the horizon, where the unit starts in it, or stops after it.
 pub(crate) fn step_of(unit: &Unit, prices: &Prices, place: usize, starts: bool, stops: bool) -> Step
     requires { place < length (prices_of prices.now).energy }
     ensures step { result ≡ step_at (thermal_of unit.now) (prices_of prices.now) place starts stops }
     ensures fair { IsFairStep result }
 {
-    let cap = cap(unit, starts, stops) + unit.min_power;
-    let most = if stops {
-        cap.min(unit.min_power + unit.ramp_down)
-    } else {
-        cap
-    };
+    let cap = cap_in(unit, starts, stops);
+    let energy_price = *prices.energy.get(place);
     let reserve_price = *prices.reserve.get(place);
     Step {
         least: unit.min_power,
-        most,
+        most: most_in(unit, cap, stops),
         cap,
         ramp_up: unit.ramp_up,
         ramp_down: unit.ramp_down,
         reserve_price,
-        slope: reserve_price - *prices.energy.get(place),
+        slope: reserve_price - energy_price,
     }
 }
 
