@@ -42,11 +42,11 @@ module _ (s : Step) (fair : IsFairStep s) (x : ℤ) (out : IsOutput x) where
   kink_within =
       let price : IsWithin 10000000 s.reserve_price = (let a = fair.reserve_price.at_least in let b = fair.reserve_price.at_most in record { at_least = omega (arith, ints, a); at_most = b }) in
       let most : IsFrom (pos 0) (pos 10000000) (int_min s.cap (s.ramp_up +ℤ x)) = (
-        let a = fair.cap.at_least in
-        let b = fair.cap.at_most in
-        let u = fair.ramp_up.at_least in
-        let l = out.at_least in
-        record { at_least = omega (arith, ints, clamps, a, u, l); at_most = omega (arith, ints, clamps, b) }
+      let a = fair.cap.at_least in
+      let b = fair.cap.at_most in
+      let u = fair.ramp_up.at_least in
+      let l = out.at_least in
+      record { at_least = omega (arith, ints, clamps, a, u, l); at_most = omega (arith, ints, clamps, b) }
       ) in
       negated_within 100000000000000 (s.reserve_price *ℤ int_min s.cap (s.ramp_up +ℤ x)) (product_within 10000000 10000000 s.reserve_price (int_min s.cap (s.ramp_up +ℤ x)) price most)
 

@@ -1,5 +1,5 @@
 -- The numbers of a unit's step are within limits, and the curve of its points is a cost of the step.
-use Rattle.std.proofs.Common.{◌≡◌, ℕ, suc, ◌-◌, ◌<◌, ◌≤◌, ℤ, pos, neg_ℤ, ◌+ℤ◌, ◌-ℤ◌, ◌≤ℤ◌, Bool, true, false, cond, List, length, get_or, Option, Some, IsSome, refl, sym, ap, ◌∙◌, subst, arith, w64, FitsSigned, to_z, of_z}
+use Rattle.std.proofs.Common.{◌≡◌, ℕ, suc, ◌-◌, ◌<◌, ◌≤◌, ◌⊎◌, inl, inr, ℤ, pos, neg_ℤ, ◌+ℤ◌, ◌-ℤ◌, ◌≤ℤ◌, Bool, true, false, cond, List, length, get_or, Option, Some, IsSome, refl, sym, ap, ◌∙◌, subst, arith, w64, FitsSigned, to_z, of_z}
 use Rattle.std.specs.Prelude.{slice_get}
 use Rattle.std.specs.Int.{int_min}
 use Rattle.std.proofs.lemmas.Int.{ints, clamps, to_z-of_z}
@@ -19,7 +19,7 @@ use Rattle.uc_model.specs.Limits.{IsFrom, IsPower, IsOutput, IsCost, IsThermalUn
 use Rattle.uc_model.specs.Sums.{int_at}
 use Rattle.uc_model.proofs.SignedLaws.{fits_within}
 use Rattle.spell_run.specs.declared.step.Step.{Step}
-use Rattle.spell_run.specs.Steps.{cap_at, step_at, IsFairStep, IsCostOf, IsStepped, IsSmall}
+use Rattle.spell_run.specs.Steps.{cap_at, step_at, IsFairStep, IsCostOf, IsStepped, IsSmall, IsLeastCostIn}
 use Rattle.spell_run.proofs.StepLaws.{under_cap, under_most, cost_on}
 
 pub read_is : (xs : List ℤ) (k : ℕ) (v : ℤ) → slice_get xs k ≡ Some v → v ≡ int_at xs k
@@ -229,6 +229,21 @@ pub step_moved : (g : ThermalUnit) (π : PriceLists) (k : ℕ) (starts starts' s
 step_moved g π k starts starts' stops s c f h is same step =
     let e : IsStep s (step_at g π k starts' stops) = is ∙ ap (λ (b : Bool). step_at g π k b stops) same in
     subst (λ (s : Step). IsStepped s c f h) e step
+
+-- a step before a stop that differs in the range of the power alone
+module _ (g : ThermalUnit) (π : PriceLists) (k : ℕ) (starts starts' : Bool) (last : Step) (last_is : IsStep last (step_at g π k starts true)) (same : starts ≡ starts') where
+  pub alike_of : (on : Step) → IsStep on (step_at g π k starts false) → (on.reserve_price ≡ pos 0) ⊎ (last.cap ≡ on.cap) →
+      (int_at π.reserve k ≡ pos 0) ⊎ (cap_at g starts' true ≡ cap_at g starts' false)
+  alike_of on on_is (inl free) = inl (sym (ap (λ (s : Step). s.reserve_price) on_is) ∙ free)
+  alike_of on on_is (inr alike) =
+      inr (subst (λ (b : Bool). cap_at g b true ≡ cap_at g b false) same (sym (ap (λ (s : Step). s.cap) last_is) ∙ alike ∙ ap (λ (s : Step). s.cap) on_is))
+
+  pub range_of : IsFairStep last → (h : Table) (o : Option ℤ) → IsLeastCostIn (stored last.least) (stored last.most) h o → IsLeastCostIn g.min_power (step_at g π k starts' true).most h o
+  range_of fair h o least =
+      let low : stored last.least ≡ g.min_power = to_z-of_z w64 last.least (output_fits last.least fair.least) ∙ ap (λ (s : Step). s.least) last_is in
+      let high : stored last.most ≡ (step_at g π k starts' true).most =
+      to_z-of_z w64 last.most (output_fits last.most fair.most) ∙ ap (λ (s : Step). s.most) last_is ∙ ap (λ (b : Bool). (step_at g π k b true).most) same in
+      subst (λ (x : ℤ). IsLeastCostIn x (step_at g π k starts' true).most h o) low (subst (λ (y : ℤ). IsLeastCostIn (stored last.least) y h o) high least)
 
 -- ---- functions with the same values
 

@@ -1,5 +1,5 @@
 -- What calls on shapes leave of the others, one call after another.
-use Rattle.std.proofs.Common.{◌≡◌, ℕ, List, []}
+use Rattle.std.proofs.Common.{◌≡◌, ℕ, List, [], sym, subst}
 use Rattle.shape_law.specs.Cell.{Cell, IsUsed, IsAmong, AreSameAt, Owns, Frame}
 use Rattle.shape_law.specs.Laws.{StaysAs}
 use Rattle.shape_law.specs.Table.{Table}
@@ -26,3 +26,6 @@ module _ {H S : Type 0} (cell_list : H → List Cell) (is_in : H → S → Type 
     gains = λ n inside out u. out inside;
     stays = λ other here apart. f.stays other here (λ n mine theirs. mine);
   }
+
+  pub kept : (h h' : H) (s : S) → Frame cell_list is_in numbers [] [] h h' → is_in h s → Frame cell_list is_in numbers (numbers h s) (numbers h' s) h h'
+  kept h h' s f here = subst (λ (own : List ℕ). Frame cell_list is_in numbers (numbers h s) own h h') (sym (stays h h' s f here).numbers_same) (between (numbers h s) h h' f)

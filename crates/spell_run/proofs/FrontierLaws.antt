@@ -171,7 +171,7 @@ module _ (g : ThermalUnit) (π : PriceLists) (first k : ℕ) (c : Curve) (unit :
           power_length = b.power_length;
           reserve_length = b.reserve_length;
           keeps = run_more g first k b.run b.keeps
-          (move_same g starts false m.before x m.reserve (level g first b.run k) (power_in b.run (suc k)) (reserve_in b.run (suc k)) (sym b.before) (sym b.power) (sym b.reserve) m.move);
+              (move_same g starts false m.before x m.reserve (level g first b.run k) (power_in b.run (suc k)) (reserve_in b.run (suc k)) (sym b.before) (sym b.power) (sym b.reserve) m.move);
           ends = level_power g first b.run k from ∙ b.power;
           cost = b.cost ∙ sym m.cost;
           idle = λ j is free.
@@ -337,14 +337,15 @@ module _ (g : ThermalUnit) (π : PriceLists) (first k : ℕ) (c : Curve) (unit :
           (m.least, most_over g π k starts true (power_in d (suc k)) (omega (arith, ints, greatest, kept)) m.leave)
 
       pub answer_alike : (o : Option ℤ) → IsLeastCostIn g.min_power high h o → IsAnswer o
-      answer_alike None empty =
-          (λ d dispatch.
+      answer_alike None empty = (
+        λ d dispatch.
             let e = front_least d dispatch in
             let inside = alike_inside d dispatch in
             let none : value_of h (power_in d (suc k)) ≡ None = empty (power_in d (suc k)) inside.0 inside.1 in
             let some = e.1 in
             cc,
-          tt)
+        tt,
+      )
       answer_alike (Some v) least =
           let r = alike_reached least.0 v least.1.there least.1.inside.1 in (
             record {

@@ -1,4 +1,5 @@
 pub mod BoundLaws
+pub mod EntryLaws
 pub mod FairLaws
 pub mod FrameLaws
 pub mod FrontierLaws

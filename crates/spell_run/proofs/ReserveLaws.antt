@@ -35,11 +35,11 @@ pub best_may : (price cap up q p : ℤ) → p ≤ℤ cap → (p -ℤ q) ≤ℤ u
 best_may price cap up q p h i =
     by_lt_z (pos 0) price
     (λ paid.
-      subst (λ (r : ℤ). IsReserve cap up q p r) (sym (best_where_paid price cap up q p paid))
-      (record { least = omega (arith, ints, clamps); greatest = omega (arith, ints, clamps); ramp = omega (arith, ints, clamps) }))
+    subst (λ (r : ℤ). IsReserve cap up q p r) (sym (best_where_paid price cap up q p paid))
+    (record { least = omega (arith, ints, clamps); greatest = omega (arith, ints, clamps); ramp = omega (arith, ints, clamps) }))
     (λ unpaid.
-      subst (λ (r : ℤ). IsReserve cap up q p r) (sym (best_where_not_paid price cap up q p unpaid))
-      (record { least = omega (arith, ints); greatest = omega (arith, ints); ramp = omega (arith, ints) }))
+    subst (λ (r : ℤ). IsReserve cap up q p r) (sym (best_where_not_paid price cap up q p unpaid))
+    (record { least = omega (arith, ints); greatest = omega (arith, ints); ramp = omega (arith, ints) }))
 
 -- it earns what the most reserve earns
 pub best_earns : (price cap up q p : ℤ) → pos 0 ≤ℤ price → price *ℤ best_reserve price cap up q p ≡ price *ℤ most_reserve cap up q p
@@ -47,12 +47,12 @@ best_earns price cap up q p h =
     by_lt_z (pos 0) price
     (λ paid. ap (λ (r : ℤ). price *ℤ r) (best_where_paid price cap up q p paid))
     (λ unpaid.
-      let z : price ≡ pos 0 = omega (arith, ints, h, unpaid) in
-      let none = zero-*ℤ (best_reserve price cap up q p) in
-      let most = zero-*ℤ (most_reserve cap up q p) in
-      let a = ap (λ (x : ℤ). x *ℤ best_reserve price cap up q p) z in
-      let b = ap (λ (x : ℤ). x *ℤ most_reserve cap up q p) z in
-      a ∙ none ∙ sym (b ∙ most))
+    let z : price ≡ pos 0 = omega (arith, ints, h, unpaid) in
+    let none = zero-*ℤ (best_reserve price cap up q p) in
+    let most = zero-*ℤ (most_reserve cap up q p) in
+    let a = ap (λ (x : ℤ). x *ℤ best_reserve price cap up q p) z in
+    let b = ap (λ (x : ℤ). x *ℤ most_reserve cap up q p) z in
+    a ∙ none ∙ sym (b ∙ most))
 
 pub at_most_most : (cap up q p r : ℤ) → IsReserve cap up q p r → r ≤ℤ most_reserve cap up q p
 at_most_most cap up q p r h = let g = h.greatest in let i = h.ramp in omega (arith, ints, clamps, g, i)
@@ -68,10 +68,10 @@ product_tells : (price r s : ℤ) → pos 0 <ℤ price → r ≤ℤ s → price 
 product_tells price r s h low e =
     by_lt_z r s
     (λ less.
-      let one = mul-mono_of price (pos 1) (s -ℤ r) (omega (arith, ints, h)) (omega (arith, ints, less)) in
-      let t = mul-sub price s r in
-      let unit = *ℤ-one price in
-      absurd (omega (arith, ints, one, t, e, unit, h)))
+    let one = mul-mono_of price (pos 1) (s -ℤ r) (omega (arith, ints, h)) (omega (arith, ints, less)) in
+    let t = mul-sub price s r in
+    let unit = *ℤ-one price in
+    absurd (omega (arith, ints, one, t, e, unit, h)))
     (λ same. omega (arith, ints, same, low))
 
 pub reserve_is_best : ReserveIsBest

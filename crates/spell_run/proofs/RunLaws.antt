@@ -205,11 +205,11 @@ module _ (g : ThermalUnit) (periods first : ℕ) (ramp_down : pos 0 ≤ℤ g.ram
         ramp_up = λ j low until. (let m = (run j (omega (arith, low)) until).ramp_up in let l = level_within g first d j low in omega (arith, ints, m, l));
         ramp_down = λ j low until. (let m = (run j (omega (arith, low)) until).ramp_down in let l = level_within g first d j low in omega (arith, ints, m, l));
         stop = λ inside one. (
-          let m = (run k from (omega arith)).greatest in
-          let a = (under_cap g (eqb first (suc k)) false (power_in d (suc k) +ℤ reserve_in d (suc k)) m).most in
-          let b = end.stop inside in
-          omega (arith, ints, clamps, a, b)
-        );
+            let m = (run k from (omega arith)).greatest in
+            let a = (under_cap g (eqb first (suc k)) false (power_in d (suc k) +ℤ reserve_in d (suc k)) m).most in
+            let b = end.stop inside in
+            omega (arith, ints, clamps, a, b)
+            );
         leave = λ inside. end.leave inside;
         stop_at_once = λ inside none. absurd (omega (arith, none));
         leave_at_once = λ inside none. absurd (omega (arith, none));
@@ -223,10 +223,10 @@ module _ (g : ThermalUnit) (periods first : ℕ) (ramp_down : pos 0 ≤ℤ g.ram
           (record {
             most = omega (arith, ints, clamps, a);
             start = λ e. (
-              let is = eqb-true first (suc j) e in
-              let b = subst (λ (t : ℕ). (over_min g d t +ℤ reserve_in d t) ≤ℤ cap_of g true false) is (h.start (omega (arith, is))) in
-              omega (arith, ints, clamps, b)
-            );
+                let is = eqb-true first (suc j) e in
+                let b = subst (λ (t : ℕ). (over_min g d t +ℤ reserve_in d t) ≤ℤ cap_of g true false) is (h.start (omega (arith, is))) in
+                omega (arith, ints, clamps, b)
+                );
             stop = λ e. cc;
           })
 

@@ -57,7 +57,12 @@ fn choose<S: Shape>(
     let most = found.power + step.ramp_down;
     match before.least_in(home, least, most) {
         Some((_, power)) => {
-            write(into, place, found.power, reserve_of(step, power, found.power));
+            write(
+                into,
+                place,
+                found.power,
+                reserve_of(step, power, found.power),
+            );
             Ok(Some(Found {
                 cost: found.cost,
                 power,
@@ -90,7 +95,16 @@ fn way_from<S: Shape>(
     let found = if place + 1 == spell.last as usize {
         Ok(end_of(home, &after))
     } else {
-        way_from(home, unit, curve, prices, spell, place + 1, &mut after, into)
+        way_from(
+            home,
+            unit,
+            curve,
+            prices,
+            spell,
+            place + 1,
+            &mut after,
+            into,
+        )
     };
     after.give_back(home);
     match found? {

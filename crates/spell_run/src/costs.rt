@@ -84,7 +84,12 @@ fn run_on<S: Shape>(
     ensures balance { Balance S.Home.counts (length curve.now.blocks.items + 5) (S.Home.sure home.old) (S.cells running.old) (S.Home.sure home.new) (S.cells running.new) }
 {
     let starts = starts_at(first, started, place);
-    take_step(home, running, step_of(unit, prices, place, starts, false), curve)
+    take_step(
+        home,
+        running,
+        step_of(unit, prices, place, starts, false),
+        curve,
+    )
 }
 
 /// The least cost of the spells that end with the period at a place, found by a step that knows of the stop after it.
@@ -110,7 +115,12 @@ fn cost_to_stop<S: Shape>(
     ensures balance { S.Home.counts ≡ true → S.Home.sure home.new ≡ S.Home.sure home.old }
 {
     let starts = starts_at(first, started, place);
-    cost_after(home, running, step_of(unit, prices, place, starts, true), curve)
+    cost_after(
+        home,
+        running,
+        step_of(unit, prices, place, starts, true),
+        curve,
+    )
 }
 
 /// Takes the step over the period at a place, and answers the least cost of the spells that end with it.
@@ -244,7 +254,16 @@ pub fn spell_costs<S: Shape>(
 {
     clear_before(first, into);
     let mut running: S = beginning(home, unit, started)?;
-    let filled = fill(home, unit, curve, prices, first, started, &mut running, into);
+    let filled = fill(
+        home,
+        unit,
+        curve,
+        prices,
+        first,
+        started,
+        &mut running,
+        into,
+    );
     running.give_back(home);
     filled
 }

@@ -161,10 +161,6 @@ pub(crate) fn beginning<S: Shape>(
     ensures balance { IfOk result (λ shape. S.Home.counts ≡ true → (S.cells shape ≡ 1) × (S.Home.sure home.new + 1 ≡ S.Home.sure home.old)) }
     ensures err { OnErr result (home.new ≡ home.old) }
 {
-    let power = if started {
-        unit.min_power
-    } else {
-        unit.power0
-    };
+    let power = if started { unit.min_power } else { unit.power0 };
     S::point(home, power, 0)
 }

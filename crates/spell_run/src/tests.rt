@@ -107,11 +107,7 @@ fn answer_spell<S: Shape>(
 }
 
 // What both calls leave of the worked spells.
-fn worked_spells<S: Shape>(
-    rt: &impl Abort,
-    alloc: Global,
-    home: &mut S::Home,
-) -> Result<(), Fail> {
+fn worked_spells<S: Shape>(rt: &impl Abort, alloc: Global, home: &mut S::Home) -> Result<(), Fail> {
     let middle = Spell {
         first: 2,
         last: 2,

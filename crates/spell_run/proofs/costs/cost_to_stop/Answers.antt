@@ -32,9 +32,9 @@ returns-clause-answer g c =
     IfOk-weaker c.cost_after.result (λ (cost : Option ℤ). (after : Table) × IsStepped c.step_of.result c.args.curve.now before after × IsLeastCost after cost)
     (IsSpellAnswer unit prices (length prices.energy) first (suc c.args.place))
     (λ cost found.
-      (answer_of_step unit prices first c.args.place c.args.curve.now c.args.unit.now.valid c.args.prices.now.valid c.requires.curve envelope_is_cost within c.requires.order before found.0 c.requires.frontier true
-      (sym (lt-ltb (suc c.args.place) (length prices.energy) place))
-      (step_moved unit prices c.args.place c.starts_at-starts.result _ true c.step_of.result c.args.curve.now before found.0 c.step_of.ensures.step c.starts_at-starts.ensures found.1) cost found.2).0)
+    (answer_of_step unit prices first c.args.place c.args.curve.now c.args.unit.now.valid c.args.prices.now.valid c.requires.curve envelope_is_cost within c.requires.order before found.0 c.requires.frontier true
+    (sym (lt-ltb (suc c.args.place) (length prices.energy) place))
+    (step_moved unit prices c.args.place c.starts_at-starts.result _ true c.step_of.result c.args.curve.now before found.0 c.step_of.ensures.step c.starts_at-starts.ensures found.1) cost found.2).0)
     c.cost_after.ensures.ok
 
 pub returns-clause-within : goal.returns-clause-within
@@ -48,7 +48,7 @@ returns-clause-within g c =
     IfOk-weaker c.cost_after.result (λ (cost : Option ℤ). (after : Table) × IsStepped c.step_of.result c.args.curve.now before after × IsLeastCost after cost)
     (λ (cost : Option ℤ). IfSome cost (IsSpellWithin first (suc c.args.place)))
     (λ cost found.
-      (answer_of_step unit prices first c.args.place c.args.curve.now c.args.unit.now.valid c.args.prices.now.valid c.requires.curve envelope_is_cost within c.requires.order before found.0 c.requires.frontier true
-      (sym (lt-ltb (suc c.args.place) (length prices.energy) place))
-      (step_moved unit prices c.args.place c.starts_at-starts.result _ true c.step_of.result c.args.curve.now before found.0 c.step_of.ensures.step c.starts_at-starts.ensures found.1) cost found.2).1)
+    (answer_of_step unit prices first c.args.place c.args.curve.now c.args.unit.now.valid c.args.prices.now.valid c.requires.curve envelope_is_cost within c.requires.order before found.0 c.requires.frontier true
+    (sym (lt-ltb (suc c.args.place) (length prices.energy) place))
+    (step_moved unit prices c.args.place c.starts_at-starts.result _ true c.step_of.result c.args.curve.now before found.0 c.step_of.ensures.step c.starts_at-starts.ensures found.1) cost found.2).1)
     c.cost_after.ensures.ok

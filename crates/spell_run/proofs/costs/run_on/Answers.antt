@@ -27,6 +27,6 @@ returns-clause-ok g c =
     let after = g.S.Shape.function c.take_step.new.home c.take_step.new.shape in
     on_ok_weaker {Q = IsFrontier unit prices first (suc c.args.place) after} _
     (λ step.
-      frontier_more unit prices first c.args.place c.args.curve.now c.args.unit.now.valid c.args.prices.now.valid c.requires.curve envelope_is_cost c.requires.place c.requires.order before after c.requires.frontier
-      (step_moved unit prices c.args.place c.starts_at-starts.result _ false c.step_of.result c.args.curve.now before after c.step_of.ensures.step c.starts_at-starts.ensures step))
+    frontier_more unit prices first c.args.place c.args.curve.now c.args.unit.now.valid c.args.prices.now.valid c.requires.curve envelope_is_cost c.requires.place c.requires.order before after c.requires.frontier
+    (step_moved unit prices c.args.place c.starts_at-starts.result _ false c.step_of.result c.args.curve.now before after c.step_of.ensures.step c.starts_at-starts.ensures step))
     c.take_step.ensures.ok

@@ -1,8 +1,6 @@
 use Rattle.std.proofs.Common.{rules, arith, w64, FitsSigned}
 use Rattle.std.proofs.lemmas.Int.{ints, to_z-of_z}
 use Rattle.spell_run.proofs.BoundLaws.{kink_of_none, can_kink}
-use Rattle.spell_run.proofs.RunLaws.{dispatch_from_run}
-use Rattle.spell_run.proofs.FrontierLaws.{answer_alike}
 use Rattle.spell_run.proofs.step.add_kink.Goals as goal
 
 pub returns-then-step-eq0-clause-ok : goal.returns-then-step-eq0-clause-ok
