@@ -1,4 +1,5 @@
 pub mod BoundLaws
+pub mod ChoiceLaws
 pub mod EntryLaws
 pub mod FairLaws
 pub mod FrameLaws

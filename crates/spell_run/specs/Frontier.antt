@@ -1,12 +1,17 @@
 -- The least costs of the first periods of a spell, by the power at their end (Bellman's principle on the spell's periods).
-use Rattle.std.specs.Prelude.{◌≡◌, ℕ, suc, ◌<◌, ◌≤◌, ℤ, pos, ◌+ℤ◌, ◌-ℤ◌, ◌≤ℤ◌, Some, length}
-use Rattle.shape_law.specs.Table.{Table, value_of}
+use Rattle.std.specs.Prelude.{◌≡◌, ℕ, suc, ◌<◌, ◌≤◌, ◌==◌, ℤ, pos, ◌+ℤ◌, ◌-ℤ◌, ◌≤ℤ◌, Bool, false, ◌&&◌, IsTrue, Some, length, slice_index_or}
+use Rattle.shape_law.specs.Effect.{IsLeastIn}
+use Rattle.shape_law.specs.Table.{Table, value_of, HasNone}
 use Rattle.uc_model.specs.Data.{ThermalUnit, PriceLists, Schedule}
 use Rattle.uc_model.specs.Limits.{IsOutput}
 use Rattle.uc_model.specs.Schedules.{power_in, reserve_in}
 use Rattle.uc_model.specs.Sums.{int_at}
+use Rattle.spell_run.specs.declared.spell.Spell.{Spell}
+use Rattle.spell_run.specs.declared.step.Step.{Step}
+use Rattle.spell_run.specs.Entries.{IsSameOutside}
+use Rattle.spell_run.specs.Laws.{best_reserve}
 use Rattle.spell_run.specs.Spells.{spell_cost, IsDispatch, IsSpellWithin}
-use Rattle.spell_run.specs.Steps.{level, IsRun}
+use Rattle.spell_run.specs.Steps.{level, IsRun, IsKinked}
 
 -- some run of periods first to t ends at power x and costs v; where reserve earns nothing in its last period it has none
 pub record IsReached (g : ThermalUnit) (π : PriceLists) (first t : ℕ) (x v : ℤ) : Type 0 where
@@ -24,6 +29,31 @@ pub record IsFrontier (g : ThermalUnit) (π : PriceLists) (first t : ℕ) (f : T
   pub complete : (d : Schedule) → IsRun g first t d → (v : ℤ) × (value_of f (level g first d t) ≡ Some v) × (v ≤ℤ spell_cost g π first t d)
   pub places : (x v : ℤ) → value_of f x ≡ Some v → IsOutput x
   pub values : (x v : ℤ) → value_of f x ≡ Some v → IsSpellWithin first t v
+
+-- period suc k of d' is on with power p and reserve r, and every other period is that of d
+pub record IsWritten (k : ℕ) (p r : ℤ) (d d' : Schedule) : Type 0 where
+  pub on : IsTrue (slice_index_or d'.on k false)
+  pub power : power_in d' (suc k) ≡ p
+  pub reserve : reserve_in d' (suc k) ≡ r
+  pub outside : IsSameOutside (suc k) (suc k) d d'
+
+-- y is the cheapest power before a step to power x, the least of those, and period suc k of d' is written for it
+pub record IsChosen (s : Step) (f : Table) (k : ℕ) (x y : ℤ) (d d' : Schedule) : Type 0 where
+  pub kinked : Table
+  pub is_kinked : IsKinked s f kinked
+  pub value : ℤ
+  pub least : IsLeastIn (x -ℤ s.ramp_up) (x +ℤ s.ramp_down) kinked value y
+  pub written : IsWritten k x (best_reserve s.reserve_price s.cap s.ramp_up y x) d d'
+
+-- no power before a step leads to power x
+pub record IsUnreached (s : Step) (f : Table) (x : ℤ) : Type 0 where
+  pub kinked : Table
+  pub is_kinked : IsKinked s f kinked
+  pub none : HasNone (x -ℤ s.ramp_up) (x +ℤ s.ramp_down) kinked
+
+-- whether a stop follows the period at that place
+abbrev pub stops_after : Spell → ℕ → Bool
+stops_after s place = s.stops && (s.last == suc place)
 
 -- d and d' have the same powers and reserves in the periods after k up to last
 pub record IsSameAfter (k last : ℕ) (d d' : Schedule) : Type 0 where

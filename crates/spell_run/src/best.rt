@@ -1,14 +1,20 @@
 //! A dispatch of least net cost.
-ghost use Rattle.std.specs.Prelude.{◌≡◌, ℕ, ◌<◌, ◌≤◌, [], true, length, IfOk, MatchOption, None};
+ghost use Rattle.std.specs.Prelude.{◌≡◌, ℕ, suc, ◌+◌, ◌<◌, ◌≤◌, ◌==◌, pos, ◌-ℤ◌, ◌≤ℤ◌, [], true, length, IfOk, MatchOption, None};
 ghost use Rattle.std.specs.Option.{IfSome};
 ghost use Rattle.cost_curve.specs.CostCurve.{IsCostCurve};
 ghost use Rattle.shape_law.specs.Cell.{Frame};
+ghost use Rattle.shape_law.specs.Effect.{IsLeast};
+ghost use Rattle.shape_law.specs.Table.{IsEmpty};
 ghost use Rattle.spell_run.specs.Entries.{IsSpellOf, IsOnFromTo, IsSameOutside};
+ghost use Rattle.spell_run.specs.Frontier.{IsFrontier, IsWritten, IsChosen, IsUnreached, IsWayFrom, stops_after};
+ghost use Rattle.spell_run.specs.Laws.{best_reserve};
 ghost use Rattle.spell_run.specs.Spells.{spell_first, IsBestDispatch, HasNoDispatch, IsSpellWithin};
+ghost use Rattle.spell_run.specs.Steps.{step_at, IsFairStep, IsSmall};
+ghost use Rattle.uc_model.specs.Limits.{IsFrom, IsOutput};
 ghost use Rattle.uc_model.specs.PlainUnits.{thermal_of, prices_of, schedule_of};
 
 use crate::spell::Spell;
-use crate::step::{Step, add_kink, beginning, step_of, stepped};
+use crate::step::{Step, add_kink, beginning, starts_at, step_of, stepped};
 use shape_law::Shape;
 use std::alloc::AllocError;
 use uc_model::units::{Answered, Curve, Prices, Unit};
@@ -21,7 +27,10 @@ struct Found {
 }
 
 /// The least cost and its power.
-fn end_of<S: Shape>(home: &S::Home, shape: &S) -> Option<Found> {
+fn end_of<S: Shape>(home: &S::Home, shape: &S) -> Option<Found>
+    requires { S.is_in home.now shape.now }
+    ensures { MatchOption result (IsEmpty (S.function home.now shape.now)) (λ found. IsLeast (S.function home.now shape.now) found.cost found.power) }
+{
     match shape.least(home) {
         Some((cost, power)) => Some(Found { cost, power }),
         None => None,
@@ -29,7 +38,15 @@ fn end_of<S: Shape>(home: &S::Home, shape: &S) -> Option<Found> {
 }
 
 /// The best reserve at a power after another.
-fn reserve_of(step: Step, before: i64, power: i64) -> i64 {
+fn reserve_of(step: Step, before: i64, power: i64) -> i64
+    requires step { IsFairStep step }
+    requires before { IsOutput before }
+    requires power { IsOutput power }
+    requires under { power ≤ℤ step.cap }
+    requires rise { (power -ℤ before) ≤ℤ step.ramp_up }
+    ensures best { result ≡ best_reserve step.reserve_price step.cap step.ramp_up before power }
+    ensures bound { IsOutput result }
+{
     if step.reserve_price == 0 {
         return 0;
     }
@@ -37,13 +54,34 @@ fn reserve_of(step: Step, before: i64, power: i64) -> i64 {
 }
 
 /// Writes a period, whose place counts from 0.
-fn write(into: &mut Answered, place: usize, power: i64, reserve: i64) {
+fn write(into: &mut Answered, place: usize, power: u32, reserve: u32)
+    requires { place < length (schedule_of into.old.response).on }
+    ensures written { IsWritten place (pos power) (pos reserve) (schedule_of into.old.response) (schedule_of into.new.response) }
+    ensures earned { into.new.earned ≡ into.old.earned }
+{
     into.response.on.set(place, true);
-    into.response.power.set(place, power as u32);
-    into.response.reserve.set(place, reserve as u32);
+    into.response.power.set(place, power);
+    into.response.reserve.set(place, reserve);
 }
 
-/// Chooses the power before a period whose own power is found, and writes the period.
+/// Writes a period with its power, and the best reserve after the power before it.
+fn write_best(into: &mut Answered, place: usize, step: Step, before: i64, power: i64)
+    requires place { place < length (schedule_of into.old.response).on }
+    requires step { IsFairStep step }
+    requires before { IsOutput before }
+    requires power { IsOutput power }
+    requires under { power ≤ℤ step.cap }
+    requires rise { (power -ℤ before) ≤ℤ step.ramp_up }
+    ensures written { IsWritten place power (best_reserve step.reserve_price step.cap step.ramp_up before power)
+        (schedule_of into.old.response) (schedule_of into.new.response) }
+    ensures earned { into.new.earned ≡ into.old.earned }
+{
+    let reserve = reserve_of(step, before, power);
+    write(into, place, power as u32, reserve as u32);
+}
+
+/// Chooses the cheapest power before a period whose own power is found, and writes the period. After an error nothing is
+/// written.
 fn choose<S: Shape>(
     home: &mut S::Home,
     before: &mut S,
@@ -51,18 +89,27 @@ fn choose<S: Shape>(
     place: usize,
     found: Found,
     into: &mut Answered,
-) -> Result<Option<Found>, AllocError> {
+) -> Result<Option<Found>, AllocError>
+    requires here { S.is_in home.old before.old }
+    requires step { IsFairStep step }
+    requires small { IsSmall (S.function home.old before.old) }
+    requires place { place < length (schedule_of into.old.response).on }
+    requires found { IsFrom step.least step.cap found.power }
+    ensures chosen { IfOk result (λ best. MatchOption best (IsUnreached step (S.function home.old before.old) found.power)
+        (λ chosen. IsChosen step (S.function home.old before.old) place found.power chosen.power (schedule_of into.old.response) (schedule_of into.new.response))) }
+    ensures cost { IfOk result (λ best. IfSome best (λ chosen. chosen.cost ≡ found.cost)) }
+    ensures outside { IsSameOutside (suc place) (suc place) (schedule_of into.old.response) (schedule_of into.new.response) }
+    ensures earned { into.new.earned ≡ into.old.earned }
+    ensures here { S.is_in home.new before.new }
+    ensures frame { Frame S.Home.cell_list S.is_in S.numbers (S.numbers home.old before.old) (S.numbers home.new before.new) home.old home.new }
+    ensures balance { S.Home.counts ≡ true → S.Home.sure home.new + S.cells before.new ≡ S.Home.sure home.old + S.cells before.old }
+{
     add_kink(home, before, step)?;
     let least = found.power - step.ramp_up;
     let most = found.power + step.ramp_down;
     match before.least_in(home, least, most) {
         Some((_, power)) => {
-            write(
-                into,
-                place,
-                found.power,
-                reserve_of(step, power, found.power),
-            );
+            write_best(into, place, step, power, found.power);
             Ok(Some(Found {
                 cost: found.cost,
                 power,
@@ -73,10 +120,55 @@ fn choose<S: Shape>(
 }
 
 /// The step of a spell over the period at a place.
-fn step_in(unit: &Unit, prices: &Prices, spell: &Spell, place: usize) -> Step {
-    let starts = spell.started && place + 1 == spell.first as usize;
-    let stops = spell.stops && place + 1 == spell.last as usize;
+fn step_in(unit: &Unit, prices: &Prices, spell: &Spell, place: usize) -> Step
+    requires place { place < length (prices_of prices.now).energy }
+    ensures step { result ≡ step_at (thermal_of unit.now) (prices_of prices.now) place (spell_first spell.now.started spell.now.first == suc place) (stops_after spell.now place) }
+    ensures fair { IsFairStep result }
+{
+    let starts = starts_at(spell.first, spell.started, place);
+    let stops = spell.stops && spell.last as usize == place + 1;
     step_of(unit, prices, place, starts, stops)
+}
+
+/// Writes the last period of a spell, at a place, cheapest with what comes before it.
+fn last_period<S: Shape>(
+    home: &mut S::Home,
+    unit: &Unit,
+    curve: &Curve,
+    prices: &Prices,
+    spell: &Spell,
+    place: usize,
+    before: &mut S,
+    into: &mut Answered,
+) -> Result<Option<Found>, AllocError>
+    requires here { S.is_in home.old before.old }
+    requires curve { IsCostCurve (thermal_of unit.now).points curve.now }
+    requires spell { IsSpellOf (thermal_of unit.now) (length (prices_of prices.now).energy) spell.now }
+    requires from { spell.now.first ≤ suc place }
+    requires until { suc place ≡ spell.now.last }
+    requires into { length (schedule_of into.old.response).on ≡ length (prices_of prices.now).energy }
+    requires frontier { IsFrontier (thermal_of unit.now) (prices_of prices.now) (spell_first spell.now.started spell.now.first) place (S.function home.old before.old) }
+    ensures way { IfOk result (λ best. MatchOption best
+        (HasNoDispatch (thermal_of unit.now) (length (prices_of prices.now).energy) (spell_first spell.now.started spell.now.first) spell.now.last)
+        (λ found. IsWayFrom (thermal_of unit.now) (prices_of prices.now) (spell_first spell.now.started spell.now.first) place spell.now.last
+        (S.function home.old before.old) (schedule_of into.new.response) found.power found.cost)) }
+    ensures within { IfOk result (λ best. IfSome best (λ found. IsSpellWithin (spell_first spell.now.started spell.now.first) spell.now.last found.cost)) }
+    ensures on { IfOk result (λ best. IfSome best (λ _. IsOnFromTo (suc place) spell.now.last (schedule_of into.new.response))) }
+    ensures none { IfOk result (λ best. best ≡ None → schedule_of into.new.response ≡ schedule_of into.old.response) }
+    ensures outside { IsSameOutside (suc place) spell.now.last (schedule_of into.old.response) (schedule_of into.new.response) }
+    ensures earned { into.new.earned ≡ into.old.earned }
+    ensures here { S.is_in home.new before.new }
+    ensures frame { Frame S.Home.cell_list S.is_in S.numbers (S.numbers home.old before.old) (S.numbers home.new before.new) home.old home.new }
+    ensures balance { S.Home.counts ≡ true → S.Home.sure home.new + S.cells before.new ≡ S.Home.sure home.old + S.cells before.old }
+{
+    let step = step_in(unit, prices, spell, place);
+    let after: S = stepped(home, before, step, curve)?;
+    let found = end_of(home, &after);
+    after.give_back(home);
+    match found {
+        Some(found) => choose(home, before, step, place, found, into),
+        None => Ok(None),
+    }
 }
 
 /// Writes the periods from a place to the spell's last one, cheapest with what comes before them.
@@ -89,23 +181,33 @@ fn way_from<S: Shape>(
     place: usize,
     before: &mut S,
     into: &mut Answered,
-) -> Result<Option<Found>, AllocError> {
+) -> Result<Option<Found>, AllocError>
+    requires here { S.is_in home.old before.old }
+    requires curve { IsCostCurve (thermal_of unit.now).points curve.now }
+    requires spell { IsSpellOf (thermal_of unit.now) (length (prices_of prices.now).energy) spell.now }
+    requires from { spell.now.first ≤ suc place }
+    requires until { suc place ≤ spell.now.last }
+    requires into { length (schedule_of into.old.response).on ≡ length (prices_of prices.now).energy }
+    requires frontier { IsFrontier (thermal_of unit.now) (prices_of prices.now) (spell_first spell.now.started spell.now.first) place (S.function home.old before.old) }
+    ensures way { IfOk result (λ best. MatchOption best
+        (HasNoDispatch (thermal_of unit.now) (length (prices_of prices.now).energy) (spell_first spell.now.started spell.now.first) spell.now.last)
+        (λ found. IsWayFrom (thermal_of unit.now) (prices_of prices.now) (spell_first spell.now.started spell.now.first) place spell.now.last
+        (S.function home.old before.old) (schedule_of into.new.response) found.power found.cost)) }
+    ensures within { IfOk result (λ best. IfSome best (λ found. IsSpellWithin (spell_first spell.now.started spell.now.first) spell.now.last found.cost)) }
+    ensures on { IfOk result (λ best. IfSome best (λ _. IsOnFromTo (suc place) spell.now.last (schedule_of into.new.response))) }
+    ensures none { IfOk result (λ best. best ≡ None → schedule_of into.new.response ≡ schedule_of into.old.response) }
+    ensures outside { IsSameOutside (suc place) spell.now.last (schedule_of into.old.response) (schedule_of into.new.response) }
+    ensures earned { into.new.earned ≡ into.old.earned }
+    ensures here { S.is_in home.new before.new }
+    ensures frame { Frame S.Home.cell_list S.is_in S.numbers (S.numbers home.old before.old) (S.numbers home.new before.new) home.old home.new }
+    ensures balance { S.Home.counts ≡ true → S.Home.sure home.new + S.cells before.new ≡ S.Home.sure home.old + S.cells before.old }
+{
+    if place + 1 == spell.last as usize {
+        return last_period(home, unit, curve, prices, spell, place, before, into);
+    }
     let step = step_in(unit, prices, spell, place);
     let mut after: S = stepped(home, before, step, curve)?;
-    let found = if place + 1 == spell.last as usize {
-        Ok(end_of(home, &after))
-    } else {
-        way_from(
-            home,
-            unit,
-            curve,
-            prices,
-            spell,
-            place + 1,
-            &mut after,
-            into,
-        )
-    };
+    let found = way_from(home, unit, curve, prices, spell, place + 1, &mut after, into);
     after.give_back(home);
     match found? {
         Some(found) => choose(home, before, step, place, found, into),
