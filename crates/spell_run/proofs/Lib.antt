@@ -7,3 +7,5 @@ pub mod FrontierLaws
 pub mod ReserveLaws
 pub mod RunLaws
 pub mod StepLaws
+pub mod TieLaws
+pub mod WayLaws

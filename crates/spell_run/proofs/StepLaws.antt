@@ -203,3 +203,19 @@ module _ (g : ThermalUnit) (π : PriceLists) (k : ℕ) (c : Curve) (unit : IsThe
       let i = worth.at_least in
       let j = worth.at_most in
       record { at_least = omega (arith, ints, a, b, c, d, i, j); at_most = omega (arith, ints, a, b, c, d, i, j) }
+
+-- ---- the best reserve of a step
+
+module _ (g : ThermalUnit) (π : PriceLists) (k : ℕ) (price : pos 0 ≤ℤ int_at π.reserve k) (cap q x : ℤ) where
+  -- what a step from q to x adds at the best reserve
+  abbrev pub best_net : ℤ
+  best_net = (reserve_term (int_at π.reserve k) cap g.ramp_up q +ℤ ((int_at π.reserve k -ℤ int_at π.energy k) *ℤ x)) +ℤ envelope g.points x
+
+  pub net_of_best : net_cost_at g π k x (best_reserve (int_at π.reserve k) cap g.ramp_up q x) ≡ best_net
+  net_of_best =
+      let parts = parts_are (int_at π.reserve k) (int_at π.energy k) cap g.ramp_up q x (pos 0) (envelope g.points x) in
+      let earns = best_earns (int_at π.reserve k) cap g.ramp_up q x price in
+      omega (arith, ints, parts, earns)
+
+  pub net_at_least : (r : ℤ) → IsReserve cap g.ramp_up q x r → net_cost_at g π k x (best_reserve (int_at π.reserve k) cap g.ramp_up q x) ≤ℤ net_cost_at g π k x r
+  net_at_least r may = let best = best_is_best (int_at π.reserve k) cap g.ramp_up q x r price may in omega (arith, ints, best)

@@ -1,14 +1,14 @@
 //! A dispatch of least net cost.
-ghost use Rattle.std.specs.Prelude.{◌≡◌, ℕ, suc, ◌+◌, ◌<◌, ◌≤◌, ◌==◌, pos, ◌-ℤ◌, ◌≤ℤ◌, [], true, length, IfOk, MatchOption, None};
+ghost use Rattle.std.specs.Prelude.{◌≡◌, ℕ, suc, ◌+◌, ◌<◌, ◌≤◌, ◌==◌, nat_lt, pos, ◌-ℤ◌, ◌≤ℤ◌, [], true, length, IfOk, MatchOption, None};
 ghost use Rattle.std.specs.Option.{IfSome};
 ghost use Rattle.cost_curve.specs.CostCurve.{IsCostCurve};
 ghost use Rattle.shape_law.specs.Cell.{Frame};
 ghost use Rattle.shape_law.specs.Effect.{IsLeast};
 ghost use Rattle.shape_law.specs.Table.{IsEmpty};
 ghost use Rattle.spell_run.specs.Entries.{IsSpellOf, IsOnFromTo, IsSameOutside};
-ghost use Rattle.spell_run.specs.Frontier.{IsFrontier, IsWritten, IsChosen, IsUnreached, IsWayFrom, stops_after};
+ghost use Rattle.spell_run.specs.Frontier.{IsFrontier, IsWritten, IsChosen, IsUnreached, IsWayFrom, stops_at};
 ghost use Rattle.spell_run.specs.Laws.{best_reserve};
-ghost use Rattle.spell_run.specs.Spells.{spell_first, IsBestDispatch, HasNoDispatch, IsSpellWithin};
+ghost use Rattle.spell_run.specs.Spells.{spell_first, IsBestDispatch, IsFirstDispatch, HasNoDispatch, IsSpellWithin};
 ghost use Rattle.spell_run.specs.Steps.{step_at, IsFairStep, IsSmall};
 ghost use Rattle.uc_model.specs.Limits.{IsFrom, IsOutput};
 ghost use Rattle.uc_model.specs.PlainUnits.{thermal_of, prices_of, schedule_of};
@@ -122,7 +122,9 @@ fn choose<S: Shape>(
 /// The step of a spell over the period at a place.
 fn step_in(unit: &Unit, prices: &Prices, spell: &Spell, place: usize) -> Step
     requires place { place < length (prices_of prices.now).energy }
-    ensures step { result ≡ step_at (thermal_of unit.now) (prices_of prices.now) place (spell_first spell.now.started spell.now.first == suc place) (stops_after spell.now place) }
+    requires stops { spell.now.stops ≡ nat_lt spell.now.last (length (prices_of prices.now).energy) }
+    ensures step { result ≡ step_at (thermal_of unit.now) (prices_of prices.now) place (spell_first spell.now.started spell.now.first == suc place)
+        (stops_at spell.now.last (length (prices_of prices.now).energy) place) }
     ensures fair { IsFairStep result }
 {
     let starts = starts_at(spell.first, spell.started, place);
@@ -215,9 +217,10 @@ fn way_from<S: Shape>(
     }
 }
 
-/// Answers the least net cost of a dispatch of the spell, and leaves such a dispatch in the spell's periods of `into`,
-/// on in each. None exactly where there is no dispatch; then `into` is unchanged. All other periods, and what is
-/// earned, stay, whatever it answers; after an error the spell's periods are open.
+/// Answers the least net cost of a dispatch of the spell, and leaves the first dispatch of that cost in the spell's
+/// periods of `into`, on in each: first by powers from the last period back, less power first, and then by reserves.
+/// None exactly where there is no dispatch; then `into` is unchanged. All other periods, and what is earned, stay,
+/// whatever it answers; after an error the spell's periods are open.
 ///
 /// `curve` is the curve of the unit's points. Prices and `into` are over the same periods. Takes no memory but for the
 /// shapes, which are given back.
@@ -236,6 +239,8 @@ pub fn spell_best<S: Shape>(
         (HasNoDispatch (thermal_of unit.now) (length (prices_of prices.now).energy) (spell_first spell.now.started spell.now.first) spell.now.last)
         (λ cost. IsBestDispatch (thermal_of unit.now) (prices_of prices.now) (length (prices_of prices.now).energy)
         (spell_first spell.now.started spell.now.first) spell.now.last (schedule_of into.new.response) cost)) }
+    ensures first { IfOk result (λ best. IfSome best (IsFirstDispatch (thermal_of unit.now) (prices_of prices.now) (length (prices_of prices.now).energy)
+        (spell_first spell.now.started spell.now.first) spell.now.last (schedule_of into.new.response))) }
     ensures within { IfOk result (λ best. IfSome best (IsSpellWithin (spell_first spell.now.started spell.now.first) spell.now.last)) }
     ensures on { IfOk result (λ best. IfSome best (λ _. IsOnFromTo spell.now.first spell.now.last (schedule_of into.new.response))) }
     ensures none { IfOk result (λ best. best ≡ None → schedule_of into.new.response ≡ schedule_of into.old.response) }
