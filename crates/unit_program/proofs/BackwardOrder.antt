@@ -21,7 +21,7 @@ less-joined [] ys (u ∷ us) vs h less = absurd (omega (arith, h))
 less-joined (x ∷ xs) ys [] vs h less = absurd (omega (arith, h))
 less-joined (x ∷ xs) ys (u ∷ us) vs h less =
     elim (nat_cmp x u) as (λ r. nat_cmp x u ≡ r → ordering_then r (slice_cmp nat_cmp (xs ++ ys) (us ++ vs)) ≡ Less
-        → (ordering_then (nat_cmp x u) (slice_cmp nat_cmp xs us) ≡ Less) ⊎ ((x ∷ xs ≡ u ∷ us) × (slice_cmp nat_cmp ys vs ≡ Less))) [
+    → (ordering_then (nat_cmp x u) (slice_cmp nat_cmp xs us) ≡ Less) ⊎ ((x ∷ xs ≡ u ∷ us) × (slice_cmp nat_cmp ys vs ≡ Less))) [
       | Less ↦ λ is here. inl (ap (λ r. ordering_then r (slice_cmp nat_cmp xs us)) is)
       | Equal ↦ λ is here. elim (less-joined xs ys us vs (omega (arith, h)) here) [
         | inl first ↦ inl (ap (λ r. ordering_then r (slice_cmp nat_cmp xs us)) is ∙ first)
@@ -135,10 +135,10 @@ module _ (periods : ℕ) (o s : Schedule) (shape_o : IsSchedule periods o) (shap
       ap (λ zs. slice_cmp nat_cmp (reverse (map flag o.on)) zs) (sym (map-reverse s.on)) ∙ ap (λ zs. slice_cmp nat_cmp zs (map flag (reverse s.on))) (sym (map-reverse o.on)) ∙ less in
       not_less_backwards (map flag o.on) (map flag s.on) (n ∙ sym m)
       (λ k low agree.
-          (let here = flag_most (slice_index_or s.on k false) (slice_index_or o.on k false)
-              (no_later.on k (omega (arith, low, n)) (λ j above inside. same_flag (slice_index_or o.on j false) (slice_index_or s.on j false)
-              (sym (flag_at o.on j) ∙ agree j above (omega (arith, inside, n)) ∙ flag_at s.on j))) in
-          let a = flag_at o.on k in let b = flag_at s.on k in omega (arith, here, a, b))) e
+      (let here = flag_most (slice_index_or s.on k false) (slice_index_or o.on k false)
+      (no_later.on k (omega (arith, low, n)) (λ j above inside. same_flag (slice_index_or o.on j false) (slice_index_or s.on j false)
+      (sym (flag_at o.on j) ∙ agree j above (omega (arith, inside, n)) ∙ flag_at s.on j))) in
+      let a = flag_at o.on k in let b = flag_at s.on k in omega (arith, here, a, b))) e
 
   powers_not_less : o.on ≡ s.on → slice_cmp nat_cmp (reverse o.power) (reverse s.power) ≡ Less → ⊥
   powers_not_less on less =
@@ -161,7 +161,7 @@ module _ (periods : ℕ) (o s : Schedule) (shape_o : IsSchedule periods o) (shap
       let flags : length fo ≡ length fs = length-map (reverse o.on) flag ∙ length-reverse o.on ∙ shape_o.on ∙ sym (length-map (reverse s.on) flag ∙ length-reverse s.on ∙ shape_s.on) in
       let powers : length (reverse o.power) ≡ length (reverse s.power) = length-reverse o.power ∙ shape_o.power ∙ sym (length-reverse s.power ∙ shape_s.power) in
       elim (less-joined (fo ++ reverse o.power) (reverse o.reserve) (fs ++ reverse s.power) (reverse s.reserve)
-          (length-append fo (reverse o.power) ∙ (let x = flags in let y = powers in omega (arith, x, y)) ∙ sym (length-append fs (reverse s.power))) less) [
+      (length-append fo (reverse o.power) ∙ (let x = flags in let y = powers in omega (arith, x, y)) ∙ sym (length-append fs (reverse s.power))) less) [
         | inl first ↦ elim (less-joined fo (reverse o.power) fs (reverse s.power) flags first) [
           | inl by_flags ↦ flags_not_less by_flags
           | inr rest ↦ powers_not_less (on_same rest.0) rest.1

@@ -9,7 +9,7 @@ use Rattle.uc_model.specs.Schedules.{on_in, power_in, reserve_in, IsThermalFeasi
 use Rattle.spell_run.specs.Spells.{IsDispatch, IsFirstDispatch, spell_cost}
 use Rattle.unit_program.specs.Steps.{IsStep}
 use Rattle.unit_program.specs.Spells.{off_time, IsSpell, IsGap, IsOffRun, start_cost_after, paid}
-use Rattle.unit_program.specs.Tables.{HasAtMost, IsEntryAfter, IsEntry, IsStarted, IsEnded, IsLatest, IsComplete}
+use Rattle.unit_program.specs.Tables.{HasAtMost, IsEntryAfter, IsStarted, IsEnded, IsLatest, IsComplete}
 use Rattle.unit_program.specs.Backs.{IsZeroOff}
 use Rattle.unit_program.specs.Ties.{IsRival, HasSameFlags, HasSamePowers, IsFirstBeside, IsFirstUpTo}
 use Rattle.unit_program.proofs.BackwardOrder.{IsNoLater}
@@ -167,10 +167,10 @@ module _ (g : ThermalUnit) (π : PriceLists) (ends : ℕ → Option ℤ) (o : Sc
   end_of : (v : ℤ) → ((k : ℕ) (u : ℤ) → ends k ≡ Some u → IsOffRun g k (length o.on) → v ≤ℤ u) → paid g π o (length o.on) ≡ v → (k : ℕ) × IsEnd g π ends (length o.on) o k v
   end_of v least paid_is = elim (shape_of g π o (length o.on)) [
     | inl w ↦ (
-        length o.on,
-        end_at v least (length o.on) (omega arith) (record { order = omega arith; must_run = λ _. omega arith; marks = λ u above until mark. absurd (omega (arith, above, until)) })
-            (λ _. w.1.run.on (length o.on) w.1.run.order (omega arith)) (λ u above until. absurd (omega (arith, above, until))) paid_is,
-      )
+      length o.on,
+      end_at v least (length o.on) (omega arith) (record { order = omega arith; must_run = λ _. omega arith; marks = λ u above until mark. absurd (omega (arith, above, until)) })
+          (λ _. w.1.run.on (length o.on) w.1.run.order (omega arith)) (λ u above until. absurd (omega (arith, above, until))) paid_is,
+    )
     | inr w ↦
         let st = w.1 in
         let same = st.cost in
@@ -363,7 +363,7 @@ module _ (g : ThermalUnit) (π : PriceLists) (ends : ℕ → Option ℤ) (n : �
               | inl gap ↦ let off = idle (suc k) gap until in cc
               | inr under ↦
                   before_same.power (λ u above inside. flags u above (omega (arith, inside, from, is, order))) k (omega (arith, under)) here
-                      (λ j above inside. agree j above (omega (arith, inside, from, is, order)))
+                  (λ j above inside. agree j above (omega (arith, inside, from, is, order)))
             ]
           ]
 
@@ -378,7 +378,7 @@ module _ (g : ThermalUnit) (π : PriceLists) (ends : ℕ → Option ℤ) (n : �
               | inl gap ↦ let off = idle (suc k) gap until in cc
               | inr under ↦
                   before_same.reserve (λ u above inside. flags u above (omega (arith, inside, from, is, order)))
-                      (λ j above inside. powers j above (omega (arith, inside, from, is, order))) k (omega (arith, under)) here
+                  (λ j above inside. powers j above (omega (arith, inside, from, is, order))) k (omega (arith, under)) here
             ]
           ]
 

@@ -1,4 +1,4 @@
-//! The least end of the table, the way back from it, and the best response.
+//! The least end of the table, the way back from it, and the least best response.
 ghost use Rattle.std.specs.Prelude.{◌≡◌, ℕ, ◌+◌, ◌*◌, ◌<◌, ◌≤◌, ℤ, pos, neg_ℤ, [], true, false, IsTrue, IsFalse, IfOk, IfSome, IfNone, OnOk, length, suc, slice_index, slice_index_or};
 ghost use Rattle.cost_curve.specs.CostCurve.{IsCostCurve};
 ghost use Rattle.shape_law.specs.Cell.{Frame};
@@ -150,9 +150,9 @@ fn negated(cost: i64) -> i64
     0 - cost
 }
 
-/// Leaves in `into` the best response that the table names, from its least end, and what it earns. Unit, prices and
-/// `into` are over the same periods, `curve` is the curve of the unit's points, and the rows are filled. Takes no memory
-/// but for the shapes, which are given back. After an error `into` is open.
+/// Leaves in `into` the least best response, which the table names from the earliest of its least ends, and what it earns.
+/// Unit, prices and `into` are over the same periods, `curve` is the curve of the unit's points, and the rows are filled.
+/// Takes no memory but for the shapes, which are given back. After an error `into` is open.
 pub fn write_best<S: Shape>(
     home: &mut S::Home,
     unit: &Unit,
@@ -180,8 +180,11 @@ pub fn write_best<S: Shape>(
     Ok(())
 }
 
-/// A best response of a thermal unit to prices over its horizon, with what it earns in money; None exactly where no
-/// schedule of the unit is feasible. Its powers and reserves are in kilowatts, its lists have an entry for each period.
+/// The least best response of a thermal unit to prices over its horizon, with what it earns in money; None exactly where
+/// no schedule of the unit is feasible. Its powers and reserves are in kilowatts, its lists have an entry for each period.
+///
+/// Of several best responses the least is the first by on flags, off first, then by powers, and then by reserves, less
+/// first, each compared from the last period back.
 ///
 /// Shapes of the type `S` are taken from the home and given back, so a home that counts can give as many cells
 /// afterwards as before, whatever the answer is. `AllocError` comes for want of memory alone, or from a home without
