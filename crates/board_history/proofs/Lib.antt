@@ -1,0 +1,10 @@
+pub mod Answered
+pub mod Fronts
+pub mod Kept
+pub mod NextTask
+pub mod Opens
+pub mod RowLaws
+pub mod SameTask
+pub mod Stays
+pub mod Totals
+pub mod Words
