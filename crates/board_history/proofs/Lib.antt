@@ -1,8 +1,11 @@
 pub mod Answered
 pub mod Fronts
+pub mod Held
 pub mod Kept
+pub mod Machine
 pub mod NextTask
 pub mod Opens
+pub mod OwnTasks
 pub mod RowLaws
 pub mod SameTask
 pub mod Stays

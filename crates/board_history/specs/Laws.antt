@@ -7,6 +7,7 @@ use Rattle.board_history.specs.Tasks.{IsTask}
 use Rattle.board_history.specs.Words.{IsMachineStep, Means}
 use Rattle.uc_model.specs.Data.{AnyUnit, PriceLists, Schedule, unit_count}
 use Rattle.uc_model.specs.Earnings.{earnings}
+use Rattle.uc_model.specs.Limits.{IsMarket}
 use Rattle.uc_model.specs.Runs.{Fits, AreRightRows, IsRun}
 
 -- ---- what the words of the machine mean
@@ -62,3 +63,6 @@ pub record StaysLegal (b : Setup) (h : List (Event Answer)) (c : ℕ) : Type 0 w
   pub post : (n u : ℕ) (ρ : PriceLists) (x : AnyUnit) (a : Answer) → IsTask ρ x → Fits x ρ a.schedule → earnings x ρ a.schedule ≡ a.earned →
       IsLegalHistory b (after_post (record { setup = b; events = h }) c n u ρ x a).events
   pub halt : IsLegalHistory b (after_halt (record { setup = b; events = h }) c).events
+
+abbrev pub CallsStayLegal : Type 0
+CallsStayLegal = (b : Setup) (h : List (Event Answer)) (c : ℕ) → IsMarket b.market → c < b.callers → IsLegalHistory b h → StaysLegal b h c

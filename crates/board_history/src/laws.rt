@@ -1,6 +1,6 @@
 //! Laws on the histories of a board: each is the contract of a function that does nothing.
 ghost use Rattle.uc_model.specs.Runs.{Fits};
-ghost use Rattle.board_history.specs.Laws.{WordsMean, RowsAreRight, FinishedIsRun, FinishedHasRow, FinishedStays, HaltsChangeNothing};
+ghost use Rattle.board_history.specs.Laws.{WordsMean, StepsAreMachine, CallsStayLegal, RowsAreRight, FinishedIsRun, FinishedHasRow, FinishedStays, HaltsChangeNothing};
 ghost use Rattle.board_history.specs.Tasks.{SameTask};
 ghost use Rattle.board_history.specs.Totals.{TotalsRun};
 
@@ -9,6 +9,18 @@ ghost use Rattle.board_history.specs.Totals.{TotalsRun};
 /// proposal that is open is closed.
 pub fn words_mean()
     ensures { WordsMean }
+{}
+
+/// A legal history's events are what the machine makes: an event may come next exactly where some call appends it, and the
+/// answer of a post is right.
+pub fn steps_are_the_machine()
+    ensures { StepsAreMachine }
+{}
+
+/// Each call of a caller keeps a history legal, where the answer of a post is right for the task that is posted, with its
+/// own unit and prices.
+pub fn calls_stay_legal()
+    ensures { CallsStayLegal }
 {}
 
 /// The rows of a legal history are right, as far as they go.
