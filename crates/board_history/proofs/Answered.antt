@@ -1,6 +1,5 @@
 -- In a legal history each answer fits the prices of its proposal.
-use Rattle.std.proofs.Common.{◌≡◌, ℕ, zero, suc, ◌+◌, ◌-◌, ◌<◌, ◌≤◌, Bool, true, false, cond, ◌&&◌, ◌==◌, ◌⊎◌, inl, inr, Option, Some, None, List, [], ◌∷◌, ◌++◌, refl, sym, ap, ◌∙◌, subst, arith, append_assoc}
-use Rattle.std.proofs.lemmas.Bool.{false≢true}
+use Rattle.std.proofs.Common.{◌≡◌, ℕ, ◌<◌, ◌≤◌, Bool, true, false, cond, ◌&&◌, ◌==◌, ◌⊎◌, inl, inr, Option, Some, None, List, [], ◌∷◌, ◌++◌, refl, sym, ap, ◌∙◌, subst, arith, append_assoc}
 use Rattle.std.proofs.lemmas.Bool.Decides.{nat_tests}
 use Rattle.std.proofs.lemmas.List.{append-nil}
 use Rattle.std.proofs.Math.Path.{fun_ext}
@@ -48,7 +47,7 @@ pub extends_with : {A : Type 0} (p : Posts A) (c n u : ℕ) (a : A) → Extends 
 extends_with p c n u a m v x e = ap (λ o. sooner o (only_at n u (c, a) m v)) e
 
 -- a post of the posts with one more is an old one, or the new one
-only_cases : {X : Type 0} (n u m v : ℕ) (x y : X) → only_at n u x m v ≡ Some y → (n ≡ m) × (u ≡ v) × (x ≡ y)
+pub only_cases : {X : Type 0} (n u m v : ℕ) (x y : X) → only_at n u x m v ≡ Some y → (n ≡ m) × (u ≡ v) × (x ≡ y)
 only_cases n u m v x y h = choose (n == m && u == v) h (λ e. grind (arith, nat_tests, e))
   where
     choose : (b : Bool) → cond b (Some x) None ≡ Some y → (b ≡ true → (n ≡ m) × (u ≡ v)) → (n ≡ m) × (u ≡ v) × (x ≡ y)

@@ -1,12 +1,12 @@
 -- Who holds and who posted a task in a legal history, and what a claim that is given tells.
-use Rattle.std.proofs.Common.{◌≡◌, ℕ, zero, suc, ◌+◌, ◌<◌, ◌≤◌, Bool, true, false, cond, inl, inr, Option, Some, None, List, [], ◌∷◌, ◌++◌, map, refl, sym, ap, ◌∙◌, subst, arith, append_assoc}
+use Rattle.std.proofs.Common.{◌≡◌, ℕ, zero, suc, ◌+◌, ◌<◌, ◌≤◌, Bool, true, false, cond, inl, inr, Option, Some, None, List, [], ◌∷◌, ◌++◌, refl, sym, ap, ◌∙◌, subst, arith, append_assoc}
 use Rattle.std.proofs.lemmas.Bool.{false≢true}
 use Rattle.std.proofs.lemmas.List.{append-nil}
 use Rattle.std.proofs.lemmas.List.Folds.{find-append}
-use Rattle.std.specs.List.{find, list_any, range_with_len}
+use Rattle.std.specs.List.{find}
 use Rattle.std.specs.Option.{option_or, option_map_or}
 use Rattle.std.specs.Prelude.{is_none}
-use Rattle.board_history.specs.Rounds.{Rules, Event, Given, Taken, Closing, Stopped, sooner, only_at, is_halt, Holders, holders, Posts, posts, with_post, opened, is_finished, ClaimReply, Finished, Halted, GivenTask, NotYet, next_task, claim_from, IsPost, IsNext, GoesOn, IsLegal}
+use Rattle.board_history.specs.Rounds.{Rules, Event, Given, Taken, Closing, Stopped, sooner, only_at, Holders, holders, Posts, posts, with_post, opened, is_finished, ClaimReply, Finished, Halted, GivenTask, NotYet, next_task, claim_from, IsPost, IsNext, GoesOn, IsLegal}
 use Rattle.board_history.proofs.Answered.{posts-given, posts-stopped, posts-taken, posts-closing, holders-given, holders-taken, holders-closing, holders-stopped, post_cases}
 use Rattle.board_history.proofs.NextTask.{one_row, rows_from}
 
@@ -77,6 +77,7 @@ module _ {P R A : Type 0} (g : Rules P R A) where
           let r = found_in_rows (λ (x : ℕ × ℕ). is_none (held x.0 x.1)) g.units 1 (opened g p) n u e in
           let lo = r.from in let hi = r.to in
           record { from_one = omega (arith, lo); open_ = omega (arith, hi); unit = r.unit; free = not_none (held n u) r.passes }
+
       choose : (f t : Bool) → cond f Finished (cond t Halted (given_or (next_task g.units (opened g p) held))) ≡ GivenTask n u → IsFree p held n u
       choose true t e = (cc)
       choose false true e = (cc)

@@ -4,10 +4,12 @@ pub mod Held
 pub mod Kept
 pub mod Machine
 pub mod NextTask
+pub mod OneCaller
 pub mod Opens
 pub mod OwnTasks
 pub mod RowLaws
 pub mod SameTask
 pub mod Stays
+pub mod Tallies
 pub mod Totals
 pub mod Words

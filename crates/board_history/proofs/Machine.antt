@@ -1,7 +1,7 @@
 -- The machine's calls and the legal next events are one: what a call appends is legal, and each legal event is what a call
 -- appends.
-use Rattle.std.proofs.Common.{◌≡◌, ℕ, zero, suc, ◌+◌, ◌<◌, ◌≤◌, Bool, true, false, cond, ◌||◌, ◌==◌, ◌↔◌, inl, inr, Option, Some, None, List, [], ◌∷◌, ◌++◌, length, refl, sym, ap, ◌∙◌, subst, arith, length-append}
-use Rattle.std.proofs.lemmas.Bool.{false≢true, cases_lt}
+use Rattle.std.proofs.Common.{◌≡◌, ℕ, ◌<◌, ◌≤◌, Bool, true, false, cond, ◌||◌, ◌==◌, ◌↔◌, Option, Some, None, List, [], ◌∷◌, ◌++◌, length, refl, ap, ◌∙◌, arith, length-append}
+use Rattle.std.proofs.lemmas.Bool.{false≢true}
 use Rattle.std.proofs.lemmas.Bool.Decides.{nat_tests}
 use Rattle.std.proofs.lemmas.List.{append_cancel_left}
 use Rattle.std.specs.List.{list_any}
@@ -179,8 +179,6 @@ module _ {P R A : Type 0} (g : Rules P R A) (fits : ℕ → P → A → Type 0) 
       choose false is = legal_more g fits h (Stopped c) legal (caller, is)
 
   -- ---- each legal event is what the machine appends
-
-
 
   post_made : (c n u : ℕ) (a : A) (e : Event A) → post_event g (posts h) c n u a ≡ e → IsPost g fits (posts h) (holders h) c n u a → events_after_post g h no_difference c n u a ≡ h ++ e ∷ []
   post_made c n u a e is post =

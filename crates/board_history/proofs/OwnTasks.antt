@@ -1,24 +1,24 @@
 -- The board's own tasks: prices and units over the horizon, and what a post whose task nowhere differs from the board's own
 -- tells.
-use Rattle.std.proofs.Common.{◌≡◌, ℕ, zero, suc, ◌+◌, ◌-◌, ◌<◌, ◌≤◌, ℤ, pos, neg_ℤ, Bool, true, false, cond, inl, inr, Option, Some, None, List, [], ◌∷◌, ◌++◌, length, map, take, get_or, replicate, refl, sym, ap, ◌∙◌, subst, arith}
+use Rattle.std.proofs.Common.{◌≡◌, ℕ, ◌-◌, ◌<◌, ℤ, pos, Bool, true, false, cond, Option, Some, None, List, [], ◌∷◌, ◌++◌, length, map, get_or, refl, sym, ap, ◌∙◌, subst, arith}
 use Rattle.std.proofs.lemmas.Bool.Decides.{nat_tests}
 use Rattle.std.proofs.lemmas.List.{length-map, length-replicate}
 use Rattle.std.proofs.lemmas.List.Elements.{All-append, All-map}
-use Rattle.std.proofs.lemmas.List.FromFn.{length-map-range_with_len, length-range_with_len}
+use Rattle.std.proofs.lemmas.List.FromFn.{length-map-range_with_len}
 use Rattle.std.proofs.lemmas.Option.{slice_get_within, slice_get-get_or, get_or_from_slice_get}
-use Rattle.std.specs.List.{All, range_with_len}
+use Rattle.std.specs.List.{All}
 use Rattle.std.specs.Option.{option_map_or}
 use Rattle.std.specs.Prelude.{nat_le, slice_get}
 use Rattle.uc_model.specs.Data.{AnyUnit, Thermal, Flat, Bid, PriceLists, Market, NamedThermalUnit, NamedRenewableUnit, NamedBidUnit, units, unit_count}
 use Rattle.uc_model.specs.Earnings.{earnings}
 use Rattle.uc_model.specs.Limits.{IsMarket}
-use Rattle.uc_model.specs.PriceRule.{Proposal, start_prices, opening_prices_of, stepped_prices, age, no_prices, next_prices, price_rule}
+use Rattle.uc_model.specs.PriceRule.{Proposal, start_prices, opening_prices_of, stepped_prices, age, no_prices, next_prices}
 use Rattle.uc_model.specs.Runs.{Fits}
 use Rattle.uc_model.specs.TaskLists.{task_numbers}
-use Rattle.board_history.specs.Board.{Setup, Answer, rules_of, IsRight, IsLegalHistory}
+use Rattle.board_history.specs.Board.{Setup, Answer, rules_of, IsRight}
 use Rattle.board_history.specs.Calls.{own_numbers, differs_from}
-use Rattle.board_history.specs.Laws.{StaysLegal, CallsStayLegal, StepsAreMachine}
-use Rattle.board_history.specs.Rounds.{Rules, Event, Posts, posts, prices_at, rows_to, opened}
+use Rattle.board_history.specs.Laws.{CallsStayLegal, StepsAreMachine}
+use Rattle.board_history.specs.Rounds.{Posts, posts, prices_at, rows_to}
 use Rattle.board_history.specs.Tasks.{difference, IsOver, IsTask}
 use Rattle.board_history.proofs.Kept.{rows_length}
 use Rattle.board_history.proofs.Machine.{claim_stays, post_stays, halt_stays, steps_are_machine}

@@ -1,24 +1,23 @@
 -- The rows of a legal history are right, and where it is finished they are the whole run.
-use Rattle.std.proofs.Common.{◌≡◌, ℕ, zero, suc, ◌+◌, ◌-◌, ◌<◌, ◌≤◌, ◌⊎◌, ℤ, Bool, true, false, inl, inr, Option, Some, None, List, [], ◌∷◌, ◌++◌, length, map, take, get_or, refl, sym, ap, ◌∙◌, subst, arith, rules, length-append}
+use Rattle.std.proofs.Common.{◌≡◌, ℕ, zero, suc, ◌+◌, ◌-◌, ◌<◌, ◌≤◌, Bool, true, false, inl, inr, Option, Some, List, [], ◌∷◌, ◌++◌, length, map, take, get_or, refl, sym, ap, subst, arith, rules, length-append}
 use Rattle.std.proofs.lemmas.Bool.{false≢true, cases_lt, leb-true}
 use Rattle.std.proofs.lemmas.List.{length-map}
 use Rattle.std.proofs.lemmas.Option.{slice_get_within}
 use Rattle.std.proofs.lemmas.List.Sums.{prefix_len_passes, prefix_len_stops}
-use Rattle.std.specs.List.{AllZip, prefix_len, range_with_len}
+use Rattle.std.specs.List.{AllZip, range_with_len}
 use Rattle.std.specs.Option.{option_map_or}
 use Rattle.std.specs.Prelude.{not, slice_get, IsTrue, IsFalse}
-use Rattle.board_history.specs.Rounds.{Rules, Event, Posts, posts, is_closed, answer_at, answers, rows_to, prices_at, closed_front, rows_of, free_front, opened, is_finished, IsLegal}
-use Rattle.board_history.proofs.Answered.{AllAnswer, all_answer}
+use Rattle.board_history.specs.Rounds.{Rules, Event, Posts, posts, is_closed, answer_at, answers, rows_to, prices_at, closed_front, rows_of, free_front, opened, is_finished}
+use Rattle.board_history.proofs.Answered.{all_answer}
 use Rattle.board_history.proofs.Fronts.{front_le}
-use Rattle.board_history.proofs.Kept.{post_of, rows_length, rows_take, row_at, front_closed, free_le}
+use Rattle.board_history.proofs.Kept.{post_of, rows_length, rows_take, row_at, front_closed}
 use Rattle.board_history.proofs.Stays.{finished_stays, goes_after, works_legal, posts-works}
 use Rattle.uc_model.specs.Data.{AnyUnit, Thermal, Flat, Bid, PriceLists, Schedule, Market, NamedThermalUnit, NamedRenewableUnit, NamedBidUnit, units, unit_count}
 use Rattle.uc_model.specs.Earnings.{IsBest, IsTop, earnings}
 use Rattle.uc_model.specs.PriceRule.{Proposal, no_prices, price_rule, is_settled}
-use Rattle.uc_model.specs.Systems.{IsDualValue}
 use Rattle.uc_model.specs.Runs.{Fits, IsNextRow, AreRightRows, IsRun}
 use Rattle.board_history.specs.Board.{Setup, Answer, row_of, rules_of, schedules_in, earned_in, IsRight, IsLegalFor}
-use Rattle.board_history.specs.Laws.{RowsAreRight, FinishedIsRun, FinishedHasRow, FinishedStays, HaltsChangeNothing}
+use Rattle.board_history.specs.Laws.{RowsAreRight, FinishedIsRun, FinishedHasRow, FinishedStays, HaltsChangeNothing, AnswersFit}
 
 pub units_length : (m : Market) → length (units m) ≡ unit_count m
 units_length m =
@@ -181,3 +180,22 @@ has_row b h ahead some finished =
     let g = rules_of b in
     let enough = leb-true (opened g (posts h)) (closed_front g (posts h)) finished in
     omega (arith, enough, ahead, some, rows_length g (posts h) (closed_front g (posts h)))
+
+pub answers_fit_now : AnswersFit
+answers_fit_now b h n u x legal is =
+    let a = all_answer (rules_of b) (IsRight Fits b.market) (row_of b.market no_prices []) h legal n u x is in
+    record { from_one = a.from_one; open_ = a.open_; unit = a.unit; right = a.fit }
+
+-- each unit of a row has an answer
+pub row_has_answers : (b : Setup) (h : List (Event Answer)) (k u : ℕ) → k < length (rows_of (rules_of b) (posts h)) → u < unit_count b.market →
+    (x : ℕ × Answer) × (posts h (suc k) u ≡ Some x)
+row_has_answers b h k u inside unit =
+    let g = rules_of b in
+    post_of g (posts h) (suc k) u (front_closed g (posts h) k (omega (arith, inside, rows_length g (posts h) (closed_front g (posts h))))) unit
+
+-- and the row is made of the answers, at the prices of its proposal
+pub row_is : (b : Setup) (h : List (Event Answer)) (k : ℕ) (d : Proposal) → 1 ≤ b.ahead → k < length (rows_of (rules_of b) (posts h)) →
+    get_or (rows_of (rules_of b) (posts h)) k d ≡ row_of b.market (prices_at (rules_of b) (posts h) (suc k)) (answers (rules_of b) (posts h) (suc k))
+row_is b h k d ahead inside =
+    let g = rules_of b in
+    row_at g ahead (posts h) (closed_front g (posts h)) k d (omega (arith, inside, rows_length g (posts h) (closed_front g (posts h))))

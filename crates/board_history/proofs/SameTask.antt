@@ -11,10 +11,10 @@ use Rattle.uc_model.specs.declared.units.Point.{Point}
 use Rattle.uc_model.specs.declared.units.Block.{Block}
 use Rattle.uc_model.specs.declared.units.Mark.{Mark}
 use Rattle.uc_model.specs.declared.units.Mark.TheVariants.{Free, MustOff, MustOn}
-use Rattle.uc_model.specs.Data.{ThermalUnit, RenewableUnit, BidUnit, AnyUnit, Thermal, Flat, Bid, PriceLists}
+use Rattle.uc_model.specs.Data.{ThermalUnit, AnyUnit, Thermal, Flat, Bid}
 use Rattle.uc_model.specs.Sums.{int_at}
 use Rattle.uc_model.specs.TaskLists.{flag_number, lag_numbers, point_numbers, mark_number, block_numbers, period_numbers, fixed_numbers, list_numbers, unit_numbers, task_numbers}
-use Rattle.board_history.specs.Tasks.{Difference, first_difference, difference, IsOver, IsTask, SameTask}
+use Rattle.board_history.specs.Tasks.{Difference, first_difference, difference, IsOver, SameTask}
 
 -- the lists have the same numbers at each place that both have
 abbrev pub Agree : List ℤ → List ℤ → Type 0

@@ -1,9 +1,9 @@
 -- Running totals: one more answer adds what it gives and earns to the totals of its proposal, since the missing answer
 -- gives and earns nothing. So totals that run while answers come in are those of the row at its closing.
-use Rattle.std.proofs.Common.{◌≡◌, ℕ, zero, suc, ◌+◌, ◌-◌, ◌<◌, ◌≤◌, ℤ, pos, ◌+ℤ◌, Bool, true, false, inl, inr, Option, Some, None, List, [], ◌∷◌, length, map, refl, sym, ap, ◌∙◌, subst, arith}
+use Rattle.std.proofs.Common.{◌≡◌, ℕ, zero, suc, ◌+◌, ◌-◌, ◌<◌, ◌≤◌, ℤ, pos, ◌+ℤ◌, inl, inr, Some, List, [], ◌∷◌, length, map, refl, sym, ap, ◌∙◌, subst, arith}
 use Rattle.std.proofs.lemmas.Bool.{cases_lt}
 use Rattle.std.proofs.lemmas.Int.{ints}
-use Rattle.std.specs.List.{zip, range_with_len}
+use Rattle.std.specs.List.{range_with_len}
 use Rattle.std.specs.Prelude.{slice_get}
 use Rattle.board_history.proofs.Fronts.{map_range_same}
 use Rattle.uc_model.specs.Data.{AnyUnit, Thermal, Flat, Bid, Schedule}
@@ -12,7 +12,7 @@ use Rattle.uc_model.specs.Schedules.{reserve_in}
 use Rattle.uc_model.specs.Sums.{total, zip_with}
 use Rattle.uc_model.specs.Systems.{total_power, total_reserve}
 use Rattle.std.proofs.lemmas.Option.{slice_get_within}
-use Rattle.board_history.specs.Totals.{TotalsRun, AddsOne}
+use Rattle.board_history.specs.Totals.{TotalsRun}
 use Rattle.board_history.specs.Board.{Answer, no_answer, schedules_in, earned_in}
 
 no_supply : (u : AnyUnit) (k : ℕ) → supply_in u no_answer.schedule (suc k) ≡ pos 0

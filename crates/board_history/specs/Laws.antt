@@ -1,8 +1,10 @@
 -- What holds of every legal history of a board. Each law is the clause of a public function.
-use Rattle.std.specs.Prelude.{◌≡◌, ◌↔◌, ◌⊎◌, ℕ, ◌+◌, ◌*◌, ◌<◌, ◌≤◌, true, not, Some, None, List, [], ◌∷◌, ◌++◌, filter, length}
-use Rattle.board_history.specs.Board.{Setup, Answer, Content, rules_of, IsRight, IsLegalFor, IsLegalHistory}
+use Rattle.std.specs.Prelude.{◌≡◌, ◌↔◌, ℕ, ◌+◌, ◌*◌, ◌<◌, ◌≤◌, true, not, Some, List, ◌++◌, filter, length}
+use Rattle.board_history.specs.Board.{Setup, Answer, rules_of, IsRight, IsLegalFor, IsLegalHistory}
 use Rattle.board_history.specs.Calls.{after_claim, after_post, after_halt}
-use Rattle.board_history.specs.Rounds.{Event, holders, posts, prices_at, opened, rows_of, is_finished, is_halt, IsNext}
+use Rattle.board_history.specs.Counts.{claims_in, posts_in, halts_in}
+use Rattle.board_history.specs.Entries.{entries_of}
+use Rattle.board_history.specs.Rounds.{Event, posts, prices_at, opened, rows_of, is_finished, is_halt, IsNext}
 use Rattle.board_history.specs.Tasks.{IsTask}
 use Rattle.board_history.specs.Words.{IsMachineStep, Means}
 use Rattle.uc_model.specs.Data.{AnyUnit, PriceLists, Schedule, unit_count}
@@ -39,6 +41,29 @@ abbrev pub FinishedHasRow : Type 0
 FinishedHasRow =
     (b : Setup) (h : List (Event Answer)) → 1 ≤ b.ahead → 1 ≤ b.budget → is_finished (rules_of b) (posts h) ≡ true →
     1 ≤ length (rows_of (rules_of b) (posts h))
+
+-- ---- answers
+
+-- the answer of a task of an open proposal, which fits the prices of the proposal
+pub record IsAnswered (b : Setup) (h : List (Event Answer)) (n u : ℕ) (a : Answer) : Type 0 where
+  pub from_one : 0 < n
+  pub open_ : n ≤ opened (rules_of b) (posts h)
+  pub unit : u < unit_count b.market
+  pub right : IsRight Fits b.market u (prices_at (rules_of b) (posts h) n) a
+
+abbrev pub AnswersFit : Type 0
+AnswersFit = (b : Setup) (h : List (Event Answer)) (n u : ℕ) (x : ℕ × Answer) → IsLegalHistory b h → posts h n u ≡ Some x → IsAnswered b h n u x.1
+
+-- ---- how many events there are
+
+pub record AreAtMost (b : Setup) (h : List (Event Answer)) : Type 0 where
+  pub claims : claims_in h ≤ b.budget * unit_count b.market
+  pub posts : posts_in h ≤ b.budget * unit_count b.market
+  pub halts : halts_in h ≤ b.callers
+  pub entries : length (entries_of h) ≤ 2 * (b.budget * unit_count b.market) + b.callers
+
+abbrev pub EventsAreAtMost : Type 0
+EventsAreAtMost = (b : Setup) (h : List (Event Answer)) → IsLegalHistory b h → AreAtMost b h
 
 -- ---- histories that go on
 

@@ -1,6 +1,7 @@
 //! Laws on the histories of a board: each is the contract of a function that does nothing.
 ghost use Rattle.uc_model.specs.Runs.{Fits};
-ghost use Rattle.board_history.specs.Laws.{WordsMean, StepsAreMachine, CallsStayLegal, RowsAreRight, FinishedIsRun, FinishedHasRow, FinishedStays, HaltsChangeNothing};
+ghost use Rattle.board_history.specs.Laws.{WordsMean, StepsAreMachine, CallsStayLegal, RowsAreRight, FinishedIsRun, FinishedHasRow, FinishedStays, HaltsChangeNothing, AnswersFit, EventsAreAtMost};
+ghost use Rattle.board_history.specs.OneCaller.{ClaimsAreGiven, GivenIsTaken};
 ghost use Rattle.board_history.specs.Tasks.{SameTask};
 ghost use Rattle.board_history.specs.Totals.{TotalsRun};
 
@@ -38,6 +39,18 @@ pub fn finished_has_row()
     ensures { FinishedHasRow }
 {}
 
+/// Every answer of a legal history is for a unit of the case and an open proposal, fits that unit at the proposal's prices,
+/// and comes with what it earns.
+pub fn answers_fit()
+    ensures { AnswersFit }
+{}
+
+/// In a legal history a task is claimed at most once and posted at most once, and a caller halts at most once. So there are
+/// at most twice as many entries as tasks, and one for each caller.
+pub fn events_are_at_most()
+    ensures { EventsAreAtMost }
+{}
+
 /// A finished history stays finished in every legal history that goes on from it.
 pub fn finished_stays_finished()
     ensures { FinishedStays Fits }
@@ -56,4 +69,15 @@ pub fn totals_run()
 /// Two tasks whose flat lists have the same number at each place that both have are one task.
 pub fn same_task()
     ensures { SameTask }
+{}
+
+/// Where nobody has halted and every task that was claimed is posted, a claim is given or the board has finished.
+pub fn claims_are_given()
+    ensures { ClaimsAreGiven }
+{}
+
+/// Where one caller claims a task and then posts an answer for that very task, the answer is taken, every task that was
+/// claimed is posted again, and there is one post more. By `events_are_at_most` such rounds end.
+pub fn given_is_taken()
+    ensures { GivenIsTaken }
 {}
