@@ -8,51 +8,13 @@ use Rattle.std.specs.Option.{option_or, option_map_or}
 use Rattle.std.specs.Prelude.{is_none}
 use Rattle.board_history.specs.Rounds.{Rules, Event, Given, Taken, Closing, Stopped, sooner, only_at, Holders, holders, Posts, posts, with_post, opened, is_finished, ClaimReply, Finished, Halted, GivenTask, NotYet, next_task, claim_from, IsPost, IsNext, GoesOn, IsLegal}
 use Rattle.board_history.proofs.Answered.{posts-given, posts-stopped, posts-taken, posts-closing, holders-given, holders-taken, holders-closing, holders-stopped, post_cases}
-use Rattle.board_history.proofs.NextTask.{one_row, rows_from}
+use Rattle.board_history.proofs.NextTask.{found_in_rows}
 
 -- ---- what the first task that isn't held tells
 
-not_none : {X : Type 0} (o : Option X) → is_none o ≡ true → o ≡ None
+pub not_none : {X : Type 0} (o : Option X) → is_none o ≡ true → o ≡ None
 not_none None h = refl
 not_none (Some x) h = absurd (false≢true h)
-
-module _ (t : ℕ × ℕ → Bool) where
-  record IsFound (low high units m u : ℕ) : Type 0 where
-    pub from : low ≤ m
-    pub to : m < high
-    pub unit : u < units
-    pub passes : t (m, u) ≡ true
-
-  first_or : {X Y : Type 0} (b : Bool) (x y : X) (o : Option X) → cond b (Some x) o ≡ Some y → ((b ≡ true) → x ≡ y → Y) → (o ≡ Some y → Y) → Y
-  first_or true x y o h f g = f refl (cc)
-  first_or false x y o h f g = g h
-
-  found_in_row : (m a k n u : ℕ) → find t (one_row t m a k) ≡ Some (n, u) → (m ≡ n) × (u < a + k) × (t (n, u) ≡ true)
-  found_in_row m a zero n u h = (cc)
-  found_in_row m a (suc k) n u h =
-      first_or (t (m, a)) (m, a) (n, u) (find t (one_row t m (a + 1) k)) h
-      (λ is same.
-      let e : m ≡ n = ap (λ (x : ℕ × ℕ). x.0) same in
-      let f : a ≡ u = ap (λ (x : ℕ × ℕ). x.1) same in
-      (e, omega (arith, f), subst (λ (x : ℕ × ℕ). t x ≡ true) same is))
-      (λ rest. let r = found_in_row m (a + 1) k n u rest in let w = r.1 in (r.0, omega (arith, w), r.2))
-
-  either : {X Y : Type 0} (a b : Option X) (y : X) → option_or a b ≡ Some y → (a ≡ Some y → Y) → (b ≡ Some y → Y) → Y
-  either None b y h f g = g h
-  either (Some x) b y h f g = f h
-
-  found_in_rows : (units a n m u : ℕ) → find t (rows_from t units a n) ≡ Some (m, u) → IsFound a (a + n) units m u
-  found_in_rows units a zero m u h = (cc)
-  found_in_rows units a (suc n) m u h =
-      either (find t (one_row t a 0 units)) (find t (rows_from t units (a + 1) n)) (m, u) (sym (find-append t (one_row t a 0 units) (rows_from t units (a + 1) n)) ∙ h)
-      (λ here.
-      let r = found_in_row a 0 units m u here in
-      let e = r.0 in let w = r.1 in
-      record { from = omega (arith, e); to = omega (arith, e); unit = omega (arith, w); passes = r.2 })
-      (λ rest.
-      let r = found_in_rows units (a + 1) n m u rest in
-      let lo = r.from in let hi = r.to in
-      record { from = omega (arith, lo); to = omega (arith, hi); unit = r.unit; passes = r.passes })
 
 module _ {P R A : Type 0} (g : Rules P R A) where
   -- a task that a claim gives
@@ -65,7 +27,7 @@ module _ {P R A : Type 0} (g : Rules P R A) where
   abbrev pub given_or : Option (ℕ × ℕ) → ClaimReply
   given_or o = option_map_or (λ (x : ℕ × ℕ). GivenTask x.0 x.1) o NotYet
 
-  is_given : (o : Option (ℕ × ℕ)) (n u : ℕ) → given_or o ≡ GivenTask n u → o ≡ Some (n, u)
+  pub is_given : (o : Option (ℕ × ℕ)) (n u : ℕ) → given_or o ≡ GivenTask n u → o ≡ Some (n, u)
   is_given None n u h = (cc)
   is_given (Some x) n u h = let e : x.0 ≡ n = (cc) in let f : x.1 ≡ u = (cc) in ap (λ (y : ℕ × ℕ). Some y) (λ i. (e i, f i))
 

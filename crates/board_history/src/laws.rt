@@ -1,6 +1,6 @@
 //! Laws on the histories of a board: each is the contract of a function that does nothing.
 ghost use Rattle.uc_model.specs.Runs.{Fits};
-ghost use Rattle.board_history.specs.Laws.{WordsMean, StepsAreMachine, CallsStayLegal, RowsAreRight, FinishedIsRun, FinishedHasRow, FinishedStays, HaltsChangeNothing, AnswersFit, EventsAreAtMost};
+ghost use Rattle.board_history.specs.Laws.{WordsMean, ClaimsMean, StepsAreMachine, CallsStayLegal, RowsAreRight, FinishedIsRun, FinishedHasRow, FinishedStays, HaltsChangeNothing, AnswersFit, EventsAreAtMost};
 ghost use Rattle.board_history.specs.OneCaller.{ClaimsAreGiven, GivenIsTaken};
 ghost use Rattle.board_history.specs.Tasks.{SameTask};
 ghost use Rattle.board_history.specs.Totals.{TotalsRun};
@@ -10,6 +10,12 @@ ghost use Rattle.board_history.specs.Totals.{TotalsRun};
 /// proposal that is open is closed.
 pub fn words_mean()
     ensures { WordsMean }
+{}
+
+/// What each answer of a claim says: that the board has finished; else that a caller has halted; else that the task is the
+/// lowest open proposal's lowest unclaimed unit; else that every task of the open proposals is claimed.
+pub fn claims_mean()
+    ensures { ClaimsMean }
 {}
 
 /// A legal history's events are what the machine makes: an event may come next exactly where some call appends it, and the
