@@ -4,11 +4,9 @@ use Rattle.std.proofs.Common.{◌≡◌, ℕ, zero, suc, ◌+◌, ◌<◌, ◌�
 use Rattle.std.proofs.lemmas.Bool.{false≢true, cases_lt, le-leb}
 use Rattle.std.proofs.lemmas.Bool.Decides.{nat_tests}
 use Rattle.std.proofs.lemmas.List.Elements.{filter-append}
-use Rattle.std.proofs.lemmas.List.Folds.{find-append, list_any-append}
-use Rattle.std.specs.List.{find, filter, list_all, list_any, range_with_len}
-use Rattle.std.specs.Option.{option_or}
+use Rattle.std.proofs.lemmas.List.Folds.{list_any-append}
+use Rattle.std.specs.List.{filter, list_all, list_any, range_with_len}
 use Rattle.std.specs.Prelude.{is_some, is_none}
-use Rattle.uc_model.specs.Data.{units}
 use Rattle.board_history.specs.Board.{Answer, rules_of, IsRight}
 use Rattle.board_history.specs.Calls.{differs_from}
 use Rattle.board_history.specs.Counts.{is_post, posts_in}

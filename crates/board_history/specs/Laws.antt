@@ -1,12 +1,12 @@
 -- What holds of every legal history of a board. Each law is the clause of a public function.
 use Rattle.std.specs.Prelude.{◌≡◌, ◌↔◌, ℕ, ◌+◌, ◌*◌, ◌<◌, ◌≤◌, true, not, Some, List, ◌++◌, filter, length}
 use Rattle.board_history.specs.Board.{Setup, Answer, Content, rules_of, IsRight, IsLegalFor, IsLegalHistory}
-use Rattle.board_history.specs.Calls.{own_rows, has_finished, after_claim, after_post, after_halt}
+use Rattle.board_history.specs.Calls.{own_rows, has_finished, differs_from, after_claim, after_post, after_halt}
 use Rattle.board_history.specs.Counts.{claims_in, posts_in, halts_in}
 use Rattle.board_history.specs.Entries.{entries_of}
 use Rattle.board_history.specs.Rounds.{Event, posts, prices_at, opened, rows_of, is_finished, is_halt, IsNext}
 use Rattle.board_history.specs.Tasks.{IsTask}
-use Rattle.board_history.specs.Words.{IsMachineStep, Means, ClaimSays}
+use Rattle.board_history.specs.Words.{IsMachineStep, Means, ClaimSays, PostSays}
 use Rattle.uc_model.specs.Data.{AnyUnit, PriceLists, Schedule, unit_count}
 use Rattle.uc_model.specs.Earnings.{earnings}
 use Rattle.uc_model.specs.Limits.{IsMarket}
@@ -20,6 +20,11 @@ WordsMean = (b : Setup) (h : List (Event Answer)) → Means (rules_of b) (posts 
 -- and what each answer of a claim says
 abbrev pub ClaimsMean : Type 0
 ClaimsMean = (b : Setup) (h : List (Event Answer)) → ClaimSays (rules_of b) h
+
+-- and each answer of a post
+abbrev pub PostsMean : Type 0
+PostsMean =
+    (s : Content) (k n u : ℕ) (ρ : PriceLists) (x : AnyUnit) (a : Answer) → PostSays (rules_of s.setup) s.events (differs_from s.setup u ρ x) k n u a
 
 -- an event is a legal next one exactly where the machine makes it of a call, and its answer is right
 abbrev pub StepsAreMachine : Type 0
