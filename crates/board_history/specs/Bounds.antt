@@ -43,11 +43,13 @@ pub record IsRowWithin (m : Market) (r : Proposal) : Type 0 where
 abbrev pub RowsAreWithin : Type 0
 RowsAreWithin =
     (b : Setup) (h : List (Event Answer)) → IsMarket b.market → 1 ≤ b.ahead → IsLegalHistory b h →
-    (k : ℕ) (d : Proposal) → k < length (rows_of (rules_of b) (posts h)) → IsRowWithin b.market (slice_index_or (rows_of (rules_of b) (posts h)) k d)
+    (k : ℕ) (d : Proposal) → k < length (rows_of (rules_of b) (posts h)) →
+    IsRowWithin b.market (slice_index_or (rows_of (rules_of b) (posts h)) k d)
 
 -- no row's value is above the cost of the plan (Gribik, Hogan and Pope 2007)
 abbrev pub RowsAreAtMostCost : Type 0
 RowsAreAtMostCost =
     (b : Setup) (h : List (Event Answer)) → IsMarket b.market → 1 ≤ b.ahead → IsLegalHistory b h →
     IsFeasiblePlan b.market b.plan → b.cost ≡ plan_cost b.market b.plan →
-    (k : ℕ) (d : Proposal) → k < length (rows_of (rules_of b) (posts h)) → (slice_index_or (rows_of (rules_of b) (posts h)) k d).value ≤ℤ b.cost
+    (k : ℕ) (d : Proposal) → k < length (rows_of (rules_of b) (posts h)) →
+    (slice_index_or (rows_of (rules_of b) (posts h)) k d).value ≤ℤ b.cost
