@@ -1,0 +1,4 @@
+pub mod Bounds
+pub mod FeasibleLaws
+pub mod UnitLaws
+pub mod WordLaws

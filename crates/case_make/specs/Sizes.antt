@@ -1,5 +1,5 @@
 -- The ranges of draws, and of what follows from them.
-use Rattle.std.specs.Prelude.{ℕ, ◌<◌, ◌≤◌, List, length}
+use Rattle.std.specs.Prelude.{◌≡◌, ℕ, ◌≤◌, List, length}
 use Rattle.std.specs.List.{All}
 use Rattle.case_make.specs.declared.draws.UnitDraws.{UnitDraws}
 

@@ -90,6 +90,20 @@ fn first_power(draws: &UnitDraws) -> u32
     if draws.is_on() { draws.level() } else { 0 }
 }
 
+// Periods on before the horizon.
+fn first_up(draws: &UnitDraws) -> u32
+    ensures { result ≡ (if is_on draws.now then 24 else 0) }
+{
+    if draws.is_on() { 24 } else { 0 }
+}
+
+// Periods off before the horizon.
+fn first_down(draws: &UnitDraws) -> u32
+    ensures { result ≡ (if is_on draws.now then 0 else 24) }
+{
+    if draws.is_on() { 0 } else { 24 }
+}
+
 /// The thermal unit of its draws.
 pub fn unit(alloc: Global, draws: &UnitDraws) -> Result<Unit, AllocError>
     requires { AreDrawn draws.now }
@@ -98,8 +112,6 @@ pub fn unit(alloc: Global, draws: &UnitDraws) -> Result<Unit, AllocError>
     let lags = lags(alloc, draws)?;
     let points = points(alloc, draws)?;
     let window = Marks::filled(alloc, PERIODS, Mark::Free)?;
-    let on0 = draws.is_on();
-    let (up0, down0) = if on0 { (24, 0) } else { (0, 24) };
     let limit = draws.min_power() + draws.ramp();
     Ok(Unit {
         must_run: false,
@@ -112,9 +124,9 @@ pub fn unit(alloc: Global, draws: &UnitDraws) -> Result<Unit, AllocError>
         min_up: draws.min_up,
         min_down: draws.min_down,
         power0: i64::from(first_power(draws)),
-        on0,
-        up0,
-        down0,
+        on0: draws.is_on(),
+        up0: first_up(draws),
+        down0: first_down(draws),
         lags,
         points,
         window,
