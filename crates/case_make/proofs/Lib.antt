@@ -1,4 +1,6 @@
 pub mod Bounds
 pub mod FeasibleLaws
+pub mod Loops
+pub mod RenewableLaws
 pub mod UnitLaws
 pub mod WordLaws

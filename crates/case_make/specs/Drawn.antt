@@ -101,11 +101,15 @@ reserve_of d = min (max_of d - high_of d) (ramp_of d - step_of d)
 unfoldable pub is_high : ℕ → Bool
 is_high k = nat_le 8 (k % 24) && nat_le (k % 24) 19
 
--- a unit that stays on, and one that stays off
+-- the power of a unit that is on, in the period at a place
+unfoldable pub power_at : ℕ → ℕ → ℕ → ℕ
+power_at level high k = if is_high k then high else level
+
+-- the schedule of a unit that stays on, and of one that stays off
 unfoldable pub running : ℕ → ℕ → ℕ → Schedule
 running level high reserve = record {
   on = replicate 48 true;
-  power = map (λ k. if is_high k then high else level) (range_with_len 0 48);
+  power = map (power_at level high) (range_with_len 0 48);
   reserve = replicate 48 reserve;
 }
 

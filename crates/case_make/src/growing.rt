@@ -27,8 +27,8 @@ fn add_powers(sums: &mut Numbers, powers: &Powers)
     ensures length { length sums.new.items ≡ length sums.old.items }
     ensures sums { (k : ℕ) → k < length sums.old.items → int_at sums.new.items k ≡ int_at sums.old.items k +ℤ pos (slice_index powers.now.items k) }
 {
-    for (k, power) in powers.as_slice().iter().enumerate() {
-        let sum = *sums.get(k) + i64::from(*power);
+    for k in 0..powers.len() {
+        let sum = *sums.get(k) + i64::from(*powers.get(k));
         sums.set(k, sum);
     }
 }

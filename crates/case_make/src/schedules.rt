@@ -1,8 +1,8 @@
 //! Schedules of generated thermal units: a unit stays as it is before the horizon, on or off.
-ghost use Rattle.std.specs.Prelude.{◌≡◌, IfOk, map, if◌then◌else◌};
+ghost use Rattle.std.specs.Prelude.{◌≡◌, IfOk, map};
 ghost use Rattle.std.specs.List.{range_with_len};
 ghost use Rattle.uc_model.specs.PlainUnits.{schedule_of};
-ghost use Rattle.case_make.specs.Drawn.{is_high, running, idle, unit_schedule};
+ghost use Rattle.case_make.specs.Drawn.{is_high, power_at, running, idle, unit_schedule};
 ghost use Rattle.case_make.specs.Sizes.{AreDrawn};
 
 use crate::draws::UnitDraws;
@@ -20,14 +20,15 @@ fn is_high(place: u32) -> bool
     8 <= hour && hour <= 19
 }
 
+#[tactic(auto, unfolding(crate::specs::Drawn::power_at))]
 fn power_in(place: u32, level: u32, high: u32) -> u32
-    ensures { result ≡ (if is_high place then high else level) }
+    ensures { result ≡ power_at level high place }
 {
     if is_high(place) { high } else { level }
 }
 
 fn powers(alloc: Global, level: u32, high: u32) -> Result<Powers, AllocError>
-    ensures { IfOk result (λ powers. powers.items ≡ map (λ k. if is_high k then high else level) (range_with_len 0 48)) }
+    ensures { IfOk result (λ powers. powers.items ≡ map (power_at level high) (range_with_len 0 48)) }
 {
     let mut powers = Powers::make(alloc, PERIODS)?;
     for place in 0..PERIODS {
