@@ -1,5 +1,5 @@
 -- A loop that pushes what a function gives at each place.
-use Rattle.std.proofs.Common.{◌≡◌, ℕ, ◌+◌, List, [], ◌∷◌, ◌++◌, map, ap, sym, ◌∙◌, arith}
+use Rattle.std.proofs.Common.{◌≡◌, ℕ, ◌+◌, List, [], ◌∷◌, ◌++◌, map, refl, ap, sym, ◌∙◌, append_assoc, arith}
 use Rattle.std.proofs.lemmas.List.FromFn.{map-range_with_len_more}
 use Rattle.std.proofs.lemmas.List.{map_push}
 use Rattle.std.specs.List.{range_with_len}
@@ -17,3 +17,11 @@ module _ {X : Type 0} (f : ℕ → X) (k : ℕ) where
 pub viewed : {X Y : Type 0} → (view : Y → X) (f : ℕ → X) (k : ℕ) (xs ys : List Y) (x : Y) → ys ≡ xs ++ x ∷ [] → map view xs ≡ map f (range_with_len 0 k) → view x ≡ f k →
     map view ys ≡ map f (range_with_len 0 (k + 1))
 viewed view f k xs ys x more so_far is = pushed f k (map view xs) (map view ys) (view x) (ap (map view) more ∙ map_push view xs x) so_far is
+
+-- the same behind what was there before
+pub pushed_after : {X : Type 0} → (f : ℕ → X) (k : ℕ) (before xs ys : List X) (x : X) → ys ≡ xs ++ x ∷ [] → xs ≡ before ++ map f (range_with_len 0 k) → x ≡ f k →
+    ys ≡ before ++ map f (range_with_len 0 (k + 1))
+pushed_after {X} f k before xs ys x more so_far is =
+    let made : List X = map f (range_with_len 0 k) in
+    more ∙ ap (λ (zs : List X). zs ++ x ∷ []) so_far ∙ append_assoc before made (x ∷ [])
+    ∙ ap (λ (zs : List X). before ++ zs) (pushed f k made (made ++ x ∷ []) x refl refl is)

@@ -47,3 +47,7 @@ unfolding draw
 drawn_within low high word h =
     let below : word % (high - low + 1) < high - low + 1 = mod_below word (high - low + 1) (omega arith) in
     record { at_least = omega arith; at_most = omega (arith, h, below) }
+
+-- after a words, and b more
+pub then_moved : (a b n : ℕ) (g h i : Lcg) → h ≡ moved_on a g → i ≡ moved_on b h → n ≡ a + b → i ≡ moved_on n g
+then_moved a b n g h i e f is = f ∙ ap (moved_on b) e ∙ moved_twice a b g ∙ sym (ap (λ (m : ℕ). moved_on m g) is)
