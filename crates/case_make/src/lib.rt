@@ -12,5 +12,5 @@ mod units;
 
 pub use make::make_case;
 
-
-
+#[cfg(test)]
+mod tests;

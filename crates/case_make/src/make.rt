@@ -138,7 +138,9 @@ pub fn make_case(alloc: Global, number: u64) -> Result<(Case, Plan), AllocError>
     let reserves = plan.requirements(alloc)?;
     let bids = BidList::make(alloc, 0)?;
     let Growing {
-        responses, power, ..
+        responses,
+        power,
+        ..
     } = plan;
     let case = Case {
         periods: PERIODS,

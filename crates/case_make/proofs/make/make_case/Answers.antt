@@ -1,8 +1,6 @@
-use Rattle.std.proofs.Common.{◌≡◌, ap, sym, ◌∙◌, subst, map, arith}
-use Rattle.uc_model.specs.Data.{Market}
+use Rattle.std.proofs.Common.{ap, sym, ◌∙◌, subst, map, arith}
 use Rattle.uc_model.specs.Limits.{IsMarket}
 use Rattle.uc_model.specs.PlainUnits.{named_bid_of}
-use Rattle.uc_model.specs.Systems.{IsFeasiblePlan}
 use Rattle.case_make.specs.Grown.{IsSmall}
 use Rattle.case_make.specs.Made.{market_from, plan_from}
 use Rattle.case_make.specs.Words.{start_of}
@@ -55,5 +53,5 @@ returns-clause-feasible c =
     let sums = c.in_ok-flat.ensures.summed in
     let plan = plan_made g _ _ _ c.in_ok-thermal.ensures.plan c.in_ok-flat.ensures.plan moved in
     let market = market_made g _ _ _ _ _ _ _ plan moved (demand_made _ _ _ sums) (requirement_made _ _ _ _ sums c.in_ok-reserves.ensures)
-        c.in_ok-thermal.ensures.units c.in_ok-flat.ensures.units (ap (map named_bid_of) c.in_ok-bids.ensures.empty) in
+    c.in_ok-thermal.ensures.units c.in_ok-flat.ensures.units (ap (map named_bid_of) c.in_ok-bids.ensures.empty) in
     feasible_for g _ _ market plan
