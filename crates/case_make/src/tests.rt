@@ -1,8 +1,8 @@
 use crate::make_case;
 use std::test::Fail;
 
-// The words are those of PCG32 from state 7 on stream 54, by the published algorithm, and the numbers follow from them
-// by the text of the profile. T73 ends the thermal units' words, and R81 all words.
+// Worked out outside this program, from the words that the published PCG32 gives from state 7 on stream 54. T73 takes the
+// thermal units' last words, and R81 the last of all.
 #[test]
 fn a_generated_case(rt: HostRuntime) -> Result<(), Fail> {
     let (case, plan) = make_case(rt.alloc(), 7)?;
