@@ -1,7 +1,8 @@
 -- Entries by last period.
-use Rattle.std.proofs.Common.{◌≡◌, ℕ, zero, suc, ◌+◌, ◌-◌, ◌<◌, ◌≤◌, ◌≢◌, ◌⊎◌, inl, inr, ℤ, List, length, get_or, set, Option, None, sym, ap, ◌∙◌, subst, arith, get_or-set_same, get_or-set_other}
+use Rattle.std.proofs.Common.{◌≡◌, ℕ, zero, suc, ◌+◌, ◌-◌, ◌<◌, ◌≤◌, ◌≢◌, ◌⊎◌, inl, inr, ℤ, Bool, true, false, List, length, get_or, set, Option, None, sym, ap, ◌∙◌, subst, arith, get_or-set_same, get_or-set_other}
 use Rattle.std.proofs.lemmas.Bool.{cases_lt}
 use Rattle.spell_run.specs.Entries.{entry_of}
+use Rattle.spell_run.specs.Spells.{spell_first}
 
 -- one more entry
 module _ (xs ys : List (Option ℤ)) (place : ℕ) (o : Option ℤ) (is : ys ≡ set xs place o) where
@@ -27,3 +28,8 @@ entries_by_last P first periods entries one each zero from until = absurd (omega
 entries_by_last P first periods entries one each (suc k) from until =
     let z : k ≡ suc k - 1 = omega arith in
     subst (λ (j : ℕ). P (suc k) (get_or entries j None)) z (each k from until)
+
+-- a spell has begun by period suc k
+pub first_from : (started : Bool) (first k : ℕ) → first ≤ suc k → spell_first started first ≤ suc k
+first_from true first k from = from
+first_from false first k from = omega arith
