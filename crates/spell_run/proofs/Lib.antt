@@ -7,6 +7,7 @@ pub mod FrontierLaws
 pub mod PeriodLaws
 pub mod ReserveLaws
 pub mod RunLaws
+pub mod SizeLaws
 pub mod StepLaws
 pub mod TieLaws
 pub mod WayLaws

@@ -1,4 +1,4 @@
-use Rattle.std.proofs.Common.{rules, ◌≡◌, ℕ, suc, ◌+◌, ◌<◌, ◌≤◌, length, Option, Some, None, IfOk, IfSome, MatchOption, ℤ, sym, subst, arith}
+use Rattle.std.proofs.Common.{rules, ◌≡◌, ℕ, suc, ◌+◌, ◌-◌, ◌*◌, ◌<◌, ◌≤◌, length, Option, Some, None, IfOk, IfSome, MatchOption, ℤ, sym, subst, arith}
 use Rattle.std.proofs.lemmas.Option.{MatchOption-at_some}
 use Rattle.std.proofs.lemmas.Result.{IfOk-weaker}
 use Rattle.shape_law.specs.Table.{Table}
@@ -13,6 +13,7 @@ use Rattle.spell_run.proofs.FairLaws.{cost_is}
 use Rattle.spell_run.proofs.FrameLaws.{then, stays, kept}
 use Rattle.spell_run.proofs.FrontierLaws.{small_frontier}
 use Rattle.spell_run.proofs.PeriodLaws.{both_ok, on_chosen, on_more, found_range, frontier_next, onward_next, way_chosen, none_chosen}
+use Rattle.spell_run.proofs.SizeLaws.{never_both, next_fits, one_fits, rest_room, rest_enough}
 use Rattle.spell_run.proofs.best.+way_from.Goals as goal
 
 pub stepped-requires-clause-curve : goal.stepped-requires-clause-curve
@@ -220,3 +221,35 @@ returns-in-None-clause-frame g t c =
     let join = then g.S.Home.Cells.cell_list g.S.Shape.is_in g.S.Shape.numbers g.S.Shape.function g.met.S.Shape.same_cells g.met.S.Shape.owns in
     let frame = join _ _ _ _ _ _ c.in_ok-after.ensures.frame (join _ _ _ _ _ _ c.way_from-found.ensures.frame c.give_back.ensures.frame) in
     kept g.S.Home.Cells.cell_list g.S.Shape.is_in g.S.Shape.numbers g.S.Shape.function g.met.S.Shape.same_cells g.met.S.Shape.owns c.args.home.now c.give_back.new.home c.args.before.now frame c.requires.here
+
+pub returns-then-place-spell-clause-sure : goal.returns-then-place-spell-clause-sure
+returns-then-place-spell-clause-sure g t c = λ most counts room enough.
+    let until = c.requires.until in
+    let left : 1 ≤ c.args.spell.now.last - c.args.place = omega (arith, until) in
+    c.last_period.ensures.sure counts (next_fits (c.args.spell.now.last - c.args.place) (length c.args.curve.now.blocks.items + 5) most (g.S.Shape.cells c.args.before.now) 0 (g.S.Home.Cells.sure c.args.home.now) 0 left room enough)
+
+pub returns-in_err-after-clause-sure : goal.returns-in_err-after-clause-sure
+returns-in_err-after-clause-sure g t c = λ most counts room enough.
+    let until = c.requires.until in
+    let left : 1 ≤ c.args.spell.now.last - c.args.place = omega (arith, until) in
+    absurd (never_both c.stepped.result _ c.in_err-after.was (c.stepped.ensures.sure counts (next_fits (c.args.spell.now.last - c.args.place) (length c.args.curve.now.blocks.items + 5) most (g.S.Shape.cells c.args.before.now) 0 (g.S.Home.Cells.sure c.args.home.now) 0 left room enough)))
+
+pub returns-in_err-found-clause-sure : goal.returns-in_err-found-clause-sure
+returns-in_err-found-clause-sure g t c = λ most counts room enough.
+    let until = c.requires.until in
+    let left : 1 ≤ c.args.spell.now.last - c.args.place = omega (arith, until) in
+    let taken = c.in_ok-after.ensures.balance counts in
+    let next : (c.args.spell.now.last - c.args.place) - 1 ≡ c.args.spell.now.last - (c.args.place + 1) = omega arith in
+    let room' = subst (λ (n : ℕ). g.S.Shape.cells c.in_ok-after.after + n * (length c.args.curve.now.blocks.items + 5) ≤ most) next (rest_room (c.args.spell.now.last - c.args.place) (length c.args.curve.now.blocks.items + 5) most (g.S.Shape.cells c.args.before.now) (g.S.Shape.cells c.in_ok-after.after) (g.S.Home.Cells.sure c.args.home.now) (g.S.Home.Cells.sure c.stepped.new.home) left room enough taken.0 taken.1) in
+    let enough' = subst (λ (n : ℕ). n * most ≤ g.S.Home.Cells.sure c.stepped.new.home) next (rest_enough (c.args.spell.now.last - c.args.place) (length c.args.curve.now.blocks.items + 5) most (g.S.Shape.cells c.args.before.now) (g.S.Shape.cells c.in_ok-after.after) (g.S.Home.Cells.sure c.args.home.now) (g.S.Home.Cells.sure c.stepped.new.home) left room enough taken.0 taken.1) in
+    absurd (never_both c.way_from-found.result _ c.in_err-found.was (c.way_from-found.ensures.sure most counts room' enough'))
+
+pub returns-in-Some-clause-sure : goal.returns-in-Some-clause-sure
+returns-in-Some-clause-sure g t c = λ most counts room enough.
+    let until = c.requires.until in
+    let left : 1 ≤ c.args.spell.now.last - c.args.place = omega (arith, until) in
+    let one = one_fits (c.args.spell.now.last - c.args.place) (length c.args.curve.now.blocks.items + 5) most (g.S.Shape.cells c.args.before.now) 0 (g.S.Home.Cells.sure c.args.home.now) 0 left room enough (omega arith) in
+    let taken = (c.in_ok-after.ensures.balance counts).1 in
+    let kept_sum = c.way_from-found.ensures.balance counts in
+    let back = c.give_back.ensures.balance counts in
+    c.choose.ensures.sure counts (omega (arith, one, taken, kept_sum, back))

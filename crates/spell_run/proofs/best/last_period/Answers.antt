@@ -13,6 +13,7 @@ use Rattle.spell_run.proofs.FairLaws.{cost_is}
 use Rattle.spell_run.proofs.FrameLaws.{then, stays, kept}
 use Rattle.spell_run.proofs.FrontierLaws.{small_frontier}
 use Rattle.spell_run.proofs.PeriodLaws.{both_ok, on_chosen, on_last, found_range, onward_last, none_last, within_last, way_chosen, none_chosen}
+use Rattle.spell_run.proofs.SizeLaws.{never_both}
 use Rattle.spell_run.proofs.best.last_period.Goals as goal
 
 pub stepped-requires-clause-curve : goal.stepped-requires-clause-curve
@@ -191,3 +192,12 @@ pub returns-in-None-clause-frame : goal.returns-in-None-clause-frame
 returns-in-None-clause-frame g c =
     let frame = then g.S.Home.Cells.cell_list g.S.Shape.is_in g.S.Shape.numbers g.S.Shape.function g.met.S.Shape.same_cells g.met.S.Shape.owns _ _ _ _ _ _ c.in_ok-after.ensures.frame c.give_back.ensures.frame in
     kept g.S.Home.Cells.cell_list g.S.Shape.is_in g.S.Shape.numbers g.S.Shape.function g.met.S.Shape.same_cells g.met.S.Shape.owns c.args.home.now c.give_back.new.home c.args.before.now frame c.requires.here
+
+pub returns-in_err-after-clause-sure : goal.returns-in_err-after-clause-sure
+returns-in_err-after-clause-sure g c = λ counts enough. absurd (never_both c.stepped.result _ c.in_err-after.was (c.stepped.ensures.sure counts enough))
+
+pub returns-in-Some-clause-sure : goal.returns-in-Some-clause-sure
+returns-in-Some-clause-sure g c = λ counts enough.
+    let after = (c.in_ok-after.ensures.balance counts).1 in
+    let back = c.give_back.ensures.balance counts in
+    c.choose.ensures.sure counts (omega (arith, enough, after, back))

@@ -1,4 +1,4 @@
-use Rattle.std.proofs.Common.{◌≡◌, ℕ, suc, ◌-◌, length, Option, Some, MatchOption, ℤ, sym, subst, rules, w64, FitsSigned}
+use Rattle.std.proofs.Common.{◌≡◌, ℕ, suc, ◌+◌, ◌-◌, ◌*◌, ◌≤◌, arith, length, Option, Some, MatchOption, ℤ, sym, subst, rules, w64, FitsSigned}
 use Rattle.std.proofs.lemmas.Int.{to_z-of_z}
 use Rattle.std.proofs.lemmas.Option.{MatchOption-at_some}
 use Rattle.uc_model.specs.PlainUnits.{thermal_of, prices_of, schedule_of}
@@ -7,6 +7,7 @@ use Rattle.spell_run.specs.Frontier.{IsWayFrom}
 use Rattle.spell_run.specs.Spells.{spell_first, HasNoDispatch, IsBestDispatch, IsFirstDispatch}
 use Rattle.spell_run.proofs.FrameLaws.{then}
 use Rattle.spell_run.proofs.FrontierLaws.{frontier_begin}
+use Rattle.spell_run.proofs.SizeLaws.{never_both, charge_of, costs_fit, way_most, way_fits}
 use Rattle.spell_run.proofs.TieLaws.{whole_of}
 use Rattle.spell_run.proofs.best.spell_best.Goals as goal
 
@@ -54,3 +55,29 @@ pub returns-in-None-clause-frame : goal.returns-in-None-clause-frame
 returns-in-None-clause-frame g c =
     let join = then g.S.Home.Cells.cell_list g.S.Shape.is_in g.S.Shape.numbers g.S.Shape.function g.met.S.Shape.same_cells g.met.S.Shape.owns in
     join _ _ _ _ _ _ c.in_ok-start.ensures.frame (join _ _ _ _ _ _ c.way_from-found.ensures.frame c.give_back.ensures.frame)
+
+pub returns-in_err-start-clause-enough : goal.returns-in_err-start-clause-enough
+returns-in_err-start-clause-enough g c = λ counts enough.
+    let start = c.requires.spell.start.from_one in
+    let within = c.requires.spell.start.within in
+    let some : 1 ≤ length c.args.prices.now.energy.items = omega (arith, start, within) in
+    let charge = charge_of (length c.args.curve.now.blocks.items) (length c.args.unit.now.points.items) c.args.unit.now.valid.some_point c.requires.curve.count in
+    let fit = costs_fit (length c.args.prices.now.energy.items) (length c.args.unit.now.points.items) (length c.args.curve.now.blocks.items + 5) some charge in
+    absurd (never_both c.beginning.result _ c.in_err-start.was (c.beginning.ensures.sure counts (omega (arith, enough, fit))))
+
+pub returns-in_err-found-clause-enough : goal.returns-in_err-found-clause-enough
+returns-in_err-found-clause-enough g c = λ counts enough.
+    let start = c.requires.spell.start.from_one in
+    let within = c.requires.spell.start.within in
+    let some : 1 ≤ length c.args.prices.now.energy.items = omega (arith, start, within) in
+    let charge = charge_of (length c.args.curve.now.blocks.items) (length c.args.unit.now.points.items) c.args.unit.now.valid.some_point c.requires.curve.count in
+    let last = c.requires.spell.end in
+    let left = c.args.spell.now.last - (c.args.spell.now.first - 1) in
+    let few : left ≤ length c.args.prices.now.energy.items = omega (arith, last) in
+    let each = length c.args.curve.now.blocks.items + 5 in
+    let begun = c.in_ok-start.ensures.balance counts in
+    let one = begun.0 in
+    let sum = begun.1 in
+    let most = way_most (length c.args.prices.now.energy.items) (length c.args.unit.now.points.items) each some charge left few in
+    let fit = way_fits (length c.args.prices.now.energy.items) (length c.args.unit.now.points.items) each some charge left few in
+    absurd (never_both c.way_from-found.result _ c.in_err-found.was (c.way_from-found.ensures.sure (1 + length c.args.prices.now.energy.items * each) counts (omega (arith, one, most)) (omega (arith, enough, fit, sum))))
