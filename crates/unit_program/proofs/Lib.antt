@@ -1,0 +1,17 @@
+pub mod BackLaws
+pub mod BestLaws
+pub mod BuildLaws
+pub mod CommitLaws
+pub mod CostLaws
+pub mod EndLaws
+pub mod EntryLaws
+pub mod FillLaws
+pub mod ListLaws
+pub mod RowLaws
+pub mod RunLaws
+pub mod ShapeLaws
+pub mod SpanLaws
+pub mod SpellLaws
+pub mod StartCosts
+pub mod TableLaws
+pub mod UpdateLaws
