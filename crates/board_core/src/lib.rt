@@ -1,0 +1,4 @@
+//! The board.
+#![tactic(auto)]
+
+mod tasks;
