@@ -3,7 +3,6 @@ pub mod Events
 pub mod Ledgers
 pub mod Openings
 pub mod Parts
-pub mod Sound
 pub mod Refusals
 pub mod Replies
 pub mod Rounds
