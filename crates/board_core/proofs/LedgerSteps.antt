@@ -1,16 +1,21 @@
 -- What closing and opening a proposal leaves of a ledger.
-use Rattle.std.proofs.Common.{◌≡◌, ℕ, zero, suc, ◌+◌, ◌-◌, ◌<◌, ◌≤◌, ◌⊎◌, ℤ, ◌-ℤ◌, inl, inr, List, [], ◌∷◌, ◌++◌, length, map, take, get_or, refl, sym, ap, ◌∙◌, subst, arith}
+use Rattle.std.proofs.Common.{◌≡◌, ℕ, zero, suc, ◌+◌, ◌-◌, ◌<◌, ◌≤◌, ◌⊎◌, ℤ, ◌-ℤ◌, Bool, true, ◌&&◌, inl, inr, List, [], ◌∷◌, ◌++◌, length, map, take, get_or, refl, sym, ap, ◌∙◌, subst, arith}
 use Rattle.std.proofs.Math.ListN.{set, length-set}
-use Rattle.std.proofs.lemmas.List.{length-map, get_or-map, map-set, set-get_or, get_or-set_same, get_or-set_other, get_or-take, length-take-le, take-set-le, take_more_set}
+use Rattle.std.proofs.lemmas.List.{length-map, get_or-map, map-set, set-get_or, get_or-set_same, get_or-set_other, get_or-take, take-set-le, take_more_set}
+use Rattle.std.proofs.lemmas.Bool.Decides.{nat_tests}
 use Rattle.std.specs.List.{All}
+use Rattle.std.specs.Prelude.{not}
 use Rattle.board_history.specs.Board.{Setup}
+use Rattle.price_move.specs.Moves.{is_last_settled}
 use Rattle.uc_model.specs.Data.{PriceLists}
-use Rattle.uc_model.specs.PriceRule.{Proposal, no_prices}
+use Rattle.uc_model.specs.PriceRule.{Proposal, next_prices, no_prices}
 use Rattle.uc_model.specs.Sums.{int_at}
 use Rattle.uc_model.specs.Systems.{worth_of_demand}
 use Rattle.board_core.specs.Ledgers.{LedgerValue, with_prices, with_value}
 use Rattle.board_core.specs.Parts.{sums_of, fronts_of, IsLedger}
-use Rattle.board_core.specs.Rounds.{Sums, Fronts, row_in, with_row}
+use Rattle.board_core.specs.Rounds.{Sums, Fronts, row_in, with_row, is_due, opens, with_opened}
+use Rattle.board_core.proofs.Advances.{choose_true}
+use Rattle.board_core.proofs.Fronts.{rows_count, prices_count}
 use Rattle.board_core.proofs.Rows.{same_proposal}
 
 same_or : (x y : ℕ) → (x ≡ y) ⊎ (x ≡ y → ⊥)
@@ -79,9 +84,6 @@ module _ (b : Setup) (l l2 : LedgerValue) (L : IsLedger b l) (v : ℤ) (d : Prop
     abbrev f : Fronts
     f = fronts_of l
 
-    rows_count : length f.rows ≡ l.closed
-    rows_count = let n = L.count in let m = L.closed in length-take-le l.closed l.proposals (omega (arith, n, m))
-
     price_was : get_or f.prices l.closed no_prices ≡ was.prices
     price_was =
         get_or-take l.opened (map (λ (p : Proposal). p.prices) l.proposals) l.closed no_prices more
@@ -104,7 +106,7 @@ module _ (b : Setup) (l l2 : LedgerValue) (L : IsLedger b l) (v : ℤ) (d : Prop
         ∙ ap (take (l.closed + 1)) W.proposals
         ∙ take_more_set l.proposals l.closed (with_value was v) at_
         ∙ ap (λ (r : Proposal). f.rows ++ r ∷ []) row_is
-        ∙ ap (λ (k : ℕ). f.rows ++ row_in b.market s (get_or f.prices k no_prices) (suc k) ∷ []) (sym rows_count)
+        ∙ ap (λ (k : ℕ). f.rows ++ row_in b.market s (get_or f.prices k no_prices) (suc k) ∷ []) (sym (rows_count b l L))
 
     prices_are : (fronts_of l2).prices ≡ f.prices
     prices_are =
@@ -144,3 +146,18 @@ module _ (b : Setup) (l l2 : LedgerValue) (L : IsLedger b l) (π : PriceLists) (
 
     pub opened_ledger : IsLedger b l2
     opened_ledger = let n = L.closed in is_ledger b l l2 L l.opened (with_prices was2 π) d place_ W over (omega (arith, closed, n)) (omega (arith, opened, room))
+
+pub due_says : (b : Setup) (closed opened : ℕ) → is_due b closed opened ≡ true → (opened + 1 ≡ closed + b.ahead) × (opened < b.budget)
+due_says b closed opened h = grind (arith, nat_tests)
+
+-- the rows call for one more proposal
+pub opens_it : (b : Setup) (l : LedgerValue) (L : IsLedger b l) → is_due b l.closed l.opened ≡ true → not (is_last_settled b.market b.cost (fronts_of l).rows) ≡ true → opens b (fronts_of l) ≡ true
+opens_it b l L due free =
+    ap (λ (k : ℕ). is_due b k (length (fronts_of l).prices) && not (is_last_settled b.market b.cost (fronts_of l).rows)) (rows_count b l L)
+    ∙ ap (λ (k : ℕ). is_due b l.closed k && not (is_last_settled b.market b.cost (fronts_of l).rows)) (prices_count b l L)
+    ∙ ap (λ (t : Bool). t && not (is_last_settled b.market b.cost (fronts_of l).rows)) due ∙ free
+
+pub with_one : (b : Setup) (f : Fronts) (π : PriceLists) → opens b f ≡ true → π ≡ next_prices b.market b.cost f.rows → record { rows = f.rows; prices = f.prices ++ π ∷ [] } ≡ with_opened b f
+with_one b f π t e =
+    same_fronts f.rows f.rows (f.prices ++ π ∷ []) (with_opened b f).prices refl
+    (ap (λ (x : PriceLists). f.prices ++ x ∷ []) e ∙ sym (choose_true (opens b f) (f.prices ++ next_prices b.market b.cost f.rows ∷ []) f.prices t))
