@@ -6,5 +6,7 @@ pub mod Flat
 pub mod Fronts
 pub mod Halts
 pub mod LedgerSteps
+pub mod Opened
 pub mod Rows
+pub mod Starts
 pub mod UnitPlaces
