@@ -8,6 +8,8 @@ pub mod Fronts
 pub mod Halts
 pub mod LedgerSteps
 pub mod Opened
+pub mod PostLists
+pub mod PostSums
 pub mod Refused
 pub mod Rows
 pub mod Starts
