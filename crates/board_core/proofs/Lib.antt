@@ -8,7 +8,9 @@ pub mod Fronts
 pub mod Halts
 pub mod LedgerSteps
 pub mod Opened
+pub mod PostEvents
 pub mod PostLists
+pub mod PostRounds
 pub mod PostSums
 pub mod Refused
 pub mod Rows
