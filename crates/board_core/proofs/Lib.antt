@@ -15,4 +15,5 @@ pub mod PostSums
 pub mod Refused
 pub mod Rows
 pub mod Starts
+pub mod Takes
 pub mod UnitPlaces

@@ -84,13 +84,26 @@ module _ (b : Setup) (h : List (Event Answer)) (x : Lists) (l : LedgerValue) (I 
   others : (k : ℕ) → (k ≡ k_ → ⊥) → answers g q (suc k) ≡ answers g p (suc k)
   others k f = map_range_same (answer_at g q (suc k)) (answer_at g p (suc k)) 0 m (λ v low high. ap answer_of_post (q_other b h x l I c n u a H (suc k) v (λ y z. f (omega (arith, y)))))
 
+  size : length l.proposals ≡ b.budget
+  size = I.ledger.count
+
+  pub place_ : k_ < length l.proposals
+  place_ = let e = size in let f = k_inside b h x l I c n u a H in omega (arith, e, f)
+
+  pub supply_was : (d : Proposal) → (get_or l.proposals k_ d).supply ≡ supply_to b p n
+  supply_was d =
+      sym (get_or-map (λ (r : Proposal). r.supply) l.proposals k_ d [] place_) ∙ I.tallies.supply_are k_ (k_inside b h x l I c n u a H)
+      ∙ ap (supply_to b p) (after_k b h x l I c n u a H)
+
+  pub reserve_was : (d : Proposal) → (get_or l.proposals k_ d).reserve ≡ reserve_to b p n
+  reserve_was d =
+      sym (get_or-map (λ (r : Proposal). r.reserve) l.proposals k_ d [] place_) ∙ I.tallies.reserve_are k_ (k_inside b h x l I c n u a H)
+      ∙ ap (reserve_to b p) (after_k b h x l I c n u a H)
+
+  pub earned_was : int_at l.earned k_ ≡ total (earned_in (answers g p n))
+  earned_was = I.tallies.earned_are k_ (k_inside b h x l I c n u a H) ∙ ap (λ (j : ℕ). total (earned_in (answers g p j))) (after_k b h x l I c n u a H)
+
   module _ (l2 : LedgerValue) (d : Proposal) (W : IsCounted l l2 k_ w a d) where
-    size : length l.proposals ≡ b.budget
-    size = I.ledger.count
-
-    place_ : k_ < length l.proposals
-    place_ = let e = size in let f = k_inside b h x l I c n u a H in omega (arith, e, f)
-
     abbrev was : Proposal
     was = get_or l.proposals k_ d
 
@@ -102,19 +115,6 @@ module _ (b : Setup) (h : List (Event Answer)) (x : Lists) (l : LedgerValue) (I 
 
     reserve_list : (sums_of l2).reserve ≡ set (sums_of l).reserve k_ new.reserve
     reserve_list = ap (map (λ (r : Proposal). r.reserve)) W.proposals ∙ map-set (λ (r : Proposal). r.reserve) l.proposals k_ new
-
-    pub supply_was : was.supply ≡ supply_to b p n
-    supply_was =
-        sym (get_or-map (λ (r : Proposal). r.supply) l.proposals k_ d [] place_) ∙ I.tallies.supply_are k_ (k_inside b h x l I c n u a H)
-        ∙ ap (supply_to b p) (after_k b h x l I c n u a H)
-
-    pub reserve_was : was.reserve ≡ reserve_to b p n
-    reserve_was =
-        sym (get_or-map (λ (r : Proposal). r.reserve) l.proposals k_ d [] place_) ∙ I.tallies.reserve_are k_ (k_inside b h x l I c n u a H)
-        ∙ ap (reserve_to b p) (after_k b h x l I c n u a H)
-
-    pub earned_was : int_at l.earned k_ ≡ total (earned_in (answers g p n))
-    earned_was = I.tallies.earned_are k_ (k_inside b h x l I c n u a H) ∙ ap (λ (j : ℕ). total (earned_in (answers g p j))) (after_k b h x l I c n u a H)
 
     to_n : (k : ℕ) → k ≡ k_ → n ≡ suc k
     to_n k s = sym (after_k b h x l I c n u a H) ∙ ap suc (sym s)
@@ -137,7 +137,7 @@ module _ (b : Setup) (h : List (Event Answer)) (x : Lists) (l : LedgerValue) (I 
         | inl s ↦
             let few = I.tallies.supply_count in let here = k_inside b h x l I c n u a H in
             ap (λ (y : ℕ). get_or (set (sums_of l).supply k_ new.supply) y []) s ∙ get_or-set_same (sums_of l).supply k_ new.supply [] (omega (arith, few, here))
-            ∙ ap (λ (xs : List ℤ). raised_by xs (λ j. supply_in w a.schedule (suc j))) supply_was ∙ supply_more ∙ ap (supply_to b q) (to_n k s)
+            ∙ ap (λ (xs : List ℤ). raised_by xs (λ j. supply_in w a.schedule (suc j))) (supply_was d) ∙ supply_more ∙ ap (supply_to b q) (to_n k s)
         | inr s ↦
             get_or-set_other (sums_of l).supply k_ k new.supply [] s ∙ I.tallies.supply_are k j
             ∙ ap (λ (xs : List Answer). map (total_power (units b.market) (schedules_in xs)) (range_with_len 0 b.market.periods)) (sym (others k s))
@@ -146,7 +146,7 @@ module _ (b : Setup) (h : List (Event Answer)) (x : Lists) (l : LedgerValue) (I 
         | inl s ↦
             let few = I.tallies.reserve_count in let here = k_inside b h x l I c n u a H in
             ap (λ (y : ℕ). get_or (set (sums_of l).reserve k_ new.reserve) y []) s ∙ get_or-set_same (sums_of l).reserve k_ new.reserve [] (omega (arith, few, here))
-            ∙ ap (λ (xs : List ℤ). raised_by xs (λ j. reserve_in a.schedule (suc j))) reserve_was ∙ reserve_more ∙ ap (reserve_to b q) (to_n k s)
+            ∙ ap (λ (xs : List ℤ). raised_by xs (λ j. reserve_in a.schedule (suc j))) (reserve_was d) ∙ reserve_more ∙ ap (reserve_to b q) (to_n k s)
         | inr s ↦
             get_or-set_other (sums_of l).reserve k_ k new.reserve [] s ∙ I.tallies.reserve_are k j
             ∙ ap (λ (xs : List Answer). map (total_reserve (units b.market) (schedules_in xs)) (range_with_len 0 b.market.periods)) (sym (others k s))
