@@ -6,3 +6,4 @@ pub mod ReportText
 pub mod Pending
 pub mod RightReport
 pub mod TryText
+pub mod Laws
