@@ -144,7 +144,7 @@ pub record IsChosen (c : Content) : Type 0 where
 
 pub one_is_chosen : (c : Content) → 1 ≤ c.setup.budget → 1 ≤ c.setup.ahead → has_finished c ≡ true → IsChosen c
 one_is_chosen c budget ahead finished =
-    let some = has_row c.setup c.events ahead budget finished in
+    let some = has_row c ahead budget finished in
     let place = chosen_is (own_rows c) some in
     let inside = place.1 in
     let at = place.2 in

@@ -204,7 +204,7 @@ are_lines c s row k h is =
 
 lines_are : (c : Content) (s : Settlement) (row : Proposal) → IsSettledRecord c s row → AreLines c s row (unit_lines (report_of c s))
 lines_are c s row h =
-    let some = has_row c.setup c.events h.some_ahead h.some_budget h.finished in
+    let some = has_row c h.some_ahead h.some_budget h.finished in
     let place = chosen_is (own_rows c) some in
     let at : chosen_of c - 1 ≡ place.0 = omega (arith, place.2) in
     let is = subst (λ (n : ℕ). slice_get (own_rows c) n ≡ Some row) at h.chosen in
