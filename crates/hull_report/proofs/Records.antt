@@ -1,5 +1,5 @@
 -- What the record of a finished board tells of its chosen row.
-use Rattle.std.proofs.Common.{◌≡◌, ℕ, zero, suc, ◌+◌, ◌-◌, ◌<◌, ◌≤◌, int_lt, if◌then◌else◌, ℤ, pos, ◌-ℤ◌, true, Some, Option, List, [], ◌∷◌, ◌++◌, map, length, get_or, slice_get, refl, sym, ap, ◌∙◌, subst, arith, length-append}
+use Rattle.std.proofs.Common.{◌≡◌, ℕ, zero, suc, ◌+◌, ◌-◌, ◌<◌, ◌≤◌, int_lt, if◌then◌else◌, ℤ, pos, ◌-ℤ◌, Some, Option, List, ◌++◌, map, length, slice_get, refl, sym, ap, ◌∙◌, subst, arith, length-append}
 use Rattle.std.proofs.lemmas.List.{length-map, get_or-map}
 use Rattle.std.proofs.lemmas.Simd.{map-map}
 use Rattle.std.proofs.lemmas.Option.{slice_get_within, get_or_from_slice_get}
@@ -21,9 +21,9 @@ use Rattle.uc_model.specs.Sums.{int_at}
 use Rattle.uc_model.specs.Systems.{IsFeasiblePlan, IsSettled}
 use Rattle.uplift_settle.proofs.Lists.{length_same, length-zip_with}
 use Rattle.uplift_settle.specs.declared.settlement.Settlement.{Settlement}
-use Rattle.hull_report.specs.ReportText.{UnitLine, Report}
-use Rattle.hull_report.specs.RightReport.{unit_lines, HasNames, IsRightReport}
-use Rattle.hull_report.specs.RecordReport.{thermal_names, renewable_names, bid_names, told_line, line_of, lines_from, chosen_of, value_of, report_of, IsSettledRecord, RecordReportIsRight}
+use Rattle.hull_report.specs.ReportText.{UnitLine}
+use Rattle.hull_report.specs.RightReport.{unit_lines, HasNames}
+use Rattle.hull_report.specs.RecordReport.{thermal_names, renewable_names, bid_names, line_of, lines_from, chosen_of, report_of, IsSettledRecord, RecordReportIsRight}
 use Rattle.hull_report.proofs.UnitLines.{lines_append, lines_map, lines_names, lines_zip, zip_each, numbers_at}
 
 -- ---- a row is chosen

@@ -75,10 +75,10 @@ fn head_of(closed: &Closed, proposals: u32) -> Head
 fn write_proposals<S: Sink>(closed: &Closed, choice: Choice, out: &mut S) -> Result<(), WriteFailed>
     requires { choice.proposals ≡ length (own_rows closed.now) }
     ensures { Writes S.held S.faults S.last out.old out.new result (
-      head_text closed.now.setup.market.periods (unit_count closed.now.setup.market) closed.now.setup.budget closed.now.setup.ahead closed.now.setup.cost choice.proposals
-      ++ rows_text 1 (own_rows closed.now)
-      ++ chosen_text choice.chosen choice.value
-    ) }
+        head_text closed.now.setup.market.periods (unit_count closed.now.setup.market) closed.now.setup.budget closed.now.setup.ahead closed.now.setup.cost choice.proposals
+        ++ rows_text 1 (own_rows closed.now)
+        ++ chosen_text choice.chosen choice.value
+        ) }
 {
     closed.is_legal();
     let head = head_of(closed, choice.proposals);
@@ -191,10 +191,10 @@ fn write_unit_lines<S: Sink>(
     requires numbers { HasNumbers closed.now settlement.now proposal }
     requires horizon { length (schedule_of buffer.old.response).on ≡ closed.now.setup.market.periods }
     ensures text { Writes S.held S.faults S.last out.old out.new result (
-      flat_map thermal_text (lines_from (line_of closed.now settlement.now proposal) 0 (thermal_names closed.now.setup.market))
-      ++ flat_map renewable_text (lines_from (line_of closed.now settlement.now proposal) (length closed.now.setup.market.thermal) (renewable_names closed.now.setup.market))
-      ++ flat_map bid_text (lines_from (line_of closed.now settlement.now proposal) (length closed.now.setup.market.thermal + length closed.now.setup.market.flat) (bid_names closed.now.setup.market))
-    ) }
+        flat_map thermal_text (lines_from (line_of closed.now settlement.now proposal) 0 (thermal_names closed.now.setup.market))
+        ++ flat_map renewable_text (lines_from (line_of closed.now settlement.now proposal) (length closed.now.setup.market.thermal) (renewable_names closed.now.setup.market))
+        ++ flat_map bid_text (lines_from (line_of closed.now settlement.now proposal) (length closed.now.setup.market.thermal + length closed.now.setup.market.flat) (bid_names closed.now.setup.market))
+        ) }
     ensures horizon { length (schedule_of buffer.new.response).on ≡ closed.now.setup.market.periods }
 {
     write_thermal_lines(closed, settlement, proposal, buffer, out)?;
