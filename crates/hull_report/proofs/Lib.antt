@@ -1,5 +1,6 @@
 pub mod NameLemmas
 pub mod PieceLemmas
+mod NumeralLaws
 mod ReadBack
 mod ReadLines
 mod ReadReport
