@@ -10,3 +10,4 @@ mod Sizes
 mod RecordTexts
 mod RecordLines
 mod WholeReports
+mod RightForm
