@@ -1,4 +1,12 @@
+pub mod Advances
+pub mod Claims
+pub mod Costs
+pub mod Entries
 pub mod Flat
 pub mod Fronts
+pub mod Halts
+pub mod LedgerSteps
+pub mod Opened
 pub mod Rows
+pub mod Starts
 pub mod UnitPlaces
