@@ -1,3 +1,4 @@
 pub mod DueLaws
 pub mod EndLemmas
 pub mod OneDue
+pub mod WordSizes

@@ -1,9 +1,9 @@
 //! The end of a run: the text, or the line of a fault.
 ghost use Rattle.std.specs.Prelude.{◌≡◌};
 ghost use Rattle.hull_engine.specs.Ends.{status_of};
-ghost use Rattle.hull_engine.specs.Runs.{end_status, IsEndOf};
+ghost use Rattle.hull_engine.specs.Runs.{end_status, answered_of, WritesAnswer, IsEndOf};
 
-use crate::steps::Input;
+use crate::answers::Answer;
 use hull_io::{Sink, WriteFailed};
 use hull_report::{TopFault, write_check, write_fault};
 
@@ -47,12 +47,21 @@ impl End {
     }
 }
 
-/// Writes the text of what was accepted, or the line of the fault.
-pub fn finish<S: Sink>(decided: &Result<Input, TopFault>, out: &mut S) -> End
-    ensures { IsEndOf S.held S.faults S.last out.old out.new decided.now result }
+/// Writes the text of the answer.
+fn write_answer<S: Sink>(answer: &Answer, out: &mut S) -> Result<(), WriteFailed>
+    ensures { WritesAnswer S.held S.faults S.last out.old out.new (answered_of answer.now) result }
 {
-    match decided {
-        Ok(input) => match write_check(&input.case, input.cost, out) {
+    match answer {
+        Answer::Check(input) => write_check(&input.case, input.cost, out),
+    }
+}
+
+/// Writes the text of the answer, or the line of the fault.
+pub fn finish<S: Sink>(answer: &Result<Answer, TopFault>, out: &mut S) -> End
+    ensures { IsEndOf S.held S.faults S.last out.old out.new answer.now result }
+{
+    match answer {
+        Ok(answer) => match write_answer(answer, out) {
             Ok(()) => End::Done,
             Err(WriteFailed) => End::Cut,
         },

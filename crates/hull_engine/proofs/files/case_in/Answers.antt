@@ -3,7 +3,7 @@ use Rattle.uc_model.specs.PlainCases.{market_of}
 use Rattle.uc_case.specs.Files.{text, value}
 use Rattle.hull_report.specs.declared.fault.TopFault.TheVariants.{CaseText, CaseField}
 use Rattle.hull_engine.specs.Due.{Accepts, Refuses}
-use Rattle.hull_engine.proofs.steps.case_in.Goals as goal
+use Rattle.hull_engine.proofs.files.case_in.Goals as goal
 
 pub returns-in-Ok-clause-answers : goal.returns-in-Ok-clause-answers
 returns-in-Ok-clause-answers c = (Accepts (market_of c.in-Ok.case), (Ok (market_of c.in-Ok.case), c.in-Ok.ensures.answer, refl), refl)

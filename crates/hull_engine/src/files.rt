@@ -1,18 +1,17 @@
-//! The steps of a run, in the order of their refusals.
+//! The files of a command: the case and its schedule, read and judged in the order of their refusals.
 ghost use Rattle.std.specs.Prelude.{◌≡◌, ◌≤◌, ℕ, List, Vec, length, IfOk, IsSomeAnd};
 ghost use Rattle.std.specs.Global.{Global};
 ghost use Rattle.uc_model.specs.Laws.{HasPlanShape};
 ghost use Rattle.uc_model.specs.PlainCases.{market_of, schedules_of};
 ghost use Rattle.hull_io.specs.Edge.{Rose};
-ghost use Rattle.hull_words.specs.Asked.{check_asked};
-ghost use Rattle.hull_words.specs.Words.{texts};
-ghost use Rattle.hull_engine.specs.Due.{Then, Only, IsAcceptedWith};
-ghost use Rattle.hull_engine.specs.Ladder.{words_due, bytes_due, IsReadCase, IsCaseDue, IsReadPlan, IsPlanDue, Accepted, IsRuleDue, IsInputDue, IsDue};
-ghost use Rattle.hull_engine.specs.Ends.{IsAnswer, IfReadFails, accepted_of, name_at, IsReached};
+ghost use Rattle.hull_engine.specs.Due.{Then, Only};
+ghost use Rattle.hull_engine.specs.Ladder.{file_names, bytes_due, IsReadCase, IsCaseDue, IsReadPlan, IsPlanDue, IsRuleDue, IsInputDue};
+ghost use Rattle.hull_engine.specs.Ends.{IsAnswer, IfReadFails, name_in, IsReachedIn};
+ghost use Rattle.hull_engine.specs.Inputs.{planned_of, IsPlanned};
 
+use crate::input::Input;
 use hull_io::{ReadFault, Shelf, read_whole};
 use hull_report::{FileKind, TopFault};
-use hull_words::{CheckWords, Command, WordCode, WordError, WordFault, read_words};
 use plan_check::check_plan;
 use std::alloc::Global;
 use uc_case::fault::CaseFault;
@@ -20,30 +19,6 @@ use uc_case::read_case;
 use uc_model::cases::{Case, Plan};
 use uc_plan::fault::PlanFault;
 use uc_plan::read_plan;
-
-/// A case, a feasible schedule of it, and what that costs in money.
-#[derive(Drop)]
-pub struct Input {
-    pub case: Case,
-    pub plan: Plan,
-    pub cost: i128,
-}
-
-/// The names that the words give.
-fn words_step(alloc: Global, words: &[String]) -> Result<CheckWords, TopFault>
-    ensures answers { IsAnswer (Only (words_due (texts words.now))) check_asked result }
-    ensures unread { IfReadFails result (λ _. ⊥) }
-{
-    match read_words(alloc, words) {
-        Ok(Command::Check(names)) => Ok(names),
-        Ok(_) => Err(TopFault::Words(WordFault {
-            code: WordCode::UnknownCommand,
-            place: 1,
-        })),
-        Err(WordError::Fault(fault)) => Err(TopFault::Words(fault)),
-        Err(WordError::Memory) => Err(TopFault::Memory),
-    }
-}
 
 /// The bytes of a file.
 fn bytes_step<F: Shelf>(
@@ -126,7 +101,8 @@ fn plan_step<F: Shelf>(
 /// The case and the schedule with its cost, where the schedule keeps every rule.
 fn rule_step(case: Case, plan: Plan) -> Result<Input, TopFault>
     requires { HasPlanShape (market_of case) (schedules_of plan) }
-    ensures answers { IsAnswer (IsRuleDue (market_of case) (schedules_of plan)) accepted_of result }
+    ensures answers { IsAnswer (IsRuleDue (market_of case) (schedules_of plan)) planned_of result }
+    ensures planned { IfOk result (λ input. IsPlanned input) }
     ensures unread { IfReadFails result (λ _. ⊥) }
 {
     match check_plan(&case, &plan) {
@@ -142,7 +118,8 @@ fn schedule_step<F: Shelf>(
     name: &str,
     case: Case,
 ) -> Result<Input, TopFault>
-    ensures answers { IsAnswer (Then (IsPlanDue (market_of case) (F.told shelf.old name.now)) (IsRuleDue (market_of case))) accepted_of result }
+    ensures answers { IsAnswer (Then (IsPlanDue (market_of case) (F.told shelf.old name.now)) (IsRuleDue (market_of case))) planned_of result }
+    ensures planned { IfOk result (λ input. IsPlanned input) }
     ensures failed { IfReadFails result (λ f. (f ≡ FileKind.ScheduleFile) × Rose F.last (F.faults shelf.old name.now) (F.faults shelf.new name.now)) }
     ensures later { (any : List ℕ) → F.faults shelf.old any ≤ F.faults shelf.new any }
 {
@@ -150,24 +127,19 @@ fn schedule_step<F: Shelf>(
     rule_step(case, plan)
 }
 
-/// Reads and judges both files, in order.
-fn input_step<F: Shelf>(alloc: Global, shelf: &mut F, names: &CheckWords) -> Result<Input, TopFault>
-    ensures answers { IsAnswer (IsInputDue (F.told shelf.old) (check_asked names.now)) accepted_of result }
-    ensures failed { IfReadFails result (λ file. IsSomeAnd (name_at (check_asked names.now) file) (λ name. Rose F.last (F.faults shelf.old name) (F.faults shelf.new name))
-        × IsReached (F.told shelf.old) (check_asked names.now) file) }
+/// The case and the feasible schedule of the files of these names, or their first fault.
+pub fn input_step<F: Shelf>(
+    alloc: Global,
+    shelf: &mut F,
+    case_name: &str,
+    schedule_name: &str,
+) -> Result<Input, TopFault>
+    ensures answers { IsAnswer (IsInputDue (F.told shelf.old) (file_names case_name.now schedule_name.now)) planned_of result }
+    ensures planned { IfOk result (λ input. IsPlanned input) }
+    ensures failed { IfReadFails result (λ file. let names = file_names case_name.now schedule_name.now in
+        IsSomeAnd (name_in names file) (λ name. Rose F.last (F.faults shelf.old name) (F.faults shelf.new name)) × IsReachedIn (F.told shelf.old) names file) }
     ensures later { (any : List ℕ) → F.faults shelf.old any ≤ F.faults shelf.new any }
 {
-    let case = case_step(alloc, shelf, names.case_name.as_str())?;
-    schedule_step(alloc, shelf, names.schedule_name.as_str(), case)
-}
-
-/// What the words and the files give, or their first fault.
-pub fn decide<F: Shelf>(alloc: Global, words: &[String], shelf: &mut F) -> Result<Input, TopFault>
-    ensures answers { IsAnswer (IsDue (texts words.now) (F.told shelf.old)) accepted_of result }
-    ensures failed { IfReadFails result (λ file. IsAcceptedWith (words_due (texts words.now)) (λ names.
-        IsSomeAnd (name_at names file) (λ name. Rose F.last (F.faults shelf.old name) (F.faults shelf.new name)) × IsReached (F.told shelf.old) names file)) }
-    ensures later { (any : List ℕ) → F.faults shelf.old any ≤ F.faults shelf.new any }
-{
-    let names = words_step(alloc, words)?;
-    input_step(alloc, shelf, &names)
+    let case = case_step(alloc, shelf, case_name)?;
+    schedule_step(alloc, shelf, schedule_name, case)
 }

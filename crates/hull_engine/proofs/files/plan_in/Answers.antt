@@ -3,7 +3,7 @@ use Rattle.uc_model.specs.PlainCases.{schedules_of}
 use Rattle.uc_case.specs.Files.{text, value}
 use Rattle.hull_report.specs.declared.fault.TopFault.TheVariants.{PlanText, PlanShape}
 use Rattle.hull_engine.specs.Due.{Accepts, Refuses}
-use Rattle.hull_engine.proofs.steps.plan_in.Goals as goal
+use Rattle.hull_engine.proofs.files.plan_in.Goals as goal
 
 pub returns-in-Ok-clause-answers : goal.returns-in-Ok-clause-answers
 returns-in-Ok-clause-answers c = (Accepts (schedules_of c.in-Ok.plan), (Ok (schedules_of c.in-Ok.plan), c.in-Ok.ensures.answer, refl), refl)

@@ -4,7 +4,7 @@ use Rattle.hull_report.specs.declared.fault.FileKind.TheVariants.{ScheduleFile}
 use Rattle.hull_engine.specs.Due.{Only}
 use Rattle.hull_engine.specs.Ladder.{bytes_due, IsReadPlan}
 use Rattle.hull_engine.proofs.DueLaws.{refusal_then, answer_then}
-use Rattle.hull_engine.proofs.steps.plan_step.Goals as goal
+use Rattle.hull_engine.proofs.files.plan_step.Goals as goal
 
 pub returns-in_err-bytes-clause-answers : goal.returns-in_err-bytes-clause-answers
 returns-in_err-bytes-clause-answers g c =

@@ -4,7 +4,7 @@ use Rattle.hull_report.specs.declared.fault.FileKind.TheVariants.{CaseFile}
 use Rattle.hull_engine.specs.Due.{Only}
 use Rattle.hull_engine.specs.Ladder.{bytes_due, IsReadCase}
 use Rattle.hull_engine.proofs.DueLaws.{refusal_then, answer_then}
-use Rattle.hull_engine.proofs.steps.case_step.Goals as goal
+use Rattle.hull_engine.proofs.files.case_step.Goals as goal
 
 pub returns-in_err-bytes-clause-answers : goal.returns-in_err-bytes-clause-answers
 returns-in_err-bytes-clause-answers g c =
