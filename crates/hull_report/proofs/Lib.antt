@@ -1,2 +1,5 @@
 pub mod NameLemmas
 pub mod PieceLemmas
+mod ReadBack
+mod ReadLines
+mod ReadReport

@@ -4,3 +4,6 @@ pub mod FaultLines
 pub mod CheckText
 pub mod ReportText
 pub mod Pending
+pub mod RightReport
+pub mod TryText
+pub mod Laws

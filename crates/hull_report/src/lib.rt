@@ -3,6 +3,7 @@
 
 pub mod check;
 pub mod fault;
+pub mod laws;
 pub mod parts;
 mod pieces;
 pub mod report;

@@ -1,0 +1,15 @@
+pub mod Answered
+pub mod Fronts
+pub mod Held
+pub mod Kept
+pub mod Machine
+pub mod NextTask
+pub mod OneCaller
+pub mod Opens
+pub mod OwnTasks
+pub mod RowLaws
+pub mod SameTask
+pub mod Stays
+pub mod Tallies
+pub mod Totals
+pub mod Words
