@@ -1,0 +1,10 @@
+pub mod Boards
+pub mod Events
+pub mod Ledgers
+pub mod Parts
+pub mod Sound
+pub mod Replies
+pub mod Rounds
+pub mod Setups
+pub mod Stored
+pub mod Tasks
