@@ -1,0 +1,13 @@
+//! One spell of a thermal unit: a run of periods in which it is on.
+//!
+//! The least net cost of a spell is found by a dynamic program over convex functions of the power at the end of a
+//! period. One pass gives it for every last period; a pass back gives a dispatch of that cost.
+#![tactic(auto)]
+
+pub mod best;
+pub mod costs;
+pub mod spell;
+
+pub use best::spell_best;
+pub use costs::spell_costs;
+pub use spell::{Spell, SpellCosts};

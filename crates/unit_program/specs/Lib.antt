@@ -1,0 +1,5 @@
+pub mod Builds
+pub mod Lists
+pub mod Spells
+pub mod Steps
+pub mod Tables
