@@ -1,4 +1,5 @@
 pub mod Answered
+pub mod ClaimWords
 pub mod Fronts
 pub mod Held
 pub mod Kept

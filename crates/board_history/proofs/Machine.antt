@@ -1,14 +1,14 @@
 -- The machine's calls and the legal next events are one: what a call appends is legal, and each legal event is what a call
 -- appends.
-use Rattle.std.proofs.Common.{◌≡◌, ℕ, ◌<◌, ◌≤◌, Bool, true, false, cond, ◌||◌, ◌==◌, ◌↔◌, Option, Some, None, List, [], ◌∷◌, ◌++◌, length, refl, ap, ◌∙◌, arith, length-append}
+use Rattle.std.proofs.Common.{◌≡◌, ℕ, ◌<◌, ◌≤◌, Bool, true, false, cond, ◌⊎◌, inl, inr, ◌||◌, ◌==◌, ◌↔◌, Option, Some, None, List, [], ◌∷◌, ◌++◌, length, refl, ap, ◌∙◌, arith, length-append}
 use Rattle.std.proofs.lemmas.Bool.{false≢true}
 use Rattle.std.proofs.lemmas.Bool.Decides.{nat_tests}
 use Rattle.std.proofs.lemmas.List.{append_cancel_left}
 use Rattle.std.specs.List.{list_any}
 use Rattle.std.specs.Option.{option_map_or}
 use Rattle.std.specs.Prelude.{nat_le, nat_lt}
-use Rattle.board_history.specs.Rounds.{Rules, Event, Given, Taken, Closing, Stopped, is_halt_of, holders, posts, with_post, is_closed, prices_at, opened, ClaimReply, Finished, Halted, GivenTask, NotYet, claim_reply, with_claim, events_after_claim, PostReply, OtherProposal, OtherUnit, OtherContent, Doubled, OtherHolder, TakenPost, is_holder, post_from, post_reply, post_event, with_answer, events_after_post, events_after_halt, IsPost, IsNext, IsLegal}
-use Rattle.board_history.specs.Words.{no_difference, IsMachineStep}
+use Rattle.board_history.specs.Rounds.{Rules, Event, Given, Taken, Closing, Stopped, is_halt_of, holders, Posts, posts, with_post, is_closed, prices_at, opened, ClaimReply, Finished, Halted, GivenTask, NotYet, claim_reply, with_claim, events_after_claim, PostReply, OtherProposal, OtherUnit, OtherContent, Doubled, OtherHolder, TakenPost, is_holder, post_from, post_reply, post_event, with_answer, events_after_post, events_after_halt, IsPost, IsNext, IsLegal}
+use Rattle.board_history.specs.Words.{no_difference, IsMachineStep, IsOpenTask, PostSays}
 use Rattle.board_history.proofs.Stays.{legal_more}
 
 -- a list isn't itself with one more
@@ -90,6 +90,69 @@ module _ {D A : Type 0} (o m : ℕ) (differs : Option D) (post : Option (ℕ × 
       choose false false None None true i1 i2 i3 i4 i5 e =
           let w = within_of n o i1 in
           record { from_one = w.0; open_ = w.1; unit = within_units m u i2; same = i3; first = i4; held_by = holder_of holder c i5 }
+
+-- ---- the refusals of a post
+
+past : (n o : ℕ) → (n ≡ 0) ⊎ (o < n) → ((n == 0) || nat_lt o n) ≡ true
+past n o (inl h) = grind (arith, nat_tests)
+past n o (inr h) = grind (arith, nat_tests)
+
+past_unit : (m u : ℕ) → m ≤ u → nat_le m u ≡ true
+past_unit m u h = grind (arith, nat_tests)
+
+not_holder : (o : Option ℕ) (c : ℕ) → (o ≡ Some c → ⊥) → is_holder o c ≡ false
+not_holder None c h = refl
+not_holder (Some d) c h = choose (d == c) refl
+  where
+    choose : (t : Bool) → (d == c) ≡ t → t ≡ false
+    choose true is = absurd (h (ap (λ (x : ℕ). Some x) (same_number d c is)))
+    choose false is = refl
+
+module _ {P R A D : Type 0} (g : Rules P R A) (h : List (Event A)) (differs : P → Option D) (c n u : ℕ) (a : A) where
+  abbrev p : Posts A
+  p = posts h
+
+  abbrev o : ℕ
+  o = opened g p
+
+  abbrev own : Option D
+  own = differs (prices_at g p n)
+
+  abbrev ends : Bool
+  ends = is_closed g (with_post p c n u a) n
+
+  abbrev with_holder : Bool → PostReply D
+  with_holder t = last o g.units own (p n u) (holders h n u) ends c n u t
+
+  abbrev with_poster : Option (ℕ × A) → PostReply D
+  with_poster x = doubled o g.units own (p n u) (holders h n u) ends c n u x
+
+  abbrev with_content : Option D → PostReply D
+  with_content d = content o g.units own (p n u) (holders h n u) ends c n u d
+
+  in_proposal : 0 < n → n ≤ o → post_reply g h differs c n u a ≡ cond (nat_le g.units u) (OtherUnit u g.units) (with_content own)
+  in_proposal low high = ap (λ (b : Bool). cond b (OtherProposal n o) (cond (nat_le g.units u) (OtherUnit u g.units) (with_content own))) (not_past n o low high)
+
+  in_task : IsOpenTask g p n u → post_reply g h differs c n u a ≡ with_content own
+  in_task t = in_proposal t.from_one t.open_ ∙ ap (λ (b : Bool). cond b (OtherUnit u g.units) (with_content own)) (not_past_unit g.units u t.unit)
+
+  in_content : IsOpenTask g p n u → own ≡ None → post_reply g h differs c n u a ≡ with_poster (p n u)
+  in_content t same = in_task t ∙ ap with_content same
+
+  in_first : IsOpenTask g p n u → own ≡ None → p n u ≡ None → post_reply g h differs c n u a ≡ with_holder (is_holder (holders h n u) c)
+  in_first t same first = in_content t same ∙ ap with_poster first
+
+  pub post_says : PostSays g h differs c n u a
+  post_says = record {
+    proposal = λ i. ap (λ (b : Bool). cond b (OtherProposal n o) (cond (nat_le g.units u) (OtherUnit u g.units) (with_content own))) (past n o i);
+    unit = λ low high i. in_proposal low high ∙ ap (λ (b : Bool). cond b (OtherUnit u g.units) (with_content own)) (past_unit g.units u i);
+    content = λ t d e. in_task t ∙ ap with_content e;
+    doubled = λ t same x e. in_content t same ∙ ap with_poster e;
+    holder = λ t same first other. in_first t same first ∙ ap with_holder (not_holder (holders h n u) c other);
+    taken = λ t same first held. in_first t same first ∙ ap with_holder (is_holder_of (holders h n u) c held);
+  }
+
+-- ---- what calls append
 
 -- an event that a post appended was that of a post that is taken
 appended : {D A : Type 0} (h : List (Event A)) (e f : Event A) (r : PostReply D) → with_answer h e r ≡ h ++ f ∷ [] → (closed : Option ℕ) × (r ≡ TakenPost closed) × (e ≡ f)

@@ -4,11 +4,9 @@ use Rattle.std.proofs.Common.{◌≡◌, ℕ, zero, suc, ◌+◌, ◌<◌, ◌�
 use Rattle.std.proofs.lemmas.Bool.{false≢true, cases_lt, le-leb}
 use Rattle.std.proofs.lemmas.Bool.Decides.{nat_tests}
 use Rattle.std.proofs.lemmas.List.Elements.{filter-append}
-use Rattle.std.proofs.lemmas.List.Folds.{find-append, list_any-append}
-use Rattle.std.specs.List.{find, filter, list_all, list_any, range_with_len}
-use Rattle.std.specs.Option.{option_or}
+use Rattle.std.proofs.lemmas.List.Folds.{list_any-append}
+use Rattle.std.specs.List.{filter, list_all, list_any, range_with_len}
 use Rattle.std.specs.Prelude.{is_some, is_none}
-use Rattle.uc_model.specs.Data.{units}
 use Rattle.board_history.specs.Board.{Answer, rules_of, IsRight}
 use Rattle.board_history.specs.Calls.{differs_from}
 use Rattle.board_history.specs.Counts.{is_post, posts_in}
@@ -20,7 +18,7 @@ use Rattle.board_history.proofs.Answered.{posts-given, posts-taken, posts-closin
 use Rattle.board_history.proofs.Fronts.{front_stops}
 use Rattle.board_history.proofs.Held.{given_or, given_says, free_is_unposted}
 use Rattle.board_history.proofs.Machine.{IsTakeable, closed_of, reply_taken}
-use Rattle.board_history.proofs.NextTask.{one_row, rows_from}
+use Rattle.board_history.proofs.NextTask.{none_in_rows}
 use Rattle.board_history.proofs.OwnTasks.{IsOwn, own_is_same}
 
 -- ---- a claim finds a task
@@ -39,36 +37,6 @@ some_fails t a (suc n) h =
 none_of_some : {X : Type 0} (o : Option X) → is_some o ≡ false → o ≡ None
 none_of_some None h = refl
 none_of_some (Some x) h = absurd (false≢true (sym h))
-
-module _ (t : ℕ × ℕ → Bool) where
-  rest_none : {X : Type 0} (b : Bool) (x : X) (o : Option X) → cond b (Some x) o ≡ None → (b ≡ false) × (o ≡ None)
-  rest_none true x o h = (cc)
-  rest_none false x o h = (refl, h)
-
-  none_in_row : (m a k v : ℕ) → find t (one_row t m a k) ≡ None → a ≤ v → v < a + k → t (m, v) ≡ false
-  none_in_row m a zero v h low high = absurd (omega (arith, low, high))
-  none_in_row m a (suc k) v h low high =
-      let both = rest_none (t (m, a)) (m, a) (find t (one_row t m (a + 1) k)) h in
-      elim (cases_lt a v) [
-        | inl above ↦ none_in_row m (a + 1) k v both.1 (omega (arith, above)) (omega (arith, high))
-        | inr below ↦ let same : a ≡ v = omega (arith, below, low) in subst (λ (w : ℕ). t (m, w) ≡ false) same both.0
-      ]
-
-  both_none : {X : Type 0} (a b : Option X) → option_or a b ≡ None → (a ≡ None) × (b ≡ None)
-  both_none None b h = (refl, h)
-  both_none (Some x) b h = (cc)
-
-  none_in_rows : (units a n m v : ℕ) → find t (rows_from t units a n) ≡ None → a ≤ m → m < a + n → v < units → t (m, v) ≡ false
-  none_in_rows units a zero m v h low high unit = absurd (omega (arith, low, high))
-  none_in_rows units a (suc n) m v h low high unit =
-      let row = find t (one_row t a 0 units) in
-      let both = both_none row (find t (rows_from t units (a + 1) n)) (sym (find-append t (one_row t a 0 units) (rows_from t units (a + 1) n)) ∙ h) in
-      elim (cases_lt a m) [
-        | inl above ↦ none_in_rows units (a + 1) n m v both.1 (omega (arith, above)) (omega (arith, high)) unit
-        | inr below ↦
-            let same : a ≡ m = omega (arith, below, low) in
-            subst (λ (k : ℕ). t (k, v) ≡ false) same (none_in_row a 0 units v both.0 (omega arith) (omega (arith, unit)))
-      ]
 
 module _ {P R A : Type 0} (g : Rules P R A) where
   abbrev IsGiven : ClaimReply → Type 0

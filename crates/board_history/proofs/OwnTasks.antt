@@ -15,15 +15,17 @@ use Rattle.uc_model.specs.Limits.{IsMarket}
 use Rattle.uc_model.specs.PriceRule.{Proposal, start_prices, opening_prices_of, stepped_prices, age, no_prices, next_prices}
 use Rattle.uc_model.specs.Runs.{Fits}
 use Rattle.uc_model.specs.TaskLists.{task_numbers}
-use Rattle.board_history.specs.Board.{Setup, Answer, rules_of, IsRight}
+use Rattle.board_history.specs.Board.{Setup, Answer, rules_of, IsRight, row_of}
 use Rattle.board_history.specs.Calls.{own_numbers, differs_from}
-use Rattle.board_history.specs.Laws.{CallsStayLegal, StepsAreMachine}
-use Rattle.board_history.specs.Rounds.{Posts, posts, prices_at, rows_to}
+use Rattle.board_history.specs.Laws.{CallsStayLegal, StepsAreMachine, PostsMean}
+use Rattle.board_history.specs.OneCaller.{HeldIsTaken}
+use Rattle.board_history.specs.Rounds.{Posts, posts, prices_at, rows_to, with_post, is_closed}
 use Rattle.board_history.specs.Tasks.{difference, IsOver, IsTask}
 use Rattle.board_history.proofs.Kept.{rows_length}
-use Rattle.board_history.proofs.Machine.{claim_stays, post_stays, halt_stays, steps_are_machine}
+use Rattle.board_history.proofs.Machine.{claim_stays, post_stays, halt_stays, steps_are_machine, post_says}
 use Rattle.board_history.proofs.RowLaws.{units_length}
 use Rattle.board_history.proofs.SameTask.{difference_same, no_first, same_task}
+use Rattle.board_history.proofs.Held.{held_is_open}
 
 -- ---- prices
 
@@ -133,3 +135,16 @@ calls_stay_legal b h c limits caller legal = record {
 
 pub steps_agree : StepsAreMachine
 steps_agree b h e = steps_are_machine (rules_of b) (IsRight Fits b.market) h e
+
+pub posts_mean : PostsMean
+posts_mean s k n u ρ x a = post_says (rules_of s.setup) s.events (differs_from s.setup u ρ x) k n u a
+
+pub held_is_taken : HeldIsTaken
+held_is_taken s k n u ρ x a legal held first prices unit =
+    let g = rules_of s.setup in
+    let h = s.events in
+    let t = held_is_open g (IsRight Fits s.setup.market) (row_of s.setup.market no_prices []) h legal n u k held in
+    let same = own_is_same s.setup (posts h) n u ρ x (record { prices = prices; unit = unit }) in (
+      cond (is_closed g (with_post (posts h) k n u a) n) (Some n) None,
+      (post_says g h (differs_from s.setup u ρ x) k n u a).taken t same first held,
+    )

@@ -176,10 +176,11 @@ halts_nothing b h legal = (
 )
 
 pub has_row : FinishedHasRow
-has_row b h ahead some finished =
-    let g = rules_of b in
-    let enough = leb-true (opened g (posts h)) (closed_front g (posts h)) finished in
-    omega (arith, enough, ahead, some, rows_length g (posts h) (closed_front g (posts h)))
+has_row s ahead some finished =
+    let g = rules_of s.setup in
+    let p = posts s.events in
+    let enough = leb-true (opened g p) (closed_front g p) finished in
+    omega (arith, enough, ahead, some, rows_length g p (closed_front g p))
 
 pub answers_fit_now : AnswersFit
 answers_fit_now b h n u x legal is =

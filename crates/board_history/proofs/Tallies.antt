@@ -1,10 +1,10 @@
 -- How many events a legal history has: a task is claimed at most once and posted at most once, and a caller halts at most
 -- once.
-use Rattle.std.proofs.Common.{◌≡◌, ℕ, zero, suc, ◌+◌, ◌*◌, ◌<◌, ◌≤◌, ◌⊎◌, Bool, true, false, cond, ◌&&◌, ◌||◌, ◌==◌, inl, inr, Option, Some, None, List, [], ◌∷◌, ◌++◌, length, map, refl, sym, ap, ◌∙◌, subst, arith, length-append, append_assoc}
+use Rattle.std.proofs.Common.{◌≡◌, ℕ, zero, suc, ◌+◌, ◌*◌, ◌<◌, ◌≤◌, ◌⊎◌, Bool, true, false, cond, ◌&&◌, ◌||◌, ◌==◌, inl, inr, Option, Some, None, List, [], ◌∷◌, ◌++◌, length, map, refl, sym, ap, ◌∙◌, subst, arith, length-append}
 use Rattle.std.proofs.Math.Nat.{suc-mul}
 use Rattle.std.proofs.lemmas.Bool.{false≢true, cases_lt}
 use Rattle.std.proofs.lemmas.Bool.Decides.{nat_tests}
-use Rattle.std.proofs.lemmas.List.{append-nil, length-map}
+use Rattle.std.proofs.lemmas.List.{length-map}
 use Rattle.std.proofs.lemmas.List.Elements.{filter-append}
 use Rattle.std.proofs.lemmas.List.Folds.{list_any-append}
 use Rattle.std.proofs.lemmas.List.FromFn.{length-range_with_len}
@@ -15,9 +15,9 @@ use Rattle.board_history.specs.Board.{rules_of, IsRight}
 use Rattle.board_history.specs.Counts.{is_claim, is_post, claims_in, posts_in, halts_in}
 use Rattle.board_history.specs.Entries.{entry_of, entries_of}
 use Rattle.board_history.specs.Laws.{EventsAreAtMost}
-use Rattle.board_history.specs.Rounds.{Rules, Event, Given, Taken, Closing, Stopped, sooner, only_at, is_halt, is_halt_of, Holders, holders, Posts, posts, with_post, IsPost, IsNext, GoesOn, IsLegal}
+use Rattle.board_history.specs.Rounds.{Rules, Event, Given, Taken, Closing, Stopped, sooner, only_at, is_halt, is_halt_of, Holders, holders, Posts, posts, with_post, IsPost, IsNext, IsLegal}
 use Rattle.board_history.proofs.Answered.{posts-given, posts-stopped, posts-taken, posts-closing, holders-given, holders-taken, holders-closing, holders-stopped}
-use Rattle.board_history.proofs.Held.{given_says}
+use Rattle.board_history.proofs.Held.{along, given_says}
 
 -- ---- how many items pass a test
 
@@ -121,14 +121,6 @@ in_tasks units a (suc n) m u low high unit =
 -- ---- legal histories, event by event
 
 module _ {P R A : Type 0} (g : Rules P R A) (fits : ℕ → P → A → Type 0) where
-  along_from : (Q : List (Event A) → Type 0) → ((h : List (Event A)) (e : Event A) → Q h → IsNext g fits h e → Q (h ++ e ∷ [])) → (h es : List (Event A)) → Q h → GoesOn g fits h es → Q (h ++ es)
-  along_from Q step h [] now goes = subst Q (sym (append-nil h)) now
-  along_from Q step h (e ∷ es) now goes = subst Q (append_assoc h (e ∷ []) es) (along_from Q step (h ++ e ∷ []) es (step h e now goes.0) goes.1)
-
-  -- what holds of no events and of one more holds of a legal history
-  pub along : (Q : List (Event A) → Type 0) → Q [] → ((h : List (Event A)) (e : Event A) → Q h → IsNext g fits h e → Q (h ++ e ∷ [])) → (h : List (Event A)) → IsLegal g fits h → Q h
-  along Q none step h legal = along_from Q step [] h none legal
-
   count_more : (t : Event A → Bool) (h : List (Event A)) (e : Event A) → length (filter t (h ++ e ∷ [])) ≡ length (filter t h) + length (filter t (e ∷ []))
   count_more t h e = ap length (filter-append t h (e ∷ [])) ∙ length-append (filter t h) (filter t (e ∷ []))
 
@@ -178,7 +170,7 @@ module _ {P R A : Type 0} (g : Rules P R A) (fits : ℕ → P → A → Type 0) 
 
   pub posts_most : (h : List (Event A)) → IsLegal g fits h → posts_in h ≤ g.budget * g.units
   posts_most h legal =
-      let counted : PostsCounted h = along PostsCounted (omega arith) posts_step h legal in
+      let counted : PostsCounted h = along g fits PostsCounted (omega arith) posts_step h legal in
       omega (arith, counted, tally_most (posted_in (posts h)) all_tasks, tasks_length g.units 1 g.budget)
 
   -- ---- claims
@@ -205,7 +197,7 @@ module _ {P R A : Type 0} (g : Rules P R A) (fits : ℕ → P → A → Type 0) 
 
   pub claims_most : (h : List (Event A)) → IsLegal g fits h → claims_in h ≤ g.budget * g.units
   claims_most h legal =
-      let counted : ClaimsCounted h = along ClaimsCounted (omega arith) claims_step h legal in
+      let counted : ClaimsCounted h = along g fits ClaimsCounted (omega arith) claims_step h legal in
       omega (arith, counted, tally_most (held_in (holders h)) all_tasks, tasks_length g.units 1 g.budget)
 
   -- ---- halts
@@ -246,7 +238,7 @@ module _ {P R A : Type 0} (g : Rules P R A) (fits : ℕ → P → A → Type 0) 
 
   pub halts_most : (h : List (Event A)) → IsLegal g fits h → halts_in h ≤ g.callers
   halts_most h legal =
-      let counted : HaltsCounted h = along HaltsCounted (omega arith) halts_step h legal in
+      let counted : HaltsCounted h = along g fits HaltsCounted (omega arith) halts_step h legal in
       omega (arith, counted, tally_most (halted_in h) callers, length-range_with_len 0 g.callers)
 
   -- ---- all events

@@ -1,12 +1,12 @@
 -- What holds of every legal history of a board. Each law is the clause of a public function.
 use Rattle.std.specs.Prelude.{◌≡◌, ◌↔◌, ℕ, ◌+◌, ◌*◌, ◌<◌, ◌≤◌, true, not, Some, List, ◌++◌, filter, length}
-use Rattle.board_history.specs.Board.{Setup, Answer, rules_of, IsRight, IsLegalFor, IsLegalHistory}
-use Rattle.board_history.specs.Calls.{after_claim, after_post, after_halt}
+use Rattle.board_history.specs.Board.{Setup, Answer, Content, rules_of, IsRight, IsLegalFor, IsLegalHistory}
+use Rattle.board_history.specs.Calls.{own_rows, has_finished, differs_from, after_claim, after_post, after_halt}
 use Rattle.board_history.specs.Counts.{claims_in, posts_in, halts_in}
 use Rattle.board_history.specs.Entries.{entries_of}
 use Rattle.board_history.specs.Rounds.{Event, posts, prices_at, opened, rows_of, is_finished, is_halt, IsNext}
 use Rattle.board_history.specs.Tasks.{IsTask}
-use Rattle.board_history.specs.Words.{IsMachineStep, Means}
+use Rattle.board_history.specs.Words.{IsMachineStep, Means, ClaimSays, PostSays}
 use Rattle.uc_model.specs.Data.{AnyUnit, PriceLists, Schedule, unit_count}
 use Rattle.uc_model.specs.Earnings.{earnings}
 use Rattle.uc_model.specs.Limits.{IsMarket}
@@ -16,6 +16,15 @@ use Rattle.uc_model.specs.Runs.{Fits, AreRightRows, IsRun}
 
 abbrev pub WordsMean : Type 0
 WordsMean = (b : Setup) (h : List (Event Answer)) → Means (rules_of b) (posts h)
+
+-- and what each answer of a claim says
+abbrev pub ClaimsMean : Type 0
+ClaimsMean = (b : Setup) (h : List (Event Answer)) → ClaimSays (rules_of b) h
+
+-- and each answer of a post
+abbrev pub PostsMean : Type 0
+PostsMean =
+    (s : Content) (k n u : ℕ) (ρ : PriceLists) (x : AnyUnit) (a : Answer) → PostSays (rules_of s.setup) s.events (differs_from s.setup u ρ x) k n u a
 
 -- an event is a legal next one exactly where the machine makes it of a call, and its answer is right
 abbrev pub StepsAreMachine : Type 0
@@ -39,8 +48,7 @@ FinishedIsRun fits =
 -- there is one then
 abbrev pub FinishedHasRow : Type 0
 FinishedHasRow =
-    (b : Setup) (h : List (Event Answer)) → 1 ≤ b.ahead → 1 ≤ b.budget → is_finished (rules_of b) (posts h) ≡ true →
-    1 ≤ length (rows_of (rules_of b) (posts h))
+    (s : Content) → 1 ≤ s.setup.ahead → 1 ≤ s.setup.budget → has_finished s ≡ true → 1 ≤ length (own_rows s)
 
 -- ---- answers
 

@@ -1,11 +1,18 @@
 -- One caller that claims a task, answers it and posts the answer, round after round (this project's profile).
-use Rattle.std.specs.Prelude.{◌≡◌, ℕ, ◌+◌, ◌⊎◌, false, Option, Some, List, slice_get}
+use Rattle.std.specs.Prelude.{◌≡◌, ℕ, ◌+◌, ◌⊎◌, false, Option, Some, None, List, slice_get}
 use Rattle.std.specs.List.{list_any}
 use Rattle.board_history.specs.Board.{Answer, Content, IsLegalHistory}
 use Rattle.board_history.specs.Calls.{own_prices, claim_answer, after_claim, post_answer, after_post}
 use Rattle.board_history.specs.Counts.{posts_in}
 use Rattle.board_history.specs.Rounds.{Event, holders, posts, is_halt, Finished, GivenTask, TakenPost}
 use Rattle.uc_model.specs.Data.{AnyUnit, PriceLists, units}
+
+-- a task that a caller holds and that has no answer: its post is taken, whatever else came since it was claimed
+abbrev pub HeldIsTaken : Type 0
+HeldIsTaken =
+    (s : Content) (k n u : ℕ) (ρ : PriceLists) (x : AnyUnit) (a : Answer) → IsLegalHistory s.setup s.events →
+    holders s.events n u ≡ Some k → posts s.events n u ≡ None → own_prices s n ≡ ρ → slice_get (units s.setup.market) u ≡ Some x →
+    (closed : Option ℕ) × (post_answer s k n u ρ x a ≡ TakenPost closed)
 
 -- between two rounds nobody has halted, and every task that was claimed is posted
 pub record IsBetween {A : Type 0} (h : List (Event A)) : Type 0 where

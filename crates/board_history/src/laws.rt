@@ -1,7 +1,7 @@
 //! Laws on the histories of a board: each is the contract of a function that does nothing.
 ghost use Rattle.uc_model.specs.Runs.{Fits};
-ghost use Rattle.board_history.specs.Laws.{WordsMean, StepsAreMachine, CallsStayLegal, RowsAreRight, FinishedIsRun, FinishedHasRow, FinishedStays, HaltsChangeNothing, AnswersFit, EventsAreAtMost};
-ghost use Rattle.board_history.specs.OneCaller.{ClaimsAreGiven, GivenIsTaken};
+ghost use Rattle.board_history.specs.Laws.{WordsMean, ClaimsMean, PostsMean, StepsAreMachine, CallsStayLegal, RowsAreRight, FinishedIsRun, FinishedHasRow, FinishedStays, HaltsChangeNothing, AnswersFit, EventsAreAtMost};
+ghost use Rattle.board_history.specs.OneCaller.{HeldIsTaken, ClaimsAreGiven, GivenIsTaken};
 ghost use Rattle.board_history.specs.Tasks.{SameTask};
 ghost use Rattle.board_history.specs.Totals.{TotalsRun};
 
@@ -10,6 +10,19 @@ ghost use Rattle.board_history.specs.Totals.{TotalsRun};
 /// proposal that is open is closed.
 pub fn words_mean()
     ensures { WordsMean }
+{}
+
+/// What each answer of a claim says: that the board has finished; else that a caller has halted; else that the task is the
+/// lowest open proposal's lowest unclaimed unit; else that every task of the open proposals is claimed.
+pub fn claims_mean()
+    ensures { ClaimsMean }
+{}
+
+/// What each answer of a post says: that the task's proposal isn't open, or its unit isn't there; that its prices or its unit
+/// aren't the board's own; that an answer stands; that another holds the task; and else that the answer is taken, and
+/// whether it closed the proposal.
+pub fn posts_mean()
+    ensures { PostsMean }
 {}
 
 /// A legal history's events are what the machine makes: an event may come next exactly where some call appends it, and the
@@ -69,6 +82,11 @@ pub fn totals_run()
 /// Two tasks whose flat lists have the same number at each place that both have are one task.
 pub fn same_task()
     ensures { SameTask }
+{}
+
+/// The answer of a task that the caller holds is taken, whatever other callers did since.
+pub fn held_is_taken()
+    ensures { HeldIsTaken }
 {}
 
 /// Where nobody has halted and every task that was claimed is posted, a claim is given or the board has finished.
