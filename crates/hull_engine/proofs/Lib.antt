@@ -1,4 +1,5 @@
 pub mod DueLaws
 pub mod EndLemmas
 pub mod OneDue
+pub mod PlanShapes
 pub mod WordSizes

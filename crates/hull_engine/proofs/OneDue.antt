@@ -11,7 +11,7 @@ use Rattle.plan_check.specs.Checks.{refusal_of}
 use Rattle.plan_check.specs.declared.RuleFault.{RuleFault}
 use Rattle.hull_report.specs.declared.fault.TopFault.TheVariants.{PlanRule}
 use Rattle.hull_engine.specs.Due.{Due, Accepts, Refuses, Untold, Then, Only}
-use Rattle.hull_engine.specs.Ladder.{file_names, bytes_due, words_due, case_due, plan_due, work_due, PlannedCase, Accepted, Check, Price, IsReadCase, IsCaseDue, IsReadPlan, IsPlanDue, IsRuleDue, IsInputDue, IsCommandDue, IsDue}
+use Rattle.hull_engine.specs.Ladder.{file_names, bytes_due, words_due, case_due, plan_due, work_due, PlannedCase, Accepted, Check, Price, Try, made_case, IsReadCase, IsCaseDue, IsReadPlan, IsPlanDue, IsRuleDue, IsInputDue, IsCommandDue, IsDue}
 use Rattle.hull_engine.proofs.DueLaws.{one_then}
 
 one_only : {A : Type 0} (d a b : Due A) → Only d a → Only d b → a ≡ b
@@ -50,7 +50,9 @@ one_command told (price a) =
     one_then (Then (IsInputDue told names) (λ c. Only (work_due a.proposals c))) (λ c. Only (Accepts (Price c a.proposals a.ahead)))
     (one_then (IsInputDue told names) (λ c. Only (work_due a.proposals c)) (one_input told names) (λ c. one_only (work_due a.proposals c)))
     (λ c. one_only (Accepts (Price c a.proposals a.ahead)))
-one_command told (try a) = one_only _
+one_command told (try a) =
+    one_then (Only (work_due a.proposals (made_case a.number))) (λ c. Only (Accepts (Try a.number c a.proposals a.ahead)))
+    (one_only (work_due a.proposals (made_case a.number))) (λ c. one_only (Accepts (Try a.number c a.proposals a.ahead)))
 one_command told (bound a) = one_only _
 one_command told (fixed a) = one_only _
 one_command told (audit a) = one_only _

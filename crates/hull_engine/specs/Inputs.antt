@@ -3,11 +3,13 @@ use Rattle.std.specs.Prelude.{◌≡◌, ℕ, ◌*◌, ◌≤◌, ⊤}
 use Rattle.uc_model.specs.Data.{unit_count}
 use Rattle.uc_model.specs.PlainCases.{market_of, schedules_of}
 use Rattle.uc_model.specs.Systems.{IsFeasiblePlan, plan_cost}
+use Rattle.hull_words.specs.Asked.{TryAsked}
+use Rattle.hull_words.specs.declared.command.TryWords.{TryWords}
 use Rattle.hull_engine.specs.declared.input.Input.{Input}
 use Rattle.hull_engine.specs.declared.input.RunInput.{RunInput}
 use Rattle.hull_engine.specs.declared.job.Job.{Job}
 use Rattle.hull_engine.specs.declared.job.Job.TheVariants as jobs
-use Rattle.hull_engine.specs.Ladder.{PlannedCase, Accepted, Check, Price}
+use Rattle.hull_engine.specs.Ladder.{PlannedCase, Accepted, Check, Price, Try}
 use Rattle.hull_engine.specs.Sizes.{IsRunSize}
 
 -- what a contract sees of an input, and of what is to be done
@@ -17,6 +19,10 @@ planned_of input = record { market = market_of input.case; plan = schedules_of i
 abbrev pub accepted_of : Job → Accepted
 accepted_of (jobs.Check input) = Check (planned_of input)
 accepted_of (jobs.Price run) = Price (planned_of run.input) run.budget run.ahead
+accepted_of (jobs.Try number run) = Try number (planned_of run.input) run.budget run.ahead
+
+abbrev pub try_asked : TryWords → TryAsked
+try_asked w = record { number = w.number; proposals = w.proposals; workers = w.workers; ahead = w.ahead }
 
 -- the schedule is feasible, and this is its cost
 pub record IsPlanned (input : Input) : Type 0 where
@@ -32,3 +38,4 @@ pub record IsRunInput (run : RunInput) : Type 0 where
 abbrev pub IsReady : Job → Type 0
 IsReady (jobs.Check input) = IsPlanned input
 IsReady (jobs.Price run) = IsRunInput run
+IsReady (jobs.Try number run) = IsRunInput run

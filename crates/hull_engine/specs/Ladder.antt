@@ -3,10 +3,11 @@ use Rattle.std.specs.Prelude.{◌≡◌, ℕ, ◌*◌, ℤ, nat_lt, List, [], le
 use Rattle.uc_model.specs.Data.{Market, Schedule, unit_count}
 use Rattle.uc_model.specs.Systems.{IsFeasiblePlan, plan_cost}
 use Rattle.uc_model.specs.Refusals.{refusals}
-use Rattle.hull_words.specs.Asked.{Asked, check, price, try, bound, fixed, audit, CheckAsked}
+use Rattle.hull_words.specs.Asked.{Asked, check, price, try, bound, fixed, audit, CheckAsked, TryAsked}
 use Rattle.hull_words.specs.Words.{words_of, fault}
 use Rattle.hull_words.specs.declared.fault.WordFault.{WordFault}
 use Rattle.hull_words.specs.declared.fault.WordCode.TheVariants.{UnknownCommand}
+use Rattle.case_make.specs.Made.{made}
 use Rattle.uc_case.specs.Files.{FileFault, text, value}
 use Rattle.uc_case.specs.CaseFiles.{IsCaseOf}
 use Rattle.uc_case.specs.declared.fault.FieldFault.{FieldFault}
@@ -93,10 +94,18 @@ work_due proposals c =
     else Accepts c
 
 -- What is to be done: a check of a schedule, or a run with a budget of proposals, of which so many may be open ahead of
--- the last answered one.
+-- the last answered one. The case of a try is the one that its number stands for.
 pub data Accepted : Type 0 where
   Check : PlannedCase → Accepted
   Price : PlannedCase → (budget ahead : ℕ) → Accepted
+  Try : (number : ℕ) → PlannedCase → (budget ahead : ℕ) → Accepted
+
+abbrev pub made_case : ℕ → PlannedCase
+made_case number = record { market = (made number).market; plan = (made number).plan; cost = plan_cost (made number).market (made number).plan }
+
+-- a try reads no file
+abbrev pub IsTryDue : TryAsked → Due Accepted → Type 0
+IsTryDue a = Then (Only (work_due a.proposals (made_case a.number))) (λ c. Only (Accepts (Try a.number c a.proposals a.ahead)))
 
 -- a check has no limit of work; a command that isn't built yet is an unknown one
 abbrev pub IsCommandDue : (List ℕ → Option (List ℕ)) → Asked → Due Accepted → Type 0
@@ -104,6 +113,7 @@ IsCommandDue told (check names) = Then (IsInputDue told names) (λ c. Only (Acce
 IsCommandDue told (price a) =
     Then (Then (IsInputDue told (file_names a.case_name a.schedule_name)) (λ c. Only (work_due a.proposals c)))
     (λ c. Only (Accepts (Price c a.proposals a.ahead)))
+IsCommandDue told (try a) = IsTryDue a
 IsCommandDue told asked = Only (Refuses (Words (fault UnknownCommand 1)))
 
 -- THE ORDER OF REFUSALS: what is due for these words over these bytes. There is at most one (proofs/OneDue.antt).

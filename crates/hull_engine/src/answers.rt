@@ -29,6 +29,7 @@ fn perform(_alloc: Global, job: Job) -> Result<Answer, TopFault>
     match job {
         Job::Check(input) => Ok(Answer::Check(input)),
         Job::Price(_) => Err(TopFault::Memory),
+        Job::Try(_, _) => Err(TopFault::Memory),
     }
 }
 

@@ -7,16 +7,18 @@ ghost use Rattle.hull_words.specs.Asked.{asked, check, price, check_asked, price
 ghost use Rattle.hull_words.specs.Words.{texts, fault};
 ghost use Rattle.hull_engine.specs.Due.{Only, IsAcceptedWith};
 ghost use Rattle.hull_engine.specs.Sizes.{IsRunSize, HasSizes};
-ghost use Rattle.hull_engine.specs.Ladder.{words_due, work_due, IsCommandDue, IsDue};
+ghost use Rattle.hull_engine.specs.Ladder.{words_due, work_due, made_case, IsTryDue, IsCommandDue, IsDue};
 ghost use Rattle.hull_engine.specs.Ends.{IsAnswer, IfReadFails, name_at, IsReached};
-ghost use Rattle.hull_engine.specs.Inputs.{planned_of, accepted_of, IsPlanned, IsRunInput, IsReady};
+ghost use Rattle.hull_engine.specs.Inputs.{planned_of, accepted_of, try_asked, IsPlanned, IsRunInput, IsReady};
 
 use crate::files::input_step;
 use crate::input::{Input, RunInput};
+use case_make::make_case;
 use hull_io::Shelf;
 use hull_report::{TopFault, WorkFault};
-use hull_words::{CheckWords, Command, PriceWords, WordCode, WordError, WordFault, read_words};
-use std::alloc::Global;
+use hull_words::{CheckWords, Command, PriceWords, TryWords, WordCode, WordError, WordFault, read_words};
+use plan_check::costs::cost_of_plan;
+use std::alloc::{AllocError, Global};
 use uc_model::cases::Case;
 
 /// The most proposals, units and periods of a run, multiplied.
@@ -29,6 +31,8 @@ pub enum Job {
     Check(Input),
     /// To run the price rule and report.
     Price(RunInput),
+    /// To run the price rule on the case that a number stands for, and tell its sums.
+    Try(u64, RunInput),
 }
 
 /// The command that the words give.
@@ -121,6 +125,29 @@ fn price_step<F: Shelf>(alloc: Global, shelf: &mut F, words: &PriceWords) -> Res
     Ok(Job::Price(run))
 }
 
+/// The case and the feasible schedule that a number stands for.
+fn made_input(alloc: Global, number: u64) -> Result<Input, AllocError>
+    ensures made { IfOk result (λ input. planned_of input ≡ made_case number) }
+    ensures planned { IfOk result (λ input. IsPlanned input) }
+{
+    let (case, plan) = make_case(alloc, number)?;
+    let cost = cost_of_plan(&case, &plan);
+    Ok(Input { case, plan, cost })
+}
+
+fn try_step(alloc: Global, words: &TryWords) -> Result<Job, TopFault>
+    requires { IsRunSize words.now.proposals words.now.workers words.now.ahead }
+    ensures answers { IsAnswer (IsTryDue (try_asked words.now)) accepted_of result }
+    ensures ready { IfOk result (λ job. IsReady job) }
+    ensures unread { IfReadFails result (λ _. ⊥) }
+{
+    let Ok(input) = made_input(alloc, words.number) else {
+        return Err(TopFault::Memory);
+    };
+    let run = run_step(input, words.proposals, words.workers, words.ahead)?;
+    Ok(Job::Try(words.number, run))
+}
+
 /// A command that isn't built yet is an unknown one.
 fn not_built() -> TopFault
     ensures { result ≡ TopFault.Words (fault WordCode.UnknownCommand 1) }
@@ -144,7 +171,7 @@ fn command_step<F: Shelf>(alloc: Global, shelf: &mut F, command: &Command) -> Re
     match command {
         Command::Check(names) => check_step(alloc, shelf, names),
         Command::Price(words) => price_step(alloc, shelf, words),
-        Command::Try(_) => Err(not_built()),
+        Command::Try(words) => try_step(alloc, words),
         Command::Bound(_) => Err(not_built()),
         Command::Fixed(_) => Err(not_built()),
         Command::Audit(_) => Err(not_built()),

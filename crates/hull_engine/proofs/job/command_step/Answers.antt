@@ -5,11 +5,8 @@ use Rattle.hull_report.specs.declared.fault.TopFault.TheVariants.{Words}
 use Rattle.hull_engine.specs.Due.{Refuses}
 use Rattle.hull_engine.proofs.job.command_step.Goals as goal
 
-pub returns-in-Try-clause-answers : goal.returns-in-Try-clause-answers
-returns-in-Try-clause-answers g c = rw (c.not_built.ensures, c.in-Try.is) (Refuses (Words (fault UnknownCommand 1)), refl, refl)
-
 pub returns-in-Bound-clause-answers : goal.returns-in-Bound-clause-answers
-returns-in-Bound-clause-answers g c = rw (c.not_built-in-Bound.ensures, c.in-Bound.is) (Refuses (Words (fault UnknownCommand 1)), refl, refl)
+returns-in-Bound-clause-answers g c = rw (c.not_built.ensures, c.in-Bound.is) (Refuses (Words (fault UnknownCommand 1)), refl, refl)
 
 pub returns-in-Fixed-clause-answers : goal.returns-in-Fixed-clause-answers
 returns-in-Fixed-clause-answers g c = rw (c.not_built-in-Fixed.ensures, c.in-Fixed.is) (Refuses (Words (fault UnknownCommand 1)), refl, refl)
