@@ -114,10 +114,11 @@ pub record IsBoard (b : Setup) (h : List (Event Answer)) (x : Lists) (l : Ledger
   pub rounds : AreRounds b (fronts_of l) (posts h)
   pub halts : AreHalts b x.halted x.any_halt h
 
--- what the other fields of a board keep
-pub record IsKept (b : Setup) (h : List (Event Answer)) (entries : List Entry) (x : Lists) (entries_room takers_room periods next : ℕ) : Type 0 where
-  pub room : HasRoom b (length entries) (length x.takers) x.marks x.halted entries_room
-  pub takers_room : task_count b ≤ takers_room
+-- what the other fields of a board keep: room in its lists of entries and of takers, entries that are those of its events,
+-- and stored answers and prices over the horizon
+pub record IsKept (b : Setup) (h : List (Event Answer)) (entries : List Entry) (x : Lists) (most_entries most_takers over next_over : ℕ) : Type 0 where
+  pub room : HasRoom b (length entries) (length x.takers) x.marks x.halted most_entries
+  pub takers_room : task_count b ≤ most_takers
   pub entries_are : entries_of h ≡ entries
-  pub periods : periods ≡ b.market.periods
-  pub next : next ≡ b.market.periods
+  pub store : over ≡ b.market.periods
+  pub next : next_over ≡ b.market.periods

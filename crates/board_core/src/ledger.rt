@@ -88,9 +88,24 @@ fn add_answer(row: &mut Row, task: &Task, answer: &Answered)
     ensures { proposal_of row.new ≡ with_schedule (proposal_of row.old) (task_unit task.now) (schedule_of answer.now.response) }
 {
     match task.kind {
-        UnitKind::Thermal | UnitKind::Flat => add_response(row, &answer.response),
+        UnitKind::Thermal => add_response(row, &answer.response),
+        UnitKind::Flat => add_response(row, &answer.response),
         UnitKind::Bid => take_bid(row, &answer.response),
     }
+}
+
+// What is earned with one more answer.
+fn earned_with(total: i128, earned: i64) -> i128
+    requires { IsFrom (neg_ℤ (pos 100000000000000000000000)) (pos 100000000000000000000000) total }
+    ensures { result ≡ total +ℤ earned }
+{
+    total + i128::from(earned)
+}
+
+fn no_totals(alloc: Global, count: usize) -> Result<Vec<i128>, AllocError>
+    ensures { IfOk result (λ v. v.items ≡ replicate count (pos 0)) }
+{
+    vec![in alloc; 0; count]
 }
 
 impl Ledger {
@@ -104,7 +119,7 @@ impl Ledger {
         ensures opened { IfOk result (λ l. l.opened ≡ 0) }
     {
         let proposals = blank_rows(alloc, periods, budget)?;
-        let earned = vec![in alloc; 0; budget as usize]?;
+        let earned = no_totals(alloc, budget as usize)?;
         Ok(Ledger {
             proposals,
             earned,
@@ -191,6 +206,6 @@ impl Ledger {
         ensures opened { self.new.opened ≡ self.old.opened }
     {
         add_answer(&mut self.proposals[place], task, answer);
-        self.earned[place] += i128::from(answer.earned);
+        self.earned[place] = earned_with(self.earned[place], answer.earned);
     }
 }

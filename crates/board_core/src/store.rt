@@ -1,5 +1,5 @@
 //! The answers of all tasks, in lists of one length, one after another.
-ghost use Rattle.std.specs.Prelude.{◌≡◌, ◌+◌, ◌*◌, ◌<◌, ◌≤◌, length, IfOk, replicate, slice_index_or, slice_set};
+ghost use Rattle.std.specs.Prelude.{◌≡◌, ◌+◌, ◌*◌, ◌<◌, ◌≤◌, false, pos, length, IfOk, replicate, slice_index_or, slice_set};
 ghost use Rattle.uc_model.specs.PlainUnits.{schedule_of};
 ghost use Rattle.board_history.specs.Board.{no_answer};
 ghost use Rattle.board_core.specs.Stored.{answer_of, part, with_part};
@@ -61,6 +61,26 @@ fn take_part<T: Copy + Drop>(
     }
 }
 
+/// So many flags that are off.
+pub fn no_flags(alloc: Global, count: usize) -> Result<Vec<bool>, AllocError>
+    ensures { IfOk result (λ v. v.items ≡ replicate count false) }
+{
+    vec![in alloc; false; count]
+}
+
+/// So many counts of 0.
+pub fn no_counts(alloc: Global, count: usize) -> Result<Vec<u32>, AllocError>
+    ensures { IfOk result (λ v. v.items ≡ replicate count 0) }
+{
+    vec![in alloc; 0; count]
+}
+
+fn no_earnings(alloc: Global, count: usize) -> Result<Vec<i64>, AllocError>
+    ensures { IfOk result (λ v. v.items ≡ replicate count (pos 0)) }
+{
+    vec![in alloc; 0; count]
+}
+
 impl Store {
     /// Room for so many answers over so many periods.
     pub fn make(alloc: Global, count: usize, periods: u32) -> Result<Store, AllocError>
@@ -70,10 +90,10 @@ impl Store {
     {
         let periods = periods as usize;
         let numbers = count * periods;
-        let on = vec![in alloc; false; numbers]?;
-        let power = vec![in alloc; 0; numbers]?;
-        let reserve = vec![in alloc; 0; numbers]?;
-        let earned = vec![in alloc; 0; count]?;
+        let on = no_flags(alloc, numbers)?;
+        let power = no_counts(alloc, numbers)?;
+        let reserve = no_counts(alloc, numbers)?;
+        let earned = no_earnings(alloc, count)?;
         Ok(Store {
             periods,
             on,
