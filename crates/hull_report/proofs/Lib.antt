@@ -3,3 +3,5 @@ pub mod PieceLemmas
 mod ReadBack
 mod ReadLines
 mod ReadReport
+pub mod UnitLines
+pub mod Records

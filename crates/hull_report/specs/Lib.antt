@@ -7,3 +7,4 @@ pub mod Pending
 pub mod RightReport
 pub mod TryText
 pub mod Laws
+pub mod RecordReport
