@@ -5,3 +5,4 @@ pub mod AnswerTexts
 pub mod Inputs
 pub mod Ends
 pub mod Runs
+pub mod Rounds

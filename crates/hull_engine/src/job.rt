@@ -1,7 +1,5 @@
 //! What the words and the files ask for, in the order of their refusals.
 ghost use Rattle.std.specs.Prelude.{◌≡◌, ◌≤◌, ◌+◌, ◌*◌, ℕ, List, IfOk, IsSomeAnd};
-ghost use Rattle.uc_model.specs.Data.{unit_count as units_in};
-ghost use Rattle.uc_model.specs.PlainCases.{market_of};
 ghost use Rattle.hull_io.specs.Edge.{Rose};
 ghost use Rattle.hull_words.specs.Asked.{asked, check, price, check_asked, price_asked};
 ghost use Rattle.hull_words.specs.Words.{texts, fault};
@@ -12,14 +10,13 @@ ghost use Rattle.hull_engine.specs.Ends.{IsAnswer, IfReadFails, name_at, IsReach
 ghost use Rattle.hull_engine.specs.Inputs.{planned_of, accepted_of, try_asked, IsPlanned, IsRunInput, IsReady};
 
 use crate::files::input_step;
-use crate::input::{Input, RunInput};
+use crate::input::{Input, RunInput, unit_count};
 use case_make::make_case;
 use hull_io::Shelf;
 use hull_report::{TopFault, WorkFault};
 use hull_words::{CheckWords, Command, PriceWords, TryWords, WordCode, WordError, WordFault, read_words};
 use plan_check::costs::cost_of_plan;
 use std::alloc::{AllocError, Global};
-use uc_model::cases::Case;
 
 /// The most proposals, units and periods of a run, multiplied.
 const MOST_WORK: u64 = 50_000_000;
@@ -46,14 +43,6 @@ fn words_step(alloc: Global, words: &[String]) -> Result<Command, TopFault>
         Err(WordError::Fault(fault)) => Err(TopFault::Words(fault)),
         Err(WordError::Memory) => Err(TopFault::Memory),
     }
-}
-
-/// How many units a case has, with the bids.
-fn unit_count(case: &Case) -> u32
-    ensures value { result ≡ units_in (market_of case.now) }
-    ensures limit { result ≤ 12288 }
-{
-    (case.thermal.len() + case.flat.len() + case.bids.len()) as u32
 }
 
 /// So many proposals, units and periods multiplied.

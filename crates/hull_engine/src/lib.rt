@@ -16,6 +16,8 @@ mod end;
 mod files;
 mod input;
 mod job;
+mod run;
+mod tasks;
 
 use answers::answer_words;
 use end::finish;
