@@ -92,11 +92,11 @@ module _ {P R A : Type 0} (g : Rules P R A) where
         finished = (is_finished_of f t o, λ is. ap (λ (x : Bool). claim_of x t o) is);
         halted = (is_halted_of f t o, λ is. ap (λ (x : Bool). claim_of x t o) is.0 ∙ ap (λ (x : Bool). claim_of false x o) is.1);
         given = λ n u. (
-          λ is. let r = is_given_of f t o n u is in (r.0, r.1, next_is_first (posts h) (holders h) n u r.2),
-          λ is. past_both f t o (Some (n, u)) is.0 is.1 (first_is_next (posts h) (holders h) n u is.2),
+          λ is. let r = is_given_of f t o n u is in ((r.0, r.1), next_is_first (posts h) (holders h) n u r.2),
+          λ is. past_both f t o (Some (n, u)) is.0.0 is.0.1 (first_is_next (posts h) (holders h) n u is.1),
         );
         not_yet = (
-          λ is. let r = is_not_yet_of f t o is in (r.0, r.1, none_is_held (posts h) (holders h) r.2),
-          λ is. past_both f t o None is.0 is.1 (held_is_none (posts h) (holders h) is.2),
+          λ is. let r = is_not_yet_of f t o is in ((r.0, r.1), none_is_held (posts h) (holders h) r.2),
+          λ is. past_both f t o None is.0.0 is.0.1 (held_is_none (posts h) (holders h) is.1),
         );
       }

@@ -8,9 +8,11 @@ pub mod NextTask
 pub mod OneCaller
 pub mod Opens
 pub mod OwnTasks
+pub mod RowBounds
 pub mod RowLaws
 pub mod SameTask
 pub mod Stays
 pub mod Tallies
 pub mod Totals
+pub mod UnitBounds
 pub mod Words

@@ -1,19 +1,21 @@
 -- The board's own tasks: prices and units over the horizon, and what a post whose task nowhere differs from the board's own
 -- tells.
-use Rattle.std.proofs.Common.{◌≡◌, ℕ, ◌-◌, ◌<◌, ℤ, pos, Bool, true, false, cond, Option, Some, None, List, [], ◌∷◌, ◌++◌, length, map, get_or, refl, sym, ap, ◌∙◌, subst, arith}
+use Rattle.std.proofs.Common.{◌≡◌, ℕ, zero, suc, ◌-◌, ◌<◌, ℤ, pos, Bool, true, false, cond, Option, Some, None, List, [], ◌∷◌, ◌++◌, length, map, get_or, refl, sym, ap, ◌∙◌, subst, arith}
 use Rattle.std.proofs.lemmas.Bool.Decides.{nat_tests}
 use Rattle.std.proofs.lemmas.List.{length-map, length-replicate}
 use Rattle.std.proofs.lemmas.List.Elements.{All-append, All-map}
 use Rattle.std.proofs.lemmas.List.FromFn.{length-map-range_with_len}
 use Rattle.std.proofs.lemmas.Option.{slice_get_within, slice_get-get_or, get_or_from_slice_get}
-use Rattle.std.specs.List.{All}
+use Rattle.std.specs.List.{All, AllZip}
 use Rattle.std.specs.Option.{option_map_or}
 use Rattle.std.specs.Prelude.{nat_le, slice_get}
-use Rattle.uc_model.specs.Data.{AnyUnit, Thermal, Flat, Bid, PriceLists, Market, NamedThermalUnit, NamedRenewableUnit, NamedBidUnit, units, unit_count}
+use Rattle.uc_model.specs.Data.{AnyUnit, Thermal, Flat, Bid, PriceLists, Schedule, Market, NamedThermalUnit, NamedRenewableUnit, NamedBidUnit, units, unit_count}
 use Rattle.uc_model.specs.Earnings.{earnings}
 use Rattle.uc_model.specs.Limits.{IsMarket}
 use Rattle.uc_model.specs.PriceRule.{Proposal, start_prices, opening_prices_of, stepped_prices, age, no_prices, next_prices}
 use Rattle.uc_model.specs.Runs.{Fits}
+use Rattle.uc_model.specs.Schedules.{IsFeasible}
+use Rattle.uc_model.specs.Systems.{IsFeasiblePlan}
 use Rattle.uc_model.specs.TaskLists.{task_numbers}
 use Rattle.board_history.specs.Board.{Setup, Answer, rules_of, IsRight, row_of}
 use Rattle.board_history.specs.Calls.{own_numbers, differs_from}
@@ -93,6 +95,17 @@ own_task b p n u x limits is = record {
   reserve = own_reserve_horizon b p n ∙ sym (own_horizon b p n);
   over = subst (λ (k : ℕ). IsOver k x) (sym (own_horizon b p n)) (unit_over b.market limits u x is);
 }
+
+-- a feasible plan has a schedule for each unit
+planned : {X Y : Type 0} (Q : X → Y → Type 0) (xs : List X) (ys : List Y) (k : ℕ) (x : X) → AllZip Q xs ys → slice_get xs k ≡ Some x → (y : Y) × Q x y
+planned Q [] [] k x all is = (cc)
+planned Q [] (y ∷ ys) k x all is = absurd all
+planned Q (z ∷ xs) [] k x all is = absurd all
+planned {X} Q (z ∷ xs) (y ∷ ys) zero x all is = let e : z ≡ x = (cc) in (y, subst (λ (w : X). Q w y) e all.0)
+planned Q (z ∷ xs) (y ∷ ys) (suc k) x all is = planned Q xs ys k x all.1 is
+
+pub plan_has_schedule : (m : Market) (plan : List Schedule) (u : ℕ) (x : AnyUnit) → IsFeasiblePlan m plan → slice_get (units m) u ≡ Some x → (s : Schedule) × IsFeasible x m.periods s
+plan_has_schedule m plan u x h is = planned (λ v s. IsFeasible v m.periods s) (units m) plan u x h.feasible is
 
 -- ---- posts of such tasks
 

@@ -30,7 +30,7 @@ units_length m =
     omega (arith, length-append (ts ++ fs) bs, length-append ts fs, a, b, c)
 
 -- items that a function gives at the places of a list
-zip_range : {X Y Z : Type 0} (Q : X → Z → Type 0) (z : Y → Z) (f : ℕ → Y) (xs : List X) (a n : ℕ) → length xs ≡ n →
+pub zip_range : {X Y Z : Type 0} (Q : X → Z → Type 0) (z : Y → Z) (f : ℕ → Y) (xs : List X) (a n : ℕ) → length xs ≡ n →
     ((k : ℕ) (x : X) → slice_get xs k ≡ Some x → Q x (z (f (a + k)))) → AllZip Q xs (map z (map f (range_with_len a n)))
 zip_range Q z f [] a zero h each = tt
 zip_range Q z f [] a (suc n) h each = absurd (omega (arith, h))
@@ -156,7 +156,7 @@ module _ (fits : AnyUnit → PriceLists → Schedule → Type 0) (best : (u : An
   finished_is_run b h ahead some legal finished = whole_run b h ahead legal some finished
 
 -- an answer is best, whether each best one fits or the least alone
-fits_is_best : (u : AnyUnit) (π : PriceLists) (s : Schedule) → Fits u π s → IsBest u π s
+pub fits_is_best : (u : AnyUnit) (π : PriceLists) (s : Schedule) → Fits u π s → IsBest u π s
 fits_is_best u π s h = assumption h
 
 pub rows_fit : RowsAreRight Fits

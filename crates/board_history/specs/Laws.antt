@@ -24,12 +24,14 @@ ClaimsMean = (b : Setup) (h : List (Event Answer)) → ClaimSays (rules_of b) h
 -- and each answer of a post
 abbrev pub PostsMean : Type 0
 PostsMean =
-    (s : Content) (k n u : ℕ) (ρ : PriceLists) (x : AnyUnit) (a : Answer) → PostSays (rules_of s.setup) s.events (differs_from s.setup u ρ x) k n u a
+    (s : Content) (k n u : ℕ) (ρ : PriceLists) (x : AnyUnit) (a : Answer) →
+    PostSays (rules_of s.setup) s.events (differs_from s.setup u ρ x) k n u a
 
 -- an event is a legal next one exactly where the machine makes it of a call, and its answer is right
 abbrev pub StepsAreMachine : Type 0
 StepsAreMachine =
-    (b : Setup) (h : List (Event Answer)) (e : Event Answer) → IsNext (rules_of b) (IsRight Fits b.market) h e ↔ IsMachineStep (rules_of b) (IsRight Fits b.market) h e
+    (b : Setup) (h : List (Event Answer)) (e : Event Answer) →
+    IsNext (rules_of b) (IsRight Fits b.market) h e ↔ IsMachineStep (rules_of b) (IsRight Fits b.market) h e
 
 -- ---- the rows of a legal history
 
@@ -47,8 +49,7 @@ FinishedIsRun fits =
 
 -- there is one then
 abbrev pub FinishedHasRow : Type 0
-FinishedHasRow =
-    (s : Content) → 1 ≤ s.setup.ahead → 1 ≤ s.setup.budget → has_finished s ≡ true → 1 ≤ length (own_rows s)
+FinishedHasRow = (s : Content) → 1 ≤ s.setup.ahead → 1 ≤ s.setup.budget → has_finished s ≡ true → 1 ≤ length (own_rows s)
 
 -- ---- answers
 
@@ -60,7 +61,8 @@ pub record IsAnswered (b : Setup) (h : List (Event Answer)) (n u : ℕ) (a : Ans
   pub right : IsRight Fits b.market u (prices_at (rules_of b) (posts h) n) a
 
 abbrev pub AnswersFit : Type 0
-AnswersFit = (b : Setup) (h : List (Event Answer)) (n u : ℕ) (x : ℕ × Answer) → IsLegalHistory b h → posts h n u ≡ Some x → IsAnswered b h n u x.1
+AnswersFit =
+    (b : Setup) (h : List (Event Answer)) (n u : ℕ) (x : ℕ × Answer) → IsLegalHistory b h → posts h n u ≡ Some x → IsAnswered b h n u x.1
 
 -- ---- how many events there are
 

@@ -28,8 +28,10 @@ module _ {P R A : Type 0} (g : Rules P R A) (fits : ℕ → P → A → Type 0) 
   -- the call that appends the event to these, with a task that is the board's own and an answer that is right
   abbrev pub IsMachineStep : List (Event A) → Event A → Type 0
   IsMachineStep h (Given c n u) = (c < g.callers) × (events_after_claim g h c ≡ h ++ Given c n u ∷ [])
-  IsMachineStep h (Taken c n u a) = (c < g.callers) × fits u (prices_at g (posts h) n) a × (events_after_post g h no_difference c n u a ≡ h ++ Taken c n u a ∷ [])
-  IsMachineStep h (Closing c n u a) = (c < g.callers) × fits u (prices_at g (posts h) n) a × (events_after_post g h no_difference c n u a ≡ h ++ Closing c n u a ∷ [])
+  IsMachineStep h (Taken c n u a) =
+      (c < g.callers) × fits u (prices_at g (posts h) n) a × (events_after_post g h no_difference c n u a ≡ h ++ Taken c n u a ∷ [])
+  IsMachineStep h (Closing c n u a) =
+      (c < g.callers) × fits u (prices_at g (posts h) n) a × (events_after_post g h no_difference c n u a ≡ h ++ Closing c n u a ∷ [])
   IsMachineStep h (Stopped c) = (c < g.callers) × (events_after_halt h c ≡ h ++ Stopped c ∷ [])
 
 -- ---- claims
@@ -51,12 +53,16 @@ module _ {P R A : Type 0} (g : Rules P R A) where
     pub lower_proposals : (m v : ℕ) → m < n → IsOpenTask p m v → IsHeld held m v
     pub lower_units : (v : ℕ) → v < u → IsHeld held n v
 
+  -- not all tasks of the open proposals are posted, and there is no halt
+  abbrev pub IsGoing : List (Event A) → Type 0
+  IsGoing h = (is_finished g (posts h) ≡ false) × (list_any is_halt h ≡ false)
+
   pub record ClaimSays (h : List (Event A)) : Type 0 where
     pub finished : (claim_reply g h ≡ Finished) ↔ (is_finished g (posts h) ≡ true)
     pub halted : (claim_reply g h ≡ Halted) ↔ ((is_finished g (posts h) ≡ false) × (list_any is_halt h ≡ true))
-    pub given : (n u : ℕ) → (claim_reply g h ≡ GivenTask n u) ↔ ((is_finished g (posts h) ≡ false) × (list_any is_halt h ≡ false) × IsFirstFree (posts h) (holders h) n u)
-    -- every task of the open proposals is claimed, not all are posted and there is no halt
-    pub not_yet : (claim_reply g h ≡ NotYet) ↔ ((is_finished g (posts h) ≡ false) × (list_any is_halt h ≡ false) × ((n u : ℕ) → IsOpenTask (posts h) n u → IsHeld (holders h) n u))
+    pub given : (n u : ℕ) → (claim_reply g h ≡ GivenTask n u) ↔ (IsGoing h × IsFirstFree (posts h) (holders h) n u)
+    -- every task of the open proposals is claimed
+    pub not_yet : (claim_reply g h ≡ NotYet) ↔ (IsGoing h × ((n u : ℕ) → IsOpenTask (posts h) n u → IsHeld (holders h) n u))
 
 -- ---- posts
 
@@ -74,6 +80,7 @@ module _ {P R A D : Type 0} (g : Rules P R A) (h : List (Event A)) (differs : P 
     pub unit : 0 < n → n ≤ opened g (posts h) → g.units ≤ u → reply ≡ OtherUnit u g.units
     pub content : IsOpenTask g (posts h) n u → (d : D) → difference ≡ Some d → reply ≡ OtherContent d
     pub doubled : IsOpenTask g (posts h) n u → difference ≡ None → (x : ℕ × A) → posts h n u ≡ Some x → reply ≡ Doubled x.0
-    pub holder : IsOpenTask g (posts h) n u → difference ≡ None → posts h n u ≡ None → (holders h n u ≡ Some c → ⊥) → reply ≡ OtherHolder c (holders h n u)
+    pub holder : IsOpenTask g (posts h) n u → difference ≡ None → posts h n u ≡ None → (holders h n u ≡ Some c → ⊥) →
+        reply ≡ OtherHolder c (holders h n u)
     pub taken : IsOpenTask g (posts h) n u → difference ≡ None → posts h n u ≡ None → holders h n u ≡ Some c →
         reply ≡ TakenPost (if is_closed g (with_post (posts h) c n u a) n then Some n else None)

@@ -1,5 +1,6 @@
 //! Laws on the histories of a board: each is the contract of a function that does nothing.
 ghost use Rattle.uc_model.specs.Runs.{Fits};
+ghost use Rattle.board_history.specs.Bounds.{TotalsAreWithin, RowsAreWithin, RowsAreAtMostCost};
 ghost use Rattle.board_history.specs.Laws.{WordsMean, ClaimsMean, PostsMean, StepsAreMachine, CallsStayLegal, RowsAreRight, FinishedIsRun, FinishedHasRow, FinishedStays, HaltsChangeNothing, AnswersFit, EventsAreAtMost};
 ghost use Rattle.board_history.specs.OneCaller.{HeldIsTaken, ClaimsAreGiven, GivenIsTaken};
 ghost use Rattle.board_history.specs.Tasks.{SameTask};
@@ -98,4 +99,21 @@ pub fn claims_are_given()
 /// claimed is posted again, and there is one post more. By `events_are_at_most` such rounds end.
 pub fn given_is_taken()
     ensures { GivenIsTaken }
+{}
+
+/// The totals of a proposal's answers are at most 10^13 kilowatts in magnitude, and what they earn together 10^23, also
+/// while answers are missing.
+pub fn totals_are_within()
+    ensures { TotalsAreWithin }
+{}
+
+/// Each row is over the horizon, with prices within their limits, totals of at most 10^13 in magnitude and a value of at most
+/// 10^24.
+pub fn rows_are_within()
+    ensures { RowsAreWithin }
+{}
+
+/// No row's value is above the cost of a feasible plan.
+pub fn rows_are_at_most_cost()
+    ensures { RowsAreAtMostCost }
 {}
