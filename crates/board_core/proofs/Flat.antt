@@ -95,7 +95,7 @@ length-with_part xs ys long place h l =
 pub length-part : {A : Type 0} (xs : List A) (long place : ℕ) → place * long + long ≤ length xs → length (part xs long place) ≡ long
 length-part xs long place h = length-take-le long (drop (place * long) xs) (omega (arith, h, length-drop (place * long) xs))
 
-same_answer : (on on2 : List Bool) (power power2 reserve reserve2 : List ℕ) (earned earned2 : ℤ) → on ≡ on2 → power ≡ power2 → reserve ≡ reserve2 → earned ≡ earned2 →
+pub same_answer : (on on2 : List Bool) (power power2 reserve reserve2 : List ℕ) (earned earned2 : ℤ) → on ≡ on2 → power ≡ power2 → reserve ≡ reserve2 → earned ≡ earned2 →
     (let a : Answer = record { schedule = record { on = on; power = power; reserve = reserve }; earned = earned } in
     let b : Answer = record { schedule = record { on = on2; power = power2; reserve = reserve2 }; earned = earned2 } in a ≡ b)
 same_answer on on2 power power2 reserve reserve2 earned earned2 e f g h =

@@ -1,2 +1,4 @@
 pub mod Flat
+pub mod Fronts
 pub mod Rows
+pub mod UnitPlaces

@@ -102,7 +102,8 @@ impl Board {
 
     // The closed proposals from 1 up to the first that isn't.
     fn rows(&self) -> &[Row]
-        ensures { map proposal_of result.now ≡ own_rows self.now }
+        ensures rows { map proposal_of result.now ≡ own_rows self.now }
+        ensures count { length result.now ≤ 10000 }
     {
         self.ledger.rows()
     }
@@ -127,7 +128,8 @@ impl Board {
         requires last { proposal ≤ length (own_rows self.now) }
         requires unit { unit < unit_count self.now.setup.market }
         requires horizon { length (schedule_of into.old.response).on ≡ self.now.setup.market.periods }
-        ensures { answer_of into.new ≡ kept_answer self.now proposal unit }
+        ensures answer { answer_of into.new ≡ kept_answer self.now proposal unit }
+        ensures horizon { length (schedule_of into.new.response).on ≡ self.now.setup.market.periods }
     {
         self.store
             .take(place(self.terms.units(), proposal, unit), into);

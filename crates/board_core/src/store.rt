@@ -55,8 +55,9 @@ fn take_part<T: Copy + Drop>(
     ensures { into.new.items ≡ part store.now long place }
 {
     let from = place * long;
+    let list = &store[from..from + long];
     into.clear();
-    for item in &store[from..from + long] {
+    for item in list {
         into.push(*item);
     }
 }
@@ -139,7 +140,8 @@ impl Store {
     pub fn take(&self, place: usize, into: &mut Answered)
         requires place { place < length self.now.answers }
         requires horizon { length (schedule_of into.old.response).on ≡ self.now.periods }
-        ensures { answer_of into.new ≡ slice_index_or self.now.answers place no_answer }
+        ensures answer { answer_of into.new ≡ slice_index_or self.now.answers place no_answer }
+        ensures horizon { length (schedule_of into.new.response).on ≡ self.now.periods }
     {
         let response = &mut into.response;
         take_part(&self.on, self.periods, place, &mut response.on);

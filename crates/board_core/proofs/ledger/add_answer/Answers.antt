@@ -31,7 +31,7 @@ returns-in-Flat c =
     let u : task_unit t ≡ Flat (renewable_of t.flat) = ap (λ (k : UnitKind). chosen_unit k t.thermal t.flat t.bid) c.in-Flat.is in
     added r r2 (task_unit t) s
     (subst (λ (x : AnyUnit). IsRaised r.supply r2.supply (λ k. supply_in x s (suc k))) (sym u) c.add_response-in-Flat.ensures.supply)
-    c.add_response-in-Flat.ensures.reserve (ap prices_of c.add_response-2.ensures.prices) c.add_response-2.ensures.value
+    c.add_response-in-Flat.ensures.reserve (ap prices_of c.add_response-in-Flat.ensures.prices) c.add_response-in-Flat.ensures.value
 
 pub returns-in-Bid : goal.returns-in-Bid
 returns-in-Bid c =
