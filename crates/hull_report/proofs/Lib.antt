@@ -5,3 +5,6 @@ mod ReadLines
 mod ReadReport
 pub mod UnitLines
 pub mod Records
+mod Sizes
+mod RecordTexts
+mod RecordLines

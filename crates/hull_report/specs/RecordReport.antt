@@ -40,6 +40,13 @@ chosen_of c = chosen_number (own_rows c)
 abbrev pub value_of : Content → ℤ
 value_of c = int_at (map (λ (r : Proposal). r.value) (own_rows c)) (chosen_of c - 1)
 
+-- there is a row of that number, and the settlement has its numbers for each unit
+pub record HasNumbers (c : Content) (s : Settlement) (proposal : ℕ) : Type 0 where
+  pub first : 1 ≤ proposal
+  pub last : proposal ≤ length (own_rows c)
+  pub scheduled : length s.scheduled.items ≡ unit_count c.setup.market
+  pub payments : length s.payments.items ≡ unit_count c.setup.market
+
 unfoldable pub report_of : Content → Settlement → Report
 report_of c s = record {
   periods = c.setup.market.periods;
