@@ -1,5 +1,5 @@
 -- What follows from draws that are within their ranges.
-use Rattle.std.proofs.Common.{◌≡◌, ℕ, zero, suc, ◌+◌, ◌-◌, ◌*◌, ◌/◌, ◌<◌, ◌≤◌, min, refl, ap, sym, ◌∙◌, arith}
+use Rattle.std.proofs.Common.{◌≡◌, ℕ, zero, suc, ◌+◌, ◌-◌, ◌*◌, ◌≤◌, refl, arith}
 use Rattle.std.proofs.Math.Nat.{div-le_self, mul-le-mul_left, min-le_left, min-le_right}
 use Rattle.std.proofs.lemmas.Nat.{mul-le}
 use Rattle.case_make.specs.declared.draws.UnitDraws.{UnitDraws}

@@ -1,10 +1,10 @@
 -- What is drawn after so many words is what stands at that place.
-use Rattle.std.proofs.Common.{◌≡◌, ℕ, zero, suc, ◌+◌, ◌*◌, ◌/◌, List, [], ◌∷◌, map, refl, ap, sym, ◌∙◌, arith}
+use Rattle.std.proofs.Common.{◌≡◌, ℕ, ◌+◌, ◌*◌, ◌/◌, List, [], ◌∷◌, map, refl, ap, sym, ◌∙◌, arith}
 use Rattle.std.specs.List.{range_with_len}
 use Rattle.rand_pcg.specs.Lcg.{Lcg}
-use Rattle.uc_model.specs.Data.{NamedThermalUnit, NamedRenewableUnit, Schedule}
+use Rattle.uc_model.specs.Data.{NamedThermalUnit, NamedRenewableUnit}
 use Rattle.case_make.specs.Drawn.{unit_draws, unit_of, unit_schedule, capacity_at, most_at, most_powers, renewable_of, full}
-use Rattle.case_make.specs.Made.{name_of, named_unit, unit_plan, unit_place, named_renewable, renewable_plan, renewable_place, renewable_units, renewable_plans}
+use Rattle.case_make.specs.Made.{name_of, named_unit, unit_plan, named_renewable, renewable_plan, renewable_units, renewable_plans}
 use Rattle.case_make.specs.Words.{draw, word_at, moved_on}
 use Rattle.case_make.proofs.WordLaws.{word_later}
 
@@ -17,7 +17,8 @@ draw_from low high n k m g h e is = ap (draw low high) (word_from n k m g h e is
 pub unit_draws_later : (n : ℕ) (g h : Lcg) → h ≡ moved_on n g → unit_draws h 0 ≡ unit_draws g n
 unfolding unit_draws
 unit_draws_later n g h e =
-    cc (draw_from 20 400 n 0 n g h e (omega arith),
+    cc (
+      draw_from 20 400 n 0 n g h e (omega arith),
       draw_from 20 50 n 1 (n + 1) g h e refl,
       draw_from 2 6 n 2 (n + 2) g h e refl,
       draw_from 1 8 n 3 (n + 3) g h e refl,
@@ -25,7 +26,8 @@ unit_draws_later n g h e =
       draw_from 0 2 n 5 (n + 5) g h e refl,
       draw_from 15 60 n 6 (n + 6) g h e refl,
       draw_from 1 50 n 7 (n + 7) g h e refl,
-      draw_from 0 100 n 8 (n + 8) g h e refl)
+      draw_from 0 100 n 8 (n + 8) g h e refl,
+    )
 
 same_map : {X Y : Type 0} → (f g : X → Y) → ((x : X) → f x ≡ g x) → (xs : List X) → map f xs ≡ map g xs
 same_map f g h [] = refl

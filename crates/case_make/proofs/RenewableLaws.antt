@@ -1,14 +1,14 @@
 -- A generated renewable unit is within the limits, and giving its greatest power is feasible.
-use Rattle.std.proofs.Common.{◌≡◌, ℕ, zero, suc, ◌+◌, ◌*◌, ◌/◌, ◌<◌, ◌≤◌, ℤ, pos, ◌≤ℤ◌, Bool, true, false, IsTrue, IsFalse, List, [], ◌∷◌, map, replicate, length, get_or, slice_index, refl, ap, sym, ◌∙◌, subst, arith}
+use Rattle.std.proofs.Common.{◌≡◌, ℕ, zero, suc, ◌+◌, ◌*◌, ◌≤◌, ℤ, pos, true, false, List, [], ◌∷◌, map, replicate, get_or, slice_index, refl, sym, ◌∙◌, arith}
 use Rattle.std.proofs.lemmas.Int.{ints}
 use Rattle.std.proofs.lemmas.List.{length-map, length-replicate, get_or-replicate}
 use Rattle.std.proofs.lemmas.List.Elements.{All-map, All-weaker, All-replicate}
 use Rattle.std.proofs.lemmas.List.FromFn.{length-map-range_with_len}
 use Rattle.std.proofs.Math.Nat.{mul-le-mul_left}
-use Rattle.std.specs.List.{All, range_with_len}
+use Rattle.std.specs.List.{range_with_len}
 use Rattle.rand_pcg.specs.Lcg.{Lcg}
 use Rattle.uc_model.specs.Data.{RenewableUnit}
-use Rattle.uc_model.specs.Limits.{IsFrom, IsPower, IsRenewableUnit}
+use Rattle.uc_model.specs.Limits.{IsPower, IsRenewableUnit}
 use Rattle.uc_model.specs.Schedules.{IsRenewableFeasible}
 use Rattle.uc_model.specs.Sums.{int_at}
 use Rattle.case_make.specs.Drawn.{capacity_at, most_at, most_powers, renewable_of, full}

@@ -1,5 +1,5 @@
 //! A schedule of a system that grows unit by unit, with its sums.
-ghost use Rattle.std.specs.Prelude.{◌≡◌, ◌+◌, ◌*◌, ◌/◌, ◌≤◌, ◌<◌, ℕ, ℤ, pos, ◌+ℤ◌, [], ◌∷◌, ◌++◌, IfOk, map, length, slice_index};
+ghost use Rattle.std.specs.Prelude.{◌≡◌, ◌+◌, ◌*◌, ◌/◌, ◌≤◌, ◌<◌, ℕ, ℤ, pos, ◌+ℤ◌, [], ◌∷◌, ◌++◌, IfOk, map, length, replicate, slice_index};
 ghost use Rattle.std.specs.List.{All};
 ghost use Rattle.uc_model.specs.Limits.{IsPower};
 ghost use Rattle.uc_model.specs.PlainUnits.{schedule_of};
@@ -64,11 +64,11 @@ impl Growing {
         self.responses.push(response);
     }
 
-    /// Nine tenths of the reserve, in kilowatts.
-    pub fn requirement(&self) -> i64
+    /// Nine tenths of the reserve in each period, in kilowatts.
+    pub fn requirements(&self, alloc: Global) -> Result<Numbers, AllocError>
         requires { self.now.reserve ≤ 1000000000 }
-        ensures { result ≡ pos (self.now.reserve * 9 / 10) }
+        ensures { IfOk result (λ numbers. numbers.items ≡ replicate 48 (pos (self.now.reserve * 9 / 10))) }
     {
-        (self.reserve * 9 / 10) as i64
+        Numbers::filled(alloc, PERIODS, (self.reserve * 9 / 10) as i64)
     }
 }

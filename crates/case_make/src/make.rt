@@ -18,7 +18,6 @@ use crate::units::unit;
 use rand_pcg::Pcg32;
 use std::alloc::{AllocError, Global};
 use uc_model::cases::{Case, Plan};
-use uc_model::lists::Numbers;
 use uc_model::units::{BidList, FlatList, NamedFlat, NamedUnit, ThermalList};
 
 /// Periods of a generated case.
@@ -136,10 +135,12 @@ pub fn make_case(alloc: Global, number: u64) -> Result<(Case, Plan), AllocError>
     let mut plan = Growing::make(alloc)?;
     let thermal = add_thermal(alloc, &mut random, &mut plan)?;
     let flat = add_renewables(alloc, &mut random, &mut plan)?;
-    let reserves = Numbers::filled(alloc, PERIODS, plan.requirement())?;
+    let reserves = plan.requirements(alloc)?;
     let bids = BidList::make(alloc, 0)?;
     let Growing {
-        responses, power, ..
+        responses,
+        power,
+        ..
     } = plan;
     let case = Case {
         periods: PERIODS,

@@ -27,9 +27,18 @@ fn lags(alloc: Global, draws: &UnitDraws) -> Result<Lags, AllocError>
     let cost = 100_000_000 * u64::from(draws.start_hundreds);
     let first = draws.min_down;
     let mut lags = Lags::make(alloc, 3)?;
-    lags.push(Lag { lag: first, cost: money(cost) });
-    lags.push(Lag { lag: first + 4, cost: money(2 * cost) });
-    lags.push(Lag { lag: first + 12, cost: money(3 * cost) });
+    lags.push(Lag {
+        lag: first,
+        cost: money(cost),
+    });
+    lags.push(Lag {
+        lag: first + 4,
+        cost: money(2 * cost),
+    });
+    lags.push(Lag {
+        lag: first + 12,
+        cost: money(3 * cost),
+    });
     Ok(lags)
 }
 

@@ -21,7 +21,8 @@ returns-clause-draws c =
     let m6 = one_more 5 g _ _ m5 c.draw-6.ensures.moved in
     let m7 = one_more 6 g _ _ m6 c.draw-7.ensures.moved in
     let m8 = one_more 7 g _ _ m7 c.draw-8.ensures.moved in
-    cc (c.draw.ensures.value,
+    cc (
+      c.draw.ensures.value,
       later 20 50 1 _ g _ m1 c.draw-2.ensures.value,
       later 2 6 2 _ g _ m2 c.draw-3.ensures.value,
       later 1 8 3 _ g _ m3 c.draw-4.ensures.value,
@@ -29,7 +30,8 @@ returns-clause-draws c =
       later 0 2 5 _ g _ m5 c.draw-6.ensures.value,
       later 15 60 6 _ g _ m6 c.draw-7.ensures.value,
       later 1 50 7 _ g _ m7 c.draw-8.ensures.value,
-      later 0 100 8 _ g _ m8 c.draw-9.ensures.value)
+      later 0 100 8 _ g _ m8 c.draw-9.ensures.value,
+    )
 
 pub returns-clause-moved : goal.returns-clause-moved
 returns-clause-moved c =

@@ -1,8 +1,6 @@
-use Rattle.std.proofs.Common.{◌≡◌, ◌+◌, ◌*◌, ◌++◌, [], ◌∷◌, List, ap, sym, subst, ◌∙◌, map, append_assoc, arith}
+use Rattle.std.proofs.Common.{◌+◌, ◌*◌, ap, sym, subst, map, arith}
 use Rattle.std.proofs.lemmas.List.{append-nil}
-use Rattle.uc_model.specs.Data.{Schedule}
 use Rattle.uc_model.specs.PlainUnits.{named_renewable_of}
-use Rattle.case_make.specs.Drawn.{full, most_powers}
 use Rattle.case_make.specs.Grown.{IsSmall, plan_of}
 use Rattle.case_make.specs.Made.{named_renewable, renewable_plan, renewable_units, renewable_plans}
 use Rattle.case_make.proofs.LaterLaws.{renewable_named, renewable_planned}

@@ -1,4 +1,4 @@
-use Rattle.std.proofs.Common.{◌≡◌, ◌+◌, ◌*◌, ap, sym, subst, map, arith}
+use Rattle.std.proofs.Common.{◌+◌, ◌*◌, ap, sym, subst, map, arith}
 use Rattle.uc_model.specs.PlainUnits.{named_thermal_of}
 use Rattle.case_make.specs.Grown.{IsSmall}
 use Rattle.case_make.specs.Made.{named_unit, unit_plan, thermal_units, thermal_plan}

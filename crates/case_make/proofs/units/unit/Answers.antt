@@ -1,6 +1,6 @@
-use Rattle.std.proofs.Common.{◌+◌, ◌≡◌, sym, ap, ◌∙◌, subst, arith}
+use Rattle.std.proofs.Common.{◌+◌, ◌≡◌, sym, subst, arith}
 use Rattle.uc_model.specs.Limits.{IsThermalUnit}
-use Rattle.case_make.specs.Drawn.{unit_of, min_of, ramp_of, is_on, level_of}
+use Rattle.case_make.specs.Drawn.{min_of, ramp_of}
 use Rattle.case_make.proofs.Bounds.{has_range}
 use Rattle.case_make.proofs.UnitLaws.{kept, unit_is, unit_limited, first_power_low}
 use Rattle.case_make.proofs.units.unit.Goals as goal
