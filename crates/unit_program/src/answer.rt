@@ -1,14 +1,181 @@
-//! The best response.
-ghost use Rattle.std.specs.Prelude.{◌≡◌, [], true, length, IfOk, IfSome, IfNone};
+//! The least end of the table, the way back from it, and the best response.
+ghost use Rattle.std.specs.Prelude.{◌≡◌, ℕ, ◌+◌, ◌*◌, ◌<◌, ◌≤◌, ℤ, pos, neg_ℤ, [], true, false, IsTrue, IsFalse, IfOk, IfSome, IfNone, OnOk, length, suc, slice_index, slice_index_or};
+ghost use Rattle.cost_curve.specs.CostCurve.{IsCostCurve};
 ghost use Rattle.shape_law.specs.Cell.{Frame};
+ghost use Rattle.spell_run.specs.Spells.{IsLeastSpell};
 ghost use Rattle.uc_model.specs.Data.{Schedule, Thermal};
 ghost use Rattle.uc_model.specs.Earnings.{earnings, IsBest};
 ghost use Rattle.uc_model.specs.PlainUnits.{thermal_of, prices_of, schedule_of};
 ghost use Rattle.uc_model.specs.Schedules.{IsThermalFeasible};
+ghost use Rattle.unit_program.specs.Backs.{IsWritten, IsWrittenBack, IsZeroOff};
+ghost use Rattle.unit_program.specs.Builds.{IsIdle};
+ghost use Rattle.unit_program.specs.Rows.{cost_at, IsWithinTimes, IsFilled};
+ghost use Rattle.unit_program.specs.Spells.{IsOffRun};
+ghost use Rattle.unit_program.specs.Tables.{IsLeastEnd};
 
+use crate::commitment::off_from;
+use crate::program::fill;
+use crate::table::{Ended, Entry, Table, lesser};
+use cost_curve::curves::curve_of;
 use shape_law::{Cells, Shape};
+use spell_run::{Spell, SpellCosts, spell_best};
 use std::alloc::{AllocError, Global};
-use uc_model::units::{Answered, Prices, Unit};
+use uc_model::units::{Answered, Curve, Prices, Unit};
+
+// The cost of all, where `last` is the last on period.
+fn end_at(rows: &[Option<Ended>], last: u32) -> Option<i64>
+    requires { last < length rows.now }
+    ensures { result ≡ cost_at rows.now last }
+{
+    match rows[last as usize] {
+        Some(ended) => Some(ended.cost),
+        None => None,
+    }
+}
+
+/// The least cost of all over a unit's horizon of T periods, with the last on period; of equal ones that with the
+/// earliest. None where no schedule is feasible.
+pub fn least_end(unit: &Unit, periods: u32, rows: &[Option<Ended>]) -> Option<Entry>
+    requires periods { periods ≡ length (thermal_of unit.now).window }
+    requires room { periods < length rows.now }
+    ensures some { IfSome result (λ r. IsLeastEnd (thermal_of unit.now) periods (cost_at rows.now) r.last r.cost) }
+    ensures earliest { IfSome result (λ r. (k : ℕ) → cost_at rows.now k ≡ Some r.cost → IsOffRun (thermal_of unit.now) k periods → r.last ≤ k) }
+    ensures none { IfNone result ((l : ℕ) (v : ℤ) → cost_at rows.now l ≡ Some v → IsOffRun (thermal_of unit.now) l periods → ⊥) }
+{
+    let mut least: Option<Entry> = None;
+    for last in off_from(unit, periods)..periods + 1 {
+        least = lesser(least, end_at(rows, last), last);
+    }
+    least
+}
+
+// Writes a dispatch of least net cost of the spell from `first` to `last`; nothing where it ends before period 1.
+fn write_spell<S: Shape>(
+    home: &mut S::Home,
+    unit: &Unit,
+    curve: &Curve,
+    prices: &Prices,
+    first: u32,
+    last: u32,
+    into: &mut Answered,
+) -> Result<(), AllocError>
+    requires curve { IsCostCurve (thermal_of unit.now).points curve.now }
+    requires order { first ≤ last }
+    requires end { last ≤ length (prices_of prices.now).energy }
+    requires goes_on { first ≡ 0 → IsTrue unit.now.on0 }
+    requires starts { first ≡ 1 → IsFalse unit.now.on0 }
+    requires least { (net : ℤ) × IsLeastSpell (thermal_of unit.now) (prices_of prices.now) (length (prices_of prices.now).energy) first last net }
+    requires into { length (schedule_of into.old.response).on ≡ length (prices_of prices.now).energy }
+    ensures written { OnOk result (IsWritten (thermal_of unit.now) (prices_of prices.now) (length (prices_of prices.now).energy) first last (schedule_of into.old.response) (schedule_of into.new.response)) }
+    ensures length { length (schedule_of into.new.response).on ≡ length (schedule_of into.old.response).on }
+    ensures frame { Frame S.Home.cell_list S.is_in S.numbers [] [] home.old home.new }
+    ensures sure { S.Home.counts ≡ true → S.Home.sure home.new ≡ S.Home.sure home.old }
+{
+    if last == 0 {
+        return Ok(());
+    }
+    let spell = Spell {
+        first: first.max(1),
+        last,
+        started: first > 0,
+        stops: (last as usize) < prices.energy.len(),
+    };
+    let _cost = spell_best::<S>(home, unit, curve, prices, &spell, into)?;
+    Ok(())
+}
+
+// Whether nothing comes before: the unit is off since before the horizon.
+fn is_all_off(unit: &Unit, last: u32) -> bool
+    ensures yes { IsTrue result → (last ≡ 0) × IsFalse unit.now.on0 }
+    ensures no { IsFalse result → last ≡ 0 → IsTrue unit.now.on0 }
+{
+    last == 0 && !unit.on0
+}
+
+// Writes the spells that the table names, from the one that ends with period `last` back.
+fn write_back<S: Shape>(
+    home: &mut S::Home,
+    unit: &Unit,
+    curve: &Curve,
+    prices: &Prices,
+    rows: &[Option<Ended>],
+    last: u32,
+    into: &mut Answered,
+) -> Result<(), AllocError>
+    requires curve { IsCostCurve (thermal_of unit.now).points curve.now }
+    requires filled { IsFilled (thermal_of unit.now) (prices_of prices.now) (suc (length (prices_of prices.now).energy)) rows.now }
+    requires room { length (prices_of prices.now).energy < length rows.now }
+    requires last { last ≤ length (prices_of prices.now).energy }
+    requires ended { (v : ℤ) × (cost_at rows.now last ≡ Some v) }
+    requires into { length (schedule_of into.old.response).on ≡ length (prices_of prices.now).energy }
+    requires idle { IsIdle (thermal_of unit.now) (schedule_of into.old.response) 0 last }
+    ensures written { OnOk result (IsWrittenBack (thermal_of unit.now) (prices_of prices.now) rows.now last (schedule_of into.old.response) (schedule_of into.new.response)) }
+    ensures length { length (schedule_of into.new.response).on ≡ length (schedule_of into.old.response).on }
+    ensures frame { Frame S.Home.cell_list S.is_in S.numbers [] [] home.old home.new }
+    ensures sure { S.Home.counts ≡ true → S.Home.sure home.new ≡ S.Home.sure home.old }
+{
+    let Some(ended) = rows[last as usize] else {
+        return Ok(());
+    };
+    if is_all_off(unit, last) {
+        return Ok(());
+    }
+    write_spell::<S>(home, unit, curve, prices, ended.first, last, into)?;
+    if ended.first == 0 {
+        return Ok(());
+    }
+    write_back::<S>(home, unit, curve, prices, rows, ended.before, into)
+}
+
+// Turns every period off.
+fn clear(into: &mut Answered)
+    ensures off { (k : ℕ) → slice_index_or (schedule_of into.new.response).on k false ≡ false }
+    ensures power { (k : ℕ) → slice_index (schedule_of into.new.response).power k ≡ 0 }
+    ensures reserve { (k : ℕ) → slice_index (schedule_of into.new.response).reserve k ≡ 0 }
+    ensures length { length (schedule_of into.new.response).on ≡ length (schedule_of into.old.response).on }
+{
+    for place in 0..into.response.on.len() {
+        into.response.on.set(place, false);
+        into.response.power.set(place, 0);
+        into.response.reserve.set(place, 0);
+    }
+}
+
+// What a cost within bounds earns.
+fn negated(cost: i64) -> i64
+    requires { IsWithinTimes 400 cost }
+    ensures { result ≡ neg_ℤ cost }
+{
+    0 - cost
+}
+
+/// Leaves in `into` the best response that the table names, from its least end, and what it earns. Unit, prices and
+/// `into` are over the same periods, `curve` is the curve of the unit's points, and the rows are filled. Takes no memory
+/// but for the shapes, which are given back. After an error `into` is open.
+pub fn write_best<S: Shape>(
+    home: &mut S::Home,
+    unit: &Unit,
+    curve: &Curve,
+    prices: &Prices,
+    rows: &[Option<Ended>],
+    end: &Entry,
+    into: &mut Answered,
+) -> Result<(), AllocError>
+    requires curve { IsCostCurve (thermal_of unit.now).points curve.now }
+    requires filled { IsFilled (thermal_of unit.now) (prices_of prices.now) (suc (length (prices_of prices.now).energy)) rows.now }
+    requires room { length (prices_of prices.now).energy < length rows.now }
+    requires end { IsLeastEnd (thermal_of unit.now) (length (prices_of prices.now).energy) (cost_at rows.now) end.now.last end.now.cost }
+    requires into { length (schedule_of into.old.response).on ≡ length (prices_of prices.now).energy }
+    ensures best { OnOk result (IsBest (Thermal (thermal_of unit.now)) (prices_of prices.now) (schedule_of into.new.response)) }
+    ensures earned { OnOk result (into.new.earned ≡ earnings (Thermal (thermal_of unit.now)) (prices_of prices.now) (schedule_of into.new.response)) }
+    ensures frame { Frame S.Home.cell_list S.is_in S.numbers [] [] home.old home.new }
+    ensures sure { S.Home.counts ≡ true → S.Home.sure home.new ≡ S.Home.sure home.old }
+{
+    clear(into);
+    write_back::<S>(home, unit, curve, prices, rows, end.last, into)?;
+    into.earned = negated(end.cost);
+    Ok(())
+}
 
 /// A best response of a thermal unit to prices over its horizon, with what it earns in money; None exactly where no
 /// schedule of the unit is feasible. Its powers and reserves are in kilowatts, its lists have an entry for each period.
@@ -29,9 +196,23 @@ pub fn best_response<S: Shape>(
     ensures sure { S.Home.counts ≡ true → S.Home.sure home.new ≡ S.Home.sure home.old }
     ensures frame { Frame S.Home.cell_list S.is_in S.numbers [] [] home.old home.new }
 {
-    let _ = alloc;
-    let _ = home;
-    let _ = unit;
-    let _ = prices;
-    Err(AllocError)
+    let periods = prices.energy.len() as u32;
+    let curve = curve_of(alloc, unit.points.as_slice())?;
+    let mut costs = SpellCosts::make(alloc, periods)?;
+    let mut table = Table::filled(alloc, periods + 1, None)?;
+    fill::<S>(home, unit, &curve, prices, &mut costs, &mut table)?;
+    let Some(end) = least_end(unit, periods, table.as_slice()) else {
+        return Ok(None);
+    };
+    let mut into = Answered::make(alloc, periods)?;
+    write_best::<S>(
+        home,
+        unit,
+        &curve,
+        prices,
+        table.as_slice(),
+        &end,
+        &mut into,
+    )?;
+    Ok(Some(into))
 }

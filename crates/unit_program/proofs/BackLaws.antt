@@ -1,0 +1,260 @@
+-- One spell of the way back.
+use Rattle.std.proofs.Common.{◌≡◌, ℕ, zero, suc, ◌+◌, ◌-◌, ◌<◌, ◌≤◌, ltb, ◌⊎◌, inl, inr, Option, Some, None, ℤ, pos, ◌+ℤ◌, ◌-ℤ◌, ◌*ℤ◌, ◌≤ℤ◌, List, length, refl, sym, ap, ◌∙◌, subst, arith}
+use Rattle.std.specs.Prelude.{IsTrue, IsFalse, IfSome, MatchOption, max}
+use Rattle.std.proofs.lemmas.Int.{ints}
+use Rattle.std.proofs.lemmas.Bool.{cases_lt}
+use Rattle.uc_model.specs.Data.{ThermalUnit, PriceLists, Schedule}
+use Rattle.uc_model.specs.Envelope.{envelope}
+use Rattle.uc_model.specs.Schedules.{on_in, power_in, reserve_in}
+use Rattle.uc_model.specs.Sums.{int_at}
+use Rattle.uc_model.proofs.IntLaws.{sum_below-same}
+use Rattle.spell_run.specs.Entries.{IsOnFromTo, IsSameOutside}
+use Rattle.spell_run.specs.Spells.{spell_first, IsBestDispatch, HasNoDispatch, over_min, IsDispatch, IsLeastSpell, net_cost, spell_cost}
+use Rattle.unit_program.specs.Spells.{IsSpell, IsGap, start_cost_after}
+use Rattle.unit_program.specs.declared.table.Ended.{Ended}
+use Rattle.unit_program.specs.Tables.{IsEnded, IsStarted, IsEntryAfter}
+use Rattle.unit_program.specs.Rows.{row_at, cost_at, first_at, IsFilled}
+use Rattle.unit_program.specs.Builds.{IsUpTo, IsIdle}
+use Rattle.unit_program.proofs.BuildLaws.{up_to_idle, up_to_first, up_to_next}
+use Rattle.unit_program.proofs.SpanLaws.{spell_first-is}
+use Rattle.unit_program.specs.Backs.{IsSameIn, IsZeroOff, IsWritten, IsWrittenBack}
+use Rattle.unit_program.proofs.FillLaws.{starts_off}
+use Rattle.unit_program.proofs.RowLaws.{cost-is, first-is, before-is}
+
+module _ (g : ThermalUnit) (π : PriceLists) (periods first last : ℕ) (order : first ≤ last) (d e : Schedule)
+    (same : (t : ℕ) → 1 ≤ t → first ≤ t → t ≤ last → (power_in e t ≡ power_in d t) × (reserve_in e t ≡ reserve_in d t)) where
+  over-same : (t : ℕ) → first ≤ t → t ≤ last → over_min g e t ≡ over_min g d t
+  over-same zero from until = refl
+  over-same (suc k) from until = ap (λ (z : ℤ). z -ℤ g.min_power) (same (suc k) (omega arith) from until).0
+
+  reserve-same : (t : ℕ) → first ≤ t → t ≤ last → reserve_in e t ≡ reserve_in d t
+  reserve-same zero from until = refl
+  reserve-same (suc k) from until = (same (suc k) (omega arith) from until).1
+
+  net-same : (t : ℕ) → first ≤ t → t ≤ last → net_cost g π e t ≡ net_cost g π d t
+  net-same zero from until = refl
+  net-same (suc k) from until =
+      let r = same (suc k) (omega arith) from until in
+      ap (λ (p : ℤ). envelope g.points p -ℤ ((int_at π.energy k *ℤ p) +ℤ (int_at π.reserve k *ℤ reserve_in e (suc k)))) r.0
+      ∙ ap (λ (q : ℤ). envelope g.points (power_in d (suc k)) -ℤ ((int_at π.energy k *ℤ power_in d (suc k)) +ℤ (int_at π.reserve k *ℤ q))) r.1
+
+  pub spell_cost-same : spell_cost g π first last e ≡ spell_cost g π first last d
+  spell_cost-same = sum_below-same (suc last - first) (λ k. net_cost g π e (first + k)) (λ k. net_cost g π d (first + k)) (λ k low. net-same (first + k) (omega arith) (omega (arith, low, order)))
+
+  pub dispatch-same : IsDispatch g periods first last d → IsDispatch g periods first last e
+  dispatch-same h = record {
+    least = λ t one from until. (let a = over-same t from until in let b = h.least t one from until in omega (arith, ints, a, b));
+    greatest = λ t one from until. (let a = over-same t from until in let r = reserve-same t from until in let b = h.greatest t one from until in omega (arith, ints, a, b, r));
+    start = λ one. (let a = over-same first (omega arith) order in let r = reserve-same first (omega arith) order in let b = h.start one in omega (arith, ints, a, b, r));
+    enter = λ one. (let a = over-same first (omega arith) order in let r = reserve-same first (omega arith) order in let b = h.enter one in omega (arith, ints, a, b, r));
+    ramp_up = λ k from until. (let a = over-same k from (omega (arith, until)) in let a' = over-same (suc k) (omega (arith, from)) until in let r = reserve-same (suc k) (omega (arith, from)) until in let b = h.ramp_up k from until in omega (arith, ints, a, a', b, r));
+    ramp_down = λ k from until. (let a = over-same k from (omega (arith, until)) in let a' = over-same (suc k) (omega (arith, from)) until in let b = h.ramp_down k from until in omega (arith, ints, a, a', b));
+    stop = λ inside one. (let a = over-same last order (omega arith) in let r = reserve-same last order (omega arith) in let b = h.stop inside one in omega (arith, ints, a, b, r));
+    leave = λ inside. (let a = over-same last order (omega arith) in let b = h.leave inside in omega (arith, ints, a, b));
+    stop_at_once = h.stop_at_once;
+    leave_at_once = λ inside none. (let a = over-same last order (omega arith) in let b = h.leave_at_once inside none in omega (arith, ints, a, b));
+  }
+
+-- ---- what a spell's own call has written
+
+module _ (g : ThermalUnit) (π : PriceLists) (periods first last : ℕ) where
+  -- nothing to write before period 1
+  pub written_none : (a : Schedule) → first ≤ last → last ≡ 0 → IsWritten g π periods first last a a
+  written_none a order none = record {
+    on = λ t one from until. absurd (omega (arith, one, until, none));
+    best = λ net least. (
+      dispatch-same g π periods first last order least.dispatch a (λ t one from until. absurd (omega (arith, one, until, none))) least.keeps,
+      spell_cost-same g π periods first last order least.dispatch a (λ t one from until. absurd (omega (arith, one, until, none))) ∙ least.cost,
+    );
+    others = λ t out. record { on = refl; power = refl; reserve = refl };
+  }
+
+  pub written_best : (n : ℕ) (a b : Schedule) (c : ℤ) → n ≡ max first 1 → IsBestDispatch g π periods (spell_first (ltb 0 first) n) last b c → IsOnFromTo n last b → IsSameOutside n last a b
+      → IsWritten g π periods first last a b
+  written_best n a b c is best on outside = record {
+    on = λ t. elim t as (λ t. 1 ≤ t → first ≤ t → t ≤ last → IsTrue (on_in g b t)) [
+      | zero ↦ λ one from until. absurd (omega (arith, one))
+      | suc k ↦ λ one from until. on k (omega (arith, from, is)) until
+    ];
+    best = λ net least.
+        (let here = subst (λ (f : ℕ). IsBestDispatch g π periods f last b c) (spell_first-is first n is) best in
+        let low = here.least least.dispatch least.keeps in
+        let high = least.least b here.keeps in
+        let cost = here.cost in
+        let net_is = least.cost in
+        (here.keeps, omega (arith, ints, low, high, cost, net_is)));
+    others = λ t. elim t as (λ t. (t < first) ⊎ (last < t) → IsSameIn g a b t) [
+      | zero ↦ λ out. record { on = refl; power = refl; reserve = refl }
+      | suc k ↦ λ out.
+          let beyond : (suc k < n) ⊎ (last < suc k) = elim out [ inl h ↦ inl (omega (arith, h, is)) | inr h ↦ inr h ] in
+          record { on = outside.on k beyond; power = ap pos (outside.power k beyond); reserve = ap pos (outside.reserve k beyond) }
+    ];
+  }
+
+  -- there is a dispatch, so one is answered
+  pub written_answer : (n : ℕ) (a b : Schedule) (answer : Option ℤ) → n ≡ max first 1 → (net : ℤ) × IsLeastSpell g π periods first last net
+      → MatchOption answer (HasNoDispatch g periods (spell_first (ltb 0 first) n) last) (IsBestDispatch g π periods (spell_first (ltb 0 first) n) last b)
+      → IfSome answer (λ _. IsOnFromTo n last b) → IsSameOutside n last a b → IsWritten g π periods first last a b
+  written_answer n a b None is least none on outside =
+      absurd (none least.1.dispatch (subst (λ (f : ℕ). IsDispatch g periods f last least.1.dispatch) (sym (spell_first-is first n is)) least.1.keeps))
+  written_answer n a b (Some c) is least best on outside = written_best n a b c is best on outside
+
+-- ---- a spell after the rest
+
+module _ (g : ThermalUnit) (π : PriceLists) (periods : ℕ) (ends : ℕ → Option ℤ)
+    (ramp_up : pos 0 ≤ℤ g.ramp_up) (ramp_down : pos 0 ≤ℤ g.ramp_down) (some_down : 1 ≤ g.min_down)
+    (first before l : ℕ) (v : ℤ) (ended : IsEnded g π periods ends first before l v) where
+  on_all : (a b : Schedule) → IsWritten g π periods first l a b → first ≡ 0 → IsTrue g.on0 → (t : ℕ) → t ≤ l → IsTrue (on_in g b t)
+  on_all a b written none on0 zero low = on0
+  on_all a b written none on0 (suc k) low = written.on (suc k) (omega arith) (omega (arith, none)) low
+
+  -- a spell that goes on from before the horizon
+  pub back_first : (a b : Schedule) → first ≡ 0 → IsWritten g π periods first l a b → IsUpTo g π periods b l v
+  back_first a b none written =
+      let best = written.best ended.net ended.least in
+      let spell : IsSpell g periods 0 l = subst (λ (f : ℕ). IsSpell g periods f l) none ended.spell in
+      let dispatch : IsDispatch g periods 0 l b = subst (λ (f : ℕ). IsDispatch g periods f l b) none best.0 in
+      let net : spell_cost g π 0 l b ≡ ended.net = subst (λ (f : ℕ). spell_cost g π f l b ≡ ended.net) none best.1 in
+      let e : ended.entry_cost ≡ pos 0 = elim (ended.entry) [ inl z ↦ z.1 | inr st ↦ (let f = st.first in absurd (omega (arith, f, none))) ] in
+      let cost = ended.cost in
+      let v_is : spell_cost g π 0 l b ≡ v = omega (arith, ints, e, cost, net) in
+      subst (λ (v : ℤ). IsUpTo g π periods b l v) v_is (up_to_first g π periods b ramp_up ramp_down l spell (on_all a b written none (ended.spell.goes_on none)) dispatch)
+
+  pub started : 1 ≤ first → IsStarted g ends first before ended.entry_cost
+  started one = elim (ended.entry) [
+    | inl z ↦ let none = z.0 in absurd (omega (arith, none, one))
+    | inr st ↦ st
+  ]
+
+  -- a is the plan before the spell was written, b after it, and c after the rest was
+  pub back_next : (st : IsStarted g ends first before ended.entry_cost) (a b c : Schedule) → IsIdle g a 0 l → IsWritten g π periods first l a b
+      → IsUpTo g π periods c before st.value → ((t : ℕ) → before < t → IsSameIn g b c t) → IsUpTo g π periods c l v
+  back_next st a b c idle written up later =
+      let begins = st.first in
+      let spell : IsSpell g periods (suc st.before) l = subst (λ (f : ℕ). IsSpell g periods f l) begins ended.spell in
+      let least : IsLeastSpell g π periods (suc st.before) l ended.net = subst (λ (f : ℕ). IsLeastSpell g π periods f l ended.net) begins ended.least in
+      let here : IsWritten g π periods (suc st.before) l a b = subst (λ (f : ℕ). IsWritten g π periods f l a b) begins written in
+      let order = spell.order in
+      let from = st.gap.off.order in
+      let best = here.best ended.net least in
+      let same : (t : ℕ) → 1 ≤ t → suc st.before ≤ t → t ≤ l → (power_in c t ≡ power_in b t) × (reserve_in c t ≡ reserve_in b t) =
+      λ t one low until. (let r = later t (omega (arith, low, from)) in (r.power, r.reserve)) in
+      let dispatch = dispatch-same g π periods (suc st.before) l order b c same best.0 in
+      let cost = spell_cost-same g π periods (suc st.before) l order b c same in
+      let on : (t : ℕ) → suc st.before ≤ t → t ≤ l → IsTrue (on_in g c t) =
+      λ t low until. (later t (omega (arith, low, from))).on ∙ here.on t (omega (arith, low)) low until in
+      let off : IsIdle g c before st.before = record {
+        off = λ t above until. (later t above).on ∙ (here.others t (inl (omega (arith, until)))).on ∙ idle.off t (omega (arith, above)) (omega (arith, until, order));
+        power = λ t above until. (later t above).power ∙ (here.others t (inl (omega (arith, until)))).power ∙ idle.power t (omega (arith, above)) (omega (arith, until, order));
+        reserve = λ t above until. (later t above).reserve ∙ (here.others t (inl (omega (arith, until)))).reserve ∙ idle.reserve t (omega (arith, above)) (omega (arith, until, order));
+      } in
+      let r = up_to_next g π periods c ramp_up ramp_down before st.before l st.value up st.gap some_down off spell on dispatch in
+      let net = best.1 in
+      let value = ended.cost in
+      let entry = st.cost in
+      let z : (st.value +ℤ start_cost_after g before st.before) +ℤ spell_cost g π (suc st.before) l c ≡ v = omega (arith, ints, cost, net, value, entry) in
+      subst (λ (v : ℤ). IsUpTo g π periods c l v) z r
+
+-- ---- what stays
+
+module _ (g : ThermalUnit) where
+  pub same_then : (a b c : Schedule) (t : ℕ) → IsSameIn g a b t → IsSameIn g b c t → IsSameIn g a c t
+  same_then a b c t h i = record { on = i.on ∙ h.on; power = i.power ∙ h.power; reserve = i.reserve ∙ h.reserve }
+
+  pub zero_off_written : (π : PriceLists) (periods first last : ℕ) (a b : Schedule) → IsWritten g π periods first last a b → IsZeroOff g a → IsZeroOff g b
+  zero_off_written π periods first last a b written zero_off t one off =
+      let elsewhere : ((t < first) ⊎ (last < t)) → (power_in b t ≡ pos 0) × (reserve_in b t ≡ pos 0) = λ out.
+      (let same = written.others t out in let z = zero_off t one (sym same.on ∙ off) in (same.power ∙ z.0, same.reserve ∙ z.1)) in
+      elim (cases_lt t first) [
+        | inl below ↦ elsewhere (inl below)
+        | inr from ↦ elim (cases_lt last t) [
+          | inl above ↦ elsewhere (inr above)
+          | inr until ↦ let on = written.on t one from until in cc
+        ]
+      ]
+
+  pub idle_written : (π : PriceLists) (periods first last l : ℕ) (a b : Schedule) → IsWritten g π periods first last a b → l < first → first ≤ last → IsIdle g a 0 last → IsIdle g b 0 l
+  idle_written π periods first last l a b written low order idle = record {
+    off = λ t above until. (written.others t (inl (omega (arith, until, low)))).on ∙ idle.off t above (omega (arith, until, low, order));
+    power = λ t above until. (written.others t (inl (omega (arith, until, low)))).power ∙ idle.power t above (omega (arith, until, low, order));
+    reserve = λ t above until. (written.others t (inl (omega (arith, until, low)))).reserve ∙ idle.reserve t above (omega (arith, until, low, order));
+  }
+
+-- ---- a row of the table
+
+-- what the way back needs to know of a row that names a spell
+pub record IsRowBack (g : ThermalUnit) (π : PriceLists) (rows : List (Option Ended)) (l : ℕ) (e : Ended) : Type 0 where
+  pub order : e.first ≤ l
+  pub goes_on : e.first ≡ 0 → IsTrue g.on0
+  pub starts : e.first ≡ 1 → IsFalse g.on0
+  pub least : (net : ℤ) × IsLeastSpell g π (length π.energy) e.first l net
+  pub only : (a b : Schedule) → e.first ≡ 0 → IsWritten g π (length π.energy) e.first l a b → IsWrittenBack g π rows l a b
+  pub before_less : 1 ≤ e.first → e.before < l
+  pub before_ended : 1 ≤ e.first → (v : ℤ) × (cost_at rows e.before ≡ Some v)
+  pub before_idle : (a b : Schedule) → 1 ≤ e.first → IsWritten g π (length π.energy) e.first l a b → IsIdle g a 0 l → IsIdle g b 0 e.before
+  pub rest : (a b c : Schedule) → 1 ≤ e.first → IsIdle g a 0 l → IsWritten g π (length π.energy) e.first l a b → IsWrittenBack g π rows e.before b c → IsWrittenBack g π rows l a c
+
+module _ (g : ThermalUnit) (π : PriceLists) (rows : List (Option Ended)) (l : ℕ)
+    (ramp_up : pos 0 ≤ℤ g.ramp_up) (ramp_down : pos 0 ≤ℤ g.ramp_down) (some_down : 1 ≤ g.min_down)
+    (filled : IsFilled g π (suc (length π.energy)) rows) where
+  -- off since before the horizon
+  pub back_off : (a : Schedule) → l ≡ 0 → IsFalse g.on0 → IsWrittenBack g π rows l a a
+  back_off a none off = record {
+    up_to = λ v is. elim (filled.table.sound l v is) [
+      | inl z ↦
+          subst (λ (k : ℕ). IsUpTo g π (length π.energy) a k v) (sym none)
+          (subst (λ (v : ℤ). IsUpTo g π (length π.energy) a 0 v) (sym z.2) (up_to_idle g π (length π.energy) a ramp_up ramp_down off))
+      | inr from ↦
+          let order = from.1.spell.order in
+          let on = from.1.spell.goes_on (omega (arith, order, none)) in cc
+    ];
+    later = λ t above. record { on = refl; power = refl; reserve = refl };
+    zero_off = λ h. h;
+  }
+
+  module _ (e : Ended) (row : row_at rows l ≡ Some e) (on0 : l ≡ 0 → IsTrue g.on0) where
+    ended_of : IsEnded g π (length π.energy) (cost_at rows) e.first e.before l e.cost
+    ended_of = elim (filled.table.sound l e.cost (cost-is rows l e row)) [
+      | inl h ↦ let on = on0 h.1 in let off = h.0 in cc
+      | inr h ↦
+          subst (λ (f : ℕ). IsEnded g π (length π.energy) (cost_at rows) f e.before l e.cost) (first-is rows l e row)
+          (subst (λ (k : ℕ). IsEnded g π (length π.energy) (cost_at rows) (first_at rows l) k l e.cost) (before-is rows l e row) h.1)
+    ]
+
+    value_of : (v : ℤ) → cost_at rows l ≡ Some v → e.cost ≡ v
+    value_of v is = let here = cost-is rows l e row in cc
+
+    pub row_back : IsRowBack g π rows l e
+    row_back =
+        let T = length π.energy in
+        let ends = cost_at rows in
+        let ended = ended_of in
+        let spell = ended.spell in
+        let order = spell.order in
+        let start : 1 ≤ e.first → IsStarted g ends e.first e.before ended.entry_cost = started g π T ends ramp_up ramp_down some_down e.first e.before l e.cost ended in
+        record {
+          order = order;
+          goes_on = spell.goes_on;
+          starts = λ one. starts_off g ends e.before ended.entry_cost some_down (subst (λ (f : ℕ). IsEntryAfter g ends f e.before ended.entry_cost) one ended.entry);
+          least = (ended.net, ended.least);
+          only = λ a b none written. record {
+            up_to = λ v is. subst (λ (v : ℤ). IsUpTo g π T b l v) (value_of v is) (back_first g π T ends ramp_up ramp_down some_down e.first e.before l e.cost ended a b none written);
+            later = λ t above. written.others t (inr above);
+            zero_off = zero_off_written g π T e.first l a b written;
+          };
+          before_less = λ one. (let st = start one in let first = st.first in let from = st.gap.off.order in omega (arith, order, first, from));
+          before_ended = λ one. (let st = start one in (st.value, st.ended));
+          before_idle = λ a b one written idle.
+              (let st = start one in let first = st.first in let from = st.gap.off.order in
+              idle_written g π T e.first l e.before a b written (omega (arith, first, from)) order idle);
+          rest = λ a b c one idle written back.
+              (let st = start one in
+              let first = st.first in
+              let from = st.gap.off.order in
+              record {
+                up_to = λ v is. subst (λ (v : ℤ). IsUpTo g π T c l v) (value_of v is)
+                    (back_next g π T ends ramp_up ramp_down some_down e.first e.before l e.cost ended st a b c idle written (back.up_to st.value st.ended) back.later);
+                later = λ t above. same_then g a b c t (written.others t (inr above)) (back.later t (omega (arith, above, order, first, from)));
+                zero_off = λ h. back.zero_off (zero_off_written g π T e.first l a b written h);
+              });
+        }

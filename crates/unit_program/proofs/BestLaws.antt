@@ -1,0 +1,71 @@
+-- What the way back has written from the least end is a best schedule.
+use Rattle.std.proofs.Common.{◌≡◌, ℕ, zero, suc, ◌<◌, ◌≤◌, false, refl, ap, Option, Some, ℤ, pos, neg_ℤ, ◌≤ℤ◌, List, length, sym, subst, ◌∙◌, arith}
+use Rattle.std.specs.Prelude.{slice_index, slice_index_or, IsFalse}
+use Rattle.std.proofs.lemmas.Int.{ints}
+use Rattle.uc_model.specs.Data.{ThermalUnit, Thermal, PriceLists, Schedule}
+use Rattle.uc_model.specs.Schedules.{IsSchedule, on_in, power_in, reserve_in}
+use Rattle.uc_model.specs.Earnings.{earnings, IsBest}
+use Rattle.uc_model.specs.Schedules.{IsThermalFeasible}
+use Rattle.unit_program.specs.Spells.{IsOffRun}
+use Rattle.unit_program.specs.Tables.{IsTable, IsLeastEnd}
+use Rattle.unit_program.specs.Builds.{IsUpTo, IsIdle}
+use Rattle.unit_program.proofs.BuildLaws.{right_of}
+use Rattle.unit_program.proofs.SpellLaws.{table_is_least}
+use Rattle.unit_program.specs.Backs.{IsSameIn, IsZeroOff}
+
+zero_of : (n : ℕ) → pos n ≡ pos 0 → n ≡ 0
+zero_of n h = omega (arith, ints, h)
+
+-- a schedule with every period off
+module _ (g : ThermalUnit) (a : Schedule) (off : (k : ℕ) → slice_index_or a.on k false ≡ false) (power : (k : ℕ) → slice_index a.power k ≡ 0) (reserve : (k : ℕ) → slice_index a.reserve k ≡ 0) where
+  pub cleared_idle : (l : ℕ) → IsIdle g a 0 l
+  cleared_idle l = record {
+    off = λ t. elim t as (λ t. 0 < t → t ≤ l → IsFalse (on_in g a t)) [ zero ↦ λ above until. absurd (omega (arith, above)) | suc k ↦ λ above until. off k ];
+    power = λ t. elim t as (λ t. 0 < t → t ≤ l → power_in a t ≡ pos 0) [ zero ↦ λ above until. refl | suc k ↦ λ above until. ap pos (power k) ];
+    reserve = λ t. elim t as (λ t. 0 < t → t ≤ l → reserve_in a t ≡ pos 0) [ zero ↦ λ above until. refl | suc k ↦ λ above until. ap pos (reserve k) ];
+  }
+
+  pub cleared_zero : IsZeroOff g a
+  cleared_zero = λ t. elim t as (λ t. 1 ≤ t → IsFalse (on_in g a t) → (power_in a t ≡ pos 0) × (reserve_in a t ≡ pos 0)) [
+    | zero ↦ λ one here. (refl, refl)
+    | suc k ↦ λ one here. (ap pos (power k), ap pos (reserve k))
+  ]
+
+module _ (g : ThermalUnit) (π : PriceLists) (periods : ℕ) (horizon : periods ≡ length π.energy) (ends : ℕ → Option ℤ) (firsts lasts : ℕ → ℕ)
+    (ramp_up : pos 0 ≤ℤ g.ramp_up) (ramp_down : pos 0 ≤ℤ g.ramp_down)
+    (table : IsTable g π periods (suc periods) ends firsts lasts) where
+  pub best_of : (l : ℕ) (v : ℤ) (a b : Schedule) → IsLeastEnd g periods ends l v → IsIdle g a 0 periods → IsUpTo g π periods b l v
+      → ((t : ℕ) → l < t → IsSameIn g a b t) → IsZeroOff g b → length b.on ≡ periods → length b.power ≡ periods → length b.reserve ≡ periods
+      → IsBest (Thermal g) π b × (earnings (Thermal g) π b ≡ neg_ℤ v)
+  best_of l v a b least cleared up later zero_off on power reserve =
+      let schedule : IsSchedule periods b = record {
+        on = on;
+        power = power;
+        reserve = reserve;
+        off = λ k low off. (let z = zero_off (suc k) (omega arith) off in (zero_of (slice_index b.power k) z.0, zero_of (slice_index b.reserve k) z.1));
+      } in
+      let idle : IsIdle g b l periods = record {
+        off = λ t above until. (later t above).on ∙ cleared.off t (omega (arith, above)) until;
+        power = λ t above until. (later t above).power ∙ cleared.power t (omega (arith, above)) until;
+        reserve = λ t above until. (later t above).reserve ∙ cleared.reserve t (omega (arith, above)) until;
+      } in
+      let r = right_of g π periods b ramp_up ramp_down l v schedule up least.off.order least.off idle in
+      let earned = r.1 in (
+        record {
+          feasible = subst (λ (n : ℕ). IsThermalFeasible g n b) horizon r.0;
+          greatest = λ other right.
+              (let s = table_is_least g π ends periods other (subst (λ (n : ℕ). IsThermalFeasible g n other) (sym horizon) right) table.complete in
+              let h = s.3 in
+              let low = least.least s.0 h.0 h.1 s.2 in
+              let cost = h.2 in
+              omega (arith, ints, low, cost, earned));
+        },
+        earned,
+      )
+
+  -- no end, no schedule
+  pub none_right : ((l : ℕ) (v : ℤ) → ends l ≡ Some v → IsOffRun g l periods → ⊥) → (s : Schedule) → IsThermalFeasible g periods s → ⊥
+  none_right none s right =
+      let r = table_is_least g π ends periods s right table.complete in
+      let h = r.3 in
+      none r.0 h.0 h.1 r.2

@@ -1,0 +1,189 @@
+-- The table before any start, and with one more first period.
+use Rattle.std.proofs.Common.{◌≡◌, ℕ, zero, suc, ◌-◌, ◌*◌, ◌+◌, ◌<◌, ◌≤◌, Bool, true, false, cond, inl, inr, Option, Some, None, ℤ, pos, ◌+ℤ◌, ◌≤ℤ◌, List, length, refl, sym, ap, ◌∙◌, subst, get_or-set_same, get_or-set_other, arith}
+use Rattle.std.specs.Prelude.{IsTrue, IsFalse, MatchOption, slice_set}
+use Rattle.std.specs.Option.{option_map}
+use Rattle.std.proofs.lemmas.Int.{ints}
+use Rattle.std.proofs.lemmas.Bool.{cases_lt}
+use Rattle.uc_model.specs.Data.{ThermalUnit, PriceLists}
+use Rattle.spell_run.specs.Spells.{IsSpellAnswer}
+use Rattle.unit_program.specs.declared.table.Ended.{Ended}
+use Rattle.unit_program.specs.Spells.{IsSpell, IsGap, StopsAtOnce, off_time}
+use Rattle.unit_program.specs.Tables.{HasAtMost, IsEntryAfter, IsEntry, IsLeastEntry, IsTable, IsUpdate}
+use Rattle.unit_program.specs.Rows.{row_at, cost_at, first_at, before_at, AreWithin, IsWithinTimes, IsFilled, IsAdded}
+use Rattle.unit_program.proofs.RowLaws.{cost_from, cost-is, first-is, before-is}
+use Rattle.unit_program.proofs.TableLaws.{table_none, table_skip, table_more, at_once_some, at_once_none}
+
+module _ (g : ThermalUnit) where
+  -- a start in period 1 is of a unit that is off before it
+  pub starts_off : (ends : ℕ → Option ℤ) (last : ℕ) (e : ℤ) → 1 ≤ g.min_down → IsEntryAfter g ends 1 last e → IsFalse g.on0
+  starts_off ends last e some entry = elim entry [
+    | inl h ↦ let none = h.0 in absurd (omega (arith, none))
+    | inr st ↦
+        let first = st.first in
+        let order = st.gap.off.order in
+        let z : last ≡ 0 = omega (arith, order, first) in
+        let k : st.before ≡ 0 = omega (arith, first) in
+        let down = st.gap.min_down in
+        let time : off_time g last st.before ≡ off_time g 0 0 = ap (λ (l : ℕ). off_time g l st.before) z ∙ ap (off_time g 0) k in
+        elim (g.on0) as (λ b. g.on0 ≡ b → IsFalse b) [
+          | false ↦ λ off. refl
+          | true ↦ λ on. (let none : off_time g 0 0 ≡ 0 = ap (λ (b : Bool). cond b 0 (g.down0 + 0)) on in absurd (omega (arith, none, time, down, some)))
+        ] refl
+  ]
+
+module _ (g : ThermalUnit) (π : PriceLists) where
+  -- ---- one more first period
+
+  module _ (n : ℕ) (rows : List (Option Ended)) (filled : IsFilled g π n rows) where
+    pub filled_skip : ((e : ℤ) → IsEntry g (cost_at rows) n e → ⊥) → IsFilled g π (suc n) rows
+    filled_skip none = record {
+      table = table_skip g π (length π.energy) n (first_at rows) (before_at rows) (cost_at rows) filled.table (λ e l entry spell. none e entry);
+      within = filled.within;
+    }
+
+    pub filled_more : (last : ℕ) (e : ℤ) (new : List (Option Ended)) → 1 ≤ n → IsLeastEntry g (cost_at rows) n last e → IsAdded g π n last e rows new → IsFilled g π (suc n) new
+    filled_more last e new one least added = record {
+      table = table_more g π (length π.energy) n (first_at rows) (before_at rows) (cost_at rows) filled.table last e least added.nets (cost_at new) (first_at new) (before_at new)
+          (λ l spell. (let order = spell.order in added.right l (omega (arith, one, order)) spell)) added.update;
+      within = added.within;
+    }
+
+  -- ---- what ends before period 1
+
+  abbrev pub IsFirstRow : Option Ended → Type 0
+  IsFirstRow o =
+      MatchOption o (IsTrue g.on0 × (StopsAtOnce g → g.min_up ≤ g.up0 → ⊥))
+      (λ e. (e ≡ record { cost = pos 0; first = 0; before = 0 }) × (IsTrue g.on0 → StopsAtOnce g × (g.min_up ≤ g.up0)))
+
+  -- row 0 written where there was none
+  pub begun : (cleared rows : List (Option Ended)) (o : Option Ended) → rows ≡ slice_set cleared 0 o → 0 < length cleared → ((l : ℕ) → row_at cleared l ≡ None) → IsFirstRow o
+      → IsFirstRow (row_at rows 0) × ((l : ℕ) → 1 ≤ l → row_at rows l ≡ None)
+  begun cleared rows o is room none first = (
+    subst IsFirstRow (sym (ap (λ (xs : List (Option Ended)). row_at xs 0) is ∙ get_or-set_same cleared 0 o None room)) first,
+    λ l one. ap (λ (xs : List (Option Ended)). row_at xs l) is ∙ get_or-set_other cleared 0 l o None (λ z. omega (arith, z, one)) ∙ none l,
+  )
+
+  module _ (rows : List (Option Ended)) (first : IsFirstRow (row_at rows 0)) (rest : (l : ℕ) → 1 ≤ l → row_at rows l ≡ None) where
+    row_of : (e : Ended) → row_at rows 0 ≡ Some e → (e ≡ record { cost = pos 0; first = 0; before = 0 }) × (IsTrue g.on0 → StopsAtOnce g × (g.min_up ≤ g.up0))
+    row_of e is = subst IsFirstRow is first
+
+    -- each cost is that of row 0, which is 0
+    only_first : (l : ℕ) (v : ℤ) → cost_at rows l ≡ Some v → (l ≡ 0) × (v ≡ pos 0) × (row_at rows 0 ≡ Some (record { cost = pos 0; first = 0; before = 0 })) × (IsTrue g.on0 → StopsAtOnce g × (g.min_up ≤ g.up0))
+    only_first zero v is =
+        let r = cost_from rows 0 v is in
+        let h = row_of r.0 r.1 in
+        let cost = ap (λ (e : Ended). e.cost) h.0 in
+        (refl, sym r.2 ∙ cost, r.1 ∙ ap Some h.0, h.1)
+    only_first (suc k) v is =
+        let r = cost_from rows (suc k) v is in
+        let none = rest (suc k) (omega arith) in
+        let row = r.1 in
+        cc
+
+    pub within_first : AreWithin rows
+    within_first = λ l v is. (let h = only_first l v is in let z = h.1 in record { at_least = omega (arith, ints, z); at_most = omega (arith, ints, z) })
+
+    zero_row : IsFalse g.on0 → row_at rows 0 ≡ Some (record { cost = pos 0; first = 0; before = 0 })
+    zero_row off = elim (row_at rows 0) as (λ o. row_at rows 0 ≡ o → row_at rows 0 ≡ Some (record { cost = pos 0; first = 0; before = 0 })) [
+      | None ↦ λ is. (let h : IsFirstRow None = subst IsFirstRow is first in let on = h.0 in cc)
+      | Some e ↦ λ is. is ∙ ap Some (row_of e is).0
+    ] refl
+
+    no_cost : (l : ℕ) → 1 ≤ l → cost_at rows l ≡ None
+    no_cost l one = ap (option_map (λ (e : Ended). e.cost)) (rest l one)
+
+    pub filled_off : IsFalse g.on0 → IsFilled g π 1 rows
+    filled_off off =
+        let idle = cost-is rows 0 (record { cost = pos 0; first = 0; before = 0 }) (zero_row off) in
+        let none : IsTable g π (length π.energy) 0 (cost_at rows) (first_at rows) (before_at rows) =
+        table_none g π (length π.energy) (cost_at rows) (first_at rows) (before_at rows) (λ _. idle) (λ on. cc) no_cost in
+        record {
+          table = table_skip g π (length π.energy) 0 (first_at rows) (before_at rows) (cost_at rows) none (λ e l entry spell. (let on = spell.goes_on refl in cc));
+          within = within_first;
+        }
+
+    module _ (on0 : IsTrue g.on0) (some : 1 ≤ length π.energy) (new : List (Option Ended)) (added : IsAdded g π 0 0 (pos 0) rows new) where
+      nets : ℕ → Option ℤ
+      nets zero = cost_at rows 0
+      nets (suc k) = added.nets (suc k)
+
+      right : (l : ℕ) → IsSpell g (length π.energy) 0 l → IsSpellAnswer g π (length π.energy) 0 l (nets l)
+      unfolding nets
+      right zero spell =
+          elim (row_at rows 0) as (λ o. row_at rows 0 ≡ o → IsSpellAnswer g π (length π.energy) 0 0 (option_map (λ (e : Ended). e.cost) o)) [
+            | None ↦ λ is.
+                let h : IsFirstRow None = subst IsFirstRow is first in
+                let up = spell.min_up (omega (arith, some)) in
+                at_once_none g π (length π.energy) some (λ stops. h.1 stops (omega (arith, up)))
+            | Some e ↦ λ is.
+                let h = row_of e is in
+                let cost : pos 0 ≡ e.cost = sym (ap (λ (e : Ended). e.cost) h.0) in
+                subst (λ (v : ℤ). IsSpellAnswer g π (length π.energy) 0 0 (Some v)) cost (at_once_some g π (length π.energy) (h.1 on0).0)
+          ] refl
+      right (suc k) spell = added.right (suc k) (omega arith) spell
+
+      spell_at_once : g.min_up ≤ g.up0 → IsSpell g (length π.energy) 0 0
+      spell_at_once up = record {
+        order = omega arith;
+        end = omega arith;
+        goes_on = λ _. on0;
+        marks = λ t one from until mark. absurd (omega (arith, one, until));
+        min_up = λ inside. omega (arith, up);
+      }
+
+      adds : (l : ℕ) (c : ℤ) → IsSpell g (length π.energy) 0 l → nets l ≡ Some c → HasAtMost (cost_at new l) (pos 0 +ℤ c)
+      unfolding nets
+      adds zero c spell net = let r = added.update.keeps 0 c net in let low = r.2 in (r.0, r.1, omega (arith, ints, low))
+      adds (suc k) c spell net = added.update.adds (suc k) c spell net
+
+      abbrev From : ℕ → ℤ → Type 0
+      From l v = (first_at new l ≡ 0) × (before_at new l ≡ 0) × IsSpell g (length π.energy) 0 l × ((c : ℤ) × (nets l ≡ Some c) × (v ≡ pos 0 +ℤ c))
+
+      sound : (l : ℕ) (v : ℤ) → cost_at new l ≡ Some v → From l v
+      unfolding nets
+      sound zero v is = elim (added.update.sound 0 v is) [
+        | inl h ↦
+            let only = only_first 0 v h.0 in
+            let row = only.2 in
+            let e : Ended = record { cost = pos 0; first = 0; before = 0 } in
+            (h.1 ∙ first-is rows 0 e row, h.2 ∙ before-is rows 0 e row, spell_at_once (only.3 on0).1, (v, h.0, omega (arith, ints)))
+        | inr h ↦ let none = added.none in let net = h.3.1 in cc
+      ]
+      sound (suc k) v is = elim (added.update.sound (suc k) v is) [
+        | inl h ↦ let none = no_cost (suc k) (omega arith) in let here = h.0 in cc
+        | inr h ↦ h
+      ]
+
+      nothing : ℕ → Option ℤ
+      nothing l = None
+
+      zeros : ℕ → ℕ
+      zeros l = 0
+
+      none_before : IsTable g π (length π.energy) 0 nothing zeros zeros
+      unfolding nothing
+      none_before = table_none g π (length π.energy) nothing zeros zeros (λ off. cc) (λ _. refl) (λ l one. refl)
+
+      least_before : IsLeastEntry g nothing 0 0 (pos 0)
+      least_before = record {
+        entry = inl (refl, refl);
+        least = λ d entry. elim (entry.1) [
+          | inl h ↦ let z = h.1 in omega (arith, ints, z)
+          | inr h ↦ let f = h.first in absurd (omega (arith, f))
+        ];
+      }
+
+      update : IsUpdate g (length π.energy) 0 0 (pos 0) nets nothing (cost_at new) zeros (first_at new) zeros (before_at new)
+      unfolding nothing
+      update = record {
+        same = λ l low. absurd (omega (arith, low));
+        keeps = λ l v is. cc;
+        adds = adds;
+        sound = λ l v is. inr (sound l v is);
+      }
+
+      pub filled_on : IsFilled g π 1 new
+      filled_on = record {
+        table = table_more g π (length π.energy) 0 zeros zeros nothing none_before 0 (pos 0) least_before nets (cost_at new) (first_at new) (before_at new) right update;
+        within = added.within;
+      }

@@ -1,0 +1,63 @@
+-- The spells from one first period on, as far as the window goes.
+use Rattle.std.proofs.Common.{◌≡◌, ℕ, zero, suc, ◌<◌, ◌≤◌, true, false, ltb, inl, Option, None, ℤ, ◌+ℤ◌, List, length, refl, sym, subst, arith}
+use Rattle.std.specs.Prelude.{IsTrue, max}
+use Rattle.std.proofs.lemmas.Int.{ints}
+use Rattle.std.proofs.lemmas.Bool.Decides.{nat_tests}
+use Rattle.uc_model.specs.Data.{ThermalUnit, PriceLists}
+use Rattle.spell_run.specs.Entries.{entry_of}
+use Rattle.spell_run.specs.Spells.{spell_first, IsSpellAnswer}
+use Rattle.unit_program.specs.declared.table.Ended.{Ended}
+use Rattle.unit_program.specs.Spells.{on_time, IsSpell}
+use Rattle.unit_program.specs.Rows.{net_at, AreWithin, IsAdded, IsOpenUntil}
+
+module _ (g : ThermalUnit) (periods first until : ℕ) (horizon : periods ≡ length g.window) (span : IsOpenUntil g first until) where
+  pub spell_within : (last : ℕ) → (first ≡ 0 → IsTrue g.on0) → first ≤ last → last ≤ until → (last < periods → g.min_up ≤ on_time g first last) → IsSpell g periods first last
+  spell_within last goes_on order low min_up =
+      let end = span.end in
+      record {
+        order = order;
+        end = omega (arith, low, end, horizon);
+        goes_on = goes_on;
+        marks = λ t one from until mark. span.marks t one from (omega (arith, until, low)) mark;
+        min_up = min_up;
+      }
+
+  -- a later one would have a period marked `MustOff`
+  pub no_spell_after : (last : ℕ) → until < last → IsSpell g periods first last → ⊥
+  no_spell_after last above spell =
+      let end = spell.end in
+      let from = span.from in
+      spell.marks (suc until) (omega arith) from (omega (arith, above)) (span.next (omega (arith, above, end, horizon)))
+
+  -- so none is added where the first one has such a mark
+  pub added_none : (π : PriceLists) (before : ℕ) (e : ℤ) (rows : List (Option Ended)) → periods ≡ length π.energy → until < max first 1 → AreWithin rows → IsAdded g π first before e rows rows
+  added_none π before e rows is none within = record {
+    nets = λ _. None;
+    none = refl;
+    right = λ l one spell. absurd (no_spell_after l
+        (let order = spell.order in omega (arith, none, one, order))
+        (subst (λ (n : ℕ). IsSpell g n first l) (sym is) spell));
+    update = record {
+      same = λ l low. refl;
+      keeps = λ l v here. (v, here, omega (arith, ints));
+      adds = λ l c spell net. cc;
+      sound = λ l v here. inl (here, refl, refl);
+    };
+    within = within;
+  }
+
+-- the first period as definitions count it is the one that the program counts
+pub spell_first-is : (first n : ℕ) → n ≡ max first 1 → spell_first (ltb 0 first) n ≡ first
+spell_first-is first n is = elim (ltb 0 first) as (λ b. ltb 0 first ≡ b → spell_first b n ≡ first) [
+  | true ↦ λ test. (let some : 0 < first = grind (arith, nat_tests) in omega (arith, is, some))
+  | false ↦ λ test. (let none : first ≤ 0 = grind (arith, nat_tests) in omega (arith, none))
+] refl
+
+-- what a pass over the prices tells of each spell of the horizon
+pub answers_at : (g : ThermalUnit) (π : PriceLists) (periods first n : ℕ) (costs : List (Option ℤ)) → n ≡ max first 1
+    → ((l : ℕ) → n ≤ l → l ≤ periods → IsSpellAnswer g π periods (spell_first (ltb 0 first) n) l (entry_of costs l))
+    → (l : ℕ) → 1 ≤ l → IsSpell g periods first l → IsSpellAnswer g π periods first l (net_at costs l)
+answers_at g π periods first n costs is told zero one spell = absurd (omega (arith, one))
+answers_at g π periods first n costs is told (suc k) one spell =
+    let order = spell.order in
+    subst (λ (f : ℕ). IsSpellAnswer g π periods f (suc k) (entry_of costs (suc k))) (spell_first-is first n is) (told (suc k) (omega (arith, order, is)) spell.end)

@@ -1,0 +1,7 @@
+use Rattle.uc_model.specs.PlainUnits.{thermal_of}
+use Rattle.unit_program.specs.Rows.{cost_at}
+use Rattle.unit_program.proofs.EndLaws.{IsLeastEndSoFar}
+use Rattle.unit_program.proofs.answer.least_end.Given as goal
+
+abbrev pub invariant-loop-last : goal.invariant-loop-last
+invariant-loop-last l = IsLeastEndSoFar (thermal_of l.unit) l.periods (cost_at l.rows) l.last l.least

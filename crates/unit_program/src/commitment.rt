@@ -1,0 +1,156 @@
+//! Which spells and times off the commitment rules allow. Periods count from 1; 0 is the state before the horizon.
+ghost use Rattle.std.specs.Prelude.{◌≡◌, ℕ, ◌+◌, ◌<◌, ◌≤◌, ◌+ℤ◌, ◌≤ℤ◌, IsTrue, IsFalse, length, suc};
+ghost use Rattle.std.specs.Int.{int_min};
+ghost use Rattle.uc_model.specs.Limits.{IsPower};
+ghost use Rattle.uc_model.specs.PlainUnits.{thermal_of};
+ghost use Rattle.uc_model.specs.Schedules.{mark_in};
+ghost use Rattle.unit_program.specs.Rows.{IsOpenUntil};
+ghost use Rattle.unit_program.specs.Spells.{off_time, on_time, IsOffRun, StopsAtOnce};
+
+use uc_model::units::{Mark, Unit};
+
+// The last of the first `until` periods that is marked `MustOn`, and 0 where none is.
+fn last_must_on(marks: &[Mark], until: u32) -> u32
+    requires end { until ≤ length marks.now }
+    ensures within { result ≤ until }
+    ensures marked { 1 ≤ result → mark_in marks.now result ≡ Mark.MustOn }
+    ensures last { (t : ℕ) → result < t → t ≤ until → mark_in marks.now t ≡ Mark.MustOn → ⊥ }
+{
+    let mut last = 0;
+    for place in 0..until {
+        if marks[place as usize] == Mark::MustOn {
+            last = place + 1;
+        }
+    }
+    last
+}
+
+/// The earliest on period from which on the unit may be off to the end of period `until`: after that one and after each
+/// later one it may.
+pub fn off_from(unit: &Unit, until: u32) -> u32
+    requires { until ≤ length (thermal_of unit.now).window }
+    ensures within { result ≤ until }
+    ensures yes { (last : ℕ) → result ≤ last → last ≤ until → IsOffRun (thermal_of unit.now) last until }
+    ensures no { (last : ℕ) → IsOffRun (thermal_of unit.now) last until → result ≤ last }
+{
+    if unit.must_run {
+        return until;
+    }
+    last_must_on(unit.window.as_slice(), until)
+}
+
+// How many of the marks from a place on come before the first `MustOff`, and the place where they end.
+fn before_must_off(marks: &[Mark], from: u32) -> u32
+    requires small { length marks.now ≤ 168 }
+    requires start { from ≤ length marks.now }
+    ensures from { from ≤ result }
+    ensures end { result ≤ length marks.now }
+    ensures marks { (k : ℕ) → from ≤ k → k < result → mark_in marks.now (suc k) ≡ Mark.MustOff → ⊥ }
+    ensures next { result < length marks.now → mark_in marks.now (suc result) ≡ Mark.MustOff }
+{
+    let end = marks.len() as u32;
+    for place in from..end {
+        if marks[place as usize] == Mark::MustOff {
+            return place;
+        }
+    }
+    end
+}
+
+/// The period until which a spell from `first` on may last, as far as the window goes; `first` 0 stands for a spell that
+/// goes on from before the horizon. It is before `first` where that period is marked `MustOff`.
+pub fn open_until(unit: &Unit, first: u32) -> u32
+    requires { first ≤ length (thermal_of unit.now).window }
+    ensures { IsOpenUntil (thermal_of unit.now) first result }
+{
+    before_must_off(unit.window.as_slice(), first.saturating_sub(1))
+}
+
+/// The time off at the end of a period in periods, where `last` is the last on period.
+pub fn time_off(unit: &Unit, last: u32, period: u32) -> u64
+    requires { last ≤ period }
+    ensures { result ≡ off_time (thermal_of unit.now) last period }
+{
+    if last > 0 {
+        u64::from(period - last)
+    } else if unit.on0 {
+        u64::from(period)
+    } else {
+        u64::from(unit.down0) + u64::from(period)
+    }
+}
+
+// The time on at the end of a spell in periods.
+fn time_on(unit: &Unit, first: u32, last: u32) -> u64
+    requires { first ≤ last }
+    ensures { result ≡ on_time (thermal_of unit.now) first last }
+{
+    if first > 0 {
+        u64::from(last - first) + 1
+    } else {
+        u64::from(unit.up0) + u64::from(last)
+    }
+}
+
+/// Whether the unit has been on for long enough to stop after a spell, or the horizon ends with it.
+pub fn may_end(unit: &Unit, periods: u32, first: u32, last: u32) -> bool
+    requires { first ≤ last }
+    ensures yes { IsTrue result → last < periods → (thermal_of unit.now).min_up ≤ on_time (thermal_of unit.now) first last }
+    ensures no { IsFalse result → (last < periods) × (on_time (thermal_of unit.now) first last < (thermal_of unit.now).min_up) }
+{
+    last >= periods || time_on(unit, first, last) >= u64::from(unit.min_up)
+}
+
+fn power_sum(a: i64, b: i64) -> i64
+    requires a { IsPower a }
+    requires b { IsPower b }
+    ensures { result ≡ a +ℤ b }
+{
+    a + b
+}
+
+fn is_at_most(a: i64, b: i64) -> bool
+    ensures yes { IsTrue result → a ≤ℤ b }
+    ensures no { IsFalse result → a ≤ℤ b → ⊥ }
+{
+    a <= b
+}
+
+fn is_cap_kept(unit: &Unit) -> bool
+    ensures yes { IsTrue result → unit.now.power0 ≤ℤ int_min unit.now.stop_limit unit.now.max_power }
+    ensures no { IsFalse result → unit.now.power0 ≤ℤ int_min unit.now.stop_limit unit.now.max_power → ⊥ }
+{
+    is_at_most(unit.power0, unit.stop_limit.min(unit.max_power))
+}
+
+fn is_fall_kept(unit: &Unit) -> bool
+    ensures yes { IsTrue result → unit.now.power0 ≤ℤ (unit.now.ramp_down +ℤ unit.now.min_power) }
+    ensures no { IsFalse result → unit.now.power0 ≤ℤ (unit.now.ramp_down +ℤ unit.now.min_power) → ⊥ }
+{
+    is_at_most(unit.power0, power_sum(unit.ramp_down, unit.min_power))
+}
+
+fn is_rise_kept(unit: &Unit) -> bool
+    ensures yes { IsTrue result → unit.now.min_power ≤ℤ (unit.now.ramp_up +ℤ unit.now.power0) }
+    ensures no { IsFalse result → unit.now.min_power ≤ℤ (unit.now.ramp_up +ℤ unit.now.power0) → ⊥ }
+{
+    is_at_most(unit.min_power, power_sum(unit.ramp_up, unit.power0))
+}
+
+/// Whether a unit that is on before the horizon may stop in period 1, as far as its output goes.
+pub fn stops_at_once(unit: &Unit) -> bool
+    ensures yes { IsTrue result → StopsAtOnce (thermal_of unit.now) }
+    ensures no { IsFalse result → StopsAtOnce (thermal_of unit.now) → ⊥ }
+{
+    let cap = is_cap_kept(unit);
+    let fall = is_fall_kept(unit);
+    let rise = is_rise_kept(unit);
+    all_three(cap, fall, rise)
+}
+
+fn all_three(a: bool, b: bool, c: bool) -> bool
+    ensures yes { IsTrue result → IsTrue a × IsTrue b × IsTrue c }
+    ensures no { IsFalse result → IsTrue a → IsTrue b → IsTrue c → ⊥ }
+{
+    a && b && c
+}

@@ -1,0 +1,187 @@
+//! The table filled, from the first period on.
+ghost use Rattle.std.specs.Prelude.{◌≡◌, ℕ, ◌+◌, ◌*◌, ◌<◌, ◌≤◌, pos, [], true, IsTrue, IsFalse, MatchOption, OnOk, length, suc, None, Some};
+ghost use Rattle.cost_curve.specs.CostCurve.{IsCostCurve};
+ghost use Rattle.shape_law.specs.Cell.{Frame};
+ghost use Rattle.uc_model.specs.PlainUnits.{thermal_of, prices_of};
+ghost use Rattle.unit_program.specs.Rows.{row_at, IsWithinTimes, AreWithin, IsAdded, IsFilled};
+ghost use Rattle.unit_program.specs.Spells.{StopsAtOnce};
+
+use crate::commitment::{open_until, stops_at_once};
+use crate::table::{Ended, Entry, Table, add_spells, least_entry};
+use shape_law::Shape;
+use spell_run::{SpellCosts, spell_costs};
+use std::alloc::AllocError;
+use uc_model::units::{Curve, Prices, Unit};
+
+// Adds the spells that begin with period `first` after an entry, with one pass over the prices if one may begin there.
+fn add_beginning<S: Shape>(
+    home: &mut S::Home,
+    unit: &Unit,
+    curve: &Curve,
+    prices: &Prices,
+    first: u32,
+    entry: &Entry,
+    costs: &mut SpellCosts,
+    table: &mut Table,
+) -> Result<(), AllocError>
+    requires horizon { length (thermal_of unit.now).window ≡ length (prices_of prices.now).energy }
+    requires curve { IsCostCurve (thermal_of unit.now).points curve.now }
+    requires first { first ≤ length (prices_of prices.now).energy }
+    requires goes_on { first ≡ 0 → IsTrue unit.now.on0 }
+    requires starts { first ≡ 1 → IsFalse unit.now.on0 }
+    requires costs { length (prices_of prices.now).energy ≤ length costs.old.entries.items }
+    requires room { length (prices_of prices.now).energy < length table.old.items }
+    requires within { AreWithin table.old.items }
+    requires bound { IsWithinTimes (2 * first + 1) entry.now.cost }
+    ensures added { OnOk result (IsAdded (thermal_of unit.now) (prices_of prices.now) first entry.now.last entry.now.cost table.old.items table.new.items) }
+    ensures costs { length costs.new.entries.items ≡ length costs.old.entries.items }
+    ensures length { length table.new.items ≡ length table.old.items }
+    ensures frame { Frame S.Home.cell_list S.is_in S.numbers [] [] home.old home.new }
+    ensures sure { S.Home.counts ≡ true → S.Home.sure home.new ≡ S.Home.sure home.old }
+{
+    let until = open_until(unit, first);
+    if until < first.max(1) {
+        return Ok(());
+    }
+    spell_costs::<S>(
+        home,
+        unit,
+        curve,
+        prices,
+        first.max(1),
+        first > 0,
+        costs,
+    )?;
+    let periods = prices.energy.len() as u32;
+    add_spells(
+        unit,
+        periods,
+        first,
+        until,
+        entry,
+        costs.entries.as_slice(),
+        table,
+    );
+    Ok(())
+}
+
+// Adds the spells that start in period `first`.
+fn add_first<S: Shape>(
+    home: &mut S::Home,
+    unit: &Unit,
+    curve: &Curve,
+    prices: &Prices,
+    first: u32,
+    costs: &mut SpellCosts,
+    table: &mut Table,
+) -> Result<(), AllocError>
+    requires horizon { length (thermal_of unit.now).window ≡ length (prices_of prices.now).energy }
+    requires curve { IsCostCurve (thermal_of unit.now).points curve.now }
+    requires one { 1 ≤ first }
+    requires first { first ≤ length (prices_of prices.now).energy }
+    requires costs { length (prices_of prices.now).energy ≤ length costs.old.entries.items }
+    requires room { length (prices_of prices.now).energy < length table.old.items }
+    requires filled { IsFilled (thermal_of unit.now) (prices_of prices.now) first table.old.items }
+    ensures filled { OnOk result (IsFilled (thermal_of unit.now) (prices_of prices.now) (suc first) table.new.items) }
+    ensures costs { length costs.new.entries.items ≡ length costs.old.entries.items }
+    ensures length { length table.new.items ≡ length table.old.items }
+    ensures frame { Frame S.Home.cell_list S.is_in S.numbers [] [] home.old home.new }
+    ensures sure { S.Home.counts ≡ true → S.Home.sure home.new ≡ S.Home.sure home.old }
+{
+    match least_entry(unit, table.as_slice(), first - 1) {
+        Some(entry) => add_beginning::<S>(
+            home, unit, curve, prices, first, &entry, costs, table,
+        ),
+        None => Ok(()),
+    }
+}
+
+// No row.
+fn clear_rows(table: &mut Table)
+    ensures none { (l : ℕ) → row_at table.new.items l ≡ None }
+    ensures length { length table.new.items ≡ length table.old.items }
+{
+    for place in 0..table.len() {
+        table.set(place, None);
+    }
+}
+
+// What ends before period 1: a unit that is off since before the horizon, or a spell that doesn't go on.
+fn first_row(unit: &Unit) -> Option<Ended>
+    ensures { MatchOption result
+        (IsTrue unit.now.on0 × (StopsAtOnce (thermal_of unit.now) → unit.now.min_up ≤ unit.now.up0 → ⊥))
+        (λ e. (e ≡ record { cost = pos 0; first = 0; before = 0 }) × (IsTrue unit.now.on0 → StopsAtOnce (thermal_of unit.now) × (unit.now.min_up ≤ unit.now.up0))) }
+{
+    if unit.on0 && !(unit.up0 >= unit.min_up && stops_at_once(unit)) {
+        return None;
+    }
+    Some(Ended {
+        cost: 0,
+        first: 0,
+        before: 0,
+    })
+}
+
+// The table with what is on, or off, since before the horizon.
+fn begin<S: Shape>(
+    home: &mut S::Home,
+    unit: &Unit,
+    curve: &Curve,
+    prices: &Prices,
+    costs: &mut SpellCosts,
+    table: &mut Table,
+) -> Result<(), AllocError>
+    requires horizon { length (thermal_of unit.now).window ≡ length (prices_of prices.now).energy }
+    requires curve { IsCostCurve (thermal_of unit.now).points curve.now }
+    requires costs { length (prices_of prices.now).energy ≤ length costs.old.entries.items }
+    requires room { length (prices_of prices.now).energy < length table.old.items }
+    ensures filled { OnOk result (IsFilled (thermal_of unit.now) (prices_of prices.now) 1 table.new.items) }
+    ensures costs { length costs.new.entries.items ≡ length costs.old.entries.items }
+    ensures length { length table.new.items ≡ length table.old.items }
+    ensures frame { Frame S.Home.cell_list S.is_in S.numbers [] [] home.old home.new }
+    ensures sure { S.Home.counts ≡ true → S.Home.sure home.new ≡ S.Home.sure home.old }
+{
+    clear_rows(table);
+    table.set(0, first_row(unit));
+    if !unit.on0 {
+        return Ok(());
+    }
+    let entry = Entry { cost: 0, last: 0 };
+    add_beginning::<S>(home, unit, curve, prices, 0, &entry, costs, table)
+}
+
+/// Fills the table for a unit at prices over its horizon of T periods. `curve` is the curve of the unit's points; `costs`
+/// has at least T entries, and `table` at least T + 1 rows. Takes no memory but for the shapes, which are given back.
+/// After an error the rows are open.
+pub fn fill<S: Shape>(
+    home: &mut S::Home,
+    unit: &Unit,
+    curve: &Curve,
+    prices: &Prices,
+    costs: &mut SpellCosts,
+    table: &mut Table,
+) -> Result<(), AllocError>
+    requires horizon { length (thermal_of unit.now).window ≡ length (prices_of prices.now).energy }
+    requires curve { IsCostCurve (thermal_of unit.now).points curve.now }
+    requires costs { length (prices_of prices.now).energy ≤ length costs.old.entries.items }
+    requires room { length (prices_of prices.now).energy < length table.old.items }
+    ensures filled { OnOk result (IsFilled (thermal_of unit.now) (prices_of prices.now) (suc (length (prices_of prices.now).energy)) table.new.items) }
+    ensures costs { length costs.new.entries.items ≡ length costs.old.entries.items }
+    ensures length { length table.new.items ≡ length table.old.items }
+    ensures frame { Frame S.Home.cell_list S.is_in S.numbers [] [] home.old home.new }
+    ensures sure { S.Home.counts ≡ true → S.Home.sure home.new ≡ S.Home.sure home.old }
+{
+    begin::<S>(home, unit, curve, prices, costs, table)?;
+    for place in 0..prices.energy.len() {
+        add_first::<S>(
+            home,
+            unit,
+            curve,
+            prices,
+            place as u32 + 1,
+            costs,
+            table,
+        )?;
+    }
+    Ok(())
+}
