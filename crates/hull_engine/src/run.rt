@@ -1,6 +1,6 @@
 //! One run of the price rule: a board whose tasks are answered one after another, and the settlement at the prices that
 //! it chooses.
-ghost use Rattle.std.specs.Prelude.{◌≡◌, ◌+◌, ◌<◌, ◌≤◌, ℕ, true, length, IfOk, OnOk};
+ghost use Rattle.std.specs.Prelude.{◌≡◌, ◌+◌, ◌*◌, ◌<◌, ◌≤◌, ℕ, true, length, IfOk, OnOk};
 ghost use Rattle.board_history.specs.Board.{Setup};
 ghost use Rattle.board_history.specs.Calls.{own_rows, has_finished};
 ghost use Rattle.board_history.specs.Counts.{posts_in};
@@ -93,11 +93,14 @@ fn play_round(
     ensures round { IfOk result (λ more. EndsRound board.old board.new more) }
     ensures room { OnOk result (IsTaskFor board.old.setup.market.periods task.new) }
     ensures buffer { OnOk result (length (schedule_of buffer.new.response).on ≡ board.old.setup.market.periods) }
+    ensures most { OnOk result (posts_in board.new.events ≤ board.new.setup.budget * units_in board.new.setup.market) }
 {
+    board.is_legal();
     match board.claim(CALLER, task) {
         Claim::Given => {
             answer_task(alloc, task, buffer)?;
             let _ = board.post(CALLER, task, buffer);
+            board.is_legal();
             Ok(true)
         }
         _ => Ok(false),
@@ -119,12 +122,11 @@ fn play(
     ensures finished { OnOk result (has_finished board.new ≡ true) }
     ensures buffer { OnOk result (length (schedule_of buffer.new.response).on ≡ board.old.setup.market.periods) }
 {
+    board.is_legal();
     loop {
-        board.is_legal();
         if !play_round(alloc, board, task, buffer)? {
             return Ok(());
         }
-        board.is_legal();
     }
 }
 
