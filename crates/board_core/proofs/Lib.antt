@@ -1,4 +1,9 @@
+pub mod Advances
+pub mod Claims
+pub mod Costs
 pub mod Flat
 pub mod Fronts
+pub mod Halts
+pub mod LedgerSteps
 pub mod Rows
 pub mod UnitPlaces

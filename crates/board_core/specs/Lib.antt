@@ -1,8 +1,9 @@
 pub mod Boards
 pub mod Events
 pub mod Ledgers
+pub mod Openings
 pub mod Parts
-pub mod Sound
+pub mod Refusals
 pub mod Replies
 pub mod Rounds
 pub mod Setups

@@ -4,7 +4,8 @@ use Rattle.std.specs.List.{range_with_len}
 use Rattle.board_history.specs.Board.{Setup, rules_of}
 use Rattle.board_history.specs.Rounds.{rows_by, prices_by, opened_in}
 use Rattle.uc_model.specs.Data.{Market, PriceLists}
-use Rattle.uc_model.specs.PriceRule.{Proposal, next_prices, no_prices, is_settled}
+use Rattle.price_move.specs.Moves.{is_last_settled}
+use Rattle.uc_model.specs.PriceRule.{Proposal, next_prices, no_prices}
 use Rattle.uc_model.specs.Sums.{int_at}
 use Rattle.uc_model.specs.Systems.{worth_of_demand}
 
@@ -43,15 +44,16 @@ pub record IsRound (b : Setup) (units : ℕ) (counts : List ℕ) (s : Sums) (f :
 abbrev pub with_row : Market → Sums → Fronts → List Proposal
 with_row m s f = f.rows ++ row_in m s (slice_index_or f.prices (length f.rows) no_prices) (suc (length f.rows)) ∷ []
 
--- whether one more proposal opens with it: the last that is open is as far ahead as it may be, there may be more, and the
+-- whether one more proposal opens: the last that is open is as far ahead as it may be, there may be more, and the last
 -- row isn't settled
-abbrev pub opens : Setup → Sums → Fronts → Bool
-opens b s f =
-    (length f.prices == length f.rows + b.ahead) && nat_lt (length f.prices) b.budget
-    && not (is_settled b.market b.cost (row_in b.market s (slice_index_or f.prices (length f.rows) no_prices) (suc (length f.rows))))
+abbrev pub is_due : Setup → (closed opened : ℕ) → Bool
+is_due b closed opened = (opened + 1 == closed + b.ahead) && nat_lt opened b.budget
 
-abbrev pub with_opened : Setup → Sums → Fronts → List PriceLists
-with_opened b s f = if opens b s f then f.prices ++ next_prices b.market b.cost (with_row b.market s f) ∷ [] else f.prices
+abbrev pub opens : Setup → Fronts → Bool
+opens b f = is_due b (length f.rows) (length f.prices) && not (is_last_settled b.market b.cost f.rows)
+
+abbrev pub with_opened : Setup → Fronts → Fronts
+with_opened b f = record f { prices = if opens b f then f.prices ++ next_prices b.market b.cost f.rows ∷ [] else f.prices }
 
 abbrev pub with_round : Setup → Sums → Fronts → Fronts
-with_round b s f = record { rows = with_row b.market s f; prices = with_opened b s f }
+with_round b s f = with_opened b (record f { rows = with_row b.market s f })

@@ -10,11 +10,11 @@ mod advance;
 mod board;
 mod chosen;
 mod ledger;
+mod posts;
 mod replies;
 mod store;
 mod tasks;
 mod terms;
 
 pub use board::{Board, Closed};
-
 pub use replies::{Claim, Differs, Posted};

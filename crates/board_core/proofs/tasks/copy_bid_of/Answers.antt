@@ -5,8 +5,7 @@ use Rattle.uc_model.specs.Limits.{IsBidUnit}
 use Rattle.uc_model.specs.PlainCases.{market_of}
 use Rattle.uc_model.specs.PlainUnits.{named_bid_of}
 use Rattle.uc_model.specs.Reserved.{items_in}
-use Rattle.uplift_settle.proofs.Units.{bid_at}
-use Rattle.board_core.proofs.UnitPlaces.{item_of, map_got}
+use Rattle.board_core.proofs.UnitPlaces.{item_of, map_got, bid_at}
 use Rattle.board_core.proofs.tasks.copy_bid_of.Goals as goal
 
 pub copy_bid-requires-clause-lengths : goal.copy_bid-requires-clause-lengths

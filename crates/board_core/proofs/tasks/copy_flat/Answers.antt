@@ -3,8 +3,7 @@ use Rattle.uc_model.specs.Data.{Flat, RenewableUnit, NamedRenewableUnit}
 use Rattle.uc_model.specs.Limits.{IsRenewableUnit}
 use Rattle.uc_model.specs.PlainCases.{market_of}
 use Rattle.uc_model.specs.PlainUnits.{named_renewable_of}
-use Rattle.uplift_settle.proofs.Units.{flat_at}
-use Rattle.board_core.proofs.UnitPlaces.{item_of, map_got}
+use Rattle.board_core.proofs.UnitPlaces.{item_of, map_got, flat_at}
 use Rattle.board_core.proofs.tasks.copy_flat.Goals as goal
 
 pub copy_renewable-requires : goal.copy_renewable-requires

@@ -3,8 +3,7 @@ use Rattle.uc_model.specs.Data.{Thermal, ThermalUnit, NamedThermalUnit}
 use Rattle.uc_model.specs.Limits.{IsThermalUnit}
 use Rattle.uc_model.specs.PlainCases.{market_of}
 use Rattle.uc_model.specs.PlainUnits.{named_thermal_of}
-use Rattle.uplift_settle.proofs.Units.{thermal_at}
-use Rattle.board_core.proofs.UnitPlaces.{item_of, map_got}
+use Rattle.board_core.proofs.UnitPlaces.{item_of, map_got, thermal_at}
 use Rattle.board_core.proofs.tasks.copy_thermal.Goals as goal
 
 pub copy_unit-requires-clause-window : goal.copy_unit-requires-clause-window
