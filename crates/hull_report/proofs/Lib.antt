@@ -8,3 +8,4 @@ pub mod Records
 mod Sizes
 mod RecordTexts
 mod RecordLines
+mod WholeReports

@@ -1,5 +1,5 @@
 -- A text is read back from the left: a part of it ends at a byte that the part doesn't hold.
-use Rattle.std.proofs.Common.{◌≡◌, ℕ, suc, ◌+◌, ◌<◌, ◌≤◌, ◌^◌, ◌/◌, ◌%◌, ℤ, pos, negsuc, Bool, true, false, nat_lt, ◌==◌, List, [], ◌∷◌, ◌++◌, length, refl, sym, ap, ◌∙◌, subst, arith, append_assoc, decimal, unsigned_abs}
+use Rattle.std.proofs.Common.{◌≡◌, ℕ, suc, ◌<◌, ◌≤◌, ◌/◌, ◌%◌, ℤ, pos, negsuc, Bool, true, false, nat_lt, ◌==◌, List, [], ◌∷◌, ◌++◌, refl, sym, ap, ◌∙◌, subst, arith, append_assoc, decimal}
 use Rattle.std.specs.Fmt.{signed_decimal}
 use Rattle.std.specs.List.{All, flat_map}
 use Rattle.std.specs.Str.Parse.{AllDigits, digits_value}
@@ -9,7 +9,7 @@ use Rattle.std.proofs.lemmas.List.{append_cancel_left}
 use Rattle.std.proofs.lemmas.List.Elements.{All-head, All-tail}
 use Rattle.std.proofs.lemmas.Str.Parse.{tells_digits}
 use Rattle.hull_report.specs.Laws.{IsCount, IsAmount}
-use Rattle.hull_report.specs.Parts.{hex_of, stands_as_is, escaped, flag_text, spaced_flags}
+use Rattle.hull_report.specs.Parts.{hex_of, stands_as_is, escaped, spaced_flags}
 use Rattle.hull_report.proofs.NameLemmas.{escaped-plain, escaped-control, escaped-behind}
 
 -- texts that begin with different bytes

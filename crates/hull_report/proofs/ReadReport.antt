@@ -1,5 +1,5 @@
 -- A report, read back from its text block by block.
-use Rattle.std.proofs.Common.{◌≡◌, ℕ, List, ◌++◌, length, codes, refl, sym, ◌∙◌, append_assoc}
+use Rattle.std.proofs.Common.{◌≡◌, ℕ, List, ◌++◌, length, codes, sym, ◌∙◌, append_assoc}
 use Rattle.std.specs.List.{flat_map}
 use Rattle.hull_report.specs.ReportText.{Report, head_text, rows_text, chosen_text, thermal_text, renewable_text, bid_text, foot_text, report_text}
 use Rattle.hull_report.specs.Laws.{HasLineNumbers, IsFlatLine, HasForm, TextDeterminesReport}

@@ -1,9 +1,11 @@
 -- The lines of a record's units, found by their place among the units of a kind.
-use Rattle.std.proofs.Common.{◌≡◌, ℕ, suc, ◌+◌, ◌-◌, ◌<◌, ◌≤◌, ℤ, pos, ◌-ℤ◌, true, Some, List, [], map, length, get_or, slice_get, refl, sym, ap, ◌∙◌, subst, arith}
-use Rattle.std.proofs.lemmas.Int.{ints}
+use Rattle.std.proofs.Common.{to_z, of_z, ◌≡◌, ℕ, ◌+◌, ◌-◌, ◌<◌, ◌≤◌, ℤ, pos, ◌-ℤ◌, true, Some, List, [], map, length, get_or, slice_get, refl, sym, ap, ◌∙◌, subst, arith}
+use Rattle.std.proofs.lemmas.Int.{ints, to_z-of_z}
 use Rattle.std.proofs.lemmas.List.{length-map, get_or-map}
 use Rattle.std.proofs.lemmas.Option.{get_or_from_slice_get}
-use Rattle.std.specs.List.{All}
+use Rattle.std.specs.Int.{w128}
+use Rattle.std.specs.Prelude.{FitsSigned}
+use Rattle.board_core.specs.Setups.{IsSetup}
 use Rattle.board_history.specs.Board.{Answer, Content, rules_of, IsLegalHistory}
 use Rattle.board_history.specs.Calls.{own_rows, has_finished}
 use Rattle.board_history.specs.Rounds.{posts, answer_at, closed_front, is_closed}
@@ -15,14 +17,13 @@ use Rattle.uc_model.specs.declared.cases.Row.{Row}
 use Rattle.uc_model.specs.declared.units.NamedUnit.{NamedUnit}
 use Rattle.uc_model.specs.declared.units.NamedFlat.{NamedFlat}
 use Rattle.uc_model.specs.declared.units.NamedBid.{NamedBid}
-use Rattle.uc_model.specs.Data.{NamedThermalUnit, NamedRenewableUnit, NamedBidUnit, Market, unit_count}
-use Rattle.uc_model.specs.Limits.{IsFrom, IsMarket}
+use Rattle.uc_model.specs.Data.{NamedThermalUnit, NamedRenewableUnit, NamedBidUnit, Market}
 use Rattle.uc_model.specs.PlainCases.{market_of, proposal_of}
 use Rattle.uc_model.specs.PlainUnits.{named_thermal_of, named_renewable_of, named_bid_of, prices_of}
 use Rattle.uc_model.specs.PriceRule.{Proposal}
 use Rattle.uc_model.specs.Sums.{int_at}
-use Rattle.uc_model.specs.Systems.{IsFeasiblePlan, plan_cost, IsDualValue}
-use Rattle.uc_model.proofs.SignedLaws.{IsWithin}
+use Rattle.uc_model.specs.Systems.{IsDualValue}
+use Rattle.uc_model.proofs.SignedLaws.{IsWithin, fits_within}
 use Rattle.uplift_settle.specs.declared.settlement.Settlement.{Settlement}
 use Rattle.hull_report.specs.ReportText.{UnitLine}
 use Rattle.hull_report.specs.RecordReport.{thermal_names, renewable_names, bid_names, told_line, line_of, lines_from, chosen_of, value_of}
@@ -100,13 +101,41 @@ line_is c s proposal number a x y e f g name =
     λ i. told_line (e i) (scheduled i) (payment i) name
 
 -- and stands at its place among the lines of its kind
-pub line_stands : (line : ℕ → List ℕ → UnitLine) (names : List (List ℕ)) (first k count number : ℕ) (name : List ℕ) (x : UnitLine) → IsNamed names k count name → first + k ≡ number →
-    x ≡ line number name → x ≡ get_or (lines_from line first names) k x
-line_stands line names first k count number name x named at is =
-    is ∙ ap (λ (n : List ℕ). line number n) (sym named.is) ∙ ap (λ (n : ℕ). line n (get_or names k [])) (sym at) ∙ sym (line_at line first names k x [] named.inside)
+pub record Stands (lines : List UnitLine) (k : ℕ) (x : UnitLine) : Type 0 where
+  pub inside : k < length lines
+  pub is : x ≡ get_or lines k x
 
-pub line_inside : (line : ℕ → List ℕ → UnitLine) (names : List (List ℕ)) (first k count : ℕ) (name : List ℕ) → IsNamed names k count name → k < length (lines_from line first names)
-line_inside line names first k count name named = let h = named.inside in omega (arith, h, length-lines line first names)
+stands : (line : ℕ → List ℕ → UnitLine) (names : List (List ℕ)) (first k count number : ℕ) (name other : List ℕ) (x : UnitLine) → IsNamed names k count name → other ≡ name → first + k ≡ number →
+    x ≡ line number other → Stands (lines_from line first names) k x
+stands line names first k count number name other x named same at is =
+    let inside = named.inside in
+    record {
+      inside = omega (arith, inside, length-lines line first names);
+      is = is ∙ ap (λ (n : List ℕ). line number n) (same ∙ sym named.is) ∙ ap (λ (n : ℕ). line n (get_or names k [])) (sym at) ∙ sym (line_at line first names k x [] inside);
+    }
+
+module _ (c : Content) (s : Settlement) (proposal : ℕ) (case : Case) (e : market_of case ≡ c.setup.market) (k number : ℕ) (name : List ℕ) (x : UnitLine) (is : x ≡ line_of c s proposal number name) where
+  pub thermal_stands : (xs : List NamedUnit) (n : NamedUnit) → xs ≡ case.thermal.items → k < length xs → n ≡ get_or xs k n → name ≡ n.name.items → k ≡ number →
+      Stands (lines_from (line_of c s proposal) 0 (thermal_names c.setup.market)) k x
+  thermal_stands xs n items inside at same place =
+      stands (line_of c s proposal) (thermal_names c.setup.market) 0 k (length xs) number n.name.items name x (thermal_named case c.setup.market xs k n e items inside at) same (omega (arith, place)) is
+
+  pub renewable_stands : (xs : List NamedFlat) (n : NamedFlat) → xs ≡ case.flat.items → k < length xs → n ≡ get_or xs k n → name ≡ n.name.items → length case.thermal.items + k ≡ number →
+      Stands (lines_from (line_of c s proposal) (length c.setup.market.thermal) (renewable_names c.setup.market)) k x
+  renewable_stands xs n items inside at same place =
+      let counts = counts_of case c.setup.market e in
+      let thermal = counts.thermal in
+      stands (line_of c s proposal) (renewable_names c.setup.market) (length c.setup.market.thermal) k (length xs) number n.name.items name x
+      (renewable_named case c.setup.market xs k n e items inside at) same (omega (arith, place, thermal)) is
+
+  pub bid_stands : (xs : List NamedBid) (n : NamedBid) → xs ≡ case.bids.items → k < length xs → n ≡ get_or xs k n → name ≡ n.name.items → length case.thermal.items + length case.flat.items + k ≡ number →
+      Stands (lines_from (line_of c s proposal) (length c.setup.market.thermal + length c.setup.market.flat) (bid_names c.setup.market)) k x
+  bid_stands xs n items inside at same place =
+      let counts = counts_of case c.setup.market e in
+      let thermal = counts.thermal in
+      let flat = counts.flat in
+      stands (line_of c s proposal) (bid_names c.setup.market) (length c.setup.market.thermal + length c.setup.market.flat) k (length xs) number n.name.items name x
+      (bid_named case c.setup.market xs k n e items inside at) same (omega (arith, place, thermal, flat)) is
 
 pub thermal_lines : (line : ℕ → List ℕ → UnitLine) (case : Case) (m : Market) (first k : ℕ) → market_of case ≡ m → length case.thermal.items ≤ k → length (lines_from line first (thermal_names m)) ≤ k
 thermal_lines line case m first k e h =
@@ -144,7 +173,7 @@ pub record IsChosen (c : Content) : Type 0 where
 
 pub one_is_chosen : (c : Content) → 1 ≤ c.setup.budget → 1 ≤ c.setup.ahead → has_finished c ≡ true → IsChosen c
 one_is_chosen c budget ahead finished =
-    let some = has_row c.setup c.events ahead budget finished in
+    let some = has_row c ahead budget finished in
     let place = chosen_is (own_rows c) some in
     let inside = place.1 in
     let at = place.2 in
@@ -161,20 +190,54 @@ value_is c rows k row e h is at =
     get_or-map (λ (r : Proposal). r.value) (own_rows c) k (proposal_of row) (pos 0) (omega (arith, long, count, h)) in
     sym (ap (λ (n : ℕ). int_at (map (λ (r : Proposal). r.value) (own_rows c)) n) (sym at) ∙ there ∙ ap (λ (r : Proposal). r.value) (row_value rows (own_rows c) k row e h is))
 
--- cost and value are far from the limits of 128 bits
-pub gap_within : (c : Content) (rows : List Row) (k : ℕ) (row : Row) → IsMarket c.setup.market → IsFeasiblePlan c.setup.market c.setup.plan → c.setup.cost ≡ plan_cost c.setup.market c.setup.plan →
-    1 ≤ c.setup.ahead → IsLegalHistory c.setup c.events → map proposal_of rows ≡ own_rows c → k < length rows → row ≡ get_or rows k row →
-    IsWithin 100000000000000000000000 (c.setup.cost -ℤ row.value)
-gap_within c rows k row limits feasible cost ahead legal e h is =
+-- the value of the chosen row, and the cost above it, are far from the limits of 128 bits
+pub record IsChosenRow (c : Content) (row : Row) : Type 0 where
+  pub value_is : row.value ≡ value_of c
+  pub value_fits : FitsSigned w128 row.value
+  pub gap_fits : FitsSigned w128 (c.setup.cost -ℤ row.value)
+
+pub chosen_row : (c : Content) (rows : List Row) (row : Row) → IsSetup c.setup → IsLegalHistory c.setup c.events → has_finished c ≡ true → map proposal_of rows ≡ own_rows c →
+    row ≡ get_or rows (chosen_of c - 1) row → IsChosenRow c row
+chosen_row c rows row setup legal finished e is =
     let m = c.setup.market in
+    let k = chosen_of c - 1 in
     let long = ap length e in
     let count = length-map rows proposal_of in
-    let right = (rows_fit c.setup c.events ahead legal).each k (proposal_of row) (omega (arith, long, count, h)) in
-    let dual : IsDualValue m (prices_of row.prices) row.value = subst (λ (r : Proposal). IsDualValue m r.prices r.value) (row_value rows (own_rows c) k row e h is) right.value in
-    let value = value_within m (prices_of row.prices) row.value limits row.prices.valid dual in
-    let costs = subst (IsWithin 43100000000000000000000) (sym cost) (plan_cost_within m c.setup.plan limits feasible) in
+    let one = one_is_chosen c setup.some_budget setup.some_ahead finished in
+    let first = one.first in
+    let last = one.last in
+    let inside : k < length rows = omega (arith, long, count, first, last) in
+    let right = (rows_fit c.setup c.events setup.some_ahead legal).each k (proposal_of row) (omega (arith, long, count, inside)) in
+    let dual : IsDualValue m (prices_of row.prices) row.value = subst (λ (r : Proposal). IsDualValue m r.prices r.value) (row_value rows (own_rows c) k row e inside is) right.value in
+    let value = value_within m (prices_of row.prices) row.value setup.market row.prices.valid dual in
+    let costs = subst (IsWithin 43100000000000000000000) (sym setup.cost) (plan_cost_within m c.setup.plan setup.market setup.feasible) in
     let a = costs.at_least in
     let b = costs.at_most in
     let d = value.at_least in
     let f = value.at_most in
-    record { at_least = omega (arith, ints, a, f); at_most = omega (arith, ints, b, d) }
+    record {
+      value_is = value_is c rows k row e inside is refl;
+      value_fits = fits_within w128 44000000000000000000000 row.value value (omega arith);
+      gap_fits = fits_within w128 100000000000000000000000 (c.setup.cost -ℤ row.value) (record { at_least = omega (arith, ints, a, f); at_most = omega (arith, ints, b, d) }) (omega arith);
+    }
+
+-- the same of what the program reads of it
+pub record IsTold (c : Content) (cost : ℤ) (row : Row) : Type 0 where
+  pub value : to_z w128 (of_z w128 row.value) ≡ value_of c
+  pub gap_fits : FitsSigned w128 (to_z w128 (of_z w128 cost) -ℤ to_z w128 (of_z w128 row.value))
+  pub gap : to_z w128 (of_z w128 (to_z w128 (of_z w128 cost) -ℤ to_z w128 (of_z w128 row.value))) ≡ c.setup.cost -ℤ value_of c
+
+pub choice_told : (c : Content) (rows : List Row) (row : Row) (chosen : ℕ) (cost : ℤ) → IsSetup c.setup → IsLegalHistory c.setup c.events → has_finished c ≡ true → map proposal_of rows ≡ own_rows c →
+    chosen ≡ chosen_of c → row ≡ get_or rows (chosen - 1) row → cost ≡ c.setup.cost → FitsSigned w128 cost → IsTold c cost (get_or rows (chosen - 1) row)
+choice_told c rows row chosen cost setup legal finished e at is same fits =
+    let there = chosen_row c rows row setup legal finished e (is ∙ ap (λ (n : ℕ). get_or rows (n - 1) row) at) in
+    let a = to_z-of_z w128 cost fits in
+    let b = to_z-of_z w128 row.value there.value_fits in
+    let gap_is : to_z w128 (of_z w128 cost) -ℤ to_z w128 (of_z w128 row.value) ≡ c.setup.cost -ℤ row.value = λ i. (a ∙ same) i -ℤ b i in
+    let gap_fits = subst (FitsSigned w128) (sym gap_is) there.gap_fits in
+    let told : IsTold c cost row = record {
+      value = b ∙ there.value_is;
+      gap_fits = gap_fits;
+      gap = to_z-of_z w128 (to_z w128 (of_z w128 cost) -ℤ to_z w128 (of_z w128 row.value)) gap_fits ∙ gap_is ∙ ap (λ (z : ℤ). c.setup.cost -ℤ z) there.value_is;
+    } in
+    subst (IsTold c cost) is told

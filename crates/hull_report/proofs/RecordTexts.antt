@@ -3,7 +3,7 @@ use Rattle.std.proofs.Common.{◌≡◌, ℕ, zero, suc, ◌+◌, ◌<◌, ◌�
 use Rattle.std.proofs.lemmas.List.{append-nil, take_all, get_or-map, length-map}
 use Rattle.std.specs.List.{flat_map}
 use Rattle.hull_io.specs.Edge.{Gains, FallsShort, Writes}
-use Rattle.hull_io.proofs.GrownLemmas.{gains_then, short_then, short_more, writes_exit}
+use Rattle.hull_io.proofs.GrownLemmas.{gains_then, short_then, short_more, writes_then, writes_exit}
 use Rattle.uc_model.specs.declared.cases.Row.{Row}
 use Rattle.uc_model.specs.PlainCases.{proposal_of}
 use Rattle.uc_model.specs.PriceRule.{Proposal}
@@ -52,14 +52,22 @@ module _ {S : Type 0} {held : S → Option (List ℕ)} {faults : S → ℕ} wher
       let text = sym (rest.1 ∙ ap (λ t. t ++ rest.0) more) in
       writes_exit (rows_text 1 (map proposal_of rows)) r e (subst (FallsShort held faults last old new) text (short_more _ rest.0 (short_then _ _ q p)))
 
-  -- all of them
-  pub all_rows : {E : Type 0} {last : Option ℕ} {old new : S} (rows : List Row) (i : ℕ) → length rows ≤ i → Gains held faults old new (rows_text 1 (take i (map proposal_of rows)))
-      → (let r : Result (Unit {0}) E = Ok tt in Writes held faults last old new r (rows_text 1 (map proposal_of rows)))
-  all_rows {old = old} {new = new} rows i h p =
-      let long = length-map rows proposal_of in
-      record { ok = subst (λ (rs : List Proposal). Gains held faults old new (rows_text 1 rs)) (take_all i (map proposal_of rows) (omega (arith, long, h))) p; err = tt }
-
+  -- all lines of a list
   pub all_items : {X E : Type 0} {last : Option ℕ} {old new : S} (f : X → List ℕ) (xs : List X) (i : ℕ) → length xs ≤ i → Gains held faults old new (flat_map f (take i xs))
       → (let r : Result (Unit {0}) E = Ok tt in Writes held faults last old new r (flat_map f xs))
   all_items {X = X} {old = old} {new = new} f xs i h p =
       record { ok = subst (λ (ys : List X). Gains held faults old new (flat_map f ys)) (take_all i xs h) p; err = tt }
+
+  -- ---- three texts, one after another: the exits of two `?`, and the last writer
+
+  pub first_of_three : {E : Type 0} {last : Option ℕ} {old new : S} (a b d : List ℕ) (r : Result (Unit {0}) E) → IsErr r
+      → FallsShort held faults last old new a → Writes held faults last old new r (a ++ b ++ d)
+  first_of_three a b d r e h = writes_exit (a ++ b ++ d) r e (short_more (a ++ b) d (short_more a b h))
+
+  pub second_of_three : {E : Type 0} {last : Option ℕ} {old mid new : S} (a b d : List ℕ) (r : Result (Unit {0}) E) → IsErr r
+      → FallsShort held faults last mid new b → Gains held faults old mid a → Writes held faults last old new r (a ++ b ++ d)
+  second_of_three a b d r e h p = writes_exit (a ++ b ++ d) r e (short_more (a ++ b) d (short_then a b h p))
+
+  pub last_of_three : {E : Type 0} {last : Option ℕ} {old mid later new : S} (a b d : List ℕ) (r : Result (Unit {0}) E)
+      → Writes held faults last later new r d → Gains held faults mid later b → Gains held faults old mid a → Writes held faults last old new r (a ++ b ++ d)
+  last_of_three a b d r w q p = writes_then (a ++ b) d r w (gains_then a b q p)

@@ -1,5 +1,5 @@
 -- What the record of a finished board tells of its chosen row.
-use Rattle.std.proofs.Common.{◌≡◌, ℕ, zero, suc, ◌+◌, ◌-◌, ◌<◌, ◌≤◌, int_lt, if◌then◌else◌, ℤ, pos, ◌-ℤ◌, true, Some, Option, List, [], ◌∷◌, ◌++◌, map, length, get_or, slice_get, refl, sym, ap, ◌∙◌, subst, arith, length-append}
+use Rattle.std.proofs.Common.{◌≡◌, ℕ, zero, suc, ◌+◌, ◌-◌, ◌<◌, ◌≤◌, int_lt, if◌then◌else◌, ℤ, pos, ◌-ℤ◌, Some, Option, List, ◌++◌, map, length, slice_get, refl, sym, ap, ◌∙◌, subst, arith, length-append}
 use Rattle.std.proofs.lemmas.List.{length-map, get_or-map}
 use Rattle.std.proofs.lemmas.Simd.{map-map}
 use Rattle.std.proofs.lemmas.Option.{slice_get_within, get_or_from_slice_get}
@@ -21,9 +21,9 @@ use Rattle.uc_model.specs.Sums.{int_at}
 use Rattle.uc_model.specs.Systems.{IsFeasiblePlan, IsSettled}
 use Rattle.uplift_settle.proofs.Lists.{length_same, length-zip_with}
 use Rattle.uplift_settle.specs.declared.settlement.Settlement.{Settlement}
-use Rattle.hull_report.specs.ReportText.{UnitLine, Report}
-use Rattle.hull_report.specs.RightReport.{unit_lines, HasNames, IsRightReport}
-use Rattle.hull_report.specs.RecordReport.{thermal_names, renewable_names, bid_names, told_line, line_of, lines_from, chosen_of, value_of, report_of, IsSettledRecord, RecordReportIsRight}
+use Rattle.hull_report.specs.ReportText.{UnitLine}
+use Rattle.hull_report.specs.RightReport.{unit_lines, HasNames}
+use Rattle.hull_report.specs.RecordReport.{thermal_names, renewable_names, bid_names, line_of, lines_from, chosen_of, report_of, IsSettledRecord, RecordReportIsRight}
 use Rattle.hull_report.proofs.UnitLines.{lines_append, lines_map, lines_names, lines_zip, zip_each, numbers_at}
 
 -- ---- a row is chosen
@@ -204,7 +204,7 @@ are_lines c s row k h is =
 
 lines_are : (c : Content) (s : Settlement) (row : Proposal) → IsSettledRecord c s row → AreLines c s row (unit_lines (report_of c s))
 lines_are c s row h =
-    let some = has_row c.setup c.events h.some_ahead h.some_budget h.finished in
+    let some = has_row c h.some_ahead h.some_budget h.finished in
     let place = chosen_is (own_rows c) some in
     let at : chosen_of c - 1 ≡ place.0 = omega (arith, place.2) in
     let is = subst (λ (n : ℕ). slice_get (own_rows c) n ≡ Some row) at h.chosen in

@@ -1,5 +1,5 @@
 -- What holds of every report. The law is the clause of a public function of its name.
-use Rattle.std.specs.Prelude.{◌≡◌, ℕ, ◌<◌, ◌^◌, ℤ, unsigned_abs, true, ◌++◌, length, replicate}
+use Rattle.std.specs.Prelude.{◌≡◌, ℕ, ◌<◌, ◌^◌, ℤ, unsigned_abs, true, length, replicate}
 use Rattle.std.specs.List.{All}
 use Rattle.uc_model.specs.PriceRule.{Proposal}
 use Rattle.hull_report.specs.ReportText.{UnitLine, Report, report_text}
