@@ -10,7 +10,7 @@ use Rattle.uc_model.specs.Sums.{int_at}
 use Rattle.uc_model.proofs.IntLaws.{sum_below-same}
 use Rattle.spell_run.specs.Entries.{IsOnFromTo, IsSameOutside}
 use Rattle.spell_run.specs.Spells.{spell_first, IsBestDispatch, HasNoDispatch, over_min, IsDispatch, IsLeastSpell, net_cost, spell_cost}
-use Rattle.unit_program.specs.Spells.{IsSpell, IsGap, start_cost_after}
+use Rattle.unit_program.specs.Spells.{IsSpell, start_cost_after}
 use Rattle.unit_program.specs.declared.table.Ended.{Ended}
 use Rattle.unit_program.specs.Tables.{IsEnded, IsStarted, IsEntryAfter}
 use Rattle.unit_program.specs.Rows.{row_at, cost_at, first_at, IsFilled}

@@ -1,5 +1,5 @@
 -- The commitment rules hold exactly where each step keeps them.
-use Rattle.std.proofs.Common.{◌≡◌, ℕ, zero, suc, ◌+◌, ◌<◌, ◌≤◌, Bool, true, false, not, cond, ◌&&◌, List, length, refl, ap, ◌∙◌, arith}
+use Rattle.std.proofs.Common.{◌≡◌, ℕ, zero, suc, ◌+◌, ◌<◌, ◌≤◌, Bool, true, false, not, cond, ◌&&◌, length, refl, ap, ◌∙◌, arith}
 use Rattle.std.specs.Prelude.{IsTrue, IsFalse}
 use Rattle.uc_model.specs.declared.units.Mark.TheVariants.{MustOff, MustOn}
 use Rattle.uc_model.specs.Data.{ThermalUnit, Schedule}

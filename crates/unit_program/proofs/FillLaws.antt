@@ -1,15 +1,14 @@
 -- The table before any start, and with one more first period.
-use Rattle.std.proofs.Common.{◌≡◌, ℕ, zero, suc, ◌-◌, ◌*◌, ◌+◌, ◌<◌, ◌≤◌, Bool, true, false, cond, inl, inr, Option, Some, None, ℤ, pos, ◌+ℤ◌, ◌≤ℤ◌, List, length, refl, sym, ap, ◌∙◌, subst, get_or-set_same, get_or-set_other, arith}
+use Rattle.std.proofs.Common.{◌≡◌, ℕ, zero, suc, ◌+◌, ◌<◌, ◌≤◌, Bool, true, false, cond, inl, inr, Option, Some, None, ℤ, pos, ◌+ℤ◌, List, length, refl, sym, ap, ◌∙◌, subst, get_or-set_same, get_or-set_other, arith}
 use Rattle.std.specs.Prelude.{IsTrue, IsFalse, MatchOption, slice_set}
 use Rattle.std.specs.Option.{option_map}
 use Rattle.std.proofs.lemmas.Int.{ints}
-use Rattle.std.proofs.lemmas.Bool.{cases_lt}
 use Rattle.uc_model.specs.Data.{ThermalUnit, PriceLists}
 use Rattle.spell_run.specs.Spells.{IsSpellAnswer}
 use Rattle.unit_program.specs.declared.table.Ended.{Ended}
-use Rattle.unit_program.specs.Spells.{IsSpell, IsGap, StopsAtOnce, off_time}
+use Rattle.unit_program.specs.Spells.{IsSpell, StopsAtOnce, off_time}
 use Rattle.unit_program.specs.Tables.{HasAtMost, IsEntryAfter, IsEntry, IsLeastEntry, IsTable, IsUpdate}
-use Rattle.unit_program.specs.Rows.{row_at, cost_at, first_at, before_at, AreWithin, IsWithinTimes, IsFilled, IsAdded}
+use Rattle.unit_program.specs.Rows.{row_at, cost_at, first_at, before_at, AreWithin, IsFilled, IsAdded}
 use Rattle.unit_program.proofs.RowLaws.{cost_from, cost-is, first-is, before-is}
 use Rattle.unit_program.proofs.TableLaws.{table_none, table_skip, table_more, at_once_some, at_once_none}
 

@@ -1,15 +1,15 @@
 -- Every feasible schedule is a list of spells: from the last period back, by the run or the time off that a period is in.
-use Rattle.std.proofs.Common.{◌≡◌, ℕ, zero, suc, ◌<◌, ◌≤◌, true, false, inl, inr, List, [], ◌∷◌, length, refl, sym, ap, ◌∙◌, subst, arith}
+use Rattle.std.proofs.Common.{◌≡◌, ℕ, zero, suc, ◌<◌, ◌≤◌, inl, inr, List, [], ◌∷◌, length, refl, subst, arith}
 use Rattle.std.specs.Prelude.{IsTrue, IsFalse}
 use Rattle.std.proofs.lemmas.Bool.{cases_lt}
 use Rattle.uc_model.specs.Data.{ThermalUnit, PriceLists, Schedule}
-use Rattle.uc_model.specs.Schedules.{on_in, IsThermalFeasible, KeepsDispatch}
-use Rattle.unit_program.specs.Steps.{IsStep, time_up}
-use Rattle.unit_program.specs.Spells.{on_time, IsOffRun, IsGap}
-use Rattle.unit_program.specs.Lists.{Run, HasSpell, IsOffFrom, AreSpells, IsListOfSpells, SchedulesAreSpells}
+use Rattle.uc_model.specs.Schedules.{on_in, KeepsDispatch}
+use Rattle.unit_program.specs.Steps.{IsStep}
+use Rattle.unit_program.specs.Spells.{IsOffRun, IsGap}
+use Rattle.unit_program.specs.Lists.{Run, HasSpell, AreSpells, IsListOfSpells, SchedulesAreSpells}
 use Rattle.unit_program.proofs.CommitLaws.{steps_from_rules}
-use Rattle.unit_program.proofs.SpellLaws.{IsRun, dispatch_of_run, not_must_off, not_must_on, runs_must}
-use Rattle.unit_program.proofs.ShapeLaws.{IsOffAfter, IsOnSince, Shape, shape_of}
+use Rattle.unit_program.proofs.SpellLaws.{dispatch_of_run, not_must_off, not_must_on, runs_must}
+use Rattle.unit_program.proofs.ShapeLaws.{IsOffAfter, IsOnSince, shape_of}
 
 -- no price is looked at
 abbrev free : PriceLists
@@ -68,13 +68,13 @@ module _ (g : ThermalUnit) (s : Schedule) (dispatch : KeepsDispatch g s) (steps 
               let start : IsTrue (on_in g s (suc k)) = subst (λ (t : ℕ). IsTrue (on_in g s t)) is (since.1.run.on f (omega arith) order) in
               let gap = gap_of entered.0 k off (omega (arith, order, low, is)) start in
               let rest = spells_to n entered.0 (omega (arith, back, order, is, near)) (omega (arith, back, order, is, low)) off.on
-                  (λ last_on inside. elim (cases_lt entered.0 k) [
-                    | inl less ↦ off.off (suc entered.0) (omega arith) (omega (arith, less))
-                    | inr same ↦
-                        let z : k ≡ entered.0 = omega (arith, same, back) in
-                        let last_off : IsFalse (on_in g s entered.0) = subst (λ (t : ℕ). IsFalse (on_in g s t)) z off.here in
-                        cc
-                  ]) in
+              (λ last_on inside. elim (cases_lt entered.0 k) [
+                | inl less ↦ off.off (suc entered.0) (omega arith) (omega (arith, less))
+                | inr same ↦
+                    let z : k ≡ entered.0 = omega (arith, same, back) in
+                    let last_off : IsFalse (on_in g s entered.0) = subst (λ (t : ℕ). IsFalse (on_in g s t)) z off.here in
+                    cc
+              ]) in
               (record { first = f; last = l } ∷ rest.0, (refl, spell, inr (k, is, (entered.0, gap, off.off, rest.1))))
         ] refl
   ]
@@ -93,13 +93,15 @@ module _ (g : ThermalUnit) (s : Schedule) (dispatch : KeepsDispatch g s) (steps 
             (r.0, record { last = l; spells = r.1; rest = off_run_of l end off.1 (omega arith); off = off.1.off })
         | inl since ↦
             let order = since.1.run.order in
-            let r = spells_to (suc end) end (omega arith) (omega arith) (λ one. since.1.run.on end order (omega arith)) (λ last_on inside. absurd (omega (arith, inside))) in
-            (r.0, record {
-              last = end;
-              spells = r.1;
-              rest = record { order = omega arith; must_run = λ _. omega arith; marks = λ t above until mark. absurd (omega (arith, above, until)) };
-              off = λ t above until. absurd (omega (arith, above, until));
-            })
+            let r = spells_to (suc end) end (omega arith) (omega arith) (λ one. since.1.run.on end order (omega arith)) (λ last_on inside. absurd (omega (arith, inside))) in (
+              r.0,
+              record {
+                last = end;
+                spells = r.1;
+                rest = record { order = omega arith; must_run = λ _. omega arith; marks = λ t above until mark. absurd (omega (arith, above, until)) };
+                off = λ t above until. absurd (omega (arith, above, until));
+              },
+            )
       ]
 
 pub schedules_are_spells : SchedulesAreSpells

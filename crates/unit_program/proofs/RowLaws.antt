@@ -1,5 +1,5 @@
 -- Rows of the table, and one of them written.
-use Rattle.std.proofs.Common.{◌≡◌, ◌≢◌, ℕ, ◌<◌, Option, Some, None, ℤ, ◌≤ℤ◌, List, length, refl, sym, ap, ◌∙◌, get_or-set_same, arith}
+use Rattle.std.proofs.Common.{◌≡◌, ℕ, ◌<◌, Option, Some, None, ℤ, ◌≤ℤ◌, List, length, refl, ap, ◌∙◌, get_or-set_same, arith}
 use Rattle.std.specs.Prelude.{slice_set}
 use Rattle.std.specs.Option.{option_map, option_map_or}
 use Rattle.std.proofs.lemmas.Int.{ints}

@@ -1,7 +1,8 @@
 -- The spells from one first period on, as far as the window goes.
-use Rattle.std.proofs.Common.{◌≡◌, ℕ, zero, suc, ◌<◌, ◌≤◌, true, false, ltb, inl, Option, None, ℤ, ◌+ℤ◌, List, length, refl, sym, subst, arith}
+use Rattle.std.proofs.Common.{◌≡◌, ℕ, zero, suc, ◌<◌, ◌≤◌, true, false, ltb, inl, inr, Option, None, ℤ, List, length, refl, subst, arith}
 use Rattle.std.specs.Prelude.{IsTrue, max}
 use Rattle.std.proofs.lemmas.Int.{ints}
+use Rattle.std.proofs.lemmas.Bool.{cases_lt}
 use Rattle.std.proofs.lemmas.Bool.Decides.{nat_tests}
 use Rattle.uc_model.specs.Data.{ThermalUnit, PriceLists}
 use Rattle.spell_run.specs.Entries.{entry_of}
@@ -9,6 +10,10 @@ use Rattle.spell_run.specs.Spells.{spell_first, IsSpellAnswer}
 use Rattle.unit_program.specs.declared.table.Ended.{Ended}
 use Rattle.unit_program.specs.Spells.{on_time, IsSpell}
 use Rattle.unit_program.specs.Rows.{net_at, AreWithin, IsAdded, IsOpenUntil}
+
+on_time-at_most : (g : ThermalUnit) (first last until : ℕ) → last ≤ until → on_time g first last ≤ on_time g first until
+on_time-at_most g zero last until low = omega (arith, low)
+on_time-at_most g (suc k) last until low = omega (arith, low)
 
 module _ (g : ThermalUnit) (periods first until : ℕ) (horizon : periods ≡ length g.window) (span : IsOpenUntil g first until) where
   pub spell_within : (last : ℕ) → (first ≡ 0 → IsTrue g.on0) → first ≤ last → last ≤ until → (last < periods → g.min_up ≤ on_time g first last) → IsSpell g periods first last
@@ -29,22 +34,31 @@ module _ (g : ThermalUnit) (periods first until : ℕ) (horizon : periods ≡ le
       let from = span.from in
       spell.marks (suc until) (omega arith) from (omega (arith, above)) (span.next (omega (arith, above, end, horizon)))
 
-  -- so none is added where the first one has such a mark
-  pub added_none : (π : PriceLists) (before : ℕ) (e : ℤ) (rows : List (Option Ended)) → periods ≡ length π.energy → until < max first 1 → AreWithin rows → IsAdded g π first before e rows rows
-  added_none π before e rows is none within = record {
-    nets = λ _. None;
-    none = refl;
-    right = λ l one spell. absurd (no_spell_after l
-        (let order = spell.order in omega (arith, none, one, order))
-        (subst (λ (n : ℕ). IsSpell g n first l) (sym is) spell));
-    update = record {
-      same = λ l low. refl;
-      keeps = λ l v here. (v, here, omega (arith, ints));
-      adds = λ l c spell net. cc;
-      sound = λ l v here. inl (here, refl, refl);
-    };
-    within = within;
-  }
+  -- where the longest one is too short, each is
+  pub none_long_enough : until < periods → on_time g first until < g.min_up → (last : ℕ) → IsSpell g periods first last → ⊥
+  none_long_enough inside short last spell = elim (cases_lt until last) [
+    | inl above ↦ no_spell_after last above spell
+    | inr low ↦
+        let longer = on_time-at_most g first last until low in
+        let up = spell.min_up (omega (arith, low, inside)) in
+        omega (arith, longer, up, short)
+  ]
+
+-- so no spell is added
+pub added_none : (g : ThermalUnit) (π : PriceLists) (first before : ℕ) (e : ℤ) (rows : List (Option Ended)) → ((last : ℕ) → 1 ≤ last → IsSpell g (length π.energy) first last → ⊥) → AreWithin rows
+    → IsAdded g π first before e rows rows
+added_none g π first before e rows no_spell within = record {
+  nets = λ _. None;
+  none = refl;
+  right = λ l one spell. absurd (no_spell l one spell);
+  update = record {
+    same = λ l low. refl;
+    keeps = λ l v here. (v, here, omega (arith, ints));
+    adds = λ l c spell net. cc;
+    sound = λ l v here. inl (here, refl, refl);
+  };
+  within = within;
+}
 
 -- the first period as definitions count it is the one that the program counts
 pub spell_first-is : (first n : ℕ) → n ≡ max first 1 → spell_first (ltb 0 first) n ≡ first

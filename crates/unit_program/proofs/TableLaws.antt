@@ -1,5 +1,5 @@
 -- One more first period in the table.
-use Rattle.std.proofs.Common.{◌≡◌, ℕ, suc, ◌<◌, ◌≤◌, inl, inr, true, false, Option, Some, None, ℤ, pos, ◌+ℤ◌, ◌≤ℤ◌, List, [], refl, sym, ap, ◌∙◌, subst, arith}
+use Rattle.std.proofs.Common.{◌≡◌, ℕ, suc, ◌<◌, ◌≤◌, inl, inr, true, false, Option, Some, None, ℤ, pos, ◌+ℤ◌, ◌≤ℤ◌, [], refl, sym, ap, ◌∙◌, subst, arith}
 use Rattle.std.specs.Prelude.{IsTrue, IsFalse}
 use Rattle.std.proofs.lemmas.Int.{ints}
 use Rattle.std.proofs.lemmas.Bool.{cases_lt}

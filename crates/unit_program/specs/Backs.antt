@@ -1,4 +1,4 @@
--- What the way back writes, period by period.
+-- What the way back writes, period by period (this project's profile).
 use Rattle.std.specs.Prelude.{◌≡◌, ℕ, ◌<◌, ◌≤◌, ℤ, pos, IsTrue, IsFalse, List, length, ◌⊎◌, Option, Some}
 use Rattle.uc_model.specs.Data.{ThermalUnit, PriceLists, Schedule}
 use Rattle.uc_model.specs.Schedules.{on_in, power_in, reserve_in}

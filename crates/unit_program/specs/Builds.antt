@@ -1,5 +1,6 @@
--- A schedule that is right up to a last on period: what the way back has at hand after each spell that it writes.
-use Rattle.std.specs.Prelude.{◌≡◌, ℕ, suc, ◌<◌, ◌≤◌, ℤ, pos, ◌+ℤ◌, ◌-ℤ◌, ◌≤ℤ◌, IsTrue, IsFalse, true, false, List}
+-- A schedule that keeps the rules of pglib-uc up to a last on period: what the way back has at hand after each spell
+-- that it writes.
+use Rattle.std.specs.Prelude.{◌≡◌, ℕ, suc, ◌<◌, ◌≤◌, ℤ, pos, ◌+ℤ◌, ◌-ℤ◌, ◌≤ℤ◌, IsTrue, IsFalse, true, false}
 use Rattle.std.specs.Int.{int_min}
 use Rattle.uc_model.specs.Data.{ThermalUnit, PriceLists, Schedule}
 use Rattle.uc_model.specs.Schedules.{on_in, above_min, above_with_reserve, reserve_in, power_in, starts_in, stops_in, cap_of}

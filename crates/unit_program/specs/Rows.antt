@@ -1,5 +1,6 @@
--- How the program's lists are read: the table's row of a last on period at that place, and costs of spells by last period.
-use Rattle.std.specs.Prelude.{◌≡◌, ℕ, zero, suc, ◌+◌, ◌*◌, ◌<◌, ◌≤◌, ◌⊎◌, ℤ, pos, neg_ℤ, ◌+ℤ◌, ◌≤ℤ◌, List, length, slice_index_or, Option, Some, None}
+-- How the program's lists are read: the table's row of a last on period at that place, and costs of spells by last period
+-- (this project's profile).
+use Rattle.std.specs.Prelude.{◌≡◌, ℕ, zero, suc, ◌+◌, ◌*◌, ◌<◌, ◌≤◌, ℤ, pos, neg_ℤ, ◌≤ℤ◌, List, length, slice_index_or, Option, Some, None}
 use Rattle.std.specs.Option.{option_map, option_map_or}
 use Rattle.uc_model.specs.declared.units.Mark.TheVariants.{MustOff}
 use Rattle.uc_model.specs.Data.{ThermalUnit, PriceLists}

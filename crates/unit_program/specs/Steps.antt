@@ -1,4 +1,5 @@
--- The commitment rules by single steps from a period to the next, with the time that the unit has been on or off.
+-- The commitment rules of pglib-uc, and of the window (this project's profile), by single steps from a period to the
+-- next, with the time that the unit has been on or off.
 use Rattle.std.specs.Prelude.{◌≡◌, ℕ, zero, suc, ◌≤◌, Bool, if◌then◌else◌, IsTrue, IsFalse}
 use Rattle.uc_model.specs.declared.units.Mark.TheVariants.{MustOff, MustOn}
 use Rattle.uc_model.specs.Data.{ThermalUnit, Schedule}

@@ -1,7 +1,7 @@
--- The table of the program over spells, and what it keeps.
+-- The table of the program over spells, and what it keeps (this project's profile).
 -- ends l is the least cost of all up to period l, where the unit is on in l (or l is 0) and, before the last
 -- period of the horizon, off after it; none where nothing ends so.
-use Rattle.std.specs.Prelude.{◌≡◌, ℕ, suc, ◌<◌, ℤ, pos, ◌+ℤ◌, ◌≤ℤ◌, IsFalse, List, Option, Some, ◌⊎◌}
+use Rattle.std.specs.Prelude.{◌≡◌, ℕ, suc, ◌<◌, ℤ, pos, ◌+ℤ◌, ◌≤ℤ◌, IsFalse, Option, Some, ◌⊎◌}
 use Rattle.uc_model.specs.Data.{ThermalUnit, PriceLists, Schedule}
 use Rattle.spell_run.specs.Spells.{IsDispatch, IsLeastSpell, spell_cost}
 use Rattle.unit_program.specs.Spells.{IsSpell, IsOffRun, IsGap, start_cost_after}

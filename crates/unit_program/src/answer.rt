@@ -17,7 +17,7 @@ use crate::commitment::off_from;
 use crate::program::fill;
 use crate::table::{Ended, Entry, Table, lesser};
 use cost_curve::curves::curve_of;
-use shape_law::{Cells, Shape};
+use shape_law::Shape;
 use spell_run::{Spell, SpellCosts, spell_best};
 use std::alloc::{AllocError, Global};
 use uc_model::units::{Answered, Curve, Prices, Unit};

@@ -1,7 +1,5 @@
 //! Which spells and times off the commitment rules allow. Periods count from 1; 0 is the state before the horizon.
-ghost use Rattle.std.specs.Prelude.{◌≡◌, ℕ, ◌+◌, ◌<◌, ◌≤◌, ◌+ℤ◌, ◌≤ℤ◌, IsTrue, IsFalse, length, suc};
-ghost use Rattle.std.specs.Int.{int_min};
-ghost use Rattle.uc_model.specs.Limits.{IsPower};
+ghost use Rattle.std.specs.Prelude.{◌≡◌, ℕ, ◌+◌, ◌<◌, ◌≤◌, IsTrue, IsFalse, length, suc};
 ghost use Rattle.uc_model.specs.PlainUnits.{thermal_of};
 ghost use Rattle.uc_model.specs.Schedules.{mark_in};
 ghost use Rattle.unit_program.specs.Rows.{IsOpenUntil};
@@ -101,56 +99,16 @@ pub fn may_end(unit: &Unit, periods: u32, first: u32, last: u32) -> bool
     last >= periods || time_on(unit, first, last) >= u64::from(unit.min_up)
 }
 
-fn power_sum(a: i64, b: i64) -> i64
-    requires a { IsPower a }
-    requires b { IsPower b }
-    ensures { result ≡ a +ℤ b }
-{
-    a + b
-}
-
-fn is_at_most(a: i64, b: i64) -> bool
-    ensures yes { IsTrue result → a ≤ℤ b }
-    ensures no { IsFalse result → a ≤ℤ b → ⊥ }
-{
-    a <= b
-}
-
-fn is_cap_kept(unit: &Unit) -> bool
-    ensures yes { IsTrue result → unit.now.power0 ≤ℤ int_min unit.now.stop_limit unit.now.max_power }
-    ensures no { IsFalse result → unit.now.power0 ≤ℤ int_min unit.now.stop_limit unit.now.max_power → ⊥ }
-{
-    is_at_most(unit.power0, unit.stop_limit.min(unit.max_power))
-}
-
-fn is_fall_kept(unit: &Unit) -> bool
-    ensures yes { IsTrue result → unit.now.power0 ≤ℤ (unit.now.ramp_down +ℤ unit.now.min_power) }
-    ensures no { IsFalse result → unit.now.power0 ≤ℤ (unit.now.ramp_down +ℤ unit.now.min_power) → ⊥ }
-{
-    is_at_most(unit.power0, power_sum(unit.ramp_down, unit.min_power))
-}
-
-fn is_rise_kept(unit: &Unit) -> bool
-    ensures yes { IsTrue result → unit.now.min_power ≤ℤ (unit.now.ramp_up +ℤ unit.now.power0) }
-    ensures no { IsFalse result → unit.now.min_power ≤ℤ (unit.now.ramp_up +ℤ unit.now.power0) → ⊥ }
-{
-    is_at_most(unit.min_power, power_sum(unit.ramp_up, unit.power0))
-}
-
 /// Whether a unit that is on before the horizon may stop in period 1, as far as its output goes.
 pub fn stops_at_once(unit: &Unit) -> bool
     ensures yes { IsTrue result → StopsAtOnce (thermal_of unit.now) }
     ensures no { IsFalse result → StopsAtOnce (thermal_of unit.now) → ⊥ }
 {
-    let cap = is_cap_kept(unit);
-    let fall = is_fall_kept(unit);
-    let rise = is_rise_kept(unit);
-    all_three(cap, fall, rise)
-}
-
-fn all_three(a: bool, b: bool, c: bool) -> bool
-    ensures yes { IsTrue result → IsTrue a × IsTrue b × IsTrue c }
-    ensures no { IsFalse result → IsTrue a → IsTrue b → IsTrue c → ⊥ }
-{
-    a && b && c
+    if unit.power0 > unit.stop_limit.min(unit.max_power) {
+        return false;
+    }
+    if unit.power0 > unit.min_power + unit.ramp_down {
+        return false;
+    }
+    unit.min_power <= unit.power0 + unit.ramp_up
 }

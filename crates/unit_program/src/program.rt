@@ -6,7 +6,7 @@ ghost use Rattle.uc_model.specs.PlainUnits.{thermal_of, prices_of};
 ghost use Rattle.unit_program.specs.Rows.{row_at, IsWithinTimes, AreWithin, IsAdded, IsFilled};
 ghost use Rattle.unit_program.specs.Spells.{StopsAtOnce};
 
-use crate::commitment::{open_until, stops_at_once};
+use crate::commitment::{may_end, open_until, stops_at_once};
 use crate::table::{Ended, Entry, Table, add_spells, least_entry};
 use shape_law::Shape;
 use spell_run::{SpellCosts, spell_costs};
@@ -14,7 +14,7 @@ use std::alloc::AllocError;
 use uc_model::units::{Curve, Prices, Unit};
 
 // Adds the spells that begin with period `first` after an entry, with one pass over the prices if one may begin there.
-fn add_beginning<S: Shape>(
+fn add_spells_from<S: Shape>(
     home: &mut S::Home,
     unit: &Unit,
     curve: &Curve,
@@ -39,20 +39,16 @@ fn add_beginning<S: Shape>(
     ensures frame { Frame S.Home.cell_list S.is_in S.numbers [] [] home.old home.new }
     ensures sure { S.Home.counts ≡ true → S.Home.sure home.new ≡ S.Home.sure home.old }
 {
+    let periods = prices.energy.len() as u32;
     let until = open_until(unit, first);
     if until < first.max(1) {
         return Ok(());
     }
-    spell_costs::<S>(
-        home,
-        unit,
-        curve,
-        prices,
-        first.max(1),
-        first > 0,
-        costs,
-    )?;
-    let periods = prices.energy.len() as u32;
+    // Where the longest spell is too short to stop, each is.
+    if !may_end(unit, periods, first, until) {
+        return Ok(());
+    }
+    spell_costs::<S>(home, unit, curve, prices, first.max(1), first > 0, costs)?;
     add_spells(
         unit,
         periods,
@@ -89,9 +85,7 @@ fn add_first<S: Shape>(
     ensures sure { S.Home.counts ≡ true → S.Home.sure home.new ≡ S.Home.sure home.old }
 {
     match least_entry(unit, table.as_slice(), first - 1) {
-        Some(entry) => add_beginning::<S>(
-            home, unit, curve, prices, first, &entry, costs, table,
-        ),
+        Some(entry) => add_spells_from::<S>(home, unit, curve, prices, first, &entry, costs, table),
         None => Ok(()),
     }
 }
@@ -147,7 +141,7 @@ fn begin<S: Shape>(
         return Ok(());
     }
     let entry = Entry { cost: 0, last: 0 };
-    add_beginning::<S>(home, unit, curve, prices, 0, &entry, costs, table)
+    add_spells_from::<S>(home, unit, curve, prices, 0, &entry, costs, table)
 }
 
 /// Fills the table for a unit at prices over its horizon of T periods. `curve` is the curve of the unit's points; `costs`
@@ -172,16 +166,9 @@ pub fn fill<S: Shape>(
     ensures sure { S.Home.counts ≡ true → S.Home.sure home.new ≡ S.Home.sure home.old }
 {
     begin::<S>(home, unit, curve, prices, costs, table)?;
-    for place in 0..prices.energy.len() {
-        add_first::<S>(
-            home,
-            unit,
-            curve,
-            prices,
-            place as u32 + 1,
-            costs,
-            table,
-        )?;
+    let periods = prices.energy.len() as u32;
+    for first in 1..periods + 1 {
+        add_first::<S>(home, unit, curve, prices, first, costs, table)?;
     }
     Ok(())
 }

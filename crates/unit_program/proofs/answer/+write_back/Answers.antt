@@ -1,8 +1,6 @@
-use Rattle.std.proofs.Common.{◌≡◌, ◌<◌, ◌≤◌, ℕ, ℤ, Some, length, sym, ◌∙◌, arith}
+use Rattle.std.proofs.Common.{◌≡◌, ◌<◌, ◌≤◌, length, ◌∙◌, arith}
 use Rattle.std.proofs.lemmas.Result.{on_ok_weaker}
 use Rattle.uc_model.specs.PlainUnits.{thermal_of, prices_of, schedule_of}
-use Rattle.unit_program.specs.Rows.{cost_at}
-use Rattle.unit_program.specs.Builds.{IsIdle}
 use Rattle.unit_program.proofs.BackLaws.{back_off, row_back}
 use Rattle.unit_program.proofs.answer.+write_back.Goals as goal
 

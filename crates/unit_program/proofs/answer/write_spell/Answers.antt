@@ -1,6 +1,5 @@
-use Rattle.std.proofs.Common.{◌≡◌, length, Some, None, refl}
+use Rattle.std.proofs.Common.{length}
 use Rattle.uc_model.specs.PlainUnits.{thermal_of, prices_of, schedule_of}
-use Rattle.unit_program.specs.Backs.{IsWritten}
 use Rattle.unit_program.proofs.BackLaws.{written_none, written_answer}
 use Rattle.unit_program.proofs.answer.write_spell.Goals as goal
 

@@ -1,8 +1,6 @@
-use Rattle.std.proofs.Common.{◌≡◌, ℕ, suc, ◌-◌, arith, subst}
+use Rattle.std.proofs.Common.{◌≡◌, suc, ◌-◌, arith}
 use Rattle.std.proofs.lemmas.Result.{on_ok_weaker}
 use Rattle.uc_model.specs.PlainUnits.{thermal_of, prices_of}
-use Rattle.unit_program.specs.Tables.{IsEntry, IsLeastEntry}
-use Rattle.unit_program.specs.Rows.{cost_at}
 use Rattle.unit_program.proofs.FillLaws.{filled_skip, filled_more}
 use Rattle.unit_program.proofs.program.add_first.Goals as goal
 
@@ -10,9 +8,9 @@ pub returns-in-Some-clause-filled : goal.returns-in-Some-clause-filled
 returns-in-Some-clause-filled g c =
     let z : suc (c.args.first - 1) ≡ c.args.first = omega arith in
     let least = rw (c.as_slice.ensures, z) at c.in-Some.ensures.some in
-    on_ok_weaker c.add_beginning.result
-    (λ added. filled_more (thermal_of c.args.unit.now) (prices_of c.args.prices.now) c.args.first c.args.table.now.items c.requires.filled c.in-Some.entry.last c.in-Some.entry.cost c.add_beginning.new.table.items c.requires.one least added)
-    c.add_beginning.ensures.added
+    on_ok_weaker c.add_spells_from.result
+    (λ added. filled_more (thermal_of c.args.unit.now) (prices_of c.args.prices.now) c.args.first c.args.table.now.items c.requires.filled c.in-Some.entry.last c.in-Some.entry.cost c.add_spells_from.new.table.items c.requires.one least added)
+    c.add_spells_from.ensures.added
 
 pub returns-in-None-clause-filled : goal.returns-in-None-clause-filled
 returns-in-None-clause-filled g c =

@@ -1,12 +1,12 @@
-use Rattle.std.proofs.Common.{◌≡◌, [], length, true, suc}
+use Rattle.std.proofs.Common.{◌≡◌, [], length, true}
 use Rattle.shape_law.specs.Cell.{Frame}
 use Rattle.uc_model.specs.PlainUnits.{thermal_of, prices_of}
 use Rattle.unit_program.specs.Rows.{IsFilled}
 use Rattle.unit_program.proofs.program.fill.Given as goal
 
-abbrev pub invariant-loop-place : goal.invariant-loop-place
-invariant-loop-place g l = record {
-  filled : IsFilled (thermal_of l.unit) (prices_of l.prices) (suc l.place) l.table.items;
+abbrev pub invariant-loop-first : goal.invariant-loop-first
+invariant-loop-first g l = record {
+  filled : IsFilled (thermal_of l.unit) (prices_of l.prices) l.first l.table.items;
   costs_length : length l.costs.entries.items ≡ length l.fn.costs.entries.items;
   table_length : length l.table.items ≡ length l.fn.table.items;
   frame : Frame g.S.Home.Cells.cell_list g.S.Shape.is_in g.S.Shape.numbers [] [] l.fn.home l.home;

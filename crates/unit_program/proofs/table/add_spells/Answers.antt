@@ -1,10 +1,9 @@
-use Rattle.std.proofs.Common.{rules, ◌≡◌, ℕ, suc, ◌+◌, ◌-◌, ◌*◌, ◌<◌, ◌≤◌, Some, ◌+ℤ◌, length, refl, sym, ◌∙◌, arith, to_z, of_z}
+use Rattle.std.proofs.Common.{rules, ◌≡◌, ◌+◌, ◌*◌, ◌≤◌, ◌+ℤ◌, refl, ◌∙◌, arith, to_z, of_z}
 use Rattle.std.proofs.lemmas.Int.{ints, to_z-of_z}
 use Rattle.std.specs.Prelude.{FitsSigned}
 use Rattle.std.specs.Int.{w64}
 use Rattle.uc_model.specs.PlainUnits.{thermal_of}
 use Rattle.unit_program.specs.Rows.{net_at, IsWithinTimes}
-use Rattle.unit_program.specs.Spells.{IsSpell}
 use Rattle.unit_program.proofs.UpdateLaws.{update_skip, update_more, update_all}
 use Rattle.unit_program.proofs.SpanLaws.{spell_within, no_spell_after}
 use Rattle.unit_program.proofs.table.add_spells.Goals as goal
