@@ -5,3 +5,4 @@ pub mod PlanShapes
 pub mod RoundLaws
 pub mod SettleLaws
 pub mod WordSizes
+pub mod WriteLaws

@@ -4,5 +4,5 @@ pub mod Ladder
 pub mod AnswerTexts
 pub mod Inputs
 pub mod Ends
-pub mod Runs
 pub mod Rounds
+pub mod Runs

@@ -14,6 +14,8 @@ use Rattle.uc_model.specs.Runs.{Fits}
 use Rattle.uc_model.specs.Schedules.{IsFeasible}
 use Rattle.uc_model.specs.TaskRoom.{IsTaskFor}
 use Rattle.hull_report.specs.RecordReport.{IsSettledRecord}
+use Rattle.board_core.specs.Boards.{setup_for}
+use Rattle.hull_engine.specs.declared.input.RunInput.{RunInput}
 use Rattle.hull_engine.specs.declared.run.Run.{Run}
 use Rattle.hull_engine.specs.declared.run.Done.{Done}
 
@@ -44,6 +46,10 @@ pub record IsOpened (b : Setup) (r : Run) : Type 0 where
   pub setup : r.board.setup ≡ b
   pub events : r.board.events ≡ []
   pub room : HasRoom b r
+
+-- what the run of an input is for: one caller
+abbrev pub setup_of : RunInput → Setup
+setup_of run = setup_for run.input.case run.input.plan run.input.cost run.budget run.ahead 1
 
 -- a run that has ended: its record is finished and settled at the chosen prices
 pub record IsEnded (b : Setup) (d : Done) : Type 0 where

@@ -9,10 +9,12 @@ use Rattle.hull_engine.specs.declared.answers.Answer.{Answer}
 use Rattle.hull_engine.specs.declared.answers.Answer.TheVariants as answers
 use Rattle.hull_engine.specs.declared.end.End.{End}
 use Rattle.hull_engine.specs.declared.end.End.TheVariants.{Done, Cut, Refused}
-use Rattle.hull_engine.specs.Ladder.{Accepted, Check}
+use Rattle.board_history.specs.Board.{Setup}
+use Rattle.hull_engine.specs.Ladder.{PlannedCase, Accepted, Check, Price, Try}
 use Rattle.hull_engine.specs.AnswerTexts.{IsAnswerText}
 use Rattle.hull_engine.specs.Ends.{Tries, status_of}
 use Rattle.hull_engine.specs.Inputs.{planned_of}
+use Rattle.hull_engine.specs.Rounds.{IsEnded}
 
 abbrev pub end_status : End → ℕ
 end_status Done = 0
@@ -24,8 +26,19 @@ abbrev pub is_refusal : ℕ → Bool
 is_refusal n = n == 1 || n == 3 || n == 4 || n == 5 || n == 8
 
 -- what an answer answers
+abbrev pub planned_in : Setup → PlannedCase
+planned_in b = record { market = b.market; plan = b.plan; cost = b.cost }
+
 abbrev pub answered_of : Answer → Accepted
 answered_of (answers.Check input) = Check (planned_of input)
+answered_of (answers.Price done) = Price (planned_in done.closed.setup) done.closed.setup.budget done.closed.setup.ahead
+answered_of (answers.Try number done) = Try number (planned_in done.closed.setup) done.closed.setup.budget done.closed.setup.ahead
+
+-- a run that is answered has ended
+abbrev pub IsAnswered : Answer → Type 0
+IsAnswered (answers.Check input) = ⊤
+IsAnswered (answers.Price done) = IsEnded done.closed.setup done
+IsAnswered (answers.Try number done) = IsEnded done.closed.setup done
 
 -- what was to be done is answered, or memory ran out
 abbrev pub Performs : Accepted → Result Answer TopFault → Type 0

@@ -65,6 +65,6 @@ pub fn hull_run<F: Shelf, S: Sink>(
         → MatchDue due (λ _. (result ≡ 0) ⊎ (result ≡ 7)) (λ fault. (result ≡ status_of fault) ⊎ (result ≡ 7)) }
 {
     let answer = answer_words(alloc, words, shelf);
-    let end = finish(&answer, out);
+    let end = finish(answer, out);
     end.status()
 }
