@@ -1,6 +1,7 @@
 pub mod Advances
 pub mod Claims
 pub mod Costs
+pub mod Entries
 pub mod Flat
 pub mod Fronts
 pub mod Halts

@@ -2,7 +2,7 @@
 use Rattle.std.proofs.Common.{◌≡◌, ℕ, zero, suc, ◌+◌, ◌<◌, Some, None, List, [], ◌∷◌, ◌++◌, map, length, get_or, refl, sym, ap, ◌∙◌, subst, arith, length-append}
 use Rattle.std.proofs.lemmas.List.{length-map, get_or-map}
 use Rattle.std.proofs.lemmas.List.Elements.{All-append, All-map}
-use Rattle.std.specs.List.{All}
+use Rattle.std.specs.List.{All, AllZip}
 use Rattle.std.specs.Prelude.{slice_get}
 use Rattle.board_history.proofs.UnitBounds.{IsLimited}
 use Rattle.uc_model.specs.Data.{AnyUnit, Thermal, Flat, Bid, NamedThermalUnit, NamedRenewableUnit, NamedBidUnit, Market, units}
@@ -70,3 +70,10 @@ units_limited m h =
     (All-map IsLimited (λ (n : NamedThermalUnit). Thermal n.unit) m.thermal (λ k d lt. (h.thermal k d lt).0))
     (All-map IsLimited (λ (n : NamedRenewableUnit). Flat n.unit) m.flat (λ k d lt. (h.flat k d lt).0)))
     (All-map IsLimited (λ (n : NamedBidUnit). Bid n.unit) m.bids (λ k d lt. (h.bids k d lt).0))
+
+-- the item that goes with another
+pub partner : {X Y : Type 0} (R : X → Y → Type 0) (xs : List X) (ys : List Y) (i : ℕ) (x : X) → AllZip R xs ys → slice_get xs i ≡ Some x → (y : Y) × R x y
+partner R [] ys i x z e = (cc)
+partner R (a ∷ xs) [] i x z e = absurd z
+partner {X} {Y} R (a ∷ xs) (b ∷ ys) zero x z e = let s : a ≡ x = (cc) in (b, subst (λ (v : X). R v b) s z.0)
+partner R (a ∷ xs) (b ∷ ys) (suc i) x z e = partner R xs ys i x z.1 e
