@@ -1,5 +1,6 @@
 pub mod NameLemmas
 pub mod PieceLemmas
+mod NumeralLaws
 mod ReadBack
 mod ReadLines
 mod ReadReport
@@ -9,3 +10,4 @@ mod Sizes
 mod RecordTexts
 mod RecordLines
 mod WholeReports
+mod RightForm

@@ -1,15 +1,11 @@
 -- A text is read back from the left: a part of it ends at a byte that the part doesn't hold.
-use Rattle.std.proofs.Common.{◌≡◌, ℕ, suc, ◌<◌, ◌≤◌, ◌/◌, ◌%◌, ℤ, pos, negsuc, Bool, true, false, nat_lt, ◌==◌, List, [], ◌∷◌, ◌++◌, refl, sym, ap, ◌∙◌, subst, arith, append_assoc, decimal}
-use Rattle.std.specs.Fmt.{signed_decimal}
-use Rattle.std.specs.List.{All, flat_map}
-use Rattle.std.specs.Str.Parse.{AllDigits, digits_value}
+use Rattle.std.proofs.Common.{◌≡◌, ℕ, suc, ◌<◌, ◌≤◌, ◌/◌, ◌%◌, ℤ, pos, negsuc, Bool, true, false, nat_lt, ◌==◌, List, [], ◌∷◌, ◌++◌, refl, sym, ap, ◌∙◌, subst, arith, append_assoc}
+use Rattle.std.specs.List.{flat_map}
 use Rattle.std.proofs.lemmas.Bool.Decides.{nat_tests}
-use Rattle.std.proofs.lemmas.Fmt.{decimal_is_IsNumeral_wide}
 use Rattle.std.proofs.lemmas.List.{append_cancel_left}
-use Rattle.std.proofs.lemmas.List.Elements.{All-head, All-tail}
-use Rattle.std.proofs.lemmas.Str.Parse.{tells_digits}
-use Rattle.hull_report.specs.Laws.{IsCount, IsAmount}
+use Rattle.hull_report.specs.Numerals.{numeral, signed_numeral}
 use Rattle.hull_report.specs.Parts.{hex_of, stands_as_is, escaped, spaced_flags}
+use Rattle.hull_report.proofs.NumeralLaws.{AreDigits, numeral_digits, numeral_same}
 use Rattle.hull_report.proofs.NameLemmas.{escaped-plain, escaped-control, escaped-behind}
 
 -- texts that begin with different bytes
@@ -40,36 +36,33 @@ words_end (c ∷ x) (d ∷ y) u v p q m n e =
     let r = words_end x y u v p.1 q.1 m n tail in
     (ap (λ z. z ∷ x) head ∙ ap (λ zs. d ∷ zs) r.0, r.1)
 
-digits_word : (ds : List ℕ) → AllDigits 10 ds → IsWord ds
+digits_word : (ds : List ℕ) → AreDigits ds → IsWord ds
 digits_word [] h = tt
-digits_word (c ∷ cs) h = let p = tells_digits.parts c cs h in let range = p.0 in (omega arith, digits_word cs p.1)
+digits_word (c ∷ cs) h = let low = h.0 in (omega arith, digits_word cs h.1)
 
-decimal_digits : (n : ℕ) → IsCount n → AllDigits 10 (decimal n)
-decimal_digits n h = (decimal_is_IsNumeral_wide n h).0.1
+numeral_word : (n : ℕ) → IsWord (numeral n)
+numeral_word n = digits_word (numeral n) (numeral_digits n)
 
-decimal_word : (n : ℕ) → IsCount n → IsWord (decimal n)
-decimal_word n h = digits_word (decimal n) (decimal_digits n h)
-
-pub read_count : (m n : ℕ) (u v : List ℕ) → IsCount m → IsCount n → Ends u → Ends v → decimal m ++ u ≡ decimal n ++ v → (m ≡ n) × (u ≡ v)
-read_count m n u v hm hn p q e =
-    let r = words_end (decimal m) (decimal n) u v (decimal_word m hm) (decimal_word n hn) p q e in
-    (sym (decimal_is_IsNumeral_wide m hm).1 ∙ ap (digits_value 10) r.0 ∙ (decimal_is_IsNumeral_wide n hn).1, r.1)
+pub read_count : (m n : ℕ) (u v : List ℕ) → Ends u → Ends v → numeral m ++ u ≡ numeral n ++ v → (m ≡ n) × (u ≡ v)
+read_count m n u v p q e =
+    let r = words_end (numeral m) (numeral n) u v (numeral_word m) (numeral_word n) p q e in
+    (numeral_same m n r.0, r.1)
 
 -- digits aren't a sign and digits
-no_sign : (n : ℕ) (ds u v : List ℕ) → IsCount n → IsWord ds → Ends u → Ends v → decimal n ++ u ≡ 45 ∷ (ds ++ v) → ⊥
-no_sign n ds u v h w p q e =
-    let r = words_end (decimal n) (45 ∷ ds) u v (decimal_word n h) (omega arith, w) p q e in
-    let d = tells_digits.parts 45 ds (subst (AllDigits 10) r.0 (decimal_digits n h)) in
-    let range = d.0 in
+no_sign : (m n : ℕ) (u v : List ℕ) → Ends u → Ends v → numeral m ++ u ≡ 45 ∷ (numeral n ++ v) → ⊥
+no_sign m n u v p q e =
+    let r = words_end (numeral m) (45 ∷ numeral n) u v (numeral_word m) (omega arith, numeral_word n) p q e in
+    let d = subst AreDigits r.0 (numeral_digits m) in
+    let low = d.0 in
     omega arith
 
-pub read_amount : (y z : ℤ) (u v : List ℕ) → IsAmount y → IsAmount z → Ends u → Ends v → signed_decimal y ++ u ≡ signed_decimal z ++ v → (y ≡ z) × (u ≡ v)
-read_amount (pos m) (pos n) u v hm hn p q e = let r = read_count m n u v hm hn p q e in (ap pos r.0, r.1)
-read_amount (pos m) (negsuc n) u v hm hn p q e = absurd (no_sign m (decimal (suc n)) u v hm (decimal_word (suc n) hn) p q e)
-read_amount (negsuc m) (pos n) u v hm hn p q e = absurd (no_sign n (decimal (suc m)) v u hn (decimal_word (suc m) hm) q p (sym e))
-read_amount (negsuc m) (negsuc n) u v hm hn p q e =
-    let tail : decimal (suc m) ++ u ≡ decimal (suc n) ++ v = cc in
-    let r = read_count (suc m) (suc n) u v hm hn p q tail in
+pub read_amount : (y z : ℤ) (u v : List ℕ) → Ends u → Ends v → signed_numeral y ++ u ≡ signed_numeral z ++ v → (y ≡ z) × (u ≡ v)
+read_amount (pos m) (pos n) u v p q e = let r = read_count m n u v p q e in (ap pos r.0, r.1)
+read_amount (pos m) (negsuc n) u v p q e = absurd (no_sign m (suc n) u v p q e)
+read_amount (negsuc m) (pos n) u v p q e = absurd (no_sign n (suc m) v u q p (sym e))
+read_amount (negsuc m) (negsuc n) u v p q e =
+    let tail : numeral (suc m) ++ u ≡ numeral (suc n) ++ v = cc in
+    let r = read_count (suc m) (suc n) u v p q tail in
     let same : m ≡ n = omega (arith, r.0) in
     (ap negsuc same, r.1)
 
@@ -80,21 +73,21 @@ ends_list f [] u = refl
 ends_list f (x ∷ xs) u = refl
 
 -- what such a number stands for is told by its text, whatever comes behind it
-abbrev pub Reads : {A : Type 0} → (A → Type 0) → (A → List ℕ) → Type 0
-Reads {A} P f = (x y : A) (u v : List ℕ) → P x → P y → Ends u → Ends v → f x ++ u ≡ f y ++ v → (x ≡ y) × (u ≡ v)
+abbrev pub Reads : {A : Type 0} → (A → List ℕ) → Type 0
+Reads {A} f = (x y : A) (u v : List ℕ) → Ends u → Ends v → f x ++ u ≡ f y ++ v → (x ≡ y) × (u ≡ v)
 
-pub read_list : {A : Type 0} (P : A → Type 0) (f : A → List ℕ) → Reads P f → (xs ys : List A) (u v : List ℕ) → All P xs → All P ys
+pub read_list : {A : Type 0} (f : A → List ℕ) → Reads f → (xs ys : List A) (u v : List ℕ)
     → flat_map (λ x. 32 ∷ f x) xs ++ 10 ∷ u ≡ flat_map (λ x. 32 ∷ f x) ys ++ 10 ∷ v → (xs ≡ ys) × (u ≡ v)
-read_list P f reads [] [] u v p q e = let tail : u ≡ v = cc in (refl, tail)
-read_list P f reads [] (y ∷ ys) u v p q e = absurd (bytes_apart 10 32 _ _ refl e)
-read_list P f reads (x ∷ xs) [] u v p q e = absurd (bytes_apart 32 10 _ _ refl e)
-read_list P f reads (x ∷ xs) (y ∷ ys) u v p q e =
+read_list f reads [] [] u v e = let tail : u ≡ v = cc in (refl, tail)
+read_list f reads [] (y ∷ ys) u v e = absurd (bytes_apart 10 32 _ _ refl e)
+read_list f reads (x ∷ xs) [] u v e = absurd (bytes_apart 32 10 _ _ refl e)
+read_list f reads (x ∷ xs) (y ∷ ys) u v e =
     let rest_x = flat_map (λ x. 32 ∷ f x) xs in
     let rest_y = flat_map (λ x. 32 ∷ f x) ys in
     let tail : (f x ++ rest_x) ++ 10 ∷ u ≡ (f y ++ rest_y) ++ 10 ∷ v = cc in
     let nested = sym (append_assoc (f x) rest_x (10 ∷ u)) ∙ tail ∙ append_assoc (f y) rest_y (10 ∷ v) in
-    let first = reads x y _ _ (All-head P x xs p) (All-head P y ys q) (ends_list f xs u) (ends_list f ys v) nested in
-    let rest = read_list P f reads xs ys u v (All-tail P x xs p) (All-tail P y ys q) first.1 in
+    let first = reads x y _ _ (ends_list f xs u) (ends_list f ys v) nested in
+    let rest = read_list f reads xs ys u v first.1 in
     (ap (λ z. z ∷ xs) first.0 ∙ ap (λ zs. y ∷ zs) rest.0, rest.1)
 
 pub read_flags : (xs ys : List Bool) (u v : List ℕ) → spaced_flags xs ++ 10 ∷ u ≡ spaced_flags ys ++ 10 ∷ v → (xs ≡ ys) × (u ≡ v)
@@ -206,19 +199,19 @@ read_name (x ∷ xs) (y ∷ ys) u v e =
 
 -- ---- the same behind a word
 
-pub after_count : (p : List ℕ) (m n : ℕ) (u v : List ℕ) → IsCount m → IsCount n → p ++ (decimal m ++ u) ≡ p ++ (decimal n ++ v) → Ends u → Ends v → (m ≡ n) × (u ≡ v)
-after_count p m n u v hm hn e a b = read_count m n u v hm hn a b (append_cancel_left p (decimal m ++ u) (decimal n ++ v) e)
+pub after_count : (p : List ℕ) (m n : ℕ) (u v : List ℕ) → p ++ (numeral m ++ u) ≡ p ++ (numeral n ++ v) → Ends u → Ends v → (m ≡ n) × (u ≡ v)
+after_count p m n u v e a b = read_count m n u v a b (append_cancel_left p (numeral m ++ u) (numeral n ++ v) e)
 
-pub after_amount : (p : List ℕ) (y z : ℤ) (u v : List ℕ) → IsAmount y → IsAmount z → p ++ (signed_decimal y ++ u) ≡ p ++ (signed_decimal z ++ v) → Ends u → Ends v → (y ≡ z) × (u ≡ v)
-after_amount p y z u v hy hz e a b = read_amount y z u v hy hz a b (append_cancel_left p (signed_decimal y ++ u) (signed_decimal z ++ v) e)
+pub after_amount : (p : List ℕ) (y z : ℤ) (u v : List ℕ) → p ++ (signed_numeral y ++ u) ≡ p ++ (signed_numeral z ++ v) → Ends u → Ends v → (y ≡ z) × (u ≡ v)
+after_amount p y z u v e a b = read_amount y z u v a b (append_cancel_left p (signed_numeral y ++ u) (signed_numeral z ++ v) e)
 
-pub after_amounts : (p : List ℕ) (xs ys : List ℤ) (u v : List ℕ) → All IsAmount xs → All IsAmount ys
-    → p ++ (flat_map (λ x. 32 ∷ signed_decimal x) xs ++ 10 ∷ u) ≡ p ++ (flat_map (λ x. 32 ∷ signed_decimal x) ys ++ 10 ∷ v) → (xs ≡ ys) × (u ≡ v)
-after_amounts p xs ys u v hx hy e = read_list IsAmount signed_decimal read_amount xs ys u v hx hy (append_cancel_left p _ _ e)
+pub after_amounts : (p : List ℕ) (xs ys : List ℤ) (u v : List ℕ)
+    → p ++ (flat_map (λ x. 32 ∷ signed_numeral x) xs ++ 10 ∷ u) ≡ p ++ (flat_map (λ x. 32 ∷ signed_numeral x) ys ++ 10 ∷ v) → (xs ≡ ys) × (u ≡ v)
+after_amounts p xs ys u v e = read_list signed_numeral read_amount xs ys u v (append_cancel_left p _ _ e)
 
-pub after_counts : (p : List ℕ) (xs ys : List ℕ) (u v : List ℕ) → All IsCount xs → All IsCount ys
-    → p ++ (flat_map (λ n. 32 ∷ decimal n) xs ++ 10 ∷ u) ≡ p ++ (flat_map (λ n. 32 ∷ decimal n) ys ++ 10 ∷ v) → (xs ≡ ys) × (u ≡ v)
-after_counts p xs ys u v hx hy e = read_list IsCount decimal read_count xs ys u v hx hy (append_cancel_left p _ _ e)
+pub after_counts : (p : List ℕ) (xs ys : List ℕ) (u v : List ℕ)
+    → p ++ (flat_map (λ n. 32 ∷ numeral n) xs ++ 10 ∷ u) ≡ p ++ (flat_map (λ n. 32 ∷ numeral n) ys ++ 10 ∷ v) → (xs ≡ ys) × (u ≡ v)
+after_counts p xs ys u v e = read_list numeral read_count xs ys u v (append_cancel_left p _ _ e)
 
 pub after_flags : (p : List ℕ) (xs ys : List Bool) (u v : List ℕ) → p ++ (spaced_flags xs ++ 10 ∷ u) ≡ p ++ (spaced_flags ys ++ 10 ∷ v) → (xs ≡ ys) × (u ≡ v)
 after_flags p xs ys u v e = read_flags xs ys u v (append_cancel_left p _ _ e)

@@ -5,7 +5,7 @@ use Rattle.std.proofs.lemmas.List.{append_cancel_left}
 use Rattle.std.proofs.lemmas.List.Elements.{All-head, All-tail}
 use Rattle.uc_model.specs.PriceRule.{Proposal}
 use Rattle.hull_report.specs.ReportText.{UnitLine, head_text, row_text, rows_text, chosen_text, thermal_text, flat_text, renewable_text, bid_text, foot_text}
-use Rattle.hull_report.specs.Laws.{IsCount, IsAmount, HasRowNumbers, HasLineNumbers, IsFlatLine}
+use Rattle.hull_report.specs.Laws.{IsFlatLine}
 use Rattle.hull_report.proofs.ReadBack.{bytes_apart, after_count, after_amount, after_amounts, after_counts, after_flags, after_name}
 
 -- the numbers of the first lines
@@ -17,57 +17,48 @@ pub record AreHeads (p g b a n : ℕ) (c : ℤ) (q h d e m : ℕ) (k : ℤ) : Ty
   pub cost : c ≡ k
   pub proposals : n ≡ m
 
-pub record AreHeadNumbers (p g b a n : ℕ) (c : ℤ) : Type 0 where
-  pub periods : IsCount p
-  pub units : IsCount g
-  pub budget : IsCount b
-  pub ahead : IsCount a
-  pub cost : IsAmount c
-  pub proposals : IsCount n
-
-pub read_head : (p g b a n : ℕ) (c : ℤ) (q h d e m : ℕ) (k : ℤ) (u v : List ℕ) → AreHeadNumbers p g b a n c → AreHeadNumbers q h d e m k
-    → head_text p g b a c n ++ u ≡ head_text q h d e k m ++ v → AreHeads p g b a n c q h d e m k × (u ≡ v)
+pub read_head : (p g b a n : ℕ) (c : ℤ) (q h d e m : ℕ) (k : ℤ) (u v : List ℕ) → head_text p g b a c n ++ u ≡ head_text q h d e k m ++ v → AreHeads p g b a n c q h d e m k × (u ≡ v)
 unfolding head_text
-read_head p g b a n c q h d e m k u v i j same =
+read_head p g b a n c q h d e m k u v same =
     let text = simp append_assoc at same in
-    let r0 = after_count (codes "hull-report 1\nperiods ") p q _ _ i.periods j.periods text refl refl in
-    let r1 = after_count (codes "\nunits ") g h _ _ i.units j.units r0.1 refl refl in
-    let r2 = after_count (codes "\nbudget ") b d _ _ i.budget j.budget r1.1 refl refl in
-    let r3 = after_count (codes "\nahead ") a e _ _ i.ahead j.ahead r2.1 refl refl in
-    let r4 = after_amount (codes "\ncost ") c k _ _ i.cost j.cost r3.1 refl refl in
-    let r5 = after_count (codes "\nproposals ") n m _ _ i.proposals j.proposals r4.1 refl refl in
+    let r0 = after_count (codes "hull-report 1\nperiods ") p q _ _ text refl refl in
+    let r1 = after_count (codes "\nunits ") g h _ _ r0.1 refl refl in
+    let r2 = after_count (codes "\nbudget ") b d _ _ r1.1 refl refl in
+    let r3 = after_count (codes "\nahead ") a e _ _ r2.1 refl refl in
+    let r4 = after_amount (codes "\ncost ") c k _ _ r3.1 refl refl in
+    let r5 = after_count (codes "\nproposals ") n m _ _ r4.1 refl refl in
     (record { periods = r0.0; units = r1.0; budget = r2.0; ahead = r3.0; cost = r4.0; proposals = r5.0 }, append_cancel_left (codes "\n") u v r5.1)
 
 -- ---- proposals
 
-read_row : (n : ℕ) (r s : Proposal) (u v : List ℕ) → HasRowNumbers r → HasRowNumbers s → row_text n r ++ u ≡ row_text n s ++ v → (r ≡ s) × (u ≡ v)
+read_row : (n : ℕ) (r s : Proposal) (u v : List ℕ) → row_text n r ++ u ≡ row_text n s ++ v → (r ≡ s) × (u ≡ v)
 unfolding row_text
-read_row n r s u v i j same =
+read_row n r s u v same =
     let text = simp append_assoc at (append_cancel_left (codes "proposal ") _ _ same) in
     let tail = append_cancel_left _ _ _ text in
-    let value = after_amount (codes " value ") r.value s.value _ _ i.value j.value tail refl refl in
-    let energy = after_amounts (codes "\nenergy") r.prices.energy s.prices.energy _ _ i.energy_prices j.energy_prices value.1 in
-    let reserve = after_amounts (codes "reserve") r.prices.reserve s.prices.reserve _ _ i.reserve_prices j.reserve_prices energy.1 in
-    let supplied = after_amounts (codes "supplied") r.supply s.supply _ _ i.supply j.supply reserve.1 in
-    let reserved = after_amounts (codes "reserved") r.reserve s.reserve u v i.reserve j.reserve supplied.1 in
+    let value = after_amount (codes " value ") r.value s.value _ _ tail refl refl in
+    let energy = after_amounts (codes "\nenergy") r.prices.energy s.prices.energy _ _ value.1 in
+    let reserve = after_amounts (codes "reserve") r.prices.reserve s.prices.reserve _ _ energy.1 in
+    let supplied = after_amounts (codes "supplied") r.supply s.supply _ _ reserve.1 in
+    let reserved = after_amounts (codes "reserved") r.reserve s.reserve u v supplied.1 in
     (λ i. record { prices = record { energy = energy.0 i; reserve = reserve.0 i }; value = value.0 i; supply = supplied.0 i; reserve = reserved.0 i }, reserved.1)
 
-pub read_rows : (n : ℕ) (rs ss : List Proposal) (u v : List ℕ) → length rs ≡ length ss → All HasRowNumbers rs → All HasRowNumbers ss → rows_text n rs ++ u ≡ rows_text n ss ++ v → (rs ≡ ss) × (u ≡ v)
-read_rows n [] [] u v l p q e = (refl, e)
-read_rows n [] (s ∷ ss) u v l p q e = absurd (omega arith)
-read_rows n (r ∷ rs) [] u v l p q e = absurd (omega arith)
-read_rows n (r ∷ rs) (s ∷ ss) u v l p q e =
+pub read_rows : (n : ℕ) (rs ss : List Proposal) (u v : List ℕ) → length rs ≡ length ss → rows_text n rs ++ u ≡ rows_text n ss ++ v → (rs ≡ ss) × (u ≡ v)
+read_rows n [] [] u v l e = (refl, e)
+read_rows n [] (s ∷ ss) u v l e = absurd (omega arith)
+read_rows n (r ∷ rs) [] u v l e = absurd (omega arith)
+read_rows n (r ∷ rs) (s ∷ ss) u v l e =
     let nested = sym (append_assoc (row_text n r) (rows_text (suc n) rs) u) ∙ e ∙ append_assoc (row_text n s) (rows_text (suc n) ss) v in
-    let first = read_row n r s _ _ (All-head HasRowNumbers r rs p) (All-head HasRowNumbers s ss q) nested in
-    let rest = read_rows (suc n) rs ss u v (omega arith) (All-tail HasRowNumbers r rs p) (All-tail HasRowNumbers s ss q) first.1 in
+    let first = read_row n r s _ _ nested in
+    let rest = read_rows (suc n) rs ss u v (omega arith) first.1 in
     (ap (λ z. z ∷ rs) first.0 ∙ ap (λ zs. s ∷ zs) rest.0, rest.1)
 
-pub read_chosen : (m n : ℕ) (y z : ℤ) (u v : List ℕ) → IsCount m → IsCount n → IsAmount y → IsAmount z → chosen_text m y ++ u ≡ chosen_text n z ++ v → (m ≡ n) × (y ≡ z) × (u ≡ v)
+pub read_chosen : (m n : ℕ) (y z : ℤ) (u v : List ℕ) → chosen_text m y ++ u ≡ chosen_text n z ++ v → (m ≡ n) × (y ≡ z) × (u ≡ v)
 unfolding chosen_text
-read_chosen m n y z u v hm hn hy hz same =
+read_chosen m n y z u v same =
     let text = simp append_assoc at same in
-    let number = after_count (codes "chosen ") m n _ _ hm hn text refl refl in
-    let value = after_amount (codes " value ") y z _ _ hy hz number.1 refl refl in
+    let number = after_count (codes "chosen ") m n _ _ text refl refl in
+    let value = after_amount (codes " value ") y z _ _ number.1 refl refl in
     (number.0, value.0, append_cancel_left (codes "\n") u v value.1)
 
 -- ---- units
@@ -98,17 +89,17 @@ read_lines P f p reads begins (l ∷ ls) (m ∷ ms) u v i j a b e =
     let rest = read_lines P f p reads begins ls ms u v (All-tail P l ls i) (All-tail P m ms j) a b first.1 in
     (ap (λ z. z ∷ ls) first.0 ∙ ap (λ zs. m ∷ zs) rest.0, rest.1)
 
-pub read_thermal : ReadsLine HasLineNumbers thermal_text
+pub read_thermal : ReadsLine (λ l. Unit {0}) thermal_text
 unfolding thermal_text
 read_thermal l m u v i j same =
     let text = simp append_assoc at same in
     let name = after_name (codes "unit thermal \"") l.name m.name _ _ text in
-    let earned = after_amount (codes " earned ") l.earned m.earned _ _ i.earned j.earned name.1 refl refl in
-    let scheduled = after_amount (codes " scheduled ") l.scheduled m.scheduled _ _ i.scheduled j.scheduled earned.1 refl refl in
-    let payment = after_amount (codes " payment ") l.payment m.payment _ _ i.payment j.payment scheduled.1 refl refl in
+    let earned = after_amount (codes " earned ") l.earned m.earned _ _ name.1 refl refl in
+    let scheduled = after_amount (codes " scheduled ") l.scheduled m.scheduled _ _ earned.1 refl refl in
+    let payment = after_amount (codes " payment ") l.payment m.payment _ _ scheduled.1 refl refl in
     let on = after_flags (codes "\non") l.response.on m.response.on _ _ payment.1 in
-    let power = after_counts (codes "power") l.response.power m.response.power _ _ i.power j.power on.1 in
-    let reserve = after_counts (codes "reserve") l.response.reserve m.response.reserve u v i.reserve j.reserve power.1 in (
+    let power = after_counts (codes "power") l.response.power m.response.power _ _ on.1 in
+    let reserve = after_counts (codes "reserve") l.response.reserve m.response.reserve u v power.1 in (
       λ i. record {
         name = name.0 i;
         earned = earned.0 i;
@@ -137,10 +128,10 @@ unfolding flat_text
 read_flat kind l m u v i j same =
     let text = simp append_assoc at same in
     let name = after_name [] l.name m.name _ _ (append_cancel_left (codes "\"") _ _ (append_cancel_left kind _ _ text)) in
-    let earned = after_amount (codes " earned ") l.earned m.earned _ _ i.numbers.earned j.numbers.earned name.1 refl refl in
-    let scheduled = after_amount (codes " scheduled ") l.scheduled m.scheduled _ _ i.numbers.scheduled j.numbers.scheduled earned.1 refl refl in
-    let payment = after_amount (codes " payment ") l.payment m.payment _ _ i.numbers.payment j.numbers.payment scheduled.1 refl refl in
-    let power = after_counts (codes "\npower") l.response.power m.response.power u v i.numbers.power j.numbers.power payment.1 in
+    let earned = after_amount (codes " earned ") l.earned m.earned _ _ name.1 refl refl in
+    let scheduled = after_amount (codes " scheduled ") l.scheduled m.scheduled _ _ earned.1 refl refl in
+    let payment = after_amount (codes " payment ") l.payment m.payment _ _ scheduled.1 refl refl in
+    let power = after_counts (codes "\npower") l.response.power m.response.power u v payment.1 in
     (flat_same l m i j name.0 earned.0 scheduled.0 payment.0 power.0, power.1)
 
 pub read_renewable : ReadsLine IsFlatLine renewable_text
@@ -184,10 +175,10 @@ flat_behind_thermal (r ∷ renewables) bids x y z = λ rest e. bytes_apart 114 1
 
 -- ---- the last lines
 
-pub read_foot : (x y z p q r : ℤ) → IsAmount x → IsAmount y → IsAmount z → IsAmount p → IsAmount q → IsAmount r → foot_text x y z ≡ foot_text p q r → (x ≡ p) × (y ≡ q) × (z ≡ r)
+pub read_foot : (x y z p q r : ℤ) → foot_text x y z ≡ foot_text p q r → (x ≡ p) × (y ≡ q) × (z ≡ r)
 unfolding foot_text
-read_foot x y z p q r hx hy hz hp hq hr same =
-    let surplus = after_amount (codes "surplus ") x p _ _ hx hp same refl refl in
-    let payments = after_amount (codes "\npayments ") y q _ _ hy hq surplus.1 refl refl in
-    let gap = after_amount (codes "\ngap ") z r _ _ hz hr payments.1 refl refl in
+read_foot x y z p q r same =
+    let surplus = after_amount (codes "surplus ") x p _ _ same refl refl in
+    let payments = after_amount (codes "\npayments ") y q _ _ surplus.1 refl refl in
+    let gap = after_amount (codes "\ngap ") z r _ _ payments.1 refl refl in
     (surplus.0, payments.0, gap.0)

@@ -2,11 +2,8 @@
 use Rattle.std.proofs.Common.{◌≡◌, ℕ, List, ◌++◌, length, codes, sym, ◌∙◌, append_assoc}
 use Rattle.std.specs.List.{flat_map}
 use Rattle.hull_report.specs.ReportText.{Report, head_text, rows_text, chosen_text, thermal_text, renewable_text, bid_text, foot_text, report_text}
-use Rattle.hull_report.specs.Laws.{HasLineNumbers, IsFlatLine, HasForm, TextDeterminesReport}
-use Rattle.hull_report.proofs.ReadLines.{AreHeadNumbers, read_head, read_rows, read_chosen, read_lines, read_thermal, read_renewable, read_bid, thermal_begins, renewable_begins, bid_begins, foot_behind_bids, bids_behind_renewables, flat_behind_thermal, read_foot}
-
-head_numbers : (r : Report) → HasForm r → AreHeadNumbers r.periods r.units r.budget r.ahead (length r.rows) r.cost
-head_numbers r h = record { periods = h.periods; units = h.units; budget = h.budget; ahead = h.ahead; cost = h.cost; proposals = h.proposals }
+use Rattle.hull_report.specs.Laws.{IsFlatLine, TextDeterminesReport}
+use Rattle.hull_report.proofs.ReadLines.{read_head, read_rows, read_chosen, read_lines, read_thermal, read_renewable, read_bid, thermal_begins, renewable_begins, bid_begins, foot_behind_bids, bids_behind_renewables, flat_behind_thermal, read_foot}
 
 -- what comes behind the first lines
 abbrev rest_text : Report → List ℕ
@@ -21,17 +18,17 @@ opened r = simp append_assoc
 
 pub text_determines : TextDeterminesReport
 text_determines a b h k same =
-    let head = read_head a.periods a.units a.budget a.ahead (length a.rows) a.cost b.periods b.units b.budget b.ahead (length b.rows) b.cost (rest_text a) (rest_text b) (head_numbers a h) (head_numbers b k)
+    let head = read_head a.periods a.units a.budget a.ahead (length a.rows) a.cost b.periods b.units b.budget b.ahead (length b.rows) b.cost (rest_text a) (rest_text b)
     (sym (opened a) ∙ same ∙ opened b) in
-    let rows = read_rows 1 a.rows b.rows _ _ head.0.proposals h.rows k.rows head.1 in
-    let chosen = read_chosen a.chosen b.chosen a.value b.value _ _ h.chosen k.chosen h.value k.value rows.1 in
-    let thermal = read_lines HasLineNumbers thermal_text (codes "unit thermal ") read_thermal thermal_begins a.thermal b.thermal _ _ h.thermal k.thermal
+    let rows = read_rows 1 a.rows b.rows _ _ head.0.proposals head.1 in
+    let chosen = read_chosen a.chosen b.chosen a.value b.value _ _ rows.1 in
+    let thermal = read_lines (λ l. Unit {0}) thermal_text (codes "unit thermal ") read_thermal thermal_begins a.thermal b.thermal _ _ (λ k d lt. tt) (λ k d lt. tt)
     (flat_behind_thermal a.renewable a.bids a.surplus a.payments a.gap) (flat_behind_thermal b.renewable b.bids b.surplus b.payments b.gap) chosen.2 in
     let renewable = read_lines IsFlatLine renewable_text (codes "unit renewable ") read_renewable renewable_begins a.renewable b.renewable _ _ h.renewable k.renewable
     (bids_behind_renewables a.bids a.surplus a.payments a.gap) (bids_behind_renewables b.bids b.surplus b.payments b.gap) thermal.1 in
     let bids = read_lines IsFlatLine bid_text (codes "unit bid ") read_bid bid_begins a.bids b.bids _ _ h.bids k.bids
     (foot_behind_bids a.surplus a.payments a.gap) (foot_behind_bids b.surplus b.payments b.gap) renewable.1 in
-    let foot = read_foot a.surplus a.payments a.gap b.surplus b.payments b.gap h.surplus h.payments h.gap k.surplus k.payments k.gap bids.1 in
+    let foot = read_foot a.surplus a.payments a.gap b.surplus b.payments b.gap bids.1 in
     λ i. record {
       periods = head.0.periods i;
       units = head.0.units i;

@@ -1,6 +1,6 @@
 -- Lists of lines that are made of names and numbers.
 use Rattle.std.proofs.Common.{◌≡◌, ℕ, zero, suc, ◌+◌, ◌<◌, ℤ, pos, Some, List, [], ◌∷◌, ◌++◌, map, length, get_or, slice_get, refl, ap, ◌∙◌, subst, arith}
-use Rattle.std.proofs.lemmas.List.{same_lists}
+use Rattle.std.proofs.lemmas.List.{get_or_default, same_lists}
 use Rattle.std.proofs.lemmas.List.FromFn.{length-map-range_with_len, get_or-map-range_with_len}
 use Rattle.std.specs.List.{AllZip, range_with_len}
 use Rattle.uc_model.specs.Data.{AnyUnit}
@@ -69,9 +69,4 @@ pub numbers_at : (xs : List ℤ) (n : ℕ) → length xs ≡ n → map (int_at x
 numbers_at xs n h =
     let long = length-map-range_with_len (int_at xs) 0 n in
     same_lists (map (int_at xs) (range_with_len 0 n)) xs (omega (arith, long, h)) (λ k d lt.
-    get_or-map-range_with_len (int_at xs) 0 n k k d (omega (arith, lt, long)) (omega arith) ∙ at_place xs k d (omega (arith, lt, long, h)))
-  where
-    at_place : (ys : List ℤ) (k : ℕ) (d : ℤ) → k < length ys → get_or ys k (pos 0) ≡ get_or ys k d
-    at_place [] k d lt = absurd (omega (arith, lt))
-    at_place (y ∷ ys) zero d lt = refl
-    at_place (y ∷ ys) (suc k) d lt = at_place ys k d (omega (arith, lt))
+    get_or-map-range_with_len (int_at xs) 0 n k k d (omega (arith, lt, long)) (omega arith) ∙ get_or_default xs k (pos 0) d (omega (arith, lt, long, h)))
