@@ -1,2 +1,5 @@
 pub mod Entries
+pub mod Frontier
+pub mod Laws
 pub mod Spells
+pub mod Steps

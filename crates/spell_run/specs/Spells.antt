@@ -55,6 +55,15 @@ pub record IsBestDispatch (g : ThermalUnit) (π : PriceLists) (periods first las
   pub cost : spell_cost g π first last d ≡ c
   pub least : (other : Schedule) → IsDispatch g periods first last other → c ≤ℤ spell_cost g π first last other
 
+-- and of those of cost c it is the first: by powers from the last period back, less power first, and then by reserves
+pub record IsFirstDispatch (g : ThermalUnit) (π : PriceLists) (periods first last : ℕ) (d : Schedule) (c : ℤ) : Type 0 where
+  pub power : (other : Schedule) → IsDispatch g periods first last other → spell_cost g π first last other ≡ c →
+      (k : ℕ) → first ≤ suc k → k < last → ((j : ℕ) → k < j → j < last → power_in other (suc j) ≡ power_in d (suc j)) →
+      power_in d (suc k) ≤ℤ power_in other (suc k)
+  pub reserve : (other : Schedule) → IsDispatch g periods first last other → spell_cost g π first last other ≡ c →
+      ((j : ℕ) → first ≤ suc j → j < last → power_in other (suc j) ≡ power_in d (suc j)) →
+      (k : ℕ) → first ≤ suc k → k < last → reserve_in d (suc k) ≤ℤ reserve_in other (suc k)
+
 -- c is the least net cost of a dispatch of the spell
 pub record IsLeastSpell (g : ThermalUnit) (π : PriceLists) (periods first last : ℕ) (c : ℤ) : Type 0 where
   pub dispatch : Schedule

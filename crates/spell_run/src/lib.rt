@@ -4,9 +4,13 @@
 //! period. One pass gives it for every last period; a pass back gives a dispatch of that cost.
 #![tactic(auto)]
 
-pub mod best;
-pub mod costs;
+mod best;
+mod costs;
+pub mod laws;
 pub mod spell;
+mod step;
+#[cfg(test)]
+mod tests;
 
 pub use best::spell_best;
 pub use costs::spell_costs;

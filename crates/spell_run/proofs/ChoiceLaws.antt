@@ -1,0 +1,173 @@
+-- The numbers of a choice as they are stored, and that they stay within limits.
+use Rattle.std.proofs.Common.{◌≡◌, ℕ, ℤ, pos, neg_ℤ, nat_abs, ◌+ℤ◌, ◌-ℤ◌, ◌≤ℤ◌, ◌<ℤ◌, Option, Some, sym, ap, ◌∙◌, subst, arith, w64, FitsSigned, to_z, of_z}
+use Rattle.std.specs.Int.{int_min}
+use Rattle.std.proofs.lemmas.Int.{ints, clamps, to_z-of_z}
+use Rattle.shape_law.specs.Curve.{reserve_term}
+use Rattle.shape_law.specs.Effect.{IsLeastIn}
+use Rattle.shape_law.specs.Table.{Table, value_of, HasNone}
+use Rattle.shape_law.proofs.ConvexLaws.{added}
+use Rattle.uc_model.specs.Data.{Schedule}
+use Rattle.uc_model.specs.Limits.{IsFrom, IsOutput}
+use Rattle.uc_model.proofs.SignedLaws.{IsWithin, fits_within}
+use Rattle.spell_run.specs.declared.step.Step.{Step}
+use Rattle.spell_run.specs.Frontier.{IsWritten, IsChosen}
+use Rattle.spell_run.specs.Laws.{most_reserve, best_reserve}
+use Rattle.spell_run.specs.Steps.{IsFairStep, IsKinked, IsSmall}
+use Rattle.spell_run.proofs.ReserveLaws.{best_where_paid, best_may}
+
+abbrev stored : ℤ → ℤ
+stored z = to_z w64 (of_z w64 z)
+
+stored_within : (z : ℤ) → IsWithin 3000000000 z → stored z ≡ z
+stored_within z h = to_z-of_z w64 z (fits_within w64 3000000000 z h (omega arith))
+
+module _ (s : Step) (fair : IsFairStep s) (p : ℤ) (p_out : IsOutput p) where
+  p_stored : stored p ≡ p
+  p_stored = stored_within p (let a = p_out.at_least in let b = p_out.at_most in record { at_least = omega (arith, ints, a); at_most = omega (arith, ints, b) })
+
+  up_stored : stored s.ramp_up ≡ s.ramp_up
+  up_stored = stored_within s.ramp_up (let a = fair.ramp_up.at_least in let b = fair.ramp_up.at_most in record { at_least = omega (arith, ints, a); at_most = omega (arith, ints, b) })
+
+  down_stored : stored s.ramp_down ≡ s.ramp_down
+  down_stored = stored_within s.ramp_down (let a = fair.ramp_down.at_least in let b = fair.ramp_down.at_most in record { at_least = omega (arith, ints, a); at_most = omega (arith, ints, b) })
+
+  cap_stored : stored s.cap ≡ s.cap
+  cap_stored = stored_within s.cap (let a = fair.cap.at_least in let b = fair.cap.at_most in record { at_least = omega (arith, ints, a); at_most = omega (arith, ints, b) })
+
+  -- ---- the reserve
+
+  module _ (q : ℤ) (q_out : IsOutput q) where
+    q_stored : stored q ≡ q
+    q_stored = stored_within q (let a = q_out.at_least in let b = q_out.at_most in record { at_least = omega (arith, ints, a); at_most = omega (arith, ints, b) })
+
+    under_stored : stored (stored s.cap -ℤ stored p) ≡ s.cap -ℤ p
+    under_stored =
+        ap (λ (x : ℤ). stored (x -ℤ stored p)) cap_stored ∙ ap (λ (x : ℤ). stored (s.cap -ℤ x)) p_stored
+        ∙ stored_within (s.cap -ℤ p) (
+          let a = fair.cap.at_least in
+          let b = fair.cap.at_most in
+          let c = p_out.at_least in
+          let d = p_out.at_most in
+          record { at_least = omega (arith, ints, a, d); at_most = omega (arith, ints, b, c) }
+        )
+
+    ahead_stored : stored (stored s.ramp_up +ℤ stored q) ≡ s.ramp_up +ℤ q
+    ahead_stored =
+        ap (λ (x : ℤ). stored (x +ℤ stored q)) up_stored ∙ ap (λ (x : ℤ). stored (s.ramp_up +ℤ x)) q_stored
+        ∙ stored_within (s.ramp_up +ℤ q) (
+          let a = fair.ramp_up.at_least in
+          let b = fair.ramp_up.at_most in
+          let c = q_out.at_least in
+          let d = q_out.at_most in
+          record { at_least = omega (arith, ints, a, c); at_most = omega (arith, ints, b, d) }
+        )
+
+    rise_stored : stored (stored (stored s.ramp_up +ℤ stored q) -ℤ stored p) ≡ (s.ramp_up +ℤ q) -ℤ p
+    rise_stored =
+        ap (λ (x : ℤ). stored (x -ℤ stored p)) ahead_stored ∙ ap (λ (x : ℤ). stored ((s.ramp_up +ℤ q) -ℤ x)) p_stored
+        ∙ stored_within ((s.ramp_up +ℤ q) -ℤ p) (
+          let a = fair.ramp_up.at_least in
+          let b = fair.ramp_up.at_most in
+          let c = q_out.at_least in
+          let d = q_out.at_most in
+          let e = p_out.at_least in
+          let f = p_out.at_most in
+          record { at_least = omega (arith, ints, a, c, f); at_most = omega (arith, ints, b, d, e) }
+        )
+
+    pub reserve_is : (result : ℤ) → FitsSigned w64 result → pos 0 <ℤ s.reserve_price →
+        result ≡ int_min (stored (stored s.cap -ℤ stored p)) (stored (stored (stored s.ramp_up +ℤ stored q) -ℤ stored p)) → stored result ≡ best_reserve s.reserve_price s.cap s.ramp_up q p
+    reserve_is result fits paid is =
+        to_z-of_z w64 result fits ∙ is ∙ ap (λ (x : ℤ). int_min x (stored (stored (stored s.ramp_up +ℤ stored q) -ℤ stored p))) under_stored
+        ∙ ap (λ (y : ℤ). int_min (s.cap -ℤ p) y) rise_stored ∙ sym (best_where_paid s.reserve_price s.cap s.ramp_up q p paid)
+
+    pub reserve_out : p ≤ℤ s.cap → (p -ℤ q) ≤ℤ s.ramp_up → IsOutput (best_reserve s.reserve_price s.cap s.ramp_up q p)
+    reserve_out under rise =
+        let may = best_may s.reserve_price s.cap s.ramp_up q p under rise in
+        let a = may.least in
+        let b = may.greatest in
+        let c = fair.cap.at_most in
+        let d = p_out.at_least in
+        record { at_least = a; at_most = omega (arith, ints, b, c, d) }
+
+  -- ---- the powers that it is chosen from
+
+  low_stored : stored (stored p -ℤ stored s.ramp_up) ≡ p -ℤ s.ramp_up
+  low_stored =
+      ap (λ (x : ℤ). stored (x -ℤ stored s.ramp_up)) p_stored ∙ ap (λ (x : ℤ). stored (p -ℤ x)) up_stored
+      ∙ stored_within (p -ℤ s.ramp_up) (
+        let a = fair.ramp_up.at_least in
+        let b = fair.ramp_up.at_most in
+        let c = p_out.at_least in
+        let d = p_out.at_most in
+        record { at_least = omega (arith, ints, b, c); at_most = omega (arith, ints, a, d) }
+      )
+
+  high_stored : stored (stored p +ℤ stored s.ramp_down) ≡ p +ℤ s.ramp_down
+  high_stored =
+      ap (λ (x : ℤ). stored (x +ℤ stored s.ramp_down)) p_stored ∙ ap (λ (x : ℤ). stored (p +ℤ x)) down_stored
+      ∙ stored_within (p +ℤ s.ramp_down) (
+        let a = fair.ramp_down.at_least in
+        let b = fair.ramp_down.at_most in
+        let c = p_out.at_least in
+        let d = p_out.at_most in
+        record { at_least = omega (arith, ints, a, c); at_most = omega (arith, ints, b, d) }
+      )
+
+  pub least_stored : (f : Table) (v y : ℤ) → IsLeastIn (stored (stored p -ℤ stored s.ramp_up)) (stored (stored p +ℤ stored s.ramp_down)) f v y → IsLeastIn (p -ℤ s.ramp_up) (p +ℤ s.ramp_down) f v y
+  least_stored f v y h =
+      subst (λ (a : ℤ). IsLeastIn a (p +ℤ s.ramp_down) f v y) low_stored (subst (λ (b : ℤ). IsLeastIn (stored (stored p -ℤ stored s.ramp_up)) b f v y) high_stored h)
+
+  pub none_stored : (f : Table) → HasNone (stored (stored p -ℤ stored s.ramp_up)) (stored (stored p +ℤ stored s.ramp_down)) f → HasNone (p -ℤ s.ramp_up) (p +ℤ s.ramp_down) f
+  none_stored f h =
+      subst (λ (a : ℤ). HasNone a (p +ℤ s.ramp_down) f) low_stored (subst (λ (b : ℤ). HasNone (stored (stored p -ℤ stored s.ramp_up)) b f) high_stored h)
+
+-- the power of a step is an output
+pub found_out : (s : Step) (p : ℤ) → IsFairStep s → IsFrom s.least s.cap p → IsOutput p
+found_out s p fair h =
+    let a = h.at_least in
+    let b = h.at_most in
+    let c = fair.least.at_least in
+    let d = fair.cap.at_most in
+    record { at_least = omega (arith, ints, a, c); at_most = omega (arith, ints, b, d) }
+
+-- and so is a power before it
+pub kinked_out : (s : Step) (f g : Table) (y v : ℤ) → IsSmall f → IsKinked s f g → value_of g y ≡ Some v → IsOutput y
+kinked_out s f g y v small kinked h =
+    let a = added (reserve_term s.reserve_price s.cap s.ramp_up) y v (value_of f y) (value_of g y) (kinked y) h in
+    (small y a.0 a.1).0
+
+pub output_stored : (z : ℤ) → IsOutput z → stored z ≡ z
+output_stored z h = stored_within z (let a = h.at_least in let b = h.at_most in record { at_least = omega (arith, ints, a); at_most = omega (arith, ints, b) })
+
+-- ---- what is written
+
+cast_is : (z : ℤ) → IsOutput z → pos (nat_abs (stored z)) ≡ z
+cast_is z h = let e = output_stored z h in let a = h.at_least in ap (λ (x : ℤ). pos (nat_abs x)) e ∙ abs_is z a
+  where
+    abs_is : (z : ℤ) → pos 0 ≤ℤ z → pos (nat_abs z) ≡ z
+    abs_is z a = omega (arith, ints, a)
+
+pub written_cast : (k : ℕ) (p r b : ℤ) (d d' : Schedule) → IsOutput p → IsOutput r → r ≡ b → IsWritten k (pos (nat_abs (stored p))) (pos (nat_abs (stored r))) d d' → IsWritten k p b d d'
+written_cast k p r b d d' p_out r_out is w =
+    subst (λ (x : ℤ). IsWritten k x b d d') (cast_is p p_out) (subst (λ (y : ℤ). IsWritten k (pos (nat_abs (stored p))) y d d') (cast_is r r_out ∙ is) w)
+
+pub best_stored : (s : Step) (q p : ℤ) → IsOutput q → IsOutput p → best_reserve s.reserve_price s.cap s.ramp_up (stored q) (stored p) ≡ best_reserve s.reserve_price s.cap s.ramp_up q p
+best_stored s q p q_out p_out =
+    ap (λ (x : ℤ). best_reserve s.reserve_price s.cap s.ramp_up x (stored p)) (output_stored q q_out) ∙ ap (λ (y : ℤ). best_reserve s.reserve_price s.cap s.ramp_up q y) (output_stored p p_out)
+
+-- a choice as it is stored
+pub chosen_stored : (s : Step) (f g : Table) (k : ℕ) (x y v : ℤ) (d d' : Schedule) → IsFairStep s → IsSmall f → IsFrom s.least s.cap x → IsKinked s f g →
+    IsLeastIn (stored (stored x -ℤ stored s.ramp_up)) (stored (stored x +ℤ stored s.ramp_down)) g v y →
+    IsWritten k (stored x) (best_reserve s.reserve_price s.cap s.ramp_up (stored y) (stored x)) d d' → IsChosen s f k x (stored y) d d'
+chosen_stored s f g k x y v d d' fair small found kinked least written =
+    let out = found_out s x fair found in
+    let before = kinked_out s f g y v small kinked least.there in
+    let e = output_stored y before in
+    record {
+      kinked = g;
+      is_kinked = kinked;
+      value = v;
+      least = subst (λ (z : ℤ). IsLeastIn (x -ℤ s.ramp_up) (x +ℤ s.ramp_down) g v z) (sym e) (least_stored s fair x out g v y least);
+      written = subst (λ (z : ℤ). IsWritten k z (best_reserve s.reserve_price s.cap s.ramp_up (stored y) z) d d') (output_stored x out) written;
+    }

@@ -1,0 +1,11 @@
+pub mod BoundLaws
+pub mod ChoiceLaws
+pub mod EntryLaws
+pub mod FairLaws
+pub mod FrameLaws
+pub mod FrontierLaws
+pub mod ReserveLaws
+pub mod RunLaws
+pub mod StepLaws
+pub mod TieLaws
+pub mod WayLaws

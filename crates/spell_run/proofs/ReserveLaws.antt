@@ -1,0 +1,95 @@
+-- The best reserve for given powers.
+use Rattle.std.proofs.Common.{◌≡◌, ℤ, pos, neg_ℤ, ◌+ℤ◌, ◌-ℤ◌, ◌*ℤ◌, ◌≤ℤ◌, Bool, true, false, cond, refl, sym, ap, ◌∙◌, subst, arith}
+use Rattle.std.specs.Prelude.{◌<ℤ◌, int_lt}
+use Rattle.std.specs.Int.{int_min}
+use Rattle.std.proofs.lemmas.Int.{ints, clamps, by_lt_z}
+use Rattle.std.proofs.Math.IntN.{zero-*ℤ, *ℤ-one}
+use Rattle.uc_model.proofs.IntLaws.{mul-sub, mul-mono_of}
+use Rattle.spell_run.specs.Laws.{most_reserve, best_reserve, IsReserve, IsBestReserve, ReserveIsAKink, ReserveIsBest}
+
+pub positive_is : (a : ℤ) → pos 0 <ℤ a → int_lt (pos 0) a ≡ true
+positive_is a h = grind (arith, ints)
+
+pub not_positive_is : (a : ℤ) → a ≤ℤ pos 0 → int_lt (pos 0) a ≡ false
+not_positive_is a h = grind (arith, ints)
+
+min_less : (cap up q p : ℤ) → most_reserve cap up q p ≡ int_min cap (up +ℤ q) -ℤ p
+min_less cap up q p = omega (arith, ints, clamps)
+
+pub reserve_is_a_kink : ReserveIsAKink
+reserve_is_a_kink price cap up q p =
+    let e = ap (λ (z : ℤ). price *ℤ z) (min_less cap up q p) in
+    let f = mul-sub price (int_min cap (up +ℤ q)) p in
+    omega (arith, ints, e, f)
+
+-- ---- the best reserve by cases
+
+pub best_where_paid : (price cap up q p : ℤ) → pos 0 <ℤ price → best_reserve price cap up q p ≡ most_reserve cap up q p
+best_where_paid price cap up q p h = ap (λ (b : Bool). cond b (most_reserve cap up q p) (pos 0)) (positive_is price h)
+
+pub best_where_not_paid : (price cap up q p : ℤ) → price ≤ℤ pos 0 → best_reserve price cap up q p ≡ pos 0
+best_where_not_paid price cap up q p h = ap (λ (b : Bool). cond b (most_reserve cap up q p) (pos 0)) (not_positive_is price h)
+
+-- where some reserve may be kept, so may the best
+pub best_may : (price cap up q p : ℤ) → p ≤ℤ cap → (p -ℤ q) ≤ℤ up → IsReserve cap up q p (best_reserve price cap up q p)
+best_may price cap up q p h i =
+    by_lt_z (pos 0) price
+    (λ paid.
+    subst (λ (r : ℤ). IsReserve cap up q p r) (sym (best_where_paid price cap up q p paid))
+    (record { least = omega (arith, ints, clamps); greatest = omega (arith, ints, clamps); ramp = omega (arith, ints, clamps) }))
+    (λ unpaid.
+    subst (λ (r : ℤ). IsReserve cap up q p r) (sym (best_where_not_paid price cap up q p unpaid))
+    (record { least = omega (arith, ints); greatest = omega (arith, ints); ramp = omega (arith, ints) }))
+
+-- it earns what the most reserve earns
+pub best_earns : (price cap up q p : ℤ) → pos 0 ≤ℤ price → price *ℤ best_reserve price cap up q p ≡ price *ℤ most_reserve cap up q p
+best_earns price cap up q p h =
+    by_lt_z (pos 0) price
+    (λ paid. ap (λ (r : ℤ). price *ℤ r) (best_where_paid price cap up q p paid))
+    (λ unpaid.
+    let z : price ≡ pos 0 = omega (arith, ints, h, unpaid) in
+    let none = zero-*ℤ (best_reserve price cap up q p) in
+    let most = zero-*ℤ (most_reserve cap up q p) in
+    let a = ap (λ (x : ℤ). x *ℤ best_reserve price cap up q p) z in
+    let b = ap (λ (x : ℤ). x *ℤ most_reserve cap up q p) z in
+    a ∙ none ∙ sym (b ∙ most))
+
+pub at_most_most : (cap up q p r : ℤ) → IsReserve cap up q p r → r ≤ℤ most_reserve cap up q p
+at_most_most cap up q p r h = let g = h.greatest in let i = h.ramp in omega (arith, ints, clamps, g, i)
+
+pub best_is_best : (price cap up q p r : ℤ) → pos 0 ≤ℤ price → IsReserve cap up q p r → (price *ℤ r) ≤ℤ (price *ℤ best_reserve price cap up q p)
+best_is_best price cap up q p r h may =
+    let m = mul-mono_of price r (most_reserve cap up q p) h (at_most_most cap up q p r may) in
+    let e = best_earns price cap up q p h in
+    omega (arith, ints, m, e)
+
+-- a product with a positive factor tells its other factor
+product_tells : (price r s : ℤ) → pos 0 <ℤ price → r ≤ℤ s → price *ℤ r ≡ price *ℤ s → r ≡ s
+product_tells price r s h low e =
+    by_lt_z r s
+    (λ less.
+    let one = mul-mono_of price (pos 1) (s -ℤ r) (omega (arith, ints, h)) (omega (arith, ints, less)) in
+    let t = mul-sub price s r in
+    let unit = *ℤ-one price in
+    absurd (omega (arith, ints, one, t, e, unit, h)))
+    (λ same. omega (arith, ints, same, low))
+
+pub reserve_is_best : ReserveIsBest
+reserve_is_best price cap up q p r h may =
+    let g = may.greatest in
+    let i = may.ramp in
+    let l = may.least in
+    record {
+      may = best_may price cap up q p (omega (arith, ints, g, l)) (omega (arith, ints, i, l));
+      best = best_is_best price cap up q p r h may;
+      least = λ same.
+          by_lt_z (pos 0) price
+          (λ paid. (let o = only paid same in omega (arith, ints, o)))
+          (λ unpaid. (let e = best_where_not_paid price cap up q p unpaid in omega (arith, ints, e, l)));
+      only = only;
+    }
+  where
+    only : pos 0 <ℤ price → price *ℤ r ≡ price *ℤ best_reserve price cap up q p → r ≡ best_reserve price cap up q p
+    only paid same =
+        product_tells price r (best_reserve price cap up q p) paid
+        (let e = best_where_paid price cap up q p paid in let m = at_most_most cap up q p r may in omega (arith, ints, e, m)) same

@@ -1,0 +1,221 @@
+-- A step on a function of the power is one period of a spell: each new value is an old one and a move, and no move is
+-- cheaper.
+use Rattle.std.proofs.Common.{◌≡◌, ℕ, suc, ◌+◌, ◌<◌, ◌≤◌, ℤ, pos, neg_ℤ, ◌+ℤ◌, ◌-ℤ◌, ◌*ℤ◌, ◌≤ℤ◌, Bool, true, false, cond, Option, Some, None, length, refl, sym, ap, ◌∙◌, subst, arith}
+use Rattle.std.specs.Prelude.{IsTrue, MatchOption}
+use Rattle.std.specs.Option.{option_map}
+use Rattle.std.specs.Int.{int_min}
+use Rattle.std.proofs.lemmas.Int.{ints, clamps}
+use Rattle.std.proofs.Math.IntN.{*ℤ_comm}
+use Rattle.cost_curve.specs.CostCurve.{IsCostCurve, AreCostPoints, EnvelopeIsCost}
+use Rattle.shape_law.specs.Curve.{curve_value, reserve_term}
+use Rattle.shape_law.specs.Effect.{IsSum, IsWindow}
+use Rattle.shape_law.specs.Table.{Table, value_of}
+use Rattle.shape_law.proofs.ConvexLaws.{added, same_some}
+use Rattle.shape_law.proofs.CurveLaws.{raised_by}
+use Rattle.uc_model.specs.declared.units.Curve.{Curve}
+use Rattle.uc_model.specs.Data.{ThermalUnit, PriceLists}
+use Rattle.uc_model.specs.Envelope.{envelope}
+use Rattle.uc_model.specs.Limits.{IsFrom, IsThermalUnit, IsCost, Spans}
+use Rattle.uc_model.specs.Schedules.{cap_of}
+use Rattle.uc_model.specs.Sums.{int_at}
+use Rattle.uc_model.proofs.IntLaws.{mul-sub, mul-mono_of}
+use Rattle.uc_model.proofs.SignedLaws.{IsWithin, product_within}
+use Rattle.spell_run.specs.Laws.{most_reserve, best_reserve, IsReserve}
+use Rattle.spell_run.specs.Spells.{net_cost_at}
+use Rattle.spell_run.specs.Steps.{cap_at, step_at, IsMove, IsStepped}
+use Rattle.spell_run.proofs.ReserveLaws.{reserve_is_a_kink, best_may, best_earns, best_is_best, best_where_not_paid}
+
+-- ---- caps
+
+-- z is within the limits that hold
+pub record IsUnder (g : ThermalUnit) (starts stops : Bool) (z : ℤ) : Type 0 where
+  pub most : z ≤ℤ g.max_power
+  pub start : IsTrue starts → z ≤ℤ g.start_limit
+  pub stop : IsTrue stops → z ≤ℤ g.stop_limit
+
+pub under_cap : (g : ThermalUnit) (starts stops : Bool) (z : ℤ) → z ≤ℤ cap_at g starts stops → IsUnder g starts stops z
+under_cap g true true z h = record { most = omega (arith, ints, clamps, h); start = λ _. omega (arith, ints, clamps, h); stop = λ _. omega (arith, ints, clamps, h) }
+under_cap g true false z h = record { most = omega (arith, ints, clamps, h); start = λ _. omega (arith, ints, clamps, h); stop = λ e. cc }
+under_cap g false true z h = record { most = omega (arith, ints, clamps, h); start = λ e. cc; stop = λ _. omega (arith, ints, clamps, h) }
+under_cap g false false z h = record { most = omega (arith, ints, clamps, h); start = λ e. cc; stop = λ e. cc }
+
+pub cap_over : (g : ThermalUnit) (starts stops : Bool) (z : ℤ) → IsUnder g starts stops z → z ≤ℤ cap_at g starts stops
+cap_over g true true z h = let a = h.most in let b = h.start refl in let c = h.stop refl in omega (arith, ints, clamps, a, b, c)
+cap_over g true false z h = let a = h.most in let b = h.start refl in omega (arith, ints, clamps, a, b)
+cap_over g false true z h = let a = h.most in let c = h.stop refl in omega (arith, ints, clamps, a, c)
+cap_over g false false z h = let a = h.most in omega (arith, ints, clamps, a)
+
+-- the greatest power of a step
+pub under_most : (g : ThermalUnit) (π : PriceLists) (k : ℕ) (starts stops : Bool) (x : ℤ) → x ≤ℤ (step_at g π k starts stops).most →
+    (x ≤ℤ cap_at g starts stops) × (IsTrue stops → (x -ℤ g.min_power) ≤ℤ g.ramp_down)
+under_most g π k starts true x h =
+    let c = cap_at g starts true in
+    let z : x ≤ℤ int_min c (g.min_power +ℤ g.ramp_down) = h in
+    (omega (arith, ints, clamps, z), λ _. omega (arith, ints, clamps, z))
+under_most g π k starts false x h = (h, λ e. cc)
+
+pub most_over : (g : ThermalUnit) (π : PriceLists) (k : ℕ) (starts stops : Bool) (x : ℤ) → x ≤ℤ cap_at g starts stops →
+    (IsTrue stops → (x -ℤ g.min_power) ≤ℤ g.ramp_down) → x ≤ℤ (step_at g π k starts stops).most
+most_over g π k starts true x h leave =
+    let l = leave refl in
+    let c = cap_at g starts true in
+    let low : x ≤ℤ c = h in
+    let z : x ≤ℤ int_min c (g.min_power +ℤ g.ramp_down) = omega (arith, ints, clamps, l, low) in
+    z
+most_over g π k starts false x h leave = h
+
+-- ---- what a step adds
+
+sub_mul : (a b c : ℤ) → (a -ℤ b) *ℤ c ≡ (a *ℤ c) -ℤ (b *ℤ c)
+sub_mul a b c =
+    let e = *ℤ_comm (a -ℤ b) c in
+    let f = mul-sub c a b in
+    let i = *ℤ_comm c a in
+    let j = *ℤ_comm c b in
+    omega (arith, ints, e, f, i, j)
+
+-- the parts of a step make up the net cost at the most reserve
+parts_are : (mu lambda cap up q p w e : ℤ) →
+    (((w +ℤ reserve_term mu cap up q) +ℤ ((mu -ℤ lambda) *ℤ p)) +ℤ e) ≡ w +ℤ (e -ℤ ((lambda *ℤ p) +ℤ (mu *ℤ most_reserve cap up q p)))
+parts_are mu lambda cap up q p w e =
+    let k = reserve_is_a_kink mu cap up q p in
+    let s = sub_mul mu lambda p in
+    let t : reserve_term mu cap up q ≡ neg_ℤ (mu *ℤ int_min cap (up +ℤ q)) = refl in
+    omega (arith, ints, k, s, t)
+
+-- ---- one step
+
+-- value v at power x comes from an old value and a move; without a reserve price from one without reserve
+pub record IsFromMove (g : ThermalUnit) (π : PriceLists) (k : ℕ) (starts stops : Bool) (f : Table) (x v : ℤ) : Type 0 where
+  pub before : ℤ
+  pub old : ℤ
+  pub reserve : ℤ
+  pub there : value_of f before ≡ Some old
+  pub not_negative : pos 0 ≤ℤ reserve
+  pub idle : int_at π.reserve k ≡ pos 0 → reserve ≡ pos 0
+  pub move : IsMove g starts stops before x reserve
+  pub cost : v ≡ old +ℤ net_cost_at g π k x reserve
+
+module _ (g : ThermalUnit) (π : PriceLists) (k : ℕ) (c : Curve) (unit : IsThermalUnit g) (price : pos 0 ≤ℤ int_at π.reserve k) (curve : IsCostCurve g.points c) where
+  spans : (x : ℤ) → g.min_power ≤ℤ x → x ≤ℤ g.max_power → Spans g.points x x
+  spans x low high = record {
+    first = λ d. let e = unit.span.first d in omega (arith, ints, e, low);
+    last = λ n d is. let e = unit.span.last n d is in omega (arith, ints, e, high);
+  }
+
+  pub cost_on : (x : ℤ) → g.min_power ≤ℤ x → x ≤ℤ g.max_power → curve_value c x ≡ Some (envelope g.points x)
+  cost_on x low high = curve.value x (spans x low high)
+
+  module _ (starts stops : Bool) (f h : Table) (step : IsStepped (step_at g π k starts stops) c f h) where
+    abbrev mu : ℤ
+    mu = int_at π.reserve k
+
+    abbrev cap : ℤ
+    cap = cap_at g starts stops
+
+    pub step_sound : (x v : ℤ) → value_of h x ≡ Some v → IsFromMove g π k starts stops f x v
+    step_sound x v is =
+        let r = raised_by (curve_value c) (x +ℤ pos 0) v (value_of step.line x) (value_of h x) (step.is_curve x) is in
+        let l = added (λ x. (mu -ℤ int_at π.energy k) *ℤ x) x r.old (value_of step.window x) (value_of step.line x) (step.is_line x) r.there in
+        let w = step.is_window.reached x l.0 l.1 in
+        let q = w.0 in
+        let b = added (reserve_term mu cap g.ramp_up) q l.0 (value_of f q) (value_of step.kinked q) (step.is_kinked q) w.1 in
+        let low = w.2.0 in
+        let high = under_most g π k starts stops x w.2.1 in
+        let under = high.0 in
+        let back = w.3.0 in
+        let ahead = w.3.1 in
+        let u = under_cap g starts stops x under in
+        let at : x +ℤ pos 0 ≡ x = omega (arith, ints) in
+        let e = same_some (curve_value c x) (subst (λ (y : ℤ). curve_value c y ≡ Some r.rise) at r.on) (cost_on x low u.most) in
+        let reserve = best_reserve mu cap g.ramp_up q x in
+        let may = best_may mu cap g.ramp_up q x under (omega (arith, ints, back)) in
+        let not_negative = may.least in
+        let greatest = may.greatest in
+        let ramp = may.ramp in
+        let earns = best_earns mu cap g.ramp_up q x price in
+        let parts = parts_are mu (int_at π.energy k) cap g.ramp_up q x b.0 r.rise in
+        let whole = r.is in
+        let line = l.2 in
+        let kink = b.2 in
+        record {
+          before = q;
+          old = b.0;
+          reserve = reserve;
+          there = b.1;
+          not_negative = not_negative;
+          idle = λ none. best_where_not_paid mu cap g.ramp_up q x (omega (arith, ints, none));
+          move = record {
+            least = low;
+            greatest = greatest;
+            ramp_up = ramp;
+            ramp_down = omega (arith, ints, ahead);
+            leave = high.1;
+          };
+          cost = omega (arith, ints, whole, line, kink, parts, e, earns);
+        }
+
+    pub step_complete : (q w x r : ℤ) → value_of f q ≡ Some w → IsMove g starts stops q x r → pos 0 ≤ℤ r →
+        (v : ℤ) × (value_of h x ≡ Some v) × (v ≤ℤ (w +ℤ net_cost_at g π k x r))
+    step_complete q w x r there move kept =
+        let low = move.least in
+        let greatest = move.greatest in
+        let up = move.ramp_up in
+        let down = move.ramp_down in
+        let under : x ≤ℤ cap = omega (arith, ints, greatest, kept) in
+        let u = under_cap g starts stops x under in
+        let high = most_over g π k starts stops x under move.leave in
+        let kinked : value_of step.kinked q ≡ Some (w +ℤ reserve_term mu cap g.ramp_up q) = step.is_kinked q ∙ ap (option_map (λ v. v +ℤ reserve_term mu cap g.ramp_up q)) there in
+        let n = step.is_window.least x q (w +ℤ reserve_term mu cap g.ramp_up q) kinked (low, high) (omega (arith, ints, up, kept), omega (arith, ints, down)) in
+        let line : value_of step.line x ≡ Some (n.0 +ℤ ((mu -ℤ int_at π.energy k) *ℤ x)) = step.is_line x ∙ ap (option_map (λ v. v +ℤ ((mu -ℤ int_at π.energy k) *ℤ x))) n.1 in
+        let p = on_curve x (n.0 +ℤ ((mu -ℤ int_at π.energy k) *ℤ x)) line low u.most in
+        let may : IsReserve cap g.ramp_up q x r = record { least = kept; greatest = greatest; ramp = up } in
+        let best = best_is_best mu cap g.ramp_up q x r price may in
+        let earns = best_earns mu cap g.ramp_up q x price in
+        let parts = parts_are mu (int_at π.energy k) cap g.ramp_up q x w (envelope g.points x) in
+        let least = n.2 in
+        ((n.0 +ℤ ((mu -ℤ int_at π.energy k) *ℤ x)) +ℤ envelope g.points x, p, omega (arith, ints, least, best, earns, parts))
+      where
+        on_curve : (x v : ℤ) → value_of step.line x ≡ Some v → g.min_power ≤ℤ x → x ≤ℤ g.max_power → value_of h x ≡ Some (v +ℤ envelope g.points x)
+        on_curve x v is low high =
+            let m = subst (λ o. MatchOption o (value_of h x ≡ None) (λ v. (e : ℤ) × (curve_value c (x +ℤ pos 0) ≡ Some e) × (value_of h x ≡ Some (v +ℤ e)))) is (step.is_curve x) in
+            let at : x +ℤ pos 0 ≡ x = omega (arith, ints) in
+            let e = same_some (curve_value c x) (subst (λ (y : ℤ). curve_value c y ≡ Some m.0) at m.1) (cost_on x low high) in
+            m.2 ∙ ap (λ (e : ℤ). Some (v +ℤ e)) e
+
+  -- what a move costs is far within the limits
+  pub net_within : (starts stops : Bool) (q x r : ℤ) → EnvelopeIsCost → IsFrom (neg_ℤ (pos 10000000)) (pos 10000000) (int_at π.energy k) → int_at π.reserve k ≤ℤ pos 10000000 →
+      IsMove g starts stops q x r → pos 0 ≤ℤ r → IsWithin 1000000000000000 (net_cost_at g π k x r)
+  net_within starts stops q x r law energy high move kept =
+      let least = move.least in
+      let bottom = unit.min_power.at_least in
+      let u = under_cap g starts stops (x +ℤ r) move.greatest in
+      let top = u.most in
+      let greatest = unit.max_power.at_most in
+      let points : AreCostPoints g.points = record { some = unit.some_point; count = unit.point_count; points = unit.points; ordered = unit.points_ordered } in
+      let e = law g.points x points (spans x least (omega (arith, ints, top, kept))) in
+      let paid = product_within 10000000 10000000 (int_at π.energy k) x energy (record { at_least = omega (arith, ints, least, bottom); at_most = omega (arith, ints, top, kept, greatest) }) in
+      let worth = product_within 10000000 10000000 (int_at π.reserve k) r (record { at_least = omega (arith, ints, price); at_most = high }) (record { at_least = kept; at_most = omega (arith, ints, top, least, bottom, greatest) }) in
+      let a = e.at_least in
+      let b = e.at_most in
+      let c = paid.at_least in
+      let d = paid.at_most in
+      let i = worth.at_least in
+      let j = worth.at_most in
+      record { at_least = omega (arith, ints, a, b, c, d, i, j); at_most = omega (arith, ints, a, b, c, d, i, j) }
+
+-- ---- the best reserve of a step
+
+module _ (g : ThermalUnit) (π : PriceLists) (k : ℕ) (price : pos 0 ≤ℤ int_at π.reserve k) (cap q x : ℤ) where
+  -- what a step from q to x adds at the best reserve
+  abbrev pub best_net : ℤ
+  best_net = (reserve_term (int_at π.reserve k) cap g.ramp_up q +ℤ ((int_at π.reserve k -ℤ int_at π.energy k) *ℤ x)) +ℤ envelope g.points x
+
+  pub net_of_best : net_cost_at g π k x (best_reserve (int_at π.reserve k) cap g.ramp_up q x) ≡ best_net
+  net_of_best =
+      let parts = parts_are (int_at π.reserve k) (int_at π.energy k) cap g.ramp_up q x (pos 0) (envelope g.points x) in
+      let earns = best_earns (int_at π.reserve k) cap g.ramp_up q x price in
+      omega (arith, ints, parts, earns)
+
+  pub net_at_least : (r : ℤ) → IsReserve cap g.ramp_up q x r → net_cost_at g π k x (best_reserve (int_at π.reserve k) cap g.ramp_up q x) ≤ℤ net_cost_at g π k x r
+  net_at_least r may = let best = best_is_best (int_at π.reserve k) cap g.ramp_up q x r price may in omega (arith, ints, best)

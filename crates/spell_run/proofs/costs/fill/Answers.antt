@@ -1,0 +1,36 @@
+use Rattle.std.proofs.Common.{◌≡◌, ℕ, suc, ◌+◌, ◌<◌, ◌≢◌, length, Option, ℤ, IfSome, sym, ap, ◌∙◌, subst, inl, inr, arith, length-set}
+use Rattle.uc_model.specs.PlainUnits.{thermal_of, prices_of}
+use Rattle.spell_run.specs.Frontier.{IsFrontier}
+use Rattle.spell_run.specs.Spells.{spell_first, IsSpellAnswer, IsSpellWithin}
+use Rattle.spell_run.proofs.EntryLaws.{entry_other, entries_more}
+use Rattle.spell_run.proofs.FrameLaws.{then}
+use Rattle.spell_run.proofs.costs.fill.Goals as goal
+
+pub returns-in_err-cost-clause-frame : goal.returns-in_err-cost-clause-frame
+returns-in_err-cost-clause-frame g c =
+    then g.S.Home.Cells.cell_list g.S.Shape.is_in g.S.Shape.numbers g.S.Shape.function g.met.S.Shape.same_cells g.met.S.Shape.owns _ _ _ _ _ _ c.loop-place.invariant.frame c.pass.ensures.frame
+
+pub loop-place-preserved : goal.loop-place-preserved
+loop-place-preserved g c =
+    let unit = thermal_of c.args.unit.now in
+    let prices = prices_of c.args.prices.now in
+    let first = spell_first c.args.started c.args.first in
+    let place = c.loop-place.place in
+    let entries = c.loop-place.into.entries.items in
+    let same = c.loop-place.invariant.length in
+    let room : place < length entries = omega (arith, same) in
+    let next : suc place ≡ place + 1 = omega arith in
+    let within : place < length c.args.prices.now.energy.items = omega arith in
+    record {
+      here = c.pass.ensures.here;
+      frontier = subst (λ (t : ℕ). IsFrontier unit prices first t (g.S.Shape.function c.pass.new.home c.pass.new.running)) next c.in_ok-cost.ensures.ok;
+      answers = entries_more entries c.set.new.self.items place c.in_ok-cost.cost c.set.ensures.items
+          (λ (k : ℕ) (e : Option ℤ). IsSpellAnswer unit prices (length c.args.prices.now.energy.items) first (suc k) e × IfSome e (IsSpellWithin first (suc k)))
+          c.args.first room c.loop-place.invariant.answers (c.in_ok-cost.ensures.answer, c.in_ok-cost.ensures.within);
+      others = λ k out.
+          let ne : k ≢ place = λ z. elim out [ inl low ↦ absurd (omega (arith, low, z)) | inr high ↦ absurd (omega (arith, high, z, within)) ] in
+          entry_other entries c.set.new.self.items place c.in_ok-cost.cost c.set.ensures.items k ne ∙ c.loop-place.invariant.others k out;
+      length = ap length c.set.ensures.items ∙ length-set entries place c.in_ok-cost.cost ∙ same;
+      frame = then g.S.Home.Cells.cell_list g.S.Shape.is_in g.S.Shape.numbers g.S.Shape.function g.met.S.Shape.same_cells g.met.S.Shape.owns _ _ _ _ _ _ c.loop-place.invariant.frame c.pass.ensures.frame;
+      balance = λ counts. omega (arith, c.pass.ensures.balance.sum counts, c.loop-place.invariant.balance counts);
+    }

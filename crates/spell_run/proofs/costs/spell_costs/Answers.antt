@@ -1,0 +1,38 @@
+use Rattle.std.proofs.Common.{ℕ, ◌≤◌, length, Option, ℤ, IfSome}
+use Rattle.std.proofs.lemmas.Result.{on_ok_weaker}
+use Rattle.uc_model.specs.PlainUnits.{thermal_of, prices_of}
+use Rattle.spell_run.specs.Entries.{entry_of}
+use Rattle.spell_run.specs.Spells.{spell_first, IsSpellAnswer, IsSpellWithin}
+use Rattle.spell_run.proofs.EntryLaws.{entries_by_last}
+use Rattle.spell_run.proofs.FrameLaws.{then}
+use Rattle.spell_run.proofs.FrontierLaws.{frontier_begin}
+use Rattle.spell_run.proofs.costs.spell_costs.Goals as goal
+
+pub fill-filled-requires-clause-frontier : goal.fill-filled-requires-clause-frontier
+fill-filled-requires-clause-frontier g c =
+    frontier_begin (thermal_of c.args.unit.now) (prices_of c.args.prices.now) (length c.args.prices.now.energy.items) c.args.first c.args.started _ c.args.unit.now.valid c.requires.start c.in_ok-running.ensures.ok
+
+pub returns-clause-least : goal.returns-clause-least
+returns-clause-least g c =
+    let unit = thermal_of c.args.unit.now in
+    let prices = prices_of c.args.prices.now in
+    let first = spell_first c.args.started c.args.first in
+    let periods = length c.args.prices.now.energy.items in
+    let entries = c.fill-filled.new.into.entries.items in
+    on_ok_weaker {Q = (last : ℕ) → c.args.first ≤ last → last ≤ periods → IsSpellAnswer unit prices periods first last (entry_of entries last)} _
+    (λ each. entries_by_last (λ (last : ℕ) (e : Option ℤ). IsSpellAnswer unit prices periods first last e) c.args.first periods entries c.requires.start.from_one (λ k from until. (each k from until).0))
+    c.fill-filled.ensures.answers
+
+pub returns-clause-within : goal.returns-clause-within
+returns-clause-within g c =
+    let first = spell_first c.args.started c.args.first in
+    let periods = length c.args.prices.now.energy.items in
+    let entries = c.fill-filled.new.into.entries.items in
+    on_ok_weaker {Q = (last : ℕ) → c.args.first ≤ last → last ≤ periods → IfSome (entry_of entries last) (IsSpellWithin first last)} _
+    (λ each. entries_by_last (λ (last : ℕ) (e : Option ℤ). IfSome e (IsSpellWithin first last)) c.args.first periods entries c.requires.start.from_one (λ k from until. (each k from until).1))
+    c.fill-filled.ensures.answers
+
+pub returns-clause-frame : goal.returns-clause-frame
+returns-clause-frame g c =
+    let join = then g.S.Home.Cells.cell_list g.S.Shape.is_in g.S.Shape.numbers g.S.Shape.function g.met.S.Shape.same_cells g.met.S.Shape.owns in
+    join _ _ _ _ _ _ c.in_ok-running.ensures.frame (join _ _ _ _ _ _ c.fill-filled.ensures.frame c.give_back.ensures.frame)

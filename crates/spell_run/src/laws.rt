@@ -1,0 +1,13 @@
+//! Laws over the definitions: each is the contract of a function that does nothing.
+ghost use Rattle.spell_run.specs.Laws.{ReserveIsAKink, ReserveIsBest};
+
+/// What the most reserve earns at given powers is a line in the power of the period and a kink in the power before it.
+pub fn reserve_is_a_kink()
+    ensures { ReserveIsAKink }
+{}
+
+/// At given powers the most reserve is best where reserve is paid for, and no other is; where it isn't paid for, none is
+/// the least of the best.
+pub fn reserve_is_best()
+    ensures { ReserveIsBest }
+{}
