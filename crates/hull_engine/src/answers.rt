@@ -28,7 +28,7 @@ pub enum Answer {
 }
 
 /// Opens a run and runs it to its end.
-fn run_whole(alloc: Global, run: RunInput) -> Result<Done, AllocError>
+fn run_to_end(alloc: Global, run: RunInput) -> Result<Done, AllocError>
     requires { IsRunInput run }
     ensures { IfOk result (λ done. IsEnded (setup_of run) done) }
 {
@@ -44,12 +44,12 @@ fn run_whole(alloc: Global, run: RunInput) -> Result<Done, AllocError>
 }
 
 /// The run to its end, where there is the memory for it.
-fn run_step(alloc: Global, run: RunInput) -> Result<Done, TopFault>
+fn ended_run(alloc: Global, run: RunInput) -> Result<Done, TopFault>
     requires { IsRunInput run }
     ensures ended { IfOk result (λ done. IsEnded (setup_of run) done) }
     ensures starved { IfErr result (λ fault. fault ≡ TopFault.Memory) }
 {
-    match run_whole(alloc, run) {
+    match run_to_end(alloc, run) {
         Ok(done) => Ok(done),
         Err(AllocError) => Err(TopFault::Memory),
     }
@@ -63,13 +63,17 @@ fn perform(alloc: Global, job: Job) -> Result<Answer, TopFault>
 {
     match job {
         Job::Check(input) => Ok(Answer::Check(input)),
-        Job::Price(run) => Ok(Answer::Price(run_step(alloc, run)?)),
-        Job::Try(number, run) => Ok(Answer::Try(number, run_step(alloc, run)?)),
+        Job::Price(run) => Ok(Answer::Price(ended_run(alloc, run)?)),
+        Job::Try(number, run) => Ok(Answer::Try(number, ended_run(alloc, run)?)),
     }
 }
 
 /// What the words and the files ask for, answered, or their first fault.
-pub fn answer_words<F: Shelf>(alloc: Global, words: &[String], shelf: &mut F) -> Result<Answer, TopFault>
+pub fn answer_words<F: Shelf>(
+    alloc: Global,
+    words: &[String],
+    shelf: &mut F,
+) -> Result<Answer, TopFault>
     ensures answers { IsAnswer (IsDue (texts words.now) (F.told shelf.old)) answered_of result }
     ensures answered { IfOk result (λ answer. IsAnswered answer) }
     ensures failed { IfReadFails result (λ file. IsAcceptedWith (words_due (texts words.now)) (λ asked.

@@ -52,8 +52,8 @@ impl End {
     }
 }
 
-/// Writes the report of a run that has ended.
-fn write_run<S: Sink>(done: &mut Done, out: &mut S) -> Result<(), WriteFailed>
+/// Writes the report of a run that has ended. It takes no memory, and fails only where the sink does.
+pub fn finish_run<S: Sink>(done: &mut Done, out: &mut S) -> Result<(), WriteFailed>
     requires { IsEnded done.old.closed.setup done.old }
     ensures { Writes S.held S.faults S.last out.old out.new result (report_text (report_of done.old.closed done.old.settlement)) }
 {
@@ -67,7 +67,7 @@ fn write_answer<S: Sink>(answer: &mut Answer, out: &mut S) -> Result<(), WriteFa
 {
     match answer {
         Answer::Check(input) => write_check(&input.case, input.cost, out),
-        Answer::Price(done) => write_run(done, out),
+        Answer::Price(done) => finish_run(done, out),
         Answer::Try(number, done) => write_try(*number, &done.closed, &done.settlement, out),
     }
 }

@@ -14,7 +14,9 @@ use crate::input::{Input, RunInput, unit_count};
 use case_make::make_case;
 use hull_io::Shelf;
 use hull_report::{TopFault, WorkFault};
-use hull_words::{CheckWords, Command, PriceWords, TryWords, WordCode, WordError, WordFault, read_words};
+use hull_words::{
+    CheckWords, Command, PriceWords, TryWords, WordCode, WordError, WordFault, read_words,
+};
 use plan_check::costs::cost_of_plan;
 use std::alloc::{AllocError, Global};
 
@@ -55,12 +57,7 @@ fn work_of(proposals: u32, units: u32, periods: u32) -> u64
 }
 
 /// The input with the size of its run, where that is within the limit of work.
-fn run_step(
-    input: Input,
-    budget: u32,
-    workers: u32,
-    ahead: u32,
-) -> Result<RunInput, TopFault>
+fn run_step(input: Input, budget: u32, workers: u32, ahead: u32) -> Result<RunInput, TopFault>
     requires planned { IsPlanned input }
     requires size { IsRunSize budget workers ahead }
     ensures answers { IsAnswer (Only (work_due budget (planned_of input))) (λ run. planned_of run.input) result }

@@ -21,7 +21,9 @@ mod tasks;
 
 use answers::answer_words;
 use end::finish;
+pub use end::finish_run;
 use hull_io::{Shelf, Sink};
+pub use run::{Done, Run, open_run, run_board};
 use std::alloc::Global;
 
 /// Runs the command that the words give, and answers its status: 0 where its text was written whole, and otherwise

@@ -79,7 +79,7 @@ pub fn open_run(
 }
 
 /// Claims a task, answers it and posts the answer; false where the board has finished.
-fn play_round(
+fn answer_next(
     alloc: Global,
     board: &mut Board,
     task: &mut Task,
@@ -99,6 +99,7 @@ fn play_round(
     match board.claim(CALLER, task) {
         Claim::Given => {
             answer_task(alloc, task, buffer)?;
+            // It is taken: the task was given to this caller just now.
             let _ = board.post(CALLER, task, buffer);
             board.is_legal();
             Ok(true)
@@ -107,8 +108,8 @@ fn play_round(
     }
 }
 
-/// Plays rounds until the board has finished.
-fn play(
+/// Answers one task after another until the board has finished.
+fn answer_all(
     alloc: Global,
     board: &mut Board,
     task: &mut Task,
@@ -124,7 +125,7 @@ fn play(
 {
     board.is_legal();
     loop {
-        if !play_round(alloc, board, task, buffer)? {
+        if !answer_next(alloc, board, task, buffer)? {
             return Ok(());
         }
     }
@@ -179,7 +180,7 @@ pub fn run_board(alloc: Global, run: Run) -> Result<Done, AllocError>
         mut earned,
     } = run;
     board.is_legal();
-    play(alloc, &mut board, &mut task, &mut buffer)?;
+    answer_all(alloc, &mut board, &mut task, &mut buffer)?;
     let closed = board.close();
     settle_chosen(&closed, &mut earned, &mut settlement);
     Ok(Done {

@@ -54,6 +54,8 @@ returns c =
     let place = chosen_place closed chosen c.is_legal.ensures.setup c.requires.finished c.chosen-chosen.ensures in
     let first = place.first in
     let last = place.last in
-    let there = row_at_place closed c.rows.result.now chosen row c.rows.ensures (omega (arith, first, last, ap length c.rows.ensures, length-map c.rows.result.now proposal_of)) c.index-rows-chosen.is in
-    (proposal_of row, settled_record closed c.settle.new.into chosen (proposal_of row) (market_of c.case.result.now) (schedules_of c.plan.result.now)
-    c.is_legal.ensures.setup c.is_legal.ensures.legal c.requires.finished c.chosen-chosen.ensures there c.case.ensures c.plan.ensures c.settle.ensures.settled)
+    let there = row_at_place closed c.rows.result.now chosen row c.rows.ensures (omega (arith, first, last, ap length c.rows.ensures, length-map c.rows.result.now proposal_of)) c.index-rows-chosen.is in (
+      proposal_of row,
+      settled_record closed c.settle.new.into chosen (proposal_of row) (market_of c.case.result.now) (schedules_of c.plan.result.now)
+          c.is_legal.ensures.setup c.is_legal.ensures.legal c.requires.finished c.chosen-chosen.ensures there c.case.ensures c.plan.ensures c.settle.ensures.settled,
+    )

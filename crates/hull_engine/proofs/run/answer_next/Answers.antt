@@ -1,7 +1,7 @@
 use Rattle.board_core.specs.Stored.{answer_of}
 use Rattle.hull_engine.proofs.RoundLaws.{no_round, given_has_schedule, full_round}
 use Rattle.hull_engine.proofs.SettleLaws.{posts_within}
-use Rattle.hull_engine.proofs.run.play_round.Goals as goal
+use Rattle.hull_engine.proofs.run.answer_next.Goals as goal
 
 pub answer_task-requires-clause-some : goal.answer_task-requires-clause-some
 answer_task-requires-clause-some c =

@@ -4,7 +4,7 @@ use Rattle.board_history.specs.OneCaller.{IsBetween}
 use Rattle.uc_model.specs.Data.{unit_count}
 use Rattle.uc_model.specs.PlainUnits.{schedule_of}
 use Rattle.uc_model.specs.TaskRoom.{IsTaskFor}
-use Rattle.hull_engine.proofs.run.play.Given as goal
+use Rattle.hull_engine.proofs.run.answer_all.Given as goal
 
 abbrev pub invariant-loop : goal.invariant-loop
 invariant-loop l = record {

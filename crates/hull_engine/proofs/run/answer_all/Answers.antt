@@ -1,6 +1,6 @@
 use Rattle.std.proofs.Common.{refl}
 use Rattle.hull_engine.proofs.SettleLaws.{posts_within}
-use Rattle.hull_engine.proofs.run.play.Goals as goal
+use Rattle.hull_engine.proofs.run.answer_all.Goals as goal
 
 pub loop-init : goal.loop-init
 loop-init c = record {
