@@ -3,8 +3,12 @@ pub mod Claims
 pub mod Costs
 pub mod Entries
 pub mod Flat
+pub mod FlatLists
 pub mod Fronts
 pub mod Halts
 pub mod LedgerSteps
+pub mod Opened
+pub mod Refused
 pub mod Rows
+pub mod Starts
 pub mod UnitPlaces

@@ -89,8 +89,8 @@ fn open_first(start: &Numbers, count: u32, ledger: &mut Ledger, next: &mut Price
     ensures ledger { ledger.new ≡ with_openings start.now.items ledger.old count }
     ensures horizon { length (prices_of next.new).energy ≡ length (prices_of next.old).energy }
 {
-    for n in 1..=count {
-        opening_prices(start, n, next);
+    for k in 0..count {
+        opening_prices(start, k + 1, next);
         ledger.open(next);
     }
 }
