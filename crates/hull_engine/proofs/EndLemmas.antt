@@ -1,6 +1,6 @@
 -- How a run ends, by its status.
-use Rattle.std.proofs.Common.{◌≡◌, ℕ, ◌<◌, ◌≤◌, ◌⊎◌, inl, inr, Bool, true, false, List, Option, Result, Ok, Err, refl, sym, ap, subst, ◌∙◌, arith}
-use Rattle.std.specs.Prelude.{⊤, IsTrue, IfErr}
+use Rattle.std.proofs.Common.{◌≡◌, ℕ, ◌≤◌, ◌⊎◌, inl, inr, Bool, true, false, List, Option, Result, Ok, Err, refl, sym, ap, subst, ◌∙◌, arith}
+use Rattle.std.specs.Prelude.{⊤, IsTrue}
 use Rattle.std.specs.Bool.{MatchBool}
 use Rattle.hull_io.specs.Edge.{Rose, Gains, FallsShort}
 use Rattle.hull_report.specs.declared.fault.FileKind.{FileKind}

@@ -1,8 +1,8 @@
 -- There is at most one thing that a run is due.
-use Rattle.std.proofs.Common.{◌≡◌, ℕ, List, [], Option, None, Some, Result, refl, sym, ap, subst, ◌∙◌}
+use Rattle.std.proofs.Common.{◌≡◌, ℕ, List, Option, sym, ap, ◌∙◌}
 use Rattle.std.specs.Prelude.{slice_get}
 use Rattle.uc_model.specs.Data.{Market, Schedule}
-use Rattle.uc_model.specs.Refusals.{Refusal, refusals}
+use Rattle.uc_model.specs.Refusals.{Refusal}
 use Rattle.uc_case.proofs.FileLaws.{one_reading}
 use Rattle.uc_case.specs.Cases.{case_of}
 use Rattle.uc_plan.specs.Plans.{plan_of}

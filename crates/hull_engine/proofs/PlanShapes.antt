@@ -1,5 +1,5 @@
 -- A feasible plan has a schedule for each unit over the whole horizon.
-use Rattle.std.proofs.Common.{◌≡◌, ℕ, zero, suc, ◌+◌, ◌<◌, false, List, [], ◌∷◌, ◌++◌, length, map, drop, slice_index_or, slice_index, refl, sym, ap, ◌∙◌, subst, arith, append_assoc, length-append}
+use Rattle.std.proofs.Common.{◌≡◌, ℕ, zero, suc, ◌<◌, false, List, [], ◌∷◌, ◌++◌, length, map, drop, slice_index_or, slice_index, ◌∙◌, subst, arith, append_assoc, length-append}
 use Rattle.std.specs.Prelude.{IsTrue}
 use Rattle.std.specs.List.{All, AllZip}
 use Rattle.std.proofs.lemmas.List.{length-map}

@@ -1,5 +1,5 @@
 -- One round of a run's caller: the claim is given and its answer taken, or the board has finished.
-use Rattle.std.proofs.Common.{◌≡◌, ℕ, ◌+◌, ◌*◌, ◌<◌, ◌≤◌, Bool, true, false, inl, inr, if◌then◌else◌, Option, Some, None, length, refl, sym, ap, ◌∙◌, subst}
+use Rattle.std.proofs.Common.{◌≡◌, ℕ, ◌+◌, ◌*◌, ◌≤◌, Bool, true, false, inl, inr, if◌then◌else◌, Option, Some, None, length, refl, sym, ap, ◌∙◌, subst}
 use Rattle.std.specs.List.{list_any}
 use Rattle.std.specs.Option.{option_map_or}
 use Rattle.uc_model.specs.Data.{unit_count}
@@ -9,9 +9,9 @@ use Rattle.uc_model.specs.Schedules.{IsFeasible}
 use Rattle.uc_model.specs.TaskRoom.{IsTaskFor}
 use Rattle.uc_model.specs.declared.cases.Task.{Task}
 use Rattle.board_history.specs.Board.{Answer, Content, rules_of, IsLegalHistory}
-use Rattle.board_history.specs.Calls.{own_prices, has_finished, claim_answer, after_claim, after_post}
+use Rattle.board_history.specs.Calls.{has_finished, claim_answer, after_claim, after_post}
 use Rattle.board_history.specs.Counts.{posts_in}
-use Rattle.board_history.specs.OneCaller.{IsBetween, IsRound}
+use Rattle.board_history.specs.OneCaller.{IsBetween}
 use Rattle.board_history.specs.Rounds.{ClaimReply, Finished, Halted, GivenTask, NotYet, holders, posts, opened, next_task, is_halt, is_finished, with_claim}
 use Rattle.board_history.proofs.OneCaller.{claims_are_given, given_is_taken_of}
 use Rattle.board_core.specs.Replies.{claim_of}

@@ -1,6 +1,5 @@
 -- The settlement of a finished board at the prices of its chosen row.
-use Rattle.std.proofs.Common.{◌≡◌, ℕ, suc, ◌+◌, ◌-◌, ◌*◌, ◌<◌, ◌≤◌, ℤ, true, Option, Some, List, length, map, get_or, slice_get, refl, sym, ap, ◌∙◌, subst, arith, length-append}
-use Rattle.std.proofs.lemmas.List.{length-map}
+use Rattle.std.proofs.Common.{◌≡◌, ℕ, suc, ◌-◌, ◌*◌, ◌<◌, ◌≤◌, ℤ, true, Some, List, length, map, get_or, slice_get, sym, ap, ◌∙◌, subst, arith}
 use Rattle.std.proofs.lemmas.List.FromFn.{length-map-range_with_len}
 use Rattle.std.proofs.lemmas.Option.{slice_get-map, slice_get-get_or, slice_get_within, get_or_from_slice_get}
 use Rattle.std.specs.List.{AllZip}
@@ -12,7 +11,7 @@ use Rattle.uc_model.specs.PriceRule.{Proposal, chosen_number}
 use Rattle.uc_model.specs.Sums.{int_at}
 use Rattle.uc_model.specs.Systems.{IsSettled, total_power}
 use Rattle.uc_model.specs.declared.cases.Row.{Row}
-use Rattle.board_history.specs.Board.{Setup, Content, rules_of, schedules_in, IsLegalHistory}
+use Rattle.board_history.specs.Board.{Content, rules_of, schedules_in, IsLegalHistory}
 use Rattle.board_history.specs.Calls.{own_rows, has_finished}
 use Rattle.board_history.specs.Rounds.{posts, answers}
 use Rattle.board_history.proofs.RowLaws.{has_row, row_is}

@@ -1,5 +1,5 @@
 -- The numbers of a run that words ask for are within their ranges.
-use Rattle.std.proofs.Common.{◌≡◌, ℕ, ℤ, ◌+◌, ◌≤◌, Bool, true, false, ◌&&◌, cond, leb, List, [], ◌∷◌, length, Option, Some, None, Result, Ok, Err, refl, subst, option_map, unwrap_or, arith}
+use Rattle.std.proofs.Common.{◌≡◌, ℕ, ℤ, ◌+◌, Bool, true, false, ◌&&◌, cond, leb, List, [], ◌∷◌, length, Option, Some, None, Ok, refl, subst, option_map, unwrap_or, arith}
 use Rattle.std.specs.Prelude.{option_and_then}
 use Rattle.std.proofs.lemmas.Bool.{leb-true}
 use Rattle.std.proofs.lemmas.Option.{same_Some}
@@ -10,8 +10,8 @@ use Rattle.hull_words.specs.declared.kinds.CommandKind.TheVariants as kinds
 use Rattle.hull_words.specs.Asked.{Asked, Found, CheckAsked, PriceAsked, AuditAsked, price, check, try, bound, fixed, audit, with_both, names_from, price_from, asked_from}
 use Rattle.hull_words.specs.Spelling.{command_named}
 use Rattle.hull_words.specs.Texts.{is_numeral, number_in}
-use Rattle.hull_words.specs.Words.{first_fault, backwards, found_in, or_fault, values_of, or_missing, asked_of, later_words, words_of}
-use Rattle.hull_engine.specs.Sizes.{IsWithin, IsBudget, IsWorkers, IsAhead, IsRunSize, HasSizes}
+use Rattle.hull_words.specs.Words.{first_fault, backwards, found_in, or_fault, or_missing, asked_of, later_words, words_of}
+use Rattle.hull_engine.specs.Sizes.{IsWithin, IsRunSize, HasSizes}
 
 -- ---- one number
 

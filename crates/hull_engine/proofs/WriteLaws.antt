@@ -4,7 +4,6 @@ use Rattle.std.specs.Prelude.{⊤}
 use Rattle.hull_io.specs.Edge.{Writes}
 use Rattle.hull_io.specs.declared.WriteFailed.{WriteFailed}
 use Rattle.uc_model.specs.Data.{unit_count}
-use Rattle.board_history.specs.Calls.{has_finished}
 use Rattle.hull_report.specs.RecordReport.{report_of}
 use Rattle.hull_report.specs.ReportText.{report_text}
 use Rattle.hull_report.specs.TryText.{try_text}

@@ -1,5 +1,5 @@
 -- What a command works on.
-use Rattle.std.specs.Prelude.{◌≡◌, ℕ, ◌*◌, ◌≤◌, ⊤}
+use Rattle.std.specs.Prelude.{◌≡◌, ◌*◌, ◌≤◌}
 use Rattle.uc_model.specs.Data.{unit_count}
 use Rattle.uc_model.specs.PlainCases.{market_of, schedules_of}
 use Rattle.uc_model.specs.Systems.{IsFeasiblePlan, plan_cost}

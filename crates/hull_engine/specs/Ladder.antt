@@ -3,7 +3,7 @@ use Rattle.std.specs.Prelude.{◌≡◌, ℕ, ◌*◌, ℤ, nat_lt, List, [], le
 use Rattle.uc_model.specs.Data.{Market, Schedule, unit_count}
 use Rattle.uc_model.specs.Systems.{IsFeasiblePlan, plan_cost}
 use Rattle.uc_model.specs.Refusals.{refusals}
-use Rattle.hull_words.specs.Asked.{Asked, check, price, try, bound, fixed, audit, CheckAsked, TryAsked}
+use Rattle.hull_words.specs.Asked.{Asked, check, price, try, CheckAsked, TryAsked}
 use Rattle.hull_words.specs.Words.{words_of, fault}
 use Rattle.hull_words.specs.declared.fault.WordFault.{WordFault}
 use Rattle.hull_words.specs.declared.fault.WordCode.TheVariants.{UnknownCommand}

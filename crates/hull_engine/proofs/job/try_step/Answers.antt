@@ -1,7 +1,6 @@
 use Rattle.std.proofs.Common.{◌≡◌, Result, Ok, refl, subst}
 use Rattle.std.proofs.lemmas.Result.{err_from_is_err_and}
 use Rattle.hull_report.specs.declared.fault.TopFault.{TopFault}
-use Rattle.hull_engine.specs.declared.input.RunInput.{RunInput}
 use Rattle.hull_engine.specs.declared.job.Job.{Job}
 use Rattle.hull_engine.specs.declared.job.Job.TheVariants as jobs
 use Rattle.hull_engine.specs.Due.{Accepts, Only, DueAccepts}

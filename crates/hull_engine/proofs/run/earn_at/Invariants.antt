@@ -1,6 +1,5 @@
 use Rattle.std.proofs.Common.{◌≡◌, ◌+◌, ◌<◌, ◌≤◌, ℕ, length}
 use Rattle.board_core.specs.Boards.{kept_answer}
-use Rattle.uc_model.specs.Data.{unit_count}
 use Rattle.uc_model.specs.Sums.{int_at}
 use Rattle.hull_engine.proofs.run.earn_at.Given as goal
 
