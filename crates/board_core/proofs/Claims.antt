@@ -1,25 +1,25 @@
 -- What a claim answers, and that the lists go on with it.
-use Rattle.std.proofs.Common.{◌≡◌, ℕ, zero, suc, ◌+◌, ◌-◌, ◌*◌, ◌/◌, ◌%◌, ◌<◌, ◌≤◌, ◌⊎◌, Bool, true, false, cond, ◌&&◌, ◌||◌, ◌==◌, inl, inr, Option, Some, None, List, [], ◌∷◌, ◌++◌, length, map, take, get_or, refl, sym, ap, ◌∙◌, subst, arith, eq-eqb, length-append}
-use Rattle.std.proofs.lemmas.Bool.{false≢true, cases_lt, le-leb, lt-leb}
+use Rattle.std.proofs.Common.{◌≡◌, ℕ, zero, suc, ◌+◌, ◌-◌, ◌*◌, ◌/◌, ◌%◌, ◌<◌, ◌≤◌, ◌⊎◌, Bool, true, false, cond, ◌&&◌, ◌==◌, inl, inr, Option, Some, None, List, [], ◌∷◌, ◌++◌, length, map, get_or, refl, sym, ap, ◌∙◌, subst, arith, eq-eqb, length-append}
+use Rattle.std.proofs.lemmas.Bool.{le-leb, lt-leb}
 use Rattle.std.proofs.lemmas.Bool.Decides.{nat_tests}
 use Rattle.std.proofs.lemmas.List.{get_or-map, get_or-take}
-use Rattle.std.proofs.lemmas.List.FromFn.{length-map-range_with_len, get_or-map-range_with_len}
+use Rattle.std.proofs.lemmas.List.FromFn.{get_or-map-range_with_len}
 use Rattle.std.proofs.lemmas.List.Folds.{list_any-append}
 use Rattle.std.proofs.lemmas.Option.{slice_get_past, slice_get-get_or}
-use Rattle.std.specs.List.{list_any, range_with_len}
+use Rattle.std.specs.List.{list_any}
 use Rattle.std.specs.Option.{option_map_or}
-use Rattle.std.specs.Prelude.{is_none, nat_le, slice_get, slice_index, slice_index_or}
+use Rattle.std.specs.Prelude.{is_none, slice_get, slice_index_or}
 use Rattle.board_history.proofs.Answered.{posts-given, holders-given}
 use Rattle.board_history.proofs.NextTask.{first_in_rows, not_in_rows, place_before, place_same}
 use Rattle.board_history.proofs.Stays.{legal_more}
 use Rattle.board_history.specs.Board.{Setup, Answer, IsRight, no_answer, rules_of}
-use Rattle.board_history.specs.Rounds.{Rules, Event, Given, Taken, Closing, Stopped, sooner, only_at, Posts, posts, Holders, holders, closed_front, opened, is_finished, prices_at, is_halt, is_halt_of, ClaimReply, Finished, Halted, GivenTask, NotYet, next_task, claim_from, claim_reply}
+use Rattle.board_history.specs.Rounds.{Rules, Event, Given, sooner, only_at, posts, holders, closed_front, opened, is_finished, prices_at, is_halt, is_halt_of, ClaimReply, Finished, Halted, GivenTask, NotYet, next_task, claim_reply}
 use Rattle.uc_model.specs.Data.{PriceLists, unit_count}
 use Rattle.uc_model.specs.PriceRule.{Proposal, no_prices}
 use Rattle.uc_model.specs.Runs.{Fits}
 use Rattle.board_core.specs.Events.{place}
 use Rattle.board_core.specs.Ledgers.{LedgerValue}
-use Rattle.board_core.specs.Parts.{Lists, task_count, sums_of, fronts_of, AreTakers, mark, AreMarks, AreTallies, AreRounds, AreHalts, IsBoard}
+use Rattle.board_core.specs.Parts.{Lists, task_count, sums_of, fronts_of, AreTakers, mark, AreMarks, AreTallies, AreRounds, IsBoard}
 use Rattle.board_core.specs.Setups.{IsSetup}
 use Rattle.board_core.proofs.Fronts.{closed_is, opened_is}
 use Rattle.board_core.proofs.Halts.{or_false}

@@ -1,5 +1,5 @@
 -- What a feasible plan costs is far from the limits of 128 bits.
-use Rattle.std.proofs.Common.{◌≡◌, ℕ, zero, suc, ◌+◌, ◌*◌, ◌<◌, ◌≤◌, ℤ, pos, neg_ℤ, ◌+ℤ◌, ◌-ℤ◌, ◌*ℤ◌, ◌≤ℤ◌, List, [], ◌∷◌, length, refl, sym, ap, ◌∙◌, subst, arith}
+use Rattle.std.proofs.Common.{◌≡◌, ℕ, zero, suc, ◌*◌, ◌<◌, ℤ, pos, neg_ℤ, ◌+ℤ◌, ◌*ℤ◌, List, [], ◌∷◌, length, refl, sym, ap, ◌∙◌, subst, arith}
 use Rattle.std.proofs.Math.IntN.{*ℤ_comm, *ℤ-zero}
 use Rattle.std.proofs.lemmas.Int.{ints}
 use Rattle.std.proofs.lemmas.List.{get_or-replicate, length-replicate}
@@ -10,12 +10,12 @@ use Rattle.board_history.proofs.UnitBounds.{IsLimited, earnings_within}
 use Rattle.board_history.specs.Board.{Setup}
 use Rattle.board_history.specs.Bounds.{IsWorth}
 use Rattle.uc_model.proofs.IntLaws.{sum_below-same, sum_below-zero}
-use Rattle.uc_model.proofs.SignedLaws.{IsWithin, sum_within}
-use Rattle.uc_model.specs.Data.{AnyUnit, PriceLists, Schedule, Market, units}
-use Rattle.uc_model.specs.Earnings.{cost_of, earnings, revenue, supply_in}
+use Rattle.uc_model.proofs.SignedLaws.{IsWithin}
+use Rattle.uc_model.specs.Data.{AnyUnit, PriceLists, Schedule, units}
+use Rattle.uc_model.specs.Earnings.{cost_of, revenue, supply_in}
 use Rattle.uc_model.specs.Limits.{IsFrom, IsHorizon, ArePrices, price_limit}
 use Rattle.uc_model.specs.Schedules.{reserve_in, IsFeasible}
-use Rattle.uc_model.specs.Sums.{int_at, total, zip_with, sum_below}
+use Rattle.uc_model.specs.Sums.{int_at, total, zip_with}
 use Rattle.board_core.specs.Setups.{IsSetup}
 use Rattle.board_core.proofs.UnitPlaces.{units_limited}
 

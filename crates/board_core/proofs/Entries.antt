@@ -1,5 +1,5 @@
 -- Entries and events, with one more of each.
-use Rattle.std.proofs.Common.{◌≡◌, ℕ, List, [], ◌∷◌, ◌++◌, map, length, sym, ap, ◌∙◌}
+use Rattle.std.proofs.Common.{◌≡◌, ℕ, List, [], ◌∷◌, ◌++◌, sym, ap, ◌∙◌}
 use Rattle.std.proofs.lemmas.List.{map-append}
 use Rattle.board_history.specs.Board.{Setup, Answer, Content}
 use Rattle.board_history.specs.Entries.{entry_of, entries_of}

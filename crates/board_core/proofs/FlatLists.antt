@@ -1,16 +1,14 @@
 -- The flat list of a task isn't long, and a walk along two of them finds where they differ.
-use Rattle.std.proofs.Common.{inl, inr, ◌≡◌, ℕ, zero, suc, ◌+◌, ◌*◌, ◌<◌, ◌≤◌, ℤ, pos, Some, None, List, [], ◌∷◌, ◌++◌, map, length, get_or, refl, sym, ap, ◌∙◌, subst, arith, length-append}
+use Rattle.std.proofs.Common.{inl, inr, ◌≡◌, ℕ, suc, ◌+◌, ◌*◌, ◌<◌, ◌≤◌, ℤ, pos, Some, None, List, [], ◌∷◌, ◌++◌, map, length, get_or, refl, sym, ap, ◌∙◌, arith, length-append}
 use Rattle.std.proofs.lemmas.List.{length-map}
 use Rattle.std.proofs.lemmas.Option.{get_or_from_slice_get, slice_get_within, slice_get-get_or}
 use Rattle.std.proofs.lemmas.Bool.{cases_lt}
-use Rattle.std.specs.List.{All, flat_map}
-use Rattle.std.specs.Option.{option_map}
+use Rattle.std.specs.List.{flat_map}
 use Rattle.std.specs.Prelude.{slice_get}
 use Rattle.board_history.proofs.SameTask.{difference_at, difference_none}
 use Rattle.board_history.proofs.UnitBounds.{IsLimited}
-use Rattle.board_history.specs.Tasks.{Difference, difference, IsOver, IsTask}
-use Rattle.uc_model.specs.Data.{AnyUnit, Thermal, Flat, Bid, PriceLists}
-use Rattle.uc_model.specs.Limits.{IsBlockList, ArePrices}
+use Rattle.board_history.specs.Tasks.{difference, IsOver, IsTask}
+use Rattle.uc_model.specs.Data.{AnyUnit, Thermal, Flat, Bid}
 use Rattle.uc_model.specs.PlainCases.{chosen_unit, task_unit}
 use Rattle.uc_model.specs.PlainUnits.{prices_of}
 use Rattle.uc_model.specs.Reserved.{items_in}
@@ -22,7 +20,6 @@ use Rattle.uc_model.specs.declared.units.Lag.{Lag}
 use Rattle.uc_model.specs.declared.units.Point.{Point}
 use Rattle.uc_model.specs.declared.units.UnitKind.{UnitKind}
 use Rattle.uc_model.specs.declared.units.UnitKind.TheVariants as kinds
-use Rattle.board_core.specs.declared.replies.Differs.{Differs}
 use Rattle.board_core.specs.declared.replies.Differs.TheVariants as differs
 use Rattle.board_core.specs.Refusals.{differs_of}
 

@@ -1,8 +1,7 @@
 -- How many proposals are closed and how many are open, and the answers of those that are closed.
-use Rattle.std.proofs.Common.{◌≡◌, ℕ, zero, suc, ◌+◌, ◌-◌, ◌*◌, ◌<◌, ◌≤◌, Bool, true, false, cond, Option, Some, None, List, [], ◌∷◌, length, map, take, get_or, refl, sym, ap, ◌∙◌, subst, arith}
+use Rattle.std.proofs.Common.{◌≡◌, ℕ, suc, ◌-◌, ◌<◌, ◌≤◌, Bool, true, false, cond, Option, Some, None, List, length, map, get_or, sym, ap, ◌∙◌, subst, arith}
 use Rattle.std.proofs.lemmas.List.{length-map, length-take-le}
 use Rattle.std.proofs.lemmas.List.FromFn.{length-map-range_with_len}
-use Rattle.std.specs.List.{range_with_len}
 use Rattle.std.specs.Option.{option_map_or}
 use Rattle.std.specs.Prelude.{slice_index}
 use Rattle.board_history.proofs.Kept.{post_of, rows_length, front_closed}
@@ -13,7 +12,7 @@ use Rattle.uc_model.specs.Data.{PriceLists, unit_count}
 use Rattle.uc_model.specs.PriceRule.{Proposal}
 use Rattle.board_core.specs.Events.{place}
 use Rattle.board_core.specs.Ledgers.{LedgerValue}
-use Rattle.board_core.specs.Parts.{Lists, mark, task_count, fronts_of, IsLedger, AreRounds, IsBoard}
+use Rattle.board_core.specs.Parts.{Lists, fronts_of, IsLedger, AreRounds, IsBoard}
 
 -- the answer of a mark
 marked : (t : Bool) (c : ℕ) (a : Answer) (x : ℕ × Answer) → cond {A = Option (ℕ × Answer)} t (Some (c, a)) None ≡ Some x → a ≡ x.1

@@ -1,5 +1,5 @@
 -- A caller's first halt.
-use Rattle.std.proofs.Common.{◌≡◌, ℕ, zero, suc, ◌+◌, ◌-◌, ◌<◌, ◌≤◌, ◌⊎◌, Bool, true, false, cond, ◌||◌, ◌==◌, inl, inr, List, [], ◌∷◌, ◌++◌, length, get_or, refl, sym, ap, ◌∙◌, subst, arith}
+use Rattle.std.proofs.Common.{◌≡◌, ℕ, ◌+◌, ◌<◌, ◌⊎◌, Bool, true, false, ◌||◌, ◌==◌, inl, inr, List, [], ◌∷◌, ◌++◌, length, get_or, refl, sym, ap, ◌∙◌, subst, arith}
 use Rattle.std.proofs.Math.ListN.{set, length-set}
 use Rattle.std.proofs.lemmas.Bool.Decides.{nat_tests}
 use Rattle.std.proofs.lemmas.List.{get_or-set_same, get_or-set_other}
@@ -10,7 +10,7 @@ use Rattle.std.specs.Prelude.{not}
 use Rattle.board_history.proofs.Answered.{posts-stopped, holders-stopped}
 use Rattle.board_history.proofs.Stays.{legal_more}
 use Rattle.board_history.specs.Board.{Setup, Answer, IsRight, rules_of}
-use Rattle.board_history.specs.Rounds.{Event, Posts, Stopped, posts, holders, is_halt, is_halt_of}
+use Rattle.board_history.specs.Rounds.{Event, Stopped, is_halt, is_halt_of}
 use Rattle.uc_model.specs.Runs.{Fits}
 use Rattle.board_core.specs.Ledgers.{LedgerValue}
 use Rattle.board_core.specs.Parts.{bit, unset, Lists, sums_of, fronts_of, AreTakers, AreMarks, AreTallies, AreRounds, AreHalts, IsBoard}

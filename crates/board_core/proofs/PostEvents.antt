@@ -1,5 +1,5 @@
 -- The events of a board whose store has one more answer.
-use Rattle.std.proofs.Common.{◌≡◌, ℕ, zero, suc, ◌+◌, ◌-◌, ◌<◌, ◌≤◌, Bool, true, false, cond, ◌==◌, Option, Some, None, List, [], ◌∷◌, ◌++◌, length, map, get_or, refl, sym, ap, ◌∙◌, subst, arith}
+use Rattle.std.proofs.Common.{◌≡◌, ℕ, ◌+◌, ◌-◌, Bool, true, false, cond, ◌==◌, Option, Some, None, List, [], ◌∷◌, ◌++◌, get_or, refl, sym, ap, ◌∙◌, subst}
 use Rattle.std.proofs.Math.ListN.{set}
 use Rattle.std.proofs.lemmas.List.{get_or-set_same, get_or-set_other, map-append}
 use Rattle.std.specs.Prelude.{is_some}
@@ -7,7 +7,7 @@ use Rattle.board_history.proofs.Answered.{all_answer}
 use Rattle.board_history.proofs.Fronts.{some_of}
 use Rattle.board_history.proofs.NextTask.{place_same}
 use Rattle.board_history.specs.Board.{Setup, Answer, IsRight, no_answer, rules_of, row_of}
-use Rattle.board_history.specs.Rounds.{Event, Given, Taken, Closing, Stopped, sooner, only_at, posts, post_event}
+use Rattle.board_history.specs.Rounds.{Event, Taken, Closing, sooner, only_at, posts, post_event}
 use Rattle.board_history.specs.declared.entries.Call.TheVariants as calls
 use Rattle.board_history.specs.declared.entries.Entry.{Entry}
 use Rattle.board_history.specs.declared.entries.Reply.{Reply}

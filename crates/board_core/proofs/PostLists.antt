@@ -1,5 +1,5 @@
 -- The lists of a board with one more post.
-use Rattle.std.proofs.Common.{◌≡◌, ℕ, zero, suc, ◌+◌, ◌-◌, ◌*◌, ◌<◌, ◌≤◌, ◌⊎◌, Bool, true, false, cond, ◌&&◌, ◌==◌, inl, inr, Option, Some, None, List, [], ◌∷◌, ◌++◌, length, map, get_or, refl, sym, ap, ◌∙◌, subst, arith, eq-eqb}
+use Rattle.std.proofs.Common.{◌≡◌, ℕ, zero, suc, ◌+◌, ◌-◌, ◌*◌, ◌<◌, ◌≤◌, ◌⊎◌, Bool, true, false, cond, ◌&&◌, ◌==◌, inl, inr, Option, Some, None, List, length, map, get_or, refl, sym, ap, ◌∙◌, subst, arith, eq-eqb}
 use Rattle.std.proofs.Math.ListN.{set, length-set}
 use Rattle.std.proofs.lemmas.Bool.{cases_lt}
 use Rattle.std.proofs.lemmas.Bool.Decides.{nat_tests}
@@ -11,9 +11,8 @@ use Rattle.board_history.proofs.Answered.{sooner_none}
 use Rattle.board_history.proofs.Fronts.{map_range_same}
 use Rattle.board_history.proofs.NextTask.{place_before, place_same}
 use Rattle.board_history.specs.Board.{Setup, Answer, no_answer, rules_of}
-use Rattle.board_history.specs.Rounds.{Rules, Event, sooner, only_at, Posts, posts, holders, with_post, is_closed}
-use Rattle.uc_model.specs.Data.{PriceLists, unit_count}
-use Rattle.uc_model.specs.PriceRule.{Proposal}
+use Rattle.board_history.specs.Rounds.{Event, sooner, only_at, Posts, posts, holders, with_post, is_closed}
+use Rattle.uc_model.specs.Data.{unit_count}
 use Rattle.board_core.specs.Events.{place}
 use Rattle.board_core.specs.Ledgers.{LedgerValue}
 use Rattle.board_core.specs.Parts.{Lists, task_count, bit, sum_up, answered, mark, AreMarks, IsBoard}

@@ -1,10 +1,10 @@
 -- The rounds of a board with one more post.
-use Rattle.std.proofs.Common.{◌≡◌, ℕ, zero, suc, ◌+◌, ◌-◌, ◌<◌, ◌≤◌, ◌⊎◌, ℤ, ◌-ℤ◌, Bool, true, false, cond, ◌||◌, ◌==◌, inl, inr, Option, Some, None, List, [], ◌∷◌, ◌++◌, length, map, take, get_or, refl, sym, ap, ◌∙◌, subst, arith}
+use Rattle.std.proofs.Common.{◌≡◌, ℕ, suc, ◌+◌, ◌-◌, ◌<◌, ◌≤◌, ℤ, ◌-ℤ◌, Bool, true, false, cond, ◌==◌, inl, inr, List, [], ◌∷◌, ◌++◌, length, map, take, get_or, refl, sym, ap, ◌∙◌, subst, arith}
 use Rattle.std.proofs.Math.ListN.{set}
 use Rattle.std.proofs.lemmas.List.{get_or-take, length-take-le}
 use Rattle.std.proofs.lemmas.List.Folds.{list_any-append}
 use Rattle.std.specs.List.{All, list_any, range_with_len}
-use Rattle.std.specs.Prelude.{is_some, slice_index}
+use Rattle.std.specs.Prelude.{slice_index}
 use Rattle.board_history.proofs.Answered.{posts-taken, posts-closing, holders-taken, holders-closing, extends_with, post_cases, all_answer}
 use Rattle.board_history.proofs.Fronts.{map_range_same, front_le, front_is, front_most}
 use Rattle.board_history.proofs.Kept.{Extends, post_of, rows_by_same, rows_length, rows_take, closed_kept, rows_kept_to, front_closed, free_le}
@@ -12,9 +12,9 @@ use Rattle.board_history.proofs.RowBounds.{totals_within, rows_are_within, rows_
 use Rattle.board_history.proofs.Stays.{legal_more}
 use Rattle.board_history.specs.Board.{Setup, Answer, IsRight, IsLegalHistory, rules_of, row_of, earned_in}
 use Rattle.board_history.specs.Bounds.{IsSum}
-use Rattle.board_history.specs.Rounds.{Rules, Event, Taken, Closing, Posts, posts, Holders, holders, with_post, is_closed, answers, row_by, rows_by, rows_to, prices_by, prices_at, closed_front, rows_of, opened, opened_in, is_halt, is_halt_of, IsPost, IsNext, post_event}
+use Rattle.board_history.specs.Rounds.{Rules, Event, Taken, Closing, Posts, posts, holders, with_post, is_closed, answers, row_by, rows_by, rows_to, prices_by, prices_at, closed_front, rows_of, opened, opened_in, is_halt, is_halt_of, IsPost, IsNext, post_event}
 use Rattle.price_move.specs.Sizes.{IsRowBelow}
-use Rattle.uc_model.specs.Data.{AnyUnit, PriceLists, units, unit_count}
+use Rattle.uc_model.specs.Data.{PriceLists, unit_count}
 use Rattle.uc_model.specs.PriceRule.{Proposal, no_prices}
 use Rattle.uc_model.specs.Runs.{Fits}
 use Rattle.uc_model.specs.Sums.{int_at, total}

@@ -1,8 +1,8 @@
 -- The totals of a ledger with one more answer.
-use Rattle.std.proofs.Common.{◌≡◌, ℕ, zero, suc, ◌+◌, ◌-◌, ◌<◌, ◌≤◌, ◌⊎◌, ℤ, pos, ◌+ℤ◌, Bool, inl, inr, Option, Some, None, List, [], ◌∷◌, length, map, take, get_or, refl, sym, ap, ◌∙◌, subst, arith}
+use Rattle.std.proofs.Common.{◌≡◌, ℕ, suc, ◌+◌, ◌-◌, ◌<◌, ◌≤◌, ℤ, pos, ◌+ℤ◌, inl, inr, Option, Some, None, List, [], length, map, take, get_or, refl, sym, ap, ◌∙◌, subst, arith}
 use Rattle.std.proofs.Math.ListN.{set, length-set}
 use Rattle.std.proofs.lemmas.Bool.{cases_lt}
-use Rattle.std.proofs.lemmas.List.{get_or-set_same, get_or-set_other, get_or-map, map-set, length-map, take-set-le}
+use Rattle.std.proofs.lemmas.List.{get_or-set_same, get_or-set_other, get_or-map, map-set, take-set-le}
 use Rattle.std.proofs.lemmas.List.FromFn.{length-map-range_with_len, get_or-map-range_with_len}
 use Rattle.std.specs.List.{All, range_with_len}
 use Rattle.std.specs.Option.{option_map_or}
@@ -12,7 +12,7 @@ use Rattle.board_history.proofs.Kept.{post_of, front_closed}
 use Rattle.board_history.proofs.RowLaws.{units_length}
 use Rattle.board_history.proofs.Totals.{totals_run}
 use Rattle.board_history.specs.Board.{Setup, Answer, no_answer, rules_of, schedules_in, earned_in}
-use Rattle.board_history.specs.Rounds.{Rules, Event, Posts, posts, with_post, is_closed, answer_at, answers, closed_front}
+use Rattle.board_history.specs.Rounds.{Rules, Event, Posts, posts, with_post, answer_at, answers}
 use Rattle.board_history.specs.Totals.{AddsOne}
 use Rattle.uc_model.specs.Data.{AnyUnit, PriceLists, units, unit_count}
 use Rattle.uc_model.specs.Earnings.{supply_in}
@@ -22,10 +22,9 @@ use Rattle.uc_model.specs.Sums.{int_at, total}
 use Rattle.uc_model.specs.Systems.{total_power, total_reserve}
 use Rattle.board_core.specs.Ledgers.{LedgerValue, raised_by, with_schedule}
 use Rattle.board_core.specs.Parts.{Lists, supply_to, reserve_to, sums_of, fronts_of, AreTallies, IsLedger, IsBoard}
-use Rattle.board_core.specs.Rounds.{Sums, Fronts}
 use Rattle.board_core.proofs.Fronts.{closed_is}
 use Rattle.board_core.proofs.LedgerSteps.{map_unchanged, same_fronts}
-use Rattle.board_core.proofs.PostLists.{IsHeldTask, same_or, q_other, q_here, k_inside, after_k, counts_more, in_budget}
+use Rattle.board_core.proofs.PostLists.{IsHeldTask, same_or, q_other, q_here, k_inside, after_k, counts_more}
 
 raised_map : (f add f2 : ℕ → ℤ) (n : ℕ) → ((k : ℕ) → f2 k ≡ f k +ℤ add k) → raised_by (map f (range_with_len 0 n)) add ≡ map f2 (range_with_len 0 n)
 raised_map f add f2 n h =

@@ -1,11 +1,11 @@
 -- Why a post is refused, and what holds where it isn't.
-use Rattle.std.proofs.Common.{◌≡◌, ℕ, zero, suc, ◌+◌, ◌-◌, ◌<◌, ◌≤◌, Bool, true, false, cond, ◌||◌, ◌==◌, Option, Some, None, List, [], ◌∷◌, ◌++◌, length, get_or, refl, sym, ap, ◌∙◌, subst, arith}
+use Rattle.std.proofs.Common.{◌≡◌, ℕ, ◌+◌, ◌-◌, ◌<◌, ◌≤◌, Bool, true, false, cond, ◌||◌, ◌==◌, Option, Some, None, List, get_or, refl, sym, ap, ◌∙◌, arith}
 use Rattle.std.proofs.lemmas.Bool.Decides.{nat_tests}
 use Rattle.std.specs.Option.{option_map_or}
-use Rattle.std.specs.Prelude.{not, nat_lt, nat_le, slice_get, slice_index}
-use Rattle.board_history.specs.Board.{Setup, Answer, Content, no_answer, rules_of}
+use Rattle.std.specs.Prelude.{nat_lt, nat_le, slice_get, slice_index}
+use Rattle.board_history.specs.Board.{Setup, Answer, no_answer, rules_of}
 use Rattle.board_history.specs.Calls.{differs_from, post_answer}
-use Rattle.board_history.specs.Rounds.{Rules, Event, Posts, posts, holders, opened, prices_at, is_closed, with_post, PostReply, OtherProposal, OtherUnit, OtherContent, Doubled, OtherHolder, TakenPost, is_holder, with_answer}
+use Rattle.board_history.specs.Rounds.{Rules, Event, posts, holders, opened, prices_at, is_closed, with_post, PostReply, OtherProposal, OtherUnit, OtherContent, Doubled, OtherHolder, TakenPost, is_holder, with_answer}
 use Rattle.board_history.specs.Tasks.{Difference}
 use Rattle.uc_model.specs.Data.{AnyUnit, PriceLists, unit_count}
 use Rattle.uc_model.specs.PriceRule.{Proposal}

@@ -1,5 +1,5 @@
 -- What holds of a post that isn't refused.
-use Rattle.std.proofs.Common.{◌≡◌, ℕ, zero, suc, ◌+◌, ◌-◌, ◌<◌, ◌≤◌, ℤ, Bool, true, false, cond, Option, Some, None, List, [], ◌∷◌, length, map, get_or, refl, sym, ap, ◌∙◌, subst, arith}
+use Rattle.std.proofs.Common.{◌≡◌, ℕ, ◌≤◌, Bool, true, false, cond, Some, None, List, length, refl, sym, ap, ◌∙◌, subst, arith}
 use Rattle.std.proofs.lemmas.List.Elements.{All-map}
 use Rattle.std.specs.List.{All, range_with_len}
 use Rattle.std.specs.Prelude.{slice_get}
@@ -14,7 +14,7 @@ use Rattle.board_history.specs.Entries.{entry_of}
 use Rattle.board_history.specs.Rounds.{Event, Taken, Closing, TakenPost, posts, prices_at, is_closed, answers, with_post}
 use Rattle.board_history.specs.Tasks.{IsTask}
 use Rattle.board_history.specs.declared.entries.Call.TheVariants as calls
-use Rattle.uc_model.specs.Data.{AnyUnit, PriceLists, Schedule, units, unit_count}
+use Rattle.uc_model.specs.Data.{AnyUnit, PriceLists, units, unit_count}
 use Rattle.uc_model.specs.Earnings.{earnings}
 use Rattle.uc_model.specs.Runs.{Fits}
 use Rattle.uc_model.specs.Schedules.{IsFeasible}

@@ -1,5 +1,5 @@
 -- What contracts say of boards.
-use Rattle.std.specs.Prelude.{ℕ, ℤ, [], List}
+use Rattle.std.specs.Prelude.{ℕ, ℤ, []}
 use Rattle.board_history.specs.Board.{Setup, Answer, Content, rules_of}
 use Rattle.board_history.specs.Rounds.{posts, answer_at}
 use Rattle.uc_model.specs.PlainCases.{market_of, schedules_of}

@@ -1,7 +1,7 @@
 -- The ledger of a board without events.
-use Rattle.std.specs.Prelude.{ℕ, zero, suc, ◌+◌, ℤ, pos, List, map, replicate, slice_index_or, slice_set}
+use Rattle.std.specs.Prelude.{ℕ, zero, suc, ◌+◌, ℤ, pos, List, replicate, slice_index_or, slice_set}
 use Rattle.uc_model.specs.Data.{PriceLists}
-use Rattle.uc_model.specs.PriceRule.{Proposal, opening_prices_of}
+use Rattle.uc_model.specs.PriceRule.{opening_prices_of}
 use Rattle.board_core.specs.Ledgers.{LedgerValue, blank, with_prices}
 
 abbrev pub blank_ledger : (periods budget : ℕ) → LedgerValue

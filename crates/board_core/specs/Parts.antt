@@ -5,7 +5,7 @@ use Rattle.board_history.specs.Board.{Setup, Answer, no_answer, rules_of, schedu
 use Rattle.board_history.specs.Entries.{entries_of}
 use Rattle.board_history.specs.Rounds.{Event, Posts, posts, Holders, holders, answers, prices_at, rows_of, opened, is_halt_of, is_halt}
 use Rattle.board_history.specs.declared.entries.Entry.{Entry}
-use Rattle.uc_model.specs.Data.{PriceLists, units, unit_count}
+use Rattle.uc_model.specs.Data.{units, unit_count}
 use Rattle.uc_model.specs.PriceRule.{Proposal}
 use Rattle.uc_model.specs.Sums.{int_at, total}
 use Rattle.uc_model.specs.Systems.{total_power, total_reserve}

@@ -1,5 +1,5 @@
 -- What the calls do, read off the lists of a board.
-use Rattle.std.specs.Prelude.{ℕ, ◌-◌, ℤ, Bool, false, ◌||◌, ◌==◌, if◌then◌else◌, nat_le, nat_lt, Option, Some, None, List, slice_get, slice_index, slice_index_or}
+use Rattle.std.specs.Prelude.{ℕ, ◌-◌, Bool, false, ◌||◌, ◌==◌, if◌then◌else◌, nat_le, nat_lt, Option, Some, None, List, slice_get, slice_index, slice_index_or}
 use Rattle.std.specs.Option.{option_map, option_map_or}
 use Rattle.board_history.specs.Board.{Setup}
 use Rattle.board_history.specs.Calls.{differs_from}
@@ -8,7 +8,6 @@ use Rattle.board_history.specs.Tasks.{Difference}
 use Rattle.board_history.specs.declared.entries.Reply.{Reply}
 use Rattle.board_history.specs.declared.entries.Reply.TheVariants as replies
 use Rattle.uc_model.specs.Data.{AnyUnit, PriceLists, unit_count}
-use Rattle.uc_model.specs.PriceRule.{Proposal}
 use Rattle.board_core.specs.declared.replies.Differs.{Differs}
 use Rattle.board_core.specs.declared.replies.Differs.TheVariants as differs
 use Rattle.board_core.specs.declared.replies.Posted.{Posted}

@@ -1,5 +1,5 @@
 -- What a board may be made for (the limits are this project's profile).
-use Rattle.std.specs.Prelude.{◌≡◌, ℕ, ◌*◌, ◌≤◌}
+use Rattle.std.specs.Prelude.{◌≡◌, ◌*◌, ◌≤◌}
 use Rattle.board_history.specs.Board.{Setup}
 use Rattle.uc_model.specs.Data.{unit_count}
 use Rattle.uc_model.specs.Limits.{IsMarket}
@@ -29,4 +29,3 @@ setup_of t = record {
   ahead = t.ahead;
   callers = t.callers;
 }
-

@@ -73,10 +73,10 @@ impl Model for Board {
 
     ghost invariant = { λ b.
         IsBoard (setup_of b.terms) (events_of (unit_count (setup_of b.terms).market) b.store.answers b.history.items)
-            (record { takers = b.takers.items; marks = b.marks.items; kept = b.store.answers; counts = b.counts.items; halted = b.halted.items; any_halt = b.any_halt }) b.ledger
+        (record { takers = b.takers.items; marks = b.marks.items; kept = b.store.answers; counts = b.counts.items; halted = b.halted.items; any_halt = b.any_halt }) b.ledger
         × IsKept (setup_of b.terms) (events_of (unit_count (setup_of b.terms).market) b.store.answers b.history.items) b.history.items
-            (record { takers = b.takers.items; marks = b.marks.items; kept = b.store.answers; counts = b.counts.items; halted = b.halted.items; any_halt = b.any_halt })
-            (vec_capacity b.history) (vec_capacity b.takers) b.store.periods (length (prices_of b.next).energy)
+        (record { takers = b.takers.items; marks = b.marks.items; kept = b.store.answers; counts = b.counts.items; halted = b.halted.items; any_halt = b.any_halt })
+        (vec_capacity b.history) (vec_capacity b.takers) b.store.periods (length (prices_of b.next).energy)
         × IsTaskFor (setup_of b.terms).market.periods b.own };
 }
 
@@ -221,12 +221,7 @@ impl Board {
         self.ledger.add(before, task, answer);
         let closes = count_up(&mut self.counts, before) == units;
         self.history.push_reserved(post_entry(caller, task, closes));
-        advance(
-            &self.terms,
-            &self.counts,
-            &mut self.ledger,
-            &mut self.next,
-        );
+        advance(&self.terms, &self.counts, &mut self.ledger, &mut self.next);
         Posted::Taken {
             closed: closed_of(closes, task.proposal),
         }

@@ -44,12 +44,7 @@ fn put_part<T: Copy + Drop>(store: &mut Vec<T>, long: usize, place: usize, list:
 }
 
 // Leaves the list at a place in another that has room for it.
-fn take_part<T: Copy + Drop>(
-    store: &[T],
-    long: usize,
-    place: usize,
-    into: &mut ReservedList<T>,
-)
+fn take_part<T: Copy + Drop>(store: &[T], long: usize, place: usize, into: &mut ReservedList<T>)
     requires inside { place * long + long ≤ length store.now }
     requires room { long ≤ length into.old.items + into.old.spare }
     ensures { into.new.items ≡ part store.now long place }

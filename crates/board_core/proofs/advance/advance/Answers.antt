@@ -1,4 +1,4 @@
-use Rattle.std.proofs.Common.{◌≡◌, ℕ, suc, ◌<◌, ◌≤◌, true, List, length, get_or, sym, ap, ◌∙◌, subst, arith}
+use Rattle.std.proofs.Common.{◌≡◌, ℕ, suc, ◌<◌, true, List, length, get_or, sym, ap, ◌∙◌, subst, arith}
 use Rattle.std.specs.List.{All}
 use Rattle.board_history.specs.Board.{rules_of}
 use Rattle.board_history.specs.Rounds.{rows_by}
@@ -6,7 +6,7 @@ use Rattle.price_move.specs.Sizes.{IsRowBelow}
 use Rattle.uc_model.specs.Data.{unit_count}
 use Rattle.uc_model.specs.PriceRule.{Proposal}
 use Rattle.board_core.specs.Parts.{sums_of, fronts_of}
-use Rattle.board_core.specs.Rounds.{Sums, Fronts, IsRound, is_full, row_in, with_row, with_opened, with_round}
+use Rattle.board_core.specs.Rounds.{Sums, Fronts, IsRound, is_full, row_in, with_opened, with_round}
 use Rattle.board_core.specs.Setups.{setup_of}
 use Rattle.board_core.proofs.Advances.{full_is, rows_next, round_more, full_to}
 use Rattle.board_core.proofs.Fronts.{rows_count, prices_count}

@@ -1,4 +1,4 @@
-use Rattle.std.proofs.Common.{rules, ◌≡◌, ℤ, length, map, sym, ap, ◌∙◌, subst, arith, FitsSigned}
+use Rattle.std.proofs.Common.{rules, map, sym, subst, arith, FitsSigned}
 use Rattle.std.proofs.lemmas.Int.{to_z-of_z}
 use Rattle.std.proofs.lemmas.List.{length-map}
 use Rattle.std.specs.Int.{w128}
@@ -6,9 +6,8 @@ use Rattle.board_history.specs.Bounds.{IsWorth}
 use Rattle.uc_model.specs.PlainCases.{market_of, proposal_of}
 use Rattle.uc_model.specs.PlainUnits.{prices_of}
 use Rattle.board_core.specs.Setups.{setup_of}
-use Rattle.board_core.proofs.Advances.{moved_over, round_more}
+use Rattle.board_core.proofs.Advances.{moved_over}
 use Rattle.board_core.proofs.Costs.{cost_worth}
-use Rattle.board_core.proofs.LedgerSteps.{opened_fronts}
 use Rattle.board_core.proofs.advance.propose.Goals as goal
 
 pub next_prices-moved-requires-clause-cost : goal.next_prices-moved-requires-clause-cost

@@ -1,4 +1,4 @@
-use Rattle.std.proofs.Common.{◌≡◌, length, ap, ◌∙◌}
+use Rattle.std.proofs.Common.{length, ap, ◌∙◌}
 use Rattle.uc_model.specs.Data.{PriceLists}
 use Rattle.board_core.specs.Ledgers.{blank}
 use Rattle.board_core.proofs.posts.content.Goals as goal

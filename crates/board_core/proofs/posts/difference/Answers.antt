@@ -5,7 +5,7 @@ use Rattle.uc_model.specs.PlainCases.{task_unit}
 use Rattle.uc_model.specs.PlainUnits.{prices_of}
 use Rattle.uc_model.specs.TaskLists.{task_numbers}
 use Rattle.board_core.specs.declared.replies.Differs.TheVariants as differs
-use Rattle.board_core.proofs.FlatLists.{AreSame, none_same, one_more, differ_here, own_ends, given_ends, no_more, numbers_few}
+use Rattle.board_core.proofs.FlatLists.{one_more, differ_here, own_ends, given_ends, no_more, numbers_few}
 use Rattle.board_core.proofs.posts.difference.Goals as goal
 
 pub returns-in_err-board : goal.returns-in_err-board

@@ -1,4 +1,4 @@
-use Rattle.std.proofs.Common.{◌≡◌, ℕ, Some, List, map, length, sym, ap, ◌∙◌}
+use Rattle.std.proofs.Common.{◌≡◌, Some, length, sym, ap, ◌∙◌}
 use Rattle.std.proofs.lemmas.List.{length-map}
 use Rattle.uc_model.specs.Data.{Bid, BidUnit, NamedBidUnit}
 use Rattle.uc_model.specs.Limits.{IsBidUnit}

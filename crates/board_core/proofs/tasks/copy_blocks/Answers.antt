@@ -1,4 +1,4 @@
-use Rattle.std.proofs.Common.{◌≡◌, ◌<◌, ◌≤◌, ℕ, length, arith}
+use Rattle.std.proofs.Common.{arith}
 use Rattle.board_core.proofs.UnitPlaces.{same_items}
 use Rattle.board_core.proofs.tasks.copy_blocks.Goals as goal
 

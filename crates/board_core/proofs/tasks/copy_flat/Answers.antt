@@ -1,4 +1,4 @@
-use Rattle.std.proofs.Common.{◌≡◌, ℕ, Some, map, length, sym, ap, ◌∙◌}
+use Rattle.std.proofs.Common.{◌≡◌, Some, length, sym, ap, ◌∙◌}
 use Rattle.uc_model.specs.Data.{Flat, RenewableUnit, NamedRenewableUnit}
 use Rattle.uc_model.specs.Limits.{IsRenewableUnit}
 use Rattle.uc_model.specs.PlainCases.{market_of}

@@ -1,4 +1,4 @@
-use Rattle.std.proofs.Common.{◌≡◌, ◌≤◌, ℕ, Some, map, length, sym, ap, ◌∙◌, arith}
+use Rattle.std.proofs.Common.{◌≡◌, Some, length, sym, ap, ◌∙◌, arith}
 use Rattle.uc_model.specs.Data.{Thermal, ThermalUnit, NamedThermalUnit}
 use Rattle.uc_model.specs.Limits.{IsThermalUnit}
 use Rattle.uc_model.specs.PlainCases.{market_of}

@@ -1,6 +1,6 @@
-use Rattle.std.proofs.Common.{◌≡◌, ◌≤◌, ◌<◌, ℕ, length, get_or, sym, ap, ◌∙◌, subst, arith}
+use Rattle.std.proofs.Common.{◌≤◌, ◌<◌, ℕ, length, get_or, sym, ap, ◌∙◌, subst}
 use Rattle.uc_model.specs.Data.{unit_count}
-use Rattle.board_history.specs.Board.{Answer, Content, no_answer}
+use Rattle.board_history.specs.Board.{Content, no_answer}
 use Rattle.board_history.specs.Calls.{own_rows}
 use Rattle.board_core.specs.Boards.{kept_answer}
 use Rattle.board_core.specs.Events.{place, events_of}

@@ -1,15 +1,14 @@
-use Rattle.std.proofs.Common.{◌≡◌, ◌+◌, ◌-◌, ◌/◌, ◌%◌, ◌<◌, ◌≤◌, ◌++◌, ◌∷◌, [], ℕ, List, length, get_or, refl, subst, sym, ap, ◌∙◌, arith, length-append}
+use Rattle.std.proofs.Common.{◌≡◌, ◌+◌, ◌/◌, ◌%◌, ◌<◌, ◌++◌, ◌∷◌, [], ℕ, List, length, get_or, refl, subst, sym, ap, ◌∙◌, arith, length-append}
 use Rattle.std.specs.Prelude.{slice_get}
 use Rattle.board_history.specs.Board.{Answer, Content}
 use Rattle.board_history.specs.Calls.{claim_answer, after_claim}
 use Rattle.board_history.specs.Entries.{entry_of}
-use Rattle.board_history.specs.Rounds.{Event, Given, ClaimReply, GivenTask, with_claim}
+use Rattle.board_history.specs.Rounds.{Event, Given, ClaimReply, with_claim}
 use Rattle.board_history.specs.declared.entries.Call.TheVariants as calls
 use Rattle.board_history.specs.declared.entries.Entry.{Entry}
 use Rattle.board_history.specs.declared.entries.Reply.TheVariants as replies
 use Rattle.uc_model.specs.Data.{PriceLists, AnyUnit, Schedule, units as units_of, unit_count}
 use Rattle.uc_model.specs.PlainCases.{task_unit}
-use Rattle.uc_model.specs.PriceRule.{Proposal}
 use Rattle.uc_model.specs.Schedules.{IsFeasible}
 use Rattle.board_core.specs.Events.{event_of, events_of}
 use Rattle.board_core.specs.Ledgers.{blank}
@@ -17,7 +16,7 @@ use Rattle.board_core.specs.Parts.{Lists, IsBoard}
 use Rattle.board_core.specs.Replies.{claim_of}
 use Rattle.board_core.specs.Setups.{setup_of}
 use Rattle.board_core.specs.Tasks.{LeavesTask, IsOwnTask}
-use Rattle.board_core.proofs.Claims.{claim_finished, claim_halted, claim_not_yet, claim_given, price_is, count_within, claimed, given_lists}
+use Rattle.board_core.proofs.Claims.{claim_finished, claim_halted, claim_not_yet, claim_given, price_is, count_within, claimed}
 use Rattle.board_core.proofs.Entries.{content, events_more, entries_more}
 use Rattle.board_core.proofs.UnitPlaces.{partner}
 use Rattle.board_core.proofs.board.Board.claim.Goals as goal

@@ -1,4 +1,4 @@
-use Rattle.std.proofs.Common.{rules, ◌≡◌, ◌≤◌, ◌<◌, ℕ, length, get_or, sym, ap, ◌∙◌, subst, arith, w64, FitsSigned}
+use Rattle.std.proofs.Common.{rules, ◌≤◌, ◌<◌, ℕ, length, get_or, sym, ap, ◌∙◌, subst, w64, FitsSigned}
 use Rattle.std.proofs.lemmas.Int.{to_z-of_z}
 use Rattle.uc_model.specs.Data.{unit_count}
 use Rattle.board_history.specs.Board.{Answer, Content, no_answer}

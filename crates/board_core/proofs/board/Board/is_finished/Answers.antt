@@ -1,4 +1,4 @@
-use Rattle.std.proofs.Common.{◌≡◌, ℕ, ap, ◌∙◌}
+use Rattle.std.proofs.Common.{ℕ, ap, ◌∙◌}
 use Rattle.std.specs.Prelude.{nat_le}
 use Rattle.uc_model.specs.Data.{unit_count}
 use Rattle.board_history.specs.Board.{rules_of}

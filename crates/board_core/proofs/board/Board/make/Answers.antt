@@ -1,4 +1,4 @@
-use Rattle.std.proofs.Common.{rules, ◌≡◌, ℕ, ◌+◌, ◌*◌, ◌<◌, ◌≤◌, ℤ, pos, Bool, false, List, [], length, min, sym, ap, ◌∙◌, subst, arith, FitsSigned}
+use Rattle.std.proofs.Common.{rules, ◌≡◌, ℕ, ◌*◌, ℤ, pos, Bool, false, List, [], length, min, sym, ap, ◌∙◌, subst, arith, FitsSigned}
 use Rattle.std.proofs.lemmas.Int.{to_z-of_z}
 use Rattle.std.proofs.lemmas.List.{length-replicate}
 use Rattle.std.proofs.lemmas.List.FromFn.{length-map-range_with_len}
@@ -9,7 +9,7 @@ use Rattle.board_history.specs.Entries.{entries_of}
 use Rattle.board_history.specs.Rounds.{Event}
 use Rattle.board_history.specs.declared.entries.Entry.{Entry}
 use Rattle.uc_model.specs.Data.{unit_count}
-use Rattle.uc_model.specs.PriceRule.{Proposal, start_prices}
+use Rattle.uc_model.specs.PriceRule.{Proposal}
 use Rattle.board_core.specs.Boards.{setup_for}
 use Rattle.board_core.specs.Events.{events_of}
 use Rattle.board_core.specs.Ledgers.{LedgerValue, blank}

@@ -1,4 +1,4 @@
-use Rattle.std.proofs.Common.{◌≡◌, ℤ, List, length, ap, ◌∙◌}
+use Rattle.std.proofs.Common.{ℤ, List, length, ap, ◌∙◌}
 use Rattle.std.proofs.lemmas.List.{length-replicate}
 use Rattle.board_core.proofs.Flat.{length-answers_in}
 use Rattle.std.specs.Prelude.{pos}

@@ -1,9 +1,7 @@
-use Rattle.std.proofs.Common.{rules, ◌≡◌, ℕ, ◌+◌, ◌*◌, ◌<◌, ◌≤◌, ℤ, Bool, List, length, sym, ap, ◌∙◌, subst, arith, w64, FitsSigned}
+use Rattle.std.proofs.Common.{rules, ◌≡◌, ℕ, ◌*◌, ◌<◌, ℤ, Bool, List, length, sym, ap, ◌∙◌, subst, arith, w64, FitsSigned}
 use Rattle.std.proofs.Math.ListN.{set, length-set}
 use Rattle.std.proofs.lemmas.Int.{to_z-of_z}
 use Rattle.std.specs.Int.{cast_signed, cast_unsigned}
-use Rattle.std.specs.Prelude.{slice_set}
-use Rattle.board_history.specs.Board.{Answer}
 use Rattle.board_core.specs.Stored.{Stored, answer_of, answers_in, with_part}
 use Rattle.board_core.proofs.Flat.{inside, length-answers_in, length-with_part, put_answer}
 use Rattle.board_core.proofs.store.Store.put.Goals as goal

@@ -1,10 +1,10 @@
-use Rattle.std.proofs.Common.{rules, ◌≡◌, ℕ, ◌<◌, ℤ, pos, Bool, List, length, get_or, sym, ap, ◌∙◌, subst, arith, w64, FitsSigned}
+use Rattle.std.proofs.Common.{rules, ℕ, ◌<◌, pos, Bool, List, length, get_or, sym, ap, ◌∙◌, subst, arith, w64, FitsSigned}
 use Rattle.std.proofs.lemmas.Int.{to_z-of_z}
 use Rattle.std.proofs.lemmas.List.{get_or_read}
 use Rattle.std.specs.Int.{cast_signed, cast_unsigned}
-use Rattle.board_history.specs.Board.{Answer, no_answer}
+use Rattle.board_history.specs.Board.{no_answer}
 use Rattle.uc_model.specs.Sums.{int_at}
-use Rattle.board_core.specs.Stored.{Stored, answer_of, part}
+use Rattle.board_core.specs.Stored.{Stored, part}
 use Rattle.board_core.proofs.Flat.{inside, length-answers_in, answer_at_place, length-part, same_answer}
 use Rattle.board_core.proofs.store.Store.take.Goals as goal
 
