@@ -1,0 +1,3 @@
+mod BoundLaws
+mod WalkLaws
+mod ListLaws
