@@ -1,3 +1,5 @@
 mod BoundLaws
-mod WalkLaws
+mod FrameLaws
 mod ListLaws
+mod ReadLaws
+mod WalkLaws

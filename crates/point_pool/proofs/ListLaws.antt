@@ -1,5 +1,5 @@
 -- A step on the first knots of a work list is the step on their function.
-use Rattle.std.proofs.Common.{◌≡◌, ℕ, ◌<◌, ◌≤◌, List, ◌++◌, length, take, drop, Option, Some, sym, ◌∙◌, subst, ap, arith}
+use Rattle.std.proofs.Common.{◌≡◌, ℕ, ◌<◌, ◌≤◌, List, [], ◌∷◌, ◌++◌, length, take, drop, Option, Some, sym, ◌∙◌, subst, ap, arith}
 use Rattle.std.specs.Prelude.{ℤ, pos, ◌+ℤ◌, ◌-ℤ◌}
 use Rattle.std.proofs.lemmas.List.{length-take-le, get_or-take, take_at}
 use Rattle.uc_model.specs.declared.units.Curve.{Curve}
@@ -51,6 +51,16 @@ pub AreBreaks-from : (ks : List Knot) → IsShape ks (length ks) → IsWithinLim
 AreBreaks-from ks shape within = record {
   points = AreBreakpoints-shape ks (length ks) shape;
   within = AreWithinLimits-from_table ks (length ks) shape within;
+}
+
+-- one breakpoint within the limits
+pub AreBreaks-one : (q : Knot) → IsPlace q.at → IsAmount q.value → AreBreaks (q ∷ [])
+AreBreaks-one q place_fits amount_fits = record {
+  points = record { rise = λ k h. absurd (omega arith); whole = λ k h. absurd (omega arith); order = λ k h. absurd (omega arith) };
+  within = record {
+    places = λ k h. subst (λ (j : ℕ). IsPlace (place (q ∷ []) j)) {x = 0} (omega arith) place_fits;
+    amounts = λ k h. subst (λ (j : ℕ). IsAmount (height (q ∷ []) j)) {x = 0} (omega arith) amount_fits;
+  };
 }
 
 module _ (ks k1 : List Knot) (used : ℕ) (b : AreBreaks ks) (e : used ≡ length ks) (before : (k : ℕ) → k < length ks → knot k1 k ≡ knot ks k) where

@@ -1,11 +1,13 @@
 -- What is read off a list of cells, cell by cell.
 use Rattle.std.proofs.Common.{◌≡◌, ℕ, zero, suc, ◌+◌, ◌-◌, ◌<◌, ◌≤◌, true, List, [], ◌∷◌, length, map, refl, sym, ap, ◌∙◌, subst, inl, inr, arith}
 use Rattle.std.specs.Prelude.{ℤ, pos, ◌≤ℤ◌, ◌<ℤ◌, Option, Some, None, MatchOption}
+use Rattle.std.specs.Int.{int_min, int_max}
 use Rattle.std.proofs.lemmas.Bool.{cases_lt}
 use Rattle.std.proofs.lemmas.Int.{ints}
 use Rattle.std.proofs.lemmas.List.{length-map}
 use Rattle.shape_law.specs.Cell.{IsAmong}
-use Rattle.shape_law.specs.Table.{value_of}
+use Rattle.shape_law.specs.Table.{value_of, IsPlace, IsAmount, HasNone}
+use Rattle.shape_law.specs.Effect.{IsLeast, IsLeastIn}
 use Rattle.ramp_step.specs.declared.breakpoint.Knot.{Knot}
 use Rattle.ramp_step.specs.Knots.{knot, place, height, StandFor, IsShape, IsInside}
 use Rattle.ramp_step.specs.Cut.{IsLimited}
@@ -15,7 +17,8 @@ use Rattle.ramp_step.specs.Window.{IsTurn}
 use Rattle.ramp_step.proofs.KnotLaws.{rises}
 use Rattle.ramp_step.proofs.LimitLaws.{IsLimited-within}
 use Rattle.ramp_step.proofs.BreakpointLaws.{IsShape-breakpoints}
-use Rattle.ramp_step.proofs.ShapeLaws.{value_of-from_knots, IsEmpty-from_knots, none_outside}
+use Rattle.ramp_step.proofs.LeastLaws.{IsLowest-turn, IsLowest-within, HasNoPlace-within}
+use Rattle.ramp_step.proofs.ShapeLaws.{value_of-from_knots, value_inside, inside_value, IsLeast-from_knots, IsLeastIn-from_knots, HasNone-from_knots}
 use Rattle.point_pool.specs.declared.slot.Slot.{Slot}
 use Rattle.point_pool.specs.Breaks.{AreBreaks, function_of, IsAtTurn}
 use Rattle.point_pool.specs.CellLaws.{inside_if_used, length-walk}
@@ -23,28 +26,23 @@ use Rattle.point_pool.specs.Walk.{slot_at, walk, knots_at, AreUsed}
 
 -- ---- the cell at an index
 
-pub number_at : List Slot → ℕ → ℕ → ℕ
-unfolding number_at
+abbrev pub number_at : List Slot → ℕ → ℕ → ℕ
 number_at slots head zero = head
 number_at slots head (suc k) = number_at slots (slot_at slots head).next k
 
 pub number_first : (slots : List Slot) (head : ℕ) → number_at slots head 0 ≡ head
-unfolding number_at
 number_first slots head = refl
 
 pub number_next : (slots : List Slot) (head k : ℕ) → number_at slots head (suc k) ≡ (slot_at slots (number_at slots head k)).next
-unfolding number_at
 number_next slots head zero = refl
 number_next slots head (suc k) = number_next slots (slot_at slots head).next k
 
 among_at : (slots : List Slot) (head n k : ℕ) → k < n → IsAmong (number_at slots head k) (walk slots head n)
-unfolding number_at
 among_at slots head zero k h = absurd (omega arith)
 among_at slots head (suc n) zero h = inl refl
 among_at slots head (suc n) (suc k) h = inr (among_at slots (slot_at slots head).next n k (omega arith))
 
 knot_at : (slots : List Slot) (head n k : ℕ) → k < n → knot (knots_at slots (walk slots head n)) k ≡ (slot_at slots (number_at slots head k)).knot
-unfolding number_at
 knot_at slots head zero k h = absurd (omega arith)
 knot_at slots head (suc n) zero h = refl
 knot_at slots head (suc n) (suc k) h = knot_at slots (slot_at slots head).next n k (omega arith)
@@ -113,12 +111,12 @@ module _ (ks : List Knot) (n : ℕ) (f : ℤ → ℤ) (s : StandFor ks n f) wher
     pub AreWithinLimits-pair : AreWithinLimits ks n → AreWithinLimits pair 2
     AreWithinLimits-pair w = record {
       places = λ j lt. elim (cases_lt j 1) [
-        | inl low ↦ rw (first_at j (omega arith)) (w.places k (omega arith))
-        | inr high ↦ rw (second_at j (omega arith)) (w.places (k + 1) h)
+        | inl low ↦ subst (λ (q : Knot). IsPlace q.at) (sym (first_at j (omega arith))) (w.places k (omega arith))
+        | inr high ↦ subst (λ (q : Knot). IsPlace q.at) (sym (second_at j (omega arith))) (w.places (k + 1) h)
       ];
       amounts = λ j lt. elim (cases_lt j 1) [
-        | inl low ↦ rw (first_at j (omega arith)) (w.amounts k (omega arith))
-        | inr high ↦ rw (second_at j (omega arith)) (w.amounts (k + 1) h)
+        | inl low ↦ subst (λ (q : Knot). IsAmount q.value) (sym (first_at j (omega arith))) (w.amounts k (omega arith))
+        | inr high ↦ subst (λ (q : Knot). IsAmount q.value) (sym (second_at j (omega arith))) (w.amounts (k + 1) h)
       ];
     }
 
@@ -161,8 +159,8 @@ module _ (ks : List Knot) (n : ℕ) (f : ℤ → ℤ) (s : StandFor ks n f) wher
 
     pub AreWithinLimits-last : AreWithinLimits ks n → AreWithinLimits last 1
     AreWithinLimits-last w = record {
-      places = λ j lt. rw (last_at j lt) (w.places k (omega arith));
-      amounts = λ j lt. rw (last_at j lt) (w.amounts k (omega arith));
+      places = λ j lt. subst (λ (q : Knot). IsPlace q.at) (sym (last_at j lt)) (w.places k (omega arith));
+      amounts = λ j lt. subst (λ (q : Knot). IsAmount q.value) (sym (last_at j lt)) (w.amounts k (omega arith));
     }
 
     pub value_by_last : (x : ℤ) (o : Option ℤ) → (0 < k → place ks k <ℤ x) → MatchOption o (IsInside last 1 x → ⊥) (IsValueAt f last 1 x) → MatchOption o (IsInside ks n x → ⊥) (IsValueAt f ks n x)
@@ -210,3 +208,36 @@ AreWithinLimits-breaks ks n e b = subst (λ (m : ℕ). AreWithinLimits ks m) e b
 
 pub value_of-breaks : (ks : List Knot) (n : ℕ) (x : ℤ) (o : Option ℤ) → length ks ≡ n → (shape : IsShape ks n) → MatchOption o (IsInside ks n x → ⊥) (IsValueAt shape.0 ks n x) → o ≡ value_of (function_of ks) x
 value_of-breaks ks n x o e shape h = value_of-from_knots ks n x o shape h ∙ ap (λ (m : ℕ). value_of (table_of ks m) x) (sym e)
+
+module _ (ks : List Knot) (n : ℕ) (len : length ks ≡ n) (b : AreBreaks ks) (q : Knot) (a : IsAtTurn ks n q) where
+  shape : IsShape ks n
+  shape = IsShape-breaks ks n len b
+
+  -- the breakpoint at the turn is the least value
+  pub IsLeast-turn : IsLeast (function_of ks) q.value q.at
+  IsLeast-turn =
+      subst (λ (p : Knot). IsLeast (function_of ks) p.value p.at) (sym a.there)
+      (subst (λ (m : ℕ). IsLeast (table_of ks m) (height ks a.turn) (place ks a.turn)) (sym len)
+      (IsLeast-from_knots ks n (knot ks a.turn) shape (IsLowest-turn ks n a.turn shape.0 shape.1 a.is)))
+
+  -- and so is the value at the nearest place to it from lo to hi
+  module _ (lo hi : ℤ) where
+    same : int_max lo (int_min hi q.at) ≡ int_max lo (int_min hi (place ks a.turn))
+    same = ap (λ (p : Knot). int_max lo (int_min hi p.at)) a.there
+
+    there : (o : Option ℤ) → o ≡ value_of (function_of ks) (int_max lo (int_min hi q.at)) → value_of (table_of ks n) (int_max lo (int_min hi (place ks a.turn))) ≡ o
+    there o h = ap (λ (x : ℤ). value_of (table_of ks n) x) (sym same) ∙ ap (λ (m : ℕ). value_of (table_of ks m) (int_max lo (int_min hi q.at))) (sym len) ∙ sym h
+
+    pub IsLeastIn-turn : (v : ℤ) → lo ≤ℤ hi → Some v ≡ value_of (function_of ks) (int_max lo (int_min hi q.at)) → IsLeastIn lo hi (function_of ks) v (int_max lo (int_min hi q.at))
+    IsLeastIn-turn v order h =
+        let x = int_max lo (int_min hi (place ks a.turn)) in
+        let i = inside_value ks n shape.0 shape.1 x v (there (Some v) h) in
+        let l = IsLowest-within ks n a.turn shape.0 shape.1 a.is lo hi v order i.inside (sym i.is) in
+        let r : IsLeastIn lo hi (table_of ks n) v x = IsLeastIn-from_knots ks n lo hi (record { at = x; value = v }) shape l in
+        subst (λ (y : ℤ). IsLeastIn lo hi (function_of ks) v y) (sym same) (subst (λ (m : ℕ). IsLeastIn lo hi (table_of ks m) v x) (sym len) r)
+
+    pub HasNone-turn : None ≡ value_of (function_of ks) (int_max lo (int_min hi q.at)) → HasNone lo hi (function_of ks)
+    HasNone-turn h =
+        let x = int_max lo (int_min hi (place ks a.turn)) in
+        let outside : IsInside ks n x → ⊥ = λ inside. let e : None ≡ Some (shape.0 x) = sym (there None h) ∙ value_inside ks n shape.0 shape.1 x inside in cc in
+        subst (λ (m : ℕ). HasNone lo hi (table_of ks m)) (sym len) (HasNone-from_knots ks n lo hi shape (HasNoPlace-within ks n a.turn shape.0 shape.1 a.is lo hi outside))
