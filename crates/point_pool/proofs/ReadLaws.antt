@@ -1,6 +1,6 @@
 -- What is read off a list of cells, cell by cell.
-use Rattle.std.proofs.Common.{◌≡◌, ℕ, zero, suc, ◌+◌, ◌-◌, ◌<◌, ◌≤◌, true, List, [], ◌∷◌, length, map, refl, sym, ap, ◌∙◌, subst, inl, inr, arith}
-use Rattle.std.specs.Prelude.{ℤ, pos, ◌≤ℤ◌, ◌<ℤ◌, Option, Some, None, MatchOption}
+use Rattle.std.proofs.Common.{◌≡◌, ℕ, zero, suc, ◌+◌, ◌-◌, ◌<◌, true, List, length, refl, sym, ap, ◌∙◌, subst, inl, inr, arith}
+use Rattle.std.specs.Prelude.{ℤ, ◌≤ℤ◌, ◌<ℤ◌, Option, Some, None, MatchOption}
 use Rattle.std.specs.Int.{int_min, int_max}
 use Rattle.std.proofs.lemmas.Bool.{cases_lt}
 use Rattle.std.proofs.lemmas.Int.{ints}
@@ -10,12 +10,9 @@ use Rattle.shape_law.specs.Table.{value_of, IsPlace, IsAmount, HasNone}
 use Rattle.shape_law.specs.Effect.{IsLeast, IsLeastIn}
 use Rattle.ramp_step.specs.declared.breakpoint.Knot.{Knot}
 use Rattle.ramp_step.specs.Knots.{knot, place, height, StandFor, IsShape, IsInside}
-use Rattle.ramp_step.specs.Cut.{IsLimited}
 use Rattle.ramp_step.specs.Read.{IsValueAt}
 use Rattle.ramp_step.specs.Tables.{table_of, AreWithinLimits}
-use Rattle.ramp_step.specs.Window.{IsTurn}
 use Rattle.ramp_step.proofs.KnotLaws.{rises}
-use Rattle.ramp_step.proofs.LimitLaws.{IsLimited-within}
 use Rattle.ramp_step.proofs.BreakpointLaws.{IsShape-breakpoints}
 use Rattle.ramp_step.proofs.LeastLaws.{IsLowest-turn, IsLowest-within, HasNoPlace-within}
 use Rattle.ramp_step.proofs.ShapeLaws.{value_of-from_knots, value_inside, inside_value, IsLeast-from_knots, IsLeastIn-from_knots, HasNone-from_knots}

@@ -1,7 +1,4 @@
-use Rattle.std.proofs.Common.{rules, ◌≡◌, ℕ, ◌+◌, ◌-◌, ◌<◌, ◌≤◌, length, arith, ap, ◌∙◌, sym, refl, vec_len, List, [], ◌∷◌, ◌++◌, take, set, inl, inr, to_z, of_z, append_assoc}
-use Rattle.std.specs.Prelude.{ℤ, FitsSigned}
-use Rattle.std.specs.Int.{w64}
-use Rattle.std.proofs.lemmas.Int.{to_z-of_z}
+use Rattle.std.proofs.Common.{◌≡◌, ℕ, ◌+◌, ◌-◌, ◌<◌, ◌≤◌, length, arith, ap, ◌∙◌, sym, refl, List, [], ◌∷◌, ◌++◌, take, inl, inr, append_assoc}
 use Rattle.std.proofs.lemmas.List.{get_or_read, take_more_set}
 use Rattle.point_pool.specs.Walk.{walk, slot_at, knots_at, no_slot, AreUsed}
 use Rattle.point_pool.specs.declared.slot.Slot.{Slot}
@@ -46,7 +43,7 @@ loop-k-preserved c =
     let read : c.index-slot.result.now ≡ slot_at slots at = get_or_read c.loop-k.self.slots.items at _ inside c.index-slot.ensures no_slot ∙ ap (λ xs. slot_at xs at) c.loop-k.invariant.slots in
     let m = most slots c.args.head c.args.count c.requires in
     let k_in : k < length work = omega (arith, m, ap length c.loop-k.invariant.slots, c.loop-k.self.room) in
-        let knot : c.index-slot.result.now.knot ≡ (slot_at slots at).knot = ap (λ s. s.knot) read in
+    let knot : c.index-slot.result.now.knot ≡ (slot_at slots at).knot = ap (λ s. s.knot) read in
     let next : c.index-slot.result.now.next ≡ (slot_at slots at).next = ap (λ s. s.next) read in
     let less : c.args.count - (k + 1) ≡ n - 1 = omega arith in
     let v = (slot_at slots at).knot in

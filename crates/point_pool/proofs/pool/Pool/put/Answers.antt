@@ -1,7 +1,7 @@
-use Rattle.std.proofs.Common.{rules, ◌≡◌, ℕ, ◌+◌, ◌<◌, ◌≤◌, false, length, arith, ◌∙◌, sym, subst, refl, ◌^◌, List, set}
+use Rattle.std.proofs.Common.{◌≡◌, ℕ, ◌+◌, ◌<◌, ◌≤◌, false, length, arith, ◌∙◌, sym, subst, refl, ◌^◌, List, set}
 use Rattle.std.specs.Prelude.{pos}
 use Rattle.std.proofs.lemmas.List.{length-set}
-use Rattle.point_pool.specs.Walk.{walk, slot_at, AreFree, no_slot}
+use Rattle.point_pool.specs.Walk.{walk}
 use Rattle.point_pool.specs.declared.slot.Slot.{Slot}
 use Rattle.point_pool.specs.CellLaws.{length-walk}
 use Rattle.point_pool.proofs.WalkLaws.{free_cons, length_if_free}

@@ -1,4 +1,4 @@
-use Rattle.std.proofs.Common.{rules, ◌≡◌, ℕ, ◌+◌, ◌-◌, ◌<◌, ◌≤◌, false, true, length, arith, ap, ◌∙◌, sym, refl, vec_len, List, ◌∷◌, inl}
+use Rattle.std.proofs.Common.{◌≡◌, ℕ, ◌+◌, ◌-◌, ◌<◌, arith, ap, ◌∙◌, refl, List, ◌∷◌, inl}
 use Rattle.std.proofs.lemmas.List.{get_or_read}
 use Rattle.point_pool.specs.Walk.{walk, slot_at, no_slot}
 use Rattle.point_pool.specs.declared.slot.Slot.{Slot}

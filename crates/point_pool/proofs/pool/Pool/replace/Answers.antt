@@ -1,5 +1,3 @@
-use Rattle.std.proofs.Common.{take, ap, ◌∙◌, sym}
-use Rattle.point_pool.specs.Walk.{walk}
 use Rattle.point_pool.proofs.WalkLaws.{replaced_by}
 use Rattle.point_pool.proofs.pool.Pool.replace.Goals as goal
 

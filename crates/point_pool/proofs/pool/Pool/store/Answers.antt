@@ -1,4 +1,4 @@
-use Rattle.std.proofs.Common.{rules, ◌≡◌, ℕ, ◌+◌, ◌-◌, ◌<◌, ◌≤◌, false, true, length, arith, ap, ◌∙◌, sym, refl, vec_len, List, ◌∷◌, take, drop, get_or, to_z, of_z, get_or-take, length-take}
+use Rattle.std.proofs.Common.{◌≡◌, ℕ, ◌+◌, ◌-◌, ◌<◌, ◌≤◌, length, arith, ap, ◌∙◌, refl, List, ◌∷◌, take, drop, get_or, get_or-take, length-take}
 use Rattle.std.specs.Prelude.{pos}
 use Rattle.ramp_step.specs.declared.breakpoint.Knot.{Knot}
 use Rattle.std.proofs.lemmas.List.{get_or_read, drop_more}

@@ -1,4 +1,4 @@
-use Rattle.std.proofs.Common.{rules, ◌≡◌, ℕ, ◌+◌, ◌-◌, ◌<◌, ◌≤◌, length, arith, ap, ◌∙◌, sym, subst, inl, refl, ◌^◌, ◌∷◌, vec_len, List}
+use Rattle.std.proofs.Common.{◌≡◌, ℕ, ◌-◌, ◌<◌, arith, ap, ◌∙◌, sym, subst, inl, refl, ◌^◌, ◌∷◌, List}
 use Rattle.point_pool.specs.Walk.{walk, slot_at, AreFree, no_slot}
 use Rattle.point_pool.specs.declared.slot.Slot.{Slot}
 use Rattle.std.proofs.lemmas.List.{get_or_read, length-set}

@@ -1,4 +1,4 @@
-use Rattle.std.proofs.Common.{rules, ◌≡◌, Some, None, ◌∙◌, sym, arith, to_z, of_z}
+use Rattle.std.proofs.Common.{rules, ◌≡◌, Some, None, ◌∙◌, arith, to_z, of_z}
 use Rattle.std.specs.Prelude.{FitsSigned}
 use Rattle.std.specs.Int.{w64, int_min, int_max}
 use Rattle.std.proofs.lemmas.Int.{ints, to_z-of_z}
