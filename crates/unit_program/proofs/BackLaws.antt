@@ -9,14 +9,16 @@ use Rattle.uc_model.specs.Schedules.{on_in, power_in, reserve_in}
 use Rattle.uc_model.specs.Sums.{int_at}
 use Rattle.uc_model.proofs.IntLaws.{sum_below-same}
 use Rattle.spell_run.specs.Entries.{IsOnFromTo, IsSameOutside}
-use Rattle.spell_run.specs.Spells.{spell_first, IsBestDispatch, HasNoDispatch, over_min, IsDispatch, IsLeastSpell, net_cost, spell_cost}
+use Rattle.spell_run.specs.Spells.{spell_first, IsBestDispatch, IsFirstDispatch, HasNoDispatch, over_min, IsDispatch, IsLeastSpell, net_cost, spell_cost}
 use Rattle.unit_program.specs.Spells.{IsSpell, start_cost_after}
 use Rattle.unit_program.specs.declared.table.Ended.{Ended}
-use Rattle.unit_program.specs.Tables.{IsEnded, IsStarted, IsEntryAfter}
+use Rattle.unit_program.specs.Tables.{IsEnded, IsLatest, IsStarted, IsEntryAfter}
 use Rattle.unit_program.specs.Rows.{row_at, cost_at, first_at, IsFilled}
 use Rattle.unit_program.specs.Builds.{IsUpTo, IsIdle}
 use Rattle.unit_program.proofs.BuildLaws.{up_to_idle, up_to_first, up_to_next}
 use Rattle.unit_program.proofs.SpanLaws.{spell_first-is}
+use Rattle.unit_program.proofs.TieLaws.{first_alone, first_after}
+use Rattle.unit_program.specs.Ties.{IsFirstUpTo}
 use Rattle.unit_program.specs.Backs.{IsSameIn, IsZeroOff, IsWritten, IsWrittenBack}
 use Rattle.unit_program.proofs.FillLaws.{starts_off}
 use Rattle.unit_program.proofs.RowLaws.{cost-is, first-is, before-is}
@@ -55,6 +57,18 @@ module _ (g : ThermalUnit) (π : PriceLists) (periods first last : ℕ) (order :
     leave_at_once = λ inside none. (let a = over-same last order (omega arith) in let b = h.leave_at_once inside none in omega (arith, ints, a, b));
   }
 
+  pub first_dispatch-same : (c : ℤ) → IsFirstDispatch g π periods first last d c → IsFirstDispatch g π periods first last e c
+  first_dispatch-same c h = record {
+    power = λ other keeps cost k from until agree.
+        (let low = h.power other keeps cost k from until (λ j above inside. agree j above inside ∙ (same (suc j) (omega arith) (omega (arith, from, above)) (omega (arith, inside))).0) in
+        let here = (same (suc k) (omega arith) from (omega (arith, until))).0 in
+        omega (arith, ints, low, here));
+    reserve = λ other keeps cost agree k from until.
+        (let low = h.reserve other keeps cost (λ j above inside. agree j above inside ∙ (same (suc j) (omega arith) above (omega (arith, inside))).0) k from until in
+        let here = (same (suc k) (omega arith) from (omega (arith, until))).1 in
+        omega (arith, ints, low, here));
+  }
+
 -- ---- what a spell's own call has written
 
 module _ (g : ThermalUnit) (π : PriceLists) (periods first last : ℕ) where
@@ -66,12 +80,17 @@ module _ (g : ThermalUnit) (π : PriceLists) (periods first last : ℕ) where
       dispatch-same g π periods first last order least.dispatch a (λ t one from until. absurd (omega (arith, one, until, none))) least.keeps,
       spell_cost-same g π periods first last order least.dispatch a (λ t one from until. absurd (omega (arith, one, until, none))) ∙ least.cost,
     );
+    tie = λ net least. record {
+      power = λ other keeps cost k from until agree. absurd (omega (arith, until, none));
+      reserve = λ other keeps cost agree k from until. absurd (omega (arith, until, none));
+    };
     others = λ t out. record { on = refl; power = refl; reserve = refl };
   }
 
-  pub written_best : (n : ℕ) (a b : Schedule) (c : ℤ) → n ≡ max first 1 → IsBestDispatch g π periods (spell_first (ltb 0 first) n) last b c → IsOnFromTo n last b → IsSameOutside n last a b
+  pub written_best : (n : ℕ) (a b : Schedule) (c : ℤ) → n ≡ max first 1 → IsBestDispatch g π periods (spell_first (ltb 0 first) n) last b c
+      → IsFirstDispatch g π periods (spell_first (ltb 0 first) n) last b c → IsOnFromTo n last b → IsSameOutside n last a b
       → IsWritten g π periods first last a b
-  written_best n a b c is best on outside = record {
+  written_best n a b c is best first_of on outside = record {
     on = λ t. elim t as (λ t. 1 ≤ t → first ≤ t → t ≤ last → IsTrue (on_in g b t)) [
       | zero ↦ λ one from until. absurd (omega (arith, one))
       | suc k ↦ λ one from until. on k (omega (arith, from, is)) until
@@ -83,6 +102,14 @@ module _ (g : ThermalUnit) (π : PriceLists) (periods first last : ℕ) where
         let cost = here.cost in
         let net_is = least.cost in
         (here.keeps, omega (arith, ints, low, high, cost, net_is)));
+    tie = λ net least.
+        (let here = subst (λ (f : ℕ). IsBestDispatch g π periods f last b c) (spell_first-is first n is) best in
+        let low = here.least least.dispatch least.keeps in
+        let high = least.least b here.keeps in
+        let cost = here.cost in
+        let net_is = least.cost in
+        let same : c ≡ net = omega (arith, ints, low, high, cost, net_is) in
+        subst (λ (c : ℤ). IsFirstDispatch g π periods first last b c) same (subst (λ (f : ℕ). IsFirstDispatch g π periods f last b c) (spell_first-is first n is) first_of));
     others = λ t. elim t as (λ t. (t < first) ⊎ (last < t) → IsSameIn g a b t) [
       | zero ↦ λ out. record { on = refl; power = refl; reserve = refl }
       | suc k ↦ λ out.
@@ -94,10 +121,11 @@ module _ (g : ThermalUnit) (π : PriceLists) (periods first last : ℕ) where
   -- there is a dispatch, so one is answered
   pub written_answer : (n : ℕ) (a b : Schedule) (answer : Option ℤ) → n ≡ max first 1 → (net : ℤ) × IsLeastSpell g π periods first last net
       → MatchOption answer (HasNoDispatch g periods (spell_first (ltb 0 first) n) last) (IsBestDispatch g π periods (spell_first (ltb 0 first) n) last b)
+      → IfSome answer (IsFirstDispatch g π periods (spell_first (ltb 0 first) n) last b)
       → IfSome answer (λ _. IsOnFromTo n last b) → IsSameOutside n last a b → IsWritten g π periods first last a b
-  written_answer n a b None is least none on outside =
+  written_answer n a b None is least none first_of on outside =
       absurd (none least.1.dispatch (subst (λ (f : ℕ). IsDispatch g periods f last least.1.dispatch) (sym (spell_first-is first n is)) least.1.keeps))
-  written_answer n a b (Some c) is least best on outside = written_best n a b c is best on outside
+  written_answer n a b (Some c) is least best first_of on outside = written_best n a b c is best first_of on outside
 
 -- ---- a spell after the rest
 
@@ -115,13 +143,13 @@ module _ (g : ThermalUnit) (π : PriceLists) (periods : ℕ) (ends : ℕ → Opt
       let spell : IsSpell g periods 0 l = subst (λ (f : ℕ). IsSpell g periods f l) none ended.spell in
       let dispatch : IsDispatch g periods 0 l b = subst (λ (f : ℕ). IsDispatch g periods f l b) none best.0 in
       let net : spell_cost g π 0 l b ≡ ended.net = subst (λ (f : ℕ). spell_cost g π f l b ≡ ended.net) none best.1 in
-      let e : ended.entry_cost ≡ pos 0 = elim (ended.entry) [ inl z ↦ z.1 | inr st ↦ (let f = st.first in absurd (omega (arith, f, none))) ] in
+      let e : ended.entry_cost ≡ pos 0 = elim (ended.entry.entry) [ inl z ↦ z.1 | inr st ↦ (let f = st.first in absurd (omega (arith, f, none))) ] in
       let cost = ended.cost in
       let v_is : spell_cost g π 0 l b ≡ v = omega (arith, ints, e, cost, net) in
       subst (λ (v : ℤ). IsUpTo g π periods b l v) v_is (up_to_first g π periods b ramp_up ramp_down l spell (on_all a b written none (ended.spell.goes_on none)) dispatch)
 
   pub started : 1 ≤ first → IsStarted g ends first before ended.entry_cost
-  started one = elim (ended.entry) [
+  started one = elim (ended.entry.entry) [
     | inl z ↦ let none = z.0 in absurd (omega (arith, none, one))
     | inr st ↦ st
   ]
@@ -208,6 +236,11 @@ module _ (g : ThermalUnit) (π : PriceLists) (rows : List (Option Ended)) (l : �
           let order = from.1.spell.order in
           let on = from.1.spell.goes_on (omega (arith, order, none)) in cc
     ];
+    first = λ v is other rival. record {
+      flag = λ t low agree here. (let z : 0 ≡ t = omega (arith, low, none) in subst (λ (t : ℕ). IsTrue (on_in g a t) → IsTrue (on_in g other t)) z (λ on0. on0) here);
+      power = λ flags k low here agree. absurd (omega (arith, low, none));
+      reserve = λ flags powers k low here. absurd (omega (arith, low, none));
+    };
     later = λ t above. record { on = refl; power = refl; reserve = refl };
     zero_off = λ h. h;
   }
@@ -219,6 +252,12 @@ module _ (g : ThermalUnit) (π : PriceLists) (rows : List (Option Ended)) (l : �
       | inr h ↦
           subst (λ (f : ℕ). IsEnded g π (length π.energy) (cost_at rows) f e.before l e.cost) (first-is rows l e row)
           (subst (λ (k : ℕ). IsEnded g π (length π.energy) (cost_at rows) (first_at rows l) k l e.cost) (before-is rows l e row) h.1)
+    ]
+
+    latest_of : IsLatest g π (length π.energy) (suc (length π.energy)) (cost_at rows) e.first l e.cost
+    latest_of = elim (filled.table.sound l e.cost (cost-is rows l e row)) [
+      | inl h ↦ let on = on0 h.1 in let off = h.0 in cc
+      | inr h ↦ subst (λ (f : ℕ). IsLatest g π (length π.energy) (suc (length π.energy)) (cost_at rows) f l e.cost) (first-is rows l e row) h.2
     ]
 
     value_of : (v : ℤ) → cost_at rows l ≡ Some v → e.cost ≡ v
@@ -235,10 +274,12 @@ module _ (g : ThermalUnit) (π : PriceLists) (rows : List (Option Ended)) (l : �
         record {
           order = order;
           goes_on = spell.goes_on;
-          starts = λ one. starts_off g ends e.before ended.entry_cost some_down (subst (λ (f : ℕ). IsEntryAfter g ends f e.before ended.entry_cost) one ended.entry);
+          starts = λ one. starts_off g ends e.before ended.entry_cost some_down (subst (λ (f : ℕ). IsEntryAfter g ends f e.before ended.entry_cost) one ended.entry.entry);
           least = (ended.net, ended.least);
           only = λ a b none written. record {
             up_to = λ v is. subst (λ (v : ℤ). IsUpTo g π T b l v) (value_of v is) (back_first g π T ends ramp_up ramp_down some_down e.first e.before l e.cost ended a b none written);
+            first = λ v is. subst (λ (v : ℤ). IsFirstUpTo g π T l v b) (value_of v is)
+                (first_alone g π ends T filled.table.complete e.first e.before l e.cost ended (cost-is rows l e row) latest_of b (written.tie ended.net ended.least) none);
             later = λ t above. written.others t (inr above);
             zero_off = zero_off_written g π T e.first l a b written;
           };
@@ -254,6 +295,12 @@ module _ (g : ThermalUnit) (π : PriceLists) (rows : List (Option Ended)) (l : �
               record {
                 up_to = λ v is. subst (λ (v : ℤ). IsUpTo g π T c l v) (value_of v is)
                     (back_next g π T ends ramp_up ramp_down some_down e.first e.before l e.cost ended st a b c idle written (back.up_to st.value st.ended) back.later);
+                first = λ v is. subst (λ (v : ℤ). IsFirstUpTo g π T l v c) (value_of v is)
+                    (first_after g π ends T filled.table.complete e.first e.before l e.cost ended (cost-is rows l e row) latest_of c
+                    (first_dispatch-same g π T e.first l order b c (λ t one low until. (let r = back.later t (omega (arith, low, first, from)) in (r.power, r.reserve))) ended.net (written.tie ended.net ended.least))
+                    some_down st
+                    (λ t above until. (back.later t above).on ∙ (written.others t (inl (omega (arith, until, first)))).on ∙ idle.off t (omega (arith, above)) (omega (arith, until, order, first)))
+                    (back.first st.value st.ended));
                 later = λ t above. same_then g a b c t (written.others t (inr above)) (back.later t (omega (arith, above, order, first, from)));
                 zero_off = λ h. back.zero_off (zero_off_written g π T e.first l a b written h);
               });

@@ -6,12 +6,17 @@ use Rattle.uc_model.specs.Data.{ThermalUnit, Thermal, PriceLists, Schedule}
 use Rattle.uc_model.specs.Schedules.{IsSchedule, on_in, power_in, reserve_in}
 use Rattle.uc_model.specs.Earnings.{earnings, IsBest}
 use Rattle.uc_model.specs.Schedules.{IsThermalFeasible}
-use Rattle.unit_program.specs.Spells.{IsOffRun}
+use Rattle.uc_model.specs.Ties.{IsLeast}
+use Rattle.unit_program.specs.Spells.{IsOffRun, paid}
 use Rattle.unit_program.specs.Tables.{IsTable, IsLeastEnd}
 use Rattle.unit_program.specs.Builds.{IsUpTo, IsIdle}
 use Rattle.unit_program.proofs.BuildLaws.{right_of}
 use Rattle.unit_program.proofs.SpellLaws.{table_is_least}
 use Rattle.unit_program.specs.Backs.{IsSameIn, IsZeroOff}
+use Rattle.unit_program.specs.Ties.{IsFirstUpTo}
+use Rattle.unit_program.proofs.BackwardOrder.{not_before}
+use Rattle.unit_program.proofs.CostLaws.{earnings-paid}
+use Rattle.unit_program.proofs.TieLaws.{no_later_whole}
 
 zero_of : (n : ℕ) → pos n ≡ pos 0 → n ≡ 0
 zero_of n h = omega (arith, ints, h)
@@ -62,6 +67,29 @@ module _ (g : ThermalUnit) (π : PriceLists) (periods : ℕ) (horizon : periods 
         },
         earned,
       )
+
+  -- and where the end is the earliest, and all up to it the first of that cost, it is the least of the best ones
+  pub least_of : (l : ℕ) (v : ℤ) (a b : Schedule) → IsLeastEnd g periods ends l v → ((k : ℕ) → ends k ≡ Some v → IsOffRun g k periods → l ≤ k)
+      → IsIdle g a 0 periods → IsUpTo g π periods b l v → IsFirstUpTo g π periods l v b
+      → ((t : ℕ) → l < t → IsSameIn g a b t) → IsZeroOff g b → length b.on ≡ periods → length b.power ≡ periods → length b.reserve ≡ periods
+      → IsLeast (Thermal g) π b
+  least_of l v a b least earliest cleared up first later zero_off on power reserve =
+      let r = best_of l v a b least cleared up later zero_off on power reserve in
+      let earned = r.1 in
+      let best = r.0 in
+      let right = subst (λ (n : ℕ). IsThermalFeasible g n b) (sym horizon) best.feasible in
+      record {
+        best = best;
+        first = λ other best_other before.
+            (let right_other = subst (λ (n : ℕ). IsThermalFeasible g n other) (sym horizon) best_other.feasible in
+            let above = best_other.greatest b best.feasible in
+            let below = best.greatest other best_other.feasible in
+            let paid_is = earnings-paid g π other periods right_other.schedule in
+            let cost : paid g π other periods ≡ v = omega (arith, ints, above, below, paid_is, earned) in
+            not_before periods other b right_other.schedule right.schedule
+            (no_later_whole g π ends periods table.complete l v least.off.order earliest least.least b
+            (λ t above until. (later t above).on ∙ cleared.off t (omega (arith, above)) until) zero_off first other right_other cost) before);
+      }
 
   -- no end, no schedule
   pub none_right : ((l : ℕ) (v : ℤ) → ends l ≡ Some v → IsOffRun g l periods → ⊥) → (s : Schedule) → IsThermalFeasible g periods s → ⊥

@@ -1,5 +1,5 @@
 -- The least entry among those after an ever later on period.
-use Rattle.std.proofs.Common.{◌≡◌, ℕ, suc, ◌+◌, ◌*◌, ◌<◌, ◌⊎◌, inl, inr, Option, Some, None, ℤ, ◌+ℤ◌, refl, sym, ap, ◌∙◌, subst, arith}
+use Rattle.std.proofs.Common.{◌≡◌, ℕ, suc, ◌+◌, ◌*◌, ◌<◌, ◌⊎◌, inl, inr, ◌≤◌, Option, Some, None, ℤ, pos, ◌+ℤ◌, ◌≤ℤ◌, refl, sym, ap, ◌∙◌, subst, arith}
 use Rattle.std.specs.Prelude.{IfSome, IfNone}
 use Rattle.std.proofs.lemmas.Int.{ints}
 use Rattle.std.proofs.lemmas.Bool.{cases_lt}
@@ -20,6 +20,8 @@ module _ (g : ThermalUnit) (ends : ℕ → Option ℤ) (before : ℕ) where
     pub sound : (r : Entry) → least ≡ Some r → IsStarted g ends (suc before) r.last r.cost
     pub complete : (k : ℕ) (v : ℤ) → k < last → ends k ≡ Some v → IsGap g k before → HasEntryAtMost least (v +ℤ start_cost_after g k before)
     pub bound : (r : Entry) → least ≡ Some r → IsWithinTimes (2 * before + 3) r.cost
+    pub inside : (r : Entry) → least ≡ Some r → r.last < last
+    pub earliest : (r : Entry) → least ≡ Some r → (k : ℕ) (v : ℤ) → k < last → ends k ≡ Some v → IsGap g k before → (v +ℤ start_cost_after g k before) ≡ r.cost → r.last ≤ k
 
   abbrev Way : ℕ → ℤ → Type 0
   Way last e = (v : ℤ) × (ends last ≡ Some v) × IsGap g last before × (e ≡ v +ℤ start_cost_after g last before)
@@ -30,8 +32,9 @@ module _ (g : ThermalUnit) (ends : ℕ → Option ℤ) (before : ℕ) where
       → ((r : Entry) → least' ≡ Some r → (least ≡ Some r) ⊎ ((o ≡ Some r.cost) × (r.last ≡ last)))
       → ((r : Entry) → least ≡ Some r → HasEntryAtMost least' r.cost)
       → ((v : ℤ) → o ≡ Some v → HasEntryAtMost least' v)
+      → ((r u : Entry) → least ≡ Some r → least' ≡ Some u → (u.last ≡ r.last) ⊎ ((u.cost +ℤ pos 1) ≤ℤ r.cost))
       → IsLeastSoFar (last + 1) least'
-  one_more last least least' o so_far some none bound from old added = record {
+  one_more last least least' o so_far some none bound from old added kept = record {
     sound = λ r is. elim (from r is) [
       | inl h ↦ so_far.sound r h
       | inr h ↦
@@ -64,6 +67,28 @@ module _ (g : ThermalUnit) (ends : ℕ → Option ℤ) (before : ℕ) where
       | inl h ↦ so_far.bound r h
       | inr h ↦ bound r.cost h.0
     ];
+    inside = λ r is. elim (from r is) [
+      | inl h ↦ let low = so_far.inside r h in omega (arith, low)
+      | inr h ↦ let z = h.1 in omega (arith, z)
+    ];
+    earliest = λ r is k v low ended gap cost. elim (cases_lt k last) [
+      | inr most ↦ elim (from r is) [
+        | inl h ↦ let below = so_far.inside r h in omega (arith, below, most)
+        | inr h ↦ let z = h.1 in omega (arith, z, most)
+      ]
+      | inl less ↦ elim (from r is) [
+        | inl h ↦ so_far.earliest r h k v less ended gap cost
+        | inr h ↦
+            let s = so_far.complete k v less ended gap in
+            let below = so_far.inside s.0 s.1 in
+            let z = h.1 in
+            let most = s.2 in
+            elim (kept s.0 r s.1 is) [
+              | inl same ↦ absurd (omega (arith, same, below, z))
+              | inr more ↦ absurd (omega (arith, ints, more, most, cost))
+            ]
+      ]
+    ];
   }
 
   pub least_of_all : (last : ℕ) (r : Entry) (least : Option Entry) → before < last → IsLeastSoFar last least → least ≡ Some r → IsLeastEntry g ends (suc before) r.last r.cost
@@ -83,6 +108,17 @@ module _ (g : ThermalUnit) (ends : ℕ → Option ℤ) (before : ℕ) where
           let low = s.2 in
           let is_cost = h.cost in
           omega (arith, ints, cost, start, low, is_cost)
+    ];
+    earliest = λ k entry. elim entry [
+      | inl h ↦ let z = h.0 in absurd (omega (arith, z))
+      | inr h ↦
+          let first = h.first in
+          let z : h.before ≡ before = omega (arith, first) in
+          let gap = subst (λ (b : ℕ). IsGap g k b) z h.gap in
+          let order = gap.off.order in
+          let start = ap (λ (b : ℕ). start_cost_after g k b) z in
+          let is_cost = h.cost in
+          so_far.earliest r is k h.value (omega (arith, order, all_)) h.ended gap (omega (arith, ints, start, is_cost))
     ];
   }
 

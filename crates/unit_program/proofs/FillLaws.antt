@@ -170,6 +170,7 @@ module _ (g : ThermalUnit) (π : PriceLists) where
           | inl h ↦ let z = h.1 in omega (arith, ints, z)
           | inr h ↦ let f = h.first in absurd (omega (arith, f))
         ];
+        earliest = λ k entry. omega arith;
       }
 
       update : IsUpdate g (length π.energy) 0 0 (pos 0) nets nothing (cost_at new) zeros (first_at new) zeros (before_at new)
@@ -178,6 +179,7 @@ module _ (g : ThermalUnit) (π : PriceLists) where
         same = λ l low. absurd (omega (arith, low));
         keeps = λ l v is. cc;
         adds = adds;
+        takes = λ l c spell net is. (sound l (pos 0 +ℤ c) is).0;
         sound = λ l v is. inr (sound l v is);
       }
 

@@ -1,4 +1,5 @@
 pub mod BackLaws
+pub mod BackwardOrder
 pub mod BestLaws
 pub mod BuildLaws
 pub mod CommitLaws
@@ -14,4 +15,5 @@ pub mod SpanLaws
 pub mod SpellLaws
 pub mod StartCosts
 pub mod TableLaws
+pub mod TieLaws
 pub mod UpdateLaws

@@ -55,6 +55,7 @@ added_none g π first before e rows no_spell within = record {
     same = λ l low. refl;
     keeps = λ l v here. (v, here, omega (arith, ints));
     adds = λ l c spell net. cc;
+    takes = λ l c spell net is. cc;
     sound = λ l v here. inl (here, refl, refl);
   };
   within = within;

@@ -7,7 +7,7 @@ use Rattle.uc_model.specs.Data.{ThermalUnit, PriceLists, Schedule}
 use Rattle.spell_run.specs.Spells.{IsDispatch, IsSpellAnswer, net_cost, spell_cost}
 use Rattle.unit_program.specs.Spells.{StopsAtOnce, IsSpell}
 use Rattle.unit_program.proofs.CostLaws.{sum_from_to-one}
-use Rattle.unit_program.specs.Tables.{HasAtMost, IsEntryAfter, IsEntry, IsLeastEntry, IsEnded, IsFrom, IsTable, IsUpdate}
+use Rattle.unit_program.specs.Tables.{HasAtMost, IsEntryAfter, IsEntry, IsLeastEntry, IsEnded, IsLatest, IsFrom, IsTable, IsUpdate}
 
 pub at_most_more : (o : Option ℤ) (u v : ℤ) → HasAtMost o u → u ≤ℤ v → HasAtMost o v
 at_most_more o u v h low = let b = h.2 in (h.0, h.1, omega (arith, ints, b, low))
@@ -22,6 +22,12 @@ module _ (g : ThermalUnit) where
       inr (record { before = h.before; first = first; value = h.value; ended = sym (same last (omega (arith, order, first))) ∙ h.ended; gap = h.gap; cost = h.cost })
 
   module _ (π : PriceLists) (periods n : ℕ) (firsts lasts : ℕ → ℕ) (old : ℕ → Option ℤ) (table : IsTable g π periods n old firsts lasts) where
+    latest_skip : ((e : ℤ) (l : ℕ) → IsEntry g old n e → IsSpell g periods n l → ⊥) → (first l : ℕ) (v : ℤ) → IsLatest g π periods n old first l v → IsLatest g π periods (suc n) old first l v
+    latest_skip none first l v latest f last e d low spell entry dispatch cost = elim (cases_lt f n) [
+      | inl less ↦ latest f last e d less spell entry dispatch cost
+      | inr most ↦ let z : f ≡ n = omega (arith, most, low) in absurd (none e l (subst (λ (f : ℕ). IsEntry g old f e) z (last, entry)) (subst (λ (f : ℕ). IsSpell g periods f l) z spell))
+    ]
+
     -- no spell may begin with n
     pub table_skip : ((e : ℤ) (l : ℕ) → IsEntry g old n e → IsSpell g periods n l → ⊥) → IsTable g π periods (suc n) old firsts lasts
     table_skip none = record {
@@ -34,7 +40,7 @@ module _ (g : ThermalUnit) where
       };
       sound = λ l v is. elim (table.sound l v is) [
         | inl h ↦ inl h
-        | inr h ↦ inr ((let low = h.0 in omega (arith, low)), h.1)
+        | inr h ↦ inr ((let low = h.0 in omega (arith, low)), h.1, latest_skip none (firsts l) l v h.2)
       ];
     }
 
@@ -58,11 +64,42 @@ module _ (g : ThermalUnit) where
             | Some c ↦ λ is h. let low = h.least d dispatch in at_most_more (new l) (e +ℤ c) (e' +ℤ spell_cost g π n l d) (update.adds l c spell is) (omega (arith, ints, below, low))
           ] refl (right l spell)
 
+      entry_newer : (f k : ℕ) (d : ℤ) → f ≤ n → IsLeastEntry g old f k d → IsLeastEntry g new f k d
+      entry_newer f k d low h = record {
+        entry = newer f k d low h.entry;
+        least = λ d' entry. h.least d' (entry.0, older f entry.0 d' low entry.1);
+        earliest = λ k' entry. h.earliest k' (older f k' d low entry);
+      }
+
       ended_newer : (f k l : ℕ) (v : ℤ) → f ≤ n → IsEnded g π periods old f k l v → IsEnded g π periods new f k l v
-      ended_newer f k l v low h = record { entry_cost = h.entry_cost; entry = newer f k h.entry_cost low h.entry; spell = h.spell; net = h.net; least = h.least; cost = h.cost }
+      ended_newer f k l v low h = record { entry_cost = h.entry_cost; entry = entry_newer f k h.entry_cost low h.entry; spell = h.spell; net = h.net; least = h.least; cost = h.cost }
 
       net_least : (l : ℕ) (c : ℤ) → IsSpell g periods n l → nets l ≡ Some c → IsSpellAnswer g π periods n l (Some c)
       net_least l c spell is = subst (IsSpellAnswer g π periods n l) is (right l spell)
+
+      -- a spell that begins with n and costs what the row has is the one that the row names
+      latest_here : (l k : ℕ) (v e' : ℤ) (d : Schedule) → new l ≡ Some v → IsSpell g periods n l → IsEntryAfter g old n k e' → IsDispatch g periods n l d → (e' +ℤ spell_cost g π n l d) ≡ v → firsts' l ≡ n
+      latest_here l k v e' d is spell entry dispatch cost =
+          let below = least.least e' (k, entry) in
+          elim (nets l) as (λ o. nets l ≡ o → IsSpellAnswer g π periods n l o → firsts' l ≡ n) [
+            | None ↦ λ net none. absurd (none d dispatch)
+            | Some c ↦ λ net h.
+                let low = h.least d dispatch in
+                let r = update.adds l c spell net in
+                let same : r.0 ≡ v = (let a = r.1 in cc) in
+                let most = r.2 in
+                let v_is : v ≡ e +ℤ c = omega (arith, ints, same, most, low, below, cost) in
+                update.takes l c spell net (is ∙ ap Some v_is)
+          ] refl (right l spell)
+
+      latest_kept : (l : ℕ) (v : ℤ) → new l ≡ Some v → firsts' l ≡ firsts l → IsLatest g π periods n old (firsts l) l v → IsLatest g π periods (suc n) new (firsts' l) l v
+      latest_kept l v is first latest f k e' d low spell entry dispatch cost = elim (cases_lt f n) [
+        | inl less ↦ let h = latest f k e' d less spell (older f k e' (omega (arith, less)) entry) dispatch cost in omega (arith, h, first)
+        | inr most ↦
+            let z : n ≡ f = omega (arith, most, low) in
+            subst (λ (f : ℕ). IsSpell g periods f l → IsEntryAfter g new f k e' → IsDispatch g periods f l d → (e' +ℤ spell_cost g π f l d) ≡ v → f ≤ firsts' l) z
+            (λ spell entry dispatch cost. (let named = latest_here l k v e' d is spell (older n k e' (omega arith) entry) dispatch cost in omega (arith, named))) spell entry dispatch cost
+      ]
 
       pub table_more : IsTable g π periods (suc n) new firsts' lasts'
       table_more = record {
@@ -86,6 +123,7 @@ module _ (g : ThermalUnit) where
                   omega (arith, low, first),
                   subst (λ (f : ℕ). IsEnded g π periods new f (lasts' l) l v) (sym first)
                       (subst (λ (k : ℕ). IsEnded g π periods new (firsts l) k l v) (sym h.2) (ended_newer (firsts l) (lasts l) l v (omega (arith, low)) from.1)),
+                  latest_kept l v is first from.2,
                 )
           ]
           | inr h ↦
@@ -95,7 +133,8 @@ module _ (g : ThermalUnit) where
                 omega (arith, first),
                 subst (λ (f : ℕ). IsEnded g π periods new f (lasts' l) l v) (sym first)
                     (subst (λ (k : ℕ). IsEnded g π periods new n k l v) (sym h.1)
-                    (record { entry_cost = e; entry = newer n last e (omega arith) least.entry; spell = h.2; net = c.0; least = net_least l c.0 h.2 c.1; cost = c.2 })),
+                    (record { entry_cost = e; entry = entry_newer n last e (omega arith) least; spell = h.2; net = c.0; least = net_least l c.0 h.2 c.1; cost = c.2 })),
+                λ f k e' d low spell entry dispatch cost. omega (arith, low, first),
               )
         ];
       }

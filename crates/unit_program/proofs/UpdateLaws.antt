@@ -21,6 +21,7 @@ module _ (g : ThermalUnit) (periods first before : ℕ) (e : ℤ) (nets : ℕ �
     pub same : (l : ℕ) → l < first → row_at rows' l ≡ row_at rows l
     pub keeps : (l : ℕ) (v : ℤ) → cost_at rows l ≡ Some v → HasAtMost (cost_at rows' l) v
     pub adds : (l : ℕ) (c : ℤ) → l < last → IsSpell g periods first l → nets l ≡ Some c → HasAtMost (cost_at rows' l) (e +ℤ c)
+    pub takes : (l : ℕ) (c : ℤ) → l < last → IsSpell g periods first l → nets l ≡ Some c → cost_at rows' l ≡ Some (e +ℤ c) → first_at rows' l ≡ first
     pub sound : (l : ℕ) (v : ℤ) → cost_at rows' l ≡ Some v → IsRowOf rows' l v
     pub within : AreWithin rows'
 
@@ -29,6 +30,7 @@ module _ (g : ThermalUnit) (periods first before : ℕ) (e : ℤ) (nets : ℕ �
     same = λ l low. refl;
     keeps = λ l v is. (v, is, omega (arith, ints));
     adds = λ l c low spell net. absurd (none l c low spell net);
+    takes = λ l c low spell net is. absurd (none l c low spell net);
     sound = λ l v is. inl refl;
     within = within;
   }
@@ -42,6 +44,10 @@ module _ (g : ThermalUnit) (periods first before : ℕ) (e : ℤ) (nets : ℕ �
       | inl is ↦ absurd (none c (subst (IsSpell g periods first) is spell) (ap nets (sym is) ∙ net))
       | inr other ↦ so_far.adds l c (omega (arith, low, other)) spell net
     ];
+    takes = λ l c low spell net here. elim (cases_eq l last) [
+      | inl is ↦ absurd (none c (subst (IsSpell g periods first) is spell) (ap nets (sym is) ∙ net))
+      | inr other ↦ so_far.takes l c (omega (arith, low, other)) spell net here
+    ];
     sound = so_far.sound;
     within = so_far.within;
   }
@@ -54,6 +60,7 @@ module _ (g : ThermalUnit) (periods first before : ℕ) (e : ℤ) (nets : ℕ �
       (here : (row_at rows'' last ≡ row_at rows' last) ⊎ (row_at rows'' last ≡ Some ended))
       (old : (v : ℤ) → cost_at rows' last ≡ Some v → HasAtMost (cost_at rows'' last) v)
       (added : HasAtMost (cost_at rows'' last) ended.cost)
+      (latest : cost_at rows'' last ≡ Some ended.cost → row_at rows'' last ≡ Some ended)
       (within : AreWithin rows'') where
     from_before : (l : ℕ) (v : ℤ) → row_at rows'' l ≡ row_at rows' l → cost_at rows'' l ≡ Some v → IsRowOf rows'' l v
     from_before l v same is = elim (so_far.sound l v (sym (cost-same rows'' rows' l l same) ∙ is)) [
@@ -89,6 +96,16 @@ module _ (g : ThermalUnit) (periods first before : ℕ) (e : ℤ) (nets : ℕ �
             let r = so_far.adds l d (omega (arith, low, other)) spell' net' in
             (r.0, cost-same rows'' rows' l l (others l other) ∙ r.1, r.2)
       ];
+      takes = λ l d low spell' net' is. elim (cases_eq l last) [
+        | inl same ↦
+            let z : c ≡ d = (let a = ap nets same in cc) in
+            let v_is : e +ℤ d ≡ ended.cost = omega (arith, ints, z, cost) in
+            let row = latest (ap (cost_at rows'') (sym same) ∙ is ∙ ap Some v_is) in
+            ap (first_at rows'') same ∙ first-is rows'' last ended row ∙ begins
+        | inr other ↦
+            let before = others l other in
+            first-same rows'' rows' l l before ∙ so_far.takes l d (omega (arith, low, other)) spell' net' (sym (cost-same rows'' rows' l l before) ∙ is)
+      ];
       sound = λ l v is. elim (cases_eq l last) [
         | inl same ↦ subst (λ (l : ℕ). IsRowOf rows'' l v) (sym same) (from_here v (ap (cost_at rows'') (sym same) ∙ is))
         | inr other ↦ from_before l v (others l other) is
@@ -104,6 +121,10 @@ module _ (g : ThermalUnit) (periods first before : ℕ) (e : ℤ) (nets : ℕ �
     keeps = so_far.keeps;
     adds = λ l c spell net. elim (cases_lt l last) [
       | inl less ↦ so_far.adds l c less spell net
+      | inr most ↦ absurd (none l most spell)
+    ];
+    takes = λ l c spell net is. elim (cases_lt l last) [
+      | inl less ↦ so_far.takes l c less spell net is
       | inr most ↦ absurd (none l most spell)
     ];
     sound = λ l v is. elim (so_far.sound l v is) [

@@ -5,3 +5,4 @@ pub mod Rows
 pub mod Spells
 pub mod Steps
 pub mod Tables
+pub mod Ties

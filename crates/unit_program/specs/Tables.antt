@@ -1,7 +1,7 @@
 -- The table of the program over spells, and what it keeps (this project's profile).
 -- ends l is the least cost of all up to period l, where the unit is on in l (or l is 0) and, before the last
 -- period of the horizon, off after it; none where nothing ends so.
-use Rattle.std.specs.Prelude.{◌≡◌, ℕ, suc, ◌<◌, ℤ, pos, ◌+ℤ◌, ◌≤ℤ◌, IsFalse, Option, Some, ◌⊎◌}
+use Rattle.std.specs.Prelude.{◌≡◌, ℕ, suc, ◌<◌, ◌≤◌, ℤ, pos, ◌+ℤ◌, ◌≤ℤ◌, IsFalse, Option, Some, ◌⊎◌}
 use Rattle.uc_model.specs.Data.{ThermalUnit, PriceLists, Schedule}
 use Rattle.spell_run.specs.Spells.{IsDispatch, IsLeastSpell, spell_cost}
 use Rattle.unit_program.specs.Spells.{IsSpell, IsOffRun, IsGap, start_cost_after}
@@ -26,15 +26,16 @@ IsEntryAfter g ends f last e = ((f ≡ 0) × (e ≡ pos 0)) ⊎ IsStarted g ends
 abbrev pub IsEntry : ThermalUnit → (ℕ → Option ℤ) → ℕ → ℤ → Type 0
 IsEntry g ends f e = (last : ℕ) × IsEntryAfter g ends f last e
 
--- e is the least of them, after last
+-- e is the least of them, and of those that cost e the one after `last` has the earliest on period before it
 pub record IsLeastEntry (g : ThermalUnit) (ends : ℕ → Option ℤ) (f last : ℕ) (e : ℤ) : Type 0 where
   pub entry : IsEntryAfter g ends f last e
   pub least : (d : ℤ) → IsEntry g ends f d → e ≤ℤ d
+  pub earliest : (k : ℕ) → IsEntryAfter g ends f k e → last ≤ k
 
--- a spell from f to l after last, where all up to it costs v
+-- a spell from f to l after last, where all up to it costs v: the least entry and the spell's least net cost
 pub record IsEnded (g : ThermalUnit) (π : PriceLists) (periods : ℕ) (ends : ℕ → Option ℤ) (f last l : ℕ) (v : ℤ) : Type 0 where
   pub entry_cost : ℤ
-  pub entry : IsEntryAfter g ends f last entry_cost
+  pub entry : IsLeastEntry g ends f last entry_cost
   pub spell : IsSpell g periods f l
   pub net : ℤ
   pub least : IsLeastSpell g π periods f l net
@@ -45,11 +46,17 @@ pub record IsComplete (g : ThermalUnit) (π : PriceLists) (periods n : ℕ) (end
   pub idle : IsFalse g.on0 → HasAtMost (ends 0) (pos 0)
   pub spell : (f l : ℕ) (e : ℤ) (d : Schedule) → f < n → IsSpell g periods f l → IsEntry g ends f e → IsDispatch g periods f l d → HasAtMost (ends l) (e +ℤ spell_cost g π f l d)
 
+-- of the spells to l that begin before period n, none that costs v with all before it begins later than with `first`
+abbrev pub IsLatest : ThermalUnit → PriceLists → ℕ → ℕ → (ℕ → Option ℤ) → ℕ → ℕ → ℤ → Type 0
+IsLatest g π periods n ends first l v =
+    (f last : ℕ) (e : ℤ) (d : Schedule) → f < n → IsSpell g periods f l → IsEntryAfter g ends f last e → IsDispatch g periods f l d
+    → (e +ℤ spell_cost g π f l d) ≡ v → f ≤ first
+
 -- each value of the table is that of a unit that has been off since before the horizon, or of the spell that the
--- choices name: it begins with `firsts l`, after `lasts l`
+-- choices name: it begins with `firsts l`, after `lasts l`, and of several of that cost it begins latest
 abbrev pub IsFrom : ThermalUnit → PriceLists → ℕ → ℕ → (ℕ → Option ℤ) → (ℕ → ℕ) → (ℕ → ℕ) → ℕ → ℤ → Type 0
 IsFrom g π periods n ends firsts lasts l v =
-    (IsFalse g.on0 × (l ≡ 0) × (v ≡ pos 0)) ⊎ ((firsts l < n) × IsEnded g π periods ends (firsts l) (lasts l) l v)
+    (IsFalse g.on0 × (l ≡ 0) × (v ≡ pos 0)) ⊎ ((firsts l < n) × IsEnded g π periods ends (firsts l) (lasts l) l v × IsLatest g π periods n ends (firsts l) l v)
 
 pub record IsTable (g : ThermalUnit) (π : PriceLists) (periods n : ℕ) (ends : ℕ → Option ℤ) (firsts lasts : ℕ → ℕ) : Type 0 where
   pub complete : IsComplete g π periods n ends
@@ -60,6 +67,8 @@ pub record IsUpdate (g : ThermalUnit) (periods f last : ℕ) (e : ℤ) (nets old
   pub same : (l : ℕ) → l < f → new l ≡ old l
   pub keeps : (l : ℕ) (v : ℤ) → old l ≡ Some v → HasAtMost (new l) v
   pub adds : (l : ℕ) (c : ℤ) → IsSpell g periods f l → nets l ≡ Some c → HasAtMost (new l) (e +ℤ c)
+  -- where several cost the same, the spell that begins with f is named
+  pub takes : (l : ℕ) (c : ℤ) → IsSpell g periods f l → nets l ≡ Some c → new l ≡ Some (e +ℤ c) → firsts' l ≡ f
   pub sound : (l : ℕ) (v : ℤ) → new l ≡ Some v →
       ((old l ≡ Some v) × (firsts' l ≡ firsts l) × (lasts' l ≡ lasts l))
       ⊎ ((firsts' l ≡ f) × (lasts' l ≡ last) × IsSpell g periods f l × ((c : ℤ) × (nets l ≡ Some c) × (v ≡ e +ℤ c)))

@@ -7,6 +7,7 @@ ghost use Rattle.uc_model.specs.Data.{Schedule, Thermal};
 ghost use Rattle.uc_model.specs.Earnings.{earnings, IsBest};
 ghost use Rattle.uc_model.specs.PlainUnits.{thermal_of, prices_of, schedule_of};
 ghost use Rattle.uc_model.specs.Schedules.{IsThermalFeasible};
+ghost use Rattle.uc_model.specs.Ties.{IsLeast};
 ghost use Rattle.unit_program.specs.Backs.{IsWritten, IsWrittenBack, IsZeroOff};
 ghost use Rattle.unit_program.specs.Builds.{IsIdle};
 ghost use Rattle.unit_program.specs.Rows.{cost_at, IsWithinTimes, IsFilled};
@@ -165,8 +166,10 @@ pub fn write_best<S: Shape>(
     requires filled { IsFilled (thermal_of unit.now) (prices_of prices.now) (suc (length (prices_of prices.now).energy)) rows.now }
     requires room { length (prices_of prices.now).energy < length rows.now }
     requires end { IsLeastEnd (thermal_of unit.now) (length (prices_of prices.now).energy) (cost_at rows.now) end.now.last end.now.cost }
+    requires earliest { (k : ℕ) → cost_at rows.now k ≡ Some end.now.cost → IsOffRun (thermal_of unit.now) k (length (prices_of prices.now).energy) → end.now.last ≤ k }
     requires into { length (schedule_of into.old.response).on ≡ length (prices_of prices.now).energy }
     ensures best { OnOk result (IsBest (Thermal (thermal_of unit.now)) (prices_of prices.now) (schedule_of into.new.response)) }
+    ensures least { OnOk result (IsLeast (Thermal (thermal_of unit.now)) (prices_of prices.now) (schedule_of into.new.response)) }
     ensures earned { OnOk result (into.new.earned ≡ earnings (Thermal (thermal_of unit.now)) (prices_of prices.now) (schedule_of into.new.response)) }
     ensures frame { Frame S.Home.cell_list S.is_in S.numbers [] [] home.old home.new }
     ensures sure { S.Home.counts ≡ true → S.Home.sure home.new ≡ S.Home.sure home.old }
@@ -191,6 +194,7 @@ pub fn best_response<S: Shape>(
 ) -> Result<Option<Answered>, AllocError>
     requires { length (thermal_of unit.now).window ≡ length (prices_of prices.now).energy }
     ensures best { IfOk result (λ o. IfSome o (λ a. IsBest (Thermal (thermal_of unit.now)) (prices_of prices.now) (schedule_of a.response))) }
+    ensures least { IfOk result (λ o. IfSome o (λ a. IsLeast (Thermal (thermal_of unit.now)) (prices_of prices.now) (schedule_of a.response))) }
     ensures earned { IfOk result (λ o. IfSome o (λ a. a.earned ≡ earnings (Thermal (thermal_of unit.now)) (prices_of prices.now) (schedule_of a.response))) }
     ensures none { IfOk result (λ o. IfNone o ((s : Schedule) → IsThermalFeasible (thermal_of unit.now) (length (prices_of prices.now).energy) s → ⊥)) }
     ensures sure { S.Home.counts ≡ true → S.Home.sure home.new ≡ S.Home.sure home.old }

@@ -114,7 +114,7 @@ pub fn least_entry(unit: &Unit, rows: &[Option<Ended>], before: u32) -> Option<E
 // Whether the cost is at most that in the table, or none is there: of equal ones the later first period is taken.
 fn is_taken(row: Option<Ended>, cost: i64) -> bool
     ensures yes { IsTrue result → (r : Ended) → row ≡ Some r → cost ≤ℤ r.cost }
-    ensures no { IsFalse result → (r : Ended) × (row ≡ Some r) × (r.cost ≤ℤ cost) }
+    ensures no { IsFalse result → (r : Ended) × (row ≡ Some r) × ((r.cost +ℤ pos 1) ≤ℤ cost) }
 {
     match row {
         None => true,
@@ -131,6 +131,7 @@ fn put(table: &mut Table, last: u32, ended: Ended)
     ensures here { (row_at table.new.items last ≡ row_at table.old.items last) ⊎ (row_at table.new.items last ≡ Some ended) }
     ensures old { (v : ℤ) → cost_at table.old.items last ≡ Some v → HasAtMost (cost_at table.new.items last) v }
     ensures added { HasAtMost (cost_at table.new.items last) ended.cost }
+    ensures latest { cost_at table.new.items last ≡ Some ended.cost → row_at table.new.items last ≡ Some ended }
     ensures within { AreWithin table.new.items }
     ensures length { length table.new.items ≡ length table.old.items }
 {

@@ -11,4 +11,4 @@ pub returns-clause-written : goal.returns-clause-written
 returns-clause-written g c =
     written_answer (thermal_of c.args.unit.now) (prices_of c.args.prices.now) (length c.args.prices.now.energy.items) c.args.first c.args.last
     c.max.result (schedule_of c.args.into.now.response) (schedule_of c.spell_best.new.into.response) c.in_ok-_cost._cost c.max.ensures c.requires.least
-    c.in_ok-_cost.ensures.least c.in_ok-_cost.ensures.on c.spell_best.ensures.outside
+    c.in_ok-_cost.ensures.least c.in_ok-_cost.ensures.first c.in_ok-_cost.ensures.on c.spell_best.ensures.outside

@@ -63,7 +63,7 @@ loop-last-preserved c =
           let put_length = w.put.ensures.length in
           rw w.table-is (record {
             update = update_more u c.args.periods c.args.first c.args.entry.now.last c.args.entry.now.cost nets c.args.table.now.items c.loop-last.last w.in-Some.net spell net.0
-                _ cost refl refl c.loop-last.table.items w.put.new.table.items c.loop-last.invariant.update w.put.ensures.others w.put.ensures.here w.put.ensures.old w.put.ensures.added w.put.ensures.within;
+                _ cost refl refl c.loop-last.table.items w.put.new.table.items c.loop-last.invariant.update w.put.ensures.others w.put.ensures.here w.put.ensures.old w.put.ensures.added w.put.ensures.latest w.put.ensures.within;
             length_is = put_length ∙ length_is;
           })
       | in_default w ↦

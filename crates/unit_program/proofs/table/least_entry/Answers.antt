@@ -13,6 +13,8 @@ loop-last-init c = record {
   sound = λ r is. cc;
   complete = λ k v low is gap. (let from = c.off_from-last.ensures.no k gap.off in absurd (omega (arith, low, from)));
   bound = λ r is. cc;
+  inside = λ r is. cc;
+  earliest = λ r is k v low ended gap cost. cc;
 }
 
 pub loop-last-preserved : goal.loop-last-preserved
@@ -23,7 +25,7 @@ loop-last-preserved c =
     let low = w.at_least in let high = w.at_most in
     record { at_least = omega (arith, ints, low, c.loop-last-test.true); at_most = omega (arith, ints, high, c.loop-last-test.true) }))
     (λ r is. if_some (λ (r : Entry). (c.loop-last.least ≡ Some r) ⊎ ((c.entry_after.result ≡ Some r.cost) × (r.last ≡ c.loop-last.last))) c.lesser-least.result r is c.lesser-least.ensures.from)
-    c.lesser-least.ensures.old c.lesser-least.ensures.added
+    c.lesser-least.ensures.old c.lesser-least.ensures.added c.lesser-least.ensures.kept
 
 pub returns-clause-some : goal.returns-clause-some
 returns-clause-some c =
