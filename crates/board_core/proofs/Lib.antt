@@ -8,7 +8,12 @@ pub mod Fronts
 pub mod Halts
 pub mod LedgerSteps
 pub mod Opened
+pub mod PostEvents
+pub mod PostLists
+pub mod PostRounds
+pub mod PostSums
 pub mod Refused
 pub mod Rows
 pub mod Starts
+pub mod Takes
 pub mod UnitPlaces

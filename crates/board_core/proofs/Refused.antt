@@ -9,13 +9,14 @@ use Rattle.board_history.specs.Rounds.{Rules, Event, Posts, posts, holders, open
 use Rattle.board_history.specs.Tasks.{Difference}
 use Rattle.uc_model.specs.Data.{AnyUnit, PriceLists, unit_count}
 use Rattle.uc_model.specs.PriceRule.{Proposal}
+use Rattle.board_core.specs.declared.replies.Differs.{Differs}
 use Rattle.board_core.specs.declared.replies.Differs.TheVariants as differs
 use Rattle.board_core.specs.declared.replies.Posted.{Posted}
 use Rattle.board_core.specs.declared.replies.Posted.TheVariants as posted
 use Rattle.board_core.specs.Events.{place}
 use Rattle.board_core.specs.Ledgers.{LedgerValue, blank}
 use Rattle.board_core.specs.Parts.{Lists, mark, IsBoard}
-use Rattle.board_core.specs.Refusals.{own_prices_in, held_refusal, refusal_of}
+use Rattle.board_core.specs.Refusals.{differs_of, own_prices_in, held_refusal, refusal_of}
 use Rattle.board_core.specs.Replies.{posted_of}
 use Rattle.board_core.proofs.Advances.{choose_true, choose_false, bool_cases}
 use Rattle.board_core.proofs.Claims.{price_is}
@@ -65,6 +66,31 @@ last_tests None false taker kept holder z k = choose (is_holder holder k)
     choose : (t : Bool) → refused_as (cond t (TakenPost z) (OtherHolder k holder)) ≡ cond {A = Option Posted} t None (Some (posted.Stranger (differs.Holder k holder)))
     choose true = refl
     choose false = refl
+
+-- ---- the tests one after another
+
+pub differing : (o : Option Difference) (d : Differs) (rest : Option Posted) → differs_of o ≡ Some d → Some (posted.Stranger d) ≡ option_map_or (λ (y : Difference). Some (posted.Stranger (differs.Content y.place y.board y.task))) o rest
+differing None d rest e = (cc)
+differing (Some y) d rest e = let s : differs.Content y.place y.board y.task ≡ d = (cc) in ap (λ (z : Differs). Some (posted.Stranger z)) (sym s)
+
+pub not_differing : (o : Option Difference) (rest : Option Posted) → differs_of o ≡ None → option_map_or (λ (y : Difference). Some (posted.Stranger (differs.Content y.place y.board y.task))) o rest ≡ rest
+not_differing None rest e = refl
+not_differing (Some y) rest e = (cc)
+
+pub past_tests : (b : Setup) (l : LedgerValue) (marks : List Bool) (takers : List ℕ) (k n u : ℕ) (ρ : PriceLists) (v : AnyUnit) → 0 < n → n ≤ l.opened → u < unit_count b.market →
+    refusal_of b l marks takers k n u ρ v
+    ≡ option_map_or (λ (y : Difference). Some (posted.Stranger (differs.Content y.place y.board y.task))) (differs_from b u ρ v (own_prices_in l n)) (held_refusal marks takers (place (unit_count b.market) n u) k)
+past_tests b l marks takers k n u ρ v one within inside =
+    let third = option_map_or (λ (y : Difference). Some (posted.Stranger (differs.Content y.place y.board y.task))) (differs_from b u ρ v (own_prices_in l n)) (held_refusal marks takers (place (unit_count b.market) n u) k) in
+    let second = cond (nat_le (unit_count b.market) u) (Some (posted.Stranger (differs.Unit u (unit_count b.market)))) third in
+    choose_false ((n == 0) || nat_lt l.opened n) (Some (posted.Stranger (differs.Proposal n l.opened))) second (open_ n l.opened one within)
+    ∙ choose_false (nat_le (unit_count b.market) u) (Some (posted.Stranger (differs.Unit u (unit_count b.market)))) third (in_ (unit_count b.market) u inside)
+  where
+    open_ : (n o : ℕ) → 0 < n → n ≤ o → ((n == 0) || nat_lt o n) ≡ false
+    open_ n o h i = grind (arith, nat_tests)
+
+    in_ : (m u : ℕ) → u < m → nat_le m u ≡ false
+    in_ m u h = grind (arith, nat_tests)
 
 module _ (b : Setup) (h : List (Event Answer)) (x : Lists) (l : LedgerValue) (I : IsBoard b h x l) (k n u : ℕ) (ρ : PriceLists) (v : AnyUnit) (a : Answer) where
   abbrev g : Rules PriceLists Proposal Answer
