@@ -9,11 +9,11 @@ use Rattle.std.specs.Prelude.{unwrap_or}
 use Rattle.board_history.specs.Board.{Answer, Content, rules_of, row_of, schedules_in, IsLegalHistory}
 use Rattle.board_history.specs.Calls.{own_rows}
 use Rattle.board_history.specs.Rounds.{posts, answer_at, answers, prices_at}
-use Rattle.board_history.proofs.RowLaws.{units_length, run_fits, has_row, answers_fit_now, row_has_answers, row_is}
+use Rattle.board_history.proofs.RowLaws.{units_length, fits_is_best, run_fits, has_row, answers_fit_now, row_has_answers, row_is}
 use Rattle.price_move.specs.Moves.{values_of}
 use Rattle.price_move.proofs.FirstGreatest.{IsFirstUpTo, first_one, first_more, first_is}
 use Rattle.uc_model.specs.Data.{AnyUnit, Market, NamedThermalUnit, NamedRenewableUnit, NamedBidUnit, PriceLists, Schedule, units, unit_count}
-use Rattle.uc_model.specs.Earnings.{earnings, IsBest, IsTop}
+use Rattle.uc_model.specs.Earnings.{earnings, IsTop}
 use Rattle.uc_model.specs.PriceRule.{Proposal, chosen_number}
 use Rattle.uc_model.specs.Runs.{Fits, HasTotals, IsRun}
 use Rattle.uc_model.specs.Schedules.{IsFeasible}
@@ -52,10 +52,6 @@ chosen_is rows some =
 
 one_unit : {X : Type 0} (o : Option X) (x y : X) → o ≡ Some x → o ≡ Some y → x ≡ y
 one_unit o x y h i = (cc)
-
--- an answer is best, whether each best one fits or the least alone
-fits_is_best : (u : AnyUnit) (π : PriceLists) (s : Schedule) → Fits u π s → IsBest u π s
-fits_is_best u π s h = assumption h
 
 -- an answer fits the unit at the prices, and comes with what the unit earns at best
 pub record IsAnswerAt (u : AnyUnit) (π : PriceLists) (a : Answer) : Type 0 where

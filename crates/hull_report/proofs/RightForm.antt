@@ -4,10 +4,10 @@ use Rattle.std.proofs.lemmas.List.{length-map, length-replicate, get_or-replicat
 use Rattle.std.proofs.lemmas.List.Elements.{All-nil, All-cons}
 use Rattle.std.specs.List.{All, AllZip}
 use Rattle.std.specs.Prelude.{slice_index, slice_index_or}
-use Rattle.uc_model.specs.Data.{AnyUnit, Thermal, Flat, Bid, NamedThermalUnit, NamedRenewableUnit, NamedBidUnit, PriceLists, Schedule}
-use Rattle.uc_model.specs.Earnings.{IsBest}
+use Rattle.uc_model.specs.Data.{AnyUnit, Thermal, Flat, Bid, NamedThermalUnit, NamedRenewableUnit, NamedBidUnit, PriceLists}
 use Rattle.uc_model.specs.Runs.{Fits}
 use Rattle.uc_model.specs.Schedules.{IsSchedule}
+use Rattle.board_history.proofs.RowLaws.{fits_is_best}
 use Rattle.hull_report.specs.ReportText.{UnitLine}
 use Rattle.hull_report.specs.Laws.{IsFlatLine, RightReportHasForm}
 
@@ -22,9 +22,6 @@ flat_line n l schedule on reserve = record {
   on = all_same l.response.on n true false schedule.on on ∙ ap (λ (m : ℕ). replicate m true) (sym schedule.power);
   reserve = all_same l.response.reserve n 0 0 schedule.reserve reserve ∙ ap (λ (m : ℕ). replicate m 0) (sym schedule.power);
 }
-
-fits_is_best : (u : AnyUnit) (π : PriceLists) (s : Schedule) → Fits u π s → IsBest u π s
-fits_is_best u π s h = assumption h
 
 module _ (π : PriceLists) where
   abbrev FitsLine : AnyUnit → UnitLine → Type 0

@@ -1,4 +1,4 @@
--- Numbers in decimal digits, without a leading zero, and with `-` before a negative one.
+-- Numbers in decimal digits, without a leading zero, and with `-` before a negative one (this project's profile).
 use Rattle.std.specs.Prelude.{ℕ, zero, suc, ◌+◌, ◌/◌, ◌%◌, nat_lt, if◌then◌else◌, ℤ, pos, negsuc, List, [], ◌∷◌, ◌++◌}
 
 -- the digits of n, of which there are at most so many
