@@ -1,11 +1,25 @@
-// What no clause says: whole runs over memory, by their status and the bytes that the sink holds. The expected lines
-// were worked by hand.
+// What no clause says: whole runs over memory, by their status and the bytes that the sink holds. The expected texts were
+// worked by hand.
 use hull_engine::hull_run;
 use hull_io::{File, MemoryShelf, MemorySink};
 use std::alloc::{AllocError, Global};
 use std::test::Fail;
 
-const CASE: &str = "{\"time_periods\":1,\"demand\":[0.15],\"reserves\":[0],\"thermal_generators\":{\
+// One wind unit that meets demand alone.
+const SMALLEST: &str = "\
+{\"time_periods\":1,\"demand\":[100],\"reserves\":[0],\"thermal_generators\":{},\
+\"renewable_generators\":{\"W\":{\"power_output_minimum\":[0],\"power_output_maximum\":[100]}}}";
+
+const SMALLEST_SCHEDULE: &str = "{\"thermal\":{},\"renewable\":{\"W\":[100000]}}";
+
+const SMALLEST_REPORT: &[u8] = b"\
+hull-report 1\nperiods 1\nunits 1\nbudget 1\nahead 1\ncost 0\nproposals 1\nproposal 1 value 0\n\
+energy 0\nreserve 0\nsupplied 0\nreserved 0\nchosen 1 value 0\n\
+unit renewable \"W\" earned 0 scheduled 0 payment 0\npower 0\nsurplus 0\npayments 0\ngap 0\nend\n";
+
+// A from 0 to 100 kW at 10 for each, B of exactly 100 kW for 3,000, and a demand of 150 kW.
+const TWO_UNITS: &str =
+    "{\"time_periods\":1,\"demand\":[0.15],\"reserves\":[0],\"thermal_generators\":{\
 \"A\":{\"must_run\":0,\"power_output_minimum\":0,\"power_output_maximum\":0.1,\"ramp_up_limit\":1,\"ramp_down_limit\":1,\
 \"ramp_startup_limit\":1,\"ramp_shutdown_limit\":1,\"time_up_minimum\":1,\"time_down_minimum\":1,\"power_output_t0\":0,\
 \"unit_on_t0\":0,\"time_up_t0\":0,\"time_down_t0\":1,\"startup\":[],\"piecewise_production\":[{\"mw\":0,\"cost\":0},{\"mw\":0.1,\"cost\":0.001}]},\
@@ -14,12 +28,72 @@ const CASE: &str = "{\"time_periods\":1,\"demand\":[0.15],\"reserves\":[0],\"the
 \"unit_on_t0\":0,\"time_up_t0\":0,\"time_down_t0\":1,\"startup\":[],\"piecewise_production\":[{\"mw\":0.1,\"cost\":0.003}]}},\
 \"renewable_generators\":{}}";
 
-const SCHEDULE: &str =
+const TWO_UNITS_SCHEDULE: &str =
     "{\"thermal\":{\"A\":{\"on\":[1],\"power\":[50],\"reserve\":[0]},\"B\":{\"on\":[1],\"power\":[100],\"reserve\":[0]}},\"renewable\":{}}";
 
-const TEXT: &[u8] = b"hull-check 1\nperiods 1 thermal 2 renewable 0\ncost 3500\nfeasible\n";
+const TWO_UNITS_CHECK: &[u8] =
+    b"hull-check 1\nperiods 1 thermal 2 renewable 0\ncost 3500\nfeasible\n";
 
-const WORDS: [&str; 5] = ["check", "--case", "c", "--schedule", "s"];
+const TWO_UNITS_REPORT: &[u8] = b"\
+hull-report 1\nperiods 1\nunits 2\nbudget 1\nahead 1\ncost 3500\nproposals 1\nproposal 1 value 2500\n\
+energy 30\nreserve 0\nsupplied 100\nreserved 0\nchosen 1 value 2500\n\
+unit thermal \"A\" earned 2000 scheduled 1000 payment 1000\non 1\npower 100\nreserve 0\n\
+unit thermal \"B\" earned 0 scheduled 0 payment 0\non 0\npower 0\nreserve 0\nsurplus 0\npayments 1000\n\
+gap 1000\nend\n";
+
+const TWO_PROPOSALS: &[u8] = b"\
+hull-report 1\nperiods 1\nunits 2\nbudget 2\nahead 1\ncost 3500\nproposals 2\nproposal 1 value 2500\n\
+energy 30\nreserve 0\nsupplied 100\nreserved 0\nproposal 2 value 1500\nenergy 50\nreserve 0\n\
+supplied 200\nreserved 0\nchosen 1 value 2500\n\
+unit thermal \"A\" earned 2000 scheduled 1000 payment 1000\non 1\npower 100\nreserve 0\n\
+unit thermal \"B\" earned 0 scheduled 0 payment 0\non 0\npower 0\nreserve 0\nsurplus 0\npayments 1000\n\
+gap 1000\nend\n";
+
+// A unit of 8 to 20 MW with a start cost, and one wind unit.
+const USUAL: &str = "\
+{\"time_periods\":1,\"demand\":[10.0],\"reserves\":[2.0],\"thermal_generators\":{\"G1\":{\"must_run\":0,\
+\"power_output_minimum\":8.0,\"power_output_maximum\":20.0,\"ramp_up_limit\":20.0,\
+\"ramp_down_limit\":20.0,\"ramp_startup_limit\":20.0,\"ramp_shutdown_limit\":20.0,\"time_up_minimum\":1,\
+\"time_down_minimum\":1,\"power_output_t0\":0.0,\"unit_on_t0\":0,\"time_up_t0\":0,\"time_down_t0\":8,\
+\"startup\":[{\"lag\":1,\"cost\":50.0}],\"piecewise_production\":[{\"mw\":8.0,\"cost\":800.0},\
+{\"mw\":12.0,\"cost\":1160.0},{\"mw\":20.0,\"cost\":1960.0}],\"name\":\"G1\"}},\
+\"renewable_generators\":{\"W1\":{\"power_output_minimum\":[0.0],\"power_output_maximum\":[3.0],\
+\"name\":\"W1\"}}}";
+
+const USUAL_SCHEDULE: &str = "\
+{\"thermal\":{\"G1\":{\"on\":[1],\"power\":[8000],\"reserve\":[2000]}},\"renewable\":{\"W1\":[2000]}}";
+
+const USUAL_REPORT: &[u8] = b"\
+hull-report 1\nperiods 1\nunits 2\nbudget 1\nahead 1\ncost 850000000\nproposals 1\n\
+proposal 1 value 686000000\nenergy 98000\nreserve 0\nsupplied 3000\nreserved 0\n\
+chosen 1 value 686000000\nunit thermal \"G1\" earned 0 scheduled -66000000 payment 66000000\non 0\n\
+power 0\nreserve 0\nunit renewable \"W1\" earned 294000000 scheduled 196000000 payment 98000000\n\
+power 3000\nsurplus 0\npayments 164000000\ngap 164000000\nend\n";
+
+const NO_UNITS: &str =
+    "{\"time_periods\":1,\"demand\":[100],\"reserves\":[0],\"thermal_generators\":{},\"renewable_generators\":{}}";
+
+const TWO_PERIODS: &str =
+    "{\"time_periods\":2,\"demand\":[0.1,0.1],\"reserves\":[0,0],\"thermal_generators\":{},\
+\"renewable_generators\":{\"W\":{\"power_output_minimum\":[0,0],\"power_output_maximum\":[100,100]}}}";
+
+const ONE_BID: &str =
+    "{\"time_periods\":1,\"demand\":[0],\"reserves\":[0],\"thermal_generators\":{},\
+\"renewable_generators\":{\"W\":{\"power_output_minimum\":[0],\"power_output_maximum\":[100]}},\
+\"demand_bids\":{\"D\":{\"blocks\":[[{\"mw\":0.1,\"price\":7}]]}}}";
+
+const CHECK: [&str; 5] = ["check", "--case", "c", "--schedule", "s"];
+
+const PRICE: [&str; 8] = [
+    "price",
+    "--case",
+    "c",
+    "--schedule=s",
+    "--proposals",
+    "1",
+    "--ahead",
+    "1",
+];
 
 fn file(alloc: Global, name: &str, text: &str) -> Result<File, AllocError> {
     Ok(File {
@@ -53,165 +127,175 @@ fn run(
 }
 
 #[test]
-fn checks_two_units(rt: HostRuntime) -> Result<(), Fail> {
-    let (status, bytes) = run(rt.alloc(), &WORDS, CASE, SCHEDULE, (&[], &[], &[]))?;
-    assert_eq!(rt; status, 0);
-    assert_eq!(rt; bytes.as_slice(), TEXT);
-    Ok(())
-}
-
-// Each file is read to its end by two reads.
-#[test]
-fn each_read_fails_in_turn(rt: HostRuntime) -> Result<(), Fail> {
-    for (number, line) in [
-        (1u64, b"fault 2 read case\n".as_slice()),
-        (2, b"fault 2 read case\n".as_slice()),
-        (3, b"fault 2 read schedule\n".as_slice()),
-        (4, b"fault 2 read schedule\n".as_slice()),
-    ] {
-        let (status, bytes) = run(rt.alloc(), &WORDS, CASE, SCHEDULE, (&[number], &[], &[]))?;
-        assert_eq!(rt; status, 2, "read {number}");
-        assert_eq!(rt; bytes.as_slice(), line, "read {number}");
-    }
-    let (status, _) = run(rt.alloc(), &WORDS, CASE, SCHEDULE, (&[5], &[], &[]))?;
-    assert_eq!(rt; status, 0);
-    Ok(())
-}
-
-#[test]
-fn each_write_fails_in_turn(rt: HostRuntime) -> Result<(), Fail> {
-    for taken in 0..TEXT.len() {
-        let number = taken as u64 + 1;
-        for failing in [(&[number][..], &[][..]), (&[][..], &[number][..])] {
-            let (status, bytes) = run(
-                rt.alloc(),
-                &WORDS,
-                CASE,
-                SCHEDULE,
-                (&[], failing.0, failing.1),
-            )?;
-            assert_eq!(rt; status, 6, "write {number}");
-            assert_eq!(rt; bytes.as_slice(), &TEXT[..taken], "write {number}");
-        }
-    }
-    Ok(())
-}
-
-// The status of refused words stays where their line can't be written.
-#[test]
-fn refuses_words(rt: HostRuntime) -> Result<(), Fail> {
-    for (words, line) in [
-        ([].as_slice(), b"fault 1 words 1 0\n".as_slice()),
+fn runs_answer_as_worked(rt: HostRuntime) -> Result<(), Fail> {
+    for (words, case, schedule, want, text) in [
+        (
+            PRICE.as_slice(),
+            SMALLEST,
+            SMALLEST_SCHEDULE,
+            0,
+            SMALLEST_REPORT,
+        ),
+        (
+            PRICE.as_slice(),
+            TWO_UNITS,
+            TWO_UNITS_SCHEDULE,
+            0,
+            TWO_UNITS_REPORT,
+        ),
+        (
+            [
+                "price",
+                "--case=c",
+                "--schedule=s",
+                "--proposals=2",
+                "--ahead=1",
+            ]
+            .as_slice(),
+            TWO_UNITS,
+            TWO_UNITS_SCHEDULE,
+            0,
+            TWO_PROPOSALS,
+        ),
+        (PRICE.as_slice(), USUAL, USUAL_SCHEDULE, 0, USUAL_REPORT),
+        (
+            CHECK.as_slice(),
+            TWO_UNITS,
+            TWO_UNITS_SCHEDULE,
+            0,
+            TWO_UNITS_CHECK,
+        ),
+        (
+            ["try", "7", "--proposals", "6765"].as_slice(),
+            "",
+            "",
+            5,
+            b"fault 5 work 6765 154 48\n".as_slice(),
+        ),
+        ([].as_slice(), "", "", 1, b"fault 1 words 1 0\n".as_slice()),
         (
             ["price", "--case", "a", "--case", "b"].as_slice(),
+            "",
+            "",
+            1,
             b"fault 1 words 4 4\n".as_slice(),
         ),
         (
-            ["check", "--case=a"].as_slice(),
-            b"fault 1 words 7 2\n".as_slice(),
+            ["check", "--case", "c", "--schedule", "t"].as_slice(),
+            TWO_UNITS,
+            TWO_UNITS_SCHEDULE,
+            2,
+            b"fault 2 read schedule\n".as_slice(),
         ),
         (
-            ["price", "--case", "c", "--schedule", "s"].as_slice(),
-            b"fault 1 words 2 1\n".as_slice(),
-        ),
-    ] {
-        let (status, bytes) = run(rt.alloc(), words, CASE, SCHEDULE, (&[], &[], &[]))?;
-        assert_eq!(rt; status, 1);
-        assert_eq!(rt; bytes.as_slice(), line);
-        let (status, bytes) = run(rt.alloc(), words, CASE, SCHEDULE, (&[], &[1], &[]))?;
-        assert_eq!(rt; status, 1);
-        assert_eq!(rt; bytes.len(), 0);
-    }
-    Ok(())
-}
-
-const NO_UNITS: &str =
-    "{\"time_periods\":1,\"demand\":[100],\"reserves\":[0],\"thermal_generators\":{},\"renewable_generators\":{}}";
-
-const ONE_WIND: &str =
-    "{\"time_periods\":1,\"demand\":[100],\"reserves\":[0],\"thermal_generators\":{},\
-\"renewable_generators\":{\"W\":{\"power_output_minimum\":[0],\"power_output_maximum\":[100]}}}";
-
-const TWO_PERIODS: &str =
-    "{\"time_periods\":2,\"demand\":[0.1,0.1],\"reserves\":[0,0],\"thermal_generators\":{},\
-\"renewable_generators\":{\"W\":{\"power_output_minimum\":[0,0],\"power_output_maximum\":[100,100]}}}";
-
-const ONE_BID: &str =
-    "{\"time_periods\":1,\"demand\":[0],\"reserves\":[0],\"thermal_generators\":{},\
-\"renewable_generators\":{\"W\":{\"power_output_minimum\":[0],\"power_output_maximum\":[100]}},\
-\"demand_bids\":{\"D\":{\"blocks\":[[{\"mw\":0.1,\"price\":7}]]}}}";
-
-#[test]
-fn refuses_cases_and_schedules(rt: HostRuntime) -> Result<(), Fail> {
-    for (case, schedule, want, line) in [
-        (
+            CHECK.as_slice(),
             NO_UNITS,
             "{}",
             3,
             b"fault 3 case 31 field renewable_generators kind case unit 0 item 0\n".as_slice(),
         ),
         (
+            CHECK.as_slice(),
             "{\"time_periods\":1",
             "{}",
             3,
             b"fault 3 case 10 at 17\n".as_slice(),
         ),
         (
-            ONE_WIND,
+            CHECK.as_slice(),
+            SMALLEST,
             "[1,]",
             4,
             b"fault 4 schedule 10 at 3\n".as_slice(),
         ),
         (
-            ONE_WIND,
+            CHECK.as_slice(),
+            SMALLEST,
             "{}",
             4,
             b"fault 4 schedule 42 kind case unit 0 item 0\n".as_slice(),
         ),
         (
-            ONE_WIND,
+            CHECK.as_slice(),
+            SMALLEST,
             "{\"thermal\":{},\"renewable\":{\"W\":[0.5]}}",
             4,
             b"fault 4 schedule 43 kind renewable unit 1 item 1\n".as_slice(),
         ),
         (
-            ONE_WIND,
+            CHECK.as_slice(),
+            SMALLEST,
             "{\"thermal\":{},\"renewable\":{\"W\":[99999]}}",
             4,
             b"fault 4 schedule 54 kind case unit 0 period 1 left 99999 right 100000\n".as_slice(),
         ),
         (
+            CHECK.as_slice(),
             TWO_PERIODS,
             "{\"thermal\":{},\"renewable\":{\"W\":[100,99]}}",
             4,
             b"fault 4 schedule 54 kind case unit 0 period 2 left 99 right 100\n".as_slice(),
         ),
         (
-            ONE_WIND,
+            CHECK.as_slice(),
+            SMALLEST,
             "{\"thermal\":{},\"renewable\":{\"W\":[100000]}}",
             0,
             b"hull-check 1\nperiods 1 thermal 0 renewable 1\ncost 0\nfeasible\n".as_slice(),
         ),
         (
+            CHECK.as_slice(),
             ONE_BID,
             "{\"thermal\":{},\"renewable\":{\"W\":[100]},\"bids\":{\"D\":[100]}}",
             0,
             b"hull-check 1\nperiods 1 thermal 0 renewable 1 bid 1\ncost -700000\nfeasible\n".as_slice(),
         ),
     ] {
-        let (status, bytes) = run(rt.alloc(), &WORDS, case, schedule, (&[], &[], &[]))?;
-        assert_eq!(rt; bytes.as_slice(), line);
+        let (status, bytes) = run(rt.alloc(), words, case, schedule, (&[], &[], &[]))?;
+        assert_eq!(rt; bytes.as_slice(), text);
         assert_eq!(rt; status, want);
     }
     Ok(())
 }
 
-// A name that the shelf doesn't hold.
+// Each file is read to its end by two reads. A refused line doesn't change the status.
 #[test]
-fn a_missing_schedule_fails_to_read(rt: HostRuntime) -> Result<(), Fail> {
-    let words = ["check", "--case", "c", "--schedule", "t"];
-    let (status, bytes) = run(rt.alloc(), &words, CASE, SCHEDULE, (&[], &[], &[]))?;
-    assert_eq!(rt; status, 2);
-    assert_eq!(rt; bytes.as_slice(), b"fault 2 read schedule\n".as_slice());
+fn failing_reads_and_writes_end_a_run(rt: HostRuntime) -> Result<(), Fail> {
+    for (words, failing, want, text) in [
+        (
+            PRICE.as_slice(),
+            ([1u64].as_slice(), [].as_slice(), [].as_slice()),
+            2,
+            b"fault 2 read case\n".as_slice(),
+        ),
+        (
+            PRICE.as_slice(),
+            ([4].as_slice(), [].as_slice(), [].as_slice()),
+            2,
+            b"fault 2 read schedule\n".as_slice(),
+        ),
+        (
+            PRICE.as_slice(),
+            ([].as_slice(), [100u64].as_slice(), [].as_slice()),
+            6,
+            &TWO_UNITS_REPORT[..99],
+        ),
+        (
+            PRICE.as_slice(),
+            ([].as_slice(), [].as_slice(), [3u64].as_slice()),
+            6,
+            b"hu".as_slice(),
+        ),
+        (
+            ["check", "--case=a"].as_slice(),
+            ([].as_slice(), [1].as_slice(), [].as_slice()),
+            1,
+            b"".as_slice(),
+        ),
+    ] {
+        let (status, bytes) = run(rt.alloc(), words, TWO_UNITS, TWO_UNITS_SCHEDULE, failing)?;
+        assert_eq!(rt; bytes.as_slice(), text);
+        assert_eq!(rt; status, want);
+    }
     Ok(())
 }

@@ -1,9 +1,9 @@
 -- How one step's answer goes on to the next.
-use Rattle.std.proofs.Common.{◌≡◌, Bool, true, false, Result, Ok, Err, refl, sym, ap, subst, ◌∙◌}
+use Rattle.std.proofs.Common.{◌≡◌, Bool, true, false, Result, Ok, Err, refl, sym, subst, ◌∙◌}
 use Rattle.std.specs.Prelude.{⊤}
 use Rattle.std.specs.Bool.{MatchBool}
 use Rattle.hull_report.specs.declared.fault.TopFault.{TopFault}
-use Rattle.hull_engine.specs.Due.{Due, Accepts, Refuses, Untold, Goes, Then, Only, IfAccepts, IfRefuses, DueAccepts, DueRefuses}
+use Rattle.hull_engine.specs.Due.{Due, Accepts, Refuses, Untold, Goes, Then, DueAccepts, DueRefuses}
 use Rattle.hull_engine.specs.Ends.{is_free, IsRefusal, IsAnswer}
 
 weaker_unless : {P Q : Type 0} (b : Bool) → (P → Q) → MatchBool b ⊤ P → MatchBool b ⊤ Q

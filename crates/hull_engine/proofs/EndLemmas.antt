@@ -1,6 +1,6 @@
 -- How a run ends, by its status.
-use Rattle.std.proofs.Common.{◌≡◌, ℕ, ◌<◌, ◌≤◌, ◌⊎◌, inl, inr, Bool, true, false, List, Option, Result, Ok, Err, refl, sym, ap, subst, ◌∙◌, arith}
-use Rattle.std.specs.Prelude.{⊤, IsTrue, IfErr}
+use Rattle.std.proofs.Common.{◌≡◌, ℕ, ◌≤◌, ◌⊎◌, inl, inr, Bool, true, false, List, Option, Result, Ok, Err, refl, sym, ap, subst, ◌∙◌, arith}
+use Rattle.std.specs.Prelude.{⊤, IsTrue}
 use Rattle.std.specs.Bool.{MatchBool}
 use Rattle.hull_io.specs.Edge.{Rose, Gains, FallsShort}
 use Rattle.hull_report.specs.declared.fault.FileKind.{FileKind}
@@ -8,13 +8,13 @@ use Rattle.hull_report.specs.declared.fault.FileKind.TheVariants.{CaseFile, Sche
 use Rattle.hull_report.specs.declared.fault.TopFault.{TopFault}
 use Rattle.hull_report.specs.declared.fault.TopFault.TheVariants.{Words, Read, CaseText, CaseField, PlanText, PlanShape, PlanRule, TooBig, Work, Memory, Report}
 use Rattle.hull_report.specs.FaultLines.{fault_line, read_line, memory_line}
-use Rattle.hull_engine.specs.declared.steps.Input.{Input}
+use Rattle.hull_engine.specs.declared.answers.Answer.{Answer}
 use Rattle.hull_engine.specs.declared.end.End.{End}
 use Rattle.hull_engine.specs.declared.end.End.TheVariants.{Done, Cut, Refused}
 use Rattle.hull_engine.specs.Due.{Due, Accepts, Refuses, Untold, IfAccepts, IfRefuses, MatchDue, DueAccepts, DueRefuses, IsAcceptedWith}
 use Rattle.hull_engine.specs.Ladder.{Accepted}
-use Rattle.hull_engine.specs.Ends.{Tries, status_of, is_free, IsRefusal, IsAnswer, IfReads, IfReadFails, accepted_of}
-use Rattle.hull_engine.specs.Runs.{end_status, is_refusal, answer_text, IsEndOf}
+use Rattle.hull_engine.specs.Ends.{Tries, status_of, is_free, IsRefusal, IsAnswer, IfReads, IfReadFails}
+use Rattle.hull_engine.specs.Runs.{end_status, is_refusal, answered_of, HasAnswerText, IsEndOf}
 
 -- ---- faults by their status
 
@@ -111,8 +111,8 @@ at_false false e h = h
 module _ {S : Type 0} (held : S → Option (List ℕ)) (faults : S → ℕ) (last : Option ℕ) (old new : S) (is_due : Due Accepted → Type 0) (reads : FileKind → Type 0) where
   -- what a run that answers n did
   pub data Ended (n : ℕ) : Type 0 where
-    done : n ≡ 0 → DueAccepts is_due (λ a. Gains held faults old new (answer_text a)) → Ended n
-    cut : n ≡ 6 → Rose last (faults old) (faults new) → DueAccepts is_due (λ a. FallsShort held faults last old new (answer_text a)) → Ended n
+    done : n ≡ 0 → DueAccepts is_due (λ a. HasAnswerText a (λ text. Gains held faults old new text)) → Ended n
+    cut : n ≡ 6 → Rose last (faults old) (faults new) → DueAccepts is_due (λ a. HasAnswerText a (λ text. FallsShort held faults last old new text)) → Ended n
     unread : (file : FileKind) → n ≡ 2 → reads file → Tries held faults last old new (read_line file) → Ended n
     starved : n ≡ 7 → Tries held faults last old new memory_line → Ended n
     refused : (f : TopFault) → n ≡ status_of f → IsTold f → Tries held faults last old new (fault_line f) → DueRefuses is_due (λ g. g ≡ f) → Ended n
@@ -125,9 +125,9 @@ module _ {S : Type 0} (held : S → Option (List ℕ)) (faults : S → ℕ) (las
         | inr (inr told) ↦ refused f at told tries (at_false (is_free f) told.told refusal)
       ]
 
-  pub ended : (n : ℕ) (r : Result Input TopFault) (e : End) → n ≡ end_status e → IsAnswer is_due accepted_of r → IfReadFails r reads → IsEndOf held faults last old new r e → Ended n
-  ended n (Ok i) Done at answer read ends = done at (accepts_at is_due (accepted_of i) (λ a. Gains held faults old new (answer_text a)) ends answer)
-  ended n (Ok i) Cut at answer read ends = cut at ends.rose (accepts_at is_due (accepted_of i) (λ a. FallsShort held faults last old new (answer_text a)) ends answer)
+  pub ended : (n : ℕ) (r : Result Answer TopFault) (e : End) → n ≡ end_status e → IsAnswer is_due answered_of r → IfReadFails r reads → IsEndOf held faults last old new r e → Ended n
+  ended n (Ok i) Done at answer read ends = done at (accepts_at is_due (answered_of i) (λ a. HasAnswerText a (λ text. Gains held faults old new text)) ends answer)
+  ended n (Ok i) Cut at answer read ends = cut at ends.2.rose (accepts_at is_due (answered_of i) (λ a. HasAnswerText a (λ text. FallsShort held faults last old new text)) ends answer)
   ended n (Ok i) (Refused f) at answer read ends = absurd ends
   ended n (Err f) Done at answer read ends = absurd ends
   ended n (Err f) Cut at answer read ends = absurd ends
@@ -142,14 +142,14 @@ module _ {S : Type 0} (held : S → Option (List ℕ)) (faults : S → ℕ) (las
   known_status n (starved e _) = omega (arith, e)
   known_status n (refused f e told _ _) = omega (arith, e, told.low)
 
-  pub status_0 : (n : ℕ) → Ended n → n ≡ 0 → DueAccepts is_due (λ a. Gains held faults old new (answer_text a))
+  pub status_0 : (n : ℕ) → Ended n → n ≡ 0 → DueAccepts is_due (λ a. HasAnswerText a (λ text. Gains held faults old new text))
   status_0 n (done e h) z = h
   status_0 n (cut e _ _) z = absurd (omega (arith, e, z))
   status_0 n (unread file e _ _) z = absurd (omega (arith, e, z))
   status_0 n (starved e _) z = absurd (omega (arith, e, z))
   status_0 n (refused f e told _ _) z = absurd (told.not_zero (sym e ∙ z))
 
-  pub status_6 : (n : ℕ) → Ended n → n ≡ 6 → Rose last (faults old) (faults new) × DueAccepts is_due (λ a. FallsShort held faults last old new (answer_text a))
+  pub status_6 : (n : ℕ) → Ended n → n ≡ 6 → Rose last (faults old) (faults new) × DueAccepts is_due (λ a. HasAnswerText a (λ text. FallsShort held faults last old new text))
   status_6 n (done e _) z = absurd (omega (arith, e, z))
   status_6 n (cut e rose h) z = (rose, h)
   status_6 n (unread file e _ _) z = absurd (omega (arith, e, z))

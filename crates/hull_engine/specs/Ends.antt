@@ -1,18 +1,16 @@
 -- What the steps and the end of a run say.
 use Rattle.std.specs.Prelude.{◌≡◌, ◌⊎◌, ℕ, Bool, true, false, List, Option, None, Some, Result, Ok, Err, IfErr, IsSomeAnd, ⊤}
 use Rattle.std.specs.Bool.{MatchBool}
-use Rattle.uc_model.specs.Data.{Market}
-use Rattle.uc_model.specs.PlainCases.{market_of, schedules_of}
+use Rattle.std.specs.Option.{option_and_then}
 use Rattle.hull_io.specs.Edge.{Gains, FallsShort}
-use Rattle.hull_words.specs.Asked.{CheckAsked}
+use Rattle.hull_words.specs.Asked.{Asked, CheckAsked}
 use Rattle.hull_report.specs.declared.fault.FileKind.{FileKind}
 use Rattle.hull_report.specs.declared.fault.FileKind.TheVariants.{CaseFile, ScheduleFile, ReportFile}
 use Rattle.hull_report.specs.declared.fault.TopFault.{TopFault}
 use Rattle.hull_report.specs.declared.fault.TopFault.TheVariants.{Words, Read, CaseText, CaseField, PlanText, PlanShape, PlanRule, TooBig, Work, Memory, Report}
 use Rattle.hull_report.specs.Words.{file_status}
-use Rattle.hull_engine.specs.declared.steps.Input.{Input}
 use Rattle.hull_engine.specs.Due.{Due, DueAccepts, DueRefuses}
-use Rattle.hull_engine.specs.Ladder.{Accepted, IsCaseDue}
+use Rattle.hull_engine.specs.Ladder.{files_of, IsCaseDue}
 
 -- the text was written, as far as the sink took it
 abbrev pub Tries : {S : Type 0} → (S → Option (List ℕ)) → (S → ℕ) → Option ℕ → S → S → List ℕ → Type 0
@@ -54,18 +52,20 @@ IfReads fault P = ⊤
 abbrev pub IfReadFails : {X : Type 0} → Result X TopFault → (FileKind → Type 0) → Type 0
 IfReadFails result P = IfErr result (λ fault. IfReads fault P)
 
--- what a contract sees of an accepted input
-abbrev pub accepted_of : Input → Accepted
-accepted_of input = record { market = market_of input.case; plan = schedules_of input.plan; cost = input.cost }
+-- the name of a file, among the two and of a command
+abbrev pub name_in : CheckAsked → FileKind → Option (List ℕ)
+name_in names CaseFile = Some names.case_name
+name_in names ScheduleFile = Some names.schedule_name
+name_in names ReportFile = None
 
--- the name of a file
-abbrev pub name_at : CheckAsked → FileKind → Option (List ℕ)
-name_at names CaseFile = Some names.case_name
-name_at names ScheduleFile = Some names.schedule_name
-name_at names ReportFile = None
+abbrev pub name_at : Asked → FileKind → Option (List ℕ)
+name_at asked file = option_and_then (λ names. name_in names file) (files_of asked)
 
 -- what comes before a file is read isn't refused
-abbrev pub IsReached : (List ℕ → Option (List ℕ)) → CheckAsked → FileKind → Type 0
-IsReached told names CaseFile = ⊤
-IsReached told names ScheduleFile = DueAccepts (IsCaseDue (told names.case_name)) (λ _. ⊤)
-IsReached told names ReportFile = ⊥
+abbrev pub IsReachedIn : (List ℕ → Option (List ℕ)) → CheckAsked → FileKind → Type 0
+IsReachedIn told names CaseFile = ⊤
+IsReachedIn told names ScheduleFile = DueAccepts (IsCaseDue (told names.case_name)) (λ _. ⊤)
+IsReachedIn told names ReportFile = ⊥
+
+abbrev pub IsReached : (List ℕ → Option (List ℕ)) → Asked → FileKind → Type 0
+IsReached told asked file = IsSomeAnd (files_of asked) (λ names. IsReachedIn told names file)

@@ -1,11 +1,16 @@
 //! The end of a run: the text, or the line of a fault.
-ghost use Rattle.std.specs.Prelude.{◌≡◌};
+ghost use Rattle.std.specs.Prelude.{◌≡◌, IfOk};
+ghost use Rattle.hull_io.specs.Edge.{Writes};
+ghost use Rattle.hull_report.specs.ReportText.{report_text};
+ghost use Rattle.hull_report.specs.RecordReport.{report_of};
 ghost use Rattle.hull_engine.specs.Ends.{status_of};
-ghost use Rattle.hull_engine.specs.Runs.{end_status, IsEndOf};
+ghost use Rattle.hull_engine.specs.Rounds.{IsEnded};
+ghost use Rattle.hull_engine.specs.Runs.{end_status, answered_of, IsAnswered, WritesAnswer, IsEndOf};
 
-use crate::steps::Input;
+use crate::answers::Answer;
+use crate::run::Done;
 use hull_io::{Sink, WriteFailed};
-use hull_report::{TopFault, write_check, write_fault};
+use hull_report::{TopFault, write_check, write_fault, write_report, write_try};
 
 /// How a run ended.
 #[derive(Clone, Copy)]
@@ -47,18 +52,39 @@ impl End {
     }
 }
 
-/// Writes the text of what was accepted, or the line of the fault.
-pub fn finish<S: Sink>(decided: &Result<Input, TopFault>, out: &mut S) -> End
-    ensures { IsEndOf S.held S.faults S.last out.old out.new decided.now result }
+/// Writes the report of a run that has ended. It takes no memory, and fails only where the sink does.
+pub fn finish_run<S: Sink>(done: &mut Done, out: &mut S) -> Result<(), WriteFailed>
+    requires { IsEnded done.old.closed.setup done.old }
+    ensures { Writes S.held S.faults S.last out.old out.new result (report_text (report_of done.old.closed done.old.settlement)) }
 {
-    match decided {
-        Ok(input) => match write_check(&input.case, input.cost, out) {
+    write_report(&done.closed, &done.settlement, &mut done.buffer, out)
+}
+
+/// Writes the text of the answer.
+fn write_answer<S: Sink>(answer: &mut Answer, out: &mut S) -> Result<(), WriteFailed>
+    requires { IsAnswered answer.old }
+    ensures { WritesAnswer S.held S.faults S.last out.old out.new (answered_of answer.old) result }
+{
+    match answer {
+        Answer::Check(input) => write_check(&input.case, input.cost, out),
+        Answer::Price(done) => finish_run(done, out),
+        Answer::Try(number, done) => write_try(*number, &done.closed, &done.settlement, out),
+    }
+}
+
+/// Writes the text of the answer, or the line of the fault.
+pub fn finish<S: Sink>(answer: Result<Answer, TopFault>, out: &mut S) -> End
+    requires { IfOk answer (λ answer. IsAnswered answer) }
+    ensures { IsEndOf S.held S.faults S.last out.old out.new answer result }
+{
+    match answer {
+        Ok(mut answer) => match write_answer(&mut answer, out) {
             Ok(()) => End::Done,
             Err(WriteFailed) => End::Cut,
         },
         Err(fault) => {
-            let _ = write_fault(fault, out);
-            End::Refused(*fault)
+            let _ = write_fault(&fault, out);
+            End::Refused(fault)
         }
     }
 }

@@ -9,15 +9,22 @@ ghost use Rattle.hull_report.specs.FaultLines.{fault_line, read_line, memory_lin
 ghost use Rattle.hull_engine.specs.Due.{Due, DueAccepts, DueRefuses, MatchDue, IsAcceptedWith};
 ghost use Rattle.hull_engine.specs.Ladder.{Accepted, words_due, IsDue};
 ghost use Rattle.hull_engine.specs.Ends.{Tries, status_of, name_at, IsReached};
-ghost use Rattle.hull_engine.specs.Runs.{is_refusal, answer_text};
+ghost use Rattle.hull_engine.specs.Runs.{is_refusal, HasAnswerText};
 
-pub mod end;
-pub mod steps;
+mod answers;
+mod end;
+mod files;
+mod input;
+mod job;
+mod run;
+mod tasks;
 
+use answers::answer_words;
 use end::finish;
+pub use end::finish_run;
 use hull_io::{Shelf, Sink};
+pub use run::{Done, Run, open_run, run_board};
 use std::alloc::Global;
-use steps::decide;
 
 /// Runs the command that the words give, and answers its status: 0 where its text was written whole, and otherwise
 /// the status of the one fault line that was written, or 6 where the sink failed within the text.
@@ -29,34 +36,37 @@ pub fn hull_run<F: Shelf, S: Sink>(
 ) -> u8
     ensures known { result ≤ 8 }
 
-    // 0: what is told of the files is accepted, and its text was written whole.
-    ensures done { result ≡ 0 → DueAccepts (IsDue (texts words.now) (F.told shelf.old)) (λ a. Gains S.held S.faults out.old out.new (answer_text a)) }
+    // 0: what is told of the files is accepted, and its text was written whole. For `hull price` that is the text of a
+    // right report: it lists every proposal that the budget and the price rule call for with its exact dual value; the
+    // chosen prices have the greatest; each printed response is feasible and no feasible one earns more; and payments plus
+    // the worth of the surplus reserve are the schedule's cost less that dual value (hull_report's `IsRightReport`).
+    ensures done { result ≡ 0 → DueAccepts (IsDue (texts words.now) (F.told shelf.old)) (λ a. HasAnswerText a (λ text. Gains S.held S.faults out.old out.new text)) }
 
     // 1, 3, 4, 5 and 8: the first refusal, by its status and its line.
     ensures refused { IsTrue (is_refusal result) → DueRefuses (IsDue (texts words.now) (F.told shelf.old)) (λ fault.
         (result ≡ status_of fault) × Tries S.held S.faults S.last out.old out.new (fault_line fault)) }
 
     // 2: the count of the file in the line rose, and what is read before it isn't refused.
-    ensures read { result ≡ 2 → IsAcceptedWith (words_due (texts words.now)) (λ names. (file : FileKind)
-        × IsSomeAnd (name_at names file) (λ name. Rose F.last (F.faults shelf.old name) (F.faults shelf.new name))
-        × IsReached (F.told shelf.old) names file
+    ensures read { result ≡ 2 → IsAcceptedWith (words_due (texts words.now)) (λ asked. (file : FileKind)
+        × IsSomeAnd (name_at asked file) (λ name. Rose F.last (F.faults shelf.old name) (F.faults shelf.new name))
+        × IsReached (F.told shelf.old) asked file
         × Tries S.held S.faults S.last out.old out.new (read_line file)) }
 
-    // 6: what is told is accepted, and its text was cut short by the sink.
+    // 6: what is told is accepted, and a text that 0 would allow was cut short by the sink.
     ensures write { result ≡ 6 → Rose S.last (S.faults out.old) (S.faults out.new) }
-    ensures short { result ≡ 6 → DueAccepts (IsDue (texts words.now) (F.told shelf.old)) (λ a. FallsShort S.held S.faults S.last out.old out.new (answer_text a)) }
+    ensures short { result ≡ 6 → DueAccepts (IsDue (texts words.now) (F.told shelf.old)) (λ a. HasAnswerText a (λ text. FallsShort S.held S.faults S.last out.old out.new text)) }
 
     // 7 is free.
     ensures memory { result ≡ 7 → Tries S.held S.faults S.last out.old out.new memory_line }
 
     // Where no count rose, what is told decides, but for want of memory.
     ensures complete { (due : Due Accepted) → IsDue (texts words.now) (F.told shelf.old) due
-        → MatchDue (words_due (texts words.now)) (λ names. (file : FileKind)
-        → ¬ IsSomeAnd (name_at names file) (λ name. Rose F.last (F.faults shelf.old name) (F.faults shelf.new name))) (λ _. ⊤)
+        → MatchDue (words_due (texts words.now)) (λ asked. (file : FileKind)
+        → ¬ IsSomeAnd (name_at asked file) (λ name. Rose F.last (F.faults shelf.old name) (F.faults shelf.new name))) (λ _. ⊤)
         → ¬ Rose S.last (S.faults out.old) (S.faults out.new)
         → MatchDue due (λ _. (result ≡ 0) ⊎ (result ≡ 7)) (λ fault. (result ≡ status_of fault) ⊎ (result ≡ 7)) }
 {
-    let decided = decide(alloc, words, shelf);
-    let end = finish(&decided, out);
+    let answer = answer_words(alloc, words, shelf);
+    let end = finish(answer, out);
     end.status()
 }

@@ -1,6 +1,5 @@
 -- The line of each fault (this project's profile).
-use Rattle.std.specs.Prelude.{ℕ, List, [], ◌∷◌, codes, decimal}
-use Rattle.std.specs.Fmt.{signed_decimal}
+use Rattle.std.specs.Prelude.{ℕ, List, [], ◌∷◌, codes}
 use Rattle.std.specs.List.{concat}
 use Rattle.hull_words.specs.declared.fault.WordFault.{WordFault}
 use Rattle.hull_words.specs.Codes.{code_number as word_code}
@@ -12,6 +11,7 @@ use Rattle.uc_plan.specs.declared.fault.ShapeFault.{ShapeFault}
 use Rattle.uc_plan.specs.Shapes.{shape_number as shape_code}
 use Rattle.plan_check.specs.declared.RuleFault.{RuleFault}
 use Rattle.uc_model.specs.Refusals.{rule_number}
+use Rattle.hull_report.specs.Numerals.{numeral, signed_numeral}
 use Rattle.hull_report.specs.declared.fault.FileKind.{FileKind}
 use Rattle.hull_report.specs.declared.fault.WorkFault.{WorkFault}
 use Rattle.hull_report.specs.declared.fault.ReportFault.{ReportFault}
@@ -20,46 +20,46 @@ use Rattle.hull_report.specs.declared.fault.TopFault.TheVariants as faults
 use Rattle.hull_report.specs.Words.{kind_word, file_word, file_status}
 
 unfoldable pub words_line : WordFault → List ℕ
-words_line f = concat (codes "fault 1 words " ∷ decimal (word_code f.code) ∷ codes " " ∷ decimal f.place ∷ codes "\n" ∷ [])
+words_line f = concat (codes "fault 1 words " ∷ numeral (word_code f.code) ∷ codes " " ∷ numeral f.place ∷ codes "\n" ∷ [])
 
 unfoldable pub read_line : FileKind → List ℕ
 read_line file = concat (codes "fault 2 read " ∷ file_word file ∷ codes "\n" ∷ [])
 
 -- a fault of the text of a case or of a schedule
 unfoldable pub case_text_line : TextFault → List ℕ
-case_text_line f = concat (codes "fault 3 case " ∷ decimal (text_code f.code) ∷ codes " at " ∷ decimal f.place ∷ codes "\n" ∷ [])
+case_text_line f = concat (codes "fault 3 case " ∷ numeral (text_code f.code) ∷ codes " at " ∷ numeral f.place ∷ codes "\n" ∷ [])
 
 unfoldable pub plan_text_line : TextFault → List ℕ
-plan_text_line f = concat (codes "fault 4 schedule " ∷ decimal (text_code f.code) ∷ codes " at " ∷ decimal f.place ∷ codes "\n" ∷ [])
+plan_text_line f = concat (codes "fault 4 schedule " ∷ numeral (text_code f.code) ∷ codes " at " ∷ numeral f.place ∷ codes "\n" ∷ [])
 
 unfoldable pub field_line : FieldFault → List ℕ
 field_line f = concat (
-    codes "fault 3 case " ∷ decimal (field_code f.code) ∷ codes " field " ∷ key_of f.field ∷ codes " kind " ∷ kind_word f.kind
-    ∷ codes " unit " ∷ decimal f.unit ∷ codes " item " ∷ decimal f.item ∷ codes "\n" ∷ [])
+    codes "fault 3 case " ∷ numeral (field_code f.code) ∷ codes " field " ∷ key_of f.field ∷ codes " kind " ∷ kind_word f.kind
+    ∷ codes " unit " ∷ numeral f.unit ∷ codes " item " ∷ numeral f.item ∷ codes "\n" ∷ [])
 
 unfoldable pub shape_line : ShapeFault → List ℕ
 shape_line f = concat (
-    codes "fault 4 schedule " ∷ decimal (shape_code f.code) ∷ codes " kind " ∷ kind_word f.kind
-    ∷ codes " unit " ∷ decimal f.unit ∷ codes " item " ∷ decimal f.item ∷ codes "\n" ∷ [])
+    codes "fault 4 schedule " ∷ numeral (shape_code f.code) ∷ codes " kind " ∷ kind_word f.kind
+    ∷ codes " unit " ∷ numeral f.unit ∷ codes " item " ∷ numeral f.item ∷ codes "\n" ∷ [])
 
 unfoldable pub rule_line : RuleFault → List ℕ
 rule_line f = concat (
-    codes "fault 4 schedule " ∷ decimal (rule_number f.code) ∷ codes " kind " ∷ kind_word f.kind
-    ∷ codes " unit " ∷ decimal f.unit ∷ codes " period " ∷ decimal f.period
-    ∷ codes " left " ∷ signed_decimal f.left ∷ codes " right " ∷ signed_decimal f.right ∷ codes "\n" ∷ [])
+    codes "fault 4 schedule " ∷ numeral (rule_number f.code) ∷ codes " kind " ∷ kind_word f.kind
+    ∷ codes " unit " ∷ numeral f.unit ∷ codes " period " ∷ numeral f.period
+    ∷ codes " left " ∷ signed_numeral f.left ∷ codes " right " ∷ signed_numeral f.right ∷ codes "\n" ∷ [])
 
 -- a file has too many bytes
 unfoldable pub too_big_line : FileKind → List ℕ
-too_big_line file = concat (codes "fault " ∷ decimal (file_status file) ∷ codes " " ∷ file_word file ∷ codes " 32\n" ∷ [])
+too_big_line file = concat (codes "fault " ∷ numeral (file_status file) ∷ codes " " ∷ file_word file ∷ codes " 32\n" ∷ [])
 
 unfoldable pub work_line : WorkFault → List ℕ
-work_line f = concat (codes "fault 5 work " ∷ decimal f.proposals ∷ codes " " ∷ decimal f.units ∷ codes " " ∷ decimal f.periods ∷ codes "\n" ∷ [])
+work_line f = concat (codes "fault 5 work " ∷ numeral f.proposals ∷ codes " " ∷ numeral f.units ∷ codes " " ∷ numeral f.periods ∷ codes "\n" ∷ [])
 
 unfoldable pub memory_line : List ℕ
 memory_line = codes "fault 7 memory\n"
 
 unfoldable pub report_line : ReportFault → List ℕ
-report_line f = concat (codes "fault 8 report " ∷ decimal f.code ∷ codes " at " ∷ decimal f.line ∷ codes "\n" ∷ [])
+report_line f = concat (codes "fault 8 report " ∷ numeral f.code ∷ codes " at " ∷ numeral f.line ∷ codes "\n" ∷ [])
 
 abbrev pub fault_line : TopFault → List ℕ
 fault_line (faults.Words f) = words_line f

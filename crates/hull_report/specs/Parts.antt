@@ -1,16 +1,16 @@
 -- The parts of a text (this project's profile; digits are decimal).
-use Rattle.std.specs.Prelude.{ℕ, ℤ, ◌+◌, ◌-◌, ◌/◌, ◌%◌, ◌==◌, nat_lt, nat_le, ◌&&◌, Bool, true, false, not, List, [], ◌∷◌, ◌++◌, if◌then◌else◌, decimal, codes}
-use Rattle.std.specs.Fmt.{signed_decimal}
+use Rattle.std.specs.Prelude.{ℕ, ℤ, ◌+◌, ◌-◌, ◌/◌, ◌%◌, ◌==◌, nat_lt, nat_le, ◌&&◌, Bool, true, false, not, List, [], ◌∷◌, ◌++◌, if◌then◌else◌, codes}
 use Rattle.std.specs.List.{flat_map}
+use Rattle.hull_report.specs.Numerals.{numeral, signed_numeral}
 use Rattle.hull_report.specs.declared.parts.Part.{Part}
 use Rattle.hull_report.specs.declared.parts.Part.TheVariants.{Text, Count, Amount, Counts, Numbers, Amounts, Flags, Tally, Name}
 
 -- each number behind a space
 abbrev pub spaced : List ℤ → List ℕ
-spaced = flat_map (λ x. 32 ∷ signed_decimal x)
+spaced = flat_map (λ x. 32 ∷ signed_numeral x)
 
 abbrev pub spaced_counts : List ℕ → List ℕ
-spaced_counts = flat_map (λ n. 32 ∷ decimal n)
+spaced_counts = flat_map (λ n. 32 ∷ numeral n)
 
 abbrev pub flag_text : Bool → List ℕ
 flag_text true = codes " 1"
@@ -44,14 +44,14 @@ quoted name = codes "\"" ++ closed name
 
 -- a word and a number, or nothing where the number is 0
 abbrev pub tally : List ℕ → ℕ → List ℕ
-tally word n = if n == 0 then [] else word ++ decimal n
+tally word n = if n == 0 then [] else word ++ numeral n
 
 -- ---- the text of a part
 
 abbrev pub part_text : Part → List ℕ
 part_text (Text piece) = piece.now
-part_text (Count n) = decimal n
-part_text (Amount x) = signed_decimal x
+part_text (Count n) = numeral n
+part_text (Amount x) = signed_numeral x
 part_text (Counts ns) = spaced_counts ns.now
 part_text (Numbers xs) = spaced xs.now
 part_text (Amounts xs) = spaced xs.now

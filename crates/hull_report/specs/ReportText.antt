@@ -1,9 +1,9 @@
 -- The text of `hull price` (this project's profile).
-use Rattle.std.specs.Prelude.{ℕ, suc, ℤ, List, [], ◌∷◌, ◌++◌, length, codes, decimal}
-use Rattle.std.specs.Fmt.{signed_decimal}
+use Rattle.std.specs.Prelude.{ℕ, suc, ℤ, List, [], ◌∷◌, ◌++◌, length, codes}
 use Rattle.std.specs.List.{concat, flat_map}
 use Rattle.uc_model.specs.Data.{Schedule}
 use Rattle.uc_model.specs.PriceRule.{Proposal}
+use Rattle.hull_report.specs.Numerals.{numeral, signed_numeral}
 use Rattle.hull_report.specs.Parts.{spaced, spaced_counts, spaced_flags, quoted}
 
 -- A unit or a bid at the chosen prices: what it earns at best and in the plan, what it is owed, and its response.
@@ -34,13 +34,13 @@ pub record Report : Type 0 where
 -- the first seven lines
 unfoldable pub head_text : ℕ → ℕ → ℕ → ℕ → ℤ → ℕ → List ℕ
 head_text periods units budget ahead cost proposals = concat (
-    codes "hull-report 1\nperiods " ∷ decimal periods ∷ codes "\nunits " ∷ decimal units ∷ codes "\nbudget " ∷ decimal budget ∷ codes "\nahead " ∷ decimal ahead
-    ∷ codes "\ncost " ∷ signed_decimal cost ∷ codes "\nproposals " ∷ decimal proposals ∷ codes "\n" ∷ [])
+    codes "hull-report 1\nperiods " ∷ numeral periods ∷ codes "\nunits " ∷ numeral units ∷ codes "\nbudget " ∷ numeral budget ∷ codes "\nahead " ∷ numeral ahead
+    ∷ codes "\ncost " ∷ signed_numeral cost ∷ codes "\nproposals " ∷ numeral proposals ∷ codes "\n" ∷ [])
 
 -- the prices of a proposal, its value and the totals of the responses to it
 unfoldable pub row_text : ℕ → Proposal → List ℕ
 row_text number r = concat (
-    codes "proposal " ∷ decimal number ∷ codes " value " ∷ signed_decimal r.value
+    codes "proposal " ∷ numeral number ∷ codes " value " ∷ signed_numeral r.value
     ∷ codes "\nenergy" ∷ spaced r.prices.energy ∷ codes "\nreserve" ∷ spaced r.prices.reserve
     ∷ codes "\nsupplied" ∷ spaced r.supply ∷ codes "\nreserved" ∷ spaced r.reserve ∷ codes "\n" ∷ [])
 
@@ -50,19 +50,19 @@ rows_text first [] = []
 rows_text first (r ∷ rs) = row_text first r ++ rows_text (suc first) rs
 
 unfoldable pub chosen_text : ℕ → ℤ → List ℕ
-chosen_text number value = concat (codes "chosen " ∷ decimal number ∷ codes " value " ∷ signed_decimal value ∷ codes "\n" ∷ [])
+chosen_text number value = concat (codes "chosen " ∷ numeral number ∷ codes " value " ∷ signed_numeral value ∷ codes "\n" ∷ [])
 
 unfoldable pub thermal_text : UnitLine → List ℕ
 thermal_text u = concat (
-    codes "unit thermal " ∷ quoted u.name ∷ codes " earned " ∷ signed_decimal u.earned ∷ codes " scheduled " ∷ signed_decimal u.scheduled
-    ∷ codes " payment " ∷ signed_decimal u.payment
+    codes "unit thermal " ∷ quoted u.name ∷ codes " earned " ∷ signed_numeral u.earned ∷ codes " scheduled " ∷ signed_numeral u.scheduled
+    ∷ codes " payment " ∷ signed_numeral u.payment
     ∷ codes "\non" ∷ spaced_flags u.response.on ∷ codes "\npower" ∷ spaced_counts u.response.power ∷ codes "\nreserve" ∷ spaced_counts u.response.reserve ∷ codes "\n" ∷ [])
 
 -- a renewable unit and a bid are always on and give no reserve, so only the power is told
 unfoldable pub flat_text : List ℕ → UnitLine → List ℕ
 flat_text kind u = concat (
-    kind ∷ quoted u.name ∷ codes " earned " ∷ signed_decimal u.earned ∷ codes " scheduled " ∷ signed_decimal u.scheduled
-    ∷ codes " payment " ∷ signed_decimal u.payment ∷ codes "\npower" ∷ spaced_counts u.response.power ∷ codes "\n" ∷ [])
+    kind ∷ quoted u.name ∷ codes " earned " ∷ signed_numeral u.earned ∷ codes " scheduled " ∷ signed_numeral u.scheduled
+    ∷ codes " payment " ∷ signed_numeral u.payment ∷ codes "\npower" ∷ spaced_counts u.response.power ∷ codes "\n" ∷ [])
 
 abbrev pub renewable_text : UnitLine → List ℕ
 renewable_text = flat_text (codes "unit renewable ")
@@ -72,7 +72,7 @@ bid_text = flat_text (codes "unit bid ")
 
 unfoldable pub foot_text : ℤ → ℤ → ℤ → List ℕ
 foot_text surplus payments gap = concat (
-    codes "surplus " ∷ signed_decimal surplus ∷ codes "\npayments " ∷ signed_decimal payments ∷ codes "\ngap " ∷ signed_decimal gap ∷ codes "\nend\n" ∷ [])
+    codes "surplus " ∷ signed_numeral surplus ∷ codes "\npayments " ∷ signed_numeral payments ∷ codes "\ngap " ∷ signed_numeral gap ∷ codes "\nend\n" ∷ [])
 
 -- the whole text
 unfoldable pub report_text : Report → List ℕ

@@ -3,10 +3,13 @@
 
 pub mod check;
 pub mod fault;
+pub mod laws;
 pub mod parts;
 mod pieces;
+mod record;
 pub mod report;
 
 pub use check::write_check;
 pub use fault::{FileKind, ReportFault, TopFault, WorkFault, write_fault};
 pub use parts::{Part, write_parts};
+pub use record::{write_report, write_try};

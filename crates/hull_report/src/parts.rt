@@ -1,7 +1,8 @@
 //! A text, part by part.
-ghost use Rattle.std.specs.Prelude.{◌≡◌, ◌<◌, ◌++◌, decimal};
+ghost use Rattle.std.specs.Prelude.{◌≡◌, ◌<◌, ◌++◌};
 ghost use Rattle.std.specs.List.{flat_map, list_all};
 ghost use Rattle.hull_io.specs.Edge.{Writes};
+ghost use Rattle.hull_report.specs.Numerals.{numeral, signed_numeral};
 ghost use Rattle.hull_report.specs.Parts.{part_text, hex_of, stands_as_is, escaped, closed, quoted, tally};
 
 use crate::pieces::{write_amounts, write_counts, write_flags, write_numbers};
@@ -38,12 +39,24 @@ fn write_number<S: Sink, I: itoa::Integer>(out: &mut S, n: I) -> Result<(), Writ
     write_whole(out, buffer.format(n).as_bytes())
 }
 
+fn write_count<S: Sink>(out: &mut S, n: u64) -> Result<(), WriteFailed>
+    ensures { Writes S.held S.faults S.last out.old out.new result (numeral n) }
+{
+    write_number(out, n)
+}
+
+fn write_amount<S: Sink>(out: &mut S, x: i128) -> Result<(), WriteFailed>
+    ensures { Writes S.held S.faults S.last out.old out.new result (signed_numeral x) }
+{
+    write_number(out, x)
+}
+
 #[tactic(auto, using(hull_io::proofs::GrownLemmas::gains_then, hull_io::proofs::GrownLemmas::short_then, hull_io::proofs::GrownLemmas::short_more, hull_io::proofs::GrownLemmas::writes_then))]
 fn write_behind<S: Sink>(out: &mut S, word: &[u8], n: u64) -> Result<(), WriteFailed>
-    ensures { Writes S.held S.faults S.last out.old out.new result (word.now ++ decimal n) }
+    ensures { Writes S.held S.faults S.last out.old out.new result (word.now ++ numeral n) }
 {
     write_whole(out, word)?;
-    write_number(out, n)
+    write_count(out, n)
 }
 
 fn write_tally<S: Sink>(out: &mut S, word: &[u8], n: u64) -> Result<(), WriteFailed>
@@ -140,8 +153,8 @@ fn write_part<S: Sink>(out: &mut S, part: &Part<'_>) -> Result<(), WriteFailed>
 {
     match *part {
         Part::Text(piece) => write_whole(out, piece),
-        Part::Count(n) => write_number(out, n),
-        Part::Amount(x) => write_number(out, x),
+        Part::Count(n) => write_count(out, n),
+        Part::Amount(x) => write_amount(out, x),
         Part::Counts(ns) => write_counts(out, ns),
         Part::Numbers(xs) => write_numbers(out, xs),
         Part::Amounts(xs) => write_amounts(out, xs),

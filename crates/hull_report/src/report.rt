@@ -1,8 +1,9 @@
 //! The blocks of the text of `hull price`, in the order in which they stand.
+ghost use Rattle.std.specs.Prelude.{◌≤◌, length, map};
 ghost use Rattle.hull_io.specs.Edge.{Writes};
 ghost use Rattle.uc_model.specs.PlainUnits.{schedule_of};
 ghost use Rattle.uc_model.specs.PlainCases.{proposal_of};
-ghost use Rattle.hull_report.specs.ReportText.{head_text, row_text, chosen_text, thermal_text, flat_text, renewable_text, bid_text, foot_text};
+ghost use Rattle.hull_report.specs.ReportText.{head_text, row_text, rows_text, chosen_text, thermal_text, flat_text, renewable_text, bid_text, foot_text};
 
 use crate::parts::{Part, write_parts};
 use hull_io::{Sink, WriteFailed};
@@ -81,6 +82,17 @@ pub fn write_row<S: Sink>(number: u32, row: &Row, out: &mut S) -> Result<(), Wri
             Part::Text(b"\n"),
         ],
     )
+}
+
+/// Writes the proposals, numbered from 1.
+pub fn write_rows<S: Sink>(rows: &[Row], out: &mut S) -> Result<(), WriteFailed>
+    requires { length rows.now ≤ 10000 }
+    ensures { Writes S.held S.faults S.last out.old out.new result (rows_text 1 (map proposal_of rows.now)) }
+{
+    for (place, row) in rows.iter().enumerate() {
+        write_row(1 + place as u32, row, out)?;
+    }
+    Ok(())
 }
 
 /// Writes which proposal is chosen, and its dual value.

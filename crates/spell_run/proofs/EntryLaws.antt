@@ -1,7 +1,8 @@
 -- Entries by last period.
-use Rattle.std.proofs.Common.{◌≡◌, ℕ, zero, suc, ◌+◌, ◌-◌, ◌<◌, ◌≤◌, ◌≢◌, ◌⊎◌, inl, inr, ℤ, List, length, get_or, set, Option, None, sym, ap, ◌∙◌, subst, arith, get_or-set_same, get_or-set_other}
+use Rattle.std.proofs.Common.{◌≡◌, ℕ, zero, suc, ◌+◌, ◌-◌, ◌<◌, ◌≤◌, ◌≢◌, ◌⊎◌, inl, inr, ℤ, Bool, true, false, List, length, get_or, set, Option, None, sym, ap, ◌∙◌, subst, arith, get_or-set_same, get_or-set_other}
 use Rattle.std.proofs.lemmas.Bool.{cases_lt}
 use Rattle.spell_run.specs.Entries.{entry_of}
+use Rattle.spell_run.specs.Spells.{spell_first}
 
 -- one more entry
 module _ (xs ys : List (Option ℤ)) (place : ℕ) (o : Option ℤ) (is : ys ≡ set xs place o) where
@@ -27,3 +28,21 @@ entries_by_last P first periods entries one each zero from until = absurd (omega
 entries_by_last P first periods entries one each (suc k) from until =
     let z : k ≡ suc k - 1 = omega arith in
     subst (λ (j : ℕ). P (suc k) (get_or entries j None)) z (each k from until)
+
+-- a spell has begun by period suc k
+pub first_from : (started : Bool) (first k : ℕ) → first ≤ suc k → spell_first started first ≤ suc k
+first_from true first k from = from
+first_from false first k from = omega arith
+
+pub entries_before : (first : ℕ) (xs ys : List (Option ℤ)) → ((k : ℕ) → suc k < first → get_or ys k None ≡ get_or xs k None) → ((k : ℕ) → suc k < first → get_or xs k None ≡ None) →
+    (last : ℕ) → 1 ≤ last → last < first → entry_of ys last ≡ None
+entries_before first xs ys same none zero one low = absurd (omega (arith, one))
+entries_before first xs ys same none (suc k) one low =
+    let z : k ≡ suc k - 1 = omega arith in
+    subst (λ (j : ℕ). get_or ys j None ≡ None) z (same k low ∙ none k low)
+
+pub entries_past : (periods : ℕ) (xs ys : List (Option ℤ)) → ((k : ℕ) → periods ≤ k → get_or ys k None ≡ get_or xs k None) → (last : ℕ) → periods < last → entry_of ys last ≡ entry_of xs last
+entries_past periods xs ys same zero past = absurd (omega (arith, past))
+entries_past periods xs ys same (suc k) past =
+    let z : k ≡ suc k - 1 = omega arith in
+    subst (λ (j : ℕ). get_or ys j None ≡ get_or xs j None) z (same k (omega (arith, past)))

@@ -4,8 +4,10 @@ pub mod EntryLaws
 pub mod FairLaws
 pub mod FrameLaws
 pub mod FrontierLaws
+pub mod PeriodLaws
 pub mod ReserveLaws
 pub mod RunLaws
+pub mod SizeLaws
 pub mod StepLaws
 pub mod TieLaws
 pub mod WayLaws

@@ -1,5 +1,5 @@
 -- A way on from the power before a spell is a best dispatch, and the first of those of its cost.
-use Rattle.std.proofs.Common.{◌≡◌, ℕ, zero, suc, ◌+◌, ◌-◌, ◌<◌, ◌≤◌, inl, inr, ℤ, pos, ◌+ℤ◌, ◌-ℤ◌, ◌*ℤ◌, ◌≤ℤ◌, Bool, eqb, length, Some, refl, sym, ap, ◌∙◌, subst, arith}
+use Rattle.std.proofs.Common.{◌≡◌, ℕ, zero, suc, ◌+◌, ◌-◌, ◌<◌, ◌≤◌, inl, inr, ℤ, pos, ◌+ℤ◌, ◌-ℤ◌, ◌*ℤ◌, ◌≤ℤ◌, Bool, true, false, cond, eqb, length, Some, refl, sym, ap, ◌∙◌, subst, arith}
 use Rattle.std.proofs.lemmas.Int.{ints}
 use Rattle.std.proofs.lemmas.Bool.{cases_lt}
 use Rattle.shape_law.specs.Effect.{IsPoint}
@@ -10,12 +10,13 @@ use Rattle.uc_model.specs.Envelope.{envelope}
 use Rattle.uc_model.specs.Limits.{IsThermalUnit, ArePrices}
 use Rattle.uc_model.specs.Schedules.{power_in, reserve_in}
 use Rattle.uc_model.specs.Sums.{int_at, sum_below}
+use Rattle.spell_run.specs.Entries.{IsSpellStart}
 use Rattle.spell_run.specs.Frontier.{stops_at, HasBestReserve, IsWayFrom}
 use Rattle.spell_run.specs.Laws.{best_reserve, IsReserve}
-use Rattle.spell_run.specs.Spells.{over_min, IsDispatch, net_cost_at, net_cost, spell_cost, IsBestDispatch, IsFirstDispatch}
+use Rattle.spell_run.specs.Spells.{spell_first, over_min, IsDispatch, net_cost_at, net_cost, spell_cost, IsBestDispatch, IsFirstDispatch}
 use Rattle.spell_run.specs.Steps.{cap_at, IsMove, level, IsRun}
 use Rattle.spell_run.proofs.ReserveLaws.{reserve_is_best}
-use Rattle.spell_run.proofs.RunLaws.{level_before, level_within, move_same, reserve_not_negative}
+use Rattle.spell_run.proofs.RunLaws.{level_before, level_within, cost_none, cost_zero, move_same, reserve_not_negative}
 use Rattle.spell_run.proofs.WayLaws.{move_of}
 
 -- where sums of terms that are no greater are equal, so are the terms
@@ -119,3 +120,32 @@ module _ (g : ThermalUnit) (π : PriceLists) (first b last : ℕ) (base : ℤ) (
     reserve = λ other dispatch cost same.
         reserve_first g π first last unit prices end d other whole.0 dispatch (λ j from low. whole.2 j (start j from) low) same (cost ∙ sym whole.1);
   }
+
+-- by where the spell begins
+module _ (g : ThermalUnit) (π : PriceLists) (first last : ℕ) (f : Table) (d : Schedule) (y c : ℤ) (unit : IsThermalUnit g) (prices : ArePrices π) (end : last ≤ length π.energy) where
+  abbrev IsWhole : ℕ → Type 0
+  IsWhole from = IsBestDispatch g π (length π.energy) from last d c × IsFirstDispatch g π (length π.energy) from last d c
+
+  pub whole_of : (started : Bool) → IsSpellStart g (length π.energy) first started → IsPoint (cond started g.min_power g.power0) (pos 0) f → IsWayFrom g π (spell_first started first) (first - 1) last f d y c →
+      IsWhole (spell_first started first)
+  whole_of true start point way =
+      let one = start.from_one in
+      let none : (k : ℕ) → first ≤ suc k → suc k ≤ first - 1 → ⊥ = λ k from until. absurd (omega (arith, from, until, one)) in
+      let begins : (k : ℕ) → first ≤ suc k → first - 1 ≤ k = λ k from. omega (arith, from) in
+      let before : first - 1 < first = omega (arith, one) in
+      let at = level_before g first d (first - 1) before in
+      let free = cost_none g π first (first - 1) d before in (
+        best_of_way g π first (first - 1) last g.min_power f d y c unit prices point none begins at free end way,
+        first_of_way g π first (first - 1) last g.min_power f d y c unit prices point none begins at free end way,
+      )
+  whole_of false start point way =
+      let one = (start.goes_on refl).0 in
+      let zero_is : 0 ≡ first - 1 = omega (arith, one) in
+      let none : (k : ℕ) → 0 ≤ suc k → suc k ≤ first - 1 → ⊥ = λ k from until. absurd (omega (arith, until, one)) in
+      let begins : (k : ℕ) → 0 ≤ suc k → first - 1 ≤ k = λ k from. omega (arith, one) in
+      let level0 : level g 0 d 0 ≡ g.power0 = (let e = level_within g 0 d 0 (omega arith) in omega (arith, ints, e)) in
+      let at = subst (λ (t : ℕ). level g 0 d t ≡ g.power0) zero_is level0 in
+      let free = subst (λ (t : ℕ). spell_cost g π 0 t d ≡ pos 0) zero_is (cost_zero g π d) in (
+        best_of_way g π 0 (first - 1) last g.power0 f d y c unit prices point none begins at free end way,
+        first_of_way g π 0 (first - 1) last g.power0 f d y c unit prices point none begins at free end way,
+      )

@@ -1,11 +1,15 @@
 -- What is kept of spells: costs by last period, and a dispatch in the periods of an answer (this project's profile).
-use Rattle.std.specs.Prelude.{◌≡◌, ℕ, suc, ◌-◌, ◌<◌, ◌≤◌, ◌⊎◌, ℤ, Bool, true, false, IsTrue, IsFalse, nat_lt, List, length, slice_index, slice_index_or, Option, None}
+use Rattle.std.specs.Prelude.{◌≡◌, ℕ, suc, ◌+◌, ◌-◌, ◌*◌, ◌<◌, ◌≤◌, ◌⊎◌, ℤ, Bool, true, false, IsTrue, IsFalse, nat_lt, List, length, slice_index, slice_index_or, Option, None}
 use Rattle.uc_model.specs.Data.{ThermalUnit, Schedule}
 use Rattle.spell_run.specs.declared.spell.Spell.{Spell}
 
 -- the entry of the spells with that last period, which counts from 1
 abbrev pub entry_of : List (Option ℤ) → ℕ → Option ℤ
 entry_of entries last = slice_index_or entries (last - 1) None
+
+-- with so many cells to give, a home that counts suffices for a call over so many periods and cost points
+abbrev pub cells_for : ℕ → ℕ → ℕ
+cells_for periods points = (periods + 2) * (1 + periods * (2 * points + 3))
 
 -- where a spell may begin: at a start, or in period 1 for a unit that is on before the horizon
 pub record IsSpellStart (g : ThermalUnit) (periods first : ℕ) (started : Bool) : Type 0 where

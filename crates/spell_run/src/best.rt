@@ -1,11 +1,11 @@
 //! A dispatch of least net cost.
-ghost use Rattle.std.specs.Prelude.{◌≡◌, ℕ, suc, ◌+◌, ◌<◌, ◌≤◌, ◌==◌, nat_lt, pos, ◌-ℤ◌, ◌≤ℤ◌, [], true, length, IfOk, MatchOption, None};
+ghost use Rattle.std.specs.Prelude.{◌≡◌, ℕ, suc, ◌+◌, ◌-◌, ◌*◌, ◌<◌, ◌≤◌, ◌==◌, nat_lt, pos, ◌-ℤ◌, ◌≤ℤ◌, [], true, length, IfOk, IsOk, MatchOption, None};
 ghost use Rattle.std.specs.Option.{IfSome};
 ghost use Rattle.cost_curve.specs.CostCurve.{IsCostCurve};
 ghost use Rattle.shape_law.specs.Cell.{Frame};
 ghost use Rattle.shape_law.specs.Effect.{IsLeast};
 ghost use Rattle.shape_law.specs.Table.{IsEmpty};
-ghost use Rattle.spell_run.specs.Entries.{IsSpellOf, IsOnFromTo, IsSameOutside};
+ghost use Rattle.spell_run.specs.Entries.{cells_for, IsSpellOf, IsOnFromTo, IsSameOutside};
 ghost use Rattle.spell_run.specs.Frontier.{IsFrontier, IsWritten, IsChosen, IsUnreached, IsWayFrom, stops_at};
 ghost use Rattle.spell_run.specs.Laws.{best_reserve};
 ghost use Rattle.spell_run.specs.Spells.{spell_first, IsBestDispatch, IsFirstDispatch, HasNoDispatch, IsSpellWithin};
@@ -102,6 +102,7 @@ fn choose<S: Shape>(
     ensures earned { into.new.earned ≡ into.old.earned }
     ensures here { S.is_in home.new before.new }
     ensures frame { Frame S.Home.cell_list S.is_in S.numbers (S.numbers home.old before.old) (S.numbers home.new before.new) home.old home.new }
+    ensures sure { S.Home.counts ≡ true → 1 ≤ S.Home.sure home.old → IsOk result }
     ensures balance { S.Home.counts ≡ true → S.Home.sure home.new + S.cells before.new ≡ S.Home.sure home.old + S.cells before.old }
 {
     add_kink(home, before, step)?;
@@ -161,6 +162,7 @@ fn last_period<S: Shape>(
     ensures earned { into.new.earned ≡ into.old.earned }
     ensures here { S.is_in home.new before.new }
     ensures frame { Frame S.Home.cell_list S.is_in S.numbers (S.numbers home.old before.old) (S.numbers home.new before.new) home.old home.new }
+    ensures sure { S.Home.counts ≡ true → S.cells before.old + (length curve.now.blocks.items + 5) ≤ S.Home.sure home.old → IsOk result }
     ensures balance { S.Home.counts ≡ true → S.Home.sure home.new + S.cells before.new ≡ S.Home.sure home.old + S.cells before.old }
 {
     let step = step_in(unit, prices, spell, place);
@@ -202,6 +204,8 @@ fn way_from<S: Shape>(
     ensures earned { into.new.earned ≡ into.old.earned }
     ensures here { S.is_in home.new before.new }
     ensures frame { Frame S.Home.cell_list S.is_in S.numbers (S.numbers home.old before.old) (S.numbers home.new before.new) home.old home.new }
+    ensures sure { (most : ℕ) → S.Home.counts ≡ true → S.cells before.old + (spell.now.last - place) * (length curve.now.blocks.items + 5) ≤ most →
+        (spell.now.last - place) * most ≤ S.Home.sure home.old → IsOk result }
     ensures balance { S.Home.counts ≡ true → S.Home.sure home.new + S.cells before.new ≡ S.Home.sure home.old + S.cells before.old }
 {
     if place + 1 == spell.last as usize {
@@ -222,8 +226,9 @@ fn way_from<S: Shape>(
 /// None exactly where there is no dispatch; then `into` is unchanged. All other periods, and what is earned, stay,
 /// whatever it answers; after an error the spell's periods are open.
 ///
-/// `curve` is the curve of the unit's points. Prices and `into` are over the same periods. Takes no memory but for the
-/// shapes, which are given back.
+/// `curve` is the curve of the unit's points. Prices and `into` are over the same T periods. Takes no memory but for the
+/// shapes, which are given back. In a home that counts it answers Ok where the home has (T + 2) * (1 + T * (2L + 3))
+/// cells to give, for L cost points.
 pub fn spell_best<S: Shape>(
     home: &mut S::Home,
     unit: &Unit,
@@ -248,6 +253,8 @@ pub fn spell_best<S: Shape>(
     ensures earned { into.new.earned ≡ into.old.earned }
     ensures frame { Frame S.Home.cell_list S.is_in S.numbers [] [] home.old home.new }
     ensures sure { S.Home.counts ≡ true → S.Home.sure home.new ≡ S.Home.sure home.old }
+    ensures enough { S.Home.counts ≡ true →
+        cells_for (length (prices_of prices.now).energy) (length (thermal_of unit.now).points) ≤ S.Home.sure home.old → IsOk result }
 {
     let mut start: S = beginning(home, unit, spell.started)?;
     let place = spell.first as usize - 1;

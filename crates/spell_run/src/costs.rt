@@ -1,11 +1,11 @@
 //! The least net costs of the spells with one first period.
-ghost use Rattle.std.specs.Prelude.{◌≡◌, ℕ, suc, ◌+◌, ◌-◌, ◌<◌, ◌≤◌, ◌⊎◌, pos, [], true, length, slice_index_or, None, OnOk, IfOk, IsOk};
+ghost use Rattle.std.specs.Prelude.{◌≡◌, ℕ, suc, ◌+◌, ◌-◌, ◌*◌, ◌<◌, ◌≤◌, ◌⊎◌, pos, [], true, length, slice_index_or, None, OnOk, IfOk, IsOk};
 ghost use Rattle.std.specs.Bool.{OnTrue};
 ghost use Rattle.std.specs.Option.{IfSome};
 ghost use Rattle.cost_curve.specs.CostCurve.{IsCostCurve};
 ghost use Rattle.shape_law.specs.Cell.{Frame, Balance};
 ghost use Rattle.shape_law.specs.Table.{Table};
-ghost use Rattle.spell_run.specs.Entries.{entry_of, IsSpellStart};
+ghost use Rattle.spell_run.specs.Entries.{entry_of, cells_for, IsSpellStart};
 ghost use Rattle.spell_run.specs.Frontier.{IsFrontier};
 ghost use Rattle.spell_run.specs.Spells.{spell_first, IsSpellAnswer, IsSpellWithin};
 ghost use Rattle.spell_run.specs.Steps.{IsFairStep, IsCostOf, IsStepped, IsLeastCost, IsLeastCostIn, IsSmall};
@@ -199,6 +199,8 @@ fn fill<S: Shape>(
         slice_index_or into.new.entries.items place None ≡ slice_index_or into.old.entries.items place None }
     ensures here { S.is_in home.new running.new }
     ensures frame { Frame S.Home.cell_list S.is_in S.numbers (S.numbers home.old running.old) (S.numbers home.new running.new) home.old home.new }
+    ensures sure { S.Home.counts ≡ true → S.cells running.old ≤ 1 →
+        2 + 2 * length (prices_of prices.now).energy * (length curve.now.blocks.items + 5) ≤ S.Home.sure home.old → IsOk result }
     ensures balance { S.Home.counts ≡ true → S.Home.sure home.new + S.cells running.new ≡ S.Home.sure home.old + S.cells running.old }
 {
     for place in first as usize - 1..prices.energy.len() {
@@ -227,7 +229,8 @@ fn clear_before(first: u32, into: &mut SpellCosts)
 /// None, and entries past T stay. After an error the entries up to T are open.
 ///
 /// `curve` is the curve of the unit's points. `into` has at least T entries. A spell that isn't `started` goes on from
-/// before period 1. Takes no memory but for the shapes, which are given back.
+/// before period 1. Takes no memory but for the shapes, which are given back. In a home that counts it answers Ok where
+/// the home has (T + 2) * (1 + T * (2L + 3)) cells to give, for L cost points.
 pub fn spell_costs<S: Shape>(
     home: &mut S::Home,
     unit: &Unit,
@@ -251,6 +254,8 @@ pub fn spell_costs<S: Shape>(
         entry_of into.new.entries.items last ≡ entry_of into.old.entries.items last }
     ensures frame { Frame S.Home.cell_list S.is_in S.numbers [] [] home.old home.new }
     ensures sure { S.Home.counts ≡ true → S.Home.sure home.new ≡ S.Home.sure home.old }
+    ensures enough { S.Home.counts ≡ true →
+        cells_for (length (prices_of prices.now).energy) (length (thermal_of unit.now).points) ≤ S.Home.sure home.old → IsOk result }
 {
     clear_before(first, into);
     let mut running: S = beginning(home, unit, started)?;

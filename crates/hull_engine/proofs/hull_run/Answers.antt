@@ -1,7 +1,7 @@
 use Rattle.std.proofs.Common.{ℕ, List}
 use Rattle.std.specs.Prelude.{IsSomeAnd}
 use Rattle.hull_io.specs.Edge.{Rose}
-use Rattle.hull_words.specs.Asked.{CheckAsked}
+use Rattle.hull_words.specs.Asked.{Asked}
 use Rattle.hull_words.specs.Words.{texts}
 use Rattle.hull_report.specs.declared.fault.FileKind.{FileKind}
 use Rattle.hull_engine.specs.Due.{IsAcceptedWith}
@@ -19,10 +19,10 @@ returns-clause-refused g c =
     let words = words_due (texts c.args.words.now) in
     let told = g.F.Shelf.told c.args.shelf.now in
     let due = IsDue (texts c.args.words.now) told in
-    let rose = λ (names : CheckAsked) (file : FileKind). IsSomeAnd (name_at names file) (λ (name : List ℕ). Rose g.F.Shelf.last (g.F.Shelf.faults c.args.shelf.now name) (g.F.Shelf.faults c.decide-decided.new.shelf name)) in
-    let reached = λ (names : CheckAsked) (file : FileKind). IsReached told names file in
-    let reads = λ (file : FileKind). IsAcceptedWith words (λ (names : CheckAsked). rose names file × reached names file) in
-    let end = ended held faults last c.args.out.now c.finish-end.new.out due reads c.status.result c.decide-decided.result c.finish-end.result c.status.ensures c.decide-decided.ensures.answers c.decide-decided.ensures.failed c.finish-end.ensures in
+    let rose = λ (asked : Asked) (file : FileKind). IsSomeAnd (name_at asked file) (λ (name : List ℕ). Rose g.F.Shelf.last (g.F.Shelf.faults c.args.shelf.now name) (g.F.Shelf.faults c.answer_words-answer.new.shelf name)) in
+    let reached = λ (asked : Asked) (file : FileKind). IsReached told asked file in
+    let reads = λ (file : FileKind). IsAcceptedWith words (λ (asked : Asked). rose asked file × reached asked file) in
+    let end = ended held faults last c.args.out.now c.finish-end.new.out due reads c.status.result c.answer_words-answer.result c.finish-end.result c.status.ensures c.answer_words-answer.ensures.answers c.answer_words-answer.ensures.failed c.finish-end.ensures in
     status_refused held faults last c.args.out.now c.finish-end.new.out due reads c.status.result end
 
 pub returns-clause-complete : goal.returns-clause-complete
@@ -33,8 +33,8 @@ returns-clause-complete g c =
     let words = words_due (texts c.args.words.now) in
     let told = g.F.Shelf.told c.args.shelf.now in
     let due = IsDue (texts c.args.words.now) told in
-    let rose = λ (names : CheckAsked) (file : FileKind). IsSomeAnd (name_at names file) (λ (name : List ℕ). Rose g.F.Shelf.last (g.F.Shelf.faults c.args.shelf.now name) (g.F.Shelf.faults c.decide-decided.new.shelf name)) in
-    let reached = λ (names : CheckAsked) (file : FileKind). IsReached told names file in
-    let reads = λ (file : FileKind). IsAcceptedWith words (λ (names : CheckAsked). rose names file × reached names file) in
-    let end = ended held faults last c.args.out.now c.finish-end.new.out due reads c.status.result c.decide-decided.result c.finish-end.result c.status.ensures c.decide-decided.ensures.answers c.decide-decided.ensures.failed c.finish-end.ensures in
+    let rose = λ (asked : Asked) (file : FileKind). IsSomeAnd (name_at asked file) (λ (name : List ℕ). Rose g.F.Shelf.last (g.F.Shelf.faults c.args.shelf.now name) (g.F.Shelf.faults c.answer_words-answer.new.shelf name)) in
+    let reached = λ (asked : Asked) (file : FileKind). IsReached told asked file in
+    let reads = λ (file : FileKind). IsAcceptedWith words (λ (asked : Asked). rose asked file × reached asked file) in
+    let end = ended held faults last c.args.out.now c.finish-end.new.out due reads c.status.result c.answer_words-answer.result c.finish-end.result c.status.ensures c.answer_words-answer.ensures.answers c.answer_words-answer.ensures.failed c.finish-end.ensures in
     λ d is unread unrisen. completes held faults last c.args.out.now c.finish-end.new.out due reads c.status.result end (one_due (texts c.args.words.now) told) (none_read words rose reached unread) unrisen d is

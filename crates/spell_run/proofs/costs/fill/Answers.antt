@@ -4,6 +4,7 @@ use Rattle.spell_run.specs.Frontier.{IsFrontier}
 use Rattle.spell_run.specs.Spells.{spell_first, IsSpellAnswer, IsSpellWithin}
 use Rattle.spell_run.proofs.EntryLaws.{entry_other, entries_more}
 use Rattle.spell_run.proofs.FrameLaws.{then}
+use Rattle.spell_run.proofs.SizeLaws.{never_both, one_more}
 use Rattle.spell_run.proofs.costs.fill.Goals as goal
 
 pub returns-in_err-cost-clause-frame : goal.returns-in_err-cost-clause-frame
@@ -17,7 +18,7 @@ loop-place-preserved g c =
     let first = spell_first c.args.started c.args.first in
     let place = c.loop-place.place in
     let entries = c.loop-place.into.entries.items in
-    let same = c.loop-place.invariant.length in
+    let same = c.loop-place.invariant.same_length in
     let room : place < length entries = omega (arith, same) in
     let next : suc place ≡ place + 1 = omega arith in
     let within : place < length c.args.prices.now.energy.items = omega arith in
@@ -30,7 +31,18 @@ loop-place-preserved g c =
       others = λ k out.
           let ne : k ≢ place = λ z. elim out [ inl low ↦ absurd (omega (arith, low, z)) | inr high ↦ absurd (omega (arith, high, z, within)) ] in
           entry_other entries c.set.new.self.items place c.in_ok-cost.cost c.set.ensures.items k ne ∙ c.loop-place.invariant.others k out;
-      length = ap length c.set.ensures.items ∙ length-set entries place c.in_ok-cost.cost ∙ same;
+      same_length = ap length c.set.ensures.items ∙ length-set entries place c.in_ok-cost.cost ∙ same;
       frame = then g.S.Home.Cells.cell_list g.S.Shape.is_in g.S.Shape.numbers g.S.Shape.function g.met.S.Shape.same_cells g.met.S.Shape.owns _ _ _ _ _ _ c.loop-place.invariant.frame c.pass.ensures.frame;
       balance = λ counts. omega (arith, c.pass.ensures.balance.sum counts, c.loop-place.invariant.balance counts);
+      most = λ counts. omega (arith, c.pass.ensures.balance.most counts, c.loop-place.invariant.most counts);
     }
+
+pub returns-in_err-cost-clause-sure : goal.returns-in_err-cost-clause-sure
+returns-in_err-cost-clause-sure g c = λ counts one enough.
+    let place = c.loop-place.place in
+    let blocks = length c.args.curve.now.blocks.items + 5 in
+    let low : place < length c.args.prices.now.energy.items = omega arith in
+    let more = one_more place (length c.args.prices.now.energy.items) blocks low in
+    let most = c.loop-place.invariant.most counts in
+    let balance = c.loop-place.invariant.balance counts in
+    absurd (never_both c.pass.result _ c.in_err-cost.was (c.pass.ensures.sure counts (omega (arith, one, enough, more, most, balance))))

@@ -1,4 +1,4 @@
-use Rattle.std.proofs.Common.{◌≡◌, ℕ, suc, ◌+◌, ◌-◌, ◌<◌, ◌≤◌, ◌⊎◌, length, get_or, None, IfSome, true}
+use Rattle.std.proofs.Common.{◌≡◌, ℕ, suc, ◌+◌, ◌-◌, ◌*◌, ◌<◌, ◌≤◌, ◌⊎◌, length, get_or, None, IfSome, true}
 use Rattle.shape_law.specs.Cell.{Frame}
 use Rattle.uc_model.specs.PlainUnits.{thermal_of, prices_of}
 use Rattle.spell_run.specs.Frontier.{IsFrontier}
@@ -13,7 +13,8 @@ invariant-loop-place g l = record {
       IsSpellAnswer (thermal_of l.unit) (prices_of l.prices) (length l.prices.energy.items) (spell_first l.started l.first) (suc k) (get_or l.into.entries.items k None)
       × IfSome (get_or l.into.entries.items k None) (IsSpellWithin (spell_first l.started l.first) (suc k));
   others : (k : ℕ) → (suc k < l.first) ⊎ (length l.prices.energy.items ≤ k) → get_or l.into.entries.items k None ≡ get_or l.fn.into.entries.items k None;
-  length : length l.into.entries.items ≡ length l.fn.into.entries.items;
+  same_length : length l.into.entries.items ≡ length l.fn.into.entries.items;
   frame : Frame g.S.Home.Cells.cell_list g.S.Shape.is_in g.S.Shape.numbers (g.S.Shape.numbers l.fn.home l.fn.running) (g.S.Shape.numbers l.home l.running) l.fn.home l.home;
   balance : g.S.Home.Cells.counts ≡ true → g.S.Home.Cells.sure l.home + g.S.Shape.cells l.running ≡ g.S.Home.Cells.sure l.fn.home + g.S.Shape.cells l.fn.running;
+  most : g.S.Home.Cells.counts ≡ true → g.S.Shape.cells l.running ≤ g.S.Shape.cells l.fn.running + l.place * (length l.curve.blocks.items + 5);
 }

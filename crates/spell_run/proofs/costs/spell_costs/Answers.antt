@@ -1,11 +1,12 @@
-use Rattle.std.proofs.Common.{ℕ, ◌≤◌, length, Option, ℤ, IfSome}
+use Rattle.std.proofs.Common.{◌≡◌, ℕ, ◌+◌, ◌≤◌, ◌<◌, inl, inr, None, ◌∙◌, arith, length, Option, ℤ, IfSome}
 use Rattle.std.proofs.lemmas.Result.{on_ok_weaker}
 use Rattle.uc_model.specs.PlainUnits.{thermal_of, prices_of}
 use Rattle.spell_run.specs.Entries.{entry_of}
 use Rattle.spell_run.specs.Spells.{spell_first, IsSpellAnswer, IsSpellWithin}
-use Rattle.spell_run.proofs.EntryLaws.{entries_by_last}
+use Rattle.spell_run.proofs.EntryLaws.{entries_by_last, entries_before, entries_past}
 use Rattle.spell_run.proofs.FrameLaws.{then}
 use Rattle.spell_run.proofs.FrontierLaws.{frontier_begin}
+use Rattle.spell_run.proofs.SizeLaws.{never_both, charge_of, costs_fit}
 use Rattle.spell_run.proofs.costs.spell_costs.Goals as goal
 
 pub fill-filled-requires-clause-frontier : goal.fill-filled-requires-clause-frontier
@@ -36,3 +37,37 @@ pub returns-clause-frame : goal.returns-clause-frame
 returns-clause-frame g c =
     let join = then g.S.Home.Cells.cell_list g.S.Shape.is_in g.S.Shape.numbers g.S.Shape.function g.met.S.Shape.same_cells g.met.S.Shape.owns in
     join _ _ _ _ _ _ c.in_ok-running.ensures.frame (join _ _ _ _ _ _ c.fill-filled.ensures.frame c.give_back.ensures.frame)
+
+pub returns-in_err-running-clause-enough : goal.returns-in_err-running-clause-enough
+returns-in_err-running-clause-enough g c = λ counts enough.
+    let start = c.requires.start.from_one in
+    let end = c.requires.start.within in
+    let some : 1 ≤ length c.args.prices.now.energy.items = omega (arith, start, end) in
+    let charge = charge_of (length c.args.curve.now.blocks.items) (length c.args.unit.now.points.items) c.args.unit.now.valid.some_point c.requires.curve.count in
+    let fit = costs_fit (length c.args.prices.now.energy.items) (length c.args.unit.now.points.items) (length c.args.curve.now.blocks.items + 5) some charge in
+    absurd (never_both c.beginning.result _ c.in_err-running.was (c.beginning.ensures.sure counts (omega (arith, enough, fit))))
+
+pub returns-clause-enough : goal.returns-clause-enough
+returns-clause-enough g c = λ counts enough.
+    let start = c.requires.start.from_one in
+    let end = c.requires.start.within in
+    let some : 1 ≤ length c.args.prices.now.energy.items = omega (arith, start, end) in
+    let charge = charge_of (length c.args.curve.now.blocks.items) (length c.args.unit.now.points.items) c.args.unit.now.valid.some_point c.requires.curve.count in
+    let fit = costs_fit (length c.args.prices.now.energy.items) (length c.args.unit.now.points.items) (length c.args.curve.now.blocks.items + 5) some charge in
+    let begun = c.in_ok-running.ensures.balance counts in
+    let one = begun.0 in
+    let sum = begun.1 in
+    c.fill-filled.ensures.sure counts (omega (arith, one)) (omega (arith, enough, fit, sum))
+
+pub returns-clause-before : goal.returns-clause-before
+returns-clause-before g c =
+    let entries = c.fill-filled.new.into.entries.items in
+    on_ok_weaker {Q = (last : ℕ) → 1 ≤ last → last < c.args.first → entry_of entries last ≡ None} _
+    (λ each. entries_before c.args.first c.clear_before.new.into.entries.items entries (λ k low. c.fill-filled.ensures.others k (inl low)) c.clear_before.ensures.before)
+    c.fill-filled.ensures.answers
+
+pub returns-clause-past : goal.returns-clause-past
+returns-clause-past g c =
+    let first = c.requires.start.within in
+    entries_past (length c.args.prices.now.energy.items) c.args.into.now.entries.items c.fill-filled.new.into.entries.items
+    (λ k past. c.fill-filled.ensures.others k (inr past) ∙ c.clear_before.ensures.others k (omega (arith, past, first)))

@@ -1,0 +1,75 @@
+-- What holds of a post that isn't refused.
+use Rattle.std.proofs.Common.{◌≡◌, ℕ, ◌≤◌, Bool, true, false, cond, Some, None, List, length, refl, sym, ap, ◌∙◌, subst, arith}
+use Rattle.std.proofs.lemmas.List.Elements.{All-map}
+use Rattle.std.specs.List.{All, range_with_len}
+use Rattle.std.specs.Prelude.{slice_get}
+use Rattle.board_history.proofs.Machine.{reply_says, reply_taken}
+use Rattle.board_history.proofs.OwnTasks.{own_horizon, same_is_own}
+use Rattle.board_history.proofs.RowBounds.{fit_lengths, totals_within}
+use Rattle.board_history.proofs.RowLaws.{fits_is_best}
+use Rattle.board_history.specs.Board.{Setup, Answer, IsRight, IsLegalHistory, rules_of, schedules_in}
+use Rattle.board_history.specs.Bounds.{IsTotal}
+use Rattle.board_history.specs.Calls.{differs_from, post_answer}
+use Rattle.board_history.specs.Entries.{entry_of}
+use Rattle.board_history.specs.Rounds.{Event, Taken, Closing, TakenPost, posts, prices_at, is_closed, answers, with_post}
+use Rattle.board_history.specs.Tasks.{IsTask}
+use Rattle.board_history.specs.declared.entries.Call.TheVariants as calls
+use Rattle.uc_model.specs.Data.{AnyUnit, PriceLists, units, unit_count}
+use Rattle.uc_model.specs.Earnings.{earnings}
+use Rattle.uc_model.specs.Runs.{Fits}
+use Rattle.uc_model.specs.Schedules.{IsFeasible}
+use Rattle.uc_model.specs.Systems.{total_power, total_reserve}
+use Rattle.board_core.specs.Ledgers.{LedgerValue}
+use Rattle.board_core.specs.Parts.{Lists, supply_to, reserve_to, IsBoard}
+use Rattle.board_core.specs.Refusals.{refusal_of, reply_of}
+use Rattle.board_core.specs.Setups.{IsSetup}
+use Rattle.board_core.proofs.Entries.{content}
+use Rattle.board_core.proofs.Fronts.{opened_is}
+use Rattle.board_core.proofs.PostLists.{IsHeldTask}
+use Rattle.board_core.proofs.Refused.{refusal_is, taken_says}
+
+pub record IsTakenHere (b : Setup) (h : List (Event Answer)) (l : LedgerValue) (k n u : ℕ) (ρ : PriceLists) (v : AnyUnit) (a : Answer) : Type 0 where
+  pub held : IsHeldTask b h l k n u
+  pub is : slice_get (units b.market) u ≡ Some v
+  pub right : IsRight Fits b.market u (prices_at (rules_of b) (posts h) n) a
+  pub long : length a.schedule.on ≡ b.market.periods
+  pub feasible : IsFeasible v (length a.schedule.on) a.schedule
+  pub reply : post_answer (content b h) k n u ρ v a ≡ TakenPost (cond (is_closed (rules_of b) (with_post (posts h) k n u a) n) (Some n) None)
+
+pub taken_here : (b : Setup) (h : List (Event Answer)) (x : Lists) (l : LedgerValue) (I : IsBoard b h x l) (k n u : ℕ) (ρ : PriceLists) (v : AnyUnit) (a : Answer) →
+    IsTask ρ v → Fits v ρ a.schedule → earnings v ρ a.schedule ≡ a.earned → refusal_of b l x.marks x.takers k n u ρ v ≡ None → IsTakenHere b h l k n u ρ v a
+taken_here b h x l I k n u ρ v a task fit earned none =
+    let says = taken_says (post_answer (content b h) k n u ρ v a) (refusal_is b h x l I k n u ρ v a ∙ none) in
+    let t = reply_says (rules_of b) (IsRight Fits b.market) h (differs_from b u ρ v) k n u a says.0 says.1 in
+    let own = same_is_own b (posts h) n u ρ v I.setup.market task t.unit t.same in
+    let o = opened_is b l I.ledger (posts h) I.rounds in
+    let w = t.open_ in
+    let lengths = fit_lengths v ρ a.schedule fit in
+    record {
+      held = record { one = t.from_one; within = omega (arith, o, w); inside = t.unit; none_yet = t.first; held = t.held_by };
+      is = own.unit;
+      right = record {
+        unit = v;
+        is = own.unit;
+        fit = subst (λ (π : PriceLists). Fits v π a.schedule) (sym own.prices) fit;
+        earned = subst (λ (π : PriceLists). earnings v π a.schedule ≡ a.earned) (sym own.prices) earned;
+      };
+      long = lengths.0 ∙ sym (ap (λ (π : PriceLists). length π.energy) own.prices) ∙ own_horizon b (posts h) n;
+      feasible = subst (λ (j : ℕ). IsFeasible v j a.schedule) (sym lengths.0) (fits_is_best v ρ a.schedule fit).feasible;
+      reply = reply_taken (rules_of b) (IsRight Fits b.market) h (differs_from b u ρ v) k n u a t;
+    }
+
+pub supply_small : (b : Setup) (h : List (Event Answer)) → IsSetup b → IsLegalHistory b h → (n : ℕ) → All IsTotal (supply_to b (posts h) n)
+supply_small b h S legal n =
+    All-map IsTotal (total_power (units b.market) (schedules_in (answers (rules_of b) (posts h) n))) (range_with_len 0 b.market.periods) (λ k d i. (totals_within b h S.market legal n).supply _)
+
+pub reserve_small : (b : Setup) (h : List (Event Answer)) → IsSetup b → IsLegalHistory b h → (n : ℕ) → All IsTotal (reserve_to b (posts h) n)
+reserve_small b h S legal n =
+    All-map IsTotal (total_reserve (units b.market) (schedules_in (answers (rules_of b) (posts h) n))) (range_with_len 0 b.market.periods) (λ k d i. (totals_within b h S.market legal n).reserve _)
+
+pub units_few : (b : Setup) → IsSetup b → unit_count b.market ≤ 12288
+units_few b S = let t = S.market.thermal_count in let f = S.market.flat_count in let d = S.market.bid_count in omega (arith, t, f, d)
+
+pub entry_is : (t : Bool) (c n u : ℕ) (a : Answer) → entry_of (cond t (Closing c n u a) (Taken c n u a)) ≡ record { caller = c; call = calls.Post; proposal = n; unit = u; reply = reply_of t }
+entry_is true c n u a = refl
+entry_is false c n u a = refl

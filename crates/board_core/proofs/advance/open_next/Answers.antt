@@ -1,0 +1,60 @@
+use Rattle.std.proofs.Common.{◌≡◌, ◌≤◌, List, true, get_or, sym, ap, ◌∙◌, arith}
+use Rattle.std.specs.Prelude.{not}
+use Rattle.price_move.specs.Moves.{is_last_settled}
+use Rattle.uc_model.specs.PlainUnits.{prices_of}
+use Rattle.uc_model.specs.PriceRule.{Proposal, next_prices}
+use Rattle.board_core.specs.Ledgers.{blank, with_prices}
+use Rattle.board_core.specs.Parts.{fronts_of}
+use Rattle.board_core.specs.Rounds.{is_due}
+use Rattle.board_core.specs.Setups.{setup_of}
+use Rattle.board_core.proofs.LedgerSteps.{IsWritten, due_says, opens_it, with_one, opened_fronts, opened_sums, opened_ledger}
+use Rattle.board_core.proofs.advance.open_next.Goals as goal
+
+pub returns-clause-fronts : goal.returns-clause-fronts
+returns-clause-fronts c =
+    let b = setup_of c.args.terms.now in
+    let l = c.args.ledger.now in
+    let l2 = c.open.new.self in
+    let d = blank 0 in
+    let π = prices_of c.propose.new.into in
+    let due : is_due b l.closed l.opened ≡ true = sym c.is_due.ensures ∙ c.if-not-is_due.false in
+    let say = due_says b l.closed l.opened due in
+    let more = say.0 in
+    let some = c.requires.setup.some_ahead in
+    let before : l.closed ≤ l.opened = omega (arith, more, some) in
+    let W : IsWritten l l2 l.opened (with_prices (get_or l.proposals l.opened d) π) = record { proposals = c.open.ensures.proposals d; earned = c.open.ensures.earned } in
+    let settled = sym c.propose.ensures.settled ∙ c.if-not-propose.false in
+    let free = ap (λ (xs : List Proposal). not (is_last_settled b.market b.cost xs)) (sym c.rows.ensures) ∙ settled in
+    let next = c.propose.ensures.prices c.if-not-propose.false ∙ ap (next_prices b.market b.cost) c.rows.ensures in
+    opened_fronts b l l2 c.requires.ledger π d say.1 before W c.open.ensures.closed c.open.ensures.opened c.propose.ensures.horizon
+    ∙ with_one b (fronts_of l) π (opens_it b l c.requires.ledger due free) next
+
+pub returns-clause-sums : goal.returns-clause-sums
+returns-clause-sums c =
+    let b = setup_of c.args.terms.now in
+    let l = c.args.ledger.now in
+    let l2 = c.open.new.self in
+    let d = blank 0 in
+    let π = prices_of c.propose.new.into in
+    let due : is_due b l.closed l.opened ≡ true = sym c.is_due.ensures ∙ c.if-not-is_due.false in
+    let say = due_says b l.closed l.opened due in
+    let more = say.0 in
+    let some = c.requires.setup.some_ahead in
+    let before : l.closed ≤ l.opened = omega (arith, more, some) in
+    let W : IsWritten l l2 l.opened (with_prices (get_or l.proposals l.opened d) π) = record { proposals = c.open.ensures.proposals d; earned = c.open.ensures.earned } in
+    opened_sums b l l2 c.requires.ledger π d say.1 before W c.open.ensures.closed c.open.ensures.opened c.propose.ensures.horizon
+
+pub returns-clause-ledger : goal.returns-clause-ledger
+returns-clause-ledger c =
+    let b = setup_of c.args.terms.now in
+    let l = c.args.ledger.now in
+    let l2 = c.open.new.self in
+    let d = blank 0 in
+    let π = prices_of c.propose.new.into in
+    let due : is_due b l.closed l.opened ≡ true = sym c.is_due.ensures ∙ c.if-not-is_due.false in
+    let say = due_says b l.closed l.opened due in
+    let more = say.0 in
+    let some = c.requires.setup.some_ahead in
+    let before : l.closed ≤ l.opened = omega (arith, more, some) in
+    let W : IsWritten l l2 l.opened (with_prices (get_or l.proposals l.opened d) π) = record { proposals = c.open.ensures.proposals d; earned = c.open.ensures.earned } in
+    opened_ledger b l l2 c.requires.ledger π d say.1 before W c.open.ensures.closed c.open.ensures.opened c.propose.ensures.horizon

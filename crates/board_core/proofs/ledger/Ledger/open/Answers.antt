@@ -1,0 +1,25 @@
+use Rattle.std.proofs.Common.{◌≡◌, ◌<◌, length, map, sym, ap, ◌∙◌, subst}
+use Rattle.std.specs.Prelude.{slice_index_or, slice_set}
+use Rattle.uc_model.specs.PlainCases.{proposal_of}
+use Rattle.uc_model.specs.PlainUnits.{prices_of}
+use Rattle.uc_model.specs.PriceRule.{Proposal}
+use Rattle.board_core.specs.Ledgers.{LedgerValue, with_prices}
+use Rattle.board_core.proofs.Rows.{at_mapped, set_mapped}
+use Rattle.board_core.proofs.ledger.Ledger.open.Goals as goal
+
+pub set_prices-requires : goal.set_prices-requires
+set_prices-requires c =
+    let s = c.self.inside in
+    let r = c.index_mut.result.now in
+    let place = subst (λ (v : LedgerValue). v.opened < length v.proposals) (sym c.self.view_is) c.requires.place in
+    let over = subst (λ (v : LedgerValue). (d : Proposal) → length c.args.prices.now.energy.items ≡ length (slice_index_or v.proposals v.opened d).prices.energy) (sym c.self.view_is) c.requires.horizon in
+    over (proposal_of r) ∙ ap (λ (p : Proposal). length p.prices.energy) (at_mapped s.proposals.items s.opened r (proposal_of r) place c.index_mut.ensures.value)
+
+pub returns-clause-proposals : goal.returns-clause-proposals
+returns-clause-proposals c =
+    let s = c.self.inside in
+    let r = c.index_mut.result.now in
+    let π = prices_of c.args.prices.now in
+    let place = subst (λ (v : LedgerValue). v.opened < length v.proposals) (sym c.self.view_is) c.requires.place in
+    subst (λ (v : LedgerValue). (d : Proposal) → map proposal_of (slice_set s.proposals.items s.opened c.set_prices.new.row) ≡ slice_set v.proposals v.opened (with_prices (slice_index_or v.proposals v.opened d) π)) c.self.view_is
+    (λ d. set_mapped (λ (p : Proposal). with_prices p π) s.proposals.items s.opened r c.set_prices.new.row d place c.index_mut.ensures.value c.set_prices.ensures)

@@ -1,0 +1,11 @@
+pub mod Boards
+pub mod Events
+pub mod Ledgers
+pub mod Openings
+pub mod Parts
+pub mod Refusals
+pub mod Replies
+pub mod Rounds
+pub mod Setups
+pub mod Stored
+pub mod Tasks

@@ -1,0 +1,308 @@
+//! The board.
+ghost use Rattle.std.specs.Prelude.{◌≡◌, ◌+◌, ◌*◌, ◌<◌, ◌≤◌, true, false, IfOk, Option, Some, [], length, map, take, replicate, slice_get};
+ghost use Rattle.board_history.specs.Board.{Content, IsLegalHistory};
+ghost use Rattle.board_history.specs.Calls.{own_rows, has_finished, claim_answer, after_claim, post_answer, after_post, after_halt};
+ghost use Rattle.board_history.specs.Entries.{entries_of};
+ghost use Rattle.uc_model.specs.Data.{unit_count};
+ghost use Rattle.uc_model.specs.Earnings.{earnings};
+ghost use Rattle.uc_model.specs.PlainCases.{market_of, schedules_of, proposal_of, task_unit};
+ghost use Rattle.uc_model.specs.PlainUnits.{prices_of, schedule_of};
+ghost use Rattle.uc_model.specs.PriceRule.{chosen_number, start_prices as start_prices_of, opening_prices_of};
+ghost use Rattle.uc_model.specs.Runs.{Fits};
+ghost use Rattle.uc_model.specs.TaskRoom.{IsTaskFor};
+ghost use Rattle.board_core.specs.Boards.{setup_for, empty_board, kept_answer};
+ghost use Rattle.board_core.specs.Openings.{blank_ledger, with_openings};
+ghost use Rattle.board_core.specs.Replies.{claim_of, posted_of};
+ghost use Rattle.board_core.specs.Setups.{IsSetup, setup_of};
+ghost use Rattle.board_core.specs.Stored.{answer_of};
+ghost use Rattle.board_core.specs.Tasks.{LeavesTask};
+
+use crate::advance::advance;
+use crate::ledger::Ledger;
+use crate::posts::{closed_of, count_up, post_entry, refusal};
+use crate::replies::{Claim, Posted};
+use crate::store::{Store, no_counts, no_flags};
+use crate::tasks::copy_task;
+use crate::terms::{Terms, place};
+use board_history::entries::{Call, Entry, Reply};
+use price_space::{opening_prices, start_prices};
+use std::alloc::{AllocError, Global};
+use std::marker::Model;
+use uc_model::cases::{Case, Plan, Row, Task};
+use uc_model::lists::Numbers;
+use uc_model::units::{Answered, Prices};
+
+mod closed;
+
+pub use closed::Closed;
+
+/// A board that one thread uses: callers claim tasks and post answers. Contracts see it as what it was made for and the
+/// list of its events. Its history is legal, and its plan feasible (`Board::is_legal`).
+#[derive(Drop)]
+pub struct Board {
+    terms: Terms,
+    history: Vec<Entry>,
+    // the callers to whom the tasks were given, in the order of the tasks
+    takers: Vec<u32>,
+    // for each task whether it has an answer, and the answer
+    marks: Vec<bool>,
+    store: Store,
+    // for each proposal how many answers it has
+    counts: Vec<u32>,
+    ledger: Ledger,
+    // room for the prices that follow the rows, and for the board's own task
+    next: Prices,
+    own: Task,
+    halted: Vec<bool>,
+    any_halt: bool,
+}
+
+impl Model for Board {
+    ghost use Rattle.std.specs.Prelude.{length, vec_capacity};
+    ghost use Rattle.uc_model.specs.Data.{unit_count};
+    ghost use Rattle.uc_model.specs.PlainUnits.{prices_of};
+    ghost use Rattle.uc_model.specs.TaskRoom.{IsTaskFor};
+    ghost use Rattle.board_history.specs.Board.{Content};
+    ghost use Rattle.board_core.specs.Events.{events_of};
+    ghost use Rattle.board_core.specs.Parts.{IsBoard, IsKept};
+    ghost use Rattle.board_core.specs.Setups.{setup_of};
+
+    ghost Value = { Content };
+
+    ghost view = { λ b. record { setup = setup_of b.terms; events = events_of (unit_count (setup_of b.terms).market) b.store.answers b.history.items } };
+
+    ghost invariant = { λ b.
+        IsBoard (setup_of b.terms) (events_of (unit_count (setup_of b.terms).market) b.store.answers b.history.items)
+        (record { takers = b.takers.items; marks = b.marks.items; kept = b.store.answers; counts = b.counts.items; halted = b.halted.items; any_halt = b.any_halt }) b.ledger
+        × IsKept (setup_of b.terms) (events_of (unit_count (setup_of b.terms).market) b.store.answers b.history.items) b.history.items
+        (record { takers = b.takers.items; marks = b.marks.items; kept = b.store.answers; counts = b.counts.items; halted = b.halted.items; any_halt = b.any_halt })
+        (vec_capacity b.history) (vec_capacity b.takers) b.store.periods (length (prices_of b.next).energy)
+        × IsTaskFor (setup_of b.terms).market.periods b.own };
+}
+
+// Opens so many proposals at the opening prices.
+fn open_first(start: &Numbers, count: u32, ledger: &mut Ledger, next: &mut Prices)
+    requires count { count ≤ 16 }
+    requires start { length start.now.items ≡ length (prices_of next.old).energy }
+    requires blank { ledger.old ≡ blank_ledger (length start.now.items) (length ledger.old.proposals) }
+    requires within { count ≤ length ledger.old.proposals }
+    ensures ledger { ledger.new ≡ with_openings start.now.items ledger.old count }
+    ensures horizon { length (prices_of next.new).energy ≡ length (prices_of next.old).energy }
+{
+    for k in 0..count {
+        opening_prices(start, k + 1, next);
+        ledger.open(next);
+    }
+}
+
+impl Board {
+    /// A board without events for a case and a feasible plan with its cost, with up to `budget` proposals, of which
+    /// those 1 to `ahead` are open, and for so many callers. All memory that it ever needs is taken here; case and plan are
+    /// dropped where there isn't enough. Conditions: the plan is feasible and `cost` is its cost; 1 to 10,000 proposals, 1
+    /// to 16 ahead, 1 to 33 callers, and at most 50,000,000 for proposals times units times periods, bids counted as units.
+    pub fn make(
+        alloc: Global,
+        case: Case,
+        plan: Plan,
+        cost: i128,
+        budget: u32,
+        ahead: u32,
+        callers: u32,
+    ) -> Result<Board, AllocError>
+        requires { IsSetup (setup_for case plan cost budget ahead callers) }
+        ensures { IfOk result (λ b. b ≡ empty_board (setup_for case plan cost budget ahead callers)) }
+    {
+        let terms = Terms {
+            case,
+            plan,
+            cost,
+            budget,
+            ahead,
+            callers,
+        };
+        let periods = terms.case.periods;
+        let tasks = budget as usize * terms.units() as usize;
+        let callers = callers as usize;
+        let history = Vec::with_capacity(alloc, 2 * tasks + callers)?;
+        let takers = Vec::with_capacity(alloc, tasks)?;
+        let marks = no_flags(alloc, tasks)?;
+        let store = Store::make(alloc, tasks, periods)?;
+        let counts = no_counts(alloc, budget as usize)?;
+        let start = start_prices(alloc, &terms.case)?;
+        let mut ledger = Ledger::make(alloc, periods, budget)?;
+        let mut next = Prices::make(alloc, periods)?;
+        open_first(&start, budget.min(ahead), &mut ledger, &mut next);
+        let own = Task::make(alloc, periods)?;
+        let halted = no_flags(alloc, callers)?;
+        Ok(Board {
+            terms,
+            history,
+            takers,
+            marks,
+            store,
+            counts,
+            ledger,
+            next,
+            own,
+            halted,
+            any_halt: false,
+        })
+    }
+
+    /// Claims a task for a caller. Answers the first that applies: `Finished` where every proposal that exists is closed;
+    /// `Halted` where some caller has halted; `Given` where an open proposal has an unclaimed unit; and `NotYet`. The task
+    /// given is the lowest unclaimed unit of the lowest such proposal, and is left in `into`, which is for the periods of the
+    /// case and stays so; it stays as it is at the other answers. Some schedule of the unit is feasible. Takes no memory.
+    pub fn claim(&mut self, caller: u32, into: &mut Task) -> Claim
+        requires caller { caller < self.old.setup.callers }
+        requires room { IsTaskFor self.old.setup.market.periods into.old }
+        ensures answer { result ≡ claim_of (claim_answer self.old) }
+        ensures after { self.new ≡ after_claim self.old caller }
+        ensures task { LeavesTask self.old (claim_answer self.old) into.old into.new }
+        ensures room { IsTaskFor self.old.setup.market.periods into.new }
+    {
+        let open = self.ledger.opened();
+        if open <= self.ledger.closed() {
+            return Claim::Finished;
+        }
+        if self.any_halt {
+            return Claim::Halted;
+        }
+        let number = self.takers.len();
+        let units = self.terms.units() as usize;
+        let before = number / units;
+        if open <= before {
+            return Claim::NotYet;
+        }
+        let proposal = before as u32 + 1;
+        let unit = (number % units) as u32;
+        let prices = self.ledger.prices(before);
+        copy_task(&self.terms.case, prices, proposal, unit, into);
+        self.takers.push_reserved(caller);
+        self.history.push_reserved(Entry {
+            caller,
+            call: Call::Claim,
+            proposal,
+            unit,
+            reply: Reply::Given,
+        });
+        Claim::Given
+    }
+
+    /// Posts an answer for a task, which is one that `Fits` the task's unit at the task's prices, with what it earns. Answers
+    /// the first that applies: `Stranger` where the task's proposal is 0 or isn't open yet, where there is no unit of its
+    /// number, or where its flat list differs from that of the board's own task; `Doubled` where an answer stands; `Stranger`
+    /// where the caller doesn't hold the task; and `Taken`, also after a halt. Then the answer is kept, and the proposal is
+    /// named that it closed, if it closed one. At the other answers the board stays as it is. Takes no memory.
+    pub fn post(&mut self, caller: u32, task: &Task, answer: &Answered) -> Posted
+        requires caller { caller < self.old.setup.callers }
+        requires fit { Fits (task_unit task.now) (prices_of task.now.prices) (schedule_of answer.now.response) }
+        requires earned { earnings (task_unit task.now) (prices_of task.now.prices) (schedule_of answer.now.response) ≡ answer.now.earned }
+        ensures answer { result ≡ posted_of (post_answer self.old caller task.now.proposal task.now.unit (prices_of task.now.prices) (task_unit task.now) (answer_of answer.now)) }
+        ensures after { self.new ≡ after_post self.old caller task.now.proposal task.now.unit (prices_of task.now.prices) (task_unit task.now) (answer_of answer.now) }
+    {
+        let refused = refusal(
+            &self.terms,
+            &self.ledger,
+            &self.marks,
+            &self.takers,
+            &mut self.own,
+            caller,
+            task,
+        );
+        if let Some(refused) = refused {
+            return refused;
+        }
+        let units = self.terms.units();
+        let before = task.proposal as usize - 1;
+        let at = place(units, task.proposal, task.unit);
+        self.marks[at] = true;
+        self.store.put(at, answer);
+        self.ledger.add(before, task, answer);
+        let closes = count_up(&mut self.counts, before) == units;
+        self.history.push_reserved(post_entry(caller, task, closes));
+        advance(&self.terms, &self.counts, &mut self.ledger, &mut self.next);
+        Posted::Taken {
+            closed: closed_of(closes, task.proposal),
+        }
+    }
+
+    /// Halts a caller: no further task is given to anyone, and posts are still taken. A later halt of the same caller changes
+    /// nothing. Takes no memory.
+    pub fn halt(&mut self, caller: u32)
+        requires { caller < self.old.setup.callers }
+        ensures { self.new ≡ after_halt self.old caller }
+    {
+        let at = caller as usize;
+        if self.halted[at] {
+            return;
+        }
+        self.halted[at] = true;
+        self.any_halt = true;
+        self.history.push_reserved(Entry {
+            caller,
+            call: Call::Halt,
+            proposal: 0,
+            unit: 0,
+            reply: Reply::Stopped,
+        });
+    }
+
+    /// The entries of its history. Takes no memory.
+    pub fn history(&self) -> &[Entry]
+        ensures { result.now ≡ entries_of self.now.events }
+    {
+        self.history.as_slice()
+    }
+
+    /// How many callers it was made for.
+    pub fn callers(&self) -> u32
+        ensures { result ≡ self.now.setup.callers }
+    {
+        self.terms.callers
+    }
+
+    /// What holds of every board: its history is what its calls made, each answer that was taken fits its task, the plan
+    /// is feasible at its cost, and the numbers are within their limits.
+    pub fn is_legal(&self)
+        ensures legal { IsLegalHistory self.now.setup self.now.events }
+        ensures setup { IsSetup self.now.setup }
+    {
+        let _terms = &self.terms;
+    }
+
+    // The closed proposals from 1 up to the first that isn't.
+    fn rows(&self) -> &[Row]
+        ensures rows { map proposal_of result.now ≡ own_rows self.now }
+        ensures count { length result.now ≤ 10000 }
+    {
+        self.ledger.rows()
+    }
+
+    fn is_finished(&self) -> bool
+        ensures { result ≡ has_finished self.now }
+    {
+        self.ledger.opened() <= self.ledger.closed()
+    }
+
+    fn earned(&self, proposal: u32, unit: u32) -> i64
+        requires first { 1 ≤ proposal }
+        requires last { proposal ≤ length (own_rows self.now) }
+        requires unit { unit < unit_count self.now.setup.market }
+        ensures { result ≡ (kept_answer self.now proposal unit).earned }
+    {
+        self.store.earned(place(self.terms.units(), proposal, unit))
+    }
+
+    fn answer_into(&self, proposal: u32, unit: u32, into: &mut Answered)
+        requires first { 1 ≤ proposal }
+        requires last { proposal ≤ length (own_rows self.now) }
+        requires unit { unit < unit_count self.now.setup.market }
+        requires horizon { length (schedule_of into.old.response).on ≡ self.now.setup.market.periods }
+        ensures answer { answer_of into.new ≡ kept_answer self.now proposal unit }
+        ensures horizon { length (schedule_of into.new.response).on ≡ self.now.setup.market.periods }
+    {
+        self.store
+            .take(place(self.terms.units(), proposal, unit), into);
+    }
+}

@@ -1,0 +1,33 @@
+//! The first row with the greatest value.
+ghost use Rattle.std.specs.Prelude.{◌≡◌, ◌<◌, int_lt, if◌then◌else◌, length, map, Some};
+ghost use Rattle.price_move.specs.Moves.{values_of};
+ghost use Rattle.uc_model.specs.PlainCases.{proposal_of};
+ghost use Rattle.uc_model.specs.PriceRule.{first_greatest};
+ghost use Rattle.uc_model.specs.Sums.{int_at};
+
+use uc_model::cases::Row;
+
+// The later place where its row's value is greater.
+fn better_of(rows: &[Row], best: usize, later: usize) -> usize
+    requires best { best < length rows.now }
+    requires later { later < length rows.now }
+    ensures { result ≡ (if int_lt (int_at (values_of (map proposal_of rows.now)) best) (int_at (values_of (map proposal_of rows.now)) later) then later else best) }
+{
+    if rows[best].value < rows[later].value {
+        return later;
+    }
+    best
+}
+
+/// The place from 0 of the first row whose value is at least each row's.
+pub fn greatest(rows: &[Row]) -> usize
+    requires { 0 < length rows.now }
+    ensures place { result < length rows.now }
+    ensures first { first_greatest (values_of (map proposal_of rows.now)) ≡ Some result }
+{
+    let mut best = 0;
+    for i in 1..rows.len() {
+        best = better_of(rows, best, i);
+    }
+    best
+}

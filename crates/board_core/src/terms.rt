@@ -1,0 +1,39 @@
+//! What a board is made for.
+ghost use Rattle.std.specs.Prelude.{◌≡◌, ◌+◌, ◌-◌, ◌*◌, ◌<◌, ◌≤◌, length};
+ghost use Rattle.uc_model.specs.Data.{unit_count};
+ghost use Rattle.board_core.specs.Events.{place};
+ghost use Rattle.board_core.specs.Setups.{setup_of};
+
+use uc_model::cases::{Case, Plan};
+
+/// A case with a feasible plan and its cost in money; how many proposals there may be, how many are open ahead of the
+/// closed ones, and the number of callers.
+#[derive(Drop)]
+pub struct Terms {
+    pub case: Case,
+    pub plan: Plan,
+    pub cost: i128,
+    pub budget: u32,
+    pub ahead: u32,
+    pub callers: u32,
+}
+
+impl Terms {
+    /// The number of units, bids among them.
+    pub fn units(&self) -> u32
+        ensures { result ≡ unit_count (setup_of self.now).market }
+    {
+        (self.case.thermal.len() + self.case.flat.len() + self.case.bids.len()) as u32
+    }
+}
+
+/// The number of a task among all: by proposal, which counts from 1, and then by unit.
+pub fn place(units: u32, proposal: u32, unit: u32) -> usize
+    requires first { 1 ≤ proposal }
+    requires proposals { proposal ≤ 10000 }
+    requires units { units ≤ 12288 }
+    requires inside { unit < units }
+    ensures { result ≡ place units proposal unit }
+{
+    (proposal as usize - 1) * units as usize + unit as usize
+}

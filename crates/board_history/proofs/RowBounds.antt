@@ -1,0 +1,328 @@
+-- How large the totals, the earnings and the value of a proposal can be, whether all of its answers are there or not; and
+-- that no row's value is above the cost of a feasible plan.
+use Rattle.std.proofs.Common.{◌≡◌, ℕ, zero, suc, ◌+◌, ◌-◌, ◌*◌, ◌<◌, Bool, true, false, cond, Option, Some, None, ℤ, pos, neg_ℤ, ◌+ℤ◌, ◌-ℤ◌, ◌*ℤ◌, ◌≤ℤ◌, List, [], ◌∷◌, ◌++◌, map, length, get_or, refl, sym, ap, ◌∙◌, subst, arith}
+use Rattle.std.proofs.lemmas.Bool.Decides.{nat_tests}
+use Rattle.std.proofs.lemmas.Int.{ints, clamps}
+use Rattle.std.proofs.lemmas.List.{length-map}
+use Rattle.std.proofs.lemmas.List.Elements.{All-append, All-map, All-replicate}
+use Rattle.std.proofs.lemmas.List.FromFn.{length-range_with_len}
+use Rattle.std.proofs.lemmas.Option.{slice_get_within, slice_get-get_or, get_or_from_slice_get}
+use Rattle.std.specs.List.{All, AllZip, range_with_len}
+use Rattle.std.specs.Option.{option_map_or}
+use Rattle.std.specs.Prelude.{nat_le, slice_get}
+use Rattle.uc_model.specs.Data.{AnyUnit, Thermal, Flat, Bid, PriceLists, Schedule, Market, NamedThermalUnit, NamedRenewableUnit, NamedBidUnit, units, unit_count}
+use Rattle.uc_model.specs.Earnings.{supply_in}
+use Rattle.uc_model.specs.Limits.{IsFrom, IsHorizon, IsMarket, ArePrices, price_limit}
+use Rattle.uc_model.specs.PriceRule.{Proposal, start_prices, opening_prices_of, stepped_prices, move_of, squared_length, energy_direction, reserve_direction, age, no_prices, next_prices}
+use Rattle.uc_model.specs.Runs.{Fits}
+use Rattle.uc_model.specs.Schedules.{reserve_in}
+use Rattle.uc_model.specs.Sums.{int_at, total, zip_with, floor_div, clamped}
+use Rattle.uc_model.specs.Systems.{total_power, total_reserve, worth_of_demand}
+use Rattle.uc_model.proofs.Duality.{dual_at_most_cost}
+use Rattle.uc_model.proofs.SignedLaws.{IsWithin, sum_within, product_within}
+use Rattle.board_history.specs.Board.{Setup, Answer, no_answer, rules_of, row_of, schedules_in, earned_in, IsRight, IsLegalHistory}
+use Rattle.board_history.specs.Bounds.{AreWithin, IsRowWithin, RowsAreWithin, RowsAreAtMostCost}
+use Rattle.board_history.specs.Rounds.{Rules, Event, Posts, posts, prices_at, answer_at, answers, rows_of, rows_to}
+use Rattle.board_history.proofs.Answered.{all_answer}
+use Rattle.board_history.proofs.Kept.{rows_length}
+use Rattle.board_history.proofs.OwnTasks.{own_horizon, own_reserve_horizon}
+use Rattle.board_history.proofs.RowLaws.{units_length, zip_range, fits_is_best, rows_fit, row_is}
+use Rattle.board_history.proofs.UnitBounds.{IsLimited, most_of, least_of, IsOutput, lengths_of, output, no_output, earnings_within, sum_below_within}
+
+-- ---- sums over lists
+
+total-append : (xs ys : List ℤ) → total (xs ++ ys) ≡ total xs +ℤ total ys
+total-append [] ys = omega (arith, ints)
+total-append (x ∷ xs) ys = omega (arith, ints, total-append xs ys)
+
+map-append : {X Y : Type 0} (f : X → Y) (xs ys : List X) → map f (xs ++ ys) ≡ map f xs ++ map f ys
+map-append f [] ys = refl
+map-append {X} {Y} f (x ∷ xs) ys = ap (λ (zs : List Y). f x ∷ zs) (map-append f xs ys)
+
+map-map : {X Y Z : Type 0} (f : Y → Z) (g : X → Y) (xs : List X) → map f (map g xs) ≡ map (λ x. f (g x)) xs
+map-map f g [] = refl
+map-map {X} {Y} {Z} f g (x ∷ xs) = ap (λ (zs : List Z). f (g x) ∷ zs) (map-map f g xs)
+
+total_times : {X : Type 0} (c : ℕ) (xs : List X) → total (map (λ x. pos c) xs) ≡ pos (length xs * c)
+total_times c [] = omega (arith, ints)
+total_times c (x ∷ xs) = omega (arith, ints, total_times c xs)
+
+total_times_below : {X : Type 0} (c : ℕ) (xs : List X) → total (map (λ x. neg_ℤ (pos c)) xs) ≡ neg_ℤ (pos (length xs * c))
+total_times_below c [] = omega (arith, ints)
+total_times_below c (x ∷ xs) = omega (arith, ints, total_times_below c xs)
+
+-- a function of units, summed over the units of a case, kind by kind
+total_by_kind : (m : Market) (f : AnyUnit → ℤ) → total (map f (units m)) ≡
+    (total (map (λ (n : NamedThermalUnit). f (Thermal n.unit)) m.thermal) +ℤ total (map (λ (n : NamedRenewableUnit). f (Flat n.unit)) m.flat)) +ℤ total (map (λ (n : NamedBidUnit). f (Bid n.unit)) m.bids)
+total_by_kind m f =
+    let ts = map (λ (n : NamedThermalUnit). Thermal n.unit) m.thermal in
+    let fs = map (λ (n : NamedRenewableUnit). Flat n.unit) m.flat in
+    let bs = map (λ (n : NamedBidUnit). Bid n.unit) m.bids in
+    let a = ap total (map-append f (ts ++ fs) bs) ∙ total-append (map f (ts ++ fs)) (map f bs) in
+    let b = ap total (map-append f ts fs) ∙ total-append (map f ts) (map f fs) in
+    let t = ap total (map-map f (λ (n : NamedThermalUnit). Thermal n.unit) m.thermal) in
+    let r = ap total (map-map f (λ (n : NamedRenewableUnit). Flat n.unit) m.flat) in
+    let d = ap total (map-map f (λ (n : NamedBidUnit). Bid n.unit) m.bids) in
+    omega (arith, ints, a, b, t, r, d)
+
+-- a sum over units and schedules is between the sums of what the units may give at least and at most
+zip_between : (f : AnyUnit → Schedule → ℤ) (low high : AnyUnit → ℤ) (us : List AnyUnit) (ss : List Schedule) → AllZip (λ u s. (low u ≤ℤ f u s) × (f u s ≤ℤ high u)) us ss →
+    (total (map low us) ≤ℤ total (zip_with f us ss)) × (total (zip_with f us ss) ≤ℤ total (map high us))
+zip_between f low high [] [] h = (omega (arith, ints), omega (arith, ints))
+zip_between f low high [] (s ∷ ss) h = absurd h
+zip_between f low high (u ∷ us) [] h = absurd h
+zip_between f low high (u ∷ us) (s ∷ ss) h =
+    let r = zip_between f low high us ss h.1 in
+    let a = h.0.0 in
+    let b = h.0.1 in
+    let c = r.0 in
+    let d = r.1 in
+    (omega (arith, ints, a, c), omega (arith, ints, b, d))
+
+-- numbers of a range within a bound
+range_within : (c : ℕ) (z : Answer → ℤ) (f : ℕ → Answer) (a n : ℕ) → ((k : ℕ) → k < a + n → IsWithin c (z (f k))) → IsWithin (n * c) (total (map z (map f (range_with_len a n))))
+range_within c z f a zero each = record { at_least = omega (arith, ints); at_most = omega (arith, ints) }
+range_within c z f a (suc n) each =
+    let here = each a (omega arith) in
+    let rest = range_within c z f (a + 1) n (λ k i. each k (omega (arith, i))) in
+    let hl = here.at_least in
+    let hm = here.at_most in
+    let rl = rest.at_least in
+    let rm = rest.at_most in
+    record { at_least = omega (arith, ints, hl, rl); at_most = omega (arith, ints, hm, rm) }
+
+-- ---- the units of a case
+
+units_limited : (m : Market) → IsMarket m → All IsLimited (units m)
+units_limited m limits =
+    let t = limits.thermal in
+    let f = limits.flat in
+    let d = limits.bids in
+    let ts = map (λ (n : NamedThermalUnit). Thermal n.unit) m.thermal in
+    let fs = map (λ (n : NamedRenewableUnit). Flat n.unit) m.flat in
+    let bs = map (λ (n : NamedBidUnit). Bid n.unit) m.bids in
+    All-append IsLimited (ts ++ fs) bs
+    (All-append IsLimited ts fs
+    (All-map IsLimited (λ (n : NamedThermalUnit). Thermal n.unit) m.thermal (λ k n i. (t k n i).0))
+    (All-map IsLimited (λ (n : NamedRenewableUnit). Flat n.unit) m.flat (λ k n i. (f k n i).0)))
+    (All-map IsLimited (λ (n : NamedBidUnit). Bid n.unit) m.bids (λ k n i. (d k n i).0))
+
+unit_limited : (m : Market) → IsMarket m → (u : ℕ) (x : AnyUnit) → slice_get (units m) u ≡ Some x → IsLimited x
+unit_limited m limits u x is = subst IsLimited (get_or_from_slice_get (units m) u x x is) (units_limited m limits u x (slice_get_within (units m) u x is))
+
+-- ---- prices
+
+clamped_from : (low high x : ℤ) → low ≤ℤ high → IsFrom low high (clamped low high x)
+clamped_from low high x h = record { at_least = omega (arith, ints, clamps, h); at_most = omega (arith, ints, clamps, h) }
+
+module _ (m : Market) (horizon : IsHorizon m.periods) where
+  opening_prices : (n : ℕ) → length (opening_prices_of (start_prices m) n).energy ≡ m.periods → length (opening_prices_of (start_prices m) n).reserve ≡ m.periods →
+      ArePrices (opening_prices_of (start_prices m) n)
+  opening_prices n e r = record {
+    lengths = e ∙ sym r;
+    horizon = subst IsHorizon (sym e) horizon;
+    energy = All-map (IsFrom (neg_ℤ price_limit) price_limit) (λ (s : ℤ). clamped (neg_ℤ price_limit) price_limit (floor_div (s *ℤ pos (7 + n)) 8)) (start_prices m)
+        (λ k d i. clamped_from (neg_ℤ price_limit) price_limit (floor_div (get_or (start_prices m) k d *ℤ pos (7 + n)) 8) (omega (arith, ints)));
+    reserve = All-replicate (IsFrom (pos 0) price_limit) (length (start_prices m)) (pos 0) (record { at_least = omega (arith, ints); at_most = omega (arith, ints) });
+  }
+
+  -- where a step leads before it is kept within its limits
+  abbrev moved_energy : ℤ → ℕ → Proposal → ℕ → ℤ
+  moved_energy cost k r j = int_at r.prices.energy j +ℤ move_of (cost -ℤ r.value) (squared_length m r) k (energy_direction m r j)
+
+  abbrev moved_reserve : ℤ → ℕ → Proposal → ℕ → ℤ
+  moved_reserve cost k r j = int_at r.prices.reserve j +ℤ move_of (cost -ℤ r.value) (squared_length m r) k (reserve_direction m r j)
+
+  stepped_are : (cost : ℤ) (k : ℕ) (r : Proposal) → length (stepped_prices m cost k r).energy ≡ m.periods → length (stepped_prices m cost k r).reserve ≡ m.periods → ArePrices (stepped_prices m cost k r)
+  stepped_are cost k r e q = record {
+    lengths = e ∙ sym q;
+    horizon = subst IsHorizon (sym e) horizon;
+    energy = All-map (IsFrom (neg_ℤ price_limit) price_limit) (λ (j : ℕ). clamped (neg_ℤ price_limit) price_limit (moved_energy cost k r j)) (range_with_len 0 m.periods)
+        (λ j d i. clamped_from (neg_ℤ price_limit) price_limit (moved_energy cost k r (get_or (range_with_len 0 m.periods) j d)) (omega (arith, ints)));
+    reserve = All-map (IsFrom (pos 0) price_limit) (λ (j : ℕ). clamped (pos 0) price_limit (moved_reserve cost k r j)) (range_with_len 0 m.periods)
+        (λ j d i. clamped_from (pos 0) price_limit (moved_reserve cost k r (get_or (range_with_len 0 m.periods) j d)) (omega (arith, ints)));
+  }
+
+  next_are : (cost : ℤ) (rows : List Proposal) → 0 < length rows → length (next_prices m cost rows).energy ≡ m.periods → length (next_prices m cost rows).reserve ≡ m.periods → ArePrices (next_prices m cost rows)
+  next_are cost [] some e q = absurd (omega (arith, some))
+  next_are cost (r ∷ rows) some e q =
+      let last = slice_get-get_or (r ∷ rows) (length (r ∷ rows) - 1) r (omega arith) in
+      let from : Option Proposal → PriceLists = λ o. option_map_or (stepped_prices m cost (age (r ∷ rows))) o no_prices in
+      subst (λ (o : Option Proposal). length (from o).energy ≡ m.periods → length (from o).reserve ≡ m.periods → ArePrices (from o)) (sym last)
+      (stepped_are cost (age (r ∷ rows)) (get_or (r ∷ rows) (length (r ∷ rows) - 1) r)) e q
+
+above : (n m : ℕ) → nat_le n m ≡ false → m < n
+above n m h = grind (arith, nat_tests)
+
+-- the prices of a proposal are prices
+pub own_are_prices : (b : Setup) (p : Posts Answer) (n : ℕ) → IsMarket b.market → ArePrices (prices_at (rules_of b) p n)
+own_are_prices b p n limits = choose (nat_le n b.ahead) refl (own_horizon b p n) (own_reserve_horizon b p n)
+  where
+    choose : (t : Bool) → nat_le n b.ahead ≡ t →
+        length (cond t (opening_prices_of (start_prices b.market) n) (next_prices b.market b.cost (rows_to (rules_of b) p (n - b.ahead)))).energy ≡ b.market.periods →
+        length (cond t (opening_prices_of (start_prices b.market) n) (next_prices b.market b.cost (rows_to (rules_of b) p (n - b.ahead)))).reserve ≡ b.market.periods →
+        ArePrices (cond t (opening_prices_of (start_prices b.market) n) (next_prices b.market b.cost (rows_to (rules_of b) p (n - b.ahead))))
+    choose true is e r = opening_prices b.market limits.horizon n e r
+    choose false is e r =
+        let past = above n b.ahead is in
+        next_are b.market limits.horizon b.cost (rows_to (rules_of b) p (n - b.ahead)) (omega (arith, past, rows_length (rules_of b) p (n - b.ahead))) e r
+
+-- ---- totals of a proposal
+
+module _ (b : Setup) (h : List (Event Answer)) (limits : IsMarket b.market) (legal : IsLegalHistory b h) (n : ℕ) where
+  abbrev m : Market
+  m = b.market
+
+  abbrev g : Rules PriceLists Proposal Answer
+  g = rules_of b
+
+  abbrev π : PriceLists
+  π = prices_at g (posts h) n
+
+  -- what an answer gives and earns, also one that is missing
+  record IsSmall (x : AnyUnit) (a : Answer) : Type 0 where
+    output : (k : ℕ) → IsOutput x a.schedule k
+    earned : IsWithin 5040000000000000000 a.earned
+
+  missing_is_small : (x : AnyUnit) → IsSmall x no_answer
+  missing_is_small x = record { output = λ k. no_output x no_answer.schedule k refl refl; earned = record { at_least = omega (arith, ints); at_most = omega (arith, ints) } }
+
+  one_unit : {X : Type 0} (o : Option X) (x y : X) → o ≡ Some x → o ≡ Some y → x ≡ y
+  one_unit o x y i j = (cc)
+
+  posted_is_small : (u : ℕ) (x : AnyUnit) (y : ℕ × Answer) → slice_get (units m) u ≡ Some x → posts h n u ≡ Some y → IsSmall x y.1
+  posted_is_small u x y is post =
+      let right = (all_answer g (IsRight Fits m) (row_of m no_prices []) h legal n u y post).fit in
+      let same = one_unit (slice_get (units m) u) right.unit x right.is is in
+      let best = fits_is_best right.unit π y.1.schedule right.fit in
+      let feasible = best.feasible in
+      let limited = unit_limited m limits u right.unit right.is in
+      subst (λ (z : AnyUnit). IsSmall z y.1) same (record {
+        output = λ k. output right.unit y.1.schedule (length π.energy) limited feasible k;
+        earned = subst (λ (e : ℤ). IsWithin 5040000000000000000 e) right.earned
+            (earnings_within right.unit π y.1.schedule (length π.energy) limited (own_are_prices b (posts h) n limits) feasible refl);
+      })
+
+  answer_is_small : (u : ℕ) (x : AnyUnit) → slice_get (units m) u ≡ Some x → IsSmall x (answer_at g (posts h) n u)
+  answer_is_small u x is = choose (posts h n u) refl
+    where
+      choose : (o : Option (ℕ × Answer)) → posts h n u ≡ o → IsSmall x (option_map_or (λ (y : ℕ × Answer). y.1) o no_answer)
+      choose None post = missing_is_small x
+      choose (Some y) post = posted_is_small u x y is post
+
+  abbrev given : List Schedule
+  given = schedules_in (answers g (posts h) n)
+
+  all_units : (Q : AnyUnit → Schedule → Type 0) → ((x : AnyUnit) (a : Answer) → IsSmall x a → Q x a.schedule) → AllZip Q (units m) given
+  all_units Q each =
+      zip_range Q (λ (a : Answer). a.schedule) (answer_at g (posts h) n) (units m) 0 (unit_count m) (units_length m)
+      (λ k x is.
+      let e : k ≡ 0 + k = omega arith in
+      subst (λ (j : ℕ). Q x (answer_at g (posts h) n j).schedule) e (each x (answer_at g (posts h) n k) (answer_is_small k x is)))
+
+  supply_within : (k : ℕ) → IsWithin 10000000000000 (total_power (units m) given k)
+  supply_within k =
+      let z = zip_between (λ u s. supply_in u s (suc k)) least_of most_of (units m) given (all_units (λ u s. (least_of u ≤ℤ supply_in u s (suc k)) × (supply_in u s (suc k) ≤ℤ most_of u)) (λ x a s. ((s.output k).least, (s.output k).most))) in
+      let lo = z.0 in
+      let hi = z.1 in
+      let low = total_by_kind m least_of in
+      let high = total_by_kind m most_of in
+      let a = total_times 0 m.thermal in
+      let c = total_times 0 m.flat in
+      let d = total_times_below 1000000000 m.bids in
+      let e = total_times 10000000 m.thermal in
+      let f = total_times 1000000000 m.flat in
+      let i = total_times 0 m.bids in
+      let tc = limits.thermal_count in
+      let fc = limits.flat_count in
+      let bc = limits.bid_count in
+      record { at_least = omega (arith, ints, lo, low, a, c, d, bc); at_most = omega (arith, ints, hi, high, e, f, i, tc, fc) }
+
+  reserve_within : (k : ℕ) → IsWithin 10000000000000 (total_reserve (units m) given k)
+  reserve_within k =
+      let z = zip_between (λ u s. reserve_in s (suc k)) (λ u. pos 0) (λ u. pos 10000000) (units m) given (all_units (λ u s. (pos 0 ≤ℤ reserve_in s (suc k)) × (reserve_in s (suc k) ≤ℤ pos 10000000)) (λ x a s. (omega (arith, ints), (s.output k).reserve))) in
+      let lo = z.0 in
+      let hi = z.1 in
+      let a = total_times 0 (units m) in
+      let c = total_times 10000000 (units m) in
+      let long = units_length m in
+      let tc = limits.thermal_count in
+      let fc = limits.flat_count in
+      let bc = limits.bid_count in
+      record { at_least = omega (arith, ints, lo, a); at_most = omega (arith, ints, hi, c, long, tc, fc, bc) }
+
+  earned_within : IsWithin 100000000000000000000000 (total (earned_in (answers g (posts h) n)))
+  earned_within =
+      let r =
+      range_within 5040000000000000000 (λ (a : Answer). a.earned) (answer_at g (posts h) n) 0 (unit_count m)
+      (λ k i.
+      let inside : k < length (units m) = omega (arith, i, units_length m) in
+      let d : AnyUnit = Bid (record { blocks = [] }) in
+      (answer_is_small k (get_or (units m) k d) (slice_get-get_or (units m) k d inside)).earned) in
+      let rl = r.at_least in
+      let rm = r.at_most in
+      let tc = limits.thermal_count in
+      let fc = limits.flat_count in
+      let bc = limits.bid_count in
+      record { at_least = omega (arith, ints, rl, tc, fc, bc); at_most = omega (arith, ints, rm, tc, fc, bc) }
+
+  worth_within : IsWithin 3360000000000000000 (worth_of_demand m π)
+  worth_within =
+      let prices = own_are_prices b (posts h) n limits in
+      let long = own_horizon b (posts h) n in
+      let long2 = own_reserve_horizon b (posts h) n in
+      let dl = limits.demand_length in
+      let rl = limits.reserves_length in
+      let s =
+      sum_below_within 20000000000000000 m.periods (λ k. (int_at π.energy k *ℤ int_at m.demand k) +ℤ (int_at π.reserve k *ℤ int_at m.reserves k))
+      (λ k i.
+      let r = prices.reserve k (pos 0) (omega (arith, i, long2)) in
+      let low = r.at_least in
+      sum_within 10000000000000000 10000000000000000 _ _
+      (product_within 10000000 1000000000 (int_at π.energy k) (int_at m.demand k) (prices.energy k (pos 0) (omega (arith, i, long))) (limits.demand k (pos 0) (omega (arith, i, dl))))
+      (product_within 10000000 1000000000 (int_at π.reserve k) (int_at m.reserves k) (record { at_least = omega (arith, ints, low); at_most = r.at_most }) (limits.reserves k (pos 0) (omega (arith, i, rl))))) in
+      let sl = s.at_least in
+      let sm = s.at_most in
+      let few = limits.horizon.at_most in
+      record { at_least = omega (arith, ints, sl, few); at_most = omega (arith, ints, sm, few) }
+
+  pub totals_within : AreWithin b h n
+  totals_within = record { supply = supply_within; reserve = reserve_within; earned = earned_within }
+
+  abbrev row : Proposal
+  row = row_of m π (answers g (posts h) n)
+
+  row_within : IsRowWithin m row
+  row_within =
+      let w = worth_within in
+      let e = earned_within in
+      let wl = w.at_least in
+      let wm = w.at_most in
+      let el = e.at_least in
+      let em = e.at_most in
+      record {
+        prices = own_are_prices b (posts h) n limits;
+        horizon = own_horizon b (posts h) n;
+        supply_length = length-map (range_with_len 0 m.periods) _ ∙ length-range_with_len 0 m.periods;
+        reserve_length = length-map (range_with_len 0 m.periods) _ ∙ length-range_with_len 0 m.periods;
+        supply = All-map (IsWithin 10000000000000) (total_power (units m) given) (range_with_len 0 m.periods) (λ k d i. supply_within _);
+        reserve = All-map (IsWithin 10000000000000) (total_reserve (units m) given) (range_with_len 0 m.periods) (λ k d i. reserve_within _);
+        value = record { at_least = omega (arith, ints, wm, em, wl, el); at_most = omega (arith, ints, wm, em, wl, el) };
+      }
+
+-- ---- rows
+
+pub rows_are_within : RowsAreWithin
+rows_are_within b h limits ahead legal k d inside =
+    subst (λ (r : Proposal). IsRowWithin b.market r) (sym (row_is b h k d ahead inside)) (row_within b h limits legal (suc k))
+
+pub rows_are_at_most_cost : RowsAreAtMostCost
+rows_are_at_most_cost b h limits ahead legal plan cost k d inside =
+    let within = rows_are_within b h limits ahead legal k d inside in
+    let next = (rows_fit b h ahead legal).each k d inside in
+    let r = get_or (rows_of (rules_of b) (posts h)) k d in
+    subst (λ (c : ℤ). r.value ≤ℤ c) (sym cost) (dual_at_most_cost b.market b.plan r.prices r.value plan within.prices within.horizon next.value)
+
+-- the lists of an answer are as long as those of its prices
+pub fit_lengths : (x : AnyUnit) (ρ : PriceLists) (s : Schedule) → Fits x ρ s → (length s.on ≡ length ρ.energy) × (length s.power ≡ length ρ.energy) × (length s.reserve ≡ length ρ.energy)
+fit_lengths x ρ s fit = lengths_of x s (length ρ.energy) (fits_is_best x ρ s fit).feasible

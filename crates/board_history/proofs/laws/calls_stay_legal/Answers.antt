@@ -1,0 +1,5 @@
+use Rattle.board_history.proofs.OwnTasks.{calls_stay_legal}
+use Rattle.board_history.proofs.laws.calls_stay_legal.Goals as goal
+
+pub returns : goal.returns
+returns c = calls_stay_legal

@@ -1,0 +1,5 @@
+use Rattle.board_history.proofs.RowLaws.{halts_nothing}
+use Rattle.board_history.proofs.laws.halts_change_nothing.Goals as goal
+
+pub returns : goal.returns
+returns c = halts_nothing

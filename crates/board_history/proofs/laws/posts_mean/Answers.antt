@@ -1,0 +1,5 @@
+use Rattle.board_history.proofs.OwnTasks.{posts_mean}
+use Rattle.board_history.proofs.laws.posts_mean.Goals as goal
+
+pub returns : goal.returns
+returns c = posts_mean

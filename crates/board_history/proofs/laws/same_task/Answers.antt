@@ -1,0 +1,5 @@
+use Rattle.board_history.proofs.SameTask.{same_task}
+use Rattle.board_history.proofs.laws.same_task.Goals as goal
+
+pub returns : goal.returns
+returns c = same_task

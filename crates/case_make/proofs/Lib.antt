@@ -1,0 +1,10 @@
+pub mod Bounds
+pub mod FeasibleLaws
+pub mod LaterLaws
+pub mod Loops
+pub mod MadeLaws
+pub mod MarketLaws
+pub mod RenewableLaws
+pub mod SumLaws
+pub mod UnitLaws
+pub mod WordLaws

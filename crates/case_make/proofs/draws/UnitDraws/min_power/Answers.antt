@@ -1,0 +1,10 @@
+use Rattle.std.proofs.Common.{arith}
+use Rattle.std.proofs.lemmas.Nat.{mul-le}
+use Rattle.case_make.proofs.Bounds.{max_range}
+use Rattle.case_make.proofs.draws.UnitDraws.min_power.Goals as goal
+
+pub overflow_mul-result : goal.overflow_mul-result
+overflow_mul-result c =
+    let top = max_range c.args.self.now c.requires in
+    let p = mul-le c.max_power.result c.args.self.now.least_percent 400000 50 (omega (arith, top)) (omega arith) in
+    omega (arith, p)

@@ -1,0 +1,9 @@
+use Rattle.std.proofs.Common.{arith}
+use Rattle.case_make.proofs.Bounds.{has_range}
+use Rattle.case_make.proofs.draws.UnitDraws.reserve.Goals as goal
+
+pub overflow_sub-above : goal.overflow_sub-above
+overflow_sub-above c = omega (arith, has_range c.args.self.now c.requires)
+
+pub overflow_sub-ramp : goal.overflow_sub-ramp
+overflow_sub-ramp c = omega (arith, has_range c.args.self.now c.requires)

@@ -1,0 +1,15 @@
+use Rattle.std.proofs.Common.{◌+◌, ◌-◌, ◌%◌, ℕ, ap, ◌∙◌}
+use Rattle.rand_pcg.specs.Lcg.{Lcg}
+use Rattle.case_make.specs.Words.{draw}
+use Rattle.case_make.proofs.WordLaws.{first_word, one_step}
+use Rattle.case_make.proofs.draws.draw.Goals as goal
+
+pub returns-clause-value : goal.returns-clause-value
+unfolding draw
+returns-clause-value c =
+    let low = c.args.low in
+    let high = c.args.high in
+    ap (λ (w : ℕ). low + w % (high - low + 1)) (ap (λ (p : ℕ × Lcg). p.0) c.next_word.ensures ∙ first_word c.args.random.now)
+
+pub returns-clause-moved : goal.returns-clause-moved
+returns-clause-moved c = ap (λ (p : ℕ × Lcg). p.1) c.next_word.ensures ∙ one_step c.args.random.now

@@ -1,0 +1,7 @@
+use Rattle.std.proofs.Common.{sym, subst}
+use Rattle.case_make.specs.Grown.{IsSteady}
+use Rattle.case_make.proofs.SumLaws.{full_within}
+use Rattle.case_make.proofs.make.add_flat.Goals as goal
+
+pub push-requires-clause-steady : goal.push-requires-clause-steady
+push-requires-clause-steady c = subst IsSteady (sym c.in_ok-full.ensures) (full_within c.in_ok-powers.powers.items c.in_ok-powers.ensures.sizes).steady

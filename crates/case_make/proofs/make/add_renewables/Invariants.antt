@@ -1,0 +1,16 @@
+use Rattle.std.proofs.Common.{◌≡◌, ◌+◌, ◌*◌, ◌≤◌, ◌++◌, map}
+use Rattle.uc_model.specs.PlainUnits.{named_renewable_of}
+use Rattle.case_make.specs.Grown.{plan_of, IsSummed}
+use Rattle.case_make.specs.Made.{renewable_units, renewable_plans}
+use Rattle.case_make.specs.Words.{moved_on}
+use Rattle.case_make.proofs.make.add_renewables.Given as goal
+
+abbrev pub invariant-loop-j : goal.invariant-loop-j
+invariant-loop-j l = record {
+  named : map named_renewable_of l.units.items ≡ renewable_units l.fn.random 0 l.j;
+  planned : plan_of l.plan ≡ plan_of l.fn.plan ++ renewable_plans l.fn.random 0 l.j;
+  summed : IsSummed l.plan;
+  moved : l.random ≡ moved_on (49 * l.j) l.fn.random;
+  room : 81 ≤ l.units.spare + l.j;
+  plan_room : 81 ≤ l.plan.responses.spare + l.j;
+}

@@ -1,0 +1,10 @@
+use Rattle.std.proofs.Common.{arith}
+use Rattle.case_make.specs.Drawn.{power_at}
+use Rattle.case_make.proofs.Loops.{pushed}
+use Rattle.case_make.proofs.schedules.powers.Goals as goal
+
+pub loop-place-preserved : goal.loop-place-preserved
+loop-place-preserved c = record {
+  so_far = pushed (power_at c.args.level c.args.high) c.loop-place.place _ _ _ c.push.ensures.items c.loop-place.invariant.so_far c.power_in.ensures;
+  room = omega (arith, c.push.ensures.spare, c.loop-place.invariant.room);
+}

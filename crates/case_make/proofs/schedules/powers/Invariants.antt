@@ -1,0 +1,10 @@
+use Rattle.std.proofs.Common.{◌≡◌, ◌+◌, ◌≤◌, map}
+use Rattle.std.specs.List.{range_with_len}
+use Rattle.case_make.specs.Drawn.{power_at}
+use Rattle.case_make.proofs.schedules.powers.Given as goal
+
+abbrev pub invariant-loop-place : goal.invariant-loop-place
+invariant-loop-place l = record {
+  so_far : l.powers.items ≡ map (power_at l.level l.high) (range_with_len 0 l.place);
+  room : 48 ≤ l.powers.spare + l.place;
+}

@@ -1,0 +1,21 @@
+use Rattle.std.proofs.Common.{◌+◌, [], ◌∷◌, ◌++◌, List, map, ap, sym, ◌∙◌, arith}
+use Rattle.std.proofs.lemmas.List.FromFn.{map-range_with_len_more}
+use Rattle.std.specs.List.{range_with_len}
+use Rattle.uc_model.specs.declared.units.Point.{Point}
+use Rattle.case_make.specs.Drawn.{point_of}
+use Rattle.case_make.proofs.units.points.Goals as goal
+
+pub loop-place-preserved : goal.loop-place-preserved
+loop-place-preserved c =
+    let d = c.args.draws.now in
+    let next = c.loop-place.place + 1 in
+    let room = c.loop-place.invariant.room in
+    let spare = c.push-in-loop-place.ensures.spare in
+    record {
+      so_far = c.push-in-loop-place.ensures.items
+          ∙ ap (λ (xs : List Point). xs ++ c.point-in-loop-place.result ∷ []) c.loop-place.invariant.so_far
+          ∙ ap (λ (p : Point). map (point_of d) (range_with_len 0 next) ++ p ∷ []) c.point-in-loop-place.ensures
+          ∙ sym (map-range_with_len_more (point_of d) 0 next next (omega arith));
+      last_cost = c.next_cost-cost.ensures;
+      room = omega (arith, room, spare);
+    }

@@ -1,0 +1,154 @@
+//! The whole case.
+ghost use Rattle.std.specs.Prelude.{◌≡◌, ◌+◌, ◌*◌, ◌≤◌, ◌<◌, [], ◌∷◌, ◌++◌, IfOk, OnOk, map};
+ghost use Rattle.rand_pcg.specs.Lcg.{Lcg};
+ghost use Rattle.uc_model.specs.PlainCases.{market_of, schedules_of};
+ghost use Rattle.uc_model.specs.PlainUnits.{named_thermal_of, named_renewable_of};
+ghost use Rattle.uc_model.specs.Systems.{IsFeasiblePlan};
+ghost use Rattle.case_make.specs.Drawn.{unit_draws, unit_of, unit_schedule, most_powers, renewable_of, full};
+ghost use Rattle.case_make.specs.Grown.{plan_of, IsSummed, IsSmall, HasRoom};
+ghost use Rattle.case_make.specs.Made.{name_of, thermal_units, thermal_plan, renewable_units, renewable_plans, made};
+ghost use Rattle.case_make.specs.Words.{moved_on};
+
+use crate::draws::draw_unit;
+use crate::growing::Growing;
+use crate::names::name;
+use crate::renewables::{draw_powers, full, renewable};
+use crate::schedules::unit_schedule;
+use crate::units::unit;
+use rand_pcg::Pcg32;
+use std::alloc::{AllocError, Global};
+use uc_model::cases::{Case, Plan};
+use uc_model::units::{BidList, FlatList, NamedFlat, NamedUnit, ThermalList};
+
+/// Periods of a generated case.
+pub const PERIODS: u32 = 48;
+
+const THERMAL_UNITS: u32 = 73;
+
+const RENEWABLE_UNITS: u32 = 81;
+
+/// Units of a generated case.
+pub const UNITS: u32 = THERMAL_UNITS + RENEWABLE_UNITS;
+
+const STREAM: u64 = 54;
+
+// Draws the next thermal unit, names it, and adds its schedule.
+fn add_unit(
+    alloc: Global,
+    random: &mut Pcg32,
+    plan: &mut Growing,
+    number: u32,
+) -> Result<NamedUnit, AllocError>
+    requires number { number < 100 }
+    requires room { HasRoom 1 plan.old }
+    requires summed { IsSummed plan.old }
+    requires small { IsSmall 100000000 (plan_of plan.old) }
+    ensures unit { IfOk result (λ n. named_thermal_of n ≡ record { name = name_of 84 number; unit = unit_of (unit_draws random.old 0) }) }
+    ensures moved { OnOk result (random.new ≡ moved_on 9 random.old) }
+    ensures plan { OnOk result (plan_of plan.new ≡ plan_of plan.old ++ unit_schedule (unit_draws random.old 0) ∷ []) }
+    ensures summed { OnOk result (IsSummed plan.new) }
+    ensures room { OnOk result (plan.new.responses.spare + 1 ≡ plan.old.responses.spare) }
+{
+    let draws = draw_unit(random);
+    let name = name(alloc, b'T', number)?;
+    let unit = unit(alloc, &draws)?;
+    plan.push(unit_schedule(alloc, &draws)?);
+    Ok(NamedUnit { name, unit })
+}
+
+fn add_thermal(
+    alloc: Global,
+    random: &mut Pcg32,
+    plan: &mut Growing,
+) -> Result<ThermalList, AllocError>
+    requires empty { plan_of plan.old ≡ [] }
+    requires room { HasRoom 154 plan.old }
+    requires summed { IsSummed plan.old }
+    ensures units { IfOk result (λ list. map named_thermal_of list.items ≡ thermal_units random.old 73) }
+    ensures moved { OnOk result (random.new ≡ moved_on (9 * 73) random.old) }
+    ensures plan { OnOk result (plan_of plan.new ≡ thermal_plan random.old 73) }
+    ensures summed { OnOk result (IsSummed plan.new) }
+    ensures room { OnOk result (HasRoom 81 plan.new) }
+{
+    let mut units = ThermalList::make(alloc, THERMAL_UNITS)?;
+    for i in 0..THERMAL_UNITS {
+        let unit = add_unit(alloc, random, plan, i + 1)?;
+        units.push(unit);
+    }
+    Ok(units)
+}
+
+// Draws the next renewable unit, names it, and adds its schedule.
+fn add_flat(
+    alloc: Global,
+    random: &mut Pcg32,
+    plan: &mut Growing,
+    number: u32,
+) -> Result<NamedFlat, AllocError>
+    requires number { number < 100 }
+    requires room { HasRoom 1 plan.old }
+    requires summed { IsSummed plan.old }
+    requires small { IsSmall 100000000 (plan_of plan.old) }
+    ensures unit { IfOk result (λ n. named_renewable_of n ≡ record { name = name_of 82 number; unit = renewable_of (most_powers random.old 0) }) }
+    ensures moved { OnOk result (random.new ≡ moved_on 49 random.old) }
+    ensures plan { OnOk result (plan_of plan.new ≡ plan_of plan.old ++ full (most_powers random.old 0) ∷ []) }
+    ensures summed { OnOk result (IsSummed plan.new) }
+    ensures room { OnOk result (plan.new.responses.spare + 1 ≡ plan.old.responses.spare) }
+{
+    let powers = draw_powers(alloc, random)?;
+    let name = name(alloc, b'R', number)?;
+    let flat = renewable(alloc, &powers)?;
+    plan.push(full(alloc, powers)?);
+    Ok(NamedFlat { name, flat })
+}
+
+fn add_renewables(
+    alloc: Global,
+    random: &mut Pcg32,
+    plan: &mut Growing,
+) -> Result<FlatList, AllocError>
+    requires room { HasRoom 81 plan.old }
+    requires summed { IsSummed plan.old }
+    requires small { IsSmall 40000000 (plan_of plan.old) }
+    ensures units { IfOk result (λ list. map named_renewable_of list.items ≡ renewable_units random.old 0 81) }
+    ensures plan { OnOk result (plan_of plan.new ≡ plan_of plan.old ++ renewable_plans random.old 0 81) }
+    ensures summed { OnOk result (IsSummed plan.new) }
+{
+    let mut units = FlatList::make(alloc, RENEWABLE_UNITS)?;
+    for j in 0..RENEWABLE_UNITS {
+        let unit = add_flat(alloc, random, plan, j + 1)?;
+        units.push(unit);
+    }
+    Ok(units)
+}
+
+/// The case and the feasible schedule that a number stands for: 73 thermal units `T01` to `T73` and 81 renewable units
+/// `R01` to `R81` over 48 periods, all marks free, no bid. Each unit that is on before the horizon stays on, each other
+/// stays off, demand is the schedule's total power, and nine tenths of its reserve are required. Powers are in kilowatts
+/// and costs in millionths of the currency. `AllocError` is want of memory.
+pub fn make_case(alloc: Global, number: u64) -> Result<(Case, Plan), AllocError>
+    ensures case { IfOk result (λ pair. market_of pair.0 ≡ (made number).market) }
+    ensures plan { IfOk result (λ pair. schedules_of pair.1 ≡ (made number).plan) }
+    ensures feasible { IfOk result (λ pair. IsFeasiblePlan (market_of pair.0) (schedules_of pair.1)) }
+{
+    let mut random = Pcg32::new(number, STREAM);
+    let mut plan = Growing::make(alloc)?;
+    let thermal = add_thermal(alloc, &mut random, &mut plan)?;
+    let flat = add_renewables(alloc, &mut random, &mut plan)?;
+    let reserves = plan.requirements(alloc)?;
+    let bids = BidList::make(alloc, 0)?;
+    let Growing {
+        responses,
+        power,
+        ..
+    } = plan;
+    let case = Case {
+        periods: PERIODS,
+        demand: power,
+        reserves,
+        thermal,
+        flat,
+        bids,
+    };
+    Ok((case, Plan { responses }))
+}

@@ -1,0 +1,59 @@
+//! Generated renewable units, which give their greatest power.
+ghost use Rattle.std.specs.Prelude.{◌≡◌, ◌≤◌, IfOk, OnOk, pos, map, length};
+ghost use Rattle.uc_model.specs.PlainUnits.{renewable_of as renewable_unit_of, schedule_of};
+ghost use Rattle.case_make.specs.Drawn.{most_powers, renewable_of, full};
+ghost use Rattle.case_make.specs.Sizes.{ArePowers};
+ghost use Rattle.case_make.specs.Words.{moved_on};
+
+use crate::draws::draw;
+use crate::make::PERIODS;
+use rand_pcg::Pcg32;
+use std::alloc::{AllocError, Global};
+use uc_model::lists::{Flags, Numbers, Powers};
+use uc_model::units::{Renewable, Response};
+
+/// Draws the greatest power of a renewable unit in each period, in kilowatts, by the generator's next 49 words.
+pub fn draw_powers(alloc: Global, random: &mut Pcg32) -> Result<Powers, AllocError>
+    ensures powers { IfOk result (λ powers. powers.items ≡ most_powers random.old 0) }
+    ensures sizes { IfOk result (λ powers. ArePowers powers.items) }
+    ensures moved { OnOk result (random.new ≡ moved_on 49 random.old) }
+{
+    let mut powers = Powers::make(alloc, PERIODS)?;
+    let capacity = 1000 * draw(random, 5, 100);
+    for _ in 0..PERIODS {
+        powers.push(capacity * draw(random, 0, 100) / 100);
+    }
+    Ok(powers)
+}
+
+fn numbers(alloc: Global, powers: &Powers) -> Result<Numbers, AllocError>
+    requires { length powers.now.items ≤ 168 }
+    ensures { IfOk result (λ numbers. numbers.items ≡ map pos powers.now.items) }
+{
+    let mut numbers = Numbers::make(alloc, powers.len() as u32)?;
+    for power in powers.as_slice() {
+        numbers.push(i64::from(*power));
+    }
+    Ok(numbers)
+}
+
+/// The renewable unit of its greatest powers.
+pub fn renewable(alloc: Global, powers: &Powers) -> Result<Renewable, AllocError>
+    requires { ArePowers powers.now.items }
+    ensures { IfOk result (λ r. renewable_unit_of r ≡ renewable_of powers.now.items) }
+{
+    let least = Numbers::filled(alloc, PERIODS, 0)?;
+    let most = numbers(alloc, powers)?;
+    Ok(Renewable { least, most })
+}
+
+/// Its schedule.
+#[tactic(auto, unfolding(crate::specs::Drawn::full))]
+pub fn full(alloc: Global, power: Powers) -> Result<Response, AllocError>
+    requires { ArePowers power.items }
+    ensures { IfOk result (λ r. schedule_of r ≡ full power.items) }
+{
+    let on = Flags::filled(alloc, PERIODS, true)?;
+    let reserve = Powers::filled(alloc, PERIODS, 0)?;
+    Ok(Response { on, power, reserve })
+}

@@ -1,0 +1,11 @@
+use Rattle.std.proofs.lemmas.Result.{err_from_is_err_and}
+use Rattle.hull_words.specs.Words.{texts}
+use Rattle.hull_engine.specs.Due.{Only}
+use Rattle.hull_engine.specs.Ladder.{words_due, IsCommandDue}
+use Rattle.hull_engine.proofs.DueLaws.{refusal_then}
+use Rattle.hull_engine.proofs.job.decide.Goals as goal
+
+pub returns-in_err-command-clause-answers : goal.returns-in_err-command-clause-answers
+returns-in_err-command-clause-answers g c =
+    let p = err_from_is_err_and c.from_residual.result c.from_residual.ensures.1 in
+    rw (p.1, p.2) (refusal_then (Only (words_due (texts c.args.words.now))) (IsCommandDue (g.F.Shelf.told c.args.shelf.now)) _ c.in_err-command.ensures.answers)

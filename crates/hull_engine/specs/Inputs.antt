@@ -1,0 +1,41 @@
+-- What a command works on.
+use Rattle.std.specs.Prelude.{◌≡◌, ◌*◌, ◌≤◌}
+use Rattle.uc_model.specs.Data.{unit_count}
+use Rattle.uc_model.specs.PlainCases.{market_of, schedules_of}
+use Rattle.uc_model.specs.Systems.{IsFeasiblePlan, plan_cost}
+use Rattle.hull_words.specs.Asked.{TryAsked}
+use Rattle.hull_words.specs.declared.command.TryWords.{TryWords}
+use Rattle.hull_engine.specs.declared.input.Input.{Input}
+use Rattle.hull_engine.specs.declared.input.RunInput.{RunInput}
+use Rattle.hull_engine.specs.declared.job.Job.{Job}
+use Rattle.hull_engine.specs.declared.job.Job.TheVariants as jobs
+use Rattle.hull_engine.specs.Ladder.{PlannedCase, Accepted, Check, Price, Try}
+use Rattle.hull_engine.specs.Sizes.{IsRunSize}
+
+-- what a contract sees of an input, and of what is to be done
+abbrev pub planned_of : Input → PlannedCase
+planned_of input = record { market = market_of input.case; plan = schedules_of input.plan; cost = input.cost }
+
+abbrev pub accepted_of : Job → Accepted
+accepted_of (jobs.Check input) = Check (planned_of input)
+accepted_of (jobs.Price run) = Price (planned_of run.input) run.budget run.ahead
+accepted_of (jobs.Try number run) = Try number (planned_of run.input) run.budget run.ahead
+
+abbrev pub try_asked : TryWords → TryAsked
+try_asked w = record { number = w.number; proposals = w.proposals; workers = w.workers; ahead = w.ahead }
+
+-- the schedule is feasible, and this is its cost
+pub record IsPlanned (input : Input) : Type 0 where
+  pub feasible : IsFeasiblePlan (market_of input.case) (schedules_of input.plan)
+  pub cost : input.cost ≡ plan_cost (market_of input.case) (schedules_of input.plan)
+
+-- and the numbers of the run are within their limits
+pub record IsRunInput (run : RunInput) : Type 0 where
+  pub planned : IsPlanned run.input
+  pub size : IsRunSize run.budget run.workers run.ahead
+  pub work : run.budget * unit_count (market_of run.input.case) * (market_of run.input.case).periods ≤ 50000000
+
+abbrev pub IsReady : Job → Type 0
+IsReady (jobs.Check input) = IsPlanned input
+IsReady (jobs.Price run) = IsRunInput run
+IsReady (jobs.Try number run) = IsRunInput run

@@ -1,0 +1,243 @@
+-- The lines of a record's units, found by their place among the units of a kind.
+use Rattle.std.proofs.Common.{to_z, of_z, ◌≡◌, ℕ, ◌+◌, ◌-◌, ◌<◌, ◌≤◌, ℤ, pos, ◌-ℤ◌, true, Some, List, [], map, length, get_or, slice_get, refl, sym, ap, ◌∙◌, subst, arith}
+use Rattle.std.proofs.lemmas.Int.{ints, to_z-of_z}
+use Rattle.std.proofs.lemmas.List.{length-map, get_or-map}
+use Rattle.std.proofs.lemmas.Option.{get_or_from_slice_get}
+use Rattle.std.specs.Int.{w128}
+use Rattle.std.specs.Prelude.{FitsSigned}
+use Rattle.board_core.specs.Setups.{IsSetup}
+use Rattle.board_history.specs.Board.{Answer, Content, rules_of, IsLegalHistory}
+use Rattle.board_history.specs.Calls.{own_rows, has_finished}
+use Rattle.board_history.specs.Rounds.{posts, answer_at, closed_front, is_closed}
+use Rattle.board_history.proofs.Fronts.{front_le}
+use Rattle.board_history.proofs.Kept.{rows_length}
+use Rattle.board_history.proofs.RowLaws.{has_row, rows_fit}
+use Rattle.uc_model.specs.declared.cases.Case.{Case}
+use Rattle.uc_model.specs.declared.cases.Row.{Row}
+use Rattle.uc_model.specs.declared.units.NamedUnit.{NamedUnit}
+use Rattle.uc_model.specs.declared.units.NamedFlat.{NamedFlat}
+use Rattle.uc_model.specs.declared.units.NamedBid.{NamedBid}
+use Rattle.uc_model.specs.Data.{NamedThermalUnit, NamedRenewableUnit, NamedBidUnit, Market}
+use Rattle.uc_model.specs.PlainCases.{market_of, proposal_of}
+use Rattle.uc_model.specs.PlainUnits.{named_thermal_of, named_renewable_of, named_bid_of, prices_of}
+use Rattle.uc_model.specs.PriceRule.{Proposal}
+use Rattle.uc_model.specs.Sums.{int_at}
+use Rattle.uc_model.specs.Systems.{IsDualValue}
+use Rattle.uc_model.proofs.SignedLaws.{IsWithin, fits_within}
+use Rattle.uplift_settle.specs.declared.settlement.Settlement.{Settlement}
+use Rattle.hull_report.specs.ReportText.{UnitLine}
+use Rattle.hull_report.specs.RecordReport.{thermal_names, renewable_names, bid_names, told_line, line_of, lines_from, chosen_of, value_of}
+use Rattle.hull_report.proofs.Records.{chosen_is}
+use Rattle.hull_report.proofs.Sizes.{plan_cost_within, value_within}
+use Rattle.hull_report.proofs.UnitLines.{length-lines, line_at}
+
+-- ---- names
+
+-- a name stands at a place
+pub record IsNamed (names : List (List ℕ)) (k count : ℕ) (name : List ℕ) : Type 0 where
+  pub count_is : length names ≡ count
+  pub inside : k < length names
+  pub is : get_or names k [] ≡ name
+
+named_at : {X Y : Type 0} (f : X → Y) (g : Y → List ℕ) (xs : List X) (k : ℕ) (x : X) → k < length xs → x ≡ get_or xs k x → IsNamed (map g (map f xs)) k (length xs) (g (f x))
+named_at f g xs k x h is =
+    let a = length-map xs f in
+    let b = length-map (map f xs) g in
+    record {
+      count_is = omega (arith, a, b);
+      inside = omega (arith, a, b, h);
+      is = get_or-map g (map f xs) k (f x) [] (omega (arith, a, h)) ∙ ap g (get_or-map f xs k x (f x) h ∙ ap f (sym is));
+    }
+
+pub thermal_named : (case : Case) (m : Market) (xs : List NamedUnit) (k : ℕ) (x : NamedUnit) → market_of case ≡ m → xs ≡ case.thermal.items → k < length xs → x ≡ get_or xs k x →
+    IsNamed (thermal_names m) k (length xs) x.name.items
+thermal_named case m xs k x e items h is =
+    subst (λ (m2 : Market). IsNamed (thermal_names m2) k (length xs) x.name.items) e
+    (subst (λ (ys : List NamedUnit). IsNamed (map (λ (n : NamedThermalUnit). n.name) (map named_thermal_of ys)) k (length xs) x.name.items) items
+    (named_at named_thermal_of (λ (n : NamedThermalUnit). n.name) xs k x h is))
+
+pub renewable_named : (case : Case) (m : Market) (xs : List NamedFlat) (k : ℕ) (x : NamedFlat) → market_of case ≡ m → xs ≡ case.flat.items → k < length xs → x ≡ get_or xs k x →
+    IsNamed (renewable_names m) k (length xs) x.name.items
+renewable_named case m xs k x e items h is =
+    subst (λ (m2 : Market). IsNamed (renewable_names m2) k (length xs) x.name.items) e
+    (subst (λ (ys : List NamedFlat). IsNamed (map (λ (n : NamedRenewableUnit). n.name) (map named_renewable_of ys)) k (length xs) x.name.items) items
+    (named_at named_renewable_of (λ (n : NamedRenewableUnit). n.name) xs k x h is))
+
+pub bid_named : (case : Case) (m : Market) (xs : List NamedBid) (k : ℕ) (x : NamedBid) → market_of case ≡ m → xs ≡ case.bids.items → k < length xs → x ≡ get_or xs k x →
+    IsNamed (bid_names m) k (length xs) x.name.items
+bid_named case m xs k x e items h is =
+    subst (λ (m2 : Market). IsNamed (bid_names m2) k (length xs) x.name.items) e
+    (subst (λ (ys : List NamedBid). IsNamed (map (λ (n : NamedBidUnit). n.name) (map named_bid_of ys)) k (length xs) x.name.items) items
+    (named_at named_bid_of (λ (n : NamedBidUnit). n.name) xs k x h is))
+
+-- how many units of each kind there are
+pub record HasCounts (case : Case) (m : Market) : Type 0 where
+  pub thermal : length case.thermal.items ≡ length m.thermal
+  pub flat : length case.flat.items ≡ length m.flat
+  pub bids : length case.bids.items ≡ length m.bids
+  pub thermal_most : length m.thermal ≤ 4096
+  pub flat_most : length m.flat ≤ 4096
+  pub bid_most : length m.bids ≤ 4096
+
+pub counts_of : (case : Case) (m : Market) → market_of case ≡ m → HasCounts case m
+counts_of case m e =
+    subst (HasCounts case) e (record {
+      thermal = sym (length-map case.thermal.items named_thermal_of);
+      flat = sym (length-map case.flat.items named_renewable_of);
+      bids = sym (length-map case.bids.items named_bid_of);
+      thermal_most = case.valid.thermal_count;
+      flat_most = case.valid.flat_count;
+      bid_most = case.valid.bid_count;
+    })
+
+-- ---- lines
+
+-- what was read of a unit is its line
+pub line_is : (c : Content) (s : Settlement) (proposal number : ℕ) (a : Answer) (x y : ℤ) → a ≡ answer_at (rules_of c.setup) (posts c.events) proposal number →
+    slice_get s.scheduled.items number ≡ Some x → slice_get s.payments.items number ≡ Some y → (name : List ℕ) → told_line a x y name ≡ line_of c s proposal number name
+line_is c s proposal number a x y e f g name =
+    let scheduled : x ≡ int_at s.scheduled.items number = sym (get_or_from_slice_get s.scheduled.items number x (pos 0) f) in
+    let payment : y ≡ int_at s.payments.items number = sym (get_or_from_slice_get s.payments.items number y (pos 0) g) in
+    λ i. told_line (e i) (scheduled i) (payment i) name
+
+-- and stands at its place among the lines of its kind
+pub record Stands (lines : List UnitLine) (k : ℕ) (x : UnitLine) : Type 0 where
+  pub inside : k < length lines
+  pub is : x ≡ get_or lines k x
+
+stands : (line : ℕ → List ℕ → UnitLine) (names : List (List ℕ)) (first k count number : ℕ) (name other : List ℕ) (x : UnitLine) → IsNamed names k count name → other ≡ name → first + k ≡ number →
+    x ≡ line number other → Stands (lines_from line first names) k x
+stands line names first k count number name other x named same at is =
+    let inside = named.inside in
+    record {
+      inside = omega (arith, inside, length-lines line first names);
+      is = is ∙ ap (λ (n : List ℕ). line number n) (same ∙ sym named.is) ∙ ap (λ (n : ℕ). line n (get_or names k [])) (sym at) ∙ sym (line_at line first names k x [] inside);
+    }
+
+module _ (c : Content) (s : Settlement) (proposal : ℕ) (case : Case) (e : market_of case ≡ c.setup.market) (k number : ℕ) (name : List ℕ) (x : UnitLine) (is : x ≡ line_of c s proposal number name) where
+  pub thermal_stands : (xs : List NamedUnit) (n : NamedUnit) → xs ≡ case.thermal.items → k < length xs → n ≡ get_or xs k n → name ≡ n.name.items → k ≡ number →
+      Stands (lines_from (line_of c s proposal) 0 (thermal_names c.setup.market)) k x
+  thermal_stands xs n items inside at same place =
+      stands (line_of c s proposal) (thermal_names c.setup.market) 0 k (length xs) number n.name.items name x (thermal_named case c.setup.market xs k n e items inside at) same (omega (arith, place)) is
+
+  pub renewable_stands : (xs : List NamedFlat) (n : NamedFlat) → xs ≡ case.flat.items → k < length xs → n ≡ get_or xs k n → name ≡ n.name.items → length case.thermal.items + k ≡ number →
+      Stands (lines_from (line_of c s proposal) (length c.setup.market.thermal) (renewable_names c.setup.market)) k x
+  renewable_stands xs n items inside at same place =
+      let counts = counts_of case c.setup.market e in
+      let thermal = counts.thermal in
+      stands (line_of c s proposal) (renewable_names c.setup.market) (length c.setup.market.thermal) k (length xs) number n.name.items name x
+      (renewable_named case c.setup.market xs k n e items inside at) same (omega (arith, place, thermal)) is
+
+  pub bid_stands : (xs : List NamedBid) (n : NamedBid) → xs ≡ case.bids.items → k < length xs → n ≡ get_or xs k n → name ≡ n.name.items → length case.thermal.items + length case.flat.items + k ≡ number →
+      Stands (lines_from (line_of c s proposal) (length c.setup.market.thermal + length c.setup.market.flat) (bid_names c.setup.market)) k x
+  bid_stands xs n items inside at same place =
+      let counts = counts_of case c.setup.market e in
+      let thermal = counts.thermal in
+      let flat = counts.flat in
+      stands (line_of c s proposal) (bid_names c.setup.market) (length c.setup.market.thermal + length c.setup.market.flat) k (length xs) number n.name.items name x
+      (bid_named case c.setup.market xs k n e items inside at) same (omega (arith, place, thermal, flat)) is
+
+pub thermal_lines : (line : ℕ → List ℕ → UnitLine) (case : Case) (m : Market) (first k : ℕ) → market_of case ≡ m → length case.thermal.items ≤ k → length (lines_from line first (thermal_names m)) ≤ k
+thermal_lines line case m first k e h =
+    let a = length-lines line first (thermal_names m) in
+    let b = length-map m.thermal (λ (n : NamedThermalUnit). n.name) in
+    let d = (counts_of case m e).thermal in
+    omega (arith, a, b, d, h)
+
+pub renewable_lines : (line : ℕ → List ℕ → UnitLine) (case : Case) (m : Market) (first k : ℕ) → market_of case ≡ m → length case.flat.items ≤ k → length (lines_from line first (renewable_names m)) ≤ k
+renewable_lines line case m first k e h =
+    let a = length-lines line first (renewable_names m) in
+    let b = length-map m.flat (λ (n : NamedRenewableUnit). n.name) in
+    let d = (counts_of case m e).flat in
+    omega (arith, a, b, d, h)
+
+pub bid_lines : (line : ℕ → List ℕ → UnitLine) (case : Case) (m : Market) (first k : ℕ) → market_of case ≡ m → length case.bids.items ≤ k → length (lines_from line first (bid_names m)) ≤ k
+bid_lines line case m first k e h =
+    let a = length-lines line first (bid_names m) in
+    let b = length-map m.bids (λ (n : NamedBidUnit). n.name) in
+    let d = (counts_of case m e).bids in
+    omega (arith, a, b, d, h)
+
+-- ---- the chosen row
+
+pub rows_within : (c : Content) → length (own_rows c) ≤ c.setup.budget
+rows_within c =
+    let g = rules_of c.setup in
+    let p = posts c.events in
+    omega (arith, rows_length g p (closed_front g p), front_le (is_closed g p) c.setup.budget)
+
+pub record IsChosen (c : Content) : Type 0 where
+  pub some : 1 ≤ length (own_rows c)
+  pub first : 1 ≤ chosen_of c
+  pub last : chosen_of c ≤ length (own_rows c)
+
+pub one_is_chosen : (c : Content) → 1 ≤ c.setup.budget → 1 ≤ c.setup.ahead → has_finished c ≡ true → IsChosen c
+one_is_chosen c budget ahead finished =
+    let some = has_row c ahead budget finished in
+    let place = chosen_is (own_rows c) some in
+    let inside = place.1 in
+    let at = place.2 in
+    record { some = some; first = omega (arith, at); last = omega (arith, at, inside) }
+
+row_value : (rows : List Row) (own : List Proposal) (k : ℕ) (row : Row) → map proposal_of rows ≡ own → k < length rows → row ≡ get_or rows k row → get_or own k (proposal_of row) ≡ proposal_of row
+row_value rows own k row e h is = ap (λ (rs : List Proposal). get_or rs k (proposal_of row)) (sym e) ∙ get_or-map proposal_of rows k row (proposal_of row) h ∙ ap proposal_of (sym is)
+
+pub value_is : (c : Content) (rows : List Row) (k : ℕ) (row : Row) → map proposal_of rows ≡ own_rows c → k < length rows → row ≡ get_or rows k row → k ≡ chosen_of c - 1 → row.value ≡ value_of c
+value_is c rows k row e h is at =
+    let long = ap length e in
+    let count = length-map rows proposal_of in
+    let there : get_or (map (λ (r : Proposal). r.value) (own_rows c)) k (pos 0) ≡ (get_or (own_rows c) k (proposal_of row)).value =
+    get_or-map (λ (r : Proposal). r.value) (own_rows c) k (proposal_of row) (pos 0) (omega (arith, long, count, h)) in
+    sym (ap (λ (n : ℕ). int_at (map (λ (r : Proposal). r.value) (own_rows c)) n) (sym at) ∙ there ∙ ap (λ (r : Proposal). r.value) (row_value rows (own_rows c) k row e h is))
+
+-- the value of the chosen row, and the cost above it, are far from the limits of 128 bits
+pub record IsChosenRow (c : Content) (row : Row) : Type 0 where
+  pub value_is : row.value ≡ value_of c
+  pub value_fits : FitsSigned w128 row.value
+  pub gap_fits : FitsSigned w128 (c.setup.cost -ℤ row.value)
+
+pub chosen_row : (c : Content) (rows : List Row) (row : Row) → IsSetup c.setup → IsLegalHistory c.setup c.events → has_finished c ≡ true → map proposal_of rows ≡ own_rows c →
+    row ≡ get_or rows (chosen_of c - 1) row → IsChosenRow c row
+chosen_row c rows row setup legal finished e is =
+    let m = c.setup.market in
+    let k = chosen_of c - 1 in
+    let long = ap length e in
+    let count = length-map rows proposal_of in
+    let one = one_is_chosen c setup.some_budget setup.some_ahead finished in
+    let first = one.first in
+    let last = one.last in
+    let inside : k < length rows = omega (arith, long, count, first, last) in
+    let right = (rows_fit c.setup c.events setup.some_ahead legal).each k (proposal_of row) (omega (arith, long, count, inside)) in
+    let dual : IsDualValue m (prices_of row.prices) row.value = subst (λ (r : Proposal). IsDualValue m r.prices r.value) (row_value rows (own_rows c) k row e inside is) right.value in
+    let value = value_within m (prices_of row.prices) row.value setup.market row.prices.valid dual in
+    let costs = subst (IsWithin 43100000000000000000000) (sym setup.cost) (plan_cost_within m c.setup.plan setup.market setup.feasible) in
+    let a = costs.at_least in
+    let b = costs.at_most in
+    let d = value.at_least in
+    let f = value.at_most in
+    record {
+      value_is = value_is c rows k row e inside is refl;
+      value_fits = fits_within w128 44000000000000000000000 row.value value (omega arith);
+      gap_fits = fits_within w128 100000000000000000000000 (c.setup.cost -ℤ row.value) (record { at_least = omega (arith, ints, a, f); at_most = omega (arith, ints, b, d) }) (omega arith);
+    }
+
+-- the same of what the program reads of it
+pub record IsTold (c : Content) (cost : ℤ) (row : Row) : Type 0 where
+  pub value : to_z w128 (of_z w128 row.value) ≡ value_of c
+  pub gap_fits : FitsSigned w128 (to_z w128 (of_z w128 cost) -ℤ to_z w128 (of_z w128 row.value))
+  pub gap : to_z w128 (of_z w128 (to_z w128 (of_z w128 cost) -ℤ to_z w128 (of_z w128 row.value))) ≡ c.setup.cost -ℤ value_of c
+
+pub choice_told : (c : Content) (rows : List Row) (row : Row) (chosen : ℕ) (cost : ℤ) → IsSetup c.setup → IsLegalHistory c.setup c.events → has_finished c ≡ true → map proposal_of rows ≡ own_rows c →
+    chosen ≡ chosen_of c → row ≡ get_or rows (chosen - 1) row → cost ≡ c.setup.cost → FitsSigned w128 cost → IsTold c cost (get_or rows (chosen - 1) row)
+choice_told c rows row chosen cost setup legal finished e at is same fits =
+    let there = chosen_row c rows row setup legal finished e (is ∙ ap (λ (n : ℕ). get_or rows (n - 1) row) at) in
+    let a = to_z-of_z w128 cost fits in
+    let b = to_z-of_z w128 row.value there.value_fits in
+    let gap_is : to_z w128 (of_z w128 cost) -ℤ to_z w128 (of_z w128 row.value) ≡ c.setup.cost -ℤ row.value = λ i. (a ∙ same) i -ℤ b i in
+    let gap_fits = subst (FitsSigned w128) (sym gap_is) there.gap_fits in
+    let told : IsTold c cost row = record {
+      value = b ∙ there.value_is;
+      gap_fits = gap_fits;
+      gap = to_z-of_z w128 (to_z w128 (of_z w128 cost) -ℤ to_z w128 (of_z w128 row.value)) gap_fits ∙ gap_is ∙ ap (λ (z : ℤ). c.setup.cost -ℤ z) there.value_is;
+    } in
+    subst (IsTold c cost) is told

@@ -1,0 +1,34 @@
+use Rattle.std.proofs.Common.{arith, ap, length, ◌+◌}
+use Rattle.hull_io.proofs.GrownLemmas.{gains_at_item, exit_at_item}
+use Rattle.hull_report.specs.ReportText.{bid_text}
+use Rattle.hull_report.specs.RecordReport.{line_of, lines_from, bid_names}
+use Rattle.hull_report.proofs.RecordLines.{bid_stands, bid_lines}
+use Rattle.hull_report.proofs.RecordTexts.{all_items}
+use Rattle.hull_report.proofs.record.write_bid_lines.Goals as goal
+
+pub returns-in_err-write_bid-clause-text : goal.returns-in_err-write_bid-clause-text
+returns-in_err-write_bid-clause-text g c =
+    let m = c.args.closed.now.setup.market in
+    let lines = lines_from (line_of c.args.closed.now c.args.settlement.now c.args.proposal) (length m.thermal + length m.flat) (bid_names m) in
+    let at = bid_stands c.args.closed.now c.args.settlement.now c.args.proposal c.case-case.result.now c.case-case.ensures c.loop-place.place (c.len.result + c.len-2.result + c.loop-place.place) c.as_str.result.now _ (c.take_line-owed.ensures.line c.as_str.result.now)
+    c.as_slice-named-items.result.now c.named-item.result c.as_slice-named-items.ensures (omega arith) c.named-item.is c.as_str.ensures (omega arith) in
+    exit_at_item bid_text lines c.loop-place.place _ _ c.from_residual.ensures.0 at.inside at.is c.in_err-write_bid.ensures.err c.loop-place.invariant.gained
+
+pub loop-place-preserved : goal.loop-place-preserved
+loop-place-preserved g c =
+    let m = c.args.closed.now.setup.market in
+    let lines = lines_from (line_of c.args.closed.now c.args.settlement.now c.args.proposal) (length m.thermal + length m.flat) (bid_names m) in
+    let at = bid_stands c.args.closed.now c.args.settlement.now c.args.proposal c.case-case.result.now c.case-case.ensures c.loop-place.place (c.len.result + c.len-2.result + c.loop-place.place) c.as_str.result.now _ (c.take_line-owed.ensures.line c.as_str.result.now)
+    c.as_slice-named-items.result.now c.named-item.result c.as_slice-named-items.ensures (omega arith) c.named-item.is c.as_str.ensures (omega arith) in
+    record {
+      gained = gains_at_item bid_text lines c.loop-place.place _ at.inside at.is c.in_ok-write_bid.ensures.ok c.loop-place.invariant.gained;
+      horizon = c.take_line-owed.ensures.horizon;
+    }
+
+pub returns-clause-text : goal.returns-clause-text
+returns-clause-text g c =
+    let m = c.args.closed.now.setup.market in
+    let items = ap length c.as_slice-named-items.ensures in
+    let line = line_of c.args.closed.now c.args.settlement.now c.args.proposal in
+    all_items bid_text (lines_from line (length m.thermal + length m.flat) (bid_names m)) c.loop-place.place
+    (bid_lines line c.case-case.result.now m (length m.thermal + length m.flat) c.loop-place.place c.case-case.ensures (omega (arith, items))) c.loop-place.invariant.gained

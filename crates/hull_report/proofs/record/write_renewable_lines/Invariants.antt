@@ -1,0 +1,14 @@
+use Rattle.std.proofs.Common.{◌≡◌, length, take}
+use Rattle.std.specs.List.{flat_map}
+use Rattle.hull_io.specs.Edge.{Gains}
+use Rattle.uc_model.specs.PlainUnits.{schedule_of}
+use Rattle.hull_report.specs.ReportText.{renewable_text}
+use Rattle.hull_report.specs.RecordReport.{line_of, lines_from, renewable_names}
+use Rattle.hull_report.proofs.record.write_renewable_lines.Given as goal
+
+-- the lines before were gained, and the buffer is over the periods of the case
+abbrev pub invariant-loop-place : goal.invariant-loop-place
+invariant-loop-place g l = record {
+  gained : Gains g.S.Sink.held g.S.Sink.faults l.fn.out l.out (flat_map renewable_text (take l.place (lines_from (line_of l.closed l.settlement l.proposal) (length l.closed.setup.market.thermal) (renewable_names l.closed.setup.market))));
+  horizon : length (schedule_of l.buffer.response).on ≡ l.closed.setup.market.periods;
+}

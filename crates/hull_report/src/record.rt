@@ -1,0 +1,273 @@
+//! The texts of a record: the report that `hull price` prints, and the lines of `hull try`.
+ghost use Rattle.std.specs.Prelude.{◌≡◌, ℕ, ◌+◌, ◌<◌, ◌≤◌, ◌-ℤ◌, ◌++◌, true, List, length};
+ghost use Rattle.std.specs.List.{flat_map};
+ghost use Rattle.board_history.specs.Calls.{own_rows, has_finished};
+ghost use Rattle.hull_io.specs.Edge.{Writes};
+ghost use Rattle.uc_model.specs.Data.{unit_count};
+ghost use Rattle.uc_model.specs.PlainUnits.{schedule_of};
+ghost use Rattle.hull_report.specs.ReportText.{rows_text, head_text, chosen_text, thermal_text, renewable_text, bid_text, report_text};
+ghost use Rattle.hull_report.specs.RecordReport.{line_of, lines_from, thermal_names, renewable_names, bid_names, chosen_of, value_of, report_of, HasNumbers};
+ghost use Rattle.hull_report.specs.TryText.{try_text};
+
+use crate::parts::{Part, write_parts};
+use crate::report::{
+    Head, Owed, write_bid, write_chosen, write_foot, write_head, write_renewable, write_rows,
+    write_thermal,
+};
+use board_core::Closed;
+use hull_io::{Sink, WriteFailed};
+use uc_model::units::Answered;
+use uplift_settle::Settlement;
+
+// How many rows there are, the number from 1 of the chosen one, its value, and what the plan costs above it.
+#[derive(Clone, Copy)]
+struct Choice {
+    proposals: u32,
+    chosen: u32,
+    value: i128,
+    gap: i128,
+}
+
+// What the record of a finished board chooses.
+fn choice_of(closed: &Closed) -> Choice
+    requires { has_finished closed.now ≡ true }
+    ensures proposals { result.proposals ≡ length (own_rows closed.now) }
+    ensures chosen { result.chosen ≡ chosen_of closed.now }
+    ensures first { 1 ≤ result.chosen }
+    ensures last { result.chosen ≤ length (own_rows closed.now) }
+    ensures value { result.value ≡ value_of closed.now }
+    ensures gap { result.gap ≡ closed.now.setup.cost -ℤ value_of closed.now }
+{
+    closed.is_legal();
+    let rows = closed.rows();
+    let chosen = closed.chosen();
+    let value = rows[chosen as usize - 1].value;
+    Choice {
+        proposals: rows.len() as u32,
+        chosen,
+        value,
+        gap: closed.cost() - value,
+    }
+}
+
+// The numbers of the first lines.
+fn head_of(closed: &Closed, proposals: u32) -> Head
+    ensures periods { result.periods ≡ closed.now.setup.market.periods }
+    ensures units { result.units ≡ unit_count closed.now.setup.market }
+    ensures budget { result.budget ≡ closed.now.setup.budget }
+    ensures ahead { result.ahead ≡ closed.now.setup.ahead }
+    ensures cost { result.cost ≡ closed.now.setup.cost }
+    ensures proposals { result.proposals ≡ proposals }
+{
+    let case = closed.case();
+    let units = case.thermal.len() + case.flat.len() + case.bids.len();
+    Head {
+        periods: case.periods,
+        units: units as u32,
+        budget: closed.budget(),
+        ahead: closed.ahead(),
+        cost: closed.cost(),
+        proposals,
+    }
+}
+
+// Writes the lines up to the chosen value.
+fn write_proposals<S: Sink>(closed: &Closed, choice: Choice, out: &mut S) -> Result<(), WriteFailed>
+    requires { choice.proposals ≡ length (own_rows closed.now) }
+    ensures { Writes S.held S.faults S.last out.old out.new result (
+        head_text closed.now.setup.market.periods (unit_count closed.now.setup.market) closed.now.setup.budget closed.now.setup.ahead closed.now.setup.cost choice.proposals
+        ++ rows_text 1 (own_rows closed.now)
+        ++ chosen_text choice.chosen choice.value
+        ) }
+{
+    closed.is_legal();
+    let head = head_of(closed, choice.proposals);
+    write_head(&head, out)?;
+    write_rows(closed.rows(), out)?;
+    write_chosen(choice.chosen, choice.value, out)
+}
+
+// Leaves a unit's response to a proposal in the buffer, and gives what it is owed.
+fn take_line(
+    closed: &Closed,
+    settlement: &Settlement,
+    proposal: u32,
+    number: u32,
+    buffer: &mut Answered,
+) -> Owed
+    requires numbers { HasNumbers closed.now settlement.now proposal }
+    requires number { number < unit_count closed.now.setup.market }
+    requires horizon { length (schedule_of buffer.old.response).on ≡ closed.now.setup.market.periods }
+    ensures line { (name : List ℕ) → record {
+      name = name;
+      earned = result.earned;
+      scheduled = result.scheduled;
+      payment = result.payment;
+      response = schedule_of buffer.new.response;
+    } ≡ line_of closed.now settlement.now proposal number name }
+    ensures horizon { length (schedule_of buffer.new.response).on ≡ closed.now.setup.market.periods }
+{
+    closed.answer_into(proposal, number, buffer);
+    Owed {
+        earned: buffer.earned,
+        scheduled: *settlement.scheduled.get(number as usize),
+        payment: *settlement.payments.get(number as usize),
+    }
+}
+
+// Writes the lines of the thermal units.
+fn write_thermal_lines<S: Sink>(
+    closed: &Closed,
+    settlement: &Settlement,
+    proposal: u32,
+    buffer: &mut Answered,
+    out: &mut S,
+) -> Result<(), WriteFailed>
+    requires numbers { HasNumbers closed.now settlement.now proposal }
+    requires horizon { length (schedule_of buffer.old.response).on ≡ closed.now.setup.market.periods }
+    ensures text { Writes S.held S.faults S.last out.old out.new result (flat_map thermal_text (lines_from (line_of closed.now settlement.now proposal) 0 (thermal_names closed.now.setup.market))) }
+    ensures horizon { length (schedule_of buffer.new.response).on ≡ closed.now.setup.market.periods }
+{
+    let case = closed.case();
+    for (place, named) in case.thermal.as_slice().iter().enumerate() {
+        let owed = take_line(closed, settlement, proposal, place as u32, buffer);
+        write_thermal(named.name.as_str(), &owed, &buffer.response, out)?;
+    }
+    Ok(())
+}
+
+// Writes the lines of the renewable units.
+fn write_renewable_lines<S: Sink>(
+    closed: &Closed,
+    settlement: &Settlement,
+    proposal: u32,
+    buffer: &mut Answered,
+    out: &mut S,
+) -> Result<(), WriteFailed>
+    requires numbers { HasNumbers closed.now settlement.now proposal }
+    requires horizon { length (schedule_of buffer.old.response).on ≡ closed.now.setup.market.periods }
+    ensures text { Writes S.held S.faults S.last out.old out.new result (flat_map renewable_text (lines_from (line_of closed.now settlement.now proposal) (length closed.now.setup.market.thermal) (renewable_names closed.now.setup.market))) }
+    ensures horizon { length (schedule_of buffer.new.response).on ≡ closed.now.setup.market.periods }
+{
+    let case = closed.case();
+    let first = case.thermal.len();
+    for (place, named) in case.flat.as_slice().iter().enumerate() {
+        let owed = take_line(closed, settlement, proposal, (first + place) as u32, buffer);
+        write_renewable(named.name.as_str(), &owed, &buffer.response, out)?;
+    }
+    Ok(())
+}
+
+// Writes the lines of the bids.
+fn write_bid_lines<S: Sink>(
+    closed: &Closed,
+    settlement: &Settlement,
+    proposal: u32,
+    buffer: &mut Answered,
+    out: &mut S,
+) -> Result<(), WriteFailed>
+    requires numbers { HasNumbers closed.now settlement.now proposal }
+    requires horizon { length (schedule_of buffer.old.response).on ≡ closed.now.setup.market.periods }
+    ensures text { Writes S.held S.faults S.last out.old out.new result (flat_map bid_text (lines_from (line_of closed.now settlement.now proposal) (length closed.now.setup.market.thermal + length closed.now.setup.market.flat) (bid_names closed.now.setup.market))) }
+    ensures horizon { length (schedule_of buffer.new.response).on ≡ closed.now.setup.market.periods }
+{
+    let case = closed.case();
+    let first = case.thermal.len() + case.flat.len();
+    for (place, named) in case.bids.as_slice().iter().enumerate() {
+        let owed = take_line(closed, settlement, proposal, (first + place) as u32, buffer);
+        write_bid(named.name.as_str(), &owed, &buffer.response, out)?;
+    }
+    Ok(())
+}
+
+// Writes the lines of all units and bids, in the order of their numbers.
+fn write_unit_lines<S: Sink>(
+    closed: &Closed,
+    settlement: &Settlement,
+    proposal: u32,
+    buffer: &mut Answered,
+    out: &mut S,
+) -> Result<(), WriteFailed>
+    requires numbers { HasNumbers closed.now settlement.now proposal }
+    requires horizon { length (schedule_of buffer.old.response).on ≡ closed.now.setup.market.periods }
+    ensures text { Writes S.held S.faults S.last out.old out.new result (
+        flat_map thermal_text (lines_from (line_of closed.now settlement.now proposal) 0 (thermal_names closed.now.setup.market))
+        ++ flat_map renewable_text (lines_from (line_of closed.now settlement.now proposal) (length closed.now.setup.market.thermal) (renewable_names closed.now.setup.market))
+        ++ flat_map bid_text (lines_from (line_of closed.now settlement.now proposal) (length closed.now.setup.market.thermal + length closed.now.setup.market.flat) (bid_names closed.now.setup.market))
+        ) }
+    ensures horizon { length (schedule_of buffer.new.response).on ≡ closed.now.setup.market.periods }
+{
+    write_thermal_lines(closed, settlement, proposal, buffer, out)?;
+    write_renewable_lines(closed, settlement, proposal, buffer, out)?;
+    write_bid_lines(closed, settlement, proposal, buffer, out)
+}
+
+/// Writes the report of a finished record with its settlement: every proposal, the chosen one, and for each unit and bid
+/// its response at the chosen prices, what that earns, what its schedule in the plan earns, and its payment. The lists of
+/// the settlement have one number for each unit and bid; the buffer is over the periods of the case, and holds the last
+/// response at the end. Refused only where the sink's count of faults rose, and then the sink gained a front of the text.
+pub fn write_report<S: Sink>(
+    closed: &Closed,
+    settlement: &Settlement,
+    buffer: &mut Answered,
+    out: &mut S,
+) -> Result<(), WriteFailed>
+    requires finished { has_finished closed.now ≡ true }
+    requires scheduled { length settlement.now.scheduled.items ≡ unit_count closed.now.setup.market }
+    requires payments { length settlement.now.payments.items ≡ unit_count closed.now.setup.market }
+    requires horizon { length (schedule_of buffer.old.response).on ≡ closed.now.setup.market.periods }
+    ensures text { Writes S.held S.faults S.last out.old out.new result (report_text (report_of closed.now settlement.now)) }
+    ensures horizon { length (schedule_of buffer.new.response).on ≡ closed.now.setup.market.periods }
+{
+    let choice = choice_of(closed);
+    write_proposals(closed, choice, out)?;
+    write_unit_lines(closed, settlement, choice.chosen, buffer, out)?;
+    write_foot(settlement.surplus, settlement.total, choice.gap, out)
+}
+
+/// Writes the lines of `hull try` for the case that `number` generates: what the report of its finished record tells
+/// beside rows and units. Refused only where the sink's count of faults rose, and then the sink gained a front of the
+/// text.
+pub fn write_try<S: Sink>(
+    number: u64,
+    closed: &Closed,
+    settlement: &Settlement,
+    out: &mut S,
+) -> Result<(), WriteFailed>
+    requires finished { has_finished closed.now ≡ true }
+    ensures { Writes S.held S.faults S.last out.old out.new result (try_text number (report_of closed.now settlement.now)) }
+{
+    let case = closed.case();
+    let thermal = case.thermal.len();
+    let flat = case.flat.len();
+    let cost = closed.cost();
+    let choice = choice_of(closed);
+    write_parts(
+        out,
+        &[
+            Part::Text(b"hull-try 1\nnumber "),
+            Part::Count(number),
+            Part::Text(b"\nperiods "),
+            Part::Count(case.periods as u64),
+            Part::Text(b" thermal "),
+            Part::Count(thermal as u64),
+            Part::Text(b" renewable "),
+            Part::Count(flat as u64),
+            Part::Text(b"\nproposals "),
+            Part::Count(choice.proposals as u64),
+            Part::Text(b"\nchosen "),
+            Part::Count(choice.chosen as u64),
+            Part::Text(b" value "),
+            Part::Amount(choice.value),
+            Part::Text(b"\ncost "),
+            Part::Amount(cost),
+            Part::Text(b"\npayments "),
+            Part::Amount(settlement.total),
+            Part::Text(b"\nsurplus "),
+            Part::Amount(settlement.surplus),
+            Part::Text(b"\ngap "),
+            Part::Amount(choice.gap),
+            Part::Text(b"\n"),
+        ],
+    )
+}

@@ -1,0 +1,5 @@
+mod BoundLaws
+mod FrameLaws
+mod ListLaws
+mod ReadLaws
+mod WalkLaws

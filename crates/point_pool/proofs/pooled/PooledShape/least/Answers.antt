@@ -1,0 +1,18 @@
+use Rattle.std.proofs.Common.{rules, ◌≡◌, to_z, of_z}
+use Rattle.std.specs.Prelude.{FitsSigned}
+use Rattle.std.specs.Int.{w64}
+use Rattle.std.proofs.lemmas.Int.{to_z-of_z}
+use Rattle.point_pool.specs.Seen.{knots_of}
+use Rattle.point_pool.proofs.ReadLaws.{length-knots, IsLeast-turn}
+use Rattle.point_pool.proofs.pooled.PooledShape.least.Goals as goal
+
+pub returns : goal.returns
+returns c =
+    let home = c.args.home.now in
+    let s = c.args.self.now in
+    let q = c.lowest-lowest.result in
+    let fits-value : FitsSigned w64 q.value = search rules in
+    let fits-at : FitsSigned w64 q.at = search rules in
+    let e-value : to_z w64 (of_z w64 q.value) ≡ q.value = to_z-of_z w64 _ fits-value in
+    let e-at : to_z w64 (of_z w64 q.at) ≡ q.at = to_z-of_z w64 _ fits-at in
+    rw (e-value, e-at) (IsLeast-turn (knots_of home s) s.count (length-knots home.slots.items s.head s.count) c.requires.breaks q c.lowest-lowest.ensures)

@@ -1,0 +1,5 @@
+pub mod Breaks
+pub mod CellLaws
+pub mod Cells
+pub mod Seen
+pub mod Walk

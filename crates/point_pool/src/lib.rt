@@ -1,0 +1,9 @@
+//! Shapes that keep their breakpoints in the cells of a pool, whose memory is taken when it is made.
+#![tactic(auto)]
+
+pub mod law;
+pub mod pool;
+pub mod pooled;
+mod read;
+pub mod slot;
+mod steps;

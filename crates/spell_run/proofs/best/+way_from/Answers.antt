@@ -1,0 +1,255 @@
+use Rattle.std.proofs.Common.{rules, ◌≡◌, ℕ, suc, ◌+◌, ◌-◌, ◌*◌, ◌<◌, ◌≤◌, length, Option, Some, None, IfOk, IfSome, MatchOption, ℤ, sym, subst, arith}
+use Rattle.std.proofs.lemmas.Option.{MatchOption-at_some}
+use Rattle.std.proofs.lemmas.Result.{IfOk-weaker}
+use Rattle.shape_law.specs.Table.{Table}
+use Rattle.uc_model.specs.PlainUnits.{thermal_of, prices_of, schedule_of}
+use Rattle.spell_run.specs.declared.best.Found.{Found}
+use Rattle.spell_run.specs.Entries.{IsOnFromTo}
+use Rattle.spell_run.specs.Frontier.{IsFrontier, IsChosen, IsUnreached, IsWayFrom}
+use Rattle.spell_run.specs.Spells.{spell_first, HasNoDispatch, IsSpellWithin}
+use Rattle.spell_run.specs.Steps.{IsSmall}
+use Rattle.spell_run.proofs.EntryLaws.{first_from}
+use Rattle.spell_run.proofs.FairLaws.{cost_is}
+use Rattle.spell_run.proofs.FrameLaws.{then, stays, kept}
+use Rattle.spell_run.proofs.FrontierLaws.{small_frontier}
+use Rattle.spell_run.proofs.PeriodLaws.{both_ok, on_chosen, on_more, found_range, frontier_next, onward_next, way_chosen, none_chosen}
+use Rattle.spell_run.proofs.SizeLaws.{never_both, next_fits, one_fits, rest_room, rest_enough}
+use Rattle.spell_run.proofs.best.+way_from.Goals as goal
+
+pub stepped-requires-clause-curve : goal.stepped-requires-clause-curve
+stepped-requires-clause-curve g t c =
+    let until = c.requires.until in
+    let end = c.requires.spell.end in
+    cost_is (thermal_of c.args.unit.now) (prices_of c.args.prices.now) c.args.place _ _ c.step_in-step.result c.step_in-step.ensures.step c.args.unit.now.valid c.args.prices.now.valid (omega (arith, until, end)) c.args.curve.now c.requires.curve
+
+pub stepped-requires-clause-small : goal.stepped-requires-clause-small
+stepped-requires-clause-small g t c =
+    let horizon = c.args.prices.now.valid.horizon.at_most in
+    let until = c.requires.until in
+    let end = c.requires.spell.end in
+    small_frontier (thermal_of c.args.unit.now) (prices_of c.args.prices.now) (spell_first c.args.spell.now.started c.args.spell.now.first) c.args.place _ (omega (arith, horizon, until, end)) c.requires.frontier
+
+pub returns-in_err-after-clause-frame : goal.returns-in_err-after-clause-frame
+returns-in_err-after-clause-frame g t c =
+    kept g.S.Home.Cells.cell_list g.S.Shape.is_in g.S.Shape.numbers g.S.Shape.function g.met.S.Shape.same_cells g.met.S.Shape.owns c.args.home.now c.stepped.new.home c.args.before.now c.in_err-after.ensures.err_frame c.requires.here
+
+pub way_from-found-requires : goal.way_from-found-requires
+way_from-found-requires g t c =
+    let unit = thermal_of c.args.unit.now in
+    let prices = prices_of c.args.prices.now in
+    let first = spell_first c.args.spell.now.started c.args.spell.now.first in
+    let last = c.args.spell.now.last in
+    let until = c.requires.until in
+    let end = c.requires.spell.end in
+    let within : c.args.place < length c.args.prices.now.energy.items = omega (arith, until, end) in
+    let from = first_from c.args.spell.now.started c.args.spell.now.first c.args.place c.requires.from in
+    let before = g.S.Shape.function c.args.home.now c.args.before.now in
+    let after = g.S.Shape.function c.stepped.new.home c.in_ok-after.after in
+    let step = c.step_in-step.result in
+    let below : suc c.args.place < last = omega arith in
+    let next : suc c.args.place ≡ c.args.place + 1 = omega arith in
+    let front = subst (λ (t : ℕ). IsFrontier unit prices first t after) next (frontier_next unit prices first c.args.place last c.args.curve.now c.args.unit.now.valid c.args.prices.now.valid c.requires.curve within from step c.step_in-step.ensures.step before after c.requires.frontier c.in_ok-after.ensures.ok below) in
+    search rules
+
+pub returns-in_err-found-clause-here : goal.returns-in_err-found-clause-here
+returns-in_err-found-clause-here g t c =
+    let join = then g.S.Home.Cells.cell_list g.S.Shape.is_in g.S.Shape.numbers g.S.Shape.function g.met.S.Shape.same_cells g.met.S.Shape.owns in
+    let frame = join _ _ _ _ _ _ c.in_ok-after.ensures.frame (join _ _ _ _ _ _ c.way_from-found.ensures.frame c.give_back.ensures.frame) in
+    let same = stays g.S.Home.Cells.cell_list g.S.Shape.is_in g.S.Shape.numbers g.S.Shape.function g.met.S.Shape.same_cells g.met.S.Shape.owns c.args.home.now c.give_back.new.home c.args.before.now frame c.requires.here in
+    same.here
+
+pub returns-in_err-found-clause-frame : goal.returns-in_err-found-clause-frame
+returns-in_err-found-clause-frame g t c =
+    let join = then g.S.Home.Cells.cell_list g.S.Shape.is_in g.S.Shape.numbers g.S.Shape.function g.met.S.Shape.same_cells g.met.S.Shape.owns in
+    let frame = join _ _ _ _ _ _ c.in_ok-after.ensures.frame (join _ _ _ _ _ _ c.way_from-found.ensures.frame c.give_back.ensures.frame) in
+    kept g.S.Home.Cells.cell_list g.S.Shape.is_in g.S.Shape.numbers g.S.Shape.function g.met.S.Shape.same_cells g.met.S.Shape.owns c.args.home.now c.give_back.new.home c.args.before.now frame c.requires.here
+
+pub choose-requires-clause-here : goal.choose-requires-clause-here
+choose-requires-clause-here g t c =
+    let join = then g.S.Home.Cells.cell_list g.S.Shape.is_in g.S.Shape.numbers g.S.Shape.function g.met.S.Shape.same_cells g.met.S.Shape.owns in
+    let frame = join _ _ _ _ _ _ c.in_ok-after.ensures.frame (join _ _ _ _ _ _ c.way_from-found.ensures.frame c.give_back.ensures.frame) in
+    let same = stays g.S.Home.Cells.cell_list g.S.Shape.is_in g.S.Shape.numbers g.S.Shape.function g.met.S.Shape.same_cells g.met.S.Shape.owns c.args.home.now c.give_back.new.home c.args.before.now frame c.requires.here in
+    same.here
+
+pub choose-requires-clause-small : goal.choose-requires-clause-small
+choose-requires-clause-small g t c =
+    let join = then g.S.Home.Cells.cell_list g.S.Shape.is_in g.S.Shape.numbers g.S.Shape.function g.met.S.Shape.same_cells g.met.S.Shape.owns in
+    let frame = join _ _ _ _ _ _ c.in_ok-after.ensures.frame (join _ _ _ _ _ _ c.way_from-found.ensures.frame c.give_back.ensures.frame) in
+    let same = stays g.S.Home.Cells.cell_list g.S.Shape.is_in g.S.Shape.numbers g.S.Shape.function g.met.S.Shape.same_cells g.met.S.Shape.owns c.args.home.now c.give_back.new.home c.args.before.now frame c.requires.here in
+    let horizon = c.args.prices.now.valid.horizon.at_most in
+    let until = c.requires.until in
+    let end = c.requires.spell.end in
+    let small = small_frontier (thermal_of c.args.unit.now) (prices_of c.args.prices.now) (spell_first c.args.spell.now.started c.args.spell.now.first) c.args.place _ (omega (arith, horizon, until, end)) c.requires.frontier in
+    subst (λ (f : Table). IsSmall f) (sym same.function_same) small
+
+pub choose-requires-clause-found : goal.choose-requires-clause-found
+choose-requires-clause-found g t c =
+    let unit = thermal_of c.args.unit.now in
+    let prices = prices_of c.args.prices.now in
+    let first = spell_first c.args.spell.now.started c.args.spell.now.first in
+    let last = c.args.spell.now.last in
+    let until = c.requires.until in
+    let end = c.requires.spell.end in
+    let within : c.args.place < length c.args.prices.now.energy.items = omega (arith, until, end) in
+    let from = first_from c.args.spell.now.started c.args.spell.now.first c.args.place c.requires.from in
+    let before = g.S.Shape.function c.args.home.now c.args.before.now in
+    let after = g.S.Shape.function c.stepped.new.home c.in_ok-after.after in
+    let step = c.step_in-step.result in
+    let below : suc c.args.place < last = omega arith in
+    let d = schedule_of c.way_from-found.new.into.response in
+    let next : c.args.place + 1 ≡ suc c.args.place = omega arith in
+    let told = MatchOption-at_some (HasNoDispatch unit (length prices.energy) first last) (λ (found : Found). IsWayFrom unit prices first (c.args.place + 1) last after d found.power found.cost) c.in-Some.found c.in-Some.is c.in_ok-found.ensures.way in
+    let x = c.in-Some.found.power in
+    let cost = c.in-Some.found.cost in
+    let way = subst (λ (t : ℕ). IsWayFrom unit prices first t last after d x cost) next told in
+    found_range unit prices first c.args.place last c.args.curve.now c.args.unit.now.valid c.args.prices.now.valid c.requires.curve within from step c.step_in-step.ensures.step before after c.requires.frontier c.in_ok-after.ensures.ok x way.before way.there
+
+pub returns-in-Some-clause-way : goal.returns-in-Some-clause-way
+returns-in-Some-clause-way g t c =
+    let unit = thermal_of c.args.unit.now in
+    let prices = prices_of c.args.prices.now in
+    let first = spell_first c.args.spell.now.started c.args.spell.now.first in
+    let last = c.args.spell.now.last in
+    let until = c.requires.until in
+    let end = c.requires.spell.end in
+    let within : c.args.place < length c.args.prices.now.energy.items = omega (arith, until, end) in
+    let from = first_from c.args.spell.now.started c.args.spell.now.first c.args.place c.requires.from in
+    let before = g.S.Shape.function c.args.home.now c.args.before.now in
+    let after = g.S.Shape.function c.stepped.new.home c.in_ok-after.after in
+    let step = c.step_in-step.result in
+    let below : suc c.args.place < last = omega arith in
+    let join = then g.S.Home.Cells.cell_list g.S.Shape.is_in g.S.Shape.numbers g.S.Shape.function g.met.S.Shape.same_cells g.met.S.Shape.owns in
+    let frame = join _ _ _ _ _ _ c.in_ok-after.ensures.frame (join _ _ _ _ _ _ c.way_from-found.ensures.frame c.give_back.ensures.frame) in
+    let same = stays g.S.Home.Cells.cell_list g.S.Shape.is_in g.S.Shape.numbers g.S.Shape.function g.met.S.Shape.same_cells g.met.S.Shape.owns c.args.home.now c.give_back.new.home c.args.before.now frame c.requires.here in
+    let d = schedule_of c.way_from-found.new.into.response in
+    let next : c.args.place + 1 ≡ suc c.args.place = omega arith in
+    let told = MatchOption-at_some (HasNoDispatch unit (length prices.energy) first last) (λ (found : Found). IsWayFrom unit prices first (c.args.place + 1) last after d found.power found.cost) c.in-Some.found c.in-Some.is c.in_ok-found.ensures.way in
+    let x = c.in-Some.found.power in
+    let cost = c.in-Some.found.cost in
+    let way = subst (λ (t : ℕ). IsWayFrom unit prices first t last after d x cost) next told in
+    let d' = schedule_of c.choose.new.into.response in
+    let P : Table → Option Found → Type 0 = λ f best. MatchOption best (IsUnreached step f x) (λ (chosen : Found). IsChosen step f c.args.place x chosen.power d d') in
+    let chosen = subst (λ (f : Table). IfOk c.choose.result (P f)) same.function_same c.choose.ensures.chosen in
+    let onward = onward_next unit prices first c.args.place last c.args.curve.now c.args.unit.now.valid c.args.prices.now.valid c.requires.curve within from step c.step_in-step.ensures.step before after c.requires.frontier c.in_ok-after.ensures.ok below d x cost way in
+    let low : suc c.args.place ≤ last = until in
+    both_ok c.choose.result (P before) (λ (best : Option Found). IfSome best (λ (found : Found). found.cost ≡ cost))
+    (λ (best : Option Found). MatchOption best (HasNoDispatch unit (length prices.energy) first last) (λ (found : Found). IsWayFrom unit prices first c.args.place last before d' found.power found.cost))
+    (λ best p q. way_chosen unit prices first c.args.place last c.args.curve.now c.args.unit.now.valid c.args.prices.now.valid c.requires.curve within from step c.step_in-step.ensures.step before after c.requires.frontier c.in_ok-after.ensures.ok low d d' x cost onward best p q)
+    chosen c.choose.ensures.cost
+
+pub returns-in-Some-clause-on : goal.returns-in-Some-clause-on
+returns-in-Some-clause-on g t c =
+    let unit = thermal_of c.args.unit.now in
+    let prices = prices_of c.args.prices.now in
+    let first = spell_first c.args.spell.now.started c.args.spell.now.first in
+    let last = c.args.spell.now.last in
+    let until = c.requires.until in
+    let end = c.requires.spell.end in
+    let within : c.args.place < length c.args.prices.now.energy.items = omega (arith, until, end) in
+    let from = first_from c.args.spell.now.started c.args.spell.now.first c.args.place c.requires.from in
+    let before = g.S.Shape.function c.args.home.now c.args.before.now in
+    let after = g.S.Shape.function c.stepped.new.home c.in_ok-after.after in
+    let step = c.step_in-step.result in
+    let below : suc c.args.place < last = omega arith in
+    let join = then g.S.Home.Cells.cell_list g.S.Shape.is_in g.S.Shape.numbers g.S.Shape.function g.met.S.Shape.same_cells g.met.S.Shape.owns in
+    let frame = join _ _ _ _ _ _ c.in_ok-after.ensures.frame (join _ _ _ _ _ _ c.way_from-found.ensures.frame c.give_back.ensures.frame) in
+    let same = stays g.S.Home.Cells.cell_list g.S.Shape.is_in g.S.Shape.numbers g.S.Shape.function g.met.S.Shape.same_cells g.met.S.Shape.owns c.args.home.now c.give_back.new.home c.args.before.now frame c.requires.here in
+    let d = schedule_of c.way_from-found.new.into.response in
+    let next : c.args.place + 1 ≡ suc c.args.place = omega arith in
+    let told = MatchOption-at_some (HasNoDispatch unit (length prices.energy) first last) (λ (found : Found). IsWayFrom unit prices first (c.args.place + 1) last after d found.power found.cost) c.in-Some.found c.in-Some.is c.in_ok-found.ensures.way in
+    let x = c.in-Some.found.power in
+    let cost = c.in-Some.found.cost in
+    let way = subst (λ (t : ℕ). IsWayFrom unit prices first t last after d x cost) next told in
+    let d' = schedule_of c.choose.new.into.response in
+    let P : Table → Option Found → Type 0 = λ f best. MatchOption best (IsUnreached step f x) (λ (chosen : Found). IsChosen step f c.args.place x chosen.power d d') in
+    let chosen = subst (λ (f : Table). IfOk c.choose.result (P f)) same.function_same c.choose.ensures.chosen in
+    let later = MatchOption-at_some (Unit {0}) (λ (found : Found). IsOnFromTo (suc (c.args.place + 1)) last d) c.in-Some.found c.in-Some.is c.in_ok-found.ensures.on in
+    let on = subst (λ (t : ℕ). IsOnFromTo (suc t) last d) next later in
+    IfOk-weaker c.choose.result (P before) (λ (best : Option Found). IfSome best (λ (found : Found). IsOnFromTo (suc c.args.place) last d'))
+    (λ best p. on_chosen (IsUnreached step before x) (λ (chosen : Found). IsChosen step before c.args.place x chosen.power d d') (IsOnFromTo (suc c.args.place) last d') best p (λ found h. on_more c.args.place last x _ d d' h.written on))
+    chosen
+
+pub returns-in-Some-clause-none : goal.returns-in-Some-clause-none
+returns-in-Some-clause-none g t c =
+    let unit = thermal_of c.args.unit.now in
+    let prices = prices_of c.args.prices.now in
+    let first = spell_first c.args.spell.now.started c.args.spell.now.first in
+    let last = c.args.spell.now.last in
+    let until = c.requires.until in
+    let end = c.requires.spell.end in
+    let within : c.args.place < length c.args.prices.now.energy.items = omega (arith, until, end) in
+    let from = first_from c.args.spell.now.started c.args.spell.now.first c.args.place c.requires.from in
+    let before = g.S.Shape.function c.args.home.now c.args.before.now in
+    let after = g.S.Shape.function c.stepped.new.home c.in_ok-after.after in
+    let step = c.step_in-step.result in
+    let below : suc c.args.place < last = omega arith in
+    let join = then g.S.Home.Cells.cell_list g.S.Shape.is_in g.S.Shape.numbers g.S.Shape.function g.met.S.Shape.same_cells g.met.S.Shape.owns in
+    let frame = join _ _ _ _ _ _ c.in_ok-after.ensures.frame (join _ _ _ _ _ _ c.way_from-found.ensures.frame c.give_back.ensures.frame) in
+    let same = stays g.S.Home.Cells.cell_list g.S.Shape.is_in g.S.Shape.numbers g.S.Shape.function g.met.S.Shape.same_cells g.met.S.Shape.owns c.args.home.now c.give_back.new.home c.args.before.now frame c.requires.here in
+    let d = schedule_of c.way_from-found.new.into.response in
+    let next : c.args.place + 1 ≡ suc c.args.place = omega arith in
+    let told = MatchOption-at_some (HasNoDispatch unit (length prices.energy) first last) (λ (found : Found). IsWayFrom unit prices first (c.args.place + 1) last after d found.power found.cost) c.in-Some.found c.in-Some.is c.in_ok-found.ensures.way in
+    let x = c.in-Some.found.power in
+    let cost = c.in-Some.found.cost in
+    let way = subst (λ (t : ℕ). IsWayFrom unit prices first t last after d x cost) next told in
+    let d' = schedule_of c.choose.new.into.response in
+    let P : Table → Option Found → Type 0 = λ f best. MatchOption best (IsUnreached step f x) (λ (chosen : Found). IsChosen step f c.args.place x chosen.power d d') in
+    let chosen = subst (λ (f : Table). IfOk c.choose.result (P f)) same.function_same c.choose.ensures.chosen in
+    let onward = onward_next unit prices first c.args.place last c.args.curve.now c.args.unit.now.valid c.args.prices.now.valid c.requires.curve within from step c.step_in-step.ensures.step before after c.requires.frontier c.in_ok-after.ensures.ok below d x cost way in
+    let low : suc c.args.place ≤ last = until in
+    let old = schedule_of c.args.into.now.response in
+    IfOk-weaker c.choose.result (P before) (λ (best : Option Found). best ≡ None → d' ≡ old)
+    (λ best p e. none_chosen unit prices first c.args.place last c.args.curve.now c.args.unit.now.valid c.args.prices.now.valid c.requires.curve within from step c.step_in-step.ensures.step before after c.requires.frontier c.in_ok-after.ensures.ok low d d' x cost onward best (d' ≡ old) p e)
+    chosen
+
+pub returns-in-Some-clause-frame : goal.returns-in-Some-clause-frame
+returns-in-Some-clause-frame g t c =
+    let join = then g.S.Home.Cells.cell_list g.S.Shape.is_in g.S.Shape.numbers g.S.Shape.function g.met.S.Shape.same_cells g.met.S.Shape.owns in
+    let frame = join _ _ _ _ _ _ c.in_ok-after.ensures.frame (join _ _ _ _ _ _ c.way_from-found.ensures.frame c.give_back.ensures.frame) in
+    let rest = kept g.S.Home.Cells.cell_list g.S.Shape.is_in g.S.Shape.numbers g.S.Shape.function g.met.S.Shape.same_cells g.met.S.Shape.owns c.args.home.now c.give_back.new.home c.args.before.now frame c.requires.here in
+    join _ _ _ _ _ _ rest c.choose.ensures.frame
+
+pub returns-in-None-clause-here : goal.returns-in-None-clause-here
+returns-in-None-clause-here g t c =
+    let join = then g.S.Home.Cells.cell_list g.S.Shape.is_in g.S.Shape.numbers g.S.Shape.function g.met.S.Shape.same_cells g.met.S.Shape.owns in
+    let frame = join _ _ _ _ _ _ c.in_ok-after.ensures.frame (join _ _ _ _ _ _ c.way_from-found.ensures.frame c.give_back.ensures.frame) in
+    let same = stays g.S.Home.Cells.cell_list g.S.Shape.is_in g.S.Shape.numbers g.S.Shape.function g.met.S.Shape.same_cells g.met.S.Shape.owns c.args.home.now c.give_back.new.home c.args.before.now frame c.requires.here in
+    same.here
+
+pub returns-in-None-clause-frame : goal.returns-in-None-clause-frame
+returns-in-None-clause-frame g t c =
+    let join = then g.S.Home.Cells.cell_list g.S.Shape.is_in g.S.Shape.numbers g.S.Shape.function g.met.S.Shape.same_cells g.met.S.Shape.owns in
+    let frame = join _ _ _ _ _ _ c.in_ok-after.ensures.frame (join _ _ _ _ _ _ c.way_from-found.ensures.frame c.give_back.ensures.frame) in
+    kept g.S.Home.Cells.cell_list g.S.Shape.is_in g.S.Shape.numbers g.S.Shape.function g.met.S.Shape.same_cells g.met.S.Shape.owns c.args.home.now c.give_back.new.home c.args.before.now frame c.requires.here
+
+pub returns-then-place-spell-clause-sure : goal.returns-then-place-spell-clause-sure
+returns-then-place-spell-clause-sure g t c = λ most counts room enough.
+    let until = c.requires.until in
+    let left : 1 ≤ c.args.spell.now.last - c.args.place = omega (arith, until) in
+    c.last_period.ensures.sure counts (next_fits (c.args.spell.now.last - c.args.place) (length c.args.curve.now.blocks.items + 5) most (g.S.Shape.cells c.args.before.now) 0 (g.S.Home.Cells.sure c.args.home.now) 0 left room enough)
+
+pub returns-in_err-after-clause-sure : goal.returns-in_err-after-clause-sure
+returns-in_err-after-clause-sure g t c = λ most counts room enough.
+    let until = c.requires.until in
+    let left : 1 ≤ c.args.spell.now.last - c.args.place = omega (arith, until) in
+    absurd (never_both c.stepped.result _ c.in_err-after.was (c.stepped.ensures.sure counts (next_fits (c.args.spell.now.last - c.args.place) (length c.args.curve.now.blocks.items + 5) most (g.S.Shape.cells c.args.before.now) 0 (g.S.Home.Cells.sure c.args.home.now) 0 left room enough)))
+
+pub returns-in_err-found-clause-sure : goal.returns-in_err-found-clause-sure
+returns-in_err-found-clause-sure g t c = λ most counts room enough.
+    let until = c.requires.until in
+    let left : 1 ≤ c.args.spell.now.last - c.args.place = omega (arith, until) in
+    let taken = c.in_ok-after.ensures.balance counts in
+    let next : (c.args.spell.now.last - c.args.place) - 1 ≡ c.args.spell.now.last - (c.args.place + 1) = omega arith in
+    let room' = subst (λ (n : ℕ). g.S.Shape.cells c.in_ok-after.after + n * (length c.args.curve.now.blocks.items + 5) ≤ most) next (rest_room (c.args.spell.now.last - c.args.place) (length c.args.curve.now.blocks.items + 5) most (g.S.Shape.cells c.args.before.now) (g.S.Shape.cells c.in_ok-after.after) (g.S.Home.Cells.sure c.args.home.now) (g.S.Home.Cells.sure c.stepped.new.home) left room enough taken.0 taken.1) in
+    let enough' = subst (λ (n : ℕ). n * most ≤ g.S.Home.Cells.sure c.stepped.new.home) next (rest_enough (c.args.spell.now.last - c.args.place) (length c.args.curve.now.blocks.items + 5) most (g.S.Shape.cells c.args.before.now) (g.S.Shape.cells c.in_ok-after.after) (g.S.Home.Cells.sure c.args.home.now) (g.S.Home.Cells.sure c.stepped.new.home) left room enough taken.0 taken.1) in
+    absurd (never_both c.way_from-found.result _ c.in_err-found.was (c.way_from-found.ensures.sure most counts room' enough'))
+
+pub returns-in-Some-clause-sure : goal.returns-in-Some-clause-sure
+returns-in-Some-clause-sure g t c = λ most counts room enough.
+    let until = c.requires.until in
+    let left : 1 ≤ c.args.spell.now.last - c.args.place = omega (arith, until) in
+    let one = one_fits (c.args.spell.now.last - c.args.place) (length c.args.curve.now.blocks.items + 5) most (g.S.Shape.cells c.args.before.now) 0 (g.S.Home.Cells.sure c.args.home.now) 0 left room enough (omega arith) in
+    let taken = (c.in_ok-after.ensures.balance counts).1 in
+    let kept_sum = c.way_from-found.ensures.balance counts in
+    let back = c.give_back.ensures.balance counts in
+    c.choose.ensures.sure counts (omega (arith, one, taken, kept_sum, back))

@@ -1,0 +1,83 @@
+use Rattle.std.proofs.Common.{◌≡◌, ℕ, suc, ◌+◌, ◌-◌, ◌*◌, ◌≤◌, arith, length, Option, Some, MatchOption, ℤ, sym, subst, rules, w64, FitsSigned}
+use Rattle.std.proofs.lemmas.Int.{to_z-of_z}
+use Rattle.std.proofs.lemmas.Option.{MatchOption-at_some}
+use Rattle.uc_model.specs.PlainUnits.{thermal_of, prices_of, schedule_of}
+use Rattle.spell_run.specs.declared.best.Found.{Found}
+use Rattle.spell_run.specs.Frontier.{IsWayFrom}
+use Rattle.spell_run.specs.Spells.{spell_first, HasNoDispatch, IsBestDispatch, IsFirstDispatch}
+use Rattle.spell_run.proofs.FrameLaws.{then}
+use Rattle.spell_run.proofs.FrontierLaws.{frontier_begin}
+use Rattle.spell_run.proofs.SizeLaws.{never_both, charge_of, costs_fit, way_most, way_fits}
+use Rattle.spell_run.proofs.TieLaws.{whole_of}
+use Rattle.spell_run.proofs.best.spell_best.Goals as goal
+
+pub way_from-found-requires-clause-frontier : goal.way_from-found-requires-clause-frontier
+way_from-found-requires-clause-frontier g c =
+    frontier_begin (thermal_of c.args.unit.now) (prices_of c.args.prices.now) (length c.args.prices.now.energy.items) c.args.spell.now.first c.args.spell.now.started _ c.args.unit.now.valid c.requires.spell.start c.in_ok-start.ensures.ok
+
+pub returns-in_err-found-clause-frame : goal.returns-in_err-found-clause-frame
+returns-in_err-found-clause-frame g c =
+    let join = then g.S.Home.Cells.cell_list g.S.Shape.is_in g.S.Shape.numbers g.S.Shape.function g.met.S.Shape.same_cells g.met.S.Shape.owns in
+    join _ _ _ _ _ _ c.in_ok-start.ensures.frame (join _ _ _ _ _ _ c.way_from-found.ensures.frame c.give_back.ensures.frame)
+
+pub returns-in-Some-clause-least : goal.returns-in-Some-clause-least
+returns-in-Some-clause-least g c =
+    let unit = thermal_of c.args.unit.now in
+    let prices = prices_of c.args.prices.now in
+    let spell = c.args.spell.now in
+    let before = g.S.Shape.function c.beginning.new.home c.in_ok-start.start in
+    let d = schedule_of c.way_from-found.new.into.response in
+    let first = spell_first spell.started spell.first in
+    let way = MatchOption-at_some (HasNoDispatch unit (length prices.energy) first spell.last) (λ (found : Found). IsWayFrom unit prices first (spell.first - 1) spell.last before d found.power found.cost) c.in-Some.found c.in-Some.is c.in_ok-found.ensures.way in
+    let fits : FitsSigned w64 c.in-Some.found.cost = search rules in
+    subst (λ (z : ℤ). IsBestDispatch unit prices (length prices.energy) first spell.last d z) (sym (to_z-of_z w64 c.in-Some.found.cost fits))
+    (whole_of unit prices spell.first spell.last before d c.in-Some.found.power c.in-Some.found.cost c.args.unit.now.valid c.args.prices.now.valid c.requires.spell.end spell.started c.requires.spell.start c.in_ok-start.ensures.ok way).0
+
+pub returns-in-Some-clause-first : goal.returns-in-Some-clause-first
+returns-in-Some-clause-first g c =
+    let unit = thermal_of c.args.unit.now in
+    let prices = prices_of c.args.prices.now in
+    let spell = c.args.spell.now in
+    let before = g.S.Shape.function c.beginning.new.home c.in_ok-start.start in
+    let d = schedule_of c.way_from-found.new.into.response in
+    let first = spell_first spell.started spell.first in
+    let way = MatchOption-at_some (HasNoDispatch unit (length prices.energy) first spell.last) (λ (found : Found). IsWayFrom unit prices first (spell.first - 1) spell.last before d found.power found.cost) c.in-Some.found c.in-Some.is c.in_ok-found.ensures.way in
+    let fits : FitsSigned w64 c.in-Some.found.cost = search rules in
+    subst (λ (z : ℤ). IsFirstDispatch unit prices (length prices.energy) first spell.last d z) (sym (to_z-of_z w64 c.in-Some.found.cost fits))
+    (whole_of unit prices spell.first spell.last before d c.in-Some.found.power c.in-Some.found.cost c.args.unit.now.valid c.args.prices.now.valid c.requires.spell.end spell.started c.requires.spell.start c.in_ok-start.ensures.ok way).1
+
+pub returns-in-Some-clause-frame : goal.returns-in-Some-clause-frame
+returns-in-Some-clause-frame g c =
+    let join = then g.S.Home.Cells.cell_list g.S.Shape.is_in g.S.Shape.numbers g.S.Shape.function g.met.S.Shape.same_cells g.met.S.Shape.owns in
+    join _ _ _ _ _ _ c.in_ok-start.ensures.frame (join _ _ _ _ _ _ c.way_from-found.ensures.frame c.give_back.ensures.frame)
+
+pub returns-in-None-clause-frame : goal.returns-in-None-clause-frame
+returns-in-None-clause-frame g c =
+    let join = then g.S.Home.Cells.cell_list g.S.Shape.is_in g.S.Shape.numbers g.S.Shape.function g.met.S.Shape.same_cells g.met.S.Shape.owns in
+    join _ _ _ _ _ _ c.in_ok-start.ensures.frame (join _ _ _ _ _ _ c.way_from-found.ensures.frame c.give_back.ensures.frame)
+
+pub returns-in_err-start-clause-enough : goal.returns-in_err-start-clause-enough
+returns-in_err-start-clause-enough g c = λ counts enough.
+    let start = c.requires.spell.start.from_one in
+    let within = c.requires.spell.start.within in
+    let some : 1 ≤ length c.args.prices.now.energy.items = omega (arith, start, within) in
+    let charge = charge_of (length c.args.curve.now.blocks.items) (length c.args.unit.now.points.items) c.args.unit.now.valid.some_point c.requires.curve.count in
+    let fit = costs_fit (length c.args.prices.now.energy.items) (length c.args.unit.now.points.items) (length c.args.curve.now.blocks.items + 5) some charge in
+    absurd (never_both c.beginning.result _ c.in_err-start.was (c.beginning.ensures.sure counts (omega (arith, enough, fit))))
+
+pub returns-in_err-found-clause-enough : goal.returns-in_err-found-clause-enough
+returns-in_err-found-clause-enough g c = λ counts enough.
+    let start = c.requires.spell.start.from_one in
+    let within = c.requires.spell.start.within in
+    let some : 1 ≤ length c.args.prices.now.energy.items = omega (arith, start, within) in
+    let charge = charge_of (length c.args.curve.now.blocks.items) (length c.args.unit.now.points.items) c.args.unit.now.valid.some_point c.requires.curve.count in
+    let last = c.requires.spell.end in
+    let left = c.args.spell.now.last - (c.args.spell.now.first - 1) in
+    let few : left ≤ length c.args.prices.now.energy.items = omega (arith, last) in
+    let each = length c.args.curve.now.blocks.items + 5 in
+    let begun = c.in_ok-start.ensures.balance counts in
+    let one = begun.0 in
+    let sum = begun.1 in
+    let most = way_most (length c.args.prices.now.energy.items) (length c.args.unit.now.points.items) each some charge left few in
+    let fit = way_fits (length c.args.prices.now.energy.items) (length c.args.unit.now.points.items) each some charge left few in
+    absurd (never_both c.way_from-found.result _ c.in_err-found.was (c.way_from-found.ensures.sure (1 + length c.args.prices.now.energy.items * each) counts (omega (arith, one, most)) (omega (arith, enough, fit, sum))))
