@@ -1,7 +1,7 @@
 -- The numbers of a choice as they are stored, and that they stay within limits.
-use Rattle.std.proofs.Common.{◌≡◌, ℕ, ℤ, pos, neg_ℤ, nat_abs, ◌+ℤ◌, ◌-ℤ◌, ◌≤ℤ◌, ◌<ℤ◌, Option, Some, sym, ap, ◌∙◌, subst, arith, w64, FitsSigned, to_z, of_z}
+use Rattle.std.proofs.Common.{◌≡◌, ℕ, ℤ, pos, nat_abs, ◌+ℤ◌, ◌-ℤ◌, ◌≤ℤ◌, ◌<ℤ◌, Some, sym, ap, ◌∙◌, subst, arith, w64, FitsSigned, to_z, of_z}
 use Rattle.std.specs.Int.{int_min}
-use Rattle.std.proofs.lemmas.Int.{ints, clamps, to_z-of_z}
+use Rattle.std.proofs.lemmas.Int.{ints, to_z-of_z}
 use Rattle.shape_law.specs.Curve.{reserve_term}
 use Rattle.shape_law.specs.Effect.{IsLeastIn}
 use Rattle.shape_law.specs.Table.{Table, value_of, HasNone}
@@ -11,7 +11,7 @@ use Rattle.uc_model.specs.Limits.{IsFrom, IsOutput}
 use Rattle.uc_model.proofs.SignedLaws.{IsWithin, fits_within}
 use Rattle.spell_run.specs.declared.step.Step.{Step}
 use Rattle.spell_run.specs.Frontier.{IsWritten, IsChosen}
-use Rattle.spell_run.specs.Laws.{most_reserve, best_reserve}
+use Rattle.spell_run.specs.Laws.{best_reserve}
 use Rattle.spell_run.specs.Steps.{IsFairStep, IsKinked, IsSmall}
 use Rattle.spell_run.proofs.ReserveLaws.{best_where_paid, best_may}
 
@@ -44,35 +44,35 @@ module _ (s : Step) (fair : IsFairStep s) (p : ℤ) (p_out : IsOutput p) where
     under_stored =
         ap (λ (x : ℤ). stored (x -ℤ stored p)) cap_stored ∙ ap (λ (x : ℤ). stored (s.cap -ℤ x)) p_stored
         ∙ stored_within (s.cap -ℤ p) (
-          let a = fair.cap.at_least in
-          let b = fair.cap.at_most in
-          let c = p_out.at_least in
-          let d = p_out.at_most in
-          record { at_least = omega (arith, ints, a, d); at_most = omega (arith, ints, b, c) }
+        let a = fair.cap.at_least in
+        let b = fair.cap.at_most in
+        let c = p_out.at_least in
+        let d = p_out.at_most in
+        record { at_least = omega (arith, ints, a, d); at_most = omega (arith, ints, b, c) }
         )
 
     ahead_stored : stored (stored s.ramp_up +ℤ stored q) ≡ s.ramp_up +ℤ q
     ahead_stored =
         ap (λ (x : ℤ). stored (x +ℤ stored q)) up_stored ∙ ap (λ (x : ℤ). stored (s.ramp_up +ℤ x)) q_stored
         ∙ stored_within (s.ramp_up +ℤ q) (
-          let a = fair.ramp_up.at_least in
-          let b = fair.ramp_up.at_most in
-          let c = q_out.at_least in
-          let d = q_out.at_most in
-          record { at_least = omega (arith, ints, a, c); at_most = omega (arith, ints, b, d) }
+        let a = fair.ramp_up.at_least in
+        let b = fair.ramp_up.at_most in
+        let c = q_out.at_least in
+        let d = q_out.at_most in
+        record { at_least = omega (arith, ints, a, c); at_most = omega (arith, ints, b, d) }
         )
 
     rise_stored : stored (stored (stored s.ramp_up +ℤ stored q) -ℤ stored p) ≡ (s.ramp_up +ℤ q) -ℤ p
     rise_stored =
         ap (λ (x : ℤ). stored (x -ℤ stored p)) ahead_stored ∙ ap (λ (x : ℤ). stored ((s.ramp_up +ℤ q) -ℤ x)) p_stored
         ∙ stored_within ((s.ramp_up +ℤ q) -ℤ p) (
-          let a = fair.ramp_up.at_least in
-          let b = fair.ramp_up.at_most in
-          let c = q_out.at_least in
-          let d = q_out.at_most in
-          let e = p_out.at_least in
-          let f = p_out.at_most in
-          record { at_least = omega (arith, ints, a, c, f); at_most = omega (arith, ints, b, d, e) }
+        let a = fair.ramp_up.at_least in
+        let b = fair.ramp_up.at_most in
+        let c = q_out.at_least in
+        let d = q_out.at_most in
+        let e = p_out.at_least in
+        let f = p_out.at_most in
+        record { at_least = omega (arith, ints, a, c, f); at_most = omega (arith, ints, b, d, e) }
         )
 
     pub reserve_is : (result : ℤ) → FitsSigned w64 result → pos 0 <ℤ s.reserve_price →
@@ -96,22 +96,22 @@ module _ (s : Step) (fair : IsFairStep s) (p : ℤ) (p_out : IsOutput p) where
   low_stored =
       ap (λ (x : ℤ). stored (x -ℤ stored s.ramp_up)) p_stored ∙ ap (λ (x : ℤ). stored (p -ℤ x)) up_stored
       ∙ stored_within (p -ℤ s.ramp_up) (
-        let a = fair.ramp_up.at_least in
-        let b = fair.ramp_up.at_most in
-        let c = p_out.at_least in
-        let d = p_out.at_most in
-        record { at_least = omega (arith, ints, b, c); at_most = omega (arith, ints, a, d) }
+      let a = fair.ramp_up.at_least in
+      let b = fair.ramp_up.at_most in
+      let c = p_out.at_least in
+      let d = p_out.at_most in
+      record { at_least = omega (arith, ints, b, c); at_most = omega (arith, ints, a, d) }
       )
 
   high_stored : stored (stored p +ℤ stored s.ramp_down) ≡ p +ℤ s.ramp_down
   high_stored =
       ap (λ (x : ℤ). stored (x +ℤ stored s.ramp_down)) p_stored ∙ ap (λ (x : ℤ). stored (p +ℤ x)) down_stored
       ∙ stored_within (p +ℤ s.ramp_down) (
-        let a = fair.ramp_down.at_least in
-        let b = fair.ramp_down.at_most in
-        let c = p_out.at_least in
-        let d = p_out.at_most in
-        record { at_least = omega (arith, ints, a, c); at_most = omega (arith, ints, b, d) }
+      let a = fair.ramp_down.at_least in
+      let b = fair.ramp_down.at_most in
+      let c = p_out.at_least in
+      let d = p_out.at_most in
+      record { at_least = omega (arith, ints, a, c); at_most = omega (arith, ints, b, d) }
       )
 
   pub least_stored : (f : Table) (v y : ℤ) → IsLeastIn (stored (stored p -ℤ stored s.ramp_up)) (stored (stored p +ℤ stored s.ramp_down)) f v y → IsLeastIn (p -ℤ s.ramp_up) (p +ℤ s.ramp_down) f v y

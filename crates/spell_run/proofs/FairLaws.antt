@@ -1,5 +1,5 @@
 -- The numbers of a unit's step are within limits, and the curve of its points is a cost of the step.
-use Rattle.std.proofs.Common.{◌≡◌, ℕ, suc, ◌-◌, ◌<◌, ◌≤◌, ◌⊎◌, inl, inr, ℤ, pos, neg_ℤ, ◌+ℤ◌, ◌-ℤ◌, ◌≤ℤ◌, Bool, true, false, cond, List, length, get_or, Option, Some, IsSome, refl, sym, ap, ◌∙◌, subst, arith, w64, FitsSigned, to_z, of_z}
+use Rattle.std.proofs.Common.{◌≡◌, ℕ, suc, ◌-◌, ◌<◌, ◌⊎◌, inl, inr, ℤ, pos, neg_ℤ, ◌+ℤ◌, ◌-ℤ◌, ◌≤ℤ◌, Bool, true, false, cond, List, length, Option, Some, IsSome, refl, sym, ap, ◌∙◌, subst, arith, w64, FitsSigned, to_z, of_z}
 use Rattle.std.specs.Prelude.{slice_get}
 use Rattle.std.specs.Int.{int_min}
 use Rattle.std.proofs.lemmas.Int.{ints, clamps, to_z-of_z}
@@ -7,7 +7,7 @@ use Rattle.cost_curve.specs.CostCurve.{IsCostCurve, AreCostPoints, EnvelopeIsCos
 use Rattle.cost_curve.proofs.EnvelopeValues.{envelope_is_cost}
 use Rattle.shape_law.specs.Curve.{curve_value, end_of, IsLimitedCurve}
 use Rattle.shape_law.specs.Effect.{IsSame}
-use Rattle.shape_law.specs.Table.{Table, value_of, IsPlace, IsAmount}
+use Rattle.shape_law.specs.Table.{Table, IsPlace, IsAmount}
 use Rattle.shape_law.proofs.ConvexLaws.{same_some}
 use Rattle.shape_law.proofs.EffectLaws.{IsSum-from_same}
 use Rattle.shape_law.proofs.TableLaws.{slice_get_some}

@@ -1,6 +1,6 @@
 -- A step on a function of the power is one period of a spell: each new value is an old one and a move, and no move is
 -- cheaper.
-use Rattle.std.proofs.Common.{◌≡◌, ℕ, suc, ◌+◌, ◌<◌, ◌≤◌, ℤ, pos, neg_ℤ, ◌+ℤ◌, ◌-ℤ◌, ◌*ℤ◌, ◌≤ℤ◌, Bool, true, false, cond, Option, Some, None, length, refl, sym, ap, ◌∙◌, subst, arith}
+use Rattle.std.proofs.Common.{◌≡◌, ℕ, ℤ, pos, neg_ℤ, ◌+ℤ◌, ◌-ℤ◌, ◌*ℤ◌, ◌≤ℤ◌, Bool, true, false, Some, None, refl, ap, ◌∙◌, subst, arith}
 use Rattle.std.specs.Prelude.{IsTrue, MatchOption}
 use Rattle.std.specs.Option.{option_map}
 use Rattle.std.specs.Int.{int_min}
@@ -8,17 +8,15 @@ use Rattle.std.proofs.lemmas.Int.{ints, clamps}
 use Rattle.std.proofs.Math.IntN.{*ℤ_comm}
 use Rattle.cost_curve.specs.CostCurve.{IsCostCurve, AreCostPoints, EnvelopeIsCost}
 use Rattle.shape_law.specs.Curve.{curve_value, reserve_term}
-use Rattle.shape_law.specs.Effect.{IsSum, IsWindow}
 use Rattle.shape_law.specs.Table.{Table, value_of}
 use Rattle.shape_law.proofs.ConvexLaws.{added, same_some}
 use Rattle.shape_law.proofs.CurveLaws.{raised_by}
 use Rattle.uc_model.specs.declared.units.Curve.{Curve}
 use Rattle.uc_model.specs.Data.{ThermalUnit, PriceLists}
 use Rattle.uc_model.specs.Envelope.{envelope}
-use Rattle.uc_model.specs.Limits.{IsFrom, IsThermalUnit, IsCost, Spans}
-use Rattle.uc_model.specs.Schedules.{cap_of}
+use Rattle.uc_model.specs.Limits.{IsFrom, IsThermalUnit, Spans}
 use Rattle.uc_model.specs.Sums.{int_at}
-use Rattle.uc_model.proofs.IntLaws.{mul-sub, mul-mono_of}
+use Rattle.uc_model.proofs.IntLaws.{mul-sub}
 use Rattle.uc_model.proofs.SignedLaws.{IsWithin, product_within}
 use Rattle.spell_run.specs.Laws.{most_reserve, best_reserve, IsReserve}
 use Rattle.spell_run.specs.Spells.{net_cost_at}

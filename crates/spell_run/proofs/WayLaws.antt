@@ -1,11 +1,10 @@
 -- The way back: the periods that are written make, with what comes before them, a dispatch of least cost, the first of
 -- those of that cost.
-use Rattle.std.proofs.Common.{◌≡◌, ℕ, zero, suc, ◌+◌, ◌-◌, ◌<◌, ◌≤◌, ◌⊎◌, inl, inr, ℤ, pos, ◌+ℤ◌, ◌-ℤ◌, ◌*ℤ◌, ◌≤ℤ◌, Bool, true, false, ◌&&◌, eqb, ltb, length, get_or, Some, refl, sym, ap, ◌∙◌, subst, arith}
-use Rattle.std.specs.Prelude.{IsTrue}
+use Rattle.std.proofs.Common.{◌≡◌, ℕ, zero, suc, ◌<◌, ◌≤◌, inl, inr, ℤ, pos, ◌+ℤ◌, ◌-ℤ◌, ◌≤ℤ◌, Bool, true, false, ◌&&◌, eqb, ltb, length, Some, refl, sym, ap, ◌∙◌, subst, arith}
 use Rattle.std.specs.Option.{option_map}
 use Rattle.std.proofs.lemmas.Int.{ints}
 use Rattle.std.proofs.lemmas.Bool.{cases_lt, eq-eqb, ne_eqb, and_right}
-use Rattle.cost_curve.specs.CostCurve.{IsCostCurve, EnvelopeIsCost}
+use Rattle.cost_curve.specs.CostCurve.{IsCostCurve}
 use Rattle.shape_law.specs.Curve.{reserve_term}
 use Rattle.shape_law.specs.Effect.{IsLeast}
 use Rattle.shape_law.specs.Table.{Table, value_of}
@@ -19,10 +18,9 @@ use Rattle.spell_run.specs.Frontier.{IsFrontier, IsChosen, stops_at, HasSamePowe
 use Rattle.spell_run.specs.Laws.{best_reserve, IsReserve}
 use Rattle.spell_run.specs.Spells.{IsDispatch, net_cost_at, net_cost, spell_cost}
 use Rattle.spell_run.specs.Steps.{cap_at, step_at, IsMove, level, IsRun, IsStepped}
-use Rattle.spell_run.proofs.FrontierLaws.{frontier_more}
 use Rattle.spell_run.proofs.ReserveLaws.{best_may}
-use Rattle.spell_run.proofs.RunLaws.{level_power, move_same, run_more, cost_more, reserve_not_negative, MayEnd, move_parts, move_whole, dispatch_from_run, run_from_dispatch, end_from_dispatch}
-use Rattle.spell_run.proofs.StepLaws.{step_sound, step_complete, best_net, net_of_best, net_at_least}
+use Rattle.spell_run.proofs.RunLaws.{level_power, move_same, run_more, cost_more, reserve_not_negative, move_parts, move_whole, dispatch_from_run, run_from_dispatch, end_from_dispatch}
+use Rattle.spell_run.proofs.StepLaws.{step_sound, step_complete, net_of_best, net_at_least}
 
 -- ---- where a stop follows
 

@@ -1,5 +1,5 @@
 -- What is kept of spells: costs by last period, and a dispatch in the periods of an answer (this project's profile).
-use Rattle.std.specs.Prelude.{◌≡◌, ℕ, suc, ◌+◌, ◌-◌, ◌*◌, ◌<◌, ◌≤◌, ◌⊎◌, ℤ, Bool, true, false, IsTrue, IsFalse, nat_lt, List, length, slice_index, slice_index_or, Option, None}
+use Rattle.std.specs.Prelude.{◌≡◌, ℕ, suc, ◌+◌, ◌-◌, ◌*◌, ◌<◌, ◌≤◌, ◌⊎◌, ℤ, Bool, false, IsTrue, IsFalse, nat_lt, List, length, slice_index, slice_index_or, Option, None}
 use Rattle.uc_model.specs.Data.{ThermalUnit, Schedule}
 use Rattle.spell_run.specs.declared.spell.Spell.{Spell}
 

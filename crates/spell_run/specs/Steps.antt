@@ -1,6 +1,6 @@
 -- One period of a spell as a step from the power before it to its own power: the dispatch rules of pglib-uc, taken one
 -- period at a time and written in the power itself, not in the power above the least one.
-use Rattle.std.specs.Prelude.{◌≡◌, ℕ, zero, suc, ◌<◌, ◌≤◌, ◌==◌, nat_lt, ℤ, pos, neg_ℤ, ◌+ℤ◌, ◌-ℤ◌, ◌*ℤ◌, ◌≤ℤ◌, Bool, true, false, if◌then◌else◌, IsTrue, Option, Some, MatchOption}
+use Rattle.std.specs.Prelude.{◌≡◌, ℕ, suc, ◌≤◌, ◌==◌, nat_lt, ℤ, pos, neg_ℤ, ◌+ℤ◌, ◌-ℤ◌, ◌*ℤ◌, ◌≤ℤ◌, Bool, false, if◌then◌else◌, IsTrue, Option, Some, MatchOption}
 use Rattle.std.specs.Int.{int_min}
 use Rattle.shape_law.specs.Curve.{curve_value, reserve_term, IsLimitedCurve}
 use Rattle.shape_law.specs.Effect.{IsSum, IsCurveSum, IsWindow, IsLeast, IsLeastIn}

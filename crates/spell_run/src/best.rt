@@ -213,7 +213,16 @@ fn way_from<S: Shape>(
     }
     let step = step_in(unit, prices, spell, place);
     let mut after: S = stepped(home, before, step, curve)?;
-    let found = way_from(home, unit, curve, prices, spell, place + 1, &mut after, into);
+    let found = way_from(
+        home,
+        unit,
+        curve,
+        prices,
+        spell,
+        place + 1,
+        &mut after,
+        into,
+    );
     after.give_back(home);
     match found? {
         Some(found) => choose(home, before, step, place, found, into),

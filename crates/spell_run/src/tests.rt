@@ -1,5 +1,5 @@
 //! Worked spells, over both representations of convex functions.
-ghost use Rattle.std.specs.Prelude.{◌≤◌, ◌≡◌, length, replicate};
+ghost use Rattle.std.specs.Prelude.{◌≤◌, ◌≡◌, length, replicate, IfOk};
 ghost use Rattle.spell_run.specs.Entries.{IsSpellOf};
 ghost use Rattle.tiny_units.specs.Small.{small_unit_of};
 ghost use Rattle.uc_model.specs.declared.units.Mark.TheVariants.{Free};
@@ -82,6 +82,7 @@ fn answer_spell<S: Shape>(
     requires limit { length energy.now ≤ 168 }
     requires reserve { length reserve.now ≡ length energy.now }
     requires spell { IsSpellOf (small_unit_of numbers.now (replicate (length energy.now) Free)) (length energy.now) spell.now }
+    ensures { IfOk result (λ worked. length worked.costs.entries.items ≡ length energy.now) }
 {
     let window = Marks::filled(alloc, energy.len() as u32, Mark::Free)?;
     let unit = unit(alloc, numbers, window.as_slice())?;

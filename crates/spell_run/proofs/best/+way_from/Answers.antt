@@ -1,4 +1,4 @@
-use Rattle.std.proofs.Common.{rules, ◌≡◌, ℕ, suc, ◌+◌, ◌-◌, ◌*◌, ◌<◌, ◌≤◌, length, Option, Some, None, IfOk, IfSome, MatchOption, ℤ, sym, subst, arith}
+use Rattle.std.proofs.Common.{rules, ◌≡◌, ℕ, suc, ◌+◌, ◌-◌, ◌*◌, ◌<◌, ◌≤◌, length, Option, None, IfOk, IfSome, MatchOption, sym, subst, arith}
 use Rattle.std.proofs.lemmas.Option.{MatchOption-at_some}
 use Rattle.std.proofs.lemmas.Result.{IfOk-weaker}
 use Rattle.shape_law.specs.Table.{Table}
@@ -6,7 +6,7 @@ use Rattle.uc_model.specs.PlainUnits.{thermal_of, prices_of, schedule_of}
 use Rattle.spell_run.specs.declared.best.Found.{Found}
 use Rattle.spell_run.specs.Entries.{IsOnFromTo}
 use Rattle.spell_run.specs.Frontier.{IsFrontier, IsChosen, IsUnreached, IsWayFrom}
-use Rattle.spell_run.specs.Spells.{spell_first, HasNoDispatch, IsSpellWithin}
+use Rattle.spell_run.specs.Spells.{spell_first, HasNoDispatch}
 use Rattle.spell_run.specs.Steps.{IsSmall}
 use Rattle.spell_run.proofs.EntryLaws.{first_from}
 use Rattle.spell_run.proofs.FairLaws.{cost_is}

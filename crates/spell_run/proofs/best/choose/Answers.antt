@@ -1,9 +1,6 @@
-use Rattle.std.proofs.Common.{sym, subst, ℤ, arith}
+use Rattle.std.proofs.Common.{sym, subst, arith}
 use Rattle.std.proofs.lemmas.Int.{ints}
 use Rattle.uc_model.specs.Limits.{IsOutput}
-use Rattle.uc_model.specs.PlainUnits.{schedule_of}
-use Rattle.spell_run.specs.Frontier.{IsChosen}
-use Rattle.spell_run.specs.Laws.{best_reserve}
 use Rattle.spell_run.proofs.ChoiceLaws.{least_stored, none_stored, found_out, kinked_out, output_stored, chosen_stored}
 use Rattle.spell_run.proofs.best.choose.Goals as goal
 

@@ -1,11 +1,11 @@
-use Rattle.std.proofs.Common.{◌≡◌, ℕ, suc, ◌+◌, ◌<◌, ◌≤◌, eqb, length, Option, Some, None, IfOk, IfSome, MatchOption, ℤ, sym, subst, arith}
+use Rattle.std.proofs.Common.{◌≡◌, suc, ◌<◌, ◌≤◌, length, Option, None, IfOk, IfSome, MatchOption, ℤ, sym, subst, arith}
 use Rattle.std.proofs.lemmas.Option.{IfSome_then}
 use Rattle.std.proofs.lemmas.Result.{IfOk-weaker}
 use Rattle.shape_law.specs.Table.{Table}
 use Rattle.uc_model.specs.PlainUnits.{thermal_of, prices_of, schedule_of}
 use Rattle.spell_run.specs.declared.best.Found.{Found}
 use Rattle.spell_run.specs.Entries.{IsOnFromTo}
-use Rattle.spell_run.specs.Frontier.{IsChosen, IsUnreached, IsWayFrom, stops_at}
+use Rattle.spell_run.specs.Frontier.{IsChosen, IsUnreached, IsWayFrom}
 use Rattle.spell_run.specs.Spells.{spell_first, HasNoDispatch, IsSpellWithin}
 use Rattle.spell_run.specs.Steps.{IsSmall}
 use Rattle.spell_run.proofs.EntryLaws.{first_from}

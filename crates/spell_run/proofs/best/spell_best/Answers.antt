@@ -1,4 +1,4 @@
-use Rattle.std.proofs.Common.{◌≡◌, ℕ, suc, ◌+◌, ◌-◌, ◌*◌, ◌≤◌, arith, length, Option, Some, MatchOption, ℤ, sym, subst, rules, w64, FitsSigned}
+use Rattle.std.proofs.Common.{◌+◌, ◌-◌, ◌*◌, ◌≤◌, arith, length, ℤ, sym, subst, rules, w64, FitsSigned}
 use Rattle.std.proofs.lemmas.Int.{to_z-of_z}
 use Rattle.std.proofs.lemmas.Option.{MatchOption-at_some}
 use Rattle.uc_model.specs.PlainUnits.{thermal_of, prices_of, schedule_of}

@@ -1,4 +1,4 @@
-use Rattle.std.proofs.Common.{true, suc, Option, ℤ, ltb, length, sym, arith, IfSome, ◌<◌}
+use Rattle.std.proofs.Common.{true, suc, Option, ℤ, length, sym, arith, IfSome, ◌<◌}
 use Rattle.std.proofs.lemmas.Bool.{lt-ltb}
 use Rattle.std.proofs.lemmas.Result.{IfOk-weaker}
 use Rattle.cost_curve.proofs.EnvelopeValues.{envelope_is_cost}

@@ -1,5 +1,5 @@
 use Rattle.std.proofs.Common.{rules, arith, w64, FitsSigned}
-use Rattle.std.proofs.lemmas.Int.{ints, to_z-of_z}
+use Rattle.std.proofs.lemmas.Int.{to_z-of_z}
 use Rattle.std.proofs.lemmas.Result.{on_ok_weaker}
 use Rattle.spell_run.specs.Steps.{IsStepped}
 use Rattle.spell_run.proofs.BoundLaws.{can_line, can_curve}
