@@ -7,3 +7,5 @@ pub mod pooled;
 mod read;
 pub mod slot;
 mod steps;
+#[cfg(test)]
+mod tests;
