@@ -1,4 +1,4 @@
--- The best reserve for given powers. Each law is the clause of a public function.
+-- The best reserve for given powers (this project's profile). Each law is the clause of a public function.
 use Rattle.std.specs.Prelude.{◌≡◌, ℤ, pos, neg_ℤ, ◌+ℤ◌, ◌-ℤ◌, ◌*ℤ◌, ◌≤ℤ◌, ◌<ℤ◌, int_lt, if◌then◌else◌}
 use Rattle.std.specs.Int.{int_min}
 
