@@ -1,9 +1,9 @@
 -- At most one report is right, and its payments make up its gap.
-use Rattle.std.proofs.Common.{◌≡◌, ℕ, ◌+◌, ◌-◌, ◌<◌, ℤ, ◌-ℤ◌, List, [], ◌∷◌, ◌++◌, map, length, take, drop, get_or, slice_get, sym, ap, ◌∙◌, subst, arith, length-append}
+use Rattle.std.proofs.Common.{◌≡◌, ℕ, ◌-◌, ◌<◌, ℤ, ◌-ℤ◌, List, [], ◌∷◌, ◌++◌, map, length, take, drop, get_or, slice_get, refl, sym, ap, ◌∙◌, subst, arith, length-append}
 use Rattle.std.proofs.lemmas.List.{length-map, get_or-map, map-append, take_at, drop_at, same_lists}
 use Rattle.std.proofs.lemmas.Option.{same_Some, slice_get_within, get_or_from_slice_get}
 use Rattle.std.specs.List.{AllZip}
-use Rattle.uc_model.specs.Data.{NamedThermalUnit, NamedRenewableUnit, NamedBidUnit, PriceLists, Schedule, Market, units}
+use Rattle.uc_model.specs.Data.{PriceLists, Schedule, Market, units}
 use Rattle.uc_model.specs.Earnings.{IsTop}
 use Rattle.uc_model.specs.PriceRule.{Proposal, chosen_number}
 use Rattle.uc_model.specs.Runs.{Fits}

@@ -26,8 +26,6 @@ TextDeterminesReport = (a b : Report) → HasForm a → HasForm b → report_tex
 abbrev pub RightReportHasForm : Type 0
 RightReportHasForm = (m : Market) (plan : List Schedule) (budget ahead : ℕ) (r : Report) → IsRightReport m plan budget ahead r → HasForm r
 
--- ---- one answer
-
 -- at most one list of rows is a run
 abbrev pub OneRun : Type 0
 OneRun =
@@ -40,8 +38,8 @@ OneRightReport =
     (m : Market) (plan : List Schedule) (budget ahead : ℕ) (r other : Report) →
     IsRightReport m plan budget ahead r → IsRightReport m plan budget ahead other → r ≡ other
 
--- ---- the settlement identity (Gribik, Hogan and Pope 2007), as a right report of a feasible plan tells it: payments and
--- surplus make up what the chosen value lacks of the cost
+-- the settlement identity (Gribik, Hogan and Pope 2007) as a right report of a feasible plan tells it: payments and surplus
+-- make up what the chosen value lacks of the cost
 abbrev pub ReportPaymentsMakeUpTheGap : Type 0
 ReportPaymentsMakeUpTheGap =
     (m : Market) (plan : List Schedule) (budget ahead : ℕ) (r : Report) →

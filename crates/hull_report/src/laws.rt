@@ -18,18 +18,18 @@ pub fn record_report_is_right()
     ensures { RecordReportIsRight }
 {}
 
-/// At most one list of rows is the run of a case with that cost, budget and number of proposals ahead: each row follows
-/// from the rows before it, and where the rows end from the budget and the price rule.
+/// At most one list of rows is the run of a case with a given cost, budget and number of proposals ahead: each row follows
+/// from the rows before it, and the budget and the price rule say where they end.
 pub fn one_list_is_the_run()
     ensures { OneRun }
 {}
 
-/// At most one report of a case and a plan is right, for each budget and number of proposals ahead.
+/// At most one report of a case and a plan is right for a given budget and number of proposals ahead.
 pub fn one_report_is_right()
     ensures { OneRightReport }
 {}
 
-/// In a right report of a feasible plan the sum of the payments and the surplus are the cost less the chosen dual value.
+/// In a right report of a feasible plan the payments and the surplus sum to the cost less the chosen dual value.
 pub fn report_payments_make_up_the_gap()
     ensures { ReportPaymentsMakeUpTheGap }
 {}
