@@ -11,3 +11,5 @@ mod RecordTexts
 mod RecordLines
 mod WholeReports
 mod RightForm
+mod OneRun
+mod OneReport
