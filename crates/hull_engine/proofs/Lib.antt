@@ -1,8 +1,10 @@
+pub mod AloneLaws
 pub mod DueLaws
 pub mod EndLemmas
 pub mod OneDue
 pub mod PlanShapes
 pub mod RoundLaws
 pub mod SettleLaws
+pub mod TextLaws
 pub mod WordSizes
 pub mod WriteLaws

@@ -2,7 +2,9 @@ pub mod Due
 pub mod Sizes
 pub mod Ladder
 pub mod AnswerTexts
+pub mod Alone
 pub mod Inputs
 pub mod Ends
 pub mod Rounds
 pub mod Runs
+pub mod Laws

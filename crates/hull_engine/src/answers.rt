@@ -1,7 +1,8 @@
 //! What a command answers, once its input is accepted.
-ghost use Rattle.std.specs.Prelude.{◌≡◌, ◌≤◌, ℕ, List, IfOk, IfErr, IsSomeAnd};
+ghost use Rattle.std.specs.Prelude.{◌≡◌, ◌≤◌, ℕ, List, None, IfOk, IfErr, IsSomeAnd};
 ghost use Rattle.hull_io.specs.Edge.{Rose};
-ghost use Rattle.hull_words.specs.Words.{texts};
+ghost use Rattle.hull_words.specs.Words.{texts, words_of};
+ghost use Rattle.hull_engine.specs.Alone.{files_for, IsFor};
 ghost use Rattle.hull_engine.specs.Due.{IsAcceptedWith};
 ghost use Rattle.hull_engine.specs.Ladder.{words_due, IsDue};
 ghost use Rattle.hull_engine.specs.Ends.{IsAnswer, IfReadFails, name_at, IsReached};
@@ -79,6 +80,9 @@ pub fn answer_words<F: Shelf>(
     ensures failed { IfReadFails result (λ file. IsAcceptedWith (words_due (texts words.now)) (λ asked.
         IsSomeAnd (name_at asked file) (λ name. Rose F.last (F.faults shelf.old name) (F.faults shelf.new name)) × IsReached (F.told shelf.old) asked file)) }
     ensures later { (any : List ℕ) → F.faults shelf.old any ≤ F.faults shelf.new any }
+    ensures alone { IsFor (words_of (texts words.now)) answered_of result }
+    ensures told { F.told shelf.new ≡ F.told shelf.old }
+    ensures unread { files_for (words_of (texts words.now)) ≡ None → shelf.new ≡ shelf.old }
 {
     let job = decide(alloc, words, shelf)?;
     perform(alloc, job)

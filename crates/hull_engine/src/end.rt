@@ -1,5 +1,6 @@
 //! The end of a run: the text, or the line of a fault.
-ghost use Rattle.std.specs.Prelude.{◌≡◌, IfOk};
+ghost use Rattle.std.specs.Prelude.{◌≡◌, length, IfOk};
+ghost use Rattle.uc_model.specs.PlainUnits.{schedule_of};
 ghost use Rattle.hull_io.specs.Edge.{Writes};
 ghost use Rattle.hull_report.specs.ReportText.{report_text};
 ghost use Rattle.hull_report.specs.RecordReport.{report_of};
@@ -52,10 +53,14 @@ impl End {
     }
 }
 
-/// Writes the report of a run that has ended. It takes no memory, and fails only where the sink does.
+/// Writes the report of a run that has ended, which is left as it was but for its room for an answer. It takes no memory,
+/// and fails only where the sink does.
 pub fn finish_run<S: Sink>(done: &mut Done, out: &mut S) -> Result<(), WriteFailed>
     requires { IsEnded done.old.closed.setup done.old }
-    ensures { Writes S.held S.faults S.last out.old out.new result (report_text (report_of done.old.closed done.old.settlement)) }
+    ensures text { Writes S.held S.faults S.last out.old out.new result (report_text (report_of done.old.closed done.old.settlement)) }
+    ensures closed { done.new.closed ≡ done.old.closed }
+    ensures settlement { done.new.settlement ≡ done.old.settlement }
+    ensures horizon { length (schedule_of done.new.buffer.response).on ≡ done.old.closed.setup.market.periods }
 {
     write_report(&done.closed, &done.settlement, &mut done.buffer, out)
 }

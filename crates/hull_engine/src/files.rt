@@ -1,9 +1,10 @@
 //! The files of a command: the case and its schedule, read and judged in the order of their refusals.
-ghost use Rattle.std.specs.Prelude.{◌≡◌, ◌≤◌, ℕ, List, Vec, length, IfOk, IsSomeAnd};
+ghost use Rattle.std.specs.Prelude.{◌≡◌, ◌≤◌, ℕ, true, List, Vec, length, IfOk, IfErr, IsSomeAnd};
 ghost use Rattle.std.specs.Global.{Global};
 ghost use Rattle.uc_model.specs.Laws.{HasPlanShape};
 ghost use Rattle.uc_model.specs.PlainCases.{market_of, schedules_of};
 ghost use Rattle.hull_io.specs.Edge.{Rose};
+ghost use Rattle.hull_engine.specs.Alone.{is_input, is_input_fault};
 ghost use Rattle.hull_engine.specs.Due.{Then, Only};
 ghost use Rattle.hull_engine.specs.Ladder.{file_names, bytes_due, IsReadCase, IsCaseDue, IsReadPlan, IsPlanDue, IsRuleDue, IsInputDue};
 ghost use Rattle.hull_engine.specs.Ends.{IsAnswer, IfReadFails, name_in, IsReachedIn};
@@ -20,18 +21,20 @@ use uc_model::cases::{Case, Plan};
 use uc_plan::fault::PlanFault;
 use uc_plan::read_plan;
 
-/// The bytes of a file.
+/// The bytes of a case or a schedule file.
 fn bytes_step<F: Shelf>(
     alloc: Global,
     shelf: &mut F,
     name: &str,
     file: FileKind,
 ) -> Result<Vec<u8>, TopFault>
+    requires { is_input file ≡ true }
     ensures answers { IsAnswer (Only (bytes_due file (F.told shelf.old name.now))) (λ (v : Vec ℕ Global). v.items) result }
     ensures fits { IfOk result (λ v. length v.items ≤ 67108864) }
     ensures failed { IfReadFails result (λ f. (f ≡ file) × Rose F.last (F.faults shelf.old name.now) (F.faults shelf.new name.now)) }
     ensures later { (any : List ℕ) → F.faults shelf.old any ≤ F.faults shelf.new any }
     ensures told { F.told shelf.new ≡ F.told shelf.old }
+    ensures kind { IfErr result (λ fault. is_input_fault fault ≡ true) }
 {
     match read_whole(alloc, shelf, name) {
         Ok(bytes) => Ok(bytes),
@@ -46,6 +49,7 @@ fn case_in(alloc: Global, bytes: &[u8]) -> Result<Case, TopFault>
     requires { length bytes.now ≤ 67108864 }
     ensures answers { IsAnswer (IsReadCase bytes.now) market_of result }
     ensures unread { IfReadFails result (λ _. ⊥) }
+    ensures kind { IfErr result (λ fault. is_input_fault fault ≡ true) }
 {
     match read_case(alloc, bytes) {
         Ok(case) => Ok(case),
@@ -61,6 +65,7 @@ fn case_step<F: Shelf>(alloc: Global, shelf: &mut F, name: &str) -> Result<Case,
     ensures failed { IfReadFails result (λ f. (f ≡ FileKind.CaseFile) × Rose F.last (F.faults shelf.old name.now) (F.faults shelf.new name.now)) }
     ensures later { (any : List ℕ) → F.faults shelf.old any ≤ F.faults shelf.new any }
     ensures told { F.told shelf.new ≡ F.told shelf.old }
+    ensures kind { IfErr result (λ fault. is_input_fault fault ≡ true) }
 {
     let bytes = bytes_step(alloc, shelf, name, FileKind::CaseFile)?;
     case_in(alloc, bytes.as_slice())
@@ -72,6 +77,7 @@ fn plan_in(alloc: Global, case: &Case, bytes: &[u8]) -> Result<Plan, TopFault>
     ensures answers { IsAnswer (IsReadPlan (market_of case.now) bytes.now) schedules_of result }
     ensures shape { IfOk result (λ plan. HasPlanShape (market_of case.now) (schedules_of plan)) }
     ensures unread { IfReadFails result (λ _. ⊥) }
+    ensures kind { IfErr result (λ fault. is_input_fault fault ≡ true) }
 {
     match read_plan(alloc, case, bytes) {
         Ok(plan) => Ok(plan),
@@ -93,6 +99,7 @@ fn plan_step<F: Shelf>(
     ensures failed { IfReadFails result (λ f. (f ≡ FileKind.ScheduleFile) × Rose F.last (F.faults shelf.old name.now) (F.faults shelf.new name.now)) }
     ensures later { (any : List ℕ) → F.faults shelf.old any ≤ F.faults shelf.new any }
     ensures told { F.told shelf.new ≡ F.told shelf.old }
+    ensures kind { IfErr result (λ fault. is_input_fault fault ≡ true) }
 {
     let bytes = bytes_step(alloc, shelf, name, FileKind::ScheduleFile)?;
     plan_in(alloc, case, bytes.as_slice())
@@ -104,6 +111,7 @@ fn rule_step(case: Case, plan: Plan) -> Result<Input, TopFault>
     ensures answers { IsAnswer (IsRuleDue (market_of case) (schedules_of plan)) planned_of result }
     ensures planned { IfOk result (λ input. IsPlanned input) }
     ensures unread { IfReadFails result (λ _. ⊥) }
+    ensures kind { IfErr result (λ fault. is_input_fault fault ≡ true) }
 {
     match check_plan(&case, &plan) {
         Ok(cost) => Ok(Input { case, plan, cost }),
@@ -122,6 +130,8 @@ fn schedule_step<F: Shelf>(
     ensures planned { IfOk result (λ input. IsPlanned input) }
     ensures failed { IfReadFails result (λ f. (f ≡ FileKind.ScheduleFile) × Rose F.last (F.faults shelf.old name.now) (F.faults shelf.new name.now)) }
     ensures later { (any : List ℕ) → F.faults shelf.old any ≤ F.faults shelf.new any }
+    ensures kind { IfErr result (λ fault. is_input_fault fault ≡ true) }
+    ensures told { F.told shelf.new ≡ F.told shelf.old }
 {
     let plan = plan_step(alloc, shelf, name, &case)?;
     rule_step(case, plan)
@@ -139,6 +149,8 @@ pub fn input_step<F: Shelf>(
     ensures failed { IfReadFails result (λ file. let names = file_names case_name.now schedule_name.now in
         IsSomeAnd (name_in names file) (λ name. Rose F.last (F.faults shelf.old name) (F.faults shelf.new name)) × IsReachedIn (F.told shelf.old) names file) }
     ensures later { (any : List ℕ) → F.faults shelf.old any ≤ F.faults shelf.new any }
+    ensures kind { IfErr result (λ fault. is_input_fault fault ≡ true) }
+    ensures told { F.told shelf.new ≡ F.told shelf.old }
 {
     let case = case_step(alloc, shelf, case_name)?;
     schedule_step(alloc, shelf, schedule_name, case)

@@ -1,11 +1,12 @@
 //! What the words and the files ask for, in the order of their refusals.
-ghost use Rattle.std.specs.Prelude.{◌≡◌, ◌≤◌, ◌+◌, ◌*◌, ℕ, List, IfOk, IsSomeAnd};
+ghost use Rattle.std.specs.Prelude.{◌≡◌, ◌≤◌, ◌+◌, ◌*◌, ℕ, true, List, Ok, None, IfOk, IfErr, IsSomeAnd};
 ghost use Rattle.hull_io.specs.Edge.{Rose};
-ghost use Rattle.hull_words.specs.Asked.{asked, check, price, check_asked, price_asked};
-ghost use Rattle.hull_words.specs.Words.{texts, fault};
+ghost use Rattle.hull_words.specs.Asked.{asked, check, price, try, check_asked, price_asked};
+ghost use Rattle.hull_words.specs.Words.{texts, fault, words_of};
+ghost use Rattle.hull_engine.specs.Alone.{files_for, is_run_fault, IsFaultFor, IsFor};
 ghost use Rattle.hull_engine.specs.Due.{Only, IsAcceptedWith};
 ghost use Rattle.hull_engine.specs.Sizes.{IsRunSize, HasSizes};
-ghost use Rattle.hull_engine.specs.Ladder.{words_due, work_due, made_case, IsTryDue, IsCommandDue, IsDue};
+ghost use Rattle.hull_engine.specs.Ladder.{files_of, words_due, work_due, made_case, IsTryDue, IsCommandDue, IsDue};
 ghost use Rattle.hull_engine.specs.Ends.{IsAnswer, IfReadFails, name_at, IsReached};
 ghost use Rattle.hull_engine.specs.Inputs.{planned_of, accepted_of, try_asked, IsPlanned, IsRunInput, IsReady};
 
@@ -39,6 +40,8 @@ fn words_step(alloc: Global, words: &[String]) -> Result<Command, TopFault>
     ensures answers { IsAnswer (Only (words_due (texts words.now))) asked result }
     ensures sizes { IfOk result (λ command. HasSizes (asked command)) }
     ensures unread { IfReadFails result (λ _. ⊥) }
+    ensures given { IfOk result (λ command. words_of (texts words.now) ≡ Ok (asked command)) }
+    ensures alone { IfErr result (λ fault. IsFaultFor (words_of (texts words.now)) fault) }
 {
     match read_words(alloc, words) {
         Ok(command) => Ok(command),
@@ -65,6 +68,7 @@ fn run_step(input: Input, budget: u32, workers: u32, ahead: u32) -> Result<RunIn
     ensures budget { IfOk result (λ run. run.budget ≡ budget) }
     ensures ahead { IfOk result (λ run. run.ahead ≡ ahead) }
     ensures unread { IfReadFails result (λ _. ⊥) }
+    ensures kind { IfErr result (λ fault. is_run_fault fault ≡ true) }
 {
     let units = unit_count(&input.case);
     let periods = input.case.periods;
@@ -89,6 +93,8 @@ fn check_step<F: Shelf>(alloc: Global, shelf: &mut F, names: &CheckWords) -> Res
     ensures failed { IfReadFails result (λ file. let asked = check (check_asked names.now) in
         IsSomeAnd (name_at asked file) (λ name. Rose F.last (F.faults shelf.old name) (F.faults shelf.new name)) × IsReached (F.told shelf.old) asked file) }
     ensures later { (any : List ℕ) → F.faults shelf.old any ≤ F.faults shelf.new any }
+    ensures alone { IsFor (Ok (check (check_asked names.now))) accepted_of result }
+    ensures told { F.told shelf.new ≡ F.told shelf.old }
 {
     let case_name = names.case_name.as_str();
     let schedule_name = names.schedule_name.as_str();
@@ -103,6 +109,8 @@ fn price_step<F: Shelf>(alloc: Global, shelf: &mut F, words: &PriceWords) -> Res
     ensures failed { IfReadFails result (λ file. let asked = price (price_asked words.now) in
         IsSomeAnd (name_at asked file) (λ name. Rose F.last (F.faults shelf.old name) (F.faults shelf.new name)) × IsReached (F.told shelf.old) asked file) }
     ensures later { (any : List ℕ) → F.faults shelf.old any ≤ F.faults shelf.new any }
+    ensures alone { IsFor (Ok (price (price_asked words.now))) accepted_of result }
+    ensures told { F.told shelf.new ≡ F.told shelf.old }
 {
     let case_name = words.case_name.as_str();
     let schedule_name = words.schedule_name.as_str();
@@ -126,6 +134,7 @@ fn try_step(alloc: Global, words: &TryWords) -> Result<Job, TopFault>
     ensures answers { IsAnswer (IsTryDue (try_asked words.now)) accepted_of result }
     ensures ready { IfOk result (λ job. IsReady job) }
     ensures unread { IfReadFails result (λ _. ⊥) }
+    ensures alone { IsFor (Ok (try (try_asked words.now))) accepted_of result }
 {
     let Ok(input) = made_input(alloc, words.number) else {
         return Err(TopFault::Memory);
@@ -153,6 +162,9 @@ fn command_step<F: Shelf>(alloc: Global, shelf: &mut F, command: &Command) -> Re
         IsSomeAnd (name_at (asked command.now) file) (λ name. Rose F.last (F.faults shelf.old name) (F.faults shelf.new name))
         × IsReached (F.told shelf.old) (asked command.now) file) }
     ensures later { (any : List ℕ) → F.faults shelf.old any ≤ F.faults shelf.new any }
+    ensures alone { IsFor (Ok (asked command.now)) accepted_of result }
+    ensures told { F.told shelf.new ≡ F.told shelf.old }
+    ensures unread { files_of (asked command.now) ≡ None → shelf.new ≡ shelf.old }
 {
     match command {
         Command::Check(names) => check_step(alloc, shelf, names),
@@ -171,6 +183,9 @@ pub fn decide<F: Shelf>(alloc: Global, words: &[String], shelf: &mut F) -> Resul
     ensures failed { IfReadFails result (λ file. IsAcceptedWith (words_due (texts words.now)) (λ asked.
         IsSomeAnd (name_at asked file) (λ name. Rose F.last (F.faults shelf.old name) (F.faults shelf.new name)) × IsReached (F.told shelf.old) asked file)) }
     ensures later { (any : List ℕ) → F.faults shelf.old any ≤ F.faults shelf.new any }
+    ensures alone { IsFor (words_of (texts words.now)) accepted_of result }
+    ensures told { F.told shelf.new ≡ F.told shelf.old }
+    ensures unread { files_for (words_of (texts words.now)) ≡ None → shelf.new ≡ shelf.old }
 {
     let command = words_step(alloc, words)?;
     command_step(alloc, shelf, &command)

@@ -4,7 +4,7 @@ use Rattle.hull_engine.proofs.end.write_answer.Goals as goal
 pub returns-in-Price : goal.returns-in-Price
 returns-in-Price g c =
     rw c.in-Price.is (report_written g.S.Sink.held g.S.Sink.faults g.S.Sink.last c.args.out.now c.finish_run.new.out c.in-Price.done c.finish_run.result
-    (rw c.in-Price.is at c.requires) c.finish_run.ensures)
+    (rw c.in-Price.is at c.requires) c.finish_run.ensures.text)
 
 pub returns-in-Try : goal.returns-in-Try
 returns-in-Try g c =

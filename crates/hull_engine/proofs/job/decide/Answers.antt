@@ -9,3 +9,14 @@ pub returns-in_err-command-clause-answers : goal.returns-in_err-command-clause-a
 returns-in_err-command-clause-answers g c =
     let p = err_from_is_err_and c.from_residual.result c.from_residual.ensures.1 in
     rw (p.1, p.2) (refusal_then (Only (words_due (texts c.args.words.now))) (IsCommandDue (g.F.Shelf.told c.args.shelf.now)) _ c.in_err-command.ensures.answers)
+
+pub returns-in_err-command-clause-alone : goal.returns-in_err-command-clause-alone
+returns-in_err-command-clause-alone g c =
+    let p = err_from_is_err_and c.from_residual.result c.from_residual.ensures.1 in
+    rw (p.1, p.2) c.in_err-command.ensures.alone
+
+pub returns-clause-alone : goal.returns-clause-alone
+returns-clause-alone g c = rw c.in_ok-command.ensures.given c.command_step.ensures.alone
+
+pub returns-clause-unread : goal.returns-clause-unread
+returns-clause-unread g c = rw c.in_ok-command.ensures.given c.command_step.ensures.unread
