@@ -1,5 +1,5 @@
 -- What the words alone say of a run.
-use Rattle.std.proofs.Common.{◌≡◌, ℕ, ◌≤◌, ◌⊎◌, inl, inr, Bool, true, false, List, Option, None, Some, Result, Ok, Err, refl, sym, ap, subst, ◌∙◌, arith}
+use Rattle.std.proofs.Common.{◌≡◌, ℕ, ◌≤◌, ◌⊎◌, inl, inr, true, false, List, Option, Some, Result, Ok, Err, refl, sym, ap, subst, ◌∙◌, arith}
 use Rattle.std.specs.Prelude.{IsTrue}
 use Rattle.hull_io.specs.Edge.{Gains, FallsShort}
 use Rattle.hull_words.specs.Asked.{Asked, price, check, try, bound, fixed, audit, PriceAsked, CheckAsked, TryAsked}
@@ -14,7 +14,7 @@ use Rattle.hull_engine.specs.declared.end.End.TheVariants.{Done, Cut, Refused}
 use Rattle.hull_engine.specs.declared.input.Input.{Input}
 use Rattle.hull_engine.specs.declared.input.RunInput.{RunInput}
 use Rattle.hull_engine.specs.declared.job.Job.TheVariants as jobs
-use Rattle.hull_engine.specs.Ladder.{PlannedCase, Accepted, Price, Try}
+use Rattle.hull_engine.specs.Ladder.{Accepted, Price, Try}
 use Rattle.hull_engine.specs.Alone.{word_fault, is_input_fault, is_run_fault, IsFaultFor, IsInputOf, IsInputFor, HasInput, IsFor}
 use Rattle.hull_engine.specs.Ends.{Tries, status_of}
 use Rattle.hull_engine.specs.Inputs.{planned_of, accepted_of, IsPlanned}

@@ -1,5 +1,5 @@
 -- What the words alone say of a run, whatever its files hold (this project's profile).
-use Rattle.std.specs.Prelude.{◌≡◌, ◌⊎◌, ℕ, Bool, true, false, List, Option, None, Some, Result, Ok, Err}
+use Rattle.std.specs.Prelude.{◌≡◌, ◌⊎◌, Bool, true, false, Option, None, Some, Result, Ok, Err}
 use Rattle.uc_model.specs.Systems.{IsFeasiblePlan, plan_cost}
 use Rattle.hull_words.specs.Asked.{Asked, price, check, try, CheckAsked}
 use Rattle.hull_words.specs.Words.{fault}

@@ -154,8 +154,8 @@ returns-clause-read g c =
     let reads = λ (file : FileKind). IsAcceptedWith words (λ (asked : Asked). rose asked file × reached asked file) in
     let end = ended held faults last c.args.out.now c.finish-end.new.out due reads c.status.result c.answer_words-answer.result c.finish-end.result c.status.ensures c.answer_words-answer.ensures.answers c.answer_words-answer.ensures.failed c.finish-end.ensures in
     λ two.
-      let r = status_2 held faults last c.args.out.now c.finish-end.new.out due reads c.status.result end two in
-      accepted_weaker words (λ (asked : Asked). rose asked r.0 × reached asked r.0) (λ (asked : Asked). (file : FileKind) × rose asked file × reached asked file × Tries held faults last c.args.out.now c.finish-end.new.out (read_line file)) (λ asked h. (r.0, h.0, h.1, r.2)) r.1
+    let r = status_2 held faults last c.args.out.now c.finish-end.new.out due reads c.status.result end two in
+    accepted_weaker words (λ (asked : Asked). rose asked r.0 × reached asked r.0) (λ (asked : Asked). (file : FileKind) × rose asked file × reached asked file × Tries held faults last c.args.out.now c.finish-end.new.out (read_line file)) (λ asked h. (r.0, h.0, h.1, r.2)) r.1
 
 pub returns-clause-write : goal.returns-clause-write
 returns-clause-write g c =
