@@ -60,15 +60,32 @@ pub fn finish_run<S: Sink>(done: &mut Done, out: &mut S) -> Result<(), WriteFail
     write_report(&done.closed, &done.settlement, &mut done.buffer, out)
 }
 
+/// Lets the parts of a run go, one after another.
+fn let_go(done: Done) {
+    let Done {
+        closed: _closed,
+        settlement: _settlement,
+        buffer: _buffer,
+    } = done;
+}
+
 /// Writes the text of the answer.
-fn write_answer<S: Sink>(answer: &mut Answer, out: &mut S) -> Result<(), WriteFailed>
-    requires { IsAnswered answer.old }
-    ensures { WritesAnswer S.held S.faults S.last out.old out.new (answered_of answer.old) result }
+fn write_answer<S: Sink>(answer: Answer, out: &mut S) -> Result<(), WriteFailed>
+    requires { IsAnswered answer }
+    ensures { WritesAnswer S.held S.faults S.last out.old out.new (answered_of answer) result }
 {
     match answer {
         Answer::Check(input) => write_check(&input.case, input.cost, out),
-        Answer::Price(done) => finish_run(done, out),
-        Answer::Try(number, done) => write_try(*number, &done.closed, &done.settlement, out),
+        Answer::Price(mut done) => {
+            let written = finish_run(&mut done, out);
+            let_go(done);
+            written
+        }
+        Answer::Try(number, done) => {
+            let written = write_try(number, &done.closed, &done.settlement, out);
+            let_go(done);
+            written
+        }
     }
 }
 
@@ -78,7 +95,7 @@ pub fn finish<S: Sink>(answer: Result<Answer, TopFault>, out: &mut S) -> End
     ensures { IsEndOf S.held S.faults S.last out.old out.new answer result }
 {
     match answer {
-        Ok(mut answer) => match write_answer(&mut answer, out) {
+        Ok(answer) => match write_answer(answer, out) {
             Ok(()) => End::Done,
             Err(WriteFailed) => End::Cut,
         },
