@@ -38,7 +38,6 @@ pub use closed::Closed;
 
 /// A board that one thread uses: callers claim tasks and post answers. Contracts see it as what it was made for and the
 /// list of its events. Its history is legal, and its plan feasible (`Board::is_legal`).
-#[derive(Drop)]
 pub struct Board {
     terms: Terms,
     history: Vec<Entry>,
@@ -78,6 +77,25 @@ impl Model for Board {
         (record { takers = b.takers.items; marks = b.marks.items; kept = b.store.answers; counts = b.counts.items; halted = b.halted.items; any_halt = b.any_halt })
         (vec_capacity b.history) (vec_capacity b.takers) b.store.periods (length (prices_of b.next).energy)
         × IsTaskFor (setup_of b.terms).market.periods b.own };
+}
+
+// Written out, so that a caller's drop of a board is a call, and not one for each part.
+impl Drop for Board {
+    fn drop(self) {
+        let Board {
+            terms: _,
+            history: _,
+            takers: _,
+            marks: _,
+            store: _,
+            counts: _,
+            ledger: _,
+            next: _,
+            own: _,
+            halted: _,
+            any_halt: _,
+        } = self;
+    }
 }
 
 // Opens so many proposals at the opening prices.
@@ -269,6 +287,25 @@ impl Board {
         ensures setup { IsSetup self.now.setup }
     {
         let _terms = &self.terms;
+    }
+
+    fn into_terms(self) -> Terms
+        ensures { setup_of result ≡ self.setup }
+    {
+        let Board {
+            terms,
+            history: _,
+            takers: _,
+            marks: _,
+            store: _,
+            counts: _,
+            ledger: _,
+            next: _,
+            own: _,
+            halted: _,
+            any_halt: _,
+        } = self;
+        terms
     }
 
     // The closed proposals from 1 up to the first that isn't.

@@ -18,3 +18,6 @@ mod terms;
 
 pub use board::{Board, Closed};
 pub use replies::{Claim, Differs, Posted};
+
+#[cfg(test)]
+mod tests;
