@@ -29,7 +29,7 @@ pub enum Differs {
 /// What a post answers: the first that applies, where a stranger task's holder comes after a second answer.
 #[derive(Clone, Copy, PartialEq, Eq, Debug)]
 pub enum Posted {
-    /// The task isn't one that this caller holds.
+    /// The task isn't the board's own, or isn't held by this caller.
     Stranger(Differs),
     /// The task has an answer, by this caller.
     Doubled { by: u32 },

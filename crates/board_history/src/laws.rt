@@ -7,8 +7,8 @@ ghost use Rattle.board_history.specs.Tasks.{SameTask};
 ghost use Rattle.board_history.specs.Totals.{TotalsRun};
 
 /// What 'closed', 'open' and 'finished' mean: a proposal is closed where each of its units is posted, it is open for work
-/// where each proposal so many ahead of it is closed and none of those is settled, and the board has finished where every
-/// proposal that is open is closed.
+/// where each proposal from 1 to so many before it is closed and none of those is settled, and the board has finished where
+/// every proposal that is open is closed.
 pub fn words_mean()
     ensures { WordsMean }
 {}
@@ -53,13 +53,13 @@ pub fn finished_has_row()
     ensures { FinishedHasRow }
 {}
 
-/// Every answer of a legal history is for a unit of the case and an open proposal, fits that unit at the proposal's prices,
-/// and comes with what it earns.
+/// The first answer that a legal history has for a task is for a unit of the case and an open proposal, fits that unit at
+/// the proposal's prices, and comes with what it earns.
 pub fn answers_fit()
     ensures { AnswersFit }
 {}
 
-/// In a legal history a task is claimed at most once and posted at most once, and a caller halts at most once. So there are
+/// In a legal history there are at most as many claims as tasks, as many posts, and one halt for each caller. So there are
 /// at most twice as many entries as tasks, and one for each caller.
 pub fn events_are_at_most()
     ensures { EventsAreAtMost }
@@ -85,7 +85,7 @@ pub fn same_task()
     ensures { SameTask }
 {}
 
-/// The answer of a task that the caller holds is taken, whatever other callers did since.
+/// An answer for a task that the caller holds, at its proposal's prices, is taken where the task has none yet.
 pub fn held_is_taken()
     ensures { HeldIsTaken }
 {}
