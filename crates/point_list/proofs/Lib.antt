@@ -1,3 +1,2 @@
-pub mod CellLaws
 pub mod ListLaws
 pub mod SmallLaws

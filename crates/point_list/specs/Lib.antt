@@ -1,4 +1,3 @@
 pub mod Breaks
-pub mod Cells
 pub mod Shown
 pub mod Small
