@@ -18,6 +18,3 @@ mod terms;
 
 pub use board::{Board, Closed};
 pub use replies::{Claim, Differs, Posted};
-
-#[cfg(test)]
-mod tests;

@@ -1,4 +1,2 @@
 pub mod Breaks
-pub mod Cells
 pub mod Shown
-pub mod Small

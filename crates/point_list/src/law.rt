@@ -1,8 +1,15 @@
-//! The bound on cells: the contract of a function that does nothing.
-ghost use Rattle.point_list.specs.Cells.{CellsAreBounded};
+//! The bound on cells.
+ghost use Rattle.point_list.specs.Shown.{count_of, shown};
+ghost use Rattle.shape_law.specs.Chain.{IsWithinCharge, CellsAreBounded};
+ghost use Rattle.shape_law.specs.declared.Heap.{Heap};
+
+use crate::breaks::Breaks;
+use shape_law::laws;
 
 /// After `t` steps of one curve of a unit with L cost points, one kink and one window each, a shape
 /// of breakpoints that began as a point has at most `1 + t * (2L + 3)` cells.
 pub fn cells_are_bounded()
-    ensures { CellsAreBounded }
-{}
+    ensures { CellsAreBounded (λ (_ : Heap) s. shown s) (IsWithinCharge count_of) count_of }
+{
+    laws::cells_are_bounded::<Breaks>();
+}

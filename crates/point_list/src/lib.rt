@@ -4,5 +4,3 @@
 pub mod breaks;
 pub mod law;
 mod steps;
-#[cfg(test)]
-mod tests;

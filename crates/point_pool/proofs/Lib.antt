@@ -1,4 +1,3 @@
-mod BoundLaws
 mod FrameLaws
 mod ListLaws
 mod ReadLaws

@@ -7,5 +7,3 @@ pub mod pooled;
 mod read;
 pub mod slot;
 mod steps;
-#[cfg(test)]
-mod tests;

@@ -1,3 +1,4 @@
+pub mod ChainLaws
 pub mod ConvexLaws
 pub mod CurveLaws
 pub mod EffectLaws

@@ -1,4 +1,5 @@
 pub mod Cell
+pub mod Chain
 pub mod Curve
 pub mod Effect
 pub mod Laws

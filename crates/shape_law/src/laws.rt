@@ -1,4 +1,6 @@
 //! Laws of shapes: each is the contract of a function that does nothing.
+ghost use Rattle.std.specs.Prelude.{◌≡◌, true};
+ghost use Rattle.shape_law.specs.Chain.{IsWithinCharge, IsBalanced, CellsAreCharged, CellsAreBounded};
 ghost use Rattle.shape_law.specs.Laws.{OthersStay, FramesJoin, EndedShapesLeaveNothing, PointIsConvex, CopyIsConvex, LineKeepsConvexity, ReserveKeepsConvexity, CurveKeepsConvexity, WindowKeepsConvexity, PointIsExact, SumIsExact, CurveSumIsExact, WindowIsExact, PointIsWithinLimits, CopyIsWithinLimits, SumIsWithinLimits, CurveSumIsWithinLimits, WindowIsWithinLimits};
 
 use crate::Shape;
@@ -45,4 +47,18 @@ pub fn effects_keep_limits()
     ensures sum { SumIsWithinLimits }
     ensures curve { CurveSumIsWithinLimits }
     ensures window { WindowIsWithinLimits }
+{}
+
+/// Calls on one shape in its home, one after another, take at most their charges. So after `t`
+/// steps of one curve of a unit with L cost points, one kink and one window each, a shape that
+/// began as a point has at most `1 + t * (2L + 3)` cells.
+pub fn cells_are_bounded<S: Shape>()
+    ensures charged { CellsAreCharged S.function (IsWithinCharge S.cells) S.cells }
+    ensures bounded { CellsAreBounded S.function (IsWithinCharge S.cells) S.cells }
+{}
+
+/// In a home that counts, what each call says of its balance suffices for that.
+pub fn counted_cells_are_bounded<S: Shape>()
+    ensures charged { S.Home.counts ≡ true → CellsAreCharged S.function (IsBalanced S.cells S.Home.counts S.Home.sure) S.cells }
+    ensures bounded { S.Home.counts ≡ true → CellsAreBounded S.function (IsBalanced S.cells S.Home.counts S.Home.sure) S.cells }
 {}

@@ -9,8 +9,6 @@ mod costs;
 pub mod laws;
 pub mod spell;
 mod step;
-#[cfg(test)]
-mod tests;
 
 pub use best::spell_best;
 pub use costs::spell_costs;

@@ -14,7 +14,5 @@ pub mod commitment;
 pub mod laws;
 pub mod program;
 pub mod table;
-#[cfg(test)]
-mod tests;
 
 pub use answer::best_response;

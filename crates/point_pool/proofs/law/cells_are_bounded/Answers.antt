@@ -1,5 +1,5 @@
-use Rattle.point_pool.proofs.BoundLaws.{bounded}
+use Rattle.std.proofs.Common.{refl}
 use Rattle.point_pool.proofs.law.cells_are_bounded.Goals as goal
 
 pub returns : goal.returns
-returns c = bounded
+returns c = c.counted_cells_are_bounded.ensures.bounded refl

@@ -1,0 +1,2 @@
+-- what src/steps.rt sees before a step suffices for the step
+mod SmallLaws

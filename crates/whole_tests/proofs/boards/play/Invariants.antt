@@ -1,0 +1,6 @@
+use Rattle.std.proofs.Common.{◌≡◌, ◌≤◌}
+use Rattle.uc_model.specs.TaskRoom.{IsTaskFor}
+use Rattle.whole_tests.proofs.boards.play.Given as goal
+
+abbrev pub invariant-loop-step : goal.invariant-loop-step
+invariant-loop-step l = (l.board.setup ≡ l.fn.board.setup) × IsTaskFor l.board.setup.market.periods l.task × (l.held ≤ l.step-index)

@@ -1,0 +1,16 @@
+//! Tests over more than one crate. They stand above the program's own crates, so that what a test
+//! alone needs isn't proved below the program.
+#![tactic(auto)]
+
+#[cfg(test)]
+mod boards;
+#[cfg(test)]
+mod responses;
+#[cfg(test)]
+mod shapes;
+#[cfg(test)]
+mod spells;
+#[cfg(test)]
+mod steps;
+#[cfg(test)]
+mod units;
