@@ -3,12 +3,8 @@
 use Rattle.std.specs.Prelude.{◌≡◌, ℕ, ◌<◌, ℤ, pos, neg_ℤ, ◌+ℤ◌, List, length}
 use Rattle.dual_value.specs.declared.totals.Flow.{Flow}
 use Rattle.dual_value.specs.declared.totals.Flow.TheVariants.{Gives, Takes}
-use Rattle.uc_model.specs.Limits.{IsFrom}
+pub use Rattle.uc_model.specs.Limits.{IsTotal}
 use Rattle.uc_model.specs.Sums.{int_at}
-
--- a total in kilowatts that is far from the limits of its type
-abbrev pub IsTotal : ℤ → Type 0
-IsTotal x = IsFrom (neg_ℤ (pos 10000000000000)) (pos 10000000000000) x
 
 -- what a power adds to a total
 abbrev pub amount_of : Flow → ℕ → ℤ

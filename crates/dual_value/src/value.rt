@@ -1,29 +1,20 @@
 //! The dual value of prices, given what the best schedules earn.
-ghost use Rattle.std.specs.Prelude.{◌≡◌, ◌≤◌, ◌<◌, ℤ, pos, neg_ℤ, ◌-ℤ◌, ◌*ℤ◌, length};
-ghost use Rattle.uc_model.specs.Limits.{IsFrom, IsPower, price_limit};
+ghost use Rattle.std.specs.Prelude.{◌≡◌, ◌-ℤ◌, length};
+ghost use Rattle.uc_model.specs.Limits.{IsSum};
 ghost use Rattle.uc_model.specs.PlainCases.{market_of};
 ghost use Rattle.uc_model.specs.PlainUnits.{prices_of};
 ghost use Rattle.uc_model.specs.Systems.{worth_of_demand};
 
 use uc_model::cases::Case;
+use uc_model::money::worth;
 use uc_model::units::Prices;
-
-// The worth of a power at a price.
-fn worth(price: i64, power: i64) -> i128
-    requires price { IsFrom (neg_ℤ price_limit) price_limit price }
-    requires power { IsPower power }
-    ensures value { result ≡ price *ℤ power }
-    ensures bound { IsFrom (neg_ℤ (pos 10000000000000000)) (pos 10000000000000000) result }
-{
-    i128::from(price) * i128::from(power)
-}
 
 /// The dual value of `prices` in money: the sum over the periods of the energy price times the demand and the reserve
 /// price times the required reserve, less `earned`, what the best schedules of all units and bids earn at these prices.
 /// The prices are over the periods of the case, and `earned` is at most 10^23 in magnitude.
 pub fn dual_value(case: &Case, prices: &Prices, earned: i128) -> i128
     requires horizon { length (prices_of prices.now).energy ≡ (market_of case.now).periods }
-    requires earned { IsFrom (neg_ℤ (pos 100000000000000000000000)) (pos 100000000000000000000000) earned }
+    requires earned { IsSum earned }
     ensures { result ≡ worth_of_demand (market_of case.now) (prices_of prices.now) -ℤ earned }
 {
     let mut total: i128 = 0;

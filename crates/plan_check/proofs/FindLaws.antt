@@ -8,8 +8,9 @@ use Rattle.uc_model.specs.declared.kinds.Kind.TheVariants as kinds
 use Rattle.uc_model.specs.declared.kinds.RuleCode.TheVariants.{RenewableRange, BidRange, MustRun, Initial, MinUp, MinDown, Range, StartCap, StopCap, RampUp, RampDown, Window}
 use Rattle.uc_model.specs.Data.{ThermalUnit, Schedule, NamedThermalUnit, NamedRenewableUnit, NamedBidUnit}
 use Rattle.uc_model.specs.Refusals.{Refusal, told, must_run_broken, initial_broken, min_up_broken, min_down_broken, range_broken, start_broken, stop_broken, ramp_up_broken, ramp_down_broken, window_broken, renewable_broken, bid_broken, thermal_refusals, all_thermal, all_renewable, all_bids}
+use Rattle.uc_model.proofs.ListLaws.{none_some, same_item}
 use Rattle.plan_check.specs.States.{rule_refusals}
-use Rattle.plan_check.proofs.ToldLaws.{append_nil, first_left, first_right, none_some}
+use Rattle.plan_check.proofs.ToldLaws.{append_nil, first_left, first_right}
 
 -- ---- over a list of rules
 
@@ -50,9 +51,6 @@ thermal_rules periods unit g s =
 
 before_or_at : (j i : ℕ) → j < i + 1 → (j < i) ⊎ (j ≡ i)
 before_or_at j i lt = grind arith
-
-pub same_item : {X : Type 0} → (a b : X) → Some a ≡ Some b → b ≡ a
-same_item a b e = cc
 
 module _ {N : Type 0} (refusals_of : N → Schedule → ℕ → List Refusal) where
   -- what is told of the units that have a schedule, where units count from first

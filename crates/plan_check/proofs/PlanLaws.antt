@@ -12,6 +12,7 @@ use Rattle.uc_model.specs.Refusals.{Refusal, unless, renewable_broken, bid_broke
 use Rattle.uc_model.specs.Schedules.{power_in, IsFeasible, IsRenewableFeasible, IsBidFeasible, width_of, blocks_at}
 use Rattle.uc_model.specs.Sums.{int_at}
 use Rattle.uc_model.specs.Systems.{total_power, total_reserve, IsFeasiblePlan}
+use Rattle.uc_model.proofs.ListLaws.{head_of, tail_of}
 use Rattle.plan_check.proofs.RunLaws.{both_true, and_true, true_false}
 use Rattle.plan_check.proofs.ThermalLaws.{IsClear-none, none_clear, IsThermalFeasible-clear, IsClear-feasible, le_from_z, le_to_z}
 use Rattle.plan_check.proofs.ToldLaws.{append_nil_left, append_nil_right, append_nil, told_none, told_all, unless_none, unless_holds, or_else_none, or_else_holds}
@@ -23,12 +24,6 @@ HasLengths periods s = (length s.on ≡ periods) × (length s.power ≡ periods)
 
 abbrev pub IsSteady : Schedule → Type 0
 IsSteady s = All IsTrue s.on × All (λ (r : ℕ). r ≡ 0) s.reserve
-
-pub head_of : {X : Type 0} → (P : X → Type 0) (x : X) (xs : List X) → All P (x ∷ xs) → P x
-head_of P x xs h = h 0 x (omega arith)
-
-pub tail_of : {X : Type 0} → (P : X → Type 0) (x : X) (xs : List X) → All P (x ∷ xs) → All P xs
-tail_of P x xs h = λ k d lt. h (suc k) d (omega (arith, lt))
 
 module _ (periods : ℕ) where
   abbrev Feasible : AnyUnit → Schedule → Type 0

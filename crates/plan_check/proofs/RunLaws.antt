@@ -6,13 +6,10 @@ use Rattle.std.proofs.lemmas.Bool.Decides.{nat_tests}
 use Rattle.uc_model.specs.Data.{ThermalUnit, Schedule}
 use Rattle.uc_model.specs.Refusals.{unless, same_flag, changed_in, min_up_broken, min_down_broken}
 use Rattle.uc_model.specs.Schedules.{on_in, starts_in, stops_in, IsPeriod}
-use Rattle.plan_check.proofs.ToldLaws.{none_some, unless_none, unless_holds, if_none, if_holds}
+use Rattle.uc_model.proofs.ListLaws.{none_some, true_or_false}
+use Rattle.plan_check.proofs.ToldLaws.{unless_none, unless_holds, if_none, if_holds}
 
 -- ---- flags
-
-pub true_or_false : (b : Bool) → (b ≡ true) ⊎ (b ≡ false)
-true_or_false true = inl refl
-true_or_false false = inr refl
 
 pub false_true : false ≡ true → ⊥
 false_true h = cc

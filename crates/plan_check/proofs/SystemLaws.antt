@@ -11,16 +11,12 @@ use Rattle.uc_model.specs.Refusals.{unless}
 use Rattle.uc_model.specs.Schedules.{power_in, reserve_in}
 use Rattle.uc_model.specs.Sums.{total}
 use Rattle.uc_model.specs.Systems.{total_power, total_reserve, plan_cost}
+use Rattle.uc_model.proofs.ListLaws.{same_item, none_some, total-append}
 use Rattle.plan_check.specs.Costs.{sum_over, thermal_units, bid_units}
 use Rattle.plan_check.specs.Totals.{powers_at, reserves_at}
-use Rattle.plan_check.proofs.FindLaws.{same_item}
 use Rattle.plan_check.proofs.RunLaws.{and_true, both_true}
 use Rattle.plan_check.proofs.ThermalLaws.{le_from_z, le_to_z}
-use Rattle.plan_check.proofs.ToldLaws.{none_some, unless_holds}
-
-pub total-append : (xs ys : List ℤ) → total (xs ++ ys) ≡ total xs +ℤ total ys
-total-append [] ys = omega (arith, ints)
-total-append (x ∷ xs) ys = omega (arith, ints, total-append xs ys)
+use Rattle.plan_check.proofs.ToldLaws.{unless_holds}
 
 -- one item more
 pub total_map-append : {X Y : Type 0} → (g : Y → ℤ) (f : X → Y) (xs : List X) (x : X) → total (map g (map f (xs ++ x ∷ []))) ≡ total (map g (map f xs)) +ℤ g (f x)

@@ -11,7 +11,8 @@ use Rattle.uc_model.specs.Data.{ThermalUnit, Schedule}
 use Rattle.uc_model.specs.Refusals.{Refusal, unless, or_else, same_flag, must_run_broken, initial_broken, min_up_broken, min_down_broken, range_broken, start_broken, output_in, stop_broken, ramp_up_broken, ramp_down_broken, mark_broken, window_broken, told, thermal_refusals}
 use Rattle.uc_model.specs.Schedules.{on_in, power_in, reserve_in, above_min, above_with_reserve, starts_in, stops_in, IsPeriod, mark_in, KeepsCommitment, cap_of, KeepsDispatch, IsThermalFeasible}
 use Rattle.uc_model.specs.TaskLists.{flag_number}
-use Rattle.plan_check.proofs.RunLaws.{true_or_false, false_true, not_true, same_is, same_refl, le_from, le_to, starts_is, stops_is, keeps_up, keeps_down, clear_up, clear_down}
+use Rattle.uc_model.proofs.ListLaws.{true_or_false}
+use Rattle.plan_check.proofs.RunLaws.{false_true, not_true, same_is, same_refl, le_from, le_to, starts_is, stops_is, keeps_up, keeps_down, clear_up, clear_down}
 use Rattle.plan_check.proofs.ToldLaws.{append_nil_left, append_nil_right, append_nil, told_none, told_all, unless_none, unless_holds, or_else_none, or_else_holds, if_none, if_holds}
 
 -- ---- no rule of the unit is broken

@@ -6,9 +6,7 @@ use Rattle.std.specs.Option.{option_map}
 use Rattle.uc_model.specs.Refusals.{Refusal, unless, or_else, told}
 use Rattle.uc_model.specs.declared.kinds.Kind.{Kind}
 use Rattle.uc_model.specs.declared.kinds.RuleCode.{RuleCode}
-
-pub none_some : {X : Type 0} → (x : X) → None ≡ Some x → ⊥
-none_some x e = cc
+use Rattle.uc_model.proofs.ListLaws.{none_some}
 
 nil_cons : {X : Type 0} → (x : X) (xs : List X) → x ∷ xs ≡ [] → ⊥
 nil_cons x xs e = cc

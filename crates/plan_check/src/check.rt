@@ -1,12 +1,13 @@
 //! The first rule that a plan breaks.
-ghost use Rattle.std.specs.Prelude.{◌≡◌, ◌≤◌, ◌<◌, ◌+◌, ℕ, length, drop, pos, ◌↔◌, Some, IsOk, IfOk, IfErr, slice_get};
+ghost use Rattle.std.specs.Prelude.{◌≡◌, ◌≤◌, ◌<◌, ◌+◌, ℕ, length, drop, pos, ◌↔◌, Some, IsOk};
+ghost use Rattle.std.specs.Prelude.{IfOk, IfErr, slice_get};
 ghost use Rattle.std.specs.List.{flat_map};
 ghost use Rattle.uc_model.specs.Laws.{HasPlanShape};
-ghost use Rattle.uc_model.specs.Limits.{IsBlockList};
 ghost use Rattle.uc_model.specs.PlainCases.{market_of, schedules_of};
 ghost use Rattle.uc_model.specs.PlainUnits.{thermal_of, renewable_of, bid_of, schedule_of};
-ghost use Rattle.uc_model.specs.Refusals.{told, renewable_broken, bid_broken, balance_broken, reserve_broken, thermal_refusals, all_thermal, all_renewable, all_bids, refusals};
-ghost use Rattle.uc_model.specs.Schedules.{width_of};
+ghost use Rattle.uc_model.specs.Refusals.{told, renewable_broken, bid_broken, balance_broken};
+ghost use Rattle.uc_model.specs.Refusals.{reserve_broken, thermal_refusals, all_thermal};
+ghost use Rattle.uc_model.specs.Refusals.{all_renewable, all_bids, refusals};
 ghost use Rattle.uc_model.specs.Systems.{plan_cost, IsFeasiblePlan};
 ghost use Rattle.plan_check.specs.Checks.{refusal_of, Finds};
 ghost use Rattle.plan_check.specs.States.{sides_of, thermal_broken, told_shift, rule_refusals};
@@ -15,7 +16,8 @@ use crate::states::Sides;
 use crate::{RuleFault, costs, rules, totals};
 use uc_model::cases::{Case, Plan};
 use uc_model::kinds::{Kind, RuleCode};
-use uc_model::units::{Bid, Block, Renewable, Response, Unit};
+use uc_model::money::total_width;
+use uc_model::units::{Bid, Renewable, Response, Unit};
 
 // The rules of a thermal unit in the order in which they are told.
 const THERMAL_RULES: [RuleCode; 10] = [
@@ -146,7 +148,7 @@ fn renewable_sides(flat: &Renewable, response: &Response, place: usize) -> Optio
     requires range { place < length (renewable_of flat.now).least }
     ensures { sides_of result ≡ renewable_broken (renewable_of flat.now) (schedule_of response.now) place }
 {
-    let power = rules::power_at(response, place);
+    let power = response.power_at(place);
     let least = *flat.least.get(place);
     let most = *flat.most.get(place);
     rules::first_of(rules::at_most(least, power), rules::at_most(power, most))
@@ -187,26 +189,14 @@ fn check_renewables(case: &Case, plan: &Plan) -> Result<(), RuleFault>
     Ok(())
 }
 
-// The power that a period's blocks may buy in all.
-fn width_in(blocks: &[Block]) -> i64
-    requires { IsBlockList blocks.now }
-    ensures { result ≡ width_of blocks.now }
-{
-    let mut width = 0;
-    for block in blocks {
-        width += block.width;
-    }
-    width
-}
-
 // What breaks the limit of a bid at a place.
 fn bid_sides(bid: &Bid, response: &Response, place: usize) -> Option<Sides>
     requires schedule { place < length (schedule_of response.now).on }
     requires blocks { place < length (bid_of bid.now).blocks }
     ensures { sides_of result ≡ bid_broken (bid_of bid.now) (schedule_of response.now) place }
 {
-    let power = rules::power_at(response, place);
-    let width = width_in(bid.blocks.get(place).as_slice());
+    let power = response.power_at(place);
+    let width = total_width(bid.blocks.get(place).as_slice());
     rules::at_most(power, width)
 }
 

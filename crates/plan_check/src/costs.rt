@@ -1,14 +1,18 @@
 //! What the schedules of a feasible plan cost.
-ghost use Rattle.std.specs.Prelude.{◌≡◌, ◌≤◌, ◌<◌, ◌+◌, ℕ, suc, pos, neg_ℤ, ◌+ℤ◌, ◌-ℤ◌, ◌*ℤ◌, if◌then◌else◌, length, drop, slice_index_or, false};
+ghost use Rattle.std.specs.Prelude.{◌≡◌, ◌≤◌, ◌<◌, ◌+◌, ℕ, suc, pos, neg_ℤ, ◌+ℤ◌, ◌-ℤ◌, ◌*ℤ◌};
+ghost use Rattle.std.specs.Prelude.{if◌then◌else◌, length, drop, slice_index_or, false};
 ghost use Rattle.std.specs.Int.{int_min};
-ghost use Rattle.uc_model.specs.Earnings.{cost_of, production_cost, start_costs, bid_worth, worth_of};
+ghost use Rattle.uc_model.specs.declared.limits.TheConstants.{MOST_PERIODS};
+ghost use Rattle.uc_model.specs.Earnings.{cost_of, production_cost, start_costs, bid_worth};
+ghost use Rattle.uc_model.specs.Earnings.{worth_of};
 ghost use Rattle.uc_model.specs.Laws.{HasPlanShape};
-ghost use Rattle.uc_model.specs.Limits.{IsBlock, IsBlockList, IsCost, IsFrom};
+ghost use Rattle.uc_model.specs.Limits.{IsBlock, IsBlockList, IsCost, IsStartCost, IsFrom};
 ghost use Rattle.uc_model.specs.PlainCases.{market_of, schedules_of};
 ghost use Rattle.uc_model.specs.PlainUnits.{thermal_of, bid_of, schedule_of};
 ghost use Rattle.uc_model.specs.Schedules.{time_down, IsThermalFeasible};
 ghost use Rattle.uc_model.specs.Systems.{plan_cost, IsFeasiblePlan};
-ghost use Rattle.plan_check.specs.Costs.{sum_over, thermal_units, bid_units, production_at, start_cost_at, worth_at};
+ghost use Rattle.plan_check.specs.Costs.{sum_over, thermal_units, bid_units, production_at};
+ghost use Rattle.plan_check.specs.Costs.{start_cost_at, worth_at};
 
 use crate::rules;
 use cost_curve::costs::envelope_at;
@@ -23,15 +27,15 @@ fn power_cost(unit: &Unit, response: &Response, place: usize) -> i64
     ensures value { result ≡ production_at (thermal_of unit.now) (schedule_of response.now) place }
     ensures limit { IsCost result }
 {
-    if !rules::is_on(response, place) {
+    if !response.is_on(place) {
         return 0;
     }
-    envelope_at(unit.points.as_slice(), rules::power_at(response, place))
+    envelope_at(unit.points.as_slice(), response.power_at(place))
 }
 
 /// What the powers of a schedule cost.
 pub fn power_costs(unit: &Unit, response: &Response) -> i64
-    requires horizon { length (schedule_of response.now).on ≤ 168 }
+    requires horizon { length (schedule_of response.now).on ≤ MOST_PERIODS }
     requires feasible { IsThermalFeasible (thermal_of unit.now) (length (schedule_of response.now).on) (schedule_of response.now) }
     ensures value { result ≡ production_cost (thermal_of unit.now) (schedule_of response.now) }
     ensures limit { IsFrom (neg_ℤ (pos 2000000000000000)) (pos 2000000000000000) result }
@@ -56,7 +60,7 @@ fn time_after(response: &Response, place: usize, down: u64) -> u64
     requires limit { down < 1000000000 }
     ensures { result ≡ (if slice_index_or (schedule_of response.now).on place false then 0 else suc down) }
 {
-    if rules::is_on(response, place) {
+    if response.is_on(place) {
         return 0;
     }
     down + 1
@@ -67,12 +71,12 @@ fn cost_of_start(unit: &Unit, response: &Response, place: usize, down: u64) -> i
     requires within { place < length (schedule_of response.now).on }
     requires down { down ≡ time_down (thermal_of unit.now) (schedule_of response.now) place }
     ensures value { result ≡ start_cost_at (thermal_of unit.now) (schedule_of response.now) place }
-    ensures limit { IsFrom (pos 0) (pos 10000000000000) result }
+    ensures limit { IsStartCost result }
 {
     if rules::on_in_period(unit, response, place) {
         return 0;
     }
-    if !rules::is_on(response, place) {
+    if !response.is_on(place) {
         return 0;
     }
     start_cost(unit, down)
@@ -80,7 +84,7 @@ fn cost_of_start(unit: &Unit, response: &Response, place: usize, down: u64) -> i
 
 /// What the starts of a schedule cost.
 pub fn costs_of_starts(unit: &Unit, response: &Response) -> i64
-    requires { length (schedule_of response.now).on ≤ 168 }
+    requires { length (schedule_of response.now).on ≤ MOST_PERIODS }
     ensures value { result ≡ start_costs (thermal_of unit.now) (schedule_of response.now) }
     ensures limit { IsFrom (pos 0) (pos 2000000000000000) result }
 {
@@ -136,7 +140,7 @@ fn worth_in(blocks: &[Block], power: i64) -> i64
 
 /// What a bid's schedule is worth.
 pub fn worth(bid: &Bid, response: &Response) -> i128
-    requires horizon { length (schedule_of response.now).on ≤ 168 }
+    requires horizon { length (schedule_of response.now).on ≤ MOST_PERIODS }
     requires blocks { length (bid_of bid.now).blocks ≡ length (schedule_of response.now).on }
     ensures value { result ≡ bid_worth (bid_of bid.now) (schedule_of response.now) }
     ensures limit { IsFrom (pos 0) (pos 20000000000000000000) result }
@@ -144,7 +148,7 @@ pub fn worth(bid: &Bid, response: &Response) -> i128
     let mut sum = 0;
     for place in 0..response.on.len() {
         let blocks = bid.blocks.get(place).as_slice();
-        sum += i128::from(worth_in(blocks, rules::power_at(response, place)));
+        sum += i128::from(worth_in(blocks, response.power_at(place)));
     }
     sum
 }
@@ -171,7 +175,7 @@ fn worth_of_bids(case: &Case, plan: &Plan) -> i128
     ensures value { result ≡ neg_ℤ (sum_over cost_of (bid_units (market_of case.now)) (drop (length (market_of case.now).thermal + length (market_of case.now).flat) (schedules_of plan.now))) }
     ensures limit { IsFrom (pos 0) (pos 100000000000000000000000) result }
 {
-    let first = case.thermal.len() + case.flat.len();
+    let first = case.producer_count();
     let mut sum = 0;
     for place in 0..case.bids.len() {
         let bid = &case.bids.get(place).bid;

@@ -10,7 +10,7 @@ mod rules;
 mod states;
 #[cfg(test)]
 mod tests;
-mod totals;
+pub mod totals;
 
 pub use check::check_plan;
 

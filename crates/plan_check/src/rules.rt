@@ -1,12 +1,16 @@
 //! The rules of a thermal unit, each in one period.
-ghost use Rattle.std.specs.Prelude.{◌≡◌, ◌≤◌, ◌<◌, ◌+◌, ◌-◌, ◌-ℤ◌, ℕ, suc, length, if◌then◌else◌, int_le, slice_index_or, false, pos};
+ghost use Rattle.std.specs.Prelude.{◌≡◌, ◌≤◌, ◌<◌, ◌+◌, ◌-◌, ◌-ℤ◌, ℕ, suc, length, if◌then◌else◌};
+ghost use Rattle.std.specs.Prelude.{int_le, slice_index_or, false, pos};
 ghost use Rattle.std.specs.Int.{int_min};
 ghost use Rattle.uc_model.specs.Data.{Schedule};
 ghost use Rattle.uc_model.specs.Limits.{IsFrom};
 ghost use Rattle.uc_model.specs.PlainUnits.{thermal_of, schedule_of};
 ghost use Rattle.uc_model.specs.Schedules.{on_in, power_in, above_min, above_with_reserve};
 ghost use Rattle.uc_model.specs.Refusals as refusals;
-ghost use Rattle.uc_model.specs.Refusals.{changed_in, or_else, must_run_broken, initial_broken, min_up_broken, min_down_broken, range_broken, start_broken, stop_broken, ramp_up_broken, ramp_down_broken, window_broken};
+ghost use Rattle.uc_model.specs.Refusals.{changed_in, or_else, must_run_broken, initial_broken};
+ghost use Rattle.uc_model.specs.Refusals.{min_up_broken, min_down_broken, range_broken};
+ghost use Rattle.uc_model.specs.Refusals.{start_broken, stop_broken, ramp_up_broken};
+ghost use Rattle.uc_model.specs.Refusals.{ramp_down_broken, window_broken};
 ghost use Rattle.plan_check.specs.States.{sides_of, run_broken, IsStateIn};
 
 use crate::states::{Sides, State};
@@ -38,7 +42,7 @@ pub fn on_in_period(unit: &Unit, response: &Response, period: usize) -> bool
     if period == 0 {
         return unit.on0;
     }
-    *response.on.get(period - 1)
+    response.is_on(period - 1)
 }
 
 // What is seen in period 0.
@@ -194,29 +198,12 @@ pub fn first_of(first: Option<Sides>, second: Option<Sides>) -> Option<Sides>
     }
 }
 
-/// Whether the unit is on at a place.
-pub fn is_on(response: &Response, place: usize) -> bool
-    requires { place < length (schedule_of response.now).on }
-    ensures { result ≡ slice_index_or (schedule_of response.now).on place false }
-{
-    *response.on.get(place)
-}
-
-/// The power at a place.
-pub fn power_at(response: &Response, place: usize) -> i64
-    requires { place < length (schedule_of response.now).on }
-    ensures value { result ≡ power_in (schedule_of response.now) (suc place) }
-    ensures limit { IsFrom (pos 0) (pos 4294967296) result }
-{
-    i64::from(*response.power.get(place))
-}
-
 /// An on unit gives at least its least power, and with reserve at most its greatest; an off unit gives nothing.
 pub fn range_sides(unit: &Unit, response: &Response, place: usize) -> Option<Sides>
     requires { place < length (schedule_of response.now).on }
     ensures { sides_of result ≡ range_broken (thermal_of unit.now) (schedule_of response.now) place }
 {
-    let power = power_at(response, place);
+    let power = response.power_at(place);
     let now = state_at(unit, response, place);
     if now.on {
         return first_of(

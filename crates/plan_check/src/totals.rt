@@ -4,12 +4,13 @@ ghost use Rattle.std.specs.List.{All};
 ghost use Rattle.uc_model.specs.declared.units.Response.{Response};
 ghost use Rattle.uc_model.specs.Data.{units};
 ghost use Rattle.uc_model.specs.Laws.{HasPlanShape};
-ghost use Rattle.uc_model.specs.Limits.{IsFrom};
+ghost use Rattle.uc_model.specs.Limits.{IsFrom, IsPower};
 ghost use Rattle.uc_model.specs.PlainCases.{market_of, schedules_of};
 ghost use Rattle.uc_model.specs.PlainUnits.{schedule_of};
 ghost use Rattle.uc_model.specs.Refusals.{balance_broken, reserve_broken};
 ghost use Rattle.uc_model.specs.Schedules.{power_in, reserve_in};
-ghost use Rattle.uc_model.specs.Systems.{total_power};
+ghost use Rattle.uc_model.specs.Sums.{int_at};
+ghost use Rattle.uc_model.specs.Systems.{total_power, total_reserve};
 ghost use Rattle.plan_check.specs.States.{sides_of};
 ghost use Rattle.plan_check.specs.Totals.{powers_at, reserves_at};
 
@@ -35,16 +36,14 @@ fn with_response(totals: Totals, response: &Response, place: usize) -> Totals
     ensures power_limit { IsFrom (pos 0) (totals.power +ℤ pos 4294967296) result.power }
     ensures reserve_limit { IsFrom (pos 0) (totals.reserve +ℤ pos 4294967296) result.reserve }
 {
-    let power = i64::from(*response.power.get(place));
-    let reserve = i64::from(*response.reserve.get(place));
     Totals {
-        power: totals.power + power,
-        reserve: totals.reserve + reserve,
+        power: totals.power + response.power_at(place),
+        reserve: totals.reserve + response.reserve_at(place),
     }
 }
 
-/// The sums over schedules at a place.
-pub fn totals_at(responses: &[Response], place: usize) -> Totals
+// The sums over schedules at a place.
+fn totals_at(responses: &[Response], place: usize) -> Totals
     requires count { length responses.now ≤ 20000 }
     requires place { All (λ (r : Response). place < length (schedule_of r).on) responses.now }
     ensures power { result.power ≡ powers_at (map schedule_of responses.now) place }
@@ -69,7 +68,7 @@ fn net_power(case: &Case, plan: &Plan, place: usize) -> i64
     ensures value { result ≡ total_power (units (market_of case.now)) (schedules_of plan.now) place }
     ensures limit { IsFrom (neg_ℤ (pos 100000000000000)) (pos 100000000000000) result }
 {
-    let producers = case.thermal.len() + case.flat.len();
+    let producers = case.producer_count();
     let (producing, buying) = plan.responses.as_slice().split_at(producers);
     let given = totals_at(producing, place);
     let bought = totals_at(buying, place);
@@ -93,12 +92,35 @@ pub fn balance_sides(case: &Case, plan: &Plan, place: usize) -> Option<Sides>
     })
 }
 
+/// The required reserve of a period, and what the schedules of all units give, in kilowatts.
+#[derive(Clone, Copy)]
+pub struct Reserves {
+    pub required: i64,
+    pub given: i64,
+}
+
+/// The reserves of period `place + 1`.
+pub fn reserves_in(case: &Case, plan: &Plan, place: usize) -> Reserves
+    requires shape { HasPlanShape (market_of case.now) (schedules_of plan.now) }
+    requires within { place < (market_of case.now).periods }
+    ensures required { result.required ≡ int_at (market_of case.now).reserves place }
+    ensures given { result.given ≡ total_reserve (units (market_of case.now)) (schedules_of plan.now) place }
+    ensures required_limit { IsPower result.required }
+    ensures given_limit { IsFrom (pos 0) (pos 100000000000000) result.given }
+{
+    let totals = totals_at(plan.responses.as_slice(), place);
+    Reserves {
+        required: *case.reserves.get(place),
+        given: totals.reserve,
+    }
+}
+
 /// What the reserves lack at a place.
 pub fn reserve_sides(case: &Case, plan: &Plan, place: usize) -> Option<Sides>
     requires shape { HasPlanShape (market_of case.now) (schedules_of plan.now) }
     requires within { place < (market_of case.now).periods }
     ensures { sides_of result ≡ reserve_broken (market_of case.now) (schedules_of plan.now) place }
 {
-    let totals = totals_at(plan.responses.as_slice(), place);
-    rules::at_most(*case.reserves.get(place), totals.reserve)
+    let reserves = reserves_in(case, plan, place);
+    rules::at_most(reserves.required, reserves.given)
 }

@@ -1,6 +1,6 @@
 -- The prices after a step are those of the price rule, and within their limits.
 use Rattle.std.proofs.Common.{◌≡◌, ℕ, ◌-◌, ◌/◌, ◌^◌, ◌≤◌, min, ℤ, pos, ◌+ℤ◌, ◌-ℤ◌, ◌*ℤ◌, ◌≤ℤ◌, int_div, false, Some, Option, List, map, length, slice_get, ap, sym, subst, ◌∙◌, arith}
-use Rattle.std.proofs.lemmas.Int.{ints, clamps}
+use Rattle.std.proofs.lemmas.Int.{ints}
 use Rattle.std.specs.List.{All, range_with_len}
 use Rattle.std.specs.Option.{option_map_or}
 use Rattle.std.proofs.lemmas.Option.{get_or_from_slice_get}
@@ -9,12 +9,10 @@ use Rattle.price_move.specs.declared.entries.Side.TheVariants.{Energy, Reserve}
 use Rattle.uc_model.specs.Data.{Market, PriceLists}
 use Rattle.uc_model.specs.Limits.{IsFrom, price_limit}
 use Rattle.uc_model.specs.PriceRule.{Proposal, squared_length, age, stepped_prices, next_prices, no_prices, is_settled}
-use Rattle.uc_model.specs.Sums.{int_at, clamped}
+use Rattle.uc_model.specs.Sums.{int_at}
+use Rattle.uc_model.proofs.SignedLaws.{clamped_from}
 use Rattle.price_move.specs.Moves.{low_of, prices_on, direction_on, price_after, is_last_settled}
 use Rattle.price_move.specs.Sizes.{IsRowBelow}
-
-clamped_limits : (low high x : ℤ) → low ≤ℤ high → IsFrom low high (clamped low high x)
-clamped_limits low high x h = record { at_least = omega (arith, ints, clamps); at_most = omega (arith, ints, clamps) }
 
 low_is_low : (side : Side) → low_of side ≤ℤ price_limit
 low_is_low Energy = omega (arith, ints)
@@ -22,7 +20,7 @@ low_is_low Reserve = omega (arith, ints)
 
 pub price_limits : (m : Market) (r : Proposal) (gap scale : ℤ) (side : Side) (k : ℕ) → IsFrom (low_of side) price_limit (price_after m r gap scale side k)
 unfolding price_after
-price_limits m r gap scale side k = clamped_limits (low_of side) price_limit (int_at (prices_on side r) k +ℤ int_div (gap *ℤ direction_on m r side k) scale) (low_is_low side)
+price_limits m r gap scale side k = clamped_from (low_of side) price_limit (int_at (prices_on side r) k +ℤ int_div (gap *ℤ direction_on m r side k) scale) (low_is_low side)
 
 -- the scale of the rule
 abbrev scale_by_rule : Market → Proposal → ℕ → ℤ

@@ -2,20 +2,12 @@
 use Rattle.std.specs.Prelude.{◌≡◌, ℤ, pos, neg_ℤ, ◌≤ℤ◌, length}
 use Rattle.std.specs.List.{All}
 use Rattle.uc_model.specs.Data.{Market}
-use Rattle.uc_model.specs.Limits.{IsFrom}
+use Rattle.uc_model.specs.Limits.{IsFrom, IsTotal, IsWorth}
 use Rattle.uc_model.specs.PriceRule.{Proposal}
-
--- a total of powers or of reserves
-abbrev pub IsTotal : ℤ → Type 0
-IsTotal x = IsFrom (neg_ℤ (pos 10000000000000)) (pos 10000000000000) x
 
 -- an entry of a direction: a power less a total
 abbrev pub IsEntry : ℤ → Type 0
 IsEntry x = IsFrom (neg_ℤ (pos 20000000000000)) (pos 20000000000000) x
-
--- a dual value, or the cost of a plan
-abbrev pub IsWorth : ℤ → Type 0
-IsWorth x = IsFrom (neg_ℤ (pos 1000000000000000000000000)) (pos 1000000000000000000000000) x
 
 -- a row over the market's horizon
 pub record IsRowOver (m : Market) (r : Proposal) : Type 0 where

@@ -1,7 +1,7 @@
 //! The first row with the greatest value.
-ghost use Rattle.std.specs.Prelude.{◌≡◌, ◌<◌, int_lt, if◌then◌else◌, length, map, Some};
+ghost use Rattle.std.specs.Prelude.{◌≡◌, ◌<◌, ◌+◌, int_lt, if◌then◌else◌, length, map, Some};
 ghost use Rattle.uc_model.specs.PlainCases.{proposal_of};
-ghost use Rattle.uc_model.specs.PriceRule.{first_greatest};
+ghost use Rattle.uc_model.specs.PriceRule.{first_greatest, chosen_number};
 ghost use Rattle.uc_model.specs.Sums.{int_at};
 ghost use Rattle.price_move.specs.Moves.{values_of};
 
@@ -24,6 +24,7 @@ pub fn greatest(rows: &[Row]) -> usize
     requires { 0 < length rows.now }
     ensures place { result < length rows.now }
     ensures first { first_greatest (values_of (map proposal_of rows.now)) ≡ Some result }
+    ensures number { chosen_number (map proposal_of rows.now) ≡ result + 1 }
 {
     let mut best = 0;
     for i in 1..rows.len() {

@@ -1,15 +1,14 @@
 //! The direction in which the dual value of a row's prices rises.
 ghost use Rattle.std.specs.Prelude.{◌≡◌, ◌<◌, ◌*◌, ◌-ℤ◌, ◌≤ℤ◌, pos, neg_ℤ};
-ghost use Rattle.uc_model.specs.Limits.{IsFrom, IsPower, price_limit};
+ghost use Rattle.uc_model.specs.Limits.{IsPower, IsTotal};
 ghost use Rattle.uc_model.specs.PlainCases.{market_of, proposal_of};
-ghost use Rattle.uc_model.specs.PriceRule.{projected, direction_at, energy_direction, reserve_direction};
+ghost use Rattle.uc_model.specs.PriceRule.{projected, direction_at, energy_direction};
+ghost use Rattle.uc_model.specs.PriceRule.{reserve_direction};
 ghost use Rattle.price_move.specs.Moves.{direction_on};
-ghost use Rattle.price_move.specs.Sizes.{IsTotal, IsEntry, IsRowOver};
+ghost use Rattle.price_move.specs.Sizes.{IsEntry, IsRowOver};
 
 use uc_model::cases::{Case, Row};
-
-/// The greatest price in magnitude, in money for a kilowatt and period.
-pub const PRICE_LIMIT: i64 = 10_000_000;
+use uc_model::limits::PRICE_LIMIT;
 
 /// Energy prices may be negative, and reserve prices not.
 #[derive(Clone, Copy)]

@@ -11,6 +11,7 @@ mod entries;
 mod next;
 mod step;
 
+pub use best_row::greatest;
 pub use entries::direction;
 pub use next::{Moved, next_prices};
 

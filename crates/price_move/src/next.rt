@@ -1,12 +1,14 @@
 //! The prices that follow a list of rows.
-ghost use Rattle.std.specs.Prelude.{◌≡◌, ◌<◌, ◌≤◌, ◌-◌, ◌↔◌, ◌-ℤ◌, ◌||◌, ◌==◌, unsigned_abs, pos, IsTrue, length, map, Some, slice_get};
+ghost use Rattle.std.specs.Prelude.{◌≡◌, ◌<◌, ◌≤◌, ◌-◌, ◌↔◌, ◌-ℤ◌, ◌||◌, ◌==◌, unsigned_abs, pos};
+ghost use Rattle.std.specs.Prelude.{IsTrue, length, map, Some, slice_get};
 ghost use Rattle.std.specs.List.{All};
-ghost use Rattle.uc_model.specs.Limits.{IsFrom};
+ghost use Rattle.uc_model.specs.declared.limits.TheConstants.{MOST_PROPOSALS};
+ghost use Rattle.uc_model.specs.Limits.{IsFrom, IsWorth};
 ghost use Rattle.uc_model.specs.PlainCases.{market_of, proposal_of};
 ghost use Rattle.uc_model.specs.PlainUnits.{prices_of};
 ghost use Rattle.uc_model.specs.PriceRule.{age, next_prices as prices_after};
 ghost use Rattle.price_move.specs.Moves.{is_last_settled};
-ghost use Rattle.price_move.specs.Sizes.{IsWorth, IsRowBelow};
+ghost use Rattle.price_move.specs.Sizes.{IsRowBelow};
 
 use crate::best_row::greatest;
 use crate::entries::Side;
@@ -65,7 +67,7 @@ fn last(rows: &[Row]) -> &Row
 /// memory.
 pub fn next_prices(case: &Case, rows: &[Row], ahead: u32, cost: i128, into: &mut Prices) -> Moved
     requires some { 1 ≤ length rows.now }
-    requires count { length rows.now ≤ 10000 }
+    requires count { length rows.now ≤ MOST_PROPOSALS }
     requires rows { All (IsRowBelow (market_of case.now) cost) (map proposal_of rows.now) }
     requires cost { IsWorth cost }
     requires horizon { length (prices_of into.old).energy ≡ (market_of case.now).periods }

@@ -1,16 +1,19 @@
 //! One step of all prices along the direction.
-ghost use Rattle.std.specs.Prelude.{◌≡◌, ◌<◌, ◌≤◌, ◌*◌, ◌/◌, ◌^◌, min, ℕ, ℤ, pos, neg_ℤ, ◌+ℤ◌, ◌*ℤ◌, ◌≤ℤ◌, int_div, length, map};
+ghost use Rattle.std.specs.Prelude.{◌≡◌, ◌<◌, ◌≤◌, ◌*◌, ◌/◌, ◌^◌, min, ℕ, ℤ, pos, neg_ℤ, ◌+ℤ◌};
+ghost use Rattle.std.specs.Prelude.{◌*ℤ◌, ◌≤ℤ◌, int_div, length, map};
 ghost use Rattle.std.specs.List.{All, range_with_len};
 ghost use Rattle.uc_model.specs.Limits.{IsFrom, price_limit};
 ghost use Rattle.uc_model.specs.PlainCases.{market_of, proposal_of};
 ghost use Rattle.uc_model.specs.PriceRule.{squared_length};
-ghost use Rattle.uc_model.specs.Sums.{int_at, clamped};
+ghost use Rattle.uc_model.specs.Sums.{int_at};
 ghost use Rattle.price_move.specs.Moves.{low_of, prices_on, price_after as price_after_step};
 ghost use Rattle.price_move.specs.Sizes.{IsEntry, IsRowOver};
 
-use crate::entries::{PRICE_LIMIT, Side, direction, entry_on};
+use crate::entries::{Side, direction, entry_on};
 use uc_model::cases::{Case, Row};
+use uc_model::limits::PRICE_LIMIT;
 use uc_model::lists::Numbers;
+use uc_model::money::price_near;
 
 /// A step moves a price by `gap` times its entry of the direction over `scale`.
 #[derive(Clone, Copy)]
@@ -69,14 +72,6 @@ pub fn move_along(step: Step, entry: i64) -> i128
     ensures bound { IsFrom (neg_ℤ (pos 40000000000000000000000000000000000000)) (pos 40000000000000000000000000000000000000) result }
 {
     step.gap * i128::from(entry) / step.scale
-}
-
-/// The price that is nearest to a number and within its limits.
-pub fn price_near(low: i64, number: i128) -> i64
-    requires { IsFrom (neg_ℤ price_limit) price_limit low }
-    ensures { result ≡ clamped low price_limit number }
-{
-    i128::from(low).max(i128::from(PRICE_LIMIT).min(number)) as i64
 }
 
 fn low_limit(side: Side) -> i64

@@ -1,16 +1,17 @@
 ghost use Rattle.std.specs.Prelude.{◌≡◌, ◌≤ℤ◌, pos, neg_ℤ, length, map, IfOk, [], ◌∷◌};
 ghost use Rattle.std.specs.List.{All};
-ghost use Rattle.uc_model.specs.Limits.{IsFrom, IsPower, price_limit};
+ghost use Rattle.uc_model.specs.Limits.{IsFrom, IsPower, IsTotal, IsWorth, price_limit};
 ghost use Rattle.uc_model.specs.PlainCases.{market_of, proposal_of};
 ghost use Rattle.uc_model.specs.PlainUnits.{prices_of};
-ghost use Rattle.price_move.specs.Sizes.{IsTotal, IsWorth, IsRowOver};
+ghost use Rattle.price_move.specs.Sizes.{IsRowOver};
 
-use crate::step::{Step, move_along, price_near, scale_of};
+use crate::step::{Step, move_along, scale_of};
 use crate::{Moved, direction, next_prices};
 use std::alloc::{AllocError, Global};
 use std::test::Fail;
 use uc_model::cases::{Case, Row};
 use uc_model::lists::{Amounts, Name, Numbers};
+use uc_model::money::price_near;
 use uc_model::units::{BidList, FlatList, NamedFlat, Prices, Renewable, ThermalList};
 
 // One period, with a renewable unit.

@@ -7,14 +7,12 @@ use Rattle.uc_model.specs.Data.{PriceLists}
 use Rattle.uc_model.specs.Limits.{IsFrom, price_limit}
 use Rattle.uc_model.specs.PriceRule.{opening_prices_of}
 use Rattle.uc_model.specs.Sums.{int_at, floor_div, clamped}
+use Rattle.uc_model.proofs.SignedLaws.{clamped_from}
 use Rattle.price_space.specs.Opening.{opened}
-
-clamped_limits : (low high x : ℤ) → low ≤ℤ high → IsFrom low high (clamped low high x)
-clamped_limits low high x h = record { at_least = omega (arith, ints, clamps); at_most = omega (arith, ints, clamps) }
 
 pub opened_limits : (n : ℕ) (s : ℤ) → IsFrom (neg_ℤ price_limit) price_limit (opened n s)
 unfolding opened
-opened_limits n s = clamped_limits (neg_ℤ price_limit) price_limit (floor_div (s *ℤ pos (7 + n)) 8) (omega (arith, ints))
+opened_limits n s = clamped_from (neg_ℤ price_limit) price_limit (floor_div (s *ℤ pos (7 + n)) 8) (omega (arith, ints))
 
 pub map_by_places : (f : ℤ → ℤ) (xs ys : List ℤ) → length xs ≡ length ys → ((k : ℕ) → k < length xs → int_at xs k ≡ f (int_at ys k)) → xs ≡ map f ys
 map_by_places f [] [] e h = refl

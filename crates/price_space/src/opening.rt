@@ -4,13 +4,13 @@ ghost use Rattle.std.specs.List.{All};
 ghost use Rattle.uc_model.specs.Limits.{IsFrom, price_limit};
 ghost use Rattle.uc_model.specs.PlainUnits.{prices_of};
 ghost use Rattle.uc_model.specs.PriceRule.{opening_prices_of};
-ghost use Rattle.uc_model.specs.Sums.{floor_div, clamped};
+ghost use Rattle.uc_model.specs.Sums.{floor_div};
 ghost use Rattle.price_space.specs.Opening.{opened};
 
+use uc_model::limits::PRICE_LIMIT;
 use uc_model::lists::Numbers;
+use uc_model::money::price_near;
 use uc_model::units::Prices;
-
-const PRICE_LIMIT: i128 = 10_000_000;
 
 // (7 + n) / 8 of a start price, rounded down. A start price may be any number.
 fn share_of(start: i64, n: u32) -> i128
@@ -20,18 +20,11 @@ fn share_of(start: i64, n: u32) -> i128
     (i128::from(start) * i128::from(7 + n)).div_euclid(8)
 }
 
-// The price that is nearest to a number and within its limits.
-fn price_near(number: i128) -> i64
-    ensures { result ≡ clamped (neg_ℤ price_limit) price_limit number }
-{
-    (-PRICE_LIMIT).max(PRICE_LIMIT.min(number)) as i64
-}
-
 fn opening_price(start: i64, n: u32) -> i64
     requires { n ≤ 16 }
     ensures { result ≡ opened n start }
 {
-    price_near(share_of(start, n))
+    price_near(-PRICE_LIMIT, share_of(start, n))
 }
 
 fn open_energy(start: &Numbers, n: u32, into: &mut Numbers)

@@ -1,4 +1,9 @@
-pub mod Bounds
-pub mod Lists
+-- ---- src/earned.rt
+-- what prices pay for the power and the reserve of a schedule
 pub mod Paid
+-- the unit of a number, and what its schedule earns
 pub mod Units
+
+-- ---- src/earned.rt and src/settlement.rt
+-- what one of a plan's schedules, or a best schedule, earns fits its type
+pub mod Bounds

@@ -7,8 +7,8 @@ use Rattle.uc_model.specs.Limits.{AreOneLength}
 use Rattle.uc_model.specs.Schedules.{power_in, reserve_in}
 use Rattle.uc_model.specs.Sums.{int_at, sum_below}
 use Rattle.uc_model.proofs.IntLaws.{sum_below-same, sum_below-add, sum_below-sub}
+use Rattle.uc_model.proofs.SignedLaws.{mul-neg}
 use Rattle.uplift_settle.specs.Earned.{paid_for}
-use Rattle.uplift_settle.proofs.Bounds.{mul-neg}
 
 module _ (π : PriceLists) (s : Schedule) (one : AreOneLength s) where
   abbrev energy : ℕ → ℤ

@@ -1,9 +1,10 @@
 //! What the schedules of a plan earn.
 ghost use Rattle.std.specs.Prelude.{◌≡◌, ◌≤◌, ◌<◌, ◌+◌, pos, neg_ℤ, ◌*ℤ◌, length, Some, slice_get};
 ghost use Rattle.std.specs.List.{All};
+ghost use Rattle.uc_model.specs.declared.limits.TheConstants.{MOST_PERIODS};
 ghost use Rattle.uc_model.specs.Data.{RenewableUnit, Thermal, Flat, Bid as BidOf};
 ghost use Rattle.uc_model.specs.Earnings.{earnings};
-ghost use Rattle.uc_model.specs.Limits.{IsFrom, price_limit};
+ghost use Rattle.uc_model.specs.Limits.{IsFrom, IsEarned, price_limit};
 ghost use Rattle.uc_model.specs.PlainCases.{market_of, schedules_of};
 ghost use Rattle.uc_model.specs.PlainUnits.{thermal_of, bid_of, prices_of, schedule_of};
 ghost use Rattle.uc_model.specs.Schedules.{IsThermalFeasible};
@@ -12,24 +13,17 @@ ghost use Rattle.uplift_settle.specs.Earned.{paid_for, earned_in};
 
 use plan_check::costs::{costs_of_starts, power_costs, worth};
 use uc_model::cases::{Case, Plan};
+use uc_model::laws::{earnings_are_within, feasible_plans_have_shape, units_are_numbered};
+use uc_model::laws::{units_are_within};
 use uc_model::lists::{Numbers, Powers};
+use uc_model::money;
 use uc_model::units::{Bid, Prices, Response, Unit};
-
-/// What a price pays for so many kilowatts.
-pub fn pay(price: i64, amount: i64) -> i128
-    requires price { IsFrom (neg_ℤ price_limit) price_limit price }
-    requires amount { IsFrom (neg_ℤ (pos 200000000000000)) (pos 200000000000000) amount }
-    ensures value { result ≡ price *ℤ amount }
-    ensures limit { IsFrom (neg_ℤ (pos 2000000000000000000000)) (pos 2000000000000000000000) result }
-{
-    i128::from(price) * i128::from(amount)
-}
 
 // What the prices of all periods pay for the amounts of all periods.
 fn paid(prices: &Numbers, amounts: &Powers) -> i128
     requires prices { All (IsFrom (neg_ℤ price_limit) price_limit) prices.now.items }
     requires lengths { length prices.now.items ≡ length amounts.now.items }
-    requires horizon { length amounts.now.items ≤ 168 }
+    requires horizon { length amounts.now.items ≤ MOST_PERIODS }
     ensures value { result ≡ paid_for prices.now.items amounts.now.items }
     ensures limit { IsFrom (neg_ℤ (pos 1000000000000000000000000)) (pos 1000000000000000000000000) result }
 {
@@ -37,7 +31,7 @@ fn paid(prices: &Numbers, amounts: &Powers) -> i128
     for place in 0..amounts.len() {
         let price = *prices.get(place);
         let amount = *amounts.get(place);
-        sum += pay(price, i64::from(amount));
+        sum += money::worth(price, i64::from(amount));
     }
     sum
 }
@@ -80,6 +74,8 @@ fn thermal_earned(case: &Case, plan: &Plan, prices: &Prices, number: usize) -> i
     requires number { number < length (market_of case.now).thermal }
     ensures { slice_get (earned_in (market_of case.now) (schedules_of plan.now) (prices_of prices.now)) number ≡ Some result }
 {
+    units_are_numbered();
+    feasible_plans_have_shape();
     let unit = case.thermal.get(number);
     let response = plan.responses.get(number);
     thermal_earnings(&unit.unit, prices, response)
@@ -93,6 +89,8 @@ fn flat_earned(case: &Case, plan: &Plan, prices: &Prices, number: usize) -> i128
     requires last { number < length (market_of case.now).thermal + length (market_of case.now).flat }
     ensures { slice_get (earned_in (market_of case.now) (schedules_of plan.now) (prices_of prices.now)) number ≡ Some result }
 {
+    units_are_numbered();
+    feasible_plans_have_shape();
     let response = plan.responses.get(number);
     flat_earnings(prices, response)
 }
@@ -104,7 +102,9 @@ fn bid_earned(case: &Case, plan: &Plan, prices: &Prices, place: usize) -> i128
     requires place { place < length (market_of case.now).bids }
     ensures { slice_get (earned_in (market_of case.now) (schedules_of plan.now) (prices_of prices.now)) ((length (market_of case.now).thermal + length (market_of case.now).flat) + place) ≡ Some result }
 {
-    let producers = case.thermal.len() + case.flat.len();
+    units_are_numbered();
+    feasible_plans_have_shape();
+    let producers = case.producer_count();
     let bid = case.bids.get(place);
     let response = plan.responses.get(producers + place);
     bid_earnings(&bid.bid, prices, response)
@@ -117,9 +117,9 @@ fn earned_at(case: &Case, plan: &Plan, prices: &Prices, number: usize) -> i128
     requires number { number < length (schedules_of plan.now) }
     ensures { slice_get (earned_in (market_of case.now) (schedules_of plan.now) (prices_of prices.now)) number ≡ Some result }
 {
-    let thermal = case.thermal.len();
-    let producers = thermal + case.flat.len();
-    if number < thermal {
+    feasible_plans_have_shape();
+    let producers = case.producer_count();
+    if number < case.thermal.len() {
         return thermal_earned(case, plan, prices, number);
     }
     if number < producers {
@@ -134,7 +134,9 @@ pub fn earned_by(case: &Case, plan: &Plan, prices: &Prices, number: usize) -> i6
     requires horizon { length (prices_of prices.now).energy ≡ (market_of case.now).periods }
     requires number { number < length (schedules_of plan.now) }
     ensures value { slice_get (earned_in (market_of case.now) (schedules_of plan.now) (prices_of prices.now)) number ≡ Some result }
-    ensures limit { IsFrom (neg_ℤ (pos 3500000000000000000)) (pos 3500000000000000000) result }
+    ensures limit { IsEarned result }
 {
+    units_are_within();
+    earnings_are_within();
     earned_at(case, plan, prices, number) as i64
 }

@@ -1,22 +1,24 @@
 //! The payments of all units, and the surplus reserve.
-ghost use Rattle.std.specs.Prelude.{◌≡◌, ◌≤◌, ◌<◌, ◌+◌, suc, ℤ, pos, neg_ℤ, ◌+ℤ◌, ◌-ℤ◌, [], ◌∷◌, ◌++◌, length, map, Some, slice_get};
-ghost use Rattle.std.specs.List.{All, AllZip};
-ghost use Rattle.uc_model.specs.declared.units.Response.{Response};
+ghost use Rattle.std.specs.Prelude.{◌≡◌, ◌≤◌, ◌<◌, ◌+◌, suc, ℤ, pos, neg_ℤ, ◌+ℤ◌, ◌-ℤ◌, [], ◌∷◌};
+ghost use Rattle.std.specs.Prelude.{◌++◌, length, map, Some, slice_get};
+ghost use Rattle.std.specs.List.{AllZip};
 ghost use Rattle.uc_model.specs.Data.{AnyUnit, units, unit_count};
 ghost use Rattle.uc_model.specs.Earnings.{IsTop};
-ghost use Rattle.uc_model.specs.Limits.{IsFrom};
+ghost use Rattle.uc_model.specs.Limits.{IsFrom, IsEarned, IsWorth};
 ghost use Rattle.uc_model.specs.PlainCases.{market_of, schedules_of};
-ghost use Rattle.uc_model.specs.PlainUnits.{prices_of, schedule_of};
-ghost use Rattle.uc_model.specs.Schedules.{reserve_in};
+ghost use Rattle.uc_model.specs.PlainUnits.{prices_of};
 ghost use Rattle.uc_model.specs.Systems.{IsFeasiblePlan, IsSettled, surplus_value};
-ghost use Rattle.plan_check.specs.Totals.{reserves_at};
 ghost use Rattle.uplift_settle.specs.Earned.{surplus_at};
 
-use crate::earned::{earned_by, pay};
+use crate::earned::earned_by;
+use plan_check::totals::reserves_in;
 use std::alloc::{AllocError, Global};
 use uc_model::cases::{Case, Plan};
+use uc_model::laws::{earnings_are_within, feasible_plans_have_shape, units_are_numbered};
+use uc_model::laws::{units_are_within};
 use uc_model::lists::Numbers;
-use uc_model::units::{Prices, Response};
+use uc_model::money::worth;
+use uc_model::units::Prices;
 
 /// What the units of a case earn in a plan and are paid beside the prices, in money. A list has one number for each
 /// thermal unit, renewable unit and bid, in the order of the units' numbers.
@@ -53,29 +55,6 @@ impl Settlement {
     }
 }
 
-// The reserve of one unit at a place.
-fn reserve_at(response: &Response, place: usize) -> i64
-    requires { place < length (schedule_of response.now).on }
-    ensures value { result ≡ reserve_in (schedule_of response.now) (suc place) }
-    ensures limit { IsFrom (pos 0) (pos 4294967296) result }
-{
-    i64::from(*response.reserve.get(place))
-}
-
-// The reserve of all units at a place.
-fn reserve_of(responses: &[Response], place: usize) -> i64
-    requires count { length responses.now ≤ 20000 }
-    requires place { All (λ (r : Response). place < length (schedule_of r).on) responses.now }
-    ensures value { result ≡ reserves_at (map schedule_of responses.now) place }
-    ensures limit { IsFrom (pos 0) (pos 100000000000000) result }
-{
-    let mut sum = 0;
-    for response in responses {
-        sum += reserve_at(response, place);
-    }
-    sum
-}
-
 // The reserve above the requirement at a place, in kilowatts; below 0 where it lacks.
 fn reserve_over(case: &Case, plan: &Plan, place: usize) -> i64
     requires feasible { IsFeasiblePlan (market_of case.now) (schedules_of plan.now) }
@@ -83,8 +62,9 @@ fn reserve_over(case: &Case, plan: &Plan, place: usize) -> i64
     ensures value { result ≡ surplus_at (market_of case.now) (schedules_of plan.now) place }
     ensures limit { IsFrom (neg_ℤ (pos 200000000000000)) (pos 200000000000000) result }
 {
-    let given = reserve_of(plan.responses.as_slice(), place);
-    given - *case.reserves.get(place)
+    feasible_plans_have_shape();
+    let reserves = reserves_in(case, plan, place);
+    reserves.given - reserves.required
 }
 
 // What the surplus reserve of all periods is worth.
@@ -96,7 +76,7 @@ fn surplus_of(case: &Case, plan: &Plan, prices: &Prices) -> i128
     let mut sum = 0;
     for place in 0..case.periods as usize {
         let price = *prices.reserve.get(place);
-        sum += pay(price, reserve_over(case, plan, place));
+        sum += worth(price, reserve_over(case, plan, place));
     }
     sum
 }
@@ -111,8 +91,8 @@ fn best_of(earned: &[i64], number: usize) -> i64
 
 // What is to be paid beside the prices.
 fn uplift(best: i64, scheduled: i64) -> i64
-    requires best { IsFrom (neg_ℤ (pos 3500000000000000000)) (pos 3500000000000000000) best }
-    requires scheduled { IsFrom (neg_ℤ (pos 3500000000000000000)) (pos 3500000000000000000) scheduled }
+    requires best { IsEarned best }
+    requires scheduled { IsEarned scheduled }
     ensures value { result ≡ best -ℤ scheduled }
     ensures limit { IsFrom (neg_ℤ (pos 7000000000000000000)) (pos 7000000000000000000) result }
 {
@@ -124,7 +104,7 @@ fn add_unit(into: &mut Settlement, scheduled: i64, payment: i64)
     requires scheduled_room { 1 ≤ into.old.scheduled.spare }
     requires payments_room { 1 ≤ into.old.payments.spare }
     requires payment { IsFrom (neg_ℤ (pos 7000000000000000000)) (pos 7000000000000000000) payment }
-    requires total { IsFrom (neg_ℤ (pos 1000000000000000000000000)) (pos 1000000000000000000000000) into.old.total }
+    requires total { IsWorth into.old.total }
     ensures scheduled { into.new.scheduled.items ≡ into.old.scheduled.items ++ scheduled ∷ [] }
     ensures payments { into.new.payments.items ≡ into.old.payments.items ++ payment ∷ [] }
     ensures total { into.new.total ≡ into.old.total +ℤ payment }
@@ -150,6 +130,10 @@ pub fn settle(case: &Case, plan: &Plan, prices: &Prices, earned: &[i64], into: &
     ensures scheduled_room { into.new.scheduled.spare ≡ into.old.scheduled.spare }
     ensures payments_room { into.new.payments.spare ≡ into.old.payments.spare }
 {
+    units_are_numbered();
+    units_are_within();
+    earnings_are_within();
+    feasible_plans_have_shape();
     into.scheduled.clear();
     into.payments.clear();
     into.total = 0;

@@ -9,9 +9,9 @@ use Rattle.uc_model.specs.Limits.{IsRenewableUnit}
 use Rattle.uc_model.specs.PlainCases.{schedules_of}
 use Rattle.uc_model.specs.PlainUnits.{renewable_of, schedule_of, named_thermal_of, named_renewable_of}
 use Rattle.uc_model.specs.Refusals.{told, renewable_broken}
+use Rattle.uc_model.proofs.ListLaws.{item_of, map_item, drop_item}
 use Rattle.plan_check.proofs.FindLaws.{over_units_first, over_units_none, NoneBefore-more, all_renewable_is}
 use Rattle.plan_check.proofs.PlanLaws.{HasLengths}
-use Rattle.plan_check.proofs.ShapeLaws.{item_of, map_item, drop_item}
 use Rattle.plan_check.proofs.check.check_renewables.Goals as goal
 
 pub check_renewable-requires-clause-horizon : goal.check_renewable-requires-clause-horizon

@@ -7,9 +7,9 @@ use Rattle.uc_model.specs.Limits.{IsThermalUnit}
 use Rattle.uc_model.specs.PlainCases.{schedules_of}
 use Rattle.uc_model.specs.PlainUnits.{thermal_of, schedule_of, named_thermal_of}
 use Rattle.uc_model.specs.Refusals.{thermal_refusals}
+use Rattle.uc_model.proofs.ListLaws.{item_of, map_item}
 use Rattle.plan_check.proofs.FindLaws.{over_units_first, over_units_none, NoneBefore-more, all_thermal_is}
 use Rattle.plan_check.proofs.PlanLaws.{HasLengths}
-use Rattle.plan_check.proofs.ShapeLaws.{item_of, map_item}
 use Rattle.plan_check.proofs.check.check_thermals.Goals as goal
 
 pub check_thermal-requires-clause-horizon : goal.check_thermal-requires-clause-horizon

@@ -2,8 +2,9 @@ use Rattle.std.proofs.Common.{◌≡◌, ◌+◌, ℕ, suc, false, cond, get_or,
 use Rattle.std.proofs.lemmas.Int.{ints}
 use Rattle.uc_model.specs.PlainUnits.{thermal_of, schedule_of}
 use Rattle.uc_model.specs.Schedules.{time_down}
+use Rattle.uc_model.proofs.ListLaws.{sum_more}
 use Rattle.plan_check.specs.Costs.{start_cost_at}
-use Rattle.plan_check.proofs.CostSums.{sum_more, cond_at_most}
+use Rattle.plan_check.proofs.CostSums.{cond_at_most}
 use Rattle.plan_check.proofs.costs.costs_of_starts.Goals as goal
 
 pub loop-place-preserved : goal.loop-place-preserved

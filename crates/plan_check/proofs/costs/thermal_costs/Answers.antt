@@ -6,9 +6,9 @@ use Rattle.uc_model.specs.Earnings.{cost_of}
 use Rattle.uc_model.specs.PlainCases.{market_of, schedules_of}
 use Rattle.uc_model.specs.PlainUnits.{thermal_of, schedule_of, named_thermal_of}
 use Rattle.uc_model.specs.Schedules.{IsFeasible, IsThermalFeasible}
+use Rattle.uc_model.proofs.ListLaws.{item_of, map_item, zip_item, front_item}
 use Rattle.plan_check.specs.Costs.{thermal_units, bid_units}
 use Rattle.plan_check.proofs.PlanLaws.{HasLengths}
-use Rattle.plan_check.proofs.ShapeLaws.{item_of, map_item, zip_item, front_item}
 use Rattle.plan_check.proofs.SystemLaws.{sum_over-more}
 use Rattle.plan_check.proofs.costs.thermal_costs.Goals as goal
 

@@ -7,9 +7,8 @@ use Rattle.uc_model.specs.Limits.{IsBlockList}
 use Rattle.uc_model.specs.PlainUnits.{bid_of, schedule_of}
 use Rattle.uc_model.specs.Reserved.{items_in}
 use Rattle.uc_model.specs.Schedules.{power_in}
+use Rattle.uc_model.proofs.ListLaws.{sum_more, item_of, map_item}
 use Rattle.plan_check.specs.Costs.{worth_at}
-use Rattle.plan_check.proofs.CostSums.{sum_more}
-use Rattle.plan_check.proofs.ShapeLaws.{item_of, map_item}
 use Rattle.plan_check.proofs.costs.worth.Goals as goal
 
 pub worth_in-requires-clause-blocks : goal.worth_in-requires-clause-blocks

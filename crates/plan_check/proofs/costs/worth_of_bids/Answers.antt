@@ -7,9 +7,9 @@ use Rattle.uc_model.specs.Earnings.{cost_of}
 use Rattle.uc_model.specs.Limits.{IsBidUnit}
 use Rattle.uc_model.specs.PlainCases.{market_of, schedules_of}
 use Rattle.uc_model.specs.PlainUnits.{bid_of, schedule_of, named_thermal_of, named_renewable_of, named_bid_of}
+use Rattle.uc_model.proofs.ListLaws.{item_of, map_item, drop_item}
 use Rattle.plan_check.specs.Costs.{bid_units}
 use Rattle.plan_check.proofs.PlanLaws.{HasLengths}
-use Rattle.plan_check.proofs.ShapeLaws.{item_of, map_item, drop_item}
 use Rattle.plan_check.proofs.SystemLaws.{sum_over-more}
 use Rattle.plan_check.proofs.costs.worth_of_bids.Goals as goal
 
@@ -18,7 +18,7 @@ worth-sum-requires-clause-horizon c =
     let m = market_of c.args.case.now in
     let ps = schedules_of c.args.plan.now in
     let i = c.loop-place.place in
-    let first = c.len.result + c.len-2.result in
+    let first = c.producer_count-first.result in
     let x = c.get.result.now in
     let s = schedule_of c.get-in-loop-place.result.now in
     let unit_at = map_item named_bid_of c.args.case.now.bids.items i x c.get.ensures.item in
@@ -33,7 +33,7 @@ worth-sum-requires-clause-blocks c =
     let m = market_of c.args.case.now in
     let ps = schedules_of c.args.plan.now in
     let i = c.loop-place.place in
-    let first = c.len.result + c.len-2.result in
+    let first = c.producer_count-first.result in
     let x = c.get.result.now in
     let s = schedule_of c.get-in-loop-place.result.now in
     let unit_at = map_item named_bid_of c.args.case.now.bids.items i x c.get.ensures.item in
@@ -47,14 +47,13 @@ loop-place-preserved c =
     let m = market_of c.args.case.now in
     let ps = schedules_of c.args.plan.now in
     let i = c.loop-place.place in
-    let first = c.len.result + c.len-2.result in
+    let first = c.producer_count-first.result in
     let x = c.get.result.now in
     let s = schedule_of c.get-in-loop-place.result.now in
     let unit_at = map_item named_bid_of c.args.case.now.bids.items i x c.get.ensures.item in
     let whole_at = map_item schedule_of c.args.plan.now.responses.items (first + i) c.get-in-loop-place.result.now c.get-in-loop-place.ensures.item in
     let lengths = item_of (HasLengths c.args.case.now.periods) ps (first + i) s c.requires.lengths whole_at in
-    let skip : length m.thermal + length m.flat ≡ c.len.result + c.len-2.result =
-    omega (arith, length-map c.args.case.now.thermal.items named_thermal_of, length-map c.args.case.now.flat.items named_renewable_of, c.len.ensures, c.len-2.ensures) in
+    let skip = sym c.producer_count-first.ensures in
     let plan_at = drop_item (length m.thermal + length m.flat) ps i ∙ ap (λ (n : ℕ). slice_get ps (n + i)) skip ∙ whole_at in
     let u_at = map_item (λ (n : NamedBidUnit). Bid n.unit) m.bids i (named_bid_of x) unit_at in
     let known = c.loop-place.invariant in

@@ -6,24 +6,25 @@ use Rattle.std.specs.List.{All}
 use Rattle.uc_model.specs.declared.units.Response.{Response}
 use Rattle.uc_model.specs.PlainCases.{market_of, schedules_of}
 use Rattle.uc_model.specs.PlainUnits.{schedule_of, named_thermal_of, named_renewable_of}
+use Rattle.uc_model.proofs.ListLaws.{drop-map}
 use Rattle.plan_check.specs.Totals.{powers_at}
-use Rattle.plan_check.proofs.ShapeLaws.{covers, drop-map}
+use Rattle.plan_check.proofs.ShapeLaws.{covers}
 use Rattle.plan_check.proofs.SystemLaws.{total_power_is}
 use Rattle.plan_check.proofs.totals.net_power.Goals as goal
 
 pub totals_at-given-requires-clause-place : goal.totals_at-given-requires-clause-place
 totals_at-given-requires-clause-place c =
     let P = λ (r : Response). c.args.place < length (schedule_of r).on in
-    let front = c.split_at.ensures.front ∙ ap (λ (rs : List Response). take (c.len.result + c.len-2.result) rs) c.as_slice.ensures in
+    let front = c.split_at.ensures.front ∙ ap (λ (rs : List Response). take c.producer_count-producers.result rs) c.as_slice.ensures in
     subst (λ (rs : List Response). All (λ (r : Response). c.args.place < length (schedule_of r).on) rs) (sym front)
-    (All-take (λ (r : Response). c.args.place < length (schedule_of r).on) (c.len.result + c.len-2.result) c.args.plan.now.responses.items
+    (All-take (λ (r : Response). c.args.place < length (schedule_of r).on) c.producer_count-producers.result c.args.plan.now.responses.items
     (covers c.args.plan.now.responses.items c.args.case.now.periods c.args.place c.requires.shape.lengths c.requires.within))
 
 pub totals_at-bought-requires-clause-place : goal.totals_at-bought-requires-clause-place
 totals_at-bought-requires-clause-place c =
-    let back = c.split_at.ensures.back ∙ ap (λ (rs : List Response). drop (c.len.result + c.len-2.result) rs) c.as_slice.ensures in
+    let back = c.split_at.ensures.back ∙ ap (λ (rs : List Response). drop c.producer_count-producers.result rs) c.as_slice.ensures in
     subst (λ (rs : List Response). All (λ (r : Response). c.args.place < length (schedule_of r).on) rs) (sym back)
-    (All-drop (λ (r : Response). c.args.place < length (schedule_of r).on) (c.len.result + c.len-2.result) c.args.plan.now.responses.items
+    (All-drop (λ (r : Response). c.args.place < length (schedule_of r).on) c.producer_count-producers.result c.args.plan.now.responses.items
     (covers c.args.plan.now.responses.items c.args.case.now.periods c.args.place c.requires.shape.lengths c.requires.within))
 
 pub returns-clause-value : goal.returns-clause-value
@@ -31,15 +32,14 @@ returns-clause-value c =
     let m = market_of c.args.case.now in
     let ps = schedules_of c.args.plan.now in
     let k = c.args.place in
-    let n = c.len.result + c.len-2.result in
+    let n = c.producer_count-producers.result in
     let items = c.args.plan.now.responses.items in
     let whole = total_power_is m ps c.requires.shape.count k in
-    let count : length m.thermal + length m.flat ≡ c.len.result + c.len-2.result =
-    omega (arith, length-map c.args.case.now.thermal.items named_thermal_of, length-map c.args.case.now.flat.items named_renewable_of, c.len.ensures, c.len-2.ensures) in
+    let count = sym c.producer_count-producers.ensures in
     let front_n = ap (λ (j : ℕ). powers_at (take j ps) k) count in
     let back_n = ap (λ (j : ℕ). powers_at (drop j ps) k) count in
-    let front = c.split_at.ensures.front ∙ ap (λ (rs : List Response). take (c.len.result + c.len-2.result) rs) c.as_slice.ensures in
-    let back = c.split_at.ensures.back ∙ ap (λ (rs : List Response). drop (c.len.result + c.len-2.result) rs) c.as_slice.ensures in
+    let front = c.split_at.ensures.front ∙ ap (λ (rs : List Response). take c.producer_count-producers.result rs) c.as_slice.ensures in
+    let back = c.split_at.ensures.back ∙ ap (λ (rs : List Response). drop c.producer_count-producers.result rs) c.as_slice.ensures in
     let given = c.totals_at-given.ensures.power ∙ ap (λ (rs : List Response). powers_at (map schedule_of rs) k) front ∙ ap (λ ss. powers_at ss k) (sym (take-map schedule_of n items)) in
     let bought = c.totals_at-bought.ensures.power ∙ ap (λ (rs : List Response). powers_at (map schedule_of rs) k) back ∙ ap (λ ss. powers_at ss k) (sym (drop-map schedule_of n items)) in
     let a = c.totals_at-given.ensures.power_limit.at_least in

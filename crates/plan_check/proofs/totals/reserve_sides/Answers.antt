@@ -1,32 +1,18 @@
-use Rattle.std.proofs.Common.{rules, ◌<◌, ℤ, pos, List, map, length, sym, ap, ◌∙◌, subst, w64, FitsSigned}
+use Rattle.std.proofs.Common.{rules, ℤ, ap, ◌∙◌, w64, FitsSigned}
 use Rattle.std.proofs.lemmas.Int.{to_z-of_z}
-use Rattle.std.proofs.lemmas.Option.{get_or_from_slice_get}
-use Rattle.std.specs.List.{All}
 use Rattle.std.specs.Prelude.{int_le}
-use Rattle.uc_model.specs.declared.units.Response.{Response}
-use Rattle.uc_model.specs.PlainCases.{market_of, schedules_of}
-use Rattle.uc_model.specs.PlainUnits.{schedule_of}
+use Rattle.uc_model.specs.PlainCases.{market_of}
 use Rattle.uc_model.specs.Refusals.{unless}
 use Rattle.uc_model.specs.Sums.{int_at}
-use Rattle.plan_check.specs.Totals.{reserves_at}
-use Rattle.plan_check.proofs.ShapeLaws.{covers}
-use Rattle.plan_check.proofs.SystemLaws.{total_reserve_is}
 use Rattle.plan_check.proofs.totals.reserve_sides.Goals as goal
-
-pub totals_at-totals-requires-clause-place : goal.totals_at-totals-requires-clause-place
-totals_at-totals-requires-clause-place c =
-    subst (λ (rs : List Response). All (λ (r : Response). c.args.place < length (schedule_of r).on) rs) (sym c.as_slice.ensures)
-    (covers c.args.plan.now.responses.items c.args.case.now.periods c.args.place c.requires.shape.lengths c.requires.within)
 
 pub returns : goal.returns
 returns c =
     let m = market_of c.args.case.now in
-    let ps = schedules_of c.args.plan.now in
     let k = c.args.place in
-    let f1 : FitsSigned w64 c.get.result.now = search rules in
-    let f2 : FitsSigned w64 c.totals_at-totals.result.reserve = search rules in
+    let f1 : FitsSigned w64 c.reserves_in-reserves.result.required = search rules in
+    let f2 : FitsSigned w64 c.reserves_in-reserves.result.given = search rules in
     let told = simp to_z-of_z at c.at_most.ensures in
-    let required = get_or_from_slice_get c.args.case.now.reserves.items k c.get.result.now (pos 0) c.get.ensures.item in
-    let sum = c.totals_at-totals.ensures.reserve ∙ ap (λ (rs : List Response). reserves_at (map schedule_of rs) k) c.as_slice.ensures ∙ sym (total_reserve_is m ps c.requires.shape.count k) in
-    told ∙ ap (λ (a : ℤ). unless (int_le a c.totals_at-totals.result.reserve) a c.totals_at-totals.result.reserve) (sym required)
-    ∙ ap (λ (b : ℤ). unless (int_le (int_at m.reserves k) b) (int_at m.reserves k) b) sum
+    let reserves = c.reserves_in-reserves in
+    told ∙ ap (λ (a : ℤ). unless (int_le a reserves.result.given) a reserves.result.given) reserves.ensures.required
+    ∙ ap (λ (b : ℤ). unless (int_le (int_at m.reserves k) b) (int_at m.reserves k) b) reserves.ensures.given

@@ -29,7 +29,7 @@ returns c =
     let within : IsWithin 40000000000000000000000000000010000000 (c.from.result +ℤ c.move_along-by.result) =
     record { at_least = omega (arith, ints, from_is, low, least); at_most = omega (arith, ints, from_is, high, most) } in
     let fits = fits_within w128 40000000000000000000000000000010000000 (c.from.result +ℤ c.move_along-by.result) within (omega arith) in
-    let near : c.price_near.result ≡ clamped c.low_limit.result price_limit (c.from.result +ℤ c.move_along-by.result) = simp to_z-of_z at c.price_near.ensures in
+    let near : c.price_near.result ≡ clamped c.low_limit.result price_limit (c.from.result +ℤ c.move_along-by.result) = simp to_z-of_z at c.price_near.ensures.value in
     let entry = ap (λ (z : ℤ). int_div (c.args.step.gap *ℤ z) c.args.step.scale) c.entry_on.ensures.value in
     let sum : c.from.result +ℤ c.move_along-by.result ≡ int_at (prices_on c.args.side r) c.args.k +ℤ int_div (c.args.step.gap *ℤ direction_on m r c.args.side c.args.k) c.args.step.scale =
     ap (λ (z : ℤ). z +ℤ c.move_along-by.result) (from_is ∙ price) ∙ ap (λ (z : ℤ). int_at (prices_on c.args.side r) c.args.k +ℤ z) (by_is ∙ entry) in

@@ -12,6 +12,6 @@ returns c =
     let s = c.ranges.start in
     let a : FitsSigned w64 c.price_near.result = search rules in
     let b : FitsSigned w128 c.share_of.result = search rules in
-    let near = simp to_z-of_z at c.price_near.ensures in
+    let near = simp to_z-of_z at c.price_near.ensures.value in
     let share = simp to_z-of_z at c.share_of.ensures in
     simp to_z-of_z (near ∙ ap (λ (z : ℤ). clamped (neg_ℤ price_limit) price_limit z) share)

@@ -2,12 +2,11 @@ use Rattle.std.proofs.Common.{arith}
 use Rattle.std.proofs.lemmas.List.{length-map}
 use Rattle.uc_model.specs.PlainCases.{market_of, schedules_of}
 use Rattle.uc_model.specs.PlainUnits.{named_thermal_of, named_renewable_of}
-use Rattle.uplift_settle.proofs.Units.{plan_length}
 use Rattle.uplift_settle.proofs.earned.earned_at.Goals as goal
 
 pub bid_earned-requires-clause-place : goal.bid_earned-requires-clause-place
 bid_earned-requires-clause-place c =
-    let count = plan_length (market_of c.args.case.now) (schedules_of c.args.plan.now) c.requires.feasible in
+    let count = (c.feasible_plans_have_shape.ensures (market_of c.args.case.now) (schedules_of c.args.plan.now) c.requires.feasible).count in
     let within = c.requires.number in
     let behind = c.if-number-producers.false in
-    omega (arith, count, within, behind, c.len-thermal.ensures, c.len.ensures, length-map c.args.case.now.thermal.items named_thermal_of, length-map c.args.case.now.flat.items named_renewable_of)
+    omega (arith, count, within, behind, c.producer_count-producers.ensures)

@@ -1,39 +1,41 @@
-use Rattle.std.proofs.Common.{rules, FitsSigned, arith}
+use Rattle.std.proofs.Common.{rules, ◌≡◌, sym, length, subst, FitsSigned, arith}
 use Rattle.std.proofs.lemmas.Int.{to_z-of_z}
 use Rattle.std.specs.Int.{w64, w128}
+use Rattle.std.specs.List.{AllZip}
 use Rattle.uc_model.specs.Data.{units}
+use Rattle.uc_model.specs.Limits.{IsEarned}
 use Rattle.uc_model.specs.PlainCases.{market_of, schedules_of}
 use Rattle.uc_model.specs.PlainUnits.{prices_of}
-use Rattle.uc_model.proofs.SignedLaws.{IsWithin, fits_within}
-use Rattle.uplift_settle.proofs.Bounds.{units_are, scheduled_within}
+use Rattle.uc_model.specs.Schedules.{IsFeasible}
+use Rattle.uc_model.proofs.SignedLaws.{fits_within}
+use Rattle.uplift_settle.proofs.Bounds.{scheduled_within}
 use Rattle.uplift_settle.proofs.earned.earned_by.Goals as goal
+
+within : (c : goal.After-earned_at) → IsEarned c.earned_at.result
+within c =
+    let m = market_of c.args.case.now in
+    let ps = schedules_of c.args.plan.now in
+    let feasible = subst (λ n. AllZip (λ u s. IsFeasible u n s) (units m) ps) (sym c.requires.horizon) c.requires.feasible.feasible in
+    scheduled_within c.earnings_are_within.ensures (prices_of c.args.prices.now) c.args.prices.now.valid (units m) ps c.args.number c.earned_at.result
+    (c.units_are_within.ensures m c.args.case.now.valid) feasible c.earned_at.ensures
+
+fits : (c : goal.After-earned_at) → FitsSigned w64 c.earned_at.result
+fits c = fits_within w64 3500000000000000000 c.earned_at.result (within c) (omega arith)
 
 pub overflow_cast-result : goal.overflow_cast-result
 overflow_cast-result c =
-    let m = market_of c.args.case.now in
-    let ps = schedules_of c.args.plan.now in
     let f : FitsSigned w128 c.earned_at.result = search rules in
-    let within : IsWithin 3500000000000000000 c.earned_at.result =
-    scheduled_within (prices_of c.args.prices.now) m.periods (units m) ps c.args.number c.earned_at.result c.args.prices.now.valid c.args.case.now.valid.horizon.at_most (units_are m c.args.case.now.valid) c.requires.feasible.feasible c.earned_at.ensures in
-    let fits = fits_within w64 3500000000000000000 c.earned_at.result within (omega arith) in
-    simp to_z-of_z fits
+    let g = fits c in
+    simp to_z-of_z g
 
 pub returns-clause-value : goal.returns-clause-value
 returns-clause-value c =
-    let m = market_of c.args.case.now in
-    let ps = schedules_of c.args.plan.now in
     let f : FitsSigned w128 c.earned_at.result = search rules in
-    let within : IsWithin 3500000000000000000 c.earned_at.result =
-    scheduled_within (prices_of c.args.prices.now) m.periods (units m) ps c.args.number c.earned_at.result c.args.prices.now.valid c.args.case.now.valid.horizon.at_most (units_are m c.args.case.now.valid) c.requires.feasible.feasible c.earned_at.ensures in
-    let fits = fits_within w64 3500000000000000000 c.earned_at.result within (omega arith) in
+    let g = fits c in
     simp to_z-of_z c.earned_at.ensures
 
 pub returns-clause-limit : goal.returns-clause-limit
 returns-clause-limit c =
-    let m = market_of c.args.case.now in
-    let ps = schedules_of c.args.plan.now in
     let f : FitsSigned w128 c.earned_at.result = search rules in
-    let within : IsWithin 3500000000000000000 c.earned_at.result =
-    scheduled_within (prices_of c.args.prices.now) m.periods (units m) ps c.args.number c.earned_at.result c.args.prices.now.valid c.args.case.now.valid.horizon.at_most (units_are m c.args.case.now.valid) c.requires.feasible.feasible c.earned_at.ensures in
-    let fits = fits_within w64 3500000000000000000 c.earned_at.result within (omega arith) in
-    simp to_z-of_z within
+    let g = fits c in
+    simp to_z-of_z (within c)

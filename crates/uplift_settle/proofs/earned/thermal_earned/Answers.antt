@@ -7,14 +7,13 @@ use Rattle.uc_model.specs.Data.{AnyUnit, Thermal, Schedule, units}
 use Rattle.uc_model.specs.PlainCases.{market_of, schedules_of}
 use Rattle.uc_model.specs.PlainUnits.{thermal_of, schedule_of, prices_of, named_thermal_of}
 use Rattle.uc_model.specs.Schedules.{IsFeasible, IsThermalFeasible}
-use Rattle.plan_check.proofs.PlanLaws.{HasLengths}
-use Rattle.plan_check.proofs.ShapeLaws.{item_of, map_item, zip_item}
-use Rattle.uplift_settle.proofs.Units.{thermal_at, plan_length, plan_lengths, earned_item}
+use Rattle.uc_model.proofs.ListLaws.{item_of, map_item, zip_item}
+use Rattle.uplift_settle.proofs.Units.{earned_item, HasLengths}
 use Rattle.uplift_settle.proofs.earned.thermal_earned.Goals as goal
 
 pub get-response-requires : goal.get-response-requires
 get-response-requires c =
-    let count = plan_length (market_of c.args.case.now) (schedules_of c.args.plan.now) c.requires.feasible in
+    let count = (c.feasible_plans_have_shape.ensures (market_of c.args.case.now) (schedules_of c.args.plan.now) c.requires.feasible).count in
     let mapped = length-map c.args.plan.now.responses.items schedule_of in
     let within = c.requires.number in
     omega (arith, count, mapped, within)
@@ -23,12 +22,12 @@ lengths : (c : goal.After-get-response) → HasLengths c.args.case.now.periods (
 lengths c =
     let ps = schedules_of c.args.plan.now in
     let s = schedule_of c.get-response.result.now in
-    item_of (HasLengths c.args.case.now.periods) ps c.args.number s (plan_lengths (market_of c.args.case.now) ps c.requires.feasible)
+    item_of (HasLengths c.args.case.now.periods) ps c.args.number s ((c.feasible_plans_have_shape.ensures (market_of c.args.case.now) ps c.requires.feasible).lengths)
     (map_item schedule_of c.args.plan.now.responses.items c.args.number c.get-response.result.now c.get-response.ensures.item)
 
 unit_at : (c : goal.After-get-response) → slice_get (units (market_of c.args.case.now)) c.args.number ≡ Some (Thermal (thermal_of c.get-unit.result.now.unit))
 unit_at c =
-    thermal_at (market_of c.args.case.now) c.args.number (named_thermal_of c.get-unit.result.now)
+    (c.units_are_numbered.ensures (market_of c.args.case.now)).thermal c.args.number (named_thermal_of c.get-unit.result.now)
     (map_item named_thermal_of c.args.case.now.thermal.items c.args.number c.get-unit.result.now c.get-unit.ensures.item)
 
 pub thermal_earnings-requires-clause-horizon : goal.thermal_earnings-requires-clause-horizon
@@ -50,7 +49,7 @@ returns c =
     let ps = schedules_of c.args.plan.now in
     let s = schedule_of c.get-response.result.now in
     let f : FitsSigned w128 c.thermal_earnings.result = search rules in
-    let at = thermal_at m c.args.number (named_thermal_of c.get-unit.result.now)
+    let at = (c.units_are_numbered.ensures m).thermal c.args.number (named_thermal_of c.get-unit.result.now)
     (map_item named_thermal_of c.args.case.now.thermal.items c.args.number c.get-unit.result.now c.get-unit.ensures.item) in
     earned_item m ps (prices_of c.args.prices.now) c.args.number (Thermal (thermal_of c.get-unit.result.now.unit)) s _ at
     (map_item schedule_of c.args.plan.now.responses.items c.args.number c.get-response.result.now c.get-response.ensures.item)

@@ -1,4 +1,4 @@
-use Rattle.std.proofs.Common.{rules, ◌<◌, ℤ, pos, ◌-ℤ◌, List, [], ◌∷◌, ◌++◌, length, take, sym, ap, ◌∙◌, w64, FitsSigned, arith, length-append}
+use Rattle.std.proofs.Common.{rules, ◌≡◌, refl, ◌<◌, ℤ, pos, ◌-ℤ◌, List, [], ◌∷◌, ◌++◌, length, take, sym, ap, ◌∙◌, w64, FitsSigned, arith, length-append}
 use Rattle.std.proofs.lemmas.Int.{ints, to_z-of_z}
 use Rattle.std.proofs.lemmas.List.{take_more, take_all}
 use Rattle.std.proofs.lemmas.Option.{get_or_from_slice_get}
@@ -9,14 +9,18 @@ use Rattle.uc_model.specs.Earnings.{IsTop}
 use Rattle.uc_model.specs.PlainCases.{market_of, schedules_of}
 use Rattle.uc_model.specs.PlainUnits.{prices_of}
 use Rattle.uc_model.specs.Sums.{total, zip_with}
+use Rattle.uc_model.proofs.ListLaws.{length_same, zip_with-push, total-push}
 use Rattle.uplift_settle.specs.Earned.{earned_in}
-use Rattle.uplift_settle.proofs.Bounds.{units_are, best_within}
-use Rattle.uplift_settle.proofs.Lists.{length_same, zip_with-nil, zip_with-push, total-push}
-use Rattle.uplift_settle.proofs.Units.{units_length, plan_length, earned_length}
+use Rattle.uplift_settle.proofs.Bounds.{best_within}
+use Rattle.uplift_settle.proofs.Units.{earned_length}
 use Rattle.uplift_settle.proofs.settlement.settle.Goals as goal
 
 abbrev less : ℤ → ℤ → ℤ
 less e s = e -ℤ s
+
+zip_with-nil : (es : List ℤ) → zip_with less es [] ≡ []
+zip_with-nil [] = refl
+zip_with-nil (e ∷ es) = refl
 
 pub loop-number-init : goal.loop-number-init
 loop-number-init c =
@@ -27,7 +31,7 @@ loop-number-init c =
     record {
       scheduled = c.clear.ensures.items;
       count = ap length c.clear.ensures.items;
-      payments = c.clear-2.ensures.items ∙ sym (zip_with-nil less c.args.earned.now) ∙ ap (zip_with less c.args.earned.now) (sym c.clear.ensures.items);
+      payments = c.clear-2.ensures.items ∙ sym (zip_with-nil c.args.earned.now) ∙ ap (zip_with less c.args.earned.now) (sym c.clear.ensures.items);
       total = ap total (sym c.clear-2.ensures.items);
       limit = record { at_least = omega (arith, ints); at_most = omega (arith, ints) };
       scheduled_room = omega (arith, a, scheduled);
@@ -38,23 +42,23 @@ pub earned_by-scheduled-requires-clause-number : goal.earned_by-scheduled-requir
 earned_by-scheduled-requires-clause-number c =
     let m = market_of c.args.case.now in
     let count = length_same (λ (u : AnyUnit) (e : ℤ). IsTop u (prices_of c.args.prices.now) e) (units m) c.args.earned.now c.requires.best in
-    let all = units_length m in
+    let all = (c.units_are_numbered.ensures m).count in
     let test = c.loop-number-test.true in
-    let plan = plan_length m (schedules_of c.args.plan.now) c.requires.feasible in
+    let plan = (c.feasible_plans_have_shape.ensures m (schedules_of c.args.plan.now) c.requires.feasible).count in
     omega (arith, count, all, test, plan)
 
 pub uplift-payment-requires-clause-best : goal.uplift-payment-requires-clause-best
 uplift-payment-requires-clause-best c =
     let m = market_of c.args.case.now in
     let f : FitsSigned w64 c.best_of.result = search rules in
-    let within = best_within (prices_of c.args.prices.now) (units m) c.args.earned.now c.loop-number.number c.best_of.result c.args.prices.now.valid (units_are m c.args.case.now.valid) c.requires.best c.best_of.ensures in
+    let within = best_within c.earnings_are_within.ensures (prices_of c.args.prices.now) c.args.prices.now.valid (units m) c.args.earned.now c.loop-number.number c.best_of.result (c.units_are_within.ensures m c.args.case.now.valid) c.requires.best c.best_of.ensures in
     simp to_z-of_z within
 
 pub add_unit-requires-clause-scheduled_room : goal.add_unit-requires-clause-scheduled_room
 add_unit-requires-clause-scheduled_room c =
     let m = market_of c.args.case.now in
     let count = length_same (λ (u : AnyUnit) (e : ℤ). IsTop u (prices_of c.args.prices.now) e) (units m) c.args.earned.now c.requires.best in
-    let all = units_length m in
+    let all = (c.units_are_numbered.ensures m).count in
     let test = c.loop-number-test.true in
     let room = c.loop-number.invariant.scheduled_room in
     omega (arith, count, all, test, room)
@@ -63,7 +67,7 @@ pub add_unit-requires-clause-payments_room : goal.add_unit-requires-clause-payme
 add_unit-requires-clause-payments_room c =
     let m = market_of c.args.case.now in
     let count = length_same (λ (u : AnyUnit) (e : ℤ). IsTop u (prices_of c.args.prices.now) e) (units m) c.args.earned.now c.requires.best in
-    let all = units_length m in
+    let all = (c.units_are_numbered.ensures m).count in
     let test = c.loop-number-test.true in
     let room = c.loop-number.invariant.payments_room in
     omega (arith, count, all, test, room)
@@ -72,7 +76,7 @@ pub add_unit-requires-clause-total : goal.add_unit-requires-clause-total
 add_unit-requires-clause-total c =
     let m = market_of c.args.case.now in
     let count = length_same (λ (u : AnyUnit) (e : ℤ). IsTop u (prices_of c.args.prices.now) e) (units m) c.args.earned.now c.requires.best in
-    let all = units_length m in
+    let all = (c.units_are_numbered.ensures m).count in
     let test = c.loop-number-test.true in
     let low = c.loop-number.invariant.limit.at_least in
     let high = c.loop-number.invariant.limit.at_most in
@@ -85,7 +89,7 @@ pub loop-number-preserved : goal.loop-number-preserved
 loop-number-preserved c =
     let m = market_of c.args.case.now in
     let count = length_same (λ (u : AnyUnit) (e : ℤ). IsTop u (prices_of c.args.prices.now) e) (units m) c.args.earned.now c.requires.best in
-    let all = units_length m in
+    let all = (c.units_are_numbered.ensures m).count in
     let test = c.loop-number-test.true in
     let ps = schedules_of c.args.plan.now in
     let xs = earned_in m ps (prices_of c.args.prices.now) in
@@ -113,7 +117,7 @@ loop-number-preserved c =
     let payments_spare = c.add_unit.ensures.payments_spare in
     let longer = ap length scheduled in
     let pushed = length-append done (r ∷ []) in
-    let last = earned_length m ps c.requires.feasible (prices_of c.args.prices.now) in
+    let last = earned_length m ps (prices_of c.args.prices.now) (c.units_are_numbered.ensures m) (c.feasible_plans_have_shape.ensures m ps c.requires.feasible) in
     let lt : k < length xs = omega (arith, count, all, test, last) in
     let item = get_or_from_slice_get xs k r (pos 0) c.earned_by-scheduled.ensures.value in
     let at = ap (slice_get c.args.earned.now) number ∙ c.best_of.ensures in
@@ -136,8 +140,8 @@ returns-clause-settled c =
     let xs = earned_in m ps (prices_of c.args.prices.now) in
     let known = c.loop-number.invariant in
     let count = length_same (λ (u : AnyUnit) (e : ℤ). IsTop u (prices_of c.args.prices.now) e) (units m) c.args.earned.now c.requires.best in
-    let all = units_length m in
-    let last = earned_length m ps c.requires.feasible (prices_of c.args.prices.now) in
+    let all = (c.units_are_numbered.ensures m).count in
+    let last = earned_length m ps (prices_of c.args.prices.now) (c.units_are_numbered.ensures m) (c.feasible_plans_have_shape.ensures m ps c.requires.feasible) in
     let test = c.loop-number-test.false in
     let f : FitsSigned w128 c.surplus_of-into.result = search rules in
     record {
@@ -153,7 +157,7 @@ pub returns-clause-scheduled_room : goal.returns-clause-scheduled_room
 returns-clause-scheduled_room c =
     let m = market_of c.args.case.now in
     let count = length_same (λ (u : AnyUnit) (e : ℤ). IsTop u (prices_of c.args.prices.now) e) (units m) c.args.earned.now c.requires.best in
-    let all = units_length m in
+    let all = (c.units_are_numbered.ensures m).count in
     let room = c.loop-number.invariant.scheduled_room in
     let test = c.loop-number-test.false in
     let end = c.loop-number.auto.number-end in
@@ -163,7 +167,7 @@ pub returns-clause-payments_room : goal.returns-clause-payments_room
 returns-clause-payments_room c =
     let m = market_of c.args.case.now in
     let count = length_same (λ (u : AnyUnit) (e : ℤ). IsTop u (prices_of c.args.prices.now) e) (units m) c.args.earned.now c.requires.best in
-    let all = units_length m in
+    let all = (c.units_are_numbered.ensures m).count in
     let room = c.loop-number.invariant.payments_room in
     let test = c.loop-number-test.false in
     let end = c.loop-number.auto.number-end in
