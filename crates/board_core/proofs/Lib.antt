@@ -14,6 +14,7 @@ pub mod PostRounds
 pub mod PostSums
 pub mod Refused
 pub mod Rows
+pub mod AsOne
 pub mod Starts
 pub mod Takes
 pub mod UnitPlaces

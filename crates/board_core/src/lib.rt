@@ -12,6 +12,7 @@ mod chosen;
 mod ledger;
 mod posts;
 mod replies;
+mod same;
 mod store;
 mod tasks;
 mod terms;

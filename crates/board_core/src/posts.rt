@@ -16,6 +16,7 @@ ghost use Rattle.board_core.specs.Setups.{IsSetup, setup_of};
 
 use crate::ledger::Ledger;
 use crate::replies::{Differs, Posted};
+use crate::same::{is_unit_of, same_prices};
 use crate::tasks::copy_task;
 use crate::terms::{Terms, place};
 use board_history::entries::{Call, Entry, Reply};
@@ -39,7 +40,8 @@ fn difference(own: &Task, task: &Task) -> Option<Differs>
     None
 }
 
-// Where a task differs from the board's own of its proposal and unit, which is left in `own`.
+// Where a task differs from the board's own of its proposal and unit. That one is built in `own` only where the two
+// aren't seen to be the same at once.
 fn content(terms: &Terms, ledger: &Ledger, own: &mut Task, task: &Task) -> Option<Differs>
     requires first { 1 ≤ task.now.proposal }
     requires last { task.now.proposal ≤ length ledger.now.proposals }
@@ -50,6 +52,9 @@ fn content(terms: &Terms, ledger: &Ledger, own: &mut Task, task: &Task) -> Optio
     ensures room { IsTaskFor (setup_of terms.now).market.periods own.new }
 {
     let prices = ledger.prices(task.proposal as usize - 1);
+    if same_prices(prices, &task.prices) && is_unit_of(&terms.case, task.unit, task) {
+        return None;
+    }
     copy_task(&terms.case, prices, task.proposal, task.unit, own);
     difference(own, task)
 }
@@ -85,7 +90,7 @@ fn refusal_at(marks: &[bool], takers: &[u32], at: usize, caller: u32) -> Option<
     Some(Posted::Stranger(Differs::Holder { caller, holder }))
 }
 
-/// Why a post is refused, if it is. The board's own task is left in `own` on the way.
+/// Why a post is refused, if it is. Where the task differs from the board's own, that one is left in `own`.
 pub fn refusal(
     terms: &Terms,
     ledger: &Ledger,

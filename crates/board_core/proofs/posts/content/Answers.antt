@@ -1,7 +1,18 @@
-use Rattle.std.proofs.Common.{length, ap, ◌∙◌}
+use Rattle.std.proofs.Common.{length, sym, ap, ◌∙◌}
 use Rattle.uc_model.specs.Data.{PriceLists}
+use Rattle.uc_model.specs.PlainCases.{task_unit}
+use Rattle.uc_model.specs.PlainUnits.{prices_of}
 use Rattle.board_core.specs.Ledgers.{blank}
+use Rattle.board_core.specs.Refusals.{own_prices_in}
+use Rattle.board_core.specs.Setups.{setup_of}
+use Rattle.board_core.proofs.AsOne.{no_difference}
 use Rattle.board_core.proofs.posts.content.Goals as goal
 
 pub copy_task-requires-clause-horizon : goal.copy_task-requires-clause-horizon
 copy_task-requires-clause-horizon c = ap (λ (π : PriceLists). length π.energy) (c.prices-prices.ensures (blank 0)) ∙ c.requires.horizon (blank 0)
+
+pub returns-then-is_unit_of-clause-differs : goal.returns-then-is_unit_of-clause-differs
+returns-then-is_unit_of-clause-differs c =
+    let t = c.args.task.now in
+    let prices = sym (c.prices-prices.ensures (blank 0)) ∙ c.same_prices.ensures.0 c.if-same_prices.true in
+    sym (no_difference (setup_of c.args.terms.now) t.unit (own_prices_in c.args.ledger.now t.proposal) (prices_of t.prices) (task_unit t) prices (c.is_unit_of.ensures c.if-is_unit_of.true))
