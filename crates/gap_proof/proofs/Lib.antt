@@ -1,0 +1,3 @@
+pub mod Box
+pub mod Mean
+pub mod Planes

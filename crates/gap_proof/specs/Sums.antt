@@ -1,0 +1,18 @@
+-- Sizes, and sums as they run while rows are added (this project's profile).
+use Rattle.std.specs.Prelude.{◌≡◌, ℕ, ◌*◌, ◌<◌, ℤ, pos, neg_ℤ, ◌+ℤ◌, ◌*ℤ◌, List, length}
+use Rattle.std.specs.Int.{int_min, int_max}
+use Rattle.uc_model.specs.Data.{Market}
+use Rattle.uc_model.specs.Limits.{IsFrom}
+use Rattle.uc_model.specs.PriceRule.{Proposal}
+use Rattle.uc_model.specs.Sums.{int_at, total}
+use Rattle.price_move.specs.Sizes.{IsWorth, IsRowOver}
+use Rattle.gap_proof.specs.CertifiedBound.{slope_at, height_of, weighted}
+
+-- a row over the market's horizon, with a dual value
+pub record IsRowWithin (m : Market) (r : Proposal) : Type 0 where
+  pub row : IsRowOver m r
+  pub value : IsWorth r.value
+
+-- a weight of a row
+abbrev pub IsWeight : ℤ → Type 0
+IsWeight w = IsFrom (pos 0) (pos 1000000) w
