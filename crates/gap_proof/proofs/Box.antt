@@ -10,7 +10,7 @@ use Rattle.uc_model.specs.Sums.{int_at}
 use Rattle.gap_proof.specs.CertifiedBound.{price_at, lowest_price, low_end, high_end, certified_bound}
 use Rattle.gap_proof.specs.Laws.{IsAnswered, AreWeights, IsInBox}
 use Rattle.gap_proof.proofs.Mean.{bound_above}
-use Rattle.gap_proof.proofs.Planes.{lt_true, lt_false}
+use Rattle.gap_proof.proofs.Subgradients.{lt_true, lt_false}
 
 -- each price is within its limits
 pub price_limits : (m : Market) (π : PriceLists) (j : ℕ) → length π.energy ≡ m.periods → ArePrices π → j < 2 * m.periods → IsFrom (lowest_price m j) price_limit (price_at m π j)

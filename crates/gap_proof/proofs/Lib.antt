@@ -1,3 +1,5 @@
+pub mod Bounds
 pub mod Box
 pub mod Mean
-pub mod Planes
+pub mod Running
+pub mod Subgradients

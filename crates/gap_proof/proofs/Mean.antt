@@ -15,7 +15,7 @@ use Rattle.uc_model.specs.Systems.{IsDualValue}
 use Rattle.uc_model.proofs.IntLaws.{mul-add, mul-sub, mul-mono_of, sum_below-le, sum_below-same, sum_below-add, sum_below-zero}
 use Rattle.gap_proof.specs.CertifiedBound.{price_at, slope_at, height_of, weighted, low_end, high_end, most_over, certified_bound}
 use Rattle.gap_proof.specs.Laws.{IsAnswered, AreWeights, IsInBox}
-use Rattle.gap_proof.proofs.Planes.{plane_above}
+use Rattle.gap_proof.proofs.Subgradients.{plane_above}
 
 add-mul : (a b c : ℤ) → (a +ℤ b) *ℤ c ≡ (a *ℤ c) +ℤ (b *ℤ c)
 add-mul a b c =

@@ -16,3 +16,7 @@ pub record IsRowWithin (m : Market) (r : Proposal) : Type 0 where
 -- a weight of a row
 abbrev pub IsWeight : ℤ → Type 0
 IsWeight w = IsFrom (pos 0) (pos 1000000) w
+
+-- a weighted sum of slopes
+abbrev pub IsSlopeSum : ℤ → Type 0
+IsSlopeSum x = IsFrom (neg_ℤ (pos 1000000000000000000000000)) (pos 1000000000000000000000000) x
