@@ -3,3 +3,4 @@ pub mod Box
 pub mod Mean
 pub mod Running
 pub mod Subgradients
+pub mod SumLaws

@@ -20,3 +20,11 @@ IsWeight w = IsFrom (pos 0) (pos 1000000) w
 -- a weighted sum of slopes
 abbrev pub IsSlopeSum : ℤ → Type 0
 IsSlopeSum x = IsFrom (neg_ℤ (pos 1000000000000000000000000)) (pos 1000000000000000000000000) x
+
+-- a weighted sum of heights
+abbrev pub IsHeightSum : ℤ → Type 0
+IsHeightSum x = IsFrom (neg_ℤ (pos 30000000000000000000000000000000000)) (pos 30000000000000000000000000000000000) x
+
+-- how far prices may be from the centre
+abbrev pub IsRadius : ℤ → Type 0
+IsRadius q = IsFrom (pos 0) (pos 20000000) q

@@ -8,4 +8,8 @@
 #![tactic(auto)]
 
 pub mod laws;
+mod bound;
 mod planes;
+mod sums;
+
+pub use bound::bound_of;
