@@ -1,6 +1,7 @@
 pub mod Bounds
 pub mod Box
 pub mod Mean
+pub mod RowLists
 pub mod Running
 pub mod Subgradients
 pub mod SumLaws
