@@ -22,7 +22,7 @@ add-mul a b c =
     let e = *ℤ_comm (a +ℤ b) c in let f = mul-add c a b in let g = *ℤ_comm c a in let h = *ℤ_comm c b in
     omega (arith, ints, e, f, g, h)
 
-one_mul : (b : ℤ) → pos 1 *ℤ b ≡ b
+pub one_mul : (b : ℤ) → pos 1 *ℤ b ≡ b
 one_mul b = let e = suc_ℤ-*ℤ (pos 0) b in let f = zero-*ℤ b in omega (arith, ints, e, f)
 
 less_one_mul : (b : ℤ) → neg_ℤ (pos 1) *ℤ b ≡ neg_ℤ b

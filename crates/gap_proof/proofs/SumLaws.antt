@@ -15,7 +15,7 @@ use Rattle.uc_model.proofs.IntLaws.{sum_below-same}
 use Rattle.uc_model.proofs.SignedLaws.{IsWithin}
 use Rattle.price_move.specs.Sizes.{IsTotal, IsRowOver}
 use Rattle.gap_proof.specs.CertifiedBound.{slope_at, height_of, weighted, low_end, high_end, most_over, certified_bound}
-use Rattle.gap_proof.specs.Sums.{IsWeight, IsSlopeSum, IsHeightSum}
+use Rattle.gap_proof.specs.Sums.{IsWeight, IsSlopeSum, IsHeightSum, AreSums}
 use Rattle.gap_proof.proofs.Bounds.{signed_product_within, within_both}
 use Rattle.gap_proof.proofs.Subgradients.{lt_true, lt_false}
 
@@ -43,16 +43,6 @@ slope_within m r j market row =
           subst (λ (b : Bool). IsWithin 20000000000000 (if b then int_at m.demand j -ℤ int_at r.supply j else int_at m.reserves (j - m.periods) -ℤ int_at r.reserve (j - m.periods))) (sym (lt_false j m.periods high))
           (lacking_within m.reserves r.reserve (j - m.periods) market.reserves row.reserve)
     ]
-
--- the sums of some weighted rows, with their sizes
-pub record AreSums (m : Market) (ws : List ℤ) (rows : List Proposal) (height weight : ℤ) (slopes : List ℤ) : Type 0 where
-  pub heights : height ≡ weighted (height_of m) ws rows
-  pub weights : weight ≡ total ws
-  pub slopes_are : (j : ℕ) → j < 2 * m.periods → int_at slopes j ≡ weighted (λ (r : Proposal). slope_at m r j) ws rows
-  pub same_length : length slopes ≡ 2 * m.periods
-  pub height_bound : IsWithin (length rows * 2000000000000000000000000000000) height
-  pub weight_bound : IsFrom (pos 0) (pos (length rows * 1000000)) weight
-  pub slope_bound : (j : ℕ) → j < 2 * m.periods → IsWithin (length rows * 20000000000000000000) (int_at slopes j)
 
 pub sums_none : (m : Market) (slopes : List ℤ) → length slopes ≡ 2 * m.periods → ((j : ℕ) → j < 2 * m.periods → int_at slopes j ≡ pos 0) → AreSums m [] [] (pos 0) (pos 0) slopes
 sums_none m slopes len zeros = record {

@@ -28,3 +28,14 @@ IsHeightSum x = IsFrom (neg_ℤ (pos 30000000000000000000000000000000000)) (pos 
 -- how far prices may be from the centre
 abbrev pub IsRadius : ℤ → Type 0
 IsRadius q = IsFrom (pos 0) (pos 20000000) q
+
+-- the sums of some weighted rows, with their sizes
+pub record AreSums (m : Market) (ws : List ℤ) (rows : List Proposal) (height weight : ℤ) (slopes : List ℤ) : Type 0 where
+  pub heights : height ≡ weighted (height_of m) ws rows
+  pub weights : weight ≡ total ws
+  pub slopes_are : (j : ℕ) → j < 2 * m.periods → int_at slopes j ≡ weighted (λ (r : Proposal). slope_at m r j) ws rows
+  pub same_length : length slopes ≡ 2 * m.periods
+  pub height_bound : IsFrom (neg_ℤ (pos (length rows * 2000000000000000000000000000000))) (pos (length rows * 2000000000000000000000000000000)) height
+  pub weight_bound : IsFrom (pos 0) (pos (length rows * 1000000)) weight
+  pub slope_bound : (j : ℕ) → j < 2 * m.periods →
+      IsFrom (neg_ℤ (pos (length rows * 20000000000000000000))) (pos (length rows * 20000000000000000000)) (int_at slopes j)

@@ -7,9 +7,12 @@
 //! bound: no prices in the box have a dual value above it, `laws::bound_holds`.
 #![tactic(auto)]
 
-pub mod laws;
 mod bound;
+pub mod laws;
+
 mod planes;
+mod ranges;
 mod sums;
 
 pub use bound::bound_of;
+pub use ranges::{Certified, best_range};

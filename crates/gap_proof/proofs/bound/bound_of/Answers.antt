@@ -7,9 +7,9 @@ use Rattle.uc_model.specs.PlainCases.{market_of, proposal_of}
 use Rattle.uc_model.specs.PriceRule.{Proposal}
 use Rattle.uc_model.specs.Sums.{total}
 use Rattle.gap_proof.specs.CertifiedBound.{certified_bound}
-use Rattle.gap_proof.specs.Sums.{IsRowWithin, IsWeight}
+use Rattle.gap_proof.specs.Sums.{IsRowWithin, IsWeight, AreSums}
 use Rattle.gap_proof.proofs.RowLists.{drop_at, item_of, none_left, row_prices}
-use Rattle.gap_proof.proofs.SumLaws.{AreSums, sums_none, sums_more, height_size, weight_size, slope_sizes, bound_is}
+use Rattle.gap_proof.proofs.SumLaws.{sums_none, sums_more, height_size, weight_size, slope_sizes, bound_is}
 use Rattle.gap_proof.proofs.bound.bound_of.Goals as goal
 
 pub loop-place-init : goal.loop-place-init
