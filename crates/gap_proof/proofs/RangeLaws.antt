@@ -1,5 +1,5 @@
 -- The bound by a range of rows is the bound by those rows alone, each once.
-use Rattle.std.proofs.Common.{◌≡◌, ℕ, zero, suc, ◌+◌, ◌-◌, ◌*◌, ◌<◌, ◌≤◌, Bool, true, false, ◌&&◌, nat_le, if◌then◌else◌, Some, None, ℤ, pos, ◌+ℤ◌, ◌-ℤ◌, ◌*ℤ◌, ◌≤ℤ◌, List, [], ◌∷◌, map, drop, replicate, length, unsigned_abs, refl, sym, ap, subst, ◌∙◌, inl, inr, arith}
+use Rattle.std.proofs.Common.{◌≡◌, ℕ, zero, suc, ◌+◌, ◌-◌, ◌*◌, ◌<◌, ◌≤◌, Bool, true, false, ◌&&◌, nat_le, if◌then◌else◌, Some, None, ℤ, pos, ◌+ℤ◌, ◌-ℤ◌, ◌*ℤ◌, ◌≤ℤ◌, List, [], ◌∷◌, map, drop, replicate, length, unsigned_abs, refl, sym, ap, subst, ◌∙◌, inl, inr, arith, length-drop}
 use Rattle.std.proofs.lemmas.Bool.Decides.{nat_tests}
 use Rattle.std.proofs.lemmas.Int.{ints}
 use Rattle.std.proofs.lemmas.List.FromFn.{length-map-range_with_len}
@@ -116,12 +116,22 @@ one_sum f (x ∷ rows) b (suc k) c r e at =
 -- ---- the bounds
 
 -- by the rows behind the first k, each once
-pub back_bound : (m : Market) (rows : List Proposal) (centre : PriceLists) (radius : ℤ) (k n : ℕ) → n + k ≡ length rows → length (drop k rows) ≡ n →
-    certified_bound m (drop k rows) (replicate n (pos 1)) centre radius ≡ range_bound m rows centre radius (record { first = k + 1; last = length rows })
-back_bound m rows centre radius k n len left =
-    sym (same_bound m (weights_from 1 (length rows) (k + 1) (length rows)) (replicate n (pos 1)) rows (drop k rows) centre radius
-    (length-map-range_with_len (weight_in (k + 1) (length rows)) 1 (length rows)) (length-replicate n (pos 1) ∙ sym left)
-    (λ f. back_sums f rows 1 k n (k + 1) (length rows) (omega arith) len (omega arith)))
+pub back_bound : (m : Market) (rows : List Proposal) (centre : PriceLists) (radius : ℤ) (k n last : ℕ) → n + k ≡ length rows → last ≡ length rows →
+    certified_bound m (drop k rows) (replicate n (pos 1)) centre radius ≡ range_bound m rows centre radius (record { first = k + 1; last = last })
+back_bound m rows centre radius k n last len end =
+    let left : length (drop k rows) ≡ n = omega (arith, length-drop k rows, len) in
+    sym (same_bound m (weights_from 1 (length rows) (k + 1) last) (replicate n (pos 1)) rows (drop k rows) centre radius
+    (length-map-range_with_len (weight_in (k + 1) last) 1 (length rows)) (length-replicate n (pos 1) ∙ sym left)
+    (λ f. back_sums f rows 1 k n (k + 1) last (omega arith) len (omega (arith, end))))
+
+-- the bound by the rows from each number to the last
+unfoldable pub back_bounds : Market → List Proposal → PriceLists → ℤ → ℕ → ℕ → ℤ
+back_bounds m rows centre radius last j = range_bound m rows centre radius (record { first = j; last = last })
+
+pub back_is : (m : Market) (rows : List Proposal) (centre : PriceLists) (radius : ℤ) (k n last : ℕ) → n + k ≡ length rows → last ≡ length rows →
+    certified_bound m (drop k rows) (replicate n (pos 1)) centre radius ≡ back_bounds m rows centre radius last (k + 1)
+unfolding back_bounds
+back_is m rows centre radius k n last len end = back_bound m rows centre radius k n last len end
 
 -- by one row
 pub one_bound : (m : Market) (rows : List Proposal) (centre : PriceLists) (radius : ℤ) (c : ℕ) (r : Proposal) → 1 ≤ c → slice_get rows (c - 1) ≡ Some r →
