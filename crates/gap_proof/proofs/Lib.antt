@@ -1,6 +1,7 @@
 pub mod BackSums
 pub mod Bounds
 pub mod Box
+pub mod FirstLeast
 pub mod Least
 pub mod Mean
 pub mod RangeLaws

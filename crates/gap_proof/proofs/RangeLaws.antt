@@ -99,7 +99,7 @@ none_behind f (r ∷ rows) b first last h =
     skipped f (weight_in first last b) (weights_from (b + 1) (length rows) first last) r rows (behind first last b h)
     ∙ none_behind f rows (b + 1) first last (omega (arith, h))
 
-same_item : {X : Type 0} → (x y : X) → Some x ≡ Some y → x ≡ y
+pub same_item : {X : Type 0} → (x y : X) → Some x ≡ Some y → x ≡ y
 same_item x y e = cc
 
 one_sum : (f : Proposal → ℤ) (rows : List Proposal) (b k c : ℕ) (r : Proposal) → c ≡ b + k → slice_get rows k ≡ Some r → weighted f (weights_from b (length rows) c c) rows ≡ weighted f (pos 1 ∷ []) (r ∷ [])
