@@ -1,0 +1,5 @@
+use Rattle.uc_model.proofs.Bounds.{costs_within}
+use Rattle.uc_model.proofs.laws.costs_are_within.Goals as goal
+
+pub returns : goal.returns
+returns c = costs_within

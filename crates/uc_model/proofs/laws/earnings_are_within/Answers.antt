@@ -1,0 +1,5 @@
+use Rattle.uc_model.proofs.Bounds.{earnings_within}
+use Rattle.uc_model.proofs.laws.earnings_are_within.Goals as goal
+
+pub returns : goal.returns
+returns c = earnings_within

@@ -1,0 +1,5 @@
+use Rattle.uc_model.proofs.PlanShapes.{plan_shape}
+use Rattle.uc_model.proofs.laws.feasible_plans_have_shape.Goals as goal
+
+pub returns : goal.returns
+returns c = plan_shape
