@@ -20,7 +20,7 @@ least_from_test a b h = grind (arith, ints)
 abbrev back_range : ℕ → ℕ → RowRange
 back_range n j = record { first = j; last = n }
 
-back_item : (n k : ℕ) (other : RowRange) → slice_get (map (back_range n) (range_with_len 1 n)) k ≡ Some other → (k < n) × (back_range n (1 + k) ≡ other)
+pub back_item : (n k : ℕ) (other : RowRange) → slice_get (map (back_range n) (range_with_len 1 n)) k ≡ Some other → (k < n) × (back_range n (1 + k) ≡ other)
 back_item n k other e =
     let within = slice_get_within (map (back_range n) (range_with_len 1 n)) k other e in
     let count = length-map-range_with_len (back_range n) 1 n in

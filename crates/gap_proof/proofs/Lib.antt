@@ -1,4 +1,5 @@
 pub mod BackSums
+pub mod BestLaws
 pub mod Bounds
 pub mod Box
 pub mod FirstLeast
@@ -8,4 +9,5 @@ pub mod RangeLaws
 pub mod RowLists
 pub mod Running
 pub mod Subgradients
+pub mod Sizes
 pub mod SumLaws

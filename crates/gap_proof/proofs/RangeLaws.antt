@@ -40,11 +40,11 @@ same_bound m ws vs rows others centre radius len lens same =
 
 -- ---- the weights of a range
 
-abbrev weight_in : ℕ → ℕ → ℕ → ℤ
+abbrev pub weight_in : ℕ → ℕ → ℕ → ℤ
 weight_in first last i = if nat_le first i && nat_le i last then pos 1 else pos 0
 
 -- the weights of n rows from number b on
-abbrev weights_from : ℕ → ℕ → ℕ → ℕ → List ℤ
+abbrev pub weights_from : ℕ → ℕ → ℕ → ℕ → List ℤ
 weights_from b n first last = map (weight_in first last) (range_with_len b n)
 
 le_true : (a b : ℕ) → a ≤ b → nat_le a b ≡ true
@@ -57,7 +57,7 @@ and_false : (b : Bool) → (b && false) ≡ false
 and_false true = refl
 and_false false = refl
 
-inside : (first last i : ℕ) → first ≤ i → i ≤ last → weight_in first last i ≡ pos 1
+pub inside : (first last i : ℕ) → first ≤ i → i ≤ last → weight_in first last i ≡ pos 1
 inside first last i low high =
     ap (λ (b : Bool). if b && nat_le i last then pos 1 else pos 0) (le_true first i low) ∙ ap (λ (b : Bool). if b then pos 1 else pos 0) (le_true i last high)
 

@@ -8,12 +8,12 @@ use Rattle.std.specs.Int.{int_max}
 use Rattle.std.specs.List.{All}
 use Rattle.std.specs.Prelude.{slice_index_or}
 use Rattle.uc_model.specs.Data.{PriceLists, Market}
-use Rattle.uc_model.specs.Limits.{IsFrom, IsPower, IsMarket}
+use Rattle.uc_model.specs.Limits.{IsFrom, IsPower, IsTotal, IsMarket}
 use Rattle.uc_model.specs.PriceRule.{Proposal}
 use Rattle.uc_model.specs.Sums.{int_at, total, sum_below, floor_div}
 use Rattle.uc_model.proofs.IntLaws.{sum_below-same}
 use Rattle.uc_model.proofs.SignedLaws.{IsWithin}
-use Rattle.price_move.specs.Sizes.{IsTotal, IsRowOver}
+use Rattle.price_move.specs.Sizes.{IsRowOver}
 use Rattle.gap_proof.specs.CertifiedBound.{slope_at, height_of, weighted, low_end, high_end, most_over, certified_bound}
 use Rattle.gap_proof.specs.Sums.{IsWeight, IsSlopeSum, IsHeightSum, AreSums}
 use Rattle.gap_proof.proofs.Bounds.{signed_product_within, within_both}

@@ -2,10 +2,10 @@
 use Rattle.std.specs.Prelude.{◌≡◌, ℕ, ◌*◌, ◌<◌, ℤ, pos, neg_ℤ, ◌+ℤ◌, ◌*ℤ◌, List, length}
 use Rattle.std.specs.Int.{int_min, int_max}
 use Rattle.uc_model.specs.Data.{Market}
-use Rattle.uc_model.specs.Limits.{IsFrom}
+use Rattle.uc_model.specs.Limits.{IsFrom, IsWorth}
 use Rattle.uc_model.specs.PriceRule.{Proposal}
 use Rattle.uc_model.specs.Sums.{int_at, total}
-use Rattle.price_move.specs.Sizes.{IsWorth, IsRowOver}
+use Rattle.price_move.specs.Sizes.{IsRowOver}
 use Rattle.gap_proof.specs.CertifiedBound.{slope_at, height_of, weighted}
 
 -- a row over the market's horizon, with a dual value

@@ -1,11 +1,11 @@
 //! The plane of a row: what its totals lack, and where the plane stands at prices of 0.
 ghost use Rattle.std.specs.Prelude.{◌≡◌, ℕ, ◌<◌, ◌*◌, ℤ, pos, neg_ℤ, ◌+ℤ◌, ◌-ℤ◌, ◌*ℤ◌, length};
 ghost use Rattle.std.specs.List.{All};
-ghost use Rattle.uc_model.specs.Limits.{IsFrom, IsPower, price_limit};
+ghost use Rattle.uc_model.specs.Limits.{IsFrom, IsPower, IsTotal, price_limit};
 ghost use Rattle.uc_model.specs.PlainCases.{market_of, proposal_of};
 ghost use Rattle.uc_model.specs.PlainUnits.{prices_of};
 ghost use Rattle.uc_model.specs.Sums.{int_at};
-ghost use Rattle.price_move.specs.Sizes.{IsTotal, IsEntry, IsRowOver};
+ghost use Rattle.price_move.specs.Sizes.{IsEntry, IsRowOver};
 ghost use Rattle.gap_proof.specs.CertifiedBound.{price_at, slope_at, height_of};
 ghost use Rattle.gap_proof.specs.Sums.{IsRowWithin, IsWeight, IsSlopeSum};
 
