@@ -1,0 +1,42 @@
+-- The centre stands in its box.
+use Rattle.std.proofs.Common.{◌≡◌, ℕ, suc, ◌-◌, ◌*◌, ◌<◌, ◌≤◌, Bool, true, false, inl, inr, nat_lt, if◌then◌else◌, ℤ, pos, neg_ℤ, ◌≤ℤ◌, List, length, sym, ap, subst, arith}
+use Rattle.std.proofs.lemmas.Int.{ints, clamps}
+use Rattle.std.proofs.lemmas.Bool.{cases_lt}
+use Rattle.std.specs.List.{All}
+use Rattle.uc_model.specs.Data.{PriceLists, Market}
+use Rattle.uc_model.specs.Limits.{IsFrom, ArePrices, price_limit}
+use Rattle.uc_model.specs.PriceRule.{Proposal}
+use Rattle.uc_model.specs.Sums.{int_at}
+use Rattle.gap_proof.specs.CertifiedBound.{price_at, lowest_price, low_end, high_end, certified_bound}
+use Rattle.gap_proof.specs.Laws.{IsAnswered, AreWeights, IsInBox}
+use Rattle.gap_proof.proofs.Mean.{bound_above}
+use Rattle.gap_proof.proofs.Subgradients.{lt_true, lt_false}
+
+-- each price is within its limits
+pub price_limits : (m : Market) (π : PriceLists) (j : ℕ) → length π.energy ≡ m.periods → ArePrices π → j < 2 * m.periods → IsFrom (lowest_price m j) price_limit (price_at m π j)
+price_limits m π j horizon prices lt =
+    elim (cases_lt j m.periods) [
+      | inl low ↦
+          subst (λ (b : Bool). IsFrom (if b then neg_ℤ price_limit else pos 0) price_limit (if b then int_at π.energy j else int_at π.reserve (j - m.periods))) (sym (lt_true j m.periods low))
+          (prices.energy j (pos 0) (omega (arith, low, horizon)))
+      | inr high ↦
+          subst (λ (b : Bool). IsFrom (if b then neg_ℤ price_limit else pos 0) price_limit (if b then int_at π.energy j else int_at π.reserve (j - m.periods))) (sym (lt_false j m.periods high))
+          (prices.reserve (j - m.periods) (pos 0) (let same = prices.lengths in omega (arith, lt, high, horizon, same)))
+    ]
+
+pub centre_in_box : (m : Market) (π : PriceLists) (radius : ℤ) → length π.energy ≡ m.periods → ArePrices π → pos 0 ≤ℤ radius → IsInBox m π radius π
+centre_in_box m π radius horizon prices wide = record {
+  horizon = horizon;
+  inside = λ j lt.
+  let within = price_limits m π j horizon prices lt in
+  let a = within.at_least in
+  let b = within.at_most in
+  record { at_least = omega (arith, ints, clamps, a, wide); at_most = omega (arith, ints, clamps, b, wide) };
+}
+
+-- so the bound is at least the centre's value
+pub bound_at_centre : (m : Market) (rows : List Proposal) (weights : List ℤ) (centre : Proposal) (radius : ℤ) →
+    All (IsAnswered m) rows → AreWeights rows weights → IsAnswered m centre → ArePrices centre.prices → pos 0 ≤ℤ radius →
+    centre.value ≤ℤ certified_bound m rows weights centre.prices radius
+bound_at_centre m rows weights centre radius answered are answer prices wide =
+    bound_above m rows weights centre.prices radius centre.prices centre.value answered are (centre_in_box m centre.prices radius answer.horizon prices wide) answer.value

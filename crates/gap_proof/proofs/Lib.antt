@@ -1,0 +1,13 @@
+pub mod BackSums
+pub mod BestLaws
+pub mod Bounds
+pub mod Box
+pub mod FirstLeast
+pub mod Least
+pub mod Mean
+pub mod RangeLaws
+pub mod RowLists
+pub mod Running
+pub mod Subgradients
+pub mod Sizes
+pub mod SumLaws

@@ -1,0 +1,5 @@
+use Rattle.gap_proof.proofs.BestLaws.{best_holds}
+use Rattle.gap_proof.proofs.laws.best_bound_holds.Goals as goal
+
+pub returns : goal.returns
+returns c = best_holds

@@ -1,0 +1,11 @@
+use Rattle.std.proofs.Common.{◌≡◌, ℕ, ◌*ℤ◌}
+use Rattle.uc_model.specs.PlainCases.{market_of, proposal_of}
+use Rattle.gap_proof.specs.CertifiedBound.{slope_at}
+use Rattle.gap_proof.proofs.Running.{IsAddedUpTo}
+use Rattle.gap_proof.proofs.planes.add_slopes.Given as goal
+
+abbrev pub invariant-loop-place : goal.invariant-loop-place
+invariant-loop-place l = record {
+  added : IsAddedUpTo l.initial.slopes.items l.slopes.items (λ j. l.weight *ℤ slope_at (market_of l.case) (proposal_of l.row) j) l.place;
+  spare : l.slopes.spare ≡ l.initial.slopes.spare;
+}

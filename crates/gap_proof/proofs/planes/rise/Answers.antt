@@ -1,0 +1,19 @@
+use Rattle.std.proofs.Common.{rules, ◌*ℤ◌, arith, FitsSigned}
+use Rattle.std.proofs.lemmas.Int.{to_z-of_z}
+use Rattle.std.specs.Int.{w128}
+use Rattle.uc_model.proofs.SignedLaws.{fits_within, IsWithin}
+use Rattle.gap_proof.proofs.Bounds.{signed_product_within}
+use Rattle.gap_proof.proofs.planes.rise.Goals as goal
+
+pub returns-clause-bound : goal.returns-clause-bound
+returns-clause-bound c =
+    let p = c.ranges.slope in
+    let q = c.ranges.price in
+    let a : FitsSigned w128 c.from.result = search rules in
+    let b : FitsSigned w128 c.from-2.result = search rules in
+    let e = simp to_z-of_z at c.from.ensures in
+    let f = simp to_z-of_z at c.from-2.ensures in
+    let within : IsWithin 200000000000000000000 (c.from.result *ℤ c.from-2.result) =
+    rw (e, f) (signed_product_within 20000000000000 10000000 c.args.slope c.args.price c.requires.slope c.requires.price) in
+    let fits = fits_within w128 200000000000000000000 (c.from.result *ℤ c.from-2.result) within (omega arith) in
+    simp to_z-of_z within

@@ -1,0 +1,40 @@
+use Rattle.std.proofs.Common.{rules, ◌≡◌, ℕ, ◌-◌, ◌<◌, ◌≤◌, ℤ, ◌≤ℤ◌, ◌<ℤ◌, FitsSigned, length, map, sym, ap, subst, ◌∙◌, arith}
+use Rattle.std.proofs.lemmas.Int.{to_z-of_z}
+use Rattle.std.proofs.lemmas.List.{length-map}
+use Rattle.std.specs.Int.{w128}
+use Rattle.uc_model.specs.PlainCases.{market_of, proposal_of}
+use Rattle.gap_proof.specs.Sums.{IsRowWithin}
+use Rattle.gap_proof.proofs.FirstLeast.{back_chosen, centre_chosen, less_from_test, least_from_test}
+use Rattle.gap_proof.proofs.RowLists.{item_of, row_prices}
+use Rattle.gap_proof.proofs.ranges.best_range.Goals as goal
+
+pub returns-then-trailing-alone-clause-best : goal.returns-then-trailing-alone-clause-best
+returns-then-trailing-alone-clause-best c =
+    let m = market_of c.args.case.now in
+    let rows = map proposal_of c.args.rows.now in
+    let r = proposal_of c.row_at-middle.result.now in
+    let q = c.ranges.radius in
+    let f : FitsSigned w128 c.trailing-trailing.result.bound = search rules in
+    let g : FitsSigned w128 c.alone-alone.result.bound = search rules in
+    let there = simp to_z-of_z at c.alone-alone.ensures.bound in
+    let is = simp to_z-of_z at c.trailing-trailing.ensures.bound in
+    let least = simp to_z-of_z at c.trailing-trailing.ensures.least in
+    let earlier = simp to_z-of_z at c.trailing-trailing.ensures.earlier in
+    let better = simp to_z-of_z at c.if-trailing-alone.true in
+    back_chosen m rows c.args.centre c.args.radius r.prices (length c.args.rows.now) (row_prices rows c.args.centre r c.row_at-middle.ensures) (length-map c.args.rows.now proposal_of)
+    c.trailing-trailing.result.first c.trailing-trailing.result.last c.trailing-trailing.result.bound c.alone-alone.result.bound there
+    c.trailing-trailing.ensures.from_one c.trailing-trailing.ensures.to_last c.trailing-trailing.ensures.last is least earlier (less_from_test c.trailing-trailing.result.bound c.alone-alone.result.bound better)
+
+pub returns-clause-best : goal.returns-clause-best
+returns-clause-best c =
+    let m = market_of c.args.case.now in
+    let rows = map proposal_of c.args.rows.now in
+    let r = proposal_of c.row_at-middle.result.now in
+    let q = c.ranges.radius in
+    let f : FitsSigned w128 c.trailing-trailing.result.bound = search rules in
+    let g : FitsSigned w128 c.alone-alone.result.bound = search rules in
+    let is = simp to_z-of_z at c.alone-alone.ensures.bound in
+    let least = simp to_z-of_z at c.trailing-trailing.ensures.least in
+    let low = simp to_z-of_z at c.if-trailing-alone.false in
+    centre_chosen m rows c.args.centre c.args.radius r.prices (length c.args.rows.now) (row_prices rows c.args.centre r c.row_at-middle.ensures) (length-map c.args.rows.now proposal_of)
+    c.alone-alone.result.first c.alone-alone.result.last c.alone-alone.result.bound c.trailing-trailing.result.bound c.alone-alone.ensures.first c.alone-alone.ensures.last is least (least_from_test c.trailing-trailing.result.bound c.alone-alone.result.bound low)

@@ -1,0 +1,17 @@
+use Rattle.std.proofs.Common.{rules, ◌*ℤ◌, arith, FitsSigned}
+use Rattle.std.proofs.lemmas.Int.{to_z-of_z}
+use Rattle.std.specs.Int.{w128}
+use Rattle.uc_model.proofs.SignedLaws.{fits_within, IsWithin}
+use Rattle.gap_proof.proofs.Bounds.{signed_product_within, within_both}
+use Rattle.gap_proof.proofs.sums.lifted.Goals as goal
+
+pub returns-clause-bound : goal.returns-clause-bound
+returns-clause-bound c =
+    let p = c.ranges.weight in
+    let q = c.ranges.height in
+    let a : FitsSigned w128 c.from.result = search rules in
+    let e = simp to_z-of_z at c.from.ensures in
+    let within : IsWithin 2000000000000000000000000000000 (c.from.result *ℤ c.args.height) =
+    rw e (signed_product_within 1000000 2000000000000000000000000 c.args.weight c.args.height (within_both 1000000 c.args.weight c.requires.weight) c.requires.height) in
+    let fits = fits_within w128 2000000000000000000000000000000 (c.from.result *ℤ c.args.height) within (omega arith) in
+    simp to_z-of_z within

@@ -1,0 +1,4 @@
+pub mod CertifiedBound
+pub mod Candidates
+pub mod Laws
+pub mod Sums

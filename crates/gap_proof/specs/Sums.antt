@@ -1,0 +1,41 @@
+-- Sizes, and sums as they run while rows are added (this project's profile).
+use Rattle.std.specs.Prelude.{◌≡◌, ℕ, ◌*◌, ◌<◌, ℤ, pos, neg_ℤ, ◌+ℤ◌, ◌*ℤ◌, List, length}
+use Rattle.std.specs.Int.{int_min, int_max}
+use Rattle.uc_model.specs.Data.{Market}
+use Rattle.uc_model.specs.Limits.{IsFrom, IsWorth}
+use Rattle.uc_model.specs.PriceRule.{Proposal}
+use Rattle.uc_model.specs.Sums.{int_at, total}
+use Rattle.price_move.specs.Sizes.{IsRowOver}
+use Rattle.gap_proof.specs.CertifiedBound.{slope_at, height_of, weighted}
+
+-- a row over the market's horizon, with a dual value
+pub record IsRowWithin (m : Market) (r : Proposal) : Type 0 where
+  pub row : IsRowOver m r
+  pub value : IsWorth r.value
+
+-- a weight of a row
+abbrev pub IsWeight : ℤ → Type 0
+IsWeight w = IsFrom (pos 0) (pos 1000000) w
+
+-- a weighted sum of slopes
+abbrev pub IsSlopeSum : ℤ → Type 0
+IsSlopeSum x = IsFrom (neg_ℤ (pos 1000000000000000000000000)) (pos 1000000000000000000000000) x
+
+-- a weighted sum of heights
+abbrev pub IsHeightSum : ℤ → Type 0
+IsHeightSum x = IsFrom (neg_ℤ (pos 30000000000000000000000000000000000)) (pos 30000000000000000000000000000000000) x
+
+-- how far prices may be from the centre
+abbrev pub IsRadius : ℤ → Type 0
+IsRadius q = IsFrom (pos 0) (pos 20000000) q
+
+-- the sums of some weighted rows, with their sizes
+pub record AreSums (m : Market) (ws : List ℤ) (rows : List Proposal) (height weight : ℤ) (slopes : List ℤ) : Type 0 where
+  pub heights : height ≡ weighted (height_of m) ws rows
+  pub weights : weight ≡ total ws
+  pub slopes_are : (j : ℕ) → j < 2 * m.periods → int_at slopes j ≡ weighted (λ (r : Proposal). slope_at m r j) ws rows
+  pub same_length : length slopes ≡ 2 * m.periods
+  pub height_bound : IsFrom (neg_ℤ (pos (length rows * 2000000000000000000000000000000))) (pos (length rows * 2000000000000000000000000000000)) height
+  pub weight_bound : IsFrom (pos 0) (pos (length rows * 1000000)) weight
+  pub slope_bound : (j : ℕ) → j < 2 * m.periods →
+      IsFrom (neg_ℤ (pos (length rows * 20000000000000000000))) (pos (length rows * 20000000000000000000)) (int_at slopes j)

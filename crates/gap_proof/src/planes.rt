@@ -1,0 +1,111 @@
+//! The plane of a row: what its totals lack, and where the plane stands at prices of 0.
+ghost use Rattle.std.specs.Prelude.{◌≡◌, ℕ, ◌<◌, ◌*◌, ℤ, pos, neg_ℤ, ◌+ℤ◌, ◌-ℤ◌, ◌*ℤ◌, length};
+ghost use Rattle.std.specs.List.{All};
+ghost use Rattle.uc_model.specs.Limits.{IsFrom, IsPower, IsTotal, price_limit};
+ghost use Rattle.uc_model.specs.PlainCases.{market_of, proposal_of};
+ghost use Rattle.uc_model.specs.PlainUnits.{prices_of};
+ghost use Rattle.uc_model.specs.Sums.{int_at};
+ghost use Rattle.price_move.specs.Sizes.{IsEntry, IsRowOver};
+ghost use Rattle.gap_proof.specs.CertifiedBound.{price_at, slope_at, height_of};
+ghost use Rattle.gap_proof.specs.Sums.{IsRowWithin, IsWeight, IsSlopeSum};
+
+use uc_model::cases::{Case, Row};
+use uc_model::lists::Amounts;
+use uc_model::units::Prices;
+
+// What a total lacks of the power that is required.
+fn lacking(required: i64, total: i128) -> i64
+    requires required { IsPower required }
+    requires total { IsTotal total }
+    ensures value { result ≡ required -ℤ total }
+    ensures bound { IsEntry result }
+{
+    (i128::from(required) - total) as i64
+}
+
+// What the row's totals lack at a price place.
+fn slope(case: &Case, row: &Row, place: usize) -> i64
+    requires row { IsRowOver (market_of case.now) (proposal_of row.now) }
+    requires place { place < 2 * (market_of case.now).periods }
+    ensures value { result ≡ slope_at (market_of case.now) (proposal_of row.now) place }
+    ensures bound { IsEntry result }
+{
+    let periods = case.periods as usize;
+    if place < periods {
+        return lacking(*case.demand.get(place), *row.supply.get(place));
+    }
+    let k = place - periods;
+    lacking(*case.reserves.get(k), *row.reserve.get(k))
+}
+
+/// The price at a place.
+pub fn price(case: &Case, prices: &Prices, place: usize) -> i64
+    requires horizon { length (prices_of prices.now).energy ≡ (market_of case.now).periods }
+    requires place { place < 2 * (market_of case.now).periods }
+    ensures value { result ≡ price_at (market_of case.now) (prices_of prices.now) place }
+    ensures limits { IsFrom (neg_ℤ price_limit) price_limit result }
+{
+    let periods = case.periods as usize;
+    if place < periods {
+        return *prices.energy.get(place);
+    }
+    *prices.reserve.get(place - periods)
+}
+
+// What a slope adds at a price.
+fn rise(slope: i64, price: i64) -> i128
+    requires slope { IsEntry slope }
+    requires price { IsFrom (neg_ℤ price_limit) price_limit price }
+    ensures value { result ≡ slope *ℤ price }
+    ensures bound { IsFrom (neg_ℤ (pos 200000000000000000000)) (pos 200000000000000000000) result }
+{
+    i128::from(slope) * i128::from(price)
+}
+
+/// Where the row's plane stands at prices of 0.
+pub fn height(case: &Case, row: &Row) -> i128
+    requires { IsRowWithin (market_of case.now) (proposal_of row.now) }
+    ensures value { result ≡ height_of (market_of case.now) (proposal_of row.now) }
+    ensures bound { IsFrom (neg_ℤ (pos 2000000000000000000000000)) (pos 2000000000000000000000000) result }
+{
+    let mut at_prices: i128 = 0;
+    for place in 0..2 * case.periods as usize {
+        at_prices += rise(slope(case, row, place), price(case, &row.prices, place));
+    }
+    row.value - at_prices
+}
+
+// So many times a slope.
+fn times(weight: i64, slope: i64) -> i128
+    requires weight { IsWeight weight }
+    requires slope { IsEntry slope }
+    ensures value { result ≡ weight *ℤ slope }
+    ensures bound { IsFrom (neg_ℤ (pos 20000000000000000000)) (pos 20000000000000000000) result }
+{
+    i128::from(weight) * i128::from(slope)
+}
+
+// A sum of slopes with one more in it, so many times.
+fn sum_with(sum: i128, weight: i64, slope: i64) -> i128
+    requires sum { IsSlopeSum sum }
+    requires weight { IsWeight weight }
+    requires slope { IsEntry slope }
+    ensures { result ≡ sum +ℤ (weight *ℤ slope) }
+{
+    sum + times(weight, slope)
+}
+
+/// Adds the row's slopes to the sums at each price place, so many times.
+pub fn add_slopes(case: &Case, row: &Row, weight: i64, slopes: &mut Amounts)
+    requires row { IsRowOver (market_of case.now) (proposal_of row.now) }
+    requires weight { IsWeight weight }
+    requires length { length slopes.old.items ≡ 2 * (market_of case.now).periods }
+    requires sums { All IsSlopeSum slopes.old.items }
+    ensures length { length slopes.new.items ≡ length slopes.old.items }
+    ensures added { (j : ℕ) → j < 2 * (market_of case.now).periods → int_at slopes.new.items j ≡ int_at slopes.old.items j +ℤ (weight *ℤ slope_at (market_of case.now) (proposal_of row.now) j) }
+    ensures spare { slopes.new.spare ≡ slopes.old.spare }
+{
+    for place in 0..2 * case.periods as usize {
+        slopes.set(place, sum_with(*slopes.get(place), weight, slope(case, row, place)));
+    }
+}
