@@ -307,7 +307,7 @@ body {{ margin: 0 auto; padding: 1rem; max-width: 60rem; font: 16px/1.45 system-
 h1 {{ font-size: 1.5rem; margin: 0 0 .5rem; }} h2 {{ font-size: 1.1rem; margin: 2rem 0 .25rem; }} p {{ margin: .25rem 0 .5rem; color: var(--soft); }}
 dl {{ display: grid; grid-template-columns: repeat(auto-fit, minmax(9.5rem, 1fr)); gap: .5rem 1rem; margin: 1rem 0; }}
 dt {{ font-size: .85rem; color: var(--soft); }} dd {{ margin: 0; font-weight: 600; font-variant-numeric: tabular-nums; overflow-wrap: anywhere; }}
-svg {{ width: 100%; height: auto; font-size: 13px; fill: var(--soft); }} @media (max-width: 40rem) {{ svg {{ font-size: 21px; }} }} .grid {{ stroke: var(--grid); }}
+svg {{ width: 100%; height: auto; overflow: visible; font-size: 13px; fill: var(--soft); }} @media (max-width: 40rem) {{ svg {{ font-size: 21px; }} }} .grid {{ stroke: var(--grid); }}
 polyline {{ fill: none; stroke-width: 2; }} polyline.energy {{ stroke: var(--blue); }} polyline.reserve {{ stroke: var(--orange); }}
 polyline.first {{ stroke-dasharray: 5 4; stroke-width: 1.3; opacity: .8; }} line.cost {{ stroke: var(--red); stroke-width: 2; }} circle.mark {{ fill: var(--blue); }}
 i {{ display: inline-block; width: 1.5rem; border-top: 3px solid var(--blue); margin: 0 .3rem .25rem .8rem; vertical-align: middle; }} i:first-child {{ margin-left: 0; }}
