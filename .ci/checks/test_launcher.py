@@ -16,8 +16,8 @@ CRATES = "# a comment\nlow: arrayvec\nfor_tests: low\nhigh: low\nhull_cli: high 
 STAND_IN = """#!/usr/bin/env bash
 echo "$*" >> "$ASKED"
 case "$1 $FAILS" in
-    "all "|"all compile") printf '== low\\nok\\n== high\\nok\\n== hull_cli\\nok\\n== summary\\nlow: ok\\n3 of 3 crates ok\\n' ;;
-    "all high") printf '== low\\nok\\n== high\\nno\\n== summary\\nlow: ok\\nhigh: failed (1)\\n1 of 3 crates ok\\n'; exit 1 ;;
+    "all "|"all compile") printf '== low\\nlogic=proved\\n== high\\n== hull_cli\\nlogic=proved\\n== summary\\nlow: ok\\n3 of 3 crates ok\\n' ;;
+    "all high") printf '== low\\nlogic=proved\\n== high\\nlogic=not-proved\\n== summary\\nlow: ok\\nhigh: failed (1)\\n1 of 3 crates ok\\n'; exit 1 ;;
     "all killed")
         if [ "$4" != 1 ]; then printf '== summary\\nhigh: failed (-9)\\n1 of 3 crates ok\\n'; exit 1; fi
         printf '== low\\n== high\\n== hull_cli\\n== summary\\n3 of 3 crates ok\\n' ;;
@@ -60,8 +60,8 @@ class Launcher(unittest.TestCase):
         self.assertEqual((status, output), (0, b"given price --case a b\n"))
         lines = said.decode().splitlines()
         self.assertRegex(lines[0], r"^hull: proving the 3 crates of the program, \d+ at a time; this is done once\. At: low$")
-        self.assertEqual(lines[1], "hull: low is done, 2 of 3 are left. At: high")
-        self.assertEqual(lines[2], "hull: high is done, 1 of 3 are left. At: hull_cli")
+        self.assertEqual(lines[1], "hull: low is proved, 2 of 3 are left. At: high")
+        self.assertEqual(lines[2:4], ["hull: high is done, 1 of 3 are left. At: hull_cli", "hull: hull_cli is proved, 0 of 3 are left"])
         self.assertEqual(lines[-1], "hull: the program is built")
         self.assertEqual(self.asked(), ["all", "run"])
 
@@ -85,7 +85,9 @@ class Launcher(unittest.TestCase):
     def test_a_crate_that_fails_is_named_in_one_clear_line(self):
         status, output, said = self.hull("check", FAILS="high")
         self.assertEqual((status, output), (127, b""))
-        self.assertIn("hull: no program: high failed; ", said.decode().splitlines()[-1])
+        lines = said.decode().splitlines()
+        self.assertEqual(lines[2], "hull: high FAILED, 1 of 3 are left. At: hull_cli")
+        self.assertIn("hull: no program: high failed; ", lines[-1])
 
     def test_a_crate_that_was_killed_is_tried_again_alone(self):
         status, output, _ = self.hull("check", FAILS="killed")
