@@ -10,10 +10,14 @@ import sys
 import unittest
 
 ROOT = os.path.dirname(os.path.dirname(os.path.abspath(__file__)))
+PROGRAM = os.path.join(ROOT, "crates", "hull_cli", "out", "hull_cli")
 
 
 def main():
     sys.dont_write_bytecode = True
+    if not os.access(PROGRAM, os.X_OK):
+        print(f"{PROGRAM} isn't there: `rt ci`, or ./hull, builds it\n0 passed, 1 failed")
+        return 1
     suite = unittest.TestSuite()
     for folder in (".ci/checks", "tools/tests"):
         suite.addTests(unittest.TestLoader().discover(os.path.join(ROOT, folder), top_level_dir=os.path.join(ROOT, folder)))
