@@ -161,8 +161,9 @@ class Unit:
         low, high = unit.on_bounds()
         periods = range(unit.periods)
         self.on = [program.variable(low[t], max(low[t], high[t]), unit.least_cost / 1e6, True) for t in periods]
-        self.start = [program.variable(0, 1, 0.0, True) for _ in periods]
-        self.stop = [program.variable(0, 1, 0.0, True) for _ in periods]
+        # (these are 0 or 1 where the on flags are; a limit below the least power bars the start or stop)
+        self.start = [program.variable(0, int(unit.start_cap >= unit.least)) for _ in periods]
+        self.stop = [program.variable(0, int(unit.stop_cap >= unit.least or t == 0)) for t in periods]
         room = (unit.most - unit.least) / 1e3
         self.power = [program.variable(0, room) for _ in periods]
         self.reserve = [program.variable(0, room if with_reserve else 0) for _ in periods]
@@ -196,9 +197,13 @@ class Unit:
         unit, at_most = self.unit, self.program.at_most
         for t in range(unit.periods):
             both = [(self.power[t], 1), (self.reserve[t], 1)]
-            at_most([*both, (self.on[t], -room), (self.start[t], (unit.most - unit.start_cap) / 1e3)], 0)
-            if t + 1 < unit.periods:
-                at_most([*both, (self.on[t], -room), (self.stop[t + 1], (unit.most - unit.stop_cap) / 1e3)], 0)
+            starts = (self.start[t], (unit.most - max(unit.start_cap, unit.least)) / 1e3)
+            stops = (self.stop[t + 1], (unit.most - max(unit.stop_cap, unit.least)) / 1e3) if t + 1 < unit.periods else None
+            if stops and unit.min_up > 1:  # (a period can't be the first and the last one)
+                at_most([*both, (self.on[t], -room), starts, stops], 0)
+            else:
+                at_most([*both, (self.on[t], -room), starts], 0)
+                at_most([*both, (self.on[t], -room), stops], 0) if stops else None
             before, at0 = ([(self.power[t - 1], 1)], 0) if t else ([], unit.above0 / 1e3)
             at_most([*both, *((it, -one) for it, one in before)], unit.up / 1e3 + at0)
             at_most([(self.power[t], -1), *before], unit.down / 1e3 - at0)
@@ -323,7 +328,10 @@ def solve(case, gap, seconds, tell):
     tell(f"{len(case.thermal)} thermal and {len(case.renewable)} renewable units, {len(case.bids)} bids, {case.periods} periods: searching for at most {seconds:g} s")
     found = model.program.solve(time_limit=float(seconds), mip_rel_gap=gap)
     if found.status == 2:
-        raise Wrong(f"the case can't be met{explain(case)}")
+        # (HiGHS has called cases of a few kilowatts infeasible that weren't, in its first simplifications)
+        found = model.program.solve(time_limit=min(60.0, seconds), mip_rel_gap=gap, presolve=False)
+    if found.status == 2:
+        raise Wrong(f"the solver finds that the case can't be met{explain(case)}")
     if found.x is None:
         raise Wrong(f"no schedule was found in {seconds:g} s: give --seconds more")
     # (with no whole variable there is no bound beside the optimum)
