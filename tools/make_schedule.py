@@ -150,7 +150,12 @@ class Program:
             self.variable(0, 0)  # (SciPy wants one)
         table = coo_matrix((self.factors, (self.rows, self.columns)), shape=(len(self.from_), len(self.low))).tocsr()
         limits = [LinearConstraint(table, self.from_, self.to)] if self.from_ else []
-        return milp(self.cost, integrality=self.whole if whole else None, bounds=Bounds(self.low, self.high), constraints=limits, options=options)
+        given = dict(integrality=self.whole if whole else None, bounds=Bounds(self.low, self.high), constraints=limits)
+        found = milp(self.cost, **given, options=options)
+        if found.status != 2:
+            return found
+        # (HiGHS has called programs of a few kilowatts infeasible that weren't, in its first simplifications)
+        return milp(self.cost, **given, options={**options, "presolve": False, "time_limit": min(60.0, options.get("time_limit", 60.0))})
 
 
 class Unit:
@@ -327,9 +332,6 @@ def solve(case, gap, seconds, tell):
     model = Commitment(case)
     tell(f"{len(case.thermal)} thermal and {len(case.renewable)} renewable units, {len(case.bids)} bids, {case.periods} periods: searching for at most {seconds:g} s")
     found = model.program.solve(time_limit=float(seconds), mip_rel_gap=gap)
-    if found.status == 2:
-        # (HiGHS has called cases of a few kilowatts infeasible that weren't, in its first simplifications)
-        found = model.program.solve(time_limit=min(60.0, seconds), mip_rel_gap=gap, presolve=False)
     if found.status == 2:
         raise Wrong(f"the solver finds that the case can't be met{explain(case)}")
     if found.x is None:
