@@ -1,0 +1,34 @@
+#!/usr/bin/env python3
+"""Runs the repository's own checks over the built program: the launcher, the examples, the edges, and the tools.
+
+`.ci/run` calls this after the gate, which leaves the program in crates/hull_cli/out. By itself it takes a few seconds:
+it proves nothing. The last line is 'N passed, M failed'; a check that needs what this machine hasn't is named, and
+counts for neither.
+"""
+import os
+import sys
+import unittest
+
+ROOT = os.path.dirname(os.path.dirname(os.path.abspath(__file__)))
+PROGRAM = os.path.join(ROOT, "crates", "hull_cli", "out", "hull_cli")
+
+
+def main():
+    sys.dont_write_bytecode = True
+    if not os.access(PROGRAM, os.X_OK):
+        print(f"{PROGRAM} isn't there: `rt ci`, or ./hull, builds it\n0 passed, 1 failed")
+        return 1
+    suite = unittest.TestSuite()
+    for folder in (".ci/checks", "tools/tests"):
+        suite.addTests(unittest.TestLoader().discover(os.path.join(ROOT, folder), top_level_dir=os.path.join(ROOT, folder)))
+    done = unittest.TextTestRunner(stream=sys.stdout, verbosity=1).run(suite)
+    for test, why in done.skipped:
+        print(f"not run: {test.id()}: {why}")
+    failed = len(done.failures) + len(done.errors) + len(done.unexpectedSuccesses)
+    passed = done.testsRun - failed - len(done.skipped)
+    print(f"{max(passed, 0)} passed, {failed} failed")
+    return 1 if failed or passed < 1 else 0
+
+
+if __name__ == "__main__":
+    sys.exit(main())

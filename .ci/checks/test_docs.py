@@ -1,0 +1,41 @@
+"""The docs: files that they name are there, tables are whole, and the manual page shows without a warning."""
+import glob
+import os
+import re
+import shutil
+import subprocess
+import unittest
+
+from built import ROOT
+
+PAGES = sorted(it for it in glob.glob(f"{ROOT}/**/*.md", recursive=True) if "/out/" not in it)
+NAMED = re.compile(r"(?<![\w/.])((?:docs|examples|tools|bench|crates|\.ci)/[\w./-]*\w)")
+
+
+class Docs(unittest.TestCase):
+    def read(self, name):
+        with open(name, encoding="utf-8") as it:
+            return it.read()
+
+    def test_named_files_are_there(self):
+        for page in PAGES:
+            for name in NAMED.findall(self.read(page)):
+                if "NAME" not in name and "/out/" not in name:
+                    self.assertTrue(os.path.exists(f"{ROOT}/{name}"), f"{os.path.relpath(page, ROOT)} names {name}")
+
+    def test_tables_are_whole(self):
+        for page in PAGES:
+            cells = None
+            for number, line in enumerate(self.read(page).split("\n"), 1):
+                now = len(re.findall(r"(?<!\\)\|", line)) if line.startswith("|") else None
+                self.assertTrue(None in (cells, now) or cells == now, f"{os.path.relpath(page, ROOT)}, line {number}")
+                cells = now
+
+    def test_manual_page_shows_without_a_warning(self):
+        if not shutil.which("man"):
+            self.skipTest("there is no man here")
+        shown = subprocess.run(["man", "--warnings", "-l", f"{ROOT}/docs/hull.1"], capture_output=True, text=True, env={**os.environ, "LC_ALL": "C", "MANWIDTH": "80"})
+        if "man-db" in shown.stderr or "has been minimized" in shown.stdout or not shown.stdout:
+            self.skipTest(f"man can't show pages here: {shown.stderr.strip()[:100]}")
+        self.assertEqual((shown.returncode, shown.stderr), (0, ""))
+        self.assertIn("hull price --case F --schedule F", shown.stdout)

@@ -1,0 +1,56 @@
+"""Each example of docs/FAULTS.md prints the line that stands beside it, and every code has one."""
+import os
+import re
+import shutil
+import tempfile
+import unittest
+
+from built import EXAMPLES, ROOT, run
+
+CHANGE = re.compile(r"`(\w+)/(case|schedule)\.json`: `(.+)` becomes `(.+)`")
+TEXTS, CASES, PLANS = range(10, 14), {*range(20, 35), 37} - {32}, range(40, 58)
+
+
+def rows():
+    """Rows of the page's tables as (example, line); a line is the first cell that has one alone."""
+    with open(f"{ROOT}/docs/FAULTS.md", encoding="utf-8") as page:
+        for text in page:
+            cells = [it.strip() for it in text.strip().strip("|").split(" | ")]
+            line = next((i for i, it in enumerate(cells) if re.fullmatch(r"`fault [^`]+`", it)), None)
+            if line:
+                yield cells[line - 1], cells[line].strip("`")
+
+
+class Faults(unittest.TestCase):
+    def test_each_code_has_an_example(self):
+        lines = [line.split() for _, line in rows()]
+        told = {(it[1], next(w for w in it[3:] if w.isdigit())) for it in lines if it[1] in "134"}
+        due = {("1", str(it)) for it in range(1, 9)} | {("3", str(it)) for it in {*TEXTS, *CASES}} | {("4", str(it)) for it in {10, *PLANS} - {58}}
+        self.assertEqual(due - told, set())
+        self.assertTrue({"2", "5"} <= {it[1] for it in lines})
+
+
+def check_of(example, line):
+    def check(self):
+        due = (int(line.split()[1]), f"{line}\n".encode(), b"")
+        change = CHANGE.fullmatch(example)
+        if not change:
+            self.assertEqual(run(example.strip("`").split()[1:], folder=EXAMPLES), due)
+            return
+        folder, name, old, new = change.groups()
+        with tempfile.TemporaryDirectory() as room:
+            for it in ("case.json", "schedule.json"):
+                shutil.copy(f"{EXAMPLES}/{folder}/{it}", room)
+            with open(f"{room}/{name}.json", encoding="utf-8") as it:
+                text = it.read()
+            self.assertEqual(text.count(old), 1, f"{old} stands once in {folder}/{name}.json")
+            with open(f"{room}/{name}.json", "w", encoding="utf-8") as it:
+                it.write(text.replace(old, new))
+            self.assertEqual(run(["check", "--case", "case.json", "--schedule", "schedule.json"], folder=room), due)
+
+    return check
+
+
+for number, (example, line) in enumerate(rows(), 1):
+    code = re.sub(r"\W+", "_", " ".join(line.split()[1:4]))
+    setattr(Faults, f"test_{number:02}_{code}", check_of(example, line))

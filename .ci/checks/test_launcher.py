@@ -1,0 +1,129 @@
+"""The launcher: it takes the program that is built, answers `help` alone, and proves what the program needs where it must.
+
+Proving is tried on a small repository with a stand-in for `rt`, which notes what it was asked and proves nothing.
+"""
+import os
+import shutil
+import subprocess
+import tempfile
+import time
+import unittest
+
+from built import EXAMPLES, LAUNCHER, run
+
+WITHOUT_RT = {"PATH": "/usr/bin:/bin", "HOME": "/"}
+CRATES = "# a comment\nlow: arrayvec\nfor_tests: low\nhigh: low\nhull_cli: high low\n"
+STAND_IN = """#!/usr/bin/env bash
+echo "$*" >> "$ASKED"
+case "$1 $FAILS" in
+    "all "|"all compile") printf '== low\\nlogic=proved\\n== high\\n== hull_cli\\nlogic=proved\\n== summary\\nlow: ok\\n3 of 3 crates ok\\n' ;;
+    "all high") printf '== low\\nlogic=proved\\n== high\\nlogic=not-proved\\n== summary\\nlow: ok\\nhigh: failed (1)\\n1 of 3 crates ok\\n'; exit 1 ;;
+    "all killed")
+        if [ "$4" != 1 ]; then printf '== summary\\nhigh: failed (-9)\\n1 of 3 crates ok\\n'; exit 1; fi
+        printf '== low\\n== high\\n== hull_cli\\n== summary\\n3 of 3 crates ok\\n' ;;
+    "run compile") exit 1 ;;
+    run*)
+        printf '#!/bin/sh\\n[ "$#" -gt 0 ] && { echo "given $*"; exit 0; }\\necho fault 1 words 1 0\\nexit 1\\n' > out/hull_cli
+        chmod +x out/hull_cli; ./out/hull_cli ;;
+esac
+"""
+
+
+class Launcher(unittest.TestCase):
+    def setUp(self):
+        self.room = tempfile.mkdtemp(prefix="hull-launcher-")
+        self.addCleanup(shutil.rmtree, self.room)
+        shutil.copy(LAUNCHER, f"{self.room}/hull")
+        self.write("crates.txt", CRATES)
+        for crate in ("low", "for_tests", "high", "hull_cli"):
+            self.write(f"crates/{crate}/src/lib.rt", "")
+        self.write("bin/rt", STAND_IN)
+        os.chmod(f"{self.room}/bin/rt", 0o755)
+        self.env = {"PATH": f"{self.room}/bin:/usr/bin:/bin", "ASKED": f"{self.room}/asked", "FAILS": "", "HOME": "/"}
+
+    def write(self, name, text):
+        os.makedirs(os.path.dirname(f"{self.room}/{name}"), exist_ok=True)
+        with open(f"{self.room}/{name}", "w", encoding="utf-8") as it:
+            it.write(text)
+
+    def hull(self, *words, **env):
+        return run(words, program=f"{self.room}/hull", folder=self.room, env={**self.env, **env})
+
+    def asked(self):
+        if not os.path.exists(f"{self.room}/asked"):
+            return []
+        with open(f"{self.room}/asked", encoding="utf-8") as it:
+            return [line.split()[0] for line in it]
+
+    def test_first_use_proves_the_programs_crates_alone_and_says_how_far_it_is(self):
+        status, output, said = self.hull("price", "--case", "a b")
+        self.assertEqual((status, output), (0, b"given price --case a b\n"))
+        lines = said.decode().splitlines()
+        self.assertRegex(lines[0], r"^hull: proving the 3 crates of the program, \d+ at a time; this is done once\. At: low$")
+        self.assertEqual(lines[1], "hull: low is proved, 2 of 3 are left. At: high")
+        self.assertEqual(lines[2:4], ["hull: high is done, 1 of 3 are left. At: hull_cli", "hull: hull_cli is proved, 0 of 3 are left"])
+        self.assertEqual(lines[-1], "hull: the program is built")
+        self.assertEqual(self.asked(), ["all", "run"])
+
+    def test_second_use_asks_for_no_proof_and_is_quick(self):
+        self.hull("check")
+        began = time.monotonic()
+        self.assertEqual(self.hull("--version")[1:], (b"given --version\n", b""))
+        self.assertLess(time.monotonic() - began, 2)
+        self.assertEqual(self.asked(), ["all", "run"])
+
+    def test_an_edit_of_the_programs_crates_alone_builds_anew(self):
+        self.hull("check")
+        later = time.time() + 10
+        os.utime(f"{self.room}/crates/for_tests/src/lib.rt", (later, later))
+        self.hull("check")
+        self.assertEqual(self.asked(), ["all", "run"])
+        os.utime(f"{self.room}/crates/high/src/lib.rt", (later, later))
+        self.hull("check")
+        self.assertEqual(self.asked(), ["all", "run", "all", "run"])
+
+    def test_a_crate_that_fails_is_named_in_one_clear_line(self):
+        status, output, said = self.hull("check", FAILS="high")
+        self.assertEqual((status, output), (127, b""))
+        lines = said.decode().splitlines()
+        self.assertEqual(lines[2], "hull: high FAILED, 1 of 3 are left. At: hull_cli")
+        self.assertIn("hull: no program: high failed; ", lines[-1])
+
+    def test_a_crate_that_was_killed_is_tried_again_alone(self):
+        status, output, _ = self.hull("check", FAILS="killed")
+        self.assertEqual(status, 0)
+        self.assertIn(self.asked(), (["all", "all", "run"], ["all", "run"]))
+
+    def test_a_build_that_fails_says_where_to_look(self):
+        status, output, said = self.hull("check", FAILS="compile")
+        self.assertEqual((status, output), (127, b""))
+        self.assertTrue(said.decode().splitlines()[-1].endswith("crates/hull_cli/out/build.log says why"))
+
+    def test_without_rt_it_says_so(self):
+        status, output, said = run(["check"], program=f"{self.room}/hull", env=WITHOUT_RT)
+        self.assertEqual((status, output), (127, b""))
+        self.assertIn("isn't on the path", said.decode())
+
+    def test_two_at_once_build_once(self):
+        both = [subprocess.Popen([f"{self.room}/hull", "check"], env=self.env, stdout=subprocess.PIPE, stderr=subprocess.DEVNULL) for _ in range(2)]
+        self.assertEqual([it.communicate()[0] for it in both], [b"given check\n"] * 2)
+        self.assertEqual(self.asked(), ["all", "run"])
+
+    def test_help_alone_is_the_launchers_and_other_words_are_the_programs(self):
+        status, output, _ = self.hull("help")
+        self.assertEqual(status, 0)
+        self.assertTrue(output.startswith(b"hull: convex hull prices"))
+        self.assertEqual(self.asked(), [])
+        self.assertEqual(self.hull("help", "price")[1], b"given help price\n")
+        self.assertEqual(self.hull("--help")[1], b"given --help\n")
+
+
+class BuiltProgram(unittest.TestCase):
+    def test_what_the_gate_built_is_taken_without_rt(self):
+        words = ["check", "--case", f"{EXAMPLES}/first/case.json", "--schedule", f"{EXAMPLES}/first/schedule.json"]
+        text = b"hull-check 1\nperiods 1 thermal 0 renewable 1\ncost 0\nfeasible\n"
+        self.assertEqual(run(words, program=LAUNCHER, folder="/", env=WITHOUT_RT), (0, text, b""))
+
+    def test_option_words_are_words(self):
+        for word in ("--version", "--help"):
+            self.assertEqual(run([word], program=LAUNCHER, env=WITHOUT_RT), (1, b"fault 1 words 2 1\n", b""))
