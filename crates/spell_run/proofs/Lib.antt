@@ -4,6 +4,7 @@ pub mod EntryLaws
 pub mod FairLaws
 pub mod FrameLaws
 pub mod FrontierLaws
+pub mod JoinLaws
 pub mod PeriodLaws
 pub mod ReserveLaws
 pub mod RunLaws

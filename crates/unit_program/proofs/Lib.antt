@@ -13,6 +13,7 @@ pub mod RunLaws
 pub mod ShapeLaws
 pub mod SpanLaws
 pub mod SpellLaws
+pub mod StandInLaws
 pub mod StartCosts
 pub mod TableLaws
 pub mod TieLaws

@@ -2,6 +2,7 @@ pub mod Backs
 pub mod Builds
 pub mod Lists
 pub mod Rows
+pub mod Runners
 pub mod Spells
 pub mod Steps
 pub mod Tables
