@@ -8,8 +8,10 @@ pub mod EndLaws
 pub mod EntryLaws
 pub mod FillLaws
 pub mod ListLaws
+pub mod RowByRowLaws
 pub mod RowLaws
 pub mod RunLaws
+pub mod RunnerRowLaws
 pub mod ShapeLaws
 pub mod SpanLaws
 pub mod SpellLaws

@@ -189,7 +189,7 @@ module _ (g : ThermalUnit) (π : PriceLists) (ends : ℕ → Option ℤ) (t : �
   -- ---- a period more
 
   -- a runner of the next period, or no function is left of it
-  pub abbrev GoesOn : ℕ → Going → Type 0
+  abbrev pub GoesOn : ℕ → Going → Type 0
   GoesOn f r = (h : Table) × IsFrontier g π f (suc t) h × ((live' f ≡ Some (record { before = r.before; cost = r.cost; function = h })) ⊎ ((live' f ≡ None) × IsEmpty h))
 
   module _ (go : RunsGoOn) (within : t < length π.energy) (now : AreRunners g π ends live t (suc (suc t))) (open_next : mark_in g.window (suc t) ≡ MustOff → ⊥)

@@ -60,7 +60,7 @@ pub record IsTableTo (g : ThermalUnit) (π : PriceLists) (periods t : ℕ) (ends
 -- row l has the least cost of the runners that begin before period n and may stop after period l; of equal ones that of the
 -- latest
 pub record IsRowOf (g : ThermalUnit) (π : PriceLists) (periods : ℕ) (live : ℕ → Option Going) (n l : ℕ) (end : Option ℤ) (first before : ℕ) : Type 0 where
-  pub most : (f : ℕ) (r : Going) (c : ℤ) → f < n → live f ≡ Some r → IsSpell g periods f l → IsLeastSpell g π periods f l c → HasAtMost end (r.cost +ℤ c)
-  pub latest : (f : ℕ) (r : Going) (c : ℤ) → f < n → live f ≡ Some r → IsSpell g periods f l → IsLeastSpell g π periods f l c → end ≡ Some (r.cost +ℤ c) → f ≤ first
+  pub most : (f : ℕ) (r : Going) (d : Schedule) → f < n → live f ≡ Some r → IsSpell g periods f l → IsDispatch g periods f l d → HasAtMost end (r.cost +ℤ spell_cost g π f l d)
+  pub latest : (f : ℕ) (r : Going) (d : Schedule) → f < n → live f ≡ Some r → IsSpell g periods f l → IsDispatch g periods f l d → end ≡ Some (r.cost +ℤ spell_cost g π f l d) → f ≤ first
   pub sound : (v : ℤ) → end ≡ Some v →
       (r : Going) × (live first ≡ Some r) × (first < n) × (r.before ≡ before) × IsSpell g periods first l × ((c : ℤ) × IsLeastSpell g π periods first l c × (v ≡ r.cost +ℤ c))
