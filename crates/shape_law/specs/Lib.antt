@@ -2,4 +2,5 @@ pub mod Cell
 pub mod Curve
 pub mod Effect
 pub mod Laws
+pub mod Steps
 pub mod Table

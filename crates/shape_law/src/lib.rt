@@ -8,6 +8,7 @@ ghost use Rattle.shape_law.specs.Effect.{IsPoint, IsSame, IsSum, IsCurveSum, Can
 ghost use Rattle.shape_law.specs.Table.{Table, value_of, IsConvex, IsPlace, IsAmount, IsWithinLimits, IsEmpty, CanAdd, HasNone};
 
 pub mod laws;
+pub mod step;
 
 use std::alloc::{AllocError, Global};
 use uc_model::units::Curve;

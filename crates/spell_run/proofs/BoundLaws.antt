@@ -11,7 +11,7 @@ use Rattle.shape_law.proofs.ConvexLaws.{added}
 use Rattle.uc_model.specs.declared.units.Curve.{Curve}
 use Rattle.uc_model.specs.Limits.{IsFrom, IsOutput}
 use Rattle.uc_model.proofs.SignedLaws.{IsWithin, product_within}
-use Rattle.spell_run.specs.declared.step.Step.{Step}
+use Rattle.shape_law.specs.declared.step.Step.{Step}
 use Rattle.spell_run.specs.Steps.{IsFairStep, IsCostOf, IsKinked, IsSmall}
 
 -- places are outputs, and values at most n in magnitude

@@ -9,7 +9,7 @@ use Rattle.shape_law.proofs.ConvexLaws.{added}
 use Rattle.uc_model.specs.Data.{Schedule}
 use Rattle.uc_model.specs.Limits.{IsFrom, IsOutput}
 use Rattle.uc_model.proofs.SignedLaws.{IsWithin, fits_within}
-use Rattle.spell_run.specs.declared.step.Step.{Step}
+use Rattle.shape_law.specs.declared.step.Step.{Step}
 use Rattle.spell_run.specs.Frontier.{IsWritten, IsChosen}
 use Rattle.spell_run.specs.Laws.{best_reserve}
 use Rattle.spell_run.specs.Steps.{IsFairStep, IsKinked, IsSmall}

@@ -18,7 +18,7 @@ use Rattle.uc_model.specs.Envelope.{envelope}
 use Rattle.uc_model.specs.Limits.{IsFrom, IsPower, IsOutput, IsCost, IsThermalUnit, ArePrices}
 use Rattle.uc_model.specs.Sums.{int_at}
 use Rattle.uc_model.proofs.SignedLaws.{fits_within}
-use Rattle.spell_run.specs.declared.step.Step.{Step}
+use Rattle.shape_law.specs.declared.step.Step.{Step}
 use Rattle.spell_run.specs.Steps.{cap_at, step_at, IsFairStep, IsCostOf, IsStepped, IsSmall, IsLeastCostIn}
 use Rattle.spell_run.proofs.StepLaws.{under_cap, under_most, cost_on}
 

@@ -14,7 +14,7 @@ use Rattle.uc_model.specs.Data.{ThermalUnit, PriceLists, Schedule}
 use Rattle.uc_model.specs.Limits.{IsFrom, IsThermalUnit, ArePrices}
 use Rattle.uc_model.specs.Sums.{int_at}
 use Rattle.spell_run.specs.declared.best.Found.{Found}
-use Rattle.spell_run.specs.declared.step.Step.{Step}
+use Rattle.shape_law.specs.declared.step.Step.{Step}
 use Rattle.spell_run.specs.Entries.{IsOnFromTo}
 use Rattle.spell_run.specs.Frontier.{IsFrontier, IsWritten, IsChosen, IsUnreached, IsWayFrom, stops_at}
 use Rattle.spell_run.specs.Spells.{HasNoDispatch, IsSpellWithin}

@@ -6,7 +6,7 @@ use Rattle.uc_model.specs.Data.{ThermalUnit, PriceLists, Schedule}
 use Rattle.uc_model.specs.Limits.{IsOutput}
 use Rattle.uc_model.specs.Schedules.{power_in, reserve_in}
 use Rattle.uc_model.specs.Sums.{int_at}
-use Rattle.spell_run.specs.declared.step.Step.{Step}
+use Rattle.shape_law.specs.declared.step.Step.{Step}
 use Rattle.spell_run.specs.Entries.{IsSameOutside}
 use Rattle.spell_run.specs.Laws.{best_reserve}
 use Rattle.spell_run.specs.Spells.{spell_cost, IsDispatch, IsSpellWithin}

@@ -7,26 +7,12 @@ ghost use Rattle.spell_run.specs.Spells.{spell_first};
 ghost use Rattle.spell_run.specs.Steps.{cap_at, step_at, IsFairStep, IsCostOf, IsKinked, IsStepped, IsSmall};
 ghost use Rattle.uc_model.specs.PlainUnits.{thermal_of, prices_of};
 
+pub use shape_law::step::Step;
+
 use shape_law::Shape;
 use std::alloc::AllocError;
 use uc_model::rules::cap;
 use uc_model::units::{Curve, Prices, Unit};
-
-/// What a period of a spell asks, in kilowatts and in money for a kilowatt.
-#[derive(Clone, Copy)]
-pub struct Step {
-    /// The least power.
-    pub least: i64,
-    /// The greatest power.
-    pub most: i64,
-    /// The greatest power with reserve.
-    pub cap: i64,
-    pub ramp_up: i64,
-    pub ramp_down: i64,
-    pub reserve_price: i64,
-    /// What a kilowatt of power costs beside its production: the reserve that it displaces, less what it is paid.
-    pub slope: i64,
-}
 
 /// Whether a spell starts in the period at a place.
 pub(crate) fn starts_at(first: u32, started: bool, place: usize) -> bool
