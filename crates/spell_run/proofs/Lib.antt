@@ -11,4 +11,5 @@ pub mod RunLaws
 pub mod SizeLaws
 pub mod StepLaws
 pub mod TieLaws
+pub mod TurnLaws
 pub mod WayLaws

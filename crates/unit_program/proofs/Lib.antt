@@ -8,6 +8,7 @@ pub mod EndLaws
 pub mod EntryLaws
 pub mod FillLaws
 pub mod ListLaws
+pub mod LiveLaws
 pub mod RowByRowLaws
 pub mod RowLaws
 pub mod RunLaws

@@ -13,7 +13,7 @@ use Rattle.spell_run.specs.Spells.{net_cost, spell_cost, over_min}
 use Rattle.spell_run.specs.Steps.{level, IsRun}
 use Rattle.unit_program.specs.Spells.{on_time}
 use Rattle.unit_program.specs.Tables.{IsEntryAfter, IsEntry, IsLeastEntry}
-use Rattle.unit_program.specs.Runners.{Going, MayBeOn, IsRunner, HasStandIn, AreRunners}
+use Rattle.unit_program.specs.Runners.{Going, MayBeOn, IsRunner, HasStandIn, AreRunners, IsGoneOn}
 use Rattle.unit_program.proofs.CostLaws.{sum_from_to-more, sum_from_to-none}
 
 -- a start comes from the least power
@@ -188,12 +188,8 @@ module _ (g : ThermalUnit) (π : PriceLists) (ends : ℕ → Option ℤ) (t : �
 
   -- ---- a period more
 
-  -- a runner of the next period, or no function is left of it
-  abbrev pub GoesOn : ℕ → Going → Type 0
-  GoesOn f r = (h : Table) × IsFrontier g π f (suc t) h × ((live' f ≡ Some (record { before = r.before; cost = r.cost; function = h })) ⊎ ((live' f ≡ None) × IsEmpty h))
-
   module _ (go : RunsGoOn) (within : t < length π.energy) (now : AreRunners g π ends live t (suc (suc t))) (open_next : mark_in g.window (suc t) ≡ MustOff → ⊥)
-      (goes : (f : ℕ) (r : Going) → live f ≡ Some r → GoesOn f r)
+      (goes : (f : ℕ) (r : Going) → live f ≡ Some r → IsGoneOn g π t f r (live' f))
       (only : (f : ℕ) → live f ≡ None → live' f ≡ None) where
     may_more : (f : ℕ) → MayBeOn g f t → MayBeOn g f (suc t)
     may_more f may = record {
@@ -211,14 +207,14 @@ module _ (g : ThermalUnit) (π : PriceLists) (ends : ℕ → Option ℤ) (t : �
           let old = now.right f r on in
           let h = goes f r on in
           let low = old.0 in
-          elim (h.2) [
+          elim (h.next_is) [
             | inr gone ↦ (let none = gone.0 in cc)
             | inl here ↦
-                let new : Going = record { before = r.before; cost = r.cost; function = h.0 } in
+                let new : Going = record { before = r.before; cost = r.cost; function = h.function } in
                 let z : new ≡ x = (cc) in
                 let runner : IsRunner g π ends (suc t) f new = record {
                   entry = old.1.entry;
-                  frontier = h.1;
+                  frontier = h.frontier;
                   may = may_more f old.1.may;
                   order = omega (arith, low);
                   within = old.1.within;
@@ -228,13 +224,13 @@ module _ (g : ThermalUnit) (π : PriceLists) (ends : ℕ → Option ℤ) (t : �
     ] refl
 
     -- a value at the end of period suc t
-    value_more : (f : ℕ) (e : ℤ) (d : Schedule) (other : ℕ) (r : Going) (v : ℤ) → live other ≡ Some r → IsRun g f (suc t) d → (h : Table) × IsFrontier g π other (suc t) h × ((live' other ≡ Some (record { before = r.before; cost = r.cost; function = h })) ⊎ ((live' other ≡ None) × IsEmpty h)) →
+    value_more : (f : ℕ) (e : ℤ) (d : Schedule) (other : ℕ) (r : Going) (v : ℤ) → live other ≡ Some r → IsRun g f (suc t) d → IsGoneOn g π t other r (live' other) →
         ((h : Table) → IsFrontier g π other (suc t) h → (w : ℤ) × (value_of h (level g f d (suc t)) ≡ Some w) × ((r.cost +ℤ w) ≤ℤ v)) →
         (x : Going) × (w : ℤ) × (live' other ≡ Some x) × (value_of x.function (level g f d (suc t)) ≡ Some w) × ((x.cost +ℤ w) ≤ℤ v)
     value_more f e d other r v on run h value =
-        let w = value h.0 h.1 in
-        elim (h.2) [
-          | inl here ↦ (record { before = r.before; cost = r.cost; function = h.0 }, w.0, here, w.1, w.2)
+        let w = value h.function h.frontier in
+        elim (h.next_is) [
+          | inl here ↦ (record { before = r.before; cost = r.cost; function = h.function }, w.0, here, w.1, w.2)
           | inr gone ↦ (let none = gone.1 (level g f d (suc t)) in let some = w.1 in cc)
         ]
 

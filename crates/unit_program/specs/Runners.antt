@@ -2,7 +2,7 @@
 -- power at their end (Bellman's principle), until another runner stands for all that it may become (dominance between the
 -- labels of a shortest path; this project's profile).
 use Rattle.std.specs.Prelude.{◌≡◌, ℕ, suc, ◌+◌, ◌*◌, ◌<◌, ◌≤◌, ℤ, pos, ◌+ℤ◌, ◌≤ℤ◌, ◌⊎◌, IsTrue, IsFalse, Option, Some, None}
-use Rattle.shape_law.specs.Table.{Table, value_of}
+use Rattle.shape_law.specs.Table.{Table, value_of, IsEmpty}
 use Rattle.uc_model.specs.declared.units.Mark.TheVariants.{MustOff}
 use Rattle.uc_model.specs.Data.{ThermalUnit, PriceLists, Schedule}
 use Rattle.uc_model.specs.Schedules.{mark_in}
@@ -49,6 +49,12 @@ pub record HasStandIn (g : ThermalUnit) (π : PriceLists) (live : ℕ → Option
 pub record AreRunners (g : ThermalUnit) (π : PriceLists) (ends : ℕ → Option ℤ) (live : ℕ → Option Going) (t n : ℕ) : Type 0 where
   pub right : (first : ℕ) (r : Going) → live first ≡ Some r → (first < n) × IsRunner g π ends t first r
   pub all : (first : ℕ) (e : ℤ) (d : Schedule) → first < n → MayBeOn g first t → IsEntry g ends first e → IsRun g first t d → HasStandIn g π live t first e d
+
+-- what becomes of a runner in period suc t: its frontier is a period further, or it is gone, where no run is left
+pub record IsGoneOn (g : ThermalUnit) (π : PriceLists) (t first : ℕ) (r : Going) (next : Option Going) : Type 0 where
+  pub function : Table
+  pub frontier : IsFrontier g π first (suc t) function
+  pub next_is : (next ≡ Some (record { before = r.before; cost = r.cost; function = function })) ⊎ ((next ≡ None) × IsEmpty function)
 
 -- the rows up to period t are those of the table, and there is none after it
 pub record IsTableTo (g : ThermalUnit) (π : PriceLists) (periods t : ℕ) (ends : ℕ → Option ℤ) (firsts lasts : ℕ → ℕ) : Type 0 where

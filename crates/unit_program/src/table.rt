@@ -42,7 +42,7 @@ fn start_after(unit: &Unit, last: u32, before: u32) -> i64
 }
 
 // The sum of two costs within bounds.
-fn sum_of(a: i64, b: i64) -> i64
+pub(crate) fn sum_of(a: i64, b: i64) -> i64
     requires a { IsWithinTimes 400 a }
     requires b { IsWithinTimes 400 b }
     ensures { result ≡ a +ℤ b }
@@ -123,7 +123,7 @@ fn is_taken(row: Option<Ended>, cost: i64) -> bool
 }
 
 // Puts what ends with period `last` into the table, if its cost is at most the cost there.
-fn put(table: &mut Table, last: u32, ended: Ended)
+pub(crate) fn put(table: &mut Table, last: u32, ended: Ended)
     requires room { last < length table.old.items }
     requires within { AreWithin table.old.items }
     requires bound { IsWithinTimes (2 * last + 2) ended.cost }
