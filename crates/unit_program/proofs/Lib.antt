@@ -11,6 +11,7 @@ pub mod ListLaws
 pub mod LiveLaws
 pub mod RowByRowLaws
 pub mod RowLaws
+pub mod RunAllLaws
 pub mod RunLaws
 pub mod RunnerRowLaws
 pub mod ShapeLaws

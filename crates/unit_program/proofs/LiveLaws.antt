@@ -1,14 +1,15 @@
 -- A list of runners, and one of them written.
-use Rattle.std.proofs.Common.{◌≡◌, ◌≢◌, ℕ, zero, suc, ◌+◌, ◌-◌, ◌*◌, ◌<◌, ◌≤◌, ◌⊎◌, inl, inr, Bool, true, false, cond, Option, Some, None, ℤ, pos, ◌+ℤ◌, ◌≤ℤ◌, List, [], ◌∷◌, length, refl, sym, ap, ◌∙◌, subst, arith}
+use Rattle.std.proofs.Common.{◌≡◌, ◌≢◌, ℕ, zero, suc, ◌+◌, ◌-◌, ◌*◌, ◌<◌, ◌≤◌, ◌⊎◌, inl, inr, Bool, true, false, cond, Option, Some, None, ℤ, pos, ◌+ℤ◌, ◌-ℤ◌, ◌≤ℤ◌, List, [], ◌∷◌, length, refl, sym, ap, ◌∙◌, subst, arith}
 use Rattle.std.specs.Prelude.{IsTrue, IfSome, slice_get, slice_set}
 use Rattle.std.proofs.lemmas.Int.{ints}
+use Rattle.std.proofs.lemmas.Option.{slice_get_within}
 use Rattle.std.proofs.lemmas.Bool.{cases_lt, cases_eq}
 use Rattle.std.proofs.Math.Nat.{mul-le-mul_right}
 use Rattle.shape_law.specs.Table.{Table, value_of}
 use Rattle.uc_model.specs.Data.{ThermalUnit, PriceLists}
 use Rattle.spell_run.specs.Frontier.{IsFrontier}
 use Rattle.unit_program.specs.declared.runner.Runner.{Runner}
-use Rattle.unit_program.specs.Live.{going_of, live_at, IsRoomy, IsSmallGoing, AreSmall}
+use Rattle.unit_program.specs.Live.{going_of, live_at, IsRoomy, AreRoomy, IsSmallGoing, AreSmall, IsUnder, IsBelow}
 use Rattle.unit_program.specs.Rows.{IsWithinTimes}
 use Rattle.unit_program.specs.Runners.{Going, IsRunner, AreRunners}
 
@@ -45,6 +46,14 @@ module _ {R : Type 0} (function : R → Table) where
 
   pub going_off : (r : Runner R) → r.is_on ≡ false → going_of function (Some r) ≡ None
   going_off r off = ap (λ (b : Bool). cond b (Some (record { before = r.before; cost = r.cost; function = function r.running })) None) off
+
+-- ---- one above another
+
+pub below_of : (f f' : Table) (e e' shift : ℤ) → shift ≡ e -ℤ e' → ((x v : ℤ) → value_of f' x ≡ Some v → (u : ℤ) × (value_of f x ≡ Some u) × ((u +ℤ shift) ≤ℤ v)) → IsBelow f e f' e'
+below_of f f' e e' shift is below x v there = (let u = below x v there in let low = u.2 in (u.0, u.1, omega (arith, ints, low, is)))
+
+pub under_of : (f : Table) (e power cost v sum : ℤ) (before : ℕ) → value_of f power ≡ Some v → sum ≡ e +ℤ v → (sum +ℤ pos 1) ≤ℤ cost → IsUnder power cost (record { before = before; cost = e; function = f })
+under_of f e power cost v sum before there is less = (v, there, omega (arith, ints, is, less))
 
 -- ---- one of the list written
 
@@ -96,3 +105,53 @@ room_next count count' periods t charge room low fits more =
 
 pub room_none : (periods t charge room : ℕ) → periods * charge ≤ room → (periods - t) * charge ≤ room
 room_none periods t charge room fits = let e : (periods - t) * charge ≤ periods * charge = mul-le-mul_right charge (omega arith) in omega (arith, e, fits)
+
+-- ---- all stopped
+
+-- those before n are stopped, and all have the room that they had
+pub record IsStopped {R : Type 0} (room : R → ℕ) (old : List (Runner R)) (n : ℕ) (new : List (Runner R)) : Type 0 where
+  pub off : (f : ℕ) (r : Runner R) → f < n → slice_get new f ≡ Some r → r.is_on ≡ false
+  pub kept : (f : ℕ) (r : Runner R) → slice_get new f ≡ Some r → (o : Runner R) × (slice_get old f ≡ Some o) × (room r.running ≡ room o.running)
+  pub same_length : length new ≡ length old
+
+pub none_stopped : {R : Type 0} (room : R → ℕ) (old : List (Runner R)) → IsStopped room old 0 old
+none_stopped room old = record {
+  off = λ f r low is. absurd (omega (arith, low));
+  kept = λ f r is. (r, is, refl);
+  same_length = refl;
+}
+
+module _ {R : Type 0} (function : R → Table) (count room : R → ℕ) (old new : List (Runner R)) (n : ℕ) (all : IsStopped room old n new) where
+  pub stopped_more : (new' : List (Runner R)) (a b : Runner R) → n < length new → slice_get new n ≡ Some b → a.is_on ≡ false → a.running ≡ b.running → new' ≡ slice_set new n a → length new' ≡ length new → IsStopped room old (n + 1) new'
+  stopped_more new' a b low was off same set count_same =
+      let here = written_here function new new' n a low set in
+      record {
+        off = λ f r less is. elim (cases_eq f n) [
+          | inl z ↦ (let e : r ≡ a = (let w = ap (λ (k : ℕ). slice_get new' k) z in cc) in ap (λ (r : Runner R). r.is_on) e ∙ off)
+          | inr other ↦ all.off f r (omega (arith, less, other)) (sym (written_other function new new' n a low set f other) ∙ is)
+        ];
+        kept = λ f r is. elim (cases_eq f n) [
+          | inl z ↦
+              let e : r ≡ a = (let w = ap (λ (k : ℕ). slice_get new' k) z in cc) in
+              let k = all.kept n b was in
+              (k.0, ap (slice_get old) z ∙ k.1, ap (λ (r : Runner R). room r.running) e ∙ ap room same ∙ k.2)
+          | inr other ↦ all.kept f r (sym (written_other function new new' n a low set f other) ∙ is)
+        ];
+        same_length = count_same ∙ all.same_length;
+      }
+
+  pub stopped_off : length new ≤ n → (f : ℕ) → live_at function new f ≡ None
+  stopped_off end f = elim (slice_get new f) as (λ o. slice_get new f ≡ o → going_of function o ≡ None) [
+    | None ↦ λ is. refl
+    | Some r ↦ λ is. going_off function r (all.off f r (let low = slice_get_within new f r is in omega (arith, low, end)) is)
+  ] refl
+
+  pub stopped_roomy : length new ≤ n → (periods t u charge : ℕ) → AreRoomy count room periods t charge old → AreRoomy count room periods u charge new
+  stopped_roomy end periods t u charge roomy f r is =
+      let k = all.kept f r is in
+      let whole = (roomy f k.0 k.1).whole in
+      let same = k.2 in
+      record {
+        whole = omega (arith, whole, same);
+        rest = λ on. (let off = all.off f r (let low = slice_get_within new f r is in omega (arith, low, end)) is in cc);
+      }

@@ -1,14 +1,15 @@
 -- A row of the table, runner by runner.
 use Rattle.std.proofs.Common.{◌≡◌, ℕ, suc, ◌+◌, ◌<◌, ◌≤◌, ◌⊎◌, inl, inr, Option, Some, None, ℤ, pos, ◌+ℤ◌, ◌≤ℤ◌, List, length, refl, sym, ap, ◌∙◌, subst, arith}
+use Rattle.std.specs.Prelude.{IfSome, IfNone}
 use Rattle.std.proofs.lemmas.Int.{ints}
 use Rattle.std.proofs.lemmas.Bool.{cases_lt}
 use Rattle.uc_model.specs.Data.{ThermalUnit, PriceLists, Schedule}
-use Rattle.spell_run.specs.Spells.{IsDispatch, IsLeastSpell, spell_cost}
+use Rattle.spell_run.specs.Spells.{IsDispatch, IsLeastSpell, IsSpellAnswer, spell_cost}
 use Rattle.unit_program.specs.declared.table.Ended.{Ended}
-use Rattle.unit_program.specs.Rows.{row_at, cost_at, first_at, before_at}
-use Rattle.unit_program.specs.Spells.{IsSpell}
+use Rattle.unit_program.specs.Rows.{row_at, cost_at, first_at, before_at, IsPut}
+use Rattle.unit_program.specs.Spells.{IsSpell, on_time}
 use Rattle.unit_program.specs.Tables.{HasAtMost}
-use Rattle.unit_program.specs.Runners.{Going, IsRowOf}
+use Rattle.unit_program.specs.Runners.{Going, MayBeOn, IsRowOf}
 use Rattle.unit_program.proofs.RowLaws.{cost-same, first-same, before-same, cost-is, first-is, before-is}
 use Rattle.unit_program.proofs.TableLaws.{at_most_more}
 
@@ -115,3 +116,22 @@ module _ (g : ThermalUnit) (π : PriceLists) (periods : ℕ) (live : ℕ → Opt
             )
       ];
     }
+
+-- the spell of a runner is put into the row, if it has one
+module _ (g : ThermalUnit) (π : PriceLists) (live : ℕ → Option Going) (n t : ℕ) (rows rows' : List (Option Ended)) (r : Going) (on : live n ≡ Some r)
+    (within : t < length π.energy) (order : n ≤ suc t) (may_be : MayBeOn g n (suc t)) where
+  abbrev May : Type 0
+  May = suc t < length π.energy → g.min_up ≤ on_time g n (suc t)
+
+  spell_of : May → IsSpell g (length π.energy) n (suc t)
+  spell_of may = record { order = order; end = omega (arith, within); goes_on = may_be.goes_on; marks = may_be.marks; min_up = may }
+
+  pub row_end : (net : Option ℤ) → (May → IsSpellAnswer g π (length π.energy) n (suc t) net) → IfSome net (λ _. May) → IfNone net (rows' ≡ rows) →
+      IfSome net (λ c. IsPut (suc t) (record { cost = r.cost +ℤ c; first = n; before = r.before }) rows rows') →
+      IsRowOf g π (length π.energy) live n (suc t) (cost_at rows (suc t)) (first_at rows (suc t)) (before_at rows (suc t)) →
+      IsRowOf g π (length π.energy) live (suc n) (suc t) (cost_at rows' (suc t)) (first_at rows' (suc t)) (before_at rows' (suc t))
+  row_end None answer may same put row =
+      subst (λ (rows : List (Option Ended)). IsRowOf g π (length π.energy) live (suc n) (suc t) (cost_at rows (suc t)) (first_at rows (suc t)) (before_at rows (suc t))) (sym same)
+      (row_skip g π (length π.energy) live n (suc t) (cost_at rows (suc t)) (first_at rows (suc t)) (before_at rows (suc t)) row (λ r d is spell dispatch. answer spell.min_up d dispatch))
+  row_end (Some c) answer may same put row =
+      row_put g π (length π.energy) live n (suc t) rows rows' (record { cost = r.cost +ℤ c; first = n; before = r.before }) r c on (spell_of may) (answer may) refl refl refl row put.here put.old put.added put.latest

@@ -24,6 +24,16 @@ level_start g d t = rw (lt-ltb t (suc t) (omega arith))
 pub may_less : (g : ThermalUnit) (first t u : ℕ) → u ≤ t → MayBeOn g first t → MayBeOn g first u
 may_less g first t u low may = record { goes_on = may.goes_on; marks = λ k one from until. may.marks k one from (omega (arith, until, low)) }
 
+-- a period more, which isn't marked `MustOff`
+pub may_next : (g : ThermalUnit) (first t : ℕ) → (mark_in g.window (suc t) ≡ MustOff → ⊥) → MayBeOn g first t → MayBeOn g first (suc t)
+may_next g first t open_next may = record {
+  goes_on = may.goes_on;
+  marks = λ k one from until mark. elim (cases_lt k (suc t)) [
+    | inl less ↦ may.marks k one from (omega (arith, less)) mark
+    | inr most ↦ let z : k ≡ suc t = omega (arith, most, until) in open_next (subst (λ (k : ℕ). mark_in g.window k ≡ MustOff) z mark)
+  ];
+}
+
 -- of two spells the earlier has been on for at least as long
 pub longer_on : (g : ThermalUnit) (early late l : ℕ) → early ≤ late → late ≤ l → on_time g late l ≤ on_time g early l
 longer_on g zero zero l low until = omega arith
@@ -191,15 +201,6 @@ module _ (g : ThermalUnit) (π : PriceLists) (ends : ℕ → Option ℤ) (t : �
   module _ (go : RunsGoOn) (within : t < length π.energy) (now : AreRunners g π ends live t (suc (suc t))) (open_next : mark_in g.window (suc t) ≡ MustOff → ⊥)
       (goes : (f : ℕ) (r : Going) → live f ≡ Some r → IsGoneOn g π t f r (live' f))
       (only : (f : ℕ) → live f ≡ None → live' f ≡ None) where
-    may_more : (f : ℕ) → MayBeOn g f t → MayBeOn g f (suc t)
-    may_more f may = record {
-      goes_on = may.goes_on;
-      marks = λ k one from until mark. elim (cases_lt k (suc t)) [
-        | inl less ↦ may.marks k one from (omega (arith, less)) mark
-        | inr most ↦ let z : k ≡ suc t = omega (arith, most, until) in open_next (subst (λ (k : ℕ). mark_in g.window k ≡ MustOff) z mark)
-      ];
-    }
-
     right_more : (f : ℕ) (x : Going) → live' f ≡ Some x → (f < suc (suc t)) × IsRunner g π ends (suc t) f x
     right_more f x is = elim (live f) as (λ o. live f ≡ o → (f < suc (suc t)) × IsRunner g π ends (suc t) f x) [
       | None ↦ λ off. (let none = only f off in cc)
@@ -215,7 +216,7 @@ module _ (g : ThermalUnit) (π : PriceLists) (ends : ℕ → Option ℤ) (t : �
                 let runner : IsRunner g π ends (suc t) f new = record {
                   entry = old.1.entry;
                   frontier = h.frontier;
-                  may = may_more f old.1.may;
+                  may = may_next g f t open_next old.1.may;
                   order = omega (arith, low);
                   within = old.1.within;
                 } in

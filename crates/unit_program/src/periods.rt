@@ -3,13 +3,14 @@
 //! A spell that begins later goes on as an earlier one does from the same power, and of equal costs the later first period
 //! is the answer. So an earlier spell goes where a later one, which may stop as soon, is nowhere above it; and a start
 //! isn't made where a running spell is at the least power for less than it costs.
-ghost use Rattle.std.specs.Prelude.{◌≡◌, ℕ, suc, ◌+◌, ◌<◌, ◌≤◌, Option, length};
+ghost use Rattle.std.specs.Prelude.{◌≡◌, ℕ, suc, ◌+◌, ◌*◌, ◌<◌, ◌≤◌, ℤ, Option, None, length};
 ghost use Rattle.cost_curve.specs.CostCurve.{IsCostCurve};
 ghost use Rattle.uc_model.specs.Data.{PriceLists};
 ghost use Rattle.uc_model.specs.PlainUnits.{thermal_of, prices_of};
 ghost use Rattle.unit_program.specs.Live.{live_at, AreRoomy, AreSmall, HaveRoom, IsFilledTo};
-ghost use Rattle.unit_program.specs.Rows.{cost_at, AreWithin, IsFilled};
+ghost use Rattle.unit_program.specs.Rows.{cost_at, IsWithinTimes, AreWithin, IsFilled};
 ghost use Rattle.unit_program.specs.Runners.{AreRunners};
+ghost use Rattle.unit_program.specs.Tables.{IsLeastEntry};
 
 use crate::program::{clear_rows, first_row};
 use crate::runner::{Runner, begin_runner, is_undercut, prune, run_all, stop_all};
@@ -17,6 +18,24 @@ use crate::table::{Ended, Entry, Table, least_entry};
 use spell_run::Running;
 use spell_run::laws::{dispatches_are_runs, dispatches_go_on, runs_go_on};
 use uc_model::units::{Curve, Mark, Prices, Unit};
+
+// Begins the runner of the period after the one at a place after its least entry, if no runner undercuts it.
+fn start_after<R: Running>(unit: &Unit, place: u32, entry: &Entry, runners: &mut [Runner<R>])
+    requires small_place { place < 168 }
+    requires runners { suc place < length runners.old }
+    requires bound { IsWithinTimes (2 * place + 3) entry.now.cost }
+    requires small { AreSmall (live_at R.function runners.old) }
+    ensures stands { (π : PriceLists) (ends : ℕ → Option ℤ) → IsLeastEntry (thermal_of unit.now) ends (suc place) entry.now.last entry.now.cost →
+        AreRunners (thermal_of unit.now) π ends (live_at R.function runners.old) place (suc place) →
+        AreRunners (thermal_of unit.now) π ends (live_at R.function runners.new) place (suc (suc place)) }
+    ensures room { (periods charge : ℕ) → AreRoomy R.count R.room periods place charge runners.old → AreRoomy R.count R.room periods place charge runners.new }
+    ensures length { length runners.new ≡ length runners.old }
+{
+    if is_undercut(runners, place + 1, unit.min_power, entry.cost) {
+        return;
+    }
+    begin_runner(unit, place + 1, entry, &mut runners[place as usize + 1]);
+}
 
 // Begins the runner of the period after the one at a place, if a spell may begin there and no runner undercuts it.
 fn start<R: Running>(unit: &Unit, place: u32, rows: &[Option<Ended>], runners: &mut [Runner<R>])
@@ -31,13 +50,10 @@ fn start<R: Running>(unit: &Unit, place: u32, rows: &[Option<Ended>], runners: &
     ensures room { (periods charge : ℕ) → AreRoomy R.count R.room periods place charge runners.old → AreRoomy R.count R.room periods place charge runners.new }
     ensures length { length runners.new ≡ length runners.old }
 {
-    let Some(entry) = least_entry(unit, rows, place) else {
-        return;
-    };
-    if is_undercut(runners, place + 1, unit.min_power, entry.cost) {
-        return;
+    match least_entry(unit, rows, place) {
+        Some(entry) => start_after(unit, place, &entry, runners),
+        None => {}
     }
-    begin_runner(unit, place + 1, &entry, &mut runners[place as usize + 1]);
 }
 
 // Fills the row of the period at a place.
@@ -73,6 +89,20 @@ fn take_period<R: Running>(
     prune(unit, place + 1, runners);
 }
 
+// Begins the runner of the spells that go on from before the horizon, where the unit is on then.
+fn go_on<R: Running>(unit: &Unit, runners: &mut [Runner<R>])
+    requires some { 1 ≤ length runners.old }
+    requires off { (first : ℕ) → live_at R.function runners.old first ≡ None }
+    ensures stands { (π : PriceLists) (ends : ℕ → Option ℤ) → AreRunners (thermal_of unit.now) π ends (live_at R.function runners.new) 0 1 }
+    ensures room { (periods charge : ℕ) → AreRoomy R.count R.room periods 0 charge runners.old → AreRoomy R.count R.room periods 0 charge runners.new }
+    ensures length { length runners.new ≡ length runners.old }
+{
+    if unit.on0 {
+        let entry = Entry { cost: 0, last: 0 };
+        begin_runner(unit, 0, &entry, &mut runners[0]);
+    }
+}
+
 // The table and the runners before the first period.
 fn begin_all<R: Running>(unit: &Unit, runners: &mut [Runner<R>], table: &mut Table)
     requires runners { 1 ≤ length runners.old }
@@ -85,10 +115,7 @@ fn begin_all<R: Running>(unit: &Unit, runners: &mut [Runner<R>], table: &mut Tab
     clear_rows(table);
     table.set(0, first_row(unit));
     stop_all(runners);
-    if unit.on0 {
-        let entry = Entry { cost: 0, last: 0 };
-        begin_runner(unit, 0, &entry, &mut runners[0]);
-    }
+    go_on(unit, runners);
 }
 
 /// Fills the table for a unit at prices over its horizon of T periods, as `program::fill` does. `curve` is the curve of the

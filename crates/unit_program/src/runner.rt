@@ -1,8 +1,8 @@
 //! The spells with one first period, as far as they have gone.
-ghost use Rattle.std.specs.Prelude.{◌≡◌, ◌≢◌, ℕ, suc, ◌+◌, ◌-◌, ◌*◌, ◌<◌, ◌≤◌, ℤ, pos, ◌⊎◌, true, false, IsTrue, IsFalse, IfSome, length, Some, None, Option, slice_get};
+ghost use Rattle.std.specs.Prelude.{◌≡◌, ◌≢◌, ℕ, suc, ◌+◌, ◌-◌, ◌*◌, ◌<◌, ◌≤◌, ℤ, pos, ◌+ℤ◌, ◌-ℤ◌, ◌≤ℤ◌, ◌⊎◌, true, false, IsTrue, IsFalse, IfSome, length, Some, None, Option, slice_get};
 ghost use Rattle.std.specs.Bool.{OnTrue};
 ghost use Rattle.cost_curve.specs.CostCurve.{IsCostCurve};
-ghost use Rattle.shape_law.specs.Table.{Table};
+ghost use Rattle.shape_law.specs.Table.{Table, value_of, IsEmpty};
 ghost use Rattle.spell_run.specs.Frontier.{IsFrontier};
 ghost use Rattle.spell_run.specs.Spells.{IsSpellAnswer, IsSpellWithin};
 ghost use Rattle.uc_model.specs.declared.units.Mark.TheVariants.{MustOff};
@@ -15,7 +15,7 @@ ghost use Rattle.unit_program.specs.Runners.{Going, MayBeOn, AreRunners, IsRowOf
 ghost use Rattle.unit_program.specs.Spells.{on_time};
 
 use crate::commitment::{is_long_enough, may_end};
-use crate::table::{Ended, Entry, Table, put, sum_of};
+use crate::table::{Entry, Table, put_end, sum_of};
 use spell_run::{Running, begin, end_and_run, run_over};
 use uc_model::units::{Curve, Prices, Unit};
 
@@ -47,6 +47,14 @@ pub fn begin_runner<R: Running>(unit: &Unit, first: u32, entry: &Entry, runner: 
     begin(unit, first, &mut runner.running);
 }
 
+/// Stops a runner.
+fn stop<R: Running>(runner: &mut Runner<R>)
+    ensures off { runner.new.is_on ≡ false }
+    ensures running { runner.new.running ≡ runner.old.running }
+{
+    runner.is_on = false;
+}
+
 /// Stops all runners.
 pub fn stop_all<R: Running>(runners: &mut [Runner<R>])
     ensures off { (first : ℕ) → live_at R.function runners.new first ≡ None }
@@ -54,24 +62,59 @@ pub fn stop_all<R: Running>(runners: &mut [Runner<R>])
     ensures length { length runners.new ≡ length runners.old }
 {
     for place in 0..runners.len() {
-        let runner = &mut runners[place];
-        runner.is_on = false;
+        stop(&mut runners[place]);
     }
 }
 
-// Whether a runner is at a power, its first, for less than a cost.
-fn undercuts<R: Running>(runner: &Runner<R>, power: i64, cost: i64) -> bool
-    requires small { IfSome (going_of R.function (Some runner.now)) IsSmallGoing }
-    ensures { OnTrue result (IfSome (going_of R.function (Some runner.now)) (IsUnder power cost)) }
-    ensures on { OnTrue result (IsTrue runner.now.is_on) }
+// The value at a power, where that is the first place.
+fn value_at_first<R: Running>(running: &R, power: i64) -> Option<i64>
+    ensures { IfSome result (λ v. value_of (R.function running.now) power ≡ Some v) }
 {
-    if !runner.is_on {
-        return false;
+    match running.first() {
+        Some(spot) => {
+            if spot.at == power {
+                Some(spot.value)
+            } else {
+                None
+            }
+        }
+        None => None,
     }
-    match runner.running.first() {
-        Some(spot) => spot.at == power && sum_of(runner.cost, spot.value) < cost,
+}
+
+fn is_less(a: i64, b: i64) -> bool
+    ensures { IsTrue result → (a +ℤ pos 1) ≤ℤ b }
+{
+    a < b
+}
+
+// Whether a runner that is on is at a power, its first, for less than a cost.
+fn undercuts<R: Running>(runner: &Runner<R>, power: i64, cost: i64) -> bool
+    requires bound { IsWithinTimes 400 runner.now.cost }
+    requires values { (x v : ℤ) → value_of (R.function runner.now.running) x ≡ Some v → IsWithinTimes 400 v }
+    ensures { OnTrue result (IsUnder power cost (record { before = runner.now.before; cost = runner.now.cost; function = R.function runner.now.running })) }
+{
+    match value_at_first(&runner.running, power) {
+        Some(value) => is_less(sum_of(runner.cost, value), cost),
         None => false,
     }
+}
+
+// Whether the runner that begins with a period is on, and undercuts a cost at a power.
+fn undercuts_from<R: Running>(
+    runners: &[Runner<R>],
+    first: u32,
+    power: i64,
+    cost: i64,
+) -> bool
+    requires room { first < length runners.now }
+    requires small { AreSmall (live_at R.function runners.now) }
+    ensures { OnTrue result ((r : Going) × (live_at R.function runners.now first ≡ Some r) × IsUnder power cost r) }
+{
+    if !runners[first as usize].is_on {
+        return false;
+    }
+    undercuts(&runners[first as usize], power, cost)
 }
 
 /// Whether one of the runners that begin before period `until` is at a power, its first, for less than a cost.
@@ -81,7 +124,7 @@ pub fn is_undercut<R: Running>(runners: &[Runner<R>], until: u32, power: i64, co
     ensures { OnTrue result ((first : ℕ) × (r : Going) × (live_at R.function runners.now first ≡ Some r) × IsUnder power cost r) }
 {
     for first in 0..until {
-        if undercuts(&runners[first as usize], power, cost) {
+        if undercuts_from(runners, first, power, cost) {
             return true;
         }
     }
@@ -119,6 +162,17 @@ fn run_one<R: Running>(
     }
 }
 
+// Stops a runner where no run is left.
+fn retire<R: Running>(runner: &mut Runner<R>)
+    requires { runner.old.is_on ≡ true }
+    ensures running { runner.new.running ≡ runner.old.running }
+    ensures next { (going_of R.function (Some runner.new) ≡ going_of R.function (Some runner.old)) ⊎ ((going_of R.function (Some runner.new) ≡ None) × IsEmpty (R.function runner.old.running)) }
+{
+    if runner.running.is_empty() {
+        stop(runner);
+    }
+}
+
 // Takes a runner that is on over the period at a place, and puts the spells that end with it into the table.
 fn take_runner<R: Running>(
     unit: &Unit,
@@ -149,16 +203,58 @@ fn take_runner<R: Running>(
     ensures goes { IsGoneOn (thermal_of unit.now) (prices_of prices.now) place first (record { before = runner.old.before; cost = runner.old.cost; function = R.function runner.old.running }) (going_of R.function (Some runner.new)) }
     ensures room { IsRoomy R.count R.room (length (prices_of prices.now).energy) (suc place) (length curve.now.blocks.items + 3) runner.new }
 {
-    if let Some(net) = run_one(unit, curve, prices, first, place, &mut runner.running) {
-        let ended = Ended {
-            cost: sum_of(runner.cost, net),
+    let entry = Entry {
+        cost: runner.cost,
+        last: runner.before,
+    };
+    let net = run_one(unit, curve, prices, first, place, &mut runner.running);
+    put_end(table, place + 1, first, &entry, net);
+    retire(runner);
+}
+
+// Takes the runner that begins with a period over the period at a place, if it is on.
+fn run_at<R: Running>(
+    unit: &Unit,
+    curve: &Curve,
+    prices: &Prices,
+    place: u32,
+    first: u32,
+    runners: &mut [Runner<R>],
+    table: &mut Table,
+)
+    requires horizon { length (thermal_of unit.now).window ≡ length (prices_of prices.now).energy }
+    requires curve { IsCostCurve (thermal_of unit.now).points curve.now }
+    requires place { place < length (prices_of prices.now).energy }
+    requires order { first ≤ suc place }
+    requires runners { first < length runners.old }
+    requires frontier { (r : Going) → live_at R.function runners.old first ≡ Some r → IsFrontier (thermal_of unit.now) (prices_of prices.now) first place r.function }
+    requires may { (r : Going) → live_at R.function runners.old first ≡ Some r → MayBeOn (thermal_of unit.now) first (suc place) }
+    requires bound { (r : Going) → live_at R.function runners.old first ≡ Some r → IsWithinTimes (2 * first + 1) r.cost }
+    requires room { (r : Runner R) → slice_get runners.old first ≡ Some r → IsRoomy R.count R.room (length (prices_of prices.now).energy) place (length curve.now.blocks.items + 3) r }
+    requires rows { length (prices_of prices.now).energy < length table.old.items }
+    requires within { AreWithin table.old.items }
+    ensures row { (live : ℕ → Option Going) → live first ≡ live_at R.function runners.old first →
+        IsRowOf (thermal_of unit.now) (prices_of prices.now) (length (prices_of prices.now).energy) live first (suc place) (cost_at table.old.items (suc place)) (first_at table.old.items (suc place)) (before_at table.old.items (suc place)) →
+        IsRowOf (thermal_of unit.now) (prices_of prices.now) (length (prices_of prices.now).energy) live (suc first) (suc place) (cost_at table.new.items (suc place)) (first_at table.new.items (suc place)) (before_at table.new.items (suc place)) }
+    ensures others { (l : ℕ) → l ≢ suc place → row_at table.new.items l ≡ row_at table.old.items l }
+    ensures within { AreWithin table.new.items }
+    ensures length { length table.new.items ≡ length table.old.items }
+    ensures goes { (r : Going) → live_at R.function runners.old first ≡ Some r → IsGoneOn (thermal_of unit.now) (prices_of prices.now) place first r (live_at R.function runners.new first) }
+    ensures off { live_at R.function runners.old first ≡ None → live_at R.function runners.new first ≡ None }
+    ensures rest { (f : ℕ) → f ≢ first → slice_get runners.new f ≡ slice_get runners.old f }
+    ensures room { (r : Runner R) → slice_get runners.new first ≡ Some r → IsRoomy R.count R.room (length (prices_of prices.now).energy) (suc place) (length curve.now.blocks.items + 3) r }
+    ensures count { length runners.new ≡ length runners.old }
+{
+    if runners[first as usize].is_on {
+        take_runner(
+            unit,
+            curve,
+            prices,
             first,
-            before: runner.before,
-        };
-        put(table, place + 1, ended);
-    }
-    if runner.running.is_empty() {
-        runner.is_on = false;
+            place,
+            &mut runners[first as usize],
+            table,
+        );
     }
 }
 
@@ -193,15 +289,23 @@ pub fn run_all<R: Running>(
     ensures count { length runners.new ≡ length runners.old }
 {
     for first in 0..place + 2 {
-        let runner = &mut runners[first as usize];
-        if runner.is_on {
-            take_runner(unit, curve, prices, first, place, runner, table);
-        }
+        run_at(unit, curve, prices, place, first, runners, table);
     }
+}
+
+// The difference of two costs within bounds.
+fn difference(a: i64, b: i64) -> i64
+    requires a { IsWithinTimes 400 a }
+    requires b { IsWithinTimes 400 b }
+    ensures value { result ≡ a -ℤ b }
+    ensures bound { IsWithinTimes 800 result }
+{
+    a - b
 }
 
 // Whether a later runner may stop in each period after the next as an earlier one may, and is nowhere above it.
 fn goes<R: Running>(unit: &Unit, period: u32, first: u32, late: &Runner<R>, early: &Runner<R>) -> bool
+    requires small { period ≤ 168 }
     requires order { first ≤ period }
     requires late { IsWithinTimes 400 late.now.cost }
     requires early { IsWithinTimes 400 early.now.cost }
@@ -209,7 +313,7 @@ fn goes<R: Running>(unit: &Unit, period: u32, first: u32, late: &Runner<R>, earl
     ensures below { OnTrue result (IsBelow (R.function late.now.running) late.now.cost (R.function early.now.running) early.now.cost) }
 {
     is_long_enough(unit, first, period + 1)
-        && late.running.is_below(&early.running, late.cost - early.cost)
+        && late.running.is_below(&early.running, difference(late.cost, early.cost))
 }
 
 // Stops a runner where a later one stands for it, and answers the earliest one that is on then.
@@ -220,6 +324,7 @@ fn prune_one<R: Running>(
     late: Option<u32>,
     runners: &mut [Runner<R>],
 ) -> Option<u32>
+    requires periods { period ≤ 168 }
     requires early { early ≤ period }
     requires end { period < length runners.old }
     requires late { IfSome late (λ l. (early < l) × (l ≤ period) × ((r : Going) × (live_at R.function runners.old l ≡ Some r))) }
@@ -237,8 +342,7 @@ fn prune_one<R: Running>(
     }
     if let Some(first) = late {
         if goes(unit, period, first, &runners[first as usize], &runners[early as usize]) {
-            let runner = &mut runners[early as usize];
-            runner.is_on = false;
+            stop(&mut runners[early as usize]);
             return Some(first);
         }
     }
@@ -247,6 +351,7 @@ fn prune_one<R: Running>(
 
 /// Stops each runner that a later one stands for at the end of a period.
 pub fn prune<R: Running>(unit: &Unit, period: u32, runners: &mut [Runner<R>])
+    requires periods { period ≤ 168 }
     requires end { period < length runners.old }
     requires small { AreSmall (live_at R.function runners.old) }
     ensures stands { (π : PriceLists) (ends : ℕ → Option ℤ) (n : ℕ) →
