@@ -100,6 +100,14 @@ frontier_begin g π periods first false f unit start point =
     let z : 0 ≡ first - 1 = omega (arith, one) in
     subst (λ (t : ℕ). IsFrontier g π 0 t f) z (frontier_goes_on g π f unit point)
 
+pub frontier_from : (g : ThermalUnit) (π : PriceLists) (first : ℕ) (power : ℤ) (f : Table) → IsThermalUnit g → (1 ≤ first → power ≡ g.min_power) → (first ≡ 0 → power ≡ g.power0) →
+    IsPoint power (pos 0) f → IsFrontier g π first (first - 1) f
+frontier_from g π zero power f unit start goes_on point =
+    let z : 0 ≡ 0 - 1 = omega arith in
+    subst (λ (t : ℕ). IsFrontier g π 0 t f) z (frontier_goes_on g π f unit (subst (λ (x : ℤ). IsPoint x (pos 0) f) (goes_on refl) point))
+frontier_from g π (suc b) power f unit start goes_on point =
+    begin_started g π (suc b) f unit (omega arith) (subst (λ (x : ℤ). IsPoint x (pos 0) f) (start (omega arith)) point)
+
 -- ---- one more period
 
 module _ (g : ThermalUnit) (π : PriceLists) (first k : ℕ) (c : Curve) (unit : IsThermalUnit g) (prices : ArePrices π) (curve : IsCostCurve g.points c) (law : EnvelopeIsCost)

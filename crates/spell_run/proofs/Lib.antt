@@ -4,10 +4,12 @@ pub mod EntryLaws
 pub mod FairLaws
 pub mod FrameLaws
 pub mod FrontierLaws
+pub mod JoinLaws
 pub mod PeriodLaws
 pub mod ReserveLaws
 pub mod RunLaws
 pub mod SizeLaws
 pub mod StepLaws
 pub mod TieLaws
+pub mod TurnLaws
 pub mod WayLaws

@@ -168,7 +168,7 @@ fn pass<S: Shape>(
 
 /// Whether a step before a stop differs from one without in the range of the power alone: reserve isn't paid for, or the
 /// cap is the same.
-fn is_alike(on: Step, last: Step) -> bool
+pub(crate) fn is_alike(on: Step, last: Step) -> bool
     ensures { OnTrue result ((on.reserve_price ≡ pos 0) ⊎ (last.cap ≡ on.cap)) }
 {
     on.reserve_price == 0 || last.cap == on.cap

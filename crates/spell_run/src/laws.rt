@@ -1,4 +1,5 @@
 //! Laws over the definitions: each is the contract of a function that does nothing.
+ghost use Rattle.spell_run.specs.Joins.{RunsGoOn, DispatchesGoOn, DispatchesAreRuns};
 ghost use Rattle.spell_run.specs.Laws.{ReserveIsAKink, ReserveIsBest};
 
 /// What the most reserve earns at given powers is a line in the power of the period and a kink in the power before it.
@@ -10,4 +11,19 @@ pub fn reserve_is_a_kink()
 /// the least of the best.
 pub fn reserve_is_best()
     ensures { ReserveIsBest }
+{}
+
+/// A run that ends at the power where another one stands goes on as that one does, at the same cost.
+pub fn runs_go_on()
+    ensures { RunsGoOn }
+{}
+
+/// So does a dispatch, with the stop after it.
+pub fn dispatches_go_on()
+    ensures { DispatchesGoOn }
+{}
+
+/// A dispatch keeps the rules of a run.
+pub fn dispatches_are_runs()
+    ensures { DispatchesAreRuns }
 {}

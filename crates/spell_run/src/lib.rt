@@ -7,9 +7,11 @@
 mod best;
 mod costs;
 pub mod laws;
+pub mod running;
 pub mod spell;
 mod step;
 
 pub use best::spell_best;
 pub use costs::spell_costs;
+pub use running::{Lowest, Running, Spot, begin, end_and_run, run_over};
 pub use spell::{Spell, SpellCosts};

@@ -8,11 +8,16 @@ pub mod EndLaws
 pub mod EntryLaws
 pub mod FillLaws
 pub mod ListLaws
+pub mod LiveLaws
+pub mod RowByRowLaws
 pub mod RowLaws
+pub mod RunAllLaws
 pub mod RunLaws
+pub mod RunnerRowLaws
 pub mod ShapeLaws
 pub mod SpanLaws
 pub mod SpellLaws
+pub mod StandInLaws
 pub mod StartCosts
 pub mod TableLaws
 pub mod TieLaws

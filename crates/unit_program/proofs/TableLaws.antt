@@ -14,7 +14,7 @@ at_most_more o u v h low = let b = h.2 in (h.0, h.1, omega (arith, ints, b, low)
 
 module _ (g : ThermalUnit) where
   -- an entry looks at the table below its first period alone
-  entry_same : (a b : ℕ → Option ℤ) (f last : ℕ) (e : ℤ) → ((l : ℕ) → l < f → a l ≡ b l) → IsEntryAfter g a f last e → IsEntryAfter g b f last e
+  pub entry_same : (a b : ℕ → Option ℤ) (f last : ℕ) (e : ℤ) → ((l : ℕ) → l < f → a l ≡ b l) → IsEntryAfter g a f last e → IsEntryAfter g b f last e
   entry_same a b f last e same (inl h) = inl h
   entry_same a b f last e same (inr h) =
       let order = h.gap.off.order in

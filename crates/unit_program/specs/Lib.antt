@@ -1,7 +1,9 @@
 pub mod Backs
 pub mod Builds
 pub mod Lists
+pub mod Live
 pub mod Rows
+pub mod Runners
 pub mod Spells
 pub mod Steps
 pub mod Tables

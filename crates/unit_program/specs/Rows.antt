@@ -1,6 +1,6 @@
 -- How the program's lists are read: the table's row of a last on period at that place, and costs of spells by last period
 -- (this project's profile).
-use Rattle.std.specs.Prelude.{◌≡◌, ℕ, zero, suc, ◌+◌, ◌*◌, ◌<◌, ◌≤◌, ℤ, pos, neg_ℤ, ◌≤ℤ◌, List, length, slice_index_or, Option, Some, None}
+use Rattle.std.specs.Prelude.{◌≡◌, ◌⊎◌, ℕ, zero, suc, ◌+◌, ◌*◌, ◌<◌, ◌≤◌, ℤ, pos, neg_ℤ, ◌≤ℤ◌, List, length, slice_index_or, Option, Some, None}
 use Rattle.std.specs.Option.{option_map, option_map_or}
 use Rattle.uc_model.specs.declared.units.Mark.TheVariants.{MustOff}
 use Rattle.uc_model.specs.Data.{ThermalUnit, PriceLists}
@@ -11,7 +11,7 @@ use Rattle.spell_run.specs.Spells.{IsSpellAnswer}
 use Rattle.unit_program.specs.declared.table.Ended.{Ended}
 use Rattle.unit_program.specs.declared.table.Entry.{Entry}
 use Rattle.unit_program.specs.Spells.{IsSpell}
-use Rattle.unit_program.specs.Tables.{IsTable, IsUpdate}
+use Rattle.unit_program.specs.Tables.{HasAtMost, IsTable, IsUpdate}
 
 abbrev pub row_at : List (Option Ended) → ℕ → Option Ended
 row_at rows l = slice_index_or rows l None
@@ -64,3 +64,10 @@ pub record IsOpenUntil (g : ThermalUnit) (first until : ℕ) : Type 0 where
   pub from : first ≤ suc until
   pub marks : (t : ℕ) → 1 ≤ t → first ≤ t → t ≤ until → mark_in g.window t ≡ MustOff → ⊥
   pub next : until < length g.window → mark_in g.window (suc until) ≡ MustOff
+
+-- e is put into row l: the lesser stays, and of equal ones e
+pub record IsPut (l : ℕ) (e : Ended) (rows rows' : List (Option Ended)) : Type 0 where
+  pub here : (row_at rows' l ≡ row_at rows l) ⊎ (row_at rows' l ≡ Some e)
+  pub old : (v : ℤ) → cost_at rows l ≡ Some v → HasAtMost (cost_at rows' l) v
+  pub added : HasAtMost (cost_at rows' l) e.cost
+  pub latest : cost_at rows' l ≡ Some e.cost → row_at rows' l ≡ Some e

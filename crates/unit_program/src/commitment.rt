@@ -1,5 +1,5 @@
 //! Which spells and times off the commitment rules allow. Periods count from 1; 0 is the state before the horizon.
-ghost use Rattle.std.specs.Prelude.{◌≡◌, ℕ, ◌+◌, ◌<◌, ◌≤◌, IsTrue, IsFalse, length, suc};
+ghost use Rattle.std.specs.Prelude.{◌≡◌, ℕ, ◌+◌, ◌<◌, ◌≤◌, ◌↔◌, IsTrue, IsFalse, length, suc};
 ghost use Rattle.uc_model.specs.PlainUnits.{thermal_of};
 ghost use Rattle.uc_model.specs.Schedules.{mark_in};
 ghost use Rattle.unit_program.specs.Rows.{IsOpenUntil};
@@ -88,6 +88,14 @@ fn time_on(unit: &Unit, first: u32, last: u32) -> u64
     } else {
         u64::from(unit.up0) + u64::from(last)
     }
+}
+
+/// Whether the unit has been on for long enough to stop after a spell.
+pub fn is_long_enough(unit: &Unit, first: u32, last: u32) -> bool
+    requires { first ≤ last }
+    ensures { IsTrue result ↔ ((thermal_of unit.now).min_up ≤ on_time (thermal_of unit.now) first last) }
+{
+    u64::from(unit.min_up) <= time_on(unit, first, last)
 }
 
 /// Whether the unit has been on for long enough to stop after a spell, or the horizon ends with it.

@@ -12,7 +12,11 @@
 pub mod answer;
 pub mod commitment;
 pub mod laws;
+pub mod periods;
 pub mod program;
+pub mod runner;
 pub mod table;
 
 pub use answer::best_response;
+pub use periods::fill_by_periods;
+pub use runner::Runner;

@@ -91,7 +91,7 @@ fn add_first<S: Shape>(
 }
 
 // No row.
-fn clear_rows(table: &mut Table)
+pub(crate) fn clear_rows(table: &mut Table)
     ensures none { (l : ℕ) → row_at table.new.items l ≡ None }
     ensures length { length table.new.items ≡ length table.old.items }
 {
@@ -101,7 +101,7 @@ fn clear_rows(table: &mut Table)
 }
 
 // What ends before period 1: a unit that is off since before the horizon, or a spell that doesn't go on.
-fn first_row(unit: &Unit) -> Option<Ended>
+pub(crate) fn first_row(unit: &Unit) -> Option<Ended>
     ensures { MatchOption result
         (IsTrue unit.now.on0 × (StopsAtOnce (thermal_of unit.now) → unit.now.min_up ≤ unit.now.up0 → ⊥))
         (λ e. (e ≡ record { cost = pos 0; first = 0; before = 0 }) × (IsTrue unit.now.on0 → StopsAtOnce (thermal_of unit.now) × (unit.now.min_up ≤ unit.now.up0))) }

@@ -1,7 +1,7 @@
 //! The table of least costs by the last on period.
 ghost use Rattle.std.specs.Prelude.{◌≡◌, ◌≢◌, ℕ, ◌+◌, ◌-◌, ◌*◌, ◌<◌, ◌≤◌, ℤ, pos, ◌+ℤ◌, ◌≤ℤ◌, ◌⊎◌, IsTrue, IsFalse, IfSome, IfNone, length, suc, Option};
 ghost use Rattle.uc_model.specs.PlainUnits.{thermal_of};
-ghost use Rattle.unit_program.specs.Rows.{row_at, cost_at, first_at, before_at, net_at, IsWithinTimes, AreWithin, HasEntryAtMost, IsOpenUntil};
+ghost use Rattle.unit_program.specs.Rows.{row_at, cost_at, first_at, before_at, net_at, IsWithinTimes, AreWithin, IsPut, HasEntryAtMost, IsOpenUntil};
 ghost use Rattle.unit_program.specs.Spells.{IsOffRun, IsGap, on_time, start_cost_after};
 ghost use Rattle.unit_program.specs.Tables.{HasAtMost, IsUpdate, IsEntry, IsLeastEntry};
 ghost use Rattle.unit_program.specs.declared.table.Ended.{Ended};
@@ -42,7 +42,7 @@ fn start_after(unit: &Unit, last: u32, before: u32) -> i64
 }
 
 // The sum of two costs within bounds.
-fn sum_of(a: i64, b: i64) -> i64
+pub(crate) fn sum_of(a: i64, b: i64) -> i64
     requires a { IsWithinTimes 400 a }
     requires b { IsWithinTimes 400 b }
     ensures { result ≡ a +ℤ b }
@@ -152,6 +152,31 @@ fn net_of(unit: &Unit, periods: u32, first: u32, last: u32, costs: &[Option<i64>
         costs[last as usize - 1]
     } else {
         None
+    }
+}
+
+/// Puts a spell to period `last`, entered at a cost, into the table, if there is one: the lesser cost stays, and of equal
+/// ones the later.
+pub(crate) fn put_end(table: &mut Table, last: u32, first: u32, entry: &Entry, net: Option<i64>)
+    requires room { last < length table.old.items }
+    requires order { first ≤ last }
+    requires small { last ≤ 168 }
+    requires within { AreWithin table.old.items }
+    requires bound { IsWithinTimes (2 * first + 1) entry.now.cost }
+    requires net_bound { IfSome net (IsWithinTimes (suc last - first)) }
+    ensures none { IfNone net (table.new.items ≡ table.old.items) }
+    ensures some { IfSome net (λ c. IsPut last (record { cost = entry.now.cost +ℤ c; first = first; before = entry.now.last }) table.old.items table.new.items) }
+    ensures others { (l : ℕ) → l ≢ last → row_at table.new.items l ≡ row_at table.old.items l }
+    ensures within { AreWithin table.new.items }
+    ensures length { length table.new.items ≡ length table.old.items }
+{
+    if let Some(net) = net {
+        let ended = Ended {
+            cost: sum_of(entry.cost, net),
+            first,
+            before: entry.last,
+        };
+        put(table, last, ended);
     }
 }
 

@@ -1,0 +1,12 @@
+-- The turn of a step: where the kinked function before it is least.
+use Rattle.std.proofs.Common.{◌≡◌, ℕ, ℤ, Bool, sym, ap, ◌∙◌, subst}
+use Rattle.shape_law.specs.Table.{Table}
+use Rattle.uc_model.specs.Data.{ThermalUnit, PriceLists}
+use Rattle.shape_law.specs.declared.step.Step.{Step}
+use Rattle.spell_run.specs.Steps.{step_at}
+use Rattle.spell_run.specs.Turns.{IsTurn}
+
+pub turn_moved : (g : ThermalUnit) (π : PriceLists) (k : ℕ) (starts starts' stops : Bool) (s : Step) (f : Table) (x : ℤ) → s ≡ step_at g π k starts stops → starts ≡ starts' → IsTurn s f x → IsTurn (step_at g π k starts' stops) f x
+turn_moved g π k starts starts' stops s f x is same turn =
+    let e = is ∙ ap (λ (b : Bool). step_at g π k b stops) same in
+    subst (λ (s : Step). IsTurn s f x) e turn

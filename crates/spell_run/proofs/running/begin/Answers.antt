@@ -1,0 +1,14 @@
+use Rattle.std.proofs.Common.{rules, pos}
+use Rattle.std.proofs.lemmas.Int.{to_z-of_z}
+use Rattle.std.specs.Int.{w64}
+use Rattle.std.specs.Prelude.{FitsSigned}
+use Rattle.shape_law.specs.Effect.{IsPoint}
+use Rattle.uc_model.specs.PlainUnits.{thermal_of}
+use Rattle.spell_run.proofs.FrontierLaws.{frontier_from}
+use Rattle.spell_run.proofs.running.begin.Goals as goal
+
+pub returns-clause-frontier : goal.returns-clause-frontier
+returns-clause-frontier g c = λ π.
+    let fits : FitsSigned w64 c.power_before.result = search rules in
+    let point : IsPoint c.power_before.result (pos 0) (g.R.Running.function c.restart.new.self) = simp to_z-of_z at c.restart.ensures.point in
+    frontier_from (thermal_of c.args.unit.now) π c.args.first c.power_before.result (g.R.Running.function c.restart.new.self) c.args.unit.now.valid c.power_before.ensures.start c.power_before.ensures.goes_on point

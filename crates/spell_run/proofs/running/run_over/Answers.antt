@@ -1,0 +1,31 @@
+use Rattle.std.proofs.Common.{false, suc, eqb, arith}
+use Rattle.cost_curve.proofs.EnvelopeValues.{envelope_is_cost}
+use Rattle.uc_model.specs.PlainUnits.{thermal_of, prices_of}
+use Rattle.spell_run.proofs.FairLaws.{cost_is, step_moved}
+use Rattle.spell_run.proofs.FrontierLaws.{small_frontier, frontier_more}
+use Rattle.spell_run.proofs.TurnLaws.{turn_moved}
+use Rattle.spell_run.proofs.running.run_over.Goals as goal
+
+pub step-requires-clause-curve : goal.step-requires-clause-curve
+step-requires-clause-curve g c =
+    cost_is (thermal_of c.args.unit.now) (prices_of c.args.prices.now) c.args.place c.starts_in-starts.result false c.step_of.result c.step_of.ensures.step c.args.unit.now.valid c.args.prices.now.valid c.requires.place c.args.curve.now c.requires.curve
+
+pub step-requires-clause-small : goal.step-requires-clause-small
+step-requires-clause-small g c =
+    let horizon = c.args.prices.now.valid.horizon.at_most in
+    let place = c.requires.place in
+    small_frontier (thermal_of c.args.unit.now) (prices_of c.args.prices.now) c.args.first c.args.place _ (omega (arith, horizon, place)) c.requires.frontier
+
+pub returns-clause-frontier : goal.returns-clause-frontier
+returns-clause-frontier g c =
+    let unit = thermal_of c.args.unit.now in
+    let prices = prices_of c.args.prices.now in
+    let before = g.R.Running.function c.args.running.now in
+    let after = g.R.Running.function c.step.new.self in
+    frontier_more unit prices c.args.first c.args.place c.args.curve.now c.args.unit.now.valid c.args.prices.now.valid c.requires.curve envelope_is_cost c.requires.place c.requires.order before after c.requires.frontier
+    (step_moved unit prices c.args.place c.starts_in-starts.result _ false c.step_of.result c.args.curve.now before after c.step_of.ensures.step c.starts_in-starts.ensures c.step.ensures.stepped)
+
+pub returns-clause-turn : goal.returns-clause-turn
+returns-clause-turn g c = λ y w there.
+    turn_moved (thermal_of c.args.unit.now) (prices_of c.args.prices.now) c.args.place c.starts_in-starts.result _ false c.step_of.result (g.R.Running.function c.args.running.now) _
+    c.step_of.ensures.step c.starts_in-starts.ensures (c.step.ensures.turn y w there)

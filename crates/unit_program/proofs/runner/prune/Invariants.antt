@@ -1,0 +1,17 @@
+use Rattle.std.proofs.Common.{◌≡◌, ℕ, ◌+◌, ◌<◌, ◌≤◌, ℤ, Option, Some, length}
+use Rattle.std.specs.Prelude.{IfSome}
+use Rattle.uc_model.specs.Data.{PriceLists}
+use Rattle.uc_model.specs.PlainUnits.{thermal_of}
+use Rattle.unit_program.specs.Live.{live_at, AreRoomy, AreSmall}
+use Rattle.unit_program.specs.Runners.{Going, AreRunners}
+use Rattle.unit_program.proofs.runner.prune.Given as goal
+
+abbrev pub invariant-loop-back : goal.invariant-loop-back
+invariant-loop-back g l = record {
+  late : IfSome l.late (λ f. (l.period < f + l.back) × (f ≤ l.period) × ((r : Going) × (live_at g.R.Running.function l.runners f ≡ Some r)));
+  small : AreSmall (live_at g.R.Running.function l.runners);
+  stands : (π : PriceLists) (ends : ℕ → Option ℤ) (n : ℕ) → AreRunners (thermal_of l.unit) π ends (live_at g.R.Running.function l.fn.runners) l.period n →
+      AreRunners (thermal_of l.unit) π ends (live_at g.R.Running.function l.runners) l.period n;
+  roomy : (periods t charge : ℕ) → AreRoomy g.R.Running.count g.R.Running.room periods t charge l.fn.runners → AreRoomy g.R.Running.count g.R.Running.room periods t charge l.runners;
+  count_same : length l.runners ≡ length l.fn.runners;
+}

@@ -1,0 +1,27 @@
+use Rattle.std.proofs.Common.{◌≡◌, ◌≤◌, length, refl, sym, ap, ◌∙◌, arith, length-set}
+use Rattle.unit_program.proofs.LiveLaws.{none_stopped, stopped_more, stopped_off, stopped_roomy}
+use Rattle.unit_program.proofs.RunAllLaws.{item_at}
+use Rattle.unit_program.proofs.runner.stop_all.Goals as goal
+
+pub loop-place-init : goal.loop-place-init
+loop-place-init g c = none_stopped g.R.Running.room c.args.runners.now
+
+pub loop-place-preserved : goal.loop-place-preserved
+loop-place-preserved g c =
+    let low = c.loop-place-test.true in
+    let same = c.loop-place.invariant.same_length in
+    stopped_more g.R.Running.function g.R.Running.count g.R.Running.room c.args.runners.now c.loop-place.runners c.loop-place.place c.loop-place.invariant
+    _ c.stop.new.runner _ (omega (arith, low, same)) (item_at g.R.Running.function c.loop-place.runners c.loop-place.place (omega (arith, low, same)) c.index-runners-place.result)
+    c.stop.ensures.off c.stop.ensures.running refl (length-set c.loop-place.runners c.loop-place.place c.stop.new.runner)
+
+pub returns-clause-off : goal.returns-clause-off
+returns-clause-off g c =
+    let end = c.loop-place-test.false in
+    let same = c.loop-place.invariant.same_length in
+    stopped_off g.R.Running.function g.R.Running.count g.R.Running.room c.args.runners.now c.loop-place.runners c.loop-place.place c.loop-place.invariant (omega (arith, end, same))
+
+pub returns-clause-room : goal.returns-clause-room
+returns-clause-room g c =
+    let end = c.loop-place-test.false in
+    let same = c.loop-place.invariant.same_length in
+    stopped_roomy g.R.Running.function g.R.Running.count g.R.Running.room c.args.runners.now c.loop-place.runners c.loop-place.place c.loop-place.invariant (omega (arith, end, same))

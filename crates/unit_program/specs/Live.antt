@@ -1,0 +1,50 @@
+-- How a list of runners is read: the runner that begins with a period is at that place (this project's profile).
+use Rattle.std.specs.Prelude.{◌≡◌, ℕ, suc, ◌+◌, ◌-◌, ◌*◌, ◌≤◌, ℤ, pos, ◌+ℤ◌, ◌≤ℤ◌, if◌then◌else◌, IsTrue, List, length, slice_get, Option, Some, None}
+use Rattle.shape_law.specs.Table.{Table, value_of}
+use Rattle.uc_model.specs.Data.{ThermalUnit, PriceLists}
+use Rattle.unit_program.specs.declared.runner.Runner.{Runner}
+use Rattle.unit_program.specs.declared.table.Ended.{Ended}
+use Rattle.unit_program.specs.Rows.{cost_at, first_at, before_at, IsWithinTimes, AreWithin}
+use Rattle.unit_program.specs.Runners.{Going, IsTableTo, AreRunners}
+
+abbrev pub going_of : {R : Type 0} → (R → Table) → Option (Runner R) → Option Going
+going_of function None = None
+going_of function (Some r) = if r.is_on then Some (record { before = r.before; cost = r.cost; function = function r.running }) else None
+
+-- the runner that begins with `first`, if it is on
+abbrev pub live_at : {R : Type 0} → (R → Table) → List (Runner R) → ℕ → Option Going
+live_at function runners first = going_of function (slice_get runners first)
+
+-- a runner has room for all periods, and for those after period t where it is on; each asks for as many pieces as `charge`
+pub record IsRoomy {R : Type 0} (count room : R → ℕ) (periods t charge : ℕ) (r : Runner R) : Type 0 where
+  pub whole : periods * charge ≤ room r.running
+  pub rest : IsTrue r.is_on → count r.running + (periods - t) * charge ≤ room r.running
+
+abbrev pub AreRoomy : {R : Type 0} → (R → ℕ) → (R → ℕ) → ℕ → ℕ → ℕ → List (Runner R) → Type 0
+AreRoomy {R} count room periods t charge runners = (first : ℕ) (r : Runner R) → slice_get runners first ≡ Some r → IsRoomy count room periods t charge r
+
+-- its cost and its values are far within the limits
+pub record IsSmallGoing (r : Going) : Type 0 where
+  pub cost : IsWithinTimes 400 r.cost
+  pub values : (x v : ℤ) → value_of r.function x ≡ Some v → IsWithinTimes 400 v
+
+abbrev pub AreSmall : (ℕ → Option Going) → Type 0
+AreSmall live = (first : ℕ) (r : Going) → live first ≡ Some r → IsSmallGoing r
+
+-- it is at a power for less than a cost
+abbrev pub IsUnder : ℤ → ℤ → Going → Type 0
+IsUnder power cost r = (v : ℤ) × (value_of r.function power ≡ Some v) × (((r.cost +ℤ v) +ℤ pos 1) ≤ℤ cost)
+
+-- f, after cost e, is nowhere above f', after cost e', and has all its places
+abbrev pub IsBelow : Table → ℤ → Table → ℤ → Type 0
+IsBelow f e f' e' = (x v : ℤ) → value_of f' x ≡ Some v → (u : ℤ) × (value_of f x ≡ Some u) × ((e +ℤ u) ≤ℤ (e' +ℤ v))
+
+-- each runner has room for so many pieces
+abbrev pub HaveRoom : {R : Type 0} → (R → ℕ) → ℕ → List (Runner R) → Type 0
+HaveRoom {R} room most runners = (first : ℕ) (r : Runner R) → slice_get runners first ≡ Some r → most ≤ room r.running
+
+-- the rows up to period t are those of the table, and each run has a runner that stands for it
+pub record IsFilledTo (g : ThermalUnit) (π : PriceLists) (t : ℕ) (rows : List (Option Ended)) (live : ℕ → Option Going) : Type 0 where
+  pub table : IsTableTo g π (length π.energy) t (cost_at rows) (first_at rows) (before_at rows)
+  pub runners : AreRunners g π (cost_at rows) live t (suc t)
+  pub within : AreWithin rows

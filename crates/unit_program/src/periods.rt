@@ -1,0 +1,146 @@
+//! The table filled period by period: the spells of all first periods go forward together.
+//!
+//! A spell that begins later goes on as an earlier one does from the same power, and of equal costs the later first period
+//! is the answer. So an earlier spell goes where a later one, which may stop as soon, is nowhere above it; and a start
+//! isn't made where a running spell is at the least power for less than it costs.
+ghost use Rattle.std.specs.Prelude.{◌≡◌, ℕ, suc, ◌+◌, ◌*◌, ◌<◌, ◌≤◌, ℤ, Option, None, length};
+ghost use Rattle.cost_curve.specs.CostCurve.{IsCostCurve};
+ghost use Rattle.uc_model.specs.Data.{PriceLists};
+ghost use Rattle.uc_model.specs.PlainUnits.{thermal_of, prices_of};
+ghost use Rattle.unit_program.specs.Live.{live_at, AreRoomy, AreSmall, HaveRoom, IsFilledTo};
+ghost use Rattle.unit_program.specs.Rows.{cost_at, IsWithinTimes, AreWithin, IsFilled};
+ghost use Rattle.unit_program.specs.Runners.{AreRunners};
+ghost use Rattle.unit_program.specs.Tables.{IsLeastEntry};
+
+use crate::program::{clear_rows, first_row};
+use crate::runner::{Runner, begin_runner, is_undercut, prune, run_all, stop_all};
+use crate::table::{Ended, Entry, Table, least_entry};
+use spell_run::Running;
+use spell_run::laws::{dispatches_are_runs, dispatches_go_on, runs_go_on};
+use uc_model::units::{Curve, Mark, Prices, Unit};
+
+// Begins the runner of the period after the one at a place after its least entry, if no runner undercuts it.
+fn start_after<R: Running>(unit: &Unit, place: u32, entry: &Entry, runners: &mut [Runner<R>])
+    requires small_place { place < 168 }
+    requires runners { suc place < length runners.old }
+    requires bound { IsWithinTimes (2 * place + 3) entry.now.cost }
+    requires small { AreSmall (live_at R.function runners.old) }
+    ensures stands { (π : PriceLists) (ends : ℕ → Option ℤ) → IsLeastEntry (thermal_of unit.now) ends (suc place) entry.now.last entry.now.cost →
+        AreRunners (thermal_of unit.now) π ends (live_at R.function runners.old) place (suc place) →
+        AreRunners (thermal_of unit.now) π ends (live_at R.function runners.new) place (suc (suc place)) }
+    ensures room { (periods charge : ℕ) → AreRoomy R.count R.room periods place charge runners.old → AreRoomy R.count R.room periods place charge runners.new }
+    ensures length { length runners.new ≡ length runners.old }
+{
+    if is_undercut(runners, place + 1, unit.min_power, entry.cost) {
+        return;
+    }
+    begin_runner(unit, place + 1, entry, &mut runners[place as usize + 1]);
+}
+
+// Begins the runner of the period after the one at a place, if a spell may begin there and no runner undercuts it.
+fn start<R: Running>(unit: &Unit, place: u32, rows: &[Option<Ended>], runners: &mut [Runner<R>])
+    requires end { place < length (thermal_of unit.now).window }
+    requires rows { place < length rows.now }
+    requires runners { suc place < length runners.old }
+    requires within { AreWithin rows.now }
+    requires small { AreSmall (live_at R.function runners.old) }
+    ensures stands { (π : PriceLists) →
+        AreRunners (thermal_of unit.now) π (cost_at rows.now) (live_at R.function runners.old) place (suc place) →
+        AreRunners (thermal_of unit.now) π (cost_at rows.now) (live_at R.function runners.new) place (suc (suc place)) }
+    ensures room { (periods charge : ℕ) → AreRoomy R.count R.room periods place charge runners.old → AreRoomy R.count R.room periods place charge runners.new }
+    ensures length { length runners.new ≡ length runners.old }
+{
+    match least_entry(unit, rows, place) {
+        Some(entry) => start_after(unit, place, &entry, runners),
+        None => {}
+    }
+}
+
+// Fills the row of the period at a place.
+fn take_period<R: Running>(
+    unit: &Unit,
+    curve: &Curve,
+    prices: &Prices,
+    place: u32,
+    runners: &mut [Runner<R>],
+    table: &mut Table,
+)
+    requires horizon { length (thermal_of unit.now).window ≡ length (prices_of prices.now).energy }
+    requires curve { IsCostCurve (thermal_of unit.now).points curve.now }
+    requires place { place < length (prices_of prices.now).energy }
+    requires runners { length (prices_of prices.now).energy < length runners.old }
+    requires room { AreRoomy R.count R.room (length (prices_of prices.now).energy) place (length curve.now.blocks.items + 3) runners.old }
+    requires rows { length (prices_of prices.now).energy < length table.old.items }
+    requires filled { IsFilledTo (thermal_of unit.now) (prices_of prices.now) place table.old.items (live_at R.function runners.old) }
+    ensures filled { IsFilledTo (thermal_of unit.now) (prices_of prices.now) (suc place) table.new.items (live_at R.function runners.new) }
+    ensures room { AreRoomy R.count R.room (length (prices_of prices.now).energy) (suc place) (length curve.now.blocks.items + 3) runners.new }
+    ensures length { length table.new.items ≡ length table.old.items }
+    ensures count { length runners.new ≡ length runners.old }
+{
+    if *unit.window.get(place as usize) == Mark::MustOff {
+        stop_all(runners);
+        return;
+    }
+    runs_go_on();
+    dispatches_go_on();
+    dispatches_are_runs();
+    start(unit, place, table.as_slice(), runners);
+    run_all(unit, curve, prices, place, runners, table);
+    prune(unit, place + 1, runners);
+}
+
+// Begins the runner of the spells that go on from before the horizon, where the unit is on then.
+fn go_on<R: Running>(unit: &Unit, runners: &mut [Runner<R>])
+    requires some { 1 ≤ length runners.old }
+    requires off { (first : ℕ) → live_at R.function runners.old first ≡ None }
+    ensures stands { (π : PriceLists) (ends : ℕ → Option ℤ) → AreRunners (thermal_of unit.now) π ends (live_at R.function runners.new) 0 1 }
+    ensures room { (periods charge : ℕ) → AreRoomy R.count R.room periods 0 charge runners.old → AreRoomy R.count R.room periods 0 charge runners.new }
+    ensures length { length runners.new ≡ length runners.old }
+{
+    if unit.on0 {
+        let entry = Entry { cost: 0, last: 0 };
+        begin_runner(unit, 0, &entry, &mut runners[0]);
+    }
+}
+
+// The table and the runners before the first period.
+fn begin_all<R: Running>(unit: &Unit, runners: &mut [Runner<R>], table: &mut Table)
+    requires runners { 1 ≤ length runners.old }
+    requires rows { 1 ≤ length table.old.items }
+    ensures filled { (π : PriceLists) → 1 ≤ length π.energy → IsFilledTo (thermal_of unit.now) π 0 table.new.items (live_at R.function runners.new) }
+    ensures room { (periods charge : ℕ) → AreRoomy R.count R.room periods periods charge runners.old → AreRoomy R.count R.room periods 0 charge runners.new }
+    ensures length { length table.new.items ≡ length table.old.items }
+    ensures count { length runners.new ≡ length runners.old }
+{
+    clear_rows(table);
+    table.set(0, first_row(unit));
+    stop_all(runners);
+    go_on(unit, runners);
+}
+
+/// Fills the table for a unit at prices over its horizon of T periods, as `program::fill` does. `curve` is the curve of the
+/// unit's points. There are at least T + 1 runners, each with room for T (B + 3) pieces, where the curve has B blocks, and
+/// `table` has at least T + 1 rows. Takes no memory.
+pub fn fill_by_periods<R: Running>(
+    unit: &Unit,
+    curve: &Curve,
+    prices: &Prices,
+    runners: &mut [Runner<R>],
+    table: &mut Table,
+)
+    requires horizon { length (thermal_of unit.now).window ≡ length (prices_of prices.now).energy }
+    requires curve { IsCostCurve (thermal_of unit.now).points curve.now }
+    requires runners { length (prices_of prices.now).energy < length runners.old }
+    requires room { HaveRoom R.room (length (prices_of prices.now).energy * (length curve.now.blocks.items + 3)) runners.old }
+    requires rows { length (prices_of prices.now).energy < length table.old.items }
+    ensures filled { IsFilled (thermal_of unit.now) (prices_of prices.now) (suc (length (prices_of prices.now).energy)) table.new.items }
+    ensures room { HaveRoom R.room (length (prices_of prices.now).energy * (length curve.now.blocks.items + 3)) runners.new }
+    ensures length { length table.new.items ≡ length table.old.items }
+    ensures count { length runners.new ≡ length runners.old }
+{
+    begin_all(unit, runners, table);
+    let periods = prices.energy.len() as u32;
+    for place in 0..periods {
+        take_period(unit, curve, prices, place, runners, table);
+    }
+}
