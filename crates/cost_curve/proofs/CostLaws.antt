@@ -1,5 +1,5 @@
 -- The cost of a power on an edge, as the code computes it.
-use Rattle.std.proofs.Common.{◌≡◌, ℕ, ◌<◌, ◌⊎◌, inl, inr, ℤ, pos, neg_ℤ, ◌+ℤ◌, ◌-ℤ◌, ◌*ℤ◌, ◌≤ℤ◌, ◌<ℤ◌, List, length, sym, ap, ◌∙◌, subst, arith, w64, FitsSigned, to_z, of_z, true, false}
+use Rattle.std.proofs.Common.{◌≡◌, ℕ, ◌<◌, ◌⊎◌, inl, inr, ℤ, pos, neg_ℤ, ◌+ℤ◌, ◌-ℤ◌, ◌*ℤ◌, ◌≤ℤ◌, ◌<ℤ◌, List, length, sym, ap, ◌∙◌, subst, arith, w64, FitsSigned, true, false}
 use Rattle.std.specs.Prelude.{int_le}
 use Rattle.std.proofs.lemmas.Int.{ints, to_z-of_z}
 use Rattle.uc_model.specs.declared.units.Point.{Point}
@@ -8,10 +8,7 @@ use Rattle.uc_model.specs.Limits.{IsCost, IsFrom, IsPoint, IsPower, Spans}
 use Rattle.cost_curve.specs.CostCurve.{AreCostPoints, IsAmount}
 use Rattle.cost_curve.specs.Edges.{point_at, IsEdge, IsVertex}
 use Rattle.cost_curve.proofs.EnvelopeValues.{Spans-ordered, envelope_value, envelope_within, IsEnvelope-before, IsEnvelope-after}
-use Rattle.cost_curve.proofs.SlopeLaws.{fits64}
-
-abbrev pub stored : ℤ → ℤ
-stored z = to_z w64 (of_z w64 z)
+use Rattle.uc_model.proofs.SignedLaws.{fits64, stored}
 
 le_from_test : (a b : ℤ) → int_le a b ≡ true → a ≤ℤ b
 le_from_test a b h = grind (arith, ints)

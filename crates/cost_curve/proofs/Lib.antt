@@ -1,8 +1,20 @@
-pub mod BuildLaws
-pub mod CostLaws
-pub mod CurveLaws
-pub mod EdgeLaws
-pub mod EnvelopeValues
+-- ---- src/walk.rt and src/edges.rt: the edges of the envelope
+-- the slope from a point to one of more power, rounded up
 pub mod SlopeLaws
-pub mod ValueLaws
+-- how an edge is found point by point, and what it says of all points
+pub mod EdgeLaws
+-- the search for the way on, and for the first point, at one more point
 pub mod WayLaws
+-- ---- src/laws.rt
+-- what the envelope is at a vertex and on an edge, and what it earns at a price
+pub mod EnvelopeValues
+-- ---- src/costs.rt
+-- the cost of a power on an edge, as the code computes it
+pub mod CostLaws
+-- ---- src/curves.rt
+-- what blocks add, one block after another
+pub mod CurveLaws
+-- the value of a curve at a place, found block by block
+pub mod ValueLaws
+-- a curve grows by the blocks of an edge, and is right once no edge leads on
+pub mod BuildLaws

@@ -1,5 +1,5 @@
 -- The slope from a point to one of more power: a quotient of whole numbers, rounded up.
-use Rattle.std.proofs.Common.{◌≡◌, ℕ, zero, suc, ◌/◌, ◌≤◌, ℤ, pos, negsuc, neg_ℤ, ◌+ℤ◌, ◌-ℤ◌, ◌*ℤ◌, ◌≤ℤ◌, ◌<ℤ◌, refl, sym, ap, ◌∙◌, subst, arith, w64, lit<, FitsSigned, to_z, of_z}
+use Rattle.std.proofs.Common.{◌≡◌, ℕ, zero, suc, ◌/◌, ◌≤◌, ℤ, pos, negsuc, neg_ℤ, ◌+ℤ◌, ◌-ℤ◌, ◌*ℤ◌, ◌≤ℤ◌, ◌<ℤ◌, refl, sym, ap, ◌∙◌, subst, arith, w64, FitsSigned, of_z}
 use Rattle.std.proofs.lemmas.Int.{ints, to_z-of_z}
 use Rattle.std.proofs.Math.IntN.{pos-*ℤ-pos, negsuc-*ℤ-pos, suc_ℤ-*ℤ, pred_ℤ-*ℤ, +ℤ_one, -ℤ_one}
 use Rattle.std.proofs.Math.Nat.{div-le_self}
@@ -7,7 +7,7 @@ use Rattle.std.specs.Int.{int_div_euclid, int_rem_euclid}
 use Rattle.uc_model.specs.declared.units.Point.{Point}
 use Rattle.uc_model.proofs.IntLaws.{mul-sub}
 use Rattle.uc_model.specs.Limits.{IsFrom, IsPoint}
-use Rattle.uc_model.proofs.SignedLaws.{IsWithin, fits_within}
+use Rattle.uc_model.proofs.SignedLaws.{IsWithin, fits64, stored}
 use Rattle.cost_curve.specs.Edges.{IsSlope}
 
 natural : (d : ℤ) → pos 1 ≤ℤ d → (n : ℕ) × (d ≡ pos n) × (1 ≤ n)
@@ -69,14 +69,6 @@ module _ (q p : Point) (price rest : ℤ) (whole : (price *ℤ (p.at -ℤ q.at))
       record { meets = omega (arith, ints, split, whole, p_next, q_next); least = omega (arith, ints, below); most = omega (arith, ints, some) }
 
 -- ---- the same of what the code computes, where points are within their limits
-
-pub fits64 : (z : ℤ) → negsuc 9000000000000000000 ≤ℤ z → z ≤ℤ pos 9000000000000000000 → FitsSigned w64 z
-fits64 z low high =
-    fits_within w64 9000000000000000001 z (record { at_least = omega (arith, ints, low); at_most = omega (arith, ints, high) }) (lit< tt)
-
--- a number as it stands in a register
-abbrev stored : ℤ → ℤ
-stored z = to_z w64 (of_z w64 z)
 
 zero_bits : (z : ℤ) → pos 0 ≤ℤ z → of_z w64 z ≡ 0 → z ≡ pos 0
 zero_bits (pos n) h e = ap pos e

@@ -28,7 +28,8 @@ use Rattle.uplift_settle.specs.declared.settlement.Settlement.{Settlement}
 use Rattle.hull_report.specs.ReportText.{UnitLine}
 use Rattle.hull_report.specs.RecordReport.{thermal_names, renewable_names, bid_names, told_line, line_of, lines_from, chosen_of, value_of}
 use Rattle.hull_report.proofs.Records.{chosen_is}
-use Rattle.hull_report.proofs.Sizes.{plan_cost_within, value_within}
+use Rattle.uc_model.proofs.TotalBounds.{plan_costs_within}
+use Rattle.hull_report.proofs.Sizes.{value_within}
 use Rattle.hull_report.proofs.UnitLines.{length-lines, line_at}
 
 -- ---- names
@@ -210,15 +211,15 @@ chosen_row c rows row setup legal finished e is =
     let right = (rows_fit c.setup c.events setup.some_ahead legal).each k (proposal_of row) (omega (arith, long, count, inside)) in
     let dual : IsDualValue m (prices_of row.prices) row.value = subst (λ (r : Proposal). IsDualValue m r.prices r.value) (row_value rows (own_rows c) k row e inside is) right.value in
     let value = value_within m (prices_of row.prices) row.value setup.market row.prices.valid dual in
-    let costs = subst (IsWithin 43100000000000000000000) (sym setup.cost) (plan_cost_within m c.setup.plan setup.market setup.feasible) in
+    let costs = subst (IsWithin 100000000000000000000000) (sym setup.cost) (plan_costs_within m c.setup.plan setup.market setup.feasible) in
     let a = costs.at_least in
     let b = costs.at_most in
     let d = value.at_least in
     let f = value.at_most in
     record {
       value_is = value_is c rows k row e inside is refl;
-      value_fits = fits_within w128 44000000000000000000000 row.value value (omega arith);
-      gap_fits = fits_within w128 100000000000000000000000 (c.setup.cost -ℤ row.value) (record { at_least = omega (arith, ints, a, f); at_most = omega (arith, ints, b, d) }) (omega arith);
+      value_fits = fits_within w128 200000000000000000000000 row.value value (omega arith);
+      gap_fits = fits_within w128 300000000000000000000000 (c.setup.cost -ℤ row.value) (record { at_least = omega (arith, ints, a, f); at_most = omega (arith, ints, b, d) }) (omega arith);
     }
 
 -- the same of what the program reads of it

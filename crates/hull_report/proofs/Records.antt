@@ -19,7 +19,7 @@ use Rattle.uc_model.specs.Runs.{Fits, HasTotals, IsRun}
 use Rattle.uc_model.specs.Schedules.{IsFeasible}
 use Rattle.uc_model.specs.Sums.{int_at}
 use Rattle.uc_model.specs.Systems.{IsFeasiblePlan, IsSettled}
-use Rattle.uplift_settle.proofs.Lists.{length_same, length-zip_with}
+use Rattle.uc_model.proofs.ListLaws.{length_same, length-zip_with}
 use Rattle.uplift_settle.specs.declared.settlement.Settlement.{Settlement}
 use Rattle.hull_report.specs.ReportText.{UnitLine}
 use Rattle.hull_report.specs.RightReport.{unit_lines, HasNames}

@@ -1,5 +1,12 @@
-pub mod CurveLaws
-pub mod LeastLaws
-pub mod RowLaws
+-- ---- src/lib.rt
+-- the values and the function, index by index and place by place
 pub mod ValueLaws
+-- the least of the values is the least of the function
+pub mod LeastLaws
+-- the least values in reach of the places between the two ends are the window
 pub mod WindowLaws
+-- a curve's value from its first place on
+pub mod CurveLaws
+-- ---- src/tests.rt
+-- the functions of the worked rows are within the limits
+pub mod RowLaws

@@ -12,6 +12,7 @@ ghost use Rattle.shape_law.specs.Table.{value_of, IsConvexList, IsPlace, IsAmoun
 #[cfg(test)]
 mod tests;
 
+use cost_curve::curves::curve_at;
 use shape_law::{Cells, Heap, Shape};
 use std::alloc::{AllocError, Global};
 use uc_model::units::Curve;
@@ -159,25 +160,6 @@ fn window_of(
     let count = count_between(from, to);
     let values = windowed(alloc, s, up, down, from, count)?;
     Ok(Levels { lo: from, values })
-}
-
-/// The curve's value at a place in it.
-fn curve_at(curve: &Curve, x: i64) -> i64
-    requires limited { IsLimitedCurve curve.now }
-    requires inside { (v : ℤ) × (curve_value curve.now x ≡ Some v) }
-    ensures { curve_value curve.now x ≡ Some result }
-{
-    let blocks = curve.blocks.as_slice();
-    let mut value = curve.value;
-    let mut rest = x - curve.at;
-    for block in blocks {
-        if rest <= block.width {
-            return along(value, block.price, rest);
-        }
-        value = along(value, block.price, block.width);
-        rest -= block.width;
-    }
-    value
 }
 
 /// The value after some steps on a line.

@@ -11,7 +11,7 @@ use Rattle.uc_model.specs.Refusals.{unless}
 use Rattle.uc_model.specs.Schedules.{power_in, reserve_in}
 use Rattle.uc_model.specs.Sums.{total}
 use Rattle.uc_model.specs.Systems.{total_power, total_reserve, plan_cost}
-use Rattle.uc_model.proofs.ListLaws.{same_item, none_some, total-append}
+use Rattle.uc_model.proofs.ListLaws.{same_item, none_some}
 use Rattle.plan_check.specs.Costs.{sum_over, thermal_units, bid_units}
 use Rattle.plan_check.specs.Totals.{powers_at, reserves_at}
 use Rattle.plan_check.proofs.RunLaws.{and_true, both_true}

@@ -17,10 +17,12 @@ use crate::fault::{CaseCode, Field, Place};
 use crate::forms::{FieldStop, list_of, object_of, read_amount, read_power, value_under};
 use crate::keys::Keys;
 use std::alloc::Global;
+use uc_model::limits::{MOST_BLOCKS, POWER_LIMIT};
+use uc_model::money::total_width;
 use uc_model::units::{Bid, Block, BlockLists, Blocks};
 use uc_text::Tree;
 
-const MOST_BLOCKS: usize = 8;
+const BLOCKS: usize = MOST_BLOCKS as usize;
 
 #[tactic(auto, unfolding(crate::specs::Tables::block))]
 fn read_block(at: Place, before: &[Block], tree: &Tree) -> Result<Block, FieldStop>
@@ -53,30 +55,17 @@ fn read_blocks(alloc: Global, at: Place, trees: &[Tree]) -> Result<Blocks, Field
     Ok(blocks)
 }
 
-/// The sum of the widths.
-fn total_width(blocks: &[Block]) -> i64
-    requires count { length blocks.now ≤ 8 }
-    requires fits { All (λ b. IsBlock b) blocks.now }
-    ensures { result ≡ total (map (λ (b : PlainBlock). b.width) blocks.now) }
-{
-    let mut sum = 0;
-    for block in blocks {
-        sum += block.width;
-    }
-    sum
-}
-
 #[tactic(auto, unfolding(crate::specs::Tables::period_blocks))]
 fn read_period(alloc: Global, at: Place, tree: &Tree) -> Result<Blocks, FieldStop>
     ensures fits { IfOk result (λ bs. IsBlockList bs.items) }
     ensures value { Gives (λ bs. bs.items) result (period_blocks at [] (view tree.now)) }
 {
     let trees = list_of(at, tree)?;
-    if trees.len() > MOST_BLOCKS {
+    if trees.len() > BLOCKS {
         return Err(at.stop(CaseCode::TooLarge));
     }
     let blocks = read_blocks(alloc, at, trees)?;
-    if total_width(blocks.as_slice()) > 1_000_000_000 {
+    if total_width(blocks.as_slice()) > POWER_LIMIT {
         return Err(at.stop(CaseCode::TooLarge));
     }
     Ok(blocks)

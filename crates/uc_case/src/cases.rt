@@ -16,16 +16,17 @@ use crate::forms::{FieldStop, object_of};
 use crate::inside::{member_value, name_of};
 use crate::keys::Keys;
 use crate::lists::read_powers;
-use crate::names::copy_of;
 use crate::units::{read_renewable, read_unit};
 use std::alloc::Global;
 use uc_model::cases::Case;
+use uc_model::limits::{MOST_OF_A_KIND, MOST_PERIODS};
+use uc_model::lists::Name;
 use uc_model::units::{BidList, FlatList, NamedBid, NamedFlat, NamedUnit, ThermalList};
 use uc_text::{Member, Tree};
 
-const MOST_UNITS: usize = 4096;
+const MOST_UNITS: usize = MOST_OF_A_KIND as usize;
 
-const MOST_PERIODS: u64 = 168;
+const PERIODS: u64 = MOST_PERIODS as u64;
 
 fn unit_place(field: Field, kind: Kind, unit: u32) -> Place
     ensures { result ≡ place field kind unit }
@@ -51,7 +52,7 @@ fn read_named_unit(
     ensures value { Gives named_thermal_of result (thermal periods at (member_view member.now)) }
 {
     let unit = read_unit(alloc, at, member_value(member), periods)?;
-    let name = copy_of(alloc, name_of(member))?;
+    let name = Name::copied(alloc, name_of(member))?;
     Ok(NamedUnit { name, unit })
 }
 
@@ -109,7 +110,7 @@ fn read_named_flat(
     ensures value { Gives named_renewable_of result (renewable periods at (member_view member.now)) }
 {
     let flat = read_renewable(alloc, at, member_value(member), periods)?;
-    let name = copy_of(alloc, name_of(member))?;
+    let name = Name::copied(alloc, name_of(member))?;
     Ok(NamedFlat { name, flat })
 }
 
@@ -167,7 +168,7 @@ fn read_named_bid(
     ensures value { Gives named_bid_of result (bid periods at (member_view member.now)) }
 {
     let bid = read_bid(alloc, at, member_value(member), periods)?;
-    let name = copy_of(alloc, name_of(member))?;
+    let name = Name::copied(alloc, name_of(member))?;
     Ok(NamedBid { name, bid })
 }
 
@@ -227,7 +228,7 @@ pub fn case_of_tree(alloc: Global, tree: &Tree) -> Result<Case, FieldStop>
         at,
         members: object_of(at, tree)?,
     };
-    let periods = c.time(Field::TimePeriods, MOST_PERIODS)?;
+    let periods = c.time(Field::TimePeriods, PERIODS)?;
     if periods == 0 {
         return Err(at.field(Field::TimePeriods).stop(CaseCode::NoPeriods));
     }

@@ -10,13 +10,14 @@ ghost use Rattle.uc_case.specs.declared.stop.Stop.TheVariants as stops;
 use crate::fault::{CaseCode, FieldFault, Place};
 use crate::inside::{as_list, as_number, as_object, bit, find};
 use crate::stop::Stop;
+use uc_model::limits::COST_LIMIT;
 use uc_num::{Decimal, is_whole, whole};
 use uc_text::{Member, Tree};
 
 /// Why the reading of a case stops.
 pub type FieldStop = Stop<FieldFault>;
 
-const COST: u64 = 10_000_000_000_000;
+const COST: u64 = COST_LIMIT as u64;
 
 impl Place {
     /// The stop at a test that failed here.

@@ -10,7 +10,6 @@ pub mod inside;
 mod keys;
 pub mod laws;
 mod lists;
-mod names;
 mod parts;
 mod read;
 pub mod stop;

@@ -15,14 +15,15 @@ use crate::lists::{read_piecewise, read_powers, read_startup};
 use crate::parts::{Output, Past, Ramps};
 use crate::windows::read_commitment;
 use std::alloc::Global;
+use uc_model::limits::{MOST_TIME, OUTPUT_LIMIT, POWER_LIMIT};
 use uc_model::units::{Renewable, Unit};
 use uc_text::Tree;
 
-const POWER: u64 = 1_000_000_000;
+const POWER: u64 = POWER_LIMIT as u64;
 
-const OUTPUT: u64 = 10_000_000;
+const OUTPUT: u64 = OUTPUT_LIMIT as u64;
 
-const TIME: u64 = 1_000_000;
+const TIME: u64 = MOST_TIME as u64;
 
 fn raised_to_one(time: u32) -> u32
     ensures { result ≡ at_least_one time }

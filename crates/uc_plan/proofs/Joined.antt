@@ -4,7 +4,7 @@ use Rattle.std.specs.List.{All}
 use Rattle.std.proofs.Math.Seq.{drop-append_seam}
 use Rattle.std.proofs.lemmas.List.{append_assoc}
 use Rattle.std.proofs.lemmas.List.Elements.{All-append}
-use Rattle.uc_model.specs.Data.{Schedule, Market, NamedThermalUnit, NamedRenewableUnit, NamedBidUnit}
+use Rattle.uc_model.specs.Data.{Schedule, Market, NamedThermalUnit, NamedRenewableUnit, NamedBidUnit, thermal_names, renewable_names, bid_names}
 use Rattle.uc_model.specs.Laws.{HasPlanShape}
 use Rattle.uc_model.specs.PlainUnits.{named_thermal_of, named_renewable_of, named_bid_of}
 use Rattle.uc_model.specs.declared.kinds.Kind.TheVariants.{Thermal, Renewable, Bid}
@@ -17,7 +17,7 @@ use Rattle.uc_case.specs.Words.{◌>>=◌, ◌>>◌}
 use Rattle.uc_case.specs.declared.stop.Stop.{Stop}
 use Rattle.uc_case.specs.declared.stop.Stop.TheVariants as stops
 use Rattle.uc_plan.specs.Added.{IsShaped, HasLengths, IsFlat}
-use Rattle.uc_plan.specs.Plans.{Groups, Read, groups, all_known, schedules, plan_of, thermal_names, renewable_names, bid_names}
+use Rattle.uc_plan.specs.Plans.{Groups, Read, groups, all_known, schedules, plan_of}
 use Rattle.uc_plan.specs.declared.fault.ShapeFault.{ShapeFault}
 
 pub thermal_named : (ts : List NamedUnit) → map (λ (n : NamedThermalUnit). n.name) (map named_thermal_of ts) ≡ map (λ (n : NamedUnit). n.name.items) ts

@@ -1,8 +1,8 @@
 -- The tables of a schedule file: the schedules of a value for a case, or the fault of the first test that fails (this
 -- project's profile). Keys that no table names are skipped.
-use Rattle.std.specs.Prelude.{ℕ, suc, Bool, true, false, not, ◌==◌, nat_lt, int_lt, List, [], ◌∷◌, ◌++◌, length, map, replicate, if◌then◌else◌, codes, Option, Some, None, Result, Ok, bytes_eq, pos, nat_abs, unsigned_abs}
+use Rattle.std.specs.Prelude.{ℕ, suc, Bool, true, false, not, ◌==◌, nat_lt, int_lt, List, [], ◌∷◌, ◌++◌, length, replicate, if◌then◌else◌, codes, Option, Some, None, Result, Ok, bytes_eq, pos, nat_abs, unsigned_abs}
 use Rattle.std.specs.Option.{option_and_then}
-use Rattle.uc_model.specs.Data.{Schedule, Market, NamedThermalUnit, NamedRenewableUnit, NamedBidUnit}
+use Rattle.uc_model.specs.Data.{Schedule, Market, thermal_names, renewable_names, bid_names}
 use Rattle.uc_model.specs.declared.kinds.Kind.{Kind}
 use Rattle.uc_model.specs.declared.kinds.Kind.TheVariants.{Case, Thermal, Renewable, Bid}
 use Rattle.uc_num.specs.declared.Decimal.{Decimal}
@@ -115,15 +115,6 @@ object_under key ms = option_and_then object_in (value_of key ms)
 abbrev pub bids_in : ℕ → Option Value → Option (List Pair)
 bids_in count None = if count == 0 then Some [] else None
 bids_in count (Some v) = object_in v
-
-abbrev pub thermal_names : Market → List (List ℕ)
-thermal_names m = map (λ (n : NamedThermalUnit). n.name) m.thermal
-
-abbrev pub renewable_names : Market → List (List ℕ)
-renewable_names m = map (λ (n : NamedRenewableUnit). n.name) m.flat
-
-abbrev pub bid_names : Market → List (List ℕ)
-bid_names m = map (λ (n : NamedBidUnit). n.name) m.bids
 
 -- the objects of a schedule, by unit name
 pub record Groups : Type 0 where

@@ -8,11 +8,12 @@ ghost use Rattle.uc_plan.specs.Plans.{kilowatts_of, kilowatts_in, flag_in, numbe
 use crate::fault::{Seat, ShapeCode, ShapeStop};
 use std::alloc::Global;
 use uc_case::inside::{as_number, bit};
+use uc_model::limits::POWER_LIMIT;
 use uc_model::lists::{Flags, Powers};
 use uc_num::{Decimal, is_whole, whole};
 use uc_text::Tree;
 
-const MOST: u64 = 1_000_000_000;
+const MOST: u64 = POWER_LIMIT as u64;
 
 /// A whole number from 0 to 1,000,000,000.
 fn kilowatts(d: Decimal) -> Option<u32>

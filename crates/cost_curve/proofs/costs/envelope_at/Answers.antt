@@ -8,7 +8,7 @@ use Rattle.cost_curve.proofs.BuildLaws.{last_power}
 use Rattle.cost_curve.proofs.CostLaws.{x_power, line_within, edge_value, edge_limit}
 use Rattle.cost_curve.proofs.EdgeLaws.{IsVertex-start, IsVertex-next}
 use Rattle.cost_curve.proofs.EnvelopeValues.{envelope_vertex}
-use Rattle.cost_curve.proofs.SlopeLaws.{fits64}
+use Rattle.uc_model.proofs.SignedLaws.{fits64}
 use Rattle.cost_curve.proofs.costs.envelope_at.Goals as goal
 
 abbrev no_point : Point

@@ -3,7 +3,7 @@ use Rattle.std.proofs.lemmas.Int.{ints, to_z-of_z}
 use Rattle.std.proofs.lemmas.List.{drop_more}
 use Rattle.uc_model.specs.declared.units.Block.{Block}
 use Rattle.uc_model.specs.Curves.{curve_value}
-use Rattle.cost_curve.proofs.SlopeLaws.{fits64}
+use Rattle.uc_model.proofs.SignedLaws.{fits64}
 use Rattle.cost_curve.proofs.ValueLaws.{IsReached, IsReached-start, value_amount, near_amount, near_value, width_power, far_amount, IsReached-past}
 use Rattle.cost_curve.proofs.curves.curve_at.Goals as goal
 

@@ -6,7 +6,7 @@ use Rattle.cost_curve.specs.Building.{extended, IsBuilt}
 use Rattle.cost_curve.specs.Edges.{point_at, IsWayOn}
 use Rattle.cost_curve.proofs.BuildLaws.{IsBuilt-start, IsBuilt-edge, IsCostCurve-built, CanEvaluate-curve, length-extended}
 use Rattle.cost_curve.proofs.EdgeLaws.{ordered_powers, IsVertex-start, IsVertex-next}
-use Rattle.cost_curve.proofs.SlopeLaws.{fits64}
+use Rattle.uc_model.proofs.SignedLaws.{fits64}
 use Rattle.cost_curve.proofs.curves.curve_into.Goals as goal
 
 pub walk-init : goal.walk-init

@@ -2,7 +2,7 @@ use Rattle.std.proofs.Common.{pos, ◌-ℤ◌, List, ap, ◌∙◌, w64, FitsSig
 use Rattle.std.proofs.lemmas.Int.{ints, to_z-of_z}
 use Rattle.uc_model.specs.declared.units.Block.{Block}
 use Rattle.cost_curve.specs.Building.{extended}
-use Rattle.cost_curve.proofs.SlopeLaws.{fits64}
+use Rattle.uc_model.proofs.SignedLaws.{fits64}
 use Rattle.cost_curve.proofs.curves.push_edge.Goals as goal
 
 pub returns-clause-items : goal.returns-clause-items

@@ -1,4 +1,4 @@
-use Rattle.std.proofs.Common.{◌≡◌, Some, arith, to_z, of_z}
+use Rattle.std.proofs.Common.{◌≡◌, Some, refl, arith, to_z, of_z}
 use Rattle.std.specs.Prelude.{◌+ℤ◌}
 use Rattle.std.specs.Int.{w64}
 use Rattle.std.proofs.lemmas.Int.{ints}
@@ -16,6 +16,20 @@ overflow_add-x c =
     let high = place.1 in
     omega (arith, ints)
 
+pub curve_at-requires-clause-curve : goal.curve_at-requires-clause-curve
+curve_at-requires-clause-curve c =
+    let known = c.requires.limited in
+    let first = known.first_place.0 in
+    let first_most = known.first_place.1 in
+    let last = known.last_place.0 in
+    let last_most = known.last_place.1 in
+    record {
+      widths = known.blocks.widths;
+      first_place = record { at_least = omega (arith, ints, first); at_most = first_most };
+      last_place = record { at_least = omega (arith, ints, last); at_most = last_most };
+      values = λ x v e. let a = (known.values x v e).0 in record { at_least = omega (arith, ints, a); at_most = (known.values x v e).1 };
+    }
+
 pub curve_at-requires-clause-inside : goal.curve_at-requires-clause-inside
 curve_at-requires-clause-inside c =
     let fit = c.requires.fits in
@@ -23,7 +37,7 @@ curve_at-requires-clause-inside c =
     let low = place.0 in
     let high = place.1 in
     let sum : to_z w64 (of_z w64 (to_z w64 (of_z w64 c.args.x) +ℤ to_z w64 (of_z w64 c.args.self.now.shift))) ≡ c.args.x +ℤ c.args.self.now.shift = omega (arith, ints) in
-    rw sum (fit.0, fit.1)
+    rw (sum, fit.1) refl
 
 rise_is : (c : After-curve_at) → curve_value c.args.self.now.curve.now (c.args.x +ℤ c.args.self.now.shift) ≡ Some c.curve_at.result
 rise_is c =

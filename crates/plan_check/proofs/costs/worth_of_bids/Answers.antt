@@ -6,7 +6,7 @@ use Rattle.uc_model.specs.Data.{Bid, NamedBidUnit}
 use Rattle.uc_model.specs.Earnings.{cost_of}
 use Rattle.uc_model.specs.Limits.{IsBidUnit}
 use Rattle.uc_model.specs.PlainCases.{market_of, schedules_of}
-use Rattle.uc_model.specs.PlainUnits.{bid_of, schedule_of, named_thermal_of, named_renewable_of, named_bid_of}
+use Rattle.uc_model.specs.PlainUnits.{bid_of, schedule_of, named_bid_of}
 use Rattle.uc_model.proofs.ListLaws.{item_of, map_item, drop_item}
 use Rattle.plan_check.specs.Costs.{bid_units}
 use Rattle.plan_check.proofs.PlanLaws.{HasLengths}

@@ -1,11 +1,11 @@
-use Rattle.std.proofs.Common.{◌≡◌, ◌+◌, ◌<◌, ℕ, List, map, length, take, drop, sym, ap, ◌∙◌, subst, arith}
+use Rattle.std.proofs.Common.{◌<◌, ℕ, List, map, length, take, drop, sym, ap, ◌∙◌, subst, arith}
 use Rattle.std.proofs.lemmas.Int.{ints}
-use Rattle.std.proofs.lemmas.List.{take-map, length-map}
+use Rattle.std.proofs.lemmas.List.{take-map}
 use Rattle.std.proofs.lemmas.List.Elements.{All-take, All-drop}
 use Rattle.std.specs.List.{All}
 use Rattle.uc_model.specs.declared.units.Response.{Response}
 use Rattle.uc_model.specs.PlainCases.{market_of, schedules_of}
-use Rattle.uc_model.specs.PlainUnits.{schedule_of, named_thermal_of, named_renewable_of}
+use Rattle.uc_model.specs.PlainUnits.{schedule_of}
 use Rattle.uc_model.proofs.ListLaws.{drop-map}
 use Rattle.plan_check.specs.Totals.{powers_at}
 use Rattle.plan_check.proofs.ShapeLaws.{covers}

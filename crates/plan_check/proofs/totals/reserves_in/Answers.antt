@@ -1,4 +1,4 @@
-use Rattle.std.proofs.Common.{rules, ◌<◌, ℤ, pos, List, map, length, sym, ap, ◌∙◌, subst, w64, FitsSigned}
+use Rattle.std.proofs.Common.{rules, ◌<◌, pos, List, map, length, sym, ap, ◌∙◌, subst, w64, FitsSigned}
 use Rattle.std.proofs.lemmas.Int.{to_z-of_z}
 use Rattle.std.proofs.lemmas.Option.{get_or_from_slice_get}
 use Rattle.std.specs.List.{All}

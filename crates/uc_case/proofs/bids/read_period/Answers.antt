@@ -6,16 +6,16 @@ use Rattle.uc_text.specs.View.{view, views}
 use Rattle.uc_case.proofs.Limited.{period_read, period_refused}
 use Rattle.uc_case.proofs.bids.read_period.Goals as goal
 
-pub returns-then-total_width-gt1000000000-clause-value : goal.returns-then-total_width-gt1000000000-clause-value
-returns-then-total_width-gt1000000000-clause-value c =
+pub returns-then-total_width-gt-POWER_LIMIT-clause-value : goal.returns-then-total_width-gt-POWER_LIMIT-clause-value
+returns-then-total_width-gt-POWER_LIMIT-clause-value c =
     let fits : FitsSigned w64 c.total_width.result = search rules in
     let sum = rw (c.as_slice.ensures) at c.total_width.ensures in
-    let wide = rw (to_z-of_z w64 c.total_width.result fits) at c.if-total_width-gt1000000000.true in
-    rw c.stop-then-total_width-gt1000000000.ensures (period_refused c.args.at (view c.args.tree.now) (views c.in_ok-trees.trees.now) _ c.in_ok-trees.ensures (omega (arith, length-map c.in_ok-trees.trees.now view, c.if-trees-gt-MOST_BLOCKS.false)) c.in_ok-blocks.ensures.value (rw (← sum) wide))
+    let wide = rw (to_z-of_z w64 c.total_width.result fits) at c.if-total_width-gt-POWER_LIMIT.true in
+    rw c.stop-then-total_width-gt-POWER_LIMIT.ensures (period_refused c.args.at (view c.args.tree.now) (views c.in_ok-trees.trees.now) _ c.in_ok-trees.ensures (omega (arith, length-map c.in_ok-trees.trees.now view, c.if-trees-gt-BLOCKS.false)) c.in_ok-blocks.ensures.value (rw (← sum) wide))
 
 pub returns-clause-value : goal.returns-clause-value
 returns-clause-value c =
     let fits : FitsSigned w64 c.total_width.result = search rules in
     let sum = rw (c.as_slice.ensures) at c.total_width.ensures in
-    let narrow = rw (to_z-of_z w64 c.total_width.result fits) at c.if-total_width-gt1000000000.false in
-    period_read c.args.at (view c.args.tree.now) (views c.in_ok-trees.trees.now) _ c.in_ok-trees.ensures (omega (arith, length-map c.in_ok-trees.trees.now view, c.if-trees-gt-MOST_BLOCKS.false)) c.in_ok-blocks.ensures.value (rw (← sum) narrow)
+    let narrow = rw (to_z-of_z w64 c.total_width.result fits) at c.if-total_width-gt-POWER_LIMIT.false in
+    period_read c.args.at (view c.args.tree.now) (views c.in_ok-trees.trees.now) _ c.in_ok-trees.ensures (omega (arith, length-map c.in_ok-trees.trees.now view, c.if-trees-gt-BLOCKS.false)) c.in_ok-blocks.ensures.value (rw (← sum) narrow)

@@ -1,7 +1,5 @@
 use Rattle.std.proofs.Common.{arith}
-use Rattle.std.proofs.lemmas.List.{length-map}
 use Rattle.uc_model.specs.PlainCases.{market_of, schedules_of}
-use Rattle.uc_model.specs.PlainUnits.{named_thermal_of, named_renewable_of}
 use Rattle.uplift_settle.proofs.earned.earned_at.Goals as goal
 
 pub bid_earned-requires-clause-place : goal.bid_earned-requires-clause-place

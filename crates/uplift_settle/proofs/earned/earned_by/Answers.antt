@@ -1,4 +1,4 @@
-use Rattle.std.proofs.Common.{rules, ◌≡◌, sym, length, subst, FitsSigned, arith}
+use Rattle.std.proofs.Common.{rules, sym, subst, FitsSigned, arith}
 use Rattle.std.proofs.lemmas.Int.{to_z-of_z}
 use Rattle.std.specs.Int.{w64, w128}
 use Rattle.std.specs.List.{AllZip}
