@@ -22,3 +22,5 @@ pub mod Outs
 pub mod Splits
 -- a join keeps the rule, and what the read after it tells
 pub mod Joins
+-- a call that changes nothing was answered at what is then seen
+pub mod Unmoved

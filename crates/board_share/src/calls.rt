@@ -12,6 +12,7 @@ ghost use Rattle.board_core.specs.Stored.{answer_of};
 ghost use Rattle.board_core.specs.Tasks.{LeavesTask};
 ghost use Rattle.board_share.specs.Seats.{view_of, IsSeatOf, IsSameBoard, IsOwner};
 ghost use Rattle.board_share.specs.Tells.{Called, HasJoined};
+ghost use Rattle.board_share.specs.Unchanged.{UnlessGiven, UnlessTaken};
 ghost use Rattle.board_share.specs.Views.{caller_of, content, first_view, cut_left, cut_right, longer, without};
 
 use crate::plays::Cut;
@@ -90,6 +91,7 @@ impl SharedBoard {
         ensures call { Called
             (λ b. (result ≡ claim_of (claim_answer b)) × LeavesTask b (claim_answer b) into.old into.new)
             (λ b. after_claim b (view_of seat.old).caller) (view_of seat.old) (view_of seat.new) }
+        ensures unchanged { UnlessGiven result (result ≡ claim_of (claim_answer (content (view_of seat.new).setup (view_of seat.new).seen))) }
         ensures legal { IsLegalHistory (view_of seat.new).setup (view_of seat.new).seen }
         ensures room { IsTaskFor (view_of seat.new).setup.market.periods into.new }
     {
@@ -108,6 +110,7 @@ impl SharedBoard {
             (λ b. result ≡ posted_of (post_answer b (view_of seat.old).caller task.now.proposal task.now.unit (prices_of task.now.prices) (task_unit task.now) (answer_of answer.now)))
             (λ b. after_post b (view_of seat.old).caller task.now.proposal task.now.unit (prices_of task.now.prices) (task_unit task.now) (answer_of answer.now))
             (view_of seat.old) (view_of seat.new) }
+        ensures unchanged { UnlessTaken result (result ≡ posted_of (post_answer (content (view_of seat.new).setup (view_of seat.new).seen) (view_of seat.old).caller task.now.proposal task.now.unit (prices_of task.now.prices) (task_unit task.now) (answer_of answer.now))) }
         ensures legal { IsLegalHistory (view_of seat.new).setup (view_of seat.new).seen }
     {
         self.post_at(rt, &mut seat.place, seat.caller, task, answer)
