@@ -1,0 +1,175 @@
+//! One call of a seat, in its steps.
+ghost use Rattle.std.specs.Prelude.{◌≡◌, ◌%◌, ◌^◌, ◌<◌, [], ◌∷◌, ℕ, length};
+ghost use Rattle.board_history.specs.Board.{Content, IsLegalHistory};
+ghost use Rattle.board_history.specs.Calls.{claim_answer, after_claim, post_answer, after_post, after_halt};
+ghost use Rattle.uc_model.specs.Earnings.{earnings};
+ghost use Rattle.uc_model.specs.PlainCases.{task_unit};
+ghost use Rattle.uc_model.specs.PlainUnits.{prices_of, schedule_of};
+ghost use Rattle.uc_model.specs.Runs.{Fits};
+ghost use Rattle.uc_model.specs.TaskRoom.{IsTaskFor};
+ghost use Rattle.board_core.specs.Replies.{claim_of, posted_of};
+ghost use Rattle.board_core.specs.Stored.{answer_of};
+ghost use Rattle.board_core.specs.Tasks.{LeavesTask};
+ghost use Rattle.board_share.specs.Rule.{Joined};
+ghost use Rattle.board_share.specs.Tells.{HasTaken, Follows, hand_history, Called};
+ghost use Rattle.board_share.specs.Views.{waits, turn, idle, at_stage, glued};
+
+use crate::plays::{Draw, Glue, Grow, Look, Pass, Told};
+use crate::table::{Place, Top};
+use board_core::{Claim, Posted};
+use std::sync::Wait;
+use std::thread;
+use uc_model::cases::Task;
+use uc_model::units::Answered;
+
+const LENGTH: usize = 0;
+
+const NEXT: usize = 1;
+
+const SERVING: usize = 2;
+
+/// A board for as many callers as it was made for, each with a seat of its own.
+#[derive(Drop)]
+pub struct SharedBoard {
+    pub(crate) table: Top,
+    pub(crate) callers: u32,
+    ghost sized: { (table.shared.table_id.words ≡ 3) × (table.shared.table_id.slots ≡ 1) },
+}
+
+impl SharedBoard {
+    fn draw(&self, place: &mut Place) -> u64
+        requires own { place.old.table_id ≡ self.now.table.shared.table_id }
+        requires ready { place.old.me.0.stage ≡ idle }
+        ensures same { (place.new.table_id ≡ place.old.table_id) × (place.new.id ≡ place.old.id) × (place.new.me.1 ≡ place.old.me.1) }
+        ensures drawn { (t : ℕ) × (result ≡ t % 2 ^ 64) × (place.new.me.0 ≡ at_stage place.old.me.0 (waits t)) }
+    {
+        self.table.shared.fetch_add::<Draw>(place, NEXT, 1)
+    }
+
+    fn take_turn<R: Wait>(&self, rt: &R, place: &mut Place, ticket: u64)
+        requires own { place.old.table_id ≡ self.now.table.shared.table_id }
+        requires ready { (place.old.me.1 ≡ []) × ((t : ℕ) × (place.old.me.0.stage ≡ waits t) × (ticket ≡ t % 2 ^ 64)) }
+        ensures same { (place.new.table_id ≡ place.old.table_id) × (place.new.id ≡ place.old.id) }
+        ensures taken { (b : Content) × HasTaken place.old.me place.new.me b }
+    {
+        for _ in rt.forever() {
+            if self.table.shared.load::<Look>(place, SERVING) == ticket {
+                return;
+            }
+            thread::yield_now();
+        }
+        unreachable!()
+    }
+
+    // Gives the board back, where `before` was the length of its history and `after` is what it is now.
+    fn finish(&self, place: &mut Place, before: usize, after: usize)
+        requires own { place.old.table_id ≡ self.now.table.shared.table_id }
+        requires turn { (t : ℕ) × (place.old.me.0.stage ≡ turn t) }
+        requires hand { (b : Content) × (place.old.me.1 ≡ (0, b) ∷ []) × Follows place.old.me.0.caller place.old.me.0.seen b.events × (after ≡ length b.events) × (b.setup ≡ place.old.me.0.setup) }
+        requires before { before ≡ length place.old.me.0.seen }
+        ensures same { (place.new.table_id ≡ place.old.table_id) × (place.new.id ≡ place.old.id) }
+        ensures given { place.new.me ≡ (record place.old.me.0 { seen = hand_history place.old.me.1; stage = idle }, []) }
+    {
+        self.note(place, before, after);
+        self.table.shared.fetch_add::<Pass>(place, SERVING, 1);
+    }
+
+    // Sets the length where an event was made.
+    fn note(&self, place: &mut Place, before: usize, after: usize)
+        requires own { place.old.table_id ≡ self.now.table.shared.table_id }
+        requires turn { (t : ℕ) × (place.old.me.0.stage ≡ turn t) }
+        requires hand { (b : Content) × (place.old.me.1 ≡ (0, b) ∷ []) × Follows place.old.me.0.caller place.old.me.0.seen b.events × (after ≡ length b.events) }
+        requires before { before ≡ length place.old.me.0.seen }
+        ensures same { (place.new.table_id ≡ place.old.table_id) × (place.new.id ≡ place.old.id) }
+        ensures noted { place.new.me ≡ (record place.old.me.0 { seen = hand_history place.old.me.1 }, place.old.me.1) }
+    {
+        if after != before {
+            self.table.shared.store::<Grow>(place, LENGTH, after as u64);
+        }
+    }
+
+    pub(crate) fn claim_at<R: Wait>(
+        &self,
+        rt: &R,
+        place: &mut Place,
+        caller: u32,
+        into: &mut Task,
+    ) -> Claim
+        requires own { place.old.table_id ≡ self.now.table.shared.table_id }
+        requires ready { (place.old.me.0.stage ≡ idle) × (place.old.me.1 ≡ []) × (place.old.me.0.caller ≡ caller) }
+        requires caller { caller < place.old.me.0.setup.callers }
+        requires room { IsTaskFor place.old.me.0.setup.market.periods into.old }
+        ensures same { (place.new.table_id ≡ place.old.table_id) × (place.new.id ≡ place.old.id) × (place.new.me.1 ≡ []) }
+        ensures called { Called (λ b. (result ≡ claim_of (claim_answer b)) × LeavesTask b (claim_answer b) into.old into.new) (λ b. after_claim b caller) place.old.me.0 place.new.me.0 }
+        ensures room { IsTaskFor place.old.me.0.setup.market.periods into.new }
+        ensures legal { IsLegalHistory place.new.me.0.setup place.new.me.0.seen }
+    {
+        let ticket = self.draw(place);
+        self.take_turn(rt, place, ticket);
+        let board = place.slot_mut(&self.table.shared, 0);
+        let before = board.history().len();
+        let answer = board.claim(caller, into);
+        let after = board.history().len();
+        board.is_legal();
+        self.finish(place, before, after);
+        answer
+    }
+
+    pub(crate) fn post_at<R: Wait>(
+        &self,
+        rt: &R,
+        place: &mut Place,
+        caller: u32,
+        task: &Task,
+        answer: &Answered,
+    ) -> Posted
+        requires own { place.old.table_id ≡ self.now.table.shared.table_id }
+        requires ready { (place.old.me.0.stage ≡ idle) × (place.old.me.1 ≡ []) × (place.old.me.0.caller ≡ caller) }
+        requires caller { caller < place.old.me.0.setup.callers }
+        requires fit { Fits (task_unit task.now) (prices_of task.now.prices) (schedule_of answer.now.response) }
+        requires earned { earnings (task_unit task.now) (prices_of task.now.prices) (schedule_of answer.now.response) ≡ answer.now.earned }
+        ensures same { (place.new.table_id ≡ place.old.table_id) × (place.new.id ≡ place.old.id) × (place.new.me.1 ≡ []) }
+        ensures called { Called (λ b. result ≡ posted_of (post_answer b caller task.now.proposal task.now.unit (prices_of task.now.prices) (task_unit task.now) (answer_of answer.now))) (λ b. after_post b caller task.now.proposal task.now.unit (prices_of task.now.prices) (task_unit task.now) (answer_of answer.now)) place.old.me.0 place.new.me.0 }
+        ensures legal { IsLegalHistory place.new.me.0.setup place.new.me.0.seen }
+    {
+        let ticket = self.draw(place);
+        self.take_turn(rt, place, ticket);
+        let board = place.slot_mut(&self.table.shared, 0);
+        let before = board.history().len();
+        let posted = board.post(caller, task, answer);
+        let after = board.history().len();
+        board.is_legal();
+        self.finish(place, before, after);
+        posted
+    }
+
+    pub(crate) fn halt_at<R: Wait>(&self, rt: &R, place: &mut Place, caller: u32)
+        requires own { place.old.table_id ≡ self.now.table.shared.table_id }
+        requires ready { (place.old.me.0.stage ≡ idle) × (place.old.me.1 ≡ []) × (place.old.me.0.caller ≡ caller) }
+        requires caller { caller < place.old.me.0.setup.callers }
+        ensures same { (place.new.table_id ≡ place.old.table_id) × (place.new.id ≡ place.old.id) × (place.new.me.1 ≡ []) }
+        ensures called { Called (λ b. Unit {0}) (λ b. after_halt b caller) place.old.me.0 place.new.me.0 }
+        ensures legal { IsLegalHistory place.new.me.0.setup place.new.me.0.seen }
+    {
+        let ticket = self.draw(place);
+        self.take_turn(rt, place, ticket);
+        let board = place.slot_mut(&self.table.shared, 0);
+        let before = board.history().len();
+        board.halt(caller);
+        let after = board.history().len();
+        board.is_legal();
+        self.finish(place, before, after);
+    }
+
+    // The two read word 0 twice: a join tells nothing, and the second read tells what it came to.
+    pub(crate) fn join_at(&self, place: &mut Place, other: Place)
+        requires own { (place.old.table_id ≡ self.now.table.shared.table_id) × (other.table_id ≡ self.now.table.shared.table_id) × (place.old.id ≡ 0) }
+        requires ready { (place.old.me.0.stage ≡ idle) × (other.me.0.stage ≡ idle) × (other.me.1 ≡ []) }
+        ensures same { (place.new.table_id ≡ place.old.table_id) × (place.new.id ≡ place.old.id) × (place.new.me.1 ≡ place.old.me.1) }
+        ensures glued { place.new.me.0 ≡ at_stage (glued place.old.me.0 other.me.0) idle }
+        ensures joined { Joined (glued place.old.me.0 other.me.0) (glued place.old.me.0 other.me.0).stage }
+    {
+        self.table.shared.join_seat::<Glue>(place, other);
+        self.table.shared.load::<Told>(place, LENGTH);
+    }
+}
