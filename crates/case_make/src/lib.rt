@@ -12,6 +12,3 @@ mod schedules;
 mod units;
 
 pub use make::make_case;
-
-#[cfg(test)]
-mod tests;

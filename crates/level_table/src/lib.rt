@@ -9,9 +9,6 @@ ghost use Rattle.shape_law.specs.Curve.{curve_value, reserve_term, IsLimitedCurv
 ghost use Rattle.shape_law.specs.Effect.{IsWindow, IsLeastIn, Reaches};
 ghost use Rattle.shape_law.specs.Table.{value_of, IsConvexList, IsPlace, IsAmount, HasNone};
 
-#[cfg(test)]
-mod tests;
-
 use cost_curve::curves::curve_at;
 use shape_law::{Cells, Heap, Shape};
 use std::alloc::{AllocError, Global};

@@ -51,7 +51,8 @@ IsStepOf points step = length step.curve.blocks.items ≤ 2 * (points - 1)
 abbrev pub calls_of : List Step → List Call
 calls_of [] = []
 calls_of (s ∷ steps) =
-    AddCurve s.curve s.shift ∷ AddReserve s.mu s.cap s.room ∷ Window s.up s.down s.lo s.hi ∷ calls_of steps
+    AddCurve s.curve s.shift ∷ AddReserve s.mu s.cap s.room ∷ Window s.up s.down s.lo s.hi
+    ∷ calls_of steps
 
 module _ {H S : Type 0} (cells : S → ℕ) where
   -- what a call with a charge does to the count of cells: no more than the charge
@@ -60,9 +61,11 @@ module _ {H S : Type 0} (cells : S → ℕ) where
 
   -- and in a home that counts it takes them from those that the home can give
   abbrev pub IsBalanced : Bool → (H → ℕ) → ℕ → H → S → H → S → Type 0
-  IsBalanced counts sure charge h s h' s' = Balance counts charge (sure h) (cells s) (sure h') (cells s')
+  IsBalanced counts sure charge h s h' s' =
+      Balance counts charge (sure h) (cells s) (sure h') (cells s')
 
-module _ {H S : Type 0} (function : H → S → Table) (charged : ℕ → H → S → H → S → Type 0) (cells : S → ℕ) where
+module _ {H S : Type 0} (function : H → S → Table) (charged : ℕ → H → S → H → S → Type 0)
+    (cells : S → ℕ) where
   -- a call was made on a shape in its home, with its effect and its charge
   pub record IsMade (call : Call) (h : H) (s : S) (h' : H) (s' : S) : Type 0 where
     pub effect : IsEffect call (function h s) (function h' s')
@@ -71,13 +74,17 @@ module _ {H S : Type 0} (function : H → S → Table) (charged : ℕ → H → 
   -- one call after another
   abbrev pub AreMade : List Call → H → S → H → S → Type 0
   AreMade [] h s h' s' = (h' ≡ h) × (s' ≡ s)
-  AreMade (call ∷ calls) h s h' s' = (home : H) × (shape : S) × IsMade call h s home shape × AreMade calls home shape h' s'
+  AreMade (call ∷ calls) h s h' s' =
+      (home : H) × (shape : S) × IsMade call h s home shape × AreMade calls home shape h' s'
 
   -- calls on a shape take at most their charges
   abbrev pub CellsAreCharged : Type 0
-  CellsAreCharged = (calls : List Call) (h h' : H) (s s' : S) → AreMade calls h s h' s' → cells s' ≤ cells s + charges_of calls
+  CellsAreCharged =
+      (calls : List Call) (h h' : H) (s s' : S)
+      → AreMade calls h s h' s' → cells s' ≤ cells s + charges_of calls
 
-  -- after so many steps, a shape that began as a point has at most 1 + steps * (2 * points + 3) cells
+  -- after so many steps, a shape that began as a point has at most 1 + steps * (2 * points + 3)
+  -- cells
   abbrev pub CellsAreBounded : Type 0
   CellsAreBounded =
       (points : ℕ) (steps : List Step) (place value : ℤ) (h h' : H) (s s' : S)

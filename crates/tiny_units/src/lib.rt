@@ -12,6 +12,4 @@ pub mod order;
 pub mod parts;
 pub mod small;
 pub mod state;
-#[cfg(test)]
-mod tests;
 pub mod trying;

@@ -1,5 +1,5 @@
-//! Two units over one period with a demand of 150 kW: A gives up to 100 kW at 10 for each, and B gives exactly 100 kW for
-//! 3,000. The numbers expected are worked by hand.
+//! Two units over one period with a demand of 150 kW: A gives up to 100 kW at 10 for each, and B
+//! gives exactly 100 kW for 3,000. The numbers expected are worked by hand.
 ghost use Rattle.std.specs.Prelude.{◌≡◌, ◌≤◌, ◌<◌, IfOk};
 ghost use Rattle.uc_model.specs.TaskRoom.{IsTaskFor};
 

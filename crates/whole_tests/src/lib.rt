@@ -5,6 +5,8 @@
 #[cfg(test)]
 mod boards;
 #[cfg(test)]
+mod generated;
+#[cfg(test)]
 mod responses;
 #[cfg(test)]
 mod shapes;
@@ -14,3 +16,5 @@ mod spells;
 mod steps;
 #[cfg(test)]
 mod units;
+#[cfg(test)]
+mod values;

@@ -1,6 +1,6 @@
-//! Worked units, and random tiny ones beside the least best of all their schedules, over both representations of convex
-//! functions.
-ghost use Rattle.std.specs.Prelude.{◌≡◌, ◌<◌, ◌≤◌, length};
+//! Worked units, and random tiny ones beside the least best of all their schedules, over both
+//! representations of convex functions.
+ghost use Rattle.std.specs.Prelude.{◌<◌, ◌≤◌};
 
 use crate::units::{BARRED, FALLING, KINKED, OFF};
 use level_table::Levels;
@@ -8,93 +8,278 @@ use point_list::breaks::Breaks;
 use rand_core::utils::NextWord;
 use rand_pcg::Pcg32;
 use shape_law::{Heap, Shape};
-use std::alloc::{AllocError, Global};
+use std::alloc::Global;
 use std::process::Abort;
 use std::test::Fail;
+use tiny_units::earnings::earnings_of;
+use tiny_units::feasible::is_feasible;
 use tiny_units::parts::{small_prices, unit};
 use tiny_units::small::SmallUnit;
 use tiny_units::trying::least_by_trying;
 use uc_model::units::{Answered, Mark};
 use unit_program::best_response;
 
-// A best response of a small unit.
+// What a response does in each period, and what it earns.
+#[derive(Clone, Copy)]
+struct Figures<'a> {
+    on: &'a [bool],
+    power: &'a [u32],
+    reserve: &'a [u32],
+    earned: i64,
+}
+
+fn figures_of(answer: &Answered) -> Figures<'_> {
+    Figures {
+        on: answer.response.on.as_slice(),
+        power: answer.response.power.as_slice(),
+        reserve: answer.response.reserve.as_slice(),
+        earned: answer.earned,
+    }
+}
+
+// The answer is this one, or there is none.
+fn assert_answer(rt: &impl Abort, answer: &Option<Answered>, want: Option<Figures>) {
+    assert_eq!(rt; answer.is_some(), want.is_some());
+    if let Some(answered) = answer {
+        if let Some(want) = want {
+            let figures = figures_of(answered);
+            assert_eq!(rt; figures.on, want.on);
+            assert_eq!(rt; figures.power, want.power);
+            assert_eq!(rt; figures.reserve, want.reserve);
+            assert_eq!(rt; figures.earned, want.earned);
+        }
+    }
+}
+
+// A small unit at prices over some periods.
+#[derive(Clone, Copy)]
+struct Row<'a> {
+    unit: &'a SmallUnit,
+    window: &'a [Mark],
+    energy: &'a [i16],
+    reserve: &'a [u16],
+}
+
+// Its least best response.
 fn answer_of<S: Shape>(
     alloc: Global,
     home: &mut S::Home,
-    numbers: &SmallUnit,
-    window: &[Mark],
-    energy: &[i16],
-    reserve: &[u16],
-) -> Result<Option<Answered>, AllocError>
-    requires some { 1 ≤ length energy.now }
-    requires limit { length energy.now ≤ 168 }
-    requires window { length window.now ≡ length energy.now }
-    requires reserve { length reserve.now ≡ length energy.now }
-{
-    let unit = unit(alloc, numbers, window)?;
-    let prices = small_prices(alloc, energy, reserve)?;
-    best_response::<S>(alloc, home, &unit, &prices)
-}
-
-fn earned_in(answer: &Option<Answered>) -> Option<i64> {
-    match answer {
-        Some(answered) => Some(answered.earned),
-        None => None,
+    row: Row,
+) -> Result<Option<Answered>, Fail> {
+    let periods = row.energy.len();
+    if periods == 0 || periods > 168 {
+        return Err(Fail::new("a row over no periods"));
     }
-}
-
-fn assert_response(
-    rt: &impl Abort,
-    answer: &Option<Answered>,
-    on: &[bool],
-    power: &[u32],
-    reserve: &[u32],
-) {
-    if let Some(answered) = answer {
-        assert_eq!(rt; answered.response.on.as_slice(), on);
-        assert_eq!(rt; answered.response.power.as_slice(), power);
-        assert_eq!(rt; answered.response.reserve.as_slice(), reserve);
+    if row.window.len() != periods || row.reserve.len() != periods {
+        return Err(Fail::new("a row of several lengths"));
     }
+    let unit = unit(alloc, row.unit, row.window)?;
+    let prices = small_prices(alloc, row.energy, row.reserve)?;
+    Ok(best_response::<S>(alloc, home, &unit, &prices)?)
 }
 
-// As much is earned, by the same schedule.
-fn assert_same(rt: &impl Abort, answer: &Option<Answered>, wanted: &Option<Answered>) {
-    assert_eq!(rt; earned_in(answer), earned_in(wanted));
-    if let Some(wanted) = wanted {
-        let least = &wanted.response;
-        assert_response(
-            rt,
-            answer,
-            least.on.as_slice(),
-            least.power.as_slice(),
-            least.reserve.as_slice(),
-        );
-    }
-}
-
-fn worked_units<S: Shape>(rt: &impl Abort, alloc: Global, home: &mut S::Home) -> Result<(), Fail> {
-    let free = [Mark::Free; 3];
-    let falling = answer_of::<S>(alloc, home, &FALLING, &free[..2], &[100, -100], &[0, 0])?;
-    assert_eq!(rt; earned_in(&falling), Some(2000));
-    assert_response(rt, &falling, &[true, true], &[30, 10], &[0, 0]);
-    let alone = answer_of::<S>(alloc, home, &OFF, &free, &[-1000, 100, -1000], &[0, 1, 0])?;
-    assert_eq!(rt; earned_in(&alone), Some(4010));
-    assert_response(rt, &alone, &[false, true, false], &[0, 40, 0], &[0, 10, 0]);
-    let kinked = answer_of::<S>(alloc, home, &KINKED, &free[..2], &[1, 0], &[10, 10])?;
-    assert_eq!(rt; earned_in(&kinked), Some(1240));
-    assert_response(rt, &kinked, &[true, true], &[40, 0], &[20, 100]);
-    let barred = answer_of::<S>(alloc, home, &BARRED, &free[..1], &[30], &[0])?;
-    assert_eq!(rt; earned_in(&barred), None);
-    let kept_off = answer_of::<S>(alloc, home, &KINKED, &[Mark::MustOff], &[30], &[0])?;
-    assert_eq!(rt; earned_in(&kept_off), None);
+// The least best response over both shapes is this one.
+fn expect(rt: &impl Abort, alloc: Global, row: Row, want: Option<Figures>) -> Result<(), Fail> {
+    let mut heap = Heap { alloc };
+    assert_answer(rt, &answer_of::<Levels>(alloc, &mut heap, row)?, want);
+    assert_answer(rt, &answer_of::<Breaks>(alloc, &mut heap, row)?, want);
     Ok(())
 }
 
+// And by trying all schedules; it is feasible and earns as much by itself too.
+fn expect_tried(rt: &impl Abort, alloc: Global, row: Row, want: Figures) -> Result<(), Fail> {
+    let periods = row.energy.len();
+    if periods == 0 || periods > 168 {
+        return Err(Fail::new("a row over no periods"));
+    }
+    if row.window.len() != periods || row.reserve.len() != periods {
+        return Err(Fail::new("a row of several lengths"));
+    }
+    let unit = unit(alloc, row.unit, row.window)?;
+    let prices = small_prices(alloc, row.energy, row.reserve)?;
+    let least = least_by_trying(alloc, &unit, &prices)?;
+    assert_answer(rt, &least, Some(want));
+    if let Some(answer) = least {
+        assert!(rt; is_feasible(&unit, &answer.response));
+        assert_eq!(rt;
+            earnings_of(&unit, &prices, &answer.response),
+            i128::from(want.earned)
+        );
+    }
+    expect(rt, alloc, row, Some(want))
+}
+
 #[test]
-fn worked_units_over_both_shapes(rt: HostRuntime) -> Result<(), Fail> {
-    let mut heap = Heap { alloc: rt.alloc() };
-    worked_units::<Levels>(&rt, rt.alloc(), &mut heap)?;
-    worked_units::<Breaks>(&rt, rt.alloc(), &mut heap)
+fn falls_before_a_stop(rt: HostRuntime) -> Result<(), Fail> {
+    let row = Row {
+        unit: &FALLING,
+        window: &[Mark::Free, Mark::Free],
+        energy: &[100, -100],
+        reserve: &[0, 0],
+    };
+    let want = Figures {
+        on: &[true, true],
+        power: &[30, 10],
+        reserve: &[0, 0],
+        earned: 2000,
+    };
+    expect(&rt, rt.alloc(), row, Some(want))
+}
+
+#[test]
+fn one_period_on(rt: HostRuntime) -> Result<(), Fail> {
+    let row = Row {
+        unit: &OFF,
+        window: &[Mark::Free, Mark::Free, Mark::Free],
+        energy: &[-1000, 100, -1000],
+        reserve: &[0, 1, 0],
+    };
+    let want = Figures {
+        on: &[false, true, false],
+        power: &[0, 40, 0],
+        reserve: &[0, 10, 0],
+        earned: 4010,
+    };
+    expect(&rt, rt.alloc(), row, Some(want))
+}
+
+#[test]
+fn power_makes_room_for_reserve(rt: HostRuntime) -> Result<(), Fail> {
+    let row = Row {
+        unit: &KINKED,
+        window: &[Mark::Free, Mark::Free],
+        energy: &[1, 0],
+        reserve: &[10, 10],
+    };
+    let want = Figures {
+        on: &[true, true],
+        power: &[40, 0],
+        reserve: &[20, 100],
+        earned: 1240,
+    };
+    expect(&rt, rt.alloc(), row, Some(want))
+}
+
+#[test]
+fn no_schedule(rt: HostRuntime) -> Result<(), Fail> {
+    for (unit, mark) in [(&BARRED, Mark::Free), (&KINKED, Mark::MustOff)] {
+        let row = Row {
+            unit,
+            window: &[mark],
+            energy: &[30],
+            reserve: &[0],
+        };
+        expect(&rt, rt.alloc(), row, None)?;
+    }
+    Ok(())
+}
+
+// ---- smaller units, also by trying
+
+// Off for a period, from 0 to 10 kilowatts at no cost, with no limit in its way.
+const FREE: SmallUnit = SmallUnit {
+    must_run: false,
+    min_power: 0,
+    range: 10,
+    ramp_up: 10,
+    ramp_down: 10,
+    start_limit: 10,
+    stop_limit: 10,
+    down0: 1,
+    ..OFF
+};
+
+// A stop in period 1 is barred by the output before it, and one in period 2 by the power of at
+// least 3 before it. Of the powers that earn as much the least ones are the answer.
+#[test]
+fn least_powers_of_a_tie(rt: HostRuntime) -> Result<(), Fail> {
+    let numbers = SmallUnit {
+        min_power: 1,
+        range: 9,
+        ramp_up: 2,
+        ramp_down: 2,
+        stop_limit: 1,
+        power0: 5,
+        on0: true,
+        up0: 1,
+        down0: 0,
+        ..FREE
+    };
+    let row = Row {
+        unit: &numbers,
+        window: &[Mark::Free, Mark::Free],
+        energy: &[100, -100],
+        reserve: &[0, 0],
+    };
+    let want = Figures {
+        on: &[true, true],
+        power: &[3, 1],
+        reserve: &[0, 0],
+        earned: 200,
+    };
+    expect_tried(&rt, rt.alloc(), row, want)
+}
+
+// In a period that is both first and last the stop limit bounds power with reserve, and the ramp
+// down the power.
+#[test]
+fn one_small_period_on(rt: HostRuntime) -> Result<(), Fail> {
+    let numbers = SmallUnit {
+        min_power: 1,
+        range: 5,
+        ramp_up: 4,
+        ramp_down: 3,
+        start_limit: 6,
+        stop_limit: 5,
+        down0: 5,
+        ..FREE
+    };
+    let row = Row {
+        unit: &numbers,
+        window: &[Mark::Free, Mark::Free, Mark::Free],
+        energy: &[-1000, 100, -1000],
+        reserve: &[0, 1, 0],
+    };
+    let want = Figures {
+        on: &[false, true, false],
+        power: &[0, 4, 0],
+        reserve: &[0, 1, 0],
+        earned: 401,
+    };
+    expect_tried(&rt, rt.alloc(), row, want)
+}
+
+// At 30 for a kilowatt a unit of 10 for a kilowatt gives all it can, and one of exactly 10
+// kilowatts for 300 earns nothing, and is off.
+#[test]
+fn units_at_a_price(rt: HostRuntime) -> Result<(), Fail> {
+    let cheap = SmallUnit {
+        greatest_cost: 100,
+        ..FREE
+    };
+    let block = SmallUnit {
+        min_power: 10,
+        range: 0,
+        least_cost: 300,
+        greatest_cost: 300,
+        ..FREE
+    };
+    for (unit, power, earned) in [(&cheap, 10, 200), (&block, 0, 0)] {
+        let row = Row {
+            unit,
+            window: &[Mark::Free],
+            energy: &[30],
+            reserve: &[0],
+        };
+        let want = Figures {
+            on: &[power > 0],
+            power: &[power],
+            reserve: &[0],
+            earned,
+        };
+        expect_tried(&rt, rt.alloc(), row, want)?;
+    }
+    Ok(())
 }
 
 // ---- random units
@@ -149,7 +334,8 @@ fn random_mark(words: &mut Pcg32) -> Mark {
     }
 }
 
-// A random unit of at most so many kilowatts over so many periods, at random prices: its least best response.
+// A random unit of at most so many kilowatts over so many periods, at random prices: its least best
+// response.
 fn compare(
     rt: &impl Abort,
     alloc: Global,
@@ -169,14 +355,21 @@ fn compare(
         energy[place] = i16::from(below(words, 14)) - 4;
         reserve[place] = u16::from(below(words, 3));
     }
-    let unit = unit(alloc, &random_unit(words, most), &window[..periods])?;
-    let prices = small_prices(alloc, &energy[..periods], &reserve[..periods])?;
+    let numbers = random_unit(words, most);
+    let row = Row {
+        unit: &numbers,
+        window: &window[..periods],
+        energy: &energy[..periods],
+        reserve: &reserve[..periods],
+    };
+    let unit = unit(alloc, row.unit, row.window)?;
+    let prices = small_prices(alloc, row.energy, row.reserve)?;
     let tried = least_by_trying(alloc, &unit, &prices)?;
-    let mut heap = Heap { alloc };
-    let by_levels = best_response::<Levels>(alloc, &mut heap, &unit, &prices)?;
-    assert_same(rt, &by_levels, &tried);
-    let by_breaks = best_response::<Breaks>(alloc, &mut heap, &unit, &prices)?;
-    assert_same(rt, &by_breaks, &tried);
+    let want = match &tried {
+        Some(answered) => Some(figures_of(answered)),
+        None => None,
+    };
+    expect(rt, alloc, row, want)?;
     Ok(tried.is_some())
 }
 

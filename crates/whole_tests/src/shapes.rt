@@ -1,5 +1,5 @@
-//! The worked rows on each representation of convex functions, random steps beside the one that keeps every value, the
-//! cells of 48 steps, and two shapes in one pool.
+//! The worked rows on each representation of convex functions, random steps beside the one that
+//! keeps every value, the cells of 48 steps, and two shapes in one pool.
 ghost use Rattle.std.specs.Prelude.{◌<◌, length, IfOk};
 ghost use Rattle.whole_tests.specs.Small.{IsNear};
 
@@ -107,7 +107,6 @@ const BLOCKS: [Block; 6] = [
     },
 ];
 
-
 /// After 48 steps of a curve, a kink and a window each.
 fn after_48_steps<S: Shape>(home: &mut S::Home, curve: &Curve) -> Result<S, Fail>
     ensures { IfOk result (λ s. S.is_in home.new s) }
@@ -148,8 +147,7 @@ fn byte(random: &mut Pcg32) -> u8 {
 }
 
 /// A random number from -128 to 127.
-fn signed(random: &mut Pcg32) -> i64
-{
+fn signed(random: &mut Pcg32) -> i64 {
     i64::from(byte(random)) - 128
 }
 
@@ -191,7 +189,12 @@ fn agree<A: Shape, B: Shape<Home = A::Home>>(rt: &impl Abort, a: &A, b: &B, home
 }
 
 /// Random steps on breakpoints and on the shape that keeps every value.
-fn compare(rt: &impl Abort, home: &mut Heap, random: &mut Pcg32, curve: &Curve) -> Result<(), Fail> {
+fn compare(
+    rt: &impl Abort,
+    home: &mut Heap,
+    random: &mut Pcg32,
+    curve: &Curve,
+) -> Result<(), Fail> {
     let mut breaks = Breaks::point(home, 0, 9)?;
     let mut levels = Levels::point(home, 0, 9)?;
     for _ in 0..12u32 {

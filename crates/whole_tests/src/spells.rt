@@ -1,6 +1,6 @@
 //! Worked spells, over both representations of convex functions.
-ghost use Rattle.std.specs.Prelude.{◌≤◌, ◌≡◌, length, replicate, IfOk};
-ghost use Rattle.spell_run.specs.Entries.{IsSpellOf};
+ghost use Rattle.std.specs.Prelude.{IsTrue, replicate};
+ghost use Rattle.spell_run.specs.Entries.{IsSpellOf, IsSpellStart};
 ghost use Rattle.tiny_units.specs.Small.{small_unit_of};
 ghost use Rattle.uc_model.specs.declared.units.Mark.TheVariants.{Free};
 
@@ -10,41 +10,85 @@ use level_table::Levels;
 use point_list::breaks::Breaks;
 use shape_law::{Heap, Shape};
 use spell_run::{Spell, SpellCosts, spell_best, spell_costs};
-use std::alloc::{AllocError, Global};
+use std::alloc::Global;
 use std::process::Abort;
 use std::test::Fail;
 use tiny_units::parts::{small_prices, unit};
 use tiny_units::small::SmallUnit;
 use uc_model::units::{Answered, Mark, Marks};
 
-// What the two calls answer.
-#[derive(Drop)]
-struct Worked {
-    costs: SpellCosts,
-    best: Option<i64>,
-    answer: Answered,
+// A spell of a small unit at prices over some periods.
+#[derive(Clone, Copy)]
+struct Row<'a> {
+    unit: &'a SmallUnit,
+    spell: Spell,
+    energy: &'a [i16],
+    reserve: &'a [u16],
 }
 
-// The costs of all spells with that first period, and a dispatch of the one up to `last`.
-fn answer_spell<S: Shape>(
+// A dispatch of least cost.
+#[derive(Clone, Copy)]
+struct Figures<'a> {
+    cost: i64,
+    power: &'a [u32],
+    reserve: &'a [u32],
+}
+
+fn is_start(numbers: &SmallUnit, periods: usize, spell: Spell) -> bool
+    ensures { IsTrue result → IsSpellStart (small_unit_of numbers.now (replicate periods Free)) periods
+        spell.first spell.started }
+{
+    if spell.first == 0 || spell.first as usize > periods {
+        return false;
+    }
+    if spell.started {
+        return spell.first > 1 || !numbers.on0;
+    }
+    spell.first == 1 && numbers.on0
+}
+
+fn is_spell(numbers: &SmallUnit, periods: usize, spell: Spell) -> bool
+    ensures { IsTrue result → IsSpellOf (small_unit_of numbers.now (replicate periods Free)) periods spell }
+{
+    if !is_start(numbers, periods, spell) {
+        return false;
+    }
+    if spell.first > spell.last || spell.last as usize > periods {
+        return false;
+    }
+    spell.stops == ((spell.last as usize) < periods)
+}
+
+fn assert_answer(rt: &impl Abort, best: Option<i64>, answer: &Answered, want: Option<Figures>) {
+    assert_eq!(rt; best.is_some(), want.is_some());
+    if let Some(want) = want {
+        assert_eq!(rt; best, Some(want.cost));
+        assert_eq!(rt; answer.response.power.as_slice(), want.power);
+        assert_eq!(rt; answer.response.reserve.as_slice(), want.reserve);
+    }
+}
+
+// The entry of the spell, and its first dispatch of least cost, are these.
+fn expect_on<S: Shape>(
+    rt: &impl Abort,
     alloc: Global,
     home: &mut S::Home,
-    numbers: &SmallUnit,
-    spell: &Spell,
-    energy: &[i16],
-    reserve: &[u16],
-) -> Result<Worked, AllocError>
-    requires some { 1 ≤ length energy.now }
-    requires limit { length energy.now ≤ 168 }
-    requires reserve { length reserve.now ≡ length energy.now }
-    requires spell { IsSpellOf (small_unit_of numbers.now (replicate (length energy.now) Free)) (length energy.now) spell.now }
-    ensures { IfOk result (λ worked. length worked.costs.entries.items ≡ length energy.now) }
-{
-    let window = Marks::filled(alloc, energy.len() as u32, Mark::Free)?;
-    let unit = unit(alloc, numbers, window.as_slice())?;
+    row: Row,
+    want: Option<Figures>,
+) -> Result<(), Fail> {
+    let periods = row.energy.len();
+    if periods == 0 || periods > 168 || row.reserve.len() != periods {
+        return Err(Fail::new("a row of several lengths"));
+    }
+    if !is_spell(row.unit, periods, row.spell) {
+        return Err(Fail::new("no spell of the unit"));
+    }
+    let window = Marks::filled(alloc, periods as u32, Mark::Free)?;
+    let unit = unit(alloc, row.unit, window.as_slice())?;
     let curve = curve_of(alloc, unit.points.as_slice())?;
-    let prices = small_prices(alloc, energy, reserve)?;
-    let mut costs = SpellCosts::make(alloc, energy.len() as u32)?;
+    let prices = small_prices(alloc, row.energy, row.reserve)?;
+    let mut costs = SpellCosts::make(alloc, periods as u32)?;
+    let spell = row.spell;
     spell_costs::<S>(
         home,
         &unit,
@@ -54,59 +98,74 @@ fn answer_spell<S: Shape>(
         spell.started,
         &mut costs,
     )?;
-    let mut answer = Answered::make(alloc, energy.len() as u32)?;
-    let best = spell_best::<S>(home, &unit, &curve, &prices, spell, &mut answer)?;
-    Ok(Worked {
-        costs,
-        best,
-        answer,
-    })
+    let entry = *costs.entries.get(spell.last as usize - 1);
+    let mut answer = Answered::make(alloc, periods as u32)?;
+    let best = spell_best::<S>(home, &unit, &curve, &prices, &spell, &mut answer)?;
+    assert_eq!(rt; entry, best);
+    assert_answer(rt, best, &answer, want);
+    Ok(())
 }
 
-// What both calls leave of the worked spells.
-fn worked_spells<S: Shape>(rt: &impl Abort, alloc: Global, home: &mut S::Home) -> Result<(), Fail> {
-    let middle = Spell {
-        first: 2,
-        last: 2,
-        started: true,
-        stops: true,
+fn expect(rt: &impl Abort, alloc: Global, row: Row, want: Option<Figures>) -> Result<(), Fail> {
+    let mut heap = Heap { alloc };
+    expect_on::<Levels>(rt, alloc, &mut heap, row, want)?;
+    expect_on::<Breaks>(rt, alloc, &mut heap, row, want)
+}
+
+// A start and a stop in one period.
+const MIDDLE: Spell = Spell {
+    first: 2,
+    last: 2,
+    started: true,
+    stops: true,
+};
+
+#[test]
+fn one_period(rt: HostRuntime) -> Result<(), Fail> {
+    let row = Row {
+        unit: &OFF,
+        spell: MIDDLE,
+        energy: &[-1000, 100, -1000],
+        reserve: &[0, 1, 0],
     };
-    let energy = [-1000, 100, -1000];
-    let reserve = [0, 1, 0];
-    let alone = answer_spell::<S>(alloc, home, &OFF, &middle, &energy, &reserve)?;
-    assert_eq!(rt; alone.best, Some(-4010));
-    assert_eq!(rt; *alone.costs.entries.get(0), None);
-    assert_eq!(rt; *alone.costs.entries.get(1), Some(-4010));
-    let response = &alone.answer.response;
-    assert_eq!(rt; response.on.as_slice(), [false, true, false].as_slice());
-    assert_eq!(rt; response.power.as_slice(), [0, 40, 0].as_slice());
-    assert_eq!(rt; response.reserve.as_slice(), [0, 10, 0].as_slice());
-    let high = answer_spell::<S>(alloc, home, &TOO_HIGH, &middle, &energy, &reserve)?;
-    assert_eq!(rt; high.best, None);
-    assert_eq!(rt; *high.costs.entries.get(1), None);
-    let whole = Spell {
+    let want = Figures {
+        cost: -4010,
+        power: &[0, 40, 0],
+        reserve: &[0, 10, 0],
+    };
+    expect(&rt, rt.alloc(), row, Some(want))
+}
+
+// Its least power is above the stop limit.
+#[test]
+fn no_dispatch(rt: HostRuntime) -> Result<(), Fail> {
+    let row = Row {
+        unit: &TOO_HIGH,
+        spell: MIDDLE,
+        energy: &[-1000, 100, -1000],
+        reserve: &[0, 1, 0],
+    };
+    expect(&rt, rt.alloc(), row, None)
+}
+
+#[test]
+fn power_makes_room_for_reserve(rt: HostRuntime) -> Result<(), Fail> {
+    let spell = Spell {
         first: 1,
         last: 2,
         started: false,
         stops: false,
     };
-    let on = answer_spell::<S>(alloc, home, &KINKED, &whole, &[1, 0], &[10, 10])?;
-    assert_eq!(rt; on.best, Some(-1240));
-    assert_eq!(rt; *on.costs.entries.get(1), Some(-1240));
-    let response = &on.answer.response;
-    assert_eq!(rt; response.power.as_slice(), [40, 0].as_slice());
-    assert_eq!(rt; response.reserve.as_slice(), [20, 100].as_slice());
-    Ok(())
-}
-
-#[test]
-fn spells_over_levels(rt: HostRuntime) -> Result<(), Fail> {
-    let mut heap = Heap { alloc: rt.alloc() };
-    worked_spells::<Levels>(&rt, rt.alloc(), &mut heap)
-}
-
-#[test]
-fn spells_over_breakpoints(rt: HostRuntime) -> Result<(), Fail> {
-    let mut heap = Heap { alloc: rt.alloc() };
-    worked_spells::<Breaks>(&rt, rt.alloc(), &mut heap)
+    let row = Row {
+        unit: &KINKED,
+        spell,
+        energy: &[1, 0],
+        reserve: &[10, 10],
+    };
+    let want = Figures {
+        cost: -1240,
+        power: &[40, 0],
+        reserve: &[20, 100],
+    };
+    expect(&rt, rt.alloc(), row, Some(want))
 }

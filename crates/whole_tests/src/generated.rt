@@ -1,8 +1,9 @@
-use crate::make_case;
+//! A generated case.
+use case_make::make_case;
 use std::test::Fail;
 
-// Worked out outside this program, from the words that the published PCG32 gives from state 7 on stream 54. T73 takes the
-// thermal units' last words, and R81 the last of all.
+// Worked out outside this program, from the words that the published PCG32 gives from state 7 on
+// stream 54. T73 takes the thermal units' last words, and R81 the last of all.
 #[test]
 fn a_generated_case(rt: HostRuntime) -> Result<(), Fail> {
     let (case, plan) = make_case(rt.alloc(), 7)?;
