@@ -28,10 +28,10 @@ pub centre_in_box : (m : Market) (π : PriceLists) (radius : ℤ) → length π.
 centre_in_box m π radius horizon prices wide = record {
   horizon = horizon;
   inside = λ j lt.
-  let within = price_limits m π j horizon prices lt in
-  let a = within.at_least in
-  let b = within.at_most in
-  record { at_least = omega (arith, ints, clamps, a, wide); at_most = omega (arith, ints, clamps, b, wide) };
+      let within = price_limits m π j horizon prices lt in
+      let a = within.at_least in
+      let b = within.at_most in
+      record { at_least = omega (arith, ints, clamps, a, wide); at_most = omega (arith, ints, clamps, b, wide) };
 }
 
 -- so the bound is at least the centre's value

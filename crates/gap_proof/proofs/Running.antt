@@ -18,8 +18,8 @@ pub added_more : (old now next : List ℤ) (g : ℕ → ℤ) (i : ℕ) (v : ℤ)
 added_more old now next g i v h lt is value = record {
   same_length = ap length is ∙ length-set now i v ∙ h.same_length;
   added = below_more (λ j. int_at next j ≡ int_at old j +ℤ g j) i
-  (λ j l. let ne : j ≢ i = omega (arith, l) in ap (λ (xs : List ℤ). int_at xs j) is ∙ get_or-set_other now i j v (pos 0) ne ∙ h.added j l)
-  (ap (λ (xs : List ℤ). int_at xs i) is ∙ get_or-set_same now i v (pos 0) lt ∙ value);
+      (λ j l. let ne : j ≢ i = omega (arith, l) in ap (λ (xs : List ℤ). int_at xs j) is ∙ get_or-set_other now i j v (pos 0) ne ∙ h.added j l)
+      (ap (λ (xs : List ℤ). int_at xs i) is ∙ get_or-set_same now i v (pos 0) lt ∙ value);
   waiting = λ j l. let ne : j ≢ i = omega (arith, l) in ap (λ (xs : List ℤ). int_at xs j) is ∙ get_or-set_other now i j v (pos 0) ne ∙ h.waiting j (omega (arith, l));
 }
 

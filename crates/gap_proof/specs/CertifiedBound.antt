@@ -48,11 +48,11 @@ high_end m centre radius j = int_min price_limit (price_at m centre j +ℤ radiu
 abbrev pub most_over : Market → PriceLists → ℤ → (ℕ → ℤ) → ℤ
 most_over m centre radius slopes =
     sum_below (2 * m.periods) (λ j. int_max
-      (slopes j *ℤ low_end m centre radius j) (slopes j *ℤ high_end m centre radius j))
+    (slopes j *ℤ low_end m centre radius j) (slopes j *ℤ high_end m centre radius j))
 
 -- the greatest height over the box of the mean of the rows' planes, rounded down
 unfoldable pub certified_bound : Market → List Proposal → List ℤ → PriceLists → ℤ → ℤ
 certified_bound m rows weights centre radius =
     floor_div (weighted (height_of m) weights rows
-      +ℤ most_over m centre radius (λ j. weighted (λ (r : Proposal). slope_at m r j) weights rows))
+    +ℤ most_over m centre radius (λ j. weighted (λ (r : Proposal). slope_at m r j) weights rows))
     (unsigned_abs (total weights))

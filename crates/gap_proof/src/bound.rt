@@ -23,8 +23,8 @@ pub fn row_at(rows: &[Row], place: usize) -> &Row
 /// weights, rounded down: no whole prices within the limits, each within `radius` of that of row
 /// `centre`, have a dual value above it, `laws::bound_holds`. Rows are numbered from 1; they are
 /// at most 10,000, over the periods of the case, with values of at most 10^24 and totals of at
-/// most 10^13 in magnitude, which all answered rows are, `laws::answered_rows_are_within`. There is one
-/// weight per row, from 0 to 1,000,000, and their sum is above 0. The radius is from 0 to
+/// most 10^13 in magnitude, which all answered rows are, `laws::answered_rows_are_within`. There
+/// is one weight per row, from 0 to 1,000,000, and their sum is above 0. The radius is from 0 to
 /// 20,000,000, in money for a kilowatt and period; the bound is in money. `work` has two numbers
 /// for each period, and is left with any numbers. Takes no memory.
 pub fn bound_of(
@@ -43,9 +43,8 @@ pub fn bound_of(
     requires to_last { centre ≤ length rows.now }
     requires radius { IsRadius radius }
     requires work { length work.old.items ≡ 2 * (market_of case.now).periods }
-    ensures bound {
-        result ≡ certified_bound (market_of case.now) (map proposal_of rows.now) weights.now.items
-          (prices_of_row (map proposal_of rows.now) centre) radius }
+    ensures bound { result ≡ certified_bound (market_of case.now) (map proposal_of rows.now) weights.now.items
+        (prices_of_row (map proposal_of rows.now) centre) radius }
     ensures work { length work.new.items ≡ length work.old.items }
     ensures spare { work.new.spare ≡ work.old.spare }
 {

@@ -104,10 +104,13 @@ pub fn add_slopes(case: &Case, row: &Row, weight: i64, slopes: &mut Amounts)
     ensures length { length slopes.new.items ≡ length slopes.old.items }
     ensures added { (j : ℕ) → j < 2 * (market_of case.now).periods →
         int_at slopes.new.items j ≡ int_at slopes.old.items j
-          +ℤ (weight *ℤ slope_at (market_of case.now) (proposal_of row.now) j) }
+        +ℤ (weight *ℤ slope_at (market_of case.now) (proposal_of row.now) j) }
     ensures spare { slopes.new.spare ≡ slopes.old.spare }
 {
     for place in 0..2 * case.periods as usize {
-        slopes.set(place, sum_with(*slopes.get(place), weight, slope(case, row, place)));
+        slopes.set(
+            place,
+            sum_with(*slopes.get(place), weight, slope(case, row, place)),
+        );
     }
 }

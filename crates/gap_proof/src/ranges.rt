@@ -25,9 +25,8 @@ pub struct Certified {
 fn sums_of(case: &Case, row: &Row, slopes: &mut Amounts) -> Sums
     requires row { IsRowWithin (market_of case.now) (proposal_of row.now) }
     requires length { length slopes.old.items ≡ 2 * (market_of case.now).periods }
-    ensures sums {
-        AreSums (market_of case.now) (pos 1 ∷ []) (proposal_of row.now ∷ [])
-          result.height result.weight slopes.new.items }
+    ensures sums { AreSums (market_of case.now) (pos 1 ∷ []) (proposal_of row.now ∷ [])
+        result.height result.weight slopes.new.items }
     ensures spare { slopes.new.spare ≡ slopes.old.spare }
 {
     clear_slopes(slopes);
@@ -47,10 +46,9 @@ fn alone(case: &Case, rows: &[Row], number: u32, radius: i64, work: &mut Amounts
     requires work { length work.old.items ≡ 2 * (market_of case.now).periods }
     ensures first { result.first ≡ number }
     ensures last { result.last ≡ number }
-    ensures bound {
-        result.bound ≡ range_bound (market_of case.now) (map proposal_of rows.now)
-          (prices_of_row (map proposal_of rows.now) number) radius
-          (record { first = number; last = number }) }
+    ensures bound { result.bound ≡ range_bound (market_of case.now) (map proposal_of rows.now)
+        (prices_of_row (map proposal_of rows.now) number) radius
+        (record { first = number; last = number }) }
     ensures work { length work.new.items ≡ length work.old.items }
     ensures spare { work.new.spare ≡ work.old.spare }
 {
@@ -68,8 +66,7 @@ fn alone(case: &Case, rows: &[Row], number: u32, radius: i64, work: &mut Amounts
 fn better(best: Certified, first: u32, bound: i128) -> Certified
     ensures last { result.last ≡ best.last }
     ensures taken { bound ≤ℤ best.bound → (result.first ≡ first) × (result.bound ≡ bound) }
-    ensures kept {
-        best.bound <ℤ bound → (result.first ≡ best.first) × (result.bound ≡ best.bound) }
+    ensures kept { best.bound <ℤ bound → (result.first ≡ best.first) × (result.bound ≡ best.bound) }
 {
     if bound <= best.bound {
         return Certified {
@@ -99,15 +96,14 @@ fn trailing(
     ensures from_one { 1 ≤ result.first }
     ensures to_last { result.first ≤ length rows.now }
     ensures last { result.last ≡ length rows.now }
-    ensures bound {
-        result.bound ≡ range_bound (market_of case.now) (map proposal_of rows.now)
-          (prices_of centre.now) radius (record { first = result.first; last = length rows.now }) }
+    ensures bound { result.bound ≡ range_bound (market_of case.now) (map proposal_of rows.now)
+        (prices_of centre.now) radius (record { first = result.first; last = length rows.now }) }
     ensures least { (j : ℕ) → 1 ≤ j → j ≤ length rows.now →
         result.bound ≤ℤ range_bound (market_of case.now) (map proposal_of rows.now)
-          (prices_of centre.now) radius (record { first = j; last = length rows.now }) }
+        (prices_of centre.now) radius (record { first = j; last = length rows.now }) }
     ensures earlier { (j : ℕ) → 1 ≤ j → j < result.first →
         result.bound <ℤ range_bound (market_of case.now) (map proposal_of rows.now)
-          (prices_of centre.now) radius (record { first = j; last = length rows.now }) }
+        (prices_of centre.now) radius (record { first = j; last = length rows.now }) }
     ensures work { length work.new.items ≡ length work.old.items }
     ensures spare { work.new.spare ≡ work.old.spare }
 {
@@ -146,9 +142,8 @@ pub fn best_range(
     requires to_last { centre ≤ length rows.now }
     requires radius { IsRadius radius }
     requires work { length work.old.items ≡ 2 * (market_of case.now).periods }
-    ensures best {
-        IsFirstLeast (market_of case.now) (map proposal_of rows.now) centre radius
-          (record { first = result.first; last = result.last }) result.bound }
+    ensures best { IsFirstLeast (market_of case.now) (map proposal_of rows.now) centre radius
+        (record { first = result.first; last = result.last }) result.bound }
     ensures work { length work.new.items ≡ length work.old.items }
     ensures spare { work.new.spare ≡ work.old.spare }
 {

@@ -56,15 +56,14 @@ pub fn add_row(case: &Case, row: &Row, weight: i64, sums: Sums, slopes: &mut Amo
     requires weights { IsFrom (pos 0) (pos 10000000000) sums.weight }
     requires length { length slopes.old.items ≡ 2 * (market_of case.now).periods }
     requires slopes { All IsSlopeSum slopes.old.items }
-    ensures height {
-        result.height ≡ sums.height
-          +ℤ (weight *ℤ height_of (market_of case.now) (proposal_of row.now)) }
+    ensures height { result.height ≡ sums.height
+        +ℤ (weight *ℤ height_of (market_of case.now) (proposal_of row.now)) }
     ensures step { IsHeightStep (weight *ℤ height_of (market_of case.now) (proposal_of row.now)) }
     ensures weight { result.weight ≡ sums.weight +ℤ weight }
     ensures length { length slopes.new.items ≡ length slopes.old.items }
     ensures slopes { (j : ℕ) → j < 2 * (market_of case.now).periods →
         int_at slopes.new.items j ≡ int_at slopes.old.items j
-          +ℤ (weight *ℤ slope_at (market_of case.now) (proposal_of row.now) j) }
+        +ℤ (weight *ℤ slope_at (market_of case.now) (proposal_of row.now) j) }
     ensures spare { slopes.new.spare ≡ slopes.old.spare }
 {
     add_slopes(case, row, weight, slopes);
@@ -134,9 +133,8 @@ fn most(case: &Case, centre: &Prices, radius: i64, slopes: &Amounts) -> i128
     requires radius { IsRadius radius }
     requires length { length slopes.now.items ≡ 2 * (market_of case.now).periods }
     requires slopes { All IsSlopeSum slopes.now.items }
-    ensures value {
-        result ≡ most_over (market_of case.now) (prices_of centre.now) radius
-          (int_at slopes.now.items) }
+    ensures value { result ≡ most_over (market_of case.now) (prices_of centre.now) radius
+        (int_at slopes.now.items) }
     ensures bound { IsRiseSum result }
 {
     let mut total: i128 = 0;
@@ -164,11 +162,13 @@ pub fn bound_by(case: &Case, centre: &Prices, radius: i64, sums: Sums, slopes: &
     requires weights { IsFrom (pos 1) (pos 10000000000) sums.weight }
     requires length { length slopes.now.items ≡ 2 * (market_of case.now).periods }
     requires slopes { All IsSlopeSum slopes.now.items }
-    ensures {
-        result ≡ floor_div
-          (sums.height +ℤ most_over (market_of case.now) (prices_of centre.now) radius
-            (int_at slopes.now.items))
-          (unsigned_abs sums.weight) }
+    ensures { result ≡ floor_div
+        (sums.height +ℤ most_over (market_of case.now) (prices_of centre.now) radius
+        (int_at slopes.now.items))
+        (unsigned_abs sums.weight) }
 {
-    quotient(sums.height + most(case, centre, radius, slopes), sums.weight)
+    quotient(
+        sums.height + most(case, centre, radius, slopes),
+        sums.weight,
+    )
 }

@@ -87,7 +87,14 @@ fn a_row_alone(rt: HostRuntime) -> Result<(), Fail> {
     let mut work = Amounts::filled(rt.alloc(), 2, 7)?;
     let row = one_row(rt.alloc(), 30, 2_500, 100)?;
     let ten = best_of_one(&case, row, 10, &mut work);
-    assert_eq!(rt; ten, Certified { first: 1, last: 1, bound: 3_000 });
+    assert_eq!(rt;
+        ten,
+        Certified {
+            first: 1,
+            last: 1,
+            bound: 3_000
+        }
+    );
     let row = one_row(rt.alloc(), 30, 2_500, 100)?;
     let none = best_of_one(&case, row, 0, &mut work);
     assert_eq!(rt; none.bound, 2_500);
@@ -101,7 +108,14 @@ fn two_rows_are_better(rt: HostRuntime) -> Result<(), Fail> {
     let first = one_row(rt.alloc(), 30, 2_500, 100)?;
     let second = one_row(rt.alloc(), 50, 1_500, 200)?;
     let best = best_of_two(&case, first, second, 10, &mut work);
-    assert_eq!(rt; best, Certified { first: 1, last: 2, bound: 2_500 });
+    assert_eq!(rt;
+        best,
+        Certified {
+            first: 1,
+            last: 2,
+            bound: 2_500
+        }
+    );
     Ok(())
 }
 
@@ -130,9 +144,15 @@ fn weights_count(rt: HostRuntime) -> Result<(), Fail> {
     let mut work = Amounts::filled(rt.alloc(), 2, 7)?;
     let first = one_row(rt.alloc(), 30, 2_500, 100)?;
     let second = one_row(rt.alloc(), 50, 1_500, 200)?;
-    assert_eq!(rt; three_to_one(rt.alloc(), &case, first, second, &mut work)?, 2_750);
+    assert_eq!(rt;
+        three_to_one(rt.alloc(), &case, first, second, &mut work)?,
+        2_750
+    );
     let first = one_row(rt.alloc(), 30, -7, 150)?;
     let second = one_row(rt.alloc(), 50, -8, 150)?;
-    assert_eq!(rt; three_to_one(rt.alloc(), &case, first, second, &mut work)?, -8);
+    assert_eq!(rt;
+        three_to_one(rt.alloc(), &case, first, second, &mut work)?,
+        -8
+    );
     Ok(())
 }
