@@ -66,6 +66,7 @@ fn best_of_one(case: &Case, row: Row, radius: i64, work: &mut Amounts) -> Certif
     requires row { IsRowWithin (market_of case.now) (proposal_of row) }
     requires radius { IsRadius radius }
     requires work { length work.old.items ≡ 2 }
+    ensures { length work.new.items ≡ 2 }
 {
     best_range(case, &[row], 1, radius, work)
 }
@@ -77,6 +78,7 @@ fn best_of_two(case: &Case, first: Row, second: Row, radius: i64, work: &mut Amo
     requires second { IsRowWithin (market_of case.now) (proposal_of second) }
     requires radius { IsRadius radius }
     requires work { length work.old.items ≡ 2 }
+    ensures { length work.new.items ≡ 2 }
 {
     best_range(case, &[first, second], 1, radius, work)
 }
@@ -131,6 +133,7 @@ fn three_to_one(
     requires first { IsRowWithin (market_of case.now) (proposal_of first) }
     requires second { IsRowWithin (market_of case.now) (proposal_of second) }
     requires work { length work.old.items ≡ 2 }
+    ensures { length work.new.items ≡ 2 }
 {
     let mut weights = Numbers::make(alloc, 2)?;
     weights.push(3);
