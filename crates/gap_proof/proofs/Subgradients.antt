@@ -4,7 +4,7 @@ use Rattle.std.proofs.lemmas.Int.{ints}
 use Rattle.std.proofs.lemmas.Bool.Decides.{nat_tests}
 use Rattle.std.proofs.lemmas.List.FromFn.{get_or-map-range_with_len}
 use Rattle.std.proofs.Math.IntN.{*ℤ_comm}
-use Rattle.std.specs.List.{AllZip, zip, range_with_len}
+use Rattle.std.specs.List.{AllZip, zip}
 use Rattle.uc_model.specs.Data.{AnyUnit, Thermal, Flat, Bid, PriceLists, Schedule, Market, units}
 use Rattle.uc_model.specs.Earnings.{revenue, supply_in, cost_of, earnings, IsTop}
 use Rattle.uc_model.specs.PriceRule.{Proposal}
