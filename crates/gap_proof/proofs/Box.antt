@@ -1,5 +1,5 @@
 -- The centre stands in its box.
-use Rattle.std.proofs.Common.{◌≡◌, ℕ, suc, ◌-◌, ◌*◌, ◌<◌, ◌≤◌, Bool, true, false, inl, inr, nat_lt, if◌then◌else◌, ℤ, pos, neg_ℤ, ◌≤ℤ◌, List, length, sym, ap, subst, arith}
+use Rattle.std.proofs.Common.{◌≡◌, ℕ, ◌-◌, ◌*◌, ◌<◌, Bool, inl, inr, if◌then◌else◌, ℤ, pos, neg_ℤ, ◌≤ℤ◌, List, length, sym, subst, arith}
 use Rattle.std.proofs.lemmas.Int.{ints, clamps}
 use Rattle.std.proofs.lemmas.Bool.{cases_lt}
 use Rattle.std.specs.List.{All}
@@ -7,7 +7,7 @@ use Rattle.uc_model.specs.Data.{PriceLists, Market}
 use Rattle.uc_model.specs.Limits.{IsFrom, ArePrices, price_limit}
 use Rattle.uc_model.specs.PriceRule.{Proposal}
 use Rattle.uc_model.specs.Sums.{int_at}
-use Rattle.gap_proof.specs.CertifiedBound.{price_at, lowest_price, low_end, high_end, certified_bound}
+use Rattle.gap_proof.specs.CertifiedBound.{price_at, lowest_price, certified_bound}
 use Rattle.gap_proof.specs.Laws.{IsAnswered, AreWeights, IsInBox}
 use Rattle.gap_proof.proofs.Mean.{bound_above}
 use Rattle.gap_proof.proofs.Subgradients.{lt_true, lt_false}
@@ -28,10 +28,10 @@ pub centre_in_box : (m : Market) (π : PriceLists) (radius : ℤ) → length π.
 centre_in_box m π radius horizon prices wide = record {
   horizon = horizon;
   inside = λ j lt.
-  let within = price_limits m π j horizon prices lt in
-  let a = within.at_least in
-  let b = within.at_most in
-  record { at_least = omega (arith, ints, clamps, a, wide); at_most = omega (arith, ints, clamps, b, wide) };
+      let within = price_limits m π j horizon prices lt in
+      let a = within.at_least in
+      let b = within.at_most in
+      record { at_least = omega (arith, ints, clamps, a, wide); at_most = omega (arith, ints, clamps, b, wide) };
 }
 
 -- so the bound is at least the centre's value

@@ -1,5 +1,5 @@
 -- The first of the candidates with the least bound.
-use Rattle.std.proofs.Common.{◌≡◌, true, false, int_lt, ℕ, zero, suc, ◌+◌, ◌-◌, ◌<◌, ◌≤◌, Some, ℤ, pos, ◌≤ℤ◌, ◌<ℤ◌, List, ◌∷◌, map, length, refl, sym, ap, subst, ◌∙◌, arith}
+use Rattle.std.proofs.Common.{◌≡◌, true, false, int_lt, ℕ, zero, suc, ◌+◌, ◌<◌, ◌≤◌, Some, ℤ, ◌≤ℤ◌, ◌<ℤ◌, List, map, length, refl, sym, ap, subst, ◌∙◌, arith}
 use Rattle.std.proofs.lemmas.Int.{ints}
 use Rattle.std.proofs.lemmas.List.FromFn.{length-map-range_with_len, get_or-map-range_with_len}
 use Rattle.std.proofs.lemmas.Option.{get_or_from_slice_get, slice_get_within, slice_get-get_or}

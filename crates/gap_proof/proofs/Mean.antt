@@ -1,5 +1,5 @@
 -- A weighted mean of planes is nowhere below the dual, and its greatest height over a box bounds it there.
-use Rattle.std.proofs.Common.{◌≡◌, ℕ, zero, suc, ◌+◌, ◌*◌, ◌/◌, ◌<◌, ◌≤◌, ℤ, pos, negsuc, neg_ℤ, ◌+ℤ◌, ◌-ℤ◌, ◌*ℤ◌, ◌≤ℤ◌, ◌<ℤ◌, unsigned_abs, List, [], ◌∷◌, length, refl, sym, ap, ◌∙◌, subst, arith}
+use Rattle.std.proofs.Common.{◌≡◌, ℕ, zero, suc, ◌*◌, ◌/◌, ◌<◌, ◌≤◌, ℤ, pos, negsuc, neg_ℤ, ◌+ℤ◌, ◌-ℤ◌, ◌*ℤ◌, ◌≤ℤ◌, ◌<ℤ◌, unsigned_abs, List, [], ◌∷◌, length, refl, sym, ap, ◌∙◌, arith}
 use Rattle.std.proofs.lemmas.Int.{ints, clamps}
 use Rattle.std.proofs.lemmas.List.Elements.{All-head, All-tail}
 use Rattle.std.proofs.lemmas.Nat.{le-div}
@@ -10,7 +10,7 @@ use Rattle.std.specs.List.{All}
 use Rattle.uc_model.specs.Data.{PriceLists, Market}
 use Rattle.uc_model.specs.Limits.{IsFrom}
 use Rattle.uc_model.specs.PriceRule.{Proposal}
-use Rattle.uc_model.specs.Sums.{total, sum_below, floor_div, zip_with}
+use Rattle.uc_model.specs.Sums.{total, sum_below, floor_div}
 use Rattle.uc_model.specs.Systems.{IsDualValue}
 use Rattle.uc_model.proofs.IntLaws.{mul-add, mul-sub, mul-mono_of, sum_below-le, sum_below-same, sum_below-add, sum_below-zero}
 use Rattle.gap_proof.specs.CertifiedBound.{price_at, slope_at, height_of, weighted, low_end, high_end, most_over, certified_bound}

@@ -1,5 +1,5 @@
 -- The bound by a range of rows is the bound by those rows alone, each once.
-use Rattle.std.proofs.Common.{◌≡◌, ℕ, zero, suc, ◌+◌, ◌-◌, ◌*◌, ◌<◌, ◌≤◌, Bool, true, false, ◌&&◌, nat_le, if◌then◌else◌, Some, None, ℤ, pos, ◌+ℤ◌, ◌-ℤ◌, ◌*ℤ◌, ◌≤ℤ◌, List, [], ◌∷◌, map, drop, replicate, length, unsigned_abs, refl, sym, ap, subst, ◌∙◌, inl, inr, arith, length-drop}
+use Rattle.std.proofs.Common.{◌≡◌, ℕ, zero, suc, ◌+◌, ◌-◌, ◌*◌, ◌<◌, ◌≤◌, Bool, true, false, ◌&&◌, nat_le, if◌then◌else◌, Some, ℤ, pos, ◌+ℤ◌, ◌*ℤ◌, List, [], ◌∷◌, map, drop, replicate, length, unsigned_abs, refl, sym, ap, ◌∙◌, arith, length-drop}
 use Rattle.std.proofs.lemmas.Bool.Decides.{nat_tests}
 use Rattle.std.proofs.lemmas.Int.{ints}
 use Rattle.std.proofs.lemmas.List.FromFn.{length-map-range_with_len}
@@ -11,9 +11,9 @@ use Rattle.std.specs.List.{range_with_len}
 use Rattle.std.specs.Prelude.{slice_get}
 use Rattle.uc_model.specs.Data.{PriceLists, Market}
 use Rattle.uc_model.specs.PriceRule.{Proposal}
-use Rattle.uc_model.specs.Sums.{total, sum_below, floor_div}
+use Rattle.uc_model.specs.Sums.{total, floor_div}
 use Rattle.uc_model.proofs.IntLaws.{sum_below-same}
-use Rattle.gap_proof.specs.Candidates.{RowRange, range_weights, range_bound}
+use Rattle.gap_proof.specs.Candidates.{range_bound}
 use Rattle.gap_proof.specs.CertifiedBound.{slope_at, height_of, weighted, low_end, high_end, most_over, certified_bound}
 use Rattle.gap_proof.proofs.Mean.{one_mul}
 

@@ -1,5 +1,5 @@
 -- Sums in a list, as they run while a number is added at each place.
-use Rattle.std.proofs.Common.{Some, ◌≡◌, ℕ, ◌+◌, ◌<◌, ◌≤◌, ◌≢◌, ℤ, pos, ◌+ℤ◌, List, length, get_or, set, refl, sym, ap, ◌∙◌, subst, arith, below_more, get_or-set_other, get_or-set_same}
+use Rattle.std.proofs.Common.{Some, ◌≡◌, ℕ, ◌+◌, ◌<◌, ◌≤◌, ◌≢◌, ℤ, pos, ◌+ℤ◌, List, length, set, refl, sym, ap, ◌∙◌, arith, below_more, get_or-set_other, get_or-set_same}
 use Rattle.std.proofs.lemmas.List.{length-set}
 use Rattle.std.proofs.lemmas.Option.{get_or_from_slice_get}
 use Rattle.std.specs.Prelude.{slice_get}
@@ -18,8 +18,8 @@ pub added_more : (old now next : List ℤ) (g : ℕ → ℤ) (i : ℕ) (v : ℤ)
 added_more old now next g i v h lt is value = record {
   same_length = ap length is ∙ length-set now i v ∙ h.same_length;
   added = below_more (λ j. int_at next j ≡ int_at old j +ℤ g j) i
-  (λ j l. let ne : j ≢ i = omega (arith, l) in ap (λ (xs : List ℤ). int_at xs j) is ∙ get_or-set_other now i j v (pos 0) ne ∙ h.added j l)
-  (ap (λ (xs : List ℤ). int_at xs i) is ∙ get_or-set_same now i v (pos 0) lt ∙ value);
+      (λ j l. let ne : j ≢ i = omega (arith, l) in ap (λ (xs : List ℤ). int_at xs j) is ∙ get_or-set_other now i j v (pos 0) ne ∙ h.added j l)
+      (ap (λ (xs : List ℤ). int_at xs i) is ∙ get_or-set_same now i v (pos 0) lt ∙ value);
   waiting = λ j l. let ne : j ≢ i = omega (arith, l) in ap (λ (xs : List ℤ). int_at xs j) is ∙ get_or-set_other now i j v (pos 0) ne ∙ h.waiting j (omega (arith, l));
 }
 

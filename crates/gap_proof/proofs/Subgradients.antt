@@ -4,7 +4,7 @@ use Rattle.std.proofs.lemmas.Int.{ints}
 use Rattle.std.proofs.lemmas.Bool.Decides.{nat_tests}
 use Rattle.std.proofs.lemmas.List.FromFn.{get_or-map-range_with_len}
 use Rattle.std.proofs.Math.IntN.{*ℤ_comm}
-use Rattle.std.specs.List.{AllZip, zip, range_with_len}
+use Rattle.std.specs.List.{AllZip, zip}
 use Rattle.uc_model.specs.Data.{AnyUnit, Thermal, Flat, Bid, PriceLists, Schedule, Market, units}
 use Rattle.uc_model.specs.Earnings.{revenue, supply_in, cost_of, earnings, IsTop}
 use Rattle.uc_model.specs.PriceRule.{Proposal}
@@ -140,9 +140,10 @@ answers_feasible π (u ∷ us) (s ∷ ss) h = (h.0.best.feasible, answers_feasib
 -- the slopes of a row: what demand and requirement lack of the answers
 slopes_at : (m : Market) (r : Proposal) (ss : List Schedule) (k : ℕ) → HasTotals m ss r → k < m.periods →
     (int_at r.supply k ≡ total_power (units m) ss k) × (int_at r.reserve k ≡ total_reserve (units m) ss k)
-slopes_at m r ss k h lt =
-    (ap (λ (xs : List ℤ). int_at xs k) h.supply ∙ get_or-map-range_with_len (total_power (units m) ss) 0 m.periods k k (pos 0) lt (omega arith),
-    ap (λ (xs : List ℤ). int_at xs k) h.reserve ∙ get_or-map-range_with_len (total_reserve (units m) ss) 0 m.periods k k (pos 0) lt (omega arith))
+slopes_at m r ss k h lt = (
+  ap (λ (xs : List ℤ). int_at xs k) h.supply ∙ get_or-map-range_with_len (total_power (units m) ss) 0 m.periods k k (pos 0) lt (omega arith),
+  ap (λ (xs : List ℤ). int_at xs k) h.reserve ∙ get_or-map-range_with_len (total_reserve (units m) ss) 0 m.periods k k (pos 0) lt (omega arith),
+)
 
 -- a product with a difference, from the other side
 sub-mul : (a b c : ℤ) → (a -ℤ b) *ℤ c ≡ (c *ℤ a) -ℤ (c *ℤ b)

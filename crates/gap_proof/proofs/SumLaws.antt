@@ -1,16 +1,15 @@
 -- Weighted sums of planes, as they run while a row is added before those that are summed.
-use Rattle.std.proofs.Common.{◌≡◌, ℕ, zero, suc, ◌+◌, ◌-◌, ◌*◌, ◌<◌, ◌≤◌, Bool, true, false, nat_lt, if◌then◌else◌, ℤ, pos, ◌+ℤ◌, ◌-ℤ◌, ◌*ℤ◌, ◌≤ℤ◌, List, [], ◌∷◌, length, unsigned_abs, refl, sym, ap, subst, ◌∙◌, inl, inr, arith}
+use Rattle.std.proofs.Common.{◌≡◌, ℕ, zero, suc, ◌+◌, ◌-◌, ◌*◌, ◌<◌, ◌≤◌, Bool, if◌then◌else◌, ℤ, pos, ◌+ℤ◌, ◌-ℤ◌, ◌*ℤ◌, List, [], ◌∷◌, length, unsigned_abs, refl, sym, ap, subst, ◌∙◌, inl, inr, arith}
 use Rattle.std.proofs.lemmas.Bool.{cases_lt}
 use Rattle.std.proofs.lemmas.Int.{ints}
 use Rattle.std.proofs.lemmas.List.{get_or_default}
 use Rattle.std.proofs.lemmas.List.Elements.{All-head, All-tail}
 use Rattle.std.specs.Int.{int_max}
 use Rattle.std.specs.List.{All}
-use Rattle.std.specs.Prelude.{slice_index_or}
 use Rattle.uc_model.specs.Data.{PriceLists, Market}
 use Rattle.uc_model.specs.Limits.{IsFrom, IsPower, IsTotal, IsMarket}
 use Rattle.uc_model.specs.PriceRule.{Proposal}
-use Rattle.uc_model.specs.Sums.{int_at, total, sum_below, floor_div}
+use Rattle.uc_model.specs.Sums.{int_at, floor_div}
 use Rattle.uc_model.proofs.IntLaws.{sum_below-same}
 use Rattle.uc_model.proofs.SignedLaws.{IsWithin}
 use Rattle.price_move.specs.Sizes.{IsRowOver}

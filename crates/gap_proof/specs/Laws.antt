@@ -1,5 +1,7 @@
--- What a certified bound says of all prices in its box. Each law is the clause of a public function of its name.
-use Rattle.std.specs.Prelude.{◌≡◌, ℕ, ◌*◌, ◌<◌, ◌≤◌, ℤ, pos, ◌≤ℤ◌, ◌<ℤ◌, ◌-◌, Some, List, length, slice_get}
+-- What a certified bound says of all prices in its box. Each law is the clause of a public
+-- function of its name.
+use Rattle.std.specs.Prelude.{◌≡◌, ℕ, ◌-◌, ◌*◌, ◌<◌, ◌≤◌, ℤ, pos, ◌≤ℤ◌, ◌<ℤ◌, Some, List, length}
+use Rattle.std.specs.Prelude.{slice_get}
 use Rattle.std.specs.List.{All, AllZip}
 use Rattle.uc_model.specs.Data.{PriceLists, Schedule, Market, units}
 use Rattle.uc_model.specs.Limits.{IsFrom, ArePrices, IsMarket}
@@ -11,8 +13,8 @@ use Rattle.gap_proof.specs.CertifiedBound.{price_at, low_end, high_end, certifie
 use Rattle.gap_proof.specs.Candidates.{RowRange, IsFirstLeast, prices_of_row}
 use Rattle.gap_proof.specs.Sums.{IsRowWithin}
 
--- a row of a run, but for where its prices come from: its value is the dual value of its prices, and its totals are
--- those of one answer per unit
+-- a row of a run, but for where its prices come from: its value is the dual value of its prices,
+-- and its totals are those of one answer per unit
 pub record IsAnswered (m : Market) (r : Proposal) : Type 0 where
   pub horizon : length r.prices.energy ≡ m.periods
   pub value : IsDualValue m r.prices r.value
@@ -29,36 +31,46 @@ pub record AreWeights (rows : List Proposal) (weights : List ℤ) : Type 0 where
 -- prices over the horizon, each within the limits and the radius of the centre's price
 pub record IsInBox (m : Market) (centre : PriceLists) (radius : ℤ) (π : PriceLists) : Type 0 where
   pub horizon : length π.energy ≡ m.periods
-  pub inside : (j : ℕ) → j < 2 * m.periods → IsFrom (low_end m centre radius j) (high_end m centre radius j) (price_at m π j)
+  pub inside : (j : ℕ) → j < 2 * m.periods →
+      IsFrom (low_end m centre radius j) (high_end m centre radius j) (price_at m π j)
 
 -- no prices in the box have a dual value above the bound, whatever the weights
 abbrev pub BoundHolds : Type 0
 BoundHolds =
-    (m : Market) (rows : List Proposal) (weights : List ℤ) (centre : PriceLists) (radius : ℤ) (π : PriceLists) (value : ℤ) →
-    All (IsAnswered m) rows → AreWeights rows weights → IsInBox m centre radius π → IsDualValue m π value →
+    (m : Market) (rows : List Proposal) (weights : List ℤ) (centre : PriceLists) (radius : ℤ)
+    (π : PriceLists) (value : ℤ) →
+    All (IsAnswered m) rows → AreWeights rows weights →
+    IsInBox m centre radius π → IsDualValue m π value →
     value ≤ℤ certified_bound m rows weights centre radius
 
 -- so the bound round a row is at least that row's value
 abbrev pub BoundReachesCentre : Type 0
 BoundReachesCentre =
     (m : Market) (rows : List Proposal) (weights : List ℤ) (centre : Proposal) (radius : ℤ) →
-    All (IsAnswered m) rows → AreWeights rows weights → IsAnswered m centre → ArePrices centre.prices → pos 0 ≤ℤ radius →
+    All (IsAnswered m) rows → AreWeights rows weights →
+    IsAnswered m centre → ArePrices centre.prices → pos 0 ≤ℤ radius →
     centre.value ≤ℤ certified_bound m rows weights centre.prices radius
 
--- so the best range's bound holds round its centre
+-- the bound of the best range holds round its centre
 abbrev pub BestBoundHolds : Type 0
 BestBoundHolds =
-    (m : Market) (rows : List Proposal) (centre : ℕ) (radius : ℤ) (range : RowRange) (bound : ℤ) (π : PriceLists) (value : ℤ) →
-    All (IsAnswered m) rows → 1 ≤ centre → centre ≤ length rows → IsFirstLeast m rows centre radius range bound →
+    (m : Market) (rows : List Proposal) (centre : ℕ) (radius : ℤ) (range : RowRange) (bound : ℤ)
+    (π : PriceLists) (value : ℤ) →
+    All (IsAnswered m) rows → 1 ≤ centre → centre ≤ length rows →
+    IsFirstLeast m rows centre radius range bound →
     IsInBox m (prices_of_row rows centre) radius π → IsDualValue m π value → value ≤ℤ bound
 
 -- and it is at least the centre's value
 abbrev pub BestBoundReachesCentre : Type 0
 BestBoundReachesCentre =
-    (m : Market) (rows : List Proposal) (centre : ℕ) (row : Proposal) (radius : ℤ) (range : RowRange) (bound : ℤ) →
-    All (IsAnswered m) rows → 1 ≤ centre → slice_get rows (centre - 1) ≡ Some row → ArePrices row.prices → pos 0 ≤ℤ radius →
+    (m : Market) (rows : List Proposal) (centre : ℕ) (row : Proposal) (radius : ℤ)
+    (range : RowRange) (bound : ℤ) →
+    All (IsAnswered m) rows → 1 ≤ centre → slice_get rows (centre - 1) ≡ Some row →
+    ArePrices row.prices → pos 0 ≤ℤ radius →
     IsFirstLeast m rows centre radius range bound → row.value ≤ℤ bound
 
 -- answered rows are of the sizes that the calls ask for
 abbrev pub AnsweredRowsAreWithin : Type 0
-AnsweredRowsAreWithin = (m : Market) (r : Proposal) → IsMarket m → ArePrices r.prices → IsAnswered m r → IsRowWithin m r
+AnsweredRowsAreWithin =
+    (m : Market) (r : Proposal) → IsMarket m → ArePrices r.prices → IsAnswered m r →
+    IsRowWithin m r

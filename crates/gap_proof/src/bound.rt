@@ -1,9 +1,7 @@
 //! The bound by rows with given weights.
-ghost use Rattle.std.specs.Prelude.{◌≡◌, ℕ, ◌+◌, ◌-◌, ◌<◌, ◌≤◌, ◌*◌, ℤ, pos, length, map, Some, slice_get};
+ghost use Rattle.std.specs.Prelude.{◌≡◌, ◌<◌, ◌≤◌, ◌*◌, length, map, Some, slice_get};
 ghost use Rattle.std.specs.List.{All};
-ghost use Rattle.uc_model.specs.Limits.{IsFrom};
 ghost use Rattle.uc_model.specs.PlainCases.{market_of, proposal_of};
-ghost use Rattle.uc_model.specs.PlainUnits.{prices_of};
 ghost use Rattle.gap_proof.specs.Candidates.{prices_of_row};
 ghost use Rattle.gap_proof.specs.CertifiedBound.{certified_bound};
 ghost use Rattle.gap_proof.specs.Laws.{AreWeights};
@@ -21,12 +19,14 @@ pub fn row_at(rows: &[Row], place: usize) -> &Row
     &rows[place]
 }
 
-/// The bound on the dual values of all prices in the box, by the mean of the rows' planes with these weights, rounded
-/// down: no whole prices within the limits, of which none is further than `radius` from that of row `centre`, have a
-/// dual value above it, `laws::bound_holds`. Rows are numbered from 1; they are at most 10,000, over the periods of the
-/// case, with values of at most 10^24 and totals of at most 10^13 in magnitude. There is one weight per row, from 0 to
-/// 1,000,000, and their sum is above 0. The radius is from 0 to 20,000,000, in money for a kilowatt and period, and so is
-/// the bound in money. `work` has two numbers for each period, and is left with any numbers. Takes no memory.
+/// The bound on the dual values of all prices in a box, by the mean of the rows' planes with these
+/// weights, rounded down: no whole prices within the limits, each within `radius` of that of row
+/// `centre`, have a dual value above it, `laws::bound_holds`. Rows are numbered from 1; they are
+/// at most 10,000, over the periods of the case, with values of at most 10^24 and totals of at
+/// most 10^13 in magnitude, which all answered rows are, `laws::answered_rows_are_within`. There
+/// is one weight per row, from 0 to 1,000,000, and their sum is above 0. The radius is from 0 to
+/// 20,000,000, in money for a kilowatt and period; the bound is in money. `work` has two numbers
+/// for each period, and is left with any numbers. Takes no memory.
 pub fn bound_of(
     case: &Case,
     rows: &[Row],
@@ -43,7 +43,8 @@ pub fn bound_of(
     requires to_last { centre ≤ length rows.now }
     requires radius { IsRadius radius }
     requires work { length work.old.items ≡ 2 * (market_of case.now).periods }
-    ensures bound { result ≡ certified_bound (market_of case.now) (map proposal_of rows.now) weights.now.items (prices_of_row (map proposal_of rows.now) centre) radius }
+    ensures bound { result ≡ certified_bound (market_of case.now) (map proposal_of rows.now) weights.now.items
+        (prices_of_row (map proposal_of rows.now) centre) radius }
     ensures work { length work.new.items ≡ length work.old.items }
     ensures spare { work.new.spare ≡ work.old.spare }
 {

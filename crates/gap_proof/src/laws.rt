@@ -1,5 +1,7 @@
 //! Laws over the definitions: each is the contract of a function that does nothing.
-ghost use Rattle.gap_proof.specs.Laws.{BoundHolds, BoundReachesCentre, BestBoundHolds, BestBoundReachesCentre, AnsweredRowsAreWithin};
+ghost use Rattle.gap_proof.specs.Laws.{BoundHolds, BoundReachesCentre};
+ghost use Rattle.gap_proof.specs.Laws.{BestBoundHolds, BestBoundReachesCentre};
+ghost use Rattle.gap_proof.specs.Laws.{AnsweredRowsAreWithin};
 
 use uc_model::laws::{
     dual_values_are_within, outputs_are_within, totals_are_within, units_are_within,

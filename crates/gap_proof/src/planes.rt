@@ -1,5 +1,5 @@
 //! The plane of a row: what its totals lack, and where the plane stands at prices of 0.
-ghost use Rattle.std.specs.Prelude.{◌≡◌, ℕ, ◌<◌, ◌*◌, ℤ, pos, neg_ℤ, ◌+ℤ◌, ◌-ℤ◌, ◌*ℤ◌, length};
+ghost use Rattle.std.specs.Prelude.{◌≡◌, ℕ, ◌<◌, ◌*◌, neg_ℤ, ◌+ℤ◌, ◌-ℤ◌, ◌*ℤ◌, length};
 ghost use Rattle.std.specs.List.{All};
 ghost use Rattle.uc_model.specs.Limits.{IsFrom, IsPower, IsTotal, price_limit};
 ghost use Rattle.uc_model.specs.PlainCases.{market_of, proposal_of};
@@ -7,7 +7,7 @@ ghost use Rattle.uc_model.specs.PlainUnits.{prices_of};
 ghost use Rattle.uc_model.specs.Sums.{int_at};
 ghost use Rattle.price_move.specs.Sizes.{IsEntry, IsRowOver};
 ghost use Rattle.gap_proof.specs.CertifiedBound.{price_at, slope_at, height_of};
-ghost use Rattle.gap_proof.specs.Sums.{IsRowWithin, IsWeight, IsSlopeSum};
+ghost use Rattle.gap_proof.specs.Sums.{IsRowWithin, IsUpTo, IsWeight, IsHeight, IsSlopeSum};
 
 use uc_model::cases::{Case, Row};
 use uc_model::lists::Amounts;
@@ -57,7 +57,7 @@ fn rise(slope: i64, price: i64) -> i128
     requires slope { IsEntry slope }
     requires price { IsFrom (neg_ℤ price_limit) price_limit price }
     ensures value { result ≡ slope *ℤ price }
-    ensures bound { IsFrom (neg_ℤ (pos 200000000000000000000)) (pos 200000000000000000000) result }
+    ensures bound { IsUpTo 200000000000000000000 result }
 {
     i128::from(slope) * i128::from(price)
 }
@@ -66,7 +66,7 @@ fn rise(slope: i64, price: i64) -> i128
 pub fn height(case: &Case, row: &Row) -> i128
     requires { IsRowWithin (market_of case.now) (proposal_of row.now) }
     ensures value { result ≡ height_of (market_of case.now) (proposal_of row.now) }
-    ensures bound { IsFrom (neg_ℤ (pos 2000000000000000000000000)) (pos 2000000000000000000000000) result }
+    ensures bound { IsHeight result }
 {
     let mut at_prices: i128 = 0;
     for place in 0..2 * case.periods as usize {
@@ -80,7 +80,7 @@ fn times(weight: i64, slope: i64) -> i128
     requires weight { IsWeight weight }
     requires slope { IsEntry slope }
     ensures value { result ≡ weight *ℤ slope }
-    ensures bound { IsFrom (neg_ℤ (pos 20000000000000000000)) (pos 20000000000000000000) result }
+    ensures bound { IsUpTo 20000000000000000000 result }
 {
     i128::from(weight) * i128::from(slope)
 }
@@ -102,10 +102,15 @@ pub fn add_slopes(case: &Case, row: &Row, weight: i64, slopes: &mut Amounts)
     requires length { length slopes.old.items ≡ 2 * (market_of case.now).periods }
     requires sums { All IsSlopeSum slopes.old.items }
     ensures length { length slopes.new.items ≡ length slopes.old.items }
-    ensures added { (j : ℕ) → j < 2 * (market_of case.now).periods → int_at slopes.new.items j ≡ int_at slopes.old.items j +ℤ (weight *ℤ slope_at (market_of case.now) (proposal_of row.now) j) }
+    ensures added { (j : ℕ) → j < 2 * (market_of case.now).periods →
+        int_at slopes.new.items j ≡ int_at slopes.old.items j
+        +ℤ (weight *ℤ slope_at (market_of case.now) (proposal_of row.now) j) }
     ensures spare { slopes.new.spare ≡ slopes.old.spare }
 {
     for place in 0..2 * case.periods as usize {
-        slopes.set(place, sum_with(*slopes.get(place), weight, slope(case, row, place)));
+        slopes.set(
+            place,
+            sum_with(*slopes.get(place), weight, slope(case, row, place)),
+        );
     }
 }

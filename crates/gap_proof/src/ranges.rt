@@ -1,5 +1,5 @@
 //! The best bound by a range of rows.
-ghost use Rattle.std.specs.Prelude.{◌≡◌, ℕ, ◌+◌, ◌-◌, ◌<◌, ◌≤◌, ◌*◌, ℤ, pos, ◌≤ℤ◌, ◌<ℤ◌, [], ◌∷◌, length, map};
+ghost use Rattle.std.specs.Prelude.{◌≡◌, ℕ, ◌<◌, ◌≤◌, ◌*◌, pos, ◌≤ℤ◌, ◌<ℤ◌, [], ◌∷◌, length, map};
 ghost use Rattle.std.specs.List.{All};
 ghost use Rattle.uc_model.specs.PlainCases.{market_of, proposal_of};
 ghost use Rattle.uc_model.specs.PlainUnits.{prices_of};
@@ -12,8 +12,8 @@ use uc_model::cases::{Case, Row};
 use uc_model::lists::Amounts;
 use uc_model::units::Prices;
 
-/// A bound in money on the dual values of all prices in a box, and the rows from `first` to `last`, numbered from 1,
-/// whose mean gives it.
+/// A bound in money on the dual values of all prices in a box, and the rows from `first` to
+/// `last`, numbered from 1, whose mean gives it.
 #[derive(Clone, Copy, PartialEq, Eq, Debug)]
 pub struct Certified {
     pub first: u32,
@@ -25,7 +25,8 @@ pub struct Certified {
 fn sums_of(case: &Case, row: &Row, slopes: &mut Amounts) -> Sums
     requires row { IsRowWithin (market_of case.now) (proposal_of row.now) }
     requires length { length slopes.old.items ≡ 2 * (market_of case.now).periods }
-    ensures sums { AreSums (market_of case.now) (pos 1 ∷ []) (proposal_of row.now ∷ []) result.height result.weight slopes.new.items }
+    ensures sums { AreSums (market_of case.now) (pos 1 ∷ []) (proposal_of row.now ∷ [])
+        result.height result.weight slopes.new.items }
     ensures spare { slopes.new.spare ≡ slopes.old.spare }
 {
     clear_slopes(slopes);
@@ -45,7 +46,9 @@ fn alone(case: &Case, rows: &[Row], number: u32, radius: i64, work: &mut Amounts
     requires work { length work.old.items ≡ 2 * (market_of case.now).periods }
     ensures first { result.first ≡ number }
     ensures last { result.last ≡ number }
-    ensures bound { result.bound ≡ range_bound (market_of case.now) (map proposal_of rows.now) (prices_of_row (map proposal_of rows.now) number) radius (record { first = number; last = number }) }
+    ensures bound { result.bound ≡ range_bound (market_of case.now) (map proposal_of rows.now)
+        (prices_of_row (map proposal_of rows.now) number) radius
+        (record { first = number; last = number }) }
     ensures work { length work.new.items ≡ length work.old.items }
     ensures spare { work.new.spare ≡ work.old.spare }
 {
@@ -75,8 +78,15 @@ fn better(best: Certified, first: u32, bound: i128) -> Certified
     best
 }
 
-// The best bound round the centre by the rows from one of them to the last, the longest range in a tie.
-fn trailing(case: &Case, rows: &[Row], centre: &Prices, radius: i64, work: &mut Amounts) -> Certified
+// The best bound round the centre by the rows from one of them to the last, the longest range in
+// a tie.
+fn trailing(
+    case: &Case,
+    rows: &[Row],
+    centre: &Prices,
+    radius: i64,
+    work: &mut Amounts,
+) -> Certified
     requires some { 1 ≤ length rows.now }
     requires count { length rows.now ≤ 10000 }
     requires rows { All (IsRowWithin (market_of case.now)) (map proposal_of rows.now) }
@@ -86,9 +96,14 @@ fn trailing(case: &Case, rows: &[Row], centre: &Prices, radius: i64, work: &mut 
     ensures from_one { 1 ≤ result.first }
     ensures to_last { result.first ≤ length rows.now }
     ensures last { result.last ≡ length rows.now }
-    ensures bound { result.bound ≡ range_bound (market_of case.now) (map proposal_of rows.now) (prices_of centre.now) radius (record { first = result.first; last = length rows.now }) }
-    ensures least { (j : ℕ) → 1 ≤ j → j ≤ length rows.now → result.bound ≤ℤ range_bound (market_of case.now) (map proposal_of rows.now) (prices_of centre.now) radius (record { first = j; last = length rows.now }) }
-    ensures earlier { (j : ℕ) → 1 ≤ j → j < result.first → result.bound <ℤ range_bound (market_of case.now) (map proposal_of rows.now) (prices_of centre.now) radius (record { first = j; last = length rows.now }) }
+    ensures bound { result.bound ≡ range_bound (market_of case.now) (map proposal_of rows.now)
+        (prices_of centre.now) radius (record { first = result.first; last = length rows.now }) }
+    ensures least { (j : ℕ) → 1 ≤ j → j ≤ length rows.now →
+        result.bound ≤ℤ range_bound (market_of case.now) (map proposal_of rows.now)
+        (prices_of centre.now) radius (record { first = j; last = length rows.now }) }
+    ensures earlier { (j : ℕ) → 1 ≤ j → j < result.first →
+        result.bound <ℤ range_bound (market_of case.now) (map proposal_of rows.now)
+        (prices_of centre.now) radius (record { first = j; last = length rows.now }) }
     ensures work { length work.new.items ≡ length work.old.items }
     ensures spare { work.new.spare ≡ work.old.spare }
 {
@@ -107,11 +122,13 @@ fn trailing(case: &Case, rows: &[Row], centre: &Prices, radius: i64, work: &mut 
     best
 }
 
-/// The best bound round row `centre` by a range of rows, each with weight 1: by the centre alone, or by the rows from one
-/// of them to the last. In a tie it is the centre, and then the longest range. Rows are numbered from 1; they are at most
-/// 10,000, over the periods of the case, with values of at most 10^24 and totals of at most 10^13 in magnitude. The radius
-/// is from 0 to 20,000,000, in money for a kilowatt and period. `work` has two numbers for each period, and is left with
-/// any numbers. Takes no memory, and time in proportion to rows times periods.
+/// The best bound round row `centre` by a range of rows, each with weight 1: by the centre alone,
+/// or by the rows from one of them to the last. In a tie it is the centre, and then the longest
+/// range. Rows are numbered from 1; they are at most 10,000, over the periods of the case, with
+/// values of at most 10^24 and totals of at most 10^13 in magnitude, which all answered rows are,
+/// `laws::answered_rows_are_within`. The radius is from 0 to 20,000,000, in money for a kilowatt
+/// and period. `work` has two numbers for each period, and is left with any numbers. Takes no
+/// memory, and time in proportion to rows times periods.
 pub fn best_range(
     case: &Case,
     rows: &[Row],
@@ -125,7 +142,8 @@ pub fn best_range(
     requires to_last { centre ≤ length rows.now }
     requires radius { IsRadius radius }
     requires work { length work.old.items ≡ 2 * (market_of case.now).periods }
-    ensures best { IsFirstLeast (market_of case.now) (map proposal_of rows.now) centre radius (record { first = result.first; last = result.last }) result.bound }
+    ensures best { IsFirstLeast (market_of case.now) (map proposal_of rows.now) centre radius
+        (record { first = result.first; last = result.last }) result.bound }
     ensures work { length work.new.items ≡ length work.old.items }
     ensures spare { work.new.spare ≡ work.old.spare }
 {

@@ -1,21 +1,22 @@
 //! Weighted sums of planes, and their greatest height over a box of prices.
-ghost use Rattle.std.specs.Prelude.{◌≡◌, ℕ, ◌<◌, ◌*◌, ℤ, pos, neg_ℤ, ◌+ℤ◌, ◌*ℤ◌, length, unsigned_abs};
+ghost use Rattle.std.specs.Prelude.{◌≡◌, ℕ, ◌<◌, ◌*◌, pos, neg_ℤ, ◌+ℤ◌, ◌*ℤ◌, length};
+ghost use Rattle.std.specs.Prelude.{unsigned_abs};
 ghost use Rattle.std.specs.Int.{int_max};
 ghost use Rattle.std.specs.List.{All};
 ghost use Rattle.uc_model.specs.Limits.{IsFrom, price_limit};
 ghost use Rattle.uc_model.specs.PlainCases.{market_of, proposal_of};
 ghost use Rattle.uc_model.specs.PlainUnits.{prices_of};
 ghost use Rattle.uc_model.specs.Sums.{int_at, floor_div};
-ghost use Rattle.gap_proof.specs.CertifiedBound.{slope_at, height_of, lowest_price, low_end, high_end, most_over};
-ghost use Rattle.gap_proof.specs.Sums.{IsRowWithin, IsWeight, IsRadius, IsSlopeSum, IsHeightSum};
+ghost use Rattle.gap_proof.specs.CertifiedBound.{slope_at, height_of, lowest_price};
+ghost use Rattle.gap_proof.specs.CertifiedBound.{low_end, high_end, most_over};
+ghost use Rattle.gap_proof.specs.Sums.{IsRowWithin, IsWeight, IsRadius, IsHeight};
+ghost use Rattle.gap_proof.specs.Sums.{IsHeightStep, IsHeightSum, IsSlopeSum, IsRise, IsRiseSum};
 
 use crate::planes::{add_slopes, height, price};
 use uc_model::cases::{Case, Row};
+use uc_model::limits::PRICE_LIMIT;
 use uc_model::lists::Amounts;
 use uc_model::units::Prices;
-
-/// The greatest price, and the greatest magnitude of one, in money for a kilowatt and period.
-const PRICE_LIMIT: i64 = 10_000_000;
 
 /// What weighted rows sum to, beside their slopes.
 #[derive(Clone, Copy)]
@@ -40,9 +41,9 @@ pub fn clear_slopes(slopes: &mut Amounts)
 // So many times a height.
 fn lifted(weight: i64, height: i128) -> i128
     requires weight { IsWeight weight }
-    requires height { IsFrom (neg_ℤ (pos 2000000000000000000000000)) (pos 2000000000000000000000000) height }
+    requires height { IsHeight height }
     ensures value { result ≡ weight *ℤ height }
-    ensures bound { IsFrom (neg_ℤ (pos 2000000000000000000000000000000)) (pos 2000000000000000000000000000000) result }
+    ensures bound { IsHeightStep result }
 {
     i128::from(weight) * height
 }
@@ -55,11 +56,14 @@ pub fn add_row(case: &Case, row: &Row, weight: i64, sums: Sums, slopes: &mut Amo
     requires weights { IsFrom (pos 0) (pos 10000000000) sums.weight }
     requires length { length slopes.old.items ≡ 2 * (market_of case.now).periods }
     requires slopes { All IsSlopeSum slopes.old.items }
-    ensures height { result.height ≡ sums.height +ℤ (weight *ℤ height_of (market_of case.now) (proposal_of row.now)) }
-    ensures step { IsFrom (neg_ℤ (pos 2000000000000000000000000000000)) (pos 2000000000000000000000000000000) (weight *ℤ height_of (market_of case.now) (proposal_of row.now)) }
+    ensures height { result.height ≡ sums.height
+        +ℤ (weight *ℤ height_of (market_of case.now) (proposal_of row.now)) }
+    ensures step { IsHeightStep (weight *ℤ height_of (market_of case.now) (proposal_of row.now)) }
     ensures weight { result.weight ≡ sums.weight +ℤ weight }
     ensures length { length slopes.new.items ≡ length slopes.old.items }
-    ensures slopes { (j : ℕ) → j < 2 * (market_of case.now).periods → int_at slopes.new.items j ≡ int_at slopes.old.items j +ℤ (weight *ℤ slope_at (market_of case.now) (proposal_of row.now) j) }
+    ensures slopes { (j : ℕ) → j < 2 * (market_of case.now).periods →
+        int_at slopes.new.items j ≡ int_at slopes.old.items j
+        +ℤ (weight *ℤ slope_at (market_of case.now) (proposal_of row.now) j) }
     ensures spare { slopes.new.spare ≡ slopes.old.spare }
 {
     add_slopes(case, row, weight, slopes);
@@ -107,7 +111,7 @@ fn rise(slope: i128, price: i64) -> i128
     requires slope { IsSlopeSum slope }
     requires price { IsFrom (neg_ℤ price_limit) price_limit price }
     ensures value { result ≡ slope *ℤ price }
-    ensures bound { IsFrom (neg_ℤ (pos 10000000000000000000000000000000)) (pos 10000000000000000000000000000000) result }
+    ensures bound { IsRise result }
 {
     slope * i128::from(price)
 }
@@ -118,7 +122,7 @@ fn most_between(slope: i128, low: i64, high: i64) -> i128
     requires low { IsFrom (neg_ℤ price_limit) price_limit low }
     requires high { IsFrom (neg_ℤ price_limit) price_limit high }
     ensures value { result ≡ int_max (slope *ℤ low) (slope *ℤ high) }
-    ensures bound { IsFrom (neg_ℤ (pos 10000000000000000000000000000000)) (pos 10000000000000000000000000000000) result }
+    ensures bound { IsRise result }
 {
     rise(slope, low).max(rise(slope, high))
 }
@@ -129,8 +133,9 @@ fn most(case: &Case, centre: &Prices, radius: i64, slopes: &Amounts) -> i128
     requires radius { IsRadius radius }
     requires length { length slopes.now.items ≡ 2 * (market_of case.now).periods }
     requires slopes { All IsSlopeSum slopes.now.items }
-    ensures value { result ≡ most_over (market_of case.now) (prices_of centre.now) radius (int_at slopes.now.items) }
-    ensures bound { IsFrom (neg_ℤ (pos 4000000000000000000000000000000000)) (pos 4000000000000000000000000000000000) result }
+    ensures value { result ≡ most_over (market_of case.now) (prices_of centre.now) radius
+        (int_at slopes.now.items) }
+    ensures bound { IsRiseSum result }
 {
     let mut total: i128 = 0;
     for place in 0..2 * case.periods as usize {
@@ -157,7 +162,13 @@ pub fn bound_by(case: &Case, centre: &Prices, radius: i64, sums: Sums, slopes: &
     requires weights { IsFrom (pos 1) (pos 10000000000) sums.weight }
     requires length { length slopes.now.items ≡ 2 * (market_of case.now).periods }
     requires slopes { All IsSlopeSum slopes.now.items }
-    ensures { result ≡ floor_div (sums.height +ℤ most_over (market_of case.now) (prices_of centre.now) radius (int_at slopes.now.items)) (unsigned_abs sums.weight) }
+    ensures { result ≡ floor_div
+        (sums.height +ℤ most_over (market_of case.now) (prices_of centre.now) radius
+        (int_at slopes.now.items))
+        (unsigned_abs sums.weight) }
 {
-    quotient(sums.height + most(case, centre, radius, slopes), sums.weight)
+    quotient(
+        sums.height + most(case, centre, radius, slopes),
+        sums.weight,
+    )
 }

@@ -1,4 +1,4 @@
-use Rattle.std.proofs.Common.{◌≡◌, ℕ, ◌*ℤ◌}
+use Rattle.std.proofs.Common.{◌≡◌, ◌*ℤ◌}
 use Rattle.uc_model.specs.PlainCases.{market_of, proposal_of}
 use Rattle.gap_proof.specs.CertifiedBound.{slope_at}
 use Rattle.gap_proof.proofs.Running.{IsAddedUpTo}

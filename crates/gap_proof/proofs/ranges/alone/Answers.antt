@@ -1,15 +1,14 @@
-use Rattle.std.proofs.Common.{rules, ◌≡◌, ℕ, ◌+◌, ◌-◌, ◌*◌, ◌<◌, ◌≤◌, ℤ, pos, FitsSigned, List, [], ◌∷◌, length, map, refl, sym, ap, subst, ◌∙◌, arith}
+use Rattle.std.proofs.Common.{rules, ◌-◌, pos, FitsSigned, [], ◌∷◌, map, refl, sym, ap, ◌∙◌, arith}
 use Rattle.std.proofs.lemmas.Int.{ints, to_z-of_z}
 use Rattle.std.proofs.lemmas.List.{length-map}
-use Rattle.std.specs.Int.{w64, w128}
-use Rattle.uc_model.specs.Data.{PriceLists, Market}
+use Rattle.std.specs.Int.{w128}
+use Rattle.uc_model.specs.Data.{PriceLists}
 use Rattle.uc_model.specs.PlainCases.{market_of, proposal_of}
-use Rattle.uc_model.specs.PriceRule.{Proposal}
 use Rattle.gap_proof.specs.Candidates.{range_bound}
 use Rattle.gap_proof.specs.Sums.{IsRowWithin}
 use Rattle.gap_proof.proofs.RangeLaws.{one_bound}
 use Rattle.gap_proof.proofs.RowLists.{item_of, row_prices}
-use Rattle.gap_proof.proofs.SumLaws.{height_size, weight_size, slope_sizes, bound_is}
+use Rattle.gap_proof.proofs.SumLaws.{height_size, slope_sizes, bound_is}
 use Rattle.gap_proof.proofs.ranges.alone.Goals as goal
 
 pub sums_of-sums-requires-clause-row : goal.sums_of-sums-requires-clause-row

@@ -1,8 +1,6 @@
-use Rattle.std.proofs.Common.{◌≡◌, ℕ, ◌*◌, ◌<◌, ℤ, pos, [], ◌∷◌, length, sym, subst, ◌∙◌, arith}
+use Rattle.std.proofs.Common.{pos, [], ◌∙◌, arith}
 use Rattle.std.proofs.lemmas.Int.{ints}
-use Rattle.std.specs.List.{All}
 use Rattle.uc_model.specs.PlainCases.{market_of, proposal_of}
-use Rattle.gap_proof.specs.Sums.{IsSlopeSum}
 use Rattle.gap_proof.proofs.SumLaws.{sums_none, sums_more, slope_sizes}
 use Rattle.gap_proof.proofs.ranges.sums_of.Goals as goal
 

@@ -1,10 +1,10 @@
-use Rattle.std.proofs.Common.{rules, ◌≡◌, ℕ, ◌+◌, ◌-◌, ◌*◌, ◌<◌, ◌≤◌, ℤ, pos, FitsSigned, List, [], ◌∷◌, length, map, refl, sym, ap, subst, ◌∙◌, arith}
+use Rattle.std.proofs.Common.{rules, ◌≡◌, ◌+◌, ◌-◌, pos, FitsSigned, [], ◌∷◌, length, map, refl, sym, ap, ◌∙◌, arith}
 use Rattle.std.proofs.lemmas.Int.{ints, to_z-of_z}
 use Rattle.std.proofs.lemmas.List.{length-map}
-use Rattle.std.specs.Int.{w64, w128}
+use Rattle.std.specs.Int.{w128}
 use Rattle.uc_model.specs.PlainCases.{market_of, proposal_of}
 use Rattle.uc_model.specs.PlainUnits.{prices_of}
-use Rattle.gap_proof.specs.Sums.{IsRowWithin, AreSums}
+use Rattle.gap_proof.specs.Sums.{IsRowWithin}
 use Rattle.gap_proof.proofs.BackSums.{back_first, back_more, back_height, back_weight, back_slopes, back_some, back_value}
 use Rattle.gap_proof.proofs.Least.{least_one, least_more}
 use Rattle.gap_proof.proofs.RangeLaws.{back_bounds}

@@ -1,4 +1,4 @@
-use Rattle.std.proofs.Common.{◌≡◌, ℕ, ◌-◌, pos, length, drop, map, replicate}
+use Rattle.std.proofs.Common.{◌≡◌, ◌-◌, pos, length, drop, map, replicate}
 use Rattle.uc_model.specs.PlainCases.{market_of, proposal_of}
 use Rattle.uc_model.specs.PlainUnits.{prices_of}
 use Rattle.gap_proof.specs.Sums.{AreSums}

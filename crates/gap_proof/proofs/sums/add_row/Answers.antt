@@ -1,6 +1,6 @@
 use Rattle.std.proofs.Common.{rules, ℤ, ◌+ℤ◌, ◌*ℤ◌, ap, ◌∙◌, arith, FitsSigned}
-use Rattle.std.proofs.lemmas.Int.{ints, to_z-of_z}
-use Rattle.std.specs.Int.{w64, w128}
+use Rattle.std.proofs.lemmas.Int.{to_z-of_z}
+use Rattle.std.specs.Int.{w128}
 use Rattle.uc_model.proofs.SignedLaws.{sum_within, fits_within}
 use Rattle.gap_proof.proofs.sums.add_row.Goals as goal
 

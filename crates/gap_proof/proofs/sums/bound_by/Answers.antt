@@ -1,5 +1,5 @@
 use Rattle.std.proofs.Common.{rules, ℤ, ◌+ℤ◌, unsigned_abs, ap, ◌∙◌, arith, FitsSigned}
-use Rattle.std.proofs.lemmas.Int.{ints, to_z-of_z}
+use Rattle.std.proofs.lemmas.Int.{to_z-of_z}
 use Rattle.std.specs.Int.{w64, w128}
 use Rattle.uc_model.specs.Sums.{floor_div}
 use Rattle.uc_model.proofs.SignedLaws.{sum_within, fits_within}

@@ -1,4 +1,4 @@
-use Rattle.std.proofs.Common.{rules, ℤ, pos, ◌-ℤ◌, ap, ◌∙◌, arith, FitsSigned}
+use Rattle.std.proofs.Common.{rules, ℤ, ◌-ℤ◌, ap, ◌∙◌, arith, FitsSigned}
 use Rattle.std.proofs.lemmas.Int.{ints, clamps, to_z-of_z}
 use Rattle.std.specs.Int.{w64, int_max}
 use Rattle.uc_model.specs.PlainCases.{market_of}
