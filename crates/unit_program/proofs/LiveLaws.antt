@@ -155,3 +155,25 @@ module _ {R : Type 0} (function : R → Table) (count room : R → ℕ) (old new
         whole = omega (arith, whole, same);
         rest = λ on. (let off = all.off f r (let low = slice_get_within new f r is in omega (arith, low, end)) is in cc);
       }
+
+-- ---- one stopped
+
+pub if_some_more : {X : Type 0} (P Q : X → Type 0) → ((x : X) → P x → Q x) → (o : Option X) → IfSome o P → IfSome o Q
+if_some_more P Q more None h = tt
+if_some_more P Q more (Some x) h = more x h
+
+module _ {R : Type 0} (function : R → Table) (runners runners' : List (Runner R)) (i : ℕ) (a : Runner R) (room : i < length runners) (set : runners' ≡ slice_set runners i a) (off : a.is_on ≡ false) where
+  pub small_stopped : AreSmall (live_at function runners) → AreSmall (live_at function runners')
+  small_stopped small f r is = elim (cases_eq f i) [
+    | inl z ↦ (let none = live_here function runners runners' i a room set ∙ going_off function a off in let same = ap (live_at function runners') z in cc)
+    | inr other ↦ small f r (sym (live_other function runners runners' i a room set f other) ∙ is)
+  ]
+
+pub roomy_stopped : {R : Type 0} (function : R → Table) (count room : R → ℕ) (periods t charge : ℕ) (runners runners' : List (Runner R)) (i : ℕ) (a : Runner R) → i < length runners → runners' ≡ slice_set runners i a →
+    a.is_on ≡ false → (old : Runner R) → slice_get runners i ≡ Some old → a.running ≡ old.running → AreRoomy count room periods t charge runners → AreRoomy count room periods t charge runners'
+roomy_stopped function count room periods t charge runners runners' i a low set off old was same roomy =
+    each_written function runners runners' i a low set (IsRoomy count room periods t charge)
+    (record {
+      whole = (let whole = (roomy i old was).whole in let e = ap room same in omega (arith, whole, e));
+      rest = λ on. cc;
+    }) roomy
