@@ -12,12 +12,13 @@ ghost use Rattle.unit_program.specs.Rows.{cost_at, IsWithinTimes, AreWithin, IsF
 ghost use Rattle.unit_program.specs.Runners.{AreRunners};
 ghost use Rattle.unit_program.specs.Tables.{IsLeastEntry};
 
+use crate::commitment::is_must_off;
 use crate::program::{clear_rows, first_row};
 use crate::runner::{Runner, begin_runner, is_undercut, prune, run_all, stop_all};
 use crate::table::{Ended, Entry, Table, least_entry};
 use spell_run::Running;
 use spell_run::laws::{dispatches_are_runs, dispatches_go_on, runs_go_on};
-use uc_model::units::{Curve, Mark, Prices, Unit};
+use uc_model::units::{Curve, Prices, Unit};
 
 // Begins the runner of the period after the one at a place after its least entry, if no runner undercuts it.
 fn start_after<R: Running>(unit: &Unit, place: u32, entry: &Entry, runners: &mut [Runner<R>])
@@ -77,7 +78,7 @@ fn take_period<R: Running>(
     ensures length { length table.new.items ≡ length table.old.items }
     ensures count { length runners.new ≡ length runners.old }
 {
-    if *unit.window.get(place as usize) == Mark::MustOff {
+    if is_must_off(unit, place) {
         stop_all(runners);
         return;
     }
@@ -108,7 +109,7 @@ fn begin_all<R: Running>(unit: &Unit, runners: &mut [Runner<R>], table: &mut Tab
     requires runners { 1 ≤ length runners.old }
     requires rows { 1 ≤ length table.old.items }
     ensures filled { (π : PriceLists) → 1 ≤ length π.energy → IsFilledTo (thermal_of unit.now) π 0 table.new.items (live_at R.function runners.new) }
-    ensures room { (periods charge : ℕ) → AreRoomy R.count R.room periods periods charge runners.old → AreRoomy R.count R.room periods 0 charge runners.new }
+    ensures room { (periods charge : ℕ) → HaveRoom R.room (periods * charge) runners.old → AreRoomy R.count R.room periods 0 charge runners.new }
     ensures length { length table.new.items ≡ length table.old.items }
     ensures count { length runners.new ≡ length runners.old }
 {

@@ -9,7 +9,7 @@ ghost use Rattle.uc_model.specs.declared.units.Mark.TheVariants.{MustOff};
 ghost use Rattle.uc_model.specs.Data.{PriceLists};
 ghost use Rattle.uc_model.specs.PlainUnits.{thermal_of, prices_of};
 ghost use Rattle.uc_model.specs.Schedules.{mark_in};
-ghost use Rattle.unit_program.specs.Live.{going_of, live_at, IsRoomy, AreRoomy, IsSmallGoing, AreSmall, IsUnder, IsBelow};
+ghost use Rattle.unit_program.specs.Live.{going_of, live_at, IsRoomy, AreRoomy, AreSmall, IsUnder, IsBelow, HaveRoom};
 ghost use Rattle.unit_program.specs.Rows.{row_at, cost_at, first_at, before_at, IsWithinTimes, AreWithin};
 ghost use Rattle.unit_program.specs.Runners.{Going, MayBeOn, AreRunners, IsRowOf, IsGoneOn};
 ghost use Rattle.unit_program.specs.Spells.{on_time};
@@ -58,7 +58,7 @@ fn stop<R: Running>(runner: &mut Runner<R>)
 /// Stops all runners.
 pub fn stop_all<R: Running>(runners: &mut [Runner<R>])
     ensures off { (first : ℕ) → live_at R.function runners.new first ≡ None }
-    ensures room { (periods t u charge : ℕ) → AreRoomy R.count R.room periods t charge runners.old → AreRoomy R.count R.room periods u charge runners.new }
+    ensures room { (periods t charge : ℕ) → HaveRoom R.room (periods * charge) runners.old → AreRoomy R.count R.room periods t charge runners.new }
     ensures length { length runners.new ≡ length runners.old }
 {
     for place in 0..runners.len() {
