@@ -156,6 +156,9 @@ module _ {R : Type 0} (function : R → Table) (count room : R → ℕ) (old new
         rest = λ on. (let off = all.off f r (let low = slice_get_within new f r is in omega (arith, low, end)) is in cc);
       }
 
+  pub stopped_keeps : (most : ℕ) → HaveRoom room most old → HaveRoom room most new
+  stopped_keeps most have f r is = (let k = all.kept f r is in let there = have f k.0 k.1 in let same = k.2 in omega (arith, there, same))
+
 -- ---- one stopped
 
 pub if_some_more : {X : Type 0} (P Q : X → Type 0) → ((x : X) → P x → Q x) → (o : Option X) → IfSome o P → IfSome o Q
@@ -191,3 +194,9 @@ roomy_begun function count room periods t charge runners runners' i a low set ol
 
 pub have_room : {R : Type 0} (count room : R → ℕ) (periods t charge : ℕ) (runners : List (Runner R)) → AreRoomy count room periods t charge runners → HaveRoom room (periods * charge) runners
 have_room count room periods t charge runners roomy f r is = (roomy f r is).whole
+
+-- one written keeps its room
+pub written_keeps : {R : Type 0} (function : R → Table) (room : R → ℕ) (runners runners' : List (Runner R)) (i : ℕ) (a : Runner R) → i < length runners → runners' ≡ slice_set runners i a →
+    (old : Runner R) → slice_get runners i ≡ Some old → room a.running ≡ room old.running → (most : ℕ) → HaveRoom room most runners → HaveRoom room most runners'
+written_keeps function room runners runners' i a low set old was same most have =
+    each_written function runners runners' i a low set (λ r. most ≤ room r.running) (let there = have i old was in omega (arith, there, same)) have

@@ -30,6 +30,7 @@ fn start_after<R: Running>(unit: &Unit, place: u32, entry: &Entry, runners: &mut
         AreRunners (thermal_of unit.now) π ends (live_at R.function runners.old) place (suc place) →
         AreRunners (thermal_of unit.now) π ends (live_at R.function runners.new) place (suc (suc place)) }
     ensures room { (periods charge : ℕ) → AreRoomy R.count R.room periods place charge runners.old → AreRoomy R.count R.room periods place charge runners.new }
+    ensures keeps { (most : ℕ) → HaveRoom R.room most runners.old → HaveRoom R.room most runners.new }
     ensures length { length runners.new ≡ length runners.old }
 {
     if is_undercut(runners, place + 1, unit.min_power, entry.cost) {
@@ -49,6 +50,7 @@ fn start<R: Running>(unit: &Unit, place: u32, rows: &[Option<Ended>], runners: &
         AreRunners (thermal_of unit.now) π (cost_at rows.now) (live_at R.function runners.old) place (suc place) →
         AreRunners (thermal_of unit.now) π (cost_at rows.now) (live_at R.function runners.new) place (suc (suc place)) }
     ensures room { (periods charge : ℕ) → AreRoomy R.count R.room periods place charge runners.old → AreRoomy R.count R.room periods place charge runners.new }
+    ensures keeps { (most : ℕ) → HaveRoom R.room most runners.old → HaveRoom R.room most runners.new }
     ensures length { length runners.new ≡ length runners.old }
 {
     match least_entry(unit, rows, place) {
@@ -76,6 +78,7 @@ fn take_period<R: Running>(
     ensures filled { IsFilledTo (thermal_of unit.now) (prices_of prices.now) (suc place) table.new.items (live_at R.function runners.new) }
     ensures room { AreRoomy R.count R.room (length (prices_of prices.now).energy) (suc place) (length curve.now.blocks.items + 3) runners.new }
     ensures length { length table.new.items ≡ length table.old.items }
+    ensures keeps { (most : ℕ) → HaveRoom R.room most runners.old → HaveRoom R.room most runners.new }
     ensures count { length runners.new ≡ length runners.old }
 {
     if is_must_off(unit, place) {
@@ -96,6 +99,7 @@ fn go_on<R: Running>(unit: &Unit, runners: &mut [Runner<R>])
     requires off { (first : ℕ) → live_at R.function runners.old first ≡ None }
     ensures stands { (π : PriceLists) (ends : ℕ → Option ℤ) → AreRunners (thermal_of unit.now) π ends (live_at R.function runners.new) 0 1 }
     ensures room { (periods charge : ℕ) → AreRoomy R.count R.room periods 0 charge runners.old → AreRoomy R.count R.room periods 0 charge runners.new }
+    ensures keeps { (most : ℕ) → HaveRoom R.room most runners.old → HaveRoom R.room most runners.new }
     ensures length { length runners.new ≡ length runners.old }
 {
     if unit.on0 {
@@ -111,6 +115,7 @@ fn begin_all<R: Running>(unit: &Unit, runners: &mut [Runner<R>], table: &mut Tab
     ensures filled { (π : PriceLists) → 1 ≤ length π.energy → IsFilledTo (thermal_of unit.now) π 0 table.new.items (live_at R.function runners.new) }
     ensures room { (periods charge : ℕ) → HaveRoom R.room (periods * charge) runners.old → AreRoomy R.count R.room periods 0 charge runners.new }
     ensures length { length table.new.items ≡ length table.old.items }
+    ensures keeps { (most : ℕ) → HaveRoom R.room most runners.old → HaveRoom R.room most runners.new }
     ensures count { length runners.new ≡ length runners.old }
 {
     clear_rows(table);
@@ -135,8 +140,8 @@ pub fn fill_by_periods<R: Running>(
     requires room { HaveRoom R.room (length (prices_of prices.now).energy * (length curve.now.blocks.items + 3)) runners.old }
     requires rows { length (prices_of prices.now).energy < length table.old.items }
     ensures filled { IsFilled (thermal_of unit.now) (prices_of prices.now) (suc (length (prices_of prices.now).energy)) table.new.items }
-    ensures room { HaveRoom R.room (length (prices_of prices.now).energy * (length curve.now.blocks.items + 3)) runners.new }
     ensures length { length table.new.items ≡ length table.old.items }
+    ensures keeps { (most : ℕ) → HaveRoom R.room most runners.old → HaveRoom R.room most runners.new }
     ensures count { length runners.new ≡ length runners.old }
 {
     begin_all(unit, runners, table);

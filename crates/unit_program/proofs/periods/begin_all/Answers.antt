@@ -20,3 +20,6 @@ returns-clause-filled g c = λ π some.
 
 pub returns-clause-room : goal.returns-clause-room
 returns-clause-room g c = λ periods charge have. c.go_on.ensures.room periods charge (c.stop_all.ensures.room periods 0 charge have)
+
+pub returns-clause-keeps : goal.returns-clause-keeps
+returns-clause-keeps g c = λ most have. c.go_on.ensures.keeps most (c.stop_all.ensures.keeps most have)

@@ -61,3 +61,6 @@ returns-clause-filled g c =
 
 pub returns-clause-room : goal.returns-clause-room
 returns-clause-room g c = c.prune.ensures.room (length c.args.prices.now.energy.items) (suc c.args.place) (length c.args.curve.now.blocks.items + 3) c.run_all.ensures.room
+
+pub returns-clause-keeps : goal.returns-clause-keeps
+returns-clause-keeps g c = λ most have. c.prune.ensures.keeps most (c.run_all.ensures.keeps most (c.start.ensures.keeps most have))

@@ -4,7 +4,7 @@ use Rattle.uc_model.specs.PlainUnits.{thermal_of}
 use Rattle.unit_program.specs.Live.{live_at}
 use Rattle.unit_program.specs.Runners.{Going}
 use Rattle.unit_program.proofs.EntryLaws.{if_some}
-use Rattle.unit_program.proofs.LiveLaws.{live_here, live_other, going_off, small_stopped, roomy_stopped}
+use Rattle.unit_program.proofs.LiveLaws.{live_here, live_other, going_off, small_stopped, roomy_stopped, written_keeps}
 use Rattle.unit_program.proofs.RunAllLaws.{item_at, item_same, item_live, read_live, read_on, on_of}
 use Rattle.unit_program.proofs.StandInLaws.{early_goes}
 use Rattle.unit_program.proofs.runner.prune_one.Goals as goal
@@ -86,3 +86,12 @@ returns-in_default-clause-late g c =
     let under = c.requires.early in
     let low : c.args.early < length c.args.runners.now = omega (arith, under, end) in
     (omega arith, c.requires.early, (_, item_live g.R.Running.function c.args.runners.now c.args.early low c.index-runners-early.result c.if-not-runners-early.false))
+
+pub returns-then-goes-clause-keeps : goal.returns-then-goes-clause-keeps
+returns-then-goes-clause-keeps g c =
+    let end = c.requires.end in
+    let under = c.requires.early in
+    let low : c.args.early < length c.args.runners.now = omega (arith, under, end) in
+    let d = c.index-runners-early-then-goes.result in
+    written_keeps g.R.Running.function g.R.Running.room c.args.runners.now _ c.args.early c.stop.new.runner low refl
+    (get_or c.args.runners.now c.args.early d) (item_at g.R.Running.function c.args.runners.now c.args.early low d) (ap g.R.Running.room c.stop.ensures.running)
