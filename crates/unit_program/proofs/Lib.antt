@@ -1,3 +1,4 @@
+pub mod BenchLaws
 pub mod BackLaws
 pub mod BackwardOrder
 pub mod BestLaws
@@ -9,6 +10,7 @@ pub mod EntryLaws
 pub mod FillLaws
 pub mod ListLaws
 pub mod LiveLaws
+pub mod PeriodLaws
 pub mod RowByRowLaws
 pub mod RowLaws
 pub mod RunAllLaws
@@ -19,6 +21,7 @@ pub mod SpanLaws
 pub mod SpellLaws
 pub mod StandInLaws
 pub mod StartCosts
+pub mod StartLaws
 pub mod TableLaws
 pub mod TieLaws
 pub mod UpdateLaws

@@ -9,7 +9,7 @@ use Rattle.shape_law.specs.Table.{Table, value_of}
 use Rattle.uc_model.specs.Data.{ThermalUnit, PriceLists}
 use Rattle.spell_run.specs.Frontier.{IsFrontier}
 use Rattle.unit_program.specs.declared.runner.Runner.{Runner}
-use Rattle.unit_program.specs.Live.{going_of, live_at, IsRoomy, AreRoomy, IsSmallGoing, AreSmall, IsUnder, IsBelow}
+use Rattle.unit_program.specs.Live.{going_of, live_at, IsRoomy, AreRoomy, IsSmallGoing, AreSmall, IsUnder, IsBelow, HaveRoom}
 use Rattle.unit_program.specs.Rows.{IsWithinTimes}
 use Rattle.unit_program.specs.Runners.{Going, IsRunner, AreRunners}
 
@@ -146,12 +146,57 @@ module _ {R : Type 0} (function : R → Table) (count room : R → ℕ) (old new
     | Some r ↦ λ is. going_off function r (all.off f r (let low = slice_get_within new f r is in omega (arith, low, end)) is)
   ] refl
 
-  pub stopped_roomy : length new ≤ n → (periods t u charge : ℕ) → AreRoomy count room periods t charge old → AreRoomy count room periods u charge new
-  stopped_roomy end periods t u charge roomy f r is =
+  pub stopped_roomy : length new ≤ n → (periods t charge : ℕ) → HaveRoom room (periods * charge) old → AreRoomy count room periods t charge new
+  stopped_roomy end periods t charge roomy f r is =
       let k = all.kept f r is in
-      let whole = (roomy f k.0 k.1).whole in
+      let whole = roomy f k.0 k.1 in
       let same = k.2 in
       record {
         whole = omega (arith, whole, same);
         rest = λ on. (let off = all.off f r (let low = slice_get_within new f r is in omega (arith, low, end)) is in cc);
       }
+
+  pub stopped_keeps : (most : ℕ) → HaveRoom room most old → HaveRoom room most new
+  stopped_keeps most have f r is = (let k = all.kept f r is in let there = have f k.0 k.1 in let same = k.2 in omega (arith, there, same))
+
+-- ---- one stopped
+
+pub if_some_more : {X : Type 0} (P Q : X → Type 0) → ((x : X) → P x → Q x) → (o : Option X) → IfSome o P → IfSome o Q
+if_some_more P Q more None h = tt
+if_some_more P Q more (Some x) h = more x h
+
+module _ {R : Type 0} (function : R → Table) (runners runners' : List (Runner R)) (i : ℕ) (a : Runner R) (room : i < length runners) (set : runners' ≡ slice_set runners i a) (off : a.is_on ≡ false) where
+  pub small_stopped : AreSmall (live_at function runners) → AreSmall (live_at function runners')
+  small_stopped small f r is = elim (cases_eq f i) [
+    | inl z ↦ (let none = live_here function runners runners' i a room set ∙ going_off function a off in let same = ap (live_at function runners') z in cc)
+    | inr other ↦ small f r (sym (live_other function runners runners' i a room set f other) ∙ is)
+  ]
+
+pub roomy_stopped : {R : Type 0} (function : R → Table) (count room : R → ℕ) (periods t charge : ℕ) (runners runners' : List (Runner R)) (i : ℕ) (a : Runner R) → i < length runners → runners' ≡ slice_set runners i a →
+    a.is_on ≡ false → (old : Runner R) → slice_get runners i ≡ Some old → a.running ≡ old.running → AreRoomy count room periods t charge runners → AreRoomy count room periods t charge runners'
+roomy_stopped function count room periods t charge runners runners' i a low set off old was same roomy =
+    each_written function runners runners' i a low set (IsRoomy count room periods t charge)
+    (record {
+      whole = (let whole = (roomy i old was).whole in let e = ap room same in omega (arith, whole, e));
+      rest = λ on. cc;
+    }) roomy
+
+-- one begun
+pub roomy_begun : {R : Type 0} (function : R → Table) (count room : R → ℕ) (periods t charge : ℕ) (runners runners' : List (Runner R)) (i : ℕ) (a : Runner R) → i < length runners → runners' ≡ slice_set runners i a →
+    (old : Runner R) → slice_get runners i ≡ Some old → count a.running ≡ 0 → room a.running ≡ room old.running → AreRoomy count room periods t charge runners → AreRoomy count room periods t charge runners'
+roomy_begun function count room periods t charge runners runners' i a low set old was none same roomy =
+    each_written function runners runners' i a low set (IsRoomy count room periods t charge)
+    (let whole = (roomy i old was).whole in
+    record {
+      whole = omega (arith, whole, same);
+      rest = λ on. (let rest = room_none periods t charge (room old.running) whole in omega (arith, none, same, rest));
+    }) roomy
+
+pub have_room : {R : Type 0} (count room : R → ℕ) (periods t charge : ℕ) (runners : List (Runner R)) → AreRoomy count room periods t charge runners → HaveRoom room (periods * charge) runners
+have_room count room periods t charge runners roomy f r is = (roomy f r is).whole
+
+-- one written keeps its room
+pub written_keeps : {R : Type 0} (function : R → Table) (room : R → ℕ) (runners runners' : List (Runner R)) (i : ℕ) (a : Runner R) → i < length runners → runners' ≡ slice_set runners i a →
+    (old : Runner R) → slice_get runners i ≡ Some old → room a.running ≡ room old.running → (most : ℕ) → HaveRoom room most runners → HaveRoom room most runners'
+written_keeps function room runners runners' i a low set old was same most have =
+    each_written function runners runners' i a low set (λ r. most ≤ room r.running) (let there = have i old was in omega (arith, there, same)) have

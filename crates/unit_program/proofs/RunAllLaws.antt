@@ -7,7 +7,7 @@ use Rattle.shape_law.specs.Table.{Table}
 use Rattle.uc_model.specs.Data.{ThermalUnit, PriceLists}
 use Rattle.unit_program.specs.declared.runner.Runner.{Runner}
 use Rattle.unit_program.specs.declared.table.Ended.{Ended}
-use Rattle.unit_program.specs.Live.{going_of, live_at, IsRoomy, AreRoomy}
+use Rattle.unit_program.specs.Live.{going_of, live_at, IsRoomy, AreRoomy, HaveRoom}
 use Rattle.unit_program.specs.Rows.{row_at, cost_at, first_at, before_at, AreWithin}
 use Rattle.unit_program.specs.Runners.{Going, IsRowOf, IsGoneOn}
 use Rattle.unit_program.proofs.LiveLaws.{going_on, going_off, on_some, get_set_same}
@@ -27,6 +27,7 @@ module _ {R : Type 0} (function : R → Table) (count room : R → ℕ) (g : The
     pub off : live_at function runners n ≡ None → live_at function runners' n ≡ None
     pub rest : (f : ℕ) → f ≢ n → slice_get runners' f ≡ slice_get runners f
     pub roomy : (r : Runner R) → slice_get runners' n ≡ Some r → IsRoomy count room (length π.energy) (suc t) charge r
+    pub keeps : (most : ℕ) → HaveRoom room most runners → HaveRoom room most runners'
     pub count_same : length runners' ≡ length runners
 
   module _ (rows₀ : List (Option Ended)) (runners₀ : List (Runner R)) where
@@ -40,6 +41,7 @@ module _ {R : Type 0} (function : R → Table) (count room : R → ℕ) (g : The
       pub off : (f : ℕ) → f < n → live_at function runners₀ f ≡ None → live_at function runners f ≡ None
       pub rest : (f : ℕ) → n ≤ f → slice_get runners f ≡ slice_get runners₀ f
       pub roomy : (f : ℕ) (r : Runner R) → f < n → slice_get runners f ≡ Some r → IsRoomy count room (length π.energy) (suc t) charge r
+      pub keeps : (most : ℕ) → HaveRoom room most runners₀ → HaveRoom room most runners
       pub count_same : length runners ≡ length runners₀
 
     pub run_begins : AreWithin rows₀ → cost_at rows₀ (suc t) ≡ None → IsRunTo 0 rows₀ runners₀
@@ -52,6 +54,7 @@ module _ {R : Type 0} (function : R → Table) (count room : R → ℕ) (g : The
       off = λ f low is. absurd (omega (arith, low));
       rest = λ f from. refl;
       roomy = λ f r low is. absurd (omega (arith, low));
+      keeps = λ most have. have;
       count_same = refl;
     }
 
@@ -81,6 +84,7 @@ module _ {R : Type 0} (function : R → Table) (count room : R → ℕ) (g : The
           roomy = λ f r low. at_last (λ (f : ℕ). slice_get runners' f ≡ Some r → IsRoomy count room (length π.energy) (suc t) charge r) n f low
               (λ less is. so_far.roomy f r less (sym (same f less) ∙ is))
               (λ is. one.roomy r is);
+          keeps = λ most have. one.keeps most (so_far.keeps most have);
           count_same = one.count_same ∙ so_far.count_same;
         })
 

@@ -1,7 +1,8 @@
 //! The least end of the table, the way back from it, and the least best response.
-ghost use Rattle.std.specs.Prelude.{◌≡◌, ℕ, ◌+◌, ◌*◌, ◌<◌, ◌≤◌, ℤ, pos, neg_ℤ, [], true, false, IsTrue, IsFalse, IfOk, IfSome, IfNone, OnOk, length, suc, slice_index, slice_index_or};
+ghost use Rattle.std.specs.Prelude.{◌≡◌, ℕ, ◌+◌, ◌*◌, ◌<◌, ◌≤◌, ℤ, pos, neg_ℤ, [], true, false, IsTrue, IsFalse, IfOk, IfSome, IfNone, IsOk, OnOk, length, suc, slice_index, slice_index_or};
 ghost use Rattle.cost_curve.specs.CostCurve.{IsCostCurve};
 ghost use Rattle.shape_law.specs.Cell.{Frame};
+ghost use Rattle.spell_run.specs.Entries.{cells_for};
 ghost use Rattle.spell_run.specs.Spells.{IsLeastSpell};
 ghost use Rattle.uc_model.specs.Data.{Schedule, Thermal};
 ghost use Rattle.uc_model.specs.Earnings.{earnings, IsBest};
@@ -71,6 +72,7 @@ fn write_spell<S: Shape>(
     ensures length { length (schedule_of into.new.response).on ≡ length (schedule_of into.old.response).on }
     ensures frame { Frame S.Home.cell_list S.is_in S.numbers [] [] home.old home.new }
     ensures sure { S.Home.counts ≡ true → S.Home.sure home.new ≡ S.Home.sure home.old }
+    ensures enough { S.Home.counts ≡ true → cells_for (length (prices_of prices.now).energy) (length (thermal_of unit.now).points) ≤ S.Home.sure home.old → IsOk result }
 {
     if last == 0 {
         return Ok(());
@@ -114,6 +116,7 @@ fn write_back<S: Shape>(
     ensures length { length (schedule_of into.new.response).on ≡ length (schedule_of into.old.response).on }
     ensures frame { Frame S.Home.cell_list S.is_in S.numbers [] [] home.old home.new }
     ensures sure { S.Home.counts ≡ true → S.Home.sure home.new ≡ S.Home.sure home.old }
+    ensures enough { S.Home.counts ≡ true → cells_for (length (prices_of prices.now).energy) (length (thermal_of unit.now).points) ≤ S.Home.sure home.old → IsOk result }
 {
     let Some(ended) = rows[last as usize] else {
         return Ok(());
@@ -152,7 +155,8 @@ fn negated(cost: i64) -> i64
 
 /// Leaves in `into` the least best response, which the table names from the earliest of its least ends, and what it earns.
 /// Unit, prices and `into` are over the same periods, `curve` is the curve of the unit's points, and the rows are filled.
-/// Takes no memory but for the shapes, which are given back. After an error `into` is open.
+/// Takes no memory but for the shapes, which are given back. In a home that counts it answers Ok where the home has
+/// (T + 2) * (1 + T * (2L + 3)) cells to give, for L cost points. After an error `into` is open.
 pub fn write_best<S: Shape>(
     home: &mut S::Home,
     unit: &Unit,
@@ -173,6 +177,7 @@ pub fn write_best<S: Shape>(
     ensures earned { OnOk result (into.new.earned ≡ earnings (Thermal (thermal_of unit.now)) (prices_of prices.now) (schedule_of into.new.response)) }
     ensures frame { Frame S.Home.cell_list S.is_in S.numbers [] [] home.old home.new }
     ensures sure { S.Home.counts ≡ true → S.Home.sure home.new ≡ S.Home.sure home.old }
+    ensures enough { S.Home.counts ≡ true → cells_for (length (prices_of prices.now).energy) (length (thermal_of unit.now).points) ≤ S.Home.sure home.old → IsOk result }
 {
     clear(into);
     write_back::<S>(home, unit, curve, prices, rows, end.last, into)?;

@@ -37,6 +37,15 @@ pub fn off_from(unit: &Unit, until: u32) -> u32
     last_must_on(unit.window.as_slice(), until)
 }
 
+/// Whether the period at a place is marked `MustOff`.
+pub fn is_must_off(unit: &Unit, place: u32) -> bool
+    requires { place < length (thermal_of unit.now).window }
+    ensures yes { IsTrue result → mark_in (thermal_of unit.now).window (suc place) ≡ Mark.MustOff }
+    ensures no { IsFalse result → mark_in (thermal_of unit.now).window (suc place) ≡ Mark.MustOff → ⊥ }
+{
+    unit.window.as_slice()[place as usize] == Mark::MustOff
+}
+
 // How many of the marks from a place on come before the first `MustOff`, and the place where they end.
 fn before_must_off(marks: &[Mark], from: u32) -> u32
     requires small { length marks.now ≤ 168 }

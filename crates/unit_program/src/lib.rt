@@ -10,6 +10,7 @@
 #![tactic(auto)]
 
 pub mod answer;
+pub mod bench;
 pub mod commitment;
 pub mod laws;
 pub mod periods;
@@ -18,5 +19,6 @@ pub mod runner;
 pub mod table;
 
 pub use answer::best_response;
+pub use bench::{Bench, least_in_place};
 pub use periods::fill_by_periods;
 pub use runner::Runner;

@@ -12,12 +12,13 @@ ghost use Rattle.unit_program.specs.Rows.{cost_at, IsWithinTimes, AreWithin, IsF
 ghost use Rattle.unit_program.specs.Runners.{AreRunners};
 ghost use Rattle.unit_program.specs.Tables.{IsLeastEntry};
 
+use crate::commitment::is_must_off;
 use crate::program::{clear_rows, first_row};
 use crate::runner::{Runner, begin_runner, is_undercut, prune, run_all, stop_all};
 use crate::table::{Ended, Entry, Table, least_entry};
 use spell_run::Running;
 use spell_run::laws::{dispatches_are_runs, dispatches_go_on, runs_go_on};
-use uc_model::units::{Curve, Mark, Prices, Unit};
+use uc_model::units::{Curve, Prices, Unit};
 
 // Begins the runner of the period after the one at a place after its least entry, if no runner undercuts it.
 fn start_after<R: Running>(unit: &Unit, place: u32, entry: &Entry, runners: &mut [Runner<R>])
@@ -29,6 +30,7 @@ fn start_after<R: Running>(unit: &Unit, place: u32, entry: &Entry, runners: &mut
         AreRunners (thermal_of unit.now) π ends (live_at R.function runners.old) place (suc place) →
         AreRunners (thermal_of unit.now) π ends (live_at R.function runners.new) place (suc (suc place)) }
     ensures room { (periods charge : ℕ) → AreRoomy R.count R.room periods place charge runners.old → AreRoomy R.count R.room periods place charge runners.new }
+    ensures keeps { (most : ℕ) → HaveRoom R.room most runners.old → HaveRoom R.room most runners.new }
     ensures length { length runners.new ≡ length runners.old }
 {
     if is_undercut(runners, place + 1, unit.min_power, entry.cost) {
@@ -48,6 +50,7 @@ fn start<R: Running>(unit: &Unit, place: u32, rows: &[Option<Ended>], runners: &
         AreRunners (thermal_of unit.now) π (cost_at rows.now) (live_at R.function runners.old) place (suc place) →
         AreRunners (thermal_of unit.now) π (cost_at rows.now) (live_at R.function runners.new) place (suc (suc place)) }
     ensures room { (periods charge : ℕ) → AreRoomy R.count R.room periods place charge runners.old → AreRoomy R.count R.room periods place charge runners.new }
+    ensures keeps { (most : ℕ) → HaveRoom R.room most runners.old → HaveRoom R.room most runners.new }
     ensures length { length runners.new ≡ length runners.old }
 {
     match least_entry(unit, rows, place) {
@@ -75,9 +78,10 @@ fn take_period<R: Running>(
     ensures filled { IsFilledTo (thermal_of unit.now) (prices_of prices.now) (suc place) table.new.items (live_at R.function runners.new) }
     ensures room { AreRoomy R.count R.room (length (prices_of prices.now).energy) (suc place) (length curve.now.blocks.items + 3) runners.new }
     ensures length { length table.new.items ≡ length table.old.items }
+    ensures keeps { (most : ℕ) → HaveRoom R.room most runners.old → HaveRoom R.room most runners.new }
     ensures count { length runners.new ≡ length runners.old }
 {
-    if *unit.window.get(place as usize) == Mark::MustOff {
+    if is_must_off(unit, place) {
         stop_all(runners);
         return;
     }
@@ -95,6 +99,7 @@ fn go_on<R: Running>(unit: &Unit, runners: &mut [Runner<R>])
     requires off { (first : ℕ) → live_at R.function runners.old first ≡ None }
     ensures stands { (π : PriceLists) (ends : ℕ → Option ℤ) → AreRunners (thermal_of unit.now) π ends (live_at R.function runners.new) 0 1 }
     ensures room { (periods charge : ℕ) → AreRoomy R.count R.room periods 0 charge runners.old → AreRoomy R.count R.room periods 0 charge runners.new }
+    ensures keeps { (most : ℕ) → HaveRoom R.room most runners.old → HaveRoom R.room most runners.new }
     ensures length { length runners.new ≡ length runners.old }
 {
     if unit.on0 {
@@ -108,8 +113,9 @@ fn begin_all<R: Running>(unit: &Unit, runners: &mut [Runner<R>], table: &mut Tab
     requires runners { 1 ≤ length runners.old }
     requires rows { 1 ≤ length table.old.items }
     ensures filled { (π : PriceLists) → 1 ≤ length π.energy → IsFilledTo (thermal_of unit.now) π 0 table.new.items (live_at R.function runners.new) }
-    ensures room { (periods charge : ℕ) → AreRoomy R.count R.room periods periods charge runners.old → AreRoomy R.count R.room periods 0 charge runners.new }
+    ensures room { (periods charge : ℕ) → HaveRoom R.room (periods * charge) runners.old → AreRoomy R.count R.room periods 0 charge runners.new }
     ensures length { length table.new.items ≡ length table.old.items }
+    ensures keeps { (most : ℕ) → HaveRoom R.room most runners.old → HaveRoom R.room most runners.new }
     ensures count { length runners.new ≡ length runners.old }
 {
     clear_rows(table);
@@ -134,8 +140,8 @@ pub fn fill_by_periods<R: Running>(
     requires room { HaveRoom R.room (length (prices_of prices.now).energy * (length curve.now.blocks.items + 3)) runners.old }
     requires rows { length (prices_of prices.now).energy < length table.old.items }
     ensures filled { IsFilled (thermal_of unit.now) (prices_of prices.now) (suc (length (prices_of prices.now).energy)) table.new.items }
-    ensures room { HaveRoom R.room (length (prices_of prices.now).energy * (length curve.now.blocks.items + 3)) runners.new }
     ensures length { length table.new.items ≡ length table.old.items }
+    ensures keeps { (most : ℕ) → HaveRoom R.room most runners.old → HaveRoom R.room most runners.new }
     ensures count { length runners.new ≡ length runners.old }
 {
     begin_all(unit, runners, table);

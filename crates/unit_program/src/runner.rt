@@ -9,7 +9,7 @@ ghost use Rattle.uc_model.specs.declared.units.Mark.TheVariants.{MustOff};
 ghost use Rattle.uc_model.specs.Data.{PriceLists};
 ghost use Rattle.uc_model.specs.PlainUnits.{thermal_of, prices_of};
 ghost use Rattle.uc_model.specs.Schedules.{mark_in};
-ghost use Rattle.unit_program.specs.Live.{going_of, live_at, IsRoomy, AreRoomy, IsSmallGoing, AreSmall, IsUnder, IsBelow};
+ghost use Rattle.unit_program.specs.Live.{going_of, live_at, IsRoomy, AreRoomy, AreSmall, IsUnder, IsBelow, HaveRoom};
 ghost use Rattle.unit_program.specs.Rows.{row_at, cost_at, first_at, before_at, IsWithinTimes, AreWithin};
 ghost use Rattle.unit_program.specs.Runners.{Going, MayBeOn, AreRunners, IsRowOf, IsGoneOn};
 ghost use Rattle.unit_program.specs.Spells.{on_time};
@@ -58,7 +58,8 @@ fn stop<R: Running>(runner: &mut Runner<R>)
 /// Stops all runners.
 pub fn stop_all<R: Running>(runners: &mut [Runner<R>])
     ensures off { (first : ℕ) → live_at R.function runners.new first ≡ None }
-    ensures room { (periods t u charge : ℕ) → AreRoomy R.count R.room periods t charge runners.old → AreRoomy R.count R.room periods u charge runners.new }
+    ensures room { (periods t charge : ℕ) → HaveRoom R.room (periods * charge) runners.old → AreRoomy R.count R.room periods t charge runners.new }
+    ensures keeps { (most : ℕ) → HaveRoom R.room most runners.old → HaveRoom R.room most runners.new }
     ensures length { length runners.new ≡ length runners.old }
 {
     for place in 0..runners.len() {
@@ -202,6 +203,7 @@ fn take_runner<R: Running>(
     ensures length { length table.new.items ≡ length table.old.items }
     ensures goes { IsGoneOn (thermal_of unit.now) (prices_of prices.now) place first (record { before = runner.old.before; cost = runner.old.cost; function = R.function runner.old.running }) (going_of R.function (Some runner.new)) }
     ensures room { IsRoomy R.count R.room (length (prices_of prices.now).energy) (suc place) (length curve.now.blocks.items + 3) runner.new }
+    ensures keeps { R.room runner.new.running ≡ R.room runner.old.running }
 {
     let entry = Entry {
         cost: runner.cost,
@@ -243,6 +245,7 @@ fn run_at<R: Running>(
     ensures off { live_at R.function runners.old first ≡ None → live_at R.function runners.new first ≡ None }
     ensures rest { (f : ℕ) → f ≢ first → slice_get runners.new f ≡ slice_get runners.old f }
     ensures room { (r : Runner R) → slice_get runners.new first ≡ Some r → IsRoomy R.count R.room (length (prices_of prices.now).energy) (suc place) (length curve.now.blocks.items + 3) r }
+    ensures keeps { (most : ℕ) → HaveRoom R.room most runners.old → HaveRoom R.room most runners.new }
     ensures count { length runners.new ≡ length runners.old }
 {
     if runners[first as usize].is_on {
@@ -286,6 +289,7 @@ pub fn run_all<R: Running>(
         IsGoneOn (thermal_of unit.now) (prices_of prices.now) place first r (live_at R.function runners.new first) }
     ensures off { (first : ℕ) → live_at R.function runners.old first ≡ None → live_at R.function runners.new first ≡ None }
     ensures room { AreRoomy R.count R.room (length (prices_of prices.now).energy) (suc place) (length curve.now.blocks.items + 3) runners.new }
+    ensures keeps { (most : ℕ) → HaveRoom R.room most runners.old → HaveRoom R.room most runners.new }
     ensures count { length runners.new ≡ length runners.old }
 {
     for first in 0..place + 2 {
@@ -335,6 +339,7 @@ fn prune_one<R: Running>(
         AreRunners (thermal_of unit.now) π ends (live_at R.function runners.new) period n }
     ensures small { AreSmall (live_at R.function runners.new) }
     ensures room { (periods t charge : ℕ) → AreRoomy R.count R.room periods t charge runners.old → AreRoomy R.count R.room periods t charge runners.new }
+    ensures keeps { (most : ℕ) → HaveRoom R.room most runners.old → HaveRoom R.room most runners.new }
     ensures length { length runners.new ≡ length runners.old }
 {
     if !runners[early as usize].is_on {
@@ -358,6 +363,7 @@ pub fn prune<R: Running>(unit: &Unit, period: u32, runners: &mut [Runner<R>])
         AreRunners (thermal_of unit.now) π ends (live_at R.function runners.old) period n →
         AreRunners (thermal_of unit.now) π ends (live_at R.function runners.new) period n }
     ensures room { (periods t charge : ℕ) → AreRoomy R.count R.room periods t charge runners.old → AreRoomy R.count R.room periods t charge runners.new }
+    ensures keeps { (most : ℕ) → HaveRoom R.room most runners.old → HaveRoom R.room most runners.new }
     ensures length { length runners.new ≡ length runners.old }
 {
     let mut late = None;

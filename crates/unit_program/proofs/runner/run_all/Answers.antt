@@ -27,6 +27,7 @@ loop-first-preserved g c =
       off = c.run_at.ensures.off;
       rest = c.run_at.ensures.rest;
       roomy = c.run_at.ensures.room;
+      keeps = c.run_at.ensures.keeps;
       count_same = c.run_at.ensures.count;
     })
 

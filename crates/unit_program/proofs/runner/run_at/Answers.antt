@@ -4,7 +4,7 @@ use Rattle.uc_model.specs.PlainUnits.{thermal_of, prices_of}
 use Rattle.unit_program.specs.Live.{going_of}
 use Rattle.unit_program.specs.Rows.{cost_at, first_at, before_at}
 use Rattle.unit_program.specs.Runners.{Going}
-use Rattle.unit_program.proofs.LiveLaws.{get_set_same, get_set_other}
+use Rattle.unit_program.proofs.LiveLaws.{get_set_same, get_set_other, written_keeps}
 use Rattle.unit_program.proofs.RunAllLaws.{item_at, item_same, item_live, item_off, goes_written, on_of, room_of}
 use Rattle.unit_program.proofs.RunnerRowLaws.{row_skip}
 use Rattle.unit_program.proofs.runner.run_at.Goals as goal
@@ -80,3 +80,9 @@ returns-else-runners-first-clause-room g c = λ r is.
           let off : r.is_on ≡ false = on_of r _ same c.if-runners-first.false in
           cc;
     }
+
+pub returns-then-runners-first-clause-keeps : goal.returns-then-runners-first-clause-keeps
+returns-then-runners-first-clause-keeps g c =
+    let d = c.index-runners-first-then-runners-first.result in
+    written_keeps g.R.Running.function g.R.Running.room c.args.runners.now _ c.args.first c.take_runner.new.runner c.requires.runners refl
+    (get_or c.args.runners.now c.args.first d) (item_at g.R.Running.function c.args.runners.now c.args.first c.requires.runners d) c.take_runner.ensures.keeps

@@ -1,5 +1,5 @@
 use Rattle.std.proofs.Common.{◌≡◌, ◌≤◌, length, refl, sym, ap, ◌∙◌, arith, length-set}
-use Rattle.unit_program.proofs.LiveLaws.{none_stopped, stopped_more, stopped_off, stopped_roomy}
+use Rattle.unit_program.proofs.LiveLaws.{none_stopped, stopped_more, stopped_off, stopped_roomy, stopped_keeps}
 use Rattle.unit_program.proofs.RunAllLaws.{item_at}
 use Rattle.unit_program.proofs.runner.stop_all.Goals as goal
 
@@ -25,3 +25,6 @@ returns-clause-room g c =
     let end = c.loop-place-test.false in
     let same = c.loop-place.invariant.same_length in
     stopped_roomy g.R.Running.function g.R.Running.count g.R.Running.room c.args.runners.now c.loop-place.runners c.loop-place.place c.loop-place.invariant (omega (arith, end, same))
+
+pub returns-clause-keeps : goal.returns-clause-keeps
+returns-clause-keeps g c = stopped_keeps g.R.Running.function g.R.Running.count g.R.Running.room c.args.runners.now c.loop-place.runners c.loop-place.place c.loop-place.invariant

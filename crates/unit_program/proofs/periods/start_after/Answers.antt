@@ -1,0 +1,41 @@
+use Rattle.std.proofs.Common.{rules, ◌≡◌, ℕ, suc, ◌+◌, ◌<◌, Some, length, refl, sym, ◌∙◌, arith, to_z, of_z}
+use Rattle.std.specs.Prelude.{FitsSigned}
+use Rattle.std.specs.Int.{w64}
+use Rattle.std.proofs.lemmas.Int.{to_z-of_z}
+use Rattle.uc_model.specs.PlainUnits.{thermal_of}
+use Rattle.unit_program.specs.Live.{live_at, IsUnder}
+use Rattle.unit_program.specs.Runners.{Going}
+use Rattle.unit_program.proofs.LiveLaws.{roomy_begun, written_keeps}
+use Rattle.unit_program.proofs.RunAllLaws.{item_at}
+use Rattle.unit_program.proofs.StandInLaws.{start_undercut}
+use Rattle.unit_program.proofs.StartLaws.{started}
+use Rattle.unit_program.proofs.periods.start_after.Goals as goal
+
+pub returns-then-is_undercut-clause-stands : goal.returns-then-is_undercut-clause-stands
+returns-then-is_undercut-clause-stands g c = λ π ends least now.
+    let fits_power : FitsSigned w64 c.args.unit.now.min_power = search rules in
+    let fits_cost : FitsSigned w64 c.args.entry.now.cost = search rules in
+    let found : (f : ℕ) × (r : Going) × (live_at g.R.Running.function c.args.runners.now f ≡ Some r) × IsUnder c.args.unit.now.min_power c.args.entry.now.cost r = simp to_z-of_z at c.if-is_undercut.ensures in
+    start_undercut (thermal_of c.args.unit.now) π ends c.args.place (live_at g.R.Running.function c.args.runners.now) (live_at g.R.Running.function c.args.runners.now) now
+    c.args.entry.now.last c.args.entry.now.cost least found.0 found.1 found.3.0 found.2 found.3.1 found.3.2
+
+pub returns-clause-stands : goal.returns-clause-stands
+returns-clause-stands g c = λ π ends least now.
+    let end = c.requires.runners in
+    let low : c.args.place + 1 < length c.args.runners.now = omega (arith, end) in
+    started g.R.Running.function (thermal_of c.args.unit.now) π ends c.args.place (c.args.place + 1) (omega arith) c.args.runners.now c.begin_runner.new.runner low
+    c.args.entry.now.last c.args.entry.now.cost c.begin_runner.ensures.on c.begin_runner.ensures.cost c.begin_runner.ensures.before (c.begin_runner.ensures.frontier π) c.requires.bound least now
+
+pub returns-clause-room : goal.returns-clause-room
+returns-clause-room g c = λ periods charge roomy.
+    let end = c.requires.runners in
+    let low : c.args.place + 1 < length c.args.runners.now = omega (arith, end) in
+    roomy_begun g.R.Running.function g.R.Running.count g.R.Running.room periods c.args.place charge c.args.runners.now _ (c.args.place + 1) c.begin_runner.new.runner low refl
+    _ (item_at g.R.Running.function c.args.runners.now (c.args.place + 1) low _) c.begin_runner.ensures.count c.begin_runner.ensures.room roomy
+
+pub returns-clause-keeps : goal.returns-clause-keeps
+returns-clause-keeps g c =
+    let end = c.requires.runners in
+    let low : c.args.place + 1 < length c.args.runners.now = omega (arith, end) in
+    written_keeps g.R.Running.function g.R.Running.room c.args.runners.now _ (c.args.place + 1) c.begin_runner.new.runner low refl
+    _ (item_at g.R.Running.function c.args.runners.now (c.args.place + 1) low _) c.begin_runner.ensures.room

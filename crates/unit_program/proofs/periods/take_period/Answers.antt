@@ -1,0 +1,66 @@
+use Rattle.std.proofs.Common.{◌≡◌, ℕ, suc, ◌+◌, ◌<◌, ◌≤◌, List, Option, length, sym, subst, arith}
+use Rattle.uc_model.specs.PlainUnits.{thermal_of, prices_of}
+use Rattle.unit_program.specs.declared.table.Ended.{Ended}
+use Rattle.unit_program.specs.Live.{live_at}
+use Rattle.unit_program.specs.Rows.{cost_at}
+use Rattle.unit_program.specs.Runners.{AreRunners}
+use Rattle.unit_program.proofs.LiveLaws.{small_of, have_room}
+use Rattle.unit_program.proofs.PeriodLaws.{period_off, period_run, period_filled}
+use Rattle.unit_program.proofs.periods.take_period.Goals as goal
+
+pub returns-then-is_must_off-clause-filled : goal.returns-then-is_must_off-clause-filled
+returns-then-is_must_off-clause-filled g c =
+    period_off (thermal_of c.args.unit.now) (prices_of c.args.prices.now) c.args.unit.now.valid c.args.place c.args.table.now.items (live_at g.R.Running.function c.args.runners.now) c.requires.filled c.requires.place
+    (live_at g.R.Running.function c.stop_all.new.runners) c.stop_all.ensures.off (c.is_must_off.ensures.yes c.if-is_must_off.true)
+
+pub returns-then-is_must_off-clause-room : goal.returns-then-is_must_off-clause-room
+returns-then-is_must_off-clause-room g c =
+    c.stop_all.ensures.room (length c.args.prices.now.energy.items) (suc c.args.place) (length c.args.curve.now.blocks.items + 3)
+    (have_room g.R.Running.count g.R.Running.room (length c.args.prices.now.energy.items) c.args.place (length c.args.curve.now.blocks.items + 3) c.args.runners.now c.requires.room)
+
+pub start-requires-clause-small : goal.start-requires-clause-small
+start-requires-clause-small g c =
+    let u = thermal_of c.args.unit.now in
+    let π = prices_of c.args.prices.now in
+    let few = c.args.prices.now.valid.horizon.at_most in
+    let place = c.requires.place in
+    small_of u π _ (live_at g.R.Running.function c.args.runners.now) c.args.place (suc c.args.place) (omega (arith, few, place)) (omega (arith, few, place)) c.requires.filled.runners
+
+pub run_all-requires-clause-room : goal.run_all-requires-clause-room
+run_all-requires-clause-room g c = c.start.ensures.room (length c.args.prices.now.energy.items) (length c.args.curve.now.blocks.items + 3) c.requires.room
+
+pub prune-requires-clause-small : goal.prune-requires-clause-small
+prune-requires-clause-small g c =
+    let u = thermal_of c.args.unit.now in
+    let π = prices_of c.args.prices.now in
+    let few = c.args.prices.now.valid.horizon.at_most in
+    let place = c.requires.place in
+    let before = subst (λ (rows : List (Option Ended)). AreRunners u π (cost_at rows) (live_at g.R.Running.function c.args.runners.now) c.args.place (suc c.args.place)) (sym c.as_slice.ensures) c.requires.filled.runners in
+    let now = subst (λ (rows : List (Option Ended)). AreRunners u π (cost_at rows) (live_at g.R.Running.function c.start.new.runners) c.args.place (suc (suc c.args.place))) c.as_slice.ensures (c.start.ensures.stands π before) in
+    let ran = period_run u π c.args.unit.now.valid c.args.place c.args.table.now.items (live_at g.R.Running.function c.args.runners.now) c.requires.filled c.requires.place c.run_all.new.table.items
+    (live_at g.R.Running.function c.start.new.runners) (live_at g.R.Running.function c.run_all.new.runners) now c.runs_go_on.ensures (c.is_must_off.ensures.no c.if-is_must_off.false) c.run_all.ensures.goes c.run_all.ensures.off in
+    small_of u π _ (live_at g.R.Running.function c.run_all.new.runners) (suc c.args.place) (suc (suc c.args.place)) (omega (arith, few, place)) (omega (arith, few, place)) ran
+
+pub returns-clause-filled : goal.returns-clause-filled
+returns-clause-filled g c =
+    let u = thermal_of c.args.unit.now in
+    let π = prices_of c.args.prices.now in
+    let few = c.args.prices.now.valid.horizon.at_most in
+    let place = c.requires.place in
+    let before = subst (λ (rows : List (Option Ended)). AreRunners u π (cost_at rows) (live_at g.R.Running.function c.args.runners.now) c.args.place (suc c.args.place)) (sym c.as_slice.ensures) c.requires.filled.runners in
+    let now = subst (λ (rows : List (Option Ended)). AreRunners u π (cost_at rows) (live_at g.R.Running.function c.start.new.runners) c.args.place (suc (suc c.args.place))) c.as_slice.ensures (c.start.ensures.stands π before) in
+    let ran = period_run u π c.args.unit.now.valid c.args.place c.args.table.now.items (live_at g.R.Running.function c.args.runners.now) c.requires.filled c.requires.place c.run_all.new.table.items
+    (live_at g.R.Running.function c.start.new.runners) (live_at g.R.Running.function c.run_all.new.runners) now c.runs_go_on.ensures (c.is_must_off.ensures.no c.if-is_must_off.false) c.run_all.ensures.goes c.run_all.ensures.off in
+    let next : suc c.args.place ≡ c.args.place + 1 = omega arith in
+    let there = subst (λ (t : ℕ). AreRunners u π (cost_at c.args.table.now.items) (live_at g.R.Running.function c.run_all.new.runners) t (suc (suc c.args.place))) next ran in
+    let pruned = subst (λ (t : ℕ). AreRunners u π (cost_at c.args.table.now.items) (live_at g.R.Running.function c.prune.new.runners) t (suc (suc c.args.place))) (sym next)
+    (c.prune.ensures.stands π (cost_at c.args.table.now.items) (suc (suc c.args.place)) there) in
+    period_filled u π c.args.unit.now.valid c.args.place c.args.table.now.items (live_at g.R.Running.function c.args.runners.now) c.requires.filled c.requires.place c.run_all.new.table.items
+    (live_at g.R.Running.function c.start.new.runners) (live_at g.R.Running.function c.run_all.new.runners) now c.dispatches_go_on.ensures c.dispatches_are_runs.ensures
+    (live_at g.R.Running.function c.prune.new.runners) pruned c.run_all.ensures.row c.run_all.ensures.others c.run_all.ensures.within
+
+pub returns-clause-room : goal.returns-clause-room
+returns-clause-room g c = c.prune.ensures.room (length c.args.prices.now.energy.items) (suc c.args.place) (length c.args.curve.now.blocks.items + 3) c.run_all.ensures.room
+
+pub returns-clause-keeps : goal.returns-clause-keeps
+returns-clause-keeps g c = λ most have. c.prune.ensures.keeps most (c.run_all.ensures.keeps most (c.start.ensures.keeps most have))

@@ -1,0 +1,19 @@
+use Rattle.std.proofs.Common.{◌≡◌, ℕ, ◌+◌, ◌-◌, ◌<◌, ◌≤◌, Option, Some, length, ◌∙◌, arith}
+use Rattle.unit_program.specs.Live.{live_at}
+use Rattle.unit_program.specs.Runners.{Going}
+use Rattle.unit_program.proofs.LiveLaws.{if_some_more}
+use Rattle.unit_program.proofs.runner.prune.Goals as goal
+
+pub loop-back-preserved : goal.loop-back-preserved
+loop-back-preserved g c =
+    let low = c.loop-back-test.true in
+    record {
+      late = if_some_more (λ l. (c.args.period - c.loop-back.back ≤ l) × (l ≤ c.args.period) × ((r : Going) × (live_at g.R.Running.function c.prune_one-late.new.runners l ≡ Some r)))
+          (λ l. (c.args.period < l + (c.loop-back.back + 1)) × (l ≤ c.args.period) × ((r : Going) × (live_at g.R.Running.function c.prune_one-late.new.runners l ≡ Some r)))
+          (λ l h. (let from = h.0 in (omega (arith, from, low), h.1, h.2))) c.prune_one-late.result c.prune_one-late.ensures.late;
+      small = c.prune_one-late.ensures.small;
+      stands = λ π ends n now. c.prune_one-late.ensures.stands π ends n (c.loop-back.invariant.stands π ends n now);
+      roomy = λ periods t charge roomy. c.prune_one-late.ensures.room periods t charge (c.loop-back.invariant.roomy periods t charge roomy);
+      keeps = λ most have. c.prune_one-late.ensures.keeps most (c.loop-back.invariant.keeps most have);
+      count_same = c.prune_one-late.ensures.length ∙ c.loop-back.invariant.count_same;
+    }
