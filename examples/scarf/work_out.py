@@ -84,6 +84,7 @@ def start_price(demand):
 def rows_of(demand, cost):
     """The proposals one after another: (price, value, supply)."""
     rows, settled = [], None
+    best = []  # of the rows up to each one, which is the first of the greatest value
     for n in range(1, BUDGET + 1):
         if settled is not None and settled <= n - AHEAD:
             break
@@ -91,13 +92,13 @@ def rows_of(demand, cost):
             price = start_price(demand) * (7 + n) // 8
         else:
             price, row_value, supply = rows[n - AHEAD - 1]
-            values = [it[1] for it in rows[: n - AHEAD]]
-            age = len(values) - 1 - values.index(max(values))
+            age = n - AHEAD - 1 - best[n - AHEAD - 1]
             gap, lacking = cost - row_value, demand - supply
             size = gap * abs(lacking) // (lacking**2 * 2 ** min(20, age // 10))
             price = max(-PRICE_LIMIT, min(PRICE_LIMIT, price + (size if lacking > 0 else -size)))
         supply = sum(answer(it, price)[0] for it in UNITS)
         rows.append((price, value(price, demand), supply))
+        best.append(n - 1 if n == 1 or rows[-1][1] > rows[best[-1]][1] else best[-1])
         if settled is None and (rows[-1][1] == cost or supply == demand):
             settled = n
     return rows
