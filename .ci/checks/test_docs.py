@@ -31,6 +31,15 @@ class Docs(unittest.TestCase):
                 self.assertTrue(None in (cells, now) or cells == now, f"{os.path.relpath(page, ROOT)}, line {number}")
                 cells = now
 
+    def test_lines_that_report_explains_are_printed_by_examples(self):
+        printed = set()
+        for name in glob.glob(f"{ROOT}/examples/**/*.output", recursive=True):
+            printed.update(self.read(name).split("\n"))
+        rows = [it.split(" | ") for it in self.read(f"{ROOT}/docs/REPORT.md").split("\n") if it.startswith("| `")]
+        lines = [line for row in rows for line in re.findall(r"`([^`]+)`", re.sub(r"\(`examples/[^)]*\)", "", row[1]))]
+        self.assertGreater(len(lines), 30)
+        self.assertEqual([it for it in lines if it not in printed], [])
+
     def test_manual_page_shows_without_a_warning(self):
         if not shutil.which("man"):
             self.skipTest("there is no man here")
