@@ -96,7 +96,7 @@ class Lines:
 def read_report(name):
     try:
         if name == "-":
-            text = sys.stdin.read()
+            name, text = "standard input", sys.stdin.read()
         else:
             with open(name, encoding="utf-8") as it:
                 text = it.read()
