@@ -20,7 +20,11 @@ def main():
         return 1
     suite = unittest.TestSuite()
     for folder in (".ci/checks", "tools/tests"):
-        suite.addTests(unittest.TestLoader().discover(os.path.join(ROOT, folder), top_level_dir=os.path.join(ROOT, folder)))
+        suite.addTests(
+            unittest.TestLoader().discover(
+                os.path.join(ROOT, folder), top_level_dir=os.path.join(ROOT, folder)
+            )
+        )
     done = unittest.TextTestRunner(stream=sys.stdout, verbosity=1).run(suite)
     for test, why in done.skipped:
         print(f"not run: {test.id()}: {why}")

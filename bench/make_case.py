@@ -17,7 +17,13 @@ import random
 def daily_load(t):
     """Between 0 and 1, with a peak in the morning and one in the evening."""
     hour = t % 24
-    return max(0.05, 0.42 + 0.28 * math.sin((hour - 7) / 24 * 2 * math.pi) + 0.25 * math.exp(-((hour - 19) ** 2) / 8) + 0.12 * math.exp(-((hour - 9) ** 2) / 6))
+    return max(
+        0.05,
+        0.42
+        + 0.28 * math.sin((hour - 7) / 24 * 2 * math.pi)
+        + 0.25 * math.exp(-((hour - 19) ** 2) / 8)
+        + 0.12 * math.exp(-((hour - 9) ** 2) / 6),
+    )
 
 
 def runs_of(flags):
@@ -72,8 +78,14 @@ class Unit:
                     down[-1 - i] = min(self.most, self.cap + i * self.ramp)
             before = None
             for t in range(first, after):
-                want = self.least + int((self.most - self.least) * min(1, max(0, (daily_load(t) - level) * 2.5 + self.jitter[t])))
-                high = min(down[t - first], self.cap if before is None and first else self.most, self.most if before is None else before + self.ramp)
+                want = self.least + int(
+                    (self.most - self.least) * min(1, max(0, (daily_load(t) - level) * 2.5 + self.jitter[t]))
+                )
+                high = min(
+                    down[t - first],
+                    self.cap if before is None and first else self.most,
+                    self.most if before is None else before + self.ramp,
+                )
                 low = self.least if before is None else max(self.least, before - self.ramp)
                 before = powers[t] = min(max(want, low), high)
             if first == 0:
@@ -85,7 +97,17 @@ class Unit:
         starts = t > 0 and not self.on[t - 1]
         stops = t + 1 < len(self.on) and not self.on[t + 1]
         before = (self.power[t - 1] - self.least if not starts else 0) if t else self.power0 - self.least
-        return max(0, min((self.cap if starts or stops else self.most) - self.power[t], self.ramp + before - (self.power[t] - self.least))) if self.on[t] else 0
+        return (
+            max(
+                0,
+                min(
+                    (self.cap if starts or stops else self.most) - self.power[t],
+                    self.ramp + before - (self.power[t] - self.least),
+                ),
+            )
+            if self.on[t]
+            else 0
+        )
 
     def case(self):
         points, cost = [], self.least / 1000 * self.price
@@ -94,12 +116,28 @@ class Unit:
             if i:
                 cost += (at - points[-1][0]) / 1000 * self.price * self.steps[i - 1]
             points.append((at, round(cost, 3)))
-        limits = {"ramp_up_limit": self.ramp, "ramp_down_limit": self.ramp, "ramp_startup_limit": self.cap, "ramp_shutdown_limit": self.cap}
+        limits = {
+            "ramp_up_limit": self.ramp,
+            "ramp_down_limit": self.ramp,
+            "ramp_startup_limit": self.cap,
+            "ramp_shutdown_limit": self.cap,
+        }
         return {
-            "must_run": 0, "power_output_minimum": self.least / 1000, "power_output_maximum": self.most / 1000,
-            **{key: it / 1000 for key, it in limits.items()}, "time_up_minimum": self.min_up, "time_down_minimum": self.min_down,
-            "power_output_t0": self.power0 / 1000, "unit_on_t0": int(self.on[0]), "time_up_t0": 24 * self.on[0], "time_down_t0": 24 * (not self.on[0]),
-            "startup": [{"lag": self.min_down, "cost": self.start}, {"lag": self.min_down + 4, "cost": 2 * self.start}, {"lag": self.min_down + 12, "cost": 3 * self.start}],
+            "must_run": 0,
+            "power_output_minimum": self.least / 1000,
+            "power_output_maximum": self.most / 1000,
+            **{key: it / 1000 for key, it in limits.items()},
+            "time_up_minimum": self.min_up,
+            "time_down_minimum": self.min_down,
+            "power_output_t0": self.power0 / 1000,
+            "unit_on_t0": int(self.on[0]),
+            "time_up_t0": 24 * self.on[0],
+            "time_down_t0": 24 * (not self.on[0]),
+            "startup": [
+                {"lag": self.min_down, "cost": self.start},
+                {"lag": self.min_down + 4, "cost": 2 * self.start},
+                {"lag": self.min_down + 12, "cost": 3 * self.start},
+            ],
             "piecewise_production": [{"mw": at / 1000, "cost": it} for at, it in points],
         }
 
@@ -110,7 +148,12 @@ def renewable(draw, periods):
     most = []
     for t in range(periods):
         wind = min(1, max(0, wind + draw.uniform(-0.15, 0.15)))
-        most.append(int(size * (max(0, math.sin((t % 24 - 6) / 12 * math.pi)) * (0.6 + 0.4 * wind) if is_sun else wind)))
+        most.append(
+            int(
+                size
+                * (max(0, math.sin((t % 24 - 6) / 12 * math.pi)) * (0.6 + 0.4 * wind) if is_sun else wind)
+            )
+        )
     return most
 
 
@@ -129,12 +172,23 @@ def make(thermal, renewables, periods, reserve, seed):
             left -= kept[t]
         required.append(sum(it[t] for it in reserves))
     case = {
-        "time_periods": periods, "demand": [it / 1000 for it in demand], "reserves": [it / 1000 for it in required],
+        "time_periods": periods,
+        "demand": [it / 1000 for it in demand],
+        "reserves": [it / 1000 for it in required],
         "thermal_generators": {f"T{i:04}": it.case() for i, it in enumerate(units, 1)},
-        "renewable_generators": {f"R{i:04}": {"power_output_minimum": [0] * periods, "power_output_maximum": [x / 1000 for x in it]} for i, it in enumerate(others, 1)},
+        "renewable_generators": {
+            f"R{i:04}": {
+                "power_output_minimum": [0] * periods,
+                "power_output_maximum": [x / 1000 for x in it],
+            }
+            for i, it in enumerate(others, 1)
+        },
     }
     schedule = {
-        "thermal": {f"T{i:04}": {"on": [int(x) for x in it.on], "power": it.power, "reserve": kept} for i, (it, kept) in enumerate(zip(units, reserves), 1)},
+        "thermal": {
+            f"T{i:04}": {"on": [int(x) for x in it.on], "power": it.power, "reserve": kept}
+            for i, (it, kept) in enumerate(zip(units, reserves), 1)
+        },
         "renewable": {f"R{i:04}": it for i, it in enumerate(others, 1)},
     }
     return case, schedule
@@ -149,12 +203,21 @@ def write(folder, **size):
 
 
 def main():
-    ask = argparse.ArgumentParser(description="Generates a realistic case of any size with a feasible schedule.")
+    ask = argparse.ArgumentParser(
+        description="Generates a realistic case of any size with a feasible schedule."
+    )
     ask.add_argument("folder")
     for word, usual in (("thermal", 73), ("renewable", 81), ("periods", 48), ("reserve", 3), ("seed", 1)):
         ask.add_argument(f"--{word}", type=int, default=usual)
     it = ask.parse_args()
-    write(it.folder, thermal=it.thermal, renewables=it.renewable, periods=it.periods, reserve=it.reserve, seed=it.seed)
+    write(
+        it.folder,
+        thermal=it.thermal,
+        renewables=it.renewable,
+        periods=it.periods,
+        reserve=it.reserve,
+        seed=it.seed,
+    )
 
 
 if __name__ == "__main__":

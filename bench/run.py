@@ -81,9 +81,20 @@ def main():
             if only and name not in only:
                 continue
             case, schedule = files_of(name, room)
-            words = [given.program, command, "--case", case, "--schedule", schedule, *(["--proposals", proposals] if proposals else [])]
+            words = [
+                given.program,
+                command,
+                "--case",
+                case,
+                "--schedule",
+                schedule,
+                *(["--proposals", proposals] if proposals else []),
+            ]
             runs = [measure(words) for _ in range(max(1, given.runs))]
-            print(f"| {name} | {what} | {min(it[0] for it in runs):.3f} | {max(it[1] for it in runs):.1f} |", flush=True)
+            print(
+                f"| {name} | {what} | {min(it[0] for it in runs):.3f} | {max(it[1] for it in runs):.1f} |",
+                flush=True,
+            )
 
 
 if __name__ == "__main__":

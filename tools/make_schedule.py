@@ -21,6 +21,7 @@ import os
 import subprocess
 import sys
 import tempfile
+from dataclasses import dataclass
 from decimal import ROUND_FLOOR, Decimal
 
 try:
@@ -57,7 +58,9 @@ def lower_hull(points):
             if corners[-1][1] <= cost:
                 continue
             corners.pop()
-        while len(corners) > 1 and (corners[-1][1] - corners[-2][1]) * (at - corners[-2][0]) >= (cost - corners[-2][1]) * (corners[-1][0] - corners[-2][0]):
+        while len(corners) > 1 and (corners[-1][1] - corners[-2][1]) * (at - corners[-2][0]) >= (
+            cost - corners[-2][1]
+        ) * (corners[-1][0] - corners[-2][0]):
             corners.pop()
         corners.append((at, cost))
     return corners
@@ -73,9 +76,15 @@ class Thermal:
         self.stop_cap = min(kilowatts(it["ramp_shutdown_limit"]), self.most)
         self.min_up, self.min_down = max(int(it["time_up_minimum"]), 1), max(int(it["time_down_minimum"]), 1)
         self.on0 = int(it["unit_on_t0"])
-        self.power0, self.up0, self.down0 = kilowatts(it["power_output_t0"]), int(it["time_up_t0"]), int(it["time_down_t0"])
+        self.power0, self.up0, self.down0 = (
+            kilowatts(it["power_output_t0"]),
+            int(it["time_up_t0"]),
+            int(it["time_down_t0"]),
+        )
         self.lags = [(int(lag["lag"]), rounded(lag["cost"], 10**6)) for lag in it["startup"]]
-        self.blocks = self.cost_blocks([(kilowatts(at["mw"]), rounded(at["cost"], 10**6)) for at in it["piecewise_production"]])
+        self.blocks = self.cost_blocks(
+            [(kilowatts(at["mw"]), rounded(at["cost"], 10**6)) for at in it["piecewise_production"]]
+        )
         self.marks = [None if it is None else int(it) for it in it.get("commitment", [None] * periods)]
 
     def cost_blocks(self, points):
@@ -104,7 +113,9 @@ class Thermal:
         if self.on0 and self.power0 > self.stop_cap:
             low[0] = 1  # (a stop in period 1 would come down from too high)
         for t, mark in enumerate(self.marks):
-            low[t], high[t] = (max(low[t], mark), min(high[t], mark)) if mark is not None else (low[t], high[t])
+            low[t], high[t] = (
+                (max(low[t], mark), min(high[t], mark)) if mark is not None else (low[t], high[t])
+            )
         return low, high
 
 
@@ -114,9 +125,15 @@ class Case:
         self.periods = int(it["time_periods"])
         self.demand, self.reserves = [[kilowatts(at) for at in it[key]] for key in ("demand", "reserves")]
         self.thermal = [Thermal(name, unit, self.periods) for name, unit in it["thermal_generators"].items()]
-        self.renewable = [(name, *([kilowatts(at) for at in unit[f"power_output_{key}"]] for key in ("minimum", "maximum"))) for name, unit in it["renewable_generators"].items()]
+        self.renewable = [
+            (name, *([kilowatts(at) for at in unit[f"power_output_{key}"]] for key in ("minimum", "maximum")))
+            for name, unit in it["renewable_generators"].items()
+        ]
         blocks = lambda period: [(kilowatts(at["mw"]), rounded(at["price"], 1000)) for at in period]
-        self.bids = [(name, [blocks(period) for period in bid["blocks"]]) for name, bid in it.get("demand_bids", {}).items()]
+        self.bids = [
+            (name, [blocks(period) for period in bid["blocks"]])
+            for name, bid in it.get("demand_bids", {}).items()
+        ]
 
 
 # ---- the program that HiGHS solves: powers in megawatts, money in the case's currency
@@ -148,14 +165,22 @@ class Program:
     def solve(self, whole=True, **options):
         if not self.low:
             self.variable(0, 0)  # (SciPy wants one)
-        table = coo_matrix((self.factors, (self.rows, self.columns)), shape=(len(self.from_), len(self.low))).tocsr()
+        table = coo_matrix(
+            (self.factors, (self.rows, self.columns)), shape=(len(self.from_), len(self.low))
+        ).tocsr()
         limits = [LinearConstraint(table, self.from_, self.to)] if self.from_ else []
-        given = dict(integrality=self.whole if whole else None, bounds=Bounds(self.low, self.high), constraints=limits)
+        given = dict(
+            integrality=self.whole if whole else None, bounds=Bounds(self.low, self.high), constraints=limits
+        )
         found = milp(self.cost, **given, options=options)
         if found.status != 2:
             return found
         # (HiGHS has called programs of a few kilowatts infeasible that weren't, in its first simplifications)
-        return milp(self.cost, **given, options={**options, "presolve": False, "time_limit": min(60.0, options.get("time_limit", 60.0))})
+        return milp(
+            self.cost,
+            **given,
+            options={**options, "presolve": False, "time_limit": min(60.0, options.get("time_limit", 60.0))},
+        )
 
 
 class Unit:
@@ -165,7 +190,9 @@ class Unit:
         self.unit, self.program = unit, program
         low, high = unit.on_bounds()
         periods = range(unit.periods)
-        self.on = [program.variable(low[t], max(low[t], high[t]), unit.least_cost / 1e6, True) for t in periods]
+        self.on = [
+            program.variable(low[t], max(low[t], high[t]), unit.least_cost / 1e6, True) for t in periods
+        ]
         # (these are 0 or 1 where the on flags are; a limit below the least power bars the start or stop)
         self.start = [program.variable(0, int(unit.start_cap >= unit.least)) for _ in periods]
         self.stop = [program.variable(0, int(unit.stop_cap >= unit.least or t == 0)) for t in periods]
@@ -182,8 +209,16 @@ class Unit:
             before = [(self.on[t - 1], -1)] if t else []
             same = unit.on0 if t == 0 else 0
             row([(self.on[t], 1), *before, (self.start[t], -1), (self.stop[t], 1)], same, same)
-            row([*((self.start[i], 1) for i in range(max(0, t - unit.min_up + 1), t + 1)), (self.on[t], -1)], -np.inf, 0)
-            row([*((self.stop[i], 1) for i in range(max(0, t - unit.min_down + 1), t + 1)), (self.on[t], 1)], -np.inf, 1)
+            row(
+                [*((self.start[i], 1) for i in range(max(0, t - unit.min_up + 1), t + 1)), (self.on[t], -1)],
+                -np.inf,
+                0,
+            )
+            row(
+                [*((self.stop[i], 1) for i in range(max(0, t - unit.min_down + 1), t + 1)), (self.on[t], 1)],
+                -np.inf,
+                1,
+            )
 
     def start_costs(self):
         """A start takes one lag of the list; it may take an early one only after a stop, or a time off before period 1, so short."""
@@ -203,12 +238,16 @@ class Unit:
         for t in range(unit.periods):
             both = [(self.power[t], 1), (self.reserve[t], 1)]
             starts = (self.start[t], (unit.most - max(unit.start_cap, unit.least)) / 1e3)
-            stops = (self.stop[t + 1], (unit.most - max(unit.stop_cap, unit.least)) / 1e3) if t + 1 < unit.periods else None
+            stops = (
+                (self.stop[t + 1], (unit.most - max(unit.stop_cap, unit.least)) / 1e3)
+                if t + 1 < unit.periods
+                else None
+            )
             if stops and unit.min_up > 1:  # (a period can't be the first and the last one)
                 at_most([*both, (self.on[t], -room), starts, stops], 0)
             else:
-                at_most([*both, (self.on[t], -room), starts], 0)
-                at_most([*both, (self.on[t], -room), stops], 0) if stops else None
+                for one in filter(None, (starts, stops)):
+                    at_most([*both, (self.on[t], -room), one], 0)
             before, at0 = ([(self.power[t - 1], 1)], 0) if t else ([], unit.above0 / 1e3)
             at_most([*both, *((it, -one) for it, one in before)], unit.up / 1e3 + at0)
             at_most([(self.power[t], -1), *before], unit.down / 1e3 - at0)
@@ -225,12 +264,24 @@ class Commitment:
         self.case, self.program = case, Program()
         program, periods = self.program, range(case.periods)
         self.units = [Unit(program, it, any(case.reserves)) for it in case.thermal]
-        self.renewable = [[program.variable(low[t] / 1e3, high[t] / 1e3) for t in periods] for _, low, high in case.renewable]
-        self.bids = [[[program.variable(0, width / 1e3, -price / 1e3) for width, price in blocks[t]] for t in periods] for _, blocks in case.bids]
+        self.renewable = [
+            [program.variable(low[t] / 1e3, high[t] / 1e3) for t in periods]
+            for _, low, high in case.renewable
+        ]
+        self.bids = [
+            [[program.variable(0, width / 1e3, -price / 1e3) for width, price in blocks[t]] for t in periods]
+            for _, blocks in case.bids
+        ]
         for t in periods:
-            gives = [term for it in self.units for term in ((it.on[t], it.unit.least / 1e3), (it.power[t], 1))]
+            gives = [
+                term for it in self.units for term in ((it.on[t], it.unit.least / 1e3), (it.power[t], 1))
+            ]
             buys = [(block, -1) for bid in self.bids for block in bid[t]]
-            program.row([*gives, *((it[t], 1) for it in self.renewable), *buys], case.demand[t] / 1e3, case.demand[t] / 1e3)
+            program.row(
+                [*gives, *((it[t], 1) for it in self.renewable), *buys],
+                case.demand[t] / 1e3,
+                case.demand[t] / 1e3,
+            )
             if case.reserves[t]:
                 program.row([(it.reserve[t], 1) for it in self.units], case.reserves[t] / 1e3, np.inf)
 
@@ -240,63 +291,97 @@ class Commitment:
         for it, on in zip(self.units, flags):
             before = it.unit.on0
             for t, now in enumerate(on):
-                for column, is_one in ((it.on[t], now), (it.start[t], now > before), (it.stop[t], now < before)):
+                for column, is_one in (
+                    (it.on[t], now),
+                    (it.start[t], now > before),
+                    (it.stop[t], now < before),
+                ):
                     self.program.low[column] = self.program.high[column] = int(is_one)
                 before = now
         return flags
 
 
-def whole_schedule(case, model, found, flags):
-    """Whole kilowatts within NEAR of the solver's powers that keep every rule and balance exactly, as the schedule's lists."""
-    program, periods = Program(), range(case.periods)
-    near = lambda megawatts: int(round(megawatts * 1e3))
-    powers, sums = [], [[] for _ in periods]
-    total = [0] * case.periods
+@dataclass
+class Whole:
+    """A whole number near one of the solver's: where the search begins, how far it goes from there, and its limit."""
 
-    def whole(at, low, high, t, sign=1):
-        """A variable for how far the whole number is from `at`, within the limits of the number itself."""
-        at = min(max(at, low), high)
-        column = program.variable(max(low - at, -NEAR), min(high - at, NEAR), 0.0, True)
-        sums[t].append((column, sign))
-        total[t] += sign * at
-        return at, column
+    at: int
+    column: int
+    most: int
 
-    for unit, on in zip(model.units, flags):
-        it, row, ahead = unit.unit, [], [*on[1:], 1]
-        for t in periods:
-            cap = it.most
-            cap = min(cap, it.start_cap) if on[t] and not (on[t - 1] if t else it.on0) else cap
-            cap = min(cap, it.stop_cap) if on[t] and not ahead[t] else cap
-            now = (*whole(it.least + near(found[unit.power[t]]), it.least, cap, t), cap) if on[t] else None
-            row.append(now)
-        powers.append(row)
-    others = [[whole(near(found[row[t]]), low[t], high[t], t) for t in periods] for (_, low, high), row in zip(case.renewable, model.renewable)]
-    buys = [[whole(near(sum(found[it] for it in row[t])), 0, sum(width for width, _ in blocks[t]), t, -1) for t in periods] for (_, blocks), row in zip(case.bids, model.bids)]
-    for t in periods:
-        program.row(sums[t], case.demand[t] - total[t], case.demand[t] - total[t])
-    spare = [[] for _ in periods]
-    for unit, row in zip(case.thermal, powers):
-        for t, now in enumerate(row):
-            then = row[t - 1] if t else None
-            at = now[0] - unit.least if now else 0
-            was = (then[0] - unit.least if then else 0) if t else unit.above0
-            ups = ([(now[1], 1)] if now else []) + ([(then[1], -1)] if then else [])
-            program.at_most([*ups], unit.up - at + was) if ups else None
-            program.at_most([(column, -sign) for column, sign in ups], unit.down - was + at) if ups else None
-            if now and case.reserves[t]:
-                column = program.variable(0, unit.most)
-                program.at_most([(column, 1), (now[1], 1)], now[2] - now[0])
-                program.at_most([(column, 1), *ups], unit.up - at + was)
-                spare[t].append((column, 1))
-    for t in periods:
-        if case.reserves[t]:
-            program.row(spare[t], case.reserves[t], np.inf)
-    solved = program.solve(time_limit=60.0)
-    if solved.x is None:
-        return None
-    number = lambda pair: pair[0] + int(round(solved.x[pair[1]]))
-    lists = [[number(it[:2]) if it else 0 for it in row] for row in powers]
-    return lists, [[number(it) for it in row] for row in others], [[number(it) for it in row] for row in buys]
+
+class Rounding:
+    """Whole kilowatts within NEAR of the solver's powers that keep every rule and balance exactly."""
+
+    def __init__(self, case, model, found, flags):
+        self.case, self.found, self.program = case, found, Program()
+        self.sums = [[] for _ in range(case.periods)]
+        self.totals = [0] * case.periods
+        self.spare = [[] for _ in range(case.periods)]
+        self.powers = [self.unit_powers(unit, on) for unit, on in zip(model.units, flags)]
+        self.renewable = [
+            [self.whole(found[row[t]], low[t], high[t], t) for t in range(case.periods)]
+            for (_, low, high), row in zip(case.renewable, model.renewable)
+        ]
+        self.bids = [
+            [
+                self.whole(sum(found[it] for it in row[t]), 0, sum(it[0] for it in blocks[t]), t, -1)
+                for t in range(case.periods)
+            ]
+            for (_, blocks), row in zip(case.bids, model.bids)
+        ]
+        for unit, row in zip(case.thermal, self.powers):
+            for t in range(case.periods):
+                self.ramps(unit, row, t)
+        for t, demand in enumerate(case.demand):
+            self.program.row(self.sums[t], demand - self.totals[t], demand - self.totals[t])
+            if case.reserves[t]:
+                self.program.row(self.spare[t], case.reserves[t], np.inf)
+
+    def whole(self, megawatts, low, high, t, sign=1):
+        """A number of period t from low to high, which counts in the balance."""
+        at = min(max(int(round(megawatts * 1e3)), low), high)
+        column = self.program.variable(max(low - at, -NEAR), min(high - at, NEAR), 0.0, True)
+        self.sums[t].append((column, sign))
+        self.totals[t] += sign * at
+        return Whole(at, column, high)
+
+    def unit_powers(self, unit, on):
+        """A number for each on period of a unit, and None for the others."""
+        it, row = unit.unit, []
+        for t, now in enumerate(on):
+            starts = now and not (on[t - 1] if t else it.on0)
+            stops = now and t + 1 < len(on) and not on[t + 1]
+            most = min(it.most, it.start_cap if starts else it.most, it.stop_cap if stops else it.most)
+            row.append(
+                self.whole(it.least / 1e3 + self.found[unit.power[t]], it.least, most, t) if now else None
+            )
+        return row
+
+    def ramps(self, unit, row, t):
+        """The ramps into period t, and what reserve they and the unit's limits leave there."""
+        now, before = row[t], row[t - 1] if t else None
+        above = now.at - unit.least if now else 0
+        was = (before.at - unit.least if before else 0) if t else unit.above0
+        rise = ([(now.column, 1)] if now else []) + ([(before.column, -1)] if before else [])
+        if rise:
+            self.program.at_most(rise, unit.up - above + was)
+            self.program.at_most([(column, -sign) for column, sign in rise], unit.down - was + above)
+        if now and self.case.reserves[t]:
+            reserve = self.program.variable(0, unit.most)
+            self.program.at_most([(reserve, 1), (now.column, 1)], now.most - now.at)
+            self.program.at_most([(reserve, 1), *rise], unit.up - above + was)
+            self.spare[t].append((reserve, 1))
+
+    def solve(self):
+        """The powers of thermal units, renewable units and bids, or None where none were found."""
+        solved = self.program.solve(time_limit=60.0)
+        if solved.x is None:
+            return None
+        number = lambda it: it.at + int(round(solved.x[it.column])) if it else 0
+        return [
+            [[number(it) for it in row] for row in rows] for rows in (self.powers, self.renewable, self.bids)
+        ]
 
 
 def reserves_of(case, flags, powers):
@@ -305,7 +390,9 @@ def reserves_of(case, flags, powers):
     for unit, on, row in zip(case.thermal, flags, powers):
         kept = []
         for t in range(case.periods):
-            was_on, before = (on[t - 1], row[t - 1] - unit.least * on[t - 1]) if t else (unit.on0, unit.above0)
+            was_on, before = (
+                (on[t - 1], row[t - 1] - unit.least * on[t - 1]) if t else (unit.on0, unit.above0)
+            )
             cap = unit.most if was_on else unit.start_cap
             cap = min(cap, unit.stop_cap) if t + 1 < case.periods and not on[t + 1] else cap
             can = min(cap - row[t], unit.up + before - (row[t] - unit.least)) if on[t] else 0
@@ -318,8 +405,12 @@ def reserves_of(case, flags, powers):
 def explain(case):
     """Why the case can't be met, as far as one period alone shows."""
     for t in range(case.periods):
-        most = sum(it.most * it.on_bounds()[1][t] for it in case.thermal) + sum(high[t] for _, _, high in case.renewable)
-        least = sum(it.least * it.on_bounds()[0][t] for it in case.thermal) + sum(low[t] for _, low, _ in case.renewable)
+        most = sum(it.most * it.on_bounds()[1][t] for it in case.thermal) + sum(
+            high[t] for _, _, high in case.renewable
+        )
+        least = sum(it.least * it.on_bounds()[0][t] for it in case.thermal) + sum(
+            low[t] for _, low, _ in case.renewable
+        )
         buys = sum(width for _, blocks in case.bids for width, _ in blocks[t])
         if most < case.demand[t]:
             return f": in period {t + 1} the units give at most {most / 1e3:g} MW, and demand is {case.demand[t] / 1e3:g} MW"
@@ -330,7 +421,9 @@ def explain(case):
 
 def solve(case, gap, seconds, tell):
     model = Commitment(case)
-    tell(f"{len(case.thermal)} thermal and {len(case.renewable)} renewable units, {len(case.bids)} bids, {case.periods} periods: searching for at most {seconds:g} s")
+    tell(
+        f"{len(case.thermal)} thermal and {len(case.renewable)} renewable units, {len(case.bids)} bids, {case.periods} periods: searching for at most {seconds:g} s"
+    )
     found = model.program.solve(time_limit=float(seconds), mip_rel_gap=gap)
     if found.status == 2:
         raise Wrong(f"the solver finds that the case can't be met{explain(case)}")
@@ -342,13 +435,16 @@ def solve(case, gap, seconds, tell):
     dispatch = model.program.solve(whole=False)
     if dispatch.x is None:
         raise Wrong("the solver's choice of units can't be met exactly: try another --gap")
-    lists = whole_schedule(case, model, dispatch.x, flags)
+    lists = Rounding(case, model, dispatch.x, flags).solve()
     if lists is None:
         raise Wrong(f"no whole kilowatts within {NEAR} of the solver's powers balance: try another --gap")
     powers, renewable, bids = lists
     reserves = reserves_of(case, flags, powers)
     schedule = {
-        "thermal": {it.name: {"on": on, "power": power, "reserve": reserve} for it, on, power, reserve in zip(case.thermal, flags, powers, reserves)},
+        "thermal": {
+            it.name: {"on": on, "power": power, "reserve": reserve}
+            for it, on, power, reserve in zip(case.thermal, flags, powers, reserves)
+        },
         "renewable": {it[0]: row for it, row in zip(case.renewable, renewable)},
     }
     if case.bids:
@@ -359,7 +455,11 @@ def solve(case, gap, seconds, tell):
 def hull_check(hull, case, schedule):
     """What `hull check` prints."""
     try:
-        ran = subprocess.run([hull, "check", "--case", case, "--schedule", schedule], stdin=subprocess.DEVNULL, stdout=subprocess.PIPE)
+        ran = subprocess.run(
+            [hull, "check", "--case", case, "--schedule", schedule],
+            stdin=subprocess.DEVNULL,
+            stdout=subprocess.PIPE,
+        )
     except OSError as error:
         raise Wrong(f"{hull}: {error.strerror}") from None
     said = ran.stdout.decode(errors="replace").strip()
@@ -383,7 +483,9 @@ def main(words):
     tell = lambda text: print(f"make_schedule.py: {text}", file=sys.stderr)
     try:
         if milp is None:
-            raise Wrong("this needs SciPy with scipy.optimize.milp (Debian: apt install python3-scipy, and run it by /usr/bin/python3)")
+            raise Wrong(
+                "this needs SciPy with scipy.optimize.milp (Debian: apt install python3-scipy, and run it by /usr/bin/python3)"
+            )
         folder = os.path.dirname(os.path.abspath(given.schedule))
         if not os.path.isdir(folder):
             raise Wrong(f"{folder}: no such folder")
@@ -405,7 +507,9 @@ def main(words):
                 it.write("\n")
         cost = int(said.split("\ncost ")[1].split("\n")[0]) / 1e6
         above = f"{(cost - bound) / abs(bound) * 100:.3f} % above" if bound else f"{cost - bound:.2f} above"
-        tell(f"hull check accepts {given.schedule}: cost {cost:,.2f}, {above} the solver's bound {bound:,.2f}")
+        tell(
+            f"hull check accepts {given.schedule}: cost {cost:,.2f}, {above} the solver's bound {bound:,.2f}"
+        )
     except Wrong as why:
         tell(why)
         return 1

@@ -72,7 +72,11 @@ class Lines:
         found = re.fullmatch(form, line)
         if not found:
             fault = line if line.startswith("fault ") else None
-            raise Wrong(f"{self.name}: this run was refused: {fault}" if fault else f"{self.name}, line {self.at + 1}: not a line of a report of `hull price`")
+            raise Wrong(
+                f"{self.name}: this run was refused: {fault}"
+                if fault
+                else f"{self.name}, line {self.at + 1}: not a line of a report of `hull price`"
+            )
         self.at += 1
         return found
 
@@ -92,7 +96,7 @@ class Lines:
 def read_report(name):
     try:
         if name == "-":
-            text = sys.stdin.read()
+            name, text = "standard input", sys.stdin.read()
         else:
             with open(name, encoding="utf-8") as it:
                 text = it.read()
@@ -115,7 +119,9 @@ def read_report(name):
         raise Wrong(f"{name}, line {lines.at}: there is no proposal {chosen}")
     units = []
     while lines.next_is("unit"):
-        kind, text, *sums = lines.take(r'unit (thermal|renewable|bid) ("(?:[^"\\]|\\.)*") earned (-?\d+) scheduled (-?\d+) payment (-?\d+)').groups()
+        kind, text, *sums = lines.take(
+            r'unit (thermal|renewable|bid) ("(?:[^"\\]|\\.)*") earned (-?\d+) scheduled (-?\d+) payment (-?\d+)'
+        ).groups()
         unit = Unit(kind, json.loads(text, strict=False), *map(int, sums))
         unit.on = lines.numbers("on", periods) if kind == "thermal" else [1] * periods
         unit.power = lines.numbers("power", periods)
@@ -132,17 +138,33 @@ def write_csv(report, folder):
             csv.writer(it).writerows([head, *rows])
 
     os.makedirs(folder, exist_ok=True)
-    table("proposals.csv", ["proposal", "value", "chosen"], ([it.number, it.value, int(it is report.best)] for it in report.proposals))
+    table(
+        "proposals.csv",
+        ["proposal", "value", "chosen"],
+        ([it.number, it.value, int(it is report.best)] for it in report.proposals),
+    )
     table(
         "prices.csv",
         ["proposal", "period", "energy", "reserve", "supplied", "reserved"],
-        ([it.number, t + 1, it.energy[t], it.reserve[t], it.supplied[t], it.reserved[t]] for it in report.proposals for t in range(report.periods)),
+        (
+            [it.number, t + 1, it.energy[t], it.reserve[t], it.supplied[t], it.reserved[t]]
+            for it in report.proposals
+            for t in range(report.periods)
+        ),
     )
-    table("units.csv", ["kind", "name", "earned", "scheduled", "payment"], ([it.kind, it.name, it.earned, it.scheduled, it.payment] for it in report.units))
+    table(
+        "units.csv",
+        ["kind", "name", "earned", "scheduled", "payment"],
+        ([it.kind, it.name, it.earned, it.scheduled, it.payment] for it in report.units),
+    )
     table(
         "responses.csv",
         ["kind", "name", "period", "on", "power", "reserve"],
-        ([it.kind, it.name, t + 1, it.on[t], it.power[t], it.reserve[t]] for it in report.units for t in range(report.periods)),
+        (
+            [it.kind, it.name, t + 1, it.on[t], it.power[t], it.reserve[t]]
+            for it in report.units
+            for t in range(report.periods)
+        ),
     )
 
 
@@ -150,7 +172,10 @@ def largest_payments(report):
     """The units that are paid most, and in words what the others get together."""
     order = sorted(report.units, key=lambda it: (-it.payment, it.name))
     rest = order[SHOWN:]
-    return order[:SHOWN], f"the other {len(rest)} get {money(sum(it.payment for it in rest))} together" if rest else ""
+    return (
+        order[:SHOWN],
+        f"the other {len(rest)} get {money(sum(it.payment for it in rest))} together" if rest else "",
+    )
 
 
 def draw(report, picture):
@@ -164,14 +189,38 @@ def draw(report, picture):
     figure, (prices, values, payments) = plt.subplots(3, 1, figsize=(9, 12), constrained_layout=True)
     periods = range(1, report.periods + 1)
     first = report.proposals[0]
-    for row, style, name in ((first, "--", "first proposal"), (report.best, "-", f"chosen (proposal {report.chosen})")):
-        prices.plot(periods, [it / 1e3 for it in row.energy], style, drawstyle="steps-mid", color="tab:blue", alpha=0.5 if row is first and row is not report.best else 1, label=f"energy, {name}")
+    for row, style, name in (
+        (first, "--", "first proposal"),
+        (report.best, "-", f"chosen (proposal {report.chosen})"),
+    ):
+        prices.plot(
+            periods,
+            [it / 1e3 for it in row.energy],
+            style,
+            drawstyle="steps-mid",
+            color="tab:blue",
+            alpha=0.5 if row is first and row is not report.best else 1,
+            label=f"energy, {name}",
+        )
         if any(row.reserve):
-            prices.plot(periods, [it / 1e3 for it in row.reserve], style, drawstyle="steps-mid", color="tab:orange", label=f"reserve, {name}")
+            prices.plot(
+                periods,
+                [it / 1e3 for it in row.reserve],
+                style,
+                drawstyle="steps-mid",
+                color="tab:orange",
+                label=f"reserve, {name}",
+            )
     prices.set(title="Prices by period", xlabel="period", ylabel="currency per MW and period")
     prices.legend(fontsize="small")
     values.axhline(report.cost / 1e6, color="tab:red", label="cost of the schedule")
-    values.plot([it.number for it in report.proposals], [it.value / 1e6 for it in report.proposals], ".-", color="tab:blue", label="dual value")
+    values.plot(
+        [it.number for it in report.proposals],
+        [it.value / 1e6 for it in report.proposals],
+        ".-",
+        color="tab:blue",
+        label="dual value",
+    )
     values.plot([report.chosen], [report.best.value / 1e6], "o", color="tab:blue", label="chosen")
     values.set(title="Dual value by proposal", xlabel="proposal", ylabel="currency")
     values.legend(fontsize="small")
@@ -179,7 +228,9 @@ def draw(report, picture):
     shown, rest = largest_payments(report)
     payments.bar(range(len(shown)), [it.payment / 1e6 for it in shown], color="tab:blue")
     # (a name may hold what matplotlib reads as a formula)
-    payments.set_xticks(range(len(shown)), [short(it.name).replace("$", r"\$") for it in shown], rotation=90, fontsize="small")
+    payments.set_xticks(
+        range(len(shown)), [short(it.name).replace("$", r"\$") for it in shown], rotation=90, fontsize="small"
+    )
     payments.set(title="Payments by unit" + (f" ({rest})" if rest else ""), ylabel="currency")
     try:
         figure.savefig(picture, dpi=110)
@@ -223,7 +274,9 @@ class Chart:
         self.parts = [f'<svg viewBox="0 0 {WIDTH} {HEIGHT}" role="img" aria-label="{html.escape(title)}">']
         for at in ticks(self.low, self.high):
             y = self.y(at)
-            self.parts.append(f'<line class="grid" x1="{LEFT}" x2="{WIDTH - RIGHT}" y1="{y:.1f}" y2="{y:.1f}"/><text x="{LEFT - 6}" y="{y + 4:.1f}" text-anchor="end">{self.told(at)}</text>')
+            self.parts.append(
+                f'<line class="grid" x1="{LEFT}" x2="{WIDTH - RIGHT}" y1="{y:.1f}" y2="{y:.1f}"/><text x="{LEFT - 6}" y="{y + 4:.1f}" text-anchor="end">{self.told(at)}</text>'
+            )
 
     def x(self, at):
         return LEFT + (at - self.first) / (self.last - self.first) * (WIDTH - LEFT - RIGHT)
@@ -233,18 +286,30 @@ class Chart:
 
     def told(self, number):
         most = max(abs(self.low), abs(self.high))
-        unit, name = next((it for it in ((1e9, " bn"), (1e6, " M"), (1e3, " k")) if most >= 10 * it[0] or most >= it[0] >= 1e6), (1, ""))
+        unit, name = next(
+            (
+                it
+                for it in ((1e9, " bn"), (1e6, " M"), (1e3, " k"))
+                if most >= 10 * it[0] or most >= it[0] >= 1e6
+            ),
+            (1, ""),
+        )
         return f"{number / unit:.6g}{name if number else ''}"
 
     def label_x(self, text, at):
         self.parts.append(f'<text x="{self.x(at):.1f}" y="{HEIGHT - 30}" text-anchor="middle">{text}</text>')
 
     def name_x(self, text):
-        self.parts.append(f'<text x="{(LEFT + WIDTH - RIGHT) / 2}" y="{HEIGHT - 6}" text-anchor="middle">{html.escape(text)}</text>')
+        self.parts.append(
+            f'<text x="{(LEFT + WIDTH - RIGHT) / 2}" y="{HEIGHT - 6}" text-anchor="middle">{html.escape(text)}</text>'
+        )
 
     def steps(self, numbers, style):
         """One level number for each place from `first` on."""
-        points = " ".join(f"{self.x(self.first + i):.1f},{self.y(it):.1f} {self.x(self.first + i + 1):.1f},{self.y(it):.1f}" for i, it in enumerate(numbers))
+        points = " ".join(
+            f"{self.x(self.first + i):.1f},{self.y(it):.1f} {self.x(self.first + i + 1):.1f},{self.y(it):.1f}"
+            for i, it in enumerate(numbers)
+        )
         self.parts.append(f'<polyline class="{style}" points="{points}"/>')
 
     def line(self, numbers, style):
@@ -252,7 +317,9 @@ class Chart:
         self.parts.append(f'<polyline class="{style}" points="{points}"/>')
 
     def level(self, at, style):
-        self.parts.append(f'<line class="{style}" x1="{LEFT}" x2="{WIDTH - RIGHT}" y1="{self.y(at):.1f}" y2="{self.y(at):.1f}"/>')
+        self.parts.append(
+            f'<line class="{style}" x1="{LEFT}" x2="{WIDTH - RIGHT}" y1="{self.y(at):.1f}" y2="{self.y(at):.1f}"/>'
+        )
 
     def dot(self, at, number, style):
         self.parts.append(f'<circle class="{style}" cx="{self.x(at):.1f}" cy="{self.y(number):.1f}" r="4"/>')
@@ -274,7 +341,11 @@ def price_chart(report):
         chart.label_x(t, t + 0.5)
     chart.name_x("period")
     key = '<i class="energy chosen"></i>energy, chosen <i class="energy first"></i>energy, first'
-    return chart.svg(), key + (' <i class="reserve chosen"></i>reserve, chosen <i class="reserve first"></i>reserve, first' if reserves else "")
+    return chart.svg(), key + (
+        ' <i class="reserve chosen"></i>reserve, chosen <i class="reserve first"></i>reserve, first'
+        if reserves
+        else ""
+    )
 
 
 def value_chart(report):
@@ -287,14 +358,23 @@ def value_chart(report):
     for n in sorted({1, report.chosen, len(values)}):
         chart.label_x(n, n)
     chart.name_x("proposal")
-    return chart.svg(), '<i class="cost"></i>cost of the schedule <i class="energy chosen"></i>dual value; the dot is the chosen proposal'
+    return (
+        chart.svg(),
+        '<i class="cost"></i>cost of the schedule <i class="energy chosen"></i>dual value; the dot is the chosen proposal',
+    )
 
 
 def payment_bars(report):
     shown, rest = largest_payments(report)
     most = max(1, *(it.payment for it in shown))
     row = '<div class="bar"><span>{}</span><b style="width:{:.2f}%"></b><span>{}</span></div>'
-    return "".join(row.format(html.escape(short(it.name)), it.payment / most * 100, money(it.payment)) for it in shown) + f"<p>{rest}</p>"
+    return (
+        "".join(
+            row.format(html.escape(short(it.name)), it.payment / most * 100, money(it.payment))
+            for it in shown
+        )
+        + f"<p>{rest}</p>"
+    )
 
 
 PAGE = """<!doctype html>
@@ -360,18 +440,42 @@ def page_of(report):
     cell = '<td data-is="{}">{}</td>'.format
     rows = []
     for it in report.units:
-        cells = [f"<td>{it.kind}</td><td>{html.escape(it.name)}</td>", *(cell(sum_, money(sum_)) for sum_ in (it.earned, it.scheduled, it.payment))]
+        cells = [
+            f"<td>{it.kind}</td><td>{html.escape(it.name)}</td>",
+            *(cell(sum_, money(sum_)) for sum_ in (it.earned, it.scheduled, it.payment)),
+        ]
         cells.append(cell(sum(it.power), f"{sum(it.power) / 1000:,.3f}"))
         rows.append(f"<tr>{''.join(cells)}</tr>")
     heads = ("Kind", "Name", "Earned", "Scheduled", "Payment", "Response, MW periods")
     price_picture, price_key = price_chart(report)
     value_picture, value_key = value_chart(report)
-    prices = "\n".join(f"{t + 1}\t{report.best.energy[t]}\t{report.best.reserve[t]}" for t in range(report.periods))
-    sums = {name: money(sum_) for name, sum_ in (("cost", report.cost), ("value", report.best.value), ("gap", report.gap), ("payments", report.payments), ("surplus", report.surplus))}
+    prices = "\n".join(
+        f"{t + 1}\t{report.best.energy[t]}\t{report.best.reserve[t]}" for t in range(report.periods)
+    )
+    sums = {
+        name: money(sum_)
+        for name, sum_ in (
+            ("cost", report.cost),
+            ("value", report.best.value),
+            ("gap", report.gap),
+            ("payments", report.payments),
+            ("surplus", report.surplus),
+        )
+    }
     return PAGE.format(
-        units=len(report.units), periods=report.periods, proposals=len(report.proposals), chosen=report.chosen, **sums,
-        price_chart=price_picture, price_key=price_key, value_chart=value_picture, value_key=value_key, bars=payment_bars(report),
-        heads="".join(f'<th scope="col"><button type="button">{it}</button></th>' for it in heads), rows="\n".join(rows), prices=prices,
+        units=len(report.units),
+        periods=report.periods,
+        proposals=len(report.proposals),
+        chosen=report.chosen,
+        **sums,
+        price_chart=price_picture,
+        price_key=price_key,
+        value_chart=value_picture,
+        value_key=value_key,
+        bars=payment_bars(report),
+        heads="".join(f'<th scope="col"><button type="button">{it}</button></th>' for it in heads),
+        rows="\n".join(rows),
+        prices=prices,
     )
 
 

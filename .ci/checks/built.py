@@ -10,7 +10,13 @@ EXAMPLES = os.path.join(ROOT, "examples")
 
 def run(words, program=PROGRAM, folder=ROOT, **how):
     """Runs the program to its end, and returns its status (negative: a signal), standard output and standard error."""
-    given = {"stdin": subprocess.DEVNULL, "stdout": subprocess.PIPE, "stderr": subprocess.PIPE, "timeout": 120, **how}
+    given = {
+        "stdin": subprocess.DEVNULL,
+        "stdout": subprocess.PIPE,
+        "stderr": subprocess.PIPE,
+        "timeout": 120,
+        **how,
+    }
     ended = subprocess.run([program, *words], cwd=folder, **given)
     return ended.returncode, ended.stdout, ended.stderr
 

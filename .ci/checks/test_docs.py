@@ -21,20 +21,44 @@ class Docs(unittest.TestCase):
         for page in PAGES:
             for name in NAMED.findall(self.read(page)):
                 if "NAME" not in name and "/out/" not in name:
-                    self.assertTrue(os.path.exists(f"{ROOT}/{name}"), f"{os.path.relpath(page, ROOT)} names {name}")
+                    self.assertTrue(
+                        os.path.exists(f"{ROOT}/{name}"), f"{os.path.relpath(page, ROOT)} names {name}"
+                    )
 
     def test_tables_are_whole(self):
         for page in PAGES:
             cells = None
             for number, line in enumerate(self.read(page).split("\n"), 1):
                 now = len(re.findall(r"(?<!\\)\|", line)) if line.startswith("|") else None
-                self.assertTrue(None in (cells, now) or cells == now, f"{os.path.relpath(page, ROOT)}, line {number}")
+                self.assertTrue(
+                    None in (cells, now) or cells == now, f"{os.path.relpath(page, ROOT)}, line {number}"
+                )
                 cells = now
+
+    def test_lines_that_report_explains_are_printed_by_examples(self):
+        printed = set()
+        for name in glob.glob(f"{ROOT}/examples/**/*.output", recursive=True):
+            printed.update(self.read(name).split("\n"))
+        rows = [
+            it.split(" | ") for it in self.read(f"{ROOT}/docs/REPORT.md").split("\n") if it.startswith("| `")
+        ]
+        lines = [
+            line
+            for row in rows
+            for line in re.findall(r"`([^`]+)`", re.sub(r"\(`examples/[^)]*\)", "", row[1]))
+        ]
+        self.assertGreater(len(lines), 30)
+        self.assertEqual([it for it in lines if it not in printed], [])
 
     def test_manual_page_shows_without_a_warning(self):
         if not shutil.which("man"):
             self.skipTest("there is no man here")
-        shown = subprocess.run(["man", "--warnings", "-l", f"{ROOT}/docs/hull.1"], capture_output=True, text=True, env={**os.environ, "LC_ALL": "C", "MANWIDTH": "80"})
+        shown = subprocess.run(
+            ["man", "--warnings", "-l", f"{ROOT}/docs/hull.1"],
+            capture_output=True,
+            text=True,
+            env={**os.environ, "LC_ALL": "C", "MANWIDTH": "80"},
+        )
         if "man-db" in shown.stderr or "has been minimized" in shown.stdout or not shown.stdout:
             self.skipTest(f"man can't show pages here: {shown.stderr.strip()[:100]}")
         self.assertEqual((shown.returncode, shown.stderr), (0, ""))

@@ -68,7 +68,9 @@ class Edges(unittest.TestCase):
         shutil.copy(PROGRAM, program)
         os.chmod(f"{self.room}/case.json", 0)
         words = ["check", "--case", "case.json", "--schedule", "schedule.json"]
-        self.assertEqual(run(words, program=program, folder=self.room, **NOBODY), (2, b"fault 2 read case\n", b""))
+        self.assertEqual(
+            run(words, program=program, folder=self.room, **NOBODY), (2, b"fault 2 read case\n", b"")
+        )
 
     def test_fifo_is_read_to_its_end(self):
         writer = self.fed(self.read("case.json"))
@@ -86,7 +88,12 @@ class Edges(unittest.TestCase):
 
     def test_file_that_shrinks_while_it_is_read(self):
         self.write("long.json", b" " * (LARGEST - 1) + b"1")
-        started = subprocess.Popen([PROGRAM, "check", "--case", "long.json", "--schedule", "schedule.json"], cwd=self.room, stdout=subprocess.PIPE, stderr=subprocess.PIPE)
+        started = subprocess.Popen(
+            [PROGRAM, "check", "--case", "long.json", "--schedule", "schedule.json"],
+            cwd=self.room,
+            stdout=subprocess.PIPE,
+            stderr=subprocess.PIPE,
+        )
         os.truncate(f"{self.room}/long.json", 1000)
         output, said = started.communicate(timeout=60)
         self.assertEqual((started.returncode, said), (3, b""))
@@ -108,7 +115,22 @@ class Edges(unittest.TestCase):
             os.close(writing)
 
     def test_output_that_is_closed(self):
-        ended = subprocess.run(["sh", "-c", 'exec "$0" "$@" >&-', PROGRAM, "check", "--case", "case.json", "--schedule", "schedule.json"], cwd=self.room, capture_output=True, timeout=60)
+        ended = subprocess.run(
+            [
+                "sh",
+                "-c",
+                'exec "$0" "$@" >&-',
+                PROGRAM,
+                "check",
+                "--case",
+                "case.json",
+                "--schedule",
+                "schedule.json",
+            ],
+            cwd=self.room,
+            capture_output=True,
+            timeout=60,
+        )
         self.assertEqual((ended.returncode, ended.stdout, ended.stderr), (6, b"", b""))
 
     def test_empty_file(self):
@@ -135,11 +157,17 @@ class Edges(unittest.TestCase):
     def test_ten_thousand_words(self):
         self.assertEqual(self.hull("price", *["word"] * 9_999), (1, b"fault 1 words 8 2\n", b""))
         self.assertEqual(self.hull(*["--case"] * 10_000), (1, b"fault 1 words 2 1\n", b""))
-        self.assertEqual(self.hull("try", "7", "--proposals=1", *["8"] * 9_997), (1, b"fault 1 words 8 4\n", b""))
+        self.assertEqual(
+            self.hull("try", "7", "--proposals=1", *["8"] * 9_997), (1, b"fault 1 words 8 4\n", b"")
+        )
 
     def test_one_file_as_case_and_schedule(self):
         self.refused("fault 4 schedule 42 kind case unit 0 item 0", schedule="case.json")
-        self.refused("fault 3 case 20 field time_periods kind case unit 0 item 0", case="schedule.json", schedule="schedule.json")
+        self.refused(
+            "fault 3 case 20 field time_periods kind case unit 0 item 0",
+            case="schedule.json",
+            schedule="schedule.json",
+        )
 
     def test_device_files(self):
         self.refused("fault 3 case 10 at 0", case="/dev/null")

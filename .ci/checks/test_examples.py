@@ -34,5 +34,7 @@ for at in sorted(glob.glob(f"{EXAMPLES}/**/*.words", recursive=True)):
 
 class Readme(unittest.TestCase):
     def test_the_report_that_the_readme_reads_is_an_example(self):
-        with open(f"{EXAMPLES}/../README.md", encoding="utf-8") as page, open(f"{EXAMPLES}/usual/price-1.output", encoding="utf-8") as report:
+        with open(f"{EXAMPLES}/../README.md", encoding="utf-8") as page, open(
+            f"{EXAMPLES}/usual/price-1.output", encoding="utf-8"
+        ) as report:
             self.assertIn(f"```text\n{report.read()}```", page.read())

@@ -25,7 +25,11 @@ class Faults(unittest.TestCase):
     def test_each_code_has_an_example(self):
         lines = [line.split() for _, line in rows()]
         told = {(it[1], next(w for w in it[3:] if w.isdigit())) for it in lines if it[1] in "134"}
-        due = {("1", str(it)) for it in range(1, 9)} | {("3", str(it)) for it in {*TEXTS, *CASES}} | {("4", str(it)) for it in {10, *PLANS} - {58}}
+        due = (
+            {("1", str(it)) for it in range(1, 9)}
+            | {("3", str(it)) for it in {*TEXTS, *CASES}}
+            | {("4", str(it)) for it in {10, *PLANS} - {58}}
+        )
         self.assertEqual(due - told, set())
         self.assertTrue({"2", "5"} <= {it[1] for it in lines})
 
@@ -46,7 +50,9 @@ def check_of(example, line):
             self.assertEqual(text.count(old), 1, f"{old} stands once in {folder}/{name}.json")
             with open(f"{room}/{name}.json", "w", encoding="utf-8") as it:
                 it.write(text.replace(old, new))
-            self.assertEqual(run(["check", "--case", "case.json", "--schedule", "schedule.json"], folder=room), due)
+            self.assertEqual(
+                run(["check", "--case", "case.json", "--schedule", "schedule.json"], folder=room), due
+            )
 
     return check
 

@@ -39,7 +39,12 @@ class Launcher(unittest.TestCase):
             self.write(f"crates/{crate}/src/lib.rt", "")
         self.write("bin/rt", STAND_IN)
         os.chmod(f"{self.room}/bin/rt", 0o755)
-        self.env = {"PATH": f"{self.room}/bin:/usr/bin:/bin", "ASKED": f"{self.room}/asked", "FAILS": "", "HOME": "/"}
+        self.env = {
+            "PATH": f"{self.room}/bin:/usr/bin:/bin",
+            "ASKED": f"{self.room}/asked",
+            "FAILS": "",
+            "HOME": "/",
+        }
 
     def write(self, name, text):
         os.makedirs(os.path.dirname(f"{self.room}/{name}"), exist_ok=True)
@@ -59,9 +64,18 @@ class Launcher(unittest.TestCase):
         status, output, said = self.hull("price", "--case", "a b")
         self.assertEqual((status, output), (0, b"given price --case a b\n"))
         lines = said.decode().splitlines()
-        self.assertRegex(lines[0], r"^hull: proving the 3 crates of the program, \d+ at a time; this is done once\. At: low$")
+        self.assertRegex(
+            lines[0],
+            r"^hull: proving the 3 crates of the program, \d+ at a time; this is done once\. At: low$",
+        )
         self.assertEqual(lines[1], "hull: low is proved, 2 of 3 are left. At: high")
-        self.assertEqual(lines[2:4], ["hull: high is done, 1 of 3 are left. At: hull_cli", "hull: hull_cli is proved, 0 of 3 are left"])
+        self.assertEqual(
+            lines[2:4],
+            [
+                "hull: high is done, 1 of 3 are left. At: hull_cli",
+                "hull: hull_cli is proved, 0 of 3 are left",
+            ],
+        )
         self.assertEqual(lines[-1], "hull: the program is built")
         self.assertEqual(self.asked(), ["all", "run"])
 
@@ -105,7 +119,15 @@ class Launcher(unittest.TestCase):
         self.assertIn("isn't on the path", said.decode())
 
     def test_two_at_once_build_once(self):
-        both = [subprocess.Popen([f"{self.room}/hull", "check"], env=self.env, stdout=subprocess.PIPE, stderr=subprocess.DEVNULL) for _ in range(2)]
+        both = [
+            subprocess.Popen(
+                [f"{self.room}/hull", "check"],
+                env=self.env,
+                stdout=subprocess.PIPE,
+                stderr=subprocess.DEVNULL,
+            )
+            for _ in range(2)
+        ]
         self.assertEqual([it.communicate()[0] for it in both], [b"given check\n"] * 2)
         self.assertEqual(self.asked(), ["all", "run"])
 
@@ -120,7 +142,13 @@ class Launcher(unittest.TestCase):
 
 class BuiltProgram(unittest.TestCase):
     def test_what_the_gate_built_is_taken_without_rt(self):
-        words = ["check", "--case", f"{EXAMPLES}/first/case.json", "--schedule", f"{EXAMPLES}/first/schedule.json"]
+        words = [
+            "check",
+            "--case",
+            f"{EXAMPLES}/first/case.json",
+            "--schedule",
+            f"{EXAMPLES}/first/schedule.json",
+        ]
         text = b"hull-check 1\nperiods 1 thermal 0 renewable 1\ncost 0\nfeasible\n"
         self.assertEqual(run(words, program=LAUNCHER, folder="/", env=WITHOUT_RT), (0, text, b""))
 

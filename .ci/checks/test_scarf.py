@@ -11,7 +11,9 @@ from built import EXAMPLES
 class Scarf(unittest.TestCase):
     def test_files_are_those_of_the_script(self):
         with tempfile.TemporaryDirectory() as room:
-            subprocess.run([sys.executable, f"{EXAMPLES}/scarf/work_out.py", room], check=True, stdout=subprocess.DEVNULL)
+            subprocess.run(
+                [sys.executable, f"{EXAMPLES}/scarf/work_out.py", room], check=True, stdout=subprocess.DEVNULL
+            )
             names = sorted(os.listdir(room))
             self.assertEqual(len(names), 20)
             for name in names:

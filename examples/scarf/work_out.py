@@ -12,7 +12,11 @@ import sys
 from fractions import Fraction
 
 # name, how many, start cost, cost per kW, least and greatest power
-TYPES = [("Smokestack", 6, 53_000_000, 3_000, 0, 16_000), ("HighTech", 5, 30_000_000, 2_000, 0, 7_000), ("MedTech", 5, 0, 7_000, 2_000, 6_000)]
+TYPES = [
+    ("Smokestack", 6, 53_000_000, 3_000, 0, 16_000),
+    ("HighTech", 5, 30_000_000, 2_000, 0, 7_000),
+    ("MedTech", 5, 0, 7_000, 2_000, 6_000),
+]
 UNITS = [(f"{kind}{i}", *rest) for kind, number, *rest in TYPES for i in range(1, number + 1)]
 DEMANDS = [20, 60, 100, 131, 150]
 PRICE_LIMIT = 10_000_000
@@ -22,14 +26,32 @@ BUDGET, AHEAD = 100, 4
 def case_of(demand):
     units = {}
     for name, start, per_kw, least, most in UNITS:
-        limits = {it: most / 1000 for it in ("ramp_up_limit", "ramp_down_limit", "ramp_startup_limit", "ramp_shutdown_limit")}
+        limits = {
+            it: most / 1000
+            for it in ("ramp_up_limit", "ramp_down_limit", "ramp_startup_limit", "ramp_shutdown_limit")
+        }
         points = [{"mw": at / 1000, "cost": per_kw * at / 1e6} for at in (least, most)]
         units[name] = {
-            "must_run": 0, "power_output_minimum": least / 1000, "power_output_maximum": most / 1000, **limits,
-            "time_up_minimum": 1, "time_down_minimum": 1, "power_output_t0": 0, "unit_on_t0": 0, "time_up_t0": 0, "time_down_t0": 1,
-            "startup": [{"lag": 1, "cost": start / 1e6}] if start else [], "piecewise_production": points,
+            "must_run": 0,
+            "power_output_minimum": least / 1000,
+            "power_output_maximum": most / 1000,
+            **limits,
+            "time_up_minimum": 1,
+            "time_down_minimum": 1,
+            "power_output_t0": 0,
+            "unit_on_t0": 0,
+            "time_up_t0": 0,
+            "time_down_t0": 1,
+            "startup": [{"lag": 1, "cost": start / 1e6}] if start else [],
+            "piecewise_production": points,
         }
-    return {"time_periods": 1, "demand": [demand / 1000], "reserves": [0], "thermal_generators": units, "renewable_generators": {}}
+    return {
+        "time_periods": 1,
+        "demand": [demand / 1000],
+        "reserves": [0],
+        "thermal_generators": units,
+        "renewable_generators": {},
+    }
 
 
 def cheapest(demand):
@@ -55,7 +77,9 @@ def cheapest(demand):
 
 def hull_price(demand):
     """The slope of the total cost's convex envelope left of the demand: each type filled by its cost per kW at full power."""
-    order = sorted((Fraction(start + per_kw * most, most), number * most) for _, number, start, per_kw, _, most in TYPES)
+    order = sorted(
+        (Fraction(start + per_kw * most, most), number * most) for _, number, start, per_kw, _, most in TYPES
+    )
     for price, room in order:
         demand -= room
         if demand <= 0:
@@ -70,7 +94,10 @@ def answer(unit, price):
 
 
 def value(price, demand):
-    return price * demand - sum(max(0, *((price - per_kw) * at - start for at in (least, most))) for _, start, per_kw, least, most in UNITS)
+    return price * demand - sum(
+        max(0, *((price - per_kw) * at - start for at in (least, most)))
+        for _, start, per_kw, least, most in UNITS
+    )
 
 
 def start_price(demand):
@@ -84,6 +111,7 @@ def start_price(demand):
 def rows_of(demand, cost):
     """The proposals one after another: (price, value, supply)."""
     rows, settled = [], None
+    best = []  # of the rows up to each one, which is the first of the greatest value
     for n in range(1, BUDGET + 1):
         if settled is not None and settled <= n - AHEAD:
             break
@@ -91,22 +119,36 @@ def rows_of(demand, cost):
             price = start_price(demand) * (7 + n) // 8
         else:
             price, row_value, supply = rows[n - AHEAD - 1]
-            values = [it[1] for it in rows[: n - AHEAD]]
-            age = len(values) - 1 - values.index(max(values))
+            age = n - AHEAD - 1 - best[n - AHEAD - 1]
             gap, lacking = cost - row_value, demand - supply
             size = gap * abs(lacking) // (lacking**2 * 2 ** min(20, age // 10))
             price = max(-PRICE_LIMIT, min(PRICE_LIMIT, price + (size if lacking > 0 else -size)))
         supply = sum(answer(it, price)[0] for it in UNITS)
         rows.append((price, value(price, demand), supply))
+        best.append(n - 1 if n == 1 or rows[-1][1] > rows[best[-1]][1] else best[-1])
         if settled is None and (rows[-1][1] == cost or supply == demand):
             settled = n
     return rows
 
 
 def report(demand, cost, power, rows):
-    lines = ["hull-report 1", "periods 1", f"units {len(UNITS)}", f"budget {BUDGET}", f"ahead {AHEAD}", f"cost {cost}", f"proposals {len(rows)}"]
+    lines = [
+        "hull-report 1",
+        "periods 1",
+        f"units {len(UNITS)}",
+        f"budget {BUDGET}",
+        f"ahead {AHEAD}",
+        f"cost {cost}",
+        f"proposals {len(rows)}",
+    ]
     for n, (price, row_value, supply) in enumerate(rows, 1):
-        lines += [f"proposal {n} value {row_value}", f"energy {price}", "reserve 0", f"supplied {supply}", "reserved 0"]
+        lines += [
+            f"proposal {n} value {row_value}",
+            f"energy {price}",
+            "reserve 0",
+            f"supplied {supply}",
+            "reserved 0",
+        ]
     chosen = max(range(len(rows)), key=lambda i: (rows[i][1], -i))
     price, best, _ = rows[chosen]
     lines += [f"chosen {chosen + 1} value {best}"]
@@ -116,13 +158,25 @@ def report(demand, cost, power, rows):
         gives, earned = answer(unit, price)
         scheduled = (price - per_kw) * power[name] - start if name in power else 0
         payments += earned - scheduled
-        lines += [f'unit thermal "{name}" earned {earned} scheduled {scheduled} payment {earned - scheduled}', f"on {int(gives > 0)}", f"power {gives}", "reserve 0"]
-    return chosen + 1, price, best, "\n".join([*lines, "surplus 0", f"payments {payments}", f"gap {cost - best}", "end", ""])
+        lines += [
+            f'unit thermal "{name}" earned {earned} scheduled {scheduled} payment {earned - scheduled}',
+            f"on {int(gives > 0)}",
+            f"power {gives}",
+            "reserve 0",
+        ]
+    return (
+        chosen + 1,
+        price,
+        best,
+        "\n".join([*lines, "surplus 0", f"payments {payments}", f"gap {cost - best}", "end", ""]),
+    )
 
 
 def main():
     folder = sys.argv[1] if sys.argv[1:] else None
-    print("| Demand, MW | Least cost | Convex hull price per MWh | Value there | Best whole price | Its value | Chosen price | Chosen value |")
+    print(
+        "| Demand, MW | Least cost | Convex hull price per MWh | Value there | Best whole price | Its value | Chosen price | Chosen value |"
+    )
     print("|---|---|---|---|---|---|---|---|")
     for megawatts in DEMANDS:
         demand = megawatts * 1000
@@ -131,10 +185,22 @@ def main():
         whole = max((int(exact), int(exact) + 1), key=lambda it: value(it, demand))
         rows = rows_of(demand, cost)
         chosen, price, best, text = report(demand, cost, power, rows)
-        print(f"| {megawatts} | {cost / 1e6:.6f} | {exact} = {float(exact) / 1000:.6f} | {float(value(exact, demand)) / 1e6:.6f} | {whole} | {value(whole, demand)} | {price} | {best} |")
+        print(
+            f"| {megawatts} | {cost / 1e6:.6f} | {exact} = {float(exact) / 1000:.6f} | {float(value(exact, demand)) / 1e6:.6f} | {whole} | {value(whole, demand)} | {price} | {best} |"
+        )
         if folder:
-            schedule = {"thermal": {it[0]: {"on": [int(it[0] in power)], "power": [power.get(it[0], 0)], "reserve": [0]} for it in UNITS}, "renewable": {}}
-            files = {"case.json": json.dumps(case_of(demand), indent=1) + "\n", "schedule.json": json.dumps(schedule) + "\n", "output": text}
+            schedule = {
+                "thermal": {
+                    it[0]: {"on": [int(it[0] in power)], "power": [power.get(it[0], 0)], "reserve": [0]}
+                    for it in UNITS
+                },
+                "renewable": {},
+            }
+            files = {
+                "case.json": json.dumps(case_of(demand), indent=1) + "\n",
+                "schedule.json": json.dumps(schedule) + "\n",
+                "output": text,
+            }
             files["words"] = f"price --case {megawatts}.case.json --schedule {megawatts}.schedule.json\n"
             for ending, content in files.items():
                 with open(f"{folder}/{megawatts}.{ending}", "w", encoding="utf-8") as it:

@@ -20,10 +20,20 @@ class MakeSchedule(unittest.TestCase):
         self.addCleanup(shutil.rmtree, self.room)
 
     def make(self, case, *words):
-        return run("make_schedule.py", case, f"{self.room}/schedule.json", "--hull", PROGRAM, *words, python=self.python)
+        return run(
+            "make_schedule.py",
+            case,
+            f"{self.room}/schedule.json",
+            "--hull",
+            PROGRAM,
+            *words,
+            python=self.python,
+        )
 
     def cost(self, case, schedule):
-        ran = subprocess.run([PROGRAM, "check", "--case", case, "--schedule", schedule], capture_output=True, text=True)
+        ran = subprocess.run(
+            [PROGRAM, "check", "--case", case, "--schedule", schedule], capture_output=True, text=True
+        )
         self.assertEqual(ran.returncode, 0, ran.stdout)
         return int(ran.stdout.split("\n")[2].split()[1])
 
@@ -40,7 +50,10 @@ class MakeSchedule(unittest.TestCase):
             case = f"{EXAMPLES}/{example}/case.json"
             status, _, said = self.make(case, "--gap", "0.001", "--seconds", "60")
             self.assertEqual(status, 0, said)
-            self.assertLessEqual(self.cost(case, f"{self.room}/schedule.json"), self.cost(case, f"{EXAMPLES}/{example}/schedule.json"))
+            self.assertLessEqual(
+                self.cost(case, f"{self.room}/schedule.json"),
+                self.cost(case, f"{EXAMPLES}/{example}/schedule.json"),
+            )
 
     def test_least_costs_of_the_scarf_example(self):
         for demand, least in ((20, 129), (100, 634), (150, 959)):
@@ -53,17 +66,30 @@ class MakeSchedule(unittest.TestCase):
         self.assertEqual(status, 1)
         self.assertIn("can't be met: in period 3 the units give at most 165 MW, and demand is 230 MW", said)
         self.assertFalse(os.path.exists(f"{self.room}/schedule.json"))
-        self.assertIn("can't be met: its rules over the periods", self.make(self.changed("evening", '"reserves":[0,5,5', '"reserves":[0,95,5'))[2])
+        self.assertIn(
+            "can't be met: its rules over the periods",
+            self.make(self.changed("evening", '"reserves":[0,5,5', '"reserves":[0,95,5'))[2],
+        )
 
     def test_a_window_is_kept(self):
-        status, _, said = self.make(self.changed("evening", '"must_run":0', '"must_run":0,"commitment":[null,null,null,null,1,0]'), "--gap", "0")
+        status, _, said = self.make(
+            self.changed("evening", '"must_run":0', '"must_run":0,"commitment":[null,null,null,null,1,0]'),
+            "--gap",
+            "0",
+        )
         self.assertEqual(status, 0, said)
         with open(f"{self.room}/schedule.json", encoding="utf-8") as it:
             self.assertEqual(json.load(it)["thermal"]["G2"]["on"][3:], [1, 1, 0])
 
     def test_case_that_hull_refuses(self):
         status, _, said = self.make(self.changed("evening", '"must_run":1', '"must_run":2'))
-        self.assertEqual((status, said), (1, "make_schedule.py: hull refuses the case: fault 3 case 29 field must_run kind thermal unit 1 item 0 (docs/FAULTS.md)\n"))
+        self.assertEqual(
+            (status, said),
+            (
+                1,
+                "make_schedule.py: hull refuses the case: fault 3 case 29 field must_run kind thermal unit 1 item 0 (docs/FAULTS.md)\n",
+            ),
+        )
 
     def test_other_troubles_are_told_in_one_line(self):
         for words in ([f"{self.room}/none.json"], [f"{EXAMPLES}/first/case.json", "--hull", "/nowhere/hull"]):

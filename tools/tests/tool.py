@@ -13,7 +13,10 @@ def python_with(module):
     """A Python of this machine that has the module, or None."""
     for it in (sys.executable, "/usr/bin/python3"):
         try:
-            if subprocess.run([it, "-c", f"import {module}"], capture_output=True, timeout=60).returncode == 0:
+            if (
+                subprocess.run([it, "-c", f"import {module}"], capture_output=True, timeout=60).returncode
+                == 0
+            ):
                 return it
         except OSError:
             pass
@@ -22,5 +25,11 @@ def python_with(module):
 
 def run(tool, *words, python=sys.executable, flags=(), **how):
     """Runs a tool to its end, and returns its status, standard output and standard error."""
-    ended = subprocess.run([python, "-B", *flags, f"{ROOT}/tools/{tool}", *words], capture_output=True, text=True, timeout=300, **how)
+    ended = subprocess.run(
+        [python, "-B", *flags, f"{ROOT}/tools/{tool}", *words],
+        capture_output=True,
+        text=True,
+        timeout=300,
+        **how,
+    )
     return ended.returncode, ended.stdout, ended.stderr
