@@ -1,5 +1,5 @@
 // What no clause says: whole runs over memory, by their status and the bytes that the sink holds. The expected texts were
-// worked by hand.
+// worked by hand, or come from other programs.
 use hull_engine::hull_run;
 use hull_io::{File, MemoryShelf, MemorySink};
 use std::alloc::{AllocError, Global};
@@ -81,6 +81,64 @@ const ONE_BID: &str =
     "{\"time_periods\":1,\"demand\":[0],\"reserves\":[0],\"thermal_generators\":{},\
 \"renewable_generators\":{\"W\":{\"power_output_minimum\":[0],\"power_output_maximum\":[100]}},\
 \"demand_bids\":{\"D\":{\"blocks\":[[{\"mw\":0.1,\"price\":7}]]}}}";
+
+// Two periods, two bids and more blocks than one.
+const TWO_BIDS: &str = "\
+{\"time_periods\":2,\"demand\":[0,-0.000001],\"reserves\":[0,0],\"thermal_generators\":{},\
+\"renewable_generators\":{\"W\":{\"power_output_minimum\":[0,0],\"power_output_maximum\":[0,0.001]}},\
+\"demand_bids\":{\"A\":{\"blocks\":[[{\"mw\":0.000501,\"price\":0.007501}],[{\"mw\":0,\"price\":0.004}]]},\
+\"B\":{\"blocks\":[[{\"mw\":0.003,\"price\":0}],[{\"mw\":0.003,\"price\":0.014},\
+{\"mw\":0,\"price\":0.013501},{\"mw\":0.003,\"price\":0.013},{\"mw\":0.002499,\"price\":0.01025},\
+{\"mw\":0.002001,\"price\":0.007999},{\"mw\":0.002,\"price\":0.007},{\"mw\":0.003,\"price\":0.006},\
+{\"mw\":0.002499,\"price\":0}]]}}}";
+
+const TWO_BIDS_SCHEDULE: &str =
+    "{\"thermal\":{},\"renewable\":{\"W\":[0,0]},\"bids\":{\"A\":[0,0],\"B\":[0,0]}}";
+
+const TWO_BIDS_REPORT: &[u8] = b"\
+hull-report 1\nperiods 2\nunits 3\nbudget 4\nahead 2\ncost 0\nproposals 4\n\
+proposal 1 value -157\nenergy 0 0\nreserve 0 0\nsupplied -1 -15\nreserved 0 0\n\
+proposal 2 value -157\nenergy 0 0\nreserve 0 0\nsupplied -1 -15\nreserved 0 0\n\
+proposal 3 value -39\nenergy 0 10\nreserve 0 0\nsupplied -1 -5\nreserved 0 0\n\
+proposal 4 value -39\nenergy 0 10\nreserve 0 0\nsupplied -1 -5\nreserved 0 0\n\
+chosen 3 value -39\nunit renewable \"W\" earned 10 scheduled 0 payment 10\npower 0 1\n\
+unit bid \"A\" earned 8 scheduled 0 payment 8\npower 1 0\n\
+unit bid \"B\" earned 21 scheduled 0 payment 21\npower 0 6\n\
+surplus 0\npayments 39\ngap 39\nend\n";
+
+// Four periods; the window of A has it on in the second and off in the third.
+const WINDOW: &str = "\
+{\"time_periods\":4,\"demand\":[0.004,0.003,0.004,0.003],\"reserves\":[0.003,0,0,0.000499],\"thermal_generators\":{\
+\"A\":{\"must_run\":0,\"power_output_minimum\":0,\"power_output_maximum\":0.005,\"ramp_up_limit\":0.002,\
+\"ramp_down_limit\":1000000,\"ramp_startup_limit\":0.005,\"ramp_shutdown_limit\":0,\"time_up_minimum\":1000000,\
+\"time_down_minimum\":1000000,\"power_output_t0\":0.004,\"unit_on_t0\":1,\"time_up_t0\":1000000,\"time_down_t0\":0,\
+\"startup\":[{\"lag\":0,\"cost\":0.000053001}],\"piecewise_production\":[{\"mw\":0,\"cost\":0.000012},\
+{\"mw\":0.001001,\"cost\":0.000006},{\"mw\":0.004499,\"cost\":0.000006},{\"mw\":0.005,\"cost\":0.000009}],\
+\"commitment\":[null,1,0,null]},\
+\"B\":{\"must_run\":0,\"power_output_minimum\":0.001,\"power_output_maximum\":0.004499,\"ramp_up_limit\":0.005,\
+\"ramp_down_limit\":0.005,\"ramp_startup_limit\":0.004,\"ramp_shutdown_limit\":0.004,\"time_up_minimum\":1,\
+\"time_down_minimum\":1,\"power_output_t0\":0.004,\"unit_on_t0\":1,\"time_up_t0\":2,\"time_down_t0\":0,\"startup\":[],\
+\"piecewise_production\":[{\"mw\":0.001,\"cost\":0.000024},{\"mw\":0.001,\"cost\":0.0000225},\
+{\"mw\":0.002,\"cost\":0.00004025},{\"mw\":0.0035,\"cost\":0.000079},{\"mw\":0.004,\"cost\":0.0000775}],\
+\"commitment\":[null,null,null,null]}},\"renewable_generators\":{}}";
+
+const WINDOW_SCHEDULE: &str = "\
+{\"thermal\":{\"A\":{\"on\":[1,1,0,0],\"power\":[2,0,0,0],\"reserve\":[3,0,0,0]},\
+\"B\":{\"on\":[1,1,1,1],\"power\":[2,3,4,3],\"reserve\":[0,0,0,0]}},\"renewable\":{}}";
+
+const WINDOW_REPORT: &[u8] = b"\
+hull-report 1\nperiods 4\nunits 2\nbudget 4\nahead 4\ncost 254\nproposals 4\n\
+proposal 1 value 38\nenergy 2 2 2 2\nreserve 0 0 0 0\nsupplied 4 0 0 0\nreserved 0 0 0 0\n\
+proposal 2 value 38\nenergy 2 2 2 2\nreserve 0 0 0 0\nsupplied 4 0 0 0\nreserved 0 0 0 0\n\
+proposal 3 value 38\nenergy 2 2 2 2\nreserve 0 0 0 0\nsupplied 4 0 0 0\nreserved 0 0 0 0\n\
+proposal 4 value 38\nenergy 2 2 2 2\nreserve 0 0 0 0\nsupplied 4 0 0 0\nreserved 0 0 0 0\n\
+chosen 1 value 38\nunit thermal \"A\" earned -10 scheduled -14 payment 4\non 1 1 0 0\npower 4 0 0 0\n\
+reserve 0 0 0 0\nunit thermal \"B\" earned 0 scheduled -212 payment 212\non 0 0 0 0\npower 0 0 0 0\n\
+reserve 0 0 0 0\nsurplus 0\npayments 216\ngap 216\nend\n";
+
+const TRY: &[u8] = b"\
+hull-try 1\nnumber 7\nperiods 48 thermal 73 renewable 81\nproposals 12\nchosen 1 value 13991626824349\n\
+cost 17876574967200\npayments 3884948142851\nsurplus 0\ngap 3884948142851\n";
 
 const CHECK: [&str; 5] = ["check", "--case", "c", "--schedule", "s"];
 
@@ -296,6 +354,39 @@ fn failing_reads_and_writes_end_a_run(rt: HostRuntime) -> Result<(), Fail> {
         let (status, bytes) = run(rt.alloc(), words, TWO_UNITS, TWO_UNITS_SCHEDULE, failing)?;
         assert_eq!(rt; bytes.as_slice(), text);
         assert_eq!(rt; status, want);
+    }
+    Ok(())
+}
+
+// Want of memory is free, so only these tell a program that runs from one that gives up: more than one period, a bid, a
+// window, proposals ahead, and a generated case. The expected texts are those of other programs.
+#[test]
+fn runs_answer_as_other_programs_do(rt: HostRuntime) -> Result<(), Fail> {
+    for (words, case, schedule, text) in [
+        (
+            [
+                "price",
+                "--case=c",
+                "--schedule=s",
+                "--proposals=4",
+                "--ahead=2",
+            ]
+            .as_slice(),
+            TWO_BIDS,
+            TWO_BIDS_SCHEDULE,
+            TWO_BIDS_REPORT,
+        ),
+        (
+            ["price", "--case=c", "--schedule=s", "--proposals=4"].as_slice(),
+            WINDOW,
+            WINDOW_SCHEDULE,
+            WINDOW_REPORT,
+        ),
+        (["try", "7", "--proposals", "12"].as_slice(), "", "", TRY),
+    ] {
+        let (status, bytes) = run(rt.alloc(), words, case, schedule, (&[], &[], &[]))?;
+        assert_eq!(rt; bytes.as_slice(), text);
+        assert_eq!(rt; status, 0);
     }
     Ok(())
 }

@@ -1,10 +1,22 @@
-pub mod AloneLaws
-pub mod DueLaws
-pub mod EndLemmas
-pub mod OneDue
-pub mod PlanShapes
-pub mod RoundLaws
-pub mod SettleLaws
-pub mod TextLaws
+-- files.rt, answers.rt: one step after another
+pub mod StepLaws
+-- files.rt: what was read of a file
+pub mod ReadLaws
+-- answers.rt: what the run of a command answers
+pub mod AnswerLaws
+-- answers.rt: the numbers of a run that words give are within their limits
 pub mod WordSizes
+-- answers.rt: a feasible plan has the shape that its cost is taken of
+pub mod PlanShapes
+-- run.rt: one round of the run's caller
+pub mod RoundLaws
+-- run.rt: the settlement at the prices of the chosen row
+pub mod SettleLaws
+-- end.rt: what is written of a run that has ended is the text of a right report
 pub mod WriteLaws
+-- lib.rt: the end of a run is its outcome
+pub mod EndLaws
+-- laws.rt: at most one thing is due
+pub mod OneDue
+-- laws.rt: what follows from an outcome
+pub mod OutcomeLaws

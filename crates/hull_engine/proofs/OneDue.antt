@@ -1,61 +1,77 @@
--- There is at most one thing that a run is due.
-use Rattle.std.proofs.Common.{◌≡◌, ℕ, List, Option, sym, ap, ◌∙◌}
+-- Over what was read at most one thing is due, and at most one text may be printed.
+use Rattle.std.proofs.Common.{◌≡◌, ℕ, List, Option, Result, Ok, Err, sym, ap, ◌∙◌}
 use Rattle.std.specs.Prelude.{slice_get}
+use Rattle.std.specs.Result.{result_map_both}
 use Rattle.uc_model.specs.Data.{Market, Schedule}
 use Rattle.uc_model.specs.Refusals.{Refusal}
-use Rattle.uc_case.proofs.FileLaws.{one_reading}
-use Rattle.uc_case.specs.Cases.{case_of}
-use Rattle.uc_plan.specs.Plans.{plan_of}
-use Rattle.hull_words.specs.Asked.{Asked, price, check, try, bound, fixed, audit, CheckAsked}
+use Rattle.uc_case.specs.Laws.{OneCase}
+use Rattle.uc_plan.specs.Laws.{OnePlan}
+use Rattle.hull_words.specs.Asked.{Asked, price, check, try, bound, fixed, audit}
+use Rattle.hull_words.specs.declared.fault.WordFault.{WordFault}
 use Rattle.plan_check.specs.Checks.{refusal_of}
 use Rattle.plan_check.specs.declared.RuleFault.{RuleFault}
+use Rattle.hull_report.specs.Laws.{OneRightReport}
+use Rattle.hull_report.specs.ReportText.{Report, report_text}
+use Rattle.hull_report.specs.TryText.{try_text}
+use Rattle.hull_report.specs.declared.fault.FileKind.TheVariants.{CaseFile, ScheduleFile}
+use Rattle.hull_report.specs.declared.fault.TopFault.{TopFault}
 use Rattle.hull_report.specs.declared.fault.TopFault.TheVariants.{PlanRule}
-use Rattle.hull_engine.specs.Due.{Due, Accepts, Refuses, Untold, Then, Only}
-use Rattle.hull_engine.specs.Ladder.{file_names, bytes_due, words_due, case_due, plan_due, work_due, PlannedCase, Accepted, Check, Price, Try, made_case, IsReadCase, IsCaseDue, IsReadPlan, IsPlanDue, IsRuleDue, IsInputDue, IsCommandDue, IsDue}
-use Rattle.hull_engine.proofs.DueLaws.{one_then}
-
-one_only : {A : Type 0} (d a b : Due A) → Only d a → Only d b → a ≡ b
-one_only d a b p q = p ∙ sym q
-
-one_case : (bytes : List ℕ) (a b : Due Market) → IsReadCase bytes a → IsReadCase bytes b → a ≡ b
-one_case bytes a b (r, is_r, p) (s, is_s, q) = p ∙ ap case_due (one_reading case_of bytes r s is_r is_s) ∙ sym q
-
-one_plan : (m : Market) (bytes : List ℕ) (a b : Due (List Schedule)) → IsReadPlan m bytes a → IsReadPlan m bytes b → a ≡ b
-one_plan m bytes a b (r, is_r, p) (s, is_s, q) = p ∙ ap plan_due (one_reading (plan_of m) bytes r s is_r is_s) ∙ sym q
+use Rattle.hull_engine.specs.Steps.{Then, Reads, IsBytes, case_fault, plan_fault, IsCase, IsCaseFile, IsPlan, IsPlanFile, PlannedCase, IsChecked, IsInput, IsMade, IsWithinWork}
+use Rattle.hull_engine.specs.Outcome.{IsReportText, command_for}
+use Rattle.hull_engine.proofs.StepLaws.{one_then}
 
 -- a fault is all that its refusal tells
 one_fault : (f g : RuleFault) → refusal_of f ≡ refusal_of g → f ≡ g
 one_fault f g e = ap (λ (r : Refusal). record { code = r.rule; kind = r.kind; unit = r.unit; period = r.period; left = r.left; right = r.right }) e
 
-one_rule : (m : Market) (plan : List Schedule) (a b : Due PlannedCase) → IsRuleDue m plan a → IsRuleDue m plan b → a ≡ b
-one_rule m plan (Accepts x) (Accepts y) p q = ap Accepts (p.2 ∙ sym q.2)
-one_rule m plan (Accepts x) (Refuses g) p q = let e = ap (λ (xs : List Refusal). slice_get xs 0) p.1 in let h = q.2 in cc
-one_rule m plan (Refuses f) (Accepts y) p q = let e = ap (λ (xs : List Refusal). slice_get xs 0) q.1 in let h = p.2 in cc
-one_rule m plan (Refuses f) (Refuses g) (r, is_r, p) (s, is_s, q) =
-    let same : refusal_of r ≡ refusal_of s = cc in ap Refuses (is_r ∙ ap PlanRule (one_fault r s same) ∙ sym is_s)
-one_rule m plan (Accepts x) Untold p q = absurd q
-one_rule m plan (Refuses f) Untold p q = absurd q
-one_rule m plan Untold b p q = absurd p
+one_checked : (m : Market) (plan : List Schedule) (a b : Result PlannedCase TopFault) → IsChecked m plan a → IsChecked m plan b → a ≡ b
+one_checked m plan (Ok x) (Ok y) p q = ap Ok (p.2 ∙ sym q.2)
+one_checked m plan (Ok x) (Err g) p q = let e = ap (λ (xs : List Refusal). slice_get xs 0) p.1 in let h = q.2 in cc
+one_checked m plan (Err f) (Ok y) p q = let e = ap (λ (xs : List Refusal). slice_get xs 0) q.1 in let h = p.2 in cc
+one_checked m plan (Err f) (Err g) (r, is_r, p) (s, is_s, q) =
+    let same : refusal_of r ≡ refusal_of s = cc in ap Err (is_r ∙ ap PlanRule (one_fault r s same) ∙ sym is_s)
 
-one_input : (told : List ℕ → Option (List ℕ)) (names : CheckAsked) (a b : Due PlannedCase) → IsInputDue told names a → IsInputDue told names b → a ≡ b
-one_input told names =
-    one_then (IsCaseDue (told names.case_name)) (λ m. Then (IsPlanDue m (told names.schedule_name)) (IsRuleDue m))
-    (one_then (Only (bytes_due _ (told names.case_name))) IsReadCase (one_only _) one_case)
-    (λ m. one_then (IsPlanDue m (told names.schedule_name)) (IsRuleDue m) (one_then (Only (bytes_due _ (told names.schedule_name))) (IsReadPlan m) (one_only _) (one_plan m)) (one_rule m))
+module _ (one_case : OneCase) (one_plan : OnePlan) where
+  one_case_in : (bytes : List ℕ) (a b : Result Market TopFault) → IsCase bytes a → IsCase bytes b → a ≡ b
+  one_case_in bytes a b (r, is_r, p) (s, is_s, q) = p ∙ ap (result_map_both (λ m. m) case_fault) (one_case bytes r s is_r is_s) ∙ sym q
 
-one_command : (told : List ℕ → Option (List ℕ)) (asked : Asked) (a b : Due Accepted) → IsCommandDue told asked a → IsCommandDue told asked b → a ≡ b
-one_command told (check names) = one_then (IsInputDue told names) (λ c. Only (Accepts (Check c))) (one_input told names) (λ c. one_only (Accepts (Check c)))
-one_command told (price a) =
-    let names = file_names a.case_name a.schedule_name in
-    one_then (Then (IsInputDue told names) (λ c. Only (work_due a.proposals c))) (λ c. Only (Accepts (Price c a.proposals a.ahead)))
-    (one_then (IsInputDue told names) (λ c. Only (work_due a.proposals c)) (one_input told names) (λ c. one_only (work_due a.proposals c)))
-    (λ c. one_only (Accepts (Price c a.proposals a.ahead)))
-one_command told (try a) =
-    one_then (Only (work_due a.proposals (made_case a.number))) (λ c. Only (Accepts (Try a.number c a.proposals a.ahead)))
-    (one_only (work_due a.proposals (made_case a.number))) (λ c. one_only (Accepts (Try a.number c a.proposals a.ahead)))
-one_command told (bound a) = one_only _
-one_command told (fixed a) = one_only _
-one_command told (audit a) = one_only _
+  one_plan_in : (m : Market) (bytes : List ℕ) (a b : Result (List Schedule) TopFault) → IsPlan m bytes a → IsPlan m bytes b → a ≡ b
+  one_plan_in m bytes a b (r, is_r, p) (s, is_s, q) = p ∙ ap (result_map_both (λ plan. plan) plan_fault) (one_plan m bytes r s is_r is_s) ∙ sym q
 
-pub one_due : (words : List (List ℕ)) (told : List ℕ → Option (List ℕ)) (a b : Due Accepted) → IsDue words told a → IsDue words told b → a ≡ b
-one_due words told = one_then (Only (words_due words)) (IsCommandDue told) (one_only (words_due words)) (one_command told)
+  one_input : (reads : Reads) (a b : Result PlannedCase TopFault) → IsInput reads a → IsInput reads b → a ≡ b
+  one_input reads =
+      one_then (IsCaseFile (reads CaseFile)) (λ m. Then (IsPlanFile m (reads ScheduleFile)) (IsChecked m))
+      (one_then (IsBytes CaseFile (reads CaseFile)) IsCase (λ a b p q. p ∙ sym q) one_case_in)
+      (λ m. one_then (IsPlanFile m (reads ScheduleFile)) (IsChecked m)
+      (one_then (IsBytes ScheduleFile (reads ScheduleFile)) (IsPlan m) (λ a b p q. p ∙ sym q) (one_plan_in m)) (one_checked m))
+
+  one_made : (number : ℕ) (a b : Result PlannedCase TopFault) → IsMade number a → IsMade number b → a ≡ b
+  one_made number (Ok x) (Ok y) p q = ap Ok (p.1 ∙ sym q.1)
+  one_made number (Ok x) (Err g) p q = absurd q
+  one_made number (Err f) b p q = absurd p
+
+  pub one_due : (w : Result Asked WordFault) (reads : Reads) (a b : Result PlannedCase TopFault) → (command_for w).IsDue reads a → (command_for w).IsDue reads b → a ≡ b
+  one_due (Ok (check x)) reads a b p q = one_input reads a b p q
+  one_due (Ok (price x)) reads a b p q =
+      one_then (IsInput reads) (IsWithinWork x.proposals) (one_input reads) (λ c a b p q. p ∙ sym q) a b p q
+  one_due (Ok (try x)) reads a b p q =
+      one_then (IsMade x.number) (IsWithinWork x.proposals) (one_made x.number) (λ c a b p q. p ∙ sym q) a b p q
+  one_due (Ok (bound x)) reads a b p q = p ∙ sym q
+  one_due (Ok (fixed x)) reads a b p q = p ∙ sym q
+  one_due (Ok (audit x)) reads a b p q = p ∙ sym q
+  one_due (Err f) reads a b p q = p ∙ sym q
+
+module _ (one : OneRightReport) where
+  one_report_text : (text_of : Report → List ℕ) (budget ahead : ℕ) (c : PlannedCase) (text other : List ℕ)
+      → IsReportText text_of budget ahead c text → IsReportText text_of budget ahead c other → text ≡ other
+  one_report_text text_of budget ahead c text other (r, is_r, p) (s, is_s, q) =
+      p ∙ ap text_of (one c.market c.plan budget ahead r s is_r is_s) ∙ sym q
+
+  pub one_text : (w : Result Asked WordFault) (reads : Reads) (c : PlannedCase) (text other : List ℕ) → (command_for w).IsText reads c text → (command_for w).IsText reads c other → text ≡ other
+  one_text (Ok (check x)) reads c text other p q = p ∙ sym q
+  one_text (Ok (price x)) reads c text other p q = one_report_text report_text x.proposals x.ahead c text other p q
+  one_text (Ok (try x)) reads c text other p q = one_report_text (try_text x.number) x.proposals x.ahead c text other p q
+  one_text (Ok (bound x)) reads c text other p q = absurd p
+  one_text (Ok (fixed x)) reads c text other p q = absurd p
+  one_text (Ok (audit x)) reads c text other p q = absurd p
+  one_text (Err f) reads c text other p q = absurd p

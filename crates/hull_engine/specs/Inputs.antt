@@ -7,22 +7,12 @@ use Rattle.hull_words.specs.Asked.{TryAsked}
 use Rattle.hull_words.specs.declared.command.TryWords.{TryWords}
 use Rattle.hull_engine.specs.declared.input.Input.{Input}
 use Rattle.hull_engine.specs.declared.input.RunInput.{RunInput}
-use Rattle.hull_engine.specs.declared.job.Job.{Job}
-use Rattle.hull_engine.specs.declared.job.Job.TheVariants as jobs
-use Rattle.hull_engine.specs.Ladder.{PlannedCase, Accepted, Check, Price, Try}
+use Rattle.hull_engine.specs.Steps.{PlannedCase}
 use Rattle.hull_engine.specs.Sizes.{IsRunSize}
 
--- what a contract sees of an input, and of what is to be done
+-- what a contract sees of an input
 abbrev pub planned_of : Input → PlannedCase
 planned_of input = record { market = market_of input.case; plan = schedules_of input.plan; cost = input.cost }
-
-abbrev pub accepted_of : Job → Accepted
-accepted_of (jobs.Check input) = Check (planned_of input)
-accepted_of (jobs.Price run) = Price (planned_of run.input) run.budget run.ahead
-accepted_of (jobs.Try number run) = Try number (planned_of run.input) run.budget run.ahead
-
-abbrev pub try_asked : TryWords → TryAsked
-try_asked w = record { number = w.number; proposals = w.proposals; workers = w.workers; ahead = w.ahead }
 
 -- the schedule is feasible, and this is its cost
 pub record IsPlanned (input : Input) : Type 0 where
@@ -32,10 +22,8 @@ pub record IsPlanned (input : Input) : Type 0 where
 -- and the numbers of the run are within their limits
 pub record IsRunInput (run : RunInput) : Type 0 where
   pub planned : IsPlanned run.input
-  pub size : IsRunSize run.budget run.workers run.ahead
-  pub work : run.budget * unit_count (market_of run.input.case) * (market_of run.input.case).periods ≤ 50000000
+  pub size : IsRunSize run.size.proposals run.size.workers run.size.ahead
+  pub work : run.size.proposals * unit_count (market_of run.input.case) * (market_of run.input.case).periods ≤ 50000000
 
-abbrev pub IsReady : Job → Type 0
-IsReady (jobs.Check input) = IsPlanned input
-IsReady (jobs.Price run) = IsRunInput run
-IsReady (jobs.Try number run) = IsRunInput run
+abbrev pub try_asked : TryWords → TryAsked
+try_asked w = record { number = w.number; proposals = w.proposals; workers = w.workers; ahead = w.ahead }

@@ -1,10 +1,7 @@
-pub mod Due
-pub mod Sizes
-pub mod Ladder
-pub mod AnswerTexts
-pub mod Alone
-pub mod Inputs
-pub mod Ends
-pub mod Rounds
-pub mod Runs
+pub mod Steps
+pub mod Outcome
 pub mod Laws
+pub mod Sizes
+pub mod Inputs
+pub mod Rounds
+pub mod Answers

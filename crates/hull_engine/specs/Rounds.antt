@@ -49,7 +49,7 @@ pub record IsOpened (b : Setup) (r : Run) : Type 0 where
 
 -- what the run of an input is for: one caller
 abbrev pub setup_of : RunInput → Setup
-setup_of run = setup_for run.input.case run.input.plan run.input.cost run.budget run.ahead 1
+setup_of run = setup_for run.input.case run.input.plan run.input.cost run.size.proposals run.size.ahead 1
 
 -- a run that has ended: its record is finished and settled at the chosen prices
 pub record IsEnded (b : Setup) (d : Done) : Type 0 where

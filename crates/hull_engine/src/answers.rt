@@ -1,20 +1,26 @@
-//! What a command answers, once its input is accepted.
-ghost use Rattle.std.specs.Prelude.{◌≡◌, ◌≤◌, ℕ, List, None, IfOk, IfErr, IsSomeAnd};
+//! What a command answers: its files, its input and its run, up to the first refusal.
+ghost use Rattle.std.specs.Prelude.{◌≡◌, ℕ, List, Ok, Err, None, IfOk, IfErr};
 ghost use Rattle.hull_io.specs.Edge.{Rose};
-ghost use Rattle.hull_words.specs.Words.{texts, words_of};
-ghost use Rattle.hull_engine.specs.Alone.{files_for, IsFor};
-ghost use Rattle.hull_engine.specs.Due.{IsAcceptedWith};
-ghost use Rattle.hull_engine.specs.Ladder.{words_due, IsDue};
-ghost use Rattle.hull_engine.specs.Ends.{IsAnswer, IfReadFails, name_at, IsReached};
-ghost use Rattle.hull_engine.specs.Inputs.{accepted_of, IsRunInput, IsReady};
+ghost use Rattle.hull_words.specs.Asked.{asked, check, price, try, check_asked, price_asked};
+ghost use Rattle.hull_words.specs.Words.{texts, fault, words_of};
+ghost use Rattle.hull_report.specs.declared.fault.FileKind.{FileKind};
+ghost use Rattle.hull_engine.specs.Steps.{Reads, made_case};
+ghost use Rattle.hull_engine.specs.Outcome.{command_for};
+ghost use Rattle.hull_engine.specs.Answers.{IsFaultOf, IsLaterShelf, HasReads, IsAnswered, IsCommandAnswer};
+ghost use Rattle.hull_engine.specs.Inputs.{planned_of, IsPlanned, IsRunInput, try_asked};
 ghost use Rattle.hull_engine.specs.Rounds.{setup_of, IsEnded};
-ghost use Rattle.hull_engine.specs.Runs.{answered_of, IsAnswered, Performs};
+ghost use Rattle.hull_engine.specs.Sizes.{IsRunSize, HasSizes};
 
-use crate::input::{Input, RunInput};
-use crate::job::{Job, decide};
-use crate::run::{Done, open_run, run_board};
+use crate::files::read_input;
+use crate::input::{Input, RunInput, RunSize, within_work};
+use crate::run::{Done, open, run_board};
+use case_make::make_case;
 use hull_io::Shelf;
 use hull_report::TopFault;
+use hull_words::{
+    CheckWords, Command, PriceWords, TryWords, WordCode, WordError, WordFault, read_words,
+};
+use plan_check::costs::cost_of_plan;
 use std::alloc::{AllocError, Global};
 
 /// What a command is to print.
@@ -28,19 +34,25 @@ pub enum Answer {
     Try(u64, Done),
 }
 
+/// The command that the words give.
+fn command_of(alloc: Global, words: &[String]) -> Result<Command, TopFault>
+    ensures given { IfOk result (λ c. words_of (texts words.now) ≡ Ok (asked c)) }
+    ensures sizes { IfOk result (λ c. HasSizes (asked c)) }
+    ensures refused { IfErr result (λ f. (reads : Reads) → IsFaultOf ((command_for (words_of (texts words.now))).IsDue reads) f) }
+{
+    match read_words(alloc, words) {
+        Ok(command) => Ok(command),
+        Err(WordError::Fault(fault)) => Err(TopFault::Words(fault)),
+        Err(WordError::Memory) => Err(TopFault::Memory),
+    }
+}
+
 /// Opens a run and runs it to its end.
 fn run_to_end(alloc: Global, run: RunInput) -> Result<Done, AllocError>
     requires { IsRunInput run }
     ensures { IfOk result (λ done. IsEnded (setup_of run) done) }
 {
-    let RunInput {
-        input,
-        budget,
-        workers,
-        ahead,
-    } = run;
-    let Input { case, plan, cost } = input;
-    let opened = open_run(alloc, case, plan, cost, budget, workers, ahead)?;
+    let opened = open(alloc, run)?;
     run_board(alloc, opened)
 }
 
@@ -56,34 +68,144 @@ fn ended_run(alloc: Global, run: RunInput) -> Result<Done, TopFault>
     }
 }
 
-/// Does what is asked for, as far as memory goes.
-fn perform(alloc: Global, job: Job) -> Result<Answer, TopFault>
-    requires { IsReady job }
-    ensures performs { Performs (accepted_of job) result }
+/// What `hull check` answers.
+fn answer_check<F: Shelf>(
+    alloc: Global,
+    shelf: &mut F,
+    words: &CheckWords,
+) -> Result<Answer, TopFault>
+    ensures answers { HasReads (F.told shelf.old)
+        (λ name. Rose F.last (F.faults shelf.old name) (F.faults shelf.new name))
+        (command_for (Ok (check (check_asked words.now)))).name_of
+        (λ reads. IsCommandAnswer (command_for (Ok (check (check_asked words.now)))) reads result) }
     ensures answered { IfOk result (λ answer. IsAnswered answer) }
+    ensures shelf { IsLaterShelf F.told F.faults shelf.old shelf.new }
 {
-    match job {
-        Job::Check(input) => Ok(Answer::Check(input)),
-        Job::Price(run) => Ok(Answer::Price(ended_run(alloc, run)?)),
-        Job::Try(number, run) => Ok(Answer::Try(number, ended_run(alloc, run)?)),
+    let case_name = words.case_name.as_str();
+    let schedule_name = words.schedule_name.as_str();
+    let input = read_input(alloc, shelf, case_name, schedule_name)?;
+    Ok(Answer::Check(input))
+}
+
+/// How large the run of `hull price` is.
+fn price_size(words: &PriceWords) -> RunSize
+    ensures proposals { result.proposals ≡ words.now.proposals }
+    ensures workers { result.workers ≡ words.now.workers }
+    ensures ahead { result.ahead ≡ words.now.ahead }
+{
+    RunSize {
+        proposals: words.proposals,
+        workers: words.workers,
+        ahead: words.ahead,
     }
 }
 
-/// What the words and the files ask for, answered, or their first fault.
-pub fn answer_words<F: Shelf>(
+/// What `hull price` answers.
+fn answer_price<F: Shelf>(
+    alloc: Global,
+    shelf: &mut F,
+    words: &PriceWords,
+) -> Result<Answer, TopFault>
+    requires { IsRunSize words.now.proposals words.now.workers words.now.ahead }
+    ensures answers { HasReads (F.told shelf.old)
+        (λ name. Rose F.last (F.faults shelf.old name) (F.faults shelf.new name))
+        (command_for (Ok (price (price_asked words.now)))).name_of
+        (λ reads. IsCommandAnswer (command_for (Ok (price (price_asked words.now)))) reads result) }
+    ensures answered { IfOk result (λ answer. IsAnswered answer) }
+    ensures shelf { IsLaterShelf F.told F.faults shelf.old shelf.new }
+{
+    let case_name = words.case_name.as_str();
+    let schedule_name = words.schedule_name.as_str();
+    let input = read_input(alloc, shelf, case_name, schedule_name)?;
+    let run = within_work(input, price_size(words))?;
+    Ok(Answer::Price(ended_run(alloc, run)?))
+}
+
+/// The case and the feasible schedule that a number stands for.
+fn made_input(alloc: Global, number: u64) -> Result<Input, AllocError>
+    ensures made { IfOk result (λ input. planned_of input ≡ made_case number) }
+    ensures planned { IfOk result (λ input. IsPlanned input) }
+{
+    let (case, plan) = make_case(alloc, number)?;
+    let cost = cost_of_plan(&case, &plan);
+    Ok(Input { case, plan, cost })
+}
+
+/// How large the run of `hull try` is.
+fn try_size(words: &TryWords) -> RunSize
+    ensures proposals { result.proposals ≡ words.now.proposals }
+    ensures workers { result.workers ≡ words.now.workers }
+    ensures ahead { result.ahead ≡ words.now.ahead }
+{
+    RunSize {
+        proposals: words.proposals,
+        workers: words.workers,
+        ahead: words.ahead,
+    }
+}
+
+/// What `hull try` answers.
+fn answer_try(alloc: Global, words: &TryWords) -> Result<Answer, TopFault>
+    requires { IsRunSize words.now.proposals words.now.workers words.now.ahead }
+    ensures answers { (reads : Reads) → IsCommandAnswer (command_for (Ok (try (try_asked words.now)))) reads result }
+    ensures answered { IfOk result (λ answer. IsAnswered answer) }
+{
+    let Ok(input) = made_input(alloc, words.number) else {
+        return Err(TopFault::Memory);
+    };
+    let run = within_work(input, try_size(words))?;
+    Ok(Answer::Try(words.number, ended_run(alloc, run)?))
+}
+
+/// A command that isn't built yet is an unknown one.
+fn not_built() -> TopFault
+    ensures { result ≡ TopFault.Words (fault WordCode.UnknownCommand 1) }
+{
+    TopFault::Words(WordFault {
+        code: WordCode::UnknownCommand,
+        place: 1,
+    })
+}
+
+/// What a command answers.
+fn answer_command<F: Shelf>(
+    alloc: Global,
+    shelf: &mut F,
+    command: &Command,
+) -> Result<Answer, TopFault>
+    requires { HasSizes (asked command.now) }
+    ensures answers { HasReads (F.told shelf.old)
+        (λ name. Rose F.last (F.faults shelf.old name) (F.faults shelf.new name))
+        (command_for (Ok (asked command.now))).name_of
+        (λ reads. IsCommandAnswer (command_for (Ok (asked command.now))) reads result) }
+    ensures answered { IfOk result (λ answer. IsAnswered answer) }
+    ensures shelf { IsLaterShelf F.told F.faults shelf.old shelf.new }
+    ensures unread { ((file : FileKind) → (command_for (Ok (asked command.now))).name_of file ≡ None) → shelf.new ≡ shelf.old }
+{
+    match command {
+        Command::Check(words) => answer_check(alloc, shelf, words),
+        Command::Price(words) => answer_price(alloc, shelf, words),
+        Command::Try(words) => answer_try(alloc, words),
+        Command::Bound(_) => Err(not_built()),
+        Command::Fixed(_) => Err(not_built()),
+        Command::Audit(_) => Err(not_built()),
+    }
+}
+
+/// What the words ask for, answered, or the first refusal.
+pub fn answer_run<F: Shelf>(
     alloc: Global,
     words: &[String],
     shelf: &mut F,
 ) -> Result<Answer, TopFault>
-    ensures answers { IsAnswer (IsDue (texts words.now) (F.told shelf.old)) answered_of result }
+    ensures answers { HasReads (F.told shelf.old)
+        (λ name. Rose F.last (F.faults shelf.old name) (F.faults shelf.new name))
+        (command_for (words_of (texts words.now))).name_of
+        (λ reads. IsCommandAnswer (command_for (words_of (texts words.now))) reads result) }
     ensures answered { IfOk result (λ answer. IsAnswered answer) }
-    ensures failed { IfReadFails result (λ file. IsAcceptedWith (words_due (texts words.now)) (λ asked.
-        IsSomeAnd (name_at asked file) (λ name. Rose F.last (F.faults shelf.old name) (F.faults shelf.new name)) × IsReached (F.told shelf.old) asked file)) }
-    ensures later { (any : List ℕ) → F.faults shelf.old any ≤ F.faults shelf.new any }
-    ensures alone { IsFor (words_of (texts words.now)) answered_of result }
-    ensures told { F.told shelf.new ≡ F.told shelf.old }
-    ensures unread { files_for (words_of (texts words.now)) ≡ None → shelf.new ≡ shelf.old }
+    ensures shelf { IsLaterShelf F.told F.faults shelf.old shelf.new }
+    ensures unread { ((file : FileKind) → (command_for (words_of (texts words.now))).name_of file ≡ None) → shelf.new ≡ shelf.old }
 {
-    let job = decide(alloc, words, shelf)?;
-    perform(alloc, job)
+    let command = command_of(alloc, words)?;
+    answer_command(alloc, shelf, &command)
 }

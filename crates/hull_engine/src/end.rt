@@ -1,16 +1,17 @@
 //! The end of a run: the text, or the line of a fault.
-ghost use Rattle.std.specs.Prelude.{◌≡◌, length, IfOk};
+ghost use Rattle.std.specs.Prelude.{◌≡◌, ℕ, List, length, IfOk};
 ghost use Rattle.uc_model.specs.PlainUnits.{schedule_of};
-ghost use Rattle.hull_io.specs.Edge.{Writes};
+ghost use Rattle.hull_io.specs.Edge.{Writes, Gains, FallsShort};
 ghost use Rattle.hull_report.specs.ReportText.{report_text};
 ghost use Rattle.hull_report.specs.RecordReport.{report_of};
-ghost use Rattle.hull_engine.specs.Ends.{status_of};
+ghost use Rattle.hull_engine.specs.Outcome.{status_at};
+ghost use Rattle.hull_engine.specs.Answers.{IsTextOf, IsAnswered, IsEndOf};
 ghost use Rattle.hull_engine.specs.Rounds.{IsEnded};
-ghost use Rattle.hull_engine.specs.Runs.{end_status, answered_of, IsAnswered, WritesAnswer, IsEndOf};
 
 use crate::answers::Answer;
 use crate::run::Done;
 use hull_io::{Sink, WriteFailed};
+use hull_report::laws::record_report_is_right;
 use hull_report::{TopFault, write_check, write_fault, write_report, write_try};
 
 /// How a run ended.
@@ -24,31 +25,15 @@ pub enum End {
     Refused(TopFault),
 }
 
-/// The status of a fault.
-fn fault_status(fault: &TopFault) -> u8
-    ensures { result ≡ status_of fault.now }
-{
-    match fault {
-        TopFault::Words(_) => 1,
-        TopFault::Read(_) => 2,
-        TopFault::CaseText(_) | TopFault::CaseField(_) => 3,
-        TopFault::PlanText(_) | TopFault::PlanShape(_) | TopFault::PlanRule(_) => 4,
-        TopFault::TooBig(file) => file.status(),
-        TopFault::Work(_) => 5,
-        TopFault::Memory => 7,
-        TopFault::Report(_) => 8,
-    }
-}
-
 impl End {
     /// The status of the run.
     pub fn status(&self) -> u8
-        ensures { result ≡ end_status self.now }
+        ensures { result ≡ status_at self.now }
     {
         match self {
             End::Done => 0,
             End::Cut => 6,
-            End::Refused(fault) => fault_status(fault),
+            End::Refused(fault) => fault.status(),
         }
     }
 }
@@ -77,8 +62,9 @@ fn let_go(done: Done) {
 /// Writes the text of the answer.
 fn write_answer<S: Sink>(answer: Answer, out: &mut S) -> Result<(), WriteFailed>
     requires { IsAnswered answer }
-    ensures { WritesAnswer S.held S.faults S.last out.old out.new (answered_of answer) result }
+    ensures { (text : List ℕ) × IsTextOf answer text × Writes S.held S.faults S.last out.old out.new result text }
 {
+    record_report_is_right();
     match answer {
         Answer::Check(input) => write_check(&input.case, input.cost, out),
         Answer::Price(mut done) => {
@@ -97,7 +83,7 @@ fn write_answer<S: Sink>(answer: Answer, out: &mut S) -> Result<(), WriteFailed>
 /// Writes the text of the answer, or the line of the fault.
 pub fn finish<S: Sink>(answer: Result<Answer, TopFault>, out: &mut S) -> End
     requires { IfOk answer (λ answer. IsAnswered answer) }
-    ensures { IsEndOf S.held S.faults S.last out.old out.new answer result }
+    ensures { IsEndOf (Gains S.held S.faults out.old out.new) (FallsShort S.held S.faults S.last out.old out.new) answer result }
 {
     match answer {
         Ok(answer) => match write_answer(answer, out) {

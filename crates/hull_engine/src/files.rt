@@ -1,19 +1,19 @@
 //! The files of a command: the case and its schedule, read and judged in the order of their refusals.
-ghost use Rattle.std.specs.Prelude.{◌≡◌, ◌≤◌, ℕ, true, List, Vec, length, IfOk, IfErr, IsSomeAnd};
+ghost use Rattle.std.specs.Prelude.{◌≡◌, ◌≤◌, ℕ, true, List, Option, Vec, length, vec_len, IfOk};
 ghost use Rattle.std.specs.Global.{Global};
 ghost use Rattle.uc_model.specs.Laws.{HasPlanShape};
 ghost use Rattle.uc_model.specs.PlainCases.{market_of, schedules_of};
 ghost use Rattle.hull_io.specs.Edge.{Rose};
-ghost use Rattle.hull_engine.specs.Alone.{is_input, is_input_fault};
-ghost use Rattle.hull_engine.specs.Due.{Then, Only};
-ghost use Rattle.hull_engine.specs.Ladder.{file_names, bytes_due, IsReadCase, IsCaseDue, IsReadPlan, IsPlanDue, IsRuleDue, IsInputDue};
-ghost use Rattle.hull_engine.specs.Ends.{IsAnswer, IfReadFails, name_in, IsReachedIn};
+ghost use Rattle.hull_engine.specs.Steps.{Then, IsBytes, IsCase, IsCaseFile, IsPlan, IsPlanFile, IsChecked, IsInput};
+ghost use Rattle.hull_engine.specs.Outcome.{case_and_schedule};
+ghost use Rattle.hull_engine.specs.Answers.{IsAnswer, IsLaterShelf, HasRead, HasReads};
 ghost use Rattle.hull_engine.specs.Inputs.{planned_of, IsPlanned};
 
 use crate::input::Input;
-use hull_io::{ReadFault, Shelf, read_whole};
+use hull_io::{MOST_BYTES, ReadFault, Shelf, read_whole};
 use hull_report::{FileKind, TopFault};
 use plan_check::check_plan;
+use plan_check::laws::refusals_are_exact;
 use std::alloc::Global;
 use uc_case::fault::CaseFault;
 use uc_case::read_case;
@@ -21,20 +21,17 @@ use uc_model::cases::{Case, Plan};
 use uc_plan::fault::PlanFault;
 use uc_plan::read_plan;
 
-/// The bytes of a case or a schedule file.
-fn bytes_step<F: Shelf>(
+/// The bytes of a file.
+fn read_bytes<F: Shelf>(
     alloc: Global,
     shelf: &mut F,
     name: &str,
     file: FileKind,
 ) -> Result<Vec<u8>, TopFault>
-    requires { is_input file ≡ true }
-    ensures answers { IsAnswer (Only (bytes_due file (F.told shelf.old name.now))) (λ (v : Vec ℕ Global). v.items) result }
-    ensures fits { IfOk result (λ v. length v.items ≤ 67108864) }
-    ensures failed { IfReadFails result (λ f. (f ≡ file) × Rose F.last (F.faults shelf.old name.now) (F.faults shelf.new name.now)) }
-    ensures later { (any : List ℕ) → F.faults shelf.old any ≤ F.faults shelf.new any }
-    ensures told { F.told shelf.new ≡ F.told shelf.old }
-    ensures kind { IfErr result (λ fault. is_input_fault fault ≡ true) }
+    ensures answers { HasRead (F.told shelf.old name.now) (Rose F.last (F.faults shelf.old name.now) (F.faults shelf.new name.now))
+        (λ read. IsAnswer (IsBytes file read) (λ (v : Vec ℕ Global). v.items) result) }
+    ensures fits { IfOk result (λ v. vec_len v ≤ MOST_BYTES) }
+    ensures shelf { IsLaterShelf F.told F.faults shelf.old shelf.new }
 {
     match read_whole(alloc, shelf, name) {
         Ok(bytes) => Ok(bytes),
@@ -46,10 +43,8 @@ fn bytes_step<F: Shelf>(
 
 /// The case that bytes are.
 fn case_in(alloc: Global, bytes: &[u8]) -> Result<Case, TopFault>
-    requires { length bytes.now ≤ 67108864 }
-    ensures answers { IsAnswer (IsReadCase bytes.now) market_of result }
-    ensures unread { IfReadFails result (λ _. ⊥) }
-    ensures kind { IfErr result (λ fault. is_input_fault fault ≡ true) }
+    requires { length bytes.now ≤ MOST_BYTES }
+    ensures { IsAnswer (IsCase bytes.now) market_of result }
 {
     match read_case(alloc, bytes) {
         Ok(case) => Ok(case),
@@ -60,24 +55,20 @@ fn case_in(alloc: Global, bytes: &[u8]) -> Result<Case, TopFault>
 }
 
 /// The case of a file.
-fn case_step<F: Shelf>(alloc: Global, shelf: &mut F, name: &str) -> Result<Case, TopFault>
-    ensures answers { IsAnswer (IsCaseDue (F.told shelf.old name.now)) market_of result }
-    ensures failed { IfReadFails result (λ f. (f ≡ FileKind.CaseFile) × Rose F.last (F.faults shelf.old name.now) (F.faults shelf.new name.now)) }
-    ensures later { (any : List ℕ) → F.faults shelf.old any ≤ F.faults shelf.new any }
-    ensures told { F.told shelf.new ≡ F.told shelf.old }
-    ensures kind { IfErr result (λ fault. is_input_fault fault ≡ true) }
+fn read_case_file<F: Shelf>(alloc: Global, shelf: &mut F, name: &str) -> Result<Case, TopFault>
+    ensures answers { HasRead (F.told shelf.old name.now) (Rose F.last (F.faults shelf.old name.now) (F.faults shelf.new name.now))
+        (λ read. IsAnswer (IsCaseFile read) market_of result) }
+    ensures shelf { IsLaterShelf F.told F.faults shelf.old shelf.new }
 {
-    let bytes = bytes_step(alloc, shelf, name, FileKind::CaseFile)?;
+    let bytes = read_bytes(alloc, shelf, name, FileKind::CaseFile)?;
     case_in(alloc, bytes.as_slice())
 }
 
-/// The schedule that bytes are, for this case.
+/// The schedules that bytes are, for this case.
 fn plan_in(alloc: Global, case: &Case, bytes: &[u8]) -> Result<Plan, TopFault>
-    requires { length bytes.now ≤ 67108864 }
-    ensures answers { IsAnswer (IsReadPlan (market_of case.now) bytes.now) schedules_of result }
+    requires { length bytes.now ≤ MOST_BYTES }
+    ensures answers { IsAnswer (IsPlan (market_of case.now) bytes.now) schedules_of result }
     ensures shape { IfOk result (λ plan. HasPlanShape (market_of case.now) (schedules_of plan)) }
-    ensures unread { IfReadFails result (λ _. ⊥) }
-    ensures kind { IfErr result (λ fault. is_input_fault fault ≡ true) }
 {
     match read_plan(alloc, case, bytes) {
         Ok(plan) => Ok(plan),
@@ -87,32 +78,29 @@ fn plan_in(alloc: Global, case: &Case, bytes: &[u8]) -> Result<Plan, TopFault>
     }
 }
 
-/// The schedule of a file, for this case.
-fn plan_step<F: Shelf>(
+/// The schedules of a file, for this case.
+fn read_plan_file<F: Shelf>(
     alloc: Global,
     shelf: &mut F,
     name: &str,
     case: &Case,
 ) -> Result<Plan, TopFault>
-    ensures answers { IsAnswer (IsPlanDue (market_of case.now) (F.told shelf.old name.now)) schedules_of result }
+    ensures answers { HasRead (F.told shelf.old name.now) (Rose F.last (F.faults shelf.old name.now) (F.faults shelf.new name.now))
+        (λ read. IsAnswer (IsPlanFile (market_of case.now) read) schedules_of result) }
     ensures shape { IfOk result (λ plan. HasPlanShape (market_of case.now) (schedules_of plan)) }
-    ensures failed { IfReadFails result (λ f. (f ≡ FileKind.ScheduleFile) × Rose F.last (F.faults shelf.old name.now) (F.faults shelf.new name.now)) }
-    ensures later { (any : List ℕ) → F.faults shelf.old any ≤ F.faults shelf.new any }
-    ensures told { F.told shelf.new ≡ F.told shelf.old }
-    ensures kind { IfErr result (λ fault. is_input_fault fault ≡ true) }
+    ensures shelf { IsLaterShelf F.told F.faults shelf.old shelf.new }
 {
-    let bytes = bytes_step(alloc, shelf, name, FileKind::ScheduleFile)?;
+    let bytes = read_bytes(alloc, shelf, name, FileKind::ScheduleFile)?;
     plan_in(alloc, case, bytes.as_slice())
 }
 
 /// The case and the schedule with its cost, where the schedule keeps every rule.
-fn rule_step(case: Case, plan: Plan) -> Result<Input, TopFault>
+fn checked_input(case: Case, plan: Plan) -> Result<Input, TopFault>
     requires { HasPlanShape (market_of case) (schedules_of plan) }
-    ensures answers { IsAnswer (IsRuleDue (market_of case) (schedules_of plan)) planned_of result }
+    ensures answers { IsAnswer (IsChecked (market_of case) (schedules_of plan)) planned_of result }
     ensures planned { IfOk result (λ input. IsPlanned input) }
-    ensures unread { IfReadFails result (λ _. ⊥) }
-    ensures kind { IfErr result (λ fault. is_input_fault fault ≡ true) }
 {
+    refusals_are_exact();
     match check_plan(&case, &plan) {
         Ok(cost) => Ok(Input { case, plan, cost }),
         Err(fault) => Err(TopFault::PlanRule(fault)),
@@ -120,38 +108,33 @@ fn rule_step(case: Case, plan: Plan) -> Result<Input, TopFault>
 }
 
 /// The schedule's file, and its rules.
-fn schedule_step<F: Shelf>(
+fn read_schedule<F: Shelf>(
     alloc: Global,
     shelf: &mut F,
     name: &str,
     case: Case,
 ) -> Result<Input, TopFault>
-    ensures answers { IsAnswer (Then (IsPlanDue (market_of case) (F.told shelf.old name.now)) (IsRuleDue (market_of case))) planned_of result }
+    ensures answers { HasRead (F.told shelf.old name.now) (Rose F.last (F.faults shelf.old name.now) (F.faults shelf.new name.now))
+        (λ read. IsAnswer (Then (IsPlanFile (market_of case) read) (IsChecked (market_of case))) planned_of result) }
     ensures planned { IfOk result (λ input. IsPlanned input) }
-    ensures failed { IfReadFails result (λ f. (f ≡ FileKind.ScheduleFile) × Rose F.last (F.faults shelf.old name.now) (F.faults shelf.new name.now)) }
-    ensures later { (any : List ℕ) → F.faults shelf.old any ≤ F.faults shelf.new any }
-    ensures kind { IfErr result (λ fault. is_input_fault fault ≡ true) }
-    ensures told { F.told shelf.new ≡ F.told shelf.old }
+    ensures shelf { IsLaterShelf F.told F.faults shelf.old shelf.new }
 {
-    let plan = plan_step(alloc, shelf, name, &case)?;
-    rule_step(case, plan)
+    let plan = read_plan_file(alloc, shelf, name, &case)?;
+    checked_input(case, plan)
 }
 
 /// The case and the feasible schedule of the files of these names, or their first fault.
-pub fn input_step<F: Shelf>(
+pub fn read_input<F: Shelf>(
     alloc: Global,
     shelf: &mut F,
     case_name: &str,
     schedule_name: &str,
 ) -> Result<Input, TopFault>
-    ensures answers { IsAnswer (IsInputDue (F.told shelf.old) (file_names case_name.now schedule_name.now)) planned_of result }
+    ensures answers { HasReads (F.told shelf.old) (λ name. Rose F.last (F.faults shelf.old name) (F.faults shelf.new name))
+        (case_and_schedule case_name.now schedule_name.now) (λ reads. IsAnswer (IsInput reads) planned_of result) }
     ensures planned { IfOk result (λ input. IsPlanned input) }
-    ensures failed { IfReadFails result (λ file. let names = file_names case_name.now schedule_name.now in
-        IsSomeAnd (name_in names file) (λ name. Rose F.last (F.faults shelf.old name) (F.faults shelf.new name)) × IsReachedIn (F.told shelf.old) names file) }
-    ensures later { (any : List ℕ) → F.faults shelf.old any ≤ F.faults shelf.new any }
-    ensures kind { IfErr result (λ fault. is_input_fault fault ≡ true) }
-    ensures told { F.told shelf.new ≡ F.told shelf.old }
+    ensures shelf { IsLaterShelf F.told F.faults shelf.old shelf.new }
 {
-    let case = case_step(alloc, shelf, case_name)?;
-    schedule_step(alloc, shelf, schedule_name, case)
+    let case = read_case_file(alloc, shelf, case_name)?;
+    read_schedule(alloc, shelf, schedule_name, case)
 }

@@ -1,13 +1,20 @@
-//! Laws over runs: each is the contract of a function that answers nothing.
-ghost use Rattle.hull_engine.specs.Laws.{OneDue, OneText};
+//! Laws over runs: each is the contract of a function that answers nothing. They follow from `IsOutcome`, which `hull_run`
+//! ensures of its run.
+ghost use Rattle.hull_engine.specs.Laws.{OneDue, OneText, AcceptedIsFeasible, EachStatusHasItsCause, WhatWasReadDecides, WordsFollow, ReportsAreRight};
 
-use hull_report::laws::one_report_is_right;
+use hull_io::{Shelf, Sink};
+use hull_report::laws::{one_report_is_right, report_payments_make_up_the_gap};
+use uc_case::laws::one_case;
+use uc_plan::laws::one_plan;
 
-/// At most one thing is due for words and what is told of the files. So the clauses of `hull_run` that say where a status
-/// comes also say that it comes nowhere else.
+/// Over what was read, at most one input is accepted or one refusal is due. So `each_status_has_its_cause` also says that a
+/// status comes nowhere else.
 pub fn one_thing_is_due()
     ensures { OneDue }
-{}
+{
+    one_case();
+    one_plan();
+}
 
 /// At most one text may be printed of an input: what `hull price` prints is a function of the case, the schedule, the
 /// budget and the number of proposals ahead.
@@ -15,4 +22,35 @@ pub fn one_text_is_right()
     ensures { OneText }
 {
     one_report_is_right();
+}
+
+/// What a command accepts is a case with a feasible schedule and that schedule's cost.
+pub fn accepted_is_feasible()
+    ensures { AcceptedIsFeasible }
+{}
+
+/// The cause of each status, with what was written.
+pub fn each_status_has_its_cause<F: Shelf, S: Sink>()
+    ensures { EachStatusHasItsCause F.told F.faults F.last S.held S.faults S.last }
+{}
+
+/// Where no count rose, what was read decides: an accepted input ends in 0 and a refusal in its status, unless memory ran
+/// out.
+pub fn what_was_read_decides<F: Shelf, S: Sink>()
+    ensures { WhatWasReadDecides F.told F.faults F.last S.held S.faults S.last }
+{
+    one_case();
+    one_plan();
+}
+
+/// What the words alone say of the status, whatever is told of the files.
+pub fn words_follow<F: Shelf, S: Sink>()
+    ensures { WordsFollow F.told F.faults F.last S.held S.faults S.last }
+{}
+
+/// What `hull price` promises where it answers 0.
+pub fn reports_are_right<F: Shelf, S: Sink>()
+    ensures { ReportsAreRight F.told F.faults F.last S.held S.faults S.last }
+{
+    report_payments_make_up_the_gap();
 }

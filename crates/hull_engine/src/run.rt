@@ -13,9 +13,9 @@ ghost use Rattle.uc_model.specs.PriceRule.{Proposal};
 ghost use Rattle.uc_model.specs.Sums.{int_at};
 ghost use Rattle.uc_model.specs.TaskRoom.{IsTaskFor};
 ghost use Rattle.hull_report.specs.RecordReport.{IsSettledRecord};
-ghost use Rattle.hull_engine.specs.Rounds.{EndsRound, IsOpened, IsEnded};
+ghost use Rattle.hull_engine.specs.Rounds.{EndsRound, IsOpened, setup_of, IsEnded};
 
-use crate::input::unit_count;
+use crate::input::{Input, RunInput, RunSize, unit_count};
 use crate::tasks::answer_task;
 use board_core::{Board, Claim, Closed};
 use std::alloc::{AllocError, Global};
@@ -48,27 +48,20 @@ pub struct Done {
     pub buffer: Answered,
 }
 
-/// Opens a run for a case with a feasible schedule of that cost: at most so many proposals, of which `ahead` may be open
-/// ahead of the answered ones. The work is done on one thread, whatever the number of workers. `AllocError` is want of
-/// memory; the case and the schedule are then dropped.
-pub fn open_run(
-    alloc: Global,
-    case: Case,
-    plan: Plan,
-    cost: i128,
-    proposals: u32,
-    _workers: u32,
-    ahead: u32,
-) -> Result<Run, AllocError>
-    requires { IsSetup (setup_for case plan cost proposals ahead 1) }
-    ensures { IfOk result (λ run. IsOpened (setup_for case plan cost proposals ahead 1) run) }
+/// Opens the run of an input. The work is done on one thread, whatever the number of workers. `AllocError` is want of
+/// memory; the input is then dropped.
+pub fn open(alloc: Global, run: RunInput) -> Result<Run, AllocError>
+    requires { IsSetup (setup_of run) }
+    ensures { IfOk result (λ opened. IsOpened (setup_of run) opened) }
 {
+    let RunInput { input, size } = run;
+    let Input { case, plan, cost } = input;
     let units = unit_count(&case);
     let task = Task::make(alloc, case.periods)?;
     let buffer = Answered::make(alloc, case.periods)?;
     let settlement = Settlement::make(alloc, units)?;
     let earned = Numbers::make(alloc, units)?;
-    let board = Board::make(alloc, case, plan, cost, proposals, ahead, CALLERS)?;
+    let board = Board::make(alloc, case, plan, cost, size.proposals, size.ahead, CALLERS)?;
     Ok(Run {
         board,
         task,
@@ -76,6 +69,29 @@ pub fn open_run(
         settlement,
         earned,
     })
+}
+
+/// Opens a run for a case with a feasible schedule of that cost: at most so many proposals, of which `ahead` may be open
+/// ahead of the answered ones. `AllocError` is want of memory; the case and the schedule are then dropped.
+pub fn open_run(
+    alloc: Global,
+    case: Case,
+    plan: Plan,
+    cost: i128,
+    proposals: u32,
+    workers: u32,
+    ahead: u32,
+) -> Result<Run, AllocError>
+    requires { IsSetup (setup_for case plan cost proposals ahead 1) }
+    ensures { IfOk result (λ run. IsOpened (setup_for case plan cost proposals ahead 1) run) }
+{
+    let size = RunSize {
+        proposals,
+        workers,
+        ahead,
+    };
+    let input = Input { case, plan, cost };
+    open(alloc, RunInput { input, size })
 }
 
 /// Claims a task, answers it and posts the answer; false where the board has finished.

@@ -1,15 +1,21 @@
-pub mod NameLemmas
+-- parts.rt, pieces.rt, record.rt: how what a sink holds grows
+mod GrownLemmas
+-- pieces.rt: texts that are written in pieces
 pub mod PieceLemmas
+-- parts.rt: names, and numbers in digits
+pub mod NameLemmas
 mod NumeralLaws
-mod ReadBack
-mod ReadLines
-mod ReadReport
+-- record.rt: the lines of a record's units, its rows, and the whole text
 pub mod UnitLines
 pub mod Records
 mod Sizes
 mod RecordTexts
 mod RecordLines
 mod WholeReports
+-- laws.rt: a text read back, and that at most one report is right
+mod ReadBack
+mod ReadLines
+mod ReadReport
 mod RightForm
 mod OneRun
 mod OneReport

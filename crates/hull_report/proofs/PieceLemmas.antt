@@ -4,7 +4,7 @@ use Rattle.std.proofs.lemmas.List.{append-nil, take-append-drop, take_more, take
 use Rattle.std.proofs.lemmas.List.Concat.{flat_map-append}
 use Rattle.std.specs.List.{flat_map}
 use Rattle.hull_io.specs.Edge.{Gains, FallsShort, Writes}
-use Rattle.hull_io.proofs.GrownLemmas.{gains_nothing, gains_then, short_then, short_more, writes_then, writes_exit}
+use Rattle.hull_report.proofs.GrownLemmas.{gains_nothing, gains_then, short_then, short_more, writes_then, writes_exit}
 use Rattle.hull_report.specs.Pending.{Pends}
 
 flat_map_next : {X : Type 0} (f : X → List ℕ) (xs : List X) (i : ℕ) (d : X) → i < length xs → flat_map f (take (i + 1) xs) ≡ flat_map f (take i xs) ++ f (get_or xs i d)

@@ -3,7 +3,7 @@ use Rattle.std.proofs.Common.{◌≡◌, ℕ, zero, suc, ◌+◌, ◌<◌, ◌�
 use Rattle.std.proofs.lemmas.List.{append-nil, take_all, get_or-map, length-map}
 use Rattle.std.specs.List.{flat_map}
 use Rattle.hull_io.specs.Edge.{Gains, FallsShort, Writes}
-use Rattle.hull_io.proofs.GrownLemmas.{gains_then, short_then, short_more, writes_then, writes_exit}
+use Rattle.hull_report.proofs.GrownLemmas.{gains_then, short_then, short_more, writes_then, writes_exit}
 use Rattle.uc_model.specs.declared.cases.Row.{Row}
 use Rattle.uc_model.specs.PlainCases.{proposal_of}
 use Rattle.uc_model.specs.PriceRule.{Proposal}

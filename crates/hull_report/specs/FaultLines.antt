@@ -1,5 +1,5 @@
--- The line of each fault (this project's profile).
-use Rattle.std.specs.Prelude.{ℕ, List, [], ◌∷◌, codes}
+-- The status of each fault, and its line (this project's profile).
+use Rattle.std.specs.Prelude.{ℕ, List, [], ◌∷◌, ◌++◌, codes}
 use Rattle.std.specs.List.{concat}
 use Rattle.hull_words.specs.declared.fault.WordFault.{WordFault}
 use Rattle.hull_words.specs.Codes.{code_number as word_code}
@@ -13,63 +13,83 @@ use Rattle.plan_check.specs.declared.RuleFault.{RuleFault}
 use Rattle.uc_model.specs.Refusals.{rule_number}
 use Rattle.hull_report.specs.Numerals.{numeral, signed_numeral}
 use Rattle.hull_report.specs.declared.fault.FileKind.{FileKind}
-use Rattle.hull_report.specs.declared.fault.WorkFault.{WorkFault}
-use Rattle.hull_report.specs.declared.fault.ReportFault.{ReportFault}
+use Rattle.hull_report.specs.declared.fault.FileKind.TheVariants.{CaseFile, ScheduleFile}
 use Rattle.hull_report.specs.declared.fault.TopFault.{TopFault}
 use Rattle.hull_report.specs.declared.fault.TopFault.TheVariants as faults
 use Rattle.hull_report.specs.Words.{kind_word, file_word, file_status}
 
-unfoldable pub words_line : WordFault → List ℕ
-words_line f = concat (codes "fault 1 words " ∷ numeral (word_code f.code) ∷ codes " " ∷ numeral f.place ∷ codes "\n" ∷ [])
+-- the status that a run with this fault answers, and that its line begins with
+abbrev pub status_of : TopFault → ℕ
+status_of (faults.Words f) = 1
+status_of (faults.Read file) = 2
+status_of (faults.CaseText f) = 3
+status_of (faults.CaseField f) = 3
+status_of (faults.PlanText f) = 4
+status_of (faults.PlanShape f) = 4
+status_of (faults.PlanRule f) = 4
+status_of (faults.TooBig file) = file_status file
+status_of (faults.Work proposals units periods) = 5
+status_of faults.Memory = 7
+status_of (faults.Report code line) = 8
 
-unfoldable pub read_line : FileKind → List ℕ
-read_line file = concat (codes "fault 2 read " ∷ file_word file ∷ codes "\n" ∷ [])
+-- ---- what the line tells behind the status
+
+unfoldable pub words_told : WordFault → List ℕ
+words_told f = concat (codes "words " ∷ numeral (word_code f.code) ∷ codes " " ∷ numeral f.place ∷ [])
+
+unfoldable pub read_told : FileKind → List ℕ
+read_told file = concat (codes "read " ∷ file_word file ∷ [])
 
 -- a fault of the text of a case or of a schedule
-unfoldable pub case_text_line : TextFault → List ℕ
-case_text_line f = concat (codes "fault 3 case " ∷ numeral (text_code f.code) ∷ codes " at " ∷ numeral f.place ∷ codes "\n" ∷ [])
+unfoldable pub text_told : FileKind → TextFault → List ℕ
+text_told file f = concat (
+    file_word file ∷ codes " " ∷ numeral (text_code f.code) ∷ codes " at " ∷ numeral f.place ∷ [])
 
-unfoldable pub plan_text_line : TextFault → List ℕ
-plan_text_line f = concat (codes "fault 4 schedule " ∷ numeral (text_code f.code) ∷ codes " at " ∷ numeral f.place ∷ codes "\n" ∷ [])
+unfoldable pub field_told : FieldFault → List ℕ
+field_told f = concat (
+    codes "case " ∷ numeral (field_code f.code) ∷ codes " field " ∷ key_of f.field
+    ∷ codes " kind " ∷ kind_word f.kind ∷ codes " unit " ∷ numeral f.unit
+    ∷ codes " item " ∷ numeral f.item ∷ [])
 
-unfoldable pub field_line : FieldFault → List ℕ
-field_line f = concat (
-    codes "fault 3 case " ∷ numeral (field_code f.code) ∷ codes " field " ∷ key_of f.field ∷ codes " kind " ∷ kind_word f.kind
-    ∷ codes " unit " ∷ numeral f.unit ∷ codes " item " ∷ numeral f.item ∷ codes "\n" ∷ [])
+unfoldable pub shape_told : ShapeFault → List ℕ
+shape_told f = concat (
+    codes "schedule " ∷ numeral (shape_code f.code) ∷ codes " kind " ∷ kind_word f.kind
+    ∷ codes " unit " ∷ numeral f.unit ∷ codes " item " ∷ numeral f.item ∷ [])
 
-unfoldable pub shape_line : ShapeFault → List ℕ
-shape_line f = concat (
-    codes "fault 4 schedule " ∷ numeral (shape_code f.code) ∷ codes " kind " ∷ kind_word f.kind
-    ∷ codes " unit " ∷ numeral f.unit ∷ codes " item " ∷ numeral f.item ∷ codes "\n" ∷ [])
-
-unfoldable pub rule_line : RuleFault → List ℕ
-rule_line f = concat (
-    codes "fault 4 schedule " ∷ numeral (rule_number f.code) ∷ codes " kind " ∷ kind_word f.kind
+unfoldable pub rule_told : RuleFault → List ℕ
+rule_told f = concat (
+    codes "schedule " ∷ numeral (rule_number f.code) ∷ codes " kind " ∷ kind_word f.kind
     ∷ codes " unit " ∷ numeral f.unit ∷ codes " period " ∷ numeral f.period
-    ∷ codes " left " ∷ signed_numeral f.left ∷ codes " right " ∷ signed_numeral f.right ∷ codes "\n" ∷ [])
+    ∷ codes " left " ∷ signed_numeral f.left ∷ codes " right " ∷ signed_numeral f.right ∷ [])
 
 -- a file has too many bytes
-unfoldable pub too_big_line : FileKind → List ℕ
-too_big_line file = concat (codes "fault " ∷ numeral (file_status file) ∷ codes " " ∷ file_word file ∷ codes " 32\n" ∷ [])
+unfoldable pub too_big_told : FileKind → List ℕ
+too_big_told file = concat (file_word file ∷ codes " 32" ∷ [])
 
-unfoldable pub work_line : WorkFault → List ℕ
-work_line f = concat (codes "fault 5 work " ∷ numeral f.proposals ∷ codes " " ∷ numeral f.units ∷ codes " " ∷ numeral f.periods ∷ codes "\n" ∷ [])
+unfoldable pub work_told : (proposals units periods : ℕ) → List ℕ
+work_told proposals units periods = concat (
+    codes "work " ∷ numeral proposals ∷ codes " " ∷ numeral units ∷ codes " " ∷ numeral periods ∷ [])
 
-unfoldable pub memory_line : List ℕ
-memory_line = codes "fault 7 memory\n"
+unfoldable pub report_told : (code line : ℕ) → List ℕ
+report_told code line = concat (codes "report " ∷ numeral code ∷ codes " at " ∷ numeral line ∷ [])
 
-unfoldable pub report_line : ReportFault → List ℕ
-report_line f = concat (codes "fault 8 report " ∷ numeral f.code ∷ codes " at " ∷ numeral f.line ∷ codes "\n" ∷ [])
+abbrev pub fault_told : TopFault → List ℕ
+fault_told (faults.Words f) = words_told f
+fault_told (faults.Read file) = read_told file
+fault_told (faults.CaseText f) = text_told CaseFile f
+fault_told (faults.CaseField f) = field_told f
+fault_told (faults.PlanText f) = text_told ScheduleFile f
+fault_told (faults.PlanShape f) = shape_told f
+fault_told (faults.PlanRule f) = rule_told f
+fault_told (faults.TooBig file) = too_big_told file
+fault_told (faults.Work proposals units periods) = work_told proposals units periods
+fault_told faults.Memory = codes "memory"
+fault_told (faults.Report code line) = report_told code line
+
+-- ---- the line
+
+unfoldable pub status_told : ℕ → List ℕ
+status_told status = concat (codes "fault " ∷ numeral status ∷ codes " " ∷ [])
 
 abbrev pub fault_line : TopFault → List ℕ
-fault_line (faults.Words f) = words_line f
-fault_line (faults.Read file) = read_line file
-fault_line (faults.CaseText f) = case_text_line f
-fault_line (faults.CaseField f) = field_line f
-fault_line (faults.PlanText f) = plan_text_line f
-fault_line (faults.PlanShape f) = shape_line f
-fault_line (faults.PlanRule f) = rule_line f
-fault_line (faults.TooBig file) = too_big_line file
-fault_line (faults.Work f) = work_line f
-fault_line faults.Memory = memory_line
-fault_line (faults.Report f) = report_line f
+fault_line f = status_told (status_of f) ++ fault_told f ++ codes "\n"

@@ -2,7 +2,7 @@
 ghost use Rattle.std.specs.Prelude.{◌≡◌};
 ghost use Rattle.hull_io.specs.Edge.{Writes};
 ghost use Rattle.hull_report.specs.Words.{kind_word, file_word, file_status};
-ghost use Rattle.hull_report.specs.FaultLines.{words_line, read_line, case_text_line, plan_text_line, field_line, shape_line, rule_line, too_big_line, work_line, memory_line, report_line, fault_line};
+ghost use Rattle.hull_report.specs.FaultLines.{status_of, words_told, read_told, text_told, field_told, shape_told, rule_told, too_big_told, work_told, report_told, status_told, fault_told, fault_line};
 
 use crate::parts::{Part, write_parts};
 use hull_io::{Sink, WriteFailed, write_whole};
@@ -19,21 +19,6 @@ pub enum FileKind {
     CaseFile,
     ScheduleFile,
     ReportFile,
-}
-
-/// The work of a run is above its limit: so many proposals, units and periods.
-#[derive(Clone, Copy)]
-pub struct WorkFault {
-    pub proposals: u32,
-    pub units: u32,
-    pub periods: u32,
-}
-
-/// A report isn't in form (code 60), or isn't right (code 61), first at this line.
-#[derive(Clone, Copy)]
-pub struct ReportFault {
-    pub code: u32,
-    pub line: u32,
 }
 
 /// Why a command ends without its text.
@@ -55,12 +40,16 @@ pub enum TopFault {
     PlanRule(RuleFault),
     /// A file has more than 67,108,864 bytes.
     TooBig(FileKind),
-    /// The run is too large.
-    Work(WorkFault),
+    /// The run is too large: so many proposals, units with bids, and periods.
+    Work {
+        proposals: u32,
+        units: u32,
+        periods: u32,
+    },
     /// Memory ran out.
     Memory,
-    /// The report isn't right.
-    Report(ReportFault),
+    /// The report isn't in form (code 60), or isn't right (code 61), first at this line, from 1.
+    Report { code: u32, line: u32 },
 }
 
 fn kind_text(kind: Kind) -> &'static [u8]
@@ -97,71 +86,73 @@ impl FileKind {
     }
 }
 
-#[tactic(auto, unfolding(crate::specs::FaultLines::words_line))]
-fn write_words_fault<S: Sink>(fault: &WordFault, out: &mut S) -> Result<(), WriteFailed>
-    ensures { Writes S.held S.faults S.last out.old out.new result (words_line fault.now) }
-{
-    let code = fault.code.number();
-    write_parts(
-        out,
-        &[
-            Part::Text(b"fault 1 words "),
-            Part::Count(code as u64),
-            Part::Text(b" "),
-            Part::Count(fault.place as u64),
-            Part::Text(b"\n"),
-        ],
-    )
-}
-
-#[tactic(auto, unfolding(crate::specs::FaultLines::read_line))]
-fn write_read_fault<S: Sink>(file: FileKind, out: &mut S) -> Result<(), WriteFailed>
-    ensures { Writes S.held S.faults S.last out.old out.new result (read_line file) }
-{
-    match file {
-        FileKind::CaseFile => write_whole(out, b"fault 2 read case\n"),
-        FileKind::ScheduleFile => write_whole(out, b"fault 2 read schedule\n"),
-        FileKind::ReportFile => write_whole(out, b"fault 2 read report\n"),
+impl TopFault {
+    /// The status of a run with this fault.
+    pub fn status(&self) -> u8
+        ensures { result ≡ status_of self.now }
+    {
+        match self {
+            TopFault::Words(_) => 1,
+            TopFault::Read(_) => 2,
+            TopFault::CaseText(_) | TopFault::CaseField(_) => 3,
+            TopFault::PlanText(_) | TopFault::PlanShape(_) | TopFault::PlanRule(_) => 4,
+            TopFault::TooBig(file) => file.status(),
+            TopFault::Work { .. } => 5,
+            TopFault::Memory => 7,
+            TopFault::Report { .. } => 8,
+        }
     }
 }
 
-#[tactic(auto, unfolding(crate::specs::FaultLines::case_text_line))]
-fn write_case_text_fault<S: Sink>(fault: &TextFault, out: &mut S) -> Result<(), WriteFailed>
-    ensures { Writes S.held S.faults S.last out.old out.new result (case_text_line fault.now) }
+#[tactic(auto, unfolding(crate::specs::FaultLines::words_told))]
+fn write_words_fault<S: Sink>(fault: &WordFault, out: &mut S) -> Result<(), WriteFailed>
+    ensures { Writes S.held S.faults S.last out.old out.new result (words_told fault.now) }
 {
     let code = fault.code.number();
     write_parts(
         out,
         &[
-            Part::Text(b"fault 3 case "),
+            Part::Text(b"words "),
             Part::Count(code as u64),
-            Part::Text(b" at "),
+            Part::Text(b" "),
             Part::Count(fault.place as u64),
-            Part::Text(b"\n"),
         ],
     )
 }
 
-#[tactic(auto, unfolding(crate::specs::FaultLines::plan_text_line))]
-fn write_plan_text_fault<S: Sink>(fault: &TextFault, out: &mut S) -> Result<(), WriteFailed>
-    ensures { Writes S.held S.faults S.last out.old out.new result (plan_text_line fault.now) }
+#[tactic(auto, unfolding(crate::specs::FaultLines::read_told))]
+fn write_read_fault<S: Sink>(file: FileKind, out: &mut S) -> Result<(), WriteFailed>
+    ensures { Writes S.held S.faults S.last out.old out.new result (read_told file) }
 {
+    let word = file_text(file);
+    write_parts(out, &[Part::Text(b"read "), Part::Text(word)])
+}
+
+#[tactic(auto, unfolding(crate::specs::FaultLines::text_told))]
+fn write_text_fault<S: Sink>(
+    file: FileKind,
+    fault: &TextFault,
+    out: &mut S,
+) -> Result<(), WriteFailed>
+    ensures { Writes S.held S.faults S.last out.old out.new result (text_told file fault.now) }
+{
+    let word = file_text(file);
     let code = fault.code.number();
     write_parts(
         out,
         &[
-            Part::Text(b"fault 4 schedule "),
+            Part::Text(word),
+            Part::Text(b" "),
             Part::Count(code as u64),
             Part::Text(b" at "),
             Part::Count(fault.place as u64),
-            Part::Text(b"\n"),
         ],
     )
 }
 
-#[tactic(auto, unfolding(crate::specs::FaultLines::field_line))]
+#[tactic(auto, unfolding(crate::specs::FaultLines::field_told))]
 fn write_field_fault<S: Sink>(fault: &FieldFault, out: &mut S) -> Result<(), WriteFailed>
-    ensures { Writes S.held S.faults S.last out.old out.new result (field_line fault.now) }
+    ensures { Writes S.held S.faults S.last out.old out.new result (field_told fault.now) }
 {
     let code = fault.code.number();
     let key = fault.field.key().as_bytes();
@@ -169,7 +160,7 @@ fn write_field_fault<S: Sink>(fault: &FieldFault, out: &mut S) -> Result<(), Wri
     write_parts(
         out,
         &[
-            Part::Text(b"fault 3 case "),
+            Part::Text(b"case "),
             Part::Count(code as u64),
             Part::Text(b" field "),
             Part::Text(key),
@@ -179,21 +170,20 @@ fn write_field_fault<S: Sink>(fault: &FieldFault, out: &mut S) -> Result<(), Wri
             Part::Count(fault.unit as u64),
             Part::Text(b" item "),
             Part::Count(fault.item as u64),
-            Part::Text(b"\n"),
         ],
     )
 }
 
-#[tactic(auto, unfolding(crate::specs::FaultLines::shape_line))]
+#[tactic(auto, unfolding(crate::specs::FaultLines::shape_told))]
 fn write_shape_fault<S: Sink>(fault: &ShapeFault, out: &mut S) -> Result<(), WriteFailed>
-    ensures { Writes S.held S.faults S.last out.old out.new result (shape_line fault.now) }
+    ensures { Writes S.held S.faults S.last out.old out.new result (shape_told fault.now) }
 {
     let code = fault.code.number();
     let kind = kind_text(fault.kind);
     write_parts(
         out,
         &[
-            Part::Text(b"fault 4 schedule "),
+            Part::Text(b"schedule "),
             Part::Count(code as u64),
             Part::Text(b" kind "),
             Part::Text(kind),
@@ -201,21 +191,20 @@ fn write_shape_fault<S: Sink>(fault: &ShapeFault, out: &mut S) -> Result<(), Wri
             Part::Count(fault.unit as u64),
             Part::Text(b" item "),
             Part::Count(fault.item as u64),
-            Part::Text(b"\n"),
         ],
     )
 }
 
-#[tactic(auto, unfolding(crate::specs::FaultLines::rule_line))]
+#[tactic(auto, unfolding(crate::specs::FaultLines::rule_told))]
 fn write_rule_fault<S: Sink>(fault: &RuleFault, out: &mut S) -> Result<(), WriteFailed>
-    ensures { Writes S.held S.faults S.last out.old out.new result (rule_line fault.now) }
+    ensures { Writes S.held S.faults S.last out.old out.new result (rule_told fault.now) }
 {
     let code = fault.code.number();
     let kind = kind_text(fault.kind);
     write_parts(
         out,
         &[
-            Part::Text(b"fault 4 schedule "),
+            Part::Text(b"schedule "),
             Part::Count(code as u64),
             Part::Text(b" kind "),
             Part::Text(kind),
@@ -227,85 +216,98 @@ fn write_rule_fault<S: Sink>(fault: &RuleFault, out: &mut S) -> Result<(), Write
             Part::Amount(fault.left),
             Part::Text(b" right "),
             Part::Amount(fault.right),
-            Part::Text(b"\n"),
         ],
     )
 }
 
-#[tactic(auto, unfolding(crate::specs::FaultLines::too_big_line))]
+#[tactic(auto, unfolding(crate::specs::FaultLines::too_big_told))]
 fn write_too_big_fault<S: Sink>(file: FileKind, out: &mut S) -> Result<(), WriteFailed>
-    ensures { Writes S.held S.faults S.last out.old out.new result (too_big_line file) }
+    ensures { Writes S.held S.faults S.last out.old out.new result (too_big_told file) }
 {
-    let status = file.status();
     let word = file_text(file);
+    write_parts(out, &[Part::Text(word), Part::Text(b" 32")])
+}
+
+#[tactic(auto, unfolding(crate::specs::FaultLines::work_told))]
+fn write_work_fault<S: Sink>(
+    proposals: u32,
+    units: u32,
+    periods: u32,
+    out: &mut S,
+) -> Result<(), WriteFailed>
+    ensures { Writes S.held S.faults S.last out.old out.new result (work_told proposals units periods) }
+{
+    write_parts(
+        out,
+        &[
+            Part::Text(b"work "),
+            Part::Count(proposals as u64),
+            Part::Text(b" "),
+            Part::Count(units as u64),
+            Part::Text(b" "),
+            Part::Count(periods as u64),
+        ],
+    )
+}
+
+#[tactic(auto, unfolding(crate::specs::FaultLines::report_told))]
+fn write_report_fault<S: Sink>(code: u32, line: u32, out: &mut S) -> Result<(), WriteFailed>
+    ensures { Writes S.held S.faults S.last out.old out.new result (report_told code line) }
+{
+    write_parts(
+        out,
+        &[
+            Part::Text(b"report "),
+            Part::Count(code as u64),
+            Part::Text(b" at "),
+            Part::Count(line as u64),
+        ],
+    )
+}
+
+/// Writes what the line of a fault tells behind its status.
+fn write_told<S: Sink>(fault: &TopFault, out: &mut S) -> Result<(), WriteFailed>
+    ensures { Writes S.held S.faults S.last out.old out.new result (fault_told fault.now) }
+{
+    match fault {
+        TopFault::Words(fault) => write_words_fault(fault, out),
+        TopFault::Read(file) => write_read_fault(*file, out),
+        TopFault::CaseText(fault) => write_text_fault(FileKind::CaseFile, fault, out),
+        TopFault::CaseField(fault) => write_field_fault(fault, out),
+        TopFault::PlanText(fault) => write_text_fault(FileKind::ScheduleFile, fault, out),
+        TopFault::PlanShape(fault) => write_shape_fault(fault, out),
+        TopFault::PlanRule(fault) => write_rule_fault(fault, out),
+        TopFault::TooBig(file) => write_too_big_fault(*file, out),
+        TopFault::Work {
+            proposals,
+            units,
+            periods,
+        } => write_work_fault(*proposals, *units, *periods, out),
+        TopFault::Memory => write_whole(out, b"memory"),
+        TopFault::Report { code, line } => write_report_fault(*code, *line, out),
+    }
+}
+
+#[tactic(auto, unfolding(crate::specs::FaultLines::status_told))]
+fn write_status<S: Sink>(status: u8, out: &mut S) -> Result<(), WriteFailed>
+    ensures { Writes S.held S.faults S.last out.old out.new result (status_told status) }
+{
     write_parts(
         out,
         &[
             Part::Text(b"fault "),
             Part::Count(status as u64),
             Part::Text(b" "),
-            Part::Text(word),
-            Part::Text(b" 32\n"),
         ],
     )
 }
 
-#[tactic(auto, unfolding(crate::specs::FaultLines::work_line))]
-fn write_work_fault<S: Sink>(fault: &WorkFault, out: &mut S) -> Result<(), WriteFailed>
-    ensures { Writes S.held S.faults S.last out.old out.new result (work_line fault.now) }
-{
-    write_parts(
-        out,
-        &[
-            Part::Text(b"fault 5 work "),
-            Part::Count(fault.proposals as u64),
-            Part::Text(b" "),
-            Part::Count(fault.units as u64),
-            Part::Text(b" "),
-            Part::Count(fault.periods as u64),
-            Part::Text(b"\n"),
-        ],
-    )
-}
-
-#[tactic(auto, unfolding(crate::specs::FaultLines::memory_line))]
-fn write_memory_fault<S: Sink>(out: &mut S) -> Result<(), WriteFailed>
-    ensures { Writes S.held S.faults S.last out.old out.new result memory_line }
-{
-    write_whole(out, b"fault 7 memory\n")
-}
-
-#[tactic(auto, unfolding(crate::specs::FaultLines::report_line))]
-fn write_report_fault<S: Sink>(fault: &ReportFault, out: &mut S) -> Result<(), WriteFailed>
-    ensures { Writes S.held S.faults S.last out.old out.new result (report_line fault.now) }
-{
-    write_parts(
-        out,
-        &[
-            Part::Text(b"fault 8 report "),
-            Part::Count(fault.code as u64),
-            Part::Text(b" at "),
-            Part::Count(fault.line as u64),
-            Part::Text(b"\n"),
-        ],
-    )
-}
-
-/// Writes the line of a fault.
+/// Writes the line of a fault. Refused only where the sink's count of faults rose, and then the sink gained a front of
+/// the line.
 pub fn write_fault<S: Sink>(fault: &TopFault, out: &mut S) -> Result<(), WriteFailed>
     ensures { Writes S.held S.faults S.last out.old out.new result (fault_line fault.now) }
 {
-    match fault {
-        TopFault::Words(fault) => write_words_fault(fault, out),
-        TopFault::Read(file) => write_read_fault(*file, out),
-        TopFault::CaseText(fault) => write_case_text_fault(fault, out),
-        TopFault::CaseField(fault) => write_field_fault(fault, out),
-        TopFault::PlanText(fault) => write_plan_text_fault(fault, out),
-        TopFault::PlanShape(fault) => write_shape_fault(fault, out),
-        TopFault::PlanRule(fault) => write_rule_fault(fault, out),
-        TopFault::TooBig(file) => write_too_big_fault(*file, out),
-        TopFault::Work(fault) => write_work_fault(fault, out),
-        TopFault::Memory => write_memory_fault(out),
-        TopFault::Report(fault) => write_report_fault(fault, out),
-    }
+    write_status(fault.status(), out)?;
+    write_told(fault, out)?;
+    write_whole(out, b"\n")
 }

@@ -10,6 +10,6 @@ mod record;
 pub mod report;
 
 pub use check::write_check;
-pub use fault::{FileKind, ReportFault, TopFault, WorkFault, write_fault};
+pub use fault::{FileKind, TopFault, write_fault};
 pub use parts::{Part, write_parts};
 pub use record::{write_report, write_try};

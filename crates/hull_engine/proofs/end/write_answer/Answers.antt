@@ -1,12 +1,17 @@
-use Rattle.hull_engine.proofs.WriteLaws.{report_written, try_written}
+use Rattle.hull_report.specs.RecordReport.{report_of}
+use Rattle.hull_report.specs.ReportText.{report_text}
+use Rattle.hull_report.specs.TryText.{try_text}
+use Rattle.hull_engine.proofs.WriteLaws.{run_text}
 use Rattle.hull_engine.proofs.end.write_answer.Goals as goal
 
 pub returns-in-Price : goal.returns-in-Price
 returns-in-Price g c =
-    rw c.in-Price.is (report_written g.S.Sink.held g.S.Sink.faults g.S.Sink.last c.args.out.now c.finish_run-written.new.out c.in-Price.done c.finish_run-written.result
-    (rw c.in-Price.is at c.requires) c.finish_run-written.ensures.text)
+    let done = c.in-Price.done in
+    let right = run_text c.record_report_is_right.ensures report_text done (rw c.in-Price.is at c.requires) in
+    rw c.in-Price.is (report_text (report_of done.closed done.settlement), right, c.finish_run-written.ensures.text)
 
 pub returns-in-Try : goal.returns-in-Try
 returns-in-Try g c =
-    rw c.in-Try.is (try_written g.S.Sink.held g.S.Sink.faults g.S.Sink.last c.args.out.now c.write_try-written.new.out c.in-Try.number c.in-Try.done c.write_try-written.result
-    (rw c.in-Try.is at c.requires) c.write_try-written.ensures)
+    let done = c.in-Try.done in
+    let right = run_text c.record_report_is_right.ensures (try_text c.in-Try.number) done (rw c.in-Try.is at c.requires) in
+    rw c.in-Try.is (try_text c.in-Try.number (report_of done.closed done.settlement), right, c.write_try-written.ensures)

@@ -1,5 +1,6 @@
-use Rattle.hull_engine.proofs.TextLaws.{one_text}
+use Rattle.hull_words.specs.Words.{words_of}
+use Rattle.hull_engine.proofs.OneDue.{one_text}
 use Rattle.hull_engine.proofs.laws.one_text_is_right.Goals as goal
 
 pub returns : goal.returns
-returns c = one_text c.one_report_is_right.ensures
+returns c words reads i text other = one_text c.one_report_is_right.ensures (words_of words) reads i text other

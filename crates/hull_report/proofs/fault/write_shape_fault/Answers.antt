@@ -1,6 +1,6 @@
-use Rattle.hull_report.specs.FaultLines.{shape_line}
+use Rattle.hull_report.specs.FaultLines.{shape_told}
 use Rattle.hull_report.proofs.fault.write_shape_fault.Goals as goal
 
 pub returns : goal.returns
-unfolding shape_line
+unfolding shape_told
 returns g c = rw (← c.number-code.ensures, ← c.kind_text-kind.ensures) c.write_parts.ensures

@@ -1,6 +1,6 @@
-use Rattle.hull_report.specs.FaultLines.{words_line}
+use Rattle.hull_report.specs.FaultLines.{words_told}
 use Rattle.hull_report.proofs.fault.write_words_fault.Goals as goal
 
 pub returns : goal.returns
-unfolding words_line
+unfolding words_told
 returns g c = rw (← c.number-code.ensures) c.write_parts.ensures

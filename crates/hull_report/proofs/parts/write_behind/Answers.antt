@@ -1,4 +1,4 @@
-use Rattle.hull_io.proofs.GrownLemmas.{writes_then}
+use Rattle.hull_report.proofs.GrownLemmas.{writes_then}
 use Rattle.hull_report.specs.Numerals.{numeral}
 use Rattle.hull_report.proofs.parts.write_behind.Goals as goal
 

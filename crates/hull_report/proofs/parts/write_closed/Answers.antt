@@ -1,6 +1,6 @@
 use Rattle.std.proofs.Common.{[], ◌∷◌}
 use Rattle.std.specs.List.{flat_map}
-use Rattle.hull_io.proofs.GrownLemmas.{writes_then}
+use Rattle.hull_report.proofs.GrownLemmas.{writes_then}
 use Rattle.hull_report.specs.Parts.{escaped}
 use Rattle.hull_report.proofs.parts.write_closed.Goals as goal
 

@@ -1,5 +1,5 @@
 use Rattle.std.proofs.Common.{arith}
-use Rattle.hull_io.proofs.GrownLemmas.{exit_in_list}
+use Rattle.hull_report.proofs.GrownLemmas.{exit_in_list}
 use Rattle.hull_report.proofs.parts.write_parts.Goals as goal
 
 pub returns-in_err-write_part : goal.returns-in_err-write_part

@@ -1,5 +1,5 @@
 use Rattle.std.proofs.Common.{[], ◌∷◌}
-use Rattle.hull_io.proofs.GrownLemmas.{short_more, writes_then, writes_exit}
+use Rattle.hull_report.proofs.GrownLemmas.{short_more, writes_then, writes_exit}
 use Rattle.hull_report.proofs.parts.write_quoted.Goals as goal
 
 pub returns-in_err-write_whole : goal.returns-in_err-write_whole

@@ -1,0 +1,19 @@
+-- What the run of a command answers.
+use Rattle.std.proofs.Common.{◌≡◌, ℕ, List, Option, Result, Ok, Err, refl, sym, ap, subst, ◌∙◌}
+use Rattle.hull_report.specs.ReportText.{Report}
+use Rattle.hull_report.specs.declared.fault.TopFault.{TopFault}
+use Rattle.board_history.specs.Board.{Setup}
+use Rattle.hull_engine.specs.declared.input.RunInput.{RunInput}
+use Rattle.hull_engine.specs.Steps.{PlannedCase}
+use Rattle.hull_engine.specs.Outcome.{IsReportText}
+use Rattle.hull_engine.specs.Answers.{IsRunText}
+use Rattle.hull_engine.specs.Inputs.{planned_of}
+use Rattle.hull_engine.specs.Rounds.{setup_of}
+
+-- the texts of a run are those of its input, with the numbers of the words
+pub run_texts : (text_of : Report → List ℕ) (run : RunInput) (b : Setup) (budget ahead : ℕ) → b ≡ setup_of run → run.size.proposals ≡ budget → run.size.ahead ≡ ahead
+    → (text : List ℕ) → IsRunText text_of b text → IsReportText text_of budget ahead (planned_of run.input) text
+run_texts text_of run b budget ahead same e f text is =
+    subst (λ (n : ℕ). IsReportText text_of budget n (planned_of run.input) text) f
+    (subst (λ (n : ℕ). IsReportText text_of n run.size.ahead (planned_of run.input) text) e
+    (subst (λ (x : Setup). IsRunText text_of x text) same is))

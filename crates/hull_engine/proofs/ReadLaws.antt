@@ -1,0 +1,92 @@
+-- What was read of a file, and of the two files of an input.
+use Rattle.std.proofs.Common.{◌≡◌, ℕ, ◌+◌, ◌<◌, ◌≤◌, Bool, true, false, cond, leb, List, [], length, replicate, Option, None, Some, Result, Ok, Err, refl, sym, ap, ◌∙◌, inl, inr, arith}
+use Rattle.std.specs.Prelude.{IfSome, nat_lt, if◌then◌else◌}
+use Rattle.std.proofs.lemmas.List.{length-replicate}
+use Rattle.std.proofs.lemmas.Bool.{le-ltb, lt-ltb}
+use Rattle.hull_io.specs.Edge.{Rose}
+use Rattle.hull_io.specs.declared.read.TheConstants.{MOST_BYTES}
+use Rattle.hull_report.specs.declared.fault.FileKind.{FileKind}
+use Rattle.hull_report.specs.declared.fault.FileKind.TheVariants.{CaseFile, ScheduleFile, ReportFile}
+use Rattle.hull_report.specs.declared.fault.TopFault.{TopFault}
+use Rattle.hull_report.specs.declared.fault.TopFault.TheVariants.{TooBig}
+use Rattle.hull_engine.specs.Steps.{Reads, bytes_of, IsBytes}
+use Rattle.hull_engine.specs.Outcome.{IsReadOf, case_and_schedule, AreReads}
+use Rattle.hull_engine.specs.Answers.{HasRead}
+
+-- ---- the bytes of one file
+
+-- something may have been read of a file, whatever is told of it
+abbrev pub unread : Option (List ℕ) → Option (List ℕ)
+unread None = Some []
+unread (Some all) = Some all
+
+pub unread_is : (told : Option (List ℕ)) (rose : Type 0) → IsReadOf told rose (unread told)
+unread_is None rose = tt
+unread_is (Some all) rose = refl
+
+as_test : {X : Type 0} (b : Bool) (x y z : X) → b ≡ false → z ≡ y → z ≡ (if b then x else y)
+as_test true x y z e h = absurd cc
+as_test false x y z e h = h
+
+passed_test : {X : Type 0} (b : Bool) (x y z : X) → b ≡ true → z ≡ x → z ≡ (if b then x else y)
+passed_test true x y z e h = h
+passed_test false x y z e h = absurd cc
+
+read_whole_file : (file : FileKind) (bytes : List ℕ) → length bytes ≤ MOST_BYTES → Ok bytes ≡ bytes_of file (Some bytes)
+read_whole_file file bytes fits = as_test (nat_lt MOST_BYTES (length bytes)) (Err (TooBig file)) (Ok bytes) (Ok bytes) (le-ltb MOST_BYTES (length bytes) fits) refl
+
+too_long : (file : FileKind) (bytes : List ℕ) → MOST_BYTES < length bytes → Err (TooBig file) ≡ bytes_of file (Some bytes)
+too_long file bytes long = passed_test (nat_lt MOST_BYTES (length bytes)) (Err (TooBig file)) (Ok bytes) (Err (TooBig file)) (lt-ltb MOST_BYTES (length bytes) long) refl
+
+-- some bytes are longer
+longer : (n : ℕ) → (bytes : List ℕ) × (n < length bytes)
+longer n = (replicate (n + 1) 0, omega (arith, length-replicate {A = ℕ} (n + 1) 0))
+
+module _ (told : Option (List ℕ)) (rose : Type 0) (file : FileKind) where
+  pub was_read : (bytes : List ℕ) → IfSome told (λ all. bytes ≡ all) → length bytes ≤ MOST_BYTES → HasRead told rose (λ read. IsBytes file read (Ok bytes))
+  was_read bytes is fits = (Some bytes, is, read_whole_file file bytes fits)
+
+pub was_too_big : (told : Option (List ℕ)) (rose : Type 0) (file : FileKind) → IfSome told (λ all. MOST_BYTES < length all) → HasRead told rose (λ read. IsBytes file read (Err (TooBig file)))
+was_too_big None rose file h = let some = longer MOST_BYTES in (Some some.0, tt, too_long file some.0 some.1)
+was_too_big (Some all) rose file h = (Some all, refl, too_long file all h)
+
+-- ---- a later shelf
+
+-- a later start, or a count that goes on, leaves what rose risen
+rose_wider : (last : Option ℕ) (a b c d : ℕ) → a ≤ b → Rose last b c → c ≤ d → Rose last a d
+rose_wider None a b c d p h q = omega arith
+rose_wider (Some most) a b c d p (inl h) q = inl (omega arith)
+rose_wider (Some most) a b c d p (inr h) q = inr (omega arith)
+
+pub read_wider : (told : Option (List ℕ)) (last : Option ℕ) (a b c d : ℕ) (read : Option (List ℕ)) → a ≤ b → c ≤ d → IsReadOf told (Rose last b c) read → IsReadOf told (Rose last a d) read
+read_wider told last a b c d None p q h = rose_wider last a b c d p h q
+read_wider told last a b c d (Some bytes) p q h = h
+
+-- ---- the two files of an input
+
+abbrev pub two_reads : (case_read schedule_read : Option (List ℕ)) → Reads
+two_reads case_read schedule_read CaseFile = case_read
+two_reads case_read schedule_read ScheduleFile = schedule_read
+two_reads case_read schedule_read ReportFile = None
+
+pub are_two_reads : (told : List ℕ → Option (List ℕ)) (rose : List ℕ → Type 0) (case_name schedule_name : List ℕ) (case_read schedule_read : Option (List ℕ))
+    → IsReadOf (told case_name) (rose case_name) case_read → IsReadOf (told schedule_name) (rose schedule_name) schedule_read
+    → AreReads told rose (case_and_schedule case_name schedule_name) (two_reads case_read schedule_read)
+are_two_reads told rose case_name schedule_name case_read schedule_read p q CaseFile = p
+are_two_reads told rose case_name schedule_name case_read schedule_read p q ScheduleFile = q
+are_two_reads told rose case_name schedule_name case_read schedule_read p q ReportFile = tt
+
+-- what may have been read of all files, whatever is told of them
+abbrev pub any_of : (told : List ℕ → Option (List ℕ)) → Option (List ℕ) → Option (List ℕ)
+any_of told None = None
+any_of told (Some name) = unread (told name)
+
+abbrev pub any_reads : (told : List ℕ → Option (List ℕ)) (name_of : FileKind → Option (List ℕ)) → Reads
+any_reads told name_of file = any_of told (name_of file)
+
+pub are_any_reads : (told : List ℕ → Option (List ℕ)) (rose : List ℕ → Type 0) (name_of : FileKind → Option (List ℕ)) → AreReads told rose name_of (any_reads told name_of)
+are_any_reads told rose name_of file = each (name_of file)
+  where
+    each : (o : Option (List ℕ)) → IfSome o (λ name. IsReadOf (told name) (rose name) (any_of told o))
+    each None = tt
+    each (Some name) = unread_is (told name) (rose name)

@@ -1,0 +1,13 @@
+use Rattle.std.proofs.lemmas.Result.{err_from_is_err_and}
+use Rattle.hull_engine.specs.Inputs.{planned_of}
+use Rattle.hull_engine.proofs.answers.answer_check.Goals as goal
+
+pub returns-in_err-input-clause-answers : goal.returns-in_err-input-clause-answers
+returns-in_err-input-clause-answers g c =
+    let p = err_from_is_err_and c.from_residual.result c.from_residual.ensures.1 in
+    rw (p.1, p.2) (rw (c.as_str-case_name.ensures, c.as_str-schedule_name.ensures) at c.in_err-input.ensures.answers)
+
+pub returns-clause-answers : goal.returns-clause-answers
+returns-clause-answers g c =
+    let h = rw (c.as_str-case_name.ensures, c.as_str-schedule_name.ensures) at c.in_ok-input.ensures.answers in
+    (h.0, h.1, (planned_of c.in_ok-input.input, h.2, λ text is. is))

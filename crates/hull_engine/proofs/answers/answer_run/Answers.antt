@@ -1,0 +1,19 @@
+use Rattle.std.proofs.Common.{◌≡◌, List, ℕ, Option, Some}
+use Rattle.std.proofs.lemmas.Result.{err_from_is_err_and}
+use Rattle.hull_words.specs.Words.{texts, words_of}
+use Rattle.hull_engine.specs.Outcome.{command_for}
+use Rattle.hull_engine.proofs.ReadLaws.{any_reads, are_any_reads}
+use Rattle.hull_engine.proofs.answers.answer_run.Goals as goal
+
+pub returns-in_err-command-clause-answers : goal.returns-in_err-command-clause-answers
+returns-in_err-command-clause-answers g c =
+    let p = err_from_is_err_and c.from_residual.result c.from_residual.ensures.1 in
+    let told = g.F.Shelf.told c.args.shelf.now in
+    let names = (command_for (words_of (texts c.args.words.now))).name_of in
+    rw (p.1, p.2) (any_reads told names, are_any_reads told _ names, c.in_err-command.ensures.refused (any_reads told names))
+
+pub returns-clause-answers : goal.returns-clause-answers
+returns-clause-answers g c = rw c.in_ok-command.ensures.given c.answer_command.ensures.answers
+
+pub returns-clause-unread : goal.returns-clause-unread
+returns-clause-unread g c = rw c.in_ok-command.ensures.given c.answer_command.ensures.unread

@@ -1,0 +1,83 @@
+-- What the steps of a run answer, and what its end leaves.
+use Rattle.std.specs.Prelude.{◌≡◌, ◌⊎◌, ◌≤◌, ⊤, ℕ, List, Option, Result, Ok, Err}
+use Rattle.uc_model.specs.PlainCases.{market_of}
+use Rattle.board_history.specs.Board.{Setup}
+use Rattle.hull_report.specs.CheckText.{check_text}
+use Rattle.hull_report.specs.FaultLines.{fault_line}
+use Rattle.hull_report.specs.ReportText.{Report, report_text}
+use Rattle.hull_report.specs.TryText.{try_text}
+use Rattle.hull_report.specs.declared.fault.FileKind.{FileKind}
+use Rattle.hull_report.specs.declared.fault.TopFault.{TopFault}
+use Rattle.hull_report.specs.declared.fault.TopFault.TheVariants.{Memory}
+use Rattle.hull_engine.specs.declared.answers.Answer.{Answer}
+use Rattle.hull_engine.specs.declared.answers.Answer.TheVariants.{Check, Price, Try}
+use Rattle.hull_engine.specs.declared.end.End.{End}
+use Rattle.hull_engine.specs.declared.end.End.TheVariants.{Done, Cut, Refused}
+use Rattle.hull_engine.specs.Steps.{Reads, PlannedCase}
+use Rattle.hull_engine.specs.Outcome.{Command, IsReportText, IsReadOf, AreReads}
+use Rattle.hull_engine.specs.Rounds.{IsEnded}
+
+-- ---- a step
+
+-- a fault is a refusal that is due, or want of memory
+abbrev pub IsFaultOf : {A : Type 0} → (Result A TopFault → Type 0) → TopFault → Type 0
+IsFaultOf is_due f = is_due (Err f) ⊎ (f ≡ Memory)
+
+-- what a step answers is what is due, unless memory ran out
+abbrev pub IsAnswer : {A X : Type 0} → (Result A TopFault → Type 0) → (X → A) → Result X TopFault → Type 0
+IsAnswer is_due view (Ok x) = is_due (Ok (view x))
+IsAnswer is_due view (Err f) = IsFaultOf is_due f
+
+-- ---- a shelf that is read
+
+-- it tells the same, and no count falls
+pub record IsLaterShelf {F : Type 0} (told : F → List ℕ → Option (List ℕ)) (faults : F → List ℕ → ℕ) (old new : F) : Type 0 where
+  pub told_same : told new ≡ told old
+  pub later : (any : List ℕ) → faults old any ≤ faults new any
+
+-- what was read of a file has P
+abbrev pub HasRead : Option (List ℕ) → Type 0 → (Option (List ℕ) → Type 0) → Type 0
+HasRead told rose P = (read : Option (List ℕ)) × IsReadOf told rose read × P read
+
+-- what was read of the files of these names has P
+abbrev pub HasReads : (List ℕ → Option (List ℕ)) → (List ℕ → Type 0) → (FileKind → Option (List ℕ)) → (Reads → Type 0) → Type 0
+HasReads told rose name_of P = (reads : Reads) × AreReads told rose name_of reads × P reads
+
+-- ---- the answer of a command
+
+-- what the board of a run was made for
+abbrev pub planned_in : Setup → PlannedCase
+planned_in b = record { market = b.market; plan = b.plan; cost = b.cost }
+
+-- the texts that may be printed of a run
+abbrev pub IsRunText : (Report → List ℕ) → Setup → List ℕ → Type 0
+IsRunText text_of b = IsReportText text_of b.budget b.ahead (planned_in b)
+
+-- the texts that may be printed of an answer
+abbrev pub IsTextOf : Answer → List ℕ → Type 0
+IsTextOf (Check input) text = text ≡ check_text (market_of input.case) input.cost
+IsTextOf (Price done) text = IsRunText report_text done.closed.setup text
+IsTextOf (Try number done) text = IsRunText (try_text number) done.closed.setup text
+
+-- a run that is answered has ended
+abbrev pub IsAnswered : Answer → Type 0
+IsAnswered (Check input) = ⊤
+IsAnswered (Price done) = IsEnded done.closed.setup done
+IsAnswered (Try number done) = IsEnded done.closed.setup done
+
+-- the answer's texts are texts of an accepted input of the command; a fault is one that is due, or want of memory
+abbrev pub IsCommandAnswer : Command → Reads → Result Answer TopFault → Type 0
+IsCommandAnswer c reads (Ok answer) = (i : PlannedCase) × c.IsDue reads (Ok i) × ((text : List ℕ) → IsTextOf answer text → c.IsText reads i text)
+IsCommandAnswer c reads (Err f) = IsFaultOf (c.IsDue reads) f
+
+-- ---- the end
+
+module _ (gained short : List ℕ → Type 0) where
+  -- what the end of an answer says of the sink
+  abbrev pub IsEndOf : Result Answer TopFault → End → Type 0
+  IsEndOf (Ok answer) Done = (text : List ℕ) × IsTextOf answer text × gained text
+  IsEndOf (Ok answer) Cut = (text : List ℕ) × IsTextOf answer text × short text
+  IsEndOf (Ok answer) (Refused f) = ⊥
+  IsEndOf (Err f) Done = ⊥
+  IsEndOf (Err f) Cut = ⊥
+  IsEndOf (Err f) (Refused g) = (g ≡ f) × (gained (fault_line g) ⊎ short (fault_line g))

@@ -1,0 +1,116 @@
+-- WHAT A RUN OF `hull` DOES, to be read from top to bottom: the commands, what was read of their files, how a run ends, and
+-- its outcome (this project's profile; dual value, best responses and payments of a report are those of Gribik, Hogan and
+-- Pope 2007). The steps of the commands are in Steps, the reports in hull_report's RightReport and ReportText, and the
+-- lines of faults in its FaultLines.
+use Rattle.std.specs.Prelude.{◌≡◌, ◌⊎◌, ℕ, List, Option, None, Some, Result, Ok, Err, IfSome}
+use Rattle.hull_words.specs.Asked.{Asked, check, price, try}
+use Rattle.hull_words.specs.Words.{words_of, fault}
+use Rattle.hull_words.specs.declared.fault.WordFault.{WordFault}
+use Rattle.hull_words.specs.declared.fault.WordCode.TheVariants.{UnknownCommand}
+use Rattle.hull_report.specs.CheckText.{check_text}
+use Rattle.hull_report.specs.FaultLines.{status_of, fault_line}
+use Rattle.hull_report.specs.ReportText.{Report, report_text}
+use Rattle.hull_report.specs.RightReport.{IsRightReport}
+use Rattle.hull_report.specs.TryText.{try_text}
+use Rattle.hull_report.specs.declared.fault.FileKind.{FileKind}
+use Rattle.hull_report.specs.declared.fault.FileKind.TheVariants.{CaseFile, ScheduleFile, ReportFile}
+use Rattle.hull_report.specs.declared.fault.TopFault.{TopFault}
+use Rattle.hull_report.specs.declared.fault.TopFault.TheVariants.{Words, Memory}
+use Rattle.hull_engine.specs.declared.end.End.{End}
+use Rattle.hull_engine.specs.declared.end.End.TheVariants.{Done, Cut, Refused}
+use Rattle.hull_engine.specs.Steps.{Then, Reads, PlannedCase, IsInput, IsMade, IsWithinWork}
+
+-- ---- the commands
+
+-- Which files a command reads, and under which names; what its input is over what was read of them, or else its first
+-- refusal; and which texts it may print of that input.
+pub record Command : Type 1 where
+  pub name_of : FileKind → Option (List ℕ)
+  pub IsDue : Reads → Result PlannedCase TopFault → Type 0
+  pub IsText : Reads → PlannedCase → List ℕ → Type 0
+
+abbrev pub no_files : FileKind → Option (List ℕ)
+no_files file = None
+
+abbrev pub case_and_schedule : (case_name schedule_name : List ℕ) → FileKind → Option (List ℕ)
+case_and_schedule case_name schedule_name CaseFile = Some case_name
+case_and_schedule case_name schedule_name ScheduleFile = Some schedule_name
+case_and_schedule case_name schedule_name ReportFile = None
+
+-- the text of a right report for the input, which has one for each budget and number of proposals ahead
+abbrev pub IsReportText : (Report → List ℕ) → (budget ahead : ℕ) → PlannedCase → List ℕ → Type 0
+IsReportText text_of budget ahead c text = (r : Report) × IsRightReport c.market c.plan budget ahead r × (text ≡ text_of r)
+
+-- words that are refused at once
+abbrev pub refused : WordFault → Command
+refused f = record {
+  name_of = no_files;
+  IsDue = λ reads due. due ≡ Err (Words f);
+  IsText = λ reads c text. ⊥;
+}
+
+-- THE COMMAND OF THE WORDS. A further command is a further case here; one that isn't built yet is an unknown one.
+abbrev pub command_for : Result Asked WordFault → Command
+-- whether a schedule is feasible, and what it costs
+command_for (Ok (check a)) = record {
+  name_of = case_and_schedule a.case_name a.schedule_name;
+  IsDue = IsInput;
+  IsText = λ reads c text. text ≡ check_text c.market c.cost;
+}
+-- the report of a run
+command_for (Ok (price a)) = record {
+  name_of = case_and_schedule a.case_name a.schedule_name;
+  IsDue = λ reads. Then (IsInput reads) (IsWithinWork a.proposals);
+  IsText = λ reads. IsReportText report_text a.proposals a.ahead;
+}
+-- the sums of a run on the case that a number stands for
+command_for (Ok (try a)) = record {
+  name_of = no_files;
+  IsDue = λ reads. Then (IsMade a.number) (IsWithinWork a.proposals);
+  IsText = λ reads. IsReportText (try_text a.number) a.proposals a.ahead;
+}
+command_for (Ok asked) = refused (fault UnknownCommand 1)
+command_for (Err f) = refused f
+
+-- ---- what was read
+
+-- The bytes read of a file are those that the shelf tells of it, where it tells any. Its read failed only where the count
+-- of its name rose.
+abbrev pub IsReadOf : (told : Option (List ℕ)) (rose : Type 0) → Option (List ℕ) → Type 0
+IsReadOf told rose (Some bytes) = IfSome told (λ all. bytes ≡ all)
+IsReadOf told rose None = rose
+
+-- each file that has a name was read
+abbrev pub AreReads : (told : List ℕ → Option (List ℕ)) (rose : List ℕ → Type 0) → (FileKind → Option (List ℕ)) → Reads → Type 0
+AreReads told rose name_of reads = (file : FileKind) → IfSome (name_of file) (λ name. IsReadOf (told name) (rose name) (reads file))
+
+-- ---- how a run ends
+
+-- its status: 0 and 6, or that of its fault
+abbrev pub status_at : End → ℕ
+status_at Done = 0
+status_at Cut = 6
+status_at (Refused f) = status_of f
+
+-- some text of an accepted input has P
+abbrev pub HasText : Command → Reads → (List ℕ → Type 0) → Type 0
+HasText c reads P = (i : PlannedCase) × c.IsDue reads (Ok i) × (text : List ℕ) × c.IsText reads i text × P text
+
+-- `gained` says of a text that the sink has it whole, and `short` that the sink has a front of it and its count rose.
+--   0: the text of an accepted input was gained
+--   6: it fell short
+--   else: the line of the first refusal was written, as far as the sink took it. A failed read is such a refusal, and want of
+--   memory may come at any time.
+abbrev pub Ends : Command → Reads → (gained short : List ℕ → Type 0) → End → Type 0
+Ends c reads gained short Done = HasText c reads gained
+Ends c reads gained short Cut = HasText c reads short
+Ends c reads gained short (Refused f) = (c.IsDue reads (Err f) ⊎ (f ≡ Memory)) × (gained (fault_line f) ⊎ short (fault_line f))
+
+-- THE OUTCOME of a run of these words: there are bytes that were read of each file that the words name, or reads that failed
+-- as a count tells, and the run ended as is due on them, with the status of that end.
+pub record IsOutcome (words : List (List ℕ)) (told : List ℕ → Option (List ℕ)) (rose gained short : List ℕ → Type 0) (status : ℕ) : Type 0 where
+  pub reads : Reads
+  pub are_reads : AreReads told rose (command_for (words_of words)).name_of reads
+  pub end : End
+  pub ends : Ends (command_for (words_of words)) reads gained short end
+  pub status_is : status ≡ status_at end

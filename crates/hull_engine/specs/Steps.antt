@@ -1,0 +1,108 @@
+-- The steps of a command, in the order in which they refuse: each goes on with what it found, or ends in a refusal (this
+-- project's profile). What a file's bytes are is said in uc_case and uc_plan, the rules of a schedule in uc_model.
+use Rattle.std.specs.Prelude.{◌≡◌, ℕ, ◌*◌, ℤ, nat_lt, List, [], length, Option, None, Some, Result, Ok, Err, slice_get, if◌then◌else◌}
+use Rattle.std.specs.Result.{result_map_both}
+use Rattle.uc_model.specs.Data.{Market, Schedule, unit_count}
+use Rattle.uc_model.specs.Systems.{IsFeasiblePlan, plan_cost}
+use Rattle.uc_model.specs.Refusals.{refusals}
+use Rattle.case_make.specs.Made.{made}
+use Rattle.uc_case.specs.Files.{FileFault, text, value}
+use Rattle.uc_case.specs.CaseFiles.{IsCaseOf}
+use Rattle.uc_case.specs.declared.fault.FieldFault.{FieldFault}
+use Rattle.uc_plan.specs.PlanFiles.{IsPlanOf}
+use Rattle.uc_plan.specs.declared.fault.ShapeFault.{ShapeFault}
+use Rattle.plan_check.specs.Checks.{refusal_of}
+use Rattle.plan_check.specs.declared.RuleFault.{RuleFault}
+use Rattle.hull_io.specs.declared.read.TheConstants.{MOST_BYTES}
+use Rattle.hull_report.specs.declared.fault.FileKind.{FileKind}
+use Rattle.hull_report.specs.declared.fault.FileKind.TheVariants.{CaseFile, ScheduleFile}
+use Rattle.hull_report.specs.declared.fault.TopFault.{TopFault}
+use Rattle.hull_report.specs.declared.fault.TopFault.TheVariants.{Read, CaseText, CaseField, PlanText, PlanShape, PlanRule, TooBig, Work}
+
+-- ---- one step after another
+
+-- where the step found x, the next one goes on with it; else its refusal stands
+abbrev pub Goes : {A B : Type 0} → Result A TopFault → (A → Result B TopFault → Type 0) → Result B TopFault → Type 0
+Goes (Ok x) next due = next x due
+Goes (Err fault) next due = due ≡ Err fault
+
+-- one step, and then the next
+abbrev pub Then : {A B : Type 0} → (Result A TopFault → Type 0) → (A → Result B TopFault → Type 0) → Result B TopFault → Type 0
+Then {A} first next due = (found : Result A TopFault) × first found × Goes found next due
+
+-- ---- a file
+
+-- What was read of each file: its bytes, or none where its read failed.
+abbrev pub Reads : Type 0
+Reads = FileKind → Option (List ℕ)
+
+-- its bytes, where it was read and hasn't more than 67,108,864
+abbrev pub bytes_of : FileKind → Option (List ℕ) → Result (List ℕ) TopFault
+bytes_of file None = Err (Read file)
+bytes_of file (Some bytes) = if nat_lt MOST_BYTES (length bytes) then Err (TooBig file) else Ok bytes
+
+abbrev pub IsBytes : FileKind → Option (List ℕ) → Result (List ℕ) TopFault → Type 0
+IsBytes file read due = due ≡ bytes_of file read
+
+-- ---- the case
+
+abbrev pub case_fault : FileFault FieldFault → TopFault
+case_fault (text f) = CaseText f
+case_fault (value f) = CaseField f
+
+-- the case that bytes are, or else the first fault of their text or of its values
+abbrev pub IsCase : List ℕ → Result Market TopFault → Type 0
+IsCase bytes due = (found : Result Market (FileFault FieldFault)) × IsCaseOf bytes found × (due ≡ result_map_both (λ m. m) case_fault found)
+
+-- the case of its file
+abbrev pub IsCaseFile : Option (List ℕ) → Result Market TopFault → Type 0
+IsCaseFile read = Then (IsBytes CaseFile read) IsCase
+
+-- ---- the schedule
+
+abbrev pub plan_fault : FileFault ShapeFault → TopFault
+plan_fault (text f) = PlanText f
+plan_fault (value f) = PlanShape f
+
+-- the schedules of all units that bytes are, or else the first fault of their text or of its values
+abbrev pub IsPlan : Market → List ℕ → Result (List Schedule) TopFault → Type 0
+IsPlan m bytes due = (found : Result (List Schedule) (FileFault ShapeFault)) × IsPlanOf m bytes found × (due ≡ result_map_both (λ plan. plan) plan_fault found)
+
+-- the schedules of their file
+abbrev pub IsPlanFile : Market → Option (List ℕ) → Result (List Schedule) TopFault → Type 0
+IsPlanFile m read = Then (IsBytes ScheduleFile read) (IsPlan m)
+
+-- a case, a schedule of all its units, and what that costs
+pub record PlannedCase : Type 0 where
+  pub market : Market
+  pub plan : List Schedule
+  pub cost : ℤ
+
+-- a feasible schedule comes with its cost, and any other with its first refusal
+abbrev pub IsChecked : Market → List Schedule → Result PlannedCase TopFault → Type 0
+IsChecked m plan (Ok c) = IsFeasiblePlan m plan × (refusals m plan ≡ []) × (c ≡ record { market = m; plan = plan; cost = plan_cost m plan })
+IsChecked m plan (Err f) = (rule : RuleFault) × (f ≡ PlanRule rule) × (slice_get (refusals m plan) 0 ≡ Some (refusal_of rule))
+
+-- THE INPUT of a command that reads files: the case, then the form of its schedule, and then the rules
+abbrev pub IsInput : Reads → Result PlannedCase TopFault → Type 0
+IsInput reads = Then (IsCaseFile (reads CaseFile)) (λ m. Then (IsPlanFile m (reads ScheduleFile)) (IsChecked m))
+
+-- ---- a run
+
+-- the case that a number stands for, with its feasible schedule
+abbrev pub made_case : ℕ → PlannedCase
+made_case number = record { market = (made number).market; plan = (made number).plan; cost = plan_cost (made number).market (made number).plan }
+
+abbrev pub IsMade : ℕ → Result PlannedCase TopFault → Type 0
+IsMade number (Ok c) = IsFeasiblePlan c.market c.plan × (c ≡ made_case number)
+IsMade number (Err f) = ⊥
+
+-- a run has at most 50,000,000 proposals, units and periods multiplied; a bid counts as a unit
+abbrev pub within_work : ℕ → PlannedCase → Result PlannedCase TopFault
+within_work proposals c =
+    if nat_lt 50000000 (proposals * unit_count c.market * c.market.periods)
+    then Err (Work proposals (unit_count c.market) c.market.periods)
+    else Ok c
+
+abbrev pub IsWithinWork : ℕ → PlannedCase → Result PlannedCase TopFault → Type 0
+IsWithinWork proposals c due = due ≡ within_work proposals c
