@@ -38,6 +38,12 @@ pub cut_back : (xs : List Knot) (m k : ℕ) → k < m → knot (take m xs) k ≡
 unfolding nothing
 cut_back xs m k h = get_or-take m xs k nothing h
 
+-- k3 is what was kept of k2, and few enough to be counted
+pub record IsKept (k2 k3 : List Knot) (left : ℕ) : Type 0 where
+  pub len : length k3 ≡ left
+  pub count : left < 2 ^ 32
+  pub after : (k : ℕ) → k < left → knot k3 k ≡ knot k2 k
+
 pub shape_of : (ks : List Knot) → AreBreaks ks → IsShape ks (length ks)
 shape_of ks b = IsShape-breakpoints ks (length ks) b.points
 

@@ -67,6 +67,32 @@ IsCellAt-next slots head n k k' number used cell e h =
 pub length-knots : (slots : List Slot) (head n : ℕ) → length (knots_at slots (walk slots head n)) ≡ n
 length-knots slots head n = length-map (walk slots head n) (λ m. (slot_at slots m).knot) ∙ length-walk slots n head
 
+-- ---- cells that were read
+
+-- the cell after one that was read
+pub next_read : (slots : List Slot) (head n done at : ℕ) (slot : Slot) → AreUsed slots (walk slots head n) → IsCellAt slots head n (done - 1) at
+    → 0 < done → done < n → slot ≡ slot_at slots at → IsCellAt slots head n done slot.next
+next_read slots head n done at slot used cell some inside read =
+    subst (λ m. IsCellAt slots head n done m) (sym (ap (λ (s : Slot). s.next) read)) (IsCellAt-next slots head n (done - 1) done at used cell (omega arith) inside)
+
+-- two breakpoints are neighbours in the list
+pub record AreNeighbours (ks : List Knot) (n k : ℕ) (p q : Knot) : Type 0 where
+  pub bound : k + 1 < n
+  pub first : p ≡ knot ks k
+  pub second : q ≡ knot ks (k + 1)
+
+-- as are those of a cell and of the one after it
+pub neighbours_read : (slots : List Slot) (head n done at : ℕ) (slot next : Slot) → AreUsed slots (walk slots head n) → IsCellAt slots head n (done - 1) at
+    → 0 < done → done < n → slot ≡ slot_at slots at → next ≡ slot_at slots slot.next
+    → AreNeighbours (knots_at slots (walk slots head n)) n (done - 1) slot.knot next.knot
+neighbours_read slots head n done at slot next used cell some inside read read-next =
+    let more = next_read slots head n done at slot used cell some inside read in
+    record {
+      bound = omega arith;
+      first = ap (λ (s : Slot). s.knot) read ∙ sym cell.knot;
+      second = ap (λ (s : Slot). s.knot) read-next ∙ sym more.knot ∙ ap (knot (knots_at slots (walk slots head n))) (omega arith);
+    }
+
 -- ---- two neighbours, and one breakpoint
 
 module _ (ks : List Knot) (n : ℕ) (f : ℤ → ℤ) (s : StandFor ks n f) where

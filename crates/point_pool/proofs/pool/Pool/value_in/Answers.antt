@@ -4,27 +4,48 @@ use Rattle.std.specs.Int.{w64}
 use Rattle.std.proofs.lemmas.Int.{ints, to_z-of_z}
 use Rattle.std.proofs.lemmas.List.{get_or_read}
 use Rattle.ramp_step.specs.declared.breakpoint.Knot.{Knot}
-use Rattle.ramp_step.specs.Knots.{knot, place}
+use Rattle.ramp_step.specs.Knots.{knot, place, IsShape}
 use Rattle.ramp_step.proofs.LimitLaws.{IsLimited-within}
 use Rattle.point_pool.specs.Walk.{no_slot, slot_at, walk, knots_at}
-use Rattle.point_pool.proofs.ReadLaws.{IsCellAt, IsCellAt-first, IsCellAt-next, length-knots, IsShape-breaks, AreWithinLimits-breaks, StandFor-pair, AreWithinLimits-pair, value_by_pair, StandFor-last, AreWithinLimits-last, value_by_last, value_of-breaks}
+use Rattle.point_pool.proofs.ReadLaws.{IsCellAt, IsCellAt-first, next_read, AreNeighbours, neighbours_read, length-knots, IsShape-breaks, AreWithinLimits-breaks, StandFor-pair, AreWithinLimits-pair, value_by_pair, StandFor-last, AreWithinLimits-last, value_by_last, value_of-breaks}
 use Rattle.point_pool.proofs.pool.Pool.value_in.Goals as goal
+use Rattle.point_pool.proofs.pool.Pool.value_in.Goals.{After-index-slot, After-index-next, After-index}
+
+-- the cell after the one that is read
+next_cell : (c : After-index-slot) → IsCellAt c.args.self.now.slots.items c.args.head c.args.count c.loop-done.done c.index-slot.result.now.next
+next_cell c =
+    let slots = c.args.self.now.slots.items in
+    let cell = c.loop-done.invariant.here in
+    next_read slots c.args.head c.args.count c.loop-done.done c.loop-done.at c.index-slot.result.now c.requires.used cell (omega (arith, c.loop-done.auto.done)) c.loop-done-test.true
+    (get_or_read slots c.loop-done.at _ cell.inside c.index-slot.ensures no_slot)
+
+-- both are neighbours
+two : (c : After-index-next) → AreNeighbours (knots_at c.args.self.now.slots.items (walk c.args.self.now.slots.items c.args.head c.args.count)) c.args.count (c.loop-done.done - 1)
+    c.index-slot.result.now.knot c.index-next.result.now.knot
+two c =
+    let slots = c.args.self.now.slots.items in
+    let cell = c.loop-done.invariant.here in
+    let some : 0 < c.loop-done.done = omega (arith, c.loop-done.auto.done) in
+    let read = get_or_read slots c.loop-done.at _ cell.inside c.index-slot.ensures no_slot in
+    let more = next_read slots c.args.head c.args.count c.loop-done.done c.loop-done.at c.index-slot.result.now c.requires.used cell some c.loop-done-test.true read in
+    neighbours_read slots c.args.head c.args.count c.loop-done.done c.loop-done.at c.index-slot.result.now c.index-next.result.now c.requires.used cell some c.loop-done-test.true
+    read (get_or_read slots _ _ more.inside c.index-next.ensures no_slot)
+
+-- the last breakpoint
+last : (c : After-index) → c.index.result.now.knot ≡ knot (knots_at c.args.self.now.slots.items (walk c.args.self.now.slots.items c.args.head c.args.count)) (c.loop-done.done - 1)
+last c =
+    let cell = c.loop-done.invariant.here in
+    ap (λ s. s.knot) (get_or_read c.args.self.now.slots.items c.loop-done.at _ cell.inside c.index.ensures no_slot) ∙ sym cell.knot
+
+is_last : (c : After-index) → (c.loop-done.done - 1) + 1 ≡ c.args.count
+is_last c = omega (arith, c.loop-done-test.false, c.loop-done.auto.done, c.loop-done.auto.done-end, c.requires.some)
 
 pub index-slot-requires : goal.index-slot-requires
 index-slot-requires c = let inside = c.loop-done.invariant.here.inside in omega (arith, inside, c.args.self.now.slots.ok.0)
 
 pub index-next-requires : goal.index-next-requires
 index-next-requires c =
-    let slots = c.args.self.now.slots.items in
-    let head = c.args.head in
-    let n = c.args.count in
-    let done = c.loop-done.done in
-    let cell = c.loop-done.invariant.here in
-    let read : c.index-slot.result.now ≡ slot_at slots c.loop-done.at = get_or_read slots c.loop-done.at _ cell.inside c.index-slot.ensures no_slot in
-    let to : c.index-slot.result.now.next ≡ (slot_at slots c.loop-done.at).next = ap (λ s. s.next) read in
-    let more : IsCellAt slots head n done c.index-slot.result.now.next =
-    subst (λ m. IsCellAt slots head n done m) (sym to) (IsCellAt-next slots head n (done - 1) done c.loop-done.at c.requires.used cell (omega (arith, c.loop-done.auto.done)) c.loop-done-test.true) in
-    let inside = more.inside in
+    let inside = (next_cell (goal.at.index-next-requires c).After-index-slot).inside in
     omega (arith, inside, c.args.self.now.slots.ok.0)
 
 pub loop-done-init : goal.loop-done-init
@@ -33,108 +54,60 @@ loop-done-init c = record { here = IsCellAt-first c.args.self.now.slots.items c.
 pub value_at-requires-clause-stand : goal.value_at-requires-clause-stand
 value_at-requires-clause-stand c =
     let slots = c.args.self.now.slots.items in
-    let head = c.args.head in
     let n = c.args.count in
-    let done = c.loop-done.done in
-    let cell = c.loop-done.invariant.here in
-    let read : c.index-slot.result.now ≡ slot_at slots c.loop-done.at = get_or_read slots c.loop-done.at _ cell.inside c.index-slot.ensures no_slot in
-    let to : c.index-slot.result.now.next ≡ (slot_at slots c.loop-done.at).next = ap (λ s. s.next) read in
-    let more : IsCellAt slots head n done c.index-slot.result.now.next =
-    subst (λ m. IsCellAt slots head n done m) (sym to) (IsCellAt-next slots head n (done - 1) done c.loop-done.at c.requires.used cell (omega (arith, c.loop-done.auto.done)) c.loop-done-test.true) in
-    let ks = knots_at slots (walk slots head n) in
-    let len = length-knots slots head n in
-    let shape = IsShape-breaks ks n len c.requires.breaks in
-    let read-next : c.index-next.result.now ≡ slot_at slots c.index-slot.result.now.next = get_or_read slots _ _ more.inside c.index-next.ensures no_slot in
-    let here : knot ks (done - 1) ≡ c.index-slot.result.now.knot = cell.knot ∙ ap (λ s. s.knot) (sym read) in
-    let there : knot ks done ≡ c.index-next.result.now.knot = more.knot ∙ ap (λ s. s.knot) (sym read-next) in
-    let e3 : (done - 1) + 1 ≡ done = omega (arith, c.loop-done.auto.done) in
-    let bound : (done - 1) + 1 < n = omega (arith, e3, c.loop-done-test.true) in
-    let pair : List Knot = c.index-slot.result.now.knot ∷ c.index-next.result.now.knot ∷ [] in
-    let second : knot pair 1 ≡ knot ks ((done - 1) + 1) = sym there ∙ ap (knot ks) (sym e3) in
-    (shape.0, StandFor-pair ks n shape.0 shape.1 (done - 1) bound pair (sym here) second)
+    let ks = knots_at slots (walk slots c.args.head n) in
+    let shape = IsShape-breaks ks n (length-knots slots c.args.head n) c.requires.breaks in
+    let t = two (goal.at.value_at-requires-clause-stand c).After-index-next in
+    (shape.0, StandFor-pair ks n shape.0 shape.1 (c.loop-done.done - 1) t.bound (c.index-slot.result.now.knot ∷ c.index-next.result.now.knot ∷ []) t.first t.second)
 
 pub value_at-requires-clause-limits : goal.value_at-requires-clause-limits
 value_at-requires-clause-limits c =
     let slots = c.args.self.now.slots.items in
-    let head = c.args.head in
     let n = c.args.count in
-    let done = c.loop-done.done in
-    let cell = c.loop-done.invariant.here in
-    let read : c.index-slot.result.now ≡ slot_at slots c.loop-done.at = get_or_read slots c.loop-done.at _ cell.inside c.index-slot.ensures no_slot in
-    let to : c.index-slot.result.now.next ≡ (slot_at slots c.loop-done.at).next = ap (λ s. s.next) read in
-    let more : IsCellAt slots head n done c.index-slot.result.now.next =
-    subst (λ m. IsCellAt slots head n done m) (sym to) (IsCellAt-next slots head n (done - 1) done c.loop-done.at c.requires.used cell (omega (arith, c.loop-done.auto.done)) c.loop-done-test.true) in
-    let ks = knots_at slots (walk slots head n) in
-    let len = length-knots slots head n in
+    let ks = knots_at slots (walk slots c.args.head n) in
+    let len = length-knots slots c.args.head n in
     let shape = IsShape-breaks ks n len c.requires.breaks in
-    let read-next : c.index-next.result.now ≡ slot_at slots c.index-slot.result.now.next = get_or_read slots _ _ more.inside c.index-next.ensures no_slot in
-    let here : knot ks (done - 1) ≡ c.index-slot.result.now.knot = cell.knot ∙ ap (λ s. s.knot) (sym read) in
-    let there : knot ks done ≡ c.index-next.result.now.knot = more.knot ∙ ap (λ s. s.knot) (sym read-next) in
-    let e3 : (done - 1) + 1 ≡ done = omega (arith, c.loop-done.auto.done) in
-    let bound : (done - 1) + 1 < n = omega (arith, e3, c.loop-done-test.true) in
+    let t = two (goal.at.value_at-requires-clause-limits c).After-index-next in
     let pair : List Knot = c.index-slot.result.now.knot ∷ c.index-next.result.now.knot ∷ [] in
-    let second : knot pair 1 ≡ knot ks ((done - 1) + 1) = sym there ∙ ap (knot ks) (sym e3) in
-    IsLimited-within pair 2 (AreWithinLimits-pair ks n shape.0 shape.1 (done - 1) bound pair (sym here) second (AreWithinLimits-breaks ks n len c.requires.breaks))
+    IsLimited-within pair 2 (AreWithinLimits-pair ks n shape.0 shape.1 (c.loop-done.done - 1) t.bound pair t.first t.second (AreWithinLimits-breaks ks n len c.requires.breaks))
 
 pub returns-then-x-next : goal.returns-then-x-next
 returns-then-x-next c =
     let slots = c.args.self.now.slots.items in
-    let head = c.args.head in
     let n = c.args.count in
-    let done = c.loop-done.done in
-    let cell = c.loop-done.invariant.here in
-    let read : c.index-slot.result.now ≡ slot_at slots c.loop-done.at = get_or_read slots c.loop-done.at _ cell.inside c.index-slot.ensures no_slot in
-    let to : c.index-slot.result.now.next ≡ (slot_at slots c.loop-done.at).next = ap (λ s. s.next) read in
-    let more : IsCellAt slots head n done c.index-slot.result.now.next =
-    subst (λ m. IsCellAt slots head n done m) (sym to) (IsCellAt-next slots head n (done - 1) done c.loop-done.at c.requires.used cell (omega (arith, c.loop-done.auto.done)) c.loop-done-test.true) in
-    let ks = knots_at slots (walk slots head n) in
-    let len = length-knots slots head n in
+    let k = c.loop-done.done - 1 in
+    let ks = knots_at slots (walk slots c.args.head n) in
+    let len = length-knots slots c.args.head n in
     let shape = IsShape-breaks ks n len c.requires.breaks in
-    let read-next : c.index-next.result.now ≡ slot_at slots c.index-slot.result.now.next = get_or_read slots _ _ more.inside c.index-next.ensures no_slot in
-    let here : knot ks (done - 1) ≡ c.index-slot.result.now.knot = cell.knot ∙ ap (λ s. s.knot) (sym read) in
-    let there : knot ks done ≡ c.index-next.result.now.knot = more.knot ∙ ap (λ s. s.knot) (sym read-next) in
-    let e3 : (done - 1) + 1 ≡ done = omega (arith, c.loop-done.auto.done) in
-    let bound : (done - 1) + 1 < n = omega (arith, e3, c.loop-done-test.true) in
+    let t = two (goal.at.returns-then-x-next c).After-index-next in
     let pair : List Knot = c.index-slot.result.now.knot ∷ c.index-next.result.now.knot ∷ [] in
-    let second : knot pair 1 ≡ knot ks ((done - 1) + 1) = sym there ∙ ap (knot ks) (sym e3) in
     let e-x : to_z w64 (of_z w64 c.args.x) ≡ c.args.x = to_z-of_z w64 _ c.ranges.x in
-    let passed : 0 < done - 1 → place ks (done - 1) <ℤ c.args.x = λ h. let p = c.loop-done.invariant.passed (omega arith) in omega (arith, ints) in
+    let passed : 0 < k → place ks k <ℤ c.args.x = λ h. let p = c.loop-done.invariant.passed (omega arith) in omega (arith, ints) in
     let fits : FitsSigned w64 c.index-next.result.now.knot.at = search rules in
     let e-at : to_z w64 (of_z w64 c.index-next.result.now.knot.at) ≡ c.index-next.result.now.knot.at = to_z-of_z w64 _ fits in
-    let b : place ks done ≡ c.index-next.result.now.knot.at = ap (λ (q : Knot). q.at) there in
+    let b : c.index-next.result.now.knot.at ≡ place ks (k + 1) = ap (λ (q : Knot). q.at) t.second in
     let test = c.if-x-next.true in
-    let upto : c.args.x ≤ℤ place ks ((done - 1) + 1) = subst (λ m. c.args.x ≤ℤ place ks m) (sym e3) (omega (arith, ints)) in
-    let value = c.value_at.ensures shape.0 (StandFor-pair ks n shape.0 shape.1 (done - 1) bound pair (sym here) second) in
+    let upto : c.args.x ≤ℤ place ks (k + 1) = omega (arith, ints) in
+    let value = c.value_at.ensures shape.0 (StandFor-pair ks n shape.0 shape.1 k t.bound pair t.first t.second) in
     value_of-breaks ks n c.args.x c.value_at.result len shape
-    (value_by_pair ks n shape.0 shape.1 (done - 1) bound pair (sym here) second c.args.x c.value_at.result passed upto (rw e-x at value))
+    (value_by_pair ks n shape.0 shape.1 k t.bound pair t.first t.second c.args.x c.value_at.result passed upto (rw e-x at value))
 
 pub loop-done-preserved : goal.loop-done-preserved
 loop-done-preserved c =
     let slots = c.args.self.now.slots.items in
-    let head = c.args.head in
-    let n = c.args.count in
     let done = c.loop-done.done in
-    let cell = c.loop-done.invariant.here in
-    let read : c.index-slot.result.now ≡ slot_at slots c.loop-done.at = get_or_read slots c.loop-done.at _ cell.inside c.index-slot.ensures no_slot in
-    let to : c.index-slot.result.now.next ≡ (slot_at slots c.loop-done.at).next = ap (λ s. s.next) read in
-    let more : IsCellAt slots head n done c.index-slot.result.now.next =
-    subst (λ m. IsCellAt slots head n done m) (sym to) (IsCellAt-next slots head n (done - 1) done c.loop-done.at c.requires.used cell (omega (arith, c.loop-done.auto.done)) c.loop-done-test.true) in
-    let ks = knots_at slots (walk slots head n) in
-    let len = length-knots slots head n in
-    let shape = IsShape-breaks ks n len c.requires.breaks in
-    let read-next : c.index-next.result.now ≡ slot_at slots c.index-slot.result.now.next = get_or_read slots _ _ more.inside c.index-next.ensures no_slot in
-    let here : knot ks (done - 1) ≡ c.index-slot.result.now.knot = cell.knot ∙ ap (λ s. s.knot) (sym read) in
-    let there : knot ks done ≡ c.index-next.result.now.knot = more.knot ∙ ap (λ s. s.knot) (sym read-next) in
+    let ks = knots_at slots (walk slots c.args.head c.args.count) in
+    let t = two (goal.at.loop-done-preserved c).After-index-next in
     let e-x : to_z w64 (of_z w64 c.args.x) ≡ c.args.x = to_z-of_z w64 _ c.ranges.x in
     let fits : FitsSigned w64 c.index-next.result.now.knot.at = search rules in
     let e-at : to_z w64 (of_z w64 c.index-next.result.now.knot.at) ≡ c.index-next.result.now.knot.at = to_z-of_z w64 _ fits in
-    let b : place ks done ≡ c.index-next.result.now.knot.at = ap (λ (q : Knot). q.at) there in
+    let e3 : (done - 1) + 1 ≡ (done + 1) - 1 = omega (arith, c.loop-done.auto.done) in
+    let b : c.index-next.result.now.knot.at ≡ place ks ((done + 1) - 1) = ap (λ (q : Knot). q.at) t.second ∙ ap (place ks) e3 in
     let test = c.if-x-next.false in
     let e1 : (done + 1) - 1 ≡ done = omega arith in
-    let past : place ks done <ℤ c.args.x = omega (arith, ints) in
     record {
-      here = subst (λ m. IsCellAt slots head n m c.index-slot.result.now.next) (sym e1) more;
-      passed = λ h. rw e-x (subst (λ m. place ks m <ℤ c.args.x) (sym e1) past);
+      here = subst (λ m. IsCellAt slots c.args.head c.args.count m c.index-slot.result.now.next) (sym e1) (next_cell (goal.at.loop-done-preserved c).After-index-slot);
+      passed = λ h. rw e-x (omega (arith, ints));
     }
 
 pub index-requires : goal.index-requires
@@ -143,51 +116,35 @@ index-requires c = let inside = c.loop-done.invariant.here.inside in omega (arit
 pub value_at-requires-2-clause-stand : goal.value_at-requires-2-clause-stand
 value_at-requires-2-clause-stand c =
     let slots = c.args.self.now.slots.items in
-    let head = c.args.head in
     let n = c.args.count in
-    let done = c.loop-done.done in
-    let cell = c.loop-done.invariant.here in
-    let ks = knots_at slots (walk slots head n) in
-    let len = length-knots slots head n in
-    let shape = IsShape-breaks ks n len c.requires.breaks in
-    let read : c.index.result.now ≡ slot_at slots c.loop-done.at = get_or_read slots c.loop-done.at _ cell.inside c.index.ensures no_slot in
-    let here : c.index.result.now.knot ≡ knot ks (done - 1) = ap (λ s. s.knot) read ∙ sym cell.knot in
-    let end : (done - 1) + 1 ≡ n = omega (arith, c.loop-done-test.false, c.loop-done.auto.done, c.loop-done.auto.done-end, c.requires.some) in
-    let last : List Knot = c.index.result.now.knot ∷ [] in
-    (shape.0, StandFor-last ks n shape.0 shape.1 (done - 1) end last here)
+    let at = (goal.at.value_at-requires-2-clause-stand c).After-index in
+    let ks = knots_at slots (walk slots c.args.head n) in
+    let shape = IsShape-breaks ks n (length-knots slots c.args.head n) c.requires.breaks in
+    (shape.0, StandFor-last ks n shape.0 shape.1 (c.loop-done.done - 1) (is_last at) (c.index.result.now.knot ∷ []) (last at))
 
 pub value_at-requires-2-clause-limits : goal.value_at-requires-2-clause-limits
 value_at-requires-2-clause-limits c =
     let slots = c.args.self.now.slots.items in
-    let head = c.args.head in
     let n = c.args.count in
-    let done = c.loop-done.done in
-    let cell = c.loop-done.invariant.here in
-    let ks = knots_at slots (walk slots head n) in
-    let len = length-knots slots head n in
+    let at = (goal.at.value_at-requires-2-clause-limits c).After-index in
+    let ks = knots_at slots (walk slots c.args.head n) in
+    let len = length-knots slots c.args.head n in
     let shape = IsShape-breaks ks n len c.requires.breaks in
-    let read : c.index.result.now ≡ slot_at slots c.loop-done.at = get_or_read slots c.loop-done.at _ cell.inside c.index.ensures no_slot in
-    let here : c.index.result.now.knot ≡ knot ks (done - 1) = ap (λ s. s.knot) read ∙ sym cell.knot in
-    let end : (done - 1) + 1 ≡ n = omega (arith, c.loop-done-test.false, c.loop-done.auto.done, c.loop-done.auto.done-end, c.requires.some) in
-    let last : List Knot = c.index.result.now.knot ∷ [] in
-    IsLimited-within last 1 (AreWithinLimits-last ks n shape.0 shape.1 (done - 1) end last here (AreWithinLimits-breaks ks n len c.requires.breaks))
+    let one : List Knot = c.index.result.now.knot ∷ [] in
+    IsLimited-within one 1 (AreWithinLimits-last ks n shape.0 shape.1 (c.loop-done.done - 1) (is_last at) one (last at) (AreWithinLimits-breaks ks n len c.requires.breaks))
 
 pub returns : goal.returns
 returns c =
     let slots = c.args.self.now.slots.items in
-    let head = c.args.head in
     let n = c.args.count in
-    let done = c.loop-done.done in
-    let cell = c.loop-done.invariant.here in
-    let ks = knots_at slots (walk slots head n) in
-    let len = length-knots slots head n in
+    let k = c.loop-done.done - 1 in
+    let at = (goal.at.returns c).After-index in
+    let ks = knots_at slots (walk slots c.args.head n) in
+    let len = length-knots slots c.args.head n in
     let shape = IsShape-breaks ks n len c.requires.breaks in
-    let read : c.index.result.now ≡ slot_at slots c.loop-done.at = get_or_read slots c.loop-done.at _ cell.inside c.index.ensures no_slot in
-    let here : c.index.result.now.knot ≡ knot ks (done - 1) = ap (λ s. s.knot) read ∙ sym cell.knot in
-    let end : (done - 1) + 1 ≡ n = omega (arith, c.loop-done-test.false, c.loop-done.auto.done, c.loop-done.auto.done-end, c.requires.some) in
-    let last : List Knot = c.index.result.now.knot ∷ [] in
+    let one : List Knot = c.index.result.now.knot ∷ [] in
     let e-x : to_z w64 (of_z w64 c.args.x) ≡ c.args.x = to_z-of_z w64 _ c.ranges.x in
-    let passed : 0 < done - 1 → place ks (done - 1) <ℤ c.args.x = λ h. let p = c.loop-done.invariant.passed (omega arith) in omega (arith, ints) in
-    let value = c.value_at-2.ensures shape.0 (StandFor-last ks n shape.0 shape.1 (done - 1) end last here) in
+    let passed : 0 < k → place ks k <ℤ c.args.x = λ h. let p = c.loop-done.invariant.passed (omega arith) in omega (arith, ints) in
+    let value = c.value_at-2.ensures shape.0 (StandFor-last ks n shape.0 shape.1 k (is_last at) one (last at)) in
     value_of-breaks ks n c.args.x c.value_at-2.result len shape
-    (value_by_last ks n shape.0 shape.1 (done - 1) end last here c.args.x c.value_at-2.result passed (rw e-x at value))
+    (value_by_last ks n shape.0 shape.1 k (is_last at) one (last at) c.args.x c.value_at-2.result passed (rw e-x at value))
