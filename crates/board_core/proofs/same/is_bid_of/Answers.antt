@@ -1,5 +1,5 @@
 use Rattle.std.proofs.Common.{Some, List, ap, ◌∙◌}
-use Rattle.uc_model.specs.Data.{AnyUnit, Bid, BidUnit}
+use Rattle.uc_model.specs.Data.{Bid}
 use Rattle.uc_model.specs.PlainCases.{market_of}
 use Rattle.uc_model.specs.PlainUnits.{named_bid_of}
 use Rattle.uc_model.specs.declared.units.Block.{Block}

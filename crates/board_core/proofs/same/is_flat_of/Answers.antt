@@ -1,5 +1,5 @@
-use Rattle.std.proofs.Common.{Some, List, ap, ◌∙◌}
-use Rattle.uc_model.specs.Data.{AnyUnit, Flat, RenewableUnit}
+use Rattle.std.proofs.Common.{Some, ap, ◌∙◌}
+use Rattle.uc_model.specs.Data.{Flat, RenewableUnit}
 use Rattle.uc_model.specs.PlainCases.{market_of}
 use Rattle.uc_model.specs.PlainUnits.{named_renewable_of}
 use Rattle.uc_model.specs.declared.units.UnitKind.TheVariants as kinds

@@ -5,10 +5,12 @@ use Rattle.board_core.proofs.UnitPlaces.{same_items}
 use Rattle.board_core.proofs.same.same_periods.Goals as goal
 
 pub returns-then-not-same_blocks : goal.returns-then-not-same_blocks
-returns-then-not-same_blocks c =
-    ((λ no. absurd (false≢true no)), λ same.
-    sym c.if-not-same_blocks.true
-    ∙ c.same_blocks.ensures.1 (c.as_slice.ensures ∙ one_item c.args.a.now.items c.args.b.now.items c.loop-k.k c.get.result.now c.get-in-loop-k.result.now same c.get.ensures.item c.get-in-loop-k.ensures.item ∙ sym c.as_slice-in-loop-k.ensures))
+returns-then-not-same_blocks c = (
+  (λ no. absurd (false≢true no)),
+  λ same.
+      sym c.if-not-same_blocks.true
+      ∙ c.same_blocks.ensures.1 (c.as_slice.ensures ∙ one_item c.args.a.now.items c.args.b.now.items c.loop-k.k c.get.result.now c.get-in-loop-k.result.now same c.get.ensures.item c.get-in-loop-k.ensures.item ∙ sym c.as_slice-in-loop-k.ensures),
+)
 
 pub returns : goal.returns
 returns c =

@@ -1,4 +1,4 @@
-use Rattle.std.proofs.Common.{◌≡◌, refl, ap, subst, sym, ◌∙◌}
+use Rattle.std.proofs.Common.{◌≡◌, refl, ap, subst, ◌∙◌}
 use Rattle.board_history.specs.Board.{Content}
 use Rattle.board_history.specs.Calls.{claim_answer, after_claim}
 use Rattle.board_core.specs.Replies.{claim_of}

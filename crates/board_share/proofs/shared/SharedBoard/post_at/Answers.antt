@@ -1,4 +1,4 @@
-use Rattle.std.proofs.Common.{◌≡◌, refl, ap, subst, sym, ◌∙◌}
+use Rattle.std.proofs.Common.{◌≡◌, refl, ap, subst, ◌∙◌}
 use Rattle.board_history.specs.Board.{Content}
 use Rattle.board_history.specs.Calls.{post_answer, after_post}
 use Rattle.uc_model.specs.PlainCases.{task_unit}
