@@ -1,3 +1,4 @@
+pub mod BenchLaws
 pub mod BackLaws
 pub mod BackwardOrder
 pub mod BestLaws

@@ -1,3 +1,4 @@
+pub mod Benches
 pub mod Backs
 pub mod Builds
 pub mod Lists

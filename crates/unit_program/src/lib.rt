@@ -10,6 +10,7 @@
 #![tactic(auto)]
 
 pub mod answer;
+pub mod bench;
 pub mod commitment;
 pub mod laws;
 pub mod periods;
@@ -20,5 +21,6 @@ pub mod table;
 mod tests;
 
 pub use answer::best_response;
+pub use bench::{Bench, least_in_place};
 pub use periods::fill_by_periods;
 pub use runner::Runner;

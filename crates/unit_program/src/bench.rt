@@ -1,0 +1,87 @@
+//! What answers need, taken once: with a bench an answer takes no memory.
+ghost use Rattle.std.specs.Prelude.{◌≡◌, ℕ, ℤ, suc, length, neg_ℤ, IsTrue, IsFalse, true, IsOk};
+ghost use Rattle.cost_curve.specs.CostCurve.{IsCostCurve};
+ghost use Rattle.uc_model.specs.Data.{Schedule, Thermal};
+ghost use Rattle.uc_model.specs.Earnings.{earnings, IsBest};
+ghost use Rattle.uc_model.specs.PlainUnits.{thermal_of, prices_of, schedule_of};
+ghost use Rattle.uc_model.specs.Schedules.{IsThermalFeasible};
+ghost use Rattle.uc_model.specs.Ties.{IsLeast};
+ghost use Rattle.unit_program.specs.Benches.{IsBenchFor};
+ghost use Rattle.unit_program.specs.Rows.{IsFilled};
+
+use crate::answer::{least_end, write_best};
+use crate::periods::fill_by_periods;
+use crate::runner::Runner;
+use crate::table::Table;
+use cost_curve::curves::curve_into;
+use point_pool::pool::Pool;
+use point_pool::pooled::Pooled;
+use spell_run::Running;
+use uc_model::units::{Answered, Curve, Prices, Unit};
+
+/// Memory for the answers of units over so many periods, with so many cost points. What it holds between two calls is
+/// open.
+#[derive(Drop)]
+pub struct Bench<R> {
+    /// The cells of the shapes of the way back.
+    pub pool: Pool,
+    pub curve: Curve,
+    /// The spells that go forward together.
+    pub runners: Vec<Runner<R>>,
+    pub table: Table,
+}
+
+// Fills a bench's curve and its table.
+fn fill_bench<R: Running>(bench: &mut Bench<R>, unit: &Unit, prices: &Prices)
+    requires horizon { length (thermal_of unit.now).window ≡ length (prices_of prices.now).energy }
+    requires bench { IsBenchFor R.room (length (prices_of prices.now).energy) (length (thermal_of unit.now).points) bench.old }
+    ensures curve { IsCostCurve (thermal_of unit.now).points bench.new.curve }
+    ensures filled { IsFilled (thermal_of unit.now) (prices_of prices.now) (suc (length (prices_of prices.now).energy)) bench.new.table.items }
+    ensures bench { (periods points : ℕ) → IsBenchFor R.room periods points bench.old → IsBenchFor R.room periods points bench.new }
+{
+    curve_into(unit.points.as_slice(), &mut bench.curve);
+    fill_by_periods(
+        unit,
+        &bench.curve,
+        prices,
+        bench.runners.as_mut_slice(),
+        &mut bench.table,
+    );
+}
+
+/// The least best response of a thermal unit to prices over its horizon, as `best_response` answers it: leaves it in
+/// `into`, with what it earns, and answers true; or answers false exactly where no schedule of the unit is feasible, and
+/// `into` is unchanged. The bench suffices for the prices' periods and the unit's cost points, and for all that it
+/// sufficed for afterwards. Takes no memory.
+pub fn least_in_place<R: Running>(
+    bench: &mut Bench<R>,
+    unit: &Unit,
+    prices: &Prices,
+    into: &mut Answered,
+) -> bool
+    requires horizon { length (thermal_of unit.now).window ≡ length (prices_of prices.now).energy }
+    requires bench { IsBenchFor R.room (length (prices_of prices.now).energy) (length (thermal_of unit.now).points) bench.old }
+    requires into { length (schedule_of into.old.response).on ≡ length (prices_of prices.now).energy }
+    ensures best { IsTrue result → IsBest (Thermal (thermal_of unit.now)) (prices_of prices.now) (schedule_of into.new.response) }
+    ensures least { IsTrue result → IsLeast (Thermal (thermal_of unit.now)) (prices_of prices.now) (schedule_of into.new.response) }
+    ensures earned { IsTrue result → into.new.earned ≡ earnings (Thermal (thermal_of unit.now)) (prices_of prices.now) (schedule_of into.new.response) }
+    ensures none { IsFalse result → (s : Schedule) → IsThermalFeasible (thermal_of unit.now) (length (prices_of prices.now).energy) s → ⊥ }
+    ensures same { IsFalse result → into.new ≡ into.old }
+    ensures bench { (periods points : ℕ) → IsBenchFor R.room periods points bench.old → IsBenchFor R.room periods points bench.new }
+{
+    fill_bench(bench, unit, prices);
+    let periods = prices.energy.len() as u32;
+    let Some(end) = least_end(unit, periods, bench.table.as_slice()) else {
+        return false;
+    };
+    let written = write_best::<Pooled>(
+        &mut bench.pool,
+        unit,
+        &bench.curve,
+        prices,
+        bench.table.as_slice(),
+        &end,
+        into,
+    );
+    written.is_ok()
+}
