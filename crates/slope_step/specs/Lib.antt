@@ -1,0 +1,6 @@
+pub mod Pieces
+pub mod Kink
+pub mod Window
+pub mod Blocks
+pub mod Drawn
+pub mod Turn
