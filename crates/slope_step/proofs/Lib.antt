@@ -8,3 +8,13 @@ pub mod FunctionLaws
 pub mod ValleyLaws
 -- the curve's values block by block
 pub mod BlockLaws
+-- the kink: the parts of the function less the worth of the reserve
+pub mod KinkLaws
+-- the window's parts, and how many are left
+pub mod WindowLaws
+-- pieces that are written one after another
+pub mod DrawLaws
+-- the parts of a step together
+pub mod StepLaws
+-- the values of a step are within the limits
+pub mod BoundLaws

@@ -7,7 +7,7 @@ use Rattle.shape_law.specs.Table.{Table}
 use Rattle.slope_step.specs.declared.piece.Piece.{Piece}
 use Rattle.slope_step.specs.declared.piece.Start.{Start}
 use Rattle.slope_step.specs.declared.draw.Pen.{Pen}
-use Rattle.slope_step.specs.declared.step.Stepped.{Stepped}
+use Rattle.slope_step.specs.declared.step.Made.{Made}
 use Rattle.slope_step.specs.Pieces.{end_at, Stand, table_of, AreSlopes}
 use Rattle.slope_step.specs.Window.{moved}
 
@@ -32,11 +32,11 @@ pub record IsDrawn (h : ℤ → ℤ) (lo : ℤ) (out : List Piece) (pen : Pen) :
   pub pieces : Stand h lo out pen.used
   pub meets : end_at lo out pen.used ≡ pen.at
 
--- the function that a step answers
-abbrev pub table_after : List Piece → Option Stepped → Table
+-- the function that a step has made, or one with no place
+abbrev pub table_after : List Piece → Option Made → Table
 table_after out None = record { lo = pos 0; values = [] }
 table_after out (Some d) = table_of d.start (take d.used out)
 
 -- and its pieces
-abbrev pub ArePiecesAfter : List Piece → Stepped → Type 0
+abbrev pub ArePiecesAfter : List Piece → Made → Type 0
 ArePiecesAfter out d = AreSlopes d.start.first (take d.used out)

@@ -1,8 +1,10 @@
 -- The function less the worth of the best reserve: a kink where the reserve meets its cap (this project's profile).
 use Rattle.std.specs.Prelude.{◌≡◌, ℕ, suc, ◌+◌, ◌-◌, ◌<◌, ◌≤◌, ℤ, pos, neg_ℤ, ◌+ℤ◌, ◌-ℤ◌, ◌≤ℤ◌, ◌<ℤ◌, int_lt, if◌then◌else◌, List, length}
+use Rattle.std.specs.Int.{int_min}
 use Rattle.uc_model.specs.Limits.{IsFrom, IsOutput}
 use Rattle.shape_law.specs.declared.step.Step.{Step}
 use Rattle.shape_law.specs.Curve.{reserve_term}
+use Rattle.shape_law.specs.Table.{IsPlace, IsAmount}
 use Rattle.slope_step.specs.declared.piece.Piece.{Piece}
 use Rattle.slope_step.specs.declared.piece.Start.{Start}
 use Rattle.slope_step.specs.declared.kink.Place.{Place}
@@ -23,7 +25,13 @@ pub record IsPlaced (first : ℤ) (ps : List Piece) (place : Place) : Type 0 whe
   pub to : place.next < length ps → place.at <ℤ end_at first ps (suc place.next)
   pub last : place.next ≡ length ps → place.at ≡ last_place first ps
 
--- how many parts there are at most from a place on
+-- q is what is left of piece p from a place on: up to the bend it is lower by the price
+pub record IsLowered (s : Step) (at : ℤ) (p q : Piece) : Type 0 where
+  pub below : pos 0 <ℤ s.reserve_price → at <ℤ bend_of s → (q.end ≡ int_min p.end (bend_of s)) × (q.slope ≡ p.slope -ℤ s.reserve_price)
+  pub above : bend_of s ≤ℤ at → (q.end ≡ p.end) × (q.slope ≡ p.slope)
+  pub free : s.reserve_price ≤ℤ pos 0 → (q.end ≡ p.end) × (q.slope ≡ p.slope)
+
+-- how many parts there are at most from a place on: one for each piece that is left, and one for the bend
 abbrev pub parts_from : List Piece → Step → Place → ℕ
 parts_from ps s place = (length ps - place.next) + (if int_lt place.at (bend_of s) then 1 else 0)
 
@@ -39,6 +47,10 @@ abbrev pub AreSmall : Start → List Piece → Type 0
 AreSmall start ps =
     (x : ℤ) → start.first ≤ℤ x → x ≤ℤ last_place start.first ps
     → IsOutput x × IsFrom (neg_ℤ (pos 500000000000000000)) (pos 500000000000000000) (function_of start ps x)
+
+-- places and values are within the limits
+abbrev pub AreWithin : Start → List Piece → Type 0
+AreWithin start ps = (x : ℤ) → start.first ≤ℤ x → x ≤ℤ last_place start.first ps → IsPlace x × IsAmount (function_of start ps x)
 
 -- and less a price
 abbrev pub IsSteep : ℤ → Type 0

@@ -3,4 +3,5 @@ pub mod Kink
 pub mod Window
 pub mod Blocks
 pub mod Drawn
+pub mod Totals
 pub mod Turn

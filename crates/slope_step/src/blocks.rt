@@ -1,5 +1,5 @@
 //! The curve of production costs, block by block.
-ghost use Rattle.std.specs.Prelude.{◌≡◌, suc, ◌<◌, ◌+ℤ◌, ◌≤ℤ◌, ◌<ℤ◌, length, Some};
+ghost use Rattle.std.specs.Prelude.{◌≡◌, ◌≤◌, ◌≤ℤ◌, ◌<ℤ◌, length, Some};
 ghost use Rattle.shape_law.specs.Curve.{curve_value, end_of, IsLimitedCurve};
 ghost use Rattle.slope_step.specs.Blocks.{IsInBlock};
 
@@ -19,6 +19,7 @@ pub(crate) fn find(curve: &Curve, at: i64) -> Found
     requires from { curve.now.at ≤ℤ at }
     requires to { at ≤ℤ end_of curve.now.at curve.now.blocks.items }
     ensures value { curve_value curve.now at ≡ Some result.value }
+    ensures blocks { result.block ≤ length curve.now.blocks.items }
     ensures block { at <ℤ end_of curve.now.at curve.now.blocks.items → IsInBlock curve.now at result.block result.end }
 {
     let mut from = curve.at;

@@ -2,9 +2,9 @@
 ghost use Rattle.std.specs.Prelude.{◌≡◌, ℕ, ℤ, ◌+◌, ◌<◌, ◌≤◌, pos, ◌+ℤ◌, ◌-ℤ◌, ◌≤ℤ◌, ◌<ℤ◌, length};
 ghost use Rattle.shape_law.specs.Steps.{IsFairStep};
 ghost use Rattle.slope_step.specs.Pieces.{piece, last_place, function_of, AreSlopes, IsLine};
-ghost use Rattle.slope_step.specs.Kink.{kinked, parts_from, IsPlaced, AreSmall, AreGentle, IsSteep, IsValley};
+ghost use Rattle.slope_step.specs.Kink.{kinked, parts_from, IsPlaced, IsLowered, AreWithin, IsGentle, AreGentle, IsSteep, IsValley};
 
-use crate::piece::{Piece, Start};
+use crate::piece::{Piece, Start, along};
 use shape_law::step::Step;
 
 /// A place of the function, and the index of the piece that goes on there.
@@ -22,6 +22,25 @@ pub(crate) struct Part {
     pub then: Place,
 }
 
+/// What is left of a piece from a place on, after the worth of the reserve is taken off.
+fn lowered(piece: Piece, place: Place, step: Step) -> Piece
+    requires fair { IsFairStep step }
+    requires gentle { IsGentle piece.slope }
+    ensures { IsLowered step place.at piece result }
+{
+    if step.reserve_price <= 0 {
+        return piece;
+    }
+    let bend = step.cap - step.ramp_up;
+    if place.at >= bend {
+        return piece;
+    }
+    Piece {
+        end: piece.end.min(bend),
+        slope: piece.slope - step.reserve_price,
+    }
+}
+
 /// The part from a place on, after the worth of the reserve is taken off.
 pub(crate) fn part_at(pieces: &[Piece], place: Place, step: Step) -> Part
     requires next { place.next < length pieces.now }
@@ -36,23 +55,20 @@ pub(crate) fn part_at(pieces: &[Piece], place: Place, step: Step) -> Part
     ensures fewer { parts_from pieces.now step result.then + 1 ≤ parts_from pieces.now step place }
     ensures steep { IsSteep result.slope }
 {
-    let piece = pieces[place.next];
-    let bend = step.cap - step.ramp_up;
-    let mut end = piece.end;
-    let mut slope = piece.slope;
-    if step.reserve_price > 0 && place.at < bend {
-        end = end.min(bend);
-        slope -= step.reserve_price;
-    }
-    let next = if end == piece.end {
-        place.next + 1
-    } else {
+    let whole = pieces[place.next];
+    let piece = lowered(whole, place, step);
+    let next = if piece.end < whole.end {
         place.next
+    } else {
+        place.next + 1
     };
     Part {
-        end,
-        slope,
-        then: Place { at: end, next },
+        end: piece.end,
+        slope: piece.slope,
+        then: Place {
+            at: piece.end,
+            next,
+        },
     }
 }
 
@@ -89,7 +105,7 @@ pub(crate) fn seek(pieces: &[Piece], start: Start, at: i64) -> Reached
     requires slopes { AreSlopes start.first pieces.now }
     requires from { start.first ≤ℤ at }
     requires to { at ≤ℤ last_place start.first pieces.now }
-    requires small { AreSmall start pieces.now }
+    requires within { AreWithin start pieces.now }
     ensures value { result.value ≡ function_of start pieces.now at }
     ensures placed { IsPlaced start.first pieces.now (record { at = at; next = result.next }) }
 {
@@ -98,12 +114,12 @@ pub(crate) fn seek(pieces: &[Piece], start: Start, at: i64) -> Reached
     let mut next = 0;
     while next < pieces.len() && pieces[next].end <= at {
         let piece = pieces[next];
-        value += piece.slope * (piece.end - from);
+        value = along(value, piece, from, piece.end);
         from = piece.end;
         next += 1;
     }
     if next < pieces.len() {
-        value += pieces[next].slope * (at - from);
+        value = along(value, pieces[next], from, at);
     }
     Reached { next, value }
 }

@@ -1,5 +1,4 @@
-use Rattle.slope_step.proofs.LineLaws.{line_product}
-use Rattle.slope_step.proofs.PieceLaws.{stand-take}
-use Rattle.slope_step.proofs.FunctionLaws.{IsSum-on}
-use Rattle.slope_step.proofs.ValleyLaws.{steps}
-use Rattle.slope_step.proofs.BlockLaws.{rise_at_end}
+use Rattle.slope_step.proofs.WindowLaws.{part_flat}
+use Rattle.slope_step.proofs.DrawLaws.{drawn_more}
+use Rattle.slope_step.proofs.StepLaws.{written_slopes}
+use Rattle.slope_step.proofs.BlockLaws.{block_place}
