@@ -1,13 +1,8 @@
-// A library with one function.
+//! A convex function as pieces of one slope, kept in room that is taken once.
 #![tactic(auto)]
 
-ghost use Rattle.std.specs.Prelude.{◌≡◌};
-ghost use Rattle.slope_list.specs.Echo.{echo_of};
+mod slopes;
 
-// The `ensures` clause is the contract: what `echo` returns is `echo_of` of its argument, a definition
-// in `specs/Echo.antt`, which a caller's clause can cite too.
-pub fn echo(x: usize) -> usize
-    ensures { result ≡ echo_of x }
-{
-    x
-}
+pub use slope_step::lowest::Lowest;
+pub use slope_step::read::Spot;
+pub use slopes::Slopes;

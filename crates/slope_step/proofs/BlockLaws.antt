@@ -226,3 +226,13 @@ block_place c limited j h =
     let first = limited.first_place.0 in
     let last = limited.last_place.1 in
     (omega (arith, ints), omega (arith, ints))
+
+-- a later place is past the block's start too
+pub in_block_at : (c : Curve) (at : ℤ) (j : ℕ) (end : ℤ) → IsInBlock c at j end → (at' : ℤ) (j' : ℕ) (end' : ℤ) → at ≤ℤ at' → j' ≡ j → end' ≡ end → IsInBlock c at' j' end'
+in_block_at c at j end i at' j' end' later ej ee =
+    let begun = i.begun in
+    let ends = i.ends in
+    let inside = i.inside in
+    let s : width_to c.blocks.items j' ≡ width_to c.blocks.items j = ap (width_to c.blocks.items) ej in
+    let t : width_to c.blocks.items (suc j') ≡ width_to c.blocks.items (suc j) = ap (λ (k : ℕ). width_to c.blocks.items (suc k)) ej in
+    record { inside = omega arith; begun = omega (arith, ints); ends = omega (arith, ints) }

@@ -20,7 +20,7 @@ end_other : (lo : ℤ) (out : List Piece) (i k : ℕ) (q : Piece) → k ≤ i �
 end_other lo out i zero q h = refl
 end_other lo out i (suc k) q h = ap (λ (p : Piece). p.end) (piece_other out i k q (omega arith))
 
-same_line : (h : ℤ → ℤ) (a b s a' b' s' : ℤ) → a' ≡ a → b' ≡ b → s' ≡ s → IsLine h a b s → IsLine h a' b' s'
+pub same_line : (h : ℤ → ℤ) (a b s a' b' s' : ℤ) → a' ≡ a → b' ≡ b → s' ≡ s → IsLine h a b s → IsLine h a' b' s'
 same_line h a b s a' b' s' p q r l =
     subst (λ (z : ℤ). IsLine h z b' s') (sym p) (subst (λ (z : ℤ). IsLine h a z s') (sym q) (subst (λ (z : ℤ). IsLine h a b z) (sym r) l))
 

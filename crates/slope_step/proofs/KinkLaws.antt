@@ -15,6 +15,7 @@ use Rattle.slope_step.specs.declared.kink.Place.{Place}
 use Rattle.slope_step.specs.Pieces.{piece, end_at, last_place, function_of, AreSlopes, IsLine, Curves}
 use Rattle.slope_step.specs.Kink.{kinked, bend_of, IsLowered, IsPlaced, AreSmall, AreWithin, IsGentle, AreGentle, IsSteep, IsValley, parts_from}
 use Rattle.slope_step.specs.Totals.{CanGo}
+use Rattle.uc_model.specs.Limits.{IsOutput}
 use Rattle.slope_step.proofs.LineLaws.{lt_is, not_lt_is, times_split, line_step, line_part}
 use Rattle.slope_step.proofs.PieceLaws.{ends_rise_to, along_line, along_curves}
 
@@ -203,6 +204,13 @@ placed_within first ps place slopes placed =
           (omega (arith, ints), omega (arith, ints))
     ]
 
+-- before the last place a piece goes on
+pub placed_inside : (first : ℤ) (ps : List Piece) (place : Place) → IsPlaced first ps place → place.at <ℤ last_place first ps → place.next < length ps
+placed_inside first ps place placed h = elim (cases_lt place.next (length ps)) [
+  | inl inside ↦ inside
+  | inr past ↦ absurd (let some = placed.some in let e = placed.last (omega arith) in omega (arith, ints))
+]
+
 module _ (start : Start) (ps : List Piece) (s : Step) (fair : IsFairStep s) (slopes : AreSlopes start.first ps) (place : Place) (placed : IsPlaced start.first ps place)
     (falls : (x : ℤ) → start.first ≤ℤ x → x <ℤ place.at → kinked start ps s (x +ℤ pos 1) <ℤ kinked start ps s x) where
   pub valley_here : (e slope : ℤ) → IsLine (kinked start ps s) place.at e slope → e ≤ℤ last_place start.first ps → pos 0 ≤ℤ slope → IsValley (kinked start ps s) start.first (last_place start.first ps) place.at
@@ -270,3 +278,18 @@ module _ (start : Start) (ps : List Piece) (slopes : AreSlopes start.first ps) (
         product = record { at_least = omega (arith, ints); at_most = omega (arith, ints) };
         sum = record { at_least = omega (arith, ints); at_most = omega (arith, ints) };
       }
+
+-- where a part ends
+pub record IsEnd (first last e : ℤ) : Type 0 where
+  pub from : first ≤ℤ e
+  pub to : e ≤ℤ last
+  pub out : IsOutput e
+
+pub end_within : (start : Start) (ps : List Piece) → AreSlopes start.first ps → AreSmall start ps → (place : Place) → IsPlaced start.first ps place → (e : ℤ) → place.at ≡ e → IsEnd start.first (last_place start.first ps) e
+end_within start ps slopes small place placed e is =
+    let w = placed_within start.first ps place slopes placed in
+    let o = small place.at w.0 w.1 in
+    subst (λ (z : ℤ). IsEnd start.first (last_place start.first ps) z) is (record { from = w.0; to = w.1; out = o.0 })
+
+pub end_of_valley : (start : Start) (ps : List Piece) → AreSmall start ps → (s : Step) (m : ℤ) → IsValley (kinked start ps s) start.first (last_place start.first ps) m → IsOutput m
+end_of_valley start ps small s m v = (small m v.from v.to).0

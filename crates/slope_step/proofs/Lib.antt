@@ -18,3 +18,9 @@ pub mod DrawLaws
 pub mod StepLaws
 -- the values of a step are within the limits
 pub mod BoundLaws
+-- what is read off pieces
+pub mod ReadLaws
+-- numbers that fit 64 bits
+pub mod WrapLaws
+-- the value of a step at a place
+pub mod LevelLaws

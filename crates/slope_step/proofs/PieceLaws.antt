@@ -34,7 +34,7 @@ ends_rise first ps s (suc d) i j e h =
 pub ends_rise_to : (first : ℤ) (ps : List Piece) → AreSlopes first ps → (i j : ℕ) → i ≤ j → j ≤ length ps → end_at first ps i ≤ℤ end_at first ps j
 ends_rise_to first ps s i j l h = ends_rise first ps s (j - i) i j (omega arith) h
 
-slopes_rise : (first : ℤ) (ps : List Piece) → AreSlopes first ps → (d i j : ℕ) → j ≡ i + d → j < length ps → (piece ps i).slope ≤ℤ (piece ps j).slope
+pub slopes_rise : (first : ℤ) (ps : List Piece) → AreSlopes first ps → (d i j : ℕ) → j ≡ i + d → j < length ps → (piece ps i).slope ≤ℤ (piece ps j).slope
 slopes_rise first ps s zero i j e h = let same : (piece ps j).slope ≡ (piece ps i).slope = ap (λ (k : ℕ). (piece ps k).slope) (omega arith) in omega (arith, ints)
 slopes_rise first ps s (suc d) i j e h =
     let before : (piece ps i).slope ≤ℤ (piece ps (i + d)).slope = slopes_rise first ps s d i (i + d) refl (omega arith) in

@@ -99,6 +99,7 @@ module _ (start : Start) (ps : List Piece) (s : Step) (c : Curve) (m lo hi : ℤ
   }
 
   pub stepped_convex : IsConvex (table_on (stepped start ps s m c) lo hi)
+  unfolding stepped_on
   stepped_convex =
       let r = stepped_on in
       let k = IsConvex-from_curves (kinked start ps s) start.first (last_place start.first ps) (kinked_curves start ps s fair slopes) in

@@ -1,13 +1,13 @@
 -- The parts of the window: the nearest place in reach goes along with each.
 use Rattle.std.proofs.Common.{◌≡◌, ℕ, ◌+◌, ◌-◌, ◌<◌, ◌≤◌, List, length, refl, sym, ap, ◌∙◌, arith}
-use Rattle.std.specs.Prelude.{ℤ, pos, ◌+ℤ◌, ◌-ℤ◌, ◌*ℤ◌, ◌≤ℤ◌, ◌<ℤ◌, int_lt, if◌then◌else◌}
+use Rattle.std.specs.Prelude.{ℤ, pos, ◌+ℤ◌, ◌-ℤ◌, ◌*ℤ◌, ◌≤ℤ◌, ◌<ℤ◌, int_lt, if◌then◌else◌, negsuc, unsigned_abs}
 use Rattle.std.proofs.lemmas.Int.{ints, clamps, by_lt_z}
 use Rattle.std.proofs.Math.IntN.{zero-*ℤ}
 use Rattle.shape_law.specs.declared.step.Step.{Step}
 use Rattle.slope_step.specs.declared.piece.Piece.{Piece}
 use Rattle.slope_step.specs.declared.kink.Place.{Place}
 use Rattle.slope_step.specs.Pieces.{IsLine}
-use Rattle.slope_step.specs.Kink.{parts_from, IsValley}
+use Rattle.slope_step.specs.Kink.{bend_of, parts_from, IsValley}
 use Rattle.slope_step.specs.Window.{nearest, moved_parts, IsFlat}
 use Rattle.slope_step.proofs.LineLaws.{lt_is, not_lt_is, line_step, line_moved, line_same, line_flat}
 
@@ -102,3 +102,49 @@ flat_from_line f a b s l none =
 
 pub flat_here : (f : ℤ → ℤ) (a : ℤ) → IsFlat f a a
 flat_here f a = record { from = omega (arith, ints); same = λ x low high. ap f (omega (arith, ints)) }
+
+-- ---- bounds
+
+one_at_most : (b : ℤ) (c : ℤ) → (if int_lt b c then 1 else 0) ≤ 1
+one_at_most b c = by_lt_z b c (λ (l : b <ℤ c). rw (lt_is b c l) (omega arith)) (λ (l : c ≤ℤ b). rw (not_lt_is b c l) (omega arith))
+
+pub moved_parts_most : (ps : List Piece) (s : Step) (place : Place) (x : ℤ) → moved_parts ps s place x ≤ length ps + 2
+moved_parts_most ps s place x =
+    let a = one_at_most place.at (bend_of s) in
+    let b = one_at_most x (place.at +ℤ s.ramp_up) in
+    omega arith
+
+abs_of : (z : ℤ) → pos 0 ≤ℤ z → pos (unsigned_abs z) ≡ z
+abs_of (pos n) h = refl
+abs_of (negsuc n) h = absurd (omega (arith, ints))
+
+-- nearer to z
+pub nearer : (x y z : ℤ) → x <ℤ y → y ≤ℤ z → unsigned_abs (z -ℤ y) < unsigned_abs (z -ℤ x)
+nearer x y z l h =
+    let a = abs_of (z -ℤ y) (omega (arith, ints)) in
+    let b = abs_of (z -ℤ x) (omega (arith, ints)) in
+    omega (arith, ints)
+
+-- ---- where the place is
+
+module _ (up down m x y : ℤ) (is_up : pos 0 ≤ℤ up) (is_down : pos 0 ≤ℤ down) (near : y ≡ nearest up down m x) where
+  pub falling_at : y <ℤ m → x ≡ y +ℤ (pos 0 -ℤ down)
+  falling_at h = omega (arith, ints, clamps)
+
+  pub flat_at : m ≤ℤ y → x <ℤ (y +ℤ up) → y ≡ m
+  flat_at h l = omega (arith, ints, clamps)
+
+  pub rising_at : (y +ℤ up) ≤ℤ x → x ≡ y +ℤ up
+  rising_at h = omega (arith, ints, clamps)
+
+pub shifted_down : (x e down : ℤ) → x ≡ e -ℤ down → x ≡ e +ℤ (pos 0 -ℤ down)
+shifted_down x e down h = omega (arith, ints)
+
+pub before_last : (y m b : ℤ) → y <ℤ m → m ≤ℤ b → y <ℤ b
+before_last y m b h l = omega (arith, ints)
+
+pub before_end : (x y up b hi : ℤ) → (y +ℤ up) ≤ℤ x → x <ℤ hi → hi ≤ℤ (b +ℤ up) → y <ℤ b
+before_end x y up b hi l h k = omega (arith, ints)
+
+pub shifted_by : (x e y d : ℤ) → y ≡ e → x ≡ e +ℤ d → x ≡ y +ℤ d
+shifted_by x e y d h i = omega (arith, ints)

@@ -5,7 +5,7 @@ use Rattle.shape_law.specs.Table.{IsPlace}
 
 -- a difference of two values, or its sum with a third
 abbrev pub IsTotal : ℤ → Type 0
-IsTotal z = IsFrom (neg_ℤ (pos 4000000000000000000)) (pos 4000000000000000000) z
+IsTotal z = IsFrom (neg_ℤ (pos 8000000000000000000)) (pos 8000000000000000000) z
 
 -- a level may go along a slope from one place to another
 pub record CanGo (level slope from to : ℤ) : Type 0 where

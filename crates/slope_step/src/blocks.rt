@@ -3,6 +3,7 @@ ghost use Rattle.std.specs.Prelude.{◌≡◌, ◌≤◌, ◌≤ℤ◌, ◌<ℤ�
 ghost use Rattle.shape_law.specs.Curve.{curve_value, end_of, IsLimitedCurve};
 ghost use Rattle.slope_step.specs.Blocks.{IsInBlock};
 
+use crate::piece::{Piece, along};
 use uc_model::units::Curve;
 
 /// The value at a place of the curve, the block that goes on there, and where that block ends.
@@ -14,6 +15,7 @@ pub(crate) struct Found {
 }
 
 /// Finds a place of the curve.
+#[tactic(none)]
 pub(crate) fn find(curve: &Curve, at: i64) -> Found
     requires limited { IsLimitedCurve curve.now }
     requires from { curve.now.at ≤ℤ at }
@@ -25,16 +27,19 @@ pub(crate) fn find(curve: &Curve, at: i64) -> Found
     let mut from = curve.at;
     let mut value = curve.value;
     for (index, block) in curve.blocks.as_slice().iter().enumerate() {
-        let end = from + block.width;
-        if at < end {
+        let piece = Piece {
+            end: from + block.width,
+            slope: block.price,
+        };
+        if at < piece.end {
             return Found {
-                value: value + (at - from) * block.price,
+                value: along(value, piece, from, at),
                 block: index,
-                end,
+                end: piece.end,
             };
         }
-        value += block.width * block.price;
-        from = end;
+        value = along(value, piece, from, piece.end);
+        from = piece.end;
     }
     Found {
         value,

@@ -1,5 +1,5 @@
 //! The least value in reach of the ramps, part by part.
-ghost use Rattle.std.specs.Prelude.{◌≡◌, ◌+◌, ◌≤◌, ◌+ℤ◌, ◌-ℤ◌, ◌≤ℤ◌, ◌<ℤ◌};
+ghost use Rattle.std.specs.Prelude.{◌≡◌, ◌+◌, ◌≤◌, ◌+ℤ◌, ◌≤ℤ◌, ◌<ℤ◌};
 ghost use Rattle.slope_step.specs.Pieces.{IsLine};
 ghost use Rattle.slope_step.specs.Kink.{kinked, parts_from, IsPlaced, IsSteep};
 ghost use Rattle.slope_step.specs.Window.{nearest, moved, moved_parts, IsWindow, IsFlat};
@@ -42,7 +42,7 @@ fn past_flat(window: &Window<'_>, place: Place) -> Place
 pub(crate) fn next_part(window: &Window<'_>, place: Place, at: i64) -> Part
     requires placed { IsPlaced window.now.start.first window.now.pieces.now place }
     requires near { place.at ≡ nearest window.now.step.ramp_up window.now.step.ramp_down window.now.turn at }
-    requires low { window.now.start.first -ℤ window.now.step.ramp_down ≤ℤ at }
+    requires low { window.now.start.first ≤ℤ (at +ℤ window.now.step.ramp_down) }
     requires high { at <ℤ window.now.high }
     ensures line { IsLine (moved window.now.start window.now.pieces.now window.now.step window.now.turn) at result.end result.slope }
     ensures placed { IsPlaced window.now.start.first window.now.pieces.now result.then }
@@ -51,7 +51,15 @@ pub(crate) fn next_part(window: &Window<'_>, place: Place, at: i64) -> Part
     ensures steep { IsSteep result.slope }
 {
     let step = window.step;
-    if place.at >= window.turn && at < place.at + step.ramp_up {
+    if place.at < window.turn {
+        let part = part_at(window.pieces, place, step);
+        return Part {
+            end: part.end - step.ramp_down,
+            slope: part.slope,
+            then: part.then,
+        };
+    }
+    if at < place.at + step.ramp_up {
         let then = past_flat(window, place);
         return Part {
             end: then.at + step.ramp_up,
@@ -60,13 +68,8 @@ pub(crate) fn next_part(window: &Window<'_>, place: Place, at: i64) -> Part
         };
     }
     let part = part_at(window.pieces, place, step);
-    let end = if place.at < window.turn {
-        part.end - step.ramp_down
-    } else {
-        part.end + step.ramp_up
-    };
     Part {
-        end,
+        end: part.end + step.ramp_up,
         slope: part.slope,
         then: part.then,
     }
