@@ -24,3 +24,5 @@ pub mod ReadLaws
 pub mod WrapLaws
 -- the value of a step at a place
 pub mod LevelLaws
+-- a walk over the blocks of a curve
+pub mod FindLaws

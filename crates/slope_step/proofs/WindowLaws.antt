@@ -1,6 +1,7 @@
 -- The parts of the window: the nearest place in reach goes along with each.
 use Rattle.std.proofs.Common.{◌≡◌, ℕ, ◌+◌, ◌-◌, ◌<◌, ◌≤◌, List, length, refl, sym, ap, ◌∙◌, arith}
 use Rattle.std.specs.Prelude.{ℤ, pos, ◌+ℤ◌, ◌-ℤ◌, ◌*ℤ◌, ◌≤ℤ◌, ◌<ℤ◌, int_lt, if◌then◌else◌, negsuc, unsigned_abs}
+use Rattle.std.specs.Int.{int_min}
 use Rattle.std.proofs.lemmas.Int.{ints, clamps, by_lt_z}
 use Rattle.std.proofs.Math.IntN.{zero-*ℤ}
 use Rattle.shape_law.specs.declared.step.Step.{Step}
@@ -148,3 +149,22 @@ before_end x y up b hi l h k = omega (arith, ints)
 
 pub shifted_by : (x e y d : ℤ) → y ≡ e → x ≡ e +ℤ d → x ≡ y +ℤ d
 shifted_by x e y d h i = omega (arith, ints)
+
+-- a place that is clipped
+pub record IsClipped (x e h n : ℤ) : Type 0 where
+  pub up : x <ℤ n
+  pub within : n ≤ℤ e
+  pub high : n ≤ℤ h
+  pub same : n <ℤ h → n ≡ e
+
+pub clipped : (x e h n : ℤ) → x <ℤ e → x <ℤ h → n ≡ int_min e h → IsClipped x e h n
+clipped x e h n a b is = record { up = omega (arith, ints, clamps); within = omega (arith, ints, clamps); high = omega (arith, ints, clamps); same = λ l. omega (arith, ints, clamps) }
+
+pub same_le : (x : ℤ) → x ≤ℤ x
+same_le x = omega (arith, ints)
+
+pub le_same : (x y : ℤ) → x ≡ y → x ≤ℤ y
+le_same x y h = omega (arith, ints)
+
+pub le_lt : (x y z : ℤ) → x ≤ℤ y → y <ℤ z → x ≤ℤ z
+le_lt x y z h l = omega (arith, ints)

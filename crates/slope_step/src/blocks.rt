@@ -15,7 +15,6 @@ pub(crate) struct Found {
 }
 
 /// Finds a place of the curve.
-#[tactic(none)]
 pub(crate) fn find(curve: &Curve, at: i64) -> Found
     requires limited { IsLimitedCurve curve.now }
     requires from { curve.now.at ≤ℤ at }

@@ -61,12 +61,13 @@ fn next_block(curve: &Curve, pen: Pen) -> Pen
     ensures next { result.block ≡ pen.block + 1 }
     ensures same { (result.at ≡ pen.at) × (result.used ≡ pen.used) }
 {
+    let blocks = curve.blocks.as_slice();
     let block = pen.block + 1;
     Pen {
         at: pen.at,
         used: pen.used,
         block,
-        block_end: pen.block_end + curve.blocks.as_slice()[block].width,
+        block_end: pen.block_end + blocks[block].width,
     }
 }
 

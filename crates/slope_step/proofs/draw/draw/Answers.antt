@@ -8,7 +8,7 @@ use Rattle.slope_step.specs.Drawn.{paid, stepped}
 use Rattle.slope_step.proofs.LineLaws.{line_part, line_sum, line_product}
 use Rattle.slope_step.proofs.BlockLaws.{in_block_at}
 use Rattle.slope_step.proofs.DrawLaws.{same_line}
-use Rattle.slope_step.proofs.WindowLaws.{moved_parts_most, nearer}
+use Rattle.slope_step.proofs.WindowLaws.{moved_parts_most, nearer, clipped, same_le, le_lt, le_same}
 use Rattle.slope_step.proofs.draw.draw.Goals as goal
 
 pub loop-pen-init : goal.loop-pen-init
@@ -117,8 +117,9 @@ loop-pen-preserved c =
     let stop = to_z w64 (of_z w64 c.min-end.result) in
     let es : slope ≡ part.slope +ℤ w.step.slope = omega (arith, ints) in
     let eb : stop ≡ new.at = omega (arith, ints, clamps) in
-    let up : pen.at <ℤ new.at = omega (arith, ints, clamps) in
-    let first = line_part (moved w.start w.pieces.now w.step w.turn) pen.at part.end part.slope pen.at new.at line (omega (arith, ints)) up (omega (arith, ints, clamps)) in
+    let clip = clipped pen.at part.end w.high new.at rise test end in
+    let up = clip.up in
+    let first = line_part (moved w.start w.pieces.now w.step w.turn) pen.at part.end part.slope pen.at new.at line (same_le pen.at) up clip.within in
     let sum = line_sum (moved w.start w.pieces.now w.step w.turn) (λ x. w.step.slope *ℤ x) pen.at new.at part.slope w.step.slope first (line_product w.step.slope pen.at new.at up) in
     let drawn = c.put-pen.ensures.drawn (paid w.start w.pieces.now w.step w.turn) c.args.from.at
         (same_line (paid w.start w.pieces.now w.step w.turn) pen.at new.at (part.slope +ℤ w.step.slope) pen.at stop slope refl eb es sum) was.drawn in
@@ -126,13 +127,13 @@ loop-pen-preserved c =
     let fewer = rw fa at c.next_part-part.ensures.fewer in
     let used = c.put-pen.ensures.used in
     let inside = c.put-pen.ensures.block.inside in
-    let same : (new.at <ℤ w.high) → new.at ≡ part.end = λ h. omega (arith, ints, clamps) in
+    let same = clip.same in
     record {
       placed = c.next_part-part.ensures.placed;
       near = λ h. c.next_part-part.ensures.near ∙ ap (nearest w.step.ramp_up w.step.ramp_down w.turn) (sym (same h));
-      low = omega (arith, ints);
-      high = omega (arith, ints, clamps);
-      block = λ h. in_block_at cv stop new.block new.block_end c.put-pen.ensures.block new.at new.block new.block_end (omega (arith, ints)) refl refl;
+      low = le_lt c.args.from.at pen.at new.at was.low up;
+      high = clip.high;
+      block = λ h. in_block_at cv stop new.block new.block_end c.put-pen.ensures.block new.at new.block new.block_end (le_same stop new.at eb) refl refl;
       blocks = omega arith;
       drawn = drawn;
       parts = λ h.
