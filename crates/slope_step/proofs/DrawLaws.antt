@@ -40,9 +40,9 @@ drawn_more h lo out pen pen' q room d line used at =
             let is : k ≡ i = omega arith in
             subst (λ (z : ℕ). IsLine h (end_at lo new z) (end_at lo new (suc z)) (piece new z).slope) (sym is)
             (
-              let e = piece_same out i q room in
-              same_line h pen.at q.end q.slope (end_at lo new i) (end_at lo new (suc i)) (piece new i).slope
-              (end_other lo out i i q (omega arith) ∙ meets) (ap (λ (p : Piece). p.end) e) (ap (λ (p : Piece). p.slope) e) line
+            let e = piece_same out i q room in
+            same_line h pen.at q.end q.slope (end_at lo new i) (end_at lo new (suc i)) (piece new i).slope
+            (end_other lo out i i q (omega arith) ∙ meets) (ap (λ (p : Piece). p.end) e) (ap (λ (p : Piece). p.slope) e) line
             )
       ];
       meets =

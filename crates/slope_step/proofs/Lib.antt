@@ -18,6 +18,8 @@ pub mod DrawLaws
 pub mod StepLaws
 -- the values of a step are within the limits
 pub mod BoundLaws
+-- one function below another one
+pub mod BelowLaws
 -- what is read off pieces
 pub mod ReadLaws
 -- numbers that fit 64 bits

@@ -105,8 +105,7 @@ module _ (f : ℤ → ℤ) (a b m : ℤ) (v : IsValley f a b m) where
           let o = on_back (λ z. f (nearest up down m z)) lo hi x v h in
           let low = o.from in
           let high = o.to in
-          let i = near_inside x low high in
-          (
+          let i = near_inside x low high in (
             nearest up down m x,
             on_inside f a b (nearest up down m x) i.0 i.1 ∙ ap Some (sym o.value),
             (omega (arith, ints, clamps), omega (arith, ints, clamps)),

@@ -5,3 +5,4 @@ pub mod Blocks
 pub mod Drawn
 pub mod Totals
 pub mod Turn
+pub mod Below

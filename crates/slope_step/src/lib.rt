@@ -4,6 +4,7 @@
 //! and adds what the prices pay and the production cost.
 #![tactic(auto)]
 
+pub mod below;
 mod blocks;
 mod draw;
 mod kink;

@@ -122,7 +122,7 @@ loop-pen-preserved c =
     let first = line_part (moved w.start w.pieces.now w.step w.turn) pen.at part.end part.slope pen.at new.at line (same_le pen.at) up clip.within in
     let sum = line_sum (moved w.start w.pieces.now w.step w.turn) (λ x. w.step.slope *ℤ x) pen.at new.at part.slope w.step.slope first (line_product w.step.slope pen.at new.at up) in
     let drawn = c.put-pen.ensures.drawn (paid w.start w.pieces.now w.step w.turn) c.args.from.at
-        (same_line (paid w.start w.pieces.now w.step w.turn) pen.at new.at (part.slope +ℤ w.step.slope) pen.at stop slope refl eb es sum) was.drawn in
+    (same_line (paid w.start w.pieces.now w.step w.turn) pen.at new.at (part.slope +ℤ w.step.slope) pen.at stop slope refl eb es sum) was.drawn in
     let p = was.parts test in
     let fewer = rw fa at c.next_part-part.ensures.fewer in
     let used = c.put-pen.ensures.used in
