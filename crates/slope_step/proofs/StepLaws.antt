@@ -5,6 +5,7 @@ use Rattle.std.specs.Int.{int_min, int_max}
 use Rattle.std.proofs.lemmas.Int.{ints, clamps}
 use Rattle.std.proofs.lemmas.List.{length-take-le}
 use Rattle.uc_model.specs.declared.units.Curve.{Curve}
+use Rattle.uc_model.specs.Limits.{IsOutput}
 use Rattle.shape_law.specs.declared.step.Step.{Step}
 use Rattle.shape_law.specs.Curve.{curve_value, reserve_term}
 use Rattle.shape_law.specs.Steps.{IsFairStep, IsCostOf, IsStepped, IsSmall}
@@ -151,3 +152,17 @@ module _ (start : Start) (ps : List Piece) (s : Step) (c : Curve) (m lo hi : ℤ
         let e = last_place-take lo used out room ∙ ends in
         slopes_from_stand (stepped start ps s m c) lo (take used out) (stand-take (stepped start ps s m c) lo used out room drawn)
         (subst (λ (z : ℤ). IsConvex (table_on (stepped start ps s m c) lo z)) (sym e) stepped_convex)
+
+-- ---- the first and the last place
+
+pub step_low : (lo least a down : ℤ) → lo ≡ int_max least (a -ℤ down) → (a ≤ℤ (lo +ℤ down)) × (least ≤ℤ lo)
+step_low lo least a down h = (omega (arith, ints, clamps), omega (arith, ints, clamps))
+
+pub step_high : (hi most b up : ℤ) → hi ≡ int_min most (b +ℤ up) → (hi ≤ℤ (b +ℤ up)) × (hi ≤ℤ most)
+step_high hi most b up h = (omega (arith, ints, clamps), omega (arith, ints, clamps))
+
+pub step_output : (least lo hi most : ℤ) → IsOutput least → IsOutput most → least ≤ℤ lo → lo ≤ℤ hi → hi ≤ℤ most → IsOutput lo
+step_output least lo hi most a b p q r =
+    let x = a.at_least in
+    let y = b.at_most in
+    record { at_least = omega (arith, ints); at_most = omega (arith, ints) }

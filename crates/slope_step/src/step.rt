@@ -95,7 +95,6 @@ pub(crate) fn open(window: &Window<'_>, curve: &Curve, low: i64) -> Opening
 
 /// Writes the pieces of the function after a step. There is room for as many pieces as before, one
 /// for each block of the curve, and 3.
-#[tactic(none)]
 pub fn slope_step(
     pieces: &[Piece],
     start: Start,
