@@ -2,7 +2,6 @@
 ghost use Rattle.std.specs.Prelude.{◌≡◌, length, IfOk};
 ghost use Rattle.slope_list.specs.Kept.{AreKept};
 
-use slope_step::lowest::{Lowest, lowest_after};
 use slope_step::piece::{Piece, Start};
 use slope_step::read::{self, Spot};
 use slope_step::step::{Made, slope_step};
