@@ -82,8 +82,9 @@ impl Slopes {
         ensures count { count_of self.new ≤ count_of self.old + length curve.now.blocks.items + 3 }
         ensures room { room_of self.new ≡ room_of self.old }
     {
-        let Some(made) = self.made else {
-            return;
+        let made = match self.made {
+            Some(made) => made,
+            None => return,
         };
         let pieces = &self.pieces[..made.used];
         let stepped = slope_step(pieces, made.start, step, curve, &mut self.spare);
@@ -140,7 +141,10 @@ impl Slopes {
     pub fn is_empty(&self) -> bool
         ensures { IsTrue result ↔ IsEmpty (shown self.now) }
     {
-        self.made.is_none()
+        match self.made {
+            Some(_) => false,
+            None => true,
+        }
     }
 
     /// The least place of the least value before the last step, less the worth of its reserve.
