@@ -1,10 +1,9 @@
 -- What two lists of pieces keep (this project's profile).
 use Rattle.std.specs.Prelude.{◌≡◌, ℕ, ◌≤◌, List, length, Option, Some, None}
-use Rattle.std.specs.Option.{IfSome}
-use Rattle.shape_law.specs.Table.{IsWithinLimits}
+use Rattle.std.specs.Option.{ForSome}
 use Rattle.slope_step.specs.declared.piece.Piece.{Piece}
 use Rattle.slope_step.specs.declared.step.Made.{Made}
-use Rattle.slope_step.specs.Drawn.{table_after, ArePiecesAfter}
+use Rattle.slope_step.specs.Drawn.{ArePiecesAfter, AreWithinAfter}
 
 -- how many pieces a function has
 abbrev pub used_of : Option Made → ℕ
@@ -15,5 +14,5 @@ used_of (Some m) = m.used
 pub record AreKept (made : Option Made) (pieces spare : List Piece) : Type 0 where
   pub room : length spare ≡ length pieces
   pub used : used_of made ≤ length pieces
-  pub slopes : IfSome made (ArePiecesAfter pieces)
-  pub within : IsWithinLimits (table_after pieces made)
+  pub slopes : ForSome made (ArePiecesAfter pieces)
+  pub within : ForSome made (AreWithinAfter pieces)

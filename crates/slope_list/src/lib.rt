@@ -3,6 +3,5 @@
 
 mod slopes;
 
-pub use slope_step::lowest::Lowest;
 pub use slope_step::read::Spot;
 pub use slopes::Slopes;

@@ -2,7 +2,6 @@
 ghost use Rattle.std.specs.Prelude.{◌≡◌, length, IfOk};
 ghost use Rattle.slope_list.specs.Kept.{AreKept};
 
-use slope_step::lowest::{Lowest, lowest_after};
 use slope_step::piece::{Piece, Start};
 use slope_step::read::{self, Spot};
 use slope_step::step::{Made, slope_step};
@@ -83,8 +82,9 @@ impl Slopes {
         ensures count { count_of self.new ≤ count_of self.old + length curve.now.blocks.items + 3 }
         ensures room { room_of self.new ≡ room_of self.old }
     {
-        let Some(made) = self.made else {
-            return;
+        let made = match self.made {
+            Some(made) => made,
+            None => return,
         };
         let pieces = &self.pieces[..made.used];
         let stepped = slope_step(pieces, made.start, step, curve, &mut self.spare);
@@ -141,7 +141,10 @@ impl Slopes {
     pub fn is_empty(&self) -> bool
         ensures { IsTrue result ↔ IsEmpty (shown self.now) }
     {
-        self.made.is_none()
+        match self.made {
+            Some(_) => false,
+            None => true,
+        }
     }
 
     /// The least place of the least value before the last step, less the worth of its reserve.

@@ -5,25 +5,28 @@ use Rattle.std.specs.Int.{int_min, int_max}
 use Rattle.std.proofs.lemmas.Int.{ints, clamps}
 use Rattle.std.proofs.lemmas.List.{length-take-le}
 use Rattle.uc_model.specs.declared.units.Curve.{Curve}
+use Rattle.uc_model.specs.Limits.{IsOutput, IsCost}
 use Rattle.shape_law.specs.declared.step.Step.{Step}
 use Rattle.shape_law.specs.Curve.{curve_value, reserve_term}
 use Rattle.shape_law.specs.Steps.{IsFairStep, IsCostOf, IsStepped, IsSmall}
-use Rattle.shape_law.specs.Table.{Table, value_of, offset_value, IsConvex}
+use Rattle.shape_law.specs.Table.{Table, value_of, offset_value, IsConvex, IsPlace, IsAmount}
 use Rattle.shape_law.proofs.ConvexLaws.{IsConvex-line, IsConvex-window}
 use Rattle.shape_law.proofs.CurveLaws.{IsConvex-curve_sum}
 use Rattle.slope_step.specs.declared.piece.Piece.{Piece}
 use Rattle.slope_step.specs.declared.piece.Start.{Start}
 use Rattle.slope_step.specs.Pieces.{piece, end_at, last_place, function_of, table_on, table_of, AreSlopes, IsLine, Stand}
-use Rattle.slope_step.specs.Kink.{kinked, AreSmall, AreGentle, IsValley}
-use Rattle.slope_step.specs.Window.{moved}
+use Rattle.slope_step.specs.Kink.{kinked, AreSmall, AreWithin, AreGentle, IsValley}
+use Rattle.slope_step.specs.Window.{nearest, moved}
 use Rattle.slope_step.specs.Blocks.{HasCosts}
-use Rattle.slope_step.specs.Drawn.{paid, stepped}
+use Rattle.slope_step.specs.Drawn.{cost_at, paid, stepped}
 use Rattle.slope_step.specs.Turn.{IsTurn}
 use Rattle.slope_step.proofs.LineLaws.{line_step}
 use Rattle.slope_step.proofs.PieceLaws.{ends_rise_to, along_line, along_from_stand, last_place-take, stand-take}
-use Rattle.slope_step.proofs.FunctionLaws.{on_inside, by_place, on_same, IsConvex-from_curves, convex_steps, IsSum-on, IsCurveSum-on}
+use Rattle.slope_step.proofs.FunctionLaws.{on_inside, by_place, on_same, IsConvex-from_curves, convex_steps, IsSum-on, IsCurveSum-on, cost_at_is}
 use Rattle.slope_step.proofs.ValleyLaws.{IsLeast-valley, IsWindow-valley}
 use Rattle.slope_step.proofs.KinkLaws.{kinked_curves}
+use Rattle.slope_step.proofs.WindowLaws.{nearest_inside}
+use Rattle.slope_step.proofs.BoundLaws.{level_within}
 
 -- ---- pieces of a convex function are slopes
 
@@ -151,3 +154,51 @@ module _ (start : Start) (ps : List Piece) (s : Step) (c : Curve) (m lo hi : ℤ
         let e = last_place-take lo used out room ∙ ends in
         slopes_from_stand (stepped start ps s m c) lo (take used out) (stand-take (stepped start ps s m c) lo used out room drawn)
         (subst (λ (z : ℤ). IsConvex (table_on (stepped start ps s m c) lo z)) (sym e) stepped_convex)
+
+-- ---- the first and the last place
+
+pub step_low : (lo least a down : ℤ) → lo ≡ int_max least (a -ℤ down) → (a ≤ℤ (lo +ℤ down)) × (least ≤ℤ lo)
+step_low lo least a down h = (omega (arith, ints, clamps), omega (arith, ints, clamps))
+
+pub step_high : (hi most b up : ℤ) → hi ≡ int_min most (b +ℤ up) → (hi ≤ℤ (b +ℤ up)) × (hi ≤ℤ most)
+step_high hi most b up h = (omega (arith, ints, clamps), omega (arith, ints, clamps))
+
+pub step_output : (least lo hi most : ℤ) → IsOutput least → IsOutput most → least ≤ℤ lo → lo ≤ℤ hi → hi ≤ℤ most → IsOutput lo
+step_output least lo hi most a b p q r =
+    let x = a.at_least in
+    let y = b.at_most in
+    record { at_least = omega (arith, ints); at_most = omega (arith, ints) }
+
+-- ---- the values after a step
+
+module _ (start : Start) (ps : List Piece) (s : Step) (c : Curve) (m lo hi : ℤ) (slopes : AreSlopes start.first ps) (fair : IsFairStep s) (cost : IsCostOf s c) (small : AreSmall start ps)
+    (valley : IsValley (kinked start ps s) start.first (last_place start.first ps) m)
+    (lo_is : lo ≡ int_max s.least (start.first -ℤ s.ramp_down)) (hi_is : hi ≡ int_min s.most (last_place start.first ps +ℤ s.ramp_up)) where
+  pub stepped_within : (x : ℤ) → lo ≤ℤ x → x ≤ℤ hi → IsPlace x × IsAmount (stepped start ps s m c x)
+  stepped_within x low high =
+      let l = step_low lo s.least start.first s.ramp_down lo_is in
+      let h = step_high hi s.most (last_place start.first ps) s.ramp_up hi_is in
+      let l0 = l.0 in
+      let l1 = l.1 in
+      let h0 = h.0 in
+      let h1 = h.1 in
+      let out = step_output s.least x x s.most fair.least fair.most (omega (arith, ints)) (omega (arith, ints)) (omega (arith, ints)) in
+      let n = nearest_inside start.first (last_place start.first ps) m s.ramp_up s.ramp_down x valley.from valley.to (omega (arith, ints)) (omega (arith, ints)) fair.ramp_up.at_least fair.ramp_down.at_least in
+      let near = nearest s.ramp_up s.ramp_down m x in
+      let v = small near n.0 n.1 in
+      let k = cost.costs x (omega (arith, ints)) (omega (arith, ints)) in
+      let e = cost_at_is c x k.0 k.1 in
+      let w = level_within s fair (function_of start ps near) near x (cost_at c x) v.1 v.0 out (subst (λ (z : ℤ). IsCost z) (sym e) k.2) in
+      let a = w.at_least in
+      let b = w.at_most in
+      let p = out.at_least in
+      let q = out.at_most in
+      ((omega (arith, ints, p), omega (arith, ints, q)), (omega (arith, ints, a), omega (arith, ints, b)))
+
+  pub written_within : (level : ℤ) (out : List Piece) (used : ℕ) → used ≤ length out → Stand (stepped start ps s m c) lo out used → end_at lo out used ≡ hi → level ≡ stepped start ps s m c lo
+      → AreWithin (record { first = lo; level = level }) (take used out)
+  written_within level out used room drawn ends level_is x low high =
+      let e = last_place-take lo used out room ∙ ends in
+      let v = along_from_stand (stepped start ps s m c) lo level (take used out) (stand-take (stepped start ps s m c) lo used out room drawn) (sym level_is) x low high in
+      let w = stepped_within x low (omega (arith, ints)) in
+      (w.0, subst (λ (z : ℤ). IsAmount z) (sym v) w.1)

@@ -168,3 +168,20 @@ le_same x y h = omega (arith, ints)
 
 pub le_lt : (x y z : ℤ) → x ≤ℤ y → y <ℤ z → x ≤ℤ z
 le_lt x y z h l = omega (arith, ints)
+
+-- ---- where a step begins
+
+pub nearest_inside : (a b m up down x : ℤ) → a ≤ℤ m → m ≤ℤ b → a ≤ℤ (x +ℤ down) → x ≤ℤ (b +ℤ up) → pos 0 ≤ℤ up → pos 0 ≤ℤ down → (a ≤ℤ nearest up down m x) × (nearest up down m x ≤ℤ b)
+nearest_inside a b m up down x p q r s u d = (omega (arith, ints, clamps), omega (arith, ints, clamps))
+
+pub le_trans : (x y z : ℤ) → x ≤ℤ y → y ≤ℤ z → x ≤ℤ z
+le_trans x y z h l = omega (arith, ints)
+
+pub lt_le_trans : (x y z : ℤ) → x <ℤ y → y ≤ℤ z → x <ℤ z
+lt_le_trans x y z h l = omega (arith, ints)
+
+pub level_joined : (f term : ℤ → ℤ) (n n' v l k k' : ℤ) → v ≡ f n → n ≡ n' → k' ≡ k → ((v +ℤ term n) +ℤ l) +ℤ k ≡ ((f n' +ℤ term n') +ℤ l) +ℤ k'
+level_joined f term n n' v l k k' value near cost =
+    let a = ap f near in
+    let b = ap term near in
+    omega (arith, ints)

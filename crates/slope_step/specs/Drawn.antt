@@ -9,6 +9,7 @@ use Rattle.slope_step.specs.declared.piece.Start.{Start}
 use Rattle.slope_step.specs.declared.draw.Pen.{Pen}
 use Rattle.slope_step.specs.declared.step.Made.{Made}
 use Rattle.slope_step.specs.Pieces.{end_at, Stand, table_of, AreSlopes}
+use Rattle.slope_step.specs.Kink.{AreWithin}
 use Rattle.slope_step.specs.Window.{moved}
 
 -- what the curve costs at a place
@@ -40,3 +41,7 @@ table_after out (Some d) = table_of d.start (take d.used out)
 -- and its pieces
 abbrev pub ArePiecesAfter : List Piece → Made → Type 0
 ArePiecesAfter out d = AreSlopes d.start.first (take d.used out)
+
+-- within the limits
+abbrev pub AreWithinAfter : List Piece → Made → Type 0
+AreWithinAfter out d = AreWithin d.start (take d.used out)

@@ -8,7 +8,7 @@ ghost use Rattle.slope_step.specs.Pieces.{table_of, AreSlopes};
 ghost use Rattle.slope_step.specs.Kink.{IsPlaced};
 ghost use Rattle.slope_step.specs.Window.{nearest};
 ghost use Rattle.slope_step.specs.Blocks.{IsInBlock, HasCosts};
-ghost use Rattle.slope_step.specs.Drawn.{stepped, table_after, ArePiecesAfter};
+ghost use Rattle.slope_step.specs.Drawn.{stepped, table_after, ArePiecesAfter, AreWithinAfter};
 ghost use Rattle.slope_step.specs.Turn.{IsTurn};
 
 use crate::blocks::find;
@@ -109,6 +109,7 @@ pub fn slope_step(
     requires room { length pieces.now + length curve.now.blocks.items + 3 ≤ length out.old }
     ensures stepped { IsStepped step curve.now (table_of start pieces.now) (table_after out.new result.made) }
     ensures slopes { IfSome result.made (ArePiecesAfter out.new) }
+    ensures within { IfSome result.made (AreWithinAfter out.new) }
     ensures turn { IsTurn step (table_of start pieces.now) result.turn }
     ensures count { IfSome result.made (λ d. d.used ≤ length pieces.now + length curve.now.blocks.items + 3) }
 {

@@ -9,7 +9,8 @@ use Rattle.slope_step.proofs.read.least_in.Goals as goal
 
 pub returns-then-low-high : goal.returns-then-low-high
 returns-then-low-high c =
-    let last = c.last_place.ensures in
+    let ff : FitsSigned w64 c.args.start.first = search rules in
+    let last : c.last_place.result ≡ last_place c.args.start.first c.args.pieces.now = rw (to_z-of_z w64 c.args.start.first ff) at c.last_place.ensures in
     HasNone-on (function_of c.args.start c.args.pieces.now) c.args.start.first (last_place c.args.start.first c.args.pieces.now) c.args.lo c.args.hi (omega (arith, ints, clamps))
 
 pub spot_at-requires-clause-from : goal.spot_at-requires-clause-from
@@ -17,7 +18,8 @@ spot_at-requires-clause-from c =
     let v = c.bottom.ensures in
     let from = v.from in
     let to = v.to in
-    let last = c.last_place.ensures in
+    let ff : FitsSigned w64 c.args.start.first = search rules in
+    let last : c.last_place.result ≡ last_place c.args.start.first c.args.pieces.now = rw (to_z-of_z w64 c.args.start.first ff) at c.last_place.ensures in
     omega (arith, ints, clamps)
 
 pub spot_at-requires-clause-to : goal.spot_at-requires-clause-to
@@ -25,7 +27,8 @@ spot_at-requires-clause-to c =
     let v = c.bottom.ensures in
     let from = v.from in
     let to = v.to in
-    let last = c.last_place.ensures in
+    let ff : FitsSigned w64 c.args.start.first = search rules in
+    let last : c.last_place.result ≡ last_place c.args.start.first c.args.pieces.now = rw (to_z-of_z w64 c.args.start.first ff) at c.last_place.ensures in
     omega (arith, ints, clamps)
 
 pub spot_at-requires-clause-within : goal.spot_at-requires-clause-within
@@ -35,7 +38,8 @@ pub returns : goal.returns
 returns c =
     let f = function_of c.args.start c.args.pieces.now in
     let v = c.bottom.ensures in
-    let last = c.last_place.ensures in
+    let ff : FitsSigned w64 c.args.start.first = search rules in
+    let last : c.last_place.result ≡ last_place c.args.start.first c.args.pieces.now = rw (to_z-of_z w64 c.args.start.first ff) at c.last_place.ensures in
     let g : FitsSigned w64 c.max-at.result = search rules in
     let e = to_z-of_z w64 c.max-at.result g in
     let low : c.max-low.result ≡ int_max c.args.lo c.args.start.first = omega (arith, ints, clamps) in
