@@ -37,9 +37,9 @@ module _ {R : Type 0} (function : R → Table) where
   on_some None x is = cc
   on_some (Some r) x is = elim (r.is_on) as (λ b. r.is_on ≡ b → cond b (Some (record { before = r.before; cost = r.cost; function = function r.running })) None ≡ Some x →
       (s : Runner R) × (Some r ≡ Some s) × (s.is_on ≡ true) × (x ≡ record { before = s.before; cost = s.cost; function = function s.running })) [
-    | true ↦ λ on is. (r, refl, on, (cc))
-    | false ↦ λ off is. cc
-  ] refl is
+        | true ↦ λ on is. (r, refl, on, (cc))
+        | false ↦ λ off is. cc
+      ] refl is
 
   pub going_on : (r : Runner R) → r.is_on ≡ true → going_of function (Some r) ≡ Some (record { before = r.before; cost = r.cost; function = function r.running })
   going_on r on = ap (λ (b : Bool). cond b (Some (record { before = r.before; cost = r.cost; function = function r.running })) None) on

@@ -82,20 +82,20 @@ module _ (g : ThermalUnit) (π : PriceLists) (ends : ℕ → Option ℤ) (t : �
             let z : suc t ≡ f = omega (arith, most, low) in
             subst (λ (f : ℕ). IsEntry g ends f e' → HasStandIn g π live t f e' d) z
             (λ entry. (
-              let bound = least.least e' entry in
-              let begun = (now.right other r on).0 in
-              let nothing : spell_cost g π (suc t) t d ≡ pos 0 = sum_from_to-none (net_cost g π d) t in
-              record {
-                other = other;
-                going = r;
-                value = v;
-                on = on;
-                there = ap (value_of r.function) (level_start g d t) ∙ there;
-                cheap = omega (arith, ints, cheap, bound, nothing);
-                later = inr (omega (arith, ints, cheap, bound, nothing));
-                long = λ l above up. (let longer = longer_on g other (suc t) l (omega (arith, begun)) (omega (arith, above)) in omega (arith, longer, up));
-                begun = inl (omega (arith, begun));
-              })) entry
+            let bound = least.least e' entry in
+            let begun = (now.right other r on).0 in
+            let nothing : spell_cost g π (suc t) t d ≡ pos 0 = sum_from_to-none (net_cost g π d) t in
+            record {
+              other = other;
+              going = r;
+              value = v;
+              on = on;
+              there = ap (value_of r.function) (level_start g d t) ∙ there;
+              cheap = omega (arith, ints, cheap, bound, nothing);
+              later = inr (omega (arith, ints, cheap, bound, nothing));
+              long = λ l above up. (let longer = longer_on g other (suc t) l (omega (arith, begun)) (omega (arith, above)) in omega (arith, longer, up));
+              begun = inl (omega (arith, begun));
+            })) entry
       ];
     }
 
@@ -127,20 +127,20 @@ module _ (g : ThermalUnit) (π : PriceLists) (ends : ℕ → Option ℤ) (t : �
             let z : suc t ≡ f = omega (arith, most, low) in
             subst (λ (f : ℕ). IsEntry g ends f e' → HasStandIn g π live' t f e' d) z
             (λ entry. (
-              let bound = runner.entry.least e' entry in
-              let v = runner.frontier.complete d (λ k from until. absurd (omega (arith, from, until))) in
-              let high = v.2 in
-              record {
-                other = suc t;
-                going = r;
-                value = v.0;
-                on = begins;
-                there = v.1;
-                cheap = omega (arith, ints, high, bound);
-                later = inl (omega arith);
-                long = λ l above up. up;
-                begun = inr refl;
-              })) entry
+            let bound = runner.entry.least e' entry in
+            let v = runner.frontier.complete d (λ k from until. absurd (omega (arith, from, until))) in
+            let high = v.2 in
+            record {
+              other = suc t;
+              going = r;
+              value = v.0;
+              on = begins;
+              there = v.1;
+              cheap = omega (arith, ints, high, bound);
+              later = inl (omega arith);
+              long = λ l above up. up;
+              begun = inr refl;
+            })) entry
       ];
     }
 
@@ -245,11 +245,11 @@ module _ (g : ThermalUnit) (π : PriceLists) (ends : ℕ → Option ℤ) (t : �
           | inl begun ↦
               let r = value_more f e d s.other s.going ((s.going.cost +ℤ s.value) +ℤ net_cost g π d (suc t)) s.on run (goes s.other s.going s.on)
               (λ h front. (
-                let j = go g π f s.other t s.going.function d s.value (omega (arith, low)) begun within (now.right s.other s.going s.on).1.frontier s.there run in
-                let w = front.complete j.run j.keeps in
-                let high = w.2 in
-                let cost = j.cost in
-                (w.0, ap (value_of h) (sym j.ends) ∙ w.1, omega (arith, ints, high, cost)))) in
+              let j = go g π f s.other t s.going.function d s.value (omega (arith, low)) begun within (now.right s.other s.going s.on).1.frontier s.there run in
+              let w = front.complete j.run j.keeps in
+              let high = w.2 in
+              let cost = j.cost in
+              (w.0, ap (value_of h) (sym j.ends) ∙ w.1, omega (arith, ints, high, cost)))) in
               let under = r.4 in
               record {
                 other = s.other;
@@ -269,9 +269,9 @@ module _ (g : ThermalUnit) (π : PriceLists) (ends : ℕ → Option ℤ) (t : �
               let bound = (now.right s.other s.going s.on).1.entry.least e (subst (λ (f : ℕ). IsEntry g ends f e) (sym same) entry) in
               let r = value_more f e d s.other s.going (e +ℤ spell_cost g π f (suc t) d) s.on run (goes s.other s.going s.on)
               (λ h front. (
-                let w = (subst (λ (f : ℕ). IsFrontier g π f (suc t) h) same front).complete d run in
-                let high = w.2 in
-                (w.0, w.1, omega (arith, ints, high, bound)))) in
+              let w = (subst (λ (f : ℕ). IsFrontier g π f (suc t) h) same front).complete d run in
+              let high = w.2 in
+              (w.0, w.1, omega (arith, ints, high, bound)))) in
               record {
                 other = s.other;
                 going = r.0;

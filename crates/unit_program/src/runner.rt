@@ -102,12 +102,7 @@ fn undercuts<R: Running>(runner: &Runner<R>, power: i64, cost: i64) -> bool
 }
 
 // Whether the runner that begins with a period is on, and undercuts a cost at a power.
-fn undercuts_from<R: Running>(
-    runners: &[Runner<R>],
-    first: u32,
-    power: i64,
-    cost: i64,
-) -> bool
+fn undercuts_from<R: Running>(runners: &[Runner<R>], first: u32, power: i64, cost: i64) -> bool
     requires room { first < length runners.now }
     requires small { AreSmall (live_at R.function runners.now) }
     ensures { OnTrue result ((r : Going) × (live_at R.function runners.now first ≡ Some r) × IsUnder power cost r) }
@@ -308,7 +303,13 @@ fn difference(a: i64, b: i64) -> i64
 }
 
 // Whether a later runner may stop in each period after the next as an earlier one may, and is nowhere above it.
-fn goes<R: Running>(unit: &Unit, period: u32, first: u32, late: &Runner<R>, early: &Runner<R>) -> bool
+fn goes<R: Running>(
+    unit: &Unit,
+    period: u32,
+    first: u32,
+    late: &Runner<R>,
+    early: &Runner<R>,
+) -> bool
     requires small { period ≤ 168 }
     requires order { first ≤ period }
     requires late { IsWithinTimes 400 late.now.cost }
@@ -317,7 +318,9 @@ fn goes<R: Running>(unit: &Unit, period: u32, first: u32, late: &Runner<R>, earl
     ensures below { OnTrue result (IsBelow (R.function late.now.running) late.now.cost (R.function early.now.running) early.now.cost) }
 {
     is_long_enough(unit, first, period + 1)
-        && late.running.is_below(&early.running, difference(late.cost, early.cost))
+        && late
+            .running
+            .is_below(&early.running, difference(late.cost, early.cost))
 }
 
 // Stops a runner where a later one stands for it, and answers the earliest one that is on then.
@@ -346,7 +349,13 @@ fn prune_one<R: Running>(
         return late;
     }
     if let Some(first) = late {
-        if goes(unit, period, first, &runners[first as usize], &runners[early as usize]) {
+        if goes(
+            unit,
+            period,
+            first,
+            &runners[first as usize],
+            &runners[early as usize],
+        ) {
             stop(&mut runners[early as usize]);
             return Some(first);
         }

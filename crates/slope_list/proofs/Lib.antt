@@ -1,0 +1,2 @@
+-- what is seen of pieces, and of none
+pub mod ShownLaws

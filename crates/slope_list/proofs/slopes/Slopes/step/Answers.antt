@@ -1,0 +1,34 @@
+use Rattle.std.proofs.Common.{◌≡◌, None, take, sym, ap, ◌∙◌, subst, rules}
+use Rattle.std.specs.Prelude.{ℤ, FitsSigned}
+use Rattle.std.specs.Int.{w64}
+use Rattle.std.proofs.lemmas.Int.{to_z-of_z}
+use Rattle.shape_law.specs.Steps.{IsStepped, IsSmall}
+use Rattle.shape_law.specs.Table.{Table}
+use Rattle.slope_step.specs.Pieces.{table_of}
+use Rattle.slope_step.specs.Drawn.{table_after}
+use Rattle.slope_step.specs.Turn.{IsTurn}
+use Rattle.slope_list.proofs.ShownLaws.{stepped_nothing, none_of}
+use Rattle.slope_list.proofs.slopes.Slopes.step.Goals as goal
+
+pub returns-in-None-clause-stepped : goal.returns-in-None-clause-stepped
+returns-in-None-clause-stepped c =
+    let self = c.args.self.now in
+    let e = ap (table_after self.pieces.items) c.in-None.is in
+    subst (λ (t : Table). IsStepped c.args.step c.args.curve.now t t) (sym e) (stepped_nothing c.args.step c.args.curve.now)
+
+pub slope_step-stepped-requires-clause-small : goal.slope_step-stepped-requires-clause-small
+slope_step-stepped-requires-clause-small c =
+    let self = c.args.self.now in
+    let made = c.in-Some.made in
+    let e = ap (table_after self.pieces.items) c.in-Some.is in
+    rw (c.deref.ensures.value) (subst (λ (t : Table). IsSmall t) e c.requires.small)
+
+pub returns-clause-turn : goal.returns-clause-turn
+returns-clause-turn c = λ y w h.
+    let self = c.args.self.now in
+    let made = c.in-Some.made in
+    let e = ap (table_after self.pieces.items) c.in-Some.is in
+    let f : FitsSigned w64 c.slope_step-stepped.result.turn = search rules in
+    let t : IsTurn c.args.step (table_of made.start (take made.used self.pieces.items)) c.slope_step-stepped.result.turn = rw (c.deref.ensures.value) at c.slope_step-stepped.ensures.turn in
+    subst (λ (z : ℤ). IsTurn c.args.step (table_after self.pieces.items self.made) z) (sym (to_z-of_z w64 c.slope_step-stepped.result.turn f))
+    (subst (λ (k : Table). IsTurn c.args.step k c.slope_step-stepped.result.turn) (sym e) t)

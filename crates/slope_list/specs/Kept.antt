@@ -1,0 +1,18 @@
+-- What two lists of pieces keep (this project's profile).
+use Rattle.std.specs.Prelude.{◌≡◌, ℕ, ◌≤◌, List, length, Option, Some, None}
+use Rattle.std.specs.Option.{ForSome}
+use Rattle.slope_step.specs.declared.piece.Piece.{Piece}
+use Rattle.slope_step.specs.declared.step.Made.{Made}
+use Rattle.slope_step.specs.Drawn.{ArePiecesAfter, AreWithinAfter}
+
+-- how many pieces a function has
+abbrev pub used_of : Option Made → ℕ
+used_of None = 0
+used_of (Some m) = m.used
+
+-- the first list has the pieces of the function, within the limits; the other has as much room
+pub record AreKept (made : Option Made) (pieces spare : List Piece) : Type 0 where
+  pub room : length spare ≡ length pieces
+  pub used : used_of made ≤ length pieces
+  pub slopes : ForSome made (ArePiecesAfter pieces)
+  pub within : ForSome made (AreWithinAfter pieces)

@@ -1,0 +1,7 @@
+//! A convex function as pieces of one slope, kept in room that is taken once.
+#![tactic(auto)]
+
+mod slopes;
+
+pub use slope_step::read::Spot;
+pub use slopes::Slopes;

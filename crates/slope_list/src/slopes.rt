@@ -1,0 +1,156 @@
+//! The function, and room for the next one.
+ghost use Rattle.std.specs.Prelude.{◌≡◌, length, IfOk};
+ghost use Rattle.slope_list.specs.Kept.{AreKept};
+
+use slope_step::piece::{Piece, Start};
+use slope_step::read::{self, Spot};
+use slope_step::step::{Made, slope_step};
+use shape_law::step::Step;
+use std::alloc::{AllocError, Global};
+use std::mem;
+use uc_model::units::Curve;
+
+/// A convex function on a whole interval, which may be empty, as pieces of one slope. Its room is
+/// taken once: no call but `make` takes memory or fails.
+#[derive(Drop)]
+pub struct Slopes {
+    made: Option<Made>,
+    turn: i64,
+    pieces: Vec<Piece>,
+    spare: Vec<Piece>,
+    ghost valid: { AreKept made pieces.items spare.items },
+}
+
+/// A list with room for so many pieces.
+fn sheet(alloc: Global, room: usize) -> Result<Vec<Piece>, AllocError>
+    ensures { IfOk result (λ v. length v.items ≡ room) }
+{
+    let mut pieces = Vec::new(alloc);
+    pieces.resize(room, Piece { end: 0, slope: 0 })?;
+    Ok(pieces)
+}
+
+impl Slopes {
+    ghost use Rattle.std.specs.Prelude.{◌≡◌, ℕ, ℤ, ◌+◌, ◌≤◌, pos, neg_ℤ, ◌+ℤ◌, ◌≤ℤ◌, ◌↔◌, IsTrue, length, IfOk, Some, MatchOption};
+    ghost use Rattle.std.specs.Bool.{OnTrue};
+    ghost use Rattle.uc_model.specs.Limits.{IsFrom};
+    ghost use Rattle.shape_law.specs.Effect.{IsPoint, IsLeast, IsLeastIn};
+    ghost use Rattle.shape_law.specs.Steps.{IsFairStep, IsCostOf, IsStepped, IsSmall};
+    ghost use Rattle.shape_law.specs.Table.{Table, value_of, IsPlace, IsAmount, IsEmpty, HasNone};
+    ghost use Rattle.slope_step.specs.Turn.{IsTurn, IsFirst, IsLast};
+    ghost use Rattle.slope_list.specs.Slopes.{shown, room_of, count_of, turn_of};
+
+    /// A function with no place, and room for so many pieces.
+    pub fn make(alloc: Global, room: usize) -> Result<Slopes, AllocError>
+        ensures empty { IfOk result (λ s. IsEmpty (shown s)) }
+        ensures count { IfOk result (λ s. count_of s ≡ 0) }
+        ensures room { IfOk result (λ s. room_of s ≡ room) }
+    {
+        let pieces = sheet(alloc, room)?;
+        let spare = sheet(alloc, room)?;
+        Ok(Slopes {
+            made: None,
+            turn: 0,
+            pieces,
+            spare,
+        })
+    }
+
+    /// Begins anew at one place.
+    pub fn restart(&mut self, at: i64, value: i64)
+        requires place { IsPlace at }
+        requires amount { IsAmount value }
+        ensures point { IsPoint at value (shown self.new) }
+        ensures count { count_of self.new ≡ 0 }
+        ensures room { room_of self.new ≡ room_of self.old }
+    {
+        let start = Start {
+            first: at,
+            level: value,
+        };
+        self.made = Some(Made { start, used: 0 });
+    }
+
+    /// Takes a step.
+    pub fn step(&mut self, step: Step, curve: &Curve)
+        requires step { IsFairStep step }
+        requires curve { IsCostOf step curve.now }
+        requires small { IsSmall (shown self.old) }
+        requires room { count_of self.old + length curve.now.blocks.items + 3 ≤ room_of self.old }
+        ensures stepped { IsStepped step curve.now (shown self.old) (shown self.new) }
+        ensures turn { (y w : ℤ) → value_of (shown self.old) y ≡ Some w → IsTurn step (shown self.old) (turn_of self.new) }
+        ensures count { count_of self.new ≤ count_of self.old + length curve.now.blocks.items + 3 }
+        ensures room { room_of self.new ≡ room_of self.old }
+    {
+        let made = match self.made {
+            Some(made) => made,
+            None => return,
+        };
+        let pieces = &self.pieces[..made.used];
+        let stepped = slope_step(pieces, made.start, step, curve, &mut self.spare);
+        self.made = stepped.made;
+        self.turn = stepped.turn;
+        mem::swap(&mut self.pieces, &mut self.spare);
+    }
+
+    /// The least value and its least place, or None on an empty interval.
+    pub fn least(&self) -> Option<Spot>
+        ensures { MatchOption result (IsEmpty (shown self.now)) (λ r. IsLeast (shown self.now) r.value r.at) }
+    {
+        match self.made {
+            Some(made) => Some(read::least(&self.pieces[..made.used], made.start)),
+            None => None,
+        }
+    }
+
+    /// The least value at the places from `lo` to `hi` and its least place, or None where none of
+    /// them is in the interval.
+    pub fn least_in(&self, lo: i64, hi: i64) -> Option<Spot>
+        ensures { MatchOption result (HasNone lo hi (shown self.now)) (λ r. IsLeastIn lo hi (shown self.now) r.value r.at) }
+    {
+        match self.made {
+            Some(made) => read::least_in(&self.pieces[..made.used], made.start, lo, hi),
+            None => None,
+        }
+    }
+
+    /// The first place and the value there, or None on an empty interval.
+    pub fn first(&self) -> Option<Spot>
+        ensures { MatchOption result (IsEmpty (shown self.now)) (λ r. IsFirst (shown self.now) r.at r.value) }
+    {
+        match self.made {
+            Some(made) => Some(Spot {
+                at: made.start.first,
+                value: made.start.level,
+            }),
+            None => None,
+        }
+    }
+
+    /// The last place, or None on an empty interval.
+    pub fn last(&self) -> Option<i64>
+        ensures { MatchOption result (IsEmpty (shown self.now)) (IsLast (shown self.now)) }
+    {
+        match self.made {
+            Some(made) => Some(read::last_place(&self.pieces[..made.used], made.start.first)),
+            None => None,
+        }
+    }
+
+    /// Whether the interval is empty.
+    pub fn is_empty(&self) -> bool
+        ensures { IsTrue result ↔ IsEmpty (shown self.now) }
+    {
+        match self.made {
+            Some(_) => false,
+            None => true,
+        }
+    }
+
+    /// The least place of the least value before the last step, less the worth of its reserve.
+    pub fn turn(&self) -> i64
+        ensures { result ≡ turn_of self.now }
+    {
+        self.turn
+    }
+}

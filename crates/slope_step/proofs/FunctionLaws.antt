@@ -1,0 +1,133 @@
+-- A function at the places from a to b as a table, and back.
+use Rattle.std.proofs.Common.{◌≡◌, ℕ, zero, suc, ◌<◌, ◌≤◌, Option, Some, None, refl, sym, ap, ◌∙◌, subst, arith}
+use Rattle.std.specs.Prelude.{ℤ, pos, negsuc, ◌+ℤ◌, ◌-ℤ◌, ◌≤ℤ◌, ◌<ℤ◌, slice_get, MatchOption}
+use Rattle.std.specs.Option.{option_map}
+use Rattle.std.proofs.lemmas.Int.{ints, by_lt_z}
+use Rattle.shape_law.specs.Table.{Table, value_of, offset_value, IsConvex}
+use Rattle.shape_law.specs.Effect.{IsSum, IsCurveSum}
+use Rattle.shape_law.specs.Curve.{curve_value}
+use Rattle.shape_law.proofs.ConvexLaws.{convex_at, IsConvex-from_places}
+use Rattle.uc_model.specs.declared.units.Curve.{Curve}
+use Rattle.slope_step.specs.Blocks.{HasCosts}
+use Rattle.slope_step.specs.Drawn.{cost_at, with_cost}
+use Rattle.slope_step.specs.Pieces.{values_from, places_to, table_on, Curves}
+
+get_values : (f : ℤ → ℤ) (x : ℤ) (n k : ℕ) → k < n → slice_get (values_from f x n) k ≡ Some (f (x +ℤ pos k))
+get_values f x zero k h = absurd (omega arith)
+get_values f x (suc n) zero h = ap (λ (z : ℤ). Some (f z)) (omega (arith, ints))
+get_values f x (suc n) (suc k) h = get_values f (x +ℤ pos 1) n k (omega arith) ∙ ap (λ (z : ℤ). Some (f z)) (omega (arith, ints))
+
+past_values : (f : ℤ → ℤ) (x : ℤ) (n k : ℕ) → n ≤ k → slice_get (values_from f x n) k ≡ None
+past_values f x zero k h = refl
+past_values f x (suc n) zero h = absurd (omega arith)
+past_values f x (suc n) (suc k) h = past_values f (x +ℤ pos 1) n k (omega arith)
+
+inside_by : (f : ℤ → ℤ) (a b x d e : ℤ) → a ≤ℤ x → x ≤ℤ b → x -ℤ a ≡ d → b -ℤ a ≡ e → offset_value (values_from f a (places_to e)) d ≡ Some (f x)
+inside_by f a b x (pos k) (pos m) low high p q = get_values f a (suc m) k (omega (arith, ints)) ∙ ap (λ (z : ℤ). Some (f z)) (omega (arith, ints))
+inside_by f a b x (pos k) (negsuc m) low high p q = absurd (omega (arith, ints))
+inside_by f a b x (negsuc k) e low high p q = absurd (omega (arith, ints))
+
+below_by : (f : ℤ → ℤ) (a x d : ℤ) (n : ℕ) → x <ℤ a → x -ℤ a ≡ d → offset_value (values_from f a n) d ≡ None
+below_by f a x (pos k) n h p = absurd (omega (arith, ints))
+below_by f a x (negsuc k) n h p = refl
+
+above_by : (f : ℤ → ℤ) (a b x d e : ℤ) → b <ℤ x → x -ℤ a ≡ d → b -ℤ a ≡ e → offset_value (values_from f a (places_to e)) d ≡ None
+above_by f a b x (pos k) (pos m) h p q = past_values f a (suc m) k (omega (arith, ints))
+above_by f a b x (pos k) (negsuc m) h p q = refl
+above_by f a b x (negsuc k) e h p q = refl
+
+pub on_inside : (f : ℤ → ℤ) (a b x : ℤ) → a ≤ℤ x → x ≤ℤ b → value_of (table_on f a b) x ≡ Some (f x)
+on_inside f a b x low high = inside_by f a b x (x -ℤ a) (b -ℤ a) low high refl refl
+
+pub on_below : (f : ℤ → ℤ) (a b x : ℤ) → x <ℤ a → value_of (table_on f a b) x ≡ None
+on_below f a b x h = below_by f a x (x -ℤ a) (places_to (b -ℤ a)) h refl
+
+pub on_above : (f : ℤ → ℤ) (a b x : ℤ) → b <ℤ x → value_of (table_on f a b) x ≡ None
+on_above f a b x h = above_by f a b x (x -ℤ a) (b -ℤ a) h refl refl
+
+-- a place is inside, or every function on these places has no value there
+pub by_place : {P : Type 0} (a b x : ℤ) → (a ≤ℤ x → x ≤ℤ b → P) → (((g : ℤ → ℤ) → value_of (table_on g a b) x ≡ None) → P) → P
+by_place a b x inside outside =
+    by_lt_z x a
+    (λ (l : x <ℤ a). outside (λ g. on_below g a b x l))
+    (λ (l : a ≤ℤ x).
+    by_lt_z b x
+    (λ (h : b <ℤ x). outside (λ g. on_above g a b x h))
+    (λ (h : x ≤ℤ b). inside l h))
+
+pub record IsOn (f : ℤ → ℤ) (a b x v : ℤ) : Type 0 where
+  pub from : a ≤ℤ x
+  pub to : x ≤ℤ b
+  pub value : v ≡ f x
+
+same_some : {u v : ℤ} → (o : Option ℤ) → o ≡ Some u → o ≡ Some v → v ≡ u
+same_some o p q = cc
+
+not_some : {P : Type 0} {v : ℤ} → (o : Option ℤ) → o ≡ None → o ≡ Some v → P
+not_some o p q = cc
+
+pub on_back : (f : ℤ → ℤ) (a b x v : ℤ) → value_of (table_on f a b) x ≡ Some v → IsOn f a b x v
+on_back f a b x v h = by_place a b x
+    (λ (low : a ≤ℤ x) (high : x ≤ℤ b). record { from = low; to = high; value = same_some (value_of (table_on f a b) x) (on_inside f a b x low high) h })
+    (λ none. not_some (value_of (table_on f a b) x) (none f) h)
+
+-- equal functions have equal tables
+pub on_same : (f g : ℤ → ℤ) (a b : ℤ) → ((x : ℤ) → a ≤ℤ x → x ≤ℤ b → g x ≡ f x) → (x : ℤ) → value_of (table_on g a b) x ≡ value_of (table_on f a b) x
+on_same f g a b same x = by_place a b x
+    (λ (low : a ≤ℤ x) (high : x ≤ℤ b). on_inside g a b x low high ∙ ap Some (same x low high) ∙ sym (on_inside f a b x low high))
+    (λ none. none g ∙ sym (none f))
+
+-- ---- convexity
+
+pub IsConvex-from_curves : (f : ℤ → ℤ) (a b : ℤ) → Curves f a b → IsConvex (table_on f a b)
+IsConvex-from_curves f a b c = IsConvex-from_places (table_on f a b) (λ x u v w p q r.
+    let d = on_back f a b x u p in
+    let e = on_back f a b (x +ℤ pos 1) v q in
+    let g = on_back f a b (x +ℤ pos 2) w r in
+    let low = d.from in
+    let high = g.to in
+    let i = d.value in
+    let j = e.value in
+    let k = g.value in
+    let h = c x (x +ℤ pos 1) low (omega (arith, ints)) (omega (arith, ints)) in
+    let s : f ((x +ℤ pos 1) +ℤ pos 1) ≡ f (x +ℤ pos 2) = ap f (omega (arith, ints)) in
+    omega (arith, ints))
+
+pub convex_steps : (f : ℤ → ℤ) (a b x : ℤ) → IsConvex (table_on f a b) → a ≤ℤ x → (x +ℤ pos 2) ≤ℤ b → (f (x +ℤ pos 1) +ℤ f (x +ℤ pos 1)) ≤ℤ (f x +ℤ f (x +ℤ pos 2))
+convex_steps f a b x c low high =
+    convex_at (table_on f a b) c x (f x) (f (x +ℤ pos 1)) (f (x +ℤ pos 2))
+    (on_inside f a b x low (omega (arith, ints)))
+    (on_inside f a b (x +ℤ pos 1) (omega (arith, ints)) (omega (arith, ints)))
+    (on_inside f a b (x +ℤ pos 2) (omega (arith, ints)) high)
+
+-- ---- what is added
+
+mapped_some : (t : ℤ) (o : Option ℤ) (v : ℤ) → o ≡ Some v → option_map (λ (u : ℤ). u +ℤ t) o ≡ Some (v +ℤ t)
+mapped_some t o v h = ap (option_map (λ (u : ℤ). u +ℤ t)) h
+
+mapped_none : (t : ℤ) (o : Option ℤ) → o ≡ None → option_map (λ (u : ℤ). u +ℤ t) o ≡ None
+mapped_none t o h = ap (option_map (λ (u : ℤ). u +ℤ t)) h
+
+pub IsSum-on : (term f : ℤ → ℤ) (a b : ℤ) → IsSum term (table_on f a b) (table_on (λ x. f x +ℤ term x) a b)
+IsSum-on term f a b x = by_place a b x
+    (λ (low : a ≤ℤ x) (high : x ≤ℤ b).
+    on_inside (λ z. f z +ℤ term z) a b x low high ∙ sym (mapped_some (term x) (value_of (table_on f a b) x) (f x) (on_inside f a b x low high)))
+    (λ none. none (λ z. f z +ℤ term z) ∙ sym (mapped_none (term x) (value_of (table_on f a b) x) (none f)))
+
+at_some : (P : Type 0) (Q : ℤ → Type 0) (o : Option ℤ) (v : ℤ) → o ≡ Some v → Q v → MatchOption o P Q
+at_some P Q o v h q = subst (λ (z : Option ℤ). MatchOption z P Q) (sym h) q
+
+at_none : (P : Type 0) (Q : ℤ → Type 0) (o : Option ℤ) → o ≡ None → P → MatchOption o P Q
+at_none P Q o h p = subst (λ (z : Option ℤ). MatchOption z P Q) (sym h) p
+
+pub cost_at_is : (c : Curve) (x v : ℤ) → curve_value c x ≡ Some v → cost_at c x ≡ v
+cost_at_is c x v h = rw h
+
+pub IsCurveSum-on : (c : Curve) (f : ℤ → ℤ) (a b : ℤ) → HasCosts c a b → IsCurveSum (curve_value c) (pos 0) (table_on f a b) (table_on (with_cost f c) a b)
+IsCurveSum-on c f a b costs x = by_place a b x
+    (λ (low : a ≤ℤ x) (high : x ≤ℤ b).
+    let k = costs x low high in
+    let e = cost_at_is c x k.0 k.1 in
+    at_some _ _ (value_of (table_on f a b) x) (f x) (on_inside f a b x low high)
+    (k.0, ap (curve_value c) (omega (arith, ints)) ∙ k.1, on_inside (with_cost f c) a b x low high ∙ ap (λ (z : ℤ). Some (f x +ℤ z)) e))
+    (λ none. at_none _ _ (value_of (table_on f a b) x) (none f) (none (with_cost f c)))

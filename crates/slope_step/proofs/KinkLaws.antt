@@ -1,0 +1,295 @@
+-- The function less the worth of the reserve, part by part.
+use Rattle.std.proofs.Common.{◌≡◌, ℕ, suc, ◌+◌, ◌-◌, ◌<◌, ◌≤◌, List, length, refl, sym, ap, ◌∙◌, subst, inl, inr, arith, neg_ℤ}
+use Rattle.std.specs.Prelude.{ℤ, pos, ◌+ℤ◌, ◌-ℤ◌, ◌*ℤ◌, ◌≤ℤ◌, ◌<ℤ◌, int_lt, if◌then◌else◌, ◌⊎◌}
+use Rattle.std.specs.Int.{int_min}
+use Rattle.std.proofs.lemmas.Int.{ints, clamps, by_lt_z}
+use Rattle.std.proofs.lemmas.Bool.{cases_lt}
+use Rattle.std.proofs.Math.IntN.{zero-*ℤ, *ℤ_comm}
+use Rattle.uc_model.proofs.IntLaws.{mul-add, mul-sub, mul-mono_of}
+use Rattle.shape_law.specs.declared.step.Step.{Step}
+use Rattle.shape_law.specs.Steps.{IsFairStep}
+use Rattle.shape_law.specs.Curve.{reserve_term}
+use Rattle.slope_step.specs.declared.piece.Piece.{Piece}
+use Rattle.slope_step.specs.declared.piece.Start.{Start}
+use Rattle.slope_step.specs.declared.kink.Place.{Place}
+use Rattle.slope_step.specs.Pieces.{piece, end_at, last_place, function_of, AreSlopes, IsLine, Curves}
+use Rattle.slope_step.specs.Kink.{kinked, bend_of, IsLowered, IsPlaced, AreSmall, AreWithin, IsGentle, AreGentle, IsSteep, IsValley, parts_from}
+use Rattle.slope_step.specs.Totals.{CanGo}
+use Rattle.uc_model.specs.Limits.{IsOutput}
+use Rattle.slope_step.proofs.LineLaws.{lt_is, not_lt_is, times_split, line_step, line_part}
+use Rattle.slope_step.proofs.PieceLaws.{ends_rise_to, along_line, along_curves}
+
+-- ---- the term
+
+sub-mul : (a b c : ℤ) → (a -ℤ b) *ℤ c ≡ a *ℤ c -ℤ b *ℤ c
+sub-mul a b c = omega (arith, ints, *ℤ_comm (a -ℤ b) c, mul-sub c a b, *ℤ_comm c a, *ℤ_comm c b)
+
+-- a line and a term that is the same along it
+line_level : (f term : ℤ → ℤ) (a b s : ℤ) → IsLine f a b s → ((x : ℤ) → a ≤ℤ x → x ≤ℤ b → term x ≡ term a) → IsLine (λ x. f x +ℤ term x) a b s
+line_level f term a b s l same = record {
+  rise = l.rise;
+  line = λ x from to. let p = l.line x from to in let q = same x from to in omega (arith, ints);
+}
+
+module _ (mu cap up : ℤ) where
+  term_above : (x a : ℤ) → (cap -ℤ up) ≤ℤ a → a ≤ℤ x → reserve_term mu cap up x ≡ reserve_term mu cap up a
+  term_above x a h l = ap (λ (z : ℤ). neg_ℤ (mu *ℤ z)) {x = int_min cap (up +ℤ x)} {y = int_min cap (up +ℤ a)} (omega (arith, ints, clamps))
+
+  term_free : (x a : ℤ) → mu ≡ pos 0 → reserve_term mu cap up x ≡ reserve_term mu cap up a
+  term_free x a h =
+      let p = ap (λ (z : ℤ). z *ℤ int_min cap (up +ℤ x)) h ∙ zero-*ℤ (int_min cap (up +ℤ x)) in
+      let q = ap (λ (z : ℤ). z *ℤ int_min cap (up +ℤ a)) h ∙ zero-*ℤ (int_min cap (up +ℤ a)) in
+      ap neg_ℤ (p ∙ sym q)
+
+  -- up to the bend the term is a line with slope -mu
+  term_below : (x a : ℤ) → a ≤ℤ x → x ≤ℤ (cap -ℤ up) → reserve_term mu cap up x ≡ reserve_term mu cap up a -ℤ mu *ℤ (x -ℤ a)
+  term_below x a h l =
+      let m = int_min cap (up +ℤ x) in
+      let n = int_min cap (up +ℤ a) in
+      let e = times_split mu n (x -ℤ a) m (omega (arith, ints, clamps)) in
+      omega (arith, ints)
+
+  line_below : (f : ℤ → ℤ) (a b s : ℤ) → IsLine f a b s → b ≤ℤ (cap -ℤ up) → IsLine (λ x. f x +ℤ reserve_term mu cap up x) a b (s -ℤ mu)
+  line_below f a b s l h = record {
+    rise = l.rise;
+    line = λ x from to.
+        let p = l.line x from to in
+        let q = term_below x a from (omega (arith, ints)) in
+        let e = sub-mul s mu (x -ℤ a) in
+        omega (arith, ints);
+  }
+
+  term_curves : pos 0 ≤ℤ mu → (f : ℤ → ℤ) (a b : ℤ) → Curves f a b → Curves (λ x. f x +ℤ reserve_term mu cap up x) a b
+  term_curves h f a b c x y low order high =
+      let m0 = int_min cap (up +ℤ x) in
+      let m1 = int_min cap (up +ℤ (x +ℤ pos 1)) in
+      let n0 = int_min cap (up +ℤ y) in
+      let n1 = int_min cap (up +ℤ (y +ℤ pos 1)) in
+      let concave : (m0 +ℤ n1) ≤ℤ (m1 +ℤ n0) = omega (arith, ints, clamps) in
+      let e0 = mul-add mu m0 n1 in
+      let e1 = mul-add mu m1 n0 in
+      let l = mul-mono_of mu (m0 +ℤ n1) (m1 +ℤ n0) h concave in
+      let g = c x y low order high in
+      omega (arith, ints)
+
+pub kinked_curves : (start : Start) (ps : List Piece) (s : Step) → IsFairStep s → AreSlopes start.first ps → Curves (kinked start ps s) start.first (last_place start.first ps)
+kinked_curves start ps s fair slopes = term_curves s.reserve_price s.cap s.ramp_up fair.reserve_price.at_least (function_of start ps) start.first (last_place start.first ps) (along_curves start.first start.level ps slopes)
+
+-- ---- the part from a place on
+
+-- what is left of a piece is lower, or as it was
+pub record IsLeft (s : Step) (at : ℤ) (p q : Piece) : Type 0 where
+  pub rise : at <ℤ q.end
+  pub within : q.end ≤ℤ p.end
+  pub bent : q.end <ℤ p.end → (at <ℤ bend_of s) × (q.end ≡ bend_of s)
+  pub line : (f : ℤ → ℤ) → IsLine f at q.end p.slope → IsLine (λ x. f x +ℤ reserve_term s.reserve_price s.cap s.ramp_up x) at q.end q.slope
+
+module _ (s : Step) (fair : IsFairStep s) (at : ℤ) (p q : Piece) (to : at <ℤ p.end) (l : IsLowered s at p q) where
+  left_below : pos 0 <ℤ s.reserve_price → at <ℤ bend_of s → IsLeft s at p q
+  left_below paid below =
+      let r = l.below paid below in
+      let end = r.0 in
+      let slope = r.1 in
+      record {
+        rise = omega (arith, ints, clamps);
+        within = omega (arith, ints, clamps);
+        bent = λ h. (below, omega (arith, ints, clamps));
+        line = λ f line. subst (λ (z : ℤ). IsLine (λ x. f x +ℤ reserve_term s.reserve_price s.cap s.ramp_up x) at q.end z) (sym slope)
+            (line_below s.reserve_price s.cap s.ramp_up f at q.end p.slope line (omega (arith, ints, clamps)));
+      }
+
+  left_same : (q.end ≡ p.end) → (q.slope ≡ p.slope) → ((x : ℤ) → at ≤ℤ x → reserve_term s.reserve_price s.cap s.ramp_up x ≡ reserve_term s.reserve_price s.cap s.ramp_up at) → IsLeft s at p q
+  left_same end slope same = record {
+    rise = omega (arith, ints);
+    within = omega (arith, ints);
+    bent = λ h. absurd (omega (arith, ints));
+    line = λ f line. subst (λ (z : ℤ). IsLine (λ x. f x +ℤ reserve_term s.reserve_price s.cap s.ramp_up x) at q.end z) (sym slope)
+        (line_level f (reserve_term s.reserve_price s.cap s.ramp_up) at q.end p.slope line (λ x from to. same x from));
+  }
+
+  pub left : IsLeft s at p q
+  left = by_lt_z (pos 0) s.reserve_price
+      (λ (paid : pos 0 <ℤ s.reserve_price). by_lt_z at (bend_of s)
+      (λ (below : at <ℤ bend_of s). left_below paid below)
+      (λ (above : bend_of s ≤ℤ at). let r = l.above above in left_same r.0 r.1 (λ x from. term_above s.reserve_price s.cap s.ramp_up x at above from)))
+      (λ (free : s.reserve_price ≤ℤ pos 0).
+      let r = l.free free in
+      let low = fair.reserve_price.at_least in
+      left_same r.0 r.1 (λ x from. term_free s.reserve_price s.cap s.ramp_up x at (omega (arith, ints))))
+
+  pub left_steep : IsGentle p.slope → IsSteep q.slope
+  left_steep g =
+      let a = g.at_least in
+      let b = g.at_most in
+      let c = fair.reserve_price.at_least in
+      let d = fair.reserve_price.at_most in
+      by_lt_z (pos 0) s.reserve_price
+      (λ (paid : pos 0 <ℤ s.reserve_price). by_lt_z at (bend_of s)
+      (λ (below : at <ℤ bend_of s). let e = (l.below paid below).1 in record { at_least = omega (arith, ints); at_most = omega (arith, ints) })
+      (λ (above : bend_of s ≤ℤ at). let e = (l.above above).1 in record { at_least = omega (arith, ints); at_most = omega (arith, ints) }))
+      (λ (free : s.reserve_price ≤ℤ pos 0). let e = (l.free free).1 in record { at_least = omega (arith, ints); at_most = omega (arith, ints) })
+
+-- its line
+pub part_line : (ps : List Piece) (s : Step) (place : Place) (q : Piece) → place.next < length ps → IsLeft s place.at (piece ps place.next) q
+    → (start : Start) → AreSlopes start.first ps → IsPlaced start.first ps place → IsLine (kinked start ps s) place.at q.end q.slope
+part_line ps s place q next l start slopes placed =
+    let k = place.next in
+    let whole = along_line start.first start.level ps slopes k next in
+    l.line (function_of start ps) (line_part (function_of start ps) (end_at start.first ps k) (end_at start.first ps (suc k)) (piece ps k).slope place.at q.end whole placed.from l.rise l.within)
+
+module _ (ps : List Piece) (s : Step) (place place' : Place) (q : Piece) (next : place.next < length ps)
+    (l : IsLeft s place.at (piece ps place.next) q) (at : place'.at ≡ q.end)
+    (within : q.end <ℤ (piece ps place.next).end → place'.next ≡ place.next) (past : (piece ps place.next).end ≤ℤ q.end → place'.next ≡ suc place.next) where
+  pub part_placed : (first : ℤ) → AreSlopes first ps → IsPlaced first ps place → IsPlaced first ps place'
+  part_placed first slopes placed =
+      let rise = l.rise in
+      let in_piece = l.within in
+      by_lt_z q.end (piece ps place.next).end
+      (λ (h : q.end <ℤ (piece ps place.next).end).
+      let e = within h in
+      let from = placed.from in
+      let start : end_at first ps place'.next ≡ end_at first ps place.next = ap (end_at first ps) e in
+      let stop : end_at first ps (suc place'.next) ≡ end_at first ps (suc place.next) = ap (λ (k : ℕ). end_at first ps (suc k)) e in
+      record { some = omega arith; from = omega (arith, ints); to = λ i. omega (arith, ints); last = λ i. absurd (omega arith) })
+      (λ (h : (piece ps place.next).end ≤ℤ q.end).
+      let e = past h in
+      let start : end_at first ps place'.next ≡ end_at first ps (suc place.next) = ap (end_at first ps) {x = place'.next} {y = suc place.next} e in
+      record {
+        some = omega arith;
+        from = omega (arith, ints);
+        to = λ i.
+            let r = slopes.rise (suc place.next) (omega arith) in
+            let stop : end_at first ps (suc place'.next) ≡ end_at first ps (suc (suc place.next)) = ap (λ (k : ℕ). end_at first ps (suc k)) {x = place'.next} {y = suc place.next} e in
+            omega (arith, ints);
+        last = λ i. let f : last_place first ps ≡ end_at first ps place'.next = ap (end_at first ps) {x = length ps} {y = place'.next} (omega arith) in omega (arith, ints);
+      })
+
+  pub part_fewer : parts_from ps s place' + 1 ≤ parts_from ps s place
+  part_fewer =
+      let rise = l.rise in
+      let in_piece = l.within in
+      by_lt_z q.end (piece ps place.next).end
+      (λ (h : q.end <ℤ (piece ps place.next).end).
+      let e = within h in
+      let b = l.bent h in
+      let was = lt_is place.at (bend_of s) b.0 in
+      let is = not_lt_is place'.at (bend_of s) (let f = b.1 in omega (arith, ints)) in
+      rw (was, is) (omega arith))
+      (λ (h : (piece ps place.next).end ≤ℤ q.end).
+      let e = past h in
+      by_lt_z place'.at (bend_of s)
+      (λ (g : place'.at <ℤ bend_of s).
+      let is = lt_is place'.at (bend_of s) g in
+      let was = lt_is place.at (bend_of s) (omega (arith, ints)) in
+      rw (was, is) (omega arith))
+      (λ (g : bend_of s ≤ℤ place'.at).
+      let is = not_lt_is place'.at (bend_of s) g in
+      rw is (omega arith)))
+
+-- ---- the valley
+
+-- a place is in the interval
+pub placed_within : (first : ℤ) (ps : List Piece) (place : Place) → AreSlopes first ps → IsPlaced first ps place → (first ≤ℤ place.at) × (place.at ≤ℤ last_place first ps)
+placed_within first ps place slopes placed =
+    let some = placed.some in
+    let from = placed.from in
+    let low = ends_rise_to first ps slopes 0 place.next (omega arith) some in
+    elim (cases_lt place.next (length ps)) [
+      | inl inside ↦
+          let to = placed.to inside in
+          let high = ends_rise_to first ps slopes (suc place.next) (length ps) (omega arith) (omega arith) in
+          (omega (arith, ints), omega (arith, ints))
+      | inr past ↦
+          let e = placed.last (omega arith) in
+          (omega (arith, ints), omega (arith, ints))
+    ]
+
+-- before the last place a piece goes on
+pub placed_inside : (first : ℤ) (ps : List Piece) (place : Place) → IsPlaced first ps place → place.at <ℤ last_place first ps → place.next < length ps
+placed_inside first ps place placed h = elim (cases_lt place.next (length ps)) [
+  | inl inside ↦ inside
+  | inr past ↦ absurd (let some = placed.some in let e = placed.last (omega arith) in omega (arith, ints))
+]
+
+module _ (start : Start) (ps : List Piece) (s : Step) (fair : IsFairStep s) (slopes : AreSlopes start.first ps) (place : Place) (placed : IsPlaced start.first ps place)
+    (falls : (x : ℤ) → start.first ≤ℤ x → x <ℤ place.at → kinked start ps s (x +ℤ pos 1) <ℤ kinked start ps s x) where
+  pub valley_here : (e slope : ℤ) → IsLine (kinked start ps s) place.at e slope → e ≤ℤ last_place start.first ps → pos 0 ≤ℤ slope → IsValley (kinked start ps s) start.first (last_place start.first ps) place.at
+  valley_here e slope line end up =
+      let w = placed_within start.first ps place slopes placed in
+      let rise = line.rise in
+      record {
+        from = w.0;
+        to = w.1;
+        falls = falls;
+        rises = λ x low high.
+            let c = kinked_curves start ps s fair slopes place.at x w.0 low high in
+            let l = line_step (kinked start ps s) place.at e slope place.at line (omega (arith, ints)) rise in
+            omega (arith, ints);
+      }
+
+  pub valley_end : length ps ≤ place.next → IsValley (kinked start ps s) start.first (last_place start.first ps) place.at
+  valley_end past =
+      let w = placed_within start.first ps place slopes placed in
+      let some = placed.some in
+      let e = placed.last (omega arith) in
+      record { from = w.0; to = w.1; falls = falls; rises = λ x low high. absurd (omega (arith, ints)) }
+
+  pub falls_on : (e slope : ℤ) → IsLine (kinked start ps s) place.at e slope → slope <ℤ pos 0 → (x : ℤ) → start.first ≤ℤ x → x <ℤ e → kinked start ps s (x +ℤ pos 1) <ℤ kinked start ps s x
+  falls_on e slope line down x low high = by_lt_z x place.at
+      (λ (l : x <ℤ place.at). falls x low l)
+      (λ (l : place.at ≤ℤ x). let h = line_step (kinked start ps s) place.at e slope x line l high in omega (arith, ints))
+
+-- ---- levels along the pieces
+
+pub within_from_small : (start : Start) (ps : List Piece) → AreSmall start ps → AreWithin start ps
+within_from_small start ps small x low high =
+    let a = small x low high in
+    let p = a.0.at_least in
+    let q = a.0.at_most in
+    let r = a.1.at_least in
+    let t = a.1.at_most in
+    ((omega (arith, ints), omega (arith, ints)), (omega (arith, ints), omega (arith, ints)))
+
+module _ (start : Start) (ps : List Piece) (slopes : AreSlopes start.first ps) (within : AreWithin start ps) (k : ℕ) (inside : k < length ps) (x : ℤ) (low : end_at start.first ps k ≤ℤ x) (high : x ≤ℤ (piece ps k).end) where
+  pub level_along : function_of start ps x ≡ function_of start ps (end_at start.first ps k) +ℤ (piece ps k).slope *ℤ (x -ℤ end_at start.first ps k)
+  level_along = (along_line start.first start.level ps slopes k inside).line x low high
+
+  pub level_from : (level from : ℤ) → from ≡ end_at start.first ps k → level ≡ function_of start ps from → function_of start ps x ≡ level +ℤ (piece ps k).slope *ℤ (x -ℤ from)
+  level_from level from from_is level_is =
+      let e = level_along in
+      let d : (piece ps k).slope *ℤ (x -ℤ from) ≡ (piece ps k).slope *ℤ (x -ℤ end_at start.first ps k) = ap (λ (z : ℤ). (piece ps k).slope *ℤ (x -ℤ z)) from_is in
+      let g : function_of start ps from ≡ function_of start ps (end_at start.first ps k) = ap (function_of start ps) from_is in
+      omega (arith, ints)
+
+  pub can_go : (level from : ℤ) → from ≡ end_at start.first ps k → level ≡ function_of start ps from → CanGo level (piece ps k).slope from x
+  can_go level from from_is level_is =
+      let r = ends_rise_to start.first ps slopes 0 k (omega arith) (omega arith) in
+      let t = ends_rise_to start.first ps slopes (suc k) (length ps) inside (omega arith) in
+      let a = within from (omega (arith, ints)) (omega (arith, ints)) in
+      let b = within x (omega (arith, ints)) (omega (arith, ints)) in
+      let e = level_from level from from_is level_is in
+      let va = a.1.0 in
+      let va' = a.1.1 in
+      let vb = b.1.0 in
+      let vb' = b.1.1 in
+      record {
+        from_place = a.0;
+        to_place = b.0;
+        product = record { at_least = omega (arith, ints); at_most = omega (arith, ints) };
+        sum = record { at_least = omega (arith, ints); at_most = omega (arith, ints) };
+      }
+
+-- where a part ends
+pub record IsEnd (first last e : ℤ) : Type 0 where
+  pub from : first ≤ℤ e
+  pub to : e ≤ℤ last
+  pub out : IsOutput e
+
+pub end_within : (start : Start) (ps : List Piece) → AreSlopes start.first ps → AreSmall start ps → (place : Place) → IsPlaced start.first ps place → (e : ℤ) → place.at ≡ e → IsEnd start.first (last_place start.first ps) e
+end_within start ps slopes small place placed e is =
+    let w = placed_within start.first ps place slopes placed in
+    let o = small place.at w.0 w.1 in
+    subst (λ (z : ℤ). IsEnd start.first (last_place start.first ps) z) is (record { from = w.0; to = w.1; out = o.0 })
+
+pub end_of_valley : (start : Start) (ps : List Piece) → AreSmall start ps → (s : Step) (m : ℤ) → IsValley (kinked start ps s) start.first (last_place start.first ps) m → IsOutput m
+end_of_valley start ps small s m v = (small m v.from v.to).0

@@ -1,0 +1,93 @@
+-- What is read off pieces.
+use Rattle.std.proofs.Common.{◌≡◌, ℕ, suc, ◌-◌, ◌<◌, ◌≤◌, List, length, refl, sym, ap, ◌∙◌, inl, inr, arith, Some}
+use Rattle.std.specs.Prelude.{ℤ, pos, ◌+ℤ◌, ◌≤ℤ◌, ◌<ℤ◌}
+use Rattle.std.specs.Int.{int_min, int_max}
+use Rattle.std.proofs.lemmas.Int.{ints, clamps, by_lt_z}
+use Rattle.std.proofs.lemmas.Bool.{cases_lt}
+use Rattle.shape_law.specs.Effect.{IsLeast, IsLeastIn}
+use Rattle.shape_law.specs.Table.{HasNone}
+use Rattle.slope_step.specs.declared.piece.Piece.{Piece}
+use Rattle.slope_step.specs.declared.piece.Start.{Start}
+use Rattle.slope_step.specs.Pieces.{piece, end_at, last_place, function_of, table_on, table_of, AreSlopes}
+use Rattle.slope_step.specs.Kink.{IsValley}
+use Rattle.slope_step.proofs.LineLaws.{line_step}
+use Rattle.slope_step.proofs.PieceLaws.{ends_rise_to, slopes_rise, along_line, held}
+use Rattle.slope_step.proofs.FunctionLaws.{on_inside, on_back, by_place}
+use Rattle.slope_step.proofs.ValleyLaws.{falls_to, rises_to, valley_least}
+
+-- where the slopes before an end are below 0, and the one after it isn't
+pub valley_at : (start : Start) (ps : List Piece) → AreSlopes start.first ps → (k : ℕ) → k ≤ length ps → ((j : ℕ) → j < k → (piece ps j).slope <ℤ pos 0) → (k < length ps → pos 0 ≤ℤ (piece ps k).slope)
+    → IsValley (function_of start ps) start.first (last_place start.first ps) (end_at start.first ps k)
+valley_at start ps slopes k inside falls rises =
+    let f = function_of start ps in
+    let e = end_at start.first ps in
+    let low = ends_rise_to start.first ps slopes 0 k (omega arith) inside in
+    let high = ends_rise_to start.first ps slopes k (length ps) inside (omega arith) in
+    record {
+      from = low;
+      to = high;
+      falls = λ x from to.
+          let h = held start.first ps x from (omega (arith, ints)) in
+          let j = h.index in
+          let l = line_step f (e j) (e (suc j)) (piece ps j).slope x (along_line start.first start.level ps slopes j h.inside) h.from h.to in
+          let hf = h.from in
+          let below : j < k = elim (cases_lt j k) [
+            | inl p ↦ p
+            | inr p ↦ absurd (let r = ends_rise_to start.first ps slopes k j p (let i = h.inside in omega arith) in omega (arith, ints))
+          ] in
+          let d = falls j below in
+          omega (arith, ints);
+      rises = λ x from to.
+          let h = held start.first ps x (omega (arith, ints)) to in
+          let j = h.index in
+          let l = line_step f (e j) (e (suc j)) (piece ps j).slope x (along_line start.first start.level ps slopes j h.inside) h.from h.to in
+          let ht = h.to in
+          let i = h.inside in
+          let above : k ≤ j = elim (cases_lt j k) [
+            | inl p ↦ absurd (let r = ends_rise_to start.first ps slopes (suc j) k (omega arith) inside in omega (arith, ints))
+            | inr p ↦ p
+          ] in
+          let d = rises (omega arith) in
+          let up = slopes_rise start.first ps slopes (j - k) k j (omega arith) i in
+          omega (arith, ints);
+    }
+
+-- the least value of some places is at the one nearest to the least place
+module _ (f : ℤ → ℤ) (a b m : ℤ) (v : IsValley f a b m) (lo hi low high at : ℤ) (low_is : low ≡ int_max lo a) (high_is : high ≡ int_min hi b) (some : low ≤ℤ high) (at_is : at ≡ int_max low (int_min high m)) where
+  pub at_inside : (a ≤ℤ at) × (at ≤ℤ b) × (lo ≤ℤ at) × (at ≤ℤ hi)
+  at_inside = let p = v.from in let q = v.to in (omega (arith, ints, clamps), omega (arith, ints, clamps), omega (arith, ints, clamps), omega (arith, ints, clamps))
+
+  least_at : (y : ℤ) → a ≤ℤ y → y ≤ℤ b → lo ≤ℤ y → y ≤ℤ hi → f at ≤ℤ f y
+  least_at y from to l h =
+      let i = at_inside in
+      let ia = i.0 in
+      let ib = i.1 in
+      by_lt_z at m
+      (λ (below : at <ℤ m). falls_to f a b m v y at from (omega (arith, ints, clamps)) (omega (arith, ints)))
+      (λ (above : m ≤ℤ at). by_lt_z m at
+      (λ (past : m <ℤ at). rises_to f a b m v at y above (omega (arith, ints, clamps)) to)
+      (λ (here : at ≤ℤ m). let e : f at ≡ f m = ap f (omega (arith, ints)) in let g = valley_least f a b m v y from to in omega (arith, ints)))
+
+  first_at : (y : ℤ) → a ≤ℤ y → y ≤ℤ b → lo ≤ℤ y → f y ≡ f at → at ≤ℤ y
+  first_at y from to l e =
+      by_lt_z y at
+      (λ (before : y <ℤ at).
+      let below : at ≤ℤ m = omega (arith, ints, clamps) in
+      let d = v.falls y from (omega (arith, ints)) in
+      let g = falls_to f a b m v (y +ℤ pos 1) at (omega (arith, ints)) (omega (arith, ints)) below in
+      absurd (omega (arith, ints)))
+      (λ (h : at ≤ℤ y). h)
+
+  pub IsLeastIn-valley : (value : ℤ) → value ≡ f at → IsLeastIn lo hi (table_on f a b) value at
+  IsLeastIn-valley value is =
+      let i = at_inside in
+      record {
+        inside = (i.2, i.3);
+        there = on_inside f a b at i.0 i.1 ∙ sym (ap (λ (z : ℤ). Some z) is);
+        least = λ y w h l r. let o = on_back f a b y w h in let e = o.value in let g = least_at y o.from o.to l r in omega (arith, ints);
+        first = λ y h l r. let o = on_back f a b y value h in first_at y o.from o.to l (sym o.value ∙ is);
+      }
+
+-- no place is asked for
+pub HasNone-on : (f : ℤ → ℤ) (a b lo hi : ℤ) → int_min hi b <ℤ int_max lo a → HasNone lo hi (table_on f a b)
+HasNone-on f a b lo hi h x low high = by_place a b x (λ (l : a ≤ℤ x) (r : x ≤ℤ b). absurd (omega (arith, ints, clamps))) (λ none. none f)

@@ -1,0 +1,48 @@
+use Rattle.std.proofs.Common.{◌≡◌, suc, arith, to_z, of_z}
+use Rattle.std.specs.Prelude.{◌≤ℤ◌, ◌<ℤ◌}
+use Rattle.std.specs.Int.{w64}
+use Rattle.std.specs.Prelude.{FitsSigned}
+use Rattle.std.proofs.Common.{rules}
+use Rattle.std.proofs.lemmas.Int.{ints, to_z-of_z}
+use Rattle.slope_step.specs.Pieces.{piece}
+use Rattle.slope_step.proofs.KinkLaws.{IsLeft, left, left_steep, part_line, part_placed, part_fewer}
+use Rattle.slope_step.proofs.kink.part_at.Goals as goal
+use Rattle.slope_step.proofs.kink.part_at.Goals.{then-piece-whole, else-piece-whole}
+
+pub returns-clause-line : goal.returns-clause-line
+returns-clause-line c = λ start slopes placed.
+    let q = c.lowered-piece.result in
+    let ps = c.args.pieces.now in
+    let fe : FitsSigned w64 q.end = search rules in
+    let fs : FitsSigned w64 q.slope = search rules in
+    let l = left c.args.step c.requires.fair c.args.place.at (piece ps c.args.place.next) q c.requires.to c.lowered-piece.ensures in
+    rw (to_z-of_z w64 q.end fe, to_z-of_z w64 q.slope fs) (part_line ps c.args.step c.args.place q c.requires.next l start slopes placed)
+
+pub returns-clause-placed : goal.returns-clause-placed
+returns-clause-placed c = λ first slopes placed.
+    let q = c.lowered-piece.result in
+    let ps = c.args.pieces.now in
+    let fe : FitsSigned w64 q.end = search rules in
+    let l = left c.args.step c.requires.fair c.args.place.at (piece ps c.args.place.next) q c.requires.to c.lowered-piece.ensures in
+    part_placed ps c.args.step c.args.place (record { at = to_z w64 (of_z w64 q.end); next = c.if-piece-whole.next }) q c.requires.next l (to_z-of_z w64 q.end fe)
+    (λ h. elim c.if-piece-whole.branch [ then-piece-whole w ↦ omega arith | else-piece-whole w ↦ absurd (omega (arith, ints)) ])
+    (λ h. elim c.if-piece-whole.branch [ then-piece-whole w ↦ absurd (omega (arith, ints)) | else-piece-whole w ↦ omega arith ])
+    first slopes placed
+
+pub returns-clause-fewer : goal.returns-clause-fewer
+returns-clause-fewer c =
+    let q = c.lowered-piece.result in
+    let ps = c.args.pieces.now in
+    let fe : FitsSigned w64 q.end = search rules in
+    let l = left c.args.step c.requires.fair c.args.place.at (piece ps c.args.place.next) q c.requires.to c.lowered-piece.ensures in
+    part_fewer ps c.args.step c.args.place (record { at = to_z w64 (of_z w64 q.end); next = c.if-piece-whole.next }) q c.requires.next l (to_z-of_z w64 q.end fe)
+    (λ h. elim c.if-piece-whole.branch [ then-piece-whole w ↦ omega arith | else-piece-whole w ↦ absurd (omega (arith, ints)) ])
+    (λ h. elim c.if-piece-whole.branch [ then-piece-whole w ↦ absurd (omega (arith, ints)) | else-piece-whole w ↦ omega arith ])
+
+pub returns-clause-steep : goal.returns-clause-steep
+returns-clause-steep c =
+    let q = c.lowered-piece.result in
+    let ps = c.args.pieces.now in
+    let fs : FitsSigned w64 q.slope = search rules in
+    let s = left_steep c.args.step c.requires.fair c.args.place.at (piece ps c.args.place.next) q c.requires.to c.lowered-piece.ensures (c.requires.gentle c.args.place.next c.requires.next) in
+    rw (to_z-of_z w64 q.slope fs) s

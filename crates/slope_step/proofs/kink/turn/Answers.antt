@@ -1,0 +1,56 @@
+use Rattle.std.proofs.Common.{◌≡◌, ap, arith, rules}
+use Rattle.std.specs.Prelude.{FitsSigned, ◌<ℤ◌}
+use Rattle.std.specs.Int.{w64}
+use Rattle.std.proofs.lemmas.Int.{ints, to_z-of_z}
+use Rattle.slope_step.specs.Pieces.{end_at}
+use Rattle.slope_step.proofs.KinkLaws.{placed_within, valley_here, valley_end, falls_on}
+use Rattle.slope_step.proofs.kink.turn.Goals as goal
+
+pub loop-place-init : goal.loop-place-init
+loop-place-init c =
+    let f : FitsSigned w64 c.args.start.first = search rules in
+    let slopes = c.requires.slopes in
+    rw (to_z-of_z w64 c.args.start.first f)
+    (record {
+      placed = record {
+        some = omega arith;
+        from = omega (arith, ints);
+        to = λ h. slopes.rise 0 h;
+        last = λ h. ap (end_at c.args.start.first c.args.pieces.now) h;
+      };
+      falls = λ x low high. absurd (omega (arith, ints));
+    })
+
+pub part_at-part-requires-clause-to : goal.part_at-part-requires-clause-to
+part_at-part-requires-clause-to c = c.loop-place.invariant.placed.to (omega arith)
+
+pub loop-place-preserved : goal.loop-place-preserved
+loop-place-preserved c =
+    let was = c.loop-place.invariant in
+    let e = c.part_at-part.ensures.then in
+    let line = c.part_at-part.ensures.line c.args.start c.requires.slopes was.placed in
+    record {
+      placed = c.part_at-part.ensures.placed c.args.start.first c.requires.slopes was.placed;
+      falls = λ x low high.
+          falls_on c.args.start c.args.pieces.now c.args.step c.requires.fair c.requires.slopes c.loop-place.place was.placed was.falls
+          c.part_at-part.result.end c.part_at-part.result.slope line (omega (arith, ints)) x low (omega (arith, ints));
+    }
+
+pub returns-then-part-ge0 : goal.returns-then-part-ge0
+returns-then-part-ge0 c =
+    let was = c.loop-place.invariant in
+    let e = c.part_at-part.ensures.then in
+    let line = c.part_at-part.ensures.line c.args.start c.requires.slopes was.placed in
+    let next = c.part_at-part.ensures.placed c.args.start.first c.requires.slopes was.placed in
+    let within = (placed_within c.args.start.first c.args.pieces.now c.part_at-part.result.then c.requires.slopes next).1 in
+    let f : FitsSigned w64 c.loop-place.place.at = search rules in
+    rw (to_z-of_z w64 c.loop-place.place.at f)
+    (valley_here c.args.start c.args.pieces.now c.args.step c.requires.fair c.requires.slopes c.loop-place.place was.placed was.falls
+    c.part_at-part.result.end c.part_at-part.result.slope line (omega (arith, ints)) (omega (arith, ints)))
+
+pub returns : goal.returns
+returns c =
+    let was = c.loop-place.invariant in
+    let f : FitsSigned w64 c.loop-place.place.at = search rules in
+    rw (to_z-of_z w64 c.loop-place.place.at f)
+    (valley_end c.args.start c.args.pieces.now c.args.step c.requires.fair c.requires.slopes c.loop-place.place was.placed was.falls (omega arith))

@@ -1,0 +1,36 @@
+use Rattle.std.proofs.Common.{◌≡◌, ℕ, suc, ◌+◌, ◌<◌, length, sym, ap, ◌∙◌, subst, below_more, arith, rules, to_z, of_z}
+use Rattle.std.specs.Prelude.{ℤ, FitsSigned}
+use Rattle.std.specs.Int.{w64}
+use Rattle.std.proofs.lemmas.Int.{ints, to_z-of_z}
+use Rattle.slope_step.specs.Pieces.{piece, end_at, last_place, function_of}
+use Rattle.slope_step.specs.Kink.{IsValley}
+use Rattle.slope_step.proofs.ReadLaws.{valley_at}
+use Rattle.slope_step.proofs.read.bottom.Goals as goal
+
+pub loop-piece-init : goal.loop-piece-init
+loop-piece-init c =
+    let f : FitsSigned w64 c.args.start.first = search rules in
+    record { at_is = to_z-of_z w64 c.args.start.first f; falls = λ k h. absurd (omega arith) }
+
+pub returns-then-piece-ge0 : goal.returns-then-piece-ge0
+returns-then-piece-ge0 c =
+    let was = c.loop-piece.invariant in
+    subst (λ (z : ℤ). IsValley (function_of c.args.start c.args.pieces.now) c.args.start.first (last_place c.args.start.first c.args.pieces.now) z) (sym was.at_is)
+    (valley_at c.args.start c.args.pieces.now c.requires.slopes c.loop-piece.piece-index (omega arith) was.falls (λ h. omega (arith, ints)))
+
+pub loop-piece-preserved : goal.loop-piece-preserved
+loop-piece-preserved c =
+    let was = c.loop-piece.invariant in
+    let k = c.loop-piece.piece-index in
+    let end = (piece c.args.pieces.now k).end in
+    let f : FitsSigned w64 end = search rules in
+    record {
+      at_is = to_z-of_z w64 end f ∙ sym (ap (end_at c.args.start.first c.args.pieces.now) {x = k + 1} {y = suc k} (omega arith));
+      falls = below_more _ _ was.falls (omega (arith, ints));
+    }
+
+pub returns : goal.returns
+returns c =
+    let was = c.loop-piece.invariant in
+    subst (λ (z : ℤ). IsValley (function_of c.args.start c.args.pieces.now) c.args.start.first (last_place c.args.start.first c.args.pieces.now) z) (sym was.at_is)
+    (valley_at c.args.start c.args.pieces.now c.requires.slopes c.loop-piece.piece-index (omega arith) was.falls (λ h. absurd (omega arith)))

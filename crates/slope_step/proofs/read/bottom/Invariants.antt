@@ -1,0 +1,10 @@
+use Rattle.std.proofs.Common.{◌≡◌, ℕ, ◌<◌}
+use Rattle.std.specs.Prelude.{pos, ◌<ℤ◌}
+use Rattle.slope_step.specs.Pieces.{piece, end_at}
+use Rattle.slope_step.proofs.read.bottom.Given as goal
+
+abbrev pub invariant-loop-piece : goal.invariant-loop-piece
+invariant-loop-piece l = record {
+  at_is : l.at ≡ end_at l.fn.start.first l.pieces l.piece-index;
+  falls : (k : ℕ) → k < l.piece-index → (piece l.pieces k).slope <ℤ pos 0;
+}

@@ -1,0 +1,30 @@
+-- One function below another one (this project's profile).
+use Rattle.std.specs.Prelude.{ℕ, ◌≤◌, ◌+◌, ◌<◌, ℤ, ◌+ℤ◌, ◌≤ℤ◌, ◌≡◌, suc, pos, neg_ℤ, List, length}
+use Rattle.uc_model.specs.Limits.{IsFrom}
+use Rattle.slope_step.specs.declared.piece.Piece.{Piece}
+use Rattle.slope_step.specs.declared.piece.Start.{Start}
+use Rattle.slope_step.specs.declared.kink.Place.{Place}
+use Rattle.slope_step.specs.declared.kink.Reached.{Reached}
+use Rattle.slope_step.specs.Pieces.{end_at, last_place, function_of}
+use Rattle.slope_step.specs.Kink.{IsPlaced}
+
+-- the first function is wherever the other one is, and with the shift it is nowhere above it there
+abbrev pub IsUnder : Start → List Piece → Start → List Piece → ℤ → Type 0
+IsUnder start ps other qs shift =
+    (x : ℤ) → other.first ≤ℤ x → x ≤ℤ last_place other.first qs
+    → (start.first ≤ℤ x) × (x ≤ℤ last_place start.first ps)
+    × ((function_of start ps x +ℤ shift) ≤ℤ function_of other qs x)
+
+-- the same up to a place
+abbrev pub IsUnderTo : Start → List Piece → Start → List Piece → ℤ → ℤ → Type 0
+IsUnderTo start ps other qs shift at =
+    (x : ℤ) → other.first ≤ℤ x → x ≤ℤ at → (function_of start ps x +ℤ shift) ≤ℤ function_of other qs x
+
+-- the value at a place, and the piece that goes on there
+pub record IsReached (start : Start) (ps : List Piece) (at : ℤ) (r : Reached) : Type 0 where
+  pub value : r.value ≡ function_of start ps at
+  pub placed : IsPlaced start.first ps (record { at = at; next = r.next })
+
+-- a shift of costs
+abbrev pub IsShift : ℤ → Type 0
+IsShift z = IsFrom (neg_ℤ (pos 4000000000000000000)) (pos 4000000000000000000) z

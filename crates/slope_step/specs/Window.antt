@@ -1,0 +1,36 @@
+-- The least value in reach of the ramps: the falling part moved down, a flat part, and the rising part moved up (this project's profile).
+use Rattle.std.specs.Prelude.{◌≡◌, ℕ, ◌+◌, ◌≤◌, ℤ, ◌+ℤ◌, ◌-ℤ◌, ◌≤ℤ◌, int_lt, if◌then◌else◌, List}
+use Rattle.std.specs.Int.{int_min, int_max}
+use Rattle.shape_law.specs.declared.step.Step.{Step}
+use Rattle.shape_law.specs.Steps.{IsFairStep}
+use Rattle.slope_step.specs.declared.piece.Piece.{Piece}
+use Rattle.slope_step.specs.declared.piece.Start.{Start}
+use Rattle.slope_step.specs.declared.kink.Place.{Place}
+use Rattle.slope_step.specs.Pieces.{last_place, AreSlopes}
+use Rattle.slope_step.specs.Kink.{kinked, parts_from, AreSmall, AreGentle, IsValley}
+
+-- the place in reach of x that is nearest to m
+abbrev pub nearest : ℤ → ℤ → ℤ → ℤ → ℤ
+nearest up down m x = int_max (x -ℤ up) (int_min (x +ℤ down) m)
+
+-- the least value in reach of x, where m is the least place of the least value
+abbrev pub moved : Start → List Piece → Step → ℤ → ℤ → ℤ
+moved start ps s m x = kinked start ps s (nearest s.ramp_up s.ramp_down m x)
+
+-- the parts of a step are those of a valley
+pub record IsWindow (ps : List Piece) (start : Start) (s : Step) (m hi : ℤ) : Type 0 where
+  pub slopes : AreSlopes start.first ps
+  pub small : AreSmall start ps
+  pub gentle : AreGentle ps
+  pub fair : IsFairStep s
+  pub valley : IsValley (kinked start ps s) start.first (last_place start.first ps) m
+  pub high : hi ≤ℤ (last_place start.first ps +ℤ s.ramp_up)
+
+-- how many parts of the window there are at most from x on, where the place is the one nearest to m
+abbrev pub moved_parts : List Piece → Step → Place → ℤ → ℕ
+moved_parts ps s place x = parts_from ps s place + (if int_lt x (place.at +ℤ s.ramp_up) then 1 else 0)
+
+-- f is the same from a to b
+pub record IsFlat (f : ℤ → ℤ) (a b : ℤ) : Type 0 where
+  pub from : a ≤ℤ b
+  pub same : (x : ℤ) → a ≤ℤ x → x ≤ℤ b → f x ≡ f a

@@ -1,0 +1,125 @@
+//! The function less the worth of the best reserve, part by part.
+ghost use Rattle.std.specs.Prelude.{◌≡◌, ℕ, ℤ, ◌+◌, ◌<◌, ◌≤◌, pos, ◌+ℤ◌, ◌-ℤ◌, ◌≤ℤ◌, ◌<ℤ◌, length};
+ghost use Rattle.shape_law.specs.Steps.{IsFairStep};
+ghost use Rattle.slope_step.specs.Pieces.{piece, last_place, function_of, AreSlopes, IsLine};
+ghost use Rattle.slope_step.specs.Kink.{kinked, parts_from, IsPlaced, IsLowered, AreWithin, IsGentle, AreGentle, IsSteep, IsValley};
+
+use crate::piece::{Piece, Start, along};
+use shape_law::step::Step;
+
+/// A place of the function, and the index of the piece that goes on there.
+#[derive(Clone, Copy)]
+pub(crate) struct Place {
+    pub at: i64,
+    pub next: usize,
+}
+
+/// A part of one slope, and the place where it ends.
+#[derive(Clone, Copy)]
+pub(crate) struct Part {
+    pub end: i64,
+    pub slope: i64,
+    pub then: Place,
+}
+
+/// What is left of a piece from a place on, after the worth of the reserve is taken off.
+fn lowered(piece: Piece, place: Place, step: Step) -> Piece
+    requires fair { IsFairStep step }
+    requires gentle { IsGentle piece.slope }
+    ensures { IsLowered step place.at piece result }
+{
+    if step.reserve_price <= 0 {
+        return piece;
+    }
+    let bend = step.cap - step.ramp_up;
+    if place.at >= bend {
+        return piece;
+    }
+    Piece {
+        end: piece.end.min(bend),
+        slope: piece.slope - step.reserve_price,
+    }
+}
+
+/// The part from a place on, after the worth of the reserve is taken off.
+pub(crate) fn part_at(pieces: &[Piece], place: Place, step: Step) -> Part
+    requires next { place.next < length pieces.now }
+    requires to { place.at <ℤ (piece pieces.now place.next).end }
+    requires fair { IsFairStep step }
+    requires gentle { AreGentle pieces.now }
+    ensures line { (start : Start) → AreSlopes start.first pieces.now → IsPlaced start.first pieces.now place
+        → IsLine (kinked start pieces.now step) place.at result.end result.slope }
+    ensures placed { (first : ℤ) → AreSlopes first pieces.now → IsPlaced first pieces.now place
+        → IsPlaced first pieces.now result.then }
+    ensures then { result.then.at ≡ result.end }
+    ensures fewer { parts_from pieces.now step result.then + 1 ≤ parts_from pieces.now step place }
+    ensures steep { IsSteep result.slope }
+{
+    let whole = pieces[place.next];
+    let piece = lowered(whole, place, step);
+    let next = if piece.end < whole.end {
+        place.next
+    } else {
+        place.next + 1
+    };
+    Part {
+        end: piece.end,
+        slope: piece.slope,
+        then: Place {
+            at: piece.end,
+            next,
+        },
+    }
+}
+
+/// The least place of the least value.
+pub(crate) fn turn(pieces: &[Piece], start: Start, step: Step) -> i64
+    requires slopes { AreSlopes start.first pieces.now }
+    requires fair { IsFairStep step }
+    requires gentle { AreGentle pieces.now }
+    ensures { IsValley (kinked start pieces.now step) start.first (last_place start.first pieces.now) result }
+{
+    let mut place = Place {
+        at: start.first,
+        next: 0,
+    };
+    while place.next < pieces.len() {
+        let part = part_at(pieces, place, step);
+        if part.slope >= 0 {
+            return place.at;
+        }
+        place = part.then;
+    }
+    place.at
+}
+
+/// The index of the piece that goes on at a place, and the value there.
+#[derive(Clone, Copy)]
+pub(crate) struct Reached {
+    pub next: usize,
+    pub value: i64,
+}
+
+/// Finds a place of the interval.
+pub(crate) fn seek(pieces: &[Piece], start: Start, at: i64) -> Reached
+    requires slopes { AreSlopes start.first pieces.now }
+    requires from { start.first ≤ℤ at }
+    requires to { at ≤ℤ last_place start.first pieces.now }
+    requires within { AreWithin start pieces.now }
+    ensures value { result.value ≡ function_of start pieces.now at }
+    ensures placed { IsPlaced start.first pieces.now (record { at = at; next = result.next }) }
+{
+    let mut from = start.first;
+    let mut value = start.level;
+    let mut next = 0;
+    while next < pieces.len() && pieces[next].end <= at {
+        let piece = pieces[next];
+        value = along(value, piece, from, piece.end);
+        from = piece.end;
+        next += 1;
+    }
+    if next < pieces.len() {
+        value = along(value, pieces[next], from, at);
+    }
+    Reached { next, value }
+}

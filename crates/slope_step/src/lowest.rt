@@ -1,0 +1,1 @@
+//! The least value after a step.

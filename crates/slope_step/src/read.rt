@@ -1,0 +1,84 @@
+//! What is read off pieces.
+ghost use Rattle.std.specs.Prelude.{◌≡◌, ◌≤ℤ◌, MatchOption};
+ghost use Rattle.shape_law.specs.Effect.{IsLeast, IsLeastIn};
+ghost use Rattle.shape_law.specs.Table.{HasNone};
+ghost use Rattle.slope_step.specs.Pieces.{last_place, function_of, table_of, AreSlopes};
+ghost use Rattle.slope_step.specs.Kink.{AreWithin, IsValley};
+
+use crate::kink::seek;
+use crate::piece::{Piece, Start};
+
+/// A place and the value there.
+#[derive(Clone, Copy)]
+pub struct Spot {
+    pub at: i64,
+    pub value: i64,
+}
+
+/// The last place of pieces that begin at a first place.
+pub fn last_place(pieces: &[Piece], first: i64) -> i64
+    ensures { result ≡ last_place first pieces.now }
+{
+    if pieces.is_empty() {
+        first
+    } else {
+        pieces[pieces.len() - 1].end
+    }
+}
+
+/// The place from which the function doesn't fall.
+fn bottom(pieces: &[Piece], start: Start) -> i64
+    requires slopes { AreSlopes start.first pieces.now }
+    ensures { IsValley (function_of start pieces.now) start.first (last_place start.first pieces.now) result }
+{
+    let mut at = start.first;
+    for piece in pieces {
+        if piece.slope >= 0 {
+            return at;
+        }
+        at = piece.end;
+    }
+    at
+}
+
+/// The value at a place of the interval.
+fn spot_at(pieces: &[Piece], start: Start, at: i64) -> Spot
+    requires slopes { AreSlopes start.first pieces.now }
+    requires from { start.first ≤ℤ at }
+    requires to { at ≤ℤ last_place start.first pieces.now }
+    requires within { AreWithin start pieces.now }
+    ensures at { result.at ≡ at }
+    ensures value { result.value ≡ function_of start pieces.now at }
+{
+    let reached = seek(pieces, start, at);
+    Spot {
+        at,
+        value: reached.value,
+    }
+}
+
+/// The least value, at its least place.
+pub fn least(pieces: &[Piece], start: Start) -> Spot
+    requires slopes { AreSlopes start.first pieces.now }
+    requires within { AreWithin start pieces.now }
+    ensures { IsLeast (table_of start pieces.now) result.value result.at }
+{
+    let at = bottom(pieces, start);
+    spot_at(pieces, start, at)
+}
+
+/// The least value of the places from `lo` to `hi`, at its least place; None exactly where none of
+/// them is in the interval.
+pub fn least_in(pieces: &[Piece], start: Start, lo: i64, hi: i64) -> Option<Spot>
+    requires slopes { AreSlopes start.first pieces.now }
+    requires within { AreWithin start pieces.now }
+    ensures { MatchOption result (HasNone lo hi (table_of start pieces.now)) (λ r. IsLeastIn lo hi (table_of start pieces.now) r.value r.at) }
+{
+    let low = lo.max(start.first);
+    let high = hi.min(last_place(pieces, start.first));
+    if low > high {
+        return None;
+    }
+    let at = low.max(high.min(bottom(pieces, start)));
+    Some(spot_at(pieces, start, at))
+}
