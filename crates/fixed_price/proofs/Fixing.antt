@@ -1,0 +1,1 @@
+-- The fixed case of a plan.
