@@ -15,11 +15,11 @@ use Rattle.fixed_price.specs.FixedCase.{held_mark, held_unit, held_named, fixed_
 use Rattle.fixed_price.specs.Laws.{IsFixing, CommitmentsAreFixed}
 use Rattle.fixed_price.proofs.Held.{held_feasible, given_feasible}
 
-abbrev any_thermal : NamedThermalUnit → AnyUnit
+abbrev pub any_thermal : NamedThermalUnit → AnyUnit
 any_thermal n = Thermal n.unit
 
 -- the renewable units and bids, which stay
-abbrev others : Market → List AnyUnit
+abbrev pub others : Market → List AnyUnit
 others m = map (λ (n : NamedRenewableUnit). Flat n.unit) m.flat ++ map (λ (n : NamedBidUnit). Bid n.unit) m.bids
 
 -- the units of a market: its thermal units, and then the others
@@ -51,7 +51,7 @@ plan_held n (t ∷ ts) rest [] h = absurd h
 plan_held n (t ∷ ts) rest (s ∷ ss) h = (held_feasible t.unit n s s h.0 refl, plan_held n ts rest ss h.1)
 
 -- the schedules of a plan, with the units apart
-plan_apart : (m : Market) (n : ℕ) (plan : List Schedule) → AllZip (λ u s. IsFeasible u n s) (units m) plan → AllZip (λ u s. IsFeasible u n s) (map any_thermal m.thermal ++ others m) plan
+pub plan_apart : (m : Market) (n : ℕ) (plan : List Schedule) → AllZip (λ u s. IsFeasible u n s) (units m) plan → AllZip (λ u s. IsFeasible u n s) (map any_thermal m.thermal ++ others m) plan
 plan_apart m n plan h = subst (λ (us : List AnyUnit). AllZip (λ u s. IsFeasible u n s) us plan) (apart m) h
 
 tops_apart : (m : Market) (π : PriceLists) (xs : List ℤ) → AllZip (λ u e. IsTop u π e) (units m) xs → AllZip (λ u e. IsTop u π e) (map any_thermal m.thermal ++ others m) xs
@@ -67,7 +67,7 @@ sum_stays m plan f same =
 
 -- ---- within the limits
 
-held_limits : (g : ThermalUnit) (s : Schedule) (n : ℕ) → IsThermalUnit g → length g.window ≡ n → length s.on ≡ n → IsThermalUnit (held_unit g s)
+pub held_limits : (g : ThermalUnit) (s : Schedule) (n : ℕ) → IsThermalUnit g → length g.window ≡ n → length s.on ≡ n → IsThermalUnit (held_unit g s)
 held_limits g s n h window len = record {
   min_power = h.min_power;
   max_power = h.max_power;
@@ -98,10 +98,10 @@ held_limits g s n h window len = record {
       record { at_least = omega (arith, mapped, window, len, a); at_most = omega (arith, mapped, window, len, b) };
 }
 
-abbrev IsUnitOver : ℕ → NamedThermalUnit → Type 0
+abbrev pub IsUnitOver : ℕ → NamedThermalUnit → Type 0
 IsUnitOver n t = IsThermalUnit t.unit × (length t.unit.window ≡ n)
 
-units_held : (n : ℕ) (ts : List NamedThermalUnit) (rest : List AnyUnit) (plan : List Schedule) → All (IsUnitOver n) ts → AllZip (λ u s. IsFeasible u n s) (map any_thermal ts ++ rest) plan →
+pub units_held : (n : ℕ) (ts : List NamedThermalUnit) (rest : List AnyUnit) (plan : List Schedule) → All (IsUnitOver n) ts → AllZip (λ u s. IsFeasible u n s) (map any_thermal ts ++ rest) plan →
     All (IsUnitOver n) (zip_with held_named ts plan) × (length (zip_with held_named ts plan) ≡ length ts)
 units_held n [] rest plan limits h = (All-nil (IsUnitOver n), refl)
 units_held n (t ∷ ts) rest [] limits h = absurd h
@@ -112,7 +112,7 @@ units_held n (t ∷ ts) rest (s ∷ ss) limits h =
     let len = own.schedule.on in
     (All-cons (IsUnitOver n) (held_named t s) (zip_with held_named ts ss) (held_limits t.unit s n one.0 one.1 len, length-map s.on held_mark ∙ len) more.0, ap suc more.1)
 
-market_held : (m : Market) (plan : List Schedule) → IsMarket m → IsFeasiblePlan m plan → IsMarket (fixed_market m plan)
+pub market_held : (m : Market) (plan : List Schedule) → IsMarket m → IsFeasiblePlan m plan → IsMarket (fixed_market m plan)
 market_held m plan h f =
     let held = units_held m.periods m.thermal (others m) plan h.thermal (plan_apart m m.periods plan f.feasible) in
     let same = held.1 in

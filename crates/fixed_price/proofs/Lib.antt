@@ -1,2 +1,3 @@
-pub mod Held
 pub mod Fixing
+pub mod Held
+pub mod Items

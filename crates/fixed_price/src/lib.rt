@@ -5,4 +5,8 @@
 //! Energy Uplift", 2007, compare such prices).
 #![tactic(auto)]
 
+mod copies;
+mod fix;
 pub mod laws;
+
+pub use fix::fix_case;
