@@ -1,9 +1,11 @@
 -- The fixed case of a plan: within the limits, feasible at the same cost, with dual values between.
-use Rattle.std.proofs.Common.{◌≡◌, ℕ, zero, suc, ◌+◌, ◌<◌, ◌≤◌, ℤ, pos, ◌+ℤ◌, ◌-ℤ◌, ◌*ℤ◌, ◌≤ℤ◌, Bool, List, [], ◌∷◌, ◌++◌, map, length, refl, sym, ap, ◌∙◌, subst, append_assoc, arith}
+use Rattle.std.proofs.Common.{◌≡◌, ℕ, zero, suc, ◌+◌, ◌<◌, ◌≤◌, ℤ, pos, ◌+ℤ◌, ◌-ℤ◌, ◌*ℤ◌, ◌≤ℤ◌, Bool, List, [], ◌∷◌, ◌++◌, map, length, refl, sym, ap, ◌∙◌, subst, append_assoc, Some, arith}
 use Rattle.std.proofs.lemmas.Int.{ints}
 use Rattle.std.proofs.lemmas.List.{length-map}
 use Rattle.std.proofs.lemmas.List.Elements.{All-head, All-tail, All-cons, All-nil}
+use Rattle.std.proofs.lemmas.Option.{slice_get_within, get_or_from_slice_get}
 use Rattle.std.specs.List.{All, AllZip, zip}
+use Rattle.std.specs.Prelude.{slice_get}
 use Rattle.uc_model.specs.Data.{ThermalUnit, NamedThermalUnit, NamedRenewableUnit, NamedBidUnit, AnyUnit, Thermal, Flat, Bid, PriceLists, Schedule, Market, units}
 use Rattle.uc_model.specs.Earnings.{cost_of, earnings, supply_in, IsTop}
 use Rattle.uc_model.specs.Laws.{DualIsAtMostCost}
@@ -195,3 +197,10 @@ fixing law m plan h f = record {
   at_most = λ π fixed prices horizon held.
       subst (λ (z : ℤ). fixed ≤ℤ z) (cost_stays m plan) (law (fixed_market m plan) plan π fixed (plan_stays m plan f) prices horizon held);
 }
+
+-- a thermal unit's window is over the horizon
+pub window_length : (m : Market) → IsMarket m → (k : ℕ) (t : NamedThermalUnit) → slice_get m.thermal k ≡ Some t → length t.unit.window ≡ m.periods
+window_length m h k t e =
+    let within = slice_get_within m.thermal k t e in
+    let known = (h.thermal k t within).1 in
+    ap (λ (n : NamedThermalUnit). length n.unit.window) (sym (get_or_from_slice_get m.thermal k t t e)) ∙ known
