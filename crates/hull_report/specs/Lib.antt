@@ -1,3 +1,4 @@
+pub mod BoundText
 pub mod Numerals
 pub mod Parts
 pub mod Words

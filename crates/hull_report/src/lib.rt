@@ -1,6 +1,7 @@
 //! The texts that the engine writes: what a command prints, and the line of a fault.
 #![tactic(auto)]
 
+pub mod bound;
 pub mod check;
 pub mod fault;
 pub mod laws;
@@ -9,6 +10,7 @@ mod pieces;
 mod record;
 pub mod report;
 
+pub use bound::{BoundLines, write_bound_lines};
 pub use check::write_check;
 pub use fault::{FileKind, TopFault, write_fault};
 pub use parts::{Part, write_parts};

@@ -1,0 +1,18 @@
+use Rattle.std.proofs.Common.{rules, refl, FitsSigned}
+use Rattle.std.proofs.lemmas.Int.{to_z-of_z}
+use Rattle.std.specs.Int.{w64}
+use Rattle.uc_model.specs.PlainUnits.{thermal_of, schedule_of}
+use Rattle.fixed_price.proofs.Fixing.{held_limits}
+use Rattle.fixed_price.proofs.copies.held.Goals as goal
+
+pub invariant_of-result : goal.invariant_of-result
+invariant_of-result c =
+    let f1 : FitsSigned w64 c.args.unit.now.min_power = search rules in
+    let f2 : FitsSigned w64 c.args.unit.now.max_power = search rules in
+    let f3 : FitsSigned w64 c.args.unit.now.ramp_up = search rules in
+    let f4 : FitsSigned w64 c.args.unit.now.ramp_down = search rules in
+    let f5 : FitsSigned w64 c.args.unit.now.start_limit = search rules in
+    let f6 : FitsSigned w64 c.args.unit.now.stop_limit = search rules in
+    let f7 : FitsSigned w64 c.args.unit.now.power0 = search rules in
+    let base = held_limits (thermal_of c.args.unit.now) (schedule_of c.args.response.now) _ c.args.unit.now.valid refl c.requires in
+    record { valid = simp to_z-of_z (rw (c.in_ok-lags.ensures, c.in_ok-points.ensures, c.in_ok-window.ensures) base) }

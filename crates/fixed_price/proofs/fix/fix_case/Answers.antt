@@ -1,0 +1,8 @@
+use Rattle.uc_model.specs.PlainCases.{market_of, schedules_of}
+use Rattle.fixed_price.proofs.Fixing.{market_held}
+use Rattle.fixed_price.proofs.fix.fix_case.Goals as goal
+
+pub invariant_of-result : goal.invariant_of-result
+invariant_of-result c =
+    let base = market_held (market_of c.args.case.now) (schedules_of c.args.plan.now) c.args.case.now.valid c.requires in
+    record { valid = rw (c.in_ok-demand.ensures, c.in_ok-reserves.ensures, c.in_ok-thermal.ensures, c.in_ok-flat.ensures, c.in_ok-bids.ensures) base }

@@ -1,0 +1,12 @@
+use Rattle.std.proofs.Common.{◌≡◌, ◌+◌, ◌≤◌, length, map, take}
+use Rattle.uc_model.specs.PlainCases.{market_of, schedules_of}
+use Rattle.uc_model.specs.PlainUnits.{named_thermal_of}
+use Rattle.uc_model.specs.Sums.{zip_with}
+use Rattle.fixed_price.specs.FixedCase.{held_named}
+use Rattle.fixed_price.proofs.fix.held_units.Given as goal
+
+abbrev pub invariant-loop-place : goal.invariant-loop-place
+invariant-loop-place l = record {
+  held : map named_thermal_of l.units.items ≡ take l.place (zip_with held_named (market_of l.case).thermal (schedules_of l.plan));
+  room : length l.case.thermal.items ≤ l.place + l.units.spare;
+}

@@ -1,0 +1,2 @@
+pub mod FixedCase
+pub mod Laws

@@ -1,0 +1,14 @@
+use Rattle.std.proofs.Common.{rules}
+use Rattle.std.specs.Int.{w128}
+use Rattle.std.proofs.lemmas.Int.{to_z-of_z}
+use Rattle.hull_report.specs.BoundText.{bound_text}
+use Rattle.hull_report.proofs.bound.write_bound_lines.Goals as goal
+
+pub returns : goal.returns
+unfolding bound_text
+returns g c =
+    rw (← c.distance-distance.ensures) (rw (
+      to_z-of_z w128 c.args.lines.now.value (search rules),
+      to_z-of_z w128 c.args.lines.now.bound (search rules),
+      to_z-of_z w128 c.distance-distance.result (search rules),
+    ) at c.write_parts.ensures)
