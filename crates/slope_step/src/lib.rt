@@ -7,7 +7,6 @@
 mod blocks;
 mod draw;
 mod kink;
-pub mod lowest;
 pub mod piece;
 pub mod read;
 pub mod step;

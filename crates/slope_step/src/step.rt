@@ -114,7 +114,9 @@ pub fn slope_step(
     ensures count { IfSome result.made (λ d. d.used ≤ length pieces.now + length curve.now.blocks.items + 3) }
 {
     let low = step.least.max(start.first - step.ramp_down);
-    let high = step.most.min(last_place(pieces, start.first) + step.ramp_up);
+    let high = step
+        .most
+        .min(last_place(pieces, start.first) + step.ramp_up);
     let turn = turn(pieces, start, step);
     if low > high {
         return Stepped { made: None, turn };

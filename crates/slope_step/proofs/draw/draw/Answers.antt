@@ -1,10 +1,10 @@
-use Rattle.std.proofs.Common.{◌≡◌, ℕ, ◌+◌, ◌<◌, ◌≤◌, length, refl, ap, subst, sym, ◌∙◌, arith, rules, to_z, of_z}
-use Rattle.std.specs.Prelude.{ℤ, pos, FitsSigned, ◌+ℤ◌, ◌*ℤ◌, ◌≤ℤ◌, ◌<ℤ◌}
+use Rattle.std.proofs.Common.{◌≡◌, refl, ap, sym, ◌∙◌, arith, rules, to_z, of_z}
+use Rattle.std.specs.Prelude.{FitsSigned, ◌+ℤ◌, ◌*ℤ◌, ◌<ℤ◌}
 use Rattle.std.specs.Int.{w64, int_min}
 use Rattle.std.proofs.lemmas.Int.{ints, clamps, to_z-of_z}
-use Rattle.slope_step.specs.Pieces.{end_at, IsLine}
+use Rattle.slope_step.specs.Pieces.{end_at}
 use Rattle.slope_step.specs.Window.{nearest, moved, moved_parts}
-use Rattle.slope_step.specs.Drawn.{paid, stepped}
+use Rattle.slope_step.specs.Drawn.{paid}
 use Rattle.slope_step.proofs.LineLaws.{line_part, line_sum, line_product}
 use Rattle.slope_step.proofs.BlockLaws.{in_block_at}
 use Rattle.slope_step.proofs.DrawLaws.{same_line}
@@ -122,7 +122,7 @@ loop-pen-preserved c =
     let first = line_part (moved w.start w.pieces.now w.step w.turn) pen.at part.end part.slope pen.at new.at line (same_le pen.at) up clip.within in
     let sum = line_sum (moved w.start w.pieces.now w.step w.turn) (λ x. w.step.slope *ℤ x) pen.at new.at part.slope w.step.slope first (line_product w.step.slope pen.at new.at up) in
     let drawn = c.put-pen.ensures.drawn (paid w.start w.pieces.now w.step w.turn) c.args.from.at
-        (same_line (paid w.start w.pieces.now w.step w.turn) pen.at new.at (part.slope +ℤ w.step.slope) pen.at stop slope refl eb es sum) was.drawn in
+    (same_line (paid w.start w.pieces.now w.step w.turn) pen.at new.at (part.slope +ℤ w.step.slope) pen.at stop slope refl eb es sum) was.drawn in
     let p = was.parts test in
     let fewer = rw fa at c.next_part-part.ensures.fewer in
     let used = c.put-pen.ensures.used in
