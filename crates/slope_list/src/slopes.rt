@@ -2,8 +2,8 @@
 ghost use Rattle.std.specs.Prelude.{◌≡◌, length, IfOk};
 ghost use Rattle.slope_list.specs.Kept.{AreKept};
 
-use slope_step::below;
 use shape_law::step::Step;
+use slope_step::below;
 use slope_step::piece::{Piece, Start};
 use slope_step::read::{self, Spot};
 use slope_step::step::{Made, slope_step};

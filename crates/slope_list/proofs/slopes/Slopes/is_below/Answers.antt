@@ -17,6 +17,6 @@ returns-in-Some-made c =
     let e = ap (table_after self.pieces.items) c.in-Some.is in
     let f = ap (table_after other.pieces.items) c.in-Some-made.is in
     let b : OnTrue c.is_below.result (IsNowhereAbove (table_of made.start (take made.used self.pieces.items)) (table_of others.start (take others.used other.pieces.items)) c.args.shift)
-        = rw (to_z-of_z w64 c.args.shift c.ranges.shift, c.deref.ensures.value, c.deref-in-Some-made.ensures.value) at c.is_below.ensures in
+    = rw (to_z-of_z w64 c.args.shift c.ranges.shift, c.deref.ensures.value, c.deref-in-Some-made.ensures.value) at c.is_below.ensures in
     subst (λ (t : Table). OnTrue c.is_below.result (IsNowhereAbove t (table_after other.pieces.items other.made) c.args.shift)) (sym e)
     (subst (λ (t : Table). OnTrue c.is_below.result (IsNowhereAbove (table_of made.start (take made.used self.pieces.items)) t c.args.shift)) (sym f) b)
