@@ -16,7 +16,7 @@ use Rattle.uc_model.specs.Systems.{IsFeasiblePlan, plan_cost, worth_of_demand, I
 use Rattle.uc_model.proofs.SignedLaws.{IsWithin, sum_within, product_within}
 use Rattle.uplift_settle.proofs.Bounds.{IsUnit, negated_within, sum_below_within, units_are, earnings_within, best_within}
 use Rattle.uplift_settle.proofs.Lists.{at_place, length_same, length-zip_with}
-use Rattle.board_history.proofs.RowLaws.{units_length}
+use Rattle.hull_report.proofs.UnitLines.{units_length}
 
 wider : (m n : ℕ) (z : ℤ) → m ≤ n → IsWithin m z → IsWithin n z
 wider m n z le h = let a = h.at_least in let b = h.at_most in record { at_least = omega (arith, ints, le, a); at_most = omega (arith, ints, le, b) }
