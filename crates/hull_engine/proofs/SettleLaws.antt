@@ -14,18 +14,18 @@ use Rattle.uc_model.specs.declared.cases.Row.{Row}
 use Rattle.board_history.specs.Board.{Content, rules_of, schedules_in, IsLegalHistory}
 use Rattle.board_history.specs.Calls.{own_rows, has_finished}
 use Rattle.board_history.specs.Rounds.{posts, answers}
-use Rattle.board_history.proofs.RowLaws.{has_row, row_is}
-use Rattle.board_history.proofs.Tallies.{events_are_at_most}
+use Rattle.board_history.specs.Laws.{EventsAreAtMost, FinishedHasRow}
+use Rattle.board_history.specs.Bounds.{RowsAreWithin}
 use Rattle.board_history.specs.Counts.{posts_in}
 use Rattle.board_core.specs.Boards.{kept_answer}
 use Rattle.board_core.specs.Setups.{IsSetup}
 use Rattle.uplift_settle.specs.declared.settlement.Settlement.{Settlement}
-use Rattle.hull_report.specs.RecordReport.{IsSettledRecord}
-use Rattle.hull_report.proofs.Records.{chosen_is, tops_at}
+use Rattle.hull_report.specs.Laws.{OneIsChosen}
+use Rattle.hull_report.specs.RecordReport.{IsSettledRecord, AnswersAreTops}
 
 -- there are at most as many posts as tasks
-pub posts_within : (c : Content) → IsLegalHistory c.setup c.events → posts_in c.events ≤ c.setup.budget * unit_count c.setup.market
-posts_within c legal = (events_are_at_most c.setup c.events legal).posts
+pub posts_within : EventsAreAtMost → (c : Content) → IsLegalHistory c.setup c.events → posts_in c.events ≤ c.setup.budget * unit_count c.setup.market
+posts_within events_are_at_most c legal = (events_are_at_most c.setup c.events legal).posts
 
 -- a row is chosen
 pub record IsPlace (c : Content) (chosen : ℕ) : Type 0 where
@@ -33,8 +33,8 @@ pub record IsPlace (c : Content) (chosen : ℕ) : Type 0 where
   pub first : 1 ≤ chosen
   pub last : chosen ≤ length (own_rows c)
 
-pub chosen_place : (c : Content) (chosen : ℕ) → IsSetup c.setup → has_finished c ≡ true → chosen ≡ chosen_number (own_rows c) → IsPlace c chosen
-chosen_place c chosen setup finished is =
+pub chosen_place : FinishedHasRow → OneIsChosen → (c : Content) (chosen : ℕ) → IsSetup c.setup → has_finished c ≡ true → chosen ≡ chosen_number (own_rows c) → IsPlace c chosen
+chosen_place has_row chosen_is c chosen setup finished is =
     let some = has_row c setup.some_ahead setup.some_budget finished in
     let k = chosen_is (own_rows c) some in
     let number = is ∙ k.2 in
@@ -49,22 +49,20 @@ row_at_place c rows chosen row same inside is =
     ∙ ap (option_map proposal_of) (slice_get-get_or rows (chosen - 1) row inside) ∙ ap (λ (r : Row). Some (proposal_of r)) (sym is)
 
 -- its prices are over the periods of the case
-pub row_is_long : (c : Content) (chosen : ℕ) (row : Row) (m : Market) → IsSetup c.setup → IsPlace c chosen → slice_get (own_rows c) (chosen - 1) ≡ Some (proposal_of row) → m ≡ c.setup.market →
+pub row_is_long : RowsAreWithin → (c : Content) (chosen : ℕ) (row : Row) (m : Market) → IsSetup c.setup → IsLegalHistory c.setup c.events → slice_get (own_rows c) (chosen - 1) ≡ Some (proposal_of row) → m ≡ c.setup.market →
     length row.prices.energy.items ≡ m.periods
-row_is_long c chosen row m setup place is same =
+row_is_long rows_are_within c chosen row m setup legal is same =
     let p = proposal_of row in
     let inside = slice_get_within (own_rows c) (chosen - 1) p is in
-    let made = sym (get_or_from_slice_get (own_rows c) (chosen - 1) p p is) ∙ row_is c.setup c.events (chosen - 1) p setup.some_ahead inside in
-    let all = schedules_in (answers (rules_of c.setup) (posts c.events) (suc (chosen - 1))) in
-    let supply = ap (λ (r : Proposal). length r.supply) made ∙ length-map-range_with_len (total_power (units c.setup.market) all) 0 c.setup.market.periods in
-    sym row.supply_length ∙ supply ∙ ap (λ (n : Market). n.periods) (sym same)
+    let within = (rows_are_within c.setup c.events setup.market setup.some_ahead legal (chosen - 1) p inside).horizon in
+    sym (ap (λ (r : Proposal). length r.prices.energy) (get_or_from_slice_get (own_rows c) (chosen - 1) p p is)) ∙ within ∙ sym (ap (λ (n : Market). n.periods) same)
 
 -- what the units earn at best
-pub tops_for : (c : Content) (chosen : ℕ) (row : Proposal) (m : Market) (earned xs : List ℤ) → IsSetup c.setup → IsLegalHistory c.setup c.events → IsPlace c chosen →
+pub tops_for : AnswersAreTops → (c : Content) (chosen : ℕ) (row : Proposal) (m : Market) (earned xs : List ℤ) → IsSetup c.setup → IsLegalHistory c.setup c.events → IsPlace c chosen →
     slice_get (own_rows c) (chosen - 1) ≡ Some row → length earned ≡ unit_count c.setup.market →
     ((u : ℕ) → u < unit_count c.setup.market → int_at earned u ≡ (kept_answer c chosen u).earned) → m ≡ c.setup.market → xs ≡ earned →
     AllZip (λ (u : AnyUnit) (e : ℤ). IsTop u row.prices e) (units m) xs
-tops_for c chosen row m earned xs setup legal place is count each same list =
+tops_for tops_at c chosen row m earned xs setup legal place is count each same list =
     let number : chosen ≡ suc (chosen - 1) = omega (arith, place.first) in
     let top = tops_at c (chosen - 1) row setup.some_ahead legal is earned count (λ u h. subst (λ (n : ℕ). int_at earned u ≡ (kept_answer c n u).earned) number (each u h)) in
     subst (λ (ys : List ℤ). AllZip (λ (u : AnyUnit) (e : ℤ). IsTop u row.prices e) (units m) ys) (sym list)

@@ -24,14 +24,16 @@ abbrev pub IsFaultOf : {A : Type 0} → (Result A TopFault → Type 0) → TopFa
 IsFaultOf is_due f = is_due (Err f) ⊎ (f ≡ Memory)
 
 -- what a step answers is what is due, unless memory ran out
-abbrev pub IsAnswer : {A X : Type 0} → (Result A TopFault → Type 0) → (X → A) → Result X TopFault → Type 0
+abbrev pub IsAnswer : {A X : Type 0} → (Result A TopFault → Type 0) → (X → A) →
+    Result X TopFault → Type 0
 IsAnswer is_due view (Ok x) = is_due (Ok (view x))
 IsAnswer is_due view (Err f) = IsFaultOf is_due f
 
 -- ---- a shelf that is read
 
 -- it tells the same, and no count falls
-pub record IsLaterShelf {F : Type 0} (told : F → List ℕ → Option (List ℕ)) (faults : F → List ℕ → ℕ) (old new : F) : Type 0 where
+pub record IsLaterShelf {F : Type 0} (told : F → List ℕ → Option (List ℕ))
+    (faults : F → List ℕ → ℕ) (old new : F) : Type 0 where
   pub told_same : told new ≡ told old
   pub later : (any : List ℕ) → faults old any ≤ faults new any
 
@@ -40,7 +42,8 @@ abbrev pub HasRead : Option (List ℕ) → Type 0 → (Option (List ℕ) → Typ
 HasRead told rose P = (read : Option (List ℕ)) × IsReadOf told rose read × P read
 
 -- what was read of the files of these names has P
-abbrev pub HasReads : (List ℕ → Option (List ℕ)) → (List ℕ → Type 0) → (FileKind → Option (List ℕ)) → (Reads → Type 0) → Type 0
+abbrev pub HasReads : (List ℕ → Option (List ℕ)) → (List ℕ → Type 0) →
+    (FileKind → Option (List ℕ)) → (Reads → Type 0) → Type 0
 HasReads told rose name_of P = (reads : Reads) × AreReads told rose name_of reads × P reads
 
 -- ---- the answer of a command
@@ -65,9 +68,12 @@ IsAnswered (Check input) = ⊤
 IsAnswered (Price done) = IsEnded done.closed.setup done
 IsAnswered (Try number done) = IsEnded done.closed.setup done
 
--- the answer's texts are texts of an accepted input of the command; a fault is one that is due, or want of memory
+-- the answer's texts are texts of an accepted input of the command; a fault is one that is due, or
+-- want of memory
 abbrev pub IsCommandAnswer : Command → Reads → Result Answer TopFault → Type 0
-IsCommandAnswer c reads (Ok answer) = (i : PlannedCase) × c.IsDue reads (Ok i) × ((text : List ℕ) → IsTextOf answer text → c.IsText reads i text)
+IsCommandAnswer c reads (Ok answer) =
+    (i : PlannedCase) × c.IsDue reads (Ok i)
+    × ((text : List ℕ) → IsTextOf answer text → c.IsText reads i text)
 IsCommandAnswer c reads (Err f) = IsFaultOf (c.IsDue reads) f
 
 -- ---- the end

@@ -12,7 +12,8 @@ use Rattle.hull_engine.specs.Sizes.{IsRunSize}
 
 -- what a contract sees of an input
 abbrev pub planned_of : Input → PlannedCase
-planned_of input = record { market = market_of input.case; plan = schedules_of input.plan; cost = input.cost }
+planned_of input =
+    record { market = market_of input.case; plan = schedules_of input.plan; cost = input.cost }
 
 -- the schedule is feasible, and this is its cost
 pub record IsPlanned (input : Input) : Type 0 where
@@ -26,4 +27,5 @@ pub record IsRunInput (run : RunInput) : Type 0 where
   pub work : run.size.proposals * unit_count (market_of run.input.case) * (market_of run.input.case).periods ≤ 50000000
 
 abbrev pub try_asked : TryWords → TryAsked
-try_asked w = record { number = w.number; proposals = w.proposals; workers = w.workers; ahead = w.ahead }
+try_asked w =
+    record { number = w.number; proposals = w.proposals; workers = w.workers; ahead = w.ahead }

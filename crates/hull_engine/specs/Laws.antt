@@ -1,6 +1,7 @@
--- What holds of every run. Each law is the clause of a public function. A run is one of which hull_run's clause `outcome`
--- holds: `told` is what the shelf tells, `rose` that the count of a name rose, `gained` that the sink has a text whole, and
--- `short` that it has a front of it and its count rose.
+-- What holds of every run. Each law is the clause of a public function. A run is one of which
+-- hull_run's clause `outcome` holds: `told` is what the shelf tells, `rose` that the count of a
+-- name rose, `gained` that the sink has a text whole, and `short` that it has a front of it and its
+-- count rose.
 use Rattle.std.specs.Prelude.{◌≡◌, ◌≢◌, ◌⊎◌, ℕ, ◌≤◌, ◌==◌, ◌||◌, Bool, ◌+ℤ◌, ◌-ℤ◌, List, Option, None, Some, Result, Ok, Err, IsTrue, IfSome, IsSome}
 use Rattle.uc_model.specs.Data.{Market, Schedule}
 use Rattle.uc_model.specs.Systems.{IsFeasiblePlan, plan_cost}
@@ -25,17 +26,20 @@ use Rattle.hull_engine.specs.Outcome.{Command, command_for, AreReads, HasText, I
 -- over what was read, one input or one refusal
 abbrev pub OneDue : Type 0
 OneDue = (words : List (List ℕ)) (reads : Reads) (due other : Result PlannedCase TopFault)
-    → (command_for (words_of words)).IsDue reads due → (command_for (words_of words)).IsDue reads other → due ≡ other
+    → (command_for (words_of words)).IsDue reads due
+    → (command_for (words_of words)).IsDue reads other → due ≡ other
 
--- and one text of that input: its bytes follow from the case, the schedule and the numbers of the run
+-- and one text of that input: its bytes follow from the case, the schedule and the run's numbers
 abbrev pub OneText : Type 0
 OneText = (words : List (List ℕ)) (reads : Reads) (i : PlannedCase) (text other : List ℕ)
-    → (command_for (words_of words)).IsText reads i text → (command_for (words_of words)).IsText reads i other → text ≡ other
+    → (command_for (words_of words)).IsText reads i text
+    → (command_for (words_of words)).IsText reads i other → text ≡ other
 
 -- an accepted input has a feasible schedule, at its cost
 abbrev pub AcceptedIsFeasible : Type 0
 AcceptedIsFeasible = (words : List (List ℕ)) (reads : Reads) (i : PlannedCase)
-    → (command_for (words_of words)).IsDue reads (Ok i) → IsFeasiblePlan i.market i.plan × (i.cost ≡ plan_cost i.market i.plan)
+    → (command_for (words_of words)).IsDue reads (Ok i)
+    → IsFeasiblePlan i.market i.plan × (i.cost ≡ plan_cost i.market i.plan)
 
 -- ---- the cause of each status
 
@@ -44,10 +48,12 @@ abbrev pub is_refusal : ℕ → Bool
 is_refusal n = n == 1 || n == 3 || n == 4 || n == 5 || n == 8
 
 -- there are reads of the command's files over which P holds
-abbrev pub OverReads : Command → (told : List ℕ → Option (List ℕ)) (rose : List ℕ → Type 0) → (Reads → Type 0) → Type 0
+abbrev pub OverReads : Command → (told : List ℕ → Option (List ℕ)) (rose : List ℕ → Type 0) →
+    (Reads → Type 0) → Type 0
 OverReads c told rose P = (reads : Reads) × AreReads told rose c.name_of reads × P reads
 
-module _ (c : Command) (told : List ℕ → Option (List ℕ)) (rose gained short : List ℕ → Type 0) where
+module _ (c : Command) (told : List ℕ → Option (List ℕ))
+    (rose gained short : List ℕ → Type 0) where
   -- the line was written, as far as the sink took it
   abbrev pub IsWritten : TopFault → Type 0
   IsWritten f = gained (fault_line f) ⊎ short (fault_line f)
@@ -58,7 +64,9 @@ module _ (c : Command) (told : List ℕ → Option (List ℕ)) (rose gained shor
 
   -- the count of a file's name rose, what is read before it isn't refused, and its line was written
   abbrev pub IsUnread : Reads → Type 0
-  IsUnread reads = (file : FileKind) × (name : List ℕ) × (c.name_of file ≡ Some name) × rose name × c.IsDue reads (Err (Read file)) × IsWritten (Read file)
+  IsUnread reads =
+      (file : FileKind) × (name : List ℕ) × (c.name_of file ≡ Some name) × rose name
+      × c.IsDue reads (Err (Read file)) × IsWritten (Read file)
 
   pub record HasCause (n : ℕ) : Type 0 where
     pub known : n ≤ 8
@@ -89,20 +97,24 @@ word_fault (Ok (try a)) = None
 word_fault (Ok asked) = Some (fault UnknownCommand 1)
 word_fault (Err f) = Some f
 
--- What a status tells of words. Faulty words end in 1 or 7 and no other words end in 1; a check has no limit of work; no
--- command reads a report yet; what was printed is of a feasible schedule at its cost.
-pub record FollowsFromWords (words : Result Asked WordFault) (gained short : List ℕ → Type 0) (n : ℕ) : Type 0 where
+-- What a status tells of words. Faulty words end in 1 or 7 and no other words end in 1; a check has
+-- no limit of work; no command reads a report yet.
+pub record FollowsFromWords (words : Result Asked WordFault) (gained short : List ℕ → Type 0)
+    (n : ℕ) : Type 0 where
   pub faulty : (f : WordFault) → word_fault words ≡ Some f → (n ≡ 1) ⊎ (n ≡ 7)
-  pub at_1 : n ≡ 1 → (f : WordFault) × (word_fault words ≡ Some f) × (gained (fault_line (Words f)) ⊎ short (fault_line (Words f)))
+  pub at_1 : n ≡ 1 → (f : WordFault) × (word_fault words ≡ Some f)
+      × (gained (fault_line (Words f)) ⊎ short (fault_line (Words f)))
   pub check_at_5 : (a : CheckAsked) → words ≡ Ok (check a) → n ≢ 5
   pub at_8 : n ≢ 8
 
 -- ---- what a printed report promises
 
--- THE PROMISE of `hull price`, where it answers 0: there are bytes of the case and of the schedule, those that are told where
--- any are; they are a case and a feasible schedule of it; and what was printed is the text of a right report, whose payments
--- and surplus make up what the chosen value lacks of the cost.
-pub record IsPromised (a : PriceAsked) (told : List ℕ → Option (List ℕ)) (gained : List ℕ → Type 0) : Type 0 where
+-- THE PROMISE of `hull price`, where it answers 0: there are bytes of the case and of the schedule,
+-- those that are told where any are; they are a case and a feasible schedule of it; and what was
+-- printed is the text of a right report, whose payments and surplus make up what the chosen value
+-- lacks of the cost.
+pub record IsPromised (a : PriceAsked) (told : List ℕ → Option (List ℕ))
+    (gained : List ℕ → Type 0) : Type 0 where
   pub case_bytes : List ℕ
   pub case_told : IfSome (told a.case_name) (λ all. case_bytes ≡ all)
   pub schedule_bytes : List ℕ
@@ -119,22 +131,30 @@ pub record IsPromised (a : PriceAsked) (told : List ℕ → Option (List ℕ)) (
 
 -- ---- the laws, over a shelf and a sink before and after the run
 
-module _ {F S : Type 0} (told : F → List ℕ → Option (List ℕ)) (faults : F → List ℕ → ℕ) (last : Option ℕ) (held : S → Option (List ℕ)) (counts : S → ℕ) (most : Option ℕ) where
-  abbrev OnRuns : (List (List ℕ) → (List ℕ → Option (List ℕ)) → (rose gained short : List ℕ → Type 0) → ℕ → Type 0) → Type 0
+module _ {F S : Type 0} (told : F → List ℕ → Option (List ℕ)) (faults : F → List ℕ → ℕ)
+    (last : Option ℕ) (held : S → Option (List ℕ)) (counts : S → ℕ) (most : Option ℕ) where
+  abbrev OnRuns : (List (List ℕ) → (List ℕ → Option (List ℕ)) →
+      (rose gained short : List ℕ → Type 0) → ℕ → Type 0) → Type 0
   OnRuns P = (words : List (List ℕ)) (old new : F) (before after : S) (n : ℕ)
-      → IsOutcome words (told old) (λ name. Rose last (faults old name) (faults new name)) (Gains held counts before after) (FallsShort held counts most before after) n
-      → P words (told old) (λ name. Rose last (faults old name) (faults new name)) (Gains held counts before after) (FallsShort held counts most before after) n
+      → IsOutcome words (told old) (λ name. Rose last (faults old name) (faults new name))
+          (Gains held counts before after) (FallsShort held counts most before after) n
+      → P words (told old) (λ name. Rose last (faults old name) (faults new name))
+          (Gains held counts before after) (FallsShort held counts most before after) n
 
   abbrev pub EachStatusHasItsCause : Type 0
-  EachStatusHasItsCause = OnRuns (λ words told rose gained short n. HasCause (command_for (words_of words)) told rose gained short n)
+  EachStatusHasItsCause = OnRuns (λ words told rose gained short n.
+      HasCause (command_for (words_of words)) told rose gained short n)
 
   -- COMPLETENESS: where no count rose, what was read decides
   abbrev pub WhatWasReadDecides : Type 0
-  WhatWasReadDecides = OnRuns (λ words told rose gained short n. let c = command_for (words_of words) in
+  WhatWasReadDecides = OnRuns (λ words told rose gained short n.
+      let c = command_for (words_of words) in
       IsQuiet c told rose gained short → OverReads c told rose (IsDecided c n))
 
   abbrev pub WordsFollow : Type 0
-  WordsFollow = OnRuns (λ words told rose gained short n. FollowsFromWords (words_of words) gained short n)
+  WordsFollow = OnRuns (λ words told rose gained short n.
+      FollowsFromWords (words_of words) gained short n)
 
   abbrev pub ReportsAreRight : Type 0
-  ReportsAreRight = OnRuns (λ words told rose gained short n. (a : PriceAsked) → words_of words ≡ Ok (price a) → n ≡ 0 → IsPromised a told gained)
+  ReportsAreRight = OnRuns (λ words told rose gained short n.
+      (a : PriceAsked) → words_of words ≡ Ok (price a) → n ≡ 0 → IsPromised a told gained)

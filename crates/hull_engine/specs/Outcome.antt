@@ -1,7 +1,8 @@
--- WHAT A RUN OF `hull` DOES, to be read from top to bottom: the commands, what was read of their files, how a run ends, and
--- its outcome (this project's profile; dual value, best responses and payments of a report are those of Gribik, Hogan and
--- Pope 2007). The steps of the commands are in Steps, the reports in hull_report's RightReport and ReportText, and the
--- lines of faults in its FaultLines.
+-- WHAT A RUN OF `hull` DOES, to be read from top to bottom: the commands, what was read of their
+-- files, how a run ends, and its outcome (this project's profile; dual value, best responses and
+-- payments of a report are those of Gribik, Hogan and Pope 2007). The steps of the commands are in
+-- Steps, the reports in hull_report's RightReport and ReportText, and the lines of faults in its
+-- FaultLines.
 use Rattle.std.specs.Prelude.{◌≡◌, ◌⊎◌, ℕ, List, Option, None, Some, Result, Ok, Err, IfSome}
 use Rattle.hull_words.specs.Asked.{Asked, check, price, try}
 use Rattle.hull_words.specs.Words.{words_of, fault}
@@ -22,8 +23,8 @@ use Rattle.hull_engine.specs.Steps.{Then, Reads, PlannedCase, IsInput, IsMade, I
 
 -- ---- the commands
 
--- Which files a command reads, and under which names; what its input is over what was read of them, or else its first
--- refusal; and which texts it may print of that input.
+-- Which files a command reads, and under which names; what its input is over what was read of them,
+-- or else its first refusal; and which texts it may print of that input.
 pub record Command : Type 1 where
   pub name_of : FileKind → Option (List ℕ)
   pub IsDue : Reads → Result PlannedCase TopFault → Type 0
@@ -37,9 +38,10 @@ case_and_schedule case_name schedule_name CaseFile = Some case_name
 case_and_schedule case_name schedule_name ScheduleFile = Some schedule_name
 case_and_schedule case_name schedule_name ReportFile = None
 
--- the text of a right report for the input, which has one for each budget and number of proposals ahead
+-- the text of a right report for the input, with that budget and number of proposals ahead
 abbrev pub IsReportText : (Report → List ℕ) → (budget ahead : ℕ) → PlannedCase → List ℕ → Type 0
-IsReportText text_of budget ahead c text = (r : Report) × IsRightReport c.market c.plan budget ahead r × (text ≡ text_of r)
+IsReportText text_of budget ahead c text =
+    (r : Report) × IsRightReport c.market c.plan budget ahead r × (text ≡ text_of r)
 
 -- words that are refused at once
 abbrev pub refused : WordFault → Command
@@ -49,7 +51,8 @@ refused f = record {
   IsText = λ reads c text. ⊥;
 }
 
--- THE COMMAND OF THE WORDS. A further command is a further case here; one that isn't built yet is an unknown one.
+-- THE COMMAND OF THE WORDS. A further command is a further case here; one that isn't built yet is
+-- an unknown one.
 abbrev pub command_for : Result Asked WordFault → Command
 -- whether a schedule is feasible, and what it costs
 command_for (Ok (check a)) = record {
@@ -74,15 +77,17 @@ command_for (Err f) = refused f
 
 -- ---- what was read
 
--- The bytes read of a file are those that the shelf tells of it, where it tells any. Its read failed only where the count
--- of its name rose.
+-- The bytes read of a file are those that the shelf tells of it, where it tells any. Its read
+-- failed only where the count of its name rose.
 abbrev pub IsReadOf : (told : Option (List ℕ)) (rose : Type 0) → Option (List ℕ) → Type 0
 IsReadOf told rose (Some bytes) = IfSome told (λ all. bytes ≡ all)
 IsReadOf told rose None = rose
 
 -- each file that has a name was read
-abbrev pub AreReads : (told : List ℕ → Option (List ℕ)) (rose : List ℕ → Type 0) → (FileKind → Option (List ℕ)) → Reads → Type 0
-AreReads told rose name_of reads = (file : FileKind) → IfSome (name_of file) (λ name. IsReadOf (told name) (rose name) (reads file))
+abbrev pub AreReads : (told : List ℕ → Option (List ℕ)) (rose : List ℕ → Type 0) →
+    (FileKind → Option (List ℕ)) → Reads → Type 0
+AreReads told rose name_of reads =
+    (file : FileKind) → IfSome (name_of file) (λ name. IsReadOf (told name) (rose name) (reads file))
 
 -- ---- how a run ends
 
@@ -94,21 +99,26 @@ status_at (Refused f) = status_of f
 
 -- some text of an accepted input has P
 abbrev pub HasText : Command → Reads → (List ℕ → Type 0) → Type 0
-HasText c reads P = (i : PlannedCase) × c.IsDue reads (Ok i) × (text : List ℕ) × c.IsText reads i text × P text
+HasText c reads P =
+    (i : PlannedCase) × c.IsDue reads (Ok i) × (text : List ℕ) × c.IsText reads i text × P text
 
--- `gained` says of a text that the sink has it whole, and `short` that the sink has a front of it and its count rose.
+-- `gained` says of a text that the sink has it whole, and `short` that the sink has a front of it
+-- and its count rose.
 --   0: the text of an accepted input was gained
 --   6: it fell short
---   else: the line of the first refusal was written, as far as the sink took it. A failed read is such a refusal, and want of
---   memory may come at any time.
+--   else: the line of the first refusal was written, as far as the sink took it. A failed read is
+--   such a refusal, and want of memory may come at any time.
 abbrev pub Ends : Command → Reads → (gained short : List ℕ → Type 0) → End → Type 0
 Ends c reads gained short Done = HasText c reads gained
 Ends c reads gained short Cut = HasText c reads short
-Ends c reads gained short (Refused f) = (c.IsDue reads (Err f) ⊎ (f ≡ Memory)) × (gained (fault_line f) ⊎ short (fault_line f))
+Ends c reads gained short (Refused f) =
+    (c.IsDue reads (Err f) ⊎ (f ≡ Memory)) × (gained (fault_line f) ⊎ short (fault_line f))
 
--- THE OUTCOME of a run of these words: there are bytes that were read of each file that the words name, or reads that failed
--- as a count tells, and the run ended as is due on them, with the status of that end.
-pub record IsOutcome (words : List (List ℕ)) (told : List ℕ → Option (List ℕ)) (rose gained short : List ℕ → Type 0) (status : ℕ) : Type 0 where
+-- THE OUTCOME of a run of these words: there are bytes that were read of each file that the words
+-- name, or reads that failed as a count tells, and the run ended as is due on them, with the status
+-- of that end.
+pub record IsOutcome (words : List (List ℕ)) (told : List ℕ → Option (List ℕ))
+    (rose gained short : List ℕ → Type 0) (status : ℕ) : Type 0 where
   pub reads : Reads
   pub are_reads : AreReads told rose (command_for (words_of words)).name_of reads
   pub end : End

@@ -1,5 +1,5 @@
--- One run on one board: rounds of claim, answer and post until the board has finished, and then the settlement (this
--- project's profile).
+-- One run on one board: rounds of claim, answer and post until the board has finished, and then the
+-- settlement (this project's profile).
 use Rattle.std.specs.Prelude.{◌≡◌, ℕ, ◌+◌, ◌≤◌, Bool, true, false, [], length}
 use Rattle.board_history.specs.Board.{Setup, Content}
 use Rattle.board_history.specs.Calls.{has_finished}

@@ -1,5 +1,6 @@
--- The steps of a command, in the order in which they refuse: each goes on with what it found, or ends in a refusal (this
--- project's profile). What a file's bytes are is said in uc_case and uc_plan, the rules of a schedule in uc_model.
+-- The steps of a command, in the order in which they refuse: each goes on with what it found, or
+-- ends in a refusal (this project's profile). What a file's bytes are is said in uc_case and
+-- uc_plan, the rules of a schedule in uc_model.
 use Rattle.std.specs.Prelude.{◌≡◌, ℕ, ◌*◌, ℤ, nat_lt, List, [], length, Option, None, Some, Result, Ok, Err, slice_get, if◌then◌else◌}
 use Rattle.std.specs.Result.{result_map_both}
 use Rattle.uc_model.specs.Data.{Market, Schedule, unit_count}
@@ -22,12 +23,14 @@ use Rattle.hull_report.specs.declared.fault.TopFault.TheVariants.{Read, CaseText
 -- ---- one step after another
 
 -- where the step found x, the next one goes on with it; else its refusal stands
-abbrev pub Goes : {A B : Type 0} → Result A TopFault → (A → Result B TopFault → Type 0) → Result B TopFault → Type 0
+abbrev pub Goes : {A B : Type 0} → Result A TopFault → (A → Result B TopFault → Type 0) →
+    Result B TopFault → Type 0
 Goes (Ok x) next due = next x due
 Goes (Err fault) next due = due ≡ Err fault
 
 -- one step, and then the next
-abbrev pub Then : {A B : Type 0} → (Result A TopFault → Type 0) → (A → Result B TopFault → Type 0) → Result B TopFault → Type 0
+abbrev pub Then : {A B : Type 0} → (Result A TopFault → Type 0) →
+    (A → Result B TopFault → Type 0) → Result B TopFault → Type 0
 Then {A} first next due = (found : Result A TopFault) × first found × Goes found next due
 
 -- ---- a file
@@ -39,7 +42,8 @@ Reads = FileKind → Option (List ℕ)
 -- its bytes, where it was read and hasn't more than 67,108,864
 abbrev pub bytes_of : FileKind → Option (List ℕ) → Result (List ℕ) TopFault
 bytes_of file None = Err (Read file)
-bytes_of file (Some bytes) = if nat_lt MOST_BYTES (length bytes) then Err (TooBig file) else Ok bytes
+bytes_of file (Some bytes) =
+    if nat_lt MOST_BYTES (length bytes) then Err (TooBig file) else Ok bytes
 
 abbrev pub IsBytes : FileKind → Option (List ℕ) → Result (List ℕ) TopFault → Type 0
 IsBytes file read due = due ≡ bytes_of file read
@@ -52,7 +56,9 @@ case_fault (value f) = CaseField f
 
 -- the case that bytes are, or else the first fault of their text or of its values
 abbrev pub IsCase : List ℕ → Result Market TopFault → Type 0
-IsCase bytes due = (found : Result Market (FileFault FieldFault)) × IsCaseOf bytes found × (due ≡ result_map_both (λ m. m) case_fault found)
+IsCase bytes due =
+    (found : Result Market (FileFault FieldFault)) × IsCaseOf bytes found
+    × (due ≡ result_map_both (λ m. m) case_fault found)
 
 -- the case of its file
 abbrev pub IsCaseFile : Option (List ℕ) → Result Market TopFault → Type 0
@@ -66,7 +72,9 @@ plan_fault (value f) = PlanShape f
 
 -- the schedules of all units that bytes are, or else the first fault of their text or of its values
 abbrev pub IsPlan : Market → List ℕ → Result (List Schedule) TopFault → Type 0
-IsPlan m bytes due = (found : Result (List Schedule) (FileFault ShapeFault)) × IsPlanOf m bytes found × (due ≡ result_map_both (λ plan. plan) plan_fault found)
+IsPlan m bytes due =
+    (found : Result (List Schedule) (FileFault ShapeFault)) × IsPlanOf m bytes found
+    × (due ≡ result_map_both (λ plan. plan) plan_fault found)
 
 -- the schedules of their file
 abbrev pub IsPlanFile : Market → Option (List ℕ) → Result (List Schedule) TopFault → Type 0
@@ -80,18 +88,28 @@ pub record PlannedCase : Type 0 where
 
 -- a feasible schedule comes with its cost, and any other with its first refusal
 abbrev pub IsChecked : Market → List Schedule → Result PlannedCase TopFault → Type 0
-IsChecked m plan (Ok c) = IsFeasiblePlan m plan × (refusals m plan ≡ []) × (c ≡ record { market = m; plan = plan; cost = plan_cost m plan })
-IsChecked m plan (Err f) = (rule : RuleFault) × (f ≡ PlanRule rule) × (slice_get (refusals m plan) 0 ≡ Some (refusal_of rule))
+IsChecked m plan (Ok c) =
+    IsFeasiblePlan m plan × (refusals m plan ≡ [])
+    × (c ≡ record { market = m; plan = plan; cost = plan_cost m plan })
+IsChecked m plan (Err f) =
+    (rule : RuleFault) × (f ≡ PlanRule rule)
+    × (slice_get (refusals m plan) 0 ≡ Some (refusal_of rule))
 
--- THE INPUT of a command that reads files: the case, then the form of its schedule, and then the rules
+-- THE INPUT of a command that reads files: the case, then the form of its schedule, then its rules
 abbrev pub IsInput : Reads → Result PlannedCase TopFault → Type 0
-IsInput reads = Then (IsCaseFile (reads CaseFile)) (λ m. Then (IsPlanFile m (reads ScheduleFile)) (IsChecked m))
+IsInput reads =
+    Then (IsCaseFile (reads CaseFile)) (λ m.
+    Then (IsPlanFile m (reads ScheduleFile)) (IsChecked m))
 
 -- ---- a run
 
 -- the case that a number stands for, with its feasible schedule
 abbrev pub made_case : ℕ → PlannedCase
-made_case number = record { market = (made number).market; plan = (made number).plan; cost = plan_cost (made number).market (made number).plan }
+made_case number = record {
+  market = (made number).market;
+  plan = (made number).plan;
+  cost = plan_cost (made number).market (made number).plan;
+}
 
 abbrev pub IsMade : ℕ → Result PlannedCase TopFault → Type 0
 IsMade number (Ok c) = IsFeasiblePlan c.market c.plan × (c ≡ made_case number)

@@ -38,7 +38,8 @@ pub enum Answer {
 fn command_of(alloc: Global, words: &[String]) -> Result<Command, TopFault>
     ensures given { IfOk result (λ c. words_of (texts words.now) ≡ Ok (asked c)) }
     ensures sizes { IfOk result (λ c. HasSizes (asked c)) }
-    ensures refused { IfErr result (λ f. (reads : Reads) → IsFaultOf ((command_for (words_of (texts words.now))).IsDue reads) f) }
+    ensures refused { IfErr result (λ f. (reads : Reads)
+        → IsFaultOf ((command_for (words_of (texts words.now))).IsDue reads) f) }
 {
     match read_words(alloc, words) {
         Ok(command) => Ok(command),
@@ -147,7 +148,8 @@ fn try_size(words: &TryWords) -> RunSize
 /// What `hull try` answers.
 fn answer_try(alloc: Global, words: &TryWords) -> Result<Answer, TopFault>
     requires { IsRunSize words.now.proposals words.now.workers words.now.ahead }
-    ensures answers { (reads : Reads) → IsCommandAnswer (command_for (Ok (try (try_asked words.now)))) reads result }
+    ensures answers { (reads : Reads)
+        → IsCommandAnswer (command_for (Ok (try (try_asked words.now)))) reads result }
     ensures answered { IfOk result (λ answer. IsAnswered answer) }
 {
     let Ok(input) = made_input(alloc, words.number) else {
@@ -180,7 +182,8 @@ fn answer_command<F: Shelf>(
         (λ reads. IsCommandAnswer (command_for (Ok (asked command.now))) reads result) }
     ensures answered { IfOk result (λ answer. IsAnswered answer) }
     ensures shelf { IsLaterShelf F.told F.faults shelf.old shelf.new }
-    ensures unread { ((file : FileKind) → (command_for (Ok (asked command.now))).name_of file ≡ None) → shelf.new ≡ shelf.old }
+    ensures unread { ((file : FileKind) → (command_for (Ok (asked command.now))).name_of file ≡ None)
+        → shelf.new ≡ shelf.old }
 {
     match command {
         Command::Check(words) => answer_check(alloc, shelf, words),
@@ -204,7 +207,8 @@ pub fn answer_run<F: Shelf>(
         (λ reads. IsCommandAnswer (command_for (words_of (texts words.now))) reads result) }
     ensures answered { IfOk result (λ answer. IsAnswered answer) }
     ensures shelf { IsLaterShelf F.told F.faults shelf.old shelf.new }
-    ensures unread { ((file : FileKind) → (command_for (words_of (texts words.now))).name_of file ≡ None) → shelf.new ≡ shelf.old }
+    ensures unread { ((file : FileKind) → (command_for (words_of (texts words.now))).name_of file ≡ None)
+        → shelf.new ≡ shelf.old }
 {
     let command = command_of(alloc, words)?;
     answer_command(alloc, shelf, &command)

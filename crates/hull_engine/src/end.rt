@@ -11,7 +11,7 @@ ghost use Rattle.hull_engine.specs.Rounds.{IsEnded};
 use crate::answers::Answer;
 use crate::run::Done;
 use hull_io::{Sink, WriteFailed};
-use hull_report::laws::record_report_is_right;
+use hull_report::laws::{record_report_is_right, settlements_are_of_all_units};
 use hull_report::{TopFault, write_check, write_fault, write_report, write_try};
 
 /// How a run ended.
@@ -38,8 +38,8 @@ impl End {
     }
 }
 
-/// Writes the report of a run that has ended, which is left as it was but for its room for an answer. It takes no memory,
-/// and fails only where the sink does.
+/// Writes the report of a run that has ended, which is left as it was but for its room for an
+/// answer. It takes no memory, and fails only where the sink does.
 pub fn finish_run<S: Sink>(done: &mut Done, out: &mut S) -> Result<(), WriteFailed>
     requires { IsEnded done.old.closed.setup done.old }
     ensures text { Writes S.held S.faults S.last out.old out.new result (report_text (report_of done.old.closed done.old.settlement)) }
@@ -47,6 +47,7 @@ pub fn finish_run<S: Sink>(done: &mut Done, out: &mut S) -> Result<(), WriteFail
     ensures settlement { done.new.settlement ≡ done.old.settlement }
     ensures horizon { length (schedule_of done.new.buffer.response).on ≡ done.old.closed.setup.market.periods }
 {
+    settlements_are_of_all_units();
     write_report(&done.closed, &done.settlement, &mut done.buffer, out)
 }
 
@@ -62,7 +63,8 @@ fn let_go(done: Done) {
 /// Writes the text of the answer.
 fn write_answer<S: Sink>(answer: Answer, out: &mut S) -> Result<(), WriteFailed>
     requires { IsAnswered answer }
-    ensures { (text : List ℕ) × IsTextOf answer text × Writes S.held S.faults S.last out.old out.new result text }
+    ensures { (text : List ℕ) × IsTextOf answer text
+        × Writes S.held S.faults S.last out.old out.new result text }
 {
     record_report_is_right();
     match answer {
@@ -83,7 +85,8 @@ fn write_answer<S: Sink>(answer: Answer, out: &mut S) -> Result<(), WriteFailed>
 /// Writes the text of the answer, or the line of the fault.
 pub fn finish<S: Sink>(answer: Result<Answer, TopFault>, out: &mut S) -> End
     requires { IfOk answer (λ answer. IsAnswered answer) }
-    ensures { IsEndOf (Gains S.held S.faults out.old out.new) (FallsShort S.held S.faults S.last out.old out.new) answer result }
+    ensures { IsEndOf (Gains S.held S.faults out.old out.new)
+        (FallsShort S.held S.faults S.last out.old out.new) answer result }
 {
     match answer {
         Ok(answer) => match write_answer(answer, out) {

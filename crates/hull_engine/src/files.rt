@@ -1,4 +1,5 @@
-//! The files of a command: the case and its schedule, read and judged in the order of their refusals.
+//! The files of a command: the case and its schedule, read and judged in the order of their
+//! refusals.
 ghost use Rattle.std.specs.Prelude.{◌≡◌, ◌≤◌, ℕ, true, List, Option, Vec, length, vec_len, IfOk};
 ghost use Rattle.std.specs.Global.{Global};
 ghost use Rattle.uc_model.specs.Laws.{HasPlanShape};
@@ -28,7 +29,8 @@ fn read_bytes<F: Shelf>(
     name: &str,
     file: FileKind,
 ) -> Result<Vec<u8>, TopFault>
-    ensures answers { HasRead (F.told shelf.old name.now) (Rose F.last (F.faults shelf.old name.now) (F.faults shelf.new name.now))
+    ensures answers { HasRead (F.told shelf.old name.now)
+        (Rose F.last (F.faults shelf.old name.now) (F.faults shelf.new name.now))
         (λ read. IsAnswer (IsBytes file read) (λ (v : Vec ℕ Global). v.items) result) }
     ensures fits { IfOk result (λ v. vec_len v ≤ MOST_BYTES) }
     ensures shelf { IsLaterShelf F.told F.faults shelf.old shelf.new }
@@ -56,7 +58,8 @@ fn case_in(alloc: Global, bytes: &[u8]) -> Result<Case, TopFault>
 
 /// The case of a file.
 fn read_case_file<F: Shelf>(alloc: Global, shelf: &mut F, name: &str) -> Result<Case, TopFault>
-    ensures answers { HasRead (F.told shelf.old name.now) (Rose F.last (F.faults shelf.old name.now) (F.faults shelf.new name.now))
+    ensures answers { HasRead (F.told shelf.old name.now)
+        (Rose F.last (F.faults shelf.old name.now) (F.faults shelf.new name.now))
         (λ read. IsAnswer (IsCaseFile read) market_of result) }
     ensures shelf { IsLaterShelf F.told F.faults shelf.old shelf.new }
 {
@@ -85,7 +88,8 @@ fn read_plan_file<F: Shelf>(
     name: &str,
     case: &Case,
 ) -> Result<Plan, TopFault>
-    ensures answers { HasRead (F.told shelf.old name.now) (Rose F.last (F.faults shelf.old name.now) (F.faults shelf.new name.now))
+    ensures answers { HasRead (F.told shelf.old name.now)
+        (Rose F.last (F.faults shelf.old name.now) (F.faults shelf.new name.now))
         (λ read. IsAnswer (IsPlanFile (market_of case.now) read) schedules_of result) }
     ensures shape { IfOk result (λ plan. HasPlanShape (market_of case.now) (schedules_of plan)) }
     ensures shelf { IsLaterShelf F.told F.faults shelf.old shelf.new }
@@ -114,8 +118,10 @@ fn read_schedule<F: Shelf>(
     name: &str,
     case: Case,
 ) -> Result<Input, TopFault>
-    ensures answers { HasRead (F.told shelf.old name.now) (Rose F.last (F.faults shelf.old name.now) (F.faults shelf.new name.now))
-        (λ read. IsAnswer (Then (IsPlanFile (market_of case) read) (IsChecked (market_of case))) planned_of result) }
+    ensures answers { HasRead (F.told shelf.old name.now)
+        (Rose F.last (F.faults shelf.old name.now) (F.faults shelf.new name.now))
+        (λ read. IsAnswer (Then (IsPlanFile (market_of case) read) (IsChecked (market_of case)))
+        planned_of result) }
     ensures planned { IfOk result (λ input. IsPlanned input) }
     ensures shelf { IsLaterShelf F.told F.faults shelf.old shelf.new }
 {
@@ -130,8 +136,10 @@ pub fn read_input<F: Shelf>(
     case_name: &str,
     schedule_name: &str,
 ) -> Result<Input, TopFault>
-    ensures answers { HasReads (F.told shelf.old) (λ name. Rose F.last (F.faults shelf.old name) (F.faults shelf.new name))
-        (case_and_schedule case_name.now schedule_name.now) (λ reads. IsAnswer (IsInput reads) planned_of result) }
+    ensures answers { HasReads (F.told shelf.old)
+        (λ name. Rose F.last (F.faults shelf.old name) (F.faults shelf.new name))
+        (case_and_schedule case_name.now schedule_name.now)
+        (λ reads. IsAnswer (IsInput reads) planned_of result) }
     ensures planned { IfOk result (λ input. IsPlanned input) }
     ensures shelf { IsLaterShelf F.told F.faults shelf.old shelf.new }
 {

@@ -21,8 +21,8 @@ pub struct Input {
     pub cost: i128,
 }
 
-/// How large a run is: the most proposals, the number of workers, and how many proposals may be open ahead of the last
-/// answered one.
+/// How large a run is: the most proposals, the number of workers, and how many proposals may be
+/// open ahead of the last answered one.
 #[derive(Clone, Copy)]
 pub struct RunSize {
     pub proposals: u32,
@@ -58,7 +58,8 @@ fn work_of(proposals: u32, units: u32, periods: u32) -> u64
 pub fn within_work(input: Input, size: RunSize) -> Result<RunInput, TopFault>
     requires planned { IsPlanned input }
     requires size { IsRunSize size.proposals size.workers size.ahead }
-    ensures answers { IsAnswer (IsWithinWork size.proposals (planned_of input)) (λ (run : RunInput). planned_of run.input) result }
+    ensures answers { IsAnswer (IsWithinWork size.proposals (planned_of input))
+        (λ (run : RunInput). planned_of run.input) result }
     ensures ready { IfOk result (λ run. IsRunInput run) }
     ensures size { IfOk result (λ run. run.size ≡ size) }
 {

@@ -1,5 +1,5 @@
-//! Laws over runs: each is the contract of a function that answers nothing. They follow from `IsOutcome`, which `hull_run`
-//! ensures of its run.
+//! Laws over runs: each is the contract of a function that answers nothing. They follow from
+//! `IsOutcome`, which `hull_run` ensures of its run.
 ghost use Rattle.hull_engine.specs.Laws.{OneDue, OneText, AcceptedIsFeasible, EachStatusHasItsCause, WhatWasReadDecides, WordsFollow, ReportsAreRight};
 
 use hull_io::{Shelf, Sink};
@@ -7,8 +7,8 @@ use hull_report::laws::{one_report_is_right, report_payments_make_up_the_gap};
 use uc_case::laws::one_case;
 use uc_plan::laws::one_plan;
 
-/// Over what was read, at most one input is accepted or one refusal is due. So `each_status_has_its_cause` also says that a
-/// status comes nowhere else.
+/// Over what was read, at most one input is accepted or one refusal is due. So
+/// `each_status_has_its_cause` also says that a status comes nowhere else.
 pub fn one_thing_is_due()
     ensures { OneDue }
 {
@@ -16,8 +16,8 @@ pub fn one_thing_is_due()
     one_plan();
 }
 
-/// At most one text may be printed of an input: what `hull price` prints is a function of the case, the schedule, the
-/// budget and the number of proposals ahead.
+/// At most one text may be printed of an input: what `hull price` prints is a function of the case,
+/// the schedule, the budget and the number of proposals ahead.
 pub fn one_text_is_right()
     ensures { OneText }
 {
@@ -34,8 +34,8 @@ pub fn each_status_has_its_cause<F: Shelf, S: Sink>()
     ensures { EachStatusHasItsCause F.told F.faults F.last S.held S.faults S.last }
 {}
 
-/// Where no count rose, what was read decides: an accepted input ends in 0 and a refusal in its status, unless memory ran
-/// out.
+/// Where no count rose, what was read decides: an accepted input ends in 0 and a refusal in its
+/// status, unless memory ran out.
 pub fn what_was_read_decides<F: Shelf, S: Sink>()
     ensures { WhatWasReadDecides F.told F.faults F.last S.held S.faults S.last }
 {

@@ -1,4 +1,5 @@
-//! The top call: a command's text for the files that its words name, or the line of the first fault.
+//! The top call: a command's text for the files that its words name, or the line of the first
+//! fault.
 #![tactic(auto)]
 
 ghost use Rattle.std.specs.Prelude.{◌≡◌, ◌≤◌, None};
@@ -23,12 +24,14 @@ use hull_io::{Shelf, Sink};
 pub use run::{Done, Run, open_run, run_board};
 use std::alloc::Global;
 
-/// Runs the command that the words give, and answers its status: 0 where its text was written whole, and otherwise
-/// the status of the one fault line that was written, or 6 where the sink failed within the text.
+/// Runs the command that the words give, and answers its status: 0 where its text was written
+/// whole, and otherwise the status of the one fault line that was written, or 6 where the sink
+/// failed within the text.
 ///
-/// What that says of a run is one relation, `IsOutcome` in specs/Outcome.antt, to be read from top to bottom. `laws` has what
-/// follows from it: the cause of each status, that at most one thing is due, that where no count rose what was read
-/// decides but for want of memory, and what a report that was printed promises.
+/// What that says of a run is one relation, `IsOutcome` in specs/Outcome.antt, to be read from top
+/// to bottom. `laws` has what follows from it: the cause of each status, that at most one thing is
+/// due, that where no count rose what was read decides but for want of memory, and what a report
+/// that was printed promises.
 pub fn hull_run<F: Shelf, S: Sink>(
     alloc: Global,
     words: &[String],
@@ -40,10 +43,12 @@ pub fn hull_run<F: Shelf, S: Sink>(
         (Gains S.held S.faults out.old out.new)
         (FallsShort S.held S.faults S.last out.old out.new) result }
 
-    // What is told of the files stays so and no count falls. Where no file is to be read, the shelf is left as it was.
+    // What is told of the files stays so and no count falls. Where no file is to be read, the shelf
+    // is left as it was.
     ensures shelf { IsLaterShelf F.told F.faults shelf.old shelf.new }
     ensures sink { S.faults out.old ≤ S.faults out.new }
-    ensures unread { ((file : FileKind) → (command_for (words_of (texts words.now))).name_of file ≡ None) → shelf.new ≡ shelf.old }
+    ensures unread { ((file : FileKind) → (command_for (words_of (texts words.now))).name_of file ≡ None)
+        → shelf.new ≡ shelf.old }
 {
     let answer = answer_run(alloc, words, shelf);
     let end = finish(answer, out);

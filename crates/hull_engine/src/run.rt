@@ -1,5 +1,5 @@
-//! One run of the price rule: a board whose tasks are answered one after another, and the settlement at the prices that
-//! it chooses.
+//! One run of the price rule: a board whose tasks are answered one after another, and the
+//! settlement at the prices that it chooses.
 ghost use Rattle.std.specs.Prelude.{◌≡◌, ◌+◌, ◌*◌, ◌<◌, ◌≤◌, ℕ, true, length, IfOk, OnOk};
 ghost use Rattle.board_history.specs.Board.{Setup};
 ghost use Rattle.board_history.specs.Calls.{own_rows, has_finished};
@@ -18,6 +18,10 @@ ghost use Rattle.hull_engine.specs.Rounds.{EndsRound, IsOpened, setup_of, IsEnde
 use crate::input::{Input, RunInput, RunSize, unit_count};
 use crate::tasks::answer_task;
 use board_core::{Board, Claim, Closed};
+use board_history::laws::{
+    claims_are_given, events_are_at_most, finished_has_row, given_is_taken, rows_are_within,
+};
+use hull_report::laws::{answers_are_tops, one_row_is_chosen};
 use std::alloc::{AllocError, Global};
 use uc_model::cases::{Case, Plan, Task};
 use uc_model::lists::Numbers;
@@ -29,7 +33,8 @@ const CALLER: u32 = 0;
 
 const CALLERS: u32 = 1;
 
-/// A run that is opened: its board, and room for a task, an answer, the settlement and what each unit earns at best.
+/// A run that is opened: its board, and room for a task, an answer, the settlement and what each
+/// unit earns at best.
 #[derive(Drop)]
 pub struct Run {
     pub board: Board,
@@ -39,8 +44,8 @@ pub struct Run {
     pub earned: Numbers,
 }
 
-/// A run that has ended: the record of its board, the settlement of the schedule at the chosen prices, and room for an
-/// answer.
+/// A run that has ended: the record of its board, the settlement of the schedule at the chosen
+/// prices, and room for an answer.
 #[derive(Drop)]
 pub struct Done {
     pub closed: Closed,
@@ -48,8 +53,8 @@ pub struct Done {
     pub buffer: Answered,
 }
 
-/// Opens the run of an input. The work is done on one thread, whatever the number of workers. `AllocError` is want of
-/// memory; the input is then dropped.
+/// Opens the run of an input. The work is done on one thread, whatever the number of workers.
+/// `AllocError` is want of memory; the input is then dropped.
 pub fn open(alloc: Global, run: RunInput) -> Result<Run, AllocError>
     requires { IsSetup (setup_of run) }
     ensures { IfOk result (λ opened. IsOpened (setup_of run) opened) }
@@ -71,8 +76,9 @@ pub fn open(alloc: Global, run: RunInput) -> Result<Run, AllocError>
     })
 }
 
-/// Opens a run for a case with a feasible schedule of that cost: at most so many proposals, of which `ahead` may be open
-/// ahead of the answered ones. `AllocError` is want of memory; the case and the schedule are then dropped.
+/// Opens a run for a case with a feasible schedule of that cost: at most so many proposals, of
+/// which `ahead` may be open ahead of the answered ones. `AllocError` is want of memory; the case
+/// and the schedule are then dropped.
 pub fn open_run(
     alloc: Global,
     case: Case,
@@ -111,6 +117,9 @@ fn answer_next(
     ensures buffer { OnOk result (length (schedule_of buffer.new.response).on ≡ board.old.setup.market.periods) }
     ensures most { OnOk result (posts_in board.new.events ≤ board.new.setup.budget * units_in board.new.setup.market) }
 {
+    claims_are_given();
+    given_is_taken();
+    events_are_at_most();
     board.is_legal();
     match board.claim(CALLER, task) {
         Claim::Given => {
@@ -139,6 +148,7 @@ fn answer_all(
     ensures finished { OnOk result (has_finished board.new ≡ true) }
     ensures buffer { OnOk result (length (schedule_of buffer.new.response).on ≡ board.old.setup.market.periods) }
 {
+    events_are_at_most();
     board.is_legal();
     loop {
         if !answer_next(alloc, board, task, buffer)? {
@@ -147,7 +157,8 @@ fn answer_all(
     }
 }
 
-/// Leaves what each unit earns at best at the prices of a row, in money and in the order of the units' numbers.
+/// Leaves what each unit earns at best at the prices of a row, in money and in the order of the
+/// units' numbers.
 fn earn_at(closed: &Closed, row: u32, earned: &mut Numbers)
     requires first { 1 ≤ row }
     requires last { row ≤ length (own_rows closed.now) }
@@ -169,6 +180,10 @@ fn settle_chosen(closed: &Closed, earned: &mut Numbers, settlement: &mut Settlem
     requires payments { length settlement.old.payments.items ≡ units_in closed.now.setup.market }
     ensures { (row : Proposal) × IsSettledRecord closed.now settlement.new row }
 {
+    finished_has_row();
+    rows_are_within();
+    one_row_is_chosen();
+    answers_are_tops();
     closed.is_legal();
     let chosen = closed.chosen();
     earn_at(closed, chosen, earned);
@@ -182,8 +197,8 @@ fn settle_chosen(closed: &Closed, earned: &mut Numbers, settlement: &mut Settlem
     );
 }
 
-/// Runs until every proposal that the budget and the price rule call for is answered, and settles the schedule at the
-/// chosen prices. `AllocError` is want of memory for an answer.
+/// Runs until every proposal that the budget and the price rule call for is answered, and settles
+/// the schedule at the chosen prices. `AllocError` is want of memory for an answer.
 pub fn run_board(alloc: Global, run: Run) -> Result<Done, AllocError>
     requires { IsOpened run.board.setup run }
     ensures { IfOk result (λ done. IsEnded run.board.setup done) }

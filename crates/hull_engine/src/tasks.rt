@@ -32,7 +32,8 @@ fn answer_thermal(
     Ok(())
 }
 
-/// Leaves the answer to a task in `into`, which is over the task's periods. Some schedule of the unit is feasible.
+/// Leaves the answer to a task in `into`, which is over the task's periods. Some schedule of the
+/// unit is feasible.
 pub fn answer_task(alloc: Global, task: &Task, into: &mut Answered) -> Result<(), AllocError>
     requires some { HasSchedule (task_unit task.now) (length (prices_of task.now.prices).energy) }
     requires horizon { length (schedule_of into.old.response).on ≡ length (prices_of task.now.prices).energy }

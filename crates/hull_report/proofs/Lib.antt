@@ -1,13 +1,15 @@
 -- parts.rt, pieces.rt, record.rt: how what a sink holds grows
 mod GrownLemmas
 -- pieces.rt: texts that are written in pieces
-pub mod PieceLemmas
+mod PieceLemmas
 -- parts.rt: names, and numbers in digits
-pub mod NameLemmas
+mod NameLemmas
 mod NumeralLaws
 -- record.rt: the lines of a record's units, its rows, and the whole text
-pub mod UnitLines
-pub mod Records
+mod ChosenRow
+mod MadeRows
+mod UnitLines
+mod Records
 mod Sizes
 mod RecordTexts
 mod RecordLines

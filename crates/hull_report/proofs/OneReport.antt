@@ -9,8 +9,7 @@ use Rattle.uc_model.specs.PriceRule.{Proposal, chosen_number}
 use Rattle.uc_model.specs.Runs.{Fits}
 use Rattle.uc_model.specs.Sums.{total, zip_with}
 use Rattle.uc_model.specs.Systems.{plan_cost, IsDualValue, IsSettled}
-use Rattle.uc_model.proofs.Duality.{payments_and_surplus}
-use Rattle.uc_model.proofs.TieLaws.{one_least}
+use Rattle.uc_model.specs.Laws.{OneLeast, PaymentsMakeUpTheGap}
 use Rattle.hull_report.specs.ReportText.{UnitLine, Report}
 use Rattle.hull_report.specs.RightReport.{unit_lines, HasNames, IsRightReport}
 use Rattle.hull_report.specs.Laws.{OneRightReport, ReportPaymentsMakeUpTheGap}
@@ -105,7 +104,7 @@ kinds_same m r s h i e =
 -- ---- right reports
 
 -- where two of them choose the same row
-module _ (m : Market) (plan : List Schedule) (budget ahead : ℕ) (r s : Report) (h : IsRightReport m plan budget ahead r) (i : IsRightReport m plan budget ahead s) (row : h.row ≡ i.row) where
+module _ (one_least : OneLeast) (m : Market) (plan : List Schedule) (budget ahead : ℕ) (r s : Report) (h : IsRightReport m plan budget ahead r) (i : IsRightReport m plan budget ahead s) (row : h.row ≡ i.row) where
   settlement : SameSettlement (map (λ (l : UnitLine). l.scheduled) (unit_lines r)) (map (λ (l : UnitLine). l.payment) (unit_lines r))
       (map (λ (l : UnitLine). l.scheduled) (unit_lines s)) (map (λ (l : UnitLine). l.payment) (unit_lines s)) r.surplus r.payments s.surplus s.payments
   settlement =
@@ -129,15 +128,15 @@ module _ (m : Market) (plan : List Schedule) (budget ahead : ℕ) (r s : Report)
             (zip_map (λ u t. Fits u π t) response (units m) (unit_lines r) fits) (zip_map (λ u t. Fits u π t) response (units m) (unit_lines s) i.responses_fit);
       })
 
-pub one_right_report : OneRightReport
-one_right_report m plan budget ahead r s h i =
-    let rows = one_run m (plan_cost m plan) budget ahead r.rows s.rows h.run i.run in
+pub one_right_report : OneLeast → OneRightReport
+one_right_report one_least m plan budget ahead r s h i =
+    let rows = one_run one_least m (plan_cost m plan) budget ahead r.rows s.rows h.run i.run in
     let chosen : r.chosen ≡ s.chosen = h.chosen_is ∙ ap chosen_number rows ∙ sym i.chosen_is in
     let row : h.row ≡ i.row = same_Some h.row i.row (sym h.is_chosen ∙ (λ j. slice_get (rows j) (chosen j - 1)) ∙ i.is_chosen) in
     let value : r.value ≡ s.value = h.value_is ∙ ap (λ (p : Proposal). p.value) row ∙ sym i.value_is in
     let cost : r.cost ≡ s.cost = h.cost_is ∙ sym i.cost_is in
-    let money = settlement m plan budget ahead r s h i row in
-    let kinds = kinds_same m r s h.names i.names (all_lines_same m plan budget ahead r s h i row) in
+    let money = settlement one_least m plan budget ahead r s h i row in
+    let kinds = kinds_same m r s h.names i.names (all_lines_same one_least m plan budget ahead r s h i row) in
     λ j. record {
       periods = (h.periods_are ∙ sym i.periods_are) j;
       units = (h.units_are ∙ sym i.units_are) j;
@@ -156,10 +155,10 @@ one_right_report m plan budget ahead r s h i =
     }
 
 -- the chosen row's value is the dual value at its prices
-pub report_payments : ReportPaymentsMakeUpTheGap
-report_payments m plan budget ahead r feasible h =
+pub report_payments : PaymentsMakeUpTheGap → ReportPaymentsMakeUpTheGap
+report_payments payments_make_up m plan budget ahead r feasible h =
     let k = r.chosen - 1 in
     let right = (h.run.right.each k h.row (slice_get_within r.rows k h.row h.is_chosen)).value in
     let dual = subst (λ (p : Proposal). IsDualValue m p.prices p.value) (get_or_from_slice_get r.rows k h.row h.row h.is_chosen) right in
-    payments_and_surplus m plan h.row.prices h.row.value _ _ r.surplus r.payments feasible dual h.settled
+    payments_make_up m plan h.row.prices h.row.value _ _ r.surplus r.payments feasible dual h.settled
     ∙ (λ j. sym h.cost_is j -ℤ sym h.value_is j)

@@ -9,9 +9,8 @@ use Rattle.board_core.specs.Setups.{IsSetup}
 use Rattle.board_history.specs.Board.{Answer, Content, rules_of, IsLegalHistory}
 use Rattle.board_history.specs.Calls.{own_rows, has_finished}
 use Rattle.board_history.specs.Rounds.{posts, answer_at, closed_front, is_closed}
-use Rattle.board_history.proofs.Fronts.{front_le}
-use Rattle.board_history.proofs.Kept.{rows_length}
-use Rattle.board_history.proofs.RowLaws.{has_row, rows_fit}
+use Rattle.board_history.specs.Laws.{RowsAreRight, FinishedHasRow, FinishedIsRun}
+use Rattle.uc_model.specs.Runs.{Fits}
 use Rattle.uc_model.specs.declared.cases.Case.{Case}
 use Rattle.uc_model.specs.declared.cases.Row.{Row}
 use Rattle.uc_model.specs.declared.units.NamedUnit.{NamedUnit}
@@ -161,19 +160,19 @@ bid_lines line case m first k e h =
 
 -- ---- the chosen row
 
-pub rows_within : (c : Content) → length (own_rows c) ≤ c.setup.budget
-rows_within c =
-    let g = rules_of c.setup in
-    let p = posts c.events in
-    omega (arith, rows_length g p (closed_front g p), front_le (is_closed g p) c.setup.budget)
+pub most_rows : FinishedIsRun Fits → (c : Content) → IsSetup c.setup → IsLegalHistory c.setup c.events → has_finished c ≡ true → length (own_rows c) ≤ 10000
+most_rows run c setup legal finished =
+    let some = setup.market.some_unit in
+    let within = (run c.setup c.events setup.some_ahead (omega (arith, some)) legal finished).within in
+    omega (arith, within, setup.budget)
 
 pub record IsChosen (c : Content) : Type 0 where
   pub some : 1 ≤ length (own_rows c)
   pub first : 1 ≤ chosen_of c
   pub last : chosen_of c ≤ length (own_rows c)
 
-pub one_is_chosen : (c : Content) → 1 ≤ c.setup.budget → 1 ≤ c.setup.ahead → has_finished c ≡ true → IsChosen c
-one_is_chosen c budget ahead finished =
+pub chosen_in : FinishedHasRow → (c : Content) → 1 ≤ c.setup.budget → 1 ≤ c.setup.ahead → has_finished c ≡ true → IsChosen c
+chosen_in has_row c budget ahead finished =
     let some = has_row c ahead budget finished in
     let place = chosen_is (own_rows c) some in
     let inside = place.1 in
@@ -197,14 +196,14 @@ pub record IsChosenRow (c : Content) (row : Row) : Type 0 where
   pub value_fits : FitsSigned w128 row.value
   pub gap_fits : FitsSigned w128 (c.setup.cost -ℤ row.value)
 
-pub chosen_row : (c : Content) (rows : List Row) (row : Row) → IsSetup c.setup → IsLegalHistory c.setup c.events → has_finished c ≡ true → map proposal_of rows ≡ own_rows c →
+pub chosen_row : FinishedHasRow → RowsAreRight Fits → (c : Content) (rows : List Row) (row : Row) → IsSetup c.setup → IsLegalHistory c.setup c.events → has_finished c ≡ true → map proposal_of rows ≡ own_rows c →
     row ≡ get_or rows (chosen_of c - 1) row → IsChosenRow c row
-chosen_row c rows row setup legal finished e is =
+chosen_row has_row rows_fit c rows row setup legal finished e is =
     let m = c.setup.market in
     let k = chosen_of c - 1 in
     let long = ap length e in
     let count = length-map rows proposal_of in
-    let one = one_is_chosen c setup.some_budget setup.some_ahead finished in
+    let one = chosen_in has_row c setup.some_budget setup.some_ahead finished in
     let first = one.first in
     let last = one.last in
     let inside : k < length rows = omega (arith, long, count, first, last) in
@@ -228,10 +227,10 @@ pub record IsTold (c : Content) (cost : ℤ) (row : Row) : Type 0 where
   pub gap_fits : FitsSigned w128 (to_z w128 (of_z w128 cost) -ℤ to_z w128 (of_z w128 row.value))
   pub gap : to_z w128 (of_z w128 (to_z w128 (of_z w128 cost) -ℤ to_z w128 (of_z w128 row.value))) ≡ c.setup.cost -ℤ value_of c
 
-pub choice_told : (c : Content) (rows : List Row) (row : Row) (chosen : ℕ) (cost : ℤ) → IsSetup c.setup → IsLegalHistory c.setup c.events → has_finished c ≡ true → map proposal_of rows ≡ own_rows c →
+pub choice_told : FinishedHasRow → RowsAreRight Fits → (c : Content) (rows : List Row) (row : Row) (chosen : ℕ) (cost : ℤ) → IsSetup c.setup → IsLegalHistory c.setup c.events → has_finished c ≡ true → map proposal_of rows ≡ own_rows c →
     chosen ≡ chosen_of c → row ≡ get_or rows (chosen - 1) row → cost ≡ c.setup.cost → FitsSigned w128 cost → IsTold c cost (get_or rows (chosen - 1) row)
-choice_told c rows row chosen cost setup legal finished e at is same fits =
-    let there = chosen_row c rows row setup legal finished e (is ∙ ap (λ (n : ℕ). get_or rows (n - 1) row) at) in
+choice_told has_row rows_fit c rows row chosen cost setup legal finished e at is same fits =
+    let there = chosen_row has_row rows_fit c rows row setup legal finished e (is ∙ ap (λ (n : ℕ). get_or rows (n - 1) row) at) in
     let a = to_z-of_z w128 cost fits in
     let b = to_z-of_z w128 row.value there.value_fits in
     let gap_is : to_z w128 (of_z w128 cost) -ℤ to_z w128 (of_z w128 row.value) ≡ c.setup.cost -ℤ row.value = λ i. (a ∙ same) i -ℤ b i in

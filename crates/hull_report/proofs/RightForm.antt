@@ -7,7 +7,6 @@ use Rattle.std.specs.Prelude.{slice_index, slice_index_or}
 use Rattle.uc_model.specs.Data.{AnyUnit, Thermal, Flat, Bid, NamedThermalUnit, NamedRenewableUnit, NamedBidUnit, PriceLists}
 use Rattle.uc_model.specs.Runs.{Fits}
 use Rattle.uc_model.specs.Schedules.{IsSchedule}
-use Rattle.board_history.proofs.RowLaws.{fits_is_best}
 use Rattle.hull_report.specs.ReportText.{UnitLine}
 use Rattle.hull_report.specs.Laws.{IsFlatLine, RightReportHasForm}
 
@@ -32,7 +31,7 @@ module _ (π : PriceLists) where
   renewable_lines [] (l ∷ ls) h = absurd h
   renewable_lines (n ∷ ns) [] h = absurd h
   renewable_lines (n ∷ ns) (l ∷ ls) h =
-      let f = (fits_is_best (Flat n.unit) π l.response h.0).feasible in
+      let f = h.0.best.feasible in
       All-cons IsFlatLine l ls (flat_line (length π.energy) l f.schedule f.on f.reserve) (renewable_lines ns ls h.1)
 
   bid_lines : (ns : List NamedBidUnit) (ls : List UnitLine) → AllZip FitsLine (map (λ (n : NamedBidUnit). Bid n.unit) ns) ls → All IsFlatLine ls
@@ -40,7 +39,7 @@ module _ (π : PriceLists) where
   bid_lines [] (l ∷ ls) h = absurd h
   bid_lines (n ∷ ns) [] h = absurd h
   bid_lines (n ∷ ns) (l ∷ ls) h =
-      let f = (fits_is_best (Bid n.unit) π l.response h.0).feasible in
+      let f = h.0.best.feasible in
       All-cons IsFlatLine l ls (flat_line (length π.energy) l f.schedule f.on f.reserve) (bid_lines ns ls h.1)
 
 split : {A B : Type 0} (R : A → B → Type 0) (xs ys : List A) (us vs : List B) → length xs ≡ length us → AllZip R (xs ++ ys) (us ++ vs) → AllZip R xs us × AllZip R ys vs

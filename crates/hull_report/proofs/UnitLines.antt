@@ -1,10 +1,11 @@
 -- Lists of lines that are made of names and numbers.
-use Rattle.std.proofs.Common.{◌≡◌, ℕ, zero, suc, ◌+◌, ◌<◌, ℤ, pos, Some, List, [], ◌∷◌, ◌++◌, map, length, get_or, slice_get, refl, ap, ◌∙◌, subst, arith}
+use Rattle.std.proofs.Common.{◌≡◌, ℕ, zero, suc, ◌+◌, ◌<◌, ℤ, pos, Some, List, [], ◌∷◌, ◌++◌, map, length, get_or, slice_get, refl, ap, ◌∙◌, subst, arith, length-append}
 use Rattle.std.proofs.lemmas.List.{get_or_default, same_lists}
 use Rattle.std.proofs.lemmas.List.FromFn.{length-map-range_with_len, get_or-map-range_with_len}
 use Rattle.std.specs.List.{AllZip, range_with_len}
-use Rattle.uc_model.specs.Data.{AnyUnit}
-use Rattle.uc_model.specs.Sums.{int_at}
+use Rattle.std.proofs.lemmas.List.{length-map}
+use Rattle.uc_model.specs.Data.{AnyUnit, Thermal, Flat, Bid, NamedThermalUnit, NamedRenewableUnit, NamedBidUnit, Market, units, unit_count}
+use Rattle.uc_model.specs.Sums.{int_at, zip_with}
 use Rattle.hull_report.specs.ReportText.{UnitLine}
 use Rattle.hull_report.specs.RecordReport.{lines_from}
 
@@ -70,3 +71,16 @@ numbers_at xs n h =
     let long = length-map-range_with_len (int_at xs) 0 n in
     same_lists (map (int_at xs) (range_with_len 0 n)) xs (omega (arith, long, h)) (λ k d lt.
     get_or-map-range_with_len (int_at xs) 0 n k k d (omega (arith, lt, long)) (omega arith) ∙ get_or_default xs k (pos 0) d (omega (arith, lt, long, h)))
+
+-- ---- units and lists
+
+-- how many units there are
+pub units_length : (m : Market) → length (units m) ≡ unit_count m
+units_length m =
+    let ts = map (λ (n : NamedThermalUnit). Thermal n.unit) m.thermal in
+    let fs = map (λ (n : NamedRenewableUnit). Flat n.unit) m.flat in
+    let bs = map (λ (n : NamedBidUnit). Bid n.unit) m.bids in
+    let a = length-map m.thermal (λ (n : NamedThermalUnit). Thermal n.unit) in
+    let b = length-map m.flat (λ (n : NamedRenewableUnit). Flat n.unit) in
+    let c = length-map m.bids (λ (n : NamedBidUnit). Bid n.unit) in
+    omega (arith, length-append (ts ++ fs) bs, length-append ts fs, a, b, c)

@@ -1,8 +1,8 @@
 -- What holds of every report. Each law is the clause of a public function.
-use Rattle.std.specs.Prelude.{◌≡◌, ℕ, ℤ, ◌+ℤ◌, ◌-ℤ◌, true, List, length, replicate}
+use Rattle.std.specs.Prelude.{◌≡◌, ℕ, suc, ◌<◌, ◌≤◌, ℤ, ◌+ℤ◌, ◌-ℤ◌, true, List, length, replicate}
 use Rattle.std.specs.List.{All}
 use Rattle.uc_model.specs.Data.{Schedule, Market}
-use Rattle.uc_model.specs.PriceRule.{Proposal}
+use Rattle.uc_model.specs.PriceRule.{Proposal, chosen_number}
 use Rattle.uc_model.specs.Runs.{IsRun, Fits}
 use Rattle.uc_model.specs.Systems.{IsFeasiblePlan}
 use Rattle.hull_report.specs.ReportText.{UnitLine, Report, report_text}
@@ -25,6 +25,10 @@ TextDeterminesReport = (a b : Report) → HasForm a → HasForm b → report_tex
 -- and a right report has that form: at most one has a given text
 abbrev pub RightReportHasForm : Type 0
 RightReportHasForm = (m : Market) (plan : List Schedule) (budget ahead : ℕ) (r : Report) → IsRightReport m plan budget ahead r → HasForm r
+
+-- where there is a row, one is chosen
+abbrev pub OneIsChosen : Type 0
+OneIsChosen = (rows : List Proposal) → 1 ≤ length rows → (k : ℕ) × (k < length rows) × (chosen_number rows ≡ suc k)
 
 -- at most one list of rows is a run
 abbrev pub OneRun : Type 0

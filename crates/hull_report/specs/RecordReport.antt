@@ -1,9 +1,11 @@
 -- The report of a record: of what a closed board holds, and of a settlement at its chosen prices (this project's profile).
-use Rattle.std.specs.Prelude.{◌≡◌, ℕ, ◌+◌, ◌-◌, ◌≤◌, ℤ, ◌-ℤ◌, true, Some, List, [], ◌∷◌, map, length, slice_get}
-use Rattle.board_history.specs.Board.{Answer, Content, rules_of, IsLegalHistory}
+use Rattle.std.specs.Prelude.{◌≡◌, ℕ, suc, ◌+◌, ◌-◌, ◌<◌, ◌≤◌, ℤ, ◌-ℤ◌, true, Some, List, [], ◌∷◌, map, length, slice_get, slice_index_or}
+use Rattle.std.specs.List.{AllZip}
+use Rattle.board_history.specs.Board.{Setup, Answer, Content, rules_of, row_of, IsLegalHistory}
 use Rattle.board_history.specs.Calls.{own_rows, has_finished}
-use Rattle.board_history.specs.Rounds.{posts, answer_at}
-use Rattle.uc_model.specs.Data.{NamedThermalUnit, NamedRenewableUnit, NamedBidUnit, Market, unit_count}
+use Rattle.board_history.specs.Rounds.{Event, posts, answer_at, answers, prices_at, rows_of}
+use Rattle.uc_model.specs.Data.{NamedThermalUnit, NamedRenewableUnit, NamedBidUnit, PriceLists, Schedule, Market, units, unit_count}
+use Rattle.uc_model.specs.Earnings.{IsTop}
 use Rattle.uc_model.specs.PriceRule.{Proposal, chosen_number}
 use Rattle.uc_model.specs.Sums.{int_at}
 use Rattle.uc_model.specs.Systems.{IsFeasiblePlan, plan_cost, IsSettled}
@@ -83,3 +85,29 @@ abbrev pub RecordReportIsRight : Type 0
 RecordReportIsRight =
     (c : Content) (s : Settlement) (row : Proposal) → IsSettledRecord c s row →
     IsRightReport c.setup.market c.setup.plan c.setup.budget c.setup.ahead (report_of c s)
+
+-- the settlement of a feasible plan has one number for each unit
+abbrev pub SettlementsAreOfAllUnits : Type 0
+SettlementsAreOfAllUnits =
+    (m : Market) (plan : List Schedule) (π : PriceLists) (scheduled payments : List ℤ) (surplus sum : ℤ) →
+    IsFeasiblePlan m plan → IsSettled m plan π scheduled payments surplus sum →
+    (length scheduled ≡ unit_count m) × (length payments ≡ unit_count m)
+
+-- what the answers to a row earn is what the units earn at best at its prices
+abbrev pub AnswersAreTops : Type 0
+AnswersAreTops =
+    (c : Content) (k : ℕ) (row : Proposal) → 1 ≤ c.setup.ahead → IsLegalHistory c.setup c.events →
+    slice_get (own_rows c) k ≡ Some row → (earned : List ℤ) → length earned ≡ unit_count c.setup.market →
+    ((u : ℕ) → u < unit_count c.setup.market →
+    int_at earned u ≡ (answer_at (rules_of c.setup) (posts c.events) (suc k) u).earned) →
+    AllZip (λ u e. IsTop u row.prices e) (units c.setup.market) earned
+
+-- each row of a history is made of an answer for each unit, at the prices of its proposal
+pub record IsRowOf (b : Setup) (h : List (Event Answer)) (k : ℕ) (row : Proposal) : Type 0 where
+  pub made : row ≡ row_of b.market (prices_at (rules_of b) (posts h) (suc k)) (answers (rules_of b) (posts h) (suc k))
+  pub each : (u : ℕ) → u < unit_count b.market → (x : ℕ × Answer) × (posts h (suc k) u ≡ Some x)
+
+abbrev pub RowsAreMade : Type 0
+RowsAreMade =
+    (b : Setup) (h : List (Event Answer)) → 1 ≤ b.ahead → (k : ℕ) (d : Proposal) →
+    k < length (rows_of (rules_of b) (posts h)) → IsRowOf b h k (slice_index_or (rows_of (rules_of b) (posts h)) k d)

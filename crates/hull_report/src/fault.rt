@@ -302,8 +302,8 @@ fn write_status<S: Sink>(status: u8, out: &mut S) -> Result<(), WriteFailed>
     )
 }
 
-/// Writes the line of a fault. Refused only where the sink's count of faults rose, and then the sink gained a front of
-/// the line.
+/// Writes the line of a fault. Refused only where the sink's count of faults rose, and then the
+/// sink gained a front of the line.
 pub fn write_fault<S: Sink>(fault: &TopFault, out: &mut S) -> Result<(), WriteFailed>
     ensures { Writes S.held S.faults S.last out.old out.new result (fault_line fault.now) }
 {

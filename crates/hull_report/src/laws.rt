@@ -1,9 +1,12 @@
 //! Laws over the texts: each is the contract of a function that does nothing.
-ghost use Rattle.hull_report.specs.Laws.{TextDeterminesReport, RightReportHasForm, OneRun, OneRightReport, ReportPaymentsMakeUpTheGap};
-ghost use Rattle.hull_report.specs.RecordReport.{RecordReportIsRight};
+ghost use Rattle.hull_report.specs.Laws.{TextDeterminesReport, RightReportHasForm, OneIsChosen, OneRun, OneRightReport, ReportPaymentsMakeUpTheGap};
+ghost use Rattle.hull_report.specs.RecordReport.{RecordReportIsRight, SettlementsAreOfAllUnits, AnswersAreTops};
 
-/// Two reports with equal texts are equal, so what is printed tells the report. Of renewable units and bids only the power
-/// is told: they are on in every period of it, with reserve 0.
+use board_history::laws::{answers_fit, finished_has_row, finished_is_run};
+use uc_model::laws::{one_schedule_is_least, payments_make_up_the_gap};
+
+/// Two reports with equal texts are equal, so what is printed tells the report. Of renewable units
+/// and bids only the power is told: they are on in every period of it, with reserve 0.
 pub fn text_determines_the_report()
     ensures { TextDeterminesReport }
 {}
@@ -13,23 +16,57 @@ pub fn right_report_has_form()
     ensures { RightReportHasForm }
 {}
 
-/// The report of a finished record is right where the settlement is that of the plan at the prices of the chosen row.
+/// The report of a finished record is right where the settlement is that of the plan at the prices
+/// of the chosen row.
 pub fn record_report_is_right()
     ensures { RecordReportIsRight }
+{
+    answers_fit();
+    finished_has_row();
+    finished_is_run();
+}
+
+/// The settlement of a feasible plan has one number for each unit and bid.
+pub fn settlements_are_of_all_units()
+    ensures { SettlementsAreOfAllUnits }
 {}
 
-/// At most one list of rows is the run of a case with a given cost, budget and number of proposals ahead: each row follows
-/// from the rows before it, and the budget and the price rule say where they end.
+/// What the answers to a row of a legal history earn is what the units earn at best at that row's
+/// prices.
+pub fn answers_are_tops()
+    ensures { AnswersAreTops }
+{
+    answers_fit();
+    finished_has_row();
+    finished_is_run();
+}
+
+/// Where there is a row, one is chosen.
+pub fn one_row_is_chosen()
+    ensures { OneIsChosen }
+{}
+
+/// At most one list of rows is the run of a case with a given cost, budget and number of proposals
+/// ahead: each row follows from the rows before it, and the budget and the price rule say where
+/// they end.
 pub fn one_list_is_the_run()
     ensures { OneRun }
-{}
+{
+    one_schedule_is_least();
+}
 
-/// At most one report of a case and a plan is right for a given budget and number of proposals ahead.
+/// At most one report of a case and a plan is right for a given budget and number of proposals
+/// ahead.
 pub fn one_report_is_right()
     ensures { OneRightReport }
-{}
+{
+    one_schedule_is_least();
+}
 
-/// In a right report of a feasible plan the payments and the surplus sum to the cost less the chosen dual value.
+/// In a right report of a feasible plan the payments and the surplus sum to the cost less the
+/// chosen dual value.
 pub fn report_payments_make_up_the_gap()
     ensures { ReportPaymentsMakeUpTheGap }
-{}
+{
+    payments_make_up_the_gap();
+}

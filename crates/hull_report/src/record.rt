@@ -15,6 +15,7 @@ use crate::report::{
     write_thermal,
 };
 use board_core::Closed;
+use board_history::laws::{finished_has_row, finished_is_run, rows_are_right};
 use hull_io::{Sink, WriteFailed};
 use uc_model::units::Answered;
 use uplift_settle::Settlement;
@@ -32,6 +33,7 @@ struct Choice {
 fn choice_of(closed: &Closed) -> Choice
     requires { has_finished closed.now ≡ true }
     ensures proposals { result.proposals ≡ length (own_rows closed.now) }
+    ensures most { result.proposals ≤ 10000 }
     ensures chosen { result.chosen ≡ chosen_of closed.now }
     ensures first { 1 ≤ result.chosen }
     ensures last { result.chosen ≤ length (own_rows closed.now) }
@@ -39,6 +41,9 @@ fn choice_of(closed: &Closed) -> Choice
     ensures gap { result.gap ≡ closed.now.setup.cost -ℤ value_of closed.now }
 {
     closed.is_legal();
+    finished_has_row();
+    finished_is_run();
+    rows_are_right();
     let rows = closed.rows();
     let chosen = closed.chosen();
     let value = rows[chosen as usize - 1].value;
@@ -73,14 +78,14 @@ fn head_of(closed: &Closed, proposals: u32) -> Head
 
 // Writes the lines up to the chosen value.
 fn write_proposals<S: Sink>(closed: &Closed, choice: Choice, out: &mut S) -> Result<(), WriteFailed>
-    requires { choice.proposals ≡ length (own_rows closed.now) }
+    requires proposals { choice.proposals ≡ length (own_rows closed.now) }
+    requires most { choice.proposals ≤ 10000 }
     ensures { Writes S.held S.faults S.last out.old out.new result (
         head_text closed.now.setup.market.periods (unit_count closed.now.setup.market) closed.now.setup.budget closed.now.setup.ahead closed.now.setup.cost choice.proposals
         ++ rows_text 1 (own_rows closed.now)
         ++ chosen_text choice.chosen choice.value
         ) }
 {
-    closed.is_legal();
     let head = head_of(closed, choice.proposals);
     write_head(&head, out)?;
     write_rows(closed.rows(), out)?;

@@ -9,5 +9,5 @@ loop-init c = record {
   between = c.requires.between;
   room = c.requires.room;
   buffer = c.requires.buffer;
-  most = posts_within c.args.board.now c.is_legal.ensures.legal;
+  most = posts_within c.events_are_at_most.ensures c.args.board.now c.is_legal.ensures.legal;
 }

@@ -5,17 +5,17 @@ use Rattle.hull_engine.proofs.run.answer_next.Goals as goal
 
 pub answer_task-requires-clause-some : goal.answer_task-requires-clause-some
 answer_task-requires-clause-some c =
-    given_has_schedule c.args.board.now c.claim.result c.args.task.now c.claim.new.into c.requires.between c.claim.ensures.answer c.in-Given.is c.claim.ensures.task c.claim.ensures.room
+    given_has_schedule c.claims_are_given.ensures c.args.board.now c.claim.result c.args.task.now c.claim.new.into c.requires.between c.claim.ensures.answer c.in-Given.is c.claim.ensures.task c.claim.ensures.room
 
 pub returns-in_ok-answer_task-in-Given-clause-round : goal.returns-in_ok-answer_task-in-Given-clause-round
 returns-in_ok-answer_task-in-Given-clause-round c =
-    full_round c.args.board.now c.claim.new.self c.post.new.self 0 c.claim.result c.args.task.now c.claim.new.into (answer_of c.answer_task.new.into)
+    full_round c.claims_are_given.ensures c.given_is_taken.ensures c.args.board.now c.claim.new.self c.post.new.self 0 c.claim.result c.args.task.now c.claim.new.into (answer_of c.answer_task.new.into)
     c.is_legal.ensures.legal c.requires.between c.claim.ensures.answer c.in-Given.is c.claim.ensures.after c.claim.ensures.task c.post.ensures.after
 
 pub returns-in_ok-answer_task-in-Given-clause-most : goal.returns-in_ok-answer_task-in-Given-clause-most
-returns-in_ok-answer_task-in-Given-clause-most c = posts_within c.post.new.self c.is_legal-in-Given.ensures.legal
+returns-in_ok-answer_task-in-Given-clause-most c = posts_within c.events_are_at_most.ensures c.post.new.self c.is_legal-in-Given.ensures.legal
 
 pub returns-in_default : goal.returns-in_default
 returns-in_default c =
-    let r = no_round c.args.board.now c.claim.new.self 0 c.claim.result c.is_legal.ensures.legal c.requires.between c.claim.ensures.answer c.in_default.not-Given c.claim.ensures.after in
+    let r = no_round c.claims_are_given.ensures c.events_are_at_most.ensures c.args.board.now c.claim.new.self 0 c.claim.result c.is_legal.ensures.legal c.requires.between c.claim.ensures.answer c.in_default.not-Given c.claim.ensures.after in
     record { setup = r.0; round = r.1; room = c.claim.ensures.room; buffer = c.requires.buffer; most = r.2 }

@@ -2,4 +2,4 @@ use Rattle.hull_report.proofs.OneReport.{one_right_report}
 use Rattle.hull_report.proofs.laws.one_report_is_right.Goals as goal
 
 pub returns : goal.returns
-returns c = one_right_report
+returns c = one_right_report c.one_schedule_is_least.ensures

@@ -2,4 +2,4 @@ use Rattle.hull_report.proofs.OneReport.{report_payments}
 use Rattle.hull_report.proofs.laws.report_payments_make_up_the_gap.Goals as goal
 
 pub returns : goal.returns
-returns c = report_payments
+returns c = report_payments c.payments_make_up_the_gap.ensures

@@ -7,7 +7,6 @@ use Rattle.board_history.specs.Calls.{own_rows}
 use Rattle.uc_model.specs.Data.{unit_count}
 use Rattle.hull_io.specs.Edge.{Gains, FallsShort}
 use Rattle.hull_report.specs.ReportText.{head_text, rows_text, chosen_text}
-use Rattle.hull_report.proofs.RecordLines.{rows_within}
 use Rattle.hull_report.proofs.RecordTexts.{first_of_three, second_of_three, last_of_three}
 use Rattle.hull_report.proofs.record.write_proposals.Goals as goal
 
@@ -24,10 +23,8 @@ returns-in_err-write_head g c =
 
 pub write_rows-requires : goal.write_rows-requires
 write_rows-requires g c =
-    let most = c.is_legal.ensures.setup.budget in
-    let within = rows_within c.args.closed.now in
     let long = ap length c.rows.ensures in
-    omega (arith, most, within, long, length-map c.rows.result.now proposal_of)
+    omega (arith, c.requires.proposals, c.requires.most, long, length-map c.rows.result.now proposal_of)
 
 pub returns-in_err-write_rows : goal.returns-in_err-write_rows
 returns-in_err-write_rows g c =
