@@ -1,20 +1,20 @@
 -- The fixed case of a plan: within the limits, feasible at the same cost, with dual values between.
-use Rattle.std.proofs.Common.{◌≡◌, ℕ, zero, suc, ◌+◌, ◌<◌, ◌≤◌, ℤ, pos, ◌+ℤ◌, ◌-ℤ◌, ◌*ℤ◌, ◌≤ℤ◌, Bool, List, [], ◌∷◌, ◌++◌, map, length, refl, sym, ap, ◌∙◌, subst, append_assoc, Some, arith}
+use Rattle.std.proofs.Common.{◌≡◌, ℕ, suc, ℤ, ◌≤ℤ◌, List, [], ◌∷◌, ◌++◌, map, length, refl, sym, ap, ◌∙◌, subst, append_assoc, Some, arith}
 use Rattle.std.proofs.lemmas.Int.{ints}
 use Rattle.std.proofs.lemmas.List.{length-map}
 use Rattle.std.proofs.lemmas.List.Elements.{All-head, All-tail, All-cons, All-nil}
 use Rattle.std.proofs.lemmas.Option.{slice_get_within, get_or_from_slice_get}
-use Rattle.std.specs.List.{All, AllZip, zip}
+use Rattle.std.specs.List.{All, AllZip}
 use Rattle.std.specs.Prelude.{slice_get}
 use Rattle.uc_model.specs.Data.{ThermalUnit, NamedThermalUnit, NamedRenewableUnit, NamedBidUnit, AnyUnit, Thermal, Flat, Bid, PriceLists, Schedule, Market, units}
 use Rattle.uc_model.specs.Earnings.{cost_of, earnings, supply_in, IsTop}
 use Rattle.uc_model.specs.Laws.{DualIsAtMostCost}
-use Rattle.uc_model.specs.Limits.{IsThermalUnit, IsMarket, ArePrices}
+use Rattle.uc_model.specs.Limits.{IsThermalUnit, IsMarket}
 use Rattle.uc_model.specs.Schedules.{IsFeasible, reserve_in}
 use Rattle.uc_model.specs.Sums.{int_at, total, zip_with}
-use Rattle.uc_model.specs.Systems.{total_power, total_reserve, IsFeasiblePlan, plan_cost, worth_of_demand, IsDualValue}
+use Rattle.uc_model.specs.Systems.{IsFeasiblePlan, plan_cost, IsDualValue}
 use Rattle.fixed_price.specs.FixedCase.{held_mark, held_unit, held_named, fixed_market}
-use Rattle.fixed_price.specs.Laws.{IsFixing, CommitmentsAreFixed}
+use Rattle.fixed_price.specs.Laws.{CommitmentsAreFixed}
 use Rattle.fixed_price.proofs.Held.{held_feasible, given_feasible}
 
 abbrev pub any_thermal : NamedThermalUnit → AnyUnit
@@ -176,9 +176,12 @@ tops_held π (t ∷ ts) rest [] xs ys f h i = absurd f
 tops_held π (t ∷ ts) rest (s ∷ ss) [] ys f h i = absurd h
 tops_held π (t ∷ ts) rest (s ∷ ss) (x ∷ xs) [] f h i = absurd i
 tops_held π (t ∷ ts) rest (s ∷ ss) (x ∷ xs) (y ∷ ys) f h i =
-    omega (arith, ints,
-    lower_top (Thermal t.unit) (Thermal (held_unit t.unit s)) π x y (λ r g. given_feasible t.unit (length π.energy) s r f.0 g) (λ r. refl) h.0 i.0,
-    tops_held π ts rest ss xs ys f.1 h.1 i.1)
+    omega (
+      arith,
+      ints,
+      lower_top (Thermal t.unit) (Thermal (held_unit t.unit s)) π x y (λ r g. given_feasible t.unit (length π.energy) s r f.0 g) (λ r. refl) h.0 i.0,
+      tops_held π ts rest ss xs ys f.1 h.1 i.1,
+    )
 
 dual_rises : (m : Market) (plan : List Schedule) (π : PriceLists) (value fixed : ℤ) → IsFeasiblePlan m plan → length π.energy ≡ m.periods → IsDualValue m π value → IsDualValue (fixed_market m plan) π fixed → value ≤ℤ fixed
 dual_rises m plan π value fixed f horizon dual held =

@@ -1,11 +1,9 @@
 -- A unit that is held to a schedule's commitment.
-use Rattle.std.proofs.Common.{◌≡◌, ℕ, zero, suc, ◌+◌, ◌-◌, ◌<◌, ◌≤◌, Bool, true, false, IsTrue, IsFalse, List, [], ◌∷◌, map, length, refl, sym, ap, ◌∙◌, subst, arith}
-use Rattle.std.proofs.lemmas.List.{length-map}
+use Rattle.std.proofs.Common.{◌≡◌, ℕ, zero, suc, ◌<◌, Bool, true, false, List, [], ◌∷◌, map, length, refl, sym, ap, ◌∙◌, arith}
 use Rattle.std.specs.Prelude.{slice_index_or}
-use Rattle.uc_model.specs.declared.units.Mark.{Mark}
 use Rattle.uc_model.specs.declared.units.Mark.TheVariants.{Free, MustOff, MustOn}
 use Rattle.uc_model.specs.Data.{ThermalUnit, Schedule}
-use Rattle.uc_model.specs.Schedules.{on_in, mark_in, IsPeriod, KeepsCommitment, KeepsDispatch, IsThermalFeasible}
+use Rattle.uc_model.specs.Schedules.{on_in, mark_in, IsPeriod, IsThermalFeasible}
 use Rattle.fixed_price.specs.FixedCase.{held_mark, held_unit}
 
 mark_at : (on : List Bool) (k : ℕ) → k < length on → slice_index_or (map held_mark on) k Free ≡ held_mark (slice_index_or on k false)

@@ -63,8 +63,8 @@ fn held_window(alloc: Global, on: &Flags) -> Result<Marks, AllocError>
 /// The thermal unit, held to the response's commitment.
 pub fn held(alloc: Global, unit: &Unit, response: &Response) -> Result<Unit, AllocError>
     requires { length (schedule_of response.now).on ≡ length (thermal_of unit.now).window }
-    ensures {
-        IfOk result (λ u. thermal_of u ≡ held_unit (thermal_of unit.now) (schedule_of response.now)) }
+    ensures { IfOk result (λ u. thermal_of u
+        ≡ held_unit (thermal_of unit.now) (schedule_of response.now)) }
 {
     let lags = copied(alloc, &unit.lags)?;
     let points = copied(alloc, &unit.points)?;

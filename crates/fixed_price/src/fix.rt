@@ -11,9 +11,7 @@ use crate::copies::{copied, copied_bid, copied_flat, held};
 use std::alloc::{AllocError, Global};
 use uc_model::cases::{Case, Plan};
 use uc_model::lists::Name;
-use uc_model::units::{
-    BidList, FlatList, NamedBid, NamedFlat, NamedUnit, Response, ThermalList,
-};
+use uc_model::units::{BidList, FlatList, NamedBid, NamedFlat, NamedUnit, Response, ThermalList};
 
 // The thermal unit under its name, held to the response's commitment.
 fn held_unit_of(
@@ -22,9 +20,8 @@ fn held_unit_of(
     response: &Response,
 ) -> Result<NamedUnit, AllocError>
     requires { length (schedule_of response.now).on ≡ length (thermal_of named.now.unit).window }
-    ensures {
-        IfOk result (λ n. named_thermal_of n
-          ≡ held_named (named_thermal_of named.now) (schedule_of response.now)) }
+    ensures { IfOk result (λ n. named_thermal_of n
+        ≡ held_named (named_thermal_of named.now) (schedule_of response.now)) }
 {
     let name = Name::copied(alloc, named.name.as_str())?;
     let unit = held(alloc, &named.unit, response)?;
@@ -34,9 +31,8 @@ fn held_unit_of(
 // The thermal units, each held to its commitment in the plan.
 fn held_units(alloc: Global, case: &Case, plan: &Plan) -> Result<ThermalList, AllocError>
     requires { IsFeasiblePlan (market_of case.now) (schedules_of plan.now) }
-    ensures {
-        IfOk result (λ units. map named_thermal_of units.items
-          ≡ zip_with held_named (market_of case.now).thermal (schedules_of plan.now)) }
+    ensures { IfOk result (λ units. map named_thermal_of units.items
+        ≡ zip_with held_named (market_of case.now).thermal (schedules_of plan.now)) }
 {
     let mut units = ThermalList::make(alloc, case.thermal.len() as u32)?;
     for place in 0..case.thermal.len() {
@@ -58,9 +54,8 @@ fn copied_named_flat(alloc: Global, named: &NamedFlat) -> Result<NamedFlat, Allo
 // The renewable units.
 fn copied_flats(alloc: Global, from: &FlatList) -> Result<FlatList, AllocError>
     requires { length from.now.items ≤ 4096 }
-    ensures {
-        IfOk result (λ list. map named_renewable_of list.items
-          ≡ map named_renewable_of from.now.items) }
+    ensures { IfOk result (λ list. map named_renewable_of list.items
+        ≡ map named_renewable_of from.now.items) }
 {
     let mut flats = FlatList::make(alloc, from.len() as u32)?;
     for place in 0..from.len() {
@@ -94,9 +89,8 @@ fn copied_bids(alloc: Global, from: &BidList) -> Result<BidList, AllocError>
 /// says on where the plan has it on, and off elsewhere. All else is as in the case as given.
 pub fn fix_case(alloc: Global, case: &Case, plan: &Plan) -> Result<Case, AllocError>
     requires { IsFeasiblePlan (market_of case.now) (schedules_of plan.now) }
-    ensures {
-        IfOk result (λ c. market_of c
-          ≡ fixed_market (market_of case.now) (schedules_of plan.now)) }
+    ensures { IfOk result (λ c. market_of c
+        ≡ fixed_market (market_of case.now) (schedules_of plan.now)) }
 {
     let demand = copied(alloc, &case.demand)?;
     let reserves = copied(alloc, &case.reserves)?;

@@ -1,9 +1,8 @@
-use Rattle.std.proofs.Common.{◌≡◌, ℕ, ◌+◌, ◌<◌, ◌≤◌, List, [], ◌∷◌, ◌++◌, map, take, length, sym, ap, ◌∙◌, arith}
+use Rattle.std.proofs.Common.{◌<◌, ◌≤◌, List, [], ◌∷◌, ◌++◌, map, take, length, sym, ap, ◌∙◌, arith}
 use Rattle.std.proofs.lemmas.List.{length-map}
-use Rattle.std.proofs.lemmas.Option.{slice_get_within}
 use Rattle.uc_model.specs.Data.{NamedThermalUnit}
 use Rattle.uc_model.specs.PlainCases.{market_of, schedules_of}
-use Rattle.uc_model.specs.PlainUnits.{named_thermal_of, thermal_of, schedule_of}
+use Rattle.uc_model.specs.PlainUnits.{named_thermal_of, schedule_of}
 use Rattle.uc_model.specs.Sums.{zip_with}
 use Rattle.fixed_price.specs.FixedCase.{held_named}
 use Rattle.fixed_price.proofs.Fixing.{others, plan_apart, window_length}
