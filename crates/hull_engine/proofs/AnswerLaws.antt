@@ -1,10 +1,8 @@
 -- What the run of a command answers.
-use Rattle.std.proofs.Common.{◌≡◌, ℕ, List, Option, Result, Ok, Err, refl, sym, ap, subst, ◌∙◌}
+use Rattle.std.proofs.Common.{◌≡◌, ℕ, List, subst}
 use Rattle.hull_report.specs.ReportText.{Report}
-use Rattle.hull_report.specs.declared.fault.TopFault.{TopFault}
 use Rattle.board_history.specs.Board.{Setup}
 use Rattle.hull_engine.specs.declared.input.RunInput.{RunInput}
-use Rattle.hull_engine.specs.Steps.{PlannedCase}
 use Rattle.hull_engine.specs.Outcome.{IsReportText}
 use Rattle.hull_engine.specs.Answers.{IsRunText}
 use Rattle.hull_engine.specs.Inputs.{planned_of}

@@ -1,31 +1,27 @@
 -- What follows from the outcome of a run.
-use Rattle.std.proofs.Common.{◌≡◌, ℕ, ◌+◌, ◌*◌, ◌≤◌, ◌⊎◌, inl, inr, ◌||◌, ◌==◌, Bool, true, false, List, Option, None, Some, Result, Ok, Err, refl, sym, ap, ◌∙◌, subst, arith}
+use Rattle.std.proofs.Common.{◌≡◌, ℕ, ◌*◌, ◌≤◌, ◌⊎◌, inl, inr, Bool, true, false, List, Option, None, Some, Result, Ok, Err, refl, sym, ap, ◌∙◌, subst, arith}
 use Rattle.std.specs.Prelude.{IsTrue, IfSome, IsSome, if◌then◌else◌, nat_lt}
-use Rattle.std.specs.Result.{result_map_both}
 use Rattle.uc_model.specs.Data.{Market, Schedule, unit_count}
 use Rattle.uc_model.specs.Systems.{IsFeasiblePlan, plan_cost}
-use Rattle.uc_case.specs.Files.{FileFault, text, value}
+use Rattle.uc_case.specs.Files.{text, value}
 use Rattle.uc_case.specs.CaseFiles.{IsCaseOf}
 use Rattle.uc_case.specs.Laws.{OneCase}
-use Rattle.uc_case.specs.declared.fault.FieldFault.{FieldFault}
 use Rattle.uc_plan.specs.PlanFiles.{IsPlanOf}
 use Rattle.uc_plan.specs.Laws.{OnePlan}
-use Rattle.uc_plan.specs.declared.fault.ShapeFault.{ShapeFault}
 use Rattle.hull_io.specs.declared.read.TheConstants.{MOST_BYTES}
 use Rattle.hull_words.specs.Asked.{Asked, CheckAsked, PriceAsked, price, check, try, bound, fixed, audit}
 use Rattle.hull_words.specs.declared.fault.WordFault.{WordFault}
 use Rattle.hull_report.specs.FaultLines.{status_of, fault_line}
 use Rattle.hull_report.specs.Laws.{ReportPaymentsMakeUpTheGap}
-use Rattle.hull_report.specs.ReportText.{Report}
 use Rattle.hull_report.specs.declared.fault.FileKind.{FileKind}
 use Rattle.hull_report.specs.declared.fault.FileKind.TheVariants.{CaseFile, ScheduleFile, ReportFile}
 use Rattle.hull_report.specs.declared.fault.TopFault.{TopFault}
 use Rattle.hull_report.specs.declared.fault.TopFault.TheVariants.{Words, Read, CaseText, CaseField, PlanText, PlanShape, PlanRule, TooBig, Work, Memory, Report as report_fault}
 use Rattle.hull_engine.specs.declared.end.End.{End}
 use Rattle.hull_engine.specs.declared.end.End.TheVariants.{Done, Cut, Refused}
-use Rattle.hull_engine.specs.Steps.{Then, Reads, bytes_of, IsBytes, case_fault, plan_fault, IsCase, IsCaseFile, IsPlan, IsPlanFile, PlannedCase, IsChecked, IsInput, IsMade, within_work, IsWithinWork}
-use Rattle.hull_engine.specs.Outcome.{Command, command_for, case_and_schedule, IsReadOf, AreReads, HasText, Ends, status_at, IsOutcome}
-use Rattle.hull_engine.specs.Laws.{is_refusal, OverReads, IsWritten, IsUnread, HasCause, IsQuiet, IsDecided, word_fault, FollowsFromWords, IsPromised}
+use Rattle.hull_engine.specs.Steps.{Reads, bytes_of, IsCase, IsCaseFile, IsPlan, IsPlanFile, PlannedCase, IsChecked, IsInput, IsWithinWork}
+use Rattle.hull_engine.specs.Outcome.{command_for, case_and_schedule, IsReadOf, AreReads, HasText, Ends, status_at}
+use Rattle.hull_engine.specs.Laws.{is_refusal, IsWritten, IsUnread, HasCause, IsQuiet, IsDecided, word_fault, FollowsFromWords, IsPromised}
 use Rattle.hull_engine.proofs.OneDue.{one_due}
 
 -- ---- a fault by its status

@@ -1,5 +1,5 @@
 -- What was read of a file, and of the two files of an input.
-use Rattle.std.proofs.Common.{◌≡◌, ℕ, ◌+◌, ◌<◌, ◌≤◌, Bool, true, false, cond, leb, List, [], length, replicate, Option, None, Some, Result, Ok, Err, refl, sym, ap, ◌∙◌, inl, inr, arith}
+use Rattle.std.proofs.Common.{◌≡◌, ℕ, ◌+◌, ◌<◌, ◌≤◌, Bool, true, false, List, [], length, replicate, Option, None, Some, Ok, Err, refl, inl, inr, arith}
 use Rattle.std.specs.Prelude.{IfSome, nat_lt, if◌then◌else◌}
 use Rattle.std.proofs.lemmas.List.{length-replicate}
 use Rattle.std.proofs.lemmas.Bool.{le-ltb, lt-ltb}
@@ -7,7 +7,6 @@ use Rattle.hull_io.specs.Edge.{Rose}
 use Rattle.hull_io.specs.declared.read.TheConstants.{MOST_BYTES}
 use Rattle.hull_report.specs.declared.fault.FileKind.{FileKind}
 use Rattle.hull_report.specs.declared.fault.FileKind.TheVariants.{CaseFile, ScheduleFile, ReportFile}
-use Rattle.hull_report.specs.declared.fault.TopFault.{TopFault}
 use Rattle.hull_report.specs.declared.fault.TopFault.TheVariants.{TooBig}
 use Rattle.hull_engine.specs.Steps.{Reads, bytes_of, IsBytes}
 use Rattle.hull_engine.specs.Outcome.{IsReadOf, case_and_schedule, AreReads}

@@ -1,6 +1,5 @@
 -- The settlement of a finished board at the prices of its chosen row.
 use Rattle.std.proofs.Common.{◌≡◌, ℕ, suc, ◌-◌, ◌*◌, ◌<◌, ◌≤◌, ℤ, true, Some, List, length, map, get_or, slice_get, sym, ap, ◌∙◌, subst, arith}
-use Rattle.std.proofs.lemmas.List.FromFn.{length-map-range_with_len}
 use Rattle.std.proofs.lemmas.Option.{slice_get-map, slice_get-get_or, slice_get_within, get_or_from_slice_get}
 use Rattle.std.specs.List.{AllZip}
 use Rattle.std.specs.Option.{option_map}
@@ -9,11 +8,10 @@ use Rattle.uc_model.specs.Earnings.{IsTop}
 use Rattle.uc_model.specs.PlainCases.{proposal_of}
 use Rattle.uc_model.specs.PriceRule.{Proposal, chosen_number}
 use Rattle.uc_model.specs.Sums.{int_at}
-use Rattle.uc_model.specs.Systems.{IsSettled, total_power}
+use Rattle.uc_model.specs.Systems.{IsSettled}
 use Rattle.uc_model.specs.declared.cases.Row.{Row}
-use Rattle.board_history.specs.Board.{Content, rules_of, schedules_in, IsLegalHistory}
+use Rattle.board_history.specs.Board.{Content, IsLegalHistory}
 use Rattle.board_history.specs.Calls.{own_rows, has_finished}
-use Rattle.board_history.specs.Rounds.{posts, answers}
 use Rattle.board_history.specs.Laws.{EventsAreAtMost, FinishedHasRow}
 use Rattle.board_history.specs.Bounds.{RowsAreWithin}
 use Rattle.board_history.specs.Counts.{posts_in}

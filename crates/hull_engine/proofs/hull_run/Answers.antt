@@ -1,4 +1,3 @@
-use Rattle.hull_io.specs.Edge.{Gains, FallsShort}
 use Rattle.hull_words.specs.Words.{texts, words_of}
 use Rattle.hull_engine.specs.Outcome.{command_for}
 use Rattle.hull_engine.proofs.EndLaws.{ends_as, sink_later}

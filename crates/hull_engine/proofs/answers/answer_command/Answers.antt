@@ -1,4 +1,4 @@
-use Rattle.std.proofs.Common.{◌≡◌, ℕ, List, Option, None, Some, inl, refl}
+use Rattle.std.proofs.Common.{◌≡◌, ℕ, List, None, Some, inl, refl}
 use Rattle.hull_report.specs.declared.fault.FileKind.TheVariants.{CaseFile}
 use Rattle.hull_engine.specs.Outcome.{no_files}
 use Rattle.hull_engine.proofs.ReadLaws.{any_reads}

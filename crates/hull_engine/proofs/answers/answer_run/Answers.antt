@@ -1,4 +1,3 @@
-use Rattle.std.proofs.Common.{◌≡◌, List, ℕ, Option, Some}
 use Rattle.std.proofs.lemmas.Result.{err_from_is_err_and}
 use Rattle.hull_words.specs.Words.{texts, words_of}
 use Rattle.hull_engine.specs.Outcome.{command_for}

@@ -1,5 +1,4 @@
 use Rattle.std.proofs.Common.{None, Err, inl, inr, refl, ap, arith}
-use Rattle.hull_io.specs.Edge.{Rose}
 use Rattle.hull_engine.proofs.ReadLaws.{unread, unread_is, was_read, was_too_big}
 use Rattle.hull_engine.proofs.files.read_bytes.Goals as goal
 
