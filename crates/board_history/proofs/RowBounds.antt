@@ -1,25 +1,28 @@
 -- How large the totals, the earnings and the value of a proposal can be, whether all of its answers are there or not; and
 -- that no row's value is above the cost of a feasible plan.
-use Rattle.std.proofs.Common.{◌≡◌, ℕ, zero, suc, ◌+◌, ◌-◌, ◌*◌, ◌<◌, Bool, true, false, cond, Option, Some, None, ℤ, pos, neg_ℤ, ◌+ℤ◌, ◌-ℤ◌, ◌*ℤ◌, ◌≤ℤ◌, List, [], ◌∷◌, ◌++◌, map, length, get_or, refl, sym, ap, ◌∙◌, subst, arith}
+use Rattle.std.proofs.Common.{◌≡◌, ℕ, zero, suc, ◌+◌, ◌-◌, ◌*◌, ◌<◌, Bool, true, false, cond, Option, Some, None, ℤ, pos, neg_ℤ, ◌+ℤ◌, ◌-ℤ◌, ◌*ℤ◌, ◌≤ℤ◌, List, [], ◌∷◌, map, length, get_or, refl, sym, ◌∙◌, subst, arith}
 use Rattle.std.proofs.lemmas.Bool.Decides.{nat_tests}
-use Rattle.std.proofs.lemmas.Int.{ints, clamps}
+use Rattle.std.proofs.lemmas.Int.{ints}
 use Rattle.std.proofs.lemmas.List.{length-map}
-use Rattle.std.proofs.lemmas.List.Elements.{All-append, All-map, All-replicate}
+use Rattle.std.proofs.lemmas.List.Elements.{All-map, All-replicate}
 use Rattle.std.proofs.lemmas.List.FromFn.{length-range_with_len}
 use Rattle.std.proofs.lemmas.Option.{slice_get_within, slice_get-get_or, get_or_from_slice_get}
-use Rattle.std.specs.List.{All, AllZip, range_with_len}
+use Rattle.std.specs.List.{AllZip, range_with_len}
 use Rattle.std.specs.Option.{option_map_or}
 use Rattle.std.specs.Prelude.{nat_le, slice_get}
-use Rattle.uc_model.specs.Data.{AnyUnit, Thermal, Flat, Bid, PriceLists, Schedule, Market, NamedThermalUnit, NamedRenewableUnit, NamedBidUnit, units, unit_count}
-use Rattle.uc_model.specs.Earnings.{supply_in}
-use Rattle.uc_model.specs.Limits.{IsFrom, IsHorizon, IsMarket, ArePrices, price_limit}
+use Rattle.uc_model.specs.Data.{AnyUnit, Bid, PriceLists, Schedule, Market, units, unit_count}
+use Rattle.uc_model.specs.BoundLaws.{GivesWithin}
+use Rattle.uc_model.specs.Limits.{IsFrom, IsTotal, IsHorizon, IsMarket, ArePrices, price_limit}
 use Rattle.uc_model.specs.PriceRule.{Proposal, start_prices, opening_prices_of, stepped_prices, move_of, squared_length, energy_direction, reserve_direction, age, no_prices, next_prices}
 use Rattle.uc_model.specs.Runs.{Fits}
-use Rattle.uc_model.specs.Schedules.{reserve_in}
-use Rattle.uc_model.specs.Sums.{int_at, total, zip_with, floor_div, clamped}
-use Rattle.uc_model.specs.Systems.{total_power, total_reserve, worth_of_demand}
+use Rattle.uc_model.specs.Sums.{int_at, total, floor_div, clamped}
+use Rattle.uc_model.specs.Systems.{total_power, total_reserve}
 use Rattle.uc_model.proofs.Duality.{dual_at_most_cost}
-use Rattle.uc_model.proofs.SignedLaws.{IsWithin, sum_within, product_within}
+use Rattle.uc_model.proofs.Bounds.{outputs_within}
+use Rattle.uc_model.proofs.PlanShapes.{lengths_of}
+use Rattle.uc_model.proofs.SignedLaws.{IsWithin, clamped_from}
+use Rattle.uc_model.proofs.TotalBounds as sums
+use Rattle.uc_model.proofs.TotalBounds.{units_within}
 use Rattle.board_history.specs.Board.{Setup, Answer, no_answer, rules_of, row_of, schedules_in, earned_in, IsRight, IsLegalHistory}
 use Rattle.board_history.specs.Bounds.{AreWithin, IsRowWithin, RowsAreWithin, RowsAreAtMostCost}
 use Rattle.board_history.specs.Rounds.{Rules, Event, Posts, posts, prices_at, answer_at, answers, rows_of, rows_to}
@@ -27,57 +30,7 @@ use Rattle.board_history.proofs.Answered.{all_answer}
 use Rattle.board_history.proofs.Kept.{rows_length}
 use Rattle.board_history.proofs.OwnTasks.{own_horizon, own_reserve_horizon}
 use Rattle.board_history.proofs.RowLaws.{units_length, zip_range, fits_is_best, rows_fit, row_is}
-use Rattle.board_history.proofs.UnitBounds.{IsLimited, most_of, least_of, IsOutput, lengths_of, output, no_output, earnings_within, sum_below_within}
-
--- ---- sums over lists
-
-total-append : (xs ys : List ℤ) → total (xs ++ ys) ≡ total xs +ℤ total ys
-total-append [] ys = omega (arith, ints)
-total-append (x ∷ xs) ys = omega (arith, ints, total-append xs ys)
-
-map-append : {X Y : Type 0} (f : X → Y) (xs ys : List X) → map f (xs ++ ys) ≡ map f xs ++ map f ys
-map-append f [] ys = refl
-map-append {X} {Y} f (x ∷ xs) ys = ap (λ (zs : List Y). f x ∷ zs) (map-append f xs ys)
-
-map-map : {X Y Z : Type 0} (f : Y → Z) (g : X → Y) (xs : List X) → map f (map g xs) ≡ map (λ x. f (g x)) xs
-map-map f g [] = refl
-map-map {X} {Y} {Z} f g (x ∷ xs) = ap (λ (zs : List Z). f (g x) ∷ zs) (map-map f g xs)
-
-total_times : {X : Type 0} (c : ℕ) (xs : List X) → total (map (λ x. pos c) xs) ≡ pos (length xs * c)
-total_times c [] = omega (arith, ints)
-total_times c (x ∷ xs) = omega (arith, ints, total_times c xs)
-
-total_times_below : {X : Type 0} (c : ℕ) (xs : List X) → total (map (λ x. neg_ℤ (pos c)) xs) ≡ neg_ℤ (pos (length xs * c))
-total_times_below c [] = omega (arith, ints)
-total_times_below c (x ∷ xs) = omega (arith, ints, total_times_below c xs)
-
--- a function of units, summed over the units of a case, kind by kind
-total_by_kind : (m : Market) (f : AnyUnit → ℤ) → total (map f (units m)) ≡
-    (total (map (λ (n : NamedThermalUnit). f (Thermal n.unit)) m.thermal) +ℤ total (map (λ (n : NamedRenewableUnit). f (Flat n.unit)) m.flat)) +ℤ total (map (λ (n : NamedBidUnit). f (Bid n.unit)) m.bids)
-total_by_kind m f =
-    let ts = map (λ (n : NamedThermalUnit). Thermal n.unit) m.thermal in
-    let fs = map (λ (n : NamedRenewableUnit). Flat n.unit) m.flat in
-    let bs = map (λ (n : NamedBidUnit). Bid n.unit) m.bids in
-    let a = ap total (map-append f (ts ++ fs) bs) ∙ total-append (map f (ts ++ fs)) (map f bs) in
-    let b = ap total (map-append f ts fs) ∙ total-append (map f ts) (map f fs) in
-    let t = ap total (map-map f (λ (n : NamedThermalUnit). Thermal n.unit) m.thermal) in
-    let r = ap total (map-map f (λ (n : NamedRenewableUnit). Flat n.unit) m.flat) in
-    let d = ap total (map-map f (λ (n : NamedBidUnit). Bid n.unit) m.bids) in
-    omega (arith, ints, a, b, t, r, d)
-
--- a sum over units and schedules is between the sums of what the units may give at least and at most
-zip_between : (f : AnyUnit → Schedule → ℤ) (low high : AnyUnit → ℤ) (us : List AnyUnit) (ss : List Schedule) → AllZip (λ u s. (low u ≤ℤ f u s) × (f u s ≤ℤ high u)) us ss →
-    (total (map low us) ≤ℤ total (zip_with f us ss)) × (total (zip_with f us ss) ≤ℤ total (map high us))
-zip_between f low high [] [] h = (omega (arith, ints), omega (arith, ints))
-zip_between f low high [] (s ∷ ss) h = absurd h
-zip_between f low high (u ∷ us) [] h = absurd h
-zip_between f low high (u ∷ us) (s ∷ ss) h =
-    let r = zip_between f low high us ss h.1 in
-    let a = h.0.0 in
-    let b = h.0.1 in
-    let c = r.0 in
-    let d = r.1 in
-    (omega (arith, ints, a, c), omega (arith, ints, b, d))
+use Rattle.board_history.proofs.UnitBounds.{IsLimited, no_output, earnings_within}
 
 -- numbers of a range within a bound
 range_within : (c : ℕ) (z : Answer → ℤ) (f : ℕ → Answer) (a n : ℕ) → ((k : ℕ) → k < a + n → IsWithin c (z (f k))) → IsWithin (n * c) (total (map z (map f (range_with_len a n))))
@@ -93,27 +46,10 @@ range_within c z f a (suc n) each =
 
 -- ---- the units of a case
 
-units_limited : (m : Market) → IsMarket m → All IsLimited (units m)
-units_limited m limits =
-    let t = limits.thermal in
-    let f = limits.flat in
-    let d = limits.bids in
-    let ts = map (λ (n : NamedThermalUnit). Thermal n.unit) m.thermal in
-    let fs = map (λ (n : NamedRenewableUnit). Flat n.unit) m.flat in
-    let bs = map (λ (n : NamedBidUnit). Bid n.unit) m.bids in
-    All-append IsLimited (ts ++ fs) bs
-    (All-append IsLimited ts fs
-    (All-map IsLimited (λ (n : NamedThermalUnit). Thermal n.unit) m.thermal (λ k n i. (t k n i).0))
-    (All-map IsLimited (λ (n : NamedRenewableUnit). Flat n.unit) m.flat (λ k n i. (f k n i).0)))
-    (All-map IsLimited (λ (n : NamedBidUnit). Bid n.unit) m.bids (λ k n i. (d k n i).0))
-
 unit_limited : (m : Market) → IsMarket m → (u : ℕ) (x : AnyUnit) → slice_get (units m) u ≡ Some x → IsLimited x
-unit_limited m limits u x is = subst IsLimited (get_or_from_slice_get (units m) u x x is) (units_limited m limits u x (slice_get_within (units m) u x is))
+unit_limited m limits u x is = subst IsLimited (get_or_from_slice_get (units m) u x x is) (units_within m limits u x (slice_get_within (units m) u x is))
 
 -- ---- prices
-
-clamped_from : (low high x : ℤ) → low ≤ℤ high → IsFrom low high (clamped low high x)
-clamped_from low high x h = record { at_least = omega (arith, ints, clamps, h); at_most = omega (arith, ints, clamps, h) }
 
 module _ (m : Market) (horizon : IsHorizon m.periods) where
   opening_prices : (n : ℕ) → length (opening_prices_of (start_prices m) n).energy ≡ m.periods → length (opening_prices_of (start_prices m) n).reserve ≡ m.periods →
@@ -181,7 +117,7 @@ module _ (b : Setup) (h : List (Event Answer)) (limits : IsMarket b.market) (leg
 
   -- what an answer gives and earns, also one that is missing
   record IsSmall (x : AnyUnit) (a : Answer) : Type 0 where
-    output : (k : ℕ) → IsOutput x a.schedule k
+    output : (k : ℕ) → GivesWithin x a.schedule k
     earned : IsWithin 5040000000000000000 a.earned
 
   missing_is_small : (x : AnyUnit) → IsSmall x no_answer
@@ -198,7 +134,7 @@ module _ (b : Setup) (h : List (Event Answer)) (limits : IsMarket b.market) (leg
       let feasible = best.feasible in
       let limited = unit_limited m limits u right.unit right.is in
       subst (λ (z : AnyUnit). IsSmall z y.1) same (record {
-        output = λ k. output right.unit y.1.schedule (length π.energy) limited feasible k;
+        output = λ k. outputs_within right.unit y.1.schedule (length π.energy) limited feasible k;
         earned = subst (λ (e : ℤ). IsWithin 5040000000000000000 e) right.earned
             (earnings_within right.unit π y.1.schedule (length π.energy) limited (own_are_prices b (posts h) n limits) feasible refl);
       })
@@ -220,36 +156,8 @@ module _ (b : Setup) (h : List (Event Answer)) (limits : IsMarket b.market) (leg
       let e : k ≡ 0 + k = omega arith in
       subst (λ (j : ℕ). Q x (answer_at g (posts h) n j).schedule) e (each x (answer_at g (posts h) n k) (answer_is_small k x is)))
 
-  supply_within : (k : ℕ) → IsWithin 10000000000000 (total_power (units m) given k)
-  supply_within k =
-      let z = zip_between (λ u s. supply_in u s (suc k)) least_of most_of (units m) given (all_units (λ u s. (least_of u ≤ℤ supply_in u s (suc k)) × (supply_in u s (suc k) ≤ℤ most_of u)) (λ x a s. ((s.output k).least, (s.output k).most))) in
-      let lo = z.0 in
-      let hi = z.1 in
-      let low = total_by_kind m least_of in
-      let high = total_by_kind m most_of in
-      let a = total_times 0 m.thermal in
-      let c = total_times 0 m.flat in
-      let d = total_times_below 1000000000 m.bids in
-      let e = total_times 10000000 m.thermal in
-      let f = total_times 1000000000 m.flat in
-      let i = total_times 0 m.bids in
-      let tc = limits.thermal_count in
-      let fc = limits.flat_count in
-      let bc = limits.bid_count in
-      record { at_least = omega (arith, ints, lo, low, a, c, d, bc); at_most = omega (arith, ints, hi, high, e, f, i, tc, fc) }
-
-  reserve_within : (k : ℕ) → IsWithin 10000000000000 (total_reserve (units m) given k)
-  reserve_within k =
-      let z = zip_between (λ u s. reserve_in s (suc k)) (λ u. pos 0) (λ u. pos 10000000) (units m) given (all_units (λ u s. (pos 0 ≤ℤ reserve_in s (suc k)) × (reserve_in s (suc k) ≤ℤ pos 10000000)) (λ x a s. (omega (arith, ints), (s.output k).reserve))) in
-      let lo = z.0 in
-      let hi = z.1 in
-      let a = total_times 0 (units m) in
-      let c = total_times 10000000 (units m) in
-      let long = units_length m in
-      let tc = limits.thermal_count in
-      let fc = limits.flat_count in
-      let bc = limits.bid_count in
-      record { at_least = omega (arith, ints, lo, a); at_most = omega (arith, ints, hi, c, long, tc, fc, bc) }
+  all_within : (k : ℕ) → IsTotal (total_power (units m) given k) × IsTotal (total_reserve (units m) given k)
+  all_within = sums.totals_within m given limits (all_units (λ u s. (k : ℕ) → GivesWithin u s k) (λ x a s. s.output))
 
   earned_within : IsWithin 100000000000000000000000 (total (earned_in (answers g (posts h) n)))
   earned_within =
@@ -266,35 +174,15 @@ module _ (b : Setup) (h : List (Event Answer)) (limits : IsMarket b.market) (leg
       let bc = limits.bid_count in
       record { at_least = omega (arith, ints, rl, tc, fc, bc); at_most = omega (arith, ints, rm, tc, fc, bc) }
 
-  worth_within : IsWithin 3360000000000000000 (worth_of_demand m π)
-  worth_within =
-      let prices = own_are_prices b (posts h) n limits in
-      let long = own_horizon b (posts h) n in
-      let long2 = own_reserve_horizon b (posts h) n in
-      let dl = limits.demand_length in
-      let rl = limits.reserves_length in
-      let s =
-      sum_below_within 20000000000000000 m.periods (λ k. (int_at π.energy k *ℤ int_at m.demand k) +ℤ (int_at π.reserve k *ℤ int_at m.reserves k))
-      (λ k i.
-      let r = prices.reserve k (pos 0) (omega (arith, i, long2)) in
-      let low = r.at_least in
-      sum_within 10000000000000000 10000000000000000 _ _
-      (product_within 10000000 1000000000 (int_at π.energy k) (int_at m.demand k) (prices.energy k (pos 0) (omega (arith, i, long))) (limits.demand k (pos 0) (omega (arith, i, dl))))
-      (product_within 10000000 1000000000 (int_at π.reserve k) (int_at m.reserves k) (record { at_least = omega (arith, ints, low); at_most = r.at_most }) (limits.reserves k (pos 0) (omega (arith, i, rl))))) in
-      let sl = s.at_least in
-      let sm = s.at_most in
-      let few = limits.horizon.at_most in
-      record { at_least = omega (arith, ints, sl, few); at_most = omega (arith, ints, sm, few) }
-
   pub totals_within : AreWithin b h n
-  totals_within = record { supply = supply_within; reserve = reserve_within; earned = earned_within }
+  totals_within = record { supply = λ k. (all_within k).0; reserve = λ k. (all_within k).1; earned = earned_within }
 
   abbrev row : Proposal
   row = row_of m π (answers g (posts h) n)
 
   row_within : IsRowWithin m row
   row_within =
-      let w = worth_within in
+      let w = sums.demand_worth_within m π limits (own_are_prices b (posts h) n limits) (own_horizon b (posts h) n) in
       let e = earned_within in
       let wl = w.at_least in
       let wm = w.at_most in
@@ -305,8 +193,8 @@ module _ (b : Setup) (h : List (Event Answer)) (limits : IsMarket b.market) (leg
         horizon = own_horizon b (posts h) n;
         supply_length = length-map (range_with_len 0 m.periods) _ ∙ length-range_with_len 0 m.periods;
         reserve_length = length-map (range_with_len 0 m.periods) _ ∙ length-range_with_len 0 m.periods;
-        supply = All-map (IsWithin 10000000000000) (total_power (units m) given) (range_with_len 0 m.periods) (λ k d i. supply_within _);
-        reserve = All-map (IsWithin 10000000000000) (total_reserve (units m) given) (range_with_len 0 m.periods) (λ k d i. reserve_within _);
+        supply = All-map (IsWithin 10000000000000) (total_power (units m) given) (range_with_len 0 m.periods) (λ k d i. (all_within _).0);
+        reserve = All-map (IsWithin 10000000000000) (total_reserve (units m) given) (range_with_len 0 m.periods) (λ k d i. (all_within _).1);
         value = record { at_least = omega (arith, ints, wm, em, wl, el); at_most = omega (arith, ints, wm, em, wl, el) };
       }
 

@@ -1,25 +1,14 @@
 -- Sizes that the totals and values of a legal history keep, so that no sum of them leaves 128 bits (this project's profile).
-use Rattle.std.specs.Prelude.{◌≡◌, ℕ, ◌<◌, ◌≤◌, ℤ, pos, neg_ℤ, ◌≤ℤ◌, List, length, slice_index_or}
+use Rattle.std.specs.Prelude.{◌≡◌, ℕ, ◌<◌, ◌≤◌, ◌≤ℤ◌, List, length, slice_index_or}
 use Rattle.std.specs.List.{All}
 use Rattle.board_history.specs.Board.{Setup, Answer, rules_of, schedules_in, earned_in, IsLegalHistory}
 use Rattle.board_history.specs.Rounds.{Event, posts, answers, rows_of}
 use Rattle.uc_model.specs.Data.{Market, units}
-use Rattle.uc_model.specs.Limits.{IsFrom, IsMarket, ArePrices}
+use Rattle.uc_model.specs.Limits.{IsMarket, ArePrices}
+pub use Rattle.uc_model.specs.Limits.{IsTotal, IsSum, IsWorth}
 use Rattle.uc_model.specs.PriceRule.{Proposal}
 use Rattle.uc_model.specs.Sums.{total}
 use Rattle.uc_model.specs.Systems.{IsFeasiblePlan, plan_cost, total_power, total_reserve}
-
--- a total of powers or of reserves
-abbrev pub IsTotal : ℤ → Type 0
-IsTotal x = IsFrom (neg_ℤ (pos 10000000000000)) (pos 10000000000000) x
-
--- what all units earn together
-abbrev pub IsSum : ℤ → Type 0
-IsSum x = IsFrom (neg_ℤ (pos 100000000000000000000000)) (pos 100000000000000000000000) x
-
--- a dual value
-abbrev pub IsWorth : ℤ → Type 0
-IsWorth x = IsFrom (neg_ℤ (pos 1000000000000000000000000)) (pos 1000000000000000000000000) x
 
 -- the totals of a proposal's answers, as many as there are
 pub record AreWithin (b : Setup) (h : List (Event Answer)) (n : ℕ) : Type 0 where
