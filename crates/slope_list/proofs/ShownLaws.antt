@@ -45,7 +45,6 @@ module _ (start : Start) (ps : List Piece) (slopes : AreSlopes start.first ps) w
 
 -- ---- no place
 
-
 none_in : (d : ℤ) → offset_value [] d ≡ None
 none_in (pos k) = refl
 none_in (negsuc k) = refl

@@ -5,10 +5,11 @@ ghost use Rattle.shape_law.specs.Table.{IsEmpty};
 ghost use Rattle.slope_step.specs.Drawn.{table_after, ArePiecesAfter, AreWithinAfter};
 ghost use Rattle.slope_list.specs.Kept.{AreKept};
 
+use shape_law::step::Step;
+use slope_step::below;
 use slope_step::piece::{Piece, Start};
 use slope_step::read::{self, Spot};
 use slope_step::step::{Made, Stepped, slope_step};
-use shape_law::step::Step;
 use std::alloc::{AllocError, Global};
 use std::mem;
 use uc_model::units::Curve;
@@ -69,6 +70,7 @@ impl Slopes {
     ghost use Rattle.shape_law.specs.Effect.{IsPoint, IsLeast, IsLeastIn};
     ghost use Rattle.shape_law.specs.Steps.{IsFairStep, IsCostOf, IsStepped, IsSmall};
     ghost use Rattle.shape_law.specs.Table.{Table, value_of, IsPlace, IsAmount, IsEmpty, HasNone};
+    ghost use Rattle.slope_step.specs.Below.{IsShift, IsNowhereAbove};
     ghost use Rattle.slope_step.specs.Turn.{IsTurn, IsFirst, IsLast};
     ghost use Rattle.slope_list.specs.Slopes.{shown, room_of, count_of, turn_of};
 
@@ -197,6 +199,27 @@ impl Slopes {
         match self.made {
             Some(_) => false,
             None => true,
+        }
+    }
+
+    /// Whether it is wherever another function is, and with the shift is nowhere above it there.
+    /// False tells nothing where one of them is empty.
+    pub fn is_below(&self, other: &Slopes, shift: i64) -> bool
+        requires { IsShift shift }
+        ensures { OnTrue result (IsNowhereAbove (shown self.now) (shown other.now) shift) }
+    {
+        match self.made {
+            Some(made) => match other.made {
+                Some(others) => below::is_below(
+                    &self.pieces[..made.used],
+                    made.start,
+                    &other.pieces[..others.used],
+                    others.start,
+                    shift,
+                ),
+                None => false,
+            },
+            None => false,
         }
     }
 

@@ -10,11 +10,12 @@ use Rattle.slope_step.specs.declared.piece.Piece.{Piece}
 use Rattle.slope_step.specs.declared.piece.Start.{Start}
 use Rattle.slope_step.specs.declared.kink.Reached.{Reached}
 use Rattle.slope_step.specs.Totals.{CanGo}
-use Rattle.slope_step.specs.Pieces.{piece, end_at, last_place, function_of, AreSlopes, IsLine}
+use Rattle.slope_step.specs.Pieces.{piece, end_at, last_place, function_of, table_of, AreSlopes, IsLine}
 use Rattle.slope_step.specs.Kink.{AreWithin, IsPlaced}
-use Rattle.slope_step.specs.Below.{IsReached, IsUnderTo}
+use Rattle.slope_step.specs.Below.{IsReached, IsUnder, IsUnderTo, IsNowhereAbove}
 use Rattle.slope_step.proofs.LineLaws.{add-mul, line_part}
 use Rattle.slope_step.proofs.PieceLaws.{ends_rise_to, along_line}
+use Rattle.slope_step.proofs.FunctionLaws.{on_inside, on_back}
 use Rattle.slope_step.proofs.KinkLaws.{placed_within, placed_inside}
 
 -- a slope that isn't below another one goes at least as far up
@@ -150,3 +151,12 @@ end_of_one a b end is =
 pub fewer : (n m h h' t t' : ℕ) → h < n → t < m → h ≤ h' → t ≤ t' → h' ≤ n → t' ≤ m → (h' ≡ suc h) ⊎ (t' ≡ suc t) → ((n - h') + (m - t')) < ((n - h) + (m - t))
 fewer n m h h' t t' a b c d e f (inl k) = omega arith
 fewer n m h h' t t' a b c d e f (inr k) = omega arith
+
+-- as the tables show it
+pub shown_under : (start : Start) (ps : List Piece) (other : Start) (qs : List Piece) (shift : ℤ) → IsUnder start ps other qs shift → IsNowhereAbove (table_of start ps) (table_of other qs) shift
+shown_under start ps other qs shift under x v h =
+    let o = on_back (function_of other qs) other.first (last_place other.first qs) x v h in
+    let e = o.value in
+    let u = under x o.from o.to in
+    let b = u.2 in
+    (function_of start ps x, on_inside (function_of start ps) start.first (last_place start.first ps) x u.0 u.1, omega (arith, ints))

@@ -1,7 +1,7 @@
 -- The values of a step are within the limits.
-use Rattle.std.proofs.Common.{◌≡◌, List, arith, neg_ℤ}
-use Rattle.std.specs.Prelude.{ℤ, pos, ◌+ℤ◌, ◌-ℤ◌, ◌*ℤ◌, ◌≤ℤ◌}
-use Rattle.std.specs.Int.{int_min, int_max}
+use Rattle.std.proofs.Common.{arith, neg_ℤ}
+use Rattle.std.specs.Prelude.{ℤ, pos, ◌+ℤ◌, ◌*ℤ◌}
+use Rattle.std.specs.Int.{int_min}
 use Rattle.std.proofs.lemmas.Int.{ints, clamps}
 use Rattle.uc_model.specs.Limits.{IsFrom, IsOutput, IsCost}
 use Rattle.uc_model.proofs.SignedLaws.{IsWithin, product_within}

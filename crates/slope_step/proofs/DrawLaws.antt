@@ -1,14 +1,11 @@
 -- Pieces that are written one after another.
 use Rattle.std.proofs.Common.{◌≡◌, ◌≢◌, ℕ, zero, suc, ◌+◌, ◌<◌, ◌≤◌, List, length, get_or-set_same, get_or-set_other, refl, sym, ap, ◌∙◌, subst, inl, inr, arith}
-use Rattle.std.specs.Prelude.{slice_set, ℤ, pos, ◌+ℤ◌, ◌-ℤ◌, ◌*ℤ◌, ◌≤ℤ◌, ◌<ℤ◌}
-use Rattle.std.proofs.lemmas.Int.{ints}
+use Rattle.std.specs.Prelude.{slice_set, ℤ, pos}
 use Rattle.std.proofs.lemmas.Bool.{cases_lt}
-use Rattle.uc_model.specs.declared.units.Curve.{Curve}
 use Rattle.slope_step.specs.declared.piece.Piece.{Piece}
 use Rattle.slope_step.specs.declared.draw.Pen.{Pen}
-use Rattle.slope_step.specs.Pieces.{piece, end_at, IsLine, Stand}
-use Rattle.slope_step.specs.Drawn.{with_cost, cost_at, IsDrawn}
-use Rattle.slope_step.proofs.LineLaws.{line_sum, line_part}
+use Rattle.slope_step.specs.Pieces.{piece, end_at, IsLine}
+use Rattle.slope_step.specs.Drawn.{IsDrawn}
 
 piece_same : (out : List Piece) (i : ℕ) (q : Piece) → i < length out → piece (slice_set out i q) i ≡ q
 piece_same out i q h = get_or-set_same out i q (record { end = pos 0; slope = pos 0 }) h

@@ -1,11 +1,11 @@
 -- A walk over the blocks of a curve.
-use Rattle.std.proofs.Common.{◌≡◌, ℕ, suc, ◌<◌, ◌≤◌, length, Some, sym, ap, ◌∙◌, arith}
-use Rattle.std.specs.Prelude.{ℤ, pos, ◌+ℤ◌, ◌-ℤ◌, ◌*ℤ◌, ◌≤ℤ◌, ◌<ℤ◌, FitsSigned}
+use Rattle.std.proofs.Common.{◌≡◌, ℕ, suc, ◌<◌, length, Some, sym, ap, ◌∙◌, arith}
+use Rattle.std.specs.Prelude.{ℤ, ◌+ℤ◌, ◌-ℤ◌, ◌*ℤ◌, ◌≤ℤ◌, ◌<ℤ◌, FitsSigned}
 use Rattle.std.specs.Int.{w64}
-use Rattle.std.proofs.lemmas.Int.{ints, to_z-of_z}
+use Rattle.std.proofs.lemmas.Int.{ints}
 use Rattle.uc_model.specs.declared.units.Curve.{Curve}
 use Rattle.shape_law.specs.Curve.{curve_value, end_of, IsLimitedCurve}
-use Rattle.slope_step.specs.Blocks.{width_to, IsInBlock}
+use Rattle.slope_step.specs.Blocks.{width_to}
 use Rattle.slope_step.specs.Totals.{CanGo}
 use Rattle.slope_step.proofs.BlockLaws.{block, rise_to, wide_of, width_to-next, rise_to-next, value_in_block, block_place, end_of-width, rise_at_end, curve_value_is, width_to-positive}
 use Rattle.slope_step.proofs.WrapLaws.{coded, IsNear, near_fits, coded_is}

@@ -3,7 +3,7 @@ use Rattle.std.proofs.Common.{◌≡◌, ℕ, zero, suc, ◌<◌, ◌≤◌, Opt
 use Rattle.std.specs.Prelude.{ℤ, pos, negsuc, ◌+ℤ◌, ◌-ℤ◌, ◌≤ℤ◌, ◌<ℤ◌, slice_get, MatchOption}
 use Rattle.std.specs.Option.{option_map}
 use Rattle.std.proofs.lemmas.Int.{ints, by_lt_z}
-use Rattle.shape_law.specs.Table.{Table, value_of, offset_value, IsConvex}
+use Rattle.shape_law.specs.Table.{value_of, offset_value, IsConvex}
 use Rattle.shape_law.specs.Effect.{IsSum, IsCurveSum}
 use Rattle.shape_law.specs.Curve.{curve_value}
 use Rattle.shape_law.proofs.ConvexLaws.{convex_at, IsConvex-from_places}

@@ -1,5 +1,5 @@
 -- The value of a step at a place, as the code computes it.
-use Rattle.std.proofs.Common.{◌≡◌, ap, sym, ◌∙◌, arith, neg_ℤ}
+use Rattle.std.proofs.Common.{◌≡◌, ap, ◌∙◌, arith, neg_ℤ}
 use Rattle.std.specs.Prelude.{ℤ, pos, ◌+ℤ◌, ◌-ℤ◌, ◌*ℤ◌, FitsSigned}
 use Rattle.std.specs.Int.{w64, int_min}
 use Rattle.std.proofs.lemmas.Int.{ints}

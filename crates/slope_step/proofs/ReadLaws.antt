@@ -1,14 +1,14 @@
 -- What is read off pieces.
-use Rattle.std.proofs.Common.{◌≡◌, ℕ, suc, ◌-◌, ◌<◌, ◌≤◌, List, length, refl, sym, ap, ◌∙◌, inl, inr, arith, Some}
+use Rattle.std.proofs.Common.{◌≡◌, ℕ, suc, ◌-◌, ◌<◌, ◌≤◌, List, length, sym, ap, ◌∙◌, inl, inr, arith, Some}
 use Rattle.std.specs.Prelude.{ℤ, pos, ◌+ℤ◌, ◌≤ℤ◌, ◌<ℤ◌}
 use Rattle.std.specs.Int.{int_min, int_max}
 use Rattle.std.proofs.lemmas.Int.{ints, clamps, by_lt_z}
 use Rattle.std.proofs.lemmas.Bool.{cases_lt}
-use Rattle.shape_law.specs.Effect.{IsLeast, IsLeastIn}
+use Rattle.shape_law.specs.Effect.{IsLeastIn}
 use Rattle.shape_law.specs.Table.{HasNone}
 use Rattle.slope_step.specs.declared.piece.Piece.{Piece}
 use Rattle.slope_step.specs.declared.piece.Start.{Start}
-use Rattle.slope_step.specs.Pieces.{piece, end_at, last_place, function_of, table_on, table_of, AreSlopes}
+use Rattle.slope_step.specs.Pieces.{piece, end_at, last_place, function_of, table_on, AreSlopes}
 use Rattle.slope_step.specs.Kink.{IsValley}
 use Rattle.slope_step.proofs.LineLaws.{line_step}
 use Rattle.slope_step.proofs.PieceLaws.{ends_rise_to, slopes_rise, along_line, held}

@@ -1,9 +1,8 @@
 -- The parts of a step together.
-use Rattle.std.proofs.Common.{◌≡◌, ℕ, zero, suc, ◌+◌, ◌-◌, ◌<◌, ◌≤◌, List, [], length, take, Option, Some, None, refl, sym, ap, ◌∙◌, subst, arith, neg_ℤ}
+use Rattle.std.proofs.Common.{◌≡◌, ℕ, zero, suc, ◌+◌, ◌-◌, ◌≤◌, List, [], length, take, Option, Some, None, refl, sym, ap, ◌∙◌, subst, arith}
 use Rattle.std.specs.Prelude.{ℤ, pos, negsuc, ◌+ℤ◌, ◌-ℤ◌, ◌*ℤ◌, ◌≤ℤ◌, ◌<ℤ◌, MatchOption}
 use Rattle.std.specs.Int.{int_min, int_max}
 use Rattle.std.proofs.lemmas.Int.{ints, clamps}
-use Rattle.std.proofs.lemmas.List.{length-take-le}
 use Rattle.uc_model.specs.declared.units.Curve.{Curve}
 use Rattle.uc_model.specs.Limits.{IsOutput, IsCost}
 use Rattle.shape_law.specs.declared.step.Step.{Step}
@@ -14,7 +13,7 @@ use Rattle.shape_law.proofs.ConvexLaws.{IsConvex-line, IsConvex-window}
 use Rattle.shape_law.proofs.CurveLaws.{IsConvex-curve_sum}
 use Rattle.slope_step.specs.declared.piece.Piece.{Piece}
 use Rattle.slope_step.specs.declared.piece.Start.{Start}
-use Rattle.slope_step.specs.Pieces.{piece, end_at, last_place, function_of, table_on, table_of, AreSlopes, IsLine, Stand}
+use Rattle.slope_step.specs.Pieces.{piece, end_at, last_place, function_of, table_on, table_of, AreSlopes, Stand}
 use Rattle.slope_step.specs.Kink.{kinked, AreSmall, AreWithin, AreGentle, IsValley}
 use Rattle.slope_step.specs.Window.{nearest, moved}
 use Rattle.slope_step.specs.Blocks.{HasCosts}

@@ -3,12 +3,10 @@ use Rattle.std.proofs.Common.{◌≡◌, ℕ, zero, suc, Some, refl, sym, ap, �
 use Rattle.std.specs.Prelude.{ℤ, pos, negsuc, ◌+ℤ◌, ◌-ℤ◌, ◌≤ℤ◌, ◌<ℤ◌}
 use Rattle.std.specs.Int.{int_min, int_max}
 use Rattle.std.proofs.lemmas.Int.{ints, clamps, by_lt_z}
-use Rattle.shape_law.specs.Effect.{IsWindow, IsLeast, Reaches}
-use Rattle.shape_law.specs.Table.{value_of}
-use Rattle.slope_step.specs.Pieces.{table_on, IsLine, Curves}
+use Rattle.shape_law.specs.Effect.{IsWindow, IsLeast}
+use Rattle.slope_step.specs.Pieces.{table_on}
 use Rattle.slope_step.specs.Kink.{IsValley}
-use Rattle.slope_step.specs.Window.{nearest, IsFlat}
-use Rattle.slope_step.proofs.LineLaws.{line_step, line_moved, line_same, line_flat}
+use Rattle.slope_step.specs.Window.{nearest}
 use Rattle.slope_step.proofs.FunctionLaws.{on_inside, on_back}
 
 steps_by : (x y d : ℤ) → y -ℤ x ≡ d → x ≤ℤ y → (k : ℕ) × (y ≡ x +ℤ pos k)

@@ -1,6 +1,6 @@
 -- Numbers that fit 64 bits are those that the code computes with.
-use Rattle.std.proofs.Common.{◌≡◌, true, false, ap, ◌∙◌, arith, neg_ℤ, to_z, of_z}
-use Rattle.std.specs.Prelude.{ℤ, pos, ◌+ℤ◌, ◌-ℤ◌, ◌*ℤ◌, ◌≤ℤ◌, ◌<ℤ◌, FitsSigned}
+use Rattle.std.proofs.Common.{◌≡◌, true, false, arith, neg_ℤ, to_z, of_z}
+use Rattle.std.specs.Prelude.{ℤ, pos, ◌+ℤ◌, ◌-ℤ◌, ◌≤ℤ◌, ◌<ℤ◌, FitsSigned}
 use Rattle.std.specs.Int.{w64, int_min}
 use Rattle.std.proofs.lemmas.Int.{ints, clamps, to_z-of_z}
 use Rattle.uc_model.specs.Limits.{IsFrom, IsOutput, IsPower}

@@ -1,14 +1,19 @@
 -- One function below another one (this project's profile).
-use Rattle.std.specs.Prelude.{ℕ, ◌≤◌, ◌+◌, ◌<◌, ℤ, ◌+ℤ◌, ◌≤ℤ◌, ◌≡◌, suc, pos, neg_ℤ, List, length}
+use Rattle.std.specs.Prelude.{ℤ, ◌+ℤ◌, ◌≤ℤ◌, ◌≡◌, pos, neg_ℤ, List, Some}
 use Rattle.uc_model.specs.Limits.{IsFrom}
+use Rattle.shape_law.specs.Table.{Table, value_of}
 use Rattle.slope_step.specs.declared.piece.Piece.{Piece}
 use Rattle.slope_step.specs.declared.piece.Start.{Start}
-use Rattle.slope_step.specs.declared.kink.Place.{Place}
 use Rattle.slope_step.specs.declared.kink.Reached.{Reached}
-use Rattle.slope_step.specs.Pieces.{end_at, last_place, function_of}
+use Rattle.slope_step.specs.Pieces.{last_place, function_of}
 use Rattle.slope_step.specs.Kink.{IsPlaced}
 
--- the first function is wherever the other one is, and with the shift it is nowhere above it there
+-- f is wherever g is, and with the shift it is nowhere above it there
+abbrev pub IsNowhereAbove : Table → Table → ℤ → Type 0
+IsNowhereAbove f g shift =
+    (x v : ℤ) → value_of g x ≡ Some v → (u : ℤ) × (value_of f x ≡ Some u) × ((u +ℤ shift) ≤ℤ v)
+
+-- the same of pieces: the first function is wherever the other one is, and with the shift it is nowhere above it there
 abbrev pub IsUnder : Start → List Piece → Start → List Piece → ℤ → Type 0
 IsUnder start ps other qs shift =
     (x : ℤ) → other.first ≤ℤ x → x ≤ℤ last_place other.first qs

@@ -8,7 +8,7 @@ use Rattle.shape_law.specs.Table.{IsPlace, IsAmount}
 use Rattle.slope_step.specs.declared.piece.Piece.{Piece}
 use Rattle.slope_step.specs.declared.piece.Start.{Start}
 use Rattle.slope_step.specs.declared.kink.Place.{Place}
-use Rattle.slope_step.specs.Pieces.{piece, end_at, last_place, function_of, AreSlopes}
+use Rattle.slope_step.specs.Pieces.{piece, end_at, last_place, function_of}
 
 -- the value less the worth of the best reserve
 abbrev pub kinked : Start → List Piece → Step → ℤ → ℤ

@@ -2,9 +2,9 @@
 ghost use Rattle.std.specs.Prelude.{◌≡◌, suc, ◌<◌, ◌≤◌, ◌+ℤ◌, ◌≤ℤ◌, ◌<ℤ◌, IsFalse, length};
 ghost use Rattle.std.specs.Bool.{OnTrue};
 ghost use Rattle.shape_law.specs.Table.{IsAmount};
-ghost use Rattle.slope_step.specs.Pieces.{piece, last_place, function_of, AreSlopes, IsLine};
+ghost use Rattle.slope_step.specs.Pieces.{piece, last_place, function_of, table_of, AreSlopes, IsLine};
 ghost use Rattle.slope_step.specs.Kink.{AreWithin};
-ghost use Rattle.slope_step.specs.Below.{IsReached, IsUnder, IsShift};
+ghost use Rattle.slope_step.specs.Below.{IsReached, IsNowhereAbove, IsShift};
 
 use crate::kink::{Reached, seek};
 use crate::piece::{Piece, Start, along};
@@ -59,7 +59,7 @@ pub fn is_below(pieces: &[Piece], start: Start, others: &[Piece], other: Start, 
     requires other_slopes { AreSlopes other.first others.now }
     requires other_within { AreWithin other others.now }
     requires shift { IsShift shift }
-    ensures { OnTrue result (IsUnder start pieces.now other others.now shift) }
+    ensures { OnTrue result (IsNowhereAbove (table_of start pieces.now) (table_of other others.now) shift) }
 {
     if !covers(pieces, start, others, other) {
         return false;

@@ -8,7 +8,6 @@ pub mod below;
 mod blocks;
 mod draw;
 mod kink;
-pub mod lowest;
 pub mod piece;
 pub mod read;
 pub mod step;

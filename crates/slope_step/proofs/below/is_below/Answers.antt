@@ -4,7 +4,7 @@ use Rattle.std.specs.Int.{w64}
 use Rattle.std.proofs.lemmas.Int.{ints, to_z-of_z}
 use Rattle.slope_step.specs.Pieces.{piece, last_place, function_of}
 use Rattle.slope_step.proofs.PieceLaws.{ends_rise_to}
-use Rattle.slope_step.proofs.BelowLaws.{reached_amount, goes_on, end_ahead, end_of_one, fewer, under_on}
+use Rattle.slope_step.proofs.BelowLaws.{reached_amount, goes_on, end_ahead, end_of_one, fewer, under_on, shown_under}
 use Rattle.slope_step.proofs.below.is_below.Goals as goal
 
 pub seek-here-requires-clause-to : goal.seek-here-requires-clause-to
@@ -129,4 +129,5 @@ returns c =
     let last = was.there.placed.last (omega arith) in
     let l = c.if-not-covers.ensures.last in
     let f = c.if-not-covers.ensures.first in
-    λ x low high. (omega (arith, ints), omega (arith, ints), (let u = was.under x low (omega (arith, ints)) in omega (arith, ints)))
+    shown_under c.args.start c.args.pieces.now c.args.other c.args.others.now c.args.shift
+    (λ x low high. (omega (arith, ints), omega (arith, ints), (let u = was.under x low (omega (arith, ints)) in omega (arith, ints))))

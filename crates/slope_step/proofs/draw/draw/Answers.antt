@@ -1,10 +1,10 @@
-use Rattle.std.proofs.Common.{◌≡◌, ℕ, ◌+◌, ◌<◌, ◌≤◌, length, refl, ap, subst, sym, ◌∙◌, arith, rules, to_z, of_z}
-use Rattle.std.specs.Prelude.{ℤ, pos, FitsSigned, ◌+ℤ◌, ◌*ℤ◌, ◌≤ℤ◌, ◌<ℤ◌}
+use Rattle.std.proofs.Common.{◌≡◌, refl, ap, sym, ◌∙◌, arith, rules, to_z, of_z}
+use Rattle.std.specs.Prelude.{FitsSigned, ◌+ℤ◌, ◌*ℤ◌, ◌<ℤ◌}
 use Rattle.std.specs.Int.{w64, int_min}
 use Rattle.std.proofs.lemmas.Int.{ints, clamps, to_z-of_z}
-use Rattle.slope_step.specs.Pieces.{end_at, IsLine}
+use Rattle.slope_step.specs.Pieces.{end_at}
 use Rattle.slope_step.specs.Window.{nearest, moved, moved_parts}
-use Rattle.slope_step.specs.Drawn.{paid, stepped}
+use Rattle.slope_step.specs.Drawn.{paid}
 use Rattle.slope_step.proofs.LineLaws.{line_part, line_sum, line_product}
 use Rattle.slope_step.proofs.BlockLaws.{in_block_at}
 use Rattle.slope_step.proofs.DrawLaws.{same_line}

@@ -1,9 +1,7 @@
-use Rattle.std.proofs.Common.{◌≡◌, ℕ, ap, subst, sym, arith, rules, to_z, of_z}
-use Rattle.std.specs.Prelude.{ℤ, FitsSigned, ◌≤ℤ◌, ◌<ℤ◌}
+use Rattle.std.proofs.Common.{arith, rules}
+use Rattle.std.specs.Prelude.{FitsSigned}
 use Rattle.std.specs.Int.{w64}
 use Rattle.std.proofs.lemmas.Int.{ints, clamps, to_z-of_z}
-use Rattle.slope_step.specs.Pieces.{IsLine}
-use Rattle.slope_step.specs.Blocks.{IsInBlock}
 use Rattle.slope_step.specs.Drawn.{with_cost}
 use Rattle.slope_step.proofs.LineLaws.{line_part}
 use Rattle.slope_step.proofs.BlockLaws.{in_block_at}

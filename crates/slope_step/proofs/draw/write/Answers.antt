@@ -1,5 +1,5 @@
-use Rattle.std.proofs.Common.{◌≡◌, ◌<◌, List, length, ap, refl, arith, to_z, of_z}
-use Rattle.std.specs.Prelude.{ℤ, pos, FitsSigned, ◌+ℤ◌}
+use Rattle.std.proofs.Common.{◌≡◌, List, length, ap, refl, arith, to_z, of_z}
+use Rattle.std.specs.Prelude.{◌+ℤ◌}
 use Rattle.std.specs.Int.{w64}
 use Rattle.std.proofs.lemmas.Int.{ints, to_z-of_z}
 use Rattle.uc_model.specs.declared.units.Block.{Block}

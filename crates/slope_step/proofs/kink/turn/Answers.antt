@@ -1,5 +1,5 @@
-use Rattle.std.proofs.Common.{◌≡◌, ap, arith, rules}
-use Rattle.std.specs.Prelude.{FitsSigned, ◌<ℤ◌}
+use Rattle.std.proofs.Common.{ap, arith, rules}
+use Rattle.std.specs.Prelude.{FitsSigned}
 use Rattle.std.specs.Int.{w64}
 use Rattle.std.proofs.lemmas.Int.{ints, to_z-of_z}
 use Rattle.slope_step.specs.Pieces.{end_at}

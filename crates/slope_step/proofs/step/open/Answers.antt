@@ -1,12 +1,11 @@
-use Rattle.std.proofs.Common.{◌≡◌, ap, sym, ◌∙◌, subst, refl, arith, rules}
-use Rattle.std.specs.Prelude.{ℤ, pos, neg_ℤ, FitsSigned, ◌+ℤ◌, ◌-ℤ◌, ◌*ℤ◌, ◌≤ℤ◌, ◌<ℤ◌}
+use Rattle.std.proofs.Common.{◌≡◌, ap, sym, ◌∙◌, subst, refl, rules}
+use Rattle.std.specs.Prelude.{ℤ, FitsSigned, ◌+ℤ◌, ◌-ℤ◌, ◌*ℤ◌, ◌≤ℤ◌}
 use Rattle.std.specs.Int.{w64, int_min, int_max}
 use Rattle.std.proofs.lemmas.Int.{to_z-of_z}
-use Rattle.uc_model.specs.Limits.{IsFrom, IsOutput, IsCost}
-use Rattle.shape_law.specs.Curve.{reserve_term, end_of}
+use Rattle.uc_model.specs.Limits.{IsCost}
+use Rattle.shape_law.specs.Curve.{reserve_term}
 use Rattle.slope_step.specs.Pieces.{last_place, function_of}
 use Rattle.slope_step.specs.Window.{nearest}
-use Rattle.slope_step.specs.Blocks.{width_to}
 use Rattle.slope_step.proofs.BlockLaws.{wide_of, on_curve, end_of-width}
 use Rattle.slope_step.proofs.FunctionLaws.{cost_at_is}
 use Rattle.slope_step.proofs.KinkLaws.{end_of_valley, within_from_small}

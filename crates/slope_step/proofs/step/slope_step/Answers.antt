@@ -1,8 +1,8 @@
-use Rattle.std.proofs.Common.{◌≡◌, ℕ, ◌+◌, ◌≤◌, length, ap, sym, ◌∙◌, subst, refl, arith, rules}
+use Rattle.std.proofs.Common.{◌≡◌, ◌≤◌, length, ap, sym, ◌∙◌, subst, arith, rules}
 use Rattle.std.specs.Prelude.{ℤ, FitsSigned, ◌+ℤ◌, ◌-ℤ◌, ◌≤ℤ◌, ◌<ℤ◌}
 use Rattle.std.specs.Int.{w64, int_min, int_max}
 use Rattle.std.proofs.lemmas.Int.{to_z-of_z}
-use Rattle.slope_step.specs.Pieces.{last_place, table_of, AreSlopes}
+use Rattle.slope_step.specs.Pieces.{last_place, table_of}
 use Rattle.slope_step.specs.Window.{nearest}
 use Rattle.slope_step.specs.Drawn.{stepped}
 use Rattle.slope_step.specs.Turn.{IsTurn}

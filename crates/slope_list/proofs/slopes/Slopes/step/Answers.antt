@@ -1,4 +1,4 @@
-use Rattle.std.proofs.Common.{◌≡◌, None, take, sym, ap, ◌∙◌, subst, rules}
+use Rattle.std.proofs.Common.{take, sym, ap, subst, rules}
 use Rattle.std.specs.Prelude.{ℤ, FitsSigned}
 use Rattle.std.specs.Int.{w64}
 use Rattle.std.proofs.lemmas.Int.{to_z-of_z}
@@ -7,7 +7,7 @@ use Rattle.shape_law.specs.Table.{Table}
 use Rattle.slope_step.specs.Pieces.{table_of}
 use Rattle.slope_step.specs.Drawn.{table_after}
 use Rattle.slope_step.specs.Turn.{IsTurn}
-use Rattle.slope_list.proofs.ShownLaws.{stepped_nothing, none_of}
+use Rattle.slope_list.proofs.ShownLaws.{stepped_nothing}
 use Rattle.slope_list.proofs.slopes.Slopes.step.Goals as goal
 
 pub returns-in-None-clause-stepped : goal.returns-in-None-clause-stepped

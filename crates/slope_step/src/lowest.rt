@@ -1,1 +1,0 @@
-//! The least value after a step.
