@@ -1,6 +1,6 @@
 -- What is seen of pieces, and of none.
 use Rattle.std.proofs.Common.{◌≡◌, List, [], length, true, false, Option, Some, None, refl, sym, ap, ◌∙◌, subst, arith}
-use Rattle.std.specs.Prelude.{ℤ, pos, negsuc, ◌+ℤ◌, ◌-ℤ◌, ◌*ℤ◌, ◌≤ℤ◌, MatchOption}
+use Rattle.std.specs.Prelude.{IfSome, ℤ, pos, negsuc, ◌+ℤ◌, ◌-ℤ◌, ◌*ℤ◌, ◌≤ℤ◌, MatchOption}
 use Rattle.std.specs.Option.{option_map}
 use Rattle.std.proofs.lemmas.Int.{ints}
 use Rattle.uc_model.specs.declared.units.Curve.{Curve}
@@ -12,7 +12,9 @@ use Rattle.slope_step.specs.declared.piece.Piece.{Piece}
 use Rattle.slope_step.specs.declared.piece.Start.{Start}
 use Rattle.slope_step.specs.declared.step.Made.{Made}
 use Rattle.slope_step.specs.Pieces.{last_place, function_of, table_of, AreSlopes}
-use Rattle.slope_step.specs.Turn.{IsFirst, IsLast}
+use Rattle.shape_law.specs.Effect.{IsLeast}
+use Rattle.slope_list.specs.declared.slopes.Lowest.{Lowest}
+use Rattle.slope_step.specs.Turn.{IsFirst, IsLast, IsTurn}
 use Rattle.slope_step.proofs.PieceLaws.{ends_rise_to, along_first}
 use Rattle.slope_step.proofs.FunctionLaws.{on_inside, on_back}
 
@@ -47,7 +49,7 @@ none_in : (d : ℤ) → offset_value [] d ≡ None
 none_in (pos k) = refl
 none_in (negsuc k) = refl
 
-none_at : (x : ℤ) → value_of (record { lo = pos 0; values = [] }) x ≡ None
+pub none_at : (x : ℤ) → value_of (record { lo = pos 0; values = [] }) x ≡ None
 none_at x = none_in (x -ℤ pos 0)
 
 not_some : {P : Type 0} {v : ℤ} → (o : Option ℤ) → o ≡ None → o ≡ Some v → P
@@ -76,3 +78,12 @@ none_of (Some m) h = absurd (h m refl)
 
 pub never : false ≡ true → ⊥
 never h = cc
+
+pub at_some : {X : Type 0} (P : X → Type 0) (o : Option X) (x : X) → o ≡ Some x → IfSome o P → P x
+at_some {X = X} P o x is h = subst (λ (o : Option X). IfSome o P) is h
+
+-- the least value of what is drawn, with the turn that is known
+pub lowest_turned : (s : Step) (c : Curve) (f after : Table) (turn : ℤ) (o : Option Lowest) → IsStepped s c f after → MatchOption o (IsEmpty after) (λ r. IsLeast after r.value r.at) → IfSome o (λ r. r.turn ≡ turn) → IsTurn s f turn →
+    (h : Table) × IsStepped s c f h × MatchOption o (IsEmpty h) (λ r. IsLeast h r.value r.at × IsTurn s f r.turn)
+lowest_turned s c f after turn None step least same is = (after, step, least)
+lowest_turned s c f after turn (Some r) step least same is = (after, step, (least, subst (IsTurn s f) (sym same) is))

@@ -4,4 +4,4 @@
 mod slopes;
 
 pub use slope_step::read::Spot;
-pub use slopes::Slopes;
+pub use slopes::{Lowest, Slopes};

@@ -1,12 +1,15 @@
 //! The function, and room for the next one.
-ghost use Rattle.std.specs.Prelude.{◌≡◌, length, IfOk};
+ghost use Rattle.std.specs.Prelude.{◌≡◌, ◌≤◌, length, IfOk, IfSome, MatchOption};
+ghost use Rattle.shape_law.specs.Effect.{IsLeast};
+ghost use Rattle.shape_law.specs.Table.{IsEmpty};
+ghost use Rattle.slope_step.specs.Drawn.{table_after, ArePiecesAfter, AreWithinAfter};
 ghost use Rattle.slope_list.specs.Kept.{AreKept};
 
 use shape_law::step::Step;
 use slope_step::below;
 use slope_step::piece::{Piece, Start};
 use slope_step::read::{self, Spot};
-use slope_step::step::{Made, slope_step};
+use slope_step::step::{Made, Stepped, slope_step};
 use std::alloc::{AllocError, Global};
 use std::mem;
 use uc_model::units::Curve;
@@ -29,6 +32,35 @@ fn sheet(alloc: Global, room: usize) -> Result<Vec<Piece>, AllocError>
     let mut pieces = Vec::new(alloc);
     pieces.resize(room, Piece { end: 0, slope: 0 })?;
     Ok(pieces)
+}
+
+/// The least value of what a step made, its least place, and the turn of the step.
+#[derive(Clone, Copy)]
+pub struct Lowest {
+    pub value: i64,
+    pub at: i64,
+    pub turn: i64,
+}
+
+/// The least value of what a step has drawn.
+fn lowest_of(pieces: &[Piece], stepped: Stepped) -> Option<Lowest>
+    requires slopes { IfSome stepped.made (ArePiecesAfter pieces.now) }
+    requires within { IfSome stepped.made (AreWithinAfter pieces.now) }
+    requires room { IfSome stepped.made (λ d. d.used ≤ length pieces.now) }
+    ensures least { MatchOption result (IsEmpty (table_after pieces.now stepped.made)) (λ r. IsLeast (table_after pieces.now stepped.made) r.value r.at) }
+    ensures turn { IfSome result (λ r. r.turn ≡ stepped.turn) }
+{
+    match stepped.made {
+        Some(made) => {
+            let spot = read::least(&pieces[..made.used], made.start);
+            Some(Lowest {
+                value: spot.value,
+                at: spot.at,
+                turn: stepped.turn,
+            })
+        }
+        None => None,
+    }
 }
 
 impl Slopes {
@@ -93,6 +125,27 @@ impl Slopes {
         self.made = stepped.made;
         self.turn = stepped.turn;
         mem::swap(&mut self.pieces, &mut self.spare);
+    }
+
+    /// The least value of what a step makes, which isn't taken, or None where it makes nothing. What it makes is drawn in the
+    /// spare room.
+    pub fn least_beside(&mut self, step: Step, curve: &Curve) -> Option<Lowest>
+        requires step { IsFairStep step }
+        requires curve { IsCostOf step curve.now }
+        requires small { IsSmall (shown self.old) }
+        requires room { count_of self.old + length curve.now.blocks.items + 3 ≤ room_of self.old }
+        ensures least { (after : Table) × IsStepped step curve.now (shown self.old) after
+            × MatchOption result (IsEmpty after) (λ r. IsLeast after r.value r.at × IsTurn step (shown self.old) r.turn) }
+        ensures shown { shown self.new ≡ shown self.old }
+        ensures count { count_of self.new ≡ count_of self.old }
+        ensures room { room_of self.new ≡ room_of self.old }
+    {
+        let Some(made) = self.made else {
+            return None;
+        };
+        let pieces = &self.pieces[..made.used];
+        let stepped = slope_step(pieces, made.start, step, curve, &mut self.spare);
+        lowest_of(&self.spare, stepped)
     }
 
     /// The least value and its least place, or None on an empty interval.

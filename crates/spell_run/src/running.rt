@@ -65,13 +65,17 @@ pub trait Running: Sized {
         ensures count { count self.new ≤ count self.old + length curve.now.blocks.items + 3 }
         ensures room { room self.new ≡ room self.old };
 
-    /// The least value after a step that the function itself doesn't take.
-    fn least_after(&self, step: Step, curve: &Curve) -> Option<Lowest>
+    /// The least value after a step that the function itself doesn't take: it stays.
+    fn least_after(&mut self, step: Step, curve: &Curve) -> Option<Lowest>
         requires step { IsFairStep step }
         requires curve { IsCostOf step curve.now }
-        requires small { IsSmall (function self.now) }
-        ensures { (after : Table) × IsStepped step curve.now (function self.now) after
-            × MatchOption result (IsEmpty after) (λ r. IsLeast after r.value r.at × IsTurn step (function self.now) r.turn) };
+        requires small { IsSmall (function self.old) }
+        requires room { count self.old + length curve.now.blocks.items + 3 ≤ room self.old }
+        ensures least { (after : Table) × IsStepped step curve.now (function self.old) after
+            × MatchOption result (IsEmpty after) (λ r. IsLeast after r.value r.at × IsTurn step (function self.old) r.turn) }
+        ensures function { function self.new ≡ function self.old }
+        ensures count { count self.new ≡ count self.old }
+        ensures room { room self.new ≡ room self.old };
 
     /// The least value and its least place, or None on an empty interval.
     fn least(&self) -> Option<Spot>
@@ -181,11 +185,15 @@ fn least_cost_in<R: Running>(running: &R, least: i64, most: i64) -> Option<i64>
 }
 
 /// The least cost after a step that the function itself doesn't take.
-fn least_cost_after<R: Running>(running: &R, step: Step, curve: &Curve) -> Option<i64>
+fn least_cost_after<R: Running>(running: &mut R, step: Step, curve: &Curve) -> Option<i64>
     requires step { IsFairStep step }
     requires curve { IsCostOf step curve.now }
-    requires small { IsSmall (R.function running.now) }
-    ensures { (after : Table) × IsStepped step curve.now (R.function running.now) after × IsLeastCost after result }
+    requires small { IsSmall (R.function running.old) }
+    requires room { R.count running.old + length curve.now.blocks.items + 3 ≤ R.room running.old }
+    ensures least { (after : Table) × IsStepped step curve.now (R.function running.old) after × IsLeastCost after result }
+    ensures function { R.function running.new ≡ R.function running.old }
+    ensures count { R.count running.new ≡ R.count running.old }
+    ensures room { R.room running.new ≡ R.room running.old }
 {
     match running.least_after(step, curve) {
         Some(lowest) => Some(lowest.value),
@@ -200,12 +208,16 @@ fn cost_to_stop<R: Running>(
     prices: &Prices,
     first: u32,
     place: usize,
-    running: &R,
+    running: &mut R,
 ) -> Option<i64>
     requires curve { IsCostCurve (thermal_of unit.now).points curve.now }
     requires place { suc place < length (prices_of prices.now).energy }
     requires order { first ≤ suc place }
-    requires frontier { IsFrontier (thermal_of unit.now) (prices_of prices.now) first place (R.function running.now) }
+    requires frontier { IsFrontier (thermal_of unit.now) (prices_of prices.now) first place (R.function running.old) }
+    requires room { R.count running.old + length curve.now.blocks.items + 3 ≤ R.room running.old }
+    ensures function { R.function running.new ≡ R.function running.old }
+    ensures count { R.count running.new ≡ R.count running.old }
+    ensures room { R.room running.new ≡ R.room running.old }
     ensures answer { IsSpellAnswer (thermal_of unit.now) (prices_of prices.now) (length (prices_of prices.now).energy) first (suc place) result }
     ensures within { IfSome result (IsSpellWithin first (suc place)) }
 {

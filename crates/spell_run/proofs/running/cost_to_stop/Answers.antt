@@ -24,7 +24,7 @@ returns-clause-answer g c =
     let before = g.R.Running.function c.args.running.now in
     let place = c.requires.place in
     let within : c.args.place < length prices.energy = omega (arith, place) in
-    let found = c.least_cost_after.ensures in
+    let found = c.least_cost_after.ensures.least in
     (answer_of_step unit prices c.args.first c.args.place c.args.curve.now c.args.unit.now.valid c.args.prices.now.valid c.requires.curve envelope_is_cost within c.requires.order before found.0 c.requires.frontier true
     (sym (lt-ltb (suc c.args.place) (length prices.energy) place))
     (step_moved unit prices c.args.place c.starts_in-starts.result _ true c.step_of.result c.args.curve.now before found.0 c.step_of.ensures.step c.starts_in-starts.ensures found.1) c.least_cost_after.result found.2).0
@@ -36,7 +36,7 @@ returns-clause-within g c =
     let before = g.R.Running.function c.args.running.now in
     let place = c.requires.place in
     let within : c.args.place < length prices.energy = omega (arith, place) in
-    let found = c.least_cost_after.ensures in
+    let found = c.least_cost_after.ensures.least in
     (answer_of_step unit prices c.args.first c.args.place c.args.curve.now c.args.unit.now.valid c.args.prices.now.valid c.requires.curve envelope_is_cost within c.requires.order before found.0 c.requires.frontier true
     (sym (lt-ltb (suc c.args.place) (length prices.energy) place))
     (step_moved unit prices c.args.place c.starts_in-starts.result _ true c.step_of.result c.args.curve.now before found.0 c.step_of.ensures.step c.starts_in-starts.ensures found.1) c.least_cost_after.result found.2).1
