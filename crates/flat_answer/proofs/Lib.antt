@@ -5,7 +5,6 @@ pub mod Forms
 pub mod Places
 -- no schedule comes before one whose powers are at most its own
 pub mod Ordered
-
 -- ---- one place
 -- the best power at a price: all where it is paid for, else as little as allowed
 pub mod Powers

@@ -137,9 +137,9 @@ module _ {F S : Type 0} (told : F → List ℕ → Option (List ℕ)) (faults : 
       (rose gained short : List ℕ → Type 0) → ℕ → Type 0) → Type 0
   OnRuns P = (words : List (List ℕ)) (old new : F) (before after : S) (n : ℕ)
       → IsOutcome words (told old) (λ name. Rose last (faults old name) (faults new name))
-          (Gains held counts before after) (FallsShort held counts most before after) n
+      (Gains held counts before after) (FallsShort held counts most before after) n
       → P words (told old) (λ name. Rose last (faults old name) (faults new name))
-          (Gains held counts before after) (FallsShort held counts most before after) n
+      (Gains held counts before after) (FallsShort held counts most before after) n
 
   abbrev pub EachStatusHasItsCause : Type 0
   EachStatusHasItsCause = OnRuns (λ words told rose gained short n.

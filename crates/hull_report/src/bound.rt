@@ -36,10 +36,9 @@ fn distance(lines: &BoundLines) -> i128
 pub fn write_bound_lines<S: Sink>(lines: &BoundLines, out: &mut S) -> Result<(), WriteFailed>
     requires value { IsTold lines.now.value }
     requires bound { IsTold lines.now.bound }
-    ensures {
-        Writes S.held S.faults S.last out.old out.new result
-          (bound_text lines.now.proposals lines.now.chosen lines.now.value
-            lines.now.radius lines.now.first lines.now.last lines.now.bound) }
+    ensures { Writes S.held S.faults S.last out.old out.new result
+        (bound_text lines.now.proposals lines.now.chosen lines.now.value
+        lines.now.radius lines.now.first lines.now.last lines.now.bound) }
 {
     let distance = distance(lines);
     write_parts(

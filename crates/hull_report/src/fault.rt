@@ -49,7 +49,10 @@ pub enum TopFault {
     /// Memory ran out.
     Memory,
     /// The report isn't in form (code 60), or isn't right (code 61), first at this line, from 1.
-    Report { code: u32, line: u32 },
+    Report {
+        code: u32,
+        line: u32,
+    },
 }
 
 fn kind_text(kind: Kind) -> &'static [u8]

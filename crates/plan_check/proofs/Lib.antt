@@ -5,7 +5,6 @@ pub mod ToldLaws
 pub mod FindLaws
 -- what is refused of a plan is what keeps it from being feasible
 pub mod PlanLaws
-
 -- ---- src/rules.rt: the rules of a thermal unit
 -- how long a unit has been on or off, and the tests of the minimum times
 pub mod RunLaws
@@ -13,13 +12,11 @@ pub mod RunLaws
 pub mod ChangeLaws
 -- what is refused of a thermal unit's schedule is what keeps it from being feasible
 pub mod ThermalLaws
-
 -- ---- src/totals.rt: sums over all units
 -- each response of a plan covers the horizon
 pub mod ShapeLaws
 -- sums over units are sums over their schedules
 pub mod SystemLaws
-
 -- ---- src/costs.rt: what schedules cost
 -- what a block is worth, and the powers of on periods within the cost points
 pub mod CostSums

@@ -3,7 +3,6 @@
 pub mod Paid
 -- the unit of a number, and what its schedule earns
 pub mod Units
-
 -- ---- src/earned.rt and src/settlement.rt
 -- what one of a plan's schedules, or a best schedule, earns fits its type
 pub mod Bounds

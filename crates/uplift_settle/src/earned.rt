@@ -13,8 +13,9 @@ ghost use Rattle.uplift_settle.specs.Earned.{paid_for, earned_in};
 
 use plan_check::costs::{costs_of_starts, power_costs, worth};
 use uc_model::cases::{Case, Plan};
-use uc_model::laws::{earnings_are_within, feasible_plans_have_shape, units_are_numbered};
-use uc_model::laws::{units_are_within};
+use uc_model::laws::{
+    earnings_are_within, feasible_plans_have_shape, units_are_numbered, units_are_within,
+};
 use uc_model::lists::{Numbers, Powers};
 use uc_model::money;
 use uc_model::units::{Bid, Prices, Response, Unit};

@@ -14,8 +14,9 @@ use crate::earned::earned_by;
 use plan_check::totals::reserves_in;
 use std::alloc::{AllocError, Global};
 use uc_model::cases::{Case, Plan};
-use uc_model::laws::{earnings_are_within, feasible_plans_have_shape, units_are_numbered};
-use uc_model::laws::{units_are_within};
+use uc_model::laws::{
+    earnings_are_within, feasible_plans_have_shape, units_are_numbered, units_are_within,
+};
 use uc_model::lists::Numbers;
 use uc_model::money::worth;
 use uc_model::units::Prices;

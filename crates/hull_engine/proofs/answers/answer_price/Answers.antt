@@ -25,7 +25,7 @@ returns-in_err-run-clause-answers g c =
       h.0,
       h.1,
       answer_then (IsInput h.0) (IsWithinWork c.args.words.now.proposals) (planned_of c.in_ok-input.input) (λ (r : RunInput). planned_of r.input) run h.2
-      (rw c.price_size.ensures.proposals at c.in_err-run.ensures.answers),
+          (rw c.price_size.ensures.proposals at c.in_err-run.ensures.answers),
     )
 
 pub returns-in_err-ended_run-clause-answers : goal.returns-in_err-ended_run-clause-answers
@@ -45,8 +45,8 @@ returns-clause-answers g c =
       (
         planned_of c.in_ok-run.run'.input,
         answer_then (IsInput h.0) (IsWithinWork words.proposals) (planned_of c.in_ok-input.input) (λ (r : RunInput). planned_of r.input) run h.2
-        (rw c.price_size.ensures.proposals at c.in_ok-run.ensures.answers),
+            (rw c.price_size.ensures.proposals at c.in_ok-run.ensures.answers),
         run_texts report_text c.in_ok-run.run' c.in_ok-ended_run.field-0.closed.setup words.proposals words.ahead c.in_ok-ended_run.ensures.ended.setup
-        (ap (λ (s : RunSize). s.proposals) size ∙ c.price_size.ensures.proposals) (ap (λ (s : RunSize). s.ahead) size ∙ c.price_size.ensures.ahead),
+            (ap (λ (s : RunSize). s.proposals) size ∙ c.price_size.ensures.proposals) (ap (λ (s : RunSize). s.ahead) size ∙ c.price_size.ensures.ahead),
       ),
     )

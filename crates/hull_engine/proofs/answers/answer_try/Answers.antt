@@ -33,7 +33,7 @@ returns-clause-answers c reads =
     let size = c.in_ok-run.ensures.size in (
       planned_of c.in_ok-run.run'.input,
       answer_then (IsMade words.number) (IsWithinWork words.proposals) (planned_of c.in-Ok.input) (λ (r : RunInput). planned_of r.input) run
-      (c.in-Ok.ensures.planned.feasible, c.in-Ok.ensures.made) (rw c.try_size.ensures.proposals at c.in_ok-run.ensures.answers),
+          (c.in-Ok.ensures.planned.feasible, c.in-Ok.ensures.made) (rw c.try_size.ensures.proposals at c.in_ok-run.ensures.answers),
       run_texts (try_text words.number) c.in_ok-run.run' c.in_ok-ended_run.field-0.closed.setup words.proposals words.ahead c.in_ok-ended_run.ensures.ended.setup
-      (ap (λ (s : RunSize). s.proposals) size ∙ c.try_size.ensures.proposals) (ap (λ (s : RunSize). s.ahead) size ∙ c.try_size.ensures.ahead),
+          (ap (λ (s : RunSize). s.proposals) size ∙ c.try_size.ensures.proposals) (ap (λ (s : RunSize). s.ahead) size ∙ c.try_size.ensures.ahead),
     )

@@ -13,6 +13,9 @@ returns-in_err-plan-clause-answers g c =
 
 pub returns-clause-answers : goal.returns-clause-answers
 returns-clause-answers g c =
-    let h = c.in_ok-plan.ensures.answers in
-    (h.0, h.1, answer_then (IsPlanFile (market_of c.args.case) h.0) (IsChecked (market_of c.args.case)) (schedules_of c.in_ok-plan.plan) planned_of c.checked_input.result h.2
-    c.checked_input.ensures.answers)
+    let h = c.in_ok-plan.ensures.answers in (
+      h.0,
+      h.1,
+      answer_then (IsPlanFile (market_of c.args.case) h.0) (IsChecked (market_of c.args.case)) (schedules_of c.in_ok-plan.plan) planned_of c.checked_input.result h.2
+          c.checked_input.ensures.answers,
+    )
