@@ -4,4 +4,3 @@ pub mod Joins
 pub mod Laws
 pub mod Spells
 pub mod Steps
-pub mod Turns

@@ -13,5 +13,5 @@ mod step;
 
 pub use best::spell_best;
 pub use costs::spell_costs;
-pub use running::{Lowest, Running, Spot, begin, end_and_run, run_over};
+pub use running::{Running, begin, end_and_run, run_over};
 pub use spell::{Spell, SpellCosts};

@@ -7,29 +7,15 @@ ghost use Rattle.shape_law.specs.Table.{Table, value_of, IsPlace, IsAmount, IsEm
 ghost use Rattle.spell_run.specs.Frontier.{IsFrontier};
 ghost use Rattle.spell_run.specs.Spells.{IsSpellAnswer, IsSpellWithin};
 ghost use Rattle.spell_run.specs.Steps.{step_at, IsFairStep, IsCostOf, IsStepped, IsLeastCost, IsLeastCostIn, IsSmall};
-ghost use Rattle.spell_run.specs.Turns.{IsTurn, IsFirst, IsLast};
+ghost use Rattle.slope_step.specs.Turn.{IsTurn, IsFirst, IsLast};
 ghost use Rattle.uc_model.specs.Data.{PriceLists};
 ghost use Rattle.uc_model.specs.Limits.{IsFrom};
 ghost use Rattle.uc_model.specs.PlainUnits.{thermal_of, prices_of};
 
 use crate::costs::is_alike;
 use crate::step::{Step, step_of};
+use slope_list::{Lowest, Slopes, Spot};
 use uc_model::units::{Curve, Prices, Unit};
-
-/// A place and the value there.
-#[derive(Clone, Copy)]
-pub struct Spot {
-    pub at: i64,
-    pub value: i64,
-}
-
-/// The least value of what a step makes, its least place, and the turn of the step.
-#[derive(Clone, Copy)]
-pub struct Lowest {
-    pub value: i64,
-    pub at: i64,
-    pub turn: i64,
-}
 
 /// A convex function on a whole interval, which may be empty, as `Shape` has it; but it takes steps in place, and no call
 /// takes memory or fails. It is kept in pieces, for which it has room.
@@ -107,6 +93,58 @@ pub trait Running: Sized {
         requires { IsFrom (neg_ℤ (pos 4000000000000000000)) (pos 4000000000000000000) shift }
         ensures { OnTrue result ((x v : ℤ) → value_of (function other.now) x ≡ Some v →
             (u : ℤ) × (value_of (function self.now) x ≡ Some u) × ((u +ℤ shift) ≤ℤ v)) };
+}
+
+impl Running for Slopes {
+    ghost use Rattle.slope_list.specs.Slopes.{shown, count_of, room_of, turn_of};
+
+    ghost function = { shown };
+
+    ghost count = { count_of };
+
+    ghost room = { room_of };
+
+    ghost turned = { turn_of };
+
+    fn restart(&mut self, at: i64, value: i64) {
+        Slopes::restart(self, at, value)
+    }
+
+    fn step(&mut self, step: Step, curve: &Curve) {
+        Slopes::step(self, step, curve)
+    }
+
+    fn least_after(&mut self, step: Step, curve: &Curve) -> Option<Lowest> {
+        self.least_beside(step, curve)
+    }
+
+    fn least(&self) -> Option<Spot> {
+        Slopes::least(self)
+    }
+
+    fn least_in(&self, lo: i64, hi: i64) -> Option<Spot> {
+        Slopes::least_in(self, lo, hi)
+    }
+
+    fn first(&self) -> Option<Spot> {
+        Slopes::first(self)
+    }
+
+    fn last(&self) -> Option<i64> {
+        Slopes::last(self)
+    }
+
+    fn is_empty(&self) -> bool {
+        Slopes::is_empty(self)
+    }
+
+    fn turn(&self) -> i64 {
+        Slopes::turn(self)
+    }
+
+    fn is_below(&self, other: &Slopes, shift: i64) -> bool {
+        Slopes::is_below(self, other, shift)
+    }
 }
 
 /// Whether a spell starts in the period at a place; `first` 0 stands for one that goes on from before period 1.

@@ -4,7 +4,7 @@ use Rattle.cost_curve.proofs.EnvelopeValues.{envelope_is_cost}
 use Rattle.uc_model.specs.PlainUnits.{thermal_of, prices_of}
 use Rattle.spell_run.specs.Frontier.{IsFrontier}
 use Rattle.spell_run.specs.Steps.{step_at}
-use Rattle.spell_run.specs.Turns.{IsTurn}
+use Rattle.slope_step.specs.Turn.{IsTurn}
 use Rattle.spell_run.proofs.FairLaws.{alike_of, range_of}
 use Rattle.spell_run.proofs.FrontierLaws.{answer_at_end, answer_alike}
 use Rattle.spell_run.proofs.running.end_and_run.Goals as goal

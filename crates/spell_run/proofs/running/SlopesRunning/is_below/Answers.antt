@@ -1,0 +1,10 @@
+use Rattle.std.proofs.Common.{rules, to_z, of_z}
+use Rattle.std.proofs.lemmas.Int.{to_z-of_z}
+use Rattle.std.specs.Int.{w64}
+use Rattle.std.specs.Prelude.{FitsSigned}
+use Rattle.spell_run.proofs.running.SlopesRunning.is_below.Goals as goal
+
+pub returns : goal.returns
+returns c =
+    let fits : FitsSigned w64 c.args.shift = search rules in
+    simp to_z-of_z at c.is_below.ensures
