@@ -260,11 +260,7 @@ fn cost_to_stop<R: Running>(
     ensures within { IfSome result (IsSpellWithin first (suc place)) }
 {
     let starts = starts_in(first, place);
-    least_cost_after(
-        running,
-        step_of(unit, prices, place, starts, true),
-        curve,
-    )
+    least_cost_after(running, step_of(unit, prices, place, starts, true), curve)
 }
 
 /// Takes a spell over the period at a place, as `run_over` does, and answers the least net cost of the spells that end

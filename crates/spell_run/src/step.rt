@@ -7,9 +7,8 @@ ghost use Rattle.spell_run.specs.Spells.{spell_first};
 ghost use Rattle.spell_run.specs.Steps.{cap_at, step_at, IsFairStep, IsCostOf, IsKinked, IsStepped, IsSmall};
 ghost use Rattle.uc_model.specs.PlainUnits.{thermal_of, prices_of};
 
-pub use shape_law::step::Step;
-
 use shape_law::Shape;
+pub use shape_law::step::Step;
 use std::alloc::AllocError;
 use uc_model::rules::cap;
 use uc_model::units::{Curve, Prices, Unit};

@@ -3,9 +3,6 @@
 //! It is `unit_program::least_in_place` over pieces of one slope.
 #![tactic(auto)]
 
-#[cfg(test)]
-mod tests;
-
 ghost use Rattle.std.specs.Prelude.{◌≡◌, ℕ, length, IsTrue, IsFalse};
 ghost use Rattle.slope_list.specs.Slopes.{room_of};
 ghost use Rattle.uc_model.specs.Data.{Schedule, Thermal};

@@ -36,11 +36,7 @@ pub struct Bench<R> {
 }
 
 // So many runners, none of them on, each with room for so many pieces.
-fn make_runners(
-    alloc: Global,
-    count: u32,
-    pieces: usize,
-) -> Result<Vec<Runner<Slopes>>, AllocError>
+fn make_runners(alloc: Global, count: u32, pieces: usize) -> Result<Vec<Runner<Slopes>>, AllocError>
     ensures count { IfOk result (λ v. length v.items ≡ count) }
     ensures room { IfOk result (λ v. HaveRoom room_of pieces v.items) }
 {
