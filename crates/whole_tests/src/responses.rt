@@ -17,7 +17,8 @@ use tiny_units::parts::{small_prices, unit};
 use tiny_units::small::SmallUnit;
 use tiny_units::trying::least_by_trying;
 use uc_model::units::{Answered, Mark};
-use unit_program::best_response;
+use unit_choice::least_on_bench;
+use unit_program::{Bench, best_response};
 
 // What a response does in each period, and what it earns.
 #[derive(Clone, Copy)]
@@ -78,11 +79,31 @@ fn answer_of<S: Shape>(
     Ok(best_response::<S>(alloc, home, &unit, &prices)?)
 }
 
-// The least best response over both shapes is this one.
+// The least best response on a bench.
+fn on_bench(alloc: Global, row: Row) -> Result<Option<Answered>, Fail> {
+    let periods = row.energy.len();
+    if periods == 0 || periods > 168 {
+        return Err(Fail::new("a row over no periods"));
+    }
+    if row.window.len() != periods || row.reserve.len() != periods {
+        return Err(Fail::new("a row of several lengths"));
+    }
+    let unit = unit(alloc, row.unit, row.window)?;
+    let prices = small_prices(alloc, row.energy, row.reserve)?;
+    let mut bench = Bench::make(alloc, periods as u32, unit.points.len() as u32)?;
+    let mut into = Answered::make(alloc, periods as u32)?;
+    if least_on_bench(&mut bench, &unit, &prices, &mut into) {
+        return Ok(Some(into));
+    }
+    Ok(None)
+}
+
+// The least best response over both shapes and on a bench is this one.
 fn expect(rt: &impl Abort, alloc: Global, row: Row, want: Option<Figures>) -> Result<(), Fail> {
     let mut heap = Heap { alloc };
     assert_answer(rt, &answer_of::<Levels>(alloc, &mut heap, row)?, want);
     assert_answer(rt, &answer_of::<Breaks>(alloc, &mut heap, row)?, want);
+    assert_answer(rt, &on_bench(alloc, row)?, want);
     Ok(())
 }
 
