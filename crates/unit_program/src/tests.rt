@@ -2,7 +2,7 @@
 //! functions.
 ghost use Rattle.std.specs.Prelude.{◌≡◌, ◌<◌, ◌≤◌, length};
 
-use crate::{Bench, best_response, least_in_place};
+use crate::best_response;
 use level_table::Levels;
 use point_list::breaks::Breaks;
 use rand_core::utils::NextWord;
@@ -232,11 +232,6 @@ fn compare(
     assert_same(rt, &by_levels, &tried);
     let by_breaks = best_response::<Breaks>(alloc, &mut heap, &unit, &prices)?;
     assert_same(rt, &by_breaks, &tried);
-    let mut bench = Bench::make(alloc, periods as u32, unit.points.len() as u32)?;
-    let mut into = Answered::make(alloc, periods as u32)?;
-    let is_best = least_in_place(&mut bench, &unit, &prices, &mut into);
-    let by_bench = if is_best { Some(into) } else { None };
-    assert_same(rt, &by_bench, &tried);
     Ok(tried.is_some())
 }
 
