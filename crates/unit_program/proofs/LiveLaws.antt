@@ -1,17 +1,15 @@
 -- A list of runners, and one of them written.
-use Rattle.std.proofs.Common.{◌≡◌, ◌≢◌, ℕ, zero, suc, ◌+◌, ◌-◌, ◌*◌, ◌<◌, ◌≤◌, ◌⊎◌, inl, inr, Bool, true, false, cond, Option, Some, None, ℤ, pos, ◌+ℤ◌, ◌-ℤ◌, ◌≤ℤ◌, List, [], ◌∷◌, length, refl, sym, ap, ◌∙◌, subst, arith}
-use Rattle.std.specs.Prelude.{IsTrue, IfSome, slice_get, slice_set}
+use Rattle.std.proofs.Common.{◌≡◌, ◌≢◌, ℕ, zero, suc, ◌+◌, ◌-◌, ◌*◌, ◌<◌, ◌≤◌, inl, inr, Bool, true, false, cond, Option, Some, None, ℤ, pos, ◌+ℤ◌, ◌-ℤ◌, ◌≤ℤ◌, List, [], ◌∷◌, length, refl, sym, ap, ◌∙◌, subst, arith}
+use Rattle.std.specs.Prelude.{IfSome, slice_get, slice_set}
 use Rattle.std.proofs.lemmas.Int.{ints}
 use Rattle.std.proofs.lemmas.Option.{slice_get_within}
-use Rattle.std.proofs.lemmas.Bool.{cases_lt, cases_eq}
+use Rattle.std.proofs.lemmas.Bool.{cases_eq}
 use Rattle.std.proofs.Math.Nat.{mul-le-mul_right}
 use Rattle.shape_law.specs.Table.{Table, value_of}
 use Rattle.uc_model.specs.Data.{ThermalUnit, PriceLists}
-use Rattle.spell_run.specs.Frontier.{IsFrontier}
 use Rattle.unit_program.specs.declared.runner.Runner.{Runner}
-use Rattle.unit_program.specs.Live.{going_of, live_at, IsRoomy, AreRoomy, IsSmallGoing, AreSmall, IsUnder, IsBelow, HaveRoom}
-use Rattle.unit_program.specs.Rows.{IsWithinTimes}
-use Rattle.unit_program.specs.Runners.{Going, IsRunner, AreRunners}
+use Rattle.unit_program.specs.Live.{going_of, live_at, IsRoomy, AreRoomy, AreSmall, IsUnder, IsBelow, HaveRoom}
+use Rattle.unit_program.specs.Runners.{Going, AreRunners}
 
 -- the runners are small
 pub small_of : (g : ThermalUnit) (π : PriceLists) (ends : ℕ → Option ℤ) (live : ℕ → Option Going) (t n : ℕ) → t ≤ 168 → n ≤ 170 → AreRunners g π ends live t n → AreSmall live

@@ -1,24 +1,24 @@
 -- The table row by row: a period more, and all periods.
-use Rattle.std.proofs.Common.{◌≡◌, ◌≢◌, ℕ, zero, suc, ◌+◌, ◌<◌, ◌≤◌, ◌⊎◌, inl, inr, true, false, Option, Some, None, ℤ, pos, ◌+ℤ◌, ◌≤ℤ◌, List, length, refl, sym, ap, ◌∙◌, subst, arith}
+use Rattle.std.proofs.Common.{◌≡◌, ◌≢◌, ℕ, suc, ◌<◌, ◌≤◌, ◌⊎◌, inl, inr, true, false, Option, Some, None, ℤ, pos, ◌+ℤ◌, ◌≤ℤ◌, List, length, refl, sym, ap, ◌∙◌, subst, arith}
 use Rattle.std.specs.Prelude.{IsTrue, IsFalse}
 use Rattle.std.specs.Option.{option_map}
 use Rattle.std.proofs.lemmas.Int.{ints}
-use Rattle.std.proofs.lemmas.Bool.{cases_lt, cases_eq}
+use Rattle.std.proofs.lemmas.Bool.{cases_lt}
 use Rattle.uc_model.specs.declared.units.Mark.TheVariants.{MustOff}
 use Rattle.uc_model.specs.Data.{ThermalUnit, PriceLists, Schedule}
 use Rattle.uc_model.specs.Limits.{IsThermalUnit}
 use Rattle.uc_model.specs.Schedules.{mark_in}
 use Rattle.spell_run.specs.Joins.{DispatchesGoOn, DispatchesAreRuns}
-use Rattle.spell_run.specs.Spells.{IsDispatch, IsLeastSpell, net_cost, spell_cost}
+use Rattle.spell_run.specs.Spells.{IsDispatch, net_cost, spell_cost}
 use Rattle.unit_program.specs.declared.table.Ended.{Ended}
-use Rattle.unit_program.specs.Rows.{row_at, cost_at, first_at, before_at, AreWithin, IsFilled}
+use Rattle.unit_program.specs.Rows.{row_at, cost_at, first_at, before_at}
 use Rattle.unit_program.specs.Spells.{IsSpell, StopsAtOnce}
-use Rattle.unit_program.specs.Tables.{HasAtMost, IsEntryAfter, IsEntry, IsLeastEntry, IsEnded, IsLatest, IsFrom, IsTable}
-use Rattle.unit_program.specs.Runners.{Going, MayBeOn, IsRunner, AreRunners, IsTableTo, IsRowOf}
+use Rattle.unit_program.specs.Tables.{HasAtMost, IsEntry, IsLeastEntry, IsEnded, IsLatest, IsFrom, IsTable}
+use Rattle.unit_program.specs.Runners.{Going, MayBeOn, AreRunners, IsTableTo, IsRowOf}
 use Rattle.unit_program.proofs.CostLaws.{sum_from_to-one}
 use Rattle.unit_program.proofs.FillLaws.{IsFirstRow}
 use Rattle.unit_program.proofs.RowLaws.{cost_from, cost-is, first-is, before-is}
-use Rattle.unit_program.proofs.StandInLaws.{may_less, one_more_cost}
+use Rattle.unit_program.proofs.StandInLaws.{one_more_cost}
 use Rattle.unit_program.proofs.TableLaws.{at_most_more, entry_same, at_once_some, at_once_none}
 
 -- ---- entries look at the rows before their first period alone

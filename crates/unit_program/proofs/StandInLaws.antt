@@ -1,18 +1,17 @@
 -- A runner that stands for a run goes on standing for it: a period more, a start that isn't begun, a runner that goes.
-use Rattle.std.proofs.Common.{◌≡◌, ◌≢◌, ℕ, zero, suc, ◌+◌, ◌-◌, ◌*◌, ◌<◌, ◌≤◌, ◌⊎◌, inl, inr, Option, Some, None, ℤ, pos, ◌+ℤ◌, ◌≤ℤ◌, length, refl, sym, ap, ◌∙◌, subst, arith}
-use Rattle.std.specs.Prelude.{IsTrue}
+use Rattle.std.proofs.Common.{◌≡◌, ◌≢◌, ℕ, zero, suc, ◌<◌, ◌≤◌, inl, inr, Option, Some, None, ℤ, pos, ◌+ℤ◌, ◌≤ℤ◌, length, refl, sym, ap, ◌∙◌, subst, arith}
 use Rattle.std.proofs.lemmas.Int.{ints}
 use Rattle.std.proofs.lemmas.Bool.{cases_lt, cases_eq, lt-ltb}
-use Rattle.shape_law.specs.Table.{Table, value_of, IsEmpty}
+use Rattle.shape_law.specs.Table.{Table, value_of}
 use Rattle.uc_model.specs.declared.units.Mark.TheVariants.{MustOff}
 use Rattle.uc_model.specs.Data.{ThermalUnit, PriceLists, Schedule}
 use Rattle.uc_model.specs.Schedules.{mark_in}
 use Rattle.spell_run.specs.Frontier.{IsFrontier}
 use Rattle.spell_run.specs.Joins.{RunsGoOn}
-use Rattle.spell_run.specs.Spells.{net_cost, spell_cost, over_min}
+use Rattle.spell_run.specs.Spells.{net_cost, spell_cost}
 use Rattle.spell_run.specs.Steps.{level, IsRun}
 use Rattle.unit_program.specs.Spells.{on_time}
-use Rattle.unit_program.specs.Tables.{IsEntryAfter, IsEntry, IsLeastEntry}
+use Rattle.unit_program.specs.Tables.{IsEntry, IsLeastEntry}
 use Rattle.unit_program.specs.Runners.{Going, MayBeOn, IsRunner, HasStandIn, AreRunners, IsGoneOn}
 use Rattle.unit_program.proofs.CostLaws.{sum_from_to-more, sum_from_to-none}
 

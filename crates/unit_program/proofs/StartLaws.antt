@@ -1,18 +1,17 @@
 -- A runner begun, and none.
-use Rattle.std.proofs.Common.{◌≡◌, ◌≢◌, ℕ, zero, suc, ◌+◌, ◌-◌, ◌*◌, ◌<◌, ◌≤◌, inl, inr, true, false, Option, Some, None, ℤ, pos, ◌+ℤ◌, ◌≤ℤ◌, List, length, refl, sym, ap, ◌∙◌, subst, arith}
-use Rattle.std.specs.Prelude.{IsTrue, IsFalse, slice_get, slice_set}
+use Rattle.std.proofs.Common.{◌≡◌, ℕ, suc, ◌+◌, ◌-◌, ◌*◌, ◌<◌, inl, inr, true, Option, Some, None, ℤ, pos, List, length, refl, sym, ap, ◌∙◌, subst, arith}
+use Rattle.std.specs.Prelude.{IsTrue, IsFalse, slice_set}
 use Rattle.std.proofs.lemmas.Int.{ints}
-use Rattle.std.proofs.lemmas.Bool.{cases_lt, cases_eq}
-use Rattle.shape_law.specs.Table.{Table, value_of}
+use Rattle.std.proofs.lemmas.Bool.{cases_eq}
+use Rattle.shape_law.specs.Table.{Table}
 use Rattle.uc_model.specs.declared.units.Mark.TheVariants.{MustOff}
 use Rattle.uc_model.specs.Data.{ThermalUnit, PriceLists, Schedule}
 use Rattle.uc_model.specs.Schedules.{mark_in}
 use Rattle.spell_run.specs.Frontier.{IsFrontier}
-use Rattle.spell_run.specs.Spells.{spell_cost}
 use Rattle.unit_program.specs.declared.runner.Runner.{Runner}
-use Rattle.unit_program.specs.Live.{going_of, live_at}
+use Rattle.unit_program.specs.Live.{live_at}
 use Rattle.unit_program.specs.Rows.{IsWithinTimes}
-use Rattle.unit_program.specs.Runners.{Going, MayBeOn, IsRunner, HasStandIn, AreRunners}
+use Rattle.unit_program.specs.Runners.{Going, IsRunner, HasStandIn, AreRunners}
 use Rattle.unit_program.specs.Tables.{IsEntry, IsLeastEntry}
 use Rattle.unit_program.proofs.LiveLaws.{going_on, live_here, live_other}
 use Rattle.unit_program.proofs.StandInLaws.{start_begun}

@@ -1,5 +1,5 @@
-use Rattle.std.proofs.Common.{◌≡◌, ℕ, true, false, Some, ℤ, length, refl, sym}
-use Rattle.std.specs.Prelude.{IsOk, is_ok}
+use Rattle.std.proofs.Common.{◌≡◌, true, length, refl, sym}
+use Rattle.std.specs.Prelude.{is_ok}
 use Rattle.uc_model.specs.PlainUnits.{thermal_of, prices_of}
 use Rattle.unit_program.specs.Rows.{cost_at, first_at, before_at}
 use Rattle.unit_program.proofs.BenchLaws.{bench_kept}

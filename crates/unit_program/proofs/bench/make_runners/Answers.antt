@@ -1,4 +1,4 @@
-use Rattle.std.proofs.Common.{◌≡◌, ◌≤◌, ◌+◌, length, sym, ap, ◌∙◌, subst, arith, length-append, vec_capacity}
+use Rattle.std.proofs.Common.{length, ap, arith, length-append}
 use Rattle.slope_list.specs.Slopes.{room_of}
 use Rattle.unit_program.proofs.BenchLaws.{room_more}
 use Rattle.unit_program.proofs.bench.make_runners.Goals as goal

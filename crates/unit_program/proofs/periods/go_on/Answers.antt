@@ -1,4 +1,4 @@
-use Rattle.std.proofs.Common.{◌≡◌, ◌<◌, length, refl, arith}
+use Rattle.std.proofs.Common.{refl}
 use Rattle.uc_model.specs.PlainUnits.{thermal_of}
 use Rattle.unit_program.proofs.LiveLaws.{roomy_begun, written_keeps}
 use Rattle.unit_program.proofs.RunAllLaws.{item_at}

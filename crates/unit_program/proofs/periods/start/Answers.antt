@@ -1,4 +1,3 @@
-use Rattle.std.proofs.Common.{◌≡◌, suc, length, arith}
 use Rattle.uc_model.specs.PlainUnits.{thermal_of}
 use Rattle.unit_program.specs.Live.{live_at}
 use Rattle.unit_program.specs.Rows.{cost_at}

@@ -1,4 +1,4 @@
-use Rattle.std.proofs.Common.{◌≡◌, ℕ, suc, ◌+◌, ◌<◌, ◌≤◌, List, Option, length, sym, subst, arith}
+use Rattle.std.proofs.Common.{◌≡◌, ℕ, suc, ◌+◌, List, Option, length, sym, subst, arith}
 use Rattle.uc_model.specs.PlainUnits.{thermal_of, prices_of}
 use Rattle.unit_program.specs.declared.table.Ended.{Ended}
 use Rattle.unit_program.specs.Live.{live_at}

@@ -1,4 +1,4 @@
-use Rattle.std.proofs.Common.{rules, ◌≡◌, ◌-ℤ◌, ◌∙◌, arith, to_z, of_z}
+use Rattle.std.proofs.Common.{rules, ◌≡◌, ◌-ℤ◌, ◌∙◌, to_z, of_z}
 use Rattle.std.specs.Prelude.{FitsSigned}
 use Rattle.std.specs.Int.{w64}
 use Rattle.std.proofs.lemmas.Bool.{OnTrue_at, OnTrue_from}

@@ -1,4 +1,4 @@
-use Rattle.std.proofs.Common.{◌≡◌, ℕ, ◌+◌, ◌-◌, ◌<◌, ◌≤◌, Option, Some, length, ◌∙◌, arith}
+use Rattle.std.proofs.Common.{◌≡◌, ◌+◌, ◌-◌, ◌<◌, ◌≤◌, Some, ◌∙◌, arith}
 use Rattle.unit_program.specs.Live.{live_at}
 use Rattle.unit_program.specs.Runners.{Going}
 use Rattle.unit_program.proofs.LiveLaws.{if_some_more}

@@ -1,8 +1,7 @@
-use Rattle.std.proofs.Common.{◌≡◌, ℕ, suc, ◌+◌, ◌<◌, ◌≤◌, Option, Some, length, sym, ap, ◌∙◌, arith}
+use Rattle.std.proofs.Common.{◌+◌, length, sym, ap, ◌∙◌, arith}
 use Rattle.uc_model.specs.PlainUnits.{thermal_of, prices_of}
-use Rattle.unit_program.specs.Live.{going_of, live_at}
-use Rattle.unit_program.specs.Runners.{Going}
-use Rattle.unit_program.proofs.RunAllLaws.{run_begins, run_more, all_go, all_off, all_roomy}
+use Rattle.unit_program.specs.Live.{going_of}
+use Rattle.unit_program.proofs.RunAllLaws.{run_more, all_go, all_roomy}
 use Rattle.unit_program.proofs.StandInLaws.{may_next}
 use Rattle.unit_program.proofs.runner.run_all.Goals as goal
 

@@ -1,9 +1,7 @@
-use Rattle.std.proofs.Common.{◌≡◌, ◌≢◌, ℕ, suc, ◌+◌, true, false, get_or, Option, Some, None, length, refl, sym, ap, ◌∙◌, arith}
-use Rattle.std.specs.Prelude.{IsTrue, slice_get}
+use Rattle.std.proofs.Common.{◌≡◌, suc, ◌+◌, true, false, get_or, length, refl, ap, ◌∙◌}
 use Rattle.uc_model.specs.PlainUnits.{thermal_of, prices_of}
 use Rattle.unit_program.specs.Live.{going_of}
 use Rattle.unit_program.specs.Rows.{cost_at, first_at, before_at}
-use Rattle.unit_program.specs.Runners.{Going}
 use Rattle.unit_program.proofs.LiveLaws.{get_set_same, get_set_other, written_keeps}
 use Rattle.unit_program.proofs.RunAllLaws.{item_at, item_same, item_live, item_off, goes_written, on_of, room_of}
 use Rattle.unit_program.proofs.RunnerRowLaws.{row_skip}

@@ -1,6 +1,3 @@
-use Rattle.std.proofs.Common.{◌≡◌, ℕ, ◌<◌, ◌≤◌, ◌*◌, false, length, Some}
-use Rattle.std.specs.Prelude.{slice_get}
-use Rattle.unit_program.specs.declared.runner.Runner.{Runner}
 use Rattle.unit_program.proofs.LiveLaws.{IsStopped}
 use Rattle.unit_program.proofs.runner.stop_all.Given as goal
 

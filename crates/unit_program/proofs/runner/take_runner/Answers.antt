@@ -1,10 +1,9 @@
-use Rattle.std.proofs.Common.{rules, ◌≡◌, ℕ, suc, ◌+◌, ◌+ℤ◌, Option, ℤ, Some, length, sym, ap, ◌∙◌, subst, arith, to_z, of_z}
+use Rattle.std.proofs.Common.{rules, ◌≡◌, ℕ, suc, ◌+◌, ◌+ℤ◌, ℤ, ◌∙◌, subst, arith, to_z, of_z}
 use Rattle.std.specs.Prelude.{FitsSigned, IfSome}
 use Rattle.std.specs.Int.{w64}
 use Rattle.std.proofs.lemmas.Int.{to_z-of_z}
 use Rattle.uc_model.specs.PlainUnits.{thermal_of, prices_of}
 use Rattle.unit_program.specs.Rows.{IsPut}
-use Rattle.unit_program.specs.Runners.{Going}
 use Rattle.unit_program.proofs.LiveLaws.{going_on}
 use Rattle.unit_program.proofs.RunnerRowLaws.{row_end}
 use Rattle.unit_program.proofs.runner.take_runner.Goals as goal

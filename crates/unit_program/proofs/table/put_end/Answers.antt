@@ -1,4 +1,4 @@
-use Rattle.std.proofs.Common.{rules, ◌≡◌, suc, ◌+◌, ◌-◌, ◌*◌, ◌+ℤ◌, Option, Some, ℤ, sym, ◌∙◌, subst, arith, to_z, of_z}
+use Rattle.std.proofs.Common.{rules, ◌≡◌, suc, ◌+◌, ◌-◌, ◌*◌, ◌+ℤ◌, Option, ℤ, sym, ◌∙◌, subst, arith, to_z, of_z}
 use Rattle.std.specs.Prelude.{FitsSigned, IfSome}
 use Rattle.std.specs.Int.{w64}
 use Rattle.std.proofs.lemmas.Int.{ints, to_z-of_z}
