@@ -36,7 +36,7 @@ fn distance(lines: &BoundLines) -> i128
     lines.bound - lines.value
 }
 
-/// Writes the lines of `hull bound`. The value and the bound are at most 10^24 in magnitude.
+/// Writes the lines of `hull bound`. The value and the bound are at most 10^35 in magnitude.
 /// Refused only where the sink's count of faults rose, and then the sink gained a front of the text.
 #[tactic(auto, unfolding(crate::specs::BoundText::bound_text))]
 pub fn write_bound_lines<S: Sink>(lines: &BoundLines, out: &mut S) -> Result<(), WriteFailed>
@@ -73,7 +73,7 @@ pub fn write_bound_lines<S: Sink>(lines: &BoundLines, out: &mut S) -> Result<(),
 
 /// Writes the lines of `hull bound` for a finished record: what it chose, and what was certified of
 /// all prices within the radius of the chosen ones, in money for a kilowatt and period. The bound
-/// is at most 10^24 in magnitude. Refused only where the sink's count of faults rose, and then the
+/// is at most 10^35 in magnitude. Refused only where the sink's count of faults rose, and then the
 /// sink gained a front of the text.
 pub fn write_bound<S: Sink>(
     closed: &Closed,
