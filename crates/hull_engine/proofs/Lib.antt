@@ -8,6 +8,8 @@ pub mod AnswerLaws
 pub mod WordSizes
 -- answers.rt: a feasible plan has the shape that its cost is taken of
 pub mod PlanShapes
+-- tasks.rt, run.rt: the bench of a run suffices for each unit of its case
+pub mod BenchLaws
 -- run.rt: one round of the run's caller
 pub mod RoundLaws
 -- run.rt: the settlement at the prices of the chosen row

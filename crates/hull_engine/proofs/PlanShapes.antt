@@ -10,11 +10,11 @@ use Rattle.uc_model.specs.Laws.{HasPlanShape}
 use Rattle.uc_model.specs.Schedules.{IsSchedule, IsFeasible}
 use Rattle.uc_model.specs.Systems.{IsFeasiblePlan}
 
-all_more : {X : Type 0} (P : X → Type 0) (x : X) (xs : List X) → P x → All P xs → All P (x ∷ xs)
+pub all_more : {X : Type 0} (P : X → Type 0) (x : X) (xs : List X) → P x → All P xs → All P (x ∷ xs)
 all_more P x xs here later zero d h = here
 all_more P x xs here later (suc k) d h = later k d (omega (arith, h))
 
-all_none : {X : Type 0} (P : X → Type 0) → All P []
+pub all_none : {X : Type 0} (P : X → Type 0) → All P []
 all_none P k d h = absurd (omega (arith, h))
 
 module _ (periods : ℕ) where

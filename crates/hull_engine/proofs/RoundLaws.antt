@@ -18,7 +18,10 @@ use Rattle.board_core.specs.Replies.{claim_of}
 use Rattle.board_core.specs.Tasks.{IsOwnTask, LeavesTask}
 use Rattle.board_core.specs.declared.replies.Claim.{Claim}
 use Rattle.board_core.specs.declared.replies.Claim.TheVariants as claims
-use Rattle.hull_engine.specs.Rounds.{HasSchedule}
+use Rattle.slope_list.specs.declared.slopes.Slopes.{Slopes}
+use Rattle.unit_program.specs.declared.bench.Bench.{Bench}
+use Rattle.hull_engine.specs.Rounds.{HasSchedule, Suffices, IsBenchOf}
+use Rattle.hull_engine.proofs.BenchLaws.{serves_at}
 use Rattle.hull_engine.proofs.SettleLaws.{posts_within}
 
 ends : (f halted : Bool) (next : Option (ℕ × ℕ)) → (if f then Finished else if halted then Halted else option_map_or (λ (t : ℕ × ℕ). GivenTask t.0 t.1) next NotYet) ≡ Finished → f ≡ true
@@ -66,6 +69,14 @@ module _ (claims_are_given : ClaimsAreGiven) where
       let g = given s reply between is same in
       let own = own_task s before task g.0 g.1 g.2 leaves in
       (own.some_schedule, subst (λ (n : ℕ). IsFeasible (task_unit task) n own.some_schedule) (sym room.horizon) own.feasible)
+
+  -- and the bench suffices for it
+  pub given_is_served : (s : Content) (reply : Claim) (before task : Task) (b : Bench Slopes) → IsBetween s.events → reply ≡ claim_of (claim_answer s) → reply ≡ claims.Given
+      → LeavesTask s (claim_answer s) before task → IsTaskFor s.setup.market.periods task → IsBenchOf s.setup.market b → Suffices (length (prices_of task.prices).energy) (task_unit task) b
+  given_is_served s reply before task b between is same leaves room served =
+      let g = given s reply between is same in
+      let own = own_task s before task g.0 g.1 g.2 leaves in
+      subst (λ (n : ℕ). Suffices n (task_unit task) b) (sym room.horizon) (serves_at s.setup.market b g.1 (task_unit task) served own.unit)
 
   -- a claim that is given, and the post of its answer
   pub full_round : GivenIsTaken → (s s1 s2 : Content) (k : ℕ) (reply : Claim) (before task : Task) (a : Answer) → IsLegalHistory s.setup s.events → IsBetween s.events

@@ -1,11 +1,14 @@
 -- One run on one board: rounds of claim, answer and post until the board has finished, and then the
 -- settlement (this project's profile).
-use Rattle.std.specs.Prelude.{◌≡◌, ℕ, ◌+◌, ◌≤◌, Bool, true, false, [], length}
+use Rattle.std.specs.Prelude.{◌≡◌, ℕ, ◌+◌, ◌≤◌, ⊤, Bool, true, false, [], length}
+use Rattle.std.specs.List.{All}
 use Rattle.board_history.specs.Board.{Setup, Content}
 use Rattle.board_history.specs.Calls.{has_finished}
 use Rattle.board_history.specs.Counts.{posts_in}
 use Rattle.board_history.specs.OneCaller.{IsBetween}
-use Rattle.uc_model.specs.Data.{AnyUnit, PriceLists, Schedule, unit_count}
+use Rattle.slope_list.specs.Slopes.{room_of}
+use Rattle.slope_list.specs.declared.slopes.Slopes.{Slopes}
+use Rattle.uc_model.specs.Data.{AnyUnit, Thermal, Flat, Bid, Market, PriceLists, Schedule, units, unit_count}
 use Rattle.uc_model.specs.declared.units.Answered.{Answered}
 use Rattle.uc_model.specs.Earnings.{earnings}
 use Rattle.uc_model.specs.PlainUnits.{schedule_of}
@@ -13,6 +16,8 @@ use Rattle.uc_model.specs.PriceRule.{Proposal}
 use Rattle.uc_model.specs.Runs.{Fits}
 use Rattle.uc_model.specs.Schedules.{IsFeasible}
 use Rattle.uc_model.specs.TaskRoom.{IsTaskFor}
+use Rattle.unit_program.specs.Benches.{IsBenchFor}
+use Rattle.unit_program.specs.declared.bench.Bench.{Bench}
 use Rattle.hull_report.specs.RecordReport.{IsSettledRecord}
 use Rattle.board_core.specs.Boards.{setup_for}
 use Rattle.hull_engine.specs.declared.input.RunInput.{RunInput}
@@ -33,8 +38,19 @@ abbrev pub EndsRound : Content → Content → Bool → Type 0
 EndsRound before after true = IsBetween after.events × (posts_in after.events ≡ posts_in before.events + 1)
 EndsRound before after false = has_finished after ≡ true
 
+-- the bench suffices for the answers of the unit over so many periods
+abbrev pub Suffices : ℕ → AnyUnit → Bench Slopes → Type 0
+Suffices periods (Thermal g) b = IsBenchFor room_of periods (length g.points) b
+Suffices periods (Flat r) b = ⊤
+Suffices periods (Bid d) b = ⊤
+
+-- and for those of each unit of a case
+abbrev pub IsBenchOf : Market → Bench Slopes → Type 0
+IsBenchOf m b = All (λ (u : AnyUnit). Suffices m.periods u b) (units m)
+
 -- what a run has room for
 pub record HasRoom (b : Setup) (r : Run) : Type 0 where
+  pub bench : IsBenchOf b.market r.bench
   pub task : IsTaskFor b.market.periods r.task
   pub buffer : length (schedule_of r.buffer.response).on ≡ b.market.periods
   pub scheduled : length r.settlement.scheduled.items ≡ unit_count b.market

@@ -53,23 +53,14 @@ fn command_of(alloc: Global, words: &[String]) -> Result<Command, TopFault>
     }
 }
 
-/// Opens a run and runs it to its end.
-fn run_to_end(alloc: Global, run: RunInput) -> Result<Done, AllocError>
-    requires { IsRunInput run }
-    ensures { IfOk result (λ done. IsEnded (setup_of run) done) }
-{
-    let opened = open(alloc, run)?;
-    run_board(alloc, opened)
-}
-
-/// The run to its end, where there is the memory for it.
+/// The run to its end, where there is the memory for its opening.
 fn ended_run(alloc: Global, run: RunInput) -> Result<Done, TopFault>
     requires { IsRunInput run }
     ensures ended { IfOk result (λ done. IsEnded (setup_of run) done) }
     ensures starved { IfErr result (λ fault. fault ≡ TopFault.Memory) }
 {
-    match run_to_end(alloc, run) {
-        Ok(done) => Ok(done),
+    match open(alloc, run) {
+        Ok(opened) => Ok(run_board(opened)),
         Err(AllocError) => Err(TopFault::Memory),
     }
 }

@@ -48,7 +48,8 @@ fn certify(closed: &Closed, radius: i64, work: &mut Amounts) -> Certified
     best_range(closed.case(), closed.rows(), closed.chosen(), radius, work)
 }
 
-/// Runs the board of an input, and certifies its best bound. The room for that is taken first.
+/// Runs the board of an input, and certifies its best bound. All memory for both is taken before
+/// the run, the room for the bound first.
 fn certified_run(alloc: Global, run: RunInput, radius: i64) -> Result<Bounded, AllocError>
     requires run { IsRunInput run }
     requires radius { IsRadius radius }
@@ -56,7 +57,7 @@ fn certified_run(alloc: Global, run: RunInput, radius: i64) -> Result<Bounded, A
 {
     let mut work = Amounts::filled(alloc, 2 * run.input.case.periods, 0)?;
     let opened = open(alloc, run)?;
-    let done = run_board(alloc, opened)?;
+    let done = run_board(opened);
     let certified = certify(&done.closed, radius, &mut work);
     Ok(Bounded {
         done,

@@ -1,6 +1,6 @@
 //! One run of the price rule: a board whose tasks are answered one after another, and the
 //! settlement at the prices that it chooses.
-ghost use Rattle.std.specs.Prelude.{◌≡◌, ◌+◌, ◌*◌, ◌<◌, ◌≤◌, ℕ, true, length, IfOk, OnOk};
+ghost use Rattle.std.specs.Prelude.{◌≡◌, ◌+◌, ◌*◌, ◌<◌, ◌≤◌, ℕ, true, length, IfOk};
 ghost use Rattle.board_history.specs.Board.{Setup};
 ghost use Rattle.board_history.specs.Calls.{own_rows, has_finished};
 ghost use Rattle.board_history.specs.Counts.{posts_in};
@@ -13,19 +13,21 @@ ghost use Rattle.uc_model.specs.PriceRule.{Proposal};
 ghost use Rattle.uc_model.specs.Sums.{int_at};
 ghost use Rattle.uc_model.specs.TaskRoom.{IsTaskFor};
 ghost use Rattle.hull_report.specs.RecordReport.{IsSettledRecord};
-ghost use Rattle.hull_engine.specs.Rounds.{EndsRound, IsOpened, setup_of, IsEnded};
+ghost use Rattle.hull_engine.specs.Rounds.{EndsRound, IsBenchOf, IsOpened, setup_of, IsEnded};
 
 use crate::input::{Input, RunInput, RunSize, unit_count};
-use crate::tasks::answer_task;
+use crate::tasks::{answer_task, most_points};
 use board_core::{Board, Claim, Closed};
 use board_history::laws::{
     claims_are_given, events_are_at_most, finished_has_row, given_is_taken, rows_are_within,
 };
 use hull_report::laws::{answers_are_tops, one_row_is_chosen};
+use slope_list::Slopes;
 use std::alloc::{AllocError, Global};
 use uc_model::cases::{Case, Plan, Task};
 use uc_model::lists::Numbers;
 use uc_model::units::Answered;
+use unit_program::Bench;
 use uplift_settle::{Settlement, settle};
 
 /// The one caller of the board.
@@ -33,11 +35,12 @@ const CALLER: u32 = 0;
 
 const CALLERS: u32 = 1;
 
-/// A run that is opened: its board, and room for a task, an answer, the settlement and what each
-/// unit earns at best.
+/// A run that is opened: its board, the bench that its tasks are answered on, and room for a task,
+/// an answer, the settlement and what each unit earns at best.
 #[derive(Drop)]
 pub struct Run {
     pub board: Board,
+    pub bench: Bench<Slopes>,
     pub task: Task,
     pub buffer: Answered,
     pub settlement: Settlement,
@@ -53,8 +56,9 @@ pub struct Done {
     pub buffer: Answered,
 }
 
-/// Opens the run of an input. The work is done on one thread, whatever the number of workers.
-/// `AllocError` is want of memory; the input is then dropped.
+/// Opens the run of an input: takes all memory that the run needs to its end. The work is done on
+/// one thread, whatever the number of workers. `AllocError` is want of memory; the input is then
+/// dropped.
 pub fn open(alloc: Global, run: RunInput) -> Result<Run, AllocError>
     requires { IsSetup (setup_of run) }
     ensures { IfOk result (λ opened. IsOpened (setup_of run) opened) }
@@ -62,6 +66,7 @@ pub fn open(alloc: Global, run: RunInput) -> Result<Run, AllocError>
     let RunInput { input, size } = run;
     let Input { case, plan, cost } = input;
     let units = unit_count(&case);
+    let bench = Bench::make(alloc, case.periods, most_points(&case))?;
     let task = Task::make(alloc, case.periods)?;
     let buffer = Answered::make(alloc, case.periods)?;
     let settlement = Settlement::make(alloc, units)?;
@@ -69,6 +74,7 @@ pub fn open(alloc: Global, run: RunInput) -> Result<Run, AllocError>
     let board = Board::make(alloc, case, plan, cost, size.proposals, size.ahead, CALLERS)?;
     Ok(Run {
         board,
+        bench,
         task,
         buffer,
         settlement,
@@ -77,8 +83,8 @@ pub fn open(alloc: Global, run: RunInput) -> Result<Run, AllocError>
 }
 
 /// Opens a run for a case with a feasible schedule of that cost: at most so many proposals, of
-/// which `ahead` may be open ahead of the answered ones. `AllocError` is want of memory; the case
-/// and the schedule are then dropped.
+/// which `ahead` may be open ahead of the answered ones. All memory of the run is taken here.
+/// `AllocError` is want of it; the case and the schedule are then dropped.
 pub fn open_run(
     alloc: Global,
     case: Case,
@@ -102,20 +108,22 @@ pub fn open_run(
 
 /// Claims a task, answers it and posts the answer; false where the board has finished.
 fn answer_next(
-    alloc: Global,
     board: &mut Board,
+    bench: &mut Bench<Slopes>,
     task: &mut Task,
     buffer: &mut Answered,
-) -> Result<bool, AllocError>
+) -> bool
     requires caller { 0 < board.old.setup.callers }
     requires between { IsBetween board.old.events }
+    requires bench { IsBenchOf board.old.setup.market bench.old }
     requires room { IsTaskFor board.old.setup.market.periods task.old }
     requires buffer { length (schedule_of buffer.old.response).on ≡ board.old.setup.market.periods }
     ensures setup { board.new.setup ≡ board.old.setup }
-    ensures round { IfOk result (λ more. EndsRound board.old board.new more) }
-    ensures room { OnOk result (IsTaskFor board.old.setup.market.periods task.new) }
-    ensures buffer { OnOk result (length (schedule_of buffer.new.response).on ≡ board.old.setup.market.periods) }
-    ensures most { OnOk result (posts_in board.new.events ≤ board.new.setup.budget * units_in board.new.setup.market) }
+    ensures round { EndsRound board.old board.new result }
+    ensures bench { IsBenchOf board.old.setup.market bench.new }
+    ensures room { IsTaskFor board.old.setup.market.periods task.new }
+    ensures buffer { length (schedule_of buffer.new.response).on ≡ board.old.setup.market.periods }
+    ensures most { posts_in board.new.events ≤ board.new.setup.budget * units_in board.new.setup.market }
 {
     claims_are_given();
     given_is_taken();
@@ -123,36 +131,32 @@ fn answer_next(
     board.is_legal();
     match board.claim(CALLER, task) {
         Claim::Given => {
-            answer_task(alloc, task, buffer)?;
+            answer_task(bench, task, buffer);
             // It is taken: the task was given to this caller just now.
             let _ = board.post(CALLER, task, buffer);
             board.is_legal();
-            Ok(true)
+            true
         }
-        _ => Ok(false),
+        _ => false,
     }
 }
 
 /// Answers one task after another until the board has finished.
-fn answer_all(
-    alloc: Global,
-    board: &mut Board,
-    task: &mut Task,
-    buffer: &mut Answered,
-) -> Result<(), AllocError>
+fn answer_all(board: &mut Board, bench: &mut Bench<Slopes>, task: &mut Task, buffer: &mut Answered)
     requires caller { 0 < board.old.setup.callers }
     requires between { IsBetween board.old.events }
+    requires bench { IsBenchOf board.old.setup.market bench.old }
     requires room { IsTaskFor board.old.setup.market.periods task.old }
     requires buffer { length (schedule_of buffer.old.response).on ≡ board.old.setup.market.periods }
     ensures setup { board.new.setup ≡ board.old.setup }
-    ensures finished { OnOk result (has_finished board.new ≡ true) }
-    ensures buffer { OnOk result (length (schedule_of buffer.new.response).on ≡ board.old.setup.market.periods) }
+    ensures finished { has_finished board.new ≡ true }
+    ensures buffer { length (schedule_of buffer.new.response).on ≡ board.old.setup.market.periods }
 {
     events_are_at_most();
     board.is_legal();
     loop {
-        if !answer_next(alloc, board, task, buffer)? {
-            return Ok(());
+        if !answer_next(board, bench, task, buffer) {
+            return;
         }
     }
 }
@@ -198,25 +202,26 @@ fn settle_chosen(closed: &Closed, earned: &mut Numbers, settlement: &mut Settlem
 }
 
 /// Runs until every proposal that the budget and the price rule call for is answered, and settles
-/// the schedule at the chosen prices. `AllocError` is want of memory for an answer.
-pub fn run_board(alloc: Global, run: Run) -> Result<Done, AllocError>
+/// the schedule at the chosen prices. Takes no memory.
+pub fn run_board(run: Run) -> Done
     requires { IsOpened run.board.setup run }
-    ensures { IfOk result (λ done. IsEnded run.board.setup done) }
+    ensures { IsEnded run.board.setup result }
 {
     let Run {
         mut board,
+        mut bench,
         mut task,
         mut buffer,
         mut settlement,
         mut earned,
     } = run;
     board.is_legal();
-    answer_all(alloc, &mut board, &mut task, &mut buffer)?;
+    answer_all(&mut board, &mut bench, &mut task, &mut buffer);
     let closed = board.close();
     settle_chosen(&closed, &mut earned, &mut settlement);
-    Ok(Done {
+    Done {
         closed,
         settlement,
         buffer,
-    })
+    }
 }

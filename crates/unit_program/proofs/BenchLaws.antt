@@ -1,5 +1,6 @@
 -- What a bench is made for stays.
-use Rattle.std.proofs.Common.{◌≡◌, ℕ, ◌+◌, ◌-◌, ◌*◌, ◌<◌, ◌≤◌, List, length, sym, subst, arith}
+use Rattle.std.proofs.Common.{◌≡◌, ℕ, zero, suc, ◌+◌, ◌-◌, ◌*◌, ◌<◌, ◌≤◌, ◌⊎◌, inl, inr, Some, List, [], ◌∷◌, ◌++◌, length, sym, ap, ◌∙◌, subst, arith}
+use Rattle.std.specs.Prelude.{slice_get}
 use Rattle.std.proofs.Math.Nat.{mul-le-mul_left}
 use Rattle.unit_program.specs.declared.runner.Runner.{Runner}
 use Rattle.unit_program.specs.declared.bench.Bench.{Bench}
@@ -29,3 +30,18 @@ bench_kept room periods points old new pool curve count keeps rows b =
       room = keeps (periods * (2 * points + 3)) b.room;
       rows = omega (arith, long, rows);
     }
+
+-- ---- runners made one by one
+
+get_append : {X : Type 0} (xs : List X) (r : X) (i : ℕ) (x : X) → slice_get (xs ++ r ∷ []) i ≡ Some x → (slice_get xs i ≡ Some x) ⊎ (r ≡ x)
+get_append [] r zero x h = inr (cc)
+get_append [] r (suc i) x h = cc
+get_append (y ∷ ys) r zero x h = inl h
+get_append (y ∷ ys) r (suc i) x h = get_append ys r i x h
+
+pub room_more : {R : Type 0} (room : R → ℕ) (most : ℕ) (runners runners' : List (Runner R)) (r : Runner R) → runners' ≡ runners ++ r ∷ [] → most ≤ room r.running → HaveRoom room most runners → HaveRoom room most runners'
+room_more room most runners runners' r is fits have f x there =
+    elim (get_append runners r f x (ap (λ xs. slice_get xs f) (sym is) ∙ there)) [
+      | inl before ↦ have f x before
+      | inr same ↦ subst (λ x. most ≤ room x.running) same fits
+    ]

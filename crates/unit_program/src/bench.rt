@@ -1,5 +1,5 @@
 //! What answers need, taken once: with a bench an answer takes no memory.
-ghost use Rattle.std.specs.Prelude.{◌≡◌, ℕ, ℤ, suc, length, neg_ℤ, IsTrue, IsFalse, true, IsOk};
+ghost use Rattle.std.specs.Prelude.{◌≡◌, ℕ, suc, ◌≤◌, length, IsTrue, IsFalse, IfOk};
 ghost use Rattle.cost_curve.specs.CostCurve.{IsCostCurve};
 ghost use Rattle.uc_model.specs.Data.{Schedule, Thermal};
 ghost use Rattle.uc_model.specs.Earnings.{earnings, IsBest};
@@ -7,6 +7,8 @@ ghost use Rattle.uc_model.specs.PlainUnits.{thermal_of, prices_of, schedule_of};
 ghost use Rattle.uc_model.specs.Schedules.{IsThermalFeasible};
 ghost use Rattle.uc_model.specs.Ties.{IsLeast};
 ghost use Rattle.unit_program.specs.Benches.{IsBenchFor};
+ghost use Rattle.slope_list.specs.Slopes.{room_of};
+ghost use Rattle.unit_program.specs.Live.{HaveRoom};
 ghost use Rattle.unit_program.specs.Rows.{IsFilled};
 
 use crate::answer::{least_end, write_best};
@@ -16,8 +18,10 @@ use crate::table::Table;
 use cost_curve::curves::curve_into;
 use point_pool::pool::Pool;
 use point_pool::pooled::Pooled;
+use slope_list::Slopes;
 use spell_run::Running;
-use uc_model::units::{Answered, Curve, Prices, Unit};
+use std::alloc::{AllocError, Global};
+use uc_model::units::{Answered, Blocks, Curve, Prices, Unit};
 
 /// Memory for the answers of units over so many periods, with so many cost points. What it holds between two calls is
 /// open.
@@ -29,6 +33,51 @@ pub struct Bench<R> {
     /// The spells that go forward together.
     pub runners: Vec<Runner<R>>,
     pub table: Table,
+}
+
+// So many runners, none of them on, each with room for so many pieces.
+fn make_runners(alloc: Global, count: u32, pieces: usize) -> Result<Vec<Runner<Slopes>>, AllocError>
+    ensures count { IfOk result (λ v. length v.items ≡ count) }
+    ensures room { IfOk result (λ v. HaveRoom room_of pieces v.items) }
+{
+    let mut runners = Vec::with_capacity(alloc, count as usize)?;
+    for _ in 0..count {
+        let running = Slopes::make(alloc, pieces)?;
+        let runner = Runner {
+            is_on: false,
+            cost: 0,
+            before: 0,
+            running,
+        };
+        runners.push_reserved(runner);
+    }
+    Ok(runners)
+}
+
+impl Bench<Slopes> {
+    /// A bench for so many periods and cost points.
+    pub fn make(alloc: Global, periods: u32, points: u32) -> Result<Bench<Slopes>, AllocError>
+        requires periods { periods ≤ 168 }
+        requires points { points ≤ 32 }
+        ensures { IfOk result (IsBenchFor room_of periods points) }
+    {
+        let pieces = periods * (2 * points + 3);
+        let pool = Pool::make(alloc, (periods + 2) * (1 + pieces))?;
+        let blocks = Blocks::make(alloc, 2 * points)?;
+        let curve = Curve {
+            at: 0,
+            value: 0,
+            blocks,
+        };
+        let runners = make_runners(alloc, periods + 1, pieces as usize)?;
+        let table = Table::filled(alloc, periods + 1, None)?;
+        Ok(Bench {
+            pool,
+            curve,
+            runners,
+            table,
+        })
+    }
 }
 
 // Fills a bench's curve and its table.

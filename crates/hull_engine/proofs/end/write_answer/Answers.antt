@@ -1,3 +1,6 @@
+use Rattle.std.proofs.Common.{rules}
+use Rattle.std.specs.Int.{w64}
+use Rattle.std.proofs.lemmas.Int.{to_z-of_z}
 use Rattle.hull_report.specs.RecordReport.{report_of}
 use Rattle.hull_report.specs.ReportText.{report_text}
 use Rattle.hull_report.specs.TryText.{try_text}
@@ -19,4 +22,5 @@ returns-in-Try g c =
 pub returns-in-Bound : goal.returns-in-Bound
 returns-in-Bound g c =
     let right = bound_written c.record_report_is_right.ensures c.in-Bound.bounded (rw c.in-Bound.is at c.requires) in
-    rw c.in-Bound.is (written_bound c.in-Bound.bounded, right, c.write_bound-written.ensures)
+    rw c.in-Bound.is (written_bound c.in-Bound.bounded, right,
+    rw (to_z-of_z w64 c.in-Bound.bounded.radius (search rules)) at c.write_bound-written.ensures)

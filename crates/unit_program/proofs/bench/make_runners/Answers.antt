@@ -1,0 +1,15 @@
+use Rattle.std.proofs.Common.{◌≡◌, ◌≤◌, ◌+◌, length, sym, ap, ◌∙◌, subst, arith, length-append, vec_capacity}
+use Rattle.slope_list.specs.Slopes.{room_of}
+use Rattle.unit_program.proofs.BenchLaws.{room_more}
+use Rattle.unit_program.proofs.bench.make_runners.Goals as goal
+
+pub loop-preserved : goal.loop-preserved
+loop-preserved c =
+    let items = c.push_reserved.ensures.items in
+    let capacity = c.push_reserved.ensures.capacity in
+    let room = c.in_ok-running.ensures.room in
+    record {
+      count = omega (arith, simp length-append at (ap length items));
+      capacity = omega (arith, capacity);
+      room = room_more room_of c.args.pieces c.loop.runners.items c.push_reserved.new.self.items _ items (omega (arith, room)) c.loop.invariant.room;
+    }
