@@ -4,9 +4,7 @@ ghost use Rattle.hull_engine.specs.Laws.{OneDue, OneText, AcceptedIsFeasible, Ea
 
 use gap_proof::laws::run_bounds_hold;
 use hull_io::{Shelf, Sink};
-use hull_report::laws::{
-    one_report_is_right, one_row_is_chosen, report_payments_make_up_the_gap,
-};
+use hull_report::laws::{one_report_is_right, one_row_is_chosen, report_payments_make_up_the_gap};
 use uc_case::laws::one_case;
 use uc_plan::laws::one_plan;
 

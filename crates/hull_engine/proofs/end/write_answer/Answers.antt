@@ -22,5 +22,8 @@ returns-in-Try g c =
 pub returns-in-Bound : goal.returns-in-Bound
 returns-in-Bound g c =
     let right = bound_written c.record_report_is_right.ensures c.in-Bound.bounded (rw c.in-Bound.is at c.requires) in
-    rw c.in-Bound.is (written_bound c.in-Bound.bounded, right,
-    rw (to_z-of_z w64 c.in-Bound.bounded.radius (search rules)) at c.write_bound-written.ensures)
+    rw c.in-Bound.is (
+      written_bound c.in-Bound.bounded,
+      right,
+      rw (to_z-of_z w64 c.in-Bound.bounded.radius (search rules)) at c.write_bound-written.ensures,
+    )
