@@ -1,5 +1,5 @@
 -- The centre stands in its box.
-use Rattle.std.proofs.Common.{◌≡◌, ℕ, ◌-◌, ◌*◌, ◌<◌, Bool, inl, inr, if◌then◌else◌, ℤ, pos, neg_ℤ, ◌≤ℤ◌, List, length, sym, subst, arith}
+use Rattle.std.proofs.Common.{◌≡◌, ℕ, ◌-◌, ◌*◌, ◌<◌, Bool, inl, inr, if◌then◌else◌, ℤ, pos, neg_ℤ, ◌≤ℤ◌, List, length, sym, subst, ◌∙◌, arith}
 use Rattle.std.proofs.lemmas.Int.{ints, clamps}
 use Rattle.std.proofs.lemmas.Bool.{cases_lt}
 use Rattle.std.specs.List.{All}
@@ -12,27 +12,45 @@ use Rattle.gap_proof.specs.Laws.{IsAnswered, AreWeights, IsInBox}
 use Rattle.gap_proof.proofs.Mean.{bound_above}
 use Rattle.gap_proof.proofs.Subgradients.{lt_true, lt_false}
 
+-- prices over the horizon, each within its limits
+pub record ArePriced (m : Market) (π : PriceLists) : Type 0 where
+  pub horizon : length π.energy ≡ m.periods
+  pub reserve_horizon : length π.reserve ≡ m.periods
+  pub energy : All (IsFrom (neg_ℤ price_limit) price_limit) π.energy
+  pub reserve : All (IsFrom (pos 0) price_limit) π.reserve
+
+pub priced_of : (m : Market) (π : PriceLists) → length π.energy ≡ m.periods → ArePrices π → ArePriced m π
+priced_of m π horizon prices = record {
+  horizon = horizon;
+  reserve_horizon = sym prices.lengths ∙ horizon;
+  energy = prices.energy;
+  reserve = prices.reserve;
+}
+
 -- each price is within its limits
-pub price_limits : (m : Market) (π : PriceLists) (j : ℕ) → length π.energy ≡ m.periods → ArePrices π → j < 2 * m.periods → IsFrom (lowest_price m j) price_limit (price_at m π j)
-price_limits m π j horizon prices lt =
+price_limits : (m : Market) (π : PriceLists) (j : ℕ) → ArePriced m π → j < 2 * m.periods → IsFrom (lowest_price m j) price_limit (price_at m π j)
+price_limits m π j prices lt =
     elim (cases_lt j m.periods) [
       | inl low ↦
           subst (λ (b : Bool). IsFrom (if b then neg_ℤ price_limit else pos 0) price_limit (if b then int_at π.energy j else int_at π.reserve (j - m.periods))) (sym (lt_true j m.periods low))
-          (prices.energy j (pos 0) (omega (arith, low, horizon)))
+          (prices.energy j (pos 0) (let horizon = prices.horizon in omega (arith, low, horizon)))
       | inr high ↦
           subst (λ (b : Bool). IsFrom (if b then neg_ℤ price_limit else pos 0) price_limit (if b then int_at π.energy j else int_at π.reserve (j - m.periods))) (sym (lt_false j m.periods high))
-          (prices.reserve (j - m.periods) (pos 0) (let same = prices.lengths in omega (arith, lt, high, horizon, same)))
+          (prices.reserve (j - m.periods) (pos 0) (let horizon = prices.reserve_horizon in omega (arith, lt, high, horizon)))
     ]
 
-pub centre_in_box : (m : Market) (π : PriceLists) (radius : ℤ) → length π.energy ≡ m.periods → ArePrices π → pos 0 ≤ℤ radius → IsInBox m π radius π
-centre_in_box m π radius horizon prices wide = record {
-  horizon = horizon;
+pub priced_in_box : (m : Market) (π : PriceLists) (radius : ℤ) → ArePriced m π → pos 0 ≤ℤ radius → IsInBox m π radius π
+priced_in_box m π radius prices wide = record {
+  horizon = prices.horizon;
   inside = λ j lt.
-      let within = price_limits m π j horizon prices lt in
+      let within = price_limits m π j prices lt in
       let a = within.at_least in
       let b = within.at_most in
       record { at_least = omega (arith, ints, clamps, a, wide); at_most = omega (arith, ints, clamps, b, wide) };
 }
+
+pub centre_in_box : (m : Market) (π : PriceLists) (radius : ℤ) → length π.energy ≡ m.periods → ArePrices π → pos 0 ≤ℤ radius → IsInBox m π radius π
+centre_in_box m π radius horizon prices wide = priced_in_box m π radius (priced_of m π horizon prices) wide
 
 -- so the bound is at least the centre's value
 pub bound_at_centre : (m : Market) (rows : List Proposal) (weights : List ℤ) (centre : Proposal) (radius : ℤ) →

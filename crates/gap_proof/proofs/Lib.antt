@@ -7,6 +7,7 @@ pub mod Least
 pub mod Mean
 pub mod RangeLaws
 pub mod RowLists
+pub mod RunRows
 pub mod Running
 pub mod Subgradients
 pub mod Sizes

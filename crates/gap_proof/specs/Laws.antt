@@ -6,7 +6,7 @@ use Rattle.std.specs.List.{All, AllZip}
 use Rattle.uc_model.specs.Data.{PriceLists, Schedule, Market, units}
 use Rattle.uc_model.specs.Limits.{IsFrom, ArePrices, IsMarket}
 use Rattle.uc_model.specs.PriceRule.{Proposal}
-use Rattle.uc_model.specs.Runs.{HasTotals, Fits}
+use Rattle.uc_model.specs.Runs.{HasTotals, Fits, IsRun}
 use Rattle.uc_model.specs.Sums.{total}
 use Rattle.uc_model.specs.Systems.{IsDualValue}
 use Rattle.gap_proof.specs.CertifiedBound.{price_at, low_end, high_end, certified_bound}
@@ -68,6 +68,22 @@ BestBoundReachesCentre =
     All (IsAnswered m) rows → 1 ≤ centre → slice_get rows (centre - 1) ≡ Some row →
     ArePrices row.prices → pos 0 ≤ℤ radius →
     IsFirstLeast m rows centre radius range bound → row.value ≤ℤ bound
+
+-- What the best bound round a row says: it is at least that row's value, and no prices within the
+-- radius of the row's, and within the limits, have a dual value above it.
+pub record IsBoundRound (m : Market) (centre : Proposal) (radius bound : ℤ) : Type 0 where
+  pub reached : centre.value ≤ℤ bound
+  pub holds : (π : PriceLists) (value : ℤ) →
+      IsInBox m centre.prices radius π → IsDualValue m π value → value ≤ℤ bound
+
+-- the best bound round a row of a run says so
+abbrev pub RunBoundsHold : Type 0
+RunBoundsHold =
+    (m : Market) (cost : ℤ) (budget ahead : ℕ) (rows : List Proposal) (centre : ℕ) (row : Proposal)
+    (radius : ℤ) (range : RowRange) (bound : ℤ) →
+    1 ≤ ahead → pos 0 ≤ℤ radius → IsRun Fits m cost budget ahead rows →
+    1 ≤ centre → slice_get rows (centre - 1) ≡ Some row →
+    IsFirstLeast m rows centre radius range bound → IsBoundRound m row radius bound
 
 -- answered rows are of the sizes that the calls ask for
 abbrev pub AnsweredRowsAreWithin : Type 0

@@ -44,6 +44,10 @@ IsRise x = IsUpTo 10000000000000000000000000000000 x
 abbrev pub IsRiseSum : ℤ → Type 0
 IsRiseSum x = IsUpTo 4000000000000000000000000000000000 x
 
+-- the greatest that a bound may be
+abbrev pub most_bound : ℤ
+most_bound = pos 34000000000000000000000000000000000
+
 -- the sums of some weighted rows, with their sizes
 pub record AreSums (m : Market) (ws : List ℤ) (rows : List Proposal) (height weight : ℤ)
     (slopes : List ℤ) : Type 0 where

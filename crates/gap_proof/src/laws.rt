@@ -1,7 +1,7 @@
 //! Laws over the definitions: each is the contract of a function that does nothing.
 ghost use Rattle.gap_proof.specs.Laws.{BoundHolds, BoundReachesCentre};
 ghost use Rattle.gap_proof.specs.Laws.{BestBoundHolds, BestBoundReachesCentre};
-ghost use Rattle.gap_proof.specs.Laws.{AnsweredRowsAreWithin};
+ghost use Rattle.gap_proof.specs.Laws.{RunBoundsHold, AnsweredRowsAreWithin};
 
 use uc_model::laws::{
     dual_values_are_within, outputs_are_within, totals_are_within, units_are_within,
@@ -25,6 +25,11 @@ pub fn best_bound_holds()
 /// The bound of the best range is at least the centre's value.
 pub fn best_bound_reaches_centre()
     ensures { BestBoundReachesCentre }
+{}
+
+/// In a run, the best bound round a row holds, and is at least that row's value.
+pub fn run_bounds_hold()
+    ensures { RunBoundsHold }
 {}
 
 /// Answered rows are of the sizes that the calls ask for.

@@ -4,7 +4,7 @@ ghost use Rattle.std.specs.List.{All};
 ghost use Rattle.uc_model.specs.PlainCases.{market_of, proposal_of};
 ghost use Rattle.uc_model.specs.PlainUnits.{prices_of};
 ghost use Rattle.gap_proof.specs.Candidates.{prices_of_row, range_bound, IsFirstLeast};
-ghost use Rattle.gap_proof.specs.Sums.{IsRowWithin, IsRadius, AreSums};
+ghost use Rattle.gap_proof.specs.Sums.{IsRowWithin, IsRadius, AreSums, most_bound};
 
 use crate::bound::row_at;
 use crate::sums::{Sums, add_row, bound_by, clear_slopes};
@@ -49,6 +49,7 @@ fn alone(case: &Case, rows: &[Row], number: u32, radius: i64, work: &mut Amounts
     ensures bound { result.bound ≡ range_bound (market_of case.now) (map proposal_of rows.now)
         (prices_of_row (map proposal_of rows.now) number) radius
         (record { first = number; last = number }) }
+    ensures most { result.bound ≤ℤ most_bound }
     ensures work { length work.new.items ≡ length work.old.items }
     ensures spare { work.new.spare ≡ work.old.spare }
 {
@@ -144,6 +145,7 @@ pub fn best_range(
     requires work { length work.old.items ≡ 2 * (market_of case.now).periods }
     ensures best { IsFirstLeast (market_of case.now) (map proposal_of rows.now) centre radius
         (record { first = result.first; last = result.last }) result.bound }
+    ensures most { result.bound ≤ℤ most_bound }
     ensures work { length work.new.items ≡ length work.old.items }
     ensures spare { work.new.spare ≡ work.old.spare }
 {

@@ -1,6 +1,6 @@
 //! Weighted sums of planes, and their greatest height over a box of prices.
 ghost use Rattle.std.specs.Prelude.{◌≡◌, ℕ, ◌<◌, ◌*◌, pos, neg_ℤ, ◌+ℤ◌, ◌*ℤ◌, length};
-ghost use Rattle.std.specs.Prelude.{unsigned_abs};
+ghost use Rattle.std.specs.Prelude.{unsigned_abs, ◌≤ℤ◌};
 ghost use Rattle.std.specs.Int.{int_max};
 ghost use Rattle.std.specs.List.{All};
 ghost use Rattle.uc_model.specs.Limits.{IsFrom, price_limit};
@@ -11,6 +11,7 @@ ghost use Rattle.gap_proof.specs.CertifiedBound.{slope_at, height_of, lowest_pri
 ghost use Rattle.gap_proof.specs.CertifiedBound.{low_end, high_end, most_over};
 ghost use Rattle.gap_proof.specs.Sums.{IsRowWithin, IsWeight, IsRadius, IsHeight};
 ghost use Rattle.gap_proof.specs.Sums.{IsHeightStep, IsHeightSum, IsSlopeSum, IsRise, IsRiseSum};
+ghost use Rattle.gap_proof.specs.Sums.{most_bound};
 
 use crate::planes::{add_slopes, height, price};
 use uc_model::cases::{Case, Row};
@@ -148,8 +149,10 @@ fn most(case: &Case, centre: &Prices, radius: i64, slopes: &Amounts) -> i128
 
 // The whole number below the quotient, or the quotient.
 fn quotient(height: i128, weight: i64) -> i128
-    requires { IsFrom (pos 1) (pos 10000000000) weight }
-    ensures { result ≡ floor_div height (unsigned_abs weight) }
+    requires height { height ≤ℤ most_bound }
+    requires weight { IsFrom (pos 1) (pos 10000000000) weight }
+    ensures value { result ≡ floor_div height (unsigned_abs weight) }
+    ensures most { result ≤ℤ most_bound }
 {
     height.div_euclid(i128::from(weight))
 }
@@ -162,10 +165,11 @@ pub fn bound_by(case: &Case, centre: &Prices, radius: i64, sums: Sums, slopes: &
     requires weights { IsFrom (pos 1) (pos 10000000000) sums.weight }
     requires length { length slopes.now.items ≡ 2 * (market_of case.now).periods }
     requires slopes { All IsSlopeSum slopes.now.items }
-    ensures { result ≡ floor_div
+    ensures value { result ≡ floor_div
         (sums.height +ℤ most_over (market_of case.now) (prices_of centre.now) radius
         (int_at slopes.now.items))
         (unsigned_abs sums.weight) }
+    ensures most { result ≤ℤ most_bound }
 {
     quotient(
         sums.height + most(case, centre, radius, slopes),

@@ -41,6 +41,11 @@ unit thermal \"A\" earned 2000 scheduled 1000 payment 1000\non 1\npower 100\nres
 unit thermal \"B\" earned 0 scheduled 0 payment 0\non 0\npower 0\nreserve 0\nsurplus 0\npayments 1000\n\
 gap 1000\nend\n";
 
+// The first row alone gives 3,000, the mean of both rows 2,500.
+const TWO_PROPOSALS_BOUND: &[u8] = b"\
+hull-bound 1\nproposals 2\nchosen 1 value 2500\nradius 10\ncertificate first 1 last 2\nbound 2500\n\
+distance 0\nend\n";
+
 const TWO_PROPOSALS: &[u8] = b"\
 hull-report 1\nperiods 1\nunits 2\nbudget 2\nahead 1\ncost 3500\nproposals 2\nproposal 1 value 2500\n\
 energy 30\nreserve 0\nsupplied 100\nreserved 0\nproposal 2 value 1500\nenergy 50\nreserve 0\n\
@@ -214,6 +219,21 @@ fn runs_answer_as_worked(rt: HostRuntime) -> Result<(), Fail> {
             TWO_UNITS_SCHEDULE,
             0,
             TWO_PROPOSALS,
+        ),
+        (
+            [
+                "bound",
+                "--case=c",
+                "--schedule=s",
+                "--proposals=2",
+                "--ahead=1",
+                "--radius=10",
+            ]
+            .as_slice(),
+            TWO_UNITS,
+            TWO_UNITS_SCHEDULE,
+            0,
+            TWO_PROPOSALS_BOUND,
         ),
         (PRICE.as_slice(), USUAL, USUAL_SCHEDULE, 0, USUAL_REPORT),
         (

@@ -22,3 +22,5 @@ pub mod EndLaws
 pub mod OneDue
 -- laws.rt: what follows from an outcome
 pub mod OutcomeLaws
+-- bound.rt, laws.rt: the best bound round the chosen prices of a run
+pub mod BoundLaws

@@ -1,8 +1,12 @@
 -- Over what was read at most one thing is due, and at most one text may be printed.
-use Rattle.std.proofs.Common.{◌≡◌, ℕ, List, Result, Ok, Err, sym, ap, ◌∙◌}
+use Rattle.std.proofs.Common.{◌≡◌, ℕ, ◌<◌, ℤ, List, length, unsigned_abs, Some, inl, inr, Result, Ok, Err, sym, ap, subst, ◌∙◌, arith}
+use Rattle.std.proofs.lemmas.Bool.{cases_lt}
+use Rattle.std.proofs.lemmas.Int.{ints}
+use Rattle.std.proofs.lemmas.Option.{same_Some}
 use Rattle.std.specs.Prelude.{slice_get}
 use Rattle.std.specs.Result.{result_map_both}
 use Rattle.uc_model.specs.Data.{Market, Schedule}
+use Rattle.uc_model.specs.PriceRule.{Proposal}
 use Rattle.uc_model.specs.Refusals.{Refusal}
 use Rattle.uc_case.specs.Laws.{OneCase}
 use Rattle.uc_plan.specs.Laws.{OnePlan}
@@ -10,6 +14,8 @@ use Rattle.hull_words.specs.Asked.{Asked, price, check, try, bound, fixed, audit
 use Rattle.hull_words.specs.declared.fault.WordFault.{WordFault}
 use Rattle.plan_check.specs.Checks.{refusal_of}
 use Rattle.plan_check.specs.declared.RuleFault.{RuleFault}
+use Rattle.gap_proof.specs.Candidates.{RowRange, candidates, range_bound, prices_of_row, IsFirstLeast}
+use Rattle.hull_report.specs.BoundText.{bound_text}
 use Rattle.hull_report.specs.Laws.{OneRightReport}
 use Rattle.hull_report.specs.ReportText.{Report, report_text}
 use Rattle.hull_report.specs.TryText.{try_text}
@@ -17,7 +23,7 @@ use Rattle.hull_report.specs.declared.fault.FileKind.TheVariants.{CaseFile, Sche
 use Rattle.hull_report.specs.declared.fault.TopFault.{TopFault}
 use Rattle.hull_report.specs.declared.fault.TopFault.TheVariants.{PlanRule}
 use Rattle.hull_engine.specs.Steps.{Then, Reads, IsBytes, case_fault, plan_fault, IsCase, IsCaseFile, IsPlan, IsPlanFile, PlannedCase, IsChecked, IsInput, IsMade, IsWithinWork}
-use Rattle.hull_engine.specs.Outcome.{IsReportText, command_for}
+use Rattle.hull_engine.specs.Outcome.{IsReportText, IsBoundText, command_for}
 use Rattle.hull_engine.proofs.StepLaws.{one_then}
 
 -- a fault is all that its refusal tells
@@ -56,10 +62,37 @@ module _ (one_case : OneCase) (one_plan : OnePlan) where
       one_then (IsInput reads) (IsWithinWork x.proposals) (one_input reads) (λ c a b p q. p ∙ sym q) a b p q
   one_due (Ok (try x)) reads a b p q =
       one_then (IsMade x.number) (IsWithinWork x.proposals) (one_made x.number) (λ c a b p q. p ∙ sym q) a b p q
-  one_due (Ok (bound x)) reads a b p q = p ∙ sym q
+  one_due (Ok (bound x)) reads a b p q =
+      one_then (IsInput reads) (IsWithinWork x.run.proposals) (one_input reads) (λ c a b p q. p ∙ sym q) a b p q
   one_due (Ok (fixed x)) reads a b p q = p ∙ sym q
   one_due (Ok (audit x)) reads a b p q = p ∙ sym q
   one_due (Err f) reads a b p q = p ∙ sym q
+
+-- there is one first candidate with the least bound
+module _ (m : Market) (rows : List Proposal) (centre : ℕ) (radius : ℤ) where
+  never_later : (range other : RowRange) (limit above : ℤ) (best : IsFirstLeast m rows centre radius range limit) (best_other : IsFirstLeast m rows centre radius other above)
+      → best.place < best_other.place → ⊥
+  never_later range other limit above best best_other before =
+      let a = best_other.earlier best.place range before best.is in
+      let b = best.least best_other.place other best_other.is in
+      let c = best.bound_is in
+      let d = best_other.bound_is in
+      omega (arith, ints, a, b, c, d)
+
+  same_range : (k j : ℕ) (range other : RowRange) → k ≡ j → slice_get (candidates (length rows) centre) k ≡ Some range → slice_get (candidates (length rows) centre) j ≡ Some other → range ≡ other
+  same_range k j range other same is is_other = same_Some range other (sym is ∙ ap (λ (n : ℕ). slice_get (candidates (length rows) centre) n) same ∙ is_other)
+
+  one_best : (range other : RowRange) (limit above : ℤ) → IsFirstLeast m rows centre radius range limit → IsFirstLeast m rows centre radius other above → (range ≡ other) × (limit ≡ above)
+  one_best range other limit above best best_other =
+      elim (cases_lt best.place best_other.place) [
+        | inl before ↦ absurd (never_later range other limit above best best_other before)
+        | inr after ↦ elim (cases_lt best_other.place best.place) [
+          | inl before ↦ absurd (never_later other range above limit best_other best before)
+          | inr here ↦
+              let same = same_range best.place best_other.place range other (omega (arith, after, here)) best.is best_other.is in
+              (same, best.bound_is ∙ ap (λ (r : RowRange). range_bound m rows (prices_of_row rows centre) radius r) same ∙ sym best_other.bound_is)
+        ]
+      ]
 
 module _ (one : OneRightReport) where
   one_report_text : (text_of : Report → List ℕ) (budget ahead : ℕ) (c : PlannedCase) (text other : List ℕ)
@@ -67,11 +100,19 @@ module _ (one : OneRightReport) where
   one_report_text text_of budget ahead c text other (r, is_r, p) (s, is_s, q) =
       p ∙ ap text_of (one c.market c.plan budget ahead r s is_r is_s) ∙ sym q
 
+  one_bound_text : (budget ahead : ℕ) (radius : ℤ) (c : PlannedCase) (text other : List ℕ)
+      → IsBoundText budget ahead radius c text → IsBoundText budget ahead radius c other → text ≡ other
+  one_bound_text budget ahead radius c text other (r, is_r, range, limit, best, p) (s, is_s, range_s, limit_s, best_s, q) =
+      let same = one c.market c.plan budget ahead r s is_r is_s in
+      let told = one_best c.market s.rows s.chosen radius range range_s limit limit_s
+      (subst (λ (x : Report). IsFirstLeast c.market x.rows x.chosen radius range limit) same best) best_s in
+      p ∙ (λ i. bound_text (length (same i).rows) (same i).chosen (same i).value (unsigned_abs radius) (told.0 i).first (told.0 i).last (told.1 i)) ∙ sym q
+
   pub one_text : (w : Result Asked WordFault) (reads : Reads) (c : PlannedCase) (text other : List ℕ) → (command_for w).IsText reads c text → (command_for w).IsText reads c other → text ≡ other
   one_text (Ok (check x)) reads c text other p q = p ∙ sym q
   one_text (Ok (price x)) reads c text other p q = one_report_text report_text x.proposals x.ahead c text other p q
   one_text (Ok (try x)) reads c text other p q = one_report_text (try_text x.number) x.proposals x.ahead c text other p q
-  one_text (Ok (bound x)) reads c text other p q = absurd p
+  one_text (Ok (bound x)) reads c text other p q = one_bound_text x.run.proposals x.run.ahead x.radius c text other p q
   one_text (Ok (fixed x)) reads c text other p q = absurd p
   one_text (Ok (audit x)) reads c text other p q = absurd p
   one_text (Err f) reads c text other p q = absurd p

@@ -26,7 +26,7 @@ use Rattle.hull_engine.proofs.OneDue.{one_due}
 
 -- ---- a fault by its status
 
-status_within : (f : TopFault) → (1 ≤ status_of f) × (status_of f ≤ 8) × ((status_of f ≡ 6) → ⊥)
+pub status_within : (f : TopFault) → (1 ≤ status_of f) × (status_of f ≤ 8) × ((status_of f ≡ 6) → ⊥)
 status_within (Words w) = (omega arith, omega arith, λ e. absurd cc)
 status_within (Read file) = (omega arith, omega arith, λ e. absurd cc)
 status_within (CaseText f) = (omega arith, omega arith, λ e. absurd cc)
@@ -142,7 +142,14 @@ due_fault (Ok (price a)) reads f (Err g, input, e) =
     ]
 due_fault (Ok (try a)) reads f (Ok c, input, work) = of_work (λ b e. absurd cc) (work_fault a.proposals c f work)
 due_fault (Ok (try a)) reads f (Err g, made, e) = absurd made
-due_fault (Ok (bound a)) reads f due = of_words _ (same_fault f _ due) refl
+due_fault (Ok (bound a)) reads f (Ok c, input, work) = of_work (λ b e. absurd cc) (work_fault a.run.proposals c f work)
+due_fault (Ok (bound a)) reads f (Err g, input, e) =
+    let same : g ≡ f = sym (same_fault f g e) in
+    elim (input_fault reads f (subst (λ (h : TopFault). IsInput reads (Err h)) same input)) [
+      | inl p ↦ unread CaseFile a.run.case_name p.0 refl p.1
+      | inr (inl p) ↦ unread ScheduleFile a.run.schedule_name p.0 refl p.1
+      | inr (inr p) ↦ of_input p.0 p.1
+    ]
 due_fault (Ok (fixed a)) reads f due = of_words _ (same_fault f _ due) refl
 due_fault (Ok (audit a)) reads f due = of_words _ (same_fault f _ due) refl
 due_fault (Err x) reads f due = of_words x (same_fault f _ due) refl
@@ -242,7 +249,7 @@ refused_words : (w : Result Asked WordFault) (f : WordFault) (reads : Reads) (du
 refused_words (Ok (check a)) f reads due e is = absurd cc
 refused_words (Ok (price a)) f reads due e is = absurd cc
 refused_words (Ok (try a)) f reads due e is = absurd cc
-refused_words (Ok (bound a)) f reads due e is = cc
+refused_words (Ok (bound a)) f reads due e is = absurd cc
 refused_words (Ok (fixed a)) f reads due e is = cc
 refused_words (Ok (audit a)) f reads due e is = cc
 refused_words (Err g) f reads due e is = cc
@@ -325,7 +332,9 @@ accepted_is_feasible (Ok (try a)) reads i (Ok c, (feasible, is), work) =
     subst (λ (c : PlannedCase). IsFeasiblePlan c.market c.plan × (c.cost ≡ plan_cost c.market c.plan)) (same_input a.proposals c i work)
     (feasible, subst (λ (c : PlannedCase). c.cost ≡ plan_cost c.market c.plan) (sym is) refl)
 accepted_is_feasible (Ok (try a)) reads i (Err g, made, e) = absurd made
-accepted_is_feasible (Ok (bound a)) reads i due = absurd cc
+accepted_is_feasible (Ok (bound a)) reads i (Ok c, input, work) =
+    subst (λ (c : PlannedCase). IsFeasiblePlan c.market c.plan × (c.cost ≡ plan_cost c.market c.plan)) (same_input a.run.proposals c i work) (input_is_feasible reads c input)
+accepted_is_feasible (Ok (bound a)) reads i (Err g, input, e) = absurd cc
 accepted_is_feasible (Ok (fixed a)) reads i due = absurd cc
 accepted_is_feasible (Ok (audit a)) reads i due = absurd cc
 accepted_is_feasible (Err f) reads i due = absurd cc

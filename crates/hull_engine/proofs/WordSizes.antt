@@ -1,8 +1,10 @@
 -- The numbers of a run that words ask for are within their ranges.
-use Rattle.std.proofs.Common.{◌≡◌, ℕ, ℤ, ◌+◌, Bool, true, false, ◌&&◌, cond, leb, List, [], ◌∷◌, length, Option, Some, None, Ok, refl, subst, option_map, unwrap_or, arith}
+use Rattle.std.proofs.Common.{◌≡◌, ℕ, ℤ, pos, ◌+◌, Bool, true, false, ◌&&◌, cond, leb, List, [], ◌∷◌, length, Option, Some, None, Ok, refl, subst, option_map, unwrap_or, arith}
 use Rattle.std.specs.Prelude.{option_and_then}
 use Rattle.std.proofs.lemmas.Bool.{leb-true}
+use Rattle.std.proofs.lemmas.Int.{ints}
 use Rattle.std.proofs.lemmas.Option.{same_Some}
+use Rattle.gap_proof.specs.Sums.{IsRadius}
 use Rattle.std.specs.Str.Parse.{digits_value}
 use Rattle.hull_words.specs.declared.fault.WordFault.{WordFault}
 use Rattle.hull_words.specs.declared.kinds.CommandKind.{CommandKind}
@@ -38,6 +40,13 @@ given_within least most default (Some text) h = or_default least most default (n
 
 -- ---- the numbers of all words
 
+radius_within : (n : ℕ) → IsWithin 0 20000000 n → IsRadius (pos n)
+radius_within n h = let high = h.at_most in record { at_least = omega (arith, ints); at_most = omega (arith, ints, high) }
+
+radius_of : (words : List (List ℕ)) → IsRadius (pos (unwrap_or (found_in words).radius 20_000_000))
+unfolding found_in
+radius_of words = radius_within _ (given_within 0 20000000 20000000 _ (record { at_least = omega arith; at_most = omega arith }))
+
 sizes_of : (words : List (List ℕ)) → IsRunSize (unwrap_or (found_in words).proposals 100) (unwrap_or (found_in words).workers 4) (unwrap_or (found_in words).ahead 4)
 unfolding found_in
 sizes_of words = record {
@@ -53,8 +62,9 @@ same : (a b : Asked) (count : ℕ) → Gives (Some a) count b → a ≡ b
 same a b count e = cc
 
 -- the sizes among the values of the words
-abbrev Sizes : Found → Type 0
-Sizes found = IsRunSize (unwrap_or found.proposals 100) (unwrap_or found.workers 4) (unwrap_or found.ahead 4)
+record Sizes (found : Found) : Type 0 where
+  run : IsRunSize (unwrap_or found.proposals 100) (unwrap_or found.workers 4) (unwrap_or found.ahead 4)
+  radius : IsRadius (pos (unwrap_or found.radius 20_000_000))
 
 by_price : (names : Option CheckAsked) (budget workers ahead count : ℕ) (a : Asked) → IsRunSize budget workers ahead
     → Gives (option_map price (option_map (λ (n : CheckAsked). let p : PriceAsked = record { case_name = n.case_name; schedule_name = n.schedule_name; proposals = budget; workers = workers; ahead = ahead } in p) names)) count a → HasSizes a
@@ -70,9 +80,10 @@ by_number : (number : Option ℕ) (budget workers ahead count : ℕ) (a : Asked)
 by_number None budget workers ahead count a size e = absurd cc
 by_number (Some n) budget workers ahead count a size e = subst HasSizes (same _ a count e) size
 
-by_run : (run : Option PriceAsked) (radius : ℤ) (count : ℕ) (a : Asked) → Gives (option_map (λ (r : PriceAsked). bound (record { run = r; radius = radius })) run) count a → HasSizes a
-by_run None radius count a e = absurd cc
-by_run (Some r) radius count a e = subst HasSizes (same _ a count e) tt
+by_run : (names : Option CheckAsked) (budget workers ahead : ℕ) (radius : ℤ) (count : ℕ) (a : Asked) → IsRunSize budget workers ahead → IsRadius radius
+    → Gives (option_map (λ (r : PriceAsked). bound (record { run = r; radius = radius })) (option_map (λ (n : CheckAsked). let p : PriceAsked = record { case_name = n.case_name; schedule_name = n.schedule_name; proposals = budget; workers = workers; ahead = ahead } in p) names)) count a → HasSizes a
+by_run None budget workers ahead radius count a size wide e = absurd cc
+by_run (Some names) budget workers ahead radius count a size wide e = subst HasSizes (same _ a count e) (size, wide)
 
 by_fixed : (run : Option PriceAsked) (count : ℕ) (a : Asked) → Gives (option_map fixed run) count a → HasSizes a
 by_fixed None count a e = absurd cc
@@ -85,10 +96,10 @@ by_report (Some n) None f count a e = absurd cc
 by_report (Some n) (Some r) f count a e = subst HasSizes (same _ a count e) tt
 
 by_kind : (command : CommandKind) (found : Found) (count : ℕ) (a : Asked) → Sizes found → Gives (asked_from command found) count a → HasSizes a
-by_kind kinds.Price found count a size e = by_price (names_from found) _ _ _ count a size e
+by_kind kinds.Price found count a size e = by_price (names_from found) _ _ _ count a size.run e
 by_kind kinds.Check found count a size e = by_check (names_from found) count a e
-by_kind kinds.Try found count a size e = by_number found.number _ _ _ count a size e
-by_kind kinds.Bound found count a size e = by_run (price_from found) _ count a e
+by_kind kinds.Try found count a size e = by_number found.number _ _ _ count a size.run e
+by_kind kinds.Bound found count a size e = by_run (names_from found) _ _ _ _ count a size.run size.radius e
 by_kind kinds.Fixed found count a size e = by_fixed (price_from found) count a e
 by_kind kinds.Audit found count a size e = by_report (names_from found) found.report_name _ count a e
 
@@ -98,7 +109,7 @@ by_values (Some f) command found count a size e = absurd cc
 
 by_later : (command : Option CommandKind) (later : List (List ℕ)) (a : Asked) → later_words command later ≡ Ok a → HasSizes a
 by_later None later a e = absurd cc
-by_later (Some command) later a e = by_values (first_fault command [] later) command (found_in (backwards [] later)) (length later + 1) a (sizes_of (backwards [] later)) e
+by_later (Some command) later a e = by_values (first_fault command [] later) command (found_in (backwards [] later)) (length later + 1) a (record { run = sizes_of (backwards [] later); radius = radius_of (backwards [] later) }) e
 
 pub words_have_sizes : (words : List (List ℕ)) (a : Asked) → words_of words ≡ Ok a → HasSizes a
 unfolding words_of

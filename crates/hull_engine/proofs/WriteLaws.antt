@@ -1,10 +1,15 @@
 -- What is written of a run that has ended is the text of a right report.
-use Rattle.std.proofs.Common.{◌≡◌, ℕ, List, length, refl}
+use Rattle.std.proofs.Common.{◌≡◌, ℕ, List, length, unsigned_abs, refl}
 use Rattle.uc_model.specs.Data.{unit_count}
-use Rattle.hull_report.specs.RecordReport.{report_of, RecordReportIsRight, SettlementsAreOfAllUnits}
+use Rattle.board_history.specs.Calls.{own_rows}
+use Rattle.hull_report.specs.BoundText.{bound_text}
+use Rattle.hull_report.specs.RecordReport.{chosen_of, value_of, report_of, RecordReportIsRight, SettlementsAreOfAllUnits}
 use Rattle.hull_report.specs.ReportText.{Report}
 use Rattle.hull_engine.specs.declared.run.Done.{Done}
-use Rattle.hull_engine.specs.Answers.{IsRunText}
+use Rattle.hull_engine.specs.declared.bound.Bounded.{Bounded}
+use Rattle.hull_engine.specs.Answers.{planned_in, IsRunText}
+use Rattle.hull_engine.specs.Bounded.{IsBounded}
+use Rattle.hull_engine.specs.Outcome.{IsBoundText}
 use Rattle.hull_engine.specs.Rounds.{IsEnded}
 
 -- the settlement has one number for each unit
@@ -16,3 +21,21 @@ ended_lengths settled_lengths d h =
 
 pub run_text : RecordReportIsRight → (text_of : Report → List ℕ) (d : Done) → IsEnded d.closed.setup d → IsRunText text_of d.closed.setup (text_of (report_of d.closed d.settlement))
 run_text right text_of d h = (report_of d.closed d.settlement, right d.closed d.settlement h.row h.settled, refl)
+
+-- what is written of a bound
+abbrev pub written_bound : Bounded → List ℕ
+written_bound b =
+    bound_text (length (own_rows b.done.closed)) (chosen_of b.done.closed) (value_of b.done.closed)
+    (unsigned_abs b.radius) b.certified.first b.certified.last b.certified.bound
+
+pub bound_written : RecordReportIsRight → (b : Bounded) → IsBounded b.done.closed.setup b.radius b
+    → IsBoundText b.done.closed.setup.budget b.done.closed.setup.ahead b.radius (planned_in b.done.closed.setup) (written_bound b)
+unfolding report_of
+bound_written right b h = (
+  report_of b.done.closed b.done.settlement,
+  right b.done.closed b.done.settlement h.ended.row h.ended.settled,
+  record { first = b.certified.first; last = b.certified.last },
+  b.certified.bound,
+  h.best,
+  refl,
+)

@@ -10,12 +10,13 @@ use Rattle.hull_report.specs.declared.fault.FileKind.{FileKind}
 use Rattle.hull_report.specs.declared.fault.TopFault.{TopFault}
 use Rattle.hull_report.specs.declared.fault.TopFault.TheVariants.{Memory}
 use Rattle.hull_engine.specs.declared.answers.Answer.{Answer}
-use Rattle.hull_engine.specs.declared.answers.Answer.TheVariants.{Check, Price, Try}
+use Rattle.hull_engine.specs.declared.answers.Answer.TheVariants.{Check, Price, Try, Bound}
 use Rattle.hull_engine.specs.declared.end.End.{End}
 use Rattle.hull_engine.specs.declared.end.End.TheVariants.{Done, Cut, Refused}
 use Rattle.hull_engine.specs.Steps.{Reads, PlannedCase}
-use Rattle.hull_engine.specs.Outcome.{Command, IsReportText, IsReadOf, AreReads}
+use Rattle.hull_engine.specs.Outcome.{Command, IsReportText, IsBoundText, IsReadOf, AreReads}
 use Rattle.hull_engine.specs.Rounds.{IsEnded}
+use Rattle.hull_engine.specs.Bounded.{IsBounded}
 
 -- ---- a step
 
@@ -61,12 +62,16 @@ abbrev pub IsTextOf : Answer → List ℕ → Type 0
 IsTextOf (Check input) text = text ≡ check_text (market_of input.case) input.cost
 IsTextOf (Price done) text = IsRunText report_text done.closed.setup text
 IsTextOf (Try number done) text = IsRunText (try_text number) done.closed.setup text
+IsTextOf (Bound b) text =
+    IsBoundText b.done.closed.setup.budget b.done.closed.setup.ahead b.radius
+    (planned_in b.done.closed.setup) text
 
 -- a run that is answered has ended
 abbrev pub IsAnswered : Answer → Type 0
 IsAnswered (Check input) = ⊤
 IsAnswered (Price done) = IsEnded done.closed.setup done
 IsAnswered (Try number done) = IsEnded done.closed.setup done
+IsAnswered (Bound b) = IsBounded b.done.closed.setup b.radius b
 
 -- the answer's texts are texts of an accepted input of the command; a fault is one that is due, or
 -- want of memory

@@ -3,8 +3,9 @@ use Rattle.std.specs.Prelude.{◌≡◌, ◌*◌, ◌≤◌}
 use Rattle.uc_model.specs.Data.{unit_count}
 use Rattle.uc_model.specs.PlainCases.{market_of, schedules_of}
 use Rattle.uc_model.specs.Systems.{IsFeasiblePlan, plan_cost}
-use Rattle.hull_words.specs.Asked.{TryAsked}
+use Rattle.hull_words.specs.Asked.{TryAsked, BoundAsked, price_asked}
 use Rattle.hull_words.specs.declared.command.TryWords.{TryWords}
+use Rattle.hull_words.specs.declared.command.BoundWords.{BoundWords}
 use Rattle.hull_engine.specs.declared.input.Input.{Input}
 use Rattle.hull_engine.specs.declared.input.RunInput.{RunInput}
 use Rattle.hull_engine.specs.Steps.{PlannedCase}
@@ -29,3 +30,6 @@ pub record IsRunInput (run : RunInput) : Type 0 where
 abbrev pub try_asked : TryWords → TryAsked
 try_asked w =
     record { number = w.number; proposals = w.proposals; workers = w.workers; ahead = w.ahead }
+
+abbrev pub bound_asked : BoundWords → BoundAsked
+bound_asked w = record { run = price_asked w.run; radius = w.radius }

@@ -2,16 +2,20 @@
 -- hull_run's clause `outcome` holds: `told` is what the shelf tells, `rose` that the count of a
 -- name rose, `gained` that the sink has a text whole, and `short` that it has a front of it and its
 -- count rose.
-use Rattle.std.specs.Prelude.{◌≡◌, ◌≢◌, ◌⊎◌, ℕ, ◌≤◌, ◌==◌, ◌||◌, Bool, ◌+ℤ◌, ◌-ℤ◌, List, Option, None, Some, Result, Ok, Err, IsTrue, IfSome, IsSome}
+use Rattle.std.specs.Prelude.{◌≡◌, ◌≢◌, ◌⊎◌, ℕ, ◌≤◌, ◌==◌, ◌||◌, Bool, ◌+ℤ◌, ◌-ℤ◌, List, Option, None, Some, Result, Ok, Err, IsTrue, IfSome, IsSome, ℤ, ◌-◌, length, slice_get, unsigned_abs}
 use Rattle.uc_model.specs.Data.{Market, Schedule}
+use Rattle.uc_model.specs.PriceRule.{Proposal}
 use Rattle.uc_model.specs.Systems.{IsFeasiblePlan, plan_cost}
 use Rattle.uc_case.specs.CaseFiles.{IsCaseOf}
 use Rattle.uc_plan.specs.PlanFiles.{IsPlanOf}
 use Rattle.hull_io.specs.Edge.{Rose, Gains, FallsShort}
-use Rattle.hull_words.specs.Asked.{Asked, CheckAsked, PriceAsked, check, price, try}
+use Rattle.hull_words.specs.Asked.{Asked, CheckAsked, PriceAsked, BoundAsked, check, price, try, bound}
 use Rattle.hull_words.specs.Words.{words_of, fault}
 use Rattle.hull_words.specs.declared.fault.WordFault.{WordFault}
 use Rattle.hull_words.specs.declared.fault.WordCode.TheVariants.{UnknownCommand}
+use Rattle.gap_proof.specs.Candidates.{RowRange, IsFirstLeast}
+use Rattle.gap_proof.specs.Laws.{IsBoundRound}
+use Rattle.hull_report.specs.BoundText.{bound_text}
 use Rattle.hull_report.specs.FaultLines.{status_of, fault_line}
 use Rattle.hull_report.specs.ReportText.{Report, report_text}
 use Rattle.hull_report.specs.RightReport.{IsRightReport}
@@ -94,6 +98,7 @@ abbrev pub word_fault : Result Asked WordFault → Option WordFault
 word_fault (Ok (check a)) = None
 word_fault (Ok (price a)) = None
 word_fault (Ok (try a)) = None
+word_fault (Ok (bound a)) = None
 word_fault (Ok asked) = Some (fault UnknownCommand 1)
 word_fault (Err f) = Some f
 
@@ -129,6 +134,23 @@ pub record IsPromised (a : PriceAsked) (told : List ℕ → Option (List ℕ))
   pub printed : gained (report_text report)
   pub made_up : report.payments +ℤ report.surplus ≡ plan_cost market plan -ℤ report.value
 
+-- THE PROMISE of `hull bound`, where it answers 0, over an accepted input: what was printed is the
+-- text of a bound round the chosen row of a right report. No whole prices within the radius of that
+-- row's prices, and within the limits, have a dual value above the printed bound, and the printed
+-- distance is at least 0.
+pub record IsBoundPromised (a : BoundAsked) (i : PlannedCase) (gained : List ℕ → Type 0) : Type 0 where
+  pub report : Report
+  pub right : IsRightReport i.market i.plan a.run.proposals a.run.ahead report
+  pub row : Proposal
+  pub chosen : slice_get report.rows (report.chosen - 1) ≡ Some row
+  pub value : report.value ≡ row.value
+  pub range : RowRange
+  pub limit : ℤ
+  pub best : IsFirstLeast i.market report.rows report.chosen a.radius range limit
+  pub holds : IsBoundRound i.market row a.radius limit
+  pub printed : gained (bound_text (length report.rows) report.chosen report.value
+      (unsigned_abs a.radius) range.first range.last limit)
+
 -- ---- the laws, over a shelf and a sink before and after the run
 
 module _ {F S : Type 0} (told : F → List ℕ → Option (List ℕ)) (faults : F → List ℕ → ℕ)
@@ -158,3 +180,9 @@ module _ {F S : Type 0} (told : F → List ℕ → Option (List ℕ)) (faults : 
   abbrev pub ReportsAreRight : Type 0
   ReportsAreRight = OnRuns (λ words told rose gained short n.
       (a : PriceAsked) → words_of words ≡ Ok (price a) → n ≡ 0 → IsPromised a told gained)
+
+  abbrev pub BoundsHold : Type 0
+  BoundsHold = OnRuns (λ words told rose gained short n.
+      (a : BoundAsked) → words_of words ≡ Ok (bound a) → n ≡ 0 →
+      OverReads (command_for (words_of words)) told rose (λ reads. (i : PlannedCase) ×
+      (command_for (words_of words)).IsDue reads (Ok i) × IsBoundPromised a i gained))

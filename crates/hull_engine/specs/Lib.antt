@@ -4,4 +4,5 @@ pub mod Laws
 pub mod Sizes
 pub mod Inputs
 pub mod Rounds
+pub mod Bounded
 pub mod Answers

@@ -3,11 +3,13 @@
 -- payments of a report are those of Gribik, Hogan and Pope 2007). The steps of the commands are in
 -- Steps, the reports in hull_report's RightReport and ReportText, and the lines of faults in its
 -- FaultLines.
-use Rattle.std.specs.Prelude.{◌≡◌, ◌⊎◌, ℕ, List, Option, None, Some, Result, Ok, Err, IfSome}
-use Rattle.hull_words.specs.Asked.{Asked, check, price, try}
+use Rattle.std.specs.Prelude.{◌≡◌, ◌⊎◌, ℕ, ℤ, List, length, unsigned_abs, Option, None, Some, Result, Ok, Err, IfSome}
+use Rattle.gap_proof.specs.Candidates.{RowRange, IsFirstLeast}
+use Rattle.hull_words.specs.Asked.{Asked, check, price, try, bound}
 use Rattle.hull_words.specs.Words.{words_of, fault}
 use Rattle.hull_words.specs.declared.fault.WordFault.{WordFault}
 use Rattle.hull_words.specs.declared.fault.WordCode.TheVariants.{UnknownCommand}
+use Rattle.hull_report.specs.BoundText.{bound_text}
 use Rattle.hull_report.specs.CheckText.{check_text}
 use Rattle.hull_report.specs.FaultLines.{status_of, fault_line}
 use Rattle.hull_report.specs.ReportText.{Report, report_text}
@@ -43,6 +45,14 @@ abbrev pub IsReportText : (Report → List ℕ) → (budget ahead : ℕ) → Pla
 IsReportText text_of budget ahead c text =
     (r : Report) × IsRightReport c.market c.plan budget ahead r × (text ≡ text_of r)
 
+-- the text of the best bound that the rows of a right report give round its chosen row
+abbrev pub IsBoundText : (budget ahead : ℕ) (radius : ℤ) → PlannedCase → List ℕ → Type 0
+IsBoundText budget ahead radius c text =
+    (r : Report) × IsRightReport c.market c.plan budget ahead r
+    × (range : RowRange) × (limit : ℤ) × IsFirstLeast c.market r.rows r.chosen radius range limit
+    × (text ≡ bound_text (length r.rows) r.chosen r.value
+    (unsigned_abs radius) range.first range.last limit)
+
 -- words that are refused at once
 abbrev pub refused : WordFault → Command
 refused f = record {
@@ -71,6 +81,12 @@ command_for (Ok (try a)) = record {
   name_of = no_files;
   IsDue = λ reads. Then (IsMade a.number) (IsWithinWork a.proposals);
   IsText = λ reads. IsReportText (try_text a.number) a.proposals a.ahead;
+}
+-- how much better any other prices within a radius of those that a run chose could be
+command_for (Ok (bound a)) = record {
+  name_of = case_and_schedule a.run.case_name a.run.schedule_name;
+  IsDue = λ reads. Then (IsInput reads) (IsWithinWork a.run.proposals);
+  IsText = λ reads. IsBoundText a.run.proposals a.run.ahead a.radius;
 }
 command_for (Ok asked) = refused (fault UnknownCommand 1)
 command_for (Err f) = refused f

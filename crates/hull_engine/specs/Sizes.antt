@@ -1,6 +1,7 @@
 -- How large a run may be (this project's profile).
 use Rattle.std.specs.Prelude.{ℕ, ◌≤◌, ⊤}
-use Rattle.hull_words.specs.Asked.{Asked, price, try}
+use Rattle.gap_proof.specs.Sums.{IsRadius}
+use Rattle.hull_words.specs.Asked.{Asked, price, try, bound}
 
 -- the number is from low to high
 pub record IsWithin (low high n : ℕ) : Type 0 where
@@ -25,4 +26,5 @@ pub record IsRunSize (budget workers ahead : ℕ) : Type 0 where
 abbrev pub HasSizes : Asked → Type 0
 HasSizes (price a) = IsRunSize a.proposals a.workers a.ahead
 HasSizes (try a) = IsRunSize a.proposals a.workers a.ahead
+HasSizes (bound a) = IsRunSize a.run.proposals a.run.workers a.run.ahead × IsRadius a.radius
 HasSizes asked = ⊤

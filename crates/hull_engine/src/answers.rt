@@ -1,16 +1,18 @@
 //! What a command answers: its files, its input and its run, up to the first refusal.
 ghost use Rattle.std.specs.Prelude.{◌≡◌, ℕ, List, Ok, Err, None, IfOk, IfErr};
+ghost use Rattle.gap_proof.specs.Sums.{IsRadius};
 ghost use Rattle.hull_io.specs.Edge.{Rose};
-ghost use Rattle.hull_words.specs.Asked.{asked, check, price, try, check_asked, price_asked};
+ghost use Rattle.hull_words.specs.Asked.{asked, check, price, try, bound, check_asked, price_asked};
 ghost use Rattle.hull_words.specs.Words.{texts, fault, words_of};
 ghost use Rattle.hull_report.specs.declared.fault.FileKind.{FileKind};
 ghost use Rattle.hull_engine.specs.Steps.{Reads, made_case};
 ghost use Rattle.hull_engine.specs.Outcome.{command_for};
 ghost use Rattle.hull_engine.specs.Answers.{IsFaultOf, IsLaterShelf, HasReads, IsAnswered, IsCommandAnswer};
-ghost use Rattle.hull_engine.specs.Inputs.{planned_of, IsPlanned, IsRunInput, try_asked};
+ghost use Rattle.hull_engine.specs.Inputs.{planned_of, IsPlanned, IsRunInput, try_asked, bound_asked};
 ghost use Rattle.hull_engine.specs.Rounds.{setup_of, IsEnded};
 ghost use Rattle.hull_engine.specs.Sizes.{IsRunSize, HasSizes};
 
+use crate::bound::{Bounded, bounded_run};
 use crate::files::read_input;
 use crate::input::{Input, RunInput, RunSize, within_work};
 use crate::run::{Done, open, run_board};
@@ -18,7 +20,8 @@ use case_make::make_case;
 use hull_io::Shelf;
 use hull_report::TopFault;
 use hull_words::{
-    CheckWords, Command, PriceWords, TryWords, WordCode, WordError, WordFault, read_words,
+    BoundWords, CheckWords, Command, PriceWords, TryWords, WordCode, WordError, WordFault,
+    read_words,
 };
 use plan_check::costs::cost_of_plan;
 use std::alloc::{AllocError, Global};
@@ -32,6 +35,8 @@ pub enum Answer {
     Price(Done),
     /// The sums of a run on the case that a number stands for.
     Try(u64, Done),
+    /// The best bound round the prices that a run chose.
+    Bound(Bounded),
 }
 
 /// The command that the words give.
@@ -113,6 +118,28 @@ fn answer_price<F: Shelf>(
     Ok(Answer::Price(ended_run(alloc, run)?))
 }
 
+/// What `hull bound` answers.
+fn answer_bound<F: Shelf>(
+    alloc: Global,
+    shelf: &mut F,
+    words: &BoundWords,
+) -> Result<Answer, TopFault>
+    requires size { IsRunSize words.now.run.proposals words.now.run.workers words.now.run.ahead }
+    requires radius { IsRadius words.now.radius }
+    ensures answers { HasReads (F.told shelf.old)
+        (λ name. Rose F.last (F.faults shelf.old name) (F.faults shelf.new name))
+        (command_for (Ok (bound (bound_asked words.now)))).name_of
+        (λ reads. IsCommandAnswer (command_for (Ok (bound (bound_asked words.now)))) reads result) }
+    ensures answered { IfOk result (λ answer. IsAnswered answer) }
+    ensures shelf { IsLaterShelf F.told F.faults shelf.old shelf.new }
+{
+    let case_name = words.run.case_name.as_str();
+    let schedule_name = words.run.schedule_name.as_str();
+    let input = read_input(alloc, shelf, case_name, schedule_name)?;
+    let run = within_work(input, price_size(&words.run))?;
+    Ok(Answer::Bound(bounded_run(alloc, run, words.radius)?))
+}
+
 /// The case and the feasible schedule that a number stands for.
 fn made_input(alloc: Global, number: u64) -> Result<Input, AllocError>
     ensures made { IfOk result (λ input. planned_of input ≡ made_case number) }
@@ -180,7 +207,7 @@ fn answer_command<F: Shelf>(
         Command::Check(words) => answer_check(alloc, shelf, words),
         Command::Price(words) => answer_price(alloc, shelf, words),
         Command::Try(words) => answer_try(alloc, words),
-        Command::Bound(_) => Err(not_built()),
+        Command::Bound(words) => answer_bound(alloc, shelf, words),
         Command::Fixed(_) => Err(not_built()),
         Command::Audit(_) => Err(not_built()),
     }

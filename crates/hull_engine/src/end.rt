@@ -9,10 +9,11 @@ ghost use Rattle.hull_engine.specs.Answers.{IsTextOf, IsAnswered, IsEndOf};
 ghost use Rattle.hull_engine.specs.Rounds.{IsEnded};
 
 use crate::answers::Answer;
+use crate::bound::Bounded;
 use crate::run::Done;
 use hull_io::{Sink, WriteFailed};
 use hull_report::laws::{record_report_is_right, settlements_are_of_all_units};
-use hull_report::{TopFault, write_check, write_fault, write_report, write_try};
+use hull_report::{TopFault, write_bound, write_check, write_fault, write_report, write_try};
 
 /// How a run ended.
 #[derive(Clone, Copy)]
@@ -76,6 +77,16 @@ fn write_answer<S: Sink>(answer: Answer, out: &mut S) -> Result<(), WriteFailed>
         }
         Answer::Try(number, done) => {
             let written = write_try(number, &done.closed, &done.settlement, out);
+            let_go(done);
+            written
+        }
+        Answer::Bound(bounded) => {
+            let Bounded {
+                done,
+                radius,
+                certified,
+            } = bounded;
+            let written = write_bound(&done.closed, radius, &certified, out);
             let_go(done);
             written
         }

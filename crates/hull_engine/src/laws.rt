@@ -1,9 +1,10 @@
 //! Laws over runs: each is the contract of a function that answers nothing. They follow from
 //! `IsOutcome`, which `hull_run` ensures of its run.
-ghost use Rattle.hull_engine.specs.Laws.{OneDue, OneText, AcceptedIsFeasible, EachStatusHasItsCause, WhatWasReadDecides, WordsFollow, ReportsAreRight};
+ghost use Rattle.hull_engine.specs.Laws.{OneDue, OneText, AcceptedIsFeasible, EachStatusHasItsCause, WhatWasReadDecides, WordsFollow, ReportsAreRight, BoundsHold};
 
+use gap_proof::laws::run_bounds_hold;
 use hull_io::{Shelf, Sink};
-use hull_report::laws::{one_report_is_right, report_payments_make_up_the_gap};
+use hull_report::laws::{one_report_is_right, one_row_is_chosen, report_payments_make_up_the_gap};
 use uc_case::laws::one_case;
 use uc_plan::laws::one_plan;
 
@@ -53,4 +54,14 @@ pub fn reports_are_right<F: Shelf, S: Sink>()
     ensures { ReportsAreRight F.told F.faults F.last S.held S.faults S.last }
 {
     report_payments_make_up_the_gap();
+}
+
+/// What `hull bound` promises where it answers 0: no whole prices within the radius of the chosen
+/// ones, and within the limits, have a dual value above the printed bound, and the printed distance
+/// is at least 0.
+pub fn bounds_hold<F: Shelf, S: Sink>()
+    ensures { BoundsHold F.told F.faults F.last S.held S.faults S.last }
+{
+    one_row_is_chosen();
+    run_bounds_hold();
 }

@@ -21,3 +21,5 @@ mod ReadReport
 mod RightForm
 mod OneRun
 mod OneReport
+-- bound.rt: the chosen value is told
+mod BoundLaws

@@ -8,7 +8,7 @@ use Rattle.std.specs.Prelude.{FitsSigned}
 use Rattle.board_core.specs.Setups.{IsSetup}
 use Rattle.board_history.specs.Board.{Answer, Content, rules_of, IsLegalHistory}
 use Rattle.board_history.specs.Calls.{own_rows, has_finished}
-use Rattle.board_history.specs.Rounds.{posts, answer_at, closed_front, is_closed}
+use Rattle.board_history.specs.Rounds.{posts, answer_at}
 use Rattle.board_history.specs.Laws.{RowsAreRight, FinishedHasRow, FinishedIsRun}
 use Rattle.uc_model.specs.Runs.{Fits}
 use Rattle.uc_model.specs.declared.cases.Case.{Case}

@@ -5,7 +5,7 @@ use Rattle.std.proofs.lemmas.List.FromFn.{length-map-range_with_len, get_or-map-
 use Rattle.std.specs.List.{AllZip, range_with_len}
 use Rattle.std.proofs.lemmas.List.{length-map}
 use Rattle.uc_model.specs.Data.{AnyUnit, Thermal, Flat, Bid, NamedThermalUnit, NamedRenewableUnit, NamedBidUnit, Market, units, unit_count}
-use Rattle.uc_model.specs.Sums.{int_at, zip_with}
+use Rattle.uc_model.specs.Sums.{int_at}
 use Rattle.hull_report.specs.ReportText.{UnitLine}
 use Rattle.hull_report.specs.RecordReport.{lines_from}
 

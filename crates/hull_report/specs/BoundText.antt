@@ -4,9 +4,11 @@ use Rattle.std.specs.List.{concat}
 use Rattle.uc_model.specs.Limits.{IsFrom}
 use Rattle.hull_report.specs.Numerals.{numeral, signed_numeral}
 
--- a value or a bound, at most 10^24 in magnitude
+-- a value or a bound, at most 10^35 in magnitude: any bound that is certified round a row
 abbrev pub IsTold : ℤ → Type 0
-IsTold x = IsFrom (neg_ℤ (pos 1000000000000000000000000)) (pos 1000000000000000000000000) x
+IsTold x =
+    IsFrom (neg_ℤ (pos 100000000000000000000000000000000000))
+    (pos 100000000000000000000000000000000000) x
 
 -- how many proposals there are, the chosen one and its value, the radius round its prices, the
 -- rows whose mean gives the bound, the bound, and how far it is above the value

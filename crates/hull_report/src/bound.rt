@@ -1,9 +1,15 @@
 //! The text of `hull bound`.
-ghost use Rattle.std.specs.Prelude.{◌≡◌, ◌-ℤ◌};
+ghost use Rattle.std.specs.Prelude.{◌≡◌, ◌-ℤ◌, true, length, unsigned_abs};
+ghost use Rattle.board_history.specs.Calls.{own_rows, has_finished};
 ghost use Rattle.hull_io.specs.Edge.{Writes};
 ghost use Rattle.hull_report.specs.BoundText.{bound_text, IsTold};
+ghost use Rattle.hull_report.specs.RecordReport.{chosen_of, value_of};
 
 use crate::parts::{Part, write_parts};
+use crate::record::choice_of;
+use board_core::Closed;
+use board_history::laws::rows_are_within;
+use gap_proof::Certified;
 use hull_io::{Sink, WriteFailed};
 
 /// What the text tells: how many proposals there are, the number of the chosen one and its dual
@@ -15,7 +21,7 @@ pub struct BoundLines {
     pub proposals: u32,
     pub chosen: u32,
     pub value: i128,
-    pub radius: u32,
+    pub radius: u64,
     pub first: u32,
     pub last: u32,
     pub bound: i128,
@@ -30,7 +36,7 @@ fn distance(lines: &BoundLines) -> i128
     lines.bound - lines.value
 }
 
-/// Writes the lines of `hull bound`. The value and the bound are at most 10^24 in magnitude.
+/// Writes the lines of `hull bound`. The value and the bound are at most 10^35 in magnitude.
 /// Refused only where the sink's count of faults rose, and then the sink gained a front of the text.
 #[tactic(auto, unfolding(crate::specs::BoundText::bound_text))]
 pub fn write_bound_lines<S: Sink>(lines: &BoundLines, out: &mut S) -> Result<(), WriteFailed>
@@ -51,7 +57,7 @@ pub fn write_bound_lines<S: Sink>(lines: &BoundLines, out: &mut S) -> Result<(),
             Part::Text(b" value "),
             Part::Amount(lines.value),
             Part::Text(b"\nradius "),
-            Part::Count(lines.radius as u64),
+            Part::Count(lines.radius),
             Part::Text(b"\ncertificate first "),
             Part::Count(lines.first as u64),
             Part::Text(b" last "),
@@ -63,4 +69,35 @@ pub fn write_bound_lines<S: Sink>(lines: &BoundLines, out: &mut S) -> Result<(),
             Part::Text(b"\nend\n"),
         ],
     )
+}
+
+/// Writes the lines of `hull bound` for a finished record: what it chose, and what was certified of
+/// all prices within the radius of the chosen ones, in money for a kilowatt and period. The bound
+/// is at most 10^35 in magnitude. Refused only where the sink's count of faults rose, and then the
+/// sink gained a front of the text.
+pub fn write_bound<S: Sink>(
+    closed: &Closed,
+    radius: i64,
+    certified: &Certified,
+    out: &mut S,
+) -> Result<(), WriteFailed>
+    requires finished { has_finished closed.now ≡ true }
+    requires bound { IsTold certified.now.bound }
+    ensures { Writes S.held S.faults S.last out.old out.new result
+        (bound_text (length (own_rows closed.now)) (chosen_of closed.now) (value_of closed.now)
+        (unsigned_abs radius) certified.now.first certified.now.last certified.now.bound) }
+{
+    closed.is_legal();
+    rows_are_within();
+    let choice = choice_of(closed);
+    let lines = BoundLines {
+        proposals: choice.proposals,
+        chosen: choice.chosen,
+        value: choice.value,
+        radius: radius.unsigned_abs(),
+        first: certified.first,
+        last: certified.last,
+        bound: certified.bound,
+    };
+    write_bound_lines(&lines, out)
 }

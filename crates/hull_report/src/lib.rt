@@ -10,7 +10,7 @@ mod pieces;
 mod record;
 pub mod report;
 
-pub use bound::{BoundLines, write_bound_lines};
+pub use bound::{BoundLines, write_bound, write_bound_lines};
 pub use check::write_check;
 pub use fault::{FileKind, TopFault, write_fault};
 pub use parts::{Part, write_parts};

@@ -22,15 +22,15 @@ use uplift_settle::Settlement;
 
 // How many rows there are, the number from 1 of the chosen one, its value, and what the plan costs above it.
 #[derive(Clone, Copy)]
-struct Choice {
-    proposals: u32,
-    chosen: u32,
-    value: i128,
-    gap: i128,
+pub(crate) struct Choice {
+    pub(crate) proposals: u32,
+    pub(crate) chosen: u32,
+    pub(crate) value: i128,
+    pub(crate) gap: i128,
 }
 
 // What the record of a finished board chooses.
-fn choice_of(closed: &Closed) -> Choice
+pub(crate) fn choice_of(closed: &Closed) -> Choice
     requires { has_finished closed.now ≡ true }
     ensures proposals { result.proposals ≡ length (own_rows closed.now) }
     ensures most { result.proposals ≤ 10000 }

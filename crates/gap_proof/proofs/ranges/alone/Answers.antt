@@ -45,7 +45,7 @@ returns c =
     let q = c.ranges.radius in
     let f : FitsSigned w128 c.bound_by-bound.result = search rules in
     let sums = c.sums_of-sums.ensures.sums in
-    let e = simp to_z-of_z at c.bound_by-bound.ensures in
+    let e = simp to_z-of_z at c.bound_by-bound.ensures.value in
     let is = bound_is m (pos 1 ∷ []) (r ∷ []) c.sums_of-sums.result.height c.sums_of-sums.result.weight c.sums_of-sums.new.slopes.items sums r.prices c.args.radius in
     let one = one_bound m rows r.prices c.args.radius c.args.number r c.requires.from_one c.row_at-row.ensures in
     let prices = row_prices rows c.args.number r c.row_at-row.ensures in
@@ -55,6 +55,7 @@ returns c =
       first = refl;
       last = refl;
       bound = simp to_z-of_z bound;
+      most = simp to_z-of_z c.bound_by-bound.ensures.most;
       work = sums.same_length ∙ sym wide;
       spare = c.sums_of-sums.ensures.spare;
     }

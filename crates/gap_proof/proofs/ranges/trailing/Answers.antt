@@ -45,7 +45,7 @@ loop-place-init c =
     let mapped = length-map c.args.rows.now proposal_of in
     let some = c.requires.some in
     let first = back_first m rows n (proposal_of c.row_at.result.now) c.sums_of-sums.result.height c.sums_of-sums.result.weight c.sums_of-sums.new.slopes.items some (sym mapped) c.row_at.ensures c.sums_of-sums.ensures.sums in
-    let e = simp to_z-of_z at c.bound_by.ensures in
+    let e = simp to_z-of_z at c.bound_by.ensures.value in
     let value = back_value m rows n (n - 1) c.sums_of-sums.result.height c.sums_of-sums.result.weight c.sums_of-sums.new.slopes.items (sym mapped) (omega arith) first π c.args.radius in
     let back : (length c.args.rows.now - 1) + 1 ≡ length c.args.rows.now = omega (arith, some) in
     let least = least_one (back_bounds m rows π c.args.radius n) (n - 1) n c.bound_by.result (sym back) (e ∙ value ∙ ap (back_bounds m rows π c.args.radius n) back) in
@@ -117,7 +117,7 @@ loop-place-preserved c =
     let next = back_more m rows n i c.loop-place.sums.height c.loop-place.sums.weight c.loop-place.work.items (sym mapped) (omega (arith, end)) c.loop-place.invariant.sums
     (proposal_of c.row_at-in-loop-place.result.now) c.add_row-sums.result.height c.add_row-sums.result.weight c.add_row-sums.new.slopes.items low c.row_at-in-loop-place.ensures c.args.case.now.valid row.row
     c.add_row-sums.ensures.height c.add_row-sums.ensures.step c.add_row-sums.ensures.weight c.add_row-sums.ensures.length c.add_row-sums.ensures.slopes in
-    let e = simp to_z-of_z at c.bound_by-bound.ensures in
+    let e = simp to_z-of_z at c.bound_by-bound.ensures.value in
     let value = back_value m rows n (i - 1) c.add_row-sums.result.height c.add_row-sums.result.weight c.add_row-sums.new.slopes.items (sym mapped) (omega (arith, end)) next π c.args.radius in
     let taken = simp to_z-of_z at c.better-best.ensures.taken in
     let kept = simp to_z-of_z at c.better-best.ensures.kept in

@@ -22,12 +22,14 @@ returns-in-Try-clause-answers g c =
     rw c.in-Try.is (reads, λ file. tt, c.answer_try.ensures.answers reads)
 
 pub returns-in-Bound-clause-answers : goal.returns-in-Bound-clause-answers
-returns-in-Bound-clause-answers g c =
-    rw (c.not_built.ensures, c.in-Bound.is) (any_reads (g.F.Shelf.told c.args.shelf.now) no_files, λ file. tt, inl refl)
+returns-in-Bound-clause-answers g c = rw c.in-Bound.is c.answer_bound.ensures.answers
+
+pub returns-in-Bound-clause-unread : goal.returns-in-Bound-clause-unread
+returns-in-Bound-clause-unread g c = rw c.in-Bound.is (λ none. absurd (named _ (none CaseFile)))
 
 pub returns-in-Fixed-clause-answers : goal.returns-in-Fixed-clause-answers
 returns-in-Fixed-clause-answers g c =
-    rw (c.not_built-in-Fixed.ensures, c.in-Fixed.is) (any_reads (g.F.Shelf.told c.args.shelf.now) no_files, λ file. tt, inl refl)
+    rw (c.not_built.ensures, c.in-Fixed.is) (any_reads (g.F.Shelf.told c.args.shelf.now) no_files, λ file. tt, inl refl)
 
 pub returns-in-Audit-clause-answers : goal.returns-in-Audit-clause-answers
 returns-in-Audit-clause-answers g c =

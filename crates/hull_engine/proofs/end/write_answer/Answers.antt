@@ -1,7 +1,10 @@
+use Rattle.std.proofs.Common.{rules}
+use Rattle.std.specs.Int.{w64}
+use Rattle.std.proofs.lemmas.Int.{to_z-of_z}
 use Rattle.hull_report.specs.RecordReport.{report_of}
 use Rattle.hull_report.specs.ReportText.{report_text}
 use Rattle.hull_report.specs.TryText.{try_text}
-use Rattle.hull_engine.proofs.WriteLaws.{run_text}
+use Rattle.hull_engine.proofs.WriteLaws.{run_text, written_bound, bound_written}
 use Rattle.hull_engine.proofs.end.write_answer.Goals as goal
 
 pub returns-in-Price : goal.returns-in-Price
@@ -15,3 +18,12 @@ returns-in-Try g c =
     let done = c.in-Try.done in
     let right = run_text c.record_report_is_right.ensures (try_text c.in-Try.number) done (rw c.in-Try.is at c.requires) in
     rw c.in-Try.is (try_text c.in-Try.number (report_of done.closed done.settlement), right, c.write_try-written.ensures)
+
+pub returns-in-Bound : goal.returns-in-Bound
+returns-in-Bound g c =
+    let right = bound_written c.record_report_is_right.ensures c.in-Bound.bounded (rw c.in-Bound.is at c.requires) in
+    rw c.in-Bound.is (
+      written_bound c.in-Bound.bounded,
+      right,
+      rw (to_z-of_z w64 c.in-Bound.bounded.radius (search rules)) at c.write_bound-written.ensures,
+    )
