@@ -1,20 +1,42 @@
+-- one more round keeps what rounds are
 pub mod Advances
-pub mod Claims
-pub mod Costs
-pub mod Entries
-pub mod Flat
-pub mod FlatLists
-pub mod Fronts
-pub mod Halts
-pub mod LedgerSteps
-pub mod Opened
-pub mod PostEvents
-pub mod PostLists
-pub mod PostRounds
-pub mod PostSums
-pub mod Refused
-pub mod Rows
+-- lists and units that were compared part by part
 pub mod AsOne
+-- the first greatest of the closed proposals, where one proposal is changed
+pub mod Bests
+-- what a claim answers, and that the lists go on with it
+pub mod Claims
+-- what a feasible plan costs is far from the limits of 128 bits
+pub mod Costs
+-- entries and events, with one more of each
+pub mod Entries
+-- lists of one length, one after another in one list
+pub mod Flat
+-- the flat list of a task isn't long, and a walk along two of them finds where they differ
+pub mod FlatLists
+-- how many proposals are closed and how many are open, and the answers of those that are closed
+pub mod Fronts
+-- a caller's first halt
+pub mod Halts
+-- what closing and opening a proposal leaves of a ledger
+pub mod LedgerSteps
+-- the ledger with the opening proposals
+pub mod Opened
+-- the events of a board whose store has one more answer
+pub mod PostEvents
+-- the lists of a board with one more post
+pub mod PostLists
+-- the rounds of a board with one more post
+pub mod PostRounds
+-- the totals of a ledger with one more answer
+pub mod PostSums
+-- why a post is refused, and what holds where it isn't
+pub mod Refused
+-- rows as proposals, one of them written
+pub mod Rows
+-- a board without events
 pub mod Starts
+-- what holds of a post that isn't refused
 pub mod Takes
+-- units of a case by their places
 pub mod UnitPlaces

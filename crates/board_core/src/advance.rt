@@ -4,7 +4,8 @@ ghost use Rattle.std.specs.List.{All};
 ghost use Rattle.board_history.specs.Board.{rules_of};
 ghost use Rattle.board_history.specs.Bounds.{IsSum};
 ghost use Rattle.board_history.specs.Rounds.{rows_by};
-ghost use Rattle.price_move.specs.Moves.{is_last_settled};
+ghost use Rattle.price_move.specs.Firsts.{IsFirstUpTo};
+ghost use Rattle.price_move.specs.Moves.{is_last_settled, values_of};
 ghost use Rattle.price_move.specs.Sizes.{IsRowBelow};
 ghost use Rattle.uc_model.specs.Data.{unit_count};
 ghost use Rattle.uc_model.specs.PlainCases.{proposal_of};
@@ -18,14 +19,14 @@ ghost use Rattle.board_core.specs.Setups.{IsSetup, setup_of};
 use crate::ledger::Ledger;
 use crate::terms::Terms;
 use dual_value::dual_value;
-use price_move::{Moved, next_prices};
+use price_move::{Moved, next_prices_from};
 use uc_model::cases::Row;
 use uc_model::units::Prices;
 
-// Whether prices follow these rows; then they are left in `into`.
-fn propose(terms: &Terms, rows: &[Row], into: &mut Prices) -> bool
+// Whether prices follow these rows, of which the first with the greatest value is at `best`; then they are left in `into`.
+fn propose(terms: &Terms, rows: &[Row], best: usize, into: &mut Prices) -> bool
     requires setup { IsSetup (setup_of terms.now) }
-    requires some { 1 ≤ length rows.now }
+    requires best { IsFirstUpTo (values_of (map proposal_of rows.now)) (length rows.now) best }
     requires count { length rows.now ≤ 10000 }
     requires rows { All (IsRowBelow (setup_of terms.now).market (setup_of terms.now).cost) (map proposal_of rows.now) }
     requires horizon { length (prices_of into.old).energy ≡ (setup_of terms.now).market.periods }
@@ -33,7 +34,7 @@ fn propose(terms: &Terms, rows: &[Row], into: &mut Prices) -> bool
     ensures prices { result ≡ true → prices_of into.new ≡ prices_after (setup_of terms.now).market (setup_of terms.now).cost (map proposal_of rows.now) }
     ensures horizon { length (prices_of into.new).energy ≡ (setup_of terms.now).market.periods }
 {
-    let moved = next_prices(&terms.case, rows, terms.ahead, terms.cost, into);
+    let moved = next_prices_from(&terms.case, rows, best, terms.cost, into);
     moved == Moved::Made
 }
 
@@ -65,7 +66,7 @@ fn open_next(terms: &Terms, ledger: &mut Ledger, next: &mut Prices)
     if !is_due(terms, ledger) {
         return;
     }
-    if !propose(terms, ledger.rows(), next) {
+    if !propose(terms, ledger.rows(), ledger.best(), next) {
         return;
     }
     ledger.open(next);

@@ -2,6 +2,8 @@
 ghost use Rattle.std.specs.Prelude.{◌≡◌, ℕ, suc, pos, neg_ℤ, ◌+ℤ◌, ◌+◌, ◌<◌, ◌≤◌, length, map, take, replicate, IfOk, slice_index_or, slice_set};
 ghost use Rattle.std.specs.List.{All};
 ghost use Rattle.dual_value.specs.Totals.{IsTotal};
+ghost use Rattle.price_move.specs.Firsts.{IsFirstUpTo};
+ghost use Rattle.price_move.specs.Moves.{values_of};
 ghost use Rattle.uc_model.specs.Limits.{IsFrom};
 ghost use Rattle.uc_model.specs.PlainCases.{proposal_of, task_unit};
 ghost use Rattle.uc_model.specs.PlainUnits.{prices_of, schedule_of};
@@ -12,6 +14,7 @@ ghost use Rattle.board_core.specs.Ledgers.{blank, with_prices, with_value, with_
 
 use crate::tasks::copy_prices;
 use dual_value::{add_response, take_bid};
+use price_move::greatest_with;
 use std::alloc::{AllocError, Global};
 use std::marker::Model;
 use uc_model::cases::{Row, Task};
@@ -26,16 +29,22 @@ pub struct Ledger {
     earned: Vec<i128>,
     closed: usize,
     opened: usize,
+    // the place of the first of the closed ones with the greatest value, where some are
+    best: usize,
 }
 
 impl Model for Ledger {
-    ghost use Rattle.std.specs.Prelude.{map};
+    ghost use Rattle.std.specs.Prelude.{map, ◌<◌};
+    ghost use Rattle.price_move.specs.Firsts.{IsFirstUpTo};
+    ghost use Rattle.price_move.specs.Moves.{values_of};
     ghost use Rattle.uc_model.specs.PlainCases.{proposal_of};
     ghost use Rattle.board_core.specs.Ledgers.{LedgerValue};
 
     ghost Value = { LedgerValue };
 
     ghost view = { λ l. record { proposals = map proposal_of l.proposals.items; earned = l.earned.items; closed = l.closed; opened = l.opened } };
+
+    ghost invariant = { λ l. 0 < l.closed → IsFirstUpTo (values_of (map proposal_of l.proposals.items)) l.closed l.best };
 }
 
 fn blank_row(alloc: Global, periods: u32) -> Result<Row, AllocError>
@@ -125,6 +134,7 @@ impl Ledger {
             earned,
             closed: 0,
             opened: 0,
+            best: 0,
         })
     }
 
@@ -148,6 +158,15 @@ impl Ledger {
         ensures { map proposal_of result.now ≡ take self.now.closed self.now.proposals }
     {
         &self.proposals[..self.closed]
+    }
+
+    /// The place of the first closed proposal with the greatest value.
+    pub fn best(&self) -> usize
+        requires some { 1 ≤ self.now.closed }
+        requires within { self.now.closed ≤ length self.now.proposals }
+        ensures { IsFirstUpTo (values_of (take self.now.closed self.now.proposals)) self.now.closed result }
+    {
+        self.best
     }
 
     /// The prices of the proposal at a place, which counts from 0.
@@ -188,6 +207,7 @@ impl Ledger {
         ensures opened { self.new.opened ≡ self.old.opened }
     {
         set_value(&mut self.proposals[self.closed], value);
+        self.best = greatest_with(&self.proposals, self.closed, self.best);
         self.closed += 1;
     }
 

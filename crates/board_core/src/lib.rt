@@ -8,7 +8,6 @@
 
 mod advance;
 mod board;
-mod chosen;
 mod ledger;
 mod posts;
 mod replies;

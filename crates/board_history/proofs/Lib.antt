@@ -1,18 +1,42 @@
+-- in a legal history each answer fits the prices of its proposal
 pub mod Answered
+-- what each answer of a claim says
 pub mod ClaimWords
+-- tests over ranges, and how far from the front on a test passes
 pub mod Fronts
+-- who holds and who posted a task in a legal history, and what a claim that is given tells
 pub mod Held
+-- what is read off posts stays where posts are added: rows, prices, and what is open
 pub mod Kept
+-- the machine's calls and the legal next events are one: what a call appends is legal, and each legal event is what a
+-- call appends
 pub mod Machine
+-- the first task that isn't held
 pub mod NextTask
+-- rounds of one caller: between two rounds a claim is given or the board has finished, and the answer of a task that
+-- was given is taken
 pub mod OneCaller
+-- what one more row opens
 pub mod Opens
+-- the board's own tasks: prices and units over the horizon, and what a post whose task nowhere differs from the
+-- board's own tells
 pub mod OwnTasks
+-- how large the totals, the earnings and the value of a proposal can be, whether all of its answers are there or not;
+-- and that no row's value is above the cost of a feasible plan
 pub mod RowBounds
+-- the rows of a legal history are right, and where it is finished they are the whole run
 pub mod RowLaws
+-- the flat list of a task tells where it ends, so two that nowhere differ as far as both go are one
 pub mod SameTask
+-- a finished history stays finished, and halts change nothing
 pub mod Stays
+-- how many events a legal history has: a task is claimed at most once and posted at most once, and a caller halts at
+-- most once
 pub mod Tallies
+-- running totals: one more answer adds what it gives and earns to the totals of its proposal, since the missing
+-- answer gives and earns nothing. So totals that run while answers come in are those of the row at its closing
 pub mod Totals
+-- how large the earnings of one unit's feasible schedule can be, and what a schedule that is missing gives
 pub mod UnitBounds
+-- the numbers of a board of rounds in words: which proposals are open for work, and when all of them are closed
 pub mod Words

@@ -1,14 +1,16 @@
 -- The first greatest of a list of numbers.
-use Rattle.std.proofs.Common.{◌≡◌, ℕ, zero, suc, ◌+◌, ◌<◌, Bool, true, false, ◌&&◌, cond, if◌then◌else◌, nat_lt, int_le, int_lt, ℤ, pos, ◌≤ℤ◌, ◌<ℤ◌, Some, None, List, [], ◌∷◌, map, length, get_or, refl, ap, sym, ◌∙◌, subst, arith, below_more}
+use Rattle.std.proofs.Common.{◌≡◌, ℕ, zero, suc, ◌+◌, ◌<◌, Bool, true, false, ◌&&◌, cond, if◌then◌else◌, nat_lt, int_le, int_lt, ℤ, pos, ◌≤ℤ◌, ◌<ℤ◌, Some, None, Option, unwrap_or, List, [], ◌∷◌, map, length, get_or, refl, ap, sym, ◌∙◌, subst, arith, below_more}
 use Rattle.std.proofs.lemmas.Int.{ints, by_lt_z}
 use Rattle.std.proofs.lemmas.List.{length-map}
 use Rattle.std.proofs.lemmas.List.Sums.{position_or_len_is}
 use Rattle.std.proofs.lemmas.Bool.Decides.{nat_tests}
 use Rattle.std.specs.List.{list_all, position_or_len}
+use Rattle.std.specs.Option.{option_map}
 use Rattle.uc_model.specs.declared.cases.Row.{Row}
 use Rattle.uc_model.specs.PlainCases.{proposal_of}
-use Rattle.uc_model.specs.PriceRule.{Proposal, first_greatest}
+use Rattle.uc_model.specs.PriceRule.{Proposal, first_greatest, chosen_number}
 use Rattle.uc_model.specs.Sums.{int_at}
+use Rattle.price_move.specs.Firsts.{IsFirstUpTo}
 use Rattle.price_move.specs.Moves.{values_of}
 
 pub value_at : (rows : List Row) (i : ℕ) (r : Row) → i < length rows → int_at (values_of (map proposal_of rows)) i ≡ (get_or rows i r).value
@@ -26,12 +28,6 @@ picks values best later a b t e f g =
 
 pub length_values : (rows : List Row) → length (values_of (map proposal_of rows)) ≡ length rows
 length_values rows = length-map (map proposal_of rows) (λ (r : Proposal). r.value) ∙ length-map rows proposal_of
-
--- among the first i values the one at best is the greatest, and those before it are smaller
-pub record IsFirstUpTo (values : List ℤ) (i best : ℕ) : Type 0 where
-  pub within : best < i
-  pub greatest : (k : ℕ) → k < i → int_at values k ≤ℤ int_at values best
-  pub first : (k : ℕ) → k < best → int_at values k <ℤ int_at values best
 
 pub first_one : (values : List ℤ) → IsFirstUpTo values 1 0
 first_one values = record {
@@ -109,3 +105,10 @@ first_is values i best all_ h =
     (position_or_len_is (is_top values) values best (pos 0) (omega (arith, within, all_))
     (λ k l. one_false (λ (w : ℤ). int_le w (get_or values k (pos 0))) values best (omega (arith, within, all_)) (le_false (int_at values best) (int_at values k) (h.first k l)))
     (λ l. all_true (λ (w : ℤ). int_le w (get_or values best (pos 0))) values (λ k m. le_true (int_at values k) (int_at values best) (h.greatest k (omega (arith, m, all_))))))
+
+-- the number that counts from 1
+numbered : (o : Option ℕ) (k : ℕ) → o ≡ Some k → unwrap_or (option_map (λ j. suc j) o) 0 ≡ k + 1
+numbered o k e = ap (λ x. unwrap_or (option_map (λ j. suc j) x) 0) e ∙ omega arith
+
+pub number_is : (rows : List Row) (best : ℕ) → IsFirstUpTo (values_of (map proposal_of rows)) (length rows) best → chosen_number (map proposal_of rows) ≡ best + 1
+number_is rows best h = numbered (first_greatest (values_of (map proposal_of rows))) best (first_is (values_of (map proposal_of rows)) (length rows) best (sym (length_values rows)) h)

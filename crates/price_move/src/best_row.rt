@@ -3,6 +3,7 @@ ghost use Rattle.std.specs.Prelude.{◌≡◌, ◌<◌, ◌+◌, int_lt, if◌th
 ghost use Rattle.uc_model.specs.PlainCases.{proposal_of};
 ghost use Rattle.uc_model.specs.PriceRule.{first_greatest, chosen_number};
 ghost use Rattle.uc_model.specs.Sums.{int_at};
+ghost use Rattle.price_move.specs.Firsts.{IsFirstUpTo};
 ghost use Rattle.price_move.specs.Moves.{values_of};
 
 use uc_model::cases::Row;
@@ -23,6 +24,7 @@ fn better_of(rows: &[Row], best: usize, later: usize) -> usize
 pub fn greatest(rows: &[Row]) -> usize
     requires { 0 < length rows.now }
     ensures place { result < length rows.now }
+    ensures up_to { IsFirstUpTo (values_of (map proposal_of rows.now)) (length rows.now) result }
     ensures first { first_greatest (values_of (map proposal_of rows.now)) ≡ Some result }
     ensures number { chosen_number (map proposal_of rows.now) ≡ result + 1 }
 {
@@ -31,4 +33,17 @@ pub fn greatest(rows: &[Row]) -> usize
         best = better_of(rows, best, i);
     }
     best
+}
+
+/// The place of the first row with the greatest value among those up to and with `last`, where `best` is that place among
+/// those before it, if there are some.
+pub fn greatest_with(rows: &[Row], last: usize, best: usize) -> usize
+    requires last { last < length rows.now }
+    requires best { 0 < last → IsFirstUpTo (values_of (map proposal_of rows.now)) last best }
+    ensures { IsFirstUpTo (values_of (map proposal_of rows.now)) (last + 1) result }
+{
+    if last == 0 {
+        return 0;
+    }
+    better_of(rows, best, last)
 }

@@ -11,9 +11,9 @@ mod entries;
 mod next;
 mod step;
 
-pub use best_row::greatest;
+pub use best_row::{greatest, greatest_with};
 pub use entries::direction;
-pub use next::{Moved, next_prices};
+pub use next::{Moved, next_prices, next_prices_from};
 
 #[cfg(test)]
 mod tests;

@@ -7,7 +7,8 @@ ghost use Rattle.uc_model.specs.Limits.{IsFrom, IsWorth};
 ghost use Rattle.uc_model.specs.PlainCases.{market_of, proposal_of};
 ghost use Rattle.uc_model.specs.PlainUnits.{prices_of};
 ghost use Rattle.uc_model.specs.PriceRule.{age, next_prices as prices_after};
-ghost use Rattle.price_move.specs.Moves.{is_last_settled};
+ghost use Rattle.price_move.specs.Firsts.{IsFirstUpTo};
+ghost use Rattle.price_move.specs.Moves.{is_last_settled, values_of};
 ghost use Rattle.price_move.specs.Sizes.{IsRowBelow};
 
 use crate::best_row::greatest;
@@ -25,12 +26,12 @@ pub enum Moved {
     Settled,
 }
 
-// How many rows have come since the first with the greatest value.
-fn age_of(rows: &[Row]) -> usize
-    requires { 0 < length rows.now }
+// How many rows have come since the first with the greatest value, whose place is `best`.
+fn age_of(rows: &[Row], best: usize) -> usize
+    requires { IsFirstUpTo (values_of (map proposal_of rows.now)) (length rows.now) best }
     ensures { result ≡ age (map proposal_of rows.now) }
 {
-    rows.len() - 1 - greatest(rows)
+    rows.len() - 1 - best
 }
 
 // What a row's value lacks of the cost of the plan.
@@ -75,13 +76,33 @@ pub fn next_prices(case: &Case, rows: &[Row], ahead: u32, cost: i128, into: &mut
     ensures made { result ≡ Moved.Made → prices_of into.new ≡ prices_after (market_of case.now) cost (map proposal_of rows.now) }
     ensures unchanged { result ≡ Moved.Settled → prices_of into.new ≡ prices_of into.old }
 {
+    next_prices_from(case, rows, greatest(rows), cost, into)
+}
+
+/// The same in time that doesn't grow with the rows, where `best` is the place of the first row with the greatest value.
+pub fn next_prices_from(
+    case: &Case,
+    rows: &[Row],
+    best: usize,
+    cost: i128,
+    into: &mut Prices,
+) -> Moved
+    requires best { IsFirstUpTo (values_of (map proposal_of rows.now)) (length rows.now) best }
+    requires count { length rows.now ≤ MOST_PROPOSALS }
+    requires rows { All (IsRowBelow (market_of case.now) cost) (map proposal_of rows.now) }
+    requires cost { IsWorth cost }
+    requires horizon { length (prices_of into.old).energy ≡ (market_of case.now).periods }
+    ensures settled { (result ≡ Moved.Settled) ↔ IsTrue (is_last_settled (market_of case.now) cost (map proposal_of rows.now)) }
+    ensures made { result ≡ Moved.Made → prices_of into.new ≡ prices_after (market_of case.now) cost (map proposal_of rows.now) }
+    ensures unchanged { result ≡ Moved.Settled → prices_of into.new ≡ prices_of into.old }
+{
     let row = last(rows);
     let gap = gap_of(case, row, cost);
     let norm = norm_of(case, row);
     if is_still(gap, norm) {
         return Moved::Settled;
     }
-    let scale = scale_of(norm, age_of(rows));
+    let scale = scale_of(norm, age_of(rows, best));
     let step = Step { gap, scale };
     take_step(case, row, step, Side::Energy, &mut into.energy);
     take_step(case, row, step, Side::Reserve, &mut into.reserve);

@@ -12,8 +12,8 @@ ghost use Rattle.board_core.specs.Setups.{IsSetup};
 ghost use Rattle.board_core.specs.Stored.{answer_of};
 
 use super::Board;
-use crate::chosen::greatest;
 use board_history::entries::Entry;
+use price_move::greatest;
 use std::marker::Model;
 use uc_model::cases::{Case, Plan, Row};
 use uc_model::units::Answered;

@@ -1,6 +1,9 @@
-use Rattle.std.proofs.Common.{◌≡◌, ◌≤◌, List, true, get_or, sym, ap, ◌∙◌, arith}
+use Rattle.std.proofs.Common.{◌≡◌, ◌≤◌, ℕ, List, true, get_or, length, map, take, sym, ap, subst, ◌∙◌, arith}
+use Rattle.std.proofs.lemmas.List.{length-map, length-take}
 use Rattle.std.specs.Prelude.{not}
-use Rattle.price_move.specs.Moves.{is_last_settled}
+use Rattle.price_move.specs.Firsts.{IsFirstUpTo}
+use Rattle.price_move.specs.Moves.{is_last_settled, values_of}
+use Rattle.uc_model.specs.PlainCases.{proposal_of}
 use Rattle.uc_model.specs.PlainUnits.{prices_of}
 use Rattle.uc_model.specs.PriceRule.{Proposal, next_prices}
 use Rattle.board_core.specs.Ledgers.{blank, with_prices}
@@ -9,6 +12,16 @@ use Rattle.board_core.specs.Rounds.{is_due}
 use Rattle.board_core.specs.Setups.{setup_of}
 use Rattle.board_core.proofs.LedgerSteps.{IsWritten, due_says, opens_it, with_one, opened_fronts, opened_sums, opened_ledger}
 use Rattle.board_core.proofs.advance.open_next.Goals as goal
+
+pub propose-requires-clause-best : goal.propose-requires-clause-best
+propose-requires-clause-best c =
+    let l = c.args.ledger.now in
+    let within = c.requires.ledger.closed in
+    let counted = c.requires.ledger.count in
+    let taken : length (map proposal_of c.rows.result.now) ≡ length (take l.closed l.proposals) = ap (λ (ps : List Proposal). length ps) c.rows.ensures in
+    let rows : length c.rows.result.now ≡ l.closed = omega (arith, taken, length-map c.rows.result.now proposal_of, length-take l.closed l.proposals, within, counted) in
+    subst (λ (ps : List Proposal). IsFirstUpTo (values_of ps) (length c.rows.result.now) c.best.result) (sym c.rows.ensures)
+    (subst (λ (n : ℕ). IsFirstUpTo (values_of (take l.closed l.proposals)) n c.best.result) (sym rows) c.best.ensures)
 
 pub returns-clause-fronts : goal.returns-clause-fronts
 returns-clause-fronts c =

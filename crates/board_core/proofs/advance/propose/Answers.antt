@@ -10,15 +10,15 @@ use Rattle.board_core.proofs.Advances.{moved_over}
 use Rattle.board_core.proofs.Costs.{cost_worth}
 use Rattle.board_core.proofs.advance.propose.Goals as goal
 
-pub next_prices-moved-requires-clause-cost : goal.next_prices-moved-requires-clause-cost
-next_prices-moved-requires-clause-cost c =
+pub next_prices_from-moved-requires-clause-cost : goal.next_prices_from-moved-requires-clause-cost
+next_prices_from-moved-requires-clause-cost c =
     let f : FitsSigned w128 c.args.terms.now.cost = search rules in
     subst IsWorth (sym (to_z-of_z w128 c.args.terms.now.cost f)) (cost_worth (setup_of c.args.terms.now) c.requires.setup)
 
 pub returns-clause-horizon : goal.returns-clause-horizon
 returns-clause-horizon c =
     let f : FitsSigned w128 c.args.terms.now.cost = search rules in
-    let some = c.requires.some in
-    let made = simp to_z-of_z at c.next_prices-moved.ensures.made in
-    moved_over c.next_prices-moved.result (market_of c.args.terms.now.case) c.args.terms.now.cost (map proposal_of c.args.rows.now) (prices_of c.next_prices-moved.new.into) (prices_of c.args.into.now)
-    made c.next_prices-moved.ensures.unchanged (omega (arith, some, length-map c.args.rows.now proposal_of)) c.requires.horizon
+    let some = c.requires.best.within in
+    let made = simp to_z-of_z at c.next_prices_from-moved.ensures.made in
+    moved_over c.next_prices_from-moved.result (market_of c.args.terms.now.case) c.args.terms.now.cost (map proposal_of c.args.rows.now) (prices_of c.next_prices_from-moved.new.into) (prices_of c.args.into.now)
+    made c.next_prices_from-moved.ensures.unchanged (omega (arith, some, length-map c.args.rows.now proposal_of)) c.requires.horizon

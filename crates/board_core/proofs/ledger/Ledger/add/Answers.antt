@@ -1,4 +1,4 @@
-use Rattle.std.proofs.Common.{◌≡◌, ◌<◌, length, map, sym, ap, ◌∙◌, subst}
+use Rattle.std.proofs.Common.{◌≡◌, ◌<◌, length, map, sym, ap, ◌∙◌, subst, refl}
 use Rattle.std.specs.List.{All}
 use Rattle.std.specs.Prelude.{slice_index_or, slice_set}
 use Rattle.dual_value.specs.Totals.{IsTotal}
@@ -7,6 +7,9 @@ use Rattle.uc_model.specs.PlainUnits.{schedule_of}
 use Rattle.uc_model.specs.PriceRule.{Proposal}
 use Rattle.board_core.specs.Ledgers.{LedgerValue, with_schedule}
 use Rattle.board_core.proofs.Rows.{at_mapped, set_mapped}
+use Rattle.price_move.specs.Firsts.{IsFirstUpTo}
+use Rattle.price_move.specs.Moves.{values_of}
+use Rattle.board_core.proofs.Bests.{same_values}
 use Rattle.board_core.proofs.ledger.Ledger.add.Goals as goal
 
 pub add_answer-requires-clause-horizon : goal.add_answer-requires-clause-horizon
@@ -42,3 +45,15 @@ returns-clause-proposals c =
     let place = subst (λ (v : LedgerValue). c.args.place < length v.proposals) (sym c.self.view_is) c.requires.place in
     subst (λ (v : LedgerValue). (d : Proposal) → map proposal_of (slice_set s.proposals.items c.args.place c.add_answer.new.row) ≡ slice_set v.proposals c.args.place (with_schedule (slice_index_or v.proposals c.args.place d) u t)) c.self.view_is
     (λ d. set_mapped (λ (p : Proposal). with_schedule p u t) s.proposals.items c.args.place r c.add_answer.new.row d place c.index_mut.ensures.value c.add_answer.ensures)
+
+pub invariant_of-self : goal.invariant_of-self
+invariant_of-self c = λ some.
+    let s = c.self.inside in
+    let r = c.index_mut.result.now in
+    let d = proposal_of r in
+    let u = task_unit c.args.task.now in
+    let t = schedule_of c.args.answer.now.response in
+    let place = subst (λ (v : LedgerValue). c.args.place < length v.proposals) (sym c.self.view_is) c.requires.place in
+    let set_is = set_mapped (λ (p : Proposal). with_schedule p u t) s.proposals.items c.args.place r c.add_answer.new.row d place c.index_mut.ensures.value c.add_answer.ensures in
+    let same = same_values (map proposal_of s.proposals.items) c.args.place (with_schedule (slice_index_or (map proposal_of s.proposals.items) c.args.place d) u t) d refl in
+    subst (λ values. IsFirstUpTo values s.closed s.best) (sym (ap values_of set_is ∙ same)) (c.self.invariant some)

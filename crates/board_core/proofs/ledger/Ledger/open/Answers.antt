@@ -1,10 +1,13 @@
-use Rattle.std.proofs.Common.{◌≡◌, ◌<◌, length, map, sym, ap, ◌∙◌, subst}
+use Rattle.std.proofs.Common.{◌≡◌, ◌<◌, length, map, sym, ap, ◌∙◌, subst, refl}
 use Rattle.std.specs.Prelude.{slice_index_or, slice_set}
 use Rattle.uc_model.specs.PlainCases.{proposal_of}
 use Rattle.uc_model.specs.PlainUnits.{prices_of}
 use Rattle.uc_model.specs.PriceRule.{Proposal}
 use Rattle.board_core.specs.Ledgers.{LedgerValue, with_prices}
 use Rattle.board_core.proofs.Rows.{at_mapped, set_mapped}
+use Rattle.price_move.specs.Firsts.{IsFirstUpTo}
+use Rattle.price_move.specs.Moves.{values_of}
+use Rattle.board_core.proofs.Bests.{same_values}
 use Rattle.board_core.proofs.ledger.Ledger.open.Goals as goal
 
 pub set_prices-requires : goal.set_prices-requires
@@ -23,3 +26,14 @@ returns-clause-proposals c =
     let place = subst (λ (v : LedgerValue). v.opened < length v.proposals) (sym c.self.view_is) c.requires.place in
     subst (λ (v : LedgerValue). (d : Proposal) → map proposal_of (slice_set s.proposals.items s.opened c.set_prices.new.row) ≡ slice_set v.proposals v.opened (with_prices (slice_index_or v.proposals v.opened d) π)) c.self.view_is
     (λ d. set_mapped (λ (p : Proposal). with_prices p π) s.proposals.items s.opened r c.set_prices.new.row d place c.index_mut.ensures.value c.set_prices.ensures)
+
+pub invariant_of-self : goal.invariant_of-self
+invariant_of-self c = λ some.
+    let s = c.self.inside in
+    let r = c.index_mut.result.now in
+    let d = proposal_of r in
+    let π = prices_of c.args.prices.now in
+    let place = subst (λ (v : LedgerValue). v.opened < length v.proposals) (sym c.self.view_is) c.requires.place in
+    let set_is = set_mapped (λ (p : Proposal). with_prices p π) s.proposals.items s.opened r c.set_prices.new.row d place c.index_mut.ensures.value c.set_prices.ensures in
+    let same = same_values (map proposal_of s.proposals.items) s.opened (with_prices (slice_index_or (map proposal_of s.proposals.items) s.opened d) π) d refl in
+    subst (λ values. IsFirstUpTo values s.closed s.best) (sym (ap values_of set_is ∙ same)) (c.self.invariant some)

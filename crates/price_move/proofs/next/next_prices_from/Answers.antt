@@ -5,12 +5,12 @@ use Rattle.std.specs.Int.{w128}
 use Rattle.uc_model.specs.PlainCases.{market_of, proposal_of}
 use Rattle.uc_model.specs.PriceRule.{squared_length}
 use Rattle.price_move.proofs.Steps.{stepped_is, last_below}
-use Rattle.price_move.proofs.next.next_prices.Goals as goal
+use Rattle.price_move.proofs.next.next_prices_from.Goals as goal
 
 pub take_step-requires-2-clause-row : goal.take_step-requires-2-clause-row
 take_step-requires-2-clause-row c =
     let lengths = length-map c.args.rows.now proposal_of in
-    let some = c.requires.some in
+    let some = c.requires.best.within in
     (last_below (market_of c.args.case.now) (map proposal_of c.args.rows.now) (proposal_of c.last-row.result.now) c.args.cost c.requires.rows (omega (arith, lengths, some)) c.last-row.ensures).row
 
 pub returns-clause-made : goal.returns-clause-made
