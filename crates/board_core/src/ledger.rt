@@ -207,7 +207,8 @@ impl Ledger {
         ensures opened { self.new.opened ≡ self.old.opened }
     {
         set_value(&mut self.proposals[self.closed], value);
-        self.best = greatest_with(&self.proposals, self.closed, self.best);
+        let best = greatest_with(&self.proposals, self.closed, self.best);
+        self.best = best;
         self.closed += 1;
     }
 

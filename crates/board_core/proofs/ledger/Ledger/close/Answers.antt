@@ -22,8 +22,8 @@ returns-clause-proposals c =
     subst (λ (v : LedgerValue). (d : Proposal) → map proposal_of (slice_set s.proposals.items s.closed c.set_value.new.row) ≡ slice_set v.proposals v.closed (with_value (slice_index_or v.proposals v.closed d) c.args.value)) c.self.view_is
     (λ d. set_mapped (λ (p : Proposal). with_value p c.args.value) s.proposals.items s.closed r c.set_value.new.row d place c.index_mut.ensures.value made)
 
-pub greatest_with-self-inside-requires-clause-best : goal.greatest_with-self-inside-requires-clause-best
-greatest_with-self-inside-requires-clause-best c = λ some.
+pub greatest_with-best-requires-clause-best : goal.greatest_with-best-requires-clause-best
+greatest_with-best-requires-clause-best c = λ some.
     let s = c.self.inside in
     let r = c.index_mut.result.now in
     let place = subst (λ (v : LedgerValue). v.closed < length v.proposals) (sym c.self.view_is) c.requires in
