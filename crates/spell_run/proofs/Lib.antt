@@ -1,10 +1,12 @@
 pub mod BoundLaws
 pub mod ChoiceLaws
+pub mod CutLaws
 pub mod EntryLaws
 pub mod FairLaws
 pub mod FrameLaws
 pub mod FrontierLaws
 pub mod JoinLaws
+pub mod NoteLaws
 pub mod PeriodLaws
 pub mod ReserveLaws
 pub mod RunLaws

@@ -1,13 +1,11 @@
 -- What a bench is made for (this project's profile).
 use Rattle.std.specs.Prelude.{ℕ, ◌+◌, ◌*◌, ◌<◌, ◌≤◌, length}
-use Rattle.spell_run.specs.Entries.{cells_for}
 use Rattle.unit_program.specs.declared.bench.Bench.{Bench}
 use Rattle.unit_program.specs.Live.{HaveRoom}
 
 -- its parts suffice for the answers of a unit with so many cost points over so many periods
 pub record IsBenchFor {R : Type 0} (room_of : R → ℕ) (periods points : ℕ) (b : Bench R) : Type 0 where
-  pub cells : cells_for periods points ≤ b.pool.spare
   pub blocks : 2 * points ≤ length b.curve.blocks.items + b.curve.blocks.spare
   pub count : periods < length b.runners.items
-  pub room : HaveRoom room_of (periods * (2 * points + 3)) b.runners.items
+  pub room : HaveRoom room_of (periods * (2 * points + 3)) periods b.runners.items
   pub rows : periods < length b.table.items

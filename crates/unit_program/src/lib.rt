@@ -17,6 +17,7 @@ pub mod periods;
 pub mod program;
 pub mod runner;
 pub mod table;
+pub mod way;
 
 pub use answer::best_response;
 pub use bench::{Bench, least_in_place};

@@ -3,6 +3,7 @@ use Rattle.std.specs.Prelude.{FitsSigned, IfSome}
 use Rattle.std.specs.Int.{w64}
 use Rattle.std.proofs.lemmas.Int.{to_z-of_z}
 use Rattle.uc_model.specs.PlainUnits.{thermal_of, prices_of}
+use Rattle.spell_run.specs.Notes.{passed_at}
 use Rattle.unit_program.specs.Rows.{IsPut}
 use Rattle.unit_program.proofs.LiveLaws.{going_on}
 use Rattle.unit_program.proofs.RunnerRowLaws.{row_end}
@@ -17,5 +18,5 @@ returns-clause-row g c = λ live is.
     let put = subst (λ (e : ℤ). IfSome c.run_one-net.result (λ (x : ℤ). IsPut (c.args.place + 1) (record { cost = e +ℤ x; first = c.args.first; before = c.args.runner.now.before }) c.args.table.now.items c.put_end.new.table.items)) cost c.put_end.ensures.some in
     let put_next = subst (λ (l : ℕ). IfSome c.run_one-net.result (λ (x : ℤ). IsPut l (record { cost = c.args.runner.now.cost +ℤ x; first = c.args.first; before = c.args.runner.now.before }) c.args.table.now.items c.put_end.new.table.items)) next put in
     row_end (thermal_of c.args.unit.now) (prices_of c.args.prices.now) live c.args.first c.args.place c.args.table.now.items c.put_end.new.table.items
-    (record { before = c.args.runner.now.before; cost = c.args.runner.now.cost; function = g.R.Running.function c.args.runner.now.running }) on
+    (record { before = c.args.runner.now.before; cost = c.args.runner.now.cost; function = g.R.Running.function c.args.runner.now.running; left = passed_at c.args.runner.now.passed.items }) on
     c.requires.place c.requires.order c.requires.may c.run_one-net.result c.run_one-net.ensures.answer c.run_one-net.ensures.may c.put_end.ensures.none put_next
