@@ -1,6 +1,7 @@
 pub mod BoundLaws
 pub mod ChoiceLaws
 pub mod CutLaws
+pub mod EndLaws
 pub mod EntryLaws
 pub mod FairLaws
 pub mod FrameLaws

@@ -211,7 +211,7 @@ pub fn run_over<R: Running>(
     requires frontier { IsFrontier (thermal_of unit.now) (prices_of prices.now) first place (R.function running.old) }
     requires room { R.count running.old + length curve.now.blocks.items + 3 ≤ R.room running.old }
     ensures frontier { IsFrontier (thermal_of unit.now) (prices_of prices.now) first (suc place) (R.function running.new) }
-    ensures noted { (x v : ℤ) → value_of (R.function running.new) x ≡ Some v →
+    ensures noted { (x v : ℤ) → value_of (R.function running.old) x ≡ Some v →
         IsNoted (thermal_of unit.now) (prices_of prices.now) first place false result (R.function running.new) }
     ensures count { R.count running.new ≤ R.count running.old + length curve.now.blocks.items + 3 }
     ensures room { R.room running.new ≡ R.room running.old }
@@ -264,7 +264,7 @@ pub fn end_and_run<R: Running>(
     ensures within { IfSome result.end (λ e. IsSpellWithin first (suc place) e.value) }
     ensures ended { IfSome result.end (IsEndNoted (thermal_of unit.now) (prices_of prices.now) first place result.note) }
     ensures frontier { IsFrontier (thermal_of unit.now) (prices_of prices.now) first (suc place) (R.function running.new) }
-    ensures noted { (x v : ℤ) → value_of (R.function running.new) x ≡ Some v →
+    ensures noted { (x v : ℤ) → value_of (R.function running.old) x ≡ Some v →
         IsNoted (thermal_of unit.now) (prices_of prices.now) first place false result.note (R.function running.new) }
     ensures count { R.count running.new ≤ R.count running.old + length curve.now.blocks.items + 3 }
     ensures room { R.room running.new ≡ R.room running.old }

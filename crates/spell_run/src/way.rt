@@ -41,7 +41,7 @@ pub struct Passed {
 }
 
 /// The cheapest power before a step to a power, the least of those.
-fn power_before(step: Step, note: Note, power: i64) -> i64
+fn cheapest_before(step: Step, note: Note, power: i64) -> i64
     requires step { IsFairStep step }
     requires power { IsOutput power }
     ensures { (f : Table) (v y w : ℤ) → IsTurn step f note.turn → IsFirst f note.first v → IsLast f note.last →
@@ -72,7 +72,7 @@ fn write_period(
     ensures earned { into.new.earned ≡ into.old.earned }
 {
     let step = step_of(unit, prices, place, starts_in(first, place), stops);
-    let before = power_before(step, note, power);
+    let before = cheapest_before(step, note, power);
     write_best(into, place, step, before, power);
     before
 }
@@ -102,13 +102,14 @@ pub fn write_spell(
     ensures earned { into.new.earned ≡ into.old.earned }
 {
     let end = last as usize - 1;
-    let Some(lowest) = passed[end].end else {
+    let left = passed[end];
+    let Some(lowest) = left.end else {
         return;
     };
     let note = Note {
         turn: lowest.turn,
-        first: passed[end].note.first,
-        last: passed[end].note.last,
+        first: left.note.first,
+        last: left.note.last,
     };
     let stops = (last as usize) < prices.energy.len();
     let mut power = write_period(unit, prices, first, end, stops, note, lowest.at, into);

@@ -13,6 +13,7 @@ use Rattle.spell_run.specs.Steps.{level, IsRun}
 use Rattle.unit_program.specs.Spells.{on_time}
 use Rattle.unit_program.specs.Tables.{IsEntry, IsLeastEntry}
 use Rattle.unit_program.specs.Runners.{Going, MayBeOn, IsRunner, HasStandIn, AreRunners, IsGoneOn}
+use Rattle.unit_program.proofs.WaysLaws.{noted_more}
 use Rattle.unit_program.proofs.CostLaws.{sum_from_to-more, sum_from_to-none}
 
 -- a start comes from the least power
@@ -218,7 +219,7 @@ module _ (g : ThermalUnit) (π : PriceLists) (ends : ℕ → Option ℤ) (t : �
                   may = may_next g f t open_next old.1.may;
                   order = omega (arith, low);
                   within = old.1.within;
-                  noted = noted_more g π f t unit within r.function h.function r.left h.left old.1.frontier h.frontier h.kept h.noted old.1.noted;
+                  noted = noted_more g π f t r.function h.function r.left h.left old.1.frontier h.frontier h.kept h.noted old.1.noted;
                 } in
                 (low, subst (λ (x : Going). IsRunner g π ends (suc t) f x) z runner)
           ]

@@ -29,4 +29,4 @@ returns-in-Some g c =
     (IsUnder c.args.power c.args.cost (record { before = c.args.runner.now.before; cost = c.args.runner.now.cost; function = g.R.Running.function c.args.runner.now.running; left = passed_at c.args.runner.now.passed.items }))
     (λ t.
     let less : (c.sum_of.result +ℤ pos 1) ≤ℤ c.args.cost = simp to_z-of_z at (c.is_less.ensures t) in
-    under_of (g.R.Running.function c.args.runner.now.running) c.args.runner.now.cost c.args.power c.args.cost c.in-Some.value c.sum_of.result c.args.runner.now.before there sum less)
+    under_of (g.R.Running.function c.args.runner.now.running) c.args.runner.now.cost c.args.power c.args.cost c.in-Some.value c.sum_of.result c.args.runner.now.before (passed_at c.args.runner.now.passed.items) there sum less)
