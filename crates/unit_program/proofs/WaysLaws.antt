@@ -58,6 +58,15 @@ end_left g π first t before cost rows rows' p q net same is none some ended =
       | inr new ↦ inr (first-is rows' (suc t) (record { cost = cost +ℤ e.value; first = first; before = before }) new, (e, at, subst (λ (p : Passed). IsEndNoted g π first t p.note e) (sym same) ended))
     ]
 
+-- the cost of an end
+pub end_some : (end : Option Lowest) (net : Option ℤ) (P : ℤ → Type 0) → net ≡ end_cost end → IfSome end (λ (e : Lowest). P e.value) → IfSome net P
+end_some None net P is h = subst (λ o. IfSome o P) (sym is) tt
+end_some (Some e) net P is h = subst (λ o. IfSome o P) (sym is) h
+
+pub always : {X : Type 0} (o : Option X) (P : Type 0) → P → IfSome o (λ _. P)
+always None P h = tt
+always (Some x) P h = h
+
 -- one place written
 pub passed_here : (ps qs : List Passed) (place : ℕ) (p : Passed) → qs ≡ set ps place p → place < length ps → passed_at qs place ≡ p
 passed_here ps qs place p is low = ap (λ xs. passed_at xs place) is ∙ get_or-set_same ps place p _ low
