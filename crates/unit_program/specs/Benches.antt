@@ -1,5 +1,7 @@
 -- What a bench is made for (this project's profile).
 use Rattle.std.specs.Prelude.{ℕ, ◌+◌, ◌*◌, ◌<◌, ◌≤◌, length}
+use Rattle.slope_list.specs.declared.slopes.Slopes.{Slopes}
+use Rattle.slope_list.specs.Slopes.{room_of}
 use Rattle.unit_program.specs.declared.bench.Bench.{Bench}
 use Rattle.unit_program.specs.Live.{HaveRoom}
 
@@ -9,3 +11,8 @@ pub record IsBenchFor {R : Type 0} (room_of : R → ℕ) (periods points : ℕ) 
   pub count : periods < length b.runners.items
   pub room : HaveRoom room_of (periods * (2 * points + 3)) periods b.runners.items
   pub rows : periods < length b.table.items
+
+-- a bench serves fewer periods and points too
+abbrev pub BenchesServeLess : Type 0
+BenchesServeLess =
+    (periods points fewer less : ℕ) (b : Bench Slopes) → fewer ≤ periods → less ≤ points → IsBenchFor room_of periods points b → IsBenchFor room_of fewer less b

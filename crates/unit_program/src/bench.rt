@@ -33,6 +33,9 @@ pub struct Bench<R> {
     pub table: Table,
 }
 
+/// The bench of the program: functions are kept in pieces of one slope.
+pub type SlopeBench = Bench<Slopes>;
+
 // So many runners, none of them on, each with room for so many pieces and as many periods.
 fn make_runners(alloc: Global, count: u32, pieces: usize) -> Result<Vec<Runner<Slopes>>, AllocError>
     ensures count { IfOk result (λ v. length v.items ≡ count) }
