@@ -7,9 +7,9 @@ ghost use Rattle.std.specs.Prelude.{◌≡◌, ℕ, suc, ◌+◌, ◌*◌, ◌<�
 ghost use Rattle.cost_curve.specs.CostCurve.{IsCostCurve};
 ghost use Rattle.uc_model.specs.Data.{PriceLists};
 ghost use Rattle.uc_model.specs.PlainUnits.{thermal_of, prices_of};
-ghost use Rattle.unit_program.specs.Live.{live_at, AreRoomy, AreSmall, HaveRoom, IsFilledTo};
-ghost use Rattle.unit_program.specs.Rows.{cost_at, IsWithinTimes, AreWithin, IsFilled};
-ghost use Rattle.unit_program.specs.Runners.{AreRunners};
+ghost use Rattle.unit_program.specs.Live.{live_at, left_at, AreRoomy, AreSmall, HaveRoom, IsFilledTo};
+ghost use Rattle.unit_program.specs.Rows.{cost_at, first_at, IsWithinTimes, AreWithin, IsFilled};
+ghost use Rattle.unit_program.specs.Runners.{AreRunners, HaveWays};
 ghost use Rattle.unit_program.specs.Tables.{IsLeastEntry};
 
 use crate::commitment::is_must_off;
@@ -29,8 +29,9 @@ fn start_after<R: Running>(unit: &Unit, place: u32, entry: &Entry, runners: &mut
     ensures stands { (π : PriceLists) (ends : ℕ → Option ℤ) → IsLeastEntry (thermal_of unit.now) ends (suc place) entry.now.last entry.now.cost →
         AreRunners (thermal_of unit.now) π ends (live_at R.function runners.old) place (suc place) →
         AreRunners (thermal_of unit.now) π ends (live_at R.function runners.new) place (suc (suc place)) }
+    ensures left { (first k : ℕ) → left_at runners.new first k ≡ left_at runners.old first k }
     ensures room { (periods charge : ℕ) → AreRoomy R.count R.room periods place charge runners.old → AreRoomy R.count R.room periods place charge runners.new }
-    ensures keeps { (most : ℕ) → HaveRoom R.room most runners.old → HaveRoom R.room most runners.new }
+    ensures keeps { (most periods : ℕ) → HaveRoom R.room most periods runners.old → HaveRoom R.room most periods runners.new }
     ensures length { length runners.new ≡ length runners.old }
 {
     if is_undercut(runners, place + 1, unit.min_power, entry.cost) {
@@ -49,8 +50,9 @@ fn start<R: Running>(unit: &Unit, place: u32, rows: &[Option<Ended>], runners: &
     ensures stands { (π : PriceLists) →
         AreRunners (thermal_of unit.now) π (cost_at rows.now) (live_at R.function runners.old) place (suc place) →
         AreRunners (thermal_of unit.now) π (cost_at rows.now) (live_at R.function runners.new) place (suc (suc place)) }
+    ensures left { (first k : ℕ) → left_at runners.new first k ≡ left_at runners.old first k }
     ensures room { (periods charge : ℕ) → AreRoomy R.count R.room periods place charge runners.old → AreRoomy R.count R.room periods place charge runners.new }
-    ensures keeps { (most : ℕ) → HaveRoom R.room most runners.old → HaveRoom R.room most runners.new }
+    ensures keeps { (most periods : ℕ) → HaveRoom R.room most periods runners.old → HaveRoom R.room most periods runners.new }
     ensures length { length runners.new ≡ length runners.old }
 {
     match least_entry(unit, rows, place) {
@@ -75,10 +77,12 @@ fn take_period<R: Running>(
     requires room { AreRoomy R.count R.room (length (prices_of prices.now).energy) place (length curve.now.blocks.items + 3) runners.old }
     requires rows { length (prices_of prices.now).energy < length table.old.items }
     requires filled { IsFilledTo (thermal_of unit.now) (prices_of prices.now) place table.old.items (live_at R.function runners.old) }
+    requires ways { HaveWays (thermal_of unit.now) (prices_of prices.now) place (cost_at table.old.items) (first_at table.old.items) (left_at runners.old) }
     ensures filled { IsFilledTo (thermal_of unit.now) (prices_of prices.now) (suc place) table.new.items (live_at R.function runners.new) }
+    ensures ways { HaveWays (thermal_of unit.now) (prices_of prices.now) (suc place) (cost_at table.new.items) (first_at table.new.items) (left_at runners.new) }
     ensures room { AreRoomy R.count R.room (length (prices_of prices.now).energy) (suc place) (length curve.now.blocks.items + 3) runners.new }
     ensures length { length table.new.items ≡ length table.old.items }
-    ensures keeps { (most : ℕ) → HaveRoom R.room most runners.old → HaveRoom R.room most runners.new }
+    ensures keeps { (most periods : ℕ) → HaveRoom R.room most periods runners.old → HaveRoom R.room most periods runners.new }
     ensures count { length runners.new ≡ length runners.old }
 {
     if is_must_off(unit, place) {
@@ -98,8 +102,9 @@ fn go_on<R: Running>(unit: &Unit, runners: &mut [Runner<R>])
     requires some { 1 ≤ length runners.old }
     requires off { (first : ℕ) → live_at R.function runners.old first ≡ None }
     ensures stands { (π : PriceLists) (ends : ℕ → Option ℤ) → AreRunners (thermal_of unit.now) π ends (live_at R.function runners.new) 0 1 }
+    ensures left { (first k : ℕ) → left_at runners.new first k ≡ left_at runners.old first k }
     ensures room { (periods charge : ℕ) → AreRoomy R.count R.room periods 0 charge runners.old → AreRoomy R.count R.room periods 0 charge runners.new }
-    ensures keeps { (most : ℕ) → HaveRoom R.room most runners.old → HaveRoom R.room most runners.new }
+    ensures keeps { (most periods : ℕ) → HaveRoom R.room most periods runners.old → HaveRoom R.room most periods runners.new }
     ensures length { length runners.new ≡ length runners.old }
 {
     if unit.on0 {
@@ -113,9 +118,9 @@ fn begin_all<R: Running>(unit: &Unit, runners: &mut [Runner<R>], table: &mut Tab
     requires runners { 1 ≤ length runners.old }
     requires rows { 1 ≤ length table.old.items }
     ensures filled { (π : PriceLists) → 1 ≤ length π.energy → IsFilledTo (thermal_of unit.now) π 0 table.new.items (live_at R.function runners.new) }
-    ensures room { (periods charge : ℕ) → HaveRoom R.room (periods * charge) runners.old → AreRoomy R.count R.room periods 0 charge runners.new }
+    ensures room { (periods charge : ℕ) → HaveRoom R.room (periods * charge) periods runners.old → AreRoomy R.count R.room periods 0 charge runners.new }
     ensures length { length table.new.items ≡ length table.old.items }
-    ensures keeps { (most : ℕ) → HaveRoom R.room most runners.old → HaveRoom R.room most runners.new }
+    ensures keeps { (most periods : ℕ) → HaveRoom R.room most periods runners.old → HaveRoom R.room most periods runners.new }
     ensures count { length runners.new ≡ length runners.old }
 {
     clear_rows(table);
@@ -125,8 +130,9 @@ fn begin_all<R: Running>(unit: &Unit, runners: &mut [Runner<R>], table: &mut Tab
 }
 
 /// Fills the table for a unit at prices over its horizon of T periods, as `program::fill` does. `curve` is the curve of the
-/// unit's points. There are at least T + 1 runners, each with room for T (B + 3) pieces, where the curve has B blocks, and
-/// `table` has at least T + 1 rows. Takes no memory.
+/// unit's points. There are at least T + 1 runners, each with room for T (B + 3) pieces, where the curve has B blocks, and for
+/// T periods, and `table` has at least T + 1 rows. Leaves with the runners what the way back from each row needs. Takes no
+/// memory.
 pub fn fill_by_periods<R: Running>(
     unit: &Unit,
     curve: &Curve,
@@ -137,11 +143,12 @@ pub fn fill_by_periods<R: Running>(
     requires horizon { length (thermal_of unit.now).window ≡ length (prices_of prices.now).energy }
     requires curve { IsCostCurve (thermal_of unit.now).points curve.now }
     requires runners { length (prices_of prices.now).energy < length runners.old }
-    requires room { HaveRoom R.room (length (prices_of prices.now).energy * (length curve.now.blocks.items + 3)) runners.old }
+    requires room { HaveRoom R.room (length (prices_of prices.now).energy * (length curve.now.blocks.items + 3)) (length (prices_of prices.now).energy) runners.old }
     requires rows { length (prices_of prices.now).energy < length table.old.items }
     ensures filled { IsFilled (thermal_of unit.now) (prices_of prices.now) (suc (length (prices_of prices.now).energy)) table.new.items }
+    ensures ways { HaveWays (thermal_of unit.now) (prices_of prices.now) (length (prices_of prices.now).energy) (cost_at table.new.items) (first_at table.new.items) (left_at runners.new) }
     ensures length { length table.new.items ≡ length table.old.items }
-    ensures keeps { (most : ℕ) → HaveRoom R.room most runners.old → HaveRoom R.room most runners.new }
+    ensures keeps { (most periods : ℕ) → HaveRoom R.room most periods runners.old → HaveRoom R.room most periods runners.new }
     ensures count { length runners.new ≡ length runners.old }
 {
     begin_all(unit, runners, table);

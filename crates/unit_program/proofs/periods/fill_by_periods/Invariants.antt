@@ -1,6 +1,8 @@
 use Rattle.std.proofs.Common.{◌≡◌, ℕ, ◌+◌, length}
 use Rattle.uc_model.specs.PlainUnits.{thermal_of, prices_of}
-use Rattle.unit_program.specs.Live.{live_at, AreRoomy, HaveRoom, IsFilledTo}
+use Rattle.unit_program.specs.Live.{live_at, left_at, AreRoomy, HaveRoom, IsFilledTo}
+use Rattle.unit_program.specs.Rows.{cost_at, first_at}
+use Rattle.unit_program.specs.Runners.{HaveWays}
 use Rattle.unit_program.proofs.periods.fill_by_periods.Given as goal
 
 abbrev pub invariant-loop-place : goal.invariant-loop-place
@@ -8,6 +10,7 @@ invariant-loop-place g l = record {
   filled : IsFilledTo (thermal_of l.unit) (prices_of l.prices) l.place l.table.items (live_at g.R.Running.function l.runners);
   roomy : AreRoomy g.R.Running.count g.R.Running.room (length l.prices.energy.items) l.place (length l.curve.blocks.items + 3) l.runners;
   rows_length : length l.table.items ≡ length l.fn.table.items;
-  keeps : (most : ℕ) → HaveRoom g.R.Running.room most l.fn.runners → HaveRoom g.R.Running.room most l.runners;
+  ways : HaveWays (thermal_of l.unit) (prices_of l.prices) l.place (cost_at l.table.items) (first_at l.table.items) (left_at l.runners);
+  keeps : (most periods : ℕ) → HaveRoom g.R.Running.room most periods l.fn.runners → HaveRoom g.R.Running.room most periods l.runners;
   count_same : length l.runners ≡ length l.fn.runners;
 }
