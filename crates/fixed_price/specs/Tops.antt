@@ -1,4 +1,5 @@
--- What all units of a case earn at best at prices (Gribik, Hogan and Pope 2007), and on which bench.
+-- What all units of a case earn at best at prices (Gribik, Hogan and Pope 2007), and on which
+-- bench.
 use Rattle.std.specs.Prelude.{ℤ, List, map, length}
 use Rattle.std.specs.List.{All, AllZip}
 use Rattle.slope_list.specs.Slopes.{room_of}
@@ -22,7 +23,8 @@ points_of m = map (λ (n : NamedThermalUnit). n.unit.points) m.thermal
 
 -- a bench that suffices for each thermal unit
 abbrev pub IsBenchOver : Market → Bench Slopes → Type 0
-IsBenchOver m b = All (λ (ps : List Point). IsBenchFor room_of m.periods (length ps) b) (points_of m)
+IsBenchOver m b =
+    All (λ (ps : List Point). IsBenchFor room_of m.periods (length ps) b) (points_of m)
 
 -- what the best schedules of each unit and bid earn, in the order of the units' numbers
 abbrev pub AreTops : Market → PriceLists → List ℤ → Type 0

@@ -138,10 +138,10 @@ fn top_at(
     other_top_at(case, prices, number, buffer)
 }
 
-/// Leaves in `into` what the best schedules of each unit and bid earn at the prices, in money and in
-/// the order of the units' numbers. Each of them has a feasible schedule. The bench suffices for
-/// each thermal unit and does so afterwards, prices and buffer are over the periods of the case, and
-/// `into` has room for a number for each unit. The buffer is left with any answer over those
+/// Leaves in `into` what the best schedules of each unit and bid earn at the prices, in money and
+/// in the order of the units' numbers. Each of them has a feasible schedule. The bench suffices for
+/// each thermal unit, and does so afterwards. Prices and buffer are over the periods of the case,
+/// and `into` has room for a number for each unit. The buffer is left with any answer over those
 /// periods. Takes no memory.
 pub fn earn_all(
     bench: &mut Bench<Slopes>,
