@@ -1,12 +1,12 @@
 -- The fixed case of a plan: within the limits, feasible at the same cost, with dual values between.
-use Rattle.std.proofs.Common.{◌≡◌, ℕ, suc, ℤ, ◌≤ℤ◌, List, [], ◌∷◌, ◌++◌, map, length, refl, sym, ap, ◌∙◌, subst, append_assoc, Some, arith}
+use Rattle.std.proofs.Common.{◌≡◌, ℕ, suc, ◌+◌, ℤ, ◌≤ℤ◌, List, [], ◌∷◌, ◌++◌, map, length, refl, sym, ap, ◌∙◌, subst, append_assoc, Some, arith}
 use Rattle.std.proofs.lemmas.Int.{ints}
 use Rattle.std.proofs.lemmas.List.{length-map}
 use Rattle.std.proofs.lemmas.List.Elements.{All-head, All-tail, All-cons, All-nil}
 use Rattle.std.proofs.lemmas.Option.{slice_get_within, get_or_from_slice_get}
 use Rattle.std.specs.List.{All, AllZip}
 use Rattle.std.specs.Prelude.{slice_get}
-use Rattle.uc_model.specs.Data.{ThermalUnit, NamedThermalUnit, NamedRenewableUnit, NamedBidUnit, AnyUnit, Thermal, Flat, Bid, PriceLists, Schedule, Market, units}
+use Rattle.uc_model.specs.Data.{ThermalUnit, NamedThermalUnit, NamedRenewableUnit, NamedBidUnit, AnyUnit, Thermal, Flat, Bid, PriceLists, Schedule, Market, units, unit_count}
 use Rattle.uc_model.specs.Earnings.{cost_of, earnings, supply_in, IsTop}
 use Rattle.uc_model.specs.Laws.{DualIsAtMostCost}
 use Rattle.uc_model.specs.Limits.{IsThermalUnit, IsMarket}
@@ -15,6 +15,7 @@ use Rattle.uc_model.specs.Sums.{int_at, total, zip_with}
 use Rattle.uc_model.specs.Systems.{IsFeasiblePlan, plan_cost, IsDualValue}
 use Rattle.fixed_price.specs.FixedCase.{held_mark, held_unit, held_named, fixed_market}
 use Rattle.fixed_price.specs.Laws.{CommitmentsAreFixed}
+use Rattle.fixed_price.specs.Tops.{points_of}
 use Rattle.fixed_price.proofs.Held.{held_feasible, given_feasible}
 
 abbrev pub any_thermal : NamedThermalUnit → AnyUnit
@@ -135,6 +136,19 @@ market_held m plan h f =
       bids = h.bids;
     }
 
+-- the cost points are those of the case as given
+points_stay : (n : ℕ) (ts : List NamedThermalUnit) (rest : List AnyUnit) (plan : List Schedule) → AllZip (λ u s. IsFeasible u n s) (map any_thermal ts ++ rest) plan →
+    map (λ (t : NamedThermalUnit). t.unit.points) (zip_with held_named ts plan) ≡ map (λ (t : NamedThermalUnit). t.unit.points) ts
+points_stay n [] rest plan h = refl
+points_stay n (t ∷ ts) rest [] h = absurd h
+points_stay n (t ∷ ts) rest (s ∷ ss) h = ap (λ l. t.unit.points ∷ l) (points_stay n ts rest ss h.1)
+
+count_stays : (m : Market) (plan : List Schedule) → points_of (fixed_market m plan) ≡ points_of m → unit_count (fixed_market m plan) ≡ unit_count m
+count_stays m plan e =
+    let points = λ (t : NamedThermalUnit). t.unit.points in
+    let long = sym (length-map (fixed_market m plan).thermal points) ∙ ap length e ∙ length-map m.thermal points in
+    ap (λ (k : ℕ). k + length m.flat + length m.bids) long
+
 -- ---- the plan
 
 plan_stays : (m : Market) (plan : List Schedule) → IsFeasiblePlan m plan → IsFeasiblePlan (fixed_market m plan) plan
@@ -192,14 +206,18 @@ dual_rises m plan π value fixed f horizon dual held =
     omega (arith, ints, less, a, b)
 
 pub fixing : DualIsAtMostCost → CommitmentsAreFixed
-fixing law m plan h f = record {
-  market = market_held m plan h f;
-  feasible = plan_stays m plan f;
-  cost = cost_stays m plan;
-  rises = λ π value fixed prices horizon dual held. dual_rises m plan π value fixed f horizon dual held;
-  at_most = λ π fixed prices horizon held.
-      subst (λ (z : ℤ). fixed ≤ℤ z) (cost_stays m plan) (law (fixed_market m plan) plan π fixed (plan_stays m plan f) prices horizon held);
-}
+fixing law m plan h f =
+    let points = points_stay m.periods m.thermal (others m) plan (plan_apart m m.periods plan f.feasible) in
+    record {
+      market = market_held m plan h f;
+      count = count_stays m plan points;
+      points = points;
+      feasible = plan_stays m plan f;
+      cost = cost_stays m plan;
+      rises = λ π value fixed prices horizon dual held. dual_rises m plan π value fixed f horizon dual held;
+      at_most = λ π fixed prices horizon held.
+          subst (λ (z : ℤ). fixed ≤ℤ z) (cost_stays m plan) (law (fixed_market m plan) plan π fixed (plan_stays m plan f) prices horizon held);
+    }
 
 -- a thermal unit's window is over the horizon
 pub window_length : (m : Market) → IsMarket m → (k : ℕ) (t : NamedThermalUnit) → slice_get m.thermal k ≡ Some t → length t.unit.window ≡ m.periods

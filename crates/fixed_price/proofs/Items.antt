@@ -13,7 +13,7 @@ mapped_at f [] k d e h = absurd (omega (arith, h))
 mapped_at f (x ∷ xs) zero d e h = refl
 mapped_at f (x ∷ xs) (suc k) d e h = mapped_at f xs k d e (omega (arith, h))
 
-same_item : {X : Type 0} → (x y : X) → Some x ≡ Some y → x ≡ y
+pub same_item : {X : Type 0} → (x y : X) → Some x ≡ Some y → x ≡ y
 same_item x y e = cc
 
 pub map_item : {X Y : Type 0} → (f : X → Y) (xs : List X) (k : ℕ) (x : X) → slice_get xs k ≡ Some x → slice_get (map f xs) k ≡ Some (f x)

@@ -1,3 +1,8 @@
+-- laws.rt, fix.rt: the fixed case of a plan, and what holds of it
 pub mod Fixing
+-- laws.rt: a unit that is held to a commitment
 pub mod Held
+-- fix.rt: items of lists that are mapped, and of plans
 pub mod Items
+-- earn.rt: what all units of a case earn at best
+pub mod TopLaws

@@ -1,2 +1,3 @@
 pub mod FixedCase
+pub mod Tops
 pub mod Laws

@@ -1,4 +1,5 @@
-//! A case with each thermal unit held to its commitment in a schedule.
+//! A case with each thermal unit held to its commitment in a schedule, and what its units earn at
+//! prices.
 //!
 //! Its dual value tells the prices for the commitments that were chosen, where that of the case as
 //! given is for all that could be (Gribik, Hogan and Pope, "Market-Clearing Electricity Prices and
@@ -6,7 +7,9 @@
 #![tactic(auto)]
 
 mod copies;
+mod earn;
 mod fix;
 pub mod laws;
 
+pub use earn::earn_all;
 pub use fix::fix_case;

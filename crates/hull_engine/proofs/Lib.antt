@@ -24,3 +24,5 @@ pub mod OneDue
 pub mod OutcomeLaws
 -- bound.rt, laws.rt: the best bound round the chosen prices of a run
 pub mod BoundLaws
+-- fixed.rt, laws.rt: the two runs of `hull fixed`
+pub mod FixedLaws

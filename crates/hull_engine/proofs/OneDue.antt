@@ -14,16 +14,19 @@ use Rattle.hull_words.specs.Asked.{Asked, price, check, try, bound, fixed, audit
 use Rattle.hull_words.specs.declared.fault.WordFault.{WordFault}
 use Rattle.plan_check.specs.Checks.{refusal_of}
 use Rattle.plan_check.specs.declared.RuleFault.{RuleFault}
+use Rattle.fixed_price.specs.FixedCase.{fixed_market}
 use Rattle.gap_proof.specs.Candidates.{RowRange, candidates, range_bound, prices_of_row, IsFirstLeast}
 use Rattle.hull_report.specs.BoundText.{bound_text}
+use Rattle.hull_report.specs.FixedText.{fixed_text}
 use Rattle.hull_report.specs.Laws.{OneRightReport}
 use Rattle.hull_report.specs.ReportText.{Report, report_text}
+use Rattle.hull_report.specs.RightSide.{OneRightSide}
 use Rattle.hull_report.specs.TryText.{try_text}
 use Rattle.hull_report.specs.declared.fault.FileKind.TheVariants.{CaseFile, ScheduleFile}
 use Rattle.hull_report.specs.declared.fault.TopFault.{TopFault}
 use Rattle.hull_report.specs.declared.fault.TopFault.TheVariants.{PlanRule}
 use Rattle.hull_engine.specs.Steps.{Then, Reads, IsBytes, case_fault, plan_fault, IsCase, IsCaseFile, IsPlan, IsPlanFile, PlannedCase, IsChecked, IsInput, IsMade, IsWithinWork}
-use Rattle.hull_engine.specs.Outcome.{IsReportText, IsBoundText, command_for}
+use Rattle.hull_engine.specs.Outcome.{IsReportText, IsBoundText, IsFixedText, command_for}
 use Rattle.hull_engine.proofs.StepLaws.{one_then}
 
 -- a fault is all that its refusal tells
@@ -64,7 +67,8 @@ module _ (one_case : OneCase) (one_plan : OnePlan) where
       one_then (IsMade x.number) (IsWithinWork x.proposals) (one_made x.number) (λ c a b p q. p ∙ sym q) a b p q
   one_due (Ok (bound x)) reads a b p q =
       one_then (IsInput reads) (IsWithinWork x.run.proposals) (one_input reads) (λ c a b p q. p ∙ sym q) a b p q
-  one_due (Ok (fixed x)) reads a b p q = p ∙ sym q
+  one_due (Ok (fixed x)) reads a b p q =
+      one_then (IsInput reads) (IsWithinWork x.proposals) (one_input reads) (λ c a b p q. p ∙ sym q) a b p q
   one_due (Ok (audit x)) reads a b p q = p ∙ sym q
   one_due (Err f) reads a b p q = p ∙ sym q
 
@@ -94,7 +98,7 @@ module _ (m : Market) (rows : List Proposal) (centre : ℕ) (radius : ℤ) where
         ]
       ]
 
-module _ (one : OneRightReport) where
+module _ (one : OneRightReport) (one_side : OneRightSide) where
   one_report_text : (text_of : Report → List ℕ) (budget ahead : ℕ) (c : PlannedCase) (text other : List ℕ)
       → IsReportText text_of budget ahead c text → IsReportText text_of budget ahead c other → text ≡ other
   one_report_text text_of budget ahead c text other (r, is_r, p) (s, is_s, q) =
@@ -108,11 +112,17 @@ module _ (one : OneRightReport) where
       (subst (λ (x : Report). IsFirstLeast c.market x.rows x.chosen radius range limit) same best) best_s in
       p ∙ (λ i. bound_text (length (same i).rows) (same i).chosen (same i).value (unsigned_abs radius) (told.0 i).first (told.0 i).last (told.1 i)) ∙ sym q
 
+  one_fixed_text : (budget ahead : ℕ) (c : PlannedCase) (text other : List ℕ) → IsFixedText budget ahead c text → IsFixedText budget ahead c other → text ≡ other
+  one_fixed_text budget ahead c text other (hull, held, is_hull, is_held, p) (more, less, is_more, is_less, q) =
+      let a = one_side c.market c.market c.plan budget ahead hull more is_hull is_more in
+      let b = one_side c.market (fixed_market c.market c.plan) c.plan budget ahead held less is_held is_less in
+      p ∙ (λ i. fixed_text c.market c.cost (a i) (b i)) ∙ sym q
+
   pub one_text : (w : Result Asked WordFault) (reads : Reads) (c : PlannedCase) (text other : List ℕ) → (command_for w).IsText reads c text → (command_for w).IsText reads c other → text ≡ other
   one_text (Ok (check x)) reads c text other p q = p ∙ sym q
   one_text (Ok (price x)) reads c text other p q = one_report_text report_text x.proposals x.ahead c text other p q
   one_text (Ok (try x)) reads c text other p q = one_report_text (try_text x.number) x.proposals x.ahead c text other p q
   one_text (Ok (bound x)) reads c text other p q = one_bound_text x.run.proposals x.run.ahead x.radius c text other p q
-  one_text (Ok (fixed x)) reads c text other p q = absurd p
+  one_text (Ok (fixed x)) reads c text other p q = one_fixed_text x.proposals x.ahead c text other p q
   one_text (Ok (audit x)) reads c text other p q = absurd p
   one_text (Err f) reads c text other p q = absurd p

@@ -150,7 +150,14 @@ due_fault (Ok (bound a)) reads f (Err g, input, e) =
       | inr (inl p) ↦ unread ScheduleFile a.run.schedule_name p.0 refl p.1
       | inr (inr p) ↦ of_input p.0 p.1
     ]
-due_fault (Ok (fixed a)) reads f due = of_words _ (same_fault f _ due) refl
+due_fault (Ok (fixed a)) reads f (Ok c, input, work) = of_work (λ b e. absurd cc) (work_fault a.proposals c f work)
+due_fault (Ok (fixed a)) reads f (Err g, input, e) =
+    let same : g ≡ f = sym (same_fault f g e) in
+    elim (input_fault reads f (subst (λ (h : TopFault). IsInput reads (Err h)) same input)) [
+      | inl p ↦ unread CaseFile a.case_name p.0 refl p.1
+      | inr (inl p) ↦ unread ScheduleFile a.schedule_name p.0 refl p.1
+      | inr (inr p) ↦ of_input p.0 p.1
+    ]
 due_fault (Ok (audit a)) reads f due = of_words _ (same_fault f _ due) refl
 due_fault (Err x) reads f due = of_words x (same_fault f _ due) refl
 
@@ -250,7 +257,7 @@ refused_words (Ok (check a)) f reads due e is = absurd cc
 refused_words (Ok (price a)) f reads due e is = absurd cc
 refused_words (Ok (try a)) f reads due e is = absurd cc
 refused_words (Ok (bound a)) f reads due e is = absurd cc
-refused_words (Ok (fixed a)) f reads due e is = cc
+refused_words (Ok (fixed a)) f reads due e is = absurd cc
 refused_words (Ok (audit a)) f reads due e is = cc
 refused_words (Err g) f reads due e is = cc
 
@@ -335,7 +342,9 @@ accepted_is_feasible (Ok (try a)) reads i (Err g, made, e) = absurd made
 accepted_is_feasible (Ok (bound a)) reads i (Ok c, input, work) =
     subst (λ (c : PlannedCase). IsFeasiblePlan c.market c.plan × (c.cost ≡ plan_cost c.market c.plan)) (same_input a.run.proposals c i work) (input_is_feasible reads c input)
 accepted_is_feasible (Ok (bound a)) reads i (Err g, input, e) = absurd cc
-accepted_is_feasible (Ok (fixed a)) reads i due = absurd cc
+accepted_is_feasible (Ok (fixed a)) reads i (Ok c, input, work) =
+    subst (λ (c : PlannedCase). IsFeasiblePlan c.market c.plan × (c.cost ≡ plan_cost c.market c.plan)) (same_input a.proposals c i work) (input_is_feasible reads c input)
+accepted_is_feasible (Ok (fixed a)) reads i (Err g, input, e) = absurd cc
 accepted_is_feasible (Ok (audit a)) reads i due = absurd cc
 accepted_is_feasible (Err f) reads i due = absurd cc
 

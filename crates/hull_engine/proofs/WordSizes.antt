@@ -9,7 +9,7 @@ use Rattle.std.specs.Str.Parse.{digits_value}
 use Rattle.hull_words.specs.declared.fault.WordFault.{WordFault}
 use Rattle.hull_words.specs.declared.kinds.CommandKind.{CommandKind}
 use Rattle.hull_words.specs.declared.kinds.CommandKind.TheVariants as kinds
-use Rattle.hull_words.specs.Asked.{Asked, Found, CheckAsked, PriceAsked, AuditAsked, price, check, try, bound, fixed, audit, with_both, names_from, price_from, asked_from}
+use Rattle.hull_words.specs.Asked.{Asked, Found, CheckAsked, PriceAsked, AuditAsked, price, check, try, bound, fixed, audit, with_both, names_from, asked_from}
 use Rattle.hull_words.specs.Spelling.{command_named}
 use Rattle.hull_words.specs.Texts.{is_numeral, number_in}
 use Rattle.hull_words.specs.Words.{first_fault, backwards, found_in, or_fault, or_missing, asked_of, later_words, words_of}
@@ -85,9 +85,10 @@ by_run : (names : Option CheckAsked) (budget workers ahead : ℕ) (radius : ℤ)
 by_run None budget workers ahead radius count a size wide e = absurd cc
 by_run (Some names) budget workers ahead radius count a size wide e = subst HasSizes (same _ a count e) (size, wide)
 
-by_fixed : (run : Option PriceAsked) (count : ℕ) (a : Asked) → Gives (option_map fixed run) count a → HasSizes a
-by_fixed None count a e = absurd cc
-by_fixed (Some r) count a e = subst HasSizes (same _ a count e) tt
+by_fixed : (names : Option CheckAsked) (budget workers ahead count : ℕ) (a : Asked) → IsRunSize budget workers ahead
+    → Gives (option_map fixed (option_map (λ (n : CheckAsked). let p : PriceAsked = record { case_name = n.case_name; schedule_name = n.schedule_name; proposals = budget; workers = workers; ahead = ahead } in p) names)) count a → HasSizes a
+by_fixed None budget workers ahead count a size e = absurd cc
+by_fixed (Some names) budget workers ahead count a size e = subst HasSizes (same _ a count e) size
 
 by_report : (names : Option CheckAsked) (report : Option (List ℕ)) (f : CheckAsked → List ℕ → AuditAsked) (count : ℕ) (a : Asked)
     → Gives (with_both names report (λ n r. audit (f n r))) count a → HasSizes a
@@ -100,7 +101,7 @@ by_kind kinds.Price found count a size e = by_price (names_from found) _ _ _ cou
 by_kind kinds.Check found count a size e = by_check (names_from found) count a e
 by_kind kinds.Try found count a size e = by_number found.number _ _ _ count a size.run e
 by_kind kinds.Bound found count a size e = by_run (names_from found) _ _ _ _ count a size.run size.radius e
-by_kind kinds.Fixed found count a size e = by_fixed (price_from found) count a e
+by_kind kinds.Fixed found count a size e = by_fixed (names_from found) _ _ _ count a size.run e
 by_kind kinds.Audit found count a size e = by_report (names_from found) found.report_name _ count a e
 
 by_values : (faulty : Option WordFault) (command : CommandKind) (found : Found) (count : ℕ) (a : Asked) → Sizes found → asked_of command count (or_fault faulty found) ≡ Ok a → HasSizes a

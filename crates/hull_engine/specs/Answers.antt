@@ -4,19 +4,21 @@ use Rattle.uc_model.specs.PlainCases.{market_of}
 use Rattle.board_history.specs.Board.{Setup}
 use Rattle.hull_report.specs.CheckText.{check_text}
 use Rattle.hull_report.specs.FaultLines.{fault_line}
+use Rattle.hull_report.specs.FixedText.{told_of, fixed_text}
 use Rattle.hull_report.specs.ReportText.{Report, report_text}
 use Rattle.hull_report.specs.TryText.{try_text}
 use Rattle.hull_report.specs.declared.fault.FileKind.{FileKind}
 use Rattle.hull_report.specs.declared.fault.TopFault.{TopFault}
 use Rattle.hull_report.specs.declared.fault.TopFault.TheVariants.{Memory}
 use Rattle.hull_engine.specs.declared.answers.Answer.{Answer}
-use Rattle.hull_engine.specs.declared.answers.Answer.TheVariants.{Check, Price, Try, Bound}
+use Rattle.hull_engine.specs.declared.answers.Answer.TheVariants.{Check, Price, Try, Bound, Fixed}
 use Rattle.hull_engine.specs.declared.end.End.{End}
 use Rattle.hull_engine.specs.declared.end.End.TheVariants.{Done, Cut, Refused}
 use Rattle.hull_engine.specs.Steps.{Reads, PlannedCase}
 use Rattle.hull_engine.specs.Outcome.{Command, IsReportText, IsBoundText, IsReadOf, AreReads}
 use Rattle.hull_engine.specs.Rounds.{IsEnded}
 use Rattle.hull_engine.specs.Bounded.{IsBounded}
+use Rattle.hull_engine.specs.Compared.{ArePaid}
 
 -- ---- a step
 
@@ -65,13 +67,16 @@ IsTextOf (Try number done) text = IsRunText (try_text number) done.closed.setup 
 IsTextOf (Bound b) text =
     IsBoundText b.done.closed.setup.budget b.done.closed.setup.ahead b.radius
     (planned_in b.done.closed.setup) text
+IsTextOf (Fixed s) text =
+    text ≡ fixed_text (market_of s.case) s.cost (told_of s.hull) (told_of s.fixed)
 
--- a run that is answered has ended
+-- a run that is answered has ended, and each unit is paid
 abbrev pub IsAnswered : Answer → Type 0
 IsAnswered (Check input) = ⊤
 IsAnswered (Price done) = IsEnded done.closed.setup done
 IsAnswered (Try number done) = IsEnded done.closed.setup done
 IsAnswered (Bound b) = IsBounded b.done.closed.setup b.radius b
+IsAnswered (Fixed s) = ArePaid s
 
 -- the answer's texts are texts of an accepted input of the command; a fault is one that is due, or
 -- want of memory

@@ -9,16 +9,19 @@ use Rattle.uc_model.specs.Systems.{IsFeasiblePlan, plan_cost}
 use Rattle.uc_case.specs.CaseFiles.{IsCaseOf}
 use Rattle.uc_plan.specs.PlanFiles.{IsPlanOf}
 use Rattle.hull_io.specs.Edge.{Rose, Gains, FallsShort}
-use Rattle.hull_words.specs.Asked.{Asked, CheckAsked, PriceAsked, BoundAsked, check, price, try, bound}
+use Rattle.hull_words.specs.Asked.{Asked, CheckAsked, PriceAsked, BoundAsked, check, price, try, bound, fixed}
 use Rattle.hull_words.specs.Words.{words_of, fault}
 use Rattle.hull_words.specs.declared.fault.WordFault.{WordFault}
 use Rattle.hull_words.specs.declared.fault.WordCode.TheVariants.{UnknownCommand}
+use Rattle.fixed_price.specs.FixedCase.{fixed_market}
 use Rattle.gap_proof.specs.Candidates.{RowRange, IsFirstLeast}
 use Rattle.gap_proof.specs.Laws.{IsBoundRound}
 use Rattle.hull_report.specs.BoundText.{bound_text}
 use Rattle.hull_report.specs.FaultLines.{status_of, fault_line}
+use Rattle.hull_report.specs.FixedText.{ToldSide, fixed_text}
 use Rattle.hull_report.specs.ReportText.{Report, report_text}
 use Rattle.hull_report.specs.RightReport.{IsRightReport}
+use Rattle.hull_report.specs.RightSide.{IsRightSide, IsMadeUp}
 use Rattle.hull_report.specs.declared.fault.FileKind.{FileKind}
 use Rattle.hull_report.specs.declared.fault.TopFault.{TopFault}
 use Rattle.hull_report.specs.declared.fault.TopFault.TheVariants.{Words, Read, Memory}
@@ -99,6 +102,7 @@ word_fault (Ok (check a)) = None
 word_fault (Ok (price a)) = None
 word_fault (Ok (try a)) = None
 word_fault (Ok (bound a)) = None
+word_fault (Ok (fixed a)) = None
 word_fault (Ok asked) = Some (fault UnknownCommand 1)
 word_fault (Err f) = Some f
 
@@ -151,6 +155,22 @@ pub record IsBoundPromised (a : BoundAsked) (i : PlannedCase) (gained : List ℕ
   pub printed : gained (bound_text (length report.rows) report.chosen report.value
       (unsigned_abs a.radius) range.first range.last limit)
 
+-- THE PROMISE of `hull fixed`, where it answers 0, over an accepted input: what was printed is the
+-- text of a right side of the case's own run, and of one of the run with the schedule's commitments
+-- held. On each the payments and the surplus make up what the dual value of the case as given, at
+-- that side's prices, lacks of the cost.
+pub record IsFixedPromised (a : PriceAsked) (i : PlannedCase) (gained : List ℕ → Type 0)
+    : Type 0 where
+  pub hull : ToldSide
+  pub held : ToldSide
+  pub hull_right : IsRightSide i.market i.market i.plan a.proposals a.ahead hull
+  pub held_right : IsRightSide i.market (fixed_market i.market i.plan) i.plan a.proposals a.ahead
+      held
+  pub hull_made_up : IsMadeUp i.market i.plan hull
+  pub held_made_up : IsMadeUp i.market i.plan held
+  pub cost : i.cost ≡ plan_cost i.market i.plan
+  pub printed : gained (fixed_text i.market i.cost hull held)
+
 -- ---- the laws, over a shelf and a sink before and after the run
 
 module _ {F S : Type 0} (told : F → List ℕ → Option (List ℕ)) (faults : F → List ℕ → ℕ)
@@ -186,3 +206,9 @@ module _ {F S : Type 0} (told : F → List ℕ → Option (List ℕ)) (faults : 
       (a : BoundAsked) → words_of words ≡ Ok (bound a) → n ≡ 0 →
       OverReads (command_for (words_of words)) told rose (λ reads. (i : PlannedCase) ×
       (command_for (words_of words)).IsDue reads (Ok i) × IsBoundPromised a i gained))
+
+  abbrev pub BothGapsAreMadeUp : Type 0
+  BothGapsAreMadeUp = OnRuns (λ words told rose gained short n.
+      (a : PriceAsked) → words_of words ≡ Ok (fixed a) → n ≡ 0 →
+      OverReads (command_for (words_of words)) told rose (λ reads. (i : PlannedCase) ×
+      (command_for (words_of words)).IsDue reads (Ok i) × IsFixedPromised a i gained))

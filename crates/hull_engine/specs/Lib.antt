@@ -5,4 +5,5 @@ pub mod Sizes
 pub mod Inputs
 pub mod Rounds
 pub mod Bounded
+pub mod Compared
 pub mod Answers

@@ -4,16 +4,19 @@
 -- Steps, the reports in hull_report's RightReport and ReportText, and the lines of faults in its
 -- FaultLines.
 use Rattle.std.specs.Prelude.{◌≡◌, ◌⊎◌, ℕ, ℤ, List, length, unsigned_abs, Option, None, Some, Result, Ok, Err, IfSome}
+use Rattle.fixed_price.specs.FixedCase.{fixed_market}
 use Rattle.gap_proof.specs.Candidates.{RowRange, IsFirstLeast}
-use Rattle.hull_words.specs.Asked.{Asked, check, price, try, bound}
+use Rattle.hull_words.specs.Asked.{Asked, check, price, try, bound, fixed}
 use Rattle.hull_words.specs.Words.{words_of, fault}
 use Rattle.hull_words.specs.declared.fault.WordFault.{WordFault}
 use Rattle.hull_words.specs.declared.fault.WordCode.TheVariants.{UnknownCommand}
 use Rattle.hull_report.specs.BoundText.{bound_text}
 use Rattle.hull_report.specs.CheckText.{check_text}
 use Rattle.hull_report.specs.FaultLines.{status_of, fault_line}
+use Rattle.hull_report.specs.FixedText.{ToldSide, fixed_text}
 use Rattle.hull_report.specs.ReportText.{Report, report_text}
 use Rattle.hull_report.specs.RightReport.{IsRightReport}
+use Rattle.hull_report.specs.RightSide.{IsRightSide}
 use Rattle.hull_report.specs.TryText.{try_text}
 use Rattle.hull_report.specs.declared.fault.FileKind.{FileKind}
 use Rattle.hull_report.specs.declared.fault.FileKind.TheVariants.{CaseFile, ScheduleFile, ReportFile}
@@ -53,6 +56,14 @@ IsBoundText budget ahead radius c text =
     × (text ≡ bound_text (length r.rows) r.chosen r.value
     (unsigned_abs radius) range.first range.last limit)
 
+-- the text of the run of the case and of the run with the schedule's commitments held, each with
+-- what the units of the case as given are paid at its chosen prices
+abbrev pub IsFixedText : (budget ahead : ℕ) → PlannedCase → List ℕ → Type 0
+IsFixedText budget ahead c text =
+    (hull held : ToldSide) × IsRightSide c.market c.market c.plan budget ahead hull
+    × IsRightSide c.market (fixed_market c.market c.plan) c.plan budget ahead held
+    × (text ≡ fixed_text c.market c.cost hull held)
+
 -- words that are refused at once
 abbrev pub refused : WordFault → Command
 refused f = record {
@@ -87,6 +98,12 @@ command_for (Ok (bound a)) = record {
   name_of = case_and_schedule a.run.case_name a.run.schedule_name;
   IsDue = λ reads. Then (IsInput reads) (IsWithinWork a.run.proposals);
   IsText = λ reads. IsBoundText a.run.proposals a.run.ahead a.radius;
+}
+-- what the units are paid at the prices of the case, and at those with its commitments held
+command_for (Ok (fixed a)) = record {
+  name_of = case_and_schedule a.case_name a.schedule_name;
+  IsDue = λ reads. Then (IsInput reads) (IsWithinWork a.proposals);
+  IsText = λ reads. IsFixedText a.proposals a.ahead;
 }
 command_for (Ok asked) = refused (fault UnknownCommand 1)
 command_for (Err f) = refused f

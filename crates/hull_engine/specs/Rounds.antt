@@ -73,3 +73,4 @@ pub record IsEnded (b : Setup) (d : Done) : Type 0 where
   pub row : Proposal
   pub settled : IsSettledRecord d.closed d.settlement row
   pub buffer : length (schedule_of d.buffer.response).on ≡ b.market.periods
+  pub bench : IsBenchOf b.market d.bench

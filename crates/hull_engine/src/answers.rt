@@ -2,7 +2,7 @@
 ghost use Rattle.std.specs.Prelude.{◌≡◌, ℕ, List, Ok, Err, None, IfOk, IfErr};
 ghost use Rattle.gap_proof.specs.Sums.{IsRadius};
 ghost use Rattle.hull_io.specs.Edge.{Rose};
-ghost use Rattle.hull_words.specs.Asked.{asked, check, price, try, bound, check_asked, price_asked};
+ghost use Rattle.hull_words.specs.Asked.{asked, check, price, try, bound, fixed, check_asked, price_asked};
 ghost use Rattle.hull_words.specs.Words.{texts, fault, words_of};
 ghost use Rattle.hull_report.specs.declared.fault.FileKind.{FileKind};
 ghost use Rattle.hull_engine.specs.Steps.{Reads, made_case};
@@ -14,6 +14,7 @@ ghost use Rattle.hull_engine.specs.Sizes.{IsRunSize, HasSizes};
 
 use crate::bound::{Bounded, bounded_run};
 use crate::files::read_input;
+use crate::fixed::{Sides, compared_runs};
 use crate::input::{Input, RunInput, RunSize, within_work};
 use crate::run::{Done, open, run_board};
 use case_make::make_case;
@@ -37,6 +38,8 @@ pub enum Answer {
     Try(u64, Done),
     /// The best bound round the prices that a run chose.
     Bound(Bounded),
+    /// What the runs with and without the schedule's commitments held chose, and pay.
+    Fixed(Sides),
 }
 
 /// The command that the words give.
@@ -84,7 +87,7 @@ fn answer_check<F: Shelf>(
     Ok(Answer::Check(input))
 }
 
-/// How large the run of `hull price` is.
+/// How large a run of `hull price` is, and of `hull fixed`.
 fn price_size(words: &PriceWords) -> RunSize
     ensures proposals { result.proposals ≡ words.now.proposals }
     ensures workers { result.workers ≡ words.now.workers }
@@ -138,6 +141,27 @@ fn answer_bound<F: Shelf>(
     let input = read_input(alloc, shelf, case_name, schedule_name)?;
     let run = within_work(input, price_size(&words.run))?;
     Ok(Answer::Bound(bounded_run(alloc, run, words.radius)?))
+}
+
+/// What `hull fixed` answers.
+fn answer_fixed<F: Shelf>(
+    alloc: Global,
+    shelf: &mut F,
+    words: &PriceWords,
+) -> Result<Answer, TopFault>
+    requires { IsRunSize words.now.proposals words.now.workers words.now.ahead }
+    ensures answers { HasReads (F.told shelf.old)
+        (λ name. Rose F.last (F.faults shelf.old name) (F.faults shelf.new name))
+        (command_for (Ok (fixed (price_asked words.now)))).name_of
+        (λ reads. IsCommandAnswer (command_for (Ok (fixed (price_asked words.now)))) reads result) }
+    ensures answered { IfOk result (λ answer. IsAnswered answer) }
+    ensures shelf { IsLaterShelf F.told F.faults shelf.old shelf.new }
+{
+    let case_name = words.case_name.as_str();
+    let schedule_name = words.schedule_name.as_str();
+    let input = read_input(alloc, shelf, case_name, schedule_name)?;
+    let run = within_work(input, price_size(words))?;
+    Ok(Answer::Fixed(compared_runs(alloc, run)?))
 }
 
 /// The case and the feasible schedule that a number stands for.
@@ -208,7 +232,7 @@ fn answer_command<F: Shelf>(
         Command::Price(words) => answer_price(alloc, shelf, words),
         Command::Try(words) => answer_try(alloc, words),
         Command::Bound(words) => answer_bound(alloc, shelf, words),
-        Command::Fixed(_) => Err(not_built()),
+        Command::Fixed(words) => answer_fixed(alloc, shelf, words),
         Command::Audit(_) => Err(not_built()),
     }
 }

@@ -13,7 +13,9 @@ use crate::bound::Bounded;
 use crate::run::Done;
 use hull_io::{Sink, WriteFailed};
 use hull_report::laws::{record_report_is_right, settlements_are_of_all_units};
-use hull_report::{TopFault, write_bound, write_check, write_fault, write_report, write_try};
+use hull_report::{
+    TopFault, write_bound, write_check, write_fault, write_fixed, write_report, write_try,
+};
 
 /// How a run ended.
 #[derive(Clone, Copy)]
@@ -58,6 +60,7 @@ fn let_go(done: Done) {
         closed: _closed,
         settlement: _settlement,
         buffer: _buffer,
+        bench: _bench,
     } = done;
 }
 
@@ -89,6 +92,9 @@ fn write_answer<S: Sink>(answer: Answer, out: &mut S) -> Result<(), WriteFailed>
             let written = write_bound(&done.closed, radius, &certified, out);
             let_go(done);
             written
+        }
+        Answer::Fixed(sides) => {
+            write_fixed(&sides.case, sides.cost, &sides.hull, &sides.fixed, out)
         }
     }
 }

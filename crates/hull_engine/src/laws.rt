@@ -1,10 +1,13 @@
 //! Laws over runs: each is the contract of a function that answers nothing. They follow from
 //! `IsOutcome`, which `hull_run` ensures of its run.
-ghost use Rattle.hull_engine.specs.Laws.{OneDue, OneText, AcceptedIsFeasible, EachStatusHasItsCause, WhatWasReadDecides, WordsFollow, ReportsAreRight, BoundsHold};
+ghost use Rattle.hull_engine.specs.Laws.{OneDue, OneText, AcceptedIsFeasible, EachStatusHasItsCause, WhatWasReadDecides, WordsFollow, ReportsAreRight, BoundsHold, BothGapsAreMadeUp};
 
 use gap_proof::laws::run_bounds_hold;
 use hull_io::{Shelf, Sink};
-use hull_report::laws::{one_report_is_right, one_row_is_chosen, report_payments_make_up_the_gap};
+use hull_report::laws::{
+    one_report_is_right, one_row_is_chosen, one_side_is_right, report_payments_make_up_the_gap,
+    side_payments_make_up_the_gap,
+};
 use uc_case::laws::one_case;
 use uc_plan::laws::one_plan;
 
@@ -23,6 +26,7 @@ pub fn one_text_is_right()
     ensures { OneText }
 {
     one_report_is_right();
+    one_side_is_right();
 }
 
 /// What a command accepts is a case with a feasible schedule and that schedule's cost.
@@ -64,4 +68,13 @@ pub fn bounds_hold<F: Shelf, S: Sink>()
 {
     one_row_is_chosen();
     run_bounds_hold();
+}
+
+/// What `hull fixed` promises where it answers 0: both of its sides are right, and on each the
+/// payments and the surplus sum to the cost of the schedule less the dual value of the case as
+/// given at that side's prices.
+pub fn both_gaps_are_made_up<F: Shelf, S: Sink>()
+    ensures { BothGapsAreMadeUp F.told F.faults F.last S.held S.faults S.last }
+{
+    side_payments_make_up_the_gap();
 }

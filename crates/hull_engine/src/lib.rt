@@ -13,6 +13,7 @@ mod answers;
 mod bound;
 mod end;
 mod files;
+mod fixed;
 mod input;
 pub mod laws;
 mod run;

@@ -48,12 +48,13 @@ pub struct Run {
 }
 
 /// A run that has ended: the record of its board, the settlement of the schedule at the chosen
-/// prices, and room for an answer.
+/// prices, room for an answer, and the bench on which its units answer.
 #[derive(Drop)]
 pub struct Done {
     pub closed: Closed,
     pub settlement: Settlement,
     pub buffer: Answered,
+    pub bench: Bench<Slopes>,
 }
 
 /// Opens the run of an input: takes all memory that the run needs to its end. The work is done on
@@ -150,6 +151,7 @@ fn answer_all(board: &mut Board, bench: &mut Bench<Slopes>, task: &mut Task, buf
     requires buffer { length (schedule_of buffer.old.response).on ≡ board.old.setup.market.periods }
     ensures setup { board.new.setup ≡ board.old.setup }
     ensures finished { has_finished board.new ≡ true }
+    ensures bench { IsBenchOf board.old.setup.market bench.new }
     ensures buffer { length (schedule_of buffer.new.response).on ≡ board.old.setup.market.periods }
 {
     events_are_at_most();
@@ -223,5 +225,6 @@ pub fn run_board(run: Run) -> Done
         closed,
         settlement,
         buffer,
+        bench,
     }
 }

@@ -23,3 +23,5 @@ mod OneRun
 mod OneReport
 -- bound.rt: the chosen value is told
 mod BoundLaws
+-- fixed.rt, laws.rt: the sides of the text of `hull fixed`
+mod Sides

@@ -17,13 +17,13 @@ use Rattle.hull_report.proofs.OneRun.{zip_same, tops_same, one_run}
 
 -- ---- the numbers of a settlement
 
-record SameSettlement (scheduled payments others paid : List ℤ) (surplus sum more all : ℤ) : Type 0 where
-  scheduled_same : scheduled ≡ others
-  payments_same : payments ≡ paid
-  surplus_same : surplus ≡ more
-  sum_same : sum ≡ all
+pub record SameSettlement (scheduled payments others paid : List ℤ) (surplus sum more all : ℤ) : Type 0 where
+  pub scheduled_same : scheduled ≡ others
+  pub payments_same : payments ≡ paid
+  pub surplus_same : surplus ≡ more
+  pub sum_same : sum ≡ all
 
-settled_same : (m : Market) (plan : List Schedule) (π : PriceLists) (scheduled payments others paid : List ℤ) (surplus sum more all : ℤ) →
+pub settled_same : (m : Market) (plan : List Schedule) (π : PriceLists) (scheduled payments others paid : List ℤ) (surplus sum more all : ℤ) →
     IsSettled m plan π scheduled payments surplus sum → IsSettled m plan π others paid more all → SameSettlement scheduled payments others paid surplus sum more all
 settled_same m plan π scheduled payments others paid surplus sum more all h i =
     let tops = tops_same π (units m) h.tops i.tops h.best i.best in

@@ -24,7 +24,6 @@ use Rattle.uc_model.specs.Sums.{int_at}
 use Rattle.uc_model.specs.Systems.{IsDualValue}
 use Rattle.uc_model.proofs.SignedLaws.{IsWithin, fits_within}
 use Rattle.uplift_settle.specs.declared.settlement.Settlement.{Settlement}
-use Rattle.hull_report.specs.ReportText.{UnitLine}
 use Rattle.hull_report.specs.RecordReport.{thermal_names, renewable_names, bid_names, told_line, line_of, lines_from, chosen_of, value_of}
 use Rattle.hull_report.proofs.Records.{chosen_is}
 use Rattle.uc_model.proofs.TotalBounds.{plan_costs_within}
@@ -101,11 +100,11 @@ line_is c s proposal number a x y e f g name =
     λ i. told_line (e i) (scheduled i) (payment i) name
 
 -- and stands at its place among the lines of its kind
-pub record Stands (lines : List UnitLine) (k : ℕ) (x : UnitLine) : Type 0 where
+pub record Stands {Line : Type 0} (lines : List Line) (k : ℕ) (x : Line) : Type 0 where
   pub inside : k < length lines
   pub is : x ≡ get_or lines k x
 
-stands : (line : ℕ → List ℕ → UnitLine) (names : List (List ℕ)) (first k count number : ℕ) (name other : List ℕ) (x : UnitLine) → IsNamed names k count name → other ≡ name → first + k ≡ number →
+stands : {Line : Type 0} (line : ℕ → List ℕ → Line) (names : List (List ℕ)) (first k count number : ℕ) (name other : List ℕ) (x : Line) → IsNamed names k count name → other ≡ name → first + k ≡ number →
     x ≡ line number other → Stands (lines_from line first names) k x
 stands line names first k count number name other x named same at is =
     let inside = named.inside in
@@ -114,44 +113,44 @@ stands line names first k count number name other x named same at is =
       is = is ∙ ap (λ (n : List ℕ). line number n) (same ∙ sym named.is) ∙ ap (λ (n : ℕ). line n (get_or names k [])) (sym at) ∙ sym (line_at line first names k x [] inside);
     }
 
-module _ (c : Content) (s : Settlement) (proposal : ℕ) (case : Case) (e : market_of case ≡ c.setup.market) (k number : ℕ) (name : List ℕ) (x : UnitLine) (is : x ≡ line_of c s proposal number name) where
+module _ {Line : Type 0} (line : ℕ → List ℕ → Line) (m : Market) (case : Case) (e : market_of case ≡ m) (k number : ℕ) (name : List ℕ) (x : Line) (is : x ≡ line number name) where
   pub thermal_stands : (xs : List NamedUnit) (n : NamedUnit) → xs ≡ case.thermal.items → k < length xs → n ≡ get_or xs k n → name ≡ n.name.items → k ≡ number →
-      Stands (lines_from (line_of c s proposal) 0 (thermal_names c.setup.market)) k x
+      Stands (lines_from line 0 (thermal_names m)) k x
   thermal_stands xs n items inside at same place =
-      stands (line_of c s proposal) (thermal_names c.setup.market) 0 k (length xs) number n.name.items name x (thermal_named case c.setup.market xs k n e items inside at) same (omega (arith, place)) is
+      stands line (thermal_names m) 0 k (length xs) number n.name.items name x (thermal_named case m xs k n e items inside at) same (omega (arith, place)) is
 
   pub renewable_stands : (xs : List NamedFlat) (n : NamedFlat) → xs ≡ case.flat.items → k < length xs → n ≡ get_or xs k n → name ≡ n.name.items → length case.thermal.items + k ≡ number →
-      Stands (lines_from (line_of c s proposal) (length c.setup.market.thermal) (renewable_names c.setup.market)) k x
+      Stands (lines_from line (length m.thermal) (renewable_names m)) k x
   renewable_stands xs n items inside at same place =
-      let counts = counts_of case c.setup.market e in
+      let counts = counts_of case m e in
       let thermal = counts.thermal in
-      stands (line_of c s proposal) (renewable_names c.setup.market) (length c.setup.market.thermal) k (length xs) number n.name.items name x
-      (renewable_named case c.setup.market xs k n e items inside at) same (omega (arith, place, thermal)) is
+      stands line (renewable_names m) (length m.thermal) k (length xs) number n.name.items name x
+      (renewable_named case m xs k n e items inside at) same (omega (arith, place, thermal)) is
 
   pub bid_stands : (xs : List NamedBid) (n : NamedBid) → xs ≡ case.bids.items → k < length xs → n ≡ get_or xs k n → name ≡ n.name.items → length case.thermal.items + length case.flat.items + k ≡ number →
-      Stands (lines_from (line_of c s proposal) (length c.setup.market.thermal + length c.setup.market.flat) (bid_names c.setup.market)) k x
+      Stands (lines_from line (length m.thermal + length m.flat) (bid_names m)) k x
   bid_stands xs n items inside at same place =
-      let counts = counts_of case c.setup.market e in
+      let counts = counts_of case m e in
       let thermal = counts.thermal in
       let flat = counts.flat in
-      stands (line_of c s proposal) (bid_names c.setup.market) (length c.setup.market.thermal + length c.setup.market.flat) k (length xs) number n.name.items name x
-      (bid_named case c.setup.market xs k n e items inside at) same (omega (arith, place, thermal, flat)) is
+      stands line (bid_names m) (length m.thermal + length m.flat) k (length xs) number n.name.items name x
+      (bid_named case m xs k n e items inside at) same (omega (arith, place, thermal, flat)) is
 
-pub thermal_lines : (line : ℕ → List ℕ → UnitLine) (case : Case) (m : Market) (first k : ℕ) → market_of case ≡ m → length case.thermal.items ≤ k → length (lines_from line first (thermal_names m)) ≤ k
+pub thermal_lines : {Line : Type 0} (line : ℕ → List ℕ → Line) (case : Case) (m : Market) (first k : ℕ) → market_of case ≡ m → length case.thermal.items ≤ k → length (lines_from line first (thermal_names m)) ≤ k
 thermal_lines line case m first k e h =
     let a = length-lines line first (thermal_names m) in
     let b = length-map m.thermal (λ (n : NamedThermalUnit). n.name) in
     let d = (counts_of case m e).thermal in
     omega (arith, a, b, d, h)
 
-pub renewable_lines : (line : ℕ → List ℕ → UnitLine) (case : Case) (m : Market) (first k : ℕ) → market_of case ≡ m → length case.flat.items ≤ k → length (lines_from line first (renewable_names m)) ≤ k
+pub renewable_lines : {Line : Type 0} (line : ℕ → List ℕ → Line) (case : Case) (m : Market) (first k : ℕ) → market_of case ≡ m → length case.flat.items ≤ k → length (lines_from line first (renewable_names m)) ≤ k
 renewable_lines line case m first k e h =
     let a = length-lines line first (renewable_names m) in
     let b = length-map m.flat (λ (n : NamedRenewableUnit). n.name) in
     let d = (counts_of case m e).flat in
     omega (arith, a, b, d, h)
 
-pub bid_lines : (line : ℕ → List ℕ → UnitLine) (case : Case) (m : Market) (first k : ℕ) → market_of case ≡ m → length case.bids.items ≤ k → length (lines_from line first (bid_names m)) ≤ k
+pub bid_lines : {Line : Type 0} (line : ℕ → List ℕ → Line) (case : Case) (m : Market) (first k : ℕ) → market_of case ≡ m → length case.bids.items ≤ k → length (lines_from line first (bid_names m)) ≤ k
 bid_lines line case m first k e h =
     let a = length-lines line first (bid_names m) in
     let b = length-map m.bids (λ (n : NamedBidUnit). n.name) in

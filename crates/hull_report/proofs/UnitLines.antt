@@ -9,12 +9,12 @@ use Rattle.uc_model.specs.Sums.{int_at}
 use Rattle.hull_report.specs.ReportText.{UnitLine}
 use Rattle.hull_report.specs.RecordReport.{lines_from}
 
-module _ (line : ℕ → List ℕ → UnitLine) where
+module _ {Line : Type 0} (line : ℕ → List ℕ → Line) where
   pub length-lines : (first : ℕ) (names : List (List ℕ)) → length (lines_from line first names) ≡ length names
   length-lines first [] = refl
   length-lines first (name ∷ names) = ap (λ (n : ℕ). suc n) (length-lines (first + 1) names)
 
-  pub line_at : (first : ℕ) (names : List (List ℕ)) (k : ℕ) (d : UnitLine) (e : List ℕ) → k < length names →
+  pub line_at : (first : ℕ) (names : List (List ℕ)) (k : ℕ) (d : Line) (e : List ℕ) → k < length names →
       get_or (lines_from line first names) k d ≡ line (first + k) (get_or names k e)
   line_at first [] k d e h = absurd (omega (arith, h))
   line_at first (name ∷ names) zero d e h = let same : first ≡ first + 0 = omega arith in ap (λ (n : ℕ). line n name) same
@@ -22,6 +22,7 @@ module _ (line : ℕ → List ℕ → UnitLine) where
       let same : first + 1 + k ≡ first + suc k = omega arith in
       line_at (first + 1) names k d e (omega (arith, h)) ∙ ap (λ (n : ℕ). line n (get_or names k e)) same
 
+module _ (line : ℕ → List ℕ → UnitLine) where
   pub lines_append : (first : ℕ) (xs ys : List (List ℕ)) → lines_from line first (xs ++ ys) ≡ lines_from line first xs ++ lines_from line (first + length xs) ys
   lines_append first [] ys = let same : first ≡ first + 0 = omega arith in ap (λ (n : ℕ). lines_from line n ys) same
   lines_append first (x ∷ xs) ys =

@@ -10,3 +10,5 @@ pub mod RightReport
 pub mod TryText
 pub mod Laws
 pub mod RecordReport
+pub mod FixedText
+pub mod RightSide

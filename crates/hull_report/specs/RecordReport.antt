@@ -31,7 +31,7 @@ line_of c s proposal number name =
     told_line (answer_at (rules_of c.setup) (posts c.events) proposal number) (int_at s.scheduled.items number) (int_at s.payments.items number) name
 
 -- the lines of units of these names, whose numbers count on from the first
-abbrev pub lines_from : (ℕ → List ℕ → UnitLine) → ℕ → List (List ℕ) → List UnitLine
+abbrev pub lines_from : {Line : Type 0} → (ℕ → List ℕ → Line) → ℕ → List (List ℕ) → List Line
 lines_from line first [] = []
 lines_from line first (name ∷ names) = line first name ∷ lines_from line (first + 1) names
 

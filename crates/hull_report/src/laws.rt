@@ -1,6 +1,7 @@
 //! Laws over the texts: each is the contract of a function that does nothing.
 ghost use Rattle.hull_report.specs.Laws.{TextDeterminesReport, RightReportHasForm, OneIsChosen, OneRun, OneRightReport, ReportPaymentsMakeUpTheGap};
 ghost use Rattle.hull_report.specs.RecordReport.{RecordReportIsRight, SettlementsAreOfAllUnits, AnswersAreTops};
+ghost use Rattle.hull_report.specs.RightSide.{OneRightSide, SidePaymentsMakeUpTheGap, SettledSidesAreRight};
 
 use board_history::laws::{answers_fit, finished_has_row, finished_is_run};
 use uc_model::laws::{one_schedule_is_least, payments_make_up_the_gap};
@@ -67,6 +68,30 @@ pub fn one_report_is_right()
 /// chosen dual value.
 pub fn report_payments_make_up_the_gap()
     ensures { ReportPaymentsMakeUpTheGap }
+{
+    payments_make_up_the_gap();
+}
+
+/// What a finished record chose is a right side of `hull fixed` where the settlement is that of the
+/// record's schedule, for the case as given, at the chosen prices.
+pub fn settled_sides_are_right()
+    ensures { SettledSidesAreRight }
+{
+    finished_is_run();
+}
+
+/// At most one side of `hull fixed` is right for a case as given, a case that is run, a schedule, a
+/// budget and a number of proposals ahead.
+pub fn one_side_is_right()
+    ensures { OneRightSide }
+{
+    one_schedule_is_least();
+}
+
+/// On a right side of a feasible schedule the payments and the surplus sum to the cost less the
+/// dual value of the case as given at the side's prices.
+pub fn side_payments_make_up_the_gap()
+    ensures { SidePaymentsMakeUpTheGap }
 {
     payments_make_up_the_gap();
 }

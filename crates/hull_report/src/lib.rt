@@ -4,6 +4,7 @@
 pub mod bound;
 pub mod check;
 pub mod fault;
+mod fixed;
 pub mod laws;
 pub mod parts;
 mod pieces;
@@ -13,5 +14,6 @@ pub mod report;
 pub use bound::{BoundLines, write_bound, write_bound_lines};
 pub use check::write_check;
 pub use fault::{FileKind, TopFault, write_fault};
+pub use fixed::{Side, chosen_side, write_fixed};
 pub use parts::{Part, write_parts};
 pub use record::{write_report, write_try};

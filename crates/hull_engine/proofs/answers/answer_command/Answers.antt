@@ -28,9 +28,11 @@ pub returns-in-Bound-clause-unread : goal.returns-in-Bound-clause-unread
 returns-in-Bound-clause-unread g c = rw c.in-Bound.is (λ none. absurd (named _ (none CaseFile)))
 
 pub returns-in-Fixed-clause-answers : goal.returns-in-Fixed-clause-answers
-returns-in-Fixed-clause-answers g c =
-    rw (c.not_built.ensures, c.in-Fixed.is) (any_reads (g.F.Shelf.told c.args.shelf.now) no_files, λ file. tt, inl refl)
+returns-in-Fixed-clause-answers g c = rw c.in-Fixed.is c.answer_fixed.ensures.answers
+
+pub returns-in-Fixed-clause-unread : goal.returns-in-Fixed-clause-unread
+returns-in-Fixed-clause-unread g c = rw c.in-Fixed.is (λ none. absurd (named _ (none CaseFile)))
 
 pub returns-in-Audit-clause-answers : goal.returns-in-Audit-clause-answers
 returns-in-Audit-clause-answers g c =
-    rw (c.not_built-in-Audit.ensures, c.in-Audit.is) (any_reads (g.F.Shelf.told c.args.shelf.now) no_files, λ file. tt, inl refl)
+    rw (c.not_built.ensures, c.in-Audit.is) (any_reads (g.F.Shelf.told c.args.shelf.now) no_files, λ file. tt, inl refl)

@@ -1,6 +1,8 @@
-use Rattle.std.proofs.Common.{rules}
-use Rattle.std.specs.Int.{w64}
+use Rattle.std.proofs.Common.{rules, refl}
+use Rattle.std.specs.Int.{w64, w128}
 use Rattle.std.proofs.lemmas.Int.{to_z-of_z}
+use Rattle.uc_model.specs.PlainCases.{market_of}
+use Rattle.hull_report.specs.FixedText.{told_of, fixed_text}
 use Rattle.hull_report.specs.RecordReport.{report_of}
 use Rattle.hull_report.specs.ReportText.{report_text}
 use Rattle.hull_report.specs.TryText.{try_text}
@@ -26,4 +28,13 @@ returns-in-Bound g c =
       written_bound c.in-Bound.bounded,
       right,
       rw (to_z-of_z w64 c.in-Bound.bounded.radius (search rules)) at c.write_bound-written.ensures,
+    )
+
+pub returns-in-Fixed : goal.returns-in-Fixed
+returns-in-Fixed g c =
+    let s = c.in-Fixed.sides in
+    rw c.in-Fixed.is (
+      fixed_text (market_of s.case) s.cost (told_of s.hull) (told_of s.fixed),
+      refl,
+      rw (to_z-of_z w128 s.cost (search rules)) at c.write_fixed.ensures,
     )

@@ -10,7 +10,7 @@ pub returns-in_err-write_renewable-clause-text : goal.returns-in_err-write_renew
 returns-in_err-write_renewable-clause-text g c =
     let m = c.args.closed.now.setup.market in
     let lines = lines_from (line_of c.args.closed.now c.args.settlement.now c.args.proposal) (length m.thermal) (renewable_names m) in
-    let at = renewable_stands c.args.closed.now c.args.settlement.now c.args.proposal c.case-case.result.now c.case-case.ensures c.loop-place.place (c.len-first.result + c.loop-place.place) c.as_str.result.now _ (c.take_line-owed.ensures.line c.as_str.result.now)
+    let at = renewable_stands (line_of c.args.closed.now c.args.settlement.now c.args.proposal) m c.case-case.result.now c.case-case.ensures c.loop-place.place (c.len-first.result + c.loop-place.place) c.as_str.result.now _ (c.take_line-owed.ensures.line c.as_str.result.now)
     c.as_slice-named-items.result.now c.named-item.result c.as_slice-named-items.ensures (omega arith) c.named-item.is c.as_str.ensures (omega arith) in
     exit_at_item renewable_text lines c.loop-place.place _ _ c.from_residual.ensures.0 at.inside at.is c.in_err-write_renewable.ensures.err c.loop-place.invariant.gained
 
@@ -18,7 +18,7 @@ pub loop-place-preserved : goal.loop-place-preserved
 loop-place-preserved g c =
     let m = c.args.closed.now.setup.market in
     let lines = lines_from (line_of c.args.closed.now c.args.settlement.now c.args.proposal) (length m.thermal) (renewable_names m) in
-    let at = renewable_stands c.args.closed.now c.args.settlement.now c.args.proposal c.case-case.result.now c.case-case.ensures c.loop-place.place (c.len-first.result + c.loop-place.place) c.as_str.result.now _ (c.take_line-owed.ensures.line c.as_str.result.now)
+    let at = renewable_stands (line_of c.args.closed.now c.args.settlement.now c.args.proposal) m c.case-case.result.now c.case-case.ensures c.loop-place.place (c.len-first.result + c.loop-place.place) c.as_str.result.now _ (c.take_line-owed.ensures.line c.as_str.result.now)
     c.as_slice-named-items.result.now c.named-item.result c.as_slice-named-items.ensures (omega arith) c.named-item.is c.as_str.ensures (omega arith) in
     record {
       gained = gains_at_item renewable_text lines c.loop-place.place _ at.inside at.is c.in_ok-write_renewable.ensures.ok c.loop-place.invariant.gained;

@@ -1,0 +1,31 @@
+-- What all units of a case earn at best at prices (Gribik, Hogan and Pope 2007), and on which
+-- bench.
+use Rattle.std.specs.Prelude.{ℤ, List, map, length}
+use Rattle.std.specs.List.{All, AllZip}
+use Rattle.slope_list.specs.Slopes.{room_of}
+use Rattle.slope_list.specs.declared.slopes.Slopes.{Slopes}
+use Rattle.uc_model.specs.declared.units.Point.{Point}
+use Rattle.uc_model.specs.Data.{NamedThermalUnit, AnyUnit, PriceLists, Schedule, Market, units}
+use Rattle.uc_model.specs.Earnings.{IsTop}
+use Rattle.uc_model.specs.Schedules.{IsFeasible}
+use Rattle.unit_program.specs.Benches.{IsBenchFor}
+use Rattle.unit_program.specs.declared.bench.Bench.{Bench}
+
+-- each unit and bid has a feasible schedule
+abbrev pub HasSchedules : Market → Type 0
+HasSchedules m =
+    (plan : List Schedule)
+    × AllZip (λ (u : AnyUnit) (s : Schedule). IsFeasible u m.periods s) (units m) plan
+
+-- the cost points of each thermal unit
+abbrev pub points_of : Market → List (List Point)
+points_of m = map (λ (n : NamedThermalUnit). n.unit.points) m.thermal
+
+-- a bench that suffices for each thermal unit
+abbrev pub IsBenchOver : Market → Bench Slopes → Type 0
+IsBenchOver m b =
+    All (λ (ps : List Point). IsBenchFor room_of m.periods (length ps) b) (points_of m)
+
+-- what the best schedules of each unit and bid earn, in the order of the units' numbers
+abbrev pub AreTops : Market → PriceLists → List ℤ → Type 0
+AreTops m π earned = AllZip (λ (u : AnyUnit) (e : ℤ). IsTop u π e) (units m) earned

@@ -1,0 +1,211 @@
+-- The two runs of `hull fixed`: their sides, the second run's input, and what is promised.
+use Rattle.std.proofs.Common.{◌≡◌, ℕ, suc, ◌*◌, ◌≤◌, ℤ, List, [], ◌∷◌, ◌++◌, map, length, Option, Result, Ok, sym, ap, ◌∙◌, subst, arith, append_assoc}
+use Rattle.std.proofs.lemmas.Option.{same_Some}
+use Rattle.std.specs.List.{All}
+use Rattle.board_core.specs.Boards.{setup_for}
+use Rattle.board_core.specs.Setups.{IsSetup}
+use Rattle.board_history.specs.Board.{Setup, Content}
+use Rattle.slope_list.specs.Slopes.{room_of}
+use Rattle.slope_list.specs.declared.slopes.Slopes.{Slopes}
+use Rattle.uc_model.specs.declared.cases.Case.{Case}
+use Rattle.uc_model.specs.declared.cases.Plan.{Plan}
+use Rattle.uc_model.specs.declared.units.Point.{Point}
+use Rattle.uc_model.specs.Data.{AnyUnit, Thermal, Flat, Bid, Market, NamedThermalUnit, NamedRenewableUnit, NamedBidUnit, PriceLists, Schedule, unit_count}
+use Rattle.uc_model.specs.Limits.{IsMarket}
+use Rattle.uc_model.specs.PlainCases.{market_of, schedules_of}
+use Rattle.uc_model.specs.PlainUnits.{prices_of}
+use Rattle.uc_model.specs.PriceRule.{Proposal}
+use Rattle.uc_model.specs.Systems.{IsFeasiblePlan, plan_cost, IsSettled}
+use Rattle.unit_program.specs.Benches.{IsBenchFor}
+use Rattle.unit_program.specs.declared.bench.Bench.{Bench}
+use Rattle.uplift_settle.specs.declared.settlement.Settlement.{Settlement}
+use Rattle.fixed_price.specs.FixedCase.{fixed_market}
+use Rattle.fixed_price.specs.Laws.{CommitmentsAreFixed}
+use Rattle.fixed_price.specs.Tops.{IsBenchOver}
+use Rattle.hull_words.specs.Asked.{Asked, PriceAsked, fixed}
+use Rattle.hull_words.specs.Words.{words_of}
+use Rattle.hull_words.specs.declared.fault.WordFault.{WordFault}
+use Rattle.hull_report.specs.FixedText.{told_of, fixed_text}
+use Rattle.hull_report.specs.RecordReport.{SettlementsAreOfAllUnits}
+use Rattle.hull_report.specs.RightSide.{IsRightSide, SidePaymentsMakeUpTheGap, TellsChoice, SettledSidesAreRight}
+use Rattle.hull_report.specs.declared.fixed.Side.{Side}
+use Rattle.hull_engine.specs.declared.end.End.{End}
+use Rattle.hull_engine.specs.declared.end.End.TheVariants.{Done as done_whole, Cut, Refused}
+use Rattle.hull_engine.specs.declared.fixed.Sides.{Sides}
+use Rattle.hull_engine.specs.declared.input.Input.{Input}
+use Rattle.hull_engine.specs.declared.input.RunInput.{RunInput}
+use Rattle.hull_engine.specs.declared.input.RunSize.{RunSize}
+use Rattle.hull_engine.specs.declared.run.Done.{Done}
+use Rattle.hull_engine.specs.Compared.{IsHullSide, IsHeldInput, AreSides, ArePaid}
+use Rattle.hull_engine.specs.Inputs.{planned_of, IsPlanned, IsRunInput}
+use Rattle.hull_engine.specs.Laws.{OverReads, IsFixedPromised}
+use Rattle.hull_engine.specs.Outcome.{command_for, IsFixedText, AreReads, Ends, status_at}
+use Rattle.hull_engine.specs.Rounds.{Suffices, IsBenchOf, setup_of, IsEnded}
+use Rattle.hull_engine.specs.Steps.{Reads, PlannedCase}
+use Rattle.hull_engine.proofs.OutcomeLaws.{status_within, accepted_is_feasible}
+use Rattle.hull_engine.proofs.PlanShapes.{all_more, all_none}
+
+-- ---- the bench of a run
+
+module _ (periods : ℕ) (b : Bench Slopes) where
+  abbrev Serves : AnyUnit → Type 0
+  Serves u = Suffices periods u b
+
+  abbrev Holds : List Point → Type 0
+  Holds ps = IsBenchFor room_of periods (length ps) b
+
+  points_served : (ts : List NamedThermalUnit) (rest : List AnyUnit) → All Serves (map (λ (n : NamedThermalUnit). Thermal n.unit) ts ++ rest) → All Holds (map (λ (n : NamedThermalUnit). n.unit.points) ts)
+  points_served [] rest h = all_none Holds
+  points_served (t ∷ ts) rest h =
+      all_more Holds t.unit.points (map (λ (n : NamedThermalUnit). n.unit.points) ts) (h 0 (Thermal t.unit) (omega arith)) (points_served ts rest (λ k d inside. h (suc k) d (omega (arith, inside))))
+
+-- a bench for each unit of a case suffices for its thermal units
+bench_over : (m : Market) (b : Bench Slopes) → IsBenchOf m b → IsBenchOver m b
+bench_over m b h =
+    let ts = map (λ (n : NamedThermalUnit). Thermal n.unit) m.thermal in
+    let fs = map (λ (n : NamedRenewableUnit). Flat n.unit) m.flat in
+    let bs = map (λ (n : NamedBidUnit). Bid n.unit) m.bids in
+    points_served m.periods b m.thermal (fs ++ bs) (subst (λ (us : List AnyUnit). All (λ (u : AnyUnit). Suffices m.periods u b) us) (append_assoc ts fs bs) h)
+
+-- and so for those of the case whose commitments it holds
+pub bench_over_given : CommitmentsAreFixed → (given held : Market) (plan : List Schedule) (b : Bench Slopes) → IsMarket given → IsFeasiblePlan given plan → held ≡ fixed_market given plan → IsBenchOf held b → IsBenchOver given b
+bench_over_given law given held plan b limits feasible same h =
+    subst (λ (pss : List (List Point)). All (λ (ps : List Point). IsBenchFor room_of given.periods (length ps) b) pss) (law given plan limits feasible).points
+    (subst (λ (m : Market). IsBenchOver m b) same (bench_over held b h))
+
+-- ---- the side of a run
+
+settlement_at : (m : Market) (plan : List Schedule) (π ρ : PriceLists) (s t : Settlement) → π ≡ ρ → s ≡ t → IsSettled m plan π s.scheduled.items s.payments.items s.surplus s.total → IsSettled m plan ρ t.scheduled.items t.payments.items t.surplus t.total
+settlement_at m plan π ρ s t e f h =
+    subst (λ (x : Settlement). IsSettled m plan ρ x.scheduled.items x.payments.items x.surplus x.total) f
+    (subst (λ (p : PriceLists). IsSettled m plan p s.scheduled.items s.payments.items s.surplus s.total) e h)
+
+-- a run that has ended, with what it chose, is a right side
+pub hull_right : SettledSidesAreRight → SettlementsAreOfAllUnits → (run : RunInput) (b : Setup) (d : Done) (s : Side) → b ≡ setup_of run → IsEnded b d → IsSetup d.closed.setup
+    → TellsChoice d.closed s → s.settlement ≡ d.settlement → IsHullSide run s
+hull_right right lengths run b d s opened ended setup choice same =
+    let c = d.closed in
+    let row = same_Some ended.row choice.row (sym ended.settled.chosen ∙ choice.is_chosen) in
+    let prices : ended.row.prices ≡ prices_of s.prices = ap (λ (r : Proposal). r.prices) row ∙ sym choice.prices in
+    let settled = settlement_at c.setup.market c.setup.plan ended.row.prices (prices_of s.prices) d.settlement s.settlement prices (sym same) ended.settled.settled in
+    let side = right c.setup.market c s setup ended.settled.legal ended.settled.finished choice settled in
+    let count = (lengths c.setup.market c.setup.plan (prices_of s.prices) s.settlement.scheduled.items s.settlement.payments.items s.settlement.surplus s.settlement.total ended.settled.feasible settled).1 in
+    let is = ended.setup ∙ opened in
+    record {
+      right = subst (λ (x : Setup). IsRightSide x.market x.market x.plan x.budget x.ahead (told_of s)) is side;
+      count = subst (λ (x : Setup). length s.settlement.payments.items ≡ unit_count x.market) is count;
+    }
+
+-- the schedule of a record, settled at what the record chose, is a right side of the case as given
+pub held_right : SettledSidesAreRight → SettlementsAreOfAllUnits → (given : Market) (d : Done) (s : Side) → IsFeasiblePlan given d.closed.setup.plan → IsEnded d.closed.setup d → IsSetup d.closed.setup
+    → TellsChoice d.closed s → IsSettled given d.closed.setup.plan (prices_of s.prices) s.settlement.scheduled.items s.settlement.payments.items s.settlement.surplus s.settlement.total
+    → IsRightSide given d.closed.setup.market d.closed.setup.plan d.closed.setup.budget d.closed.setup.ahead (told_of s) × (length s.settlement.payments.items ≡ unit_count given)
+held_right right lengths given d s feasible ended setup choice settled =
+    let c = d.closed in (
+      right given c s setup ended.settled.legal ended.settled.finished choice settled,
+      (lengths given c.setup.plan (prices_of s.prices) s.settlement.scheduled.items s.settlement.payments.items s.settlement.surplus s.settlement.total feasible settled).1,
+    )
+
+choice_stays : (c : Content) (s : Side) (t : Settlement) → TellsChoice c s → TellsChoice c (record s { settlement = t })
+choice_stays c s t h = record {
+  proposals = h.proposals;
+  chosen = h.chosen;
+  row = h.row;
+  is_chosen = h.is_chosen;
+  value = h.value;
+  prices = h.prices;
+}
+
+-- the same where the settlement of the side has just been written
+pub held_side : SettledSidesAreRight → SettlementsAreOfAllUnits → (given : Market) (plan : List Schedule) (d : Done) (s : Side) (t : Settlement) → IsFeasiblePlan given d.closed.setup.plan → IsEnded d.closed.setup d → IsSetup d.closed.setup
+    → TellsChoice d.closed s → plan ≡ d.closed.setup.plan → IsSettled given plan (prices_of s.prices) t.scheduled.items t.payments.items t.surplus t.total
+    → IsRightSide given d.closed.setup.market d.closed.setup.plan d.closed.setup.budget d.closed.setup.ahead (told_of (record s { settlement = t })) × (length t.payments.items ≡ unit_count given)
+held_side right lengths given plan d s t feasible ended setup choice same settled =
+    held_right right lengths given d (record s { settlement = t }) feasible ended setup (choice_stays d.closed s t choice)
+    (subst (λ (p : List Schedule). IsSettled given p (prices_of s.prices) t.scheduled.items t.payments.items t.surplus t.total) same settled)
+
+-- a settlement of the run with commitments held has a number for each unit of the case as given
+pub held_lengths : SettlementsAreOfAllUnits → CommitmentsAreFixed → (given : Market) (d : Done) (t : Settlement) → IsMarket given → IsFeasiblePlan given d.closed.setup.plan → IsEnded d.closed.setup d
+    → d.closed.setup.market ≡ fixed_market given d.closed.setup.plan → t ≡ d.settlement → (length t.scheduled.items ≡ unit_count given) × (length t.payments.items ≡ unit_count given)
+held_lengths lengths law given d t limits feasible ended held same =
+    let c = d.closed in
+    let own = d.settlement in
+    let long = lengths c.setup.market c.setup.plan ended.row.prices own.scheduled.items own.payments.items own.surplus own.total ended.settled.feasible ended.settled.settled in
+    let count = ap unit_count held ∙ (law given c.setup.plan limits feasible).count in
+    subst (λ (x : Settlement). (length x.scheduled.items ≡ unit_count given) × (length x.payments.items ≡ unit_count given)) (sym same) (long.0 ∙ count, long.1 ∙ count)
+
+-- what a run gives back
+pub planned_back : (b : Setup) (i : Input) → IsSetup b → market_of i.case ≡ b.market → schedules_of i.plan ≡ b.plan → i.cost ≡ b.cost → IsPlanned i
+planned_back b i setup e f g = record {
+  feasible = subst (λ (m : Market). IsFeasiblePlan m (schedules_of i.plan)) (sym e) (subst (λ (p : List Schedule). IsFeasiblePlan b.market p) (sym f) setup.feasible);
+  cost = g ∙ setup.cost ∙ (λ j. plan_cost (sym e j) (sym f j));
+}
+
+-- ---- the second run
+
+-- what it is made of
+pub held_input : (run : RunInput) (i : Input) → IsRunInput run → IsPlanned i → planned_of i ≡ planned_of run.input → IsHeldInput i.case i.plan i.cost run.size
+held_input run i ready planned same = record {
+  feasible = planned.feasible;
+  cost_is = planned.cost;
+  within = ready.size;
+  work = subst (λ (p : PlannedCase). run.size.proposals * unit_count p.market * p.market.periods ≤ 50000000) (sym same) ready.work;
+}
+
+-- what its board is made for
+pub held_setup : CommitmentsAreFixed → (given : Case) (plan : Plan) (cost : ℤ) (size : RunSize) (held : Case) → IsHeldInput given plan cost size → market_of held ≡ fixed_market (market_of given) (schedules_of plan)
+    → IsSetup (setup_for held plan cost size.proposals size.ahead 1)
+held_setup law given plan cost size held h same =
+    let m = market_of given in
+    let fixing = law m (schedules_of plan) given.valid h.feasible in
+    record {
+      market = held.valid;
+      feasible = subst (λ (x : Market). IsFeasiblePlan x (schedules_of plan)) (sym same) fixing.feasible;
+      cost = h.cost_is ∙ sym fixing.cost ∙ ap (λ (x : Market). plan_cost x (schedules_of plan)) (sym same);
+      some_budget = h.within.budget_in.at_least;
+      budget = h.within.budget_in.at_most;
+      some_ahead = h.within.ahead_in.at_least;
+      ahead = h.within.ahead_in.at_most;
+      some_caller = omega arith;
+      callers = omega arith;
+      size = subst (λ (x : Market). size.proposals * unit_count x * x.periods ≤ 50000000) (sym same)
+          (subst (λ (k : ℕ). size.proposals * k * m.periods ≤ 50000000) (sym fixing.count) h.work);
+    }
+
+-- ---- what is written
+
+pub sides_paid : (run : RunInput) (s : Sides) → AreSides run s → ArePaid s
+sides_paid run s h =
+    let same = ap unit_count (sym h.case) in
+    record { hull = h.hull.count ∙ same; fixed = h.fixed.count ∙ same }
+
+pub fixed_texts : (run : RunInput) (s : Sides) (budget ahead : ℕ) → AreSides run s → run.size.proposals ≡ budget → run.size.ahead ≡ ahead
+    → (text : List ℕ) → text ≡ fixed_text (market_of s.case) s.cost (told_of s.hull) (told_of s.fixed) → IsFixedText budget ahead (planned_of run.input) text
+fixed_texts run s budget ahead h e f text is =
+    subst (λ (n : ℕ). IsFixedText budget n (planned_of run.input) text) f
+    (subst (λ (n : ℕ). IsFixedText n run.size.ahead (planned_of run.input) text) e
+    (told_of s.hull, told_of s.fixed, h.hull.right, h.fixed.right, is ∙ (λ j. fixed_text (h.case j) (h.cost j) (told_of s.hull) (told_of s.fixed))))
+
+-- ---- what is promised
+
+module _ (made_up : SidePaymentsMakeUpTheGap) where
+  promised : (a : PriceAsked) (i : PlannedCase) (gained : List ℕ → Type 0) (text : List ℕ) → IsFeasiblePlan i.market i.plan → i.cost ≡ plan_cost i.market i.plan → IsFixedText a.proposals a.ahead i text → gained text → IsFixedPromised a i gained
+  promised a i gained text feasible cost (hull, held, is_hull, is_held, is) printed = record {
+    hull = hull;
+    held = held;
+    hull_right = is_hull;
+    held_right = is_held;
+    hull_made_up = made_up i.market i.market i.plan a.proposals a.ahead hull feasible is_hull;
+    held_made_up = made_up i.market (fixed_market i.market i.plan) i.plan a.proposals a.ahead held feasible is_held;
+    cost = cost;
+    printed = subst gained is printed;
+  }
+
+  pub fixed_at_0 : (a : PriceAsked) (words : List (List ℕ)) (told : List ℕ → Option (List ℕ)) (rose gained short : List ℕ → Type 0) (n : ℕ) (reads : Reads) (e : End)
+      → AreReads told rose (command_for (words_of words)).name_of reads → Ends (command_for (words_of words)) reads gained short e → n ≡ status_at e → words_of words ≡ Ok (fixed a) → n ≡ 0
+      → OverReads (command_for (words_of words)) told rose (λ reads. (i : PlannedCase) × (command_for (words_of words)).IsDue reads (Ok i) × IsFixedPromised a i gained)
+  fixed_at_0 a words told rose gained short n reads done_whole are (i, due, text, shown, printed) is same z =
+      let accepted = accepted_is_feasible (words_of words) reads i due in
+      (reads, are, (i, due, promised a i gained text accepted.0 accepted.1 (subst (λ (v : Result Asked WordFault). (command_for v).IsText reads i text) same shown) printed))
+  fixed_at_0 a words told rose gained short n reads Cut are ends is same z = absurd (omega (arith, is, z))
+  fixed_at_0 a words told rose gained short n reads (Refused f) are ends is same z = absurd (omega (arith, is, z, (status_within f).0))

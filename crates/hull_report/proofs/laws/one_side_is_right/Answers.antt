@@ -1,0 +1,5 @@
+use Rattle.hull_report.proofs.Sides.{one_side}
+use Rattle.hull_report.proofs.laws.one_side_is_right.Goals as goal
+
+pub returns : goal.returns
+returns c = one_side c.one_schedule_is_least.ensures

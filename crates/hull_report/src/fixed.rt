@@ -1,0 +1,286 @@
+//! The text of `hull fixed`.
+ghost use Rattle.std.specs.Prelude.{◌≡◌, ℕ, ◌<◌, true, List, length, codes};
+ghost use Rattle.std.specs.List.{flat_map};
+ghost use Rattle.board_history.specs.Calls.{has_finished};
+ghost use Rattle.hull_io.specs.Edge.{Writes};
+ghost use Rattle.uc_model.specs.Data.{unit_count};
+ghost use Rattle.uc_model.specs.PlainCases.{market_of};
+ghost use Rattle.uc_model.specs.PlainUnits.{prices_of};
+ghost use Rattle.hull_report.specs.FixedText.{told_of, sides_text, paid_text, paid_line, thermal_paid, renewable_paid, bids_paid, all_paid_text, sums_text, fixed_text};
+ghost use Rattle.hull_report.specs.RightSide.{TellsChoice};
+
+use crate::parts::{Part, write_parts};
+use crate::record::choice_of;
+use board_core::Closed;
+use board_history::laws::rows_are_within;
+use hull_io::{Sink, WriteFailed};
+use uc_model::cases::Case;
+use uc_model::copies::copy_list;
+use uc_model::units::Prices;
+use uplift_settle::Settlement;
+
+/// What the text tells of one run: how many proposals it has, the number from 1 of the chosen one,
+/// its dual value in money and its prices in money for a kilowatt and period, and the settlement of
+/// the schedule at these prices.
+#[derive(Drop)]
+pub struct Side {
+    pub proposals: u32,
+    pub chosen: u32,
+    pub value: i128,
+    pub prices: Prices,
+    pub settlement: Settlement,
+}
+
+// Leaves prices in others over as many periods.
+fn copy_prices(from: &Prices, into: &mut Prices)
+    requires { length (prices_of from.now).energy ≡ length (prices_of into.old).energy }
+    ensures { prices_of into.new ≡ prices_of from.now }
+{
+    copy_list(&from.energy, &mut into.energy);
+    copy_list(&from.reserve, &mut into.reserve);
+}
+
+/// The side of a finished record: what it chose, with the chosen prices in `room`, which is over the
+/// record's periods, and the settlement as it is given. Takes no memory.
+pub fn chosen_side(closed: &Closed, room: Prices, settlement: Settlement) -> Side
+    requires finished { has_finished closed.now ≡ true }
+    requires horizon { length (prices_of room).energy ≡ closed.now.setup.market.periods }
+    ensures choice { TellsChoice closed.now result }
+    ensures horizon { length (prices_of result.prices).energy ≡ closed.now.setup.market.periods }
+    ensures settlement { result.settlement ≡ settlement }
+{
+    closed.is_legal();
+    rows_are_within();
+    let choice = choice_of(closed);
+    let row = &closed.rows()[choice.chosen as usize - 1];
+    let mut prices = room;
+    copy_prices(&row.prices, &mut prices);
+    Side {
+        proposals: choice.proposals,
+        chosen: choice.chosen,
+        value: choice.value,
+        prices,
+        settlement,
+    }
+}
+
+// Writes what each run chose, and the prices.
+fn write_sides<'a, S: Sink>(hull: &'a Side, fixed: &'a Side, out: &mut S) -> Result<(), WriteFailed>
+    ensures { Writes S.held S.faults S.last out.old out.new result
+        (sides_text (told_of hull.now) (told_of fixed.now)) }
+{
+    let hull_energy = hull.prices.energy.as_slice();
+    let hull_reserve = hull.prices.reserve.as_slice();
+    let fixed_energy = fixed.prices.energy.as_slice();
+    let fixed_reserve = fixed.prices.reserve.as_slice();
+    write_parts(
+        out,
+        &[
+            Part::Text(b"hull-fixed 1\nhull proposals "),
+            Part::Count(hull.proposals as u64),
+            Part::Text(b" chosen "),
+            Part::Count(hull.chosen as u64),
+            Part::Text(b" value "),
+            Part::Amount(hull.value),
+            Part::Text(b"\nfixed proposals "),
+            Part::Count(fixed.proposals as u64),
+            Part::Text(b" chosen "),
+            Part::Count(fixed.chosen as u64),
+            Part::Text(b" value "),
+            Part::Amount(fixed.value),
+            Part::Text(b"\nhull energy"),
+            Part::Numbers(hull_energy),
+            Part::Text(b"\nhull reserve"),
+            Part::Numbers(hull_reserve),
+            Part::Text(b"\nfixed energy"),
+            Part::Numbers(fixed_energy),
+            Part::Text(b"\nfixed reserve"),
+            Part::Numbers(fixed_reserve),
+            Part::Text(b"\n"),
+        ],
+    )
+}
+
+// What a unit or a bid is paid at the prices of each run, in money.
+#[derive(Clone, Copy)]
+struct Paid {
+    hull: i64,
+    fixed: i64,
+}
+
+// What the unit of a number is paid.
+fn paid_at(hull: &Side, fixed: &Side, number: usize) -> Paid
+    requires hull { number < length hull.now.settlement.payments.items }
+    requires fixed { number < length fixed.now.settlement.payments.items }
+    ensures { (name : List ℕ) → record {
+      name = name;
+      hull = result.hull;
+      fixed = result.fixed;
+    } ≡ paid_line (told_of hull.now) (told_of fixed.now) number name }
+{
+    Paid {
+        hull: *hull.settlement.payments.get(number),
+        fixed: *fixed.settlement.payments.get(number),
+    }
+}
+
+// Writes the line of a unit or a bid. `kind` is what it begins with.
+fn write_paid<'a, S: Sink>(
+    kind: &'a [u8],
+    name: &'a str,
+    paid: Paid,
+    out: &mut S,
+) -> Result<(), WriteFailed>
+    ensures { Writes S.held S.faults S.last out.old out.new result (paid_text kind.now (record {
+      name = name.now;
+      hull = paid.hull;
+      fixed = paid.fixed;
+    })) }
+{
+    let bytes = name.as_bytes();
+    let hull = i128::from(paid.hull);
+    let fixed = i128::from(paid.fixed);
+    write_parts(
+        out,
+        &[
+            Part::Text(kind),
+            Part::Name(bytes),
+            Part::Text(b" hull "),
+            Part::Amount(hull),
+            Part::Text(b" fixed "),
+            Part::Amount(fixed),
+            Part::Text(b"\n"),
+        ],
+    )
+}
+
+// Writes the lines of the thermal units.
+fn write_thermal_paid<S: Sink>(
+    case: &Case,
+    hull: &Side,
+    fixed: &Side,
+    out: &mut S,
+) -> Result<(), WriteFailed>
+    requires hull { length hull.now.settlement.payments.items ≡ unit_count (market_of case.now) }
+    requires fixed { length fixed.now.settlement.payments.items ≡ unit_count (market_of case.now) }
+    ensures { Writes S.held S.faults S.last out.old out.new result
+        (flat_map (paid_text (codes "unit thermal "))
+        (thermal_paid (market_of case.now) (told_of hull.now) (told_of fixed.now))) }
+{
+    for (place, named) in case.thermal.as_slice().iter().enumerate() {
+        let paid = paid_at(hull, fixed, place);
+        write_paid(b"unit thermal ", named.name.as_str(), paid, out)?;
+    }
+    Ok(())
+}
+
+// Writes the lines of the renewable units.
+fn write_renewable_paid<S: Sink>(
+    case: &Case,
+    hull: &Side,
+    fixed: &Side,
+    out: &mut S,
+) -> Result<(), WriteFailed>
+    requires hull { length hull.now.settlement.payments.items ≡ unit_count (market_of case.now) }
+    requires fixed { length fixed.now.settlement.payments.items ≡ unit_count (market_of case.now) }
+    ensures { Writes S.held S.faults S.last out.old out.new result
+        (flat_map (paid_text (codes "unit renewable "))
+        (renewable_paid (market_of case.now) (told_of hull.now) (told_of fixed.now))) }
+{
+    let first = case.thermal.len();
+    for (place, named) in case.flat.as_slice().iter().enumerate() {
+        let paid = paid_at(hull, fixed, first + place);
+        write_paid(b"unit renewable ", named.name.as_str(), paid, out)?;
+    }
+    Ok(())
+}
+
+// Writes the lines of the bids.
+fn write_bids_paid<S: Sink>(
+    case: &Case,
+    hull: &Side,
+    fixed: &Side,
+    out: &mut S,
+) -> Result<(), WriteFailed>
+    requires hull { length hull.now.settlement.payments.items ≡ unit_count (market_of case.now) }
+    requires fixed { length fixed.now.settlement.payments.items ≡ unit_count (market_of case.now) }
+    ensures { Writes S.held S.faults S.last out.old out.new result
+        (flat_map (paid_text (codes "unit bid "))
+        (bids_paid (market_of case.now) (told_of hull.now) (told_of fixed.now))) }
+{
+    let first = case.producer_count();
+    for (place, named) in case.bids.as_slice().iter().enumerate() {
+        let paid = paid_at(hull, fixed, first + place);
+        write_paid(b"unit bid ", named.name.as_str(), paid, out)?;
+    }
+    Ok(())
+}
+
+// Writes the lines of all units and bids, in the order of their numbers.
+fn write_all_paid<S: Sink>(
+    case: &Case,
+    hull: &Side,
+    fixed: &Side,
+    out: &mut S,
+) -> Result<(), WriteFailed>
+    requires hull { length hull.now.settlement.payments.items ≡ unit_count (market_of case.now) }
+    requires fixed { length fixed.now.settlement.payments.items ≡ unit_count (market_of case.now) }
+    ensures { Writes S.held S.faults S.last out.old out.new result
+        (all_paid_text (market_of case.now) (told_of hull.now) (told_of fixed.now)) }
+{
+    write_thermal_paid(case, hull, fixed, out)?;
+    write_renewable_paid(case, hull, fixed, out)?;
+    write_bids_paid(case, hull, fixed, out)
+}
+
+// Writes the sums of each run, and what the schedule costs.
+fn write_sums<S: Sink>(
+    hull: &Side,
+    fixed: &Side,
+    cost: i128,
+    out: &mut S,
+) -> Result<(), WriteFailed>
+    ensures { Writes S.held S.faults S.last out.old out.new result
+        (sums_text (told_of hull.now) (told_of fixed.now) cost) }
+{
+    let hull = &hull.settlement;
+    let fixed = &fixed.settlement;
+    write_parts(
+        out,
+        &[
+            Part::Text(b"payments hull "),
+            Part::Amount(hull.total),
+            Part::Text(b" fixed "),
+            Part::Amount(fixed.total),
+            Part::Text(b"\nsurplus hull "),
+            Part::Amount(hull.surplus),
+            Part::Text(b" fixed "),
+            Part::Amount(fixed.surplus),
+            Part::Text(b"\ncost "),
+            Part::Amount(cost),
+            Part::Text(b"\nend\n"),
+        ],
+    )
+}
+
+/// Writes the lines of `hull fixed`: what the run of a case chose and what the run with the
+/// schedule's commitments held chose, the payment of each unit and bid of the case at the prices of
+/// each, the sums, and the `cost` of the schedule in money. The settlement of each side has one
+/// number for each unit and bid. Takes no memory. Refused only where the sink's count of faults
+/// rose, and then the sink gained a front of the text.
+pub fn write_fixed<S: Sink>(
+    case: &Case,
+    cost: i128,
+    hull: &Side,
+    fixed: &Side,
+    out: &mut S,
+) -> Result<(), WriteFailed>
+    requires hull { length hull.now.settlement.payments.items ≡ unit_count (market_of case.now) }
+    requires fixed { length fixed.now.settlement.payments.items ≡ unit_count (market_of case.now) }
+    ensures { Writes S.held S.faults S.last out.old out.new result
+        (fixed_text (market_of case.now) cost (told_of hull.now) (told_of fixed.now)) }
+{
+    write_sides(hull, fixed, out)?;
+    write_all_paid(case, hull, fixed, out)?;
+    write_sums(hull, fixed, cost, out)
+}
