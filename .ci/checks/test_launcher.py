@@ -14,19 +14,18 @@ from built import EXAMPLES, LAUNCHER, run
 WITHOUT_RT = {"PATH": "/usr/bin:/bin", "HOME": "/"}
 CRATES = "# a comment\nlow: arrayvec\nfor_tests: low\nhigh: low\nhull_cli: high low\n"
 STAND_IN = """#!/usr/bin/env bash
-echo "$*" >> "$ASKED"
-case "$1 $FAILS" in
-    "all "|"all compile") printf '== low\\nlogic=proved\\n== high\\n== hull_cli\\nlogic=proved\\n== summary\\nlow: ok\\n3 of 3 crates ok\\n' ;;
-    "all high") printf '== low\\nlogic=proved\\n== high\\nlogic=not-proved\\n== summary\\nlow: ok\\nhigh: failed (1)\\n1 of 3 crates ok\\n'; exit 1 ;;
-    "all killed")
-        if [ "$4" != 1 ]; then printf '== summary\\nhigh: failed (-9)\\n1 of 3 crates ok\\n'; exit 1; fi
-        printf '== low\\n== high\\n== hull_cli\\n== summary\\n3 of 3 crates ok\\n' ;;
-    "run compile") exit 1 ;;
+crate=$(basename "$PWD")
+echo "$1 $crate" >> "$ASKED"
+case "$1 $crate $FAILS" in
+    "check high high") exit 1 ;;
+    "check high killed") [ "$(grep -c 'check high' "$ASKED")" -gt 1 ] || exit 137 ;;
+    "run hull_cli compile") exit 1 ;;
     run*)
         printf '#!/bin/sh\\n[ "$#" -gt 0 ] && { echo "given $*"; exit 0; }\\necho fault 1 words 1 0\\nexit 1\\n' > out/hull_cli
         chmod +x out/hull_cli; ./out/hull_cli ;;
 esac
 """
+BUILT = ["check low", "lib low", "check high", "lib high", "check hull_cli", "run hull_cli"]
 
 
 class Launcher(unittest.TestCase):
@@ -58,55 +57,65 @@ class Launcher(unittest.TestCase):
         if not os.path.exists(f"{self.room}/asked"):
             return []
         with open(f"{self.room}/asked", encoding="utf-8") as it:
-            return [line.split()[0] for line in it]
+            return it.read().splitlines()
 
     def test_first_use_proves_the_programs_crates_alone_and_says_how_far_it_is(self):
         status, output, said = self.hull("price", "--case", "a b")
         self.assertEqual((status, output), (0, b"given price --case a b\n"))
         lines = said.decode().splitlines()
         self.assertRegex(
-            lines[0],
-            r"^hull: proving the 3 crates of the program, \d+ at a time; this is done once\. At: low$",
+            lines[0], r"^hull: proving the 3 crates of the program with \d+ processes; this is done once\. At: low$"
         )
-        self.assertEqual(lines[1], "hull: low is proved, 2 of 3 are left. At: high")
         self.assertEqual(
-            lines[2:4],
+            lines[1:4],
             [
-                "hull: high is done, 1 of 3 are left. At: hull_cli",
+                "hull: low is proved, 2 of 3 are left. At: high",
+                "hull: high is proved, 1 of 3 are left. At: hull_cli",
                 "hull: hull_cli is proved, 0 of 3 are left",
             ],
         )
         self.assertEqual(lines[-1], "hull: the program is built")
-        self.assertEqual(self.asked(), ["all", "run"])
+        self.assertEqual(self.asked(), BUILT)
 
     def test_second_use_asks_for_no_proof_and_is_quick(self):
         self.hull("check")
         began = time.monotonic()
         self.assertEqual(self.hull("--version")[1:], (b"given --version\n", b""))
         self.assertLess(time.monotonic() - began, 2)
-        self.assertEqual(self.asked(), ["all", "run"])
+        self.assertEqual(self.asked(), BUILT)
 
     def test_an_edit_of_the_programs_crates_alone_builds_anew(self):
         self.hull("check")
         later = time.time() + 10
         os.utime(f"{self.room}/crates/for_tests/src/lib.rt", (later, later))
         self.hull("check")
-        self.assertEqual(self.asked(), ["all", "run"])
+        self.assertEqual(self.asked(), BUILT)
         os.utime(f"{self.room}/crates/high/src/lib.rt", (later, later))
         self.hull("check")
-        self.assertEqual(self.asked(), ["all", "run", "all", "run"])
+        self.assertEqual(self.asked(), [*BUILT, *BUILT])
 
     def test_a_crate_that_fails_is_named_in_one_clear_line(self):
         status, output, said = self.hull("check", FAILS="high")
         self.assertEqual((status, output), (127, b""))
         lines = said.decode().splitlines()
-        self.assertEqual(lines[2], "hull: high FAILED, 1 of 3 are left. At: hull_cli")
-        self.assertIn("hull: no program: high failed; ", lines[-1])
+        self.assertEqual(lines[2], "hull: high ended badly, and is tried once more at the end")
+        self.assertRegex(lines[-1], r"^hull: no program: high failed; .*/crates/hull_cli/out/logs/high says why$")
+        self.assertEqual(self.asked(), ["check low", "lib low", "check high", "check high"])
 
-    def test_a_crate_that_was_killed_is_tried_again_alone(self):
-        status, output, _ = self.hull("check", FAILS="killed")
-        self.assertEqual(status, 0)
-        self.assertIn(self.asked(), (["all", "all", "run"], ["all", "run"]))
+    def test_a_crate_that_was_killed_is_tried_again_with_nothing_beside_it(self):
+        status, output, said = self.hull("check", FAILS="killed")
+        self.assertEqual((status, output), (0, b"given check\n"))
+        self.assertEqual(self.asked(), [*BUILT[:2], "check high", *BUILT[2:]])
+        self.assertIn("hull: high is proved, 1 of 3 are left", said.decode())
+
+    def test_crates_that_do_not_stand_on_each_other_are_proved_side_by_side(self):
+        self.write("crates.txt", "low:\nbeside:\nhigh: low beside\nhull_cli: high\n")
+        self.write("crates/beside/src/lib.rt", "")
+        self.hull("check")
+        self.assertEqual(
+            (sorted(self.asked()[:4]), self.asked()[4:]),
+            (["check beside", "check low", "lib beside", "lib low"], BUILT[2:]),
+        )
 
     def test_a_build_that_fails_says_where_to_look(self):
         status, output, said = self.hull("check", FAILS="compile")
@@ -129,7 +138,7 @@ class Launcher(unittest.TestCase):
             for _ in range(2)
         ]
         self.assertEqual([it.communicate()[0] for it in both], [b"given check\n"] * 2)
-        self.assertEqual(self.asked(), ["all", "run"])
+        self.assertEqual(self.asked(), BUILT)
 
     def test_help_alone_is_the_launchers_and_other_words_are_the_programs(self):
         status, output, _ = self.hull("help")

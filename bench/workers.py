@@ -1,0 +1,60 @@
+#!/usr/bin/env python3
+"""Measures how much sooner several workers are done, and prints a table.
+
+usage: workers.py [--runs N] [--only NAME,..] [--program PROGRAM]
+
+Each figure is the least of N runs (5 if left out): seconds by the clock, and beside them the share of one worker's time at the
+same number ahead. The number of workers that can be at work at once is that of open proposals times units, so `--ahead` matters.
+Run this on a quiet machine with four processors or more, and compare figures of one machine alone.
+"""
+import argparse
+import os
+import subprocess
+import sys
+import tempfile
+import time
+
+import run
+
+WORKERS = (1, 2, 4, 8, 32)
+AHEAD = (4, 16)
+
+
+def seconds(words):
+    began = time.monotonic()
+    ended = subprocess.run(words, stdin=subprocess.DEVNULL, stdout=subprocess.PIPE, check=False)
+    if ended.returncode:
+        sys.exit(f"workers.py: {' '.join(words)} ended with status {ended.returncode}")
+    return time.monotonic() - began, ended.stdout
+
+
+def main():
+    ask = argparse.ArgumentParser(description="Measures how much sooner several workers are done.")
+    ask.add_argument("--runs", type=int, default=5)
+    ask.add_argument("--only", default="day,c610,c168")
+    ask.add_argument("--program", default=f"{run.HOME}/crates/hull_cli/out/hull_cli")
+    given = ask.parse_args()
+    if not os.access(given.program, os.X_OK):
+        sys.exit(f"workers.py: {given.program} isn't there: ./hull builds it on first use")
+    only = given.only.split(",")
+    print(f"{os.cpu_count()} processors\n")
+    print("| Case | Ahead | " + " | ".join(f"{it} workers" if it > 1 else "1 worker" for it in WORKERS) + " |")
+    print("|---|---|" + "---|" * len(WORKERS), flush=True)
+    with tempfile.TemporaryDirectory(prefix="hull-workers-") as room:
+        for name, command, proposals, _ in run.ROWS:
+            if name not in only:
+                continue
+            case, schedule = run.files_of(name, room)
+            for ahead in AHEAD:
+                words = [given.program, command, "--case", case, "--schedule", schedule]
+                words += ["--proposals", proposals, "--ahead", str(ahead), "--workers"]
+                runs = {it: [seconds([*words, str(it)]) for _ in range(max(1, given.runs))] for it in WORKERS}
+                if len({output for them in runs.values() for _, output in them}) != 1:
+                    sys.exit(f"workers.py: {name}: the numbers of workers don't print the same bytes")
+                best = {it: min(took for took, _ in them) for it, them in runs.items()}
+                cells = [f"{best[it]:.3f} ({best[it] / best[1]:.2f})" for it in WORKERS]
+                print(f"| {name} | {ahead} | " + " | ".join(cells) + " |", flush=True)
+
+
+if __name__ == "__main__":
+    main()
