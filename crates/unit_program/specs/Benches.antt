@@ -11,3 +11,4 @@ pub record IsBenchFor {R : Type 0} (room_of : R → ℕ) (periods points : ℕ) 
   pub count : periods < length b.runners.items
   pub room : HaveRoom room_of (periods * (2 * points + 3)) b.runners.items
   pub rows : periods < length b.table.items
+  pub origins : periods < length b.origins.list.items

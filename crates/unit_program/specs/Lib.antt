@@ -3,6 +3,7 @@ pub mod Backs
 pub mod Builds
 pub mod Lists
 pub mod Live
+pub mod Origins
 pub mod Rows
 pub mod Runners
 pub mod Spells

@@ -12,6 +12,7 @@ ghost use Rattle.unit_program.specs.Live.{HaveRoom};
 ghost use Rattle.unit_program.specs.Rows.{IsFilled};
 
 use crate::answer::{least_end, write_best};
+use crate::origins::Origins;
 use crate::periods::fill_by_periods;
 use crate::runner::Runner;
 use crate::table::Table;
@@ -32,6 +33,8 @@ pub struct Bench<R> {
     pub curve: Curve,
     /// The spells that go forward together.
     pub runners: Vec<Runner<R>>,
+    /// The ends that the next start may follow.
+    pub origins: Origins,
     pub table: Table,
 }
 
@@ -70,11 +73,13 @@ impl Bench<Slopes> {
             blocks,
         };
         let runners = make_runners(alloc, periods + 1, pieces as usize)?;
+        let origins = Origins::make(alloc, periods)?;
         let table = Table::filled(alloc, periods + 1, None)?;
         Ok(Bench {
             pool,
             curve,
             runners,
+            origins,
             table,
         })
     }
@@ -94,6 +99,7 @@ fn fill_bench<R: Running>(bench: &mut Bench<R>, unit: &Unit, prices: &Prices)
         &bench.curve,
         prices,
         bench.runners.as_mut_slice(),
+        &mut bench.origins,
         &mut bench.table,
     );
 }

@@ -13,6 +13,7 @@ pub mod answer;
 pub mod bench;
 pub mod commitment;
 pub mod laws;
+pub mod origins;
 pub mod periods;
 pub mod program;
 pub mod runner;

@@ -3,19 +3,21 @@
 //! A spell that begins later goes on as an earlier one does from the same power, and of equal costs the later first period
 //! is the answer. So an earlier spell goes where a later one, which may stop as soon, is nowhere above it; and a start
 //! isn't made where a running spell is at the least power for less than it costs.
-ghost use Rattle.std.specs.Prelude.{◌≡◌, ℕ, suc, ◌+◌, ◌*◌, ◌<◌, ◌≤◌, ℤ, Option, None, length};
+ghost use Rattle.std.specs.Prelude.{◌≡◌, ◌≢◌, ℕ, suc, ◌+◌, ◌*◌, ◌<◌, ◌≤◌, ℤ, Option, None, length};
 ghost use Rattle.cost_curve.specs.CostCurve.{IsCostCurve};
 ghost use Rattle.uc_model.specs.Data.{PriceLists};
 ghost use Rattle.uc_model.specs.PlainUnits.{thermal_of, prices_of};
 ghost use Rattle.unit_program.specs.Live.{live_at, AreRoomy, AreSmall, HaveRoom, IsFilledTo};
-ghost use Rattle.unit_program.specs.Rows.{cost_at, IsWithinTimes, AreWithin, IsFilled};
+ghost use Rattle.unit_program.specs.Origins.{AreInOrder, AreOrigins, AreOriginsWithin};
+ghost use Rattle.unit_program.specs.Rows.{row_at, cost_at, IsWithinTimes, IsFilled};
 ghost use Rattle.unit_program.specs.Runners.{AreRunners};
 ghost use Rattle.unit_program.specs.Tables.{IsLeastEntry};
 
 use crate::commitment::is_must_off;
+use crate::origins::Origins;
 use crate::program::{clear_rows, first_row};
 use crate::runner::{Runner, begin_runner, is_undercut, prune, run_all, stop_all};
-use crate::table::{Ended, Entry, Table, least_entry};
+use crate::table::{Entry, Table};
 use spell_run::Running;
 use spell_run::laws::{dispatches_are_runs, dispatches_go_on, runs_go_on};
 use uc_model::units::{Curve, Prices, Unit};
@@ -40,20 +42,20 @@ fn start_after<R: Running>(unit: &Unit, place: u32, entry: &Entry, runners: &mut
 }
 
 // Begins the runner of the period after the one at a place, if a spell may begin there and no runner undercuts it.
-fn start<R: Running>(unit: &Unit, place: u32, rows: &[Option<Ended>], runners: &mut [Runner<R>])
-    requires end { place < length (thermal_of unit.now).window }
-    requires rows { place < length rows.now }
+fn start<R: Running>(unit: &Unit, place: u32, origins: &Origins, runners: &mut [Runner<R>])
+    requires small_place { place < 168 }
+    requires within { AreOriginsWithin place origins.now }
+    requires order { AreInOrder origins.now }
     requires runners { suc place < length runners.old }
-    requires within { AreWithin rows.now }
     requires small { AreSmall (live_at R.function runners.old) }
-    ensures stands { (π : PriceLists) →
-        AreRunners (thermal_of unit.now) π (cost_at rows.now) (live_at R.function runners.old) place (suc place) →
-        AreRunners (thermal_of unit.now) π (cost_at rows.now) (live_at R.function runners.new) place (suc (suc place)) }
+    ensures stands { (π : PriceLists) (ends : ℕ → Option ℤ) → AreOrigins (thermal_of unit.now) ends place origins.now →
+        AreRunners (thermal_of unit.now) π ends (live_at R.function runners.old) place (suc place) →
+        AreRunners (thermal_of unit.now) π ends (live_at R.function runners.new) place (suc (suc place)) }
     ensures room { (periods charge : ℕ) → AreRoomy R.count R.room periods place charge runners.old → AreRoomy R.count R.room periods place charge runners.new }
     ensures keeps { (most : ℕ) → HaveRoom R.room most runners.old → HaveRoom R.room most runners.new }
     ensures length { length runners.new ≡ length runners.old }
 {
-    match least_entry(unit, rows, place) {
+    match origins.least(unit, place) {
         Some(entry) => start_after(unit, place, &entry, runners),
         None => {}
     }
@@ -66,6 +68,7 @@ fn take_period<R: Running>(
     prices: &Prices,
     place: u32,
     runners: &mut [Runner<R>],
+    origins: &Origins,
     table: &mut Table,
 )
     requires horizon { length (thermal_of unit.now).window ≡ length (prices_of prices.now).energy }
@@ -75,7 +78,10 @@ fn take_period<R: Running>(
     requires room { AreRoomy R.count R.room (length (prices_of prices.now).energy) place (length curve.now.blocks.items + 3) runners.old }
     requires rows { length (prices_of prices.now).energy < length table.old.items }
     requires filled { IsFilledTo (thermal_of unit.now) (prices_of prices.now) place table.old.items (live_at R.function runners.old) }
+    requires origins { AreOrigins (thermal_of unit.now) (cost_at table.old.items) place origins.now }
+    requires list { length (prices_of prices.now).energy < length origins.now.list.items }
     ensures filled { IsFilledTo (thermal_of unit.now) (prices_of prices.now) (suc place) table.new.items (live_at R.function runners.new) }
+    ensures others { (l : ℕ) → l ≢ suc place → row_at table.new.items l ≡ row_at table.old.items l }
     ensures room { AreRoomy R.count R.room (length (prices_of prices.now).energy) (suc place) (length curve.now.blocks.items + 3) runners.new }
     ensures length { length table.new.items ≡ length table.old.items }
     ensures keeps { (most : ℕ) → HaveRoom R.room most runners.old → HaveRoom R.room most runners.new }
@@ -88,7 +94,7 @@ fn take_period<R: Running>(
     runs_go_on();
     dispatches_go_on();
     dispatches_are_runs();
-    start(unit, place, table.as_slice(), runners);
+    start(unit, place, origins, runners);
     run_all(unit, curve, prices, place, runners, table);
     prune(unit, place + 1, runners);
 }
@@ -125,28 +131,33 @@ fn begin_all<R: Running>(unit: &Unit, runners: &mut [Runner<R>], table: &mut Tab
 }
 
 /// Fills the table for a unit at prices over its horizon of T periods, as `program::fill` does. `curve` is the curve of the
-/// unit's points. There are at least T + 1 runners, each with room for T (B + 3) pieces, where the curve has B blocks, and
-/// `table` has at least T + 1 rows. Takes no memory.
+/// unit's points. There are at least T + 1 runners, each with room for T (B + 3) pieces, where the curve has B blocks;
+/// `origins` has room for T periods, and `table` has at least T + 1 rows. Takes no memory.
 pub fn fill_by_periods<R: Running>(
     unit: &Unit,
     curve: &Curve,
     prices: &Prices,
     runners: &mut [Runner<R>],
+    origins: &mut Origins,
     table: &mut Table,
 )
     requires horizon { length (thermal_of unit.now).window ≡ length (prices_of prices.now).energy }
     requires curve { IsCostCurve (thermal_of unit.now).points curve.now }
     requires runners { length (prices_of prices.now).energy < length runners.old }
     requires room { HaveRoom R.room (length (prices_of prices.now).energy * (length curve.now.blocks.items + 3)) runners.old }
+    requires list { length (prices_of prices.now).energy < length origins.old.list.items }
     requires rows { length (prices_of prices.now).energy < length table.old.items }
     ensures filled { IsFilled (thermal_of unit.now) (prices_of prices.now) (suc (length (prices_of prices.now).energy)) table.new.items }
     ensures length { length table.new.items ≡ length table.old.items }
     ensures keeps { (most : ℕ) → HaveRoom R.room most runners.old → HaveRoom R.room most runners.new }
     ensures count { length runners.new ≡ length runners.old }
+    ensures list { length origins.new.list.items ≡ length origins.old.list.items }
 {
     begin_all(unit, runners, table);
+    origins.begin(unit, table.as_slice());
     let periods = prices.energy.len() as u32;
     for place in 0..periods {
-        take_period(unit, curve, prices, place, runners, table);
+        take_period(unit, curve, prices, place, runners, origins, table);
+        origins.go_on(unit, place, table.as_slice());
     }
 }

@@ -1,10 +1,10 @@
-use Rattle.std.proofs.Common.{◌≡◌, ℕ, suc, ◌+◌, List, Option, length, sym, subst, arith}
+use Rattle.std.proofs.Common.{◌≡◌, ℕ, suc, ◌+◌, length, sym, subst, arith}
 use Rattle.uc_model.specs.PlainUnits.{thermal_of, prices_of}
-use Rattle.unit_program.specs.declared.table.Ended.{Ended}
 use Rattle.unit_program.specs.Live.{live_at}
 use Rattle.unit_program.specs.Rows.{cost_at}
 use Rattle.unit_program.specs.Runners.{AreRunners}
 use Rattle.unit_program.proofs.LiveLaws.{small_of, have_room}
+use Rattle.unit_program.proofs.OriginLaws.{origins_within}
 use Rattle.unit_program.proofs.PeriodLaws.{period_off, period_run, period_filled}
 use Rattle.unit_program.proofs.periods.take_period.Goals as goal
 
@@ -17,6 +17,15 @@ pub returns-then-is_must_off-clause-room : goal.returns-then-is_must_off-clause-
 returns-then-is_must_off-clause-room g c =
     c.stop_all.ensures.room (length c.args.prices.now.energy.items) (suc c.args.place) (length c.args.curve.now.blocks.items + 3)
     (have_room g.R.Running.count g.R.Running.room (length c.args.prices.now.energy.items) c.args.place (length c.args.curve.now.blocks.items + 3) c.args.runners.now c.requires.room)
+
+pub start-requires-clause-within : goal.start-requires-clause-within
+start-requires-clause-within g c =
+    let place = c.requires.place in
+    let list = c.requires.list in
+    origins_within (thermal_of c.args.unit.now) c.args.table.now.items c.args.place c.args.origins.now c.requires.origins c.requires.filled.within (omega (arith, place, list))
+
+pub start-requires-clause-order : goal.start-requires-clause-order
+start-requires-clause-order g c = c.requires.origins.right.order
 
 pub start-requires-clause-small : goal.start-requires-clause-small
 start-requires-clause-small g c =
@@ -35,8 +44,7 @@ prune-requires-clause-small g c =
     let π = prices_of c.args.prices.now in
     let few = c.args.prices.now.valid.horizon.at_most in
     let place = c.requires.place in
-    let before = subst (λ (rows : List (Option Ended)). AreRunners u π (cost_at rows) (live_at g.R.Running.function c.args.runners.now) c.args.place (suc c.args.place)) (sym c.as_slice.ensures) c.requires.filled.runners in
-    let now = subst (λ (rows : List (Option Ended)). AreRunners u π (cost_at rows) (live_at g.R.Running.function c.start.new.runners) c.args.place (suc (suc c.args.place))) c.as_slice.ensures (c.start.ensures.stands π before) in
+    let now = c.start.ensures.stands π (cost_at c.args.table.now.items) c.requires.origins c.requires.filled.runners in
     let ran = period_run u π c.args.unit.now.valid c.args.place c.args.table.now.items (live_at g.R.Running.function c.args.runners.now) c.requires.filled c.requires.place c.run_all.new.table.items
     (live_at g.R.Running.function c.start.new.runners) (live_at g.R.Running.function c.run_all.new.runners) now c.runs_go_on.ensures (c.is_must_off.ensures.no c.if-is_must_off.false) c.run_all.ensures.goes c.run_all.ensures.off in
     small_of u π _ (live_at g.R.Running.function c.run_all.new.runners) (suc c.args.place) (suc (suc c.args.place)) (omega (arith, few, place)) (omega (arith, few, place)) ran
@@ -47,8 +55,7 @@ returns-clause-filled g c =
     let π = prices_of c.args.prices.now in
     let few = c.args.prices.now.valid.horizon.at_most in
     let place = c.requires.place in
-    let before = subst (λ (rows : List (Option Ended)). AreRunners u π (cost_at rows) (live_at g.R.Running.function c.args.runners.now) c.args.place (suc c.args.place)) (sym c.as_slice.ensures) c.requires.filled.runners in
-    let now = subst (λ (rows : List (Option Ended)). AreRunners u π (cost_at rows) (live_at g.R.Running.function c.start.new.runners) c.args.place (suc (suc c.args.place))) c.as_slice.ensures (c.start.ensures.stands π before) in
+    let now = c.start.ensures.stands π (cost_at c.args.table.now.items) c.requires.origins c.requires.filled.runners in
     let ran = period_run u π c.args.unit.now.valid c.args.place c.args.table.now.items (live_at g.R.Running.function c.args.runners.now) c.requires.filled c.requires.place c.run_all.new.table.items
     (live_at g.R.Running.function c.start.new.runners) (live_at g.R.Running.function c.run_all.new.runners) now c.runs_go_on.ensures (c.is_must_off.ensures.no c.if-is_must_off.false) c.run_all.ensures.goes c.run_all.ensures.off in
     let next : suc c.args.place ≡ c.args.place + 1 = omega arith in
