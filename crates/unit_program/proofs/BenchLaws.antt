@@ -17,13 +17,15 @@ charge_less periods points blocks few = mul-le-mul_left periods (omega (arith, f
 pub bench_kept : {R : Type 0} (room : R → ℕ) (periods points : ℕ) (old new : Bench R) → old.pool.spare ≡ new.pool.spare →
     length old.curve.blocks.items + old.curve.blocks.spare ≡ length new.curve.blocks.items + new.curve.blocks.spare → length new.runners.items ≡ length old.runners.items →
     ((most : ℕ) → HaveRoom room most old.runners.items → HaveRoom room most new.runners.items) → length new.table.items ≡ length old.table.items →
-    length new.origins.list.items ≡ length old.origins.list.items → IsBenchFor room periods points old → IsBenchFor room periods points new
-bench_kept room periods points old new pool curve count keeps rows list b =
+    length new.origins.list.items ≡ length old.origins.list.items →
+    length new.roster.firsts.items ≡ length old.roster.firsts.items → IsBenchFor room periods points old → IsBenchFor room periods points new
+bench_kept room periods points old new pool curve count keeps rows list firsts b =
     let cells = b.cells in
     let blocks = b.blocks in
     let enough = b.count in
     let long = b.rows in
     let origins = b.origins in
+    let roster = b.roster in
     record {
       cells = omega (arith, cells, pool);
       blocks = omega (arith, blocks, curve);
@@ -31,6 +33,7 @@ bench_kept room periods points old new pool curve count keeps rows list b =
       room = keeps (periods * (2 * points + 3)) b.room;
       rows = omega (arith, long, rows);
       origins = omega (arith, origins, list);
+      roster = omega (arith, roster, firsts);
     }
 
 -- ---- runners made one by one

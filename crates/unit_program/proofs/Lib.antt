@@ -13,6 +13,7 @@ pub mod LiveLaws
 pub mod OriginLaws
 pub mod PeriodLaws
 pub mod RipeLaws
+pub mod RosterLaws
 pub mod RowByRowLaws
 pub mod RowLaws
 pub mod RunAllLaws

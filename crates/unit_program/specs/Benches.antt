@@ -12,3 +12,4 @@ pub record IsBenchFor {R : Type 0} (room_of : R → ℕ) (periods points : ℕ) 
   pub room : HaveRoom room_of (periods * (2 * points + 3)) b.runners.items
   pub rows : periods < length b.table.items
   pub origins : periods < length b.origins.list.items
+  pub roster : periods < length b.roster.firsts.items

@@ -14,6 +14,7 @@ ghost use Rattle.unit_program.specs.Rows.{IsFilled};
 use crate::answer::{least_end, write_best};
 use crate::origins::Origins;
 use crate::periods::fill_by_periods;
+use crate::roster::Roster;
 use crate::runner::Runner;
 use crate::table::Table;
 use cost_curve::curves::curve_into;
@@ -35,6 +36,8 @@ pub struct Bench<R> {
     pub runners: Vec<Runner<R>>,
     /// The ends that the next start may follow.
     pub origins: Origins,
+    /// Which spells go forward.
+    pub roster: Roster,
     pub table: Table,
 }
 
@@ -74,12 +77,14 @@ impl Bench<Slopes> {
         };
         let runners = make_runners(alloc, periods + 1, pieces as usize)?;
         let origins = Origins::make(alloc, periods)?;
+        let roster = Roster::make(alloc, periods)?;
         let table = Table::filled(alloc, periods + 1, None)?;
         Ok(Bench {
             pool,
             curve,
             runners,
             origins,
+            roster,
             table,
         })
     }
@@ -98,8 +103,9 @@ fn fill_bench<R: Running>(bench: &mut Bench<R>, unit: &Unit, prices: &Prices)
         unit,
         &bench.curve,
         prices,
-        bench.runners.as_mut_slice(),
         &mut bench.origins,
+        &mut bench.roster,
+        bench.runners.as_mut_slice(),
         &mut bench.table,
     );
 }

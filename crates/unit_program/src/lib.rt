@@ -16,6 +16,7 @@ pub mod laws;
 pub mod origins;
 pub mod periods;
 pub mod program;
+pub mod roster;
 pub mod runner;
 pub mod table;
 

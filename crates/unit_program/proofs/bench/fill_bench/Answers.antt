@@ -20,9 +20,9 @@ returns-clause-bench g c = λ periods points b.
     let lent = c.as_mut_slice.ensures in
     let same = with_items_is c.args.bench.now.runners c.fill_by_periods.new.runners (c.fill_by_periods.ensures.count ∙ lent.len) in
     bench_kept g.R.Running.room periods points c.args.bench.now
-    (record { pool = c.args.bench.now.pool; curve = c.curve_into.new.into; runners = with_items c.args.bench.now.runners c.fill_by_periods.new.runners; origins = c.fill_by_periods.new.origins; table = c.fill_by_periods.new.table })
+    (record { pool = c.args.bench.now.pool; curve = c.curve_into.new.into; runners = with_items c.args.bench.now.runners c.fill_by_periods.new.runners; origins = c.fill_by_periods.new.origins; roster = c.fill_by_periods.new.roster; table = c.fill_by_periods.new.table })
     refl (sym c.curve_into.ensures.room) (ap length same ∙ c.fill_by_periods.ensures.count ∙ ap length lent.value)
     (λ most have.
     subst (λ (xs : List (Runner g.row.R.Denot)). HaveRoom g.R.Running.room most xs) (sym same)
     (c.fill_by_periods.ensures.keeps most (subst (λ (xs : List (Runner g.row.R.Denot)). HaveRoom g.R.Running.room most xs) (sym lent.value) have)))
-    c.fill_by_periods.ensures.length c.fill_by_periods.ensures.list b
+    c.fill_by_periods.ensures.length c.fill_by_periods.ensures.list c.fill_by_periods.ensures.firsts b

@@ -25,4 +25,4 @@ returns-clause-none g c = λ no s right.
 
 pub returns-clause-bench : goal.returns-clause-bench
 returns-clause-bench g c = λ periods points b.
-    bench_kept g.R.Running.room periods points c.fill_bench.new.bench _ (sym (c.write_best-written.ensures.sure refl)) refl refl (λ most have. have) refl refl (c.fill_bench.ensures.bench periods points b)
+    bench_kept g.R.Running.room periods points c.fill_bench.new.bench _ (sym (c.write_best-written.ensures.sure refl)) refl refl (λ most have. have) refl refl refl (c.fill_bench.ensures.bench periods points b)

@@ -3,6 +3,7 @@ use Rattle.uc_model.specs.PlainUnits.{thermal_of, prices_of}
 use Rattle.unit_program.specs.declared.table.Ended.{Ended}
 use Rattle.unit_program.specs.Live.{live_at, AreRoomy, IsFilledTo}
 use Rattle.unit_program.specs.Origins.{AreOrigins}
+use Rattle.unit_program.specs.Rosters.{IsRoster}
 use Rattle.unit_program.specs.Rows.{cost_at}
 use Rattle.unit_program.proofs.OriginLaws.{origins_to}
 use Rattle.unit_program.proofs.PeriodLaws.{filled_whole}
@@ -14,6 +15,8 @@ loop-place-init g c = record {
   filled = c.begin_all.ensures.filled (prices_of c.args.prices.now) c.args.prices.now.valid.horizon.at_least;
   roomy = c.begin_all.ensures.room (length c.args.prices.now.energy.items) (length c.args.curve.now.blocks.items + 3) c.requires.room;
   origins = subst (λ (rows : List (Option Ended)). AreOrigins (thermal_of c.args.unit.now) (cost_at rows) 0 c.begin.new.self) c.as_slice.ensures c.begin.ensures.origins;
+  roster = c.begin_all.ensures.roster;
+  firsts_same = c.begin_all.ensures.firsts;
   list_same = c.begin.ensures.length;
   rows_length = c.begin_all.ensures.length;
   keeps = c.begin_all.ensures.keeps;
@@ -28,6 +31,8 @@ loop-place-preserved g c =
       roomy = subst (λ (t : ℕ). AreRoomy g.R.Running.count g.R.Running.room (length c.args.prices.now.energy.items) t (length c.args.curve.now.blocks.items + 3) c.take_period.new.runners) next c.take_period.ensures.room;
       origins = subst (λ (t : ℕ). AreOrigins (thermal_of c.args.unit.now) (cost_at c.take_period.new.table.items) t c.go_on.new.self) next
           (subst (λ (rows : List (Option Ended)). AreOrigins (thermal_of c.args.unit.now) (cost_at rows) (suc c.loop-place.place) c.go_on.new.self) c.as_slice-in-loop-place.ensures c.go_on.ensures.origins);
+      roster = subst (λ (t : ℕ). IsRoster (live_at g.R.Running.function c.take_period.new.runners) (suc t) c.take_period.new.roster) next c.take_period.ensures.roster;
+      firsts_same = c.take_period.ensures.firsts ∙ c.loop-place.invariant.firsts_same;
       list_same = c.go_on.ensures.length ∙ c.loop-place.invariant.list_same;
       rows_length = c.take_period.ensures.length ∙ c.loop-place.invariant.rows_length;
       keeps = λ most have. c.take_period.ensures.keeps most (c.loop-place.invariant.keeps most have);

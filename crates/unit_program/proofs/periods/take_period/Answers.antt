@@ -6,6 +6,7 @@ use Rattle.unit_program.specs.Runners.{AreRunners}
 use Rattle.unit_program.proofs.LiveLaws.{small_of, have_room}
 use Rattle.unit_program.proofs.OriginLaws.{origins_within}
 use Rattle.unit_program.proofs.PeriodLaws.{period_off, period_run, period_filled}
+use Rattle.unit_program.proofs.RosterLaws.{none_listed, still_listed}
 use Rattle.unit_program.proofs.periods.take_period.Goals as goal
 
 pub returns-then-is_must_off-clause-filled : goal.returns-then-is_must_off-clause-filled
@@ -71,3 +72,38 @@ returns-clause-room g c = c.prune.ensures.room (length c.args.prices.now.energy.
 
 pub returns-clause-keeps : goal.returns-clause-keeps
 returns-clause-keeps g c = λ most have. c.prune.ensures.keeps most (c.run_all.ensures.keeps most (c.start.ensures.keeps most have))
+
+pub returns-then-is_must_off-clause-roster : goal.returns-then-is_must_off-clause-roster
+returns-then-is_must_off-clause-roster g c =
+    none_listed (live_at g.R.Running.function c.stop_all.new.runners) (suc (suc c.args.place)) c.clear.new.self c.clear.ensures.count c.stop_all.ensures.off
+
+pub prune-requires-clause-roster : goal.prune-requires-clause-roster
+prune-requires-clause-roster g c =
+    still_listed (live_at g.R.Running.function c.start.new.runners) (live_at g.R.Running.function c.run_all.new.runners) (suc (suc c.args.place)) (suc (c.args.place + 1)) c.start.new.roster (omega arith)
+    c.run_all.ensures.off c.start.ensures.roster
+
+pub keep-requires-clause-small : goal.keep-requires-clause-small
+keep-requires-clause-small g c =
+    let few = c.start.ensures.roster.few in
+    let place = c.requires.place in
+    let periods = c.args.prices.now.valid.horizon.at_most in
+    omega (arith, few, place, periods)
+
+pub keep-requires-clause-roster : goal.keep-requires-clause-roster
+keep-requires-clause-roster g c =
+    let place = c.requires.place in
+    let runners = c.requires.runners in
+    let a = c.start.ensures.length in
+    let b = c.run_all.ensures.count in
+    let d = c.prune.ensures.length in (
+      suc (suc c.args.place),
+      omega (arith, place, runners, a, b, d),
+      still_listed (live_at g.R.Running.function c.start.new.runners) (live_at g.R.Running.function c.prune.new.runners) (suc (suc c.args.place)) (suc (suc c.args.place)) c.start.new.roster (omega arith)
+          (λ f off. c.prune.ensures.off f (c.run_all.ensures.off f off)) c.start.ensures.roster,
+    )
+
+pub returns-clause-roster : goal.returns-clause-roster
+returns-clause-roster g c =
+    c.keep.ensures.roster (suc (suc c.args.place))
+    (still_listed (live_at g.R.Running.function c.start.new.runners) (live_at g.R.Running.function c.prune.new.runners) (suc (suc c.args.place)) (suc (suc c.args.place)) c.start.new.roster (omega arith)
+    (λ f off. c.prune.ensures.off f (c.run_all.ensures.off f off)) c.start.ensures.roster)
