@@ -75,20 +75,18 @@ all_few us k most past have =
 
 -- ---- what a bench suffices for
 
-cells_less : (periods points less : ℕ) → periods * (2 * less + 3) ≤ periods * (2 * points + 3) → (periods + 2) * (1 + periods * (2 * less + 3)) ≤ (periods + 2) * (1 + periods * (2 * points + 3))
-cells_less periods points less pieces = mul-le-mul_left (periods + 2) (omega (arith, pieces))
-
 -- a bench for more points is one for fewer
 smaller : (periods points less : ℕ) (b : Bench Slopes) → less ≤ points → IsBenchFor room_of periods points b → IsBenchFor room_of periods less b
 smaller periods points less b low h =
     let blocks = h.blocks in
     let pieces : periods * (2 * less + 3) ≤ periods * (2 * points + 3) = mul-le-mul_left periods (omega (arith, low)) in
     record {
-      cells = le_trans (cells_less periods points less pieces) h.cells;
       blocks = omega (arith, blocks, low);
       count = h.count;
-      room = λ f r is. le_trans pieces (h.room f r is);
+      room = λ f r is. (le_trans pieces (h.room f r is).0, (h.room f r is).1);
       rows = h.rows;
+      origins = h.origins;
+      roster = h.roster;
     }
 
 module _ (periods : ℕ) (b : Bench Slopes) where

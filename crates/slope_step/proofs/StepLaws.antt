@@ -22,7 +22,7 @@ use Rattle.slope_step.specs.Turn.{IsTurn}
 use Rattle.slope_step.proofs.LineLaws.{line_step}
 use Rattle.slope_step.proofs.PieceLaws.{ends_rise_to, along_line, along_from_stand, last_place-take, stand-take}
 use Rattle.slope_step.proofs.FunctionLaws.{on_inside, by_place, on_same, IsConvex-from_curves, convex_steps, IsSum-on, IsCurveSum-on, cost_at_is}
-use Rattle.slope_step.proofs.ValleyLaws.{IsLeast-valley, IsWindow-valley}
+use Rattle.slope_step.proofs.ValleyLaws.{IsBottom-valley, IsWindow-valley}
 use Rattle.slope_step.proofs.KinkLaws.{kinked_curves}
 use Rattle.slope_step.proofs.WindowLaws.{nearest_inside}
 use Rattle.slope_step.proofs.BoundLaws.{level_within}
@@ -131,7 +131,7 @@ module _ (start : Start) (ps : List Piece) (s : Step) (c : Curve) (m lo hi : ℤ
   turn_on = (
     table_on (kinked start ps s) start.first (last_place start.first ps),
     IsSum-on (reserve_term s.reserve_price s.cap s.ramp_up) (function_of start ps) start.first (last_place start.first ps),
-    (kinked start ps s m, IsLeast-valley (kinked start ps s) start.first (last_place start.first ps) m valley),
+    IsBottom-valley (kinked start ps s) start.first (last_place start.first ps) m valley,
   )
 
   -- the pieces that are written

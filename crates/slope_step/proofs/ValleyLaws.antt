@@ -6,6 +6,7 @@ use Rattle.std.proofs.lemmas.Int.{ints, clamps, by_lt_z}
 use Rattle.shape_law.specs.Effect.{IsWindow, IsLeast}
 use Rattle.slope_step.specs.Pieces.{table_on}
 use Rattle.slope_step.specs.Kink.{IsValley}
+use Rattle.slope_step.specs.Turn.{IsBottom}
 use Rattle.slope_step.specs.Window.{nearest}
 use Rattle.slope_step.proofs.FunctionLaws.{on_inside, on_back}
 
@@ -70,6 +71,32 @@ module _ (f : ℤ → ℤ) (a b m : ℤ) (v : IsValley f a b m) where
         least = λ y w h. let o = on_back f a b y w h in let e = o.value in let l = valley_least y o.from o.to in omega (arith, ints);
         first = λ y h. let o = on_back f a b y (f m) h in valley_first y o.from o.to (sym o.value);
       }
+
+  falls_below : (x y : ℤ) → a ≤ℤ x → x <ℤ y → y ≤ℤ m → f y <ℤ f x
+  falls_below x y low order high =
+      let here = v.falls x low (omega (arith, ints, order, high)) in
+      let rest = falls_to (x +ℤ pos 1) y (omega (arith, ints, low)) (omega (arith, ints, order)) high in
+      omega (arith, ints, here, rest)
+
+  pub IsBottom-valley : IsBottom (table_on f a b) m
+  IsBottom-valley = record {
+    value = f m;
+    there = on_inside f a b m v.from v.to;
+    falls = λ y z w u h i order high.
+        (let o = on_back f a b y w h in
+        let p = on_back f a b z u i in
+        let l = falls_below y z o.from order high in
+        let e = o.value in
+        let k = p.value in
+        omega (arith, ints, l, e, k));
+    rises = λ y z w u h i low order.
+        (let o = on_back f a b y w h in
+        let p = on_back f a b z u i in
+        let l = rises_to y z low order p.to in
+        let e = o.value in
+        let k = p.value in
+        omega (arith, ints, l, e, k));
+  }
 
   -- ---- the window
 

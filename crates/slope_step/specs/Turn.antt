@@ -1,13 +1,19 @@
 -- What else a step answers.
-use Rattle.std.specs.Prelude.{◌≡◌, ℤ, ◌≤ℤ◌, Some}
+use Rattle.std.specs.Prelude.{◌≡◌, ℤ, ◌≤ℤ◌, ◌<ℤ◌, Some}
 use Rattle.shape_law.specs.declared.step.Step.{Step}
-use Rattle.shape_law.specs.Effect.{IsLeast}
 use Rattle.shape_law.specs.Steps.{IsKinked}
 use Rattle.shape_law.specs.Table.{Table, value_of}
 
--- x is the least place of the least value of f less the worth of the best reserve
+-- f falls up to its place x, and doesn't fall after it: x is the least place of the least value
+pub record IsBottom (f : Table) (x : ℤ) : Type 0 where
+  pub value : ℤ
+  pub there : value_of f x ≡ Some value
+  pub falls : (y z v w : ℤ) → value_of f y ≡ Some v → value_of f z ≡ Some w → y <ℤ z → z ≤ℤ x → w <ℤ v
+  pub rises : (y z v w : ℤ) → value_of f y ≡ Some v → value_of f z ≡ Some w → x ≤ℤ y → y ≤ℤ z → v ≤ℤ w
+
+-- x is the least place of the least value of f less the worth of the best reserve, which is convex
 abbrev pub IsTurn : Step → Table → ℤ → Type 0
-IsTurn s f x = (kinked : Table) × IsKinked s f kinked × ((v : ℤ) × IsLeast kinked v x)
+IsTurn s f x = (kinked : Table) × IsKinked s f kinked × IsBottom kinked x
 
 -- x is the first place of f, and v is the value there
 pub record IsFirst (f : Table) (x v : ℤ) : Type 0 where

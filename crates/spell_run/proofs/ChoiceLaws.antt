@@ -15,7 +15,7 @@ use Rattle.spell_run.specs.Laws.{best_reserve}
 use Rattle.spell_run.specs.Steps.{IsFairStep, IsKinked, IsSmall}
 use Rattle.spell_run.proofs.ReserveLaws.{best_where_paid, best_may}
 
-abbrev stored : ℤ → ℤ
+abbrev pub stored : ℤ → ℤ
 stored z = to_z w64 (of_z w64 z)
 
 stored_within : (z : ℤ) → IsWithin 3000000000 z → stored z ≡ z

@@ -35,7 +35,7 @@ step_path a b c d e f g = cc
 
 -- ---- limits
 
-cap_out : (g : ThermalUnit) (starts stops : Bool) → IsThermalUnit g → IsOutput (cap_at g starts stops)
+pub cap_out : (g : ThermalUnit) (starts stops : Bool) → IsThermalUnit g → IsOutput (cap_at g starts stops)
 cap_out g true true unit = record {
   at_least = (let a = unit.max_power.at_least in let b = unit.start_limit.at_least in let c = unit.stop_limit.at_least in omega (arith, ints, clamps, a, b, c));
   at_most = (let a = unit.max_power.at_most in omega (arith, ints, clamps, a));
@@ -237,6 +237,13 @@ module _ (g : ThermalUnit) (π : PriceLists) (k : ℕ) (starts starts' : Bool) (
   alike_of on on_is (inl free) = inl (sym (ap (λ (s : Step). s.reserve_price) on_is) ∙ free)
   alike_of on on_is (inr alike) =
       inr (subst (λ (b : Bool). cap_at g b true ≡ cap_at g b false) same (sym (ap (λ (s : Step). s.cap) last_is) ∙ alike ∙ ap (λ (s : Step). s.cap) on_is))
+
+  pub range_moved : IsFairStep last → (P : ℤ → ℤ → Type 0) → P (stored last.least) (stored last.most) → P g.min_power (step_at g π k starts' true).most
+  range_moved fair P here =
+      let low : stored last.least ≡ g.min_power = to_z-of_z w64 last.least (output_fits last.least fair.least) ∙ ap (λ (s : Step). s.least) last_is in
+      let high : stored last.most ≡ (step_at g π k starts' true).most =
+      to_z-of_z w64 last.most (output_fits last.most fair.most) ∙ ap (λ (s : Step). s.most) last_is ∙ ap (λ (b : Bool). (step_at g π k b true).most) same in
+      subst (λ (x : ℤ). P x (step_at g π k starts' true).most) low (subst (λ (y : ℤ). P (stored last.least) y) high here)
 
   pub range_of : IsFairStep last → (h : Table) (o : Option ℤ) → IsLeastCostIn (stored last.least) (stored last.most) h o → IsLeastCostIn g.min_power (step_at g π k starts' true).most h o
   range_of fair h o least =

@@ -1,10 +1,13 @@
 pub mod BoundLaws
 pub mod ChoiceLaws
+pub mod CutLaws
+pub mod EndLaws
 pub mod EntryLaws
 pub mod FairLaws
 pub mod FrameLaws
 pub mod FrontierLaws
 pub mod JoinLaws
+pub mod NoteLaws
 pub mod PeriodLaws
 pub mod ReserveLaws
 pub mod RunLaws

@@ -2,5 +2,6 @@ pub mod Entries
 pub mod Frontier
 pub mod Joins
 pub mod Laws
+pub mod Notes
 pub mod Spells
 pub mod Steps

@@ -65,7 +65,7 @@ fn write(into: &mut Answered, place: usize, power: u32, reserve: u32)
 }
 
 /// Writes a period with its power, and the best reserve after the power before it.
-fn write_best(into: &mut Answered, place: usize, step: Step, before: i64, power: i64)
+pub(crate) fn write_best(into: &mut Answered, place: usize, step: Step, before: i64, power: i64)
     requires place { place < length (schedule_of into.old.response).on }
     requires step { IsFairStep step }
     requires before { IsOutput before }

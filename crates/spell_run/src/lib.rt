@@ -10,8 +10,10 @@ pub mod laws;
 pub mod running;
 pub mod spell;
 mod step;
+pub mod way;
 
 pub use best::spell_best;
 pub use costs::spell_costs;
 pub use running::{Running, begin, end_and_run, run_over};
 pub use spell::{Spell, SpellCosts};
+pub use way::{Note, Passed, write_spell};

@@ -1,10 +1,11 @@
 //! Spells that go forward in place, a period at a time, on functions that take no memory.
-ghost use Rattle.std.specs.Prelude.{◌≡◌, ℕ, ℤ, suc, ◌==◌, ◌+◌, ◌-◌, ◌^◌, ◌<◌, ◌≤◌, pos, neg_ℤ, ◌+ℤ◌, ◌≤ℤ◌, true, false, IsTrue, ◌↔◌, length, Some, MatchOption, IfSome};
+ghost use Rattle.std.specs.Prelude.{◌≡◌, ℕ, ℤ, suc, ◌==◌, ◌+◌, ◌-◌, ◌^◌, ◌<◌, ◌≤◌, pos, neg_ℤ, ◌+ℤ◌, ◌≤ℤ◌, true, false, IsTrue, ◌↔◌, length, Some, MatchOption, IfSome, IfNone, None};
 ghost use Rattle.std.specs.Bool.{OnTrue};
 ghost use Rattle.cost_curve.specs.CostCurve.{IsCostCurve};
 ghost use Rattle.shape_law.specs.Effect.{IsPoint, IsLeast, IsLeastIn};
 ghost use Rattle.shape_law.specs.Table.{Table, value_of, IsPlace, IsAmount, IsEmpty, HasNone};
 ghost use Rattle.spell_run.specs.Frontier.{IsFrontier};
+ghost use Rattle.spell_run.specs.Notes.{IsNoted, IsEndNoted, end_cost};
 ghost use Rattle.spell_run.specs.Spells.{IsSpellAnswer, IsSpellWithin};
 ghost use Rattle.spell_run.specs.Steps.{step_at, IsFairStep, IsCostOf, IsStepped, IsLeastCost, IsLeastCostIn, IsSmall};
 ghost use Rattle.slope_step.specs.Turn.{IsTurn, IsFirst, IsLast};
@@ -13,7 +14,8 @@ ghost use Rattle.uc_model.specs.Limits.{IsFrom};
 ghost use Rattle.uc_model.specs.PlainUnits.{thermal_of, prices_of};
 
 use crate::costs::is_alike;
-use crate::step::{Step, step_of};
+use crate::step::{Step, starts_in, step_of};
+use crate::way::{Note, Passed};
 use slope_list::{Lowest, Slopes, Spot};
 use uc_model::units::{Curve, Prices, Unit};
 
@@ -147,12 +149,11 @@ impl Running for Slopes {
     }
 }
 
-/// Whether a spell starts in the period at a place; `first` 0 stands for one that goes on from before period 1.
-fn starts_in(first: u32, place: usize) -> bool
-    requires { suc place < 2 ^ 32 }
-    ensures { result ≡ (first == suc place) }
-{
-    first as usize == place + 1
+/// The first and the last place of a function.
+#[derive(Clone, Copy)]
+struct Interval {
+    first: i64,
+    last: i64,
 }
 
 /// The power that the first ramp of a spell is measured from.
@@ -177,8 +178,25 @@ pub fn begin<R: Running>(unit: &Unit, first: u32, running: &mut R)
     running.restart(power_before(unit, first), 0);
 }
 
-/// Takes a spell over the period at a place, as far as no stop follows; `first` 0 stands for a spell that goes on from
-/// before period 1. `curve` is the curve of the unit's points.
+/// The first and the last place of a function; both are 0 on an empty interval.
+fn interval_of<R: Running>(running: &R) -> Interval
+    ensures first { (x v : ℤ) → value_of (R.function running.now) x ≡ Some v → (w : ℤ) × IsFirst (R.function running.now) result.first w }
+    ensures last { (x v : ℤ) → value_of (R.function running.now) x ≡ Some v → IsLast (R.function running.now) result.last }
+{
+    let first = match running.first() {
+        Some(spot) => spot.at,
+        None => 0,
+    };
+    let last = match running.last() {
+        Some(last) => last,
+        None => 0,
+    };
+    Interval { first, last }
+}
+
+/// Takes a spell over the period at a place, as far as no stop follows, and answers what the step leaves for the way back,
+/// which is open where no place is left. `first` 0 stands for a spell that goes on from before period 1. `curve` is the
+/// curve of the unit's points.
 pub fn run_over<R: Running>(
     unit: &Unit,
     curve: &Curve,
@@ -186,85 +204,46 @@ pub fn run_over<R: Running>(
     first: u32,
     place: usize,
     running: &mut R,
-)
+) -> Note
     requires curve { IsCostCurve (thermal_of unit.now).points curve.now }
     requires place { place < length (prices_of prices.now).energy }
     requires order { first ≤ suc place }
     requires frontier { IsFrontier (thermal_of unit.now) (prices_of prices.now) first place (R.function running.old) }
     requires room { R.count running.old + length curve.now.blocks.items + 3 ≤ R.room running.old }
     ensures frontier { IsFrontier (thermal_of unit.now) (prices_of prices.now) first (suc place) (R.function running.new) }
-    ensures turn { (y w : ℤ) → value_of (R.function running.old) y ≡ Some w →
-        IsTurn (step_at (thermal_of unit.now) (prices_of prices.now) place (first == suc place) false) (R.function running.old) (R.turned running.new) }
+    ensures noted { (x v : ℤ) → value_of (R.function running.old) x ≡ Some v →
+        IsNoted (thermal_of unit.now) (prices_of prices.now) first place false result (R.function running.new) }
     ensures count { R.count running.new ≤ R.count running.old + length curve.now.blocks.items + 3 }
     ensures room { R.room running.new ≡ R.room running.old }
 {
     let starts = starts_in(first, place);
+    let before = interval_of(running);
     running.step(step_of(unit, prices, place, starts, false), curve);
+    Note {
+        turn: running.turn(),
+        first: before.first,
+        last: before.last,
+    }
 }
 
-/// The least value of a function.
-fn least_cost<R: Running>(running: &R) -> Option<i64>
-    ensures { IsLeastCost (R.function running.now) result }
+/// A least value of a function after a step with this turn.
+fn lowest_at(spot: Option<Spot>, turn: i64) -> Option<Lowest>
+    ensures none { IfNone result (spot ≡ None) }
+    ensures some { IfSome result (λ r. (spot ≡ Some (record { at = r.at; value = r.value })) × (r.turn ≡ turn)) }
 {
-    match running.least() {
-        Some(spot) => Some(spot.value),
+    match spot {
+        Some(spot) => Some(Lowest {
+            value: spot.value,
+            at: spot.at,
+            turn,
+        }),
         None => None,
     }
 }
 
-/// The least value of a function at the powers from `least` to `most`.
-fn least_cost_in<R: Running>(running: &R, least: i64, most: i64) -> Option<i64>
-    ensures { IsLeastCostIn least most (R.function running.now) result }
-{
-    match running.least_in(least, most) {
-        Some(spot) => Some(spot.value),
-        None => None,
-    }
-}
-
-/// The least cost after a step that the function itself doesn't take.
-fn least_cost_after<R: Running>(running: &mut R, step: Step, curve: &Curve) -> Option<i64>
-    requires step { IsFairStep step }
-    requires curve { IsCostOf step curve.now }
-    requires small { IsSmall (R.function running.old) }
-    requires room { R.count running.old + length curve.now.blocks.items + 3 ≤ R.room running.old }
-    ensures least { (after : Table) × IsStepped step curve.now (R.function running.old) after × IsLeastCost after result }
-    ensures function { R.function running.new ≡ R.function running.old }
-    ensures count { R.count running.new ≡ R.count running.old }
-    ensures room { R.room running.new ≡ R.room running.old }
-{
-    match running.least_after(step, curve) {
-        Some(lowest) => Some(lowest.value),
-        None => None,
-    }
-}
-
-/// The least cost of the spells that end with the period at a place, by a step that knows of the stop after it.
-fn cost_to_stop<R: Running>(
-    unit: &Unit,
-    curve: &Curve,
-    prices: &Prices,
-    first: u32,
-    place: usize,
-    running: &mut R,
-) -> Option<i64>
-    requires curve { IsCostCurve (thermal_of unit.now).points curve.now }
-    requires place { suc place < length (prices_of prices.now).energy }
-    requires order { first ≤ suc place }
-    requires frontier { IsFrontier (thermal_of unit.now) (prices_of prices.now) first place (R.function running.old) }
-    requires room { R.count running.old + length curve.now.blocks.items + 3 ≤ R.room running.old }
-    ensures function { R.function running.new ≡ R.function running.old }
-    ensures count { R.count running.new ≡ R.count running.old }
-    ensures room { R.room running.new ≡ R.room running.old }
-    ensures answer { IsSpellAnswer (thermal_of unit.now) (prices_of prices.now) (length (prices_of prices.now).energy) first (suc place) result }
-    ensures within { IfSome result (IsSpellWithin first (suc place)) }
-{
-    let starts = starts_in(first, place);
-    least_cost_after(running, step_of(unit, prices, place, starts, true), curve)
-}
-
-/// Takes a spell over the period at a place, as `run_over` does, and answers the least net cost of the spells that end
-/// with it, with a stop after it where the prices go on; None exactly where no dispatch is there.
+/// Takes a spell over the period at a place, as `run_over` does, and answers what it leaves for the way back, with the
+/// least net cost of the spells that end with the period, with a stop after it where the prices go on; None exactly where
+/// no dispatch is there.
 ///
 /// A stop after the period lowers its cap. Where it doesn't, or where reserve isn't paid for, the costs up to a stop are
 /// those of the function itself at the powers that a stop allows; otherwise they are found beside it.
@@ -275,32 +254,35 @@ pub fn end_and_run<R: Running>(
     first: u32,
     place: usize,
     running: &mut R,
-) -> Option<i64>
+) -> Passed
     requires curve { IsCostCurve (thermal_of unit.now).points curve.now }
     requires place { place < length (prices_of prices.now).energy }
     requires order { first ≤ suc place }
     requires frontier { IsFrontier (thermal_of unit.now) (prices_of prices.now) first place (R.function running.old) }
     requires room { R.count running.old + length curve.now.blocks.items + 3 ≤ R.room running.old }
-    ensures answer { IsSpellAnswer (thermal_of unit.now) (prices_of prices.now) (length (prices_of prices.now).energy) first (suc place) result }
-    ensures within { IfSome result (IsSpellWithin first (suc place)) }
+    ensures answer { IsSpellAnswer (thermal_of unit.now) (prices_of prices.now) (length (prices_of prices.now).energy) first (suc place) (end_cost result.end) }
+    ensures within { IfSome result.end (λ e. IsSpellWithin first (suc place) e.value) }
+    ensures ended { IfSome result.end (IsEndNoted (thermal_of unit.now) (prices_of prices.now) first place result.note) }
     ensures frontier { IsFrontier (thermal_of unit.now) (prices_of prices.now) first (suc place) (R.function running.new) }
-    ensures turn { (y w : ℤ) → value_of (R.function running.old) y ≡ Some w →
-        IsTurn (step_at (thermal_of unit.now) (prices_of prices.now) place (first == suc place) false) (R.function running.old) (R.turned running.new) }
+    ensures noted { (x v : ℤ) → value_of (R.function running.old) x ≡ Some v →
+        IsNoted (thermal_of unit.now) (prices_of prices.now) first place false result.note (R.function running.new) }
     ensures count { R.count running.new ≤ R.count running.old + length curve.now.blocks.items + 3 }
     ensures room { R.room running.new ≡ R.room running.old }
 {
     if place + 1 == prices.energy.len() {
-        run_over(unit, curve, prices, first, place, running);
-        return least_cost(running);
+        let note = run_over(unit, curve, prices, first, place, running);
+        let end = lowest_at(running.least(), note.turn);
+        return Passed { note, end };
     }
     let starts = starts_in(first, place);
     let on = step_of(unit, prices, place, starts, false);
     let last = step_of(unit, prices, place, starts, true);
     if is_alike(on, last) {
-        run_over(unit, curve, prices, first, place, running);
-        return least_cost_in(running, last.least, last.most);
+        let note = run_over(unit, curve, prices, first, place, running);
+        let end = lowest_at(running.least_in(last.least, last.most), note.turn);
+        return Passed { note, end };
     }
-    let cost = cost_to_stop(unit, curve, prices, first, place, running);
-    run_over(unit, curve, prices, first, place, running);
-    cost
+    let end = running.least_after(last, curve);
+    let note = run_over(unit, curve, prices, first, place, running);
+    Passed { note, end }
 }

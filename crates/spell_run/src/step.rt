@@ -21,6 +21,14 @@ pub(crate) fn starts_at(first: u32, started: bool, place: usize) -> bool
     started && first as usize == place + 1
 }
 
+/// Whether a spell starts in the period at a place; `first` 0 stands for one that goes on from before period 1.
+pub(crate) fn starts_in(first: u32, place: usize) -> bool
+    requires { suc place < 2 ^ 32 }
+    ensures { result ≡ (first == suc place) }
+{
+    first as usize == place + 1
+}
+
 /// The greatest power with reserve in a period where the unit starts, or stops after it.
 fn cap_in(unit: &Unit, starts: bool, stops: bool) -> i64
     ensures { result ≡ cap_at (thermal_of unit.now) starts stops }

@@ -118,6 +118,32 @@ module _ (g : ThermalUnit) (π : PriceLists) (periods first last : ℕ) where
     ];
   }
 
+  -- the first dispatch of least cost
+  pub written_first : (a b : Schedule) → (c : ℤ) × IsBestDispatch g π periods first last b c × IsFirstDispatch g π periods first last b c → IsOnFromTo first last b → IsSameOutside first last a b → IsWritten g π periods first last a b
+  written_first a b best on outside = record {
+    on = λ t. elim t as (λ t. 1 ≤ t → first ≤ t → t ≤ last → IsTrue (on_in g b t)) [
+      | zero ↦ λ one from until. absurd (omega (arith, one))
+      | suc k ↦ λ one from until. on k from until
+    ];
+    best = λ net least.
+        (let low = best.1.least least.dispatch least.keeps in
+        let high = least.least b best.1.keeps in
+        let cost = best.1.cost in
+        let net_is = least.cost in
+        (best.1.keeps, omega (arith, ints, low, high, cost, net_is)));
+    tie = λ net least.
+        (let low = best.1.least least.dispatch least.keeps in
+        let high = least.least b best.1.keeps in
+        let cost = best.1.cost in
+        let net_is = least.cost in
+        let same : best.0 ≡ net = omega (arith, ints, low, high, cost, net_is) in
+        subst (λ (c : ℤ). IsFirstDispatch g π periods first last b c) same best.2);
+    others = λ t. elim t as (λ t. (t < first) ⊎ (last < t) → IsSameIn g a b t) [
+      | zero ↦ λ out. record { on = refl; power = refl; reserve = refl }
+      | suc k ↦ λ out. record { on = outside.on k out; power = ap pos (outside.power k out); reserve = ap pos (outside.reserve k out) }
+    ];
+  }
+
   -- there is a dispatch, so one is answered
   pub written_answer : (n : ℕ) (a b : Schedule) (answer : Option ℤ) → n ≡ max first 1 → (net : ℤ) × IsLeastSpell g π periods first last net
       → MatchOption answer (HasNoDispatch g periods (spell_first (ltb 0 first) n) last) (IsBestDispatch g π periods (spell_first (ltb 0 first) n) last b)

@@ -7,30 +7,28 @@ use Rattle.unit_program.specs.declared.bench.Bench.{Bench}
 use Rattle.unit_program.specs.Benches.{IsBenchFor}
 use Rattle.unit_program.specs.Live.{HaveRoom}
 
-pub room_less : {R : Type 0} (room : R → ℕ) (most less : ℕ) (runners : List (Runner R)) → less ≤ most → HaveRoom room most runners → HaveRoom room less runners
-room_less room most less runners low have f r is = (let there = have f r is in omega (arith, low, there))
+pub room_less : {R : Type 0} (room : R → ℕ) (most less periods : ℕ) (runners : List (Runner R)) → less ≤ most → HaveRoom room most periods runners → HaveRoom room less periods runners
+room_less room most less periods runners low have f r is = (let there = (have f r is).0 in (omega (arith, low, there), (have f r is).1))
 
 -- a curve of so many points asks for no more
 pub charge_less : (periods points blocks : ℕ) → blocks ≤ 2 * (points - 1) → periods * (blocks + 3) ≤ periods * (2 * points + 3)
 charge_less periods points blocks few = mul-le-mul_left periods (omega (arith, few))
 
-pub bench_kept : {R : Type 0} (room : R → ℕ) (periods points : ℕ) (old new : Bench R) → old.pool.spare ≡ new.pool.spare →
+pub bench_kept : {R : Type 0} (room : R → ℕ) (periods points : ℕ) (old new : Bench R) →
     length old.curve.blocks.items + old.curve.blocks.spare ≡ length new.curve.blocks.items + new.curve.blocks.spare → length new.runners.items ≡ length old.runners.items →
-    ((most : ℕ) → HaveRoom room most old.runners.items → HaveRoom room most new.runners.items) → length new.table.items ≡ length old.table.items →
+    ((most periods : ℕ) → HaveRoom room most periods old.runners.items → HaveRoom room most periods new.runners.items) → length new.table.items ≡ length old.table.items →
     length new.origins.list.items ≡ length old.origins.list.items →
     length new.roster.firsts.items ≡ length old.roster.firsts.items → IsBenchFor room periods points old → IsBenchFor room periods points new
-bench_kept room periods points old new pool curve count keeps rows list firsts b =
-    let cells = b.cells in
+bench_kept room periods points old new curve count keeps rows list firsts b =
     let blocks = b.blocks in
     let enough = b.count in
     let long = b.rows in
     let origins = b.origins in
     let roster = b.roster in
     record {
-      cells = omega (arith, cells, pool);
       blocks = omega (arith, blocks, curve);
       count = omega (arith, enough, count);
-      room = keeps (periods * (2 * points + 3)) b.room;
+      room = keeps (periods * (2 * points + 3)) periods b.room;
       rows = omega (arith, long, rows);
       origins = omega (arith, origins, list);
       roster = omega (arith, roster, firsts);
@@ -44,9 +42,10 @@ get_append [] r (suc i) x h = cc
 get_append (y ∷ ys) r zero x h = inl h
 get_append (y ∷ ys) r (suc i) x h = get_append ys r i x h
 
-pub room_more : {R : Type 0} (room : R → ℕ) (most : ℕ) (runners runners' : List (Runner R)) (r : Runner R) → runners' ≡ runners ++ r ∷ [] → most ≤ room r.running → HaveRoom room most runners → HaveRoom room most runners'
-room_more room most runners runners' r is fits have f x there =
+pub room_more : {R : Type 0} (room : R → ℕ) (most periods : ℕ) (runners runners' : List (Runner R)) (r : Runner R) → runners' ≡ runners ++ r ∷ [] → most ≤ room r.running → periods ≤ length r.passed.items →
+    HaveRoom room most periods runners → HaveRoom room most periods runners'
+room_more room most periods runners runners' r is fits long have f x there =
     elim (get_append runners r f x (ap (λ xs. slice_get xs f) (sym is) ∙ there)) [
       | inl before ↦ have f x before
-      | inr same ↦ subst (λ x. most ≤ room x.running) same fits
+      | inr same ↦ subst (λ x. (most ≤ room x.running) × (periods ≤ length x.passed.items)) same (fits, long)
     ]

@@ -28,3 +28,4 @@ pub mod StartLaws
 pub mod TableLaws
 pub mod TieLaws
 pub mod UpdateLaws
+pub mod WaysLaws

@@ -254,9 +254,12 @@ module _ {R : Type 0} (function : R → Table) (count room : R → ℕ) (g : The
             let before : slice_get runners₀ f ≡ Some r = sym (run.rest f from) ∙ is in
             record {
               whole = (roomy₀ f r before).whole;
+              places = (roomy₀ f r before).places;
               rest = λ on. (let off = none f from low in let live = ap (going_of function) before ∙ going_on function r on in absurd (cc));
             }
       ];
+      ends = run.ends;
+      left = run.left;
       keeps = run.keeps;
       count_same = run.count_same;
     }

@@ -50,6 +50,7 @@ runners_to g π a b live t n same now = record {
           may = old.may;
           order = old.order;
           within = old.within;
+          noted = old.noted;
         },
       );
   all = λ f e d low may entry run. now.all f e d low may (entry_to g b a f (λ l less. sym (same l (omega (arith, less, low)))) e entry) run;

@@ -1,16 +1,18 @@
 -- All runners over a period, one after the other.
-use Rattle.std.proofs.Common.{◌≡◌, ◌≢◌, ℕ, suc, ◌+◌, ◌<◌, ◌≤◌, inl, inr, Bool, true, false, get_or, Option, Some, None, List, length, refl, sym, ap, ◌∙◌, subst, arith}
+use Rattle.std.proofs.Common.{◌≡◌, ◌≢◌, ℕ, suc, ◌+◌, ◌<◌, ◌≤◌, ◌⊎◌, ℤ, inl, inr, Bool, true, false, get_or, Option, Some, None, List, length, refl, sym, ap, ◌∙◌, subst, arith}
 use Rattle.std.specs.Prelude.{slice_get, slice_set}
 use Rattle.std.proofs.lemmas.Option.{slice_get-get_or}
-use Rattle.std.proofs.lemmas.Bool.{cases_lt}
+use Rattle.std.proofs.lemmas.Bool.{cases_lt, cases_eq}
 use Rattle.shape_law.specs.Table.{Table}
 use Rattle.uc_model.specs.Data.{ThermalUnit, PriceLists}
+use Rattle.spell_run.specs.Notes.{passed_at}
 use Rattle.unit_program.specs.declared.runner.Runner.{Runner}
 use Rattle.unit_program.specs.declared.table.Ended.{Ended}
-use Rattle.unit_program.specs.Live.{going_of, live_at, IsRoomy, AreRoomy, HaveRoom}
+use Rattle.unit_program.specs.Live.{going_of, live_at, left_of, left_at, IsRoomy, AreRoomy, HaveRoom}
 use Rattle.unit_program.specs.Rows.{row_at, cost_at, first_at, before_at, AreWithin}
-use Rattle.unit_program.specs.Runners.{Going, IsRowOf, IsGoneOn}
+use Rattle.unit_program.specs.Runners.{Going, IsRowOf, IsGoneOn, IsEndLeft}
 use Rattle.unit_program.proofs.LiveLaws.{going_on, going_off, on_some, get_set_same}
+use Rattle.unit_program.proofs.RowLaws.{cost-same, first-same}
 use Rattle.unit_program.proofs.RunnerRowLaws.{row_none}
 
 module _ {R : Type 0} (function : R → Table) (count room : R → ℕ) (g : ThermalUnit) (π : PriceLists) (t charge : ℕ) where
@@ -27,7 +29,9 @@ module _ {R : Type 0} (function : R → Table) (count room : R → ℕ) (g : The
     pub off : live_at function runners n ≡ None → live_at function runners' n ≡ None
     pub rest : (f : ℕ) → f ≢ n → slice_get runners' f ≡ slice_get runners f
     pub roomy : (r : Runner R) → slice_get runners' n ≡ Some r → IsRoomy count room (length π.energy) (suc t) charge r
-    pub keeps : (most : ℕ) → HaveRoom room most runners → HaveRoom room most runners'
+    pub ends : (row_at rows' (suc t) ≡ row_at rows (suc t)) ⊎ ((first_at rows' (suc t) ≡ n) × IsEndLeft g π n t (left_at runners' n t))
+    pub left : (k : ℕ) → k ≢ t → left_at runners' n k ≡ left_at runners n k
+    pub keeps : (most periods : ℕ) → HaveRoom room most periods runners → HaveRoom room most periods runners'
     pub count_same : length runners' ≡ length runners
 
   module _ (rows₀ : List (Option Ended)) (runners₀ : List (Runner R)) where
@@ -41,7 +45,9 @@ module _ {R : Type 0} (function : R → Table) (count room : R → ℕ) (g : The
       pub off : (f : ℕ) → f < n → live_at function runners₀ f ≡ None → live_at function runners f ≡ None
       pub rest : (f : ℕ) → n ≤ f → slice_get runners f ≡ slice_get runners₀ f
       pub roomy : (f : ℕ) (r : Runner R) → f < n → slice_get runners f ≡ Some r → IsRoomy count room (length π.energy) (suc t) charge r
-      pub keeps : (most : ℕ) → HaveRoom room most runners₀ → HaveRoom room most runners
+      pub ends : (v : ℤ) → cost_at rows (suc t) ≡ Some v → IsEndLeft g π (first_at rows (suc t)) t (left_at runners (first_at rows (suc t)) t)
+      pub left : (f k : ℕ) → k ≢ t → left_at runners f k ≡ left_at runners₀ f k
+      pub keeps : (most periods : ℕ) → HaveRoom room most periods runners₀ → HaveRoom room most periods runners
       pub count_same : length runners ≡ length runners₀
 
     pub run_begins : AreWithin rows₀ → cost_at rows₀ (suc t) ≡ None → IsRunTo 0 rows₀ runners₀
@@ -54,7 +60,9 @@ module _ {R : Type 0} (function : R → Table) (count room : R → ℕ) (g : The
       off = λ f low is. absurd (omega (arith, low));
       rest = λ f from. refl;
       roomy = λ f r low is. absurd (omega (arith, low));
-      keeps = λ most have. have;
+      ends = λ v is. cc;
+      left = λ f k other. refl;
+      keeps = λ most periods have. have;
       count_same = refl;
     }
 
@@ -84,7 +92,21 @@ module _ {R : Type 0} (function : R → Table) (count room : R → ℕ) (g : The
           roomy = λ f r low. at_last (λ (f : ℕ). slice_get runners' f ≡ Some r → IsRoomy count room (length π.energy) (suc t) charge r) n f low
               (λ less is. so_far.roomy f r less (sym (same f less) ∙ is))
               (λ is. one.roomy r is);
-          keeps = λ most have. one.keeps most (so_far.keeps most have);
+          ends = λ v is. elim (one.ends) [
+            | inl kept ↦
+                let was : cost_at rows (suc t) ≡ Some v = sym (cost-same rows' rows (suc t) (suc t) kept) ∙ is in
+                let first : first_at rows' (suc t) ≡ first_at rows (suc t) = first-same rows' rows (suc t) (suc t) kept in
+                let before = (so_far.row.sound v was).2 in
+                let left = ap (λ o. left_of o t) (same (first_at rows (suc t)) before) in
+                subst (λ (f : ℕ). IsEndLeft g π f t (left_at runners' f t)) (sym first)
+                (subst (IsEndLeft g π (first_at rows (suc t)) t) (sym left) (so_far.ends v was))
+            | inr named ↦ subst (λ (f : ℕ). IsEndLeft g π f t (left_at runners' f t)) (sym named.0) named.1
+          ];
+          left = λ f k other. elim (cases_eq f n) [
+            | inl z ↦ ap (λ (f : ℕ). left_at runners' f k) z ∙ one.left k other ∙ sym (ap (λ (f : ℕ). left_at runners f k) z) ∙ so_far.left f k other
+            | inr apart ↦ ap (λ o. left_of o k) (one.rest f apart) ∙ so_far.left f k other
+          ];
+          keeps = λ most periods have. one.keeps most periods (so_far.keeps most periods have);
           count_same = one.count_same ∙ so_far.count_same;
         })
 
@@ -108,7 +130,8 @@ module _ {R : Type 0} (function : R → Table) (count room : R → ℕ) (g : The
             let before : slice_get runners₀ f ≡ Some r = sym (all.rest f from) ∙ is in
             record {
               whole = (roomy₀ f r before).whole;
-              rest = λ on. (let low = none f (record { before = r.before; cost = r.cost; function = function r.running }) (ap (going_of function) before ∙ going_on function r on) in absurd (omega (arith, low, from)));
+              places = (roomy₀ f r before).places;
+              rest = λ on. (let low = none f (record { before = r.before; cost = r.cost; function = function r.running; left = passed_at r.passed.items }) (ap (going_of function) before ∙ going_on function r on) in absurd (omega (arith, low, from)));
             }
       ]
 
@@ -122,7 +145,7 @@ module _ {R : Type 0} (function : R → Table) (runners : List (Runner R)) (i : 
   item_same d d' b is = (let x = item_at d in let y = item_at d' in let e : get_or runners i d' ≡ get_or runners i d = (cc) in ap (λ (r : Runner R). r.is_on) e ∙ is)
 
   pub item_live : (d : Runner R) → (get_or runners i d).is_on ≡ true →
-      live_at function runners i ≡ Some (record { before = (get_or runners i d).before; cost = (get_or runners i d).cost; function = function (get_or runners i d).running })
+      live_at function runners i ≡ Some (record { before = (get_or runners i d).before; cost = (get_or runners i d).cost; function = function (get_or runners i d).running; left = passed_at (get_or runners i d).passed.items })
   item_live d on = ap (going_of function) (item_at d) ∙ going_on function (get_or runners i d) on
 
   pub item_off : (d : Runner R) → (get_or runners i d).is_on ≡ false → live_at function runners i ≡ None
@@ -131,7 +154,7 @@ module _ {R : Type 0} (function : R → Table) (runners : List (Runner R)) (i : 
   pub read_at : (x : Runner R) → x ≡ get_or runners i x → slice_get runners i ≡ Some x
   read_at x is = item_at x ∙ ap Some (sym is)
 
-  pub read_live : (x : Runner R) → x ≡ get_or runners i x → x.is_on ≡ true → live_at function runners i ≡ Some (record { before = x.before; cost = x.cost; function = function x.running })
+  pub read_live : (x : Runner R) → x ≡ get_or runners i x → x.is_on ≡ true → live_at function runners i ≡ Some (record { before = x.before; cost = x.cost; function = function x.running; left = passed_at x.passed.items })
   read_live x is on = ap (going_of function) (read_at x is) ∙ going_on function x on
 
   -- where it is known to be on
@@ -144,11 +167,11 @@ module _ {R : Type 0} (function : R → Table) (runners : List (Runner R)) (i : 
 
   module _ (g : ThermalUnit) (π : PriceLists) (t : ℕ) (b : Runner R) where
     pub goes_written : (d : Runner R) → (get_or runners i d).is_on ≡ true →
-        IsGoneOn g π t i (record { before = (get_or runners i d).before; cost = (get_or runners i d).cost; function = function (get_or runners i d).running }) (going_of function (Some b)) →
+        IsGoneOn g π t i (record { before = (get_or runners i d).before; cost = (get_or runners i d).cost; function = function (get_or runners i d).running; left = passed_at (get_or runners i d).passed.items }) (going_of function (Some b)) →
         (r : Going) → live_at function runners i ≡ Some r → IsGoneOn g π t i r (live_at function (slice_set runners i b) i)
     goes_written d on gone r is =
         let here = item_live d on in
-        let same : record { before = (get_or runners i d).before; cost = (get_or runners i d).cost; function = function (get_or runners i d).running } ≡ r = (cc) in
+        let same : record { before = (get_or runners i d).before; cost = (get_or runners i d).cost; function = function (get_or runners i d).running; left = passed_at (get_or runners i d).passed.items } ≡ r = (cc) in
         subst (λ (o : Option Going). IsGoneOn g π t i r o) (sym (ap (going_of function) (get_set_same runners i b low)))
         (subst (λ (r : Going). IsGoneOn g π t i r (going_of function (Some b))) same gone)
 

@@ -13,6 +13,7 @@ use Rattle.spell_run.specs.Steps.{level, IsRun}
 use Rattle.unit_program.specs.Spells.{on_time}
 use Rattle.unit_program.specs.Tables.{IsEntry, IsLeastEntry}
 use Rattle.unit_program.specs.Runners.{Going, MayBeOn, IsRunner, HasStandIn, AreRunners, IsGoneOn}
+use Rattle.unit_program.proofs.WaysLaws.{noted_more}
 use Rattle.unit_program.proofs.CostLaws.{sum_from_to-more, sum_from_to-none}
 
 -- a start comes from the least power
@@ -210,7 +211,7 @@ module _ (g : ThermalUnit) (π : PriceLists) (ends : ℕ → Option ℤ) (t : �
           elim (h.next_is) [
             | inr gone ↦ (let none = gone.0 in cc)
             | inl here ↦
-                let new : Going = record { before = r.before; cost = r.cost; function = h.function } in
+                let new : Going = record { before = r.before; cost = r.cost; function = h.function; left = h.left } in
                 let z : new ≡ x = (cc) in
                 let runner : IsRunner g π ends (suc t) f new = record {
                   entry = old.1.entry;
@@ -218,6 +219,7 @@ module _ (g : ThermalUnit) (π : PriceLists) (ends : ℕ → Option ℤ) (t : �
                   may = may_next g f t open_next old.1.may;
                   order = omega (arith, low);
                   within = old.1.within;
+                  noted = noted_more g π f t r.function h.function r.left h.left old.1.frontier h.frontier h.kept h.noted old.1.noted;
                 } in
                 (low, subst (λ (x : Going). IsRunner g π ends (suc t) f x) z runner)
           ]
@@ -230,7 +232,7 @@ module _ (g : ThermalUnit) (π : PriceLists) (ends : ℕ → Option ℤ) (t : �
     value_more f e d other r v on run h value =
         let w = value h.function h.frontier in
         elim (h.next_is) [
-          | inl here ↦ (record { before = r.before; cost = r.cost; function = h.function }, w.0, here, w.1, w.2)
+          | inl here ↦ (record { before = r.before; cost = r.cost; function = h.function; left = h.left }, w.0, here, w.1, w.2)
           | inr gone ↦ (let none = gone.1 (level g f d (suc t)) in let some = w.1 in cc)
         ]
 

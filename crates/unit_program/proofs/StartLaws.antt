@@ -8,6 +8,7 @@ use Rattle.uc_model.specs.declared.units.Mark.TheVariants.{MustOff}
 use Rattle.uc_model.specs.Data.{ThermalUnit, PriceLists, Schedule}
 use Rattle.uc_model.specs.Schedules.{mark_in}
 use Rattle.spell_run.specs.Frontier.{IsFrontier}
+use Rattle.spell_run.specs.Notes.{passed_at}
 use Rattle.unit_program.specs.declared.runner.Runner.{Runner}
 use Rattle.unit_program.specs.Live.{live_at}
 use Rattle.unit_program.specs.Rows.{IsWithinTimes}
@@ -22,11 +23,11 @@ module _ {R : Type 0} (function : R → Table) (g : ThermalUnit) (π : PriceList
     (last : ℕ) (e : ℤ) (on : a.is_on ≡ true) (cost : a.cost ≡ e) (before : a.before ≡ last) (frontier : IsFrontier g π i (i - 1) (function a.running)) (within : IsWithinTimes (2 * t + 3) e)
     (least : IsLeastEntry g ends (suc t) last e) where
   going : Going
-  going = record { before = a.before; cost = a.cost; function = function a.running }
+  going = record { before = a.before; cost = a.cost; function = function a.running; left = passed_at a.passed.items }
 
   begun_here : live_at function (slice_set runners i a) (suc t) ≡ Some going
   unfolding going
-  begun_here = subst (λ (j : ℕ). live_at function (slice_set runners i a) j ≡ Some (record { before = a.before; cost = a.cost; function = function a.running })) z
+  begun_here = subst (λ (j : ℕ). live_at function (slice_set runners i a) j ≡ Some (record { before = a.before; cost = a.cost; function = function a.running; left = passed_at a.passed.items })) z
       (live_here function runners (slice_set runners i a) i a low refl ∙ going_on function a on)
 
   begun_runner : IsRunner g π ends t (suc t) going
@@ -41,6 +42,7 @@ module _ {R : Type 0} (function : R → Table) (g : ThermalUnit) (π : PriceList
         may = record { goes_on = λ none. absurd (omega (arith, none)); marks = λ m one from until mark. absurd (omega (arith, from, until)) };
         order = omega arith;
         within = record { at_least = omega (arith, ints, lo, cost); at_most = omega (arith, ints, hi, cost) };
+        noted = λ x v there k from until. absurd (omega (arith, from, until));
       }
 
   pub started : AreRunners g π ends (live_at function runners) t (suc t) → AreRunners g π ends (live_at function (slice_set runners i a)) t (suc (suc t))
@@ -66,10 +68,10 @@ module _ {R : Type 0} (function : R → Table) (g : ThermalUnit) (π : PriceList
     front : IsFrontier g π 0 0 (function a.running)
     front = let k : 0 - 1 ≡ 0 = omega arith in subst (λ (u : ℕ). IsFrontier g π 0 u (function a.running)) k frontier
 
-    here : live_at function (slice_set runners 0 a) 0 ≡ Some (record { before = a.before; cost = a.cost; function = function a.running })
+    here : live_at function (slice_set runners 0 a) 0 ≡ Some (record { before = a.before; cost = a.cost; function = function a.running; left = passed_at a.passed.items })
     here = live_here function runners (slice_set runners 0 a) 0 a low refl ∙ going_on function a on
 
-    runner : IsRunner g π ends 0 0 (record { before = a.before; cost = a.cost; function = function a.running })
+    runner : IsRunner g π ends 0 0 (record { before = a.before; cost = a.cost; function = function a.running; left = passed_at a.passed.items })
     runner = record {
       entry = record {
         entry = inl (refl, cost);
@@ -80,6 +82,7 @@ module _ {R : Type 0} (function : R → Table) (g : ThermalUnit) (π : PriceList
       may = record { goes_on = λ none. on0; marks = λ m one from until mark. absurd (omega (arith, one, until)) };
       order = omega arith;
       within = record { at_least = omega (arith, ints, cost); at_most = omega (arith, ints, cost) };
+      noted = λ x v there k from until. absurd (omega (arith, until));
     }
 
     stand_in : (e : ℤ) (d : Schedule) → IsEntry g ends 0 e → HasStandIn g π (live_at function (slice_set runners 0 a)) 0 0 e d
@@ -89,7 +92,7 @@ module _ {R : Type 0} (function : R → Table) (g : ThermalUnit) (π : PriceList
         let z = entry_zero g ends e entry in
         record {
           other = 0;
-          going = record { before = a.before; cost = a.cost; function = function a.running };
+          going = record { before = a.before; cost = a.cost; function = function a.running; left = passed_at a.passed.items };
           value = v.0;
           on = here;
           there = v.1;
@@ -103,7 +106,7 @@ module _ {R : Type 0} (function : R → Table) (g : ThermalUnit) (π : PriceList
     one_goes_on = record {
       right = λ f r is. elim (cases_eq f 0) [
         | inl z ↦
-            let same : record { before = a.before; cost = a.cost; function = function a.running } ≡ r = (let h = here in let k = ap (live_at function (slice_set runners 0 a)) z in cc) in
+            let same : record { before = a.before; cost = a.cost; function = function a.running; left = passed_at a.passed.items } ≡ r = (let h = here in let k = ap (live_at function (slice_set runners 0 a)) z in cc) in
             (omega (arith, z), subst (λ (f : ℕ). IsRunner g π ends 0 f r) (sym z) (subst (λ (r : Going). IsRunner g π ends 0 0 r) same runner))
         | inr other ↦ (let none = live_other function runners (slice_set runners 0 a) 0 a low refl f other ∙ off f in cc)
       ];

@@ -88,7 +88,7 @@ fn write_spell<S: Shape>(
 }
 
 // Whether nothing comes before: the unit is off since before the horizon.
-fn is_all_off(unit: &Unit, last: u32) -> bool
+pub(crate) fn is_all_off(unit: &Unit, last: u32) -> bool
     ensures yes { IsTrue result → (last ≡ 0) × IsFalse unit.now.on0 }
     ensures no { IsFalse result → last ≡ 0 → IsTrue unit.now.on0 }
 {
@@ -132,7 +132,7 @@ fn write_back<S: Shape>(
 }
 
 // Turns every period off.
-fn clear(into: &mut Answered)
+pub(crate) fn clear(into: &mut Answered)
     ensures off { (k : ℕ) → slice_index_or (schedule_of into.new.response).on k false ≡ false }
     ensures power { (k : ℕ) → slice_index (schedule_of into.new.response).power k ≡ 0 }
     ensures reserve { (k : ℕ) → slice_index (schedule_of into.new.response).reserve k ≡ 0 }
@@ -146,7 +146,7 @@ fn clear(into: &mut Answered)
 }
 
 // What a cost within bounds earns.
-fn negated(cost: i64) -> i64
+pub(crate) fn negated(cost: i64) -> i64
     requires { IsWithinTimes 400 cost }
     ensures { result ≡ neg_ℤ cost }
 {

@@ -1,6 +1,5 @@
 //! What answers need, taken once: with a bench an answer takes no memory.
 ghost use Rattle.std.specs.Prelude.{◌≡◌, ℕ, suc, ◌≤◌, length, IsTrue, IsFalse, IfOk};
-ghost use Rattle.cost_curve.specs.CostCurve.{IsCostCurve};
 ghost use Rattle.uc_model.specs.Data.{Schedule, Thermal};
 ghost use Rattle.uc_model.specs.Earnings.{earnings, IsBest};
 ghost use Rattle.uc_model.specs.PlainUnits.{thermal_of, prices_of, schedule_of};
@@ -8,29 +7,28 @@ ghost use Rattle.uc_model.specs.Schedules.{IsThermalFeasible};
 ghost use Rattle.uc_model.specs.Ties.{IsLeast};
 ghost use Rattle.unit_program.specs.Benches.{IsBenchFor};
 ghost use Rattle.slope_list.specs.Slopes.{room_of};
-ghost use Rattle.unit_program.specs.Live.{HaveRoom};
-ghost use Rattle.unit_program.specs.Rows.{IsFilled};
+ghost use Rattle.unit_program.specs.Live.{left_at, HaveRoom};
+ghost use Rattle.unit_program.specs.Rows.{cost_at, first_at, IsFilled};
+ghost use Rattle.unit_program.specs.Runners.{HaveWays};
 
-use crate::answer::{least_end, write_best};
+use crate::answer::least_end;
 use crate::origins::Origins;
 use crate::periods::fill_by_periods;
 use crate::roster::Roster;
 use crate::runner::Runner;
 use crate::table::Table;
+use crate::way::write_noted;
 use cost_curve::curves::curve_into;
-use point_pool::pool::Pool;
-use point_pool::pooled::Pooled;
 use slope_list::Slopes;
-use spell_run::Running;
+use spell_run::{Note, Passed, Running};
 use std::alloc::{AllocError, Global};
+use uc_model::lists::ReservedList;
 use uc_model::units::{Answered, Blocks, Curve, Prices, Unit};
 
 /// Memory for the answers of units over so many periods, with so many cost points. What it holds between two calls is
 /// open.
 #[derive(Drop)]
 pub struct Bench<R> {
-    /// The cells of the shapes of the way back.
-    pub pool: Pool,
     pub curve: Curve,
     /// The spells that go forward together.
     pub runners: Vec<Runner<R>>,
@@ -41,19 +39,30 @@ pub struct Bench<R> {
     pub table: Table,
 }
 
-// So many runners, none of them on, each with room for so many pieces.
+/// The bench of the program: functions are kept in pieces of one slope.
+pub type SlopeBench = Bench<Slopes>;
+
+// So many runners, none of them on, each with room for so many pieces and as many periods.
 fn make_runners(alloc: Global, count: u32, pieces: usize) -> Result<Vec<Runner<Slopes>>, AllocError>
     ensures count { IfOk result (λ v. length v.items ≡ count) }
-    ensures room { IfOk result (λ v. HaveRoom room_of pieces v.items) }
+    ensures room { IfOk result (λ v. HaveRoom room_of pieces count v.items) }
 {
+    let note = Note {
+        turn: 0,
+        first: 0,
+        last: 0,
+    };
+    let nothing = Passed { note, end: None };
     let mut runners = Vec::with_capacity(alloc, count as usize)?;
     for _ in 0..count {
         let running = Slopes::make(alloc, pieces)?;
+        let passed = ReservedList::filled(alloc, count, nothing)?;
         let runner = Runner {
             is_on: false,
             cost: 0,
             before: 0,
             running,
+            passed,
         };
         runners.push_reserved(runner);
     }
@@ -68,7 +77,6 @@ impl Bench<Slopes> {
         ensures { IfOk result (IsBenchFor room_of periods points) }
     {
         let pieces = periods * (2 * points + 3);
-        let pool = Pool::make(alloc, (periods + 2) * (1 + pieces))?;
         let blocks = Blocks::make(alloc, 2 * points)?;
         let curve = Curve {
             at: 0,
@@ -80,7 +88,6 @@ impl Bench<Slopes> {
         let roster = Roster::make(alloc, periods)?;
         let table = Table::filled(alloc, periods + 1, None)?;
         Ok(Bench {
-            pool,
             curve,
             runners,
             origins,
@@ -94,8 +101,8 @@ impl Bench<Slopes> {
 fn fill_bench<R: Running>(bench: &mut Bench<R>, unit: &Unit, prices: &Prices)
     requires horizon { length (thermal_of unit.now).window ≡ length (prices_of prices.now).energy }
     requires bench { IsBenchFor R.room (length (prices_of prices.now).energy) (length (thermal_of unit.now).points) bench.old }
-    ensures curve { IsCostCurve (thermal_of unit.now).points bench.new.curve }
     ensures filled { IsFilled (thermal_of unit.now) (prices_of prices.now) (suc (length (prices_of prices.now).energy)) bench.new.table.items }
+    ensures ways { HaveWays (thermal_of unit.now) (prices_of prices.now) (length (prices_of prices.now).energy) (cost_at bench.new.table.items) (first_at bench.new.table.items) (left_at bench.new.runners.items) }
     ensures bench { (periods points : ℕ) → IsBenchFor R.room periods points bench.old → IsBenchFor R.room periods points bench.new }
 {
     curve_into(unit.points.as_slice(), &mut bench.curve);
@@ -135,14 +142,13 @@ pub fn least_in_place<R: Running>(
     let Some(end) = least_end(unit, periods, bench.table.as_slice()) else {
         return false;
     };
-    let written = write_best::<Pooled>(
-        &mut bench.pool,
+    write_noted(
         unit,
-        &bench.curve,
         prices,
         bench.table.as_slice(),
+        bench.runners.as_slice(),
         &end,
         into,
     );
-    written.is_ok()
+    true
 }

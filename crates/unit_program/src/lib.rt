@@ -19,8 +19,9 @@ pub mod program;
 pub mod roster;
 pub mod runner;
 pub mod table;
+pub mod way;
 
 pub use answer::best_response;
-pub use bench::{Bench, least_in_place};
+pub use bench::{Bench, SlopeBench, least_in_place};
 pub use periods::fill_by_periods;
 pub use runner::Runner;

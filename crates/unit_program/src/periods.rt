@@ -7,11 +7,11 @@ ghost use Rattle.std.specs.Prelude.{◌≡◌, ◌≢◌, ℕ, suc, ◌+◌, ◌
 ghost use Rattle.cost_curve.specs.CostCurve.{IsCostCurve};
 ghost use Rattle.uc_model.specs.Data.{PriceLists};
 ghost use Rattle.uc_model.specs.PlainUnits.{thermal_of, prices_of};
-ghost use Rattle.unit_program.specs.Live.{live_at, AreRoomy, AreSmall, HaveRoom, IsFilledTo};
+ghost use Rattle.unit_program.specs.Live.{live_at, left_at, AreRoomy, AreSmall, HaveRoom, IsFilledTo};
 ghost use Rattle.unit_program.specs.Origins.{AreInOrder, AreOrigins, AreOriginsWithin};
 ghost use Rattle.unit_program.specs.Rosters.{IsRoster};
-ghost use Rattle.unit_program.specs.Rows.{row_at, cost_at, IsWithinTimes, IsFilled};
-ghost use Rattle.unit_program.specs.Runners.{AreRunners};
+ghost use Rattle.unit_program.specs.Rows.{row_at, cost_at, first_at, IsWithinTimes, IsFilled};
+ghost use Rattle.unit_program.specs.Runners.{AreRunners, HaveWays};
 ghost use Rattle.unit_program.specs.Tables.{IsLeastEntry};
 
 use crate::commitment::is_must_off;
@@ -41,8 +41,9 @@ fn start_after<R: Running>(
     ensures stands { (π : PriceLists) (ends : ℕ → Option ℤ) → IsLeastEntry (thermal_of unit.now) ends (suc place) entry.now.last entry.now.cost →
         AreRunners (thermal_of unit.now) π ends (live_at R.function runners.old) place (suc place) →
         AreRunners (thermal_of unit.now) π ends (live_at R.function runners.new) place (suc (suc place)) }
+    ensures left { (first k : ℕ) → left_at runners.new first k ≡ left_at runners.old first k }
     ensures room { (periods charge : ℕ) → AreRoomy R.count R.room periods place charge runners.old → AreRoomy R.count R.room periods place charge runners.new }
-    ensures keeps { (most : ℕ) → HaveRoom R.room most runners.old → HaveRoom R.room most runners.new }
+    ensures keeps { (most periods : ℕ) → HaveRoom R.room most periods runners.old → HaveRoom R.room most periods runners.new }
     ensures length { length runners.new ≡ length runners.old }
     ensures roster { IsRoster (live_at R.function runners.new) (suc (suc place)) roster.new }
     ensures list { length roster.new.firsts.items ≡ length roster.old.firsts.items }
@@ -72,8 +73,9 @@ fn start<R: Running>(
     ensures stands { (π : PriceLists) (ends : ℕ → Option ℤ) → AreOrigins (thermal_of unit.now) ends place origins.now →
         AreRunners (thermal_of unit.now) π ends (live_at R.function runners.old) place (suc place) →
         AreRunners (thermal_of unit.now) π ends (live_at R.function runners.new) place (suc (suc place)) }
+    ensures left { (first k : ℕ) → left_at runners.new first k ≡ left_at runners.old first k }
     ensures room { (periods charge : ℕ) → AreRoomy R.count R.room periods place charge runners.old → AreRoomy R.count R.room periods place charge runners.new }
-    ensures keeps { (most : ℕ) → HaveRoom R.room most runners.old → HaveRoom R.room most runners.new }
+    ensures keeps { (most periods : ℕ) → HaveRoom R.room most periods runners.old → HaveRoom R.room most periods runners.new }
     ensures length { length runners.new ≡ length runners.old }
     ensures roster { IsRoster (live_at R.function runners.new) (suc (suc place)) roster.new }
     ensures list { length roster.new.firsts.items ≡ length roster.old.firsts.items }
@@ -106,11 +108,13 @@ fn take_period<R: Running>(
     requires list { length (prices_of prices.now).energy < length origins.now.list.items }
     requires roster { IsRoster (live_at R.function runners.old) (suc place) roster.old }
     requires firsts { length (prices_of prices.now).energy < length roster.old.firsts.items }
+    requires ways { HaveWays (thermal_of unit.now) (prices_of prices.now) place (cost_at table.old.items) (first_at table.old.items) (left_at runners.old) }
     ensures filled { IsFilledTo (thermal_of unit.now) (prices_of prices.now) (suc place) table.new.items (live_at R.function runners.new) }
     ensures others { (l : ℕ) → l ≢ suc place → row_at table.new.items l ≡ row_at table.old.items l }
+    ensures ways { HaveWays (thermal_of unit.now) (prices_of prices.now) (suc place) (cost_at table.new.items) (first_at table.new.items) (left_at runners.new) }
     ensures room { AreRoomy R.count R.room (length (prices_of prices.now).energy) (suc place) (length curve.now.blocks.items + 3) runners.new }
     ensures length { length table.new.items ≡ length table.old.items }
-    ensures keeps { (most : ℕ) → HaveRoom R.room most runners.old → HaveRoom R.room most runners.new }
+    ensures keeps { (most periods : ℕ) → HaveRoom R.room most periods runners.old → HaveRoom R.room most periods runners.new }
     ensures count { length runners.new ≡ length runners.old }
     ensures roster { IsRoster (live_at R.function runners.new) (suc (suc place)) roster.new }
     ensures firsts { length roster.new.firsts.items ≡ length roster.old.firsts.items }
@@ -136,8 +140,9 @@ fn go_on<R: Running>(unit: &Unit, roster: &mut Roster, runners: &mut [Runner<R>]
     requires none { roster.old.count ≡ 0 }
     requires off { (first : ℕ) → live_at R.function runners.old first ≡ None }
     ensures stands { (π : PriceLists) (ends : ℕ → Option ℤ) → AreRunners (thermal_of unit.now) π ends (live_at R.function runners.new) 0 1 }
+    ensures left { (first k : ℕ) → left_at runners.new first k ≡ left_at runners.old first k }
     ensures room { (periods charge : ℕ) → AreRoomy R.count R.room periods 0 charge runners.old → AreRoomy R.count R.room periods 0 charge runners.new }
-    ensures keeps { (most : ℕ) → HaveRoom R.room most runners.old → HaveRoom R.room most runners.new }
+    ensures keeps { (most periods : ℕ) → HaveRoom R.room most periods runners.old → HaveRoom R.room most periods runners.new }
     ensures length { length runners.new ≡ length runners.old }
     ensures roster { IsRoster (live_at R.function runners.new) 1 roster.new }
     ensures list { length roster.new.firsts.items ≡ length roster.old.firsts.items }
@@ -160,9 +165,9 @@ fn begin_all<R: Running>(
     requires list { 1 ≤ length roster.old.firsts.items }
     requires rows { 1 ≤ length table.old.items }
     ensures filled { (π : PriceLists) → 1 ≤ length π.energy → IsFilledTo (thermal_of unit.now) π 0 table.new.items (live_at R.function runners.new) }
-    ensures room { (periods charge : ℕ) → HaveRoom R.room (periods * charge) runners.old → AreRoomy R.count R.room periods 0 charge runners.new }
+    ensures room { (periods charge : ℕ) → HaveRoom R.room (periods * charge) periods runners.old → AreRoomy R.count R.room periods 0 charge runners.new }
     ensures length { length table.new.items ≡ length table.old.items }
-    ensures keeps { (most : ℕ) → HaveRoom R.room most runners.old → HaveRoom R.room most runners.new }
+    ensures keeps { (most periods : ℕ) → HaveRoom R.room most periods runners.old → HaveRoom R.room most periods runners.new }
     ensures count { length runners.new ≡ length runners.old }
     ensures roster { IsRoster (live_at R.function runners.new) 1 roster.new }
     ensures firsts { length roster.new.firsts.items ≡ length roster.old.firsts.items }
@@ -175,8 +180,9 @@ fn begin_all<R: Running>(
 }
 
 /// Fills the table for a unit at prices over its horizon of T periods, as `program::fill` does. `curve` is the curve of the
-/// unit's points. There are at least T + 1 runners, each with room for T (B + 3) pieces, where the curve has B blocks;
-/// `origins` and `roster` have room for T periods, and `table` has at least T + 1 rows. Takes no memory.
+/// unit's points. There are at least T + 1 runners, each with room for T (B + 3) pieces, where the curve has B blocks, and for
+/// T periods; `origins` and `roster` have room for T periods, and `table` has at least T + 1 rows. Leaves with the runners
+/// what the way back from each row needs. Takes no memory.
 pub fn fill_by_periods<R: Running>(
     unit: &Unit,
     curve: &Curve,
@@ -189,13 +195,14 @@ pub fn fill_by_periods<R: Running>(
     requires horizon { length (thermal_of unit.now).window ≡ length (prices_of prices.now).energy }
     requires curve { IsCostCurve (thermal_of unit.now).points curve.now }
     requires runners { length (prices_of prices.now).energy < length runners.old }
-    requires room { HaveRoom R.room (length (prices_of prices.now).energy * (length curve.now.blocks.items + 3)) runners.old }
+    requires room { HaveRoom R.room (length (prices_of prices.now).energy * (length curve.now.blocks.items + 3)) (length (prices_of prices.now).energy) runners.old }
     requires list { length (prices_of prices.now).energy < length origins.old.list.items }
     requires firsts { length (prices_of prices.now).energy < length roster.old.firsts.items }
     requires rows { length (prices_of prices.now).energy < length table.old.items }
     ensures filled { IsFilled (thermal_of unit.now) (prices_of prices.now) (suc (length (prices_of prices.now).energy)) table.new.items }
+    ensures ways { HaveWays (thermal_of unit.now) (prices_of prices.now) (length (prices_of prices.now).energy) (cost_at table.new.items) (first_at table.new.items) (left_at runners.new) }
     ensures length { length table.new.items ≡ length table.old.items }
-    ensures keeps { (most : ℕ) → HaveRoom R.room most runners.old → HaveRoom R.room most runners.new }
+    ensures keeps { (most periods : ℕ) → HaveRoom R.room most periods runners.old → HaveRoom R.room most periods runners.new }
     ensures count { length runners.new ≡ length runners.old }
     ensures list { length origins.new.list.items ≡ length origins.old.list.items }
     ensures firsts { length roster.new.firsts.items ≡ length roster.old.firsts.items }

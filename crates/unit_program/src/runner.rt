@@ -4,21 +4,24 @@ ghost use Rattle.std.specs.Bool.{OnTrue};
 ghost use Rattle.cost_curve.specs.CostCurve.{IsCostCurve};
 ghost use Rattle.shape_law.specs.Table.{Table, value_of, IsEmpty};
 ghost use Rattle.spell_run.specs.Frontier.{IsFrontier};
+ghost use Rattle.spell_run.specs.Notes.{IsOnNoted, IsEndNoted, passed_at, end_cost};
 ghost use Rattle.spell_run.specs.Spells.{IsSpellAnswer, IsSpellWithin};
 ghost use Rattle.uc_model.specs.declared.units.Mark.TheVariants.{MustOff};
 ghost use Rattle.uc_model.specs.Data.{PriceLists};
 ghost use Rattle.uc_model.specs.PlainUnits.{thermal_of, prices_of};
 ghost use Rattle.uc_model.specs.Schedules.{mark_in};
-ghost use Rattle.unit_program.specs.Live.{going_of, live_at, IsRoomy, AreRoomy, AreSmall, IsUnder, IsBelow, HaveRoom};
+ghost use Rattle.unit_program.specs.Live.{going_of, live_at, left_at, IsRoomy, AreRoomy, AreSmall, IsUnder, IsBelow, HaveRoom};
 ghost use Rattle.unit_program.specs.Rosters.{IsRoster};
 ghost use Rattle.unit_program.specs.Rows.{row_at, cost_at, first_at, before_at, IsWithinTimes, AreWithin};
-ghost use Rattle.unit_program.specs.Runners.{Going, MayBeOn, AreRunners, IsRowOf, IsGoneOn};
+ghost use Rattle.unit_program.specs.Runners.{Going, MayBeOn, AreRunners, IsRowOf, IsGoneOn, IsEndLeft};
 ghost use Rattle.unit_program.specs.Spells.{on_time};
 
 use crate::commitment::{is_long_enough, may_end};
 use crate::roster::Roster;
 use crate::table::{Entry, Table, put_end, sum_of};
-use spell_run::{Running, begin, end_and_run, run_over};
+use slope_list::Lowest;
+use spell_run::{Passed, Running, begin, end_and_run, run_over};
+use uc_model::lists::ReservedList;
 use uc_model::units::{Curve, Prices, Unit};
 
 /// The spells that begin with one period; its place in a list of runners is that period, and 0 stands for spells that go
@@ -32,6 +35,8 @@ pub struct Runner<R> {
     pub before: u32,
     /// The least net costs by the power at the end of a period.
     pub running: R,
+    /// What each period that it was taken over left for the way back, by place.
+    pub passed: ReservedList<Passed>,
 }
 
 /// Begins a runner after an entry.
@@ -42,6 +47,7 @@ pub fn begin_runner<R: Running>(unit: &Unit, first: u32, entry: &Entry, runner: 
     ensures frontier { (π : PriceLists) → IsFrontier (thermal_of unit.now) π first (first - 1) (R.function runner.new.running) }
     ensures count { R.count runner.new.running ≡ 0 }
     ensures room { R.room runner.new.running ≡ R.room runner.old.running }
+    ensures passed { runner.new.passed ≡ runner.old.passed }
 {
     runner.is_on = true;
     runner.cost = entry.cost;
@@ -53,6 +59,7 @@ pub fn begin_runner<R: Running>(unit: &Unit, first: u32, entry: &Entry, runner: 
 fn stop<R: Running>(runner: &mut Runner<R>)
     ensures off { runner.new.is_on ≡ false }
     ensures running { runner.new.running ≡ runner.old.running }
+    ensures passed { runner.new.passed ≡ runner.old.passed }
 {
     runner.is_on = false;
 }
@@ -60,8 +67,9 @@ fn stop<R: Running>(runner: &mut Runner<R>)
 /// Stops all runners.
 pub fn stop_all<R: Running>(runners: &mut [Runner<R>])
     ensures off { (first : ℕ) → live_at R.function runners.new first ≡ None }
-    ensures room { (periods t charge : ℕ) → HaveRoom R.room (periods * charge) runners.old → AreRoomy R.count R.room periods t charge runners.new }
-    ensures keeps { (most : ℕ) → HaveRoom R.room most runners.old → HaveRoom R.room most runners.new }
+    ensures left { (first k : ℕ) → left_at runners.new first k ≡ left_at runners.old first k }
+    ensures room { (periods t charge : ℕ) → HaveRoom R.room (periods * charge) periods runners.old → AreRoomy R.count R.room periods t charge runners.new }
+    ensures keeps { (most periods : ℕ) → HaveRoom R.room most periods runners.old → HaveRoom R.room most periods runners.new }
     ensures length { length runners.new ≡ length runners.old }
 {
     for place in 0..runners.len() {
@@ -95,7 +103,7 @@ fn is_less(a: i64, b: i64) -> bool
 fn undercuts<R: Running>(runner: &Runner<R>, power: i64, cost: i64) -> bool
     requires bound { IsWithinTimes 400 runner.now.cost }
     requires values { (x v : ℤ) → value_of (R.function runner.now.running) x ≡ Some v → IsWithinTimes 400 v }
-    ensures { OnTrue result (IsUnder power cost (record { before = runner.now.before; cost = runner.now.cost; function = R.function runner.now.running })) }
+    ensures { OnTrue result (IsUnder power cost (record { before = runner.now.before; cost = runner.now.cost; function = R.function runner.now.running; left = passed_at runner.now.passed.items })) }
 {
     match value_at_first(&runner.running, power) {
         Some(value) => is_less(sum_of(runner.cost, value), cost),
@@ -134,8 +142,8 @@ pub fn is_undercut<R: Running>(
     false
 }
 
-// Takes a runner over the period at a place, and answers the least net cost of the spells that end with it, where the
-// unit may stop after it.
+// Takes a runner over the period at a place, and answers what is left for the way back, with the least net cost of the
+// spells that end with the period, where the unit may stop after it.
 fn run_one<R: Running>(
     unit: &Unit,
     curve: &Curve,
@@ -143,16 +151,18 @@ fn run_one<R: Running>(
     first: u32,
     place: u32,
     running: &mut R,
-) -> Option<i64>
+) -> Passed
     requires curve { IsCostCurve (thermal_of unit.now).points curve.now }
     requires place { place < length (prices_of prices.now).energy }
     requires order { first ≤ suc place }
     requires frontier { IsFrontier (thermal_of unit.now) (prices_of prices.now) first place (R.function running.old) }
     requires room { R.count running.old + (length curve.now.blocks.items + 3) ≤ R.room running.old }
     ensures answer { (suc place < length (prices_of prices.now).energy → (thermal_of unit.now).min_up ≤ on_time (thermal_of unit.now) first (suc place)) →
-        IsSpellAnswer (thermal_of unit.now) (prices_of prices.now) (length (prices_of prices.now).energy) first (suc place) result }
-    ensures may { IfSome result (λ _. suc place < length (prices_of prices.now).energy → (thermal_of unit.now).min_up ≤ on_time (thermal_of unit.now) first (suc place)) }
-    ensures within { IfSome result (IsSpellWithin first (suc place)) }
+        IsSpellAnswer (thermal_of unit.now) (prices_of prices.now) (length (prices_of prices.now).energy) first (suc place) (end_cost result.end) }
+    ensures may { IfSome result.end (λ _. suc place < length (prices_of prices.now).energy → (thermal_of unit.now).min_up ≤ on_time (thermal_of unit.now) first (suc place)) }
+    ensures within { IfSome result.end (λ e. IsSpellWithin first (suc place) e.value) }
+    ensures ended { IfSome result.end (IsEndNoted (thermal_of unit.now) (prices_of prices.now) first place result.note) }
+    ensures noted { (x v : ℤ) → value_of (R.function running.old) x ≡ Some v → IsOnNoted (thermal_of unit.now) (prices_of prices.now) first place result.note }
     ensures frontier { IsFrontier (thermal_of unit.now) (prices_of prices.now) first (suc place) (R.function running.new) }
     ensures count { R.count running.new ≤ R.count running.old + (length curve.now.blocks.items + 3) }
     ensures room { R.room running.new ≡ R.room running.old }
@@ -160,8 +170,18 @@ fn run_one<R: Running>(
     if may_end(unit, prices.energy.len() as u32, first, place + 1) {
         end_and_run(unit, curve, prices, first, place as usize, running)
     } else {
-        run_over(unit, curve, prices, first, place as usize, running);
-        None
+        let note = run_over(unit, curve, prices, first, place as usize, running);
+        Passed { note, end: None }
+    }
+}
+
+// The cost of an end.
+fn cost_of(end: Option<Lowest>) -> Option<i64>
+    ensures { result ≡ end_cost end }
+{
+    match end {
+        Some(lowest) => Some(lowest.value),
+        None => None,
     }
 }
 
@@ -169,6 +189,7 @@ fn run_one<R: Running>(
 fn retire<R: Running>(runner: &mut Runner<R>)
     requires { runner.old.is_on ≡ true }
     ensures running { runner.new.running ≡ runner.old.running }
+    ensures passed { runner.new.passed ≡ runner.old.passed }
     ensures next { (going_of R.function (Some runner.new) ≡ going_of R.function (Some runner.old)) ⊎ ((going_of R.function (Some runner.new) ≡ None) × IsEmpty (R.function runner.old.running)) }
 {
     if runner.running.is_empty() {
@@ -203,16 +224,21 @@ fn take_runner<R: Running>(
     ensures others { (l : ℕ) → l ≢ suc place → row_at table.new.items l ≡ row_at table.old.items l }
     ensures within { AreWithin table.new.items }
     ensures length { length table.new.items ≡ length table.old.items }
-    ensures goes { IsGoneOn (thermal_of unit.now) (prices_of prices.now) place first (record { before = runner.old.before; cost = runner.old.cost; function = R.function runner.old.running }) (going_of R.function (Some runner.new)) }
+    ensures goes { IsGoneOn (thermal_of unit.now) (prices_of prices.now) place first (record { before = runner.old.before; cost = runner.old.cost; function = R.function runner.old.running; left = passed_at runner.old.passed.items }) (going_of R.function (Some runner.new)) }
+    ensures ends { (row_at table.new.items (suc place) ≡ row_at table.old.items (suc place)) ⊎
+        ((first_at table.new.items (suc place) ≡ first) × IsEndLeft (thermal_of unit.now) (prices_of prices.now) first place (passed_at runner.new.passed.items place)) }
+    ensures left { (k : ℕ) → k ≢ place → passed_at runner.new.passed.items k ≡ passed_at runner.old.passed.items k }
     ensures room { IsRoomy R.count R.room (length (prices_of prices.now).energy) (suc place) (length curve.now.blocks.items + 3) runner.new }
     ensures keeps { R.room runner.new.running ≡ R.room runner.old.running }
+    ensures places { length runner.new.passed.items ≡ length runner.old.passed.items }
 {
     let entry = Entry {
         cost: runner.cost,
         last: runner.before,
     };
-    let net = run_one(unit, curve, prices, first, place, &mut runner.running);
-    put_end(table, place + 1, first, &entry, net);
+    let passed = run_one(unit, curve, prices, first, place, &mut runner.running);
+    runner.passed.set(place as usize, passed);
+    put_end(table, place + 1, first, &entry, cost_of(passed.end));
     retire(runner);
 }
 
@@ -245,9 +271,12 @@ fn run_at<R: Running>(
     ensures length { length table.new.items ≡ length table.old.items }
     ensures goes { (r : Going) → live_at R.function runners.old first ≡ Some r → IsGoneOn (thermal_of unit.now) (prices_of prices.now) place first r (live_at R.function runners.new first) }
     ensures off { live_at R.function runners.old first ≡ None → live_at R.function runners.new first ≡ None }
+    ensures ends { (row_at table.new.items (suc place) ≡ row_at table.old.items (suc place)) ⊎
+        ((first_at table.new.items (suc place) ≡ first) × IsEndLeft (thermal_of unit.now) (prices_of prices.now) first place (left_at runners.new first place)) }
+    ensures left { (k : ℕ) → k ≢ place → left_at runners.new first k ≡ left_at runners.old first k }
     ensures rest { (f : ℕ) → f ≢ first → slice_get runners.new f ≡ slice_get runners.old f }
     ensures room { (r : Runner R) → slice_get runners.new first ≡ Some r → IsRoomy R.count R.room (length (prices_of prices.now).energy) (suc place) (length curve.now.blocks.items + 3) r }
-    ensures keeps { (most : ℕ) → HaveRoom R.room most runners.old → HaveRoom R.room most runners.new }
+    ensures keeps { (most periods : ℕ) → HaveRoom R.room most periods runners.old → HaveRoom R.room most periods runners.new }
     ensures count { length runners.new ≡ length runners.old }
 {
     if runners[first as usize].is_on {
@@ -292,8 +321,11 @@ pub fn run_all<R: Running>(
     ensures goes { (first : ℕ) (r : Going) → live_at R.function runners.old first ≡ Some r →
         IsGoneOn (thermal_of unit.now) (prices_of prices.now) place first r (live_at R.function runners.new first) }
     ensures off { (first : ℕ) → live_at R.function runners.old first ≡ None → live_at R.function runners.new first ≡ None }
+    ensures ends { (v : ℤ) → cost_at table.new.items (suc place) ≡ Some v →
+        IsEndLeft (thermal_of unit.now) (prices_of prices.now) (first_at table.new.items (suc place)) place (left_at runners.new (first_at table.new.items (suc place)) place) }
+    ensures left { (first k : ℕ) → k ≢ place → left_at runners.new first k ≡ left_at runners.old first k }
     ensures room { AreRoomy R.count R.room (length (prices_of prices.now).energy) (suc place) (length curve.now.blocks.items + 3) runners.new }
-    ensures keeps { (most : ℕ) → HaveRoom R.room most runners.old → HaveRoom R.room most runners.new }
+    ensures keeps { (most periods : ℕ) → HaveRoom R.room most periods runners.old → HaveRoom R.room most periods runners.new }
     ensures count { length runners.new ≡ length runners.old }
 {
     for index in 0..roster.count {
@@ -352,8 +384,9 @@ fn prune_one<R: Running>(
         AreRunners (thermal_of unit.now) π ends (live_at R.function runners.new) period n }
     ensures small { AreSmall (live_at R.function runners.new) }
     ensures off { (first : ℕ) → live_at R.function runners.old first ≡ None → live_at R.function runners.new first ≡ None }
+    ensures left { (first k : ℕ) → left_at runners.new first k ≡ left_at runners.old first k }
     ensures room { (periods t charge : ℕ) → AreRoomy R.count R.room periods t charge runners.old → AreRoomy R.count R.room periods t charge runners.new }
-    ensures keeps { (most : ℕ) → HaveRoom R.room most runners.old → HaveRoom R.room most runners.new }
+    ensures keeps { (most periods : ℕ) → HaveRoom R.room most periods runners.old → HaveRoom R.room most periods runners.new }
     ensures length { length runners.new ≡ length runners.old }
 {
     if !runners[early as usize].is_on {
@@ -384,8 +417,9 @@ pub fn prune<R: Running>(unit: &Unit, period: u32, roster: &Roster, runners: &mu
         AreRunners (thermal_of unit.now) π ends (live_at R.function runners.old) period n →
         AreRunners (thermal_of unit.now) π ends (live_at R.function runners.new) period n }
     ensures off { (first : ℕ) → live_at R.function runners.old first ≡ None → live_at R.function runners.new first ≡ None }
+    ensures left { (first k : ℕ) → left_at runners.new first k ≡ left_at runners.old first k }
     ensures room { (periods t charge : ℕ) → AreRoomy R.count R.room periods t charge runners.old → AreRoomy R.count R.room periods t charge runners.new }
-    ensures keeps { (most : ℕ) → HaveRoom R.room most runners.old → HaveRoom R.room most runners.new }
+    ensures keeps { (most periods : ℕ) → HaveRoom R.room most periods runners.old → HaveRoom R.room most periods runners.new }
     ensures length { length runners.new ≡ length runners.old }
 {
     let mut late = None;

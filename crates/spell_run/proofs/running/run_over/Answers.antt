@@ -1,6 +1,11 @@
-use Rattle.std.proofs.Common.{false, suc, eqb, arith}
+use Rattle.std.proofs.Common.{◌≡◌, false, suc, eqb, ◌<◌, sym, subst, arith, ℤ, rules, FitsSigned, w64}
 use Rattle.cost_curve.proofs.EnvelopeValues.{envelope_is_cost}
 use Rattle.uc_model.specs.PlainUnits.{thermal_of, prices_of}
+use Rattle.std.proofs.lemmas.Int.{to_z-of_z}
+use Rattle.slope_step.specs.Turn.{IsTurn}
+use Rattle.spell_run.specs.declared.way.Note.{Note}
+use Rattle.spell_run.specs.Notes.{IsNoted}
+use Rattle.spell_run.specs.Steps.{step_at}
 use Rattle.spell_run.proofs.FairLaws.{cost_is, step_moved}
 use Rattle.spell_run.proofs.FrontierLaws.{small_frontier, frontier_more}
 use Rattle.spell_run.proofs.TurnLaws.{turn_moved}
@@ -25,7 +30,29 @@ returns-clause-frontier g c =
     frontier_more unit prices c.args.first c.args.place c.args.curve.now c.args.unit.now.valid c.args.prices.now.valid c.requires.curve envelope_is_cost c.requires.place c.requires.order before after c.requires.frontier
     (step_moved unit prices c.args.place c.starts_in-starts.result _ false c.step_of.result c.args.curve.now before after c.step_of.ensures.step c.starts_in-starts.ensures c.step.ensures.stepped)
 
-pub returns-clause-turn : goal.returns-clause-turn
-returns-clause-turn g c = λ y w there.
-    turn_moved (thermal_of c.args.unit.now) (prices_of c.args.prices.now) c.args.place c.starts_in-starts.result _ false c.step_of.result (g.R.Running.function c.args.running.now) _
-    c.step_of.ensures.step c.starts_in-starts.ensures (c.step.ensures.turn y w there)
+pub returns-clause-noted : goal.returns-clause-noted
+returns-clause-noted g c = λ x v there.
+    let unit = thermal_of c.args.unit.now in
+    let prices = prices_of c.args.prices.now in
+    let before = g.R.Running.function c.args.running.now in
+    let after = g.R.Running.function c.step.new.self in
+    let fits_turn : FitsSigned w64 c.turn.result = search rules in
+    let fits_first : FitsSigned w64 c.interval_of-before.result.first = search rules in
+    let fits_last : FitsSigned w64 c.interval_of-before.result.last = search rules in
+    let turn = turn_moved unit prices c.args.place c.starts_in-starts.result _ false c.step_of.result before _ c.step_of.ensures.step c.starts_in-starts.ensures (c.step.ensures.turn x v there) in
+    let first = c.interval_of-before.ensures.first x v there in
+    let last = c.interval_of-before.ensures.last x v there in
+    let stepped = step_moved unit prices c.args.place c.starts_in-starts.result _ false c.step_of.result c.args.curve.now before after c.step_of.ensures.step c.starts_in-starts.ensures c.step.ensures.stepped in
+    let n : Note = record { turn = c.turn.result; first = c.interval_of-before.result.first; last = c.interval_of-before.result.last } in
+    let here : IsNoted unit prices c.args.first c.args.place false n after = record {
+      curve = c.args.curve.now;
+      is_curve = c.requires.curve;
+      before = before;
+      frontier = c.requires.frontier;
+      stepped = stepped;
+      turn = subst (λ (z : ℤ). IsTurn (step_at unit prices c.args.place (eqb c.args.first (suc c.args.place)) false) before z) (sym c.turn.ensures) turn;
+      value = first.0;
+      begins = first.1;
+      ends = last;
+    } in
+    simp to_z-of_z here

@@ -1,8 +1,11 @@
-use Rattle.std.proofs.Common.{◌+◌, ◌-◌, ◌*◌, ◌≤◌, List, length, refl, sym, ap, ◌∙◌, subst}
+use Rattle.std.proofs.Common.{◌+◌, ◌-◌, ◌*◌, ◌≤◌, List, length, sym, ap, ◌∙◌, subst}
 use Rattle.std.proofs.lemmas.List.{with_items_is}
 use Rattle.std.specs.Vec.{with_items}
+use Rattle.uc_model.specs.PlainUnits.{thermal_of, prices_of}
 use Rattle.unit_program.specs.declared.runner.Runner.{Runner}
-use Rattle.unit_program.specs.Live.{HaveRoom}
+use Rattle.unit_program.specs.Live.{HaveRoom, left_at}
+use Rattle.unit_program.specs.Rows.{cost_at, first_at}
+use Rattle.unit_program.specs.Runners.{HaveWays}
 use Rattle.unit_program.proofs.BenchLaws.{room_less, charge_less, bench_kept}
 use Rattle.unit_program.proofs.bench.fill_bench.Goals as goal
 
@@ -12,17 +15,24 @@ fill_by_periods-requires-clause-room g c =
     let points = length c.args.unit.now.points.items in
     let blocks = length c.curve_into.new.into.blocks.items in
     let few : blocks ≤ 2 * (points - 1) = rw c.as_slice.ensures at c.curve_into.ensures.curve.count in
-    let have = room_less g.R.Running.room (periods * (2 * points + 3)) (periods * (blocks + 3)) c.args.bench.now.runners.items (charge_less periods points blocks few) c.requires.bench.room in
-    subst (λ (xs : List (Runner g.row.R.Denot)). HaveRoom g.R.Running.room (periods * (blocks + 3)) xs) (sym c.as_mut_slice.ensures.value) have
+    let have = room_less g.R.Running.room (periods * (2 * points + 3)) (periods * (blocks + 3)) periods c.args.bench.now.runners.items (charge_less periods points blocks few) c.requires.bench.room in
+    subst (λ (xs : List (Runner g.row.R.Denot)). HaveRoom g.R.Running.room (periods * (blocks + 3)) periods xs) (sym c.as_mut_slice.ensures.value) have
 
 pub returns-clause-bench : goal.returns-clause-bench
 returns-clause-bench g c = λ periods points b.
     let lent = c.as_mut_slice.ensures in
     let same = with_items_is c.args.bench.now.runners c.fill_by_periods.new.runners (c.fill_by_periods.ensures.count ∙ lent.len) in
     bench_kept g.R.Running.room periods points c.args.bench.now
-    (record { pool = c.args.bench.now.pool; curve = c.curve_into.new.into; runners = with_items c.args.bench.now.runners c.fill_by_periods.new.runners; origins = c.fill_by_periods.new.origins; roster = c.fill_by_periods.new.roster; table = c.fill_by_periods.new.table })
-    refl (sym c.curve_into.ensures.room) (ap length same ∙ c.fill_by_periods.ensures.count ∙ ap length lent.value)
-    (λ most have.
-    subst (λ (xs : List (Runner g.row.R.Denot)). HaveRoom g.R.Running.room most xs) (sym same)
-    (c.fill_by_periods.ensures.keeps most (subst (λ (xs : List (Runner g.row.R.Denot)). HaveRoom g.R.Running.room most xs) (sym lent.value) have)))
+    (record { curve = c.curve_into.new.into; runners = with_items c.args.bench.now.runners c.fill_by_periods.new.runners; origins = c.fill_by_periods.new.origins; roster = c.fill_by_periods.new.roster; table = c.fill_by_periods.new.table })
+    (sym c.curve_into.ensures.room) (ap length same ∙ c.fill_by_periods.ensures.count ∙ ap length lent.value)
+    (λ most periods have.
+    subst (λ (xs : List (Runner g.row.R.Denot)). HaveRoom g.R.Running.room most periods xs) (sym same)
+    (c.fill_by_periods.ensures.keeps most periods (subst (λ (xs : List (Runner g.row.R.Denot)). HaveRoom g.R.Running.room most periods xs) (sym lent.value) have)))
     c.fill_by_periods.ensures.length c.fill_by_periods.ensures.list c.fill_by_periods.ensures.firsts b
+
+pub returns-clause-ways : goal.returns-clause-ways
+returns-clause-ways g c =
+    let lent = c.as_mut_slice.ensures in
+    let same = with_items_is c.args.bench.now.runners c.fill_by_periods.new.runners (c.fill_by_periods.ensures.count ∙ lent.len) in
+    subst (λ (xs : List (Runner g.row.R.Denot)). HaveWays (thermal_of c.args.unit.now) (prices_of c.args.prices.now) (length c.args.prices.now.energy.items) (cost_at c.fill_by_periods.new.table.items) (first_at c.fill_by_periods.new.table.items) (left_at xs)) (sym same)
+    c.fill_by_periods.ensures.ways

@@ -1,4 +1,5 @@
 use Rattle.std.proofs.Common.{length, ap, arith, length-append}
+use Rattle.std.proofs.lemmas.List.{length-replicate}
 use Rattle.slope_list.specs.Slopes.{room_of}
 use Rattle.unit_program.proofs.BenchLaws.{room_more}
 use Rattle.unit_program.proofs.bench.make_runners.Goals as goal
@@ -8,8 +9,9 @@ loop-preserved c =
     let items = c.push_reserved.ensures.items in
     let capacity = c.push_reserved.ensures.capacity in
     let room = c.in_ok-running.ensures.room in
+    let places = simp length-replicate at (ap length c.in_ok-passed.ensures) in
     record {
       count = omega (arith, simp length-append at (ap length items));
       capacity = omega (arith, capacity);
-      room = room_more room_of c.args.pieces c.loop.runners.items c.push_reserved.new.self.items _ items (omega (arith, room)) c.loop.invariant.room;
+      room = room_more room_of c.args.pieces c.args.count c.loop.runners.items c.push_reserved.new.self.items _ items (omega (arith, room)) (omega (arith, places)) c.loop.invariant.room;
     }

@@ -22,4 +22,4 @@ pub returns-clause-room : goal.returns-clause-room
 returns-clause-room g c = λ periods charge have. c.go_on.ensures.room periods charge (c.stop_all.ensures.room periods 0 charge have)
 
 pub returns-clause-keeps : goal.returns-clause-keeps
-returns-clause-keeps g c = λ most have. c.go_on.ensures.keeps most (c.stop_all.ensures.keeps most have)
+returns-clause-keeps g c = λ most periods have. c.go_on.ensures.keeps most periods (c.stop_all.ensures.keeps most periods have)

@@ -1,10 +1,11 @@
 use Rattle.std.proofs.Common.{◌≡◌, ℕ, suc, ◌+◌, List, Option, length, sym, ◌∙◌, subst, arith}
 use Rattle.uc_model.specs.PlainUnits.{thermal_of, prices_of}
 use Rattle.unit_program.specs.declared.table.Ended.{Ended}
-use Rattle.unit_program.specs.Live.{live_at, AreRoomy, IsFilledTo}
+use Rattle.unit_program.specs.Live.{live_at, left_at, AreRoomy, IsFilledTo}
 use Rattle.unit_program.specs.Origins.{AreOrigins}
 use Rattle.unit_program.specs.Rosters.{IsRoster}
-use Rattle.unit_program.specs.Rows.{cost_at}
+use Rattle.unit_program.specs.Rows.{cost_at, first_at}
+use Rattle.unit_program.specs.Runners.{HaveWays}
 use Rattle.unit_program.proofs.OriginLaws.{origins_to}
 use Rattle.unit_program.proofs.PeriodLaws.{filled_whole}
 use Rattle.unit_program.proofs.RowLaws.{cost-same}
@@ -19,6 +20,7 @@ loop-place-init g c = record {
   firsts_same = c.begin_all.ensures.firsts;
   list_same = c.begin.ensures.length;
   rows_length = c.begin_all.ensures.length;
+  ways = λ l v one until is. absurd (omega (arith, one, until));
   keeps = c.begin_all.ensures.keeps;
   count_same = c.begin_all.ensures.count;
 }
@@ -35,7 +37,8 @@ loop-place-preserved g c =
       firsts_same = c.take_period.ensures.firsts ∙ c.loop-place.invariant.firsts_same;
       list_same = c.go_on.ensures.length ∙ c.loop-place.invariant.list_same;
       rows_length = c.take_period.ensures.length ∙ c.loop-place.invariant.rows_length;
-      keeps = λ most have. c.take_period.ensures.keeps most (c.loop-place.invariant.keeps most have);
+      ways = subst (λ (t : ℕ). HaveWays (thermal_of c.args.unit.now) (prices_of c.args.prices.now) t (cost_at c.take_period.new.table.items) (first_at c.take_period.new.table.items) (left_at c.take_period.new.runners)) next c.take_period.ensures.ways;
+      keeps = λ most periods have. c.take_period.ensures.keeps most periods (c.loop-place.invariant.keeps most periods have);
       count_same = c.take_period.ensures.count ∙ c.loop-place.invariant.count_same;
     }
 
@@ -55,3 +58,11 @@ returns-clause-filled g c =
     let end : c.loop-place.place ≡ length c.args.prices.now.energy.items = omega (arith, periods, from, until) in
     filled_whole (thermal_of c.args.unit.now) (prices_of c.args.prices.now) c.loop-place.table.items (live_at g.R.Running.function c.loop-place.runners)
     (subst (λ (t : ℕ). IsFilledTo (thermal_of c.args.unit.now) (prices_of c.args.prices.now) t c.loop-place.table.items (live_at g.R.Running.function c.loop-place.runners)) end c.loop-place.invariant.filled)
+
+pub returns-clause-ways : goal.returns-clause-ways
+returns-clause-ways g c =
+    let periods = c.len-periods.ensures in
+    let from = c.loop-place-test.false in
+    let until = c.loop-place.auto.place-end in
+    let end : c.loop-place.place ≡ length c.args.prices.now.energy.items = omega (arith, periods, from, until) in
+    subst (λ (t : ℕ). HaveWays (thermal_of c.args.unit.now) (prices_of c.args.prices.now) t (cost_at c.loop-place.table.items) (first_at c.loop-place.table.items) (left_at c.loop-place.runners)) end c.loop-place.invariant.ways

@@ -1,9 +1,10 @@
 use Rattle.std.proofs.Common.{◌≡◌, ℕ, suc, ◌+◌, length}
 use Rattle.uc_model.specs.PlainUnits.{thermal_of, prices_of}
-use Rattle.unit_program.specs.Live.{live_at, AreRoomy, HaveRoom, IsFilledTo}
+use Rattle.unit_program.specs.Live.{live_at, left_at, AreRoomy, HaveRoom, IsFilledTo}
 use Rattle.unit_program.specs.Origins.{AreOrigins}
 use Rattle.unit_program.specs.Rosters.{IsRoster}
-use Rattle.unit_program.specs.Rows.{cost_at}
+use Rattle.unit_program.specs.Rows.{cost_at, first_at}
+use Rattle.unit_program.specs.Runners.{HaveWays}
 use Rattle.unit_program.proofs.periods.fill_by_periods.Given as goal
 
 abbrev pub invariant-loop-place : goal.invariant-loop-place
@@ -15,6 +16,7 @@ invariant-loop-place g l = record {
   firsts_same : length l.roster.firsts.items ≡ length l.fn.roster.firsts.items;
   list_same : length l.origins.list.items ≡ length l.fn.origins.list.items;
   rows_length : length l.table.items ≡ length l.fn.table.items;
-  keeps : (most : ℕ) → HaveRoom g.R.Running.room most l.fn.runners → HaveRoom g.R.Running.room most l.runners;
+  ways : HaveWays (thermal_of l.unit) (prices_of l.prices) l.place (cost_at l.table.items) (first_at l.table.items) (left_at l.runners);
+  keeps : (most periods : ℕ) → HaveRoom g.R.Running.room most periods l.fn.runners → HaveRoom g.R.Running.room most periods l.runners;
   count_same : length l.runners ≡ length l.fn.runners;
 }

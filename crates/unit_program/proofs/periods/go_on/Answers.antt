@@ -1,7 +1,7 @@
 use Rattle.std.proofs.Common.{ℕ, List, length, refl, ap, ◌∙◌, arith, length-set}
 use Rattle.uc_model.specs.PlainUnits.{thermal_of}
 use Rattle.unit_program.specs.Live.{live_at}
-use Rattle.unit_program.proofs.LiveLaws.{roomy_begun, written_keeps}
+use Rattle.unit_program.proofs.LiveLaws.{roomy_begun, written_keeps, written_left}
 use Rattle.unit_program.proofs.RosterLaws.{none_listed, begun_listed}
 use Rattle.unit_program.proofs.RunAllLaws.{item_at}
 use Rattle.unit_program.proofs.StartLaws.{none_goes_on, one_goes_on}
@@ -15,7 +15,7 @@ returns-then-unit-clause-stands g c = λ π ends.
 pub returns-then-unit-clause-room : goal.returns-then-unit-clause-room
 returns-then-unit-clause-room g c = λ periods charge roomy.
     roomy_begun g.R.Running.function g.R.Running.count g.R.Running.room periods 0 charge c.args.runners.now _ 0 c.begin_runner.new.runner c.requires.some refl
-    _ (item_at g.R.Running.function c.args.runners.now 0 c.requires.some _) c.begin_runner.ensures.count c.begin_runner.ensures.room roomy
+    _ (item_at g.R.Running.function c.args.runners.now 0 c.requires.some _) c.begin_runner.ensures.count c.begin_runner.ensures.room c.begin_runner.ensures.passed roomy
 
 pub returns-else-unit-clause-stands : goal.returns-else-unit-clause-stands
 returns-else-unit-clause-stands g c = λ π ends. none_goes_on g.R.Running.function (thermal_of c.args.unit.now) π ends c.args.runners.now c.requires.off c.if-unit.false
@@ -23,7 +23,12 @@ returns-else-unit-clause-stands g c = λ π ends. none_goes_on g.R.Running.funct
 pub returns-then-unit-clause-keeps : goal.returns-then-unit-clause-keeps
 returns-then-unit-clause-keeps g c =
     written_keeps g.R.Running.function g.R.Running.room c.args.runners.now _ 0 c.begin_runner.new.runner c.requires.some refl
-    _ (item_at g.R.Running.function c.args.runners.now 0 c.requires.some _) c.begin_runner.ensures.room
+    _ (item_at g.R.Running.function c.args.runners.now 0 c.requires.some _) c.begin_runner.ensures.room (ap (λ p. length p.items) c.begin_runner.ensures.passed)
+
+pub returns-then-unit-clause-left : goal.returns-then-unit-clause-left
+returns-then-unit-clause-left g c =
+    written_left g.R.Running.function c.args.runners.now _ 0 c.begin_runner.new.runner c.requires.some refl
+    _ (item_at g.R.Running.function c.args.runners.now 0 c.requires.some _) c.begin_runner.ensures.passed
 
 pub returns-then-unit-clause-roster : goal.returns-then-unit-clause-roster
 returns-then-unit-clause-roster g c =

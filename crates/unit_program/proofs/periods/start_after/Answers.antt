@@ -5,7 +5,7 @@ use Rattle.std.proofs.lemmas.Int.{to_z-of_z}
 use Rattle.uc_model.specs.PlainUnits.{thermal_of}
 use Rattle.unit_program.specs.Live.{live_at, IsUnder}
 use Rattle.unit_program.specs.Runners.{Going}
-use Rattle.unit_program.proofs.LiveLaws.{roomy_begun, written_keeps}
+use Rattle.unit_program.proofs.LiveLaws.{roomy_begun, written_keeps, written_left}
 use Rattle.unit_program.proofs.RosterLaws.{still_listed, begun_listed}
 use Rattle.unit_program.proofs.RunAllLaws.{item_at}
 use Rattle.unit_program.proofs.StandInLaws.{start_undercut}
@@ -32,14 +32,21 @@ returns-clause-room g c = λ periods charge roomy.
     let end = c.requires.runners in
     let low : c.args.place + 1 < length c.args.runners.now = omega (arith, end) in
     roomy_begun g.R.Running.function g.R.Running.count g.R.Running.room periods c.args.place charge c.args.runners.now _ (c.args.place + 1) c.begin_runner.new.runner low refl
-    _ (item_at g.R.Running.function c.args.runners.now (c.args.place + 1) low _) c.begin_runner.ensures.count c.begin_runner.ensures.room roomy
+    _ (item_at g.R.Running.function c.args.runners.now (c.args.place + 1) low _) c.begin_runner.ensures.count c.begin_runner.ensures.room c.begin_runner.ensures.passed roomy
 
 pub returns-clause-keeps : goal.returns-clause-keeps
 returns-clause-keeps g c =
     let end = c.requires.runners in
     let low : c.args.place + 1 < length c.args.runners.now = omega (arith, end) in
     written_keeps g.R.Running.function g.R.Running.room c.args.runners.now _ (c.args.place + 1) c.begin_runner.new.runner low refl
-    _ (item_at g.R.Running.function c.args.runners.now (c.args.place + 1) low _) c.begin_runner.ensures.room
+    _ (item_at g.R.Running.function c.args.runners.now (c.args.place + 1) low _) c.begin_runner.ensures.room (ap (λ p. length p.items) c.begin_runner.ensures.passed)
+
+pub returns-clause-left : goal.returns-clause-left
+returns-clause-left g c =
+    let end = c.requires.runners in
+    let low : c.args.place + 1 < length c.args.runners.now = omega (arith, end) in
+    written_left g.R.Running.function c.args.runners.now _ (c.args.place + 1) c.begin_runner.new.runner low refl
+    _ (item_at g.R.Running.function c.args.runners.now (c.args.place + 1) low _) c.begin_runner.ensures.passed
 
 pub is_undercut-requires-clause-roster : goal.is_undercut-requires-clause-roster
 is_undercut-requires-clause-roster g c =

@@ -1,12 +1,14 @@
 use Rattle.std.proofs.Common.{◌≡◌, ℕ, suc, ◌+◌, length, sym, subst, arith}
 use Rattle.uc_model.specs.PlainUnits.{thermal_of, prices_of}
-use Rattle.unit_program.specs.Live.{live_at}
-use Rattle.unit_program.specs.Rows.{cost_at}
+use Rattle.unit_program.specs.Live.{live_at, left_at}
+use Rattle.unit_program.specs.Rows.{cost_at, first_at}
 use Rattle.unit_program.specs.Runners.{AreRunners}
 use Rattle.unit_program.proofs.LiveLaws.{small_of, have_room}
 use Rattle.unit_program.proofs.OriginLaws.{origins_within}
 use Rattle.unit_program.proofs.PeriodLaws.{period_off, period_run, period_filled}
 use Rattle.unit_program.proofs.RosterLaws.{none_listed, still_listed}
+use Rattle.unit_program.proofs.RowLaws.{cost-same, first-same}
+use Rattle.unit_program.proofs.WaysLaws.{left_live, ways_same, ways_none, ways_more}
 use Rattle.unit_program.proofs.periods.take_period.Goals as goal
 
 pub returns-then-is_must_off-clause-filled : goal.returns-then-is_must_off-clause-filled
@@ -71,7 +73,29 @@ pub returns-clause-room : goal.returns-clause-room
 returns-clause-room g c = c.prune.ensures.room (length c.args.prices.now.energy.items) (suc c.args.place) (length c.args.curve.now.blocks.items + 3) c.run_all.ensures.room
 
 pub returns-clause-keeps : goal.returns-clause-keeps
-returns-clause-keeps g c = λ most have. c.prune.ensures.keeps most (c.run_all.ensures.keeps most (c.start.ensures.keeps most have))
+returns-clause-keeps g c = λ most periods have. c.prune.ensures.keeps most periods (c.run_all.ensures.keeps most periods (c.start.ensures.keeps most periods have))
+
+pub returns-then-is_must_off-clause-ways : goal.returns-then-is_must_off-clause-ways
+returns-then-is_must_off-clause-ways g c =
+    let u = thermal_of c.args.unit.now in
+    let π = prices_of c.args.prices.now in
+    let rows = c.args.table.now.items in
+    let none = c.requires.filled.table.none (suc c.args.place) (omega arith) in
+    ways_same u π (suc c.args.place) (cost_at rows) (first_at rows) (left_at c.args.runners.now) (left_at c.stop_all.new.runners) c.stop_all.ensures.left
+    (ways_none u π c.args.place (cost_at rows) (first_at rows) (left_at c.args.runners.now) none c.requires.ways)
+
+pub returns-clause-ways : goal.returns-clause-ways
+returns-clause-ways g c =
+    let u = thermal_of c.args.unit.now in
+    let π = prices_of c.args.prices.now in
+    let rows = c.args.table.now.items in
+    let rows' = c.run_all.new.table.items in
+    let now = c.start.ensures.stands π (cost_at rows) c.requires.origins c.requires.filled.runners in
+    let begun = ways_same u π c.args.place (cost_at rows) (first_at rows) (left_at c.args.runners.now) (left_at c.start.new.runners) c.start.ensures.left c.requires.ways in
+    let ran = ways_more u π c.args.place (suc (suc c.args.place)) (cost_at rows) (cost_at rows') (first_at rows) (first_at rows') _ (left_at c.start.new.runners) (left_at c.run_all.new.runners)
+    (live_at g.R.Running.function c.start.new.runners) now (left_live g.R.Running.function c.start.new.runners) c.run_all.ensures.row c.run_all.ensures.ends c.run_all.ensures.left
+    (λ l other. cost-same rows' rows l l (c.run_all.ensures.others l other)) (λ l other. first-same rows' rows l l (c.run_all.ensures.others l other)) begun in
+    ways_same u π (suc c.args.place) (cost_at rows') (first_at rows') (left_at c.run_all.new.runners) (left_at c.prune.new.runners) c.prune.ensures.left ran
 
 pub returns-then-is_must_off-clause-roster : goal.returns-then-is_must_off-clause-roster
 returns-then-is_must_off-clause-roster g c =

@@ -23,6 +23,7 @@ loop-back-preserved g c =
       small = c.prune_one-late.ensures.small;
       stands = λ π ends n now. c.prune_one-late.ensures.stands π ends n (c.loop-back.invariant.stands π ends n now);
       roomy = λ periods t charge roomy. c.prune_one-late.ensures.room periods t charge (c.loop-back.invariant.roomy periods t charge roomy);
-      keeps = λ most have. c.prune_one-late.ensures.keeps most (c.loop-back.invariant.keeps most have);
+      left = λ f k. c.prune_one-late.ensures.left f k ∙ c.loop-back.invariant.left f k;
+      keeps = λ most periods have. c.prune_one-late.ensures.keeps most periods (c.loop-back.invariant.keeps most periods have);
       count_same = c.prune_one-late.ensures.length ∙ c.loop-back.invariant.count_same;
     }

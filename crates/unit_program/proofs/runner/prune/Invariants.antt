@@ -2,7 +2,7 @@ use Rattle.std.proofs.Common.{◌≡◌, ℕ, ◌+◌, ◌<◌, ◌≤◌, ℤ, 
 use Rattle.std.specs.Prelude.{IfSome, slice_get}
 use Rattle.uc_model.specs.Data.{PriceLists}
 use Rattle.uc_model.specs.PlainUnits.{thermal_of}
-use Rattle.unit_program.specs.Live.{live_at, AreRoomy, AreSmall, HaveRoom}
+use Rattle.unit_program.specs.Live.{live_at, left_at, AreRoomy, AreSmall, HaveRoom}
 use Rattle.unit_program.specs.Runners.{Going, AreRunners}
 use Rattle.unit_program.proofs.runner.prune.Given as goal
 
@@ -14,6 +14,7 @@ invariant-loop-back g l = record {
   stands : (π : PriceLists) (ends : ℕ → Option ℤ) (n : ℕ) → AreRunners (thermal_of l.unit) π ends (live_at g.R.Running.function l.fn.runners) l.period n →
       AreRunners (thermal_of l.unit) π ends (live_at g.R.Running.function l.runners) l.period n;
   roomy : (periods t charge : ℕ) → AreRoomy g.R.Running.count g.R.Running.room periods t charge l.fn.runners → AreRoomy g.R.Running.count g.R.Running.room periods t charge l.runners;
-  keeps : (most : ℕ) → HaveRoom g.R.Running.room most l.fn.runners → HaveRoom g.R.Running.room most l.runners;
+  left : (f k : ℕ) → left_at l.runners f k ≡ left_at l.fn.runners f k;
+  keeps : (most periods : ℕ) → HaveRoom g.R.Running.room most periods l.fn.runners → HaveRoom g.R.Running.room most periods l.runners;
   count_same : length l.runners ≡ length l.fn.runners;
 }

@@ -4,7 +4,7 @@ use Rattle.uc_model.specs.PlainUnits.{thermal_of}
 use Rattle.unit_program.specs.Live.{live_at}
 use Rattle.unit_program.specs.Runners.{Going}
 use Rattle.unit_program.proofs.EntryLaws.{if_some}
-use Rattle.unit_program.proofs.LiveLaws.{live_here, live_other, going_off, small_stopped, roomy_stopped, written_keeps}
+use Rattle.unit_program.proofs.LiveLaws.{live_here, live_other, going_off, small_stopped, roomy_stopped, written_keeps, written_left}
 use Rattle.unit_program.proofs.RunAllLaws.{item_at, item_same, item_live, read_live, read_on, on_of}
 use Rattle.unit_program.proofs.StandInLaws.{early_goes}
 use Rattle.unit_program.proofs.runner.prune_one.Goals as goal
@@ -71,7 +71,7 @@ returns-then-goes-clause-room g c = λ periods t charge roomy.
     let low : c.args.early < length c.args.runners.now = omega (arith, under, end) in
     let d = c.index-runners-early-then-goes.result in
     roomy_stopped g.R.Running.function g.R.Running.count g.R.Running.room periods t charge c.args.runners.now _ c.args.early c.stop.new.runner low refl c.stop.ensures.off
-    (get_or c.args.runners.now c.args.early d) (item_at g.R.Running.function c.args.runners.now c.args.early low d) c.stop.ensures.running roomy
+    (get_or c.args.runners.now c.args.early d) (item_at g.R.Running.function c.args.runners.now c.args.early low d) c.stop.ensures.running c.stop.ensures.passed roomy
 
 pub returns-else-goes-clause-late : goal.returns-else-goes-clause-late
 returns-else-goes-clause-late g c =
@@ -94,4 +94,13 @@ returns-then-goes-clause-keeps g c =
     let low : c.args.early < length c.args.runners.now = omega (arith, under, end) in
     let d = c.index-runners-early-then-goes.result in
     written_keeps g.R.Running.function g.R.Running.room c.args.runners.now _ c.args.early c.stop.new.runner low refl
-    (get_or c.args.runners.now c.args.early d) (item_at g.R.Running.function c.args.runners.now c.args.early low d) (ap g.R.Running.room c.stop.ensures.running)
+    (get_or c.args.runners.now c.args.early d) (item_at g.R.Running.function c.args.runners.now c.args.early low d) (ap g.R.Running.room c.stop.ensures.running) (ap (λ p. length p.items) c.stop.ensures.passed)
+
+pub returns-then-goes-clause-left : goal.returns-then-goes-clause-left
+returns-then-goes-clause-left g c =
+    let end = c.requires.end in
+    let under = c.requires.early in
+    let low : c.args.early < length c.args.runners.now = omega (arith, under, end) in
+    let d = c.index-runners-early-then-goes.result in
+    written_left g.R.Running.function c.args.runners.now _ c.args.early c.stop.new.runner low refl
+    (get_or c.args.runners.now c.args.early d) (item_at g.R.Running.function c.args.runners.now c.args.early low d) c.stop.ensures.passed

@@ -51,6 +51,8 @@ loop-index-preserved g c =
       off = c.run_at.ensures.off;
       rest = c.run_at.ensures.rest;
       roomy = c.run_at.ensures.room;
+      ends = c.run_at.ensures.ends;
+      left = c.run_at.ensures.left;
       keeps = c.run_at.ensures.keeps;
       count_same = c.run_at.ensures.count;
     })

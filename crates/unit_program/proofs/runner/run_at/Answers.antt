@@ -1,7 +1,8 @@
-use Rattle.std.proofs.Common.{◌≡◌, suc, ◌+◌, true, false, get_or, length, refl, ap, ◌∙◌}
+use Rattle.std.proofs.Common.{◌≡◌, suc, ◌+◌, inl, inr, true, false, get_or, length, refl, sym, ap, ◌∙◌, subst}
 use Rattle.uc_model.specs.PlainUnits.{thermal_of, prices_of}
-use Rattle.unit_program.specs.Live.{going_of}
+use Rattle.unit_program.specs.Live.{going_of, left_of}
 use Rattle.unit_program.specs.Rows.{cost_at, first_at, before_at}
+use Rattle.unit_program.specs.Runners.{IsEndLeft}
 use Rattle.unit_program.proofs.LiveLaws.{get_set_same, get_set_other, written_keeps}
 use Rattle.unit_program.proofs.RunAllLaws.{item_at, item_same, item_live, item_off, goes_written, on_of, room_of}
 use Rattle.unit_program.proofs.RunnerRowLaws.{row_skip}
@@ -73,6 +74,7 @@ returns-else-runners-first-clause-room g c = λ r is.
     let old = c.requires.room r is in
     record {
       whole = old.whole;
+      places = old.places;
       rest = λ on.
           let same : r ≡ get_or c.args.runners.now c.args.first c.index-runners-first.result = (cc) in
           let off : r.is_on ≡ false = on_of r _ same c.if-runners-first.false in
@@ -83,4 +85,21 @@ pub returns-then-runners-first-clause-keeps : goal.returns-then-runners-first-cl
 returns-then-runners-first-clause-keeps g c =
     let d = c.index-runners-first-then-runners-first.result in
     written_keeps g.R.Running.function g.R.Running.room c.args.runners.now _ c.args.first c.take_runner.new.runner c.requires.runners refl
-    (get_or c.args.runners.now c.args.first d) (item_at g.R.Running.function c.args.runners.now c.args.first c.requires.runners d) c.take_runner.ensures.keeps
+    (get_or c.args.runners.now c.args.first d) (item_at g.R.Running.function c.args.runners.now c.args.first c.requires.runners d) c.take_runner.ensures.keeps c.take_runner.ensures.places
+
+pub returns-then-runners-first-clause-ends : goal.returns-then-runners-first-clause-ends
+returns-then-runners-first-clause-ends g c =
+    let unit = thermal_of c.args.unit.now in
+    let prices = prices_of c.args.prices.now in
+    let here = get_set_same c.args.runners.now c.args.first c.take_runner.new.runner c.requires.runners in
+    let left = ap (λ o. left_of o c.args.place) here in
+    elim (c.take_runner.ensures.ends) [
+      | inl same ↦ inl same
+      | inr named ↦ inr (named.0, subst (IsEndLeft unit prices c.args.first c.args.place) (sym left) named.1)
+    ]
+
+pub returns-then-runners-first-clause-left : goal.returns-then-runners-first-clause-left
+returns-then-runners-first-clause-left g c = λ k other.
+    let here = get_set_same c.args.runners.now c.args.first c.take_runner.new.runner c.requires.runners in
+    let at = item_at g.R.Running.function c.args.runners.now c.args.first c.requires.runners c.index-runners-first-then-runners-first.result in
+    ap (λ o. left_of o k) here ∙ c.take_runner.ensures.left k other ∙ sym (ap (λ o. left_of o k) at)

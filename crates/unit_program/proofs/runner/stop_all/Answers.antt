@@ -1,5 +1,5 @@
 use Rattle.std.proofs.Common.{refl, arith, length-set}
-use Rattle.unit_program.proofs.LiveLaws.{none_stopped, stopped_more, stopped_off, stopped_roomy, stopped_keeps}
+use Rattle.unit_program.proofs.LiveLaws.{none_stopped, stopped_more, stopped_off, stopped_roomy, stopped_keeps, stopped_left}
 use Rattle.unit_program.proofs.RunAllLaws.{item_at}
 use Rattle.unit_program.proofs.runner.stop_all.Goals as goal
 
@@ -12,7 +12,7 @@ loop-place-preserved g c =
     let same = c.loop-place.invariant.same_length in
     stopped_more g.R.Running.function g.R.Running.count g.R.Running.room c.args.runners.now c.loop-place.runners c.loop-place.place c.loop-place.invariant
     _ c.stop.new.runner _ (omega (arith, low, same)) (item_at g.R.Running.function c.loop-place.runners c.loop-place.place (omega (arith, low, same)) c.index-runners-place.result)
-    c.stop.ensures.off c.stop.ensures.running refl (length-set c.loop-place.runners c.loop-place.place c.stop.new.runner)
+    c.stop.ensures.off c.stop.ensures.running c.stop.ensures.passed refl (length-set c.loop-place.runners c.loop-place.place c.stop.new.runner)
 
 pub returns-clause-off : goal.returns-clause-off
 returns-clause-off g c =
@@ -28,3 +28,6 @@ returns-clause-room g c =
 
 pub returns-clause-keeps : goal.returns-clause-keeps
 returns-clause-keeps g c = stopped_keeps g.R.Running.function g.R.Running.count g.R.Running.room c.args.runners.now c.loop-place.runners c.loop-place.place c.loop-place.invariant
+
+pub returns-clause-left : goal.returns-clause-left
+returns-clause-left g c = stopped_left g.R.Running.function g.R.Running.count g.R.Running.room c.args.runners.now c.loop-place.runners c.loop-place.place c.loop-place.invariant

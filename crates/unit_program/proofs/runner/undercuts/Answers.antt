@@ -4,6 +4,7 @@ use Rattle.std.specs.Int.{w64}
 use Rattle.std.proofs.lemmas.Bool.{OnTrue_from}
 use Rattle.std.proofs.lemmas.Int.{to_z-of_z}
 use Rattle.shape_law.specs.Table.{value_of}
+use Rattle.spell_run.specs.Notes.{passed_at}
 use Rattle.unit_program.specs.Live.{IsUnder}
 use Rattle.unit_program.specs.Rows.{IsWithinTimes}
 use Rattle.unit_program.proofs.LiveLaws.{under_of}
@@ -25,7 +26,7 @@ returns-in-Some g c =
     let sum : c.sum_of.result ≡ c.args.runner.now.cost +ℤ c.in-Some.value = simp to_z-of_z at c.sum_of.ensures in
     let there : value_of (g.R.Running.function c.args.runner.now.running) c.args.power ≡ Some c.in-Some.value = simp to_z-of_z at c.in-Some.ensures in
     OnTrue_from c.is_less.result
-    (IsUnder c.args.power c.args.cost (record { before = c.args.runner.now.before; cost = c.args.runner.now.cost; function = g.R.Running.function c.args.runner.now.running }))
+    (IsUnder c.args.power c.args.cost (record { before = c.args.runner.now.before; cost = c.args.runner.now.cost; function = g.R.Running.function c.args.runner.now.running; left = passed_at c.args.runner.now.passed.items }))
     (λ t.
     let less : (c.sum_of.result +ℤ pos 1) ≤ℤ c.args.cost = simp to_z-of_z at (c.is_less.ensures t) in
-    under_of (g.R.Running.function c.args.runner.now.running) c.args.runner.now.cost c.args.power c.args.cost c.in-Some.value c.sum_of.result c.args.runner.now.before there sum less)
+    under_of (g.R.Running.function c.args.runner.now.running) c.args.runner.now.cost c.args.power c.args.cost c.in-Some.value c.sum_of.result c.args.runner.now.before (passed_at c.args.runner.now.passed.items) there sum less)

@@ -3,6 +3,7 @@ use Rattle.std.specs.Prelude.{FitsSigned}
 use Rattle.std.specs.Int.{w64}
 use Rattle.std.proofs.lemmas.Bool.{OnTrue_at, OnTrue_from}
 use Rattle.std.proofs.lemmas.Int.{to_z-of_z}
+use Rattle.spell_run.specs.Notes.{passed_at}
 use Rattle.unit_program.specs.Live.{live_at, IsUnder}
 use Rattle.unit_program.specs.Runners.{Going}
 use Rattle.unit_program.proofs.RunAllLaws.{item_same, read_live, on_of}
@@ -30,5 +31,5 @@ returns g c =
     OnTrue_from c.undercuts.result
     ((r : Going) × (live_at g.R.Running.function c.args.runners.now c.args.first ≡ Some r) × IsUnder c.args.power c.args.cost r)
     (λ t.
-    let under : IsUnder c.args.power c.args.cost (record { before = x.before; cost = x.cost; function = g.R.Running.function x.running }) = simp to_z-of_z at (OnTrue_at t c.undercuts.ensures) in
-    (record { before = x.before; cost = x.cost; function = g.R.Running.function x.running }, live, under))
+    let under : IsUnder c.args.power c.args.cost (record { before = x.before; cost = x.cost; function = g.R.Running.function x.running; left = passed_at x.passed.items }) = simp to_z-of_z at (OnTrue_at t c.undercuts.ensures) in
+    (record { before = x.before; cost = x.cost; function = g.R.Running.function x.running; left = passed_at x.passed.items }, live, under))

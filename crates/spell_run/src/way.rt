@@ -1,0 +1,129 @@
+//! The way back over a spell, by what its steps noted on the way forward.
+//!
+//! A convex function whose least place is `turn` is least, at the places in reach of a power, at the one that is nearest to
+//! the turn. So three numbers of a step suffice to find the cheapest power before it.
+ghost use Rattle.std.specs.Prelude.{◌≡◌, ℤ, suc, ◌==◌, ◌<◌, ◌≤◌, length, Some};
+ghost use Rattle.shape_law.specs.Effect.{Reaches};
+ghost use Rattle.shape_law.specs.Table.{Table, value_of};
+ghost use Rattle.slope_step.specs.Turn.{IsTurn, IsFirst, IsLast};
+ghost use Rattle.spell_run.specs.Entries.{IsOnFromTo, IsSameOutside};
+ghost use Rattle.spell_run.specs.Frontier.{IsChosen};
+ghost use Rattle.spell_run.specs.Notes.{IsCheapest, IsNoted, IsSpellNoted, passed_at};
+ghost use Rattle.spell_run.specs.Spells.{IsBestDispatch, IsFirstDispatch};
+ghost use Rattle.spell_run.specs.Steps.{step_at, IsFairStep};
+ghost use Rattle.uc_model.specs.Limits.{IsOutput};
+ghost use Rattle.uc_model.specs.PlainUnits.{thermal_of, prices_of, schedule_of};
+
+use crate::best::write_best;
+use crate::step::{Step, starts_in, step_of};
+use slope_list::Lowest;
+use uc_model::units::{Answered, Prices, Unit};
+
+/// What a step leaves for the way back, in kilowatts.
+#[derive(Clone, Copy)]
+pub struct Note {
+    /// The least place of the least value before the step, less the worth of its reserve.
+    pub turn: i64,
+    /// The first place before the step.
+    pub first: i64,
+    /// The last place before the step.
+    pub last: i64,
+}
+
+/// What a spell leaves of a period for the way back.
+#[derive(Clone, Copy)]
+pub struct Passed {
+    /// Of the step that goes on.
+    pub note: Note,
+    /// The least cost of the spells that end with the period, its power, and the turn of their last step; None where there
+    /// is none.
+    pub end: Option<Lowest>,
+}
+
+/// The cheapest power before a step to a power, the least of those.
+fn cheapest_before(step: Step, note: Note, power: i64) -> i64
+    requires step { IsFairStep step }
+    requires power { IsOutput power }
+    ensures { (f : Table) (v y w : ℤ) → IsTurn step f note.turn → IsFirst f note.first v → IsLast f note.last →
+        value_of f y ≡ Some w → Reaches step.ramp_up step.ramp_down power y → IsCheapest step f power result }
+{
+    let low = (power - step.ramp_up).max(note.first);
+    let high = (power + step.ramp_down).min(note.last);
+    low.max(high.min(note.turn))
+}
+
+/// Writes the period at a place with its power, and answers the cheapest power before it.
+fn write_period(
+    unit: &Unit,
+    prices: &Prices,
+    first: u32,
+    place: usize,
+    stops: bool,
+    note: Note,
+    power: i64,
+    into: &mut Answered,
+) -> i64
+    requires place { place < length (prices_of prices.now).energy }
+    requires order { first ≤ suc place }
+    requires noted { (after : Table) × IsNoted (thermal_of unit.now) (prices_of prices.now) first place stops note after × ((v : ℤ) × (value_of after power ≡ Some v)) }
+    requires into { place < length (schedule_of into.old.response).on }
+    ensures chosen { (after : Table) (v : ℤ) (n : IsNoted (thermal_of unit.now) (prices_of prices.now) first place stops note after) → value_of after power ≡ Some v →
+        IsChosen (step_at (thermal_of unit.now) (prices_of prices.now) place (first == suc place) stops) n.before place power result (schedule_of into.old.response) (schedule_of into.new.response) }
+    ensures earned { into.new.earned ≡ into.old.earned }
+{
+    let step = step_of(unit, prices, place, starts_in(first, place), stops);
+    let before = cheapest_before(step, note, power);
+    write_best(into, place, step, before, power);
+    before
+}
+
+/// Leaves a dispatch of least net cost in the periods of the spell from `first` to `last`, the first of those of that cost,
+/// by what the spell left of them: by powers from the last period back, less power first, and then by reserves. `first` 0
+/// stands for a spell that goes on from before period 1. All other periods, and what is earned, stay. Prices and `into` are
+/// over the same periods. Takes no memory.
+pub fn write_spell(
+    unit: &Unit,
+    prices: &Prices,
+    first: u32,
+    last: u32,
+    passed: &[Passed],
+    into: &mut Answered,
+)
+    requires order { first ≤ last }
+    requires some { 1 ≤ last }
+    requires end { last ≤ length (prices_of prices.now).energy }
+    requires room { last ≤ length passed.now }
+    requires noted { IsSpellNoted (thermal_of unit.now) (prices_of prices.now) first last (passed_at passed.now) }
+    requires into { length (schedule_of into.old.response).on ≡ length (prices_of prices.now).energy }
+    ensures best { (cost : ℤ) × IsBestDispatch (thermal_of unit.now) (prices_of prices.now) (length (prices_of prices.now).energy) first last (schedule_of into.new.response) cost
+        × IsFirstDispatch (thermal_of unit.now) (prices_of prices.now) (length (prices_of prices.now).energy) first last (schedule_of into.new.response) cost }
+    ensures on { IsOnFromTo first last (schedule_of into.new.response) }
+    ensures outside { IsSameOutside first last (schedule_of into.old.response) (schedule_of into.new.response) }
+    ensures earned { into.new.earned ≡ into.old.earned }
+{
+    let end = last as usize - 1;
+    let left = passed[end];
+    let Some(lowest) = left.end else {
+        return;
+    };
+    let note = Note {
+        turn: lowest.turn,
+        first: left.note.first,
+        last: left.note.last,
+    };
+    let stops = (last as usize) < prices.energy.len();
+    let mut power = write_period(unit, prices, first, end, stops, note, lowest.at, into);
+    for back in 1..last + 1 - first.max(1) {
+        let place = end - back as usize;
+        power = write_period(
+            unit,
+            prices,
+            first,
+            place,
+            false,
+            passed[place].note,
+            power,
+            into,
+        );
+    }
+}
