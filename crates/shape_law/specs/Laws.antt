@@ -84,3 +84,15 @@ CurveSumIsWithinLimits =
 abbrev pub WindowIsWithinLimits : Type 0
 WindowIsWithinLimits =
     (up down lo hi : ℤ) (f g : Table) → IsPlace lo → IsPlace hi → IsWindow up down lo hi f g → IsWithinLimits f → IsWithinLimits g
+
+-- an effect is said of the look-up alone: what it says of two functions it says of any two with the same values
+abbrev pub SumIsOfValues : Type 0
+SumIsOfValues = (term : ℤ → ℤ) (f f' g g' : Table) → IsSame f f' → IsSame g g' → IsSum term f g → IsSum term f' g'
+
+abbrev pub CurveSumIsOfValues : Type 0
+CurveSumIsOfValues =
+    (curve : ℤ → Option ℤ) (shift : ℤ) (f f' g g' : Table) → IsSame f f' → IsSame g g' → IsCurveSum curve shift f g → IsCurveSum curve shift f' g'
+
+abbrev pub WindowIsOfValues : Type 0
+WindowIsOfValues =
+    (up down lo hi : ℤ) (f f' g g' : Table) → IsSame f f' → IsSame g g' → IsWindow up down lo hi f g → IsWindow up down lo hi f' g'
