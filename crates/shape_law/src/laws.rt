@@ -1,7 +1,7 @@
 //! Laws of shapes: each is the contract of a function that does nothing.
 ghost use Rattle.std.specs.Prelude.{◌≡◌, true};
 ghost use Rattle.shape_law.specs.Chain.{IsWithinCharge, IsBalanced, CellsAreCharged, CellsAreBounded};
-ghost use Rattle.shape_law.specs.Laws.{OthersStay, FramesJoin, EndedShapesLeaveNothing, PointIsConvex, CopyIsConvex, LineKeepsConvexity, ReserveKeepsConvexity, CurveKeepsConvexity, WindowKeepsConvexity, PointIsExact, SumIsExact, CurveSumIsExact, WindowIsExact, SumIsOfValues, CurveSumIsOfValues, WindowIsOfValues, PointIsWithinLimits, CopyIsWithinLimits, SumIsWithinLimits, CurveSumIsWithinLimits, WindowIsWithinLimits};
+ghost use Rattle.shape_law.specs.Laws.{OthersStay, FramesJoin, EndedShapesLeaveNothing, PointIsConvex, CopyIsConvex, LineKeepsConvexity, ReserveKeepsConvexity, CurveKeepsConvexity, WindowKeepsConvexity, PointIsExact, SumIsExact, CurveSumIsExact, WindowIsExact, SumIsOfValues, CurveSumIsOfValues, WindowIsOfValues, CurvePlacesAreLimited, PointIsWithinLimits, CopyIsWithinLimits, SumIsWithinLimits, CurveSumIsWithinLimits, WindowIsWithinLimits};
 
 use crate::Shape;
 
@@ -45,6 +45,11 @@ pub fn effects_are_of_values()
     ensures sum { SumIsOfValues }
     ensures curve { CurveSumIsOfValues }
     ensures window { WindowIsOfValues }
+{}
+
+/// A curve within the limits has values at places within them alone.
+pub fn curve_places_are_limited()
+    ensures { CurvePlacesAreLimited }
 {}
 
 /// Each call's effect keeps places and values within the limits, under the call's conditions.
