@@ -5,8 +5,3 @@ pub mod ValueLaws
 pub mod LeastLaws
 -- the least values in reach of the places between the two ends are the window
 pub mod WindowLaws
--- a curve's value from its first place on
-pub mod CurveLaws
--- ---- src/tests.rt
--- the functions of the worked rows are within the limits
-pub mod RowLaws

@@ -10,6 +10,7 @@ ghost use Rattle.shape_law.specs.Effect.{IsWindow, IsLeastIn, Reaches};
 ghost use Rattle.shape_law.specs.Table.{value_of, IsConvexList, IsPlace, IsAmount, HasNone};
 
 use cost_curve::curves::curve_at;
+use shape_law::laws::{curve_places_are_limited, effects_keep_convexity, effects_keep_limits};
 use shape_law::{Cells, Heap, Shape};
 use std::alloc::{AllocError, Global};
 use uc_model::units::Curve;
@@ -151,6 +152,8 @@ fn window_of(
             values: Vec::new(alloc),
         });
     }
+    effects_keep_convexity();
+    effects_keep_limits();
     let last = s.lo + (len - 1) as i64;
     let from = lo.max(s.lo - down);
     let to = hi.min(last + up);
@@ -232,6 +235,7 @@ impl Term for Moved<'_> {
     ghost limited = { λ m. IsLimitedCurve m.curve.now };
 
     fn plus(&self, value: i64, x: i64) -> i64 {
+        curve_places_are_limited();
         value + curve_at(self.curve, x + self.shift)
     }
 }
@@ -299,11 +303,15 @@ impl Shape for Levels {
     }
 
     fn add_curve(&mut self, _home: &mut Heap, curve: &Curve, shift: i64) -> Result<(), AllocError> {
+        effects_keep_convexity();
+        effects_keep_limits();
         add_term(&mut self.values, self.lo, &Moved { curve, shift });
         Ok(())
     }
 
     fn add_line(&mut self, _home: &mut Heap, slope: i64) {
+        effects_keep_convexity();
+        effects_keep_limits();
         add_term(&mut self.values, self.lo, &Line { slope });
     }
 
@@ -314,6 +322,8 @@ impl Shape for Levels {
         cap: i64,
         up: i64,
     ) -> Result<(), AllocError> {
+        effects_keep_convexity();
+        effects_keep_limits();
         add_term(&mut self.values, self.lo, &Reserve { mu, cap, up });
         Ok(())
     }

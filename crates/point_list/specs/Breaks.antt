@@ -1,26 +1,9 @@
--- A list of breakpoints, and the function that it stands for (this project's profile).
+-- A list of breakpoints that can be counted (this project's profile).
 use Rattle.std.specs.Prelude.{◌^◌, ◌<◌, List, length}
-use Rattle.shape_law.specs.Table.{Table, IsConvex, IsWithinLimits}
 use Rattle.ramp_step.specs.declared.breakpoint.Knot.{Knot}
-use Rattle.ramp_step.specs.Breakpoints.{AreBreakpoints}
-use Rattle.ramp_step.specs.Tables.{table_of, AreWithinLimits}
-use Rattle.ramp_step.proofs.BreakpointLaws.{IsShape-breakpoints}
-use Rattle.ramp_step.proofs.LimitLaws.{IsWithinLimits-from_knots}
-use Rattle.ramp_step.proofs.ShapeLaws.{IsConvexList-from_knots}
+use Rattle.ramp_step.specs.Tables.{IsBreakList}
 
 -- the whole list is breakpoints with whole slopes that don't fall, within the limits, and few enough to be counted
-pub record AreBreaks (ks : List Knot) : Type 0 where
-  pub points : AreBreakpoints ks (length ks)
-  pub within : AreWithinLimits ks (length ks)
+pub record IsCountedList (ks : List Knot) : Type 0 where
+  pub breaks : IsBreakList ks
   pub count : length ks < 2 ^ 32
-
--- its function
-abbrev pub function_of : List Knot → Table
-function_of ks = table_of ks (length ks)
-
--- which is convex, and within the limits
-pub convex_of : (ks : List Knot) → AreBreaks ks → IsConvex (function_of ks)
-convex_of ks b = IsConvexList-from_knots ks (length ks) (IsShape-breakpoints ks (length ks) b.points)
-
-pub within_limits : (ks : List Knot) → AreBreaks ks → IsWithinLimits (function_of ks)
-within_limits ks b = IsWithinLimits-from_knots ks (length ks) (IsShape-breakpoints ks (length ks) b.points) b.within

@@ -2,7 +2,7 @@
 use Rattle.std.specs.Prelude.{◌≡◌, ℕ, length}
 use Rattle.shape_law.specs.Table.{Table}
 use Rattle.point_list.specs.declared.breaks.Breaks.{Breaks}
-use Rattle.point_list.specs.Breaks as lists
+use Rattle.ramp_step.specs.Tables.{function_of}
 
 -- how many breakpoints it keeps
 abbrev pub count_of : Breaks → ℕ
@@ -10,7 +10,7 @@ count_of s = length s.knots.items
 
 -- its function
 abbrev pub shown : Breaks → Table
-shown s = lists.function_of s.knots.items
+shown s = function_of s.knots.items
 
 -- a refused call leaves both as they were
 pub record IsUntouched (s s' : Breaks) : Type 0 where

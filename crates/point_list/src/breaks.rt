@@ -1,7 +1,7 @@
 //! The shape that keeps its breakpoints.
 ghost use Rattle.std.specs.Prelude.{◌≡◌, ◌+◌, ◌≤◌, length, refl, [], IfOk};
 ghost use Rattle.std.proofs.Common.{rules};
-ghost use Rattle.point_list.specs.Breaks.{AreBreaks, function_of, convex_of, within_limits};
+ghost use Rattle.point_list.specs.Breaks.{IsCountedList};
 
 use crate::steps;
 use ramp_step::breakpoint::Knot;
@@ -14,7 +14,7 @@ use uc_model::units::Curve;
 #[derive(Drop)]
 pub struct Breaks {
     knots: Vec<Knot>,
-    ghost valid: { AreBreaks knots.items },
+    ghost valid: { IsCountedList knots.items },
 }
 
 impl Breaks {
@@ -47,9 +47,9 @@ impl Shape for Breaks {
 
     ghost same_cells = { λ h h' s _ _. (refl, refl) };
 
-    ghost convex = { λ h s _. convex_of s.knots.items s.valid };
+    ghost convex = { λ h s _. s.valid.breaks.convex };
 
-    ghost within = { λ h s _. within_limits s.knots.items s.valid };
+    ghost within = { λ h s _. s.valid.breaks.within };
 
     ghost owns = { λ h s _. record { used = λ n among. absurd among; distinct = tt } };
 

@@ -4,14 +4,17 @@ ghost use Rattle.shape_law.specs.Curve.{curve_value, reserve_term, IsLimitedCurv
 ghost use Rattle.shape_law.specs.Effect.{IsPoint, IsSum, IsCurveSum, CanAddCurve, IsWindow, IsLeast, IsLeastIn};
 ghost use Rattle.shape_law.specs.Table.{value_of, IsPlace, IsAmount, IsEmpty, HasNone, CanAdd};
 ghost use Rattle.ramp_step.specs.Knots.{knot};
-ghost use Rattle.point_list.specs.Breaks.{AreBreaks, function_of};
+ghost use Rattle.ramp_step.specs.Tables.{function_of};
+ghost use Rattle.point_list.specs.Breaks.{IsCountedList};
 
 use ramp_step::breakpoint::Knot;
 use ramp_step::curve::curve_step;
 use ramp_step::kink::kink_step;
+use ramp_step::law::knots_decide;
 use ramp_step::line::line_step;
 use ramp_step::read;
 use ramp_step::window::window_step;
+use shape_law::laws::effects_are_of_values;
 use std::alloc::{AllocError, Global};
 use uc_model::units::Curve;
 
@@ -35,12 +38,14 @@ fn make_room(knots: &mut Vec<Knot>, cells: usize) -> Result<u32, AllocError>
 
 /// Adds `slope * x` at each place x.
 pub(crate) fn add_line(knots: &mut Vec<Knot>, slope: i64)
-    requires breaks { AreBreaks knots.old.items }
+    requires breaks { IsCountedList knots.old.items }
     requires fits { CanAdd (λ x. slope *ℤ x) (function_of knots.old.items) }
     ensures sum { IsSum (λ x. slope *ℤ x) (function_of knots.old.items) (function_of knots.new.items) }
-    ensures breaks { AreBreaks knots.new.items }
+    ensures breaks { IsCountedList knots.new.items }
     ensures count { length knots.new.items ≡ length knots.old.items }
 {
+    knots_decide();
+    effects_are_of_values();
     let used = knots.len() as u32;
     line_step(knots, used, slope);
 }
@@ -52,16 +57,18 @@ pub(crate) fn add_reserve(
     cap: i64,
     up: i64,
 ) -> Result<(), AllocError>
-    requires breaks { AreBreaks knots.old.items }
+    requires breaks { IsCountedList knots.old.items }
     requires mu { pos 0 ≤ℤ mu }
     requires cap { IsPlace cap }
     requires up { IsPlace up }
     requires fits { CanAdd (reserve_term mu cap up) (function_of knots.old.items) }
     ensures ok { OnOk result (IsSum (reserve_term mu cap up) (function_of knots.old.items) (function_of knots.new.items)) }
-    ensures breaks { AreBreaks knots.new.items }
+    ensures breaks { IsCountedList knots.new.items }
     ensures charge { length knots.new.items ≤ length knots.old.items + 1 }
     ensures err { OnErr result (knots.new.items ≡ knots.old.items) }
 {
+    knots_decide();
+    effects_are_of_values();
     let used = make_room(knots, 1)?;
     let left = kink_step(knots, used, mu, cap, up);
     knots.truncate(left as usize);
@@ -70,11 +77,11 @@ pub(crate) fn add_reserve(
 
 /// Adds the curve's value at `x + shift` at each place x.
 pub(crate) fn add_curve(knots: &mut Vec<Knot>, curve: &Curve, shift: i64) -> Result<(), AllocError>
-    requires breaks { AreBreaks knots.old.items }
+    requires breaks { IsCountedList knots.old.items }
     requires limited { IsLimitedCurve curve.now }
     requires fits { CanAddCurve (curve_value curve.now) shift (function_of knots.old.items) }
     ensures ok { OnOk result (IsCurveSum (curve_value curve.now) shift (function_of knots.old.items) (function_of knots.new.items)) }
-    ensures breaks { AreBreaks knots.new.items }
+    ensures breaks { IsCountedList knots.new.items }
     ensures charge { length knots.new.items ≤ length knots.old.items + length curve.now.blocks.items }
     ensures err { OnErr result (knots.new.items ≡ knots.old.items) }
 {
@@ -82,6 +89,8 @@ pub(crate) fn add_curve(knots: &mut Vec<Knot>, curve: &Curve, shift: i64) -> Res
     if len == 0 {
         return Ok(());
     }
+    knots_decide();
+    effects_are_of_values();
     let used = make_room(knots, curve.blocks.len())?;
     let left = curve_step(knots, used, curve, shift);
     knots.truncate(left as usize);
@@ -96,7 +105,7 @@ pub(crate) fn window(
     lo: i64,
     hi: i64,
 ) -> Result<(), AllocError>
-    requires breaks { AreBreaks knots.old.items }
+    requires breaks { IsCountedList knots.old.items }
     requires up { pos 0 ≤ℤ up }
     requires up_fits { IsPlace up }
     requires down { pos 0 ≤ℤ down }
@@ -104,10 +113,12 @@ pub(crate) fn window(
     requires lo { IsPlace lo }
     requires hi { IsPlace hi }
     ensures ok { OnOk result (IsWindow up down lo hi (function_of knots.old.items) (function_of knots.new.items)) }
-    ensures breaks { AreBreaks knots.new.items }
+    ensures breaks { IsCountedList knots.new.items }
     ensures charge { length knots.new.items ≤ length knots.old.items + 4 }
     ensures err { OnErr result (knots.new.items ≡ knots.old.items) }
 {
+    knots_decide();
+    effects_are_of_values();
     let used = make_room(knots, 4)?;
     let left = window_step(knots, used, up, down, lo, hi);
     knots.truncate(left as usize);
@@ -119,17 +130,18 @@ pub(crate) fn point(alloc: Global, at: i64, value: i64) -> Result<Vec<Knot>, All
     requires place { IsPlace at }
     requires amount { IsAmount value }
     ensures ok { IfOk result (λ knots. IsPoint at value (function_of knots.items)) }
-    ensures breaks { IfOk result (λ knots. AreBreaks knots.items) }
+    ensures breaks { IfOk result (λ knots. IsCountedList knots.items) }
     ensures count { IfOk result (λ knots. length knots.items ≡ 1) }
 {
     let mut knots = Vec::new(alloc);
     knots.push(Knot { at, value })?;
+    knots_decide();
     Ok(knots)
 }
 
 /// The least value and its least place.
 pub(crate) fn least(knots: &[Knot]) -> Option<(i64, i64)>
-    requires { AreBreaks knots.now }
+    requires { IsCountedList knots.now }
     ensures { MatchOption result (IsEmpty (function_of knots.now)) (λ r. IsLeast (function_of knots.now) r.0 r.1) }
 {
     match read::least(knots, knots.len() as u32) {
@@ -140,7 +152,7 @@ pub(crate) fn least(knots: &[Knot]) -> Option<(i64, i64)>
 
 /// The least value at the places from `lo` to `hi` and its least place.
 pub(crate) fn least_in(knots: &[Knot], lo: i64, hi: i64) -> Option<(i64, i64)>
-    requires { AreBreaks knots.now }
+    requires { IsCountedList knots.now }
     ensures { MatchOption result (HasNone lo hi (function_of knots.now)) (λ r. IsLeastIn lo hi (function_of knots.now) r.0 r.1) }
 {
     match read::least_in(knots, knots.len() as u32, lo, hi) {
@@ -151,7 +163,7 @@ pub(crate) fn least_in(knots: &[Knot], lo: i64, hi: i64) -> Option<(i64, i64)>
 
 /// The value at a place.
 pub(crate) fn value_at(knots: &[Knot], x: i64) -> Option<i64>
-    requires { AreBreaks knots.now }
+    requires { IsCountedList knots.now }
     ensures { result ≡ value_of (function_of knots.now) x }
 {
     read::value_at(knots, knots.len() as u32, x)

@@ -3,7 +3,7 @@ use Rattle.std.proofs.Common.{◌≡◌, ℕ, List, sym, ap, ◌∙◌, subst}
 use Rattle.shape_law.specs.Cell.{IsAmong, Frame}
 use Rattle.point_pool.specs.declared.pool.Pool.{Pool}
 use Rattle.point_pool.specs.declared.slot.Slot.{Slot}
-use Rattle.point_pool.specs.Breaks.{AreBreaks}
+use Rattle.ramp_step.specs.Tables.{IsBreakList}
 use Rattle.point_pool.specs.CellLaws.{same_by_slots, same_cell, slot_if_used}
 use Rattle.point_pool.specs.Seen.{cells_of, numbers_of, IsIn}
 use Rattle.point_pool.specs.Walk.{slot_at, AreUsed, Changes}
@@ -20,6 +20,6 @@ Frame-changes p p' own own' c =
           let r = same_by_slots slots slots' other.head other.count same in
           record {
             used = subst (λ xs. AreUsed slots' xs) (sym r.numbers) (record { used = λ n a. ap (λ (s : Slot). s.in_use) (same n a) ∙ here.used.used n a; distinct = here.used.distinct });
-            breaks = subst AreBreaks (sym r.knots) here.breaks;
+            breaks = subst IsBreakList (sym r.knots) here.breaks;
           };
     }

@@ -1,26 +1,14 @@
 -- A step on the first knots of a work list is the step on their function.
-use Rattle.std.proofs.Common.{◌≡◌, ℕ, ◌<◌, ◌≤◌, List, [], ◌∷◌, ◌++◌, length, take, drop, Option, Some, sym, ◌∙◌, subst, ap, arith}
-use Rattle.std.specs.Prelude.{ℤ, pos, ◌+ℤ◌, ◌-ℤ◌}
+use Rattle.std.proofs.Common.{◌≡◌, ℕ, ◌<◌, ◌≤◌, List, ◌++◌, length, take, drop, Option, sym, ◌∙◌, ap, arith}
+use Rattle.std.specs.Prelude.{ℤ, pos}
 use Rattle.std.proofs.lemmas.List.{length-take-le, get_or-take, take_at}
-use Rattle.uc_model.specs.declared.units.Curve.{Curve}
-use Rattle.shape_law.specs.Curve as curves
-use Rattle.shape_law.specs.Curve.{curve_value}
-use Rattle.shape_law.specs.Effect as effects
-use Rattle.shape_law.specs.Effect.{IsSum, IsCurveSum, CanAddCurve}
-use Rattle.shape_law.specs.Table as tables
-use Rattle.shape_law.specs.Table.{Table, IsWithinLimits, IsPlace, IsAmount}
-use Rattle.shape_law.proofs.LimitLaws as limits
+use Rattle.shape_law.specs.Effect.{IsSame, IsSum, IsCurveSum, CanAddCurve, IsWindow}
+use Rattle.shape_law.specs.Laws.{SumIsOfValues, CurveSumIsOfValues, WindowIsOfValues}
+use Rattle.shape_law.specs.Table.{CanAdd}
 use Rattle.ramp_step.specs.declared.breakpoint.Knot.{Knot}
-use Rattle.ramp_step.specs.Knots.{knot, place, height, StandFor, IsShape, IsInside, HaveSameEnds, CanAdd}
-use Rattle.ramp_step.specs.Curve.{curve_term, IsLimitedCurve, IsOver}
-use Rattle.ramp_step.specs.Window.{IsWindow}
-use Rattle.ramp_step.proofs.BreakpointLaws.{IsShape-breakpoints, AreBreakpoints-shape}
-use Rattle.ramp_step.proofs.CurveShapeLaws.{IsOver-curve, CanAdd-curve, IsLimitedCurve-curve, curve_on}
-use Rattle.ramp_step.proofs.LimitLaws.{IsWithinLimits-from_knots}
-use Rattle.ramp_step.proofs.SameLaws.{IsInside-back, IsShape-same, StandFor-carried, HaveSameEnds-carried, IsWindow-carried}
-use Rattle.ramp_step.proofs.ShapeLaws.{IsSum-from_knots, IsCurveSum-from_knots, IsWindow-from_knots, CanAdd-from_table, AreWithinLimits-from_table}
-use Rattle.ramp_step.proofs.SpacedLaws.{StandFor-same, same_place, same_height}
-use Rattle.point_pool.specs.Breaks.{AreBreaks, function_of}
+use Rattle.ramp_step.specs.Knots.{knot}
+use Rattle.ramp_step.specs.Laws.{SameKnotsAreSame}
+use Rattle.ramp_step.specs.Tables.{table_of, function_of, AreBreaks, IsBreakList}
 
 nothing : Knot
 nothing = record { at = pos 0; value = pos 0 }
@@ -41,169 +29,35 @@ front_back xs m k h fits = sym (get_or-take m xs k nothing (let len = length-tak
 front_length : (xs : List Knot) (m : ℕ) → m ≤ length xs → m ≡ length (take m xs)
 front_length xs m fits = sym (length-take-le m xs fits)
 
-pub shape_of : (ks : List Knot) → AreBreaks ks → IsShape ks (length ks)
-shape_of ks b = IsShape-breakpoints ks (length ks) b.points
+module _ (same : SameKnotsAreSame) (work k1 : List Knot) (used : ℕ) (fits : used ≤ length work) (e : k1 ≡ work) (b : IsBreakList (take used work)) where
+  begun : AreBreaks k1 used × IsSame (function_of (take used work)) (table_of k1 used)
+  begun = same (take used work) k1 (length (take used work)) used (front_length work used fits) (λ k h. ap (λ (l : List Knot). knot l k) e ∙ front_back work used k h fits) b
 
-pub within_of : (ks : List Knot) → AreBreaks ks → IsWithinLimits (function_of ks)
-within_of ks b = IsWithinLimits-from_knots ks (length ks) (shape_of ks b) b.within
+  pub breaks : AreBreaks k1 used
+  breaks = begun.0
 
-pub AreBreaks-from : (ks : List Knot) → IsShape ks (length ks) → IsWithinLimits (function_of ks) → AreBreaks ks
-AreBreaks-from ks shape within = record {
-  points = AreBreakpoints-shape ks (length ks) shape;
-  within = AreWithinLimits-from_table ks (length ks) shape within;
-}
+  pub can_add : (term : ℤ → ℤ) → CanAdd term (function_of (take used work)) → CanAdd term (table_of k1 used)
+  can_add term can x v h = can x v (sym (begun.1 x) ∙ h)
 
--- one breakpoint within the limits
-pub AreBreaks-one : (q : Knot) → IsPlace q.at → IsAmount q.value → AreBreaks (q ∷ [])
-AreBreaks-one q place_fits amount_fits = record {
-  points = record { rise = λ k h. absurd (omega arith); whole = λ k h. absurd (omega arith); order = λ k h. absurd (omega arith) };
-  within = record {
-    places = λ k h. subst (λ (j : ℕ). IsPlace (place (q ∷ []) j)) {x = 0} (omega arith) place_fits;
-    amounts = λ k h. subst (λ (j : ℕ). IsAmount (height (q ∷ []) j)) {x = 0} (omega arith) amount_fits;
-  };
-}
+  pub can_add_curve : (curve : ℤ → Option ℤ) (shift : ℤ) → CanAddCurve curve shift (function_of (take used work)) → CanAddCurve curve shift (table_of k1 used)
+  can_add_curve curve shift can x v h = can x v (sym (begun.1 x) ∙ h)
 
-module _ (ks k1 : List Knot) (used : ℕ) (b : AreBreaks ks) (e : used ≡ length ks) (before : (k : ℕ) → k < length ks → knot k1 k ≡ knot ks k) where
-  -- ---- before the step
-  stands : IsShape k1 used
-  stands = subst (λ (m : ℕ). IsShape k1 m) (sym e) (IsShape-same ks k1 (length ks) before (shape_of ks b))
+  module _ (k2 : List Knot) (left : ℕ) (most : left ≤ length k2) (left_breaks : AreBreaks k2 left) where
+    ended : IsBreakList (take left k2) × IsSame (table_of k2 left) (function_of (take left k2))
+    ended = same k2 (take left k2) left (length (take left k2)) (length-take-le left k2 most) (after_front k2 left) left_breaks
 
-  back : (f : ℤ → ℤ) → StandFor k1 used f → StandFor ks (length ks) f
-  back f s = StandFor-same k1 ks (length ks) (λ k h. sym (before k h)) f (subst (λ (m : ℕ). StandFor k1 m f) e s)
+    pub left_list : IsBreakList (take left k2)
+    left_list = ended.0
 
-  inside_back : (x : ℤ) → IsInside k1 used x → IsInside ks (length ks) x
-  inside_back x h = IsInside-back ks k1 (length ks) before x (subst (λ (m : ℕ). IsInside k1 m x) e h)
+    back : IsSame (table_of k1 used) (function_of (take used work))
+    back x = sym (begun.1 x)
 
-  can_add : (term : ℤ → ℤ) → tables.CanAdd term (function_of ks) → (f : ℤ → ℤ) → StandFor k1 used f → CanAdd term k1 used f
-  can_add term fits f s x h = CanAdd-from_table term ks (length ks) (within_of ks b) fits f (back f s) x (inside_back x h)
+    pub sum : SumIsOfValues → (term : ℤ → ℤ) → IsSum term (table_of k1 used) (table_of k2 left) → IsSum term (function_of (take used work)) (function_of (take left k2))
+    sum of_values term step = of_values term _ _ _ _ back ended.1 step
 
-  places : (k : ℕ) → k < used → IsPlace (place k1 k)
-  places k h = subst IsPlace (sym (same_place ks k1 (length ks) before k (omega arith))) (b.within.places k (omega arith))
+    pub curve_sum : CurveSumIsOfValues → (curve : ℤ → Option ℤ) (shift : ℤ) → IsCurveSum curve shift (table_of k1 used) (table_of k2 left)
+        → IsCurveSum curve shift (function_of (take used work)) (function_of (take left k2))
+    curve_sum of_values curve shift step = of_values curve shift _ _ _ _ back ended.1 step
 
-  amounts : (k : ℕ) → k < used → IsAmount (height k1 k)
-  amounts k h = subst IsAmount (sym (same_height ks k1 (length ks) before k (omega arith))) (b.within.amounts k (omega arith))
-
-  -- ---- before a curve is added
-  module _ (c : Curve) (shift : ℤ) (some : 0 < length ks) (limited : curves.IsLimitedCurve c) (fits : CanAddCurve (curve_value c) shift (function_of ks)) where
-    curve_is_limited : IsLimitedCurve c.value c.blocks.items (c.at -ℤ shift)
-    curve_is_limited = IsLimitedCurve-curve c shift ks (length ks) some (shape_of ks b) (within_of ks b) limited fits
-
-    curve_is_over : IsOver c.blocks.items (c.at -ℤ shift) k1 used
-    curve_is_over x h = IsOver-curve c shift ks (length ks) some (shape_of ks b) (within_of ks b) limited fits x (inside_back x h)
-
-    can_add_curve : (f : ℤ → ℤ) → StandFor k1 used f → CanAdd (curve_term c.value c.blocks.items (c.at -ℤ shift)) k1 used f
-    can_add_curve f s x h = CanAdd-curve c shift ks (length ks) some (shape_of ks b) (within_of ks b) limited fits f (back f s) x (inside_back x h)
-
-  -- ---- after it
-  module _ (k2 k3 : List Knot) (left : ℕ) (len : length k3 ≡ left) (after : (k : ℕ) → k < left → knot k3 k ≡ knot k2 k) where
-    after' : (k : ℕ) → k < length k3 → knot k3 k ≡ knot k2 k
-    after' k h = after k (omega arith)
-
-    module _ (term : ℤ → ℤ) (step : (f : ℤ → ℤ) → StandFor k1 used f → StandFor k2 left (λ x. f x +ℤ term x)) (ends : HaveSameEnds k1 used k2 left) where
-      step' : (f : ℤ → ℤ) → StandFor k1 (length ks) f → StandFor k2 (length k3) (λ x. f x +ℤ term x)
-      step' f s = subst (λ (m : ℕ). StandFor k2 m (λ x. f x +ℤ term x)) (sym len) (step f (subst (λ (m : ℕ). StandFor k1 m f) (sym e) s))
-
-      ends' : HaveSameEnds k1 (length ks) k2 (length k3)
-      ends' = subst (λ (m : ℕ). HaveSameEnds k1 (length ks) k2 m) (sym len) (subst (λ (m : ℕ). HaveSameEnds k1 m k2 left) e ends)
-
-      carried : (f : ℤ → ℤ) → StandFor ks (length ks) f → StandFor k3 (length k3) (λ x. f x +ℤ term x)
-      carried = StandFor-carried ks k1 k2 k3 (length ks) (length k3) before after' term step'
-
-      new_shape : IsShape k3 (length k3)
-      new_shape = let s = shape_of ks b in (λ x. s.0 x +ℤ term x, carried s.0 s.1)
-
-      sum : IsSum term (function_of ks) (function_of k3)
-      sum = IsSum-from_knots term ks k3 (length ks) (length k3) (shape_of ks b) (HaveSameEnds-carried ks k1 k2 k3 (length ks) (length k3) before after' ends') carried
-
-      sum_breaks : tables.CanAdd term (function_of ks) → AreBreaks k3
-      sum_breaks fits = AreBreaks-from k3 new_shape (limits.IsWithinLimits-sum term (function_of ks) (function_of k3) sum fits (within_of ks b))
-
-      curve_sum : (curve : ℤ → Option ℤ) (shift : ℤ) → ((x : ℤ) → IsInside ks (length ks) x → curve (x +ℤ shift) ≡ Some (term x)) → IsCurveSum curve shift (function_of ks) (function_of k3)
-      curve_sum curve shift on =
-          IsCurveSum-from_knots curve shift term ks k3 (length ks) (length k3) (shape_of ks b) (HaveSameEnds-carried ks k1 k2 k3 (length ks) (length k3) before after' ends') on carried
-
-      curve_breaks : (curve : ℤ → Option ℤ) (shift : ℤ) → ((x : ℤ) → IsInside ks (length ks) x → curve (x +ℤ shift) ≡ Some (term x)) → CanAddCurve curve shift (function_of ks) → AreBreaks k3
-      curve_breaks curve shift on fits =
-          AreBreaks-from k3 new_shape (limits.IsWithinLimits-curve_sum curve shift (function_of ks) (function_of k3) (curve_sum curve shift on) fits (within_of ks b))
-
-    module _ (up down lo hi : ℤ) (w : IsWindow up down lo hi k1 used k2 left) where
-      carried_window : IsWindow up down lo hi ks (length ks) k3 (length k3)
-      carried_window =
-          IsWindow-carried ks k1 k2 k3 (length ks) (length k3) before after' up down lo hi
-          (subst (λ (m : ℕ). IsWindow up down lo hi k1 (length ks) k2 m) (sym len) (subst (λ (m : ℕ). IsWindow up down lo hi k1 m k2 left) e w))
-
-      moved : effects.IsWindow up down lo hi (function_of ks) (function_of k3)
-      moved = IsWindow-from_knots ks k3 (length ks) (length k3) up down lo hi (shape_of ks b) carried_window
-
-      moved_breaks : IsPlace lo → IsPlace hi → AreBreaks k3
-      moved_breaks low high =
-          let s = shape_of ks b in
-          let g = carried_window.function s.0 s.1 in
-          AreBreaks-from k3 (g.0, g.1) (limits.IsWithinLimits-window up down lo hi (function_of ks) (function_of k3) low high moved (within_of ks b))
-
--- ---- the same on the first knots of a work list
-
-module _ (work k1 : List Knot) (used : ℕ) (fits : used ≤ length work) (same : k1 ≡ work) (b : AreBreaks (take used work)) where
-  counted : used ≡ length (take used work)
-  counted = front_length work used fits
-
-  before_front : (k : ℕ) → k < length (take used work) → knot k1 k ≡ knot (take used work) k
-  before_front k h = ap (λ (l : List Knot). knot l k) same ∙ front_back work used k h fits
-
-  pub front_stands : IsShape k1 used
-  front_stands = stands (take used work) k1 used b counted before_front
-
-  pub front_places : (k : ℕ) → k < used → IsPlace (place k1 k)
-  front_places = places (take used work) k1 used b counted before_front
-
-  pub front_amounts : (k : ℕ) → k < used → IsAmount (height k1 k)
-  front_amounts = amounts (take used work) k1 used b counted before_front
-
-  pub front_can_add : (term : ℤ → ℤ) → tables.CanAdd term (function_of (take used work)) → (f : ℤ → ℤ) → StandFor k1 used f → CanAdd term k1 used f
-  front_can_add = can_add (take used work) k1 used b counted before_front
-
-  module _ (c : Curve) (shift : ℤ) (some : 0 < used) (limited : curves.IsLimitedCurve c) (can : CanAddCurve (curve_value c) shift (function_of (take used work))) where
-    some_front : 0 < length (take used work)
-    some_front = omega (arith, some, counted)
-
-    pub front_limited : IsLimitedCurve c.value c.blocks.items (c.at -ℤ shift)
-    front_limited = curve_is_limited (take used work) k1 used b counted before_front c shift some_front limited can
-
-    pub front_over : IsOver c.blocks.items (c.at -ℤ shift) k1 used
-    front_over = curve_is_over (take used work) k1 used b counted before_front c shift some_front limited can
-
-    pub front_can_add_curve : (f : ℤ → ℤ) → StandFor k1 used f → CanAdd (curve_term c.value c.blocks.items (c.at -ℤ shift)) k1 used f
-    front_can_add_curve = can_add_curve (take used work) k1 used b counted before_front c shift some_front limited can
-
-  module _ (k2 : List Knot) (left : ℕ) (most : left ≤ length k2) where
-    len : length (take left k2) ≡ left
-    len = length-take-le left k2 most
-
-    module _ (term : ℤ → ℤ) (step : (f : ℤ → ℤ) → StandFor k1 used f → StandFor k2 left (λ x. f x +ℤ term x)) (ends : HaveSameEnds k1 used k2 left) where
-      pub front_sum : IsSum term (function_of (take used work)) (function_of (take left k2))
-      front_sum = sum (take used work) k1 used b counted before_front k2 (take left k2) left len (after_front k2 left) term step ends
-
-      pub front_sum_breaks : tables.CanAdd term (function_of (take used work)) → AreBreaks (take left k2)
-      front_sum_breaks = sum_breaks (take used work) k1 used b counted before_front k2 (take left k2) left len (after_front k2 left) term step ends
-
-    module _ (c : Curve) (shift : ℤ) (some : 0 < used) (limited : curves.IsLimitedCurve c) (can : CanAddCurve (curve_value c) shift (function_of (take used work)))
-        (step : (f : ℤ → ℤ) → StandFor k1 used f → StandFor k2 left (λ x. f x +ℤ curve_term c.value c.blocks.items (c.at -ℤ shift) x)) (ends : HaveSameEnds k1 used k2 left) where
-      on_front : (x : ℤ) → IsInside (take used work) (length (take used work)) x → curve_value c (x +ℤ shift) ≡ Some (curve_term c.value c.blocks.items (c.at -ℤ shift) x)
-      on_front = curve_on c shift (take used work) (length (take used work)) (omega (arith, some, counted)) (shape_of (take used work) b) (within_of (take used work) b) limited can
-
-      pub front_curve_sum : IsCurveSum (curve_value c) shift (function_of (take used work)) (function_of (take left k2))
-      front_curve_sum =
-          curve_sum (take used work) k1 used b counted before_front k2 (take left k2) left len (after_front k2 left)
-          (curve_term c.value c.blocks.items (c.at -ℤ shift)) step ends (curve_value c) shift on_front
-
-      pub front_curve_breaks : AreBreaks (take left k2)
-      front_curve_breaks =
-          curve_breaks (take used work) k1 used b counted before_front k2 (take left k2) left len (after_front k2 left)
-          (curve_term c.value c.blocks.items (c.at -ℤ shift)) step ends (curve_value c) shift on_front can
-
-    module _ (up down lo hi : ℤ) (w : IsWindow up down lo hi k1 used k2 left) where
-      pub front_moved : effects.IsWindow up down lo hi (function_of (take used work)) (function_of (take left k2))
-      front_moved = moved (take used work) k1 used b counted before_front k2 (take left k2) left len (after_front k2 left) up down lo hi w
-
-      pub front_moved_breaks : IsPlace lo → IsPlace hi → AreBreaks (take left k2)
-      front_moved_breaks = moved_breaks (take used work) k1 used b counted before_front k2 (take left k2) left len (after_front k2 left) up down lo hi w
+    pub moved : WindowIsOfValues → (up down lo hi : ℤ) → IsWindow up down lo hi (table_of k1 used) (table_of k2 left) → IsWindow up down lo hi (function_of (take used work)) (function_of (take left k2))
+    moved of_values up down lo hi step = of_values up down lo hi _ _ _ _ back ended.1 step

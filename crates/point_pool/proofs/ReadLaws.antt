@@ -1,24 +1,20 @@
 -- What is read off a list of cells, cell by cell.
-use Rattle.std.proofs.Common.{◌≡◌, ℕ, zero, suc, ◌+◌, ◌-◌, ◌<◌, true, List, length, refl, sym, ap, ◌∙◌, subst, inl, inr, arith}
-use Rattle.std.specs.Prelude.{ℤ, ◌≤ℤ◌, ◌<ℤ◌, Option, Some, None, MatchOption}
+use Rattle.std.proofs.Common.{◌≡◌, ℕ, zero, suc, ◌+◌, ◌-◌, ◌<◌, true, List, [], ◌∷◌, length, refl, sym, ap, ◌∙◌, subst, inl, inr, arith}
+use Rattle.std.specs.Prelude.{ℤ, ◌≤ℤ◌, ◌<ℤ◌, Option, MatchOption}
 use Rattle.std.specs.Int.{int_min, int_max}
-use Rattle.std.proofs.lemmas.Bool.{cases_lt}
 use Rattle.std.proofs.lemmas.Int.{ints}
 use Rattle.std.proofs.lemmas.List.{length-map}
 use Rattle.shape_law.specs.Cell.{IsAmong}
-use Rattle.shape_law.specs.Table.{value_of, IsPlace, IsAmount, HasNone}
+use Rattle.shape_law.specs.Table.{value_of, HasNone}
 use Rattle.shape_law.specs.Effect.{IsLeast, IsLeastIn}
 use Rattle.ramp_step.specs.declared.breakpoint.Knot.{Knot}
-use Rattle.ramp_step.specs.Knots.{knot, place, height, StandFor, IsShape, IsInside}
-use Rattle.ramp_step.specs.Read.{IsValueAt}
-use Rattle.ramp_step.specs.Tables.{table_of, AreWithinLimits}
-use Rattle.ramp_step.proofs.KnotLaws.{rises}
-use Rattle.ramp_step.proofs.BreakpointLaws.{IsShape-breakpoints}
-use Rattle.ramp_step.proofs.LeastLaws.{IsLowest-turn, IsLowest-within, HasNoPlace-within}
-use Rattle.ramp_step.proofs.ShapeLaws.{value_of-from_knots, value_inside, inside_value, IsLeast-from_knots, IsLeastIn-from_knots, HasNone-from_knots}
+use Rattle.ramp_step.specs.Knots.{knot, height}
+use Rattle.ramp_step.specs.Laws.{IsRun, TurnIsLeast, NearestIsLeast}
+use Rattle.ramp_step.specs.Tables.{function_of, IsBreakList}
+use Rattle.ramp_step.specs.Window.{IsTurn}
 use Rattle.point_pool.specs.declared.slot.Slot.{Slot}
-use Rattle.point_pool.specs.Breaks.{AreBreaks, function_of, IsAtTurn}
 use Rattle.point_pool.specs.CellLaws.{inside_if_used, length-walk}
+use Rattle.point_pool.specs.Turn.{IsAtTurn}
 use Rattle.point_pool.specs.Walk.{slot_at, walk, knots_at, AreUsed}
 
 -- ---- the cell at an index
@@ -93,120 +89,22 @@ neighbours_read slots head n done at slot next used cell some inside read read-n
       second = ap (λ (s : Slot). s.knot) read-next ∙ sym more.knot ∙ ap (knot (knots_at slots (walk slots head n))) (omega arith);
     }
 
--- ---- two neighbours, and one breakpoint
+-- ---- two neighbours, and one breakpoint, as runs of the list
 
-module _ (ks : List Knot) (n : ℕ) (f : ℤ → ℤ) (s : StandFor ks n f) where
-  -- two neighbours stand for the function between them
-  module _ (k : ℕ) (h : k + 1 < n) (pair : List Knot) (first : knot pair 0 ≡ knot ks k) (second : knot pair 1 ≡ knot ks (k + 1)) where
-    first_at : (j : ℕ) → j ≡ 0 → knot pair j ≡ knot ks k
-    first_at j e = ap (knot pair) e ∙ first
+pub IsRun-pair : (ks : List Knot) (n k : ℕ) (p q : Knot) → length ks ≡ n → AreNeighbours ks n k p q → IsRun ks (length ks) k (p ∷ q ∷ []) 2
+IsRun-pair ks n k p q len two = record { inside = let bound = two.bound in omega arith; some = omega arith; knots = at }
+  where
+    at : (j : ℕ) → j < 2 → knot (p ∷ q ∷ []) j ≡ knot ks (k + j)
+    at zero h = two.first ∙ ap (knot ks) (omega arith)
+    at (suc zero) h = two.second ∙ ap (knot ks) (omega arith)
+    at (suc (suc j)) h = absurd (omega arith)
 
-    second_at : (j : ℕ) → j ≡ 1 → knot pair j ≡ knot ks (k + 1)
-    second_at j e = ap (knot pair) e ∙ second
-
-    pub StandFor-pair : StandFor pair 2 f
-    StandFor-pair = record {
-      rise = λ j lt.
-          let a : place pair j ≡ place ks k = ap (λ (q : Knot). q.at) (first_at j (omega arith)) in
-          let b : place pair (j + 1) ≡ place ks (k + 1) = ap (λ (q : Knot). q.at) (second_at (j + 1) (omega arith)) in
-          let r = s.rise k h in
-          omega (arith, ints);
-      meet = λ j lt. elim (cases_lt j 1) [
-        | inl low ↦
-            let q = first_at j (omega arith) in
-            ap (λ (p : Knot). p.value) q ∙ s.meet k (omega arith) ∙ ap f (sym (ap (λ (p : Knot). p.at) q))
-        | inr high ↦
-            let q = second_at j (omega arith) in
-            ap (λ (p : Knot). p.value) q ∙ s.meet (k + 1) h ∙ ap f (sym (ap (λ (p : Knot). p.at) q))
-      ];
-      straight = λ j lt x from to.
-          let a : place pair j ≡ place ks k = ap (λ (q : Knot). q.at) (first_at j (omega arith)) in
-          let b : place pair (j + 1) ≡ place ks (k + 1) = ap (λ (q : Knot). q.at) (second_at (j + 1) (omega arith)) in
-          s.straight k h x (omega (arith, ints)) (omega (arith, ints));
-      convex = λ x from to.
-          let a : place pair 0 ≡ place ks k = ap (λ (q : Knot). q.at) first in
-          let b : place pair (2 - 1) ≡ place ks (k + 1) = ap (λ (q : Knot). q.at) (second_at (2 - 1) (omega arith)) in
-          let low = rises n (place ks) s.rise k 0 k (omega arith) (omega arith) in
-          let high = rises n (place ks) s.rise ((n - 1) - (k + 1)) (k + 1) (n - 1) (omega arith) (omega arith) in
-          s.convex x (omega (arith, ints)) (omega (arith, ints));
-    }
-
-    pub AreWithinLimits-pair : AreWithinLimits ks n → AreWithinLimits pair 2
-    AreWithinLimits-pair w = record {
-      places = λ j lt. elim (cases_lt j 1) [
-        | inl low ↦ subst (λ (q : Knot). IsPlace q.at) (sym (first_at j (omega arith))) (w.places k (omega arith))
-        | inr high ↦ subst (λ (q : Knot). IsPlace q.at) (sym (second_at j (omega arith))) (w.places (k + 1) h)
-      ];
-      amounts = λ j lt. elim (cases_lt j 1) [
-        | inl low ↦ subst (λ (q : Knot). IsAmount q.value) (sym (first_at j (omega arith))) (w.amounts k (omega arith))
-        | inr high ↦ subst (λ (q : Knot). IsAmount q.value) (sym (second_at j (omega arith))) (w.amounts (k + 1) h)
-      ];
-    }
-
-    from_here : (x : ℤ) → (0 < k → place ks k <ℤ x) → IsInside ks n x → place ks k ≤ℤ x
-    from_here x passed inside =
-        let from = inside.from_first in
-        elim (cases_lt 0 k) [
-          | inl later ↦ let p = passed later in omega (arith, ints)
-          | inr now ↦ let e : place ks k ≡ place ks 0 = ap (place ks) (omega arith) in omega (arith, ints)
-        ]
-
-    -- what they say of a place between them, the whole list says
-    pub value_by_pair : (x : ℤ) (o : Option ℤ) → (0 < k → place ks k <ℤ x) → x ≤ℤ place ks (k + 1) → MatchOption o (IsInside pair 2 x → ⊥) (IsValueAt f pair 2 x) → MatchOption o (IsInside ks n x → ⊥) (IsValueAt f ks n x)
-    value_by_pair x None passed upto none = λ inside.
-        let a : place pair 0 ≡ place ks k = ap (λ (q : Knot). q.at) first in
-        let b : place pair (2 - 1) ≡ place ks (k + 1) = ap (λ (q : Knot). q.at) (second_at (2 - 1) (omega arith)) in
-        let from = from_here x passed inside in
-        none (record { some = omega arith; from_first = omega (arith, ints); to_last = omega (arith, ints) })
-    value_by_pair x (Some v) passed upto some =
-        let a : place pair 0 ≡ place ks k = ap (λ (q : Knot). q.at) first in
-        let b : place pair (2 - 1) ≡ place ks (k + 1) = ap (λ (q : Knot). q.at) (second_at (2 - 1) (omega arith)) in
-        let low = rises n (place ks) s.rise k 0 k (omega arith) (omega arith) in
-        let high = rises n (place ks) s.rise ((n - 1) - (k + 1)) (k + 1) (n - 1) (omega arith) (omega arith) in
-        let from = some.inside.from_first in
-        let to = some.inside.to_last in
-        record { inside = record { some = omega arith; from_first = omega (arith, ints); to_last = omega (arith, ints) }; value = some.value }
-
-  -- the last breakpoint alone stands for the function there
-  module _ (k : ℕ) (h : k + 1 ≡ n) (last : List Knot) (is : knot last 0 ≡ knot ks k) where
-    last_at : (j : ℕ) → j < 1 → knot last j ≡ knot ks k
-    last_at j lt = ap (knot last) (omega arith) ∙ is
-
-    pub StandFor-last : StandFor last 1 f
-    StandFor-last = record {
-      rise = λ j lt. absurd (omega arith);
-      meet = λ j lt. let q = last_at j lt in ap (λ (p : Knot). p.value) q ∙ s.meet k (omega arith) ∙ ap f (sym (ap (λ (p : Knot). p.at) q));
-      straight = λ j lt. absurd (omega arith);
-      convex = λ x from to. let e : place last (1 - 1) ≡ place last 0 = ap (place last) (omega arith) in absurd (omega (arith, ints));
-    }
-
-    pub AreWithinLimits-last : AreWithinLimits ks n → AreWithinLimits last 1
-    AreWithinLimits-last w = record {
-      places = λ j lt. subst (λ (q : Knot). IsPlace q.at) (sym (last_at j lt)) (w.places k (omega arith));
-      amounts = λ j lt. subst (λ (q : Knot). IsAmount q.value) (sym (last_at j lt)) (w.amounts k (omega arith));
-    }
-
-    pub value_by_last : (x : ℤ) (o : Option ℤ) → (0 < k → place ks k <ℤ x) → MatchOption o (IsInside last 1 x → ⊥) (IsValueAt f last 1 x) → MatchOption o (IsInside ks n x → ⊥) (IsValueAt f ks n x)
-    value_by_last x None passed none = λ inside.
-        let from = inside.from_first in
-        let to = inside.to_last in
-        let a : place last 0 ≡ place ks k = ap (λ (q : Knot). q.at) is in
-        let b : place last (1 - 1) ≡ place last 0 = ap (place last) (omega arith) in
-        let e : place ks (n - 1) ≡ place ks k = ap (place ks) (omega arith) in
-        elim (cases_lt 0 k) [
-          | inl later ↦ let p = passed later in omega (arith, ints)
-          | inr now ↦
-              let z : place ks k ≡ place ks 0 = ap (place ks) (omega arith) in
-              none (record { some = omega arith; from_first = omega (arith, ints); to_last = omega (arith, ints) })
-        ]
-    value_by_last x (Some v) passed some =
-        let from = some.inside.from_first in
-        let to = some.inside.to_last in
-        let a : place last 0 ≡ place ks k = ap (λ (q : Knot). q.at) is in
-        let b : place last (1 - 1) ≡ place last 0 = ap (place last) (omega arith) in
-        let e : place ks (n - 1) ≡ place ks k = ap (place ks) (omega arith) in
-        let low = rises n (place ks) s.rise k 0 k (omega arith) (omega arith) in
-        record { inside = record { some = omega arith; from_first = omega (arith, ints); to_last = omega (arith, ints) }; value = some.value }
+pub IsRun-last : (ks : List Knot) (n k : ℕ) (q : Knot) → length ks ≡ n → k + 1 ≡ n → q ≡ knot ks k → IsRun ks (length ks) k (q ∷ []) 1
+IsRun-last ks n k q len end is = record { inside = omega arith; some = omega arith; knots = at }
+  where
+    at : (j : ℕ) → j < 1 → knot (q ∷ []) j ≡ knot ks (k + j)
+    at zero h = is ∙ ap (knot ks) (omega arith)
+    at (suc j) h = absurd (omega arith)
 
 -- ---- the turn, cell by cell
 
@@ -221,46 +119,18 @@ IsAtTurn-here ks n k q inside falls rise there = record {
   there = there;
 }
 
--- ---- lists in a pool
+-- ---- the least value of a list
 
-pub IsShape-breaks : (ks : List Knot) (n : ℕ) → length ks ≡ n → AreBreaks ks → IsShape ks n
-IsShape-breaks ks n e b = subst (λ (m : ℕ). IsShape ks m) e (IsShape-breakpoints ks (length ks) b.points)
+module _ (ks : List Knot) (n : ℕ) (len : length ks ≡ n) (b : IsBreakList ks) (q : Knot) (a : IsAtTurn ks n q) where
+  turns : IsTurn ks (length ks) a.turn
+  turns = subst (λ (m : ℕ). IsTurn ks m a.turn) (sym len) a.is
 
-pub AreWithinLimits-breaks : (ks : List Knot) (n : ℕ) → length ks ≡ n → AreBreaks ks → AreWithinLimits ks n
-AreWithinLimits-breaks ks n e b = subst (λ (m : ℕ). AreWithinLimits ks m) e b.within
+  pub IsLeast-turn : TurnIsLeast → IsLeast (function_of ks) q.value q.at
+  IsLeast-turn law = subst (λ (p : Knot). IsLeast (function_of ks) p.value p.at) (sym a.there) (law ks (length ks) a.turn b turns)
 
-pub value_of-breaks : (ks : List Knot) (n : ℕ) (x : ℤ) (o : Option ℤ) → length ks ≡ n → (shape : IsShape ks n) → MatchOption o (IsInside ks n x → ⊥) (IsValueAt shape.0 ks n x) → o ≡ value_of (function_of ks) x
-value_of-breaks ks n x o e shape h = value_of-from_knots ks n x o shape h ∙ ap (λ (m : ℕ). value_of (table_of ks m) x) (sym e)
-
-module _ (ks : List Knot) (n : ℕ) (len : length ks ≡ n) (b : AreBreaks ks) (q : Knot) (a : IsAtTurn ks n q) where
-  shape : IsShape ks n
-  shape = IsShape-breaks ks n len b
-
-  -- the breakpoint at the turn is the least value
-  pub IsLeast-turn : IsLeast (function_of ks) q.value q.at
-  IsLeast-turn =
-      subst (λ (p : Knot). IsLeast (function_of ks) p.value p.at) (sym a.there)
-      (subst (λ (m : ℕ). IsLeast (table_of ks m) (height ks a.turn) (place ks a.turn)) (sym len)
-      (IsLeast-from_knots ks n (knot ks a.turn) shape (IsLowest-turn ks n a.turn shape.0 shape.1 a.is)))
-
-  -- and so is the value at the nearest place to it from lo to hi
-  module _ (lo hi : ℤ) where
-    same : int_max lo (int_min hi q.at) ≡ int_max lo (int_min hi (place ks a.turn))
-    same = ap (λ (p : Knot). int_max lo (int_min hi p.at)) a.there
-
-    there : (o : Option ℤ) → o ≡ value_of (function_of ks) (int_max lo (int_min hi q.at)) → value_of (table_of ks n) (int_max lo (int_min hi (place ks a.turn))) ≡ o
-    there o h = ap (λ (x : ℤ). value_of (table_of ks n) x) (sym same) ∙ ap (λ (m : ℕ). value_of (table_of ks m) (int_max lo (int_min hi q.at))) (sym len) ∙ sym h
-
-    pub IsLeastIn-turn : (v : ℤ) → lo ≤ℤ hi → Some v ≡ value_of (function_of ks) (int_max lo (int_min hi q.at)) → IsLeastIn lo hi (function_of ks) v (int_max lo (int_min hi q.at))
-    IsLeastIn-turn v order h =
-        let x = int_max lo (int_min hi (place ks a.turn)) in
-        let i = inside_value ks n shape.0 shape.1 x v (there (Some v) h) in
-        let l = IsLowest-within ks n a.turn shape.0 shape.1 a.is lo hi v order i.inside (sym i.is) in
-        let r : IsLeastIn lo hi (table_of ks n) v x = IsLeastIn-from_knots ks n lo hi (record { at = x; value = v }) shape l in
-        subst (λ (y : ℤ). IsLeastIn lo hi (function_of ks) v y) (sym same) (subst (λ (m : ℕ). IsLeastIn lo hi (table_of ks m) v x) (sym len) r)
-
-    pub HasNone-turn : None ≡ value_of (function_of ks) (int_max lo (int_min hi q.at)) → HasNone lo hi (function_of ks)
-    HasNone-turn h =
-        let x = int_max lo (int_min hi (place ks a.turn)) in
-        let outside : IsInside ks n x → ⊥ = λ inside. let e : None ≡ Some (shape.0 x) = sym (there None h) ∙ value_inside ks n shape.0 shape.1 x inside in cc in
-        subst (λ (m : ℕ). HasNone lo hi (table_of ks m)) (sym len) (HasNone-from_knots ks n lo hi shape (HasNoPlace-within ks n a.turn shape.0 shape.1 a.is lo hi outside))
+  -- what the value at the nearest place to it from lo to hi says
+  pub nearest : NearestIsLeast → (lo hi : ℤ) → lo ≤ℤ hi → (o : Option ℤ) → o ≡ value_of (function_of ks) (int_max lo (int_min hi q.at))
+      → MatchOption o (HasNone lo hi (function_of ks)) (λ v. IsLeastIn lo hi (function_of ks) v (int_max lo (int_min hi q.at)))
+  nearest law lo hi order o h =
+      let Says : Knot → Option ℤ → Type 0 = λ p o. MatchOption o (HasNone lo hi (function_of ks)) (λ v. IsLeastIn lo hi (function_of ks) v (int_max lo (int_min hi p.at))) in
+      subst (Says q) (sym h) (subst (λ (p : Knot). Says p (value_of (function_of ks) (int_max lo (int_min hi p.at)))) (sym a.there) (law ks (length ks) a.turn lo hi b turns order))

@@ -1,4 +1,4 @@
-pub mod Breaks
 pub mod CellLaws
 pub mod Seen
+pub mod Turn
 pub mod Walk

@@ -6,7 +6,7 @@ use Rattle.ramp_step.specs.declared.breakpoint.Knot.{Knot}
 use Rattle.point_pool.specs.declared.pool.Pool.{Pool}
 use Rattle.point_pool.specs.declared.pooled.Pooled.{Pooled}
 use Rattle.point_pool.specs.Walk.{walk, knots_at, cell_of, AreUsed}
-use Rattle.point_pool.specs.Breaks.{AreBreaks, function_of}
+use Rattle.ramp_step.specs.Tables.{function_of, IsBreakList}
 use Rattle.point_pool.specs.CellLaws.{same_by_contents}
 use Rattle.std.proofs.Common.{ap}
 
@@ -29,7 +29,7 @@ shown p s = function_of (knots_of p s)
 -- the shape is in the pool: its cells differ and are in use, and hold breakpoints of a convex function within the limits
 pub record IsIn (p : Pool) (s : Pooled) : Type 0 where
   pub used : AreUsed p.slots.items (numbers_of p s)
-  pub breaks : AreBreaks (knots_of p s)
+  pub breaks : IsBreakList (knots_of p s)
 
 -- where the contents of its cells are equal in two states, its numbers and its function are
 pub seen_by_contents : (p p' : Pool) (s : Pooled) → IsIn p s → AreSameAt (numbers_of p s) (cells_of p) (cells_of p') → (numbers_of p' s ≡ numbers_of p s) × (shown p' s ≡ shown p s)

@@ -3,6 +3,7 @@ ghost use Rattle.std.specs.Prelude.{true};
 
 use crate::pool::Pool;
 use ramp_step::breakpoint::Knot;
+use ramp_step::law::{knots_decide, turn_is_least};
 use shape_law::{Cells, Shape};
 use std::alloc::AllocError;
 use uc_model::units::Curve;
@@ -25,9 +26,8 @@ pub struct Pooled {
 }
 
 impl Shape for Pooled {
-    ghost use Rattle.point_pool.specs.Breaks.{convex_of, within_limits};
     ghost use Rattle.point_pool.specs.CellLaws.{owns_of, counted, length-walk};
-    ghost use Rattle.point_pool.specs.Seen.{IsIn, shown, numbers_of, knots_of, seen_by_contents};
+    ghost use Rattle.point_pool.specs.Seen.{IsIn, shown, numbers_of, seen_by_contents};
 
     type Home = Pool;
 
@@ -41,9 +41,9 @@ impl Shape for Pooled {
 
     ghost same_cells = { λ h h' s here same. seen_by_contents h h' s here same };
 
-    ghost convex = { λ h s here. convex_of (knots_of h s) here.breaks };
+    ghost convex = { λ h s here. here.breaks.convex };
 
-    ghost within = { λ h s here. within_limits (knots_of h s) here.breaks };
+    ghost within = { λ h s here. here.breaks.within };
 
     ghost owns = { λ h s here. owns_of h.slots.items (numbers_of h s) here.used };
 
@@ -58,6 +58,7 @@ impl Shape for Pooled {
             return Err(AllocError);
         }
         let head = home.take(0, Knot { at, value });
+        knots_decide();
         Ok(Pooled { head, count: 1 })
     }
 
@@ -133,6 +134,7 @@ impl Shape for Pooled {
             return None;
         }
         let lowest = home.lowest(self.head, self.count);
+        turn_is_least();
         Some((lowest.value, lowest.at))
     }
 
@@ -145,6 +147,7 @@ impl Shape for Pooled {
         }
         let lowest = home.lowest(self.head, self.count);
         let at = lo.max(hi.min(lowest.at));
+        turn_is_least();
         match home.value_in(self.head, self.count, at) {
             Some(value) => Some((value, at)),
             None => None,

@@ -1,11 +1,13 @@
 //! What is read off a list of cells, cell by cell.
 ghost use Rattle.std.specs.Prelude.{◌≡◌, ◌<◌};
 ghost use Rattle.shape_law.specs.Table.{value_of};
-ghost use Rattle.point_pool.specs.Breaks.{AreBreaks, function_of, IsAtTurn};
+ghost use Rattle.ramp_step.specs.Tables.{function_of, IsBreakList};
+ghost use Rattle.point_pool.specs.Turn.{IsAtTurn};
 ghost use Rattle.point_pool.specs.Walk.{walk, knots_at, AreUsed};
 
 use crate::pool::Pool;
 use ramp_step::breakpoint::Knot;
+use ramp_step::law::knots_decide;
 use ramp_step::read;
 
 impl Pool {
@@ -30,10 +32,11 @@ impl Pool {
     /// The value at a place.
     pub(crate) fn value_in(&self, head: u32, count: u32, x: i64) -> Option<i64>
         requires used { AreUsed self.now.slots.items (walk self.now.slots.items head count) }
-        requires breaks { AreBreaks (knots_at self.now.slots.items (walk self.now.slots.items head count)) }
+        requires breaks { IsBreakList (knots_at self.now.slots.items (walk self.now.slots.items head count)) }
         requires some { 0 < count }
         ensures { result ≡ value_of (function_of (knots_at self.now.slots.items (walk self.now.slots.items head count))) x }
     {
+        knots_decide();
         let mut at = head;
         for done in 1..count {
             let slot = self.slots[at as usize];

@@ -10,7 +10,7 @@ use Rattle.uc_model.specs.declared.units.Block.{Block}
 use Rattle.ramp_step.specs.Knots.{IsStraight, IsConvex}
 use Rattle.shape_law.specs.Table.{IsAmount}
 use Rattle.ramp_step.specs.Cut.{IsSplit}
-use Rattle.ramp_step.specs.Curve.{rise_over, curve_term, block_end, AreBlocks, EndsOutside, IsRefined, IsLimitedCurve}
+use Rattle.ramp_step.specs.Curve.{rise_over, curve_term, block_end, AreBlocks, EndsOutside, IsRefined, AreLimitedBlocks}
 use Rattle.ramp_step.proofs.TimesLaws.{times_prev, times_one, straight_product}
 use Rattle.ramp_step.proofs.DivLaws.{amount_part}
 use Rattle.ramp_step.proofs.KnotLaws.{HaveSameEnds-then}
@@ -189,7 +189,7 @@ pub record IsOnBlock (v : ℤ) (bs : List Block) (s : ℤ) (j : ℕ) (d : Block)
   pub is : curve_term v bs s (block_end bs s j) +ℤ (get_or bs j d).price *ℤ (x -ℤ block_end bs s j) ≡ curve_term v bs s x
   pub amount : IsAmount (curve_term v bs s x)
 
-pub on_block_is : (v : ℤ) (bs : List Block) (s : ℤ) (j : ℕ) (d : Block) (x : ℤ) → IsLimitedCurve v bs s → j < length bs → block_end bs s j ≤ℤ x → x ≤ℤ block_end bs s (j + 1) → IsOnBlock v bs s j d x
+pub on_block_is : (v : ℤ) (bs : List Block) (s : ℤ) (j : ℕ) (d : Block) (x : ℤ) → AreLimitedBlocks v bs s → j < length bs → block_end bs s j ≤ℤ x → x ≤ℤ block_end bs s (j + 1) → IsOnBlock v bs s j d x
 on_block_is v bs s j d x l h low high =
     let next = block_end_next bs s j d h in
     let here = rise_in l.lowest bs s j d x l.blocks h low (omega (arith, ints)) in
@@ -200,7 +200,7 @@ on_block_is v bs s j d x l h low high =
     record { is = sym is; amount = subst IsAmount (sym is) part }
 
 -- the curve begins with its value
-pub curve_begins : (v : ℤ) (bs : List Block) (s : ℤ) → IsLimitedCurve v bs s → curve_term v bs s s ≡ v
+pub curve_begins : (v : ℤ) (bs : List Block) (s : ℤ) → AreLimitedBlocks v bs s → curve_term v bs s s ≡ v
 curve_begins v bs s l = let z = rise_zero l.lowest bs s l.blocks in omega (arith, ints)
 
 pub curve_straight : (v : ℤ) (bs : List Block) (s lo hi : ℤ) → EndsOutside bs s (length bs) lo hi → IsStraight lo hi (curve_term v bs s)

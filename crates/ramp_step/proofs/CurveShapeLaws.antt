@@ -12,7 +12,7 @@ use Rattle.shape_law.specs.Effect.{CanAddCurve}
 use Rattle.shape_law.specs.Table.{IsWithinLimits, IsAmount}
 use Rattle.ramp_step.specs.declared.breakpoint.Knot.{Knot}
 use Rattle.ramp_step.specs.Knots.{place, StandFor, IsShape, IsInside, CanAdd}
-use Rattle.ramp_step.specs.Curve.{rise_over, curve_term, block_end, AreBlocks, IsLimitedCurve, IsOver}
+use Rattle.ramp_step.specs.Curve.{rise_over, curve_term, block_end, AreBlocks, AreLimitedBlocks, IsOver}
 use Rattle.ramp_step.specs.Tables.{table_of}
 use Rattle.ramp_step.proofs.KnotLaws.{is_inside}
 use Rattle.ramp_step.proofs.CurveLaws.{rise_left, rise_right, rise_zero, block_end_far}
@@ -147,8 +147,8 @@ module _ (c : Curve) (shift : ℤ) (ks : List Knot) (n : ℕ) (some : 0 < n) (sh
       let same = some_same r.0 (curve_term c.value c.blocks.items (c.at -ℤ shift) x) (sym r.1 ∙ curve_on x h) in
       ((within x (f x) v).0, (within x (f x) v).1, subst (λ (z : ℤ). IsAmount (f x +ℤ z)) same r.2)
 
-  pub IsLimitedCurve-curve : IsLimitedCurve c.value c.blocks.items (c.at -ℤ shift)
-  IsLimitedCurve-curve =
+  pub AreLimitedBlocks-curve : AreLimitedBlocks c.value c.blocks.items (c.at -ℤ shift)
+  AreLimitedBlocks-curve =
       let bs = c.blocks.items in
       let s = c.at -ℤ shift in
       let p = lowest.0 in

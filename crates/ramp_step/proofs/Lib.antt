@@ -3,8 +3,6 @@
 pub mod KnotLaws
 -- products with the next number, the one before, and with 1 and -1
 pub mod TimesLaws
--- lists that have the same first knots
-pub mod SameLaws
 -- knots with free cells between them
 pub mod SpacedLaws
 -- knots with whole slopes that don't fall are those that stand for a convex function
@@ -39,3 +37,9 @@ pub mod ValueLaws
 pub mod LimitLaws
 -- a step on knots is the step on the table that they stand for
 pub mod ShapeLaws
+-- knots of another list, one after another, stand for the same function
+pub mod RunLaws
+-- a term that is added to the function of some knots
+pub mod StepLaws
+-- a convex function is least at its turn, and between two places nearest to it
+pub mod TurnLaws

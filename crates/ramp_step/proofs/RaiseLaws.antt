@@ -8,7 +8,7 @@ use Rattle.ramp_step.specs.declared.breakpoint.Knot.{Knot}
 use Rattle.uc_model.specs.declared.units.Block.{Block}
 use Rattle.ramp_step.specs.Knots.{place, height, IsWide, AreRaised}
 use Rattle.shape_law.specs.Table.{IsAmount}
-use Rattle.ramp_step.specs.Curve.{block_end, curve_term, IsLimitedCurve}
+use Rattle.ramp_step.specs.Curve.{block_end, curve_term, AreLimitedBlocks}
 use Rattle.ramp_step.specs.Raise.{line_from, CanRaise, AreRaisedUpto, AreRaisedSoFar}
 use Rattle.ramp_step.proofs.KnotLaws.{rises}
 use Rattle.ramp_step.proofs.CurveLaws.{block_end_next, on_block_is, curve_begins}
@@ -18,7 +18,7 @@ flat : (s v x : ℤ) → line_from s v (pos 0) x ≡ v
 flat s v x = let z = zero-*ℤ (x -ℤ s) in omega (arith, ints)
 
 -- the level at the next block's start
-pub next_level : (v : ℤ) (bs : List Block) (s : ℤ) (j : ℕ) (d : Block) → IsLimitedCurve v bs s → j < length bs → block_end bs s j ≤ℤ block_end bs s (j + 1)
+pub next_level : (v : ℤ) (bs : List Block) (s : ℤ) (j : ℕ) (d : Block) → AreLimitedBlocks v bs s → j < length bs → block_end bs s j ≤ℤ block_end bs s (j + 1)
     → curve_term v bs s (block_end bs s j) +ℤ (get_or bs j d).price *ℤ (get_or bs j d).width ≡ curve_term v bs s (block_end bs s (j + 1))
 next_level v bs s j d l h order =
     let next = block_end_next bs s j d h in
@@ -27,7 +27,7 @@ next_level v bs s j d l h order =
     let way : (get_or bs j d).price *ℤ (get_or bs j d).width ≡ (get_or bs j d).price *ℤ (block_end bs s (j + 1) -ℤ block_end bs s j) = ap (λ (z : ℤ). (get_or bs j d).price *ℤ z) (omega (arith, ints)) in
     omega (arith, ints)
 
-pub CanRaise-begin : (v : ℤ) (bs : List Block) (s : ℤ) (q : Knot) → IsLimitedCurve v bs s → s ≤ℤ q.at → q.at ≤ℤ s → IsAmount q.value → IsAmount (q.value +ℤ curve_term v bs s q.at) → CanRaise s v (pos 0) q
+pub CanRaise-begin : (v : ℤ) (bs : List Block) (s : ℤ) (q : Knot) → AreLimitedBlocks v bs s → s ≤ℤ q.at → q.at ≤ℤ s → IsAmount q.value → IsAmount (q.value +ℤ curve_term v bs s q.at) → CanRaise s v (pos 0) q
 CanRaise-begin v bs s q l low high before after =
     let here : q.at ≡ s = omega (arith, ints) in
     let begins = curve_begins v bs s l in
@@ -39,7 +39,7 @@ CanRaise-begin v bs s q l low high before after =
       after = subst (λ (z : ℤ). IsAmount (q.value +ℤ z)) (e ∙ sym (flat s v q.at)) after;
     }
 
-pub CanRaise-on_block : (v : ℤ) (bs : List Block) (s : ℤ) (j : ℕ) (d : Block) (q : Knot) → IsLimitedCurve v bs s → j < length bs → block_end bs s j <ℤ q.at → q.at ≤ℤ block_end bs s (j + 1)
+pub CanRaise-on_block : (v : ℤ) (bs : List Block) (s : ℤ) (j : ℕ) (d : Block) (q : Knot) → AreLimitedBlocks v bs s → j < length bs → block_end bs s j <ℤ q.at → q.at ≤ℤ block_end bs s (j + 1)
     → IsAmount q.value → IsAmount (q.value +ℤ curve_term v bs s q.at) → CanRaise (block_end bs s j) (curve_term v bs s (block_end bs s j)) (get_or bs j d).price q
 CanRaise-on_block v bs s j d q l h low high before after =
     let b = on_block_is v bs s j d q.at l h (omega (arith, ints)) high in
@@ -52,7 +52,7 @@ CanRaise-on_block v bs s j d q l h low high before after =
       after = subst (λ (z : ℤ). IsAmount (q.value +ℤ z)) (sym b.is) after;
     }
 
-pub AreRaisedSoFar-begin : (v : ℤ) (bs : List Block) (s : ℤ) (n done : ℕ) (ks ks' : List Knot) → IsLimitedCurve v bs s
+pub AreRaisedSoFar-begin : (v : ℤ) (bs : List Block) (s : ℤ) (n done : ℕ) (ks ks' : List Knot) → AreLimitedBlocks v bs s
     → ((k : ℕ) → k + 1 < n → place ks k <ℤ place ks (k + 1)) → ((k : ℕ) → k < n → s ≤ℤ place ks k)
     → AreRaisedUpto (line_from s v (pos 0)) s n 0 done ks ks' → AreRaisedSoFar v bs s 0 n done ks ks'
 AreRaisedSoFar-begin v bs s n done ks ks' l rise low r =
@@ -74,7 +74,7 @@ AreRaisedSoFar-begin v bs s n done ks ks' l rise low r =
           omega (arith, ints);
     }
 
-pub AreRaisedSoFar-more : (v : ℤ) (bs : List Block) (s : ℤ) (j n done done' : ℕ) (d : Block) (ks k1 k2 : List Knot) → IsLimitedCurve v bs s → j < length bs
+pub AreRaisedSoFar-more : (v : ℤ) (bs : List Block) (s : ℤ) (j n done done' : ℕ) (d : Block) (ks k1 k2 : List Knot) → AreLimitedBlocks v bs s → j < length bs
     → ((k : ℕ) → k + 1 < n → place ks k <ℤ place ks (k + 1)) → AreRaisedSoFar v bs s j n done ks k1
     → AreRaisedUpto (line_from (block_end bs s j) (curve_term v bs s (block_end bs s j)) (get_or bs j d).price) (block_end bs s (j + 1)) n done done' k1 k2
     → AreRaisedSoFar v bs s (j + 1) n done' ks k2

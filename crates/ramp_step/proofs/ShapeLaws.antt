@@ -125,9 +125,6 @@ IsWindow-from_knots ks ks' n n' up down lo hi shape w =
 
 -- ---- what is read
 
-pub IsEmpty-from_knots : (ks : List Knot) (n : ℕ) → IsShape ks n → HasNoPlace (IsInside ks n) → IsEmpty (table_of ks n)
-IsEmpty-from_knots ks n shape none x = none_outside ks n shape.0 shape.1 x (none x)
-
 pub IsLeast-from_knots : (ks : List Knot) (n : ℕ) (q : Knot) → (shape : IsShape ks n) → IsLowest (IsInside ks n) shape.0 q → IsLeast (table_of ks n) q.value q.at
 IsLeast-from_knots ks n q shape l = record {
   there = value_inside ks n shape.0 shape.1 q.at l.inside ∙ ap Some l.there;

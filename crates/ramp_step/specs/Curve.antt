@@ -37,7 +37,7 @@ pub record IsRefined (bs : List Block) (s : ℤ) (j : ℕ) (ks : List Knot) (n :
   pub ends : HaveSameEnds ks n ks' n'
 
 -- widths aren't negative, prices don't fall, and the block ends and the values there are within the limits
-pub record IsLimitedCurve (v : ℤ) (bs : List Block) (s : ℤ) : Type 0 where
+pub record AreLimitedBlocks (v : ℤ) (bs : List Block) (s : ℤ) : Type 0 where
   pub lowest : ℤ
   pub blocks : AreBlocks lowest bs
   pub ends : (j : ℕ) → j ≤ length bs → IsWide (block_end bs s j)

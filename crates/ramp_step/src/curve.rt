@@ -1,15 +1,19 @@
 //! A curve is added.
 ghost use Rattle.std.specs.Prelude.{◌≡◌, ℕ, ℤ, ◌+◌, ◌^◌, ◌-◌, ◌<◌, ◌≤◌, ◌+ℤ◌, ◌-ℤ◌, ◌*ℤ◌, ◌≤ℤ◌, ◌<ℤ◌, length};
 ghost use Rattle.ramp_step.specs.Knots.{place, height, StandFor, IsShape, IsInside, HaveSameEnds, IsFar, CanAdd, AreRaised, knot, IsWide};
+ghost use Rattle.ramp_step.specs.Tables.{table_of, AreBreaks};
+ghost use Rattle.shape_law.specs.Curve.{curve_value, IsLimitedCurve};
+ghost use Rattle.shape_law.specs.Effect.{IsCurveSum, CanAddCurve};
 ghost use Rattle.shape_law.specs.Table.{IsAmount};
 ghost use Rattle.ramp_step.specs.Cut.{IsLimited};
-ghost use Rattle.ramp_step.specs.Curve.{block_end, IsOver, AreBlocks, IsLimitedCurve, IsRefined, curve_term};
+ghost use Rattle.ramp_step.specs.Curve.{block_end, IsOver, AreBlocks, AreLimitedBlocks, IsRefined, curve_term};
 ghost use Rattle.ramp_step.specs.Raise.{line_from, CanRaise, AreRaisedUpto};
 
 use crate::breakpoint::Knot;
 use crate::cutting::drop_from;
 use crate::spaced::{advance, fill, open};
 use crate::splitting::along;
+use shape_law::laws::effects_keep_limits;
 use uc_model::units::{Block, Curve};
 
 /// Puts a knot in wherever a block ends between two knots.
@@ -83,7 +87,7 @@ fn raise_block(
 /// Adds a curve to each of the first heights.
 fn raise_curve(knots: &mut [Knot], used: usize, value: i64, blocks: &[Block], from: i64)
     requires room { used ≤ length knots.old }
-    requires curve { IsLimitedCurve value blocks.now from }
+    requires curve { AreLimitedBlocks value blocks.now from }
     requires rise { (k : ℕ) → k + 1 < used → place knots.old k <ℤ place knots.old (k + 1) }
     requires low { (k : ℕ) → k < used → from ≤ℤ place knots.old k }
     requires high { (k : ℕ) → k < used → place knots.old k ≤ℤ block_end blocks.now from (length blocks.now) }
@@ -106,7 +110,7 @@ fn raise_curve(knots: &mut [Knot], used: usize, value: i64, blocks: &[Block], fr
 fn add_blocks(knots: &mut [Knot], used: usize, value: i64, blocks: &[Block], from: i64) -> usize
     requires room { used + length blocks.now ≤ length knots.old }
     requires stand { IsShape knots.old used }
-    requires curve { IsLimitedCurve value blocks.now from }
+    requires curve { AreLimitedBlocks value blocks.now from }
     requires inside { IsOver blocks.now from knots.old used }
     requires fits { (f : ℤ → ℤ) → StandFor knots.old used f → CanAdd (curve_term value blocks.now from) knots.old used f }
     ensures stand { (f : ℤ → ℤ) → StandFor knots.old used f → StandFor knots.new result (λ x. f x +ℤ curve_term value blocks.now from x) }
@@ -119,20 +123,21 @@ fn add_blocks(knots: &mut [Knot], used: usize, value: i64, blocks: &[Block], fro
 }
 
 /// Adds the curve's value at `x + shift` to the value at each place x, which has to be in the curve.
-/// Its charge is the number of the curve's blocks, for a knot where a block ends. Places are within
-/// 4 * 10^9, and values and the whole curve's values within 10^18, before and after.
+/// Its charge is the number of the curve's blocks, for a knot where a block ends.
 pub fn curve_step(knots: &mut [Knot], used: u32, curve: &Curve, shift: i64) -> u32
+    requires some { 0 < used }
     requires room { used + length curve.now.blocks.items ≤ length knots.old }
     requires count { used + length curve.now.blocks.items < 2 ^ 32 }
-    requires stand { IsShape knots.old used }
-    requires curve { IsLimitedCurve curve.now.value curve.now.blocks.items (curve.now.at -ℤ shift) }
-    requires inside { IsOver curve.now.blocks.items (curve.now.at -ℤ shift) knots.old used }
-    requires fits { (f : ℤ → ℤ) → StandFor knots.old used f → CanAdd (curve_term curve.now.value curve.now.blocks.items (curve.now.at -ℤ shift)) knots.old used f }
-    ensures stand { (f : ℤ → ℤ) → StandFor knots.old used f → StandFor knots.new result (λ x. f x +ℤ curve_term curve.now.value curve.now.blocks.items (curve.now.at -ℤ shift) x) }
-    ensures ends { HaveSameEnds knots.old used knots.new result }
+    requires breaks { AreBreaks knots.old used }
+    requires limited { IsLimitedCurve curve.now }
+    requires fits { CanAddCurve (curve_value curve.now) shift (table_of knots.old used) }
+    ensures sum { IsCurveSum (curve_value curve.now) shift (table_of knots.old used) (table_of knots.new result) }
+    ensures breaks { AreBreaks knots.new result }
     ensures charge { result ≤ used + length curve.now.blocks.items }
 {
     let from = curve.at - shift;
     let blocks = curve.blocks.as_slice();
-    add_blocks(knots, used as usize, curve.value, blocks, from) as u32
+    let n = add_blocks(knots, used as usize, curve.value, blocks, from);
+    effects_keep_limits();
+    n as u32
 }

@@ -1,11 +1,14 @@
 //! The worth of the reserve is taken off.
 ghost use Rattle.std.specs.Prelude.{◌≡◌, ℕ, ℤ, ◌+◌, ◌^◌, ◌-◌, ◌<◌, ◌≤◌, pos, ◌+ℤ◌, ◌≤ℤ◌, length};
-ghost use Rattle.ramp_step.specs.Knots.{place, height, StandFor, IsShape, HaveSameEnds, IsFar, CanAdd, AreRaised, knot};
-ghost use Rattle.shape_law.specs.Table.{IsPlace, IsAmount};
+ghost use Rattle.ramp_step.specs.Knots.{place, height, IsFar, AreRaised, knot};
+ghost use Rattle.ramp_step.specs.Tables.{table_of, AreBreaks};
 ghost use Rattle.shape_law.specs.Curve.{reserve_term};
+ghost use Rattle.shape_law.specs.Effect.{IsSum};
+ghost use Rattle.shape_law.specs.Table.{IsPlace, IsAmount, CanAdd};
 
 use crate::breakpoint::Knot;
 use crate::splitting::split;
+use shape_law::laws::effects_keep_limits;
 
 /// The knot after the worth of the reserve is taken off.
 fn lowered(knot: Knot, mu: i64, cap: i64, up: i64) -> Knot
@@ -40,20 +43,21 @@ fn lower(knots: &mut [Knot], used: usize, mu: i64, cap: i64, up: i64)
 }
 
 /// Subtracts `mu * min(cap, up + x)` from the value at each place x. Its charge is 1, for a knot at
-/// `cap - up`. Places are within 4 * 10^9 and values within 10^18, before and after.
+/// `cap - up`.
 pub fn kink_step(knots: &mut [Knot], used: u32, mu: i64, cap: i64, up: i64) -> u32
     requires count { used + 1 < 2 ^ 32 }
     requires room { used < length knots.old }
-    requires stand { IsShape knots.old used }
+    requires breaks { AreBreaks knots.old used }
     requires mu { pos 0 ≤ℤ mu }
     requires cap { IsPlace cap }
     requires up { IsPlace up }
-    requires fits { (f : ℤ → ℤ) → StandFor knots.old used f → CanAdd (reserve_term mu cap up) knots.old used f }
-    ensures stand { (f : ℤ → ℤ) → StandFor knots.old used f → StandFor knots.new result (λ x. f x +ℤ reserve_term mu cap up x) }
-    ensures ends { HaveSameEnds knots.old used knots.new result }
+    requires fits { CanAdd (reserve_term mu cap up) (table_of knots.old used) }
+    ensures sum { IsSum (reserve_term mu cap up) (table_of knots.old used) (table_of knots.new result) }
+    ensures breaks { AreBreaks knots.new result }
     ensures charge { result ≤ used + 1 }
 {
     let n = split(knots, used as usize, cap - up);
     lower(knots, n, mu, cap, up);
+    effects_keep_limits();
     n as u32
 }

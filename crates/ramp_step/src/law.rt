@@ -1,6 +1,6 @@
 //! Laws of breakpoints: each is the contract of a function that does nothing.
 ghost use Rattle.ramp_step.specs.Breakpoints.{BreakpointsAreShapes, ShapesAreBreakpoints};
-ghost use Rattle.ramp_step.specs.Laws.{WindowMovesParts, WindowMovesKnots};
+ghost use Rattle.ramp_step.specs.Laws.{WindowMovesParts, WindowMovesKnots, OneKnotIsPoint, SameKnotsAreSame, RunsStandBetween, TurnIsLeast, NearestIsLeast};
 
 /// Of a convex function on a whole interval the window moves the falling part by `-down` and the
 /// rising part by `up`, with the flat part between. So do knots that are moved in that way.
@@ -14,4 +14,19 @@ pub fn window_moves_parts()
 pub fn breakpoints_are_shapes()
     ensures shapes { BreakpointsAreShapes }
     ensures breakpoints { ShapesAreBreakpoints }
+{}
+
+/// One knot within the limits is a shape of one place. Lists that begin with the same knots stand
+/// for the same function, and knots of a list one after another stand for it between their ends.
+pub fn knots_decide()
+    ensures point { OneKnotIsPoint }
+    ensures same { SameKnotsAreSame }
+    ensures runs { RunsStandBetween }
+{}
+
+/// The first height that the next one isn't below is the least value, at its least place; the least
+/// value of the places from `lo` to `hi` is at the one nearest to it.
+pub fn turn_is_least()
+    ensures least { TurnIsLeast }
+    ensures nearest { NearestIsLeast }
 {}

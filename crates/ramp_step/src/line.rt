@@ -1,9 +1,12 @@
 //! A line is added.
 ghost use Rattle.std.specs.Prelude.{◌≡◌, ℕ, ℤ, ◌+◌, ◌<◌, ◌≤◌, ◌+ℤ◌, ◌*ℤ◌, length};
-ghost use Rattle.ramp_step.specs.Knots.{place, height, StandFor, IsShape, HaveSameEnds, CanAdd, AreRaised, knot};
-ghost use Rattle.shape_law.specs.Table.{IsPlace, IsAmount};
+ghost use Rattle.ramp_step.specs.Knots.{place, height, AreRaised, knot};
+ghost use Rattle.ramp_step.specs.Tables.{table_of, AreBreaks};
+ghost use Rattle.shape_law.specs.Effect.{IsSum};
+ghost use Rattle.shape_law.specs.Table.{IsPlace, IsAmount, CanAdd};
 
 use crate::breakpoint::Knot;
+use shape_law::laws::effects_keep_limits;
 
 /// The knot after a line is added.
 fn on_line(knot: Knot, slope: i64) -> Knot
@@ -32,14 +35,14 @@ fn raise_line(knots: &mut [Knot], used: usize, slope: i64)
     }
 }
 
-/// Adds `slope * x` to the value at each place x. It takes no knot. Places are within 4 * 10^9 and
-/// values within 10^18, before and after.
+/// Adds `slope * x` to the value at each place x. It takes no knot.
 pub fn line_step(knots: &mut [Knot], used: u32, slope: i64)
     requires room { used ≤ length knots.old }
-    requires stand { IsShape knots.old used }
-    requires fits { (f : ℤ → ℤ) → StandFor knots.old used f → CanAdd (λ x. slope *ℤ x) knots.old used f }
-    ensures stand { (f : ℤ → ℤ) → StandFor knots.old used f → StandFor knots.new used (λ x. f x +ℤ slope *ℤ x) }
-    ensures ends { HaveSameEnds knots.old used knots.new used }
+    requires breaks { AreBreaks knots.old used }
+    requires fits { CanAdd (λ x. slope *ℤ x) (table_of knots.old used) }
+    ensures sum { IsSum (λ x. slope *ℤ x) (table_of knots.old used) (table_of knots.new used) }
+    ensures breaks { AreBreaks knots.new used }
 {
     raise_line(knots, used as usize, slope);
+    effects_keep_limits();
 }

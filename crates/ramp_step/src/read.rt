@@ -1,8 +1,8 @@
 //! Values and least values.
-ghost use Rattle.std.specs.Prelude.{◌≡◌, ℕ, ℤ, ◌<◌, ◌≤◌, length, MatchOption};
-ghost use Rattle.ramp_step.specs.Knots.{StandFor, IsShape, IsInside};
-ghost use Rattle.ramp_step.specs.Cut.{IsLimited};
-ghost use Rattle.ramp_step.specs.Read.{IsLowest, HasNoPlace, IsInsideWithin, IsValueAt};
+ghost use Rattle.std.specs.Prelude.{◌≡◌, ◌≤◌, length, MatchOption};
+ghost use Rattle.ramp_step.specs.Tables.{table_of, AreBreaks};
+ghost use Rattle.shape_law.specs.Effect.{IsLeast, IsLeastIn};
+ghost use Rattle.shape_law.specs.Table.{value_of, IsEmpty, HasNone};
 
 use crate::breakpoint::Knot;
 use crate::splitting::{below, between};
@@ -11,9 +11,8 @@ use crate::window::turn;
 /// The value at a place; None exactly outside the interval.
 pub fn value_at(knots: &[Knot], used: u32, x: i64) -> Option<i64>
     requires room { used ≤ length knots.now }
-    requires stand { IsShape knots.now used }
-    requires limits { IsLimited knots.now used }
-    ensures { (f : ℤ → ℤ) → StandFor knots.now used f → MatchOption result (IsInside knots.now used x → ⊥) (IsValueAt f knots.now used x) }
+    requires breaks { AreBreaks knots.now used }
+    ensures { result ≡ value_of (table_of knots.now used) x }
 {
     let m = below(knots, used as usize, x);
     if m == used as usize {
@@ -32,8 +31,8 @@ pub fn value_at(knots: &[Knot], used: u32, x: i64) -> Option<i64>
 /// The least value, with the least place where it is; None exactly on an empty interval.
 pub fn least(knots: &[Knot], used: u32) -> Option<Knot>
     requires room { used ≤ length knots.now }
-    requires stand { IsShape knots.now used }
-    ensures { (f : ℤ → ℤ) → StandFor knots.now used f → MatchOption result (HasNoPlace (IsInside knots.now used)) (IsLowest (IsInside knots.now used) f) }
+    requires breaks { AreBreaks knots.now used }
+    ensures { MatchOption result (IsEmpty (table_of knots.now used)) (λ q. IsLeast (table_of knots.now used) q.value q.at) }
 {
     if used == 0 {
         return None;
@@ -46,9 +45,8 @@ pub fn least(knots: &[Knot], used: u32) -> Option<Knot>
 /// where there is no such place.
 pub fn least_in(knots: &[Knot], used: u32, lo: i64, hi: i64) -> Option<Knot>
     requires room { used ≤ length knots.now }
-    requires stand { IsShape knots.now used }
-    requires limits { IsLimited knots.now used }
-    ensures { (f : ℤ → ℤ) → StandFor knots.now used f → MatchOption result (HasNoPlace (IsInsideWithin lo hi knots.now used)) (IsLowest (IsInsideWithin lo hi knots.now used) f) }
+    requires breaks { AreBreaks knots.now used }
+    ensures { MatchOption result (HasNone lo hi (table_of knots.now used)) (λ q. IsLeastIn lo hi (table_of knots.now used) q.value q.at) }
 {
     if used == 0 {
         return None;

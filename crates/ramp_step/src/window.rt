@@ -1,12 +1,15 @@
 //! The least value in reach.
 ghost use Rattle.std.specs.Prelude.{◌≡◌, ℕ, ℤ, ◌+◌, ◌^◌, ◌-◌, ◌<◌, ◌≤◌, pos, ◌+ℤ◌, ◌-ℤ◌, ◌≤ℤ◌, length};
 ghost use Rattle.ramp_step.specs.Knots.{place, height, IsShape, knot};
+ghost use Rattle.ramp_step.specs.Tables.{table_of, AreBreaks};
+ghost use Rattle.shape_law.specs.Effect.{IsWindow};
 ghost use Rattle.shape_law.specs.Table.{IsPlace, IsAmount};
 ghost use Rattle.ramp_step.specs.Cut.{IsLimited};
-ghost use Rattle.ramp_step.specs.Window.{IsTurn, AreSpread, AreWindow, IsWindow};
+ghost use Rattle.ramp_step.specs.Window.{IsTurn, AreSpread, AreWindow};
 
 use crate::breakpoint::Knot;
 use crate::cutting::{cut_above, cut_below};
+use shape_law::laws::effects_keep_limits;
 
 /// The knot moved to the right.
 fn later(knot: Knot, by: i64) -> Knot
@@ -93,19 +96,19 @@ fn shift(knots: &mut [Knot], used: usize, up: i64, down: i64) -> usize
 
 /// The new value at x is the least old value at the places from `x - up` to `x + down`; the new
 /// interval is the places from `lo` to `hi` where there is one. Its charge is 4: one knot for the
-/// flat part, and one at each cut. Places, `up` and `down` are within 4 * 10^9, and values within
-/// 10^18.
+/// flat part, and one at each cut.
 pub fn window_step(knots: &mut [Knot], used: u32, up: i64, down: i64, lo: i64, hi: i64) -> u32
     requires count { used + 4 < 2 ^ 32 }
     requires room { used + 4 ≤ length knots.old }
-    requires stand { IsShape knots.old used }
-    requires places { (k : ℕ) → k < used → IsPlace (place knots.old k) }
-    requires amounts { (k : ℕ) → k < used → IsAmount (height knots.old k) }
+    requires breaks { AreBreaks knots.old used }
     requires up { pos 0 ≤ℤ up }
     requires up_fits { IsPlace up }
     requires down { pos 0 ≤ℤ down }
     requires down_fits { IsPlace down }
-    ensures window { IsWindow up down lo hi knots.old used knots.new result }
+    requires lo { IsPlace lo }
+    requires hi { IsPlace hi }
+    ensures window { IsWindow up down lo hi (table_of knots.old used) (table_of knots.new result) }
+    ensures breaks { AreBreaks knots.new result }
     ensures charge { result ≤ used + 4 }
 {
     if used == 0 {
@@ -113,5 +116,7 @@ pub fn window_step(knots: &mut [Knot], used: u32, up: i64, down: i64, lo: i64, h
     }
     let moved = shift(knots, used as usize, up, down);
     let kept = cut_above(knots, moved, hi);
-    cut_below(knots, kept, lo) as u32
+    let left = cut_below(knots, kept, lo);
+    effects_keep_limits();
+    left as u32
 }

@@ -1,19 +1,17 @@
 -- The cells of a chain of calls.
-use Rattle.std.proofs.Common.{◌≡◌, ℕ, suc, ◌+◌, ◌-◌, ◌*◌, ◌≤◌, List, [], ◌∷◌, length, ap, arith}
-use Rattle.std.specs.Prelude.{ℤ}
-use Rattle.std.specs.List.{All}
-use Rattle.shape_law.specs.Chain.{Call, charge_of, charges_of, Step, IsStepOf, calls_of, AreMade, CellsAreCharged, CellsAreBounded}
-use Rattle.shape_law.specs.Effect.{IsPoint}
+use Rattle.std.proofs.Common.{◌≡◌, ℕ, ◌+◌, ◌-◌, ◌*◌, ◌≤◌, List, [], ◌∷◌, ap, arith}
+use Rattle.std.proofs.Math.Nat.{mul-le-mul_right}
+use Rattle.shape_law.specs.Chain.{Call, AddCurve, AddLine, AddReserve, Window, charge_of, charges_of, curves_in, kinks_in, windows_in, AreCurvesOf, CellsAreCharged, CellsAreBounded}
 use Rattle.shape_law.specs.Table.{Table}
 
--- a step's calls are charged at most 2 * points + 3
-charges_bounded : (points : ℕ) (steps : List Step) → 1 ≤ points → All (IsStepOf points) steps
-    → charges_of (calls_of steps) ≤ length steps * (2 * points + 3)
-charges_bounded points [] some few = omega arith
-charges_bounded points (s ∷ steps) some few =
-    let first : length s.curve.blocks.items ≤ 2 * (points - 1) = few 0 s (omega arith) in
-    let rest = charges_bounded points steps some (λ k d inside. few (suc k) d (omega arith)) in
-    omega arith
+-- the charges, where no curve has more than so many blocks
+charges_bounded : (points : ℕ) (calls : List Call) → AreCurvesOf points calls
+    → charges_of calls ≤ curves_in calls * (2 * (points - 1)) + (kinks_in calls + 4 * windows_in calls)
+charges_bounded points [] few = omega arith
+charges_bounded points (AddCurve curve shift ∷ calls) few = let rest = charges_bounded points calls few.1 in let first = few.0 in omega arith
+charges_bounded points (AddLine slope ∷ calls) few = let rest = charges_bounded points calls few in omega arith
+charges_bounded points (AddReserve mu most up ∷ calls) few = let rest = charges_bounded points calls few in omega arith
+charges_bounded points (Window up down lo hi ∷ calls) few = let rest = charges_bounded points calls few in omega arith
 
 module _ {H S : Type 0} (function : H → S → Table) (charged : ℕ → H → S → H → S → Type 0) (cells : S → ℕ)
     (most : (charge : ℕ) (h : H) (s : S) (h' : H) (s' : S) → charged charge h s h' s' → cells s' ≤ cells s + charge) where
@@ -25,7 +23,12 @@ module _ {H S : Type 0} (function : H → S → Table) (charged : ℕ → H → 
       omega arith
 
   pub bounded_by : CellsAreBounded function charged cells
-  bounded_by points steps place value h h' s s' some few is one made =
-      let all = charged_by (calls_of steps) h h' s s' made in
-      let sum = charges_bounded points steps some few in
+  bounded_by points count calls place value h h' s s' some of few is one made =
+      let all = charged_by calls h h' s s' made in
+      let sum = charges_bounded points calls of in
+      let curves = mul-le-mul_right (2 * (points - 1)) few.curves in
+      let kinks = few.kinks in
+      let windows = few.windows in
+      let width : 2 * points + 3 ≡ 2 * (points - 1) + 5 = omega arith in
+      let product : count * (2 * points + 3) ≡ count * (2 * (points - 1) + 5) = ap (λ w. count * w) width in
       omega arith

@@ -8,9 +8,9 @@ use Rattle.std.proofs.Math.IntN.{*ℤ-zero}
 use Rattle.uc_model.specs.declared.units.Block.{Block}
 use Rattle.uc_model.specs.declared.units.Curve.{Curve}
 use Rattle.uc_model.specs.Limits as limits
-use Rattle.shape_law.specs.Curve.{rise_at, curve_value, end_of, IsLimitedCurve}
-use Rattle.shape_law.specs.Laws.{CurveKeepsConvexity}
-use Rattle.shape_law.specs.Table.{value_of, IsPlace}
+use Rattle.shape_law.specs.Curve.{rise_at, curve_value, end_of}
+use Rattle.shape_law.specs.Laws.{CurveKeepsConvexity, CurvePlacesAreLimited}
+use Rattle.shape_law.specs.Table.{value_of}
 use Rattle.shape_law.proofs.ConvexLaws.{convex_at, IsConvex-from_places, times_next, same_some}
 
 -- ---- what a test on places chooses
@@ -191,7 +191,7 @@ up_to_end (b ∷ bs) from x v widths h =
     omega (arith, ints))
 
 -- a place in a curve within the limits is one
-pub IsPlace-on_curve : (c : Curve) → IsLimitedCurve c → (x v : ℤ) → curve_value c x ≡ Some v → IsPlace x
+pub IsPlace-on_curve : CurvePlacesAreLimited
 IsPlace-on_curve c is x v h =
     let a = IsOnCurve-from_value c x v h in
     let from = a.from in

@@ -5,7 +5,7 @@ use Rattle.std.specs.Option.{option_map}
 use Rattle.std.proofs.lemmas.Int.{ints}
 use Rattle.shape_law.specs.Table.{Table, value_of}
 use Rattle.shape_law.specs.Effect.{IsPoint, IsSame, IsSum, IsCurveSum, IsWindow}
-use Rattle.shape_law.specs.Laws.{PointIsExact, SumIsExact, CurveSumIsExact, WindowIsExact}
+use Rattle.shape_law.specs.Laws.{PointIsExact, SumIsExact, CurveSumIsExact, WindowIsExact, SumIsOfValues, CurveSumIsOfValues, WindowIsOfValues}
 use Rattle.shape_law.proofs.ConvexLaws.{same_some}
 
 -- two look-ups agree where each value of one is a value of the other
@@ -69,4 +69,18 @@ pub IsWindow-from_same : (up down lo hi : ℤ) (f f' g : Table) → IsSame f f' 
 IsWindow-from_same up down lo hi f f' g same w = record {
   reached = λ x v h. let r = w.reached x v h in (r.0, sym (same r.0) ∙ r.1, r.2, r.3);
   least = λ x y u h inside reach. w.least x y u (same y ∙ h) inside reach;
+}
+
+pub sum_is_of_values : SumIsOfValues
+sum_is_of_values term f f' g g' same new sum x = new x ∙ sum x ∙ ap (option_map (λ v. v +ℤ term x)) (sym (same x))
+
+pub curve_sum_is_of_values : CurveSumIsOfValues
+curve_sum_is_of_values curve shift f f' g g' same new sum x =
+    subst (λ o. MatchOption o (value_of g' x ≡ None) (λ v. (c : ℤ) × (curve (x +ℤ shift) ≡ Some c) × (value_of g' x ≡ Some (v +ℤ c)))) (sym (same x))
+    (subst (λ p. MatchOption (value_of f x) (p ≡ None) (λ v. (c : ℤ) × (curve (x +ℤ shift) ≡ Some c) × (p ≡ Some (v +ℤ c)))) (sym (new x)) (sum x))
+
+pub window_is_of_values : WindowIsOfValues
+window_is_of_values up down lo hi f f' g g' same new w = record {
+  reached = λ x v h. let r = w.reached x v (sym (new x) ∙ h) in (r.0, same r.0 ∙ r.1, r.2, r.3);
+  least = λ x y u h inside reach. let r = w.least x y u (sym (same y) ∙ h) inside reach in (r.0, new x ∙ r.1, r.2);
 }

@@ -1,6 +1,5 @@
 -- Chains of calls on one shape, and the cells that they take (this project's profile).
 use Rattle.std.specs.Prelude.{◌≡◌, ℕ, ℤ, ◌+◌, ◌-◌, ◌*◌, ◌*ℤ◌, ◌≤◌, List, [], ◌∷◌, length, Bool}
-use Rattle.std.specs.List.{All}
 use Rattle.uc_model.specs.declared.units.Curve.{Curve}
 use Rattle.shape_law.specs.Cell.{Balance}
 use Rattle.shape_law.specs.Curve.{curve_value, reserve_term}
@@ -32,27 +31,35 @@ abbrev pub charges_of : List Call → ℕ
 charges_of [] = 0
 charges_of (call ∷ calls) = charge_of call + charges_of calls
 
--- one step: a curve, the kink of a reserve, and a window
-pub record Step : Type 0 where
-  pub curve : Curve
-  pub shift : ℤ
-  pub mu : ℤ
-  pub cap : ℤ
-  pub room : ℤ
-  pub up : ℤ
-  pub down : ℤ
-  pub lo : ℤ
-  pub hi : ℤ
+-- how many of the calls add a curve
+abbrev pub curves_in : List Call → ℕ
+curves_in [] = 0
+curves_in (AddCurve curve shift ∷ calls) = 1 + curves_in calls
+curves_in (call ∷ calls) = curves_in calls
 
--- the curve is a unit's with so many cost points: at most two blocks between one point and the next
-abbrev pub IsStepOf : ℕ → Step → Type 0
-IsStepOf points step = length step.curve.blocks.items ≤ 2 * (points - 1)
+-- how many take off a reserve's worth, which has one kink
+abbrev pub kinks_in : List Call → ℕ
+kinks_in [] = 0
+kinks_in (AddReserve mu cap up ∷ calls) = 1 + kinks_in calls
+kinks_in (call ∷ calls) = kinks_in calls
 
-abbrev pub calls_of : List Step → List Call
-calls_of [] = []
-calls_of (s ∷ steps) =
-    AddCurve s.curve s.shift ∷ AddReserve s.mu s.cap s.room ∷ Window s.up s.down s.lo s.hi
-    ∷ calls_of steps
+-- how many are windows
+abbrev pub windows_in : List Call → ℕ
+windows_in [] = 0
+windows_in (Window up down lo hi ∷ calls) = 1 + windows_in calls
+windows_in (call ∷ calls) = windows_in calls
+
+-- each curve is a unit's with so many cost points: at most two blocks between one point and the next
+abbrev pub AreCurvesOf : ℕ → List Call → Type 0
+AreCurvesOf points [] = Unit {0}
+AreCurvesOf points (AddCurve curve shift ∷ calls) = (length curve.blocks.items ≤ 2 * (points - 1)) × AreCurvesOf points calls
+AreCurvesOf points (call ∷ calls) = AreCurvesOf points calls
+
+-- at most `most` of each of these calls, in any order; lines aren't counted
+pub record AreFew (most : ℕ) (calls : List Call) : Type 0 where
+  pub curves : curves_in calls ≤ most
+  pub kinks : kinks_in calls ≤ most
+  pub windows : windows_in calls ≤ most
 
 module _ {H S : Type 0} (cells : S → ℕ) where
   -- what a call with a charge does to the count of cells: no more than the charge
@@ -83,11 +90,11 @@ module _ {H S : Type 0} (function : H → S → Table) (charged : ℕ → H → 
       (calls : List Call) (h h' : H) (s s' : S)
       → AreMade calls h s h' s' → cells s' ≤ cells s + charges_of calls
 
-  -- after so many steps, a shape that began as a point has at most 1 + steps * (2 * points + 3)
-  -- cells
+  -- after calls in any order, of which at most `most` add a curve, as many a kink and as many take
+  -- a window, a shape that began as a point has at most 1 + most * (2 * points + 3) cells
   abbrev pub CellsAreBounded : Type 0
   CellsAreBounded =
-      (points : ℕ) (steps : List Step) (place value : ℤ) (h h' : H) (s s' : S)
-      → 1 ≤ points → All (IsStepOf points) steps
+      (points most : ℕ) (calls : List Call) (place value : ℤ) (h h' : H) (s s' : S)
+      → 1 ≤ points → AreCurvesOf points calls → AreFew most calls
       → IsPoint place value (function h s) → cells s ≡ 1
-      → AreMade (calls_of steps) h s h' s' → cells s' ≤ 1 + length steps * (2 * points + 3)
+      → AreMade calls h s h' s' → cells s' ≤ 1 + most * (2 * points + 3)

@@ -1,9 +1,9 @@
 -- What holds of every shape. Each law is the clause of a public function of its name.
-use Rattle.std.specs.Prelude.{◌≡◌, ℕ, ℤ, pos, ◌*ℤ◌, ◌≤ℤ◌, List, [], Option}
+use Rattle.std.specs.Prelude.{◌≡◌, ℕ, ℤ, pos, ◌*ℤ◌, ◌≤ℤ◌, List, [], Option, Some}
 use Rattle.uc_model.specs.declared.units.Curve.{Curve}
 use Rattle.uc_model.specs.Limits as limits
 use Rattle.shape_law.specs.Cell.{Cell, AreApart, Frame}
-use Rattle.shape_law.specs.Curve.{curve_value, reserve_term}
+use Rattle.shape_law.specs.Curve.{curve_value, reserve_term, IsLimitedCurve}
 use Rattle.shape_law.specs.Effect.{IsPoint, IsSame, IsSum, IsCurveSum, CanAddCurve, IsWindow}
 use Rattle.shape_law.specs.Table.{Table, IsConvex, IsPlace, IsAmount, IsWithinLimits, CanAdd}
 
@@ -84,3 +84,19 @@ CurveSumIsWithinLimits =
 abbrev pub WindowIsWithinLimits : Type 0
 WindowIsWithinLimits =
     (up down lo hi : ℤ) (f g : Table) → IsPlace lo → IsPlace hi → IsWindow up down lo hi f g → IsWithinLimits f → IsWithinLimits g
+
+-- an effect is said of the look-up alone: what it says of two functions it says of any two with the same values
+abbrev pub SumIsOfValues : Type 0
+SumIsOfValues = (term : ℤ → ℤ) (f f' g g' : Table) → IsSame f f' → IsSame g g' → IsSum term f g → IsSum term f' g'
+
+abbrev pub CurveSumIsOfValues : Type 0
+CurveSumIsOfValues =
+    (curve : ℤ → Option ℤ) (shift : ℤ) (f f' g g' : Table) → IsSame f f' → IsSame g g' → IsCurveSum curve shift f g → IsCurveSum curve shift f' g'
+
+abbrev pub WindowIsOfValues : Type 0
+WindowIsOfValues =
+    (up down lo hi : ℤ) (f f' g g' : Table) → IsSame f f' → IsSame g g' → IsWindow up down lo hi f g → IsWindow up down lo hi f' g'
+
+-- a curve within the limits has values at places within them alone
+abbrev pub CurvePlacesAreLimited : Type 0
+CurvePlacesAreLimited = (c : Curve) → IsLimitedCurve c → (x v : ℤ) → curve_value c x ≡ Some v → IsPlace x

@@ -1,7 +1,7 @@
 //! Laws of shapes: each is the contract of a function that does nothing.
 ghost use Rattle.std.specs.Prelude.{◌≡◌, true};
 ghost use Rattle.shape_law.specs.Chain.{IsWithinCharge, IsBalanced, CellsAreCharged, CellsAreBounded};
-ghost use Rattle.shape_law.specs.Laws.{OthersStay, FramesJoin, EndedShapesLeaveNothing, PointIsConvex, CopyIsConvex, LineKeepsConvexity, ReserveKeepsConvexity, CurveKeepsConvexity, WindowKeepsConvexity, PointIsExact, SumIsExact, CurveSumIsExact, WindowIsExact, PointIsWithinLimits, CopyIsWithinLimits, SumIsWithinLimits, CurveSumIsWithinLimits, WindowIsWithinLimits};
+ghost use Rattle.shape_law.specs.Laws.{OthersStay, FramesJoin, EndedShapesLeaveNothing, PointIsConvex, CopyIsConvex, LineKeepsConvexity, ReserveKeepsConvexity, CurveKeepsConvexity, WindowKeepsConvexity, PointIsExact, SumIsExact, CurveSumIsExact, WindowIsExact, SumIsOfValues, CurveSumIsOfValues, WindowIsOfValues, CurvePlacesAreLimited, PointIsWithinLimits, CopyIsWithinLimits, SumIsWithinLimits, CurveSumIsWithinLimits, WindowIsWithinLimits};
 
 use crate::Shape;
 
@@ -40,6 +40,18 @@ pub fn effects_are_exact()
     ensures window { WindowIsExact }
 {}
 
+/// Each call's effect is said of the values alone: functions with the same values have it too.
+pub fn effects_are_of_values()
+    ensures sum { SumIsOfValues }
+    ensures curve { CurveSumIsOfValues }
+    ensures window { WindowIsOfValues }
+{}
+
+/// A curve within the limits has values at places within them alone.
+pub fn curve_places_are_limited()
+    ensures { CurvePlacesAreLimited }
+{}
+
 /// Each call's effect keeps places and values within the limits, under the call's conditions.
 pub fn effects_keep_limits()
     ensures point { PointIsWithinLimits }
@@ -49,9 +61,9 @@ pub fn effects_keep_limits()
     ensures window { WindowIsWithinLimits }
 {}
 
-/// Calls on one shape in its home, one after another, take at most their charges. So after `t`
-/// steps of one curve of a unit with L cost points, one kink and one window each, a shape that
-/// began as a point has at most `1 + t * (2L + 3)` cells.
+/// Calls on one shape in its home, one after another, take at most their charges. So a shape that
+/// began as a point has at most `1 + t * (2L + 3)` cells after calls in any order of which at most
+/// `t` add a curve of a unit with L cost points, `t` a kink and `t` take a window. Lines take none.
 pub fn cells_are_bounded<S: Shape>()
     ensures charged { CellsAreCharged S.function (IsWithinCharge S.cells) S.cells }
     ensures bounded { CellsAreBounded S.function (IsWithinCharge S.cells) S.cells }

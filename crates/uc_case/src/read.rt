@@ -44,6 +44,3 @@ fn read_file(alloc: Global, bytes: &[u8]) -> Result<Case, CaseFault>
         Err(Stop::Memory) => Err(CaseFault::Memory),
     }
 }
-
-#[cfg(test)]
-mod tests;

@@ -47,6 +47,3 @@ fn read_file(alloc: Global, case: &Case, bytes: &[u8]) -> Result<Plan, PlanFault
         Err(Stop::Memory) => Err(PlanFault::Memory),
     }
 }
-
-#[cfg(test)]
-mod tests;

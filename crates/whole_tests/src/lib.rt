@@ -5,7 +5,11 @@
 #[cfg(test)]
 mod boards;
 #[cfg(test)]
+mod case_files;
+#[cfg(test)]
 mod generated;
+#[cfg(test)]
+mod plan_files;
 #[cfg(test)]
 mod responses;
 #[cfg(test)]

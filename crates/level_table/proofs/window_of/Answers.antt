@@ -4,8 +4,6 @@ use Rattle.std.specs.Int.{w64, int_max, int_min}
 use Rattle.std.proofs.lemmas.Int.{ints, clamps, to_z-of_z}
 use Rattle.shape_law.specs.Effect.{IsWindow}
 use Rattle.shape_law.specs.Table.{IsPlace}
-use Rattle.shape_law.proofs.ConvexLaws.{IsConvex-window}
-use Rattle.shape_law.proofs.LimitLaws.{IsWithinLimits-window}
 use Rattle.level_table.specs.Values.{table, within_limits}
 use Rattle.level_table.proofs.ValueLaws.{AreWithin-from_limits}
 use Rattle.level_table.proofs.WindowLaws.{ends_are_places, place_inside, some_in_reach, window_is}
@@ -105,7 +103,7 @@ window c e n =
 pub invariant_of-result-2-clause-convex : goal.invariant_of-result-2-clause-convex
 invariant_of-result-2-clause-convex c =
     let at = goal.at.invariant_of-result-2-clause-convex c in
-    IsConvex-window c.args.up c.args.down c.args.lo c.args.hi _ _ (window at.In_ok-values (ends at.After-min-to) (count_is at.After-count_between-count)) c.args.s.now.convex
+    c.effects_keep_convexity.ensures.window c.args.up c.args.down c.args.lo c.args.hi _ _ (window at.In_ok-values (ends at.After-min-to) (count_is at.After-count_between-count)) c.args.s.now.convex
 
 pub invariant_of-result-2-clause-within : goal.invariant_of-result-2-clause-within
 invariant_of-result-2-clause-within c =
@@ -113,7 +111,7 @@ invariant_of-result-2-clause-within c =
     let from : to_z w64 (of_z w64 c.max-from.result) ≡ c.max-from.result = to_z-of_z w64 _ (record { sfits = c.max-from.type_inv }) in
     let w = window at.In_ok-values (ends at.After-min-to) (count_is at.After-count_between-count) in
     rw from (AreWithin-from_limits c.max-from.result c.in_ok-values.values.items
-    (IsWithinLimits-window c.args.up c.args.down c.args.lo c.args.hi _ _ c.requires.lo c.requires.hi w (within_limits c.args.s.now.lo c.args.s.now.values.items c.args.s.now.within)))
+    (c.effects_keep_limits.ensures.window c.args.up c.args.down c.args.lo c.args.hi _ _ c.requires.lo c.requires.hi w (within_limits c.args.s.now.lo c.args.s.now.values.items c.args.s.now.within)))
 
 pub returns : goal.returns
 returns c =

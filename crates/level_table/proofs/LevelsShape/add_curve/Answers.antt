@@ -5,9 +5,7 @@ use Rattle.std.proofs.lemmas.Int.{to_z-of_z}
 use Rattle.std.proofs.lemmas.List.{take_at}
 use Rattle.shape_law.specs.Curve.{curve_value}
 use Rattle.shape_law.specs.Effect.{IsCurveSum}
-use Rattle.shape_law.proofs.CurveLaws.{IsConvex-curve_sum}
-use Rattle.shape_law.proofs.LimitLaws.{IsWithinLimits-curve_sum}
-use Rattle.shape_law.proofs.TableLaws.{value-from_index}
+use Rattle.level_table.specs.Lookup.{value-from_index}
 use Rattle.level_table.specs.Values.{table, within_limits}
 use Rattle.level_table.proofs.ValueLaws.{AreWithin-from_limits, added_at}
 use Rattle.level_table.proofs.LevelsShape.add_curve.Goals as goal
@@ -46,13 +44,13 @@ sum c = let r = raised c in added_at (λ x. curve_value c.args.curve.now (x +ℤ
 pub invariant_of-self-clause-convex : goal.invariant_of-self-clause-convex
 invariant_of-self-clause-convex c =
     let after = (goal.at.invariant_of-self-clause-convex c).After-add_term in
-    rw (raised after).same (IsConvex-curve_sum c.args.curve.now c.args.shift _ _ c.requires.limited.blocks (sum after) c.args.self.now.convex)
+    rw (raised after).same (c.effects_keep_convexity.ensures.curve c.args.curve.now c.args.shift _ _ c.requires.limited.blocks (sum after) c.args.self.now.convex)
 
 pub invariant_of-self-clause-within : goal.invariant_of-self-clause-within
 invariant_of-self-clause-within c =
     let after = (goal.at.invariant_of-self-clause-within c).After-add_term in
     let old = within_limits c.args.self.now.lo c.args.self.now.values.items c.args.self.now.within in
-    rw (raised after).same (AreWithin-from_limits c.args.self.now.lo c.add_term.new.values (IsWithinLimits-curve_sum (curve_value c.args.curve.now) c.args.shift _ _ (sum after) c.requires.fits old))
+    rw (raised after).same (AreWithin-from_limits c.args.self.now.lo c.add_term.new.values (c.effects_keep_limits.ensures.curve (curve_value c.args.curve.now) c.args.shift _ _ (sum after) c.requires.fits old))
 
 pub returns-clause-ok : goal.returns-clause-ok
 returns-clause-ok c =

@@ -4,9 +4,7 @@ use Rattle.std.specs.Int.{w64}
 use Rattle.std.proofs.lemmas.Int.{to_z-of_z}
 use Rattle.std.proofs.lemmas.List.{take_at}
 use Rattle.shape_law.specs.Effect.{IsSum}
-use Rattle.shape_law.proofs.ConvexLaws.{IsConvex-line}
-use Rattle.shape_law.proofs.LimitLaws.{IsWithinLimits-sum}
-use Rattle.shape_law.proofs.TableLaws.{value-from_index}
+use Rattle.level_table.specs.Lookup.{value-from_index}
 use Rattle.level_table.specs.Values.{table, within_limits}
 use Rattle.level_table.proofs.ValueLaws.{AreWithin-from_limits, IsSum-from_index}
 use Rattle.level_table.proofs.LevelsShape.add_line.Goals as goal
@@ -45,13 +43,13 @@ sum c = let r = raised c in IsSum-from_index (λ x. c.args.slope *ℤ x) c.args.
 pub invariant_of-self-clause-convex : goal.invariant_of-self-clause-convex
 invariant_of-self-clause-convex c =
     let after = (goal.at.invariant_of-self-clause-convex c).After-add_term in
-    rw (raised after).same (IsConvex-line c.args.slope _ _ (sum after) c.args.self.now.convex)
+    rw (raised after).same (c.effects_keep_convexity.ensures.line c.args.slope _ _ (sum after) c.args.self.now.convex)
 
 pub invariant_of-self-clause-within : goal.invariant_of-self-clause-within
 invariant_of-self-clause-within c =
     let after = (goal.at.invariant_of-self-clause-within c).After-add_term in
     let old = within_limits c.args.self.now.lo c.args.self.now.values.items c.args.self.now.within in
-    rw (raised after).same (AreWithin-from_limits c.args.self.now.lo c.add_term.new.values (IsWithinLimits-sum (λ x. c.args.slope *ℤ x) _ _ (sum after) c.requires.fits old))
+    rw (raised after).same (AreWithin-from_limits c.args.self.now.lo c.add_term.new.values (c.effects_keep_limits.ensures.sum (λ x. c.args.slope *ℤ x) _ _ (sum after) c.requires.fits old))
 
 pub returns-clause-line : goal.returns-clause-line
 returns-clause-line c =

@@ -3,15 +3,14 @@ use Rattle.std.specs.Prelude.{◌+ℤ◌}
 use Rattle.std.specs.Int.{w64}
 use Rattle.std.proofs.lemmas.Int.{ints}
 use Rattle.shape_law.specs.Curve.{curve_value}
-use Rattle.shape_law.proofs.ConvexLaws.{same_some}
-use Rattle.shape_law.proofs.CurveLaws.{IsPlace-on_curve}
+use Rattle.level_table.specs.Lookup.{same_some}
 use Rattle.level_table.proofs.MovedTerm.plus.Goals as goal
 use Rattle.level_table.proofs.MovedTerm.plus.Goals.{After-curve_at}
 
 pub overflow_add-x : goal.overflow_add-x
 overflow_add-x c =
     let fit = c.requires.fits in
-    let place = IsPlace-on_curve c.args.self.now.curve.now c.requires.limited (c.args.x +ℤ c.args.self.now.shift) fit.0 fit.1 in
+    let place = c.curve_places_are_limited.ensures c.args.self.now.curve.now c.requires.limited (c.args.x +ℤ c.args.self.now.shift) fit.0 fit.1 in
     let low = place.0 in
     let high = place.1 in
     omega (arith, ints)
@@ -33,7 +32,7 @@ curve_at-requires-clause-curve c =
 pub curve_at-requires-clause-inside : goal.curve_at-requires-clause-inside
 curve_at-requires-clause-inside c =
     let fit = c.requires.fits in
-    let place = IsPlace-on_curve c.args.self.now.curve.now c.requires.limited (c.args.x +ℤ c.args.self.now.shift) fit.0 fit.1 in
+    let place = c.curve_places_are_limited.ensures c.args.self.now.curve.now c.requires.limited (c.args.x +ℤ c.args.self.now.shift) fit.0 fit.1 in
     let low = place.0 in
     let high = place.1 in
     let sum : to_z w64 (of_z w64 (to_z w64 (of_z w64 c.args.x) +ℤ to_z w64 (of_z w64 c.args.self.now.shift))) ≡ c.args.x +ℤ c.args.self.now.shift = omega (arith, ints) in
@@ -42,7 +41,7 @@ curve_at-requires-clause-inside c =
 rise_is : (c : After-curve_at) → curve_value c.args.self.now.curve.now (c.args.x +ℤ c.args.self.now.shift) ≡ Some c.curve_at.result
 rise_is c =
     let fit = c.requires.fits in
-    let place = IsPlace-on_curve c.args.self.now.curve.now c.requires.limited (c.args.x +ℤ c.args.self.now.shift) fit.0 fit.1 in
+    let place = c.curve_places_are_limited.ensures c.args.self.now.curve.now c.requires.limited (c.args.x +ℤ c.args.self.now.shift) fit.0 fit.1 in
     let low = place.0 in
     let high = place.1 in
     let sum : to_z w64 (of_z w64 (to_z w64 (of_z w64 c.args.x) +ℤ to_z w64 (of_z w64 c.args.self.now.shift))) ≡ c.args.x +ℤ c.args.self.now.shift = omega (arith, ints) in

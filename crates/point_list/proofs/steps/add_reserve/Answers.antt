@@ -4,7 +4,7 @@ use Rattle.std.proofs.lemmas.Int.{to_z-of_z}
 use Rattle.ramp_step.specs.declared.breakpoint.Knot.{Knot}
 use Rattle.ramp_step.specs.Knots.{knot}
 use Rattle.shape_law.specs.Curve.{reserve_term}
-use Rattle.point_list.proofs.ListLaws.{written_back, cut_back, IsKept, stands, can_add, sum, sum_breaks}
+use Rattle.point_list.proofs.ListLaws.{written_back, cut_back, IsKept, breaks, can_add, kept_breaks, sum}
 use Rattle.point_list.proofs.steps.add_reserve.Goals as goal
 use Rattle.point_list.proofs.steps.add_reserve.Goals.{After-deref_mut, After-truncate}
 
@@ -31,33 +31,28 @@ kept c =
           ∙ written_back k2 made.items made.len k (omega arith) (omega arith);
     }
 
-pub kink_step-left-requires-clause-stand : goal.kink_step-left-requires-clause-stand
-kink_step-left-requires-clause-stand c = stands c.args.knots.now.items c.deref_mut.result.now c.in_ok-used.used c.requires.breaks c.in_ok-used.ensures.used (begins (goal.at.kink_step-left-requires-clause-stand c).After-deref_mut)
+pub kink_step-left-requires-clause-breaks : goal.kink_step-left-requires-clause-breaks
+kink_step-left-requires-clause-breaks c =
+    breaks c.knots_decide.ensures.same c.args.knots.now.items c.deref_mut.result.now c.in_ok-used.used c.requires.breaks c.in_ok-used.ensures.used (begins (goal.at.kink_step-left-requires-clause-breaks c).After-deref_mut)
 
 pub kink_step-left-requires-clause-fits : goal.kink_step-left-requires-clause-fits
 kink_step-left-requires-clause-fits c =
     let e-mu : to_z w64 (of_z w64 c.args.mu) ≡ c.args.mu = to_z-of_z w64 _ c.ranges.mu in
     let e-cap : to_z w64 (of_z w64 c.args.cap) ≡ c.args.cap = to_z-of_z w64 _ c.ranges.cap in
     let e-up : to_z w64 (of_z w64 c.args.up) ≡ c.args.up = to_z-of_z w64 _ c.ranges.up in
-    rw (e-mu, e-cap, e-up) (can_add c.args.knots.now.items c.deref_mut.result.now c.in_ok-used.used c.requires.breaks c.in_ok-used.ensures.used (begins (goal.at.kink_step-left-requires-clause-fits c).After-deref_mut)
+    rw (e-mu, e-cap, e-up) (can_add c.knots_decide.ensures.same c.args.knots.now.items c.deref_mut.result.now c.in_ok-used.used c.requires.breaks c.in_ok-used.ensures.used (begins (goal.at.kink_step-left-requires-clause-fits c).After-deref_mut)
     (reserve_term c.args.mu c.args.cap c.args.up) c.requires.fits)
 
 pub returns-clause-ok : goal.returns-clause-ok
 returns-clause-ok c =
-    let k = kept (goal.at.returns-clause-ok c).After-truncate in
     let e-mu : to_z w64 (of_z w64 c.args.mu) ≡ c.args.mu = to_z-of_z w64 _ c.ranges.mu in
     let e-cap : to_z w64 (of_z w64 c.args.cap) ≡ c.args.cap = to_z-of_z w64 _ c.ranges.cap in
     let e-up : to_z w64 (of_z w64 c.args.up) ≡ c.args.up = to_z-of_z w64 _ c.ranges.up in
-    sum c.args.knots.now.items c.deref_mut.result.now c.in_ok-used.used c.requires.breaks c.in_ok-used.ensures.used (begins (goal.at.returns-clause-ok c).After-deref_mut)
-    c.kink_step-left.new.knots c.truncate.new.self.items c.kink_step-left.result k.len k.count k.after
-    (reserve_term c.args.mu c.args.cap c.args.up) (rw (e-mu, e-cap, e-up) at c.kink_step-left.ensures.stand) c.kink_step-left.ensures.ends
+    sum c.knots_decide.ensures.same c.args.knots.now.items c.deref_mut.result.now c.in_ok-used.used c.requires.breaks c.in_ok-used.ensures.used (begins (goal.at.returns-clause-ok c).After-deref_mut)
+    c.kink_step-left.new.knots c.truncate.new.self.items c.kink_step-left.result c.kink_step-left.ensures.breaks (kept (goal.at.returns-clause-ok c).After-truncate)
+    c.effects_are_of_values.ensures.sum (reserve_term c.args.mu c.args.cap c.args.up) (rw (e-mu, e-cap, e-up) at c.kink_step-left.ensures.sum)
 
 pub returns-clause-breaks : goal.returns-clause-breaks
 returns-clause-breaks c =
-    let k = kept (goal.at.returns-clause-breaks c).After-truncate in
-    let e-mu : to_z w64 (of_z w64 c.args.mu) ≡ c.args.mu = to_z-of_z w64 _ c.ranges.mu in
-    let e-cap : to_z w64 (of_z w64 c.args.cap) ≡ c.args.cap = to_z-of_z w64 _ c.ranges.cap in
-    let e-up : to_z w64 (of_z w64 c.args.up) ≡ c.args.up = to_z-of_z w64 _ c.ranges.up in
-    sum_breaks c.args.knots.now.items c.deref_mut.result.now c.in_ok-used.used c.requires.breaks c.in_ok-used.ensures.used (begins (goal.at.returns-clause-breaks c).After-deref_mut)
-    c.kink_step-left.new.knots c.truncate.new.self.items c.kink_step-left.result k.len k.count k.after
-    (reserve_term c.args.mu c.args.cap c.args.up) (rw (e-mu, e-cap, e-up) at c.kink_step-left.ensures.stand) c.kink_step-left.ensures.ends c.requires.fits
+    kept_breaks c.knots_decide.ensures.same c.args.knots.now.items c.deref_mut.result.now c.in_ok-used.used c.requires.breaks c.in_ok-used.ensures.used (begins (goal.at.returns-clause-breaks c).After-deref_mut)
+    c.kink_step-left.new.knots c.truncate.new.self.items c.kink_step-left.result c.kink_step-left.ensures.breaks (kept (goal.at.returns-clause-breaks c).After-truncate)

@@ -3,7 +3,7 @@ use Rattle.std.specs.Int.{w64}
 use Rattle.std.proofs.lemmas.Int.{to_z-of_z}
 use Rattle.ramp_step.specs.declared.breakpoint.Knot.{Knot}
 use Rattle.ramp_step.specs.Knots.{knot}
-use Rattle.point_list.proofs.ListLaws.{written_back, cut_back, IsKept, stands, places, amounts, moved, moved_breaks}
+use Rattle.point_list.proofs.ListLaws.{written_back, cut_back, IsKept, breaks, kept_breaks, moved}
 use Rattle.point_list.proofs.steps.window.Goals as goal
 use Rattle.point_list.proofs.steps.window.Goals.{After-deref_mut, After-truncate}
 
@@ -30,33 +30,21 @@ kept c =
           ∙ written_back k2 made.items made.len k (omega arith) (omega arith);
     }
 
-pub window_step-left-requires-clause-stand : goal.window_step-left-requires-clause-stand
-window_step-left-requires-clause-stand c = stands c.args.knots.now.items c.deref_mut.result.now c.in_ok-used.used c.requires.breaks c.in_ok-used.ensures.used (begins (goal.at.window_step-left-requires-clause-stand c).After-deref_mut)
-
-pub window_step-left-requires-clause-places : goal.window_step-left-requires-clause-places
-window_step-left-requires-clause-places c = places c.args.knots.now.items c.deref_mut.result.now c.in_ok-used.used c.requires.breaks c.in_ok-used.ensures.used (begins (goal.at.window_step-left-requires-clause-places c).After-deref_mut)
-
-pub window_step-left-requires-clause-amounts : goal.window_step-left-requires-clause-amounts
-window_step-left-requires-clause-amounts c = amounts c.args.knots.now.items c.deref_mut.result.now c.in_ok-used.used c.requires.breaks c.in_ok-used.ensures.used (begins (goal.at.window_step-left-requires-clause-amounts c).After-deref_mut)
+pub window_step-left-requires-clause-breaks : goal.window_step-left-requires-clause-breaks
+window_step-left-requires-clause-breaks c =
+    breaks c.knots_decide.ensures.same c.args.knots.now.items c.deref_mut.result.now c.in_ok-used.used c.requires.breaks c.in_ok-used.ensures.used (begins (goal.at.window_step-left-requires-clause-breaks c).After-deref_mut)
 
 pub returns-clause-ok : goal.returns-clause-ok
 returns-clause-ok c =
-    let k = kept (goal.at.returns-clause-ok c).After-truncate in
     let e-up : to_z w64 (of_z w64 c.args.up) ≡ c.args.up = to_z-of_z w64 _ c.ranges.up in
     let e-down : to_z w64 (of_z w64 c.args.down) ≡ c.args.down = to_z-of_z w64 _ c.ranges.down in
     let e-lo : to_z w64 (of_z w64 c.args.lo) ≡ c.args.lo = to_z-of_z w64 _ c.ranges.lo in
     let e-hi : to_z w64 (of_z w64 c.args.hi) ≡ c.args.hi = to_z-of_z w64 _ c.ranges.hi in
-    moved c.args.knots.now.items c.deref_mut.result.now c.in_ok-used.used c.requires.breaks c.in_ok-used.ensures.used (begins (goal.at.returns-clause-ok c).After-deref_mut)
-    c.window_step-left.new.knots c.truncate.new.self.items c.window_step-left.result k.len k.count k.after
-    c.args.up c.args.down c.args.lo c.args.hi (rw (e-up, e-down, e-lo, e-hi) at c.window_step-left.ensures.window)
+    moved c.knots_decide.ensures.same c.args.knots.now.items c.deref_mut.result.now c.in_ok-used.used c.requires.breaks c.in_ok-used.ensures.used (begins (goal.at.returns-clause-ok c).After-deref_mut)
+    c.window_step-left.new.knots c.truncate.new.self.items c.window_step-left.result c.window_step-left.ensures.breaks (kept (goal.at.returns-clause-ok c).After-truncate)
+    c.effects_are_of_values.ensures.window c.args.up c.args.down c.args.lo c.args.hi (rw (e-up, e-down, e-lo, e-hi) at c.window_step-left.ensures.window)
 
 pub returns-clause-breaks : goal.returns-clause-breaks
 returns-clause-breaks c =
-    let k = kept (goal.at.returns-clause-breaks c).After-truncate in
-    let e-up : to_z w64 (of_z w64 c.args.up) ≡ c.args.up = to_z-of_z w64 _ c.ranges.up in
-    let e-down : to_z w64 (of_z w64 c.args.down) ≡ c.args.down = to_z-of_z w64 _ c.ranges.down in
-    let e-lo : to_z w64 (of_z w64 c.args.lo) ≡ c.args.lo = to_z-of_z w64 _ c.ranges.lo in
-    let e-hi : to_z w64 (of_z w64 c.args.hi) ≡ c.args.hi = to_z-of_z w64 _ c.ranges.hi in
-    moved_breaks c.args.knots.now.items c.deref_mut.result.now c.in_ok-used.used c.requires.breaks c.in_ok-used.ensures.used (begins (goal.at.returns-clause-breaks c).After-deref_mut)
-    c.window_step-left.new.knots c.truncate.new.self.items c.window_step-left.result k.len k.count k.after
-    c.args.up c.args.down c.args.lo c.args.hi (rw (e-up, e-down, e-lo, e-hi) at c.window_step-left.ensures.window) c.requires.lo c.requires.hi
+    kept_breaks c.knots_decide.ensures.same c.args.knots.now.items c.deref_mut.result.now c.in_ok-used.used c.requires.breaks c.in_ok-used.ensures.used (begins (goal.at.returns-clause-breaks c).After-deref_mut)
+    c.window_step-left.new.knots c.truncate.new.self.items c.window_step-left.result c.window_step-left.ensures.breaks (kept (goal.at.returns-clause-breaks c).After-truncate)

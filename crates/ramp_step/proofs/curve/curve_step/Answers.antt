@@ -1,64 +1,87 @@
-use Rattle.std.proofs.Common.{◌≡◌, arith, rules, to_z, of_z}
-use Rattle.std.specs.Prelude.{◌-ℤ◌, FitsSigned}
+use Rattle.std.proofs.Common.{◌≡◌, List, arith, rules, to_z, of_z}
+use Rattle.std.specs.Prelude.{ℤ, ◌-ℤ◌, FitsSigned}
 use Rattle.std.specs.Int.{w64}
 use Rattle.std.proofs.lemmas.Int.{ints, to_z-of_z}
+use Rattle.uc_model.specs.declared.units.Block.{Block}
+use Rattle.ramp_step.proofs.CurveShapeLaws.{IsOver-curve, CanAdd-curve, AreLimitedBlocks-curve}
+use Rattle.ramp_step.proofs.RunLaws.{shape_of}
+use Rattle.ramp_step.proofs.StepLaws.{curve_sum, curve_sum_breaks}
 use Rattle.ramp_step.proofs.curve.curve_step.Goals as goal
+use Rattle.ramp_step.proofs.curve.curve_step.Goals.{After-as_slice-blocks}
 
-pub add_blocks-requires-clause-curve : goal.add_blocks-requires-clause-curve
-add_blocks-requires-clause-curve c =
-    let fits : FitsSigned w64 c.args.curve.now.value = search rules in
-    let e-value : to_z w64 (of_z w64 c.args.curve.now.value) ≡ c.args.curve.now.value = to_z-of_z w64 _ fits in
-    let fits-at : FitsSigned w64 c.args.curve.now.at = search rules in
-    let e-at : to_z w64 (of_z w64 c.args.curve.now.at) ≡ c.args.curve.now.at = to_z-of_z w64 _ fits-at in
-    let start = c.requires.curve.ends 0 (omega arith) in
-    let s0 = start.0 in
-    let s1 = start.1 in
-    let e-from : to_z w64 (of_z w64 (to_z w64 (of_z w64 c.args.curve.now.at) -ℤ to_z w64 (of_z w64 c.args.shift))) ≡ c.args.curve.now.at -ℤ c.args.shift = omega (arith, ints) in
-    let e-blocks = c.as_slice-blocks.ensures in
-    rw (e-value, e-from, e-blocks) c.requires.curve
-
-pub add_blocks-requires-clause-inside : goal.add_blocks-requires-clause-inside
-add_blocks-requires-clause-inside c =
-    let fits-at : FitsSigned w64 c.args.curve.now.at = search rules in
-    let e-at : to_z w64 (of_z w64 c.args.curve.now.at) ≡ c.args.curve.now.at = to_z-of_z w64 _ fits-at in
-    let start = c.requires.curve.ends 0 (omega arith) in
-    let s0 = start.0 in
-    let s1 = start.1 in
-    let e-from : to_z w64 (of_z w64 (to_z w64 (of_z w64 c.args.curve.now.at) -ℤ to_z w64 (of_z w64 c.args.shift))) ≡ c.args.curve.now.at -ℤ c.args.shift = omega (arith, ints) in
-    let e-blocks = c.as_slice-blocks.ensures in
-    rw (e-from, e-blocks) c.requires.inside
-
-pub add_blocks-requires-clause-fits : goal.add_blocks-requires-clause-fits
-add_blocks-requires-clause-fits c =
-    let fits : FitsSigned w64 c.args.curve.now.value = search rules in
-    let e-value : to_z w64 (of_z w64 c.args.curve.now.value) ≡ c.args.curve.now.value = to_z-of_z w64 _ fits in
-    let fits-at : FitsSigned w64 c.args.curve.now.at = search rules in
-    let e-at : to_z w64 (of_z w64 c.args.curve.now.at) ≡ c.args.curve.now.at = to_z-of_z w64 _ fits-at in
-    let start = c.requires.curve.ends 0 (omega arith) in
-    let s0 = start.0 in
-    let s1 = start.1 in
-    let e-from : to_z w64 (of_z w64 (to_z w64 (of_z w64 c.args.curve.now.at) -ℤ to_z w64 (of_z w64 c.args.shift))) ≡ c.args.curve.now.at -ℤ c.args.shift = omega (arith, ints) in
-    let e-blocks = c.as_slice-blocks.ensures in
-    rw (e-value, e-from, e-blocks) c.requires.fits
-
-pub returns-clause-stand : goal.returns-clause-stand
-returns-clause-stand c =
-    let fits : FitsSigned w64 c.args.curve.now.value = search rules in
-    let e-value : to_z w64 (of_z w64 c.args.curve.now.value) ≡ c.args.curve.now.value = to_z-of_z w64 _ fits in
-    let fits-at : FitsSigned w64 c.args.curve.now.at = search rules in
-    let e-at : to_z w64 (of_z w64 c.args.curve.now.at) ≡ c.args.curve.now.at = to_z-of_z w64 _ fits-at in
-    let start = c.requires.curve.ends 0 (omega arith) in
-    let s0 = start.0 in
-    let s1 = start.1 in
-    let e-from : to_z w64 (of_z w64 (to_z w64 (of_z w64 c.args.curve.now.at) -ℤ to_z w64 (of_z w64 c.args.shift))) ≡ c.args.curve.now.at -ℤ c.args.shift = omega (arith, ints) in
-    let e-blocks = c.as_slice-blocks.ensures in
-    rw (e-value, e-from, e-blocks) at c.add_blocks.ensures.stand
+-- the machine's numbers are the curve's, and the blocks are its blocks
+record Read (value from : ℤ) (bs : List Block) (v at shift : ℤ) (blocks : List Block) : Type 0 where
+  value_is : value ≡ v
+  from_is : from ≡ at -ℤ shift
+  blocks_are : bs ≡ blocks
 
 pub overflow_sub-from : goal.overflow_sub-from
 overflow_sub-from c =
+    let ks = c.args.knots.now in
+    let n = c.args.used in
     let fits-at : FitsSigned w64 c.args.curve.now.at = search rules in
     let e-at : to_z w64 (of_z w64 c.args.curve.now.at) ≡ c.args.curve.now.at = to_z-of_z w64 _ fits-at in
-    let start = c.requires.curve.ends 0 (omega arith) in
+    let limited = AreLimitedBlocks-curve c.args.curve.now c.args.shift ks n c.requires.some (shape_of ks n c.requires.breaks) c.requires.breaks.within c.requires.limited c.requires.fits in
+    let start = limited.ends 0 (omega arith) in
     let s0 = start.0 in
     let s1 = start.1 in
     omega (arith, ints)
+
+read : (c : After-as_slice-blocks) → FitsSigned w64 c.args.curve.now.value → FitsSigned w64 c.args.curve.now.at → Read (to_z w64 (of_z w64 c.args.curve.now.value)) (to_z w64 (of_z w64 (to_z w64 (of_z w64 c.args.curve.now.at) -ℤ to_z w64 (of_z w64 c.args.shift)))) c.as_slice-blocks.result.now
+    c.args.curve.now.value c.args.curve.now.at c.args.shift c.args.curve.now.blocks.items
+read c fits fits-at =
+    let ks = c.args.knots.now in
+    let n = c.args.used in
+    let e-at : to_z w64 (of_z w64 c.args.curve.now.at) ≡ c.args.curve.now.at = to_z-of_z w64 _ fits-at in
+    let limited = AreLimitedBlocks-curve c.args.curve.now c.args.shift ks n c.requires.some (shape_of ks n c.requires.breaks) c.requires.breaks.within c.requires.limited c.requires.fits in
+    let start = limited.ends 0 (omega arith) in
+    let s0 = start.0 in
+    let s1 = start.1 in
+    record { value_is = to_z-of_z w64 _ fits; from_is = omega (arith, ints); blocks_are = c.as_slice-blocks.ensures }
+
+pub add_blocks-n-requires-clause-stand : goal.add_blocks-n-requires-clause-stand
+add_blocks-n-requires-clause-stand c = shape_of c.args.knots.now c.args.used c.requires.breaks
+
+pub add_blocks-n-requires-clause-curve : goal.add_blocks-n-requires-clause-curve
+add_blocks-n-requires-clause-curve c =
+    let ks = c.args.knots.now in
+    let n = c.args.used in
+    let fits : FitsSigned w64 c.args.curve.now.value = search rules in
+    let fits-at : FitsSigned w64 c.args.curve.now.at = search rules in
+    let r = read (goal.at.add_blocks-n-requires-clause-curve c).After-as_slice-blocks fits fits-at in
+    rw (r.value_is, r.from_is, r.blocks_are) (AreLimitedBlocks-curve c.args.curve.now c.args.shift ks n c.requires.some (shape_of ks n c.requires.breaks) c.requires.breaks.within c.requires.limited c.requires.fits)
+
+pub add_blocks-n-requires-clause-inside : goal.add_blocks-n-requires-clause-inside
+add_blocks-n-requires-clause-inside c =
+    let ks = c.args.knots.now in
+    let n = c.args.used in
+    let fits : FitsSigned w64 c.args.curve.now.value = search rules in
+    let fits-at : FitsSigned w64 c.args.curve.now.at = search rules in
+    let r = read (goal.at.add_blocks-n-requires-clause-inside c).After-as_slice-blocks fits fits-at in
+    rw (r.from_is, r.blocks_are) (IsOver-curve c.args.curve.now c.args.shift ks n c.requires.some (shape_of ks n c.requires.breaks) c.requires.breaks.within c.requires.limited c.requires.fits)
+
+pub add_blocks-n-requires-clause-fits : goal.add_blocks-n-requires-clause-fits
+add_blocks-n-requires-clause-fits c =
+    let ks = c.args.knots.now in
+    let n = c.args.used in
+    let fits : FitsSigned w64 c.args.curve.now.value = search rules in
+    let fits-at : FitsSigned w64 c.args.curve.now.at = search rules in
+    let r = read (goal.at.add_blocks-n-requires-clause-fits c).After-as_slice-blocks fits fits-at in
+    rw (r.value_is, r.from_is, r.blocks_are) (CanAdd-curve c.args.curve.now c.args.shift ks n c.requires.some (shape_of ks n c.requires.breaks) c.requires.breaks.within c.requires.limited c.requires.fits)
+
+pub returns-clause-sum : goal.returns-clause-sum
+returns-clause-sum c =
+    let fits : FitsSigned w64 c.args.curve.now.value = search rules in
+    let fits-at : FitsSigned w64 c.args.curve.now.at = search rules in
+    let r = read (goal.at.returns-clause-sum c).After-as_slice-blocks fits fits-at in
+    curve_sum c.args.knots.now c.args.used c.requires.breaks c.args.curve.now c.args.shift c.requires.some c.requires.limited c.requires.fits
+    c.add_blocks-n.new.knots c.add_blocks-n.result (rw (r.value_is, r.from_is, r.blocks_are) at c.add_blocks-n.ensures.stand) c.add_blocks-n.ensures.ends
+
+pub returns-clause-breaks : goal.returns-clause-breaks
+returns-clause-breaks c =
+    let fits : FitsSigned w64 c.args.curve.now.value = search rules in
+    let fits-at : FitsSigned w64 c.args.curve.now.at = search rules in
+    let r = read (goal.at.returns-clause-breaks c).After-as_slice-blocks fits fits-at in
+    curve_sum_breaks c.args.knots.now c.args.used c.requires.breaks c.args.curve.now c.args.shift c.requires.some c.requires.limited c.requires.fits
+    c.add_blocks-n.new.knots c.add_blocks-n.result (rw (r.value_is, r.from_is, r.blocks_are) at c.add_blocks-n.ensures.stand) c.add_blocks-n.ensures.ends
+    c.effects_keep_limits.ensures.curve

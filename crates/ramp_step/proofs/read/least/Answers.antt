@@ -1,5 +1,5 @@
-use Rattle.ramp_step.proofs.LeastLaws.{IsLowest-turn}
+use Rattle.ramp_step.proofs.TurnLaws.{turn_is_least}
 use Rattle.ramp_step.proofs.read.least.Goals as goal
 
 pub returns : goal.returns
-returns c = λ f s. IsLowest-turn c.args.knots.now c.args.used c.turn-j.result f s c.turn-j.ensures
+returns c = turn_is_least c.args.knots.now c.args.used c.turn-j.result c.requires.breaks c.turn-j.ensures

@@ -1,48 +1,46 @@
-use Rattle.std.proofs.Common.{◌≡◌, sym, ◌∙◌, subst, arith, rules, to_z, of_z}
-use Rattle.std.specs.Prelude.{ℤ, FitsSigned}
+use Rattle.std.proofs.Common.{◌≡◌, sym, ap, ◌∙◌, subst, arith, rules, to_z, of_z, Option, Some, None}
+use Rattle.std.specs.Prelude.{ℤ, ◌≤ℤ◌, FitsSigned, MatchOption}
 use Rattle.std.specs.Int.{w64, int_min, int_max}
 use Rattle.std.proofs.lemmas.Int.{ints, to_z-of_z}
-use Rattle.ramp_step.specs.Knots.{place, IsInside}
-use Rattle.ramp_step.specs.Read.{IsValueAt}
-use Rattle.ramp_step.proofs.LeastLaws.{IsLowest-within, HasNoPlace-within}
+use Rattle.shape_law.specs.Effect.{IsLeastIn}
+use Rattle.shape_law.specs.Table.{value_of, HasNone}
+use Rattle.ramp_step.specs.Knots.{place}
+use Rattle.ramp_step.specs.Tables.{table_of}
+use Rattle.ramp_step.proofs.StepLaws.{within_of}
+use Rattle.ramp_step.proofs.TurnLaws.{nearest_is_least}
 use Rattle.ramp_step.proofs.read.least_in.Goals as goal
+use Rattle.ramp_step.proofs.read.least_in.Goals.{After-max-at}
+
+-- the place nearest to the turn
+nearest : (c : After-max-at) → to_z w64 (of_z w64 c.max-at.result) ≡ int_max c.args.lo (int_min c.args.hi (place c.args.knots.now c.turn-j.result))
+nearest c =
+    let ks = c.args.knots.now in
+    let j = c.turn-j.result in
+    let l = (within_of ks c.args.used c.requires.breaks).places j c.turn-j.ensures.inside in
+    let l0 = l.0 in
+    let l1 = l.1 in
+    let e-lo : to_z w64 (of_z w64 c.args.lo) ≡ c.args.lo = to_z-of_z w64 _ c.ranges.lo in
+    let e-hi : to_z w64 (of_z w64 c.args.hi) ≡ c.args.hi = to_z-of_z w64 _ c.ranges.hi in
+    let e-turn : to_z w64 (of_z w64 (place ks j)) ≡ place ks j = omega (arith, ints) in
+    let e-min : to_z w64 (of_z w64 c.min.result) ≡ int_min c.args.hi (place ks j) = to_z-of_z w64 _ (record { sfits = c.min.type_inv }) ∙ rw (e-hi, e-turn) at c.min.ensures.value in
+    to_z-of_z w64 _ (record { sfits = c.max-at.type_inv }) ∙ rw (e-lo, e-min) at c.max-at.ensures.value
+
+-- what the value there says
+answered : (c : After-max-at) → c.args.lo ≤ℤ c.args.hi → (o : Option ℤ) → o ≡ value_of (table_of c.args.knots.now c.args.used) (to_z w64 (of_z w64 c.max-at.result))
+    → MatchOption o (HasNone c.args.lo c.args.hi (table_of c.args.knots.now c.args.used)) (λ v. IsLeastIn c.args.lo c.args.hi (table_of c.args.knots.now c.args.used) v (to_z w64 (of_z w64 c.max-at.result)))
+answered c order o is =
+    let f = table_of c.args.knots.now c.args.used in
+    let at = nearest c in
+    let least = nearest_is_least c.args.knots.now c.args.used c.turn-j.result c.args.lo c.args.hi c.requires.breaks c.turn-j.ensures order in
+    let e : value_of f (int_max c.args.lo (int_min c.args.hi (place c.args.knots.now c.turn-j.result))) ≡ o = ap (value_of f) (sym at) ∙ sym is in
+    rw at (subst (λ p. MatchOption p (HasNone c.args.lo c.args.hi f) (λ v. IsLeastIn c.args.lo c.args.hi f v (int_max c.args.lo (int_min c.args.hi (place c.args.knots.now c.turn-j.result))))) e least)
 
 pub returns-in-Some : goal.returns-in-Some
-returns-in-Some c = λ f s.
-    let ks = c.args.knots.now in
-    let j = c.turn-j.result in
-    let lo = c.args.lo in
-    let hi = c.args.hi in
-    let l = c.requires.limits.places j c.turn-j.ensures.inside in
-    let l0 = l.0 in
-    let l1 = l.1 in
-    let e-lo : to_z w64 (of_z w64 lo) ≡ lo = to_z-of_z w64 _ c.ranges.lo in
-    let e-hi : to_z w64 (of_z w64 hi) ≡ hi = to_z-of_z w64 _ c.ranges.hi in
-    let e-turn : to_z w64 (of_z w64 (place ks j)) ≡ place ks j = omega (arith, ints) in
-    let e-min : to_z w64 (of_z w64 c.min.result) ≡ int_min hi (place ks j) = to_z-of_z w64 _ (record { sfits = c.min.type_inv }) ∙ rw (e-hi, e-turn) at c.min.ensures.value in
-    let at : to_z w64 (of_z w64 c.max-at.result) ≡ int_max lo (int_min hi (place ks j)) =
-    to_z-of_z w64 _ (record { sfits = c.max-at.type_inv }) ∙ rw (e-lo, e-min) at c.max-at.ensures.value in
+returns-in-Some c =
     let fits : FitsSigned w64 c.in-Some.value = search rules in
     let value : to_z w64 (of_z w64 c.in-Some.value) ≡ c.in-Some.value = to_z-of_z w64 _ fits in
-    let v : IsValueAt f ks c.args.used (int_max lo (int_min hi (place ks j))) c.in-Some.value =
-    subst (λ (x : ℤ). IsValueAt f ks c.args.used x c.in-Some.value) at (c.in-Some.ensures f s) in
-    let lowest = IsLowest-within ks c.args.used j f s c.turn-j.ensures lo hi c.in-Some.value (omega (arith, ints)) v.inside v.value in
-    rw (at, value) lowest
+    let order : c.args.lo ≤ℤ c.args.hi = omega (arith, ints) in
+    rw value (answered (goal.at.returns-in-Some c).After-max-at order (Some c.in-Some.value) c.in-Some.ensures)
 
 pub returns-in-None : goal.returns-in-None
-returns-in-None c = λ f s.
-    let ks = c.args.knots.now in
-    let j = c.turn-j.result in
-    let lo = c.args.lo in
-    let hi = c.args.hi in
-    let l = c.requires.limits.places j c.turn-j.ensures.inside in
-    let l0 = l.0 in
-    let l1 = l.1 in
-    let e-lo : to_z w64 (of_z w64 lo) ≡ lo = to_z-of_z w64 _ c.ranges.lo in
-    let e-hi : to_z w64 (of_z w64 hi) ≡ hi = to_z-of_z w64 _ c.ranges.hi in
-    let e-turn : to_z w64 (of_z w64 (place ks j)) ≡ place ks j = omega (arith, ints) in
-    let e-min : to_z w64 (of_z w64 c.min.result) ≡ int_min hi (place ks j) = to_z-of_z w64 _ (record { sfits = c.min.type_inv }) ∙ rw (e-hi, e-turn) at c.min.ensures.value in
-    let at : to_z w64 (of_z w64 c.max-at.result) ≡ int_max lo (int_min hi (place ks j)) =
-    to_z-of_z w64 _ (record { sfits = c.max-at.type_inv }) ∙ rw (e-lo, e-min) at c.max-at.ensures.value in
-    let none = c.in-None.ensures f s in
-    HasNoPlace-within ks c.args.used j f s c.turn-j.ensures lo hi (λ i. none (subst (λ (x : ℤ). IsInside ks c.args.used x) (sym at) i))
+returns-in-None c = answered (goal.at.returns-in-None c).After-max-at (omega (arith, ints)) None c.in-None.ensures

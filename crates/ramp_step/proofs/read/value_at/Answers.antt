@@ -1,34 +1,43 @@
-use Rattle.std.proofs.Common.{◌≡◌, ◌-◌, ap, ◌∙◌, arith, to_z, of_z}
+use Rattle.std.proofs.Common.{◌≡◌, ◌-◌, None, ap, ◌∙◌, arith, to_z, of_z}
 use Rattle.std.specs.Int.{w64}
 use Rattle.std.proofs.lemmas.Int.{ints, to_z-of_z}
 use Rattle.ramp_step.specs.Knots.{knot, place, height}
 use Rattle.ramp_step.proofs.KnotLaws.{is_inside, rises}
 use Rattle.ramp_step.proofs.CutLaws.{on_line_between, within_between, value_between}
+use Rattle.ramp_step.proofs.LimitLaws.{IsLimited-within}
+use Rattle.ramp_step.proofs.RunLaws.{shape_of}
+use Rattle.ramp_step.proofs.ShapeLaws.{value_of-from_knots}
+use Rattle.ramp_step.proofs.StepLaws.{within_of}
 use Rattle.ramp_step.proofs.read.value_at.Goals as goal
 
 pub returns-then-m-used : goal.returns-then-m-used
-returns-then-m-used c = λ f s inside.
+returns-then-m-used c =
+    value_of-from_knots c.args.knots.now c.args.used c.args.x None (shape_of c.args.knots.now c.args.used c.requires.breaks) (λ inside.
     let some = inside.some in
     let last = inside.to_last in
     let b = c.below-m.ensures.before (c.args.used - 1) (omega arith) in
-    omega (arith, ints)
+    omega (arith, ints))
 
 pub returns-then-knots-m : goal.returns-then-knots-m
-returns-then-knots-m c = λ f s.
+returns-then-knots-m c =
     let ks = c.args.knots.now in
     let m = c.below-m.result in
+    let shape = shape_of ks c.args.used c.requires.breaks in
+    let f = shape.0 in
+    let s = shape.1 in
+    let limits = within_of ks c.args.used c.requires.breaks in
     let within = c.below-m.ensures.within in
     let there : place ks m ≡ c.args.x = omega (arith, ints) in
     let i = is_inside ks c.args.used f m s (omega arith) in
     let from = i.from_first in
     let to = i.to_last in
-    let a0 = (c.requires.limits.amounts m (omega arith)).0 in
-    let a1 = (c.requires.limits.amounts m (omega arith)).1 in
+    let a0 = (limits.amounts m (omega arith)).0 in
+    let a1 = (limits.amounts m (omega arith)).1 in
     let e : to_z w64 (of_z w64 (knot ks m).value) ≡ height ks m = omega (arith, ints) in
-    record {
+    value_of-from_knots ks c.args.used c.args.x _ shape (record {
       inside = record { some = omega arith; from_first = omega (arith, ints); to_last = omega (arith, ints) };
       value = e ∙ s.meet m (omega arith) ∙ ap f there;
-    }
+    })
 
 pub between-knot-requires-clause-line : goal.between-knot-requires-clause-line
 between-knot-requires-clause-line c =
@@ -38,17 +47,21 @@ between-knot-requires-clause-line c =
     let m = c.below-m.result in
     let low = b.before (m - 1) (omega arith) in
     let high = b.after (omega arith) in
-    rw e (on_line_between c.args.knots.now c.args.used m c.requires.stand.0 c.requires.stand.1 (omega arith) (omega arith) c.args.x (omega (arith, ints)) high)
+    let shape = shape_of c.args.knots.now c.args.used c.requires.breaks in
+    rw e (on_line_between c.args.knots.now c.args.used m shape.0 shape.1 (omega arith) (omega arith) c.args.x (omega (arith, ints)) high)
 
 pub between-knot-requires-clause-within : goal.between-knot-requires-clause-within
 between-knot-requires-clause-within c =
     let within = c.below-m.ensures.within in
-    within_between c.args.knots.now c.args.used c.below-m.result c.requires.limits (omega arith) (omega arith)
+    within_between c.args.knots.now c.args.used c.below-m.result (IsLimited-within c.args.knots.now c.args.used (within_of c.args.knots.now c.args.used c.requires.breaks)) (omega arith) (omega arith)
 
 pub returns : goal.returns
-returns c = λ f s.
+returns c =
     let ks = c.args.knots.now in
     let n = c.args.used in
+    let shape = shape_of ks n c.requires.breaks in
+    let f = shape.0 in
+    let s = shape.1 in
     let e : to_z w64 (of_z w64 c.args.x) ≡ c.args.x = to_z-of_z w64 _ c.ranges.x in
     let b = rw e at c.below-m.ensures in
     let within = b.within in
@@ -61,7 +74,7 @@ returns c = λ f s.
     let fits : to_z w64 (of_z w64 c.between-knot.result.value) ≡ c.between-knot.result.value = omega (arith, ints) in
     let first = rises n (place ks) s.rise (m - 1) 0 (m - 1) (omega arith) (omega arith) in
     let last = rises n (place ks) s.rise ((n - 1) - m) m (n - 1) (omega arith) (omega arith) in
-    record {
+    value_of-from_knots ks n c.args.x _ shape (record {
       inside = record { some = omega arith; from_first = omega (arith, ints); to_last = omega (arith, ints) };
       value = fits ∙ value_between ks n m f s (omega arith) (omega arith) c.args.x c.between-knot.result (omega (arith, ints)) high is;
-    }
+    })

@@ -1,25 +1,57 @@
 use Rattle.std.proofs.Common.{◌≡◌, arith, to_z, of_z}
 use Rattle.std.specs.Int.{w64}
 use Rattle.std.proofs.lemmas.Int.{to_z-of_z}
+use Rattle.ramp_step.specs.Window.{IsWindow}
+use Rattle.ramp_step.proofs.RunLaws.{shape_of, AreBreaks-from}
+use Rattle.ramp_step.proofs.ShapeLaws.{IsWindow-from_knots}
 use Rattle.ramp_step.proofs.SpreadLaws.{IsWindow-cut}
+use Rattle.ramp_step.proofs.StepLaws.{within_of}
 use Rattle.ramp_step.proofs.window.window_step.Goals as goal
+use Rattle.ramp_step.proofs.window.window_step.Goals.{After-cut_below-left}
+
+pub shift-moved-requires-clause-stand : goal.shift-moved-requires-clause-stand
+shift-moved-requires-clause-stand c = shape_of c.args.knots.now c.args.used c.requires.breaks
+
+pub shift-moved-requires-clause-places : goal.shift-moved-requires-clause-places
+shift-moved-requires-clause-places c = (within_of c.args.knots.now c.args.used c.requires.breaks).places
+
+pub shift-moved-requires-clause-amounts : goal.shift-moved-requires-clause-amounts
+shift-moved-requires-clause-amounts c = (within_of c.args.knots.now c.args.used c.requires.breaks).amounts
 
 pub cut_above-kept-requires-clause-stand : goal.cut_above-kept-requires-clause-stand
 cut_above-kept-requires-clause-stand c =
-    let g = c.shift-moved.ensures.window.function c.requires.stand.0 c.requires.stand.1 in
+    let shape = shape_of c.args.knots.now c.args.used c.requires.breaks in
+    let g = c.shift-moved.ensures.window.function shape.0 shape.1 in
     (g.0, g.1)
 
-pub cut_below-requires-clause-stand : goal.cut_below-requires-clause-stand
-cut_below-requires-clause-stand c =
-    let g = c.shift-moved.ensures.window.function c.requires.stand.0 c.requires.stand.1 in
+pub cut_below-left-requires-clause-stand : goal.cut_below-left-requires-clause-stand
+cut_below-left-requires-clause-stand c =
+    let shape = shape_of c.args.knots.now c.args.used c.requires.breaks in
+    let g = c.shift-moved.ensures.window.function shape.0 shape.1 in
     (g.0, c.cut_above-kept.ensures.cut.function g.0 g.1)
 
-pub returns-clause-window : goal.returns-clause-window
-returns-clause-window c =
+on_knots : (c : After-cut_below-left) → IsWindow c.args.up c.args.down c.args.lo c.args.hi c.args.knots.now c.args.used c.cut_below-left.new.knots c.cut_below-left.result
+on_knots c =
     let e-up : to_z w64 (of_z w64 c.args.up) ≡ c.args.up = to_z-of_z w64 _ c.ranges.up in
     let e-down : to_z w64 (of_z w64 c.args.down) ≡ c.args.down = to_z-of_z w64 _ c.ranges.down in
     let e-lo : to_z w64 (of_z w64 c.args.lo) ≡ c.args.lo = to_z-of_z w64 _ c.ranges.lo in
     let e-hi : to_z w64 (of_z w64 c.args.hi) ≡ c.args.hi = to_z-of_z w64 _ c.ranges.hi in
-    IsWindow-cut c.args.knots.now c.shift-moved.new.knots c.cut_above-kept.new.knots c.cut_below.new.knots
-    c.args.used c.shift-moved.result c.cut_above-kept.result c.cut_below.result c.args.up c.args.down c.args.lo c.args.hi
-    (rw (e-up, e-down) at c.shift-moved.ensures.window) (rw e-hi at c.cut_above-kept.ensures.cut) (rw e-lo at c.cut_below.ensures.cut) (omega arith)
+    IsWindow-cut c.args.knots.now c.shift-moved.new.knots c.cut_above-kept.new.knots c.cut_below-left.new.knots
+    c.args.used c.shift-moved.result c.cut_above-kept.result c.cut_below-left.result c.args.up c.args.down c.args.lo c.args.hi
+    (rw (e-up, e-down) at c.shift-moved.ensures.window) (rw e-hi at c.cut_above-kept.ensures.cut) (rw e-lo at c.cut_below-left.ensures.cut) (omega arith)
+
+pub returns-clause-window : goal.returns-clause-window
+returns-clause-window c =
+    IsWindow-from_knots c.args.knots.now c.cut_below-left.new.knots c.args.used c.cut_below-left.result c.args.up c.args.down c.args.lo c.args.hi
+    (shape_of c.args.knots.now c.args.used c.requires.breaks) (on_knots (goal.at.returns-clause-window c).After-cut_below-left)
+
+pub returns-clause-breaks : goal.returns-clause-breaks
+returns-clause-breaks c =
+    let ks = c.args.knots.now in
+    let new = c.cut_below-left.new.knots in
+    let shape = shape_of ks c.args.used c.requires.breaks in
+    let w = on_knots (goal.at.returns-clause-breaks c).After-cut_below-left in
+    let g = w.function shape.0 shape.1 in
+    AreBreaks-from new c.cut_below-left.result (g.0, g.1)
+    (c.effects_keep_limits.ensures.window c.args.up c.args.down c.args.lo c.args.hi _ _ c.requires.lo c.requires.hi
+    (IsWindow-from_knots ks new c.args.used c.cut_below-left.result c.args.up c.args.down c.args.lo c.args.hi shape w) c.requires.breaks.within)

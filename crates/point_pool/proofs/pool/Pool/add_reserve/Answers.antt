@@ -1,35 +1,29 @@
 use Rattle.std.proofs.Common.{◌≡◌, ◌≤◌, length, ◌∙◌, arith, to_z, of_z}
+use Rattle.shape_law.specs.Curve.{reserve_term}
 use Rattle.std.specs.Int.{w64}
 use Rattle.std.proofs.lemmas.Int.{to_z-of_z}
-use Rattle.shape_law.specs.Curve.{reserve_term}
-use Rattle.point_pool.proofs.ListLaws.{written, front_stands, front_can_add, front_sum, front_sum_breaks}
+use Rattle.point_pool.proofs.ListLaws.{written, breaks, can_add, left_list, sum}
 use Rattle.point_pool.proofs.pool.Pool.add_reserve.Goals as goal
 
-pub kink_step-requires-clause-stand : goal.kink_step-requires-clause-stand
-kink_step-requires-clause-stand c =
-    let work = c.args.self.now.work.items in
-    let used = c.args.used in
+pub kink_step-requires-clause-breaks : goal.kink_step-requires-clause-breaks
+kink_step-requires-clause-breaks c =
     let room = c.requires.room in
-    let fits : used ≤ length work = omega (arith, room) in
-    front_stands work c.deref_mut.result.now used fits c.deref_mut.ensures.value c.requires.breaks
+    let fits : c.args.used ≤ length c.args.self.now.work.items = omega (arith, room) in
+    breaks c.knots_decide.ensures.same c.args.self.now.work.items c.deref_mut.result.now c.args.used fits c.deref_mut.ensures.value c.requires.breaks
 
 pub kink_step-requires-clause-fits : goal.kink_step-requires-clause-fits
 kink_step-requires-clause-fits c =
-    let work = c.args.self.now.work.items in
-    let used = c.args.used in
     let room = c.requires.room in
-    let fits : used ≤ length work = omega (arith, room) in
+    let fits : c.args.used ≤ length c.args.self.now.work.items = omega (arith, room) in
     let e-mu : to_z w64 (of_z w64 c.args.mu) ≡ c.args.mu = to_z-of_z w64 _ c.ranges.mu in
     let e-cap : to_z w64 (of_z w64 c.args.cap) ≡ c.args.cap = to_z-of_z w64 _ c.ranges.cap in
     let e-up : to_z w64 (of_z w64 c.args.up) ≡ c.args.up = to_z-of_z w64 _ c.ranges.up in
-    rw (e-mu, e-cap, e-up) (front_can_add work c.deref_mut.result.now used fits c.deref_mut.ensures.value c.requires.breaks (reserve_term c.args.mu c.args.cap c.args.up) c.requires.fits)
+    rw (e-mu, e-cap, e-up) (can_add c.knots_decide.ensures.same c.args.self.now.work.items c.deref_mut.result.now c.args.used fits c.deref_mut.ensures.value c.requires.breaks (reserve_term c.args.mu c.args.cap c.args.up) c.requires.fits)
 
 pub returns-clause-sum : goal.returns-clause-sum
 returns-clause-sum c =
-    let work = c.args.self.now.work.items in
-    let used = c.args.used in
     let room = c.requires.room in
-    let fits : used ≤ length work = omega (arith, room) in
+    let fits : c.args.used ≤ length c.args.self.now.work.items = omega (arith, room) in
     let k2 = c.kink_step.new.knots in
     let long : length k2 ≡ c.args.self.now.work.len = c.kink_step.auto.knots ∙ c.deref_mut.ensures.len in
     let whole = c.args.self.now.work.ok.0 in
@@ -38,20 +32,19 @@ returns-clause-sum c =
     let e-mu : to_z w64 (of_z w64 c.args.mu) ≡ c.args.mu = to_z-of_z w64 _ c.ranges.mu in
     let e-cap : to_z w64 (of_z w64 c.args.cap) ≡ c.args.cap = to_z-of_z w64 _ c.ranges.cap in
     let e-up : to_z w64 (of_z w64 c.args.up) ≡ c.args.up = to_z-of_z w64 _ c.ranges.up in
-    rw (written k2 work c.args.self.now.work.len long) (front_sum work c.deref_mut.result.now used fits c.deref_mut.ensures.value c.requires.breaks k2 c.kink_step.result most (reserve_term c.args.mu c.args.cap c.args.up) (rw (e-mu, e-cap, e-up) at c.kink_step.ensures.stand) c.kink_step.ensures.ends)
+    rw (written k2 c.args.self.now.work.items c.args.self.now.work.len long)
+    (sum c.knots_decide.ensures.same c.args.self.now.work.items c.deref_mut.result.now c.args.used fits c.deref_mut.ensures.value c.requires.breaks
+    k2 c.kink_step.result most c.kink_step.ensures.breaks c.effects_are_of_values.ensures.sum (reserve_term c.args.mu c.args.cap c.args.up) (rw (e-mu, e-cap, e-up) at c.kink_step.ensures.sum))
 
 pub returns-clause-breaks : goal.returns-clause-breaks
 returns-clause-breaks c =
-    let work = c.args.self.now.work.items in
-    let used = c.args.used in
     let room = c.requires.room in
-    let fits : used ≤ length work = omega (arith, room) in
+    let fits : c.args.used ≤ length c.args.self.now.work.items = omega (arith, room) in
     let k2 = c.kink_step.new.knots in
     let long : length k2 ≡ c.args.self.now.work.len = c.kink_step.auto.knots ∙ c.deref_mut.ensures.len in
     let whole = c.args.self.now.work.ok.0 in
     let charge = c.kink_step.ensures.charge in
     let most : c.kink_step.result ≤ length k2 = omega (arith, room, long, whole, charge) in
-    let e-mu : to_z w64 (of_z w64 c.args.mu) ≡ c.args.mu = to_z-of_z w64 _ c.ranges.mu in
-    let e-cap : to_z w64 (of_z w64 c.args.cap) ≡ c.args.cap = to_z-of_z w64 _ c.ranges.cap in
-    let e-up : to_z w64 (of_z w64 c.args.up) ≡ c.args.up = to_z-of_z w64 _ c.ranges.up in
-    rw (written k2 work c.args.self.now.work.len long) (front_sum_breaks work c.deref_mut.result.now used fits c.deref_mut.ensures.value c.requires.breaks k2 c.kink_step.result most (reserve_term c.args.mu c.args.cap c.args.up) (rw (e-mu, e-cap, e-up) at c.kink_step.ensures.stand) c.kink_step.ensures.ends c.requires.fits)
+    rw (written k2 c.args.self.now.work.items c.args.self.now.work.len long)
+    (left_list c.knots_decide.ensures.same c.args.self.now.work.items c.deref_mut.result.now c.args.used fits c.deref_mut.ensures.value c.requires.breaks
+    k2 c.kink_step.result most c.kink_step.ensures.breaks)

@@ -1,13 +1,12 @@
-use Rattle.std.proofs.Common.{rules, ◌≡◌, ◌<◌, ◌+◌, ◌-◌, List, [], ◌∷◌, sym, ap, ◌∙◌, subst, arith, to_z, of_z}
-use Rattle.std.specs.Prelude.{◌≤ℤ◌, ◌<ℤ◌, FitsSigned}
+use Rattle.std.proofs.Common.{rules, ◌≡◌, ◌<◌, ◌+◌, ◌-◌, sym, ap, ◌∙◌, subst, arith, to_z, of_z}
+use Rattle.std.specs.Prelude.{◌≤ℤ◌, FitsSigned}
 use Rattle.std.specs.Int.{w64}
 use Rattle.std.proofs.lemmas.Int.{ints, to_z-of_z}
 use Rattle.std.proofs.lemmas.List.{get_or_read}
 use Rattle.ramp_step.specs.declared.breakpoint.Knot.{Knot}
-use Rattle.ramp_step.specs.Knots.{knot, place, IsShape}
-use Rattle.ramp_step.proofs.LimitLaws.{IsLimited-within}
-use Rattle.point_pool.specs.Walk.{no_slot, slot_at, walk, knots_at}
-use Rattle.point_pool.proofs.ReadLaws.{IsCellAt, IsCellAt-first, next_read, AreNeighbours, neighbours_read, length-knots, IsShape-breaks, AreWithinLimits-breaks, StandFor-pair, AreWithinLimits-pair, value_by_pair, StandFor-last, AreWithinLimits-last, value_by_last, value_of-breaks}
+use Rattle.ramp_step.specs.Knots.{knot, place}
+use Rattle.point_pool.specs.Walk.{no_slot, walk, knots_at}
+use Rattle.point_pool.proofs.ReadLaws.{IsCellAt, IsCellAt-first, next_read, AreNeighbours, neighbours_read, length-knots, IsRun-pair, IsRun-last}
 use Rattle.point_pool.proofs.pool.Pool.value_in.Goals as goal
 use Rattle.point_pool.proofs.pool.Pool.value_in.Goals.{After-index-slot, After-index-next, After-index}
 
@@ -51,25 +50,13 @@ index-next-requires c =
 pub loop-done-init : goal.loop-done-init
 loop-done-init c = record { here = IsCellAt-first c.args.self.now.slots.items c.args.head c.args.count c.requires.used c.requires.some; passed = λ h. absurd (omega arith) }
 
-pub value_at-requires-clause-stand : goal.value_at-requires-clause-stand
-value_at-requires-clause-stand c =
+pub value_at-requires-clause-breaks : goal.value_at-requires-clause-breaks
+value_at-requires-clause-breaks c =
     let slots = c.args.self.now.slots.items in
     let n = c.args.count in
     let ks = knots_at slots (walk slots c.args.head n) in
-    let shape = IsShape-breaks ks n (length-knots slots c.args.head n) c.requires.breaks in
-    let t = two (goal.at.value_at-requires-clause-stand c).After-index-next in
-    (shape.0, StandFor-pair ks n shape.0 shape.1 (c.loop-done.done - 1) t.bound (c.index-slot.result.now.knot ∷ c.index-next.result.now.knot ∷ []) t.first t.second)
-
-pub value_at-requires-clause-limits : goal.value_at-requires-clause-limits
-value_at-requires-clause-limits c =
-    let slots = c.args.self.now.slots.items in
-    let n = c.args.count in
-    let ks = knots_at slots (walk slots c.args.head n) in
-    let len = length-knots slots c.args.head n in
-    let shape = IsShape-breaks ks n len c.requires.breaks in
-    let t = two (goal.at.value_at-requires-clause-limits c).After-index-next in
-    let pair : List Knot = c.index-slot.result.now.knot ∷ c.index-next.result.now.knot ∷ [] in
-    IsLimited-within pair 2 (AreWithinLimits-pair ks n shape.0 shape.1 (c.loop-done.done - 1) t.bound pair t.first t.second (AreWithinLimits-breaks ks n len c.requires.breaks))
+    let run = IsRun-pair ks n (c.loop-done.done - 1) _ _ (length-knots slots c.args.head n) (two (goal.at.value_at-requires-clause-breaks c).After-index-next) in
+    (c.knots_decide.ensures.runs ks _ _ _ 2 run c.requires.breaks).0
 
 pub returns-then-x-next : goal.returns-then-x-next
 returns-then-x-next c =
@@ -77,20 +64,15 @@ returns-then-x-next c =
     let n = c.args.count in
     let k = c.loop-done.done - 1 in
     let ks = knots_at slots (walk slots c.args.head n) in
-    let len = length-knots slots c.args.head n in
-    let shape = IsShape-breaks ks n len c.requires.breaks in
     let t = two (goal.at.returns-then-x-next c).After-index-next in
-    let pair : List Knot = c.index-slot.result.now.knot ∷ c.index-next.result.now.knot ∷ [] in
     let e-x : to_z w64 (of_z w64 c.args.x) ≡ c.args.x = to_z-of_z w64 _ c.ranges.x in
-    let passed : 0 < k → place ks k <ℤ c.args.x = λ h. let p = c.loop-done.invariant.passed (omega arith) in omega (arith, ints) in
+    let passed : 0 < k → place ks k ≤ℤ c.args.x = λ h. let p = c.loop-done.invariant.passed (omega arith) in omega (arith, ints) in
     let fits : FitsSigned w64 c.index-next.result.now.knot.at = search rules in
     let e-at : to_z w64 (of_z w64 c.index-next.result.now.knot.at) ≡ c.index-next.result.now.knot.at = to_z-of_z w64 _ fits in
-    let b : c.index-next.result.now.knot.at ≡ place ks (k + 1) = ap (λ (q : Knot). q.at) t.second in
     let test = c.if-x-next.true in
-    let upto : c.args.x ≤ℤ place ks (k + 1) = omega (arith, ints) in
-    let value = c.value_at.ensures shape.0 (StandFor-pair ks n shape.0 shape.1 k t.bound pair t.first t.second) in
-    value_of-breaks ks n c.args.x c.value_at.result len shape
-    (value_by_pair ks n shape.0 shape.1 k t.bound pair t.first t.second c.args.x c.value_at.result passed upto (rw e-x at value))
+    let upto : c.args.x ≤ℤ c.index-next.result.now.knot.at = omega (arith, ints) in
+    let run = IsRun-pair ks n k _ _ (length-knots slots c.args.head n) t in
+    (rw e-x at c.value_at.ensures) ∙ (c.knots_decide.ensures.runs ks _ _ k 2 run c.requires.breaks).1 c.args.x passed (λ h. upto)
 
 pub loop-done-preserved : goal.loop-done-preserved
 loop-done-preserved c =
@@ -113,25 +95,14 @@ loop-done-preserved c =
 pub index-requires : goal.index-requires
 index-requires c = let inside = c.loop-done.invariant.here.inside in omega (arith, inside, c.args.self.now.slots.ok.0)
 
-pub value_at-requires-2-clause-stand : goal.value_at-requires-2-clause-stand
-value_at-requires-2-clause-stand c =
+pub value_at-requires-2-clause-breaks : goal.value_at-requires-2-clause-breaks
+value_at-requires-2-clause-breaks c =
     let slots = c.args.self.now.slots.items in
     let n = c.args.count in
-    let at = (goal.at.value_at-requires-2-clause-stand c).After-index in
     let ks = knots_at slots (walk slots c.args.head n) in
-    let shape = IsShape-breaks ks n (length-knots slots c.args.head n) c.requires.breaks in
-    (shape.0, StandFor-last ks n shape.0 shape.1 (c.loop-done.done - 1) (is_last at) (c.index.result.now.knot ∷ []) (last at))
-
-pub value_at-requires-2-clause-limits : goal.value_at-requires-2-clause-limits
-value_at-requires-2-clause-limits c =
-    let slots = c.args.self.now.slots.items in
-    let n = c.args.count in
-    let at = (goal.at.value_at-requires-2-clause-limits c).After-index in
-    let ks = knots_at slots (walk slots c.args.head n) in
-    let len = length-knots slots c.args.head n in
-    let shape = IsShape-breaks ks n len c.requires.breaks in
-    let one : List Knot = c.index.result.now.knot ∷ [] in
-    IsLimited-within one 1 (AreWithinLimits-last ks n shape.0 shape.1 (c.loop-done.done - 1) (is_last at) one (last at) (AreWithinLimits-breaks ks n len c.requires.breaks))
+    let at = (goal.at.value_at-requires-2-clause-breaks c).After-index in
+    let run = IsRun-last ks n (c.loop-done.done - 1) _ (length-knots slots c.args.head n) (is_last at) (last at) in
+    (c.knots_decide.ensures.runs ks _ _ _ 1 run c.requires.breaks).0
 
 pub returns : goal.returns
 returns c =
@@ -141,10 +112,8 @@ returns c =
     let at = (goal.at.returns c).After-index in
     let ks = knots_at slots (walk slots c.args.head n) in
     let len = length-knots slots c.args.head n in
-    let shape = IsShape-breaks ks n len c.requires.breaks in
-    let one : List Knot = c.index.result.now.knot ∷ [] in
     let e-x : to_z w64 (of_z w64 c.args.x) ≡ c.args.x = to_z-of_z w64 _ c.ranges.x in
-    let passed : 0 < k → place ks k <ℤ c.args.x = λ h. let p = c.loop-done.invariant.passed (omega arith) in omega (arith, ints) in
-    let value = c.value_at-2.ensures shape.0 (StandFor-last ks n shape.0 shape.1 k (is_last at) one (last at)) in
-    value_of-breaks ks n c.args.x c.value_at-2.result len shape
-    (value_by_last ks n shape.0 shape.1 k (is_last at) one (last at) c.args.x c.value_at-2.result passed (rw e-x at value))
+    let passed : 0 < k → place ks k ≤ℤ c.args.x = λ h. let p = c.loop-done.invariant.passed (omega arith) in omega (arith, ints) in
+    let run = IsRun-last ks n k _ len (is_last at) (last at) in
+    let end = is_last at in
+    (rw e-x at c.value_at-2.ensures) ∙ (c.knots_decide.ensures.runs ks _ _ k 1 run c.requires.breaks).1 c.args.x passed (λ h. absurd (omega (arith, end, len)))

@@ -4,7 +4,7 @@ use Rattle.std.proofs.lemmas.Int.{to_z-of_z}
 use Rattle.shape_law.specs.Curve.{curve_value}
 use Rattle.shape_law.specs.Effect.{CanAddCurve}
 use Rattle.ramp_step.specs.declared.breakpoint.Knot.{Knot}
-use Rattle.point_pool.specs.Breaks.{function_of}
+use Rattle.ramp_step.specs.Tables.{function_of}
 use Rattle.point_pool.proofs.FrameLaws.{Frame-changes}
 use Rattle.point_pool.proofs.pooled.PooledShape.add_curve.Goals as goal
 

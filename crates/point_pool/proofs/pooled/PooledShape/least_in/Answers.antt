@@ -4,7 +4,7 @@ use Rattle.std.specs.Int.{w64, int_min, int_max}
 use Rattle.std.proofs.lemmas.Int.{ints, to_z-of_z}
 use Rattle.shape_law.specs.Table.{value_of}
 use Rattle.point_pool.specs.Seen.{knots_of, shown}
-use Rattle.point_pool.proofs.ReadLaws.{length-knots, IsLeastIn-turn, HasNone-turn}
+use Rattle.point_pool.proofs.ReadLaws.{length-knots, nearest}
 use Rattle.point_pool.proofs.pooled.PooledShape.least_in.Goals as goal
 
 pub returns-in-Some : goal.returns-in-Some
@@ -26,7 +26,7 @@ returns-in-Some c =
     let e-value : to_z w64 (of_z w64 c.in-Some.value) ≡ c.in-Some.value = to_z-of_z w64 _ fits-value in
     let test = c.if-hi-lo.false in
     let there : Some c.in-Some.value ≡ value_of (shown home s) (int_max lo (int_min hi q.at)) = rw at at c.in-Some.ensures in
-    rw (at, e-value) (IsLeastIn-turn (knots_of home s) s.count len c.requires.breaks q c.lowest-lowest.ensures lo hi c.in-Some.value (omega (arith, ints)) there)
+    rw (at, e-value) (nearest (knots_of home s) s.count len c.requires.breaks q c.lowest-lowest.ensures c.turn_is_least.ensures.nearest lo hi (omega (arith, ints)) (Some c.in-Some.value) there)
 
 pub returns-in-None : goal.returns-in-None
 returns-in-None c =
@@ -44,4 +44,5 @@ returns-in-None c =
     to_z-of_z w64 _ (record { sfits = c.max-at.type_inv }) ∙ rw (e-lo, e-min) at c.max-at.ensures.value in
     let len = length-knots home.slots.items s.head s.count in
     let there : None ≡ value_of (shown home s) (int_max lo (int_min hi q.at)) = rw at at c.in-None.ensures in
-    HasNone-turn (knots_of home s) s.count len c.requires.breaks q c.lowest-lowest.ensures lo hi there
+    let test = c.if-hi-lo.false in
+    nearest (knots_of home s) s.count len c.requires.breaks q c.lowest-lowest.ensures c.turn_is_least.ensures.nearest lo hi (omega (arith, ints)) None there

@@ -3,11 +3,9 @@ use Rattle.std.specs.Int.{w64}
 use Rattle.std.proofs.lemmas.Int.{to_z-of_z}
 use Rattle.shape_law.specs.Effect.{IsPoint}
 use Rattle.ramp_step.specs.declared.breakpoint.Knot.{Knot}
-use Rattle.ramp_step.proofs.ShapeLaws.{IsPoint-from_knots}
-use Rattle.point_pool.specs.Breaks.{AreBreaks, function_of}
+use Rattle.ramp_step.specs.Tables.{function_of, IsBreakList}
 use Rattle.point_pool.specs.Walk.{Stored}
 use Rattle.point_pool.proofs.FrameLaws.{Frame-changes}
-use Rattle.point_pool.proofs.ListLaws.{AreBreaks-one}
 use Rattle.point_pool.proofs.WalkLaws.{changes_stored, stored_none, stored_more}
 use Rattle.point_pool.proofs.pooled.PooledShape.point.Goals as goal
 use Rattle.point_pool.proofs.pooled.PooledShape.point.Goals.{After-take-head}
@@ -25,14 +23,14 @@ stored c =
 pub returns-clause-ok : goal.returns-clause-ok
 returns-clause-ok c =
     let s = stored (goal.at.returns-clause-ok c).After-take-head in
-    subst (λ (ks : List Knot). IsPoint c.args.at c.args.value (function_of ks)) (sym s.holds) (IsPoint-from_knots (record { at = c.args.at; value = c.args.value } ∷ []))
+    subst (λ (ks : List Knot). IsPoint c.args.at c.args.value (function_of ks)) (sym s.holds) (c.knots_decide.ensures.point (record { at = c.args.at; value = c.args.value } ∷ []) c.requires.place c.requires.amount).1
 
 pub returns-clause-here : goal.returns-clause-here
 returns-clause-here c =
     let s = stored (goal.at.returns-clause-here c).After-take-head in
     record {
       used = s.used;
-      breaks = subst AreBreaks (sym s.holds) (AreBreaks-one (record { at = c.args.at; value = c.args.value }) c.requires.place c.requires.amount);
+      breaks = subst IsBreakList (sym s.holds) (c.knots_decide.ensures.point (record { at = c.args.at; value = c.args.value } ∷ []) c.requires.place c.requires.amount).0;
     }
 
 pub returns-clause-frame : goal.returns-clause-frame

@@ -1,8 +1,12 @@
-use super::*;
-use crate::fault::{ShapeCode, ShapeFault};
+//! Schedule files of a case: what is read, and the first fault of a file.
+
+use std::alloc::Global;
 use std::test::Fail;
 use uc_case::fault::Kind;
 use uc_case::read_case;
+use uc_model::cases::Case;
+use uc_plan::fault::{PlanFault, ShapeCode, ShapeFault};
+use uc_plan::read_plan;
 
 fn fault(code: ShapeCode, kind: Kind, unit: u32, item: u32) -> PlanFault {
     PlanFault::Shape(ShapeFault {

@@ -1,6 +1,9 @@
-use super::*;
-use crate::fault::{CaseCode, Field, FieldFault, Kind};
+//! Case files: what is read, and the first fault of a file.
+
+use std::alloc::Global;
 use std::test::Fail;
+use uc_case::fault::{CaseCode, CaseFault, Field, FieldFault, Kind};
+use uc_case::read_case;
 use uc_text::{TextCode, TextFault};
 
 fn fault(code: CaseCode, field: Field, kind: Kind, unit: u32, item: u32) -> CaseFault {
