@@ -1,0 +1,58 @@
+//! Numbers are dealt to jobs.
+ghost use Rattle.std.specs.Prelude.{◌≡◌, ◌<◌, ◌≤◌, length, All, OnOk, OnErr};
+ghost use Rattle.task_deal.specs.Jobs.{IsDealt};
+
+use crate::apart::{put_together, take_apart};
+use crate::drain::{check_all, drain_all};
+use crate::job::Job;
+use crate::member::work_all;
+use crate::open::{fill_all, open};
+use crate::pour::pour;
+use crate::settle::settle;
+use std::alloc::{AllocError, Global};
+use std::sync::Wait;
+use std::thread::Threads;
+
+/// Deals the numbers below `tasks` to the jobs, each of which runs its share in a thread of its
+/// own, where one can be made. Each job keeps its place and what it works on. What the jobs add to
+/// the numbers that they have run is, all together, each number below `tasks` once, and no other;
+/// which job runs which isn't said.
+///
+/// Waits for the threads. There are 1 to 32 jobs and at most 12,288 numbers, and each job has room
+/// for all of them.
+///
+/// # Errors
+///
+/// `AllocError` for want of memory, before any job has run: all jobs are unchanged.
+pub fn deal_all<J: Job + Send + Drop, R: Threads + Wait + Sync>(
+    rt: &R,
+    alloc: Global,
+    tasks: u32,
+    jobs: &mut Vec<J>,
+) -> Result<(), AllocError>
+    requires jobs { (0 < length jobs.old.items) × (length jobs.old.items ≤ 32) }
+    requires tasks { tasks ≤ 12288 }
+    requires spare { All (λ job. tasks ≤ J.spare job) jobs.old.items }
+    ensures dealt { OnOk result (IsDealt J.work J.runs J.spare tasks jobs.old.items jobs.new.items) }
+    ensures refused { OnErr result (jobs.new.items ≡ jobs.old.items) }
+{
+    let count = jobs.len();
+    let (source, mut owner) = pour(rt, alloc, tasks)?;
+    let (mut owns, thieves) = open(alloc, count)?;
+    let mut purses = fill_all(alloc, &thieves, &mut owns, count)?;
+    let mut members = Vec::with_capacity(alloc, count)?;
+    put_together(
+        &source,
+        &mut owner,
+        jobs,
+        &mut owns,
+        &mut purses,
+        &mut members,
+    );
+    work_all(rt, &source, &thieves, tasks, &mut members);
+    take_apart(&source, &mut owner, members, jobs, &mut owns, &mut purses);
+    settle(&thieves, &mut owns, purses);
+    check_all(&thieves, &mut owns);
+    drain_all(rt, &source, &thieves, tasks, &mut owner, &mut owns, jobs);
+    Ok(())
+}
