@@ -73,8 +73,8 @@ fn one_job_runs_each_number_once(rt: HostRuntime) -> Result<(), AllocError> {
 // How often a job looks for the other.
 const MOST_LOOKS: u32 = 100_000_000;
 
-/// Keeps the numbers that it ran. At its first it looks until the other job has begun one, and notes whether it looked in
-/// vain.
+/// Keeps the numbers that it ran. At its first it looks until the other job has begun one, and
+/// notes whether it looked in vain.
 #[derive(Drop)]
 struct Watcher<'a> {
     numbers: ReservedList<u32>,
@@ -111,6 +111,22 @@ fn is_set_in_time(flag: &AtomicBool) -> bool {
     false
 }
 
+fn new_watcher<'a>(
+    alloc: Global,
+    begun: &'a AtomicBool,
+    other_begun: &'a AtomicBool,
+) -> Result<Watcher<'a>, AllocError>
+    ensures { IfOk result (λ job. 2 ≤ job.numbers.spare) }
+{
+    let numbers = ReservedList::make(alloc, 2)?;
+    Ok(Watcher {
+        numbers,
+        begun,
+        other_begun,
+        in_vain: false,
+    })
+}
+
 fn watchers<'a>(
     alloc: Global,
     one: &'a AtomicBool,
@@ -119,16 +135,11 @@ fn watchers<'a>(
     ensures count { IfOk result (λ jobs. length jobs.items ≡ 2) }
     ensures room { IfOk result (λ jobs. All (λ job. 2 ≤ job.numbers.spare) jobs.items) }
 {
+    let first = new_watcher(alloc, one, two)?;
+    let second = new_watcher(alloc, two, one)?;
     let mut jobs = Vec::new(alloc);
-    for (begun, other_begun) in [(one, two), (two, one)] {
-        let numbers = ReservedList::make(alloc, 2)?;
-        jobs.push(Watcher {
-            numbers,
-            begun,
-            other_begun,
-            in_vain: false,
-        })?;
-    }
+    jobs.push(first)?;
+    jobs.push(second)?;
     Ok(jobs)
 }
 
