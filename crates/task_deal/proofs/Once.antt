@@ -8,7 +8,7 @@ use Rattle.std.proofs.lemmas.List.Sorted.{Contains-permutation, IsPermutation-sy
 use Rattle.std.proofs.lemmas.List.Sums.{sum_by-cons}
 use Rattle.uc_model.specs.Sums.{total, sum_below}
 use Rattle.uc_model.proofs.ListLaws.{map-append, total-append}
-use Rattle.task_deal.specs.Jobs.{below, added, all_added, HasRun}
+use Rattle.task_deal.specs.Jobs.{below, added, all_added, HasRun, IsDealt}
 use Rattle.task_deal.specs.Laws.{SumsAreDealt, NumbersAreDealt}
 use Rattle.task_deal.specs.Ledger.{run_sum}
 use Rattle.task_deal.specs.Rule.{sum_of}
@@ -59,6 +59,16 @@ total_concat f (xs ∷ lists) = omega (arith, ints, total_concat f lists, ap tot
 
 pub sums_are_dealt : SumsAreDealt
 sums_are_dealt tasks numbers f order = sym (total_concat f numbers) ∙ (same_total f (below tasks) (concat numbers) order ∙ total_below tasks f)
+
+module _ {J W : Type 0} (work : J → W) (runs : J → List ℕ) (spare : J → ℕ) (value : J → ℤ) (f : ℕ → ℤ) where
+  values_grow : (before after : List J) → AllZip (λ i j. value j ≡ value i +ℤ total (map f (added runs i j))) before after → total (map value after) ≡ total (map value before) +ℤ total (map (λ one. total (map f one)) (all_added runs before after))
+  values_grow [] [] zip = refl
+  values_grow [] (j ∷ js) zip = absurd zip
+  values_grow (i ∷ is) [] zip = absurd zip
+  values_grow (i ∷ is) (j ∷ js) zip = omega (arith, ints, zip.0, values_grow is js zip.1)
+
+  pub values_dealt : (tasks : ℕ) (before after : List J) → IsDealt work runs spare tasks before after → AllZip (λ i j. value j ≡ value i +ℤ total (map f (added runs i j))) before after → total (map value after) ≡ total (map value before) +ℤ sum_below tasks f
+  values_dealt tasks before after dealt zip = values_grow before after zip ∙ ap (λ s. total (map value before) +ℤ s) (sums_are_dealt tasks (all_added runs before after) f dealt.once)
 
 below_has : (tasks n : ℕ) → n < tasks → Contains (below tasks) n
 below_has zero n less = absurd (omega (arith, less))

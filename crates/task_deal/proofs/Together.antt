@@ -7,10 +7,9 @@ use Rattle.std.specs.declared.vec.Vec.{Vec}
 use Rattle.std.proofs.Math.Seq.{take-length}
 use Rattle.std.proofs.Math.ListN.{drop_of_length-le}
 use Rattle.std.proofs.lemmas.List.Elements.{length_all_zip}
-use Rattle.crossbeam_deque.specs.declared.injector.Injector.{Injector}
 use Rattle.crossbeam_deque.specs.Handles.{worker_view, worker_deque, worker_flavor, worker_port}
 use Rattle.task_deal.specs.declared.rule.Account.{Account}
-use Rattle.task_deal.specs.declared.rule.Rule.{Rule}
+use Rattle.task_deal.specs.declared.rule.Shared.{Shared}
 use Rattle.task_deal.specs.declared.member.Member.{Member}
 use Rattle.task_deal.specs.Apart.{backwards, HasPart, source_taken}
 use Rattle.task_deal.specs.Jobs.{below, HasRun}
@@ -60,25 +59,25 @@ made_of l ms jobs owns purses e j o p = record {
 abbrev pub purse_taken : (ℕ → ℕ) → Purse → ℕ
 purse_taken h p = taken_by h p.items
 
-module _ {J W : Type 0} (from : Injector ℕ Global Account Rule) (thieves : List Thief) (work : J → W) (runs : J → List ℕ) (spare : J → ℕ) where
+module _ {J W : Type 0} (shared : Shared) (work : J → W) (runs : J → List ℕ) (spare : J → ℕ) where
   -- each member may begin
-  pub ready : (tasks k n : ℕ) (ms : List (Member J)) (jobs : List J) (owns : List Deque) (purses : List Purse) → AreOf ms jobs owns purses → All (λ m. HasPart from m.seat) ms → All (λ j. tasks ≤ spare j) jobs → length owns ≡ n → Each (Stands thieves k) 0 n owns → All (λ p. AreParts thieves p.items) purses
-      → All (λ m. IsSeatOf from thieves m.seat × (tasks ≤ spare m.job)) ms
+  pub ready : (tasks k n : ℕ) (ms : List (Member J)) (jobs : List J) (owns : List Deque) (purses : List Purse) → AreOf ms jobs owns purses → All (λ m. HasPart shared.source m.seat) ms → All (λ j. tasks ≤ spare j) jobs → length owns ≡ n → Each (Stands shared.thieves.items k) 0 n owns → All (λ p. AreParts shared.thieves.items p.items) purses
+      → All (λ m. IsSeatOf shared m.seat × (tasks ≤ spare m.job)) ms
   ready tasks k n ms jobs owns purses are parts room count stand passes =
       let room' = all_of_back (λ j. tasks ≤ spare j) (λ m. m.job) ms (subst (All (λ j. tasks ≤ spare j)) (sym are.jobs_are) room) in
       let owner : Deque → Type 0 = λ w. (worker_flavor w ≡ 0) × (worker_port w ≡ 0) in
-      let own = all_of_back owner (λ m. m.seat.own) ms (subst (All owner) (sym are.owns_are) (owner_of thieves k n owns count stand)) in
-      let purse = all_of_back (λ p. AreParts thieves p.items) (λ m. m.seat.purse) ms (subst (All (λ p. AreParts thieves p.items)) (sym are.purses_are) passes) in
+      let own = all_of_back owner (λ m. m.seat.own) ms (subst (All owner) (sym are.owns_are) (owner_of shared.thieves.items k n owns count stand)) in
+      let purse = all_of_back (λ p. AreParts shared.thieves.items p.items) (λ m. m.seat.purse) ms (subst (All (λ p. AreParts shared.thieves.items p.items)) (sym are.purses_are) passes) in
       λ i d le. (record { source = (parts i d le).0; part = (parts i d le).1; flavor = (own i d le).0; port = (own i d le).1; purse = purse i d le }, room' i d le)
 
   abbrev pub Worked : Member J → Member J → Type 0
-  Worked s t = HasWorked from thieves work runs spare s t
+  Worked s t = HasWorked shared work runs spare s t
 
   pub worked : (seen ss ts : List (Member J)) → seen ≡ ss → length ts ≡ length seen → ((i : ℕ) (d : Member J) → i < length seen → Worked (slice_index_or seen i d) (slice_index_or ts i d)) → AllZip Worked ss ts
   worked seen ss ts e count at = subst (λ l. AllZip Worked l ts) e (zip_at Worked seen ts count at)
 
-  pub parts_left : (ss ts : List (Member J)) → AllZip Worked ss ts → All (λ m. HasPart from m.seat) ts
-  parts_left ss ts zip = zip_second Worked (λ m. HasPart from m.seat) (λ s t a. (a.seat.source, a.seat.part)) ss ts zip
+  pub parts_left : (ss ts : List (Member J)) → AllZip Worked ss ts → All (λ m. HasPart shared.source m.seat) ts
+  parts_left ss ts zip = zip_second Worked (λ m. HasPart shared.source m.seat) (λ s t a. (a.seat.source, a.seat.part)) ss ts zip
 
   -- a deque stays where it is, with as many parts out
   record GoesOn (v w : Deque) : Type 0 where
@@ -98,14 +97,14 @@ module _ {J W : Type 0} (from : Injector ℕ Global Account Rule) (thieves : Lis
     pub jobs_ran : AllZip (HasRun work runs spare) jobs jobs'
     jobs_ran = subst (AllZip (HasRun work runs spare) jobs) b.jobs_are (subst (λ l. AllZip (HasRun work runs spare) l (backwards (λ m. m.job) ts)) a.jobs_are (zip_back Worked (HasRun work runs spare) (λ m. m.job) (λ s t w. w.job) ss ts zip))
 
-    pub owns_stand : (k n : ℕ) → length owns ≡ n → Each (Stands thieves k) 0 n owns → Each (Stands thieves k) 0 n owns'
+    pub owns_stand : (k n : ℕ) → length owns ≡ n → Each (Stands shared.thieves.items k) 0 n owns → Each (Stands shared.thieves.items k) 0 n owns'
     owns_stand k n count all =
         let goes = zip_back Worked GoesOn (λ m. m.seat.own) (λ s t w. record { flavor = w.seat.flavor; port = w.seat.port; deque = w.same.deque; parts = w.same.parts }) ss ts zip in
         let goes' : AllZip GoesOn owns owns' = subst (AllZip GoesOn owns) b.owns_are (subst (λ l. AllZip GoesOn l (backwards (λ m. m.seat.own) ts)) a.owns_are goes) in
-        λ i d lo hi. zip_each GoesOn (Stands thieves k) (λ i v w on is. record { flavor = on.flavor; port = on.port; deque = λ e. on.deque ∙ is.deque e; parts = on.parts ∙ is.parts }) owns owns' goes' (λ j e l r. all j e l (omega (arith, r, count))) i d lo (omega (arith, hi, count))
+        λ i d lo hi. zip_each GoesOn (Stands shared.thieves.items k) (λ i v w on is. record { flavor = on.flavor; port = on.port; deque = λ e. on.deque ∙ is.deque e; parts = on.parts ∙ is.parts }) owns owns' goes' (λ j e l r. all j e l (omega (arith, r, count))) i d lo (omega (arith, hi, count))
 
-    pub purses_left : All (λ p. AreParts thieves p.items) purses'
-    purses_left = subst (All (λ p. AreParts thieves p.items)) b.purses_are (back_of_all (λ p. AreParts thieves p.items) (λ m. m.seat.purse) ts (zip_second Worked (λ m. AreParts thieves m.seat.purse.items) (λ s t w. w.seat.purse) ss ts zip))
+    pub purses_left : All (λ p. AreParts shared.thieves.items p.items) purses'
+    purses_left = subst (All (λ p. AreParts shared.thieves.items p.items)) b.purses_are (back_of_all (λ p. AreParts shared.thieves.items p.items) (λ m. m.seat.purse) ts (zip_second Worked (λ m. AreParts shared.thieves.items m.seat.purse.items) (λ s t w. w.seat.purse) ss ts zip))
 
     -- what all jobs ran is what all members took and didn't put
     pub all_balance : (h : ℕ → ℕ) → sum_of (source_taken h) ss ≡ 0 → sum_of (own_taken h) owns ≡ 0 → sum_of (own_put h) owns ≡ 0 → sum_of (purse_taken h) purses ≡ 0
@@ -135,8 +134,8 @@ module _ {J W : Type 0} (from : Injector ℕ Global Account Rule) (thieves : Lis
 
     -- after the purses went back and each deque was looked at
     pub ledger_begins : (tasks : ℕ) (settled checked : List Deque) (v : Account) → v.parts ≡ 0 → v.put ≡ below tasks → ((h : ℕ → ℕ) → sum_of h v.taken ≡ sum_of (source_taken h) ts) → ((h : ℕ → ℕ) → sum_of (source_taken h) ss ≡ 0) → ((h : ℕ → ℕ) → (sum_of (own_taken h) owns ≡ 0) × (sum_of (own_put h) owns ≡ 0)) → ((h : ℕ → ℕ) → sum_of (purse_taken h) purses ≡ 0)
-        → HaveTaken (λ h. sum_of (purse_taken h) purses') owns' settled → HaveTaken (λ h. 0) settled checked → Each (Stands thieves 0) 0 (length checked) checked → All (λ w. Fits (worker_view w)) checked → All (λ j. tasks ≤ spare j) jobs
-        → Ledger work runs spare thieves tasks jobs jobs' v checked
+        → HaveTaken (λ h. sum_of (purse_taken h) purses') owns' settled → HaveTaken (λ h. 0) settled checked → Each (Stands shared.thieves.items 0) 0 (length checked) checked → All (λ w. Fits (worker_view w)) checked → All (λ j. tasks ≤ spare j) jobs
+        → Ledger work runs spare shared.thieves.items tasks jobs jobs' v checked
     ledger_begins tasks settled checked v none put source before fresh idle back looked stands fits room = record {
       stands = stands;
       fits = fits;

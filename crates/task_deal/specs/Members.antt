@@ -1,9 +1,6 @@
 -- What a worker has done.
 use Rattle.std.specs.Prelude.{◌≡◌, ℕ, ◌+◌, List}
-use Rattle.crossbeam_deque.specs.declared.injector.Injector.{Injector}
-use Rattle.crossbeam_deque.specs.declared.handles.Stealer.{Stealer}
-use Rattle.std.specs.declared.alloc.Global.{Global}
-use Rattle.task_deal.specs.declared.rule.Account.{Account}
+use Rattle.task_deal.specs.declared.rule.Shared.{Shared}
 use Rattle.task_deal.specs.declared.member.Member.{Member}
 use Rattle.task_deal.specs.Jobs.{HasRun}
 use Rattle.task_deal.specs.Rule.{sum_of}
@@ -17,10 +14,9 @@ Balances runs s t =
     ≡ sum_of h (runs s.job) + (gained h t.seat + passed_on h s.seat)
 
 -- it stayed at its queues, its job ran more, and its accounts balance
-pub record HasWorked {J W P Q : Type 0} (from : Injector ℕ Global Account P)
-    (thieves : List (Stealer ℕ Global Account Q)) (work : J → W) (runs : J → List ℕ)
+pub record HasWorked {J W : Type 0} (shared : Shared) (work : J → W) (runs : J → List ℕ)
     (spare : J → ℕ) (s t : Member J) : Type 0 where
-  pub seat : IsSeatOf from thieves t.seat
+  pub seat : IsSeatOf shared t.seat
   pub same : SameDeque s.seat t.seat
   pub job : HasRun work runs spare s.job t.job
   pub balance : Balances runs s t

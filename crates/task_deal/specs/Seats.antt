@@ -5,11 +5,11 @@ use Rattle.crossbeam_deque.specs.declared.steal.Steal.{Steal}
 use Rattle.crossbeam_deque.specs.Handles.{view, Pass, IsPassOf, worker_deque, stealer_deque}
 use Rattle.crossbeam_deque.specs.Handles.{worker_flavor, worker_port, worker_view}
 use Rattle.crossbeam_deque.specs.Injected.{injector_view, IsInjectorPassOf}
-use Rattle.crossbeam_deque.specs.declared.injector.Injector.{Injector}
 use Rattle.crossbeam_deque.specs.declared.handles.Stealer.{Stealer}
 use Rattle.crossbeam_deque.specs.declared.handles.Worker.{Worker}
 use Rattle.std.specs.declared.alloc.Global.{Global}
 use Rattle.task_deal.specs.declared.rule.Account.{Account}
+use Rattle.task_deal.specs.declared.rule.Shared.{Shared}
 use Rattle.task_deal.specs.declared.seat.Seat.{Seat}
 use Rattle.task_deal.specs.Rule.{sum_of}
 
@@ -57,13 +57,12 @@ AreParts {A} {P} thieves purse =
     IsPart (slice_index_or thieves j d) (slice_index_or purse j e))
 
 -- it may take from the source and steal from each deque, and owns its own
-pub record IsSeatOf {P Q : Type 0} (from : Injector ℕ Global Account P)
-    (thieves : List (Stealer ℕ Global Account Q)) (s : Seat) : Type 0 where
-  pub source : IsInjectorPassOf from s.source
+pub record IsSeatOf (shared : Shared) (s : Seat) : Type 0 where
+  pub source : IsInjectorPassOf shared.source s.source
   pub part : (injector_view s.source).parts ≡ 1
   pub flavor : worker_flavor s.own ≡ 0
   pub port : worker_port s.own ≡ 0
-  pub purse : AreParts thieves s.purse.items
+  pub purse : AreParts shared.thieves.items s.purse.items
 
 -- its deque is the same, and as many parts of it are out
 pub record SameDeque (s t : Seat) : Type 0 where

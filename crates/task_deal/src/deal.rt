@@ -8,6 +8,7 @@ use crate::job::Job;
 use crate::member::work_all;
 use crate::open::{fill_all, open};
 use crate::pour::pour;
+use crate::rule::Shared;
 use crate::settle::settle;
 use std::alloc::{AllocError, Global};
 use std::sync::Wait;
@@ -33,26 +34,35 @@ pub fn deal_all<J: Job + Send + Drop, R: Threads + Wait + Sync>(
     requires jobs { (0 < length jobs.old.items) × (length jobs.old.items ≤ 32) }
     requires tasks { tasks ≤ 12288 }
     requires spare { All (λ job. tasks ≤ J.spare job) jobs.old.items }
-    ensures dealt { OnOk result (IsDealt J.work J.runs J.spare tasks jobs.old.items jobs.new.items) }
+    ensures dealt { let Dealt = IsDealt J.work J.runs J.spare tasks in
+        OnOk result (Dealt jobs.old.items jobs.new.items) }
     ensures refused { OnErr result (jobs.new.items ≡ jobs.old.items) }
 {
     let count = jobs.len();
     let (source, mut owner) = pour(rt, alloc, tasks)?;
     let (mut owns, thieves) = open(alloc, count)?;
-    let mut purses = fill_all(alloc, &thieves, &mut owns, count)?;
+    let shared = Shared { source, thieves };
+    let mut purses = fill_all(alloc, &shared, &mut owns, count)?;
     let mut members = Vec::with_capacity(alloc, count)?;
     put_together(
-        &source,
+        &shared.source,
         &mut owner,
         jobs,
         &mut owns,
         &mut purses,
         &mut members,
     );
-    work_all(rt, &source, &thieves, tasks, &mut members);
-    take_apart(&source, &mut owner, members, jobs, &mut owns, &mut purses);
-    settle(&thieves, &mut owns, purses);
-    check_all(&thieves, &mut owns);
-    drain_all(rt, &source, &thieves, tasks, &mut owner, &mut owns, jobs);
+    work_all(rt, &shared, tasks, &mut members);
+    take_apart(
+        &shared.source,
+        &mut owner,
+        members,
+        jobs,
+        &mut owns,
+        &mut purses,
+    );
+    settle(&shared, &mut owns, purses);
+    check_all(&shared, &mut owns);
+    drain_all(rt, &shared, tasks, &mut owner, &mut owns, jobs);
     Ok(())
 }

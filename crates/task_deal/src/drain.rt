@@ -12,7 +12,7 @@ ghost use Rattle.task_deal.specs.Rule.{account, Fits, IsSettled};
 ghost use Rattle.task_deal.specs.Seats.{HaveTaken, Each, Stands};
 
 use crate::job::Job;
-use crate::rule::{Deque, Drains, Fitting, Source, SourcePass, Thief};
+use crate::rule::{Deque, Drains, Fitting, Shared, Source, SourcePass};
 use crossbeam_deque::Steal;
 use std::sync::Wait;
 use std::thread;
@@ -27,11 +27,13 @@ fn check(own: &mut Deque)
     own.len_as::<Fitting>();
 }
 
-fn check_at(thieves: &Vec<Thief>, owns: &mut Vec<Deque>, at: usize)
+fn check_at(shared: &Shared, owns: &mut Vec<Deque>, at: usize)
     requires at { at < length owns.old.items }
-    requires stands { Each (Stands thieves.now.items 0) 0 (length owns.old.items) owns.old.items }
+    requires stands { let last = length owns.old.items in
+        Each (Stands shared.now.thieves.items 0) 0 last owns.old.items }
     ensures count { length owns.new.items ≡ length owns.old.items }
-    ensures stands { Each (Stands thieves.now.items 0) 0 (length owns.new.items) owns.new.items }
+    ensures stands { let last = length owns.new.items in
+        Each (Stands shared.now.thieves.items 0) 0 last owns.new.items }
     ensures books { HaveTaken (λ h. 0) owns.old.items owns.new.items }
     ensures fits { Each (λ _ w. Fits (worker_view w)) 0 at owns.old.items →
         Each (λ _ w. Fits (worker_view w)) 0 (at + 1) owns.new.items }
@@ -40,15 +42,17 @@ fn check_at(thieves: &Vec<Thief>, owns: &mut Vec<Deque>, at: usize)
 }
 
 /// Of no deque more was taken than was put.
-pub(crate) fn check_all(thieves: &Vec<Thief>, owns: &mut Vec<Deque>)
-    requires stands { Each (Stands thieves.now.items 0) 0 (length owns.old.items) owns.old.items }
+pub(crate) fn check_all(shared: &Shared, owns: &mut Vec<Deque>)
+    requires stands { let last = length owns.old.items in
+        Each (Stands shared.now.thieves.items 0) 0 last owns.old.items }
     ensures count { length owns.new.items ≡ length owns.old.items }
-    ensures stands { Each (Stands thieves.now.items 0) 0 (length owns.new.items) owns.new.items }
+    ensures stands { let last = length owns.new.items in
+        Each (Stands shared.now.thieves.items 0) 0 last owns.new.items }
     ensures books { HaveTaken (λ h. 0) owns.old.items owns.new.items }
     ensures fits { All (λ w. Fits (worker_view w)) owns.new.items }
 {
     for at in 0..owns.len() {
-        check_at(thieves, owns, at);
+        check_at(shared, owns, at);
     }
 }
 
@@ -118,7 +122,7 @@ fn drain_source<J: Job, R: Wait>(rt: &R, source: &Source, pass: &mut SourcePass,
 
 fn drain_at<J: Job, R: Wait>(
     rt: &R,
-    thieves: &Vec<Thief>,
+    shared: &Shared,
     tasks: u32,
     owns: &mut Vec<Deque>,
     jobs: &mut Vec<J>,
@@ -126,11 +130,11 @@ fn drain_at<J: Job, R: Wait>(
 )
     requires at { (at < length owns.old.items) × (0 < length jobs.old.items) }
     requires ledger { (first : List J) × (v : Account) × Fits v
-        × Ledger J.work J.runs J.spare thieves.now.items tasks first jobs.old.items v
+        × Ledger J.work J.runs J.spare shared.now.thieves.items tasks first jobs.old.items v
         owns.old.items }
     ensures count { (length owns.new.items ≡ length owns.old.items)
         × (length jobs.new.items ≡ length jobs.old.items) }
-    ensures ledger { let Holds = Ledger J.work J.runs J.spare thieves.now.items tasks in
+    ensures ledger { let Holds = Ledger J.work J.runs J.spare shared.now.thieves.items tasks in
         (first : List J) (v : Account) →
         Holds first jobs.old.items v owns.old.items → Holds first jobs.new.items v owns.new.items }
     ensures even { Each (λ _ w. IsEmptied w) 0 at owns.old.items →
@@ -141,51 +145,49 @@ fn drain_at<J: Job, R: Wait>(
 
 fn drain_first<J: Job, R: Wait>(
     rt: &R,
-    source: &Source,
-    thieves: &Vec<Thief>,
+    shared: &Shared,
     tasks: u32,
     owner: &mut SourcePass,
     owns: &Vec<Deque>,
     jobs: &mut Vec<J>,
 )
-    requires owner { IsInjectorPassOf source.now owner.old × (owner.old.id ≡ 0) }
+    requires owner { IsInjectorPassOf shared.now.source owner.old × (owner.old.id ≡ 0) }
     requires some { 0 < length jobs.old.items }
     requires ledger { (first : List J)
-        × Ledger J.work J.runs J.spare thieves.now.items tasks first jobs.old.items
+        × Ledger J.work J.runs J.spare shared.now.thieves.items tasks first jobs.old.items
         (injector_view owner.old) owns.now.items }
     ensures count { length jobs.new.items ≡ length jobs.old.items }
     ensures settled { IsSettled (injector_view owner.new) }
-    ensures ledger { let Holds = Ledger J.work J.runs J.spare thieves.now.items tasks in
+    ensures ledger { let Holds = Ledger J.work J.runs J.spare shared.now.thieves.items tasks in
         (first : List J) →
         Holds first jobs.old.items (injector_view owner.old) owns.now.items →
         Holds first jobs.new.items (injector_view owner.new) owns.now.items }
 {
-    drain_source(rt, source, owner, &mut jobs[0]);
+    drain_source(rt, &shared.source, owner, &mut jobs[0]);
 }
 
 /// The first job runs all that the threads left. Then the numbers are dealt to the jobs as they
 /// were before, `first`.
 pub(crate) fn drain_all<J: Job, R: Wait>(
     rt: &R,
-    source: &Source,
-    thieves: &Vec<Thief>,
+    shared: &Shared,
     tasks: u32,
     owner: &mut SourcePass,
     owns: &mut Vec<Deque>,
     jobs: &mut Vec<J>,
 )
-    requires owner { IsInjectorPassOf source.now owner.old × (owner.old.id ≡ 0) }
+    requires owner { IsInjectorPassOf shared.now.source owner.old × (owner.old.id ≡ 0) }
     requires some { 0 < length jobs.old.items }
     requires ledger { (first : List J)
-        × Ledger J.work J.runs J.spare thieves.now.items tasks first jobs.old.items
+        × Ledger J.work J.runs J.spare shared.now.thieves.items tasks first jobs.old.items
         (injector_view owner.old) owns.old.items }
     ensures { (first : List J) →
-        Ledger J.work J.runs J.spare thieves.now.items tasks first jobs.old.items
+        Ledger J.work J.runs J.spare shared.now.thieves.items tasks first jobs.old.items
         (injector_view owner.old) owns.old.items →
         IsDealt J.work J.runs J.spare tasks first jobs.new.items }
 {
-    drain_first(rt, source, thieves, tasks, owner, owns, jobs);
+    drain_first(rt, shared, tasks, owner, owns, jobs);
     for at in 0..owns.len() {
-        drain_at(rt, thieves, tasks, owns, jobs, at);
+        drain_at(rt, shared, tasks, owns, jobs, at);
     }
 }

@@ -4,7 +4,7 @@ ghost use Rattle.task_deal.specs.Seats.{IsSeatOf};
 ghost use Rattle.task_deal.specs.Members.{HasWorked};
 
 use crate::job::Job;
-use crate::rule::{Source, Thief};
+use crate::rule::Shared;
 use crate::seat::{Seat, next_number};
 use std::sync::Wait;
 use std::thread;
@@ -18,19 +18,13 @@ pub struct Member<J> {
 }
 
 #[tactic(auto, using(crate::proofs::Working::begun, crate::proofs::Working::ran, crate::proofs::Working::ended))]
-fn work<J: Job, R: Wait>(
-    rt: &R,
-    source: &Source,
-    thieves: &Vec<Thief>,
-    tasks: u32,
-    member: &mut Member<J>,
-)
-    requires seat { IsSeatOf source.now thieves.now.items member.old.seat }
+fn work<J: Job, R: Wait>(rt: &R, shared: &Shared, tasks: u32, member: &mut Member<J>)
+    requires seat { IsSeatOf shared.now member.old.seat }
     requires spare { tasks ≤ J.spare member.old.job }
-    ensures { HasWorked source.now thieves.now.items J.work J.runs J.spare member.old member.new }
+    ensures { HasWorked shared.now J.work J.runs J.spare member.old member.new }
 {
     for done in 0..tasks {
-        let Some(task) = next_number(rt, source, thieves, &mut member.seat, done == 0) else {
+        let Some(task) = next_number(rt, shared, &mut member.seat, done == 0) else {
             return;
         };
         member.job.run(task);
@@ -40,16 +34,15 @@ fn work<J: Job, R: Wait>(
 /// All members at once, each in a thread of its own where one can be made.
 pub(crate) fn work_all<J: Job + Send, R: Threads + Wait + Sync>(
     rt: &R,
-    source: &Source,
-    thieves: &Vec<Thief>,
+    shared: &Shared,
     tasks: u32,
     members: &mut [Member<J>],
 )
     requires some { 0 < length members.old }
     requires ready { All (λ m.
-        IsSeatOf source.now thieves.now.items m.seat × (tasks ≤ J.spare m.job)) members.old }
+        IsSeatOf shared.now m.seat × (tasks ≤ J.spare m.job)) members.old }
     ensures { (i : ℕ) (d : _) → i < length members.old →
-        HasWorked source.now thieves.now.items J.work J.runs J.spare
+        HasWorked shared.now J.work J.runs J.spare
         (slice_index_or members.old i d) (slice_index_or members.new i d) }
 {
     let count = members.len();
@@ -57,6 +50,6 @@ pub(crate) fn work_all<J: Job + Send, R: Threads + Wait + Sync>(
         rt,
         members,
         count,
-        &|_, member| { work(rt, source, thieves, tasks, member) },
+        &|_, member| { work(rt, shared, tasks, member) },
     );
 }

@@ -6,7 +6,7 @@ ghost use Rattle.task_deal.specs.Seats.{IsPart, AreParts, Each, Stands, HaveTake
 ghost use Rattle.task_deal.specs.Rule.{account, sum_of};
 ghost use Rattle.task_deal.specs.Open.{AreOpen};
 
-use crate::rule::{Cut, Deque, Thief, ThiefPass};
+use crate::rule::{Cut, Deque, Shared, Thief, ThiefPass};
 use std::alloc::{AllocError, Global};
 
 // How many numbers a deque has room for at first.
@@ -40,18 +40,18 @@ fn fork(own: &mut Deque) -> ThiefPass
 }
 
 // The same of the deque at a place. Before it each deque has one part more out.
-fn fork_at(thieves: &Vec<Thief>, owns: &mut Vec<Deque>, out: usize, at: usize) -> ThiefPass
-    requires at { at < length thieves.now.items }
-    requires count { length owns.old.items ≡ length thieves.now.items }
-    requires low { Each (Stands thieves.now.items (out + 1)) 0 at owns.old.items }
-    requires high { let last = length thieves.now.items in
-        Each (Stands thieves.now.items out) at last owns.old.items }
-    ensures count { length owns.new.items ≡ length thieves.now.items }
-    ensures low { Each (Stands thieves.now.items (out + 1)) 0 (at + 1) owns.new.items }
-    ensures high { let last = length thieves.now.items in
-        Each (Stands thieves.now.items out) (at + 1) last owns.new.items }
+fn fork_at(shared: &Shared, owns: &mut Vec<Deque>, out: usize, at: usize) -> ThiefPass
+    requires at { at < length shared.now.thieves.items }
+    requires count { length owns.old.items ≡ length shared.now.thieves.items }
+    requires low { Each (Stands shared.now.thieves.items (out + 1)) 0 at owns.old.items }
+    requires high { let last = length shared.now.thieves.items in
+        Each (Stands shared.now.thieves.items out) at last owns.old.items }
+    ensures count { length owns.new.items ≡ length shared.now.thieves.items }
+    ensures low { Each (Stands shared.now.thieves.items (out + 1)) 0 (at + 1) owns.new.items }
+    ensures high { let last = length shared.now.thieves.items in
+        Each (Stands shared.now.thieves.items out) (at + 1) last owns.new.items }
     ensures books { HaveTaken (λ h. 0) owns.old.items owns.new.items }
-    ensures pass { ((d : _) → IsPart (slice_index_or thieves.now.items at d) result)
+    ensures pass { ((d : _) → IsPart (slice_index_or shared.now.thieves.items at d) result)
         × (view result ≡ account 1 [] []) }
 {
     fork(&mut owns[at])
@@ -60,23 +60,23 @@ fn fork_at(thieves: &Vec<Thief>, owns: &mut Vec<Deque>, out: usize, at: usize) -
 // A purse with a pass for each deque.
 fn fill(
     alloc: Global,
-    thieves: &Vec<Thief>,
+    shared: &Shared,
     owns: &mut Vec<Deque>,
     out: usize,
 ) -> Result<Vec<ThiefPass>, AllocError>
-    requires count { length owns.old.items ≡ length thieves.now.items }
-    requires owns { let last = length thieves.now.items in
-        Each (Stands thieves.now.items out) 0 last owns.old.items }
-    ensures count { OnOk result (length owns.new.items ≡ length thieves.now.items) }
-    ensures owns { let last = length thieves.now.items in
-        OnOk result (Each (Stands thieves.now.items (out + 1)) 0 last owns.new.items) }
+    requires count { length owns.old.items ≡ length shared.now.thieves.items }
+    requires owns { let last = length shared.now.thieves.items in
+        Each (Stands shared.now.thieves.items out) 0 last owns.old.items }
+    ensures count { OnOk result (length owns.new.items ≡ length shared.now.thieves.items) }
+    ensures owns { let last = length shared.now.thieves.items in
+        OnOk result (Each (Stands shared.now.thieves.items (out + 1)) 0 last owns.new.items) }
     ensures books { OnOk result (HaveTaken (λ h. 0) owns.old.items owns.new.items) }
     ensures purse { IfOk result (λ p.
-        AreParts thieves.now.items p.items × ((h : ℕ → ℕ) → taken_by h p.items ≡ 0)) }
+        AreParts shared.now.thieves.items p.items × ((h : ℕ → ℕ) → taken_by h p.items ≡ 0)) }
 {
     let mut purse = Vec::new(alloc);
-    for at in 0..thieves.len() {
-        let pass = fork_at(thieves, owns, out, at);
+    for at in 0..shared.thieves.len() {
+        let pass = fork_at(shared, owns, out, at);
         purse.push(pass)?;
     }
     Ok(purse)
@@ -85,23 +85,24 @@ fn fill(
 /// A purse for each worker.
 pub(crate) fn fill_all(
     alloc: Global,
-    thieves: &Vec<Thief>,
+    shared: &Shared,
     owns: &mut Vec<Deque>,
     count: usize,
 ) -> Result<Vec<Vec<ThiefPass>>, AllocError>
-    requires count { length owns.old.items ≡ length thieves.now.items }
-    requires owns { Each (Stands thieves.now.items 0) 0 (length thieves.now.items) owns.old.items }
-    ensures count { OnOk result (length owns.new.items ≡ length thieves.now.items) }
-    ensures owns { let last = length thieves.now.items in
-        OnOk result (Each (Stands thieves.now.items count) 0 last owns.new.items) }
+    requires count { length owns.old.items ≡ length shared.now.thieves.items }
+    requires owns { let last = length shared.now.thieves.items in
+        Each (Stands shared.now.thieves.items 0) 0 last owns.old.items }
+    ensures count { OnOk result (length owns.new.items ≡ length shared.now.thieves.items) }
+    ensures owns { let last = length shared.now.thieves.items in
+        OnOk result (Each (Stands shared.now.thieves.items count) 0 last owns.new.items) }
     ensures books { OnOk result (HaveTaken (λ h. 0) owns.old.items owns.new.items) }
     ensures purses { IfOk result (λ ps.
-        (length ps.items ≡ count) × All (λ p. AreParts thieves.now.items p.items) ps.items
+        (length ps.items ≡ count) × All (λ p. AreParts shared.now.thieves.items p.items) ps.items
         × ((h : ℕ → ℕ) → sum_of (λ p. taken_by h p.items) ps.items ≡ 0)) }
 {
     let mut purses = Vec::new(alloc);
     for out in 0..count {
-        let purse = fill(alloc, thieves, owns, out)?;
+        let purse = fill(alloc, shared, owns, out)?;
         purses.push(purse)?;
     }
     Ok(purses)

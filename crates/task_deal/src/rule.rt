@@ -98,3 +98,10 @@ pub type Deque = Worker<u32, Global, Account, Rule>;
 pub type Thief = Stealer<u32, Global, Account, Rule>;
 
 pub type ThiefPass = Pass<u32, Account>;
+
+/// What all workers share: the source, and what to steal from each deque with.
+#[derive(Drop)]
+pub struct Shared {
+    pub source: Source,
+    pub thieves: Vec<Thief>,
+}

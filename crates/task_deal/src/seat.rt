@@ -5,7 +5,7 @@ ghost use Rattle.task_deal.specs.Rule.{account};
 ghost use Rattle.task_deal.specs.Seats.{IsPart, IsSeatOf, SameDeque, Found, FoundIn};
 
 use crate::rule::{
-    Account, Deque, Puts, Rule, Source, SourcePass, Steals, Takes, Thief, ThiefPass,
+    Account, Deque, Puts, Rule, Shared, SourcePass, Steals, Takes, Thief, ThiefPass,
 };
 use crossbeam_deque::Steal;
 use std::alloc::Global;
@@ -24,35 +24,37 @@ pub struct Seat {
     pub purse: Vec<ThiefPass>,
 }
 
-fn pop_own(source: &Source, thieves: &Vec<Thief>, seat: &mut Seat) -> Option<u32>
-    requires { IsSeatOf source.now thieves.now.items seat.old }
-    ensures same { IsSeatOf source.now thieves.now.items seat.new × SameDeque seat.old seat.new }
+fn pop_own(shared: &Shared, seat: &mut Seat) -> Option<u32>
+    requires { IsSeatOf shared.now seat.old }
+    ensures same { IsSeatOf shared.now seat.new × SameDeque seat.old seat.new }
     ensures gains { Found result seat.old seat.new }
 {
     seat.own.pop_as::<Takes>()
 }
 
-fn take_one<R: Wait>(rt: &R, source: &Source, thieves: &Vec<Thief>, seat: &mut Seat) -> Steal<u32>
-    requires { IsSeatOf source.now thieves.now.items seat.old }
-    ensures same { IsSeatOf source.now thieves.now.items seat.new × SameDeque seat.old seat.new }
+fn take_one<R: Wait>(rt: &R, shared: &Shared, seat: &mut Seat) -> Steal<u32>
+    requires { IsSeatOf shared.now seat.old }
+    ensures same { IsSeatOf shared.now seat.new × SameDeque seat.old seat.new }
     ensures gains { FoundIn result seat.old seat.new }
 {
-    source.steal_as::<Takes, R>(rt, &mut seat.source)
+    shared.source.steal_as::<Takes, R>(rt, &mut seat.source)
 }
 
 // Takes one number, and moves a batch of further ones to the own deque. Where there is no memory
 // for the batch, it takes one number alone.
-fn fetch<R: Wait>(rt: &R, source: &Source, thieves: &Vec<Thief>, seat: &mut Seat) -> Steal<u32>
-    requires { IsSeatOf source.now thieves.now.items seat.old }
-    ensures same { IsSeatOf source.now thieves.now.items seat.new × SameDeque seat.old seat.new }
+fn fetch<R: Wait>(rt: &R, shared: &Shared, seat: &mut Seat) -> Steal<u32>
+    requires { IsSeatOf shared.now seat.old }
+    ensures same { IsSeatOf shared.now seat.new × SameDeque seat.old seat.new }
     ensures gains { FoundIn result seat.old seat.new }
 {
-    source.steal_batch_and_pop_as::<Global, Account, Rule, Takes, Puts, R>(
-        rt,
-        &mut seat.source,
-        &mut seat.own,
-        BATCH,
-    )
+    shared
+        .source
+        .steal_batch_and_pop_as::<Global, Account, Rule, Takes, Puts, R>(
+            rt,
+            &mut seat.source,
+            &mut seat.own,
+            BATCH,
+        )
 }
 
 fn steal(thief: &Thief, pass: &mut ThiefPass) -> Option<u32>
@@ -64,28 +66,27 @@ fn steal(thief: &Thief, pass: &mut ThiefPass) -> Option<u32>
 {
     match thief.steal_as::<Steals>(pass) {
         Steal::Success(task) => Some(task),
-        Steal::Empty => None,
-        Steal::Retry => None,
+        Steal::Empty | Steal::Retry => None,
     }
 }
 
-fn steal_at(source: &Source, thieves: &Vec<Thief>, seat: &mut Seat, at: usize) -> Option<u32>
-    requires seat { IsSeatOf source.now thieves.now.items seat.old }
-    requires at { at < length thieves.now.items }
-    ensures same { IsSeatOf source.now thieves.now.items seat.new × SameDeque seat.old seat.new }
+fn steal_at(shared: &Shared, seat: &mut Seat, at: usize) -> Option<u32>
+    requires seat { IsSeatOf shared.now seat.old }
+    requires at { at < length shared.now.thieves.items }
+    ensures same { IsSeatOf shared.now seat.new × SameDeque seat.old seat.new }
     ensures gains { Found result seat.old seat.new }
 {
-    steal(&thieves[at], &mut seat.purse[at])
+    steal(&shared.thieves[at], &mut seat.purse[at])
 }
 
 #[tactic(auto, using(crate::proofs::Gaining::gains_on, crate::proofs::Gaining::gains_none))]
-fn steal_any(source: &Source, thieves: &Vec<Thief>, seat: &mut Seat) -> Option<u32>
-    requires { IsSeatOf source.now thieves.now.items seat.old }
-    ensures same { IsSeatOf source.now thieves.now.items seat.new × SameDeque seat.old seat.new }
+fn steal_any(shared: &Shared, seat: &mut Seat) -> Option<u32>
+    requires { IsSeatOf shared.now seat.old }
+    ensures same { IsSeatOf shared.now seat.new × SameDeque seat.old seat.new }
     ensures gains { Found result seat.old seat.new }
 {
-    for at in 0..thieves.len() {
-        if let Some(task) = steal_at(source, thieves, seat, at) {
+    for at in 0..shared.thieves.len() {
+        if let Some(task) = steal_at(shared, seat, at) {
             return Some(task);
         }
     }
@@ -94,18 +95,13 @@ fn steal_any(source: &Source, thieves: &Vec<Thief>, seat: &mut Seat) -> Option<u
 
 /// One number of the source alone.
 #[tactic(auto, using(crate::proofs::Gaining::gains_on, crate::proofs::Gaining::gains_none))]
-fn take_first<R: Wait>(
-    rt: &R,
-    source: &Source,
-    thieves: &Vec<Thief>,
-    seat: &mut Seat,
-) -> Option<u32>
-    requires { IsSeatOf source.now thieves.now.items seat.old }
-    ensures same { IsSeatOf source.now thieves.now.items seat.new × SameDeque seat.old seat.new }
+fn take_first<R: Wait>(rt: &R, shared: &Shared, seat: &mut Seat) -> Option<u32>
+    requires { IsSeatOf shared.now seat.old }
+    ensures same { IsSeatOf shared.now seat.new × SameDeque seat.old seat.new }
     ensures gains { Found result seat.old seat.new }
 {
     for _ in rt.forever() {
-        match take_one(rt, source, thieves, seat) {
+        match take_one(rt, shared, seat) {
             Steal::Success(task) => return Some(task),
             Steal::Empty => return None,
             Steal::Retry => thread::yield_now(),
@@ -117,18 +113,18 @@ fn take_first<R: Wait>(
 /// A number of the own deque, or else of the source, from which a batch moves to the own deque, or
 /// else of another's deque.
 #[tactic(auto, using(crate::proofs::Gaining::gains_on, crate::proofs::Gaining::gains_none))]
-fn find<R: Wait>(rt: &R, source: &Source, thieves: &Vec<Thief>, seat: &mut Seat) -> Option<u32>
-    requires { IsSeatOf source.now thieves.now.items seat.old }
-    ensures same { IsSeatOf source.now thieves.now.items seat.new × SameDeque seat.old seat.new }
+fn find<R: Wait>(rt: &R, shared: &Shared, seat: &mut Seat) -> Option<u32>
+    requires { IsSeatOf shared.now seat.old }
+    ensures same { IsSeatOf shared.now seat.new × SameDeque seat.old seat.new }
     ensures gains { Found result seat.old seat.new }
 {
     for _ in rt.forever() {
-        if let Some(task) = pop_own(source, thieves, seat) {
+        if let Some(task) = pop_own(shared, seat) {
             return Some(task);
         }
-        match fetch(rt, source, thieves, seat) {
+        match fetch(rt, shared, seat) {
             Steal::Success(task) => return Some(task),
-            Steal::Empty => return steal_any(source, thieves, seat),
+            Steal::Empty => return steal_any(shared, seat),
             Steal::Retry => thread::yield_now(),
         }
     }
@@ -139,19 +135,18 @@ fn find<R: Wait>(rt: &R, source: &Source, thieves: &Vec<Thief>, seat: &mut Seat)
 #[tactic(auto, using(crate::proofs::Gaining::gains_on, crate::proofs::Gaining::gains_none))]
 pub(crate) fn next_number<R: Wait>(
     rt: &R,
-    source: &Source,
-    thieves: &Vec<Thief>,
+    shared: &Shared,
     seat: &mut Seat,
     at_first: bool,
 ) -> Option<u32>
-    requires { IsSeatOf source.now thieves.now.items seat.old }
-    ensures same { IsSeatOf source.now thieves.now.items seat.new × SameDeque seat.old seat.new }
+    requires { IsSeatOf shared.now seat.old }
+    ensures same { IsSeatOf shared.now seat.new × SameDeque seat.old seat.new }
     ensures gains { Found result seat.old seat.new }
 {
     if at_first {
-        if let Some(task) = take_first(rt, source, thieves, seat) {
+        if let Some(task) = take_first(rt, shared, seat) {
             return Some(task);
         }
     }
-    find(rt, source, thieves, seat)
+    find(rt, shared, seat)
 }

@@ -11,12 +11,12 @@ use Rattle.task_deal.proofs.drain.check_at.Goals as goal
 pub check-requires : goal.check-requires
 check-requires c = let w = c.index_mut.result.now in
     let at : slice_index_or c.args.owns.now.items c.args.at w ≡ w = search rules in
-    (subst (Stands c.args.thieves.now.items 0 c.args.at) at (c.requires.stands c.args.at w (omega arith) c.requires.at)).port
+    (subst (Stands c.args.shared.now.thieves.items 0 c.args.at) at (c.requires.stands c.args.at w (omega arith) c.requires.at)).port
 
 pub returns-clause-stands : goal.returns-clause-stands
 returns-clause-stands c = let w = c.index_mut.result.now in
     let at : slice_index_or c.args.owns.now.items c.args.at w ≡ w = search rules in
-    check_stands c.args.thieves.now.items c.args.owns.now.items c.args.at w c.check.new.own c.requires.at at c.check.ensures.same c.check.ensures.view c.requires.stands
+    check_stands c.args.shared.now.thieves.items c.args.owns.now.items c.args.at w c.check.new.own c.requires.at at c.check.ensures.same c.check.ensures.view c.requires.stands
 
 pub returns-clause-books : goal.returns-clause-books
 returns-clause-books c = books_set (λ h. 0) c.args.owns.now.items c.args.at c.index_mut.result.now c.check.new.own c.requires.at (search rules)

@@ -25,6 +25,6 @@ returns g c = let inv = c.loop-at.invariant in λ first a.
     let after = inv.4 first a in
     record {
       jobs = after.jobs;
-      once = each_once work runs spare c.args.tasks first now after.jobs (comes_out work runs spare c.args.thieves.now.items c.args.tasks first now (injector_view c.drain_first.new.owner) c.loop-at.owns.items after inv.2
+      once = each_once work runs spare c.args.tasks first now after.jobs (comes_out work runs spare c.args.shared.now.thieves.items c.args.tasks first now (injector_view c.drain_first.new.owner) c.loop-at.owns.items after inv.2
           (λ h. even_sum h c.loop-at.owns.items (λ i d b. inv.3 i d (omega arith) (omega (arith, b, c.loop-at-test.false, c.len-at-end.ensures, inv.1)))));
     }
