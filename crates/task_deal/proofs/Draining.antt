@@ -6,7 +6,7 @@ use Rattle.task_deal.specs.Jobs.{HasRun}
 use Rattle.task_deal.specs.Drains.{RanTaken}
 use Rattle.task_deal.proofs.Sums.{sum_of-append}
 use Rattle.task_deal.proofs.Gaining.{taken_more}
-use Rattle.task_deal.proofs.Running.{spared}
+use Rattle.task_deal.proofs.Running.{runs_none, runs_one, spared}
 
 pub sum_of_ones : {X : Type 0} (xs : List X) → sum_of (λ _. 1) xs ≡ length xs
 sum_of_ones [] = refl
@@ -29,3 +29,6 @@ module _ {J W : Type 0} (work : J → W) (runs : J → List ℕ) (spare : J → 
   may_run v w u j k x fit a b e f = let one : ℕ → ℕ = λ _. 1 in
       let p : sum_of one u.put ≡ sum_of one v.put = ap (λ (y : Account). sum_of one y.put) e ∙ ap (sum_of one) b.put in
       omega (arith, fit, spared work runs spare j k a, b.ran one, f one, p, taken_more one w u (x ∷ []) e, sum_of_ones (runs k), sum_of_ones (runs j), sum_of_ones v.put, sum_of_ones v.taken)
+
+-- what a loop that drains a queue cites
+pub ruleset drains = (runs_none, runs_one, idle_books, books_on, books_same, may_run)

@@ -6,6 +6,7 @@ use Rattle.task_deal.specs.declared.rule.Rule.{Rule}
 use Rattle.task_deal.specs.Rule.{sum_of, account}
 use Rattle.task_deal.specs.Seats.{Each, Stands, IsPart, AreParts, HaveTaken, taken_by, own_taken, own_put}
 use Rattle.task_deal.specs.Open.{AreOpen}
+use Rattle.task_deal.proofs.Moves.{begins}
 use Rattle.task_deal.proofs.Sums.{sum_of_push}
 use Rattle.task_deal.proofs.Places.{index_left, index_last, split_le}
 use Rattle.task_deal.proofs.Gaining.{Deque, Thief, ThiefPass}
@@ -70,3 +71,6 @@ module _ (thieves : List Thief) where
 
   pub purse_full : (out at : ℕ) (owns₀ owns : List Deque) (purse : List ThiefPass) → length thieves ≤ at → Filling out at owns₀ owns purse → length purse ≡ length thieves → AreParts thieves purse
   purse_full out at owns₀ owns purse le a e = (e, λ j d p l. a.passes j p (omega (arith, l, le)) d)
+
+-- what the loop that opens deques cites
+pub ruleset opens = (opened_none, opened_on, begins)

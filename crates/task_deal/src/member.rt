@@ -17,7 +17,7 @@ pub struct Member<J> {
     pub seat: Seat,
 }
 
-#[tactic(auto, using(crate::proofs::Working::begun, crate::proofs::Working::ran, crate::proofs::Working::ended))]
+#[tactic(auto, using(crate::proofs::Working::works))]
 fn work<J: Job, R: Wait>(rt: &R, shared: &Shared, tasks: u32, member: &mut Member<J>)
     requires seat { IsSeatOf shared.now member.old.seat }
     requires spare { tasks ≤ J.spare member.old.job }

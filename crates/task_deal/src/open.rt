@@ -13,7 +13,7 @@ use std::alloc::{AllocError, Global};
 const ROOM: usize = 32;
 
 /// A deque for each worker, and what the others steal from it with.
-#[tactic(auto, using(crate::proofs::Opening::opened_none, crate::proofs::Opening::opened_on, crate::proofs::Moves::begins))]
+#[tactic(auto, using(crate::proofs::Opening::opens))]
 pub(crate) fn open(alloc: Global, count: usize) -> Result<(Vec<Deque>, Vec<Thief>), AllocError>
     ensures { IfOk result (λ r. (length r.0.items ≡ count) × AreOpen r.1.items r.0.items) }
 {

@@ -79,7 +79,7 @@ fn steal_at(shared: &Shared, seat: &mut Seat, at: usize) -> Option<u32>
     steal(&shared.thieves[at], &mut seat.purse[at])
 }
 
-#[tactic(auto, using(crate::proofs::Gaining::gains_on, crate::proofs::Gaining::gains_none))]
+#[tactic(auto, using(crate::proofs::Gaining::gains))]
 fn steal_any(shared: &Shared, seat: &mut Seat) -> Option<u32>
     requires { IsSeatOf shared.now seat.old }
     ensures same { IsSeatOf shared.now seat.new × SameDeque seat.old seat.new }
@@ -94,7 +94,7 @@ fn steal_any(shared: &Shared, seat: &mut Seat) -> Option<u32>
 }
 
 /// One number of the source alone.
-#[tactic(auto, using(crate::proofs::Gaining::gains_on, crate::proofs::Gaining::gains_none))]
+#[tactic(auto, using(crate::proofs::Gaining::gains))]
 fn take_first<R: Wait>(rt: &R, shared: &Shared, seat: &mut Seat) -> Option<u32>
     requires { IsSeatOf shared.now seat.old }
     ensures same { IsSeatOf shared.now seat.new × SameDeque seat.old seat.new }
@@ -112,7 +112,7 @@ fn take_first<R: Wait>(rt: &R, shared: &Shared, seat: &mut Seat) -> Option<u32>
 
 /// A number of the own deque, or else of the source, from which a batch moves to the own deque, or
 /// else of another's deque.
-#[tactic(auto, using(crate::proofs::Gaining::gains_on, crate::proofs::Gaining::gains_none))]
+#[tactic(auto, using(crate::proofs::Gaining::gains))]
 fn find<R: Wait>(rt: &R, shared: &Shared, seat: &mut Seat) -> Option<u32>
     requires { IsSeatOf shared.now seat.old }
     ensures same { IsSeatOf shared.now seat.new × SameDeque seat.old seat.new }
@@ -132,7 +132,7 @@ fn find<R: Wait>(rt: &R, shared: &Shared, seat: &mut Seat) -> Option<u32>
 }
 
 /// The number to run next: at first one of the source alone.
-#[tactic(auto, using(crate::proofs::Gaining::gains_on, crate::proofs::Gaining::gains_none))]
+#[tactic(auto, using(crate::proofs::Gaining::gains))]
 pub(crate) fn next_number<R: Wait>(
     rt: &R,
     shared: &Shared,
