@@ -3,16 +3,16 @@ use Rattle.std.specs.Prelude.{◌≡◌, ℕ, zero, suc, ◌+◌, List, [], ◌�
 use Rattle.std.specs.List.{AllZip, concat}
 use Rattle.uc_model.specs.Sums.{zip_with}
 
--- the numbers below n
+-- the numbers below n, upwards
 abbrev pub below : ℕ → List ℕ
 below zero = []
 below (suc n) = below n ++ n ∷ []
 
--- the numbers that a job has run since then
+-- the numbers that a job has run in between
 abbrev pub added : {J : Type 0} → (J → List ℕ) → J → J → List ℕ
 added runs before after = drop (length (runs before)) (runs after)
 
--- the same of each job, at its place
+-- the same of each job, at its place in the list
 abbrev pub all_added : {J : Type 0} → (J → List ℕ) → List J → List J → List (List ℕ)
 all_added runs before after = zip_with (added runs) before after
 

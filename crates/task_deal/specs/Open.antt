@@ -7,6 +7,7 @@ use Rattle.task_deal.specs.declared.rule.Account.{Account}
 use Rattle.task_deal.specs.Rule.{sum_of}
 use Rattle.task_deal.specs.Seats.{Each, Stands, own_taken, own_put}
 
+-- each deque stands at its place, no part of it is out, and nothing was put or taken
 pub record AreOpen {Q : Type 0} (thieves : List (Stealer ℕ Global Account Q))
     (owns : List (Worker ℕ Global Account Q)) : Type 0 where
   pub count : length thieves ≡ length owns

@@ -1,5 +1,6 @@
 //! Numbers are dealt to jobs.
 ghost use Rattle.std.specs.Prelude.{◌≡◌, ◌<◌, ◌≤◌, length, All, OnOk, OnErr};
+ghost use Rattle.uc_model.specs.declared.limits.TheConstants.{MOST_UNITS};
 ghost use Rattle.task_deal.specs.Jobs.{IsDealt};
 
 use crate::apart::{put_together, take_apart};
@@ -14,13 +15,16 @@ use std::alloc::{AllocError, Global};
 use std::sync::Wait;
 use std::thread::Threads;
 
+/// Jobs of one deal.
+pub const MOST_JOBS: usize = 32;
+
 /// Deals the numbers below `tasks` to the jobs, each of which runs its share in a thread of its
 /// own, where one can be made. Each job keeps its place and what it works on. What the jobs add to
 /// the numbers that they have run is, all together, each number below `tasks` once, and no other;
 /// which job runs which isn't said.
 ///
-/// Waits for the threads. There are 1 to 32 jobs and at most 12,288 numbers, and each job has room
-/// for all of them.
+/// Waits for the threads. There are 1 to `MOST_JOBS` jobs and at most as many numbers as a case
+/// may have units, and each job has room for all of them.
 ///
 /// # Errors
 ///
@@ -31,8 +35,8 @@ pub fn deal_all<J: Job + Send + Drop, R: Threads + Wait + Sync>(
     tasks: u32,
     jobs: &mut Vec<J>,
 ) -> Result<(), AllocError>
-    requires jobs { (0 < length jobs.old.items) × (length jobs.old.items ≤ 32) }
-    requires tasks { tasks ≤ 12288 }
+    requires jobs { (0 < length jobs.old.items) × (length jobs.old.items ≤ MOST_JOBS) }
+    requires tasks { tasks ≤ MOST_UNITS }
     requires spare { All (λ job. tasks ≤ J.spare job) jobs.old.items }
     ensures dealt { let Dealt = IsDealt J.work J.runs J.spare tasks in
         OnOk result (Dealt jobs.old.items jobs.new.items) }
@@ -44,6 +48,7 @@ pub fn deal_all<J: Job + Send + Drop, R: Threads + Wait + Sync>(
     let shared = Shared { source, thieves };
     let mut purses = fill_all(alloc, &shared, &mut owns, count)?;
     let mut members = Vec::with_capacity(alloc, count)?;
+    // Nothing may fail from here on.
     put_together(
         &shared.source,
         &mut owner,

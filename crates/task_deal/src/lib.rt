@@ -1,4 +1,6 @@
-//! Numbers dealt to jobs in many threads, by work stealing over queues of `crossbeam_deque`.
+//! Numbers dealt to jobs in many threads, by work stealing (Blumofe and Leiserson, 'Scheduling
+//! multithreaded computations by work stealing', Journal of the ACM, 1999) over the queues of
+//! `crossbeam_deque`.
 //!
 //! An injector holds the numbers, and each worker has a first-in-first-out deque. A worker takes
 //! one number from the injector at first and batches after that, and steals from the others when
@@ -22,5 +24,5 @@ mod settle;
 #[cfg(test)]
 mod tests;
 
-pub use deal::deal_all;
+pub use deal::{MOST_JOBS, deal_all};
 pub use job::Job;
