@@ -1,6 +1,7 @@
 //! One worker's handles, and how it finds a number.
 ghost use Rattle.std.specs.Prelude.{◌≡◌, ◌<◌, length, [], ◌∷◌, ◌++◌, MatchOption};
 ghost use Rattle.crossbeam_deque.specs.Handles.{view};
+ghost use Rattle.crossbeam_deque.specs.Steals.{MatchSteal};
 ghost use Rattle.task_deal.specs.Rule.{account};
 ghost use Rattle.task_deal.specs.Seats.{IsPart, IsSeatOf, SameDeque, Found, FoundIn};
 
@@ -57,36 +58,50 @@ fn fetch<R: Wait>(rt: &R, shared: &Shared, seat: &mut Seat) -> Steal<u32>
         )
 }
 
-fn steal(thief: &Thief, pass: &mut ThiefPass) -> Option<u32>
+fn steal_once(thief: &Thief, pass: &mut ThiefPass) -> Steal<u32>
     requires { IsPart thief.now pass.old }
     ensures same { IsPart thief.now pass.new }
-    ensures view { let v = view pass.old in
-        MatchOption result (view pass.new ≡ v)
-        (λ x. view pass.new ≡ account v.parts v.put (v.taken ++ x ∷ [])) }
+    ensures view { let v = view pass.old in let w = view pass.new in
+        MatchSteal result (w ≡ v) (w ≡ v)
+        (λ x. w ≡ account v.parts v.put (v.taken ++ x ∷ [])) }
 {
-    match thief.steal_as::<Steals>(pass) {
-        Steal::Success(task) => Some(task),
-        Steal::Empty | Steal::Retry => None,
-    }
+    thief.steal_as::<Steals>(pass)
 }
 
-fn steal_at(shared: &Shared, seat: &mut Seat, at: usize) -> Option<u32>
+// Steals one number. Where another thief was faster, it tries again.
+fn steal<R: Wait>(rt: &R, thief: &Thief, pass: &mut ThiefPass) -> Option<u32>
+    requires { IsPart thief.now pass.old }
+    ensures same { IsPart thief.now pass.new }
+    ensures view { let v = view pass.old in let w = view pass.new in
+        MatchOption result (w ≡ v) (λ x. w ≡ account v.parts v.put (v.taken ++ x ∷ [])) }
+{
+    for _ in rt.forever() {
+        match steal_once(thief, pass) {
+            Steal::Success(stolen) => return Some(stolen),
+            Steal::Empty => return None,
+            Steal::Retry => thread::yield_now(),
+        }
+    }
+    unreachable!()
+}
+
+fn steal_at<R: Wait>(rt: &R, shared: &Shared, seat: &mut Seat, at: usize) -> Option<u32>
     requires seat { IsSeatOf shared.now seat.old }
     requires at { at < length shared.now.thieves.items }
     ensures same { IsSeatOf shared.now seat.new × SameDeque seat.old seat.new }
     ensures gains { Found result seat.old seat.new }
 {
-    steal(&shared.thieves[at], &mut seat.purse[at])
+    steal(rt, &shared.thieves[at], &mut seat.purse[at])
 }
 
 #[tactic(auto, using(crate::proofs::Gaining::gains))]
-fn steal_any(shared: &Shared, seat: &mut Seat) -> Option<u32>
+fn steal_any<R: Wait>(rt: &R, shared: &Shared, seat: &mut Seat) -> Option<u32>
     requires { IsSeatOf shared.now seat.old }
     ensures same { IsSeatOf shared.now seat.new × SameDeque seat.old seat.new }
     ensures gains { Found result seat.old seat.new }
 {
     for at in 0..shared.thieves.len() {
-        if let Some(task) = steal_at(shared, seat, at) {
+        if let Some(task) = steal_at(rt, shared, seat, at) {
             return Some(task);
         }
     }
@@ -124,7 +139,7 @@ fn find<R: Wait>(rt: &R, shared: &Shared, seat: &mut Seat) -> Option<u32>
         }
         match fetch(rt, shared, seat) {
             Steal::Success(task) => return Some(task),
-            Steal::Empty => return steal_any(shared, seat),
+            Steal::Empty => return steal_any(rt, shared, seat),
             Steal::Retry => thread::yield_now(),
         }
     }

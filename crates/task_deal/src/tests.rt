@@ -70,6 +70,18 @@ fn one_job_runs_each_number_once(rt: HostRuntime) -> Result<(), AllocError> {
     Ok(())
 }
 
+#[test]
+fn four_jobs_run_each_number_once(rt: HostRuntime) -> Result<(), AllocError> {
+    let mut jobs = keepers(rt.alloc(), 4, 200)?;
+    deal_all(&rt, rt.alloc(), 200, &mut jobs)?;
+    for number in 0..200 {
+        let once = jobs.iter().filter(|job| times(job, number) == 1).count();
+        let never = jobs.iter().filter(|job| times(job, number) == 0).count();
+        assert_eq!(rt; (once, never), (1, 3));
+    }
+    Ok(())
+}
+
 // How often a job looks for the other.
 const MOST_LOOKS: u32 = 100_000_000;
 
