@@ -1,0 +1,5 @@
+use Rattle.task_deal.proofs.Moves.{merges}
+use Rattle.task_deal.proofs.apart.absorb.Goals as goal
+
+pub absorb-requires-clause-rule : goal.absorb-requires-clause-rule
+absorb-requires-clause-rule c = merges _ _ _ _ c.requires.owner.1

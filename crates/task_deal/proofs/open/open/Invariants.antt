@@ -1,0 +1,6 @@
+use Rattle.std.proofs.Common.{◌≡◌, length}
+use Rattle.task_deal.specs.Open.{AreOpen}
+use Rattle.task_deal.proofs.open.open.Given as goal
+
+abbrev pub invariant-loop : goal.invariant-loop
+invariant-loop l = (length l.owns.items ≡ l.counter) × AreOpen l.thieves.items l.owns.items

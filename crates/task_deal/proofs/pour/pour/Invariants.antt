@@ -1,0 +1,8 @@
+use Rattle.std.proofs.Common.{◌≡◌, []}
+use Rattle.crossbeam_deque.specs.Injected.{injector_view, IsInjectorPassOf}
+use Rattle.task_deal.specs.Rule.{account}
+use Rattle.task_deal.specs.Jobs.{below}
+use Rattle.task_deal.proofs.pour.pour.Given as goal
+
+abbrev pub invariant-loop-task : goal.invariant-loop-task
+invariant-loop-task g l = IsInjectorPassOf l.source l.pass × (l.pass.id ≡ 0) × (injector_view l.pass ≡ account 0 (below l.task) [])

@@ -1,0 +1,13 @@
+use Rattle.std.proofs.Common.{arith}
+use Rattle.task_deal.proofs.Moves.{pushes, takes, finds, admits}
+use Rattle.task_deal.proofs.Gaining.{fetched}
+use Rattle.task_deal.proofs.seat.fetch.Goals as goal
+
+pub steal_batch_and_pop_as-requires-clause-takes : goal.steal_batch_and_pop_as-requires-clause-takes
+steal_batch_and_pop_as-requires-clause-takes g c = (takes _ _ 32 (omega (arith, c.requires.part)), admits, finds _ _)
+
+pub steal_batch_and_pop_as-requires-clause-pushes : goal.steal_batch_and_pop_as-requires-clause-pushes
+steal_batch_and_pop_as-requires-clause-pushes g c = λ x xs w h. pushes _ _ _ c.requires.port
+
+pub returns-clause-gains : goal.returns-clause-gains
+returns-clause-gains g c = fetched c.args.seat.now c.steal_batch_and_pop_as.new.pass c.steal_batch_and_pop_as.new.dest 32 c.requires.flavor c.steal_batch_and_pop_as.result _ c.steal_batch_and_pop_as.ensures.rules

@@ -1,0 +1,7 @@
+use Rattle.std.proofs.Common.{◌≡◌}
+use Rattle.crossbeam_deque.specs.Handles.{view}
+use Rattle.task_deal.specs.Seats.{IsPart}
+use Rattle.task_deal.proofs.seat.steal.Given as goal
+
+abbrev pub invariant-loop : goal.invariant-loop
+invariant-loop g l = (goal.iterator-loop g).can_next l.iterator' × (goal.iterator-loop g).is_finite l.iterator' × IsPart l.thief l.pass × (view l.pass ≡ view l.initial.pass)

@@ -1,0 +1,6 @@
+use Rattle.std.proofs.Common.{arith}
+use Rattle.task_deal.proofs.Moves.{takes}
+use Rattle.task_deal.proofs.seat.steal_once.Goals as goal
+
+pub steal_as-requires-clause-takes : goal.steal_as-requires-clause-takes
+steal_as-requires-clause-takes c = takes _ _ 1 (omega (arith, c.requires.1))

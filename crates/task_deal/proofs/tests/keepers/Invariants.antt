@@ -1,0 +1,5 @@
+use Rattle.std.proofs.Common.{◌≡◌, ◌≤◌, All, length}
+use Rattle.task_deal.proofs.tests.keepers.Given as goal
+
+abbrev pub invariant-loop : goal.invariant-loop
+invariant-loop l = (length l.jobs.items ≡ l.counter) × All (λ job. l.room ≤ job.numbers.spare) l.jobs.items

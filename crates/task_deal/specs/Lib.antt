@@ -1,0 +1,9 @@
+pub mod Jobs
+pub mod Rule
+pub mod Seats
+pub mod Members
+pub mod Drains
+pub mod Apart
+pub mod Ledger
+pub mod Open
+pub mod Laws

@@ -1,0 +1,73 @@
+//! Numbers are dealt to jobs.
+ghost use Rattle.std.specs.Prelude.{◌≡◌, ◌<◌, ◌≤◌, length, All, OnOk, OnErr};
+ghost use Rattle.uc_model.specs.declared.limits.TheConstants.{MOST_UNITS};
+ghost use Rattle.task_deal.specs.Jobs.{IsDealt};
+
+use crate::apart::{put_together, take_apart};
+use crate::drain::{check_all, drain_all};
+use crate::job::Job;
+use crate::member::work_all;
+use crate::open::{fill_all, open};
+use crate::pour::pour;
+use crate::rule::Shared;
+use crate::settle::settle;
+use std::alloc::{AllocError, Global};
+use std::sync::Wait;
+use std::thread::Threads;
+
+/// Jobs of one deal.
+pub const MOST_JOBS: usize = 32;
+
+/// Deals the numbers below `tasks` to the jobs, each of which runs its share in a thread of its
+/// own, where one can be made. Each job keeps its place and what it works on. What the jobs add to
+/// the numbers that they have run is, all together, each number below `tasks` once, and no other;
+/// which job runs which isn't said.
+///
+/// Waits for the threads. There are 1 to `MOST_JOBS` jobs and at most as many numbers as a case
+/// may have units, and each job has room for all of them.
+///
+/// # Errors
+///
+/// `AllocError` for want of memory, before any job has run: all jobs are unchanged.
+pub fn deal_all<J: Job + Send + Drop, R: Threads + Wait + Sync>(
+    rt: &R,
+    alloc: Global,
+    tasks: u32,
+    jobs: &mut Vec<J>,
+) -> Result<(), AllocError>
+    requires jobs { (0 < length jobs.old.items) × (length jobs.old.items ≤ MOST_JOBS) }
+    requires tasks { tasks ≤ MOST_UNITS }
+    requires spare { All (λ job. tasks ≤ J.spare job) jobs.old.items }
+    ensures dealt { let Dealt = IsDealt J.work J.runs J.spare tasks in
+        OnOk result (Dealt jobs.old.items jobs.new.items) }
+    ensures refused { OnErr result (jobs.new.items ≡ jobs.old.items) }
+{
+    let count = jobs.len();
+    let (source, mut owner) = pour(rt, alloc, tasks)?;
+    let (mut owns, thieves) = open(alloc, count)?;
+    let shared = Shared { source, thieves };
+    let mut purses = fill_all(alloc, &shared, &mut owns, count)?;
+    let mut members = Vec::with_capacity(alloc, count)?;
+    // Nothing may fail from here on.
+    put_together(
+        &shared.source,
+        &mut owner,
+        jobs,
+        &mut owns,
+        &mut purses,
+        &mut members,
+    );
+    work_all(rt, &shared, tasks, &mut members);
+    take_apart(
+        &shared.source,
+        &mut owner,
+        members,
+        jobs,
+        &mut owns,
+        &mut purses,
+    );
+    settle(&shared, &mut owns, purses);
+    check_all(&shared, &mut owns);
+    drain_all(rt, &shared, tasks, &mut owner, &mut owns, jobs);
+    Ok(())
+}

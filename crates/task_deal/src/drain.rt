@@ -1,0 +1,193 @@
+//! What the threads left is run by one job.
+ghost use Rattle.std.specs.Prelude.{All, List, ◌≡◌, ◌+◌, ◌<◌, ◌≤◌, ℕ, length, ◌∷◌, [], ◌++◌};
+ghost use Rattle.std.specs.Prelude.{MatchOption};
+ghost use Rattle.crossbeam_deque.specs.Steals.{MatchSteal};
+ghost use Rattle.crossbeam_deque.specs.Injected.{injector_view, IsInjectorPassOf};
+ghost use Rattle.crossbeam_deque.specs.Handles.{worker_view, worker_flavor, worker_port, SameWorker};
+ghost use Rattle.task_deal.specs.declared.rule.Account.{Account};
+ghost use Rattle.task_deal.specs.Drains.{RanTaken};
+ghost use Rattle.task_deal.specs.Jobs.{HasRun, IsDealt};
+ghost use Rattle.task_deal.specs.Ledger.{IsEmptied, Ledger};
+ghost use Rattle.task_deal.specs.Rule.{account, Fits, IsSettled};
+ghost use Rattle.task_deal.specs.Seats.{HaveTaken, Each, Stands};
+
+use crate::job::Job;
+use crate::rule::{Deque, Drains, Fitting, Shared, Source, SourcePass};
+use crossbeam_deque::Steal;
+use std::sync::Wait;
+use std::thread;
+
+// No more were taken than were put.
+fn check(own: &mut Deque)
+    requires { worker_port own.old ≡ 0 }
+    ensures same { SameWorker own.old own.new }
+    ensures view { worker_view own.new ≡ worker_view own.old }
+    ensures fits { Fits (worker_view own.new) }
+{
+    own.len_as::<Fitting>();
+}
+
+fn check_at(shared: &Shared, owns: &mut Vec<Deque>, at: usize)
+    requires at { at < length owns.old.items }
+    requires stands { let last = length owns.old.items in
+        Each (Stands shared.now.thieves.items 0) 0 last owns.old.items }
+    ensures count { length owns.new.items ≡ length owns.old.items }
+    ensures stands { let last = length owns.new.items in
+        Each (Stands shared.now.thieves.items 0) 0 last owns.new.items }
+    ensures books { HaveTaken (λ h. 0) owns.old.items owns.new.items }
+    ensures fits { Each (λ _ w. Fits (worker_view w)) 0 at owns.old.items →
+        Each (λ _ w. Fits (worker_view w)) 0 (at + 1) owns.new.items }
+{
+    check(&mut owns[at]);
+}
+
+/// Of no deque more was taken than was put.
+pub(crate) fn check_all(shared: &Shared, owns: &mut Vec<Deque>)
+    requires stands { let last = length owns.old.items in
+        Each (Stands shared.now.thieves.items 0) 0 last owns.old.items }
+    ensures count { length owns.new.items ≡ length owns.old.items }
+    ensures stands { let last = length owns.new.items in
+        Each (Stands shared.now.thieves.items 0) 0 last owns.new.items }
+    ensures books { HaveTaken (λ h. 0) owns.old.items owns.new.items }
+    ensures fits { All (λ w. Fits (worker_view w)) owns.new.items }
+{
+    for at in 0..owns.len() {
+        check_at(shared, owns, at);
+    }
+}
+
+fn next_own(own: &mut Deque) -> Option<u32>
+    requires { (worker_port own.old ≡ 0) × (worker_flavor own.old ≡ 0) }
+    ensures same { SameWorker own.old own.new }
+    ensures view { let v = worker_view own.old in let w = worker_view own.new in
+        MatchOption result ((w ≡ v) × IsSettled v)
+        (λ x. (w ≡ account v.parts v.put (v.taken ++ x ∷ [])) × Fits w) }
+{
+    own.pop_as::<Drains>()
+}
+
+fn next_source<R: Wait>(rt: &R, source: &Source, pass: &mut SourcePass) -> Steal<u32>
+    requires { IsInjectorPassOf source.now pass.old × (pass.old.id ≡ 0) }
+    ensures same { IsInjectorPassOf source.now pass.new × (pass.new.id ≡ 0) }
+    ensures view { let v = injector_view pass.old in let w = injector_view pass.new in
+        MatchSteal result ((w ≡ v) × IsSettled v) (w ≡ v)
+        (λ x. (w ≡ account v.parts v.put (v.taken ++ x ∷ [])) × Fits w) }
+{
+    source.steal_as::<Drains, R>(rt, pass)
+}
+
+/// Runs what a deque still has.
+#[tactic(auto, using(crate::proofs::Draining::drains))]
+fn drain_own<J: Job, R: Wait>(rt: &R, own: &mut Deque, job: &mut J)
+    requires own { (worker_port own.old ≡ 0) × (worker_flavor own.old ≡ 0)
+        × ((worker_view own.old).parts ≡ 0) }
+    requires room { let v = worker_view own.old in
+        length v.put ≤ length v.taken + J.spare job.old }
+    ensures same { SameWorker own.old own.new }
+    ensures job { HasRun J.work J.runs J.spare job.old job.new }
+    ensures books { RanTaken J.runs (worker_view own.old) (worker_view own.new) job.old job.new }
+    ensures all { IsSettled (worker_view own.new) × ((worker_view own.new).parts ≡ 0) }
+{
+    for _ in rt.forever() {
+        let Some(task) = next_own(own) else {
+            return;
+        };
+        job.run(task);
+    }
+    unreachable!()
+}
+
+/// Runs what the source still has.
+#[tactic(auto, using(crate::proofs::Draining::drains))]
+fn drain_source<J: Job, R: Wait>(rt: &R, source: &Source, pass: &mut SourcePass, job: &mut J)
+    requires pass { IsInjectorPassOf source.now pass.old × (pass.old.id ≡ 0)
+        × ((injector_view pass.old).parts ≡ 0) }
+    requires room { let v = injector_view pass.old in
+        length v.put ≤ length v.taken + J.spare job.old }
+    ensures same { IsInjectorPassOf source.now pass.new × (pass.new.id ≡ 0) }
+    ensures job { HasRun J.work J.runs J.spare job.old job.new }
+    ensures books { RanTaken J.runs (injector_view pass.old) (injector_view pass.new)
+        job.old job.new }
+    ensures all { IsSettled (injector_view pass.new) × ((injector_view pass.new).parts ≡ 0) }
+{
+    for _ in rt.forever() {
+        match next_source(rt, source, pass) {
+            Steal::Success(task) => job.run(task),
+            Steal::Empty => return,
+            Steal::Retry => thread::yield_now(),
+        }
+    }
+    unreachable!()
+}
+
+fn drain_at<J: Job, R: Wait>(
+    rt: &R,
+    shared: &Shared,
+    tasks: u32,
+    owns: &mut Vec<Deque>,
+    jobs: &mut Vec<J>,
+    at: usize,
+)
+    requires at { (at < length owns.old.items) × (0 < length jobs.old.items) }
+    requires ledger { (first : List J) × (v : Account) × Fits v
+        × Ledger J.work J.runs J.spare shared.now.thieves.items tasks first jobs.old.items v
+        owns.old.items }
+    ensures count { (length owns.new.items ≡ length owns.old.items)
+        × (length jobs.new.items ≡ length jobs.old.items) }
+    ensures ledger { let Holds = Ledger J.work J.runs J.spare shared.now.thieves.items tasks in
+        (first : List J) (v : Account) →
+        Holds first jobs.old.items v owns.old.items → Holds first jobs.new.items v owns.new.items }
+    ensures even { Each (λ _ w. IsEmptied w) 0 at owns.old.items →
+        Each (λ _ w. IsEmptied w) 0 (at + 1) owns.new.items }
+{
+    drain_own(rt, &mut owns[at], &mut jobs[0]);
+}
+
+fn drain_first<J: Job, R: Wait>(
+    rt: &R,
+    shared: &Shared,
+    tasks: u32,
+    owner: &mut SourcePass,
+    owns: &Vec<Deque>,
+    jobs: &mut Vec<J>,
+)
+    requires owner { IsInjectorPassOf shared.now.source owner.old × (owner.old.id ≡ 0) }
+    requires some { 0 < length jobs.old.items }
+    requires ledger { (first : List J)
+        × Ledger J.work J.runs J.spare shared.now.thieves.items tasks first jobs.old.items
+        (injector_view owner.old) owns.now.items }
+    ensures count { length jobs.new.items ≡ length jobs.old.items }
+    ensures settled { IsSettled (injector_view owner.new) }
+    ensures ledger { let Holds = Ledger J.work J.runs J.spare shared.now.thieves.items tasks in
+        (first : List J) →
+        Holds first jobs.old.items (injector_view owner.old) owns.now.items →
+        Holds first jobs.new.items (injector_view owner.new) owns.now.items }
+{
+    drain_source(rt, &shared.source, owner, &mut jobs[0]);
+}
+
+/// The first job runs all that the threads left. Then the numbers are dealt to the jobs as they
+/// were before, `first`.
+pub(crate) fn drain_all<J: Job, R: Wait>(
+    rt: &R,
+    shared: &Shared,
+    tasks: u32,
+    owner: &mut SourcePass,
+    owns: &mut Vec<Deque>,
+    jobs: &mut Vec<J>,
+)
+    requires owner { IsInjectorPassOf shared.now.source owner.old × (owner.old.id ≡ 0) }
+    requires some { 0 < length jobs.old.items }
+    requires ledger { (first : List J)
+        × Ledger J.work J.runs J.spare shared.now.thieves.items tasks first jobs.old.items
+        (injector_view owner.old) owns.old.items }
+    ensures { (first : List J) →
+        Ledger J.work J.runs J.spare shared.now.thieves.items tasks first jobs.old.items
+        (injector_view owner.old) owns.old.items →
+        IsDealt J.work J.runs J.spare tasks first jobs.new.items }
+{
+    drain_first(rt, shared, tasks, owner, owns, jobs);
+    for at in 0..owns.len() {
+        drain_at(rt, shared, tasks, owns, jobs, at);
+    }
+}

@@ -1,0 +1,168 @@
+//! Jobs that keep a list of what they ran.
+ghost use Rattle.std.specs.Prelude.{◌≡◌, ◌≤◌, length, All, IfOk};
+ghost use Rattle.task_deal.specs.declared.tests.Keeper.{Keeper};
+
+use crate::{Job, deal_all};
+use std::alloc::{AllocError, Global};
+use std::sync::atomic::AtomicBool;
+use std::sync::atomic::Ordering::SeqCst;
+use std::thread;
+use uc_model::lists::ReservedList;
+
+/// Keeps the numbers that it ran.
+#[derive(Drop)]
+struct Keeper {
+    numbers: ReservedList<u32>,
+}
+
+impl Job for Keeper {
+    ghost Work = { Unit {0} };
+
+    ghost work = { λ job. tt };
+
+    ghost runs = { λ job. job.numbers.items };
+
+    ghost spare = { λ job. job.numbers.spare };
+
+    fn run(&mut self, task: u32) {
+        self.numbers.push(task);
+    }
+}
+
+fn keepers(alloc: Global, count: usize, room: u32) -> Result<Vec<Keeper>, AllocError>
+    ensures count { IfOk result (λ jobs. length jobs.items ≡ count) }
+    ensures room { IfOk result (λ jobs. All (λ job. room ≤ job.numbers.spare) jobs.items) }
+{
+    let mut jobs = Vec::new(alloc);
+    for _ in 0..count {
+        let numbers = ReservedList::make(alloc, room)?;
+        jobs.push(Keeper { numbers })?;
+    }
+    Ok(jobs)
+}
+
+// How often a job ran a number.
+fn times(job: &Keeper, number: u32) -> usize {
+    let numbers = job.numbers.as_slice();
+    numbers.iter().filter(|ran| **ran == number).count()
+}
+
+#[test]
+fn no_number_changes_no_job(rt: HostRuntime) -> Result<(), AllocError> {
+    let mut jobs = keepers(rt.alloc(), 2, 0)?;
+    deal_all(&rt, rt.alloc(), 0, &mut jobs)?;
+    for job in &jobs {
+        assert!(rt; job.numbers.is_empty());
+    }
+    Ok(())
+}
+
+#[test]
+fn one_job_runs_each_number_once(rt: HostRuntime) -> Result<(), AllocError> {
+    let mut jobs = keepers(rt.alloc(), 1, 5)?;
+    deal_all(&rt, rt.alloc(), 5, &mut jobs)?;
+    for job in &jobs {
+        assert_eq!(rt; job.numbers.len(), 5);
+        for number in 0..5 {
+            assert_eq!(rt; times(job, number), 1);
+        }
+    }
+    Ok(())
+}
+
+#[test]
+fn four_jobs_run_each_number_once(rt: HostRuntime) -> Result<(), AllocError> {
+    let mut jobs = keepers(rt.alloc(), 4, 200)?;
+    deal_all(&rt, rt.alloc(), 200, &mut jobs)?;
+    for number in 0..200 {
+        let once = jobs.iter().filter(|job| times(job, number) == 1).count();
+        let never = jobs.iter().filter(|job| times(job, number) == 0).count();
+        assert_eq!(rt; (once, never), (1, 3));
+    }
+    Ok(())
+}
+
+// How often a job looks for the other.
+const MOST_LOOKS: u32 = 100_000_000;
+
+/// Keeps the numbers that it ran. At its first it looks until the other job has begun one, and
+/// notes whether it looked in vain.
+#[derive(Drop)]
+struct Watcher<'a> {
+    numbers: ReservedList<u32>,
+    begun: &'a AtomicBool,
+    other_begun: &'a AtomicBool,
+    in_vain: bool,
+}
+
+impl<'a> Job for Watcher<'a> {
+    ghost Work = { Unit {0} };
+
+    ghost work = { λ job. tt };
+
+    ghost runs = { λ job. job.numbers.items };
+
+    ghost spare = { λ job. job.numbers.spare };
+
+    fn run(&mut self, task: u32) {
+        if self.numbers.is_empty() {
+            self.begun.store(true, SeqCst);
+            self.in_vain = !is_set_in_time(self.other_begun);
+        }
+        self.numbers.push(task);
+    }
+}
+
+fn is_set_in_time(flag: &AtomicBool) -> bool {
+    for _ in 0..MOST_LOOKS {
+        if flag.load(SeqCst) {
+            return true;
+        }
+        thread::yield_now();
+    }
+    false
+}
+
+fn new_watcher<'a>(
+    alloc: Global,
+    begun: &'a AtomicBool,
+    other_begun: &'a AtomicBool,
+) -> Result<Watcher<'a>, AllocError>
+    ensures { IfOk result (λ job. 2 ≤ job.numbers.spare) }
+{
+    let numbers = ReservedList::make(alloc, 2)?;
+    Ok(Watcher {
+        numbers,
+        begun,
+        other_begun,
+        in_vain: false,
+    })
+}
+
+fn watchers<'a>(
+    alloc: Global,
+    one: &'a AtomicBool,
+    two: &'a AtomicBool,
+) -> Result<Vec<Watcher<'a>>, AllocError>
+    ensures count { IfOk result (λ jobs. length jobs.items ≡ 2) }
+    ensures room { IfOk result (λ jobs. All (λ job. 2 ≤ job.numbers.spare) jobs.items) }
+{
+    let first = new_watcher(alloc, one, two)?;
+    let second = new_watcher(alloc, two, one)?;
+    let mut jobs = Vec::new(alloc);
+    jobs.push(first)?;
+    jobs.push(second)?;
+    Ok(jobs)
+}
+
+#[test]
+fn two_jobs_run_on_two_threads(rt: HostRuntime) -> Result<(), AllocError> {
+    let (one, two) = (AtomicBool::new(false), AtomicBool::new(false));
+    let mut jobs = watchers(rt.alloc(), &one, &two)?;
+    deal_all(&rt, rt.alloc(), 2, &mut jobs)?;
+    for job in &jobs {
+        assert_eq!(rt; job.numbers.len(), 1);
+        assert!(rt; !job.in_vain);
+    }
+    Ok(())
+}
