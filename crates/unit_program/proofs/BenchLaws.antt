@@ -17,16 +17,21 @@ charge_less periods points blocks few = mul-le-mul_left periods (omega (arith, f
 pub bench_kept : {R : Type 0} (room : R → ℕ) (periods points : ℕ) (old new : Bench R) →
     length old.curve.blocks.items + old.curve.blocks.spare ≡ length new.curve.blocks.items + new.curve.blocks.spare → length new.runners.items ≡ length old.runners.items →
     ((most periods : ℕ) → HaveRoom room most periods old.runners.items → HaveRoom room most periods new.runners.items) → length new.table.items ≡ length old.table.items →
-    IsBenchFor room periods points old → IsBenchFor room periods points new
-bench_kept room periods points old new curve count keeps rows b =
+    length new.origins.list.items ≡ length old.origins.list.items →
+    length new.roster.firsts.items ≡ length old.roster.firsts.items → IsBenchFor room periods points old → IsBenchFor room periods points new
+bench_kept room periods points old new curve count keeps rows list firsts b =
     let blocks = b.blocks in
     let enough = b.count in
     let long = b.rows in
+    let origins = b.origins in
+    let roster = b.roster in
     record {
       blocks = omega (arith, blocks, curve);
       count = omega (arith, enough, count);
       room = keeps (periods * (2 * points + 3)) periods b.room;
       rows = omega (arith, long, rows);
+      origins = omega (arith, origins, list);
+      roster = omega (arith, roster, firsts);
     }
 
 -- ---- runners made one by one

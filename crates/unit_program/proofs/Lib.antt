@@ -10,7 +10,10 @@ pub mod EntryLaws
 pub mod FillLaws
 pub mod ListLaws
 pub mod LiveLaws
+pub mod OriginLaws
 pub mod PeriodLaws
+pub mod RipeLaws
+pub mod RosterLaws
 pub mod RowByRowLaws
 pub mod RowLaws
 pub mod RunAllLaws

@@ -3,6 +3,8 @@ pub mod Backs
 pub mod Builds
 pub mod Lists
 pub mod Live
+pub mod Origins
+pub mod Rosters
 pub mod Rows
 pub mod Runners
 pub mod Spells

@@ -12,7 +12,9 @@ ghost use Rattle.unit_program.specs.Rows.{cost_at, first_at, IsFilled};
 ghost use Rattle.unit_program.specs.Runners.{HaveWays};
 
 use crate::answer::least_end;
+use crate::origins::Origins;
 use crate::periods::fill_by_periods;
+use crate::roster::Roster;
 use crate::runner::Runner;
 use crate::table::Table;
 use crate::way::write_noted;
@@ -30,6 +32,10 @@ pub struct Bench<R> {
     pub curve: Curve,
     /// The spells that go forward together.
     pub runners: Vec<Runner<R>>,
+    /// The ends that the next start may follow.
+    pub origins: Origins,
+    /// Which spells go forward.
+    pub roster: Roster,
     pub table: Table,
 }
 
@@ -78,10 +84,14 @@ impl Bench<Slopes> {
             blocks,
         };
         let runners = make_runners(alloc, periods + 1, pieces as usize)?;
+        let origins = Origins::make(alloc, periods)?;
+        let roster = Roster::make(alloc, periods)?;
         let table = Table::filled(alloc, periods + 1, None)?;
         Ok(Bench {
             curve,
             runners,
+            origins,
+            roster,
             table,
         })
     }
@@ -100,6 +110,8 @@ fn fill_bench<R: Running>(bench: &mut Bench<R>, unit: &Unit, prices: &Prices)
         unit,
         &bench.curve,
         prices,
+        &mut bench.origins,
+        &mut bench.roster,
         bench.runners.as_mut_slice(),
         &mut bench.table,
     );

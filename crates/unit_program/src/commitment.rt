@@ -1,7 +1,8 @@
 //! Which spells and times off the commitment rules allow. Periods count from 1; 0 is the state before the horizon.
-ghost use Rattle.std.specs.Prelude.{◌≡◌, ℕ, ◌+◌, ◌<◌, ◌≤◌, ◌↔◌, IsTrue, IsFalse, length, suc};
+ghost use Rattle.std.specs.Prelude.{◌≡◌, ℕ, ◌+◌, ◌<◌, ◌≤◌, ◌↔◌, ◌⊎◌, IsTrue, IsFalse, IfSome, Some, length, suc};
 ghost use Rattle.uc_model.specs.PlainUnits.{thermal_of};
 ghost use Rattle.uc_model.specs.Schedules.{mark_in};
+ghost use Rattle.unit_program.specs.Origins.{IsRipe};
 ghost use Rattle.unit_program.specs.Rows.{IsOpenUntil};
 ghost use Rattle.unit_program.specs.Spells.{off_time, on_time, IsOffRun, StopsAtOnce};
 
@@ -46,6 +47,15 @@ pub fn is_must_off(unit: &Unit, place: u32) -> bool
     unit.window.as_slice()[place as usize] == Mark::MustOff
 }
 
+/// Whether the unit must be on in the period at a place.
+pub fn must_be_on(unit: &Unit, place: u32) -> bool
+    requires { place < length (thermal_of unit.now).window }
+    ensures yes { IsTrue result → IsTrue unit.now.must_run ⊎ (mark_in (thermal_of unit.now).window (suc place) ≡ Mark.MustOn) }
+    ensures no { IsFalse result → IsFalse unit.now.must_run × (mark_in (thermal_of unit.now).window (suc place) ≡ Mark.MustOn → ⊥) }
+{
+    unit.must_run || unit.window.as_slice()[place as usize] == Mark::MustOn
+}
+
 // How many of the marks from a place on come before the first `MustOff`, and the place where they end.
 fn before_must_off(marks: &[Mark], from: u32) -> u32
     requires small { length marks.now ≤ 168 }
@@ -85,6 +95,26 @@ pub fn time_off(unit: &Unit, last: u32, period: u32) -> u64
     } else {
         u64::from(unit.down0) + u64::from(period)
     }
+}
+
+/// The last on period since which the unit has been off for long enough at the end of a period, and a period before it
+/// hadn't been.
+pub fn ripened(unit: &Unit, period: u32) -> Option<u32>
+    requires { period ≤ 168 }
+    ensures some { IfSome result (IsRipe (thermal_of unit.now) period) }
+    ensures only { (last : ℕ) → IsRipe (thermal_of unit.now) period last → result ≡ Some last }
+{
+    if period > unit.min_down {
+        return Some(period - unit.min_down);
+    }
+    let down = time_off(unit, 0, period);
+    if down < u64::from(unit.min_down) {
+        return None;
+    }
+    if period > 0 && down > u64::from(unit.min_down) {
+        return None;
+    }
+    Some(0)
 }
 
 // The time on at the end of a spell in periods.

@@ -11,11 +11,13 @@ ghost use Rattle.uc_model.specs.Data.{PriceLists};
 ghost use Rattle.uc_model.specs.PlainUnits.{thermal_of, prices_of};
 ghost use Rattle.uc_model.specs.Schedules.{mark_in};
 ghost use Rattle.unit_program.specs.Live.{going_of, live_at, left_at, IsRoomy, AreRoomy, AreSmall, IsUnder, IsBelow, HaveRoom};
+ghost use Rattle.unit_program.specs.Rosters.{IsRoster};
 ghost use Rattle.unit_program.specs.Rows.{row_at, cost_at, first_at, before_at, IsWithinTimes, AreWithin};
 ghost use Rattle.unit_program.specs.Runners.{Going, MayBeOn, AreRunners, IsRowOf, IsGoneOn, IsEndLeft};
 ghost use Rattle.unit_program.specs.Spells.{on_time};
 
 use crate::commitment::{is_long_enough, may_end};
+use crate::roster::Roster;
 use crate::table::{Entry, Table, put_end, sum_of};
 use slope_list::Lowest;
 use spell_run::{Passed, Running, begin, end_and_run, run_over};
@@ -121,14 +123,19 @@ fn undercuts_from<R: Running>(runners: &[Runner<R>], first: u32, power: i64, cos
     undercuts(&runners[first as usize], power, cost)
 }
 
-/// Whether one of the runners that begin before period `until` is at a power, its first, for less than a cost.
-pub fn is_undercut<R: Running>(runners: &[Runner<R>], until: u32, power: i64, cost: i64) -> bool
-    requires room { until ≤ length runners.now }
+/// Whether one of the runners of a roster is at a power, its first, for less than a cost.
+pub fn is_undercut<R: Running>(
+    runners: &[Runner<R>],
+    roster: &Roster,
+    power: i64,
+    cost: i64,
+) -> bool
+    requires roster { IsRoster (live_at R.function runners.now) (length runners.now) roster.now }
     requires small { AreSmall (live_at R.function runners.now) }
     ensures { OnTrue result ((first : ℕ) × (r : Going) × (live_at R.function runners.now first ≡ Some r) × IsUnder power cost r) }
 {
-    for first in 0..until {
-        if undercuts_from(runners, first, power, cost) {
+    for place in 0..roster.count {
+        if undercuts_from(runners, *roster.firsts.get(place as usize), power, cost) {
             return true;
         }
     }
@@ -285,12 +292,13 @@ fn run_at<R: Running>(
     }
 }
 
-/// Takes all runners that begin up to the period at a place over it, and fills its row.
+/// Takes all runners that begin up to the period at a place over it, and fills its row. The roster has all that are on.
 pub fn run_all<R: Running>(
     unit: &Unit,
     curve: &Curve,
     prices: &Prices,
     place: u32,
+    roster: &Roster,
     runners: &mut [Runner<R>],
     table: &mut Table,
 )
@@ -300,6 +308,7 @@ pub fn run_all<R: Running>(
     requires open { mark_in (thermal_of unit.now).window (suc place) ≡ MustOff → ⊥ }
     requires runners { length (prices_of prices.now).energy < length runners.old }
     requires now { AreRunners (thermal_of unit.now) (prices_of prices.now) (cost_at table.old.items) (live_at R.function runners.old) place (suc (suc place)) }
+    requires roster { IsRoster (live_at R.function runners.old) (suc (suc place)) roster.now }
     requires room { AreRoomy R.count R.room (length (prices_of prices.now).energy) place (length curve.now.blocks.items + 3) runners.old }
     requires rows { length (prices_of prices.now).energy < length table.old.items }
     requires within { AreWithin table.old.items }
@@ -319,7 +328,8 @@ pub fn run_all<R: Running>(
     ensures keeps { (most periods : ℕ) → HaveRoom R.room most periods runners.old → HaveRoom R.room most periods runners.new }
     ensures count { length runners.new ≡ length runners.old }
 {
-    for first in 0..place + 2 {
+    for index in 0..roster.count {
+        let first = *roster.firsts.get(index as usize);
         run_at(unit, curve, prices, place, first, runners, table);
     }
 }
@@ -374,6 +384,7 @@ fn prune_one<R: Running>(
         AreRunners (thermal_of unit.now) π ends (live_at R.function runners.new) period n }
     ensures small { AreSmall (live_at R.function runners.new) }
     ensures left { (first k : ℕ) → left_at runners.new first k ≡ left_at runners.old first k }
+    ensures off { (first : ℕ) → live_at R.function runners.old first ≡ None → live_at R.function runners.new first ≡ None }
     ensures room { (periods t charge : ℕ) → AreRoomy R.count R.room periods t charge runners.old → AreRoomy R.count R.room periods t charge runners.new }
     ensures keeps { (most periods : ℕ) → HaveRoom R.room most periods runners.old → HaveRoom R.room most periods runners.new }
     ensures length { length runners.new ≡ length runners.old }
@@ -396,21 +407,24 @@ fn prune_one<R: Running>(
     Some(early)
 }
 
-/// Stops each runner that a later one stands for at the end of a period.
-pub fn prune<R: Running>(unit: &Unit, period: u32, runners: &mut [Runner<R>])
+/// Stops each runner that a later one stands for at the end of a period. The roster has all that are on.
+pub fn prune<R: Running>(unit: &Unit, period: u32, roster: &Roster, runners: &mut [Runner<R>])
     requires periods { period ≤ 168 }
     requires end { period < length runners.old }
     requires small { AreSmall (live_at R.function runners.old) }
+    requires roster { IsRoster (live_at R.function runners.old) (suc period) roster.now }
     ensures stands { (π : PriceLists) (ends : ℕ → Option ℤ) (n : ℕ) →
         AreRunners (thermal_of unit.now) π ends (live_at R.function runners.old) period n →
         AreRunners (thermal_of unit.now) π ends (live_at R.function runners.new) period n }
     ensures left { (first k : ℕ) → left_at runners.new first k ≡ left_at runners.old first k }
+    ensures off { (first : ℕ) → live_at R.function runners.old first ≡ None → live_at R.function runners.new first ≡ None }
     ensures room { (periods t charge : ℕ) → AreRoomy R.count R.room periods t charge runners.old → AreRoomy R.count R.room periods t charge runners.new }
     ensures keeps { (most periods : ℕ) → HaveRoom R.room most periods runners.old → HaveRoom R.room most periods runners.new }
     ensures length { length runners.new ≡ length runners.old }
 {
     let mut late = None;
-    for back in 0..period + 1 {
-        late = prune_one(unit, period, period - back, late, runners);
+    for back in 0..roster.count {
+        let first = *roster.firsts.get((roster.count - back) as usize - 1);
+        late = prune_one(unit, period, first, late, runners);
     }
 }

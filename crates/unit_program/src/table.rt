@@ -33,7 +33,7 @@ pub struct Entry {
 }
 
 // The cost of a start in the period after `before`.
-fn start_after(unit: &Unit, last: u32, before: u32) -> i64
+pub(crate) fn start_after(unit: &Unit, last: u32, before: u32) -> i64
     requires { last ≤ before }
     ensures value { result ≡ start_cost_after (thermal_of unit.now) last before }
     ensures bound { IsWithinTimes 1 result }

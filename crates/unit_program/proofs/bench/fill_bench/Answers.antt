@@ -23,12 +23,12 @@ returns-clause-bench g c = λ periods points b.
     let lent = c.as_mut_slice.ensures in
     let same = with_items_is c.args.bench.now.runners c.fill_by_periods.new.runners (c.fill_by_periods.ensures.count ∙ lent.len) in
     bench_kept g.R.Running.room periods points c.args.bench.now
-    (record { curve = c.curve_into.new.into; runners = with_items c.args.bench.now.runners c.fill_by_periods.new.runners; table = c.fill_by_periods.new.table })
+    (record { curve = c.curve_into.new.into; runners = with_items c.args.bench.now.runners c.fill_by_periods.new.runners; origins = c.fill_by_periods.new.origins; roster = c.fill_by_periods.new.roster; table = c.fill_by_periods.new.table })
     (sym c.curve_into.ensures.room) (ap length same ∙ c.fill_by_periods.ensures.count ∙ ap length lent.value)
     (λ most periods have.
     subst (λ (xs : List (Runner g.row.R.Denot)). HaveRoom g.R.Running.room most periods xs) (sym same)
     (c.fill_by_periods.ensures.keeps most periods (subst (λ (xs : List (Runner g.row.R.Denot)). HaveRoom g.R.Running.room most periods xs) (sym lent.value) have)))
-    c.fill_by_periods.ensures.length b
+    c.fill_by_periods.ensures.length c.fill_by_periods.ensures.list c.fill_by_periods.ensures.firsts b
 
 pub returns-clause-ways : goal.returns-clause-ways
 returns-clause-ways g c =

@@ -14,4 +14,6 @@ returns c = λ periods points fewer less b few low h.
       count = omega (arith, count, few);
       room = λ f r is. (let there = h.room f r is in let pieces = there.0 in let places = there.1 in (omega (arith, wide, long, pieces), omega (arith, places, few)));
       rows = omega (arith, rows, few);
+      origins = (let origins = h.origins in omega (arith, origins, few));
+      roster = (let roster = h.roster in omega (arith, roster, few));
     }

@@ -1,6 +1,8 @@
-use Rattle.std.proofs.Common.{length, refl, ap}
+use Rattle.std.proofs.Common.{ℕ, List, length, refl, ap, ◌∙◌, arith, length-set}
 use Rattle.uc_model.specs.PlainUnits.{thermal_of}
+use Rattle.unit_program.specs.Live.{live_at}
 use Rattle.unit_program.proofs.LiveLaws.{roomy_begun, written_keeps, written_left}
+use Rattle.unit_program.proofs.RosterLaws.{none_listed, begun_listed}
 use Rattle.unit_program.proofs.RunAllLaws.{item_at}
 use Rattle.unit_program.proofs.StartLaws.{none_goes_on, one_goes_on}
 use Rattle.unit_program.proofs.periods.go_on.Goals as goal
@@ -27,3 +29,16 @@ pub returns-then-unit-clause-left : goal.returns-then-unit-clause-left
 returns-then-unit-clause-left g c =
     written_left g.R.Running.function c.args.runners.now _ 0 c.begin_runner.new.runner c.requires.some refl
     _ (item_at g.R.Running.function c.args.runners.now 0 c.requires.some _) c.begin_runner.ensures.passed
+
+pub returns-then-unit-clause-roster : goal.returns-then-unit-clause-roster
+returns-then-unit-clause-roster g c =
+    let none = c.requires.none in
+    let room = c.requires.list in
+    begun_listed g.R.Running.function c.args.runners.now _ 0 0 refl c.begin_runner.new.runner c.requires.some refl
+    c.args.roster.now c.add.new.self (none_listed (live_at g.R.Running.function c.args.runners.now) 0 c.args.roster.now none c.requires.off) (omega (arith, none, room)) c.add.ensures.count c.add.ensures.firsts
+
+pub returns-then-unit-clause-list : goal.returns-then-unit-clause-list
+returns-then-unit-clause-list g c = ap (λ (xs : List ℕ). length xs) c.add.ensures.firsts ∙ length-set c.args.roster.now.firsts.items c.args.roster.now.count 0
+
+pub returns-else-unit-clause-roster : goal.returns-else-unit-clause-roster
+returns-else-unit-clause-roster g c = none_listed (live_at g.R.Running.function c.args.runners.now) 1 c.args.roster.now c.requires.none c.requires.off

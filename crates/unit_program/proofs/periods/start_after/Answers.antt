@@ -1,4 +1,4 @@
-use Rattle.std.proofs.Common.{rules, ◌≡◌, ℕ, ◌+◌, ◌<◌, Some, length, refl, ap, arith}
+use Rattle.std.proofs.Common.{rules, ◌≡◌, ℕ, suc, ◌+◌, ◌<◌, Some, List, length, refl, ap, ◌∙◌, arith, length-set}
 use Rattle.std.specs.Prelude.{FitsSigned}
 use Rattle.std.specs.Int.{w64}
 use Rattle.std.proofs.lemmas.Int.{to_z-of_z}
@@ -6,6 +6,7 @@ use Rattle.uc_model.specs.PlainUnits.{thermal_of}
 use Rattle.unit_program.specs.Live.{live_at, IsUnder}
 use Rattle.unit_program.specs.Runners.{Going}
 use Rattle.unit_program.proofs.LiveLaws.{roomy_begun, written_keeps, written_left}
+use Rattle.unit_program.proofs.RosterLaws.{still_listed, begun_listed}
 use Rattle.unit_program.proofs.RunAllLaws.{item_at}
 use Rattle.unit_program.proofs.StandInLaws.{start_undercut}
 use Rattle.unit_program.proofs.StartLaws.{started}
@@ -46,3 +47,24 @@ returns-clause-left g c =
     let low : c.args.place + 1 < length c.args.runners.now = omega (arith, end) in
     written_left g.R.Running.function c.args.runners.now _ (c.args.place + 1) c.begin_runner.new.runner low refl
     _ (item_at g.R.Running.function c.args.runners.now (c.args.place + 1) low _) c.begin_runner.ensures.passed
+
+pub is_undercut-requires-clause-roster : goal.is_undercut-requires-clause-roster
+is_undercut-requires-clause-roster g c =
+    let end = c.requires.runners in
+    still_listed (live_at g.R.Running.function c.args.runners.now) (live_at g.R.Running.function c.args.runners.now) (suc c.args.place) (length c.args.runners.now) c.args.roster.now (omega (arith, end)) (λ f off. off) c.requires.roster
+
+pub returns-then-is_undercut-clause-roster : goal.returns-then-is_undercut-clause-roster
+returns-then-is_undercut-clause-roster g c =
+    still_listed (live_at g.R.Running.function c.args.runners.now) (live_at g.R.Running.function c.args.runners.now) (suc c.args.place) (suc (suc c.args.place)) c.args.roster.now (omega arith) (λ f off. off) c.requires.roster
+
+pub returns-clause-roster : goal.returns-clause-roster
+returns-clause-roster g c =
+    let end = c.requires.runners in
+    let low : c.args.place + 1 < length c.args.runners.now = omega (arith, end) in
+    let few = c.requires.roster.few in
+    let room = c.requires.list in
+    begun_listed g.R.Running.function c.args.runners.now _ (suc c.args.place) (c.args.place + 1) (omega arith) c.begin_runner.new.runner low refl
+    c.args.roster.now c.add.new.self c.requires.roster (omega (arith, few, room)) c.add.ensures.count c.add.ensures.firsts
+
+pub returns-clause-list : goal.returns-clause-list
+returns-clause-list g c = ap (λ (xs : List ℕ). length xs) c.add.ensures.firsts ∙ length-set c.args.roster.now.firsts.items c.args.roster.now.count (c.args.place + 1)

@@ -1,11 +1,12 @@
-use Rattle.std.proofs.Common.{◌≡◌, ℕ, suc, ◌+◌, List, Option, length, sym, subst, arith}
+use Rattle.std.proofs.Common.{◌≡◌, ℕ, suc, ◌+◌, length, sym, subst, arith}
 use Rattle.uc_model.specs.PlainUnits.{thermal_of, prices_of}
-use Rattle.unit_program.specs.declared.table.Ended.{Ended}
 use Rattle.unit_program.specs.Live.{live_at, left_at}
 use Rattle.unit_program.specs.Rows.{cost_at, first_at}
 use Rattle.unit_program.specs.Runners.{AreRunners}
 use Rattle.unit_program.proofs.LiveLaws.{small_of, have_room}
+use Rattle.unit_program.proofs.OriginLaws.{origins_within}
 use Rattle.unit_program.proofs.PeriodLaws.{period_off, period_run, period_filled}
+use Rattle.unit_program.proofs.RosterLaws.{none_listed, still_listed}
 use Rattle.unit_program.proofs.RowLaws.{cost-same, first-same}
 use Rattle.unit_program.proofs.WaysLaws.{left_live, ways_same, ways_none, ways_more}
 use Rattle.unit_program.proofs.periods.take_period.Goals as goal
@@ -19,6 +20,15 @@ pub returns-then-is_must_off-clause-room : goal.returns-then-is_must_off-clause-
 returns-then-is_must_off-clause-room g c =
     c.stop_all.ensures.room (length c.args.prices.now.energy.items) (suc c.args.place) (length c.args.curve.now.blocks.items + 3)
     (have_room g.R.Running.count g.R.Running.room (length c.args.prices.now.energy.items) c.args.place (length c.args.curve.now.blocks.items + 3) c.args.runners.now c.requires.room)
+
+pub start-requires-clause-within : goal.start-requires-clause-within
+start-requires-clause-within g c =
+    let place = c.requires.place in
+    let list = c.requires.list in
+    origins_within (thermal_of c.args.unit.now) c.args.table.now.items c.args.place c.args.origins.now c.requires.origins c.requires.filled.within (omega (arith, place, list))
+
+pub start-requires-clause-order : goal.start-requires-clause-order
+start-requires-clause-order g c = c.requires.origins.right.order
 
 pub start-requires-clause-small : goal.start-requires-clause-small
 start-requires-clause-small g c =
@@ -37,8 +47,7 @@ prune-requires-clause-small g c =
     let π = prices_of c.args.prices.now in
     let few = c.args.prices.now.valid.horizon.at_most in
     let place = c.requires.place in
-    let before = subst (λ (rows : List (Option Ended)). AreRunners u π (cost_at rows) (live_at g.R.Running.function c.args.runners.now) c.args.place (suc c.args.place)) (sym c.as_slice.ensures) c.requires.filled.runners in
-    let now = subst (λ (rows : List (Option Ended)). AreRunners u π (cost_at rows) (live_at g.R.Running.function c.start.new.runners) c.args.place (suc (suc c.args.place))) c.as_slice.ensures (c.start.ensures.stands π before) in
+    let now = c.start.ensures.stands π (cost_at c.args.table.now.items) c.requires.origins c.requires.filled.runners in
     let ran = period_run u π c.args.unit.now.valid c.args.place c.args.table.now.items (live_at g.R.Running.function c.args.runners.now) c.requires.filled c.requires.place c.run_all.new.table.items
     (live_at g.R.Running.function c.start.new.runners) (live_at g.R.Running.function c.run_all.new.runners) now c.runs_go_on.ensures (c.is_must_off.ensures.no c.if-is_must_off.false) c.run_all.ensures.goes c.run_all.ensures.off in
     small_of u π _ (live_at g.R.Running.function c.run_all.new.runners) (suc c.args.place) (suc (suc c.args.place)) (omega (arith, few, place)) (omega (arith, few, place)) ran
@@ -49,8 +58,7 @@ returns-clause-filled g c =
     let π = prices_of c.args.prices.now in
     let few = c.args.prices.now.valid.horizon.at_most in
     let place = c.requires.place in
-    let before = subst (λ (rows : List (Option Ended)). AreRunners u π (cost_at rows) (live_at g.R.Running.function c.args.runners.now) c.args.place (suc c.args.place)) (sym c.as_slice.ensures) c.requires.filled.runners in
-    let now = subst (λ (rows : List (Option Ended)). AreRunners u π (cost_at rows) (live_at g.R.Running.function c.start.new.runners) c.args.place (suc (suc c.args.place))) c.as_slice.ensures (c.start.ensures.stands π before) in
+    let now = c.start.ensures.stands π (cost_at c.args.table.now.items) c.requires.origins c.requires.filled.runners in
     let ran = period_run u π c.args.unit.now.valid c.args.place c.args.table.now.items (live_at g.R.Running.function c.args.runners.now) c.requires.filled c.requires.place c.run_all.new.table.items
     (live_at g.R.Running.function c.start.new.runners) (live_at g.R.Running.function c.run_all.new.runners) now c.runs_go_on.ensures (c.is_must_off.ensures.no c.if-is_must_off.false) c.run_all.ensures.goes c.run_all.ensures.off in
     let next : suc c.args.place ≡ c.args.place + 1 = omega arith in
@@ -82,10 +90,44 @@ returns-clause-ways g c =
     let π = prices_of c.args.prices.now in
     let rows = c.args.table.now.items in
     let rows' = c.run_all.new.table.items in
-    let before = subst (λ (rows : List (Option Ended)). AreRunners u π (cost_at rows) (live_at g.R.Running.function c.args.runners.now) c.args.place (suc c.args.place)) (sym c.as_slice.ensures) c.requires.filled.runners in
-    let now = subst (λ (rows : List (Option Ended)). AreRunners u π (cost_at rows) (live_at g.R.Running.function c.start.new.runners) c.args.place (suc (suc c.args.place))) c.as_slice.ensures (c.start.ensures.stands π before) in
+    let now = c.start.ensures.stands π (cost_at rows) c.requires.origins c.requires.filled.runners in
     let begun = ways_same u π c.args.place (cost_at rows) (first_at rows) (left_at c.args.runners.now) (left_at c.start.new.runners) c.start.ensures.left c.requires.ways in
     let ran = ways_more u π c.args.place (suc (suc c.args.place)) (cost_at rows) (cost_at rows') (first_at rows) (first_at rows') _ (left_at c.start.new.runners) (left_at c.run_all.new.runners)
     (live_at g.R.Running.function c.start.new.runners) now (left_live g.R.Running.function c.start.new.runners) c.run_all.ensures.row c.run_all.ensures.ends c.run_all.ensures.left
     (λ l other. cost-same rows' rows l l (c.run_all.ensures.others l other)) (λ l other. first-same rows' rows l l (c.run_all.ensures.others l other)) begun in
     ways_same u π (suc c.args.place) (cost_at rows') (first_at rows') (left_at c.run_all.new.runners) (left_at c.prune.new.runners) c.prune.ensures.left ran
+
+pub returns-then-is_must_off-clause-roster : goal.returns-then-is_must_off-clause-roster
+returns-then-is_must_off-clause-roster g c =
+    none_listed (live_at g.R.Running.function c.stop_all.new.runners) (suc (suc c.args.place)) c.clear.new.self c.clear.ensures.count c.stop_all.ensures.off
+
+pub prune-requires-clause-roster : goal.prune-requires-clause-roster
+prune-requires-clause-roster g c =
+    still_listed (live_at g.R.Running.function c.start.new.runners) (live_at g.R.Running.function c.run_all.new.runners) (suc (suc c.args.place)) (suc (c.args.place + 1)) c.start.new.roster (omega arith)
+    c.run_all.ensures.off c.start.ensures.roster
+
+pub keep-requires-clause-small : goal.keep-requires-clause-small
+keep-requires-clause-small g c =
+    let few = c.start.ensures.roster.few in
+    let place = c.requires.place in
+    let periods = c.args.prices.now.valid.horizon.at_most in
+    omega (arith, few, place, periods)
+
+pub keep-requires-clause-roster : goal.keep-requires-clause-roster
+keep-requires-clause-roster g c =
+    let place = c.requires.place in
+    let runners = c.requires.runners in
+    let a = c.start.ensures.length in
+    let b = c.run_all.ensures.count in
+    let d = c.prune.ensures.length in (
+      suc (suc c.args.place),
+      omega (arith, place, runners, a, b, d),
+      still_listed (live_at g.R.Running.function c.start.new.runners) (live_at g.R.Running.function c.prune.new.runners) (suc (suc c.args.place)) (suc (suc c.args.place)) c.start.new.roster (omega arith)
+          (λ f off. c.prune.ensures.off f (c.run_all.ensures.off f off)) c.start.ensures.roster,
+    )
+
+pub returns-clause-roster : goal.returns-clause-roster
+returns-clause-roster g c =
+    c.keep.ensures.roster (suc (suc c.args.place))
+    (still_listed (live_at g.R.Running.function c.start.new.runners) (live_at g.R.Running.function c.prune.new.runners) (suc (suc c.args.place)) (suc (suc c.args.place)) c.start.new.roster (omega arith)
+    (λ f off. c.prune.ensures.off f (c.run_all.ensures.off f off)) c.start.ensures.roster)

@@ -1,4 +1,4 @@
 use Rattle.unit_program.proofs.runner.is_undercut.Given as goal
 
-abbrev pub invariant-loop-first : goal.invariant-loop-first
-invariant-loop-first g l = Unit {0}
+abbrev pub invariant-loop-place : goal.invariant-loop-place
+invariant-loop-place g l = Unit {0}

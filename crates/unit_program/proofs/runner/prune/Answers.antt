@@ -1,4 +1,5 @@
-use Rattle.std.proofs.Common.{◌≡◌, ◌+◌, ◌-◌, ◌<◌, ◌≤◌, Some, ◌∙◌, arith}
+use Rattle.std.proofs.Common.{◌≡◌, ◌+◌, ◌-◌, ◌<◌, ◌≤◌, ℕ, Some, ◌∙◌, arith}
+use Rattle.std.specs.Prelude.{slice_get}
 use Rattle.unit_program.specs.Live.{live_at}
 use Rattle.unit_program.specs.Runners.{Going}
 use Rattle.unit_program.proofs.LiveLaws.{if_some_more}
@@ -7,10 +8,18 @@ use Rattle.unit_program.proofs.runner.prune.Goals as goal
 pub loop-back-preserved : goal.loop-back-preserved
 loop-back-preserved g c =
     let low = c.loop-back-test.true in
+    let list = c.requires.roster in
+    let roster = c.args.roster.now in
+    let first = c.get-first.result.now in
     record {
-      late = if_some_more (λ l. (c.args.period - c.loop-back.back ≤ l) × (l ≤ c.args.period) × ((r : Going) × (live_at g.R.Running.function c.prune_one-late.new.runners l ≡ Some r)))
-          (λ l. (c.args.period < l + (c.loop-back.back + 1)) × (l ≤ c.args.period) × ((r : Going) × (live_at g.R.Running.function c.prune_one-late.new.runners l ≡ Some r)))
-          (λ l h. (let from = h.0 in (omega (arith, from, low), h.1, h.2))) c.prune_one-late.result c.prune_one-late.ensures.late;
+      late = if_some_more (λ l. (first ≤ l) × (l ≤ c.args.period) × ((r : Going) × (live_at g.R.Running.function c.prune_one-late.new.runners l ≡ Some r)))
+          (λ l. ((j h : ℕ) → j + (c.loop-back.back + 1) < roster.count → slice_get roster.firsts.items j ≡ Some h → h < l) × (l ≤ c.args.period) × ((r : Going) × (live_at g.R.Running.function c.prune_one-late.new.runners l ≡ Some r)))
+          (λ l h. (
+            (λ j f before is. (let from = h.0 in let earlier = list.rising j (roster.count - c.loop-back.back - 1) f first (omega (arith, before)) (omega (arith, low)) is c.get-first.ensures.item in omega (arith, from, earlier))),
+            h.1,
+            h.2,
+          )) c.prune_one-late.result c.prune_one-late.ensures.late;
+      off = λ f is. c.prune_one-late.ensures.off f (c.loop-back.invariant.off f is);
       small = c.prune_one-late.ensures.small;
       stands = λ π ends n now. c.prune_one-late.ensures.stands π ends n (c.loop-back.invariant.stands π ends n now);
       roomy = λ periods t charge roomy. c.prune_one-late.ensures.room periods t charge (c.loop-back.invariant.roomy periods t charge roomy);

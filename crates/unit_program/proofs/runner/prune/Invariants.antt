@@ -1,5 +1,5 @@
-use Rattle.std.proofs.Common.{◌≡◌, ℕ, ◌+◌, ◌<◌, ◌≤◌, ℤ, Option, Some, length}
-use Rattle.std.specs.Prelude.{IfSome}
+use Rattle.std.proofs.Common.{◌≡◌, ℕ, ◌+◌, ◌<◌, ◌≤◌, ℤ, Option, Some, None, length}
+use Rattle.std.specs.Prelude.{IfSome, slice_get}
 use Rattle.uc_model.specs.Data.{PriceLists}
 use Rattle.uc_model.specs.PlainUnits.{thermal_of}
 use Rattle.unit_program.specs.Live.{live_at, left_at, AreRoomy, AreSmall, HaveRoom}
@@ -8,7 +8,8 @@ use Rattle.unit_program.proofs.runner.prune.Given as goal
 
 abbrev pub invariant-loop-back : goal.invariant-loop-back
 invariant-loop-back g l = record {
-  late : IfSome l.late (λ f. (l.period < f + l.back) × (f ≤ l.period) × ((r : Going) × (live_at g.R.Running.function l.runners f ≡ Some r)));
+  late : IfSome l.late (λ f. ((j h : ℕ) → j + l.back < l.roster.count → slice_get l.roster.firsts.items j ≡ Some h → h < f) × (f ≤ l.period) × ((r : Going) × (live_at g.R.Running.function l.runners f ≡ Some r)));
+  off : (first : ℕ) → live_at g.R.Running.function l.fn.runners first ≡ None → live_at g.R.Running.function l.runners first ≡ None;
   small : AreSmall (live_at g.R.Running.function l.runners);
   stands : (π : PriceLists) (ends : ℕ → Option ℤ) (n : ℕ) → AreRunners (thermal_of l.unit) π ends (live_at g.R.Running.function l.fn.runners) l.period n →
       AreRunners (thermal_of l.unit) π ends (live_at g.R.Running.function l.runners) l.period n;
