@@ -85,6 +85,8 @@ smaller periods points less b low h =
       count = h.count;
       room = λ f r is. (le_trans pieces (h.room f r is).0, (h.room f r is).1);
       rows = h.rows;
+      origins = h.origins;
+      roster = h.roster;
     }
 
 module _ (periods : ℕ) (b : Bench Slopes) where
