@@ -1,6 +1,6 @@
 -- What the way back has written from the least end is a best schedule.
-use Rattle.std.proofs.Common.{◌≡◌, ℕ, zero, suc, ◌<◌, ◌≤◌, false, refl, ap, Option, Some, ℤ, pos, neg_ℤ, ◌≤ℤ◌, length, sym, subst, ◌∙◌, arith}
-use Rattle.std.specs.Prelude.{slice_index, slice_index_or, IsFalse}
+use Rattle.std.proofs.Common.{Result, Ok, Err, true, ◌≡◌, ℕ, zero, suc, ◌<◌, ◌≤◌, false, refl, ap, Option, Some, ℤ, pos, neg_ℤ, ◌≤ℤ◌, length, sym, subst, ◌∙◌, arith}
+use Rattle.std.specs.Prelude.{slice_index, slice_index_or, IsFalse, OnOk, is_ok}
 use Rattle.std.proofs.lemmas.Int.{ints}
 use Rattle.uc_model.specs.Data.{ThermalUnit, Thermal, PriceLists, Schedule}
 use Rattle.uc_model.specs.Schedules.{IsSchedule, on_in, power_in, reserve_in}
@@ -97,3 +97,8 @@ module _ (g : ThermalUnit) (π : PriceLists) (periods : ℕ) (horizon : periods 
       let r = table_is_least g π ends periods s right table.complete in
       let h = r.3 in
       none r.0 h.0 h.1 r.2
+
+-- what holds of an answer that came
+pub ok_then : {X E : Type 0} (r : Result X E) (P : Type 0) → OnOk r P → is_ok r ≡ true → P
+ok_then (Ok x) P h is = h
+ok_then (Err e) P h is = cc

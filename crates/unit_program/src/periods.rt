@@ -104,14 +104,14 @@ fn take_period<R: Running>(
     requires room { AreRoomy R.count R.room (length (prices_of prices.now).energy) place (length curve.now.blocks.items + 3) runners.old }
     requires rows { length (prices_of prices.now).energy < length table.old.items }
     requires filled { IsFilledTo (thermal_of unit.now) (prices_of prices.now) place table.old.items (live_at R.function runners.old) }
+    requires ways { HaveWays (thermal_of unit.now) (prices_of prices.now) place (cost_at table.old.items) (first_at table.old.items) (left_at runners.old) }
     requires origins { AreOrigins (thermal_of unit.now) (cost_at table.old.items) place origins.now }
     requires list { length (prices_of prices.now).energy < length origins.now.list.items }
     requires roster { IsRoster (live_at R.function runners.old) (suc place) roster.old }
     requires firsts { length (prices_of prices.now).energy < length roster.old.firsts.items }
-    requires ways { HaveWays (thermal_of unit.now) (prices_of prices.now) place (cost_at table.old.items) (first_at table.old.items) (left_at runners.old) }
     ensures filled { IsFilledTo (thermal_of unit.now) (prices_of prices.now) (suc place) table.new.items (live_at R.function runners.new) }
-    ensures others { (l : ℕ) → l ≢ suc place → row_at table.new.items l ≡ row_at table.old.items l }
     ensures ways { HaveWays (thermal_of unit.now) (prices_of prices.now) (suc place) (cost_at table.new.items) (first_at table.new.items) (left_at runners.new) }
+    ensures others { (l : ℕ) → l ≢ suc place → row_at table.new.items l ≡ row_at table.old.items l }
     ensures room { AreRoomy R.count R.room (length (prices_of prices.now).energy) (suc place) (length curve.now.blocks.items + 3) runners.new }
     ensures length { length table.new.items ≡ length table.old.items }
     ensures keeps { (most periods : ℕ) → HaveRoom R.room most periods runners.old → HaveRoom R.room most periods runners.new }

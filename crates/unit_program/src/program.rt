@@ -1,7 +1,8 @@
 //! The table filled, from the first period on.
-ghost use Rattle.std.specs.Prelude.{◌≡◌, ℕ, ◌+◌, ◌*◌, ◌<◌, ◌≤◌, pos, [], true, IsTrue, IsFalse, MatchOption, OnOk, length, suc, None, Some};
+ghost use Rattle.std.specs.Prelude.{◌≡◌, ℕ, ◌+◌, ◌*◌, ◌<◌, ◌≤◌, pos, [], true, IsTrue, IsFalse, MatchOption, OnOk, IsOk, length, suc, None, Some};
 ghost use Rattle.cost_curve.specs.CostCurve.{IsCostCurve};
 ghost use Rattle.shape_law.specs.Cell.{Frame};
+ghost use Rattle.spell_run.specs.Entries.{cells_for};
 ghost use Rattle.uc_model.specs.PlainUnits.{thermal_of, prices_of};
 ghost use Rattle.unit_program.specs.Rows.{row_at, IsWithinTimes, AreWithin, IsAdded, IsFilled};
 ghost use Rattle.unit_program.specs.Spells.{StopsAtOnce};
@@ -38,6 +39,7 @@ fn add_spells_from<S: Shape>(
     ensures length { length table.new.items ≡ length table.old.items }
     ensures frame { Frame S.Home.cell_list S.is_in S.numbers [] [] home.old home.new }
     ensures sure { S.Home.counts ≡ true → S.Home.sure home.new ≡ S.Home.sure home.old }
+    ensures enough { S.Home.counts ≡ true → cells_for (length (prices_of prices.now).energy) (length (thermal_of unit.now).points) ≤ S.Home.sure home.old → IsOk result }
 {
     let periods = prices.energy.len() as u32;
     let until = open_until(unit, first);
@@ -83,6 +85,7 @@ fn add_first<S: Shape>(
     ensures length { length table.new.items ≡ length table.old.items }
     ensures frame { Frame S.Home.cell_list S.is_in S.numbers [] [] home.old home.new }
     ensures sure { S.Home.counts ≡ true → S.Home.sure home.new ≡ S.Home.sure home.old }
+    ensures enough { S.Home.counts ≡ true → cells_for (length (prices_of prices.now).energy) (length (thermal_of unit.now).points) ≤ S.Home.sure home.old → IsOk result }
 {
     match least_entry(unit, table.as_slice(), first - 1) {
         Some(entry) => add_spells_from::<S>(home, unit, curve, prices, first, &entry, costs, table),
@@ -134,6 +137,7 @@ fn begin<S: Shape>(
     ensures length { length table.new.items ≡ length table.old.items }
     ensures frame { Frame S.Home.cell_list S.is_in S.numbers [] [] home.old home.new }
     ensures sure { S.Home.counts ≡ true → S.Home.sure home.new ≡ S.Home.sure home.old }
+    ensures enough { S.Home.counts ≡ true → cells_for (length (prices_of prices.now).energy) (length (thermal_of unit.now).points) ≤ S.Home.sure home.old → IsOk result }
 {
     clear_rows(table);
     table.set(0, first_row(unit));
@@ -145,8 +149,9 @@ fn begin<S: Shape>(
 }
 
 /// Fills the table for a unit at prices over its horizon of T periods. `curve` is the curve of the unit's points; `costs`
-/// has at least T entries, and `table` at least T + 1 rows. Takes no memory but for the shapes, which are given back.
-/// After an error the rows are open.
+/// has at least T entries, and `table` at least T + 1 rows. Takes no memory but for the shapes, which are given back. In a
+/// home that counts it answers Ok where the home has (T + 2) * (1 + T * (2L + 3)) cells to give, for L cost points. After an
+/// error the rows are open.
 pub fn fill<S: Shape>(
     home: &mut S::Home,
     unit: &Unit,
@@ -164,6 +169,7 @@ pub fn fill<S: Shape>(
     ensures length { length table.new.items ≡ length table.old.items }
     ensures frame { Frame S.Home.cell_list S.is_in S.numbers [] [] home.old home.new }
     ensures sure { S.Home.counts ≡ true → S.Home.sure home.new ≡ S.Home.sure home.old }
+    ensures enough { S.Home.counts ≡ true → cells_for (length (prices_of prices.now).energy) (length (thermal_of unit.now).points) ≤ S.Home.sure home.old → IsOk result }
 {
     begin::<S>(home, unit, curve, prices, costs, table)?;
     let periods = prices.energy.len() as u32;

@@ -383,8 +383,8 @@ fn prune_one<R: Running>(
         AreRunners (thermal_of unit.now) π ends (live_at R.function runners.old) period n →
         AreRunners (thermal_of unit.now) π ends (live_at R.function runners.new) period n }
     ensures small { AreSmall (live_at R.function runners.new) }
-    ensures off { (first : ℕ) → live_at R.function runners.old first ≡ None → live_at R.function runners.new first ≡ None }
     ensures left { (first k : ℕ) → left_at runners.new first k ≡ left_at runners.old first k }
+    ensures off { (first : ℕ) → live_at R.function runners.old first ≡ None → live_at R.function runners.new first ≡ None }
     ensures room { (periods t charge : ℕ) → AreRoomy R.count R.room periods t charge runners.old → AreRoomy R.count R.room periods t charge runners.new }
     ensures keeps { (most periods : ℕ) → HaveRoom R.room most periods runners.old → HaveRoom R.room most periods runners.new }
     ensures length { length runners.new ≡ length runners.old }
@@ -416,8 +416,8 @@ pub fn prune<R: Running>(unit: &Unit, period: u32, roster: &Roster, runners: &mu
     ensures stands { (π : PriceLists) (ends : ℕ → Option ℤ) (n : ℕ) →
         AreRunners (thermal_of unit.now) π ends (live_at R.function runners.old) period n →
         AreRunners (thermal_of unit.now) π ends (live_at R.function runners.new) period n }
-    ensures off { (first : ℕ) → live_at R.function runners.old first ≡ None → live_at R.function runners.new first ≡ None }
     ensures left { (first k : ℕ) → left_at runners.new first k ≡ left_at runners.old first k }
+    ensures off { (first : ℕ) → live_at R.function runners.old first ≡ None → live_at R.function runners.new first ≡ None }
     ensures room { (periods t charge : ℕ) → AreRoomy R.count R.room periods t charge runners.old → AreRoomy R.count R.room periods t charge runners.new }
     ensures keeps { (most periods : ℕ) → HaveRoom R.room most periods runners.old → HaveRoom R.room most periods runners.new }
     ensures length { length runners.new ≡ length runners.old }

@@ -77,3 +77,9 @@ returns-clause-room g c =
     all_roomy g.R.Running.function g.R.Running.count g.R.Running.room (thermal_of c.args.unit.now) (prices_of c.args.prices.now) c.args.place (length c.args.curve.now.blocks.items + 3) c.args.table.now.items c.args.runners.now
     (suc (suc c.args.place)) c.loop-index.table.items c.loop-index.runners (run_whole g.R.Running.function g.R.Running.count g.R.Running.room (thermal_of c.args.unit.now) (prices_of c.args.prices.now) c.args.place (length c.args.curve.now.blocks.items + 3) c.args.table.now.items c.args.runners.now c.requires.room c.args.roster.now (suc (suc c.args.place)) c.requires.roster c.loop-index.index c.loop-index.table.items c.loop-index.runners c.loop-index.invariant c.loop-index-test.false)
     (λ f r is. (c.requires.now.right f r is).0) c.requires.room
+
+pub returns-clause-ends : goal.returns-clause-ends
+returns-clause-ends g c = (run_whole g.R.Running.function g.R.Running.count g.R.Running.room (thermal_of c.args.unit.now) (prices_of c.args.prices.now) c.args.place (length c.args.curve.now.blocks.items + 3) c.args.table.now.items c.args.runners.now c.requires.room c.args.roster.now (suc (suc c.args.place)) c.requires.roster c.loop-index.index c.loop-index.table.items c.loop-index.runners c.loop-index.invariant c.loop-index-test.false).ends
+
+pub returns-clause-left : goal.returns-clause-left
+returns-clause-left g c = (run_whole g.R.Running.function g.R.Running.count g.R.Running.room (thermal_of c.args.unit.now) (prices_of c.args.prices.now) c.args.place (length c.args.curve.now.blocks.items + 3) c.args.table.now.items c.args.runners.now c.requires.room c.args.roster.now (suc (suc c.args.place)) c.requires.roster c.loop-index.index c.loop-index.table.items c.loop-index.runners c.loop-index.invariant c.loop-index-test.false).left
