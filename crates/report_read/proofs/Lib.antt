@@ -1,0 +1,4 @@
+pub mod Steps
+pub mod Loops
+pub mod LineLoops
+pub mod Parts
