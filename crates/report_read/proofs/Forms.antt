@@ -5,11 +5,10 @@ use Rattle.std.specs.List.{AllByRecursion}
 use Rattle.std.proofs.lemmas.Bool.Decides.{nat_tests}
 use Rattle.std.proofs.lemmas.List.{append-nil}
 use Rattle.report_read.specs.Faults.{IsLine, AreLines}
-use Rattle.report_read.specs.Words.{Found, behind}
-use Rattle.report_read.specs.Words as words
+use Rattle.report_read.specs.Words.{Found}
 use Rattle.report_read.specs.LineForms.{ended}
 use Rattle.report_read.specs.Lines.{Read, ◌>>=◌, or_left, line, then_lines, making}
-use Rattle.report_read.proofs.Parts.{bind_some, some_is, behind_takes, behind_again, is_inline, Stops, Part}
+use Rattle.report_read.proofs.Parts.{is_inline, Part, ended_takes, ended_again}
 
 pub bind_ok : {A B : Type 0} (r : Result A ℕ) (f : A → Result B ℕ) (y : B) → (r >>= f) ≡ Ok y → (x : A) × (r ≡ Ok x) × (f x ≡ Ok y)
 bind_ok (Ok x) f y e = (x, refl, e)
@@ -63,7 +62,7 @@ line_is_lines x h = inr (h.inside, h.ends)
 
 pub lines_then : (x y : List ℕ) → AreLines x → AreLines y → AreLines (x ++ y)
 lines_then x y (inl none) q = subst (λ (z : List ℕ). AreLines (z ++ y)) (sym none) q
-lines_then x y (inr front) (inl none) = subst (λ (z : List ℕ). AreLines (x ++ z)) (sym none) (inr (front.0, simp append-nil ∙ front.1))
+lines_then x y (inr front) (inl none) = subst (λ (z : List ℕ). AreLines (x ++ z)) (sym none) (inr (front.0, append-nil x ∙ front.1))
 lines_then x y (inr front) (inr last) = inr (x ++ last.0, ap (λ (z : List ℕ). x ++ z) last.1 ∙ sym (append_assoc x last.0 (10 ∷ [])))
 
 -- ---- one line
@@ -74,17 +73,9 @@ pub record LineForm {A : Type 0} (text : A → List ℕ) (Fits : A → Type 0) (
   pub is_line : (x : A) → Fits x → IsLine (text x)
 
 pub part_ended : {A : Type 0} (text : A → List ℕ) (Fits : A → Type 0) (read : List ℕ → Found A) → Part text Fits read → LineForm (λ x. text x ++ 10 ∷ []) Fits (ended read)
-unfolding ended
-part_ended {A} text Fits read p = record {
-  takes = λ bytes x rest e.
-      let a = bind_some (read bytes) (λ x. behind (10 ∷ []) x.1 words.>>= λ rest. Some (x.0, rest)) (x, rest) e in
-      let b = bind_some (behind (10 ∷ []) a.0.1) (λ rest. Some (a.0.0, rest)) (x, rest) a.2 in
-      let s = p.takes bytes a.0.0 a.0.1 a.1 in
-      let t = behind_takes (10 ∷ []) a.0.1 b.0 b.1 in
-      let parts : bytes ≡ (text a.0.0 ++ 10 ∷ []) ++ b.0 = s.0 ∙ ap (λ (w : List ℕ). text a.0.0 ++ w) t ∙ sym (append_assoc (text a.0.0) (10 ∷ []) b.0) in
-      let made : A × List ℕ = (a.0.0, b.0) in
-      subst (λ (w : A × List ℕ). (bytes ≡ (text w.0 ++ 10 ∷ []) ++ w.1) × Fits w.0) (some_is made (x, rest) b.2) (parts, s.1);
-  again = λ x rest fits. ap (ended read) (append_assoc (text x) (10 ∷ []) rest) ∙ rw (p.again x (10 ∷ rest) fits refl, behind_again (10 ∷ []) rest) refl;
+part_ended text Fits read p = record {
+  takes = ended_takes text Fits read p;
+  again = ended_again text Fits read p;
   is_line = λ x fits. inline_is_line (text x) (p.inline x fits);
 }
 

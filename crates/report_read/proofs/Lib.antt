@@ -1,4 +1,9 @@
+pub mod Parts
 pub mod Steps
 pub mod Loops
 pub mod LineLoops
-pub mod Parts
+pub mod Narrow
+pub mod Numerals
+pub mod NameParts
+pub mod Forms
+pub mod RowForms

@@ -5,7 +5,7 @@ use Rattle.uc_model.specs.PriceRule.{Proposal}
 use Rattle.report_read.specs.declared.stop.Stop.{Stop}
 use Rattle.report_read.specs.declared.stop.Stop.TheVariants as stops
 use Rattle.report_read.specs.Plain.{Told, rank}
-use Rattle.report_read.specs.Lines.{Read, ◌>>=◌, Fails, row_at, rows_at, unit_at, units_at}
+use Rattle.report_read.specs.Lines.{Read, ◌>>=◌, Fails, making, joined, row_at, rows_at, unit_at, units_at}
 
 abbrev pub with_front : {A : Type 0} → List A → Read (List A) → Read (List A)
 with_front front read = read >>= λ x. Ok (front ++ x.0, x.1)
@@ -15,7 +15,7 @@ regroup {A} front x (Ok xs) = ap (λ (ys : List A). Ok (ys, xs.1)) (simp append_
 regroup {A} front x (Err e) = refl
 
 -- one value and then others
-one_more : {A : Type 0} (front : List A) (x : A) (read : Read (List A)) → with_front front ((read >>= λ y. Ok ((x, y.0), y.1)) >>= λ z. Ok (z.0.0 ∷ z.0.1, z.1)) ≡ with_front (front ++ x ∷ []) read
+one_more : {A : Type 0} (front : List A) (x : A) (read : Read (List A)) → with_front front (making joined (λ bytes. read >>= λ y. Ok ((x, y.0), y.1)) []) ≡ with_front (front ++ x ∷ []) read
 one_more {A} front x (Ok xs) = regroup front x (Ok xs)
 one_more {A} front x (Err e) = refl
 

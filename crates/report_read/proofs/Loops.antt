@@ -1,8 +1,8 @@
 -- What a loop has read so far, and what it still reads: items of a line, and bytes of a name.
 use Rattle.std.proofs.Common.{◌≡◌, ℕ, zero, suc, ◌+◌, ◌-◌, ◌<◌, ◌≤◌, Bool, true, false, cond, ◌==◌, List, [], ◌∷◌, ◌++◌, Option, Some, None, refl, sym, ap, ◌∙◌, subst, arith, append_assoc}
-use Rattle.std.proofs.lemmas.Bool.{ne_eqb}
 use Rattle.std.proofs.lemmas.List.{append-nil}
-use Rattle.report_read.specs.Words.{Found, ◌>>=◌, items_at, escaped_at, closed_within}
+use Rattle.report_read.specs.Words.{Found, ◌>>=◌, behind, items_at, escaped_at, closed_within}
+use Rattle.report_read.proofs.Parts.{behind_takes}
 
 -- what was read before, and what is still read
 abbrev pub with_front : {A : Type 0} → List A → Found (List A) → Found (List A)
@@ -38,30 +38,44 @@ items_done {A} item front count i bytes total le so_far =
 
 -- ---- names
 
-pub byte_goes_on : (front : List ℕ) (count i : ℕ) (b : ℕ) (bs : List ℕ) (x : ℕ) (rest : List ℕ) (total : Found (List ℕ)) → i < count → (b ≡ 34 → ⊥) → escaped_at (b ∷ bs) ≡ Some (x, rest)
-    → with_front front (closed_within (count - i) (b ∷ bs)) ≡ total → with_front (front ++ x ∷ []) (closed_within (count - (i + 1)) rest) ≡ total
-unfolding closed_within
-byte_goes_on front count i b bs x rest total lt ne h so_far =
+closed_cons : (most b : ℕ) (bs : List ℕ) → behind (34 ∷ []) (b ∷ bs) ≡ None → closed_within (suc most) (b ∷ bs) ≡ (escaped_at (b ∷ bs) >>= λ x. closed_within most x.1 >>= λ xs. Some (x.0 ∷ xs.0, xs.1))
+unfolding closed_within behind
+closed_cons most b bs e =
+    elim (b == 34) as (λ t. cond t (Some bs) None ≡ None → cond {A = Found (List ℕ)} t (Some ([], bs)) (escaped_at (b ∷ bs) >>= λ x. closed_within most x.1 >>= λ xs. Some (x.0 ∷ xs.0, xs.1)) ≡ (escaped_at (b ∷ bs) >>= λ x. closed_within most x.1 >>= λ xs. Some (x.0 ∷ xs.0, xs.1))) [
+      | true ↦ λ f. absurd cc
+      | false ↦ λ f. refl
+    ] e
+
+-- a step of a name that goes on
+closed_step : (most : ℕ) (bytes : List ℕ) → behind (34 ∷ []) bytes ≡ None → closed_within (suc most) bytes ≡ (escaped_at bytes >>= λ x. closed_within most x.1 >>= λ xs. Some (x.0 ∷ xs.0, xs.1))
+unfolding closed_within escaped_at
+closed_step most [] e = refl
+closed_step most (b ∷ bs) e = closed_cons most b bs e
+
+pub byte_goes_on : (front : List ℕ) (count i : ℕ) (bytes : List ℕ) (x : ℕ) (rest : List ℕ) (total : Found (List ℕ)) → i < count → behind (34 ∷ []) bytes ≡ None → escaped_at bytes ≡ Some (x, rest)
+    → with_front front (closed_within (count - i) bytes) ≡ total → with_front (front ++ x ∷ []) (closed_within (count - (i + 1)) rest) ≡ total
+byte_goes_on front count i bytes x rest total lt unclosed h so_far =
     let k : count - i ≡ suc (count - (i + 1)) = omega arith in
-    let t : (b == 34) ≡ false = ne_eqb b 34 ne in
-    let one : with_front front (closed_within (count - i) (b ∷ bs)) ≡ with_front (front ++ x ∷ []) (closed_within (count - (i + 1)) rest) = rw (k, t, h) (regroup front x (closed_within (count - (i + 1)) rest)) in
+    let one : with_front front (closed_within (count - i) bytes) ≡ with_front (front ++ x ∷ []) (closed_within (count - (i + 1)) rest) = rw (k, closed_step (count - (i + 1)) bytes unclosed, h) (regroup front x (closed_within (count - (i + 1)) rest)) in
     sym one ∙ so_far
 
-pub byte_fails : (front : List ℕ) (count i : ℕ) (b : ℕ) (bs : List ℕ) (total : Found (List ℕ)) → i < count → (b ≡ 34 → ⊥) → escaped_at (b ∷ bs) ≡ None
-    → with_front front (closed_within (count - i) (b ∷ bs)) ≡ total → total ≡ None
-unfolding closed_within
-byte_fails front count i b bs total lt ne h so_far =
+pub byte_fails : (front : List ℕ) (count i : ℕ) (bytes : List ℕ) (total : Found (List ℕ)) → i < count → behind (34 ∷ []) bytes ≡ None → escaped_at bytes ≡ None
+    → with_front front (closed_within (count - i) bytes) ≡ total → total ≡ None
+byte_fails front count i bytes total lt unclosed h so_far =
     let k : count - i ≡ suc (count - (i + 1)) = omega arith in
-    let t : (b == 34) ≡ false = ne_eqb b 34 ne in
-    let one : with_front front (closed_within (count - i) (b ∷ bs)) ≡ None = rw (k, t, h) refl in
+    let one : with_front front (closed_within (count - i) bytes) ≡ None = rw (k, closed_step (count - (i + 1)) bytes unclosed, h) refl in
     sym so_far ∙ one
 
-pub name_ends : (front : List ℕ) (count i : ℕ) (bs : List ℕ) (total : Found (List ℕ)) → i < count
-    → with_front front (closed_within (count - i) (34 ∷ bs)) ≡ total → total ≡ Some (front, bs)
+closed_here : (most : ℕ) (rest : List ℕ) → closed_within (suc most) (34 ∷ rest) ≡ Some ([], rest)
 unfolding closed_within
-name_ends front count i bs total lt so_far =
+closed_here most rest = refl
+
+pub name_ends : (front : List ℕ) (count i : ℕ) (bytes rest : List ℕ) (total : Found (List ℕ)) → i < count → behind (34 ∷ []) bytes ≡ Some rest
+    → with_front front (closed_within (count - i) bytes) ≡ total → total ≡ Some (front, rest)
+name_ends front count i bytes rest total lt closed so_far =
     let k : count - i ≡ suc (count - (i + 1)) = omega arith in
-    let one : with_front front (closed_within (count - i) (34 ∷ bs)) ≡ Some (front, bs) = rw k (ap (λ (xs : List ℕ). Some (xs, bs)) (append-nil front)) in
+    let quote : bytes ≡ 34 ∷ rest = behind_takes (34 ∷ []) bytes rest closed in
+    let one : with_front front (closed_within (count - i) bytes) ≡ Some (front, rest) = rw (k, quote, closed_here (count - (i + 1)) rest) (ap (λ (xs : List ℕ). Some (xs, rest)) (append-nil front)) in
     sym so_far ∙ one
 
 pub name_is_open : (front : List ℕ) (count i : ℕ) (bytes : List ℕ) (total : Found (List ℕ)) → count ≤ i
@@ -70,12 +84,4 @@ unfolding closed_within
 name_is_open front count i bytes total le so_far =
     let k : count - i ≡ 0 = omega arith in
     let one : with_front front (closed_within (count - i) bytes) ≡ None = rw k refl in
-    sym so_far ∙ one
-
-pub name_is_cut : (front : List ℕ) (count i : ℕ) (total : Found (List ℕ)) → i < count
-    → with_front front (closed_within (count - i) []) ≡ total → total ≡ None
-unfolding closed_within
-name_is_cut front count i total lt so_far =
-    let k : count - i ≡ suc (count - (i + 1)) = omega arith in
-    let one : with_front front (closed_within (count - i) []) ≡ None = rw k refl in
     sym so_far ∙ one

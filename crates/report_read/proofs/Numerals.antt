@@ -3,7 +3,8 @@ use Rattle.std.proofs.Common.{◌≡◌, ◌≢◌, ℕ, zero, suc, ◌+◌, ◌
 use Rattle.std.specs.Prelude.{int_le, neg_ℤ, ◌≤ℤ◌}
 use Rattle.std.specs.Int.Signed.{le_z_yes}
 use Rattle.std.proofs.lemmas.Float.{T_from_true}
-use Rattle.std.proofs.lemmas.Bool.{cases_lt}
+use Rattle.std.proofs.lemmas.Bool.{cases_lt, ne_eqb}
+use Rattle.std.proofs.lemmas.Int.{ints}
 use Rattle.std.proofs.lemmas.Bool.Decides.{nat_tests}
 use Rattle.uc_model.specs.Limits.{IsFrom}
 use Rattle.hull_report.specs.Numerals.{digits_up_to, numeral, signed_numeral}
@@ -95,7 +96,7 @@ numeral_takes (b ∷ bs) x e =
 -- ---- what is read again
 
 digits_read : (most n : ℕ) (rest : List ℕ) → 0 < n → n < most → numeral_at (digits_up_to most n ++ rest) ≡ Some (digits_from n rest)
-unfolding numeral_at, digits_from
+unfolding numeral_at digits_from
 digits_read zero n rest p q = absurd (omega arith)
 digits_read (suc most) n rest p q =
     elim (cases_lt n 10) [
@@ -117,7 +118,7 @@ digits_end_here n [] h = refl
 digits_end_here n (c ∷ cs) h = rw h refl
 
 pub numeral_again : (n : ℕ) (rest : List ℕ) → Stops rest → numeral_at (numeral n ++ rest) ≡ Some (n, rest)
-unfolding numeral, numeral_at
+unfolding numeral numeral_at
 numeral_again zero rest stops = refl
 numeral_again (suc n) rest stops = digits_read (suc (suc n)) (suc n) rest (omega arith) (omega arith) ∙ ap (λ (w : ℕ × List ℕ). Some w) (digits_end_here (suc n) rest stops)
 
@@ -173,9 +174,12 @@ count_part least most = record {
 
 -- ---- numbers with a sign
 
+suc_not_zero : (n : ℕ) → (suc n == 0) ≡ false
+suc_not_zero n = ne_eqb (suc n) 0 (λ e. omega arith)
+
 negative_tells : (x : ℕ × List ℕ) (y : ℤ × List ℕ) → negative x ≡ Some y → 45 ∷ (numeral x.0 ++ x.1) ≡ signed_numeral y.0 ++ y.1
 negative_tells (zero, rest) y e = absurd cc
-negative_tells (suc n, rest) y e = ap (λ (w : ℤ × List ℕ). signed_numeral w.0 ++ w.1) (some_is (negsuc n, rest) y e)
+negative_tells (suc n, rest) y e = ap (λ (w : ℤ × List ℕ). signed_numeral w.0 ++ w.1) (some_is (negsuc n, rest) y (rw (suc_not_zero n) at e))
 
 if_minus : (b : ℕ) → (b == 45) ≡ true → b ≡ 45
 if_minus b h = grind (arith, nat_tests)
@@ -195,7 +199,7 @@ signed_takes (b ∷ bs) y e =
 
 -- no numeral begins with a `-`
 signed_digits : (bytes : List ℕ) (n : ℕ) (rest : List ℕ) → numeral_at bytes ≡ Some (n, rest) → signed_at bytes ≡ Some (pos n, rest)
-unfolding signed_at, numeral_at
+unfolding signed_at numeral_at
 signed_digits [] n rest e = absurd cc
 signed_digits (b ∷ bs) n rest e =
     elim (b == 45) as (λ t. (b == 45) ≡ t → cond t (numeral_at bs >>= negative) (numeral_at (b ∷ bs) >>= λ m. Some (pos m.0, m.1)) ≡ Some (pos n, rest)) [
@@ -209,7 +213,7 @@ signed_digits (b ∷ bs) n rest e =
 pub signed_again : (z : ℤ) (rest : List ℕ) → Stops rest → signed_at (signed_numeral z ++ rest) ≡ Some (z, rest)
 unfolding signed_at
 signed_again (pos n) rest stops = signed_digits (numeral n ++ rest) n rest (numeral_again n rest stops)
-signed_again (negsuc n) rest stops = rw (numeral_again (suc n) rest stops) refl
+signed_again (negsuc n) rest stops = rw (numeral_again (suc n) rest stops, suc_not_zero n) refl
 
 signed_inline : (z : ℤ) → is_inline (signed_numeral z) ≡ true
 signed_inline (pos n) = numeral_inline n

@@ -3,6 +3,7 @@ use Rattle.std.proofs.Common.{◌≡◌, ℕ, zero, suc, Bool, true, false, cond
 use Rattle.std.specs.List.{flat_map, AllByRecursion}
 use Rattle.std.proofs.lemmas.Bool.{eqb-true}
 use Rattle.report_read.specs.Words.{Found, ◌>>=◌, behind, is_digit, spaced, items_at}
+use Rattle.report_read.specs.Bounds.{IsList}
 use Rattle.report_read.specs.LineForms.{after, just, both, ended}
 
 pub bind_some : {A B : Type 0} (r : Option A) (f : A → Option B) (y : B) → (r >>= f) ≡ Some y → (x : A) × (r ≡ Some x) × (f x ≡ Some y)
@@ -116,16 +117,11 @@ spaced_part text Fits read p = record {
   inline = λ x fits. p.inline x fits;
 }
 
--- so many items
-pub record AreItems {A : Type 0} (Fits : A → Type 0) (count : ℕ) (xs : List A) : Type 0 where
-  pub length_is : length xs ≡ count
-  pub items : AllByRecursion Fits xs
-
 items_take : {A : Type 0} (text : A → List ℕ) (Fits : A → Type 0) (read : List ℕ → Found A) → Part text Fits read
-    → (count : ℕ) (bytes : List ℕ) (z : List A × List ℕ) → items_at read count bytes ≡ Some z → (bytes ≡ flat_map text z.0 ++ z.1) × AreItems Fits count z.0
+    → (count : ℕ) (bytes : List ℕ) (z : List A × List ℕ) → items_at read count bytes ≡ Some z → (bytes ≡ flat_map text z.0 ++ z.1) × IsList Fits count z.0
 unfolding items_at
 items_take {A} text Fits read p zero bytes z e =
-    subst (λ (w : List A × List ℕ). (bytes ≡ flat_map text w.0 ++ w.1) × AreItems Fits 0 w.0) (some_is ([], bytes) z e) (refl, record { length_is = refl; items = tt })
+    subst (λ (w : List A × List ℕ). (bytes ≡ flat_map text w.0 ++ w.1) × IsList Fits 0 w.0) (some_is ([], bytes) z e) (refl, record { length_is = refl; items = tt })
 items_take {A} text Fits read p (suc count) bytes z e =
     let a = bind_some (read bytes) (λ x. items_at read count x.1 >>= λ xs. Some (x.0 ∷ xs.0, xs.1)) z e in
     let b = bind_some (items_at read count a.0.1) (λ xs. Some (a.0.0 ∷ xs.0, xs.1)) z a.2 in
@@ -133,7 +129,7 @@ items_take {A} text Fits read p (suc count) bytes z e =
     let t = items_take text Fits read p count a.0.1 b.0 b.1 in
     let made : List A × List ℕ = (a.0.0 ∷ b.0.0, b.0.1) in
     let parts : bytes ≡ (text a.0.0 ++ flat_map text b.0.0) ++ b.0.1 = s.0 ∙ ap (λ (w : List ℕ). text a.0.0 ++ w) t.0 ∙ sym (append_assoc (text a.0.0) (flat_map text b.0.0) b.0.1) in
-    subst (λ (w : List A × List ℕ). (bytes ≡ flat_map text w.0 ++ w.1) × AreItems Fits (suc count) w.0) (some_is made z b.2)
+    subst (λ (w : List A × List ℕ). (bytes ≡ flat_map text w.0 ++ w.1) × IsList Fits (suc count) w.0) (some_is made z b.2)
     (parts, record { length_is = ap suc t.1.length_is; items = (s.1, t.1.items) })
 
 items_stop : {A : Type 0} (text : A → List ℕ) (xs : List A) (rest : List ℕ) → ((x : A) (r : List ℕ) → Stops (text x ++ r)) → Stops rest → Stops (flat_map text xs ++ rest)
@@ -153,9 +149,28 @@ items_inline text Fits read p [] fits = refl
 items_inline text Fits read p (x ∷ xs) fits = inline_append (text x) (flat_map text xs) (p.inline x fits.0) (items_inline text Fits read p xs fits.1)
 
 pub items_part : {A : Type 0} (text : A → List ℕ) (Fits : A → Type 0) (read : List ℕ → Found A) (count : ℕ) → Part text Fits read → ((x : A) (r : List ℕ) → Stops (text x ++ r))
-    → Part (flat_map text) (AreItems Fits count) (items_at read count)
+    → Part (flat_map text) (IsList Fits count) (items_at read count)
 items_part {A} text Fits read count p begins = record {
   takes = λ bytes xs rest e. items_take text Fits read p count bytes (xs, rest) e;
   again = λ xs rest fits stops. subst (λ (k : ℕ). items_at read k (flat_map text xs ++ rest) ≡ Some (xs, rest)) fits.length_is (items_again text Fits read p begins xs rest fits.items stops);
   inline = λ xs fits. items_inline text Fits read p xs fits.items;
 }
+
+-- ---- to the end of the line
+
+pub ended_takes : {A : Type 0} (text : A → List ℕ) (Fits : A → Type 0) (read : List ℕ → Found A) → Part text Fits read
+    → (bytes : List ℕ) (x : A) (rest : List ℕ) → ended read bytes ≡ Some (x, rest) → (bytes ≡ (text x ++ 10 ∷ []) ++ rest) × Fits x
+unfolding ended
+ended_takes {A} text Fits read p bytes x rest e =
+    let a = bind_some (read bytes) (λ x. behind (10 ∷ []) x.1 >>= λ rest. Some (x.0, rest)) (x, rest) e in
+    let b = bind_some (behind (10 ∷ []) a.0.1) (λ rest. Some (a.0.0, rest)) (x, rest) a.2 in
+    let s = p.takes bytes a.0.0 a.0.1 a.1 in
+    let t = behind_takes (10 ∷ []) a.0.1 b.0 b.1 in
+    let parts : bytes ≡ (text a.0.0 ++ 10 ∷ []) ++ b.0 = s.0 ∙ ap (λ (w : List ℕ). text a.0.0 ++ w) t ∙ sym (append_assoc (text a.0.0) (10 ∷ []) b.0) in
+    let made : A × List ℕ = (a.0.0, b.0) in
+    subst (λ (w : A × List ℕ). (bytes ≡ (text w.0 ++ 10 ∷ []) ++ w.1) × Fits w.0) (some_is made (x, rest) b.2) (parts, s.1)
+
+pub ended_again : {A : Type 0} (text : A → List ℕ) (Fits : A → Type 0) (read : List ℕ → Found A) → Part text Fits read
+    → (x : A) (rest : List ℕ) → Fits x → ended read ((text x ++ 10 ∷ []) ++ rest) ≡ Some (x, rest)
+unfolding ended
+ended_again text Fits read p x rest fits = ap (ended read) (append_assoc (text x) (10 ∷ []) rest) ∙ rw (p.again x (10 ∷ rest) fits refl, behind_again (10 ∷ []) rest) refl

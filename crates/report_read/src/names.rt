@@ -4,7 +4,7 @@ ghost use Rattle.report_read.specs.Words.{Finds, hex_value as hex_spec, two_digi
 
 ghost use Rattle.hull_report.specs.Parts.{stands_as_is};
 
-use crate::words::{behind, is_digit};
+use crate::words::behind;
 use std::alloc::{AllocError, Global};
 use uc_model::lists::Name;
 
@@ -76,7 +76,7 @@ fn closed_at(alloc: Global, bytes: &[u8]) -> Result<Option<(Vec<u8>, &[u8])>, Al
     let mut name = Vec::new(alloc);
     let mut rest = bytes;
     for _ in 0..bytes.len() {
-        if let [b'"', after @ ..] = rest {
+        if let Some(after) = behind(b"\"", rest) {
             return Ok(Some((name, after)));
         }
         let Some((byte, after)) = escaped_at(rest) else {

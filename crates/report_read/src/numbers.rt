@@ -40,6 +40,7 @@ fn digits_from(first: u128, bytes: &[u8]) -> Option<(u128, &[u8])>
 }
 
 /// A number of at most `MOST`.
+#[tactic(auto, unfolding(crate::specs::Words::count_at, crate::specs::Words::numeral_at))]
 fn numeral_at(bytes: &[u8]) -> Option<(u128, &[u8])>
     ensures { Finds (λ x. (x.0, x.1.now)) result (count_spec 0 MOST bytes.now) }
 {

@@ -25,8 +25,7 @@ fn read_row(
 ) -> Result<(Row, &[u8]), Stop>
     requires some { 1 ≤ periods }
     requires limit { periods ≤ 168 }
-    ensures exact { Gives (λ x. (proposal_of x.0, x.1.now)) result (row_at periods number bytes.now) }
-    ensures shorter { IfOk result (λ x. length x.1.now + LEAST_BYTES ≤ length bytes.now) }
+    ensures { Gives (λ x. (proposal_of x.0, x.1.now)) result (row_at periods number bytes.now) }
 {
     let (valued, rest) = value_line(b"proposal ", number, number, bytes)?;
     let (energy, rest) = prices_line(alloc, b"energy", periods, -PRICE_LIMIT, PRICE_LIMIT, rest)?;

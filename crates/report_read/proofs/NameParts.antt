@@ -4,7 +4,7 @@ use Rattle.std.specs.Prelude.{IsUtf8}
 use Rattle.std.specs.List.{flat_map}
 use Rattle.std.specs.Str.{is_utf8}
 use Rattle.std.proofs.lemmas.Str.{IsUtf8-from_is_utf8, is_utf8-from_IsUtf8}
-use Rattle.std.proofs.lemmas.Bool.{cases_lt}
+use Rattle.std.proofs.lemmas.Bool.{cases_lt, false_from_ne_true}
 use Rattle.std.proofs.lemmas.Bool.Decides.{nat_tests}
 use Rattle.hull_report.specs.Parts.{hex_of, stands_as_is, escaped}
 use Rattle.report_read.specs.Words.{Found, ◌>>=◌, behind, is_digit, hex_value, two_digits, control_at, backslashed_at, escaped_at, closed_within, text_only, name_at}
@@ -118,7 +118,7 @@ quote_or_backslash b h high =
     ] refl
 
 behind_take : (bs : List ℕ) (x : ℕ × List ℕ) → backslashed_at bs ≡ Some x → 92 ∷ bs ≡ escaped x.0 ++ x.1
-unfolding backslashed_at, control_at, escaped
+unfolding backslashed_at control_at escaped
 behind_take [] x e = absurd cc
 behind_take (c ∷ cs) x e =
     elim (c == 34 || c == 92) as (λ t. (c == 34 || c == 92) ≡ t → cond t (Some (c, cs)) (cond (c == 117) (control_at cs) None) ≡ Some x → 92 ∷ c ∷ cs ≡ escaped x.0 ++ x.1) [
@@ -149,7 +149,7 @@ escaped_take (b ∷ bs) x e =
     ] refl e
 
 again_by : (b : ℕ) (rest : List ℕ) → Way b → escaped_at (escaped b ++ rest) ≡ Some (b, rest)
-unfolding escaped_at, backslashed_at, control_at, behind
+unfolding escaped_at backslashed_at control_at behind
 again_by b rest (Plain h) = ap (λ (z : List ℕ). escaped_at (z ++ rest)) (escaped-plain b h) ∙ rw h refl
 again_by b rest (Control h) = ap (λ (z : List ℕ). escaped_at (z ++ rest)) (escaped-control b h) ∙ digits_again b rest h
 again_by b rest (Behind h high) =
@@ -249,3 +249,13 @@ name_part = record {
   again = λ name rest utf8 stops. ap name_at (append_assoc (flat_map escaped name) (34 ∷ []) rest) ∙ name_again name rest utf8;
   inline = λ name utf8. inline_append (flat_map escaped name) (34 ∷ []) (name_inline name) refl;
 }
+
+pub name_found : (bytes name rest : List ℕ) → closed_within (length bytes) bytes ≡ Some (name, rest) → IsUtf8 name → name_at bytes ≡ Some (name, rest)
+unfolding name_at
+name_found bytes name rest e utf8 = rw (e, is_utf8-from_IsUtf8 name utf8) refl
+
+pub name_bad : (bytes name rest : List ℕ) → closed_within (length bytes) bytes ≡ Some (name, rest) → (IsUtf8 name → ⊥) → name_at bytes ≡ None
+unfolding name_at
+name_bad bytes name rest e bad =
+    let t : is_utf8 name ≡ false = false_from_ne_true (is_utf8 name) (λ yes. bad (IsUtf8-from_is_utf8 name yes)) in
+    rw (e, t) refl
