@@ -7,3 +7,4 @@ pub mod Numerals
 pub mod NameParts
 pub mod Forms
 pub mod RowForms
+pub mod UnitForms

@@ -24,7 +24,7 @@ use Rattle.report_read.proofs.Forms.{good, ok_is, LineForm, part_ended, Form, li
 -- ---- lines of one form
 
 -- a line as it is written before others
-line_step : (word a : List ℕ) {rest other : List ℕ} → rest ≡ other → word ++ (a ++ 10 ∷ rest) ≡ ((word ++ a) ++ 10 ∷ []) ++ other
+pub line_step : (word a : List ℕ) {rest other : List ℕ} → rest ≡ other → word ++ (a ++ 10 ∷ rest) ≡ ((word ++ a) ++ 10 ∷ []) ++ other
 line_step word a {rest} {other} e =
     ap (λ (z : List ℕ). word ++ (a ++ 10 ∷ z)) e ∙ sym (append_assoc word a (10 ∷ other)) ∙ sym (append_assoc (word ++ a) (10 ∷ []) other)
 
@@ -78,7 +78,7 @@ value_form word least most plain h =
 
 -- ---- lists
 
-same_items : {A : Type 0} (P : A → Type 0) (n : ℕ) (x : A) → P x → IsList P n (replicate n x)
+pub same_items : {A : Type 0} (P : A → Type 0) (n : ℕ) (x : A) → P x → IsList P n (replicate n x)
 same_items P zero x h = record { length_is = refl; items = tt }
 same_items P (suc n) x h = let r = same_items P n x h in record { length_is = ap suc r.length_is; items = (h, r.items) }
 

@@ -9,7 +9,7 @@ use Rattle.report_read.proofs.rows.read_rows.Goals as goal
 
 pub returns-in_err-row : goal.returns-in_err-row
 returns-in_err-row c =
-    let p = err_from_is_err_and c.from_residual.result c.from_residual.ensures.1 in
+    let p = err_from_is_err_and c.from_residual-in_err-row.result c.from_residual-in_err-row.ensures.1 in
     rw (p.1, p.2) (row_fails c.in_err-row.field-0.0 c.args.periods c.args.count c.loop-place.place (map proposal_of c.loop-place.rows.items) c.loop-place.rest.now (rows_at c.args.periods 1 c.args.count c.args.bytes.now)
     c.loop-place-test.true c.in_err-row.ensures c.loop-place.invariant.reads)
 
