@@ -43,7 +43,7 @@ lines_meet (c ∷ a) (d ∷ b) u v p q e =
 pub same_line : (x y u v : List ℕ) → IsLine x → IsLine y → x ++ u ≡ y ++ v → x ≡ y
 same_line x y u v p q e =
     let a : p.inside ++ 10 ∷ u ≡ q.inside ++ 10 ∷ v =
-        sym (append_assoc p.inside (10 ∷ []) u) ∙ ap (λ (z : List ℕ). z ++ u) (sym p.ends) ∙ e ∙ ap (λ (z : List ℕ). z ++ v) q.ends ∙ append_assoc q.inside (10 ∷ []) v in
+    sym (append_assoc p.inside (10 ∷ []) u) ∙ ap (λ (z : List ℕ). z ++ u) (sym p.ends) ∙ e ∙ ap (λ (z : List ℕ). z ++ v) q.ends ∙ append_assoc q.inside (10 ∷ []) v in
     p.ends ∙ ap (λ (z : List ℕ). z ++ 10 ∷ []) (lines_meet p.inside q.inside u v p.unbroken q.unbroken a) ∙ sym q.ends
 
 unbroken : (x : List ℕ) → is_inline x ≡ true → Unbroken x
@@ -186,9 +186,9 @@ then_stuck {A} {B} text Fits read text2 Fits2 read2 p q some bytes left e =
                   begins = ap (λ (w : List ℕ). text a.0.0 ++ w) s.begins ∙ sym (append_assoc (text a.0.0) s.before s.more);
                   fails = λ here behind whole cut z u v fits same.
                       let left_side : text z.0 ++ (text2 z.0 z.1 ++ u) ≡ text a.0.0 ++ ((s.before ++ here) ++ v) =
-                          sym (append_assoc (text z.0) (text2 z.0 z.1) u) ∙ same ∙ ap (λ (w : List ℕ). w ++ v) (append_assoc (text a.0.0) s.before here) ∙ append_assoc (text a.0.0) (s.before ++ here) v in
+                      sym (append_assoc (text z.0) (text2 z.0 z.1) u) ∙ same ∙ ap (λ (w : List ℕ). w ++ v) (append_assoc (text a.0.0) s.before here) ∙ append_assoc (text a.0.0) (s.before ++ here) v in
                       let one : good (z.0, text2 z.0 z.1 ++ u) ≡ good (a.0.0, (s.before ++ here) ++ v) =
-                          sym (p.again z.0 (text2 z.0 z.1 ++ u) fits.0) ∙ ap read left_side ∙ p.again a.0.0 ((s.before ++ here) ++ v) t.1 in
+                      sym (p.again z.0 (text2 z.0 z.1 ++ u) fits.0) ∙ ap read left_side ∙ p.again a.0.0 ((s.before ++ here) ++ v) t.1 in
                       let pair = ok_is (z.0, text2 z.0 z.1 ++ u) (a.0.0, (s.before ++ here) ++ v) one in
                       let heads : z.0 ≡ a.0.0 = ap (λ (w : A × List ℕ). w.0) pair in
                       let tails : text2 z.0 z.1 ++ u ≡ (s.before ++ here) ++ v = ap (λ (w : A × List ℕ). w.1) pair in

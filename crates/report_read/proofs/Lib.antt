@@ -8,3 +8,5 @@ pub mod NameParts
 pub mod Forms
 pub mod RowForms
 pub mod UnitForms
+pub mod WholeForm
+pub mod OneFault

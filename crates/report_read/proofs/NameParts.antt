@@ -71,7 +71,7 @@ digits_take (h ∷ l ∷ bs) x e =
     let high : (16 * a.0 + b.0) / 16 ≡ a.0 = omega (arith, q.below) in
     let low : (16 * a.0 + b.0) % 16 ≡ b.0 = omega (arith, q.below) in
     let heads : h ∷ l ∷ bs ≡ hex_of ((16 * a.0 + b.0) / 16) ∷ hex_of ((16 * a.0 + b.0) % 16) ∷ bs =
-        ap (λ (k : ℕ). k ∷ l ∷ bs) (p.digit ∙ ap hex_of (sym high)) ∙ ap (λ (k : ℕ). hex_of ((16 * a.0 + b.0) / 16) ∷ k ∷ bs) (q.digit ∙ ap hex_of (sym low)) in
+    ap (λ (k : ℕ). k ∷ l ∷ bs) (p.digit ∙ ap hex_of (sym high)) ∙ ap (λ (k : ℕ). hex_of ((16 * a.0 + b.0) / 16) ∷ k ∷ bs) (q.digit ∙ ap hex_of (sym low)) in
     subst (λ (w : ℕ × List ℕ). IsControl (h ∷ l ∷ bs) w.0 w.1) (some_is (16 * a.0 + b.0, bs) x g.1) (record { below = omega (arith, q.below); digits = heads })
 
 digits_again : (b : ℕ) (rest : List ℕ) → b < 32 → two_digits (hex_of (b / 16) ∷ hex_of (b % 16) ∷ rest) ≡ Some (b, rest)

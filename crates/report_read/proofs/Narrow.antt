@@ -107,13 +107,13 @@ int_none low high least most x p q e =
     elim (int_le least x.0) as (λ t. int_le least x.0 ≡ t → cond (t && int_le x.0 most) (Some x) None ≡ None) [
       | false ↦ λ t. refl
       | true ↦ λ t. elim (int_le x.0 most) as (λ s. int_le x.0 most ≡ s → cond s (Some x) None ≡ None) [
-          | false ↦ λ s. refl
-          | true ↦ λ s.
-              let a : low ≤ℤ x.0 = omega (arith, ints, p, int_tells least x.0 t) in
-              let b : x.0 ≤ℤ high = omega (arith, ints, q, int_tells x.0 most s) in
-              let found = int_within low high x a b in
-              absurd cc
-        ] refl
+        | false ↦ λ s. refl
+        | true ↦ λ s.
+            let a : low ≤ℤ x.0 = omega (arith, ints, p, int_tells least x.0 t) in
+            let b : x.0 ≤ℤ high = omega (arith, ints, q, int_tells x.0 most s) in
+            let found = int_within low high x a b in
+            absurd cc
+      ] refl
     ] refl
 
 int_none_by : (low high least most : ℤ) (r : Found ℤ) → low ≤ℤ least → most ≤ℤ high → (r >>= integer_between low high) ≡ None → (r >>= integer_between least most) ≡ None

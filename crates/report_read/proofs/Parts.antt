@@ -75,19 +75,37 @@ after_part text Fits read word plain p = record {
   inline = λ x fits. inline_append word (text x) plain (p.inline x fits);
 }
 
+both_take : {A B : Type 0} (text : A → List ℕ) (Fits : A → Type 0) (read : List ℕ → Found A) (text2 : B → List ℕ) (Fits2 : B → Type 0) (read2 : List ℕ → Found B)
+    → Part text Fits read → Part text2 Fits2 read2 → (bytes : List ℕ) (z : A × B) (rest : List ℕ) → both read read2 bytes ≡ Some (z, rest)
+    → (bytes ≡ (text z.0 ++ text2 z.1) ++ rest) × (Fits z.0 × Fits2 z.1)
+unfolding both
+both_take {A} {B} text Fits read text2 Fits2 read2 p q bytes z rest e =
+    let a = bind_some (read bytes) (λ x. read2 x.1 >>= λ y. Some ((x.0, y.0), y.1)) (z, rest) e in
+    let b = bind_some (read2 a.0.1) (λ y. Some ((a.0.0, y.0), y.1)) (z, rest) a.2 in
+    let s = p.takes bytes a.0.0 a.0.1 a.1 in
+    let t = q.takes a.0.1 b.0.0 b.0.1 b.1 in
+    let made : (A × B) × List ℕ = ((a.0.0, b.0.0), b.0.1) in
+    let parts : bytes ≡ (text a.0.0 ++ text2 b.0.0) ++ b.0.1 = s.0 ∙ ap (λ (w : List ℕ). text a.0.0 ++ w) t.0 ∙ sym (append_assoc (text a.0.0) (text2 b.0.0) b.0.1) in
+    subst (λ (w : (A × B) × List ℕ). (bytes ≡ (text w.0.0 ++ text2 w.0.1) ++ w.1) × (Fits w.0.0 × Fits2 w.0.1)) (some_is made (z, rest) b.2) (parts, (s.1, t.1))
+
+-- the first part ends whatever comes behind it
+pub both_behind : {A B : Type 0} (text : A → List ℕ) (Fits : A → Type 0) (read : List ℕ → Found A) (text2 : B → List ℕ) (Fits2 : B → Type 0) (read2 : List ℕ → Found B)
+    → Part text Fits read → Part text2 Fits2 read2 → ((x : A) (rest : List ℕ) → Fits x → read (text x ++ rest) ≡ Some (x, rest))
+    → Part (λ (z : A × B). text z.0 ++ text2 z.1) (λ (z : A × B). Fits z.0 × Fits2 z.1) (both read read2)
+unfolding both
+both_behind text Fits read text2 Fits2 read2 p q ends = record {
+  takes = both_take text Fits read text2 Fits2 read2 p q;
+  again = λ z rest fits stops.
+      ap (both read read2) (append_assoc (text z.0) (text2 z.1) rest) ∙ rw (ends z.0 (text2 z.1 ++ rest) fits.0, q.again z.1 rest fits.1 stops) refl;
+  inline = λ z fits. inline_append (text z.0) (text2 z.1) (p.inline z.0 fits.0) (q.inline z.1 fits.1);
+}
+
 pub both_parts : {A B : Type 0} (text : A → List ℕ) (Fits : A → Type 0) (read : List ℕ → Found A) (text2 : B → List ℕ) (Fits2 : B → Type 0) (read2 : List ℕ → Found B)
     → Part text Fits read → Part text2 Fits2 read2 → ((y : B) (rest : List ℕ) → Stops (text2 y ++ rest))
     → Part (λ (z : A × B). text z.0 ++ text2 z.1) (λ (z : A × B). Fits z.0 × Fits2 z.1) (both read read2)
 unfolding both
-both_parts {A} {B} text Fits read text2 Fits2 read2 p q begins = record {
-  takes = λ bytes z rest e.
-      let a = bind_some (read bytes) (λ x. read2 x.1 >>= λ y. Some ((x.0, y.0), y.1)) (z, rest) e in
-      let b = bind_some (read2 a.0.1) (λ y. Some ((a.0.0, y.0), y.1)) (z, rest) a.2 in
-      let s = p.takes bytes a.0.0 a.0.1 a.1 in
-      let t = q.takes a.0.1 b.0.0 b.0.1 b.1 in
-      let made : (A × B) × List ℕ = ((a.0.0, b.0.0), b.0.1) in
-      let parts : bytes ≡ (text a.0.0 ++ text2 b.0.0) ++ b.0.1 = s.0 ∙ ap (λ (w : List ℕ). text a.0.0 ++ w) t.0 ∙ sym (append_assoc (text a.0.0) (text2 b.0.0) b.0.1) in
-      subst (λ (w : (A × B) × List ℕ). (bytes ≡ (text w.0.0 ++ text2 w.0.1) ++ w.1) × (Fits w.0.0 × Fits2 w.0.1)) (some_is made (z, rest) b.2) (parts, (s.1, t.1));
+both_parts text Fits read text2 Fits2 read2 p q begins = record {
+  takes = both_take text Fits read text2 Fits2 read2 p q;
   again = λ z rest fits stops.
       ap (both read read2) (append_assoc (text z.0) (text2 z.1) rest) ∙ rw (p.again z.0 (text2 z.1 ++ rest) fits.0 (begins z.1 rest), q.again z.1 rest fits.1 stops) refl;
   inline = λ z fits. inline_append (text z.0) (text2 z.1) (p.inline z.0 fits.0) (q.inline z.1 fits.1);

@@ -286,7 +286,7 @@ rows_form periods number zero = no_rows periods number
 rows_form periods number (suc count) =
     let zeros = zero_rows periods count in
     let lines = pair_form (row_text number) (IsProposal periods) (row_at periods number) (rows_text (suc number)) (IsList (IsProposal periods) count) (rows_at periods (suc number) count)
-        zeros.0 zeros.1 (row_form periods number) (rows_form periods (suc number) count) in
+    zeros.0 zeros.1 (row_form periods number) (rows_form periods (suc number) count) in
     making_form (λ (z : Proposal × List Proposal). row_text number z.0 ++ rows_text (suc number) z.1) (λ (z : Proposal × List Proposal). IsProposal periods z.0 × IsList (IsProposal periods) count z.1)
     (then_lines (row_at periods number) (λ _. rows_at periods (suc number) count)) (rows_text number) (IsList (IsProposal periods) (suc count)) joined lines (record {
       fits = λ x h. record { length_is = ap suc h.1.length_is; items = (h.0, h.1.items) };
@@ -301,7 +301,7 @@ rows_form periods number (suc count) =
 abbrev pub told_chosen : ℕ × ℤ → List ℕ
 told_chosen x = chosen_text x.0 x.1
 
-chosen_same : (x : ℕ × ℤ) → told_chosen x ≡ word_text (codes "chosen ") value_text x
+pub chosen_same : (x : ℕ × ℤ) → told_chosen x ≡ word_text (codes "chosen ") value_text x
 unfolding chosen_text
 chosen_same x = simp append_assoc
 

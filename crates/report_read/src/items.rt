@@ -72,11 +72,7 @@ pub fn prices_at<'a>(
 }
 
 /// So many totals in kilowatts. The list is empty, with room.
-pub fn totals_at<'a>(
-    mut list: Amounts,
-    count: u32,
-    bytes: &'a [u8],
-) -> Option<(Amounts, &'a [u8])>
+pub fn totals_at<'a>(mut list: Amounts, count: u32, bytes: &'a [u8]) -> Option<(Amounts, &'a [u8])>
     requires empty { list.items ≡ [] }
     requires room { count ≤ list.spare }
     ensures { Finds (λ x. (x.0.items, x.1.now)) result (items_at total_spec count bytes.now) }

@@ -82,12 +82,7 @@ pub struct Valued {
 }
 
 #[tactic(auto, unfolding(crate::specs::LineForms::ended, crate::specs::LineForms::after, crate::specs::LineForms::both))]
-fn value_in<'a>(
-    word: &[u8],
-    least: u32,
-    most: u32,
-    bytes: &'a [u8],
-) -> Option<(Valued, &'a [u8])>
+fn value_in<'a>(word: &[u8], least: u32, most: u32, bytes: &'a [u8]) -> Option<(Valued, &'a [u8])>
     ensures { Finds (λ x. ((x.0.number, x.0.value), x.1.now)) result (value_form word.now least most bytes.now) }
 {
     let rest = behind(word, bytes)?;

@@ -1,7 +1,6 @@
 //! Names between double quotes.
 ghost use Rattle.std.specs.Prelude.{◌≡◌, length};
 ghost use Rattle.report_read.specs.Words.{Finds, hex_value as hex_spec, two_digits as two_spec, control_at as control_spec, backslashed_at as backslashed_spec, escaped_at as escaped_spec, closed_within, name_at as name_spec, FindsIfOk};
-
 ghost use Rattle.hull_report.specs.Parts.{stands_as_is};
 
 use crate::words::behind;
@@ -26,7 +25,11 @@ fn two_digits(bytes: &[u8]) -> Option<(u8, &[u8])>
         [high, low, rest @ ..] => {
             let high = hex_value(*high)?;
             let low = hex_value(*low)?;
-            if high < 2 { Some((16 * high + low, rest)) } else { None }
+            if high < 2 {
+                Some((16 * high + low, rest))
+            } else {
+                None
+            }
         }
         _ => None,
     }

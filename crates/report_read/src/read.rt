@@ -19,6 +19,7 @@ use std::alloc::Global;
 fn report_in_front(alloc: Global, bytes: &[u8]) -> Result<(Report, &[u8]), Stop>
     requires { length bytes.now ≤ 67108864 }
     ensures exact { Gives (λ x. (report_of x.0, x.1.now)) result (report_at bytes.now) }
+    ensures order { IfOk result (λ x. AreInOrder 0 (map told_of x.0.lines.items)) }
 {
     let (head, rest) = read_head(bytes)?;
     let (rows, rest) = read_rows(alloc, head.periods, head.proposals, rest)?;
@@ -45,7 +46,8 @@ fn report_in_front(alloc: Global, bytes: &[u8]) -> Result<(Report, &[u8]), Stop>
 #[tactic(auto, unfolding(crate::specs::Lines::all_of))]
 fn whole_report(alloc: Global, bytes: &[u8]) -> Result<Report, Stop>
     requires { length bytes.now ≤ 67108864 }
-    ensures { Gives report_of result (all_of bytes.now) }
+    ensures exact { Gives report_of result (all_of bytes.now) }
+    ensures order { IfOk result (λ r. AreInOrder 0 (map told_of r.lines.items)) }
 {
     let (report, rest) = report_in_front(alloc, bytes)?;
     if !rest.is_empty() {
@@ -97,3 +99,6 @@ pub fn read_report(alloc: Global, bytes: &[u8]) -> Result<Report, ReportError>
         Err(Stop::Memory) => Err(ReportError::Memory),
     }
 }
+
+#[cfg(test)]
+mod tests;

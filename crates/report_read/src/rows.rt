@@ -17,12 +17,7 @@ const LEAST_BYTES: usize = 50;
 
 /// The proposal of a number, over so many periods.
 #[tactic(auto, unfolding(crate::specs::Lines::row_at))]
-fn read_row(
-    alloc: Global,
-    periods: u32,
-    number: u32,
-    bytes: &[u8],
-) -> Result<(Row, &[u8]), Stop>
+fn read_row(alloc: Global, periods: u32, number: u32, bytes: &[u8]) -> Result<(Row, &[u8]), Stop>
     requires some { 1 ≤ periods }
     requires limit { periods ≤ 168 }
     ensures { Gives (λ x. (proposal_of x.0, x.1.now)) result (row_at periods number bytes.now) }

@@ -90,11 +90,7 @@ fn owed_at(bytes: &[u8]) -> Option<(Owed, &[u8])>
 }
 
 #[tactic(auto, unfolding(crate::specs::LineForms::ended, crate::specs::LineForms::both))]
-fn title_in(
-    alloc: Global,
-    least: u32,
-    bytes: &[u8],
-) -> Result<Option<(Title, &[u8])>, AllocError>
+fn title_in(alloc: Global, least: u32, bytes: &[u8]) -> Result<Option<(Title, &[u8])>, AllocError>
     ensures { FindsIfOk (λ x. ((x.0.kind, (x.0.name.items, (x.0.owed.earned, (x.0.owed.scheduled, x.0.owed.payment)))), x.1.now)) result (title_spec least bytes.now) }
 {
     let Some((kind, rest)) = opening_at(least, bytes) else {
@@ -122,11 +118,7 @@ fn title_line(alloc: Global, least: u32, bytes: &[u8]) -> Result<(Title, &[u8]),
 }
 
 #[tactic(auto, unfolding(crate::specs::Lines::thermal_at))]
-fn thermal_response(
-    alloc: Global,
-    periods: u32,
-    bytes: &[u8],
-) -> Result<(Response, &[u8]), Stop>
+fn thermal_response(alloc: Global, periods: u32, bytes: &[u8]) -> Result<(Response, &[u8]), Stop>
     ensures { Gives (λ x. (schedule_of x.0, x.1.now)) result (thermal_at periods bytes.now) }
 {
     let (on, rest) = flags_line(alloc, b"on", periods, bytes)?;

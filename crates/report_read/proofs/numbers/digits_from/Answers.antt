@@ -25,6 +25,6 @@ pub returns : goal.returns
 returns c =
     let stop = digits_end c.loop-place.number c.args.bytes.now c.loop-place.place c.loop-place-test.false in
     let same : drop c.loop-place.place c.args.bytes.now ≡ drop (length c.args.bytes.now) c.args.bytes.now =
-        drop_of_length-le c.args.bytes.now c.loop-place-test.false ∙ sym (drop-length c.args.bytes.now) in
+    drop_of_length-le c.args.bytes.now c.loop-place-test.false ∙ sym (drop-length c.args.bytes.now) in
     let whole : digits_spec c.args.first c.args.bytes.now ≡ (c.loop-place.number, c.rest_from-2.result.now) = c.loop-place.invariant ∙ stop ∙ ap (λ (z : List ℕ). (c.loop-place.number, z)) (same ∙ sym c.rest_from-2.ensures) in
     rw whole c.within-2.ensures
