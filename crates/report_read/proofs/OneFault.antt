@@ -1,11 +1,8 @@
 -- A file has at most one line in fault.
-use Rattle.std.proofs.Common.{◌≡◌, ℕ, suc, ◌+◌, ◌<◌, ◌≤◌, ◌⊎◌, ◌==◌, Bool, true, false, cond, List, [], ◌∷◌, ◌++◌, length, refl, sym, ap, ◌∙◌, subst, arith, append_assoc, length-append, inl, inr}
-use Rattle.std.specs.List.{AllByRecursion}
-use Rattle.std.proofs.lemmas.List.{append-nil}
-use Rattle.std.proofs.lemmas.Bool.Decides.{nat_tests, eqb_tells}
-use Rattle.hull_report.specs.ReportText.{Report, report_text}
-use Rattle.report_read.specs.Bounds.{IsReport}
-use Rattle.report_read.specs.Faults.{IsLine, AreLines, line_feeds, Begins, IsFault}
+use Rattle.std.proofs.Common.{◌≡◌, ℕ, suc, List, [], ◌∷◌, ◌++◌, length, refl, sym, ap, ◌∙◌, subst, arith, append_assoc, length-append, inl, inr}
+use Rattle.std.proofs.lemmas.Bool.Decides.{eqb_tells}
+use Rattle.hull_report.specs.ReportText.{report_text}
+use Rattle.report_read.specs.Faults.{IsLine, AreLines, line_feeds, IsFault}
 
 -- ---- of two fronts of one list one is a front of the other
 

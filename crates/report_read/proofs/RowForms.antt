@@ -1,8 +1,8 @@
 -- The first lines, proposals and last lines of a report, line by line: they are the texts that are written.
-use Rattle.std.proofs.Common.{◌≡◌, true, ℕ, zero, suc, ◌+◌, ◌<◌, ◌≤◌, ℤ, pos, List, [], ◌∷◌, ◌++◌, length, replicate, codes, Ok, Err, refl, sym, ap, ◌∙◌, subst, arith, append_assoc, length-append, inl, inr, rules}
+use Rattle.std.proofs.Common.{◌≡◌, true, ℕ, zero, suc, ◌+◌, ◌≤◌, ℤ, pos, List, [], ◌∷◌, ◌++◌, length, replicate, codes, Ok, refl, sym, ap, ◌∙◌, subst, arith, append_assoc, length-append, inl, rules}
 use Rattle.std.proofs.lemmas.List.{nil_from_length}
-use Rattle.std.specs.Prelude.{neg_ℤ, ◌≤ℤ◌}
-use Rattle.std.specs.List.{flat_map, AllByRecursion}
+use Rattle.std.specs.Prelude.{neg_ℤ}
+use Rattle.std.specs.List.{flat_map}
 use Rattle.uc_model.specs.declared.limits.TheConstants.{MOST_PERIODS, MOST_UNITS, MOST_PROPOSALS, PRICE_LIMIT}
 use Rattle.std.proofs.lemmas.List.Elements.{All-from_recursion}
 use Rattle.uc_model.specs.Limits.{IsFrom, ArePrices}
@@ -12,14 +12,13 @@ use Rattle.hull_report.specs.Parts.{spaced}
 use Rattle.hull_report.specs.declared.report.Head.{Head}
 use Rattle.hull_report.specs.ReportText.{head_text, row_text, rows_text, chosen_text, foot_text}
 use Rattle.report_read.specs.declared.head.Foot.{Foot}
-use Rattle.report_read.specs.Faults.{IsLine, AreLines}
 use Rattle.report_read.specs.Bounds.{IsAmount, IsEnergyPrice, IsReservePrice, IsList, IsProposal}
 use Rattle.report_read.specs.Words.{Found, count_at, integer_at, items_at}
 use Rattle.report_read.specs.LineForms.{amount_at, after, just, both, ended, value_line}
-use Rattle.report_read.specs.Lines.{Read, line, then_lines, making, count_line, amount_line, made_head, head_at, list_line, price_at, total_at, made_row, row_at, joined, rows_at, made_foot, foot_at}
+use Rattle.report_read.specs.Lines.{Read, line, then_lines, count_line, amount_line, made_head, head_at, list_line, price_at, total_at, made_row, row_at, joined, rows_at, made_foot, foot_at}
 use Rattle.report_read.proofs.Parts.{is_inline, Stops, Part, after_part, both_parts, just_part, spaced_part, items_part}
 use Rattle.report_read.proofs.Numerals.{IsBetween, count_part, integer_part}
-use Rattle.report_read.proofs.Forms.{good, ok_is, LineForm, part_ended, Form, line_form, then_form, Makes, making_form, IsStuck}
+use Rattle.report_read.proofs.Forms.{good, ok_is, part_ended, Form, line_form, then_form, making_form}
 
 -- ---- lines of one form
 

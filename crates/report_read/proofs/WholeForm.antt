@@ -1,28 +1,24 @@
 -- The whole report: a report within the bounds is read from its text and from nothing else, and where reading stops stands
 -- the first line in fault.
-use Rattle.std.proofs.Common.{◌≡◌, ℕ, zero, suc, ◌+◌, ◌-◌, ◌<◌, ◌≤◌, Bool, true, false, cond, ◌==◌, ◌⊎◌, ℤ, pos, List, [], ◌∷◌, ◌++◌, length, map, take, drop, replicate, codes, Result, Ok, Err, refl, sym, ap, ◌∙◌, subst, arith, append_assoc, length-append, inl, inr, rules}
-use Rattle.std.specs.Prelude.{neg_ℤ}
-use Rattle.std.specs.List.{flat_map, AllByRecursion, count_by}
+use Rattle.std.proofs.Common.{◌≡◌, ℕ, suc, ◌+◌, ◌-◌, ◌≤◌, true, false, cond, ℤ, pos, List, [], ◌∷◌, ◌++◌, length, map, take, replicate, codes, Ok, Err, refl, sym, ap, ◌∙◌, subst, arith, append_assoc, length-append, inl, inr}
+use Rattle.std.specs.List.{flat_map, AllByRecursion}
 use Rattle.std.proofs.lemmas.List.{append-nil, take_at}
 use Rattle.std.proofs.lemmas.List.Elements.{All-from_recursion}
 use Rattle.uc_model.specs.declared.kinds.Kind.{Kind}
 use Rattle.uc_model.specs.declared.kinds.Kind.TheVariants as kinds
-use Rattle.uc_model.specs.declared.limits.TheConstants.{MOST_PERIODS, MOST_UNITS, MOST_PROPOSALS}
 use Rattle.uc_model.specs.PriceRule.{Proposal}
 use Rattle.hull_report.specs.declared.report.Head.{Head}
-use Rattle.hull_report.specs.Numerals.{numeral, signed_numeral}
 use Rattle.hull_report.specs.Laws.{HasForm, IsFlatLine}
 use Rattle.hull_report.specs.ReportText.{UnitLine, Report, head_text, rows_text, chosen_text, thermal_text, renewable_text, bid_text, foot_text, report_text}
 use Rattle.report_read.specs.declared.head.Foot.{Foot}
 use Rattle.report_read.specs.Plain.{Told, rank, same_kind, lines_of}
-use Rattle.report_read.specs.Bounds.{IsAmount, IsCount, IsList, IsProposal, IsTold, IsThermalLine, IsOtherLine, IsReport, AreInOrder}
+use Rattle.report_read.specs.Bounds.{IsList, IsProposal, IsTold, IsThermalLine, IsOtherLine, IsReport, AreInOrder}
 use Rattle.report_read.specs.Faults.{IsLine, AreLines, line_feeds, Begins, IsFault}
 use Rattle.report_read.specs.LineForms.{value_line}
-use Rattle.report_read.specs.Lines.{Read, ◌>>=◌, line, then_lines, making, head_at, rows_at, units_at, foot_at, made_report, report_at, if_no_more, all_of}
-use Rattle.report_read.proofs.Numerals.{IsBetween}
-use Rattle.report_read.proofs.Forms.{bind_ok, bind_err, good, ok_is, Form, then_form, Makes, making_form, IsStuck}
-use Rattle.report_read.proofs.RowForms.{amount_zero, value_form, value_text, word_text, IsValued, IsHead, told_head, head_form, rows_form, zero_rows, told_chosen, chosen_same, told_foot, IsFoot, foot_form, pair_form}
-use Rattle.report_read.proofs.UnitForms.{MayCome, IsResponse, IsUnit, AreUnits, AreSomeUnits, told_text, told_texts, units_form, zero_unit, zero_units, thermal_told, renewable_told, bid_told}
+use Rattle.report_read.specs.Lines.{line, then_lines, head_at, rows_at, units_at, foot_at, made_report, report_at, if_no_more, all_of}
+use Rattle.report_read.proofs.Forms.{bind_ok, bind_err, good, ok_is, Form, then_form, making_form}
+use Rattle.report_read.proofs.RowForms.{amount_zero, value_form, value_text, word_text, IsValued, IsHead, told_head, head_form, rows_form, zero_rows, chosen_same, told_foot, IsFoot, foot_form, pair_form}
+use Rattle.report_read.proofs.UnitForms.{IsResponse, AreUnits, AreSomeUnits, told_text, told_texts, units_form, zero_unit, zero_units, thermal_told, renewable_told, bid_told}
 
 -- ---- the lines of each kind
 

@@ -1,7 +1,6 @@
 -- The bounds within which a report is read (this project's profile).
 use Rattle.std.specs.Prelude.{◌≡◌, ℕ, ◌+◌, ◌<◌, ◌≤◌, ◌^◌, ℤ, pos, neg_ℤ, IsUtf8, List, [], ◌∷◌, length}
 use Rattle.std.specs.List.{AllByRecursion}
-use Rattle.uc_model.specs.Data.{PriceLists, Schedule}
 use Rattle.uc_model.specs.Limits.{IsFrom, IsHorizon}
 use Rattle.uc_model.specs.PriceRule.{Proposal}
 use Rattle.uc_model.specs.declared.limits.TheConstants.{MOST_UNITS, MOST_PROPOSALS, PRICE_LIMIT}
@@ -18,7 +17,9 @@ abbrev pub IsNumber : ℤ → Type 0
 IsNumber x = IsFrom (neg_ℤ (pos 9223372036854775808)) (pos 9223372036854775807) x
 
 abbrev pub IsAmount : ℤ → Type 0
-IsAmount x = IsFrom (neg_ℤ (pos 170141183460469231731687303715884105728)) (pos 170141183460469231731687303715884105727) x
+IsAmount x =
+    IsFrom (neg_ℤ (pos 170141183460469231731687303715884105728))
+    (pos 170141183460469231731687303715884105727) x
 
 abbrev pub IsEnergyPrice : ℤ → Type 0
 IsEnergyPrice x = IsFrom (neg_ℤ PRICE_LIMIT) PRICE_LIMIT x
@@ -58,8 +59,8 @@ pub record IsOtherLine (periods : ℕ) (l : UnitLine) : Type 0 where
   pub flat : IsFlatLine l
   pub power : IsList IsCount periods l.response.power
 
--- A report with its numbers within their types and limits, all lists over its periods, and as many lines of units as it
--- says.
+-- A report with its numbers within their types and limits, all lists over its periods, and as
+-- many lines of units as it says.
 pub record IsReport (r : Report) : Type 0 where
   pub periods : IsHorizon r.periods
   pub units_at_least : 1 ≤ r.units

@@ -25,8 +25,8 @@ line_feeds = count_by (λ b. b == 10)
 abbrev pub Begins : List ℕ → Type 0
 Begins front = (r : Report) × IsReport r × (more : List ℕ) × (report_text r ≡ front ++ more)
 
--- The bytes are no report's. The lines before this one, which is counted from 1, begin one; with this line they begin none,
--- or it has no end.
+-- The bytes are no report's. The lines before this one, which is counted from 1, begin one; with
+-- this line they begin none, or it has no end.
 pub record IsFault (bytes : List ℕ) (line : ℕ) : Type 0 where
   pub none : (r : Report) → IsReport r → bytes ≡ report_text r → ⊥
   pub before : List ℕ
@@ -35,7 +35,8 @@ pub record IsFault (bytes : List ℕ) (line : ℕ) : Type 0 where
   pub lines : AreLines before
   pub number : line ≡ suc (line_feeds before)
   pub begins : Begins before
-  pub fails : (here after : List ℕ) → IsLine here → rest ≡ here ++ after → Begins (before ++ here) → ⊥
+  pub fails : (here after : List ℕ) → IsLine here → rest ≡ here ++ after →
+      Begins (before ++ here) → ⊥
 
 -- ---- what a call answered: memory may run out at any time
 

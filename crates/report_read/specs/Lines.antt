@@ -1,13 +1,13 @@
--- The lines of a report, read one after the other: what they tell and the bytes behind them, or how many bytes are left
--- where the first line in fault begins.
-use Rattle.std.specs.Prelude.{◌≡◌, ℕ, zero, suc, Bool, true, ℤ, pos, neg_ℤ, List, [], ◌∷◌, length, replicate, codes, Option, Some, None, Result, Ok, Err}
+-- The lines of a report, read one after the other: what they tell and the bytes behind them, or how
+-- many bytes are left where the first line in fault begins.
+use Rattle.std.specs.Prelude.{◌≡◌, ℕ, zero, suc, Bool, true, ℤ, pos, neg_ℤ, List, [], ◌∷◌, length, replicate, codes, Some, None, Result, Ok, Err}
 use Rattle.uc_model.specs.declared.kinds.Kind.{Kind}
 use Rattle.uc_model.specs.declared.kinds.Kind.TheVariants as kinds
 use Rattle.uc_model.specs.declared.limits.TheConstants.{MOST_PERIODS, MOST_UNITS, MOST_PROPOSALS, PRICE_LIMIT}
 use Rattle.uc_model.specs.Data.{Schedule}
 use Rattle.uc_model.specs.PriceRule.{Proposal}
 use Rattle.hull_report.specs.declared.report.Head.{Head}
-use Rattle.hull_report.specs.ReportText.{UnitLine, Report}
+use Rattle.hull_report.specs.ReportText.{Report}
 use Rattle.report_read.specs.declared.head.Foot.{Foot}
 use Rattle.report_read.specs.declared.stop.Stop.{Stop}
 use Rattle.report_read.specs.declared.stop.Stop.TheVariants as stops
@@ -42,7 +42,8 @@ or_left left None = Err left
 abbrev pub line : {A : Type 0} → (List ℕ → Found A) → List ℕ → Read A
 line read bytes = or_left (length bytes) (read bytes)
 
-abbrev pub then_lines : {A B : Type 0} → (List ℕ → Read A) → (A → List ℕ → Read B) → List ℕ → Read (A × B)
+abbrev pub then_lines : {A B : Type 0} → (List ℕ → Read A) → (A → List ℕ → Read B) → List ℕ →
+    Read (A × B)
 then_lines first next bytes = do
   x ← first bytes
   y ← next x.0 x.1
@@ -117,7 +118,8 @@ joined x = x.0 ∷ x.1
 unfoldable pub rows_at : (periods number count : ℕ) → List ℕ → Read (List Proposal)
 rows_at periods number zero bytes = Ok ([], bytes)
 rows_at periods number (suc count) bytes =
-    making joined (then_lines (row_at periods number) (λ _. rows_at periods (suc number) count)) bytes
+    making joined
+    (then_lines (row_at periods number) (λ _. rows_at periods (suc number) count)) bytes
 
 -- ---- units
 
@@ -128,7 +130,11 @@ abbrev pub made_response : List Bool × (List ℕ × List ℕ) → Schedule
 made_response x = record { on = x.0; power = x.1.0; reserve = x.1.1 }
 
 abbrev pub always_on : List ℕ → Schedule
-always_on power = record { on = replicate (length power) true; power = power; reserve = replicate (length power) 0 }
+always_on power = record {
+  on = replicate (length power) true;
+  power = power;
+  reserve = replicate (length power) 0;
+}
 
 unfoldable pub thermal_at : ℕ → List ℕ → Read Schedule
 thermal_at periods =
@@ -149,17 +155,25 @@ response_at periods kinds.Case = other_at periods
 abbrev pub made_unit : Title × Schedule → Told
 made_unit x = record {
   kind = x.0.0;
-  line = record { name = x.0.1.0; earned = x.0.1.1.0; scheduled = x.0.1.1.1.0; payment = x.0.1.1.1.1; response = x.1 };
+  line = record {
+    name = x.0.1.0;
+    earned = x.0.1.1.0;
+    scheduled = x.0.1.1.1.0;
+    payment = x.0.1.1.1.1;
+    response = x.1;
+  };
 }
 
 -- a unit of a kind of at least that rank
 unfoldable pub unit_at : (periods least : ℕ) → List ℕ → Read Told
-unit_at periods least = making made_unit (then_lines (line (title_line least)) (λ t. response_at periods t.0))
+unit_at periods least =
+    making made_unit (then_lines (line (title_line least)) (λ t. response_at periods t.0))
 
 unfoldable pub units_at : (periods least count : ℕ) → List ℕ → Read (List Told)
 units_at periods least zero bytes = Ok ([], bytes)
 units_at periods least (suc count) bytes =
-    making joined (then_lines (unit_at periods least) (λ u. units_at periods (rank u.kind) count)) bytes
+    making joined
+    (then_lines (unit_at periods least) (λ u. units_at periods (rank u.kind) count)) bytes
 
 -- ---- the last lines, and the whole
 

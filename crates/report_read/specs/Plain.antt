@@ -16,7 +16,13 @@ pub record Told : Type 0 where
 abbrev pub told_of : KeptLine → Told
 told_of l = record {
   kind = l.kind;
-  line = record { name = l.name.items; earned = l.earned; scheduled = l.scheduled; payment = l.payment; response = schedule_of l.response };
+  line = record {
+    name = l.name.items;
+    earned = l.earned;
+    scheduled = l.scheduled;
+    payment = l.payment;
+    response = schedule_of l.response;
+  };
 }
 
 -- the order of the kinds in a report; a line is of no other kind
@@ -36,7 +42,8 @@ same_kind k l = false
 -- the lines of one kind
 abbrev pub lines_of : Kind → List Told → List UnitLine
 lines_of kind [] = []
-lines_of kind (t ∷ ts) = if same_kind kind t.kind then t.line ∷ lines_of kind ts else lines_of kind ts
+lines_of kind (t ∷ ts) =
+    if same_kind kind t.kind then t.line ∷ lines_of kind ts else lines_of kind ts
 
 unfoldable pub report_of : KeptReport → Report
 report_of r = record {

@@ -1,5 +1,6 @@
--- What stands in a line, read from the left: a value and the bytes behind it, where the bytes begin with its text.
-use Rattle.std.specs.Prelude.{◌≡◌, ℕ, zero, suc, ◌+◌, ◌-◌, ◌*◌, ◌==◌, ◌&&◌, ◌||◌, nat_lt, nat_le, int_le, Bool, true, false, not, if◌then◌else◌, ℤ, pos, neg_ℤ, List, [], ◌∷◌, length, codes, Option, Some, None, Result, Ok, Err}
+-- What stands in a line, read from the left: a value and the bytes behind it, where the bytes begin
+-- with its text.
+use Rattle.std.specs.Prelude.{◌≡◌, ℕ, zero, suc, ◌+◌, ◌-◌, ◌*◌, ◌==◌, ◌&&◌, ◌||◌, nat_lt, nat_le, int_le, Bool, true, false, if◌then◌else◌, ℤ, pos, neg_ℤ, List, [], ◌∷◌, length, codes, Option, Some, None, Result, Ok, Err}
 use Rattle.std.specs.Str.{is_utf8}
 use Rattle.uc_model.specs.declared.kinds.Kind.{Kind}
 use Rattle.uc_model.specs.declared.kinds.Kind.TheVariants as kinds
@@ -47,7 +48,8 @@ digits_from n (b ∷ bs) = if is_digit b then digits_from (10 * n + (b - 48)) bs
 -- 0, or digits of which the first isn't 0
 unfoldable pub numeral_at : List ℕ → Found ℕ
 numeral_at [] = None
-numeral_at (b ∷ bs) = if b == 48 then Some (0, bs) else if is_digit b then Some (digits_from (b - 48) bs) else None
+numeral_at (b ∷ bs) =
+    if b == 48 then Some (0, bs) else if is_digit b then Some (digits_from (b - 48) bs) else None
 
 abbrev pub count_between : ℕ → ℕ → ℕ × List ℕ → Found ℕ
 count_between least most x = if nat_le least x.0 && nat_le x.0 most then Some x else None
@@ -97,7 +99,8 @@ items_at item (suc n) bytes = do
 
 abbrev pub hex_value : ℕ → Option ℕ
 hex_value b =
-    if is_digit b then Some (b - 48) else if nat_le 97 b && nat_le b 102 then Some (b - 87) else None
+    if is_digit b then Some (b - 48)
+    else if nat_le 97 b && nat_le b 102 then Some (b - 87) else None
 
 abbrev pub two_digits : List ℕ → Found ℕ
 two_digits [] = None
@@ -116,11 +119,13 @@ control_at bytes = do
 -- behind a backslash
 unfoldable pub backslashed_at : List ℕ → Found ℕ
 backslashed_at [] = None
-backslashed_at (b ∷ bs) = if b == 34 || b == 92 then Some (b, bs) else if b == 117 then control_at bs else None
+backslashed_at (b ∷ bs) =
+    if b == 34 || b == 92 then Some (b, bs) else if b == 117 then control_at bs else None
 
 unfoldable pub escaped_at : List ℕ → Found ℕ
 escaped_at [] = None
-escaped_at (b ∷ bs) = if stands_as_is b then Some (b, bs) else if b == 92 then backslashed_at bs else None
+escaped_at (b ∷ bs) =
+    if stands_as_is b then Some (b, bs) else if b == 92 then backslashed_at bs else None
 
 -- a name to its closing quote, of fewer characters than so many
 unfoldable pub closed_within : ℕ → List ℕ → Found (List ℕ)
@@ -148,4 +153,5 @@ of_kind kind rest = rest >>= λ bytes. Some (kind, bytes)
 unfoldable pub kind_at : List ℕ → Found Kind
 kind_at bytes =
     or_else (of_kind kinds.Thermal (behind (codes "thermal ") bytes))
-    (or_else (of_kind kinds.Renewable (behind (codes "renewable ") bytes)) (of_kind kinds.Bid (behind (codes "bid ") bytes)))
+    (or_else (of_kind kinds.Renewable (behind (codes "renewable ") bytes))
+    (of_kind kinds.Bid (behind (codes "bid ") bytes)))

@@ -60,7 +60,8 @@ pub fn prices_at<'a>(
 ) -> Option<(Numbers, &'a [u8])>
     requires empty { list.items ≡ [] }
     requires room { count ≤ list.spare }
-    ensures { Finds (λ x. (x.0.items, x.1.now)) result (items_at (price_spec least most) count bytes.now) }
+    ensures { Finds (λ x. (x.0.items, x.1.now)) result
+        (items_at (price_spec least most) count bytes.now) }
 {
     let mut rest = bytes;
     for _ in 0..count {
@@ -105,7 +106,8 @@ pub fn powers_at<'a>(mut list: Powers, count: u32, bytes: &'a [u8]) -> Option<(P
 pub fn flags_at<'a>(mut list: Flags, count: u32, bytes: &'a [u8]) -> Option<(Flags, &'a [u8])>
     requires empty { list.items ≡ [] }
     requires room { count ≤ list.spare }
-    ensures { Finds (λ x. (x.0.items, x.1.now)) result (items_at (spaced flag_spec) count bytes.now) }
+    ensures { Finds (λ x. (x.0.items, x.1.now)) result
+        (items_at (spaced flag_spec) count bytes.now) }
 {
     let mut rest = bytes;
     for _ in 0..count {

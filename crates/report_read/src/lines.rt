@@ -31,7 +31,8 @@ pub fn word_line<'a>(word: &[u8], bytes: &'a [u8]) -> Result<&'a [u8], Stop>
 
 #[tactic(auto, unfolding(crate::specs::LineForms::ended, crate::specs::LineForms::after))]
 fn count_in<'a>(word: &[u8], least: u32, most: u32, bytes: &'a [u8]) -> Option<(u32, &'a [u8])>
-    ensures { Finds (λ x. (x.0, x.1.now)) result (word_form word.now (count_found least most) bytes.now) }
+    ensures { Finds (λ x. (x.0, x.1.now)) result
+        (word_form word.now (count_found least most) bytes.now) }
 {
     let rest = behind(word, bytes)?;
     let (number, rest) = count_at(rest, least, most)?;
@@ -83,7 +84,8 @@ pub struct Valued {
 
 #[tactic(auto, unfolding(crate::specs::LineForms::ended, crate::specs::LineForms::after, crate::specs::LineForms::both))]
 fn value_in<'a>(word: &[u8], least: u32, most: u32, bytes: &'a [u8]) -> Option<(Valued, &'a [u8])>
-    ensures { Finds (λ x. ((x.0.number, x.0.value), x.1.now)) result (value_form word.now least most bytes.now) }
+    ensures { Finds (λ x. ((x.0.number, x.0.value), x.1.now)) result
+        (value_form word.now least most bytes.now) }
 {
     let rest = behind(word, bytes)?;
     let (number, rest) = count_at(rest, least, most)?;
@@ -100,7 +102,8 @@ pub fn value_line<'a>(
     most: u32,
     bytes: &'a [u8],
 ) -> Result<(Valued, &'a [u8]), Stop>
-    ensures { Gives (λ x. ((x.0.number, x.0.value), x.1.now)) result (line (value_form word.now least most) bytes.now) }
+    ensures { Gives (λ x. ((x.0.number, x.0.value), x.1.now)) result
+        (line (value_form word.now least most) bytes.now) }
 {
     match value_in(word, least, most, bytes) {
         Some(found) => Ok(found),
@@ -119,7 +122,8 @@ fn prices_in<'a>(
 ) -> Option<(Numbers, &'a [u8])>
     requires empty { list.items ≡ [] }
     requires room { periods ≤ list.spare }
-    ensures { Finds (λ x. (x.0.items, x.1.now)) result (word_form word.now (items_at (price_at least most) periods) bytes.now) }
+    ensures { Finds (λ x. (x.0.items, x.1.now)) result
+        (word_form word.now (items_at (price_at least most) periods) bytes.now) }
 {
     let rest = behind(word, bytes)?;
     let (list, rest) = prices_at(list, periods, least, most, rest)?;
@@ -136,7 +140,8 @@ pub fn prices_line<'a>(
     most: i64,
     bytes: &'a [u8],
 ) -> Result<(Numbers, &'a [u8]), Stop>
-    ensures { Gives (λ x. (x.0.items, x.1.now)) result (list_line word.now (price_at least most) periods bytes.now) }
+    ensures { Gives (λ x. (x.0.items, x.1.now)) result
+        (list_line word.now (price_at least most) periods bytes.now) }
 {
     let list = Numbers::make(alloc, periods)?;
     match prices_in(list, word, periods, least, most, bytes) {
@@ -154,7 +159,8 @@ fn totals_in<'a>(
 ) -> Option<(Amounts, &'a [u8])>
     requires empty { list.items ≡ [] }
     requires room { periods ≤ list.spare }
-    ensures { Finds (λ x. (x.0.items, x.1.now)) result (word_form word.now (items_at total_at periods) bytes.now) }
+    ensures { Finds (λ x. (x.0.items, x.1.now)) result
+        (word_form word.now (items_at total_at periods) bytes.now) }
 {
     let rest = behind(word, bytes)?;
     let (list, rest) = totals_at(list, periods, rest)?;
@@ -169,7 +175,8 @@ pub fn totals_line<'a>(
     periods: u32,
     bytes: &'a [u8],
 ) -> Result<(Amounts, &'a [u8]), Stop>
-    ensures { Gives (λ x. (x.0.items, x.1.now)) result (list_line word.now total_at periods bytes.now) }
+    ensures { Gives (λ x. (x.0.items, x.1.now)) result
+        (list_line word.now total_at periods bytes.now) }
 {
     let list = Amounts::make(alloc, periods)?;
     match totals_in(list, word, periods, bytes) {
@@ -187,7 +194,8 @@ fn powers_in<'a>(
 ) -> Option<(Powers, &'a [u8])>
     requires empty { list.items ≡ [] }
     requires room { periods ≤ list.spare }
-    ensures { Finds (λ x. (x.0.items, x.1.now)) result (word_form word.now (items_at power_at periods) bytes.now) }
+    ensures { Finds (λ x. (x.0.items, x.1.now)) result
+        (word_form word.now (items_at power_at periods) bytes.now) }
 {
     let rest = behind(word, bytes)?;
     let (list, rest) = powers_at(list, periods, rest)?;
@@ -202,7 +210,8 @@ pub fn powers_line<'a>(
     periods: u32,
     bytes: &'a [u8],
 ) -> Result<(Powers, &'a [u8]), Stop>
-    ensures { Gives (λ x. (x.0.items, x.1.now)) result (list_line word.now power_at periods bytes.now) }
+    ensures { Gives (λ x. (x.0.items, x.1.now)) result
+        (list_line word.now power_at periods bytes.now) }
 {
     let list = Powers::make(alloc, periods)?;
     match powers_in(list, word, periods, bytes) {
@@ -220,7 +229,8 @@ fn flags_in<'a>(
 ) -> Option<(Flags, &'a [u8])>
     requires empty { list.items ≡ [] }
     requires room { periods ≤ list.spare }
-    ensures { Finds (λ x. (x.0.items, x.1.now)) result (word_form word.now (items_at (spaced flag_at) periods) bytes.now) }
+    ensures { Finds (λ x. (x.0.items, x.1.now)) result
+        (word_form word.now (items_at (spaced flag_at) periods) bytes.now) }
 {
     let rest = behind(word, bytes)?;
     let (list, rest) = flags_at(list, periods, rest)?;
@@ -235,7 +245,8 @@ pub fn flags_line<'a>(
     periods: u32,
     bytes: &'a [u8],
 ) -> Result<(Flags, &'a [u8]), Stop>
-    ensures { Gives (λ x. (x.0.items, x.1.now)) result (list_line word.now (spaced flag_at) periods bytes.now) }
+    ensures { Gives (λ x. (x.0.items, x.1.now)) result
+        (list_line word.now (spaced flag_at) periods bytes.now) }
 {
     let list = Flags::make(alloc, periods)?;
     match flags_in(list, word, periods, bytes) {

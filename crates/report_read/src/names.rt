@@ -74,7 +74,8 @@ fn escaped_at(bytes: &[u8]) -> Option<(u8, &[u8])>
 
 /// The bytes of a name up to its closing quote.
 fn closed_at(alloc: Global, bytes: &[u8]) -> Result<Option<(Vec<u8>, &[u8])>, AllocError>
-    ensures { FindsIfOk (λ x. (x.0.items, x.1.now)) result (closed_within (length bytes.now) bytes.now) }
+    ensures { FindsIfOk (λ x. (x.0.items, x.1.now)) result
+        (closed_within (length bytes.now) bytes.now) }
 {
     let mut name = Vec::new(alloc);
     let mut rest = bytes;

@@ -24,7 +24,8 @@ fn within(number: u128, rest: &[u8]) -> Option<(u128, &[u8])>
 /// The number that goes on with the digits in front.
 fn digits_from(first: u128, bytes: &[u8]) -> Option<(u128, &[u8])>
     requires { first ≤ 9 }
-    ensures { Finds (λ x. (x.0, x.1.now)) result (count_between 0 MOST (digits_spec first bytes.now)) }
+    ensures { Finds (λ x. (x.0, x.1.now)) result
+        (count_between 0 MOST (digits_spec first bytes.now)) }
 {
     let mut number = first;
     for (place, byte) in bytes.iter().enumerate() {

@@ -89,7 +89,8 @@ pub fn read_report(alloc: Global, bytes: &[u8]) -> Result<Report, ReportError>
     // A fault is the first line that no report goes on with.
     ensures fault { IfFault result (λ line. IsFault bytes.now line) }
     // The text of a report within the bounds is read.
-    ensures only { (r : PlainReport) → IsReport r → bytes.now ≡ report_text r → GivesReport result r }
+    ensures only { (r : PlainReport) → IsReport r → bytes.now ≡ report_text r
+        → GivesReport result r }
 {
     match whole_report(alloc, bytes) {
         Ok(report) => Ok(report),

@@ -12,7 +12,7 @@ pub type RowList = ReservedList<Row>;
 pub type UnitLines = ReservedList<UnitLine>;
 
 /// A unit or a bid at the chosen prices: what it earns at best and in the plan, what it is owed, in
-/// money, and its response. That of a renewable unit or a bid is on in every period, with reserve 0.
+/// money, and its response. A renewable unit or a bid is on in every period, with reserve 0.
 #[derive(Drop)]
 pub struct UnitLine {
     pub kind: Kind,

@@ -47,7 +47,8 @@ pub fn read_rows(
     requires limit { periods ≤ 168 }
     requires few { length bytes.now ≤ 67108864 }
     requires numbers { count < 2 ^ 32 }
-    ensures { Gives (λ x. (map proposal_of x.0.items, x.1.now)) result (rows_at periods 1 count bytes.now) }
+    ensures { Gives (λ x. (map proposal_of x.0.items, x.1.now)) result
+        (rows_at periods 1 count bytes.now) }
 {
     let most = (bytes.len() / LEAST_BYTES) as u32;
     let mut rows = RowList::make(alloc, most.min(count))?;

@@ -3,7 +3,7 @@ ghost use Rattle.std.specs.Prelude.{◌≡◌, ◌≤◌, map};
 ghost use Rattle.uc_model.specs.PlainUnits.{schedule_of};
 ghost use Rattle.report_read.specs.Plain.{rank as rank_spec, told_of};
 ghost use Rattle.report_read.specs.Words.{Finds, FindsIfOk, kind_at as kind_spec};
-ghost use Rattle.report_read.specs.LineForms.{number_at as number_spec, after, owed_at as owed_spec, opening_at as opening_spec, title_line as title_spec};
+ghost use Rattle.report_read.specs.LineForms.{number_at as number_spec, after, owed_at as owed_spec, opening_at as opening_spec, title_line as title_spec, titled};
 ghost use Rattle.report_read.specs.Lines.{Gives, line, thermal_at, other_at, response_at, unit_at, units_at};
 
 use crate::lines::{flags_line, powers_line};
@@ -20,10 +20,10 @@ use uc_model::units::Response;
 
 /// The first line of a unit or bid.
 #[derive(Drop)]
-struct Title {
-    kind: Kind,
-    name: Name,
-    owed: Owed,
+pub struct Title {
+    pub kind: Kind,
+    pub name: Name,
+    pub owed: Owed,
 }
 
 /// The place of a kind in the order of a report.
@@ -76,7 +76,8 @@ fn money_at<'a>(word: &[u8], bytes: &'a [u8]) -> Option<(i64, &'a [u8])>
 
 #[tactic(auto, unfolding(crate::specs::LineForms::both))]
 fn owed_at(bytes: &[u8]) -> Option<(Owed, &[u8])>
-    ensures { Finds (λ x. ((x.0.earned, (x.0.scheduled, x.0.payment)), x.1.now)) result (owed_spec bytes.now) }
+    ensures { Finds (λ x. ((x.0.earned, (x.0.scheduled, x.0.payment)), x.1.now)) result
+        (owed_spec bytes.now) }
 {
     let (earned, rest) = money_at(b" earned ", bytes)?;
     let (scheduled, rest) = money_at(b" scheduled ", rest)?;
@@ -91,7 +92,8 @@ fn owed_at(bytes: &[u8]) -> Option<(Owed, &[u8])>
 
 #[tactic(auto, unfolding(crate::specs::LineForms::ended, crate::specs::LineForms::both))]
 fn title_in(alloc: Global, least: u32, bytes: &[u8]) -> Result<Option<(Title, &[u8])>, AllocError>
-    ensures { FindsIfOk (λ x. ((x.0.kind, (x.0.name.items, (x.0.owed.earned, (x.0.owed.scheduled, x.0.owed.payment)))), x.1.now)) result (title_spec least bytes.now) }
+    ensures { FindsIfOk (λ x. (titled x.0, x.1.now)) result
+        (title_spec least bytes.now) }
 {
     let Some((kind, rest)) = opening_at(least, bytes) else {
         return Ok(None);
@@ -109,7 +111,8 @@ fn title_in(alloc: Global, least: u32, bytes: &[u8]) -> Result<Option<(Title, &[
 }
 
 fn title_line(alloc: Global, least: u32, bytes: &[u8]) -> Result<(Title, &[u8]), Stop>
-    ensures { Gives (λ x. ((x.0.kind, (x.0.name.items, (x.0.owed.earned, (x.0.owed.scheduled, x.0.owed.payment)))), x.1.now)) result (line (title_spec least) bytes.now) }
+    ensures { Gives (λ x. (titled x.0, x.1.now)) result
+        (line (title_spec least) bytes.now) }
 {
     match title_in(alloc, least, bytes)? {
         Some(found) => Ok(found),
@@ -182,7 +185,8 @@ pub fn read_units(
     count: u32,
     bytes: &[u8],
 ) -> Result<(UnitLines, &[u8]), Stop>
-    ensures { Gives (λ x. (map told_of x.0.items, x.1.now)) result (units_at periods 0 count bytes.now) }
+    ensures { Gives (λ x. (map told_of x.0.items, x.1.now)) result
+        (units_at periods 0 count bytes.now) }
 {
     let mut lines = UnitLines::make(alloc, count)?;
     let mut rest = bytes;

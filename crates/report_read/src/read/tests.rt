@@ -4,11 +4,18 @@ use std::test::Fail;
 use uc_model::kinds::Kind;
 
 /// Two units at one price, as the rows of a run have them.
-const TWO_UNITS: &str =
-    "hull-report 1\nperiods 1\nunits 2\nbudget 1\nahead 1\ncost 3500\nproposals 1\nproposal 1 value 2500\nenergy 30\nreserve 0\nsupplied 100\nreserved 0\nchosen 1 value 2500\nunit thermal \"A\" earned 2000 scheduled 1000 payment 1000\non 1\npower 100\nreserve 0\nunit thermal \"B\" earned 0 scheduled 0 payment 0\non 0\npower 0\nreserve 0\nsurplus 0\npayments 1000\ngap 1000\nend\n";
+const TWO_UNITS: &str = "hull-report 1\n\
+    periods 1\nunits 2\nbudget 1\nahead 1\ncost 3500\nproposals 1\n\
+    proposal 1 value 2500\nenergy 30\nreserve 0\nsupplied 100\nreserved 0\n\
+    chosen 1 value 2500\n\
+    unit thermal \"A\" earned 2000 scheduled 1000 payment 1000\n\
+    on 1\npower 100\nreserve 0\n\
+    unit thermal \"B\" earned 0 scheduled 0 payment 0\n\
+    on 0\npower 0\nreserve 0\n\
+    surplus 0\npayments 1000\ngap 1000\nend\n";
 
-const FIRST_UNIT: &str =
-    "unit thermal \"A\" earned 2000 scheduled 1000 payment 1000\non 1\npower 100\nreserve 0\n";
+const FIRST_UNIT: &str = "unit thermal \"A\" earned 2000 scheduled 1000 payment 1000\n\
+    on 1\npower 100\nreserve 0\n";
 
 /// The line in fault, and 0 where there is none.
 fn line_of(alloc: Global, bytes: &[u8]) -> Option<u32> {

@@ -1,6 +1,6 @@
-use Rattle.std.proofs.Common.{◌≡◌, ◌++◌, ◌∷◌, [], sym, ap, arith}
-use Rattle.report_read.specs.Words.{spaced, flag_at, items_at}
-use Rattle.report_read.specs.Lines.{price_at, total_at, power_at}
+use Rattle.std.proofs.Common.{arith}
+use Rattle.report_read.specs.Words.{items_at}
+use Rattle.report_read.specs.Lines.{power_at}
 use Rattle.report_read.proofs.Loops.{item_goes_on, item_fails, items_done}
 use Rattle.report_read.proofs.items.powers_at.Goals as goal
 

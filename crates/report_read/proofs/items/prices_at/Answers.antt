@@ -1,4 +1,4 @@
-use Rattle.std.proofs.Common.{◌≡◌, ◌++◌, ◌∷◌, [], sym, ap, arith, rules, w64}
+use Rattle.std.proofs.Common.{arith, rules, w64}
 use Rattle.std.proofs.lemmas.Int.{to_z-of_z}
 use Rattle.report_read.specs.Words.{items_at}
 use Rattle.report_read.specs.Lines.{price_at}

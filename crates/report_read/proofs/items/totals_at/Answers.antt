@@ -1,8 +1,8 @@
-use Rattle.std.proofs.Common.{◌≡◌, ◌++◌, ◌∷◌, [], sym, ap, arith, rules}
+use Rattle.std.proofs.Common.{arith, rules}
 use Rattle.std.specs.Int.{w128}
 use Rattle.std.proofs.lemmas.Int.{to_z-of_z}
-use Rattle.report_read.specs.Words.{spaced, flag_at, items_at}
-use Rattle.report_read.specs.Lines.{price_at, total_at, power_at}
+use Rattle.report_read.specs.Words.{items_at}
+use Rattle.report_read.specs.Lines.{total_at}
 use Rattle.report_read.proofs.Loops.{item_goes_on, item_fails, items_done}
 use Rattle.report_read.proofs.items.totals_at.Goals as goal
 

@@ -1,6 +1,5 @@
-use Rattle.std.proofs.Common.{◌≡◌, ℕ, List, Some, length, sym, ap, ◌∙◌, subst}
+use Rattle.std.proofs.Common.{◌≡◌, ℕ, List, Some, sym, ap, ◌∙◌, subst}
 use Rattle.std.specs.Prelude.{IsUtf8}
-use Rattle.report_read.specs.Words.{closed_within, name_at as name_spec}
 use Rattle.report_read.proofs.NameParts.{name_found, name_bad}
 use Rattle.report_read.proofs.names.name_at.Goals as goal
 

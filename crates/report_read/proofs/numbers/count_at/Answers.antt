@@ -1,4 +1,4 @@
-use Rattle.std.proofs.Common.{◌≡◌, ◌≤◌, ◌∙◌, sym, arith}
+use Rattle.std.proofs.Common.{◌∙◌, arith}
 use Rattle.report_read.specs.declared.numbers.TheConstants.{MOST}
 use Rattle.report_read.proofs.Narrow.{below_least, above_most, within, count_none, count_some}
 use Rattle.report_read.proofs.numbers.count_at.Goals as goal

@@ -1,8 +1,7 @@
-use Rattle.std.proofs.Common.{◌≡◌, ◌≤◌, ◌∙◌, sym, ap, arith, List, ℕ, ℤ, pos, to_z, of_z}
-use Rattle.std.specs.Prelude.{neg_ℤ}
+use Rattle.std.proofs.Common.{◌∙◌, sym, ap, ℤ, pos}
 use Rattle.std.specs.Int.{w128}
 use Rattle.std.proofs.Common.{Some, rules}
-use Rattle.std.proofs.lemmas.Int.{ints, to_z-of_z}
+use Rattle.std.proofs.lemmas.Int.{to_z-of_z}
 use Rattle.report_read.specs.declared.numbers.TheConstants.{MOST}
 use Rattle.report_read.proofs.Narrow.{count_most, minus_none, minus_zero, minus_some}
 use Rattle.report_read.proofs.numbers.negative_at.Goals as goal

@@ -1,7 +1,6 @@
-use Rattle.std.proofs.Common.{◌≡◌, ◌≤◌, ◌<◌, ◌∙◌, sym, ap, arith, List, ℕ, ℤ, pos, Some, to_z, rules}
+use Rattle.std.proofs.Common.{◌∙◌, ap, arith, ℤ, pos, Some}
 use Rattle.std.proofs.lemmas.Int.{ints}
 use Rattle.std.specs.Prelude.{neg_ℤ}
-use Rattle.std.specs.Int.{w128}
 use Rattle.report_read.specs.declared.numbers.TheConstants.{MOST}
 use Rattle.report_read.proofs.Narrow.{count_most, plus_none, plus_above, plus_some}
 use Rattle.report_read.proofs.numbers.positive_at.Goals as goal

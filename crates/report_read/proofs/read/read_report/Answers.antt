@@ -1,10 +1,7 @@
-use Rattle.std.proofs.Common.{◌≡◌, ◌≤◌, ◌-◌, ℕ, List, length, take, suc, Ok, Err, sym, ap, ◌∙◌, subst, arith}
-use Rattle.hull_report.specs.ReportText.{Report, report_text}
+use Rattle.std.proofs.Common.{ℕ, sym, subst}
 use Rattle.report_read.specs.Plain.{report_of}
-use Rattle.report_read.specs.Bounds.{IsReport}
-use Rattle.report_read.specs.Faults.{IsFault, line_feeds}
-use Rattle.report_read.specs.Lines.{all_of}
-use Rattle.report_read.proofs.WholeForm.{all_takes, all_again, is_fault, left_within, never_both, one_read}
+use Rattle.report_read.specs.Faults.{IsFault}
+use Rattle.report_read.proofs.WholeForm.{all_takes, is_fault, left_within, never_both, one_read}
 use Rattle.report_read.proofs.read.read_report.Goals as goal
 
 pub returns-in-Ok-clause-bounds : goal.returns-in-Ok-clause-bounds

@@ -1,4 +1,4 @@
-use Rattle.std.proofs.Common.{◌≡◌, ◌≤◌, map, length, arith, rules}
+use Rattle.std.proofs.Common.{map, arith, rules}
 use Rattle.report_read.specs.Plain.{told_of}
 use Rattle.report_read.proofs.WholeForm.{head_is, head_shorter, units_order}
 use Rattle.report_read.proofs.read.report_in_front.Goals as goal

@@ -1,4 +1,4 @@
-use Rattle.std.proofs.Common.{◌≡◌, List, Bool, ℕ, length, sym, ap, ◌∙◌, codes, refl, true, replicate}
+use Rattle.std.proofs.Common.{List, Bool, ℕ, length, sym, ap, ◌∙◌, codes, refl, true}
 use Rattle.report_read.proofs.UnitForms.{powers_are, length-replicate}
 use Rattle.report_read.proofs.units.other_response.Goals as goal
 

@@ -1,4 +1,4 @@
-use Rattle.std.proofs.Common.{◌≡◌, sym, ◌∙◌, codes, refl}
+use Rattle.std.proofs.Common.{sym, ◌∙◌, codes, refl}
 use Rattle.report_read.proofs.UnitForms.{flags_are, powers_are}
 use Rattle.report_read.proofs.units.thermal_response.Goals as goal
 
