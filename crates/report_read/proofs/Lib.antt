@@ -1,0 +1,22 @@
+-- words.rt, numbers.rt: what a loop over bytes has read so far
+pub mod Steps
+-- items.rt, names.rt: what a loop over items, or over a name, has read so far
+pub mod Loops
+-- rows.rt, units.rt: what a loop over proposals, or over units, has read so far
+pub mod LineLoops
+-- numbers.rt: narrower limits, and numbers with a sign
+pub mod Narrow
+-- parts of a line are read from their text alone: words and lists, numbers, names
+pub mod Parts
+pub mod Numerals
+pub mod NameParts
+-- lines one after the other are so too, and stop at the first line in fault
+pub mod Forms
+-- rows.rt, head.rt: the first lines, proposals and the last lines
+pub mod RowForms
+-- units.rt: units and bids
+pub mod UnitForms
+-- read.rt: the whole report
+pub mod WholeForm
+-- laws.rt: at most one line is in fault
+pub mod OneFault

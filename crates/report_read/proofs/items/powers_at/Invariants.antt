@@ -1,0 +1,11 @@
+use Rattle.std.proofs.Common.{◌≡◌, ◌-◌, ◌≤◌}
+use Rattle.report_read.specs.Words.{items_at}
+use Rattle.report_read.specs.Lines.{power_at}
+use Rattle.report_read.proofs.Loops.{with_front}
+use Rattle.report_read.proofs.items.powers_at.Given as goal
+
+abbrev pub invariant-loop : goal.invariant-loop
+invariant-loop l = record {
+  reads : with_front l.list.items (items_at (power_at) (l.count - l.counter) l.rest) ≡ items_at (power_at) l.count l.bytes;
+  room : l.count - l.counter ≤ l.list.spare;
+}

@@ -1,0 +1,16 @@
+use Rattle.std.proofs.Common.{refl, rules, w64}
+use Rattle.std.proofs.lemmas.Int.{to_z-of_z}
+use Rattle.report_read.specs.LineForms.{both}
+use Rattle.report_read.proofs.units.owed_at.Goals as goal
+
+pub returns : goal.returns
+unfolding both
+returns c =
+    rw (
+      to_z-of_z w64 c.in_ok-earned.earned (search rules),
+      to_z-of_z w64 c.in_ok-scheduled.scheduled (search rules),
+      to_z-of_z w64 c.in_ok-payment.payment (search rules),
+      c.in_ok-earned.ensures,
+      c.in_ok-scheduled.ensures,
+      c.in_ok-payment.ensures,
+    ) refl

@@ -1,0 +1,11 @@
+use Rattle.std.proofs.Common.{◌≡◌, ◌-◌, ◌≤◌, map}
+use Rattle.report_read.specs.Plain.{told_of}
+use Rattle.report_read.specs.Lines.{units_at}
+use Rattle.report_read.proofs.LineLoops.{with_front}
+use Rattle.report_read.proofs.units.read_units.Given as goal
+
+abbrev pub invariant-loop : goal.invariant-loop
+invariant-loop l = record {
+  reads : with_front (map told_of l.lines.items) (units_at l.periods l.least (l.count - l.counter) l.rest) ≡ units_at l.periods 0 l.count l.bytes;
+  room : l.count - l.counter ≤ l.lines.spare;
+}

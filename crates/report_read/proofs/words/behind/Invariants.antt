@@ -1,0 +1,9 @@
+use Rattle.std.proofs.Common.{◌≡◌, ◌≤◌, length, drop}
+use Rattle.report_read.specs.Words.{behind as behind_spec}
+use Rattle.report_read.proofs.words.behind.Given as goal
+
+abbrev pub invariant-loop-place : goal.invariant-loop-place
+invariant-loop-place l = record {
+  reads : behind_spec l.word l.bytes ≡ behind_spec (drop l.place l.word) (drop l.place l.bytes);
+  within : l.place ≤ length l.bytes;
+}

@@ -1,0 +1,13 @@
+-- What holds of every report within the bounds. Each law is the clause of a public function.
+use Rattle.std.specs.Prelude.{◌≡◌, ℕ, List}
+use Rattle.hull_report.specs.ReportText.{Report, report_text}
+use Rattle.report_read.specs.Bounds.{IsReport}
+use Rattle.report_read.specs.Faults.{IsFault}
+
+-- no two have one text
+abbrev pub OneReport : Type 0
+OneReport = (a b : Report) → IsReport a → IsReport b → report_text a ≡ report_text b → a ≡ b
+
+-- a file has at most one line in fault
+abbrev pub OneFault : Type 0
+OneFault = (bytes : List ℕ) (k l : ℕ) → IsFault bytes k → IsFault bytes l → k ≡ l

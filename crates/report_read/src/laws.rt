@@ -1,0 +1,16 @@
+//! Laws over reports within the bounds: each is the contract of a function that does nothing.
+ghost use Rattle.report_read.specs.Laws.{OneReport, OneFault};
+
+use hull_report::laws::text_determines_the_report;
+
+/// No two reports within the bounds have one text, so what is read is the report that was written.
+pub fn one_report_has_a_text()
+    ensures { OneReport }
+{
+    text_determines_the_report();
+}
+
+/// A file has at most one line in fault.
+pub fn one_line_is_in_fault()
+    ensures { OneFault }
+{}

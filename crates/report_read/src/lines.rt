@@ -1,0 +1,256 @@
+//! Lines of one form each, and the line in fault where one isn't in form.
+ghost use Rattle.std.specs.Prelude.{◌≡◌, ◌≤◌, []};
+ghost use Rattle.report_read.specs.Words.{Finds, spaced, flag_at, items_at, count_at as count_found};
+ghost use Rattle.report_read.specs.LineForms.{word_line as word_form, plain_line as plain_form, value_line as value_form, amount_at as amount_found};
+ghost use Rattle.report_read.specs.Lines.{Gives, line, count_line as count_spec, amount_line as amount_spec, list_line, price_at, total_at, power_at};
+
+use crate::items::{flags_at, powers_at, prices_at, totals_at};
+use crate::numbers::{amount_at, count_at};
+use crate::stop::Stop;
+use crate::words::behind;
+use std::alloc::Global;
+use uc_model::lists::{Amounts, Flags, Numbers, Powers};
+
+#[tactic(auto, unfolding(crate::specs::LineForms::ended, crate::specs::LineForms::just))]
+fn word_in<'a>(word: &[u8], bytes: &'a [u8]) -> Option<&'a [u8]>
+    ensures { Finds (λ rest. (tt, rest.now)) result (plain_form word.now bytes.now) }
+{
+    let rest = behind(word, bytes)?;
+    behind(b"\n", rest)
+}
+
+/// The bytes behind a line that is a word.
+pub fn word_line<'a>(word: &[u8], bytes: &'a [u8]) -> Result<&'a [u8], Stop>
+    ensures { Gives (λ rest. (tt, rest.now)) result (line (plain_form word.now) bytes.now) }
+{
+    match word_in(word, bytes) {
+        Some(rest) => Ok(rest),
+        None => Err(Stop::Fault { left: bytes.len() }),
+    }
+}
+
+#[tactic(auto, unfolding(crate::specs::LineForms::ended, crate::specs::LineForms::after))]
+fn count_in<'a>(word: &[u8], least: u32, most: u32, bytes: &'a [u8]) -> Option<(u32, &'a [u8])>
+    ensures { Finds (λ x. (x.0, x.1.now)) result
+        (word_form word.now (count_found least most) bytes.now) }
+{
+    let rest = behind(word, bytes)?;
+    let (number, rest) = count_at(rest, least, most)?;
+    let rest = behind(b"\n", rest)?;
+    Some((number, rest))
+}
+
+/// A word and a number from `least` to `most`.
+pub fn count_line<'a>(
+    word: &[u8],
+    least: u32,
+    most: u32,
+    bytes: &'a [u8],
+) -> Result<(u32, &'a [u8]), Stop>
+    ensures { Gives (λ x. (x.0, x.1.now)) result (count_spec word.now least most bytes.now) }
+{
+    match count_in(word, least, most, bytes) {
+        Some(found) => Ok(found),
+        None => Err(Stop::Fault { left: bytes.len() }),
+    }
+}
+
+#[tactic(auto, unfolding(crate::specs::LineForms::ended, crate::specs::LineForms::after))]
+fn amount_in<'a>(word: &[u8], bytes: &'a [u8]) -> Option<(i128, &'a [u8])>
+    ensures { Finds (λ x. (x.0, x.1.now)) result (word_form word.now amount_found bytes.now) }
+{
+    let rest = behind(word, bytes)?;
+    let (amount, rest) = amount_at(rest)?;
+    let rest = behind(b"\n", rest)?;
+    Some((amount, rest))
+}
+
+/// A word and an amount of money.
+pub fn amount_line<'a>(word: &[u8], bytes: &'a [u8]) -> Result<(i128, &'a [u8]), Stop>
+    ensures { Gives (λ x. (x.0, x.1.now)) result (amount_spec word.now bytes.now) }
+{
+    match amount_in(word, bytes) {
+        Some(found) => Ok(found),
+        None => Err(Stop::Fault { left: bytes.len() }),
+    }
+}
+
+/// The number of a proposal, and its value in money.
+#[derive(Clone, Copy)]
+pub struct Valued {
+    pub number: u32,
+    pub value: i128,
+}
+
+#[tactic(auto, unfolding(crate::specs::LineForms::ended, crate::specs::LineForms::after, crate::specs::LineForms::both))]
+fn value_in<'a>(word: &[u8], least: u32, most: u32, bytes: &'a [u8]) -> Option<(Valued, &'a [u8])>
+    ensures { Finds (λ x. ((x.0.number, x.0.value), x.1.now)) result
+        (value_form word.now least most bytes.now) }
+{
+    let rest = behind(word, bytes)?;
+    let (number, rest) = count_at(rest, least, most)?;
+    let rest = behind(b" value ", rest)?;
+    let (value, rest) = amount_at(rest)?;
+    let rest = behind(b"\n", rest)?;
+    Some((Valued { number, value }, rest))
+}
+
+/// A word, the number of a proposal from `least` to `most`, and its value in money.
+pub fn value_line<'a>(
+    word: &[u8],
+    least: u32,
+    most: u32,
+    bytes: &'a [u8],
+) -> Result<(Valued, &'a [u8]), Stop>
+    ensures { Gives (λ x. ((x.0.number, x.0.value), x.1.now)) result
+        (line (value_form word.now least most) bytes.now) }
+{
+    match value_in(word, least, most, bytes) {
+        Some(found) => Ok(found),
+        None => Err(Stop::Fault { left: bytes.len() }),
+    }
+}
+
+#[tactic(auto, unfolding(crate::specs::LineForms::ended, crate::specs::LineForms::after))]
+fn prices_in<'a>(
+    list: Numbers,
+    word: &[u8],
+    periods: u32,
+    least: i64,
+    most: i64,
+    bytes: &'a [u8],
+) -> Option<(Numbers, &'a [u8])>
+    requires empty { list.items ≡ [] }
+    requires room { periods ≤ list.spare }
+    ensures { Finds (λ x. (x.0.items, x.1.now)) result
+        (word_form word.now (items_at (price_at least most) periods) bytes.now) }
+{
+    let rest = behind(word, bytes)?;
+    let (list, rest) = prices_at(list, periods, least, most, rest)?;
+    let rest = behind(b"\n", rest)?;
+    Some((list, rest))
+}
+
+/// A word and the prices of all periods, from `least` to `most`.
+pub fn prices_line<'a>(
+    alloc: Global,
+    word: &[u8],
+    periods: u32,
+    least: i64,
+    most: i64,
+    bytes: &'a [u8],
+) -> Result<(Numbers, &'a [u8]), Stop>
+    ensures { Gives (λ x. (x.0.items, x.1.now)) result
+        (list_line word.now (price_at least most) periods bytes.now) }
+{
+    let list = Numbers::make(alloc, periods)?;
+    match prices_in(list, word, periods, least, most, bytes) {
+        Some(found) => Ok(found),
+        None => Err(Stop::Fault { left: bytes.len() }),
+    }
+}
+
+#[tactic(auto, unfolding(crate::specs::LineForms::ended, crate::specs::LineForms::after))]
+fn totals_in<'a>(
+    list: Amounts,
+    word: &[u8],
+    periods: u32,
+    bytes: &'a [u8],
+) -> Option<(Amounts, &'a [u8])>
+    requires empty { list.items ≡ [] }
+    requires room { periods ≤ list.spare }
+    ensures { Finds (λ x. (x.0.items, x.1.now)) result
+        (word_form word.now (items_at total_at periods) bytes.now) }
+{
+    let rest = behind(word, bytes)?;
+    let (list, rest) = totals_at(list, periods, rest)?;
+    let rest = behind(b"\n", rest)?;
+    Some((list, rest))
+}
+
+/// A word and the totals of all periods.
+pub fn totals_line<'a>(
+    alloc: Global,
+    word: &[u8],
+    periods: u32,
+    bytes: &'a [u8],
+) -> Result<(Amounts, &'a [u8]), Stop>
+    ensures { Gives (λ x. (x.0.items, x.1.now)) result
+        (list_line word.now total_at periods bytes.now) }
+{
+    let list = Amounts::make(alloc, periods)?;
+    match totals_in(list, word, periods, bytes) {
+        Some(found) => Ok(found),
+        None => Err(Stop::Fault { left: bytes.len() }),
+    }
+}
+
+#[tactic(auto, unfolding(crate::specs::LineForms::ended, crate::specs::LineForms::after))]
+fn powers_in<'a>(
+    list: Powers,
+    word: &[u8],
+    periods: u32,
+    bytes: &'a [u8],
+) -> Option<(Powers, &'a [u8])>
+    requires empty { list.items ≡ [] }
+    requires room { periods ≤ list.spare }
+    ensures { Finds (λ x. (x.0.items, x.1.now)) result
+        (word_form word.now (items_at power_at periods) bytes.now) }
+{
+    let rest = behind(word, bytes)?;
+    let (list, rest) = powers_at(list, periods, rest)?;
+    let rest = behind(b"\n", rest)?;
+    Some((list, rest))
+}
+
+/// A word and the powers or reserves of all periods.
+pub fn powers_line<'a>(
+    alloc: Global,
+    word: &[u8],
+    periods: u32,
+    bytes: &'a [u8],
+) -> Result<(Powers, &'a [u8]), Stop>
+    ensures { Gives (λ x. (x.0.items, x.1.now)) result
+        (list_line word.now power_at periods bytes.now) }
+{
+    let list = Powers::make(alloc, periods)?;
+    match powers_in(list, word, periods, bytes) {
+        Some(found) => Ok(found),
+        None => Err(Stop::Fault { left: bytes.len() }),
+    }
+}
+
+#[tactic(auto, unfolding(crate::specs::LineForms::ended, crate::specs::LineForms::after))]
+fn flags_in<'a>(
+    list: Flags,
+    word: &[u8],
+    periods: u32,
+    bytes: &'a [u8],
+) -> Option<(Flags, &'a [u8])>
+    requires empty { list.items ≡ [] }
+    requires room { periods ≤ list.spare }
+    ensures { Finds (λ x. (x.0.items, x.1.now)) result
+        (word_form word.now (items_at (spaced flag_at) periods) bytes.now) }
+{
+    let rest = behind(word, bytes)?;
+    let (list, rest) = flags_at(list, periods, rest)?;
+    let rest = behind(b"\n", rest)?;
+    Some((list, rest))
+}
+
+/// A word and the on flags of all periods.
+pub fn flags_line<'a>(
+    alloc: Global,
+    word: &[u8],
+    periods: u32,
+    bytes: &'a [u8],
+) -> Result<(Flags, &'a [u8]), Stop>
+    ensures { Gives (λ x. (x.0.items, x.1.now)) result
+        (list_line word.now (spaced flag_at) periods bytes.now) }
+{
+    let list = Flags::make(alloc, periods)?;
+    match flags_in(list, word, periods, bytes) {
+        Some(found) => Ok(found),
+        None => Err(Stop::Fault { left: bytes.len() }),
+    }
+}

@@ -1,0 +1,105 @@
+//! A report of its text, or the first line in fault.
+ghost use Rattle.std.specs.Prelude.{◌≡◌, ◌≤◌, ◌-◌, suc, length, map, take, IfOk};
+ghost use Rattle.hull_report.specs.ReportText.{Report as PlainReport, report_text};
+ghost use Rattle.report_read.specs.Plain.{report_of, told_of};
+ghost use Rattle.report_read.specs.Bounds.{IsReport, AreInOrder};
+ghost use Rattle.report_read.specs.Faults.{IsFault, IfFault, line_feeds, Gives as GivesReport};
+ghost use Rattle.report_read.specs.Lines.{Gives, report_at, all_of};
+
+use crate::head::{read_foot, read_head};
+use crate::lines::value_line;
+use crate::report::{Report, ReportError};
+use crate::rows::read_rows;
+use crate::stop::Stop;
+use crate::units::read_units;
+use std::alloc::Global;
+
+/// A report at the front of the bytes.
+#[tactic(auto, unfolding(crate::specs::Lines::report_at, crate::specs::Plain::report_of))]
+fn report_in_front(alloc: Global, bytes: &[u8]) -> Result<(Report, &[u8]), Stop>
+    requires { length bytes.now ≤ 67108864 }
+    ensures exact { Gives (λ x. (report_of x.0, x.1.now)) result (report_at bytes.now) }
+    ensures order { IfOk result (λ x. AreInOrder 0 (map told_of x.0.lines.items)) }
+{
+    let (head, rest) = read_head(bytes)?;
+    let (rows, rest) = read_rows(alloc, head.periods, head.proposals, rest)?;
+    let (chosen, rest) = value_line(b"chosen ", 0, u32::MAX, rest)?;
+    let (lines, rest) = read_units(alloc, head.periods, head.units, rest)?;
+    let (foot, rest) = read_foot(rest)?;
+    let report = Report {
+        periods: head.periods,
+        units: head.units,
+        budget: head.budget,
+        ahead: head.ahead,
+        cost: head.cost,
+        rows,
+        chosen: chosen.number,
+        chosen_value: chosen.value,
+        lines,
+        surplus: foot.surplus,
+        payments: foot.payments,
+        gap: foot.gap,
+    };
+    Ok((report, rest))
+}
+
+#[tactic(auto, unfolding(crate::specs::Lines::all_of))]
+fn whole_report(alloc: Global, bytes: &[u8]) -> Result<Report, Stop>
+    requires { length bytes.now ≤ 67108864 }
+    ensures exact { Gives report_of result (all_of bytes.now) }
+    ensures order { IfOk result (λ r. AreInOrder 0 (map told_of r.lines.items)) }
+{
+    let (report, rest) = report_in_front(alloc, bytes)?;
+    if !rest.is_empty() {
+        return Err(Stop::Fault { left: rest.len() });
+    }
+    Ok(report)
+}
+
+/// The number from 1 of the line that begins where so many bytes are left.
+fn line_number(bytes: &[u8], left: usize) -> u32
+    requires few { length bytes.now ≤ 67108864 }
+    requires within { left ≤ length bytes.now }
+    ensures { result ≡ suc (line_feeds (take (length bytes.now - left) bytes.now)) }
+{
+    let mut line = 1;
+    for byte in &bytes[..bytes.len() - left] {
+        if *byte == b'\n' {
+            line += 1;
+        }
+    }
+    line
+}
+
+/// The report of which the bytes are the text, or the first line in fault.
+///
+/// A report is read within these bounds: 1 to 168 periods, 1 to 12,288 units, a budget of 1 to
+/// 10,000 proposals, 1 to 16 proposals ahead, at least one proposal, as many lines of units as it
+/// says, all numbers within their types, prices within their limits, and lists over its periods.
+/// Otherwise the fault is the first line that no such report goes on with, where a line that the
+/// text ends in is one too. Takes time in proportion to the bytes, and at most some eight times
+/// their memory.
+pub fn read_report(alloc: Global, bytes: &[u8]) -> Result<Report, ReportError>
+    requires { length bytes.now ≤ 67108864 }
+    // What is read is within the bounds, and its text is the bytes.
+    ensures bounds { IfOk result (λ r. IsReport (report_of r)) }
+    ensures found { IfOk result (λ r. bytes.now ≡ report_text (report_of r)) }
+    // The units stand in the order of the text.
+    ensures order { IfOk result (λ r. AreInOrder 0 (map told_of r.lines.items)) }
+    // A fault is the first line that no report goes on with.
+    ensures fault { IfFault result (λ line. IsFault bytes.now line) }
+    // The text of a report within the bounds is read.
+    ensures only { (r : PlainReport) → IsReport r → bytes.now ≡ report_text r
+        → GivesReport result r }
+{
+    match whole_report(alloc, bytes) {
+        Ok(report) => Ok(report),
+        Err(Stop::Fault { left }) => Err(ReportError::Fault {
+            line: line_number(bytes, left),
+        }),
+        Err(Stop::Memory) => Err(ReportError::Memory),
+    }
+}
+
+#[cfg(test)]
+mod tests;

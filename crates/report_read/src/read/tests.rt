@@ -1,0 +1,117 @@
+use super::*;
+use std::string::String;
+use std::test::Fail;
+use uc_model::kinds::Kind;
+
+/// Two units at one price, as the rows of a run have them.
+const TWO_UNITS: &str = "hull-report 1\n\
+    periods 1\nunits 2\nbudget 1\nahead 1\ncost 3500\nproposals 1\n\
+    proposal 1 value 2500\nenergy 30\nreserve 0\nsupplied 100\nreserved 0\n\
+    chosen 1 value 2500\n\
+    unit thermal \"A\" earned 2000 scheduled 1000 payment 1000\n\
+    on 1\npower 100\nreserve 0\n\
+    unit thermal \"B\" earned 0 scheduled 0 payment 0\n\
+    on 0\npower 0\nreserve 0\n\
+    surplus 0\npayments 1000\ngap 1000\nend\n";
+
+const FIRST_UNIT: &str = "unit thermal \"A\" earned 2000 scheduled 1000 payment 1000\n\
+    on 1\npower 100\nreserve 0\n";
+
+/// The line in fault, and 0 where there is none.
+fn line_of(alloc: Global, bytes: &[u8]) -> Option<u32> {
+    if bytes.len() > 10_000 {
+        return None;
+    }
+    match read_report(alloc, bytes) {
+        Ok(_) => Some(0),
+        Err(ReportError::Fault { line }) => Some(line),
+        Err(ReportError::Memory) => None,
+    }
+}
+
+/// The text with one part in place of another.
+fn changed(alloc: Global, old: &str, new: &str) -> Result<String, Fail> {
+    let mut text = String::new(alloc);
+    match TWO_UNITS.split_once(old) {
+        Some((front, back)) => {
+            text.push_str(front)?;
+            text.push_str(new)?;
+            text.push_str(back)?;
+        }
+        None => {}
+    }
+    Ok(text)
+}
+
+#[test]
+fn lines_out_of_form(rt: HostRuntime) -> Result<(), Fail> {
+    let rows = [
+        ("energy 30", "energy 030", 9),
+        ("end\n", "end", 25),
+        ("end\n", "end\n\n", 26),
+        ("end\n", "end\nx", 26),
+        ("proposals 1", "proposals 0", 7),
+        ("proposals 1", "proposals 4294967296", 7),
+        ("proposals 1", "proposals 2", 13),
+        ("reserve 0\nsupplied", "reserve -0\nsupplied", 10),
+        ("reserve 0\nsupplied", "reserve -1\nsupplied", 10),
+        ("energy 30", "energy 10000001", 9),
+        ("energy 30", "energy -10000000", 0),
+        ("energy 30", "energy 30 30", 9),
+        ("units 2", "units 3", 22),
+        ("units 2", "units 1", 18),
+        ("periods 1", "periods 169", 2),
+        ("budget 1", "budget 10001", 4),
+        ("ahead 1", "ahead 17", 5),
+        ("cost 3500\n", "cost 3500\r\n", 6),
+        ("chosen 1 ", "chosen 4294967295 ", 0),
+        ("on 1", "on 2", 15),
+        ("power 100", "power 4294967296", 16),
+        ("thermal \"B\"", "case \"B\"", 18),
+        ("\"A\"", "\"\\u0020\"", 14),
+        ("\"A\"", "\"\\u001F\"", 14),
+        ("\"A\"", "\"1\\u001f\\\\\\\"\"", 0),
+        ("earned 2000", "earned 9223372036854775808", 14),
+        (
+            "gap 1000",
+            "gap -170141183460469231731687303715884105728",
+            0,
+        ),
+        (
+            "gap 1000",
+            "gap 170141183460469231731687303715884105728",
+            24,
+        ),
+        (
+            FIRST_UNIT,
+            "unit bid \"A\" earned 2000 scheduled 1000 payment 1000\npower 100\n",
+            16,
+        ),
+        (TWO_UNITS, "", 1),
+    ];
+    for (old, new, line) in rows {
+        let text = changed(rt.alloc(), old, new)?;
+        assert_eq!(rt; line_of(rt.alloc(), text.as_bytes()), Some(line), "{new}");
+    }
+    Ok(())
+}
+
+#[test]
+fn what_a_report_tells(rt: HostRuntime) -> Result<(), Fail> {
+    let Ok(report) = read_report(rt.alloc(), TWO_UNITS.as_bytes()) else {
+        assert!(rt; false);
+        return Ok(());
+    };
+    assert_eq!(rt; report.cost, 3500);
+    assert_eq!(rt; report.rows.len(), 1);
+    assert_eq!(rt; report.chosen_value, 2500);
+    assert_eq!(rt; report.lines.len(), 2);
+    let line = report.lines.get(0);
+    assert!(rt; line.kind == Kind::Thermal);
+    assert_eq!(rt; line.name.as_str(), "A");
+    assert_eq!(rt; line.earned, 2000);
+    assert_eq!(rt; line.response.power.as_slice(), [100].as_slice());
+    assert_eq!(rt; report.payments, 1000);
+    assert_eq!(rt; report.gap, 1000);
+    Ok(())
+}

@@ -1,0 +1,62 @@
+//! The proposals of a report.
+ghost use Rattle.std.specs.Prelude.{◌≡◌, ◌+◌, ◌<◌, ◌≤◌, ◌^◌, length, map, IfOk};
+ghost use Rattle.uc_model.specs.PlainCases.{proposal_of};
+ghost use Rattle.report_read.specs.Lines.{Gives, row_at, rows_at};
+ghost use Rattle.report_read.specs.declared.rows.TheConstants.{LEAST_BYTES};
+
+use crate::lines::{prices_line, totals_line, value_line};
+use crate::report::RowList;
+use crate::stop::Stop;
+use std::alloc::Global;
+use uc_model::cases::Row;
+use uc_model::limits::PRICE_LIMIT;
+use uc_model::units::Prices;
+
+/// A proposal has at least so many bytes.
+const LEAST_BYTES: usize = 50;
+
+/// The proposal of a number, over so many periods.
+#[tactic(auto, unfolding(crate::specs::Lines::row_at))]
+fn read_row(alloc: Global, periods: u32, number: u32, bytes: &[u8]) -> Result<(Row, &[u8]), Stop>
+    requires some { 1 ≤ periods }
+    requires limit { periods ≤ 168 }
+    ensures { Gives (λ x. (proposal_of x.0, x.1.now)) result (row_at periods number bytes.now) }
+{
+    let (valued, rest) = value_line(b"proposal ", number, number, bytes)?;
+    let (energy, rest) = prices_line(alloc, b"energy", periods, -PRICE_LIMIT, PRICE_LIMIT, rest)?;
+    let (reserve, rest) = prices_line(alloc, b"reserve", periods, 0, PRICE_LIMIT, rest)?;
+    let (supplied, rest) = totals_line(alloc, b"supplied", periods, rest)?;
+    let (reserved, rest) = totals_line(alloc, b"reserved", periods, rest)?;
+    let row = Row {
+        prices: Prices { energy, reserve },
+        value: valued.value,
+        supply: supplied,
+        reserve: reserved,
+    };
+    Ok((row, rest))
+}
+
+/// So many proposals, numbered from 1. There is room for no more of them than the bytes can hold.
+pub fn read_rows(
+    alloc: Global,
+    periods: u32,
+    count: u32,
+    bytes: &[u8],
+) -> Result<(RowList, &[u8]), Stop>
+    requires some { 1 ≤ periods }
+    requires limit { periods ≤ 168 }
+    requires few { length bytes.now ≤ 67108864 }
+    requires numbers { count < 2 ^ 32 }
+    ensures { Gives (λ x. (map proposal_of x.0.items, x.1.now)) result
+        (rows_at periods 1 count bytes.now) }
+{
+    let most = (bytes.len() / LEAST_BYTES) as u32;
+    let mut rows = RowList::make(alloc, most.min(count))?;
+    let mut rest = bytes;
+    for place in 0..count {
+        let (row, after) = read_row(alloc, periods, place + 1, rest)?;
+        rows.push(row);
+        rest = after;
+    }
+    Ok((rows, rest))
+}

@@ -1,0 +1,30 @@
+//! Words and single bytes.
+ghost use Rattle.std.specs.Prelude.{◌≡◌, ◌≤◌, length, drop};
+ghost use Rattle.report_read.specs.Words.{Finds, behind as behind_spec, is_digit as digit};
+
+/// The bytes from a place on.
+pub fn rest_from(bytes: &[u8], place: usize) -> &[u8]
+    requires { place ≤ length bytes.now }
+    ensures { result.now ≡ drop place bytes.now }
+{
+    &bytes[place..]
+}
+
+/// The bytes behind a word, where it stands in front.
+#[tactic(auto, using(crate::proofs::Steps::behind_step, crate::proofs::Steps::behind_short, crate::proofs::Steps::behind_other, crate::proofs::Steps::behind_done))]
+pub fn behind<'a>(word: &[u8], bytes: &'a [u8]) -> Option<&'a [u8]>
+    ensures { Finds (λ rest. rest.now) result (behind_spec word.now bytes.now) }
+{
+    for (place, byte) in word.iter().enumerate() {
+        if bytes.len() <= place || bytes[place] != *byte {
+            return None;
+        }
+    }
+    Some(rest_from(bytes, word.len()))
+}
+
+pub fn is_digit(byte: u8) -> bool
+    ensures { result ≡ digit byte }
+{
+    b'0' <= byte && byte <= b'9'
+}
