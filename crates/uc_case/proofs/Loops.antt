@@ -1,7 +1,6 @@
 -- The items of a list, read one after the other as a loop does.
-use Rattle.std.proofs.Common.{◌≡◌, ℕ, ◌+◌, ◌<◌, ◌≤◌, List, [], ◌∷◌, ◌++◌, length, map, get_or, drop, Result, Ok, Err, refl, sym, ap, subst, ◌∙◌, drop-cons, add-one, arith}
-use Rattle.std.proofs.lemmas.Grind.{common_steps}
-use Rattle.std.proofs.lemmas.List.{nil_from_length, length-drop, length-map, map_push}
+use Rattle.std.proofs.Common.{◌≡◌, ℕ, ◌+◌, ◌<◌, List, [], ◌∷◌, ◌++◌, length, map, get_or, drop, Ok, refl, sym, subst, ◌∙◌}
+use Rattle.std.proofs.lemmas.List.{length-map, map_push}
 use Rattle.uc_model.specs.Reserved.{Reserved, items_in}
 use Rattle.uc_model.specs.declared.kinds.Kind.{Kind}
 use Rattle.uc_model.specs.declared.units.Block.{Block}
@@ -11,6 +10,7 @@ use Rattle.uc_text.specs.Parts.{Pair}
 use Rattle.uc_text.specs.View.{view, views, member_view, member_views}
 use Rattle.uc_text.specs.declared.tree.Tree.{Tree}
 use Rattle.uc_text.specs.declared.tree.Member.{Member}
+use Rattle.uc_case.specs.EachLaws.{goes_on, ends}
 use Rattle.uc_case.specs.Given.{Fails}
 use Rattle.uc_case.specs.Places.{place, item_at}
 use Rattle.uc_case.specs.Words.{each, position}
@@ -19,35 +19,6 @@ use Rattle.uc_case.specs.declared.fault.Place.{Place}
 use Rattle.uc_case.specs.declared.fault.Field.{Field}
 use Rattle.uc_case.specs.declared.fault.FieldFault.{FieldFault}
 use Rattle.uc_case.specs.declared.stop.Stop.{Stop}
-use Rattle.uc_case.specs.declared.stop.Stop.TheVariants as stops
-
--- what is still to be read, beginning with this one
-split : {T B : Type 0} (seen : T → B) (ts : List T) (i : ℕ) (t : T) → i < length ts → t ≡ get_or ts i t → map seen (drop i ts) ≡ seen t ∷ map seen (drop (i + 1) ts)
-split seen ts i t lt is = rw (drop-cons ts i t lt, ← is, add-one i) refl
-
-pub goes_on : {A B T F : Type 0} (read : List A → B → Result A F) (seen : T → B) (ts : List T) (i : ℕ) (t : T) (front : List A) (x : A) (total : Result (List A) F) → i < length ts → t ≡ get_or ts i t
-    → read front (seen t) ≡ Ok x → each read front (map seen (drop i ts)) ≡ total → each read (front ++ x ∷ []) (map seen (drop (i + 1) ts)) ≡ total
-unfolding each
-goes_on read seen ts i t front x total lt is h so_far =
-    let one : each read front (map seen (drop i ts)) ≡ each read (front ++ x ∷ []) (map seen (drop (i + 1) ts)) = ap (each read front) (split seen ts i t lt is) ∙ rw h refl in
-    sym one ∙ so_far
-
-abbrev failed : {A F : Type 0} → F → Result A F
-failed f = Err f
-
-pub ends : {A B T F : Type 0} (e : Stop F) (read : List A → B → Result A F) (seen : T → B) (ts : List T) (i : ℕ) (t : T) (front : List A) (total : Result (List A) F) → i < length ts → t ≡ get_or ts i t
-    → Fails e (read front (seen t)) → each read front (map seen (drop i ts)) ≡ total → Fails e total
-unfolding each
-ends stops.Memory read seen ts i t front total lt is h so_far = tt
-ends (stops.Fault f) read seen ts i t front total lt is h so_far =
-    let one : each read front (map seen (drop i ts)) ≡ failed f = ap (each read front) (split seen ts i t lt is) ∙ rw h refl in
-    sym so_far ∙ one
-
-pub is_done : {A B T F : Type 0} (read : List A → B → Result A F) (seen : T → B) (ts : List T) (i : ℕ) (front : List A) (total : Result (List A) F) → length ts ≤ i → each read front (map seen (drop i ts)) ≡ total → total ≡ Ok front
-unfolding each
-is_done read seen ts i front total le so_far =
-    let none : drop i ts ≡ [] = nil_from_length (drop i ts) (omega (arith, length-drop i ts)) in
-    sym so_far ∙ ap (λ rest. each read front (map seen rest)) none
 
 -- ---- the same for items, each at the place of its position
 
@@ -66,9 +37,6 @@ pub item_ends : {A : Type 0} (e : Stop FieldFault) (read : Place → List A → 
     → each (λ before. read (item_at at (position before)) before) front (views (drop i ts)) ≡ total → Fails e total
 item_ends {A = A} e read at p ts i t front l n total lt is p-is n-is l-is h so_far =
     ends e (λ before. read (item_at at (position before)) before) view ts i t front total lt is (subst (λ (r : Read A). Fails e r) (here read at p front l n (view t) p-is n-is l-is) h) so_far
-
-pub counted : {A : Type 0} (xs ys : List A) (x : A) (i : ℕ) → ys ≡ xs ++ x ∷ [] → length xs ≡ i → length ys ≡ i + 1
-counted xs ys x i pushed count = ap length pushed ∙ grind (arith, common_steps, count)
 
 -- ---- the same for members, each at the place of its position
 

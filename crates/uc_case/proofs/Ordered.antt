@@ -1,12 +1,11 @@
 -- Lists whose items keep an order, one item more at the end.
 use Rattle.std.proofs.Common.{◌≡◌, ℕ, zero, suc, ◌-◌, ◌<◌, ◌≤◌, Bool, true, false, ◌||◌, List, [], ◌∷◌, ◌++◌, length, get_or, Some, refl, sym, ap, ◌∙◌, arith, true≢false}
 use Rattle.std.specs.Prelude.{ℤ, ◌≤ℤ◌, nat_lt, int_lt, slice_get}
-use Rattle.std.specs.List.{All}
 use Rattle.std.specs.Option.{option_map_or}
 use Rattle.std.proofs.lemmas.Bool.{ltb-false}
 use Rattle.std.proofs.lemmas.Int.{ints}
 use Rattle.std.proofs.lemmas.Option.{slice_get-get_or}
-use Rattle.std.proofs.lemmas.List.Elements.{All-append, All-from_recursion}
+use Rattle.std.proofs.lemmas.List.Elements.{All-nil, All-push}
 use Rattle.uc_model.specs.declared.units.Lag.{Lag}
 use Rattle.uc_model.specs.declared.units.Point.{Point}
 use Rattle.uc_model.specs.declared.units.Block.{Block}
@@ -14,12 +13,6 @@ use Rattle.uc_model.specs.Limits.{IsLag, IsPoint, IsBlock, Spans}
 use Rattle.uc_case.specs.Tables.{ends_miss}
 use Rattle.uc_case.specs.Kept.{AreLags, ArePoints, AreBlocks}
 use Rattle.uc_case.specs.Words.{last_is}
-
-pub all_push : {A : Type 0} (P : A → Type 0) (xs : List A) (x : A) → All P xs → P x → All P (xs ++ x ∷ [])
-all_push P xs x all p = All-append P xs (x ∷ []) all (All-from_recursion P (x ∷ []) (p, tt))
-
-pub all_none : {A : Type 0} (P : A → Type 0) → All P []
-all_none P k d lt = absurd (omega arith)
 
 -- each item but the first keeps R with the one before it
 abbrev Chain : {A : Type 0} → (A → A → Type 0) → List A → Type 0
@@ -56,29 +49,29 @@ pub int_not_below : (a b : ℤ) → int_lt a b ≡ false → b ≤ℤ a
 int_not_below a b e = omega (arith, ints, e)
 
 pub no_lags : AreLags []
-no_lags = record { lags = all_none (λ l. IsLag l); ordered = chain_none (λ (a b : Lag). a.lag ≤ b.lag) }
+no_lags = record { lags = All-nil (λ l. IsLag l); ordered = chain_none (λ (a b : Lag). a.lag ≤ b.lag) }
 
 pub lags_push : (ls : List Lag) (l : Lag) → AreLags ls → IsLag l → last_is (λ (b : Lag). nat_lt l.lag b.lag) ls ≡ false → AreLags (ls ++ l ∷ [])
 lags_push ls l are fits order = record {
-  lags = all_push (λ l. IsLag l) ls l are.lags fits;
+  lags = All-push (λ l. IsLag l) ls l are.lags fits;
   ordered = chain_push (λ (a b : Lag). a.lag ≤ b.lag) ls l are.ordered (λ n d is. ltb-false _ _ (last_fails (λ (b : Lag). nat_lt l.lag b.lag) ls order n d is));
 }
 
 pub no_points : ArePoints []
-no_points = record { points = all_none (λ p. IsPoint p); ordered = chain_none (λ (a b : Point). a.at ≤ℤ b.at) }
+no_points = record { points = All-nil (λ p. IsPoint p); ordered = chain_none (λ (a b : Point). a.at ≤ℤ b.at) }
 
 pub points_push : (ps : List Point) (p : Point) → ArePoints ps → IsPoint p → last_is (λ (b : Point). int_lt p.at b.at) ps ≡ false → ArePoints (ps ++ p ∷ [])
 points_push ps p are fits order = record {
-  points = all_push (λ p. IsPoint p) ps p are.points fits;
+  points = All-push (λ p. IsPoint p) ps p are.points fits;
   ordered = chain_push (λ (a b : Point). a.at ≤ℤ b.at) ps p are.ordered (λ n d is. int_not_below p.at (get_or ps n d).at (last_fails (λ (b : Point). int_lt p.at b.at) ps order n d is));
 }
 
 pub no_blocks : AreBlocks []
-no_blocks = record { blocks = all_none (λ b. IsBlock b); falling = chain_none (λ (a b : Block). b.price ≤ℤ a.price) }
+no_blocks = record { blocks = All-nil (λ b. IsBlock b); falling = chain_none (λ (a b : Block). b.price ≤ℤ a.price) }
 
 pub blocks_push : (bs : List Block) (b : Block) → AreBlocks bs → IsBlock b → last_is (λ (a : Block). int_lt a.price b.price) bs ≡ false → AreBlocks (bs ++ b ∷ [])
 blocks_push bs b are fits order = record {
-  blocks = all_push (λ b. IsBlock b) bs b are.blocks fits;
+  blocks = All-push (λ b. IsBlock b) bs b are.blocks fits;
   falling = chain_push (λ (a b : Block). b.price ≤ℤ a.price) bs b are.falling (λ n d is. int_not_below (get_or bs n d).price b.price (last_fails (λ (a : Block). int_lt a.price b.price) bs order n d is));
 }
 

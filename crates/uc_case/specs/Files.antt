@@ -9,8 +9,20 @@ pub data FileFault (F : Type 0) : Type 0 where
   text : TextFault → FileFault F
   value : F → FileFault F
 
--- The file's reading, by the reading of its value. There is at most one (proofs/FileLaws.antt).
+-- what the bytes of a file are: the value of a text, or the first fault of no text
+abbrev pub IsFile : List ℕ → Result Value TextFault → Type 0
+IsFile bytes (Ok v) = IsText 32 bytes v
+IsFile bytes (Err f) = IsFirstFault 32 bytes f
+
+abbrev pub of_value : {A F : Type 0} → Result A F → Result A (FileFault F)
+of_value (Ok x) = Ok x
+of_value (Err f) = Err (value f)
+
+-- what is read of them, by the reading of a value
+abbrev pub reading_of : {A F : Type 0} → (Value → Result A F) → Result Value TextFault → Result A (FileFault F)
+reading_of read (Ok v) = of_value (read v)
+reading_of read (Err f) = Err (text f)
+
+-- the file's reading; there is one (Laws.antt)
 abbrev pub IsReading : {A F : Type 0} → (Value → Result A F) → List ℕ → Result A (FileFault F) → Type 0
-IsReading read bytes (Ok x) = (v : Value) × IsText 32 bytes v × (read v ≡ Ok x)
-IsReading read bytes (Err (text f)) = IsFirstFault 32 bytes f
-IsReading read bytes (Err (value f)) = (v : Value) × IsText 32 bytes v × (read v ≡ Err f)
+IsReading read bytes r = (found : Result Value TextFault) × IsFile bytes found × (reading_of read found ≡ r)

@@ -1,9 +1,17 @@
--- A file is one case, or has one first fault.
+-- A file is one case, or has one first fault. Each law is the clause of a public function.
 use Rattle.std.specs.Prelude.{◌≡◌, ℕ, List, Result}
 use Rattle.uc_model.specs.Data.{Market}
+use Rattle.uc_text.specs.Values.{Value}
+use Rattle.uc_text.specs.declared.fault.TextFault.{TextFault}
 use Rattle.uc_case.specs.CaseFiles.{IsCaseOf}
-use Rattle.uc_case.specs.Files.{FileFault}
+use Rattle.uc_case.specs.Files.{FileFault, IsFile}
 use Rattle.uc_case.specs.declared.fault.FieldFault.{FieldFault}
+
+abbrev pub SomeFile : Type 0
+SomeFile = (bytes : List ℕ) → (found : Result Value TextFault) × IsFile bytes found
+
+abbrev pub OneFile : Type 0
+OneFile = (bytes : List ℕ) (found other : Result Value TextFault) → IsFile bytes found → IsFile bytes other → found ≡ other
 
 abbrev pub SomeCase : Type 0
 SomeCase = (bytes : List ℕ) → (r : Result Market (FileFault FieldFault)) × IsCaseOf bytes r

@@ -9,3 +9,4 @@ pub mod CaseFiles
 pub mod Given
 pub mod Kept
 pub mod Laws
+pub mod EachLaws

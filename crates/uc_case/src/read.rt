@@ -8,6 +8,7 @@ ghost use Rattle.uc_case.specs.declared.fault.FieldFault.{FieldFault as PlainFau
 
 use crate::cases::case_of_tree;
 use crate::fault::CaseFault;
+use crate::laws::one_case;
 use crate::stop::Stop;
 use std::alloc::Global;
 use uc_model::cases::Case;
@@ -26,6 +27,7 @@ pub fn read_case(alloc: Global, bytes: &[u8]) -> Result<Case, CaseFault>
     // What the file is, is answered.
     ensures only { (r : Result Market (FileFault PlainFault)) → IsCaseOf bytes.now r → IfRead market_of result (λ s. s ≡ r) }
 {
+    one_case();
     read_file(alloc, bytes)
 }
 

@@ -7,7 +7,6 @@ use Rattle.uc_text.specs.View.{view, member_view, member_views}
 use Rattle.uc_text.specs.declared.tree.Tree.{Tree}
 use Rattle.uc_text.specs.declared.tree.Member.{Member}
 use Rattle.uc_case.specs.Inside.{value_of}
-use Rattle.uc_case.proofs.Finds.{value_step}
 use Rattle.uc_plan.specs.Plans.{is_among, first_unknown}
 
 -- nothing is left behind the last one
@@ -26,6 +25,11 @@ seen_cond : (b : Bool) (t : Bor Tree) (old : Option (Bor Tree)) → option_map s
 seen_cond true t old = refl
 seen_cond false t old = refl
 
+value_split : (q : List ℕ) (ms : List Member) (i : ℕ) (m : Member) → i < length ms → m ≡ get_or ms i m
+    → value_of q (member_views (drop i ms)) ≡ cond (bytes_eq (member_view m).name q) (Some (member_view m).value) (value_of q (member_views (drop (i + 1) ms)))
+unfolding value_of
+value_split q ms i m lt is = rw (drop-cons ms i m lt, ← is, add-one i) refl
+
 -- one member more, before those that are in the map
 pub put_member : (q name : List ℕ) (ms : List Member) (done : ℕ) (m : Member) (t : Bor Tree) (old new : Option (Bor Tree)) → done < length ms → m ≡ get_or ms (length ms - 1 - done) m
     → name ≡ (member_view m).name → view t.now ≡ (member_view m).value → new ≡ cond (bytes_eq name q) (Some t) old
@@ -35,7 +39,7 @@ put_member q name ms done m t old new lt is name_is value_is put before =
     let here : length ms - (done + 1) ≡ length ms - 1 - done = omega (arith, lt) in
     let behind : length ms - 1 - done + 1 ≡ length ms - done = omega (arith, lt) in
     let inside : length ms - 1 - done < length ms = omega (arith, lt) in
-    let step = value_step q ms (length ms - 1 - done) m inside is in
+    let step = value_split q ms (length ms - 1 - done) m inside is in
     rw (here, step, behind, put, seen_cond (bytes_eq name q) t old, before, name_is, value_is) refl
 
 among_split : {N : Type 0} (name_of : N → List ℕ) (q : List ℕ) (us : List N) (i : ℕ) (u : N) → i < length us → u ≡ get_or us i u

@@ -7,7 +7,7 @@ use Rattle.uc_case.specs.Given.{Fails}
 use Rattle.uc_case.specs.Words.{need, each, position}
 use Rattle.uc_case.specs.declared.stop.Stop.{Stop}
 use Rattle.uc_case.specs.declared.stop.Stop.TheVariants as stops
-use Rattle.uc_case.proofs.Loops.{goes_on, ends, is_done}
+use Rattle.uc_case.specs.EachLaws.{goes_on, ends, is_done}
 use Rattle.uc_plan.specs.Plans.{Read, numbers}
 use Rattle.uc_plan.specs.Shapes.{fault}
 use Rattle.uc_plan.specs.declared.fault.Seat.{Seat}

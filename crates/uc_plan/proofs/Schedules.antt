@@ -1,6 +1,7 @@
 -- The schedules of units, read one after the other as a loop does.
 use Rattle.std.proofs.Common.{◌≡◌, ℕ, ◌+◌, ◌<◌, ◌≤◌, List, [], ◌∷◌, ◌++◌, length, map, get_or, drop, Ok, refl, sym, subst, ◌∙◌}
 use Rattle.std.specs.List.{All}
+use Rattle.std.proofs.lemmas.List.Elements.{All-nil, All-push}
 use Rattle.std.proofs.lemmas.List.{map_push, append-nil, append_assoc}
 use Rattle.uc_model.specs.Data.{Schedule}
 use Rattle.uc_model.specs.PlainUnits.{schedule_of}
@@ -10,8 +11,7 @@ use Rattle.uc_text.specs.Parts.{Pair}
 use Rattle.uc_case.specs.Given.{Fails}
 use Rattle.uc_case.specs.Words.{each, position}
 use Rattle.uc_case.specs.declared.stop.Stop.{Stop}
-use Rattle.uc_case.proofs.Loops.{goes_on, ends, is_done, counted}
-use Rattle.uc_case.proofs.Ordered.{all_push, all_none}
+use Rattle.uc_case.specs.EachLaws.{goes_on, ends, is_done, counted}
 use Rattle.uc_plan.specs.Added.{IsShaped}
 use Rattle.uc_plan.specs.Plans.{Read, seat, named, schedules}
 use Rattle.uc_plan.specs.declared.fault.Seat.{Seat}
@@ -35,7 +35,7 @@ front_begin N name_of periods kind ms us old = record {
   front = [];
   items = sym (append-nil (map schedule_of old));
   count = refl;
-  shaped = all_none (λ s. IsShaped kind periods s);
+  shaped = All-nil (λ s. IsShaped kind periods s);
   so_far = refl;
 }
 
@@ -49,7 +49,7 @@ front_more N name_of periods kind ms us i old now new u at name r f lt is at-is 
   front = f.front ++ schedule_of r ∷ [];
   items = rw (pushed, map_push schedule_of now r, f.items) (append_assoc (map schedule_of old) f.front (schedule_of r ∷ []));
   count = counted f.front (f.front ++ schedule_of r ∷ []) (schedule_of r) i refl f.count;
-  shaped = all_push (λ s. IsShaped kind periods s) f.front (schedule_of r) f.shaped shape;
+  shaped = All-push (λ s. IsShaped kind periods s) f.front (schedule_of r) f.shaped shape;
   so_far = goes_on (one_schedule periods kind ms) name_of us i u f.front (schedule_of r) (schedules periods kind ms (map name_of us)) lt is (sym (here periods kind ms i f.front at name (name_of u) f.count at-is name-is) ∙ read) f.so_far;
 }
 

@@ -8,6 +8,7 @@ ghost use Rattle.uc_plan.specs.PlanFiles.{IsPlanOf, IfRead};
 ghost use Rattle.uc_plan.specs.declared.fault.ShapeFault.{ShapeFault as PlainFault};
 
 use crate::fault::PlanFault;
+use crate::laws::one_plan;
 use crate::plans::plan_of_tree;
 use std::alloc::Global;
 use uc_case::stop::Stop;
@@ -28,6 +29,7 @@ pub fn read_plan(alloc: Global, case: &Case, bytes: &[u8]) -> Result<Plan, PlanF
     // What the file is, is answered.
     ensures only { (r : Result (List Schedule) (FileFault PlainFault)) → IsPlanOf (market_of case.now) bytes.now r → IfRead schedules_of result (λ s. s ≡ r) }
 {
+    one_plan();
     read_file(alloc, case, bytes)
 }
 

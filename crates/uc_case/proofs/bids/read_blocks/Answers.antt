@@ -3,7 +3,7 @@ use Rattle.std.proofs.lemmas.Result.{err_from_is_err_and}
 use Rattle.uc_text.specs.View.{view, views}
 use Rattle.uc_case.specs.Words.{each}
 use Rattle.uc_case.specs.Tables.{block}
-use Rattle.uc_case.proofs.Loops.{goes_on, ends, is_done, counted}
+use Rattle.uc_case.specs.EachLaws.{counted, goes_on, ends, is_done}
 use Rattle.uc_case.proofs.Ordered.{blocks_push}
 use Rattle.uc_case.proofs.bids.read_blocks.Goals as goal
 

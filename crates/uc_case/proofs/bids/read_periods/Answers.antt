@@ -8,8 +8,9 @@ use Rattle.uc_case.specs.Places.{item_at}
 use Rattle.uc_case.specs.Words.{position}
 use Rattle.uc_case.specs.Forms.{items}
 use Rattle.uc_case.specs.Tables.{period_blocks}
-use Rattle.uc_case.proofs.Loops.{period_goes_on, period_ends, is_done, counted}
-use Rattle.uc_case.proofs.Ordered.{all_push}
+use Rattle.uc_case.specs.EachLaws.{counted, is_done}
+use Rattle.uc_case.proofs.Loops.{period_goes_on, period_ends}
+use Rattle.std.proofs.lemmas.List.Elements.{All-push}
 use Rattle.uc_case.proofs.bids.read_periods.Goals as goal
 
 pub returns-in_err-blocks-clause-value : goal.returns-in_err-blocks-clause-value
@@ -21,7 +22,7 @@ pub loop-tree-preserved : goal.loop-tree-preserved
 loop-tree-preserved c = record {
   count = counted c.loop-tree.lists.items c.push.new.self.items c.in_ok-blocks.blocks c.loop-tree.tree-index c.push.ensures.items c.loop-tree.invariant.count;
   room = omega (arith, c.push.ensures.spare, c.loop-tree.invariant.room);
-  fits = rw (c.push.ensures.items, map_push items_in c.loop-tree.lists.items c.in_ok-blocks.blocks) (all_push (λ bs. IsBlockList bs) (map items_in c.loop-tree.lists.items) (items_in c.in_ok-blocks.blocks) c.loop-tree.invariant.fits c.in_ok-blocks.ensures.fits);
+  fits = rw (c.push.ensures.items, map_push items_in c.loop-tree.lists.items c.in_ok-blocks.blocks) (All-push (λ bs. IsBlockList bs) (map items_in c.loop-tree.lists.items) (items_in c.in_ok-blocks.blocks) c.loop-tree.invariant.fits c.in_ok-blocks.ensures.fits);
   so_far = rw c.push.ensures.items (period_goes_on c.args.at c.item-place.result c.args.trees.now c.loop-tree.tree-index c.tree-item.result c.loop-tree.lists.items c.len.result c.in_ok-blocks.blocks (items period_blocks c.args.at (views c.args.trees.now)) c.loop-tree-test.true c.tree-item.is c.item-place.ensures c.len.ensures c.in_ok-blocks.ensures.value c.loop-tree.invariant.so_far);
 }
 

@@ -9,8 +9,9 @@ use Rattle.uc_case.specs.Words.{position}
 use Rattle.uc_case.specs.Cases.{each_member, bid}
 use Rattle.uc_case.specs.declared.fault.Field.TheVariants as fields
 use Rattle.uc_model.specs.declared.kinds.Kind.TheVariants as kinds
-use Rattle.uc_case.proofs.Loops.{member_goes_on, member_ends, is_done, counted}
-use Rattle.uc_case.proofs.Ordered.{all_push}
+use Rattle.uc_case.specs.EachLaws.{counted, is_done}
+use Rattle.uc_case.proofs.Loops.{member_goes_on, member_ends}
+use Rattle.std.proofs.lemmas.List.Elements.{All-push}
 use Rattle.uc_case.proofs.cases.read_bids.Goals as goal
 
 pub returns-in_err-unit-clause-value : goal.returns-in_err-unit-clause-value
@@ -22,7 +23,7 @@ pub loop-member-preserved : goal.loop-member-preserved
 loop-member-preserved c = record {
   count = counted c.loop-member.list.items c.push.new.self.items c.in_ok-unit.unit c.loop-member.member-index c.push.ensures.items c.loop-member.invariant.count;
   room = omega (arith, c.push.ensures.spare, c.loop-member.invariant.room);
-  fits = rw (c.push.ensures.items, map_push named_bid_of c.loop-member.list.items c.in_ok-unit.unit) (all_push (λ n. IsBidOf c.args.periods n) (map named_bid_of c.loop-member.list.items) (named_bid_of c.in_ok-unit.unit) c.loop-member.invariant.fits c.in_ok-unit.ensures.fits);
+  fits = rw (c.push.ensures.items, map_push named_bid_of c.loop-member.list.items c.in_ok-unit.unit) (All-push (λ n. IsBidOf c.args.periods n) (map named_bid_of c.loop-member.list.items) (named_bid_of c.in_ok-unit.unit) c.loop-member.invariant.fits c.in_ok-unit.ensures.fits);
   so_far = rw c.push.ensures.items (member_goes_on (bid c.args.periods) named_bid_of fields.DemandBids kinds.Bid c.unit_place-at.result c.args.members.now c.loop-member.member-index c.member-item.result c.loop-member.list.items c.len.result c.in_ok-unit.unit (each_member fields.DemandBids kinds.Bid (bid c.args.periods) (member_views c.args.members.now)) c.loop-member-test.true c.member-item.is c.unit_place-at.ensures c.len.ensures c.in_ok-unit.ensures.value c.loop-member.invariant.so_far);
 }
 

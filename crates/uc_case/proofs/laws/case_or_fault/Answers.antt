@@ -1,6 +1,7 @@
+use Rattle.std.proofs.Common.{refl}
+use Rattle.uc_case.specs.Files.{reading_of}
 use Rattle.uc_case.specs.Cases.{case_of}
-use Rattle.uc_case.proofs.FileLaws.{some_reading}
 use Rattle.uc_case.proofs.laws.case_or_fault.Goals as goal
 
 pub returns : goal.returns
-returns c = λ bytes. some_reading case_of bytes
+returns c = λ bytes. let found = c.one_file.ensures.some bytes in (reading_of case_of found.0, (found.0, found.1, refl))

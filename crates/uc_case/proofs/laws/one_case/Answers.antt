@@ -1,6 +1,7 @@
+use Rattle.std.proofs.Common.{sym, ap, ◌∙◌}
+use Rattle.uc_case.specs.Files.{reading_of}
 use Rattle.uc_case.specs.Cases.{case_of}
-use Rattle.uc_case.proofs.FileLaws.{one_reading}
 use Rattle.uc_case.proofs.laws.one_case.Goals as goal
 
 pub returns : goal.returns
-returns c = λ bytes r s a b. one_reading case_of bytes r s a b
+returns c = λ bytes r s a b. sym a.2 ∙ ap (reading_of case_of) (c.one_file.ensures.one bytes a.0 b.0 a.1 b.1) ∙ b.2

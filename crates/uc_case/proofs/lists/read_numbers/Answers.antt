@@ -3,13 +3,14 @@ use Rattle.std.specs.Prelude.{FitsSigned}
 use Rattle.std.proofs.lemmas.Int.{to_z-of_z}
 use Rattle.std.proofs.lemmas.Result.{err_from_is_err_and}
 use Rattle.uc_model.specs.Limits.{IsPower}
-use Rattle.uc_case.proofs.Ordered.{all_push}
+use Rattle.std.proofs.lemmas.List.Elements.{All-push}
 use Rattle.uc_text.specs.View.{view, views}
 use Rattle.uc_case.specs.Words.{position}
 use Rattle.uc_case.specs.Places.{item_at}
 use Rattle.uc_case.specs.Forms.{items}
 use Rattle.uc_case.specs.Tables.{one_power}
-use Rattle.uc_case.proofs.Loops.{item_goes_on, item_ends, is_done, counted}
+use Rattle.uc_case.specs.EachLaws.{counted, is_done}
+use Rattle.uc_case.proofs.Loops.{item_goes_on, item_ends}
 use Rattle.uc_case.proofs.lists.read_numbers.Goals as goal
 
 pub returns-in_err-number-clause-value : goal.returns-in_err-number-clause-value
@@ -24,7 +25,7 @@ loop-tree-preserved c =
     record {
       count = counted c.loop-tree.numbers.items c.push.new.self.items c.in_ok-number.number c.loop-tree.tree-index pushed c.loop-tree.invariant.count;
       room = omega (arith, c.push.ensures.spare, c.loop-tree.invariant.room);
-      fits = rw pushed (all_push (λ n. IsPower n) c.loop-tree.numbers.items c.in_ok-number.number c.loop-tree.invariant.fits c.in_ok-number.ensures.bound);
+      fits = rw pushed (All-push (λ n. IsPower n) c.loop-tree.numbers.items c.in_ok-number.number c.loop-tree.invariant.fits c.in_ok-number.ensures.bound);
       so_far = rw pushed (item_goes_on one_power c.args.at c.item-place.result c.args.trees.now c.loop-tree.tree-index c.tree-item.result c.loop-tree.numbers.items c.loop-tree.numbers.items c.len.result c.in_ok-number.number (items one_power c.args.at (views c.args.trees.now)) c.loop-tree-test.true c.tree-item.is c.item-place.ensures c.len.ensures refl c.in_ok-number.ensures.value c.loop-tree.invariant.so_far);
     }
 

@@ -6,7 +6,8 @@ use Rattle.uc_case.specs.Words.{position}
 use Rattle.uc_case.specs.Places.{item_at}
 use Rattle.uc_case.specs.Forms.{items}
 use Rattle.uc_case.specs.Tables.{point}
-use Rattle.uc_case.proofs.Loops.{item_goes_on, item_ends, is_done, counted}
+use Rattle.uc_case.specs.EachLaws.{counted, is_done}
+use Rattle.uc_case.proofs.Loops.{item_goes_on, item_ends}
 use Rattle.uc_case.proofs.lists.read_points.Goals as goal
 
 pub returns-in_err-point-clause-value : goal.returns-in_err-point-clause-value

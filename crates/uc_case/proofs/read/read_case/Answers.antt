@@ -2,4 +2,4 @@ use Rattle.uc_case.proofs.Answered.{is_only}
 use Rattle.uc_case.proofs.read.read_case.Goals as goal
 
 pub returns-clause-only : goal.returns-clause-only
-returns-clause-only c = λ r is. is_only c.args.bytes.now c.read_file.result c.read_file.ensures r is
+returns-clause-only c = λ r is. is_only c.one_case.ensures c.args.bytes.now c.read_file.result c.read_file.ensures r is

@@ -1,6 +1,7 @@
-use Rattle.uc_case.proofs.FileLaws.{one_reading}
+use Rattle.std.proofs.Common.{sym, ap, ◌∙◌}
+use Rattle.uc_case.specs.Files.{reading_of}
 use Rattle.uc_plan.specs.Plans.{plan_of}
 use Rattle.uc_plan.proofs.laws.one_plan.Goals as goal
 
 pub returns : goal.returns
-returns c = λ m bytes r s a b. one_reading (plan_of m) bytes r s a b
+returns c = λ m bytes r s a b. sym a.2 ∙ ap (reading_of (plan_of m)) (c.one_file.ensures.one bytes a.0 b.0 a.1 b.1) ∙ b.2

@@ -1,6 +1,7 @@
-use Rattle.uc_case.proofs.FileLaws.{some_reading}
+use Rattle.std.proofs.Common.{refl}
+use Rattle.uc_case.specs.Files.{reading_of}
 use Rattle.uc_plan.specs.Plans.{plan_of}
 use Rattle.uc_plan.proofs.laws.plan_or_fault.Goals as goal
 
 pub returns : goal.returns
-returns c = λ m bytes. some_reading (plan_of m) bytes
+returns c = λ m bytes. let found = c.one_file.ensures.some bytes in (reading_of (plan_of m) found.0, (found.0, found.1, refl))

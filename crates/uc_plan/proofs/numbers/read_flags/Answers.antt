@@ -1,5 +1,5 @@
 use Rattle.std.proofs.Common.{sym, arith}
-use Rattle.uc_case.proofs.Loops.{counted}
+use Rattle.uc_case.specs.EachLaws.{counted}
 use Rattle.uc_plan.specs.Plans.{flag_in}
 use Rattle.uc_plan.proofs.Loops.{number_goes_on, number_ends, numbers_done, numbers_begin}
 use Rattle.uc_plan.proofs.numbers.read_flags.Goals as goal

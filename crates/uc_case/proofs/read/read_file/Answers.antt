@@ -1,0 +1,19 @@
+use Rattle.std.proofs.Common.{◌≡◌, Ok, Err, ap, rules}
+use Rattle.uc_text.specs.Texts.{IsFirstFault}
+use Rattle.uc_text.specs.View.{view}
+use Rattle.uc_case.specs.Cases.{case_of}
+use Rattle.uc_case.specs.Files.{of_value}
+use Rattle.uc_case.proofs.read.read_file.Goals as goal
+
+pub returns-in-Err-Fault : goal.returns-in-Err-Fault
+returns-in-Err-Fault c =
+    let first : IsFirstFault 32 c.args.bytes.now c.in-Err-Fault.fault = search rules in
+    (Err c.in-Err-Fault.fault, first, search rules)
+
+pub returns-in-Ok-case_of_tree : goal.returns-in-Ok-case_of_tree
+returns-in-Ok-case_of_tree c = (Ok (view c.in-Ok.tree), c.in-Ok.ensures.found, ap of_value c.in-Ok-case_of_tree.ensures)
+
+pub returns-in-Err-Fault-case_of_tree : goal.returns-in-Err-Fault-case_of_tree
+returns-in-Err-Fault-case_of_tree c =
+    let refused : case_of (view c.in-Ok.tree) ≡ Err c.in-Err-Fault-case_of_tree.fault = search rules in
+    (Ok (view c.in-Ok.tree), c.in-Ok.ensures.found, ap of_value refused)

@@ -1,0 +1,20 @@
+use Rattle.std.proofs.Common.{◌≡◌, Ok, Err, ap, rules}
+use Rattle.uc_text.specs.Texts.{IsFirstFault}
+use Rattle.uc_text.specs.View.{view}
+use Rattle.uc_model.specs.PlainCases.{market_of}
+use Rattle.uc_case.specs.Files.{of_value}
+use Rattle.uc_plan.specs.Plans.{plan_of}
+use Rattle.uc_plan.proofs.read.read_file.Goals as goal
+
+pub returns-in-Err-Fault-clause-answer : goal.returns-in-Err-Fault-clause-answer
+returns-in-Err-Fault-clause-answer c =
+    let first : IsFirstFault 32 c.args.bytes.now c.in-Err-Fault.fault = search rules in
+    (Err c.in-Err-Fault.fault, first, search rules)
+
+pub returns-in-Ok-plan_of_tree-clause-answer : goal.returns-in-Ok-plan_of_tree-clause-answer
+returns-in-Ok-plan_of_tree-clause-answer c = (Ok (view c.in-Ok.tree), c.in-Ok.ensures.found, ap of_value c.in-Ok-plan_of_tree.ensures.value)
+
+pub returns-in-Err-Fault-plan_of_tree-clause-answer : goal.returns-in-Err-Fault-plan_of_tree-clause-answer
+returns-in-Err-Fault-plan_of_tree-clause-answer c =
+    let refused : plan_of (market_of c.args.case.now) (view c.in-Ok.tree) ≡ Err c.in-Err-Fault-plan_of_tree.fault = search rules in
+    (Ok (view c.in-Ok.tree), c.in-Ok.ensures.found, ap of_value refused)
