@@ -18,5 +18,5 @@ pub mod RowForms
 pub mod UnitForms
 -- read.rt: the whole report
 pub mod WholeForm
--- laws.rt: at most one line is in fault
+-- laws.rt: at most one line is in fault, and one is the first that differs
 pub mod OneFault

@@ -1,7 +1,8 @@
--- A file has at most one line in fault.
+-- A file has at most one line in fault, and two texts differ first at one line.
 use Rattle.std.proofs.Common.{◌≡◌, ℕ, suc, List, [], ◌∷◌, ◌++◌, length, refl, sym, ap, ◌∙◌, subst, arith, append_assoc, length-append, inl, inr}
 use Rattle.std.proofs.lemmas.Bool.Decides.{eqb_tells}
 use Rattle.hull_report.specs.ReportText.{report_text}
+use Rattle.report_read.specs.Differences.{DiffersAt}
 use Rattle.report_read.specs.Faults.{IsLine, AreLines, line_feeds, IsFault}
 
 -- ---- of two fronts of one list one is a front of the other
@@ -90,4 +91,25 @@ one_fault bytes k l f g =
       | Same e ↦ f.number ∙ ap (λ (z : List ℕ). suc (line_feeds z)) e ∙ sym g.number
       | Shorter b more e ↦ absurd (not_before bytes k l f g b more e)
       | Longer b more e ↦ absurd (not_before bytes l k g f b more e)
+    ]
+
+-- ---- the first line that differs
+
+not_same : (text other : List ℕ) (k l : ℕ) (f : DiffersAt text other k) (g : DiffersAt text other l) (b : ℕ) (more : List ℕ) → g.same ≡ f.same ++ b ∷ more → ⊥
+not_same text other k l f g b more e =
+    let lines : AreLines (f.same ++ b ∷ more) = subst AreLines e g.lines in
+    let h = line_behind f.same b more lines in
+    let front : g.same ≡ (f.same ++ h.here) ++ h.after = e ∙ ap (λ (z : List ℕ). f.same ++ z) h.cut ∙ sym (append_assoc f.same h.here h.after) in
+    let regrouped = λ (rest : List ℕ). let made : g.same ++ rest ≡ f.same ++ (h.here ++ (h.after ++ rest)) =
+    ap (λ (z : List ℕ). z ++ rest) front ∙ append_assoc (f.same ++ h.here) h.after rest ∙ append_assoc f.same h.here (h.after ++ rest) in made in
+    let one : f.rest ≡ h.here ++ (h.after ++ g.rest) = cancel f.same f.rest (h.here ++ (h.after ++ g.rest)) (sym f.cut ∙ g.cut ∙ regrouped g.rest) in
+    let two : f.other_rest ≡ h.here ++ (h.after ++ g.other_rest) = cancel f.same f.other_rest (h.here ++ (h.after ++ g.other_rest)) (sym f.other_cut ∙ g.other_cut ∙ regrouped g.other_rest) in
+    f.fails h.here (h.after ++ g.rest) (h.after ++ g.other_rest) h.line one two
+
+pub one_difference : (text other : List ℕ) (k l : ℕ) → DiffersAt text other k → DiffersAt text other l → k ≡ l
+one_difference text other k l f g =
+    elim (fronts f.same g.same f.rest g.rest (sym f.cut ∙ g.cut)) [
+      | Same e ↦ f.number ∙ ap (λ (z : List ℕ). suc (line_feeds z)) e ∙ sym g.number
+      | Shorter b more e ↦ absurd (not_same text other k l f g b more e)
+      | Longer b more e ↦ absurd (not_same text other l k g f b more e)
     ]

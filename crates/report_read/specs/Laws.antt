@@ -2,6 +2,7 @@
 use Rattle.std.specs.Prelude.{◌≡◌, ℕ, List}
 use Rattle.hull_report.specs.ReportText.{Report, report_text}
 use Rattle.report_read.specs.Bounds.{IsReport}
+use Rattle.report_read.specs.Differences.{DiffersAt}
 use Rattle.report_read.specs.Faults.{IsFault}
 
 -- no two have one text
@@ -11,3 +12,8 @@ OneReport = (a b : Report) → IsReport a → IsReport b → report_text a ≡ r
 -- a file has at most one line in fault
 abbrev pub OneFault : Type 0
 OneFault = (bytes : List ℕ) (k l : ℕ) → IsFault bytes k → IsFault bytes l → k ≡ l
+
+-- two texts differ first at one line at most
+abbrev pub OneDifference : Type 0
+OneDifference =
+    (text other : List ℕ) (k l : ℕ) → DiffersAt text other k → DiffersAt text other l → k ≡ l

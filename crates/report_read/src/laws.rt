@@ -1,5 +1,5 @@
 //! Laws over reports within the bounds: each is the contract of a function that does nothing.
-ghost use Rattle.report_read.specs.Laws.{OneReport, OneFault};
+ghost use Rattle.report_read.specs.Laws.{OneReport, OneFault, OneDifference};
 
 use hull_report::laws::text_determines_the_report;
 
@@ -13,4 +13,9 @@ pub fn one_report_has_a_text()
 /// A file has at most one line in fault.
 pub fn one_line_is_in_fault()
     ensures { OneFault }
+{}
+
+/// Two texts differ first at one line at most.
+pub fn one_line_differs()
+    ensures { OneDifference }
 {}

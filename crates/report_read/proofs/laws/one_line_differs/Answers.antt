@@ -1,0 +1,5 @@
+use Rattle.report_read.proofs.OneFault.{one_difference}
+use Rattle.report_read.proofs.laws.one_line_differs.Goals as goal
+
+pub returns : goal.returns
+returns c = one_difference
