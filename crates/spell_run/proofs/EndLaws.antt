@@ -1,18 +1,16 @@
 -- What is noted of the last step of a spell.
-use Rattle.std.proofs.Common.{◌≡◌, ℕ, suc, ◌<◌, ◌≤◌, ltb, eqb, ◌⊎◌, ℤ, pos, ◌≤ℤ◌, Bool, true, false, length, Option, Some, None, refl, sym, ap, ◌∙◌, subst, arith}
+use Rattle.std.proofs.Common.{◌≡◌, ℕ, suc, ◌<◌, ltb, eqb, ◌⊎◌, ℤ, pos, ◌≤ℤ◌, Bool, true, false, length, Option, Some, None, sym, ◌∙◌, subst, arith}
 use Rattle.std.specs.Prelude.{IfSome, IfNone, MatchOption}
-use Rattle.std.proofs.lemmas.Int.{ints, to_z-of_z}
 use Rattle.std.proofs.lemmas.Bool.{lt-ltb, le-ltb}
 use Rattle.cost_curve.specs.CostCurve.{IsCostCurve}
 use Rattle.shape_law.specs.Effect.{IsLeast, IsLeastIn}
 use Rattle.shape_law.specs.Table.{Table, value_of, IsEmpty, HasNone}
-use Rattle.shape_law.specs.declared.step.Step.{Step}
 use Rattle.slope_list.specs.declared.slopes.Lowest.{Lowest}
 use Rattle.slope_step.specs.declared.read.Spot.{Spot}
 use Rattle.slope_step.specs.Turn.{IsTurn}
 use Rattle.uc_model.specs.declared.units.Curve.{Curve}
 use Rattle.uc_model.specs.Data.{ThermalUnit, PriceLists}
-use Rattle.uc_model.specs.Limits.{IsThermalUnit, ArePrices}
+use Rattle.uc_model.specs.Limits.{IsThermalUnit}
 use Rattle.uc_model.specs.Sums.{int_at}
 use Rattle.spell_run.specs.declared.way.Note.{Note}
 use Rattle.spell_run.specs.Frontier.{IsFrontier}

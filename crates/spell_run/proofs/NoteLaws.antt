@@ -1,6 +1,6 @@
 -- The way back by what the steps noted: the place nearest to the turn is the cheapest power before, and the periods that
 -- are written for it are a way on.
-use Rattle.std.proofs.Common.{◌≡◌, ℕ, zero, suc, ◌-◌, ◌<◌, ◌≤◌, ltb, eqb, ◌⊎◌, inl, inr, ℤ, pos, ◌+ℤ◌, ◌-ℤ◌, ◌≤ℤ◌, ◌<ℤ◌, Bool, true, false, length, Option, Some, refl, sym, ap, ◌∙◌, subst, arith}
+use Rattle.std.proofs.Common.{◌≡◌, ℕ, zero, suc, ◌-◌, ◌<◌, ◌≤◌, ltb, eqb, ◌⊎◌, inl, inr, ℤ, pos, ◌+ℤ◌, ◌-ℤ◌, ◌≤ℤ◌, ◌<ℤ◌, Bool, false, length, Some, sym, ap, ◌∙◌, subst, arith}
 use Rattle.std.specs.Option.{option_map}
 use Rattle.std.specs.Int.{int_min, int_max}
 use Rattle.std.proofs.lemmas.Int.{ints, clamps, by_lt_z}
@@ -18,11 +18,11 @@ use Rattle.slope_list.specs.declared.slopes.Lowest.{Lowest}
 use Rattle.spell_run.specs.declared.way.Note.{Note}
 use Rattle.spell_run.specs.declared.way.Passed.{Passed}
 use Rattle.spell_run.specs.Entries.{IsOnFromTo, IsSameOutside}
-use Rattle.spell_run.specs.Frontier.{IsFrontier, IsWritten, IsChosen, stops_at, IsWayFrom}
+use Rattle.spell_run.specs.Frontier.{IsFrontier, IsWritten, IsChosen, IsWayFrom}
 use Rattle.spell_run.specs.Laws.{best_reserve}
 use Rattle.spell_run.specs.Notes.{IsNoted, IsEndNoted, IsSpellNoted, IsCheapest}
 use Rattle.spell_run.specs.Spells.{IsBestDispatch, IsFirstDispatch, spell_cost}
-use Rattle.spell_run.specs.Steps.{cap_at, step_at, level, IsKinked, IsStepped}
+use Rattle.spell_run.specs.Steps.{cap_at, step_at, level, IsStepped}
 use Rattle.spell_run.proofs.ChoiceLaws.{stored, output_stored}
 use Rattle.spell_run.proofs.CutLaws.{between_places}
 use Rattle.spell_run.proofs.FairLaws.{cap_out}

@@ -1,5 +1,5 @@
 -- The turn of a step: where the kinked function before it is least.
-use Rattle.std.proofs.Common.{◌≡◌, ℕ, ℤ, Bool, sym, ap, ◌∙◌, subst}
+use Rattle.std.proofs.Common.{◌≡◌, ℕ, ℤ, Bool, ap, ◌∙◌, subst}
 use Rattle.shape_law.specs.Table.{Table}
 use Rattle.uc_model.specs.Data.{ThermalUnit, PriceLists}
 use Rattle.shape_law.specs.declared.step.Step.{Step}

@@ -1,14 +1,13 @@
 -- What the runners left for the way back from each row.
-use Rattle.std.proofs.Common.{◌≡◌, ◌≢◌, ℕ, zero, suc, ◌-◌, ◌<◌, ◌≤◌, ◌⊎◌, inl, inr, Option, Some, None, ℤ, ◌+ℤ◌, List, length, get_or, set, refl, sym, ap, ◌∙◌, subst, get_or-set_same, get_or-set_other, arith}
+use Rattle.std.proofs.Common.{◌≡◌, ◌≢◌, ℕ, suc, ◌-◌, ◌<◌, ◌≤◌, ◌⊎◌, inl, inr, Option, Some, None, ℤ, ◌+ℤ◌, List, length, set, sym, ap, ◌∙◌, subst, get_or-set_same, get_or-set_other, arith}
 use Rattle.std.specs.Prelude.{IfSome, IfNone}
 use Rattle.std.proofs.lemmas.Bool.{cases_lt, cases_eq}
 use Rattle.shape_law.specs.Table.{Table, value_of}
 use Rattle.slope_list.specs.declared.slopes.Lowest.{Lowest}
-use Rattle.uc_model.specs.Data.{ThermalUnit, PriceLists, Schedule}
+use Rattle.uc_model.specs.Data.{ThermalUnit, PriceLists}
 use Rattle.spell_run.specs.declared.way.Passed.{Passed}
 use Rattle.spell_run.specs.Frontier.{IsFrontier}
 use Rattle.spell_run.specs.Notes.{IsOnNoted, IsEndNoted, IsSpellNoted, passed_at, end_cost}
-use Rattle.spell_run.specs.Steps.{IsRun}
 use Rattle.unit_program.specs.declared.runner.Runner.{Runner}
 use Rattle.unit_program.specs.declared.table.Ended.{Ended}
 use Rattle.unit_program.specs.Live.{live_at, left_at, left_of}

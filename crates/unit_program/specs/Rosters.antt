@@ -8,5 +8,7 @@ pub record IsRoster (live : ℕ → Option Going) (until : ℕ) (roster : Roster
   pub few : roster.count ≤ until
   pub room : roster.count ≤ length roster.firsts.items
   pub below : (i f : ℕ) → i < roster.count → slice_get roster.firsts.items i ≡ Some f → f < until
-  pub rising : (i j f h : ℕ) → i < j → j < roster.count → slice_get roster.firsts.items i ≡ Some f → slice_get roster.firsts.items j ≡ Some h → f < h
-  pub all : (f : ℕ) (r : Going) → live f ≡ Some r → (i : ℕ) × (i < roster.count) × (slice_get roster.firsts.items i ≡ Some f)
+  pub rising : (i j f h : ℕ) → i < j → j < roster.count →
+      slice_get roster.firsts.items i ≡ Some f → slice_get roster.firsts.items j ≡ Some h → f < h
+  pub all : (f : ℕ) (r : Going) → live f ≡ Some r →
+      (i : ℕ) × (i < roster.count) × (slice_get roster.firsts.items i ≡ Some f)

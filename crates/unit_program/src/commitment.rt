@@ -50,8 +50,12 @@ pub fn is_must_off(unit: &Unit, place: u32) -> bool
 /// Whether the unit must be on in the period at a place.
 pub fn must_be_on(unit: &Unit, place: u32) -> bool
     requires { place < length (thermal_of unit.now).window }
-    ensures yes { IsTrue result → IsTrue unit.now.must_run ⊎ (mark_in (thermal_of unit.now).window (suc place) ≡ Mark.MustOn) }
-    ensures no { IsFalse result → IsFalse unit.now.must_run × (mark_in (thermal_of unit.now).window (suc place) ≡ Mark.MustOn → ⊥) }
+    ensures yes { IsTrue result →
+        IsTrue unit.now.must_run
+        ⊎ (mark_in (thermal_of unit.now).window (suc place) ≡ Mark.MustOn) }
+    ensures no { IsFalse result →
+        IsFalse unit.now.must_run
+        × (mark_in (thermal_of unit.now).window (suc place) ≡ Mark.MustOn → ⊥) }
 {
     unit.must_run || unit.window.as_slice()[place as usize] == Mark::MustOn
 }
@@ -97,8 +101,8 @@ pub fn time_off(unit: &Unit, last: u32, period: u32) -> u64
     }
 }
 
-/// The last on period since which the unit has been off for long enough at the end of a period, and a period before it
-/// hadn't been.
+/// The last on period since which the unit has been off for long enough at the end of a period, and
+/// a period before it hadn't been.
 pub fn ripened(unit: &Unit, period: u32) -> Option<u32>
     requires { period ≤ 168 }
     ensures some { IfSome result (IsRipe (thermal_of unit.now) period) }

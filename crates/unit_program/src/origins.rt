@@ -1,10 +1,13 @@
 //! The ends of spells that the next start may follow, kept from period to period.
 //!
-//! Where a start never costs less after a longer time off, an end that costs more than a later one is never the cheapest
-//! to start from. So the list that a search for the cheapest start goes through stays short.
-ghost use Rattle.std.specs.Prelude.{◌≡◌, ◌≢◌, ◌⊎◌, ℕ, suc, ◌+◌, ◌*◌, ◌<◌, ◌≤◌, ℤ, pos, ◌+ℤ◌, ◌≤ℤ◌, IsTrue, IfOk, IfSome, IfNone, Option, Some, length, slice_get};
+//! Where a start never costs less after a longer time off, an end that costs more than a later one
+//! is never the cheapest to start from. So the list that a search for the cheapest start goes
+//! through stays short.
+ghost use Rattle.std.specs.Prelude.{◌≡◌, ◌⊎◌, ℕ, suc, ◌+◌, ◌*◌, ◌<◌, ◌≤◌, length, slice_get};
+ghost use Rattle.std.specs.Prelude.{ℤ, pos, ◌+ℤ◌, ◌≤ℤ◌, IsTrue, IfOk, IfSome, IfNone, Option, Some};
 ghost use Rattle.uc_model.specs.PlainUnits.{thermal_of};
-ghost use Rattle.unit_program.specs.Origins.{IsRising, IsRipe, IsOrigin, HasOrigin, AreRight, AreInOrder, AreOrigins, AreOriginsWithin, IsOriginPut};
+ghost use Rattle.unit_program.specs.Origins.{IsRising, IsRipe, IsOrigin, HasOrigin, IsOriginPut};
+ghost use Rattle.unit_program.specs.Origins.{AreRight, AreInOrder, AreOrigins, AreOriginsWithin};
 ghost use Rattle.unit_program.specs.Rows.{cost_at, IsWithinTimes};
 ghost use Rattle.unit_program.specs.Tables.{IsEntry, IsLeastEntry};
 
@@ -23,7 +26,8 @@ pub struct Origin {
     pub cost: i64,
 }
 
-/// The ends that a start in the next period may follow, the earliest first, but for those that a later one dominates.
+/// The ends that a start in the next period may follow, the earliest first, but for those that a
+/// later one dominates.
 #[derive(Drop)]
 pub struct Origins {
     /// The first `count` are meant.
@@ -35,7 +39,7 @@ pub struct Origins {
     pub is_rising: bool,
 }
 
-// Whether a start never costs less after a longer time off: no lag costs less than the one before it.
+// Whether a start never costs less after a longer time off: no lag costs less than the one before.
 fn are_rising(lags: &[Lag]) -> bool
     ensures { IsTrue result → IsRising lags.now }
 {
@@ -67,8 +71,11 @@ impl Origins {
     fn place_for(&self, cost: i64) -> u32
         requires { self.now.count ≤ length self.now.list.items }
         ensures within { result ≤ self.now.count }
-        ensures dearer { (i : ℕ) (a : Origin) → result ≤ i → i < self.now.count → slice_get self.now.list.items i ≡ Some a → IsTrue self.now.is_rising × ((cost +ℤ pos 1) ≤ℤ a.cost) }
-        ensures cheaper { IsTrue self.now.is_rising → (i : ℕ) (a : Origin) → result ≡ suc i → slice_get self.now.list.items i ≡ Some a → a.cost ≤ℤ cost }
+        ensures dearer { (i : ℕ) (a : Origin) → result ≤ i → i < self.now.count →
+            slice_get self.now.list.items i ≡ Some a →
+            IsTrue self.now.is_rising × ((cost +ℤ pos 1) ≤ℤ a.cost) }
+        ensures cheaper { IsTrue self.now.is_rising → (i : ℕ) (a : Origin) → result ≡ suc i →
+            slice_get self.now.list.items i ≡ Some a → a.cost ≤ℤ cost }
     {
         if !self.is_rising {
             return self.count;
@@ -94,15 +101,19 @@ impl Origins {
         self.count = place + 1;
     }
 
-    // Puts in the end from which on the unit has been off for long enough only now, if there is one.
+    // Puts in the end since which the unit has been off for long enough only now, if there is one.
     fn take_ripe(&mut self, unit: &Unit, period: u32, rows: &[Option<Ended>])
         requires end { period ≤ length (thermal_of unit.now).window }
         requires rows { period < length rows.now }
         requires room { period < length self.old.list.items }
         requires few { self.old.count ≤ period }
         requires right { AreRight (thermal_of unit.now) (cost_at rows.now) period self.old }
-        requires earlier { (i last : ℕ) (o : Origin) → i < self.old.count → slice_get self.old.list.items i ≡ Some o → IsRipe (thermal_of unit.now) period last → o.last < last }
-        requires others { (o : Origin) → IsOrigin (thermal_of unit.now) (cost_at rows.now) period o → IsRipe (thermal_of unit.now) period o.last ⊎ HasOrigin self.old o }
+        requires earlier { (i last : ℕ) (o : Origin) → i < self.old.count →
+            slice_get self.old.list.items i ≡ Some o →
+            IsRipe (thermal_of unit.now) period last → o.last < last }
+        requires others { (o : Origin) →
+            IsOrigin (thermal_of unit.now) (cost_at rows.now) period o →
+            IsRipe (thermal_of unit.now) period o.last ⊎ HasOrigin self.old o }
         ensures origins { AreOrigins (thermal_of unit.now) (cost_at rows.now) period self.new }
         ensures length { length self.new.list.items ≡ length self.old.list.items }
     {
@@ -150,14 +161,18 @@ impl Origins {
         self.take_ripe(unit, place + 1, rows);
     }
 
-    /// The least cost of all before a start in the period after `period`, with the start; of equal ones that with the
-    /// earliest on period before it.
+    /// The least cost of all before a start in the period after `period`, with the start; of equal
+    /// ones that with the earliest on period before it.
     pub fn least(&self, unit: &Unit, period: u32) -> Option<Entry>
         requires small { period < 168 }
         requires within { AreOriginsWithin period self.now }
         requires order { AreInOrder self.now }
-        ensures some { IfSome result (λ e. (ends : ℕ → Option ℤ) → AreOrigins (thermal_of unit.now) ends period self.now → IsLeastEntry (thermal_of unit.now) ends (suc period) e.last e.cost) }
-        ensures none { IfNone result ((ends : ℕ → Option ℤ) (e : ℤ) → AreOrigins (thermal_of unit.now) ends period self.now → IsEntry (thermal_of unit.now) ends (suc period) e → ⊥) }
+        ensures some { IfSome result (λ e. (ends : ℕ → Option ℤ) →
+            AreOrigins (thermal_of unit.now) ends period self.now →
+            IsLeastEntry (thermal_of unit.now) ends (suc period) e.last e.cost) }
+        ensures none { IfNone result ((ends : ℕ → Option ℤ) (e : ℤ) →
+            AreOrigins (thermal_of unit.now) ends period self.now →
+            IsEntry (thermal_of unit.now) ends (suc period) e → ⊥) }
         ensures bound { IfSome result (λ e. IsWithinTimes (2 * period + 3) e.cost) }
     {
         let mut least: Option<Entry> = None;

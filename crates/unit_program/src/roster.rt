@@ -48,8 +48,11 @@ impl Roster {
     /// Takes those away whose runners are off.
     pub fn keep<R: Running>(&mut self, runners: &[Runner<R>])
         requires small { self.old.count ≤ 169 }
-        requires roster { (until : ℕ) × (until ≤ length runners.now) × IsRoster (live_at R.function runners.now) until self.old }
-        ensures roster { (until : ℕ) → IsRoster (live_at R.function runners.now) until self.old → IsRoster (live_at R.function runners.now) until self.new }
+        requires roster { (until : ℕ) × (until ≤ length runners.now)
+            × IsRoster (live_at R.function runners.now) until self.old }
+        ensures roster { (until : ℕ) →
+            IsRoster (live_at R.function runners.now) until self.old →
+            IsRoster (live_at R.function runners.now) until self.new }
         ensures length { length self.new.firsts.items ≡ length self.old.firsts.items }
     {
         let mut kept = 0;

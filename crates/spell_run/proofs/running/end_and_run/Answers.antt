@@ -1,4 +1,4 @@
-use Rattle.std.proofs.Common.{rules, ◌≡◌, ℤ, pos, suc, false, true, eqb, ◌<◌, ◌≤ℤ◌, ◌⊎◌, Option, Some, length, sym, ap, ◌∙◌, subst, arith, w64, FitsSigned}
+use Rattle.std.proofs.Common.{rules, ◌≡◌, pos, suc, true, eqb, ◌<◌, length, sym, ap, ◌∙◌, subst, arith, w64, FitsSigned}
 use Rattle.std.specs.Prelude.{MatchOption}
 use Rattle.std.proofs.lemmas.Bool.{lt-ltb}
 use Rattle.std.proofs.lemmas.Int.{to_z-of_z}
@@ -6,13 +6,11 @@ use Rattle.cost_curve.proofs.EnvelopeValues.{envelope_is_cost}
 use Rattle.shape_law.specs.Effect.{IsLeast, IsLeastIn}
 use Rattle.shape_law.specs.Table.{Table, value_of, IsEmpty, HasNone}
 use Rattle.shape_law.specs.declared.step.Step.{Step}
-use Rattle.slope_list.specs.declared.slopes.Lowest.{Lowest}
 use Rattle.slope_step.specs.Turn.{IsTurn}
 use Rattle.uc_model.specs.PlainUnits.{thermal_of, prices_of}
-use Rattle.uc_model.specs.Sums.{int_at}
 use Rattle.spell_run.specs.Frontier.{IsFrontier}
-use Rattle.spell_run.specs.Notes.{IsNoted, end_cost}
-use Rattle.spell_run.specs.Steps.{step_at, IsStepped}
+use Rattle.spell_run.specs.Notes.{end_cost}
+use Rattle.spell_run.specs.Steps.{step_at}
 use Rattle.spell_run.proofs.EndLaws.{end_least, end_least_in, end_least_after, end_within, ended_last, ended_alike, ended_beside}
 use Rattle.spell_run.proofs.FairLaws.{alike_of, range_moved, cost_is, step_moved}
 use Rattle.spell_run.proofs.FrontierLaws.{small_frontier, answer_at_end, answer_alike, answer_of_step}

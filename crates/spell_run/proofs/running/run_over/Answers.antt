@@ -1,4 +1,4 @@
-use Rattle.std.proofs.Common.{◌≡◌, false, suc, eqb, ◌<◌, sym, subst, arith, ℤ, rules, FitsSigned, w64}
+use Rattle.std.proofs.Common.{false, suc, eqb, sym, subst, arith, ℤ, rules, FitsSigned, w64}
 use Rattle.cost_curve.proofs.EnvelopeValues.{envelope_is_cost}
 use Rattle.uc_model.specs.PlainUnits.{thermal_of, prices_of}
 use Rattle.std.proofs.lemmas.Int.{to_z-of_z}

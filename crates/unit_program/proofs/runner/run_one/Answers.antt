@@ -1,5 +1,5 @@
 use Rattle.std.proofs.Common.{◌≡◌, ℕ, suc, ◌+◌, ◌<◌, ◌≤◌, length, subst, arith}
-use Rattle.uc_model.specs.PlainUnits.{thermal_of, prices_of}
+use Rattle.uc_model.specs.PlainUnits.{thermal_of}
 use Rattle.unit_program.specs.Spells.{on_time}
 use Rattle.unit_program.proofs.WaysLaws.{always}
 use Rattle.unit_program.proofs.runner.run_one.Goals as goal
