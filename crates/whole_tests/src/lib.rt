@@ -9,6 +9,8 @@ mod generated;
 #[cfg(test)]
 mod responses;
 #[cfg(test)]
+mod seats;
+#[cfg(test)]
 mod shapes;
 #[cfg(test)]
 mod spells;
