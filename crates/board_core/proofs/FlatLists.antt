@@ -22,6 +22,7 @@ use Rattle.uc_model.specs.declared.units.UnitKind.{UnitKind}
 use Rattle.uc_model.specs.declared.units.UnitKind.TheVariants as kinds
 use Rattle.board_core.specs.declared.replies.Differs.TheVariants as differs
 use Rattle.board_core.specs.Refusals.{differs_of}
+use Rattle.board_core.specs.Same.{AreSame}
 
 -- ---- a task of the program is one over its horizon
 
@@ -48,11 +49,11 @@ points_length : (xs : List Point) → length (flat_map point_numbers xs) ≡ 2 *
 points_length [] = refl
 points_length (x ∷ xs) = let e = points_length xs in omega (arith, e)
 
-blocks_length : (xs : List Block) → length (flat_map block_numbers xs) ≡ 2 * length xs
+pub blocks_length : (xs : List Block) → length (flat_map block_numbers xs) ≡ 2 * length xs
 blocks_length [] = refl
 blocks_length (x ∷ xs) = let e = blocks_length xs in omega (arith, e)
 
-periods_length : (ps : List (List Block)) → ((k : ℕ) (d : List Block) → k < length ps → length (get_or ps k d) ≤ 8) → length (flat_map period_numbers ps) ≤ 17 * length ps
+pub periods_length : (ps : List (List Block)) → ((k : ℕ) (d : List Block) → k < length ps → length (get_or ps k d) ≤ 8) → length (flat_map period_numbers ps) ≤ 17 * length ps
 periods_length [] h = omega arith
 periods_length (p ∷ ps) h =
     let e = periods_length ps (λ k d lt. h (suc k) d (omega (arith, lt))) in
@@ -83,11 +84,6 @@ numbers_few t =
     omega (arith, few, both, e, length-append t.prices.energy.items (t.prices.reserve.items ++ unit_numbers (task_unit t)), length-append t.prices.energy.items t.prices.reserve.items, length-append (t.prices.energy.items ++ t.prices.reserve.items) (unit_numbers (task_unit t)), length-append t.prices.reserve.items (unit_numbers (task_unit t)))
 
 -- ---- the walk
-
-pub record AreSame (own given : List ℤ) (k : ℕ) : Type 0 where
-  pub own_long : k ≤ length own
-  pub given_long : k ≤ length given
-  pub same : (i : ℕ) → i < k → int_at own i ≡ int_at given i
 
 past_end : (xs : List ℤ) (k : ℕ) → slice_get xs k ≡ None → length xs ≤ k
 past_end xs k e = elim (cases_lt k (length xs)) [

@@ -1,5 +1,7 @@
 -- one more round keeps what rounds are
 pub mod Advances
+-- flat lists that begin alike, and those of bids whose first periods have the same blocks
+pub mod Alike
 -- lists and units that were compared part by part
 pub mod AsOne
 -- the first greatest of the closed proposals, where one proposal is changed

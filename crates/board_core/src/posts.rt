@@ -16,7 +16,7 @@ ghost use Rattle.board_core.specs.Setups.{IsSetup, setup_of};
 
 use crate::ledger::Ledger;
 use crate::replies::{Differs, Posted};
-use crate::same::{is_unit_of, same_prices};
+use crate::same::{alike, is_unit_of, same_prices};
 use crate::tasks::copy_task;
 use crate::terms::{Terms, place};
 use board_history::entries::{Call, Entry, Reply};
@@ -26,11 +26,12 @@ use uc_model::flat_list::flat_number;
 // A flat list has at most 336 prices, and a unit at most 168 marks or 17 numbers for each period.
 const MOST_NUMBERS: u32 = 4_000;
 
-// The first place at which the flat lists of two tasks differ, with the two numbers there.
+// The first place at which the flat lists of two tasks differ, with the two numbers there. A number of a bid is found by
+// going over its periods, so the walk begins at the first period that differs.
 fn difference(own: &Task, task: &Task) -> Option<Differs>
     ensures { result ≡ differs_of (difference_of (task_numbers (prices_of own.now.prices) (task_unit own.now)) (task_numbers (prices_of task.now.prices) (task_unit task.now))) }
 {
-    for place in 0..MOST_NUMBERS {
+    for place in alike(own, task)..MOST_NUMBERS {
         let board = flat_number(own, place)?;
         let task = flat_number(task, place)?;
         if board != task {

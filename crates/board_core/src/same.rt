@@ -1,10 +1,12 @@
 //! Whether a task that comes back has the prices and the unit that were given out, compared where they lie.
-ghost use Rattle.std.specs.Prelude.{◌≡◌, ◌↔◌, ◌+◌, ◌<◌, IsTrue, Some, length, map, slice_get};
+ghost use Rattle.std.specs.Prelude.{◌≡◌, ◌↔◌, ◌+◌, ◌<◌, ◌≤◌, IsTrue, Some, length, map, slice_get};
+ghost use Rattle.std.specs.List.{All, flat_map};
 ghost use Rattle.uc_model.specs.Data.{units, unit_count};
 ghost use Rattle.uc_model.specs.PlainCases.{market_of, task_unit};
 ghost use Rattle.uc_model.specs.PlainUnits.{prices_of, thermal_of, renewable_of, bid_of};
 ghost use Rattle.uc_model.specs.Reserved.{items_in};
-ghost use Rattle.board_core.specs.Same.{HaveSamePowers, HaveSameTimes};
+ghost use Rattle.uc_model.specs.TaskLists.{period_numbers, task_numbers};
+ghost use Rattle.board_core.specs.Same.{HaveSamePowers, HaveSameTimes, AreSame};
 
 use uc_model::cases::{Case, Task};
 use uc_model::units::{Block, BlockLists, Lag, Mark, Point, Prices, Renewable, Unit, UnitKind};
@@ -101,6 +103,41 @@ fn same_periods(a: &BlockLists, b: &BlockLists) -> bool
         }
     }
     true
+}
+
+// How many numbers the flat lists of two bids' blocks begin with alike, up to the first period with other blocks.
+fn alike_periods(a: &BlockLists, b: &BlockLists) -> u32
+    requires few { length a.now.items ≤ 168 }
+    requires counts { All (λ bs. length bs.items ≤ 8) a.now.items }
+    ensures { AreSame (flat_map period_numbers (map items_in a.now.items)) (flat_map period_numbers (map items_in b.now.items)) result }
+{
+    let mut numbers = 0;
+    for k in 0..a.len().min(b.len()) {
+        let blocks = a.get(k).as_slice();
+        if !same_blocks(blocks, b.get(k).as_slice()) {
+            return numbers;
+        }
+        numbers += 1 + 2 * blocks.len() as u32;
+    }
+    numbers
+}
+
+/// How many numbers the flat lists of two tasks begin with alike, as far as that is seen at once: up to the first period with
+/// other blocks where both are of bids at the same prices.
+pub fn alike(own: &Task, task: &Task) -> u32
+    ensures { AreSame (task_numbers (prices_of own.now.prices) (task_unit own.now)) (task_numbers (prices_of task.now.prices) (task_unit task.now)) result }
+{
+    let UnitKind::Bid = own.kind else {
+        return 0;
+    };
+    let UnitKind::Bid = task.kind else {
+        return 0;
+    };
+    if !same_prices(&own.prices, &task.prices) {
+        return 0;
+    }
+    let prices = (own.prices.energy.len() + own.prices.reserve.len()) as u32;
+    2 + prices + alike_periods(&own.bid.blocks, &task.bid.blocks)
 }
 
 fn same_powers(a: &Unit, b: &Unit) -> bool
