@@ -13,6 +13,8 @@ mod plan_files;
 #[cfg(test)]
 mod responses;
 #[cfg(test)]
+mod seats;
+#[cfg(test)]
 mod shapes;
 #[cfg(test)]
 mod spells;

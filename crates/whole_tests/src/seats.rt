@@ -1,0 +1,300 @@
+//! Callers on seats of one shared board, one after another. The numbers expected are worked by hand.
+ghost use Rattle.std.specs.Prelude.{◌≡◌, ◌<◌, ◌≤◌, IfOk, [], length};
+ghost use Rattle.board_share.specs.Seats.{view_of, IsSeatOf, IsSameBoard, IsOwner};
+ghost use Rattle.board_share.specs.Tells.{KeepsRest};
+ghost use Rattle.uc_model.specs.TaskRoom.{IsTaskFor};
+
+use crate::boards::{CASE, Does, PLAN, Sizes, Step, board_of, by, dearer_task, least_answer};
+use board_core::{Board, Claim, Closed, Differs, Posted};
+use board_history::entries::{Call, Entry, Reply};
+use board_share::{Seat, SharedBoard};
+use std::alloc::Global;
+use std::sync::Wait;
+use std::test::Fail;
+use uc_model::cases::Task;
+
+// One renewable unit that gives up to 100,000 kW, where just that is wanted.
+const SMALLEST: &[u8] =
+    b"{\"time_periods\":1,\"demand\":[100],\"reserves\":[0],\"thermal_generators\":{},\"renewable_generators\":{\"W\":{\"power_output_minimum\":[0],\"power_output_maximum\":[100]}}}";
+
+const SMALLEST_PLAN: &[u8] = b"{\"thermal\":{},\"renewable\":{\"W\":[100000]}}";
+
+const TWO: Sizes = Sizes {
+    budget: 1,
+    ahead: 1,
+    callers: 2,
+};
+
+// Posts the least best response of the task's unit.
+fn post_by<R: Wait>(
+    rt: &R,
+    alloc: Global,
+    board: &SharedBoard,
+    seat: &mut Seat,
+    task: &Task,
+) -> Result<Posted, Fail>
+    requires { IsSeatOf board.now seat.old }
+    ensures board { IsSameBoard seat.old seat.new }
+    ensures same { KeepsRest (view_of seat.old) (view_of seat.new) }
+{
+    match least_answer(alloc, task)? {
+        Some(answer) => Ok(board.post(rt, seat, task, &answer)),
+        None => Err(Fail::new("no schedule")),
+    }
+}
+
+// Posts with other numbers of the task, which then has its own again.
+fn post_as<R: Wait>(
+    rt: &R,
+    alloc: Global,
+    board: &SharedBoard,
+    seat: &mut Seat,
+    task: &mut Task,
+    proposal: u32,
+    unit: u32,
+) -> Result<Posted, Fail>
+    requires own { IsSeatOf board.now seat.old }
+    requires task { IsTaskFor (view_of seat.old).setup.market.periods task.old }
+    ensures board { IsSameBoard seat.old seat.new }
+    ensures same { KeepsRest (view_of seat.old) (view_of seat.new) }
+    ensures task { IsTaskFor (view_of seat.old).setup.market.periods task.new }
+{
+    let (own_proposal, own_unit) = (task.proposal, task.unit);
+    task.proposal = proposal;
+    task.unit = unit;
+    let posted = post_by(rt, alloc, board, seat, task);
+    task.proposal = own_proposal;
+    task.unit = own_unit;
+    posted
+}
+
+// Whether what a seat does is answered as it says.
+fn holds<R: Wait>(
+    rt: &R,
+    alloc: Global,
+    board: &SharedBoard,
+    seat: &mut Seat,
+    task: &mut Task,
+    does: Does,
+) -> Result<bool, Fail>
+    requires own { IsSeatOf board.now seat.old }
+    requires task { IsTaskFor (view_of seat.old).setup.market.periods task.old }
+    ensures board { IsSameBoard seat.old seat.new }
+    ensures same { KeepsRest (view_of seat.old) (view_of seat.new) }
+    ensures task { IsTaskFor (view_of seat.old).setup.market.periods task.new }
+{
+    match does {
+        Does::Claims(want) => Ok(board.claim(rt, seat, task) == want),
+        Does::Posts(want) => Ok(post_by(rt, alloc, board, seat, task)? == want),
+        Does::PostsAs(proposal, unit, want) => {
+            Ok(post_as(rt, alloc, board, seat, task, proposal, unit)? == want)
+        }
+        Does::PostsDearer(want) => {
+            let dearer = dearer_task(alloc)?;
+            Ok(post_by(rt, alloc, board, seat, &dearer)? == want)
+        }
+        Does::Halts => {
+            board.halt(rt, seat);
+            Ok(true)
+        }
+    }
+}
+
+// How many of the steps are answered as they say, up to the first that isn't. Caller 0 has the owner's seat.
+fn play<R: Wait>(
+    rt: &R,
+    alloc: Global,
+    board: &SharedBoard,
+    owner: &mut Seat,
+    other: &mut Seat,
+    task: &mut Task,
+    steps: &[Step],
+) -> Result<usize, Fail>
+    requires owner { IsSeatOf board.now owner.old }
+    requires other { IsSeatOf board.now other.old }
+    requires periods { ((view_of owner.old).setup.market.periods ≡ 1) × ((view_of other.old).setup.market.periods ≡ 1) }
+    requires task { IsTaskFor 1 task.old }
+    ensures owner { IsSameBoard owner.old owner.new × KeepsRest (view_of owner.old) (view_of owner.new) }
+    ensures other { IsSameBoard other.old other.new × KeepsRest (view_of other.old) (view_of other.new) }
+    ensures task { IsTaskFor 1 task.new }
+{
+    let mut held = 0;
+    for step in steps {
+        let right = match step.caller {
+            0 => holds(rt, alloc, board, owner, task, step.does)?,
+            _ => holds(rt, alloc, board, other, task, step.does)?,
+        };
+        if !right {
+            return Ok(held);
+        }
+        held += 1;
+    }
+    Ok(held)
+}
+
+// The record of a board on which two seats took the steps, and how many of these were answered as they say.
+fn played<R: Wait>(
+    rt: &R,
+    alloc: Global,
+    board: Board,
+    steps: &[Step],
+) -> Result<(Closed, usize), Fail>
+    requires periods { board.setup.market.periods ≡ 1 }
+    requires empty { board.events ≡ [] }
+{
+    let (board, mut owner) = SharedBoard::make(alloc, board)?;
+    let Some(mut other) = board.split(&mut owner) else {
+        return Err(Fail::new("no second seat"));
+    };
+    let mut task = Task::make(alloc, 1)?;
+    let held = play(rt, alloc, &board, &mut owner, &mut other, &mut task, steps)?;
+    board.join(&mut owner, other);
+    Ok((board.close(owner), held))
+}
+
+const fn entry(caller: u32, call: Call, unit: u32, reply: Reply) -> Entry {
+    Entry {
+        caller,
+        call,
+        proposal: 1,
+        unit,
+        reply,
+    }
+}
+
+#[test]
+fn claims_and_posts_of_two_seats(rt: HostRuntime) -> Result<(), Fail> {
+    let alloc = rt.alloc();
+    let holder = Posted::Stranger(Differs::Holder {
+        caller: 0,
+        holder: Some(1),
+    });
+    let content = Posted::Stranger(Differs::Content {
+        place: 1,
+        board: 30,
+        task: 31,
+    });
+    let proposal = Posted::Stranger(Differs::Proposal { task: 0, opened: 1 });
+    let steps = [
+        by(0, Does::Claims(Claim::Given)),
+        by(0, Does::Posts(Posted::Taken { closed: None })),
+        by(1, Does::Posts(Posted::Doubled { by: 0 })),
+        by(1, Does::Claims(Claim::Given)),
+        by(0, Does::Posts(holder)),
+        by(1, Does::PostsDearer(content)),
+        by(1, Does::PostsAs(0, 0, proposal)),
+        by(1, Does::Posts(Posted::Taken { closed: Some(1) })),
+        by(0, Does::Claims(Claim::Finished)),
+        by(1, Does::Claims(Claim::Finished)),
+    ];
+    let board = board_of(alloc, CASE, PLAN, TWO)?;
+    let (closed, held) = played(&rt, alloc, board, &steps)?;
+    assert_eq!(rt; held, steps.len());
+    let entries = [
+        entry(0, Call::Claim, 0, Reply::Given),
+        entry(0, Call::Post, 0, Reply::Taken),
+        entry(1, Call::Claim, 1, Reply::Given),
+        entry(1, Call::Post, 1, Reply::Closing),
+    ];
+    assert_eq!(rt; closed.history(), entries.as_slice());
+    Ok(())
+}
+
+#[test]
+fn not_yet_and_finished(rt: HostRuntime) -> Result<(), Fail> {
+    let alloc = rt.alloc();
+    let steps = [
+        by(0, Does::Claims(Claim::Given)),
+        by(1, Does::Claims(Claim::NotYet)),
+        by(1, Does::Claims(Claim::NotYet)),
+        by(0, Does::Posts(Posted::Taken { closed: Some(1) })),
+        by(1, Does::Claims(Claim::Finished)),
+    ];
+    let board = board_of(alloc, SMALLEST, SMALLEST_PLAN, TWO)?;
+    let (closed, held) = played(&rt, alloc, board, &steps)?;
+    assert_eq!(rt; held, steps.len());
+    assert!(rt; closed.finished());
+    Ok(())
+}
+
+#[test]
+fn a_halt_before_the_last_post(rt: HostRuntime) -> Result<(), Fail> {
+    let alloc = rt.alloc();
+    let steps = [
+        by(0, Does::Claims(Claim::Given)),
+        by(1, Does::Claims(Claim::NotYet)),
+        by(1, Does::Halts),
+        by(0, Does::Posts(Posted::Taken { closed: Some(1) })),
+        by(0, Does::Claims(Claim::Finished)),
+    ];
+    let board = board_of(alloc, SMALLEST, SMALLEST_PLAN, TWO)?;
+    let (closed, held) = played(&rt, alloc, board, &steps)?;
+    assert_eq!(rt; held, steps.len());
+    assert_eq!(rt; closed.history().len(), 3);
+    Ok(())
+}
+
+// A board for the two units with two proposals.
+fn two_proposals(alloc: Global) -> Result<Board, Fail>
+    ensures periods { IfOk result (λ board. board.setup.market.periods ≡ 1) }
+    ensures empty { IfOk result (λ board. board.events ≡ []) }
+{
+    let sizes = Sizes {
+        budget: 2,
+        ahead: 1,
+        callers: 2,
+    };
+    board_of(alloc, CASE, PLAN, sizes)
+}
+
+#[test]
+fn no_claim_after_a_halt(rt: HostRuntime) -> Result<(), Fail> {
+    let alloc = rt.alloc();
+    let steps = [
+        by(0, Does::Claims(Claim::Given)),
+        by(1, Does::Halts),
+        by(0, Does::Claims(Claim::Halted)),
+        by(1, Does::Claims(Claim::Halted)),
+    ];
+    let (closed, held) = played(&rt, alloc, two_proposals(alloc)?, &steps)?;
+    assert_eq!(rt; held, steps.len());
+    assert_eq!(rt; closed.history().len(), 2);
+    Ok(())
+}
+
+#[test]
+fn as_many_seats_as_callers(rt: HostRuntime) -> Result<(), Fail> {
+    let alloc = rt.alloc();
+    let board = board_of(alloc, SMALLEST, SMALLEST_PLAN, TWO)?;
+    let (board, mut owner) = SharedBoard::make(alloc, board)?;
+    assert!(rt; board.split(&mut owner).is_some());
+    assert!(rt; board.split(&mut owner).is_none());
+    Ok(())
+}
+
+#[test]
+fn a_task_posted_again(rt: HostRuntime) -> Result<(), Fail> {
+    let alloc = rt.alloc();
+    let steps = [
+        by(0, Does::Claims(Claim::Given)),
+        by(0, Does::Posts(Posted::Taken { closed: None })),
+        by(0, Does::Posts(Posted::Doubled { by: 0 })),
+        by(1, Does::Posts(Posted::Doubled { by: 0 })),
+    ];
+    let (_closed, held) = played(&rt, alloc, two_proposals(alloc)?, &steps)?;
+    assert_eq!(rt; held, steps.len());
+    Ok(())
+}
+
+#[test]
+fn a_unit_that_is_not_there(rt: HostRuntime) -> Result<(), Fail> {
+    let alloc = rt.alloc();
+    let unit = Posted::Stranger(Differs::Unit { task: 2, units: 2 });
+    let steps = [
+        by(0, Does::Claims(Claim::Given)),
+        by(1, Does::PostsAs(1, 2, unit)),
+    ];
+    let (_closed, held) = played(&rt, alloc, two_proposals(alloc)?, &steps)?;
+    assert_eq!(rt; held, steps.len());
+    Ok(())
+}
