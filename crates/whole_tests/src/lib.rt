@@ -7,6 +7,8 @@ mod boards;
 #[cfg(test)]
 mod generated;
 #[cfg(test)]
+mod held;
+#[cfg(test)]
 mod responses;
 #[cfg(test)]
 mod shapes;
