@@ -46,6 +46,20 @@ const TWO_PROPOSALS_BOUND: &[u8] = b"\
 hull-bound 1\nproposals 2\nchosen 1 value 2500\nradius 10\ncertificate first 1 last 2\nbound 2500\n\
 distance 0\nend\n";
 
+const TWO_UNITS_FIXED: &[u8] = b"\
+hull-fixed 1\nhull proposals 1 chosen 1 value 2500\nfixed proposals 1 chosen 1 value 2500\n\
+hull energy 30\nhull reserve 0\nfixed energy 30\nfixed reserve 0\n\
+unit thermal \"A\" hull 1000 fixed 1000\nunit thermal \"B\" hull 0 fixed 0\n\
+payments hull 1000 fixed 1000\nsurplus hull 0 fixed 0\ncost 3500\nend\n";
+
+// With both held on, the second price falls to 10. B then loses 2,000 in the schedule, and could
+// be off.
+const TWO_PROPOSALS_FIXED: &[u8] = b"\
+hull-fixed 1\nhull proposals 2 chosen 1 value 2500\nfixed proposals 2 chosen 2 value 3500\n\
+hull energy 30\nhull reserve 0\nfixed energy 10\nfixed reserve 0\n\
+unit thermal \"A\" hull 1000 fixed 0\nunit thermal \"B\" hull 0 fixed 2000\n\
+payments hull 1000 fixed 2000\nsurplus hull 0 fixed 0\ncost 3500\nend\n";
+
 const TWO_PROPOSALS: &[u8] = b"\
 hull-report 1\nperiods 1\nunits 2\nbudget 2\nahead 1\ncost 3500\nproposals 2\nproposal 1 value 2500\n\
 energy 30\nreserve 0\nsupplied 100\nreserved 0\nproposal 2 value 1500\nenergy 50\nreserve 0\n\
@@ -234,6 +248,34 @@ fn runs_answer_as_worked(rt: HostRuntime) -> Result<(), Fail> {
             TWO_UNITS_SCHEDULE,
             0,
             TWO_PROPOSALS_BOUND,
+        ),
+        (
+            [
+                "fixed",
+                "--case=c",
+                "--schedule=s",
+                "--proposals=1",
+                "--ahead=1",
+            ]
+            .as_slice(),
+            TWO_UNITS,
+            TWO_UNITS_SCHEDULE,
+            0,
+            TWO_UNITS_FIXED,
+        ),
+        (
+            [
+                "fixed",
+                "--case=c",
+                "--schedule=s",
+                "--proposals=2",
+                "--ahead=1",
+            ]
+            .as_slice(),
+            TWO_UNITS,
+            TWO_UNITS_SCHEDULE,
+            0,
+            TWO_PROPOSALS_FIXED,
         ),
         (PRICE.as_slice(), USUAL, USUAL_SCHEDULE, 0, USUAL_REPORT),
         (

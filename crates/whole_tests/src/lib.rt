@@ -9,6 +9,8 @@ mod case_files;
 #[cfg(test)]
 mod generated;
 #[cfg(test)]
+mod held;
+#[cfg(test)]
 mod plan_files;
 #[cfg(test)]
 mod responses;

@@ -1,0 +1,25 @@
+//! The case of two units with its commitments held.
+use crate::boards::{CASE, PLAN};
+use fixed_price::fix_case;
+use plan_check::check_plan;
+use std::test::Fail;
+use uc_case::read_case;
+use uc_model::units::Mark;
+use uc_plan::read_plan;
+
+#[test]
+fn two_units_are_held_on(rt: HostRuntime) -> Result<(), Fail> {
+    let case = read_case(rt.alloc(), CASE)?;
+    let plan = read_plan(rt.alloc(), &case, PLAN)?;
+    let Ok(_cost) = check_plan(&case, &plan) else {
+        return Err(Fail::new("the plan isn't feasible"));
+    };
+    let held = fix_case(rt.alloc(), &case, &plan)?;
+    assert_eq!(rt; held.demand.as_slice(), [150].as_slice());
+    assert_eq!(rt; held.thermal.len(), 2);
+    for (named, name) in held.thermal.as_slice().iter().zip(["A", "B"]) {
+        assert_eq!(rt; named.name.as_str(), name);
+        assert!(rt; named.unit.window.as_slice() == [Mark::MustOn].as_slice());
+    }
+    Ok(())
+}
