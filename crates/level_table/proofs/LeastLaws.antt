@@ -5,7 +5,7 @@ use Rattle.std.proofs.lemmas.Int.{ints}
 use Rattle.std.proofs.lemmas.Bool.{cases_lt}
 use Rattle.shape_law.specs.Table.{value_of, HasNone}
 use Rattle.shape_law.specs.Effect.{IsLeast, IsLeastIn}
-use Rattle.level_table.specs.Lookup.{IsAt-from_value, value-from_is_at, value_of-at, value_of-below, place_split, slice_get_past}
+use Rattle.shape_law.specs.Lookup.{IsAt-from_value, value-from_is_at, value_of-at, value_of-below, place_split, slice_get_past}
 use Rattle.level_table.specs.Values.{table, IsLeastOf}
 
 pub IsLeast-from_list : (lo : ℤ) (xs : List ℤ) (v : ℤ) (i : ℕ) → IsLeastOf xs v i → IsLeast (table lo xs) v (lo +ℤ pos i)

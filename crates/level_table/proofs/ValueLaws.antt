@@ -5,7 +5,7 @@ use Rattle.std.specs.Option.{option_map}
 use Rattle.std.proofs.lemmas.Bool.{cases_lt}
 use Rattle.shape_law.specs.Table.{value_of, IsWithinLimits}
 use Rattle.shape_law.specs.Effect.{IsSum}
-use Rattle.level_table.specs.Lookup.{same_some, value-from_index, value_of-at, value_of-below, place_split, slice_get_in, slice_get_past}
+use Rattle.shape_law.specs.Lookup.{same_some, value-from_index, value_of-at, value_of-below, place_split, slice_get_in, slice_get_past}
 use Rattle.level_table.specs.Values.{table, AreWithin}
 
 pub AreWithin-from_limits : (lo : ℤ) (values : List ℤ) → IsWithinLimits (table lo values) → AreWithin lo values

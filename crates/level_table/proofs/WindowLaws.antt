@@ -5,7 +5,7 @@ use Rattle.std.specs.Int.{int_max, int_min}
 use Rattle.std.proofs.lemmas.Int.{ints, clamps}
 use Rattle.shape_law.specs.Table.{value_of, IsPlace}
 use Rattle.shape_law.specs.Effect.{IsWindow, IsLeastIn, Reaches}
-use Rattle.level_table.specs.Lookup.{IsAt-from_value, value-from_is_at, place_split}
+use Rattle.shape_law.specs.Lookup.{IsAt-from_value, value-from_is_at, place_split}
 use Rattle.level_table.specs.Values.{table, AreWithin}
 
 module _ (values : List ℤ) (own last up down lo hi from to : ℤ) (count : ℕ)

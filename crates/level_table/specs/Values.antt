@@ -1,7 +1,7 @@
 -- The values of a function, which stand from its first place on.
 use Rattle.std.specs.Prelude.{◌≡◌, ℕ, ◌<◌, ℤ, pos, ◌+ℤ◌, ◌≤ℤ◌, ◌<ℤ◌, List, length, slice_index_or}
 use Rattle.shape_law.specs.Table.{Table, IsPlace, IsAmount, IsWithinLimits}
-use Rattle.level_table.specs.Lookup.{IsAt-from_value}
+use Rattle.shape_law.specs.Lookup.{IsAt-from_value}
 use Rattle.std.proofs.Common.{subst, sym}
 
 abbrev pub table : ℤ → List ℤ → Table

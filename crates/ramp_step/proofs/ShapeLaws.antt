@@ -7,7 +7,7 @@ use Rattle.shape_law.specs.Table as tables
 use Rattle.shape_law.specs.Table.{Table, value_of, IsConvexList, IsEmpty, HasNone, IsWithinLimits, IsPlace, IsAmount}
 use Rattle.shape_law.specs.Effect as effects
 use Rattle.shape_law.specs.Effect.{IsPoint, IsSum, IsCurveSum, CanAddCurve, IsLeast, IsLeastIn}
-use Rattle.shape_law.proofs.TableLaws.{IsAt-from_value, value-from_is_at}
+use Rattle.shape_law.specs.Lookup.{IsAt-from_value, value-from_is_at}
 use Rattle.ramp_step.specs.declared.breakpoint.Knot.{Knot}
 use Rattle.ramp_step.specs.Knots.{place, height, StandFor, IsShape, IsInside, HaveSameEnds, CanAdd}
 use Rattle.ramp_step.specs.Window.{IsWindow}

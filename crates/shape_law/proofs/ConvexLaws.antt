@@ -10,7 +10,8 @@ use Rattle.shape_law.specs.Table.{Table, value_of, IsConvex}
 use Rattle.shape_law.specs.Curve.{reserve_term}
 use Rattle.shape_law.specs.Effect.{IsWindow, IsSum}
 use Rattle.shape_law.specs.Laws.{PointIsConvex, CopyIsConvex, LineKeepsConvexity, ReserveKeepsConvexity, WindowKeepsConvexity}
-use Rattle.shape_law.proofs.TableLaws.{IsAt, IsAt-from_value, value-from_index, value-from_is_at}
+use Rattle.shape_law.specs.Lookup.{IsAt, IsAt-from_value, value-from_index, value-from_is_at}
+pub use Rattle.shape_law.specs.Lookup.{same_some}
 
 module _ (v : ℕ → ℤ) (n : ℕ) (convex : (k : ℕ) → k + 2 < n → (v (k + 1) +ℤ v (k + 1)) ≤ℤ (v k +ℤ v (k + 2))) where
   -- the slope at i is no greater than the slope at j, d places on
@@ -55,9 +56,6 @@ between_by f h y z a b p q l =
 
 pub between : (f : Table) → IsConvex f → (y z a b : ℤ) → value_of f y ≡ Some a → value_of f z ≡ Some b → y <ℤ z → Between f y z a b
 between f h y z a b p q l = between_by f h y z a b (IsAt-from_value f y a p) (IsAt-from_value f z b q) l
-
-pub same_some : {a b : ℤ} → (o : Option ℤ) → o ≡ Some a → o ≡ Some b → a ≡ b
-same_some o p q = cc
 
 -- a window keeps convexity, whatever the representation
 module _ (up down lo hi : ℤ) (f g : Table) (w : IsWindow up down lo hi f g) (h : IsConvex f) where

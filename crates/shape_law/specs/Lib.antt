@@ -3,5 +3,6 @@ pub mod Chain
 pub mod Curve
 pub mod Effect
 pub mod Laws
+pub mod Lookup
 pub mod Steps
 pub mod Table

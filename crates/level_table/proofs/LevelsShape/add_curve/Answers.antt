@@ -5,7 +5,7 @@ use Rattle.std.proofs.lemmas.Int.{to_z-of_z}
 use Rattle.std.proofs.lemmas.List.{take_at}
 use Rattle.shape_law.specs.Curve.{curve_value}
 use Rattle.shape_law.specs.Effect.{IsCurveSum}
-use Rattle.level_table.specs.Lookup.{value-from_index}
+use Rattle.shape_law.specs.Lookup.{value-from_index}
 use Rattle.level_table.specs.Values.{table, within_limits}
 use Rattle.level_table.proofs.ValueLaws.{AreWithin-from_limits, added_at}
 use Rattle.level_table.proofs.LevelsShape.add_curve.Goals as goal

@@ -3,7 +3,7 @@ use Rattle.std.specs.Prelude.{◌+ℤ◌}
 use Rattle.std.specs.Int.{w64}
 use Rattle.std.proofs.lemmas.Int.{ints}
 use Rattle.shape_law.specs.Curve.{curve_value}
-use Rattle.level_table.specs.Lookup.{same_some}
+use Rattle.shape_law.specs.Lookup.{same_some}
 use Rattle.level_table.proofs.MovedTerm.plus.Goals as goal
 use Rattle.level_table.proofs.MovedTerm.plus.Goals.{After-curve_at}
 

@@ -2,7 +2,7 @@ use Rattle.std.proofs.Common.{rules, ◌≡◌, ◌∙◌, Some, refl, arith, to
 use Rattle.std.specs.Prelude.{ℤ, neg_ℤ, ◌+ℤ◌, ◌-ℤ◌, ◌*ℤ◌, FitsSigned}
 use Rattle.std.specs.Int.{w64, int_min}
 use Rattle.std.proofs.lemmas.Int.{ints, to_z-of_z}
-use Rattle.level_table.specs.Lookup.{same_some}
+use Rattle.shape_law.specs.Lookup.{same_some}
 use Rattle.level_table.proofs.ReserveTerm.plus.Goals as goal
 use Rattle.level_table.proofs.ReserveTerm.plus.Goals.{After-min}
 

@@ -1,4 +1,4 @@
--- The look-up by the offset from the first place. (Here and not among the proofs, since a law of the shape rests on it.)
+-- The look-up, by the offset from the first place. (Not among the proofs: shapes that keep tables are built on it.)
 use Rattle.std.proofs.Common.{◌≡◌, ℕ, zero, suc, ◌<◌, ◌≤◌, List, [], ◌∷◌, length, get_or, Option, Some, None, refl, sym, ap, ◌∙◌, inl, inr, arith}
 use Rattle.std.specs.Prelude.{ℤ, pos, negsuc, ◌+ℤ◌, ◌-ℤ◌, ◌<ℤ◌, ◌⊎◌, slice_get}
 use Rattle.std.proofs.lemmas.Int.{ints}
