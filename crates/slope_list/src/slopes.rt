@@ -97,6 +97,7 @@ impl Slopes {
         ensures point { IsPoint at value (shown self.new) }
         ensures count { count_of self.new ≡ 0 }
         ensures room { room_of self.new ≡ room_of self.old }
+        ensures turn { turn_of self.new ≡ turn_of self.old }
     {
         let start = Start {
             first: at,
@@ -139,6 +140,7 @@ impl Slopes {
         ensures shown { shown self.new ≡ shown self.old }
         ensures count { count_of self.new ≡ count_of self.old }
         ensures room { room_of self.new ≡ room_of self.old }
+        ensures turn { turn_of self.new ≡ turn_of self.old }
     {
         let Some(made) = self.made else {
             return None;

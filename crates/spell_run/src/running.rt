@@ -40,6 +40,7 @@ pub trait Running: Sized {
         requires amount { IsAmount value }
         ensures point { IsPoint at value (function self.new) }
         ensures count { count self.new ≡ 0 }
+        ensures turn { turned self.new ≡ turned self.old }
         ensures room { room self.new ≡ room self.old };
 
     /// Takes a step.
@@ -63,6 +64,7 @@ pub trait Running: Sized {
             × MatchOption result (IsEmpty after) (λ r. IsLeast after r.value r.at × IsTurn step (function self.old) r.turn) }
         ensures function { function self.new ≡ function self.old }
         ensures count { count self.new ≡ count self.old }
+        ensures turn { turned self.new ≡ turned self.old }
         ensures room { room self.new ≡ room self.old };
 
     /// The least value and its least place, or None on an empty interval.
