@@ -1,8 +1,18 @@
--- WHAT A RUN OF `hull` DOES, to be read from top to bottom: the commands, what was read of their
--- files, how a run ends, and its outcome (this project's profile; dual value, best responses and
--- payments of a report are those of Gribik, Hogan and Pope 2007). The steps of the commands are in
--- Steps, the reports in hull_report's RightReport and ReportText, and the lines of faults in its
--- FaultLines.
+-- WHAT A RUN OF `hull` DOES, to be read from top to bottom (this project's profile; dual value, best
+-- responses and payments are those of Gribik, Hogan and Pope 2007). `hull_run` ensures IsOutcome, the
+-- record at the foot; before it stand its words: the commands, what was read of their files, and how
+-- a run ends. What follows from it in full words is in Laws: IsPromised for `price`, for one.
+--
+-- `told name` is what the shelf tells of a file's bytes, None where it tells none, and `rose name`
+-- that its count of faults under that name rose. A real file tells nothing: then all that is said is
+-- that there are bytes that fit, and that they are those on the disk is trusted; but the function is
+-- one for all shelves, and over one that tells its bytes it can do nothing else. `gained text` is
+-- that the sink has got the whole text, `short text` that it has a front of it and its count rose.
+-- `(x : T) × P` is read 'there is an x with P', `⊎` 'or', `⊥` 'never'.
+--
+-- The steps of the commands are in Steps; texts and what makes them right in hull_report: ReportText
+-- and RightReport, CheckText, TryText, BoundText, FixedText and RightSide, FaultLines; a case with
+-- its schedule's commitments held in fixed_price's FixedCase.
 use Rattle.std.specs.Prelude.{◌≡◌, ◌⊎◌, ℕ, ℤ, List, length, unsigned_abs, Option, None, Some, Result, Ok, Err, IfSome}
 use Rattle.fixed_price.specs.FixedCase.{fixed_market}
 use Rattle.gap_proof.specs.Candidates.{RowRange, IsFirstLeast}
@@ -57,7 +67,8 @@ IsBoundText budget ahead radius c text =
     (unsigned_abs radius) range.first range.last limit)
 
 -- the text of the run of the case and of the run with the schedule's commitments held, each with
--- what the units of the case as given are paid at its chosen prices
+-- what the units are paid at its chosen prices: of a right side the first case is the one that is
+-- paid, as given in both, and the second the one that was run
 abbrev pub IsFixedText : (budget ahead : ℕ) → PlannedCase → List ℕ → Type 0
 IsFixedText budget ahead c text =
     (hull held : ToldSide) × IsRightSide c.market c.market c.plan budget ahead hull
@@ -99,7 +110,7 @@ command_for (Ok (bound a)) = record {
   IsDue = λ reads. Then (IsInput reads) (IsWithinWork a.run.proposals);
   IsText = λ reads. IsBoundText a.run.proposals a.run.ahead a.radius;
 }
--- what the units are paid at the prices of the case, and at those with its commitments held
+-- what the units are paid at the prices of the case, and at those with the schedule's commitments held
 command_for (Ok (fixed a)) = record {
   name_of = case_and_schedule a.case_name a.schedule_name;
   IsDue = λ reads. Then (IsInput reads) (IsWithinWork a.proposals);
