@@ -4,5 +4,7 @@ pub mod Laws
 pub mod Sizes
 pub mod Inputs
 pub mod Rounds
+pub mod Crews
+pub mod Rooms
 pub mod Bounded
 pub mod Answers

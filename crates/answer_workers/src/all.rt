@@ -1,0 +1,64 @@
+//! All workers at once.
+ghost use Rattle.std.specs.Prelude.{◌≡◌, ℕ, ◌<◌, length, slice_index_or};
+ghost use Rattle.std.specs.List.{All};
+ghost use Rattle.answer_workers.specs.Workers.{IsWorkerOf, HasWorked, HaveWorked, HaveEnded};
+
+use crate::gate::Gate;
+use crate::waiting::Lookout;
+use crate::work::work;
+use crate::worker::{Ended, Worker};
+use board_share::SharedBoard;
+use std::sync::{Mutex, Wait};
+use std::thread;
+use std::thread::Threads;
+
+// Lets each worker of a row work, one after another, and says how they ended.
+fn end_all<R: Wait, G: Gate>(
+    rt: &R,
+    board: &SharedBoard,
+    lookout: &Mutex<Lookout>,
+    workers: &mut [Worker],
+    gate: &G,
+) -> Ended
+    requires { All (IsWorkerOf board.now) workers.old }
+    ensures worked { HaveWorked workers.old workers.new }
+    ensures ended { HaveEnded result workers.new }
+{
+    for k in 0..workers.len() {
+        match work(rt, board, lookout, &mut workers[k], gate) {
+            Ended::Finished => {}
+            Ended::Halted => return Ended::Halted,
+        }
+    }
+    Ended::Finished
+}
+
+/// Answers the tasks of a board: each worker, in a thread of its own, claims a task, answers it by
+/// the least best response of its unit, and posts that, until its claim finds the board finished or
+/// halted. Where a thread can't be started, the work is done on this one. `Finished` comes only
+/// where each worker's seat has seen a finished history, and `Halted` only where one has seen a
+/// halt. No worker halts, and all memory is the workers' own.
+///
+/// There is a worker at least, each has a seat of this board and parts that fit its case, and so it
+/// is afterwards. A seat keeps its caller and what it names, the owner's also how many seats were
+/// made and whose are out; each has seen what it had seen, and more.
+pub fn answer_all<R: Threads + Wait + Sync, G: Gate>(
+    rt: &R,
+    board: &SharedBoard,
+    workers: &mut [Worker],
+    gate: &G,
+) -> Ended
+    requires some { 0 < length workers.old }
+    requires own { All (IsWorkerOf board.now) workers.old }
+    ensures own { All (IsWorkerOf board.now) workers.new }
+    ensures worked { HaveWorked workers.old workers.new }
+    ensures ended { HaveEnded result workers.new }
+{
+    let lookout = Mutex::new(Lookout);
+    let count = workers.len();
+    thread::for_each_mut(rt, workers, count, &|_, worker| {
+        work(rt, board, &lookout, worker, gate);
+    });
+    // The threads hand back no answers, so each worker is asked once more: nothing is left to do.
+    end_all(rt, board, &lookout, workers, gate)
+}
