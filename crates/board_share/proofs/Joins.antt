@@ -10,19 +10,19 @@ use Rattle.atomic_table.proofs.Lists.{set_else}
 use Rattle.board_history.specs.Board.{Content}
 use Rattle.board_share.specs.Views.{BoardEvent, caller_of, Stage, idle, turn, spent, joined, View, at_stage, nobody, glued, longer, without, live_count, ticket_count}
 use Rattle.board_share.specs.Rule.{Shared, Sees, Past, Joined, Callers}
-use Rattle.board_share.specs.Tells.{Mine, told}
+use Rattle.board_share.specs.Tells.{Mine, told, OnlyMade, HasJoined}
 use Rattle.board_share.proofs.Views.{each_set, pairs_set, sum_set, set_at, one_view, there_set}
 use Rattle.board_share.proofs.TicketSteps.{kept_tickets}
 use Rattle.board_share.proofs.SlotSteps.{kept_slot}
 use Rattle.board_share.proofs.HistorySteps.{kept_history}
-use Rattle.board_share.proofs.CallerSteps.{kept_callers}
+use Rattle.board_share.proofs.CallerSteps.{kept_callers, only_made}
 use Rattle.board_share.proofs.Outs.{length-without, in_without, differ_without, all_without, from_without, not_in_without}
 
 idle_turn : (st : Stage) (t : ℕ) → st ≡ idle → st ≡ turn t → ⊥
 idle_turn st t a b = cc
 
-joined_turn : (a b : List BoardEvent) (k c t : ℕ) → joined a b k c ≡ turn t → ⊥
-joined_turn a b k c t e = cc
+joined_turn : (a b : List BoardEvent) (l : List ℕ) (c t : ℕ) → joined a b l c ≡ turn t → ⊥
+joined_turn a b l c t e = cc
 
 spent_turn : (t : ℕ) → spent ≡ turn t → ⊥
 spent_turn t e = cc
@@ -75,15 +75,18 @@ glues : (v w : View) (h : List BoardEvent) → Sees v h → Sees w h → Contain
 glues v w h sv sw out = longer_cases v.seen w.seen Goal
     (λ le. let m = between v.seen w.seen sv.rest sw.rest (sv.whole ∙ sym sw.whole) le in
     let past : All (Past v) sw.rest = all_right (Past v) m.0 sw.rest (subst (All (Past v)) m.2 sv.past) in
-    (record { rest = sw.rest; whole = sw.whole; past = all_both (Past v) (Past w) Both sw.rest past_both past sw.past }, ((m.0, m.1), ([], append-nil w.seen, no_event (λ e. (caller_of e) ≢ w.caller)), counts)))
+    let fresh : All (Past v) m.0 = all_left (Past v) m.0 sw.rest (subst (All (Past v)) m.2 sv.past) in (
+      record { rest = sw.rest; whole = sw.whole; past = all_both (Past v) (Past w) Both sw.rest past_both past sw.past },
+      (record { rest = m.0; whole = m.1; past = fresh }, ([], append-nil w.seen, no_event (λ e. (caller_of e) ≢ w.caller)), counts),
+    ))
     (λ le. let m = between w.seen v.seen sw.rest sv.rest (sw.whole ∙ sym sv.whole) le in
     let whole : All (Past w) (m.0 ++ sv.rest) = subst (All (Past w)) m.2 sw.past in (
       record { rest = sv.rest; whole = sv.whole; past = all_both (Past v) (Past w) Both sv.rest past_both sv.past (all_right (Past w) m.0 sv.rest whole) },
-      (([], append-nil v.seen), (m.0, m.1, all_of (Past w) (λ e. (caller_of e) ≢ w.caller) m.0 (λ e p. p.0) (all_left (Past w) m.0 sv.rest whole)), counts),
+      (record { rest = []; whole = append-nil v.seen; past = no_event (Past v) }, (m.0, m.1, all_of (Past w) (λ e. (caller_of e) ≢ w.caller) m.0 (λ e p. p.0) (all_left (Past w) m.0 sv.rest whole)), counts),
     ))
   where
     Goal : List BoardEvent → Type 0
-    Goal l = let u : View = record v { seen = l; out = without w.caller v.out; stage = joined v.seen w.seen (length v.out) w.caller } in Sees u h × Joined u u.stage
+    Goal l = let u : View = record v { seen = l; out = without w.caller v.out; stage = joined v.seen w.seen v.out w.caller } in Sees u h × Joined u u.stage
 
     Both : BoardEvent → Type 0
     Both e = ((caller_of e) ≢ v.caller) × (v.caller ≡ 0 → Contains (without w.caller v.out) (caller_of e))
@@ -139,16 +142,19 @@ joins key id other v w first st st' s r at0 apart0 at0' =
       out = without w.caller r.out;
       wide = r.wide;
       tickets = kept_tickets r.serving r.next s.words vs (kept_tickets r.serving r.next s.words s.views r.tickets s.words refl refl 0 v both at (sym (ap ticket_count st)) (λ _ h. absurd h)) s.words refl refl other w nobody at' (sym (ap ticket_count st')) (λ _ h. absurd h);
-      slot = kept_slot r.serving s.homes vs r.spot (kept_slot r.serving s.homes s.views r.spot r.slot 0 v both at (λ t. idle_turn v.stage t st) (λ t. joined_turn v.seen w.seen (length v.out) w.caller t)) other w nobody at' (λ t. idle_turn w.stage t st') (λ t. spent_turn t);
+      slot = kept_slot r.serving s.homes vs r.spot (kept_slot r.serving s.homes s.views r.spot r.slot 0 v both at (λ t. idle_turn v.stage t st) (λ t. joined_turn v.seen w.seen v.out w.caller t)) other w nobody at' (λ t. idle_turn w.stage t st') (λ t. spent_turn t);
       counted = kept_history key.setup r.history s.words s.homes vs
-          (kept_history key.setup r.history s.words s.homes s.views r.counted s.words s.homes refl r.counted.kept 0 both (λ t e. absurd (joined_turn v.seen w.seen (length v.out) w.caller t e)) (λ _. (g.0, r.counted.names 0 v at live)))
+          (kept_history key.setup r.history s.words s.homes s.views r.counted s.words s.homes refl r.counted.kept 0 both (λ t e. absurd (joined_turn v.seen w.seen v.out w.caller t e)) (λ _. (g.0, r.counted.names 0 v at live)))
           s.words s.homes refl r.counted.kept other nobody (λ t e. absurd (spent_turn t e)) (λ l. absurd (omega arith));
       callers = fewer_callers r.made r.out r.history s.views o v other w both at live ne at_w live_w refl refl refl refl g.1 at';
     }
 
+abbrev IsMade : View → BoardEvent → Type 0
+IsMade v e = (caller_of e) < v.made
+
 -- the read after a join
-pub tells : (key : Content) (n id : ℕ) (me : Mine) (a b : List BoardEvent) (k c : ℕ) → me.0.stage ≡ joined a b k c → Allows (Shared key) n id me 0 (λ x. x) (told (step n 0 0 0 none) me)
-tells key n id me a b k c st s r deep at _ =
+pub tells : (key : Content) (n id : ℕ) (me : Mine) (a b : List BoardEvent) (l : List ℕ) (c : ℕ) → me.0.stage ≡ joined a b l c → Allows (Shared key) n id me 0 (λ x. x) (told (step n 0 0 0 none) me)
+tells key n id me a b l c st s r deep at _ =
     let v : View = me.0 in let w : View = at_stage v idle in let live : live_count v.stage ≡ 1 = ap live_count st in let sees = r.counted.sees id v at live in (
       w,
       keeps,
@@ -162,10 +168,19 @@ tells key n id me a b k c st s r deep at _ =
         out = r.out;
         wide = r.wide;
         tickets = kept_tickets r.serving r.next s.words s.views r.tickets s.words refl refl id v w at (sym (ap ticket_count st)) (λ _ h. absurd h);
-        slot = kept_slot r.serving s.homes s.views r.spot r.slot id v w at (λ t e. joined_turn a b k c t (sym st ∙ e)) (λ t. idle_turn w.stage t refl);
+        slot = kept_slot r.serving s.homes s.views r.spot r.slot id v w at (λ t e. joined_turn a b l c t (sym st ∙ e)) (λ t. idle_turn w.stage t refl);
         counted = kept_history key.setup r.history s.words s.homes s.views r.counted s.words s.homes refl r.counted.kept id w (λ t e. absurd (idle_turn w.stage t refl e))
             (λ _. (record { rest = sees.rest; whole = sees.whole; past = sees.past }, r.counted.names id v at live));
         callers = kept_callers r.made r.out r.history s.views r.callers id v w at (sym live) refl refl refl tt;
       },
-      (refl, refl, r.callers.joins id v at),
+      (refl, refl, r.callers.joins id v at, (λ who. all_left (IsMade v) v.seen sees.rest (subst (All (IsMade v)) (sym sees.whole) (only_made r.made r.out r.history s.views r.callers id v at live who)))),
     )
+
+-- what a join comes to
+pub has_joined : (v w u : View) → u ≡ at_stage (glued v w) idle → Joined (glued v w) (glued v w).stage → OnlyMade (glued v w) (glued v w).seen → HasJoined v w u
+has_joined v w u is kept made = subst (HasJoined v w) (sym is) record {
+  fresh = record { rest = kept.0.rest; whole = kept.0.whole; past = kept.0.past };
+  made = made;
+  others = kept.1;
+  fewer = kept.2;
+}

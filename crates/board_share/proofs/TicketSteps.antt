@@ -16,7 +16,7 @@ ticket_le_live idle = omega arith
 ticket_le_live (waits t) = omega arith
 ticket_le_live (turn t) = omega arith
 ticket_le_live spent = omega arith
-ticket_le_live (joined a b k c) = omega arith
+ticket_le_live (joined a b l c) = omega arith
 
 pub tickets_le_live : (vs : List View) → tickets_of vs ≤ live_of vs
 tickets_le_live vs = sum_by-le-sum_by (λ (v : View). ticket_count v.stage) (λ (v : View). live_count v.stage) vs (λ v. ticket_le_live v.stage)

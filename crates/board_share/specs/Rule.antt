@@ -18,7 +18,7 @@ HasTicket idle t = ⊥
 HasTicket (waits u) t = u ≡ t
 HasTicket (turn u) t = u ≡ t
 HasTicket spent t = ⊥
-HasTicket (joined a b k c) t = ⊥
+HasTicket (joined a b l c) t = ⊥
 
 abbrev pub tickets_of : List View → ℕ
 tickets_of vs = sum_by (λ (v : View). ticket_count v.stage) vs
@@ -70,9 +70,6 @@ pub record Counted (about : Setup) (history : List BoardEvent) (words : List ℕ
   pub sees : (j : ℕ) (v : View) → IsAt views j v → live_count v.stage ≡ 1 → Sees v history
   pub names : (j : ℕ) (v : View) → IsAt views j v → live_count v.stage ≡ 1 → v.setup ≡ about
 
-abbrev pub StartsWith : List BoardEvent → List BoardEvent → Type 0
-StartsWith h start = (rest : List BoardEvent) × (start ++ rest ≡ h)
-
 -- no number is twice in the list
 abbrev pub Differ : List ℕ → Type 0
 Differ [] = Unit {0}
@@ -82,13 +79,17 @@ Differ (x ∷ xs) = (Contains xs x → ⊥) × Differ xs
 abbrev pub GoesOnWithout : ℕ → List BoardEvent → List BoardEvent → Type 0
 GoesOnWithout c h start = (rest : List BoardEvent) × (start ++ rest ≡ h) × All (λ (e : BoardEvent). caller_of e ≢ c) rest
 
+-- the view where another history was seen and other callers' seats were out
+abbrev pub with_seen : View → List BoardEvent → List ℕ → View
+with_seen v seen out = record v { seen = seen; out = out }
+
 -- what the owner keeps between the two reads of a join
 abbrev pub Joined : View → Stage → Type 0
 Joined v idle = Unit {0}
 Joined v (waits t) = Unit {0}
 Joined v (turn t) = Unit {0}
 Joined v spent = Unit {0}
-Joined v (joined a b k c) = StartsWith v.seen a × GoesOnWithout c v.seen b × (k ≡ length v.out + 1)
+Joined v (joined a b l c) = Sees (with_seen v a l) v.seen × GoesOnWithout c v.seen b × (length l ≡ length v.out + 1)
 
 -- part 4: the callers, and whose events there can be
 pub record Callers (made : ℕ) (out : List ℕ) (history : List BoardEvent) (views : List View) : Type 0 where

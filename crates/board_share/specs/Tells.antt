@@ -3,7 +3,7 @@ use Rattle.std.specs.Prelude.{◌≡◌, ◌≢◌, ◌⊎◌, ℕ, ◌+◌, ◌
 use Rattle.atomic_table.specs.Table.{Me, Step, rest}
 use Rattle.board_history.specs.Board.{Content}
 use Rattle.board_share.specs.Views.{BoardEvent, caller_of, content, Stage, idle, waits, turn, spent, joined, View, at_stage}
-use Rattle.board_share.specs.Rule.{Sees, Joined, StartsWith, GoesOnWithout}
+use Rattle.board_share.specs.Rule.{Sees, Joined, GoesOnWithout}
 
 abbrev pub Mine : Type 0
 Mine = Me Content View
@@ -27,7 +27,7 @@ ticket_of idle = 0
 ticket_of (waits t) = t
 ticket_of (turn t) = t
 ticket_of spent = 0
-ticket_of (joined a b k c) = 0
+ticket_of (joined a b l c) = 0
 
 abbrev pub looked : Step Content → Mine → ℕ → Mine → Type 0
 looked st m n m' =
@@ -56,7 +56,7 @@ Follows c h h' = (h' ≡ h) ⊎ ((e : BoardEvent) × (caller_of e ≡ c) × (h' 
 
 -- what the owner's second read of a join tells
 abbrev pub told : Step Content → Mine → ℕ → Mine → Type 0
-told st m n m' = (m'.0 ≡ at_stage m.0 idle) × (m'.1 ≡ m.1) × Joined m.0 m.0.stage
+told st m n m' = (m'.0 ≡ at_stage m.0 idle) × (m'.1 ≡ m.1) × Joined m.0 m.0.stage × OnlyMade m.0 m.0.seen
 
 -- One call: `tells` holds of the board at a history that begins with what the seat had seen and goes on with no event of
 -- its caller, for the owner only with events of callers whose seats were out. That history is seen afterwards, with the
@@ -68,8 +68,14 @@ pub record Called (tells : Content → Type 0) (after : Content → Content) (v 
   pub answered : tells (content v.setup before)
   pub seen : w ≡ record v { seen = (after (content v.setup before)).events }
 
--- The owner has seen what both had seen, and of the joined caller what its seat had seen. One caller fewer is out
+-- the history apart, the seat knows what it knew
+abbrev pub KeepsRest : View → View → Type 0
+KeepsRest v w = (w.caller ≡ v.caller) × (w.setup ≡ v.setup) × (w.made ≡ v.made) × (w.out ≡ v.out)
+
+-- The owner, who knew v, takes in a seat that knew w, and then knows u. What it comes to see is of callers whose seats
+-- were out and were made, and of the joined caller it sees what that seat had seen. One caller fewer is out
 pub record HasJoined (v w u : View) : Type 0 where
-  pub own : StartsWith u.seen v.seen
+  pub fresh : Sees v u.seen
+  pub made : OnlyMade v u.seen
   pub others : GoesOnWithout w.caller u.seen w.seen
   pub fewer : length v.out ≡ length u.out + 1

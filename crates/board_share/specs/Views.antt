@@ -17,13 +17,13 @@ abbrev pub content : Setup → List BoardEvent → Content
 content b h = record { setup = b; events = h }
 
 -- A seat has no ticket where it is idle. `joined` is the owner's between the two reads of a join: what it and the
--- other had seen, how many callers were out, and the other's caller number
+-- other had seen, the callers whose seats were out, and the other's caller number
 pub data Stage : Type 0 where
   idle : Stage
   waits : ℕ → Stage
   turn : ℕ → Stage
   spent : Stage
-  joined : List BoardEvent → List BoardEvent → ℕ → ℕ → Stage
+  joined : (own other : List BoardEvent) → (out : List ℕ) → (caller : ℕ) → Stage
 
 -- `setup` is what the seat names: what its board was made for. `made` and `out` are the owner's: how many seats there
 -- were, and the callers whose seats are out
@@ -60,14 +60,14 @@ ticket_count idle = 0
 ticket_count (waits t) = 1
 ticket_count (turn t) = 1
 ticket_count spent = 0
-ticket_count (joined a b k c) = 0
+ticket_count (joined a b l c) = 0
 
 abbrev pub live_count : Stage → ℕ
 live_count idle = 1
 live_count (waits t) = 1
 live_count (turn t) = 1
 live_count spent = 0
-live_count (joined a b k c) = 1
+live_count (joined a b l c) = 1
 
 -- the list with c taken out once
 abbrev pub without : ℕ → List ℕ → List ℕ
@@ -89,5 +89,5 @@ abbrev pub glued : View → View → View
 glued v w = record v {
   seen = longer v.seen w.seen;
   out = without w.caller v.out;
-  stage = joined v.seen w.seen (length v.out) w.caller;
+  stage = joined v.seen w.seen v.out w.caller;
 }

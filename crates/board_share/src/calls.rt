@@ -11,7 +11,7 @@ ghost use Rattle.board_core.specs.Replies.{claim_of, posted_of};
 ghost use Rattle.board_core.specs.Stored.{answer_of};
 ghost use Rattle.board_core.specs.Tasks.{LeavesTask};
 ghost use Rattle.board_share.specs.Seats.{view_of, IsSeatOf, IsSameBoard, IsOwner};
-ghost use Rattle.board_share.specs.Tells.{Called, HasJoined};
+ghost use Rattle.board_share.specs.Tells.{Called, HasJoined, KeepsRest};
 ghost use Rattle.board_share.specs.Unchanged.{UnlessGiven, UnlessTaken};
 ghost use Rattle.board_share.specs.Views.{caller_of, content, first_view, cut_left, cut_right, longer, without};
 
@@ -32,6 +32,14 @@ impl Seat {
         ensures { result ≡ (view_of self.now).caller }
     {
         self.caller
+    }
+
+    /// What holds of every seat at any time: it has seen a legal history, and its caller number is below the number of callers.
+    pub fn is_legal(&self)
+        ensures legal { IsLegalHistory (view_of self.now).setup (view_of self.now).seen }
+        ensures caller { (view_of self.now).caller < (view_of self.now).setup.callers }
+    {
+        let _place = &self.place;
     }
 }
 
@@ -83,11 +91,13 @@ impl SharedBoard {
     }
 
     /// Claims a task as the seat's caller, with the answers of `Board::claim`. The call waits for its turn, and the seat has
-    /// then seen all of the history. Takes no memory.
+    /// then seen all of the history: beside its own event, what is new to it is of other callers, and what is new to the
+    /// owner of callers whose seats are out. Takes no memory.
     pub fn claim<R: Wait>(&self, rt: &R, seat: &mut Seat, into: &mut Task) -> Claim
         requires own { IsSeatOf self.now seat.old }
         requires room { IsTaskFor (view_of seat.old).setup.market.periods into.old }
         ensures board { IsSameBoard seat.old seat.new }
+        ensures same { KeepsRest (view_of seat.old) (view_of seat.new) }
         ensures call { Called
             (λ b. (result ≡ claim_of (claim_answer b)) × LeavesTask b (claim_answer b) into.old into.new)
             (λ b. after_claim b (view_of seat.old).caller) (view_of seat.old) (view_of seat.new) }
@@ -106,6 +116,7 @@ impl SharedBoard {
         requires fit { Fits (task_unit task.now) (prices_of task.now.prices) (schedule_of answer.now.response) }
         requires earned { earnings (task_unit task.now) (prices_of task.now.prices) (schedule_of answer.now.response) ≡ answer.now.earned }
         ensures board { IsSameBoard seat.old seat.new }
+        ensures same { KeepsRest (view_of seat.old) (view_of seat.new) }
         ensures call { Called
             (λ b. result ≡ posted_of (post_answer b (view_of seat.old).caller task.now.proposal task.now.unit (prices_of task.now.prices) (task_unit task.now) (answer_of answer.now)))
             (λ b. after_post b (view_of seat.old).caller task.now.proposal task.now.unit (prices_of task.now.prices) (task_unit task.now) (answer_of answer.now))
@@ -121,6 +132,7 @@ impl SharedBoard {
     pub fn halt<R: Wait>(&self, rt: &R, seat: &mut Seat)
         requires { IsSeatOf self.now seat.old }
         ensures board { IsSameBoard seat.old seat.new }
+        ensures same { KeepsRest (view_of seat.old) (view_of seat.new) }
         ensures call { Called (λ b. Unit {0}) (λ b. after_halt b (view_of seat.old).caller) (view_of seat.old) (view_of seat.new) }
         ensures legal { IsLegalHistory (view_of seat.new).setup (view_of seat.new).seen }
     {
@@ -150,8 +162,9 @@ impl SharedBoard {
         })
     }
 
-    /// The owner's seat takes in one that was split from it: it has then seen the longer of what the two had seen. Takes no
-    /// memory.
+    /// The owner's seat takes in one that was split from it: it has then seen the longer of what the two had seen, which the
+    /// other begins. What it comes to see is of callers whose seats were out, and the joined caller's events in it are those
+    /// that its seat had seen. Takes no memory.
     pub fn join(&self, seat: &mut Seat, other: Seat)
         requires own { IsSeatOf self.now seat.old × IsOwner seat.old × IsSameBoard seat.old other }
         ensures board { IsSameBoard seat.old seat.new × IsOwner seat.new }

@@ -11,7 +11,7 @@ ghost use Rattle.board_core.specs.Replies.{claim_of, posted_of};
 ghost use Rattle.board_core.specs.Stored.{answer_of};
 ghost use Rattle.board_core.specs.Tasks.{LeavesTask};
 ghost use Rattle.board_share.specs.Rule.{Joined};
-ghost use Rattle.board_share.specs.Tells.{HasTaken, Follows, hand_history, Called};
+ghost use Rattle.board_share.specs.Tells.{HasTaken, Follows, hand_history, Called, OnlyMade};
 ghost use Rattle.board_share.specs.Views.{waits, turn, idle, at_stage, glued};
 
 use crate::plays::{Draw, Glue, Grow, Look, Pass, Told};
@@ -168,6 +168,7 @@ impl SharedBoard {
         ensures same { (place.new.table_id ≡ place.old.table_id) × (place.new.id ≡ place.old.id) × (place.new.me.1 ≡ place.old.me.1) }
         ensures glued { place.new.me.0 ≡ at_stage (glued place.old.me.0 other.me.0) idle }
         ensures joined { Joined (glued place.old.me.0 other.me.0) (glued place.old.me.0 other.me.0).stage }
+        ensures made { OnlyMade (glued place.old.me.0 other.me.0) (glued place.old.me.0 other.me.0).seen }
     {
         self.table.shared.join_seat::<Glue>(place, other);
         self.table.shared.load::<Told>(place, LENGTH);

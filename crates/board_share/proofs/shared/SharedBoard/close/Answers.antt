@@ -1,7 +1,15 @@
-use Rattle.std.proofs.Common.{sym, ◌∙◌}
+use Rattle.std.proofs.Common.{◌≡◌, length, sym, ap, ◌∙◌}
 use mathlib.Core.Option.{some-injective}
+use Rattle.board_share.specs.Seats.{SeatValue}
+use Rattle.board_share.specs.Views.{content}
 use Rattle.board_share.proofs.Ends.{ends_with}
 use Rattle.board_share.proofs.shared.SharedBoard.close.Goals as goal
 
 pub returns : goal.returns
-returns c = let s = c.args.seat in let e = ends_with _ _ _ _ _ c.close_with-closed.ensures.values.2 (s.of_owner (sym s.of_caller ∙ c.requires.own.1)).0 s.at_rest.0 c.requires.alone in c.close.ensures ∙ some-injective _ _ (sym c.take-board.ensures.value ∙ e)
+returns c =
+    let s = c.seat in
+    let v = s.inside.place.me.0 in
+    let who : v.caller ≡ 0 = ap (λ (x : SeatValue). x.view.caller) s.view_is ∙ c.requires.own.1 in
+    let alone : length v.out ≡ 1 = ap (λ (x : SeatValue). length x.view.out) s.view_is ∙ c.requires.alone in
+    let e = ends_with _ _ _ _ _ c.close_with-closed.ensures.values.2 (s.invariant.of_owner (sym s.invariant.of_caller ∙ who)).0 s.invariant.at_rest alone in
+    c.close.ensures ∙ (some-injective _ _ (sym c.take-board.ensures.value ∙ e) ∙ ap (λ (x : SeatValue). content x.view.setup x.view.seen) s.view_is)

@@ -1,4 +1,4 @@
-use Rattle.std.proofs.Common.{rules, ap, length}
+use Rattle.std.proofs.Common.{rules, ap}
 use Rattle.board_share.proofs.Joins.{joins, tells}
 use Rattle.board_share.proofs.shared.SharedBoard.join_at.Goals as goal
 
@@ -7,4 +7,4 @@ join_seat-requires c = (search rules, search rules, search rules, search rules, 
 
 pub load-requires : goal.load-requires
 load-requires c = let v = c.args.place.now.me.0 in let w = c.args.other.me.0 in
-    (search rules, search rules, tells _ _ _ c.join_seat.new.seat.me v.seen w.seen (length v.out) w.caller (ap (λ m. m.0.stage) c.join_seat.ensures.2))
+    (search rules, search rules, tells _ _ _ c.join_seat.new.seat.me v.seen w.seen v.out w.caller (ap (λ m. m.0.stage) c.join_seat.ensures.2))
