@@ -87,5 +87,5 @@ pub post_goes : (tells : Content → Type 0) (n u : ℕ) (ρ : PriceLists) (x : 
 post_goes tells n u ρ x a v w c =
     called tells (λ b. after_post b v.caller n u ρ x a) v w
     (λ h. answer_adds v h (post_event (rules_of v.setup) (posts h) v.caller n u a) (post_reply (rules_of v.setup) h (differs_from v.setup u ρ x) v.caller n u a)
-        (post_came v (is_closed (rules_of v.setup) (with_post (posts h) v.caller n u a) n) n u a))
+    (post_came v (is_closed (rules_of v.setup) (with_post (posts h) v.caller n u a) n) n u a))
     c

@@ -1,7 +1,7 @@
 -- Rows of workers, of which one after another works.
-use Rattle.std.proofs.Common.{◌≡◌, ◌≢◌, ℕ, zero, suc, ◌<◌, List, [], ◌∷◌, length, get_or, set, sym, subst, ap, ◌∙◌, refl, arith}
-use Rattle.std.specs.List.{All, AllZip}
-use Rattle.std.proofs.lemmas.List.{get_or-set_same, get_or-set_other, get_or_default}
+use Rattle.std.proofs.Common.{◌≡◌, ◌≢◌, ℕ, suc, ◌+◌, ◌<◌, List, [], ◌∷◌, length, get_or, set, sym, subst, arith}
+use Rattle.std.specs.List.{All, Contains}
+use Rattle.std.proofs.lemmas.List.{get_or-set_same, get_or-set_other, get_or_default, length-set}
 use Rattle.std.proofs.lemmas.List.Elements.{All-cons, All-head, All-tail}
 use native.Mathlib.Decide.{ℕ_discrete}
 use Rattle.board_share.specs.declared.shared.SharedBoard.{SharedBoard}
@@ -32,13 +32,16 @@ module _ (old now : List Worker) (k : ℕ) (y : Worker) (inside : k < length now
       pick (yes e) = subst (λ (i : ℕ). P i (get_or (set now k y) i d)) (sym e) (subst (P k) (sym (get_or-set_same now k y d inside)) here)
       pick (no n) = subst (P j) (sym (get_or-set_other now k j y d n)) (other j n)
 
-  pub one_works : HasWorked (get_or now k y) y → EachWorked old now → EachWorked old (set now k y)
-  one_works works worked j d l = at_set (λ i w. i < length old → HasWorked (get_or old i d) w) d
-      (λ at. works_on (get_or old k d) (get_or now k d) y (worked k d at) (subst (λ (w : Worker). HasWorked w y) (get_or_default now k y d inside) works))
+  pub one_works : (x : Worker) → HasWorked (get_or now k x) y → EachWorked old now → EachWorked old (set now k y)
+  one_works x works worked j d l = at_set (λ i w. i < length old → HasWorked (get_or old i d) w) d
+      (λ at. works_on (get_or old k d) (get_or now k d) y (worked k d at) (subst (λ (w : Worker). HasWorked w y) (get_or_default now k x d inside) works))
       (λ i n at. worked i d at) j l
 
-  pub one_finishes : HasFinished y → EachFinished k now → EachFinished (suc k) (set now k y)
-  one_finishes ends finished j d l = at_set (λ i w. i < suc k → HasFinished w) d (λ at. ends) (λ i n at. finished i d (omega (arith, n, at))) j l
+  pub one_there : Contains (set now k y) y
+  one_there = let long = length-set now k y in (k, omega (arith, inside, long), get_or-set_same now k y y inside)
+
+  pub one_finishes : HasFinished y → EachFinished k now → EachFinished (k + 1) (set now k y)
+  one_finishes ends finished j d l = at_set (λ i w. i < k + 1 → HasFinished w) d (λ at. ends) (λ i n at. finished i d (omega (arith, n, at))) j l
 
 pub zip_worked : (old now : List Worker) → length now ≡ length old → EachWorked old now → HaveWorked old now
 zip_worked [] [] same worked = tt

@@ -1,8 +1,7 @@
 -- A worker that has worked still is one of its board.
 use Rattle.std.proofs.Common.{◌≡◌, ℕ, length, ap, ◌∙◌, refl, sym, subst}
 use Rattle.board_history.specs.Board.{Setup}
-use Rattle.board_share.specs.Seats.{view_of, IsSameBoard}
-use Rattle.board_share.specs.declared.seat.Seat.{Seat}
+use Rattle.board_share.specs.Seats.{SeatValue, view_of, IsSameBoard}
 use Rattle.board_share.specs.declared.shared.SharedBoard.{SharedBoard}
 use Rattle.uc_model.specs.Data.{AnyUnit, Thermal, Flat, Bid, PriceLists, Market}
 use Rattle.slope_list.specs.declared.slopes.Slopes.{Slopes}
@@ -38,7 +37,7 @@ answer_long (Flat f) π a r = r.fit.best.feasible.schedule.on
 answer_long (Bid b) π a r = r.fit.best.feasible.schedule.on
 
 -- a claim leaves the seat further on, and maybe another task
-pub parts_after : (old : Worker) (seat : Seat) (task : Task) → IsSameBoard old.seat seat → HasParts (market_at old.seat) old → IsTaskFor (market_at seat).periods task
+pub parts_after : (old : Worker) (seat : SeatValue) (task : Task) → IsSameBoard old.seat seat → HasParts (market_at old.seat) old → IsTaskFor (market_at seat).periods task
     → HasParts (market_at seat) (record { seat = seat; bench = old.bench; task = task; answer = old.answer })
 parts_after old seat task same parts room =
     let m : market_at old.seat ≡ market_at seat = ap (λ (s : Setup). s.market) (sym same.1) in record {
@@ -48,7 +47,7 @@ parts_after old seat task same parts room =
     }
 
 -- a post leaves it further on, and the bench and the answer as the answer left them
-pub parts_posted : (old : Worker) (seat : Seat) (bench : Bench Slopes) (answer : Answered) → IsSameBoard old.seat seat → HasParts (market_at old.seat) old
+pub parts_posted : (old : Worker) (seat : SeatValue) (bench : Bench Slopes) (answer : Answered) → IsSameBoard old.seat seat → HasParts (market_at old.seat) old
     → ((periods : ℕ) (u : AnyUnit) → Suffices periods u old.bench → Suffices periods u bench) → IsResponse (task_unit old.task) (prices_of old.task.prices) answer
     → HasParts (market_at seat) (record { seat = seat; bench = bench; task = old.task; answer = answer })
 parts_posted old seat bench answer same parts keeps response =

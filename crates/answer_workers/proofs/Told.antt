@@ -1,7 +1,6 @@
 -- What the answer of a claim tells.
-use Rattle.std.proofs.Common.{◌≡◌, ℕ, true, Some, refl, sym, ap, ◌∙◌, subst}
-use Rattle.std.specs.List.{list_any}
-use Rattle.board_history.specs.Board.{Content, rules_of}
+use Rattle.std.proofs.Common.{◌≡◌, ℕ, refl, sym, ap, ◌∙◌, subst}
+use Rattle.board_history.specs.Board.{Content}
 use Rattle.board_history.specs.Calls.{claim_answer}
 use Rattle.board_history.specs.Laws.{ClaimsMean}
 use Rattle.board_history.specs.Rounds.{ClaimReply, Finished, Halted, GivenTask, NotYet}

@@ -1,13 +1,12 @@
 -- Workers at a shared board, and what their work does (this project's profile).
-use Rattle.std.specs.Prelude.{◌≡◌, ◌≢◌, ◌⊎◌, ℕ, ⊤, true, List, ◌++◌, length}
+use Rattle.std.specs.Prelude.{◌≡◌, ◌≢◌, ◌⊎◌, ⊤, true, List, ◌++◌, length}
 use Rattle.std.specs.List.{All, AllZip, Contains, list_any}
 use Rattle.board_history.specs.Calls.{has_finished}
 use Rattle.board_history.specs.Rounds.{Stopped, is_halt}
 use Rattle.board_core.specs.declared.replies.Claim.{Claim}
 use Rattle.board_core.specs.declared.replies.Claim.TheVariants as claim
-use Rattle.board_share.specs.Seats.{view_of, IsSeatOf, IsSameBoard}
+use Rattle.board_share.specs.Seats.{SeatValue, view_of, IsSeatOf, IsSameBoard}
 use Rattle.board_share.specs.Views.{BoardEvent, View, caller_of, content}
-use Rattle.board_share.specs.declared.seat.Seat.{Seat}
 use Rattle.board_share.specs.declared.shared.SharedBoard.{SharedBoard}
 use Rattle.uc_model.specs.Data.{Market}
 use Rattle.uc_model.specs.PlainCases.{task_unit}
@@ -26,7 +25,7 @@ pub record HasParts (m : Market) (w : Worker) : Type 0 where
   pub task : IsTaskFor m.periods w.task
   pub answer : length (schedule_of w.answer.response).on ≡ m.periods
 
-abbrev pub market_at : Seat → Market
+abbrev pub market_at : SeatValue → Market
 market_at s = (view_of s).setup.market
 
 -- it has a seat of the board, and parts that fit the board's case

@@ -12,6 +12,42 @@ use std::sync::{Mutex, Wait};
 use std::thread;
 use std::thread::Threads;
 
+fn work_one<R: Wait, G: Gate>(
+    rt: &R,
+    board: &SharedBoard,
+    lookout: &Mutex<Lookout>,
+    worker: &mut Worker,
+    gate: &G,
+)
+    requires { IsWorkerOf board.now worker.old }
+    ensures { HasWorked worker.old worker.new }
+{
+    let _ = work(rt, board, lookout, worker, gate);
+}
+
+// Lets each worker work, in a thread of its own where one can be started.
+fn work_each<R: Threads + Wait + Sync, G: Gate>(
+    rt: &R,
+    board: &SharedBoard,
+    lookout: &Mutex<Lookout>,
+    workers: &mut [Worker],
+    gate: &G,
+)
+    requires some { 0 < length workers.old }
+    requires own { All (IsWorkerOf board.now) workers.old }
+    ensures own { All (IsWorkerOf board.now) workers.new }
+    ensures count { length workers.new ≡ length workers.old }
+    ensures each { (i : ℕ) (d : _) → i < length workers.old
+        → HasWorked (slice_index_or workers.old i d) (slice_index_or workers.new i d) }
+{
+    let count = workers.len();
+    let one = |_: usize, worker: &mut Worker|
+        requires { IsWorkerOf board.now worker.now }
+        ensures { HasWorked worker.entry.now worker.exit.now }
+    { work_one(rt, board, lookout, worker, gate) };
+    thread::for_each_mut(rt, workers, count, &one);
+}
+
 // Lets each worker of a row work, one after another, and says how they ended.
 fn end_all<R: Wait, G: Gate>(
     rt: &R,
@@ -21,6 +57,7 @@ fn end_all<R: Wait, G: Gate>(
     gate: &G,
 ) -> Ended
     requires { All (IsWorkerOf board.now) workers.old }
+    ensures own { All (IsWorkerOf board.now) workers.new }
     ensures worked { HaveWorked workers.old workers.new }
     ensures ended { HaveEnded result workers.new }
 {
@@ -55,10 +92,7 @@ pub fn answer_all<R: Threads + Wait + Sync, G: Gate>(
     ensures ended { HaveEnded result workers.new }
 {
     let lookout = Mutex::new(Lookout);
-    let count = workers.len();
-    thread::for_each_mut(rt, workers, count, &|_, worker| {
-        work(rt, board, &lookout, worker, gate);
-    });
+    work_each(rt, board, &lookout, workers, gate);
     // The threads hand back no answers, so each worker is asked once more: nothing is left to do.
     end_all(rt, board, &lookout, workers, gate)
 }

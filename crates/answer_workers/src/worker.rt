@@ -34,12 +34,8 @@ pub enum Ended {
 impl Worker {
     /// A worker for a case of so many periods, whose thermal units have at most so many cost
     /// points. `AllocError` is want of memory; the seat is then dropped.
-    pub fn make(
-        alloc: Global,
-        seat: Seat,
-        periods: u32,
-        points: u32,
-    ) -> Result<Worker, AllocError>
+    pub fn make(alloc: Global, seat: Seat, periods: u32, points: u32) -> Result<Worker, AllocError>
+        requires some { 1 ≤ periods }
         requires periods { periods ≤ 168 }
         requires points { points ≤ 32 }
         ensures seat { IfOk result (λ w. w.seat ≡ seat) }

@@ -15,4 +15,4 @@ pub returns-clause-told : goal.returns-clause-told
 returns-clause-told g c =
     let after = parts_after c.args.worker.now c.claim.new.seat c.claim.new.into c.claim.ensures.board c.requires.parts c.claim.ensures.room in
     told c.claims_mean.ensures c.claim.result c.args.worker.now.task _ (view_of c.args.worker.now.seat) (record c.args.worker.now { seat = c.claim.new.seat; task = c.claim.new.into })
-        c.claim.ensures.call c.claim.ensures.unchanged after.bench
+    c.claim.ensures.call c.claim.ensures.unchanged after.bench
