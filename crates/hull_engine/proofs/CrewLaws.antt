@@ -1,7 +1,7 @@
 -- The seats of a run's workers, from the splits to the joins: nobody halts, so the board has finished.
-use Rattle.std.proofs.Common.{◌≡◌, ◌≢◌, ℕ, zero, suc, ◌+◌, ◌<◌, Bool, true, false, ◌||◌, ◌⊎◌, inl, inr, ⊎_elim, Some, List, [], ◌∷◌, ◌++◌, length, subst, sym, ap, ◌∙◌, refl, arith, append_assoc, append-nil, length-append}
+use Rattle.std.proofs.Common.{◌≡◌, ◌≢◌, ℕ, zero, suc, ◌+◌, ◌<◌, Bool, true, false, ◌||◌, ◌⊎◌, inl, inr, ⊎_elim, Some, List, [], ◌∷◌, ◌++◌, length, take, drop, subst, sym, ap, ◌∙◌, refl, arith, append_assoc, append-nil, length-append}
 use Rattle.std.specs.List.{All, AllZip, Contains, list_any}
-use Rattle.std.proofs.lemmas.List.Elements.{All-nil, All-cons, All-head, All-tail, All-append, All-weaker, All-pop, All-push, Contains-push_cases}
+use Rattle.std.proofs.lemmas.List.Elements.{All-nil, All-cons, All-head, All-tail, All-append, All-weaker, All-pop, All-push, Contains-push, Contains-push_cases, Contains-append_left}
 use Rattle.std.proofs.lemmas.List.Folds.{list_any-append}
 use Rattle.std.proofs.lemmas.Slice.Zip.{AllZip-long}
 use Rattle.uc_model.specs.Runs.{Fits}
@@ -9,18 +9,18 @@ use Rattle.board_history.specs.Board.{Setup, IsLegalHistory}
 use Rattle.board_history.specs.Calls.{has_finished}
 use Rattle.board_history.specs.Laws.{FinishedStays}
 use Rattle.board_history.specs.Rounds.{Given, Taken, Closing, Stopped, is_halt}
-use Rattle.board_share.specs.Rule.{StartsWith, GoesOnWithout, Past, Sees}
-use Rattle.board_share.specs.Seats.{view_of, IsSeatOf, IsSameBoard, IsOwner}
+use Rattle.board_core.specs.Boards.{empty_board}
+use Rattle.board_share.specs.Rule.{GoesOnWithout, Past, Sees}
+use Rattle.board_share.specs.Seats.{SeatValue, view_of, IsSeatOf, IsSameBoard, IsOwner}
 use Rattle.board_share.specs.Tells.{HasJoined}
-use Rattle.board_share.specs.Views.{BoardEvent, View, caller_of, content, cut_left, cut_right, without}
-use Rattle.board_share.specs.declared.seat.Seat.{Seat}
+use Rattle.board_share.specs.Views.{BoardEvent, View, caller_of, content, cut_left, cut_right, first_view, without}
 use Rattle.board_share.specs.declared.shared.SharedBoard.{SharedBoard}
 use Rattle.answer_workers.specs.Answers.{IsBenchOf}
 use Rattle.answer_workers.specs.Workers.{IsWorkerOf, HasParts, Came, GoesOn, HasWorked, HaveWorked, HaveEnded, HasSeenHalt, HasFinished}
 use Rattle.answer_workers.specs.declared.worker.Worker.{Worker}
 use Rattle.answer_workers.specs.declared.worker.Ended.{Ended}
 use Rattle.answer_workers.specs.declared.worker.Ended.TheVariants.{Finished, Halted}
-use Rattle.hull_engine.specs.Crews.{IsNew, IsCrew, IsCalmWorker, IsCalm, SomeEnd, AreOut}
+use Rattle.hull_engine.specs.Crews.{StartsWith, named_by, IsNew, IsCrew, IsHired, IsCalmWorker, IsCalm, SomeEnd, AreOut}
 use Rattle.hull_engine.proofs.Outs.{in_none, in_one, in_without}
 
 -- ---- one more seat is joined
@@ -36,8 +36,8 @@ module _ (v w u : View) (owner : v.caller ≡ 0) where
   joined_calm calm own fresh others out k d inside c is =
       let past : All (IsCalm v.out) fresh.rest = All-weaker (Past v) (IsCalm v.out) (λ e. past_calm v e owner) fresh.rest fresh.past in
       let a = subst (All (IsCalm v.out)) fresh.whole (All-append (IsCalm v.out) v.seen fresh.rest calm past) k d inside c is in
-      let rest : All NotOf others.0 = All-weaker (λ (e : BoardEvent). caller_of e ≢ w.caller) NotOf (λ e n same. n (ap caller_of same)) others.0 others.2.1 in
-      let b = subst (All NotOf) others.2.0 (All-append NotOf w.seen others.0 own rest) k d inside in
+      let rest : All NotOf others.0 = All-weaker (λ (e : BoardEvent). caller_of e ≢ w.caller) NotOf (λ e n same. n (ap caller_of same)) others.0 others.2 in
+      let b = subst (All NotOf) others.1 (All-append NotOf w.seen others.0 own rest) k d inside in
       (subst (λ (l : List ℕ). Contains l c) (sym out) (in_without w.caller v.out c a.0 (λ same. b (is ∙ ap Stopped same))), a.1)
 
 halt_stays : (h rest later : List BoardEvent) → h ++ rest ≡ later → list_any is_halt h ≡ true → list_any is_halt later ≡ true
@@ -52,10 +52,10 @@ joined_ends v u ws w setup own others (inr (inr x)) =
     ⊎_elim (λ (at : Contains ws x.0). inr (inr (x.0, at, x.2)))
     (λ (same : w ≡ x.0). inr (inl (halt_stays (view_of w.seat).seen others.0 u.seen others.1 (subst (λ (y : Worker). HasSeenHalt y) (sym same) x.2)))) (Contains-push_cases ws w x.0 x.1)
 
-still_calm : (s t : Seat) (w : Worker) → IsSameBoard s t → IsCalmWorker s w → IsCalmWorker t w
+still_calm : (s t : SeatValue) (w : Worker) → IsSameBoard s t → IsCalmWorker s w → IsCalmWorker t w
 still_calm s t w same c = record { same = (c.same.0 ∙ sym same.0, c.same.1 ∙ sym same.1); split = c.split; calm = c.calm }
 
-pub join_one : (board : SharedBoard) (s t : Seat) (ws : List Worker) (w : Worker) → AreOut board s (ws ++ w ∷ []) → IsSameBoard s t → IsOwner t
+pub join_one : (board : SharedBoard) (s t : SeatValue) (ws : List Worker) (w : Worker) → AreOut board s (ws ++ w ∷ []) → IsSameBoard s t → IsOwner t
     → (view_of t).out ≡ without (view_of w.seat).caller (view_of s).out → HasJoined (view_of s) (view_of w.seat) (view_of t) → AreOut board t ws
 join_one board s t ws w is same owner out j =
     let others : All (IsCalmWorker s) (ws ++ w ∷ []) = is.others in
@@ -70,7 +70,7 @@ join_one board s t ws w is same owner out j =
       count = omega (arith, fewer, before, long);
       owner_out = subst (λ (l : List ℕ). Contains l 0) (sym out) (in_without (view_of w.seat).caller (view_of s).out 0 is.owner_out (λ e. mine.split (sym e)));
       calm = joined_calm (view_of s) (view_of w.seat) (view_of t) is.own.1 is.calm mine.calm j.fresh j.others out;
-      ended = joined_ends (view_of s) (view_of t) ws w same.1 j.own (j.others.0, j.others.1) is.ended;
+      ended = joined_ends (view_of s) (view_of t) ws w same.1 (j.fresh.rest, j.fresh.whole) (j.others.0, j.others.1) is.ended;
     }
 
 -- ---- all are joined
@@ -89,7 +89,7 @@ none_halt (e ∷ h) none some =
     let first : is_halt e ≡ false = All-head (λ (x : BoardEvent). is_halt x ≡ false) e h none in
     none_halt h (All-tail (λ (x : BoardEvent). is_halt x ≡ false) e h none) (ap (λ (b : Bool). b || list_any is_halt h) (sym first) ∙ some)
 
-pub all_finished : FinishedStays Fits → (board : SharedBoard) (s : Seat) → AreOut board s [] → IsLegalHistory (view_of s).setup (view_of s).seen → has_finished (content (view_of s).setup (view_of s).seen) ≡ true
+pub all_finished : FinishedStays Fits → (board : SharedBoard) (s : SeatValue) → AreOut board s [] → IsLegalHistory (view_of s).setup (view_of s).seen → has_finished (content (view_of s).setup (view_of s).seen) ≡ true
 all_finished stays board s is legal = decide is.ended
   where
     v : View
@@ -125,7 +125,7 @@ seen_more : (x y : Worker) (h : HasWorked x y) → (view_of x.seat).seen ≡ [] 
 seen_more x y h none = ap (λ (l : List BoardEvent). l ++ h.goes.more) (sym none) ∙ h.goes.longer
 
 module _ (b : Setup) (board : SharedBoard) where
-  calm_after : (owner : Seat) (x y : Worker) → IsSeatOf board owner → (view_of owner).setup ≡ b → IsNew b board x → (IsOwner x.seat → ⊥) → HasWorked x y → IsCalmWorker owner y
+  calm_after : (owner : SeatValue) (x y : Worker) → IsSeatOf board owner → (view_of owner).setup ≡ b → IsNew b board x → (IsOwner x.seat → ⊥) → HasWorked x y → IsCalmWorker owner y
   calm_after owner x y at named new split worked =
       let caller : (view_of y.seat).caller ≡ (view_of x.seat).caller = ap (λ (v : View). v.caller) worked.goes.same in
       let NotOwn : BoardEvent → Type 0 = λ e. e ≢ Stopped (view_of y.seat).caller in
@@ -136,7 +136,7 @@ module _ (b : Setup) (board : SharedBoard) where
         calm = subst (All NotOwn) (seen_more x y worked new.seen) more;
       }
 
-  others_after : (owner : Seat) (xs ys : List Worker) → IsSeatOf board owner → (view_of owner).setup ≡ b → All (IsNew b board) xs → All (λ (w : Worker). IsOwner w.seat → ⊥) xs → AllZip HasWorked xs ys → All (IsCalmWorker owner) ys
+  others_after : (owner : SeatValue) (xs ys : List Worker) → IsSeatOf board owner → (view_of owner).setup ≡ b → All (IsNew b board) xs → All (λ (w : Worker). IsOwner w.seat → ⊥) xs → AllZip HasWorked xs ys → All (IsCalmWorker owner) ys
   others_after owner [] [] at named new split worked = All-nil (IsCalmWorker owner)
   others_after owner [] (y ∷ ys) at named new split worked = absurd worked
   others_after owner (x ∷ xs) [] at named new split worked = absurd worked
@@ -190,9 +190,9 @@ module _ (b : Setup) (board : SharedBoard) where
 
 -- ---- the seats are split
 
-  pub split_new : (owner s : Seat) (w : Worker) → IsSeatOf board owner → (view_of owner).setup ≡ b → (view_of owner).seen ≡ [] → IsSameBoard owner s → view_of s ≡ cut_right (view_of owner) → w.seat ≡ s → HasParts b.market w → IsNew b board w
+  pub split_new : (owner s : SeatValue) (w : Worker) → IsSeatOf board owner → (view_of owner).setup ≡ b → (view_of owner).seen ≡ [] → IsSameBoard owner s → view_of s ≡ cut_right (view_of owner) → w.seat ≡ s → HasParts b.market w → IsNew b board w
   split_new owner s w at named none same cut is parts =
-      let table = ap (λ (x : Seat). x.place.table_id) is in
+      let table = ap (λ (x : SeatValue). x.board) is in
       let view : view_of w.seat ≡ view_of s = ap view_of is in
       let setup : (view_of w.seat).setup ≡ b = ap (λ (v : View). v.setup) view ∙ (same.1 ∙ named) in
       record {
@@ -203,3 +203,79 @@ module _ (b : Setup) (board : SharedBoard) where
         setup = setup;
         seen = ap (λ (v : View). v.seen) (view ∙ cut) ∙ none;
       }
+
+  pub hired_none : (owner : SeatValue) → IsSeatOf board owner → (view_of owner).setup ≡ b → view_of owner ≡ first_view (empty_board (view_of owner).setup) → IsHired b board owner 1 []
+  hired_none owner at named first = record {
+    own = (at, ap (λ (v : View). v.caller) first);
+    setup = named;
+    seen = ap (λ (v : View). v.seen) first;
+    made = ap (λ (v : View). v.made) first;
+    out = ap (λ (v : View). length v.out) first;
+    owner_out = subst (λ (l : List ℕ). Contains l 0) (sym (ap (λ (v : View). v.out) first)) (Contains-push [] 0);
+    count = omega arith;
+    new = All-nil (IsNew b board);
+    split = All-nil (λ (w : Worker). IsOwner w.seat → ⊥);
+  }
+
+  pub hired_more : (owner later s : SeatValue) (k : ℕ) (ws : List Worker) (w : Worker) → IsHired b board owner k ws → IsSameBoard owner later × IsOwner later → IsSameBoard owner s × (view_of s ≡ cut_right (view_of owner)) → view_of later ≡ cut_left (view_of owner)
+      → w.seat ≡ s → HasParts b.market w → IsHired b board later (k + 1) (ws ++ w ∷ [])
+  hired_more owner later s k ws w h same cut left is parts =
+      let Apart : Worker → Type 0 = λ x. IsOwner x.seat → ⊥ in
+      let outs = ap (λ (v : View). length v.out) left in
+      let long = length-append (view_of owner).out ((view_of owner).made ∷ []) in
+      let more = length-append ws (w ∷ []) in
+      let old_out = h.out in
+      let old_made = h.made in
+      let old_count = h.count in
+      let made = ap (λ (v : View). v.made) left in
+      let caller : (view_of w.seat).caller ≡ k = ap (λ (x : SeatValue). (view_of x).caller) is ∙ (ap (λ (v : View). v.caller) cut.1 ∙ h.made) in
+      record {
+        own = ((same.0.0 ∙ h.own.0.0, ap (λ (x : Setup). x.callers) same.0.1 ∙ h.own.0.1), same.1);
+        setup = same.0.1 ∙ h.setup;
+        seen = ap (λ (v : View). v.seen) left ∙ h.seen;
+        made = omega (arith, made, old_made);
+        out = omega (arith, outs, long, old_out);
+        owner_out = subst (λ (l : List ℕ). Contains l 0) (sym (ap (λ (v : View). v.out) left)) (Contains-append_left (view_of owner).out ((view_of owner).made ∷ []) 0 h.owner_out);
+        count = omega (arith, more, old_count);
+        new = All-push (IsNew b board) ws w h.new (split_new owner s w h.own.0 h.setup h.seen cut.0 cut.1 is parts);
+        split = All-push Apart ws w h.split (λ owns. let none : k ≡ 0 = sym caller ∙ owns in absurd (omega (arith, none, old_count)));
+      }
+
+  pub hired_all : (owner : SeatValue) (k : ℕ) (ws : List Worker) (w : Worker) → IsHired b board owner k ws → w.seat ≡ owner → HasParts b.market w → IsCrew b board (ws ++ w ∷ [])
+  hired_all owner k ws w h is parts =
+      let view : view_of w.seat ≡ view_of owner = ap view_of is in
+      let setup : (view_of w.seat).setup ≡ b = ap (λ (v : View). v.setup) view ∙ h.setup in
+      let out = ap (λ (v : View). length v.out) view in
+      let old_out = h.out in
+      let count = h.count in
+      let more = length-append ws (w ∷ []) in
+      let last : IsNew b board w = record {
+        own = record { seat = subst (IsSeatOf board) (sym is) h.own.0; parts = subst (λ (x : Setup). HasParts x.market w) (sym setup) parts };
+        setup = setup;
+        seen = ap (λ (v : View). v.seen) view ∙ h.seen;
+      } in
+      record {
+        others = ws;
+        owner = w;
+        all = refl;
+        new = All-push (IsNew b board) ws w h.new last;
+        is_owner = ap (λ (v : View). v.caller) view ∙ h.own.1;
+        split = h.split;
+        count = omega (arith, out, old_out, count, more);
+        owner_out = subst (λ (l : List ℕ). Contains l 0) (sym (ap (λ (v : View). v.out) view)) h.owner_out;
+      }
+
+-- ---- a row of workers that was lent
+
+front : (xs rest : List Worker) → take (length xs) (xs ++ rest) ≡ xs
+front [] rest = refl
+front (x ∷ xs) rest = ap (λ (l : List Worker). x ∷ l) (front xs rest)
+
+-- what is written back where as many were lent
+pub written : (n : ℕ) (xs ys zs : List Worker) → length xs ≡ n → take n (xs ++ drop (length xs) ys) ≡ zs → xs ≡ zs
+written n xs ys zs long is = sym (subst (λ (m : ℕ). take m (xs ++ drop (length xs) ys) ≡ xs) long (front xs (drop (length xs) ys))) ∙ is
+
+-- a crew names what its first worker does
+pub crew_names : (b : Setup) (board : SharedBoard) (ws : List Worker) → IsCrew b board ws → named_by ws ≡ b
+crew_names b board [] crew = let n = ap (length {A = Worker}) crew.all in let m = length-append crew.others (crew.owner ∷ []) in absurd (omega (arith, n, m))
+crew_names b board (w ∷ ws) crew = (All-head (IsNew b board) w ws crew.new).setup

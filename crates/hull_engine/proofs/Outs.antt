@@ -25,14 +25,16 @@ in_none x c = let lt = c.1 in omega arith
 pub in_one : {A : Type 0} (y x : A) → Contains (y ∷ []) x → y ≡ x
 in_one y x c = ⊎_elim (λ e. e) (λ t. absurd (in_none x t)) (in_cons y [] x c)
 
+-- by cases on whether the first element is the one taken out
+without_cons : (c x : ℕ) (xs : List ℕ) (F : List ℕ → Type 0) → (x ≡ c → F xs) → (x ≢ c → F (x ∷ without c xs)) → F (without c (x ∷ xs))
+without_cons c x xs F hit miss = pick (ℕ_discrete x c)
+  where
+    pick : Dec (x ≡ c) → F (if x == c then xs else x ∷ without c xs)
+    pick (yes e) = subst (λ (b : Bool). F (if b then xs else x ∷ without c xs)) (sym (eq-eqb x c e)) (hit e)
+    pick (no n) = subst (λ (b : Bool). F (if b then xs else x ∷ without c xs)) (sym (ne_eqb x c n)) (miss n)
+
 -- another than the one taken out stays
 pub in_without : (c : ℕ) (xs : List ℕ) (x : ℕ) → Contains xs x → x ≢ c → Contains (without c xs) x
 in_without c [] x h n = absurd (in_none x h)
-in_without c (y ∷ ys) x h n = pick (ℕ_discrete y c)
-  where
-    pick : Dec (y ≡ c) → Contains (if y == c then ys else y ∷ without c ys) x
-    pick (yes e) = subst (λ (b : Bool). Contains (if b then ys else y ∷ without c ys) x) (sym (eq-eqb y c e))
-        (⊎_elim (λ (e' : y ≡ x). absurd (n (sym e' ∙ e))) (λ t. t) (in_cons y ys x h))
-    pick (no m) = subst (λ (b : Bool). Contains (if b then ys else y ∷ without c ys) x) (sym (ne_eqb y c m))
-        (⊎_elim (λ (e' : y ≡ x). subst (Contains (y ∷ without c ys)) e' (has_head y (without c ys)))
-        (λ (t : Contains ys x). has_tail y (without c ys) x (in_without c ys x t n)) (in_cons y ys x h))
+in_without c (y ∷ ys) x h n = without_cons c y ys (λ l. Contains l x) (λ e. ⊎_elim (λ e'. absurd (n (sym e' ∙ e))) (λ t. t) (in_cons y ys x h))
+    (λ m. ⊎_elim (λ e'. subst (Contains (y ∷ without c ys)) e' (has_head y (without c ys))) (λ (t : Contains ys x). has_tail y (without c ys) x (in_without c ys x t n)) (in_cons y ys x h))

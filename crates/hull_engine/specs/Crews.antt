@@ -4,10 +4,8 @@ use Rattle.std.specs.List.{All, Contains, list_any}
 use Rattle.board_history.specs.Board.{Setup}
 use Rattle.board_history.specs.Calls.{has_finished}
 use Rattle.board_history.specs.Rounds.{Stopped, is_halt}
-use Rattle.board_share.specs.Rule.{StartsWith}
-use Rattle.board_share.specs.Seats.{view_of, IsSeatOf, IsSameBoard, IsOwner}
+use Rattle.board_share.specs.Seats.{SeatValue, view_of, IsSeatOf, IsSameBoard, IsOwner}
 use Rattle.board_share.specs.Views.{BoardEvent, View, content, no_setup}
-use Rattle.board_share.specs.declared.seat.Seat.{Seat}
 use Rattle.board_share.specs.declared.shared.SharedBoard.{SharedBoard}
 use Rattle.answer_workers.specs.Workers.{IsWorkerOf, HasSeenHalt}
 use Rattle.answer_workers.specs.declared.worker.Worker.{Worker}
@@ -37,10 +35,22 @@ pub record IsCrew (b : Setup) (board : SharedBoard) (ws : List Worker) : Type 0 
   pub count : length (view_of owner.seat).out ≡ length ws
   pub owner_out : Contains (view_of owner.seat).out 0
 
+-- the owner's seat after so many seats were made, its own among them, with the workers of the others
+pub record IsHired (b : Setup) (board : SharedBoard) (owner : SeatValue) (k : ℕ) (ws : List Worker) : Type 0 where
+  pub own : IsSeatOf board owner × IsOwner owner
+  pub setup : (view_of owner).setup ≡ b
+  pub seen : (view_of owner).seen ≡ []
+  pub made : (view_of owner).made ≡ k
+  pub out : length (view_of owner).out ≡ k
+  pub owner_out : Contains (view_of owner).out 0
+  pub count : length ws + 1 ≡ k
+  pub new : All (IsNew b board) ws
+  pub split : All (λ (w : Worker). IsOwner w.seat → ⊥) ws
+
 -- ---- after it
 
 -- a worker with a seat that was split from the owner's, which has seen no halt of its own caller
-pub record IsCalmWorker (owner : Seat) (w : Worker) : Type 0 where
+pub record IsCalmWorker (owner : SeatValue) (w : Worker) : Type 0 where
   pub same : IsSameBoard owner w.seat
   pub split : IsOwner w.seat → ⊥
   pub calm : All (λ (e : BoardEvent). e ≢ Stopped (view_of w.seat).caller) (view_of w.seat).seen
@@ -49,6 +59,9 @@ pub record IsCalmWorker (owner : Seat) (w : Worker) : Type 0 where
 abbrev pub IsCalm : List ℕ → BoardEvent → Type 0
 IsCalm out e = (c : ℕ) → e ≡ Stopped c → Contains out c × (c ≢ 0)
 
+abbrev pub StartsWith : List BoardEvent → List BoardEvent → Type 0
+StartsWith h start = (rest : List BoardEvent) × (start ++ rest ≡ h)
+
 -- the owner has seen a finished history, or a halt, or one of the others has seen a halt
 abbrev pub SomeEnd : View → List Worker → Type 0
 SomeEnd v ws =
@@ -56,7 +69,7 @@ SomeEnd v ws =
     ⊎ ((list_any is_halt v.seen ≡ true) ⊎ ((w : Worker) × Contains ws w × HasSeenHalt w))
 
 -- the owner's seat, and the workers whose seats are still out
-pub record AreOut (board : SharedBoard) (owner : Seat) (ws : List Worker) : Type 0 where
+pub record AreOut (board : SharedBoard) (owner : SeatValue) (ws : List Worker) : Type 0 where
   pub own : IsSeatOf board owner × IsOwner owner
   pub others : All (IsCalmWorker owner) ws
   pub count : length (view_of owner).out ≡ length ws + 1

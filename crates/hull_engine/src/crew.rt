@@ -34,6 +34,7 @@ pub fn hire(
     requires some { 1 ≤ count }
     requires count { (view_of owner).setup.callers ≡ count }
     requires horizon { (view_of owner).setup.market.periods ≡ periods }
+    requires some_period { 1 ≤ periods }
     requires most_periods { periods ≤ 168 }
     requires most_points { points ≤ 32 }
     requires points { All (λ (n : NamedThermalUnit). length n.unit.points ≤ points) (view_of owner).setup.market.thermal }

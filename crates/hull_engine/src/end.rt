@@ -41,7 +41,7 @@ impl End {
 
 /// Writes the report of a run that has ended, which is left as it was but for its room for an
 /// answer. It takes no memory, and fails only where the sink does.
-pub fn finish_run<S: Sink>(done: &mut Done, out: &mut S) -> Result<(), WriteFailed>
+fn write_done<S: Sink>(done: &mut Done, out: &mut S) -> Result<(), WriteFailed>
     requires { IsEnded done.old.closed.setup done.old }
     ensures text { Writes S.held S.faults S.last out.old out.new result (report_text (report_of done.old.closed done.old.settlement)) }
     ensures closed { done.new.closed ≡ done.old.closed }
@@ -58,6 +58,7 @@ fn let_go(done: Done) {
         closed: _closed,
         settlement: _settlement,
         buffer: _buffer,
+        bench: _bench,
     } = done;
 }
 
@@ -71,7 +72,7 @@ fn write_answer<S: Sink>(answer: Answer, out: &mut S) -> Result<(), WriteFailed>
     match answer {
         Answer::Check(input) => write_check(&input.case, input.cost, out),
         Answer::Price(mut done) => {
-            let written = finish_run(&mut done, out);
+            let written = write_done(&mut done, out);
             let_go(done);
             written
         }
