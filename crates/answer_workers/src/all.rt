@@ -4,7 +4,7 @@ ghost use Rattle.std.specs.List.{All};
 ghost use Rattle.answer_workers.specs.Workers.{IsWorkerOf, HasWorked, HaveWorked, HaveEnded};
 
 use crate::gate::Gate;
-use crate::waiting::Lookout;
+use crate::waiting::{Call, Locks, Lookout};
 use crate::work::work;
 use crate::worker::{Ended, Worker};
 use board_share::SharedBoard;
@@ -15,21 +15,21 @@ use std::thread::Threads;
 fn work_one<R: Wait, G: Gate>(
     rt: &R,
     board: &SharedBoard,
-    lookout: &Mutex<Lookout>,
+    locks: &Locks,
     worker: &mut Worker,
     gate: &G,
 )
     requires { IsWorkerOf board.now worker.old }
     ensures { HasWorked worker.old worker.new }
 {
-    let _ = work(rt, board, lookout, worker, gate);
+    let _ = work(rt, board, locks, worker, gate);
 }
 
 // Lets each worker work, in a thread of its own where one can be started.
 fn work_each<R: Threads + Wait + Sync, G: Gate>(
     rt: &R,
     board: &SharedBoard,
-    lookout: &Mutex<Lookout>,
+    locks: &Locks,
     workers: &mut [Worker],
     gate: &G,
 )
@@ -44,7 +44,7 @@ fn work_each<R: Threads + Wait + Sync, G: Gate>(
     let one = |_: usize, worker: &mut Worker|
         requires { IsWorkerOf board.now worker.now }
         ensures { HasWorked worker.entry.now worker.exit.now }
-    { work_one(rt, board, lookout, worker, gate) };
+    { work_one(rt, board, locks, worker, gate) };
     thread::for_each_mut(rt, workers, count, &one);
 }
 
@@ -52,7 +52,7 @@ fn work_each<R: Threads + Wait + Sync, G: Gate>(
 fn end_all<R: Wait, G: Gate>(
     rt: &R,
     board: &SharedBoard,
-    lookout: &Mutex<Lookout>,
+    locks: &Locks,
     workers: &mut [Worker],
     gate: &G,
 ) -> Ended
@@ -62,7 +62,7 @@ fn end_all<R: Wait, G: Gate>(
     ensures ended { HaveEnded result workers.new }
 {
     for k in 0..workers.len() {
-        match work(rt, board, lookout, &mut workers[k], gate) {
+        match work(rt, board, locks, &mut workers[k], gate) {
             Ended::Finished => {}
             Ended::Halted => return Ended::Halted,
         }
@@ -91,8 +91,11 @@ pub fn answer_all<R: Threads + Wait + Sync, G: Gate>(
     ensures worked { HaveWorked workers.old workers.new }
     ensures ended { HaveEnded result workers.new }
 {
-    let lookout = Mutex::new(Lookout);
-    work_each(rt, board, &lookout, workers, gate);
+    let locks = Locks {
+        call: Mutex::new(Call),
+        lookout: Mutex::new(Lookout),
+    };
+    work_each(rt, board, &locks, workers, gate);
     // The threads hand back no answers, so each worker is asked once more: nothing is left to do.
-    end_all(rt, board, &lookout, workers, gate)
+    end_all(rt, board, &locks, workers, gate)
 }

@@ -1,6 +1,6 @@
 //! One run of the price rule: a shared board whose tasks are answered by workers, and the settlement
 //! at the prices that it chooses.
-ghost use Rattle.std.specs.Prelude.{◌≡◌, ◌<◌, ◌≤◌, ℕ, true, length, IfOk};
+ghost use Rattle.std.specs.Prelude.{◌≡◌, ◌+◌, ◌<◌, ◌≤◌, ℕ, true, length, IfOk};
 ghost use Rattle.board_history.specs.Calls.{own_rows, has_finished};
 ghost use Rattle.board_core.specs.Boards.{setup_for, kept_answer};
 ghost use Rattle.board_core.specs.Setups.{IsSetup};
