@@ -117,7 +117,7 @@ zip_last R (a ∷ xs) (b ∷ ys) x y h = let r = zip_last R xs ys x y h.1 in ((h
 owner_calm : (v : View) (out : List ℕ) (e : BoardEvent) → v.caller ≡ 0 → out ≡ v.out → Contains v.out 0 → Came v e → IsCalm out e
 owner_calm v out e owner same mine came c is = (
   subst (λ (l : List ℕ). Contains l c) (sym same)
-  (⊎_elim (λ (own : caller_of e ≡ 0). subst (Contains v.out) (sym own ∙ ap caller_of is) mine) (λ (other : Contains v.out (caller_of e)). subst (Contains v.out) (ap caller_of is) other) (came.1 owner)),
+      (⊎_elim (λ (own : caller_of e ≡ 0). subst (Contains v.out) (sym own ∙ ap caller_of is) mine) (λ (other : Contains v.out (caller_of e)). subst (Contains v.out) (ap caller_of is) other) (came.1 owner)),
   (λ none. came.0 (is ∙ ap Stopped (none ∙ sym owner))),
 )
 
@@ -188,7 +188,7 @@ module _ (b : Setup) (board : SharedBoard) where
         bench = subst (λ (s : Setup). IsBenchOf s.market o.bench) setup of.parts.bench;
       }
 
--- ---- the seats are split
+  -- ---- the seats are split
 
   pub split_new : (owner s : SeatValue) (w : Worker) → IsSeatOf board owner → (view_of owner).setup ≡ b → (view_of owner).seen ≡ [] → IsSameBoard owner s → view_of s ≡ cut_right (view_of owner) → w.seat ≡ s → HasParts b.market w → IsNew b board w
   split_new owner s w at named none same cut is parts =

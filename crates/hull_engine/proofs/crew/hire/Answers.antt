@@ -64,5 +64,7 @@ pub returns : goal.returns
 returns c =
     let b = (view_of c.args.owner).setup in
     let made = c.in_ok-make-2.ensures in
-    record { crew = subst (λ (ws : List Worker). IsCrew b c.args.board.now ws) (sym c.push_reserved-2.ensures.items)
-    (hired_all b c.args.board.now c.loop.owner c.loop.counter c.loop.workers.items c.in_ok-make-2.field-0 c.loop.invariant.hired made.seat (made.parts b.market c.requires.horizon c.requires.points)) }
+    record {
+      crew = subst (λ (ws : List Worker). IsCrew b c.args.board.now ws) (sym c.push_reserved-2.ensures.items)
+          (hired_all b c.args.board.now c.loop.owner c.loop.counter c.loop.workers.items c.in_ok-make-2.field-0 c.loop.invariant.hired made.seat (made.parts b.market c.requires.horizon c.requires.points));
+    }
