@@ -25,7 +25,14 @@ fn main(rt: HostRuntime) -> ExitCode {
     };
     let mut shelf = FileShelf::new(&rt);
     let mut out = StdSink::new(io::writer(&rt));
-    ExitCode::from(hull_run(&rt, rt.alloc(), words.as_slice(), &mut shelf, &mut out, &NoGate))
+    ExitCode::from(hull_run(
+        &rt,
+        rt.alloc(),
+        words.as_slice(),
+        &mut shelf,
+        &mut out,
+        &NoGate,
+    ))
 }
 
 #[cfg(test)]

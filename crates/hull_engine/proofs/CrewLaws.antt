@@ -1,5 +1,5 @@
 -- The seats of a run's workers, from the splits to the joins: nobody halts, so the board has finished.
-use Rattle.std.proofs.Common.{◌≡◌, ◌≢◌, ℕ, zero, suc, ◌+◌, ◌<◌, Bool, true, false, ◌||◌, ◌⊎◌, inl, inr, ⊎_elim, Some, List, [], ◌∷◌, ◌++◌, length, take, drop, subst, sym, ap, ◌∙◌, refl, arith, append_assoc, append-nil, length-append}
+use Rattle.std.proofs.Common.{◌≡◌, ◌≢◌, ℕ, ◌+◌, Bool, true, false, ◌||◌, inl, inr, ⊎_elim, Some, List, [], ◌∷◌, ◌++◌, length, take, drop, subst, sym, ap, ◌∙◌, refl, arith, append_assoc, append-nil, length-append}
 use Rattle.std.specs.List.{All, AllZip, Contains, list_any}
 use Rattle.std.proofs.lemmas.List.Elements.{All-nil, All-cons, All-head, All-tail, All-append, All-weaker, All-pop, All-push, Contains-push, Contains-push_cases, Contains-append_left}
 use Rattle.std.proofs.lemmas.List.Folds.{list_any-append}
@@ -16,7 +16,7 @@ use Rattle.board_share.specs.Tells.{HasJoined}
 use Rattle.board_share.specs.Views.{BoardEvent, View, caller_of, content, cut_left, cut_right, first_view, without}
 use Rattle.board_share.specs.declared.shared.SharedBoard.{SharedBoard}
 use Rattle.answer_workers.specs.Answers.{IsBenchOf}
-use Rattle.answer_workers.specs.Workers.{IsWorkerOf, HasParts, Came, GoesOn, HasWorked, HaveWorked, HaveEnded, HasSeenHalt, HasFinished}
+use Rattle.answer_workers.specs.Workers.{IsWorkerOf, HasParts, Came, HasWorked, HaveWorked, HaveEnded, HasSeenHalt, HasFinished}
 use Rattle.answer_workers.specs.declared.worker.Worker.{Worker}
 use Rattle.answer_workers.specs.declared.worker.Ended.{Ended}
 use Rattle.answer_workers.specs.declared.worker.Ended.TheVariants.{Finished, Halted}

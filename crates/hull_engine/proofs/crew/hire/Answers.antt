@@ -1,4 +1,4 @@
-use Rattle.std.proofs.Common.{◌+◌, List, sym, ap, ◌∙◌, refl, subst, arith}
+use Rattle.std.proofs.Common.{◌+◌, List, sym, ap, refl, subst, arith}
 use Rattle.board_history.specs.Board.{Setup}
 use Rattle.board_share.specs.Seats.{view_of}
 use Rattle.answer_workers.specs.declared.worker.Worker.{Worker}
