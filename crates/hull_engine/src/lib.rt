@@ -21,6 +21,7 @@ mod run;
 use answer_workers::Gate;
 use answers::answer_run;
 use end::finish;
+pub use end::finish_run;
 use hull_io::{Shelf, Sink};
 pub use run::{Done, Run, open_run, run_board};
 use std::alloc::Global;
