@@ -1,6 +1,7 @@
 //! `hull`: runs the command of its words over real files, and writes to standard output.
 #![tactic(auto)]
 
+use answer_workers::NoGate;
 use hull_engine::hull_run;
 use hull_io::{FileShelf, StdSink};
 use std::alloc::AllocError;
@@ -24,7 +25,14 @@ fn main(rt: HostRuntime) -> ExitCode {
     };
     let mut shelf = FileShelf::new(&rt);
     let mut out = StdSink::new(io::writer(&rt));
-    ExitCode::from(hull_run(rt.alloc(), words.as_slice(), &mut shelf, &mut out))
+    ExitCode::from(hull_run(
+        &rt,
+        rt.alloc(),
+        words.as_slice(),
+        &mut shelf,
+        &mut out,
+        &NoGate,
+    ))
 }
 
 #[cfg(test)]

@@ -1,9 +1,14 @@
 // What no clause says: whole runs over memory, by their status and the bytes that the sink holds. The expected texts were
 // worked by hand, or come from other programs.
+use answer_workers::{Gate, NoGate};
 use hull_engine::hull_run;
 use hull_io::{File, MemoryShelf, MemorySink};
 use std::alloc::{AllocError, Global};
+use std::sync::Wait;
+use std::sync::atomic::{AtomicU64, Ordering};
 use std::test::Fail;
+use std::thread;
+use std::thread::Threads;
 
 // One wind unit that meets demand alone.
 const SMALLEST: &str = "\
@@ -188,7 +193,9 @@ fn words_in(alloc: Global, words: &[&str]) -> Result<Vec<String>, AllocError> {
 }
 
 // A run over two files, one byte a write; the numbers of the reads and writes that fail, and of the writes that take 0.
-fn run(
+fn run<R: Threads + Wait + Sync, G: Gate>(
+    rt: &R,
+    gate: &G,
     alloc: Global,
     words: &[&str],
     case: &str,
@@ -199,7 +206,7 @@ fn run(
     let mut shelf = MemoryShelf::make(alloc, files.as_slice(), failing.0)?;
     let mut out = MemorySink::make(alloc, 4096, 1, failing.1, failing.2)?;
     let words = words_in(alloc, words)?;
-    let status = hull_run(alloc, words.as_slice(), &mut shelf, &mut out);
+    let status = hull_run(rt, alloc, words.as_slice(), &mut shelf, &mut out, gate);
     Ok((status, Vec::from_slice(alloc, out.bytes())?))
 }
 
@@ -371,7 +378,15 @@ fn runs_answer_as_worked(rt: HostRuntime) -> Result<(), Fail> {
             b"hull-check 1\nperiods 1 thermal 0 renewable 1 bid 1\ncost -700000\nfeasible\n".as_slice(),
         ),
     ] {
-        let (status, bytes) = run(rt.alloc(), words, case, schedule, (&[], &[], &[]))?;
+        let (status, bytes) = run(
+            &rt,
+            &NoGate,
+            rt.alloc(),
+            words,
+            case,
+            schedule,
+            (&[], &[], &[]),
+        )?;
         assert_eq!(rt; bytes.as_slice(), text);
         assert_eq!(rt; status, want);
     }
@@ -413,7 +428,15 @@ fn failing_reads_and_writes_end_a_run(rt: HostRuntime) -> Result<(), Fail> {
             b"".as_slice(),
         ),
     ] {
-        let (status, bytes) = run(rt.alloc(), words, TWO_UNITS, TWO_UNITS_SCHEDULE, failing)?;
+        let (status, bytes) = run(
+            &rt,
+            &NoGate,
+            rt.alloc(),
+            words,
+            TWO_UNITS,
+            TWO_UNITS_SCHEDULE,
+            failing,
+        )?;
         assert_eq!(rt; bytes.as_slice(), text);
         assert_eq!(rt; status, want);
     }
@@ -446,9 +469,120 @@ fn runs_answer_as_other_programs_do(rt: HostRuntime) -> Result<(), Fail> {
         ),
         (["try", "7", "--proposals", "12"].as_slice(), "", "", TRY),
     ] {
-        let (status, bytes) = run(rt.alloc(), words, case, schedule, (&[], &[], &[]))?;
+        let (status, bytes) = run(
+            &rt,
+            &NoGate,
+            rt.alloc(),
+            words,
+            case,
+            schedule,
+            (&[], &[], &[]),
+        )?;
         assert_eq!(rt; bytes.as_slice(), text);
         assert_eq!(rt; status, 0);
     }
+    Ok(())
+}
+
+const FOUR_IDLE: &str = "\
+{\"time_periods\":1,\"demand\":[0],\"reserves\":[0],\"thermal_generators\":{},\"renewable_generators\":{\
+\"A\":{\"power_output_minimum\":[0],\"power_output_maximum\":[0]},\
+\"B\":{\"power_output_minimum\":[0],\"power_output_maximum\":[0]},\
+\"C\":{\"power_output_minimum\":[0],\"power_output_maximum\":[0]},\
+\"D\":{\"power_output_minimum\":[0],\"power_output_maximum\":[0]}}}";
+
+const FOUR_IDLE_SCHEDULE: &str =
+    "{\"thermal\":{},\"renewable\":{\"A\":[0],\"B\":[0],\"C\":[0],\"D\":[0]}}";
+
+const MOST_LOOKS: u32 = 100_000_000;
+
+// Holds the first proposal's units before the last one until that one's answer was posted, and counts those that were held
+// to the limit of looks: none where as many workers as units answer at once, and no lock is held from a claim to its post.
+#[derive(Drop)]
+struct Held {
+    last: u32,
+    freed: AtomicU64,
+    late: AtomicU64,
+}
+
+impl Gate for Held {
+    fn between(&self, _caller: u32, proposal: u32, unit: u32) {
+        if proposal != 1 || unit >= self.last {
+            return;
+        }
+        for _ in 0..MOST_LOOKS {
+            if self.freed.load(Ordering::SeqCst) > 0 {
+                return;
+            }
+            thread::yield_now();
+        }
+        self.late.fetch_add(1, Ordering::SeqCst);
+    }
+
+    fn after(&self, _caller: u32, proposal: u32, unit: u32) {
+        if proposal == 1 && unit == self.last {
+            self.freed.store(1, Ordering::SeqCst);
+        }
+    }
+}
+
+fn held_up_to(last: u32) -> Held {
+    Held {
+        last,
+        freed: AtomicU64::new(0),
+        late: AtomicU64::new(0),
+    }
+}
+
+#[test]
+fn two_workers_answer_at_once(rt: HostRuntime) -> Result<(), Fail> {
+    let gate = held_up_to(1);
+    let words = [
+        "price",
+        "--case=c",
+        "--schedule=s",
+        "--proposals=1",
+        "--ahead=1",
+        "--workers=2",
+    ];
+    let (status, bytes) = run(
+        &rt,
+        &gate,
+        rt.alloc(),
+        &words,
+        TWO_UNITS,
+        TWO_UNITS_SCHEDULE,
+        (&[], &[], &[]),
+    )?;
+    assert_eq!(rt; gate.late.load(Ordering::SeqCst), 0);
+    assert_eq!(rt; bytes.as_slice(), TWO_UNITS_REPORT);
+    assert_eq!(rt; status, 0);
+    Ok(())
+}
+
+#[test]
+fn four_workers_answer_at_once(rt: HostRuntime) -> Result<(), Fail> {
+    let gate = held_up_to(3);
+    let words = [
+        "price",
+        "--case=c",
+        "--schedule=s",
+        "--proposals=1",
+        "--ahead=1",
+        "--workers=4",
+    ];
+    let (status, bytes) = run(
+        &rt,
+        &gate,
+        rt.alloc(),
+        &words,
+        FOUR_IDLE,
+        FOUR_IDLE_SCHEDULE,
+        (&[], &[], &[]),
+    )?;
+    assert_eq!(rt; gate.late.load(Ordering::SeqCst), 0);
+    assert_eq!(rt; status, 0);
+    let mut lines = bytes.as_slice().split(|byte| *byte == b'\n');
+    assert!(rt; lines.any(|line| line == b"chosen 1 value 0".as_slice()));
     Ok(())
 }

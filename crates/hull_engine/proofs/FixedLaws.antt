@@ -40,7 +40,8 @@ use Rattle.hull_engine.specs.Compared.{IsHullSide, IsHeldInput, AreSides, ArePai
 use Rattle.hull_engine.specs.Inputs.{planned_of, IsPlanned, IsRunInput}
 use Rattle.hull_engine.specs.Laws.{OverReads, IsFixedPromised}
 use Rattle.hull_engine.specs.Outcome.{command_for, IsFixedText, AreReads, Ends, status_at}
-use Rattle.hull_engine.specs.Rounds.{Suffices, IsBenchOf, setup_of, IsEnded}
+use Rattle.answer_workers.specs.Answers.{Suffices, IsBenchOf}
+use Rattle.hull_engine.specs.Rounds.{setup_of, IsEnded}
 use Rattle.hull_engine.specs.Steps.{Reads, PlannedCase}
 use Rattle.hull_engine.proofs.OutcomeLaws.{status_within, accepted_is_feasible}
 use Rattle.hull_engine.proofs.PlanShapes.{all_more, all_none}

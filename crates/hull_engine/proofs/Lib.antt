@@ -8,10 +8,10 @@ pub mod AnswerLaws
 pub mod WordSizes
 -- answers.rt: a feasible plan has the shape that its cost is taken of
 pub mod PlanShapes
--- tasks.rt, run.rt: the bench of a run suffices for each unit of its case
-pub mod BenchLaws
--- run.rt: one round of the run's caller
-pub mod RoundLaws
+-- crew.rt: the callers whose seats are out
+pub mod Outs
+-- crew.rt: nobody halts, so the board has finished
+pub mod CrewLaws
 -- run.rt: the settlement at the prices of the chosen row
 pub mod SettleLaws
 -- end.rt: what is written of a run that has ended is the text of a right report

@@ -1,5 +1,5 @@
 -- The settlement of a finished board at the prices of its chosen row.
-use Rattle.std.proofs.Common.{◌≡◌, ℕ, suc, ◌-◌, ◌*◌, ◌<◌, ◌≤◌, ℤ, true, Some, List, length, map, get_or, slice_get, sym, ap, ◌∙◌, subst, arith}
+use Rattle.std.proofs.Common.{◌≡◌, ℕ, suc, ◌-◌, ◌<◌, ◌≤◌, ℤ, true, Some, List, length, map, get_or, slice_get, sym, ap, ◌∙◌, subst, arith}
 use Rattle.std.proofs.lemmas.Option.{slice_get-map, slice_get-get_or, slice_get_within, get_or_from_slice_get}
 use Rattle.std.specs.List.{AllZip}
 use Rattle.std.specs.Option.{option_map}
@@ -12,18 +12,13 @@ use Rattle.uc_model.specs.Systems.{IsSettled}
 use Rattle.uc_model.specs.declared.cases.Row.{Row}
 use Rattle.board_history.specs.Board.{Content, IsLegalHistory}
 use Rattle.board_history.specs.Calls.{own_rows, has_finished}
-use Rattle.board_history.specs.Laws.{EventsAreAtMost, FinishedHasRow}
+use Rattle.board_history.specs.Laws.{FinishedHasRow}
 use Rattle.board_history.specs.Bounds.{RowsAreWithin}
-use Rattle.board_history.specs.Counts.{posts_in}
 use Rattle.board_core.specs.Boards.{kept_answer}
 use Rattle.board_core.specs.Setups.{IsSetup}
 use Rattle.uplift_settle.specs.declared.settlement.Settlement.{Settlement}
 use Rattle.hull_report.specs.Laws.{OneIsChosen}
 use Rattle.hull_report.specs.RecordReport.{IsSettledRecord, AnswersAreTops}
-
--- there are at most as many posts as tasks
-pub posts_within : EventsAreAtMost → (c : Content) → IsLegalHistory c.setup c.events → posts_in c.events ≤ c.setup.budget * unit_count c.setup.market
-posts_within events_are_at_most c legal = (events_are_at_most c.setup c.events legal).posts
 
 -- a row is chosen
 pub record IsPlace (c : Content) (chosen : ℕ) : Type 0 where

@@ -1,5 +1,6 @@
 -- What is written of a run that has ended is the text of a right report.
-use Rattle.std.proofs.Common.{◌≡◌, ℕ, List, length, unsigned_abs, refl}
+use Rattle.std.proofs.Common.{◌≡◌, ℕ, inl, inr, List, Result, Ok, Err, length, unsigned_abs, refl}
+use Rattle.std.specs.Prelude.{OnOk, OnErr}
 use Rattle.uc_model.specs.Data.{unit_count}
 use Rattle.board_history.specs.Calls.{own_rows}
 use Rattle.hull_report.specs.BoundText.{bound_text}
@@ -9,7 +10,7 @@ use Rattle.hull_engine.specs.declared.run.Done.{Done}
 use Rattle.hull_engine.specs.declared.bound.Bounded.{Bounded}
 use Rattle.hull_engine.specs.Answers.{planned_in, IsRunText}
 use Rattle.hull_engine.specs.Bounded.{IsBounded}
-use Rattle.hull_engine.specs.Outcome.{IsBoundText}
+use Rattle.hull_engine.specs.Outcome.{IsBoundText, HasStatus}
 use Rattle.hull_engine.specs.Rounds.{IsEnded}
 
 -- the settlement has one number for each unit
@@ -39,3 +40,8 @@ bound_written right b h = (
   h.best,
   refl,
 )
+
+-- its status
+pub status_written : {E : Type 0} (written : Result (Unit {0}) E) (n : ℕ) (gained short : Type 0) → OnOk written gained → OnErr written short → OnOk written (n ≡ 0) → OnErr written (n ≡ 6) → HasStatus n gained short
+status_written (Ok u) n gained short whole cut zero six = inl (zero, whole)
+status_written (Err e) n gained short whole cut zero six = inr (six, cut)

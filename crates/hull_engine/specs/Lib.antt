@@ -4,6 +4,8 @@ pub mod Laws
 pub mod Sizes
 pub mod Inputs
 pub mod Rounds
+pub mod Crews
+pub mod Rooms
 pub mod Bounded
 pub mod Compared
 pub mod Answers

@@ -141,6 +141,10 @@ status_at Done = 0
 status_at Cut = 6
 status_at (Refused f) = status_of f
 
+-- a text was written so: 0 where it was gained, and 6 where it fell short
+abbrev pub HasStatus : ℕ → (gained short : Type 0) → Type 0
+HasStatus n gained short = ((n ≡ 0) × gained) ⊎ ((n ≡ 6) × short)
+
 -- some text of an accepted input has P
 abbrev pub HasText : Command → Reads → (List ℕ → Type 0) → Type 0
 HasText c reads P =

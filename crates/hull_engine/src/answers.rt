@@ -17,6 +17,7 @@ use crate::files::read_input;
 use crate::fixed::{Sides, compared_runs};
 use crate::input::{Input, RunInput, RunSize, within_work};
 use crate::run::{Done, open, run_board};
+use answer_workers::Gate;
 use case_make::make_case;
 use hull_io::Shelf;
 use hull_report::TopFault;
@@ -26,6 +27,8 @@ use hull_words::{
 };
 use plan_check::costs::cost_of_plan;
 use std::alloc::{AllocError, Global};
+use std::sync::Wait;
+use std::thread::Threads;
 
 /// What a command is to print.
 #[derive(Drop)]
@@ -57,13 +60,18 @@ fn command_of(alloc: Global, words: &[String]) -> Result<Command, TopFault>
 }
 
 /// The run to its end, where there is the memory for its opening.
-fn ended_run(alloc: Global, run: RunInput) -> Result<Done, TopFault>
+fn ended_run<R: Threads + Wait + Sync, G: Gate>(
+    rt: &R,
+    alloc: Global,
+    run: RunInput,
+    gate: &G,
+) -> Result<Done, TopFault>
     requires { IsRunInput run }
     ensures ended { IfOk result (λ done. IsEnded (setup_of run) done) }
     ensures starved { IfErr result (λ fault. fault ≡ TopFault.Memory) }
 {
     match open(alloc, run) {
-        Ok(opened) => Ok(run_board(opened)),
+        Ok(opened) => Ok(run_board(rt, opened, gate)),
         Err(AllocError) => Err(TopFault::Memory),
     }
 }
@@ -101,10 +109,12 @@ fn price_size(words: &PriceWords) -> RunSize
 }
 
 /// What `hull price` answers.
-fn answer_price<F: Shelf>(
+fn answer_price<R: Threads + Wait + Sync, F: Shelf, G: Gate>(
+    rt: &R,
     alloc: Global,
     shelf: &mut F,
     words: &PriceWords,
+    gate: &G,
 ) -> Result<Answer, TopFault>
     requires { IsRunSize words.now.proposals words.now.workers words.now.ahead }
     ensures answers { HasReads (F.told shelf.old)
@@ -118,14 +128,16 @@ fn answer_price<F: Shelf>(
     let schedule_name = words.schedule_name.as_str();
     let input = read_input(alloc, shelf, case_name, schedule_name)?;
     let run = within_work(input, price_size(words))?;
-    Ok(Answer::Price(ended_run(alloc, run)?))
+    Ok(Answer::Price(ended_run(rt, alloc, run, gate)?))
 }
 
 /// What `hull bound` answers.
-fn answer_bound<F: Shelf>(
+fn answer_bound<R: Threads + Wait + Sync, F: Shelf, G: Gate>(
+    rt: &R,
     alloc: Global,
     shelf: &mut F,
     words: &BoundWords,
+    gate: &G,
 ) -> Result<Answer, TopFault>
     requires size { IsRunSize words.now.run.proposals words.now.run.workers words.now.run.ahead }
     requires radius { IsRadius words.now.radius }
@@ -140,14 +152,16 @@ fn answer_bound<F: Shelf>(
     let schedule_name = words.run.schedule_name.as_str();
     let input = read_input(alloc, shelf, case_name, schedule_name)?;
     let run = within_work(input, price_size(&words.run))?;
-    Ok(Answer::Bound(bounded_run(alloc, run, words.radius)?))
+    Ok(Answer::Bound(bounded_run(rt, alloc, run, words.radius, gate)?))
 }
 
 /// What `hull fixed` answers.
-fn answer_fixed<F: Shelf>(
+fn answer_fixed<R: Threads + Wait + Sync, F: Shelf, G: Gate>(
+    rt: &R,
     alloc: Global,
     shelf: &mut F,
     words: &PriceWords,
+    gate: &G,
 ) -> Result<Answer, TopFault>
     requires { IsRunSize words.now.proposals words.now.workers words.now.ahead }
     ensures answers { HasReads (F.told shelf.old)
@@ -161,7 +175,7 @@ fn answer_fixed<F: Shelf>(
     let schedule_name = words.schedule_name.as_str();
     let input = read_input(alloc, shelf, case_name, schedule_name)?;
     let run = within_work(input, price_size(words))?;
-    Ok(Answer::Fixed(compared_runs(alloc, run)?))
+    Ok(Answer::Fixed(compared_runs(rt, alloc, run, gate)?))
 }
 
 /// The case and the feasible schedule that a number stands for.
@@ -188,7 +202,12 @@ fn try_size(words: &TryWords) -> RunSize
 }
 
 /// What `hull try` answers.
-fn answer_try(alloc: Global, words: &TryWords) -> Result<Answer, TopFault>
+fn answer_try<R: Threads + Wait + Sync, G: Gate>(
+    rt: &R,
+    alloc: Global,
+    words: &TryWords,
+    gate: &G,
+) -> Result<Answer, TopFault>
     requires { IsRunSize words.now.proposals words.now.workers words.now.ahead }
     ensures answers { (reads : Reads)
         → IsCommandAnswer (command_for (Ok (try (try_asked words.now)))) reads result }
@@ -198,7 +217,7 @@ fn answer_try(alloc: Global, words: &TryWords) -> Result<Answer, TopFault>
         return Err(TopFault::Memory);
     };
     let run = within_work(input, try_size(words))?;
-    Ok(Answer::Try(words.number, ended_run(alloc, run)?))
+    Ok(Answer::Try(words.number, ended_run(rt, alloc, run, gate)?))
 }
 
 /// A command that isn't built yet is an unknown one.
@@ -212,10 +231,12 @@ fn not_built() -> TopFault
 }
 
 /// What a command answers.
-fn answer_command<F: Shelf>(
+fn answer_command<R: Threads + Wait + Sync, F: Shelf, G: Gate>(
+    rt: &R,
     alloc: Global,
     shelf: &mut F,
     command: &Command,
+    gate: &G,
 ) -> Result<Answer, TopFault>
     requires { HasSizes (asked command.now) }
     ensures answers { HasReads (F.told shelf.old)
@@ -229,19 +250,21 @@ fn answer_command<F: Shelf>(
 {
     match command {
         Command::Check(words) => answer_check(alloc, shelf, words),
-        Command::Price(words) => answer_price(alloc, shelf, words),
-        Command::Try(words) => answer_try(alloc, words),
-        Command::Bound(words) => answer_bound(alloc, shelf, words),
-        Command::Fixed(words) => answer_fixed(alloc, shelf, words),
+        Command::Price(words) => answer_price(rt, alloc, shelf, words, gate),
+        Command::Try(words) => answer_try(rt, alloc, words, gate),
+        Command::Bound(words) => answer_bound(rt, alloc, shelf, words, gate),
+        Command::Fixed(words) => answer_fixed(rt, alloc, shelf, words, gate),
         Command::Audit(_) => Err(not_built()),
     }
 }
 
 /// What the words ask for, answered, or the first refusal.
-pub fn answer_run<F: Shelf>(
+pub fn answer_run<R: Threads + Wait + Sync, F: Shelf, G: Gate>(
+    rt: &R,
     alloc: Global,
     words: &[String],
     shelf: &mut F,
+    gate: &G,
 ) -> Result<Answer, TopFault>
     ensures answers { HasReads (F.told shelf.old)
         (λ name. Rose F.last (F.faults shelf.old name) (F.faults shelf.new name))
@@ -253,5 +276,5 @@ pub fn answer_run<F: Shelf>(
         → shelf.new ≡ shelf.old }
 {
     let command = command_of(alloc, words)?;
-    answer_command(alloc, shelf, &command)
+    answer_command(rt, alloc, shelf, &command, gate)
 }

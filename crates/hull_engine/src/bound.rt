@@ -11,6 +11,7 @@ ghost use Rattle.hull_engine.specs.Rounds.{setup_of};
 
 use crate::input::RunInput;
 use crate::run::{Done, open, run_board};
+use answer_workers::Gate;
 use board_core::Closed;
 use board_history::laws::{finished_has_row, finished_is_run, rows_are_within};
 use gap_proof::laws::run_bounds_hold;
@@ -18,6 +19,8 @@ use gap_proof::{Certified, best_range};
 use hull_report::TopFault;
 use hull_report::laws::one_row_is_chosen;
 use std::alloc::{AllocError, Global};
+use std::sync::Wait;
+use std::thread::Threads;
 use uc_model::lists::Amounts;
 
 /// A run that has ended, and the best bound on the dual values of all prices that are each within
@@ -50,14 +53,20 @@ fn certify(closed: &Closed, radius: i64, work: &mut Amounts) -> Certified
 
 /// Runs the board of an input, and certifies its best bound. All memory for both is taken before
 /// the run, the room for the bound first.
-fn certified_run(alloc: Global, run: RunInput, radius: i64) -> Result<Bounded, AllocError>
+fn certified_run<R: Threads + Wait + Sync, G: Gate>(
+    rt: &R,
+    alloc: Global,
+    run: RunInput,
+    radius: i64,
+    gate: &G,
+) -> Result<Bounded, AllocError>
     requires run { IsRunInput run }
     requires radius { IsRadius radius }
     ensures { IfOk result (λ bounded. IsBounded (setup_of run) radius bounded) }
 {
     let mut work = Amounts::filled(alloc, 2 * run.input.case.periods, 0)?;
     let opened = open(alloc, run)?;
-    let done = run_board(opened);
+    let done = run_board(rt, opened, gate);
     let certified = certify(&done.closed, radius, &mut work);
     Ok(Bounded {
         done,
@@ -67,13 +76,19 @@ fn certified_run(alloc: Global, run: RunInput, radius: i64) -> Result<Bounded, A
 }
 
 /// The run of an input with its best bound, where there is the memory for it.
-pub fn bounded_run(alloc: Global, run: RunInput, radius: i64) -> Result<Bounded, TopFault>
+pub fn bounded_run<R: Threads + Wait + Sync, G: Gate>(
+    rt: &R,
+    alloc: Global,
+    run: RunInput,
+    radius: i64,
+    gate: &G,
+) -> Result<Bounded, TopFault>
     requires run { IsRunInput run }
     requires radius { IsRadius radius }
     ensures bounded { IfOk result (λ bounded. IsBounded (setup_of run) radius bounded) }
     ensures starved { IfErr result (λ fault. fault ≡ TopFault.Memory) }
 {
-    match certified_run(alloc, run, radius) {
+    match certified_run(rt, alloc, run, radius, gate) {
         Ok(bounded) => Ok(bounded),
         Err(AllocError) => Err(TopFault::Memory),
     }

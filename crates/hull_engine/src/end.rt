@@ -1,21 +1,27 @@
 //! The end of a run: the text, or the line of a fault.
-ghost use Rattle.std.specs.Prelude.{◌≡◌, ℕ, List, length, IfOk};
+ghost use Rattle.std.specs.Prelude.{◌≡◌, ℕ, List, length, IfOk, OnOk, OnErr};
 ghost use Rattle.uc_model.specs.PlainUnits.{schedule_of};
 ghost use Rattle.hull_io.specs.Edge.{Writes, Gains, FallsShort};
 ghost use Rattle.hull_report.specs.ReportText.{report_text};
-ghost use Rattle.hull_report.specs.RecordReport.{report_of};
-ghost use Rattle.hull_engine.specs.Outcome.{status_at};
+ghost use Rattle.hull_report.specs.RecordReport.{report_of, IsSettledRecord};
+ghost use Rattle.uc_model.specs.PriceRule.{Proposal};
+ghost use Rattle.uplift_settle.specs.declared.settlement.Settlement.{Settlement};
+ghost use Rattle.hull_engine.specs.Outcome.{status_at, HasStatus};
 ghost use Rattle.hull_engine.specs.Answers.{IsTextOf, IsAnswered, IsEndOf};
 ghost use Rattle.hull_engine.specs.Rounds.{IsEnded};
 
 use crate::answers::Answer;
 use crate::bound::Bounded;
-use crate::run::Done;
+use crate::run::{Done, Run, run_board};
+use answer_workers::Gate;
+use board_core::Closed;
 use hull_io::{Sink, WriteFailed};
 use hull_report::laws::{record_report_is_right, settlements_are_of_all_units};
 use hull_report::{
     TopFault, write_bound, write_check, write_fault, write_fixed, write_report, write_try,
 };
+use std::sync::Wait;
+use std::thread::Threads;
 
 /// How a run ended.
 #[derive(Clone, Copy)]
@@ -43,7 +49,7 @@ impl End {
 
 /// Writes the report of a run that has ended, which is left as it was but for its room for an
 /// answer. It takes no memory, and fails only where the sink does.
-pub fn finish_run<S: Sink>(done: &mut Done, out: &mut S) -> Result<(), WriteFailed>
+fn write_done<S: Sink>(done: &mut Done, out: &mut S) -> Result<(), WriteFailed>
     requires { IsEnded done.old.closed.setup done.old }
     ensures text { Writes S.held S.faults S.last out.old out.new result (report_text (report_of done.old.closed done.old.settlement)) }
     ensures closed { done.new.closed ≡ done.old.closed }
@@ -52,6 +58,41 @@ pub fn finish_run<S: Sink>(done: &mut Done, out: &mut S) -> Result<(), WriteFail
 {
     settlements_are_of_all_units();
     write_report(&done.closed, &done.settlement, &mut done.buffer, out)
+}
+
+/// The status of a run whose text was written so.
+fn status_of(written: Result<(), WriteFailed>) -> u8
+    ensures whole { OnOk written (result ≡ 0) }
+    ensures cut { OnErr written (result ≡ 6) }
+{
+    match written {
+        Ok(()) => 0,
+        Err(WriteFailed) => 6,
+    }
+}
+
+/// Runs the board of a run and writes its report. Gives 0, or 6 where the sink failed within the
+/// text, and the board's record. The gate is told of each task. Takes no memory.
+pub fn finish_run<R: Threads + Wait + Sync, S: Sink, G: Gate>(
+    rt: &R,
+    run: Run,
+    out: &mut S,
+    gate: &G,
+) -> (u8, Closed)
+    ensures setup { result.1.setup ≡ run }
+    ensures report { (s : Settlement) × (row : Proposal) × IsSettledRecord result.1 s row
+        × HasStatus result.0 (Gains S.held S.faults out.old out.new (report_text (report_of result.1 s)))
+        (FallsShort S.held S.faults S.last out.old out.new (report_text (report_of result.1 s))) }
+{
+    let mut done = run_board(rt, run, gate);
+    let written = write_done(&mut done, out);
+    let Done {
+        closed,
+        settlement: _,
+        buffer: _,
+        bench: _,
+    } = done;
+    (status_of(written), closed)
 }
 
 /// Lets the parts of a run go, one after another.
@@ -74,7 +115,7 @@ fn write_answer<S: Sink>(answer: Answer, out: &mut S) -> Result<(), WriteFailed>
     match answer {
         Answer::Check(input) => write_check(&input.case, input.cost, out),
         Answer::Price(mut done) => {
-            let written = finish_run(&mut done, out);
+            let written = write_done(&mut done, out);
             let_go(done);
             written
         }

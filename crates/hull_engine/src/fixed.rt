@@ -14,11 +14,14 @@ ghost use Rattle.hull_engine.specs.Rounds.{IsEnded};
 
 use crate::input::{Input, RunInput, RunSize, unit_count};
 use crate::run::{Done, open, run_board};
+use answer_workers::Gate;
 use fixed_price::laws::commitments_are_fixed;
 use fixed_price::{earn_all, fix_case};
 use hull_report::laws::{settled_sides_are_right, settlements_are_of_all_units};
 use hull_report::{Side, TopFault, chosen_side};
 use std::alloc::{AllocError, Global};
+use std::sync::Wait;
+use std::thread::Threads;
 use uc_model::cases::{Case, Plan};
 use uc_model::lists::Numbers;
 use uc_model::units::Prices;
@@ -35,7 +38,12 @@ pub struct Sides {
 }
 
 /// Runs the board of an input. Gives back the input, and lets all else of the run go but its side.
-fn hull_side(alloc: Global, run: RunInput) -> Result<(Side, Input), AllocError>
+fn hull_side<R: Threads + Wait + Sync, G: Gate>(
+    rt: &R,
+    alloc: Global,
+    run: RunInput,
+    gate: &G,
+) -> Result<(Side, Input), AllocError>
     requires { IsRunInput run }
     ensures side { IfOk result (λ r. IsHullSide run r.0) }
     ensures input { IfOk result (λ r. planned_of r.1 ≡ planned_of run.input) }
@@ -47,7 +55,7 @@ fn hull_side(alloc: Global, run: RunInput) -> Result<(Side, Input), AllocError>
         settlement,
         buffer: _buffer,
         bench: _bench,
-    } = run_board(opened);
+    } = run_board(rt, opened, gate);
     settled_sides_are_right();
     settlements_are_of_all_units();
     closed.is_legal();
@@ -96,12 +104,14 @@ fn settled_side(given: &Case, done: Done, room: Prices, earned: Numbers) -> Side
 
 /// Runs the board of a case with the commitments of its schedule held. All memory that is needed
 /// after the opening of the run is taken before it.
-fn fixed_side(
+fn fixed_side<R: Threads + Wait + Sync, G: Gate>(
+    rt: &R,
     alloc: Global,
     given: &Case,
     plan: Plan,
     cost: i128,
     size: RunSize,
+    gate: &G,
 ) -> Result<Side, AllocError>
     requires { IsHeldInput given.now plan cost size }
     ensures { IfOk result (IsFixedSide (market_of given.now) (schedules_of plan) size) }
@@ -112,19 +122,24 @@ fn fixed_side(
     let earned = Numbers::make(alloc, unit_count(given))?;
     let input = Input { case, plan, cost };
     let opened = open(alloc, RunInput { input, size })?;
-    Ok(settled_side(given, run_board(opened), room, earned))
+    Ok(settled_side(given, run_board(rt, opened, gate), room, earned))
 }
 
 /// Runs the board of an input, and then that with the commitments of its schedule held. The first
 /// board is gone before the second is opened.
-fn both_sides(alloc: Global, run: RunInput) -> Result<Sides, AllocError>
+fn both_sides<R: Threads + Wait + Sync, G: Gate>(
+    rt: &R,
+    alloc: Global,
+    run: RunInput,
+    gate: &G,
+) -> Result<Sides, AllocError>
     requires { IsRunInput run }
     ensures { IfOk result (AreSides run) }
 {
     let size = run.size;
-    let (hull, input) = hull_side(alloc, run)?;
+    let (hull, input) = hull_side(rt, alloc, run, gate)?;
     let Input { case, plan, cost } = input;
-    let fixed = fixed_side(alloc, &case, plan, cost, size)?;
+    let fixed = fixed_side(rt, alloc, &case, plan, cost, size, gate)?;
     Ok(Sides {
         case,
         cost,
@@ -134,12 +149,17 @@ fn both_sides(alloc: Global, run: RunInput) -> Result<Sides, AllocError>
 }
 
 /// Both runs of an input, where there is the memory for them.
-pub fn compared_runs(alloc: Global, run: RunInput) -> Result<Sides, TopFault>
+pub fn compared_runs<R: Threads + Wait + Sync, G: Gate>(
+    rt: &R,
+    alloc: Global,
+    run: RunInput,
+    gate: &G,
+) -> Result<Sides, TopFault>
     requires { IsRunInput run }
     ensures sides { IfOk result (AreSides run) }
     ensures starved { IfErr result (λ fault. fault ≡ TopFault.Memory) }
 {
-    match both_sides(alloc, run) {
+    match both_sides(rt, alloc, run, gate) {
         Ok(sides) => Ok(sides),
         Err(AllocError) => Err(TopFault::Memory),
     }

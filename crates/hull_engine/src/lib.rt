@@ -11,20 +11,23 @@ ghost use Rattle.hull_engine.specs.Answers.{IsLaterShelf};
 
 mod answers;
 mod bound;
+mod crew;
 mod end;
 mod files;
 mod fixed;
 mod input;
 pub mod laws;
 mod run;
-mod tasks;
 
+use answer_workers::Gate;
 use answers::answer_run;
 use end::finish;
 pub use end::finish_run;
 use hull_io::{Shelf, Sink};
 pub use run::{Done, Run, open_run, run_board};
 use std::alloc::Global;
+use std::sync::Wait;
+use std::thread::Threads;
 
 /// Runs the command that the words give, and answers its status: 0 where its text was written
 /// whole, and otherwise the status of the one fault line that was written, or 6 where the sink
@@ -33,12 +36,15 @@ use std::alloc::Global;
 /// What that says of a run is one relation, `IsOutcome` in specs/Outcome.antt, to be read from top
 /// to bottom. `laws` has what follows from it: the cause of each status, that at most one thing is
 /// due, that where no count rose what was read decides but for want of memory, and what a report
-/// that was printed promises.
-pub fn hull_run<F: Shelf, S: Sink>(
+/// that was printed promises. It names no workers: for every number of them, and every gate, the
+/// text of the same words over the same files is one and the same.
+pub fn hull_run<R: Threads + Wait + Sync, F: Shelf, S: Sink, G: Gate>(
+    rt: &R,
     alloc: Global,
     words: &[String],
     shelf: &mut F,
     out: &mut S,
+    gate: &G,
 ) -> u8
     ensures outcome { IsOutcome (texts words.now) (F.told shelf.old)
         (λ name. Rose F.last (F.faults shelf.old name) (F.faults shelf.new name))
@@ -52,7 +58,7 @@ pub fn hull_run<F: Shelf, S: Sink>(
     ensures unread { ((file : FileKind) → (command_for (words_of (texts words.now))).name_of file ≡ None)
         → shelf.new ≡ shelf.old }
 {
-    let answer = answer_run(alloc, words, shelf);
+    let answer = answer_run(rt, alloc, words, shelf, gate);
     let end = finish(answer, out);
     end.status()
 }

@@ -1,54 +1,64 @@
-//! One run of the price rule: a board whose tasks are answered one after another, and the
-//! settlement at the prices that it chooses.
-ghost use Rattle.std.specs.Prelude.{◌≡◌, ◌+◌, ◌*◌, ◌<◌, ◌≤◌, ℕ, true, length, IfOk};
-ghost use Rattle.board_history.specs.Board.{Setup};
+//! One run of the price rule: a shared board whose tasks are answered by workers, and the settlement
+//! at the prices that it chooses.
+ghost use Rattle.std.specs.Prelude.{◌≡◌, ◌+◌, ◌<◌, ◌≤◌, ℕ, true, length, IfOk};
 ghost use Rattle.board_history.specs.Calls.{own_rows, has_finished};
-ghost use Rattle.board_history.specs.Counts.{posts_in};
-ghost use Rattle.board_history.specs.OneCaller.{IsBetween};
 ghost use Rattle.board_core.specs.Boards.{setup_for, kept_answer};
 ghost use Rattle.board_core.specs.Setups.{IsSetup};
 ghost use Rattle.uc_model.specs.Data.{unit_count as units_in};
-ghost use Rattle.uc_model.specs.PlainUnits.{schedule_of};
 ghost use Rattle.uc_model.specs.PriceRule.{Proposal};
 ghost use Rattle.uc_model.specs.Sums.{int_at};
-ghost use Rattle.uc_model.specs.TaskRoom.{IsTaskFor};
 ghost use Rattle.hull_report.specs.RecordReport.{IsSettledRecord};
-ghost use Rattle.hull_engine.specs.Rounds.{EndsRound, IsBenchOf, IsOpened, setup_of, IsEnded};
+ghost use Rattle.hull_engine.specs.Rounds.{setup_of, IsEnded};
 
+use crate::crew::{answer_board, hire};
 use crate::input::{Input, RunInput, RunSize, unit_count};
-use crate::tasks::{answer_task, most_points};
-use board_core::{Board, Claim, Closed};
-use board_history::laws::{
-    claims_are_given, events_are_at_most, finished_has_row, given_is_taken, rows_are_within,
-};
+use answer_workers::{Gate, Worker, most_points};
+use board_core::{Board, Closed};
+use board_history::laws::{finished_has_row, rows_are_within};
+use board_share::SharedBoard;
 use hull_report::laws::{answers_are_tops, one_row_is_chosen};
 use slope_list::Slopes;
 use std::alloc::{AllocError, Global};
-use uc_model::cases::{Case, Plan, Task};
+use std::marker::Model;
+use std::sync::Wait;
+use std::thread::Threads;
+use uc_model::cases::{Case, Plan};
 use uc_model::lists::Numbers;
 use uc_model::units::Answered;
 use unit_program::Bench;
 use uplift_settle::{Settlement, settle};
 
-/// The one caller of the board.
-const CALLER: u32 = 0;
-
-const CALLERS: u32 = 1;
-
-/// A run that is opened: its board, the bench that its tasks are answered on, and room for a task,
-/// an answer, the settlement and what each unit earns at best.
+/// A run that is opened: its board with a worker for each seat, and room for the settlement, what
+/// each unit earns at best, and an answer. Contracts see it as what its board was made for: the
+/// case, the schedule and its cost, how many proposals there may be and how many are open ahead,
+/// and one caller for each worker.
 #[derive(Drop)]
 pub struct Run {
-    pub board: Board,
-    pub bench: Bench<Slopes>,
-    pub task: Task,
-    pub buffer: Answered,
-    pub settlement: Settlement,
-    pub earned: Numbers,
+    board: SharedBoard,
+    /// The owner's last.
+    workers: Vec<Worker>,
+    buffer: Answered,
+    settlement: Settlement,
+    earned: Numbers,
+}
+
+impl Model for Run {
+    ghost use Rattle.std.specs.Prelude.{◌+◌, length};
+    ghost use Rattle.board_history.specs.Board.{Setup};
+    ghost use Rattle.hull_engine.specs.Crews.{named_by, IsCrew};
+    ghost use Rattle.hull_engine.specs.Rooms.{HasRoom};
+
+    ghost Value = { Setup };
+
+    ghost view = { λ r. named_by r.workers.items };
+
+    ghost invariant = { λ r. IsCrew (named_by r.workers.items) r.board r.workers.items
+        × HasRoom (named_by r.workers.items) r.buffer r.settlement
+        (length r.earned.items + r.earned.spare) };
 }
 
 /// A run that has ended: the record of its board, the settlement of the schedule at the chosen
-/// prices, room for an answer, and the bench on which its units answer.
+/// prices, and room for an answer and for the work on one.
 #[derive(Drop)]
 pub struct Done {
     pub closed: Closed,
@@ -57,26 +67,34 @@ pub struct Done {
     pub bench: Bench<Slopes>,
 }
 
-/// Opens the run of an input: takes all memory that the run needs to its end. The work is done on
-/// one thread, whatever the number of workers. `AllocError` is want of memory; the input is then
-/// dropped.
+/// Opens the run of an input: takes all memory that the run needs to its end. `AllocError` is want
+/// of memory; the input is then dropped.
 pub fn open(alloc: Global, run: RunInput) -> Result<Run, AllocError>
     requires { IsSetup (setup_of run) }
-    ensures { IfOk result (λ opened. IsOpened (setup_of run) opened) }
+    ensures { IfOk result (λ opened. opened ≡ setup_of run) }
 {
     let RunInput { input, size } = run;
     let Input { case, plan, cost } = input;
     let units = unit_count(&case);
-    let bench = Bench::make(alloc, case.periods, most_points(&case))?;
-    let task = Task::make(alloc, case.periods)?;
-    let buffer = Answered::make(alloc, case.periods)?;
+    let periods = case.periods;
+    let points = most_points(&case);
+    let buffer = Answered::make(alloc, periods)?;
     let settlement = Settlement::make(alloc, units)?;
     let earned = Numbers::make(alloc, units)?;
-    let board = Board::make(alloc, case, plan, cost, size.proposals, size.ahead, CALLERS)?;
+    let board = Board::make(
+        alloc,
+        case,
+        plan,
+        cost,
+        size.proposals,
+        size.ahead,
+        size.workers,
+    )?;
+    let (board, owner) = SharedBoard::make(alloc, board)?;
+    let workers = hire(alloc, &board, owner, size.workers, periods, points)?;
     Ok(Run {
         board,
-        bench,
-        task,
+        workers,
         buffer,
         settlement,
         earned,
@@ -84,8 +102,8 @@ pub fn open(alloc: Global, run: RunInput) -> Result<Run, AllocError>
 }
 
 /// Opens a run for a case with a feasible schedule of that cost: at most so many proposals, of
-/// which `ahead` may be open ahead of the answered ones. All memory of the run is taken here.
-/// `AllocError` is want of it; the case and the schedule are then dropped.
+/// which `ahead` may be open ahead of the answered ones, and so many workers. All memory of the run
+/// is taken here. `AllocError` is want of it; the case and the schedule are then dropped.
 pub fn open_run(
     alloc: Global,
     case: Case,
@@ -95,8 +113,8 @@ pub fn open_run(
     workers: u32,
     ahead: u32,
 ) -> Result<Run, AllocError>
-    requires { IsSetup (setup_for case plan cost proposals ahead 1) }
-    ensures { IfOk result (λ run. IsOpened (setup_for case plan cost proposals ahead 1) run) }
+    requires { IsSetup (setup_for case plan cost proposals ahead workers) }
+    ensures { IfOk result (λ run. run ≡ setup_for case plan cost proposals ahead workers) }
 {
     let size = RunSize {
         proposals,
@@ -105,62 +123,6 @@ pub fn open_run(
     };
     let input = Input { case, plan, cost };
     open(alloc, RunInput { input, size })
-}
-
-/// Claims a task, answers it and posts the answer; false where the board has finished.
-fn answer_next(
-    board: &mut Board,
-    bench: &mut Bench<Slopes>,
-    task: &mut Task,
-    buffer: &mut Answered,
-) -> bool
-    requires caller { 0 < board.old.setup.callers }
-    requires between { IsBetween board.old.events }
-    requires bench { IsBenchOf board.old.setup.market bench.old }
-    requires room { IsTaskFor board.old.setup.market.periods task.old }
-    requires buffer { length (schedule_of buffer.old.response).on ≡ board.old.setup.market.periods }
-    ensures setup { board.new.setup ≡ board.old.setup }
-    ensures round { EndsRound board.old board.new result }
-    ensures bench { IsBenchOf board.old.setup.market bench.new }
-    ensures room { IsTaskFor board.old.setup.market.periods task.new }
-    ensures buffer { length (schedule_of buffer.new.response).on ≡ board.old.setup.market.periods }
-    ensures most { posts_in board.new.events ≤ board.new.setup.budget * units_in board.new.setup.market }
-{
-    claims_are_given();
-    given_is_taken();
-    events_are_at_most();
-    board.is_legal();
-    match board.claim(CALLER, task) {
-        Claim::Given => {
-            answer_task(bench, task, buffer);
-            // It is taken: the task was given to this caller just now.
-            let _ = board.post(CALLER, task, buffer);
-            board.is_legal();
-            true
-        }
-        _ => false,
-    }
-}
-
-/// Answers one task after another until the board has finished.
-fn answer_all(board: &mut Board, bench: &mut Bench<Slopes>, task: &mut Task, buffer: &mut Answered)
-    requires caller { 0 < board.old.setup.callers }
-    requires between { IsBetween board.old.events }
-    requires bench { IsBenchOf board.old.setup.market bench.old }
-    requires room { IsTaskFor board.old.setup.market.periods task.old }
-    requires buffer { length (schedule_of buffer.old.response).on ≡ board.old.setup.market.periods }
-    ensures setup { board.new.setup ≡ board.old.setup }
-    ensures finished { has_finished board.new ≡ true }
-    ensures bench { IsBenchOf board.old.setup.market bench.new }
-    ensures buffer { length (schedule_of buffer.new.response).on ≡ board.old.setup.market.periods }
-{
-    events_are_at_most();
-    board.is_legal();
-    loop {
-        if !answer_next(board, bench, task, buffer) {
-            return;
-        }
-    }
 }
 
 /// Leaves what each unit earns at best at the prices of a row, in money and in the order of the
@@ -204,22 +166,18 @@ fn settle_chosen(closed: &Closed, earned: &mut Numbers, settlement: &mut Settlem
 }
 
 /// Runs until every proposal that the budget and the price rule call for is answered, and settles
-/// the schedule at the chosen prices. Takes no memory.
-pub fn run_board(run: Run) -> Done
-    requires { IsOpened run.board.setup run }
-    ensures { IsEnded run.board.setup result }
+/// the schedule at the chosen prices. The gate is told of each task. Takes no memory.
+pub fn run_board<R: Threads + Wait + Sync, G: Gate>(rt: &R, run: Run, gate: &G) -> Done
+    ensures { IsEnded run result }
 {
     let Run {
-        mut board,
-        mut bench,
-        mut task,
-        mut buffer,
+        board,
+        workers,
+        buffer,
         mut settlement,
         mut earned,
     } = run;
-    board.is_legal();
-    answer_all(&mut board, &mut bench, &mut task, &mut buffer);
-    let closed = board.close();
+    let (closed, bench) = answer_board(rt, board, workers, gate);
     settle_chosen(&closed, &mut earned, &mut settlement);
     Done {
         closed,

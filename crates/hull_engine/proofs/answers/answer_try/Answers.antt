@@ -11,10 +11,10 @@ use Rattle.hull_engine.proofs.StepLaws.{answer_then}
 use Rattle.hull_engine.proofs.answers.answer_try.Goals as goal
 
 pub returns-in_default-clause-answers : goal.returns-in_default-clause-answers
-returns-in_default-clause-answers c reads = inr refl
+returns-in_default-clause-answers g c reads = inr refl
 
 pub returns-in_err-run-clause-answers : goal.returns-in_err-run-clause-answers
-returns-in_err-run-clause-answers c reads =
+returns-in_err-run-clause-answers g c reads =
     let words = c.args.words.now in
     let p = err_from_is_err_and c.from_residual.result c.from_residual.ensures.1 in
     let run : Result RunInput TopFault = Err c.in_err-run.field-0.0 in
@@ -22,12 +22,12 @@ returns-in_err-run-clause-answers c reads =
     (c.in-Ok.ensures.planned.feasible, c.in-Ok.ensures.made) (rw c.try_size.ensures.proposals at c.in_err-run.ensures.answers))
 
 pub returns-in_err-ended_run-clause-answers : goal.returns-in_err-ended_run-clause-answers
-returns-in_err-ended_run-clause-answers c reads =
+returns-in_err-ended_run-clause-answers g c reads =
     let p = err_from_is_err_and c.from_residual-in_err-ended_run.result c.from_residual-in_err-ended_run.ensures.1 in
     rw (p.1, p.2) (inr c.in_err-ended_run.ensures.starved)
 
 pub returns-clause-answers : goal.returns-clause-answers
-returns-clause-answers c reads =
+returns-clause-answers g c reads =
     let words = c.args.words.now in
     let run : Result RunInput TopFault = Ok c.in_ok-run.run' in
     let size = c.in_ok-run.ensures.size in (

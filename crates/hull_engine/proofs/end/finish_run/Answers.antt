@@ -1,8 +1,17 @@
-use Rattle.hull_engine.proofs.WriteLaws.{ended_lengths}
+use Rattle.std.proofs.Common.{◌≡◌, sym, subst}
+use Rattle.board_history.specs.Board.{Setup}
+use Rattle.hull_engine.specs.Rounds.{IsEnded}
+use Rattle.hull_engine.proofs.WriteLaws.{status_written}
 use Rattle.hull_engine.proofs.end.finish_run.Goals as goal
 
-pub write_report-requires-clause-scheduled : goal.write_report-requires-clause-scheduled
-write_report-requires-clause-scheduled g c = (ended_lengths c.settlements_are_of_all_units.ensures c.args.done.now c.requires).0
-
-pub write_report-requires-clause-payments : goal.write_report-requires-clause-payments
-write_report-requires-clause-payments g c = (ended_lengths c.settlements_are_of_all_units.ensures c.args.done.now c.requires).1
+pub returns-clause-report : goal.returns-clause-report
+returns-clause-report g c =
+    let e = c.run_board-done.ensures in
+    let d = c.run_board-done.result in
+    let w = c.write_done-written.ensures in
+    rw (w.closed) (
+      d.settlement,
+      e.row,
+      e.settled,
+      status_written c.write_done-written.result c.status_of.result _ _ w.text.ok w.text.err c.status_of.ensures.whole c.status_of.ensures.cut,
+    )

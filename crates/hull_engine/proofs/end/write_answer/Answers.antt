@@ -13,7 +13,7 @@ pub returns-in-Price : goal.returns-in-Price
 returns-in-Price g c =
     let done = c.in-Price.done in
     let right = run_text c.record_report_is_right.ensures report_text done (rw c.in-Price.is at c.requires) in
-    rw c.in-Price.is (report_text (report_of done.closed done.settlement), right, c.finish_run-written.ensures.text)
+    rw c.in-Price.is (report_text (report_of done.closed done.settlement), right, c.write_done-written.ensures.text)
 
 pub returns-in-Try : goal.returns-in-Try
 returns-in-Try g c =

@@ -1,0 +1,10 @@
+-- tasks.rt, worker.rt: the bench of a worker suffices for each unit of the case
+pub mod BenchLaws
+-- waiting.rt, work.rt: a call goes on with what the seat had seen
+pub mod Going
+-- waiting.rt: what the answer of a claim tells
+pub mod Told
+-- waiting.rt, work.rt, all.rt: a worker that has worked still is one
+pub mod Steady
+-- all.rt: rows of workers, of which one after another works
+pub mod Rows

@@ -1,0 +1,67 @@
+-- What the answer of a claim tells.
+use Rattle.std.proofs.Common.{◌≡◌, ℕ, refl, sym, ap, ◌∙◌, subst}
+use Rattle.board_history.specs.Board.{Content}
+use Rattle.board_history.specs.Calls.{claim_answer}
+use Rattle.board_history.specs.Laws.{ClaimsMean}
+use Rattle.board_history.specs.Rounds.{ClaimReply, Finished, Halted, GivenTask, NotYet}
+use Rattle.board_core.specs.Replies.{claim_of}
+use Rattle.board_core.specs.Tasks.{IsOwnTask, LeavesTask}
+use Rattle.board_core.specs.declared.replies.Claim.{Claim}
+use Rattle.board_core.specs.declared.replies.Claim.TheVariants as claim
+use Rattle.board_share.specs.Seats.{view_of}
+use Rattle.board_share.specs.Tells.{Called}
+use Rattle.board_share.specs.Unchanged.{UnlessGiven}
+use Rattle.board_share.specs.Views.{View, content}
+use Rattle.uc_model.specs.Data.{Market}
+use Rattle.uc_model.specs.PlainCases.{task_unit}
+use Rattle.uc_model.specs.Schedules.{IsFeasible}
+use Rattle.uc_model.specs.declared.cases.Task.{Task}
+use Rattle.answer_workers.specs.Answers.{Suffices, IsBenchOf}
+use Rattle.answer_workers.specs.Workers.{IsTold, IsReady, market_at}
+use Rattle.answer_workers.specs.declared.worker.Worker.{Worker}
+use Rattle.answer_workers.proofs.BenchLaws.{serves_at}
+
+-- ---- which reply it was
+
+finished_is : (x : ClaimReply) → claim.Finished ≡ claim_of x → x ≡ Finished
+finished_is Finished e = cc
+finished_is Halted e = absurd cc
+finished_is (GivenTask n u) e = absurd cc
+finished_is NotYet e = absurd cc
+
+halted_is : (x : ClaimReply) → claim.Halted ≡ claim_of x → x ≡ Halted
+halted_is Finished e = absurd cc
+halted_is Halted e = cc
+halted_is (GivenTask n u) e = absurd cc
+halted_is NotYet e = absurd cc
+
+-- the task that was given is the board's own
+given_task : (b : Content) (x : ClaimReply) (before task : Task) → claim.Given ≡ claim_of x → LeavesTask b x before task → (n : ℕ) × (u : ℕ) × IsOwnTask b n u task
+given_task b Finished before task e leaves = absurd cc
+given_task b Halted before task e leaves = absurd cc
+given_task b (GivenTask n u) before task e leaves = (n, u, leaves)
+given_task b NotYet before task e leaves = absurd cc
+
+-- ---- what it tells
+
+abbrev Tells : Claim → Task → Task → Content → Type 0
+Tells r before task b = (r ≡ claim_of (claim_answer b)) × LeavesTask b (claim_answer b) before task
+
+ready : (r : Claim) (before : Task) (after : Content → Content) (v : View) (w : Worker) → Called (Tells r before w.task) after v (view_of w.seat) → r ≡ claim.Given → IsBenchOf (market_at w.seat) w.bench → IsReady w
+ready r before after v w c given served =
+    let b : Content = content v.setup c.before in
+    let m : market_at w.seat ≡ v.setup.market = ap (λ (x : View). x.setup.market) c.seen in
+    let own = given_task b (claim_answer b) before w.task (sym given ∙ c.answered.0) c.answered.1 in
+    record {
+      some = (own.2.some_schedule, subst (λ (n : Market). IsFeasible (task_unit w.task) n.periods own.2.some_schedule) (sym m) own.2.feasible);
+      bench = subst (λ (n : Market). Suffices n.periods (task_unit w.task) w.bench) (sym m) (serves_at v.setup.market w.bench own.1 (task_unit w.task) (subst (λ (n : Market). IsBenchOf n w.bench) m served) own.2.unit);
+    }
+
+pub told : ClaimsMean → (r : Claim) (before : Task) (after : Content → Content) (v : View) (w : Worker) → Called (Tells r before w.task) after v (view_of w.seat)
+    → UnlessGiven r (r ≡ claim_of (claim_answer (content (view_of w.seat).setup (view_of w.seat).seen))) → IsBenchOf (market_at w.seat) w.bench → IsTold r w
+told mean claim.Finished before after v w c at served =
+    (mean (view_of w.seat).setup (view_of w.seat).seen).finished.0 (finished_is (claim_answer (content (view_of w.seat).setup (view_of w.seat).seen)) at)
+told mean claim.Halted before after v w c at served =
+    ((mean (view_of w.seat).setup (view_of w.seat).seen).halted.0 (halted_is (claim_answer (content (view_of w.seat).setup (view_of w.seat).seen)) at)).1
+told mean claim.Given before after v w c at served = ready claim.Given before after v w c refl served
+told mean claim.NotYet before after v w c at served = tt

@@ -1,0 +1,14 @@
+use Rattle.std.proofs.Common.{ℕ, length, sym, ap, ◌∙◌, subst}
+use Rattle.std.proofs.lemmas.List.{length-replicate}
+use Rattle.slope_list.specs.Slopes.{room_of}
+use Rattle.uc_model.specs.TaskRoom.{IsTaskFor}
+use Rattle.unit_program.specs.Benches.{IsBenchFor}
+use Rattle.answer_workers.proofs.BenchLaws.{bench_of_case}
+use Rattle.answer_workers.proofs.worker.Worker.make.Goals as goal
+
+pub returns-clause-parts : goal.returns-clause-parts
+returns-clause-parts c m same few = record {
+  bench = bench_of_case m c.args.points c.in_ok-bench.bench (subst (λ (n : ℕ). IsBenchFor room_of n c.args.points c.in_ok-bench.bench) (sym same) c.in_ok-bench.ensures) few;
+  task = subst (λ (n : ℕ). IsTaskFor n c.in_ok-task.task) (sym same) c.in_ok-task.ensures.room;
+  answer = ap length c.in_ok-answer.ensures.on ∙ (length-replicate _ _ ∙ sym same);
+}

@@ -1,0 +1,101 @@
+//! All workers at once.
+ghost use Rattle.std.specs.Prelude.{◌≡◌, ℕ, ◌<◌, length, slice_index_or};
+ghost use Rattle.std.specs.List.{All};
+ghost use Rattle.answer_workers.specs.Workers.{IsWorkerOf, HasWorked, HaveWorked, HaveEnded};
+
+use crate::gate::Gate;
+use crate::waiting::{Call, Locks, Lookout};
+use crate::work::work;
+use crate::worker::{Ended, Worker};
+use board_share::SharedBoard;
+use std::sync::{Mutex, Wait};
+use std::thread;
+use std::thread::Threads;
+
+fn work_one<R: Wait, G: Gate>(
+    rt: &R,
+    board: &SharedBoard,
+    locks: &Locks,
+    worker: &mut Worker,
+    gate: &G,
+)
+    requires { IsWorkerOf board.now worker.old }
+    ensures { HasWorked worker.old worker.new }
+{
+    let _ = work(rt, board, locks, worker, gate);
+}
+
+// Lets each worker work, in a thread of its own where one can be started.
+fn work_each<R: Threads + Wait + Sync, G: Gate>(
+    rt: &R,
+    board: &SharedBoard,
+    locks: &Locks,
+    workers: &mut [Worker],
+    gate: &G,
+)
+    requires some { 0 < length workers.old }
+    requires own { All (IsWorkerOf board.now) workers.old }
+    ensures own { All (IsWorkerOf board.now) workers.new }
+    ensures count { length workers.new ≡ length workers.old }
+    ensures each { (i : ℕ) (d : _) → i < length workers.old
+        → HasWorked (slice_index_or workers.old i d) (slice_index_or workers.new i d) }
+{
+    let count = workers.len();
+    let one = |_: usize, worker: &mut Worker|
+        requires { IsWorkerOf board.now worker.now }
+        ensures { HasWorked worker.entry.now worker.exit.now }
+    { work_one(rt, board, locks, worker, gate) };
+    thread::for_each_mut(rt, workers, count, &one);
+}
+
+// Lets each worker of a row work, one after another, and says how they ended.
+fn end_all<R: Wait, G: Gate>(
+    rt: &R,
+    board: &SharedBoard,
+    locks: &Locks,
+    workers: &mut [Worker],
+    gate: &G,
+) -> Ended
+    requires { All (IsWorkerOf board.now) workers.old }
+    ensures own { All (IsWorkerOf board.now) workers.new }
+    ensures worked { HaveWorked workers.old workers.new }
+    ensures ended { HaveEnded result workers.new }
+{
+    for k in 0..workers.len() {
+        match work(rt, board, locks, &mut workers[k], gate) {
+            Ended::Finished => {}
+            Ended::Halted => return Ended::Halted,
+        }
+    }
+    Ended::Finished
+}
+
+/// Answers the tasks of a board: each worker, in a thread of its own, claims a task, answers it by
+/// the least best response of its unit, and posts that, until its claim finds the board finished or
+/// halted. Where a thread can't be started, the work is done on this one. `Finished` comes only
+/// where each worker's seat has seen a finished history, and `Halted` only where one has seen a
+/// halt. No worker halts, and all memory is the workers' own.
+///
+/// There is a worker at least, each has a seat of this board and parts that fit its case, and so it
+/// is afterwards. A seat keeps its caller and what it names, the owner's also how many seats were
+/// made and whose are out; each has seen what it had seen, and more.
+pub fn answer_all<R: Threads + Wait + Sync, G: Gate>(
+    rt: &R,
+    board: &SharedBoard,
+    workers: &mut [Worker],
+    gate: &G,
+) -> Ended
+    requires some { 0 < length workers.old }
+    requires own { All (IsWorkerOf board.now) workers.old }
+    ensures own { All (IsWorkerOf board.now) workers.new }
+    ensures worked { HaveWorked workers.old workers.new }
+    ensures ended { HaveEnded result workers.new }
+{
+    let locks = Locks {
+        call: Mutex::new(Call),
+        lookout: Mutex::new(Lookout),
+    };
+    work_each(rt, board, &locks, workers, gate);
+    // The threads hand back no answers, so each worker is asked once more: nothing is left to do.
+    end_all(rt, board, &locks, workers, gate)
+}

@@ -1,0 +1,17 @@
+//! Workers that answer the tasks of one shared board, each in a thread of its own.
+//!
+//! A worker claims a task, answers it on its own bench and posts the answer, until a claim finds
+//! the board finished or halted. It holds neither a turn at the board nor a lock while it answers.
+#![tactic(auto)]
+
+mod all;
+mod gate;
+mod tasks;
+mod waiting;
+mod work;
+mod worker;
+
+pub use all::answer_all;
+pub use gate::{Gate, NoGate};
+pub use tasks::{answer_task, most_points};
+pub use worker::{Ended, Worker};
