@@ -155,10 +155,11 @@ held_input run i ready planned same = record {
 
 -- what its board is made for
 pub held_setup : CommitmentsAreFixed → (given : Case) (plan : Plan) (cost : ℤ) (size : RunSize) (held : Case) → IsHeldInput given plan cost size → market_of held ≡ fixed_market (market_of given) (schedules_of plan)
-    → IsSetup (setup_for held plan cost size.proposals size.ahead 1)
+    → IsSetup (setup_for held plan cost size.proposals size.ahead size.workers)
 held_setup law given plan cost size held h same =
     let m = market_of given in
     let fixing = law m (schedules_of plan) given.valid h.feasible in
+    let most = h.within.workers_in.at_most in
     record {
       market = held.valid;
       feasible = subst (λ (x : Market). IsFeasiblePlan x (schedules_of plan)) (sym same) fixing.feasible;
@@ -167,8 +168,8 @@ held_setup law given plan cost size held h same =
       budget = h.within.budget_in.at_most;
       some_ahead = h.within.ahead_in.at_least;
       ahead = h.within.ahead_in.at_most;
-      some_caller = omega arith;
-      callers = omega arith;
+      some_caller = h.within.workers_in.at_least;
+      callers = omega (arith, most);
       size = subst (λ (x : Market). size.proposals * unit_count x * x.periods ≤ 50000000) (sym same)
           (subst (λ (k : ℕ). size.proposals * k * m.periods ≤ 50000000) (sym fixing.count) h.work);
     }

@@ -5,6 +5,6 @@ use Rattle.hull_engine.proofs.FixedLaws.{held_input}
 use Rattle.hull_engine.proofs.fixed.both_sides.Goals as goal
 
 pub fixed_side-requires : goal.fixed_side-requires
-fixed_side-requires c =
+fixed_side-requires g c =
     rw (to_z-of_z w128 c.in_ok-hull.input.cost (search rules))
     (held_input c.args.run c.in_ok-hull.input c.requires c.in_ok-hull.ensures.planned c.in_ok-hull.ensures.input)
