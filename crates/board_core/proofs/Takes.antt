@@ -40,9 +40,9 @@ taken_here tells b h x l I k n u ρ v a task fit earned none =
     let tells_it = tells (content b h) k n u ρ v a says.0 I.setup.market task fit earned says.1 in
     let t = tells_it.0 in
     let o = opened_is b l I.ledger (posts h) I.rounds in
-    let w = t.open_ in
+    let w = t.task.open_ in
     record {
-      held = record { one = t.from_one; within = omega (arith, o, w); inside = t.inside; none_yet = t.first; held = t.held_by };
+      held = record { one = t.task.from_one; within = omega (arith, o, w); inside = t.task.unit; none_yet = t.first; held = t.held_by };
       is = t.unit;
       right = t.right;
       long = t.long;

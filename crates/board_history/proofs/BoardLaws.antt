@@ -45,9 +45,7 @@ taken_tells s k n u ρ x a closed limits task fit earned reply =
     let own = same_is_own s.setup (posts h) n u ρ x limits task t.unit t.same in
     let lengths = fit_lengths x ρ a.schedule fit in (
       record {
-        from_one = t.from_one;
-        open_ = t.open_;
-        inside = t.unit;
+        task = record { from_one = t.from_one; open_ = t.open_; unit = t.unit };
         held_by = t.held_by;
         first = t.first;
         unit = own.unit;

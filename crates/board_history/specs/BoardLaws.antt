@@ -5,9 +5,10 @@ use Rattle.board_history.specs.Board.{Setup, Answer, Content, no_answer, rules_o
 use Rattle.board_history.specs.Bounds.{TotalsAreWithin, RowsAreWithin, RowsAreAtMostCost}
 use Rattle.board_history.specs.Calls.{post_answer}
 use Rattle.board_history.specs.Laws.{ClaimsMean, AnswersFit}
-use Rattle.board_history.specs.Rounds.{Event, Given, Taken, Closing, Stopped, sooner, only_at, Holders, holders, Posts, posts, with_post, rows_by, prices_by, opened_in, is_closed, rows_to, prices_at, closed_front, free_front, opened, TakenPost, IsNext}
+use Rattle.board_history.specs.Rounds.{Event, Given, Taken, Closing, Stopped, sooner, only_at, Holders, holders, Posts, posts, with_post, rows_by, prices_by, opened_in, is_closed, rows_to, prices_at, closed_front, free_front, TakenPost, IsNext}
 use Rattle.board_history.specs.Tasks.{difference, IsTask}
 use Rattle.board_history.specs.Totals.{AddsOne}
+use Rattle.board_history.specs.Words.{IsOpenTask}
 use Rattle.uc_model.specs.Data.{AnyUnit, PriceLists, units, unit_count}
 use Rattle.uc_model.specs.Earnings.{earnings}
 use Rattle.uc_model.specs.Limits.{IsMarket}
@@ -71,8 +72,8 @@ ClosedIsPosted b p =
     (x : ℕ × Answer) × (p n u ≡ Some x)
 
 -- each post of p is one of q
-abbrev pub Extends : Posts Answer → Posts Answer → Type 0
-Extends p q = (n u : ℕ) (x : ℕ × Answer) → p n u ≡ Some x → q n u ≡ Some x
+abbrev pub Extends : {A : Type 0} → Posts A → Posts A → Type 0
+Extends {A} p q = (n u : ℕ) (x : ℕ × A) → p n u ≡ Some x → q n u ≡ Some x
 
 -- with more posts, what is closed stays so, and so do the rows of what is closed
 pub record StaysClosed (b : Setup) (p q : Posts Answer) : Type 0 where
@@ -129,12 +130,10 @@ NextIsLegal =
 
 -- ---- a post that is taken
 
--- its task is the board's own, open, held by its caller and without an answer, and its answer is
--- right, with a schedule over the horizon
+-- its task is open, held by its caller, without an answer and of the board's own unit, and its
+-- answer is right, with a schedule over the horizon
 pub record IsTaken (s : Content) (k n u : ℕ) (x : AnyUnit) (a : Answer) : Type 0 where
-  pub from_one : 0 < n
-  pub open_ : n ≤ opened (rules_of s.setup) (posts s.events)
-  pub inside : u < unit_count s.setup.market
+  pub task : IsOpenTask (rules_of s.setup) (posts s.events) n u
   pub held_by : holders s.events n u ≡ Some k
   pub first : posts s.events n u ≡ None
   pub unit : slice_get (units s.setup.market) u ≡ Some x
