@@ -6,12 +6,9 @@ use Rattle.std.proofs.lemmas.List.Sums.{prefix_len-le-length, prefix_len_passes}
 use Rattle.std.proofs.Math.Seq.{get_or-append_seam}
 use Rattle.std.specs.Option.{option_map_or}
 use Rattle.std.specs.Prelude.{is_some, not}
+use Rattle.board_history.specs.BoardLaws.{Extends}
 use Rattle.board_history.specs.Rounds.{Rules, Posts, is_closed, answer_at, answers, with_row, rows_by, prices_by, row_by, rows_to, prices_at, closed_front, rows_of, free_front, opened}
 use Rattle.board_history.proofs.Fronts.{all_in_range, range_passes, map_range_same, some_of, prefix_most, front_le, front_passes, front_most}
-
--- each post of p is one of q
-abbrev pub Extends : {A : Type 0} → Posts A → Posts A → Type 0
-Extends {A} p q = (n u : ℕ) (x : ℕ × A) → p n u ≡ Some x → q n u ≡ Some x
 
 pub take_nil : {X : Type 0} (n : ℕ) → take {A = X} n [] ≡ []
 take_nil zero = refl

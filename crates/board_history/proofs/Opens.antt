@@ -27,13 +27,6 @@ prefix_whole t (y ∷ ys) x h =
     ] h
 
 module _ {P R A : Type 0} (g : Rules P R A) (rows : List R) (r : R) where
-  free_cases : (free_in g rows < length rows → ⊥) → free_in g rows ≡ length rows
-  free_cases h =
-      elim (cases_lt (free_in g rows) (length rows)) [
-        | inl less ↦ absurd (h less)
-        | inr more ↦ omega (arith, more, prefix_len-le-length (λ (x : R). not (g.settled x)) rows)
-      ]
-
   pub opens_one : opened_in g rows ≡ length rows + g.ahead → opened_in g rows < g.budget → g.settled r ≡ false → opened_in g (rows ++ r ∷ []) ≡ opened_in g rows + 1
   opens_one all more free =
       let whole : free_in g rows ≡ length rows = omega (arith, all, more) in

@@ -12,7 +12,7 @@ use Rattle.std.specs.Option.{option_map_or}
 use Rattle.std.specs.Prelude.{nat_le, slice_get}
 use Rattle.uc_model.specs.Data.{AnyUnit, Bid, PriceLists, Schedule, Market, units, unit_count}
 use Rattle.uc_model.specs.BoundLaws.{GivesWithin}
-use Rattle.uc_model.specs.Limits.{IsFrom, IsTotal, IsHorizon, IsMarket, ArePrices, price_limit}
+use Rattle.uc_model.specs.Limits.{IsFrom, IsUnit, IsTotal, IsHorizon, IsMarket, ArePrices, price_limit}
 use Rattle.uc_model.specs.PriceRule.{Proposal, start_prices, opening_prices_of, stepped_prices, move_of, squared_length, energy_direction, reserve_direction, age, no_prices, next_prices}
 use Rattle.uc_model.specs.Runs.{Fits}
 use Rattle.uc_model.specs.Sums.{int_at, total, floor_div, clamped}
@@ -29,8 +29,8 @@ use Rattle.board_history.specs.Rounds.{Rules, Event, Posts, posts, prices_at, an
 use Rattle.board_history.proofs.Answered.{all_answer}
 use Rattle.board_history.proofs.Kept.{rows_length}
 use Rattle.board_history.proofs.OwnTasks.{own_horizon, own_reserve_horizon}
-use Rattle.board_history.proofs.RowLaws.{units_length, zip_range, fits_is_best, rows_fit, row_is}
-use Rattle.board_history.proofs.UnitBounds.{IsLimited, no_output, earnings_within}
+use Rattle.board_history.proofs.RowLaws.{units_length, zip_range, fits_is_best, rows_fit, rows_are_made}
+use Rattle.board_history.proofs.UnitBounds.{no_output, earnings_within}
 
 -- numbers of a range within a bound
 range_within : (c : ℕ) (z : Answer → ℤ) (f : ℕ → Answer) (a n : ℕ) → ((k : ℕ) → k < a + n → IsWithin c (z (f k))) → IsWithin (n * c) (total (map z (map f (range_with_len a n))))
@@ -46,8 +46,8 @@ range_within c z f a (suc n) each =
 
 -- ---- the units of a case
 
-unit_limited : (m : Market) → IsMarket m → (u : ℕ) (x : AnyUnit) → slice_get (units m) u ≡ Some x → IsLimited x
-unit_limited m limits u x is = subst IsLimited (get_or_from_slice_get (units m) u x x is) (units_within m limits u x (slice_get_within (units m) u x is))
+unit_limited : (m : Market) → IsMarket m → (u : ℕ) (x : AnyUnit) → slice_get (units m) u ≡ Some x → IsUnit x
+unit_limited m limits u x is = subst IsUnit (get_or_from_slice_get (units m) u x x is) (units_within m limits u x (slice_get_within (units m) u x is))
 
 -- ---- prices
 
@@ -202,7 +202,7 @@ module _ (b : Setup) (h : List (Event Answer)) (limits : IsMarket b.market) (leg
 
 pub rows_are_within : RowsAreWithin
 rows_are_within b h limits ahead legal k d inside =
-    subst (λ (r : Proposal). IsRowWithin b.market r) (sym (row_is b h k d ahead inside)) (row_within b h limits legal (suc k))
+    subst (λ (r : Proposal). IsRowWithin b.market r) (sym (rows_are_made b h ahead k d inside).made) (row_within b h limits legal (suc k))
 
 pub rows_are_at_most_cost : RowsAreAtMostCost
 rows_are_at_most_cost b h limits ahead legal plan cost k d inside =
