@@ -4,7 +4,7 @@ use Rattle.std.specs.Prelude.{ℤ, ◌+ℤ◌, ◌≤ℤ◌, MatchOption}
 use Rattle.std.specs.Option.{option_map}
 use Rattle.std.proofs.lemmas.Int.{ints}
 use Rattle.shape_law.specs.Table.{Table, value_of}
-use Rattle.shape_law.specs.Effect.{IsPoint, IsSame, IsSum, IsCurveSum, IsWindow}
+use Rattle.shape_law.specs.Effect.{IsPoint, IsWindow}
 use Rattle.shape_law.specs.Laws.{PointIsExact, SumIsExact, CurveSumIsExact, WindowIsExact, SumIsOfValues, CurveSumIsOfValues, WindowIsOfValues}
 use Rattle.shape_law.proofs.ConvexLaws.{same_some}
 
@@ -54,22 +54,6 @@ window_is_exact up down lo hi f g g' w w' x =
     same_by (value_of g x) (value_of g' x) (window_value up down lo hi f g g' w w' x) (window_value up down lo hi f g' g w' w x)
 
 -- ---- the effects of a function that has the same values as another
-
-pub IsSame-then : (f g h : Table) → IsSame f g → IsSame g h → IsSame f h
-IsSame-then f g h a b x = b x ∙ a x
-
-pub IsSum-from_same : (term : ℤ → ℤ) (f f' g : Table) → IsSame f f' → IsSum term f' g → IsSum term f g
-IsSum-from_same term f f' g same sum x = sum x ∙ ap (option_map (λ v. v +ℤ term x)) (same x)
-
-pub IsCurveSum-from_same : (curve : ℤ → Option ℤ) (shift : ℤ) (f f' g : Table) → IsSame f f' → IsCurveSum curve shift f' g → IsCurveSum curve shift f g
-IsCurveSum-from_same curve shift f f' g same sum x =
-    subst (λ o. MatchOption o (value_of g x ≡ None) (λ v. (c : ℤ) × (curve (x +ℤ shift) ≡ Some c) × (value_of g x ≡ Some (v +ℤ c)))) (same x) (sum x)
-
-pub IsWindow-from_same : (up down lo hi : ℤ) (f f' g : Table) → IsSame f f' → IsWindow up down lo hi f' g → IsWindow up down lo hi f g
-IsWindow-from_same up down lo hi f f' g same w = record {
-  reached = λ x v h. let r = w.reached x v h in (r.0, sym (same r.0) ∙ r.1, r.2, r.3);
-  least = λ x y u h inside reach. w.least x y u (same y ∙ h) inside reach;
-}
 
 pub sum_is_of_values : SumIsOfValues
 sum_is_of_values term f f' g g' same new sum x = new x ∙ sum x ∙ ap (option_map (λ v. v +ℤ term x)) (sym (same x))

@@ -1,6 +1,6 @@
 -- A call on one shape leaves the shapes that are apart from it.
-use Rattle.std.proofs.Common.{◌≡◌, ℕ, List, [], ◌∷◌, ◌∙◌, sym, ap, subst, inl, inr}
-use Rattle.std.specs.Prelude.{◌⊎◌, slice_get}
+use Rattle.std.proofs.Common.{◌≡◌, ℕ, List, [], ◌∷◌, ◌∙◌, ap, subst, inl, inr}
+use Rattle.std.specs.Prelude.{◌⊎◌}
 use Rattle.std.specs.Option.{option_map}
 use Rattle.std.proofs.lemmas.Bool.{cases_eq}
 use Rattle.shape_law.specs.Table.{Table}
@@ -14,14 +14,6 @@ is_among n (x ∷ xs) =
       | inl e ↦ inl (inl e)
       | inr d ↦ elim (is_among n xs) [ inl h ↦ inl (inr h) | inr none ↦ inr (λ h. elim h [ inl e ↦ d e | inr k ↦ none k ]) ]
     ]
-
--- a call that leaves the home as it was changes nothing for other shapes
-pub frame_same : {H S : Type 0} (cell_list : H → List Cell) (is_in : H → S → Type 0) (numbers : H → S → List ℕ) (own : List ℕ) (h h' : H) → h' ≡ h → Frame cell_list is_in numbers own own h h'
-frame_same cell_list is_in numbers own h h' same = record {
-  changes = λ n u out. ap (λ x. slice_get (cell_list x) n) same;
-  gains = λ n inside out u. out inside;
-  stays = λ other here apart. subst (λ x. is_in x other) (sym same) here;
-}
 
 module _ {H S : Type 0} (cell_list : H → List Cell) (is_in : H → S → Type 0) (numbers : H → S → List ℕ) (function : H → S → Table)
     (law : (h h' : H) (s : S) → is_in h s → AreSameAt (numbers h s) (cell_list h) (cell_list h') → (numbers h' s ≡ numbers h s) × (function h' s ≡ function h s))

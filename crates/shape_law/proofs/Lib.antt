@@ -4,4 +4,3 @@ pub mod CurveLaws
 pub mod EffectLaws
 pub mod FrameLaws
 pub mod LimitLaws
-pub mod TableLaws
