@@ -4,7 +4,7 @@ ghost use Rattle.task_deal.specs.declared.tests.Keeper.{Keeper};
 
 use crate::{Job, deal_all};
 use std::alloc::{AllocError, Global};
-use std::sync::atomic::AtomicBool;
+use std::sync::atomic::AtomicUsize;
 use std::sync::atomic::Ordering::SeqCst;
 use std::thread;
 use uc_model::lists::ReservedList;
@@ -85,13 +85,14 @@ fn four_jobs_run_each_number_once(rt: HostRuntime) -> Result<(), AllocError> {
 // How often a job looks for the other.
 const MOST_LOOKS: u32 = 100_000_000;
 
-/// Keeps the numbers that it ran. At its first it looks until the other job has begun one, and
-/// notes whether it looked in vain.
+/// Keeps the numbers that it ran. At each of its first ones it looks until the other job has begun
+/// as many, and notes whether it ever looked in vain.
 #[derive(Drop)]
 struct Watcher<'a> {
     numbers: ReservedList<u32>,
-    begun: &'a AtomicBool,
-    other_begun: &'a AtomicBool,
+    watched: usize,
+    begun: &'a AtomicUsize,
+    other_begun: &'a AtomicUsize,
     in_vain: bool,
 }
 
@@ -105,17 +106,18 @@ impl<'a> Job for Watcher<'a> {
     ghost spare = { λ job. job.numbers.spare };
 
     fn run(&mut self, task: u32) {
-        if self.numbers.is_empty() {
-            self.begun.store(true, SeqCst);
-            self.in_vain = !is_set_in_time(self.other_begun);
+        let before = self.numbers.len();
+        if before < self.watched {
+            self.begun.store(before + 1, SeqCst);
+            self.in_vain |= !is_past_in_time(self.other_begun, before);
         }
         self.numbers.push(task);
     }
 }
 
-fn is_set_in_time(flag: &AtomicBool) -> bool {
+fn is_past_in_time(count: &AtomicUsize, before: usize) -> bool {
     for _ in 0..MOST_LOOKS {
-        if flag.load(SeqCst) {
+        if count.load(SeqCst) > before {
             return true;
         }
         thread::yield_now();
@@ -125,14 +127,17 @@ fn is_set_in_time(flag: &AtomicBool) -> bool {
 
 fn new_watcher<'a>(
     alloc: Global,
-    begun: &'a AtomicBool,
-    other_begun: &'a AtomicBool,
+    room: u32,
+    watched: usize,
+    begun: &'a AtomicUsize,
+    other_begun: &'a AtomicUsize,
 ) -> Result<Watcher<'a>, AllocError>
-    ensures { IfOk result (λ job. 2 ≤ job.numbers.spare) }
+    ensures { IfOk result (λ job. room ≤ job.numbers.spare) }
 {
-    let numbers = ReservedList::make(alloc, 2)?;
+    let numbers = ReservedList::make(alloc, room)?;
     Ok(Watcher {
         numbers,
+        watched,
         begun,
         other_begun,
         in_vain: false,
@@ -141,14 +146,16 @@ fn new_watcher<'a>(
 
 fn watchers<'a>(
     alloc: Global,
-    one: &'a AtomicBool,
-    two: &'a AtomicBool,
+    room: u32,
+    watched: usize,
+    one: &'a AtomicUsize,
+    two: &'a AtomicUsize,
 ) -> Result<Vec<Watcher<'a>>, AllocError>
     ensures count { IfOk result (λ jobs. length jobs.items ≡ 2) }
-    ensures room { IfOk result (λ jobs. All (λ job. 2 ≤ job.numbers.spare) jobs.items) }
+    ensures room { IfOk result (λ jobs. All (λ job. room ≤ job.numbers.spare) jobs.items) }
 {
-    let first = new_watcher(alloc, one, two)?;
-    let second = new_watcher(alloc, two, one)?;
+    let first = new_watcher(alloc, room, watched, one, two)?;
+    let second = new_watcher(alloc, room, watched, two, one)?;
     let mut jobs = Vec::new(alloc);
     jobs.push(first)?;
     jobs.push(second)?;
@@ -157,11 +164,25 @@ fn watchers<'a>(
 
 #[test]
 fn two_jobs_run_on_two_threads(rt: HostRuntime) -> Result<(), AllocError> {
-    let (one, two) = (AtomicBool::new(false), AtomicBool::new(false));
-    let mut jobs = watchers(rt.alloc(), &one, &two)?;
+    let (one, two) = (AtomicUsize::new(0), AtomicUsize::new(0));
+    let mut jobs = watchers(rt.alloc(), 2, 1, &one, &two)?;
     deal_all(&rt, rt.alloc(), 2, &mut jobs)?;
     for job in &jobs {
         assert_eq!(rt; job.numbers.len(), 1);
+        assert!(rt; !job.in_vain);
+    }
+    Ok(())
+}
+
+// While one job waits in its second run, at most 34 numbers have been taken for it: the first alone,
+// and the second with a batch of at most 32 more. So there are numbers left for the other.
+#[test]
+fn both_jobs_go_on_after_their_first_number(rt: HostRuntime) -> Result<(), AllocError> {
+    let (one, two) = (AtomicUsize::new(0), AtomicUsize::new(0));
+    let mut jobs = watchers(rt.alloc(), 100, 2, &one, &two)?;
+    deal_all(&rt, rt.alloc(), 100, &mut jobs)?;
+    for job in &jobs {
+        assert!(rt; job.numbers.len() >= 2);
         assert!(rt; !job.in_vain);
     }
     Ok(())
