@@ -8,9 +8,8 @@ use Rattle.std.specs.List.{range_with_len}
 use Rattle.std.specs.Option.{option_map_or}
 use Rattle.std.specs.Prelude.{not, nat_lt, nat_le, slice_get, slice_index}
 use Rattle.board_history.specs.Board.{Setup, Answer, rules_of}
+use Rattle.board_history.specs.BoardLaws.{RoundLaws}
 use Rattle.board_history.specs.Rounds.{Rules, rows_by, prices_by, opened_in}
-use Rattle.board_history.proofs.Kept.{rows_by_more}
-use Rattle.board_history.proofs.Opens.{opens_one, opens_none}
 use Rattle.price_move.specs.declared.next.Moved.{Moved}
 use Rattle.price_move.specs.declared.next.Moved.TheVariants.{Made, Settled}
 use Rattle.price_move.specs.Moves.{is_last_settled}
@@ -68,7 +67,7 @@ pub moved_over : (moved : Moved) (m : Market) (cost : ℤ) (rows : List Proposal
 moved_over Made m cost rows π old made settled some over = ap (λ (p : PriceLists). length p.energy) (made refl) ∙ next_over m cost rows some
 moved_over Settled m cost rows π old made settled some over = ap (λ (p : PriceLists). length p.energy) (settled refl) ∙ over
 
-module _ (b : Setup) (ahead : 1 ≤ b.ahead) (units : ℕ) (counts : List ℕ) (s : Sums) (f : Fronts) (old : IsRound b units counts s f) where
+module _ (b : Setup) (laws : RoundLaws b) (ahead : 1 ≤ b.ahead) (units : ℕ) (counts : List ℕ) (s : Sums) (f : Fronts) (old : IsRound b units counts s f) where
   abbrev m : ℕ
   m = length f.rows
 
@@ -99,7 +98,7 @@ module _ (b : Setup) (ahead : 1 ≤ b.ahead) (units : ℕ) (counts : List ℕ) (
   rows_next h =
       ap (λ (π : PriceLists). f.rows ++ make π (suc m) ∷ []) (price_is h)
       ∙ ap (λ (xs : List Proposal). xs ++ make (prices_by g make (suc m)) (suc m) ∷ []) old.rows_are
-      ∙ sym (rows_by_more g make ahead m)
+      ∙ sym ((laws.rows make).more ahead m)
 
   abbrev due : Bool
   due = opens b (record { rows = more_rows; prices = f.prices })
@@ -111,7 +110,7 @@ module _ (b : Setup) (ahead : 1 ≤ b.ahead) (units : ℕ) (counts : List ℕ) (
       let all = say.0 in
       let few = say.1 in
       let free : is_settled b.market b.cost r ≡ false = sym (last_settled b.market b.cost f.rows r) ∙ say.2 in
-      let one = opens_one g f.rows r (omega (arith, all, prices_length, rows_long)) (omega (arith, few, prices_length)) free in
+      let one = (laws.opens f.rows r).one (record { all_free = omega (arith, all, prices_length, rows_long); within = omega (arith, few, prices_length); free = free }) in
       let fn = prices_by g make in
       let j = opened_in g f.rows + 1 in
       let place : j - b.ahead ≡ suc m = omega (arith, all, prices_length, rows_long) in
@@ -124,8 +123,10 @@ module _ (b : Setup) (ahead : 1 ≤ b.ahead) (units : ℕ) (counts : List ℕ) (
       ∙ sym (map-range_with_len_more fn 1 (opened_in g f.rows) j (omega arith))
       ∙ ap (λ (n : ℕ). map fn (range_with_len 1 n)) (sym one)
   prices_next h false is =
-      let none = opens_none g f.rows r (λ all few free.
-      opens_from (length f.prices + 1) (length more_rows + b.ahead) (length f.prices) b.budget (is_last_settled b.market b.cost more_rows) is (omega (arith, all, prices_length, rows_long)) (omega (arith, few, prices_length)) (last_settled b.market b.cost f.rows r ∙ free)) in
+      let none = (laws.opens f.rows r).none (λ o.
+      let all = o.all_free in
+      let few = o.within in
+      opens_from (length f.prices + 1) (length more_rows + b.ahead) (length f.prices) b.budget (is_last_settled b.market b.cost more_rows) is (omega (arith, all, prices_length, rows_long)) (omega (arith, few, prices_length)) (last_settled b.market b.cost f.rows r ∙ o.free)) in
       old.prices_are ∙ ap (λ (n : ℕ). map (prices_by g make) (range_with_len 1 n)) (sym none)
 
   pub round_more : m < b.budget → m < length f.prices → is_full units counts (suc m) ≡ true → IsRound b units counts s (with_round b s f)

@@ -2,8 +2,8 @@
 use Rattle.std.proofs.Common.{◌≡◌, ℕ, suc, ◌<◌, Option, Some, None, List, [], ◌∷◌, length, map, get_or, refl, sym, ap, ◌∙◌, arith}
 use Rattle.std.specs.Option.{option_map_or}
 use Rattle.std.specs.Prelude.{slice_get}
-use Rattle.board_history.proofs.SameTask.{difference_none}
 use Rattle.board_history.specs.Board.{Setup}
+use Rattle.board_history.specs.BoardLaws.{DifferencesMean}
 use Rattle.board_history.specs.Calls.{differs_from}
 use Rattle.board_history.specs.Tasks.{difference}
 use Rattle.uc_model.specs.Data.{AnyUnit, PriceLists, ThermalUnit, units}
@@ -47,11 +47,11 @@ same_units g h p t lags points window = λ i. record {
 }
 
 -- the board's own task differs in nothing
-pub no_difference : (b : Setup) (u : ℕ) (π ρ : PriceLists) (x : AnyUnit) → π ≡ ρ → slice_get (units b.market) u ≡ Some x → differs_of (differs_from b u ρ x π) ≡ None
-no_difference b u π ρ x prices is =
+pub no_difference : DifferencesMean → (b : Setup) (u : ℕ) (π ρ : PriceLists) (x : AnyUnit) → π ≡ ρ → slice_get (units b.market) u ≡ Some x → differs_of (differs_from b u ρ x π) ≡ None
+no_difference means b u π ρ x prices is =
     ap (λ (σ : PriceLists). differs_of (differs_from b u ρ x σ)) prices
     ∙ ap (λ (o : Option AnyUnit). differs_of (difference (option_map_or (task_numbers ρ) o []) (task_numbers ρ x))) is
-    ∙ ap differs_of (difference_none (task_numbers ρ x) (task_numbers ρ x) (λ i a b. refl))
+    ∙ ap differs_of ((means (task_numbers ρ x) (task_numbers ρ x)).none (λ i a b. refl))
 
 -- items of lists whose items are alike at each place
 pub one_item : (xs ys : List (Reserved Block)) (k : ℕ) (x y : Reserved Block) → map items_in xs ≡ map items_in ys → slice_get xs k ≡ Some x → slice_get ys k ≡ Some y → items_in x ≡ items_in y

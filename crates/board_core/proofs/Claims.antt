@@ -7,25 +7,20 @@ use Rattle.std.proofs.lemmas.List.FromFn.{get_or-map-range_with_len}
 use Rattle.std.proofs.lemmas.List.Folds.{list_any-append}
 use Rattle.std.proofs.lemmas.Option.{slice_get_past, slice_get-get_or}
 use Rattle.std.specs.List.{list_any}
-use Rattle.std.specs.Option.{option_map_or}
-use Rattle.std.specs.Prelude.{is_none, slice_get, slice_index_or}
-use Rattle.board_history.proofs.Answered.{posts-given, holders-given}
-use Rattle.board_history.proofs.NextTask.{first_in_rows, not_in_rows, place_before, place_same}
-use Rattle.board_history.proofs.Stays.{legal_more}
-use Rattle.board_history.specs.Board.{Setup, Answer, IsRight, no_answer, rules_of}
-use Rattle.board_history.specs.Rounds.{Rules, Event, Given, sooner, only_at, posts, holders, closed_front, opened, is_finished, prices_at, is_halt, is_halt_of, ClaimReply, Finished, Halted, GivenTask, NotYet, next_task, claim_reply}
+use Rattle.std.specs.Prelude.{slice_get, slice_index_or}
+use Rattle.board_history.specs.Board.{Setup, Answer, no_answer, rules_of}
+use Rattle.board_history.specs.BoardLaws.{BoardLaws}
+use Rattle.board_history.specs.Rounds.{Rules, Event, Given, sooner, only_at, posts, holders, closed_front, opened, is_finished, prices_at, is_halt, is_halt_of, Holders, Finished, Halted, GivenTask, NotYet, claim_reply}
+use Rattle.board_history.specs.Words.{IsHeld, IsGoing, ClaimSays}
 use Rattle.uc_model.specs.Data.{PriceLists, unit_count}
 use Rattle.uc_model.specs.PriceRule.{Proposal, no_prices}
-use Rattle.uc_model.specs.Runs.{Fits}
 use Rattle.board_core.specs.Events.{place}
 use Rattle.board_core.specs.Ledgers.{LedgerValue}
 use Rattle.board_core.specs.Parts.{Lists, task_count, sums_of, fronts_of, AreTakers, mark, AreMarks, AreTallies, AreRounds, IsBoard}
 use Rattle.board_core.specs.Setups.{IsSetup}
 use Rattle.board_core.proofs.Fronts.{closed_is, opened_is}
 use Rattle.board_core.proofs.Halts.{or_false}
-
-is_none_of : {X : Type 0} (o : Option X) (x : X) → o ≡ Some x → is_none o ≡ false
-is_none_of o x h = ap is_none h
+use Rattle.board_core.proofs.Lists.{place_before, place_same}
 
 slice_get-snoc : {X : Type 0} (xs : List X) (x : X) (i : ℕ) → slice_get (xs ++ x ∷ []) i ≡ sooner (slice_get xs i) (cond (i == length xs) (Some x) None)
 slice_get-snoc [] x zero = refl
@@ -73,9 +68,6 @@ module _ (b : Setup) (h : List (Event Answer)) (x : Lists) (l : LedgerValue) (I 
   o_is : l.opened ≡ opened g (posts h)
   o_is = opened_is b l I.ledger (posts h) I.rounds
 
-  c_is : l.closed ≡ closed_front g (posts h)
-  c_is = closed_is b l I.ledger (posts h) I.rounds
-
   -- the prices of an open proposal
   pub price_is : (k : ℕ) (d : Proposal) → k < l.opened → (get_or l.proposals k d).prices ≡ prices_at g (posts h) (k + 1)
   price_is k d i =
@@ -86,144 +78,149 @@ module _ (b : Setup) (h : List (Event Answer)) (x : Lists) (l : LedgerValue) (I 
       ∙ ap (λ (xs : List PriceLists). get_or xs k no_prices) I.rounds.prices_are
       ∙ get_or-map-range_with_len (prices_at g (posts h)) 1 (opened g (posts h)) k (k + 1) no_prices (omega (arith, i, o)) (omega arith)
 
-  abbrev rest : ClaimReply
-  rest = option_map_or (λ (t : ℕ × ℕ). GivenTask t.0 t.1) (next_task g.units (opened g (posts h)) (holders h)) NotYet
+  module _ (laws : BoardLaws) where
+    c_is : l.closed ≡ closed_front g (posts h)
+    c_is = closed_is b l I.ledger (posts h) I.rounds (laws.of b)
 
-  pub claim_finished : l.opened ≤ l.closed → claim_reply g h ≡ Finished
-  claim_finished i =
-      let f : is_finished g (posts h) ≡ true = let o = o_is in let c = c_is in le-leb (opened g (posts h)) (closed_front g (posts h)) (omega (arith, i, o, c)) in
-      ap (λ (t : Bool). cond t Finished (cond (list_any is_halt h) Halted rest)) f
+    says : ClaimSays g h
+    says = laws.claims_mean b h
 
-  past_finish : l.closed < l.opened → claim_reply g h ≡ cond (list_any is_halt h) Halted rest
-  past_finish i =
-      let f : is_finished g (posts h) ≡ false = let o = o_is in let c = c_is in lt-leb (opened g (posts h)) (closed_front g (posts h)) (omega (arith, i, o, c)) in
-      ap (λ (t : Bool). cond t Finished (cond (list_any is_halt h) Halted rest)) f
+    pub claim_finished : l.opened ≤ l.closed → claim_reply g h ≡ Finished
+    claim_finished i = let o = o_is in let c = c_is in says.finished.1 (le-leb (opened g (posts h)) (closed_front g (posts h)) (omega (arith, i, o, c)))
 
-  pub claim_halted : l.closed < l.opened → x.any_halt ≡ true → claim_reply g h ≡ Halted
-  claim_halted i halt = past_finish i ∙ ap (λ (t : Bool). cond t Halted rest) (sym I.halts.some ∙ halt)
+    not_finished : l.closed < l.opened → is_finished g (posts h) ≡ false
+    not_finished i = let o = o_is in let c = c_is in lt-leb (opened g (posts h)) (closed_front g (posts h)) (omega (arith, i, o, c))
 
-  past_halt : l.closed < l.opened → x.any_halt ≡ false → claim_reply g h ≡ rest
-  past_halt i calm = past_finish i ∙ ap (λ (t : Bool). cond t Halted rest) (sym I.halts.some ∙ calm)
+    pub claim_halted : l.closed < l.opened → x.any_halt ≡ true → claim_reply g h ≡ Halted
+    claim_halted i halt = says.halted.1 (not_finished i, sym I.halts.some ∙ halt)
 
-  abbrev count : ℕ
-  count = length x.takers
+    going : l.closed < l.opened → x.any_halt ≡ false → IsGoing g h
+    going i calm = (not_finished i, sym I.halts.some ∙ calm)
 
-  held_before : (m v k : ℕ) → 0 < m → m ≤ b.budget → v < units → m ≤ k → k * units ≤ count → is_none (holders h m v) ≡ false
-  held_before m v k low high i within before =
-      let p = place_before units k m v low within i in
-      is_none_of (holders h m v) (get_or x.takers (place units m v) 0)
-      (I.takers_are.each m v low high i ∙ slice_get-get_or x.takers (place units m v) 0 (omega (arith, p, before)))
+    abbrev count : ℕ
+    count = length x.takers
 
-  abbrev before : ℕ
-  before = count / units
+    held_before : (m v k : ℕ) → 0 < m → m ≤ b.budget → v < units → m ≤ k → k * units ≤ count → IsHeld g (holders h) m v
+    held_before m v k low high i within before =
+        let p = place_before units k m v low within i in
+        (get_or x.takers (place units m v) 0, I.takers_are.each m v low high i ∙ slice_get-get_or x.takers (place units m v) 0 (omega (arith, p, before)))
 
-  abbrev unit : ℕ
-  unit = count % units
+    abbrev before : ℕ
+    before = count / units
 
-  split : before * units + unit ≡ count
-  split = let u = some_units b I.setup in omega (arith, u)
+    abbrev unit : ℕ
+    unit = count % units
 
-  pub unit_within : unit < units
-  unit_within = let u = some_units b I.setup in omega (arith, u)
+    split : before * units + unit ≡ count
+    split = let u = some_units b I.setup in omega (arith, u)
 
-  place_is : place units (before + 1) unit ≡ count
-  place_is =
-      let e : before + 1 - 1 ≡ before = omega arith in
-      ap (λ (k : ℕ). k * units + unit) e ∙ split
+    pub unit_within : unit < units
+    unit_within = let u = some_units b I.setup in omega (arith, u)
 
-  in_budget : (m : ℕ) → m ≤ l.opened → m ≤ b.budget
-  in_budget m h = let e = I.ledger.opened in omega (arith, h, e)
-
-  pub claim_not_yet : l.closed < l.opened → x.any_halt ≡ false → l.opened ≤ before → claim_reply g h ≡ NotYet
-  claim_not_yet i calm none =
-      let o = o_is in
-      past_halt i calm
-      ∙ ap (λ (o : Option (ℕ × ℕ)). option_map_or (λ (t : ℕ × ℕ). GivenTask t.0 t.1) o NotYet)
-      (not_in_rows (λ (t : ℕ × ℕ). is_none (holders h t.0 t.1)) units 1 (opened g (posts h)) (λ m v low high j.
-      let s = split in
-      held_before m v before low (in_budget m (omega (arith, high, o))) j (omega (arith, high, none, o)) (omega (arith, s))))
-
-  module _ (more : before < l.opened) where
-    task_free : holders h (before + 1) unit ≡ None
-    task_free =
-        I.takers_are.each (before + 1) unit (omega arith) (in_budget (before + 1) (omega (arith, more))) unit_within
-        ∙ ap (λ (k : ℕ). slice_get x.takers k) place_is ∙ slice_get_past x.takers count (omega arith)
-
-    here_held : (v : ℕ) → v < unit → is_none (holders h (before + 1) v) ≡ false
-    here_held v j =
-        let w = unit_within in
+    place_is : place units (before + 1) unit ≡ count
+    place_is =
         let e : before + 1 - 1 ≡ before = omega arith in
-        let q : place units (before + 1) v ≡ before * units + v = ap (λ (k : ℕ). k * units + v) e in
-        let s = split in
-        is_none_of (holders h (before + 1) v) (get_or x.takers (place units (before + 1) v) 0)
-        (I.takers_are.each (before + 1) v (omega arith) (in_budget (before + 1) (omega (arith, more))) (omega (arith, w, j))
-        ∙ slice_get-get_or x.takers (place units (before + 1) v) 0 (omega (arith, q, s, j)))
+        ap (λ (k : ℕ). k * units + unit) e ∙ split
 
-    pub claim_given : l.closed < l.opened → x.any_halt ≡ false → claim_reply g h ≡ GivenTask (before + 1) unit
-    claim_given i calm =
+    in_budget : (m : ℕ) → m ≤ l.opened → m ≤ b.budget
+    in_budget m h = let e = I.ledger.opened in omega (arith, h, e)
+
+    pub claim_not_yet : l.closed < l.opened → x.any_halt ≡ false → l.opened ≤ before → claim_reply g h ≡ NotYet
+    claim_not_yet i calm none =
         let o = o_is in
-        past_halt i calm
-        ∙ ap (λ (o : Option (ℕ × ℕ)). option_map_or (λ (t : ℕ × ℕ). GivenTask t.0 t.1) o NotYet)
-        (first_in_rows (λ (t : ℕ × ℕ). is_none (holders h t.0 t.1)) units 1 (opened g (posts h)) (before + 1) unit (omega arith) (omega (arith, more, o)) unit_within
-        (ap is_none task_free)
-        (λ k v low high j. let s = split in held_before k v before low (in_budget k (omega (arith, high, more))) j (omega (arith, high)) (omega (arith, s)))
-        (λ v j. here_held v j))
+        let s = split in
+        says.not_yet.1 (
+          going i calm,
+          λ m v t.
+              let w = t.open_ in
+              held_before m v before t.from_one (in_budget m (omega (arith, w, o))) t.unit (omega (arith, w, none, o)) (omega (arith, s)),
+        )
 
-    -- ---- one more claim
+    module _ (more : before < l.opened) where
+      task_free : holders h (before + 1) unit ≡ None
+      task_free =
+          I.takers_are.each (before + 1) unit (omega arith) (in_budget (before + 1) (omega (arith, more))) unit_within
+          ∙ ap (λ (k : ℕ). slice_get x.takers k) place_is ∙ slice_get_past x.takers count (omega arith)
 
-    pub count_within : count < task_count b
-    count_within =
-        let p = place_before units b.budget (before + 1) unit (omega arith) (in_budget (before + 1) (omega (arith, more))) unit_within in
-        let s = place_is in
-        omega (arith, p, s)
+      here_held : (v : ℕ) → v < unit → IsHeld g (holders h) (before + 1) v
+      here_held v j =
+          let w = unit_within in
+          let e : before + 1 - 1 ≡ before = omega arith in
+          let q : place units (before + 1) v ≡ before * units + v = ap (λ (k : ℕ). k * units + v) e in
+          let s = split in (
+            get_or x.takers (place units (before + 1) v) 0,
+            I.takers_are.each (before + 1) v (omega arith) (in_budget (before + 1) (omega (arith, more))) (omega (arith, w, j))
+                ∙ slice_get-get_or x.takers (place units (before + 1) v) 0 (omega (arith, q, s, j)),
+          )
 
-    takers_more : (c : ℕ) → AreTakers b (x.takers ++ c ∷ []) (holders (h ++ Given c (before + 1) unit ∷ []))
-    takers_more c = record {
-      count = let w = count_within in omega (arith, w, length-append x.takers (c ∷ []));
-      each = λ m v low high i.
-          holders-given h c (before + 1) unit m v
-          ∙ ap (λ (o : Option ℕ). sooner o (only_at (before + 1) unit c m v)) (I.takers_are.each m v low high i)
-          ∙ ap (λ (t : Bool). sooner (slice_get x.takers (place units m v)) (cond t (Some c) None))
-          (same_test units (before + 1) unit m v (omega arith) low unit_within i ∙ ap (λ (k : ℕ). place units m v == k) place_is)
-          ∙ sym (slice_get-snoc x.takers c (place units m v));
-    }
+      pub claim_given : l.closed < l.opened → x.any_halt ≡ false → claim_reply g h ≡ GivenTask (before + 1) unit
+      claim_given i calm =
+          let o = o_is in
+          (says.given (before + 1) unit).1 (
+            going i calm,
+            record {
+              task = record { from_one = omega arith; open_ = omega (arith, more, o); unit = unit_within };
+              free = task_free;
+              lower_proposals = λ k v low t. let s = split in held_before k v before t.from_one (in_budget k (omega (arith, low, more))) t.unit (omega (arith, low)) (omega (arith, s));
+              lower_units = here_held;
+            },
+          )
 
-    get_or-longer : (xs : List ℕ) (y i : ℕ) → i < length xs → get_or (xs ++ y ∷ []) i 0 ≡ get_or xs i 0
-    get_or-longer [] y i j = absurd (omega (arith, j))
-    get_or-longer (z ∷ zs) y zero j = refl
-    get_or-longer (z ∷ zs) y (suc i) j = get_or-longer zs y i (omega (arith, j))
+      -- ---- one more claim
 
-    mark_more : (c i : ℕ) → mark x.marks (x.takers ++ c ∷ []) x.kept i ≡ mark x.marks x.takers x.kept i
-    mark_more c i = choose (slice_index_or x.marks i false) (λ e. get_or-longer x.takers c i (I.marks_are.claimed i e))
-      where
-        choose : (t : Bool) → (t ≡ true → get_or (x.takers ++ c ∷ []) i 0 ≡ get_or x.takers i 0) →
-            cond {A = Option (ℕ × Answer)} t (Some (get_or (x.takers ++ c ∷ []) i 0, get_or x.kept i no_answer)) None ≡ cond {A = Option (ℕ × Answer)} t (Some (get_or x.takers i 0, get_or x.kept i no_answer)) None
-        choose true f = ap (λ (k : ℕ). Some (k, get_or x.kept i no_answer)) (f refl)
-        choose false f = refl
+      pub count_within : count < task_count b
+      count_within =
+          let p = place_before units b.budget (before + 1) unit (omega arith) (in_budget (before + 1) (omega (arith, more))) unit_within in
+          let s = place_is in
+          omega (arith, p, s)
 
-    marks_more : (c : ℕ) → AreMarks b x.marks (x.takers ++ c ∷ []) x.kept (posts h)
-    marks_more c = record {
-      marks_count = I.marks_are.marks_count;
-      kept_count = I.marks_are.kept_count;
-      each = λ n u low high i. I.marks_are.each n u low high i ∙ sym (mark_more c (place units n u));
-      claimed = λ i e. let j = I.marks_are.claimed i e in omega (arith, j, length-append x.takers (c ∷ []));
-    }
+      takers_more : (c : ℕ) → AreTakers b (x.takers ++ c ∷ []) (holders (h ++ Given c (before + 1) unit ∷ []))
+      takers_more c = record {
+        count = let w = count_within in omega (arith, w, length-append x.takers (c ∷ []));
+        each = λ m v low high i.
+            ap (λ (held : Holders). held m v) (laws.one_event h (Given c (before + 1) unit)).holders_are
+            ∙ ap (λ (o : Option ℕ). sooner o (only_at (before + 1) unit c m v)) (I.takers_are.each m v low high i)
+            ∙ ap (λ (t : Bool). sooner (slice_get x.takers (place units m v)) (cond t (Some c) None))
+            (same_test units (before + 1) unit m v (omega arith) low unit_within i ∙ ap (λ (k : ℕ). place units m v == k) place_is)
+            ∙ sym (slice_get-snoc x.takers c (place units m v));
+      }
 
-    pub claimed : (c : ℕ) → c < b.callers → l.closed < l.opened → x.any_halt ≡ false → IsBoard b (h ++ Given c (before + 1) unit ∷ []) (given_lists x c) l
-    claimed c caller i calm =
-        let e = Given c (before + 1) unit in
-        let same = sym (posts-given h c (before + 1) unit) in
-        record {
-          setup = I.setup;
-          legal = legal_more g (IsRight Fits b.market) h e I.legal (caller, claim_given i calm);
-          takers_are = takers_more c;
-          marks_are = subst (AreMarks b x.marks (x.takers ++ c ∷ []) x.kept) same (marks_more c);
-          tallies = subst (AreTallies b x.counts (sums_of l)) same I.tallies;
-          ledger = I.ledger;
-          rounds = subst (AreRounds b (fronts_of l)) same I.rounds;
-          halts = record {
-            count = I.halts.count;
-            each = λ d j. I.halts.each d j ∙ sym (list_any-append (is_halt_of d) h (e ∷ []) ∙ or_false (list_any (is_halt_of d) h));
-            some = I.halts.some ∙ sym (list_any-append is_halt h (e ∷ []) ∙ or_false (list_any is_halt h));
-          };
-        }
+      get_or-longer : (xs : List ℕ) (y i : ℕ) → i < length xs → get_or (xs ++ y ∷ []) i 0 ≡ get_or xs i 0
+      get_or-longer [] y i j = absurd (omega (arith, j))
+      get_or-longer (z ∷ zs) y zero j = refl
+      get_or-longer (z ∷ zs) y (suc i) j = get_or-longer zs y i (omega (arith, j))
+
+      mark_more : (c i : ℕ) → mark x.marks (x.takers ++ c ∷ []) x.kept i ≡ mark x.marks x.takers x.kept i
+      mark_more c i = choose (slice_index_or x.marks i false) (λ e. get_or-longer x.takers c i (I.marks_are.claimed i e))
+        where
+          choose : (t : Bool) → (t ≡ true → get_or (x.takers ++ c ∷ []) i 0 ≡ get_or x.takers i 0) →
+              cond {A = Option (ℕ × Answer)} t (Some (get_or (x.takers ++ c ∷ []) i 0, get_or x.kept i no_answer)) None ≡ cond {A = Option (ℕ × Answer)} t (Some (get_or x.takers i 0, get_or x.kept i no_answer)) None
+          choose true f = ap (λ (k : ℕ). Some (k, get_or x.kept i no_answer)) (f refl)
+          choose false f = refl
+
+      marks_more : (c : ℕ) → AreMarks b x.marks (x.takers ++ c ∷ []) x.kept (posts h)
+      marks_more c = record {
+        marks_count = I.marks_are.marks_count;
+        kept_count = I.marks_are.kept_count;
+        each = λ n u low high i. I.marks_are.each n u low high i ∙ sym (mark_more c (place units n u));
+        claimed = λ i e. let j = I.marks_are.claimed i e in omega (arith, j, length-append x.takers (c ∷ []));
+      }
+
+      pub claimed : (c : ℕ) → c < b.callers → l.closed < l.opened → x.any_halt ≡ false → IsBoard b (h ++ Given c (before + 1) unit ∷ []) (given_lists x c) l
+      claimed c caller i calm =
+          let e = Given c (before + 1) unit in
+          let same = sym (laws.one_event h e).posts_are in
+          record {
+            setup = I.setup;
+            legal = laws.next_is_legal b h e I.legal (caller, claim_given i calm);
+            takers_are = takers_more c;
+            marks_are = subst (AreMarks b x.marks (x.takers ++ c ∷ []) x.kept) same (marks_more c);
+            tallies = subst (AreTallies b x.counts (sums_of l)) same I.tallies;
+            ledger = I.ledger;
+            rounds = subst (AreRounds b (fronts_of l)) same I.rounds;
+            halts = record {
+              count = I.halts.count;
+              each = λ d j. I.halts.each d j ∙ sym (list_any-append (is_halt_of d) h (e ∷ []) ∙ or_false (list_any (is_halt_of d) h));
+              some = I.halts.some ∙ sym (list_any-append is_halt h (e ∷ []) ∙ or_false (list_any is_halt h));
+            };
+          }

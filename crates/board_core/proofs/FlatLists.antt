@@ -5,10 +5,10 @@ use Rattle.std.proofs.lemmas.Option.{get_or_from_slice_get, slice_get_within, sl
 use Rattle.std.proofs.lemmas.Bool.{cases_lt}
 use Rattle.std.specs.List.{flat_map}
 use Rattle.std.specs.Prelude.{slice_get}
-use Rattle.board_history.proofs.SameTask.{difference_at, difference_none}
-use Rattle.board_history.proofs.UnitBounds.{IsLimited}
+use Rattle.board_history.specs.BoardLaws.{DifferencesMean}
 use Rattle.board_history.specs.Tasks.{difference, IsOver, IsTask}
 use Rattle.uc_model.specs.Data.{AnyUnit, Thermal, Flat, Bid}
+use Rattle.uc_model.specs.Limits.{IsUnit}
 use Rattle.uc_model.specs.PlainCases.{chosen_unit, task_unit}
 use Rattle.uc_model.specs.PlainUnits.{prices_of}
 use Rattle.uc_model.specs.Reserved.{items_in}
@@ -31,7 +31,7 @@ over_of kinds.Thermal t = t.thermal_horizon
 over_of kinds.Flat t = (t.flat_horizon, sym t.flat.valid.lengths ∙ t.flat_horizon)
 over_of kinds.Bid t = length-map t.bid.blocks.items items_in ∙ t.bid_horizon
 
-limited_of : (k : UnitKind) (t : Task) → IsLimited (chosen_unit k t.thermal t.flat t.bid)
+limited_of : (k : UnitKind) (t : Task) → IsUnit (chosen_unit k t.thermal t.flat t.bid)
 limited_of kinds.Thermal t = t.thermal.valid
 limited_of kinds.Flat t = t.flat.valid
 limited_of kinds.Bid t = t.bid.valid
@@ -61,7 +61,7 @@ periods_length (p ∷ ps) h =
     let g = blocks_length p in
     omega (arith, e, f, g, length-append (period_numbers p) (flat_map period_numbers ps))
 
-unit_few : (n : ℕ) (u : AnyUnit) → n ≤ 168 → IsLimited u → IsOver n u → length (unit_numbers u) ≤ 2900
+unit_few : (n : ℕ) (u : AnyUnit) → n ≤ 168 → IsUnit u → IsOver n u → length (unit_numbers u) ≤ 2900
 unit_few n (Thermal g) few limits over =
     let a = lags_length g.lags in
     let b = points_length g.points in
@@ -91,21 +91,21 @@ past_end xs k e = elim (cases_lt k (length xs)) [
   | inr more ↦ more
 ]
 
-pub no_more : (own given : List ℤ) (k : ℕ) → AreSame own given k → length own ≤ k → differs_of (difference own given) ≡ None
-no_more own given k S e = ap differs_of (difference_none own given (λ i a b. S.same i (omega (arith, a, e))))
+pub no_more : DifferencesMean → (own given : List ℤ) (k : ℕ) → AreSame own given k → length own ≤ k → differs_of (difference own given) ≡ None
+no_more means own given k S e = ap differs_of ((means own given).none (λ i a b. S.same i (omega (arith, a, e))))
 
-pub own_ends : (own given : List ℤ) (k : ℕ) → AreSame own given k → slice_get own k ≡ None → differs_of (difference own given) ≡ None
-own_ends own given k S e = no_more own given k S (past_end own k e)
+pub own_ends : DifferencesMean → (own given : List ℤ) (k : ℕ) → AreSame own given k → slice_get own k ≡ None → differs_of (difference own given) ≡ None
+own_ends means own given k S e = no_more means own given k S (past_end own k e)
 
-pub given_ends : (own given : List ℤ) (k : ℕ) → AreSame own given k → slice_get given k ≡ None → differs_of (difference own given) ≡ None
-given_ends own given k S e = let f = past_end given k e in ap differs_of (difference_none own given (λ i a b. S.same i (omega (arith, b, f))))
+pub given_ends : DifferencesMean → (own given : List ℤ) (k : ℕ) → AreSame own given k → slice_get given k ≡ None → differs_of (difference own given) ≡ None
+given_ends means own given k S e = let f = past_end given k e in ap differs_of ((means own given).none (λ i a b. S.same i (omega (arith, b, f))))
 
-pub differ_here : (own given : List ℤ) (k : ℕ) (y z : ℤ) → AreSame own given k → slice_get own k ≡ Some y → slice_get given k ≡ Some z → (y ≡ z → ⊥) →
+pub differ_here : DifferencesMean → (own given : List ℤ) (k : ℕ) (y z : ℤ) → AreSame own given k → slice_get own k ≡ Some y → slice_get given k ≡ Some z → (y ≡ z → ⊥) →
     differs_of (difference own given) ≡ Some (differs.Content k y z)
-differ_here own given k y z S e f other =
+differ_here means own given k y z S e f other =
     let a = get_or_from_slice_get own k y (pos 0) e in
     let b = get_or_from_slice_get given k z (pos 0) f in
-    ap differs_of (difference_at own given k (slice_get_within own k y e) (slice_get_within given k z f) S.same (λ i. other (sym a ∙ i ∙ b)))
+    ap differs_of ((means own given).at k (slice_get_within own k y e) (slice_get_within given k z f) S.same (λ i. other (sym a ∙ i ∙ b)))
     ∙ ap (λ (v : ℤ). Some (differs.Content k v (int_at given k))) a ∙ ap (λ (v : ℤ). Some (differs.Content k y v)) b
 
 pub one_more : (own given : List ℤ) (k : ℕ) (y z : ℤ) → AreSame own given k → slice_get own k ≡ Some y → slice_get given k ≡ Some z → y ≡ z → AreSame own given (k + 1)

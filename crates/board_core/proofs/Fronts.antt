@@ -4,15 +4,15 @@ use Rattle.std.proofs.lemmas.List.{length-map, length-take-le}
 use Rattle.std.proofs.lemmas.List.FromFn.{length-map-range_with_len}
 use Rattle.std.specs.Option.{option_map_or}
 use Rattle.std.specs.Prelude.{slice_index}
-use Rattle.board_history.proofs.Kept.{post_of, rows_length, front_closed}
-use Rattle.board_history.proofs.NextTask.{place_before}
 use Rattle.board_history.specs.Board.{Setup, Answer, no_answer, rules_of}
-use Rattle.board_history.specs.Rounds.{Rules, Event, Posts, posts, is_closed, answer_at, closed_front, rows_of, opened, prices_at}
+use Rattle.board_history.specs.BoardLaws.{RoundLaws}
+use Rattle.board_history.specs.Rounds.{Rules, Event, Posts, posts, is_closed, answer_at, row_by, closed_front, rows_of, opened, prices_at}
 use Rattle.uc_model.specs.Data.{PriceLists, unit_count}
 use Rattle.uc_model.specs.PriceRule.{Proposal}
 use Rattle.board_core.specs.Events.{place}
 use Rattle.board_core.specs.Ledgers.{LedgerValue}
 use Rattle.board_core.specs.Parts.{Lists, fronts_of, IsLedger, AreRounds, IsBoard}
+use Rattle.board_core.proofs.Lists.{place_before}
 
 -- the answer of a mark
 marked : (t : Bool) (c : ℕ) (a : Answer) (x : ℕ × Answer) → cond {A = Option (ℕ × Answer)} t (Some (c, a)) None ≡ Some x → a ≡ x.1
@@ -29,8 +29,8 @@ module _ (b : Setup) (l : LedgerValue) (L : IsLedger b l) where
       length-take-le l.opened (map (λ (r : Proposal). r.prices) l.proposals) (omega (arith, n, m, length-map l.proposals (λ (r : Proposal). r.prices)))
 
   module _ (p : Posts Answer) (R : AreRounds b (fronts_of l) p) where
-    pub closed_is : l.closed ≡ closed_front (rules_of b) p
-    closed_is = sym rows_count ∙ ap (λ (xs : List Proposal). length xs) R.rows_are ∙ rows_length (rules_of b) p (closed_front (rules_of b) p)
+    pub closed_is : RoundLaws b → l.closed ≡ closed_front (rules_of b) p
+    closed_is laws = sym rows_count ∙ ap (λ (xs : List Proposal). length xs) R.rows_are ∙ (laws.rows (row_by (rules_of b) p)).count (closed_front (rules_of b) p)
 
     pub opened_is : l.opened ≡ opened (rules_of b) p
     opened_is = sym prices_count ∙ ap (λ (xs : List PriceLists). length xs) R.prices_are ∙ length-map-range_with_len (prices_at (rules_of b) p) 1 (opened (rules_of b) p)
@@ -42,12 +42,12 @@ module _ (b : Setup) (h : List (Event Answer)) (x : Lists) (l : LedgerValue) (I 
   pub rows_few : length (fronts_of l).rows ≤ 10000
   rows_few = let n = rows_count b l I.ledger in let m = I.ledger.closed in let k = I.setup.budget in omega (arith, n, m, k)
 
-  module _ (n u : ℕ) (one : 1 ≤ n) (within : n ≤ length (rows_of g (posts h))) (inside : u < unit_count b.market) where
+  module _ (laws : RoundLaws b) (n u : ℕ) (one : 1 ≤ n) (within : n ≤ length (rows_of g (posts h))) (inside : u < unit_count b.market) where
     low : n ≤ closed_front g (posts h)
-    low = let e = rows_length g (posts h) (closed_front g (posts h)) in omega (arith, within, e)
+    low = let e = (laws.rows (row_by g (posts h))).count (closed_front g (posts h)) in omega (arith, within, e)
 
     in_budget : n ≤ b.budget
-    in_budget = let e = closed_is b l I.ledger (posts h) I.rounds in let m = I.ledger.closed in omega (arith, low, e, m)
+    in_budget = let e = closed_is b l I.ledger (posts h) I.rounds laws in let m = I.ledger.closed in omega (arith, low, e, m)
 
     pub kept_inside : place (unit_count b.market) n u < length x.kept
     kept_inside = let p = place_before (unit_count b.market) b.budget n u one in_budget inside in let c = I.marks_are.kept_count in omega (arith, p, c)
@@ -56,8 +56,8 @@ module _ (b : Setup) (h : List (Event Answer)) (x : Lists) (l : LedgerValue) (I 
     kept_is =
         let k = n - 1 in
         let e : suc k ≡ n = omega (arith, one) in
-        let closed = subst (λ (j : ℕ). is_closed g (posts h) j ≡ true) e (front_closed g (posts h) k (omega (arith, low, one))) in
-        let post = post_of g (posts h) n u closed inside in
+        let closed = subst (λ (j : ℕ). is_closed g (posts h) j ≡ true) e ((laws.front (posts h)).closed k (omega (arith, low, one))) in
+        let post = laws.posted (posts h) n u closed inside in
         let i = place (unit_count b.market) n u in
         let m = sym (I.marks_are.each n u one in_budget inside) ∙ post.1 in
         marked (get_or x.marks i false) (slice_index x.takers i) (get_or x.kept i no_answer) post.0 m

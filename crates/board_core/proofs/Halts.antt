@@ -7,11 +7,9 @@ use Rattle.std.proofs.lemmas.List.Folds.{list_any-append}
 use Rattle.std.proofs.lemmas.List.Sums.{sum_by-set}
 use Rattle.std.specs.List.{list_any}
 use Rattle.std.specs.Prelude.{not}
-use Rattle.board_history.proofs.Answered.{posts-stopped, holders-stopped}
-use Rattle.board_history.proofs.Stays.{legal_more}
-use Rattle.board_history.specs.Board.{Setup, Answer, IsRight, rules_of}
+use Rattle.board_history.specs.Board.{Setup, Answer}
+use Rattle.board_history.specs.BoardLaws.{BoardLaws}
 use Rattle.board_history.specs.Rounds.{Event, Stopped, is_halt, is_halt_of}
-use Rattle.uc_model.specs.Runs.{Fits}
 use Rattle.board_core.specs.Ledgers.{LedgerValue}
 use Rattle.board_core.specs.Parts.{bit, unset, Lists, sums_of, fronts_of, AreTakers, AreMarks, AreTallies, AreRounds, AreHalts, IsBoard}
 
@@ -56,13 +54,14 @@ module _ (b : Setup) (h : List (Event Answer)) (x : Lists) (l : LedgerValue) (I 
   pub not_yet : list_any (is_halt_of c) h ≡ false
   not_yet = sym (I.halts.each c caller) ∙ first
 
-  pub stopped : IsBoard b (h ++ Stopped c ∷ []) (halted_lists x c) l
-  stopped =
-      let same = sym (posts-stopped h c) in
+  pub stopped : BoardLaws → IsBoard b (h ++ Stopped c ∷ []) (halted_lists x c) l
+  stopped laws =
+      let after = laws.one_event h (Stopped c) in
+      let same = sym after.posts_are in
       record {
         setup = I.setup;
-        legal = legal_more (rules_of b) (IsRight Fits b.market) h (Stopped c) I.legal (caller, not_yet);
-        takers_are = subst (AreTakers b x.takers) (sym (holders-stopped h c)) I.takers_are;
+        legal = laws.next_is_legal b h (Stopped c) I.legal (caller, not_yet);
+        takers_are = subst (AreTakers b x.takers) (sym after.holders_are) I.takers_are;
         marks_are = subst (AreMarks b x.marks x.takers x.kept) same I.marks_are;
         tallies = subst (AreTallies b x.counts (sums_of l)) same I.tallies;
         ledger = I.ledger;

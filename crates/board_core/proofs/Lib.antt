@@ -8,8 +8,6 @@ pub mod AsOne
 pub mod Bests
 -- what a claim answers, and that the lists go on with it
 pub mod Claims
--- what a feasible plan costs is far from the limits of 128 bits
-pub mod Costs
 -- entries and events, with one more of each
 pub mod Entries
 -- lists of one length, one after another in one list
@@ -20,6 +18,8 @@ pub mod FlatLists
 pub mod Fronts
 -- a caller's first halt
 pub mod Halts
+-- numbers of tasks, lists over ranges, and the first of two that is there
+pub mod Lists
 -- what closing and opening a proposal leaves of a ledger
 pub mod LedgerSteps
 -- the ledger with the opening proposals

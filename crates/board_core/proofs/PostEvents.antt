@@ -3,22 +3,19 @@ use Rattle.std.proofs.Common.{◌≡◌, ℕ, ◌+◌, ◌-◌, Bool, true, fals
 use Rattle.std.proofs.Math.ListN.{set}
 use Rattle.std.proofs.lemmas.List.{get_or-set_same, get_or-set_other, map-append}
 use Rattle.std.specs.Prelude.{is_some}
-use Rattle.board_history.proofs.Answered.{all_answer}
-use Rattle.board_history.proofs.Fronts.{some_of}
-use Rattle.board_history.proofs.NextTask.{place_same}
-use Rattle.board_history.specs.Board.{Setup, Answer, IsRight, no_answer, rules_of, row_of}
+use Rattle.board_history.specs.Board.{Setup, Answer, no_answer, rules_of}
+use Rattle.board_history.specs.Laws.{AnswersFit}
 use Rattle.board_history.specs.Rounds.{Event, Taken, Closing, sooner, only_at, posts, post_event}
 use Rattle.board_history.specs.declared.entries.Call.TheVariants as calls
 use Rattle.board_history.specs.declared.entries.Entry.{Entry}
 use Rattle.board_history.specs.declared.entries.Reply.{Reply}
 use Rattle.board_history.specs.declared.entries.Reply.TheVariants as replies
 use Rattle.uc_model.specs.Data.{unit_count}
-use Rattle.uc_model.specs.PriceRule.{no_prices}
-use Rattle.uc_model.specs.Runs.{Fits}
 use Rattle.board_core.specs.Events.{place, event_by, event_of, events_of}
 use Rattle.board_core.specs.Ledgers.{LedgerValue}
 use Rattle.board_core.specs.Parts.{Lists, IsBoard}
 use Rattle.board_core.specs.Refusals.{reply_of}
+use Rattle.board_core.proofs.Lists.{some_of, place_same}
 use Rattle.board_core.proofs.PostLists.{IsHeldTask, only_here, kept_inside, closes_is}
 
 some_sooner : {X : Type 0} (a b : Option X) → is_some b ≡ true → is_some (sooner a b) ≡ true
@@ -65,7 +62,7 @@ event_is : (t : Bool) (c n u : ℕ) (a : Answer) → event_by (reply_of t) c n u
 event_is true c n u a = refl
 event_is false c n u a = refl
 
-module _ (b : Setup) (h : List (Event Answer)) (x : Lists) (l : LedgerValue) (I : IsBoard b h x l) (c n u : ℕ) (a : Answer) (H : IsHeldTask b h l c n u)
+module _ (answered : AnswersFit) (b : Setup) (h : List (Event Answer)) (x : Lists) (l : LedgerValue) (I : IsBoard b h x l) (c n u : ℕ) (a : Answer) (H : IsHeldTask b h l c n u)
     (entries : List Entry) (is : events_of (unit_count b.market) x.kept entries ≡ h) where
   abbrev units : ℕ
   units = unit_count b.market
@@ -77,7 +74,7 @@ module _ (b : Setup) (h : List (Event Answer)) (x : Lists) (l : LedgerValue) (I 
   fresh m v some_ same =
       let there : is_some (posts h m v) ≡ true = subst (λ (z : List (Event Answer)). is_some (posts z m v) ≡ true) is some_ in
       let y = some_of (posts h m v) there in
-      let answer = all_answer (rules_of b) (IsRight Fits b.market) (row_of b.market no_prices []) h I.legal m v y.0 y.1 in
+      let answer = answered b h m v y.0 I.legal y.1 in
       let s = place_same units m v n u answer.from_one H.one answer.unit H.inside same in
       let now : posts h n u ≡ Some y.0 = ap (λ (j : ℕ). posts h n j) (sym s.1) ∙ ap (λ (j : ℕ). posts h j v) (sym s.0) ∙ y.1 in
       never (posts h n u) y.0 now H.none_yet

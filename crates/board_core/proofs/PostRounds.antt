@@ -5,17 +5,13 @@ use Rattle.std.proofs.lemmas.List.{get_or-take, length-take-le}
 use Rattle.std.proofs.lemmas.List.Folds.{list_any-append}
 use Rattle.std.specs.List.{All, list_any, range_with_len}
 use Rattle.std.specs.Prelude.{slice_index}
-use Rattle.board_history.proofs.Answered.{posts-taken, posts-closing, holders-taken, holders-closing, extends_with, post_cases, all_answer}
-use Rattle.board_history.proofs.Fronts.{map_range_same, front_le, front_is, front_most}
-use Rattle.board_history.proofs.Kept.{Extends, post_of, rows_by_same, rows_length, rows_take, closed_kept, rows_kept_to, front_closed, free_le}
-use Rattle.board_history.proofs.RowBounds.{totals_within, rows_are_within, rows_are_at_most_cost}
-use Rattle.board_history.proofs.Stays.{legal_more}
-use Rattle.board_history.specs.Board.{Setup, Answer, IsRight, IsLegalHistory, rules_of, row_of, earned_in}
+use Rattle.board_history.specs.Board.{Setup, Answer, IsRight, IsLegalHistory, rules_of, earned_in}
+use Rattle.board_history.specs.BoardLaws.{Extends, RoundLaws, BoardLaws}
 use Rattle.board_history.specs.Bounds.{IsSum}
 use Rattle.board_history.specs.Rounds.{Rules, Event, Taken, Closing, Posts, posts, holders, with_post, is_closed, answers, row_by, rows_by, rows_to, prices_by, prices_at, closed_front, rows_of, opened, opened_in, is_halt, is_halt_of, IsPost, IsNext, post_event}
 use Rattle.price_move.specs.Sizes.{IsRowBelow}
 use Rattle.uc_model.specs.Data.{PriceLists, unit_count}
-use Rattle.uc_model.specs.PriceRule.{Proposal, no_prices}
+use Rattle.uc_model.specs.PriceRule.{Proposal}
 use Rattle.uc_model.specs.Runs.{Fits}
 use Rattle.uc_model.specs.Sums.{int_at, total}
 use Rattle.uc_model.specs.Systems.{worth_of_demand}
@@ -27,10 +23,11 @@ use Rattle.board_core.specs.Setups.{IsSetup}
 use Rattle.board_core.proofs.Claims.{some_units}
 use Rattle.board_core.proofs.Fronts.{opened_is, rows_count}
 use Rattle.board_core.proofs.Halts.{or_false}
+use Rattle.board_core.proofs.Lists.{map_range_same}
 use Rattle.board_core.proofs.PostLists.{IsHeldTask, closed_counts, marks_more}
 use Rattle.board_core.proofs.Rows.{same_proposal}
 
-module _ (b : Setup) (counts : List ℕ) (s : Sums) (q : Posts Answer) (T : AreTallies b counts s q) where
+module _ (b : Setup) (laws : RoundLaws b) (counts : List ℕ) (s : Sums) (q : Posts Answer) (T : AreTallies b counts s q) where
   abbrev g : Rules PriceLists Proposal Answer
   g = rules_of b
 
@@ -55,7 +52,7 @@ module _ (b : Setup) (counts : List ℕ) (s : Sums) (q : Posts Answer) (T : AreT
       (sym (T.reserve_are k h) ∙ ap (λ (j : ℕ). get_or s.reserve j []) (sym e))
 
   rows_alike : (n : ℕ) → n ≤ b.budget → rows_to g q n ≡ rows_by g make n
-  rows_alike n h = rows_by_same g (row_by g q) make n (λ k π i. made_alike k π (omega (arith, i, h)))
+  rows_alike n h = (laws.rows (row_by g q)).same make n (λ k π i. made_alike k π (omega (arith, i, h)))
 
   prices_alike : (n : ℕ) → n ≤ b.budget → prices_at g q n ≡ prices_by g make n
   prices_alike n h = ap (λ (xs : List Proposal). g.price xs n) (rows_alike (n - b.ahead) (omega (arith, h)))
@@ -64,15 +61,18 @@ module _ (b : Setup) (counts : List ℕ) (s : Sums) (q : Posts Answer) (T : AreT
   pub rounds_in : (p : Posts Answer) (f : Fronts) → Extends p q → AreRounds b f p → IsRound b m counts s f
   rounds_in p f more R =
       let cf = closed_front g p in
-      let le : cf ≤ b.budget = front_le (is_closed g p) b.budget in
-      let long : length f.rows ≡ cf = ap (λ (xs : List Proposal). length xs) R.rows_are ∙ rows_length g p cf in
+      let front = laws.front p in
+      let stays = laws.stays p q more in
+      let le = front.within in
+      let low = front.free in
+      let long : length f.rows ≡ cf = ap (λ (xs : List Proposal). length xs) R.rows_are ∙ (laws.rows (row_by g p)).count cf in
       record {
         within = omega (arith, long, le);
-        full = λ k h. full_is_closed k (omega (arith, h, long, le)) ∙ closed_kept g p q (suc k) more (front_closed g p k (omega (arith, h, long)));
-        rows_are = R.rows_are ∙ sym (rows_kept_to g p q cf more (omega arith)) ∙ rows_alike cf le ∙ ap (rows_by g make) (sym long);
+        full = λ k h. full_is_closed k (omega (arith, h, long, le)) ∙ stays.closed (suc k) (front.closed k (omega (arith, h, long)));
+        rows_are = R.rows_are ∙ sym (stays.rows cf (omega arith)) ∙ rows_alike cf le ∙ ap (rows_by g make) (sym long);
         prices_are = R.prices_are
             ∙ map_range_same (prices_at g p) (prices_by g make) 1 (opened g p) (λ k low high.
-            ap (λ (xs : List Proposal). g.price xs k) (sym (rows_kept_to g p q (k - b.ahead) more (omega (arith, high, free_le g p))) ∙ rows_alike (k - b.ahead) (omega (arith, high, free_le g p, le))))
+            ap (λ (xs : List Proposal). g.price xs k) (sym (stays.rows (k - b.ahead) (omega (arith, high, low))) ∙ rows_alike (k - b.ahead) (omega (arith, high, low, le))))
             ∙ ap (λ (xs : List Proposal). map (prices_by g make) (range_with_len 1 (opened_in g xs))) (sym R.rows_are);
       }
 
@@ -81,7 +81,7 @@ module _ (b : Setup) (counts : List ℕ) (s : Sums) (q : Posts Answer) (T : AreT
   rounds_out f R stop =
       let n = length f.rows in
       let le = R.within in
-      let whole : n ≡ closed_front g q = front_is (is_closed g q) b.budget n le
+      let whole : n ≡ closed_front g q = (laws.front q).is n le
       (λ k h. sym (full_is_closed k (omega (arith, h, le))) ∙ R.full k h)
       (λ h. sym (full_is_closed n h) ∙ stop h) in
       let all : f.rows ≡ rows_of g q = R.rows_are ∙ sym (rows_alike n le) ∙ ap (rows_to g q) whole in
@@ -95,38 +95,38 @@ module _ (b : Setup) (counts : List ℕ) (s : Sums) (q : Posts Answer) (T : AreT
   -- the rows of proposals from 1 on that are full
   pub full_rows : (n : ℕ) → n ≤ b.budget → ((k : ℕ) → k < n → is_full m counts (suc k) ≡ true) → (n ≤ closed_front g q) × (rows_by g make n ≡ take n (rows_of g q))
   full_rows n le full =
-      let most = front_most (is_closed g q) b.budget n le (λ k h. sym (full_is_closed k (omega (arith, h, le))) ∙ full k h) in
-      (most, sym (rows_alike n le) ∙ sym (rows_take g q (closed_front g q) n most))
+      let most = (laws.front q).most n le (λ k h. sym (full_is_closed k (omega (arith, h, le))) ∙ full k h) in
+      (most, sym (rows_alike n le) ∙ sym ((laws.rows (row_by g q)).front (closed_front g q) n most))
 
 -- ---- what a legal history says of its rows and sums
 
-module _ (b : Setup) (h : List (Event Answer)) (S : IsSetup b) (legal : IsLegalHistory b h) (counts : List ℕ) (s : Sums) (T : AreTallies b counts s (posts h)) where
+module _ (laws : BoardLaws) (b : Setup) (h : List (Event Answer)) (S : IsSetup b) (legal : IsLegalHistory b h) (counts : List ℕ) (s : Sums) (T : AreTallies b counts s (posts h)) where
   pub sums_small : (k : ℕ) → k < b.budget → IsSum (int_at s.earned k)
-  sums_small k lt = subst IsSum (sym (T.earned_are k lt)) (totals_within b h S.market legal (suc k)).earned
+  sums_small k lt = subst IsSum (sym (T.earned_are k lt)) (laws.totals_are_within b h S.market legal (suc k)).earned
 
   row_below : (k : ℕ) (d : Proposal) → k < length (rows_of (rules_of b) (posts h)) → IsRowBelow b.market b.cost (get_or (rows_of (rules_of b) (posts h)) k d)
   row_below k d lt =
-      let r = rows_are_within b h S.market S.some_ahead legal k d lt in
+      let r = laws.rows_are_within b h S.market S.some_ahead legal k d lt in
       record {
         row = record { horizon = r.horizon; supply = r.supply; reserve = r.reserve };
         value = r.value;
-        at_most = rows_are_at_most_cost b h S.market S.some_ahead legal S.feasible S.cost k d lt;
+        at_most = laws.rows_are_at_most_cost b h S.market S.some_ahead legal S.feasible S.cost k d lt;
       }
 
   pub rows_below : (n : ℕ) → n ≤ b.budget → ((k : ℕ) → k < n → is_full (unit_count b.market) counts (suc k) ≡ true) → All (IsRowBelow b.market b.cost) (rows_by (rules_of b) (row_in b.market s) n)
   rows_below n le full =
       let g2 = rules_of b in
       let xs = rows_of g2 (posts h) in
-      let both = full_rows b counts s (posts h) T n le full in
+      let both = full_rows b (laws.of b) counts s (posts h) T n le full in
       let low = both.0 in
-      let long = rows_length g2 (posts h) (closed_front g2 (posts h)) in
+      let long = ((laws.of b).rows (row_by g2 (posts h))).count (closed_front g2 (posts h)) in
       subst (λ (ys : List Proposal). All (IsRowBelow b.market b.cost) ys) (sym both.1) (λ k d lt.
       let size = length-take-le n xs (omega (arith, low, long)) in
       subst (IsRowBelow b.market b.cost) (sym (get_or-take n xs k d (omega (arith, lt, size)))) (row_below k d (omega (arith, lt, size, low, long))))
 
 -- ---- one more post
 
-module _ (b : Setup) (h : List (Event Answer)) (x : Lists) (l : LedgerValue) (I : IsBoard b h x l) (c n u : ℕ) (a : Answer) (H : IsHeldTask b h l c n u) (caller : c < b.callers)
+module _ (laws : BoardLaws) (b : Setup) (h : List (Event Answer)) (x : Lists) (l : LedgerValue) (I : IsBoard b h x l) (c n u : ℕ) (a : Answer) (H : IsHeldTask b h l c n u) (caller : c < b.callers)
     (right : IsRight Fits b.market u (prices_at (rules_of b) (posts h) n) a) where
   abbrev gg : Rules PriceLists Proposal Answer
   gg = rules_of b
@@ -161,21 +161,21 @@ module _ (b : Setup) (h : List (Event Answer)) (x : Lists) (l : LedgerValue) (I 
       choose false e = (caller, is_post, e)
 
   pub legal_post : IsLegalHistory b h2
-  legal_post = legal_more gg (IsRight Fits b.market) h event I.legal next_is
+  legal_post = laws.next_is_legal b h event I.legal next_is
 
   pub posts_are : posts h2 ≡ q
   posts_are = choose (is_closed gg q n)
     where
       choose : (t : Bool) → posts (h ++ cond t (Closing c n u a) (Taken c n u a) ∷ []) ≡ q
-      choose true = posts-closing h c n u a
-      choose false = posts-taken h c n u a
+      choose true = (laws.one_event h (Closing c n u a)).posts_are
+      choose false = (laws.one_event h (Taken c n u a)).posts_are
 
   holders_are : holders h2 ≡ holders h
   holders_are = choose (is_closed gg q n)
     where
       choose : (t : Bool) → holders (h ++ cond t (Closing c n u a) (Taken c n u a) ∷ []) ≡ holders h
-      choose true = holders-closing h c n u a
-      choose false = holders-taken h c n u a
+      choose true = (laws.one_event h (Closing c n u a)).holders_are
+      choose false = (laws.one_event h (Taken c n u a)).holders_are
 
   halts_are : AreHalts b x.halted x.any_halt h2
   halts_are = choose (is_closed gg q n)
@@ -193,17 +193,17 @@ module _ (b : Setup) (h : List (Event Answer)) (x : Lists) (l : LedgerValue) (I 
       }
 
   pub extends : Extends p q
-  extends = extends_with p c n u a
+  extends = (laws.one_post p c n u a).extends
 
   -- a proposal that is full was open
   pub full_was_open : (counts : List ℕ) (s : Sums) → AreTallies b counts s q → (k : ℕ) → k < b.budget → is_full (unit_count b.market) counts (suc k) ≡ true → k < l.opened
   full_was_open counts s T k i full =
-      let closed : is_closed gg q (suc k) ≡ true = sym (full_is_closed b counts s q T k i) ∙ full in
-      let y = post_of gg q (suc k) 0 closed (some_units b I.setup) in
+      let closed : is_closed gg q (suc k) ≡ true = sym (full_is_closed b (laws.of b) counts s q T k i) ∙ full in
+      let y = (laws.of b).posted q (suc k) 0 closed (some_units b I.setup) in
       let e = opened_is b l I.ledger p I.rounds in
       let within = H.within in
-      elim (post_cases p c n u a (suc k) 0 y.0 y.1) [
-        | inl was ↦ let o = (all_answer gg (IsRight Fits b.market) (row_of b.market no_prices []) h I.legal (suc k) 0 y.0 was).open_ in omega (arith, o, e)
+      elim ((laws.one_post p c n u a).cases (suc k) 0 y.0 y.1) [
+        | inl was ↦ let o = (laws.answers_fit b h (suc k) 0 y.0 I.legal was).open_ in omega (arith, o, e)
         | inr new ↦ let z = new.0 in omega (arith, z, within)
       ]
 
@@ -227,6 +227,6 @@ module _ (b : Setup) (h : List (Event Answer)) (x : Lists) (l : LedgerValue) (I 
         marks_are = subst (AreMarks b posted_lists.marks x.takers posted_lists.kept) (sym posts_are) (marks_more b h x l I c n u a H);
         tallies = subst (AreTallies b posted_lists.counts (sums_of l3)) (sym posts_are) T;
         ledger = L;
-        rounds = subst (AreRounds b (fronts_of l3)) (sym posts_are) (rounds_out b posted_lists.counts (sums_of l3) q T (fronts_of l3) R stop);
+        rounds = subst (AreRounds b (fronts_of l3)) (sym posts_are) (rounds_out b (laws.of b) posted_lists.counts (sums_of l3) q T (fronts_of l3) R stop);
         halts = halts_are;
       }

@@ -7,11 +7,8 @@ use Rattle.std.proofs.lemmas.List.FromFn.{length-map-range_with_len, get_or-map-
 use Rattle.std.specs.List.{All, range_with_len}
 use Rattle.std.specs.Option.{option_map_or}
 use Rattle.std.specs.Prelude.{slice_get}
-use Rattle.board_history.proofs.Fronts.{map_range_same}
-use Rattle.board_history.proofs.Kept.{post_of, front_closed}
-use Rattle.board_history.proofs.RowLaws.{units_length}
-use Rattle.board_history.proofs.Totals.{totals_run}
 use Rattle.board_history.specs.Board.{Setup, Answer, no_answer, rules_of, schedules_in, earned_in}
+use Rattle.board_history.specs.BoardLaws.{RoundLaws}
 use Rattle.board_history.specs.Rounds.{Rules, Event, Posts, posts, with_post, answer_at, answers}
 use Rattle.board_history.specs.Totals.{AddsOne}
 use Rattle.uc_model.specs.Data.{AnyUnit, PriceLists, units, unit_count}
@@ -24,6 +21,7 @@ use Rattle.board_core.specs.Ledgers.{LedgerValue, raised_by, with_schedule}
 use Rattle.board_core.specs.Parts.{Lists, supply_to, reserve_to, sums_of, fronts_of, AreTallies, IsLedger, IsBoard}
 use Rattle.board_core.proofs.Fronts.{closed_is}
 use Rattle.board_core.proofs.LedgerSteps.{map_unchanged, same_fronts}
+use Rattle.board_core.proofs.Lists.{map_range_same}
 use Rattle.board_core.proofs.PostLists.{IsHeldTask, same_or, q_other, q_here, k_inside, after_k, counts_more}
 
 raised_map : (f add f2 : ℕ → ℤ) (n : ℕ) → ((k : ℕ) → f2 k ≡ f k +ℤ add k) → raised_by (map f (range_with_len 0 n)) add ≡ map f2 (range_with_len 0 n)
@@ -40,7 +38,7 @@ pub record IsCounted (l l2 : LedgerValue) (k : ℕ) (w : AnyUnit) (a : Answer) (
   pub closed : l2.closed ≡ l.closed
   pub opened : l2.opened ≡ l.opened
 
-module _ (b : Setup) (h : List (Event Answer)) (x : Lists) (l : LedgerValue) (I : IsBoard b h x l) (c n u : ℕ) (a : Answer) (H : IsHeldTask b h l c n u) (w : AnyUnit) (is : slice_get (units b.market) u ≡ Some w) where
+module _ (b : Setup) (laws : RoundLaws b) (h : List (Event Answer)) (x : Lists) (l : LedgerValue) (I : IsBoard b h x l) (c n u : ℕ) (a : Answer) (H : IsHeldTask b h l c n u) (w : AnyUnit) (is : slice_get (units b.market) u ≡ Some w) where
   abbrev g : Rules PriceLists Proposal Answer
   g = rules_of b
 
@@ -63,7 +61,7 @@ module _ (b : Setup) (h : List (Event Answer)) (x : Lists) (l : LedgerValue) (I 
   here_is = ap answer_of_post (q_here b h x l I c n u a H)
 
   adds : AddsOne (units b.market) (answer_at g p n) (answer_at g q n) u m w
-  adds = totals_run (units b.market) (answer_at g p n) (answer_at g q n) u m w (units_length b.market) is (ap answer_of_post H.none_yet)
+  adds = laws.adds (answer_at g p n) (answer_at g q n) u w is (ap answer_of_post H.none_yet)
       (λ v f. ap answer_of_post (q_other b h x l I c n u a H n v (λ y z. f (sym z))))
 
   supply_more : raised_by (supply_to b p n) (λ j. supply_in w a.schedule (suc j)) ≡ supply_to b q n
@@ -157,9 +155,9 @@ module _ (b : Setup) (h : List (Event Answer)) (x : Lists) (l : LedgerValue) (I 
     still_open = elim (cases_lt k_ l.closed) [
       | inr more ↦ more
       | inl less ↦
-          let e = closed_is b l I.ledger p I.rounds in
-          let closed = front_closed g p k_ (omega (arith, less, e)) in
-          let post = post_of g p (suc k_) u closed H.inside in
+          let e = closed_is b l I.ledger p I.rounds laws in
+          let closed = (laws.front p).closed k_ (omega (arith, less, e)) in
+          let post = laws.posted p (suc k_) u closed H.inside in
           let there : p n u ≡ Some post.0 = ap (λ (j : ℕ). p j u) (sym (after_k b h x l I c n u a H)) ∙ post.1 in
           absurd (never (p n u) post.0 there H.none_yet)
     ]

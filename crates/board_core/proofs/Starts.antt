@@ -8,8 +8,8 @@ use Rattle.std.proofs.lemmas.List.Folds.{sum_by-replicate}
 use Rattle.std.proofs.lemmas.List.FromFn.{fill_by_all, length-map-range_with_len, get_or-map-range_with_len}
 use Rattle.std.specs.List.{list_all, range_with_len}
 use Rattle.std.specs.Prelude.{is_some, min, not, nat_le, replicate, slice_index}
-use Rattle.board_history.proofs.Fronts.{front_is}
 use Rattle.board_history.specs.Board.{Setup, Answer, no_answer, rules_of, schedules_in, earned_in}
+use Rattle.board_history.specs.BoardLaws.{RoundLaws}
 use Rattle.board_history.specs.Rounds.{Rules, Posts, posts, is_closed, answers, closed_front, rows_of, rows_to, opened as opened_of, opened_in, prices_at}
 use Rattle.uc_model.specs.Data.{AnyUnit, Thermal, Flat, Bid, PriceLists, Schedule, units, unit_count}
 use Rattle.uc_model.specs.Earnings.{supply_in}
@@ -71,7 +71,7 @@ all_false (suc n) (suc i) = all_false n i
 pub all_unset : (n : ℕ) → unset (replicate n false) ≡ n
 all_unset n = let e = sum_by-replicate (λ (t : Bool). bit (not t)) n false in omega (arith, e)
 
-module _ (b : Setup) (S : IsSetup b) (l : LedgerValue) (O : IsOpened (start_prices b.market) b.budget (min b.budget b.ahead) l) where
+module _ (b : Setup) (laws : RoundLaws b) (S : IsSetup b) (l : LedgerValue) (O : IsOpened (start_prices b.market) b.budget (min b.budget b.ahead) l) where
   abbrev g : Rules PriceLists Proposal Answer
   g = rules_of b
 
@@ -82,7 +82,7 @@ module _ (b : Setup) (S : IsSetup b) (l : LedgerValue) (O : IsOpened (start_pric
   long = length-map-range_with_len _ 0 T
 
   front_zero : 0 ≡ closed_front g none
-  front_zero = front_is (is_closed g none) b.budget 0 (omega arith) (λ k h. absurd (omega (arith, h))) (λ h. not_closed b 1 (some_units b S))
+  front_zero = (laws.front none).is 0 (omega arith) (λ k h. absurd (omega (arith, h))) (λ h. not_closed b 1 (some_units b S))
 
   rows_none : [] ≡ rows_of g none
   rows_none = ap (rows_to g none) front_zero

@@ -1,15 +1,12 @@
 -- What holds of a post that isn't refused.
-use Rattle.std.proofs.Common.{◌≡◌, ℕ, ◌≤◌, Bool, true, false, cond, Some, None, List, length, refl, sym, ap, ◌∙◌, subst, arith}
+use Rattle.std.proofs.Common.{◌≡◌, ℕ, ◌≤◌, Bool, true, false, cond, Some, None, List, length, refl, ◌∙◌, arith}
 use Rattle.std.proofs.lemmas.List.Elements.{All-map}
 use Rattle.std.specs.List.{All, range_with_len}
 use Rattle.std.specs.Prelude.{slice_get}
-use Rattle.board_history.proofs.Machine.{reply_says, reply_taken}
-use Rattle.board_history.proofs.OwnTasks.{own_horizon, same_is_own}
-use Rattle.board_history.proofs.RowBounds.{fit_lengths, totals_within}
-use Rattle.board_history.proofs.RowLaws.{fits_is_best}
 use Rattle.board_history.specs.Board.{Setup, Answer, IsRight, IsLegalHistory, rules_of, schedules_in}
-use Rattle.board_history.specs.Bounds.{IsTotal}
-use Rattle.board_history.specs.Calls.{differs_from, post_answer}
+use Rattle.board_history.specs.BoardLaws.{TakenTells}
+use Rattle.board_history.specs.Bounds.{IsTotal, TotalsAreWithin}
+use Rattle.board_history.specs.Calls.{post_answer}
 use Rattle.board_history.specs.Entries.{entry_of}
 use Rattle.board_history.specs.Rounds.{Event, Taken, Closing, TakenPost, posts, prices_at, is_closed, answers, with_post}
 use Rattle.board_history.specs.Tasks.{IsTask}
@@ -36,36 +33,30 @@ pub record IsTakenHere (b : Setup) (h : List (Event Answer)) (l : LedgerValue) (
   pub feasible : IsFeasible v (length a.schedule.on) a.schedule
   pub reply : post_answer (content b h) k n u ρ v a ≡ TakenPost (cond (is_closed (rules_of b) (with_post (posts h) k n u a) n) (Some n) None)
 
-pub taken_here : (b : Setup) (h : List (Event Answer)) (x : Lists) (l : LedgerValue) (I : IsBoard b h x l) (k n u : ℕ) (ρ : PriceLists) (v : AnyUnit) (a : Answer) →
+pub taken_here : TakenTells → (b : Setup) (h : List (Event Answer)) (x : Lists) (l : LedgerValue) (I : IsBoard b h x l) (k n u : ℕ) (ρ : PriceLists) (v : AnyUnit) (a : Answer) →
     IsTask ρ v → Fits v ρ a.schedule → earnings v ρ a.schedule ≡ a.earned → refusal_of b l x.marks x.takers k n u ρ v ≡ None → IsTakenHere b h l k n u ρ v a
-taken_here b h x l I k n u ρ v a task fit earned none =
+taken_here tells b h x l I k n u ρ v a task fit earned none =
     let says = taken_says (post_answer (content b h) k n u ρ v a) (refusal_is b h x l I k n u ρ v a ∙ none) in
-    let t = reply_says (rules_of b) (IsRight Fits b.market) h (differs_from b u ρ v) k n u a says.0 says.1 in
-    let own = same_is_own b (posts h) n u ρ v I.setup.market task t.unit t.same in
+    let tells_it = tells (content b h) k n u ρ v a says.0 I.setup.market task fit earned says.1 in
+    let t = tells_it.0 in
     let o = opened_is b l I.ledger (posts h) I.rounds in
     let w = t.open_ in
-    let lengths = fit_lengths v ρ a.schedule fit in
     record {
-      held = record { one = t.from_one; within = omega (arith, o, w); inside = t.unit; none_yet = t.first; held = t.held_by };
-      is = own.unit;
-      right = record {
-        unit = v;
-        is = own.unit;
-        fit = subst (λ (π : PriceLists). Fits v π a.schedule) (sym own.prices) fit;
-        earned = subst (λ (π : PriceLists). earnings v π a.schedule ≡ a.earned) (sym own.prices) earned;
-      };
-      long = lengths.0 ∙ sym (ap (λ (π : PriceLists). length π.energy) own.prices) ∙ own_horizon b (posts h) n;
-      feasible = subst (λ (j : ℕ). IsFeasible v j a.schedule) (sym lengths.0) (fits_is_best v ρ a.schedule fit).feasible;
-      reply = reply_taken (rules_of b) (IsRight Fits b.market) h (differs_from b u ρ v) k n u a t;
+      held = record { one = t.from_one; within = omega (arith, o, w); inside = t.inside; none_yet = t.first; held = t.held_by };
+      is = t.unit;
+      right = t.right;
+      long = t.long;
+      feasible = t.feasible;
+      reply = tells_it.1;
     }
 
-pub supply_small : (b : Setup) (h : List (Event Answer)) → IsSetup b → IsLegalHistory b h → (n : ℕ) → All IsTotal (supply_to b (posts h) n)
-supply_small b h S legal n =
-    All-map IsTotal (total_power (units b.market) (schedules_in (answers (rules_of b) (posts h) n))) (range_with_len 0 b.market.periods) (λ k d i. (totals_within b h S.market legal n).supply _)
+pub supply_small : TotalsAreWithin → (b : Setup) (h : List (Event Answer)) → IsSetup b → IsLegalHistory b h → (n : ℕ) → All IsTotal (supply_to b (posts h) n)
+supply_small within b h S legal n =
+    All-map IsTotal (total_power (units b.market) (schedules_in (answers (rules_of b) (posts h) n))) (range_with_len 0 b.market.periods) (λ k d i. (within b h S.market legal n).supply _)
 
-pub reserve_small : (b : Setup) (h : List (Event Answer)) → IsSetup b → IsLegalHistory b h → (n : ℕ) → All IsTotal (reserve_to b (posts h) n)
-reserve_small b h S legal n =
-    All-map IsTotal (total_reserve (units b.market) (schedules_in (answers (rules_of b) (posts h) n))) (range_with_len 0 b.market.periods) (λ k d i. (totals_within b h S.market legal n).reserve _)
+pub reserve_small : TotalsAreWithin → (b : Setup) (h : List (Event Answer)) → IsSetup b → IsLegalHistory b h → (n : ℕ) → All IsTotal (reserve_to b (posts h) n)
+reserve_small within b h S legal n =
+    All-map IsTotal (total_reserve (units b.market) (schedules_in (answers (rules_of b) (posts h) n))) (range_with_len 0 b.market.periods) (λ k d i. (within b h S.market legal n).reserve _)
 
 pub units_few : (b : Setup) → IsSetup b → unit_count b.market ≤ 12288
 units_few b S = let t = S.market.thermal_count in let f = S.market.flat_count in let d = S.market.bid_count in omega (arith, t, f, d)

@@ -1,12 +1,9 @@
 -- Units of a case by their places.
 use Rattle.std.proofs.Common.{◌≡◌, ℕ, zero, suc, ◌+◌, ◌<◌, Some, List, [], ◌∷◌, ◌++◌, map, length, get_or, refl, sym, ap, ◌∙◌, subst, arith, length-append}
 use Rattle.std.proofs.lemmas.List.{length-map, get_or-map}
-use Rattle.std.proofs.lemmas.List.Elements.{All-append, All-map}
 use Rattle.std.specs.List.{All, AllZip}
 use Rattle.std.specs.Prelude.{slice_get}
-use Rattle.board_history.proofs.UnitBounds.{IsLimited}
 use Rattle.uc_model.specs.Data.{AnyUnit, Thermal, Flat, Bid, NamedThermalUnit, NamedRenewableUnit, NamedBidUnit, Market, units}
-use Rattle.uc_model.specs.Limits.{IsMarket}
 use Rattle.uc_model.specs.Reserved.{Reserved, items_in}
 use Rattle.uc_model.specs.declared.units.Block.{Block}
 
@@ -62,14 +59,6 @@ module _ (m : Market) where
       back_got (thermal ++ flat) bids (length m.thermal + length m.flat) i
       (omega (arith, length-append thermal flat, length-map m.thermal (λ (x : NamedThermalUnit). Thermal x.unit), length-map m.flat (λ (x : NamedRenewableUnit). Flat x.unit)))
       ∙ map_got (λ (x : NamedBidUnit). Bid x.unit) m.bids i n e
-
-pub units_limited : (m : Market) → IsMarket m → All IsLimited (units m)
-units_limited m h =
-    All-append IsLimited (map (λ (n : NamedThermalUnit). Thermal n.unit) m.thermal ++ map (λ (n : NamedRenewableUnit). Flat n.unit) m.flat) (map (λ (n : NamedBidUnit). Bid n.unit) m.bids)
-    (All-append IsLimited (map (λ (n : NamedThermalUnit). Thermal n.unit) m.thermal) (map (λ (n : NamedRenewableUnit). Flat n.unit) m.flat)
-    (All-map IsLimited (λ (n : NamedThermalUnit). Thermal n.unit) m.thermal (λ k d lt. (h.thermal k d lt).0))
-    (All-map IsLimited (λ (n : NamedRenewableUnit). Flat n.unit) m.flat (λ k d lt. (h.flat k d lt).0)))
-    (All-map IsLimited (λ (n : NamedBidUnit). Bid n.unit) m.bids (λ k d lt. (h.bids k d lt).0))
 
 -- the item that goes with another
 pub partner : {X Y : Type 0} (R : X → Y → Type 0) (xs : List X) (ys : List Y) (i : ℕ) (x : X) → AllZip R xs ys → slice_get xs i ≡ Some x → (y : Y) × R x y

@@ -18,9 +18,11 @@ ghost use Rattle.board_core.specs.Setups.{IsSetup, setup_of};
 
 use crate::ledger::Ledger;
 use crate::terms::Terms;
+use board_history::laws::board_laws;
 use dual_value::dual_value;
 use price_move::{Moved, next_prices_from};
 use uc_model::cases::Row;
+use uc_model::laws::plan_costs_are_within;
 use uc_model::units::Prices;
 
 // Whether prices follow these rows, of which the first with the greatest value is at `best`; then they are left in `into`.
@@ -34,6 +36,7 @@ fn propose(terms: &Terms, rows: &[Row], best: usize, into: &mut Prices) -> bool
     ensures prices { result ≡ true → prices_of into.new ≡ prices_after (setup_of terms.now).market (setup_of terms.now).cost (map proposal_of rows.now) }
     ensures horizon { length (prices_of into.new).energy ≡ (setup_of terms.now).market.periods }
 {
+    plan_costs_are_within();
     let moved = next_prices_from(&terms.case, rows, best, terms.cost, into);
     moved == Moved::Made
 }
@@ -107,6 +110,7 @@ pub fn advance(terms: &Terms, counts: &[u32], ledger: &mut Ledger, next: &mut Pr
     ensures ledger { IsLedger (setup_of terms.now) ledger.new }
     ensures horizon { length (prices_of next.new).energy ≡ (setup_of terms.now).market.periods }
 {
+    board_laws();
     let units = terms.units();
     while ledger.closed() < terms.budget as usize && counts[ledger.closed()] == units {
         close_next(terms, ledger);

@@ -25,6 +25,7 @@ use crate::store::{Store, no_counts, no_flags};
 use crate::tasks::copy_task;
 use crate::terms::{Terms, place};
 use board_history::entries::{Call, Entry, Reply};
+use board_history::laws::board_laws;
 use price_space::{opening_prices, start_prices};
 use std::alloc::{AllocError, Global};
 use std::marker::Model;
@@ -130,6 +131,7 @@ impl Board {
         requires { IsSetup (setup_for case plan cost budget ahead callers) }
         ensures { IfOk result (λ b. b ≡ empty_board (setup_for case plan cost budget ahead callers)) }
     {
+        board_laws();
         let terms = Terms {
             case,
             plan,
@@ -179,6 +181,7 @@ impl Board {
         ensures task { LeavesTask self.old (claim_answer self.old) into.old into.new }
         ensures room { IsTaskFor self.old.setup.market.periods into.new }
     {
+        board_laws();
         let open = self.ledger.opened();
         if open <= self.ledger.closed() {
             return Claim::Finished;
@@ -219,6 +222,7 @@ impl Board {
         ensures answer { result ≡ posted_of (post_answer self.old caller task.now.proposal task.now.unit (prices_of task.now.prices) (task_unit task.now) (answer_of answer.now)) }
         ensures after { self.new ≡ after_post self.old caller task.now.proposal task.now.unit (prices_of task.now.prices) (task_unit task.now) (answer_of answer.now) }
     {
+        board_laws();
         let refused = refusal(
             &self.terms,
             &self.ledger,
@@ -251,6 +255,7 @@ impl Board {
         requires { caller < self.old.setup.callers }
         ensures { self.new ≡ after_halt self.old caller }
     {
+        board_laws();
         let at = caller as usize;
         if self.halted[at] {
             return;
@@ -319,6 +324,7 @@ impl Board {
     fn is_finished(&self) -> bool
         ensures { result ≡ has_finished self.now }
     {
+        board_laws();
         self.ledger.opened() <= self.ledger.closed()
     }
 
@@ -328,6 +334,7 @@ impl Board {
         requires unit { unit < unit_count self.now.setup.market }
         ensures { result ≡ (kept_answer self.now proposal unit).earned }
     {
+        board_laws();
         self.store.earned(place(self.terms.units(), proposal, unit))
     }
 
@@ -339,6 +346,7 @@ impl Board {
         ensures answer { answer_of into.new ≡ kept_answer self.now proposal unit }
         ensures horizon { length (schedule_of into.new.response).on ≡ self.now.setup.market.periods }
     {
+        board_laws();
         self.store
             .take(place(self.terms.units(), proposal, unit), into);
     }

@@ -20,6 +20,7 @@ use crate::same::{alike, is_unit_of, same_prices};
 use crate::tasks::copy_task;
 use crate::terms::{Terms, place};
 use board_history::entries::{Call, Entry, Reply};
+use board_history::laws::differences_mean;
 use uc_model::cases::Task;
 use uc_model::flat_list::flat_number;
 
@@ -31,6 +32,7 @@ const MOST_NUMBERS: u32 = 4_000;
 fn difference(own: &Task, task: &Task) -> Option<Differs>
     ensures { result ≡ differs_of (difference_of (task_numbers (prices_of own.now.prices) (task_unit own.now)) (task_numbers (prices_of task.now.prices) (task_unit task.now))) }
 {
+    differences_mean();
     for place in alike(own, task)..MOST_NUMBERS {
         let board = flat_number(own, place)?;
         let task = flat_number(task, place)?;
@@ -52,6 +54,7 @@ fn content(terms: &Terms, ledger: &Ledger, own: &mut Task, task: &Task) -> Optio
     ensures differs { result ≡ differs_of (differs_from (setup_of terms.now) task.now.unit (prices_of task.now.prices) (task_unit task.now) (own_prices_in ledger.now task.now.proposal)) }
     ensures room { IsTaskFor (setup_of terms.now).market.periods own.new }
 {
+    differences_mean();
     let prices = ledger.prices(task.proposal as usize - 1);
     if same_prices(prices, &task.prices) && is_unit_of(&terms.case, task.unit, task) {
         return None;

@@ -1,5 +1,7 @@
 -- in a legal history each answer fits the prices of its proposal
 pub mod Answered
+-- the laws that a crate goes by that keeps a board in lists of its own
+pub mod BoardLaws
 -- what each answer of a claim says
 pub mod ClaimWords
 -- tests over ranges, and how far from the front on a test passes

@@ -1,5 +1,5 @@
 -- The first task that isn't held.
-use Rattle.std.proofs.Common.{◌≡◌, ℕ, zero, suc, ◌+◌, ◌-◌, ◌*◌, ◌<◌, ◌≤◌, Bool, true, false, cond, inl, inr, Option, Some, None, List, map, refl, sym, ap, ◌∙◌, subst, arith}
+use Rattle.std.proofs.Common.{◌≡◌, ℕ, zero, suc, ◌+◌, ◌<◌, ◌≤◌, Bool, true, false, cond, inl, inr, Option, Some, None, List, map, refl, sym, ap, ◌∙◌, subst, arith}
 use Rattle.std.proofs.lemmas.Bool.{cases_lt}
 use Rattle.std.proofs.lemmas.List.Folds.{find-append}
 use Rattle.std.specs.List.{find, flat_map, range_with_len}
@@ -171,24 +171,3 @@ module _ (t : ℕ × ℕ → Bool) where
             ];
         here = r.here;
       })
-
--- ---- the numbers of tasks
-
-pub place_before : (units k m v : ℕ) → 0 < m → m ≤ k → v < units → (m - 1) * units + v < k * units
-place_before units k m v low high i =
-    let e : suc (m - 1) ≤ k = omega (arith, low, high) in
-    let p : suc (m - 1) * units ≤ k * units = grind (arith, e) in
-    omega (arith, p, i)
-
-pub place_same : (units m v n u : ℕ) → 0 < m → 0 < n → v < units → u < units → (m - 1) * units + v ≡ (n - 1) * units + u → (m ≡ n) × (v ≡ u)
-place_same units m v n u a b i j h =
-    elim (cases_lt m n) [
-      | inl less ↦ let p = place_before units (n - 1) m v a (omega (arith, less)) i in absurd (omega (arith, p, h))
-      | inr more ↦ elim (cases_lt n m) [
-        | inl over ↦ let p = place_before units (m - 1) n u b (omega (arith, over)) j in absurd (omega (arith, p, h))
-        | inr even ↦
-            let e : m ≡ n = omega (arith, more, even) in
-            let f = ap (λ (k : ℕ). (k - 1) * units) e in
-            (e, omega (arith, h, f))
-      ]
-    ]

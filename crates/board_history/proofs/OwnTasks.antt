@@ -132,7 +132,7 @@ own_is_same b p n u ρ x own =
     ∙ ap (λ (o : Option AnyUnit). difference (option_map_or (task_numbers ρ) o []) (task_numbers ρ x)) own.unit
     ∙ difference_same (task_numbers ρ x)
 
-right_of : (b : Setup) (p : Posts Answer) (n u : ℕ) (ρ : PriceLists) (x : AnyUnit) (a : Answer) → IsOwn b p n u ρ x → Fits x ρ a.schedule → earnings x ρ a.schedule ≡ a.earned →
+pub right_of : (b : Setup) (p : Posts Answer) (n u : ℕ) (ρ : PriceLists) (x : AnyUnit) (a : Answer) → IsOwn b p n u ρ x → Fits x ρ a.schedule → earnings x ρ a.schedule ≡ a.earned →
     IsRight Fits b.market u (prices_at (rules_of b) p n) a
 right_of b p n u ρ x a own fit earned =
     subst (λ (π : PriceLists). IsRight Fits b.market u π a) (sym own.prices) (record { unit = x; is = own.unit; fit = fit; earned = earned })

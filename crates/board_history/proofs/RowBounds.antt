@@ -29,7 +29,7 @@ use Rattle.board_history.specs.Rounds.{Rules, Event, Posts, posts, prices_at, an
 use Rattle.board_history.proofs.Answered.{all_answer}
 use Rattle.board_history.proofs.Kept.{rows_length}
 use Rattle.board_history.proofs.OwnTasks.{own_horizon, own_reserve_horizon}
-use Rattle.board_history.proofs.RowLaws.{units_length, zip_range, fits_is_best, rows_fit, row_is}
+use Rattle.board_history.proofs.RowLaws.{units_length, zip_range, fits_is_best, rows_fit, rows_are_made}
 use Rattle.board_history.proofs.UnitBounds.{IsLimited, no_output, earnings_within}
 
 -- numbers of a range within a bound
@@ -202,7 +202,7 @@ module _ (b : Setup) (h : List (Event Answer)) (limits : IsMarket b.market) (leg
 
 pub rows_are_within : RowsAreWithin
 rows_are_within b h limits ahead legal k d inside =
-    subst (λ (r : Proposal). IsRowWithin b.market r) (sym (row_is b h k d ahead inside)) (row_within b h limits legal (suc k))
+    subst (λ (r : Proposal). IsRowWithin b.market r) (sym (rows_are_made b h ahead k d inside).made) (row_within b h limits legal (suc k))
 
 pub rows_are_at_most_cost : RowsAreAtMostCost
 rows_are_at_most_cost b h limits ahead legal plan cost k d inside =

@@ -17,7 +17,7 @@ use Rattle.uc_model.specs.Earnings.{IsBest, IsTop, earnings}
 use Rattle.uc_model.specs.PriceRule.{Proposal, no_prices, price_rule, is_settled}
 use Rattle.uc_model.specs.Runs.{Fits, IsNextRow, AreRightRows, IsRun}
 use Rattle.board_history.specs.Board.{Setup, Answer, row_of, rules_of, schedules_in, earned_in, IsRight, IsLegalFor}
-use Rattle.board_history.specs.Laws.{RowsAreRight, FinishedIsRun, FinishedHasRow, FinishedStays, HaltsChangeNothing, AnswersFit}
+use Rattle.board_history.specs.Laws.{RowsAreRight, RowsAreMade, FinishedIsRun, FinishedHasRow, FinishedStays, HaltsChangeNothing, AnswersFit}
 
 pub units_length : (m : Market) → length (units m) ≡ unit_count m
 units_length m =
@@ -187,16 +187,12 @@ answers_fit_now b h n u x legal is =
     let a = all_answer (rules_of b) (IsRight Fits b.market) (row_of b.market no_prices []) h legal n u x is in
     record { from_one = a.from_one; open_ = a.open_; unit = a.unit; right = a.fit }
 
--- each unit of a row has an answer
-pub row_has_answers : (b : Setup) (h : List (Event Answer)) (k u : ℕ) → k < length (rows_of (rules_of b) (posts h)) → u < unit_count b.market →
-    (x : ℕ × Answer) × (posts h (suc k) u ≡ Some x)
-row_has_answers b h k u inside unit =
+-- a row is made of an answer for each unit, at the prices of its proposal
+pub rows_are_made : RowsAreMade
+rows_are_made b h ahead k d inside =
     let g = rules_of b in
-    post_of g (posts h) (suc k) u (front_closed g (posts h) k (omega (arith, inside, rows_length g (posts h) (closed_front g (posts h))))) unit
-
--- and the row is made of the answers, at the prices of its proposal
-pub row_is : (b : Setup) (h : List (Event Answer)) (k : ℕ) (d : Proposal) → 1 ≤ b.ahead → k < length (rows_of (rules_of b) (posts h)) →
-    get_or (rows_of (rules_of b) (posts h)) k d ≡ row_of b.market (prices_at (rules_of b) (posts h) (suc k)) (answers (rules_of b) (posts h) (suc k))
-row_is b h k d ahead inside =
-    let g = rules_of b in
-    row_at g ahead (posts h) (closed_front g (posts h)) k d (omega (arith, inside, rows_length g (posts h) (closed_front g (posts h))))
+    let low : k < closed_front g (posts h) = omega (arith, inside, rows_length g (posts h) (closed_front g (posts h))) in
+    record {
+      made = row_at g ahead (posts h) (closed_front g (posts h)) k d low;
+      each = λ u unit. post_of g (posts h) (suc k) u (front_closed g (posts h) k low) unit;
+    }

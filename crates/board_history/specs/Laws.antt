@@ -1,15 +1,16 @@
 -- What holds of every legal history of a board. Each law is the clause of a public function.
-use Rattle.std.specs.Prelude.{◌≡◌, ◌↔◌, ℕ, ◌+◌, ◌*◌, ◌<◌, ◌≤◌, true, not, Some, List, ◌++◌, filter, length}
-use Rattle.board_history.specs.Board.{Setup, Answer, Content, rules_of, IsRight, IsLegalFor, IsLegalHistory}
+use Rattle.std.specs.Prelude.{◌≡◌, ◌↔◌, ℕ, suc, ◌+◌, ◌*◌, ◌<◌, ◌≤◌, true, not, Some, List, ◌++◌, filter, length, slice_index_or}
+use Rattle.board_history.specs.Board.{Setup, Answer, Content, row_of, rules_of, IsRight, IsLegalFor, IsLegalHistory}
 use Rattle.board_history.specs.Calls.{own_rows, has_finished, differs_from, after_claim, after_post, after_halt}
 use Rattle.board_history.specs.Counts.{claims_in, posts_in, halts_in}
 use Rattle.board_history.specs.Entries.{entries_of}
-use Rattle.board_history.specs.Rounds.{Event, posts, prices_at, opened, rows_of, is_finished, is_halt, IsNext}
+use Rattle.board_history.specs.Rounds.{Event, posts, answers, prices_at, opened, rows_of, is_finished, is_halt, IsNext}
 use Rattle.board_history.specs.Tasks.{IsTask}
 use Rattle.board_history.specs.Words.{IsMachineStep, Means, ClaimSays, PostSays}
 use Rattle.uc_model.specs.Data.{AnyUnit, PriceLists, Schedule, unit_count}
 use Rattle.uc_model.specs.Earnings.{earnings}
 use Rattle.uc_model.specs.Limits.{IsMarket}
+use Rattle.uc_model.specs.PriceRule.{Proposal}
 use Rattle.uc_model.specs.Runs.{Fits, AreRightRows, IsRun}
 
 -- ---- what the words of the machine mean
@@ -50,6 +51,18 @@ FinishedIsRun fits =
 -- there is one then
 abbrev pub FinishedHasRow : Type 0
 FinishedHasRow = (s : Content) → 1 ≤ s.setup.ahead → 1 ≤ s.setup.budget → has_finished s ≡ true → 1 ≤ length (own_rows s)
+
+-- each row is made of an answer for each unit, at the prices of its proposal
+pub record IsRowOf (b : Setup) (h : List (Event Answer)) (k : ℕ) (row : Proposal) : Type 0 where
+  pub made : row
+      ≡ row_of b.market (prices_at (rules_of b) (posts h) (suc k)) (answers (rules_of b) (posts h) (suc k))
+  pub each : (u : ℕ) → u < unit_count b.market → (x : ℕ × Answer) × (posts h (suc k) u ≡ Some x)
+
+abbrev pub RowsAreMade : Type 0
+RowsAreMade =
+    (b : Setup) (h : List (Event Answer)) → 1 ≤ b.ahead → (k : ℕ) (d : Proposal) →
+    k < length (rows_of (rules_of b) (posts h)) →
+    IsRowOf b h k (slice_index_or (rows_of (rules_of b) (posts h)) k d)
 
 -- ---- answers
 

@@ -1,4 +1,5 @@
 pub mod Board
+pub mod BoardLaws
 pub mod Bounds
 pub mod Calls
 pub mod Counts

@@ -1,7 +1,8 @@
 //! Laws on the histories of a board: each is the contract of a function that does nothing.
 ghost use Rattle.uc_model.specs.Runs.{Fits};
 ghost use Rattle.board_history.specs.Bounds.{TotalsAreWithin, RowsAreWithin, RowsAreAtMostCost};
-ghost use Rattle.board_history.specs.Laws.{WordsMean, ClaimsMean, PostsMean, StepsAreMachine, CallsStayLegal, RowsAreRight, FinishedIsRun, FinishedHasRow, FinishedStays, HaltsChangeNothing, AnswersFit, EventsAreAtMost};
+ghost use Rattle.board_history.specs.BoardLaws.{BoardLaws, DifferencesMean};
+ghost use Rattle.board_history.specs.Laws.{WordsMean, ClaimsMean, PostsMean, StepsAreMachine, CallsStayLegal, RowsAreRight, RowsAreMade, FinishedIsRun, FinishedHasRow, FinishedStays, HaltsChangeNothing, AnswersFit, EventsAreAtMost};
 ghost use Rattle.board_history.specs.OneCaller.{HeldIsTaken, ClaimsAreGiven, GivenIsTaken};
 ghost use Rattle.board_history.specs.Tasks.{SameTask};
 ghost use Rattle.board_history.specs.Totals.{TotalsRun};
@@ -41,6 +42,11 @@ pub fn calls_stay_legal()
 /// The rows of a legal history are right, as far as they go.
 pub fn rows_are_right()
     ensures { RowsAreRight Fits }
+{}
+
+/// Each row of a history is made of an answer for each unit, at the prices of its proposal.
+pub fn rows_are_made()
+    ensures { RowsAreMade }
 {}
 
 /// Where a legal history is finished, its rows are a whole run.
@@ -116,4 +122,17 @@ pub fn rows_are_within()
 /// No row's value is above the cost of a feasible plan.
 pub fn rows_are_at_most_cost()
     ensures { RowsAreAtMostCost }
+{}
+
+/// What a crate goes by that keeps a board in lists of its own: rows go on one after another and
+/// open proposals; what is closed stays so; one more event changes one post or one holder, and keeps
+/// a history legal if it may come next; a post that is taken is for the board's own task, with a
+/// right answer; and what claims, answers, totals and rows are by the laws above.
+pub fn board_laws()
+    ensures { BoardLaws }
+{}
+
+/// Two lists differ at the first place that both have and where their numbers aren't the same.
+pub fn differences_mean()
+    ensures { DifferencesMean }
 {}

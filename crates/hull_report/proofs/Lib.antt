@@ -7,7 +7,6 @@ mod NameLemmas
 mod NumeralLaws
 -- record.rt: the lines of a record's units, its rows, and the whole text
 mod ChosenRow
-mod MadeRows
 mod UnitLines
 mod Records
 mod Sizes

@@ -8,7 +8,7 @@ use Rattle.std.specs.Option.{option_map_or}
 use Rattle.board_history.specs.Board.{Answer, Content, rules_of, row_of, schedules_in, IsLegalHistory}
 use Rattle.board_history.specs.Calls.{own_rows}
 use Rattle.board_history.specs.Rounds.{posts, answer_at, answers, prices_at}
-use Rattle.board_history.specs.Laws.{AnswersFit, FinishedHasRow, FinishedIsRun}
+use Rattle.board_history.specs.Laws.{AnswersFit, RowsAreMade, FinishedHasRow, FinishedIsRun}
 use Rattle.uc_model.specs.Data.{AnyUnit, Market, NamedThermalUnit, NamedRenewableUnit, NamedBidUnit, PriceLists, Schedule, units, unit_count}
 use Rattle.uc_model.specs.Earnings.{earnings, IsTop}
 use Rattle.uc_model.specs.PriceRule.{Proposal}
@@ -21,7 +21,7 @@ use Rattle.uplift_settle.specs.declared.settlement.Settlement.{Settlement}
 use Rattle.hull_report.specs.Laws.{OneIsChosen}
 use Rattle.hull_report.specs.ReportText.{UnitLine}
 use Rattle.hull_report.specs.RightReport.{unit_lines, HasNames}
-use Rattle.hull_report.specs.RecordReport.{thermal_names, renewable_names, bid_names, line_of, lines_from, chosen_of, report_of, IsSettledRecord, RecordReportIsRight, SettlementsAreOfAllUnits, AnswersAreTops, RowsAreMade}
+use Rattle.hull_report.specs.RecordReport.{thermal_names, renewable_names, bid_names, line_of, lines_from, chosen_of, report_of, IsSettledRecord, RecordReportIsRight, SettlementsAreOfAllUnits, AnswersAreTops}
 use Rattle.hull_report.proofs.ChosenRow.{one_is_chosen}
 use Rattle.hull_report.proofs.UnitLines.{units_length, lines_append, lines_map, lines_names, lines_zip, zip_each, numbers_at}
 

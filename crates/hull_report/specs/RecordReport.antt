@@ -1,9 +1,9 @@
 -- The report of a record: of what a closed board holds, and of a settlement at its chosen prices (this project's profile).
-use Rattle.std.specs.Prelude.{◌≡◌, ℕ, suc, ◌+◌, ◌-◌, ◌<◌, ◌≤◌, ℤ, ◌-ℤ◌, true, Some, List, [], ◌∷◌, map, length, slice_get, slice_index_or}
+use Rattle.std.specs.Prelude.{◌≡◌, ℕ, suc, ◌+◌, ◌-◌, ◌<◌, ◌≤◌, ℤ, ◌-ℤ◌, true, Some, List, [], ◌∷◌, map, length, slice_get}
 use Rattle.std.specs.List.{AllZip}
-use Rattle.board_history.specs.Board.{Setup, Answer, Content, rules_of, row_of, IsLegalHistory}
+use Rattle.board_history.specs.Board.{Answer, Content, rules_of, IsLegalHistory}
 use Rattle.board_history.specs.Calls.{own_rows, has_finished}
-use Rattle.board_history.specs.Rounds.{Event, posts, answer_at, answers, prices_at, rows_of}
+use Rattle.board_history.specs.Rounds.{posts, answer_at}
 use Rattle.uc_model.specs.Data.{NamedThermalUnit, NamedRenewableUnit, NamedBidUnit, PriceLists, Schedule, Market, units, unit_count}
 use Rattle.uc_model.specs.Earnings.{IsTop}
 use Rattle.uc_model.specs.PriceRule.{Proposal, chosen_number}
@@ -101,13 +101,3 @@ AnswersAreTops =
     ((u : ℕ) → u < unit_count c.setup.market →
     int_at earned u ≡ (answer_at (rules_of c.setup) (posts c.events) (suc k) u).earned) →
     AllZip (λ u e. IsTop u row.prices e) (units c.setup.market) earned
-
--- each row of a history is made of an answer for each unit, at the prices of its proposal
-pub record IsRowOf (b : Setup) (h : List (Event Answer)) (k : ℕ) (row : Proposal) : Type 0 where
-  pub made : row ≡ row_of b.market (prices_at (rules_of b) (posts h) (suc k)) (answers (rules_of b) (posts h) (suc k))
-  pub each : (u : ℕ) → u < unit_count b.market → (x : ℕ × Answer) × (posts h (suc k) u ≡ Some x)
-
-abbrev pub RowsAreMade : Type 0
-RowsAreMade =
-    (b : Setup) (h : List (Event Answer)) → 1 ≤ b.ahead → (k : ℕ) (d : Proposal) →
-    k < length (rows_of (rules_of b) (posts h)) → IsRowOf b h k (slice_index_or (rows_of (rules_of b) (posts h)) k d)

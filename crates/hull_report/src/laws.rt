@@ -3,7 +3,7 @@ ghost use Rattle.hull_report.specs.Laws.{TextDeterminesReport, RightReportHasFor
 ghost use Rattle.hull_report.specs.RecordReport.{RecordReportIsRight, SettlementsAreOfAllUnits, AnswersAreTops};
 ghost use Rattle.hull_report.specs.RightSide.{OneRightSide, SidePaymentsMakeUpTheGap, SettledSidesAreRight};
 
-use board_history::laws::{answers_fit, finished_has_row, finished_is_run};
+use board_history::laws::{answers_fit, finished_has_row, finished_is_run, rows_are_made};
 use uc_model::laws::{one_schedule_is_least, payments_make_up_the_gap};
 
 /// Two reports with equal texts are equal, so what is printed tells the report. Of renewable units
@@ -23,6 +23,7 @@ pub fn record_report_is_right()
     ensures { RecordReportIsRight }
 {
     answers_fit();
+    rows_are_made();
     finished_has_row();
     finished_is_run();
 }
@@ -38,6 +39,7 @@ pub fn answers_are_tops()
     ensures { AnswersAreTops }
 {
     answers_fit();
+    rows_are_made();
     finished_has_row();
     finished_is_run();
 }

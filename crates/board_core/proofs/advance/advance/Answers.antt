@@ -53,9 +53,9 @@ open_next-requires-clause-rows c =
     let ahead = c.requires.setup.some_ahead in
     let more_m : m < length f.prices = omega (arith, rc, pc, more) in
     let below : List Proposal → Type 0 = λ xs. All (IsRowBelow b.market b.cost) xs in
-    let given = c.requires.rows (suc m) (omega (arith, rc, within)) (full_to b ahead units counts s f I.round full_m) in
+    let given = c.requires.rows (suc m) (omega (arith, rc, within)) (full_to b (c.board_laws.ensures.of b) ahead units counts s f I.round full_m) in
     let mine = subst (λ (z : Sums). below (rows_by (rules_of b) (row_in b.market z) (suc m))) (sym I.sums) given in
-    let rows = subst below (sym (rows_next b ahead units counts s f I.round more_m)) mine in
+    let rows = subst below (sym (rows_next b (c.board_laws.ensures.of b) ahead units counts s f I.round more_m)) mine in
     subst below (sym (ap (λ (z : Fronts). z.rows) c.close_next.ensures.fronts)) rows
 
 pub loop-ledger-preserved : goal.loop-ledger-preserved
@@ -81,7 +81,7 @@ loop-ledger-preserved c =
     let full_m : is_full units counts (suc m) ≡ true = subst (λ (k : ℕ). is_full units counts (suc k) ≡ true) (sym rc) full in
     let ahead = c.requires.setup.some_ahead in
     let more_m : m < length f.prices = omega (arith, rc, pc, more) in
-    let new = round_more b ahead units counts s f I.round (omega (arith, rc, within)) more_m full_m in
+    let new = round_more b (c.board_laws.ensures.of b) ahead units counts s f I.round (omega (arith, rc, within)) more_m full_m in
     let fronts : fronts_of c.open_next.new.ledger ≡ with_round b s f = c.open_next.ensures.fronts ∙ ap (with_opened b) c.close_next.ensures.fronts in
     let sums : sums_of c.open_next.new.ledger ≡ s = c.open_next.ensures.sums ∙ c.close_next.ensures.sums in
     let kept = c.close_next.ensures.opened in

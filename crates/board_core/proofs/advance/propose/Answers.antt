@@ -1,5 +1,5 @@
 use Rattle.std.proofs.Common.{rules, map, sym, subst, arith, FitsSigned}
-use Rattle.std.proofs.lemmas.Int.{to_z-of_z}
+use Rattle.std.proofs.lemmas.Int.{ints, to_z-of_z}
 use Rattle.std.proofs.lemmas.List.{length-map}
 use Rattle.std.specs.Int.{w128}
 use Rattle.board_history.specs.Bounds.{IsWorth}
@@ -7,13 +7,17 @@ use Rattle.uc_model.specs.PlainCases.{market_of, proposal_of}
 use Rattle.uc_model.specs.PlainUnits.{prices_of}
 use Rattle.board_core.specs.Setups.{setup_of}
 use Rattle.board_core.proofs.Advances.{moved_over}
-use Rattle.board_core.proofs.Costs.{cost_worth}
 use Rattle.board_core.proofs.advance.propose.Goals as goal
 
 pub next_prices_from-moved-requires-clause-cost : goal.next_prices_from-moved-requires-clause-cost
 next_prices_from-moved-requires-clause-cost c =
     let f : FitsSigned w128 c.args.terms.now.cost = search rules in
-    subst IsWorth (sym (to_z-of_z w128 c.args.terms.now.cost f)) (cost_worth (setup_of c.args.terms.now) c.requires.setup)
+    let S = c.requires.setup in
+    let b = setup_of c.args.terms.now in
+    let sum = c.plan_costs_are_within.ensures b.market b.plan S.market S.feasible in
+    let low = sum.at_least in let high = sum.at_most in let same = S.cost in
+    let worth : IsWorth b.cost = record { at_least = omega (arith, ints, low, same); at_most = omega (arith, ints, high, same) } in
+    subst IsWorth (sym (to_z-of_z w128 c.args.terms.now.cost f)) worth
 
 pub returns-clause-horizon : goal.returns-clause-horizon
 returns-clause-horizon c =

@@ -15,4 +15,4 @@ pub returns-then-is_unit_of-clause-differs : goal.returns-then-is_unit_of-clause
 returns-then-is_unit_of-clause-differs c =
     let t = c.args.task.now in
     let prices = sym (c.prices-prices.ensures (blank 0)) ∙ c.same_prices.ensures.0 c.if-same_prices.true in
-    sym (no_difference (setup_of c.args.terms.now) t.unit (own_prices_in c.args.ledger.now t.proposal) (prices_of t.prices) (task_unit t) prices (c.is_unit_of.ensures c.if-is_unit_of.true))
+    sym (no_difference c.differences_mean.ensures (setup_of c.args.terms.now) t.unit (own_prices_in c.args.ledger.now t.proposal) (prices_of t.prices) (task_unit t) prices (c.is_unit_of.ensures c.if-is_unit_of.true))

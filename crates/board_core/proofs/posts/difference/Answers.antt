@@ -14,7 +14,7 @@ returns-in_err-board c =
     let given = task_numbers (prices_of c.args.task.now.prices) (task_unit c.args.task.now) in
     let k = c.loop-place.place in
     let S = c.loop-place.invariant in
-    c.from_residual.ensures ∙ sym (own_ends own given k S (sym c.flat_number.ensures ∙ c.in_err-board.was))
+    c.from_residual.ensures ∙ sym (own_ends c.differences_mean.ensures own given k S (sym c.flat_number.ensures ∙ c.in_err-board.was))
 
 pub returns-in_err-task : goal.returns-in_err-task
 returns-in_err-task c =
@@ -22,7 +22,7 @@ returns-in_err-task c =
     let given = task_numbers (prices_of c.args.task.now.prices) (task_unit c.args.task.now) in
     let k = c.loop-place.place in
     let S = c.loop-place.invariant in
-    c.from_residual-in_err-task.ensures ∙ sym (given_ends own given k S (sym c.flat_number-in-loop-place.ensures ∙ c.in_err-task.was))
+    c.from_residual-in_err-task.ensures ∙ sym (given_ends c.differences_mean.ensures own given k S (sym c.flat_number-in-loop-place.ensures ∙ c.in_err-task.was))
 
 pub returns-then-board-task : goal.returns-then-board-task
 returns-then-board-task c =
@@ -37,7 +37,7 @@ returns-then-board-task c =
     let other : c.in_ok-board.board ≡ c.in_ok-task.task → ⊥ = λ e. c.if-board-task.true (ap (cast_unsigned w64) e) in
     ap (λ (v : ℤ). Some (differs.Content k v (cast_signed w64 (cast_unsigned w64 c.in_ok-task.task)))) (to_z-of_z w64 c.in_ok-board.board f)
     ∙ ap (λ (v : ℤ). Some (differs.Content k c.in_ok-board.board v)) (to_z-of_z w64 c.in_ok-task.task g)
-    ∙ sym (differ_here own given k c.in_ok-board.board c.in_ok-task.task S y z other)
+    ∙ sym (differ_here c.differences_mean.ensures own given k c.in_ok-board.board c.in_ok-task.task S y z other)
 
 pub loop-place-preserved : goal.loop-place-preserved
 loop-place-preserved c =
@@ -61,4 +61,4 @@ returns c =
     let S = c.loop-place.invariant in
     let few = numbers_few c.args.own.now in
     let test = c.loop-place-test.false in
-    sym (no_more own given k S (omega (arith, few, test)))
+    sym (no_more c.differences_mean.ensures own given k S (omega (arith, few, test)))

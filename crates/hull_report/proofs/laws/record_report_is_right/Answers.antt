@@ -1,6 +1,5 @@
-use Rattle.hull_report.proofs.MadeRows.{rows_are_made}
 use Rattle.hull_report.proofs.Records.{record_is_right}
 use Rattle.hull_report.proofs.laws.record_report_is_right.Goals as goal
 
 pub returns : goal.returns
-returns c = record_is_right c.answers_fit.ensures rows_are_made c.finished_has_row.ensures c.finished_is_run.ensures
+returns c = record_is_right c.answers_fit.ensures c.rows_are_made.ensures c.finished_has_row.ensures c.finished_is_run.ensures

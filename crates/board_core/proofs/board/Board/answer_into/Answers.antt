@@ -16,7 +16,7 @@ take-requires-clause-place c =
     let last = subst (λ (v : Content). c.args.proposal ≤ length (own_rows v)) (sym c.self.view_is) c.requires.last in
     let unit = subst (λ (v : Content). c.args.unit < unit_count v.setup.market) (sym c.self.view_is) c.requires.unit in
     let i = c.place.ensures ∙ ap (λ (m : ℕ). place m c.args.proposal c.args.unit) c.units.ensures in
-    subst (λ (j : ℕ). j < length s.store.answers) (sym i) (kept_inside b h _ s.ledger c.self.invariant.0 c.args.proposal c.args.unit c.requires.first last unit)
+    subst (λ (j : ℕ). j < length s.store.answers) (sym i) (kept_inside b h _ s.ledger c.self.invariant.0 (c.board_laws.ensures.of b) c.args.proposal c.args.unit c.requires.first last unit)
 
 pub returns-clause-answer : goal.returns-clause-answer
 returns-clause-answer c =
@@ -27,7 +27,7 @@ returns-clause-answer c =
     let unit = subst (λ (v : Content). c.args.unit < unit_count v.setup.market) (sym c.self.view_is) c.requires.unit in
     let i = c.place.ensures ∙ ap (λ (m : ℕ). place m c.args.proposal c.args.unit) c.units.ensures in
     c.take.ensures.answer
-    ∙ ap (λ (j : ℕ). get_or s.store.answers j no_answer) i ∙ kept_is b h _ s.ledger c.self.invariant.0 c.args.proposal c.args.unit c.requires.first last unit
+    ∙ ap (λ (j : ℕ). get_or s.store.answers j no_answer) i ∙ kept_is b h _ s.ledger c.self.invariant.0 (c.board_laws.ensures.of b) c.args.proposal c.args.unit c.requires.first last unit
     ∙ ap (λ (v : Content). kept_answer v c.args.proposal c.args.unit) c.self.view_is
 
 pub returns-clause-horizon : goal.returns-clause-horizon

@@ -32,7 +32,7 @@ returns-then-open-closed-clause-answer c =
     let o = c.opened-open.ensures in
     let f = c.closed.ensures in
     let test = c.if-open-closed.true in
-    let r = claim_finished b h x s.ledger I (omega (arith, o, f, test)) in
+    let r = claim_finished b h x s.ledger I c.board_laws.ensures (omega (arith, o, f, test)) in
     ap claim_of (sym r) ∙ ap (λ (v : Content). claim_of (claim_answer v)) c.self.view_is
 
 pub returns-then-open-closed-clause-after : goal.returns-then-open-closed-clause-after
@@ -46,7 +46,7 @@ returns-then-open-closed-clause-after c =
     let o = c.opened-open.ensures in
     let f = c.closed.ensures in
     let test = c.if-open-closed.true in
-    let r = claim_finished b h x s.ledger I (omega (arith, o, f, test)) in
+    let r = claim_finished b h x s.ledger I c.board_laws.ensures (omega (arith, o, f, test)) in
     sym c.self.view_is ∙ sym (ap (λ z. content b (with_claim h k z)) r) ∙ ap (λ (v : Content). after_claim v k) c.self.view_is
 
 pub returns-then-open-closed-clause-task : goal.returns-then-open-closed-clause-task
@@ -60,7 +60,7 @@ returns-then-open-closed-clause-task c =
     let o = c.opened-open.ensures in
     let f = c.closed.ensures in
     let test = c.if-open-closed.true in
-    let r = claim_finished b h x s.ledger I (omega (arith, o, f, test)) in
+    let r = claim_finished b h x s.ledger I c.board_laws.ensures (omega (arith, o, f, test)) in
     subst (λ (v : Content). LeavesTask v (claim_answer v) c.args.into.now c.args.into.now) c.self.view_is (subst (λ (z : ClaimReply). LeavesTask (content b h) z c.args.into.now c.args.into.now) (sym r) refl)
 
 pub returns-then-self-clause-answer : goal.returns-then-self-clause-answer
@@ -75,7 +75,7 @@ returns-then-self-clause-answer c =
     let f = c.closed.ensures in
     let test = c.if-open-closed.false in
     let running : s.ledger.closed < s.ledger.opened = omega (arith, o, f, test) in
-    let r = claim_halted b h x s.ledger I running c.if-self.true in
+    let r = claim_halted b h x s.ledger I c.board_laws.ensures running c.if-self.true in
     ap claim_of (sym r) ∙ ap (λ (v : Content). claim_of (claim_answer v)) c.self.view_is
 
 pub returns-then-self-clause-after : goal.returns-then-self-clause-after
@@ -90,7 +90,7 @@ returns-then-self-clause-after c =
     let f = c.closed.ensures in
     let test = c.if-open-closed.false in
     let running : s.ledger.closed < s.ledger.opened = omega (arith, o, f, test) in
-    let r = claim_halted b h x s.ledger I running c.if-self.true in
+    let r = claim_halted b h x s.ledger I c.board_laws.ensures running c.if-self.true in
     sym c.self.view_is ∙ sym (ap (λ z. content b (with_claim h k z)) r) ∙ ap (λ (v : Content). after_claim v k) c.self.view_is
 
 pub returns-then-self-clause-task : goal.returns-then-self-clause-task
@@ -105,7 +105,7 @@ returns-then-self-clause-task c =
     let f = c.closed.ensures in
     let test = c.if-open-closed.false in
     let running : s.ledger.closed < s.ledger.opened = omega (arith, o, f, test) in
-    let r = claim_halted b h x s.ledger I running c.if-self.true in
+    let r = claim_halted b h x s.ledger I c.board_laws.ensures running c.if-self.true in
     subst (λ (v : Content). LeavesTask v (claim_answer v) c.args.into.now c.args.into.now) c.self.view_is (subst (λ (z : ClaimReply). LeavesTask (content b h) z c.args.into.now c.args.into.now) (sym r) refl)
 
 pub returns-then-open-before-clause-answer : goal.returns-then-open-before-clause-answer
@@ -126,7 +126,7 @@ returns-then-open-before-clause-answer c =
     let d : c.len-number.result / c.units-units.result ≡ length s.takers.items / units = ap (λ (i : ℕ). i / c.units-units.result) n ∙ ap (λ (i : ℕ). length s.takers.items / i) m in
     let u : c.len-number.result % c.units-units.result ≡ length s.takers.items % units = ap (λ (i : ℕ). i % c.units-units.result) n ∙ ap (λ (i : ℕ). length s.takers.items % i) m in
     let late = c.if-open-before.true in
-    let r = claim_not_yet b h x s.ledger I running c.if-self.false (omega (arith, late, d, o)) in
+    let r = claim_not_yet b h x s.ledger I c.board_laws.ensures running c.if-self.false (omega (arith, late, d, o)) in
     ap claim_of (sym r) ∙ ap (λ (v : Content). claim_of (claim_answer v)) c.self.view_is
 
 pub returns-then-open-before-clause-after : goal.returns-then-open-before-clause-after
@@ -147,7 +147,7 @@ returns-then-open-before-clause-after c =
     let d : c.len-number.result / c.units-units.result ≡ length s.takers.items / units = ap (λ (i : ℕ). i / c.units-units.result) n ∙ ap (λ (i : ℕ). length s.takers.items / i) m in
     let u : c.len-number.result % c.units-units.result ≡ length s.takers.items % units = ap (λ (i : ℕ). i % c.units-units.result) n ∙ ap (λ (i : ℕ). length s.takers.items % i) m in
     let late = c.if-open-before.true in
-    let r = claim_not_yet b h x s.ledger I running c.if-self.false (omega (arith, late, d, o)) in
+    let r = claim_not_yet b h x s.ledger I c.board_laws.ensures running c.if-self.false (omega (arith, late, d, o)) in
     sym c.self.view_is ∙ sym (ap (λ z. content b (with_claim h k z)) r) ∙ ap (λ (v : Content). after_claim v k) c.self.view_is
 
 pub returns-then-open-before-clause-task : goal.returns-then-open-before-clause-task
@@ -168,7 +168,7 @@ returns-then-open-before-clause-task c =
     let d : c.len-number.result / c.units-units.result ≡ length s.takers.items / units = ap (λ (i : ℕ). i / c.units-units.result) n ∙ ap (λ (i : ℕ). length s.takers.items / i) m in
     let u : c.len-number.result % c.units-units.result ≡ length s.takers.items % units = ap (λ (i : ℕ). i % c.units-units.result) n ∙ ap (λ (i : ℕ). length s.takers.items % i) m in
     let late = c.if-open-before.true in
-    let r = claim_not_yet b h x s.ledger I running c.if-self.false (omega (arith, late, d, o)) in
+    let r = claim_not_yet b h x s.ledger I c.board_laws.ensures running c.if-self.false (omega (arith, late, d, o)) in
     subst (λ (v : Content). LeavesTask v (claim_answer v) c.args.into.now c.args.into.now) c.self.view_is (subst (λ (z : ClaimReply). LeavesTask (content b h) z c.args.into.now c.args.into.now) (sym r) refl)
 
 pub copy_task-requires-clause-horizon : goal.copy_task-requires-clause-horizon
@@ -215,7 +215,7 @@ push_reserved-requires c =
     let early = c.if-open-before.false in
     let before = length s.takers.items / units in
     let more : before < s.ledger.opened = omega (arith, early, d, o) in
-    let w = count_within b h x s.ledger I more in
+    let w = count_within b h x s.ledger I c.board_laws.ensures more in
     let room = c.self.invariant.1.takers_room in
     omega (arith, w, room)
 
@@ -239,7 +239,7 @@ push_reserved-requires-2 c =
     let early = c.if-open-before.false in
     let before = length s.takers.items / units in
     let more : before < s.ledger.opened = omega (arith, early, d, o) in
-    let w = count_within b h x s.ledger I more in
+    let w = count_within b h x s.ledger I c.board_laws.ensures more in
     let room = c.self.invariant.1.room in
     omega (arith, w, room)
 
@@ -266,15 +266,15 @@ invariant_of-self c =
     let unit = length s.takers.items % units in
     let K = c.self.invariant.1 in
     let caller : k < b.callers = subst (λ (v : Content). k < v.setup.callers) (sym c.self.view_is) c.requires.caller in
-    let r = claim_given b h x s.ledger I more running c.if-self.false in
+    let r = claim_given b h x s.ledger I c.board_laws.ensures more running c.if-self.false in
     let entry : Entry = record { caller = k; call = calls.Claim; proposal = c.len-number.result / c.units-units.result + 1; unit = c.len-number.result % c.units-units.result; reply = replies.Given } in
     let h2 = events_of units s.store.answers c.push_reserved-2.new.self.items in
     let given : event_of units s.store.answers entry ≡ Given k (before + 1) unit = ap (λ (i : ℕ). Given k (i + 1) (c.len-number.result % c.units-units.result)) d ∙ ap (Given k (before + 1)) u in
     let events : h2 ≡ h ++ Given k (before + 1) unit ∷ [] =
     events_more units s.store.answers s.history.items c.push_reserved-2.new.self.items entry c.push_reserved-2.ensures.items ∙ ap (λ (e : Event Answer). h ++ e ∷ []) given in
     let takers = c.push_reserved.ensures.items in
-    let new = claimed b h x s.ledger I more k caller running c.if-self.false in
-    let w = count_within b h x s.ledger I more in
+    let new = claimed b h x s.ledger I c.board_laws.ensures more k caller running c.if-self.false in
+    let w = count_within b h x s.ledger I c.board_laws.ensures more in
     let room = K.room in
     let takers_room = K.takers_room in
     let lengths = ap (λ (xs : List ℕ). length xs) takers in
@@ -315,7 +315,7 @@ returns-clause-answer c =
     let unit = length s.takers.items % units in
     let K = c.self.invariant.1 in
     let caller : k < b.callers = subst (λ (v : Content). k < v.setup.callers) (sym c.self.view_is) c.requires.caller in
-    let r = claim_given b h x s.ledger I more running c.if-self.false in
+    let r = claim_given b h x s.ledger I c.board_laws.ensures more running c.if-self.false in
     let entry : Entry = record { caller = k; call = calls.Claim; proposal = c.len-number.result / c.units-units.result + 1; unit = c.len-number.result % c.units-units.result; reply = replies.Given } in
     let h2 = events_of units s.store.answers c.push_reserved-2.new.self.items in
     let given : event_of units s.store.answers entry ≡ Given k (before + 1) unit = ap (λ (i : ℕ). Given k (i + 1) (c.len-number.result % c.units-units.result)) d ∙ ap (Given k (before + 1)) u in
@@ -346,7 +346,7 @@ returns-clause-after c =
     let unit = length s.takers.items % units in
     let K = c.self.invariant.1 in
     let caller : k < b.callers = subst (λ (v : Content). k < v.setup.callers) (sym c.self.view_is) c.requires.caller in
-    let r = claim_given b h x s.ledger I more running c.if-self.false in
+    let r = claim_given b h x s.ledger I c.board_laws.ensures more running c.if-self.false in
     let entry : Entry = record { caller = k; call = calls.Claim; proposal = c.len-number.result / c.units-units.result + 1; unit = c.len-number.result % c.units-units.result; reply = replies.Given } in
     let h2 = events_of units s.store.answers c.push_reserved-2.new.self.items in
     let given : event_of units s.store.answers entry ≡ Given k (before + 1) unit = ap (λ (i : ℕ). Given k (i + 1) (c.len-number.result % c.units-units.result)) d ∙ ap (Given k (before + 1)) u in
@@ -377,7 +377,7 @@ returns-clause-task c =
     let unit = length s.takers.items % units in
     let K = c.self.invariant.1 in
     let caller : k < b.callers = subst (λ (v : Content). k < v.setup.callers) (sym c.self.view_is) c.requires.caller in
-    let r = claim_given b h x s.ledger I more running c.if-self.false in
+    let r = claim_given b h x s.ledger I c.board_laws.ensures more running c.if-self.false in
     let entry : Entry = record { caller = k; call = calls.Claim; proposal = c.len-number.result / c.units-units.result + 1; unit = c.len-number.result % c.units-units.result; reply = replies.Given } in
     let h2 = events_of units s.store.answers c.push_reserved-2.new.self.items in
     let given : event_of units s.store.answers entry ≡ Given k (before + 1) unit = ap (λ (i : ℕ). Given k (i + 1) (c.len-number.result % c.units-units.result)) d ∙ ap (Given k (before + 1)) u in

@@ -17,7 +17,7 @@ earned-requires c =
     let last = subst (λ (v : Content). c.args.proposal ≤ length (own_rows v)) (sym c.self.view_is) c.requires.last in
     let unit = subst (λ (v : Content). c.args.unit < unit_count v.setup.market) (sym c.self.view_is) c.requires.unit in
     let i = c.place.ensures ∙ ap (λ (m : ℕ). place m c.args.proposal c.args.unit) c.units.ensures in
-    subst (λ (j : ℕ). j < length s.store.answers) (sym i) (kept_inside b h _ s.ledger c.self.invariant.0 c.args.proposal c.args.unit c.requires.first last unit)
+    subst (λ (j : ℕ). j < length s.store.answers) (sym i) (kept_inside b h _ s.ledger c.self.invariant.0 (c.board_laws.ensures.of b) c.args.proposal c.args.unit c.requires.first last unit)
 
 pub returns : goal.returns
 returns c =
@@ -28,7 +28,7 @@ returns c =
     let unit = subst (λ (v : Content). c.args.unit < unit_count v.setup.market) (sym c.self.view_is) c.requires.unit in
     let i = c.place.ensures ∙ ap (λ (m : ℕ). place m c.args.proposal c.args.unit) c.units.ensures in
     let f : FitsSigned w64 c.earned.result = search rules in
-    let is = kept_is b h _ s.ledger c.self.invariant.0 c.args.proposal c.args.unit c.requires.first last unit in
+    let is = kept_is b h _ s.ledger c.self.invariant.0 (c.board_laws.ensures.of b) c.args.proposal c.args.unit c.requires.first last unit in
     to_z-of_z w64 c.earned.result f ∙ c.earned.ensures
     ∙ ap (λ (j : ℕ). (get_or s.store.answers j no_answer).earned) i ∙ ap (λ (a : Answer). a.earned) is
     ∙ ap (λ (v : Content). (kept_answer v c.args.proposal c.args.unit).earned) c.self.view_is

@@ -50,7 +50,7 @@ invariant_of-self c =
     let less = one_less s.halted.items k place first in
     let room = K.room in
     let long = ap (λ (xs : List Entry). length xs) c.push_reserved.ensures.items in (
-      subst (λ (z : List (Event Answer)). IsBoard b z (halted_lists x k) s.ledger) (sym events) (stopped b h x s.ledger I k caller first),
+      subst (λ (z : List (Event Answer)). IsBoard b z (halted_lists x k) s.ledger) (sym events) (stopped b h x s.ledger I k caller first c.board_laws.ensures),
       record {
         room = omega (arith, room, less, long, length-append s.history.items (entry ∷ []), c.push_reserved.ensures.capacity);
         takers_room = K.takers_room;

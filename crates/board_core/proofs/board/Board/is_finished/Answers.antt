@@ -16,5 +16,5 @@ returns c =
     let h = events_of (unit_count b.market) s.store.answers s.history.items in
     let I = c.self.invariant.0 in
     let o = c.opened.ensures ∙ opened_is b s.ledger I.ledger (posts h) I.rounds in
-    let k = c.closed.ensures ∙ closed_is b s.ledger I.ledger (posts h) I.rounds in
+    let k = c.closed.ensures ∙ closed_is b s.ledger I.ledger (posts h) I.rounds (c.board_laws.ensures.of b) in
     ap (λ (n : ℕ). nat_le n c.closed.result) o ∙ ap (λ (n : ℕ). nat_le (opened (rules_of b) (posts h)) n) k ∙ ap has_finished c.self.view_is

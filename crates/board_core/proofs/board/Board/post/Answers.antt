@@ -1,8 +1,6 @@
 use Rattle.std.proofs.Common.{◌≡◌, ℕ, suc, ◌+◌, ◌-◌, ◌<◌, ◌==◌, ℤ, Bool, true, false, Option, List, [], ◌∷◌, ◌++◌, length, get_or, refl, subst, sym, ap, ◌∙◌, arith, length-append}
 use Rattle.std.proofs.Math.ListN.{set}
 use Rattle.std.specs.List.{All}
-use Rattle.board_history.proofs.NextTask.{place_before}
-use Rattle.board_history.proofs.RowBounds.{totals_within}
 use Rattle.board_history.specs.Board.{Answer, Content, rules_of}
 use Rattle.board_history.specs.Bounds.{IsTotal, IsSum}
 use Rattle.board_history.specs.Calls.{post_answer, after_post}
@@ -25,6 +23,7 @@ use Rattle.board_core.specs.Stored.{answer_of}
 use Rattle.board_core.proofs.Entries.{content, entries_more}
 use Rattle.board_core.proofs.FlatLists.{is_task}
 use Rattle.board_core.proofs.Halts.{one_less}
+use Rattle.board_core.proofs.Lists.{place_before}
 use Rattle.board_core.proofs.PostEvents.{events_posted}
 use Rattle.board_core.proofs.PostLists.{mark_inside, kept_inside, free, count_few, closes_is}
 use Rattle.board_core.proofs.PostRounds.{rounds_in, sums_small, rows_below, legal_post, posts_are, extends, full_was_open, posted}
@@ -119,7 +118,7 @@ index_mut-requires c =
     let asked : c.refusal-refused.result ≡ refusal_of b l s.marks.items s.takers.items k n u ρ v =
     c.refusal-refused.ensures.refused ∙ ap (λ (xs : List Bool). refusal_of b l xs c.deref-2.result.now k n u ρ v) c.deref.ensures.value
     ∙ ap (λ (xs : List ℕ). refusal_of b l s.marks.items xs k n u ρ v) c.deref-2.ensures.value in
-    let ok = taken_here b h x l I k n u ρ v a (is_task c.args.task.now) c.requires.fit c.requires.earned (sym asked ∙ c.in_default.is) in
+    let ok = taken_here c.board_laws.ensures.taken_tells b h x l I k n u ρ v a (is_task c.args.task.now) c.requires.fit c.requires.earned (sym asked ∙ c.in_default.is) in
     let H = ok.held in
     let i = place units n u in
     let at_ : c.place-at.result ≡ i = c.place-at.ensures ∙ ap (λ (m : ℕ). place m n u) c.units-units.ensures in
@@ -146,7 +145,7 @@ put-requires-clause-place c =
     let asked : c.refusal-refused.result ≡ refusal_of b l s.marks.items s.takers.items k n u ρ v =
     c.refusal-refused.ensures.refused ∙ ap (λ (xs : List Bool). refusal_of b l xs c.deref-2.result.now k n u ρ v) c.deref.ensures.value
     ∙ ap (λ (xs : List ℕ). refusal_of b l s.marks.items xs k n u ρ v) c.deref-2.ensures.value in
-    let ok = taken_here b h x l I k n u ρ v a (is_task c.args.task.now) c.requires.fit c.requires.earned (sym asked ∙ c.in_default.is) in
+    let ok = taken_here c.board_laws.ensures.taken_tells b h x l I k n u ρ v a (is_task c.args.task.now) c.requires.fit c.requires.earned (sym asked ∙ c.in_default.is) in
     let H = ok.held in
     let i = place units n u in
     let at_ : c.place-at.result ≡ i = c.place-at.ensures ∙ ap (λ (m : ℕ). place m n u) c.units-units.ensures in
@@ -173,7 +172,7 @@ put-requires-clause-horizon c =
     let asked : c.refusal-refused.result ≡ refusal_of b l s.marks.items s.takers.items k n u ρ v =
     c.refusal-refused.ensures.refused ∙ ap (λ (xs : List Bool). refusal_of b l xs c.deref-2.result.now k n u ρ v) c.deref.ensures.value
     ∙ ap (λ (xs : List ℕ). refusal_of b l s.marks.items xs k n u ρ v) c.deref-2.ensures.value in
-    let ok = taken_here b h x l I k n u ρ v a (is_task c.args.task.now) c.requires.fit c.requires.earned (sym asked ∙ c.in_default.is) in
+    let ok = taken_here c.board_laws.ensures.taken_tells b h x l I k n u ρ v a (is_task c.args.task.now) c.requires.fit c.requires.earned (sym asked ∙ c.in_default.is) in
     let H = ok.held in
     let i = place units n u in
     let at_ : c.place-at.result ≡ i = c.place-at.ensures ∙ ap (λ (m : ℕ). place m n u) c.units-units.ensures in
@@ -199,12 +198,12 @@ add-requires-clause-horizon c =
     let asked : c.refusal-refused.result ≡ refusal_of b l s.marks.items s.takers.items k n u ρ v =
     c.refusal-refused.ensures.refused ∙ ap (λ (xs : List Bool). refusal_of b l xs c.deref-2.result.now k n u ρ v) c.deref.ensures.value
     ∙ ap (λ (xs : List ℕ). refusal_of b l s.marks.items xs k n u ρ v) c.deref-2.ensures.value in
-    let ok = taken_here b h x l I k n u ρ v a (is_task c.args.task.now) c.requires.fit c.requires.earned (sym asked ∙ c.in_default.is) in
+    let ok = taken_here c.board_laws.ensures.taken_tells b h x l I k n u ρ v a (is_task c.args.task.now) c.requires.fit c.requires.earned (sym asked ∙ c.in_default.is) in
     let H = ok.held in
     let i = place units n u in
     let at_ : c.place-at.result ≡ i = c.place-at.ensures ∙ ap (λ (m : ℕ). place m n u) c.units-units.ensures in
     let k_ = n - 1 in
-    λ d. ok.long ∙ sym (I.ledger.horizon k_ d (place_ b h x l I k n u a H v ok.is))
+    λ d. ok.long ∙ sym (I.ledger.horizon k_ d (place_ b (c.board_laws.ensures.of b) h x l I k n u a H v ok.is))
 
 pub add-requires-clause-supply : goal.add-requires-clause-supply
 add-requires-clause-supply c =
@@ -225,12 +224,12 @@ add-requires-clause-supply c =
     let asked : c.refusal-refused.result ≡ refusal_of b l s.marks.items s.takers.items k n u ρ v =
     c.refusal-refused.ensures.refused ∙ ap (λ (xs : List Bool). refusal_of b l xs c.deref-2.result.now k n u ρ v) c.deref.ensures.value
     ∙ ap (λ (xs : List ℕ). refusal_of b l s.marks.items xs k n u ρ v) c.deref-2.ensures.value in
-    let ok = taken_here b h x l I k n u ρ v a (is_task c.args.task.now) c.requires.fit c.requires.earned (sym asked ∙ c.in_default.is) in
+    let ok = taken_here c.board_laws.ensures.taken_tells b h x l I k n u ρ v a (is_task c.args.task.now) c.requires.fit c.requires.earned (sym asked ∙ c.in_default.is) in
     let H = ok.held in
     let i = place units n u in
     let at_ : c.place-at.result ≡ i = c.place-at.ensures ∙ ap (λ (m : ℕ). place m n u) c.units-units.ensures in
     let k_ = n - 1 in
-    λ d. subst (λ (xs : List ℤ). All IsTotal xs) (sym (supply_was b h x l I k n u a H v ok.is d)) (supply_small b h I.setup I.legal n)
+    λ d. subst (λ (xs : List ℤ). All IsTotal xs) (sym (supply_was b (c.board_laws.ensures.of b) h x l I k n u a H v ok.is d)) (supply_small c.board_laws.ensures.totals_are_within b h I.setup I.legal n)
 
 pub add-requires-clause-reserve : goal.add-requires-clause-reserve
 add-requires-clause-reserve c =
@@ -251,12 +250,12 @@ add-requires-clause-reserve c =
     let asked : c.refusal-refused.result ≡ refusal_of b l s.marks.items s.takers.items k n u ρ v =
     c.refusal-refused.ensures.refused ∙ ap (λ (xs : List Bool). refusal_of b l xs c.deref-2.result.now k n u ρ v) c.deref.ensures.value
     ∙ ap (λ (xs : List ℕ). refusal_of b l s.marks.items xs k n u ρ v) c.deref-2.ensures.value in
-    let ok = taken_here b h x l I k n u ρ v a (is_task c.args.task.now) c.requires.fit c.requires.earned (sym asked ∙ c.in_default.is) in
+    let ok = taken_here c.board_laws.ensures.taken_tells b h x l I k n u ρ v a (is_task c.args.task.now) c.requires.fit c.requires.earned (sym asked ∙ c.in_default.is) in
     let H = ok.held in
     let i = place units n u in
     let at_ : c.place-at.result ≡ i = c.place-at.ensures ∙ ap (λ (m : ℕ). place m n u) c.units-units.ensures in
     let k_ = n - 1 in
-    λ d. subst (λ (xs : List ℤ). All IsTotal xs) (sym (reserve_was b h x l I k n u a H v ok.is d)) (reserve_small b h I.setup I.legal n)
+    λ d. subst (λ (xs : List ℤ). All IsTotal xs) (sym (reserve_was b (c.board_laws.ensures.of b) h x l I k n u a H v ok.is d)) (reserve_small c.board_laws.ensures.totals_are_within b h I.setup I.legal n)
 
 pub add-requires-clause-earned : goal.add-requires-clause-earned
 add-requires-clause-earned c =
@@ -277,12 +276,12 @@ add-requires-clause-earned c =
     let asked : c.refusal-refused.result ≡ refusal_of b l s.marks.items s.takers.items k n u ρ v =
     c.refusal-refused.ensures.refused ∙ ap (λ (xs : List Bool). refusal_of b l xs c.deref-2.result.now k n u ρ v) c.deref.ensures.value
     ∙ ap (λ (xs : List ℕ). refusal_of b l s.marks.items xs k n u ρ v) c.deref-2.ensures.value in
-    let ok = taken_here b h x l I k n u ρ v a (is_task c.args.task.now) c.requires.fit c.requires.earned (sym asked ∙ c.in_default.is) in
+    let ok = taken_here c.board_laws.ensures.taken_tells b h x l I k n u ρ v a (is_task c.args.task.now) c.requires.fit c.requires.earned (sym asked ∙ c.in_default.is) in
     let H = ok.held in
     let i = place units n u in
     let at_ : c.place-at.result ≡ i = c.place-at.ensures ∙ ap (λ (m : ℕ). place m n u) c.units-units.ensures in
     let k_ = n - 1 in
-    subst IsSum (sym (earned_was b h x l I k n u a H v ok.is)) (totals_within b h I.setup.market I.legal n).earned
+    subst IsSum (sym (earned_was b (c.board_laws.ensures.of b) h x l I k n u a H v ok.is)) (c.board_laws.ensures.totals_are_within b h I.setup.market I.legal n).earned
 
 pub count_up-requires-clause-count : goal.count_up-requires-clause-count
 count_up-requires-clause-count c =
@@ -303,7 +302,7 @@ count_up-requires-clause-count c =
     let asked : c.refusal-refused.result ≡ refusal_of b l s.marks.items s.takers.items k n u ρ v =
     c.refusal-refused.ensures.refused ∙ ap (λ (xs : List Bool). refusal_of b l xs c.deref-2.result.now k n u ρ v) c.deref.ensures.value
     ∙ ap (λ (xs : List ℕ). refusal_of b l s.marks.items xs k n u ρ v) c.deref-2.ensures.value in
-    let ok = taken_here b h x l I k n u ρ v a (is_task c.args.task.now) c.requires.fit c.requires.earned (sym asked ∙ c.in_default.is) in
+    let ok = taken_here c.board_laws.ensures.taken_tells b h x l I k n u ρ v a (is_task c.args.task.now) c.requires.fit c.requires.earned (sym asked ∙ c.in_default.is) in
     let H = ok.held in
     let i = place units n u in
     let at_ : c.place-at.result ≡ i = c.place-at.ensures ∙ ap (λ (m : ℕ). place m n u) c.units-units.ensures in
@@ -330,7 +329,7 @@ push_reserved-requires c =
     let asked : c.refusal-refused.result ≡ refusal_of b l s.marks.items s.takers.items k n u ρ v =
     c.refusal-refused.ensures.refused ∙ ap (λ (xs : List Bool). refusal_of b l xs c.deref-2.result.now k n u ρ v) c.deref.ensures.value
     ∙ ap (λ (xs : List ℕ). refusal_of b l s.marks.items xs k n u ρ v) c.deref-2.ensures.value in
-    let ok = taken_here b h x l I k n u ρ v a (is_task c.args.task.now) c.requires.fit c.requires.earned (sym asked ∙ c.in_default.is) in
+    let ok = taken_here c.board_laws.ensures.taken_tells b h x l I k n u ρ v a (is_task c.args.task.now) c.requires.fit c.requires.earned (sym asked ∙ c.in_default.is) in
     let H = ok.held in
     let i = place units n u in
     let at_ : c.place-at.result ≡ i = c.place-at.ensures ∙ ap (λ (m : ℕ). place m n u) c.units-units.ensures in
@@ -358,7 +357,7 @@ advance-requires-clause-ledger c =
     let asked : c.refusal-refused.result ≡ refusal_of b l s.marks.items s.takers.items k n u ρ v =
     c.refusal-refused.ensures.refused ∙ ap (λ (xs : List Bool). refusal_of b l xs c.deref-2.result.now k n u ρ v) c.deref.ensures.value
     ∙ ap (λ (xs : List ℕ). refusal_of b l s.marks.items xs k n u ρ v) c.deref-2.ensures.value in
-    let ok = taken_here b h x l I k n u ρ v a (is_task c.args.task.now) c.requires.fit c.requires.earned (sym asked ∙ c.in_default.is) in
+    let ok = taken_here c.board_laws.ensures.taken_tells b h x l I k n u ρ v a (is_task c.args.task.now) c.requires.fit c.requires.earned (sym asked ∙ c.in_default.is) in
     let H = ok.held in
     let i = place units n u in
     let at_ : c.place-at.result ≡ i = c.place-at.ensures ∙ ap (λ (m : ℕ). place m n u) c.units-units.ensures in
@@ -370,9 +369,9 @@ advance-requires-clause-ledger c =
     let q = with_post p k n u a in
     let caller : k < b.callers = subst (λ (z : Content). k < z.setup.callers) (sym c.self.view_is) c.requires.caller in
     let counts2 = set s.counts.items k_ (get_or s.counts.items k_ 0 + 1) in
-    let T = tallies_more b h x l I k n u a H v ok.is l2 d W in
-    let fronts = fronts_same b h x l I k n u a H v ok.is l2 d W in
-    counted_ledger b h x l I k n u a H v ok.is l2 d W
+    let T = tallies_more b (c.board_laws.ensures.of b) h x l I k n u a H v ok.is l2 d W in
+    let fronts = fronts_same b (c.board_laws.ensures.of b) h x l I k n u a H v ok.is l2 d W in
+    counted_ledger b (c.board_laws.ensures.of b) h x l I k n u a H v ok.is l2 d W
 
 pub advance-requires-clause-round : goal.advance-requires-clause-round
 advance-requires-clause-round c =
@@ -393,7 +392,7 @@ advance-requires-clause-round c =
     let asked : c.refusal-refused.result ≡ refusal_of b l s.marks.items s.takers.items k n u ρ v =
     c.refusal-refused.ensures.refused ∙ ap (λ (xs : List Bool). refusal_of b l xs c.deref-2.result.now k n u ρ v) c.deref.ensures.value
     ∙ ap (λ (xs : List ℕ). refusal_of b l s.marks.items xs k n u ρ v) c.deref-2.ensures.value in
-    let ok = taken_here b h x l I k n u ρ v a (is_task c.args.task.now) c.requires.fit c.requires.earned (sym asked ∙ c.in_default.is) in
+    let ok = taken_here c.board_laws.ensures.taken_tells b h x l I k n u ρ v a (is_task c.args.task.now) c.requires.fit c.requires.earned (sym asked ∙ c.in_default.is) in
     let H = ok.held in
     let i = place units n u in
     let at_ : c.place-at.result ≡ i = c.place-at.ensures ∙ ap (λ (m : ℕ). place m n u) c.units-units.ensures in
@@ -405,15 +404,15 @@ advance-requires-clause-round c =
     let q = with_post p k n u a in
     let caller : k < b.callers = subst (λ (z : Content). k < z.setup.callers) (sym c.self.view_is) c.requires.caller in
     let counts2 = set s.counts.items k_ (get_or s.counts.items k_ 0 + 1) in
-    let T = tallies_more b h x l I k n u a H v ok.is l2 d W in
-    let fronts = fronts_same b h x l I k n u a H v ok.is l2 d W in
+    let T = tallies_more b (c.board_laws.ensures.of b) h x l I k n u a H v ok.is l2 d W in
+    let fronts = fronts_same b (c.board_laws.ensures.of b) h x l I k n u a H v ok.is l2 d W in
     let cs : c.deref-3.result.now ≡ counts2 = c.deref-3.ensures.value ∙ c.count_up.ensures.counts in
     let event = post_event (rules_of b) p k n u a in
     let h2 = h ++ event ∷ [] in
-    let legal2 = legal_post b h x l I k n u a H caller ok.right in
-    let same = posts_are b h x l I k n u a H caller ok.right in
+    let legal2 = legal_post c.board_laws.ensures b h x l I k n u a H caller ok.right in
+    let same = posts_are c.board_laws.ensures b h x l I k n u a H caller ok.right in
     let T2 : AreTallies b counts2 (sums_of l2) (posts h2) = subst (AreTallies b counts2 (sums_of l2)) (sym same) T in
-    let old = rounds_in b counts2 (sums_of l2) q T p (fronts_of l) (extends b h x l I k n u a H caller ok.right) I.rounds in
+    let old = rounds_in b (c.board_laws.ensures.of b) counts2 (sums_of l2) q T p (fronts_of l) (extends c.board_laws.ensures b h x l I k n u a H caller ok.right) I.rounds in
     subst (λ (xs : List ℕ). IsRound b units xs (sums_of l2) (fronts_of l2)) (sym cs) (subst (λ (z : Fronts). IsRound b units counts2 (sums_of l2) z) (sym fronts) old)
 
 pub advance-requires-clause-opened : goal.advance-requires-clause-opened
@@ -435,7 +434,7 @@ advance-requires-clause-opened c =
     let asked : c.refusal-refused.result ≡ refusal_of b l s.marks.items s.takers.items k n u ρ v =
     c.refusal-refused.ensures.refused ∙ ap (λ (xs : List Bool). refusal_of b l xs c.deref-2.result.now k n u ρ v) c.deref.ensures.value
     ∙ ap (λ (xs : List ℕ). refusal_of b l s.marks.items xs k n u ρ v) c.deref-2.ensures.value in
-    let ok = taken_here b h x l I k n u ρ v a (is_task c.args.task.now) c.requires.fit c.requires.earned (sym asked ∙ c.in_default.is) in
+    let ok = taken_here c.board_laws.ensures.taken_tells b h x l I k n u ρ v a (is_task c.args.task.now) c.requires.fit c.requires.earned (sym asked ∙ c.in_default.is) in
     let H = ok.held in
     let i = place units n u in
     let at_ : c.place-at.result ≡ i = c.place-at.ensures ∙ ap (λ (m : ℕ). place m n u) c.units-units.ensures in
@@ -447,17 +446,17 @@ advance-requires-clause-opened c =
     let q = with_post p k n u a in
     let caller : k < b.callers = subst (λ (z : Content). k < z.setup.callers) (sym c.self.view_is) c.requires.caller in
     let counts2 = set s.counts.items k_ (get_or s.counts.items k_ 0 + 1) in
-    let T = tallies_more b h x l I k n u a H v ok.is l2 d W in
-    let fronts = fronts_same b h x l I k n u a H v ok.is l2 d W in
+    let T = tallies_more b (c.board_laws.ensures.of b) h x l I k n u a H v ok.is l2 d W in
+    let fronts = fronts_same b (c.board_laws.ensures.of b) h x l I k n u a H v ok.is l2 d W in
     let cs : c.deref-3.result.now ≡ counts2 = c.deref-3.ensures.value ∙ c.count_up.ensures.counts in
     let event = post_event (rules_of b) p k n u a in
     let h2 = h ++ event ∷ [] in
-    let legal2 = legal_post b h x l I k n u a H caller ok.right in
-    let same = posts_are b h x l I k n u a H caller ok.right in
+    let legal2 = legal_post c.board_laws.ensures b h x l I k n u a H caller ok.right in
+    let same = posts_are c.board_laws.ensures b h x l I k n u a H caller ok.right in
     let T2 : AreTallies b counts2 (sums_of l2) (posts h2) = subst (AreTallies b counts2 (sums_of l2)) (sym same) T in
     λ j lt full.
     let full2 = subst (λ (xs : List ℕ). is_full units xs (suc j) ≡ true) cs full in
-    let e = full_was_open b h x l I k n u a H caller ok.right counts2 (sums_of l2) T j lt full2 in
+    let e = full_was_open c.board_laws.ensures b h x l I k n u a H caller ok.right counts2 (sums_of l2) T j lt full2 in
     let o = c.add.ensures.opened in
     omega (arith, e, o)
 
@@ -480,7 +479,7 @@ advance-requires-clause-earned c =
     let asked : c.refusal-refused.result ≡ refusal_of b l s.marks.items s.takers.items k n u ρ v =
     c.refusal-refused.ensures.refused ∙ ap (λ (xs : List Bool). refusal_of b l xs c.deref-2.result.now k n u ρ v) c.deref.ensures.value
     ∙ ap (λ (xs : List ℕ). refusal_of b l s.marks.items xs k n u ρ v) c.deref-2.ensures.value in
-    let ok = taken_here b h x l I k n u ρ v a (is_task c.args.task.now) c.requires.fit c.requires.earned (sym asked ∙ c.in_default.is) in
+    let ok = taken_here c.board_laws.ensures.taken_tells b h x l I k n u ρ v a (is_task c.args.task.now) c.requires.fit c.requires.earned (sym asked ∙ c.in_default.is) in
     let H = ok.held in
     let i = place units n u in
     let at_ : c.place-at.result ≡ i = c.place-at.ensures ∙ ap (λ (m : ℕ). place m n u) c.units-units.ensures in
@@ -492,15 +491,15 @@ advance-requires-clause-earned c =
     let q = with_post p k n u a in
     let caller : k < b.callers = subst (λ (z : Content). k < z.setup.callers) (sym c.self.view_is) c.requires.caller in
     let counts2 = set s.counts.items k_ (get_or s.counts.items k_ 0 + 1) in
-    let T = tallies_more b h x l I k n u a H v ok.is l2 d W in
-    let fronts = fronts_same b h x l I k n u a H v ok.is l2 d W in
+    let T = tallies_more b (c.board_laws.ensures.of b) h x l I k n u a H v ok.is l2 d W in
+    let fronts = fronts_same b (c.board_laws.ensures.of b) h x l I k n u a H v ok.is l2 d W in
     let cs : c.deref-3.result.now ≡ counts2 = c.deref-3.ensures.value ∙ c.count_up.ensures.counts in
     let event = post_event (rules_of b) p k n u a in
     let h2 = h ++ event ∷ [] in
-    let legal2 = legal_post b h x l I k n u a H caller ok.right in
-    let same = posts_are b h x l I k n u a H caller ok.right in
+    let legal2 = legal_post c.board_laws.ensures b h x l I k n u a H caller ok.right in
+    let same = posts_are c.board_laws.ensures b h x l I k n u a H caller ok.right in
     let T2 : AreTallies b counts2 (sums_of l2) (posts h2) = subst (AreTallies b counts2 (sums_of l2)) (sym same) T in
-    sums_small b h2 I.setup legal2 counts2 (sums_of l2) T2
+    sums_small c.board_laws.ensures b h2 I.setup legal2 counts2 (sums_of l2) T2
 
 pub advance-requires-clause-rows : goal.advance-requires-clause-rows
 advance-requires-clause-rows c =
@@ -521,7 +520,7 @@ advance-requires-clause-rows c =
     let asked : c.refusal-refused.result ≡ refusal_of b l s.marks.items s.takers.items k n u ρ v =
     c.refusal-refused.ensures.refused ∙ ap (λ (xs : List Bool). refusal_of b l xs c.deref-2.result.now k n u ρ v) c.deref.ensures.value
     ∙ ap (λ (xs : List ℕ). refusal_of b l s.marks.items xs k n u ρ v) c.deref-2.ensures.value in
-    let ok = taken_here b h x l I k n u ρ v a (is_task c.args.task.now) c.requires.fit c.requires.earned (sym asked ∙ c.in_default.is) in
+    let ok = taken_here c.board_laws.ensures.taken_tells b h x l I k n u ρ v a (is_task c.args.task.now) c.requires.fit c.requires.earned (sym asked ∙ c.in_default.is) in
     let H = ok.held in
     let i = place units n u in
     let at_ : c.place-at.result ≡ i = c.place-at.ensures ∙ ap (λ (m : ℕ). place m n u) c.units-units.ensures in
@@ -533,15 +532,15 @@ advance-requires-clause-rows c =
     let q = with_post p k n u a in
     let caller : k < b.callers = subst (λ (z : Content). k < z.setup.callers) (sym c.self.view_is) c.requires.caller in
     let counts2 = set s.counts.items k_ (get_or s.counts.items k_ 0 + 1) in
-    let T = tallies_more b h x l I k n u a H v ok.is l2 d W in
-    let fronts = fronts_same b h x l I k n u a H v ok.is l2 d W in
+    let T = tallies_more b (c.board_laws.ensures.of b) h x l I k n u a H v ok.is l2 d W in
+    let fronts = fronts_same b (c.board_laws.ensures.of b) h x l I k n u a H v ok.is l2 d W in
     let cs : c.deref-3.result.now ≡ counts2 = c.deref-3.ensures.value ∙ c.count_up.ensures.counts in
     let event = post_event (rules_of b) p k n u a in
     let h2 = h ++ event ∷ [] in
-    let legal2 = legal_post b h x l I k n u a H caller ok.right in
-    let same = posts_are b h x l I k n u a H caller ok.right in
+    let legal2 = legal_post c.board_laws.ensures b h x l I k n u a H caller ok.right in
+    let same = posts_are c.board_laws.ensures b h x l I k n u a H caller ok.right in
     let T2 : AreTallies b counts2 (sums_of l2) (posts h2) = subst (AreTallies b counts2 (sums_of l2)) (sym same) T in
-    λ m le full. rows_below b h2 I.setup legal2 counts2 (sums_of l2) T2 m le (λ j lt. subst (λ (xs : List ℕ). is_full units xs (suc j) ≡ true) cs (full j lt))
+    λ m le full. rows_below c.board_laws.ensures b h2 I.setup legal2 counts2 (sums_of l2) T2 m le (λ j lt. subst (λ (xs : List ℕ). is_full units xs (suc j) ≡ true) cs (full j lt))
 
 pub invariant_of-self-2 : goal.invariant_of-self-2
 invariant_of-self-2 c =
@@ -562,7 +561,7 @@ invariant_of-self-2 c =
     let asked : c.refusal-refused.result ≡ refusal_of b l s.marks.items s.takers.items k n u ρ v =
     c.refusal-refused.ensures.refused ∙ ap (λ (xs : List Bool). refusal_of b l xs c.deref-2.result.now k n u ρ v) c.deref.ensures.value
     ∙ ap (λ (xs : List ℕ). refusal_of b l s.marks.items xs k n u ρ v) c.deref-2.ensures.value in
-    let ok = taken_here b h x l I k n u ρ v a (is_task c.args.task.now) c.requires.fit c.requires.earned (sym asked ∙ c.in_default.is) in
+    let ok = taken_here c.board_laws.ensures.taken_tells b h x l I k n u ρ v a (is_task c.args.task.now) c.requires.fit c.requires.earned (sym asked ∙ c.in_default.is) in
     let H = ok.held in
     let i = place units n u in
     let at_ : c.place-at.result ≡ i = c.place-at.ensures ∙ ap (λ (m : ℕ). place m n u) c.units-units.ensures in
@@ -574,13 +573,13 @@ invariant_of-self-2 c =
     let q = with_post p k n u a in
     let caller : k < b.callers = subst (λ (z : Content). k < z.setup.callers) (sym c.self.view_is) c.requires.caller in
     let counts2 = set s.counts.items k_ (get_or s.counts.items k_ 0 + 1) in
-    let T = tallies_more b h x l I k n u a H v ok.is l2 d W in
-    let fronts = fronts_same b h x l I k n u a H v ok.is l2 d W in
+    let T = tallies_more b (c.board_laws.ensures.of b) h x l I k n u a H v ok.is l2 d W in
+    let fronts = fronts_same b (c.board_laws.ensures.of b) h x l I k n u a H v ok.is l2 d W in
     let cs : c.deref-3.result.now ≡ counts2 = c.deref-3.ensures.value ∙ c.count_up.ensures.counts in
     let event = post_event (rules_of b) p k n u a in
     let h2 = h ++ event ∷ [] in
-    let legal2 = legal_post b h x l I k n u a H caller ok.right in
-    let same = posts_are b h x l I k n u a H caller ok.right in
+    let legal2 = legal_post c.board_laws.ensures b h x l I k n u a H caller ok.right in
+    let same = posts_are c.board_laws.ensures b h x l I k n u a H caller ok.right in
     let T2 : AreTallies b counts2 (sums_of l2) (posts h2) = subst (AreTallies b counts2 (sums_of l2)) (sym same) T in
     let l3 = c.advance.new.ledger in
     let closes : Bool = c.count_up.result == c.units-units.result in
@@ -595,11 +594,11 @@ invariant_of-self-2 c =
     let events : E ≡ h2 =
     ap (λ (xs : List Answer). events_of units xs c.push_reserved.new.self.items) kept_is
     ∙ ap (events_of units (set s.store.answers i a)) c.push_reserved.ensures.items
-    ∙ events_posted b h x l I k n u a H s.history.items refl closes closes_as entry entry_as in
+    ∙ events_posted c.board_laws.ensures.answers_fit b h x l I k n u a H s.history.items refl closes closes_as entry entry_as in
     let T3 = subst (λ (z : Sums). AreTallies b counts2 z q) (sym c.advance.ensures.sums) T in
     let R3 = subst (λ (xs : List ℕ). IsRound b units xs (sums_of l3) (fronts_of l3)) cs c.advance.ensures.round in
     let done : l3.closed < b.budget → is_full units counts2 (suc l3.closed) ≡ false = λ lt. subst (λ (xs : List ℕ). is_full units xs (suc l3.closed) ≡ false) cs (c.advance.ensures.done lt) in
-    let new = posted b h x l I k n u a H caller ok.right l3 c.advance.ensures.ledger T3 R3 done in
+    let new = posted c.board_laws.ensures b h x l I k n u a H caller ok.right l3 c.advance.ensures.ledger T3 R3 done in
     let lists : (marks : List Bool) (kept : List Answer) (counts : List ℕ) → Lists = λ marks kept counts. record x { marks = marks; kept = kept; counts = counts } in
     let n1 = subst (λ (xs : List ℕ). IsBoard b h2 (lists (set s.marks.items i true) (set s.store.answers i a) xs) l3) (sym c.count_up.ensures.counts) new in
     let n2 = subst (λ (xs : List Answer). IsBoard b h2 (lists (set s.marks.items i true) xs c.count_up.new.counts.items) l3) (sym kept_is) n1 in
@@ -640,7 +639,7 @@ returns-clause-answer c =
     let asked : c.refusal-refused.result ≡ refusal_of b l s.marks.items s.takers.items k n u ρ v =
     c.refusal-refused.ensures.refused ∙ ap (λ (xs : List Bool). refusal_of b l xs c.deref-2.result.now k n u ρ v) c.deref.ensures.value
     ∙ ap (λ (xs : List ℕ). refusal_of b l s.marks.items xs k n u ρ v) c.deref-2.ensures.value in
-    let ok = taken_here b h x l I k n u ρ v a (is_task c.args.task.now) c.requires.fit c.requires.earned (sym asked ∙ c.in_default.is) in
+    let ok = taken_here c.board_laws.ensures.taken_tells b h x l I k n u ρ v a (is_task c.args.task.now) c.requires.fit c.requires.earned (sym asked ∙ c.in_default.is) in
     let H = ok.held in
     let i = place units n u in
     let at_ : c.place-at.result ≡ i = c.place-at.ensures ∙ ap (λ (m : ℕ). place m n u) c.units-units.ensures in
@@ -652,13 +651,13 @@ returns-clause-answer c =
     let q = with_post p k n u a in
     let caller : k < b.callers = subst (λ (z : Content). k < z.setup.callers) (sym c.self.view_is) c.requires.caller in
     let counts2 = set s.counts.items k_ (get_or s.counts.items k_ 0 + 1) in
-    let T = tallies_more b h x l I k n u a H v ok.is l2 d W in
-    let fronts = fronts_same b h x l I k n u a H v ok.is l2 d W in
+    let T = tallies_more b (c.board_laws.ensures.of b) h x l I k n u a H v ok.is l2 d W in
+    let fronts = fronts_same b (c.board_laws.ensures.of b) h x l I k n u a H v ok.is l2 d W in
     let cs : c.deref-3.result.now ≡ counts2 = c.deref-3.ensures.value ∙ c.count_up.ensures.counts in
     let event = post_event (rules_of b) p k n u a in
     let h2 = h ++ event ∷ [] in
-    let legal2 = legal_post b h x l I k n u a H caller ok.right in
-    let same = posts_are b h x l I k n u a H caller ok.right in
+    let legal2 = legal_post c.board_laws.ensures b h x l I k n u a H caller ok.right in
+    let same = posts_are c.board_laws.ensures b h x l I k n u a H caller ok.right in
     let T2 : AreTallies b counts2 (sums_of l2) (posts h2) = subst (AreTallies b counts2 (sums_of l2)) (sym same) T in
     let l3 = c.advance.new.ledger in
     let closes : Bool = c.count_up.result == c.units-units.result in
@@ -673,7 +672,7 @@ returns-clause-answer c =
     let events : E ≡ h2 =
     ap (λ (xs : List Answer). events_of units xs c.push_reserved.new.self.items) kept_is
     ∙ ap (events_of units (set s.store.answers i a)) c.push_reserved.ensures.items
-    ∙ events_posted b h x l I k n u a H s.history.items refl closes closes_as entry entry_as in
+    ∙ events_posted c.board_laws.ensures.answers_fit b h x l I k n u a H s.history.items refl closes closes_as entry entry_as in
     ap (λ (y : Option ℕ). replies_of.Taken y) (c.closed_of.ensures ∙ ap (λ (y : Bool). closed_if y n) t_is)
     ∙ sym (ap posted_of ok.reply) ∙ ap (λ (z : Content). posted_of (post_answer z k n u ρ v a)) c.self.view_is
 
@@ -696,7 +695,7 @@ returns-clause-after c =
     let asked : c.refusal-refused.result ≡ refusal_of b l s.marks.items s.takers.items k n u ρ v =
     c.refusal-refused.ensures.refused ∙ ap (λ (xs : List Bool). refusal_of b l xs c.deref-2.result.now k n u ρ v) c.deref.ensures.value
     ∙ ap (λ (xs : List ℕ). refusal_of b l s.marks.items xs k n u ρ v) c.deref-2.ensures.value in
-    let ok = taken_here b h x l I k n u ρ v a (is_task c.args.task.now) c.requires.fit c.requires.earned (sym asked ∙ c.in_default.is) in
+    let ok = taken_here c.board_laws.ensures.taken_tells b h x l I k n u ρ v a (is_task c.args.task.now) c.requires.fit c.requires.earned (sym asked ∙ c.in_default.is) in
     let H = ok.held in
     let i = place units n u in
     let at_ : c.place-at.result ≡ i = c.place-at.ensures ∙ ap (λ (m : ℕ). place m n u) c.units-units.ensures in
@@ -708,13 +707,13 @@ returns-clause-after c =
     let q = with_post p k n u a in
     let caller : k < b.callers = subst (λ (z : Content). k < z.setup.callers) (sym c.self.view_is) c.requires.caller in
     let counts2 = set s.counts.items k_ (get_or s.counts.items k_ 0 + 1) in
-    let T = tallies_more b h x l I k n u a H v ok.is l2 d W in
-    let fronts = fronts_same b h x l I k n u a H v ok.is l2 d W in
+    let T = tallies_more b (c.board_laws.ensures.of b) h x l I k n u a H v ok.is l2 d W in
+    let fronts = fronts_same b (c.board_laws.ensures.of b) h x l I k n u a H v ok.is l2 d W in
     let cs : c.deref-3.result.now ≡ counts2 = c.deref-3.ensures.value ∙ c.count_up.ensures.counts in
     let event = post_event (rules_of b) p k n u a in
     let h2 = h ++ event ∷ [] in
-    let legal2 = legal_post b h x l I k n u a H caller ok.right in
-    let same = posts_are b h x l I k n u a H caller ok.right in
+    let legal2 = legal_post c.board_laws.ensures b h x l I k n u a H caller ok.right in
+    let same = posts_are c.board_laws.ensures b h x l I k n u a H caller ok.right in
     let T2 : AreTallies b counts2 (sums_of l2) (posts h2) = subst (AreTallies b counts2 (sums_of l2)) (sym same) T in
     let l3 = c.advance.new.ledger in
     let closes : Bool = c.count_up.result == c.units-units.result in
@@ -729,5 +728,5 @@ returns-clause-after c =
     let events : E ≡ h2 =
     ap (λ (xs : List Answer). events_of units xs c.push_reserved.new.self.items) kept_is
     ∙ ap (events_of units (set s.store.answers i a)) c.push_reserved.ensures.items
-    ∙ events_posted b h x l I k n u a H s.history.items refl closes closes_as entry entry_as in
+    ∙ events_posted c.board_laws.ensures.answers_fit b h x l I k n u a H s.history.items refl closes closes_as entry entry_as in
     ap (content b) events ∙ sym (ap (λ r. content b (with_answer h event r)) ok.reply) ∙ ap (λ (z : Content). after_post z k n u ρ v a) c.self.view_is

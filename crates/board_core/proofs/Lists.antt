@@ -1,0 +1,39 @@
+-- Numbers of tasks, lists over ranges, and the first of two that is there.
+use Rattle.std.proofs.Common.{◌≡◌, ℕ, zero, suc, ◌+◌, ◌-◌, ◌*◌, ◌<◌, ◌≤◌, true, inl, inr, Option, Some, None, List, ◌∷◌, map, refl, ap, ◌∙◌, arith}
+use Rattle.std.proofs.lemmas.Bool.{false≢true, cases_lt}
+use Rattle.std.specs.List.{range_with_len}
+use Rattle.std.specs.Prelude.{is_some}
+use Rattle.board_history.specs.Rounds.{sooner}
+
+pub sooner_none : {X : Type 0} (o : Option X) → sooner o None ≡ o
+sooner_none None = refl
+sooner_none (Some x) = refl
+
+pub some_of : {X : Type 0} (o : Option X) → is_some o ≡ true → (x : X) × (o ≡ Some x)
+some_of None h = absurd (false≢true h)
+some_of (Some x) h = (x, refl)
+
+pub map_range_same : {X : Type 0} (f f2 : ℕ → X) (a n : ℕ) → ((k : ℕ) → a ≤ k → k < a + n → f k ≡ f2 k) → map f (range_with_len a n) ≡ map f2 (range_with_len a n)
+map_range_same f f2 a zero each = refl
+map_range_same {X} f f2 a (suc n) each =
+    ap (λ (x : X). x ∷ map f (range_with_len (a + 1) n)) (each a (omega arith) (omega arith))
+    ∙ ap (λ (xs : List X). f2 a ∷ xs) (map_range_same f f2 (a + 1) n (λ k low high. each k (omega (arith, low)) (omega (arith, high))))
+
+pub place_before : (units k m v : ℕ) → 0 < m → m ≤ k → v < units → (m - 1) * units + v < k * units
+place_before units k m v low high i =
+    let e : suc (m - 1) ≤ k = omega (arith, low, high) in
+    let p : suc (m - 1) * units ≤ k * units = grind (arith, e) in
+    omega (arith, p, i)
+
+pub place_same : (units m v n u : ℕ) → 0 < m → 0 < n → v < units → u < units → (m - 1) * units + v ≡ (n - 1) * units + u → (m ≡ n) × (v ≡ u)
+place_same units m v n u a b i j h =
+    elim (cases_lt m n) [
+      | inl less ↦ let p = place_before units (n - 1) m v a (omega (arith, less)) i in absurd (omega (arith, p, h))
+      | inr more ↦ elim (cases_lt n m) [
+        | inl over ↦ let p = place_before units (m - 1) n u b (omega (arith, over)) j in absurd (omega (arith, p, h))
+        | inr even ↦
+            let e : m ≡ n = omega (arith, more, even) in
+            let f = ap (λ (k : ℕ). (k - 1) * units) e in
+            (e, omega (arith, h, f))
+      ]
+    ]
