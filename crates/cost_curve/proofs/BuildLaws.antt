@@ -14,12 +14,14 @@ use Rattle.uc_model.specs.Curves.{rise_at, curve_value}
 use Rattle.uc_model.specs.Envelope.{envelope, line_at}
 use Rattle.uc_model.specs.Schedules.{width_of}
 use Rattle.uc_model.proofs.IntLaws.{mul-add}
+use Rattle.uc_model.specs.BoundLaws.{PowerCostsAreWithin}
+use Rattle.uc_model.specs.Laws.{EnvelopeIsGreatest}
 use Rattle.cost_curve.specs.Building.{rise_of, extended, IsBuilt}
 use Rattle.cost_curve.specs.CostCurve.{AreCostPoints, IsCostCurve, CanEvaluate}
 use Rattle.cost_curve.specs.Edges.{point_at, IsEdge, IsLast, IsVertex}
 use Rattle.cost_curve.proofs.CurveLaws.{width-append, rise-append, rise_old, rise_new, end_is}
 use Rattle.cost_curve.proofs.EdgeLaws.{ordered_powers, price_rises}
-use Rattle.cost_curve.proofs.EnvelopeValues.{Spans-ordered, envelope_within, envelope_value, envelope_vertex, IsEnvelope-before, IsEnvelope-after}
+use Rattle.cost_curve.proofs.EnvelopeValues.{Spans-ordered, envelope_value, envelope_vertex, IsEnvelope-before, IsEnvelope-after}
 use Rattle.cost_curve.proofs.SlopeLaws.{before_times}
 use Rattle.cost_curve.proofs.ValueLaws.{after_start, before_last, is_some_of}
 
@@ -115,10 +117,10 @@ length-extended bs b =
 not_before : (x at : ℤ) → at ≤ℤ x → int_lt x at ≡ false
 not_before x at h = grind (arith, ints)
 
-module _ (ps : List Point) (are : AreCostPoints ps) where
+module _ (greatest : EnvelopeIsGreatest) (costs : PowerCostsAreWithin) (ps : List Point) (are : AreCostPoints ps) where
   pub IsBuilt-start : (k : ℤ) (i : ℕ) → i < length ps → IsVertex ps k (point_at ps i) → IsBuilt ps (point_at ps i).at (point_at ps i).cost [] (point_at ps i).at k
   IsBuilt-start k i lt v =
-      let cost = envelope_vertex ps are k i lt v in
+      let cost = envelope_vertex greatest ps are k i lt v in
       record {
         ends = omega (arith, ints);
         height = omega (arith, ints, cost);
@@ -141,7 +143,7 @@ module _ (ps : List Point) (are : AreCostPoints ps) where
         let near : (x -ℤ (point_at ps i).at) ≤ℤ w = omega (arith, ints, high) in
         let from : (point_at ps i).at ≤ℤ x = omega (arith, ints, low) in
         let to : x ≤ℤ (point_at ps j).at = omega (arith, ints, high, most) in
-        let value = envelope_value ps are x (line_at (t -ℤ pos 1) x (point_at ps i)) (Spans-ordered ps are.ordered i j x i_in j_in from to) (IsEnvelope-before ps i j i_in j_in k t w v e x from to near) in
+        let value = envelope_value greatest ps are x (line_at (t -ℤ pos 1) x (point_at ps i)) (Spans-ordered ps are.ordered i j x i_in j_in from to) (IsEnvelope-before ps i j i_in j_in k t w v e x from to near) in
         let off : x -ℤ (point_at ps i).at ≡ d = omega (arith, ints) in
         let m = ap (λ (z : ℤ). (t -ℤ pos 1) *ℤ z) off in
         omega (arith, ints, value, m)
@@ -154,7 +156,7 @@ module _ (ps : List Point) (are : AreCostPoints ps) where
         let far : w ≤ℤ (x -ℤ (point_at ps i).at) = omega (arith, ints, low) in
         let from : (point_at ps i).at ≤ℤ x = omega (arith, ints, low, least) in
         let to : x ≤ℤ (point_at ps j).at = omega (arith, ints, high) in
-        let value = envelope_value ps are x (line_at (t -ℤ pos 1) x (point_at ps i) +ℤ ((x -ℤ (point_at ps i).at) -ℤ w)) (Spans-ordered ps are.ordered i j x i_in j_in from to) (IsEnvelope-after ps i j i_in j_in k t w v e x from to far) in
+        let value = envelope_value greatest ps are x (line_at (t -ℤ pos 1) x (point_at ps i) +ℤ ((x -ℤ (point_at ps i).at) -ℤ w)) (Spans-ordered ps are.ordered i j x i_in j_in from to) (IsEnvelope-after ps i j i_in j_in k t w v e x from to far) in
         let off : x -ℤ (point_at ps i).at ≡ d = omega (arith, ints) in
         let m = ap (λ (z : ℤ). (t -ℤ pos 1) *ℤ z) off in
         omega (arith, ints, value, m)
@@ -164,7 +166,7 @@ module _ (ps : List Point) (are : AreCostPoints ps) where
     IsBuilt-edge at value bs built =
         let least = e.slope.least in
         let most = e.slope.most in
-        let here = envelope_vertex ps are k i i_in v in
+        let here = envelope_vertex greatest ps are k i i_in v in
         let run : ℤ = (point_at ps j).at -ℤ (point_at ps i).at in
         let first = IsBuilt-extended ps at value bs (point_at ps i).at k built (record { width = w; price = t -ℤ pos 1 })
         (price_rises (point_at ps i) ps (point_at ps j) k t w v e j j_in refl) least
@@ -246,7 +248,7 @@ module _ (ps : List Point) (are : AreCostPoints ps) where
         last_place = record { at_least = omega (arith, ints, ends, d); at_most = omega (arith, ints, ends, f) };
         values = λ x v is.
             let span = curve.inside x (is_some_of (curve_value c x) v is) in
-            let limit = envelope_within ps are x span in
+            let limit = costs ps x are.some are.points span in
             let same : Some (envelope ps x) ≡ Some v = sym (curve.value x span) ∙ is in
             let v_is : envelope ps x ≡ v = cc in
             let low = limit.at_least in

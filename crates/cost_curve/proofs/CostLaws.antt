@@ -4,10 +4,12 @@ use Rattle.std.specs.Prelude.{int_le}
 use Rattle.std.proofs.lemmas.Int.{ints, to_z-of_z}
 use Rattle.uc_model.specs.declared.units.Point.{Point}
 use Rattle.uc_model.specs.Envelope.{envelope, line_at}
+use Rattle.uc_model.specs.BoundLaws.{PowerCostsAreWithin}
+use Rattle.uc_model.specs.Laws.{EnvelopeIsGreatest}
 use Rattle.uc_model.specs.Limits.{IsCost, IsFrom, IsPoint, IsPower, Spans}
 use Rattle.cost_curve.specs.CostCurve.{AreCostPoints, IsAmount}
 use Rattle.cost_curve.specs.Edges.{point_at, IsEdge, IsVertex}
-use Rattle.cost_curve.proofs.EnvelopeValues.{Spans-ordered, envelope_value, envelope_within, IsEnvelope-before, IsEnvelope-after}
+use Rattle.cost_curve.proofs.EnvelopeValues.{Spans-ordered, envelope_value, IsEnvelope-before, IsEnvelope-after}
 use Rattle.uc_model.proofs.SignedLaws.{fits64, stored}
 
 le_from_test : (a b : ℤ) → int_le a b ≡ true → a ≤ℤ b
@@ -84,7 +86,7 @@ module _ (q : Point) (t w x : ℤ) (hq : IsPoint q) (price_limit : IsFrom (neg_�
 
 -- ---- on an edge
 
-module _ (ps : List Point) (are : AreCostPoints ps) (i j : ℕ) (i_in : i < length ps) (j_in : j < length ps) (k t w : ℤ) (v : IsVertex ps k (point_at ps i)) (e : IsEdge (point_at ps i) (length ps) ps (point_at ps j) t w)
+module _ (greatest : EnvelopeIsGreatest) (costs : PowerCostsAreWithin) (ps : List Point) (are : AreCostPoints ps) (i j : ℕ) (i_in : i < length ps) (j_in : j < length ps) (k t w : ℤ) (v : IsVertex ps k (point_at ps i)) (e : IsEdge (point_at ps i) (length ps) ps (point_at ps j) t w)
     (x : ℤ) (from : (point_at ps i).at ≤ℤ x) (to : x ≤ℤ (point_at ps j).at) where
   span : Spans ps x x
   span = Spans-ordered ps are.ordered i j x i_in j_in from to
@@ -100,16 +102,16 @@ module _ (ps : List Point) (are : AreCostPoints ps) (i j : ℕ) (i_in : i < leng
 
   pub line_within : IsFrom (neg_ℤ (pos 20000000000000)) (pos 20000000000000) (line_at (t -ℤ pos 1) x (point_at ps i))
   line_within =
-      let limit = envelope_within ps are x span in
+      let limit = costs ps x are.some are.points span in
       let low = limit.at_least in
       let high = limit.at_most in
       let a = (are.points i (record { at = pos 0; cost = pos 0 }) i_in).at.at_least in
       let b = (are.points j (record { at = pos 0; cost = pos 0 }) j_in).at.at_most in
       let wide = e.slope.least in
       elim near_or_far [
-        | inl h ↦ let is = envelope_value ps are x (line_at (t -ℤ pos 1) x (point_at ps i)) span (IsEnvelope-before ps i j i_in j_in k t w v e x from to h) in
+        | inl h ↦ let is = envelope_value greatest ps are x (line_at (t -ℤ pos 1) x (point_at ps i)) span (IsEnvelope-before ps i j i_in j_in k t w v e x from to h) in
             record { at_least = omega (arith, ints, is, low); at_most = omega (arith, ints, is, high) }
-        | inr h ↦ let is = envelope_value ps are x (line_at (t -ℤ pos 1) x (point_at ps i) +ℤ ((x -ℤ (point_at ps i).at) -ℤ w)) span (IsEnvelope-after ps i j i_in j_in k t w v e x from to h) in
+        | inr h ↦ let is = envelope_value greatest ps are x (line_at (t -ℤ pos 1) x (point_at ps i) +ℤ ((x -ℤ (point_at ps i).at) -ℤ w)) span (IsEnvelope-after ps i j i_in j_in k t w v e x from to h) in
             record { at_least = omega (arith, ints, is, low, a, b, to, wide); at_most = omega (arith, ints, is, high, h) }
       ]
 
@@ -117,12 +119,12 @@ module _ (ps : List Point) (are : AreCostPoints ps) (i j : ℕ) (i_in : i < leng
   pub edge_value : (r : ℤ) → ((x -ℤ (point_at ps i).at) ≤ℤ w → r ≡ line_at (t -ℤ pos 1) x (point_at ps i)) → (w ≤ℤ (x -ℤ (point_at ps i).at) → r ≡ line_at (t -ℤ pos 1) x (point_at ps i) +ℤ ((x -ℤ (point_at ps i).at) -ℤ w)) → r ≡ envelope ps x
   edge_value r before after =
       elim near_or_far [
-        | inl h ↦ before h ∙ sym (envelope_value ps are x (line_at (t -ℤ pos 1) x (point_at ps i)) span (IsEnvelope-before ps i j i_in j_in k t w v e x from to h))
-        | inr h ↦ after h ∙ sym (envelope_value ps are x (line_at (t -ℤ pos 1) x (point_at ps i) +ℤ ((x -ℤ (point_at ps i).at) -ℤ w)) span (IsEnvelope-after ps i j i_in j_in k t w v e x from to h))
+        | inl h ↦ before h ∙ sym (envelope_value greatest ps are x (line_at (t -ℤ pos 1) x (point_at ps i)) span (IsEnvelope-before ps i j i_in j_in k t w v e x from to h))
+        | inr h ↦ after h ∙ sym (envelope_value greatest ps are x (line_at (t -ℤ pos 1) x (point_at ps i) +ℤ ((x -ℤ (point_at ps i).at) -ℤ w)) span (IsEnvelope-after ps i j i_in j_in k t w v e x from to h))
       ]
 
   pub edge_limit : (r : ℤ) → r ≡ envelope ps x → IsCost r
-  edge_limit r is = subst IsCost (sym is) (envelope_within ps are x span)
+  edge_limit r is = subst IsCost (sym is) (costs ps x are.some are.points span)
 
 -- ---- on a block
 

@@ -1,27 +1,63 @@
 -- What the envelope is at a vertex and on an edge, and what it earns at a price.
-use Rattle.std.proofs.Common.{◌≡◌, ℕ, suc, ◌<◌, ◌≤◌, ◌⊎◌, inl, inr, ℤ, pos, ◌+ℤ◌, ◌-ℤ◌, ◌*ℤ◌, ◌≤ℤ◌, ◌-◌, List, [], ◌∷◌, map, length, Some, refl, sym, ap, ◌∙◌, subst, arith}
-use Rattle.std.proofs.lemmas.Int.{ints, clamps}
-use Rattle.std.proofs.lemmas.List.{get_or_default}
-use Rattle.std.proofs.Math.IntN.{*ℤ_comm, zero-*ℤ}
+use Rattle.std.proofs.Common.{◌≡◌, ℕ, zero, suc, ◌<◌, ◌≤◌, ◌⊎◌, inl, inr, ℤ, pos, ◌+ℤ◌, ◌-ℤ◌, ◌*ℤ◌, ◌≤ℤ◌, List, [], ◌∷◌, map, length, Some, refl, sym, ap, ◌∙◌, subst, arith}
+use Rattle.std.proofs.lemmas.Int.{ints, clamps, fold-int_min_bounds, fold-int_max_bounds}
+use Rattle.std.proofs.lemmas.List.{get_or_default, get_or-map, length-map}
+use Rattle.std.proofs.Math.IntN.{*ℤ_comm}
 use Rattle.std.specs.List.{All, fold, reduce}
-use Rattle.std.specs.Int.{int_max}
+use Rattle.std.specs.Int.{int_min, int_max}
+use Rattle.std.specs.Prelude.{unwrap_or}
 use Rattle.uc_model.specs.declared.units.Point.{Point}
 use Rattle.uc_model.specs.Envelope.{line_at, least_line, IsEnvelope, envelope}
-use Rattle.uc_model.specs.Laws.{EnvelopeEarnsAsPoints}
-use Rattle.uc_model.specs.Limits.{IsPoint, IsCost, ArePointsOrdered, Spans}
-use Rattle.uc_model.proofs.EnvelopeLaws.{IsIn, least_le, least_reached, item_is_in, All-is_in, envelope_is, envelope_unique}
+use Rattle.uc_model.specs.Laws.{EnvelopeIsGreatest, EnvelopeEarnsAsPoints}
+use Rattle.uc_model.specs.Limits.{ArePointsOrdered, Spans}
 use Rattle.uc_model.proofs.IntLaws.{mul-sub, mul-mono_of}
-use Rattle.cost_curve.specs.CostCurve.{AreCostPoints, EnvelopeIsCost}
+use Rattle.cost_curve.specs.CostCurve.{AreCostPoints}
 use Rattle.cost_curve.specs.Edges.{point_at, AllFirst, net_at, IsEdge, IsVertex}
 use Rattle.cost_curve.proofs.EdgeLaws.{ordered_powers, cheapest_before, IsVertex-next}
 use Rattle.cost_curve.proofs.SlopeLaws.{before_times}
 
--- ---- the least line where a point is cheapest
+-- ---- the least and the greatest number over the points
 
-place_in : (ps : List Point) (q : Point) → IsIn q ps → (k : ℕ) × (k < length ps) × (point_at ps k ≡ q)
-place_in [] q i = absurd i
-place_in (p ∷ ps) q (inl e) = (0, omega arith, sym e)
-place_in (p ∷ ps) q (inr i) = let r = place_in ps q i in (suc r.0, omega (arith, r.1), r.2)
+mapped_at : (P : ℤ → Type 0) (f : Point → ℤ) (ps : List Point) → All P (map f ps) → (i : ℕ) → i < length ps → P (f (point_at ps i))
+mapped_at P f ps all i lt = subst P (get_or-map f ps i _ (pos 0) lt) (all i (pos 0) (let n = length-map ps f in omega (arith, n, lt)))
+
+least_at : (ps : List Point) (x k : ℤ) (i : ℕ) → i < length ps → least_line ps x k ≤ℤ line_at k x (point_at ps i)
+least_at [] x k i lt = absurd (omega (arith, lt))
+least_at (p ∷ ps) x k zero lt = (fold-int_min_bounds (line_at k x p) (map (line_at k x) ps) _ refl).0
+least_at (p ∷ ps) x k (suc i) lt = mapped_at (λ (y : ℤ). least_line (p ∷ ps) x k ≤ℤ y) (line_at k x) ps (fold-int_min_bounds (line_at k x p) (map (line_at k x) ps) _ refl).1 i (omega (arith, lt))
+
+some_is : (a b : ℤ) → Some a ≡ Some b → a ≡ b
+some_is a b e = cc
+
+greatest_at : (f : Point → ℤ) (ps : List Point) (best : ℤ) → reduce int_max (map f ps) ≡ Some best → (i : ℕ) → i < length ps → f (point_at ps i) ≤ℤ best
+greatest_at f [] best e i lt = absurd (omega (arith, lt))
+greatest_at f (p ∷ ps) best e zero lt = (fold-int_max_bounds (f p) (map f ps) best (sym (some_is _ best e))).0
+greatest_at f (p ∷ ps) best e (suc i) lt = mapped_at (λ (y : ℤ). y ≤ℤ best) f ps (fold-int_max_bounds (f p) (map f ps) best (sym (some_is _ best e))).1 i (omega (arith, lt))
+
+-- it is that of one of them
+module _ (pick : ℤ → ℤ → ℤ) (picks : (a b : ℤ) → (pick a b ≡ a) ⊎ (pick a b ≡ b)) (f : Point → ℤ) where
+  fold_picked : (a : ℤ) (ps : List Point) → (fold pick a (map f ps) ≡ a) ⊎ ((i : ℕ) × (i < length ps) × (fold pick a (map f ps) ≡ f (point_at ps i)))
+  fold_picked a [] = inl refl
+  fold_picked a (p ∷ ps) =
+      elim (fold_picked (pick a (f p)) ps) [
+        | inl e ↦ elim (picks a (f p)) [ inl m ↦ inl (e ∙ m) | inr m ↦ inr (0, omega arith, e ∙ m) ]
+        | inr r ↦ let low = r.1 in inr (suc r.0, omega (arith, low), r.2)
+      ]
+
+  picked : (ps : List Point) → 1 ≤ length ps → (i : ℕ) × (i < length ps) × (reduce pick (map f ps) ≡ Some (f (point_at ps i)))
+  picked [] some = absurd (omega (arith, some))
+  picked (p ∷ ps) some = elim (fold_picked (f p) ps) [ inl e ↦ (0, omega arith, ap Some e) | inr r ↦ let low = r.1 in (suc r.0, omega (arith, low), ap Some r.2) ]
+
+min_picks : (a b : ℤ) → (int_min a b ≡ a) ⊎ (int_min a b ≡ b)
+min_picks a b = grind (arith, ints, clamps)
+
+max_picks : (a b : ℤ) → (int_max a b ≡ a) ⊎ (int_max a b ≡ b)
+max_picks a b = grind (arith, ints, clamps)
+
+least_reached : (ps : List Point) (x k : ℤ) → 1 ≤ length ps → (i : ℕ) × (i < length ps) × (least_line ps x k ≡ line_at k x (point_at ps i))
+least_reached ps x k some = let r = picked int_min min_picks (line_at k x) ps some in (r.0, r.1, ap (λ o. unwrap_or o (pos 0)) r.2)
+
+-- ---- the least line where a point is cheapest
 
 line_is : (k x : ℤ) (p : Point) → line_at k x p ≡ net_at k p +ℤ (k *ℤ x)
 line_is k x p = omega (arith, ints, mul-sub k x p.at)
@@ -29,12 +65,10 @@ line_is k x p = omega (arith, ints, mul-sub k x p.at)
 least_is : (ps : List Point) (x k : ℤ) (i : ℕ) → i < length ps → AllFirst (length ps) (λ (l : Point). net_at k (point_at ps i) ≤ℤ net_at k l) ps → least_line ps x k ≡ line_at k x (point_at ps i)
 least_is ps x k i lt cheapest =
     let r = least_reached ps x k (omega arith) in
-    let place = place_in ps r.0 r.1 in
-    let same = ap (net_at k) place.2 in
-    let c = cheapest place.0 place.1 in
-    let le = least_le ps x k (point_at ps i) (item_is_in ps i (record { at = pos 0; cost = pos 0 }) lt) in
+    let c = cheapest r.0 r.1 in
+    let le = least_at ps x k i lt in
     let is = r.2 in
-    omega (arith, ints, same, c, le, is, line_is k x r.0, line_is k x (point_at ps i))
+    omega (arith, ints, c, le, is, line_is k x (point_at ps r.0), line_is k x (point_at ps i))
 
 -- ---- a line at another price
 
@@ -51,9 +85,6 @@ flatter j k x p prices left =
 
 at_itself : (k : ℤ) (p : Point) → line_at k p.at p ≡ p.cost
 at_itself k p = omega (arith, ints, mul-sub k p.at p.at)
-
-least_at : (ps : List Point) (x k : ℤ) (i : ℕ) → i < length ps → least_line ps x k ≤ℤ line_at k x (point_at ps i)
-least_at ps x k i lt = least_le ps x k (point_at ps i) (item_is_in ps i (record { at = pos 0; cost = pos 0 }) lt)
 
 -- ---- at a point that is cheapest at some price
 
@@ -113,112 +144,47 @@ Spans-ordered ps ordered i j x i_in j_in low high = record {
 
 -- ---- the envelope's number
 
-module _ (ps : List Point) (are : AreCostPoints ps) where
-  pub envelope_value : (x v : ℤ) → Spans ps x x → IsEnvelope ps x v → envelope ps x ≡ v
-  envelope_value x v span h = envelope_unique ps x (envelope ps x) v (envelope_is ps x are.some are.points span) h
+-- there is only one
+same_number : (ps : List Point) (x v w : ℤ) → IsEnvelope ps x v → IsEnvelope ps x w → v ≡ w
+same_number ps x v w h i =
+    let a = h.attained.1 in
+    let b = i.attained.1 in
+    let c = i.greatest h.attained.0 in
+    let d = h.greatest i.attained.0 in
+    omega (arith, ints, a, b, c, d)
 
-  -- at a vertex it is the point's own cost
-  pub envelope_vertex : (k : ℤ) (i : ℕ) → i < length ps → IsVertex ps k (point_at ps i) → envelope ps (point_at ps i).at ≡ (point_at ps i).cost
-  envelope_vertex k i lt v =
-      envelope_value (point_at ps i).at (point_at ps i).cost (Spans-ordered ps are.ordered i i (point_at ps i).at lt lt (omega (arith, ints)) (omega (arith, ints))) (IsEnvelope-point ps k i lt v.cheapest)
+pub envelope_value : EnvelopeIsGreatest → (ps : List Point) → AreCostPoints ps → (x v : ℤ) → Spans ps x x → IsEnvelope ps x v → envelope ps x ≡ v
+envelope_value law ps are x v span h = same_number ps x (envelope ps x) v (law ps x are.some are.points span) h
 
-  -- no line of a point on the falling side is above its cost
-  capped : (x k : ℤ) (i : ℕ) → i < length ps → ((pos 0 ≤ℤ k) × (x ≤ℤ (point_at ps i).at)) ⊎ ((k ≤ℤ pos 0) × ((point_at ps i).at ≤ℤ x)) → least_line ps x k ≤ℤ (point_at ps i).cost
-  capped x k i lt (inl h) = let a = least_at ps x k i lt in let b = flatter (pos 0) k x (point_at ps i) h.0 h.1 in let z = zero-*ℤ (x -ℤ (point_at ps i).at) in omega (arith, ints, a, b, z)
-  capped x k i lt (inr h) = let a = least_at ps x k i lt in let b = steeper k (pos 0) x (point_at ps i) h.0 h.1 in let z = zero-*ℤ (x -ℤ (point_at ps i).at) in omega (arith, ints, a, b, z)
-
-  sign : (k : ℤ) → (pos 0 ≤ℤ k) ⊎ (k ≤ℤ pos 0)
-  sign k = grind (arith, ints)
-
-  pub envelope_within : (x : ℤ) → Spans ps x x → IsCost (envelope ps x)
-  envelope_within x span =
-      let h = envelope_is ps x are.some are.points span in
-      let none : Point = record { at = pos 0; cost = pos 0 } in
-      let n : ℕ = length ps - 1 in
-      let n_is : suc n ≡ length ps = omega (arith, are.some) in
-      let is = h.attained.1 in
-      let low = h.greatest (pos 0) in
-      let r = least_reached ps x (pos 0) are.some in
-      let r_is = r.2 in
-      let z = zero-*ℤ (x -ℤ r.0.at) in
-      let r_cost = (All-is_in IsPoint ps are.points r.0 r.1).cost.at_least in
-      let first = (are.points 0 none (omega arith)).cost.at_most in
-      let last = (are.points n none (omega arith)).cost.at_most in
-      record {
-        at_least = omega (arith, ints, low, r_is, z, r_cost);
-        at_most =
-            elim (sign h.attained.0) [
-              | inl up ↦ let c = capped x h.attained.0 n (omega arith) (inl (up, span.last n none n_is)) in omega (arith, ints, is, c, last)
-              | inr down ↦ let c = capped x h.attained.0 0 (omega arith) (inr (down, span.first none)) in omega (arith, ints, is, c, first)
-            ];
-      }
-
-pub envelope_is_cost : EnvelopeIsCost
-envelope_is_cost = λ ps x are span. envelope_within ps are x span
+-- at a vertex it is the point's own cost
+pub envelope_vertex : EnvelopeIsGreatest → (ps : List Point) → AreCostPoints ps → (k : ℤ) (i : ℕ) → i < length ps → IsVertex ps k (point_at ps i) → envelope ps (point_at ps i).at ≡ (point_at ps i).cost
+envelope_vertex law ps are k i lt v =
+    envelope_value law ps are (point_at ps i).at (point_at ps i).cost (Spans-ordered ps are.ordered i i (point_at ps i).at lt lt (omega (arith, ints)) (omega (arith, ints))) (IsEnvelope-point ps k i lt v.cheapest)
 
 -- ---- the greatest earnings over the points
-
-fold_ge_start : (f : Point → ℤ) (a : ℤ) (ps : List Point) → a ≤ℤ fold int_max a (map f ps)
-fold_ge_start f a [] = omega (arith, ints)
-fold_ge_start f a (p ∷ ps) = let h = fold_ge_start f (int_max a (f p)) ps in omega (arith, ints, clamps, h)
-
-fold_ge_item : (f : Point → ℤ) (a : ℤ) (ps : List Point) (q : Point) → IsIn q ps → f q ≤ℤ fold int_max a (map f ps)
-fold_ge_item f a [] q h = absurd h
-fold_ge_item f a (p ∷ ps) q (inl e) = let h = fold_ge_start f (int_max a (f p)) ps in let e2 = ap f e in omega (arith, ints, clamps, h, e2)
-fold_ge_item f a (p ∷ ps) q (inr i) = fold_ge_item f (int_max a (f p)) ps q i
-
-max_cases : (a b : ℤ) → (int_max a b ≡ a) ⊎ (int_max a b ≡ b)
-max_cases a b = grind (arith, ints, clamps)
-
-fold_max_reached : (f : Point → ℤ) (a : ℤ) (ps : List Point) → (fold int_max a (map f ps) ≡ a) ⊎ ((q : Point) × IsIn q ps × (fold int_max a (map f ps) ≡ f q))
-fold_max_reached f a [] = inl refl
-fold_max_reached f a (p ∷ ps) =
-    elim (fold_max_reached f (int_max a (f p)) ps) [
-      | inl e ↦ elim (max_cases a (f p)) [ inl m ↦ inl (e ∙ m) | inr m ↦ inr (p, inl refl, e ∙ m) ]
-      | inr r ↦ inr (r.0, inr r.1, r.2)
-    ]
-
-some_is : (a b : ℤ) → Some a ≡ Some b → a ≡ b
-some_is a b e = cc
-
-greatest_is : (f : Point → ℤ) (ps : List Point) (best : ℤ) → reduce int_max (map f ps) ≡ Some best → (q : Point) → IsIn q ps → f q ≤ℤ best
-greatest_is f [] best e q i = absurd i
-greatest_is f (p ∷ ps) best e q (inl same) = let b = some_is (fold int_max (f p) (map f ps)) best e in let h = fold_ge_start f (f p) ps in let s = ap f same in omega (arith, ints, b, h, s)
-greatest_is f (p ∷ ps) best e q (inr i) = let b = some_is (fold int_max (f p) (map f ps)) best e in let h = fold_ge_item f (f p) ps q i in omega (arith, ints, b, h)
-
-greatest_reached : (f : Point → ℤ) (ps : List Point) (best : ℤ) → 1 ≤ length ps → reduce int_max (map f ps) ≡ Some best → (q : Point) × IsIn q ps × (f q ≡ best)
-greatest_reached f [] best some e = absurd (omega arith)
-greatest_reached f (p ∷ ps) best some e =
-    let b = some_is (fold int_max (f p) (map f ps)) best e in
-    elim (fold_max_reached f (f p) ps) [ inl h ↦ (p, inl refl, sym h ∙ b) | inr r ↦ (r.0, inr r.1, sym r.2 ∙ b) ]
 
 abbrev earned : ℤ → Point → ℤ
 earned price p = (price *ℤ p.at) -ℤ p.cost
 
-module _ (ps : List Point) (price best : ℤ) (some : 1 ≤ length ps) (are : All IsPoint ps) (ordered : ArePointsOrdered ps)
-    (best_is : reduce int_max (map (λ (p : Point). (price *ℤ p.at) -ℤ p.cost) ps) ≡ Some best) where
-  earned_below : (q : Point) → IsIn q ps → ((price *ℤ q.at) -ℤ q.cost) ≤ℤ best
-  earned_below = greatest_is (earned price) ps best best_is
+pub envelope_earns_as_points : EnvelopeIsGreatest → EnvelopeEarnsAsPoints
+envelope_earns_as_points law ps price best some are ordered best_is = (no_more, as_much)
+  where
+    no_more : (x : ℤ) → Spans ps x x → ((price *ℤ x) -ℤ envelope ps x) ≤ℤ best
+    no_more x span =
+        let h = (law ps x some are span).greatest price in
+        let r = least_reached ps x price some in
+        let is = r.2 in
+        let b = greatest_at (earned price) ps best best_is r.0 r.1 in
+        omega (arith, ints, h, is, b, mul-sub price x (point_at ps r.0).at)
 
-  no_more : (x : ℤ) → Spans ps x x → ((price *ℤ x) -ℤ envelope ps x) ≤ℤ best
-  no_more x span =
-      let h = (envelope_is ps x some are span).greatest price in
-      let r = least_reached ps x price some in
-      let is = r.2 in
-      let b = earned_below r.0 r.1 in
-      omega (arith, ints, h, is, b, mul-sub price x r.0.at)
-
-  as_much : (x : ℤ) × Spans ps x x × ((price *ℤ x) -ℤ envelope ps x ≡ best)
-  as_much =
-      let r = greatest_reached (earned price) ps best some best_is in
-      let place = place_in ps r.0 r.1 in
-      let i = place.0 in
-      let q_is : earned price (point_at ps i) ≡ best = ap (earned price) place.2 ∙ r.2 in
-      let span = Spans-ordered ps ordered i i (point_at ps i).at place.1 place.1 (omega (arith, ints)) (omega (arith, ints)) in
-      let cheapest : AllFirst (length ps) (λ (l : Point). net_at price (point_at ps i) ≤ℤ net_at price l) ps =
-      λ k lt. let b = earned_below (point_at ps k) (item_is_in ps k (record { at = pos 0; cost = pos 0 }) lt) in omega (arith, ints, b, q_is) in
-      let value = envelope_unique ps (point_at ps i).at (envelope ps (point_at ps i).at) (point_at ps i).cost (envelope_is ps (point_at ps i).at some are span) (IsEnvelope-point ps price i place.1 cheapest) in
-      ((point_at ps i).at, span, omega (arith, ints, q_is, value))
-
-pub envelope_earns_as_points : EnvelopeEarnsAsPoints
-envelope_earns_as_points = λ ps price best some are ordered best_is. (no_more ps price best some are ordered best_is, as_much ps price best some are ordered best_is)
+    as_much : (x : ℤ) × Spans ps x x × ((price *ℤ x) -ℤ envelope ps x ≡ best)
+    as_much =
+        let r = picked int_max max_picks (earned price) ps some in
+        let i = r.0 in
+        let x = (point_at ps i).at in
+        let q_is : earned price (point_at ps i) ≡ best = some_is _ best (sym r.2 ∙ best_is) in
+        let span = Spans-ordered ps ordered i i x r.1 r.1 (omega (arith, ints)) (omega (arith, ints)) in
+        let cheapest : AllFirst (length ps) (λ (l : Point). net_at price (point_at ps i) ≤ℤ net_at price l) ps =
+        λ k lt. let b = greatest_at (earned price) ps best best_is k lt in omega (arith, ints, b, q_is) in
+        let value = same_number ps x (envelope ps x) (point_at ps i).cost (law ps x some are span) (IsEnvelope-point ps price i r.1 cheapest) in
+        (x, span, omega (arith, ints, q_is, value))

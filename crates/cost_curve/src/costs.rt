@@ -6,6 +6,7 @@ ghost use Rattle.cost_curve.specs.CostCurve.{AreCostPoints};
 
 use crate::edges::Slope;
 use crate::walk::{first_place, way_on};
+use uc_model::laws::{envelope_is_greatest, power_costs_are_within};
 use uc_model::units::Point;
 
 // The cost of a power between a point and the next one of the envelope.
@@ -33,6 +34,8 @@ pub fn envelope_at(points: &[Point], x: i64) -> i64
     ensures value { result ≡ envelope points.now x }
     ensures limit { IsCost result }
 {
+    envelope_is_greatest();
+    power_costs_are_within();
     let mut from = first_place(points);
     'walk: while let Some(edge) = way_on(points, from) {
         if x <= points[edge.place].at {

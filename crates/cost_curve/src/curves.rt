@@ -8,6 +8,7 @@ ghost use Rattle.cost_curve.specs.CostCurve.{AreCostPoints, IsAmount, IsCostCurv
 use crate::edges::Slope;
 use crate::walk::{first_place, way_on};
 use std::alloc::{AllocError, Global};
+use uc_model::laws::{envelope_is_greatest, power_costs_are_within};
 use uc_model::units::{Block, Blocks, Curve, Point};
 
 // Adds a block, where it has some width.
@@ -56,6 +57,8 @@ pub fn curve_into(points: &[Point], into: &mut Curve)
     ensures room { length into.new.blocks.items + into.new.blocks.spare
         ≡ length into.old.blocks.items + into.old.blocks.spare }
 {
+    envelope_is_greatest();
+    power_costs_are_within();
     let mut from = first_place(points);
     into.at = points[from].at;
     into.value = points[from].cost;

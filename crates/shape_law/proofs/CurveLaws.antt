@@ -9,7 +9,7 @@ use Rattle.uc_model.specs.declared.units.Block.{Block}
 use Rattle.uc_model.specs.declared.units.Curve.{Curve}
 use Rattle.uc_model.specs.Limits as limits
 use Rattle.shape_law.specs.Curve.{rise_at, curve_value, end_of}
-use Rattle.shape_law.specs.Laws.{CurveKeepsConvexity, CurvePlacesAreLimited}
+use Rattle.shape_law.specs.Laws.{CurveKeepsConvexity, CurvePlacesAreLimited, CurvesHaveValues}
 use Rattle.shape_law.specs.Table.{value_of}
 use Rattle.shape_law.proofs.ConvexLaws.{convex_at, IsConvex-from_places, times_next, same_some}
 
@@ -199,6 +199,22 @@ IsPlace-on_curve c is x v h =
     let first = is.first_place.0 in
     let last = is.last_place.1 in
     (omega (arith, ints), omega (arith, ints))
+
+-- up to its end it has values
+rise_there : (bs : List Block) (from x : ℤ) → All (λ b. pos 0 ≤ℤ b.width) bs → pos 0 ≤ℤ x → (from +ℤ x) ≤ℤ end_of from bs → (v : ℤ) × (rise_at bs x ≡ Some v)
+rise_there [] from x widths low high = let none : x ≤ℤ pos 0 = omega (arith, ints, high) in (pos 0, rw (not_lt_is (pos 0) x none))
+rise_there (b ∷ bs) from x widths low high =
+    by_lt_z b.width x
+    (λ (l : b.width <ℤ x).
+    let r = rise_there bs (from +ℤ b.width) (x -ℤ b.width) (later b bs widths) (omega (arith, ints, l)) (omega (arith, ints, high)) in
+    (r.0 +ℤ (b.price *ℤ b.width), rise_at-past b bs x l ∙ ap (option_map (λ v. v +ℤ (b.price *ℤ b.width))) r.1))
+    (λ (l : x ≤ℤ b.width). (b.price *ℤ x, rise_at-inside b bs x l))
+
+pub curve_value-there : CurvesHaveValues
+curve_value-there c is x low high =
+    let r = rise_there c.blocks.items c.at (x -ℤ c.at) is.blocks.widths (omega (arith, ints, low)) (omega (arith, ints, high)) in
+    let e : curve_value c x ≡ option_map (λ u. u +ℤ c.value) (rise_at c.blocks.items (x -ℤ c.at)) = rw (not_lt_is x c.at low) in
+    (r.0 +ℤ c.value, e ∙ ap (option_map (λ u. u +ℤ c.value)) r.1)
 
 -- what the curve added at a place with a value
 pub record IsRaised (curve : ℤ → Option ℤ) (y : ℤ) (o : Option ℤ) (v : ℤ) : Type 0 where

@@ -1,11 +1,13 @@
 -- What holds of every shape. Each law is the clause of a public function of its name.
-use Rattle.std.specs.Prelude.{◌≡◌, ℕ, ℤ, pos, ◌*ℤ◌, ◌≤ℤ◌, List, [], Option, Some}
+use Rattle.std.specs.Prelude.{◌≡◌, ◌↔◌, ℕ, ℤ, pos, ◌+ℤ◌, ◌*ℤ◌, ◌≤ℤ◌, List, [], Option, Some}
 use Rattle.uc_model.specs.declared.units.Curve.{Curve}
 use Rattle.uc_model.specs.Limits as limits
+use Rattle.shape_law.specs.declared.step.Step.{Step}
 use Rattle.shape_law.specs.Cell.{Cell, AreApart, Frame}
-use Rattle.shape_law.specs.Curve.{curve_value, reserve_term, IsLimitedCurve}
+use Rattle.shape_law.specs.Curve.{curve_value, end_of, reserve_term, IsLimitedCurve}
 use Rattle.shape_law.specs.Effect.{IsPoint, IsSame, IsSum, IsCurveSum, CanAddCurve, IsWindow}
-use Rattle.shape_law.specs.Table.{Table, IsConvex, IsPlace, IsAmount, IsWithinLimits, CanAdd}
+use Rattle.shape_law.specs.Steps.{IsFairStep, IsCostOf, IsStepped}
+use Rattle.shape_law.specs.Table.{Table, value_of, IsConvex, IsPlace, IsAmount, IsWithinLimits, CanAdd}
 
 module _ {H S : Type 0} (cell_list : H → List Cell) (is_in : H → S → Type 0) (numbers : H → S → List ℕ) (function : H → S → Table) where
   -- what is said of a shape that is apart from the call's shape
@@ -54,6 +56,19 @@ CurveKeepsConvexity =
 abbrev pub WindowKeepsConvexity : Type 0
 WindowKeepsConvexity = (up down lo hi : ℤ) (f g : Table) → IsWindow up down lo hi f g → IsConvex f → IsConvex g
 
+-- so does a step, which is four of them
+abbrev pub StepKeepsConvexity : Type 0
+StepKeepsConvexity = (s : Step) (c : Curve) (f g : Table) → IsFairStep s → IsCostOf s c → IsStepped s c f g → IsConvex f → IsConvex g
+
+-- at three places side by side the middle value is no greater than half the sum of the others
+abbrev pub IsConvexByPlaces : Table → Type 0
+IsConvexByPlaces f =
+    (x a b c : ℤ) → value_of f x ≡ Some a → value_of f (x +ℤ pos 1) ≡ Some b → value_of f (x +ℤ pos 2) ≡ Some c → (b +ℤ b) ≤ℤ (a +ℤ c)
+
+-- which is what convexity of the list of values means
+abbrev pub ConvexityIsOfPlaces : Type 0
+ConvexityIsOfPlaces = (f : Table) → IsConvex f ↔ IsConvexByPlaces f
+
 -- each effect fixes the new function at every place
 abbrev pub PointIsExact : Type 0
 PointIsExact = (place value : ℤ) (g g' : Table) → IsPoint place value g → IsPoint place value g' → IsSame g g'
@@ -100,3 +115,8 @@ WindowIsOfValues =
 -- a curve within the limits has values at places within them alone
 abbrev pub CurvePlacesAreLimited : Type 0
 CurvePlacesAreLimited = (c : Curve) → IsLimitedCurve c → (x v : ℤ) → curve_value c x ≡ Some v → IsPlace x
+
+-- and it has one at each place from its first to its last
+abbrev pub CurvesHaveValues : Type 0
+CurvesHaveValues =
+    (c : Curve) → IsLimitedCurve c → (x : ℤ) → c.at ≤ℤ x → x ≤ℤ end_of c.at c.blocks.items → (v : ℤ) × (curve_value c x ≡ Some v)

@@ -1,7 +1,7 @@
 //! Laws of shapes: each is the contract of a function that does nothing.
 ghost use Rattle.std.specs.Prelude.{◌≡◌, true};
 ghost use Rattle.shape_law.specs.Chain.{IsWithinCharge, IsBalanced, CellsAreCharged, CellsAreBounded};
-ghost use Rattle.shape_law.specs.Laws.{OthersStay, FramesJoin, EndedShapesLeaveNothing, PointIsConvex, CopyIsConvex, LineKeepsConvexity, ReserveKeepsConvexity, CurveKeepsConvexity, WindowKeepsConvexity, PointIsExact, SumIsExact, CurveSumIsExact, WindowIsExact, SumIsOfValues, CurveSumIsOfValues, WindowIsOfValues, CurvePlacesAreLimited, PointIsWithinLimits, CopyIsWithinLimits, SumIsWithinLimits, CurveSumIsWithinLimits, WindowIsWithinLimits};
+ghost use Rattle.shape_law.specs.Laws.{OthersStay, FramesJoin, EndedShapesLeaveNothing, PointIsConvex, CopyIsConvex, LineKeepsConvexity, ReserveKeepsConvexity, CurveKeepsConvexity, WindowKeepsConvexity, StepKeepsConvexity, ConvexityIsOfPlaces, PointIsExact, SumIsExact, CurveSumIsExact, WindowIsExact, SumIsOfValues, CurveSumIsOfValues, WindowIsOfValues, CurvePlacesAreLimited, CurvesHaveValues, PointIsWithinLimits, CopyIsWithinLimits, SumIsWithinLimits, CurveSumIsWithinLimits, WindowIsWithinLimits};
 
 use crate::Shape;
 
@@ -32,6 +32,17 @@ pub fn effects_keep_convexity()
     ensures window { WindowKeepsConvexity }
 {}
 
+/// A step keeps convexity.
+pub fn steps_keep_convexity()
+    ensures { StepKeepsConvexity }
+{}
+
+/// Convexity is said of the look-up alone: at three places side by side the middle value is no
+/// greater than half the sum of the others.
+pub fn convexity_is_of_places()
+    ensures { ConvexityIsOfPlaces }
+{}
+
 /// Each call's effect fixes the new function at every place.
 pub fn effects_are_exact()
     ensures point { PointIsExact }
@@ -50,6 +61,11 @@ pub fn effects_are_of_values()
 /// A curve within the limits has values at places within them alone.
 pub fn curve_places_are_limited()
     ensures { CurvePlacesAreLimited }
+{}
+
+/// And it has a value at each place from its first to its last.
+pub fn curves_have_values()
+    ensures { CurvesHaveValues }
 {}
 
 /// Each call's effect keeps places and values within the limits, under the call's conditions.

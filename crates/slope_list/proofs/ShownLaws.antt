@@ -1,47 +1,16 @@
 -- What is seen of pieces, and of none.
-use Rattle.std.proofs.Common.{◌≡◌, List, [], length, true, false, Option, Some, None, refl, sym, ap, ◌∙◌, subst, arith}
-use Rattle.std.specs.Prelude.{IfSome, ℤ, pos, negsuc, ◌+ℤ◌, ◌-ℤ◌, ◌*ℤ◌, ◌≤ℤ◌, MatchOption}
+use Rattle.std.proofs.Common.{◌≡◌, [], true, false, Option, Some, None, refl, sym, ap, ◌∙◌, subst}
+use Rattle.std.specs.Prelude.{IfSome, ℤ, pos, negsuc, ◌+ℤ◌, ◌-ℤ◌, ◌*ℤ◌, MatchOption}
 use Rattle.std.specs.Option.{option_map}
-use Rattle.std.proofs.lemmas.Int.{ints}
 use Rattle.uc_model.specs.declared.units.Curve.{Curve}
 use Rattle.shape_law.specs.declared.step.Step.{Step}
 use Rattle.shape_law.specs.Curve.{curve_value, reserve_term}
 use Rattle.shape_law.specs.Steps.{IsStepped}
 use Rattle.shape_law.specs.Table.{Table, value_of, offset_value, IsEmpty}
-use Rattle.slope_step.specs.declared.piece.Piece.{Piece}
-use Rattle.slope_step.specs.declared.piece.Start.{Start}
 use Rattle.slope_step.specs.declared.step.Made.{Made}
-use Rattle.slope_step.specs.Pieces.{last_place, function_of, table_of, AreSlopes}
 use Rattle.shape_law.specs.Effect.{IsLeast}
 use Rattle.slope_list.specs.declared.slopes.Lowest.{Lowest}
-use Rattle.slope_step.specs.Turn.{IsFirst, IsLast, IsTurn}
-use Rattle.slope_step.proofs.PieceLaws.{ends_rise_to, along_first}
-use Rattle.slope_step.proofs.FunctionLaws.{on_inside, on_back}
-
-module _ (start : Start) (ps : List Piece) (slopes : AreSlopes start.first ps) where
-  order : start.first ≤ℤ last_place start.first ps
-  order = ends_rise_to start.first ps slopes 0 (length ps) (omega arith) (omega arith)
-
-  first_there : value_of (table_of start ps) start.first ≡ Some start.level
-  first_there =
-      on_inside (function_of start ps) start.first (last_place start.first ps) start.first (omega (arith, ints)) order
-      ∙ ap Some (along_first start.first start.level ps slopes)
-
-  pub IsFirst-of : IsFirst (table_of start ps) start.first start.level
-  IsFirst-of = record {
-    there = first_there;
-    first = λ y w h. (on_back (function_of start ps) start.first (last_place start.first ps) y w h).from;
-  }
-
-  pub IsLast-of : IsLast (table_of start ps) (last_place start.first ps)
-  IsLast-of = record {
-    value = function_of start ps (last_place start.first ps);
-    there = on_inside (function_of start ps) start.first (last_place start.first ps) (last_place start.first ps) order (omega (arith, ints));
-    last = λ y w h. (on_back (function_of start ps) start.first (last_place start.first ps) y w h).to;
-  }
-
-  pub not_empty : IsEmpty (table_of start ps) → ⊥
-  not_empty h = let n = h start.first in let t = first_there in cc
+use Rattle.slope_step.specs.Turn.{IsTurn}
 
 -- ---- no place
 

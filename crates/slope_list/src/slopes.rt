@@ -7,6 +7,7 @@ ghost use Rattle.slope_list.specs.Kept.{AreKept};
 
 use shape_law::step::Step;
 use slope_step::below;
+use slope_step::laws::pieces_begin_and_end;
 use slope_step::piece::{Piece, Start};
 use slope_step::read::{self, Spot};
 use slope_step::step::{Made, Stepped, slope_step};
@@ -175,6 +176,7 @@ impl Slopes {
     pub fn first(&self) -> Option<Spot>
         ensures { MatchOption result (IsEmpty (shown self.now)) (λ r. IsFirst (shown self.now) r.at r.value) }
     {
+        pieces_begin_and_end();
         match self.made {
             Some(made) => Some(Spot {
                 at: made.start.first,
@@ -188,6 +190,7 @@ impl Slopes {
     pub fn last(&self) -> Option<i64>
         ensures { MatchOption result (IsEmpty (shown self.now)) (IsLast (shown self.now)) }
     {
+        pieces_begin_and_end();
         match self.made {
             Some(made) => Some(read::last_place(&self.pieces[..made.used], made.start.first)),
             None => None,
@@ -198,6 +201,7 @@ impl Slopes {
     pub fn is_empty(&self) -> bool
         ensures { IsTrue result ↔ IsEmpty (shown self.now) }
     {
+        pieces_begin_and_end();
         match self.made {
             Some(_) => false,
             None => true,

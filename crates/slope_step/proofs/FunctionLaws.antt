@@ -6,7 +6,7 @@ use Rattle.std.proofs.lemmas.Int.{ints, by_lt_z}
 use Rattle.shape_law.specs.Table.{value_of, offset_value, IsConvex}
 use Rattle.shape_law.specs.Effect.{IsSum, IsCurveSum}
 use Rattle.shape_law.specs.Curve.{curve_value}
-use Rattle.shape_law.proofs.ConvexLaws.{convex_at, IsConvex-from_places}
+use Rattle.shape_law.specs.Laws.{ConvexityIsOfPlaces}
 use Rattle.uc_model.specs.declared.units.Curve.{Curve}
 use Rattle.slope_step.specs.Blocks.{HasCosts}
 use Rattle.slope_step.specs.Drawn.{cost_at, with_cost}
@@ -79,8 +79,8 @@ on_same f g a b same x = by_place a b x
 
 -- ---- convexity
 
-pub IsConvex-from_curves : (f : ℤ → ℤ) (a b : ℤ) → Curves f a b → IsConvex (table_on f a b)
-IsConvex-from_curves f a b c = IsConvex-from_places (table_on f a b) (λ x u v w p q r.
+pub IsConvex-from_curves : ConvexityIsOfPlaces → (f : ℤ → ℤ) (a b : ℤ) → Curves f a b → IsConvex (table_on f a b)
+IsConvex-from_curves law f a b c = (law (table_on f a b)).1 (λ x u v w p q r.
     let d = on_back f a b x u p in
     let e = on_back f a b (x +ℤ pos 1) v q in
     let g = on_back f a b (x +ℤ pos 2) w r in
@@ -93,9 +93,9 @@ IsConvex-from_curves f a b c = IsConvex-from_places (table_on f a b) (λ x u v w
     let s : f ((x +ℤ pos 1) +ℤ pos 1) ≡ f (x +ℤ pos 2) = ap f (omega (arith, ints)) in
     omega (arith, ints))
 
-pub convex_steps : (f : ℤ → ℤ) (a b x : ℤ) → IsConvex (table_on f a b) → a ≤ℤ x → (x +ℤ pos 2) ≤ℤ b → (f (x +ℤ pos 1) +ℤ f (x +ℤ pos 1)) ≤ℤ (f x +ℤ f (x +ℤ pos 2))
-convex_steps f a b x c low high =
-    convex_at (table_on f a b) c x (f x) (f (x +ℤ pos 1)) (f (x +ℤ pos 2))
+pub convex_steps : ConvexityIsOfPlaces → (f : ℤ → ℤ) (a b x : ℤ) → IsConvex (table_on f a b) → a ≤ℤ x → (x +ℤ pos 2) ≤ℤ b → (f (x +ℤ pos 1) +ℤ f (x +ℤ pos 1)) ≤ℤ (f x +ℤ f (x +ℤ pos 2))
+convex_steps law f a b x c low high =
+    (law (table_on f a b)).0 c x (f x) (f (x +ℤ pos 1)) (f (x +ℤ pos 2))
     (on_inside f a b x low (omega (arith, ints)))
     (on_inside f a b (x +ℤ pos 1) (omega (arith, ints)) (omega (arith, ints)))
     (on_inside f a b (x +ℤ pos 2) (omega (arith, ints)) high)

@@ -10,8 +10,9 @@ use Rattle.slope_step.specs.declared.piece.Piece.{Piece}
 use Rattle.slope_step.specs.declared.piece.Start.{Start}
 use Rattle.slope_step.specs.Pieces.{piece, end_at, last_place, function_of, table_on, AreSlopes}
 use Rattle.slope_step.specs.Kink.{IsValley}
+use Rattle.slope_step.specs.Laws.{PiecesBegin, PiecesEnd}
 use Rattle.slope_step.proofs.LineLaws.{line_step}
-use Rattle.slope_step.proofs.PieceLaws.{ends_rise_to, slopes_rise, along_line, held}
+use Rattle.slope_step.proofs.PieceLaws.{ends_rise_to, slopes_rise, along_first, along_line, held}
 use Rattle.slope_step.proofs.FunctionLaws.{on_inside, on_back, by_place}
 use Rattle.slope_step.proofs.ValleyLaws.{falls_to, rises_to, valley_least}
 
@@ -91,3 +92,22 @@ module _ (f : ℤ → ℤ) (a b m : ℤ) (v : IsValley f a b m) (lo hi low high 
 -- no place is asked for
 pub HasNone-on : (f : ℤ → ℤ) (a b lo hi : ℤ) → int_min hi b <ℤ int_max lo a → HasNone lo hi (table_on f a b)
 HasNone-on f a b lo hi h x low high = by_place a b x (λ (l : a ≤ℤ x) (r : x ≤ℤ b). absurd (omega (arith, ints, clamps))) (λ none. none f)
+
+-- ---- the first and the last place
+
+in_order : (start : Start) (ps : List Piece) → AreSlopes start.first ps → start.first ≤ℤ last_place start.first ps
+in_order start ps slopes = ends_rise_to start.first ps slopes 0 (length ps) (omega arith) (omega arith)
+
+pub pieces_begin : PiecesBegin
+pieces_begin start ps slopes = record {
+  there = on_inside (function_of start ps) start.first (last_place start.first ps) start.first (omega (arith, ints)) (in_order start ps slopes)
+      ∙ ap Some (along_first start.first start.level ps slopes);
+  first = λ y w h. (on_back (function_of start ps) start.first (last_place start.first ps) y w h).from;
+}
+
+pub pieces_end : PiecesEnd
+pieces_end start ps slopes = record {
+  value = function_of start ps (last_place start.first ps);
+  there = on_inside (function_of start ps) start.first (last_place start.first ps) (last_place start.first ps) (in_order start ps slopes) (omega (arith, ints));
+  last = λ y w h. (on_back (function_of start ps) start.first (last_place start.first ps) y w h).to;
+}

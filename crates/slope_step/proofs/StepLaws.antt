@@ -7,10 +7,9 @@ use Rattle.uc_model.specs.declared.units.Curve.{Curve}
 use Rattle.uc_model.specs.Limits.{IsOutput, IsCost}
 use Rattle.shape_law.specs.declared.step.Step.{Step}
 use Rattle.shape_law.specs.Curve.{curve_value, reserve_term}
+use Rattle.shape_law.specs.Laws.{StepKeepsConvexity, ConvexityIsOfPlaces}
 use Rattle.shape_law.specs.Steps.{IsFairStep, IsCostOf, IsStepped, IsSmall}
 use Rattle.shape_law.specs.Table.{Table, value_of, offset_value, IsConvex, IsPlace, IsAmount}
-use Rattle.shape_law.proofs.ConvexLaws.{IsConvex-line, IsConvex-window}
-use Rattle.shape_law.proofs.CurveLaws.{IsConvex-curve_sum}
 use Rattle.slope_step.specs.declared.piece.Piece.{Piece}
 use Rattle.slope_step.specs.declared.piece.Start.{Start}
 use Rattle.slope_step.specs.Pieces.{piece, end_at, last_place, function_of, table_on, table_of, AreSlopes, Stand}
@@ -20,10 +19,9 @@ use Rattle.slope_step.specs.Blocks.{HasCosts}
 use Rattle.slope_step.specs.Drawn.{cost_at, paid, stepped}
 use Rattle.slope_step.specs.Turn.{IsTurn}
 use Rattle.slope_step.proofs.LineLaws.{line_step}
-use Rattle.slope_step.proofs.PieceLaws.{ends_rise_to, along_line, along_from_stand, last_place-take, stand-take}
+use Rattle.slope_step.proofs.PieceLaws.{ends_rise_to, along_line, along_curves, along_from_stand, last_place-take, stand-take}
 use Rattle.slope_step.proofs.FunctionLaws.{on_inside, by_place, on_same, IsConvex-from_curves, convex_steps, IsSum-on, IsCurveSum-on, cost_at_is}
 use Rattle.slope_step.proofs.ValleyLaws.{IsBottom-valley, IsWindow-valley}
-use Rattle.slope_step.proofs.KinkLaws.{kinked_curves}
 use Rattle.slope_step.proofs.WindowLaws.{nearest_inside}
 use Rattle.slope_step.proofs.BoundLaws.{level_within}
 
@@ -37,8 +35,8 @@ stand_rises h lo ps n s (suc d) i j e l =
     let same : end_at lo ps j ≡ end_at lo ps (suc (i + d)) = ap (end_at lo ps) {x = j} {y = suc (i + d)} (omega arith) in
     omega (arith, ints)
 
-pub slopes_from_stand : (h : ℤ → ℤ) (lo : ℤ) (ps : List Piece) → Stand h lo ps (length ps) → IsConvex (table_on h lo (last_place lo ps)) → AreSlopes lo ps
-slopes_from_stand h lo ps s convex = record {
+pub slopes_from_stand : ConvexityIsOfPlaces → (h : ℤ → ℤ) (lo : ℤ) (ps : List Piece) → Stand h lo ps (length ps) → IsConvex (table_on h lo (last_place lo ps)) → AreSlopes lo ps
+slopes_from_stand law h lo ps s convex = record {
   rise = λ k i. (s k i).rise;
   order = λ k i.
       let a = s k (omega arith) in
@@ -50,7 +48,7 @@ slopes_from_stand h lo ps s convex = record {
       let high : end_at lo ps (suc (suc k)) ≤ℤ last_place lo ps = stand_rises h lo ps (length ps) s (length ps - suc (suc k)) (suc (suc k)) (length ps) (omega arith) (omega arith) in
       let p = line_step h (end_at lo ps k) e (piece ps k).slope (e -ℤ pos 1) a (omega (arith, ints)) (omega (arith, ints)) in
       let q = line_step h e (end_at lo ps (suc (suc k))) (piece ps (suc k)).slope e b (omega (arith, ints)) on in
-      let c = convex_steps h lo (last_place lo ps) (e -ℤ pos 1) convex (omega (arith, ints)) (omega (arith, ints)) in
+      let c = convex_steps law h lo (last_place lo ps) (e -ℤ pos 1) convex (omega (arith, ints)) (omega (arith, ints)) in
       let x : h ((e -ℤ pos 1) +ℤ pos 1) ≡ h e = ap h (omega (arith, ints)) in
       let y : h ((e -ℤ pos 1) +ℤ pos 2) ≡ h (e +ℤ pos 1) = ap h (omega (arith, ints)) in
       omega (arith, ints);
@@ -100,14 +98,10 @@ module _ (start : Start) (ps : List Piece) (s : Step) (c : Curve) (m lo hi : ℤ
     is_curve = IsCurveSum-on c (paid start ps s m) lo hi costs_on;
   }
 
-  pub stepped_convex : IsConvex (table_on (stepped start ps s m c) lo hi)
-  unfolding stepped_on
-  stepped_convex =
-      let r = stepped_on in
-      let k = IsConvex-from_curves (kinked start ps s) start.first (last_place start.first ps) (kinked_curves start ps s fair slopes) in
-      let w = IsConvex-window s.ramp_up s.ramp_down s.least s.most r.kinked r.window r.is_window k in
-      let l = IsConvex-line s.slope r.window r.line r.is_line w in
-      IsConvex-curve_sum c (pos 0) r.line (table_on (stepped start ps s m c) lo hi) cost.limited.blocks r.is_curve l
+  pub stepped_convex : StepKeepsConvexity → ConvexityIsOfPlaces → IsConvex (table_on (stepped start ps s m c) lo hi)
+  stepped_convex steps places =
+      let before = IsConvex-from_curves places (function_of start ps) start.first (last_place start.first ps) (along_curves start.first start.level ps slopes) in
+      steps s c (table_of start ps) (table_on (stepped start ps s m c) lo hi) fair cost stepped_on before
 
   -- so does any table with the same values
   pub stepped_to : (g : Table) → ((x : ℤ) → value_of g x ≡ value_of (table_on (stepped start ps s m c) lo hi) x) → IsStepped s c (table_of start ps) g
@@ -148,11 +142,11 @@ module _ (start : Start) (ps : List Piece) (s : Step) (c : Curve) (m lo hi : ℤ
         (λ y low high. along_from_stand (stepped start ps s m c) lo level (take used out) (stand-take (stepped start ps s m c) lo used out room drawn) (sym level_is) y low (omega (arith, ints)))
         x)
 
-    pub written_slopes : AreSlopes lo (take used out)
-    written_slopes =
+    pub written_slopes : StepKeepsConvexity → ConvexityIsOfPlaces → AreSlopes lo (take used out)
+    written_slopes steps places =
         let e = last_place-take lo used out room ∙ ends in
-        slopes_from_stand (stepped start ps s m c) lo (take used out) (stand-take (stepped start ps s m c) lo used out room drawn)
-        (subst (λ (z : ℤ). IsConvex (table_on (stepped start ps s m c) lo z)) (sym e) stepped_convex)
+        slopes_from_stand places (stepped start ps s m c) lo (take used out) (stand-take (stepped start ps s m c) lo used out room drawn)
+        (subst (λ (z : ℤ). IsConvex (table_on (stepped start ps s m c) lo z)) (sym e) (stepped_convex steps places))
 
 -- ---- the first and the last place
 

@@ -5,4 +5,5 @@ pub mod Blocks
 pub mod Drawn
 pub mod Totals
 pub mod Turn
+pub mod Laws
 pub mod Below

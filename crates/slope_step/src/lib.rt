@@ -8,6 +8,7 @@ pub mod below;
 mod blocks;
 mod draw;
 mod kink;
+pub mod laws;
 pub mod piece;
 pub mod read;
 pub mod step;

@@ -17,6 +17,7 @@ use crate::kink::{Place, seek, turn};
 use crate::piece::{Piece, Start};
 use crate::read::last_place;
 use crate::window::Window;
+use shape_law::laws::{convexity_is_of_places, steps_keep_convexity};
 use shape_law::step::Step;
 use uc_model::units::Curve;
 
@@ -121,6 +122,8 @@ pub fn slope_step(
     if low > high {
         return Stepped { made: None, turn };
     }
+    steps_keep_convexity();
+    convexity_is_of_places();
     let window = Window {
         pieces,
         start,

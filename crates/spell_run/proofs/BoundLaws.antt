@@ -7,12 +7,12 @@ use Rattle.std.proofs.Math.IntN.{zero-*ℤ}
 use Rattle.shape_law.specs.Curve.{curve_value, reserve_term}
 use Rattle.shape_law.specs.Effect.{IsSum, IsWindow, CanAddCurve}
 use Rattle.shape_law.specs.Table.{Table, value_of, CanAdd}
-use Rattle.shape_law.proofs.ConvexLaws.{added}
 use Rattle.uc_model.specs.declared.units.Curve.{Curve}
 use Rattle.uc_model.specs.Limits.{IsFrom, IsOutput}
 use Rattle.uc_model.proofs.SignedLaws.{IsWithin, product_within}
 use Rattle.shape_law.specs.declared.step.Step.{Step}
 use Rattle.spell_run.specs.Steps.{IsFairStep, IsCostOf, IsKinked, IsSmall}
+use Rattle.spell_run.proofs.SumLaws.{added}
 
 -- places are outputs, and values at most n in magnitude
 abbrev pub IsBounded : ℕ → Table → Type 0

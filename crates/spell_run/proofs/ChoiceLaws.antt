@@ -5,7 +5,6 @@ use Rattle.std.proofs.lemmas.Int.{ints, to_z-of_z}
 use Rattle.shape_law.specs.Curve.{reserve_term}
 use Rattle.shape_law.specs.Effect.{IsLeastIn}
 use Rattle.shape_law.specs.Table.{Table, value_of, HasNone}
-use Rattle.shape_law.proofs.ConvexLaws.{added}
 use Rattle.uc_model.specs.Data.{Schedule}
 use Rattle.uc_model.specs.Limits.{IsFrom, IsOutput}
 use Rattle.uc_model.proofs.SignedLaws.{IsWithin, fits_within}
@@ -14,6 +13,7 @@ use Rattle.spell_run.specs.Frontier.{IsWritten, IsChosen}
 use Rattle.spell_run.specs.Laws.{best_reserve}
 use Rattle.spell_run.specs.Steps.{IsFairStep, IsKinked, IsSmall}
 use Rattle.spell_run.proofs.ReserveLaws.{best_where_paid, best_may}
+use Rattle.spell_run.proofs.SumLaws.{added}
 
 abbrev pub stored : ℤ → ℤ
 stored z = to_z w64 (of_z w64 z)

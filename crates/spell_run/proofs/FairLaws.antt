@@ -2,15 +2,14 @@
 use Rattle.std.proofs.Common.{◌≡◌, ℕ, suc, ◌-◌, ◌<◌, ◌⊎◌, inl, inr, ℤ, pos, neg_ℤ, ◌+ℤ◌, ◌-ℤ◌, ◌≤ℤ◌, Bool, true, false, cond, List, length, Option, Some, IsSome, refl, sym, ap, ◌∙◌, subst, arith, w64, FitsSigned, to_z, of_z}
 use Rattle.std.specs.Prelude.{slice_get}
 use Rattle.std.specs.Int.{int_min}
+use Rattle.std.specs.Option.{option_map}
 use Rattle.std.proofs.lemmas.Int.{ints, clamps, to_z-of_z}
+use Rattle.std.proofs.lemmas.Option.{get_or_from_slice_get}
 use Rattle.cost_curve.specs.CostCurve.{IsCostCurve, AreCostPoints, EnvelopeIsCost}
-use Rattle.cost_curve.proofs.EnvelopeValues.{envelope_is_cost}
-use Rattle.shape_law.specs.Curve.{curve_value, end_of, IsLimitedCurve}
+use Rattle.shape_law.specs.Curve.{curve_value, end_of, reserve_term, IsLimitedCurve}
 use Rattle.shape_law.specs.Effect.{IsSame}
+use Rattle.shape_law.specs.Lookup.{same_some}
 use Rattle.shape_law.specs.Table.{Table, IsPlace, IsAmount}
-use Rattle.shape_law.proofs.ConvexLaws.{same_some}
-use Rattle.shape_law.proofs.EffectLaws.{IsSum-from_same}
-use Rattle.shape_law.proofs.TableLaws.{slice_get_some}
 use Rattle.uc_model.specs.declared.units.Curve.{Curve}
 use Rattle.uc_model.specs.declared.units.Point.{Point}
 use Rattle.uc_model.specs.Data.{ThermalUnit, PriceLists}
@@ -23,7 +22,7 @@ use Rattle.spell_run.specs.Steps.{cap_at, step_at, IsFairStep, IsCostOf, IsStepp
 use Rattle.spell_run.proofs.StepLaws.{under_cap, under_most, cost_on}
 
 pub read_is : (xs : List ℤ) (k : ℕ) (v : ℤ) → slice_get xs k ≡ Some v → v ≡ int_at xs k
-read_is xs k v h = sym (slice_get_some xs k v h).1
+read_is xs k v h = sym (get_or_from_slice_get xs k v (pos 0) h)
 
 abbrev pub IsStep : Step → Step → Type 0
 IsStep a b = a ≡ b
@@ -219,11 +218,11 @@ module _ (g : ThermalUnit) (c : Curve) (unit : IsThermalUnit g) (curve : IsCostC
   }
 
 -- what a call that makes a step and one that asks for it share
-module _ (g : ThermalUnit) (π : PriceLists) (k : ℕ) (starts stops : Bool) (s : Step) (is : IsStep s (step_at g π k starts stops)) (unit : IsThermalUnit g) (prices : ArePrices π) (within : k < length π.energy) (c : Curve) (curve : IsCostCurve g.points c) where
+module _ (g : ThermalUnit) (π : PriceLists) (k : ℕ) (starts stops : Bool) (s : Step) (is : IsStep s (step_at g π k starts stops)) (unit : IsThermalUnit g) (prices : ArePrices π) (within : k < length π.energy) (c : Curve) (curve : IsCostCurve g.points c) (law : EnvelopeIsCost) where
   pub cost_is : IsCostOf s c
   cost_is =
       let price = (prices.reserve k (pos 0) (let e = prices.lengths in omega (arith, e, within))).at_least in
-      subst (λ (s : Step). IsCostOf s c) (sym is) (cost_of_step g c unit curve envelope_is_cost π k starts stops price)
+      subst (λ (s : Step). IsCostOf s c) (sym is) (cost_of_step g c unit curve law π k starts stops price)
 
 pub step_moved : (g : ThermalUnit) (π : PriceLists) (k : ℕ) (starts starts' stops : Bool) (s : Step) (c : Curve) (f h : Table) → IsStep s (step_at g π k starts stops) → starts ≡ starts' → IsStepped s c f h → IsStepped (step_at g π k starts' stops) c f h
 step_moved g π k starts starts' stops s c f h is same step =
@@ -262,7 +261,7 @@ stepped_same s c f g h same step = record {
   kinked = step.kinked;
   window = step.window;
   line = step.line;
-  is_kinked = IsSum-from_same _ f g step.kinked same step.is_kinked;
+  is_kinked = λ x. step.is_kinked x ∙ ap (option_map (λ v. v +ℤ reserve_term s.reserve_price s.cap s.ramp_up x)) (same x);
   is_window = step.is_window;
   is_line = step.is_line;
   is_curve = step.is_curve;

@@ -5,8 +5,8 @@ use Rattle.std.proofs.lemmas.Bool.{lt-ltb}
 use Rattle.std.proofs.lemmas.List.{length-replicate}
 use Rattle.cost_curve.specs.CostCurve.{IsCostCurve, EnvelopeIsCost}
 use Rattle.shape_law.specs.Effect.{IsPoint}
+use Rattle.shape_law.specs.Lookup.{same_some}
 use Rattle.shape_law.specs.Table.{Table, value_of}
-use Rattle.shape_law.proofs.ConvexLaws.{same_some}
 use Rattle.uc_model.specs.declared.units.Curve.{Curve}
 use Rattle.uc_model.specs.Data.{ThermalUnit, PriceLists, Schedule}
 use Rattle.uc_model.specs.Limits.{IsFrom, IsOutput, IsThermalUnit, ArePrices}

@@ -13,6 +13,7 @@ pub mod ReserveLaws
 pub mod RunLaws
 pub mod SizeLaws
 pub mod StepLaws
+pub mod SumLaws
 pub mod TieLaws
 pub mod TurnLaws
 pub mod WayLaws

@@ -4,12 +4,12 @@ use Rattle.std.proofs.Common.{◌≡◌, ℕ, zero, suc, ◌-◌, ◌<◌, ◌�
 use Rattle.std.specs.Option.{option_map}
 use Rattle.std.specs.Int.{int_min, int_max}
 use Rattle.std.proofs.lemmas.Int.{ints, clamps, by_lt_z}
-use Rattle.cost_curve.proofs.EnvelopeValues.{envelope_is_cost}
+use Rattle.cost_curve.specs.CostCurve.{EnvelopeIsCost}
 use Rattle.shape_law.specs.Curve.{reserve_term}
 use Rattle.shape_law.specs.Effect.{IsPoint, IsLeast, IsLeastIn, Reaches}
+use Rattle.shape_law.specs.Lookup.{same_some}
 use Rattle.shape_law.specs.Table.{Table, value_of}
 use Rattle.shape_law.specs.declared.step.Step.{Step}
-use Rattle.shape_law.proofs.ConvexLaws.{added, same_some}
 use Rattle.slope_step.specs.Turn.{IsBottom, IsTurn, IsFirst, IsLast}
 use Rattle.uc_model.specs.Data.{ThermalUnit, PriceLists, Schedule}
 use Rattle.uc_model.specs.Limits.{IsOutput, IsThermalUnit, ArePrices}
@@ -30,6 +30,7 @@ use Rattle.spell_run.proofs.FrontierLaws.{frontier_more}
 use Rattle.spell_run.proofs.PeriodLaws.{on_last, on_more}
 use Rattle.spell_run.proofs.RunLaws.{level_before, level_within, cost_none, cost_zero}
 use Rattle.spell_run.proofs.StepLaws.{step_sound}
+use Rattle.spell_run.proofs.SumLaws.{added}
 use Rattle.spell_run.proofs.TieLaws.{best_of_way, first_of_way}
 use Rattle.spell_run.proofs.WayLaws.{stops_before, stops_last, onward_end, onward_more, way_of_choice}
 
@@ -208,21 +209,21 @@ module _ (g : ThermalUnit) (π : PriceLists) (first k : ℕ) (unit : IsThermalUn
         way_of_choice g π first k noted.curve unit prices noted.is_curve within from (suc k) (omega arith) noted.before after noted.frontier step d d' x y cost onward choice
 
     -- an earlier one
-    pub way_more : (noted : IsNoted g π first k false n after) → suc k < last → (f : Table) → IsFrontier g π first (suc k) f → IsWayFrom g π first (suc k) last f d x cost →
+    pub way_more : (noted : IsNoted g π first k false n after) → EnvelopeIsCost → suc k < last → (f : Table) → IsFrontier g π first (suc k) f → IsWayFrom g π first (suc k) last f d x cost →
         IsChosen (step_at g π k starts false) noted.before k x y d d' → IsWayFrom g π first k last noted.before d' y cost
-    way_more noted low f front way chosen =
+    way_more noted law low f front way chosen =
         let e = sym (stops_before last (length π.energy) k low) in
         let step = subst (λ (b : Bool). IsStepped (step_at g π k starts b) noted.curve noted.before after) e noted.stepped in
         let choice = subst (λ (b : Bool). IsChosen (step_at g π k starts b) noted.before k x y d d') e chosen in
-        let next = frontier_more g π first k noted.curve unit prices noted.is_curve envelope_is_cost within from noted.before after noted.frontier noted.stepped in
+        let next = frontier_more g π first k noted.curve unit prices noted.is_curve law within from noted.before after noted.frontier noted.stepped in
         let here = way_moved g π first (suc k) f after front next last d x cost way in
         let onward = onward_more g π first k noted.curve unit prices noted.is_curve within from last low noted.before after noted.frontier d x cost here in
         way_of_choice g π first k noted.curve unit prices noted.is_curve within from last (omega (arith, low)) noted.before after noted.frontier step d d' x y cost onward choice
 
     -- the power that it is written for is one after the step
-    pub there_after : (noted : IsNoted g π first k false n after) → (f : Table) → IsFrontier g π first (suc k) f → IsWayFrom g π first (suc k) last f d x cost → (v : ℤ) × (value_of after x ≡ Some v)
-    there_after noted f front way =
-        let next = frontier_more g π first k noted.curve unit prices noted.is_curve envelope_is_cost within from noted.before after noted.frontier noted.stepped in
+    pub there_after : (noted : IsNoted g π first k false n after) → EnvelopeIsCost → (f : Table) → IsFrontier g π first (suc k) f → IsWayFrom g π first (suc k) last f d x cost → (v : ℤ) × (value_of after x ≡ Some v)
+    there_after noted law f front way =
+        let next = frontier_more g π first k noted.curve unit prices noted.is_curve law within from noted.before after noted.frontier noted.stepped in
         (way.before, frontier_same g π first (suc k) f after front next x way.before way.there)
 
 -- ---- the whole spell
@@ -314,15 +315,15 @@ module _ (g : ThermalUnit) (π : PriceLists) (first k last : ℕ) (unit : IsTher
       }
 
   -- an earlier one
-  pub written_more : (n : Note) (after : Table) (noted : IsNoted g π first k false n after) → suc k < last → IsWrittenFrom g π first (suc k) last old d x →
+  pub written_more : (n : Note) (after : Table) (noted : IsNoted g π first k false n after) → EnvelopeIsCost → suc k < last → IsWrittenFrom g π first (suc k) last old d x →
       IsChosen (step_at g π k (eqb first (suc k)) false) noted.before k x y d d' → IsWrittenFrom g π first k last old d' y
-  written_more n after noted low rest chosen =
+  written_more n after noted law low rest chosen =
       let within : k < length π.energy = omega (arith, low, until) in
       record {
         before = noted.before;
         frontier = noted.frontier;
         cost = rest.cost;
-        way = way_more g π first k unit prices within from last d d' x y rest.cost n after noted low rest.before rest.frontier rest.way chosen;
+        way = way_more g π first k unit prices within from last d d' x y rest.cost n after noted law low rest.before rest.frontier rest.way chosen;
         on = on_more k last x _ d d' chosen.written rest.on;
         outside = outside_more k last old d d' (omega (arith, low)) chosen.written.outside rest.outside;
       }

@@ -4,8 +4,7 @@ use Rattle.std.specs.Prelude.{IsTrue}
 use Rattle.std.specs.Option.{option_map}
 use Rattle.std.proofs.lemmas.Int.{ints}
 use Rattle.std.proofs.lemmas.Bool.{cases_lt}
-use Rattle.cost_curve.specs.CostCurve.{IsCostCurve}
-use Rattle.cost_curve.proofs.EnvelopeValues.{envelope_is_cost}
+use Rattle.cost_curve.specs.CostCurve.{IsCostCurve, EnvelopeIsCost}
 use Rattle.shape_law.specs.Curve.{reserve_term}
 use Rattle.shape_law.specs.Effect.{IsLeast}
 use Rattle.shape_law.specs.Table.{Table, value_of, IsEmpty}
@@ -46,7 +45,7 @@ on_last k last p r d d' is written j from until =
     let z : k ≡ j = omega (arith, is, from, until) in
     subst (λ (i : ℕ). IsTrue (get_or d'.on i false)) z written.on
 
-module _ (g : ThermalUnit) (π : PriceLists) (first k last : ℕ) (c : Curve) (unit : IsThermalUnit g) (prices : ArePrices π) (curve : IsCostCurve g.points c) (within : k < length π.energy) (from : first ≤ suc k)
+module _ (g : ThermalUnit) (π : PriceLists) (first k last : ℕ) (c : Curve) (unit : IsThermalUnit g) (prices : ArePrices π) (curve : IsCostCurve g.points c) (law : EnvelopeIsCost) (within : k < length π.energy) (from : first ≤ suc k)
     (s : Step) (s_is : IsStep s (step_at g π k (eqb first (suc k)) (stops_at last (length π.energy) k))) (f h : Table) (front : IsFrontier g π first k f) (step : IsStepped s c f h) where
   abbrev starts : Bool
   starts = eqb first (suc k)
@@ -83,12 +82,12 @@ module _ (g : ThermalUnit) (π : PriceLists) (first k last : ℕ) (c : Curve) (u
     pub none_last : IsEmpty h → HasNoDispatch g (length π.energy) first last
     none_last empty =
         subst (λ (l : ℕ). HasNoDispatch g (length π.energy) first l) is
-        (answer_of_step g π first k c unit prices curve envelope_is_cost within from f h front stops end_is taken None empty).0
+        (answer_of_step g π first k c unit prices curve law within from f h front stops end_is taken None empty).0
 
     pub within_last : (x cost : ℤ) → IsLeast h cost x → IsSpellWithin first last cost
     within_last x cost least =
         subst (λ (l : ℕ). IsSpellWithin first l cost) is
-        (answer_of_step g π first k c unit prices curve envelope_is_cost within from f h front stops end_is taken (Some cost) (x, least)).1
+        (answer_of_step g π first k c unit prices curve law within from f h front stops end_is taken (Some cost) (x, least)).1
 
   -- ---- an earlier period
 
@@ -96,7 +95,7 @@ module _ (g : ThermalUnit) (π : PriceLists) (first k last : ℕ) (c : Curve) (u
     pub frontier_next : IsFrontier g π first (suc k) h
     frontier_next =
         let e = stops_before last (length π.energy) k low in
-        frontier_more g π first k c unit prices curve envelope_is_cost within from f h front (subst (λ (b : Bool). IsStepped (step_at g π k starts b) c f h) e taken)
+        frontier_more g π first k c unit prices curve law within from f h front (subst (λ (b : Bool). IsStepped (step_at g π k starts b) c f h) e taken)
 
     pub onward_next : (d : Schedule) (x cost : ℤ) → IsWayFrom g π first (suc k) last h d x cost → IsOnward g π first k last h d x cost
     onward_next d x cost way = onward_more g π first k c unit prices curve within from last low f h front d x cost way

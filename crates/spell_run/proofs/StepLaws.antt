@@ -8,9 +8,8 @@ use Rattle.std.proofs.lemmas.Int.{ints, clamps}
 use Rattle.std.proofs.Math.IntN.{*ℤ_comm}
 use Rattle.cost_curve.specs.CostCurve.{IsCostCurve, AreCostPoints, EnvelopeIsCost}
 use Rattle.shape_law.specs.Curve.{curve_value, reserve_term}
+use Rattle.shape_law.specs.Lookup.{same_some}
 use Rattle.shape_law.specs.Table.{Table, value_of}
-use Rattle.shape_law.proofs.ConvexLaws.{added, same_some}
-use Rattle.shape_law.proofs.CurveLaws.{raised_by}
 use Rattle.uc_model.specs.declared.units.Curve.{Curve}
 use Rattle.uc_model.specs.Data.{ThermalUnit, PriceLists}
 use Rattle.uc_model.specs.Envelope.{envelope}
@@ -22,6 +21,7 @@ use Rattle.spell_run.specs.Laws.{most_reserve, best_reserve, IsReserve}
 use Rattle.spell_run.specs.Spells.{net_cost_at}
 use Rattle.spell_run.specs.Steps.{cap_at, step_at, IsMove, IsStepped}
 use Rattle.spell_run.proofs.ReserveLaws.{reserve_is_a_kink, best_may, best_earns, best_is_best, best_where_not_paid}
+use Rattle.spell_run.proofs.SumLaws.{added, raised}
 
 -- ---- caps
 
@@ -113,8 +113,8 @@ module _ (g : ThermalUnit) (π : PriceLists) (k : ℕ) (c : Curve) (unit : IsThe
 
     pub step_sound : (x v : ℤ) → value_of h x ≡ Some v → IsFromMove g π k starts stops f x v
     step_sound x v is =
-        let r = raised_by (curve_value c) (x +ℤ pos 0) v (value_of step.line x) (value_of h x) (step.is_curve x) is in
-        let l = added (λ x. (mu -ℤ int_at π.energy k) *ℤ x) x r.old (value_of step.window x) (value_of step.line x) (step.is_line x) r.there in
+        let r = raised (curve_value c) (x +ℤ pos 0) v (value_of step.line x) (value_of h x) (step.is_curve x) is in
+        let l = added (λ x. (mu -ℤ int_at π.energy k) *ℤ x) x r.0 (value_of step.window x) (value_of step.line x) (step.is_line x) r.2 in
         let w = step.is_window.reached x l.0 l.1 in
         let q = w.0 in
         let b = added (reserve_term mu cap g.ramp_up) q l.0 (value_of f q) (value_of step.kinked q) (step.is_kinked q) w.1 in
@@ -125,15 +125,15 @@ module _ (g : ThermalUnit) (π : PriceLists) (k : ℕ) (c : Curve) (unit : IsThe
         let ahead = w.3.1 in
         let u = under_cap g starts stops x under in
         let at : x +ℤ pos 0 ≡ x = omega (arith, ints) in
-        let e = same_some (curve_value c x) (subst (λ (y : ℤ). curve_value c y ≡ Some r.rise) at r.on) (cost_on x low u.most) in
+        let e = same_some (curve_value c x) (subst (λ (y : ℤ). curve_value c y ≡ Some r.1) at r.3) (cost_on x low u.most) in
         let reserve = best_reserve mu cap g.ramp_up q x in
         let may = best_may mu cap g.ramp_up q x under (omega (arith, ints, back)) in
         let not_negative = may.least in
         let greatest = may.greatest in
         let ramp = may.ramp in
         let earns = best_earns mu cap g.ramp_up q x price in
-        let parts = parts_are mu (int_at π.energy k) cap g.ramp_up q x b.0 r.rise in
-        let whole = r.is in
+        let parts = parts_are mu (int_at π.energy k) cap g.ramp_up q x b.0 r.1 in
+        let whole = r.4 in
         let line = l.2 in
         let kink = b.2 in
         record {

@@ -3,8 +3,8 @@ use Rattle.std.proofs.Common.{◌≡◌, ℕ, zero, suc, ◌+◌, ◌-◌, ◌<�
 use Rattle.std.proofs.lemmas.Int.{ints}
 use Rattle.std.proofs.lemmas.Bool.{cases_lt}
 use Rattle.shape_law.specs.Effect.{IsPoint}
+use Rattle.shape_law.specs.Lookup.{same_some}
 use Rattle.shape_law.specs.Table.{Table, value_of}
-use Rattle.shape_law.proofs.ConvexLaws.{same_some}
 use Rattle.uc_model.specs.Data.{ThermalUnit, PriceLists, Schedule}
 use Rattle.uc_model.specs.Limits.{IsThermalUnit, ArePrices}
 use Rattle.uc_model.specs.Schedules.{power_in, reserve_in}

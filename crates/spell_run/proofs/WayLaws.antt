@@ -7,8 +7,8 @@ use Rattle.std.proofs.lemmas.Bool.{cases_lt, eq-eqb, ne_eqb, and_right}
 use Rattle.cost_curve.specs.CostCurve.{IsCostCurve}
 use Rattle.shape_law.specs.Curve.{reserve_term}
 use Rattle.shape_law.specs.Effect.{IsLeast}
+use Rattle.shape_law.specs.Lookup.{same_some}
 use Rattle.shape_law.specs.Table.{Table, value_of}
-use Rattle.shape_law.proofs.ConvexLaws.{added, same_some}
 use Rattle.uc_model.specs.declared.units.Curve.{Curve}
 use Rattle.uc_model.specs.Data.{ThermalUnit, PriceLists, Schedule}
 use Rattle.uc_model.specs.Limits.{IsThermalUnit, ArePrices}
@@ -21,6 +21,7 @@ use Rattle.spell_run.specs.Steps.{cap_at, step_at, IsMove, level, IsRun, IsStepp
 use Rattle.spell_run.proofs.ReserveLaws.{best_may}
 use Rattle.spell_run.proofs.RunLaws.{level_power, move_same, run_more, cost_more, reserve_not_negative, move_parts, move_whole, dispatch_from_run, run_from_dispatch, end_from_dispatch}
 use Rattle.spell_run.proofs.StepLaws.{step_sound, step_complete, net_of_best, net_at_least}
+use Rattle.spell_run.proofs.SumLaws.{added}
 
 -- ---- where a stop follows
 

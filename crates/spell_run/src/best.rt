@@ -15,7 +15,9 @@ ghost use Rattle.uc_model.specs.PlainUnits.{thermal_of, prices_of, schedule_of};
 
 use crate::spell::Spell;
 use crate::step::{Step, add_kink, beginning, starts_at, step_of, stepped};
+use cost_curve::laws::envelope_is_cost;
 use shape_law::Shape;
+use shape_law::laws::{frames_join, others_stay};
 use std::alloc::AllocError;
 use uc_model::units::{Answered, Curve, Prices, Unit};
 
@@ -165,6 +167,9 @@ fn last_period<S: Shape>(
     ensures sure { S.Home.counts ≡ true → S.cells before.old + (length curve.now.blocks.items + 5) ≤ S.Home.sure home.old → IsOk result }
     ensures balance { S.Home.counts ≡ true → S.Home.sure home.new + S.cells before.new ≡ S.Home.sure home.old + S.cells before.old }
 {
+    envelope_is_cost();
+    frames_join::<S>();
+    others_stay::<S>();
     let step = step_in(unit, prices, spell, place);
     let after: S = stepped(home, before, step, curve)?;
     let found = end_of(home, &after);
@@ -211,6 +216,9 @@ fn way_from<S: Shape>(
     if place + 1 == spell.last as usize {
         return last_period(home, unit, curve, prices, spell, place, before, into);
     }
+    envelope_is_cost();
+    frames_join::<S>();
+    others_stay::<S>();
     let step = step_in(unit, prices, spell, place);
     let mut after: S = stepped(home, before, step, curve)?;
     let found = way_from(
@@ -265,6 +273,7 @@ pub fn spell_best<S: Shape>(
     ensures enough { S.Home.counts ≡ true →
         cells_for (length (prices_of prices.now).energy) (length (thermal_of unit.now).points) ≤ S.Home.sure home.old → IsOk result }
 {
+    frames_join::<S>();
     let mut start: S = beginning(home, unit, spell.started)?;
     let place = spell.first as usize - 1;
     let found = way_from(home, unit, curve, prices, spell, place, &mut start, into);

@@ -13,7 +13,9 @@ ghost use Rattle.uc_model.specs.PlainUnits.{thermal_of, prices_of};
 
 use crate::spell::SpellCosts;
 use crate::step::{Step, beginning, starts_at, step_of, stepped, take_step};
+use cost_curve::laws::envelope_is_cost;
 use shape_law::Shape;
+use shape_law::laws::{frames_join, others_stay};
 use std::alloc::AllocError;
 use uc_model::units::{Curve, Prices, Unit};
 
@@ -55,6 +57,7 @@ fn cost_after<S: Shape>(
     ensures sure { S.Home.counts ≡ true → S.cells before.now + (length curve.now.blocks.items + 5) ≤ S.Home.sure home.old → IsOk result }
     ensures balance { S.Home.counts ≡ true → S.Home.sure home.new ≡ S.Home.sure home.old }
 {
+    frames_join::<S>();
     let after: S = stepped(home, before, step, curve)?;
     let cost = least_cost(home, &after);
     after.give_back(home);
@@ -83,6 +86,7 @@ fn run_on<S: Shape>(
     ensures sure { S.Home.counts ≡ true → length curve.now.blocks.items + 5 ≤ S.Home.sure home.old → IsOk result }
     ensures balance { Balance S.Home.counts (length curve.now.blocks.items + 5) (S.Home.sure home.old) (S.cells running.old) (S.Home.sure home.new) (S.cells running.new) }
 {
+    envelope_is_cost();
     let starts = starts_at(first, started, place);
     take_step(
         home,
@@ -114,6 +118,7 @@ fn cost_to_stop<S: Shape>(
     ensures sure { S.Home.counts ≡ true → S.cells running.now + (length curve.now.blocks.items + 5) ≤ S.Home.sure home.old → IsOk result }
     ensures balance { S.Home.counts ≡ true → S.Home.sure home.new ≡ S.Home.sure home.old }
 {
+    envelope_is_cost();
     let starts = starts_at(first, started, place);
     cost_after(
         home,
@@ -150,6 +155,7 @@ fn pass<S: Shape>(
     ensures sure { S.Home.counts ≡ true → S.cells running.old + (length curve.now.blocks.items + 5) ≤ S.Home.sure home.old → IsOk result }
     ensures balance { Balance S.Home.counts (length curve.now.blocks.items + 5) (S.Home.sure home.old) (S.cells running.old) (S.Home.sure home.new) (S.cells running.new) }
 {
+    envelope_is_cost();
     if place + 1 == prices.energy.len() {
         run_on(home, unit, curve, prices, first, started, place, running)?;
         return Ok(least_cost(home, running));
@@ -161,6 +167,8 @@ fn pass<S: Shape>(
         run_on(home, unit, curve, prices, first, started, place, running)?;
         return Ok(least_cost_in(home, running, last.least, last.most));
     }
+    frames_join::<S>();
+    others_stay::<S>();
     let cost = cost_to_stop(home, unit, curve, prices, first, started, place, running)?;
     run_on(home, unit, curve, prices, first, started, place, running)?;
     Ok(cost)
@@ -203,6 +211,7 @@ fn fill<S: Shape>(
         2 + 2 * length (prices_of prices.now).energy * (length curve.now.blocks.items + 5) ≤ S.Home.sure home.old → IsOk result }
     ensures balance { S.Home.counts ≡ true → S.Home.sure home.new + S.cells running.new ≡ S.Home.sure home.old + S.cells running.old }
 {
+    frames_join::<S>();
     for place in first as usize - 1..prices.energy.len() {
         let cost = pass(home, unit, curve, prices, first, started, place, running)?;
         into.entries.set(place, cost);
@@ -257,6 +266,7 @@ pub fn spell_costs<S: Shape>(
     ensures enough { S.Home.counts ≡ true →
         cells_for (length (prices_of prices.now).energy) (length (thermal_of unit.now).points) ≤ S.Home.sure home.old → IsOk result }
 {
+    frames_join::<S>();
     clear_before(first, into);
     let mut running: S = beginning(home, unit, started)?;
     let filled = fill(

@@ -16,6 +16,7 @@ ghost use Rattle.uc_model.specs.PlainUnits.{thermal_of, prices_of};
 use crate::costs::is_alike;
 use crate::step::{Step, starts_in, step_of};
 use crate::way::{Note, Passed};
+use cost_curve::laws::envelope_is_cost;
 use slope_list::{Lowest, Slopes, Spot};
 use uc_model::units::{Curve, Prices, Unit};
 
@@ -218,6 +219,7 @@ pub fn run_over<R: Running>(
     ensures count { R.count running.new ≤ R.count running.old + length curve.now.blocks.items + 3 }
     ensures room { R.room running.new ≡ R.room running.old }
 {
+    envelope_is_cost();
     let starts = starts_in(first, place);
     let before = interval_of(running);
     running.step(step_of(unit, prices, place, starts, false), curve);
@@ -271,6 +273,7 @@ pub fn end_and_run<R: Running>(
     ensures count { R.count running.new ≤ R.count running.old + length curve.now.blocks.items + 3 }
     ensures room { R.room running.new ≡ R.room running.old }
 {
+    envelope_is_cost();
     if place + 1 == prices.energy.len() {
         let note = run_over(unit, curve, prices, first, place, running);
         let end = lowest_at(running.least(), note.turn);

@@ -8,6 +8,7 @@ ghost use Rattle.spell_run.specs.Steps.{cap_at, step_at, IsFairStep, IsCostOf, I
 ghost use Rattle.uc_model.specs.PlainUnits.{thermal_of, prices_of};
 
 use shape_law::Shape;
+use shape_law::laws::frames_join;
 pub use shape_law::step::Step;
 use std::alloc::AllocError;
 use uc_model::rules::cap;
@@ -105,6 +106,7 @@ pub(crate) fn take_step<S: Shape>(
     ensures sure { S.Home.counts ≡ true → length curve.now.blocks.items + 5 ≤ S.Home.sure home.old → IsOk result }
     ensures balance { Balance S.Home.counts (length curve.now.blocks.items + 5) (S.Home.sure home.old) (S.cells shape.old) (S.Home.sure home.new) (S.cells shape.new) }
 {
+    frames_join::<S>();
     add_kink(home, shape, step)?;
     shape.window(home, step.ramp_up, step.ramp_down, step.least, step.most)?;
     shape.add_line(home, step.slope);
@@ -131,6 +133,7 @@ pub(crate) fn stepped<S: Shape>(
     ensures err_frame { OnErr result (Frame S.Home.cell_list S.is_in S.numbers [] [] home.old home.new) }
     ensures err_sure { OnErr result (S.Home.counts ≡ true → S.Home.sure home.new ≡ S.Home.sure home.old) }
 {
+    frames_join::<S>();
     let mut after = before.copy(home)?;
     match take_step(home, &mut after, step, curve) {
         Ok(()) => Ok(after),

@@ -16,6 +16,7 @@ ghost use Rattle.uc_model.specs.PlainUnits.{thermal_of, prices_of, schedule_of};
 
 use crate::best::write_best;
 use crate::step::{Step, starts_in, step_of};
+use cost_curve::laws::envelope_is_cost;
 use slope_list::Lowest;
 use uc_model::units::{Answered, Prices, Unit};
 
@@ -111,6 +112,7 @@ pub fn write_spell(
         first: left.note.first,
         last: left.note.last,
     };
+    envelope_is_cost();
     let stops = (last as usize) < prices.energy.len();
     let mut power = write_period(unit, prices, first, end, stops, note, lowest.at, into);
     for back in 1..last + 1 - first.max(1) {

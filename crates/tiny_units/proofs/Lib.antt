@@ -6,7 +6,7 @@ pub mod FeasibleLaws
 pub mod BoundLaws
 -- the least line as a fold over the points
 pub mod EnvelopeSteps
--- earnings are the sum of what each period earns, and those of a feasible schedule fit 64 bits
+-- earnings are the sum of what each period earns, and a feasible schedule gives no more than the greatest power
 pub mod EarningsLaws
 -- ---- src/order.rt and src/trying.rt
 -- what the next list is: the places before the first that isn't at its last item begin again, and that one is one more

@@ -10,6 +10,7 @@ ghost use Rattle.uc_model.specs.Sums.{int_at};
 
 use crate::envelope::cost_of_power;
 use crate::state::{is_on, power, reserve, starts};
+use uc_model::laws::earnings_are_within;
 use uc_model::rules::start_cost;
 use uc_model::units::{Prices, Response, Unit};
 
@@ -147,5 +148,6 @@ pub fn feasible_earnings(unit: &Unit, prices: &Prices, response: &Response) -> i
     requires feasible { IsThermalFeasible (thermal_of unit.now) (length (prices_of prices.now).energy) (schedule_of response.now) }
     ensures { result ≡ earnings (Thermal (thermal_of unit.now)) (prices_of prices.now) (schedule_of response.now) }
 {
+    earnings_are_within();
     earnings_of(unit, prices, response) as i64
 }

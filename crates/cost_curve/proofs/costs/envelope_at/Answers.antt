@@ -38,14 +38,14 @@ edge_cost-requires-clause-power c =
     let to : to_z w64 (of_z w64 c.args.x) ≤ℤ (point_at c.args.points.now c.in-Some.edge.place).at = search rules in
     let known = c.walk.invariant in
     let lead = c.in-Some.ensures in
-    x_power c.args.points.now c.requires.points c.walk.from c.in-Some.edge.place known.within lead.within known.price _ _ known.vertex lead.edge (to_z w64 (of_z w64 c.args.x)) known.reached to
+    x_power c.envelope_is_greatest.ensures c.power_costs_are_within.ensures c.args.points.now c.requires.points c.walk.from c.in-Some.edge.place known.within lead.within known.price _ _ known.vertex lead.edge (to_z w64 (of_z w64 c.args.x)) known.reached to
 
 pub edge_cost-requires-clause-line : goal.edge_cost-requires-clause-line
 edge_cost-requires-clause-line c =
     let to : to_z w64 (of_z w64 c.args.x) ≤ℤ (point_at c.args.points.now c.in-Some.edge.place).at = search rules in
     let known = c.walk.invariant in
     let lead = c.in-Some.ensures in
-    line_within c.args.points.now c.requires.points c.walk.from c.in-Some.edge.place known.within lead.within known.price _ _ known.vertex lead.edge (to_z w64 (of_z w64 c.args.x)) known.reached to
+    line_within c.envelope_is_greatest.ensures c.power_costs_are_within.ensures c.args.points.now c.requires.points c.walk.from c.in-Some.edge.place known.within lead.within known.price _ _ known.vertex lead.edge (to_z w64 (of_z w64 c.args.x)) known.reached to
 
 pub returns-then-x-points-clause-value : goal.returns-then-x-points-clause-value
 returns-then-x-points-clause-value c =
@@ -53,7 +53,7 @@ returns-then-x-points-clause-value c =
     let known = c.walk.invariant in
     let lead = c.in-Some.ensures in
     let f : FitsSigned w64 c.edge_cost.result = search rules in
-    to_z-of_z w64 c.edge_cost.result f ∙ edge_value c.args.points.now c.requires.points c.walk.from c.in-Some.edge.place known.within lead.within known.price _ _ known.vertex lead.edge (to_z w64 (of_z w64 c.args.x)) known.reached to _ c.edge_cost.ensures.before c.edge_cost.ensures.after ∙ ap (envelope c.args.points.now) (to_z-of_z w64 c.args.x c.ranges.x)
+    to_z-of_z w64 c.edge_cost.result f ∙ edge_value c.envelope_is_greatest.ensures c.power_costs_are_within.ensures c.args.points.now c.requires.points c.walk.from c.in-Some.edge.place known.within lead.within known.price _ _ known.vertex lead.edge (to_z w64 (of_z w64 c.args.x)) known.reached to _ c.edge_cost.ensures.before c.edge_cost.ensures.after ∙ ap (envelope c.args.points.now) (to_z-of_z w64 c.args.x c.ranges.x)
 
 pub returns-then-x-points-clause-limit : goal.returns-then-x-points-clause-limit
 returns-then-x-points-clause-limit c =
@@ -61,8 +61,8 @@ returns-then-x-points-clause-limit c =
     let known = c.walk.invariant in
     let lead = c.in-Some.ensures in
     let f : FitsSigned w64 c.edge_cost.result = search rules in
-    edge_limit c.args.points.now c.requires.points c.walk.from c.in-Some.edge.place known.within lead.within known.price _ _ known.vertex lead.edge (to_z w64 (of_z w64 c.args.x)) known.reached to _
-    (to_z-of_z w64 c.edge_cost.result f ∙ edge_value c.args.points.now c.requires.points c.walk.from c.in-Some.edge.place known.within lead.within known.price _ _ known.vertex lead.edge (to_z w64 (of_z w64 c.args.x)) known.reached to _ c.edge_cost.ensures.before c.edge_cost.ensures.after)
+    edge_limit c.envelope_is_greatest.ensures c.power_costs_are_within.ensures c.args.points.now c.requires.points c.walk.from c.in-Some.edge.place known.within lead.within known.price _ _ known.vertex lead.edge (to_z w64 (of_z w64 c.args.x)) known.reached to _
+    (to_z-of_z w64 c.edge_cost.result f ∙ edge_value c.envelope_is_greatest.ensures c.power_costs_are_within.ensures c.args.points.now c.requires.points c.walk.from c.in-Some.edge.place known.within lead.within known.price _ _ known.vertex lead.edge (to_z w64 (of_z w64 c.args.x)) known.reached to _ c.edge_cost.ensures.before c.edge_cost.ensures.after)
 
 pub walk-preserved : goal.walk-preserved
 walk-preserved c =
@@ -86,10 +86,10 @@ returns-clause-value c =
     let n : ℕ = length ps - 1 in
     let n_is : suc n ≡ length ps = omega (arith, lt) in
     let high = c.requires.within.last n no_point n_is in
-    let top = last_power ps c.requires.points i n lt n_is last in
+    let top = last_power c.envelope_is_greatest.ensures c.power_costs_are_within.ensures ps c.requires.points i n lt n_is last in
     let reached = known.reached in
     let here : (point_at ps i).at ≡ c.args.x = omega (arith, ints, high, top, reached) in
-    let value = envelope_vertex ps c.requires.points known.price i lt known.vertex in
+    let value = envelope_vertex c.envelope_is_greatest.ensures ps c.requires.points known.price i lt known.vertex in
     let q : IsPoint (point_at ps i) = c.requires.points.points i no_point lt in
     let a = q.cost.at_least in
     let b = q.cost.at_most in

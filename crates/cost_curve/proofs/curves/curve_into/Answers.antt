@@ -27,7 +27,7 @@ walk-init c =
     let empty = c.clear.ensures.items in
     let none = ap (λ (bs : List Block). length bs) empty in
     let spare = c.clear.ensures.spare in
-    let b = IsBuilt-start ps are (neg_ℤ (pos 20000000000001)) i lt v in
+    let b = IsBuilt-start c.envelope_is_greatest.ensures c.power_costs_are_within.ensures ps are (neg_ℤ (pos 20000000000001)) i lt v in
     let low = start.least 0 (omega (arith, lt)) in
     let high = ordered_powers ps are.ordered 0 i (omega arith) lt in
     record {
@@ -66,7 +66,7 @@ walk-preserved c =
       price = t;
       vertex = IsVertex-next (point_at ps i) ps (point_at ps j) known.price t w known.vertex lead.edge j lead.within refl;
       built = subst (λ x. IsBuilt ps c.walk.into.at c.walk.into.value x (point_at ps j).at t) (sym items)
-          (IsBuilt-edge ps c.requires.points i j known.within lead.within known.price t w known.vertex lead.edge c.walk.into.at c.walk.into.value c.walk.into.blocks.items known.built);
+          (IsBuilt-edge c.envelope_is_greatest.ensures c.power_costs_are_within.ensures ps c.requires.points i j known.within lead.within known.price t w known.vertex lead.edge c.walk.into.at c.walk.into.value c.walk.into.blocks.items known.built);
       starts = known.starts;
       few = omega (arith, count, few, one, two, later);
       room = omega (arith, room, had);
@@ -77,11 +77,11 @@ returns-clause-curve c =
     let ps = c.args.points.now in
     let known = c.walk.invariant in
     let last = subst (λ way. IsWayOn ps c.walk.from (length ps) way) c.in_default.is c.way_on.ensures in
-    IsCostCurve-built ps c.requires.points c.walk.into c.walk.from known.price known.within last known.starts known.built known.few
+    IsCostCurve-built c.envelope_is_greatest.ensures c.power_costs_are_within.ensures ps c.requires.points c.walk.into c.walk.from known.price known.within last known.starts known.built known.few
 
 pub returns-clause-evaluates : goal.returns-clause-evaluates
 returns-clause-evaluates c =
     let ps = c.args.points.now in
     let known = c.walk.invariant in
     let last = subst (λ way. IsWayOn ps c.walk.from (length ps) way) c.in_default.is c.way_on.ensures in
-    CanEvaluate-curve ps c.requires.points c.walk.into (IsCostCurve-built ps c.requires.points c.walk.into c.walk.from known.price known.within last known.starts known.built known.few)
+    CanEvaluate-curve c.envelope_is_greatest.ensures c.power_costs_are_within.ensures ps c.requires.points c.walk.into (IsCostCurve-built c.envelope_is_greatest.ensures c.power_costs_are_within.ensures ps c.requires.points c.walk.into c.walk.from known.price known.within last known.starts known.built known.few)

@@ -1,5 +1,4 @@
-use Rattle.cost_curve.proofs.EnvelopeValues as values
 use Rattle.cost_curve.proofs.laws.envelope_is_cost.Goals as goal
 
 pub returns : goal.returns
-returns c = values.envelope_is_cost
+returns c = λ ps x are span. c.power_costs_are_within.ensures ps x are.some are.points span

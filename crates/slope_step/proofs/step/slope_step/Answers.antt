@@ -500,7 +500,7 @@ returns-clause-slopes c =
     let ends = rw (here, ch) at c.draw-used.ensures.ends in
     let used = c.draw-used.ensures.used in
     let room : c.draw-used.result ≤ length c.draw-used.new.out = omega arith in
-    rw cl (written_slopes start ps s cv c.turn-turn.result c.max-low.result c.min-high.result slopes fair c.requires.curve valley low_is high_is c.open-opening.result.level c.draw-used.new.out c.draw-used.result room stand ends level)
+    rw cl (written_slopes start ps s cv c.turn-turn.result c.max-low.result c.min-high.result slopes fair c.requires.curve valley low_is high_is c.open-opening.result.level c.draw-used.new.out c.draw-used.result room stand ends level c.steps_keep_convexity.ensures c.convexity_is_of_places.ensures)
 
 pub returns-clause-within : goal.returns-clause-within
 returns-clause-within c =

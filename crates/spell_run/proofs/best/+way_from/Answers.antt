@@ -10,7 +10,7 @@ use Rattle.spell_run.specs.Spells.{spell_first, HasNoDispatch}
 use Rattle.spell_run.specs.Steps.{IsSmall}
 use Rattle.spell_run.proofs.EntryLaws.{first_from}
 use Rattle.spell_run.proofs.FairLaws.{cost_is}
-use Rattle.spell_run.proofs.FrameLaws.{then, stays, kept}
+use Rattle.spell_run.proofs.FrameLaws.{stays, kept}
 use Rattle.spell_run.proofs.FrontierLaws.{small_frontier}
 use Rattle.spell_run.proofs.PeriodLaws.{both_ok, on_chosen, on_more, found_range, frontier_next, onward_next, way_chosen, none_chosen}
 use Rattle.spell_run.proofs.SizeLaws.{never_both, next_fits, one_fits, rest_room, rest_enough}
@@ -20,7 +20,7 @@ pub stepped-requires-clause-curve : goal.stepped-requires-clause-curve
 stepped-requires-clause-curve g t c =
     let until = c.requires.until in
     let end = c.requires.spell.end in
-    cost_is (thermal_of c.args.unit.now) (prices_of c.args.prices.now) c.args.place _ _ c.step_in-step.result c.step_in-step.ensures.step c.args.unit.now.valid c.args.prices.now.valid (omega (arith, until, end)) c.args.curve.now c.requires.curve
+    cost_is (thermal_of c.args.unit.now) (prices_of c.args.prices.now) c.args.place _ _ c.step_in-step.result c.step_in-step.ensures.step c.args.unit.now.valid c.args.prices.now.valid (omega (arith, until, end)) c.args.curve.now c.requires.curve c.envelope_is_cost.ensures
 
 pub stepped-requires-clause-small : goal.stepped-requires-clause-small
 stepped-requires-clause-small g t c =
@@ -31,7 +31,7 @@ stepped-requires-clause-small g t c =
 
 pub returns-in_err-after-clause-frame : goal.returns-in_err-after-clause-frame
 returns-in_err-after-clause-frame g t c =
-    kept g.S.Home.Cells.cell_list g.S.Shape.is_in g.S.Shape.numbers g.S.Shape.function g.met.S.Shape.same_cells g.met.S.Shape.owns c.args.home.now c.stepped.new.home c.args.before.now c.in_err-after.ensures.err_frame c.requires.here
+    kept c.others_stay.ensures c.args.home.now c.stepped.new.home c.args.before.now c.in_err-after.ensures.err_frame c.requires.here
 
 pub way_from-found-requires : goal.way_from-found-requires
 way_from-found-requires g t c =
@@ -48,34 +48,34 @@ way_from-found-requires g t c =
     let step = c.step_in-step.result in
     let below : suc c.args.place < last = omega arith in
     let next : suc c.args.place ≡ c.args.place + 1 = omega arith in
-    let front = subst (λ (t : ℕ). IsFrontier unit prices first t after) next (frontier_next unit prices first c.args.place last c.args.curve.now c.args.unit.now.valid c.args.prices.now.valid c.requires.curve within from step c.step_in-step.ensures.step before after c.requires.frontier c.in_ok-after.ensures.ok below) in
+    let front = subst (λ (t : ℕ). IsFrontier unit prices first t after) next (frontier_next unit prices first c.args.place last c.args.curve.now c.args.unit.now.valid c.args.prices.now.valid c.requires.curve c.envelope_is_cost.ensures within from step c.step_in-step.ensures.step before after c.requires.frontier c.in_ok-after.ensures.ok below) in
     search rules
 
 pub returns-in_err-found-clause-here : goal.returns-in_err-found-clause-here
 returns-in_err-found-clause-here g t c =
-    let join = then g.S.Home.Cells.cell_list g.S.Shape.is_in g.S.Shape.numbers g.S.Shape.function g.met.S.Shape.same_cells g.met.S.Shape.owns in
+    let join = c.frames_join.ensures in
     let frame = join _ _ _ _ _ _ c.in_ok-after.ensures.frame (join _ _ _ _ _ _ c.way_from-found.ensures.frame c.give_back.ensures.frame) in
-    let same = stays g.S.Home.Cells.cell_list g.S.Shape.is_in g.S.Shape.numbers g.S.Shape.function g.met.S.Shape.same_cells g.met.S.Shape.owns c.args.home.now c.give_back.new.home c.args.before.now frame c.requires.here in
+    let same = stays c.others_stay.ensures c.args.home.now c.give_back.new.home c.args.before.now frame c.requires.here in
     same.here
 
 pub returns-in_err-found-clause-frame : goal.returns-in_err-found-clause-frame
 returns-in_err-found-clause-frame g t c =
-    let join = then g.S.Home.Cells.cell_list g.S.Shape.is_in g.S.Shape.numbers g.S.Shape.function g.met.S.Shape.same_cells g.met.S.Shape.owns in
+    let join = c.frames_join.ensures in
     let frame = join _ _ _ _ _ _ c.in_ok-after.ensures.frame (join _ _ _ _ _ _ c.way_from-found.ensures.frame c.give_back.ensures.frame) in
-    kept g.S.Home.Cells.cell_list g.S.Shape.is_in g.S.Shape.numbers g.S.Shape.function g.met.S.Shape.same_cells g.met.S.Shape.owns c.args.home.now c.give_back.new.home c.args.before.now frame c.requires.here
+    kept c.others_stay.ensures c.args.home.now c.give_back.new.home c.args.before.now frame c.requires.here
 
 pub choose-requires-clause-here : goal.choose-requires-clause-here
 choose-requires-clause-here g t c =
-    let join = then g.S.Home.Cells.cell_list g.S.Shape.is_in g.S.Shape.numbers g.S.Shape.function g.met.S.Shape.same_cells g.met.S.Shape.owns in
+    let join = c.frames_join.ensures in
     let frame = join _ _ _ _ _ _ c.in_ok-after.ensures.frame (join _ _ _ _ _ _ c.way_from-found.ensures.frame c.give_back.ensures.frame) in
-    let same = stays g.S.Home.Cells.cell_list g.S.Shape.is_in g.S.Shape.numbers g.S.Shape.function g.met.S.Shape.same_cells g.met.S.Shape.owns c.args.home.now c.give_back.new.home c.args.before.now frame c.requires.here in
+    let same = stays c.others_stay.ensures c.args.home.now c.give_back.new.home c.args.before.now frame c.requires.here in
     same.here
 
 pub choose-requires-clause-small : goal.choose-requires-clause-small
 choose-requires-clause-small g t c =
-    let join = then g.S.Home.Cells.cell_list g.S.Shape.is_in g.S.Shape.numbers g.S.Shape.function g.met.S.Shape.same_cells g.met.S.Shape.owns in
+    let join = c.frames_join.ensures in
     let frame = join _ _ _ _ _ _ c.in_ok-after.ensures.frame (join _ _ _ _ _ _ c.way_from-found.ensures.frame c.give_back.ensures.frame) in
-    let same = stays g.S.Home.Cells.cell_list g.S.Shape.is_in g.S.Shape.numbers g.S.Shape.function g.met.S.Shape.same_cells g.met.S.Shape.owns c.args.home.now c.give_back.new.home c.args.before.now frame c.requires.here in
+    let same = stays c.others_stay.ensures c.args.home.now c.give_back.new.home c.args.before.now frame c.requires.here in
     let horizon = c.args.prices.now.valid.horizon.at_most in
     let until = c.requires.until in
     let end = c.requires.spell.end in
@@ -102,7 +102,7 @@ choose-requires-clause-found g t c =
     let x = c.in-Some.found.power in
     let cost = c.in-Some.found.cost in
     let way = subst (λ (t : ℕ). IsWayFrom unit prices first t last after d x cost) next told in
-    found_range unit prices first c.args.place last c.args.curve.now c.args.unit.now.valid c.args.prices.now.valid c.requires.curve within from step c.step_in-step.ensures.step before after c.requires.frontier c.in_ok-after.ensures.ok x way.before way.there
+    found_range unit prices first c.args.place last c.args.curve.now c.args.unit.now.valid c.args.prices.now.valid c.requires.curve c.envelope_is_cost.ensures within from step c.step_in-step.ensures.step before after c.requires.frontier c.in_ok-after.ensures.ok x way.before way.there
 
 pub returns-in-Some-clause-way : goal.returns-in-Some-clause-way
 returns-in-Some-clause-way g t c =
@@ -118,9 +118,9 @@ returns-in-Some-clause-way g t c =
     let after = g.S.Shape.function c.stepped.new.home c.in_ok-after.after in
     let step = c.step_in-step.result in
     let below : suc c.args.place < last = omega arith in
-    let join = then g.S.Home.Cells.cell_list g.S.Shape.is_in g.S.Shape.numbers g.S.Shape.function g.met.S.Shape.same_cells g.met.S.Shape.owns in
+    let join = c.frames_join.ensures in
     let frame = join _ _ _ _ _ _ c.in_ok-after.ensures.frame (join _ _ _ _ _ _ c.way_from-found.ensures.frame c.give_back.ensures.frame) in
-    let same = stays g.S.Home.Cells.cell_list g.S.Shape.is_in g.S.Shape.numbers g.S.Shape.function g.met.S.Shape.same_cells g.met.S.Shape.owns c.args.home.now c.give_back.new.home c.args.before.now frame c.requires.here in
+    let same = stays c.others_stay.ensures c.args.home.now c.give_back.new.home c.args.before.now frame c.requires.here in
     let d = schedule_of c.way_from-found.new.into.response in
     let next : c.args.place + 1 ≡ suc c.args.place = omega arith in
     let told = MatchOption-at_some (HasNoDispatch unit (length prices.energy) first last) (λ (found : Found). IsWayFrom unit prices first (c.args.place + 1) last after d found.power found.cost) c.in-Some.found c.in-Some.is c.in_ok-found.ensures.way in
@@ -130,11 +130,11 @@ returns-in-Some-clause-way g t c =
     let d' = schedule_of c.choose.new.into.response in
     let P : Table → Option Found → Type 0 = λ f best. MatchOption best (IsUnreached step f x) (λ (chosen : Found). IsChosen step f c.args.place x chosen.power d d') in
     let chosen = subst (λ (f : Table). IfOk c.choose.result (P f)) same.function_same c.choose.ensures.chosen in
-    let onward = onward_next unit prices first c.args.place last c.args.curve.now c.args.unit.now.valid c.args.prices.now.valid c.requires.curve within from step c.step_in-step.ensures.step before after c.requires.frontier c.in_ok-after.ensures.ok below d x cost way in
+    let onward = onward_next unit prices first c.args.place last c.args.curve.now c.args.unit.now.valid c.args.prices.now.valid c.requires.curve c.envelope_is_cost.ensures within from step c.step_in-step.ensures.step before after c.requires.frontier c.in_ok-after.ensures.ok below d x cost way in
     let low : suc c.args.place ≤ last = until in
     both_ok c.choose.result (P before) (λ (best : Option Found). IfSome best (λ (found : Found). found.cost ≡ cost))
     (λ (best : Option Found). MatchOption best (HasNoDispatch unit (length prices.energy) first last) (λ (found : Found). IsWayFrom unit prices first c.args.place last before d' found.power found.cost))
-    (λ best p q. way_chosen unit prices first c.args.place last c.args.curve.now c.args.unit.now.valid c.args.prices.now.valid c.requires.curve within from step c.step_in-step.ensures.step before after c.requires.frontier c.in_ok-after.ensures.ok low d d' x cost onward best p q)
+    (λ best p q. way_chosen unit prices first c.args.place last c.args.curve.now c.args.unit.now.valid c.args.prices.now.valid c.requires.curve c.envelope_is_cost.ensures within from step c.step_in-step.ensures.step before after c.requires.frontier c.in_ok-after.ensures.ok low d d' x cost onward best p q)
     chosen c.choose.ensures.cost
 
 pub returns-in-Some-clause-on : goal.returns-in-Some-clause-on
@@ -151,9 +151,9 @@ returns-in-Some-clause-on g t c =
     let after = g.S.Shape.function c.stepped.new.home c.in_ok-after.after in
     let step = c.step_in-step.result in
     let below : suc c.args.place < last = omega arith in
-    let join = then g.S.Home.Cells.cell_list g.S.Shape.is_in g.S.Shape.numbers g.S.Shape.function g.met.S.Shape.same_cells g.met.S.Shape.owns in
+    let join = c.frames_join.ensures in
     let frame = join _ _ _ _ _ _ c.in_ok-after.ensures.frame (join _ _ _ _ _ _ c.way_from-found.ensures.frame c.give_back.ensures.frame) in
-    let same = stays g.S.Home.Cells.cell_list g.S.Shape.is_in g.S.Shape.numbers g.S.Shape.function g.met.S.Shape.same_cells g.met.S.Shape.owns c.args.home.now c.give_back.new.home c.args.before.now frame c.requires.here in
+    let same = stays c.others_stay.ensures c.args.home.now c.give_back.new.home c.args.before.now frame c.requires.here in
     let d = schedule_of c.way_from-found.new.into.response in
     let next : c.args.place + 1 ≡ suc c.args.place = omega arith in
     let told = MatchOption-at_some (HasNoDispatch unit (length prices.energy) first last) (λ (found : Found). IsWayFrom unit prices first (c.args.place + 1) last after d found.power found.cost) c.in-Some.found c.in-Some.is c.in_ok-found.ensures.way in
@@ -183,9 +183,9 @@ returns-in-Some-clause-none g t c =
     let after = g.S.Shape.function c.stepped.new.home c.in_ok-after.after in
     let step = c.step_in-step.result in
     let below : suc c.args.place < last = omega arith in
-    let join = then g.S.Home.Cells.cell_list g.S.Shape.is_in g.S.Shape.numbers g.S.Shape.function g.met.S.Shape.same_cells g.met.S.Shape.owns in
+    let join = c.frames_join.ensures in
     let frame = join _ _ _ _ _ _ c.in_ok-after.ensures.frame (join _ _ _ _ _ _ c.way_from-found.ensures.frame c.give_back.ensures.frame) in
-    let same = stays g.S.Home.Cells.cell_list g.S.Shape.is_in g.S.Shape.numbers g.S.Shape.function g.met.S.Shape.same_cells g.met.S.Shape.owns c.args.home.now c.give_back.new.home c.args.before.now frame c.requires.here in
+    let same = stays c.others_stay.ensures c.args.home.now c.give_back.new.home c.args.before.now frame c.requires.here in
     let d = schedule_of c.way_from-found.new.into.response in
     let next : c.args.place + 1 ≡ suc c.args.place = omega arith in
     let told = MatchOption-at_some (HasNoDispatch unit (length prices.energy) first last) (λ (found : Found). IsWayFrom unit prices first (c.args.place + 1) last after d found.power found.cost) c.in-Some.found c.in-Some.is c.in_ok-found.ensures.way in
@@ -195,32 +195,32 @@ returns-in-Some-clause-none g t c =
     let d' = schedule_of c.choose.new.into.response in
     let P : Table → Option Found → Type 0 = λ f best. MatchOption best (IsUnreached step f x) (λ (chosen : Found). IsChosen step f c.args.place x chosen.power d d') in
     let chosen = subst (λ (f : Table). IfOk c.choose.result (P f)) same.function_same c.choose.ensures.chosen in
-    let onward = onward_next unit prices first c.args.place last c.args.curve.now c.args.unit.now.valid c.args.prices.now.valid c.requires.curve within from step c.step_in-step.ensures.step before after c.requires.frontier c.in_ok-after.ensures.ok below d x cost way in
+    let onward = onward_next unit prices first c.args.place last c.args.curve.now c.args.unit.now.valid c.args.prices.now.valid c.requires.curve c.envelope_is_cost.ensures within from step c.step_in-step.ensures.step before after c.requires.frontier c.in_ok-after.ensures.ok below d x cost way in
     let low : suc c.args.place ≤ last = until in
     let old = schedule_of c.args.into.now.response in
     IfOk-weaker c.choose.result (P before) (λ (best : Option Found). best ≡ None → d' ≡ old)
-    (λ best p e. none_chosen unit prices first c.args.place last c.args.curve.now c.args.unit.now.valid c.args.prices.now.valid c.requires.curve within from step c.step_in-step.ensures.step before after c.requires.frontier c.in_ok-after.ensures.ok low d d' x cost onward best (d' ≡ old) p e)
+    (λ best p e. none_chosen unit prices first c.args.place last c.args.curve.now c.args.unit.now.valid c.args.prices.now.valid c.requires.curve c.envelope_is_cost.ensures within from step c.step_in-step.ensures.step before after c.requires.frontier c.in_ok-after.ensures.ok low d d' x cost onward best (d' ≡ old) p e)
     chosen
 
 pub returns-in-Some-clause-frame : goal.returns-in-Some-clause-frame
 returns-in-Some-clause-frame g t c =
-    let join = then g.S.Home.Cells.cell_list g.S.Shape.is_in g.S.Shape.numbers g.S.Shape.function g.met.S.Shape.same_cells g.met.S.Shape.owns in
+    let join = c.frames_join.ensures in
     let frame = join _ _ _ _ _ _ c.in_ok-after.ensures.frame (join _ _ _ _ _ _ c.way_from-found.ensures.frame c.give_back.ensures.frame) in
-    let rest = kept g.S.Home.Cells.cell_list g.S.Shape.is_in g.S.Shape.numbers g.S.Shape.function g.met.S.Shape.same_cells g.met.S.Shape.owns c.args.home.now c.give_back.new.home c.args.before.now frame c.requires.here in
+    let rest = kept c.others_stay.ensures c.args.home.now c.give_back.new.home c.args.before.now frame c.requires.here in
     join _ _ _ _ _ _ rest c.choose.ensures.frame
 
 pub returns-in-None-clause-here : goal.returns-in-None-clause-here
 returns-in-None-clause-here g t c =
-    let join = then g.S.Home.Cells.cell_list g.S.Shape.is_in g.S.Shape.numbers g.S.Shape.function g.met.S.Shape.same_cells g.met.S.Shape.owns in
+    let join = c.frames_join.ensures in
     let frame = join _ _ _ _ _ _ c.in_ok-after.ensures.frame (join _ _ _ _ _ _ c.way_from-found.ensures.frame c.give_back.ensures.frame) in
-    let same = stays g.S.Home.Cells.cell_list g.S.Shape.is_in g.S.Shape.numbers g.S.Shape.function g.met.S.Shape.same_cells g.met.S.Shape.owns c.args.home.now c.give_back.new.home c.args.before.now frame c.requires.here in
+    let same = stays c.others_stay.ensures c.args.home.now c.give_back.new.home c.args.before.now frame c.requires.here in
     same.here
 
 pub returns-in-None-clause-frame : goal.returns-in-None-clause-frame
 returns-in-None-clause-frame g t c =
-    let join = then g.S.Home.Cells.cell_list g.S.Shape.is_in g.S.Shape.numbers g.S.Shape.function g.met.S.Shape.same_cells g.met.S.Shape.owns in
+    let join = c.frames_join.ensures in
     let frame = join _ _ _ _ _ _ c.in_ok-after.ensures.frame (join _ _ _ _ _ _ c.way_from-found.ensures.frame c.give_back.ensures.frame) in
-    kept g.S.Home.Cells.cell_list g.S.Shape.is_in g.S.Shape.numbers g.S.Shape.function g.met.S.Shape.same_cells g.met.S.Shape.owns c.args.home.now c.give_back.new.home c.args.before.now frame c.requires.here
+    kept c.others_stay.ensures c.args.home.now c.give_back.new.home c.args.before.now frame c.requires.here
 
 pub returns-then-place-spell-clause-sure : goal.returns-then-place-spell-clause-sure
 returns-then-place-spell-clause-sure g t c = λ most counts room enough.

@@ -10,7 +10,7 @@ use Rattle.spell_run.specs.Spells.{spell_first, HasNoDispatch, IsSpellWithin}
 use Rattle.spell_run.specs.Steps.{IsSmall}
 use Rattle.spell_run.proofs.EntryLaws.{first_from}
 use Rattle.spell_run.proofs.FairLaws.{cost_is}
-use Rattle.spell_run.proofs.FrameLaws.{then, stays, kept}
+use Rattle.spell_run.proofs.FrameLaws.{stays, kept}
 use Rattle.spell_run.proofs.FrontierLaws.{small_frontier}
 use Rattle.spell_run.proofs.PeriodLaws.{both_ok, on_chosen, on_last, found_range, onward_last, none_last, within_last, way_chosen, none_chosen}
 use Rattle.spell_run.proofs.SizeLaws.{never_both}
@@ -20,7 +20,7 @@ pub stepped-requires-clause-curve : goal.stepped-requires-clause-curve
 stepped-requires-clause-curve g c =
     let until = c.requires.until in
     let end = c.requires.spell.end in
-    cost_is (thermal_of c.args.unit.now) (prices_of c.args.prices.now) c.args.place _ _ c.step_in-step.result c.step_in-step.ensures.step c.args.unit.now.valid c.args.prices.now.valid (omega (arith, until, end)) c.args.curve.now c.requires.curve
+    cost_is (thermal_of c.args.unit.now) (prices_of c.args.prices.now) c.args.place _ _ c.step_in-step.result c.step_in-step.ensures.step c.args.unit.now.valid c.args.prices.now.valid (omega (arith, until, end)) c.args.curve.now c.requires.curve c.envelope_is_cost.ensures
 
 pub stepped-requires-clause-small : goal.stepped-requires-clause-small
 stepped-requires-clause-small g c =
@@ -31,18 +31,17 @@ stepped-requires-clause-small g c =
 
 pub returns-in_err-after-clause-frame : goal.returns-in_err-after-clause-frame
 returns-in_err-after-clause-frame g c =
-    kept g.S.Home.Cells.cell_list g.S.Shape.is_in g.S.Shape.numbers g.S.Shape.function g.met.S.Shape.same_cells g.met.S.Shape.owns
-    c.args.home.now c.stepped.new.home c.args.before.now c.in_err-after.ensures.err_frame c.requires.here
+    kept c.others_stay.ensures c.args.home.now c.stepped.new.home c.args.before.now c.in_err-after.ensures.err_frame c.requires.here
 
 pub choose-requires-clause-here : goal.choose-requires-clause-here
 choose-requires-clause-here g c =
-    let frame = then g.S.Home.Cells.cell_list g.S.Shape.is_in g.S.Shape.numbers g.S.Shape.function g.met.S.Shape.same_cells g.met.S.Shape.owns _ _ _ _ _ _ c.in_ok-after.ensures.frame c.give_back.ensures.frame in
-    (stays g.S.Home.Cells.cell_list g.S.Shape.is_in g.S.Shape.numbers g.S.Shape.function g.met.S.Shape.same_cells g.met.S.Shape.owns c.args.home.now c.give_back.new.home c.args.before.now frame c.requires.here).here
+    let frame = c.frames_join.ensures _ _ _ _ _ _ c.in_ok-after.ensures.frame c.give_back.ensures.frame in
+    (stays c.others_stay.ensures c.args.home.now c.give_back.new.home c.args.before.now frame c.requires.here).here
 
 pub choose-requires-clause-small : goal.choose-requires-clause-small
 choose-requires-clause-small g c =
-    let frame = then g.S.Home.Cells.cell_list g.S.Shape.is_in g.S.Shape.numbers g.S.Shape.function g.met.S.Shape.same_cells g.met.S.Shape.owns _ _ _ _ _ _ c.in_ok-after.ensures.frame c.give_back.ensures.frame in
-    let same = stays g.S.Home.Cells.cell_list g.S.Shape.is_in g.S.Shape.numbers g.S.Shape.function g.met.S.Shape.same_cells g.met.S.Shape.owns c.args.home.now c.give_back.new.home c.args.before.now frame c.requires.here in
+    let frame = c.frames_join.ensures _ _ _ _ _ _ c.in_ok-after.ensures.frame c.give_back.ensures.frame in
+    let same = stays c.others_stay.ensures c.args.home.now c.give_back.new.home c.args.before.now frame c.requires.here in
     let horizon = c.args.prices.now.valid.horizon.at_most in
     let until = c.requires.until in
     let end = c.requires.spell.end in
@@ -62,7 +61,7 @@ choose-requires-clause-found g c =
     let before = g.S.Shape.function c.args.home.now c.args.before.now in
     let after = g.S.Shape.function c.stepped.new.home c.in_ok-after.after in
     let step = c.step_in-step.result in
-    found_range unit prices first c.args.place last c.args.curve.now c.args.unit.now.valid c.args.prices.now.valid c.requires.curve within from step c.step_in-step.ensures.step before after c.requires.frontier c.in_ok-after.ensures.ok c.in-Some.found.power c.in-Some.found.cost c.in-Some.ensures.there
+    found_range unit prices first c.args.place last c.args.curve.now c.args.unit.now.valid c.args.prices.now.valid c.requires.curve c.envelope_is_cost.ensures within from step c.step_in-step.ensures.step before after c.requires.frontier c.in_ok-after.ensures.ok c.in-Some.found.power c.in-Some.found.cost c.in-Some.ensures.there
 
 pub returns-in-Some-clause-way : goal.returns-in-Some-clause-way
 returns-in-Some-clause-way g c =
@@ -77,19 +76,19 @@ returns-in-Some-clause-way g c =
     let before = g.S.Shape.function c.args.home.now c.args.before.now in
     let after = g.S.Shape.function c.stepped.new.home c.in_ok-after.after in
     let step = c.step_in-step.result in
-    let frame = then g.S.Home.Cells.cell_list g.S.Shape.is_in g.S.Shape.numbers g.S.Shape.function g.met.S.Shape.same_cells g.met.S.Shape.owns _ _ _ _ _ _ c.in_ok-after.ensures.frame c.give_back.ensures.frame in
-    let same = stays g.S.Home.Cells.cell_list g.S.Shape.is_in g.S.Shape.numbers g.S.Shape.function g.met.S.Shape.same_cells g.met.S.Shape.owns c.args.home.now c.give_back.new.home c.args.before.now frame c.requires.here in
+    let frame = c.frames_join.ensures _ _ _ _ _ _ c.in_ok-after.ensures.frame c.give_back.ensures.frame in
+    let same = stays c.others_stay.ensures c.args.home.now c.give_back.new.home c.args.before.now frame c.requires.here in
     let d = schedule_of c.args.into.now.response in
     let d' = schedule_of c.choose.new.into.response in
     let x = c.in-Some.found.power in
     let cost = c.in-Some.found.cost in
     let P : Table → Option Found → Type 0 = λ f best. MatchOption best (IsUnreached step f x) (λ (chosen : Found). IsChosen step f c.args.place x chosen.power d d') in
     let chosen = subst (λ (f : Table). IfOk c.choose.result (P f)) same.function_same c.choose.ensures.chosen in
-    let onward = onward_last unit prices first c.args.place last c.args.curve.now c.args.unit.now.valid c.args.prices.now.valid c.requires.curve within from step c.step_in-step.ensures.step before after c.requires.frontier c.in_ok-after.ensures.ok until d x cost c.in-Some.ensures in
+    let onward = onward_last unit prices first c.args.place last c.args.curve.now c.args.unit.now.valid c.args.prices.now.valid c.requires.curve c.envelope_is_cost.ensures within from step c.step_in-step.ensures.step before after c.requires.frontier c.in_ok-after.ensures.ok until d x cost c.in-Some.ensures in
     let low : suc c.args.place ≤ last = omega (arith, until) in
     both_ok c.choose.result (P before) (λ (best : Option Found). IfSome best (λ (found : Found). found.cost ≡ cost))
     (λ (best : Option Found). MatchOption best (HasNoDispatch unit (length prices.energy) first last) (λ (found : Found). IsWayFrom unit prices first c.args.place last before d' found.power found.cost))
-    (λ best p q. way_chosen unit prices first c.args.place last c.args.curve.now c.args.unit.now.valid c.args.prices.now.valid c.requires.curve within from step c.step_in-step.ensures.step before after c.requires.frontier c.in_ok-after.ensures.ok low d d' x cost onward best p q)
+    (λ best p q. way_chosen unit prices first c.args.place last c.args.curve.now c.args.unit.now.valid c.args.prices.now.valid c.requires.curve c.envelope_is_cost.ensures within from step c.step_in-step.ensures.step before after c.requires.frontier c.in_ok-after.ensures.ok low d d' x cost onward best p q)
     chosen c.choose.ensures.cost
 
 pub returns-in-Some-clause-within : goal.returns-in-Some-clause-within
@@ -105,7 +104,7 @@ returns-in-Some-clause-within g c =
     let before = g.S.Shape.function c.args.home.now c.args.before.now in
     let after = g.S.Shape.function c.stepped.new.home c.in_ok-after.after in
     let step = c.step_in-step.result in
-    let within_cost = within_last unit prices first c.args.place last c.args.curve.now c.args.unit.now.valid c.args.prices.now.valid c.requires.curve within from step c.step_in-step.ensures.step before after c.requires.frontier c.in_ok-after.ensures.ok until c.in-Some.found.power c.in-Some.found.cost c.in-Some.ensures in
+    let within_cost = within_last unit prices first c.args.place last c.args.curve.now c.args.unit.now.valid c.args.prices.now.valid c.requires.curve c.envelope_is_cost.ensures within from step c.step_in-step.ensures.step before after c.requires.frontier c.in_ok-after.ensures.ok until c.in-Some.found.power c.in-Some.found.cost c.in-Some.ensures in
     IfOk-weaker c.choose.result (λ (best : Option Found). IfSome best (λ (found : Found). found.cost ≡ c.in-Some.found.cost)) (λ (best : Option Found). IfSome best (λ (found : Found). IsSpellWithin first last found.cost))
     (λ best e. IfSome_then best e (λ found is. subst (λ (z : ℤ). IsSpellWithin first last z) (sym is) within_cost))
     c.choose.ensures.cost
@@ -123,8 +122,8 @@ returns-in-Some-clause-on g c =
     let before = g.S.Shape.function c.args.home.now c.args.before.now in
     let after = g.S.Shape.function c.stepped.new.home c.in_ok-after.after in
     let step = c.step_in-step.result in
-    let frame = then g.S.Home.Cells.cell_list g.S.Shape.is_in g.S.Shape.numbers g.S.Shape.function g.met.S.Shape.same_cells g.met.S.Shape.owns _ _ _ _ _ _ c.in_ok-after.ensures.frame c.give_back.ensures.frame in
-    let same = stays g.S.Home.Cells.cell_list g.S.Shape.is_in g.S.Shape.numbers g.S.Shape.function g.met.S.Shape.same_cells g.met.S.Shape.owns c.args.home.now c.give_back.new.home c.args.before.now frame c.requires.here in
+    let frame = c.frames_join.ensures _ _ _ _ _ _ c.in_ok-after.ensures.frame c.give_back.ensures.frame in
+    let same = stays c.others_stay.ensures c.args.home.now c.give_back.new.home c.args.before.now frame c.requires.here in
     let d = schedule_of c.args.into.now.response in
     let d' = schedule_of c.choose.new.into.response in
     let x = c.in-Some.found.power in
@@ -148,25 +147,25 @@ returns-in-Some-clause-none g c =
     let before = g.S.Shape.function c.args.home.now c.args.before.now in
     let after = g.S.Shape.function c.stepped.new.home c.in_ok-after.after in
     let step = c.step_in-step.result in
-    let frame = then g.S.Home.Cells.cell_list g.S.Shape.is_in g.S.Shape.numbers g.S.Shape.function g.met.S.Shape.same_cells g.met.S.Shape.owns _ _ _ _ _ _ c.in_ok-after.ensures.frame c.give_back.ensures.frame in
-    let same = stays g.S.Home.Cells.cell_list g.S.Shape.is_in g.S.Shape.numbers g.S.Shape.function g.met.S.Shape.same_cells g.met.S.Shape.owns c.args.home.now c.give_back.new.home c.args.before.now frame c.requires.here in
+    let frame = c.frames_join.ensures _ _ _ _ _ _ c.in_ok-after.ensures.frame c.give_back.ensures.frame in
+    let same = stays c.others_stay.ensures c.args.home.now c.give_back.new.home c.args.before.now frame c.requires.here in
     let d = schedule_of c.args.into.now.response in
     let d' = schedule_of c.choose.new.into.response in
     let x = c.in-Some.found.power in
     let cost = c.in-Some.found.cost in
     let P : Table → Option Found → Type 0 = λ f best. MatchOption best (IsUnreached step f x) (λ (chosen : Found). IsChosen step f c.args.place x chosen.power d d') in
     let chosen = subst (λ (f : Table). IfOk c.choose.result (P f)) same.function_same c.choose.ensures.chosen in
-    let onward = onward_last unit prices first c.args.place last c.args.curve.now c.args.unit.now.valid c.args.prices.now.valid c.requires.curve within from step c.step_in-step.ensures.step before after c.requires.frontier c.in_ok-after.ensures.ok until d x cost c.in-Some.ensures in
+    let onward = onward_last unit prices first c.args.place last c.args.curve.now c.args.unit.now.valid c.args.prices.now.valid c.requires.curve c.envelope_is_cost.ensures within from step c.step_in-step.ensures.step before after c.requires.frontier c.in_ok-after.ensures.ok until d x cost c.in-Some.ensures in
     let low : suc c.args.place ≤ last = omega (arith, until) in
     IfOk-weaker c.choose.result (P before) (λ (best : Option Found). best ≡ None → d' ≡ d)
-    (λ best p e. none_chosen unit prices first c.args.place last c.args.curve.now c.args.unit.now.valid c.args.prices.now.valid c.requires.curve within from step c.step_in-step.ensures.step before after c.requires.frontier c.in_ok-after.ensures.ok low d d' x cost onward best (d' ≡ d) p e)
+    (λ best p e. none_chosen unit prices first c.args.place last c.args.curve.now c.args.unit.now.valid c.args.prices.now.valid c.requires.curve c.envelope_is_cost.ensures within from step c.step_in-step.ensures.step before after c.requires.frontier c.in_ok-after.ensures.ok low d d' x cost onward best (d' ≡ d) p e)
     chosen
 
 pub returns-in-Some-clause-frame : goal.returns-in-Some-clause-frame
 returns-in-Some-clause-frame g c =
-    let frame = then g.S.Home.Cells.cell_list g.S.Shape.is_in g.S.Shape.numbers g.S.Shape.function g.met.S.Shape.same_cells g.met.S.Shape.owns _ _ _ _ _ _ c.in_ok-after.ensures.frame c.give_back.ensures.frame in
-    let rest = kept g.S.Home.Cells.cell_list g.S.Shape.is_in g.S.Shape.numbers g.S.Shape.function g.met.S.Shape.same_cells g.met.S.Shape.owns c.args.home.now c.give_back.new.home c.args.before.now frame c.requires.here in
-    then g.S.Home.Cells.cell_list g.S.Shape.is_in g.S.Shape.numbers g.S.Shape.function g.met.S.Shape.same_cells g.met.S.Shape.owns _ _ _ _ _ _ rest c.choose.ensures.frame
+    let frame = c.frames_join.ensures _ _ _ _ _ _ c.in_ok-after.ensures.frame c.give_back.ensures.frame in
+    let rest = kept c.others_stay.ensures c.args.home.now c.give_back.new.home c.args.before.now frame c.requires.here in
+    c.frames_join.ensures _ _ _ _ _ _ rest c.choose.ensures.frame
 
 pub returns-in-None-clause-way : goal.returns-in-None-clause-way
 returns-in-None-clause-way g c =
@@ -181,17 +180,17 @@ returns-in-None-clause-way g c =
     let before = g.S.Shape.function c.args.home.now c.args.before.now in
     let after = g.S.Shape.function c.stepped.new.home c.in_ok-after.after in
     let step = c.step_in-step.result in
-    none_last unit prices first c.args.place last c.args.curve.now c.args.unit.now.valid c.args.prices.now.valid c.requires.curve within from step c.step_in-step.ensures.step before after c.requires.frontier c.in_ok-after.ensures.ok until c.in-None.ensures
+    none_last unit prices first c.args.place last c.args.curve.now c.args.unit.now.valid c.args.prices.now.valid c.requires.curve c.envelope_is_cost.ensures within from step c.step_in-step.ensures.step before after c.requires.frontier c.in_ok-after.ensures.ok until c.in-None.ensures
 
 pub returns-in-None-clause-here : goal.returns-in-None-clause-here
 returns-in-None-clause-here g c =
-    let frame = then g.S.Home.Cells.cell_list g.S.Shape.is_in g.S.Shape.numbers g.S.Shape.function g.met.S.Shape.same_cells g.met.S.Shape.owns _ _ _ _ _ _ c.in_ok-after.ensures.frame c.give_back.ensures.frame in
-    (stays g.S.Home.Cells.cell_list g.S.Shape.is_in g.S.Shape.numbers g.S.Shape.function g.met.S.Shape.same_cells g.met.S.Shape.owns c.args.home.now c.give_back.new.home c.args.before.now frame c.requires.here).here
+    let frame = c.frames_join.ensures _ _ _ _ _ _ c.in_ok-after.ensures.frame c.give_back.ensures.frame in
+    (stays c.others_stay.ensures c.args.home.now c.give_back.new.home c.args.before.now frame c.requires.here).here
 
 pub returns-in-None-clause-frame : goal.returns-in-None-clause-frame
 returns-in-None-clause-frame g c =
-    let frame = then g.S.Home.Cells.cell_list g.S.Shape.is_in g.S.Shape.numbers g.S.Shape.function g.met.S.Shape.same_cells g.met.S.Shape.owns _ _ _ _ _ _ c.in_ok-after.ensures.frame c.give_back.ensures.frame in
-    kept g.S.Home.Cells.cell_list g.S.Shape.is_in g.S.Shape.numbers g.S.Shape.function g.met.S.Shape.same_cells g.met.S.Shape.owns c.args.home.now c.give_back.new.home c.args.before.now frame c.requires.here
+    let frame = c.frames_join.ensures _ _ _ _ _ _ c.in_ok-after.ensures.frame c.give_back.ensures.frame in
+    kept c.others_stay.ensures c.args.home.now c.give_back.new.home c.args.before.now frame c.requires.here
 
 pub returns-in_err-after-clause-sure : goal.returns-in_err-after-clause-sure
 returns-in_err-after-clause-sure g c = λ counts enough. absurd (never_both c.stepped.result _ c.in_err-after.was (c.stepped.ensures.sure counts enough))

@@ -5,7 +5,6 @@ use Rattle.uc_model.specs.PlainUnits.{thermal_of, prices_of, schedule_of}
 use Rattle.spell_run.specs.declared.best.Found.{Found}
 use Rattle.spell_run.specs.Frontier.{IsWayFrom}
 use Rattle.spell_run.specs.Spells.{spell_first, HasNoDispatch, IsBestDispatch, IsFirstDispatch}
-use Rattle.spell_run.proofs.FrameLaws.{then}
 use Rattle.spell_run.proofs.FrontierLaws.{frontier_begin}
 use Rattle.spell_run.proofs.SizeLaws.{never_both, charge_of, costs_fit, way_most, way_fits}
 use Rattle.spell_run.proofs.TieLaws.{whole_of}
@@ -17,7 +16,7 @@ way_from-found-requires-clause-frontier g c =
 
 pub returns-in_err-found-clause-frame : goal.returns-in_err-found-clause-frame
 returns-in_err-found-clause-frame g c =
-    let join = then g.S.Home.Cells.cell_list g.S.Shape.is_in g.S.Shape.numbers g.S.Shape.function g.met.S.Shape.same_cells g.met.S.Shape.owns in
+    let join = c.frames_join.ensures in
     join _ _ _ _ _ _ c.in_ok-start.ensures.frame (join _ _ _ _ _ _ c.way_from-found.ensures.frame c.give_back.ensures.frame)
 
 pub returns-in-Some-clause-least : goal.returns-in-Some-clause-least
@@ -48,12 +47,12 @@ returns-in-Some-clause-first g c =
 
 pub returns-in-Some-clause-frame : goal.returns-in-Some-clause-frame
 returns-in-Some-clause-frame g c =
-    let join = then g.S.Home.Cells.cell_list g.S.Shape.is_in g.S.Shape.numbers g.S.Shape.function g.met.S.Shape.same_cells g.met.S.Shape.owns in
+    let join = c.frames_join.ensures in
     join _ _ _ _ _ _ c.in_ok-start.ensures.frame (join _ _ _ _ _ _ c.way_from-found.ensures.frame c.give_back.ensures.frame)
 
 pub returns-in-None-clause-frame : goal.returns-in-None-clause-frame
 returns-in-None-clause-frame g c =
-    let join = then g.S.Home.Cells.cell_list g.S.Shape.is_in g.S.Shape.numbers g.S.Shape.function g.met.S.Shape.same_cells g.met.S.Shape.owns in
+    let join = c.frames_join.ensures in
     join _ _ _ _ _ _ c.in_ok-start.ensures.frame (join _ _ _ _ _ _ c.way_from-found.ensures.frame c.give_back.ensures.frame)
 
 pub returns-in_err-start-clause-enough : goal.returns-in_err-start-clause-enough

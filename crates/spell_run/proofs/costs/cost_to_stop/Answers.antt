@@ -1,7 +1,6 @@
 use Rattle.std.proofs.Common.{true, suc, Option, ℤ, length, sym, arith, IfSome, ◌<◌}
 use Rattle.std.proofs.lemmas.Bool.{lt-ltb}
 use Rattle.std.proofs.lemmas.Result.{IfOk-weaker}
-use Rattle.cost_curve.proofs.EnvelopeValues.{envelope_is_cost}
 use Rattle.shape_law.specs.Table.{Table}
 use Rattle.uc_model.specs.PlainUnits.{thermal_of, prices_of}
 use Rattle.spell_run.specs.Spells.{spell_first, IsSpellAnswer, IsSpellWithin}
@@ -13,7 +12,7 @@ use Rattle.spell_run.proofs.costs.cost_to_stop.Goals as goal
 pub cost_after-requires-clause-curve : goal.cost_after-requires-clause-curve
 cost_after-requires-clause-curve g c =
     let place = c.requires.place in
-    cost_is (thermal_of c.args.unit.now) (prices_of c.args.prices.now) c.args.place c.starts_at-starts.result true c.step_of.result c.step_of.ensures.step c.args.unit.now.valid c.args.prices.now.valid (omega (arith, place)) c.args.curve.now c.requires.curve
+    cost_is (thermal_of c.args.unit.now) (prices_of c.args.prices.now) c.args.place c.starts_at-starts.result true c.step_of.result c.step_of.ensures.step c.args.unit.now.valid c.args.prices.now.valid (omega (arith, place)) c.args.curve.now c.requires.curve c.envelope_is_cost.ensures
 
 pub cost_after-requires-clause-small : goal.cost_after-requires-clause-small
 cost_after-requires-clause-small g c =
@@ -32,7 +31,7 @@ returns-clause-answer g c =
     IfOk-weaker c.cost_after.result (λ (cost : Option ℤ). (after : Table) × IsStepped c.step_of.result c.args.curve.now before after × IsLeastCost after cost)
     (IsSpellAnswer unit prices (length prices.energy) first (suc c.args.place))
     (λ cost found.
-    (answer_of_step unit prices first c.args.place c.args.curve.now c.args.unit.now.valid c.args.prices.now.valid c.requires.curve envelope_is_cost within c.requires.order before found.0 c.requires.frontier true
+    (answer_of_step unit prices first c.args.place c.args.curve.now c.args.unit.now.valid c.args.prices.now.valid c.requires.curve c.envelope_is_cost.ensures within c.requires.order before found.0 c.requires.frontier true
     (sym (lt-ltb (suc c.args.place) (length prices.energy) place))
     (step_moved unit prices c.args.place c.starts_at-starts.result _ true c.step_of.result c.args.curve.now before found.0 c.step_of.ensures.step c.starts_at-starts.ensures found.1) cost found.2).0)
     c.cost_after.ensures.ok
@@ -48,7 +47,7 @@ returns-clause-within g c =
     IfOk-weaker c.cost_after.result (λ (cost : Option ℤ). (after : Table) × IsStepped c.step_of.result c.args.curve.now before after × IsLeastCost after cost)
     (λ (cost : Option ℤ). IfSome cost (IsSpellWithin first (suc c.args.place)))
     (λ cost found.
-    (answer_of_step unit prices first c.args.place c.args.curve.now c.args.unit.now.valid c.args.prices.now.valid c.requires.curve envelope_is_cost within c.requires.order before found.0 c.requires.frontier true
+    (answer_of_step unit prices first c.args.place c.args.curve.now c.args.unit.now.valid c.args.prices.now.valid c.requires.curve c.envelope_is_cost.ensures within c.requires.order before found.0 c.requires.frontier true
     (sym (lt-ltb (suc c.args.place) (length prices.energy) place))
     (step_moved unit prices c.args.place c.starts_at-starts.result _ true c.step_of.result c.args.curve.now before found.0 c.step_of.ensures.step c.starts_at-starts.ensures found.1) cost found.2).1)
     c.cost_after.ensures.ok

@@ -3,13 +3,12 @@ use Rattle.uc_model.specs.PlainUnits.{thermal_of, prices_of}
 use Rattle.spell_run.specs.Frontier.{IsFrontier}
 use Rattle.spell_run.specs.Spells.{spell_first, IsSpellAnswer, IsSpellWithin}
 use Rattle.spell_run.proofs.EntryLaws.{entry_other, entries_more}
-use Rattle.spell_run.proofs.FrameLaws.{then}
 use Rattle.spell_run.proofs.SizeLaws.{never_both, one_more}
 use Rattle.spell_run.proofs.costs.fill.Goals as goal
 
 pub returns-in_err-cost-clause-frame : goal.returns-in_err-cost-clause-frame
 returns-in_err-cost-clause-frame g c =
-    then g.S.Home.Cells.cell_list g.S.Shape.is_in g.S.Shape.numbers g.S.Shape.function g.met.S.Shape.same_cells g.met.S.Shape.owns _ _ _ _ _ _ c.loop-place.invariant.frame c.pass.ensures.frame
+    c.frames_join.ensures _ _ _ _ _ _ c.loop-place.invariant.frame c.pass.ensures.frame
 
 pub loop-place-preserved : goal.loop-place-preserved
 loop-place-preserved g c =
@@ -32,7 +31,7 @@ loop-place-preserved g c =
           let ne : k ≢ place = λ z. elim out [ inl low ↦ absurd (omega (arith, low, z)) | inr high ↦ absurd (omega (arith, high, z, within)) ] in
           entry_other entries c.set.new.self.items place c.in_ok-cost.cost c.set.ensures.items k ne ∙ c.loop-place.invariant.others k out;
       same_length = ap length c.set.ensures.items ∙ length-set entries place c.in_ok-cost.cost ∙ same;
-      frame = then g.S.Home.Cells.cell_list g.S.Shape.is_in g.S.Shape.numbers g.S.Shape.function g.met.S.Shape.same_cells g.met.S.Shape.owns _ _ _ _ _ _ c.loop-place.invariant.frame c.pass.ensures.frame;
+      frame = c.frames_join.ensures _ _ _ _ _ _ c.loop-place.invariant.frame c.pass.ensures.frame;
       balance = λ counts. omega (arith, c.pass.ensures.balance.sum counts, c.loop-place.invariant.balance counts);
       most = λ counts. omega (arith, c.pass.ensures.balance.most counts, c.loop-place.invariant.most counts);
     }

@@ -1,24 +1,23 @@
 use Rattle.std.proofs.Common.{◌≡◌, suc, eqb, ◌<◌, length, sym, subst, arith}
-use Rattle.cost_curve.proofs.EnvelopeValues.{envelope_is_cost}
 use Rattle.shape_law.specs.Table.{Table}
 use Rattle.uc_model.specs.PlainUnits.{thermal_of, prices_of}
 use Rattle.spell_run.specs.Frontier.{IsFrontier}
 use Rattle.spell_run.specs.Spells.{spell_first}
 use Rattle.spell_run.proofs.FairLaws.{alike_of, range_of}
-use Rattle.spell_run.proofs.FrameLaws.{then, stays, kept}
+use Rattle.spell_run.proofs.FrameLaws.{stays, kept}
 use Rattle.spell_run.proofs.FrontierLaws.{answer_at_end, answer_alike}
 use Rattle.spell_run.proofs.costs.pass.Goals as goal
 
 pub returns-then-place-len-clause-answer : goal.returns-then-place-len-clause-answer
 returns-then-place-len-clause-answer g c =
     let end : suc c.args.place ≡ length c.args.prices.now.energy.items = omega arith in
-    (answer_at_end (thermal_of c.args.unit.now) (prices_of c.args.prices.now) (spell_first c.args.started c.args.first) c.args.place c.args.curve.now c.args.unit.now.valid c.args.prices.now.valid c.requires.curve envelope_is_cost c.requires.place c.requires.order
+    (answer_at_end (thermal_of c.args.unit.now) (prices_of c.args.prices.now) (spell_first c.args.started c.args.first) c.args.place c.args.curve.now c.args.unit.now.valid c.args.prices.now.valid c.requires.curve c.envelope_is_cost.ensures c.requires.place c.requires.order
     (g.S.Shape.function c.run_on.new.home c.run_on.new.running) c.in_ok-run_on.ensures.ok end c.least_cost.result c.least_cost.ensures).0
 
 pub returns-then-place-len-clause-within : goal.returns-then-place-len-clause-within
 returns-then-place-len-clause-within g c =
     let end : suc c.args.place ≡ length c.args.prices.now.energy.items = omega arith in
-    (answer_at_end (thermal_of c.args.unit.now) (prices_of c.args.prices.now) (spell_first c.args.started c.args.first) c.args.place c.args.curve.now c.args.unit.now.valid c.args.prices.now.valid c.requires.curve envelope_is_cost c.requires.place c.requires.order
+    (answer_at_end (thermal_of c.args.unit.now) (prices_of c.args.prices.now) (spell_first c.args.started c.args.first) c.args.place c.args.curve.now c.args.unit.now.valid c.args.prices.now.valid c.requires.curve c.envelope_is_cost.ensures c.requires.place c.requires.order
     (g.S.Shape.function c.run_on.new.home c.run_on.new.running) c.in_ok-run_on.ensures.ok end c.least_cost.result c.least_cost.ensures).1
 
 pub returns-then-is_alike-clause-answer : goal.returns-then-is_alike-clause-answer
@@ -32,7 +31,7 @@ returns-then-is_alike-clause-answer g c =
     let starts = c.starts_at-starts.result in
     let alike = alike_of unit prices place starts (eqb first (suc place)) c.step_of-last.result c.step_of-last.ensures.step c.starts_at-starts.ensures c.step_of-on.result c.step_of-on.ensures.step c.if-is_alike.ensures in
     let least = range_of unit prices place starts (eqb first (suc place)) c.step_of-last.result c.step_of-last.ensures.step c.starts_at-starts.ensures c.step_of-last.ensures.fair after c.least_cost_in.result c.least_cost_in.ensures in
-    (answer_alike unit prices first place c.args.curve.now c.args.unit.now.valid c.args.prices.now.valid c.requires.curve envelope_is_cost c.requires.place c.requires.order after c.in_ok-run_on-2.ensures.ok before alike c.least_cost_in.result least).0
+    (answer_alike unit prices first place c.args.curve.now c.args.unit.now.valid c.args.prices.now.valid c.requires.curve c.envelope_is_cost.ensures c.requires.place c.requires.order after c.in_ok-run_on-2.ensures.ok before alike c.least_cost_in.result least).0
 
 pub returns-then-is_alike-clause-within : goal.returns-then-is_alike-clause-within
 returns-then-is_alike-clause-within g c =
@@ -45,27 +44,23 @@ returns-then-is_alike-clause-within g c =
     let starts = c.starts_at-starts.result in
     let alike = alike_of unit prices place starts (eqb first (suc place)) c.step_of-last.result c.step_of-last.ensures.step c.starts_at-starts.ensures c.step_of-on.result c.step_of-on.ensures.step c.if-is_alike.ensures in
     let least = range_of unit prices place starts (eqb first (suc place)) c.step_of-last.result c.step_of-last.ensures.step c.starts_at-starts.ensures c.step_of-last.ensures.fair after c.least_cost_in.result c.least_cost_in.ensures in
-    (answer_alike unit prices first place c.args.curve.now c.args.unit.now.valid c.args.prices.now.valid c.requires.curve envelope_is_cost c.requires.place c.requires.order after c.in_ok-run_on-2.ensures.ok before alike c.least_cost_in.result least).1
+    (answer_alike unit prices first place c.args.curve.now c.args.unit.now.valid c.args.prices.now.valid c.requires.curve c.envelope_is_cost.ensures c.requires.place c.requires.order after c.in_ok-run_on-2.ensures.ok before alike c.least_cost_in.result least).1
 
 pub returns-in_err-cost-clause-frame : goal.returns-in_err-cost-clause-frame
 returns-in_err-cost-clause-frame g c =
-    kept g.S.Home.Cells.cell_list g.S.Shape.is_in g.S.Shape.numbers g.S.Shape.function g.met.S.Shape.same_cells g.met.S.Shape.owns
-    c.args.home.now c.cost_to_stop.new.home c.args.running.now c.cost_to_stop.ensures.frame c.requires.here
+    kept c.others_stay.ensures c.args.home.now c.cost_to_stop.new.home c.args.running.now c.cost_to_stop.ensures.frame c.requires.here
 
 pub run_on-requires-2-clause-frontier : goal.run_on-requires-2-clause-frontier
 run_on-requires-2-clause-frontier g c =
-    let same = stays g.S.Home.Cells.cell_list g.S.Shape.is_in g.S.Shape.numbers g.S.Shape.function g.met.S.Shape.same_cells g.met.S.Shape.owns
-    c.args.home.now c.cost_to_stop.new.home c.args.running.now c.cost_to_stop.ensures.frame c.requires.here in
+    let same = stays c.others_stay.ensures c.args.home.now c.cost_to_stop.new.home c.args.running.now c.cost_to_stop.ensures.frame c.requires.here in
     subst (λ (f : Table). IsFrontier (thermal_of c.args.unit.now) (prices_of c.args.prices.now) (spell_first c.args.started c.args.first) c.args.place f) (sym same.function_same) c.requires.frontier
 
 pub returns-in_err-run_on-3-clause-frame : goal.returns-in_err-run_on-3-clause-frame
 returns-in_err-run_on-3-clause-frame g c =
-    let rest = kept g.S.Home.Cells.cell_list g.S.Shape.is_in g.S.Shape.numbers g.S.Shape.function g.met.S.Shape.same_cells g.met.S.Shape.owns
-    c.args.home.now c.cost_to_stop.new.home c.args.running.now c.cost_to_stop.ensures.frame c.requires.here in
-    then g.S.Home.Cells.cell_list g.S.Shape.is_in g.S.Shape.numbers g.S.Shape.function g.met.S.Shape.same_cells g.met.S.Shape.owns _ _ _ _ _ _ rest c.run_on-2.ensures.frame
+    let rest = kept c.others_stay.ensures c.args.home.now c.cost_to_stop.new.home c.args.running.now c.cost_to_stop.ensures.frame c.requires.here in
+    c.frames_join.ensures _ _ _ _ _ _ rest c.run_on-2.ensures.frame
 
 pub returns-clause-frame : goal.returns-clause-frame
 returns-clause-frame g c =
-    let rest = kept g.S.Home.Cells.cell_list g.S.Shape.is_in g.S.Shape.numbers g.S.Shape.function g.met.S.Shape.same_cells g.met.S.Shape.owns
-    c.args.home.now c.cost_to_stop.new.home c.args.running.now c.cost_to_stop.ensures.frame c.requires.here in
-    then g.S.Home.Cells.cell_list g.S.Shape.is_in g.S.Shape.numbers g.S.Shape.function g.met.S.Shape.same_cells g.met.S.Shape.owns _ _ _ _ _ _ rest c.run_on-2.ensures.frame
+    let rest = kept c.others_stay.ensures c.args.home.now c.cost_to_stop.new.home c.args.running.now c.cost_to_stop.ensures.frame c.requires.here in
+    c.frames_join.ensures _ _ _ _ _ _ rest c.run_on-2.ensures.frame

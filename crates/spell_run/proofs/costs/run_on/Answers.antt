@@ -1,6 +1,5 @@
 use Rattle.std.proofs.Common.{false, suc, arith}
 use Rattle.std.proofs.lemmas.Result.{on_ok_weaker}
-use Rattle.cost_curve.proofs.EnvelopeValues.{envelope_is_cost}
 use Rattle.uc_model.specs.PlainUnits.{thermal_of, prices_of}
 use Rattle.spell_run.specs.Frontier.{IsFrontier}
 use Rattle.spell_run.specs.Spells.{spell_first}
@@ -10,7 +9,7 @@ use Rattle.spell_run.proofs.costs.run_on.Goals as goal
 
 pub take_step-requires-clause-curve : goal.take_step-requires-clause-curve
 take_step-requires-clause-curve g c =
-    cost_is (thermal_of c.args.unit.now) (prices_of c.args.prices.now) c.args.place c.starts_at-starts.result false c.step_of.result c.step_of.ensures.step c.args.unit.now.valid c.args.prices.now.valid c.requires.place c.args.curve.now c.requires.curve
+    cost_is (thermal_of c.args.unit.now) (prices_of c.args.prices.now) c.args.place c.starts_at-starts.result false c.step_of.result c.step_of.ensures.step c.args.unit.now.valid c.args.prices.now.valid c.requires.place c.args.curve.now c.requires.curve c.envelope_is_cost.ensures
 
 pub take_step-requires-clause-small : goal.take_step-requires-clause-small
 take_step-requires-clause-small g c =
@@ -27,6 +26,6 @@ returns-clause-ok g c =
     let after = g.S.Shape.function c.take_step.new.home c.take_step.new.shape in
     on_ok_weaker {Q = IsFrontier unit prices first (suc c.args.place) after} _
     (λ step.
-    frontier_more unit prices first c.args.place c.args.curve.now c.args.unit.now.valid c.args.prices.now.valid c.requires.curve envelope_is_cost c.requires.place c.requires.order before after c.requires.frontier
+    frontier_more unit prices first c.args.place c.args.curve.now c.args.unit.now.valid c.args.prices.now.valid c.requires.curve c.envelope_is_cost.ensures c.requires.place c.requires.order before after c.requires.frontier
     (step_moved unit prices c.args.place c.starts_at-starts.result _ false c.step_of.result c.args.curve.now before after c.step_of.ensures.step c.starts_at-starts.ensures step))
     c.take_step.ensures.ok

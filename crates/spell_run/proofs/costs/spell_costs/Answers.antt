@@ -4,7 +4,6 @@ use Rattle.uc_model.specs.PlainUnits.{thermal_of, prices_of}
 use Rattle.spell_run.specs.Entries.{entry_of}
 use Rattle.spell_run.specs.Spells.{spell_first, IsSpellAnswer, IsSpellWithin}
 use Rattle.spell_run.proofs.EntryLaws.{entries_by_last, entries_before, entries_past}
-use Rattle.spell_run.proofs.FrameLaws.{then}
 use Rattle.spell_run.proofs.FrontierLaws.{frontier_begin}
 use Rattle.spell_run.proofs.SizeLaws.{never_both, charge_of, costs_fit}
 use Rattle.spell_run.proofs.costs.spell_costs.Goals as goal
@@ -35,7 +34,7 @@ returns-clause-within g c =
 
 pub returns-clause-frame : goal.returns-clause-frame
 returns-clause-frame g c =
-    let join = then g.S.Home.Cells.cell_list g.S.Shape.is_in g.S.Shape.numbers g.S.Shape.function g.met.S.Shape.same_cells g.met.S.Shape.owns in
+    let join = c.frames_join.ensures in
     join _ _ _ _ _ _ c.in_ok-running.ensures.frame (join _ _ _ _ _ _ c.fill-filled.ensures.frame c.give_back.ensures.frame)
 
 pub returns-in_err-running-clause-enough : goal.returns-in_err-running-clause-enough

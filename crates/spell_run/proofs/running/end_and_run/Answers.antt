@@ -2,7 +2,6 @@ use Rattle.std.proofs.Common.{rules, ◌≡◌, pos, suc, true, eqb, ◌<◌, le
 use Rattle.std.specs.Prelude.{MatchOption}
 use Rattle.std.proofs.lemmas.Bool.{lt-ltb}
 use Rattle.std.proofs.lemmas.Int.{to_z-of_z}
-use Rattle.cost_curve.proofs.EnvelopeValues.{envelope_is_cost}
 use Rattle.shape_law.specs.Effect.{IsLeast, IsLeastIn}
 use Rattle.shape_law.specs.Table.{Table, value_of, IsEmpty, HasNone}
 use Rattle.shape_law.specs.declared.step.Step.{Step}
@@ -25,7 +24,7 @@ returns-then-place-len-clause-answer g c =
     let f = g.R.Running.function c.args.running.now in
     let h = g.R.Running.function c.run_over-note.new.running in
     let end : suc c.args.place ≡ length c.args.prices.now.energy.items = omega arith in
-    (answer_at_end unit prices first place c.args.curve.now c.args.unit.now.valid c.args.prices.now.valid c.requires.curve envelope_is_cost c.requires.place c.requires.order
+    (answer_at_end unit prices first place c.args.curve.now c.args.unit.now.valid c.args.prices.now.valid c.requires.curve c.envelope_is_cost.ensures c.requires.place c.requires.order
     h c.run_over-note.ensures.frontier end (end_cost c.lowest_at-end.result) (end_least h c.least.result _ c.lowest_at-end.result c.least.ensures (c.lowest_at-end.ensures.none, c.lowest_at-end.ensures.some))).0
 
 pub returns-then-place-len-clause-within : goal.returns-then-place-len-clause-within
@@ -38,7 +37,7 @@ returns-then-place-len-clause-within g c =
     let h = g.R.Running.function c.run_over-note.new.running in
     let end : suc c.args.place ≡ length c.args.prices.now.energy.items = omega arith in
     end_within first (suc place) c.lowest_at-end.result
-    (answer_at_end unit prices first place c.args.curve.now c.args.unit.now.valid c.args.prices.now.valid c.requires.curve envelope_is_cost c.requires.place c.requires.order
+    (answer_at_end unit prices first place c.args.curve.now c.args.unit.now.valid c.args.prices.now.valid c.requires.curve c.envelope_is_cost.ensures c.requires.place c.requires.order
     h c.run_over-note.ensures.frontier end (end_cost c.lowest_at-end.result) (end_least h c.least.result _ c.lowest_at-end.result c.least.ensures (c.lowest_at-end.ensures.none, c.lowest_at-end.ensures.some))).1
 
 pub returns-then-place-len-clause-ended : goal.returns-then-place-len-clause-ended
@@ -67,7 +66,7 @@ returns-then-is_alike-clause-answer g c =
     let alike = alike_of unit prices place starts (eqb first (suc place)) c.step_of-last.result c.step_of-last.ensures.step c.starts_in-starts.ensures c.step_of-on.result c.step_of-on.ensures.step c.if-is_alike.ensures in
     let least = range_moved unit prices place starts (eqb first (suc place)) c.step_of-last.result c.step_of-last.ensures.step c.starts_in-starts.ensures c.step_of-last.ensures.fair
     (λ lo hi. MatchOption c.least_in.result (HasNone lo hi h) (λ r. IsLeastIn lo hi h r.value r.at)) c.least_in.ensures in
-    (answer_alike unit prices first place c.args.curve.now c.args.unit.now.valid c.args.prices.now.valid c.requires.curve envelope_is_cost c.requires.place c.requires.order h c.run_over-note-then-is_alike.ensures.frontier before alike
+    (answer_alike unit prices first place c.args.curve.now c.args.unit.now.valid c.args.prices.now.valid c.requires.curve c.envelope_is_cost.ensures c.requires.place c.requires.order h c.run_over-note-then-is_alike.ensures.frontier before alike
     (end_cost c.lowest_at-end-then-is_alike.result)
     (end_least_in unit.min_power (step_at unit prices place (eqb first (suc place)) true).most h c.least_in.result _ c.lowest_at-end-then-is_alike.result least (c.lowest_at-end-then-is_alike.ensures.none, c.lowest_at-end-then-is_alike.ensures.some))).0
 
@@ -85,7 +84,7 @@ returns-then-is_alike-clause-within g c =
     let least = range_moved unit prices place starts (eqb first (suc place)) c.step_of-last.result c.step_of-last.ensures.step c.starts_in-starts.ensures c.step_of-last.ensures.fair
     (λ lo hi. MatchOption c.least_in.result (HasNone lo hi h) (λ r. IsLeastIn lo hi h r.value r.at)) c.least_in.ensures in
     end_within first (suc place) c.lowest_at-end-then-is_alike.result
-    (answer_alike unit prices first place c.args.curve.now c.args.unit.now.valid c.args.prices.now.valid c.requires.curve envelope_is_cost c.requires.place c.requires.order h c.run_over-note-then-is_alike.ensures.frontier before alike
+    (answer_alike unit prices first place c.args.curve.now c.args.unit.now.valid c.args.prices.now.valid c.requires.curve c.envelope_is_cost.ensures c.requires.place c.requires.order h c.run_over-note-then-is_alike.ensures.frontier before alike
     (end_cost c.lowest_at-end-then-is_alike.result)
     (end_least_in unit.min_power (step_at unit prices place (eqb first (suc place)) true).most h c.least_in.result _ c.lowest_at-end-then-is_alike.result least (c.lowest_at-end-then-is_alike.ensures.none, c.lowest_at-end-then-is_alike.ensures.some))).1
 
@@ -110,7 +109,7 @@ returns-then-is_alike-clause-ended g c =
 
 pub least_after-end-requires-clause-curve : goal.least_after-end-requires-clause-curve
 least_after-end-requires-clause-curve g c =
-    cost_is (thermal_of c.args.unit.now) (prices_of c.args.prices.now) c.args.place c.starts_in-starts.result true c.step_of-last.result c.step_of-last.ensures.step c.args.unit.now.valid c.args.prices.now.valid c.requires.place c.args.curve.now c.requires.curve
+    cost_is (thermal_of c.args.unit.now) (prices_of c.args.prices.now) c.args.place c.starts_in-starts.result true c.step_of-last.result c.step_of-last.ensures.step c.args.unit.now.valid c.args.prices.now.valid c.requires.place c.args.curve.now c.requires.curve c.envelope_is_cost.ensures
 
 pub least_after-end-requires-clause-small : goal.least_after-end-requires-clause-small
 least_after-end-requires-clause-small g c =
@@ -131,7 +130,7 @@ returns-clause-answer g c =
     let f = g.R.Running.function c.args.running.now in
     let before : suc place < length c.args.prices.now.energy.items = (let low = c.requires.place in omega (arith, low)) in
     let found = c.least_after-end.ensures.least in
-    (answer_of_step unit prices first place c.args.curve.now c.args.unit.now.valid c.args.prices.now.valid c.requires.curve envelope_is_cost c.requires.place c.requires.order f found.0 c.requires.frontier true
+    (answer_of_step unit prices first place c.args.curve.now c.args.unit.now.valid c.args.prices.now.valid c.requires.curve c.envelope_is_cost.ensures c.requires.place c.requires.order f found.0 c.requires.frontier true
     (sym (lt-ltb (suc place) (length prices.energy) before))
     (step_moved unit prices place c.starts_in-starts.result _ true c.step_of-last.result c.args.curve.now f found.0 c.step_of-last.ensures.step c.starts_in-starts.ensures found.1)
     (end_cost c.least_after-end.result) (end_least_after found.0 (λ r. IsTurn c.step_of-last.result f r.turn) c.least_after-end.result found.2)).0
@@ -146,7 +145,7 @@ returns-clause-within g c =
     let before : suc place < length c.args.prices.now.energy.items = (let low = c.requires.place in omega (arith, low)) in
     let found = c.least_after-end.ensures.least in
     end_within first (suc place) c.least_after-end.result
-    (answer_of_step unit prices first place c.args.curve.now c.args.unit.now.valid c.args.prices.now.valid c.requires.curve envelope_is_cost c.requires.place c.requires.order f found.0 c.requires.frontier true
+    (answer_of_step unit prices first place c.args.curve.now c.args.unit.now.valid c.args.prices.now.valid c.requires.curve c.envelope_is_cost.ensures c.requires.place c.requires.order f found.0 c.requires.frontier true
     (sym (lt-ltb (suc place) (length prices.energy) before))
     (step_moved unit prices place c.starts_in-starts.result _ true c.step_of-last.result c.args.curve.now f found.0 c.step_of-last.ensures.step c.starts_in-starts.ensures found.1)
     (end_cost c.least_after-end.result) (end_least_after found.0 (λ r. IsTurn c.step_of-last.result f r.turn) c.least_after-end.result found.2)).1

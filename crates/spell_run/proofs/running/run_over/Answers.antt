@@ -1,5 +1,4 @@
 use Rattle.std.proofs.Common.{false, suc, eqb, sym, subst, arith, ℤ, rules, FitsSigned, w64}
-use Rattle.cost_curve.proofs.EnvelopeValues.{envelope_is_cost}
 use Rattle.uc_model.specs.PlainUnits.{thermal_of, prices_of}
 use Rattle.std.proofs.lemmas.Int.{to_z-of_z}
 use Rattle.slope_step.specs.Turn.{IsTurn}
@@ -13,7 +12,7 @@ use Rattle.spell_run.proofs.running.run_over.Goals as goal
 
 pub step-requires-clause-curve : goal.step-requires-clause-curve
 step-requires-clause-curve g c =
-    cost_is (thermal_of c.args.unit.now) (prices_of c.args.prices.now) c.args.place c.starts_in-starts.result false c.step_of.result c.step_of.ensures.step c.args.unit.now.valid c.args.prices.now.valid c.requires.place c.args.curve.now c.requires.curve
+    cost_is (thermal_of c.args.unit.now) (prices_of c.args.prices.now) c.args.place c.starts_in-starts.result false c.step_of.result c.step_of.ensures.step c.args.unit.now.valid c.args.prices.now.valid c.requires.place c.args.curve.now c.requires.curve c.envelope_is_cost.ensures
 
 pub step-requires-clause-small : goal.step-requires-clause-small
 step-requires-clause-small g c =
@@ -27,7 +26,7 @@ returns-clause-frontier g c =
     let prices = prices_of c.args.prices.now in
     let before = g.R.Running.function c.args.running.now in
     let after = g.R.Running.function c.step.new.self in
-    frontier_more unit prices c.args.first c.args.place c.args.curve.now c.args.unit.now.valid c.args.prices.now.valid c.requires.curve envelope_is_cost c.requires.place c.requires.order before after c.requires.frontier
+    frontier_more unit prices c.args.first c.args.place c.args.curve.now c.args.unit.now.valid c.args.prices.now.valid c.requires.curve c.envelope_is_cost.ensures c.requires.place c.requires.order before after c.requires.frontier
     (step_moved unit prices c.args.place c.starts_in-starts.result _ false c.step_of.result c.args.curve.now before after c.step_of.ensures.step c.starts_in-starts.ensures c.step.ensures.stepped)
 
 pub returns-clause-noted : goal.returns-clause-noted

@@ -1,5 +1,4 @@
 use Rattle.spell_run.proofs.FairLaws.{small_same, stepped_same}
-use Rattle.spell_run.proofs.FrameLaws.{then}
 use Rattle.spell_run.proofs.step.stepped.Goals as goal
 
 pub take_step-requires-clause-small : goal.take_step-requires-clause-small
@@ -11,9 +10,9 @@ returns-in-Ok-clause-ok g c =
 
 pub returns-in-Ok-clause-frame : goal.returns-in-Ok-clause-frame
 returns-in-Ok-clause-frame g c =
-    then g.S.Home.Cells.cell_list g.S.Shape.is_in g.S.Shape.numbers g.S.Shape.function g.met.S.Shape.same_cells g.met.S.Shape.owns _ _ _ _ _ _ c.in_ok-after.ensures.frame c.take_step.ensures.frame
+    c.frames_join.ensures _ _ _ _ _ _ c.in_ok-after.ensures.frame c.take_step.ensures.frame
 
 pub returns-in-Err-clause-err_frame : goal.returns-in-Err-clause-err_frame
 returns-in-Err-clause-err_frame g c =
-    let join = then g.S.Home.Cells.cell_list g.S.Shape.is_in g.S.Shape.numbers g.S.Shape.function g.met.S.Shape.same_cells g.met.S.Shape.owns in
+    let join = c.frames_join.ensures in
     join _ _ _ _ _ _ c.in_ok-after.ensures.frame (join _ _ _ _ _ _ c.take_step.ensures.frame c.give_back.ensures.frame)

@@ -3,7 +3,6 @@ use Rattle.std.proofs.lemmas.Int.{to_z-of_z}
 use Rattle.std.proofs.lemmas.Result.{on_ok_weaker}
 use Rattle.spell_run.specs.Steps.{IsStepped}
 use Rattle.spell_run.proofs.BoundLaws.{can_line, can_curve}
-use Rattle.spell_run.proofs.FrameLaws.{then}
 use Rattle.spell_run.proofs.step.take_step.Goals as goal
 
 pub add_line-requires-clause-fits : goal.add_line-requires-clause-fits
@@ -50,7 +49,7 @@ returns-clause-ok g c =
 
 pub returns-clause-frame : goal.returns-clause-frame
 returns-clause-frame g c =
-    let join = then g.S.Home.Cells.cell_list g.S.Shape.is_in g.S.Shape.numbers g.S.Shape.function g.met.S.Shape.same_cells g.met.S.Shape.owns in
+    let join = c.frames_join.ensures in
     join _ _ _ _ _ _ c.add_kink.ensures.frame (join _ _ _ _ _ _ c.window.ensures.frame (join _ _ _ _ _ _ c.add_line.ensures.frame c.add_curve.ensures.frame))
 
 pub returns-clause-sure : goal.returns-clause-sure

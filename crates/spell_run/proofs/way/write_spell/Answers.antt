@@ -31,7 +31,7 @@ write_period-power-requires-in-loop-back-clause-noted c =
     let until = c.requires.end in
     let n = c.requires.noted.on k order low in
     let v = there_after (thermal_of c.args.unit.now) (prices_of c.args.prices.now) c.args.first k c.args.unit.now.valid c.args.prices.now.valid (omega (arith, low, until)) order c.args.last
-    (schedule_of c.loop-back.into.response) (schedule_of c.loop-back.into.response) (to_z w64 c.loop-back.power-bits) (to_z w64 c.loop-back.power-bits) from.cost (passed_at c.args.passed.now k).note n.0 n.1 from.before from.frontier from.way in
+    (schedule_of c.loop-back.into.response) (schedule_of c.loop-back.into.response) (to_z w64 c.loop-back.power-bits) (to_z w64 c.loop-back.power-bits) from.cost (passed_at c.args.passed.now k).note n.0 n.1 c.envelope_is_cost.ensures from.before from.frontier from.way in
     (n.0, n.1, v)
 
 pub loop-back-preserved : goal.loop-back-preserved
@@ -47,10 +47,10 @@ loop-back-preserved c =
     let until = c.requires.end in
     let n = c.requires.noted.on k order low in
     let v = there_after (thermal_of c.args.unit.now) (prices_of c.args.prices.now) c.args.first k c.args.unit.now.valid c.args.prices.now.valid (omega (arith, low, until)) order c.args.last
-    (schedule_of c.loop-back.into.response) (schedule_of c.loop-back.into.response) (to_z w64 c.loop-back.power-bits) (to_z w64 c.loop-back.power-bits) from.cost (passed_at c.args.passed.now k).note n.0 n.1 from.before from.frontier from.way in
+    (schedule_of c.loop-back.into.response) (schedule_of c.loop-back.into.response) (to_z w64 c.loop-back.power-bits) (to_z w64 c.loop-back.power-bits) from.cost (passed_at c.args.passed.now k).note n.0 n.1 c.envelope_is_cost.ensures from.before from.frontier from.way in
     let chosen = c.write_period-power-in-loop-back.ensures.chosen n.0 v.0 n.1 v.1 in
     let next = written_more (thermal_of c.args.unit.now) (prices_of c.args.prices.now) c.args.first k c.args.last c.args.unit.now.valid c.args.prices.now.valid until order (schedule_of c.args.into.now.response)
-    (schedule_of c.loop-back.into.response) (schedule_of c.write_period-power-in-loop-back.new.into.response) (to_z w64 c.loop-back.power-bits) c.write_period-power-in-loop-back.result (passed_at c.args.passed.now k).note n.0 n.1 low from chosen in
+    (schedule_of c.loop-back.into.response) (schedule_of c.write_period-power-in-loop-back.new.into.response) (to_z w64 c.loop-back.power-bits) c.write_period-power-in-loop-back.result (passed_at c.args.passed.now k).note n.0 n.1 c.envelope_is_cost.ensures low from chosen in
     let here : k ≡ c.args.last - (c.loop-back.back + 1) = omega arith in
     let moved = subst (λ (t : ℕ). IsWrittenFrom (thermal_of c.args.unit.now) (prices_of c.args.prices.now) c.args.first t c.args.last (schedule_of c.args.into.now.response) (schedule_of c.write_period-power-in-loop-back.new.into.response) c.write_period-power-in-loop-back.result) here next in
     record { from = simp to_z-of_z moved; earned = c.write_period-power-in-loop-back.ensures.earned ∙ c.loop-back.invariant.earned }

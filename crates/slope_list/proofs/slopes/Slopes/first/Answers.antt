@@ -5,7 +5,6 @@ use Rattle.std.proofs.lemmas.Int.{to_z-of_z}
 use Rattle.shape_law.specs.Table.{Table}
 use Rattle.slope_step.specs.Drawn.{table_after}
 use Rattle.slope_step.specs.Turn.{IsFirst}
-use Rattle.slope_list.proofs.ShownLaws.{IsFirst-of}
 use Rattle.slope_list.proofs.slopes.Slopes.first.Goals as goal
 
 pub returns-in-Some : goal.returns-in-Some
@@ -17,4 +16,4 @@ returns-in-Some c =
     let g : FitsSigned w64 made.start.level = search rules in
     let e = ap (table_after self.pieces.items) c.in-Some.is in
     rw (to_z-of_z w64 made.start.first f, to_z-of_z w64 made.start.level g)
-    (subst (λ (t : Table). IsFirst t made.start.first made.start.level) (sym e) (IsFirst-of made.start (take made.used self.pieces.items) slopes))
+    (subst (λ (t : Table). IsFirst t made.start.first made.start.level) (sym e) (c.pieces_begin_and_end.ensures.first made.start (take made.used self.pieces.items) slopes))

@@ -1,4 +1,4 @@
-use Rattle.std.proofs.Common.{◌≡◌, take, sym, ap, subst, to_z, of_z}
+use Rattle.std.proofs.Common.{take, sym, ap, subst}
 use Rattle.std.specs.Bool.{OnTrue}
 use Rattle.std.specs.Int.{w64}
 use Rattle.std.proofs.lemmas.Int.{to_z-of_z}

@@ -1,7 +1,7 @@
 use Rattle.std.proofs.Common.{take, ap, subst}
 use Rattle.shape_law.specs.Table.{Table, IsEmpty}
 use Rattle.slope_step.specs.Drawn.{table_after}
-use Rattle.slope_list.proofs.ShownLaws.{not_empty, never}
+use Rattle.slope_list.proofs.ShownLaws.{never}
 use Rattle.slope_list.proofs.slopes.Slopes.is_empty.Goals as goal
 
 pub returns-in-Some : goal.returns-in-Some
@@ -10,4 +10,5 @@ returns-in-Some c =
     let made = c.in-Some.field-0 in
     let slopes = self.valid.slopes made c.in-Some.is in
     let e = ap (table_after self.pieces.items) c.in-Some.is in
-    (λ no. absurd (never no), λ h. absurd (not_empty made.start (take made.used self.pieces.items) slopes (subst (λ (t : Table). IsEmpty t) e h)))
+    let there = (c.pieces_begin_and_end.ensures.first made.start (take made.used self.pieces.items) slopes).there in
+    (λ no. absurd (never no), λ h. let none = subst (λ (t : Table). IsEmpty t) e h made.start.first in cc)

@@ -6,7 +6,6 @@ use Rattle.shape_law.specs.Table.{Table}
 use Rattle.slope_step.specs.Pieces.{last_place}
 use Rattle.slope_step.specs.Drawn.{table_after}
 use Rattle.slope_step.specs.Turn.{IsLast}
-use Rattle.slope_list.proofs.ShownLaws.{IsLast-of}
 use Rattle.slope_list.proofs.slopes.Slopes.last.Goals as goal
 
 pub returns-in-Some : goal.returns-in-Some
@@ -19,4 +18,4 @@ returns-in-Some c =
     let e = ap (table_after self.pieces.items) c.in-Some.is in
     let last : c.last_place.result ≡ last_place made.start.first (take made.used self.pieces.items) = rw (to_z-of_z w64 made.start.first f, c.deref.ensures.value) at c.last_place.ensures in
     subst (λ (z : ℤ). IsLast (table_after self.pieces.items self.made) z) (sym (to_z-of_z w64 c.last_place.result g ∙ last))
-    (subst (λ (t : Table). IsLast t (last_place made.start.first (take made.used self.pieces.items))) (sym e) (IsLast-of made.start (take made.used self.pieces.items) slopes))
+    (subst (λ (t : Table). IsLast t (last_place made.start.first (take made.used self.pieces.items))) (sym e) (c.pieces_begin_and_end.ensures.last made.start (take made.used self.pieces.items) slopes))

@@ -1,7 +1,4 @@
-use Rattle.std.proofs.Common.{◌≡◌, List, MatchOption, None, take, sym, ap, ◌∙◌, subst, rules}
-use Rattle.std.specs.Prelude.{ℤ, FitsSigned}
-use Rattle.std.specs.Int.{w64}
-use Rattle.std.proofs.lemmas.Int.{to_z-of_z}
+use Rattle.std.proofs.Common.{List, MatchOption, None, take, sym, ap, ◌∙◌, subst, rules}
 use Rattle.std.proofs.lemmas.List.{with_items_is, places}
 use Rattle.shape_law.specs.Steps.{IsStepped, IsSmall}
 use Rattle.shape_law.specs.Effect.{IsLeast}

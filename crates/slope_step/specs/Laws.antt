@@ -1,0 +1,14 @@
+-- What holds of all pieces. Each law is the clause of a public function.
+use Rattle.std.specs.Prelude.{List}
+use Rattle.slope_step.specs.declared.piece.Piece.{Piece}
+use Rattle.slope_step.specs.declared.piece.Start.{Start}
+use Rattle.slope_step.specs.Pieces.{last_place, table_of, AreSlopes}
+use Rattle.slope_step.specs.Turn.{IsFirst, IsLast}
+
+-- their function begins at their first place, with the level there
+abbrev pub PiecesBegin : Type 0
+PiecesBegin = (start : Start) (ps : List Piece) → AreSlopes start.first ps → IsFirst (table_of start ps) start.first start.level
+
+-- and ends where the last of them does
+abbrev pub PiecesEnd : Type 0
+PiecesEnd = (start : Start) (ps : List Piece) → AreSlopes start.first ps → IsLast (table_of start ps) (last_place start.first ps)
