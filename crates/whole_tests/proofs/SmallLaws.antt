@@ -1,6 +1,6 @@
 -- What the tests check suffices for the conditions of the calls.
 use Rattle.std.proofs.Common.{◌≡◌, ℕ, zero, suc, ◌+◌, ◌*◌, ◌<◌, List, [], ◌∷◌, length, get_or, Option, Some, None, refl, sym, ap, ◌∙◌, arith, inl, inr}
-use Rattle.std.specs.Prelude.{ℤ, pos, neg_ℤ, ◌+ℤ◌, ◌-ℤ◌, ◌*ℤ◌, ◌≤ℤ◌}
+use Rattle.std.specs.Prelude.{ℤ, pos, neg_ℤ, ◌+ℤ◌, ◌-ℤ◌, ◌*ℤ◌, ◌≤ℤ◌, ◌<ℤ◌, int_lt, true, false}
 use Rattle.std.specs.Int.{int_min}
 use Rattle.std.specs.Option.{option_map}
 use Rattle.std.proofs.lemmas.Int.{ints, clamps, by_lt_z}
@@ -13,10 +13,9 @@ use Rattle.uc_model.proofs.IntLaws.{mul-sub}
 use Rattle.uc_model.proofs.SignedLaws.{IsWithin, product_within}
 use Rattle.shape_law.specs.Curve.{rise_at, curve_value, end_of, reserve_term, IsLimitedCurve}
 use Rattle.shape_law.specs.Effect.{CanAddCurve}
+use Rattle.shape_law.specs.Laws.{CurvesHaveValues}
+use Rattle.shape_law.specs.Lookup.{place_split}
 use Rattle.shape_law.specs.Table.{Table, value_of, IsWithinLimits, HasNone, CanAdd}
-use Rattle.ramp_step.specs.Curve.{curve_term}
-use Rattle.ramp_step.proofs.WindowLaws.{steps}
-use Rattle.ramp_step.proofs.CurveShapeLaws.{lt_is, not_lt_is, rise_past, rise_within, are_blocks, end_is, end_shifted, curve_value_is}
 use Rattle.whole_tests.specs.Small.{IsSmall, IsModestAt, IsNear, AreFair}
 
 near : (f : Table) → IsWithinLimits f → HasNone (neg_ℤ (pos 4000000000)) (neg_ℤ (pos 1001)) f → HasNone (pos 1001) (pos 4000000000) f → (x v : ℤ) → value_of f x ≡ Some v → IsNear x
@@ -38,10 +37,13 @@ IsSmall-from f within before after modest = record {
       let n = near f within before after x v h in
       let low = n.at_least in
       let high = n.at_most in
-      let k = steps (neg_ℤ (pos 1000)) x low in
-      let is = k.1 in
-      let here : x ≡ pos k.0 -ℤ pos 1000 = omega (arith, ints) in
-      (modest k.0 (omega (arith, ints))).most v (ap (value_of f) (sym here) ∙ h);
+      elim (place_split (neg_ℤ (pos 1000)) x) [
+        | inl k ↦
+            let is = k.1 in
+            let here : x ≡ pos k.0 -ℤ pos 1000 = omega (arith, ints) in
+            (modest k.0 (omega (arith, ints))).most v (ap (value_of f) (sym here) ∙ h)
+        | inr below ↦ absurd (omega (arith, ints))
+      ];
 }
 
 -- an element that is there doesn't depend on the default
@@ -138,6 +140,18 @@ later b bs f = record {
 IsCurve-fair : (bs : List Block) → AreFair bs (length bs) → IsCurve bs
 IsCurve-fair bs f = record { widths = λ i d h. (f.widths i d h).at_least; rising = f.rising }
 
+lt_is : (a b : ℤ) → a <ℤ b → int_lt a b ≡ true
+lt_is a b h = grind (arith, ints)
+
+not_lt_is : (a b : ℤ) → b ≤ℤ a → int_lt a b ≡ false
+not_lt_is a b h = grind (arith, ints)
+
+rise_past : (b : Block) (bs : List Block) (x : ℤ) → b.width <ℤ x → rise_at (b ∷ bs) x ≡ option_map (λ v. v +ℤ (b.price *ℤ b.width)) (rise_at bs (x -ℤ b.width))
+rise_past b bs x h = rw (lt_is b.width x h)
+
+rise_within : (b : Block) (bs : List Block) (x : ℤ) → x ≤ℤ b.width → rise_at (b ∷ bs) x ≡ Some (b.price *ℤ x)
+rise_within b bs x h = rw (not_lt_is b.width x h)
+
 mapped_sum : (k v : ℤ) (o : Option ℤ) → option_map (λ u. u +ℤ k) o ≡ Some v → (u : ℤ) × (o ≡ Some u) × (v ≡ u +ℤ k)
 mapped_sum k v None h = cc
 mapped_sum k v (Some u) h = (u, refl, (cc))
@@ -217,23 +231,20 @@ module _ (c : Curve) (few : length c.blocks.items < 100) (fair : AreFair c.block
         values = λ x v h. let b = value_bound x v h in let b0 = b.at_least in let b1 = b.at_most in (omega (arith, ints), omega (arith, ints));
       }
 
-  pub CanAddCurve-fair : (f : Table) (shift : ℤ) → IsSmall f → IsNear shift → HasNone (neg_ℤ (pos 4000000000)) ((c.at -ℤ shift) -ℤ pos 1) f
+  pub CanAddCurve-fair : CurvesHaveValues → (f : Table) (shift : ℤ) → IsSmall f → IsNear shift → HasNone (neg_ℤ (pos 4000000000)) ((c.at -ℤ shift) -ℤ pos 1) f
       → HasNone ((end_of c.at c.blocks.items -ℤ shift) +ℤ pos 1) (pos 4000000000) f → CanAddCurve (curve_value c) shift f
-  CanAddCurve-fair f shift small near before after x v h =
+  CanAddCurve-fair law f shift small near before after x v h =
       let bs = c.blocks.items in
       let n = small.places x v h in
       let n0 = n.at_least in
       let n1 = n.at_most in
-      let blocks = are_blocks bs (IsCurve-fair bs fair) in
       let from : (c.at -ℤ shift) ≤ℤ x = by_lt_z x (c.at -ℤ shift) (λ l. let none = before x (omega (arith, ints)) (omega (arith, ints)) in absurd (let q = sym none ∙ h in (cc))) (λ l. l) in
       let upto : x ≤ℤ (end_of c.at bs -ℤ shift) = by_lt_z (end_of c.at bs -ℤ shift) x (λ l. let none = after x (omega (arith, ints)) (omega (arith, ints)) in absurd (let q = sym none ∙ h in (cc))) (λ l. l) in
-      let end = end_shifted bs c.at shift in
-      let last = end_is bs c.at in
-      let is = curve_value_is c shift blocks.0 x blocks.1 from (omega (arith, ints)) in
-      let b = value_bound (x +ℤ shift) (curve_term c.value bs (c.at -ℤ shift) x) is in
+      let k = law c IsLimitedCurve-fair (x +ℤ shift) (omega (arith, ints)) (omega (arith, ints)) in
+      let b = value_bound (x +ℤ shift) k.0 k.1 in
       let b0 = b.at_least in
       let b1 = b.at_most in
       let w = small.values x v h in
       let w0 = w.at_least in
       let w1 = w.at_most in
-      (curve_term c.value bs (c.at -ℤ shift) x, is, (omega (arith, ints), omega (arith, ints)))
+      (k.0, k.1, (omega (arith, ints), omega (arith, ints)))

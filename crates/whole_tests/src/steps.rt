@@ -6,6 +6,7 @@ ghost use Rattle.shape_law.specs.Table.{HasNone};
 ghost use Rattle.whole_tests.specs.Small.{IsSmall, IsModestAt, IsNear, AreFair};
 
 use shape_law::Shape;
+use shape_law::laws::curves_have_values;
 use std::alloc::{AllocError, Global};
 use std::process::Abort;
 use std::test::Fail;
@@ -180,6 +181,7 @@ fn add_curve<S: Shape>(
     if !after {
         return Ok(false);
     }
+    curves_have_values();
     s.add_curve(home, curve, shift)?;
     Ok(true)
 }
