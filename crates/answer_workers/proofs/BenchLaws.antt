@@ -87,6 +87,7 @@ smaller periods points less b low h =
       rows = h.rows;
       origins = h.origins;
       roster = h.roster;
+      limits = h.limits;
     }
 
 module _ (periods : ℕ) (b : Bench Slopes) where

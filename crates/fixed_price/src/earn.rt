@@ -18,9 +18,10 @@ use uc_model::units::{Answered, Bid, Prices, Renewable, Unit};
 use unit_choice::least_on_bench;
 use unit_program::Bench;
 
-// What the best schedules of a thermal unit earn, of which some schedule is feasible.
+// What the best schedules of the thermal unit of a number earn, of which some schedule is feasible.
 fn thermal_top(
     bench: &mut Bench<Slopes>,
+    number: u32,
     unit: &Unit,
     prices: &Prices,
     buffer: &mut Answered,
@@ -38,6 +39,7 @@ fn thermal_top(
     ensures buffer { length (schedule_of buffer.new.response).on
         ≡ length (prices_of prices.now).energy }
 {
+    bench.ask_for(number);
     // It is found, since some schedule is feasible.
     let _ = least_on_bench(bench, unit, prices, buffer);
     buffer.earned
@@ -89,7 +91,13 @@ fn thermal_top_at(
     ensures buffer { length (schedule_of buffer.new.response).on ≡ (market_of case.now).periods }
 {
     units_are_numbered();
-    thermal_top(bench, &case.thermal.get(number).unit, prices, buffer)
+    thermal_top(
+        bench,
+        number as u32,
+        &case.thermal.get(number).unit,
+        prices,
+        buffer,
+    )
 }
 
 // What the best schedules of the renewable unit or bid of a number earn.

@@ -12,8 +12,8 @@ use Rattle.spell_run.specs.Entries.{IsOnFromTo, IsSameOutside}
 use Rattle.spell_run.specs.Spells.{spell_first, IsBestDispatch, IsFirstDispatch, HasNoDispatch, over_min, IsDispatch, IsLeastSpell, net_cost, spell_cost}
 use Rattle.unit_program.specs.Spells.{IsSpell, start_cost_after}
 use Rattle.unit_program.specs.declared.table.Ended.{Ended}
-use Rattle.unit_program.specs.Tables.{IsEnded, IsLatest, IsStarted, IsEntryAfter}
-use Rattle.unit_program.specs.Rows.{row_at, cost_at, first_at, IsFilled}
+use Rattle.unit_program.specs.Tables.{IsEnded, IsLatest, IsStarted, IsEntryAfter, IsComplete, IsFrom}
+use Rattle.unit_program.specs.Rows.{row_at, cost_at, first_at, before_at, IsFilled}
 use Rattle.unit_program.specs.Builds.{IsUpTo, IsIdle}
 use Rattle.unit_program.proofs.BuildLaws.{up_to_idle, up_to_first, up_to_next}
 use Rattle.unit_program.proofs.SpanLaws.{spell_first-is}
@@ -250,11 +250,13 @@ pub record IsRowBack (g : ThermalUnit) (π : PriceLists) (rows : List (Option En
 
 module _ (g : ThermalUnit) (π : PriceLists) (rows : List (Option Ended)) (l : ℕ)
     (ramp_up : pos 0 ≤ℤ g.ramp_up) (ramp_down : pos 0 ≤ℤ g.ramp_down) (some_down : 1 ≤ g.min_down)
-    (filled : IsFilled g π (suc (length π.energy)) rows) where
+    (ends : ℕ → Option ℤ) (complete : IsComplete g π (length π.energy) (suc (length π.energy)) ends)
+    (here : (v : ℤ) → cost_at rows l ≡ Some v → ends l ≡ Some v)
+    (from_row : (v : ℤ) → cost_at rows l ≡ Some v → IsFrom g π (length π.energy) (suc (length π.energy)) ends (first_at rows) (before_at rows) l v) where
   -- off since before the horizon
-  pub back_off : (a : Schedule) → l ≡ 0 → IsFalse g.on0 → IsWrittenBack g π rows l a a
-  back_off a none off = record {
-    up_to = λ v is. elim (filled.table.sound l v is) [
+  pub off_back : (a : Schedule) → l ≡ 0 → IsFalse g.on0 → IsWrittenBack g π rows l a a
+  off_back a none off = record {
+    up_to = λ v is. elim (from_row v is) [
       | inl z ↦
           subst (λ (k : ℕ). IsUpTo g π (length π.energy) a k v) (sym none)
           (subst (λ (v : ℤ). IsUpTo g π (length π.energy) a 0 v) (sym z.2) (up_to_idle g π (length π.energy) a ramp_up ramp_down off))
@@ -272,27 +274,27 @@ module _ (g : ThermalUnit) (π : PriceLists) (rows : List (Option Ended)) (l : �
   }
 
   module _ (e : Ended) (row : row_at rows l ≡ Some e) (on0 : l ≡ 0 → IsTrue g.on0) where
-    ended_of : IsEnded g π (length π.energy) (cost_at rows) e.first e.before l e.cost
-    ended_of = elim (filled.table.sound l e.cost (cost-is rows l e row)) [
+    pub ended_of : IsEnded g π (length π.energy) ends e.first e.before l e.cost
+    ended_of = elim (from_row e.cost (cost-is rows l e row)) [
       | inl h ↦ let on = on0 h.1 in let off = h.0 in cc
       | inr h ↦
-          subst (λ (f : ℕ). IsEnded g π (length π.energy) (cost_at rows) f e.before l e.cost) (first-is rows l e row)
-          (subst (λ (k : ℕ). IsEnded g π (length π.energy) (cost_at rows) (first_at rows l) k l e.cost) (before-is rows l e row) h.1)
+          subst (λ (f : ℕ). IsEnded g π (length π.energy) ends f e.before l e.cost) (first-is rows l e row)
+          (subst (λ (k : ℕ). IsEnded g π (length π.energy) ends (first_at rows l) k l e.cost) (before-is rows l e row) h.1)
     ]
 
-    latest_of : IsLatest g π (length π.energy) (suc (length π.energy)) (cost_at rows) e.first l e.cost
-    latest_of = elim (filled.table.sound l e.cost (cost-is rows l e row)) [
+    latest_of : IsLatest g π (length π.energy) (suc (length π.energy)) ends e.first l e.cost
+    latest_of = elim (from_row e.cost (cost-is rows l e row)) [
       | inl h ↦ let on = on0 h.1 in let off = h.0 in cc
-      | inr h ↦ subst (λ (f : ℕ). IsLatest g π (length π.energy) (suc (length π.energy)) (cost_at rows) f l e.cost) (first-is rows l e row) h.2
+      | inr h ↦ subst (λ (f : ℕ). IsLatest g π (length π.energy) (suc (length π.energy)) ends f l e.cost) (first-is rows l e row) h.2
     ]
 
     value_of : (v : ℤ) → cost_at rows l ≡ Some v → e.cost ≡ v
     value_of v is = let here = cost-is rows l e row in cc
 
-    pub row_back : IsRowBack g π rows l e
-    row_back =
+    -- what comes before the spell is in the table too
+    pub back_of_row : ((ended : IsEnded g π (length π.energy) ends e.first e.before l e.cost) (st : IsStarted g ends e.first e.before ended.entry_cost) → cost_at rows e.before ≡ Some st.value) → IsRowBack g π rows l e
+    back_of_row prior =
         let T = length π.energy in
-        let ends = cost_at rows in
         let ended = ended_of in
         let spell = ended.spell in
         let order = spell.order in
@@ -305,12 +307,12 @@ module _ (g : ThermalUnit) (π : PriceLists) (rows : List (Option Ended)) (l : �
           only = λ a b none written. record {
             up_to = λ v is. subst (λ (v : ℤ). IsUpTo g π T b l v) (value_of v is) (back_first g π T ends ramp_up ramp_down some_down e.first e.before l e.cost ended a b none written);
             first = λ v is. subst (λ (v : ℤ). IsFirstUpTo g π T l v b) (value_of v is)
-                (first_alone g π ends T filled.table.complete e.first e.before l e.cost ended (cost-is rows l e row) latest_of b (written.tie ended.net ended.least) none);
+                (first_alone g π ends T complete e.first e.before l e.cost ended (here e.cost (cost-is rows l e row)) latest_of b (written.tie ended.net ended.least) none);
             later = λ t above. written.others t (inr above);
             zero_off = zero_off_written g π T e.first l a b written;
           };
           before_less = λ one. (let st = start one in let first = st.first in let from = st.gap.off.order in omega (arith, order, first, from));
-          before_ended = λ one. (let st = start one in (st.value, st.ended));
+          before_ended = λ one. (let st = start one in (st.value, prior ended st));
           before_idle = λ a b one written idle.
               (let st = start one in let first = st.first in let from = st.gap.off.order in
               idle_written g π T e.first l e.before a b written (omega (arith, first, from)) order idle);
@@ -320,14 +322,25 @@ module _ (g : ThermalUnit) (π : PriceLists) (rows : List (Option Ended)) (l : �
               let from = st.gap.off.order in
               record {
                 up_to = λ v is. subst (λ (v : ℤ). IsUpTo g π T c l v) (value_of v is)
-                    (back_next g π T ends ramp_up ramp_down some_down e.first e.before l e.cost ended st a b c idle written (back.up_to st.value st.ended) back.later);
+                    (back_next g π T ends ramp_up ramp_down some_down e.first e.before l e.cost ended st a b c idle written (back.up_to st.value (prior ended st)) back.later);
                 first = λ v is. subst (λ (v : ℤ). IsFirstUpTo g π T l v c) (value_of v is)
-                    (first_after g π ends T filled.table.complete e.first e.before l e.cost ended (cost-is rows l e row) latest_of c
+                    (first_after g π ends T complete e.first e.before l e.cost ended (here e.cost (cost-is rows l e row)) latest_of c
                     (first_dispatch-same g π T e.first l order b c (λ t one low until. (let r = back.later t (omega (arith, low, first, from)) in (r.power, r.reserve))) ended.net (written.tie ended.net ended.least))
                     some_down st
                     (λ t above until. (back.later t above).on ∙ (written.others t (inl (omega (arith, until, first)))).on ∙ idle.off t (omega (arith, above)) (omega (arith, until, order, first)))
-                    (back.first st.value st.ended));
+                    (back.first st.value (prior ended st)));
                 later = λ t above. same_then g a b c t (written.others t (inr above)) (back.later t (omega (arith, above, order, first, from)));
                 zero_off = λ h. back.zero_off (zero_off_written g π T e.first l a b written h);
               });
         }
+
+-- ---- the same where the table is whole
+
+module _ (g : ThermalUnit) (π : PriceLists) (rows : List (Option Ended)) (l : ℕ)
+    (ramp_up : pos 0 ≤ℤ g.ramp_up) (ramp_down : pos 0 ≤ℤ g.ramp_down) (some_down : 1 ≤ g.min_down)
+    (filled : IsFilled g π (suc (length π.energy)) rows) where
+  pub back_off : (a : Schedule) → l ≡ 0 → IsFalse g.on0 → IsWrittenBack g π rows l a a
+  back_off = off_back g π rows l ramp_up ramp_down some_down (cost_at rows) filled.table.complete (λ v is. is) (filled.table.sound l)
+
+  pub row_back : (e : Ended) → row_at rows l ≡ Some e → (l ≡ 0 → IsTrue g.on0) → IsRowBack g π rows l e
+  row_back e row on0 = back_of_row g π rows l ramp_up ramp_down some_down (cost_at rows) filled.table.complete (λ v is. is) (filled.table.sound l) e row on0 (λ ended st. st.ended)

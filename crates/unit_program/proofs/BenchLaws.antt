@@ -18,13 +18,14 @@ pub bench_kept : {R : Type 0} (room : R → ℕ) (periods points : ℕ) (old new
     length old.curve.blocks.items + old.curve.blocks.spare ≡ length new.curve.blocks.items + new.curve.blocks.spare → length new.runners.items ≡ length old.runners.items →
     ((most periods : ℕ) → HaveRoom room most periods old.runners.items → HaveRoom room most periods new.runners.items) → length new.table.items ≡ length old.table.items →
     length new.origins.list.items ≡ length old.origins.list.items →
-    length new.roster.firsts.items ≡ length old.roster.firsts.items → IsBenchFor room periods points old → IsBenchFor room periods points new
-bench_kept room periods points old new curve count keeps rows list firsts b =
+    length new.roster.firsts.items ≡ length old.roster.firsts.items → length new.limits.items ≡ length old.limits.items → IsBenchFor room periods points old → IsBenchFor room periods points new
+bench_kept room periods points old new curve count keeps rows list firsts each b =
     let blocks = b.blocks in
     let enough = b.count in
     let long = b.rows in
     let origins = b.origins in
     let roster = b.roster in
+    let limits = b.limits in
     record {
       blocks = omega (arith, blocks, curve);
       count = omega (arith, enough, count);
@@ -32,6 +33,7 @@ bench_kept room periods points old new curve count keeps rows list firsts b =
       rows = omega (arith, long, rows);
       origins = omega (arith, origins, list);
       roster = omega (arith, roster, firsts);
+      limits = omega (arith, limits, each);
     }
 
 -- ---- runners made one by one

@@ -8,7 +8,7 @@ use Rattle.uc_model.specs.Earnings.{earnings, IsBest}
 use Rattle.uc_model.specs.Schedules.{IsThermalFeasible}
 use Rattle.uc_model.specs.Ties.{IsLeast}
 use Rattle.unit_program.specs.Spells.{IsOffRun, paid}
-use Rattle.unit_program.specs.Tables.{IsTable, IsLeastEnd}
+use Rattle.unit_program.specs.Tables.{IsComplete, IsLeastEnd}
 use Rattle.unit_program.specs.Builds.{IsUpTo, IsIdle}
 use Rattle.unit_program.proofs.BuildLaws.{right_of}
 use Rattle.unit_program.proofs.SpellLaws.{table_is_least}
@@ -36,9 +36,9 @@ module _ (g : ThermalUnit) (a : Schedule) (off : (k : ℕ) → slice_index_or a.
     | suc k ↦ λ one here. (ap pos (power k), ap pos (reserve k))
   ]
 
-module _ (g : ThermalUnit) (π : PriceLists) (periods : ℕ) (horizon : periods ≡ length π.energy) (ends : ℕ → Option ℤ) (firsts lasts : ℕ → ℕ)
+module _ (g : ThermalUnit) (π : PriceLists) (periods : ℕ) (horizon : periods ≡ length π.energy) (ends : ℕ → Option ℤ)
     (ramp_up : pos 0 ≤ℤ g.ramp_up) (ramp_down : pos 0 ≤ℤ g.ramp_down)
-    (table : IsTable g π periods (suc periods) ends firsts lasts) where
+    (complete : IsComplete g π periods (suc periods) ends) where
   pub best_of : (l : ℕ) (v : ℤ) (a b : Schedule) → IsLeastEnd g periods ends l v → IsIdle g a 0 periods → IsUpTo g π periods b l v
       → ((t : ℕ) → l < t → IsSameIn g a b t) → IsZeroOff g b → length b.on ≡ periods → length b.power ≡ periods → length b.reserve ≡ periods
       → IsBest (Thermal g) π b × (earnings (Thermal g) π b ≡ neg_ℤ v)
@@ -59,7 +59,7 @@ module _ (g : ThermalUnit) (π : PriceLists) (periods : ℕ) (horizon : periods 
         record {
           feasible = subst (λ (n : ℕ). IsThermalFeasible g n b) horizon r.0;
           greatest = λ other right.
-              (let s = table_is_least g π ends periods other (subst (λ (n : ℕ). IsThermalFeasible g n other) (sym horizon) right) table.complete in
+              (let s = table_is_least g π ends periods other (subst (λ (n : ℕ). IsThermalFeasible g n other) (sym horizon) right) complete in
               let h = s.3 in
               let low = least.least s.0 h.0 h.1 s.2 in
               let cost = h.2 in
@@ -87,14 +87,14 @@ module _ (g : ThermalUnit) (π : PriceLists) (periods : ℕ) (horizon : periods 
             let paid_is = earnings-paid g π other periods right_other.schedule in
             let cost : paid g π other periods ≡ v = omega (arith, ints, above, below, paid_is, earned) in
             not_before periods other b right_other.schedule right.schedule
-            (no_later_whole g π ends periods table.complete l v least.off.order earliest least.least b
+            (no_later_whole g π ends periods complete l v least.off.order earliest least.least b
             (λ t above until. (later t above).on ∙ cleared.off t (omega (arith, above)) until) zero_off first other right_other cost) before);
       }
 
   -- no end, no schedule
   pub none_right : ((l : ℕ) (v : ℤ) → ends l ≡ Some v → IsOffRun g l periods → ⊥) → (s : Schedule) → IsThermalFeasible g periods s → ⊥
   none_right none s right =
-      let r = table_is_least g π ends periods s right table.complete in
+      let r = table_is_least g π ends periods s right complete in
       let h = r.3 in
       none r.0 h.0 h.1 r.2
 

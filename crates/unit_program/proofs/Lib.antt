@@ -8,10 +8,14 @@ pub mod CostLaws
 pub mod EndLaws
 pub mod EntryLaws
 pub mod FillLaws
+pub mod LimitBackLaws
+pub mod LimitLaws
+pub mod LimitListLaws
 pub mod ListLaws
 pub mod LiveLaws
 pub mod OriginLaws
 pub mod PeriodLaws
+pub mod RangeLaws
 pub mod RipeLaws
 pub mod RosterLaws
 pub mod RowByRowLaws

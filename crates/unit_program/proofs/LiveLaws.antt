@@ -5,17 +5,18 @@ use Rattle.std.proofs.lemmas.Int.{ints}
 use Rattle.std.proofs.lemmas.Option.{slice_get_within}
 use Rattle.std.proofs.lemmas.Bool.{cases_eq}
 use Rattle.std.proofs.Math.Nat.{mul-le-mul_right}
+use Rattle.shape_law.specs.Effect.{IsLeast}
 use Rattle.shape_law.specs.Table.{Table, value_of}
 use Rattle.uc_model.specs.Data.{ThermalUnit, PriceLists}
 use Rattle.spell_run.specs.Notes.{passed_at}
 use Rattle.unit_program.specs.declared.runner.Runner.{Runner}
 use Rattle.spell_run.specs.declared.way.Passed.{Passed}
-use Rattle.unit_program.specs.Live.{going_of, live_at, left_of, left_at, IsRoomy, AreRoomy, AreSmall, IsUnder, IsBelow, HaveRoom}
+use Rattle.unit_program.specs.Live.{going_of, live_at, left_of, left_at, IsRoomy, AreRoomy, AreSmall, IsUnder, IsBeyond, IsBelow, HaveRoom}
 use Rattle.unit_program.specs.Runners.{Going, AreRunners}
 
 -- the runners are small
-pub small_of : (g : ThermalUnit) (π : PriceLists) (ends : ℕ → Option ℤ) (live : ℕ → Option Going) (t n : ℕ) → t ≤ 168 → n ≤ 170 → AreRunners g π ends live t n → AreSmall live
-small_of g π ends live t n few low now f r is =
+pub small_of : (g : ThermalUnit) (π : PriceLists) (limits : ℕ → ℤ) (ends : ℕ → Option ℤ) (live : ℕ → Option Going) (t n : ℕ) → t ≤ 168 → n ≤ 170 → AreRunners g π limits ends live t n → AreSmall live
+small_of g π limits ends live t n few low now f r is =
     let h = now.right f r is in
     let below = h.0 in
     let within = h.1.within in
@@ -55,6 +56,9 @@ below_of f f' e e' shift is below x v there = (let u = below x v there in let lo
 pub under_of : (f : Table) (e power cost v sum : ℤ) (before : ℕ) (left : ℕ → Passed) → value_of f power ≡ Some v → sum ≡ e +ℤ v → (sum +ℤ pos 1) ≤ℤ cost →
     IsUnder power cost (record { before = before; cost = e; function = f; left = left })
 under_of f e power cost v sum before left there is less = (v, there, omega (arith, ints, is, less))
+
+pub beyond_of : (f : Table) (e limit v x sum : ℤ) → IsLeast f v x → sum ≡ e +ℤ v → (limit +ℤ pos 1) ≤ℤ sum → IsBeyond limit e f
+beyond_of f e limit v x sum least is less y w there = (let low = least.least y w there in omega (arith, ints, low, is, less))
 
 -- ---- one of the list written
 

@@ -12,11 +12,13 @@ use Rattle.spell_run.specs.Joins.{DispatchesGoOn, DispatchesAreRuns}
 use Rattle.spell_run.specs.Spells.{IsDispatch, net_cost, spell_cost}
 use Rattle.unit_program.specs.declared.table.Ended.{Ended}
 use Rattle.unit_program.specs.Rows.{row_at, cost_at, first_at, before_at}
+use Rattle.unit_program.specs.Limits.{AreLimits}
 use Rattle.unit_program.specs.Spells.{IsSpell, StopsAtOnce}
-use Rattle.unit_program.specs.Tables.{HasAtMost, IsEntry, IsLeastEntry, IsEnded, IsLatest, IsFrom, IsTable}
+use Rattle.unit_program.specs.Tables.{HasAtMost, IsEntry, IsLeastEntry, IsEnded, IsLatest, IsFrom}
 use Rattle.unit_program.specs.Runners.{Going, MayBeOn, AreRunners, IsTableTo, IsRowOf}
 use Rattle.unit_program.proofs.CostLaws.{sum_from_to-one}
 use Rattle.unit_program.proofs.FillLaws.{IsFirstRow}
+use Rattle.unit_program.proofs.RangeLaws.{dispatch_in_range, before_low}
 use Rattle.unit_program.proofs.RowLaws.{cost_from, cost-is, first-is, before-is}
 use Rattle.unit_program.proofs.StandInLaws.{one_more_cost}
 use Rattle.unit_program.proofs.TableLaws.{at_most_more, entry_same, at_once_some, at_once_none}
@@ -37,8 +39,8 @@ module _ (g : ThermalUnit) (a b : ℕ → Option ℤ) (f : ℕ) (same : (l : ℕ
     earliest = λ k entry. h.earliest k (entry_same g b a f k e back entry);
   }
 
-pub runners_to : (g : ThermalUnit) (π : PriceLists) (a b : ℕ → Option ℤ) (live : ℕ → Option Going) (t n : ℕ) → ((l : ℕ) → suc l < n → a l ≡ b l) → AreRunners g π a live t n → AreRunners g π b live t n
-runners_to g π a b live t n same now = record {
+pub runners_to : (g : ThermalUnit) (π : PriceLists) (limits : ℕ → ℤ) (a b : ℕ → Option ℤ) (live : ℕ → Option Going) (t n : ℕ) → ((l : ℕ) → suc l < n → a l ≡ b l) → AreRunners g π limits a live t n → AreRunners g π limits b live t n
+runners_to g π limits a b live t n same now = record {
   right = λ f r is.
       let h = now.right f r is in
       let low = h.0 in
@@ -53,13 +55,13 @@ runners_to g π a b live t n same now = record {
           noted = old.noted;
         },
       );
-  all = λ f e d low may entry run. now.all f e d low may (entry_to g b a f (λ l less. sym (same l (omega (arith, less, low)))) e entry) run;
+  all = λ f e d low may entry run under. now.all f e d low may (entry_to g b a f (λ l less. sym (same l (omega (arith, less, low)))) e entry) run under;
 }
 
 -- ---- a period more
 
-module _ (g : ThermalUnit) (π : PriceLists) (unit : IsThermalUnit g) (t : ℕ) (ends ends' : ℕ → Option ℤ) (firsts firsts' lasts lasts' : ℕ → ℕ)
-    (table : IsTableTo g π (length π.energy) t ends firsts lasts) (within : t < length π.energy)
+module _ (g : ThermalUnit) (π : PriceLists) (limits : ℕ → ℤ) (unit : IsThermalUnit g) (t : ℕ) (ends ends' : ℕ → Option ℤ) (firsts firsts' lasts lasts' : ℕ → ℕ)
+    (table : IsTableTo g π limits (length π.energy) t ends firsts lasts) (within : t < length π.energy)
     (ends_same : (l : ℕ) → l ≢ suc t → ends' l ≡ ends l)
     (firsts_same : (l : ℕ) → l ≢ suc t → firsts' l ≡ firsts l)
     (lasts_same : (l : ℕ) → l ≢ suc t → lasts' l ≡ lasts l) where
@@ -75,14 +77,14 @@ module _ (g : ThermalUnit) (π : PriceLists) (unit : IsThermalUnit g) (t : ℕ) 
   idle_more : IsFalse g.on0 → HasAtMost (ends' 0) (pos 0)
   idle_more off = (let h = table.idle off in (h.0, ends_same 0 (λ z. omega (arith, z)) ∙ h.1, h.2))
 
-  spell_before : (f l : ℕ) (e : ℤ) (d : Schedule) → l ≤ t → IsSpell g T f l → IsEntry g ends' f e → IsDispatch g T f l d → HasAtMost (ends' l) (e +ℤ spell_cost g π f l d)
-  spell_before f l e d low spell entry dispatch =
+  spell_before : (f l : ℕ) (e : ℤ) (d : Schedule) → l ≤ t → IsSpell g T f l → IsEntry g ends' f e → IsDispatch g T f l d → (e +ℤ spell_cost g π f l d) ≤ℤ limits l → HasAtMost (ends' l) (e +ℤ spell_cost g π f l d)
+  spell_before f l e d low spell entry dispatch under =
       let order = spell.order in
-      let h = table.spell f l e d low spell (entry_to g ends' ends f (older f (omega (arith, order, low))) e entry) dispatch in
+      let h = table.spell f l e d low spell (entry_to g ends' ends f (older f (omega (arith, order, low))) e entry) dispatch under in
       (h.0, ends_same l (λ z. omega (arith, z, low)) ∙ h.1, h.2)
 
-  sound_before : (l : ℕ) (v : ℤ) → l ≤ t → ends' l ≡ Some v → IsFrom g π T (suc T) ends' firsts' lasts' l v
-  sound_before l v low is = elim (table.sound l v low (sym (ends_same l (λ z. omega (arith, z, low))) ∙ is)) [
+  sound_before : (l : ℕ) (v : ℤ) → l ≤ t → ends' l ≡ Some v → v ≤ℤ limits l → IsFrom g π T (suc T) ends' firsts' lasts' l v
+  sound_before l v low is under = elim (table.sound l v low (sym (ends_same l (λ z. omega (arith, z, low))) ∙ is) under) [
     | inl idle ↦ inl idle
     | inr from ↦
         let first = firsts_same l (λ z. omega (arith, z, low)) in
@@ -111,21 +113,21 @@ module _ (g : ThermalUnit) (π : PriceLists) (unit : IsThermalUnit g) (t : ℕ) 
   none_more l above = ends_same l (λ z. omega (arith, z, above)) ∙ table.none l (omega (arith, above))
 
   -- none may be on in the period
-  pub table_off : (mark_in g.window (suc t) ≡ MustOff) → ends' (suc t) ≡ None → IsTableTo g π T (suc t) ends' firsts' lasts'
+  pub table_off : (mark_in g.window (suc t) ≡ MustOff) → ends' (suc t) ≡ None → IsTableTo g π limits T (suc t) ends' firsts' lasts'
   table_off mark none_here = record {
     idle = idle_more;
-    spell = λ f l e d low spell entry dispatch. elim (cases_lt l (suc t)) [
-      | inl less ↦ spell_before f l e d (omega (arith, less)) spell entry dispatch
+    spell = λ f l e d low spell entry dispatch under. elim (cases_lt l (suc t)) [
+      | inl less ↦ spell_before f l e d (omega (arith, less)) spell entry dispatch under
       | inr most ↦ let order = spell.order in absurd (spell.marks (suc t) (omega arith) (let z : l ≡ suc t = omega (arith, most, low) in omega (arith, z, order)) (omega (arith, most)) mark)
     ];
-    sound = λ l v low is. elim (cases_lt l (suc t)) [
-      | inl less ↦ sound_before l v (omega (arith, less)) is
+    sound = λ l v low is under. elim (cases_lt l (suc t)) [
+      | inl less ↦ sound_before l v (omega (arith, less)) is under
       | inr most ↦ let z : l ≡ suc t = omega (arith, most, low) in let same = ap ends' z in cc
     ];
     none = none_more;
   }
 
-  module _ (go : DispatchesGoOn) (are_runs : DispatchesAreRuns) (live : ℕ → Option Going) (now : AreRunners g π ends live t (suc (suc t)))
+  module _ (most : ℤ) (limits_right : AreLimits g π most limits) (go : DispatchesGoOn) (are_runs : DispatchesAreRuns) (live : ℕ → Option Going) (now : AreRunners g π limits ends live t (suc (suc t)))
       (row : IsRowOf g π T live (suc (suc t)) (suc t) (ends' (suc t)) (firsts' (suc t)) (lasts' (suc t))) where
     -- a dispatch of a runner that is as cheap
     record IsReplaced (f : ℕ) (e : ℤ) (d : Schedule) : Type 0 where
@@ -139,15 +141,17 @@ module _ (g : ThermalUnit) (π : PriceLists) (unit : IsThermalUnit g) (t : ℕ) 
       pub cheap : (going.cost +ℤ spell_cost g π other (suc t) dispatch) ≤ℤ (e +ℤ spell_cost g π f (suc t) d)
       pub later : (f ≤ other) ⊎ (((going.cost +ℤ spell_cost g π other (suc t) dispatch) +ℤ pos 1) ≤ℤ (e +ℤ spell_cost g π f (suc t) d))
 
-    replaced : (f : ℕ) (e : ℤ) (d : Schedule) → IsSpell g T f (suc t) → IsEntry g ends f e → IsDispatch g T f (suc t) d → IsReplaced f e d
-    replaced f e d spell entry dispatch =
+    replaced : (f : ℕ) (e : ℤ) (d : Schedule) → IsSpell g T f (suc t) → IsEntry g ends f e → IsDispatch g T f (suc t) d → (e +ℤ spell_cost g π f (suc t) d) ≤ℤ limits (suc t) → IsReplaced f e d
+    replaced f e d spell entry dispatch under =
         let order = spell.order in
+        let more = one_more_cost g π f t d order in
+        let last = limits_right.step t d within (dispatch_in_range g T f (suc t) d t dispatch order (omega arith)) in
         let run = are_runs g T f t d unit order dispatch in
         let may : MayBeOn g f t = record { goes_on = spell.goes_on; marks = λ k one from until. spell.marks k one from (omega (arith, until)) } in
-        let s = now.all f e d (omega (arith, order)) may entry (λ k from until. run k from (omega (arith, until))) in
+        let s = now.all f e d (omega (arith, order)) may entry (λ k from until. run k from (omega (arith, until)))
+        (before_low e (spell_cost g π f t d) (spell_cost g π f (suc t) d) (net_cost g π d (suc t)) (limits t) (limits (suc t)) more last under) in
         let runner = now.right s.other s.going s.on in
         let low = runner.0 in
-        let more = one_more_cost g π f t d order in
         let cheap = s.cheap in
         let other_spell : s.other ≤ suc t → IsSpell g T s.other (suc t) = λ below. record {
           order = below;
@@ -193,14 +197,14 @@ module _ (g : ThermalUnit) (π : PriceLists) (unit : IsThermalUnit g) (t : ℕ) 
               }
         ]
 
-    spell_here : (f : ℕ) (e : ℤ) (d : Schedule) → IsSpell g T f (suc t) → IsEntry g ends f e → IsDispatch g T f (suc t) d → HasAtMost (ends' (suc t)) (e +ℤ spell_cost g π f (suc t) d)
-    spell_here f e d spell entry dispatch =
-        let r = replaced f e d spell entry dispatch in
+    spell_here : (f : ℕ) (e : ℤ) (d : Schedule) → IsSpell g T f (suc t) → IsEntry g ends f e → IsDispatch g T f (suc t) d → (e +ℤ spell_cost g π f (suc t) d) ≤ℤ limits (suc t) → HasAtMost (ends' (suc t)) (e +ℤ spell_cost g π f (suc t) d)
+    spell_here f e d spell entry dispatch under =
+        let r = replaced f e d spell entry dispatch under in
         at_most_more (ends' (suc t)) (r.going.cost +ℤ spell_cost g π r.other (suc t) r.dispatch) (e +ℤ spell_cost g π f (suc t) d) (row.most r.other r.going r.dispatch r.low r.on r.spell r.keeps) r.cheap
 
-    latest_here : (v : ℤ) → ends' (suc t) ≡ Some v → (f : ℕ) (e : ℤ) (d : Schedule) → IsSpell g T f (suc t) → IsEntry g ends f e → IsDispatch g T f (suc t) d → (e +ℤ spell_cost g π f (suc t) d) ≡ v → f ≤ firsts' (suc t)
-    latest_here v is f e d spell entry dispatch cost =
-        let r = replaced f e d spell entry dispatch in
+    latest_here : (v : ℤ) → ends' (suc t) ≡ Some v → v ≤ℤ limits (suc t) → (f : ℕ) (e : ℤ) (d : Schedule) → IsSpell g T f (suc t) → IsEntry g ends f e → IsDispatch g T f (suc t) d → (e +ℤ spell_cost g π f (suc t) d) ≡ v → f ≤ firsts' (suc t)
+    latest_here v is under f e d spell entry dispatch cost =
+        let r = replaced f e d spell entry dispatch (omega (arith, ints, cost, under)) in
         let here = r.going.cost +ℤ spell_cost g π r.other (suc t) r.dispatch in
         let h = row.most r.other r.going r.dispatch r.low r.on r.spell r.keeps in
         let value : h.0 ≡ v = (let a = h.1 in cc) in
@@ -214,8 +218,8 @@ module _ (g : ThermalUnit) (π : PriceLists) (unit : IsThermalUnit g) (t : ℕ) 
               omega (arith, from, latest)
         ]
 
-    sound_here : (v : ℤ) → ends' (suc t) ≡ Some v → IsFrom g π T (suc T) ends' firsts' lasts' (suc t) v
-    sound_here v is =
+    sound_here : (v : ℤ) → ends' (suc t) ≡ Some v → v ≤ℤ limits (suc t) → IsFrom g π T (suc T) ends' firsts' lasts' (suc t) v
+    sound_here v is under =
         let h = row.sound v is in
         let r = h.0 in
         let runner = (now.right (firsts' (suc t)) r h.1).1 in
@@ -233,41 +237,27 @@ module _ (g : ThermalUnit) (π : PriceLists) (unit : IsThermalUnit g) (t : ℕ) 
           omega (arith, order, end),
           subst (λ (k : ℕ). IsEnded g π T ends' (firsts' (suc t)) k (suc t) v) h.3 ended,
           λ f k e d low spell entry dispatch cost.
-              (let below = spell.order in latest_here v is f e d spell (k, entry_same g ends' ends f k e (older f below) entry) dispatch cost),
+              (let below = spell.order in latest_here v is under f e d spell (k, entry_same g ends' ends f k e (older f below) entry) dispatch cost),
         )
 
-    pub table_on : IsTableTo g π T (suc t) ends' firsts' lasts'
+    pub table_on : IsTableTo g π limits T (suc t) ends' firsts' lasts'
     table_on = record {
       idle = idle_more;
-      spell = λ f l e d low spell entry dispatch. elim (cases_lt l (suc t)) [
-        | inl less ↦ spell_before f l e d (omega (arith, less)) spell entry dispatch
+      spell = λ f l e d low spell entry dispatch under. elim (cases_lt l (suc t)) [
+        | inl less ↦ spell_before f l e d (omega (arith, less)) spell entry dispatch under
         | inr most ↦
             let z : suc t ≡ l = omega (arith, most, low) in
-            subst (λ (l : ℕ). IsSpell g T f l → IsDispatch g T f l d → HasAtMost (ends' l) (e +ℤ spell_cost g π f l d)) z
-            (λ spell dispatch. (let order = spell.order in spell_here f e d spell (entry_to g ends' ends f (older f order) e entry) dispatch)) spell dispatch
+            subst (λ (l : ℕ). IsSpell g T f l → IsDispatch g T f l d → (e +ℤ spell_cost g π f l d) ≤ℤ limits l → HasAtMost (ends' l) (e +ℤ spell_cost g π f l d)) z
+            (λ spell dispatch under. (let order = spell.order in spell_here f e d spell (entry_to g ends' ends f (older f order) e entry) dispatch under)) spell dispatch under
       ];
-      sound = λ l v low is. elim (cases_lt l (suc t)) [
-        | inl less ↦ sound_before l v (omega (arith, less)) is
+      sound = λ l v low is under. elim (cases_lt l (suc t)) [
+        | inl less ↦ sound_before l v (omega (arith, less)) is under
         | inr most ↦
             let z : suc t ≡ l = omega (arith, most, low) in
-            subst (λ (l : ℕ). ends' l ≡ Some v → IsFrom g π T (suc T) ends' firsts' lasts' l v) z (sound_here v) is
+            subst (λ (l : ℕ). ends' l ≡ Some v → v ≤ℤ limits l → IsFrom g π T (suc T) ends' firsts' lasts' l v) z (sound_here v) is under
       ];
       none = none_more;
     }
-
--- ---- all periods
-
-pub table_whole : (g : ThermalUnit) (π : PriceLists) (periods : ℕ) (ends : ℕ → Option ℤ) (firsts lasts : ℕ → ℕ) → IsTableTo g π periods periods ends firsts lasts → IsTable g π periods (suc periods) ends firsts lasts
-table_whole g π periods ends firsts lasts table = record {
-  complete = record {
-    idle = table.idle;
-    spell = λ f l e d low spell entry dispatch. table.spell f l e d spell.end spell entry dispatch;
-  };
-  sound = λ l v is. elim (cases_lt periods l) [
-    | inl above ↦ (let none = table.none l above in cc)
-    | inr low ↦ table.sound l v low is
-  ];
-}
 
 -- ---- no period
 
@@ -340,20 +330,20 @@ module _ (g : ThermalUnit) (π : PriceLists) (some : 1 ≤ length π.energy) (ro
             )
       ] refl
 
-  pub table_begun : IsTableTo g π (length π.energy) 0 (cost_at rows) (first_at rows) (before_at rows)
-  table_begun = record {
+  pub table_begun : (limits : ℕ → ℤ) → IsTableTo g π limits (length π.energy) 0 (cost_at rows) (first_at rows) (before_at rows)
+  table_begun limits = record {
     idle = λ off. elim (row_at rows 0) as (λ o. row_at rows 0 ≡ o → HasAtMost (cost_at rows 0) (pos 0)) [
       | Some r ↦ λ is. (pos 0, zero_cost r is, omega (arith, ints))
       | None ↦ λ is. (let h : IsFirstRow g π None = subst (IsFirstRow g π) is first in let on = h.0 in cc)
     ] refl;
-    spell = λ f l e d low spell entry dispatch.
+    spell = λ f l e d low spell entry dispatch under.
         let order = spell.order in
         let z : 0 ≡ l = omega (arith, low) in
         let y : 0 ≡ f = omega (arith, low, order) in
         subst (λ (f : ℕ). IsSpell g (length π.energy) f l → IsEntry g (cost_at rows) f e → IsDispatch g (length π.energy) f l d → HasAtMost (cost_at rows l) (e +ℤ spell_cost g π f l d)) y
         (subst (λ (l : ℕ). IsSpell g (length π.energy) 0 l → IsEntry g (cost_at rows) 0 e → IsDispatch g (length π.energy) 0 l d → HasAtMost (cost_at rows l) (e +ℤ spell_cost g π 0 l d)) z (spell_zero e d))
         spell entry dispatch;
-    sound = λ l v low is.
+    sound = λ l v low is under.
         let z : 0 ≡ l = omega (arith, low) in
         subst (λ (l : ℕ). cost_at rows l ≡ Some v → IsFrom g π (length π.energy) (suc (length π.energy)) (cost_at rows) (first_at rows) (before_at rows) l v) z (sound_zero v) is;
     none = λ l above. (let none = rest l above in ap (λ (o : Option Ended). option_map (λ (e : Ended). e.cost) o) none);

@@ -1,5 +1,5 @@
 -- A runner that stands for a run goes on standing for it: a period more, a start that isn't begun, a runner that goes.
-use Rattle.std.proofs.Common.{◌≡◌, ◌≢◌, ℕ, zero, suc, ◌<◌, ◌≤◌, inl, inr, Option, Some, None, ℤ, pos, ◌+ℤ◌, ◌≤ℤ◌, length, refl, sym, ap, ◌∙◌, subst, arith}
+use Rattle.std.proofs.Common.{◌≡◌, ◌≢◌, ℕ, zero, suc, ◌<◌, ◌≤◌, ◌==◌, false, inl, inr, Option, Some, None, ℤ, pos, ◌+ℤ◌, ◌≤ℤ◌, length, refl, sym, ap, ◌∙◌, subst, arith}
 use Rattle.std.proofs.lemmas.Int.{ints}
 use Rattle.std.proofs.lemmas.Bool.{cases_lt, cases_eq, lt-ltb}
 use Rattle.shape_law.specs.Table.{Table, value_of}
@@ -10,9 +10,11 @@ use Rattle.spell_run.specs.Frontier.{IsFrontier}
 use Rattle.spell_run.specs.Joins.{RunsGoOn}
 use Rattle.spell_run.specs.Spells.{net_cost, spell_cost}
 use Rattle.spell_run.specs.Steps.{level, IsRun}
+use Rattle.unit_program.specs.Limits.{AreLimits}
 use Rattle.unit_program.specs.Spells.{on_time}
 use Rattle.unit_program.specs.Tables.{IsEntry, IsLeastEntry}
 use Rattle.unit_program.specs.Runners.{Going, MayBeOn, IsRunner, HasStandIn, AreRunners, IsGoneOn}
+use Rattle.unit_program.proofs.RangeLaws.{move_in_range, before_low}
 use Rattle.unit_program.proofs.WaysLaws.{noted_more}
 use Rattle.unit_program.proofs.CostLaws.{sum_from_to-more, sum_from_to-none}
 
@@ -53,31 +55,31 @@ one_more_cost g π first t d from = sum_from_to-more (net_cost g π d) first t f
 run_less : (g : ThermalUnit) (first t : ℕ) (d : Schedule) → IsRun g first (suc t) d → IsRun g first t d
 run_less g first t d run k from until = run k from (omega (arith, until))
 
-module _ (g : ThermalUnit) (π : PriceLists) (ends : ℕ → Option ℤ) (t : ℕ) (live live' : ℕ → Option Going) where
+module _ (g : ThermalUnit) (π : PriceLists) (limits : ℕ → ℤ) (ends : ℕ → Option ℤ) (t : ℕ) (live live' : ℕ → Option Going) where
   -- ---- a start in period suc t
 
-  module _ (now : AreRunners g π ends live t (suc t)) where
+  module _ (now : AreRunners g π limits ends live t (suc t)) where
     -- no spell may begin there
-    pub none_starts : ((e : ℤ) → IsEntry g ends (suc t) e → ⊥) → AreRunners g π ends live t (suc (suc t))
+    pub none_starts : ((e : ℤ) → IsEntry g ends (suc t) e → ⊥) → AreRunners g π limits ends live t (suc (suc t))
     none_starts none = record {
       right = λ f r is. (let h = now.right f r is in let low = h.0 in (omega (arith, low), h.1));
-      all = λ f e d low may entry run. elim (cases_lt f (suc t)) [
-        | inl less ↦ now.all f e d less may entry run
+      all = λ f e d low may entry run under. elim (cases_lt f (suc t)) [
+        | inl less ↦ now.all f e d less may entry run under
         | inr most ↦ let z : f ≡ suc t = omega (arith, most, low) in absurd (none e (subst (λ (f : ℕ). IsEntry g ends f e) z entry))
       ];
     }
 
     -- none may be on there
-    pub none_on : (MayBeOn g (suc t) (suc t) → ⊥) → AreRunners g π ends live t (suc (suc t)) → AreRunners g π ends live t (suc (suc t))
+    pub none_on : (MayBeOn g (suc t) (suc t) → ⊥) → AreRunners g π limits ends live t (suc (suc t)) → AreRunners g π limits ends live t (suc (suc t))
     none_on none all = all
 
     -- a runner at the least power costs less than the least entry
     pub start_undercut : (last : ℕ) (e : ℤ) → IsLeastEntry g ends (suc t) last e → (other : ℕ) (r : Going) (v : ℤ) → live other ≡ Some r → value_of r.function g.min_power ≡ Some v →
-        ((r.cost +ℤ v) +ℤ pos 1) ≤ℤ e → AreRunners g π ends live t (suc (suc t))
+        ((r.cost +ℤ v) +ℤ pos 1) ≤ℤ e → AreRunners g π limits ends live t (suc (suc t))
     start_undercut last e least other r v on there cheap = record {
       right = λ f r is. (let h = now.right f r is in let low = h.0 in (omega (arith, low), h.1));
-      all = λ f e' d low may entry run. elim (cases_lt f (suc t)) [
-        | inl less ↦ now.all f e' d less may entry run
+      all = λ f e' d low may entry run under. elim (cases_lt f (suc t)) [
+        | inl less ↦ now.all f e' d less may entry run under
         | inr most ↦
             let z : suc t ≡ f = omega (arith, most, low) in
             subst (λ (f : ℕ). IsEntry g ends f e' → HasStandIn g π live t f e' d) z
@@ -100,7 +102,7 @@ module _ (g : ThermalUnit) (π : PriceLists) (ends : ℕ → Option ℤ) (t : �
     }
 
     -- or its own runner begins
-    pub start_begun : (r : Going) → live' (suc t) ≡ Some r → ((f : ℕ) → f ≢ suc t → live' f ≡ live f) → IsRunner g π ends t (suc t) r → AreRunners g π ends live' t (suc (suc t))
+    pub start_begun : (r : Going) → live' (suc t) ≡ Some r → ((f : ℕ) → f ≢ suc t → live' f ≡ live f) → IsRunner g π ends t (suc t) r → AreRunners g π limits ends live' t (suc (suc t))
     start_begun r begins same runner = record {
       right = λ f x is. elim (cases_eq f (suc t)) [
         | inl z ↦
@@ -108,9 +110,9 @@ module _ (g : ThermalUnit) (π : PriceLists) (ends : ℕ → Option ℤ) (t : �
             (omega (arith, z), subst (λ (x : Going). IsRunner g π ends t f x) here (subst (λ (f : ℕ). IsRunner g π ends t f r) (sym z) runner))
         | inr other ↦ (let h = now.right f x (sym (same f other) ∙ is) in let low = h.0 in (omega (arith, low), h.1))
       ];
-      all = λ f e' d low may entry run. elim (cases_lt f (suc t)) [
+      all = λ f e' d low may entry run under. elim (cases_lt f (suc t)) [
         | inl less ↦
-            let s = now.all f e' d less may entry run in
+            let s = now.all f e' d less may entry run under in
             let begun = (now.right s.other s.going s.on).0 in
             record {
               other = s.other;
@@ -144,22 +146,72 @@ module _ (g : ThermalUnit) (π : PriceLists) (ends : ℕ → Option ℤ) (t : �
       ];
     }
 
+    -- or the least entry is above the limit
+    pub start_beyond : (last : ℕ) (e : ℤ) → IsLeastEntry g ends (suc t) last e → (limits t +ℤ pos 1) ≤ℤ e → AreRunners g π limits ends live t (suc (suc t))
+    start_beyond last e least beyond = record {
+      right = λ f r is. (let h = now.right f r is in let low = h.0 in (omega (arith, low), h.1));
+      all = λ f e' d low may entry run under. elim (cases_lt f (suc t)) [
+        | inl less ↦ now.all f e' d less may entry run under
+        | inr most ↦
+            let z : suc t ≡ f = omega (arith, most, low) in
+            subst (λ (f : ℕ). IsEntry g ends f e' → (e' +ℤ spell_cost g π f t d) ≤ℤ limits t → HasStandIn g π live t f e' d) z
+            (λ entry under. (
+            let bound = least.least e' entry in
+            let nothing : spell_cost g π (suc t) t d ≡ pos 0 = sum_from_to-none (net_cost g π d) t in
+            absurd (omega (arith, ints, beyond, bound, nothing, under)))) entry under
+      ];
+    }
+
   -- ---- a runner goes
 
+  -- all that it stands for is above the limit
+  module _ (n gone_first : ℕ) (a : Going) (now : AreRunners g π limits ends live t n) (on : live gone_first ≡ Some a)
+      (beyond : (x v : ℤ) → value_of a.function x ≡ Some v → (limits t +ℤ pos 1) ≤ℤ (a.cost +ℤ v))
+      (gone : live' gone_first ≡ None) (same : (f : ℕ) → f ≢ gone_first → live' f ≡ live f) where
+    pub beyond_goes : AreRunners g π limits ends live' t n
+    beyond_goes = record {
+      right = λ f x is. elim (cases_eq f gone_first) [
+        | inl z ↦ (let none = ap live' z in cc)
+        | inr other ↦ now.right f x (sym (same f other) ∙ is)
+      ];
+      all = λ f e d low may entry run under.
+          let s = now.all f e d low may entry run under in
+          let cheap = s.cheap in
+          elim (cases_eq s.other gone_first) [
+            | inr other ↦ record {
+              other = s.other;
+              going = s.going;
+              value = s.value;
+              on = same s.other other ∙ s.on;
+              there = s.there;
+              cheap = s.cheap;
+              later = s.later;
+              long = s.long;
+              begun = s.begun;
+            }
+            | inl z ↦
+                let here : s.going ≡ a = (let i = s.on in let j = ap live z in cc) in
+                let cost : s.going.cost ≡ a.cost = ap (λ (r : Going). r.cost) here in
+                let there : value_of a.function (level g f d t) ≡ Some s.value = subst (λ (r : Going). value_of r.function (level g f d t) ≡ Some s.value) here s.there in
+                let above = beyond (level g f d t) s.value there in
+                absurd (omega (arith, ints, above, cost, cheap, under))
+          ];
+    }
+
   -- a later one stands for all that an earlier one stands for
-  module _ (n early late : ℕ) (a b : Going) (now : AreRunners g π ends live t n)
+  module _ (n early late : ℕ) (a b : Going) (now : AreRunners g π limits ends live t n)
       (on_early : live early ≡ Some a) (on_late : live late ≡ Some b) (order : early < late) (begun : late ≤ t)
       (long : g.min_up ≤ on_time g late (suc t))
       (below : (x v : ℤ) → value_of a.function x ≡ Some v → (u : ℤ) × (value_of b.function x ≡ Some u) × ((b.cost +ℤ u) ≤ℤ (a.cost +ℤ v)))
       (gone : live' early ≡ None) (same : (f : ℕ) → f ≢ early → live' f ≡ live f) where
-    pub early_goes : AreRunners g π ends live' t n
+    pub early_goes : AreRunners g π limits ends live' t n
     early_goes = record {
       right = λ f x is. elim (cases_eq f early) [
         | inl z ↦ (let none = ap live' z in cc)
         | inr other ↦ now.right f x (sym (same f other) ∙ is)
       ];
-      all = λ f e d low may entry run.
-          let s = now.all f e d low may entry run in
+      all = λ f e d low may entry run under.
+          let s = now.all f e d low may entry run under in
           let cheap = s.cheap in
           elim (cases_eq s.other early) [
             | inr other ↦ record {
@@ -178,17 +230,17 @@ module _ (g : ThermalUnit) (π : PriceLists) (ends : ℕ → Option ℤ) (t : �
                 let cost : s.going.cost ≡ a.cost = ap (λ (r : Going). r.cost) here in
                 let there : value_of a.function (level g f d t) ≡ Some s.value = subst (λ (r : Going). value_of r.function (level g f d t) ≡ Some s.value) here s.there in
                 let u = below (level g f d t) s.value there in
-                let under = u.2 in
+                let beneath = u.2 in
                 record {
                   other = late;
                   going = b;
                   value = u.0;
                   on = same late (λ w. omega (arith, w, order)) ∙ on_late;
                   there = u.1;
-                  cheap = omega (arith, ints, under, cost, cheap);
+                  cheap = omega (arith, ints, beneath, cost, cheap);
                   later = elim (s.later) [
                     | inl from ↦ inl (omega (arith, from, z, order))
-                    | inr less ↦ inr (omega (arith, ints, under, cost, less))
+                    | inr less ↦ inr (omega (arith, ints, beneath, cost, less))
                   ];
                   long = λ l above up. (let more = on_time_rises g late (suc t) l (omega (arith, above)) in omega (arith, more, long));
                   begun = inl begun;
@@ -198,7 +250,7 @@ module _ (g : ThermalUnit) (π : PriceLists) (ends : ℕ → Option ℤ) (t : �
 
   -- ---- a period more
 
-  module _ (go : RunsGoOn) (within : t < length π.energy) (now : AreRunners g π ends live t (suc (suc t))) (open_next : mark_in g.window (suc t) ≡ MustOff → ⊥)
+  module _ (most : ℤ) (limits_right : AreLimits g π most limits) (go : RunsGoOn) (within : t < length π.energy) (now : AreRunners g π limits ends live t (suc (suc t))) (open_next : mark_in g.window (suc t) ≡ MustOff → ⊥)
       (goes : (f : ℕ) (r : Going) → live f ≡ Some r → IsGoneOn g π t f r (live' f))
       (only : (f : ℕ) → live f ≡ None → live' f ≡ None) where
     right_more : (f : ℕ) (x : Going) → live' f ≡ Some x → (f < suc (suc t)) × IsRunner g π ends (suc t) f x
@@ -236,9 +288,16 @@ module _ (g : ThermalUnit) (π : PriceLists) (ends : ℕ → Option ℤ) (t : �
           | inr gone ↦ (let none = gone.1 (level g f d (suc t)) in let some = w.1 in cc)
         ]
 
-    all_more : (f : ℕ) (e : ℤ) (d : Schedule) → f < suc (suc t) → MayBeOn g f (suc t) → IsEntry g ends f e → IsRun g f (suc t) d → HasStandIn g π live' (suc t) f e d
-    all_more f e d low may entry run =
-        let s = now.all f e d low (may_less g f (suc t) t (omega arith) may) entry (run_less g f t d run) in
+    -- what is within the limit a period later has a runner that stands for it before
+    all_before : (f : ℕ) (e : ℤ) (d : Schedule) → f < suc (suc t) → MayBeOn g f (suc t) → IsEntry g ends f e → IsRun g f (suc t) d → (e +ℤ spell_cost g π f (suc t) d) ≤ℤ limits (suc t) → HasStandIn g π live t f e d
+    all_before f e d low may entry run under =
+        now.all f e d low (may_less g f (suc t) t (omega arith) may) entry (run_less g f t d run)
+        (before_low e (spell_cost g π f t d) (spell_cost g π f (suc t) d) (net_cost g π d (suc t)) (limits t) (limits (suc t)) (one_more_cost g π f t d (omega (arith, low)))
+        (limits_right.step t d within (move_in_range g (f == suc t) false (level g f d t) d t (run t (omega (arith, low)) (omega arith)))) under)
+
+    all_more : (f : ℕ) (e : ℤ) (d : Schedule) → f < suc (suc t) → MayBeOn g f (suc t) → IsEntry g ends f e → IsRun g f (suc t) d → (e +ℤ spell_cost g π f (suc t) d) ≤ℤ limits (suc t) → HasStandIn g π live' (suc t) f e d
+    all_more f e d low may entry run low_cost =
+        let s = all_before f e d low may entry run low_cost in
         let more = one_more_cost g π f t d (omega (arith, low)) in
         let cheap = s.cheap in
         let order = (now.right s.other s.going s.on).0 in
@@ -286,5 +345,5 @@ module _ (g : ThermalUnit) (π : PriceLists) (ends : ℕ → Option ℤ) (t : �
               }
         ]
 
-    pub run_on : AreRunners g π ends live' (suc t) (suc (suc t))
+    pub run_on : AreRunners g π limits ends live' (suc t) (suc (suc t))
     run_on = record { right = right_more; all = all_more }

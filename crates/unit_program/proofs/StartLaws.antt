@@ -19,7 +19,7 @@ use Rattle.unit_program.proofs.StandInLaws.{start_begun}
 
 -- ---- a start
 
-module _ {R : Type 0} (function : R → Table) (g : ThermalUnit) (π : PriceLists) (ends : ℕ → Option ℤ) (t i : ℕ) (z : i ≡ suc t) (runners : List (Runner R)) (a : Runner R) (low : i < length runners)
+module _ {R : Type 0} (function : R → Table) (g : ThermalUnit) (π : PriceLists) (limits : ℕ → ℤ) (ends : ℕ → Option ℤ) (t i : ℕ) (z : i ≡ suc t) (runners : List (Runner R)) (a : Runner R) (low : i < length runners)
     (last : ℕ) (e : ℤ) (on : a.is_on ≡ true) (cost : a.cost ≡ e) (before : a.before ≡ last) (frontier : IsFrontier g π i (i - 1) (function a.running)) (within : IsWithinTimes (2 * t + 3) e)
     (least : IsLeastEntry g ends (suc t) last e) where
   going : Going
@@ -45,8 +45,8 @@ module _ {R : Type 0} (function : R → Table) (g : ThermalUnit) (π : PriceList
         noted = λ x v there k from until. absurd (omega (arith, from, until));
       }
 
-  pub started : AreRunners g π ends (live_at function runners) t (suc t) → AreRunners g π ends (live_at function (slice_set runners i a)) t (suc (suc t))
-  started now = start_begun g π ends t (live_at function runners) (live_at function (slice_set runners i a)) now going begun_here
+  pub started : AreRunners g π limits ends (live_at function runners) t (suc t) → AreRunners g π limits ends (live_at function (slice_set runners i a)) t (suc (suc t))
+  started now = start_begun g π limits ends t (live_at function runners) (live_at function (slice_set runners i a)) now going begun_here
       (λ f other. live_other function runners (slice_set runners i a) i a low refl f (λ y. other (y ∙ z))) begun_runner
 
 -- ---- before the horizon
@@ -57,11 +57,11 @@ entry_zero g ends e entry = elim (entry.1) [
   | inr h ↦ let f = h.first in absurd (omega (arith, f))
 ]
 
-module _ {R : Type 0} (function : R → Table) (g : ThermalUnit) (π : PriceLists) (ends : ℕ → Option ℤ) (runners : List (Runner R)) (off : (f : ℕ) → live_at function runners f ≡ None) where
-  pub none_goes_on : IsFalse g.on0 → AreRunners g π ends (live_at function runners) 0 1
+module _ {R : Type 0} (function : R → Table) (g : ThermalUnit) (π : PriceLists) (limits : ℕ → ℤ) (ends : ℕ → Option ℤ) (runners : List (Runner R)) (off : (f : ℕ) → live_at function runners f ≡ None) where
+  pub none_goes_on : IsFalse g.on0 → AreRunners g π limits ends (live_at function runners) 0 1
   none_goes_on off0 = record {
     right = λ f r is. (let none = off f in cc);
-    all = λ f e d low may entry run. (let on = may.goes_on (omega (arith, low)) in cc);
+    all = λ f e d low may entry run under. (let on = may.goes_on (omega (arith, low)) in cc);
   }
 
   module _ (a : Runner R) (low : 0 < length runners) (on0 : IsTrue g.on0) (on : a.is_on ≡ true) (cost : a.cost ≡ pos 0) (before : a.before ≡ 0) (frontier : IsFrontier g π 0 (0 - 1) (function a.running)) where
@@ -102,7 +102,7 @@ module _ {R : Type 0} (function : R → Table) (g : ThermalUnit) (π : PriceList
           begun = inl (omega arith);
         }
 
-    pub one_goes_on : AreRunners g π ends (live_at function (slice_set runners 0 a)) 0 1
+    pub one_goes_on : AreRunners g π limits ends (live_at function (slice_set runners 0 a)) 0 1
     one_goes_on = record {
       right = λ f r is. elim (cases_eq f 0) [
         | inl z ↦
@@ -110,15 +110,15 @@ module _ {R : Type 0} (function : R → Table) (g : ThermalUnit) (π : PriceList
             (omega (arith, z), subst (λ (f : ℕ). IsRunner g π ends 0 f r) (sym z) (subst (λ (r : Going). IsRunner g π ends 0 0 r) same runner))
         | inr other ↦ (let none = live_other function runners (slice_set runners 0 a) 0 a low refl f other ∙ off f in cc)
       ];
-      all = λ f e d low may entry run.
+      all = λ f e d low may entry run under.
           let z : 0 ≡ f = omega (arith, low) in
           subst (λ (f : ℕ). IsEntry g ends f e → HasStandIn g π (live_at function (slice_set runners 0 a)) 0 f e d) z (stand_in e d) entry;
     }
 
 -- ---- none may be on
 
-pub all_stop : (g : ThermalUnit) (π : PriceLists) (ends : ℕ → Option ℤ) (live : ℕ → Option Going) (t : ℕ) → ((f : ℕ) → live f ≡ None) → mark_in g.window (suc t) ≡ MustOff → AreRunners g π ends live (suc t) (suc (suc t))
-all_stop g π ends live t off mark = record {
+pub all_stop : (g : ThermalUnit) (π : PriceLists) (limits : ℕ → ℤ) (ends : ℕ → Option ℤ) (live : ℕ → Option Going) (t : ℕ) → ((f : ℕ) → live f ≡ None) → mark_in g.window (suc t) ≡ MustOff → AreRunners g π limits ends live (suc t) (suc (suc t))
+all_stop g π limits ends live t off mark = record {
   right = λ f r is. (let none = off f in cc);
-  all = λ f e d low may entry run. absurd (may.marks (suc t) (omega arith) (omega (arith, low)) (omega arith) mark);
+  all = λ f e d low may entry run under. absurd (may.marks (suc t) (omega arith) (omega (arith, low)) (omega arith) mark);
 }

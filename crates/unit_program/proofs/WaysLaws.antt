@@ -96,7 +96,7 @@ ways_none g π t ends firsts left none ways l v one until is = elim (cases_lt l 
 ]
 
 module _ (g : ThermalUnit) (π : PriceLists) (t n : ℕ) (ends ends' : ℕ → Option ℤ) (firsts firsts' : ℕ → ℕ) (before : ℕ) (left left' : ℕ → ℕ → Passed) (live : ℕ → Option Going)
-    (now : AreRunners g π ends live t n) (lefts : (f : ℕ) (r : Going) (k : ℕ) → live f ≡ Some r → r.left k ≡ left f k)
+    (limits : ℕ → ℤ) (now : AreRunners g π limits ends live t n) (lefts : (f : ℕ) (r : Going) (k : ℕ) → live f ≡ Some r → r.left k ≡ left f k)
     (row : IsRowOf g π (length π.energy) live n (suc t) (ends' (suc t)) (firsts' (suc t)) before)
     (ended : (v : ℤ) → ends' (suc t) ≡ Some v → IsEndLeft g π (firsts' (suc t)) t (left' (firsts' (suc t)) t))
     (kept : (f k : ℕ) → k ≢ t → left' f k ≡ left f k)

@@ -15,6 +15,7 @@ pub record IsBenchFor {R : Type 0} (room_of : R → ℕ) (periods points : ℕ) 
   pub rows : periods < length b.table.items
   pub origins : periods < length b.origins.list.items
   pub roster : periods < length b.roster.firsts.items
+  pub limits : periods < length b.limits.items
 
 -- a bench serves fewer periods and points too
 abbrev pub BenchesServeLess : Type 0

@@ -1,6 +1,7 @@
 pub mod Benches
 pub mod Backs
 pub mod Builds
+pub mod Limits
 pub mod Lists
 pub mod Live
 pub mod Origins

@@ -46,6 +46,10 @@ AreSmall live = (first : ℕ) (r : Going) → live first ≡ Some r → IsSmallG
 abbrev pub IsUnder : ℤ → ℤ → Going → Type 0
 IsUnder power cost r = (v : ℤ) × (value_of r.function power ≡ Some v) × (((r.cost +ℤ v) +ℤ pos 1) ≤ℤ cost)
 
+-- it is above a limit at each power
+abbrev pub IsBeyond : ℤ → ℤ → Table → Type 0
+IsBeyond limit cost f = (x v : ℤ) → value_of f x ≡ Some v → (limit +ℤ pos 1) ≤ℤ (cost +ℤ v)
+
 -- f, after cost e, is nowhere above f', after cost e', and has all its places
 abbrev pub IsBelow : Table → ℤ → Table → ℤ → Type 0
 IsBelow f e f' e' = (x v : ℤ) → value_of f' x ≡ Some v → (u : ℤ) × (value_of f x ≡ Some u) × ((e +ℤ u) ≤ℤ (e' +ℤ v))
@@ -56,7 +60,7 @@ HaveRoom {R} room most periods runners =
     (first : ℕ) (r : Runner R) → slice_get runners first ≡ Some r → (most ≤ room r.running) × (periods ≤ length r.passed.items)
 
 -- the rows up to period t are those of the table, and each run has a runner that stands for it
-pub record IsFilledTo (g : ThermalUnit) (π : PriceLists) (t : ℕ) (rows : List (Option Ended)) (live : ℕ → Option Going) : Type 0 where
-  pub table : IsTableTo g π (length π.energy) t (cost_at rows) (first_at rows) (before_at rows)
-  pub runners : AreRunners g π (cost_at rows) live t (suc t)
+pub record IsFilledTo (g : ThermalUnit) (π : PriceLists) (limits : ℕ → ℤ) (t : ℕ) (rows : List (Option Ended)) (live : ℕ → Option Going) : Type 0 where
+  pub table : IsTableTo g π limits (length π.energy) t (cost_at rows) (first_at rows) (before_at rows)
+  pub runners : AreRunners g π limits (cost_at rows) live t (suc t)
   pub within : AreWithin rows

@@ -55,10 +55,12 @@ pub record HasStandIn (g : ThermalUnit) (π : PriceLists) (live : ℕ → Option
   pub long : (l : ℕ) → t < l → g.min_up ≤ on_time g first l → g.min_up ≤ on_time g other l
   pub begun : (other ≤ t) ⊎ (other ≡ first)
 
--- the runners at the end of period t: each run that begins before period n has one that stands for it
-pub record AreRunners (g : ThermalUnit) (π : PriceLists) (ends : ℕ → Option ℤ) (live : ℕ → Option Going) (t n : ℕ) : Type 0 where
+-- the runners at the end of period t: each run that begins before period n, and costs no more than the limit there, has one
+-- that stands for it
+pub record AreRunners (g : ThermalUnit) (π : PriceLists) (limits : ℕ → ℤ) (ends : ℕ → Option ℤ) (live : ℕ → Option Going) (t n : ℕ) : Type 0 where
   pub right : (first : ℕ) (r : Going) → live first ≡ Some r → (first < n) × IsRunner g π ends t first r
-  pub all : (first : ℕ) (e : ℤ) (d : Schedule) → first < n → MayBeOn g first t → IsEntry g ends first e → IsRun g first t d → HasStandIn g π live t first e d
+  pub all : (first : ℕ) (e : ℤ) (d : Schedule) → first < n → MayBeOn g first t → IsEntry g ends first e → IsRun g first t d → (e +ℤ spell_cost g π first t d) ≤ℤ limits t →
+      HasStandIn g π live t first e d
 
 -- what becomes of a runner in period suc t: its frontier is a period further, with the step noted, or it is gone, where no run
 -- is left
@@ -78,11 +80,12 @@ IsEndLeft g π first k p = (e : Lowest) × (p.end ≡ Some e) × IsEndNoted g π
 abbrev pub HaveWays : ThermalUnit → PriceLists → ℕ → (ℕ → Option ℤ) → (ℕ → ℕ) → (ℕ → ℕ → Passed) → Type 0
 HaveWays g π t ends firsts left = (l : ℕ) (v : ℤ) → 1 ≤ l → l ≤ t → ends l ≡ Some v → IsSpellNoted g π (firsts l) l (left (firsts l))
 
--- the rows up to period t are those of the table, and there is none after it
-pub record IsTableTo (g : ThermalUnit) (π : PriceLists) (periods t : ℕ) (ends : ℕ → Option ℤ) (firsts lasts : ℕ → ℕ) : Type 0 where
+-- the rows up to period t are those of the table, as far as they cost no more than the limits, and there is none after it
+pub record IsTableTo (g : ThermalUnit) (π : PriceLists) (limits : ℕ → ℤ) (periods t : ℕ) (ends : ℕ → Option ℤ) (firsts lasts : ℕ → ℕ) : Type 0 where
   pub idle : IsFalse g.on0 → HasAtMost (ends 0) (pos 0)
-  pub spell : (f l : ℕ) (e : ℤ) (d : Schedule) → l ≤ t → IsSpell g periods f l → IsEntry g ends f e → IsDispatch g periods f l d → HasAtMost (ends l) (e +ℤ spell_cost g π f l d)
-  pub sound : (l : ℕ) (v : ℤ) → l ≤ t → ends l ≡ Some v → IsFrom g π periods (suc periods) ends firsts lasts l v
+  pub spell : (f l : ℕ) (e : ℤ) (d : Schedule) → l ≤ t → IsSpell g periods f l → IsEntry g ends f e → IsDispatch g periods f l d →
+      (e +ℤ spell_cost g π f l d) ≤ℤ limits l → HasAtMost (ends l) (e +ℤ spell_cost g π f l d)
+  pub sound : (l : ℕ) (v : ℤ) → l ≤ t → ends l ≡ Some v → v ≤ℤ limits l → IsFrom g π periods (suc periods) ends firsts lasts l v
   pub none : (l : ℕ) → t < l → ends l ≡ None
 
 -- row l has the least cost of the runners that begin before period n and may stop after period l; of equal ones that of the

@@ -1,5 +1,5 @@
 //! What answers need, taken once: with a bench an answer takes no memory.
-ghost use Rattle.std.specs.Prelude.{◌≡◌, ℕ, suc, ◌≤◌, length, IsTrue, IsFalse, IfOk};
+ghost use Rattle.std.specs.Prelude.{◌≡◌, ℕ, ◌≤◌, ℤ, pos, neg_ℤ, ◌+ℤ◌, ◌≤ℤ◌, length, IsTrue, IsFalse, IfOk, IfSome, IfNone, Some};
 ghost use Rattle.uc_model.specs.Data.{Schedule, Thermal};
 ghost use Rattle.uc_model.specs.Earnings.{earnings, IsBest};
 ghost use Rattle.uc_model.specs.PlainUnits.{thermal_of, prices_of, schedule_of};
@@ -8,21 +8,26 @@ ghost use Rattle.uc_model.specs.Ties.{IsLeast};
 ghost use Rattle.unit_program.specs.Benches.{IsBenchFor};
 ghost use Rattle.slope_list.specs.Slopes.{room_of};
 ghost use Rattle.unit_program.specs.Live.{left_at, HaveRoom};
-ghost use Rattle.unit_program.specs.Rows.{cost_at, first_at, IsFilled};
+ghost use Rattle.uc_model.specs.Limits.{IsFrom};
+ghost use Rattle.unit_program.specs.Limits.{IsFilledWithin, IsEndWithin, EachCostsMore};
+ghost use Rattle.unit_program.specs.Rows.{cost_at, first_at};
 ghost use Rattle.unit_program.specs.Runners.{HaveWays};
 
 use crate::answer::least_end;
+use crate::kept::{Kept, NO_BOUND, guess_of, keep_answer};
+use crate::limits::fill_limits;
 use crate::origins::Origins;
 use crate::periods::fill_by_periods;
 use crate::roster::Roster;
 use crate::runner::Runner;
-use crate::table::Table;
+use crate::table::{Entry, Table};
 use crate::way::write_noted;
 use cost_curve::curves::curve_into;
 use slope_list::Slopes;
 use spell_run::{Note, Passed, Running};
 use std::alloc::{AllocError, Global};
-use uc_model::lists::ReservedList;
+use uc_model::laws::earnings_are_within;
+use uc_model::lists::{Numbers, ReservedList};
 use uc_model::units::{Answered, Blocks, Curve, Prices, Unit};
 
 /// Memory for the answers of units over so many periods, with so many cost points. What it holds between two calls is
@@ -37,6 +42,12 @@ pub struct Bench<R> {
     /// Which spells go forward.
     pub roster: Roster,
     pub table: Table,
+    /// What all up to a period may cost.
+    pub limits: Numbers,
+    /// The last answers of units, by their number.
+    pub kept: Vec<Kept>,
+    /// The number of the unit that is asked next.
+    pub number: u32,
 }
 
 /// The bench of the program: functions are kept in pieces of one slope.
@@ -87,34 +98,119 @@ impl Bench<Slopes> {
         let origins = Origins::make(alloc, periods)?;
         let roster = Roster::make(alloc, periods)?;
         let table = Table::filled(alloc, periods + 1, None)?;
+        let limits = Numbers::filled(alloc, periods + 1, 0)?;
+        let kept = Vec::new(alloc);
         Ok(Bench {
             curve,
             runners,
             origins,
             roster,
             table,
+            limits,
+            kept,
+            number: 0,
         })
     }
 }
 
-// Fills a bench's curve and its table.
-fn fill_bench<R: Running>(bench: &mut Bench<R>, unit: &Unit, prices: &Prices)
+impl<R> Bench<R> {
+    /// Room for the last answers of so many units over so many periods, which takes memory. An answer is found sooner where
+    /// the last one of its unit is kept.
+    pub fn keep_for(&mut self, alloc: Global, units: u32, periods: u32) -> Result<(), AllocError>
+        ensures bench { (room : R → ℕ) (periods points : ℕ) → IsBenchFor room periods points self.old → IsBenchFor room periods points self.new }
+    {
+        let mut kept = Vec::with_capacity(alloc, units as usize)?;
+        for _ in 0..units {
+            let one = Kept::make(alloc, periods)?;
+            kept.push_reserved(one);
+        }
+        self.kept = kept;
+        Ok(())
+    }
+
+    /// Says the number of the unit that is asked next. The answer is the same whatever it is.
+    pub fn ask_for(&mut self, number: u32)
+        ensures bench { (room : R → ℕ) (periods points : ℕ) → IsBenchFor room periods points self.old → IsBenchFor room periods points self.new }
+    {
+        self.number = number;
+    }
+}
+
+// Fills a bench's curve, its limits and its table.
+fn fill_bench<R: Running>(bench: &mut Bench<R>, unit: &Unit, prices: &Prices, most: i64)
     requires horizon { length (thermal_of unit.now).window ≡ length (prices_of prices.now).energy }
+    requires most { IsFrom (neg_ℤ (pos 4000000000000000000)) (pos 4000000000000000000) most }
     requires bench { IsBenchFor R.room (length (prices_of prices.now).energy) (length (thermal_of unit.now).points) bench.old }
-    ensures filled { IsFilled (thermal_of unit.now) (prices_of prices.now) (suc (length (prices_of prices.now).energy)) bench.new.table.items }
+    ensures filled { IsFilledWithin (thermal_of unit.now) (prices_of prices.now) most bench.new.table.items }
     ensures ways { HaveWays (thermal_of unit.now) (prices_of prices.now) (length (prices_of prices.now).energy) (cost_at bench.new.table.items) (first_at bench.new.table.items) (left_at bench.new.runners.items) }
     ensures bench { (periods points : ℕ) → IsBenchFor R.room periods points bench.old → IsBenchFor R.room periods points bench.new }
 {
     curve_into(unit.points.as_slice(), &mut bench.curve);
+    fill_limits(unit, prices, most, &mut bench.limits);
     fill_by_periods(
         unit,
         &bench.curve,
         prices,
+        &bench.limits,
         &mut bench.origins,
         &mut bench.roster,
         bench.runners.as_mut_slice(),
         &mut bench.table,
     );
+}
+
+// An end, if it costs at most an amount.
+fn at_most(end: Option<Entry>, most: i64) -> Option<Entry>
+    ensures some { IfSome result (λ e. (end ≡ Some e) × (e.cost ≤ℤ most)) }
+    ensures none { IfNone result ((e : Entry) → end ≡ Some e → (most +ℤ pos 1) ≤ℤ e.cost) }
+{
+    match end {
+        Some(entry) => {
+            if entry.cost <= most {
+                Some(entry)
+            } else {
+                None
+            }
+        }
+        None => None,
+    }
+}
+
+// Fills a bench as far as some amount asks, and answers the least end, if it costs at most that.
+fn find_within<R: Running>(
+    bench: &mut Bench<R>,
+    unit: &Unit,
+    prices: &Prices,
+    most: i64,
+) -> Option<Entry>
+    requires horizon { length (thermal_of unit.now).window ≡ length (prices_of prices.now).energy }
+    requires most { IsFrom (neg_ℤ (pos 4000000000000000000)) (pos 4000000000000000000) most }
+    requires bench { IsBenchFor R.room (length (prices_of prices.now).energy) (length (thermal_of unit.now).points) bench.old }
+    ensures some { IfSome result (λ e. IsEndWithin (thermal_of unit.now) (prices_of prices.now) bench.new.table.items e.last e.cost) }
+    ensures none { IfNone result (EachCostsMore (thermal_of unit.now) (prices_of prices.now) most) }
+    ensures ways { HaveWays (thermal_of unit.now) (prices_of prices.now) (length (prices_of prices.now).energy) (cost_at bench.new.table.items) (first_at bench.new.table.items) (left_at bench.new.runners.items) }
+    ensures bench { (periods points : ℕ) → IsBenchFor R.room periods points bench.old → IsBenchFor R.room periods points bench.new }
+{
+    fill_bench(bench, unit, prices, most);
+    let periods = prices.energy.len() as u32;
+    at_most(least_end(unit, periods, bench.table.as_slice()), most)
+}
+
+// Fills a bench, and answers the least end: within what is guessed, or else within what any schedule may cost.
+fn find_end<R: Running>(bench: &mut Bench<R>, unit: &Unit, prices: &Prices) -> Option<Entry>
+    requires horizon { length (thermal_of unit.now).window ≡ length (prices_of prices.now).energy }
+    requires bench { IsBenchFor R.room (length (prices_of prices.now).energy) (length (thermal_of unit.now).points) bench.old }
+    ensures some { IfSome result (λ e. IsEndWithin (thermal_of unit.now) (prices_of prices.now) bench.new.table.items e.last e.cost) }
+    ensures none { IfNone result ((s : Schedule) → IsThermalFeasible (thermal_of unit.now) (length (prices_of prices.now).energy) s → ⊥) }
+    ensures ways { HaveWays (thermal_of unit.now) (prices_of prices.now) (length (prices_of prices.now).energy) (cost_at bench.new.table.items) (first_at bench.new.table.items) (left_at bench.new.runners.items) }
+    ensures bench { (periods points : ℕ) → IsBenchFor R.room periods points bench.old → IsBenchFor R.room periods points bench.new }
+{
+    earnings_are_within();
+    let guess = guess_of(bench.kept.as_slice(), bench.number, prices);
+    if let Some(end) = find_within(bench, unit, prices, guess) {
+        return Some(end);
+    }
+    find_within(bench, unit, prices, NO_BOUND)
 }
 
 /// The least best response of a thermal unit to prices over its horizon, as `best_response` answers it: leaves it in
@@ -137,9 +233,7 @@ pub fn least_in_place<R: Running>(
     ensures same { IsFalse result → into.new ≡ into.old }
     ensures bench { (periods points : ℕ) → IsBenchFor R.room periods points bench.old → IsBenchFor R.room periods points bench.new }
 {
-    fill_bench(bench, unit, prices);
-    let periods = prices.energy.len() as u32;
-    let Some(end) = least_end(unit, periods, bench.table.as_slice()) else {
+    let Some(end) = find_end(bench, unit, prices) else {
         return false;
     };
     write_noted(
@@ -150,5 +244,6 @@ pub fn least_in_place<R: Running>(
         &end,
         into,
     );
+    keep_answer(bench.kept.as_mut_slice(), bench.number, prices, into);
     true
 }

@@ -12,7 +12,9 @@
 pub mod answer;
 pub mod bench;
 pub mod commitment;
+pub mod kept;
 pub mod laws;
+pub mod limits;
 pub mod origins;
 pub mod periods;
 pub mod pooled;

@@ -7,10 +7,10 @@ ghost use Rattle.spell_run.specs.Frontier.{IsFrontier};
 ghost use Rattle.spell_run.specs.Notes.{IsOnNoted, IsEndNoted, passed_at, end_cost};
 ghost use Rattle.spell_run.specs.Spells.{IsSpellAnswer, IsSpellWithin};
 ghost use Rattle.uc_model.specs.declared.units.Mark.TheVariants.{MustOff};
-ghost use Rattle.uc_model.specs.Data.{PriceLists};
+ghost use Rattle.uc_model.specs.Data.{ThermalUnit, PriceLists};
 ghost use Rattle.uc_model.specs.PlainUnits.{thermal_of, prices_of};
 ghost use Rattle.uc_model.specs.Schedules.{mark_in};
-ghost use Rattle.unit_program.specs.Live.{going_of, live_at, left_at, IsRoomy, AreRoomy, AreSmall, IsUnder, IsBelow, HaveRoom};
+ghost use Rattle.unit_program.specs.Live.{going_of, live_at, left_at, IsRoomy, AreRoomy, AreSmall, IsUnder, IsBeyond, IsBelow, HaveRoom};
 ghost use Rattle.unit_program.specs.Rosters.{IsRoster};
 ghost use Rattle.unit_program.specs.Rows.{row_at, cost_at, first_at, before_at, IsWithinTimes, AreWithin};
 ghost use Rattle.unit_program.specs.Runners.{Going, MayBeOn, AreRunners, IsRowOf, IsGoneOn, IsEndLeft};
@@ -93,7 +93,7 @@ fn value_at_first<R: Running>(running: &R, power: i64) -> Option<i64>
     }
 }
 
-fn is_less(a: i64, b: i64) -> bool
+pub(crate) fn is_less(a: i64, b: i64) -> bool
     ensures { IsTrue result → (a +ℤ pos 1) ≤ℤ b }
 {
     a < b
@@ -307,7 +307,7 @@ pub fn run_all<R: Running>(
     requires place { place < length (prices_of prices.now).energy }
     requires open { mark_in (thermal_of unit.now).window (suc place) ≡ MustOff → ⊥ }
     requires runners { length (prices_of prices.now).energy < length runners.old }
-    requires now { AreRunners (thermal_of unit.now) (prices_of prices.now) (cost_at table.old.items) (live_at R.function runners.old) place (suc (suc place)) }
+    requires now { (limits : ℕ → ℤ) × AreRunners (thermal_of unit.now) (prices_of prices.now) limits (cost_at table.old.items) (live_at R.function runners.old) place (suc (suc place)) }
     requires roster { IsRoster (live_at R.function runners.old) (suc (suc place)) roster.now }
     requires room { AreRoomy R.count R.room (length (prices_of prices.now).energy) place (length curve.now.blocks.items + 3) runners.old }
     requires rows { length (prices_of prices.now).energy < length table.old.items }
@@ -379,9 +379,9 @@ fn prune_one<R: Running>(
     requires late { IfSome late (λ l. (early < l) × (l ≤ period) × ((r : Going) × (live_at R.function runners.old l ≡ Some r))) }
     requires small { AreSmall (live_at R.function runners.old) }
     ensures late { IfSome result (λ l. (early ≤ l) × (l ≤ period) × ((r : Going) × (live_at R.function runners.new l ≡ Some r))) }
-    ensures stands { (π : PriceLists) (ends : ℕ → Option ℤ) (n : ℕ) →
-        AreRunners (thermal_of unit.now) π ends (live_at R.function runners.old) period n →
-        AreRunners (thermal_of unit.now) π ends (live_at R.function runners.new) period n }
+    ensures stands { (π : PriceLists) (limits : ℕ → ℤ) (ends : ℕ → Option ℤ) (n : ℕ) →
+        AreRunners (thermal_of unit.now) π limits ends (live_at R.function runners.old) period n →
+        AreRunners (thermal_of unit.now) π limits ends (live_at R.function runners.new) period n }
     ensures small { AreSmall (live_at R.function runners.new) }
     ensures left { (first k : ℕ) → left_at runners.new first k ≡ left_at runners.old first k }
     ensures off { (first : ℕ) → live_at R.function runners.old first ≡ None → live_at R.function runners.new first ≡ None }
@@ -413,9 +413,9 @@ pub fn prune<R: Running>(unit: &Unit, period: u32, roster: &Roster, runners: &mu
     requires end { period < length runners.old }
     requires small { AreSmall (live_at R.function runners.old) }
     requires roster { IsRoster (live_at R.function runners.old) (suc period) roster.now }
-    ensures stands { (π : PriceLists) (ends : ℕ → Option ℤ) (n : ℕ) →
-        AreRunners (thermal_of unit.now) π ends (live_at R.function runners.old) period n →
-        AreRunners (thermal_of unit.now) π ends (live_at R.function runners.new) period n }
+    ensures stands { (π : PriceLists) (limits : ℕ → ℤ) (ends : ℕ → Option ℤ) (n : ℕ) →
+        AreRunners (thermal_of unit.now) π limits ends (live_at R.function runners.old) period n →
+        AreRunners (thermal_of unit.now) π limits ends (live_at R.function runners.new) period n }
     ensures left { (first k : ℕ) → left_at runners.new first k ≡ left_at runners.old first k }
     ensures off { (first : ℕ) → live_at R.function runners.old first ≡ None → live_at R.function runners.new first ≡ None }
     ensures room { (periods t charge : ℕ) → AreRoomy R.count R.room periods t charge runners.old → AreRoomy R.count R.room periods t charge runners.new }
@@ -426,5 +426,59 @@ pub fn prune<R: Running>(unit: &Unit, period: u32, roster: &Roster, runners: &mu
     for back in 0..roster.count {
         let first = *roster.firsts.get((roster.count - back) as usize - 1);
         late = prune_one(unit, period, first, late, runners);
+    }
+}
+
+// Whether a runner is above a cost at each power.
+fn is_beyond<R: Running>(runner: &Runner<R>, limit: i64) -> bool
+    requires bound { IsWithinTimes 400 runner.now.cost }
+    requires values { (x v : ℤ) → value_of (R.function runner.now.running) x ≡ Some v → IsWithinTimes 400 v }
+    ensures { OnTrue result (IsBeyond limit runner.now.cost (R.function runner.now.running)) }
+{
+    match runner.running.least() {
+        Some(spot) => is_less(limit, sum_of(runner.cost, spot.value)),
+        None => false,
+    }
+}
+
+// Stops the runner that begins with a period, if it is above the limit at each power.
+fn drop_at<R: Running>(limit: i64, first: u32, runners: &mut [Runner<R>])
+    requires end { first < length runners.old }
+    requires small { AreSmall (live_at R.function runners.old) }
+    ensures stands { (g : ThermalUnit) (π : PriceLists) (limits : ℕ → ℤ) (ends : ℕ → Option ℤ) (t n : ℕ) → limits t ≡ limit →
+        AreRunners g π limits ends (live_at R.function runners.old) t n →
+        AreRunners g π limits ends (live_at R.function runners.new) t n }
+    ensures small { AreSmall (live_at R.function runners.new) }
+    ensures left { (first k : ℕ) → left_at runners.new first k ≡ left_at runners.old first k }
+    ensures off { (first : ℕ) → live_at R.function runners.old first ≡ None → live_at R.function runners.new first ≡ None }
+    ensures room { (periods t charge : ℕ) → AreRoomy R.count R.room periods t charge runners.old → AreRoomy R.count R.room periods t charge runners.new }
+    ensures keeps { (most periods : ℕ) → HaveRoom R.room most periods runners.old → HaveRoom R.room most periods runners.new }
+    ensures length { length runners.new ≡ length runners.old }
+{
+    if !runners[first as usize].is_on {
+        return;
+    }
+    if is_beyond(&runners[first as usize], limit) {
+        stop(&mut runners[first as usize]);
+    }
+}
+
+/// Stops each runner that is above the limit of a period at each power. The roster has all that are on.
+pub fn drop_beyond<R: Running>(period: u32, limit: i64, roster: &Roster, runners: &mut [Runner<R>])
+    requires end { period < length runners.old }
+    requires small { AreSmall (live_at R.function runners.old) }
+    requires roster { IsRoster (live_at R.function runners.old) (suc period) roster.now }
+    ensures stands { (g : ThermalUnit) (π : PriceLists) (limits : ℕ → ℤ) (ends : ℕ → Option ℤ) (t n : ℕ) → limits t ≡ limit →
+        AreRunners g π limits ends (live_at R.function runners.old) t n →
+        AreRunners g π limits ends (live_at R.function runners.new) t n }
+    ensures small { AreSmall (live_at R.function runners.new) }
+    ensures left { (first k : ℕ) → left_at runners.new first k ≡ left_at runners.old first k }
+    ensures off { (first : ℕ) → live_at R.function runners.old first ≡ None → live_at R.function runners.new first ≡ None }
+    ensures room { (periods t charge : ℕ) → AreRoomy R.count R.room periods t charge runners.old → AreRoomy R.count R.room periods t charge runners.new }
+    ensures keeps { (most periods : ℕ) → HaveRoom R.room most periods runners.old → HaveRoom R.room most periods runners.new }
+    ensures length { length runners.new ≡ length runners.old }
+{
+    for place in 0..roster.count {
+        drop_at(limit, *roster.firsts.get(place as usize), runners);
     }
 }

@@ -7,16 +7,16 @@ ghost use Rattle.uc_model.specs.PlainUnits.{thermal_of, prices_of, schedule_of};
 ghost use Rattle.uc_model.specs.Ties.{IsLeast};
 ghost use Rattle.unit_program.specs.Backs.{IsWritten, IsWrittenBack};
 ghost use Rattle.unit_program.specs.Builds.{IsIdle};
+ghost use Rattle.unit_program.specs.Limits.{IsRowWithin, IsEndWithin};
 ghost use Rattle.unit_program.specs.Live.{left_at};
-ghost use Rattle.unit_program.specs.Rows.{cost_at, first_at, IsFilled};
+ghost use Rattle.unit_program.specs.Rows.{cost_at, first_at};
 ghost use Rattle.unit_program.specs.Runners.{HaveWays};
-ghost use Rattle.unit_program.specs.Spells.{IsOffRun};
-ghost use Rattle.unit_program.specs.Tables.{IsLeastEnd};
 
 use crate::answer::{clear, is_all_off, negated};
 use crate::runner::Runner;
 use crate::table::{Ended, Entry};
 use spell_run::write_spell;
+use uc_model::laws::start_costs_are_within;
 use uc_model::units::{Answered, Prices, Unit};
 
 // Writes a dispatch of least net cost of the spell from `first` to `last`; nothing where it ends before period 1.
@@ -52,18 +52,18 @@ fn write_back<R>(
     last: u32,
     into: &mut Answered,
 )
-    requires filled { IsFilled (thermal_of unit.now) (prices_of prices.now) (suc (length (prices_of prices.now).energy)) rows.now }
+    requires within { IsRowWithin (thermal_of unit.now) (prices_of prices.now) rows.now last }
     requires ways { HaveWays (thermal_of unit.now) (prices_of prices.now) (length (prices_of prices.now).energy) (cost_at rows.now) (first_at rows.now) (left_at runners.now) }
     requires room { length (prices_of prices.now).energy < length rows.now }
     requires runners { length (prices_of prices.now).energy < length runners.now }
     requires places { (f : ℕ) (r : Runner R) → slice_get runners.now f ≡ Some r → length (prices_of prices.now).energy ≤ length r.passed.items }
     requires last { last ≤ length (prices_of prices.now).energy }
-    requires ended { (v : ℤ) × (cost_at rows.now last ≡ Some v) }
     requires into { length (schedule_of into.old.response).on ≡ length (prices_of prices.now).energy }
     requires idle { IsIdle (thermal_of unit.now) (schedule_of into.old.response) 0 last }
     ensures written { IsWrittenBack (thermal_of unit.now) (prices_of prices.now) rows.now last (schedule_of into.old.response) (schedule_of into.new.response) }
     ensures length { length (schedule_of into.new.response).on ≡ length (schedule_of into.old.response).on }
 {
+    start_costs_are_within();
     let Some(ended) = rows[last as usize] else {
         return;
     };
@@ -78,7 +78,7 @@ fn write_back<R>(
 }
 
 /// Leaves in `into` the least best response, which the table names from the earliest of its least ends, and what it earns.
-/// Unit, prices and `into` are over the same T periods, the rows are filled, and the runners have left what the way back from
+/// Unit, prices and `into` are over the same T periods, `end` is that end and within the limits of the rows, and the runners have left what the way back from
 /// each needs. Takes no memory.
 pub fn write_noted<R>(
     unit: &Unit,
@@ -88,13 +88,11 @@ pub fn write_noted<R>(
     end: &Entry,
     into: &mut Answered,
 )
-    requires filled { IsFilled (thermal_of unit.now) (prices_of prices.now) (suc (length (prices_of prices.now).energy)) rows.now }
     requires ways { HaveWays (thermal_of unit.now) (prices_of prices.now) (length (prices_of prices.now).energy) (cost_at rows.now) (first_at rows.now) (left_at runners.now) }
     requires room { length (prices_of prices.now).energy < length rows.now }
     requires runners { length (prices_of prices.now).energy < length runners.now }
     requires places { (f : ℕ) (r : Runner R) → slice_get runners.now f ≡ Some r → length (prices_of prices.now).energy ≤ length r.passed.items }
-    requires end { IsLeastEnd (thermal_of unit.now) (length (prices_of prices.now).energy) (cost_at rows.now) end.now.last end.now.cost }
-    requires earliest { (k : ℕ) → cost_at rows.now k ≡ Some end.now.cost → IsOffRun (thermal_of unit.now) k (length (prices_of prices.now).energy) → end.now.last ≤ k }
+    requires end { IsEndWithin (thermal_of unit.now) (prices_of prices.now) rows.now end.now.last end.now.cost }
     requires into { length (schedule_of into.old.response).on ≡ length (prices_of prices.now).energy }
     ensures best { IsBest (Thermal (thermal_of unit.now)) (prices_of prices.now) (schedule_of into.new.response) }
     ensures least { IsLeast (Thermal (thermal_of unit.now)) (prices_of prices.now) (schedule_of into.new.response) }

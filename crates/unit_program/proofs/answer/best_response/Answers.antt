@@ -1,7 +1,7 @@
 use Rattle.std.proofs.Common.{◌≡◌, ℕ, Some, None, ℤ, length, refl}
 use Rattle.std.specs.Prelude.{IfNone}
 use Rattle.uc_model.specs.PlainUnits.{thermal_of, prices_of}
-use Rattle.unit_program.specs.Rows.{cost_at, first_at, before_at}
+use Rattle.unit_program.specs.Rows.{cost_at}
 use Rattle.unit_program.specs.Spells.{IsOffRun}
 use Rattle.unit_program.proofs.BestLaws.{none_right}
 use Rattle.unit_program.proofs.answer.best_response.Goals as goal
@@ -17,4 +17,4 @@ returns-in_default-clause-none g c =
       | None ↦ λ is h. h
       | Some x ↦ λ is h. absurd (c.in_default.not-Some x is)
     ] refl told in
-    none_right (thermal_of u) (prices_of c.args.prices.now) T refl (cost_at rows) (first_at rows) (before_at rows) u.valid.ramp_up.at_least u.valid.ramp_down.at_least c.in_ok-fill.ensures.filled.table none
+    none_right (thermal_of u) (prices_of c.args.prices.now) T refl (cost_at rows) u.valid.ramp_up.at_least u.valid.ramp_down.at_least c.in_ok-fill.ensures.filled.table.complete none

@@ -3,7 +3,7 @@ use Rattle.std.proofs.lemmas.Int.{ints, to_z-of_z}
 use Rattle.std.specs.Prelude.{FitsSigned}
 use Rattle.std.specs.Int.{w64}
 use Rattle.uc_model.specs.PlainUnits.{thermal_of, prices_of, schedule_of}
-use Rattle.unit_program.specs.Rows.{cost_at, first_at, before_at, IsWithinTimes}
+use Rattle.unit_program.specs.Rows.{cost_at, IsWithinTimes}
 use Rattle.unit_program.proofs.BestLaws.{best_of, least_of, cleared_idle, cleared_zero}
 use Rattle.unit_program.proofs.answer.write_best.Goals as goal
 
@@ -28,8 +28,8 @@ returns-clause-best g c =
     let back = c.in_ok-write_back.ensures.written in
     let on : length c.write_back.new.into.response.on.items ≡ T = c.write_back.ensures.length ∙ c.clear.ensures.length ∙ c.requires.into in
     let valid = c.write_back.new.into.response.valid in
-    (best_of (thermal_of u) (prices_of c.args.prices.now) T refl (cost_at c.args.rows.now) (first_at c.args.rows.now) (before_at c.args.rows.now)
-    u.valid.ramp_up.at_least u.valid.ramp_down.at_least c.requires.filled.table c.args.end.now.last c.args.end.now.cost a b c.requires.end
+    (best_of (thermal_of u) (prices_of c.args.prices.now) T refl (cost_at c.args.rows.now)
+    u.valid.ramp_up.at_least u.valid.ramp_down.at_least c.requires.filled.table.complete c.args.end.now.last c.args.end.now.cost a b c.requires.end
     (cleared_idle (thermal_of u) a c.clear.ensures.off c.clear.ensures.power c.clear.ensures.reserve T)
     (back.up_to c.args.end.now.cost c.requires.end.ended) back.later (back.zero_off (cleared_zero (thermal_of u) a c.clear.ensures.off c.clear.ensures.power c.clear.ensures.reserve))
     on (valid.power ∙ on) (valid.reserve ∙ on)).0
@@ -44,8 +44,8 @@ returns-clause-least g c =
     let on : length c.write_back.new.into.response.on.items ≡ T = c.write_back.ensures.length ∙ c.clear.ensures.length ∙ c.requires.into in
     let valid = c.write_back.new.into.response.valid in
     let ended = c.requires.end.ended in
-    least_of (thermal_of u) (prices_of c.args.prices.now) T refl (cost_at c.args.rows.now) (first_at c.args.rows.now) (before_at c.args.rows.now)
-    u.valid.ramp_up.at_least u.valid.ramp_down.at_least c.requires.filled.table c.args.end.now.last c.args.end.now.cost a b c.requires.end c.requires.earliest
+    least_of (thermal_of u) (prices_of c.args.prices.now) T refl (cost_at c.args.rows.now)
+    u.valid.ramp_up.at_least u.valid.ramp_down.at_least c.requires.filled.table.complete c.args.end.now.last c.args.end.now.cost a b c.requires.end c.requires.earliest
     (cleared_idle (thermal_of u) a c.clear.ensures.off c.clear.ensures.power c.clear.ensures.reserve T)
     (back.up_to c.args.end.now.cost ended) (back.first c.args.end.now.cost ended) back.later
     (back.zero_off (cleared_zero (thermal_of u) a c.clear.ensures.off c.clear.ensures.power c.clear.ensures.reserve)) on (valid.power ∙ on) (valid.reserve ∙ on)
@@ -61,8 +61,8 @@ returns-clause-earned g c =
     let valid = c.write_back.new.into.response.valid in
     let fits : FitsSigned w64 c.negated-into.result = search rules in
     let fits_cost : FitsSigned w64 c.args.end.now.cost = search rules in
-    let earned = (best_of (thermal_of u) (prices_of c.args.prices.now) T refl (cost_at c.args.rows.now) (first_at c.args.rows.now) (before_at c.args.rows.now)
-    u.valid.ramp_up.at_least u.valid.ramp_down.at_least c.requires.filled.table c.args.end.now.last c.args.end.now.cost a b c.requires.end
+    let earned = (best_of (thermal_of u) (prices_of c.args.prices.now) T refl (cost_at c.args.rows.now)
+    u.valid.ramp_up.at_least u.valid.ramp_down.at_least c.requires.filled.table.complete c.args.end.now.last c.args.end.now.cost a b c.requires.end
     (cleared_idle (thermal_of u) a c.clear.ensures.off c.clear.ensures.power c.clear.ensures.reserve T)
     (back.up_to c.args.end.now.cost c.requires.end.ended) back.later (back.zero_off (cleared_zero (thermal_of u) a c.clear.ensures.off c.clear.ensures.power c.clear.ensures.reserve))
     on (valid.power ∙ on) (valid.reserve ∙ on)).1 in

@@ -1,5 +1,8 @@
-use Rattle.std.proofs.Common.{◌+◌, ◌-◌, ◌*◌, ◌≤◌, List, length, sym, ap, ◌∙◌, subst}
+use Rattle.std.proofs.Common.{rules, ◌+◌, ◌-◌, ◌*◌, ◌≤◌, List, length, sym, ap, ◌∙◌, subst}
 use Rattle.std.proofs.lemmas.List.{with_items_is}
+use Rattle.std.proofs.lemmas.Int.{to_z-of_z}
+use Rattle.std.specs.Prelude.{FitsSigned}
+use Rattle.std.specs.Int.{w64}
 use Rattle.std.specs.Vec.{with_items}
 use Rattle.uc_model.specs.PlainUnits.{thermal_of, prices_of}
 use Rattle.unit_program.specs.declared.runner.Runner.{Runner}
@@ -23,12 +26,12 @@ returns-clause-bench g c = λ periods points b.
     let lent = c.as_mut_slice.ensures in
     let same = with_items_is c.args.bench.now.runners c.fill_by_periods.new.runners (c.fill_by_periods.ensures.count ∙ lent.len) in
     bench_kept g.R.Running.room periods points c.args.bench.now
-    (record { curve = c.curve_into.new.into; runners = with_items c.args.bench.now.runners c.fill_by_periods.new.runners; origins = c.fill_by_periods.new.origins; roster = c.fill_by_periods.new.roster; table = c.fill_by_periods.new.table })
+    (record { curve = c.curve_into.new.into; runners = with_items c.args.bench.now.runners c.fill_by_periods.new.runners; origins = c.fill_by_periods.new.origins; roster = c.fill_by_periods.new.roster; table = c.fill_by_periods.new.table; limits = c.fill_limits.new.limits; kept = c.args.bench.now.kept; number = c.args.bench.now.number })
     (sym c.curve_into.ensures.room) (ap length same ∙ c.fill_by_periods.ensures.count ∙ ap length lent.value)
     (λ most periods have.
     subst (λ (xs : List (Runner g.row.R.Denot)). HaveRoom g.R.Running.room most periods xs) (sym same)
     (c.fill_by_periods.ensures.keeps most periods (subst (λ (xs : List (Runner g.row.R.Denot)). HaveRoom g.R.Running.room most periods xs) (sym lent.value) have)))
-    c.fill_by_periods.ensures.length c.fill_by_periods.ensures.list c.fill_by_periods.ensures.firsts b
+    c.fill_by_periods.ensures.length c.fill_by_periods.ensures.list c.fill_by_periods.ensures.firsts c.fill_limits.ensures.length b
 
 pub returns-clause-ways : goal.returns-clause-ways
 returns-clause-ways g c =
@@ -36,3 +39,9 @@ returns-clause-ways g c =
     let same = with_items_is c.args.bench.now.runners c.fill_by_periods.new.runners (c.fill_by_periods.ensures.count ∙ lent.len) in
     subst (λ (xs : List (Runner g.row.R.Denot)). HaveWays (thermal_of c.args.unit.now) (prices_of c.args.prices.now) (length c.args.prices.now.energy.items) (cost_at c.fill_by_periods.new.table.items) (first_at c.fill_by_periods.new.table.items) (left_at xs)) (sym same)
     c.fill_by_periods.ensures.ways
+
+pub returns-clause-filled : goal.returns-clause-filled
+returns-clause-filled g c =
+    let fits : FitsSigned w64 c.args.most = search rules in
+    let limits = rw (to_z-of_z w64 c.args.most fits) at c.fill_limits.ensures.limits in
+    c.fill_by_periods.ensures.filled c.args.most limits

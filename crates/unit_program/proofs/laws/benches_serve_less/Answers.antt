@@ -16,4 +16,5 @@ returns c = λ periods points fewer less b few low h.
       rows = omega (arith, rows, few);
       origins = (let origins = h.origins in omega (arith, origins, few));
       roster = (let roster = h.roster in omega (arith, roster, few));
+      limits = (let limits = h.limits in omega (arith, limits, few));
     }

@@ -1,6 +1,7 @@
 use Rattle.std.proofs.Common.{◌≡◌, ℕ, suc, ◌+◌, List, Option, length, sym, ◌∙◌, subst, arith}
 use Rattle.uc_model.specs.PlainUnits.{thermal_of, prices_of}
 use Rattle.unit_program.specs.declared.table.Ended.{Ended}
+use Rattle.uc_model.specs.Sums.{int_at}
 use Rattle.unit_program.specs.Live.{live_at, left_at, AreRoomy, IsFilledTo}
 use Rattle.unit_program.specs.Origins.{AreOrigins}
 use Rattle.unit_program.specs.Rosters.{IsRoster}
@@ -13,7 +14,7 @@ use Rattle.unit_program.proofs.periods.fill_by_periods.Goals as goal
 
 pub loop-place-init : goal.loop-place-init
 loop-place-init g c = record {
-  filled = c.begin_all.ensures.filled (prices_of c.args.prices.now) c.args.prices.now.valid.horizon.at_least;
+  filled = c.begin_all.ensures.filled (prices_of c.args.prices.now) (int_at c.args.limits.now.items) c.args.prices.now.valid.horizon.at_least;
   roomy = c.begin_all.ensures.room (length c.args.prices.now.energy.items) (length c.args.curve.now.blocks.items + 3) c.requires.room;
   origins = subst (λ (rows : List (Option Ended)). AreOrigins (thermal_of c.args.unit.now) (cost_at rows) 0 c.begin.new.self) c.as_slice.ensures c.begin.ensures.origins;
   roster = c.begin_all.ensures.roster;
@@ -29,7 +30,7 @@ pub loop-place-preserved : goal.loop-place-preserved
 loop-place-preserved g c =
     let next : suc c.loop-place.place ≡ c.loop-place.place + 1 = omega arith in
     record {
-      filled = subst (λ (t : ℕ). IsFilledTo (thermal_of c.args.unit.now) (prices_of c.args.prices.now) t c.take_period.new.table.items (live_at g.R.Running.function c.take_period.new.runners)) next c.take_period.ensures.filled;
+      filled = subst (λ (t : ℕ). IsFilledTo (thermal_of c.args.unit.now) (prices_of c.args.prices.now) (int_at c.args.limits.now.items) t c.take_period.new.table.items (live_at g.R.Running.function c.take_period.new.runners)) next c.take_period.ensures.filled;
       roomy = subst (λ (t : ℕ). AreRoomy g.R.Running.count g.R.Running.room (length c.args.prices.now.energy.items) t (length c.args.curve.now.blocks.items + 3) c.take_period.new.runners) next c.take_period.ensures.room;
       origins = subst (λ (t : ℕ). AreOrigins (thermal_of c.args.unit.now) (cost_at c.take_period.new.table.items) t c.go_on.new.self) next
           (subst (λ (rows : List (Option Ended)). AreOrigins (thermal_of c.args.unit.now) (cost_at rows) (suc c.loop-place.place) c.go_on.new.self) c.as_slice-in-loop-place.ensures c.go_on.ensures.origins);
@@ -51,13 +52,13 @@ go_on-requires-clause-origins g c =
     (λ l low. cost-same new old l l (c.take_period.ensures.others l (λ z. omega (arith, z, low)))) c.loop-place.invariant.origins)
 
 pub returns-clause-filled : goal.returns-clause-filled
-returns-clause-filled g c =
+returns-clause-filled g c = λ most right.
     let periods = c.len-periods.ensures in
     let from = c.loop-place-test.false in
     let until = c.loop-place.auto.place-end in
     let end : c.loop-place.place ≡ length c.args.prices.now.energy.items = omega (arith, periods, from, until) in
-    filled_whole (thermal_of c.args.unit.now) (prices_of c.args.prices.now) c.loop-place.table.items (live_at g.R.Running.function c.loop-place.runners)
-    (subst (λ (t : ℕ). IsFilledTo (thermal_of c.args.unit.now) (prices_of c.args.prices.now) t c.loop-place.table.items (live_at g.R.Running.function c.loop-place.runners)) end c.loop-place.invariant.filled)
+    filled_whole (thermal_of c.args.unit.now) (prices_of c.args.prices.now) c.args.unit.now.valid c.start_costs_are_within.ensures most (int_at c.args.limits.now.items) right c.loop-place.table.items (live_at g.R.Running.function c.loop-place.runners)
+    (subst (λ (t : ℕ). IsFilledTo (thermal_of c.args.unit.now) (prices_of c.args.prices.now) (int_at c.args.limits.now.items) t c.loop-place.table.items (live_at g.R.Running.function c.loop-place.runners)) end c.loop-place.invariant.filled)
 
 pub returns-clause-ways : goal.returns-clause-ways
 returns-clause-ways g c =

@@ -1,5 +1,6 @@
 use Rattle.std.proofs.Common.{◌≡◌, ℕ, suc, ◌+◌, length}
 use Rattle.uc_model.specs.PlainUnits.{thermal_of, prices_of}
+use Rattle.uc_model.specs.Sums.{int_at}
 use Rattle.unit_program.specs.Live.{live_at, left_at, AreRoomy, HaveRoom, IsFilledTo}
 use Rattle.unit_program.specs.Origins.{AreOrigins}
 use Rattle.unit_program.specs.Rosters.{IsRoster}
@@ -9,7 +10,7 @@ use Rattle.unit_program.proofs.periods.fill_by_periods.Given as goal
 
 abbrev pub invariant-loop-place : goal.invariant-loop-place
 invariant-loop-place g l = record {
-  filled : IsFilledTo (thermal_of l.unit) (prices_of l.prices) l.place l.table.items (live_at g.R.Running.function l.runners);
+  filled : IsFilledTo (thermal_of l.unit) (prices_of l.prices) (int_at l.limits.items) l.place l.table.items (live_at g.R.Running.function l.runners);
   roomy : AreRoomy g.R.Running.count g.R.Running.room (length l.prices.energy.items) l.place (length l.curve.blocks.items + 3) l.runners;
   origins : AreOrigins (thermal_of l.unit) (cost_at l.table.items) l.place l.origins;
   roster : IsRoster (live_at g.R.Running.function l.runners) (suc l.place) l.roster;

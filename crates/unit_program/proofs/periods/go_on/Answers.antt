@@ -8,8 +8,8 @@ use Rattle.unit_program.proofs.StartLaws.{none_goes_on, one_goes_on}
 use Rattle.unit_program.proofs.periods.go_on.Goals as goal
 
 pub returns-then-unit-clause-stands : goal.returns-then-unit-clause-stands
-returns-then-unit-clause-stands g c = λ π ends.
-    one_goes_on g.R.Running.function (thermal_of c.args.unit.now) π ends c.args.runners.now c.requires.off c.begin_runner.new.runner c.requires.some c.if-unit.true
+returns-then-unit-clause-stands g c = λ π limits ends.
+    one_goes_on g.R.Running.function (thermal_of c.args.unit.now) π limits ends c.args.runners.now c.requires.off c.begin_runner.new.runner c.requires.some c.if-unit.true
     c.begin_runner.ensures.on c.begin_runner.ensures.cost c.begin_runner.ensures.before (c.begin_runner.ensures.frontier π)
 
 pub returns-then-unit-clause-room : goal.returns-then-unit-clause-room
@@ -18,7 +18,7 @@ returns-then-unit-clause-room g c = λ periods charge roomy.
     _ (item_at g.R.Running.function c.args.runners.now 0 c.requires.some _) c.begin_runner.ensures.count c.begin_runner.ensures.room c.begin_runner.ensures.passed roomy
 
 pub returns-else-unit-clause-stands : goal.returns-else-unit-clause-stands
-returns-else-unit-clause-stands g c = λ π ends. none_goes_on g.R.Running.function (thermal_of c.args.unit.now) π ends c.args.runners.now c.requires.off c.if-unit.false
+returns-else-unit-clause-stands g c = λ π limits ends. none_goes_on g.R.Running.function (thermal_of c.args.unit.now) π limits ends c.args.runners.now c.requires.off c.if-unit.false
 
 pub returns-then-unit-clause-keeps : goal.returns-then-unit-clause-keeps
 returns-then-unit-clause-keeps g c =

@@ -1,30 +1,30 @@
-use Rattle.std.proofs.Common.{rules, ◌≡◌, ℕ, suc, ◌+◌, ◌<◌, Some, List, length, refl, ap, ◌∙◌, arith, length-set}
+use Rattle.std.proofs.Common.{rules, ◌≡◌, ℕ, suc, ◌+◌, ◌<◌, pos, ◌+ℤ◌, ◌≤ℤ◌, Some, List, length, refl, ap, ◌∙◌, arith, length-set}
 use Rattle.std.specs.Prelude.{FitsSigned}
 use Rattle.std.specs.Int.{w64}
-use Rattle.std.proofs.lemmas.Int.{to_z-of_z}
+use Rattle.std.proofs.lemmas.Int.{ints, to_z-of_z}
 use Rattle.uc_model.specs.PlainUnits.{thermal_of}
 use Rattle.unit_program.specs.Live.{live_at, IsUnder}
 use Rattle.unit_program.specs.Runners.{Going}
 use Rattle.unit_program.proofs.LiveLaws.{roomy_begun, written_keeps, written_left}
 use Rattle.unit_program.proofs.RosterLaws.{still_listed, begun_listed}
 use Rattle.unit_program.proofs.RunAllLaws.{item_at}
-use Rattle.unit_program.proofs.StandInLaws.{start_undercut}
+use Rattle.unit_program.proofs.StandInLaws.{start_undercut, start_beyond}
 use Rattle.unit_program.proofs.StartLaws.{started}
 use Rattle.unit_program.proofs.periods.start_after.Goals as goal
 
 pub returns-then-is_undercut-clause-stands : goal.returns-then-is_undercut-clause-stands
-returns-then-is_undercut-clause-stands g c = λ π ends least now.
+returns-then-is_undercut-clause-stands g c = λ π limits ends here least now.
     let fits_power : FitsSigned w64 c.args.unit.now.min_power = search rules in
     let fits_cost : FitsSigned w64 c.args.entry.now.cost = search rules in
     let found : (f : ℕ) × (r : Going) × (live_at g.R.Running.function c.args.runners.now f ≡ Some r) × IsUnder c.args.unit.now.min_power c.args.entry.now.cost r = simp to_z-of_z at c.if-is_undercut.ensures in
-    start_undercut (thermal_of c.args.unit.now) π ends c.args.place (live_at g.R.Running.function c.args.runners.now) (live_at g.R.Running.function c.args.runners.now) now
+    start_undercut (thermal_of c.args.unit.now) π limits ends c.args.place (live_at g.R.Running.function c.args.runners.now) (live_at g.R.Running.function c.args.runners.now) now
     c.args.entry.now.last c.args.entry.now.cost least found.0 found.1 found.3.0 found.2 found.3.1 found.3.2
 
 pub returns-clause-stands : goal.returns-clause-stands
-returns-clause-stands g c = λ π ends least now.
+returns-clause-stands g c = λ π limits ends here least now.
     let end = c.requires.runners in
     let low : c.args.place + 1 < length c.args.runners.now = omega (arith, end) in
-    started g.R.Running.function (thermal_of c.args.unit.now) π ends c.args.place (c.args.place + 1) (omega arith) c.args.runners.now c.begin_runner.new.runner low
+    started g.R.Running.function (thermal_of c.args.unit.now) π limits ends c.args.place (c.args.place + 1) (omega arith) c.args.runners.now c.begin_runner.new.runner low
     c.args.entry.now.last c.args.entry.now.cost c.begin_runner.ensures.on c.begin_runner.ensures.cost c.begin_runner.ensures.before (c.begin_runner.ensures.frontier π) c.requires.bound least now
 
 pub returns-clause-room : goal.returns-clause-room
@@ -68,3 +68,15 @@ returns-clause-roster g c =
 
 pub returns-clause-list : goal.returns-clause-list
 returns-clause-list g c = ap (λ (xs : List ℕ). length xs) c.add.ensures.firsts ∙ length-set c.args.roster.now.firsts.items c.args.roster.now.count (c.args.place + 1)
+
+pub returns-then-is_less-clause-stands : goal.returns-then-is_less-clause-stands
+returns-then-is_less-clause-stands g c = λ π limits ends here least now.
+    let fits_limit : FitsSigned w64 c.args.limit = search rules in
+    let fits_cost : FitsSigned w64 c.args.entry.now.cost = search rules in
+    let less : (c.args.limit +ℤ pos 1) ≤ℤ c.args.entry.now.cost = simp to_z-of_z at (c.is_less.ensures c.if-is_less.true) in
+    start_beyond (thermal_of c.args.unit.now) π limits ends c.args.place (live_at g.R.Running.function c.args.runners.now) (live_at g.R.Running.function c.args.runners.now) now
+    c.args.entry.now.last c.args.entry.now.cost least (omega (arith, ints, less, here))
+
+pub returns-then-is_less-clause-roster : goal.returns-then-is_less-clause-roster
+returns-then-is_less-clause-roster g c =
+    still_listed (live_at g.R.Running.function c.args.runners.now) (live_at g.R.Running.function c.args.runners.now) (suc c.args.place) (suc (suc c.args.place)) c.args.roster.now (omega arith) (λ f off. off) c.requires.roster

@@ -21,7 +21,7 @@ loop-back-preserved g c =
           )) c.prune_one-late.result c.prune_one-late.ensures.late;
       off = λ f is. c.prune_one-late.ensures.off f (c.loop-back.invariant.off f is);
       small = c.prune_one-late.ensures.small;
-      stands = λ π ends n now. c.prune_one-late.ensures.stands π ends n (c.loop-back.invariant.stands π ends n now);
+      stands = λ π limits ends n now. c.prune_one-late.ensures.stands π limits ends n (c.loop-back.invariant.stands π limits ends n now);
       roomy = λ periods t charge roomy. c.prune_one-late.ensures.room periods t charge (c.loop-back.invariant.roomy periods t charge roomy);
       left = λ f k. c.prune_one-late.ensures.left f k ∙ c.loop-back.invariant.left f k;
       keeps = λ most periods have. c.prune_one-late.ensures.keeps most periods (c.loop-back.invariant.keeps most periods have);

@@ -38,7 +38,7 @@ returns-then-goes-clause-late g c =
     (omega (arith, above), h.1, (h.2.0, live_other g.R.Running.function c.args.runners.now _ c.args.early c.stop.new.runner low refl c.in-Some.first (λ z. omega (arith, z, above)) ∙ h.2.1))
 
 pub returns-then-goes-clause-stands : goal.returns-then-goes-clause-stands
-returns-then-goes-clause-stands g c = λ π ends n now.
+returns-then-goes-clause-stands g c = λ π limits ends n now.
     let h = if_some (λ l. (c.args.early < l) × (l ≤ c.args.period) × ((r : Going) × (live_at g.R.Running.function c.args.runners.now l ≡ Some r))) c.args.late c.in-Some.first c.in-Some.is c.requires.late in
     let above = h.0 in
     let until = h.1 in
@@ -50,7 +50,7 @@ returns-then-goes-clause-stands g c = λ π ends n now.
     let y = c.index-runners-first.result in
     let on = on_of x _ c.index-runners-early-in-Some.is (item_same g.R.Running.function c.args.runners.now c.args.early low c.index-runners-early.result x true c.if-not-runners-early.false) in
     let on_late = read_on g.R.Running.function c.args.runners.now c.in-Some.first low_late y c.index-runners-first.is h.2.0 h.2.1 in
-    early_goes (thermal_of c.args.unit.now) π ends c.args.period (live_at g.R.Running.function c.args.runners.now) _ n c.args.early c.in-Some.first _ _ now
+    early_goes (thermal_of c.args.unit.now) π limits ends c.args.period (live_at g.R.Running.function c.args.runners.now) _ n c.args.early c.in-Some.first _ _ now
     (read_live g.R.Running.function c.args.runners.now c.args.early low x c.index-runners-early-in-Some.is on)
     (read_live g.R.Running.function c.args.runners.now c.in-Some.first low_late y c.index-runners-first.is on_late)
     above until (OnTrue_at c.if-goes.true c.goes.ensures.long) (OnTrue_at c.if-goes.true c.goes.ensures.below)

@@ -16,21 +16,21 @@ run_at-requires-clause-may g c = λ r is.
     let first = c.get-first.result.now in
     let run = run_before g.R.Running.function g.R.Running.count g.R.Running.room (thermal_of c.args.unit.now) (prices_of c.args.prices.now) c.args.place (length c.args.curve.now.blocks.items + 3) c.args.table.now.items c.args.runners.now c.requires.room c.args.roster.now (suc (suc c.args.place)) c.requires.roster c.loop-index.index c.loop-index.table.items c.loop-index.runners c.loop-index.invariant c.loop-index-test.true c.get-first.result.now c.get-first.ensures.item in
     let same = ap (going_of g.R.Running.function) (run.rest first (omega arith)) in
-    may_next (thermal_of c.args.unit.now) first c.args.place c.requires.open (c.requires.now.right first r (sym same ∙ is)).1.may
+    may_next (thermal_of c.args.unit.now) first c.args.place c.requires.open (c.requires.now.1.right first r (sym same ∙ is)).1.may
 
 pub run_at-requires-clause-frontier : goal.run_at-requires-clause-frontier
 run_at-requires-clause-frontier g c = λ r is.
     let first = c.get-first.result.now in
     let run = run_before g.R.Running.function g.R.Running.count g.R.Running.room (thermal_of c.args.unit.now) (prices_of c.args.prices.now) c.args.place (length c.args.curve.now.blocks.items + 3) c.args.table.now.items c.args.runners.now c.requires.room c.args.roster.now (suc (suc c.args.place)) c.requires.roster c.loop-index.index c.loop-index.table.items c.loop-index.runners c.loop-index.invariant c.loop-index-test.true c.get-first.result.now c.get-first.ensures.item in
     let same = ap (going_of g.R.Running.function) (run.rest first (omega arith)) in
-    (c.requires.now.right first r (sym same ∙ is)).1.frontier
+    (c.requires.now.1.right first r (sym same ∙ is)).1.frontier
 
 pub run_at-requires-clause-bound : goal.run_at-requires-clause-bound
 run_at-requires-clause-bound g c = λ r is.
     let first = c.get-first.result.now in
     let run = run_before g.R.Running.function g.R.Running.count g.R.Running.room (thermal_of c.args.unit.now) (prices_of c.args.prices.now) c.args.place (length c.args.curve.now.blocks.items + 3) c.args.table.now.items c.args.runners.now c.requires.room c.args.roster.now (suc (suc c.args.place)) c.requires.roster c.loop-index.index c.loop-index.table.items c.loop-index.runners c.loop-index.invariant c.loop-index-test.true c.get-first.result.now c.get-first.ensures.item in
     let same = ap (going_of g.R.Running.function) (run.rest first (omega arith)) in
-    (c.requires.now.right first r (sym same ∙ is)).1.within
+    (c.requires.now.1.right first r (sym same ∙ is)).1.within
 
 pub run_at-requires-clause-room : goal.run_at-requires-clause-room
 run_at-requires-clause-room g c = λ r is.
@@ -64,19 +64,19 @@ pub returns-clause-goes : goal.returns-clause-goes
 returns-clause-goes g c =
     all_go g.R.Running.function g.R.Running.count g.R.Running.room (thermal_of c.args.unit.now) (prices_of c.args.prices.now) c.args.place (length c.args.curve.now.blocks.items + 3) c.args.table.now.items c.args.runners.now
     (suc (suc c.args.place)) c.loop-index.table.items c.loop-index.runners (run_whole g.R.Running.function g.R.Running.count g.R.Running.room (thermal_of c.args.unit.now) (prices_of c.args.prices.now) c.args.place (length c.args.curve.now.blocks.items + 3) c.args.table.now.items c.args.runners.now c.requires.room c.args.roster.now (suc (suc c.args.place)) c.requires.roster c.loop-index.index c.loop-index.table.items c.loop-index.runners c.loop-index.invariant c.loop-index-test.false)
-    (λ f r is. (c.requires.now.right f r is).0) c.requires.room
+    (λ f r is. (c.requires.now.1.right f r is).0) c.requires.room
 
 pub returns-clause-off : goal.returns-clause-off
 returns-clause-off g c =
     all_off g.R.Running.function g.R.Running.count g.R.Running.room (thermal_of c.args.unit.now) (prices_of c.args.prices.now) c.args.place (length c.args.curve.now.blocks.items + 3) c.args.table.now.items c.args.runners.now
     (suc (suc c.args.place)) c.loop-index.table.items c.loop-index.runners (run_whole g.R.Running.function g.R.Running.count g.R.Running.room (thermal_of c.args.unit.now) (prices_of c.args.prices.now) c.args.place (length c.args.curve.now.blocks.items + 3) c.args.table.now.items c.args.runners.now c.requires.room c.args.roster.now (suc (suc c.args.place)) c.requires.roster c.loop-index.index c.loop-index.table.items c.loop-index.runners c.loop-index.invariant c.loop-index-test.false)
-    (λ f r is. (c.requires.now.right f r is).0) c.requires.room
+    (λ f r is. (c.requires.now.1.right f r is).0) c.requires.room
 
 pub returns-clause-room : goal.returns-clause-room
 returns-clause-room g c =
     all_roomy g.R.Running.function g.R.Running.count g.R.Running.room (thermal_of c.args.unit.now) (prices_of c.args.prices.now) c.args.place (length c.args.curve.now.blocks.items + 3) c.args.table.now.items c.args.runners.now
     (suc (suc c.args.place)) c.loop-index.table.items c.loop-index.runners (run_whole g.R.Running.function g.R.Running.count g.R.Running.room (thermal_of c.args.unit.now) (prices_of c.args.prices.now) c.args.place (length c.args.curve.now.blocks.items + 3) c.args.table.now.items c.args.runners.now c.requires.room c.args.roster.now (suc (suc c.args.place)) c.requires.roster c.loop-index.index c.loop-index.table.items c.loop-index.runners c.loop-index.invariant c.loop-index-test.false)
-    (λ f r is. (c.requires.now.right f r is).0) c.requires.room
+    (λ f r is. (c.requires.now.1.right f r is).0) c.requires.room
 
 pub returns-clause-ends : goal.returns-clause-ends
 returns-clause-ends g c = (run_whole g.R.Running.function g.R.Running.count g.R.Running.room (thermal_of c.args.unit.now) (prices_of c.args.prices.now) c.args.place (length c.args.curve.now.blocks.items + 3) c.args.table.now.items c.args.runners.now c.requires.room c.args.roster.now (suc (suc c.args.place)) c.requires.roster c.loop-index.index c.loop-index.table.items c.loop-index.runners c.loop-index.invariant c.loop-index-test.false).ends

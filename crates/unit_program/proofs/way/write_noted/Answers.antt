@@ -3,15 +3,17 @@ use Rattle.std.proofs.lemmas.Int.{ints, to_z-of_z}
 use Rattle.std.specs.Prelude.{FitsSigned}
 use Rattle.std.specs.Int.{w64}
 use Rattle.uc_model.specs.PlainUnits.{thermal_of, prices_of, schedule_of}
-use Rattle.unit_program.specs.Rows.{cost_at, first_at, before_at, IsWithinTimes}
+use Rattle.unit_program.specs.Limits.{capped}
+use Rattle.unit_program.specs.Rows.{cost_at, IsWithinTimes}
 use Rattle.unit_program.proofs.BestLaws.{best_of, least_of, cleared_idle, cleared_zero}
+use Rattle.unit_program.proofs.LimitLaws.{end_capped, end_earliest, end_low}
 use Rattle.unit_program.proofs.way.write_noted.Goals as goal
 
 pub negated-into-requires : goal.negated-into-requires
 negated-into-requires g c =
     let fits : FitsSigned w64 c.args.end.now.cost = search rules in
-    let least = c.requires.end in
-    let within = c.requires.filled.within c.args.end.now.last c.args.end.now.cost least.ended in
+    let least = c.requires.end.least in
+    let within = c.requires.end.filled.within c.args.end.now.last c.args.end.now.cost least.ended in
     let order = least.off.order in
     let low = within.at_least in
     let high = within.at_most in
@@ -22,30 +24,35 @@ negated-into-requires g c =
 pub returns-clause-best : goal.returns-clause-best
 returns-clause-best g c =
     let u = c.args.unit.now in
+    let at = c.requires.end in
     let a = schedule_of c.clear.new.into.response in
     let b = schedule_of c.write_back.new.into.response in
     let T = length c.args.prices.now.energy.items in
     let back = c.write_back.ensures.written in
     let on : length c.write_back.new.into.response.on.items ≡ T = c.write_back.ensures.length ∙ c.clear.ensures.length ∙ c.requires.into in
     let valid = c.write_back.new.into.response.valid in
-    (best_of (thermal_of u) (prices_of c.args.prices.now) T refl (cost_at c.args.rows.now) (first_at c.args.rows.now) (before_at c.args.rows.now)
-    u.valid.ramp_up.at_least u.valid.ramp_down.at_least c.requires.filled.table c.args.end.now.last c.args.end.now.cost a b c.requires.end
+    (best_of (thermal_of u) (prices_of c.args.prices.now) T refl (capped at.filled.limits (cost_at c.args.rows.now))
+    u.valid.ramp_up.at_least u.valid.ramp_down.at_least at.filled.table.complete c.args.end.now.last c.args.end.now.cost a b
+    (end_capped (thermal_of u) (prices_of c.args.prices.now) at.most c.args.rows.now at.filled c.args.end.now.last c.args.end.now.cost at.low at.least at.earliest)
     (cleared_idle (thermal_of u) a c.clear.ensures.off c.clear.ensures.power c.clear.ensures.reserve T)
-    (back.up_to c.args.end.now.cost c.requires.end.ended) back.later (back.zero_off (cleared_zero (thermal_of u) a c.clear.ensures.off c.clear.ensures.power c.clear.ensures.reserve))
+    (back.up_to c.args.end.now.cost at.least.ended) back.later (back.zero_off (cleared_zero (thermal_of u) a c.clear.ensures.off c.clear.ensures.power c.clear.ensures.reserve))
     on (valid.power ∙ on) (valid.reserve ∙ on)).0
 
 pub returns-clause-least : goal.returns-clause-least
 returns-clause-least g c =
     let u = c.args.unit.now in
+    let at = c.requires.end in
     let a = schedule_of c.clear.new.into.response in
     let b = schedule_of c.write_back.new.into.response in
     let T = length c.args.prices.now.energy.items in
     let back = c.write_back.ensures.written in
     let on : length c.write_back.new.into.response.on.items ≡ T = c.write_back.ensures.length ∙ c.clear.ensures.length ∙ c.requires.into in
     let valid = c.write_back.new.into.response.valid in
-    let ended = c.requires.end.ended in
-    least_of (thermal_of u) (prices_of c.args.prices.now) T refl (cost_at c.args.rows.now) (first_at c.args.rows.now) (before_at c.args.rows.now)
-    u.valid.ramp_up.at_least u.valid.ramp_down.at_least c.requires.filled.table c.args.end.now.last c.args.end.now.cost a b c.requires.end c.requires.earliest
+    let ended = at.least.ended in
+    least_of (thermal_of u) (prices_of c.args.prices.now) T refl (capped at.filled.limits (cost_at c.args.rows.now))
+    u.valid.ramp_up.at_least u.valid.ramp_down.at_least at.filled.table.complete c.args.end.now.last c.args.end.now.cost a b
+    (end_capped (thermal_of u) (prices_of c.args.prices.now) at.most c.args.rows.now at.filled c.args.end.now.last c.args.end.now.cost at.low at.least at.earliest)
+    (end_earliest (thermal_of u) (prices_of c.args.prices.now) at.most c.args.rows.now at.filled c.args.end.now.last c.args.end.now.cost at.low at.least at.earliest)
     (cleared_idle (thermal_of u) a c.clear.ensures.off c.clear.ensures.power c.clear.ensures.reserve T)
     (back.up_to c.args.end.now.cost ended) (back.first c.args.end.now.cost ended) back.later
     (back.zero_off (cleared_zero (thermal_of u) a c.clear.ensures.off c.clear.ensures.power c.clear.ensures.reserve)) on (valid.power ∙ on) (valid.reserve ∙ on)
@@ -53,6 +60,7 @@ returns-clause-least g c =
 pub returns-clause-earned : goal.returns-clause-earned
 returns-clause-earned g c =
     let u = c.args.unit.now in
+    let at = c.requires.end in
     let a = schedule_of c.clear.new.into.response in
     let b = schedule_of c.write_back.new.into.response in
     let T = length c.args.prices.now.energy.items in
@@ -61,10 +69,25 @@ returns-clause-earned g c =
     let valid = c.write_back.new.into.response.valid in
     let fits : FitsSigned w64 c.negated-into.result = search rules in
     let fits_cost : FitsSigned w64 c.args.end.now.cost = search rules in
-    let earned = (best_of (thermal_of u) (prices_of c.args.prices.now) T refl (cost_at c.args.rows.now) (first_at c.args.rows.now) (before_at c.args.rows.now)
-    u.valid.ramp_up.at_least u.valid.ramp_down.at_least c.requires.filled.table c.args.end.now.last c.args.end.now.cost a b c.requires.end
+    let earned = (best_of (thermal_of u) (prices_of c.args.prices.now) T refl (capped at.filled.limits (cost_at c.args.rows.now))
+    u.valid.ramp_up.at_least u.valid.ramp_down.at_least at.filled.table.complete c.args.end.now.last c.args.end.now.cost a b
+    (end_capped (thermal_of u) (prices_of c.args.prices.now) at.most c.args.rows.now at.filled c.args.end.now.last c.args.end.now.cost at.low at.least at.earliest)
     (cleared_idle (thermal_of u) a c.clear.ensures.off c.clear.ensures.power c.clear.ensures.reserve T)
-    (back.up_to c.args.end.now.cost c.requires.end.ended) back.later (back.zero_off (cleared_zero (thermal_of u) a c.clear.ensures.off c.clear.ensures.power c.clear.ensures.reserve))
+    (back.up_to c.args.end.now.cost at.least.ended) back.later (back.zero_off (cleared_zero (thermal_of u) a c.clear.ensures.off c.clear.ensures.power c.clear.ensures.reserve))
     on (valid.power ∙ on) (valid.reserve ∙ on)).1 in
     let negated = simp to_z-of_z at c.negated-into.ensures in
     to_z-of_z w64 _ fits ∙ negated ∙ sym earned
+
+pub write_back-requires-clause-within : goal.write_back-requires-clause-within
+write_back-requires-clause-within g c =
+    let at = c.requires.end in
+    record {
+      most = at.most;
+      filled = at.filled;
+      value = c.args.end.now.cost;
+      ended = at.least.ended;
+      low = end_low (thermal_of c.args.unit.now) (prices_of c.args.prices.now) at.most c.args.rows.now at.filled c.args.end.now.last c.args.end.now.cost at.low at.least at.earliest;
+    }
+
+pub write_back-requires-clause-idle : goal.write_back-requires-clause-idle
+write_back-requires-clause-idle g c = cleared_idle (thermal_of c.args.unit.now) (schedule_of c.clear.new.into.response) c.clear.ensures.off c.clear.ensures.power c.clear.ensures.reserve c.args.end.now.last

@@ -1,0 +1,22 @@
+use Rattle.std.proofs.Common.{pos, length, arith}
+use Rattle.std.proofs.lemmas.Int.{ints}
+use Rattle.uc_model.specs.Data.{Schedule}
+use Rattle.uc_model.specs.PlainUnits.{thermal_of, prices_of}
+use Rattle.uc_model.specs.Schedules.{IsThermalFeasible}
+use Rattle.unit_program.specs.Limits.{EachCostsMore}
+use Rattle.unit_program.proofs.LimitLaws.{if_none_more, none_feasible}
+use Rattle.unit_program.proofs.bench.find_end.Goals as goal
+
+pub find_within-requires-2-clause-bench : goal.find_within-requires-2-clause-bench
+find_within-requires-2-clause-bench g c = c.find_within.ensures.bench (length c.args.prices.now.energy.items) (length c.args.unit.now.points.items) c.requires.bench
+
+pub returns-clause-none : goal.returns-clause-none
+returns-clause-none g c =
+    let u = thermal_of c.args.unit.now in
+    let π = prices_of c.args.prices.now in
+    if_none_more (EachCostsMore u π (pos 4000000000000000000)) ((s : Schedule) → IsThermalFeasible u (length c.args.prices.now.energy.items) s → ⊥)
+    (none_feasible c.earnings_are_within.ensures u π c.args.unit.now.valid c.args.prices.now.valid (pos 4000000000000000000) (omega (arith, ints)))
+    c.find_within-2.result c.find_within-2.ensures.none
+
+pub returns-clause-bench : goal.returns-clause-bench
+returns-clause-bench g c = λ periods points b. c.find_within-2.ensures.bench periods points (c.find_within.ensures.bench periods points b)

@@ -1,0 +1,33 @@
+use Rattle.std.proofs.Common.{rules, length, ap, arith}
+use Rattle.std.specs.Prelude.{FitsSigned}
+use Rattle.std.specs.Int.{w64}
+use Rattle.std.proofs.lemmas.Int.{to_z-of_z}
+use Rattle.uc_model.specs.PlainUnits.{thermal_of, prices_of}
+use Rattle.unit_program.proofs.LimitLaws.{found_within, none_found}
+use Rattle.unit_program.proofs.bench.find_within.Goals as goal
+
+pub least_end-requires-clause-room : goal.least_end-requires-clause-room
+least_end-requires-clause-room g c =
+    let kept = c.fill_bench.ensures.bench (length c.args.prices.now.energy.items) (length c.args.unit.now.points.items) c.requires.bench in
+    let rows = kept.rows in
+    let periods = c.len-periods.ensures in
+    let same = ap length c.as_slice.ensures in
+    omega (arith, rows, periods, same)
+
+pub returns-clause-some : goal.returns-clause-some
+returns-clause-some g c =
+    let fits : FitsSigned w64 c.args.most = search rules in
+    let filled = rw (to_z-of_z w64 c.args.most fits) at c.fill_bench.ensures.filled in
+    let taken = rw (to_z-of_z w64 c.args.most fits) at c.at_most.ensures in
+    let told = rw (c.len-periods.ensures, c.as_slice.ensures) at c.least_end.ensures in
+    found_within (thermal_of c.args.unit.now) (prices_of c.args.prices.now) c.args.most c.fill_bench.new.bench.table.items filled c.least_end.result c.at_most.result
+    told.some told.earliest told.none taken.some taken.none
+
+pub returns-clause-none : goal.returns-clause-none
+returns-clause-none g c =
+    let fits : FitsSigned w64 c.args.most = search rules in
+    let filled = rw (to_z-of_z w64 c.args.most fits) at c.fill_bench.ensures.filled in
+    let taken = rw (to_z-of_z w64 c.args.most fits) at c.at_most.ensures in
+    let told = rw (c.len-periods.ensures, c.as_slice.ensures) at c.least_end.ensures in
+    none_found (thermal_of c.args.unit.now) (prices_of c.args.prices.now) c.args.most c.fill_bench.new.bench.table.items filled c.least_end.result c.at_most.result
+    told.some told.earliest told.none taken.some taken.none

@@ -1,0 +1,98 @@
+//! A unit's last answer, kept as a guess of what the next one costs.
+//!
+//! An answer costs the same beside what prices pay, whatever they are. So at other prices it costs about as much as the best
+//! one there, if these aren't far. Nothing rests on what is kept: it may be any answer.
+ghost use Rattle.std.specs.Prelude.{pos, neg_ℤ};
+ghost use Rattle.uc_model.specs.Limits.{IsFrom};
+
+use std::alloc::{AllocError, Global};
+use uc_model::lists::Powers;
+use uc_model::units::{Answered, Prices};
+
+/// An amount that nothing costs.
+pub const NO_BOUND: i64 = 4_000_000_000_000_000_000;
+
+/// An answer of a unit, if it has one yet.
+#[derive(Drop)]
+pub struct Kept {
+    pub is_some: bool,
+    /// What it costs, without what the prices pay, in money.
+    pub cost: i64,
+    /// Its power and reserve of each period, in kilowatts.
+    pub power: Powers,
+    pub reserve: Powers,
+}
+
+// What prices pay for a power and a reserve in the periods that all have.
+fn paid_for(prices: &Prices, power: &[u32], reserve: &[u32]) -> i64 {
+    let both = power.len().min(reserve.len());
+    let energy = prices.energy.as_slice();
+    let held = prices.reserve.as_slice();
+    let mut paid: i64 = 0;
+    for place in 0..both.min(energy.len()).min(held.len()) {
+        let for_power = energy[place].wrapping_mul(i64::from(power[place]));
+        let for_reserve = held[place].wrapping_mul(i64::from(reserve[place]));
+        paid = paid.wrapping_add(for_power.wrapping_add(for_reserve));
+    }
+    paid
+}
+
+// Copies powers to those places that both have.
+fn copy_powers(from: &[u32], into: &mut Powers) {
+    for place in 0..from.len().min(into.len()) {
+        into.set(place, from[place]);
+    }
+}
+
+impl Kept {
+    /// Nothing yet, with room for so many periods.
+    pub fn make(alloc: Global, periods: u32) -> Result<Kept, AllocError> {
+        let power = Powers::filled(alloc, periods, 0)?;
+        let reserve = Powers::filled(alloc, periods, 0)?;
+        Ok(Kept {
+            is_some: false,
+            cost: 0,
+            power,
+            reserve,
+        })
+    }
+
+    // What it costs at prices, and an amount that nothing costs where nothing is kept.
+    fn guess(&self, prices: &Prices) -> i64
+        ensures { IsFrom (neg_ℤ (pos 4000000000000000000)) (pos 4000000000000000000) result }
+    {
+        if !self.is_some {
+            return NO_BOUND;
+        }
+        let paid = paid_for(prices, self.power.as_slice(), self.reserve.as_slice());
+        self.cost.wrapping_sub(paid).clamp(-NO_BOUND, NO_BOUND)
+    }
+
+    // Keeps an answer to prices.
+    fn keep(&mut self, prices: &Prices, answered: &Answered) {
+        let response = &answered.response;
+        copy_powers(response.power.as_slice(), &mut self.power);
+        copy_powers(response.reserve.as_slice(), &mut self.reserve);
+        let paid = paid_for(prices, self.power.as_slice(), self.reserve.as_slice());
+        self.cost = paid.wrapping_sub(answered.earned);
+        self.is_some = true;
+    }
+}
+
+/// What the answer of the unit of a number costs at prices, and an amount that nothing costs where none is kept.
+pub fn guess_of(kept: &[Kept], number: u32, prices: &Prices) -> i64
+    ensures { IsFrom (neg_ℤ (pos 4000000000000000000)) (pos 4000000000000000000) result }
+{
+    match kept.get(number as usize) {
+        Some(one) => one.guess(prices),
+        None => NO_BOUND,
+    }
+}
+
+/// Keeps the answer of the unit of a number to prices, if there is a place for it.
+pub fn keep_answer(kept: &mut [Kept], number: u32, prices: &Prices, answered: &Answered) {
+    let number = number as usize;
+    if number < kept.len() {
+        kept[number].keep(prices, answered);
+    }
+}
