@@ -27,8 +27,14 @@ pub fn most_points(case: &Case) -> u32
     most
 }
 
-// Answers a thermal unit that has a schedule.
-fn answer_thermal(bench: &mut Bench<Slopes>, unit: &Unit, prices: &Prices, into: &mut Answered)
+// Answers the thermal unit of a number, which has a schedule.
+fn answer_thermal(
+    bench: &mut Bench<Slopes>,
+    number: u32,
+    unit: &Unit,
+    prices: &Prices,
+    into: &mut Answered,
+)
     requires horizon { length (thermal_of unit.now).window ≡ length (prices_of prices.now).energy }
     requires some { HasSchedule (Thermal (thermal_of unit.now)) (length (prices_of prices.now).energy) }
     requires bench { IsBenchFor room_of (length (prices_of prices.now).energy) (length (thermal_of unit.now).points) bench.old }
@@ -36,6 +42,7 @@ fn answer_thermal(bench: &mut Bench<Slopes>, unit: &Unit, prices: &Prices, into:
     ensures response { IsResponse (Thermal (thermal_of unit.now)) (prices_of prices.now) into.new }
     ensures bench { (periods : ℕ) (u : AnyUnit) → Suffices periods u bench.old → Suffices periods u bench.new }
 {
+    bench.ask_for(number);
     // It is found, since some schedule is feasible.
     let _ = least_on_bench(bench, unit, prices, into);
 }
@@ -51,7 +58,7 @@ pub fn answer_task(bench: &mut Bench<Slopes>, task: &Task, into: &mut Answered)
     ensures bench { (periods : ℕ) (u : AnyUnit) → Suffices periods u bench.old → Suffices periods u bench.new }
 {
     match task.kind {
-        UnitKind::Thermal => answer_thermal(bench, &task.thermal, &task.prices, into),
+        UnitKind::Thermal => { answer_thermal(bench, task.unit, &task.thermal, &task.prices, into) }
         UnitKind::Flat => best_flat(&task.flat, &task.prices, into),
         UnitKind::Bid => best_bid(&task.bid, &task.prices, into),
     }

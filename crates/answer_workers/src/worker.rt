@@ -33,8 +33,15 @@ pub enum Ended {
 
 impl Worker {
     /// A worker for a case of so many periods, whose thermal units have at most so many cost
-    /// points. `AllocError` is want of memory; the seat is then dropped.
-    pub fn make(alloc: Global, seat: Seat, periods: u32, points: u32) -> Result<Worker, AllocError>
+    /// points; their last answers are kept, so many of them. `AllocError` is want of memory; the
+    /// seat is then dropped.
+    pub fn make(
+        alloc: Global,
+        seat: Seat,
+        units: u32,
+        periods: u32,
+        points: u32,
+    ) -> Result<Worker, AllocError>
         requires some { 1 ≤ periods }
         requires periods { periods ≤ 168 }
         requires points { points ≤ 32 }
@@ -42,7 +49,8 @@ impl Worker {
         ensures parts { IfOk result (λ w. (m : Market) → m.periods ≡ periods
             → All (λ (n : NamedThermalUnit). length n.unit.points ≤ points) m.thermal → HasParts m w) }
     {
-        let bench = Bench::make(alloc, periods, points)?;
+        let mut bench = Bench::make(alloc, periods, points)?;
+        bench.keep_for(alloc, units, periods)?;
         let task = Task::make(alloc, periods)?;
         let answer = Answered::make(alloc, periods)?;
         Ok(Worker {

@@ -20,12 +20,14 @@ use std::sync::Wait;
 use std::thread::Threads;
 use unit_program::Bench;
 
-/// Splits a new board's seats, and gives each a worker for so many periods and cost points.
+/// Splits a new board's seats, and gives each a worker for so many thermal units, periods and cost
+/// points.
 pub fn hire(
     alloc: Global,
     board: &SharedBoard,
     mut owner: Seat,
     count: u32,
+    units: u32,
     periods: u32,
     points: u32,
 ) -> Result<Vec<Worker>, AllocError>
@@ -45,9 +47,9 @@ pub fn hire(
         let Some(seat) = board.split(&mut owner) else {
             unreachable!()
         };
-        workers.push_reserved(Worker::make(alloc, seat, periods, points)?);
+        workers.push_reserved(Worker::make(alloc, seat, units, periods, points)?);
     }
-    workers.push_reserved(Worker::make(alloc, owner, periods, points)?);
+    workers.push_reserved(Worker::make(alloc, owner, units, periods, points)?);
     Ok(workers)
 }
 

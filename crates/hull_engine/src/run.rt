@@ -78,6 +78,7 @@ pub fn open(alloc: Global, run: RunInput) -> Result<Run, AllocError>
     let units = unit_count(&case);
     let periods = case.periods;
     let points = most_points(&case);
+    let thermal = case.thermal.len() as u32;
     let buffer = Answered::make(alloc, periods)?;
     let settlement = Settlement::make(alloc, units)?;
     let earned = Numbers::make(alloc, units)?;
@@ -91,7 +92,7 @@ pub fn open(alloc: Global, run: RunInput) -> Result<Run, AllocError>
         size.workers,
     )?;
     let (board, owner) = SharedBoard::make(alloc, board)?;
-    let workers = hire(alloc, &board, owner, size.workers, periods, points)?;
+    let workers = hire(alloc, &board, owner, size.workers, thermal, periods, points)?;
     Ok(Run {
         board,
         workers,

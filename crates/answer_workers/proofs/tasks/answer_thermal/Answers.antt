@@ -1,3 +1,5 @@
+use Rattle.std.proofs.Common.{length}
+use Rattle.slope_list.specs.Slopes.{room_of}
 use Rattle.uc_model.specs.PlainUnits.{thermal_of, prices_of}
 use Rattle.answer_workers.proofs.BenchLaws.{found, kept}
 use Rattle.answer_workers.proofs.tasks.answer_thermal.Goals as goal
@@ -8,4 +10,7 @@ returns-clause-response c =
     found (thermal_of c.args.unit.now) (prices_of c.args.prices.now) c.least_on_bench.new.into c.least_on_bench.result c.requires.some e.least e.earned e.none
 
 pub returns-clause-bench : goal.returns-clause-bench
-returns-clause-bench c = kept c.args.bench.now c.least_on_bench.new.bench c.least_on_bench.ensures.bench
+returns-clause-bench c = kept c.args.bench.now c.least_on_bench.new.bench (λ periods points b. c.least_on_bench.ensures.bench periods points (c.ask_for.ensures.bench room_of periods points b))
+
+pub least_on_bench-requires-clause-bench : goal.least_on_bench-requires-clause-bench
+least_on_bench-requires-clause-bench c = c.ask_for.ensures.bench room_of (length c.args.prices.now.energy.items) (length c.args.unit.now.points.items) c.requires.bench
