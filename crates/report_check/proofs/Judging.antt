@@ -1,16 +1,14 @@
 -- How the lines of each form are judged.
-use Rattle.std.proofs.Common.{◌≡◌, ℕ, ℤ, Bool, true, false, List, [], ◌∷◌, ◌++◌, refl, ap, codes, arith}
+use Rattle.std.proofs.Common.{◌≡◌, ℕ, ℤ, Bool, List, [], ◌∷◌, refl, ap, arith}
 use Rattle.std.specs.Bool.{Decides}
-use Rattle.std.proofs.lemmas.List.{append_cancel_left}
 use Rattle.uc_model.specs.declared.kinds.Kind.{Kind}
 use Rattle.uc_model.specs.declared.kinds.Kind.TheVariants as kinds
-use Rattle.hull_report.specs.Numerals.{numeral, signed_numeral}
 use Rattle.hull_report.specs.Parts.{spaced, spaced_counts, spaced_flags}
 use Rattle.hull_report.specs.ReportText.{chosen_text}
-use Rattle.report_check.specs.ReportLines.{line, count_line, amount_line, title_line, kind_word}
+use Rattle.report_check.specs.ReportLines.{line, count_line, amount_line, kind_word}
 use Rattle.report_check.specs.Compared.{Judged}
 use Rattle.report_check.proofs.Comparing.{judged}
-use Rattle.report_check.proofs.OneLine.{line_told, count_told, amount_told, choice_told, amounts_told, counts_told, flags_told, Titled, title_text, title_told}
+use Rattle.report_check.proofs.OneLine.{line_told, count_told, amount_told, choice_told, amounts_told, counts_told, flags_told, Titled, title_text}
 
 pub count_judged : (word : List ℕ) (b : Bool) (m n : ℕ) → Decides b (m ≡ n) → Judged b (count_line word m) (count_line word n)
 count_judged word b m n h = judged (count_line word) (λ law x y e. count_told law x y (line_told word _ _ e)) b m n h

@@ -1,7 +1,7 @@
 -- Each line of a report is a line of its text: its one line feed ends it.
-use Rattle.std.proofs.Common.{◌≡◌, ℕ, zero, suc, ◌+◌, ◌-◌, ◌/◌, ◌%◌, ◌<◌, ◌≤◌, ℤ, pos, negsuc, Bool, true, false, cond, not, ◌&&◌, inl, inr, nat_lt, List, [], ◌∷◌, ◌++◌, length, refl, sym, ap, ◌∙◌, subst, arith, codes, append_assoc}
+use Rattle.std.proofs.Common.{◌≡◌, ℕ, zero, suc, ◌+◌, ◌-◌, ◌/◌, ◌%◌, ◌<◌, ◌≤◌, ℤ, pos, negsuc, Bool, true, false, cond, not, ◌&&◌, inl, inr, nat_lt, List, [], ◌∷◌, ◌++◌, length, refl, sym, ap, subst, arith, codes, append_assoc}
 use Rattle.std.specs.Prelude.{◌==◌, nat_le}
-use Rattle.std.specs.List.{AllByRecursion, concat, flat_map, list_all}
+use Rattle.std.specs.List.{AllByRecursion, flat_map, list_all}
 use Rattle.std.proofs.lemmas.Bool.{cases_lt}
 use Rattle.std.proofs.lemmas.Bool.Decides.{eqb_tells, nat_tests}
 use Rattle.uc_model.specs.declared.kinds.Kind.{Kind}

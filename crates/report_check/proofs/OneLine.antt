@@ -1,16 +1,15 @@
 -- A line tells its numbers: a report that has it is told by its text.
-use Rattle.std.proofs.Common.{◌≡◌, ℕ, suc, ℤ, pos, Bool, List, [], ◌∷◌, ◌++◌, length, refl, sym, ap, ◌∙◌, append_assoc}
+use Rattle.std.proofs.Common.{◌≡◌, ℕ, ℤ, pos, Bool, List, [], ◌∷◌, ◌++◌, refl, sym, ap, ◌∙◌, append_assoc}
 use Rattle.std.specs.Prelude.{codes}
-use Rattle.std.specs.List.{All, flat_map}
 use Rattle.std.proofs.lemmas.List.{append_cancel_left, append_cancel_right}
-use Rattle.std.proofs.lemmas.List.Elements.{All-nil, All-cons}
-use Rattle.uc_model.specs.Data.{PriceLists, Schedule}
+use Rattle.std.proofs.lemmas.List.Elements.{All-nil}
+use Rattle.uc_model.specs.Data.{Schedule}
 use Rattle.uc_model.specs.PriceRule.{Proposal}
 use Rattle.hull_report.specs.Numerals.{numeral, signed_numeral}
-use Rattle.hull_report.specs.Parts.{spaced, spaced_counts, spaced_flags, quoted}
-use Rattle.hull_report.specs.ReportText.{UnitLine, Report, head_text, row_text, chosen_text, thermal_text, flat_text, foot_text, report_text}
+use Rattle.hull_report.specs.Parts.{spaced, spaced_counts, spaced_flags}
+use Rattle.hull_report.specs.ReportText.{UnitLine, Report, head_text, row_text, chosen_text, thermal_text, report_text}
 use Rattle.hull_report.specs.Laws.{IsFlatLine, HasForm, TextDeterminesReport}
-use Rattle.report_check.specs.ReportLines.{line, count_line, amount_line, title_line}
+use Rattle.report_check.specs.ReportLines.{line, title_line}
 
 -- a line tells what stands behind its word
 pub line_told : (word a b : List ℕ) → line word a ≡ line word b → a ≡ b

@@ -1,13 +1,10 @@
 -- The text of a report is that of its lines.
 use Rattle.std.proofs.Common.{◌≡◌, ℕ, suc, ℤ, List, [], ◌∷◌, ◌++◌, length, refl, sym, ap, ◌∙◌, append_assoc}
-use Rattle.std.specs.Prelude.{codes}
 use Rattle.std.specs.List.{concat, flat_map}
 use Rattle.uc_model.specs.declared.kinds.Kind.TheVariants as kinds
 use Rattle.uc_model.specs.PriceRule.{Proposal}
-use Rattle.hull_report.specs.Numerals.{numeral, signed_numeral}
-use Rattle.hull_report.specs.Parts.{spaced, spaced_counts, spaced_flags, quoted}
 use Rattle.hull_report.specs.ReportText.{UnitLine, Report, head_text, row_text, rows_text, chosen_text, thermal_text, flat_text, renewable_text, bid_text, foot_text, report_text}
-use Rattle.report_check.specs.ReportLines.{line, count_line, amount_line, head_lines, row_lines, rows_lines, title_line, unit_lines, foot_lines, report_lines}
+use Rattle.report_check.specs.ReportLines.{head_lines, row_lines, rows_lines, unit_lines, foot_lines, report_lines}
 
 joined : (a b c d : List ℕ) → a ≡ b → c ≡ d → a ++ c ≡ b ++ d
 joined a b c d e f = ap (λ (z : List ℕ). z ++ c) e ∙ ap (λ (z : List ℕ). b ++ z) f

@@ -1,5 +1,5 @@
 -- Where a report differs from the right one (this project's profile).
-use Rattle.std.specs.Prelude.{ℕ, Option, None, Some, List}
+use Rattle.std.specs.Prelude.{ℕ, List}
 use Rattle.uc_model.specs.Data.{Schedule, Market}
 use Rattle.hull_report.specs.ReportText.{Report, report_text}
 use Rattle.hull_report.specs.RightReport.{IsRightReport}
@@ -10,7 +10,3 @@ abbrev pub DiffersFromRight : Market → List Schedule → Report → ℕ → Ty
 DiffersFromRight m plan r line =
     (right : Report) × IsRightReport m plan r.budget r.ahead right
     × DiffersAt (report_text r) (report_text right) line
-
-abbrev pub IfSome : Option ℕ → (ℕ → Type 0) → Type 0
-IfSome None P = Unit {0}
-IfSome (Some n) P = P n

@@ -3,7 +3,8 @@
 use Rattle.std.specs.Prelude.{ℕ, ◌+◌, ℤ, ◌-ℤ◌, List, [], ◌∷◌, ◌++◌, map, length, slice_index_or}
 use Rattle.uc_model.specs.declared.kinds.Kind.{Kind}
 use Rattle.uc_model.specs.declared.kinds.Kind.TheVariants as kinds
-use Rattle.uc_model.specs.Data.{Schedule, Market, unit_count, thermal_names, renewable_names, bid_names}
+use Rattle.uc_model.specs.Data.{Schedule, Market, unit_count}
+use Rattle.uc_model.specs.Data.{thermal_names, renewable_names, bid_names}
 use Rattle.uc_model.specs.PriceRule.{Proposal}
 use Rattle.uc_model.specs.Sums.{int_at}
 use Rattle.uplift_settle.specs.declared.settlement.Settlement.{Settlement}

@@ -1,5 +1,6 @@
 //! The lines before and behind the proposals and units.
-ghost use Rattle.std.specs.Prelude.{◌≡◌, ℕ, ◌+◌, ◌<◌, ◌≤◌, ◌^◌, ◌-ℤ◌, ℤ, [], ◌∷◌, length, map, IfOk};
+ghost use Rattle.std.specs.Prelude.{◌≡◌, ℕ, ◌+◌, ◌<◌, ◌≤◌, ◌^◌, ◌-ℤ◌};
+ghost use Rattle.std.specs.Prelude.{ℤ, [], ◌∷◌, length, map, IfOk};
 ghost use Rattle.std.specs.Bool.{Decides};
 ghost use Rattle.uc_model.specs.Data.{unit_count};
 ghost use Rattle.uc_model.specs.PlainCases.{market_of};

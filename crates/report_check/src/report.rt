@@ -1,5 +1,6 @@
 //! The first line at which a report differs from the right one.
-ghost use Rattle.std.specs.Prelude.{◌≡◌, ℕ, ◌+◌, ◌<◌, ◌≤◌, ◌-ℤ◌, ◌↔◌, ℤ, None, Some, List, ◌++◌, [], ◌∷◌, length, map, slice_get};
+ghost use Rattle.std.specs.Prelude.{◌≡◌, ℕ, ◌+◌, ◌<◌, ◌≤◌, ◌-ℤ◌, ◌↔◌, ℤ, None};
+ghost use Rattle.std.specs.Prelude.{Some, List, ◌++◌, [], ◌∷◌, length, map, slice_get, IfSome};
 ghost use Rattle.std.specs.List.{AllZip, flat_map};
 ghost use Rattle.uc_model.specs.Data.{Schedule, units, unit_count};
 ghost use Rattle.uc_model.specs.Limits.{IsWorth};
@@ -14,8 +15,9 @@ ghost use Rattle.report_read.specs.Plain.{report_of, told_of};
 ghost use Rattle.report_check.specs.Compared.{Compares};
 ghost use Rattle.report_check.specs.Desks.{IsDeskFor};
 ghost use Rattle.report_check.specs.ReportLines.{told_lines};
-ghost use Rattle.report_check.specs.Right.{DiffersFromRight, IfSome};
-ghost use Rattle.report_check.specs.RightLines.{answers_of, titles, told_from, right_of, whole_lines};
+ghost use Rattle.report_check.specs.Right.{DiffersFromRight};
+ghost use Rattle.report_check.specs.RightLines.{answers_of, titles, told_from};
+ghost use Rattle.report_check.specs.RightLines.{right_of, whole_lines};
 
 use crate::desk::Desk;
 use crate::parts::{chosen_same, foot_same, head_same};

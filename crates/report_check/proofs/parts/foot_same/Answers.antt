@@ -1,4 +1,4 @@
-use Rattle.std.proofs.Common.{ℕ, ◌++◌, ◌∷◌, [], codes, refl, true}
+use Rattle.std.proofs.Common.{◌∷◌, [], codes, refl, true}
 use Rattle.std.specs.Int.{w128}
 use Rattle.std.proofs.lemmas.Int.{to_z-of_z}
 use Rattle.report_read.specs.Plain.{report_of}

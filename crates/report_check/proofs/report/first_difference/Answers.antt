@@ -1,20 +1,16 @@
-use Rattle.std.proofs.Common.{◌≡◌, ℕ, ◌+◌, ◌-◌, ◌≤◌, ◌<◌, ℤ, Ok, Err, Some, None, List, [], ◌∷◌, map, length, arith, refl, sym, ap, ◌∙◌, subst}
+use Rattle.std.proofs.Common.{◌+◌, Ok, Err, map, arith, refl, sym, subst}
 use Rattle.std.specs.Int.{w128}
 use Rattle.std.proofs.lemmas.Int.{to_z-of_z}
 use Rattle.std.proofs.lemmas.Option.{none-some}
-use Rattle.std.specs.List.{AllZip, flat_map}
 use Rattle.std.proofs.lemmas.List.{length-map}
-use Rattle.uc_model.specs.Data.{Schedule, Market, unit_count}
 use Rattle.uc_model.specs.Limits.{IsWorth}
 use Rattle.uc_model.specs.PlainCases.{market_of, schedules_of, proposal_of}
-use Rattle.hull_report.specs.ReportText.{Report}
 use Rattle.report_read.specs.Plain.{report_of, told_of}
-use Rattle.report_check.specs.Compared.{Compares}
-use Rattle.report_check.specs.ReportLines.{told_lines, report_lines}
-use Rattle.report_check.specs.RightLines.{Answers, answers_of, titles, told_from, right_of, whole_lines}
+use Rattle.report_check.specs.ReportLines.{report_lines}
+use Rattle.report_check.specs.RightLines.{answers_of, right_of}
 use Rattle.report_check.proofs.RightReports.{right_is, counted, count_zipped}
 use Rattle.report_check.proofs.UnitLaws.{read_item}
-use Rattle.report_check.proofs.Verdicts.{IsMade, row_made, row_long, mine_whole, right_whole, compared_as, number_behind, sum_is_worth, all_right, first_wrong, not_right}
+use Rattle.report_check.proofs.Verdicts.{row_made, row_long, mine_whole, right_whole, compared_as, number_behind, sum_is_worth, all_right, first_wrong, not_right}
 use Rattle.report_check.proofs.report.first_difference.Goals as goal
 
 pub earn_all-requires-clause-horizon : goal.earn_all-requires-clause-horizon

@@ -1,4 +1,4 @@
-use Rattle.std.proofs.Common.{rules, lit<, ℤ, ◌-ℤ◌, ◌≡◌, ℕ, ◌+◌, Ok, Err, List, [], ◌∷◌, map, length, arith, refl, sym, ap, ◌∙◌, subst}
+use Rattle.std.proofs.Common.{rules, lit<, ℤ, ◌-ℤ◌, ◌+◌, Ok, Err, List, map, length, arith, sym}
 use Rattle.std.specs.Int.{w128}
 use Rattle.std.specs.Prelude.{FitsSigned}
 use Rattle.std.specs.List.{flat_map}

@@ -1,4 +1,4 @@
-use Rattle.std.proofs.Common.{ℕ, suc, ◌+◌, ◌<◌, ◌≤◌, Result, Ok, Err, map, length, arith}
+use Rattle.std.proofs.Common.{suc, ◌<◌, Ok, Err, map, length, arith}
 use Rattle.std.proofs.lemmas.List.{length-map}
 use Rattle.std.proofs.lemmas.Result.{err_from_is_err_and}
 use Rattle.uc_model.specs.PlainCases.{proposal_of}

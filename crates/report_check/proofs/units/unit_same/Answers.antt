@@ -1,4 +1,4 @@
-use Rattle.std.proofs.Common.{◌≡◌, ap, true, false, refl, sym, ◌∙◌}
+use Rattle.std.proofs.Common.{◌≡◌, ap, true, false, sym, ◌∙◌}
 use Rattle.uc_model.specs.PlainUnits.{schedule_of}
 use Rattle.report_check.specs.ReportLines.{kind_word, response_lines}
 use Rattle.report_check.proofs.Comparing.{here_differ}

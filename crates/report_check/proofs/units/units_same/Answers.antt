@@ -1,5 +1,4 @@
-use Rattle.std.proofs.Common.{◌≡◌, ℕ, ◌+◌, ◌<◌, ◌≤◌, Result, Ok, Err, List, map, length, arith, sym, subst, ◌∙◌}
-use Rattle.std.specs.List.{AllZip}
+use Rattle.std.proofs.Common.{ℕ, Ok, Err, List, map, arith, subst, ◌∙◌}
 use Rattle.std.proofs.lemmas.List.{length-map}
 use Rattle.std.proofs.lemmas.Result.{err_from_is_err_and}
 use Rattle.uc_model.specs.Data.{Schedule, units}
@@ -9,9 +8,9 @@ use Rattle.uc_model.specs.Runs.{Fits}
 use Rattle.report_read.specs.Plain.{told_of}
 use Rattle.report_check.specs.Compared.{Compares}
 use Rattle.report_check.specs.ReportLines.{told_lines}
-use Rattle.report_check.specs.RightLines.{Title, Answers, answers_of, idle, titles}
+use Rattle.report_check.specs.RightLines.{Title, answers_of, idle, titles}
 use Rattle.report_check.proofs.UnitLaws.{read_item, zip_at, fits_long, titles_length}
-use Rattle.report_check.proofs.UnitCompared.{right_told, units_step, units_stop, units_end, due_lines}
+use Rattle.report_check.proofs.UnitCompared.{units_step, units_stop, units_end, due_lines}
 use Rattle.report_check.proofs.units.units_same.Goals as goal
 
 pub returns-in_err-line-clause-lines : goal.returns-in_err-line-clause-lines
