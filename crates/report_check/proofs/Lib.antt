@@ -1,0 +1,22 @@
+-- wrong.rt: lines that are compared one by one, and behind one another
+pub mod Comparing
+-- answer.rt, due.rt, units.rt: the unit of a number
+pub mod UnitLaws
+-- a line tells its numbers, since a text tells its report
+pub mod OneLine
+-- rows.rt, parts.rt, units.rt: how lines are judged
+pub mod Judging
+-- rows.rt, units.rt: the lines of proposals and of units, one after another
+pub mod UnitCompared
+-- report.rt: the text of a report is its lines
+pub mod Texts
+-- report.rt: each line ends with its one line feed
+pub mod LineBytes
+-- report.rt: the first lines that differ are where the texts do
+pub mod FirstLine
+-- report.rt: the right report and its lines
+pub mod RightReports
+-- report.rt: what the comparison tells of the report
+pub mod Verdicts
+-- report.rt: all lines, part by part
+pub mod WholeCompared

@@ -1,0 +1,17 @@
+use Rattle.std.proofs.Common.{◌∷◌, []}
+use Rattle.std.specs.Int.{w128}
+use Rattle.std.proofs.lemmas.Int.{to_z-of_z}
+use Rattle.hull_report.specs.ReportText.{chosen_text}
+use Rattle.report_read.specs.Plain.{report_of}
+use Rattle.report_check.proofs.Comparing.{judged_compare}
+use Rattle.report_check.proofs.Judging.{choice_judged}
+use Rattle.report_check.proofs.parts.chosen_same.Goals as goal
+
+pub returns-clause-lines : goal.returns-clause-lines
+unfolding report_of
+returns-clause-lines c =
+    let r = c.args.report.now in
+    let choice = rw (to_z-of_z w128 c.args.value c.ranges.value) at c.same_choice.ensures in
+    rw c.all_same.ensures
+    (judged_compare c.args.first (c.same_choice.result ∷ []) (chosen_text r.chosen r.chosen_value ∷ []) (chosen_text c.args.chosen c.args.value ∷ [])
+    (choice_judged c.same_choice.result r.chosen c.args.chosen r.chosen_value c.args.value choice, tt))

@@ -1,0 +1,169 @@
+use Rattle.std.proofs.Common.{◌+◌, Ok, Err, map, arith, refl, sym, subst}
+use Rattle.std.specs.Int.{w128}
+use Rattle.std.proofs.lemmas.Int.{to_z-of_z}
+use Rattle.std.proofs.lemmas.Option.{none-some}
+use Rattle.std.proofs.lemmas.List.{length-map}
+use Rattle.uc_model.specs.Limits.{IsWorth}
+use Rattle.uc_model.specs.PlainCases.{market_of, schedules_of, proposal_of}
+use Rattle.report_read.specs.Plain.{report_of, told_of}
+use Rattle.report_check.specs.ReportLines.{report_lines}
+use Rattle.report_check.specs.RightLines.{answers_of, right_of}
+use Rattle.report_check.proofs.RightReports.{right_is, counted, count_zipped}
+use Rattle.report_check.proofs.UnitLaws.{read_item}
+use Rattle.report_check.proofs.Verdicts.{row_made, row_long, mine_whole, right_whole, compared_as, number_behind, sum_is_worth, all_right, first_wrong, not_right}
+use Rattle.report_check.proofs.report.first_difference.Goals as goal
+
+pub earn_all-requires-clause-horizon : goal.earn_all-requires-clause-horizon
+earn_all-requires-clause-horizon c =
+    let m = market_of c.args.case.now in
+    let plan = schedules_of c.args.plan.now in
+    let r = report_of c.args.report.now in
+    let rows = map proposal_of c.args.rows.now in
+    let k = c.greatest-chosen.result in
+    let row = proposal_of c.index-rows-chosen.result in
+    let at = read_item proposal_of c.args.rows.now k c.index-rows-chosen.result c.greatest-chosen.ensures.place c.index-rows-chosen.is in
+    let made = row_made m c.args.cost r.budget r.ahead rows k row c.requires.run at in
+    row_long m row made c.index-rows-chosen.result.supply_length
+
+pub settle-requires-clause-horizon : goal.settle-requires-clause-horizon
+settle-requires-clause-horizon c =
+    let m = market_of c.args.case.now in
+    let plan = schedules_of c.args.plan.now in
+    let r = report_of c.args.report.now in
+    let rows = map proposal_of c.args.rows.now in
+    let k = c.greatest-chosen.result in
+    let row = proposal_of c.index-rows-chosen.result in
+    let at = read_item proposal_of c.args.rows.now k c.index-rows-chosen.result c.greatest-chosen.ensures.place c.index-rows-chosen.is in
+    let made = row_made m c.args.cost r.budget r.ahead rows k row c.requires.run at in
+    row_long m row made c.index-rows-chosen.result.supply_length
+
+pub report_same-requires-clause-horizon : goal.report_same-requires-clause-horizon
+report_same-requires-clause-horizon c =
+    let m = market_of c.args.case.now in
+    let plan = schedules_of c.args.plan.now in
+    let r = report_of c.args.report.now in
+    let rows = map proposal_of c.args.rows.now in
+    let k = c.greatest-chosen.result in
+    let row = proposal_of c.index-rows-chosen.result in
+    let at = read_item proposal_of c.args.rows.now k c.index-rows-chosen.result c.greatest-chosen.ensures.place c.index-rows-chosen.is in
+    let made = row_made m c.args.cost r.budget r.ahead rows k row c.requires.run at in
+    row_long m row made c.index-rows-chosen.result.supply_length
+
+pub report_same-requires-clause-some : goal.report_same-requires-clause-some
+report_same-requires-clause-some c = (schedules_of c.args.plan.now, c.requires.feasible.feasible)
+
+pub report_same-requires-clause-earned : goal.report_same-requires-clause-earned
+report_same-requires-clause-earned c = count_zipped _ (market_of c.args.case.now) c.earn_all.new.into.items c.earn_all.ensures.tops
+
+pub report_same-requires-clause-desk : goal.report_same-requires-clause-desk
+report_same-requires-clause-desk c =
+    let m = market_of c.args.case.now in
+    let plan = schedules_of c.args.plan.now in
+    let row = proposal_of c.index-rows-chosen.result in
+    let settlement = c.settle.new.into in
+    let counts = c.settlements_are_of_all_units.ensures m plan row.prices settlement.scheduled.items settlement.payments.items settlement.surplus settlement.total c.requires.feasible c.settle.ensures.settled in
+    let long = count_zipped _ m c.earn_all.new.into.items c.earn_all.ensures.tops in
+    record {
+      bench = c.earn_all.ensures.bench;
+      answer = c.earn_all.ensures.buffer;
+      earned = omega (arith, long);
+      scheduled = counts.0;
+      payments = counts.1;
+    }
+
+pub report_same-requires-clause-cost : goal.report_same-requires-clause-cost
+report_same-requires-clause-cost c =
+    let worth = c.plan_costs_are_within.ensures (market_of c.args.case.now) (schedules_of c.args.plan.now) c.args.case.now.valid c.requires.feasible in
+    let known = sum_is_worth _ worth in
+    rw (to_z-of_z w128 c.args.cost c.ranges.cost) (subst IsWorth (sym c.requires.cost) known)
+
+pub report_same-requires-clause-value : goal.report_same-requires-clause-value
+report_same-requires-clause-value c =
+    let m = market_of c.args.case.now in
+    let plan = schedules_of c.args.plan.now in
+    let r = report_of c.args.report.now in
+    let rows = map proposal_of c.args.rows.now in
+    let k = c.greatest-chosen.result in
+    let row = proposal_of c.index-rows-chosen.result in
+    let at = read_item proposal_of c.args.rows.now k c.index-rows-chosen.result c.greatest-chosen.ensures.place c.index-rows-chosen.is in
+    let made = row_made m c.args.cost r.budget r.ahead rows k row c.requires.run at in
+    c.dual_values_are_within.ensures m row.prices row.value c.args.case.now.valid c.index-rows-chosen.result.prices.valid (row_long m row made c.index-rows-chosen.result.supply_length) made.value
+
+pub report_same-requires-clause-units : goal.report_same-requires-clause-units
+unfolding report_of
+report_same-requires-clause-units c = c.requires.bounds.units_at_most
+
+pub report_same-requires-clause-lines : goal.report_same-requires-clause-lines
+unfolding report_of
+report_same-requires-clause-lines c =
+    let tolds = map told_of c.args.report.now.lines.items in
+    let n = counted 0 tolds c.requires.order in
+    let long = length-map c.args.report.now.lines.items told_of in
+    let lines = c.requires.bounds.lines in
+    omega (arith, n, long, lines)
+
+pub returns-in-Ok-clause-right : goal.returns-in-Ok-clause-right
+returns-in-Ok-clause-right c =
+    let m = market_of c.args.case.now in
+    let plan = schedules_of c.args.plan.now in
+    let r = report_of c.args.report.now in
+    let rows = map proposal_of c.args.rows.now in
+    let k = c.greatest-chosen.result in
+    let row = proposal_of c.index-rows-chosen.result in
+    let at = read_item proposal_of c.args.rows.now k c.index-rows-chosen.result c.greatest-chosen.ensures.place c.index-rows-chosen.is in
+    let made = row_made m c.args.cost r.budget r.ahead rows k row c.requires.run at in
+    let settlement = c.settle.new.into in
+    let a = answers_of c.earn_all.new.into.items settlement made.schedules in
+    let q = right_of m a r.budget r.ahead c.args.cost rows (k + 1) row.value settlement.surplus settlement.total in
+    let counts = c.settlements_are_of_all_units.ensures m plan row.prices settlement.scheduled.items settlement.payments.items settlement.surplus settlement.total c.requires.feasible c.settle.ensures.settled in
+    let is = right_is m plan r.budget r.ahead c.args.cost rows row (k + 1) a settlement.surplus settlement.total c.requires.cost c.requires.run c.greatest-chosen.ensures.number (number_behind rows k row at)
+    made.fit made.totals c.earn_all.ensures.tops counts.0 counts.1 c.settle.ensures.settled in
+    let mine = mine_whole c.args.report.now c.requires.order in
+    let right = right_whole m a r.budget r.ahead c.args.cost rows (k + 1) row.value settlement.surplus settlement.total in
+    let told = rw (to_z-of_z w128 c.args.cost c.ranges.cost) at (c.in-Ok.ensures made.schedules made.fit) in
+    let lines = compared_as (Ok c.in-Ok.field-0) _ (report_lines r) _ (report_lines q) mine right told in
+    (λ e. all_right c.text_determines_the_report.ensures r q m plan r.budget r.ahead c.in-Ok.field-0 c.right_report_has_form.ensures c.requires.bounds is lines, λ h. refl)
+
+pub returns-in-Err-clause-right : goal.returns-in-Err-clause-right
+returns-in-Err-clause-right c =
+    let m = market_of c.args.case.now in
+    let plan = schedules_of c.args.plan.now in
+    let r = report_of c.args.report.now in
+    let rows = map proposal_of c.args.rows.now in
+    let k = c.greatest-chosen.result in
+    let row = proposal_of c.index-rows-chosen.result in
+    let at = read_item proposal_of c.args.rows.now k c.index-rows-chosen.result c.greatest-chosen.ensures.place c.index-rows-chosen.is in
+    let made = row_made m c.args.cost r.budget r.ahead rows k row c.requires.run at in
+    let settlement = c.settle.new.into in
+    let a = answers_of c.earn_all.new.into.items settlement made.schedules in
+    let q = right_of m a r.budget r.ahead c.args.cost rows (k + 1) row.value settlement.surplus settlement.total in
+    let counts = c.settlements_are_of_all_units.ensures m plan row.prices settlement.scheduled.items settlement.payments.items settlement.surplus settlement.total c.requires.feasible c.settle.ensures.settled in
+    let is = right_is m plan r.budget r.ahead c.args.cost rows row (k + 1) a settlement.surplus settlement.total c.requires.cost c.requires.run c.greatest-chosen.ensures.number (number_behind rows k row at)
+    made.fit made.totals c.earn_all.ensures.tops counts.0 counts.1 c.settle.ensures.settled in
+    let mine = mine_whole c.args.report.now c.requires.order in
+    let right = right_whole m a r.budget r.ahead c.args.cost rows (k + 1) row.value settlement.surplus settlement.total in
+    let told = rw (to_z-of_z w128 c.args.cost c.ranges.cost) at (c.in-Err.ensures made.schedules made.fit) in
+    let lines = compared_as (Err c.in-Err.wrong) _ (report_lines r) _ (report_lines q) mine right told in
+    (λ e. absurd (none-some c.in-Err.wrong.line (sym e)), λ h. absurd (not_right c.text_determines_the_report.ensures r q m plan r.budget r.ahead c.in-Err.wrong c.one_report_is_right.ensures is lines h))
+
+pub returns-in-Err-clause-wrong : goal.returns-in-Err-clause-wrong
+returns-in-Err-clause-wrong c =
+    let m = market_of c.args.case.now in
+    let plan = schedules_of c.args.plan.now in
+    let r = report_of c.args.report.now in
+    let rows = map proposal_of c.args.rows.now in
+    let k = c.greatest-chosen.result in
+    let row = proposal_of c.index-rows-chosen.result in
+    let at = read_item proposal_of c.args.rows.now k c.index-rows-chosen.result c.greatest-chosen.ensures.place c.index-rows-chosen.is in
+    let made = row_made m c.args.cost r.budget r.ahead rows k row c.requires.run at in
+    let settlement = c.settle.new.into in
+    let a = answers_of c.earn_all.new.into.items settlement made.schedules in
+    let q = right_of m a r.budget r.ahead c.args.cost rows (k + 1) row.value settlement.surplus settlement.total in
+    let counts = c.settlements_are_of_all_units.ensures m plan row.prices settlement.scheduled.items settlement.payments.items settlement.surplus settlement.total c.requires.feasible c.settle.ensures.settled in
+    let is = right_is m plan r.budget r.ahead c.args.cost rows row (k + 1) a settlement.surplus settlement.total c.requires.cost c.requires.run c.greatest-chosen.ensures.number (number_behind rows k row at)
+    made.fit made.totals c.earn_all.ensures.tops counts.0 counts.1 c.settle.ensures.settled in
+    let mine = mine_whole c.args.report.now c.requires.order in
+    let right = right_whole m a r.budget r.ahead c.args.cost rows (k + 1) row.value settlement.surplus settlement.total in
+    let told = rw (to_z-of_z w128 c.args.cost c.ranges.cost) at (c.in-Err.ensures made.schedules made.fit) in
+    let lines = compared_as (Err c.in-Err.wrong) _ (report_lines r) _ (report_lines q) mine right told in
+    (q, is, first_wrong c.text_determines_the_report.ensures r q c.in-Err.wrong lines)

@@ -1,0 +1,15 @@
+use Rattle.std.proofs.Common.{◌≡◌, ℕ, suc, ◌+◌, ◌*◌, Result, map, drop}
+use Rattle.uc_model.specs.PlainCases.{proposal_of}
+use Rattle.report_check.specs.Compared.{Compares}
+use Rattle.report_check.specs.ReportLines.{rows_lines}
+use Rattle.report_check.specs.declared.wrong.WrongLine.{WrongLine}
+use Rattle.report_check.proofs.rows.rows_same.Given as goal
+
+-- what is told of the rows left is told of all
+abbrev pub invariant-loop-place : goal.invariant-loop-place
+invariant-loop-place l = record {
+  rest : (result : Result ℕ WrongLine)
+      → Compares l.line result (rows_lines (suc l.place) (drop l.place (map proposal_of l.mine))) (rows_lines (suc l.place) (drop l.place (map proposal_of l.right)))
+      → Compares l.first result (rows_lines 1 (map proposal_of l.mine)) (rows_lines 1 (map proposal_of l.right));
+  line : l.line ≡ l.first + 5 * l.place;
+}

@@ -1,0 +1,12 @@
+-- Where a report differs from the right one (this project's profile).
+use Rattle.std.specs.Prelude.{ℕ, List}
+use Rattle.uc_model.specs.Data.{Schedule, Market}
+use Rattle.hull_report.specs.ReportText.{Report, report_text}
+use Rattle.hull_report.specs.RightReport.{IsRightReport}
+use Rattle.report_read.specs.Differences.{DiffersAt}
+
+-- from the right report for the same budget and number of proposals ahead
+abbrev pub DiffersFromRight : Market → List Schedule → Report → ℕ → Type 0
+DiffersFromRight m plan r line =
+    (right : Report) × IsRightReport m plan r.budget r.ahead right
+    × DiffersAt (report_text r) (report_text right) line
