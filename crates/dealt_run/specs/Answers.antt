@@ -14,9 +14,11 @@ amount_of Gives power = pos power
 amount_of Takes power = neg_ℤ (pos power)
 
 -- a response of the unit that fits the prices, what it earns, and which way its powers count
-pub record IsAnswerAt (m : Market) (π : PriceLists) (number : ℕ) (flow : Flow) (a : Answered) : Type 0 where
+pub record IsAnswerAt (m : Market) (π : PriceLists) (number : ℕ) (flow : Flow) (a : Answered)
+    : Type 0 where
   pub unit : AnyUnit
   pub is : slice_get (units m) number ≡ Some unit
   pub fit : Fits unit π (schedule_of a.response)
   pub earned : a.earned ≡ earnings unit π (schedule_of a.response)
-  pub supply : (k : ℕ) → supply_in unit (schedule_of a.response) (suc k) ≡ amount_of flow (slice_index (schedule_of a.response).power k)
+  pub supply : (k : ℕ) → supply_in unit (schedule_of a.response) (suc k)
+      ≡ amount_of flow (slice_index (schedule_of a.response).power k)

@@ -10,12 +10,17 @@ use Rattle.unit_program.specs.declared.bench.Bench.{Bench}
 
 -- a plan with a feasible schedule for each unit and bid, in balance or not
 abbrev pub HasSchedules : Market → Type 0
-HasSchedules m = (plan : List Schedule) × AllZip (λ (u : AnyUnit) (s : Schedule). IsFeasible u m.periods s) (units m) plan
+HasSchedules m =
+    (plan : List Schedule)
+    × AllZip (λ (u : AnyUnit) (s : Schedule). IsFeasible u m.periods s) (units m) plan
 
 -- no unit or bid is without a feasible schedule
 abbrev pub CanAnswer : Market → Type 0
-CanAnswer m = (k : ℕ) (u : AnyUnit) → slice_get (units m) k ≡ Some u → ((s : Schedule) → IsFeasible u m.periods s → ⊥) → ⊥
+CanAnswer m =
+    (k : ℕ) (u : AnyUnit) → slice_get (units m) k ≡ Some u →
+    ((s : Schedule) → IsFeasible u m.periods s → ⊥) → ⊥
 
 -- the bench suffices for each thermal unit
 abbrev pub IsBenchOver : Market → Bench Slopes → Type 0
-IsBenchOver m b = All (λ (n : NamedThermalUnit). IsBenchFor room_of m.periods (length n.unit.points) b) m.thermal
+IsBenchOver m b =
+    All (λ (n : NamedThermalUnit). IsBenchFor room_of m.periods (length n.unit.points) b) m.thermal

@@ -29,11 +29,12 @@ pub enum Flow {
 // Answers a thermal unit that isn't without a feasible schedule.
 fn answer_thermal(bench: &mut Bench<Slopes>, unit: &Unit, prices: &Prices, into: &mut Answered)
     requires horizon { length (thermal_of unit.now).window ≡ length (prices_of prices.now).energy }
-    requires some { ((s : Schedule)
-        → IsThermalFeasible (thermal_of unit.now) (length (prices_of prices.now).energy) s → ⊥) → ⊥ }
+    requires some { ((s : Schedule) → IsThermalFeasible (thermal_of unit.now)
+        (length (prices_of prices.now).energy) s → ⊥) → ⊥ }
     requires bench { IsBenchFor room_of (length (prices_of prices.now).energy)
         (length (thermal_of unit.now).points) bench.old }
-    requires into { length (schedule_of into.old.response).on ≡ length (prices_of prices.now).energy }
+    requires into { length (schedule_of into.old.response).on
+        ≡ length (prices_of prices.now).energy }
     ensures fit { Fits (Thermal (thermal_of unit.now)) (prices_of prices.now)
         (schedule_of into.new.response) }
     ensures earned { into.new.earned ≡ earnings (Thermal (thermal_of unit.now))
@@ -61,7 +62,8 @@ fn answer_thermal_at(
     requires horizon { length (prices_of prices.now).energy ≡ (market_of case.now).periods }
     requires number { number < length (market_of case.now).thermal }
     requires into { length (schedule_of into.old.response).on ≡ (market_of case.now).periods }
-    ensures answer { IsAnswerAt (market_of case.now) (prices_of prices.now) number result into.new }
+    ensures answer { IsAnswerAt (market_of case.now) (prices_of prices.now) number result
+        into.new }
     ensures bench { IsBenchOver (market_of case.now) bench.new }
     ensures into { length (schedule_of into.new.response).on ≡ (market_of case.now).periods }
 {
@@ -76,7 +78,8 @@ fn answer_other_at(case: &Case, prices: &Prices, number: usize, into: &mut Answe
     requires first { length (market_of case.now).thermal ≤ number }
     requires last { number < unit_count (market_of case.now) }
     requires into { length (schedule_of into.old.response).on ≡ (market_of case.now).periods }
-    ensures answer { IsAnswerAt (market_of case.now) (prices_of prices.now) number result into.new }
+    ensures answer { IsAnswerAt (market_of case.now) (prices_of prices.now) number result
+        into.new }
     ensures into { length (schedule_of into.new.response).on ≡ (market_of case.now).periods }
 {
     units_are_numbered();
@@ -106,7 +109,8 @@ pub fn answer_at(
     requires horizon { length (prices_of prices.now).energy ≡ (market_of case.now).periods }
     requires number { number < unit_count (market_of case.now) }
     requires into { length (schedule_of into.old.response).on ≡ (market_of case.now).periods }
-    ensures answer { IsAnswerAt (market_of case.now) (prices_of prices.now) number result into.new }
+    ensures answer { IsAnswerAt (market_of case.now) (prices_of prices.now) number result
+        into.new }
     ensures bench { IsBenchOver (market_of case.now) bench.new }
     ensures into { length (schedule_of into.new.response).on ≡ (market_of case.now).periods }
 {

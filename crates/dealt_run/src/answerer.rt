@@ -17,8 +17,8 @@ use uc_model::lists::ReservedList;
 use uc_model::units::{Answered, Prices};
 use unit_program::Bench;
 
-/// Answers units of a case by their numbers, all at the same prices, on a bench of its own. It keeps
-/// the numbers that it answered since the proposal began, and the sums of their answers.
+/// Answers units of a case by their numbers, all at the same prices, on a bench of its own. It
+/// keeps the numbers that it answered since the proposal began, and the sums of their answers.
 #[derive(Drop)]
 pub struct Answerer<'a> {
     pub case: &'a Case,
@@ -43,8 +43,8 @@ impl<'a> Answerer<'a> {
     ghost use Rattle.std.specs.Prelude.{[], IfOk};
     ghost use Rattle.dealt_run.specs.Benches.{HasSchedules};
 
-    /// A job for a case, each unit and bid of which has a feasible schedule. It takes the bench, which
-    /// suffices for each thermal unit, and room for as many numbers as there are units.
+    /// A job for a case, each unit and bid of which has a feasible schedule. It takes the bench,
+    /// which suffices for each thermal unit, and room for as many numbers as there are units.
     ///
     /// # Errors
     ///
@@ -74,8 +74,8 @@ impl<'a> Answerer<'a> {
         })
     }
 
-    /// Begins a proposal at these prices, which are over the periods of the case: nothing is answered
-    /// yet, and there is room for all units. Takes no memory.
+    /// Begins a proposal at these prices, which are over the periods of the case: nothing is
+    /// answered yet, and there is room for all units. Takes no memory.
     pub fn begin(&mut self, prices: &Prices)
         requires { length (prices_of prices.now).energy ≡ (market_of self.old.case.now).periods }
         ensures case { self.new.case.now ≡ self.old.case.now }

@@ -1,5 +1,6 @@
 //! The answer of a number, added to sums.
 ghost use Rattle.std.specs.Prelude.{◌≡◌, ℕ, ◌+◌, length};
+ghost use Rattle.uc_model.specs.declared.limits.TheConstants.{MOST_UNITS};
 ghost use Rattle.uc_model.specs.PlainCases.{market_of};
 ghost use Rattle.uc_model.specs.PlainUnits.{prices_of, schedule_of};
 ghost use Rattle.dealt_run.specs.Benches.{CanAnswer, IsBenchOver};
@@ -15,8 +16,8 @@ use uc_model::laws::{
 use uc_model::units::{Answered, Prices};
 use unit_program::Bench;
 
-/// Answers the unit of a number at the prices, and adds what it earns, gives or takes, and reserves;
-/// adds nothing where there is no unit of that number. Takes no memory.
+/// Answers the unit of a number at the prices, and adds what it earns, gives or takes, and
+/// reserves; adds nothing where there is no unit of that number. Takes no memory.
 pub fn count_at(
     bench: &mut Bench<Slopes>,
     case: &Case,
@@ -29,7 +30,7 @@ pub fn count_at(
     requires bench { IsBenchOver (market_of case.now) bench.old }
     requires horizon { length (prices_of prices.now).energy ≡ (market_of case.now).periods }
     requires buffer { length (schedule_of buffer.old.response).on ≡ (market_of case.now).periods }
-    requires within { AreWithin (market_of case.now).periods 12288 sums.old }
+    requires within { AreWithin (market_of case.now).periods MOST_UNITS sums.old }
     ensures more { IsMore (market_of case.now) (prices_of prices.now) number sums.old sums.new }
     ensures within { (n : ℕ) → AreWithin (market_of case.now).periods n sums.old
         → AreWithin (market_of case.now).periods (n + 1) sums.new }

@@ -2,6 +2,7 @@
 ghost use Rattle.std.specs.Prelude.{◌≡◌, ℕ, ◌*◌, ◌<◌, ◌≤◌, [], length, IfOk, map};
 ghost use Rattle.std.specs.List.{All};
 ghost use Rattle.task_deal.specs.declared.deal.TheConstants.{MOST_JOBS};
+ghost use Rattle.uc_model.specs.declared.limits.TheConstants.{MOST_UNITS};
 ghost use Rattle.uc_model.specs.Data.{Market, PriceLists, unit_count};
 ghost use Rattle.uc_model.specs.PlainCases.{market_of, proposal_of};
 ghost use Rattle.uc_model.specs.PlainUnits.{prices_of};
@@ -49,7 +50,7 @@ fn begin_jobs(case: &Case, jobs: &mut Vec<Answerer>, prices: &Prices)
 // Adds the sums of all jobs to sums of nothing.
 fn gather(jobs: &[Answerer], sums: &mut Sums)
     requires count { length jobs.now ≤ MOST_JOBS }
-    requires jobs { All (λ job. AreWithin (length sums.old.supply.items) 12288 job.sums) jobs.now }
+    requires jobs { All (λ job. AreWithin (length sums.old.supply.items) MOST_UNITS job.sums) jobs.now }
     requires none { AreWithin (length sums.old.supply.items) 0 sums.old }
     ensures added { AreAdded (λ job. job.sums) jobs.now sums.old sums.new }
     ensures supply_length { length sums.new.supply.items ≡ length sums.old.supply.items }
@@ -72,7 +73,8 @@ fn answered<R: Threads + Wait + Sync>(
     requires most { length jobs.old.items ≤ MOST_JOBS }
     requires jobs { AreFor (market_of case.now) jobs.old.items }
     requires horizon { length (prices_of prices.now).energy ≡ (market_of case.now).periods }
-    ensures sums { IfOk result (λ sums. AreSumsOfAll (market_of case.now) (prices_of prices.now) sums) }
+    ensures sums { IfOk result
+        (λ sums. AreSumsOfAll (market_of case.now) (prices_of prices.now) sums) }
     ensures count { length jobs.new.items ≡ length jobs.old.items }
     ensures jobs { AreFor (market_of case.now) jobs.new.items }
 {
@@ -88,8 +90,8 @@ fn answered<R: Threads + Wait + Sync>(
     Ok(sums)
 }
 
-/// The row of a proposal at these prices, which are over the periods of the case. Each unit answers
-/// once, on one of the jobs, which are for the case and stay so.
+/// The row of a proposal at these prices, which are over the periods of the case. Each unit
+/// answers once, on one of the jobs, which are for the case and stay so.
 ///
 /// # Errors
 ///

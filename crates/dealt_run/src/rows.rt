@@ -1,5 +1,6 @@
 //! The rows of a run.
-ghost use Rattle.std.specs.Prelude.{◌≡◌, ◌<◌, ◌≤◌, true, not, IsTrue, IsFalse, length, IfOk, map, take};
+ghost use Rattle.std.specs.Prelude.{◌≡◌, ◌<◌, ◌≤◌, true, not, IsTrue, IsFalse};
+ghost use Rattle.std.specs.Prelude.{length, IfOk, map, take};
 ghost use Rattle.std.specs.List.{All};
 ghost use Rattle.price_move.specs.Moves.{is_last_settled};
 ghost use Rattle.price_move.specs.Sizes.{IsRowBelow};
@@ -8,7 +9,8 @@ ghost use Rattle.uc_model.specs.declared.limits.TheConstants.{MOST_PROPOSALS};
 ghost use Rattle.uc_model.specs.Limits.{IsWorth};
 ghost use Rattle.uc_model.specs.PlainCases.{market_of, proposal_of};
 ghost use Rattle.uc_model.specs.PlainUnits.{prices_of};
-ghost use Rattle.uc_model.specs.PriceRule.{start_prices as start_prices_of, next_prices as prices_after};
+ghost use Rattle.uc_model.specs.PriceRule.{start_prices as start_prices_of};
+ghost use Rattle.uc_model.specs.PriceRule.{next_prices as prices_after};
 ghost use Rattle.uc_model.specs.Runs.{IsRun, Fits};
 ghost use Rattle.dealt_run.specs.Jobs.{AreFor};
 ghost use Rattle.dealt_run.specs.Rows.{IsCostOfPlan, IsNextProposal, IsLast};
@@ -84,12 +86,13 @@ fn next_into(
     propose(case, past, ahead, cost, into)
 }
 
-/// The rows of the run of a case with that budget of proposals, of which `ahead` are opened ahead of
-/// the answered ones: all the proposals that the budget and the price rule call for, each with its
-/// prices, its dual value in money, and the totals of the least best responses. `cost` is that of a
-/// feasible plan. The units of each proposal are dealt to the jobs, which are for this case and stay
-/// so. There are 1 to `MOST_JOBS` jobs, the budget is from 1 to `MOST_PROPOSALS` and `ahead` from 1
-/// to 16.
+/// The rows of the run of a case with that budget of proposals, of which `ahead` are opened ahead
+/// of the answered ones: all the proposals that the budget and the price rule call for, each with
+/// its prices, its dual value in money, and the totals of the least best responses in kilowatts.
+///
+/// `cost` is that of a feasible plan, in money. The units of each proposal are dealt to the jobs,
+/// which are for this case and stay so. There are 1 to `MOST_JOBS` jobs, the budget is from 1 to
+/// `MOST_PROPOSALS` and `ahead` from 1 to 16.
 ///
 /// Waits for the jobs' threads.
 ///
