@@ -17,7 +17,7 @@ use Rattle.uc_model.specs.Runs.{Fits}
 use Rattle.uc_model.specs.Schedules.{reserve_in}
 use Rattle.uc_model.specs.Sums.{int_at, total, sum_below, zip_with}
 use Rattle.uc_model.specs.Systems.{total_power, total_reserve}
-use Rattle.uc_model.proofs.ListLaws.{head_of, tail_of, zip_item, length_same, map-map}
+use Rattle.uc_model.proofs.ListLaws.{head_of, tail_of, zip_item, length_same}
 use Rattle.dealt_run.specs.declared.sums.Sums.{Sums}
 use Rattle.dealt_run.specs.Sums.{part_of, sum_of, FitsAt, AreSumsOf, AreAdded, AreSumsOfAll}
 use Rattle.dealt_run.proofs.Fitting.{Plan, the_plan, all_there}

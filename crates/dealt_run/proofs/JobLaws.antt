@@ -1,5 +1,5 @@
 -- Jobs after a deal, and what they added up.
-use Rattle.std.proofs.Common.{◌≡◌, ℕ, ◌+◌, ◌≤◌, ℤ, ◌-ℤ◌, List, [], ◌∷◌, map, length, refl, sym, ap, ◌∙◌, subst, subst₂, arith}
+use Rattle.std.proofs.Common.{◌≡◌, ℕ, ◌≤◌, ℤ, List, [], ◌∷◌, map, length, refl, sym, ap, ◌∙◌, subst, subst₂, arith}
 use Rattle.std.proofs.lemmas.List.{length-map}
 use Rattle.std.proofs.lemmas.List.FromFn.{length-range_with_len}
 use Rattle.std.specs.List.{All, AllZip, range_with_len}
@@ -12,7 +12,7 @@ use Rattle.uc_model.specs.Limits.{IsUnit, IsEarned, IsSum, IsMarket, ArePrices}
 use Rattle.uc_model.specs.PlainCases.{market_of}
 use Rattle.uc_model.specs.PlainUnits.{prices_of}
 use Rattle.uc_model.specs.Runs.{Fits}
-use Rattle.uc_model.specs.Sums.{total, zip_with}
+use Rattle.uc_model.specs.Sums.{zip_with}
 use Rattle.uc_model.proofs.ListLaws.{head_of, tail_of, all_nil, all_cons, length_same, length-zip_with}
 use Rattle.dealt_run.specs.declared.answerer.Answerer.{Answerer}
 use Rattle.dealt_run.specs.declared.sums.Sums.{Sums}

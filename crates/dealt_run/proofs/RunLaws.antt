@@ -1,5 +1,5 @@
 -- A run row by row.
-use Rattle.std.proofs.Common.{◌≡◌, ℕ, zero, suc, ◌+◌, ◌-◌, ◌<◌, ◌≤◌, inl, inr, ℤ, ◌≤ℤ◌, List, [], ◌∷◌, ◌++◌, map, take, length, refl, sym, ap, ◌∙◌, subst, arith, length-append}
+use Rattle.std.proofs.Common.{◌≡◌, ℕ, zero, suc, ◌+◌, ◌-◌, ◌<◌, ◌≤◌, inl, inr, ℤ, ◌≤ℤ◌, List, [], ◌∷◌, ◌++◌, take, length, refl, sym, ap, ◌∙◌, subst, arith, length-append}
 use Rattle.std.proofs.lemmas.Bool.{cases_lt}
 use Rattle.std.proofs.lemmas.Int.{ints}
 use Rattle.std.proofs.lemmas.List.Elements.{All-map, All-push, All-nil}
@@ -11,7 +11,7 @@ use Rattle.uc_model.specs.BoundLaws.{GivesWithin, UnitsAreWithin, OutputsAreWith
 use Rattle.uc_model.specs.Laws.{DualIsAtMostCost}
 use Rattle.uc_model.specs.Limits.{IsUnit, IsTotal, IsWorth, IsMarket, ArePrices}
 use Rattle.uc_model.specs.PriceRule.{Proposal, is_settled}
-use Rattle.uc_model.specs.Runs.{Fits, IsNextRow, AreRightRows, IsRun}
+use Rattle.uc_model.specs.Runs.{Fits, IsNextRow, IsRun}
 use Rattle.uc_model.specs.Systems.{total_power, total_reserve, IsDualValue}
 use Rattle.uc_model.proofs.ListLaws.{head_of, tail_of}
 use Rattle.dealt_run.specs.Rows.{IsCostOfPlan, IsRowAt, IsRunSoFar, IsNextProposal, IsLast}

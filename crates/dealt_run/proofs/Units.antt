@@ -1,5 +1,5 @@
 -- The unit of a number.
-use Rattle.std.proofs.Common.{◌≡◌, ℕ, suc, Bool, true, false, Some, List, length, map, refl, sym, ap, ◌∙◌, subst, arith}
+use Rattle.std.proofs.Common.{◌≡◌, ℕ, Bool, true, false, Some, length, refl, sym, subst}
 use Rattle.std.specs.Prelude.{IsTrue, IsFalse, slice_get}
 use Rattle.slope_list.specs.Slopes.{room_of}
 use Rattle.slope_list.specs.declared.slopes.Slopes.{Slopes}

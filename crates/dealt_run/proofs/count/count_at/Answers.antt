@@ -1,4 +1,4 @@
-use Rattle.std.proofs.Common.{◌≡◌, ℕ, suc, ◌+◌, sym, ap, ◌∙◌, subst, arith}
+use Rattle.std.proofs.Common.{◌+◌, sym, arith}
 use Rattle.uc_model.specs.PlainCases.{market_of}
 use Rattle.uc_model.specs.PlainUnits.{prices_of}
 use Rattle.dealt_run.proofs.Keeping.{nothing_more, answer_more, answer_small}

@@ -1,5 +1,4 @@
-use Rattle.std.proofs.Common.{◌≡◌, ℕ, ◌+◌, ◌*◌, ◌<◌, sym, ap, ◌∙◌, subst, length, arith}
-use Rattle.std.specs.Prelude.{slice_index_or}
+use Rattle.std.proofs.Common.{◌≡◌, ℕ, ◌+◌, ◌*◌, sym, ◌∙◌, subst, length, arith}
 use Rattle.uc_model.specs.Sums.{int_at}
 use Rattle.dealt_run.specs.declared.answerer.Answerer.{Answerer}
 use Rattle.dealt_run.specs.Sums.{AreWithin}

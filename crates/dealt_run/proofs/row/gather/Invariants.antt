@@ -1,4 +1,4 @@
-use Rattle.std.proofs.Common.{◌≡◌, ℕ, ◌+◌, ◌*◌, ◌<◌, ◌≤◌, ◌+ℤ◌, map, take, length}
+use Rattle.std.proofs.Common.{◌≡◌, ℕ, ◌*◌, ◌<◌, ◌+ℤ◌, map, take, length}
 use Rattle.uc_model.specs.Sums.{int_at, total}
 use Rattle.dealt_run.specs.declared.answerer.Answerer.{Answerer}
 use Rattle.dealt_run.specs.Sums.{AreWithin}

@@ -1,4 +1,4 @@
-use Rattle.std.proofs.Common.{◌≡◌, sym, ap, ◌∙◌, subst, refl, rules, FitsSigned, ◌-ℤ◌}
+use Rattle.std.proofs.Common.{sym, ap, ◌∙◌, refl, rules, FitsSigned, ◌-ℤ◌}
 use Rattle.std.proofs.lemmas.Int.{to_z-of_z}
 use Rattle.std.specs.Int.{w128}
 use Rattle.uc_model.specs.Data.{units}

@@ -1,4 +1,4 @@
-use Rattle.std.proofs.Common.{rules, map, arith, FitsSigned}
+use Rattle.std.proofs.Common.{map, arith}
 use Rattle.std.proofs.lemmas.Int.{to_z-of_z}
 use Rattle.std.proofs.lemmas.List.{length-map}
 use Rattle.std.specs.Int.{w128}

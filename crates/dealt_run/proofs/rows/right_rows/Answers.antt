@@ -1,4 +1,4 @@
-use Rattle.std.proofs.Common.{◌≡◌, ℕ, ◌+◌, ◌≤◌, map, length, sym, ap, ◌∙◌, subst, arith, rules, ◌++◌, ◌∷◌, [], List}
+use Rattle.std.proofs.Common.{◌≡◌, map, sym, ap, ◌∙◌, subst, arith, rules, ◌++◌, ◌∷◌, [], List}
 use Rattle.std.proofs.lemmas.Int.{to_z-of_z}
 use Rattle.std.proofs.lemmas.List.{length-map}
 use Rattle.std.specs.Int.{w128}
@@ -6,7 +6,6 @@ use Rattle.std.specs.Prelude.{IsTrue, IsFalse}
 use Rattle.uc_model.specs.declared.cases.Row.{Row}
 use Rattle.uc_model.specs.PlainCases.{market_of, proposal_of}
 use Rattle.uc_model.specs.PlainUnits.{prices_of}
-use Rattle.uc_model.specs.PriceRule.{Proposal}
 use Rattle.uc_model.proofs.ListLaws.{map-append}
 use Rattle.dealt_run.specs.Rows.{IsRunSoFar, IsNextProposal, IsLast}
 use Rattle.dealt_run.proofs.RunLaws.{row_below, goes_on, ends_at_budget, ends_settled, cost_worth, one_longer}

@@ -1,6 +1,5 @@
-use Rattle.std.proofs.Common.{◌≡◌, ℕ, length, refl, sym, ap, ◌∙◌, arith}
+use Rattle.std.proofs.Common.{length, arith}
 use Rattle.uc_model.specs.PlainCases.{market_of}
-use Rattle.uc_model.specs.PlainUnits.{prices_of}
 use Rattle.dealt_run.proofs.Keeping.{starts, starts_within}
 use Rattle.dealt_run.proofs.answerer.Answerer.begin.Goals as goal
 

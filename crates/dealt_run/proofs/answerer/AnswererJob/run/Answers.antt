@@ -1,4 +1,4 @@
-use Rattle.std.proofs.Common.{◌≡◌, ℕ, ◌+◌, sym, ap, ◌∙◌, subst, length, arith, ◌∷◌, []}
+use Rattle.std.proofs.Common.{◌≡◌, ℕ, ◌+◌, sym, subst, length, arith}
 use Rattle.uc_model.specs.PlainCases.{market_of}
 use Rattle.uc_model.specs.PlainUnits.{prices_of}
 use Rattle.dealt_run.specs.Sums.{AreWithin}
