@@ -1,0 +1,18 @@
+use Rattle.std.proofs.Common.{refl}
+use Rattle.uc_model.specs.PlainCases.{market_of}
+use Rattle.uc_model.specs.PlainUnits.{prices_of}
+use Rattle.dealt_run.proofs.Keeping.{can_answer, starts, starts_within}
+use Rattle.dealt_run.proofs.answerer.Answerer.make.Goals as goal
+
+pub invariant_of-result-clause-some : goal.invariant_of-result-clause-some
+invariant_of-result-clause-some c = can_answer (market_of c.args.case.now) c.requires.schedules
+
+pub invariant_of-result-clause-kept : goal.invariant_of-result-clause-kept
+invariant_of-result-clause-kept c =
+    starts (market_of c.args.case.now) (prices_of c.in_ok-prices.prices) c.in_ok-numbers.numbers.items c.in_ok-sums.sums c.args.case.now.periods c.args.case.now.periods
+    c.in_ok-numbers.ensures.empty c.in_ok-sums.ensures.earned c.in_ok-sums.ensures.supply c.in_ok-sums.ensures.reserve
+
+pub invariant_of-result-clause-within : goal.invariant_of-result-clause-within
+invariant_of-result-clause-within c =
+    starts_within c.args.case.now.periods c.in_ok-numbers.numbers.items c.in_ok-sums.sums c.args.case.now.periods c.args.case.now.periods
+    c.in_ok-numbers.ensures.empty refl refl c.in_ok-sums.ensures.earned c.in_ok-sums.ensures.supply c.in_ok-sums.ensures.reserve

@@ -1,0 +1,13 @@
+use Rattle.std.proofs.Common.{◌≡◌, ℕ, ◌<◌, ◌≤◌, length}
+use Rattle.std.specs.Prelude.{slice_index_or}
+use Rattle.uc_model.specs.PlainCases.{market_of}
+use Rattle.uc_model.specs.PlainUnits.{prices_of}
+use Rattle.dealt_run.specs.declared.answerer.Answerer.{Answerer}
+use Rattle.dealt_run.specs.Jobs.{HasBegun}
+use Rattle.dealt_run.proofs.row.begin_all.Given as goal
+
+abbrev pub invariant-loop-job : goal.invariant-loop-job
+invariant-loop-job l = record {
+  begun : (k : ℕ) (d : Answerer) → k < l.job-index → HasBegun (market_of l.case) (prices_of l.prices) (slice_index_or l.jobs k d);
+  waiting : (k : ℕ) (d : Answerer) → l.job-index ≤ k → k < length l.jobs → market_of (slice_index_or l.jobs k d).case.now ≡ market_of l.case;
+}

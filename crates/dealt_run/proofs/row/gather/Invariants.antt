@@ -1,0 +1,13 @@
+use Rattle.std.proofs.Common.{◌≡◌, ℕ, ◌*◌, ◌<◌, ◌+ℤ◌, map, take, length}
+use Rattle.uc_model.specs.Sums.{int_at, total}
+use Rattle.dealt_run.specs.declared.answerer.Answerer.{Answerer}
+use Rattle.dealt_run.specs.Sums.{AreWithin}
+use Rattle.dealt_run.proofs.row.gather.Given as goal
+
+abbrev pub invariant-loop-job : goal.invariant-loop-job
+invariant-loop-job l = record {
+  earned : l.sums.earned ≡ l.initial.sums.earned +ℤ total (map (λ (j : Answerer). j.sums.earned) (take l.job-index l.jobs));
+  supply : (k : ℕ) → k < length l.initial.sums.supply.items → int_at l.sums.supply.items k ≡ int_at l.initial.sums.supply.items k +ℤ total (map (λ (j : Answerer). int_at j.sums.supply.items k) (take l.job-index l.jobs));
+  reserve : (k : ℕ) → k < length l.initial.sums.reserve.items → int_at l.sums.reserve.items k ≡ int_at l.initial.sums.reserve.items k +ℤ total (map (λ (j : Answerer). int_at j.sums.reserve.items k) (take l.job-index l.jobs));
+  within : AreWithin (length l.initial.sums.supply.items) (l.job-index * 12288) l.sums;
+}

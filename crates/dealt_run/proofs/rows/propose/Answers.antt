@@ -1,0 +1,15 @@
+use Rattle.std.proofs.Common.{map, arith}
+use Rattle.std.proofs.lemmas.Int.{to_z-of_z}
+use Rattle.std.proofs.lemmas.List.{length-map}
+use Rattle.std.specs.Int.{w128}
+use Rattle.uc_model.specs.PlainCases.{market_of, proposal_of}
+use Rattle.uc_model.specs.PlainUnits.{prices_of}
+use Rattle.dealt_run.proofs.Following.{moved_over}
+use Rattle.dealt_run.proofs.rows.propose.Goals as goal
+
+pub returns-clause-horizon : goal.returns-clause-horizon
+returns-clause-horizon c =
+    let some = c.requires.some in
+    let made = rw (to_z-of_z w128 c.args.cost c.ranges.cost) at c.next_prices-moved.ensures.made in
+    moved_over c.next_prices-moved.result (market_of c.args.case.now) c.args.cost (map proposal_of c.args.rows.now) (prices_of c.next_prices-moved.new.into) (prices_of c.args.into.now)
+    made c.next_prices-moved.ensures.unchanged (omega (arith, some, length-map c.args.rows.now proposal_of)) c.requires.horizon

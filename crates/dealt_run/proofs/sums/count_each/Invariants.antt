@@ -1,0 +1,11 @@
+use Rattle.std.proofs.Common.{◌≡◌, ℕ, ◌<◌, ◌≤◌, ◌+ℤ◌, length, slice_index}
+use Rattle.uc_model.specs.Sums.{int_at}
+use Rattle.dealt_run.specs.Answers.{amount_of}
+use Rattle.dealt_run.proofs.sums.count_each.Given as goal
+
+abbrev pub invariant-loop-k : goal.invariant-loop-k
+invariant-loop-k l = record {
+  same_length : length l.totals.items ≡ length l.initial.totals.items;
+  counted : (j : ℕ) → j < l.k → int_at l.totals.items j ≡ int_at l.initial.totals.items j +ℤ amount_of l.flow (slice_index l.powers.items j);
+  waiting : (j : ℕ) → l.k ≤ j → int_at l.totals.items j ≡ int_at l.initial.totals.items j;
+}

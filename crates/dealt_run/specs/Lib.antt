@@ -1,0 +1,5 @@
+pub mod Benches
+pub mod Answers
+pub mod Sums
+pub mod Jobs
+pub mod Rows

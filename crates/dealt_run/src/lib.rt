@@ -1,0 +1,19 @@
+//! The rows of a run, worked out without a board: the units of each proposal are dealt to jobs,
+//! and what the jobs add up makes the row.
+//!
+//! A job answers each unit that it gets on its own bench, and keeps the sums of what the units
+//! earn, give and reserve. Whoever answered which unit, the jobs' sums together are those of one
+//! least best response of each unit, since each number is dealt once.
+#![tactic(auto)]
+
+mod answer;
+mod answerer;
+mod count;
+mod row;
+mod rows;
+mod sums;
+
+pub use answer::{Flow, answer_at};
+pub use answerer::Answerer;
+pub use rows::right_rows;
+pub use sums::Sums;
