@@ -23,6 +23,8 @@ mod spells;
 #[cfg(test)]
 mod steps;
 #[cfg(test)]
+mod threads;
+#[cfg(test)]
 mod units;
 #[cfg(test)]
 mod values;

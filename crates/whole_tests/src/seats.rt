@@ -224,8 +224,10 @@ fn a_halt_before_the_last_post(rt: HostRuntime) -> Result<(), Fail> {
         by(0, Does::Claims(Claim::Given)),
         by(1, Does::Claims(Claim::NotYet)),
         by(1, Does::Halts),
+        by(1, Does::Claims(Claim::Halted)),
         by(0, Does::Posts(Posted::Taken { closed: Some(1) })),
         by(0, Does::Claims(Claim::Finished)),
+        by(1, Does::Claims(Claim::Finished)),
     ];
     let board = board_of(alloc, SMALLEST, SMALLEST_PLAN, TWO)?;
     let (closed, held) = played(&rt, alloc, board, &steps)?;
