@@ -7,6 +7,8 @@ mod boards;
 #[cfg(test)]
 mod case_files;
 #[cfg(test)]
+mod dealt_rows;
+#[cfg(test)]
 mod generated;
 #[cfg(test)]
 mod held;

@@ -1,0 +1,88 @@
+//! The rows of a run without a board, on two units over one period with a demand of 150 kW: A gives
+//! up to 100 kW at 10 for each, and B gives exactly 100 kW for 3,000. The numbers expected are worked
+//! by hand.
+
+ghost use Rattle.std.specs.Prelude.{◌≡◌, ◌≤◌, length, IfOk};
+ghost use Rattle.uc_model.specs.PlainCases.{market_of};
+ghost use Rattle.dealt_run.specs.Benches.{HasSchedules};
+ghost use Rattle.dealt_run.specs.Jobs.{AreFor};
+
+use dealt_run::{Answerer, right_rows};
+use plan_check::check_plan;
+use std::alloc::Global;
+use std::sync::Wait;
+use std::test::Fail;
+use std::thread::Threads;
+use uc_case::read_case;
+use uc_model::cases::{Case, Row};
+use uc_model::limits::MOST_POINTS;
+use uc_model::lists::ReservedList;
+use uc_plan::read_plan;
+use unit_program::Bench;
+use unit_program::laws::benches_serve_less;
+
+const CASE: &[u8] =
+    b"{\"time_periods\":1,\"demand\":[0.15],\"reserves\":[0],\"thermal_generators\":{\"A\":{\"must_run\":0,\"power_output_minimum\":0,\"power_output_maximum\":0.1,\"ramp_up_limit\":1,\"ramp_down_limit\":1,\"ramp_startup_limit\":1,\"ramp_shutdown_limit\":1,\"time_up_minimum\":1,\"time_down_minimum\":1,\"power_output_t0\":0,\"unit_on_t0\":0,\"time_up_t0\":0,\"time_down_t0\":1,\"startup\":[],\"piecewise_production\":[{\"mw\":0,\"cost\":0},{\"mw\":0.1,\"cost\":0.001}]},\"B\":{\"must_run\":0,\"power_output_minimum\":0.1,\"power_output_maximum\":0.1,\"ramp_up_limit\":1,\"ramp_down_limit\":1,\"ramp_startup_limit\":1,\"ramp_shutdown_limit\":1,\"time_up_minimum\":1,\"time_down_minimum\":1,\"power_output_t0\":0,\"unit_on_t0\":0,\"time_up_t0\":0,\"time_down_t0\":1,\"startup\":[],\"piecewise_production\":[{\"mw\":0.1,\"cost\":0.003}]}},\"renewable_generators\":{}}";
+
+const PLAN: &[u8] =
+    b"{\"thermal\":{\"A\":{\"on\":[1],\"power\":[50],\"reserve\":[0]},\"B\":{\"on\":[1],\"power\":[100],\"reserve\":[0]}},\"renewable\":{}}";
+
+// A job with a bench for any unit.
+fn job_for<'a>(alloc: Global, case: &'a Case) -> Result<Answerer<'a>, Fail>
+    requires { HasSchedules (market_of case.now) }
+    ensures { IfOk result (λ job. job.case.now ≡ case.now) }
+{
+    benches_serve_less();
+    let bench = Bench::make(alloc, case.periods, MOST_POINTS)?;
+    Ok(Answerer::make(alloc, case, bench)?)
+}
+
+fn jobs_for<'a>(alloc: Global, case: &'a Case, count: u32) -> Result<Vec<Answerer<'a>>, Fail>
+    requires { HasSchedules (market_of case.now) }
+    ensures count { IfOk result (λ jobs. length jobs.items ≡ count) }
+    ensures jobs { IfOk result (λ jobs. AreFor (market_of case.now) jobs.items) }
+{
+    let mut jobs = Vec::new(alloc);
+    for _ in 0..count {
+        let job = job_for(alloc, case)?;
+        jobs.push(job)?;
+    }
+    Ok(jobs)
+}
+
+// The rows of two proposals, each dealt to so many jobs.
+fn two_rows<R: Threads + Wait + Sync>(
+    rt: &R,
+    alloc: Global,
+    count: u32,
+) -> Result<ReservedList<Row>, Fail>
+    requires some { 1 ≤ count }
+    requires most { count ≤ 32 }
+{
+    let case = read_case(alloc, CASE)?;
+    let plan = read_plan(alloc, &case, PLAN)?;
+    let Ok(cost) = check_plan(&case, &plan) else {
+        return Err(Fail::new("the plan isn't feasible"));
+    };
+    let mut jobs = jobs_for(alloc, &case, count)?;
+    Ok(right_rows(rt, alloc, &case, cost, 2, 1, &mut jobs)?)
+}
+
+#[test]
+fn rows_of_two_units(rt: HostRuntime) -> Result<(), Fail> {
+    for count in [1, 4, 32] {
+        let rows = two_rows(&rt, rt.alloc(), count)?;
+        assert_eq!(rt; rows.len(), 2);
+        if rows.len() != 2 {
+            return Err(Fail::new("there aren't two rows"));
+        }
+        let (first, second) = (rows.get(0), rows.get(1));
+        assert_eq!(rt; (first.value, second.value), (2_500, 1_500));
+        assert_eq!(rt; first.prices.energy.as_slice(), [30].as_slice());
+        assert_eq!(rt; second.prices.energy.as_slice(), [50].as_slice());
+        assert_eq!(rt; first.supply.as_slice(), [100].as_slice());
+        assert_eq!(rt; second.supply.as_slice(), [200].as_slice());
+        assert_eq!(rt; second.reserve.as_slice(), [0].as_slice());
+    }
+    Ok(())
+}
