@@ -1,5 +1,5 @@
-//! Worked units, and random tiny ones beside the least best of all their schedules, over both
-//! representations of convex functions.
+//! Worked units, and random tiny ones beside the least best of all their schedules, over the
+//! representations of convex functions and on both benches.
 ghost use Rattle.std.specs.Prelude.{◌<◌, ◌≤◌};
 
 use crate::units::{BARRED, FALLING, KINKED, OFF};
@@ -18,7 +18,7 @@ use tiny_units::small::SmallUnit;
 use tiny_units::trying::least_by_trying;
 use uc_model::units::{Answered, Mark};
 use unit_choice::least_on_bench;
-use unit_program::{Bench, best_response};
+use unit_program::{Bench, PoolBench, best_on_bench, best_response};
 
 // What a response does in each period, and what it earns.
 #[derive(Clone, Copy)]
@@ -98,12 +98,35 @@ fn on_bench(alloc: Global, row: Row) -> Result<Option<Answered>, Fail> {
     Ok(None)
 }
 
-// The least best response over both shapes and on a bench is this one.
+// The least best response on a bench with a pool, whose cells are all there again afterwards.
+fn in_pool(rt: &impl Abort, alloc: Global, row: Row) -> Result<Option<Answered>, Fail> {
+    let periods = row.energy.len();
+    if periods == 0 || periods > 168 {
+        return Err(Fail::new("a row over no periods"));
+    }
+    if row.window.len() != periods || row.reserve.len() != periods {
+        return Err(Fail::new("a row of several lengths"));
+    }
+    let unit = unit(alloc, row.unit, row.window)?;
+    let prices = small_prices(alloc, row.energy, row.reserve)?;
+    let mut bench = PoolBench::make(alloc, periods as u32, unit.points.len() as u32)?;
+    let mut into = Answered::make(alloc, periods as u32)?;
+    let spare = bench.pool.spare();
+    let is_there = best_on_bench(&mut bench, &unit, &prices, &mut into);
+    assert_eq!(rt; bench.pool.spare(), spare);
+    if is_there {
+        return Ok(Some(into));
+    }
+    Ok(None)
+}
+
+// The least best response over both shapes and on both benches is this one.
 fn expect(rt: &impl Abort, alloc: Global, row: Row, want: Option<Figures>) -> Result<(), Fail> {
     let mut heap = Heap { alloc };
     assert_answer(rt, &answer_of::<Levels>(alloc, &mut heap, row)?, want);
     assert_answer(rt, &answer_of::<Breaks>(alloc, &mut heap, row)?, want);
     assert_answer(rt, &on_bench(alloc, row)?, want);
+    assert_answer(rt, &in_pool(rt, alloc, row)?, want);
     Ok(())
 }
 
