@@ -4,7 +4,8 @@ use Rattle.std.proofs.lemmas.Int.{to_z-of_z}
 use Rattle.hull_engine.proofs.FixedLaws.{held_input}
 use Rattle.hull_engine.proofs.fixed.both_sides.Goals as goal
 
-pub fixed_side-requires : goal.fixed_side-requires
-fixed_side-requires g c =
+pub fixed_side-requires-after_bounds : goal.fixed_side-requires-after_bounds
+fixed_side-requires-after_bounds g c =
+    λ lifetimes bounds.
     rw (to_z-of_z w128 c.in_ok-hull.input.cost (search rules))
     (held_input c.args.run c.in_ok-hull.input c.requires c.in_ok-hull.ensures.planned c.in_ok-hull.ensures.input)
