@@ -10,3 +10,5 @@ pub mod Heads
 pub mod Desks
 -- where a report differs from the right one
 pub mod Right
+-- what an audit comes to
+pub mod Audits

@@ -1,7 +1,8 @@
-//! Where a report first differs from the right one of its case and plan.
+//! Where a report first differs from the right one of its case and plan, and whether it does.
 #![tactic(auto)]
 
 mod answer;
+mod audit;
 mod desk;
 mod due;
 mod lines;
@@ -11,5 +12,6 @@ mod rows;
 mod units;
 mod wrong;
 
+pub use audit::{Audit, check_report};
 pub use desk::Desk;
 pub use report::first_difference;

@@ -1,0 +1,12 @@
+use Rattle.std.proofs.Common.{◌≡◌, Some, subst}
+use Rattle.std.proofs.lemmas.List.Elements.{All-pop}
+use Rattle.uc_model.specs.PlainCases.{market_of}
+use Rattle.dealt_run.specs.declared.answerer.Answerer.{Answerer}
+use Rattle.dealt_run.specs.Benches.{IsBenchOver}
+use Rattle.report_check.proofs.audit.last_bench.Goals as goal
+
+pub returns : goal.returns
+returns c = λ m for.
+    let job = c.in-Some.job in
+    let is = (All-pop (λ (j : Answerer). market_of j.case.now ≡ m) c.args.jobs.items c.pop.new.self.items (Some job) c.in-Some.ensures.items for).1 in
+    subst (λ n. IsBenchOver n job.bench) is job.over

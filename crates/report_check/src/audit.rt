@@ -1,0 +1,125 @@
+//! The audit of a report, from its case and plan alone.
+ghost use Rattle.std.specs.Prelude.{◌≡◌, ℕ, ◌≤◌, ◌↔◌, length, map, IfOk};
+ghost use Rattle.std.specs.List.{All};
+ghost use Rattle.task_deal.specs.declared.deal.TheConstants.{MOST_JOBS};
+ghost use Rattle.uc_model.specs.Data.{Market};
+ghost use Rattle.uc_model.specs.PlainCases.{market_of, schedules_of};
+ghost use Rattle.uc_model.specs.Systems.{IsFeasiblePlan, plan_cost};
+ghost use Rattle.dealt_run.specs.Benches.{HasSchedules, IsBenchOver};
+ghost use Rattle.dealt_run.specs.Jobs.{AreFor};
+ghost use Rattle.hull_report.specs.RightReport.{IsRightReport};
+ghost use Rattle.report_read.specs.Bounds.{IsReport, AreInOrder};
+ghost use Rattle.report_read.specs.Plain.{report_of, told_of};
+ghost use Rattle.report_check.specs.Audits.{IfWrong};
+ghost use Rattle.report_check.specs.Right.{DiffersFromRight};
+ghost use Rattle.report_check.specs.declared.audit.Audit.TheVariants.{Right};
+
+use crate::desk::Desk;
+use crate::report::first_difference;
+use dealt_run::{Answerer, right_rows};
+use report_read::Report;
+use slope_list::Slopes;
+use std::alloc::{AllocError, Global};
+use std::sync::Wait;
+use std::thread::Threads;
+use uc_model::cases::{Case, Plan};
+use unit_program::Bench;
+
+/// What an audit comes to.
+#[derive(Clone, Copy, Debug, Drop)]
+pub enum Audit {
+    /// The report is the right one.
+    Right,
+    /// It isn't: this is the first line, from 1, at which its text differs from the right one's.
+    Wrong { line: u32 },
+}
+
+// A job on each bench.
+fn jobs_for<'a>(
+    alloc: Global,
+    case: &'a Case,
+    mut benches: Vec<Bench<Slopes>>,
+) -> Result<Vec<Answerer<'a>>, AllocError>
+    requires schedules { HasSchedules (market_of case.now) }
+    requires benches { All (IsBenchOver (market_of case.now)) benches.items }
+    ensures count { IfOk result (λ jobs. length jobs.items ≡ length benches.items) }
+    ensures jobs { IfOk result (λ jobs. AreFor (market_of case.now) jobs.items) }
+{
+    let mut jobs = Vec::new(alloc);
+    while let Some(bench) = benches.pop() {
+        let job = Answerer::make(alloc, case, bench)?;
+        jobs.push(job)?;
+    }
+    Ok(jobs)
+}
+
+// The bench of the last job.
+fn last_bench(mut jobs: Vec<Answerer>) -> Bench<Slopes>
+    requires { 1 ≤ length jobs.items }
+    ensures { (m : Market) → AreFor m jobs.entry.items → IsBenchOver m result }
+{
+    let Some(job) = jobs.pop() else {
+        unreachable!()
+    };
+    let Answerer {
+        case: _,
+        bench,
+        prices: _,
+        answer: _,
+        numbers: _,
+        left: _,
+        sums: _,
+    } = job;
+    bench
+}
+
+/// Whether a report within the bounds of `read_report` is the right one for its own budget and
+/// number of proposals ahead, and else where it first differs from that one. The report may be of
+/// another case.
+///
+/// The plan is feasible, and `cost` is what it costs, in money. There are 1 to `MOST_JOBS` benches,
+/// each of which suffices for each thermal unit: the units of a proposal are dealt to as many jobs,
+/// and each job has a bench of its own. Whatever the answer, the benches are dropped.
+///
+/// Waits for the jobs' threads.
+///
+/// # Errors
+///
+/// `AllocError` for want of memory.
+pub fn check_report<R: Threads + Wait + Sync>(
+    rt: &R,
+    alloc: Global,
+    case: &Case,
+    plan: &Plan,
+    cost: i128,
+    report: &Report,
+    benches: Vec<Bench<Slopes>>,
+) -> Result<Audit, AllocError>
+    requires feasible { IsFeasiblePlan (market_of case.now) (schedules_of plan.now) }
+    requires cost { cost ≡ plan_cost (market_of case.now) (schedules_of plan.now) }
+    requires bounds { IsReport (report_of report.now) }
+    requires order { AreInOrder 0 (map told_of report.now.lines.items) }
+    requires count { (1 ≤ length benches.items) × (length benches.items ≤ MOST_JOBS) }
+    requires benches { All (IsBenchOver (market_of case.now)) benches.items }
+    ensures right { IfOk result (λ audit. (audit ≡ Right)
+        ↔ IsRightReport (market_of case.now) (schedules_of plan.now)
+        (report_of report.now).budget (report_of report.now).ahead (report_of report.now)) }
+    ensures wrong { IfOk result (λ audit. IfWrong audit (λ line.
+        DiffersFromRight (market_of case.now) (schedules_of plan.now) (report_of report.now) line)) }
+{
+    let mut jobs = jobs_for(alloc, case, benches)?;
+    let rows = right_rows(
+        rt,
+        alloc,
+        case,
+        cost,
+        report.budget,
+        report.ahead,
+        &mut jobs,
+    )?;
+    let mut desk = Desk::make(alloc, case, last_bench(jobs))?;
+    match first_difference(case, plan, cost, rows.as_slice(), report, &mut desk) {
+        None => Ok(Audit::Right),
+        Some(line) => Ok(Audit::Wrong { line }),
+    }
+}
