@@ -1,6 +1,7 @@
--- A generated unit and its schedule, from its draws (this project's profile). Power is in kilowatts and money in
--- millionths of the currency; a product before a quotient is taken first.
-use Rattle.std.specs.Prelude.{ℕ, zero, suc, ◌+◌, ◌-◌, ◌*◌, ◌/◌, ◌%◌, min, pos, Bool, true, false, ◌&&◌, if◌then◌else◌, nat_le, nat_lt, List, [], ◌∷◌, map, replicate}
+-- A generated unit and its schedule, from its draws (this project's profile). Power is in kilowatts
+-- and money in millionths of the currency; a product before a quotient is taken first.
+use Rattle.std.specs.Prelude.{ℕ, zero, suc, ◌+◌, ◌-◌, ◌*◌, ◌/◌, ◌%◌, min, pos, Bool, true, false}
+use Rattle.std.specs.Prelude.{◌&&◌, if◌then◌else◌, nat_le, nat_lt, List, [], ◌∷◌, map, replicate}
 use Rattle.std.specs.List.{range_with_len}
 use Rattle.rand_pcg.specs.Lcg.{Lcg}
 use Rattle.uc_model.specs.declared.units.Lag.{Lag}
@@ -51,7 +52,8 @@ start_cost_of d = 100000000 * d.start_hundreds
 
 unfoldable pub lags_of : UnitDraws → List Lag
 lags_of d =
-    record { lag = d.min_down; cost = pos (start_cost_of d) } ∷ record { lag = d.min_down + 4; cost = pos (2 * start_cost_of d) }
+    record { lag = d.min_down; cost = pos (start_cost_of d) }
+    ∷ record { lag = d.min_down + 4; cost = pos (2 * start_cost_of d) }
     ∷ record { lag = d.min_down + 12; cost = pos (3 * start_cost_of d) } ∷ []
 
 -- the power and the cost of point i from 0 to 3
@@ -121,7 +123,8 @@ unit_schedule d = if is_on d then running (level_of d) (high_of d) (reserve_of d
 
 -- ---- a renewable unit takes 49 words
 
--- its capacity, from the word at a place, and its greatest power in each period, from the words after it
+-- its capacity, from the word at a place, and its greatest power in each period, from the words
+-- after it
 unfoldable pub capacity_at : Lcg → ℕ → ℕ
 capacity_at g place = 1000 * draw 5 100 (word_at g place)
 

@@ -1,10 +1,11 @@
--- The case and the schedule that a number stands for (this project's profile): 73 thermal units of nine words each,
--- then 81 renewable units of 49 words each, over 48 periods.
+-- The case and the schedule that a number stands for (this project's profile): 73 thermal units of
+-- nine words each, then 81 renewable units of 49 words each, over 48 periods.
 use Rattle.std.specs.Prelude.{ℕ, ◌+◌, ◌*◌, ◌/◌, ◌%◌, ℤ, pos, List, [], ◌∷◌, ◌++◌, map, slice_index}
 use Rattle.std.specs.List.{range_with_len, sum_by}
 use Rattle.rand_pcg.specs.Lcg.{Lcg}
 use Rattle.uc_model.specs.Data.{NamedThermalUnit, NamedRenewableUnit, Market, Schedule}
-use Rattle.case_make.specs.Drawn.{unit_draws, unit_of, unit_schedule, most_powers, renewable_of, full}
+use Rattle.case_make.specs.Drawn.{unit_draws, unit_of, unit_schedule, most_powers, renewable_of}
+use Rattle.case_make.specs.Drawn.{full}
 use Rattle.case_make.specs.Words.{start_of}
 
 -- a letter and two digits
@@ -34,7 +35,11 @@ abbrev pub renewable_place : ℕ → ℕ → ℕ
 renewable_place place j = place + 49 * j
 
 unfoldable pub named_renewable : Lcg → ℕ → ℕ → NamedRenewableUnit
-named_renewable g place j = record { name = name_of 82 (j + 1); unit = renewable_of (most_powers g (renewable_place place j)) }
+named_renewable g place j =
+    record {
+      name = name_of 82 (j + 1);
+      unit = renewable_of (most_powers g (renewable_place place j));
+    }
 
 unfoldable pub renewable_plan : Lcg → ℕ → ℕ → Schedule
 renewable_plan g place j = full (most_powers g (renewable_place place j))

@@ -1,5 +1,5 @@
--- The words that a generated case is drawn from, and a draw from a word (this project's profile). The generator is
--- PCG32 (O'Neill 2014), on stream 54.
+-- The words that a generated case is drawn from, and a draw from a word (this project's profile).
+-- The generator is PCG32 (O'Neill 2014), on stream 54.
 use Rattle.std.specs.Prelude.{ℕ, ◌+◌, ◌-◌, ◌%◌}
 use Rattle.rand_pcg.specs.Lcg.{Lcg, advance, started, increment_of}
 use Rattle.rand_pcg.specs.Pcg.{multiplier_64, pcg32}

@@ -1,6 +1,7 @@
 //! Draws from a generator of words, and what a thermal unit's draws say of its powers.
 ghost use Rattle.std.specs.Prelude.{◌≡◌, ◌<◌, ◌≤◌};
-ghost use Rattle.case_make.specs.Drawn.{unit_draws, max_of, min_of, ramp_of, is_on, level_of, step_of, high_of, reserve_of, at_of};
+ghost use Rattle.case_make.specs.Drawn.{unit_draws, max_of, min_of, ramp_of, is_on, level_of};
+ghost use Rattle.case_make.specs.Drawn.{step_of, high_of, reserve_of, at_of};
 ghost use Rattle.case_make.specs.Sizes.{IsDrawn, AreDrawn};
 ghost use Rattle.case_make.specs.Words.{word_at, moved_on, draw};
 

@@ -1,5 +1,6 @@
 //! A schedule of a system that grows unit by unit, with its sums.
-ghost use Rattle.std.specs.Prelude.{◌≡◌, ◌+◌, ◌*◌, ◌/◌, ◌≤◌, ◌<◌, ℕ, ℤ, pos, ◌+ℤ◌, [], ◌∷◌, ◌++◌, IfOk, map, length, replicate, slice_index};
+ghost use Rattle.std.specs.Prelude.{◌≡◌, ◌+◌, ◌*◌, ◌/◌, ◌≤◌, ◌<◌, ℕ, ℤ, pos, ◌+ℤ◌, [], ◌∷◌, ◌++◌};
+ghost use Rattle.std.specs.Prelude.{IfOk, map, length, replicate, slice_index};
 ghost use Rattle.std.specs.List.{All};
 ghost use Rattle.uc_model.specs.Limits.{IsPower};
 ghost use Rattle.uc_model.specs.PlainUnits.{schedule_of};
@@ -11,8 +12,8 @@ use std::alloc::{AllocError, Global};
 use uc_model::lists::{Numbers, Powers};
 use uc_model::units::{Response, ResponseList};
 
-/// The schedules that are made so far, their power in each period, and their reserve, which is one number in all
-/// periods, in kilowatts.
+/// The schedules that are made so far, their power in each period, and their reserve, which is one
+/// number in all periods, in kilowatts.
 #[derive(Drop)]
 pub struct Growing {
     pub responses: ResponseList,
@@ -25,7 +26,9 @@ fn add_powers(sums: &mut Numbers, powers: &Powers)
     requires lengths { length sums.old.items ≡ length powers.now.items }
     requires sums { All IsPower sums.old.items }
     ensures length { length sums.new.items ≡ length sums.old.items }
-    ensures sums { (k : ℕ) → k < length sums.old.items → int_at sums.new.items k ≡ int_at sums.old.items k +ℤ pos (slice_index powers.now.items k) }
+    ensures sums { (k : ℕ) → k < length sums.old.items
+        → int_at sums.new.items k ≡ int_at sums.old.items k
+        +ℤ pos (slice_index powers.now.items k) }
 {
     for k in 0..powers.len() {
         let sum = *sums.get(k) + i64::from(*powers.get(k));
@@ -67,7 +70,8 @@ impl Growing {
     /// Nine tenths of the reserve in each period, in kilowatts.
     pub fn requirements(&self, alloc: Global) -> Result<Numbers, AllocError>
         requires { self.now.reserve ≤ 1000000000 }
-        ensures { IfOk result (λ numbers. numbers.items ≡ replicate 48 (pos (self.now.reserve * 9 / 10))) }
+        ensures { IfOk result (λ numbers. numbers.items
+            ≡ replicate 48 (pos (self.now.reserve * 9 / 10))) }
     {
         Numbers::filled(alloc, PERIODS, (self.reserve * 9 / 10) as i64)
     }

@@ -4,9 +4,11 @@ ghost use Rattle.rand_pcg.specs.Lcg.{Lcg};
 ghost use Rattle.uc_model.specs.PlainCases.{market_of, schedules_of};
 ghost use Rattle.uc_model.specs.PlainUnits.{named_thermal_of, named_renewable_of};
 ghost use Rattle.uc_model.specs.Systems.{IsFeasiblePlan};
-ghost use Rattle.case_make.specs.Drawn.{unit_draws, unit_of, unit_schedule, most_powers, renewable_of, full};
+ghost use Rattle.case_make.specs.Drawn.{unit_draws, unit_of, unit_schedule, most_powers};
+ghost use Rattle.case_make.specs.Drawn.{renewable_of, full};
 ghost use Rattle.case_make.specs.Grown.{plan_of, IsSummed, IsSmall, HasRoom};
-ghost use Rattle.case_make.specs.Made.{name_of, thermal_units, thermal_plan, renewable_units, renewable_plans, made};
+ghost use Rattle.case_make.specs.Made.{name_of, thermal_units, thermal_plan, renewable_units};
+ghost use Rattle.case_make.specs.Made.{renewable_plans, made};
 ghost use Rattle.case_make.specs.Words.{moved_on};
 
 use crate::draws::draw_unit;
@@ -43,9 +45,11 @@ fn add_unit(
     requires room { HasRoom 1 plan.old }
     requires summed { IsSummed plan.old }
     requires small { IsSmall 100000000 (plan_of plan.old) }
-    ensures unit { IfOk result (λ n. named_thermal_of n ≡ record { name = name_of 84 number; unit = unit_of (unit_draws random.old 0) }) }
+    ensures unit { IfOk result (λ n. named_thermal_of n
+        ≡ record { name = name_of 84 number; unit = unit_of (unit_draws random.old 0) }) }
     ensures moved { OnOk result (random.new ≡ moved_on 9 random.old) }
-    ensures plan { OnOk result (plan_of plan.new ≡ plan_of plan.old ++ unit_schedule (unit_draws random.old 0) ∷ []) }
+    ensures plan { OnOk result (plan_of plan.new ≡ plan_of plan.old
+        ++ unit_schedule (unit_draws random.old 0) ∷ []) }
     ensures summed { OnOk result (IsSummed plan.new) }
     ensures room { OnOk result (plan.new.responses.spare + 1 ≡ plan.old.responses.spare) }
 {
@@ -64,7 +68,8 @@ fn add_thermal(
     requires empty { plan_of plan.old ≡ [] }
     requires room { HasRoom 154 plan.old }
     requires summed { IsSummed plan.old }
-    ensures units { IfOk result (λ list. map named_thermal_of list.items ≡ thermal_units random.old 73) }
+    ensures units { IfOk result (λ list. map named_thermal_of list.items
+        ≡ thermal_units random.old 73) }
     ensures moved { OnOk result (random.new ≡ moved_on (9 * 73) random.old) }
     ensures plan { OnOk result (plan_of plan.new ≡ thermal_plan random.old 73) }
     ensures summed { OnOk result (IsSummed plan.new) }
@@ -89,9 +94,11 @@ fn add_flat(
     requires room { HasRoom 1 plan.old }
     requires summed { IsSummed plan.old }
     requires small { IsSmall 100000000 (plan_of plan.old) }
-    ensures unit { IfOk result (λ n. named_renewable_of n ≡ record { name = name_of 82 number; unit = renewable_of (most_powers random.old 0) }) }
+    ensures unit { IfOk result (λ n. named_renewable_of n
+        ≡ record { name = name_of 82 number; unit = renewable_of (most_powers random.old 0) }) }
     ensures moved { OnOk result (random.new ≡ moved_on 49 random.old) }
-    ensures plan { OnOk result (plan_of plan.new ≡ plan_of plan.old ++ full (most_powers random.old 0) ∷ []) }
+    ensures plan { OnOk result (plan_of plan.new ≡ plan_of plan.old
+        ++ full (most_powers random.old 0) ∷ []) }
     ensures summed { OnOk result (IsSummed plan.new) }
     ensures room { OnOk result (plan.new.responses.spare + 1 ≡ plan.old.responses.spare) }
 {
@@ -110,8 +117,10 @@ fn add_renewables(
     requires room { HasRoom 81 plan.old }
     requires summed { IsSummed plan.old }
     requires small { IsSmall 40000000 (plan_of plan.old) }
-    ensures units { IfOk result (λ list. map named_renewable_of list.items ≡ renewable_units random.old 0 81) }
-    ensures plan { OnOk result (plan_of plan.new ≡ plan_of plan.old ++ renewable_plans random.old 0 81) }
+    ensures units { IfOk result (λ list. map named_renewable_of list.items
+        ≡ renewable_units random.old 0 81) }
+    ensures plan { OnOk result (plan_of plan.new ≡ plan_of plan.old
+        ++ renewable_plans random.old 0 81) }
     ensures summed { OnOk result (IsSummed plan.new) }
 {
     let mut units = FlatList::make(alloc, RENEWABLE_UNITS)?;
@@ -122,14 +131,16 @@ fn add_renewables(
     Ok(units)
 }
 
-/// The case and the feasible schedule that a number stands for: 73 thermal units `T01` to `T73` and 81 renewable units
-/// `R01` to `R81` over 48 periods, all marks free, no bid. Each unit that is on before the horizon stays on, each other
-/// stays off, demand is the schedule's total power, and nine tenths of its reserve are required. Powers are in kilowatts
-/// and costs in millionths of the currency. `AllocError` is want of memory.
+/// The case and the feasible schedule that a number stands for: 73 thermal units `T01` to `T73` and
+/// 81 renewable units `R01` to `R81` over 48 periods, all marks free, no bid. Each unit that is on
+/// before the horizon stays on, each other stays off, demand is the schedule's total power, and
+/// nine tenths of its reserve are required. Powers are in kilowatts and costs in millionths of the
+/// currency. `AllocError` is want of memory.
 pub fn make_case(alloc: Global, number: u64) -> Result<(Case, Plan), AllocError>
     ensures case { IfOk result (λ pair. market_of pair.0 ≡ (made number).market) }
     ensures plan { IfOk result (λ pair. schedules_of pair.1 ≡ (made number).plan) }
-    ensures feasible { IfOk result (λ pair. IsFeasiblePlan (market_of pair.0) (schedules_of pair.1)) }
+    ensures feasible { IfOk result
+        (λ pair. IsFeasiblePlan (market_of pair.0) (schedules_of pair.1)) }
 {
     let mut random = Pcg32::new(number, STREAM);
     let mut plan = Growing::make(alloc)?;

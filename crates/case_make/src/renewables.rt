@@ -12,7 +12,8 @@ use std::alloc::{AllocError, Global};
 use uc_model::lists::{Flags, Numbers, Powers};
 use uc_model::units::{Renewable, Response};
 
-/// Draws the greatest power of a renewable unit in each period, in kilowatts, by the generator's next 49 words.
+/// Draws the greatest power of a renewable unit in each period, in kilowatts, by the generator's
+/// next 49 words.
 pub fn draw_powers(alloc: Global, random: &mut Pcg32) -> Result<Powers, AllocError>
     ensures powers { IfOk result (λ powers. powers.items ≡ most_powers random.old 0) }
     ensures sizes { IfOk result (λ powers. ArePowers powers.items) }

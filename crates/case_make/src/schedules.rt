@@ -28,7 +28,8 @@ fn power_in(place: u32, level: u32, high: u32) -> u32
 }
 
 fn powers(alloc: Global, level: u32, high: u32) -> Result<Powers, AllocError>
-    ensures { IfOk result (λ powers. powers.items ≡ map (power_at level high) (range_with_len 0 48)) }
+    ensures { IfOk result (λ powers. powers.items
+        ≡ map (power_at level high) (range_with_len 0 48)) }
 {
     let mut powers = Powers::make(alloc, PERIODS)?;
     for place in 0..PERIODS {
@@ -55,8 +56,8 @@ fn idle(alloc: Global) -> Result<Response, AllocError>
     Ok(answered.response)
 }
 
-/// The schedule of a thermal unit: where it is on, it gives its level, and in the hours of high power as much more as
-/// half its ramp allows.
+/// The schedule of a thermal unit: where it is on, it gives its level, and in the hours of high
+/// power as much more as half its ramp allows.
 #[tactic(auto, unfolding(crate::specs::Drawn::unit_schedule))]
 pub fn unit_schedule(alloc: Global, draws: &UnitDraws) -> Result<Response, AllocError>
     requires { AreDrawn draws.now }

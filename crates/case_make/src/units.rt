@@ -2,7 +2,8 @@
 ghost use Rattle.std.specs.Prelude.{◌≡◌, ◌+◌, ◌*◌, ◌<◌, ◌≤◌, ◌^◌, IfOk, pos, map, if◌then◌else◌};
 ghost use Rattle.std.specs.List.{range_with_len};
 ghost use Rattle.uc_model.specs.PlainUnits.{thermal_of};
-ghost use Rattle.case_make.specs.Drawn.{min_of, is_on, level_of, lags_of, at_of, cost_of, point_of, unit_of};
+ghost use Rattle.case_make.specs.Drawn.{min_of, is_on, level_of, lags_of, at_of, cost_of, point_of};
+ghost use Rattle.case_make.specs.Drawn.{unit_of};
 ghost use Rattle.case_make.specs.Sizes.{AreDrawn};
 
 use crate::draws::UnitDraws;
@@ -51,7 +52,8 @@ fn first_cost(draws: &UnitDraws) -> u64
     1000 * u64::from(draws.energy_cost) * u64::from(draws.min_power())
 }
 
-// What the power of the point after a place costs in a period, where that of the place's point costs so much.
+// What the power of the point after a place costs in a period, where that of the place's point
+// costs so much.
 #[tactic(auto, unfolding(crate::specs::Drawn::cost_of))]
 fn next_cost(draws: &UnitDraws, cost: u64, place: u32) -> u64
     requires draws { AreDrawn draws.now }

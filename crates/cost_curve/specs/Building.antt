@@ -1,5 +1,6 @@
 -- How a curve is built block by block (this project's profile).
-use Rattle.std.specs.Prelude.{◌≡◌, ℤ, pos, ◌+ℤ◌, ◌-ℤ◌, ◌*ℤ◌, ◌≤ℤ◌, int_lt, if◌then◌else◌, List, [], ◌∷◌, ◌++◌, Some}
+use Rattle.std.specs.Prelude.{◌≡◌, ℤ, pos, ◌+ℤ◌, ◌-ℤ◌, ◌*ℤ◌, ◌≤ℤ◌, int_lt, if◌then◌else◌, List, []}
+use Rattle.std.specs.Prelude.{◌∷◌, ◌++◌, Some}
 use Rattle.std.specs.List.{All}
 use Rattle.uc_model.specs.declared.units.Block.{Block}
 use Rattle.uc_model.specs.declared.units.Point.{Point}
@@ -17,7 +18,8 @@ abbrev pub rise_of : List Block → ℤ
 rise_of [] = pos 0
 rise_of (b ∷ bs) = (b.price *ℤ b.width) +ℤ rise_of bs
 
--- blocks from a place and a value on are the envelope up to another place; no block is dearer than the price
+-- blocks from a place and a value on are the envelope up to another place; no block is dearer than
+-- the price
 pub record IsBuilt (ps : List Point) (at value : ℤ) (bs : List Block) (end price : ℤ) : Type 0 where
   pub ends : at +ℤ width_of bs ≡ end
   pub height : value +ℤ rise_of bs ≡ envelope ps end

@@ -1,5 +1,6 @@
 -- The curve of a unit's cost points: its envelope at every place (this project's profile).
-use Rattle.std.specs.Prelude.{◌≡◌, ℕ, suc, ◌-◌, ◌*◌, ◌≤◌, ℤ, pos, neg_ℤ, ◌≤ℤ◌, List, length, slice_index_or, Some, IsSome}
+use Rattle.std.specs.Prelude.{◌≡◌, ℕ, suc, ◌-◌, ◌*◌, ◌≤◌, ℤ, pos, neg_ℤ, ◌≤ℤ◌, List, length}
+use Rattle.std.specs.Prelude.{slice_index_or, Some, IsSome}
 use Rattle.std.specs.List.{All}
 use Rattle.uc_model.specs.declared.units.Block.{Block}
 use Rattle.uc_model.specs.declared.units.Curve.{Curve}
@@ -15,10 +16,12 @@ pub record AreCostPoints (ps : List Point) : Type 0 where
   pub points : All IsPoint ps
   pub ordered : ArePointsOrdered ps
 
--- the curve goes from the first to the last point's power, is the envelope at every place there, and is nowhere else
+-- the curve goes from the first to the last point's power, is the envelope at every place there,
+-- and is nowhere else
 pub record IsCostCurve (ps : List Point) (c : Curve) : Type 0 where
   pub starts : (d : Point) → c.at ≡ (slice_index_or ps 0 d).at
-  pub ends : (n : ℕ) (d : Point) → suc n ≡ length ps → end_of c.at c.blocks.items ≡ (slice_index_or ps n d).at
+  pub ends : (n : ℕ) (d : Point) → suc n ≡ length ps →
+      end_of c.at c.blocks.items ≡ (slice_index_or ps n d).at
   pub value : (x : ℤ) → Spans ps x x → curve_value c x ≡ Some (envelope ps x)
   pub inside : (x : ℤ) → IsSome (curve_value c x) → Spans ps x x
   pub blocks : IsCurve c.blocks.items
@@ -26,7 +29,8 @@ pub record IsCostCurve (ps : List Point) (c : Curve) : Type 0 where
 
 -- the cost of a power is a cost as a point's is
 abbrev pub EnvelopeIsCost : Type 0
-EnvelopeIsCost = (ps : List Point) (x : ℤ) → AreCostPoints ps → Spans ps x x → IsCost (envelope ps x)
+EnvelopeIsCost =
+    (ps : List Point) (x : ℤ) → AreCostPoints ps → Spans ps x x → IsCost (envelope ps x)
 
 -- a place within 4 * 10^9, and a value within 10^18
 abbrev pub IsPlace : ℤ → Type 0
@@ -35,7 +39,8 @@ IsPlace x = IsFrom (neg_ℤ (pos 4000000000)) (pos 4000000000) x
 abbrev pub IsAmount : ℤ → Type 0
 IsAmount v = IsFrom (neg_ℤ (pos 1000000000000000000)) (pos 1000000000000000000) v
 
--- a curve whose values can be computed: no width is negative, and its places and values are within these limits
+-- a curve whose values can be computed: no width is negative, and its places and values are within
+-- these limits
 pub record CanEvaluate (c : Curve) : Type 0 where
   pub widths : All (λ (b : Block). pos 0 ≤ℤ b.width) c.blocks.items
   pub first_place : IsPlace c.at

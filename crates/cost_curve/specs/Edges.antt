@@ -1,6 +1,8 @@
--- How the envelope goes from point to point: at each whole price the cheapest point is the one whose cost, less what its
--- power is worth, is least (the conjugate of the points' costs at whole prices: this project's profile).
-use Rattle.std.specs.Prelude.{◌≡◌, ℕ, ◌<◌, ℤ, pos, ◌+ℤ◌, ◌-ℤ◌, ◌*ℤ◌, ◌<ℤ◌, ◌≤ℤ◌, Option, MatchOption, List, length, slice_index_or}
+-- How the envelope goes from point to point: at each whole price the cheapest point is the one
+-- whose cost, less what its power is worth, is least (the conjugate of the points' costs at whole
+-- prices: this project's profile).
+use Rattle.std.specs.Prelude.{◌≡◌, ℕ, ◌<◌, ℤ, pos, ◌+ℤ◌, ◌-ℤ◌, ◌*ℤ◌, ◌<ℤ◌, ◌≤ℤ◌, Option}
+use Rattle.std.specs.Prelude.{MatchOption, List, length, slice_index_or}
 use Rattle.cost_curve.specs.declared.edges.Edge.{Edge}
 use Rattle.uc_model.specs.declared.units.Point.{Point}
 
@@ -16,18 +18,21 @@ AllFirst n P ps = (k : ℕ) → k < n → P (point_at ps k)
 abbrev pub net_at : ℤ → Point → ℤ
 net_at k p = p.cost -ℤ (k *ℤ p.at)
 
--- the price at which the second point begins to be no dearer than the first, and by how much it is cheaper there
+-- the price at which the second point begins to be no dearer than the first, and by how much it is
+-- cheaper there
 pub record IsSlope (q p : Point) (price width : ℤ) : Type 0 where
   pub meets : net_at price p +ℤ width ≡ net_at price q
   pub least : pos 0 ≤ℤ width
   pub most : width <ℤ (p.at -ℤ q.at)
 
--- from q the envelope goes on to p: of the first n points, p is the first of more power to be no dearer than q as the
--- price rises, the cheapest of them at that price, and the last of the cheapest
+-- from q the envelope goes on to p: of the first n points, p is the first of more power to be no
+-- dearer than q as the price rises, the cheapest of them at that price, and the last of the
+-- cheapest
 pub record IsEdge (q : Point) (n : ℕ) (ps : List Point) (p : Point) (price width : ℤ) : Type 0 where
   pub rising : q.at <ℤ p.at
   pub slope : IsSlope q p price width
-  pub before : AllFirst n (λ (l : Point). q.at <ℤ l.at → net_at (price -ℤ pos 1) q <ℤ net_at (price -ℤ pos 1) l) ps
+  pub before : AllFirst n (λ (l : Point). q.at <ℤ l.at →
+      net_at (price -ℤ pos 1) q <ℤ net_at (price -ℤ pos 1) l) ps
   pub cheapest : AllFirst n (λ (l : Point). q.at <ℤ l.at → net_at price p ≤ℤ net_at price l) ps
   pub last : AllFirst n (λ (l : Point). p.at <ℤ l.at → net_at price p <ℤ net_at price l) ps
 
@@ -53,4 +58,5 @@ pub record IsStart (q : Point) (n : ℕ) (ps : List Point) : Type 0 where
 -- at this price no point is cheaper than q, and every point of more power is dearer
 pub record IsVertex (ps : List Point) (price : ℤ) (q : Point) : Type 0 where
   pub cheapest : AllFirst (length ps) (λ (l : Point). net_at price q ≤ℤ net_at price l) ps
-  pub last : AllFirst (length ps) (λ (l : Point). q.at <ℤ l.at → net_at price q <ℤ net_at price l) ps
+  pub last : AllFirst (length ps) (λ (l : Point). q.at <ℤ l.at →
+      net_at price q <ℤ net_at price l) ps

@@ -1,5 +1,6 @@
 //! The envelope as a curve.
-ghost use Rattle.std.specs.Prelude.{◌≡◌, ◌+◌, ◌-◌, ◌*◌, ◌<◌, ◌≤◌, ℤ, pos, ◌+ℤ◌, ◌-ℤ◌, ◌*ℤ◌, ◌<ℤ◌, ◌≤ℤ◌, [], ◌∷◌, ◌++◌, length, Some, IsSome, IfOk};
+ghost use Rattle.std.specs.Prelude.{◌≡◌, ◌+◌, ◌-◌, ◌*◌, ◌<◌, ◌≤◌, ℤ, pos, ◌+ℤ◌, ◌-ℤ◌, ◌*ℤ◌, ◌<ℤ◌};
+ghost use Rattle.std.specs.Prelude.{◌≤ℤ◌, [], ◌∷◌, ◌++◌, length, Some, IsSome, IfOk};
 ghost use Rattle.uc_model.specs.Curves.{curve_value};
 ghost use Rattle.uc_model.specs.Limits.{IsFrom, IsPoint};
 ghost use Rattle.cost_curve.specs.Building.{extended};
@@ -30,7 +31,8 @@ fn push_edge(into: &mut Blocks, from: &Point, to: &Point, slope: Slope)
     requires to_limits { IsPoint to.now }
     requires width { slope.width <ℤ (to.now.at -ℤ from.now.at) }
     ensures items { into.new.items
-        ≡ extended (extended into.old.items (record { width = slope.width; price = slope.price -ℤ pos 1 }))
+        ≡ extended (extended into.old.items
+        (record { width = slope.width; price = slope.price -ℤ pos 1 }))
         (record { width = (to.now.at -ℤ from.now.at) -ℤ slope.width; price = slope.price }) }
     ensures room { length into.new.items + into.new.spare ≡ length into.old.items + into.old.spare }
     ensures spare { into.old.spare ≤ into.new.spare + 2 }
@@ -47,11 +49,13 @@ fn push_edge(into: &mut Blocks, from: &Point, to: &Point, slope: Slope)
     push_block(into, after);
 }
 
-/// Leaves the curve of the envelope in `into`, whose blocks have room for it. `points` are those of a unit. The curve
-/// goes from the first to the last point's power, no width is negative, and prices rise from block to block.
+/// Leaves the curve of the envelope in `into`, whose blocks have room for it. `points` are those of
+/// a unit. The curve goes from the first to the last point's power, no width is negative, and
+/// prices rise from block to block.
 pub fn curve_into(points: &[Point], into: &mut Curve)
     requires points { AreCostPoints points.now }
-    requires room { 2 * (length points.now - 1) ≤ length into.old.blocks.items + into.old.blocks.spare }
+    requires room { 2 * (length points.now - 1) ≤ length into.old.blocks.items
+        + into.old.blocks.spare }
     ensures curve { IsCostCurve points.now into.new }
     ensures evaluates { CanEvaluate into.new }
     ensures room { length into.new.blocks.items + into.new.blocks.spare
@@ -121,8 +125,8 @@ fn after_block(reached: Reached, block: &Block) -> Reached
     }
 }
 
-/// The curve's value at a place in it. No width is negative, the places are within 4 * 10^9 kilowatts, and the values
-/// within 10^18 money.
+/// The curve's value at a place in it. No width is negative, the places are within 4 * 10^9
+/// kilowatts, and the values within 10^18 money.
 pub fn curve_at(c: &Curve, x: i64) -> i64
     requires curve { CanEvaluate c.now }
     requires inside { IsSome (curve_value c.now x) }

@@ -6,8 +6,8 @@ ghost use Rattle.cost_curve.specs.CostCurve.{AreCostPoints};
 
 use uc_model::units::Point;
 
-/// The price in whole money per kilowatt at which one point begins to be no dearer than another of less power, and by
-/// how much money it is cheaper there.
+/// The price in whole money per kilowatt at which one point begins to be no dearer than another of
+/// less power, and by how much money it is cheaper there.
 #[derive(Clone, Copy)]
 pub struct Slope {
     pub price: i64,
@@ -16,8 +16,8 @@ pub struct Slope {
     ghost width_limit: { IsPower width },
 }
 
-/// The way on from a point: the place of the next point of the envelope, and the slope to it. Of the kilowatts between
-/// the two, the first `width` cost `price - 1` each, and the others `price`.
+/// The way on from a point: the place of the next point of the envelope, and the slope to it. Of
+/// the kilowatts between the two, the first `width` cost `price - 1` each, and the others `price`.
 #[derive(Clone, Copy)]
 pub struct Edge {
     pub place: usize,

@@ -1,11 +1,12 @@
-//! Laws over the definitions: each is the contract of a function that does nothing but call those of the model.
+//! Laws over the definitions: each is the contract of a function that does nothing but call those
+//! of the model.
 ghost use Rattle.uc_model.specs.Laws.{EnvelopeEarnsAsPoints};
 ghost use Rattle.cost_curve.specs.CostCurve.{EnvelopeIsCost};
 
 use uc_model::laws::{envelope_is_greatest, power_costs_are_within};
 
-/// At each whole price the best earnings of one period over the envelope are those over the points: the cost is as
-/// good as the lower convex envelope of the points.
+/// At each whole price the best earnings of one period over the envelope are those over the points:
+/// the cost is as good as the lower convex envelope of the points.
 pub fn envelope_earns_as_points()
     ensures { EnvelopeEarnsAsPoints }
 {

@@ -30,8 +30,10 @@ fn slope_of(from: &Point, to: &Point) -> Slope
 
 // Whether a later point with the new slope is to be gone to in place of the one found.
 fn is_better(new: Slope, found: Slope) -> bool
-    ensures better { OnTrue result ((new.price <ℤ found.price) ⊎ ((new.price ≡ found.price) × (found.width ≤ℤ new.width))) }
-    ensures worse { OnFalse result ((found.price <ℤ new.price) ⊎ ((found.price ≡ new.price) × (new.width <ℤ found.width))) }
+    ensures better { OnTrue result ((new.price <ℤ found.price)
+        ⊎ ((new.price ≡ found.price) × (found.width ≤ℤ new.width))) }
+    ensures worse { OnFalse result ((found.price <ℤ new.price)
+        ⊎ ((found.price ≡ new.price) × (new.width <ℤ found.width))) }
 {
     if new.price == found.price {
         found.width <= new.width
@@ -79,7 +81,8 @@ pub fn way_on(points: &[Point], from: usize) -> Option<Edge>
     found
 }
 
-// The place of the cheaper of the point found so far and the one at a place, if both have the least power.
+// The place of the cheaper of the point found so far and the one at a place, if both have the least
+// power.
 fn cheaper_place(points: &[Point], best: usize, place: usize) -> usize
     requires points { AreCostPoints points.now }
     requires earlier { best < place }

@@ -1,5 +1,6 @@
--- How a row's totals run while responses come in: each response adds to, or takes from, each period's total once (this
--- project's profile). Started from zeros, the totals are the net sums and reserve sums of all responses.
+-- How a row's totals run while responses come in: each response adds to, or takes from, each
+-- period's total once (this project's profile). Started from zeros, the totals are the net sums and
+-- reserve sums of all responses.
 use Rattle.std.specs.Prelude.{◌≡◌, ℕ, ◌<◌, ℤ, pos, neg_ℤ, ◌+ℤ◌, List, length}
 use Rattle.dual_value.specs.declared.totals.Flow.{Flow}
 use Rattle.dual_value.specs.declared.totals.Flow.TheVariants.{Gives, Takes}

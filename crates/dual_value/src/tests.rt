@@ -12,7 +12,8 @@ use uc_model::cases::{Case, Row};
 use uc_model::lists::{Amounts, Flags, Name, Numbers, Powers};
 use uc_model::units::{BidList, FlatList, NamedFlat, Prices, Renewable, Response, ThermalList};
 
-// One period with a demand of 10,000 kW, a required reserve of 2,000 kW and a renewable unit of up to 3,000 kW.
+// One period with a demand of 10,000 kW, a required reserve of 2,000 kW and a renewable unit of up
+// to 3,000 kW.
 fn usual_case(alloc: Global) -> Result<Case, AllocError>
     ensures { IfOk result (λ case. (market_of case).periods ≡ 1) }
 {

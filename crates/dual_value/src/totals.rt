@@ -32,7 +32,8 @@ fn total_with(total: i128, flow: Flow, power: u32) -> i128
 fn count_each(totals: &mut Amounts, flow: Flow, powers: &Powers)
     requires lengths { length powers.now.items ≡ length totals.old.items }
     requires bound { All IsTotal totals.old.items }
-    ensures raised { IsRaised totals.old.items totals.new.items (λ k. amount_of flow (slice_index powers.now.items k)) }
+    ensures raised { IsRaised totals.old.items totals.new.items
+        (λ k. amount_of flow (slice_index powers.now.items k)) }
     ensures spare { totals.new.spare ≡ totals.old.spare }
 {
     for k in 0..totals.len() {
@@ -40,15 +41,18 @@ fn count_each(totals: &mut Amounts, flow: Flow, powers: &Powers)
     }
 }
 
-/// Adds the response of a thermal or renewable unit to the row's totals: its powers to `supply` and its reserves to
-/// `reserve`, in kilowatts. The row and the response are over the same periods, and the totals before are at most 10^13
-/// in magnitude. Prices and value stay, and no memory is taken.
+/// Adds the response of a thermal or renewable unit to the row's totals: its powers to `supply` and
+/// its reserves to `reserve`, in kilowatts. The row and the response are over the same periods, and
+/// the totals before are at most 10^13 in magnitude. Prices and value stay, and no memory is taken.
 pub fn add_response(row: &mut Row, response: &Response)
-    requires horizon { length (schedule_of response.now).on ≡ length (proposal_of row.old).prices.energy }
+    requires horizon { length (schedule_of response.now).on
+        ≡ length (proposal_of row.old).prices.energy }
     requires supply_bound { All IsTotal (proposal_of row.old).supply }
     requires reserve_bound { All IsTotal (proposal_of row.old).reserve }
-    ensures supply { IsRaised (proposal_of row.old).supply (proposal_of row.new).supply (λ k. power_in (schedule_of response.now) (suc k)) }
-    ensures reserve { IsRaised (proposal_of row.old).reserve (proposal_of row.new).reserve (λ k. reserve_in (schedule_of response.now) (suc k)) }
+    ensures supply { IsRaised (proposal_of row.old).supply (proposal_of row.new).supply
+        (λ k. power_in (schedule_of response.now) (suc k)) }
+    ensures reserve { IsRaised (proposal_of row.old).reserve (proposal_of row.new).reserve
+        (λ k. reserve_in (schedule_of response.now) (suc k)) }
     ensures prices { row.new.prices ≡ row.old.prices }
     ensures value { row.new.value ≡ row.old.value }
 {
@@ -56,13 +60,15 @@ pub fn add_response(row: &mut Row, response: &Response)
     count_each(&mut row.reserve, Flow::Gives, &response.reserve);
 }
 
-/// Takes the response of a bid from the row's totals: what it buys lowers `supply`, in kilowatts. The row and the
-/// response are over the same periods, and the totals before are at most 10^13 in magnitude. All else of the row stays,
-/// and no memory is taken.
+/// Takes the response of a bid from the row's totals: what it buys lowers `supply`, in kilowatts.
+/// The row and the response are over the same periods, and the totals before are at most 10^13 in
+/// magnitude. All else of the row stays, and no memory is taken.
 pub fn take_bid(row: &mut Row, response: &Response)
-    requires horizon { length (schedule_of response.now).on ≡ length (proposal_of row.old).prices.energy }
+    requires horizon { length (schedule_of response.now).on
+        ≡ length (proposal_of row.old).prices.energy }
     requires supply_bound { All IsTotal (proposal_of row.old).supply }
-    ensures supply { IsRaised (proposal_of row.old).supply (proposal_of row.new).supply (λ k. neg_ℤ (power_in (schedule_of response.now) (suc k))) }
+    ensures supply { IsRaised (proposal_of row.old).supply (proposal_of row.new).supply
+        (λ k. neg_ℤ (power_in (schedule_of response.now) (suc k))) }
     ensures reserve { row.new.reserve ≡ row.old.reserve }
     ensures prices { row.new.prices ≡ row.old.prices }
     ensures value { row.new.value ≡ row.old.value }

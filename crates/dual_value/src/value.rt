@@ -9,9 +9,10 @@ use uc_model::cases::Case;
 use uc_model::money::worth;
 use uc_model::units::Prices;
 
-/// The dual value of `prices` in money: the sum over the periods of the energy price times the demand and the reserve
-/// price times the required reserve, less `earned`, what the best schedules of all units and bids earn at these prices.
-/// The prices are over the periods of the case, and `earned` is at most 10^23 in magnitude.
+/// The dual value of `prices` in money: the sum over the periods of the energy price times the
+/// demand and the reserve price times the required reserve, less `earned`, what the best schedules
+/// of all units and bids earn at these prices. The prices are over the periods of the case, and
+/// `earned` is at most 10^23 in magnitude.
 pub fn dual_value(case: &Case, prices: &Prices, earned: i128) -> i128
     requires horizon { length (prices_of prices.now).energy ≡ (market_of case.now).periods }
     requires earned { IsSum earned }

@@ -1,5 +1,7 @@
--- The best power of one period, where a unit's powers earn period by period (this project's profile).
-use Rattle.std.specs.Prelude.{◌≡◌, ℕ, ◌≤◌, ℤ, pos, neg_ℤ, ◌-ℤ◌, ◌*ℤ◌, ◌≤ℤ◌, int_lt, if◌then◌else◌, List, slice_set, true}
+-- The best power of one period, where a unit's powers earn period by period (this project's
+-- profile).
+use Rattle.std.specs.Prelude.{◌≡◌, ℕ, ◌≤◌, ℤ, pos, neg_ℤ, ◌-ℤ◌, ◌*ℤ◌, ◌≤ℤ◌, int_lt, if◌then◌else◌}
+use Rattle.std.specs.Prelude.{List, slice_set, true}
 use Rattle.uc_model.specs.declared.units.Block.{Block}
 use Rattle.uc_model.specs.Data.{Schedule}
 use Rattle.uc_model.specs.Earnings.{worth_of}
@@ -13,7 +15,8 @@ pub record IsLeastBest (IsAllowed : ℕ → Type 0) (earns : ℕ → ℤ) (power
   pub least : (other : ℕ) → IsAllowed other → earns other ≡ earns power → power ≤ other
 
 -- a least best power with what it earns, which is far from the limits of its type
-pub record IsLeastChoice (IsAllowed : ℕ → Type 0) (earns : ℕ → ℤ) (power : ℕ) (earned : ℤ) : Type 0 where
+pub record IsLeastChoice (IsAllowed : ℕ → Type 0) (earns : ℕ →
+    ℤ) (power : ℕ) (earned : ℤ) : Type 0 where
   pub best : IsLeastBest IsAllowed earns power
   pub is : earned ≡ earns power
   pub bound : IsFrom (neg_ℤ (pos 20000000000000000)) (pos 20000000000000000) earned
@@ -25,7 +28,8 @@ IsBetween least most power = (least ≤ℤ pos power) × (pos power ≤ℤ most)
 abbrev pub sold_at : ℤ → ℕ → ℤ
 sold_at price power = price *ℤ pos power
 
--- a bid's power in a period is at most its blocks' widths, and earns its worth less the energy price
+-- a bid's power in a period is at most its blocks' widths, and earns its worth less the energy
+-- price
 abbrev pub IsWithinBlocks : List Block → ℕ → Type 0
 IsWithinBlocks blocks power = pos power ≤ℤ width_of blocks
 
@@ -34,7 +38,12 @@ bought_at blocks price power = worth_of blocks (pos power) -ℤ (price *ℤ pos 
 
 -- the schedule with that power, on and without reserve, at a place
 abbrev pub with_power : Schedule → ℕ → ℕ → Schedule
-with_power s place power = record { on = slice_set s.on place true; power = slice_set s.power place power; reserve = slice_set s.reserve place 0 }
+with_power s place power =
+    record {
+      on = slice_set s.on place true;
+      power = slice_set s.power place power;
+      reserve = slice_set s.reserve place 0;
+    }
 
 -- what a block adds where its price is above the energy price, and nothing otherwise
 abbrev pub added_power : ℤ → Block → ℤ

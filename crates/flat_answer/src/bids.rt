@@ -1,5 +1,6 @@
 //! The answer of a demand bid.
-ghost use Rattle.std.specs.Prelude.{◌≡◌, ◌<◌, pos, neg_ℤ, ◌+ℤ◌, ◌-ℤ◌, ◌*ℤ◌, int_lt, if◌then◌else◌, length};
+ghost use Rattle.std.specs.Prelude.{◌≡◌, ◌<◌, pos, neg_ℤ, ◌+ℤ◌, ◌-ℤ◌, ◌*ℤ◌, int_lt, if◌then◌else◌};
+ghost use Rattle.std.specs.Prelude.{length};
 ghost use Rattle.uc_model.specs.Data.{Bid as BidOf};
 ghost use Rattle.uc_model.specs.Earnings.{earnings};
 ghost use Rattle.uc_model.specs.Limits.{IsFrom, IsPower, IsBlock, IsBlockList, price_limit};
@@ -7,7 +8,8 @@ ghost use Rattle.uc_model.specs.PlainUnits.{bid_of, prices_of, schedule_of};
 ghost use Rattle.uc_model.specs.Schedules.{blocks_at};
 ghost use Rattle.uc_model.specs.Sums.{int_at};
 ghost use Rattle.uc_model.specs.Ties.{IsLeast};
-ghost use Rattle.flat_answer.specs.Choices.{IsLeastChoice, IsWithinBlocks, bought_at, added_power, added_gain};
+ghost use Rattle.flat_answer.specs.Choices.{IsLeastChoice, IsWithinBlocks, bought_at, added_power};
+ghost use Rattle.flat_answer.specs.Choices.{added_gain};
 
 use crate::choice::{Choice, earned_at, keep};
 use uc_model::units::{Answered, Bid, Block, Prices};
@@ -17,7 +19,8 @@ fn choice_with(so_far: Choice, block: &Block, price: i64) -> Choice
     requires block { IsBlock block.now }
     requires price { IsFrom (neg_ℤ price_limit) price_limit price }
     requires power { IsPower (pos so_far.power +ℤ added_power price block.now) }
-    requires earned { IsFrom (pos 0) (pos 20000000000000000) (so_far.earned +ℤ added_gain price block.now) }
+    requires earned { IsFrom (pos 0) (pos 20000000000000000)
+        (so_far.earned +ℤ added_gain price block.now) }
     ensures power { pos result.power ≡ pos so_far.power +ℤ added_power price block.now }
     ensures earned { result.earned ≡ so_far.earned +ℤ added_gain price block.now }
 {
@@ -34,7 +37,8 @@ fn choice_with(so_far: Choice, block: &Block, price: i64) -> Choice
 fn choice_of(blocks: &[Block], price: i64) -> Choice
     requires blocks { IsBlockList blocks.now }
     requires price { IsFrom (neg_ℤ price_limit) price_limit price }
-    ensures { IsLeastChoice (IsWithinBlocks blocks.now) (bought_at blocks.now price) result.power result.earned }
+    ensures { IsLeastChoice (IsWithinBlocks blocks.now) (bought_at blocks.now price) result.power
+        result.earned }
 {
     let mut choice = Choice {
         power: 0,
@@ -57,13 +61,16 @@ fn choice_in(bid: &Bid, prices: &Prices, place: usize) -> Choice
     choice_of(blocks, *prices.energy.get(place))
 }
 
-/// Leaves in `into` the least best schedule of a bid at the prices, and what it earns: in each period it buys the blocks
-/// whose price is above the energy price. Bid, prices and `into` are over the same periods. Takes no memory.
+/// Leaves in `into` the least best schedule of a bid at the prices, and what it earns: in each
+/// period it buys the blocks whose price is above the energy price. Bid, prices and `into` are over
+/// the same periods. Takes no memory.
 pub fn best_bid(bid: &Bid, prices: &Prices, into: &mut Answered)
     requires prices { length (prices_of prices.now).energy ≡ length (bid_of bid.now).blocks }
     requires into { length (schedule_of into.old.response).on ≡ length (bid_of bid.now).blocks }
-    ensures least { IsLeast (BidOf (bid_of bid.now)) (prices_of prices.now) (schedule_of into.new.response) }
-    ensures earned { into.new.earned ≡ earnings (BidOf (bid_of bid.now)) (prices_of prices.now) (schedule_of into.new.response) }
+    ensures least { IsLeast (BidOf (bid_of bid.now)) (prices_of prices.now)
+        (schedule_of into.new.response) }
+    ensures earned { into.new.earned ≡ earnings (BidOf (bid_of bid.now)) (prices_of prices.now)
+        (schedule_of into.new.response) }
 {
     into.earned = 0;
     for k in 0..prices.energy.len() {

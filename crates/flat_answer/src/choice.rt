@@ -37,12 +37,15 @@ pub fn choice_at(price: i64, power: i64) -> Choice
     }
 }
 
-/// Keeps the choice of a period: on with that power, no reserve, and what it earns added to what is earned so far.
+/// Keeps the choice of a period: on with that power, no reserve, and what it earns added to what is
+/// earned so far.
 pub fn keep(into: &mut Answered, place: usize, choice: Choice)
     requires place { place < length (schedule_of into.old.response).on }
-    requires so_far { IsFrom (neg_ℤ (pos 4000000000000000000)) (pos 4000000000000000000) into.old.earned }
+    requires so_far { IsFrom (neg_ℤ (pos 4000000000000000000)) (pos 4000000000000000000)
+        into.old.earned }
     requires choice { IsFrom (neg_ℤ (pos 20000000000000000)) (pos 20000000000000000) choice.earned }
-    ensures schedule { schedule_of into.new.response ≡ with_power (schedule_of into.old.response) place choice.power }
+    ensures schedule { schedule_of into.new.response
+        ≡ with_power (schedule_of into.old.response) place choice.power }
     ensures earned { into.new.earned ≡ into.old.earned +ℤ choice.earned }
 {
     into.response.on.set(place, true);

@@ -38,14 +38,17 @@ fn choice_in(flat: &Renewable, prices: &Prices, place: usize) -> Choice
     choice_between(least, most, *prices.energy.get(place))
 }
 
-/// Leaves in `into` the least best schedule of a renewable unit at the prices, and what it earns: in each period the
-/// greatest power where the energy price is above 0, and the least otherwise. Unit, prices and `into` are over the same
-/// periods. Takes no memory.
+/// Leaves in `into` the least best schedule of a renewable unit at the prices, and what it earns:
+/// in each period the greatest power where the energy price is above 0, and the least otherwise.
+/// Unit, prices and `into` are over the same periods. Takes no memory.
 pub fn best_flat(flat: &Renewable, prices: &Prices, into: &mut Answered)
     requires prices { length (prices_of prices.now).energy ≡ length (renewable_of flat.now).least }
-    requires into { length (schedule_of into.old.response).on ≡ length (renewable_of flat.now).least }
-    ensures least { IsLeast (Flat (renewable_of flat.now)) (prices_of prices.now) (schedule_of into.new.response) }
-    ensures earned { into.new.earned ≡ earnings (Flat (renewable_of flat.now)) (prices_of prices.now) (schedule_of into.new.response) }
+    requires into { length (schedule_of into.old.response).on
+        ≡ length (renewable_of flat.now).least }
+    ensures least { IsLeast (Flat (renewable_of flat.now)) (prices_of prices.now)
+        (schedule_of into.new.response) }
+    ensures earned { into.new.earned ≡ earnings (Flat (renewable_of flat.now))
+        (prices_of prices.now) (schedule_of into.new.response) }
 {
     into.earned = 0;
     for k in 0..prices.energy.len() {

@@ -43,7 +43,8 @@ pub fn bound_of(
     requires to_last { centre ≤ length rows.now }
     requires radius { IsRadius radius }
     requires work { length work.old.items ≡ 2 * (market_of case.now).periods }
-    ensures bound { result ≡ certified_bound (market_of case.now) (map proposal_of rows.now) weights.now.items
+    ensures bound { result ≡ certified_bound (market_of case.now) (map proposal_of rows.now)
+        weights.now.items
         (prices_of_row (map proposal_of rows.now) centre) radius }
     ensures work { length work.new.items ≡ length work.old.items }
     ensures spare { work.new.spare ≡ work.old.spare }

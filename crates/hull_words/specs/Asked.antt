@@ -5,7 +5,8 @@ use Rattle.hull_words.specs.declared.command.CheckWords.{CheckWords}
 use Rattle.hull_words.specs.declared.command.Command.{Command}
 use Rattle.hull_words.specs.declared.command.Command.TheVariants as commands
 use Rattle.hull_words.specs.declared.kinds.CommandKind.{CommandKind}
-use Rattle.hull_words.specs.declared.kinds.CommandKind.TheVariants.{Price, Check, Try, Bound, Fixed, Audit}
+use Rattle.hull_words.specs.declared.kinds.CommandKind.TheVariants.{Price, Check, Try, Bound, Fixed}
+use Rattle.hull_words.specs.declared.kinds.CommandKind.TheVariants.{Audit}
 
 pub record PriceAsked : Type 0 where
   pub case_name : List ℕ
@@ -44,7 +45,14 @@ pub data Asked : Type 0 where
 
 -- what a contract sees of a command
 abbrev pub price_asked : PriceWords → PriceAsked
-price_asked w = record { case_name = w.case_name.items; schedule_name = w.schedule_name.items; proposals = w.proposals; workers = w.workers; ahead = w.ahead }
+price_asked w =
+    record {
+      case_name = w.case_name.items;
+      schedule_name = w.schedule_name.items;
+      proposals = w.proposals;
+      workers = w.workers;
+      ahead = w.ahead;
+    }
 
 abbrev pub check_asked : CheckWords → CheckAsked
 check_asked w = record { case_name = w.case_name.items; schedule_name = w.schedule_name.items }
@@ -52,10 +60,22 @@ check_asked w = record { case_name = w.case_name.items; schedule_name = w.schedu
 abbrev pub asked : Command → Asked
 asked (commands.Price w) = price (price_asked w)
 asked (commands.Check w) = check (check_asked w)
-asked (commands.Try w) = try (record { number = w.number; proposals = w.proposals; workers = w.workers; ahead = w.ahead })
+asked (commands.Try w) =
+    try (record {
+      number = w.number;
+      proposals = w.proposals;
+      workers = w.workers;
+      ahead = w.ahead;
+    })
 asked (commands.Bound w) = bound (record { run = price_asked w.run; radius = w.radius })
 asked (commands.Fixed w) = fixed (price_asked w)
-asked (commands.Audit w) = audit (record { case_name = w.case_name.items; schedule_name = w.schedule_name.items; report_name = w.report_name.items; workers = w.workers })
+asked (commands.Audit w) =
+    audit (record {
+      case_name = w.case_name.items;
+      schedule_name = w.schedule_name.items;
+      report_name = w.report_name.items;
+      workers = w.workers;
+    })
 
 -- the values that words give, each where it is given
 pub record Found : Type 0 where
@@ -75,7 +95,9 @@ with_both (Some a) None f = None
 with_both (Some a) (Some b) f = Some (f a b)
 
 abbrev pub names_from : Found → Option CheckAsked
-names_from found = with_both found.case_name found.schedule_name (λ case_name schedule_name. record { case_name = case_name; schedule_name = schedule_name })
+names_from found =
+    with_both found.case_name found.schedule_name
+    (λ case_name schedule_name. record { case_name = case_name; schedule_name = schedule_name })
 
 abbrev pub price_from : Found → Option PriceAsked
 price_from found = option_map (λ names. record {
@@ -96,11 +118,15 @@ asked_from Try found = option_map (λ number. try (record {
   workers = unwrap_or found.workers 4;
   ahead = unwrap_or found.ahead 4;
 })) found.number
-asked_from Bound found = option_map (λ run. bound (record { run = run; radius = pos (unwrap_or found.radius 20_000_000) })) (price_from found)
+asked_from Bound found =
+    option_map
+    (λ run. bound (record { run = run; radius = pos (unwrap_or found.radius 20_000_000) }))
+    (price_from found)
 asked_from Fixed found = option_map fixed (price_from found)
-asked_from Audit found = with_both (names_from found) found.report_name (λ names report_name. audit (record {
-  case_name = names.case_name;
-  schedule_name = names.schedule_name;
-  report_name = report_name;
-  workers = unwrap_or found.workers 4;
-}))
+asked_from Audit found =
+    with_both (names_from found) found.report_name (λ names report_name. audit (record {
+      case_name = names.case_name;
+      schedule_name = names.schedule_name;
+      report_name = report_name;
+      workers = unwrap_or found.workers 4;
+    }))

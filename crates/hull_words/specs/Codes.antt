@@ -1,7 +1,10 @@
 -- The numbers of the faults (this project's profile).
 use Rattle.std.specs.Prelude.{ℕ}
 use Rattle.hull_words.specs.declared.fault.WordCode.{WordCode}
-use Rattle.hull_words.specs.declared.fault.WordCode.TheVariants.{NoCommand, UnknownCommand, UnknownOption, RepeatedOption, NoValue, BadNumber, MissingOption, StrayWord}
+use Rattle.hull_words.specs.declared.fault.WordCode.TheVariants.{NoCommand, UnknownCommand}
+use Rattle.hull_words.specs.declared.fault.WordCode.TheVariants.{UnknownOption, RepeatedOption}
+use Rattle.hull_words.specs.declared.fault.WordCode.TheVariants.{NoValue, BadNumber, MissingOption}
+use Rattle.hull_words.specs.declared.fault.WordCode.TheVariants.{StrayWord}
 
 -- the number that a fault line prints
 abbrev pub code_number : WordCode → ℕ

@@ -1,12 +1,16 @@
 -- One pass over the words, as the reader makes it: what each step leaves.
-use Rattle.std.specs.Prelude.{ℕ, ◌+◌, Bool, true, false, List, [], ◌∷◌, Option, Some, None, is_some, Result, Ok, Err, if◌then◌else◌}
+use Rattle.std.specs.Prelude.{ℕ, ◌+◌, Bool, true, false, List, [], ◌∷◌, Option, Some, None, is_some}
+use Rattle.std.specs.Prelude.{Result, Ok, Err, if◌then◌else◌}
 use Rattle.std.specs.Option.{option_copied}
 use Rattle.hull_words.specs.declared.kinds.CommandKind.{CommandKind}
 use Rattle.hull_words.specs.declared.kinds.CommandKind.TheVariants.{Try}
 use Rattle.hull_words.specs.declared.kinds.OptionKind.{OptionKind}
-use Rattle.hull_words.specs.declared.kinds.OptionKind.TheVariants.{Case, Schedule, Report, Proposals, Workers, Ahead, Radius}
+use Rattle.hull_words.specs.declared.kinds.OptionKind.TheVariants.{Case, Schedule, Report}
+use Rattle.hull_words.specs.declared.kinds.OptionKind.TheVariants.{Proposals, Workers, Ahead}
+use Rattle.hull_words.specs.declared.kinds.OptionKind.TheVariants.{Radius}
 use Rattle.hull_words.specs.declared.fault.WordCode.{WordCode}
-use Rattle.hull_words.specs.declared.fault.WordCode.TheVariants.{UnknownOption, RepeatedOption, NoValue, BadNumber, StrayWord}
+use Rattle.hull_words.specs.declared.fault.WordCode.TheVariants.{UnknownOption, RepeatedOption}
+use Rattle.hull_words.specs.declared.fault.WordCode.TheVariants.{NoValue, BadNumber, StrayWord}
 use Rattle.hull_words.specs.declared.fault.WordFault.{WordFault}
 use Rattle.hull_words.specs.declared.given.Given.{Given}
 use Rattle.hull_words.specs.Texts.{is_option, option_name, takes_next, can_be_value}
@@ -27,7 +31,17 @@ found_so_far given = record {
 }
 
 abbrev pub nothing : Found
-nothing = record { case_name = None; schedule_name = None; report_name = None; proposals = None; workers = None; ahead = None; radius = None; number = None }
+nothing =
+    record {
+      case_name = None;
+      schedule_name = None;
+      report_name = None;
+      proposals = None;
+      workers = None;
+      ahead = None;
+      radius = None;
+      number = None;
+    }
 
 abbrev pub is_set : OptionKind → Found → Bool
 is_set Case found = is_some found.case_name
@@ -44,8 +58,11 @@ flag true = 1
 flag false = 0
 
 abbrev pub set_count : Found → ℕ
-set_count f = flag (is_some f.case_name) + flag (is_some f.schedule_name) + flag (is_some f.report_name) + flag (is_some f.proposals)
-    + flag (is_some f.workers) + flag (is_some f.ahead) + flag (is_some f.radius) + flag (is_some f.number)
+set_count f =
+    flag (is_some f.case_name) + flag (is_some f.schedule_name) + flag (is_some f.report_name)
+    + flag (is_some f.proposals)
+    + flag (is_some f.workers) + flag (is_some f.ahead) + flag (is_some f.radius)
+    + flag (is_some f.number)
 
 -- a step on a number that is there, and otherwise a bad one
 abbrev pub with_number : Option ℕ → (ℕ → Found) → Result Found WordCode
@@ -56,8 +73,10 @@ abbrev pub set_to : OptionKind → List ℕ → Found → Result Found WordCode
 set_to Case text found = Ok (record found { case_name = Some text })
 set_to Schedule text found = Ok (record found { schedule_name = Some text })
 set_to Report text found = Ok (record found { report_name = Some text })
-set_to Proposals text found = with_number (setting Proposals text) (λ n. record found { proposals = Some n })
-set_to Workers text found = with_number (setting Workers text) (λ n. record found { workers = Some n })
+set_to Proposals text found =
+    with_number (setting Proposals text) (λ n. record found { proposals = Some n })
+set_to Workers text found =
+    with_number (setting Workers text) (λ n. record found { workers = Some n })
 set_to Ahead text found = with_number (setting Ahead text) (λ n. record found { ahead = Some n })
 set_to Radius text found = with_number (setting Radius text) (λ n. record found { radius = Some n })
 
@@ -68,19 +87,24 @@ value_step o (Some text) found = if can_be_value text then set_to o text found e
 
 abbrev pub option_step : Option OptionKind → Option (List ℕ) → Found → Result Found WordCode
 option_step None value found = Err UnknownOption
-option_step (Some o) value found = if is_set o found then Err RepeatedOption else value_step o value found
+option_step (Some o) value found =
+    if is_set o found then Err RepeatedOption else value_step o value found
 
 -- a word that is no option
 abbrev pub plain_step : CommandKind → List ℕ → Found → Result Found WordCode
-plain_step Try word found = if is_some found.number then Err StrayWord else with_number (try_number word) (λ n. record found { number = Some n })
+plain_step Try word found =
+    if is_some found.number then Err StrayWord else with_number (try_number word)
+    (λ n. record found { number = Some n })
 plain_step _ word found = Err StrayWord
 
 unfoldable pub word_step : CommandKind → List ℕ → Option (List ℕ) → Found → Result Found WordCode
 word_step command word next found =
-    if is_option word then option_step (option_in command (option_name word)) (value_at word next) found else plain_step command word found
+    if is_option word then option_step (option_in command (option_name word)) (value_at word next)
+    found else plain_step command word found
 
 -- a step that failed is a fault at its place, and the others go on
-abbrev pub then_on : Result Found WordCode → ℕ → (Found → Result Found WordFault) → Result Found WordFault
+abbrev pub then_on : Result Found WordCode → ℕ → (Found → Result Found WordFault) →
+    Result Found WordFault
 then_on (Err code) place go = Err (fault code place)
 then_on (Ok found) place go = go found
 
@@ -89,7 +113,9 @@ unfoldable pub read_from : CommandKind → ℕ → Bool → List (List ℕ) → 
 read_from command place true [] found = Ok found
 read_from command place false [] found = Ok found
 read_from command place true (word ∷ later) found = read_from command (place + 1) false later found
-read_from command place false (word ∷ later) found = then_on (word_step command word (first_of later) found) place (λ found. read_from command (place + 1) (takes_next word) later found)
+read_from command place false (word ∷ later) found =
+    then_on (word_step command word (first_of later) found) place
+    (λ found. read_from command (place + 1) (takes_next word) later found)
 
 -- what a function returned, its value seen by view
 abbrev pub seen : {X Y E : Type 0} → (X → Y) → Result X E → Result Y E

@@ -3,9 +3,12 @@ use Rattle.std.specs.Prelude.{List, [], ◌∷◌, Option, Some, None, if◌then
 use Rattle.std.specs.Str.{bytes_eq}
 use Rattle.std.specs.Prelude.{ℕ}
 use Rattle.hull_words.specs.declared.kinds.CommandKind.{CommandKind}
-use Rattle.hull_words.specs.declared.kinds.CommandKind.TheVariants.{Price, Check, Try, Bound, Fixed, Audit}
+use Rattle.hull_words.specs.declared.kinds.CommandKind.TheVariants.{Price, Check, Try, Bound, Fixed}
+use Rattle.hull_words.specs.declared.kinds.CommandKind.TheVariants.{Audit}
 use Rattle.hull_words.specs.declared.kinds.OptionKind.{OptionKind}
-use Rattle.hull_words.specs.declared.kinds.OptionKind.TheVariants.{Case, Schedule, Report, Proposals, Workers, Ahead, Radius}
+use Rattle.hull_words.specs.declared.kinds.OptionKind.TheVariants.{Case, Schedule, Report}
+use Rattle.hull_words.specs.declared.kinds.OptionKind.TheVariants.{Proposals, Workers, Ahead}
+use Rattle.hull_words.specs.declared.kinds.OptionKind.TheVariants.{Radius}
 
 -- the command that a word names
 abbrev pub command_named : List ℕ → Option CommandKind

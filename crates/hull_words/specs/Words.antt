@@ -1,6 +1,8 @@
--- The command that a list of words gives, or its first fault (this project's profile).
--- A rule at a place looks at that word, the next one and the words before it, here from the nearest on.
-use Rattle.std.specs.Prelude.{◌≡◌, ℕ, ◌+◌, Bool, true, false, ◌&&◌, ◌||◌, List, [], ◌∷◌, length, Option, Some, None, is_some, option_and_then, map, Result, Ok, Err, if◌then◌else◌}
+-- The command that a list of words gives, or its first fault (this project's profile). A rule at a
+-- place looks at that word, the next one and the words before it, here from the nearest on.
+use Rattle.std.specs.Prelude.{◌≡◌, ℕ, ◌+◌, Bool, true, false, ◌&&◌, ◌||◌, List, [], ◌∷◌, length}
+use Rattle.std.specs.Prelude.{Option, Some, None, is_some, option_and_then, map, Result, Ok, Err}
+use Rattle.std.specs.Prelude.{if◌then◌else◌}
 use Rattle.std.specs.Global.{Global}
 use Rattle.std.specs.declared.string.String.{String}
 use Rattle.std.specs.String.{string_bytes}
@@ -9,14 +11,20 @@ use Rattle.std.specs.Str.{bytes_eq}
 use Rattle.hull_words.specs.declared.kinds.CommandKind.{CommandKind}
 use Rattle.hull_words.specs.declared.kinds.CommandKind.TheVariants.{Try}
 use Rattle.hull_words.specs.declared.kinds.OptionKind.{OptionKind}
-use Rattle.hull_words.specs.declared.kinds.OptionKind.TheVariants.{Case, Schedule, Report, Proposals, Workers, Ahead, Radius}
+use Rattle.hull_words.specs.declared.kinds.OptionKind.TheVariants.{Case, Schedule, Report}
+use Rattle.hull_words.specs.declared.kinds.OptionKind.TheVariants.{Proposals, Workers, Ahead}
+use Rattle.hull_words.specs.declared.kinds.OptionKind.TheVariants.{Radius}
 use Rattle.hull_words.specs.declared.fault.WordCode.{WordCode}
-use Rattle.hull_words.specs.declared.fault.WordCode.TheVariants.{NoCommand, UnknownCommand, UnknownOption, RepeatedOption, NoValue, BadNumber, MissingOption, StrayWord}
+use Rattle.hull_words.specs.declared.fault.WordCode.TheVariants.{NoCommand, UnknownCommand}
+use Rattle.hull_words.specs.declared.fault.WordCode.TheVariants.{UnknownOption, RepeatedOption}
+use Rattle.hull_words.specs.declared.fault.WordCode.TheVariants.{NoValue, BadNumber, MissingOption}
+use Rattle.hull_words.specs.declared.fault.WordCode.TheVariants.{StrayWord}
 use Rattle.hull_words.specs.declared.fault.WordFault.{WordFault}
 use Rattle.hull_words.specs.declared.fault.WordError.{WordError}
 use Rattle.hull_words.specs.declared.fault.WordError.TheVariants as errors
 use Rattle.hull_words.specs.Spelling.{command_named, options, spelling}
-use Rattle.hull_words.specs.Texts.{is_option, option_name, own_value, takes_next, can_be_value, number_in}
+use Rattle.hull_words.specs.Texts.{is_option, option_name, own_value, takes_next, can_be_value}
+use Rattle.hull_words.specs.Texts.{number_in}
 use Rattle.hull_words.specs.Asked.{Asked, Found, asked_from}
 
 -- ---- one option
@@ -54,12 +62,14 @@ fits Schedule text = true
 fits Report text = true
 fits o text = is_some (setting o text)
 
--- what is wrong with an option that the command has, or not, that was given before, or not, and with this value
+-- what is wrong with an option that the command has, or not, that was given before, or not, and
+-- with this value
 abbrev pub option_fault : Option OptionKind → Bool → Option (List ℕ) → Option WordCode
 option_fault None given value = Some UnknownOption
 option_fault (Some o) true value = Some RepeatedOption
 option_fault (Some o) false None = Some NoValue
-option_fault (Some o) false (Some value) = if can_be_value value then (if fits o value then None else Some BadNumber) else Some NoValue
+option_fault (Some o) false (Some value) =
+    if can_be_value value then (if fits o value then None else Some BadNumber) else Some NoValue
 
 -- ---- one word that is no option
 
@@ -71,7 +81,9 @@ is_value_after (nearest ∷ earlier) = takes_next nearest
 -- the words that are neither options nor their values, from the nearest on
 abbrev pub plain_words : List (List ℕ) → List (List ℕ)
 plain_words [] = []
-plain_words (word ∷ earlier) = if is_option word || is_value_after earlier then plain_words earlier else word ∷ plain_words earlier
+plain_words (word ∷ earlier) =
+    if is_option word || is_value_after earlier then plain_words earlier else word
+    ∷ plain_words earlier
 
 -- the number that `try` takes, a u64
 abbrev pub try_number : List ℕ → Option ℕ
@@ -87,7 +99,8 @@ plain_fault _ _ word = Some StrayWord
 unfoldable pub fault_at : CommandKind → List (List ℕ) → List ℕ → Option (List ℕ) → Option WordCode
 fault_at command earlier word next =
     if is_value_after earlier then None else
-    (if is_option word then option_fault (option_in command (option_name word)) (is_given (option_name word) earlier) (value_at word next)
+    (if is_option word then option_fault (option_in command (option_name word))
+    (is_given (option_name word) earlier) (value_at word next)
     else plain_fault command (plain_words earlier) word)
 
 -- ---- all words
@@ -105,10 +118,13 @@ abbrev pub or_later : Option WordCode → ℕ → Option WordFault → Option Wo
 or_later None place later = later
 or_later (Some code) place later = Some (fault code place)
 
--- the fault of the first place that has one, where earlier stands before the words; the command is at place 1
+-- the fault of the first place that has one, where earlier stands before the words; the command is
+-- at place 1
 unfoldable pub first_fault : CommandKind → List (List ℕ) → List (List ℕ) → Option WordFault
 first_fault command earlier [] = None
-first_fault command earlier (word ∷ later) = or_later (fault_at command earlier word (first_of later)) (length earlier + 2) (first_fault command (word ∷ earlier) later)
+first_fault command earlier (word ∷ later) =
+    or_later (fault_at command earlier word (first_of later)) (length earlier + 2)
+    (first_fault command (word ∷ earlier) later)
 
 -- the words, from the nearest on
 abbrev pub backwards : List (List ℕ) → List (List ℕ) → List (List ℕ)
@@ -118,7 +134,8 @@ backwards earlier (word ∷ later) = backwards (word ∷ earlier) later
 -- the value of the option of that name, where next is the word after the nearest one
 unfoldable pub value_of : List ℕ → Option (List ℕ) → List (List ℕ) → Option (List ℕ)
 value_of name next [] = None
-value_of name next (word ∷ earlier) = if is_named name word then value_at word next else value_of name (Some word) earlier
+value_of name next (word ∷ earlier) =
+    if is_named name word then value_at word next else value_of name (Some word) earlier
 
 -- the values that the words give
 unfoldable pub found_in : List (List ℕ) → Found

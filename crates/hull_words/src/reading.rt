@@ -1,9 +1,12 @@
 //! The reader: one pass over the words.
-ghost use Rattle.std.specs.Prelude.{◌≡◌, ◌+◌, ◌*◌, ◌<◌, ◌≤◌, false, length, drop, Err, IfOk, IfErr, OnOk};
+ghost use Rattle.std.specs.Prelude.{◌≡◌, ◌+◌, ◌*◌, ◌<◌, ◌≤◌, false, length, drop, Err, IfOk, IfErr};
+ghost use Rattle.std.specs.Prelude.{OnOk};
 ghost use Rattle.std.specs.Option.{option_copied};
-ghost use Rattle.hull_words.specs.Asked.{asked, asked_from, check_asked, price_asked, names_from, price_from};
+ghost use Rattle.hull_words.specs.Asked.{asked, asked_from, check_asked, price_asked, names_from};
+ghost use Rattle.hull_words.specs.Asked.{price_from};
 ghost use Rattle.hull_words.specs.Texts.{takes_next};
-ghost use Rattle.hull_words.specs.Reading.{found_so_far, nothing, flag, option_step, plain_step, set_count, word_step, read_from, seen};
+ghost use Rattle.hull_words.specs.Reading.{found_so_far, nothing, flag, option_step, plain_step};
+ghost use Rattle.hull_words.specs.Reading.{set_count, word_step, read_from, seen};
 ghost use Rattle.hull_words.specs.Words.{Gives, first_of, option_in, or_missing, texts, words_of};
 
 use crate::command::{AuditWords, BoundWords, CheckWords, Command, PriceWords, TryWords};
@@ -20,7 +23,8 @@ fn read_option<'a>(
     name: &str,
     value: Option<&'a str>,
 ) -> Result<Given<'a>, WordCode>
-    ensures { seen found_so_far result ≡ option_step (option_in command name.now) (option_copied value.entry) (found_so_far given.entry) }
+    ensures { seen found_so_far result ≡ option_step (option_in command name.now)
+        (option_copied value.entry) (found_so_far given.entry) }
 {
     let option = command.option(name).ok_or(WordCode::UnknownOption)?;
     if given.is_set(option) {
@@ -64,7 +68,8 @@ fn read_word<'a>(
     word: &'a str,
     next: Option<&'a str>,
 ) -> Result<(Given<'a>, bool), WordCode>
-    ensures step { seen (λ x. found_so_far x.0) result ≡ word_step command word.now (option_copied next.entry) (found_so_far given.entry) }
+    ensures step { seen (λ x. found_so_far x.0) result
+        ≡ word_step command word.now (option_copied next.entry) (found_so_far given.entry) }
     ensures next { IfOk result (λ x. x.1 ≡ takes_next word.now) }
 {
     match option_parts(word) {
@@ -98,9 +103,12 @@ fn read_place<'a>(
     requires within { index < length words.now }
     // Each word that is no value sets one of eight values.
     requires few { index + flag is_value ≤ 2 * set_count (found_so_far given) }
-    ensures ok { IfOk result (λ x. read_from command (index + 2) is_value (drop index (texts words.now)) (found_so_far given.entry)
-        ≡ read_from command (index + 3) x.1 (drop (index + 1) (texts words.now)) (found_so_far x.0)) }
-    ensures err { IfErr result (λ e. read_from command (index + 2) is_value (drop index (texts words.now)) (found_so_far given.entry) ≡ Err e) }
+    ensures ok { IfOk result (λ x. read_from command (index + 2) is_value
+        (drop index (texts words.now)) (found_so_far given.entry)
+        ≡ read_from command (index + 3) x.1 (drop (index + 1) (texts words.now))
+        (found_so_far x.0)) }
+    ensures err { IfErr result (λ e. read_from command (index + 2) is_value
+        (drop index (texts words.now)) (found_so_far given.entry) ≡ Err e) }
     ensures few { IfOk result (λ x. index + 1 + flag x.1 ≤ 2 * set_count (found_so_far x.0)) }
 {
     if is_value {

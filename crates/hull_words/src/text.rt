@@ -3,7 +3,8 @@ ghost use Rattle.std.specs.Prelude.{◌≡◌, ◌≤◌, IfSome, IfOk, is_some}
 ghost use Rattle.std.specs.Char.{is_ascii_digit};
 ghost use Rattle.std.specs.List.{list_all};
 ghost use Rattle.std.specs.Option.{option_copied};
-ghost use Rattle.hull_words.specs.Texts.{is_option, option_name, own_value, can_be_value, number_in};
+ghost use Rattle.hull_words.specs.Texts.{is_option, option_name, own_value, can_be_value};
+ghost use Rattle.hull_words.specs.Texts.{number_in};
 
 use std::alloc::{AllocError, Global};
 use uc_model::lists::Name;

@@ -1,6 +1,7 @@
 -- What one period of a schedule costs, or is worth to a buyer (this project's profile).
 use Rattle.std.specs.Prelude.{ℕ, suc, ℤ, pos, if◌then◌else◌, List, map}
-use Rattle.uc_model.specs.Data.{AnyUnit, Thermal, Bid, NamedThermalUnit, NamedBidUnit, ThermalUnit, BidUnit, Schedule, Market}
+use Rattle.uc_model.specs.Data.{AnyUnit, Thermal, Bid, NamedThermalUnit, NamedBidUnit, ThermalUnit}
+use Rattle.uc_model.specs.Data.{BidUnit, Schedule, Market}
 use Rattle.uc_model.specs.Earnings.{start_cost_of, worth_of}
 use Rattle.uc_model.specs.Envelope.{envelope}
 use Rattle.uc_model.specs.Sums.{total, zip_with}
@@ -10,7 +11,8 @@ abbrev pub production_at : ThermalUnit → Schedule → ℕ → ℤ
 production_at g s k = if on_in g s (suc k) then envelope g.points (power_in s (suc k)) else pos 0
 
 abbrev pub start_cost_at : ThermalUnit → Schedule → ℕ → ℤ
-start_cost_at g s k = if starts_in g s (suc k) then start_cost_of g.lags (time_down g s k) else pos 0
+start_cost_at g s k =
+    if starts_in g s (suc k) then start_cost_of g.lags (time_down g s k) else pos 0
 
 abbrev pub worth_at : BidUnit → Schedule → ℕ → ℤ
 worth_at b s k = worth_of (blocks_at b k) (power_in s (suc k))

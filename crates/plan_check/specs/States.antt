@@ -1,11 +1,17 @@
--- What is seen of a unit in one period, and the tests of its rules there (pglib-uc; the window is this project's profile).
+-- What is seen of a unit in one period, and the tests of its rules there (pglib-uc; the window is
+-- this project's profile).
 use Rattle.std.specs.Prelude.{◌≡◌, ℕ, ◌-◌, ℤ, pos, nat_le, List, Option, None}
 use Rattle.std.specs.Option.{option_map, option_and_then}
 use Rattle.uc_model.specs.declared.kinds.Kind.TheVariants as kinds
 use Rattle.uc_model.specs.declared.kinds.RuleCode.{RuleCode}
-use Rattle.uc_model.specs.declared.kinds.RuleCode.TheVariants.{MustRun, Initial, MinUp, MinDown, Range, StartCap, StopCap, RampUp, RampDown, Window}
+use Rattle.uc_model.specs.declared.kinds.RuleCode.TheVariants.{MustRun, Initial, MinUp, MinDown}
+use Rattle.uc_model.specs.declared.kinds.RuleCode.TheVariants.{Range, StartCap, StopCap, RampUp}
+use Rattle.uc_model.specs.declared.kinds.RuleCode.TheVariants.{RampDown, Window}
 use Rattle.uc_model.specs.Data.{ThermalUnit, Schedule}
-use Rattle.uc_model.specs.Refusals.{Refusal, told, unless, must_run_broken, initial_broken, min_up_broken, min_down_broken, range_broken, start_broken, output_in, stop_broken, ramp_up_broken, ramp_down_broken, window_broken}
+use Rattle.uc_model.specs.Refusals.{Refusal, told, unless, must_run_broken, initial_broken}
+use Rattle.uc_model.specs.Refusals.{min_up_broken, min_down_broken, range_broken, start_broken}
+use Rattle.uc_model.specs.Refusals.{output_in, stop_broken, ramp_up_broken, ramp_down_broken}
+use Rattle.uc_model.specs.Refusals.{window_broken}
 use Rattle.uc_model.specs.Schedules.{on_in, reserve_in, above_min}
 use Rattle.plan_check.specs.declared.states.Sides.{Sides}
 use Rattle.plan_check.specs.declared.states.State.{State}
@@ -16,7 +22,9 @@ sides_of o = option_map (λ (x : Sides). (x.left, x.right)) o
 
 -- a run that ends before a period, and is shorter than the minimum time
 abbrev pub run_broken : Option ℕ → ℕ → ℕ → Option (ℤ × ℤ)
-run_broken since end minimum = option_and_then (λ (start : ℕ). unless (nat_le minimum (end - start)) (pos (end - start)) (pos minimum)) since
+run_broken since end minimum =
+    option_and_then (λ (start : ℕ). unless (nat_le minimum (end - start)) (pos (end - start))
+    (pos minimum)) since
 
 -- what is seen in a period; period 0 is the state before the horizon
 pub record IsStateIn (g : ThermalUnit) (s : Schedule) (period : ℕ) (state : State) : Type 0 where
@@ -46,4 +54,5 @@ told_shift _ = 1
 
 -- what is told of one thermal rule
 abbrev pub rule_refusals : ℕ → ℕ → ThermalUnit → Schedule → RuleCode → List Refusal
-rule_refusals periods unit g s rule = told rule kinds.Thermal unit periods (told_shift rule) (thermal_broken rule g s)
+rule_refusals periods unit g s rule =
+    told rule kinds.Thermal unit periods (told_shift rule) (thermal_broken rule g s)

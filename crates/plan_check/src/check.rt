@@ -36,7 +36,15 @@ const THERMAL_RULES: [RuleCode; 10] = [
 // A broken rule under its unit and period.
 fn fault(code: RuleCode, kind: Kind, unit: u32, period: u32, sides: Sides) -> RuleFault
     ensures { refusal_of result
-        ≡ record { rule = code; kind = kind; unit = unit; period = period; left = sides.left; right = sides.right } }
+        ≡ record {
+          rule = code;
+          kind = kind;
+          unit = unit;
+          period = period;
+          left =
+              sides.left;
+          right = sides.right;
+        } }
 {
     RuleFault {
         code,
@@ -53,7 +61,8 @@ fn thermal_sides(rule: RuleCode, unit: &Unit, response: &Response, place: usize)
     requires within { place < length (schedule_of response.now).on }
     requires horizon { length (schedule_of response.now).on ≤ 168 }
     requires window { length (thermal_of unit.now).window ≡ length (schedule_of response.now).on }
-    ensures { sides_of result ≡ thermal_broken rule (thermal_of unit.now) (schedule_of response.now) place }
+    ensures { sides_of result ≡ thermal_broken rule (thermal_of unit.now) (schedule_of response.now)
+        place }
 {
     match rule {
         RuleCode::MustRun => rules::must_run_sides(unit, response, place),
@@ -92,7 +101,8 @@ fn check_rule(
 ) -> Result<(), RuleFault>
     requires horizon { length (schedule_of response.now).on ≤ 168 }
     requires window { length (thermal_of unit.now).window ≡ length (schedule_of response.now).on }
-    ensures { Finds (rule_refusals (length (schedule_of response.now).on) number (thermal_of unit.now) (schedule_of response.now) rule) result }
+    ensures { Finds (rule_refusals (length (schedule_of response.now).on) number
+        (thermal_of unit.now) (schedule_of response.now) rule) result }
 {
     for place in 0..response.on.len() {
         if let Some(sides) = thermal_sides(rule, unit, response, place) {
@@ -112,7 +122,9 @@ fn check_rules(
 ) -> Result<(), RuleFault>
     requires horizon { length (schedule_of response.now).on ≤ 168 }
     requires window { length (thermal_of unit.now).window ≡ length (schedule_of response.now).on }
-    ensures { Finds (flat_map (rule_refusals (length (schedule_of response.now).on) number (thermal_of unit.now) (schedule_of response.now)) rules.now) result }
+    ensures { Finds
+        (flat_map (rule_refusals (length (schedule_of response.now).on) number (thermal_of unit.now)
+        (schedule_of response.now)) rules.now) result }
 {
     for rule in rules {
         check_rule(*rule, unit, response, number)?;
@@ -124,7 +136,8 @@ fn check_rules(
 fn check_thermal(unit: &Unit, response: &Response, number: u32) -> Result<(), RuleFault>
     requires horizon { length (schedule_of response.now).on ≤ 168 }
     requires window { length (thermal_of unit.now).window ≡ length (schedule_of response.now).on }
-    ensures { Finds (thermal_refusals (length (schedule_of response.now).on) number (thermal_of unit.now) (schedule_of response.now)) result }
+    ensures { Finds (thermal_refusals (length (schedule_of response.now).on) number
+        (thermal_of unit.now) (schedule_of response.now)) result }
 {
     check_rules(&THERMAL_RULES, unit, response, number)
 }
@@ -132,7 +145,8 @@ fn check_thermal(unit: &Unit, response: &Response, number: u32) -> Result<(), Ru
 // The first thermal unit that breaks a rule.
 fn check_thermals(case: &Case, plan: &Plan) -> Result<(), RuleFault>
     requires { HasPlanShape (market_of case.now) (schedules_of plan.now) }
-    ensures { Finds (all_thermal (market_of case.now).periods 1 (market_of case.now).thermal (schedules_of plan.now)) result }
+    ensures { Finds (all_thermal (market_of case.now).periods 1 (market_of case.now).thermal
+        (schedules_of plan.now)) result }
 {
     for place in 0..case.thermal.len() {
         let unit = case.thermal.get(place);
@@ -146,7 +160,8 @@ fn check_thermals(case: &Case, plan: &Plan) -> Result<(), RuleFault>
 fn renewable_sides(flat: &Renewable, response: &Response, place: usize) -> Option<Sides>
     requires schedule { place < length (schedule_of response.now).on }
     requires range { place < length (renewable_of flat.now).least }
-    ensures { sides_of result ≡ renewable_broken (renewable_of flat.now) (schedule_of response.now) place }
+    ensures { sides_of result ≡ renewable_broken (renewable_of flat.now) (schedule_of response.now)
+        place }
 {
     let power = response.power_at(place);
     let least = *flat.least.get(place);
@@ -158,7 +173,9 @@ fn renewable_sides(flat: &Renewable, response: &Response, place: usize) -> Optio
 fn check_renewable(flat: &Renewable, response: &Response, number: u32) -> Result<(), RuleFault>
     requires horizon { length (schedule_of response.now).on ≤ 168 }
     requires range { length (renewable_of flat.now).least ≡ length (schedule_of response.now).on }
-    ensures { Finds (told RuleCode.RenewableRange Kind.Renewable number (length (schedule_of response.now).on) 1 (renewable_broken (renewable_of flat.now) (schedule_of response.now))) result }
+    ensures { Finds (told RuleCode.RenewableRange Kind.Renewable number
+        (length (schedule_of response.now).on) 1
+        (renewable_broken (renewable_of flat.now) (schedule_of response.now))) result }
 {
     for place in 0..response.on.len() {
         if let Some(sides) = renewable_sides(flat, response, place) {
@@ -178,7 +195,8 @@ fn check_renewable(flat: &Renewable, response: &Response, number: u32) -> Result
 // The first renewable unit that is outside its range.
 fn check_renewables(case: &Case, plan: &Plan) -> Result<(), RuleFault>
     requires { HasPlanShape (market_of case.now) (schedules_of plan.now) }
-    ensures { Finds (all_renewable (market_of case.now).periods 1 (market_of case.now).flat (drop (length (market_of case.now).thermal) (schedules_of plan.now))) result }
+    ensures { Finds (all_renewable (market_of case.now).periods 1 (market_of case.now).flat
+        (drop (length (market_of case.now).thermal) (schedules_of plan.now))) result }
 {
     let first = case.thermal.len();
     for place in 0..case.flat.len() {
@@ -204,7 +222,8 @@ fn bid_sides(bid: &Bid, response: &Response, place: usize) -> Option<Sides>
 fn check_bid(bid: &Bid, response: &Response, number: u32) -> Result<(), RuleFault>
     requires horizon { length (schedule_of response.now).on ≤ 168 }
     requires blocks { length (bid_of bid.now).blocks ≡ length (schedule_of response.now).on }
-    ensures { Finds (told RuleCode.BidRange Kind.Bid number (length (schedule_of response.now).on) 1 (bid_broken (bid_of bid.now) (schedule_of response.now))) result }
+    ensures { Finds (told RuleCode.BidRange Kind.Bid number (length (schedule_of response.now).on) 1
+        (bid_broken (bid_of bid.now) (schedule_of response.now))) result }
 {
     for place in 0..response.on.len() {
         if let Some(sides) = bid_sides(bid, response, place) {
@@ -218,7 +237,9 @@ fn check_bid(bid: &Bid, response: &Response, number: u32) -> Result<(), RuleFaul
 // The first bid that buys more than its blocks.
 fn check_bids(case: &Case, plan: &Plan) -> Result<(), RuleFault>
     requires { HasPlanShape (market_of case.now) (schedules_of plan.now) }
-    ensures { Finds (all_bids (market_of case.now).periods 1 (market_of case.now).bids (drop (length (market_of case.now).thermal + length (market_of case.now).flat) (schedules_of plan.now))) result }
+    ensures { Finds (all_bids (market_of case.now).periods 1 (market_of case.now).bids
+        (drop (length (market_of case.now).thermal + length (market_of case.now).flat)
+        (schedules_of plan.now))) result }
 {
     let first = case.thermal.len() + case.flat.len();
     for place in 0..case.bids.len() {
@@ -232,7 +253,8 @@ fn check_bids(case: &Case, plan: &Plan) -> Result<(), RuleFault>
 // The first period in which the powers don't sum to demand.
 fn check_balance(case: &Case, plan: &Plan) -> Result<(), RuleFault>
     requires { HasPlanShape (market_of case.now) (schedules_of plan.now) }
-    ensures { Finds (told RuleCode.Balance Kind.Case 0 (market_of case.now).periods 1 (balance_broken (market_of case.now) (schedules_of plan.now))) result }
+    ensures { Finds (told RuleCode.Balance Kind.Case 0 (market_of case.now).periods 1
+        (balance_broken (market_of case.now) (schedules_of plan.now))) result }
 {
     for place in 0..case.periods {
         if let Some(sides) = totals::balance_sides(case, plan, place as usize) {
@@ -245,7 +267,8 @@ fn check_balance(case: &Case, plan: &Plan) -> Result<(), RuleFault>
 // The first period in which the reserves sum to less than the requirement.
 fn check_reserve(case: &Case, plan: &Plan) -> Result<(), RuleFault>
     requires { HasPlanShape (market_of case.now) (schedules_of plan.now) }
-    ensures { Finds (told RuleCode.Reserve Kind.Case 0 (market_of case.now).periods 1 (reserve_broken (market_of case.now) (schedules_of plan.now))) result }
+    ensures { Finds (told RuleCode.Reserve Kind.Case 0 (market_of case.now).periods 1
+        (reserve_broken (market_of case.now) (schedules_of plan.now))) result }
 {
     for place in 0..case.periods {
         if let Some(sides) = totals::reserve_sides(case, plan, place as usize) {
@@ -255,8 +278,9 @@ fn check_reserve(case: &Case, plan: &Plan) -> Result<(), RuleFault>
     Ok(())
 }
 
-// The first rule that the plan breaks: the rules of the thermal units in order, then the ranges of the renewable units,
-// then those of the bids, then the balance and then the reserve, each over rising periods.
+// The first rule that the plan breaks: the rules of the thermal units in order, then the ranges of
+// the renewable units, then those of the bids, then the balance and then the reserve, each over
+// rising periods.
 fn check_all(case: &Case, plan: &Plan) -> Result<(), RuleFault>
     requires { HasPlanShape (market_of case.now) (schedules_of plan.now) }
     ensures { Finds (refusals (market_of case.now) (schedules_of plan.now)) result }
@@ -268,15 +292,19 @@ fn check_all(case: &Case, plan: &Plan) -> Result<(), RuleFault>
     check_reserve(case, plan)
 }
 
-/// The cost of the plan in money, where the plan is feasible; it may be below 0, since what bids buy counts below 0.
-/// Otherwise the first rule that it breaks: thermal units in order and for each its rules in order, then renewable
-/// units, then bids, then the balance, then the reserve, each over rising periods. The plan has a response for each unit
-/// over the whole horizon, and those of renewable units and bids are on in every period with reserve 0. Takes no memory.
+/// The cost of the plan in money, where the plan is feasible; it may be below 0, since what bids
+/// buy counts below 0. Otherwise the first rule that it breaks: thermal units in order and for each
+/// its rules in order, then renewable units, then bids, then the balance, then the reserve, each
+/// over rising periods. The plan has a response for each unit over the whole horizon, and those of
+/// renewable units and bids are on in every period with reserve 0. Takes no memory.
 pub fn check_plan(case: &Case, plan: &Plan) -> Result<i128, RuleFault>
     requires { HasPlanShape (market_of case.now) (schedules_of plan.now) }
-    ensures cost { IfOk result (λ cost. cost ≡ plan_cost (market_of case.now) (schedules_of plan.now)) }
+    ensures cost { IfOk result (λ cost. cost ≡ plan_cost (market_of case.now)
+        (schedules_of plan.now)) }
     ensures feasible { IsOk result ↔ IsFeasiblePlan (market_of case.now) (schedules_of plan.now) }
-    ensures refused { IfErr result (λ f. slice_get (refusals (market_of case.now) (schedules_of plan.now)) 0 ≡ Some (refusal_of f)) }
+    ensures refused { IfErr result
+        (λ f. slice_get (refusals (market_of case.now) (schedules_of plan.now)) 0
+        ≡ Some (refusal_of f)) }
 {
     check_all(case, plan)?;
     Ok(costs::cost_of_plan(case, plan))

@@ -23,7 +23,8 @@ use uc_model::units::{Bid, Block, Response, Unit};
 // What the power at a place costs.
 fn power_cost(unit: &Unit, response: &Response, place: usize) -> i64
     requires within { place < length (schedule_of response.now).on }
-    requires feasible { IsThermalFeasible (thermal_of unit.now) (length (schedule_of response.now).on) (schedule_of response.now) }
+    requires feasible { IsThermalFeasible (thermal_of unit.now)
+        (length (schedule_of response.now).on) (schedule_of response.now) }
     ensures value { result ≡ production_at (thermal_of unit.now) (schedule_of response.now) place }
     ensures limit { IsCost result }
 {
@@ -36,7 +37,8 @@ fn power_cost(unit: &Unit, response: &Response, place: usize) -> i64
 /// What the powers of a schedule cost.
 pub fn power_costs(unit: &Unit, response: &Response) -> i64
     requires horizon { length (schedule_of response.now).on ≤ MOST_PERIODS }
-    requires feasible { IsThermalFeasible (thermal_of unit.now) (length (schedule_of response.now).on) (schedule_of response.now) }
+    requires feasible { IsThermalFeasible (thermal_of unit.now)
+        (length (schedule_of response.now).on) (schedule_of response.now) }
     ensures value { result ≡ production_cost (thermal_of unit.now) (schedule_of response.now) }
     ensures limit { IsFrom (neg_ℤ (pos 2000000000000000)) (pos 2000000000000000) result }
 {
@@ -58,7 +60,8 @@ fn time_before(unit: &Unit) -> u64
 fn time_after(response: &Response, place: usize, down: u64) -> u64
     requires within { place < length (schedule_of response.now).on }
     requires limit { down < 1000000000 }
-    ensures { result ≡ (if slice_index_or (schedule_of response.now).on place false then 0 else suc down) }
+    ensures { result ≡ (if slice_index_or (schedule_of response.now).on place false then 0 else suc
+        down) }
 {
     if response.is_on(place) {
         return 0;
@@ -109,7 +112,8 @@ fn with_block(bought: Bought, block: &Block) -> Bought
     requires block { IsBlock block.now }
     requires worth { IsFrom (pos 0) (pos 900000000000000000) bought.worth }
     requires rest { IsFrom (pos 0) (pos 4294967296) bought.rest }
-    ensures worth { result.worth ≡ bought.worth +ℤ (block.now.price *ℤ int_min bought.rest block.now.width) }
+    ensures worth { result.worth ≡ bought.worth
+        +ℤ (block.now.price *ℤ int_min bought.rest block.now.width) }
     ensures rest { result.rest ≡ bought.rest -ℤ int_min bought.rest block.now.width }
     ensures worth_limit { IsFrom (pos 0) (bought.worth +ℤ pos 10000000000000000) result.worth }
     ensures rest_limit { IsFrom (pos 0) (pos 4294967296) result.rest }
@@ -157,7 +161,8 @@ pub fn worth(bid: &Bid, response: &Response) -> i128
 fn thermal_costs(case: &Case, plan: &Plan) -> i128
     requires shape { HasPlanShape (market_of case.now) (schedules_of plan.now) }
     requires feasible { IsFeasiblePlan (market_of case.now) (schedules_of plan.now) }
-    ensures value { result ≡ sum_over cost_of (thermal_units (market_of case.now)) (schedules_of plan.now) }
+    ensures value { result ≡ sum_over cost_of (thermal_units (market_of case.now))
+        (schedules_of plan.now) }
     ensures limit { IsFrom (neg_ℤ (pos 20000000000000000000)) (pos 20000000000000000000) result }
 {
     let mut sum = 0;
@@ -172,7 +177,10 @@ fn thermal_costs(case: &Case, plan: &Plan) -> i128
 // What the schedules of the bids are worth.
 fn worth_of_bids(case: &Case, plan: &Plan) -> i128
     requires { HasPlanShape (market_of case.now) (schedules_of plan.now) }
-    ensures value { result ≡ neg_ℤ (sum_over cost_of (bid_units (market_of case.now)) (drop (length (market_of case.now).thermal + length (market_of case.now).flat) (schedules_of plan.now))) }
+    ensures value { result
+        ≡ neg_ℤ (sum_over cost_of (bid_units (market_of case.now))
+        (drop (length (market_of case.now).thermal + length (market_of case.now).flat)
+        (schedules_of plan.now))) }
     ensures limit { IsFrom (pos 0) (pos 100000000000000000000000) result }
 {
     let first = case.producer_count();

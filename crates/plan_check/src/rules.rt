@@ -95,7 +95,8 @@ fn state_in(unit: &Unit, response: &Response, period: usize) -> State
 /// A must-run unit is on.
 pub fn must_run_sides(unit: &Unit, response: &Response, place: usize) -> Option<Sides>
     requires { place < length (schedule_of response.now).on }
-    ensures { sides_of result ≡ must_run_broken (thermal_of unit.now) (schedule_of response.now) place }
+    ensures { sides_of result ≡ must_run_broken (thermal_of unit.now) (schedule_of response.now)
+        place }
 {
     let on = state_at(unit, response, place).on;
     unless(!(unit.must_run && !on), 0, 1)
@@ -103,7 +104,8 @@ pub fn must_run_sides(unit: &Unit, response: &Response, place: usize) -> Option<
 
 // The periods from 1 on in which the unit stays as it was before.
 fn initial_time(unit: &Unit) -> u32
-    ensures { result ≡ (if unit.now.on0 then unit.now.min_up - unit.now.up0 else unit.now.min_down - unit.now.down0) }
+    ensures { result ≡ (if unit.now.on0 then unit.now.min_up - unit.now.up0 else unit.now.min_down
+        - unit.now.down0) }
 {
     if unit.on0 {
         unit.min_up.saturating_sub(unit.up0)
@@ -115,7 +117,8 @@ fn initial_time(unit: &Unit) -> u32
 /// A unit stays as it was before the horizon until its minimum time is over.
 pub fn initial_sides(unit: &Unit, response: &Response, place: usize) -> Option<Sides>
     requires { place < length (schedule_of response.now).on }
-    ensures { sides_of result ≡ initial_broken (thermal_of unit.now) (schedule_of response.now) place }
+    ensures { sides_of result ≡ initial_broken (thermal_of unit.now) (schedule_of response.now)
+        place }
 {
     if initial_time(unit) as usize <= place {
         return None;
@@ -158,7 +161,8 @@ fn run_sides(since: Option<usize>, end: usize, minimum: u32) -> Option<Sides>
 pub fn min_up_sides(unit: &Unit, response: &Response, place: usize) -> Option<Sides>
     requires within { place < length (schedule_of response.now).on }
     requires horizon { length (schedule_of response.now).on ≤ 168 }
-    ensures { sides_of result ≡ min_up_broken (thermal_of unit.now) (schedule_of response.now) place }
+    ensures { sides_of result ≡ min_up_broken (thermal_of unit.now) (schedule_of response.now)
+        place }
 {
     if !on_in_period(unit, response, place) {
         return None;
@@ -173,7 +177,8 @@ pub fn min_up_sides(unit: &Unit, response: &Response, place: usize) -> Option<Si
 pub fn min_down_sides(unit: &Unit, response: &Response, place: usize) -> Option<Sides>
     requires within { place < length (schedule_of response.now).on }
     requires horizon { length (schedule_of response.now).on ≤ 168 }
-    ensures { sides_of result ≡ min_down_broken (thermal_of unit.now) (schedule_of response.now) place }
+    ensures { sides_of result ≡ min_down_broken (thermal_of unit.now) (schedule_of response.now)
+        place }
 {
     if on_in_period(unit, response, place) {
         return None;
@@ -198,10 +203,12 @@ pub fn first_of(first: Option<Sides>, second: Option<Sides>) -> Option<Sides>
     }
 }
 
-/// An on unit gives at least its least power, and with reserve at most its greatest; an off unit gives nothing.
+/// An on unit gives at least its least power, and with reserve at most its greatest; an off unit
+/// gives nothing.
 pub fn range_sides(unit: &Unit, response: &Response, place: usize) -> Option<Sides>
     requires { place < length (schedule_of response.now).on }
-    ensures { sides_of result ≡ range_broken (thermal_of unit.now) (schedule_of response.now) place }
+    ensures { sides_of result ≡ range_broken (thermal_of unit.now) (schedule_of response.now)
+        place }
 {
     let power = response.power_at(place);
     let now = state_at(unit, response, place);
@@ -224,7 +231,8 @@ fn limit_within(unit: &Unit, limit: i64) -> i64
 /// In a start period the output is within the start limit.
 pub fn start_sides(unit: &Unit, response: &Response, place: usize) -> Option<Sides>
     requires { place < length (schedule_of response.now).on }
-    ensures { sides_of result ≡ start_broken (thermal_of unit.now) (schedule_of response.now) place }
+    ensures { sides_of result ≡ start_broken (thermal_of unit.now) (schedule_of response.now)
+        place }
 {
     if on_in_period(unit, response, place) {
         return None;
@@ -239,7 +247,8 @@ pub fn start_sides(unit: &Unit, response: &Response, place: usize) -> Option<Sid
 /// In the last on period before a stop the output is within the stop limit.
 pub fn stop_sides(unit: &Unit, response: &Response, period: usize) -> Option<Sides>
     requires { period < length (schedule_of response.now).on }
-    ensures { sides_of result ≡ stop_broken (thermal_of unit.now) (schedule_of response.now) period }
+    ensures { sides_of result ≡ stop_broken (thermal_of unit.now) (schedule_of response.now)
+        period }
 {
     let last = state_in(unit, response, period);
     if !last.on {
@@ -254,7 +263,8 @@ pub fn stop_sides(unit: &Unit, response: &Response, period: usize) -> Option<Sid
 // How far the power with reserve rises above the power of the period before.
 fn rise_at(unit: &Unit, response: &Response, place: usize) -> i64
     requires { place < length (schedule_of response.now).on }
-    ensures { result ≡ above_with_reserve (thermal_of unit.now) (schedule_of response.now) (suc place)
+    ensures { result ≡ above_with_reserve (thermal_of unit.now) (schedule_of response.now)
+        (suc place)
         -ℤ above_min (thermal_of unit.now) (schedule_of response.now) place }
 {
     let before = state_in(unit, response, place);
@@ -276,7 +286,8 @@ fn fall_at(unit: &Unit, response: &Response, place: usize) -> i64
 /// The power with reserve rises by at most the ramp.
 pub fn ramp_up_sides(unit: &Unit, response: &Response, place: usize) -> Option<Sides>
     requires { place < length (schedule_of response.now).on }
-    ensures { sides_of result ≡ ramp_up_broken (thermal_of unit.now) (schedule_of response.now) place }
+    ensures { sides_of result ≡ ramp_up_broken (thermal_of unit.now) (schedule_of response.now)
+        place }
 {
     let rise = rise_at(unit, response, place);
     at_most(rise, unit.ramp_up)
@@ -285,7 +296,8 @@ pub fn ramp_up_sides(unit: &Unit, response: &Response, place: usize) -> Option<S
 /// The power falls by at most the ramp.
 pub fn ramp_down_sides(unit: &Unit, response: &Response, place: usize) -> Option<Sides>
     requires { place < length (schedule_of response.now).on }
-    ensures { sides_of result ≡ ramp_down_broken (thermal_of unit.now) (schedule_of response.now) place }
+    ensures { sides_of result ≡ ramp_down_broken (thermal_of unit.now) (schedule_of response.now)
+        place }
 {
     let fall = fall_at(unit, response, place);
     at_most(fall, unit.ramp_down)
@@ -295,7 +307,8 @@ pub fn ramp_down_sides(unit: &Unit, response: &Response, place: usize) -> Option
 pub fn window_sides(unit: &Unit, response: &Response, place: usize) -> Option<Sides>
     requires within { place < length (schedule_of response.now).on }
     requires window { length (thermal_of unit.now).window ≡ length (schedule_of response.now).on }
-    ensures { sides_of result ≡ window_broken (thermal_of unit.now) (schedule_of response.now) place }
+    ensures { sides_of result ≡ window_broken (thermal_of unit.now) (schedule_of response.now)
+        place }
 {
     let on = on_in_period(unit, response, place + 1);
     match *unit.window.get(place) {

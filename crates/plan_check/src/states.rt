@@ -11,8 +11,8 @@ pub struct Sides {
     pub right: i64,
 }
 
-/// Kilowatts of a unit in a period: the power above the least power, which is 0 in an off period, the reserve, and the
-/// output, which is power with reserve. All are within 20,000,000,000.
+/// Kilowatts of a unit in a period: the power above the least power, which is 0 in an off period,
+/// the reserve, and the output, which is power with reserve. All are within 20,000,000,000.
 #[derive(Clone, Copy)]
 pub struct State {
     pub on: bool,

@@ -51,7 +51,12 @@ fn small_case(alloc: Global, demand: i64) -> Result<Case, AllocError>
 
 // A schedule with that power.
 fn small_plan(alloc: Global, power: u32) -> Result<Plan, AllocError>
-    ensures { IfOk result (λ p. schedules_of p ≡ record { on = true ∷ []; power = power ∷ []; reserve = 0 ∷ [] } ∷ []) }
+    ensures { IfOk result (λ p. schedules_of p ≡ record {
+      on = true ∷ [];
+      power =
+          power ∷ [];
+      reserve = 0 ∷ [];
+    } ∷ []) }
 {
     let on = Flags::filled(alloc, 1, true)?;
     let power = Powers::filled(alloc, 1, power)?;

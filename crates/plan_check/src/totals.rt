@@ -32,7 +32,8 @@ fn with_response(totals: Totals, response: &Response, place: usize) -> Totals
     requires power { IsFrom (pos 0) (pos 1000000000000000) totals.power }
     requires reserve { IsFrom (pos 0) (pos 1000000000000000) totals.reserve }
     ensures power { result.power ≡ totals.power +ℤ power_in (schedule_of response.now) (suc place) }
-    ensures reserve { result.reserve ≡ totals.reserve +ℤ reserve_in (schedule_of response.now) (suc place) }
+    ensures reserve { result.reserve ≡ totals.reserve
+        +ℤ reserve_in (schedule_of response.now) (suc place) }
     ensures power_limit { IsFrom (pos 0) (totals.power +ℤ pos 4294967296) result.power }
     ensures reserve_limit { IsFrom (pos 0) (totals.reserve +ℤ pos 4294967296) result.reserve }
 {
@@ -65,7 +66,8 @@ fn totals_at(responses: &[Response], place: usize) -> Totals
 fn net_power(case: &Case, plan: &Plan, place: usize) -> i64
     requires shape { HasPlanShape (market_of case.now) (schedules_of plan.now) }
     requires within { place < (market_of case.now).periods }
-    ensures value { result ≡ total_power (units (market_of case.now)) (schedules_of plan.now) place }
+    ensures value { result ≡ total_power (units (market_of case.now)) (schedules_of plan.now)
+        place }
     ensures limit { IsFrom (neg_ℤ (pos 100000000000000)) (pos 100000000000000) result }
 {
     let producers = case.producer_count();
@@ -104,7 +106,8 @@ pub fn reserves_in(case: &Case, plan: &Plan, place: usize) -> Reserves
     requires shape { HasPlanShape (market_of case.now) (schedules_of plan.now) }
     requires within { place < (market_of case.now).periods }
     ensures required { result.required ≡ int_at (market_of case.now).reserves place }
-    ensures given { result.given ≡ total_reserve (units (market_of case.now)) (schedules_of plan.now) place }
+    ensures given { result.given ≡ total_reserve (units (market_of case.now))
+        (schedules_of plan.now) place }
     ensures required_limit { IsPower result.required }
     ensures given_limit { IsFrom (pos 0) (pos 100000000000000) result.given }
 {

@@ -1,5 +1,6 @@
 -- The price rule, side by side for energy and reserve (this project's profile).
-use Rattle.std.specs.Prelude.{ℕ, ◌-◌, ℤ, pos, neg_ℤ, ◌+ℤ◌, ◌*ℤ◌, Bool, false, int_div, List, length, map, slice_get}
+use Rattle.std.specs.Prelude.{ℕ, ◌-◌, ℤ, pos, neg_ℤ, ◌+ℤ◌, ◌*ℤ◌, Bool, false, int_div, List, length}
+use Rattle.std.specs.Prelude.{map, slice_get}
 use Rattle.std.specs.Option.{option_map_or}
 use Rattle.price_move.specs.declared.entries.Side.{Side}
 use Rattle.price_move.specs.declared.entries.Side.TheVariants.{Energy, Reserve}
@@ -24,10 +25,14 @@ direction_on m r Reserve k = reserve_direction m r k
 abbrev pub values_of : List Proposal → List ℤ
 values_of rows = map (λ (r : Proposal). r.value) rows
 
--- the price at a place after a step of that gap over that scale, cut toward zero and kept within its limits
+-- the price at a place after a step of that gap over that scale, cut toward zero and kept within
+-- its limits
 unfoldable pub price_after : Market → Proposal → ℤ → ℤ → Side → ℕ → ℤ
-price_after m r gap scale side k = clamped (low_of side) price_limit (int_at (prices_on side r) k +ℤ int_div (gap *ℤ direction_on m r side k) scale)
+price_after m r gap scale side k =
+    clamped (low_of side) price_limit (int_at (prices_on side r) k
+    +ℤ int_div (gap *ℤ direction_on m r side k) scale)
 
 -- whether the last of these rows is settled
 abbrev pub is_last_settled : Market → ℤ → List Proposal → Bool
-is_last_settled m cost rows = option_map_or (is_settled m cost) (slice_get rows (length rows - 1)) false
+is_last_settled m cost rows =
+    option_map_or (is_settled m cost) (slice_get rows (length rows - 1)) false

@@ -12,7 +12,8 @@ use uc_model::cases::Row;
 fn better_of(rows: &[Row], best: usize, later: usize) -> usize
     requires best { best < length rows.now }
     requires later { later < length rows.now }
-    ensures { result ≡ (if int_lt (int_at (values_of (map proposal_of rows.now)) best) (int_at (values_of (map proposal_of rows.now)) later) then later else best) }
+    ensures { result ≡ (if int_lt (int_at (values_of (map proposal_of rows.now)) best)
+        (int_at (values_of (map proposal_of rows.now)) later) then later else best) }
 {
     if rows[best].value < rows[later].value {
         return later;
@@ -35,8 +36,8 @@ pub fn greatest(rows: &[Row]) -> usize
     best
 }
 
-/// The place of the first row with the greatest value among those up to and with `last`, where `best` is that place among
-/// those before it, if there are some.
+/// The place of the first row with the greatest value among those up to and with `last`, where
+/// `best` is that place among those before it, if there are some.
 pub fn greatest_with(rows: &[Row], last: usize, best: usize) -> usize
     requires last { last < length rows.now }
     requires best { 0 < last → IsFirstUpTo (values_of (map proposal_of rows.now)) last best }

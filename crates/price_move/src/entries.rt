@@ -75,10 +75,10 @@ pub fn entry_on(case: &Case, row: &Row, side: Side, k: usize) -> i64
     }
 }
 
-/// The entry of the direction at a price place, in kilowatts: what the row's totals lack of demand, at the energy prices'
-/// places 0 to T - 1, and of the required reserve, at the reserve prices' places T to 2T - 1. It is 0 where it would lead
-/// past the limit at which the price stands. The row is over the periods of the case, with totals of at most 10^13 in
-/// magnitude.
+/// The entry of the direction at a price place, in kilowatts: what the row's totals lack of demand,
+/// at the energy prices' places 0 to T - 1, and of the required reserve, at the reserve prices'
+/// places T to 2T - 1. It is 0 where it would lead past the limit at which the price stands. The
+/// row is over the periods of the case, with totals of at most 10^13 in magnitude.
 pub fn direction(case: &Case, row: &Row, place: u32) -> i64
     requires row { IsRowOver (market_of case.now) (proposal_of row.now) }
     requires place { place < 2 * (market_of case.now).periods }

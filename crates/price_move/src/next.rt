@@ -22,7 +22,8 @@ use uc_model::units::Prices;
 pub enum Moved {
     /// They do.
     Made,
-    /// The last row's value is the cost of the plan, or its direction is 0 throughout: no step is left.
+    /// The last row's value is the cost of the plan, or its direction is 0 throughout: no step is
+    /// left.
     Settled,
 }
 
@@ -54,32 +55,37 @@ fn is_still(gap: i128, norm: i128) -> bool
 // The last of the rows.
 fn last(rows: &[Row]) -> &Row
     requires { 0 < length rows.now }
-    ensures { slice_get (map proposal_of rows.now) (length (map proposal_of rows.now) - 1) ≡ Some (proposal_of result.now) }
+    ensures { slice_get (map proposal_of rows.now) (length (map proposal_of rows.now) - 1)
+        ≡ Some (proposal_of result.now) }
 {
     &rows[rows.len() - 1]
 }
 
-/// Leaves in `into` the prices of proposal m + `ahead`, where `rows` are the rows 1 to m: each price of row m moves by
-/// gap * d / (N * 2^h), cut toward zero, and is kept within its limits. There d is its entry of the direction, N the sum
-/// of the squares of all entries, the gap is `cost` less the value of row m, and h is the least of 20 and a tenth of the
-/// rows that have come since the first with the greatest value. Where row m is settled, which is where the gap or N is 0,
-/// the answer is `Settled` and `into` is unchanged. Rows and `into` are over the periods of the case; values and `cost`
-/// are at most 10^24 and totals 10^13 in magnitude, and no value is above `cost`, the cost of a feasible plan. Takes no
-/// memory.
+/// Leaves in `into` the prices of proposal m + `ahead`, where `rows` are the rows 1 to m: each
+/// price of row m moves by gap * d / (N * 2^h), cut toward zero, and is kept within its limits.
+/// There d is its entry of the direction, N the sum of the squares of all entries, the gap is
+/// `cost` less the value of row m, and h is the least of 20 and a tenth of the rows that have come
+/// since the first with the greatest value. Where row m is settled, which is where the gap or N is
+/// 0, the answer is `Settled` and `into` is unchanged. Rows and `into` are over the periods of the
+/// case; values and `cost` are at most 10^24 and totals 10^13 in magnitude, and no value is above
+/// `cost`, the cost of a feasible plan. Takes no memory.
 pub fn next_prices(case: &Case, rows: &[Row], ahead: u32, cost: i128, into: &mut Prices) -> Moved
     requires some { 1 ≤ length rows.now }
     requires count { length rows.now ≤ MOST_PROPOSALS }
     requires rows { All (IsRowBelow (market_of case.now) cost) (map proposal_of rows.now) }
     requires cost { IsWorth cost }
     requires horizon { length (prices_of into.old).energy ≡ (market_of case.now).periods }
-    ensures settled { (result ≡ Moved.Settled) ↔ IsTrue (is_last_settled (market_of case.now) cost (map proposal_of rows.now)) }
-    ensures made { result ≡ Moved.Made → prices_of into.new ≡ prices_after (market_of case.now) cost (map proposal_of rows.now) }
+    ensures settled { (result ≡ Moved.Settled)
+        ↔ IsTrue (is_last_settled (market_of case.now) cost (map proposal_of rows.now)) }
+    ensures made { result ≡ Moved.Made → prices_of into.new
+        ≡ prices_after (market_of case.now) cost (map proposal_of rows.now) }
     ensures unchanged { result ≡ Moved.Settled → prices_of into.new ≡ prices_of into.old }
 {
     next_prices_from(case, rows, greatest(rows), cost, into)
 }
 
-/// The same in time that doesn't grow with the rows, where `best` is the place of the first row with the greatest value.
+/// The same in time that doesn't grow with the rows, where `best` is the place of the first row
+/// with the greatest value.
 pub fn next_prices_from(
     case: &Case,
     rows: &[Row],
@@ -92,8 +98,10 @@ pub fn next_prices_from(
     requires rows { All (IsRowBelow (market_of case.now) cost) (map proposal_of rows.now) }
     requires cost { IsWorth cost }
     requires horizon { length (prices_of into.old).energy ≡ (market_of case.now).periods }
-    ensures settled { (result ≡ Moved.Settled) ↔ IsTrue (is_last_settled (market_of case.now) cost (map proposal_of rows.now)) }
-    ensures made { result ≡ Moved.Made → prices_of into.new ≡ prices_after (market_of case.now) cost (map proposal_of rows.now) }
+    ensures settled { (result ≡ Moved.Settled)
+        ↔ IsTrue (is_last_settled (market_of case.now) cost (map proposal_of rows.now)) }
+    ensures made { result ≡ Moved.Made → prices_of into.new
+        ≡ prices_after (market_of case.now) cost (map proposal_of rows.now) }
     ensures unchanged { result ≡ Moved.Settled → prices_of into.new ≡ prices_of into.old }
 {
     let row = last(rows);

@@ -62,14 +62,16 @@ pub fn scale_of(norm: i128, age: usize) -> i128
     norm * i128::from(doublings(age))
 }
 
-/// How far an entry moves its price, cut toward zero: the product is below 4 * 10^37, and a 128-bit number reaches
+/// How far an entry moves its price, cut toward zero: the product is below 4 * 10^37, and a 128-bit
+/// number reaches
 /// 1.7 * 10^38.
 pub fn move_along(step: Step, entry: i64) -> i128
     requires gap { IsFrom (pos 0) (pos 2000000000000000000000000) step.gap }
     requires scale { IsFrom (pos 1) (pos 1000000000000000000000000000000000000) step.scale }
     requires entry { IsEntry entry }
     ensures value { result ≡ int_div (step.gap *ℤ entry) step.scale }
-    ensures bound { IsFrom (neg_ℤ (pos 40000000000000000000000000000000000000)) (pos 40000000000000000000000000000000000000) result }
+    ensures bound { IsFrom (neg_ℤ (pos 40000000000000000000000000000000000000))
+        (pos 40000000000000000000000000000000000000) result }
 {
     step.gap * i128::from(entry) / step.scale
 }
@@ -101,7 +103,8 @@ fn price_after(case: &Case, row: &Row, step: Step, side: Side, k: usize) -> i64
     requires gap { IsFrom (pos 0) (pos 2000000000000000000000000) step.gap }
     requires scale { IsFrom (pos 1) (pos 1000000000000000000000000000000000000) step.scale }
     requires place { k < (market_of case.now).periods }
-    ensures { result ≡ price_after_step (market_of case.now) (proposal_of row.now) step.gap step.scale side k }
+    ensures { result ≡ price_after_step (market_of case.now) (proposal_of row.now) step.gap
+        step.scale side k }
 {
     let by = move_along(step, entry_on(case, row, side, k));
     price_near(low_limit(side), i128::from(price_on(row, side, k)) + by)
@@ -113,7 +116,9 @@ pub fn take_step(case: &Case, row: &Row, step: Step, side: Side, into: &mut Numb
     requires gap { IsFrom (pos 0) (pos 2000000000000000000000000) step.gap }
     requires scale { IsFrom (pos 1) (pos 1000000000000000000000000000000000000) step.scale }
     requires length { length into.old.items ≡ (market_of case.now).periods }
-    ensures prices { into.new.items ≡ map (price_after_step (market_of case.now) (proposal_of row.now) step.gap step.scale side) (range_with_len 0 (market_of case.now).periods) }
+    ensures prices { into.new.items
+        ≡ map (price_after_step (market_of case.now) (proposal_of row.now) step.gap step.scale side)
+        (range_with_len 0 (market_of case.now).periods) }
     ensures limits { All (IsFrom (low_of side) price_limit) into.new.items }
     ensures same_length { length into.new.items ≡ length into.old.items }
     ensures spare { into.new.spare ≡ into.old.spare }

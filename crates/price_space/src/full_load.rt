@@ -17,7 +17,8 @@ fn cost_per_kilowatt(cost: i64, power: i64) -> i64
     -(-cost).div_euclid(power)
 }
 
-/// The cost for each kilowatt at the unit's greatest power, rounded up, and 0 where that power is 0.
+/// The cost for each kilowatt at the unit's greatest power, rounded up, and 0 where that power is
+/// 0.
 pub fn full_load_price(unit: &Unit) -> i64
     ensures { result ≡ full_load_price_of (thermal_of unit.now) }
 {

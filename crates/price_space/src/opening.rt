@@ -49,9 +49,9 @@ fn write_zeros(into: &mut Numbers)
     }
 }
 
-/// Leaves in `into` the prices of the opening proposal `n`, from 1 to 16: each energy price is (7 + n) / 8 of the start
-/// price, rounded down and kept within the limits of a price, and each reserve price is 0. The lists are over the same
-/// periods. Takes no memory.
+/// Leaves in `into` the prices of the opening proposal `n`, from 1 to 16: each energy price is (7 +
+/// n) / 8 of the start price, rounded down and kept within the limits of a price, and each reserve
+/// price is 0. The lists are over the same periods. Takes no memory.
 pub fn opening_prices(start: &Numbers, n: u32, into: &mut Prices)
     requires least { 1 ≤ n }
     requires most { n ≤ 16 }

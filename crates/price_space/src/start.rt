@@ -1,13 +1,16 @@
 //! The start price of each period.
-ghost use Rattle.std.specs.Prelude.{◌≡◌, ◌≤◌, ◌<◌, ℤ, pos, neg_ℤ, ◌+ℤ◌, ◌-ℤ◌, ◌-◌, IfOk, length, map, slice_get};
+ghost use Rattle.std.specs.Prelude.{◌≡◌, ◌≤◌, ◌<◌, ℤ, pos, neg_ℤ, ◌+ℤ◌, ◌-ℤ◌, ◌-◌, IfOk, length};
+ghost use Rattle.std.specs.Prelude.{map, slice_get};
 ghost use Rattle.std.specs.List.{All};
 ghost use Rattle.std.specs.Option.{option_map_or};
 ghost use Rattle.uc_model.specs.Limits.{IsFrom, IsOutput};
 ghost use Rattle.uc_model.specs.PlainCases.{market_of};
 ghost use Rattle.uc_model.specs.PlainUnits.{thermal_of, named_renewable_of};
-ghost use Rattle.uc_model.specs.PriceRule.{start_price as start_price_of_market, start_prices as start_prices_of};
+ghost use Rattle.uc_model.specs.PriceRule.{start_price as start_price_of_market};
+ghost use Rattle.uc_model.specs.PriceRule.{start_prices as start_prices_of};
 ghost use Rattle.uc_model.specs.Sums.{int_at};
-ghost use Rattle.price_space.specs.Starts.{priced_of, renewable_power_of, AreRisingUnits, IsRising, IsStartPrice};
+ghost use Rattle.price_space.specs.Starts.{priced_of, renewable_power_of, AreRisingUnits, IsRising};
+ghost use Rattle.price_space.specs.Starts.{IsStartPrice};
 
 use crate::full_load::full_load_price;
 use std::alloc::{AllocError, Global};
@@ -32,7 +35,8 @@ fn priced_unit(unit: &Unit) -> Priced
 }
 
 fn priced_units(alloc: Global, case: &Case) -> Result<Vec<Priced>, AllocError>
-    ensures { IfOk result (λ v. v.items ≡ map (λ n. priced_of (thermal_of n.unit)) case.now.thermal.items) }
+    ensures { IfOk result (λ v. v.items ≡ map (λ n. priced_of (thermal_of n.unit))
+        case.now.thermal.items) }
 {
     case.thermal
         .as_slice()
@@ -52,7 +56,8 @@ fn rising_units(alloc: Global, case: &Case) -> Result<Vec<Priced>, AllocError>
 
 // The price of the last unit, and 0 where there is none.
 fn last_price(units: &[Priced]) -> i64
-    ensures { result ≡ option_map_or (λ u. u.price) (slice_get units.now (length units.now - 1)) (pos 0) }
+    ensures { result ≡ option_map_or (λ u. u.price) (slice_get units.now (length units.now - 1))
+        (pos 0) }
 {
     match units.last() {
         Some(unit) => unit.price,
@@ -102,7 +107,8 @@ fn renewable_power(case: &Case, k: usize) -> u64
 // What a period's demand lacks of the renewable units' greatest power; it may be below 0.
 fn short_in(case: &Case, k: usize) -> i64
     requires { k < (market_of case.now).periods }
-    ensures { result ≡ int_at (market_of case.now).demand k -ℤ renewable_power_of (market_of case.now) k }
+    ensures { result ≡ int_at (market_of case.now).demand k
+        -ℤ renewable_power_of (market_of case.now) k }
 {
     *case.demand.get(k) - renewable_power(case, k) as i64
 }
@@ -115,9 +121,10 @@ fn start_price(case: &Case, units: &[Priced], k: usize) -> i64
     first_reaching(units, short_in(case, k))
 }
 
-/// The start price of each period, in money for a kilowatt: the least full-load price up to which the thermal units'
-/// greatest powers and those of all renewable units reach demand, or else the greatest full-load price, or 0 where there
-/// is no thermal unit. Commitment windows and bids aren't looked at.
+/// The start price of each period, in money for a kilowatt: the least full-load price up to which
+/// the thermal units' greatest powers and those of all renewable units reach demand, or else the
+/// greatest full-load price, or 0 where there is no thermal unit. Commitment windows and bids
+/// aren't looked at.
 pub fn start_prices(alloc: Global, case: &Case) -> Result<Numbers, AllocError>
     ensures { IfOk result (λ prices. prices.items ≡ start_prices_of (market_of case.now)) }
 {

@@ -1,5 +1,6 @@
 -- Cells of a home, and what a call on one shape leaves of them (this project's profile).
-use Rattle.std.specs.Prelude.{◌≡◌, ℕ, ◌≤◌, ◌+◌, ℤ, Bool, true, ◌⊎◌, List, [], ◌∷◌, slice_get, Option, Some}
+use Rattle.std.specs.Prelude.{◌≡◌, ℕ, ◌≤◌, ◌+◌, ℤ, Bool, true, ◌⊎◌, List, [], ◌∷◌, slice_get}
+use Rattle.std.specs.Prelude.{Option, Some}
 use Rattle.std.specs.Option.{option_map}
 use Rattle.shape_law.specs.Table.{Table}
 
@@ -44,11 +45,14 @@ pub record Balance (counts : Bool) (charge sure cells sure' cells' : ℕ) : Type
   pub most : counts ≡ true → cells' ≤ cells + charge
   pub sum : counts ≡ true → sure' + cells' ≡ sure + cells
 
-module _ {H S : Type 0} (cell_list : H → List Cell) (is_in : H → S → Type 0) (numbers : H → S → List ℕ) where
-  -- what a call leaves of the other shapes: `own` are the numbers of the call's shape before it, and `own'` after it
+module _ {H S : Type 0} (cell_list : H → List Cell) (is_in : H → S → Type 0) (numbers : H → S →
+    List ℕ) where
+  -- what a call leaves of the other shapes: `own` are the numbers of the call's shape before it,
+  -- and `own'` after it
   pub record Frame (own own' : List ℕ) (h h' : H) : Type 0 where
     -- a cell in use changes only where it is one of the shape's own
-    pub changes : (n : ℕ) → IsUsed (cell_list h) n → (IsAmong n own → ⊥) → slice_get (cell_list h') n ≡ slice_get (cell_list h) n
+    pub changes : (n : ℕ) → IsUsed (cell_list h) n → (IsAmong n own → ⊥) →
+        slice_get (cell_list h') n ≡ slice_get (cell_list h) n
     -- new numbers come from the free ones
     pub gains : (n : ℕ) → IsAmong n own' → (IsAmong n own → ⊥) → IsUsed (cell_list h) n → ⊥
     -- each shape that is apart from it stays in the home

@@ -49,10 +49,12 @@ windows_in [] = 0
 windows_in (Window up down lo hi ∷ calls) = 1 + windows_in calls
 windows_in (call ∷ calls) = windows_in calls
 
--- each curve is a unit's with so many cost points: at most two blocks between one point and the next
+-- each curve is a unit's with so many cost points: at most two blocks between one point and the
+-- next
 abbrev pub AreCurvesOf : ℕ → List Call → Type 0
 AreCurvesOf points [] = Unit {0}
-AreCurvesOf points (AddCurve curve shift ∷ calls) = (length curve.blocks.items ≤ 2 * (points - 1)) × AreCurvesOf points calls
+AreCurvesOf points (AddCurve curve shift ∷ calls) =
+    (length curve.blocks.items ≤ 2 * (points - 1)) × AreCurvesOf points calls
 AreCurvesOf points (call ∷ calls) = AreCurvesOf points calls
 
 -- at most `most` of each of these calls, in any order; lines aren't counted

@@ -7,7 +7,8 @@ use Rattle.shape_law.specs.Table.{IsPlace, IsAmount}
 -- what a curve means is said beside its type
 pub use Rattle.uc_model.specs.Curves.{rise_at, curve_value, end_of}
 
--- a curve that may be added: no width is negative, prices rise from block to block, and the whole curve is within the limits
+-- a curve that may be added: no width is negative, prices rise from block to block, and the whole
+-- curve is within the limits
 pub record IsLimitedCurve (c : Curve) : Type 0 where
   pub blocks : limits.IsCurve c.blocks.items
   pub first_place : IsPlace c.at

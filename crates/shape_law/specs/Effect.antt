@@ -19,22 +19,28 @@ IsSum term f g = (x : ℤ) → value_of g x ≡ option_map (λ v. v +ℤ term x)
 -- a curve's value at x + shift is added to the value at every place x
 abbrev pub IsCurveSum : (ℤ → Option ℤ) → ℤ → Table → Table → Type 0
 IsCurveSum curve shift f g =
-    (x : ℤ) → MatchOption (value_of f x) (value_of g x ≡ None) (λ v. (c : ℤ) × (curve (x +ℤ shift) ≡ Some c) × (value_of g x ≡ Some (v +ℤ c)))
+    (x : ℤ) → MatchOption (value_of f x) (value_of g x ≡ None) (λ v. (c : ℤ)
+    × (curve (x +ℤ shift) ≡ Some c) × (value_of g x ≡ Some (v +ℤ c)))
 
--- a curve may be added: each place, moved by the shift, is in it, and the values stay within the limits
+-- a curve may be added: each place, moved by the shift, is in it, and the values stay within the
+-- limits
 abbrev pub CanAddCurve : (ℤ → Option ℤ) → ℤ → Table → Type 0
-CanAddCurve curve shift f = (x v : ℤ) → value_of f x ≡ Some v → (c : ℤ) × (curve (x +ℤ shift) ≡ Some c) × IsAmount (v +ℤ c)
+CanAddCurve curve shift f =
+    (x v : ℤ) → value_of f x ≡ Some v → (c : ℤ) × (curve (x +ℤ shift) ≡ Some c) × IsAmount (v +ℤ c)
 
 -- place y is among those that x reaches back to
 abbrev pub Reaches : ℤ → ℤ → ℤ → ℤ → Type 0
 Reaches up down x y = ((x -ℤ up) ≤ℤ y) × (y ≤ℤ (x +ℤ down))
 
--- the new value at x is the least old value from x - up to x + down; the new places are those from lo to hi with such a place
+-- the new value at x is the least old value from x - up to x + down; the new places are those from
+-- lo to hi with such a place
 pub record IsWindow (up down lo hi : ℤ) (f g : Table) : Type 0 where
   -- a new value is the old value of a place in reach
-  pub reached : (x v : ℤ) → value_of g x ≡ Some v → (y : ℤ) × (value_of f y ≡ Some v) × ((lo ≤ℤ x) × (x ≤ℤ hi)) × Reaches up down x y
+  pub reached : (x v : ℤ) → value_of g x ≡ Some v → (y : ℤ) × (value_of f y ≡ Some v)
+      × ((lo ≤ℤ x) × (x ≤ℤ hi)) × Reaches up down x y
   -- a place from lo to hi with an old place in reach is new, and its value is no greater
-  pub least : (x y w : ℤ) → value_of f y ≡ Some w → ((lo ≤ℤ x) × (x ≤ℤ hi)) → Reaches up down x y → (v : ℤ) × (value_of g x ≡ Some v) × (v ≤ℤ w)
+  pub least : (x y w : ℤ) → value_of f y ≡ Some w → ((lo ≤ℤ x) × (x ≤ℤ hi)) → Reaches up down x y →
+      (v : ℤ) × (value_of g x ≡ Some v) × (v ≤ℤ w)
 
 -- the least value, at its least place
 pub record IsLeast (f : Table) (v x : ℤ) : Type 0 where

@@ -7,9 +7,11 @@ use Rattle.shape_law.specs.Cell.{Cell, AreApart, Frame}
 use Rattle.shape_law.specs.Curve.{curve_value, end_of, reserve_term, IsLimitedCurve}
 use Rattle.shape_law.specs.Effect.{IsPoint, IsSame, IsSum, IsCurveSum, CanAddCurve, IsWindow}
 use Rattle.shape_law.specs.Steps.{IsFairStep, IsCostOf, IsStepped}
-use Rattle.shape_law.specs.Table.{Table, value_of, IsConvex, IsPlace, IsAmount, IsWithinLimits, CanAdd}
+use Rattle.shape_law.specs.Table.{Table, value_of, IsConvex, IsPlace, IsAmount, IsWithinLimits}
+use Rattle.shape_law.specs.Table.{CanAdd}
 
-module _ {H S : Type 0} (cell_list : H → List Cell) (is_in : H → S → Type 0) (numbers : H → S → List ℕ) (function : H → S → Table) where
+module _ {H S : Type 0} (cell_list : H → List Cell) (is_in : H → S → Type 0) (numbers : H → S →
+    List ℕ) (function : H → S → Table) where
   -- what is said of a shape that is apart from the call's shape
   pub record StaysAs (own' : List ℕ) (h h' : H) (other : S) : Type 0 where
     pub here : is_in h' other
@@ -17,7 +19,8 @@ module _ {H S : Type 0} (cell_list : H → List Cell) (is_in : H → S → Type 
     pub function_same : function h' other ≡ function h other
     pub apart : AreApart own' (numbers h' other)
 
-  -- a call on one shape leaves every shape that is apart from it with its function and its cells, still in the home, and still apart
+  -- a call on one shape leaves every shape that is apart from it with its function and its cells,
+  -- still in the home, and still apart
   abbrev pub OthersStay : Type 0
   OthersStay =
       (own own' : List ℕ) (h h' : H) → Frame cell_list is_in numbers own own' h h' →
@@ -43,27 +46,34 @@ abbrev pub CopyIsConvex : Type 0
 CopyIsConvex = (f g : Table) → IsSame f g → IsConvex f → IsConvex g
 
 abbrev pub LineKeepsConvexity : Type 0
-LineKeepsConvexity = (slope : ℤ) (f g : Table) → IsSum (λ x. slope *ℤ x) f g → IsConvex f → IsConvex g
+LineKeepsConvexity =
+    (slope : ℤ) (f g : Table) → IsSum (λ x. slope *ℤ x) f g → IsConvex f → IsConvex g
 
 abbrev pub ReserveKeepsConvexity : Type 0
 ReserveKeepsConvexity =
-    (mu cap up : ℤ) (f g : Table) → pos 0 ≤ℤ mu → IsSum (reserve_term mu cap up) f g → IsConvex f → IsConvex g
+    (mu cap up : ℤ) (f g : Table) → pos 0 ≤ℤ mu → IsSum (reserve_term mu cap up) f g → IsConvex f →
+    IsConvex g
 
 abbrev pub CurveKeepsConvexity : Type 0
 CurveKeepsConvexity =
-    (c : Curve) (shift : ℤ) (f g : Table) → limits.IsCurve c.blocks.items → IsCurveSum (curve_value c) shift f g → IsConvex f → IsConvex g
+    (c : Curve) (shift : ℤ) (f g : Table) → limits.IsCurve c.blocks.items →
+    IsCurveSum (curve_value c) shift f g → IsConvex f → IsConvex g
 
 abbrev pub WindowKeepsConvexity : Type 0
-WindowKeepsConvexity = (up down lo hi : ℤ) (f g : Table) → IsWindow up down lo hi f g → IsConvex f → IsConvex g
+WindowKeepsConvexity =
+    (up down lo hi : ℤ) (f g : Table) → IsWindow up down lo hi f g → IsConvex f → IsConvex g
 
 -- so does a step, which is four of them
 abbrev pub StepKeepsConvexity : Type 0
-StepKeepsConvexity = (s : Step) (c : Curve) (f g : Table) → IsFairStep s → IsCostOf s c → IsStepped s c f g → IsConvex f → IsConvex g
+StepKeepsConvexity =
+    (s : Step) (c : Curve) (f g : Table) → IsFairStep s → IsCostOf s c → IsStepped s c f g →
+    IsConvex f → IsConvex g
 
 -- at three places side by side the middle value is no greater than half the sum of the others
 abbrev pub IsConvexByPlaces : Table → Type 0
 IsConvexByPlaces f =
-    (x a b c : ℤ) → value_of f x ≡ Some a → value_of f (x +ℤ pos 1) ≡ Some b → value_of f (x +ℤ pos 2) ≡ Some c → (b +ℤ b) ≤ℤ (a +ℤ c)
+    (x a b c : ℤ) → value_of f x ≡ Some a → value_of f (x +ℤ pos 1) ≡ Some b →
+    value_of f (x +ℤ pos 2) ≡ Some c → (b +ℤ b) ≤ℤ (a +ℤ c)
 
 -- which is what convexity of the list of values means
 abbrev pub ConvexityIsOfPlaces : Type 0
@@ -71,52 +81,70 @@ ConvexityIsOfPlaces = (f : Table) → IsConvex f ↔ IsConvexByPlaces f
 
 -- each effect fixes the new function at every place
 abbrev pub PointIsExact : Type 0
-PointIsExact = (place value : ℤ) (g g' : Table) → IsPoint place value g → IsPoint place value g' → IsSame g g'
+PointIsExact =
+    (place value : ℤ) (g g' : Table) → IsPoint place value g → IsPoint place value g' → IsSame g g'
 
 abbrev pub SumIsExact : Type 0
 SumIsExact = (term : ℤ → ℤ) (f g g' : Table) → IsSum term f g → IsSum term f g' → IsSame g g'
 
 abbrev pub CurveSumIsExact : Type 0
-CurveSumIsExact = (curve : ℤ → Option ℤ) (shift : ℤ) (f g g' : Table) → IsCurveSum curve shift f g → IsCurveSum curve shift f g' → IsSame g g'
+CurveSumIsExact =
+    (curve : ℤ → Option ℤ) (shift : ℤ) (f g g' : Table) → IsCurveSum curve shift f g →
+    IsCurveSum curve shift f g' → IsSame g g'
 
 abbrev pub WindowIsExact : Type 0
-WindowIsExact = (up down lo hi : ℤ) (f g g' : Table) → IsWindow up down lo hi f g → IsWindow up down lo hi f g' → IsSame g g'
+WindowIsExact =
+    (up down lo hi : ℤ) (f g g' : Table) → IsWindow up down lo hi f g →
+    IsWindow up down lo hi f g' → IsSame g g'
 
 -- and keeps places and values within the limits
 abbrev pub PointIsWithinLimits : Type 0
-PointIsWithinLimits = (place value : ℤ) (g : Table) → IsPlace place → IsAmount value → IsPoint place value g → IsWithinLimits g
+PointIsWithinLimits =
+    (place value : ℤ) (g : Table) → IsPlace place → IsAmount value → IsPoint place value g →
+    IsWithinLimits g
 
 abbrev pub CopyIsWithinLimits : Type 0
 CopyIsWithinLimits = (f g : Table) → IsSame f g → IsWithinLimits f → IsWithinLimits g
 
 abbrev pub SumIsWithinLimits : Type 0
-SumIsWithinLimits = (term : ℤ → ℤ) (f g : Table) → IsSum term f g → CanAdd term f → IsWithinLimits f → IsWithinLimits g
+SumIsWithinLimits =
+    (term : ℤ → ℤ) (f g : Table) → IsSum term f g → CanAdd term f → IsWithinLimits f →
+    IsWithinLimits g
 
 abbrev pub CurveSumIsWithinLimits : Type 0
 CurveSumIsWithinLimits =
-    (curve : ℤ → Option ℤ) (shift : ℤ) (f g : Table) → IsCurveSum curve shift f g → CanAddCurve curve shift f → IsWithinLimits f → IsWithinLimits g
+    (curve : ℤ → Option ℤ) (shift : ℤ) (f g : Table) → IsCurveSum curve shift f g →
+    CanAddCurve curve shift f → IsWithinLimits f → IsWithinLimits g
 
 abbrev pub WindowIsWithinLimits : Type 0
 WindowIsWithinLimits =
-    (up down lo hi : ℤ) (f g : Table) → IsPlace lo → IsPlace hi → IsWindow up down lo hi f g → IsWithinLimits f → IsWithinLimits g
+    (up down lo hi : ℤ) (f g : Table) → IsPlace lo → IsPlace hi → IsWindow up down lo hi f g →
+    IsWithinLimits f → IsWithinLimits g
 
--- an effect is said of the look-up alone: what it says of two functions it says of any two with the same values
+-- an effect is said of the look-up alone: what it says of two functions it says of any two with the
+-- same values
 abbrev pub SumIsOfValues : Type 0
-SumIsOfValues = (term : ℤ → ℤ) (f f' g g' : Table) → IsSame f f' → IsSame g g' → IsSum term f g → IsSum term f' g'
+SumIsOfValues =
+    (term : ℤ → ℤ) (f f' g g' : Table) → IsSame f f' → IsSame g g' → IsSum term f g →
+    IsSum term f' g'
 
 abbrev pub CurveSumIsOfValues : Type 0
 CurveSumIsOfValues =
-    (curve : ℤ → Option ℤ) (shift : ℤ) (f f' g g' : Table) → IsSame f f' → IsSame g g' → IsCurveSum curve shift f g → IsCurveSum curve shift f' g'
+    (curve : ℤ → Option ℤ) (shift : ℤ) (f f' g g' : Table) → IsSame f f' → IsSame g g' →
+    IsCurveSum curve shift f g → IsCurveSum curve shift f' g'
 
 abbrev pub WindowIsOfValues : Type 0
 WindowIsOfValues =
-    (up down lo hi : ℤ) (f f' g g' : Table) → IsSame f f' → IsSame g g' → IsWindow up down lo hi f g → IsWindow up down lo hi f' g'
+    (up down lo hi : ℤ) (f f' g g' : Table) → IsSame f f' → IsSame g g' →
+    IsWindow up down lo hi f g → IsWindow up down lo hi f' g'
 
 -- a curve within the limits has values at places within them alone
 abbrev pub CurvePlacesAreLimited : Type 0
-CurvePlacesAreLimited = (c : Curve) → IsLimitedCurve c → (x v : ℤ) → curve_value c x ≡ Some v → IsPlace x
+CurvePlacesAreLimited =
+    (c : Curve) → IsLimitedCurve c → (x v : ℤ) → curve_value c x ≡ Some v → IsPlace x
 
 -- and it has one at each place from its first to its last
 abbrev pub CurvesHaveValues : Type 0
 CurvesHaveValues =
-    (c : Curve) → IsLimitedCurve c → (x : ℤ) → c.at ≤ℤ x → x ≤ℤ end_of c.at c.blocks.items → (v : ℤ) × (curve_value c x ≡ Some v)
+    (c : Curve) → IsLimitedCurve c → (x : ℤ) → c.at ≤ℤ x → x ≤ℤ end_of c.at c.blocks.items → (v : ℤ)
+    × (curve_value c x ≡ Some v)

@@ -1,5 +1,7 @@
--- The look-up, by the offset from the first place. (Not among the proofs: shapes that keep tables are built on it.)
-use Rattle.std.proofs.Common.{◌≡◌, ℕ, zero, suc, ◌<◌, ◌≤◌, List, [], ◌∷◌, length, get_or, Option, Some, None, refl, sym, ap, ◌∙◌, inl, inr, arith}
+-- The look-up, by the offset from the first place. (Not among the proofs: shapes that keep tables
+-- are built on it.)
+use Rattle.std.proofs.Common.{◌≡◌, ℕ, zero, suc, ◌<◌, ◌≤◌, List, [], ◌∷◌, length, get_or, Option}
+use Rattle.std.proofs.Common.{Some, None, refl, sym, ap, ◌∙◌, inl, inr, arith}
 use Rattle.std.specs.Prelude.{ℤ, pos, negsuc, ◌+ℤ◌, ◌-ℤ◌, ◌<ℤ◌, ◌⊎◌, slice_get}
 use Rattle.std.proofs.lemmas.Int.{ints}
 use Rattle.shape_law.specs.Table.{Table, value_of, offset_value}
@@ -29,12 +31,14 @@ pub value_of-below : (f : Table) (x : ℤ) → x <ℤ f.lo → value_of f x ≡ 
 value_of-below f x h = below_by f.lo x (x -ℤ f.lo) f.values refl h
 
 -- ---- an element by its index
-pub slice_get_in : (xs : List ℤ) (k : ℕ) → k < length xs → slice_get xs k ≡ Some (get_or xs k (pos 0))
+pub slice_get_in : (xs : List ℤ) (k : ℕ) → k < length xs →
+    slice_get xs k ≡ Some (get_or xs k (pos 0))
 slice_get_in [] k h = absurd (omega arith)
 slice_get_in (x ∷ xs) zero h = refl
 slice_get_in (x ∷ xs) (suc k) h = slice_get_in xs k (omega arith)
 
-pub slice_get_some : (xs : List ℤ) (k : ℕ) (v : ℤ) → slice_get xs k ≡ Some v → (k < length xs) × (get_or xs k (pos 0) ≡ v)
+pub slice_get_some : (xs : List ℤ) (k : ℕ) (v : ℤ) → slice_get xs k ≡ Some v → (k < length xs)
+    × (get_or xs k (pos 0) ≡ v)
 slice_get_some [] k v h = cc
 slice_get_some (x ∷ xs) zero v h = (omega arith, cc)
 slice_get_some (x ∷ xs) (suc k) v h = let r = slice_get_some xs k v h in (omega (arith, r.0), r.1)
@@ -51,9 +55,11 @@ pub record IsAt (f : Table) (x v : ℤ) : Type 0 where
   pub inside : offset < length f.values
   pub there : get_or f.values offset (pos 0) ≡ v
 
-at_by : (f : Table) (x v : ℤ) → value_of f x ≡ Some v → ((k : ℕ) × (x ≡ f.lo +ℤ pos k)) ⊎ (x <ℤ f.lo) → IsAt f x v
+at_by : (f : Table) (x v : ℤ) → value_of f x ≡ Some v → ((k : ℕ) × (x ≡ f.lo +ℤ pos k))
+    ⊎ (x <ℤ f.lo) → IsAt f x v
 at_by f x v h (inl p) =
-    let e : slice_get f.values p.0 ≡ Some v = sym (value_of-at f p.0) ∙ ap (value_of f) (sym p.1) ∙ h in
+    let e : slice_get f.values p.0 ≡ Some v =
+    sym (value_of-at f p.0) ∙ ap (value_of f) (sym p.1) ∙ h in
     let r = slice_get_some f.values p.0 v e in
     record { offset = p.0; place = p.1; inside = r.0; there = r.1 }
 at_by f x v h (inr b) = let n : value_of f x ≡ None = value_of-below f x b in cc
@@ -61,11 +67,13 @@ at_by f x v h (inr b) = let n : value_of f x ≡ None = value_of-below f x b in 
 pub IsAt-from_value : (f : Table) (x v : ℤ) → value_of f x ≡ Some v → IsAt f x v
 IsAt-from_value f x v h = at_by f x v h (place_split f.lo x)
 
-pub value-from_index : (f : Table) (k : ℕ) → k < length f.values → value_of f (f.lo +ℤ pos k) ≡ Some (get_or f.values k (pos 0))
+pub value-from_index : (f : Table) (k : ℕ) → k < length f.values →
+    value_of f (f.lo +ℤ pos k) ≡ Some (get_or f.values k (pos 0))
 value-from_index f k h = value_of-at f k ∙ slice_get_in f.values k h
 
 pub value-from_is_at : (f : Table) (x v : ℤ) → IsAt f x v → value_of f x ≡ Some v
-value-from_is_at f x v a = ap (value_of f) a.place ∙ value-from_index f a.offset a.inside ∙ ap Some a.there
+value-from_is_at f x v a =
+    ap (value_of f) a.place ∙ value-from_index f a.offset a.inside ∙ ap Some a.there
 
 pub same_some : {a b : ℤ} → (o : Option ℤ) → o ≡ Some a → o ≡ Some b → a ≡ b
 same_some o p q = cc

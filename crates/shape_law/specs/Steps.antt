@@ -1,4 +1,5 @@
--- One period of a spell as a step on functions of the power: the dispatch rules of pglib-uc, taken one period at a time.
+-- One period of a spell as a step on functions of the power: the dispatch rules of pglib-uc, taken
+-- one period at a time.
 use Rattle.std.specs.Prelude.{◌≡◌, ℤ, pos, neg_ℤ, ◌*ℤ◌, ◌≤ℤ◌, Some}
 use Rattle.uc_model.specs.declared.units.Curve.{Curve}
 use Rattle.uc_model.specs.Limits.{IsFrom, IsPower, IsOutput, IsCost, price_limit}
@@ -38,4 +39,6 @@ pub record IsStepped (s : Step) (c : Curve) (f h : Table) : Type 0 where
 
 -- places are outputs of a unit, and values far within the limits of a shape
 abbrev pub IsSmall : Table → Type 0
-IsSmall f = (x v : ℤ) → value_of f x ≡ Some v → IsOutput x × IsFrom (neg_ℤ (pos 500000000000000000)) (pos 500000000000000000) v
+IsSmall f =
+    (x v : ℤ) → value_of f x ≡ Some v → IsOutput x
+    × IsFrom (neg_ℤ (pos 500000000000000000)) (pos 500000000000000000) v

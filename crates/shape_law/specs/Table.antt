@@ -1,6 +1,8 @@
--- A function on a whole interval: its first place and its values (this project's profile).
--- What a call promises of it is said of the look-up alone, so the first place of an empty interval is free.
-use Rattle.std.specs.Prelude.{◌≡◌, ℕ, ◌+◌, ◌<◌, ℤ, pos, negsuc, ◌+ℤ◌, ◌-ℤ◌, ◌≤ℤ◌, List, length, slice_get, slice_index_or, Option, Some, None}
+-- A function on a whole interval: its first place and its values (this project's profile). What a
+-- call promises of it is said of the look-up alone, so the first place of an empty interval is
+-- free.
+use Rattle.std.specs.Prelude.{◌≡◌, ℕ, ◌+◌, ◌<◌, ℤ, pos, negsuc, ◌+ℤ◌, ◌-ℤ◌, ◌≤ℤ◌, List, length}
+use Rattle.std.specs.Prelude.{slice_get, slice_index_or, Option, Some, None}
 
 pub record Table : Type 0 where
   -- the first place, in kilowatts
@@ -29,7 +31,8 @@ HasNone lo hi f = (x : ℤ) → lo ≤ℤ x → x ≤ℤ hi → value_of f x ≡
 abbrev pub IsConvexList : List ℤ → Type 0
 IsConvexList values =
     (k : ℕ) → k + 2 < length values →
-    (slice_index_or values (k + 1) (pos 0) +ℤ slice_index_or values (k + 1) (pos 0)) ≤ℤ (slice_index_or values k (pos 0) +ℤ slice_index_or values (k + 2) (pos 0))
+    (slice_index_or values (k + 1) (pos 0) +ℤ slice_index_or values (k + 1) (pos 0))
+    ≤ℤ (slice_index_or values k (pos 0) +ℤ slice_index_or values (k + 2) (pos 0))
 
 abbrev pub IsConvex : Table → Type 0
 IsConvex f = IsConvexList f.values

@@ -1,7 +1,17 @@
 //! Laws of shapes: each is the contract of a function that does nothing.
 ghost use Rattle.std.specs.Prelude.{◌≡◌, true};
-ghost use Rattle.shape_law.specs.Chain.{IsWithinCharge, IsBalanced, CellsAreCharged, CellsAreBounded};
-ghost use Rattle.shape_law.specs.Laws.{OthersStay, FramesJoin, EndedShapesLeaveNothing, PointIsConvex, CopyIsConvex, LineKeepsConvexity, ReserveKeepsConvexity, CurveKeepsConvexity, WindowKeepsConvexity, StepKeepsConvexity, ConvexityIsOfPlaces, PointIsExact, SumIsExact, CurveSumIsExact, WindowIsExact, SumIsOfValues, CurveSumIsOfValues, WindowIsOfValues, CurvePlacesAreLimited, CurvesHaveValues, PointIsWithinLimits, CopyIsWithinLimits, SumIsWithinLimits, CurveSumIsWithinLimits, WindowIsWithinLimits};
+ghost use Rattle.shape_law.specs.Chain.{IsWithinCharge, IsBalanced, CellsAreCharged};
+ghost use Rattle.shape_law.specs.Chain.{CellsAreBounded};
+ghost use Rattle.shape_law.specs.Laws.{OthersStay, FramesJoin, EndedShapesLeaveNothing};
+ghost use Rattle.shape_law.specs.Laws.{PointIsConvex, CopyIsConvex, LineKeepsConvexity};
+ghost use Rattle.shape_law.specs.Laws.{ReserveKeepsConvexity, CurveKeepsConvexity};
+ghost use Rattle.shape_law.specs.Laws.{WindowKeepsConvexity, StepKeepsConvexity};
+ghost use Rattle.shape_law.specs.Laws.{ConvexityIsOfPlaces, PointIsExact, SumIsExact};
+ghost use Rattle.shape_law.specs.Laws.{CurveSumIsExact, WindowIsExact, SumIsOfValues};
+ghost use Rattle.shape_law.specs.Laws.{CurveSumIsOfValues, WindowIsOfValues, CurvePlacesAreLimited};
+ghost use Rattle.shape_law.specs.Laws.{CurvesHaveValues, PointIsWithinLimits, CopyIsWithinLimits};
+ghost use Rattle.shape_law.specs.Laws.{SumIsWithinLimits, CurveSumIsWithinLimits};
+ghost use Rattle.shape_law.specs.Laws.{WindowIsWithinLimits};
 
 use crate::Shape;
 
@@ -87,6 +97,8 @@ pub fn cells_are_bounded<S: Shape>()
 
 /// In a home that counts, what each call says of its balance suffices for that.
 pub fn counted_cells_are_bounded<S: Shape>()
-    ensures charged { S.Home.counts ≡ true → CellsAreCharged S.function (IsBalanced S.cells S.Home.counts S.Home.sure) S.cells }
-    ensures bounded { S.Home.counts ≡ true → CellsAreBounded S.function (IsBalanced S.cells S.Home.counts S.Home.sure) S.cells }
+    ensures charged { S.Home.counts ≡ true
+        → CellsAreCharged S.function (IsBalanced S.cells S.Home.counts S.Home.sure) S.cells }
+    ensures bounded { S.Home.counts ≡ true
+        → CellsAreBounded S.function (IsBalanced S.cells S.Home.counts S.Home.sure) S.cells }
 {}

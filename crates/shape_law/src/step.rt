@@ -12,6 +12,7 @@ pub struct Step {
     pub ramp_up: i64,
     pub ramp_down: i64,
     pub reserve_price: i64,
-    /// What a kilowatt of power costs beside its production: the reserve that it displaces, less what it is paid.
+    /// What a kilowatt of power costs beside its production: the reserve that it displaces, less
+    /// what it is paid.
     pub slope: i64,
 }

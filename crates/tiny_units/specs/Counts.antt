@@ -1,6 +1,7 @@
--- How many schedules come after one in the order for ties (this project's profile), where no power and no reserve is
--- above a greatest one: a number with one digit for each flag, power and reserve.
-use Rattle.std.specs.Prelude.{ℕ, zero, suc, ◌+◌, ◌-◌, ◌*◌, ◌≤◌, Bool, if◌then◌else◌, List, [], ◌∷◌, map, length}
+-- How many schedules come after one in the order for ties (this project's profile), where no power
+-- and no reserve is above a greatest one: a number with one digit for each flag, power and reserve.
+use Rattle.std.specs.Prelude.{ℕ, zero, suc, ◌+◌, ◌-◌, ◌*◌, ◌≤◌, Bool, if◌then◌else◌, List, [], ◌∷◌}
+use Rattle.std.specs.Prelude.{map, length}
 use Rattle.std.specs.List.{All}
 use Rattle.uc_model.specs.Data.{Schedule}
 
@@ -23,7 +24,8 @@ flags_of s = map flag s.on
 -- how many schedules come after one
 abbrev pub schedules_after : ℕ → Schedule → ℕ
 schedules_after most s =
-    after_of most s.reserve + list_count most (length s.on) * (after_of most s.power + list_count most (length s.on) * after_of 1 (flags_of s))
+    after_of most s.reserve + list_count most (length s.on)
+    * (after_of most s.power + list_count most (length s.on) * after_of 1 (flags_of s))
 
 -- no power and no reserve is above the greatest one
 pub record IsWithin (most : ℕ) (s : Schedule) : Type 0 where

@@ -8,7 +8,8 @@ use Rattle.uc_model.specs.Sums.{int_at}
 
 -- what the prices pay in the period at place k
 abbrev pub revenue_in : PriceLists → Schedule → ℕ → ℤ
-revenue_in π s k = (int_at π.energy k *ℤ power_in s (suc k)) +ℤ (int_at π.reserve k *ℤ reserve_in s (suc k))
+revenue_in π s k =
+    (int_at π.energy k *ℤ power_in s (suc k)) +ℤ (int_at π.reserve k *ℤ reserve_in s (suc k))
 
 -- what its power costs
 abbrev pub production_in : ThermalUnit → Schedule → ℕ → ℤ

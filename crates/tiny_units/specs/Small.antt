@@ -20,7 +20,11 @@ small_unit_of n marks = record {
   on0 = n.on0;
   up0 = n.up0;
   down0 = n.down0;
-  lags = record { lag = n.first_lag; cost = pos n.first_cost } ∷ record { lag = n.first_lag + n.lag_gap; cost = pos n.second_cost } ∷ [];
-  points = record { at = pos n.min_power; cost = pos n.least_cost } ∷ record { at = pos (n.min_power + n.range); cost = pos n.greatest_cost } ∷ [];
+  lags =
+      record { lag = n.first_lag; cost = pos n.first_cost }
+      ∷ record { lag = n.first_lag + n.lag_gap; cost = pos n.second_cost } ∷ [];
+  points =
+      record { at = pos n.min_power; cost = pos n.least_cost }
+      ∷ record { at = pos (n.min_power + n.range); cost = pos n.greatest_cost } ∷ [];
   window = marks;
 }

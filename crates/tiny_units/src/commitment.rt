@@ -10,7 +10,8 @@ use uc_model::units::{Mark, Response, Unit};
 // A must-run unit is on.
 fn must_run_holds(unit: &Unit, response: &Response, place: usize) -> bool
     requires { place < length response.now.on.items }
-    ensures { IsTrue result ↔ (IsTrue unit.now.must_run → IsTrue (on_in (thermal_of unit.now) (schedule_of response.now) (suc place))) }
+    ensures { IsTrue result ↔ (IsTrue unit.now.must_run
+        → IsTrue (on_in (thermal_of unit.now) (schedule_of response.now) (suc place))) }
 {
     !unit.must_run || is_on(response, place)
 }
@@ -18,7 +19,8 @@ fn must_run_holds(unit: &Unit, response: &Response, place: usize) -> bool
 // A unit that is on before the horizon stays so until its minimum time up is over.
 fn first_on_holds(unit: &Unit, response: &Response, place: usize) -> bool
     requires { place < length response.now.on.items }
-    ensures { IsTrue result ↔ (IsTrue unit.now.on0 → suc place ≤ unit.now.min_up - unit.now.up0 → IsTrue (on_in (thermal_of unit.now) (schedule_of response.now) (suc place))) }
+    ensures { IsTrue result ↔ (IsTrue unit.now.on0 → suc place ≤ unit.now.min_up - unit.now.up0
+        → IsTrue (on_in (thermal_of unit.now) (schedule_of response.now) (suc place))) }
 {
     let over = place >= unit.min_up.saturating_sub(unit.up0) as usize;
     !unit.on0 || over || is_on(response, place)
@@ -27,13 +29,15 @@ fn first_on_holds(unit: &Unit, response: &Response, place: usize) -> bool
 // A unit that is off before the horizon stays so until its minimum time down is over.
 fn first_off_holds(unit: &Unit, response: &Response, place: usize) -> bool
     requires { place < length response.now.on.items }
-    ensures { IsTrue result ↔ (IsFalse unit.now.on0 → suc place ≤ unit.now.min_down - unit.now.down0 → IsFalse (on_in (thermal_of unit.now) (schedule_of response.now) (suc place))) }
+    ensures { IsTrue result ↔ (IsFalse unit.now.on0 → suc place ≤ unit.now.min_down - unit.now.down0
+        → IsFalse (on_in (thermal_of unit.now) (schedule_of response.now) (suc place))) }
 {
     let over = place >= unit.min_down.saturating_sub(unit.down0) as usize;
     unit.on0 || over || !is_on(response, place)
 }
 
-// Whether the unit is on from the period at a place for its minimum time up, as far as the horizon goes.
+// Whether the unit is on from the period at a place for its minimum time up, as far as the horizon
+// goes.
 fn stays_on(unit: &Unit, response: &Response, place: usize) -> bool
     requires place { place < length response.now.on.items }
     requires lengths { length response.now.on.items ≡ length unit.now.window.items }
@@ -48,7 +52,8 @@ fn stays_on(unit: &Unit, response: &Response, place: usize) -> bool
     true
 }
 
-// Whether the unit is off from the period at a place for its minimum time down, as far as the horizon goes.
+// Whether the unit is off from the period at a place for its minimum time down, as far as the
+// horizon goes.
 fn stays_off(unit: &Unit, response: &Response, place: usize) -> bool
     requires place { place < length response.now.on.items }
     requires lengths { length response.now.on.items ≡ length unit.now.window.items }
@@ -67,7 +72,9 @@ fn stays_off(unit: &Unit, response: &Response, place: usize) -> bool
 fn min_up_holds(unit: &Unit, response: &Response, place: usize) -> bool
     requires place { place < length response.now.on.items }
     requires lengths { length response.now.on.items ≡ length unit.now.window.items }
-    ensures { IsTrue result ↔ (IsTrue (starts_in (thermal_of unit.now) (schedule_of response.now) (suc place)) → StaysOnFrom (thermal_of unit.now) (schedule_of response.now) place) }
+    ensures { IsTrue result
+        ↔ (IsTrue (starts_in (thermal_of unit.now) (schedule_of response.now) (suc place))
+        → StaysOnFrom (thermal_of unit.now) (schedule_of response.now) place) }
 {
     !starts(unit, response, place) || stays_on(unit, response, place)
 }
@@ -76,7 +83,9 @@ fn min_up_holds(unit: &Unit, response: &Response, place: usize) -> bool
 fn min_down_holds(unit: &Unit, response: &Response, place: usize) -> bool
     requires place { place < length response.now.on.items }
     requires lengths { length response.now.on.items ≡ length unit.now.window.items }
-    ensures { IsTrue result ↔ (IsTrue (stops_in (thermal_of unit.now) (schedule_of response.now) (suc place)) → StaysOffFrom (thermal_of unit.now) (schedule_of response.now) place) }
+    ensures { IsTrue result
+        ↔ (IsTrue (stops_in (thermal_of unit.now) (schedule_of response.now) (suc place))
+        → StaysOffFrom (thermal_of unit.now) (schedule_of response.now) place) }
 {
     !stops(unit, response, place) || stays_off(unit, response, place)
 }
@@ -93,7 +102,8 @@ fn mark(unit: &Unit, place: usize) -> Mark
 fn must_on_holds(unit: &Unit, response: &Response, place: usize) -> bool
     requires place { place < length response.now.on.items }
     requires lengths { length response.now.on.items ≡ length unit.now.window.items }
-    ensures { IsTrue result ↔ (mark_in (thermal_of unit.now).window (suc place) ≡ Mark.MustOn → IsTrue (on_in (thermal_of unit.now) (schedule_of response.now) (suc place))) }
+    ensures { IsTrue result ↔ (mark_in (thermal_of unit.now).window (suc place) ≡ Mark.MustOn
+        → IsTrue (on_in (thermal_of unit.now) (schedule_of response.now) (suc place))) }
 {
     mark(unit, place) != Mark::MustOn || is_on(response, place)
 }
@@ -102,7 +112,8 @@ fn must_on_holds(unit: &Unit, response: &Response, place: usize) -> bool
 fn must_off_holds(unit: &Unit, response: &Response, place: usize) -> bool
     requires place { place < length response.now.on.items }
     requires lengths { length response.now.on.items ≡ length unit.now.window.items }
-    ensures { IsTrue result ↔ (mark_in (thermal_of unit.now).window (suc place) ≡ Mark.MustOff → IsFalse (on_in (thermal_of unit.now) (schedule_of response.now) (suc place))) }
+    ensures { IsTrue result ↔ (mark_in (thermal_of unit.now).window (suc place) ≡ Mark.MustOff
+        → IsFalse (on_in (thermal_of unit.now) (schedule_of response.now) (suc place))) }
 {
     mark(unit, place) != Mark::MustOff || !is_on(response, place)
 }
@@ -111,7 +122,8 @@ fn must_off_holds(unit: &Unit, response: &Response, place: usize) -> bool
 pub fn keeps_commitment(unit: &Unit, response: &Response, place: usize) -> bool
     requires place { place < length response.now.on.items }
     requires lengths { length response.now.on.items ≡ length unit.now.window.items }
-    ensures { IsTrue result ↔ KeepsCommitmentAt (thermal_of unit.now) (schedule_of response.now) place }
+    ensures { IsTrue result ↔ KeepsCommitmentAt (thermal_of unit.now) (schedule_of response.now)
+        place }
 {
     must_run_holds(unit, response, place)
         && first_on_holds(unit, response, place)

@@ -1,10 +1,12 @@
 //! The dispatch rules, each for the period at one place.
-ghost use Rattle.std.specs.Prelude.{◌≡◌, ◌<◌, ◌≤◌, suc, pos, neg_ℤ, ◌-ℤ◌, ◌≤ℤ◌, true, false, length, slice_index, slice_index_or, IsTrue, IsFalse, ◌↔◌};
+ghost use Rattle.std.specs.Prelude.{◌≡◌, ◌<◌, ◌≤◌, suc, pos, neg_ℤ, ◌-ℤ◌, ◌≤ℤ◌, true, false};
+ghost use Rattle.std.specs.Prelude.{length, slice_index, slice_index_or, IsTrue, IsFalse, ◌↔◌};
 ghost use Rattle.std.specs.Int.{int_min};
 ghost use Rattle.tiny_units.specs.Rules.{KeepsDispatchAt, MayStopAtOnce};
 ghost use Rattle.uc_model.specs.Limits.{IsFrom};
 ghost use Rattle.uc_model.specs.PlainUnits.{thermal_of, schedule_of};
-ghost use Rattle.uc_model.specs.Schedules.{on_in, starts_in, stops_in, above_min, above_with_reserve, cap_of, IsPeriod};
+ghost use Rattle.uc_model.specs.Schedules.{on_in, starts_in, stops_in, above_min};
+ghost use Rattle.uc_model.specs.Schedules.{above_with_reserve, cap_of, IsPeriod};
 
 use crate::state::{above, above_all, above_before, is_on, starts, stops};
 use uc_model::rules::cap;
@@ -13,7 +15,9 @@ use uc_model::units::{Response, Unit};
 // Nothing is given in an off period.
 fn off_holds(response: &Response, place: usize) -> bool
     requires { place < length response.now.on.items }
-    ensures { IsTrue result ↔ (IsFalse (slice_index_or (schedule_of response.now).on place false) → (slice_index (schedule_of response.now).power place ≡ 0) × (slice_index (schedule_of response.now).reserve place ≡ 0)) }
+    ensures { IsTrue result ↔ (IsFalse (slice_index_or (schedule_of response.now).on place false)
+        → (slice_index (schedule_of response.now).power place ≡ 0)
+        × (slice_index (schedule_of response.now).reserve place ≡ 0)) }
 {
     is_on(response, place) || (*response.power.get(place) == 0 && *response.reserve.get(place) == 0)
 }
@@ -21,7 +25,9 @@ fn off_holds(response: &Response, place: usize) -> bool
 // The power is at least the least one.
 fn least_holds(unit: &Unit, response: &Response, place: usize) -> bool
     requires { place < length response.now.on.items }
-    ensures { IsTrue result ↔ (IsTrue (on_in (thermal_of unit.now) (schedule_of response.now) (suc place)) → pos 0 ≤ℤ above_min (thermal_of unit.now) (schedule_of response.now) (suc place)) }
+    ensures { IsTrue result
+        ↔ (IsTrue (on_in (thermal_of unit.now) (schedule_of response.now) (suc place))
+        → pos 0 ≤ℤ above_min (thermal_of unit.now) (schedule_of response.now) (suc place)) }
 {
     !is_on(response, place) || above(unit, response, place) >= 0
 }
@@ -29,7 +35,10 @@ fn least_holds(unit: &Unit, response: &Response, place: usize) -> bool
 // The power with the reserve is at most the greatest one.
 fn greatest_holds(unit: &Unit, response: &Response, place: usize) -> bool
     requires { place < length response.now.on.items }
-    ensures { IsTrue result ↔ (IsTrue (on_in (thermal_of unit.now) (schedule_of response.now) (suc place)) → above_with_reserve (thermal_of unit.now) (schedule_of response.now) (suc place) ≤ℤ cap_of (thermal_of unit.now) false false) }
+    ensures { IsTrue result
+        ↔ (IsTrue (on_in (thermal_of unit.now) (schedule_of response.now) (suc place))
+        → above_with_reserve (thermal_of unit.now) (schedule_of response.now) (suc place)
+        ≤ℤ cap_of (thermal_of unit.now) false false) }
 {
     !is_on(response, place) || above_all(unit, response, place) <= cap(unit, false, false)
 }
@@ -37,7 +46,10 @@ fn greatest_holds(unit: &Unit, response: &Response, place: usize) -> bool
 // In a start period they are within the start limit.
 fn start_holds(unit: &Unit, response: &Response, place: usize) -> bool
     requires { place < length response.now.on.items }
-    ensures { IsTrue result ↔ (IsTrue (starts_in (thermal_of unit.now) (schedule_of response.now) (suc place)) → above_with_reserve (thermal_of unit.now) (schedule_of response.now) (suc place) ≤ℤ cap_of (thermal_of unit.now) true false) }
+    ensures { IsTrue result
+        ↔ (IsTrue (starts_in (thermal_of unit.now) (schedule_of response.now) (suc place))
+        → above_with_reserve (thermal_of unit.now) (schedule_of response.now) (suc place)
+        ≤ℤ cap_of (thermal_of unit.now) true false) }
 {
     !starts(unit, response, place) || above_all(unit, response, place) <= cap(unit, true, false)
 }
@@ -46,7 +58,8 @@ fn start_holds(unit: &Unit, response: &Response, place: usize) -> bool
 fn stops_next(unit: &Unit, response: &Response, place: usize) -> bool
     requires place { place < length response.now.on.items }
     requires limit { length response.now.on.items ≤ 168 }
-    ensures { IsTrue result ↔ (IsPeriod (schedule_of response.now) (suc (suc place)) × IsTrue (stops_in (thermal_of unit.now) (schedule_of response.now) (suc (suc place)))) }
+    ensures { IsTrue result ↔ (IsPeriod (schedule_of response.now) (suc (suc place))
+        × IsTrue (stops_in (thermal_of unit.now) (schedule_of response.now) (suc (suc place)))) }
 {
     place + 1 < response.on.len() && stops(unit, response, place + 1)
 }
@@ -55,7 +68,10 @@ fn stops_next(unit: &Unit, response: &Response, place: usize) -> bool
 fn stop_holds(unit: &Unit, response: &Response, place: usize) -> bool
     requires place { place < length response.now.on.items }
     requires limit { length response.now.on.items ≤ 168 }
-    ensures { IsTrue result ↔ (IsPeriod (schedule_of response.now) (suc (suc place)) → IsTrue (stops_in (thermal_of unit.now) (schedule_of response.now) (suc (suc place))) → above_with_reserve (thermal_of unit.now) (schedule_of response.now) (suc place) ≤ℤ cap_of (thermal_of unit.now) false true) }
+    ensures { IsTrue result ↔ (IsPeriod (schedule_of response.now) (suc (suc place))
+        → IsTrue (stops_in (thermal_of unit.now) (schedule_of response.now) (suc (suc place)))
+        → above_with_reserve (thermal_of unit.now) (schedule_of response.now) (suc place)
+        ≤ℤ cap_of (thermal_of unit.now) false true) }
 {
     !stops_next(unit, response, place) || above_all(unit, response, place) <= cap(unit, false, true)
 }
@@ -72,7 +88,9 @@ fn rises_within(from: i64, to: i64, ramp: i64) -> bool
 // The power with the reserve rises by at most the ramp.
 fn ramp_up_holds(unit: &Unit, response: &Response, place: usize) -> bool
     requires { place < length response.now.on.items }
-    ensures { IsTrue result ↔ ((above_with_reserve (thermal_of unit.now) (schedule_of response.now) (suc place) -ℤ above_min (thermal_of unit.now) (schedule_of response.now) place) ≤ℤ unit.now.ramp_up) }
+    ensures { IsTrue result
+        ↔ ((above_with_reserve (thermal_of unit.now) (schedule_of response.now) (suc place)
+        -ℤ above_min (thermal_of unit.now) (schedule_of response.now) place) ≤ℤ unit.now.ramp_up) }
 {
     let before = above_before(unit, response, place);
     let now = above_all(unit, response, place);
@@ -82,7 +100,10 @@ fn ramp_up_holds(unit: &Unit, response: &Response, place: usize) -> bool
 // The power falls by at most the ramp.
 fn ramp_down_holds(unit: &Unit, response: &Response, place: usize) -> bool
     requires { place < length response.now.on.items }
-    ensures { IsTrue result ↔ ((above_min (thermal_of unit.now) (schedule_of response.now) place -ℤ above_min (thermal_of unit.now) (schedule_of response.now) (suc place)) ≤ℤ unit.now.ramp_down) }
+    ensures { IsTrue result
+        ↔ ((above_min (thermal_of unit.now) (schedule_of response.now) place
+        -ℤ above_min (thermal_of unit.now) (schedule_of response.now) (suc place))
+        ≤ℤ unit.now.ramp_down) }
 {
     let before = above_before(unit, response, place);
     let now = above(unit, response, place);
@@ -93,7 +114,8 @@ fn ramp_down_holds(unit: &Unit, response: &Response, place: usize) -> bool
 pub fn keeps_dispatch(unit: &Unit, response: &Response, place: usize) -> bool
     requires place { place < length response.now.on.items }
     requires limit { length response.now.on.items ≤ 168 }
-    ensures { IsTrue result ↔ KeepsDispatchAt (thermal_of unit.now) (schedule_of response.now) place }
+    ensures { IsTrue result ↔ KeepsDispatchAt (thermal_of unit.now) (schedule_of response.now)
+        place }
 {
     off_holds(response, place)
         && least_holds(unit, response, place)

@@ -16,8 +16,10 @@ use uc_model::units::{Prices, Response, Unit};
 
 // The sum of two amounts of money.
 fn plus(a: i128, b: i128) -> i128
-    requires a { IsFrom (neg_ℤ (pos 4951760157141521099596496896)) (pos 4951760157141521099596496896) a }
-    requires b { IsFrom (neg_ℤ (pos 4951760157141521099596496896)) (pos 4951760157141521099596496896) b }
+    requires a { IsFrom (neg_ℤ (pos 4951760157141521099596496896))
+        (pos 4951760157141521099596496896) a }
+    requires b { IsFrom (neg_ℤ (pos 4951760157141521099596496896))
+        (pos 4951760157141521099596496896) b }
     ensures { result ≡ a +ℤ b }
 {
     a + b
@@ -25,8 +27,10 @@ fn plus(a: i128, b: i128) -> i128
 
 // What one amount is above another.
 fn minus(a: i128, b: i128) -> i128
-    requires a { IsFrom (neg_ℤ (pos 4951760157141521099596496896)) (pos 4951760157141521099596496896) a }
-    requires b { IsFrom (neg_ℤ (pos 4951760157141521099596496896)) (pos 4951760157141521099596496896) b }
+    requires a { IsFrom (neg_ℤ (pos 4951760157141521099596496896))
+        (pos 4951760157141521099596496896) a }
+    requires b { IsFrom (neg_ℤ (pos 4951760157141521099596496896))
+        (pos 4951760157141521099596496896) b }
     ensures { result ≡ a -ℤ b }
 {
     a - b
@@ -63,7 +67,8 @@ fn revenue(prices: &Prices, response: &Response, place: usize) -> i128
     requires place { place < length response.now.on.items }
     requires horizon { length response.now.on.items ≡ length prices.now.energy.items }
     ensures value { result ≡ revenue_in (prices_of prices.now) (schedule_of response.now) place }
-    ensures bound { IsFrom (neg_ℤ (pos 1208925819614629174706176)) (pos 1208925819614629174706176) result }
+    ensures bound { IsFrom (neg_ℤ (pos 1208925819614629174706176)) (pos 1208925819614629174706176)
+        result }
 {
     let energy = worth(energy_price(prices, place), power(response, place));
     let reserve = worth(reserve_price(prices, place), reserve(response, place));
@@ -74,7 +79,8 @@ fn revenue(prices: &Prices, response: &Response, place: usize) -> i128
 fn production(unit: &Unit, response: &Response, place: usize) -> i128
     requires { place < length response.now.on.items }
     ensures value { result ≡ production_in (thermal_of unit.now) (schedule_of response.now) place }
-    ensures bound { IsFrom (neg_ℤ (pos 2417851639229258349412352)) (pos 2417851639229258349412352) result }
+    ensures bound { IsFrom (neg_ℤ (pos 2417851639229258349412352)) (pos 2417851639229258349412352)
+        result }
 {
     if is_on(response, place) {
         cost_of_power(unit.points.as_slice(), *response.power.get(place))
@@ -105,7 +111,8 @@ fn start(unit: &Unit, response: &Response, place: usize) -> i128
     requires place { place < length response.now.on.items }
     requires limit { length response.now.on.items ≤ 168 }
     ensures value { result ≡ start_in (thermal_of unit.now) (schedule_of response.now) place }
-    ensures bound { IsFrom (neg_ℤ (pos 1208925819614629174706176)) (pos 1208925819614629174706176) result }
+    ensures bound { IsFrom (neg_ℤ (pos 1208925819614629174706176)) (pos 1208925819614629174706176)
+        result }
 {
     if starts(unit, response, place) {
         i128::from(start_cost(unit, periods_down(unit, response, place)))
@@ -118,8 +125,10 @@ fn start(unit: &Unit, response: &Response, place: usize) -> i128
 fn net(unit: &Unit, prices: &Prices, response: &Response, place: usize) -> i128
     requires place { place < length response.now.on.items }
     requires horizon { length response.now.on.items ≡ length prices.now.energy.items }
-    ensures value { result ≡ net_in (thermal_of unit.now) (prices_of prices.now) (schedule_of response.now) place }
-    ensures bound { IsFrom (neg_ℤ (pos 4835703278458516698824704)) (pos 4835703278458516698824704) result }
+    ensures value { result ≡ net_in (thermal_of unit.now) (prices_of prices.now)
+        (schedule_of response.now) place }
+    ensures bound { IsFrom (neg_ℤ (pos 4835703278458516698824704)) (pos 4835703278458516698824704)
+        result }
 {
     let _limits = prices.energy.len();
     let costs = plus(
@@ -129,11 +138,12 @@ fn net(unit: &Unit, prices: &Prices, response: &Response, place: usize) -> i128
     minus(revenue(prices, response, place), costs)
 }
 
-/// What a response over the horizon of the prices earns, in money: what the prices pay for its powers and reserves, less
-/// the cost of its powers and of its starts.
+/// What a response over the horizon of the prices earns, in money: what the prices pay for its
+/// powers and reserves, less the cost of its powers and of its starts.
 pub fn earnings_of(unit: &Unit, prices: &Prices, response: &Response) -> i128
     requires { length (schedule_of response.now).on ≡ length (prices_of prices.now).energy }
-    ensures { result ≡ earnings (Thermal (thermal_of unit.now)) (prices_of prices.now) (schedule_of response.now) }
+    ensures { result ≡ earnings (Thermal (thermal_of unit.now)) (prices_of prices.now)
+        (schedule_of response.now) }
 {
     let mut earned = 0;
     for place in 0..prices.energy.len() {
@@ -145,8 +155,10 @@ pub fn earnings_of(unit: &Unit, prices: &Prices, response: &Response) -> i128
 /// What a feasible response earns, in money.
 pub fn feasible_earnings(unit: &Unit, prices: &Prices, response: &Response) -> i64
     requires horizon { length (schedule_of response.now).on ≡ length (prices_of prices.now).energy }
-    requires feasible { IsThermalFeasible (thermal_of unit.now) (length (prices_of prices.now).energy) (schedule_of response.now) }
-    ensures { result ≡ earnings (Thermal (thermal_of unit.now)) (prices_of prices.now) (schedule_of response.now) }
+    requires feasible { IsThermalFeasible (thermal_of unit.now)
+        (length (prices_of prices.now).energy) (schedule_of response.now) }
+    ensures { result ≡ earnings (Thermal (thermal_of unit.now)) (prices_of prices.now)
+        (schedule_of response.now) }
 {
     earnings_are_within();
     earnings_of(unit, prices, response) as i64

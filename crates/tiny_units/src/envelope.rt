@@ -1,5 +1,6 @@
 //! The cost of a power, by the halving of whole prices that defines it.
-ghost use Rattle.std.specs.Prelude.{◌≡◌, ◌≤◌, ℤ, pos, neg_ℤ, ◌+ℤ◌, ◌-ℤ◌, ◌*ℤ◌, ◌≤ℤ◌, ◌^◌, if◌then◌else◌, length};
+ghost use Rattle.std.specs.Prelude.{◌≡◌, ◌≤◌, ℤ, pos, neg_ℤ, ◌+ℤ◌, ◌-ℤ◌, ◌*ℤ◌, ◌≤ℤ◌, ◌^◌};
+ghost use Rattle.std.specs.Prelude.{if◌then◌else◌, length};
 ghost use Rattle.std.specs.List.{All, fold};
 ghost use Rattle.std.specs.Int.{int_min};
 ghost use Rattle.uc_model.specs.Limits.{IsFrom, IsPoint};
@@ -12,7 +13,8 @@ fn product(price: i128, kilowatts: i128) -> i128
     requires price { IsFrom (neg_ℤ (pos 70368744177664)) (pos 70368744177664) price }
     requires kilowatts { IsFrom (neg_ℤ (pos 17179869184)) (pos 17179869184) kilowatts }
     ensures value { result ≡ price *ℤ kilowatts }
-    ensures bound { IsFrom (neg_ℤ (pos 1208925819614629174706176)) (pos 1208925819614629174706176) result }
+    ensures bound { IsFrom (neg_ℤ (pos 1208925819614629174706176)) (pos 1208925819614629174706176)
+        result }
 {
     price * kilowatts
 }
@@ -31,18 +33,22 @@ fn line(price: i128, power: u32, point: &Point) -> i128
     requires price { IsFrom (neg_ℤ (pos 70368744177664)) (pos 70368744177664) price }
     requires point { IsPoint point.now }
     ensures value { result ≡ line_at price (pos power) point.now }
-    ensures bound { IsFrom (neg_ℤ (pos 2417851639229258349412352)) (pos 2417851639229258349412352) result }
+    ensures bound { IsFrom (neg_ℤ (pos 2417851639229258349412352)) (pos 2417851639229258349412352)
+        result }
 {
     i128::from(point.cost) + product(price, kilowatts_above(power, point))
 }
 
 // The least of a number and the points' lines.
 fn least_from(start: i128, points: &[Point], price: i128, power: u32) -> i128
-    requires start { IsFrom (neg_ℤ (pos 2417851639229258349412352)) (pos 2417851639229258349412352) start }
+    requires start { IsFrom (neg_ℤ (pos 2417851639229258349412352)) (pos 2417851639229258349412352)
+        start }
     requires points { All IsPoint points.now }
     requires price { IsFrom (neg_ℤ (pos 70368744177664)) (pos 70368744177664) price }
-    ensures value { result ≡ fold (λ a p. int_min a (line_at price (pos power) p)) start points.now }
-    ensures bound { IsFrom (neg_ℤ (pos 2417851639229258349412352)) (pos 2417851639229258349412352) result }
+    ensures value { result ≡ fold (λ a p. int_min a (line_at price (pos power) p)) start
+        points.now }
+    ensures bound { IsFrom (neg_ℤ (pos 2417851639229258349412352)) (pos 2417851639229258349412352)
+        result }
 {
     let mut least = start;
     for point in points {
@@ -57,7 +63,8 @@ fn least(points: &[Point], power: u32, price: i128) -> i128
     requires points { All IsPoint points.now }
     requires price { IsFrom (neg_ℤ (pos 70368744177664)) (pos 70368744177664) price }
     ensures value { result ≡ least_line points.now (pos power) price }
-    ensures bound { IsFrom (neg_ℤ (pos 2417851639229258349412352)) (pos 2417851639229258349412352) result }
+    ensures bound { IsFrom (neg_ℤ (pos 2417851639229258349412352)) (pos 2417851639229258349412352)
+        result }
 {
     least_from(line(price, power, &points[0]), points, price, power)
 }
@@ -80,14 +87,16 @@ fn power_of_two(exponent: u32) -> i128
     i128::from(2u64.pow(exponent))
 }
 
-// Where to look on: above the middle where the least line is still rising there, else from where it was.
+// Where to look on: above the middle where the least line is still rising there, else from where it
+// was.
 fn half(points: &[Point], power: u32, steps: u32, low: i128) -> i128
     requires some { 1 ≤ length points.now }
     requires points { All IsPoint points.now }
     requires steps { steps ≤ 45 }
     requires low { neg_ℤ (pos 70368744177664) ≤ℤ low }
     requires high { (low +ℤ pos (2 ^ steps)) ≤ℤ pos 70368744177664 }
-    ensures { result ≡ (if rises_after points.now (pos power) ((low +ℤ pos (2 ^ steps)) -ℤ pos 1) then low +ℤ pos (2 ^ steps) else low) }
+    ensures { result ≡ (if rises_after points.now (pos power)
+        ((low +ℤ pos (2 ^ steps)) -ℤ pos 1) then low +ℤ pos (2 ^ steps) else low) }
 {
     let middle = low + power_of_two(steps);
     if rises(points, power, middle - 1) {
@@ -133,7 +142,8 @@ pub fn cost_of_power(points: &[Point], power: u32) -> i128
     requires some { 1 ≤ length points.now }
     requires points { All IsPoint points.now }
     ensures cost { result ≡ envelope points.now (pos power) }
-    ensures bound { IsFrom (neg_ℤ (pos 2417851639229258349412352)) (pos 2417851639229258349412352) result }
+    ensures bound { IsFrom (neg_ℤ (pos 2417851639229258349412352)) (pos 2417851639229258349412352)
+        result }
 {
     let price = price_from(points, power, halvings(), least_price());
     least(points, power, price)

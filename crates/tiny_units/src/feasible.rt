@@ -30,11 +30,13 @@ fn keeps_rules(unit: &Unit, response: &Response) -> bool
     true
 }
 
-/// Whether a response over the unit's horizon is a feasible schedule of the unit. Each period's rules are looked at
-/// with all later periods, so the time grows with the square of the number of periods.
+/// Whether a response over the unit's horizon is a feasible schedule of the unit. Each period's
+/// rules are looked at with all later periods, so the time grows with the square of the number of
+/// periods.
 pub fn is_feasible(unit: &Unit, response: &Response) -> bool
     requires { length (schedule_of response.now).on ≡ length (thermal_of unit.now).window }
-    ensures { IsTrue result ↔ IsThermalFeasible (thermal_of unit.now) (length (thermal_of unit.now).window) (schedule_of response.now) }
+    ensures { IsTrue result ↔ IsThermalFeasible (thermal_of unit.now)
+        (length (thermal_of unit.now).window) (schedule_of response.now) }
 {
     may_stop_at_once(unit, response) && keeps_rules(unit, response)
 }

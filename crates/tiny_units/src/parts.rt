@@ -1,10 +1,15 @@
-//! Values of the types of a case from their parts, for tests: each part is within the limits of its type, and the
-//! contract says what the value is in plain records and lists.
-ghost use Rattle.std.specs.Prelude.{◌≡◌, ◌≤◌, ◌<◌, ℤ, pos, ◌≤ℤ◌, length, map, IfOk, EachIndex, slice_index, slice_set, [], ◌∷◌, ◌+◌};
+//! Values of the types of a case from their parts, for tests: each part is within the limits of its
+//! type, and the contract says what the value is in plain records and lists.
+ghost use Rattle.std.specs.Prelude.{◌≡◌, ◌≤◌, ◌<◌, ℤ, pos, ◌≤ℤ◌, length, map, IfOk, EachIndex};
+ghost use Rattle.std.specs.Prelude.{slice_index, slice_set, [], ◌∷◌, ◌+◌};
 ghost use Rattle.tiny_units.specs.Small.{small_unit_of};
-ghost use Rattle.uc_model.specs.Limits.{IsMarket, IsRenewableUnit, IsBidUnit, ArePrices, AreOneLength};
-ghost use Rattle.uc_model.specs.PlainCases.{market_of, schedules_of, proposal_of, task_unit, chosen_unit};
-ghost use Rattle.uc_model.specs.PlainUnits.{thermal_of, renewable_of, bid_of, named_thermal_of, named_renewable_of, named_bid_of, prices_of, schedule_of};
+ghost use Rattle.uc_model.specs.Limits.{IsMarket, IsRenewableUnit, IsBidUnit, ArePrices};
+ghost use Rattle.uc_model.specs.Limits.{AreOneLength};
+ghost use Rattle.uc_model.specs.PlainCases.{market_of, schedules_of, proposal_of, task_unit};
+ghost use Rattle.uc_model.specs.PlainCases.{chosen_unit};
+ghost use Rattle.uc_model.specs.PlainUnits.{thermal_of, renewable_of, bid_of, named_thermal_of};
+ghost use Rattle.uc_model.specs.PlainUnits.{named_renewable_of, named_bid_of, prices_of};
+ghost use Rattle.uc_model.specs.PlainUnits.{schedule_of};
 ghost use Rattle.uc_model.specs.Reserved.{items_in};
 ghost use Rattle.uc_model.specs.Sums.{int_at};
 
@@ -120,8 +125,26 @@ pub fn case(
     flat: FlatList,
     bids: BidList,
 ) -> Case
-    requires { IsMarket (record { periods = periods; demand = demand.items; reserves = reserves.items; thermal = map named_thermal_of thermal.items; flat = map named_renewable_of flat.items; bids = map named_bid_of bids.items }) }
-    ensures { market_of result ≡ record { periods = periods; demand = demand.items; reserves = reserves.items; thermal = map named_thermal_of thermal.items; flat = map named_renewable_of flat.items; bids = map named_bid_of bids.items } }
+    requires { IsMarket (record {
+      periods = periods;
+      demand = demand.items;
+      reserves =
+          reserves.items;
+      thermal = map named_thermal_of thermal.items;
+      flat =
+          map named_renewable_of flat.items;
+      bids = map named_bid_of bids.items;
+    }) }
+    ensures { market_of result ≡ record {
+      periods = periods;
+      demand = demand.items;
+      reserves =
+          reserves.items;
+      thermal = map named_thermal_of thermal.items;
+      flat =
+          map named_renewable_of flat.items;
+      bids = map named_bid_of bids.items;
+    } }
 {
     Case {
         periods,
@@ -135,8 +158,18 @@ pub fn case(
 
 /// A response of these lists.
 pub fn response(on: Flags, power: Powers, reserve: Powers) -> Response
-    requires { AreOneLength (record { on = on.items; power = power.items; reserve = reserve.items }) }
-    ensures { schedule_of result ≡ record { on = on.items; power = power.items; reserve = reserve.items } }
+    requires { AreOneLength (record {
+      on = on.items;
+      power = power.items;
+      reserve =
+          reserve.items;
+    }) }
+    ensures { schedule_of result ≡ record {
+      on = on.items;
+      power = power.items;
+      reserve =
+          reserve.items;
+    } }
 {
     Response { on, power, reserve }
 }
@@ -160,7 +193,13 @@ pub fn prices(energy: Numbers, reserve: Numbers) -> Prices
 pub fn row(prices: Prices, value: i128, supply: Amounts, reserve: Amounts) -> Row
     requires supply { length supply.items ≡ length prices.energy.items }
     requires reserve { length reserve.items ≡ length prices.energy.items }
-    ensures { proposal_of result ≡ record { prices = prices_of prices; value = value; supply = supply.items; reserve = reserve.items } }
+    ensures { proposal_of result ≡ record {
+      prices = prices_of prices;
+      value = value;
+      supply =
+          supply.items;
+      reserve = reserve.items;
+    } }
 {
     Row {
         prices,
@@ -194,14 +233,18 @@ pub fn task(prices: Prices, kind: UnitKind, thermal: Unit, flat: Renewable, bid:
     }
 }
 
-/// Small prices over the periods of both lists: any energy prices, and reserve prices that aren't negative.
+/// Small prices over the periods of both lists: any energy prices, and reserve prices that aren't
+/// negative.
 pub fn small_prices(alloc: Global, energy: &[i16], reserve: &[u16]) -> Result<Prices, AllocError>
     requires some { 1 ≤ length energy.now }
     requires limit { length energy.now ≤ 168 }
     requires same { length reserve.now ≡ length energy.now }
     ensures length { IfOk result (λ p. length (prices_of p).energy ≡ length energy.now) }
-    ensures energy { IfOk result (λ p. EachIndex energy.now (λ k. int_at (prices_of p).energy k ≡ int_at energy.now k)) }
-    ensures reserve { IfOk result (λ p. EachIndex reserve.now (λ k. int_at (prices_of p).reserve k ≡ pos (slice_index reserve.now k))) }
+    ensures energy { IfOk result (λ p. EachIndex energy.now
+        (λ k. int_at (prices_of p).energy k ≡ int_at energy.now k)) }
+    ensures reserve { IfOk result
+        (λ p. EachIndex reserve.now (λ k. int_at (prices_of p).reserve k
+        ≡ pos (slice_index reserve.now k))) }
 {
     let mut small = Prices::make(alloc, energy.len() as u32)?;
     for place in 0..energy.len() {
@@ -214,7 +257,8 @@ pub fn small_prices(alloc: Global, energy: &[i16], reserve: &[u16]) -> Result<Pr
 fn set_price(prices: &mut Prices, place: usize, energy: i16, reserve: u16)
     requires { place < length prices.old.energy.items }
     ensures energy { prices.new.energy.items ≡ slice_set prices.old.energy.items place energy }
-    ensures reserve { prices.new.reserve.items ≡ slice_set prices.old.reserve.items place (pos reserve) }
+    ensures reserve { prices.new.reserve.items ≡ slice_set prices.old.reserve.items place
+        (pos reserve) }
 {
     prices.energy.set(place, i64::from(energy));
     prices.reserve.set(place, i64::from(reserve));
@@ -222,7 +266,11 @@ fn set_price(prices: &mut Prices, place: usize, energy: i16, reserve: u16)
 
 /// A renewable unit over one period.
 pub fn small_renewable(alloc: Global, least: u8, range: u8) -> Result<Renewable, AllocError>
-    ensures { IfOk result (λ r. renewable_of r ≡ record { least = pos least ∷ []; most = pos (least + range) ∷ [] }) }
+    ensures { IfOk result (λ r. renewable_of r ≡ record {
+      least = pos least ∷ [];
+      most =
+          pos (least + range) ∷ [];
+    }) }
 {
     let most = list_of(alloc, &[i64::from(least) + i64::from(range)])?;
     let least = list_of(alloc, &[i64::from(least)])?;
@@ -231,7 +279,10 @@ pub fn small_renewable(alloc: Global, least: u8, range: u8) -> Result<Renewable,
 
 /// A bid of one block over one period.
 pub fn small_bid(alloc: Global, width: u8, price: u16) -> Result<Bid, AllocError>
-    ensures { IfOk result (λ b. bid_of b ≡ record { blocks = (record { width = pos width; price = pos price } ∷ []) ∷ [] }) }
+    ensures { IfOk result (λ b. bid_of b ≡ record {
+      blocks =
+          (record { width = pos width; price = pos price } ∷ []) ∷ [];
+    }) }
 {
     let block = Block {
         width: i64::from(width),

@@ -1,7 +1,7 @@
 //! Units of a few kilowatts, for tests.
 
-/// The numbers of a thermal unit of at most 510 kilowatts, with two lags, and two points for its least and greatest
-/// power. Kilowatts, periods and money, as in a unit.
+/// The numbers of a thermal unit of at most 510 kilowatts, with two lags, and two points for its
+/// least and greatest power. Kilowatts, periods and money, as in a unit.
 #[derive(Clone, Copy)]
 pub struct SmallUnit {
     pub must_run: bool,

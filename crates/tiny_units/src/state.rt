@@ -1,9 +1,11 @@
-//! What a unit does in a period: place `k` of the lists is period `k + 1`, and the period before place 0 is the state
-//! before the horizon.
-ghost use Rattle.std.specs.Prelude.{◌≡◌, ◌<◌, ◌≤◌, suc, pos, neg_ℤ, ◌-ℤ◌, if◌then◌else◌, length, slice_index_or, false};
+//! What a unit does in a period: place `k` of the lists is period `k + 1`, and the period before
+//! place 0 is the state before the horizon.
+ghost use Rattle.std.specs.Prelude.{◌≡◌, ◌<◌, ◌≤◌, suc, pos, neg_ℤ, ◌-ℤ◌, if◌then◌else◌, length};
+ghost use Rattle.std.specs.Prelude.{slice_index_or, false};
 ghost use Rattle.uc_model.specs.Limits.{IsFrom};
 ghost use Rattle.uc_model.specs.PlainUnits.{thermal_of, schedule_of};
-ghost use Rattle.uc_model.specs.Schedules.{on_in, power_in, reserve_in, above_min, above_with_reserve, starts_in, stops_in};
+ghost use Rattle.uc_model.specs.Schedules.{on_in, power_in, reserve_in, above_min};
+ghost use Rattle.uc_model.specs.Schedules.{above_with_reserve, starts_in, stops_in};
 
 use uc_model::units::{Response, Unit};
 
@@ -48,7 +50,8 @@ pub fn reserve(response: &Response, place: usize) -> i64
 /// The power above the least power in the period at a place, and 0 in an off period.
 pub fn above(unit: &Unit, response: &Response, place: usize) -> i64
     requires { place < length response.now.on.items }
-    ensures value { result ≡ above_min (thermal_of unit.now) (schedule_of response.now) (suc place) }
+    ensures value { result ≡ above_min (thermal_of unit.now) (schedule_of response.now)
+        (suc place) }
     ensures bound { IsFrom (neg_ℤ (pos 8589934592)) (pos 8589934592) result }
 {
     if is_on(response, place) {
@@ -60,7 +63,8 @@ pub fn above(unit: &Unit, response: &Response, place: usize) -> i64
 
 // The same in the state before the horizon.
 fn above_at_first(unit: &Unit) -> i64
-    ensures value { result ≡ (if unit.now.on0 then unit.now.power0 -ℤ unit.now.min_power else pos 0) }
+    ensures value { result ≡ (if unit.now.on0 then unit.now.power0
+        -ℤ unit.now.min_power else pos 0) }
     ensures bound { IsFrom (neg_ℤ (pos 8589934592)) (pos 8589934592) result }
 {
     if unit.on0 {
@@ -86,7 +90,8 @@ pub fn above_before(unit: &Unit, response: &Response, place: usize) -> i64
 /// The power above the least power with the reserve in the period at a place.
 pub fn above_all(unit: &Unit, response: &Response, place: usize) -> i64
     requires { place < length response.now.on.items }
-    ensures value { result ≡ above_with_reserve (thermal_of unit.now) (schedule_of response.now) (suc place) }
+    ensures value { result ≡ above_with_reserve (thermal_of unit.now) (schedule_of response.now)
+        (suc place) }
     ensures bound { IsFrom (neg_ℤ (pos 17179869184)) (pos 17179869184) result }
 {
     above(unit, response, place) + reserve(response, place)

@@ -1,5 +1,6 @@
 //! The least of the best schedules, by trying all of them in the order for ties.
-ghost use Rattle.std.specs.Prelude.{◌≡◌, ◌≤◌, ◌<◌, suc, pos, false, length, replicate, IsTrue, IsFalse, IfOk, IfSome, IfNone};
+ghost use Rattle.std.specs.Prelude.{◌≡◌, ◌≤◌, ◌<◌, suc, pos, false, length, replicate, IsTrue};
+ghost use Rattle.std.specs.Prelude.{IsFalse, IfOk, IfSome, IfNone};
 ghost use Rattle.tiny_units.specs.Counts.{schedules_after, IsWithin};
 ghost use Rattle.tiny_units.specs.Tries.{IsKept};
 ghost use Rattle.uc_model.specs.Data.{Thermal, Schedule};
@@ -40,8 +41,12 @@ fn consider(
     requires room { length kept.old.response.on.items ≡ length prices.now.energy.items }
     requires most { pos most ≡ unit.now.max_power }
     requires within { IsWithin most (schedule_of candidate.now) }
-    requires kept { IsKept (thermal_of unit.now) (prices_of prices.now) most (suc (schedules_after most (schedule_of candidate.now))) found (schedule_of kept.old.response) kept.old.earned }
-    ensures kept { IsKept (thermal_of unit.now) (prices_of prices.now) most (schedules_after most (schedule_of candidate.now)) result (schedule_of kept.new.response) kept.new.earned }
+    requires kept { IsKept (thermal_of unit.now) (prices_of prices.now) most
+        (suc (schedules_after most (schedule_of candidate.now))) found
+        (schedule_of kept.old.response) kept.old.earned }
+    ensures kept { IsKept (thermal_of unit.now) (prices_of prices.now) most
+        (schedules_after most (schedule_of candidate.now)) result (schedule_of kept.new.response)
+        kept.new.earned }
     ensures room { length kept.new.response.on.items ≡ length prices.now.energy.items }
 {
     if !is_feasible(unit, candidate) {
@@ -69,8 +74,11 @@ fn try_from(
     requires room { length kept.old.response.on.items ≡ length prices.now.energy.items }
     requires most { pos most ≡ unit.now.max_power }
     requires within { IsWithin most (schedule_of candidate.old) }
-    requires kept { IsKept (thermal_of unit.now) (prices_of prices.now) most (suc (schedules_after most (schedule_of candidate.old))) false (schedule_of kept.old.response) kept.old.earned }
-    ensures { IsKept (thermal_of unit.now) (prices_of prices.now) most 0 result (schedule_of kept.new.response) kept.new.earned }
+    requires kept { IsKept (thermal_of unit.now) (prices_of prices.now) most
+        (suc (schedules_after most (schedule_of candidate.old))) false
+        (schedule_of kept.old.response) kept.old.earned }
+    ensures { IsKept (thermal_of unit.now) (prices_of prices.now) most 0 result
+        (schedule_of kept.new.response) kept.new.earned }
 {
     let mut found = false;
     'tries: loop {
@@ -93,18 +101,24 @@ fn all_off(alloc: Global, periods: u32) -> Result<Response, AllocError>
     Ok(Response { on, power, reserve })
 }
 
-/// The least of the best responses of a unit at prices over its horizon, and what it earns in money; None exactly where
-/// no schedule of the unit is feasible. All on flags, powers and reserves up to the greatest power are tried: 2, p + 1
-/// and p + 1 choices in each period for a unit of p kilowatts. So this is for one to three periods and a few kilowatts.
+/// The least of the best responses of a unit at prices over its horizon, and what it earns in
+/// money; None exactly where no schedule of the unit is feasible. All on flags, powers and reserves
+/// up to the greatest power are tried: 2, p + 1 and p + 1 choices in each period for a unit of p
+/// kilowatts. So this is for one to three periods and a few kilowatts.
 pub fn least_by_trying(
     alloc: Global,
     unit: &Unit,
     prices: &Prices,
 ) -> Result<Option<Answered>, AllocError>
     requires { length (thermal_of unit.now).window ≡ length (prices_of prices.now).energy }
-    ensures least { IfOk result (λ o. IfSome o (λ a. IsLeast (Thermal (thermal_of unit.now)) (prices_of prices.now) (schedule_of a.response))) }
-    ensures earned { IfOk result (λ o. IfSome o (λ a. a.earned ≡ earnings (Thermal (thermal_of unit.now)) (prices_of prices.now) (schedule_of a.response))) }
-    ensures none { IfOk result (λ o. IfNone o ((s : Schedule) → IsThermalFeasible (thermal_of unit.now) (length (thermal_of unit.now).window) s → ⊥)) }
+    ensures least { IfOk result
+        (λ o. IfSome o (λ a. IsLeast (Thermal (thermal_of unit.now)) (prices_of prices.now)
+        (schedule_of a.response))) }
+    ensures earned { IfOk result
+        (λ o. IfSome o (λ a. a.earned ≡ earnings (Thermal (thermal_of unit.now))
+        (prices_of prices.now) (schedule_of a.response))) }
+    ensures none { IfOk result (λ o. IfNone o ((s : Schedule)
+        → IsThermalFeasible (thermal_of unit.now) (length (thermal_of unit.now).window) s → ⊥)) }
 {
     let periods = unit.window.len() as u32;
     let most = unit.max_power as u32;

@@ -1,5 +1,6 @@
 -- How large the powers, costs and earnings of schedules within the limits can be, so that no sum
--- leaves its type (this project's profile). Each law is the clause of a public function of its name.
+-- leaves its type (this project's profile). Each law is the clause of a public function of its
+-- name.
 use Rattle.std.specs.Prelude.{◌≡◌, ℕ, suc, ◌≤◌, ℤ, pos, neg_ℤ, ◌≤ℤ◌, List, length}
 use Rattle.std.specs.List.{All, AllZip}
 use Rattle.uc_model.specs.declared.units.Lag.{Lag}

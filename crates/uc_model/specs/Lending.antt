@@ -6,4 +6,8 @@ use Rattle.uc_model.specs.contracts.lists.ReservedList.{the_row}
 
 -- the item at the place is the last one written through r; the room stays
 abbrev pub lends_item : (R : RattleType) → MutBor (Reserved R.Denot) → ℕ → MutBor R.Denot → Fml
-lends_item R b place r = Lends (the_row R) R b r (λ w. record { items = slice_set b.now.items place w; spare = b.now.spare })
+lends_item R b place r =
+    Lends (the_row R) R b r (λ w. record {
+      items = slice_set b.now.items place w;
+      spare = b.now.spare;
+    })

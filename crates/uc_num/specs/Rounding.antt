@@ -1,5 +1,6 @@
 -- Whole numbers near a decimal (this project's profile).
-use Rattle.std.specs.Prelude.{◌≡◌, ℕ, suc, ◌+◌, ◌-◌, ◌*◌, ◌/◌, ◌%◌, ◌^◌, nat_eq, ℤ, pos, negsuc, neg_ℤ, ◌+ℤ◌, ◌-ℤ◌, ◌*ℤ◌, ◌≤ℤ◌, ◌<ℤ◌, Bool, if◌then◌else◌}
+use Rattle.std.specs.Prelude.{◌≡◌, ℕ, suc, ◌+◌, ◌-◌, ◌*◌, ◌/◌, ◌%◌, ◌^◌, nat_eq, ℤ, pos, negsuc}
+use Rattle.std.specs.Prelude.{neg_ℤ, ◌+ℤ◌, ◌-ℤ◌, ◌*ℤ◌, ◌≤ℤ◌, ◌<ℤ◌, Bool, if◌then◌else◌}
 use Rattle.uc_num.specs.declared.Decimal.{Decimal}
 
 -- A power of ten puts so many zeros behind the digits, or so many digits behind the point.
@@ -11,7 +12,8 @@ abbrev pub places : ℤ → ℕ
 places (pos n) = 0
 places (negsuc n) = suc n
 
--- digits * 10 ^ power is a whole number n; both sides times the inverse of the power where that is negative
+-- digits * 10 ^ power is a whole number n; both sides times the inverse of the power where that is
+-- negative
 abbrev pub IsWholeValue : ℕ → ℤ → Type 0
 IsWholeValue digits power = (n : ℕ) × (n * 10 ^ places power ≡ digits * 10 ^ zeros power)
 
@@ -22,11 +24,13 @@ is_whole_value digits power = nat_eq ((digits * 10 ^ zeros power) % 10 ^ places 
 abbrev pub signed : Bool → ℕ → ℤ
 signed negative size = if negative then neg_ℤ (pos size) else pos size
 
--- n is the whole number nearest to the number, a half rounded up: 2 * n - 1 <= 2 * 10 ^ power * number < 2 * n + 1;
--- all three sides times the inverse of the power where that is negative
+-- n is the whole number nearest to the number, a half rounded up: 2 * n - 1 <= 2 * 10 ^ power *
+-- number < 2 * n + 1; all three sides times the inverse of the power where that is negative
 pub record IsNearest (negative : Bool) (digits : ℕ) (power : ℤ) (n : ℤ) : Type 0 where
-  pub low : (((pos 2 *ℤ n) -ℤ pos 1) *ℤ pos (10 ^ places power)) ≤ℤ (pos 2 *ℤ signed negative (digits * 10 ^ zeros power))
-  pub high : (pos 2 *ℤ signed negative (digits * 10 ^ zeros power)) <ℤ (((pos 2 *ℤ n) +ℤ pos 1) *ℤ pos (10 ^ places power))
+  pub low : (((pos 2 *ℤ n) -ℤ pos 1) *ℤ pos (10 ^ places power))
+      ≤ℤ (pos 2 *ℤ signed negative (digits * 10 ^ zeros power))
+  pub high : (pos 2 *ℤ signed negative (digits * 10 ^ zeros power)) <ℤ
+      (((pos 2 *ℤ n) +ℤ pos 1) *ℤ pos (10 ^ places power))
 
 -- n is d * 10 ^ scale rounded
 abbrev pub IsRounded : Decimal → ℕ → ℤ → Type 0
@@ -50,4 +54,6 @@ rounded d scale = signed d.negative (rounded_size d scale)
 
 -- it is that number, and no other is
 abbrev pub RoundsToNearest : Type 0
-RoundsToNearest = (d : Decimal) (scale : ℕ) → IsRounded d scale (rounded d scale) × ((n : ℤ) → IsRounded d scale n → n ≡ rounded d scale)
+RoundsToNearest =
+    (d : Decimal) (scale : ℕ) → IsRounded d scale (rounded d scale)
+    × ((n : ℤ) → IsRounded d scale n → n ≡ rounded d scale)

@@ -1,8 +1,10 @@
 //! Decimal numbers, and the whole numbers nearest to them.
 #![tactic(auto)]
 
-ghost use Rattle.std.specs.Prelude.{◌≡◌, ◌<◌, ◌≤◌, ◌^◌, ◌*◌, ◌↔◌, Ok, Err, IsTrue, SomeIff, if◌then◌else◌, nat_lt, nat_le, unsigned_abs};
-ghost use Rattle.uc_num.specs.Rounding.{IsWholeValue, is_whole_value, rounded, rounded_size, size_cut};
+ghost use Rattle.std.specs.Prelude.{◌≡◌, ◌<◌, ◌≤◌, ◌^◌, ◌*◌, ◌↔◌, Ok, Err, IsTrue, SomeIff};
+ghost use Rattle.std.specs.Prelude.{if◌then◌else◌, nat_lt, nat_le, unsigned_abs};
+ghost use Rattle.uc_num.specs.Rounding.{IsWholeValue, is_whole_value, rounded, rounded_size};
+ghost use Rattle.uc_num.specs.Rounding.{size_cut};
 
 pub mod laws;
 
@@ -46,7 +48,8 @@ pub fn is_whole(d: Decimal) -> bool
 pub fn whole(d: Decimal, scale: u32, limit: u64) -> Result<i64, NumFault>
     requires scale { scale ≤ 6 }
     requires limit { limit ≤ 10 ^ 18 }
-    ensures { result ≡ (if nat_lt limit (unsigned_abs (rounded d scale)) then Err (NumFault.TooLarge limit) else Ok (rounded d scale)) }
+    ensures { result ≡ (if nat_lt limit (unsigned_abs (rounded d scale)) then Err
+        (NumFault.TooLarge limit) else Ok (rounded d scale)) }
 {
     let Some(size) = size(d, scale, limit) else {
         return Err(NumFault::TooLarge { limit });
@@ -94,7 +97,8 @@ fn raised(digits: u128, places: u64, limit: u64) -> Option<u64>
 /// The digits without the last so many of them, rounded.
 fn lowered(d: Decimal, places: u64, limit: u64) -> Option<u64>
     requires { limit ≤ 10 ^ 18 }
-    ensures { SomeIff result (size_cut d.negative d.digits (10 ^ places) ≤ limit) (size_cut d.negative d.digits (10 ^ places)) }
+    ensures { SomeIff result (size_cut d.negative d.digits (10 ^ places) ≤ limit)
+        (size_cut d.negative d.digits (10 ^ places)) }
 {
     if 38 < places {
         return Some(0);

@@ -16,13 +16,14 @@ use slope_list::Slopes;
 use uc_model::units::{Answered, Prices, Unit};
 use unit_program::{Bench, least_in_place};
 
-/// Leaves in `into` the least best response of a thermal unit to prices, in kilowatts, with what it earns in money, and
-/// answers true; or answers false exactly where no schedule of the unit is feasible, and `into` is unchanged. All three
-/// are over the same periods. Of several best responses the least is the first by on flags, off first, then by powers, and
-/// then by reserves, less first, each compared from the last period back.
+/// Leaves in `into` the least best response of a thermal unit to prices, in kilowatts, with what it
+/// earns in money, and answers true; or answers false exactly where no schedule of the unit is
+/// feasible, and `into` is unchanged. All three are over the same periods. Of several best
+/// responses the least is the first by on flags, off first, then by powers, and then by reserves,
+/// less first, each compared from the last period back.
 ///
-/// The bench suffices for the prices' periods and the unit's cost points, and afterwards for all that it sufficed for
-/// before. Takes no memory.
+/// The bench suffices for the prices' periods and the unit's cost points, and afterwards for all
+/// that it sufficed for before. Takes no memory.
 pub fn least_on_bench(
     bench: &mut Bench<Slopes>,
     unit: &Unit,
@@ -30,14 +31,24 @@ pub fn least_on_bench(
     into: &mut Answered,
 ) -> bool
     requires horizon { length (thermal_of unit.now).window ≡ length (prices_of prices.now).energy }
-    requires bench { IsBenchFor room_of (length (prices_of prices.now).energy) (length (thermal_of unit.now).points) bench.old }
-    requires into { length (schedule_of into.old.response).on ≡ length (prices_of prices.now).energy }
-    ensures best { IsTrue result → IsBest (Thermal (thermal_of unit.now)) (prices_of prices.now) (schedule_of into.new.response) }
-    ensures least { IsTrue result → IsLeast (Thermal (thermal_of unit.now)) (prices_of prices.now) (schedule_of into.new.response) }
-    ensures earned { IsTrue result → into.new.earned ≡ earnings (Thermal (thermal_of unit.now)) (prices_of prices.now) (schedule_of into.new.response) }
-    ensures none { IsFalse result → (s : Schedule) → IsThermalFeasible (thermal_of unit.now) (length (prices_of prices.now).energy) s → ⊥ }
+    requires bench { IsBenchFor room_of (length (prices_of prices.now).energy)
+        (length (thermal_of unit.now).points) bench.old }
+    requires into { length (schedule_of into.old.response).on
+        ≡ length (prices_of prices.now).energy }
+    ensures best { IsTrue result
+        → IsBest (Thermal (thermal_of unit.now)) (prices_of prices.now)
+        (schedule_of into.new.response) }
+    ensures least { IsTrue result
+        → IsLeast (Thermal (thermal_of unit.now)) (prices_of prices.now)
+        (schedule_of into.new.response) }
+    ensures earned { IsTrue result → into.new.earned
+        ≡ earnings (Thermal (thermal_of unit.now)) (prices_of prices.now)
+        (schedule_of into.new.response) }
+    ensures none { IsFalse result → (s : Schedule)
+        → IsThermalFeasible (thermal_of unit.now) (length (prices_of prices.now).energy) s → ⊥ }
     ensures same { IsFalse result → into.new ≡ into.old }
-    ensures bench { (periods points : ℕ) → IsBenchFor room_of periods points bench.old → IsBenchFor room_of periods points bench.new }
+    ensures bench { (periods points : ℕ) → IsBenchFor room_of periods points bench.old
+        → IsBenchFor room_of periods points bench.new }
 {
     least_in_place(bench, unit, prices, into)
 }

@@ -26,7 +26,8 @@ fn paid(prices: &Numbers, amounts: &Powers) -> i128
     requires lengths { length prices.now.items ≡ length amounts.now.items }
     requires horizon { length amounts.now.items ≤ MOST_PERIODS }
     ensures value { result ≡ paid_for prices.now.items amounts.now.items }
-    ensures limit { IsFrom (neg_ℤ (pos 1000000000000000000000000)) (pos 1000000000000000000000000) result }
+    ensures limit { IsFrom (neg_ℤ (pos 1000000000000000000000000)) (pos 1000000000000000000000000)
+        result }
 {
     let mut sum = 0;
     for place in 0..amounts.len() {
@@ -37,11 +38,14 @@ fn paid(prices: &Numbers, amounts: &Powers) -> i128
     sum
 }
 
-// What the schedule of a thermal unit earns: what it is paid for power and reserve, less what it costs.
+// What the schedule of a thermal unit earns: what it is paid for power and reserve, less what it
+// costs.
 fn thermal_earnings(unit: &Unit, prices: &Prices, response: &Response) -> i128
     requires horizon { length (schedule_of response.now).on ≡ length (prices_of prices.now).energy }
-    requires feasible { IsThermalFeasible (thermal_of unit.now) (length (schedule_of response.now).on) (schedule_of response.now) }
-    ensures { result ≡ earnings (Thermal (thermal_of unit.now)) (prices_of prices.now) (schedule_of response.now) }
+    requires feasible { IsThermalFeasible (thermal_of unit.now)
+        (length (schedule_of response.now).on) (schedule_of response.now) }
+    ensures { result ≡ earnings (Thermal (thermal_of unit.now)) (prices_of prices.now)
+        (schedule_of response.now) }
 {
     let energy = paid(&prices.energy, &response.power);
     let reserve = paid(&prices.reserve, &response.reserve);
@@ -52,16 +56,19 @@ fn thermal_earnings(unit: &Unit, prices: &Prices, response: &Response) -> i128
 // What the schedule of a renewable unit earns: what it is paid, at no cost.
 fn flat_earnings(prices: &Prices, response: &Response) -> i128
     requires { length (schedule_of response.now).on ≡ length (prices_of prices.now).energy }
-    ensures { (r : RenewableUnit) → result ≡ earnings (Flat r) (prices_of prices.now) (schedule_of response.now) }
+    ensures { (r : RenewableUnit)
+        → result ≡ earnings (Flat r) (prices_of prices.now) (schedule_of response.now) }
 {
     paid(&prices.energy, &response.power) + paid(&prices.reserve, &response.reserve)
 }
 
-// What the schedule of a bid earns: what its power is worth to the buyer, less what the buyer pays for it.
+// What the schedule of a bid earns: what its power is worth to the buyer, less what the buyer pays
+// for it.
 fn bid_earnings(bid: &Bid, prices: &Prices, response: &Response) -> i128
     requires horizon { length (schedule_of response.now).on ≡ length (prices_of prices.now).energy }
     requires blocks { length (bid_of bid.now).blocks ≡ length (schedule_of response.now).on }
-    ensures { result ≡ earnings (BidOf (bid_of bid.now)) (prices_of prices.now) (schedule_of response.now) }
+    ensures { result ≡ earnings (BidOf (bid_of bid.now)) (prices_of prices.now)
+        (schedule_of response.now) }
 {
     let energy = paid(&prices.energy, &response.power);
     let reserve = paid(&prices.reserve, &response.reserve);
@@ -73,7 +80,8 @@ fn thermal_earned(case: &Case, plan: &Plan, prices: &Prices, number: usize) -> i
     requires feasible { IsFeasiblePlan (market_of case.now) (schedules_of plan.now) }
     requires horizon { length (prices_of prices.now).energy ≡ (market_of case.now).periods }
     requires number { number < length (market_of case.now).thermal }
-    ensures { slice_get (earned_in (market_of case.now) (schedules_of plan.now) (prices_of prices.now)) number ≡ Some result }
+    ensures { slice_get (earned_in (market_of case.now) (schedules_of plan.now)
+        (prices_of prices.now)) number ≡ Some result }
 {
     units_are_numbered();
     feasible_plans_have_shape();
@@ -87,8 +95,10 @@ fn flat_earned(case: &Case, plan: &Plan, prices: &Prices, number: usize) -> i128
     requires feasible { IsFeasiblePlan (market_of case.now) (schedules_of plan.now) }
     requires horizon { length (prices_of prices.now).energy ≡ (market_of case.now).periods }
     requires first { length (market_of case.now).thermal ≤ number }
-    requires last { number < length (market_of case.now).thermal + length (market_of case.now).flat }
-    ensures { slice_get (earned_in (market_of case.now) (schedules_of plan.now) (prices_of prices.now)) number ≡ Some result }
+    requires last { number < length (market_of case.now).thermal
+        + length (market_of case.now).flat }
+    ensures { slice_get (earned_in (market_of case.now) (schedules_of plan.now)
+        (prices_of prices.now)) number ≡ Some result }
 {
     units_are_numbered();
     feasible_plans_have_shape();
@@ -101,7 +111,10 @@ fn bid_earned(case: &Case, plan: &Plan, prices: &Prices, place: usize) -> i128
     requires feasible { IsFeasiblePlan (market_of case.now) (schedules_of plan.now) }
     requires horizon { length (prices_of prices.now).energy ≡ (market_of case.now).periods }
     requires place { place < length (market_of case.now).bids }
-    ensures { slice_get (earned_in (market_of case.now) (schedules_of plan.now) (prices_of prices.now)) ((length (market_of case.now).thermal + length (market_of case.now).flat) + place) ≡ Some result }
+    ensures { slice_get (earned_in (market_of case.now) (schedules_of plan.now)
+        (prices_of prices.now))
+        ((length (market_of case.now).thermal + length (market_of case.now).flat) + place)
+        ≡ Some result }
 {
     units_are_numbered();
     feasible_plans_have_shape();
@@ -116,7 +129,8 @@ fn earned_at(case: &Case, plan: &Plan, prices: &Prices, number: usize) -> i128
     requires feasible { IsFeasiblePlan (market_of case.now) (schedules_of plan.now) }
     requires horizon { length (prices_of prices.now).energy ≡ (market_of case.now).periods }
     requires number { number < length (schedules_of plan.now) }
-    ensures { slice_get (earned_in (market_of case.now) (schedules_of plan.now) (prices_of prices.now)) number ≡ Some result }
+    ensures { slice_get (earned_in (market_of case.now) (schedules_of plan.now)
+        (prices_of prices.now)) number ≡ Some result }
 {
     feasible_plans_have_shape();
     let producers = case.producer_count();
@@ -129,12 +143,14 @@ fn earned_at(case: &Case, plan: &Plan, prices: &Prices, number: usize) -> i128
     bid_earned(case, plan, prices, number - producers)
 }
 
-/// What the unit of a number earns in a feasible plan at the prices, in money. Numbers count from 0.
+/// What the unit of a number earns in a feasible plan at the prices, in money. Numbers count from
+/// 0.
 pub fn earned_by(case: &Case, plan: &Plan, prices: &Prices, number: usize) -> i64
     requires feasible { IsFeasiblePlan (market_of case.now) (schedules_of plan.now) }
     requires horizon { length (prices_of prices.now).energy ≡ (market_of case.now).periods }
     requires number { number < length (schedules_of plan.now) }
-    ensures value { slice_get (earned_in (market_of case.now) (schedules_of plan.now) (prices_of prices.now)) number ≡ Some result }
+    ensures value { slice_get (earned_in (market_of case.now) (schedules_of plan.now)
+        (prices_of prices.now)) number ≡ Some result }
     ensures limit { IsEarned result }
 {
     units_are_within();

@@ -21,8 +21,8 @@ use uc_model::lists::Numbers;
 use uc_model::money::worth;
 use uc_model::units::Prices;
 
-/// What the units of a case earn in a plan and are paid beside the prices, in money. A list has one number for each
-/// thermal unit, renewable unit and bid, in the order of the units' numbers.
+/// What the units of a case earn in a plan and are paid beside the prices, in money. A list has one
+/// number for each thermal unit, renewable unit and bid, in the order of the units' numbers.
 #[derive(Drop)]
 pub struct Settlement {
     /// What each schedule of the plan earns at the prices.
@@ -72,7 +72,8 @@ fn reserve_over(case: &Case, plan: &Plan, place: usize) -> i64
 fn surplus_of(case: &Case, plan: &Plan, prices: &Prices) -> i128
     requires feasible { IsFeasiblePlan (market_of case.now) (schedules_of plan.now) }
     requires horizon { length (prices_of prices.now).energy ≡ (market_of case.now).periods }
-    ensures { result ≡ surplus_value (market_of case.now) (schedules_of plan.now) (prices_of prices.now) }
+    ensures { result ≡ surplus_value (market_of case.now) (schedules_of plan.now)
+        (prices_of prices.now) }
 {
     let mut sum = 0;
     for place in 0..case.periods as usize {
@@ -100,7 +101,8 @@ fn uplift(best: i64, scheduled: i64) -> i64
     best - scheduled
 }
 
-// Adds the unit whose schedule in the plan earns `scheduled`, and is paid so much beside the prices.
+// Adds the unit whose schedule in the plan earns `scheduled`, and is paid so much beside the
+// prices.
 fn add_unit(into: &mut Settlement, scheduled: i64, payment: i64)
     requires scheduled_room { 1 ≤ into.old.scheduled.spare }
     requires payments_room { 1 ≤ into.old.payments.spare }
@@ -117,17 +119,20 @@ fn add_unit(into: &mut Settlement, scheduled: i64, payment: i64)
     into.total += i128::from(payment);
 }
 
-/// Leaves in `into` what each unit's schedule in a feasible plan earns at the prices, its payment, the worth of the
-/// surplus reserve, and the sum of the payments, all in money. `earned` has what the best schedules of each unit earn at
-/// the prices, in the order of the units' numbers. The prices are over the periods of the case, and the lists of `into`
-/// have one number for each unit. Takes no memory.
+/// Leaves in `into` what each unit's schedule in a feasible plan earns at the prices, its payment,
+/// the worth of the surplus reserve, and the sum of the payments, all in money. `earned` has what
+/// the best schedules of each unit earn at the prices, in the order of the units' numbers. The
+/// prices are over the periods of the case, and the lists of `into` have one number for each unit.
+/// Takes no memory.
 pub fn settle(case: &Case, plan: &Plan, prices: &Prices, earned: &[i64], into: &mut Settlement)
     requires feasible { IsFeasiblePlan (market_of case.now) (schedules_of plan.now) }
     requires horizon { length (prices_of prices.now).energy ≡ (market_of case.now).periods }
-    requires best { AllZip (λ (u : AnyUnit) (e : ℤ). IsTop u (prices_of prices.now) e) (units (market_of case.now)) earned.now }
+    requires best { AllZip (λ (u : AnyUnit) (e : ℤ). IsTop u (prices_of prices.now) e)
+        (units (market_of case.now)) earned.now }
     requires scheduled { length into.old.scheduled.items ≡ unit_count (market_of case.now) }
     requires payments { length into.old.payments.items ≡ unit_count (market_of case.now) }
-    ensures settled { IsSettled (market_of case.now) (schedules_of plan.now) (prices_of prices.now) into.new.scheduled.items into.new.payments.items into.new.surplus into.new.total }
+    ensures settled { IsSettled (market_of case.now) (schedules_of plan.now) (prices_of prices.now)
+        into.new.scheduled.items into.new.payments.items into.new.surplus into.new.total }
     ensures scheduled_room { into.new.scheduled.spare ≡ into.old.scheduled.spare }
     ensures payments_room { into.new.payments.spare ≡ into.old.payments.spare }
 {
