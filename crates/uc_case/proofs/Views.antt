@@ -1,5 +1,5 @@
 -- A tree and a member, level by level.
-use Rattle.std.proofs.Common.{◌≡◌, List, [], ◌∷◌, Vec, Global, Some, refl, ap, rules}
+use Rattle.std.proofs.Common.{◌≡◌, List, [], ◌∷◌, Vec, Global, Box, Some, string_bytes, refl, ap, rules}
 use Rattle.uc_text.specs.Values.{Value, list, object}
 use Rattle.uc_text.specs.Parts.{Pair, items_of, members_of}
 use Rattle.uc_text.specs.View.{view, views, member_view, member_views}
@@ -15,21 +15,21 @@ pub pairs_back : (ps : List Pair) → pairs (members_of ps) ≡ ps
 pairs_back [] = refl
 pairs_back (p ∷ ps) = ap (λ (xs : List Pair). p ∷ xs) (pairs_back ps)
 
-pub name_is : (m : Member) → (member_view m).name ≡ (out-Member m).name.items
+pub name_is : (m : Member) → (member_view m).name ≡ string_bytes (out-Member m).name
 name_is m = search (rules, member_lemmas)
 
 pub value_is : (m : Member) → (member_view m).value ≡ view (out-Member m).value
 value_is m = search (rules, member_lemmas)
 
-view-List : (v : Vec Tree Global) → view (ListOf v) ≡ list (items_of (views v.items))
-view-List v = search (rules, the_lemmas)
+view-List : (b : Box (Vec Tree Global) Global) → view (ListOf b) ≡ list (items_of (views b.value.items))
+view-List b = search (rules, the_lemmas)
 
-view-Object : (v : Vec Member Global) → view (Object v) ≡ object (members_of (member_views v.items))
-view-Object v = search (rules, the_lemmas)
+view-Object : (b : Box (Vec Member Global) Global) → view (Object b) ≡ object (members_of (member_views b.value.items))
+view-Object b = search (rules, the_lemmas)
 
 -- the parts of each kind of tree
-pub list_in-List : (v : Vec Tree Global) → list_in (view (ListOf v)) ≡ Some (views v.items)
-list_in-List v = rw view-List (ap (λ (xs : List Value). Some xs) (values_back (views v.items)))
+pub list_in-List : (b : Box (Vec Tree Global) Global) → list_in (view (ListOf b)) ≡ Some (views b.value.items)
+list_in-List b = rw view-List (ap (λ (xs : List Value). Some xs) (values_back (views b.value.items)))
 
-pub object_in-Object : (v : Vec Member Global) → object_in (view (Object v)) ≡ Some (member_views v.items)
-object_in-Object v = rw view-Object (ap (λ (xs : List Pair). Some xs) (pairs_back (member_views v.items)))
+pub object_in-Object : (b : Box (Vec Member Global) Global) → object_in (view (Object b)) ≡ Some (member_views b.value.items)
+object_in-Object b = rw view-Object (ap (λ (xs : List Pair). Some xs) (pairs_back (member_views b.value.items)))

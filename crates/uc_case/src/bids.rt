@@ -27,7 +27,8 @@ const BLOCKS: usize = MOST_BLOCKS as usize;
 #[tactic(auto, unfolding(crate::specs::Tables::block))]
 fn read_block(at: Place, before: &[Block], tree: &Tree) -> Result<Block, FieldStop>
     ensures fits { IfOk result (λ b. IsBlock b) }
-    ensures order { IfOk result (λ b. last_is (λ (a : PlainBlock). int_lt a.price b.price) before.now ≡ false) }
+    ensures order { IfOk result (λ b. last_is (λ (a : PlainBlock). int_lt a.price b.price)
+        before.now ≡ false) }
     ensures value { Gives (λ b. b) result (block at before.now (view tree.now)) }
 {
     let members = object_of(at, tree)?;
@@ -75,7 +76,8 @@ fn read_periods(alloc: Global, at: Place, trees: &[Tree]) -> Result<BlockLists, 
     requires { length trees.now ≤ 4096 }
     ensures count { IfOk result (λ ls. length ls.items ≡ length trees.now) }
     ensures fits { IfOk result (λ ls. All (λ bs. IsBlockList bs) (map items_in ls.items)) }
-    ensures value { Gives (λ ls. map items_in ls.items) result (items period_blocks at (views trees.now)) }
+    ensures value { Gives (λ ls. map items_in ls.items) result
+        (items period_blocks at (views trees.now)) }
 {
     let mut lists = BlockLists::make(alloc, trees.len() as u32)?;
     for tree in trees {
@@ -91,7 +93,8 @@ fn read_block_lists(alloc: Global, u: &Keys, periods: u32) -> Result<BlockLists,
     requires { periods ≤ 168 }
     ensures count { IfOk result (λ ls. length ls.items ≡ periods) }
     ensures fits { IfOk result (λ ls. All (λ bs. IsBlockList bs) (map items_in ls.items)) }
-    ensures value { Gives (λ ls. map items_in ls.items) result (key (keys u.now.at (member_views u.now.members.now)) Field.Blocks (blocks periods)) }
+    ensures value { Gives (λ ls. map items_in ls.items) result
+        (key (keys u.now.at (member_views u.now.members.now)) Field.Blocks (blocks periods)) }
 {
     let at = u.at.field(Field::Blocks);
     let trees = list_of(at, u.value(Field::Blocks)?)?;

@@ -61,8 +61,11 @@ fn read_thermal(alloc: Global, members: &[Member], periods: u32) -> Result<Therm
     requires some { 1 ≤ periods }
     requires horizon { periods ≤ 168 }
     ensures count { IfOk result (λ l. length l.items ≡ length members.now) }
-    ensures fits { IfOk result (λ l. All (λ n. IsThermalOf periods n) (map named_thermal_of l.items)) }
-    ensures value { Gives (λ l. map named_thermal_of l.items) result (each_member Field.ThermalGenerators Kind.Thermal (thermal periods) (member_views members.now)) }
+    ensures fits { IfOk result (λ l. All (λ n. IsThermalOf periods n)
+        (map named_thermal_of l.items)) }
+    ensures value { Gives (λ l. map named_thermal_of l.items) result
+        (each_member Field.ThermalGenerators Kind.Thermal (thermal periods)
+        (member_views members.now)) }
 {
     let mut list = ThermalList::make(alloc, members.len() as u32)?;
     for member in members {
@@ -87,8 +90,10 @@ fn read_thermal_units(
     requires some { 1 ≤ periods }
     requires horizon { periods ≤ 168 }
     ensures count { IfOk result (λ l. length l.items ≤ 4096) }
-    ensures fits { IfOk result (λ l. All (λ n. IsThermalOf periods n) (map named_thermal_of l.items)) }
-    ensures value { Gives (λ l. map named_thermal_of l.items) result (units Field.ThermalGenerators Kind.Thermal (thermal periods) at (view tree.now)) }
+    ensures fits { IfOk result (λ l. All (λ n. IsThermalOf periods n)
+        (map named_thermal_of l.items)) }
+    ensures value { Gives (λ l. map named_thermal_of l.items) result
+        (units Field.ThermalGenerators Kind.Thermal (thermal periods) at (view tree.now)) }
 {
     let members = object_of(at, tree)?;
     if members.len() > MOST_UNITS {
@@ -107,7 +112,8 @@ fn read_named_flat(
     requires some { 1 ≤ periods }
     requires horizon { periods ≤ 168 }
     ensures fits { IfOk result (λ n. IsRenewableOf periods (named_renewable_of n)) }
-    ensures value { Gives named_renewable_of result (renewable periods at (member_view member.now)) }
+    ensures value { Gives named_renewable_of result
+        (renewable periods at (member_view member.now)) }
 {
     let flat = read_renewable(alloc, at, member_value(member), periods)?;
     let name = Name::copied(alloc, name_of(member))?;
@@ -119,8 +125,11 @@ fn read_flat(alloc: Global, members: &[Member], periods: u32) -> Result<FlatList
     requires some { 1 ≤ periods }
     requires horizon { periods ≤ 168 }
     ensures count { IfOk result (λ l. length l.items ≡ length members.now) }
-    ensures fits { IfOk result (λ l. All (λ n. IsRenewableOf periods n) (map named_renewable_of l.items)) }
-    ensures value { Gives (λ l. map named_renewable_of l.items) result (each_member Field.RenewableGenerators Kind.Renewable (renewable periods) (member_views members.now)) }
+    ensures fits { IfOk result (λ l. All (λ n. IsRenewableOf periods n)
+        (map named_renewable_of l.items)) }
+    ensures value { Gives (λ l. map named_renewable_of l.items) result
+        (each_member Field.RenewableGenerators Kind.Renewable (renewable periods)
+        (member_views members.now)) }
 {
     let mut list = FlatList::make(alloc, members.len() as u32)?;
     for member in members {
@@ -145,8 +154,10 @@ fn read_flat_units(
     requires some { 1 ≤ periods }
     requires horizon { periods ≤ 168 }
     ensures count { IfOk result (λ l. length l.items ≤ 4096) }
-    ensures fits { IfOk result (λ l. All (λ n. IsRenewableOf periods n) (map named_renewable_of l.items)) }
-    ensures value { Gives (λ l. map named_renewable_of l.items) result (units Field.RenewableGenerators Kind.Renewable (renewable periods) at (view tree.now)) }
+    ensures fits { IfOk result (λ l. All (λ n. IsRenewableOf periods n)
+        (map named_renewable_of l.items)) }
+    ensures value { Gives (λ l. map named_renewable_of l.items) result
+        (units Field.RenewableGenerators Kind.Renewable (renewable periods) at (view tree.now)) }
 {
     let members = object_of(at, tree)?;
     if members.len() > MOST_UNITS {
@@ -178,7 +189,8 @@ fn read_bids(alloc: Global, members: &[Member], periods: u32) -> Result<BidList,
     requires horizon { periods ≤ 168 }
     ensures count { IfOk result (λ l. length l.items ≡ length members.now) }
     ensures fits { IfOk result (λ l. All (λ n. IsBidOf periods n) (map named_bid_of l.items)) }
-    ensures value { Gives (λ l. map named_bid_of l.items) result (each_member Field.DemandBids Kind.Bid (bid periods) (member_views members.now)) }
+    ensures value { Gives (λ l. map named_bid_of l.items) result
+        (each_member Field.DemandBids Kind.Bid (bid periods) (member_views members.now)) }
 {
     let mut list = BidList::make(alloc, members.len() as u32)?;
     for member in members {
@@ -195,7 +207,8 @@ fn read_bid_units(alloc: Global, at: Place, tree: &Tree, periods: u32) -> Result
     requires horizon { periods ≤ 168 }
     ensures count { IfOk result (λ l. length l.items ≤ 4096) }
     ensures fits { IfOk result (λ l. All (λ n. IsBidOf periods n) (map named_bid_of l.items)) }
-    ensures value { Gives (λ l. map named_bid_of l.items) result (units Field.DemandBids Kind.Bid (bid periods) at (view tree.now)) }
+    ensures value { Gives (λ l. map named_bid_of l.items) result
+        (units Field.DemandBids Kind.Bid (bid periods) at (view tree.now)) }
 {
     let members = object_of(at, tree)?;
     if members.len() > MOST_UNITS {
@@ -210,7 +223,9 @@ fn read_demand_bids(alloc: Global, c: &Keys, periods: u32) -> Result<BidList, Fi
     requires horizon { periods ≤ 168 }
     ensures count { IfOk result (λ l. length l.items ≤ 4096) }
     ensures fits { IfOk result (λ l. All (λ n. IsBidOf periods n) (map named_bid_of l.items)) }
-    ensures value { Gives (λ l. map named_bid_of l.items) result (key_or_none (keys c.now.at (member_views c.now.members.now)) Field.DemandBids (bids periods)) }
+    ensures value { Gives (λ l. map named_bid_of l.items) result
+        (key_or_none (keys c.now.at (member_views c.now.members.now)) Field.DemandBids
+        (bids periods)) }
 {
     let Some(tree) = c.find(Field::DemandBids) else {
         return Ok(BidList::make(alloc, 0)?);

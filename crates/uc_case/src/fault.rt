@@ -131,8 +131,9 @@ impl Field {
     }
 }
 
-/// Where a test looks: a field of the case as a whole, with unit 0, or of the unit at that position within its kind.
-/// `item` is the position within a list, from 1, and the period in `blocks`; it is 0 outside of lists.
+/// Where a test looks: a field of the case as a whole, with unit 0, or of the unit at that position
+/// within its kind. `item` is the position within a list, from 1, and the period in `blocks`; it is
+/// 0 outside of lists.
 #[derive(Clone, Copy)]
 pub struct Place {
     pub field: Field,

@@ -4,7 +4,8 @@ ghost use Rattle.uc_model.specs.Limits.{IsFrom};
 ghost use Rattle.uc_text.specs.View.{view, views, member_views};
 ghost use Rattle.uc_case.specs.Given.{Gives};
 ghost use Rattle.uc_case.specs.Places.{fault};
-ghost use Rattle.uc_case.specs.Forms.{decimal, list, object, amount, power, cost, start_cost, time_within, flag, under};
+ghost use Rattle.uc_case.specs.Forms.{decimal, list, object, amount, power, cost, start_cost};
+ghost use Rattle.uc_case.specs.Forms.{time_within, flag, under};
 ghost use Rattle.uc_case.specs.declared.stop.Stop.TheVariants as stops;
 
 use crate::fault::{CaseCode, FieldFault, Place};

@@ -2,7 +2,8 @@
 ghost use Rattle.std.specs.Prelude.{◌≡◌};
 ghost use Rattle.std.specs.Option.{option_map, option_copied};
 ghost use Rattle.uc_text.specs.View.{view, views, member_view, member_views};
-ghost use Rattle.uc_case.specs.Inside.{number_in, list_in, object_in, value_of, bit_of, is_whole as is_whole_of};
+ghost use Rattle.uc_case.specs.Inside.{number_in, list_in, object_in, value_of, bit_of};
+ghost use Rattle.uc_case.specs.Inside.{is_whole as is_whole_of};
 
 use uc_num::{Decimal, is_whole, whole};
 use uc_text::{Member, Tree};
@@ -12,7 +13,8 @@ pub fn as_number(tree: &Tree) -> Option<Decimal>
     ensures { result ≡ number_in (view tree.now) }
 {
     match tree {
-        Tree::Number(d) => Some(*d),
+        Tree::Number(small) => Some(small.decimal()),
+        Tree::LargeNumber(number) => Some(**number),
         _ => None,
     }
 }

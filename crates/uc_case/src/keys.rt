@@ -22,19 +22,23 @@ pub struct Keys<'a> {
 
 impl<'a> Keys<'a> {
     pub fn value(&self, field: Field) -> Result<&'a Tree, FieldStop>
-        ensures { Gives (λ t. view t.now) result (under (field_at self.now.at field) (key_of field) (member_views self.now.members.now)) }
+        ensures { Gives (λ t. view t.now) result
+            (under (field_at self.now.at field) (key_of field)
+            (member_views self.now.members.now)) }
     {
         value_under(self.at.field(field), self.members, field.key())
     }
 
     pub fn find(&self, field: Field) -> Option<&'a Tree>
-        ensures { option_map view (option_copied result) ≡ value_of (key_of field) (member_views self.now.members.now) }
+        ensures { option_map view (option_copied result)
+            ≡ value_of (key_of field) (member_views self.now.members.now) }
     {
         find(self.members, field.key())
     }
 
     pub fn flag(&self, field: Field) -> Result<bool, FieldStop>
-        ensures { Gives (λ b. b) result (key (keys self.now.at (member_views self.now.members.now)) field flag) }
+        ensures { Gives (λ b. b) result
+            (key (keys self.now.at (member_views self.now.members.now)) field flag) }
     {
         read_flag(self.at.field(field), self.value(field)?)
     }
@@ -42,7 +46,8 @@ impl<'a> Keys<'a> {
     pub fn power(&self, field: Field, limit: u64) -> Result<i64, FieldStop>
         requires { limit ≤ 10 ^ 18 }
         ensures bound { IfOk result (λ n. IsFrom (pos 0) (pos limit) n) }
-        ensures value { Gives (λ n. n) result (key (keys self.now.at (member_views self.now.members.now)) field (power limit)) }
+        ensures value { Gives (λ n. n) result
+            (key (keys self.now.at (member_views self.now.members.now)) field (power limit)) }
     {
         read_power(self.at.field(field), self.value(field)?, limit)
     }
@@ -50,7 +55,8 @@ impl<'a> Keys<'a> {
     pub fn time(&self, field: Field, limit: u64) -> Result<u32, FieldStop>
         requires { limit ≤ 1000000 }
         ensures bound { IfOk result (λ n. n ≤ limit) }
-        ensures value { Gives (λ n. n) result (key (keys self.now.at (member_views self.now.members.now)) field (time_within limit)) }
+        ensures value { Gives (λ n. n) result
+            (key (keys self.now.at (member_views self.now.members.now)) field (time_within limit)) }
     {
         read_time(self.at.field(field), self.value(field)?, limit)
     }

@@ -1,5 +1,5 @@
-//! The case of a file: a case of unit commitment as pglib-uc has it, with demand bids, or the first fault in a fixed
-//! order.
+//! The case of a file: a case of unit commitment as pglib-uc has it, with demand bids, or the first
+//! fault in a fixed order.
 #![tactic(auto)]
 
 mod bids;

@@ -9,7 +9,8 @@ ghost use Rattle.uc_case.specs.Given.{Gives};
 ghost use Rattle.uc_case.specs.Kept.{AreLags, ArePoints};
 ghost use Rattle.uc_case.specs.Words.{last_is};
 ghost use Rattle.uc_case.specs.Forms.{key, keys, items, part, power, cost, start_cost, time};
-ghost use Rattle.uc_case.specs.Tables.{lag, startup, point, piecewise, powers, one_power, ends_miss};
+ghost use Rattle.uc_case.specs.Tables.{lag, startup, point, piecewise, powers, one_power};
+ghost use Rattle.uc_case.specs.Tables.{ends_miss};
 
 use crate::fault::{CaseCode, Field, Place};
 use crate::forms::{
@@ -24,7 +25,8 @@ use uc_text::Tree;
 #[tactic(auto, unfolding(crate::specs::Tables::lag))]
 fn read_lag(at: Place, before: &[Lag], tree: &Tree) -> Result<Lag, FieldStop>
     ensures fits { IfOk result (λ l. IsLag l) }
-    ensures order { IfOk result (λ l. last_is (λ (b : PlainLag). nat_lt l.lag b.lag) before.now ≡ false) }
+    ensures order { IfOk result (λ l. last_is (λ (b : PlainLag). nat_lt l.lag b.lag) before.now
+        ≡ false) }
     ensures value { Gives (λ l. l) result (lag at before.now (view tree.now)) }
 {
     let members = object_of(at, tree)?;
@@ -57,7 +59,8 @@ fn read_lags(alloc: Global, at: Place, trees: &[Tree]) -> Result<Lags, FieldStop
 pub fn read_startup(alloc: Global, u: &Keys) -> Result<Lags, FieldStop>
     ensures count { IfOk result (λ ls. length ls.items ≤ 32) }
     ensures fits { IfOk result (λ ls. AreLags ls.items) }
-    ensures value { Gives (λ ls. ls.items) result (key (keys u.now.at (member_views u.now.members.now)) Field.Startup startup) }
+    ensures value { Gives (λ ls. ls.items) result
+        (key (keys u.now.at (member_views u.now.members.now)) Field.Startup startup) }
 {
     let at = u.at.field(Field::Startup);
     let trees = list_of(at, u.value(Field::Startup)?)?;
@@ -70,7 +73,8 @@ pub fn read_startup(alloc: Global, u: &Keys) -> Result<Lags, FieldStop>
 #[tactic(auto, unfolding(crate::specs::Tables::point))]
 fn read_point(at: Place, before: &[Point], tree: &Tree) -> Result<Point, FieldStop>
     ensures fits { IfOk result (λ p. IsPoint p) }
-    ensures order { IfOk result (λ p. last_is (λ (b : PlainPoint). int_lt p.at b.at) before.now ≡ false) }
+    ensures order { IfOk result (λ p. last_is (λ (b : PlainPoint). int_lt p.at b.at) before.now
+        ≡ false) }
     ensures value { Gives (λ p. p) result (point at before.now (view tree.now)) }
 {
     let members = object_of(at, tree)?;
@@ -120,7 +124,9 @@ pub fn read_piecewise(alloc: Global, u: &Keys, low: i64, high: i64) -> Result<Po
     ensures some { IfOk result (λ ps. 1 ≤ length ps.items) }
     ensures fits { IfOk result (λ ps. ArePoints ps.items) }
     ensures span { IfOk result (λ ps. Spans ps.items low high) }
-    ensures value { Gives (λ ps. ps.items) result (key (keys u.now.at (member_views u.now.members.now)) Field.PiecewiseProduction (piecewise low high)) }
+    ensures value { Gives (λ ps. ps.items) result
+        (key (keys u.now.at (member_views u.now.members.now)) Field.PiecewiseProduction
+        (piecewise low high)) }
 {
     let at = u.at.field(Field::PiecewiseProduction);
     let trees = list_of(at, u.value(Field::PiecewiseProduction)?)?;
@@ -159,7 +165,8 @@ pub fn read_powers(
     requires { periods ≤ 168 }
     ensures count { IfOk result (λ ns. length ns.items ≡ periods) }
     ensures fits { IfOk result (λ ns. All (λ n. IsPower n) ns.items) }
-    ensures value { Gives (λ ns. ns.items) result (key (keys u.now.at (member_views u.now.members.now)) field (powers periods)) }
+    ensures value { Gives (λ ns. ns.items) result
+        (key (keys u.now.at (member_views u.now.members.now)) field (powers periods)) }
 {
     let at = u.at.field(field);
     let trees = list_of(at, u.value(field)?)?;

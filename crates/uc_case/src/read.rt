@@ -14,18 +14,20 @@ use std::alloc::Global;
 use uc_model::cases::Case;
 use uc_text::{TextError, read_tree};
 
-/// The case of a file, as pglib-uc has it, with `commitment` lists and `demand_bids`. Powers are read in megawatts and
-/// kept in kilowatts, costs in the currency and kept in its millionths, each rounded to the nearest whole number.
+/// The case of a file, as pglib-uc has it, with `commitment` lists and `demand_bids`. Powers are
+/// read in megawatts and kept in kilowatts, costs in the currency and kept in its millionths, each
+/// rounded to the nearest whole number.
 ///
-/// Refuses a file that isn't a JSON text with the first fault of the text. Else refuses with the first test that fails,
-/// in the order of the tables: the keys of the case, the thermal units in file order, the renewable ones, the bids, and
-/// last that there is a unit.
+/// Refuses a file that isn't a JSON text with the first fault of the text. Else refuses with the
+/// first test that fails, in the order of the tables: the keys of the case, the thermal units in
+/// file order, the renewable ones, the bids, and last that there is a unit.
 pub fn read_case(alloc: Global, bytes: &[u8]) -> Result<Case, CaseFault>
     requires { length bytes.now ≤ 67108864 }
     // The answer is what the file is.
     ensures answer { IfRead market_of result (λ r. IsCaseOf bytes.now r) }
     // What the file is, is answered.
-    ensures only { (r : Result Market (FileFault PlainFault)) → IsCaseOf bytes.now r → IfRead market_of result (λ s. s ≡ r) }
+    ensures only { (r : Result Market (FileFault PlainFault)) → IsCaseOf bytes.now r
+        → IfRead market_of result (λ s. s ≡ r) }
 {
     one_case();
     read_file(alloc, bytes)

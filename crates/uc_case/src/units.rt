@@ -6,7 +6,8 @@ ghost use Rattle.uc_text.specs.View.{view, member_views};
 ghost use Rattle.uc_case.specs.Given.{Gives};
 ghost use Rattle.uc_case.specs.Kept.{IsRange, AreRamps, IsPast};
 ghost use Rattle.uc_case.specs.Forms.{keys};
-ghost use Rattle.uc_case.specs.Tables.{thermal_unit, renewable_unit, first_crossed, at_least_one, output, ramps, past};
+ghost use Rattle.uc_case.specs.Tables.{thermal_unit, renewable_unit, first_crossed, at_least_one};
+ghost use Rattle.uc_case.specs.Tables.{output, ramps, past};
 
 use crate::fault::{CaseCode, Field, Place};
 use crate::forms::{FieldStop, object_of};
@@ -34,7 +35,8 @@ fn raised_to_one(time: u32) -> u32
 #[tactic(auto, unfolding(crate::specs::Tables::output))]
 fn read_output(u: &Keys) -> Result<Output, FieldStop>
     ensures fits { IfOk result (λ o. IsRange o) }
-    ensures value { Gives (λ o. o) result (output (keys u.now.at (member_views u.now.members.now))) }
+    ensures value { Gives (λ o. o) result
+        (output (keys u.now.at (member_views u.now.members.now))) }
 {
     let must_run = u.flag(Field::MustRun)?;
     let least = u.power(Field::PowerOutputMinimum, POWER)?;

@@ -18,7 +18,8 @@ pub enum ShapeCode {
     MissingUnit,
     /// A value isn't the object or the list that stands there in a schedule.
     PlanShape,
-    /// An item of a list isn't a whole number from 0 to 1,000,000,000, or a flag is neither 0 nor 1.
+    /// An item of a list isn't a whole number from 0 to 1,000,000,000, or a flag is neither 0 nor
+    /// 1.
     PlanNumber,
 }
 
@@ -43,9 +44,9 @@ pub struct Seat {
     pub unit: u32,
 }
 
-/// A test that failed, and where. `unit` is the position from 1 of the member in the file for `UnknownUnit`, and
-/// otherwise that of the unit or bid in the case within its kind; it is 0 for the file as a whole. `item` is the period,
-/// or 0.
+/// A test that failed, and where. `unit` is the position from 1 of the member in the file for
+/// `UnknownUnit`, and otherwise that of the unit or bid in the case within its kind; it is 0 for
+/// the file as a whole. `item` is the period, or 0.
 #[derive(Clone, Copy, PartialEq, Eq)]
 pub struct ShapeFault {
     pub code: ShapeCode,

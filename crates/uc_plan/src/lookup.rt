@@ -13,12 +13,15 @@ use std::alloc::{AllocError, Global};
 use uc_case::inside::{member_value, name_of};
 use uc_text::{Member, Tree};
 
-/// The members of an object by their keys. It is filled from the last member on, so that the first of equal keys stays.
+/// The members of an object by their keys. It is filled from the last member on, so that the first
+/// of equal keys stays.
 pub fn by_key<'a>(
     alloc: Global,
     members: &'a [Member],
 ) -> Result<IndexMap<&'a str, &'a Tree>, AllocError>
-    ensures { IfOk result (λ m. (q : List ℕ) → option_map (λ t. view t.now) (get_by (λ k. bytes_eq q k.now) m) ≡ value_of q (member_views members.now)) }
+    ensures { IfOk result (λ m. (q : List ℕ)
+        → option_map (λ t. view t.now) (get_by (λ k. bytes_eq q k.now) m)
+        ≡ value_of q (member_views members.now)) }
 {
     let mut values = IndexMap::with_capacity(alloc, members.len())?;
     for done in 0..members.len() {
@@ -33,7 +36,8 @@ pub fn names_of<'a, N: Named>(
     alloc: Global,
     units: &'a [N],
 ) -> Result<IndexSet<&'a str>, AllocError>
-    ensures { IfOk result (λ s. (q : List ℕ) → contains_by (λ k. bytes_eq q k.now) s ≡ is_among q (map N.name_of units.now)) }
+    ensures { IfOk result (λ s. (q : List ℕ)
+        → contains_by (λ k. bytes_eq q k.now) s ≡ is_among q (map N.name_of units.now)) }
 {
     let mut names = IndexSet::with_capacity(alloc, units.len())?;
     for done in 0..units.len() {
@@ -45,7 +49,9 @@ pub fn names_of<'a, N: Named>(
 
 /// The position of the first member whose key isn't one of the names, or 0.
 pub fn first_stranger(names: &IndexSet<&str>, known: &[Member]) -> usize
-    ensures { (ns : List (List ℕ)) → ((q : List ℕ) → contains_by (λ k. bytes_eq q k.now) names.now ≡ is_among q ns) → result ≡ first_unknown ns 1 (member_views known.now) }
+    ensures { (ns : List (List ℕ))
+        → ((q : List ℕ) → contains_by (λ k. bytes_eq q k.now) names.now ≡ is_among q ns)
+        → result ≡ first_unknown ns 1 (member_views known.now) }
 {
     let mut position = 0;
     for member in known {

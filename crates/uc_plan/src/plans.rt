@@ -33,7 +33,8 @@ fn check_names<N: Named>(
     members: &[Member],
     units: &[N],
 ) -> Result<(), ShapeStop>
-    ensures { Gives (λ _. tt) result (all_known kind (map N.name_of units.now) (member_views members.now)) }
+    ensures { Gives (λ _. tt) result
+        (all_known kind (map N.name_of units.now) (member_views members.now)) }
 {
     let names = names_of(alloc, units)?;
     let position = first_stranger(&names, members);
@@ -57,7 +58,9 @@ fn read_named(
 ) -> Result<Response, ShapeStop>
     requires { periods ≤ 168 }
     ensures shape { IfOk result (λ r. IsShaped at.kind periods (schedule_of r)) }
-    ensures value { (ms : List Pair) → ((q : List ℕ) → option_map (λ t. view t.now) (get_by (λ k. bytes_eq q k.now) values.now) ≡ value_of q ms) → Gives schedule_of result (named periods ms at name.now) }
+    ensures value { (ms : List Pair)
+        → ((q : List ℕ) → option_map (λ t. view t.now) (get_by (λ k. bytes_eq q k.now) values.now)
+        ≡ value_of q ms) → Gives schedule_of result (named periods ms at name.now) }
 {
     match values.get(name) {
         Some(tree) => read_schedule(alloc, at, tree, periods),
@@ -78,7 +81,9 @@ fn read_schedules<N: Named>(
     requires horizon { periods ≤ 168 }
     requires room { length units.now ≤ plan.old.spare }
     ensures spare { OnOk result (plan.new.spare + length units.now ≡ plan.old.spare) }
-    ensures value { Adds (λ s. IsShaped kind periods s) (length units.now) (map schedule_of plan.old.items) (map schedule_of plan.new.items) result (schedules periods kind (member_views members.now) (map N.name_of units.now)) }
+    ensures value { Adds (λ s. IsShaped kind periods s) (length units.now)
+        (map schedule_of plan.old.items) (map schedule_of plan.new.items) result
+        (schedules periods kind (member_views members.now) (map N.name_of units.now)) }
 {
     let values = by_key(alloc, members)?;
     let mut unit = 0;

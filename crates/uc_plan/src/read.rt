@@ -15,19 +15,22 @@ use uc_case::stop::Stop;
 use uc_model::cases::{Case, Plan};
 use uc_text::{TextError, read_tree};
 
-/// The schedule of a file for a case: on flags, and powers and reserves in whole kilowatts, of each unit and bid by its
-/// name, in any order.
+/// The schedule of a file for a case: on flags, and powers and reserves in whole kilowatts, of each
+/// unit and bid by its name, in any order.
 ///
-/// Refuses a file that isn't a JSON text with the first fault of the text. Else refuses with the first test that fails:
-/// the outer objects, names that aren't in the case, and then each unit and bid in the order of the case.
+/// Refuses a file that isn't a JSON text with the first fault of the text. Else refuses with the
+/// first test that fails: the outer objects, names that aren't in the case, and then each unit and
+/// bid in the order of the case.
 pub fn read_plan(alloc: Global, case: &Case, bytes: &[u8]) -> Result<Plan, PlanFault>
     requires { length bytes.now ≤ 67108864 }
-    // A plan has a schedule over the horizon for each unit, and a renewable unit's and a bid's is on with reserve 0.
+    // A plan has a schedule over the horizon for each unit, and a renewable unit's and a bid's is
+    // on with reserve 0.
     ensures shape { IfOk result (λ p. HasPlanShape (market_of case.now) (schedules_of p)) }
     // The answer is what the file is.
     ensures answer { IfRead schedules_of result (λ r. IsPlanOf (market_of case.now) bytes.now r) }
     // What the file is, is answered.
-    ensures only { (r : Result (List Schedule) (FileFault PlainFault)) → IsPlanOf (market_of case.now) bytes.now r → IfRead schedules_of result (λ s. s ≡ r) }
+    ensures only { (r : Result (List Schedule) (FileFault PlainFault))
+        → IsPlanOf (market_of case.now) bytes.now r → IfRead schedules_of result (λ s. s ≡ r) }
 {
     one_plan();
     read_file(alloc, case, bytes)

@@ -28,13 +28,15 @@ pub fn full_items(tree: &Tree, periods: u32) -> Option<&[Tree]>
 /// Such a list under a key.
 pub fn items_under<'a>(members: &'a [Member], key: &str, periods: u32) -> Option<&'a [Tree]>
     ensures count { IfSome result (λ s. length s.now ≡ periods) }
-    ensures value { option_map (λ s. views s.now) result ≡ list_under periods key.now (member_views members.now) }
+    ensures value { option_map (λ s. views s.now) result
+        ≡ list_under periods key.now (member_views members.now) }
 {
     full_items(find(members, key)?, periods)
 }
 
 fn members_under<'a>(members: &'a [Member], key: &str) -> Option<&'a [Member]>
-    ensures { option_map (λ s. member_views s.now) result ≡ object_under key.now (member_views members.now) }
+    ensures { option_map (λ s. member_views s.now) result
+        ≡ object_under key.now (member_views members.now) }
 {
     as_object(find(members, key)?)
 }
@@ -48,7 +50,8 @@ pub struct Groups<'a> {
 }
 
 fn bid_members<'a>(members: &'a [Member], bids: usize) -> Option<&'a [Member]>
-    ensures { option_map (λ s. member_views s.now) result ≡ bids_in bids (value_of (codes "bids") (member_views members.now)) }
+    ensures { option_map (λ s. member_views s.now) result
+        ≡ bids_in bids (value_of (codes "bids") (member_views members.now)) }
 {
     match find(members, "bids") {
         Some(tree) => as_object(tree),

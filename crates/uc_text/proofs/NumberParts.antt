@@ -5,7 +5,7 @@ use Rattle.std.proofs.lemmas.List.{take_all}
 use Rattle.uc_text.specs.Values.{number, long_number}
 use Rattle.uc_text.specs.Grammar.{Token, word}
 use Rattle.std.specs.List.{prefix_len}
-use Rattle.uc_text.specs.Numbers.{is_digit, AreDigits, value_from, value, significant, exponent_of, number_token}
+use Rattle.uc_text.specs.Numbers.{is_digit, AreDigits, value_from, value, significant, exponent_of, number_token, begins_with, front, behind, is_whole_part, behind_fraction, behind_whole, unsigned, number_of}
 use Rattle.uc_text.proofs.Digits.{large_has_many, is_short, grows}
 
 one_more_digit : (b : ℕ) (bs : List ℕ) (t : Bool) → is_digit b ≡ t → AreDigits (take (prefix_len is_digit bs) bs) → AreDigits (take (prefix_len is_digit (b ∷ bs)) (b ∷ bs))
@@ -77,3 +77,27 @@ exponent_is lowers power fraction written e is f = f ∙ ap (λ (n : ℕ). (if l
 
 pub grown : (n : ℕ) (whole fraction : List ℕ) → n ≤ value whole → n ≤ value_from (value whole) fraction
 grown n whole fraction le = let g = grows (value whole) fraction in omega arith
+
+-- ---- a whole number alone
+
+none_left : (bs : List ℕ) → length bs ≡ 0 → bs ≡ []
+none_left [] e = refl
+none_left (b ∷ bs) e = absurd (omega (arith, e))
+
+plain_exponent : pos 0 ≡ exponent_of false [] []
+unfolding exponent_of
+plain_exponent = refl
+
+no_minus : (run : List ℕ) → begins_with 45 run ≡ false → number_of run ≡ unsigned false run
+unfolding number_of
+no_minus run e = rw e refl
+
+nothing_behind : (run whole : List ℕ) → whole ≡ front run → [] ≡ behind run → is_whole_part whole ≡ true → unsigned false run ≡ number_token false whole [] false []
+unfolding unsigned behind_whole behind_fraction
+nothing_behind run whole e f w = rw (← e, ← f, w) refl
+
+pub whole_alone : (run whole others : List ℕ) (n : ℕ) → begins_with 45 run ≡ false → whole ≡ front run → others ≡ behind run → AreDigits whole → is_whole_part whole ≡ true → length others ≡ 0 → n ≡ value whole → n ≤ 999999
+    → number_of run ≡ word (number (record { negative = false; digits = n; exponent = pos 0 }))
+whole_alone run whole others n plain e f digits w none is few =
+    no_minus run plain ∙ nothing_behind run whole e (sym (none_left others none) ∙ f) w
+    ∙ sym (short_enough false whole [] false [] n (pos 0) digits tt is (omega (arith, few)) (omega arith) plain_exponent)

@@ -7,7 +7,7 @@ use Rattle.uc_text.specs.Seen.{token_of}
 use Rattle.uc_text.specs.declared.fault.TextFault.{TextFault}
 use Rattle.uc_text.specs.declared.fault.TextError.{TextError}
 use Rattle.uc_text.specs.declared.fault.TextError.TheVariants as errors
-use Rattle.uc_text.specs.declared.token.Word.TheVariants.{Null, Flag, Number, LongNumber}
+use Rattle.uc_text.specs.declared.token.Word.TheVariants.{Null, Flag, Number, LargeNumber, LongNumber}
 use Rattle.uc_text.specs.declared.token.Token.{Token}
 use Rattle.uc_text.specs.declared.token.Token.TheVariants.{OpenList, CloseList, OpenObject, CloseObject, Comma, Colon, Word, Text, End}
 
@@ -41,6 +41,7 @@ not_text (Text s) n k e = n s refl
 not_text (Word Null) n k e = cc
 not_text (Word (Flag b)) n k e = cc
 not_text (Word (Number d)) n k e = cc
+not_text (Word (LargeNumber r)) n k e = cc
 not_text (Word LongNumber) n k e = cc
 not_text t n k e = cc
 

@@ -1,7 +1,8 @@
 -- The numbers of the faults.
 use Rattle.std.specs.Prelude.{ℕ}
 use Rattle.uc_text.specs.declared.fault.TextCode.{TextCode}
-use Rattle.uc_text.specs.declared.fault.TextCode.TheVariants.{NotJson, NumberTooLong, TooDeep, DoubleKey}
+use Rattle.uc_text.specs.declared.fault.TextCode.TheVariants.{NotJson, NumberTooLong, TooDeep}
+use Rattle.uc_text.specs.declared.fault.TextCode.TheVariants.{DoubleKey}
 
 abbrev pub number_of : TextCode → ℕ
 number_of NotJson = 10

@@ -1,6 +1,7 @@
 -- The tests of this project's profile beyond the grammar, and the first token at which one fails.
 use Rattle.std.specs.Prelude.{◌≡◌, ◌≢◌, ℕ, ◌<◌, ◌-◌, List, [], ◌∷◌, ◌++◌, AllPairs}
-use Rattle.uc_text.specs.Values.{Scalar, long_number, Value, scalar, list, object, Items, no_items, item, Members, no_members, member, keys}
+use Rattle.uc_text.specs.Values.{Scalar, long_number, Value, scalar, list, object, Items, no_items}
+use Rattle.uc_text.specs.Values.{item, Members, no_members, member, keys}
 use Rattle.uc_text.specs.Grammar.{Token, whole}
 
 -- In the order in which they are tried at one token.
@@ -38,7 +39,8 @@ abbrev mutual
   pub Passes : Test → ℕ → Value → Type 0
   Passes t left (scalar s) = ScalarPasses t s
   Passes t left (list vs) = LevelPasses t left × ItemsPass t (left - 1) vs
-  Passes t left (object ms) = LevelPasses t left × KeysPass t (keys ms) × MembersPass t (left - 1) ms
+  Passes t left (object ms) =
+      LevelPasses t left × KeysPass t (keys ms) × MembersPass t (left - 1) ms
 
   pub ItemsPass : Test → ℕ → Items → Type 0
   ItemsPass t left no_items = Unit {0}

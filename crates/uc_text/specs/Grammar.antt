@@ -1,6 +1,7 @@
 -- The tokens of a value (RFC 8259). A value has one list of tokens, so the grammar is a function.
 use Rattle.std.specs.Prelude.{ℕ, List, [], ◌∷◌, ◌++◌}
-use Rattle.uc_text.specs.Values.{Scalar, text, Value, scalar, list, object, Items, no_items, item, Members, no_members, member}
+use Rattle.uc_text.specs.Values.{Scalar, text, Value, scalar, list, object, Items, no_items, item}
+use Rattle.uc_text.specs.Values.{Members, no_members, member}
 
 pub data Token : Type 0 where
   open_list : Token

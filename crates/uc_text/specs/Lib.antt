@@ -15,3 +15,6 @@ pub mod Pieces
 pub mod Places
 pub mod Ahead
 pub mod Goes
+pub mod Small
+pub mod Decimals
+pub mod Numerals

@@ -1,5 +1,7 @@
 -- The numbers of RFC 8259, part by part: a sign, the whole part, a fraction, an exponent.
-use Rattle.std.specs.Prelude.{ℕ, ◌+◌, ◌-◌, ◌*◌, ◌==◌, ◌&&◌, ◌||◌, Bool, true, false, not, nat_lt, nat_le, if◌then◌else◌, List, [], ◌∷◌, ◌++◌, length, slice_index, take, drop, ℤ, pos, neg_ℤ, ◌-ℤ◌, ◌≡◌}
+use Rattle.std.specs.Prelude.{ℕ, ◌+◌, ◌-◌, ◌*◌, ◌==◌, ◌&&◌, ◌||◌, Bool, true, false, not, nat_lt}
+use Rattle.std.specs.Prelude.{nat_le, if◌then◌else◌, List, [], ◌∷◌, ◌++◌, length, slice_index, take}
+use Rattle.std.specs.Prelude.{drop, ℤ, pos, neg_ℤ, ◌-ℤ◌, ◌≡◌}
 use Rattle.std.specs.List.{prefix_len}
 use Rattle.uc_text.specs.Values.{number, long_number}
 use Rattle.uc_text.specs.Grammar.{Token, word, bad}
@@ -47,18 +49,25 @@ are_digits ds = nat_lt 0 (length ds) && (prefix_len is_digit ds == length ds)
 
 -- the written exponent less the count of fraction digits
 unfoldable pub exponent_of : Bool → List ℕ → List ℕ → ℤ
-exponent_of lowers power fraction = (if lowers then neg_ℤ (pos (value power)) else pos (value power)) -ℤ pos (length fraction)
+exponent_of lowers power fraction =
+    (if lowers then neg_ℤ (pos (value power)) else pos (value power)) -ℤ pos (length fraction)
 
--- a number of these parts: at most 30 digits count, and an exponent of at most 400 (this project's profile)
+-- a number of these parts: at most 30 digits count, and an exponent of at most 400 (this project's
+-- profile)
 unfoldable pub number_token : Bool → List ℕ → List ℕ → Bool → List ℕ → Token
 number_token negative whole fraction lowers power =
     if nat_le (length (significant (whole ++ fraction))) 30 && nat_le (value power) 400
-    then word (number (record { negative = negative; digits = value (whole ++ fraction); exponent = exponent_of lowers power fraction }))
+    then word (number (record {
+      negative = negative;
+      digits = value (whole ++ fraction);
+      exponent = exponent_of lowers power fraction;
+    }))
     else word long_number
 
 -- behind the letter and the sign of an exponent
 unfoldable pub power_digits : Bool → List ℕ → List ℕ → Bool → List ℕ → Token
-power_digits negative whole fraction lowers bs = if are_digits bs then number_token negative whole fraction lowers bs else bad
+power_digits negative whole fraction lowers bs =
+    if are_digits bs then number_token negative whole fraction lowers bs else bad
 
 -- behind the letter of an exponent
 unfoldable pub power : Bool → List ℕ → List ℕ → List ℕ → Token
@@ -77,12 +86,14 @@ behind_fraction negative whole fraction bs =
 -- behind the whole part
 unfoldable pub behind_whole : Bool → List ℕ → List ℕ → Token
 behind_whole negative whole bs =
-    if begins_with 46 bs then (if nat_lt 0 (length (front (drop 1 bs))) then behind_fraction negative whole (front (drop 1 bs)) (behind (drop 1 bs)) else bad)
+    if begins_with 46 bs then (if nat_lt 0 (length (front (drop 1 bs))) then behind_fraction
+    negative whole (front (drop 1 bs)) (behind (drop 1 bs)) else bad)
     else behind_fraction negative whole [] bs
 
 -- behind the sign
 unfoldable pub unsigned : Bool → List ℕ → Token
-unsigned negative bs = if is_whole_part (front bs) then behind_whole negative (front bs) (behind bs) else bad
+unsigned negative bs =
+    if is_whole_part (front bs) then behind_whole negative (front bs) (behind bs) else bad
 
 unfoldable pub number_of : List ℕ → Token
 number_of run = if begins_with 45 run then unsigned true (drop 1 run) else unsigned false run

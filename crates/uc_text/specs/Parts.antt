@@ -35,11 +35,13 @@ StartsBefore length_of_numbers left ts = Starts grammar left ts
 StartsBefore levels left ts = Starts length_of_numbers left ts
 StartsBefore double_keys left ts = Starts levels left ts
 
--- The fault within a value: whatever comes behind the value, no value that passes the test begins so.
+-- The fault within a value: whatever comes behind the value, no value that passes the test begins
+-- so.
 pub record IsStuck (left : ℕ) (before : List Token) (at : Token) (t : Test) : Type 0 where
   pub passed : Starts double_keys left before
   pub tried : StartsBefore t left (before ++ at ∷ [])
-  pub fails : (v : Value) (after more : List Token) → Passes t left v → spell v ++ after ≡ before ++ at ∷ more → ⊥
+  pub fails : (v : Value) (after more : List Token) → Passes t left v →
+      spell v ++ after ≡ before ++ at ∷ more → ⊥
 
 abbrev pub names : List Pair → List (List ℕ)
 names [] = []

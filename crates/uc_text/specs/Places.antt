@@ -1,15 +1,18 @@
 -- What the reader's functions say of the tokens with their places.
-use Rattle.std.specs.Prelude.{◌≡◌, ◌≢◌, ℕ, ◌-◌, true, List, ◌∷◌, ◌++◌, drop, AllPairs, Result, Ok, Err}
+use Rattle.std.specs.Prelude.{◌≡◌, ◌≢◌, ℕ, ◌-◌, true, List, ◌∷◌, ◌++◌, drop, AllPairs, Result, Ok}
+use Rattle.std.specs.Prelude.{Err}
 use Rattle.uc_text.specs.Values.{Value}
 use Rattle.uc_text.specs.Grammar as grammar
 use Rattle.uc_text.specs.Grammar.{spell, spell_items, spell_members}
-use Rattle.uc_text.specs.Faults.{Test, length_of_numbers, levels, double_keys, Passes, ItemsPass, MembersPass}
+use Rattle.uc_text.specs.Faults.{Test, length_of_numbers, levels, double_keys, Passes, ItemsPass}
+use Rattle.uc_text.specs.Faults.{MembersPass}
 use Rattle.uc_text.specs.Parts.{Pair, IsStuck, items_of, members_of, names}
 use Rattle.uc_text.specs.Tokens.{Placed, placed, kinds, tokens_from}
 use Rattle.uc_text.specs.Goes.{goes}
 use Rattle.uc_text.specs.Seen.{token_of}
 use Rattle.uc_text.specs.declared.fault.TextCode.{TextCode}
-use Rattle.uc_text.specs.declared.fault.TextCode.TheVariants.{NotJson, NumberTooLong, TooDeep, DoubleKey}
+use Rattle.uc_text.specs.declared.fault.TextCode.TheVariants.{NotJson, NumberTooLong, TooDeep}
+use Rattle.uc_text.specs.declared.fault.TextCode.TheVariants.{DoubleKey}
 use Rattle.uc_text.specs.declared.fault.TextFault.{TextFault}
 use Rattle.uc_text.specs.declared.fault.TextError.{TextError}
 use Rattle.uc_text.specs.declared.fault.TextError.TheVariants as errors
@@ -30,16 +33,19 @@ rest_at bytes at = tokens_from at 0 (drop at bytes)
 
 -- this is the first of the tokens, and those are the others
 abbrev pub NextIs : List Placed → Placed → List Placed → Type 0
-NextIs ts first others = (more : List Placed) × (ts ≡ first ∷ more) × (goes first.token ≡ true → more ≡ others)
+NextIs ts first others =
+    (more : List Placed) × (ts ≡ first ∷ more) × (goes first.token ≡ true → more ≡ others)
 
 -- the tokens are a part that is spelled so, and the others
-pub record Takes (ts : List Placed) (spelled : List grammar.Token) (others : List Placed) : Type 0 where
+pub record Takes (ts : List Placed) (spelled : List grammar.Token) (others : List Placed) : Type
+    0 where
   pub part : List Placed
   pub parts : ts ≡ part ++ others
   pub kinds_are : kinds part ≡ spelled
 
 -- Behind what was opened these tokens come, and the fault is at one of them.
-pub record StuckAt (left : ℕ) (front : List grammar.Token) (ts : List Placed) (f : TextFault) : Type 0 where
+pub record StuckAt (left : ℕ) (front : List grammar.Token) (ts : List Placed) (f : TextFault) : Type
+    0 where
   pub before : List Placed
   pub at : Placed
   pub after : List Placed
@@ -62,11 +68,13 @@ pub record Reads (left : ℕ) (ts : List Placed) (v : Value) (others : List Plac
   pub pass : Passes double_keys left v
 
 -- the same of the items behind an opening bracket, and of the members behind an opening brace
-pub record ReadsItems (left : ℕ) (ts : List Placed) (vs : List Value) (others : List Placed) : Type 0 where
+pub record ReadsItems (left : ℕ) (ts : List Placed) (vs : List Value) (others : List Placed) : Type
+    0 where
   pub takes : Takes ts (spell_items (items_of vs)) others
   pub pass : ItemsPass double_keys (left - 1) (items_of vs)
 
-pub record ReadsMembers (left : ℕ) (ts : List Placed) (ps : List Pair) (others : List Placed) : Type 0 where
+pub record ReadsMembers (left : ℕ) (ts : List Placed) (ps : List Pair) (others : List Placed) : Type
+    0 where
   pub takes : Takes ts (spell_members (members_of ps)) others
   pub pass : MembersPass double_keys (left - 1) (members_of ps)
   pub different : AllPairs (λ a b. a ≢ b) (names ps)

@@ -2,15 +2,20 @@
 use Rattle.uc_text.specs.Values.{Scalar, null, flag, number, long_number}
 use Rattle.uc_text.specs.Grammar as grammar
 use Rattle.uc_text.specs.Strings.{said}
+use Rattle.uc_text.specs.Numbers.{number_of}
+use Rattle.uc_text.specs.Decimals.{decimal_in}
+use Rattle.uc_text.specs.Small.{decimal_of}
 use Rattle.uc_text.specs.declared.token.Word.{Word}
-use Rattle.uc_text.specs.declared.token.Word.TheVariants.{Null, Flag, Number, LongNumber}
+use Rattle.uc_text.specs.declared.token.Word.TheVariants.{Null, Flag, Number, LargeNumber}
+use Rattle.uc_text.specs.declared.token.Word.TheVariants.{LongNumber}
 use Rattle.uc_text.specs.declared.token.Token.{Token}
 use Rattle.uc_text.specs.declared.token.Token.TheVariants as tokens
 
 abbrev pub scalar_of : Word → Scalar
 scalar_of Null = null
 scalar_of (Flag b) = flag b
-scalar_of (Number d) = number d
+scalar_of (Number s) = number (decimal_of s)
+scalar_of (LargeNumber r) = number (decimal_in (number_of r.bytes.now))
 scalar_of LongNumber = long_number
 
 abbrev pub token_of : Token → grammar.Token

@@ -1,5 +1,7 @@
 -- The strings of RFC 8259, piece by piece, and the text that each is.
-use Rattle.std.specs.Prelude.{ℕ, zero, suc, ◌+◌, ◌-◌, ◌*◌, ◌==◌, ◌&&◌, Bool, nat_lt, nat_le, if◌then◌else◌, List, [], ◌∷◌, ◌++◌, take, drop, length, slice_index, Option, Some, None, option_map, option_and_then}
+use Rattle.std.specs.Prelude.{ℕ, zero, suc, ◌+◌, ◌-◌, ◌*◌, ◌==◌, ◌&&◌, Bool, nat_lt, nat_le}
+use Rattle.std.specs.Prelude.{if◌then◌else◌, List, [], ◌∷◌, ◌++◌, take, drop, length, slice_index}
+use Rattle.std.specs.Prelude.{Option, Some, None, option_map, option_and_then}
 use Rattle.std.specs.Char.{encode_utf8}
 use Rattle.std.specs.Str.{is_utf8}
 use Rattle.uc_text.specs.Grammar.{Token, key, bad}
@@ -27,11 +29,16 @@ hex_of x =
 -- the number of four hex digits
 unfoldable pub four : ℕ → ℕ → ℕ → ℕ → Option ℕ
 four a b c d =
-    option_and_then (λ w. option_and_then (λ x. option_and_then (λ y. option_map (λ z. 4096 * w + 256 * x + 16 * y + z) (hex_of d)) (hex_of c)) (hex_of b)) (hex_of a)
+    option_and_then
+    (λ w. option_and_then
+    (λ x. option_and_then (λ y. option_map (λ z. 4096 * w + 256 * x + 16 * y + z) (hex_of d))
+    (hex_of c)) (hex_of b)) (hex_of a)
 
 -- the number of the four in front
 unfoldable pub unit_at : List ℕ → Option ℕ
-unit_at bs = if nat_lt (length bs) 4 then None else four (slice_index bs 0) (slice_index bs 1) (slice_index bs 2) (slice_index bs 3)
+unit_at bs =
+    if nat_lt (length bs) 4 then None else four (slice_index bs 0) (slice_index bs 1)
+    (slice_index bs 2) (slice_index bs 3)
 
 abbrev pub is_high : ℕ → Bool
 is_high u = nat_le 55296 u && nat_le u 56319
@@ -46,40 +53,49 @@ Piece = List ℕ × ℕ
 -- two surrogates say one character
 unfoldable pub pair : ℕ → Option ℕ → Option Piece
 pair high None = None
-pair high (Some low) = if is_low low then Some (encode_utf8 (65536 + 1024 * (high - 55296) + (low - 56320)), 12) else None
+pair high (Some low) =
+    if is_low low then Some (encode_utf8 (65536 + 1024 * (high - 55296) + (low - 56320)), 12) else
+    None
 
 -- the second surrogate, where one is written
 unfoldable pub second_at : List ℕ → Option ℕ
-second_at bs = if slice_index bs 0 == 92 && slice_index bs 1 == 117 then unit_at (drop 2 bs) else None
+second_at bs =
+    if slice_index bs 0 == 92 && slice_index bs 1 == 117 then unit_at (drop 2 bs) else None
 
 unfoldable pub unit_piece : ℕ → List ℕ → Option Piece
-unit_piece u bs = if is_high u then pair u (second_at bs) else if is_low u then None else Some (encode_utf8 u, 6)
+unit_piece u bs =
+    if is_high u then pair u (second_at bs) else if is_low u then None else Some (encode_utf8 u, 6)
 
 -- behind a backslash
 unfoldable pub escape_at : List ℕ → Option Piece
 escape_at bs =
-    if slice_index bs 0 == 117 then option_and_then (λ u. unit_piece u (drop 5 bs)) (unit_at (drop 1 bs))
+    if slice_index bs 0 == 117 then option_and_then (λ u. unit_piece u (drop 5 bs))
+    (unit_at (drop 1 bs))
     else option_map (λ x. (x ∷ [], 2)) (short_of (slice_index bs 0))
 
 -- the piece that begins with this byte, which isn't a quote
 unfoldable pub piece_at : ℕ → List ℕ → Option Piece
-piece_at b bs = if b == 92 then escape_at (drop 1 bs) else if nat_lt b 32 then None else Some (b ∷ [], 1)
+piece_at b bs =
+    if b == 92 then escape_at (drop 1 bs) else if nat_lt b 32 then None else Some (b ∷ [], 1)
 
 -- a piece in front of others
 abbrev pub after_piece : Piece → Piece → Piece
 after_piece p s = (p.0 ++ s.0, p.1 + s.1)
 
--- The pieces up to the closing quote, joined; so many bytes of the last piece are still to be passed.
+-- The pieces up to the closing quote, joined; so many bytes of the last piece are still to be
+-- passed.
 unfoldable pub string_from : ℕ → List ℕ → Option Piece
 string_from passing [] = None
 string_from (suc passing) (b ∷ bs) = string_from passing bs
 string_from zero (b ∷ bs) =
     if b == 34 then Some ([], 0)
-    else option_and_then (λ p. option_map (after_piece p) (string_from (p.1 - 1) bs)) (piece_at b (b ∷ bs))
+    else option_and_then (λ p. option_map (after_piece p) (string_from (p.1 - 1) bs))
+    (piece_at b (b ∷ bs))
 
 -- behind an opening quote: the text, and how many bytes of UTF-8 stand before the closing quote
 unfoldable pub string_of : List ℕ → Option Piece
-string_of bs = option_and_then (λ s. if is_utf8 (take s.1 bs) then Some s else None) (string_from 0 bs)
+string_of bs =
+    option_and_then (λ s. if is_utf8 (take s.1 bs) then Some s else None) (string_from 0 bs)
 
 abbrev pub string_token : Option Piece → Token × ℕ
 string_token None = (bad, 1)

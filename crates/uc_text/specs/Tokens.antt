@@ -1,8 +1,10 @@
 -- The tokens of a list of bytes, each with the place of its first byte.
-use Rattle.std.specs.Prelude.{ℕ, zero, suc, ◌-◌, ◌==◌, ◌&&◌, ◌||◌, Bool, true, false, nat_le, if◌then◌else◌, List, [], ◌∷◌, take, drop, codes, bytes_eq}
+use Rattle.std.specs.Prelude.{ℕ, zero, suc, ◌-◌, ◌==◌, ◌&&◌, ◌||◌, Bool, true, false, nat_le}
+use Rattle.std.specs.Prelude.{if◌then◌else◌, List, [], ◌∷◌, take, drop, codes, bytes_eq}
 use Rattle.std.specs.List.{prefix_len}
 use Rattle.uc_text.specs.Values.{null, flag}
-use Rattle.uc_text.specs.Grammar.{Token, open_list, close_list, open_object, close_object, comma, colon, word, bad, end}
+use Rattle.uc_text.specs.Grammar.{Token, open_list, close_list, open_object, close_object, comma}
+use Rattle.uc_text.specs.Grammar.{colon, word, bad, end}
 use Rattle.uc_text.specs.Numbers.{is_digit, is_number_byte, number_of}
 use Rattle.uc_text.specs.Strings.{string_at}
 
@@ -25,7 +27,8 @@ Read = Token × ℕ
 
 -- the longest run of bytes of a number or of letters
 abbrev pub number_at : List ℕ → Read
-number_at bytes = (number_of (take (prefix_len is_number_byte bytes) bytes), prefix_len is_number_byte bytes)
+number_at bytes =
+    (number_of (take (prefix_len is_number_byte bytes) bytes), prefix_len is_number_byte bytes)
 
 abbrev pub word_at : List ℕ → Read
 word_at bytes = (word_of (take (prefix_len is_letter bytes) bytes), prefix_len is_letter bytes)
@@ -57,7 +60,8 @@ tokens_from at passing [] = placed end at ∷ []
 tokens_from at (suc passing) (b ∷ bytes) = tokens_from (suc at) passing bytes
 tokens_from at zero (b ∷ bytes) =
     if is_blank b then tokens_from (suc at) 0 bytes
-    else placed (token_at b (b ∷ bytes)).0 at ∷ tokens_from (suc at) ((token_at b (b ∷ bytes)).1 - 1) bytes
+    else placed (token_at b (b ∷ bytes)).0 at ∷ tokens_from (suc at)
+    ((token_at b (b ∷ bytes)).1 - 1) bytes
 
 abbrev pub tokens : List ℕ → List Placed
 tokens bytes = tokens_from 0 0 bytes

@@ -1,7 +1,8 @@
 //! Parts of a list of bytes.
 ghost use Rattle.std.specs.Prelude.{◌≡◌, ◌≤◌, ◌<◌, length, drop, slice_index};
 ghost use Rattle.std.specs.List.{prefix_len};
-ghost use Rattle.uc_text.specs.Numbers.{is_digit as digit, is_number_byte as number_byte, begins_with as begins};
+ghost use Rattle.uc_text.specs.Numbers.{is_digit as digit, is_number_byte as number_byte};
+ghost use Rattle.uc_text.specs.Numbers.{begins_with as begins};
 ghost use Rattle.uc_text.specs.Tokens.{is_letter as letter};
 
 /// The bytes from a place on.

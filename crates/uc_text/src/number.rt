@@ -1,12 +1,29 @@
 //! The number that a run of bytes is.
-ghost use Rattle.std.specs.Prelude.{◌≡◌, ◌<◌, ◌≤◌, ◌^◌, ◌++◌, [], length, drop, IfSome, IfNone, true, if◌then◌else◌, pos, neg_ℤ, ◌-ℤ◌};
-ghost use Rattle.uc_text.specs.Numbers.{AreDigits, value, value_from, front, behind, is_whole_part as whole_part, are_digits as digits_only, number_token as number_spec, power_digits as power_digits_spec, power as power_spec, behind_fraction as behind_fraction_spec, behind_whole as behind_whole_spec, unsigned as unsigned_spec, number_of, exponent_of};
-ghost use Rattle.uc_text.specs.Seen.{token_of};
-ghost use Rattle.uc_text.specs.Goes.{goes};
+ghost use Rattle.std.specs.Prelude.{◌≡◌, ◌<◌, ◌≤◌, ◌^◌, ◌++◌, [], length, drop, IfSome, IfNone};
+ghost use Rattle.std.specs.Prelude.{true, if◌then◌else◌, pos, neg_ℤ, ◌-ℤ◌};
+ghost use Rattle.uc_text.specs.Numbers.{AreDigits, value, value_from, front, behind};
+ghost use Rattle.uc_text.specs.Numbers.{is_whole_part as whole_part, are_digits as digits_only};
+ghost use Rattle.uc_text.specs.Numbers.{number_token as number_spec};
+ghost use Rattle.uc_text.specs.Numbers.{power_digits as power_digits_spec, power as power_spec};
+ghost use Rattle.uc_text.specs.Numbers.{behind_fraction as behind_fraction_spec};
+ghost use Rattle.uc_text.specs.Numbers.{behind_whole as behind_whole_spec};
+ghost use Rattle.uc_text.specs.Numbers.{unsigned as unsigned_spec, number_of, exponent_of};
+ghost use Rattle.uc_text.specs.Grammar.{word};
+ghost use Rattle.uc_text.specs.Numerals.{numeral_of};
+ghost use Rattle.uc_text.specs.Small.{decimal_of};
+ghost use Rattle.uc_text.specs.Values.{number};
 
 use crate::bytes::{begins_with, digits_len, rest_from};
-use crate::token::{Token, Word};
+use crate::small::SmallNumber;
 use uc_num::Decimal;
+
+/// What a run of bytes is: a number, one of too many digits or too large an exponent, or none.
+#[derive(Clone, Copy)]
+pub enum Numeral {
+    Number(Decimal),
+    TooLong,
+    Bad,
+}
 
 /// The value of the digits behind others, unless it has more than 30 digits.
 fn digits_after(before: u128, digits: &[u8]) -> Option<u128>
@@ -78,67 +95,65 @@ fn exponent(lowers: bool, power: u32, places: usize) -> i32
     written - places as i32
 }
 
-fn number_token<'a>(
+fn number_token(
     negative: bool,
     whole: &[u8],
     fraction: &[u8],
     lowers: bool,
     power: &[u8],
-) -> Token<'a>
+) -> Numeral
     requires whole { AreDigits whole.now }
     requires fraction { AreDigits fraction.now }
     requires power { AreDigits power.now }
     requires few { length fraction.now < 2 ^ 30 }
-    ensures is { token_of result ≡ number_spec negative whole.now fraction.now lowers power.now }
-    ensures goes { goes (token_of result) ≡ true }
+    ensures { numeral_of result ≡ number_spec negative whole.now fraction.now lowers power.now }
 {
     let Some(before) = digits_after(0, whole) else {
-        return Token::Word(Word::LongNumber);
+        return Numeral::TooLong;
     };
     let Some(digits) = digits_after(before, fraction) else {
-        return Token::Word(Word::LongNumber);
+        return Numeral::TooLong;
     };
     let Some(written) = value_within(power, 400) else {
-        return Token::Word(Word::LongNumber);
+        return Numeral::TooLong;
     };
     let exponent = exponent(lowers, written, fraction.len());
-    Token::Word(Word::Number(Decimal {
+    Numeral::Number(Decimal {
         negative,
         digits,
         exponent,
-    }))
+    })
 }
 
 /// Behind the letter and the sign of an exponent.
 #[tactic(auto, unfolding(crate::specs::Numbers::power_digits))]
-fn power_digits<'a>(
+fn power_digits(
     negative: bool,
     whole: &[u8],
     fraction: &[u8],
     lowers: bool,
     bytes: &[u8],
-) -> Token<'a>
+) -> Numeral
     requires whole { AreDigits whole.now }
     requires fraction { AreDigits fraction.now }
     requires few { length fraction.now < 2 ^ 30 }
-    ensures is { token_of result ≡ power_digits_spec negative whole.now fraction.now lowers bytes.now }
-    ensures goes { goes (token_of result) ≡ true }
+    ensures { numeral_of result ≡ power_digits_spec negative whole.now fraction.now lowers
+        bytes.now }
 {
     if are_digits(bytes) {
         number_token(negative, whole, fraction, lowers, bytes)
     } else {
-        Token::Bad
+        Numeral::Bad
     }
 }
 
 /// Behind the letter of an exponent.
 #[tactic(auto, unfolding(crate::specs::Numbers::power))]
-fn power<'a>(negative: bool, whole: &[u8], fraction: &[u8], bytes: &[u8]) -> Token<'a>
+fn power(negative: bool, whole: &[u8], fraction: &[u8], bytes: &[u8]) -> Numeral
     requires whole { AreDigits whole.now }
     requires fraction { AreDigits fraction.now }
     requires few { length fraction.now < 2 ^ 30 }
-    ensures is { token_of result ≡ power_spec negative whole.now fraction.now bytes.now }
-    ensures goes { goes (token_of result) ≡ true }
+    ensures { numeral_of result ≡ power_spec negative whole.now fraction.now bytes.now }
 {
     if begins_with(b'-', bytes) {
         power_digits(negative, whole, fraction, true, rest_from(bytes, 1))
@@ -151,65 +166,80 @@ fn power<'a>(negative: bool, whole: &[u8], fraction: &[u8], bytes: &[u8]) -> Tok
 
 /// Behind the fraction.
 #[tactic(auto, unfolding(crate::specs::Numbers::behind_fraction))]
-fn behind_fraction<'a>(negative: bool, whole: &[u8], fraction: &[u8], bytes: &[u8]) -> Token<'a>
+fn behind_fraction(negative: bool, whole: &[u8], fraction: &[u8], bytes: &[u8]) -> Numeral
     requires whole { AreDigits whole.now }
     requires fraction { AreDigits fraction.now }
     requires few { length fraction.now < 2 ^ 30 }
-    ensures is { token_of result ≡ behind_fraction_spec negative whole.now fraction.now bytes.now }
-    ensures goes { goes (token_of result) ≡ true }
+    ensures { numeral_of result ≡ behind_fraction_spec negative whole.now fraction.now bytes.now }
 {
     if bytes.is_empty() {
         number_token(negative, whole, fraction, false, bytes)
     } else if begins_with(b'e', bytes) || begins_with(b'E', bytes) {
         power(negative, whole, fraction, rest_from(bytes, 1))
     } else {
-        Token::Bad
+        Numeral::Bad
     }
 }
 
 /// Behind the whole part.
 #[tactic(auto, unfolding(crate::specs::Numbers::behind_whole))]
-fn behind_whole<'a>(negative: bool, whole: &[u8], bytes: &[u8]) -> Token<'a>
+fn behind_whole(negative: bool, whole: &[u8], bytes: &[u8]) -> Numeral
     requires whole { AreDigits whole.now }
     requires few { length bytes.now < 2 ^ 30 }
-    ensures is { token_of result ≡ behind_whole_spec negative whole.now bytes.now }
-    ensures goes { goes (token_of result) ≡ true }
+    ensures { numeral_of result ≡ behind_whole_spec negative whole.now bytes.now }
 {
     if !begins_with(b'.', bytes) {
         return behind_fraction(negative, whole, &bytes[..0], bytes);
     }
     let (fraction, others) = split_digits(rest_from(bytes, 1));
     if fraction.is_empty() {
-        return Token::Bad;
+        return Numeral::Bad;
     }
     behind_fraction(negative, whole, fraction, others)
 }
 
 /// Behind the sign.
 #[tactic(auto, unfolding(crate::specs::Numbers::unsigned))]
-fn unsigned<'a>(negative: bool, bytes: &[u8]) -> Token<'a>
+fn unsigned(negative: bool, bytes: &[u8]) -> Numeral
     requires few { length bytes.now < 2 ^ 30 }
-    ensures is { token_of result ≡ unsigned_spec negative bytes.now }
-    ensures goes { goes (token_of result) ≡ true }
+    ensures { numeral_of result ≡ unsigned_spec negative bytes.now }
 {
     let (whole, others) = split_digits(bytes);
     if is_whole_part(whole) {
         behind_whole(negative, whole, others)
     } else {
-        Token::Bad
+        Numeral::Bad
     }
 }
 
-/// The token of a run of bytes of a number.
+/// What a run of bytes of a number is.
 #[tactic(auto, unfolding(crate::specs::Numbers::number_of))]
-pub fn number_in<'a>(run: &[u8]) -> Token<'a>
+pub fn numeral_in(run: &[u8]) -> Numeral
     requires { length run.now < 2 ^ 30 }
-    ensures is { token_of result ≡ number_of run.now }
-    ensures goes { goes (token_of result) ≡ true }
+    ensures { numeral_of result ≡ number_of run.now }
 {
     if begins_with(b'-', run) {
         unsigned(true, rest_from(run, 1))
     } else {
         unsigned(false, run)
     }
+}
+
+/// A whole number of at most six digits, as most are, in one pass.
+pub fn short_whole(run: &[u8]) -> Option<SmallNumber>
+    ensures { IfSome result (λ small. number_of run.now ≡ word (number (decimal_of small))) }
+{
+    if begins_with(b'-', run) {
+        return None;
+    }
+    let (whole, others) = split_digits(run);
+    if !is_whole_part(whole) || !others.is_empty() {
+        return None;
+    }
+    let digits = value_within(whole, 999_999)?;
+    Some(SmallNumber {
+        digits,
+        exponent: 0,
+        negative: false,
+    })
 }

@@ -1,9 +1,11 @@
 //! From tokens to a tree.
-ghost use Rattle.std.specs.Prelude.{◌≡◌, ◌<◌, ◌≤◌, ◌^◌, ◌∷◌, [], List, length, IfOk, OnOk, Contains, IsTrue, false};
+ghost use Rattle.std.specs.Prelude.{◌≡◌, ◌<◌, ◌≤◌, ◌^◌, ◌∷◌, [], List, length, IfOk, OnOk};
+ghost use Rattle.std.specs.Prelude.{Contains, IsTrue, false};
 ghost use Rattle.uc_text.specs.Grammar.{open_list, open_object};
 ghost use Rattle.uc_text.specs.Parts.{names, IsNewName};
 ghost use Rattle.uc_text.specs.Tokens.{Placed, tokens};
-ghost use Rattle.uc_text.specs.Places.{NextIs, seen, Reads, ReadsItems, ReadsMembers, StuckAt, IfFault};
+ghost use Rattle.uc_text.specs.Places.{NextIs, seen, Reads, ReadsItems, ReadsMembers, StuckAt};
+ghost use Rattle.uc_text.specs.Places.{IfFault};
 ghost use Rattle.uc_text.specs.Ahead.{rest, ahead};
 ghost use Rattle.uc_text.specs.Texts.{IsText, IsFirstFault};
 ghost use Rattle.uc_text.specs.Answers.{GivesTree, GivesFault};
@@ -14,7 +16,8 @@ ghost use Rattle.uc_text.specs.declared.fault.TextFault.{TextFault};
 ghost use Rattle.uc_text.specs.View.{view, views, member_views};
 
 use crate::fault::{TextCode, TextError, TextFault};
-use crate::names::{add, name_of};
+use crate::names::add;
+use crate::nodes;
 use crate::reader::Reader;
 use crate::strings::text_of;
 use crate::token::{Lexeme, Token, Word};
@@ -32,14 +35,17 @@ fn fault(code: TextCode, place: u32) -> TextError
 }
 
 /// A value of one token, unless it's a number that is too long.
-fn word_tree(word: Word, place: u32) -> Result<Tree, TextError>
-    ensures ok { IfOk result (λ tree. (view tree ≡ scalar (scalar_of word)) × IsShort (scalar_of word)) }
-    ensures fault { IfFault result (λ f. (scalar_of word ≡ long_number) × (f ≡ record { code = TextCode.NumberTooLong; place = place })) }
+fn word_tree(alloc: Global, word: Word<'_>, place: u32) -> Result<Tree, TextError>
+    ensures ok { IfOk result (λ tree. (view tree ≡ scalar (scalar_of word.entry))
+        × IsShort (scalar_of word.entry)) }
+    ensures fault { IfFault result (λ f. (scalar_of word.entry ≡ long_number)
+        × (f ≡ record { code = TextCode.NumberTooLong; place = place })) }
 {
     match word {
         Word::Null => Ok(Tree::Null),
         Word::Flag(flag) => Ok(Tree::Flag(flag)),
-        Word::Number(number) => Ok(Tree::Number(number)),
+        Word::Number(small) => Ok(Tree::Number(small)),
+        Word::LargeNumber(run) => Ok(nodes::large_number(alloc, run)?),
         Word::LongNumber => Err(fault(TextCode::NumberTooLong, place)),
     }
 }
@@ -52,29 +58,30 @@ fn value(
     first: Lexeme<'_>,
     left: u32,
 ) -> Result<Tree, TextError>
-    ensures ok { IfOk result (λ v. (ts : List Placed) → NextIs ts (seen first.entry) (rest reader.old)
+    ensures ok { IfOk result (λ v. (ts : List Placed)
+        → NextIs ts (seen first.entry) (rest reader.old)
         → Reads left ts (view v) (rest reader.new)) }
-    ensures fault { IfFault result (λ f. (ts : List Placed) → NextIs ts (seen first.entry) (rest reader.old)
+    ensures fault { IfFault result (λ f. (ts : List Placed)
+        → NextIs ts (seen first.entry) (rest reader.old)
         → StuckAt left [] ts f) }
     ensures ahead { OnOk result (ahead reader.new ≤ ahead reader.old) }
 {
     match first.token {
-        Token::Word(word) => word_tree(word, first.place),
-        Token::Text(quoted) => {
-            let text = text_of(alloc, quoted)?;
-            Ok(Tree::Text(name_of(alloc, text.as_str())?))
-        }
+        Token::Word(word) => word_tree(alloc, word, first.place),
+        Token::Text(quoted) => Ok(nodes::text(alloc, quoted)?),
         Token::OpenList => {
             if left == 0 {
                 return Err(fault(TextCode::TooDeep, first.place));
             }
-            Ok(Tree::List(items(alloc, reader, left)?))
+            let found = items(alloc, reader, left)?;
+            Ok(nodes::list(alloc, found)?)
         }
         Token::OpenObject => {
             if left == 0 {
                 return Err(fault(TextCode::TooDeep, first.place));
             }
-            Ok(Tree::Object(members(alloc, reader, left)?))
+            let found = members(alloc, reader, left)?;
+            Ok(nodes::object(alloc, found)?)
         }
         _ => Err(fault(TextCode::NotJson, first.place)),
     }
@@ -84,7 +91,8 @@ fn value(
 #[cycle(read)]
 fn items(alloc: Global, reader: &mut Reader<'_>, left: u32) -> Result<TreeList, TextError>
     requires { 0 < left }
-    ensures ok { IfOk result (λ v. ReadsItems left (rest reader.old) (views v.items) (rest reader.new)) }
+    ensures ok { IfOk result (λ v. ReadsItems left (rest reader.old) (views v.items)
+        (rest reader.new)) }
     ensures fault { IfFault result (λ f. StuckAt left (open_list ∷ []) (rest reader.old) f) }
     ensures ahead { OnOk result (ahead reader.new ≤ ahead reader.old) }
 {
@@ -109,7 +117,8 @@ fn items(alloc: Global, reader: &mut Reader<'_>, left: u32) -> Result<TreeList, 
 #[cycle(read)]
 fn members(alloc: Global, reader: &mut Reader<'_>, left: u32) -> Result<MemberList, TextError>
     requires { 0 < left }
-    ensures ok { IfOk result (λ v. ReadsMembers left (rest reader.old) (member_views v.items) (rest reader.new)) }
+    ensures ok { IfOk result (λ v. ReadsMembers left (rest reader.old) (member_views v.items)
+        (rest reader.new)) }
     ensures fault { IfFault result (λ f. StuckAt left (open_object ∷ []) (rest reader.old) f) }
     ensures ahead { OnOk result (ahead reader.new ≤ ahead reader.old) }
 {
@@ -124,7 +133,7 @@ fn members(alloc: Global, reader: &mut Reader<'_>, left: u32) -> Result<MemberLi
             return Err(fault(TextCode::NotJson, first.place));
         };
         let key = text_of(alloc, quoted)?;
-        let name = name_of(alloc, key.as_str())?;
+        let name = String::from_str(alloc, key.as_str())?;
         let new = add(&mut seen, key.into_bytes())?;
         if !new {
             return Err(fault(TextCode::DoubleKey, first.place));

@@ -1,7 +1,13 @@
 //! The strings of a text.
-ghost use Rattle.std.specs.Prelude.{◌≡◌, ◌<◌, ◌≤◌, ◌^◌, ◌++◌, ◌∷◌, [], ◌-◌, ◌≢◌, IsUtf8, string_bytes, string_len, length, drop, slice_index, Option, IfSome, IfNone, IfOk, Some, None, OnOk, option_map, true};
+ghost use Rattle.std.specs.Prelude.{◌≡◌, ◌<◌, ◌≤◌, ◌^◌, ◌++◌, ◌∷◌, [], ◌-◌, ◌≢◌, IsUtf8};
+ghost use Rattle.std.specs.Prelude.{string_bytes, string_len, length, drop, slice_index, Option};
+ghost use Rattle.std.specs.Prelude.{IfSome, IfNone, IfOk, Some, None, OnOk, option_map, true};
 ghost use Rattle.uc_text.specs.declared.strings.Said.{Said};
-ghost use Rattle.uc_text.specs.Strings.{hex_of, four, short_of, is_high as high_unit, is_low as low_unit, unit_at as unit_spec, pair as pair_spec, second_at as second_spec, unit_piece as unit_piece_spec, escape_at as escape_spec, piece_at as piece_spec, string_from, string_of, said};
+ghost use Rattle.uc_text.specs.Strings.{hex_of, four, short_of, is_high as high_unit};
+ghost use Rattle.uc_text.specs.Strings.{is_low as low_unit, unit_at as unit_spec};
+ghost use Rattle.uc_text.specs.Strings.{pair as pair_spec, second_at as second_spec};
+ghost use Rattle.uc_text.specs.Strings.{unit_piece as unit_piece_spec, escape_at as escape_spec};
+ghost use Rattle.uc_text.specs.Strings.{piece_at as piece_spec, string_from, string_of, said};
 ghost use Rattle.uc_text.specs.Pieces.{said_by, seen_piece};
 
 use crate::bytes::{byte_or_zero, rest_from};
@@ -95,7 +101,8 @@ fn is_low(unit: u32) -> bool
 fn character(code: u32, len: usize) -> Option<Piece>
     requires few { 4 ≤ len }
     ensures low { code < 55296 → result ≡ Some (record { said = Said.Character code; len = len }) }
-    ensures high { 57344 ≤ code → code < 1114112 → result ≡ Some (record { said = Said.Character code; len = len }) }
+    ensures high { 57344 ≤ code → code < 1114112
+        → result ≡ Some (record { said = Said.Character code; len = len }) }
     ensures len { IfSome result (λ p. p.len ≡ len) }
     ensures utf8 { IfSome result (λ p. IsUtf8 (said_by p.said)) }
     ensures short { IfSome result (λ p. length (said_by p.said) ≤ 4) }
@@ -177,8 +184,10 @@ fn piece_at(bytes: &[u8]) -> Option<Piece>
     ensures len { IfSome result (λ p. (0 < p.len) × (p.len ≤ 12)) }
     ensures short { IfSome result (λ p. length (said_by p.said) ≤ p.len) }
     // An escape is ASCII to its end, and says whole characters; another byte says itself.
-    ensures escape { slice_index bytes.now 0 ≡ 92 → IfSome result (λ p. (slice_index bytes.now (p.len - 1) < 128) × IsUtf8 (said_by p.said)) }
-    ensures plain { slice_index bytes.now 0 ≢ 92 → IfSome result (λ p. (p.len ≡ 1) × (said_by p.said ≡ slice_index bytes.now 0 ∷ [])) }
+    ensures escape { slice_index bytes.now 0 ≡ 92
+        → IfSome result (λ p. (slice_index bytes.now (p.len - 1) < 128) × IsUtf8 (said_by p.said)) }
+    ensures plain { slice_index bytes.now 0 ≢ 92
+        → IfSome result (λ p. (p.len ≡ 1) × (said_by p.said ≡ slice_index bytes.now 0 ∷ [])) }
 {
     let byte = bytes[0];
     if byte == b'\\' {

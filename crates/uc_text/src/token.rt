@@ -2,23 +2,28 @@
 ghost use Rattle.std.specs.Prelude.{◌≡◌, ◌<◌, ◌≤◌, ◌^◌, ◌+◌, ◌||◌, ◌==◌, true, length, slice_index};
 ghost use Rattle.std.specs.List.{prefix_len};
 ghost use Rattle.uc_text.specs.Numbers.{is_digit as digit, is_number_byte as number_byte};
+ghost use Rattle.uc_text.specs.Numbers.{number_of};
 ghost use Rattle.uc_text.specs.Strings.{string_at as string_spec};
-ghost use Rattle.uc_text.specs.Tokens.{is_blank as blank, is_letter as letter, number_at as number_spec, word_at as word_spec, token_at as token_spec};
+ghost use Rattle.uc_text.specs.Tokens.{is_blank as blank, is_letter as letter};
+ghost use Rattle.uc_text.specs.Tokens.{number_at as number_spec, word_at as word_spec};
+ghost use Rattle.uc_text.specs.Tokens.{token_at as token_spec};
 ghost use Rattle.uc_text.specs.Seen.{token_of};
 ghost use Rattle.uc_text.specs.Goes.{goes};
 
 use crate::bytes::{letters_len, number_len, rest_from};
-use crate::number::number_in;
+use crate::number::{Numeral, numeral_in, short_whole};
 use crate::quoted::Quoted;
+use crate::run::Run;
+use crate::small::SmallNumber;
 use crate::strings::quoted_at;
-use uc_num::Decimal;
 
 /// A value that is one token, apart from strings.
 #[derive(Clone, Copy)]
-pub enum Word {
+pub enum Word<'a> {
     Null,
     Flag(bool),
-    Number(Decimal),
+    Number(SmallNumber),
+    LargeNumber(Run<'a>),
     LongNumber,
 }
 
@@ -30,7 +35,7 @@ pub enum Token<'a> {
     CloseObject,
     Comma,
     Colon,
-    Word(Word),
+    Word(Word<'a>),
     Text(Quoted<'a>),
     Bad,
     End,
@@ -47,6 +52,25 @@ pub fn is_blank(b: u8) -> bool
     ensures { result ≡ blank b }
 {
     b == b' ' || b == b'\t' || b == b'\n' || b == b'\r'
+}
+
+/// The token of a run of bytes of a number.
+fn number_in(run: &[u8]) -> Token<'_>
+    requires { length run.now < 2 ^ 30 }
+    ensures is { token_of result ≡ number_of run.now }
+    ensures goes { goes (token_of result) ≡ true }
+{
+    if let Some(small) = short_whole(run) {
+        return Token::Word(Word::Number(small));
+    }
+    match numeral_in(run) {
+        Numeral::Number(number) => match SmallNumber::of(number) {
+            Some(small) => Token::Word(Word::Number(small)),
+            None => Token::Word(Word::LargeNumber(Run { bytes: run })),
+        },
+        Numeral::TooLong => Token::Word(Word::LongNumber),
+        Numeral::Bad => Token::Bad,
+    }
 }
 
 fn number_at(bytes: &[u8]) -> (Token<'_>, usize)

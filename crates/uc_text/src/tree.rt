@@ -1,17 +1,21 @@
 //! What a text says.
-use uc_model::lists::Name;
+use crate::small::SmallNumber;
 use uc_num::Decimal;
 
 /// A value of a JSON text. The members of an object stand in file order.
+///
+/// A file may have a value for every two of its bytes, so a value takes 16 bytes, and what is
+/// larger lies behind a pointer.
 #[cycle(tree)]
 #[derive(Drop)]
 pub enum Tree {
     Null,
     Flag(bool),
-    Number(Decimal),
-    Text(Name),
-    List(TreeList),
-    Object(MemberList),
+    Number(SmallNumber),
+    LargeNumber(Box<Decimal>),
+    Text(Box<String>),
+    List(Box<TreeList>),
+    Object(Box<MemberList>),
 }
 
 pub type TreeList = Vec<Tree>;
@@ -20,7 +24,7 @@ pub type TreeList = Vec<Tree>;
 #[cycle(tree)]
 #[derive(Drop)]
 pub struct Member {
-    pub name: Name,
+    pub name: String,
     pub value: Tree,
 }
 

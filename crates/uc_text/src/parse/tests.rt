@@ -89,7 +89,7 @@ fn a_file_cut_at_each_length(rt: HostRuntime) -> Result<(), Fail> {
 
 #[test]
 fn values(rt: HostRuntime) -> Result<(), Fail> {
-    let bytes: &[u8] = b"{\"k\\u00e9\":[-12.50e3,true]}";
+    let bytes: &[u8] = b"{\"k\\u00e9\":[-12.50e3,true,12345678901]}";
     let Ok(Tree::Object(members)) = read_tree(rt.alloc(), bytes) else {
         panic!(rt; "no object");
     };
@@ -98,8 +98,8 @@ fn values(rt: HostRuntime) -> Result<(), Fail> {
     let Tree::List(items) = &members[0].value else {
         panic!(rt; "no list");
     };
-    assert_eq!(rt; items.len(), 2);
-    let Tree::Number(number) = &items[0] else {
+    assert_eq!(rt; items.len(), 3);
+    let Tree::Number(small) = &items[0] else {
         panic!(rt; "no number");
     };
     let right = Decimal {
@@ -107,7 +107,11 @@ fn values(rt: HostRuntime) -> Result<(), Fail> {
         digits: 1250,
         exponent: 1,
     };
-    assert_eq!(rt; *number, right);
+    assert_eq!(rt; small.decimal(), right);
     assert!(rt; matches!(items[1], Tree::Flag(true)));
+    let Tree::LargeNumber(large) = &items[2] else {
+        panic!(rt; "no large number");
+    };
+    assert_eq!(rt; large.digits, 12345678901);
     Ok(())
 }

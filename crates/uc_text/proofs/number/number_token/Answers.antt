@@ -4,19 +4,19 @@ use Rattle.uc_text.specs.Numbers.{value_from}
 use Rattle.uc_text.proofs.NumberParts.{too_many, too_far, short_enough, exponent_is, grown}
 use Rattle.uc_text.proofs.number.number_token.Goals as goal
 
-pub returns-in_default-clause-is : goal.returns-in_default-clause-is
-returns-in_default-clause-is c =
+pub returns-in_default : goal.returns-in_default
+returns-in_default c =
     too_many c.args.negative c.args.whole.now c.args.fraction.now c.args.lowers c.args.power.now c.requires.whole c.requires.fraction (grown _ c.args.whole.now c.args.fraction.now c.in_default.ensures.none)
 
-pub returns-in_default-digits_after-clause-is : goal.returns-in_default-digits_after-clause-is
-returns-in_default-digits_after-clause-is c =
+pub returns-in_default-digits_after : goal.returns-in_default-digits_after
+returns-in_default-digits_after c =
     too_many c.args.negative c.args.whole.now c.args.fraction.now c.args.lowers c.args.power.now c.requires.whole c.requires.fraction (subst (λ (n : ℕ). 10 ^ 30 ≤ value_from n c.args.fraction.now) c.in-Some.ensures.some.0 c.in_default-digits_after.ensures.none)
 
-pub returns-in_default-value_within-clause-is : goal.returns-in_default-value_within-clause-is
-returns-in_default-value_within-clause-is c = too_far c.args.negative c.args.whole.now c.args.fraction.now c.args.lowers c.args.power.now c.in_default-value_within.ensures.none
+pub returns-in_default-value_within : goal.returns-in_default-value_within
+returns-in_default-value_within c = too_far c.args.negative c.args.whole.now c.args.fraction.now c.args.lowers c.args.power.now c.in_default-value_within.ensures.none
 
-pub returns-clause-is : goal.returns-clause-is
-returns-clause-is c =
+pub returns : goal.returns
+returns c =
     let fits : FitsSigned w32 c.exponent-exponent.result = search rules in
     let near = c.in-Some-value_within.ensures.some in
     short_enough c.args.negative c.args.whole.now c.args.fraction.now c.args.lowers c.args.power.now c.in-Some-digits_after.digits _ c.requires.whole c.requires.fraction

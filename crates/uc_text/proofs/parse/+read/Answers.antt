@@ -20,8 +20,7 @@ use Rattle.uc_text.proofs.Known.{known_name, new_name, knows_more, knows_none}
 use Rattle.uc_text.proofs.Objects.{of_member, names_push}
 use Rattle.uc_text.proofs.MemberSteps.{InMembers, members_begin, members_empty, members_go_on, members_end, name_stops, double_stops, colon_stops, value_stops, member_stops_behind}
 use Rattle.uc_text.proofs.ValueSteps as first
-use Rattle.uc_text.proofs.Views.{view-Text, view-List, view-Object, members_pushed}
-use Rattle.uc_text.specs.declared.tree.Tree.{Text}
+use Rattle.uc_text.proofs.Views.{members_pushed}
 use Rattle.uc_text.proofs.parse.+read.Goals as goal
 
 -- ---- items
@@ -151,7 +150,7 @@ pub members-members-preserved : goal.members-members-preserved
 members-members-preserved t c =
     let new = new_name c.members.seen (names (member_views c.members.found.items)) c.into_bytes.result (said c.in-Text.quoted.bytes.now) c.in_ok-new.new c.members.invariant.known (ap (λ (v : Vec ℕ Global). v.items) c.into_bytes.ensures.value ∙ c.in_ok-key.ensures.said) c.in_ok-new.ensures.new c.if-not-new.false in
     let r = c.in_ok-inner.ensures.ok (rest c.next-between.new.self) c.next-start.ensures.next in
-    let ps = members_pushed c.members.found.items c.push.new.self.items c.in_ok-name.name c.in_ok-inner.inner (said c.in-Text.quoted.bytes.now) c.in_ok-push.ensures.items (c.in_ok-name.ensures ∙ c.as_str.ensures.value ∙ c.in_ok-key.ensures.said) in
+    let ps = members_pushed c.members.found.items c.push.new.self.items c.in_ok-name.name c.in_ok-inner.inner (said c.in-Text.quoted.bytes.now) c.in_ok-push.ensures.items (c.in_ok-name.ensures.ok ∙ c.as_str.ensures.value ∙ c.in_ok-key.ensures.said) in
     record {
       inside = subst (λ (us : List Pair). InMembers c.args.left (rest c.args.reader.now) us (seen c.next-first-in-Comma.result) (rest c.next-first-in-Comma.new.self)) (sym ps)
           (members_go_on c.args.left (rest c.args.reader.now) (member_views c.members.found.items) (seen c.members.first) (rest c.members.reader) (said c.in-Text.quoted.bytes.now) (seen c.next-between.result) (rest c.next-between.new.self) (view c.in_ok-inner.inner) (rest c.value.new.reader) (seen c.next-behind.result) (rest c.next-behind.new.self) (seen c.next-first-in-Comma.result) (rest c.next-first-in-Comma.new.self)
@@ -165,7 +164,7 @@ pub members-returns-in-CloseObject-token : goal.members-returns-in-CloseObject-t
 members-returns-in-CloseObject-token t c =
     let new = new_name c.members.seen (names (member_views c.members.found.items)) c.into_bytes.result (said c.in-Text.quoted.bytes.now) c.in_ok-new.new c.members.invariant.known (ap (λ (v : Vec ℕ Global). v.items) c.into_bytes.ensures.value ∙ c.in_ok-key.ensures.said) c.in_ok-new.ensures.new c.if-not-new.false in
     let r = c.in_ok-inner.ensures.ok (rest c.next-between.new.self) c.next-start.ensures.next in
-    let ps = members_pushed c.members.found.items c.push.new.self.items c.in_ok-name.name c.in_ok-inner.inner (said c.in-Text.quoted.bytes.now) c.in_ok-push.ensures.items (c.in_ok-name.ensures ∙ c.as_str.ensures.value ∙ c.in_ok-key.ensures.said) in
+    let ps = members_pushed c.members.found.items c.push.new.self.items c.in_ok-name.name c.in_ok-inner.inner (said c.in-Text.quoted.bytes.now) c.in_ok-push.ensures.items (c.in_ok-name.ensures.ok ∙ c.as_str.ensures.value ∙ c.in_ok-key.ensures.said) in
     record {
       ok = subst (λ (us : List Pair). ReadsMembers c.args.left (rest c.args.reader.now) us (rest c.next-behind.new.self)) (sym ps)
           (members_end c.args.left (rest c.args.reader.now) (member_views c.members.found.items) (seen c.members.first) (rest c.members.reader) (said c.in-Text.quoted.bytes.now) (seen c.next-between.result) (rest c.next-between.new.self) (view c.in_ok-inner.inner) (rest c.value.new.reader) (seen c.next-behind.result) (rest c.next-behind.new.self)
@@ -194,10 +193,9 @@ value-returns-in-Word-clause-ok t c = word_read c.args.left (seen c.args.first) 
 pub value-returns-in-Word-clause-fault : goal.value-returns-in-Word-clause-fault
 value-returns-in-Word-clause-fault t c = word_stops c.args.left (seen c.args.first) (rest c.args.reader.now) c.word_tree.result (scalar_of c.in-Word.word) (ap token_of c.in-Word.is) c.word_tree.ensures.fault
 
-pub value-returns-in_ok-name_of-in-Text-clause-ok : goal.value-returns-in_ok-name_of-in-Text-clause-ok
-value-returns-in_ok-name_of-in-Text-clause-ok t c = λ ts n.
-    let seen_so : view (Text c.in_ok-name_of-in-Text.field-0) ≡ scalar (text (said c.in-Text.quoted.bytes.now)) = view-Text c.in_ok-name_of-in-Text.field-0 ∙ ap (λ (k : List ℕ). scalar (text k)) (c.in_ok-name_of-in-Text.ensures ∙ c.as_str.ensures.value ∙ c.in_ok-text-in-Text.ensures.said) in
-    subst (λ (v : Value). Reads c.args.left ts v (rest c.args.reader.now)) (sym seen_so)
+pub value-returns-in_ok-text-in-Text-clause-ok : goal.value-returns-in_ok-text-in-Text-clause-ok
+value-returns-in_ok-text-in-Text-clause-ok t c = λ ts n.
+    subst (λ (v : Value). Reads c.args.left ts v (rest c.args.reader.now)) (sym c.in_ok-text-in-Text.ensures)
     (first.reads_scalar c.args.left ts (seen c.args.first) (rest c.args.reader.now) (text (said c.in-Text.quoted.bytes.now)) n (ap token_of c.in-Text.is) tt)
 
 pub value-returns-then-left-eq0-clause-fault : goal.value-returns-then-left-eq0-clause-fault
@@ -214,27 +212,25 @@ value-returns-then-left-eq0-2-clause-fault t c =
     (λ ts n. first.value_stops c.args.left ts (seen c.args.first) (rest c.args.reader.now) _ TooDeep n refl refl
     (subst (λ (k : Token). IsStuck c.args.left [] k levels) (sym (ap token_of c.in-OpenObject.is)) (subst (λ (m : ℕ). IsStuck m [] open_object levels) (sym zero_left) first.stuck_deep_object)))
 
-pub value-returns-in_err-items-in-OpenList-clause-fault : goal.value-returns-in_err-items-in-OpenList-clause-fault
-value-returns-in_err-items-in-OpenList-clause-fault t c =
-    let p = err_from_is_err_and c.from_residual-in_err-items-in-OpenList.result c.from_residual-in_err-items-in-OpenList.ensures.1 in
-    rw (p.1, p.2) (passes_on c.in_err-items-in-OpenList.field-0.0 _ _ (λ f s ts n. first.container_stops c.args.left ts (seen c.args.first) (rest c.args.reader.now) open_list f n (ap token_of c.in-OpenList.is) refl s) c.in_err-items-in-OpenList.ensures.fault)
+pub value-returns-in_err-found-in-OpenList-clause-fault : goal.value-returns-in_err-found-in-OpenList-clause-fault
+value-returns-in_err-found-in-OpenList-clause-fault t c =
+    let p = err_from_is_err_and c.from_residual-in_err-found-in-OpenList.result c.from_residual-in_err-found-in-OpenList.ensures.1 in
+    rw (p.1, p.2) (passes_on c.in_err-found-in-OpenList.field-0.0 _ _ (λ f s ts n. first.container_stops c.args.left ts (seen c.args.first) (rest c.args.reader.now) open_list f n (ap token_of c.in-OpenList.is) refl s) c.in_err-found-in-OpenList.ensures.fault)
 
-pub value-returns-in_err-members-in-OpenObject-clause-fault : goal.value-returns-in_err-members-in-OpenObject-clause-fault
-value-returns-in_err-members-in-OpenObject-clause-fault t c =
-    let p = err_from_is_err_and c.from_residual-in_err-members-in-OpenObject.result c.from_residual-in_err-members-in-OpenObject.ensures.1 in
-    rw (p.1, p.2) (passes_on c.in_err-members-in-OpenObject.field-0.0 _ _ (λ f s ts n. first.container_stops c.args.left ts (seen c.args.first) (rest c.args.reader.now) open_object f n (ap token_of c.in-OpenObject.is) refl s) c.in_err-members-in-OpenObject.ensures.fault)
+pub value-returns-in_err-found-in-OpenObject-clause-fault : goal.value-returns-in_err-found-in-OpenObject-clause-fault
+value-returns-in_err-found-in-OpenObject-clause-fault t c =
+    let p = err_from_is_err_and c.from_residual-in_err-found-in-OpenObject.result c.from_residual-in_err-found-in-OpenObject.ensures.1 in
+    rw (p.1, p.2) (passes_on c.in_err-found-in-OpenObject.field-0.0 _ _ (λ f s ts n. first.container_stops c.args.left ts (seen c.args.first) (rest c.args.reader.now) open_object f n (ap token_of c.in-OpenObject.is) refl s) c.in_err-found-in-OpenObject.ensures.fault)
 
-pub value-returns-in_ok-items-in-OpenList-clause-ok : goal.value-returns-in_ok-items-in-OpenList-clause-ok
-value-returns-in_ok-items-in-OpenList-clause-ok t c = λ ts n.
-    let v = c.in_ok-items-in-OpenList.field-0 in
-    subst (λ (u : Value). Reads c.args.left ts u (rest c.items.new.reader)) (sym (view-List v))
-    (first.reads_list c.args.left ts (seen c.args.first) (rest c.args.reader.now) (views v.items) (rest c.items.new.reader) (omega (arith, c.if-left-eq0.false)) n (ap token_of c.in-OpenList.is) c.in_ok-items-in-OpenList.ensures.ok)
+pub value-returns-in_ok-list-in-OpenList-clause-ok : goal.value-returns-in_ok-list-in-OpenList-clause-ok
+value-returns-in_ok-list-in-OpenList-clause-ok t c = λ ts n.
+    subst (λ (u : Value). Reads c.args.left ts u (rest c.items.new.reader)) (sym c.in_ok-list-in-OpenList.ensures)
+    (first.reads_list c.args.left ts (seen c.args.first) (rest c.args.reader.now) (views c.in_ok-found-in-OpenList.found.items) (rest c.items.new.reader) (omega (arith, c.if-left-eq0.false)) n (ap token_of c.in-OpenList.is) c.in_ok-found-in-OpenList.ensures.ok)
 
-pub value-returns-in_ok-members-in-OpenObject-clause-ok : goal.value-returns-in_ok-members-in-OpenObject-clause-ok
-value-returns-in_ok-members-in-OpenObject-clause-ok t c = λ ts n.
-    let v = c.in_ok-members-in-OpenObject.field-0 in
-    subst (λ (u : Value). Reads c.args.left ts u (rest c.members.new.reader)) (sym (view-Object v))
-    (first.reads_object c.args.left ts (seen c.args.first) (rest c.args.reader.now) (member_views v.items) (rest c.members.new.reader) (omega (arith, c.if-left-eq0-2.false)) n (ap token_of c.in-OpenObject.is) c.in_ok-members-in-OpenObject.ensures.ok)
+pub value-returns-in_ok-object-in-OpenObject-clause-ok : goal.value-returns-in_ok-object-in-OpenObject-clause-ok
+value-returns-in_ok-object-in-OpenObject-clause-ok t c = λ ts n.
+    subst (λ (u : Value). Reads c.args.left ts u (rest c.members.new.reader)) (sym c.in_ok-object-in-OpenObject.ensures)
+    (first.reads_object c.args.left ts (seen c.args.first) (rest c.args.reader.now) (member_views c.in_ok-found-in-OpenObject.found.items) (rest c.members.new.reader) (omega (arith, c.if-left-eq0-2.false)) n (ap token_of c.in-OpenObject.is) c.in_ok-found-in-OpenObject.ensures.ok)
 
 pub value-returns-in_default : goal.value-returns-in_default
 value-returns-in_default t c = record {
