@@ -17,7 +17,8 @@ entries_of = map entry_of
 
 -- the bytes under a name: those of its first file
 abbrev pub told_in : List File → List ℕ → Option (List ℕ)
-told_in files name = option_map (λ entry. entry.bytes) (find (λ entry. bytes_eq entry.name name) (entries_of files))
+told_in files name =
+    option_map (λ entry. entry.bytes) (find (λ entry. bytes_eq entry.name name) (entries_of files))
 
 -- the first file of this name
 abbrev pub first_in : List File → List ℕ → Option File

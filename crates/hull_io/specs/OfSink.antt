@@ -1,5 +1,6 @@
 -- What a sink in memory shows. This project's profile.
-use Rattle.std.specs.Prelude.{◌≡◌, ℕ, ◌-◌, ◌==◌, min, List, [], length, Option, None, Some, if◌then◌else◌}
+use Rattle.std.specs.Prelude.{◌≡◌, ℕ, ◌-◌, ◌==◌, min, List, [], length, Option, None, Some}
+use Rattle.std.specs.Prelude.{if◌then◌else◌}
 use Rattle.std.specs.List.{list_any}
 use Rattle.hull_io.specs.declared.memory.MemorySink.{MemorySink}
 
@@ -15,7 +16,8 @@ writes_of sink = sink.writes
 abbrev pub room_of : MemorySink → ℕ
 room_of sink = sink.room - length sink.bytes.items
 
--- how many bytes write number `number` takes of a piece: it fails where it is to fail or no room is left
+-- how many bytes write number `number` takes of a piece: it fails where it is to fail or no room is
+-- left
 abbrev pub taken_by : MemorySink → ℕ → List ℕ → Option ℕ
 taken_by sink number piece =
     if length piece == 0 then Some 0
@@ -28,7 +30,8 @@ taken_by sink number piece =
 abbrev pub faults_of : MemorySink → ℕ
 faults_of sink = sink.faults
 
--- a sink as it is made: empty, with this room, the most bytes of a write, the numbers of the writes that fail and that take 0, and no write or fault yet
+-- a sink as it is made: empty, with this room, the most bytes of a write, the numbers of the writes
+-- that fail and that take 0, and no write or fault yet
 pub record IsNewSink (sink : MemorySink) (room most : ℕ) (failing empty : List ℕ) : Type 0 where
   pub holds : taken sink ≡ []
   pub room_is : room_of sink ≡ room

@@ -1,7 +1,8 @@
 //! The outside of the engine: files by name, and the place that its text goes to.
 #![tactic(auto)]
 
-ghost use Rattle.std.specs.Prelude.{◌≡◌, ℕ, ◌+◌, ◌<◌, ◌≤◌, List, length, take, Option, IfOk, IfSome, OnErr};
+ghost use Rattle.std.specs.Prelude.{◌≡◌, ℕ, ◌+◌, ◌<◌, ◌≤◌, List, length, take, Option, IfOk};
+ghost use Rattle.std.specs.Prelude.{IfSome, OnErr};
 ghost use Rattle.hull_io.specs.Edge.{Rose, ReadsAt, grown, Writes};
 
 mod copies;
@@ -39,8 +40,10 @@ pub trait Shelf {
     /// bytes, and at a failure in all of it, is left open.
     fn read(&mut self, name: &str, offset: u64, into: &mut [u8]) -> Result<usize, ReadFailed>
         ensures within { IfOk result (λ n. n ≤ length into.old) }
-        ensures bytes { IfOk result (λ n. IfSome (told self.old name.now) (λ bytes. ReadsAt bytes offset n into.new)) }
-        ensures cause { OnErr result (Rose last (faults self.old name.now) (faults self.new name.now)) }
+        ensures bytes { IfOk result
+            (λ n. IfSome (told self.old name.now) (λ bytes. ReadsAt bytes offset n into.new)) }
+        ensures cause { OnErr result
+            (Rose last (faults self.old name.now) (faults self.new name.now)) }
         ensures later { (any : List ℕ) → faults self.old any ≤ faults self.new any }
         ensures told { told self.new ≡ told self.old };
 }
@@ -60,8 +63,10 @@ pub trait Sink {
     /// empty is a fault.
     fn write(&mut self, piece: &[u8]) -> Result<usize, WriteFailed>
         ensures within { IfOk result (λ n. n ≤ length piece.now) }
-        ensures gains { IfOk result (λ n. held self.new ≡ grown (held self.old) (take n piece.now)) }
-        ensures none { IfOk result (λ n. n ≡ 0 → 0 < length piece.now → Rose last (faults self.old) (faults self.new)) }
+        ensures gains { IfOk result (λ n. held self.new
+            ≡ grown (held self.old) (take n piece.now)) }
+        ensures none { IfOk result (λ n. n ≡ 0 → 0 < length piece.now
+            → Rose last (faults self.old) (faults self.new)) }
         ensures err { OnErr result (held self.new ≡ held self.old) }
         ensures cause { OnErr result (Rose last (faults self.old) (faults self.new)) }
         ensures later { faults self.old ≤ faults self.new };

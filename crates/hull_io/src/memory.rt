@@ -1,5 +1,7 @@
 // A shelf and a sink in memory, which tell what they hold. Neither takes memory once it is made.
-ghost use Rattle.std.specs.Prelude.{◌≡◌, ◌≢◌, ℕ, List, ◌+◌, ◌≤◌, ◌<◌, ◌==◌, min, length, take, Some, IfOk, IfSome, OnOk, OnErr, vec_len, vec_capacity, slice_index, if◌then◌else◌};
+ghost use Rattle.std.specs.Prelude.{◌≡◌, ◌≢◌, ℕ, List, ◌+◌, ◌≤◌, ◌<◌, ◌==◌, min, length, take};
+ghost use Rattle.std.specs.Prelude.{Some, IfOk, IfSome, OnOk, OnErr, vec_len, vec_capacity};
+ghost use Rattle.std.specs.Prelude.{slice_index, if◌then◌else◌};
 ghost use Rattle.std.specs.Result.{result_ok};
 ghost use Rattle.hull_io.specs.Edge.{Rose, ReadsAt, grown};
 ghost use Rattle.hull_io.specs.Named.{told_in};
@@ -47,9 +49,11 @@ impl MemoryShelf {
 
     /// Raises the count of a name.
     fn raise(&mut self, name: &str)
-        ensures rose { Rose (Some 0xffff_ffff_ffff_ffff) (count_of self.old name.now) (count_of self.new name.now) }
+        ensures rose { Rose (Some 0xffff_ffff_ffff_ffff) (count_of self.old name.now)
+            (count_of self.new name.now) }
         ensures later { (any : List ℕ) → count_of self.old any ≤ count_of self.new any }
-        ensures other { (any : List ℕ) → place_of self.old any ≢ place_of self.old name.now → count_of self.new any ≡ count_of self.old any }
+        ensures other { (any : List ℕ) → place_of self.old any ≢ place_of self.old name.now
+            → count_of self.new any ≡ count_of self.old any }
         ensures files { self.new.files ≡ self.old.files }
         ensures failing { self.new.failing ≡ self.old.failing }
         ensures reads { self.new.reads ≡ self.old.reads }
@@ -74,18 +78,24 @@ impl Shelf for MemoryShelf {
     fn read(&mut self, name: &str, offset: u64, into: &mut [u8]) -> Result<usize, ReadFailed>
         // As of every shelf.
         ensures within { IfOk result (λ n. n ≤ length into.old) }
-        ensures bytes { IfOk result (λ n. IfSome (told_of self.old name.now) (λ bytes. ReadsAt bytes offset n into.new)) }
-        ensures cause { OnErr result (Rose (Some 0xffff_ffff_ffff_ffff) (count_of self.old name.now) (count_of self.new name.now)) }
+        ensures bytes { IfOk result
+            (λ n. IfSome (told_of self.old name.now) (λ bytes. ReadsAt bytes offset n into.new)) }
+        ensures cause { OnErr result
+            (Rose (Some 0xffff_ffff_ffff_ffff) (count_of self.old name.now)
+            (count_of self.new name.now)) }
         ensures later { (any : List ℕ) → count_of self.old any ≤ count_of self.new any }
         ensures told { told_of self.new ≡ told_of self.old }
 
         // Which reads fail, and how much the others give.
         ensures number { reads_of self.new ≡ min (reads_of self.old + 1) 0xffff_ffff_ffff_ffff }
-        ensures given { result_ok result ≡ given_by self.old (reads_of self.new) name.now offset (length into.old) }
+        ensures given { result_ok result ≡ given_by self.old (reads_of self.new) name.now offset
+            (length into.old) }
 
         // No count rises but that of the name that failed.
-        ensures steady { OnOk result ((any : List ℕ) → count_of self.new any ≡ count_of self.old any) }
-        ensures other { (any : List ℕ) → place_of self.old any ≢ place_of self.old name.now → count_of self.new any ≡ count_of self.old any }
+        ensures steady { OnOk result ((any : List ℕ)
+            → count_of self.new any ≡ count_of self.old any) }
+        ensures other { (any : List ℕ) → place_of self.old any ≢ place_of self.old name.now
+            → count_of self.new any ≡ count_of self.old any }
     {
         self.reads = self.reads.saturating_add(1);
         if !self.failing.contains(&self.reads) {
@@ -162,14 +172,19 @@ impl Sink for MemorySink {
     fn write(&mut self, piece: &[u8]) -> Result<usize, WriteFailed>
         // As of every sink.
         ensures within { IfOk result (λ n. n ≤ length piece.now) }
-        ensures gains { IfOk result (λ n. Some (taken self.new) ≡ grown (Some (taken self.old)) (take n piece.now)) }
-        ensures none { IfOk result (λ n. n ≡ 0 → 0 < length piece.now → Rose (Some 0xffff_ffff_ffff_ffff) (faults_of self.old) (faults_of self.new)) }
+        ensures gains { IfOk result (λ n. Some (taken self.new)
+            ≡ grown (Some (taken self.old)) (take n piece.now)) }
+        ensures none { IfOk result (λ n. n ≡ 0 → 0 < length piece.now
+            → Rose (Some 0xffff_ffff_ffff_ffff) (faults_of self.old) (faults_of self.new)) }
         ensures err { OnErr result (Some (taken self.new) ≡ Some (taken self.old)) }
-        ensures cause { OnErr result (Rose (Some 0xffff_ffff_ffff_ffff) (faults_of self.old) (faults_of self.new)) }
+        ensures cause { OnErr result
+            (Rose (Some 0xffff_ffff_ffff_ffff) (faults_of self.old) (faults_of self.new)) }
         ensures later { faults_of self.old ≤ faults_of self.new }
 
         // Which writes fail, and how much the others take.
-        ensures number { writes_of self.new ≡ (if length piece.now == 0 then writes_of self.old else min (writes_of self.old + 1) 0xffff_ffff_ffff_ffff) }
+        ensures number { writes_of self.new
+            ≡ (if length piece.now == 0 then writes_of self.old else min (writes_of self.old + 1)
+            0xffff_ffff_ffff_ffff) }
         ensures takes { result_ok result ≡ taken_by self.old (writes_of self.new) piece.now }
     {
         if piece.is_empty() {

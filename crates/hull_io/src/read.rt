@@ -1,5 +1,6 @@
 // A whole file, by reads at rising offsets.
-ghost use Rattle.std.specs.Prelude.{◌≡◌, ℕ, ◌+◌, ◌<◌, ◌≤◌, List, length, IfOk, IfSome, IsErrOf, vec_len};
+ghost use Rattle.std.specs.Prelude.{◌≡◌, ℕ, ◌+◌, ◌<◌, ◌≤◌, List, length, IfOk, IfSome, IsErrOf};
+ghost use Rattle.std.specs.Prelude.{vec_len};
 ghost use Rattle.hull_io.specs.Edge.{Rose};
 
 use crate::{ReadFailed, Shelf};
@@ -21,13 +22,16 @@ pub enum ReadFault {
 
 /// The bytes of a file.
 ///
-/// Where the file is told, it is read exactly where it has at most [`MOST_BYTES`] bytes, and `TooBig`
-/// exactly where it has more. A failed read and want of memory come before both.
+/// Where the file is told, it is read exactly where it has at most [`MOST_BYTES`] bytes, and
+/// `TooBig` exactly where it has more. A failed read and want of memory come before both.
 pub fn read_whole<F: Shelf>(alloc: Global, shelf: &mut F, name: &str) -> Result<Vec<u8>, ReadFault>
-    ensures bytes { IfOk result (λ v. IfSome (F.told shelf.old name.now) (λ bytes. v.items ≡ bytes)) }
+    ensures bytes { IfOk result (λ v. IfSome (F.told shelf.old name.now)
+        (λ bytes. v.items ≡ bytes)) }
     ensures fits { IfOk result (λ v. vec_len v ≤ MOST_BYTES) }
-    ensures too_big { IsErrOf result ReadFault.TooBig → IfSome (F.told shelf.old name.now) (λ bytes. MOST_BYTES < length bytes) }
-    ensures failed { IsErrOf result ReadFault.Failed → Rose F.last (F.faults shelf.old name.now) (F.faults shelf.new name.now) }
+    ensures too_big { IsErrOf result ReadFault.TooBig
+        → IfSome (F.told shelf.old name.now) (λ bytes. MOST_BYTES < length bytes) }
+    ensures failed { IsErrOf result ReadFault.Failed
+        → Rose F.last (F.faults shelf.old name.now) (F.faults shelf.new name.now) }
     ensures later { (any : List ℕ) → F.faults shelf.old any ≤ F.faults shelf.new any }
     ensures told { F.told shelf.new ≡ F.told shelf.old }
 {
