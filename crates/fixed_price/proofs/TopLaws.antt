@@ -1,44 +1,18 @@
 -- What all units of a case earn at best, unit by unit.
-use Rattle.std.proofs.Common.{◌≡◌, ℕ, zero, suc, ◌+◌, ℤ, Bool, true, false, Some, List, [], ◌∷◌, ◌++◌, take, length, refl, sym, ap, ◌∙◌, subst, arith}
-use Rattle.std.specs.Prelude.{IsTrue, IsFalse, slice_get}
+use Rattle.std.proofs.Common.{◌≡◌, ℕ, zero, suc, ◌+◌, ℤ, Some, List, [], ◌∷◌, ◌++◌, take, sym, ap, ◌∙◌, subst, arith}
+use Rattle.std.specs.Prelude.{slice_get}
 use Rattle.std.specs.List.{AllZip}
 use Rattle.std.proofs.lemmas.Option.{none-some}
 use Rattle.std.proofs.lemmas.Slice.Zip.{all_zipped_more}
-use Rattle.slope_list.specs.Slopes.{room_of}
-use Rattle.slope_list.specs.declared.slopes.Slopes.{Slopes}
 use Rattle.uc_model.specs.declared.units.Answered.{Answered}
-use Rattle.uc_model.specs.declared.units.Point.{Point}
-use Rattle.uc_model.specs.Data.{ThermalUnit, NamedThermalUnit, AnyUnit, Thermal, PriceLists, Schedule, Market, units}
-use Rattle.uc_model.specs.Earnings.{earnings, IsBest, IsTop}
+use Rattle.uc_model.specs.Data.{AnyUnit, PriceLists, Schedule, Market, units}
+use Rattle.uc_model.specs.Earnings.{IsTop}
 use Rattle.uc_model.specs.PlainUnits.{schedule_of}
-use Rattle.uc_model.specs.Schedules.{IsThermalFeasible, IsFeasible}
-use Rattle.uc_model.specs.Ties.{IsLeast}
-use Rattle.uc_model.proofs.ListLaws.{item_of}
-use Rattle.unit_program.specs.Benches.{IsBenchFor}
-use Rattle.unit_program.specs.declared.bench.Bench.{Bench}
-use Rattle.fixed_price.specs.Tops.{HasSchedules, points_of, IsBenchOver}
-use Rattle.fixed_price.proofs.Items.{map_item, same_item}
-
--- ---- one unit
-
--- where some schedule is feasible, a best one is found
-pub record IsFound (g : ThermalUnit) (π : PriceLists) (a : Answered) : Type 0 where
-  pub top : IsTop (Thermal g) π a.earned
-  pub horizon : length (schedule_of a.response).on ≡ length π.energy
-
-pub found : (g : ThermalUnit) (π : PriceLists) (a : Answered) (is_found : Bool) → (s : Schedule) × IsThermalFeasible g (length π.energy) s
-    → (IsTrue is_found → IsBest (Thermal g) π (schedule_of a.response)) → (IsTrue is_found → a.earned ≡ earnings (Thermal g) π (schedule_of a.response))
-    → (IsFalse is_found → (s : Schedule) → IsThermalFeasible g (length π.energy) s → ⊥) → IsFound g π a
-found g π a true some best earned none = record {
-  top = record { schedule = schedule_of a.response; best = best refl; earns = sym (earned refl) };
-  horizon = (best refl).feasible.schedule.on;
-}
-found g π a false some best earned none = absurd (none refl some.0 some.1)
-
-pub least_top : (u : AnyUnit) (π : PriceLists) (a : Answered) → IsLeast u π (schedule_of a.response) → a.earned ≡ earnings u π (schedule_of a.response) → IsTop u π a.earned
-least_top u π a least earned = record { schedule = schedule_of a.response; best = least.best; earns = sym earned }
-
--- ---- the unit of a number
+use Rattle.uc_model.specs.Schedules.{IsFeasible}
+use Rattle.fixed_price.specs.declared.answer.Flow.{Flow}
+use Rattle.fixed_price.specs.Answers.{IsAnswerAt}
+use Rattle.fixed_price.specs.Tops.{HasSchedules, CanAnswer}
+use Rattle.fixed_price.proofs.Items.{same_item}
 
 one_of : {A B : Type 0} (Q : A → B → Type 0) (us : List A) (ys : List B) (k : ℕ) (u : A) → AllZip Q us ys → slice_get us k ≡ Some u → (y : B) × Q u y
 one_of Q [] ys k u h e = absurd (none-some u e)
@@ -46,23 +20,16 @@ one_of Q (x ∷ us) [] k u h e = absurd h
 one_of Q (x ∷ us) (y ∷ ys) zero u h e = (y, subst (λ z. Q z y) (same_item x u e) h.0)
 one_of Q (x ∷ us) (y ∷ ys) (suc k) u h e = one_of Q us ys k u h.1 e
 
-pub unit_at : (m : Market) (k number : ℕ) (u : AnyUnit) → k ≡ number → slice_get (units m) k ≡ Some u → slice_get (units m) number ≡ Some u
-unit_at m k number u same e = subst (λ (n : ℕ). slice_get (units m) n ≡ Some u) same e
+-- ---- answers
 
--- it has a feasible schedule
-pub schedule_at : (m : Market) (n k : ℕ) (u : AnyUnit) → HasSchedules m → n ≡ m.periods → slice_get (units m) k ≡ Some u → (s : Schedule) × IsFeasible u n s
-schedule_at m n k u some horizon e =
-    let at = one_of (λ (u : AnyUnit) (s : Schedule). IsFeasible u m.periods s) (units m) some.0 k u some.1 e in
-    (at.0, subst (λ (p : ℕ). IsFeasible u p at.0) (sym horizon) at.1)
+pub can_answer : (m : Market) → HasSchedules m → CanAnswer m
+can_answer m some k u is none =
+    let at = one_of (λ (u : AnyUnit) (s : Schedule). IsFeasible u m.periods s) (units m) some.0 k u some.1 is in
+    none at.0 at.1
 
--- and the bench suffices for it, where it is thermal
-pub bench_at : (m : Market) (n k : ℕ) (t : NamedThermalUnit) (b : Bench Slopes) → IsBenchOver m b → n ≡ m.periods → slice_get m.thermal k ≡ Some t → IsBenchFor room_of n (length t.unit.points) b
-bench_at m n k t b over horizon e =
-    subst (λ (p : ℕ). IsBenchFor room_of p (length t.unit.points) b) (sym horizon)
-    (item_of (λ (ps : List Point). IsBenchFor room_of m.periods (length ps) b) (points_of m) k t.unit.points over (map_item (λ (n : NamedThermalUnit). n.unit.points) m.thermal k t e))
-
-pub bench_kept : (m : Market) (old new : Bench Slopes) → ((periods points : ℕ) → IsBenchFor room_of periods points old → IsBenchFor room_of periods points new) → IsBenchOver m old → IsBenchOver m new
-bench_kept m old new keeps over k d inside = keeps m.periods _ (over k d inside)
+-- the answer of the unit of a number earns what its best schedules do
+pub answer_top : (m : Market) (π : PriceLists) (number : ℕ) (flow : Flow) (a : Answered) (h : IsAnswerAt m π number flow a) → IsTop h.unit π a.earned
+answer_top m π number flow a h = record { schedule = schedule_of a.response; best = h.fit.best; earns = sym h.earned }
 
 -- ---- one unit after another
 

@@ -1,3 +1,4 @@
 pub mod FixedCase
 pub mod Tops
+pub mod Answers
 pub mod Laws

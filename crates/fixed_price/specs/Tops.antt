@@ -1,6 +1,6 @@
 -- What all units of a case earn at best at prices (Gribik, Hogan and Pope 2007), and on which
 -- bench.
-use Rattle.std.specs.Prelude.{ℤ, List, map, length}
+use Rattle.std.specs.Prelude.{◌≡◌, ℕ, ℤ, List, map, length, Some, slice_get}
 use Rattle.std.specs.List.{All, AllZip}
 use Rattle.slope_list.specs.Slopes.{room_of}
 use Rattle.slope_list.specs.declared.slopes.Slopes.{Slopes}
@@ -11,11 +11,17 @@ use Rattle.uc_model.specs.Schedules.{IsFeasible}
 use Rattle.unit_program.specs.Benches.{IsBenchFor}
 use Rattle.unit_program.specs.declared.bench.Bench.{Bench}
 
--- each unit and bid has a feasible schedule
+-- each unit and bid has a feasible schedule, all together in balance or not
 abbrev pub HasSchedules : Market → Type 0
 HasSchedules m =
     (plan : List Schedule)
     × AllZip (λ (u : AnyUnit) (s : Schedule). IsFeasible u m.periods s) (units m) plan
+
+-- no unit or bid is without a feasible schedule
+abbrev pub CanAnswer : Market → Type 0
+CanAnswer m =
+    (k : ℕ) (u : AnyUnit) → slice_get (units m) k ≡ Some u →
+    ((s : Schedule) → IsFeasible u m.periods s → ⊥) → ⊥
 
 -- the cost points of each thermal unit
 abbrev pub points_of : Market → List (List Point)

@@ -20,7 +20,11 @@ pub record IsLeastOf (values : List ℤ) (v : ℤ) (i : ℕ) : Type 0 where
   pub first : (k : ℕ) → k < i → v <ℤ slice_index_or values k (pos 0)
 
 -- the law that a shape's places and values are within the limits
-pub within_limits : (lo : ℤ) (values : List ℤ) → AreWithin lo values → IsWithinLimits (table lo values)
+pub within_limits : (lo : ℤ) (values : List ℤ) → AreWithin lo values →
+    IsWithinLimits (table lo values)
 within_limits lo values h x v e =
-    let a = IsAt-from_value (table lo values) x v e in
-    (subst IsPlace (sym a.place) (h.places a.offset a.inside), subst IsAmount a.there (h.amounts a.offset a.inside))
+    let a = IsAt-from_value (table lo values) x v e in (
+      subst IsPlace (sym a.place) (h.places a.offset a.inside),
+      subst IsAmount a.there
+          (h.amounts a.offset a.inside),
+    )

@@ -1,7 +1,9 @@
 //! The shape that keeps every value, over the heap: the plain one that others are compared with.
 #![tactic(auto)]
 
-ghost use Rattle.std.specs.Prelude.{◌≡◌, ℕ, ℤ, ◌+◌, ◌<◌, ◌≤◌, pos, ◌+ℤ◌, ◌-ℤ◌, ◌*ℤ◌, ◌≤ℤ◌, ◌<ℤ◌, length, IfOk, vec_len, slice_index_or, MatchOption, Option, Some, refl, []};
+ghost use Rattle.std.specs.Prelude.{◌≡◌, ℕ, ℤ, ◌+◌, ◌<◌, ◌≤◌, pos, ◌+ℤ◌, ◌-ℤ◌, ◌*ℤ◌, ◌≤ℤ◌, ◌<ℤ◌};
+ghost use Rattle.std.specs.Prelude.{length, IfOk, vec_len, slice_index_or, MatchOption, Option};
+ghost use Rattle.std.specs.Prelude.{Some, refl, []};
 ghost use Rattle.std.specs.Int.{int_max};
 ghost use Rattle.std.proofs.Common.{rules};
 ghost use Rattle.level_table.specs.Values.{table, AreWithin, IsLeastOf, within_limits};
@@ -69,7 +71,8 @@ fn least_of(values: &[i64]) -> Option<(i64, usize)>
 /// The least value at the places from `from` to `to` and its least place.
 fn least_between(values: &[i64], lo: i64, from: i64, to: i64) -> Option<(i64, i64)>
     requires { AreWithin lo values.now }
-    ensures { MatchOption result (HasNone from to (table lo values.now)) (λ r. IsLeastIn from to (table lo values.now) r.0 r.1) }
+    ensures { MatchOption result (HasNone from to (table lo values.now))
+        (λ r. IsLeastIn from to (table lo values.now) r.0 r.1) }
 {
     let start = count_below(lo, values.len(), from);
     let end = count_up_to(lo, values.len(), to);
@@ -107,9 +110,13 @@ fn windowed(
     requires up { IsPlace up }
     requires down { IsPlace down }
     requires places { (k : ℕ) → k < count → IsPlace (from +ℤ pos k) }
-    requires some { (k : ℕ) → k < count → (y w : ℤ) × (value_of (table s.now.lo s.now.values.items) y ≡ Some w) × Reaches up down (from +ℤ pos k) y }
+    requires some { (k : ℕ) → k < count → (y w : ℤ)
+        × (value_of (table s.now.lo s.now.values.items) y ≡ Some w)
+        × Reaches up down (from +ℤ pos k) y }
     ensures len { IfOk result (λ out. length out.items ≡ count) }
-    ensures each { IfOk result (λ out. (k : ℕ) → k < count → (y : ℤ) × IsLeastIn ((from +ℤ pos k) -ℤ up) ((from +ℤ pos k) +ℤ down) (table s.now.lo s.now.values.items) (slice_index_or out.items k (pos 0)) y) }
+    ensures each { IfOk result (λ out. (k : ℕ) → k < count → (y : ℤ)
+        × IsLeastIn ((from +ℤ pos k) -ℤ up) ((from +ℤ pos k) +ℤ down)
+        (table s.now.lo s.now.values.items) (slice_index_or out.items k (pos 0)) y) }
 {
     let mut out = Vec::with_capacity(alloc, count)?;
     for k in 0..count {
@@ -143,7 +150,8 @@ fn window_of(
     requires down_fits { IsPlace down }
     requires lo { IsPlace lo }
     requires hi { IsPlace hi }
-    ensures { IfOk result (λ r. IsWindow up down lo hi (table s.now.lo s.now.values.items) (table r.lo r.values.items)) }
+    ensures { IfOk result (λ r. IsWindow up down lo hi (table s.now.lo s.now.values.items)
+        (table r.lo r.values.items)) }
 {
     let len = s.values.len();
     if len == 0 {
@@ -244,8 +252,11 @@ impl Term for Moved<'_> {
 fn add_term<T: Term>(values: &mut [i64], lo: i64, term: &T)
     requires limited { T.limited term.now }
     requires within { AreWithin lo values.old }
-    requires fits { (k : ℕ) → k < length values.old → (t : ℤ) × (T.added term.now (lo +ℤ pos k) ≡ Some t) × IsAmount (slice_index_or values.old k (pos 0) +ℤ t) }
-    ensures { (k : ℕ) → k < length values.old → (t : ℤ) × (T.added term.now (lo +ℤ pos k) ≡ Some t) × (slice_index_or values.new k (pos 0) ≡ slice_index_or values.old k (pos 0) +ℤ t) }
+    requires fits { (k : ℕ) → k < length values.old → (t : ℤ)
+        × (T.added term.now (lo +ℤ pos k) ≡ Some t)
+        × IsAmount (slice_index_or values.old k (pos 0) +ℤ t) }
+    ensures { (k : ℕ) → k < length values.old → (t : ℤ) × (T.added term.now (lo +ℤ pos k) ≡ Some t)
+        × (slice_index_or values.new k (pos 0) ≡ slice_index_or values.old k (pos 0) +ℤ t) }
 {
     for (k, value) in values.iter_mut().enumerate() {
         *value = term.plus(*value, lo + k as i64);

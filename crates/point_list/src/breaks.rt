@@ -31,7 +31,8 @@ impl Breaks {
 impl Shape for Breaks {
     ghost use Rattle.std.specs.Prelude.{◌+◌, OnOk, OnErr, pos, ◌*ℤ◌, ◌≤ℤ◌};
     ghost use Rattle.shape_law.specs.Curve.{curve_value, reserve_term, IsLimitedCurve};
-    ghost use Rattle.shape_law.specs.Effect.{IsPoint, IsSame, IsSum, IsCurveSum, CanAddCurve, IsWindow};
+    ghost use Rattle.shape_law.specs.Effect.{IsPoint, IsSame, IsSum, IsCurveSum, CanAddCurve};
+    ghost use Rattle.shape_law.specs.Effect.{IsWindow};
     ghost use Rattle.shape_law.specs.Table.{IsPlace, IsAmount, CanAdd};
     ghost use Rattle.point_list.specs.Shown.{count_of, shown, IsUntouched};
 
@@ -82,7 +83,8 @@ impl Shape for Breaks {
     fn add_curve(&mut self, _home: &mut Heap, curve: &Curve, shift: i64) -> Result<(), AllocError>
         requires limited { IsLimitedCurve curve.now }
         requires fits { CanAddCurve (curve_value curve.now) shift (shown self.old) }
-        ensures ok { OnOk result (IsCurveSum (curve_value curve.now) shift (shown self.old) (shown self.new)) }
+        ensures ok { OnOk result (IsCurveSum (curve_value curve.now) shift (shown self.old)
+            (shown self.new)) }
         ensures charge { count_of self.new ≤ count_of self.old + length curve.now.blocks.items }
         ensures err { OnErr result (IsUntouched self.old self.new) }
         ensures home { _home.new ≡ _home.old }
@@ -110,7 +112,8 @@ impl Shape for Breaks {
         requires cap { IsPlace cap }
         requires up { IsPlace up }
         requires fits { CanAdd (reserve_term mu cap up) (shown self.old) }
-        ensures ok { OnOk result (IsSum (reserve_term mu cap up) (shown self.old) (shown self.new)) }
+        ensures ok { OnOk result (IsSum (reserve_term mu cap up) (shown self.old)
+            (shown self.new)) }
         ensures charge { count_of self.new ≤ count_of self.old + 1 }
         ensures err { OnErr result (IsUntouched self.old self.new) }
         ensures home { _home.new ≡ _home.old }

@@ -1,7 +1,9 @@
 //! Steps on a whole list, which take the room that they need first.
-ghost use Rattle.std.specs.Prelude.{◌≡◌, ℕ, ℤ, ◌+◌, ◌^◌, ◌<◌, ◌≤◌, pos, ◌+ℤ◌, ◌*ℤ◌, ◌≤ℤ◌, length, IfOk, OnOk, OnErr, MatchOption};
+ghost use Rattle.std.specs.Prelude.{◌≡◌, ℕ, ℤ, ◌+◌, ◌^◌, ◌<◌, ◌≤◌, pos, ◌+ℤ◌, ◌*ℤ◌, ◌≤ℤ◌, length};
+ghost use Rattle.std.specs.Prelude.{IfOk, OnOk, OnErr, MatchOption};
 ghost use Rattle.shape_law.specs.Curve.{curve_value, reserve_term, IsLimitedCurve};
-ghost use Rattle.shape_law.specs.Effect.{IsPoint, IsSum, IsCurveSum, CanAddCurve, IsWindow, IsLeast, IsLeastIn};
+ghost use Rattle.shape_law.specs.Effect.{IsPoint, IsSum, IsCurveSum, CanAddCurve, IsWindow};
+ghost use Rattle.shape_law.specs.Effect.{IsLeast, IsLeastIn};
 ghost use Rattle.shape_law.specs.Table.{value_of, IsPlace, IsAmount, IsEmpty, HasNone, CanAdd};
 ghost use Rattle.ramp_step.specs.Knots.{knot};
 ghost use Rattle.ramp_step.specs.Tables.{function_of};
@@ -25,7 +27,8 @@ fn make_room(knots: &mut Vec<Knot>, cells: usize) -> Result<u32, AllocError>
     ensures used { IfOk result (λ used. used ≡ length knots.old.items) }
     ensures room { OnOk result (length knots.new.items ≡ length knots.old.items + cells) }
     ensures count { OnOk result (length knots.old.items + cells < 2 ^ 32) }
-    ensures same { (k : ℕ) → k < length knots.old.items → knot knots.new.items k ≡ knot knots.old.items k }
+    ensures same { (k : ℕ) → k < length knots.old.items
+        → knot knots.new.items k ≡ knot knots.old.items k }
     ensures err { OnErr result (knots.new.items ≡ knots.old.items) }
 {
     let used = knots.len();
@@ -40,7 +43,8 @@ fn make_room(knots: &mut Vec<Knot>, cells: usize) -> Result<u32, AllocError>
 pub(crate) fn add_line(knots: &mut Vec<Knot>, slope: i64)
     requires breaks { IsCountedList knots.old.items }
     requires fits { CanAdd (λ x. slope *ℤ x) (function_of knots.old.items) }
-    ensures sum { IsSum (λ x. slope *ℤ x) (function_of knots.old.items) (function_of knots.new.items) }
+    ensures sum { IsSum (λ x. slope *ℤ x) (function_of knots.old.items)
+        (function_of knots.new.items) }
     ensures breaks { IsCountedList knots.new.items }
     ensures count { length knots.new.items ≡ length knots.old.items }
 {
@@ -62,7 +66,8 @@ pub(crate) fn add_reserve(
     requires cap { IsPlace cap }
     requires up { IsPlace up }
     requires fits { CanAdd (reserve_term mu cap up) (function_of knots.old.items) }
-    ensures ok { OnOk result (IsSum (reserve_term mu cap up) (function_of knots.old.items) (function_of knots.new.items)) }
+    ensures ok { OnOk result (IsSum (reserve_term mu cap up) (function_of knots.old.items)
+        (function_of knots.new.items)) }
     ensures breaks { IsCountedList knots.new.items }
     ensures charge { length knots.new.items ≤ length knots.old.items + 1 }
     ensures err { OnErr result (knots.new.items ≡ knots.old.items) }
@@ -80,9 +85,11 @@ pub(crate) fn add_curve(knots: &mut Vec<Knot>, curve: &Curve, shift: i64) -> Res
     requires breaks { IsCountedList knots.old.items }
     requires limited { IsLimitedCurve curve.now }
     requires fits { CanAddCurve (curve_value curve.now) shift (function_of knots.old.items) }
-    ensures ok { OnOk result (IsCurveSum (curve_value curve.now) shift (function_of knots.old.items) (function_of knots.new.items)) }
+    ensures ok { OnOk result (IsCurveSum (curve_value curve.now) shift (function_of knots.old.items)
+        (function_of knots.new.items)) }
     ensures breaks { IsCountedList knots.new.items }
-    ensures charge { length knots.new.items ≤ length knots.old.items + length curve.now.blocks.items }
+    ensures charge { length knots.new.items ≤ length knots.old.items
+        + length curve.now.blocks.items }
     ensures err { OnErr result (knots.new.items ≡ knots.old.items) }
 {
     let len = knots.len();
@@ -112,7 +119,8 @@ pub(crate) fn window(
     requires down_fits { IsPlace down }
     requires lo { IsPlace lo }
     requires hi { IsPlace hi }
-    ensures ok { OnOk result (IsWindow up down lo hi (function_of knots.old.items) (function_of knots.new.items)) }
+    ensures ok { OnOk result (IsWindow up down lo hi (function_of knots.old.items)
+        (function_of knots.new.items)) }
     ensures breaks { IsCountedList knots.new.items }
     ensures charge { length knots.new.items ≤ length knots.old.items + 4 }
     ensures err { OnErr result (knots.new.items ≡ knots.old.items) }
@@ -142,7 +150,8 @@ pub(crate) fn point(alloc: Global, at: i64, value: i64) -> Result<Vec<Knot>, All
 /// The least value and its least place.
 pub(crate) fn least(knots: &[Knot]) -> Option<(i64, i64)>
     requires { IsCountedList knots.now }
-    ensures { MatchOption result (IsEmpty (function_of knots.now)) (λ r. IsLeast (function_of knots.now) r.0 r.1) }
+    ensures { MatchOption result (IsEmpty (function_of knots.now))
+        (λ r. IsLeast (function_of knots.now) r.0 r.1) }
 {
     match read::least(knots, knots.len() as u32) {
         Some(lowest) => Some((lowest.value, lowest.at)),
@@ -153,7 +162,8 @@ pub(crate) fn least(knots: &[Knot]) -> Option<(i64, i64)>
 /// The least value at the places from `lo` to `hi` and its least place.
 pub(crate) fn least_in(knots: &[Knot], lo: i64, hi: i64) -> Option<(i64, i64)>
     requires { IsCountedList knots.now }
-    ensures { MatchOption result (HasNone lo hi (function_of knots.now)) (λ r. IsLeastIn lo hi (function_of knots.now) r.0 r.1) }
+    ensures { MatchOption result (HasNone lo hi (function_of knots.now))
+        (λ r. IsLeastIn lo hi (function_of knots.now) r.0 r.1) }
 {
     match read::least_in(knots, knots.len() as u32, lo, hi) {
         Some(lowest) => Some((lowest.value, lowest.at)),

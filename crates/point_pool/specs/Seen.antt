@@ -26,13 +26,16 @@ knots_of p s = knots_at p.slots.items (numbers_of p s)
 abbrev pub shown : Pool → Pooled → Table
 shown p s = function_of (knots_of p s)
 
--- the shape is in the pool: its cells differ and are in use, and hold breakpoints of a convex function within the limits
+-- the shape is in the pool: its cells differ and are in use, and hold breakpoints of a convex
+-- function within the limits
 pub record IsIn (p : Pool) (s : Pooled) : Type 0 where
   pub used : AreUsed p.slots.items (numbers_of p s)
   pub breaks : IsBreakList (knots_of p s)
 
 -- where the contents of its cells are equal in two states, its numbers and its function are
-pub seen_by_contents : (p p' : Pool) (s : Pooled) → IsIn p s → AreSameAt (numbers_of p s) (cells_of p) (cells_of p') → (numbers_of p' s ≡ numbers_of p s) × (shown p' s ≡ shown p s)
+pub seen_by_contents : (p p' : Pool) (s : Pooled) → IsIn p s →
+    AreSameAt (numbers_of p s) (cells_of p) (cells_of p') → (numbers_of p' s ≡ numbers_of p s)
+    × (shown p' s ≡ shown p s)
 seen_by_contents p p' s here same =
     let r = same_by_contents p.slots.items p'.slots.items s.head s.count here.used same in
     (r.numbers, ap function_of r.knots)

@@ -1,5 +1,6 @@
 -- Lists of cells in a pool: each cell has the number of the next (this project's profile).
-use Rattle.std.specs.Prelude.{◌≡◌, ℕ, zero, suc, ◌<◌, pos, true, false, List, [], ◌∷◌, length, map, slice_index_or}
+use Rattle.std.specs.Prelude.{◌≡◌, ℕ, zero, suc, ◌<◌, pos, true, false, List, [], ◌∷◌, length, map}
+use Rattle.std.specs.Prelude.{slice_index_or}
 use Rattle.std.specs.Coded.{×_prop, Unit-prop}
 use mathlib.Core.HLevel.{¬_prop}
 use Rattle.shape_law.specs.Cell.{Cell, IsAmong, AreDistinct}
@@ -51,16 +52,19 @@ pub record Stored (slots slots' : List Slot) (own : List ℕ) (knots : List Knot
 -- cells given back: what isn't in use any more, and what stays
 pub record Released (slots slots' : List Slot) (own : List ℕ) : Type 0 where
   pub unused : (n : ℕ) → IsAmong n own → (slot_at slots' n).in_use ≡ false
-  pub kept : (n : ℕ) → (slot_at slots n).in_use ≡ true → (IsAmong n own → ⊥) → slot_at slots' n ≡ slot_at slots n
+  pub kept : (n : ℕ) → (slot_at slots n).in_use ≡ true → (IsAmong n own → ⊥) →
+      slot_at slots' n ≡ slot_at slots n
   pub free : (n : ℕ) → (slot_at slots n).in_use ≡ false → (slot_at slots' n).in_use ≡ false
 
 -- of the cells in use only the own ones change, and new ones weren't in use
 pub record Changes (slots slots' : List Slot) (own own' : List ℕ) : Type 0 where
-  pub kept : (n : ℕ) → (slot_at slots n).in_use ≡ true → (IsAmong n own → ⊥) → slot_at slots' n ≡ slot_at slots n
+  pub kept : (n : ℕ) → (slot_at slots n).in_use ≡ true → (IsAmong n own → ⊥) →
+      slot_at slots' n ≡ slot_at slots n
   pub gains : (n : ℕ) → IsAmong n own' → (IsAmong n own → ⊥) → (slot_at slots n).in_use ≡ true → ⊥
 
 -- breakpoints stored in the place of a list that is given back
-pub record Replaced (slots slots' : List Slot) (own own' : List ℕ) (knots : List Knot) : Type 0 where
+pub record Replaced (slots slots' : List Slot) (own own' : List ℕ) (knots : List Knot) : Type
+    0 where
   pub changes : Changes slots slots' own own'
   pub used : AreUsed slots' own'
   pub holds : knots_at slots' own' ≡ knots

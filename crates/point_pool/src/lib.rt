@@ -1,4 +1,5 @@
-//! Shapes that keep their breakpoints in the cells of a pool, whose memory is taken when it is made.
+//! Shapes that keep their breakpoints in the cells of a pool, whose memory is taken when it is
+//! made.
 #![tactic(auto)]
 
 pub mod law;

@@ -1,8 +1,10 @@
 //! The pool, and its lists of cells.
-ghost use Rattle.std.specs.Prelude.{◌≡◌, ℕ, ◌+◌, ◌^◌, ◌<◌, ◌≤◌, true, false, length, map, take, slice_set, IfOk};
+ghost use Rattle.std.specs.Prelude.{◌≡◌, ℕ, ◌+◌, ◌^◌, ◌<◌, ◌≤◌, true, false, length, map, take};
+ghost use Rattle.std.specs.Prelude.{slice_set, IfOk};
 ghost use Rattle.std.proofs.Props.{props};
 ghost use Rattle.shape_law.specs.Cell.{IsUsed};
-ghost use Rattle.point_pool.specs.Walk.{AreDistinct-prop, slot_at, walk, knots_at, cell_of, AreFree, AreUsed, Stored, Released, Replaced};
+ghost use Rattle.point_pool.specs.Walk.{AreDistinct-prop, slot_at, walk, knots_at, cell_of};
+ghost use Rattle.point_pool.specs.Walk.{AreFree, AreUsed, Stored, Released, Replaced};
 
 use crate::slot::Slot;
 use ramp_step::breakpoint::Knot;
@@ -58,7 +60,8 @@ impl Pool {
         requires { 0 < self.old.spare }
         ensures inside { result < length self.old.slots.items }
         ensures was_free { (slot_at self.old.slots.items result).in_use ≡ false }
-        ensures slots { self.new.slots.items ≡ slice_set self.old.slots.items result (record { in_use = true; next = next; knot = knot }) }
+        ensures slots { self.new.slots.items ≡ slice_set self.old.slots.items result
+            (record { in_use = true; next = next; knot = knot }) }
         ensures spare { self.new.spare + 1 ≡ self.old.spare }
         ensures work { self.new.work.items ≡ self.old.work.items }
     {
@@ -77,7 +80,13 @@ impl Pool {
     /// Gives a cell back.
     fn put(&mut self, number: u32)
         requires used { (slot_at self.old.slots.items number).in_use ≡ true }
-        ensures slots { self.new.slots.items ≡ slice_set self.old.slots.items number (record { in_use = false; next = self.old.free; knot = (slot_at self.old.slots.items number).knot }) }
+        ensures slots { self.new.slots.items ≡ slice_set self.old.slots.items number
+            (record {
+              in_use = false;
+              next = self.old.free;
+              knot =
+                  (slot_at self.old.slots.items number).knot;
+            }) }
         ensures spare { self.new.spare ≡ self.old.spare + 1 }
         ensures work { self.new.work.items ≡ self.old.work.items }
     {
@@ -92,7 +101,8 @@ impl Pool {
     /// those of the spare cells too.
     pub(crate) fn load(&mut self, head: u32, count: u32)
         requires { AreUsed self.old.slots.items (walk self.old.slots.items head count) }
-        ensures knots { take count self.new.work.items ≡ knots_at self.old.slots.items (walk self.old.slots.items head count) }
+        ensures knots { take count self.new.work.items
+            ≡ knots_at self.old.slots.items (walk self.old.slots.items head count) }
         ensures slots { self.new.slots.items ≡ self.old.slots.items }
         ensures spare { self.new.spare ≡ self.old.spare }
         ensures room { count + self.new.spare ≤ length self.new.work.items }
@@ -108,7 +118,8 @@ impl Pool {
     /// Stores the first breakpoints of the work list in spare cells, and answers the first cell.
     pub(crate) fn store(&mut self, count: u32) -> u32
         requires { count ≤ self.old.spare }
-        ensures stored { Stored self.old.slots.items self.new.slots.items (walk self.new.slots.items result count) (take count self.old.work.items) }
+        ensures stored { Stored self.old.slots.items self.new.slots.items
+            (walk self.new.slots.items result count) (take count self.old.work.items) }
         ensures spare { self.new.spare + count ≡ self.old.spare }
     {
         let mut head = 0;
@@ -122,7 +133,8 @@ impl Pool {
     /// Gives back the cells of a list.
     pub(crate) fn release(&mut self, head: u32, count: u32)
         requires { AreUsed self.old.slots.items (walk self.old.slots.items head count) }
-        ensures released { Released self.old.slots.items self.new.slots.items (walk self.old.slots.items head count) }
+        ensures released { Released self.old.slots.items self.new.slots.items
+            (walk self.old.slots.items head count) }
         ensures spare { self.new.spare ≡ self.old.spare + count }
         ensures work { self.new.work.items ≡ self.old.work.items }
     {
@@ -134,12 +146,14 @@ impl Pool {
         }
     }
 
-    /// Gives back the cells of a list, stores the first `left` breakpoints of the work list in their
-    /// place, and answers the first cell.
+    /// Gives back the cells of a list, stores the first `left` breakpoints of the work list in
+    /// their place, and answers the first cell.
     pub(crate) fn replace(&mut self, head: u32, count: u32, left: u32) -> u32
         requires used { AreUsed self.old.slots.items (walk self.old.slots.items head count) }
         requires fits { left ≤ self.old.spare + count }
-        ensures replaced { Replaced self.old.slots.items self.new.slots.items (walk self.old.slots.items head count) (walk self.new.slots.items result left) (take left self.old.work.items) }
+        ensures replaced { Replaced self.old.slots.items self.new.slots.items
+            (walk self.old.slots.items head count) (walk self.new.slots.items result left)
+            (take left self.old.work.items) }
         ensures spare { self.new.spare + left ≡ self.old.spare + count }
     {
         self.release(head, count);

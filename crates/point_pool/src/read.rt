@@ -15,7 +15,8 @@ impl Pool {
     pub(crate) fn lowest(&self, head: u32, count: u32) -> Knot
         requires used { AreUsed self.now.slots.items (walk self.now.slots.items head count) }
         requires some { 0 < count }
-        ensures { IsAtTurn (knots_at self.now.slots.items (walk self.now.slots.items head count)) count result }
+        ensures { IsAtTurn (knots_at self.now.slots.items (walk self.now.slots.items head count))
+            count result }
     {
         let mut at = head;
         for done in 1..count {
@@ -32,9 +33,11 @@ impl Pool {
     /// The value at a place.
     pub(crate) fn value_in(&self, head: u32, count: u32, x: i64) -> Option<i64>
         requires used { AreUsed self.now.slots.items (walk self.now.slots.items head count) }
-        requires breaks { IsBreakList (knots_at self.now.slots.items (walk self.now.slots.items head count)) }
+        requires breaks { IsBreakList
+            (knots_at self.now.slots.items (walk self.now.slots.items head count)) }
         requires some { 0 < count }
-        ensures { result ≡ value_of (function_of (knots_at self.now.slots.items (walk self.now.slots.items head count))) x }
+        ensures { result ≡ value_of
+            (function_of (knots_at self.now.slots.items (walk self.now.slots.items head count))) x }
     {
         knots_decide();
         let mut at = head;

@@ -20,7 +20,8 @@ impl Pool {
         requires room { used ≤ length self.old.work.items }
         requires breaks { IsBreakList (take used self.old.work.items) }
         requires fits { CanAdd (λ x. slope *ℤ x) (function_of (take used self.old.work.items)) }
-        ensures sum { IsSum (λ x. slope *ℤ x) (function_of (take used self.old.work.items)) (function_of (take used self.new.work.items)) }
+        ensures sum { IsSum (λ x. slope *ℤ x) (function_of (take used self.old.work.items))
+            (function_of (take used self.new.work.items)) }
         ensures breaks { IsBreakList (take used self.new.work.items) }
         ensures slots { self.new.slots.items ≡ self.old.slots.items }
         ensures spare { self.new.spare ≡ self.old.spare }
@@ -30,15 +31,18 @@ impl Pool {
         line_step(&mut self.work, used, slope);
     }
 
-    /// Subtracts `mu * min(cap, up + x)` at each place x, and answers how many breakpoints there are.
+    /// Subtracts `mu * min(cap, up + x)` at each place x, and answers how many breakpoints there
+    /// are.
     pub(crate) fn add_reserve(&mut self, used: u32, mu: i64, cap: i64, up: i64) -> u32
         requires room { used + 1 ≤ length self.old.work.items }
         requires breaks { IsBreakList (take used self.old.work.items) }
         requires mu { pos 0 ≤ℤ mu }
         requires cap { IsPlace cap }
         requires up { IsPlace up }
-        requires fits { CanAdd (reserve_term mu cap up) (function_of (take used self.old.work.items)) }
-        ensures sum { IsSum (reserve_term mu cap up) (function_of (take used self.old.work.items)) (function_of (take result self.new.work.items)) }
+        requires fits { CanAdd (reserve_term mu cap up)
+            (function_of (take used self.old.work.items)) }
+        ensures sum { IsSum (reserve_term mu cap up) (function_of (take used self.old.work.items))
+            (function_of (take result self.new.work.items)) }
         ensures breaks { IsBreakList (take result self.new.work.items) }
         ensures charge { result ≤ used + 1 }
         ensures slots { self.new.slots.items ≡ self.old.slots.items }
@@ -49,15 +53,18 @@ impl Pool {
         kink_step(&mut self.work, used, mu, cap, up)
     }
 
-    /// Adds the curve's value at `x + shift` at each place x, and answers how many breakpoints there
-    /// are.
+    /// Adds the curve's value at `x + shift` at each place x, and answers how many breakpoints
+    /// there are.
     pub(crate) fn add_curve(&mut self, used: u32, curve: &Curve, shift: i64) -> u32
         requires some { 0 < used }
         requires room { used + length curve.now.blocks.items ≤ length self.old.work.items }
         requires breaks { IsBreakList (take used self.old.work.items) }
         requires limited { IsLimitedCurve curve.now }
-        requires fits { CanAddCurve (curve_value curve.now) shift (function_of (take used self.old.work.items)) }
-        ensures sum { IsCurveSum (curve_value curve.now) shift (function_of (take used self.old.work.items)) (function_of (take result self.new.work.items)) }
+        requires fits { CanAddCurve (curve_value curve.now) shift
+            (function_of (take used self.old.work.items)) }
+        ensures sum { IsCurveSum (curve_value curve.now) shift
+            (function_of (take used self.old.work.items))
+            (function_of (take result self.new.work.items)) }
         ensures breaks { IsBreakList (take result self.new.work.items) }
         ensures charge { result ≤ used + length curve.now.blocks.items }
         ensures slots { self.new.slots.items ≡ self.old.slots.items }
@@ -68,8 +75,8 @@ impl Pool {
         curve_step(&mut self.work, used, curve, shift)
     }
 
-    /// Takes the least values at the places from `x - up` to `x + down`, at the places x from `lo` to
-    /// `hi`, and answers how many breakpoints there are.
+    /// Takes the least values at the places from `x - up` to `x + down`, at the places x from `lo`
+    /// to `hi`, and answers how many breakpoints there are.
     pub(crate) fn window(&mut self, used: u32, up: i64, down: i64, lo: i64, hi: i64) -> u32
         requires room { used + 4 ≤ length self.old.work.items }
         requires breaks { IsBreakList (take used self.old.work.items) }
@@ -79,7 +86,8 @@ impl Pool {
         requires down_fits { IsPlace down }
         requires lo { IsPlace lo }
         requires hi { IsPlace hi }
-        ensures window { IsWindow up down lo hi (function_of (take used self.old.work.items)) (function_of (take result self.new.work.items)) }
+        ensures window { IsWindow up down lo hi (function_of (take used self.old.work.items))
+            (function_of (take result self.new.work.items)) }
         ensures breaks { IsBreakList (take result self.new.work.items) }
         ensures charge { result ≤ used + 4 }
         ensures slots { self.new.slots.items ≡ self.old.slots.items }

@@ -7,10 +7,12 @@ use Rattle.ramp_step.specs.Knots.{place, height, IsShape}
 abbrev pub slope_at : List Knot → ℕ → ℤ
 slope_at ks k = int_div (height ks (k + 1) -ℤ height ks k) (place ks (k + 1) -ℤ place ks k)
 
--- the places of the first n knots rise, the slopes between neighbours are whole, and no slope is below the one before it
+-- the places of the first n knots rise, the slopes between neighbours are whole, and no slope is
+-- below the one before it
 pub record AreBreakpoints (ks : List Knot) (n : ℕ) : Type 0 where
   pub rise : (k : ℕ) → k + 1 < n → place ks k <ℤ place ks (k + 1)
-  pub whole : (k : ℕ) → k + 1 < n → height ks (k + 1) ≡ height ks k +ℤ slope_at ks k *ℤ (place ks (k + 1) -ℤ place ks k)
+  pub whole : (k : ℕ) → k + 1 < n → height ks (k + 1) ≡ height ks k
+      +ℤ slope_at ks k *ℤ (place ks (k + 1) -ℤ place ks k)
   pub order : (k : ℕ) → k + 2 < n → slope_at ks k ≤ℤ slope_at ks (k + 1)
 
 -- such knots stand for a convex function, and no others do

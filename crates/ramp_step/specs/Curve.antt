@@ -1,5 +1,7 @@
--- A curve of blocks, each with a width and a price, as a function on all places (this project's profile).
-use Rattle.std.specs.Prelude.{ℕ, zero, suc, ◌+◌, ◌<◌, ◌≤◌, ℤ, pos, ◌+ℤ◌, ◌-ℤ◌, ◌*ℤ◌, ◌≤ℤ◌, ◌⊎◌, List, [], ◌∷◌, length}
+-- A curve of blocks, each with a width and a price, as a function on all places (this project's
+-- profile).
+use Rattle.std.specs.Prelude.{ℕ, zero, suc, ◌+◌, ◌<◌, ◌≤◌, ℤ, pos, ◌+ℤ◌, ◌-ℤ◌, ◌*ℤ◌, ◌≤ℤ◌, ◌⊎◌}
+use Rattle.std.specs.Prelude.{List, [], ◌∷◌, length}
 use Rattle.std.specs.Int.{int_min, int_max}
 use Rattle.ramp_step.specs.declared.breakpoint.Knot.{Knot}
 use Rattle.uc_model.specs.declared.units.Block.{Block}
@@ -9,7 +11,8 @@ use Rattle.shape_law.specs.Table.{IsAmount}
 -- the rise from place s to place x over blocks that begin at s
 abbrev pub rise_over : List Block → ℤ → ℤ → ℤ
 rise_over [] s x = pos 0
-rise_over (b ∷ bs) s x = b.price *ℤ int_min (x -ℤ s) b.width +ℤ rise_over bs (s +ℤ b.width) (int_max x (s +ℤ b.width))
+rise_over (b ∷ bs) s x =
+    b.price *ℤ int_min (x -ℤ s) b.width +ℤ rise_over bs (s +ℤ b.width) (int_max x (s +ℤ b.width))
 
 -- the value at x of a curve that begins at place s with a value
 abbrev pub curve_term : ℤ → List Block → ℤ → ℤ → ℤ
@@ -28,15 +31,18 @@ AreBlocks p (b ∷ bs) = (p ≤ℤ b.price) × (pos 0 ≤ℤ b.width) × AreBloc
 
 -- no block of the first j ends between lo and hi
 abbrev pub EndsOutside : List Block → ℤ → ℕ → ℤ → ℤ → Type 0
-EndsOutside bs s j lo hi = (i : ℕ) → i < j → (hi ≤ℤ block_end bs s (suc i)) ⊎ (block_end bs s (suc i) ≤ℤ lo)
+EndsOutside bs s j lo hi =
+    (i : ℕ) → i < j → (hi ≤ℤ block_end bs s (suc i)) ⊎ (block_end bs s (suc i) ≤ℤ lo)
 
 -- the same function, and none of the first j blocks ends between two neighbours
-pub record IsRefined (bs : List Block) (s : ℤ) (j : ℕ) (ks : List Knot) (n : ℕ) (ks' : List Knot) (n' : ℕ) : Type 0 where
+pub record IsRefined (bs : List Block) (s : ℤ) (j : ℕ) (ks : List Knot) (n : ℕ) (ks' : List Knot)
+    (n' : ℕ) : Type 0 where
   pub function : (f : ℤ → ℤ) → StandFor ks n f → StandFor ks' n' f
   pub apart : (k : ℕ) → k + 1 < n' → EndsOutside bs s j (place ks' k) (place ks' (k + 1))
   pub ends : HaveSameEnds ks n ks' n'
 
--- widths aren't negative, prices don't fall, and the block ends and the values there are within the limits
+-- widths aren't negative, prices don't fall, and the block ends and the values there are within the
+-- limits
 pub record AreLimitedBlocks (v : ℤ) (bs : List Block) (s : ℤ) : Type 0 where
   pub lowest : ℤ
   pub blocks : AreBlocks lowest bs

@@ -15,7 +15,8 @@ pub record IsOnLine (a b : Knot) (x : ℤ) : Type 0 where
 -- q is the knot at x on the line from a to b
 pub record IsBetween (a b : Knot) (x : ℤ) (q : Knot) : Type 0 where
   pub at : q.at ≡ x
-  pub value : (s : ℤ) → b.value ≡ a.value +ℤ s *ℤ (b.at -ℤ a.at) → q.value ≡ a.value +ℤ s *ℤ (x -ℤ a.at)
+  pub value : (s : ℤ) → b.value ≡ a.value +ℤ s *ℤ (b.at -ℤ a.at) →
+      q.value ≡ a.value +ℤ s *ℤ (x -ℤ a.at)
   pub amount : IsAmount q.value
 
 -- both knots are within the limits

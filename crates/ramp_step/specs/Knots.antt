@@ -1,5 +1,6 @@
 -- What a slice of knots stands for (this project's profile).
-use Rattle.std.specs.Prelude.{◌≡◌, ℕ, ◌+◌, ◌-◌, ◌<◌, ℤ, pos, negsuc, ◌+ℤ◌, ◌-ℤ◌, ◌≤ℤ◌, ◌<ℤ◌, List, slice_index_or}
+use Rattle.std.specs.Prelude.{◌≡◌, ℕ, ◌+◌, ◌-◌, ◌<◌, ℤ, pos, negsuc, ◌+ℤ◌, ◌-ℤ◌, ◌≤ℤ◌, ◌<ℤ◌, List}
+use Rattle.std.specs.Prelude.{slice_index_or}
 use Rattle.ramp_step.specs.declared.breakpoint.Knot.{Knot}
 use Rattle.shape_law.specs.Table.{IsPlace, IsAmount}
 
@@ -32,7 +33,8 @@ pub record Joins (n : ℕ) (p v : ℕ → ℤ) (f : ℤ → ℤ) : Type 0 where
 abbrev pub StandFor : List Knot → ℕ → (ℤ → ℤ) → Type 0
 StandFor ks n f = Joins n (place ks) (height ks) f
 
--- the first n knots are a convex function with whole values: places rise, slopes are whole and don't fall
+-- the first n knots are a convex function with whole values: places rise, slopes are whole and
+-- don't fall
 abbrev pub IsShape : List Knot → ℕ → Type 0
 IsShape ks n = (f : ℤ → ℤ) × StandFor ks n f
 
@@ -59,7 +61,8 @@ IsWide x = (negsuc 15999999999 ≤ℤ x) × (x ≤ℤ pos 16000000000)
 
 -- the term may be added: places and values are within the limits, before and after
 abbrev pub CanAdd : (ℤ → ℤ) → List Knot → ℕ → (ℤ → ℤ) → Type 0
-CanAdd term ks n f = (x : ℤ) → IsInside ks n x → IsPlace x × IsAmount (f x) × IsAmount (f x +ℤ term x)
+CanAdd term ks n f =
+    (x : ℤ) → IsInside ks n x → IsPlace x × IsAmount (f x) × IsAmount (f x +ℤ term x)
 
 -- each of the first n heights is raised by the term at its place
 pub record AreRaised (term : ℤ → ℤ) (n : ℕ) (ks ks' : List Knot) : Type 0 where

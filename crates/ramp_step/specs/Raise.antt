@@ -17,7 +17,8 @@ pub record CanRaise (start level price : ℤ) (q : Knot) : Type 0 where
   pub line : IsAmount (line_from start level price q.at)
   pub after : IsAmount (q.value +ℤ line_from start level price q.at)
 
--- of the first n knots those from index i on that are at most at place `end`, up to index i', are raised by the term
+-- of the first n knots those from index i on that are at most at place `end`, up to index i', are
+-- raised by the term
 pub record AreRaisedUpto (term : ℤ → ℤ) (end : ℤ) (n i i' : ℕ) (ks ks' : List Knot) : Type 0 where
   pub from : i ≤ i'
   pub to : i' ≤ n
@@ -28,8 +29,10 @@ pub record AreRaisedUpto (term : ℤ → ℤ) (end : ℤ) (n i i' : ℕ) (ks ks'
   pub after : (k : ℕ) → i' ≤ k → knot ks' k ≡ knot ks k
   pub beyond : i' < n → end <ℤ place ks i'
 
--- the curve is added to the first `done` heights, and to no other; the places beyond these are beyond the j-th block end
-pub record AreRaisedSoFar (v : ℤ) (bs : List Block) (s : ℤ) (j n done : ℕ) (ks ks' : List Knot) : Type 0 where
+-- the curve is added to the first `done` heights, and to no other; the places beyond these are
+-- beyond the j-th block end
+pub record AreRaisedSoFar (v : ℤ) (bs : List Block) (s : ℤ) (j n done : ℕ) (ks ks' : List Knot) :
+    Type 0 where
   pub order : done ≤ n
   pub places : (k : ℕ) → k < n → place ks' k ≡ place ks k
   pub heights : (k : ℕ) → k < done → height ks' k ≡ height ks k +ℤ curve_term v bs s (place ks k)

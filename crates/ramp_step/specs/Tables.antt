@@ -14,7 +14,8 @@ table_of ks n = record { lo = place ks 0; values = values_of ks n }
 abbrev pub function_of : List Knot → Table
 function_of ks = table_of ks (length ks)
 
--- the first n knots are breakpoints with whole slopes that don't fall, of a function that is convex and within the limits
+-- the first n knots are breakpoints with whole slopes that don't fall, of a function that is convex
+-- and within the limits
 pub record AreBreaks (ks : List Knot) (n : ℕ) : Type 0 where
   pub points : AreBreakpoints ks n
   pub convex : IsConvex (table_of ks n)

@@ -1,5 +1,6 @@
 -- The list of values over all places, which the first n knots stand for (this project's profile).
-use Rattle.std.specs.Prelude.{ℕ, zero, suc, ◌+◌, ℤ, pos, ◌+ℤ◌, ◌-ℤ◌, ◌*ℤ◌, if◌then◌else◌, int_lt, int_div, unsigned_abs, List, [], ◌∷◌}
+use Rattle.std.specs.Prelude.{ℕ, zero, suc, ◌+◌, ℤ, pos, ◌+ℤ◌, ◌-ℤ◌, ◌*ℤ◌, if◌then◌else◌, int_lt}
+use Rattle.std.specs.Prelude.{int_div, unsigned_abs, List, [], ◌∷◌}
 use Rattle.ramp_step.specs.declared.breakpoint.Knot.{Knot}
 use Rattle.ramp_step.specs.Knots.{knot, place, height}
 
@@ -10,7 +11,8 @@ line_at a b x = a.value +ℤ int_div (b.value -ℤ a.value) (b.at -ℤ a.at) *�
 -- the value at x by the knots up to index k
 abbrev pub value_upto : List Knot → ℕ → ℤ → ℤ
 value_upto ks zero x = height ks 0
-value_upto ks (suc k) x = if int_lt (place ks k) x then line_at (knot ks k) (knot ks (k + 1)) x else value_upto ks k x
+value_upto ks (suc k) x =
+    if int_lt (place ks k) x then line_at (knot ks k) (knot ks (k + 1)) x else value_upto ks k x
 
 -- the values of f at n places from x on
 abbrev pub values_from : (ℤ → ℤ) → ℤ → ℕ → List ℤ
@@ -20,4 +22,5 @@ values_from f x (suc n) = f x ∷ values_from f (x +ℤ pos 1) n
 -- the values at all places from the first knot to the last
 abbrev pub values_of : List Knot → ℕ → List ℤ
 values_of ks zero = []
-values_of ks (suc m) = values_from (value_upto ks m) (place ks 0) (unsigned_abs (place ks m -ℤ place ks 0) + 1)
+values_of ks (suc m) =
+    values_from (value_upto ks m) (place ks 0) (unsigned_abs (place ks m -ℤ place ks 0) + 1)

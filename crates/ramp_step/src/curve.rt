@@ -1,12 +1,15 @@
 //! A curve is added.
-ghost use Rattle.std.specs.Prelude.{◌≡◌, ℕ, ℤ, ◌+◌, ◌^◌, ◌-◌, ◌<◌, ◌≤◌, ◌+ℤ◌, ◌-ℤ◌, ◌*ℤ◌, ◌≤ℤ◌, ◌<ℤ◌, length};
-ghost use Rattle.ramp_step.specs.Knots.{place, height, StandFor, IsShape, IsInside, HaveSameEnds, IsFar, CanAdd, AreRaised, knot, IsWide};
+ghost use Rattle.std.specs.Prelude.{◌≡◌, ℕ, ℤ, ◌+◌, ◌^◌, ◌-◌, ◌<◌, ◌≤◌, ◌+ℤ◌, ◌-ℤ◌, ◌*ℤ◌, ◌≤ℤ◌};
+ghost use Rattle.std.specs.Prelude.{◌<ℤ◌, length};
+ghost use Rattle.ramp_step.specs.Knots.{place, height, StandFor, IsShape, IsInside, HaveSameEnds};
+ghost use Rattle.ramp_step.specs.Knots.{IsFar, CanAdd, AreRaised, knot, IsWide};
 ghost use Rattle.ramp_step.specs.Tables.{table_of, AreBreaks};
 ghost use Rattle.shape_law.specs.Curve.{curve_value, IsLimitedCurve};
 ghost use Rattle.shape_law.specs.Effect.{IsCurveSum, CanAddCurve};
 ghost use Rattle.shape_law.specs.Table.{IsAmount};
 ghost use Rattle.ramp_step.specs.Cut.{IsLimited};
-ghost use Rattle.ramp_step.specs.Curve.{block_end, IsOver, AreBlocks, AreLimitedBlocks, IsRefined, curve_term};
+ghost use Rattle.ramp_step.specs.Curve.{block_end, IsOver, AreBlocks, AreLimitedBlocks, IsRefined};
+ghost use Rattle.ramp_step.specs.Curve.{curve_term};
 ghost use Rattle.ramp_step.specs.Raise.{line_from, CanRaise, AreRaisedUpto};
 
 use crate::breakpoint::Knot;
@@ -23,7 +26,8 @@ fn split_all(knots: &mut [Knot], used: usize, from: i64, blocks: &[Block]) -> us
     requires limits { IsLimited knots.old used }
     requires ascending { (lowest : ℤ) × AreBlocks lowest blocks.now }
     requires places { (j : ℕ) → j ≤ length blocks.now → IsWide (block_end blocks.now from j) }
-    ensures refined { IsRefined blocks.now from (length blocks.now) knots.old used knots.new result }
+    ensures refined { IsRefined blocks.now from (length blocks.now) knots.old used knots.new
+        result }
     ensures limits { IsLimited knots.new result }
     ensures charge { result ≤ used + length blocks.now }
 {
@@ -71,8 +75,10 @@ fn raise_block(
     requires room { used ≤ length knots.old }
     requires start { IsWide start }
     requires level { IsAmount level }
-    requires fits { (k : ℕ) → first ≤ k → k < used → place knots.old k ≤ℤ end → CanRaise start level price (knot knots.old k) }
-    ensures { AreRaisedUpto (line_from start level price) end used first result knots.old knots.new }
+    requires fits { (k : ℕ) → first ≤ k → k < used → place knots.old k ≤ℤ end
+        → CanRaise start level price (knot knots.old k) }
+    ensures { AreRaisedUpto (line_from start level price) end used first result knots.old
+        knots.new }
 {
     for i in first..used {
         let knot = knots[i];
@@ -90,9 +96,11 @@ fn raise_curve(knots: &mut [Knot], used: usize, value: i64, blocks: &[Block], fr
     requires curve { AreLimitedBlocks value blocks.now from }
     requires rise { (k : ℕ) → k + 1 < used → place knots.old k <ℤ place knots.old (k + 1) }
     requires low { (k : ℕ) → k < used → from ≤ℤ place knots.old k }
-    requires high { (k : ℕ) → k < used → place knots.old k ≤ℤ block_end blocks.now from (length blocks.now) }
+    requires high { (k : ℕ) → k < used → place knots.old k
+        ≤ℤ block_end blocks.now from (length blocks.now) }
     requires before { (k : ℕ) → k < used → IsAmount (height knots.old k) }
-    requires after { (k : ℕ) → k < used → IsAmount (height knots.old k +ℤ curve_term value blocks.now from (place knots.old k)) }
+    requires after { (k : ℕ) → k < used
+        → IsAmount (height knots.old k +ℤ curve_term value blocks.now from (place knots.old k)) }
     ensures { AreRaised (curve_term value blocks.now from) used knots.old knots.new }
 {
     let mut done = raise_block(knots, 0, used, from, value, 0, from);
@@ -112,8 +120,10 @@ fn add_blocks(knots: &mut [Knot], used: usize, value: i64, blocks: &[Block], fro
     requires stand { IsShape knots.old used }
     requires curve { AreLimitedBlocks value blocks.now from }
     requires inside { IsOver blocks.now from knots.old used }
-    requires fits { (f : ℤ → ℤ) → StandFor knots.old used f → CanAdd (curve_term value blocks.now from) knots.old used f }
-    ensures stand { (f : ℤ → ℤ) → StandFor knots.old used f → StandFor knots.new result (λ x. f x +ℤ curve_term value blocks.now from x) }
+    requires fits { (f : ℤ → ℤ) → StandFor knots.old used f
+        → CanAdd (curve_term value blocks.now from) knots.old used f }
+    ensures stand { (f : ℤ → ℤ) → StandFor knots.old used f
+        → StandFor knots.new result (λ x. f x +ℤ curve_term value blocks.now from x) }
     ensures ends { HaveSameEnds knots.old used knots.new result }
     ensures charge { result ≤ used + length blocks.now }
 {
@@ -122,8 +132,8 @@ fn add_blocks(knots: &mut [Knot], used: usize, value: i64, blocks: &[Block], fro
     n
 }
 
-/// Adds the curve's value at `x + shift` to the value at each place x, which has to be in the curve.
-/// Its charge is the number of the curve's blocks, for a knot where a block ends.
+/// Adds the curve's value at `x + shift` to the value at each place x, which has to be in the
+/// curve. Its charge is the number of the curve's blocks, for a knot where a block ends.
 pub fn curve_step(knots: &mut [Knot], used: u32, curve: &Curve, shift: i64) -> u32
     requires some { 0 < used }
     requires room { used + length curve.now.blocks.items ≤ length knots.old }
@@ -131,7 +141,8 @@ pub fn curve_step(knots: &mut [Knot], used: u32, curve: &Curve, shift: i64) -> u
     requires breaks { AreBreaks knots.old used }
     requires limited { IsLimitedCurve curve.now }
     requires fits { CanAddCurve (curve_value curve.now) shift (table_of knots.old used) }
-    ensures sum { IsCurveSum (curve_value curve.now) shift (table_of knots.old used) (table_of knots.new result) }
+    ensures sum { IsCurveSum (curve_value curve.now) shift (table_of knots.old used)
+        (table_of knots.new result) }
     ensures breaks { AreBreaks knots.new result }
     ensures charge { result ≤ used + length curve.now.blocks.items }
 {

@@ -34,7 +34,8 @@ fn lower(knots: &mut [Knot], used: usize, mu: i64, cap: i64, up: i64)
     requires up { IsPlace up }
     requires places { (k : ℕ) → k < used → IsFar (place knots.old k) }
     requires before { (k : ℕ) → k < used → IsAmount (height knots.old k) }
-    requires after { (k : ℕ) → k < used → IsAmount (height knots.old k +ℤ reserve_term mu cap up (place knots.old k)) }
+    requires after { (k : ℕ) → k < used
+        → IsAmount (height knots.old k +ℤ reserve_term mu cap up (place knots.old k)) }
     ensures { AreRaised (reserve_term mu cap up) used knots.old knots.new }
 {
     for i in 0..used {
@@ -52,7 +53,8 @@ pub fn kink_step(knots: &mut [Knot], used: u32, mu: i64, cap: i64, up: i64) -> u
     requires cap { IsPlace cap }
     requires up { IsPlace up }
     requires fits { CanAdd (reserve_term mu cap up) (table_of knots.old used) }
-    ensures sum { IsSum (reserve_term mu cap up) (table_of knots.old used) (table_of knots.new result) }
+    ensures sum { IsSum (reserve_term mu cap up) (table_of knots.old used)
+        (table_of knots.new result) }
     ensures breaks { AreBreaks knots.new result }
     ensures charge { result ≤ used + 1 }
 {

@@ -1,6 +1,8 @@
 //! Laws of breakpoints: each is the contract of a function that does nothing.
 ghost use Rattle.ramp_step.specs.Breakpoints.{BreakpointsAreShapes, ShapesAreBreakpoints};
-ghost use Rattle.ramp_step.specs.Laws.{WindowMovesParts, WindowMovesKnots, OneKnotIsPoint, SameKnotsAreSame, RunsStandBetween, TurnIsLeast, NearestIsLeast};
+ghost use Rattle.ramp_step.specs.Laws.{WindowMovesParts, WindowMovesKnots, OneKnotIsPoint};
+ghost use Rattle.ramp_step.specs.Laws.{SameKnotsAreSame, RunsStandBetween, TurnIsLeast};
+ghost use Rattle.ramp_step.specs.Laws.{NearestIsLeast};
 
 /// Of a convex function on a whole interval the window moves the falling part by `-down` and the
 /// rising part by `up`, with the flat part between. So do knots that are moved in that way.

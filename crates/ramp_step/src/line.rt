@@ -27,7 +27,8 @@ fn raise_line(knots: &mut [Knot], used: usize, slope: i64)
     requires room { used ≤ length knots.old }
     requires places { (k : ℕ) → k < used → IsPlace (place knots.old k) }
     requires before { (k : ℕ) → k < used → IsAmount (height knots.old k) }
-    requires after { (k : ℕ) → k < used → IsAmount (height knots.old k +ℤ slope *ℤ place knots.old k) }
+    requires after { (k : ℕ) → k < used
+        → IsAmount (height knots.old k +ℤ slope *ℤ place knots.old k) }
     ensures { AreRaised (λ x. slope *ℤ x) used knots.old knots.new }
 {
     for i in 0..used {

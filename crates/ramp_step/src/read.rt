@@ -32,7 +32,8 @@ pub fn value_at(knots: &[Knot], used: u32, x: i64) -> Option<i64>
 pub fn least(knots: &[Knot], used: u32) -> Option<Knot>
     requires room { used ≤ length knots.now }
     requires breaks { AreBreaks knots.now used }
-    ensures { MatchOption result (IsEmpty (table_of knots.now used)) (λ q. IsLeast (table_of knots.now used) q.value q.at) }
+    ensures { MatchOption result (IsEmpty (table_of knots.now used))
+        (λ q. IsLeast (table_of knots.now used) q.value q.at) }
 {
     if used == 0 {
         return None;
@@ -46,7 +47,8 @@ pub fn least(knots: &[Knot], used: u32) -> Option<Knot>
 pub fn least_in(knots: &[Knot], used: u32, lo: i64, hi: i64) -> Option<Knot>
     requires room { used ≤ length knots.now }
     requires breaks { AreBreaks knots.now used }
-    ensures { MatchOption result (HasNone lo hi (table_of knots.now used)) (λ q. IsLeastIn lo hi (table_of knots.now used) q.value q.at) }
+    ensures { MatchOption result (HasNone lo hi (table_of knots.now used))
+        (λ q. IsLeastIn lo hi (table_of knots.now used) q.value q.at) }
 {
     if used == 0 {
         return None;

@@ -45,7 +45,8 @@ pub(crate) fn fill(knots: &mut [Knot], front: usize, room: usize, total: usize, 
     requires stand { IsShape (spaced knots.old front room) (total - room) }
     requires limits { IsLimited (spaced knots.old front room) (total - room) }
     requires below { AreBelow (spaced knots.old front room) (total - room) x front }
-    ensures split { IsSplit x (spaced knots.old front room) (total - room) (spaced knots.new front result) (total - result) }
+    ensures split { IsSplit x (spaced knots.old front room) (total - room)
+        (spaced knots.new front result) (total - result) }
     ensures limits { IsLimited (spaced knots.new front result) (total - result) }
     ensures below { AreBelow (spaced knots.new front result) (total - result) x front }
     ensures at_most { result ≤ room }

@@ -1,8 +1,10 @@
 //! A breakpoint is put in between two others.
-ghost use Rattle.std.specs.Prelude.{◌≡◌, ℤ, ◌+◌, ◌-◌, ◌<◌, ◌≤◌, pos, ◌+ℤ◌, ◌*ℤ◌, ◌≤ℤ◌, ◌<ℤ◌, length};
+ghost use Rattle.std.specs.Prelude.{◌≡◌, ℤ, ◌+◌, ◌-◌, ◌<◌, ◌≤◌, pos, ◌+ℤ◌, ◌*ℤ◌, ◌≤ℤ◌, ◌<ℤ◌};
+ghost use Rattle.std.specs.Prelude.{length};
 ghost use Rattle.ramp_step.specs.Knots.{place, IsShape, knot};
 ghost use Rattle.shape_law.specs.Table.{IsAmount};
-ghost use Rattle.ramp_step.specs.Cut.{IsOnLine, IsBetween, AreWithin, IsInserted, IsSplit, IsLimited, AreBelow};
+ghost use Rattle.ramp_step.specs.Cut.{IsOnLine, IsBetween, AreWithin, IsInserted, IsSplit};
+ghost use Rattle.ramp_step.specs.Cut.{IsLimited, AreBelow};
 
 use crate::breakpoint::Knot;
 

@@ -1,5 +1,6 @@
 //! The least value in reach.
-ghost use Rattle.std.specs.Prelude.{◌≡◌, ℕ, ℤ, ◌+◌, ◌^◌, ◌-◌, ◌<◌, ◌≤◌, pos, ◌+ℤ◌, ◌-ℤ◌, ◌≤ℤ◌, length};
+ghost use Rattle.std.specs.Prelude.{◌≡◌, ℕ, ℤ, ◌+◌, ◌^◌, ◌-◌, ◌<◌, ◌≤◌, pos, ◌+ℤ◌, ◌-ℤ◌, ◌≤ℤ◌};
+ghost use Rattle.std.specs.Prelude.{length};
 ghost use Rattle.ramp_step.specs.Knots.{place, height, IsShape, knot};
 ghost use Rattle.ramp_step.specs.Tables.{table_of, AreBreaks};
 ghost use Rattle.shape_law.specs.Effect.{IsWindow};

@@ -1,5 +1,5 @@
--- What two lists of pieces keep (this project's profile).
-use Rattle.std.specs.Prelude.{◌≡◌, ℕ, ◌≤◌, List, length, Option, Some, None}
+-- What a list of pieces keeps (this project's profile).
+use Rattle.std.specs.Prelude.{ℕ, ◌≤◌, List, length, Option, Some, None}
 use Rattle.std.specs.Option.{ForSome}
 use Rattle.slope_step.specs.declared.piece.Piece.{Piece}
 use Rattle.slope_step.specs.declared.step.Made.{Made}
@@ -10,9 +10,8 @@ abbrev pub used_of : Option Made → ℕ
 used_of None = 0
 used_of (Some m) = m.used
 
--- the first list has the pieces of the function, within the limits; the other has as much room
-pub record AreKept (made : Option Made) (pieces spare : List Piece) : Type 0 where
-  pub room : length spare ≡ length pieces
+-- the list has the pieces of the function, within the limits
+pub record AreKept (made : Option Made) (pieces : List Piece) : Type 0 where
   pub used : used_of made ≤ length pieces
   pub slopes : ForSome made (ArePiecesAfter pieces)
   pub within : ForSome made (AreWithinAfter pieces)

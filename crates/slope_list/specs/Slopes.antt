@@ -1,5 +1,5 @@
 -- What is seen of slopes (this project's profile).
-use Rattle.std.specs.Prelude.{ℕ, ℤ, length}
+use Rattle.std.specs.Prelude.{ℕ, ℤ}
 use Rattle.shape_law.specs.Table.{Table}
 use Rattle.slope_step.specs.Drawn.{table_after}
 use Rattle.slope_list.specs.declared.slopes.Slopes.{Slopes}
@@ -11,7 +11,7 @@ shown s = table_after s.pieces.items s.made
 
 -- how many pieces it has room for
 abbrev pub room_of : Slopes → ℕ
-room_of s = length s.pieces.items
+room_of s = s.room
 
 -- how many it has
 abbrev pub count_of : Slopes → ℕ

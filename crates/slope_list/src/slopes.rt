@@ -1,5 +1,5 @@
 //! The function, and room for the next one.
-ghost use Rattle.std.specs.Prelude.{◌≡◌, ◌≤◌, length, IfOk, IfSome, MatchOption};
+ghost use Rattle.std.specs.Prelude.{◌≡◌, ◌≤◌, length, vec_capacity, IfSome, MatchOption};
 ghost use Rattle.shape_law.specs.Effect.{IsLeast};
 ghost use Rattle.shape_law.specs.Table.{IsEmpty};
 ghost use Rattle.slope_step.specs.Drawn.{table_after, ArePiecesAfter, AreWithinAfter};
@@ -16,23 +16,31 @@ use std::mem;
 use uc_model::units::Curve;
 
 /// A convex function on a whole interval, which may be empty, as pieces of one slope. Its room is
-/// taken once: no call but `make` takes memory or fails.
+/// reserved once: no call but `make` takes memory or fails. A step writes to no more of it than its
+/// pieces may need, so room that no step needs stays untouched.
 #[derive(Drop)]
 pub struct Slopes {
     made: Option<Made>,
     turn: i64,
+    /// For how many pieces each list has memory.
+    room: usize,
     pieces: Vec<Piece>,
     spare: Vec<Piece>,
-    ghost valid: { AreKept made pieces.items spare.items },
+    ghost valid: { AreKept made pieces.items },
+    ghost pieces_room: { room ≤ vec_capacity pieces },
+    ghost spare_room: { room ≤ vec_capacity spare },
 }
 
-/// A list with room for so many pieces.
-fn sheet(alloc: Global, room: usize) -> Result<Vec<Piece>, AllocError>
-    ensures { IfOk result (λ v. length v.items ≡ room) }
+/// Lengthens a list within its memory to so many pieces, where it is shorter. What it then holds is
+/// open.
+fn lengthen(pieces: &mut Vec<Piece>, count: usize)
+    requires { count ≤ vec_capacity pieces.old }
+    ensures length { count ≤ length pieces.new.items }
+    ensures capacity { vec_capacity pieces.new ≡ vec_capacity pieces.old }
 {
-    let mut pieces = Vec::new(alloc);
-    pieces.resize(room, Piece { end: 0, slope: 0 })?;
-    Ok(pieces)
+    for _ in pieces.len()..count {
+        pieces.push_reserved(Piece { end: 0, slope: 0 });
+    }
 }
 
 /// The least value of what a step made, its least place, and the turn of the step.
@@ -48,7 +56,8 @@ fn lowest_of(pieces: &[Piece], stepped: Stepped) -> Option<Lowest>
     requires slopes { IfSome stepped.made (ArePiecesAfter pieces.now) }
     requires within { IfSome stepped.made (AreWithinAfter pieces.now) }
     requires room { IfSome stepped.made (λ d. d.used ≤ length pieces.now) }
-    ensures least { MatchOption result (IsEmpty (table_after pieces.now stepped.made)) (λ r. IsLeast (table_after pieces.now stepped.made) r.value r.at) }
+    ensures least { MatchOption result (IsEmpty (table_after pieces.now stepped.made))
+        (λ r. IsLeast (table_after pieces.now stepped.made) r.value r.at) }
     ensures turn { IfSome result (λ r. r.turn ≡ stepped.turn) }
 {
     match stepped.made {
@@ -65,7 +74,8 @@ fn lowest_of(pieces: &[Piece], stepped: Stepped) -> Option<Lowest>
 }
 
 impl Slopes {
-    ghost use Rattle.std.specs.Prelude.{◌≡◌, ℕ, ℤ, ◌+◌, ◌≤◌, pos, neg_ℤ, ◌+ℤ◌, ◌≤ℤ◌, ◌↔◌, IsTrue, length, IfOk, Some, MatchOption};
+    ghost use Rattle.std.specs.Prelude.{◌≡◌, ℕ, ℤ, ◌+◌, ◌≤◌, pos, neg_ℤ, ◌+ℤ◌, ◌≤ℤ◌, ◌↔◌, IsTrue};
+    ghost use Rattle.std.specs.Prelude.{length, IfOk, Some, MatchOption};
     ghost use Rattle.std.specs.Bool.{OnTrue};
     ghost use Rattle.uc_model.specs.Limits.{IsFrom};
     ghost use Rattle.shape_law.specs.Effect.{IsPoint, IsLeast, IsLeastIn};
@@ -81,11 +91,12 @@ impl Slopes {
         ensures count { IfOk result (λ s. count_of s ≡ 0) }
         ensures room { IfOk result (λ s. room_of s ≡ room) }
     {
-        let pieces = sheet(alloc, room)?;
-        let spare = sheet(alloc, room)?;
+        let pieces = Vec::with_capacity(alloc, room)?;
+        let spare = Vec::with_capacity(alloc, room)?;
         Ok(Slopes {
             made: None,
             turn: 0,
+            room,
             pieces,
             spare,
         })
@@ -114,7 +125,8 @@ impl Slopes {
         requires small { IsSmall (shown self.old) }
         requires room { count_of self.old + length curve.now.blocks.items + 3 ≤ room_of self.old }
         ensures stepped { IsStepped step curve.now (shown self.old) (shown self.new) }
-        ensures turn { (y w : ℤ) → value_of (shown self.old) y ≡ Some w → IsTurn step (shown self.old) (turn_of self.new) }
+        ensures turn { (y w : ℤ) → value_of (shown self.old) y ≡ Some w
+            → IsTurn step (shown self.old) (turn_of self.new) }
         ensures count { count_of self.new ≤ count_of self.old + length curve.now.blocks.items + 3 }
         ensures room { room_of self.new ≡ room_of self.old }
     {
@@ -122,6 +134,7 @@ impl Slopes {
             Some(made) => made,
             None => return,
         };
+        lengthen(&mut self.spare, made.used + curve.blocks.len() + 3);
         let pieces = &self.pieces[..made.used];
         let stepped = slope_step(pieces, made.start, step, curve, &mut self.spare);
         self.made = stepped.made;
@@ -129,15 +142,16 @@ impl Slopes {
         mem::swap(&mut self.pieces, &mut self.spare);
     }
 
-    /// The least value of what a step makes, which isn't taken, or None where it makes nothing. What it makes is drawn in the
-    /// spare room.
+    /// The least value of what a step makes, which isn't taken, or None where it makes nothing.
+    /// What it makes is drawn in the spare room.
     pub fn least_beside(&mut self, step: Step, curve: &Curve) -> Option<Lowest>
         requires step { IsFairStep step }
         requires curve { IsCostOf step curve.now }
         requires small { IsSmall (shown self.old) }
         requires room { count_of self.old + length curve.now.blocks.items + 3 ≤ room_of self.old }
         ensures least { (after : Table) × IsStepped step curve.now (shown self.old) after
-            × MatchOption result (IsEmpty after) (λ r. IsLeast after r.value r.at × IsTurn step (shown self.old) r.turn) }
+            × MatchOption result (IsEmpty after) (λ r. IsLeast after r.value r.at
+            × IsTurn step (shown self.old) r.turn) }
         ensures shown { shown self.new ≡ shown self.old }
         ensures count { count_of self.new ≡ count_of self.old }
         ensures room { room_of self.new ≡ room_of self.old }
@@ -146,6 +160,7 @@ impl Slopes {
         let Some(made) = self.made else {
             return None;
         };
+        lengthen(&mut self.spare, made.used + curve.blocks.len() + 3);
         let pieces = &self.pieces[..made.used];
         let stepped = slope_step(pieces, made.start, step, curve, &mut self.spare);
         lowest_of(&self.spare, stepped)
@@ -153,7 +168,8 @@ impl Slopes {
 
     /// The least value and its least place, or None on an empty interval.
     pub fn least(&self) -> Option<Spot>
-        ensures { MatchOption result (IsEmpty (shown self.now)) (λ r. IsLeast (shown self.now) r.value r.at) }
+        ensures { MatchOption result (IsEmpty (shown self.now))
+            (λ r. IsLeast (shown self.now) r.value r.at) }
     {
         match self.made {
             Some(made) => Some(read::least(&self.pieces[..made.used], made.start)),
@@ -164,7 +180,8 @@ impl Slopes {
     /// The least value at the places from `lo` to `hi` and its least place, or None where none of
     /// them is in the interval.
     pub fn least_in(&self, lo: i64, hi: i64) -> Option<Spot>
-        ensures { MatchOption result (HasNone lo hi (shown self.now)) (λ r. IsLeastIn lo hi (shown self.now) r.value r.at) }
+        ensures { MatchOption result (HasNone lo hi (shown self.now))
+            (λ r. IsLeastIn lo hi (shown self.now) r.value r.at) }
     {
         match self.made {
             Some(made) => read::least_in(&self.pieces[..made.used], made.start, lo, hi),
@@ -174,7 +191,8 @@ impl Slopes {
 
     /// The first place and the value there, or None on an empty interval.
     pub fn first(&self) -> Option<Spot>
-        ensures { MatchOption result (IsEmpty (shown self.now)) (λ r. IsFirst (shown self.now) r.at r.value) }
+        ensures { MatchOption result (IsEmpty (shown self.now))
+            (λ r. IsFirst (shown self.now) r.at r.value) }
     {
         pieces_begin_and_end();
         match self.made {

@@ -13,7 +13,8 @@ abbrev pub IsNowhereAbove : Table → Table → ℤ → Type 0
 IsNowhereAbove f g shift =
     (x v : ℤ) → value_of g x ≡ Some v → (u : ℤ) × (value_of f x ≡ Some u) × ((u +ℤ shift) ≤ℤ v)
 
--- the same of pieces: the first function is wherever the other one is, and with the shift it is nowhere above it there
+-- the same of pieces: the first function is wherever the other one is, and with the shift it is
+-- nowhere above it there
 abbrev pub IsUnder : Start → List Piece → Start → List Piece → ℤ → Type 0
 IsUnder start ps other qs shift =
     (x : ℤ) → other.first ≤ℤ x → x ≤ℤ last_place other.first qs
@@ -23,7 +24,8 @@ IsUnder start ps other qs shift =
 -- the same up to a place
 abbrev pub IsUnderTo : Start → List Piece → Start → List Piece → ℤ → ℤ → Type 0
 IsUnderTo start ps other qs shift at =
-    (x : ℤ) → other.first ≤ℤ x → x ≤ℤ at → (function_of start ps x +ℤ shift) ≤ℤ function_of other qs x
+    (x : ℤ) → other.first ≤ℤ x → x ≤ℤ at →
+    (function_of start ps x +ℤ shift) ≤ℤ function_of other qs x
 
 -- the value at a place, and the piece that goes on there
 pub record IsReached (start : Start) (ps : List Piece) (at : ℤ) (r : Reached) : Type 0 where

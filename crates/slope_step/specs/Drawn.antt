@@ -1,5 +1,6 @@
 -- What a step has written so far (this project's profile).
-use Rattle.std.specs.Prelude.{◌≡◌, ℤ, pos, ◌+ℤ◌, ◌*ℤ◌, List, [], take, Option, Some, None, unwrap_or}
+use Rattle.std.specs.Prelude.{◌≡◌, ℤ, pos, ◌+ℤ◌, ◌*ℤ◌, List, [], take, Option, Some, None}
+use Rattle.std.specs.Prelude.{unwrap_or}
 use Rattle.uc_model.specs.declared.units.Curve.{Curve}
 use Rattle.shape_law.specs.declared.step.Step.{Step}
 use Rattle.shape_law.specs.Curve.{curve_value}

@@ -1,5 +1,7 @@
--- The function less the worth of the best reserve: a kink where the reserve meets its cap (this project's profile).
-use Rattle.std.specs.Prelude.{◌≡◌, ℕ, suc, ◌+◌, ◌-◌, ◌<◌, ◌≤◌, ℤ, pos, neg_ℤ, ◌+ℤ◌, ◌-ℤ◌, ◌≤ℤ◌, ◌<ℤ◌, int_lt, if◌then◌else◌, List, length}
+-- The function less the worth of the best reserve: a kink where the reserve meets its cap (this
+-- project's profile).
+use Rattle.std.specs.Prelude.{◌≡◌, ℕ, suc, ◌+◌, ◌-◌, ◌<◌, ◌≤◌, ℤ, pos, neg_ℤ, ◌+ℤ◌, ◌-ℤ◌, ◌≤ℤ◌}
+use Rattle.std.specs.Prelude.{◌<ℤ◌, int_lt, if◌then◌else◌, List, length}
 use Rattle.std.specs.Int.{int_min}
 use Rattle.uc_model.specs.Limits.{IsFrom, IsOutput}
 use Rattle.shape_law.specs.declared.step.Step.{Step}
@@ -18,7 +20,8 @@ kinked start ps s x = function_of start ps x +ℤ reserve_term s.reserve_price s
 abbrev pub bend_of : Step → ℤ
 bend_of s = s.cap -ℤ s.ramp_up
 
--- the index is that of the piece which goes on at the place, or past the last piece at the last place
+-- the index is that of the piece which goes on at the place, or past the last piece at the last
+-- place
 pub record IsPlaced (first : ℤ) (ps : List Piece) (place : Place) : Type 0 where
   pub some : place.next ≤ length ps
   pub from : end_at first ps place.next ≤ℤ place.at
@@ -27,11 +30,13 @@ pub record IsPlaced (first : ℤ) (ps : List Piece) (place : Place) : Type 0 whe
 
 -- q is what is left of piece p from a place on: up to the bend it is lower by the price
 pub record IsLowered (s : Step) (at : ℤ) (p q : Piece) : Type 0 where
-  pub below : pos 0 <ℤ s.reserve_price → at <ℤ bend_of s → (q.end ≡ int_min p.end (bend_of s)) × (q.slope ≡ p.slope -ℤ s.reserve_price)
+  pub below : pos 0 <ℤ s.reserve_price → at <ℤ bend_of s → (q.end ≡ int_min p.end (bend_of s))
+      × (q.slope ≡ p.slope -ℤ s.reserve_price)
   pub above : bend_of s ≤ℤ at → (q.end ≡ p.end) × (q.slope ≡ p.slope)
   pub free : s.reserve_price ≤ℤ pos 0 → (q.end ≡ p.end) × (q.slope ≡ p.slope)
 
--- how many parts there are at most from a place on: one for each piece that is left, and one for the bend
+-- how many parts there are at most from a place on: one for each piece that is left, and one for
+-- the bend
 abbrev pub parts_from : List Piece → Step → Place → ℕ
 parts_from ps s place = (length ps - place.next) + (if int_lt place.at (bend_of s) then 1 else 0)
 
@@ -46,11 +51,14 @@ AreGentle ps = (k : ℕ) → k < length ps → IsGentle (piece ps k).slope
 abbrev pub AreSmall : Start → List Piece → Type 0
 AreSmall start ps =
     (x : ℤ) → start.first ≤ℤ x → x ≤ℤ last_place start.first ps
-    → IsOutput x × IsFrom (neg_ℤ (pos 500000000000000000)) (pos 500000000000000000) (function_of start ps x)
+    → IsOutput x × IsFrom (neg_ℤ (pos 500000000000000000)) (pos 500000000000000000)
+    (function_of start ps x)
 
 -- places and values are within the limits
 abbrev pub AreWithin : Start → List Piece → Type 0
-AreWithin start ps = (x : ℤ) → start.first ≤ℤ x → x ≤ℤ last_place start.first ps → IsPlace x × IsAmount (function_of start ps x)
+AreWithin start ps =
+    (x : ℤ) → start.first ≤ℤ x → x ≤ℤ last_place start.first ps → IsPlace x
+    × IsAmount (function_of start ps x)
 
 -- and less a price
 abbrev pub IsSteep : ℤ → Type 0

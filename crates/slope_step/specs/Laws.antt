@@ -7,8 +7,12 @@ use Rattle.slope_step.specs.Turn.{IsFirst, IsLast}
 
 -- their function begins at their first place, with the level there
 abbrev pub PiecesBegin : Type 0
-PiecesBegin = (start : Start) (ps : List Piece) → AreSlopes start.first ps → IsFirst (table_of start ps) start.first start.level
+PiecesBegin =
+    (start : Start) (ps : List Piece) → AreSlopes start.first ps →
+    IsFirst (table_of start ps) start.first start.level
 
 -- and ends where the last of them does
 abbrev pub PiecesEnd : Type 0
-PiecesEnd = (start : Start) (ps : List Piece) → AreSlopes start.first ps → IsLast (table_of start ps) (last_place start.first ps)
+PiecesEnd =
+    (start : Start) (ps : List Piece) → AreSlopes start.first ps →
+    IsLast (table_of start ps) (last_place start.first ps)

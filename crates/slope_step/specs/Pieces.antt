@@ -1,5 +1,6 @@
 -- A convex function on a whole interval by its pieces of one slope (this project's profile).
-use Rattle.std.specs.Prelude.{◌≡◌, ℕ, zero, suc, ◌<◌, ℤ, pos, negsuc, ◌+ℤ◌, ◌-ℤ◌, ◌*ℤ◌, ◌≤ℤ◌, ◌<ℤ◌, int_lt, if◌then◌else◌, List, [], ◌∷◌, length, slice_index_or}
+use Rattle.std.specs.Prelude.{◌≡◌, ℕ, zero, suc, ◌<◌, ℤ, pos, negsuc, ◌+ℤ◌, ◌-ℤ◌, ◌*ℤ◌, ◌≤ℤ◌, ◌<ℤ◌}
+use Rattle.std.specs.Prelude.{int_lt, if◌then◌else◌, List, [], ◌∷◌, length, slice_index_or}
 use Rattle.shape_law.specs.Table.{Table}
 use Rattle.slope_step.specs.declared.piece.Piece.{Piece}
 use Rattle.slope_step.specs.declared.piece.Start.{Start}
@@ -17,7 +18,8 @@ end_at first ps (suc k) = (piece ps k).end
 abbrev pub value_along : ℤ → ℤ → List Piece → ℤ → ℤ
 value_along at level [] x = level
 value_along at level (p ∷ ps) x =
-    if int_lt p.end x then value_along p.end (level +ℤ p.slope *ℤ (p.end -ℤ at)) ps x else level +ℤ p.slope *ℤ (x -ℤ at)
+    if int_lt p.end x then value_along p.end (level +ℤ p.slope *ℤ (p.end -ℤ at)) ps x else level
+    +ℤ p.slope *ℤ (x -ℤ at)
 
 -- the values of f at n places from x on
 abbrev pub values_from : (ℤ → ℤ) → ℤ → ℕ → List ℤ
@@ -60,4 +62,5 @@ Stand f a ps n = (k : ℕ) → k < n → IsLine f (end_at a ps k) (end_at a ps (
 
 -- from a to b no step of f is below the one before it
 abbrev pub Curves : (ℤ → ℤ) → ℤ → ℤ → Type 0
-Curves f a b = (x y : ℤ) → a ≤ℤ x → x ≤ℤ y → y <ℤ b → (f (x +ℤ pos 1) -ℤ f x) ≤ℤ (f (y +ℤ pos 1) -ℤ f y)
+Curves f a b =
+    (x y : ℤ) → a ≤ℤ x → x ≤ℤ y → y <ℤ b → (f (x +ℤ pos 1) -ℤ f x) ≤ℤ (f (y +ℤ pos 1) -ℤ f y)

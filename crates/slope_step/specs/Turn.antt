@@ -8,8 +8,10 @@ use Rattle.shape_law.specs.Table.{Table, value_of}
 pub record IsBottom (f : Table) (x : ℤ) : Type 0 where
   pub value : ℤ
   pub there : value_of f x ≡ Some value
-  pub falls : (y z v w : ℤ) → value_of f y ≡ Some v → value_of f z ≡ Some w → y <ℤ z → z ≤ℤ x → w <ℤ v
-  pub rises : (y z v w : ℤ) → value_of f y ≡ Some v → value_of f z ≡ Some w → x ≤ℤ y → y ≤ℤ z → v ≤ℤ w
+  pub falls : (y z v w : ℤ) → value_of f y ≡ Some v → value_of f z ≡ Some w → y <ℤ z → z ≤ℤ x →
+      w <ℤ v
+  pub rises : (y z v w : ℤ) → value_of f y ≡ Some v → value_of f z ≡ Some w → x ≤ℤ y → y ≤ℤ z →
+      v ≤ℤ w
 
 -- x is the least place of the least value of f less the worth of the best reserve, which is convex
 abbrev pub IsTurn : Step → Table → ℤ → Type 0

@@ -1,4 +1,5 @@
--- The least value in reach of the ramps: the falling part moved down, a flat part, and the rising part moved up (this project's profile).
+-- The least value in reach of the ramps: the falling part moved down, a flat part, and the rising
+-- part moved up (this project's profile).
 use Rattle.std.specs.Prelude.{◌≡◌, ℕ, ◌+◌, ℤ, ◌+ℤ◌, ◌-ℤ◌, ◌≤ℤ◌, int_lt, if◌then◌else◌, List}
 use Rattle.std.specs.Int.{int_min, int_max}
 use Rattle.shape_law.specs.declared.step.Step.{Step}
@@ -28,7 +29,8 @@ pub record IsWindow (ps : List Piece) (start : Start) (s : Step) (m hi : ℤ) : 
 
 -- how many parts of the window there are at most from x on, where the place is the one nearest to m
 abbrev pub moved_parts : List Piece → Step → Place → ℤ → ℕ
-moved_parts ps s place x = parts_from ps s place + (if int_lt x (place.at +ℤ s.ramp_up) then 1 else 0)
+moved_parts ps s place x =
+    parts_from ps s place + (if int_lt x (place.at +ℤ s.ramp_up) then 1 else 0)
 
 -- f is the same from a to b
 pub record IsFlat (f : ℤ → ℤ) (a b : ℤ) : Type 0 where

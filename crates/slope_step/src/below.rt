@@ -2,7 +2,8 @@
 ghost use Rattle.std.specs.Prelude.{◌≡◌, suc, ◌<◌, ◌≤◌, ◌+ℤ◌, ◌≤ℤ◌, ◌<ℤ◌, IsFalse, length};
 ghost use Rattle.std.specs.Bool.{OnTrue};
 ghost use Rattle.shape_law.specs.Table.{IsAmount};
-ghost use Rattle.slope_step.specs.Pieces.{piece, last_place, function_of, table_of, AreSlopes, IsLine};
+ghost use Rattle.slope_step.specs.Pieces.{piece, last_place, function_of, table_of, AreSlopes};
+ghost use Rattle.slope_step.specs.Pieces.{IsLine};
 ghost use Rattle.slope_step.specs.Kink.{AreWithin};
 ghost use Rattle.slope_step.specs.Below.{IsReached, IsNowhereAbove, IsShift};
 
@@ -47,7 +48,8 @@ fn go_on(pieces: &[Piece], start: Start, at: i64, from: Reached, end: i64) -> Re
 /// Whether a function is wherever another one is.
 fn covers(pieces: &[Piece], start: Start, others: &[Piece], other: Start) -> bool
     ensures first { OnTrue result (start.first ≤ℤ other.first) }
-    ensures last { OnTrue result (last_place other.first others.now ≤ℤ last_place start.first pieces.now) }
+    ensures last { OnTrue result (last_place other.first others.now
+        ≤ℤ last_place start.first pieces.now) }
 {
     start.first <= other.first && last_place(others, other.first) <= last_place(pieces, start.first)
 }
@@ -59,7 +61,8 @@ pub fn is_below(pieces: &[Piece], start: Start, others: &[Piece], other: Start, 
     requires other_slopes { AreSlopes other.first others.now }
     requires other_within { AreWithin other others.now }
     requires shift { IsShift shift }
-    ensures { OnTrue result (IsNowhereAbove (table_of start pieces.now) (table_of other others.now) shift) }
+    ensures { OnTrue result (IsNowhereAbove (table_of start pieces.now) (table_of other others.now)
+        shift) }
 {
     if !covers(pieces, start, others, other) {
         return false;

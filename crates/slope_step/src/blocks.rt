@@ -21,7 +21,8 @@ pub(crate) fn find(curve: &Curve, at: i64) -> Found
     requires to { at ≤ℤ end_of curve.now.at curve.now.blocks.items }
     ensures value { curve_value curve.now at ≡ Some result.value }
     ensures blocks { result.block ≤ length curve.now.blocks.items }
-    ensures block { at <ℤ end_of curve.now.at curve.now.blocks.items → IsInBlock curve.now at result.block result.end }
+    ensures block { at <ℤ end_of curve.now.at curve.now.blocks.items
+        → IsInBlock curve.now at result.block result.end }
 {
     let mut from = curve.at;
     let mut value = curve.value;

@@ -32,7 +32,8 @@ fn write(curve: &Curve, slope: i64, end: i64, pen: Pen, out: &mut [Piece]) -> Pe
     requires costs { HasCosts curve.now pen.at end }
     requires total { IsTotal slope }
     requires room { pen.used < length out.old }
-    ensures drawn { (f : ℤ → ℤ) (lo : ℤ) → IsLine f pen.at end slope → IsDrawn (with_cost f curve.now) lo out.old pen
+    ensures drawn { (f : ℤ → ℤ) (lo : ℤ) → IsLine f pen.at end slope
+        → IsDrawn (with_cost f curve.now) lo out.old pen
         → IsDrawn (with_cost f curve.now) lo out.new result }
     ensures at { result.at ≡ end }
     ensures used { result.used ≡ pen.used + 1 }
@@ -71,7 +72,8 @@ fn next_block(curve: &Curve, pen: Pen) -> Pen
     }
 }
 
-/// Writes up to where the pen's block ends, if the pen isn't there, and goes on with the next block.
+/// Writes up to where the pen's block ends, if the pen isn't there, and goes on with the next
+/// block.
 fn end_block(curve: &Curve, slope: i64, pen: Pen, out: &mut [Piece]) -> Pen
     requires limited { IsLimitedCurve curve.now }
     requires block { IsInBlock curve.now pen.at pen.block pen.block_end }
@@ -80,7 +82,8 @@ fn end_block(curve: &Curve, slope: i64, pen: Pen, out: &mut [Piece]) -> Pen
     requires room { pen.used < length out.old }
     requires more { suc pen.block < length curve.now.blocks.items }
     ensures drawn { (f : ℤ → ℤ) (lo end : ℤ) → pen.block_end <ℤ end → IsLine f pen.at end slope
-        → IsDrawn (with_cost f curve.now) lo out.old pen → IsDrawn (with_cost f curve.now) lo out.new result }
+        → IsDrawn (with_cost f curve.now) lo out.old pen
+        → IsDrawn (with_cost f curve.now) lo out.new result }
     ensures block { IsInBlock curve.now result.at result.block result.block_end }
     ensures next { result.block ≡ pen.block + 1 }
     ensures used { result.used ≤ pen.used + 1 }
@@ -101,7 +104,8 @@ fn put(curve: &Curve, slope: i64, end: i64, from: Pen, out: &mut [Piece]) -> Pen
     requires costs { HasCosts curve.now from.at end }
     requires total { IsTotal slope }
     requires room { from.used + length curve.now.blocks.items ≤ length out.old + from.block }
-    ensures drawn { (f : ℤ → ℤ) (lo : ℤ) → IsLine f from.at end slope → IsDrawn (with_cost f curve.now) lo out.old from
+    ensures drawn { (f : ℤ → ℤ) (lo : ℤ) → IsLine f from.at end slope
+        → IsDrawn (with_cost f curve.now) lo out.old from
         → IsDrawn (with_cost f curve.now) lo out.new result }
     ensures at { result.at ≡ end }
     ensures block { IsInBlock curve.now end result.block result.block_end }
@@ -124,15 +128,19 @@ pub(crate) fn draw(
 ) -> usize
     requires limited { IsLimitedCurve curve.now }
     requires placed { IsPlaced window.now.start.first window.now.pieces.now near }
-    requires near { near.at ≡ nearest window.now.step.ramp_up window.now.step.ramp_down window.now.turn from.at }
+    requires near { near.at ≡ nearest window.now.step.ramp_up window.now.step.ramp_down
+        window.now.turn from.at }
     requires low { window.now.start.first ≤ℤ (from.at +ℤ window.now.step.ramp_down) }
     requires high { from.at ≤ℤ window.now.high }
     requires costs { HasCosts curve.now from.at window.now.high }
-    requires block { from.at <ℤ window.now.high → IsInBlock curve.now from.at from.block from.block_end }
+    requires block { from.at <ℤ window.now.high
+        → IsInBlock curve.now from.at from.block from.block_end }
     requires blocks { from.block ≤ length curve.now.blocks.items }
     requires begins { from.used ≡ 0 }
-    requires room { length window.now.pieces.now + length curve.now.blocks.items + 3 ≤ length out.old }
-    ensures drawn { Stand (stepped window.now.start window.now.pieces.now window.now.step window.now.turn curve.now) from.at out.new result }
+    requires room { length window.now.pieces.now + length curve.now.blocks.items + 3
+        ≤ length out.old }
+    ensures drawn { Stand (stepped window.now.start window.now.pieces.now window.now.step
+        window.now.turn curve.now) from.at out.new result }
     ensures ends { end_at from.at out.new result ≡ window.now.high }
     ensures used { result ≤ length window.now.pieces.now + length curve.now.blocks.items + 3 }
 {

@@ -2,7 +2,8 @@
 ghost use Rattle.std.specs.Prelude.{◌≡◌, ℕ, ℤ, ◌+◌, ◌<◌, ◌≤◌, pos, ◌+ℤ◌, ◌-ℤ◌, ◌≤ℤ◌, ◌<ℤ◌, length};
 ghost use Rattle.shape_law.specs.Steps.{IsFairStep};
 ghost use Rattle.slope_step.specs.Pieces.{piece, last_place, function_of, AreSlopes, IsLine};
-ghost use Rattle.slope_step.specs.Kink.{kinked, parts_from, IsPlaced, IsLowered, AreWithin, IsGentle, AreGentle, IsSteep, IsValley};
+ghost use Rattle.slope_step.specs.Kink.{kinked, parts_from, IsPlaced, IsLowered, AreWithin};
+ghost use Rattle.slope_step.specs.Kink.{IsGentle, AreGentle, IsSteep, IsValley};
 
 use crate::piece::{Piece, Start, along};
 use shape_law::step::Step;
@@ -47,7 +48,8 @@ pub(crate) fn part_at(pieces: &[Piece], place: Place, step: Step) -> Part
     requires to { place.at <ℤ (piece pieces.now place.next).end }
     requires fair { IsFairStep step }
     requires gentle { AreGentle pieces.now }
-    ensures line { (start : Start) → AreSlopes start.first pieces.now → IsPlaced start.first pieces.now place
+    ensures line { (start : Start) → AreSlopes start.first pieces.now
+        → IsPlaced start.first pieces.now place
         → IsLine (kinked start pieces.now step) place.at result.end result.slope }
     ensures placed { (first : ℤ) → AreSlopes first pieces.now → IsPlaced first pieces.now place
         → IsPlaced first pieces.now result.then }
@@ -77,7 +79,8 @@ pub(crate) fn turn(pieces: &[Piece], start: Start, step: Step) -> i64
     requires slopes { AreSlopes start.first pieces.now }
     requires fair { IsFairStep step }
     requires gentle { AreGentle pieces.now }
-    ensures { IsValley (kinked start pieces.now step) start.first (last_place start.first pieces.now) result }
+    ensures { IsValley (kinked start pieces.now step) start.first
+        (last_place start.first pieces.now) result }
 {
     let mut place = Place {
         at: start.first,

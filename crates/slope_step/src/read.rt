@@ -29,7 +29,8 @@ pub fn last_place(pieces: &[Piece], first: i64) -> i64
 /// The place from which the function doesn't fall.
 fn bottom(pieces: &[Piece], start: Start) -> i64
     requires slopes { AreSlopes start.first pieces.now }
-    ensures { IsValley (function_of start pieces.now) start.first (last_place start.first pieces.now) result }
+    ensures { IsValley (function_of start pieces.now) start.first
+        (last_place start.first pieces.now) result }
 {
     let mut at = start.first;
     for piece in pieces {
@@ -72,7 +73,8 @@ pub fn least(pieces: &[Piece], start: Start) -> Spot
 pub fn least_in(pieces: &[Piece], start: Start, lo: i64, hi: i64) -> Option<Spot>
     requires slopes { AreSlopes start.first pieces.now }
     requires within { AreWithin start pieces.now }
-    ensures { MatchOption result (HasNone lo hi (table_of start pieces.now)) (λ r. IsLeastIn lo hi (table_of start pieces.now) r.value r.at) }
+    ensures { MatchOption result (HasNone lo hi (table_of start pieces.now))
+        (λ r. IsLeastIn lo hi (table_of start pieces.now) r.value r.at) }
 {
     let low = lo.max(start.first);
     let high = hi.min(last_place(pieces, start.first));

@@ -54,7 +54,8 @@ fn level_of(step: Step, value: i64, near: i64, at: i64, cost: i64) -> i64
     requires near { IsOutput near }
     requires at { IsOutput at }
     requires cost { IsCost cost }
-    ensures { result ≡ ((value +ℤ reserve_term step.reserve_price step.cap step.ramp_up near) +ℤ step.slope *ℤ at) +ℤ cost }
+    ensures { result ≡ ((value +ℤ reserve_term step.reserve_price step.cap step.ramp_up near)
+        +ℤ step.slope *ℤ at) +ℤ cost }
 {
     let most = step.cap.min(step.ramp_up + near);
     let kinked = value - step.reserve_price * most;
@@ -69,11 +70,15 @@ pub(crate) fn open(window: &Window<'_>, curve: &Curve, low: i64) -> Opening
     requires to { low ≤ℤ window.now.high }
     requires at { IsOutput low }
     requires costs { HasCosts curve.now low window.now.high }
-    ensures near { result.place.at ≡ nearest window.now.step.ramp_up window.now.step.ramp_down window.now.turn low }
+    ensures near { result.place.at ≡ nearest window.now.step.ramp_up window.now.step.ramp_down
+        window.now.turn low }
     ensures placed { IsPlaced window.now.start.first window.now.pieces.now result.place }
-    ensures pen { (result.pen.at ≡ low) × (result.pen.used ≡ 0) × (result.pen.block ≤ length curve.now.blocks.items) }
-    ensures block { low <ℤ window.now.high → IsInBlock curve.now low result.pen.block result.pen.block_end }
-    ensures level { result.level ≡ stepped window.now.start window.now.pieces.now window.now.step window.now.turn curve.now low }
+    ensures pen { (result.pen.at ≡ low) × (result.pen.used ≡ 0)
+        × (result.pen.block ≤ length curve.now.blocks.items) }
+    ensures block { low <ℤ window.now.high
+        → IsInBlock curve.now low result.pen.block result.pen.block_end }
+    ensures level { result.level ≡ stepped window.now.start window.now.pieces.now window.now.step
+        window.now.turn curve.now low }
 {
     let step = window.step;
     let near = (low - step.ramp_up).max((low + step.ramp_down).min(window.turn));
@@ -108,11 +113,13 @@ pub fn slope_step(
     requires curve { IsCostOf step curve.now }
     requires small { IsSmall (table_of start pieces.now) }
     requires room { length pieces.now + length curve.now.blocks.items + 3 ≤ length out.old }
-    ensures stepped { IsStepped step curve.now (table_of start pieces.now) (table_after out.new result.made) }
+    ensures stepped { IsStepped step curve.now (table_of start pieces.now)
+        (table_after out.new result.made) }
     ensures slopes { IfSome result.made (ArePiecesAfter out.new) }
     ensures within { IfSome result.made (AreWithinAfter out.new) }
     ensures turn { IsTurn step (table_of start pieces.now) result.turn }
-    ensures count { IfSome result.made (λ d. d.used ≤ length pieces.now + length curve.now.blocks.items + 3) }
+    ensures count { IfSome result.made (λ d. d.used ≤ length pieces.now
+        + length curve.now.blocks.items + 3) }
 {
     let low = step.least.max(start.first - step.ramp_down);
     let high = step

@@ -25,9 +25,11 @@ pub(crate) struct Window<'a> {
 fn past_flat(window: &Window<'_>, place: Place) -> Place
     requires placed { IsPlaced window.now.start.first window.now.pieces.now place }
     requires turn { place.at ≡ window.now.turn }
-    ensures flat { IsFlat (kinked window.now.start window.now.pieces.now window.now.step) place.at result.at }
+    ensures flat { IsFlat (kinked window.now.start window.now.pieces.now window.now.step) place.at
+        result.at }
     ensures placed { IsPlaced window.now.start.first window.now.pieces.now result }
-    ensures fewer { parts_from window.now.pieces.now window.now.step result ≤ parts_from window.now.pieces.now window.now.step place }
+    ensures fewer { parts_from window.now.pieces.now window.now.step result
+        ≤ parts_from window.now.pieces.now window.now.step place }
 {
     if place.next < window.pieces.len() {
         let part = part_at(window.pieces, place, window.step);
@@ -41,13 +43,17 @@ fn past_flat(window: &Window<'_>, place: Place) -> Place
 /// The part from a place on, which the nearest place in reach stands for.
 pub(crate) fn next_part(window: &Window<'_>, place: Place, at: i64) -> Part
     requires placed { IsPlaced window.now.start.first window.now.pieces.now place }
-    requires near { place.at ≡ nearest window.now.step.ramp_up window.now.step.ramp_down window.now.turn at }
+    requires near { place.at ≡ nearest window.now.step.ramp_up window.now.step.ramp_down
+        window.now.turn at }
     requires low { window.now.start.first ≤ℤ (at +ℤ window.now.step.ramp_down) }
     requires high { at <ℤ window.now.high }
-    ensures line { IsLine (moved window.now.start window.now.pieces.now window.now.step window.now.turn) at result.end result.slope }
+    ensures line { IsLine (moved window.now.start window.now.pieces.now window.now.step
+        window.now.turn) at result.end result.slope }
     ensures placed { IsPlaced window.now.start.first window.now.pieces.now result.then }
-    ensures near { result.then.at ≡ nearest window.now.step.ramp_up window.now.step.ramp_down window.now.turn result.end }
-    ensures fewer { moved_parts window.now.pieces.now window.now.step result.then result.end + 1 ≤ moved_parts window.now.pieces.now window.now.step place at }
+    ensures near { result.then.at ≡ nearest window.now.step.ramp_up window.now.step.ramp_down
+        window.now.turn result.end }
+    ensures fewer { moved_parts window.now.pieces.now window.now.step result.then result.end + 1
+        ≤ moved_parts window.now.pieces.now window.now.step place at }
     ensures steep { IsSteep result.slope }
 {
     let step = window.step;

@@ -1,5 +1,8 @@
--- What is kept of spells: costs by last period, and a dispatch in the periods of an answer (this project's profile).
-use Rattle.std.specs.Prelude.{◌≡◌, ℕ, suc, ◌+◌, ◌-◌, ◌*◌, ◌<◌, ◌≤◌, ◌⊎◌, ℤ, Bool, false, IsTrue, IsFalse, nat_lt, List, length, slice_index, slice_index_or, Option, None}
+-- What is kept of spells: costs by last period, and a dispatch in the periods of an answer (this
+-- project's profile).
+use Rattle.std.specs.Prelude.{◌≡◌, ℕ, suc, ◌+◌, ◌-◌, ◌*◌, ◌<◌, ◌≤◌, ◌⊎◌, ℤ, Bool, false, IsTrue}
+use Rattle.std.specs.Prelude.{IsFalse, nat_lt, List, length, slice_index, slice_index_or, Option}
+use Rattle.std.specs.Prelude.{None}
 use Rattle.uc_model.specs.Data.{ThermalUnit, Schedule}
 use Rattle.spell_run.specs.declared.spell.Spell.{Spell}
 
@@ -7,7 +10,8 @@ use Rattle.spell_run.specs.declared.spell.Spell.{Spell}
 abbrev pub entry_of : List (Option ℤ) → ℕ → Option ℤ
 entry_of entries last = slice_index_or entries (last - 1) None
 
--- with so many cells to give, a home that counts suffices for a call over so many periods and cost points
+-- with so many cells to give, a home that counts suffices for a call over so many periods and cost
+-- points
 abbrev pub cells_for : ℕ → ℕ → ℕ
 cells_for periods points = (periods + 2) * (1 + periods * (2 * points + 3))
 
@@ -27,13 +31,17 @@ pub record IsSpellOf (g : ThermalUnit) (periods : ℕ) (s : Spell) : Type 0 wher
 
 -- the unit is on in periods first to last
 abbrev pub IsOnFromTo : ℕ → ℕ → Schedule → Type 0
-IsOnFromTo first last d = (k : ℕ) → first ≤ suc k → suc k ≤ last → IsTrue (slice_index_or d.on k false)
+IsOnFromTo first last d =
+    (k : ℕ) → first ≤ suc k → suc k ≤ last → IsTrue (slice_index_or d.on k false)
 
 -- two schedules are over one horizon, and alike in every period outside first to last
 pub record IsSameOutside (first last : ℕ) (d d' : Schedule) : Type 0 where
   pub on_length : length d'.on ≡ length d.on
   pub power_length : length d'.power ≡ length d.power
   pub reserve_length : length d'.reserve ≡ length d.reserve
-  pub on : (k : ℕ) → (suc k < first) ⊎ (last < suc k) → slice_index_or d'.on k false ≡ slice_index_or d.on k false
-  pub power : (k : ℕ) → (suc k < first) ⊎ (last < suc k) → slice_index d'.power k ≡ slice_index d.power k
-  pub reserve : (k : ℕ) → (suc k < first) ⊎ (last < suc k) → slice_index d'.reserve k ≡ slice_index d.reserve k
+  pub on : (k : ℕ) → (suc k < first) ⊎ (last < suc k) →
+      slice_index_or d'.on k false ≡ slice_index_or d.on k false
+  pub power : (k : ℕ) → (suc k < first) ⊎ (last < suc k) →
+      slice_index d'.power k ≡ slice_index d.power k
+  pub reserve : (k : ℕ) → (suc k < first) ⊎ (last < suc k) →
+      slice_index d'.reserve k ≡ slice_index d.reserve k

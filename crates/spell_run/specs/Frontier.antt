@@ -1,5 +1,7 @@
--- The least costs of the first periods of a spell, by the power at their end (Bellman's principle on the spell's periods).
-use Rattle.std.specs.Prelude.{◌≡◌, ℕ, suc, ◌<◌, ◌≤◌, ◌==◌, nat_lt, ℤ, pos, ◌+ℤ◌, ◌-ℤ◌, ◌≤ℤ◌, Bool, false, ◌&&◌, IsTrue, Some, length, slice_index_or}
+-- The least costs of the first periods of a spell, by the power at their end (Bellman's principle
+-- on the spell's periods).
+use Rattle.std.specs.Prelude.{◌≡◌, ℕ, suc, ◌<◌, ◌≤◌, ◌==◌, nat_lt, ℤ, pos, ◌+ℤ◌, ◌-ℤ◌, ◌≤ℤ◌, Bool}
+use Rattle.std.specs.Prelude.{false, ◌&&◌, IsTrue, Some, length, slice_index_or}
 use Rattle.shape_law.specs.Effect.{IsLeastIn}
 use Rattle.shape_law.specs.Table.{Table, value_of, HasNone}
 use Rattle.uc_model.specs.Data.{ThermalUnit, PriceLists, Schedule}
@@ -12,7 +14,8 @@ use Rattle.spell_run.specs.Laws.{best_reserve}
 use Rattle.spell_run.specs.Spells.{spell_cost, IsDispatch, IsSpellWithin}
 use Rattle.spell_run.specs.Steps.{cap_at, level, IsRun, IsKinked}
 
--- some run of periods first to t ends at power x and costs v; where reserve earns nothing in its last period it has none
+-- some run of periods first to t ends at power x and costs v; where reserve earns nothing in its
+-- last period it has none
 pub record IsReached (g : ThermalUnit) (π : PriceLists) (first t : ℕ) (x v : ℤ) : Type 0 where
   pub run : Schedule
   pub power_length : length run.power ≡ length π.energy
@@ -25,7 +28,8 @@ pub record IsReached (g : ThermalUnit) (π : PriceLists) (first t : ℕ) (x v : 
 -- f has at each power the least cost of the runs of periods first to t that end there
 pub record IsFrontier (g : ThermalUnit) (π : PriceLists) (first t : ℕ) (f : Table) : Type 0 where
   pub sound : (x v : ℤ) → value_of f x ≡ Some v → IsReached g π first t x v
-  pub complete : (d : Schedule) → IsRun g first t d → (v : ℤ) × (value_of f (level g first d t) ≡ Some v) × (v ≤ℤ spell_cost g π first t d)
+  pub complete : (d : Schedule) → IsRun g first t d → (v : ℤ)
+      × (value_of f (level g first d t) ≡ Some v) × (v ≤ℤ spell_cost g π first t d)
   pub places : (x v : ℤ) → value_of f x ≡ Some v → IsOutput x
   pub values : (x v : ℤ) → value_of f x ≡ Some v → IsSpellWithin first t v
 
@@ -36,7 +40,8 @@ pub record IsWritten (k : ℕ) (p r : ℤ) (d d' : Schedule) : Type 0 where
   pub reserve : reserve_in d' (suc k) ≡ r
   pub outside : IsSameOutside (suc k) (suc k) d d'
 
--- y is the cheapest power before a step to power x, the least of those, and period suc k of d' is written for it
+-- y is the cheapest power before a step to power x, the least of those, and period suc k of d' is
+-- written for it
 pub record IsChosen (s : Step) (f : Table) (k : ℕ) (x y : ℤ) (d d' : Schedule) : Type 0 where
   pub kinked : Table
   pub is_kinked : IsKinked s f kinked
@@ -56,7 +61,8 @@ stops_at last periods place = nat_lt last periods && (last == suc place)
 
 -- d and d' have the same powers in the periods after k up to last
 abbrev pub HasSamePowersAfter : ℕ → ℕ → Schedule → Schedule → Type 0
-HasSamePowersAfter k last d d' = (j : ℕ) → k ≤ j → j < last → power_in d' (suc j) ≡ power_in d (suc j)
+HasSamePowersAfter k last d d' =
+    (j : ℕ) → k ≤ j → j < last → power_in d' (suc j) ≡ power_in d (suc j)
 
 -- and the same reserves
 pub record IsSameAfter (k last : ℕ) (d d' : Schedule) : Type 0 where
@@ -67,23 +73,33 @@ pub record IsSameAfter (k last : ℕ) (d d' : Schedule) : Type 0 where
 abbrev pub HasBestReserve : ThermalUnit → PriceLists → ℕ → ℕ → Schedule → ℕ → Type 0
 HasBestReserve g π first last d k =
     reserve_in d (suc k)
-    ≡ best_reserve (int_at π.reserve k) (cap_at g (first == suc k) (stops_at last (length π.energy) k)) g.ramp_up (level g first d k) (power_in d (suc k))
+    ≡ best_reserve (int_at π.reserve k)
+    (cap_at g (first == suc k) (stops_at last (length π.energy) k)) g.ramp_up (level g first d k)
+    (power_in d (suc k))
 
--- the periods after k up to last of d are a way on from power y, where f has its value before: with any run up to k that
--- ends at y they make a dispatch, and with the cheapest one a dispatch of cost c
-pub record IsWayFrom (g : ThermalUnit) (π : PriceLists) (first k last : ℕ) (f : Table) (d : Schedule) (y c : ℤ) : Type 0 where
+-- the periods after k up to last of d are a way on from power y, where f has its value before: with
+-- any run up to k that ends at y they make a dispatch, and with the cheapest one a dispatch of cost
+-- c
+pub record IsWayFrom (g : ThermalUnit) (π : PriceLists) (first k last : ℕ) (f : Table)
+    (d : Schedule) (y c : ℤ) : Type 0 where
   pub before : ℤ
   pub there : value_of f y ≡ Some before
-  pub completes : (run : Schedule) → IsRun g first k run → level g first run k ≡ y → IsSameAfter k last d run →
+  pub completes : (run : Schedule) → IsRun g first k run → level g first run k ≡ y →
+      IsSameAfter k last d run →
       IsDispatch g (length π.energy) first last run
       × (spell_cost g π first last run ≡ spell_cost g π first k run +ℤ (c -ℤ before))
       × ((j : ℕ) → k ≤ j → j < last → HasBestReserve g π first last run j)
   -- no dispatch costs less than c, and none with these powers costs less after k
-  pub least : (other : Schedule) → IsDispatch g (length π.energy) first last other → c ≤ℤ spell_cost g π first last other
-  pub rest : (other : Schedule) → IsDispatch g (length π.energy) first last other → HasSamePowersAfter k last d other → level g first other k ≡ y →
+  pub least : (other : Schedule) → IsDispatch g (length π.energy) first last other →
+      c ≤ℤ spell_cost g π first last other
+  pub rest : (other : Schedule) → IsDispatch g (length π.energy) first last other →
+      HasSamePowersAfter k last d other → level g first other k ≡ y →
       (spell_cost g π first k other +ℤ (c -ℤ before)) ≤ℤ spell_cost g π first last other
   -- of the dispatches of cost c that have the later powers, none has less power
-  pub first_before : (other : Schedule) → IsDispatch g (length π.energy) first last other → spell_cost g π first last other ≡ c →
+  pub first_before : (other : Schedule) → IsDispatch g (length π.energy) first last other →
+      spell_cost g π first last other ≡ c →
       HasSamePowersAfter k last d other → y ≤ℤ level g first other k
-  pub first_after : (other : Schedule) → IsDispatch g (length π.energy) first last other → spell_cost g π first last other ≡ c →
-      (i : ℕ) → k ≤ i → i < last → HasSamePowersAfter (suc i) last d other → power_in d (suc i) ≤ℤ power_in other (suc i)
+  pub first_after : (other : Schedule) → IsDispatch g (length π.energy) first last other →
+      spell_cost g π first last other ≡ c →
+      (i : ℕ) → k ≤ i → i < last → HasSamePowersAfter (suc i) last d other →
+      power_in d (suc i) ≤ℤ power_in other (suc i)

@@ -1,6 +1,7 @@
--- What follows a power doesn't ask how that power was reached: the dispatch rules of pglib-uc (Knueven, Ostrowski and
--- Watson) look at the power before a period alone. So a period of one spell may be put behind a run of another spell that
--- ends where that one does before it. Each law is the clause of a public function.
+-- What follows a power doesn't ask how that power was reached: the dispatch rules of pglib-uc
+-- (Knueven, Ostrowski and Watson) look at the power before a period alone. So a period of one spell
+-- may be put behind a run of another spell that ends where that one does before it. Each law is the
+-- clause of a public function.
 use Rattle.std.specs.Prelude.{◌≡◌, ℕ, suc, ◌<◌, ◌≤◌, ℤ, ◌+ℤ◌, Some, length}
 use Rattle.shape_law.specs.Table.{Table, value_of}
 use Rattle.uc_model.specs.Data.{ThermalUnit, PriceLists, Schedule}
@@ -9,15 +10,18 @@ use Rattle.spell_run.specs.Frontier.{IsFrontier}
 use Rattle.spell_run.specs.Spells.{IsDispatch, net_cost, spell_cost}
 use Rattle.spell_run.specs.Steps.{level, IsRun}
 
--- a run from `other` to period suc k ends where d does: it costs v up to period k, and what d costs in period suc k
-pub record IsRunOn (g : ThermalUnit) (π : PriceLists) (first other k : ℕ) (d : Schedule) (v : ℤ) : Type 0 where
+-- a run from `other` to period suc k ends where d does: it costs v up to period k, and what d costs
+-- in period suc k
+pub record IsRunOn (g : ThermalUnit) (π : PriceLists) (first other k : ℕ) (d : Schedule) (v : ℤ) :
+    Type 0 where
   pub run : Schedule
   pub keeps : IsRun g other (suc k) run
   pub ends : level g other run (suc k) ≡ level g first d (suc k)
   pub cost : spell_cost g π other (suc k) run ≡ v +ℤ net_cost g π d (suc k)
 
 -- the same of a dispatch
-pub record IsDispatchOn (g : ThermalUnit) (π : PriceLists) (other k : ℕ) (d : Schedule) (v : ℤ) : Type 0 where
+pub record IsDispatchOn (g : ThermalUnit) (π : PriceLists) (other k : ℕ) (d : Schedule) (v : ℤ) :
+    Type 0 where
   pub dispatch : Schedule
   pub keeps : IsDispatch g (length π.energy) other (suc k) dispatch
   pub cost : spell_cost g π other (suc k) dispatch ≡ v +ℤ net_cost g π d (suc k)
@@ -25,15 +29,20 @@ pub record IsDispatchOn (g : ThermalUnit) (π : PriceLists) (other k : ℕ) (d :
 -- f has a value where d is at the end of period k, so its run goes on as d does
 abbrev pub RunsGoOn : Type 0
 RunsGoOn =
-    (g : ThermalUnit) (π : PriceLists) (first other k : ℕ) (f : Table) (d : Schedule) (v : ℤ) → first ≤ suc k → other ≤ k → k < length π.energy →
-    IsFrontier g π other k f → value_of f (level g first d k) ≡ Some v → IsRun g first (suc k) d → IsRunOn g π first other k d v
+    (g : ThermalUnit) (π : PriceLists) (first other k : ℕ) (f : Table) (d : Schedule) (v : ℤ) →
+    first ≤ suc k → other ≤ k → k < length π.energy →
+    IsFrontier g π other k f → value_of f (level g first d k) ≡ Some v → IsRun g first (suc k) d →
+    IsRunOn g π first other k d v
 
 abbrev pub DispatchesGoOn : Type 0
 DispatchesGoOn =
-    (g : ThermalUnit) (π : PriceLists) (first other k : ℕ) (f : Table) (d : Schedule) (v : ℤ) → IsThermalUnit g → first ≤ suc k → other ≤ k → k < length π.energy →
-    IsFrontier g π other k f → value_of f (level g first d k) ≡ Some v → IsDispatch g (length π.energy) first (suc k) d → IsDispatchOn g π other k d v
+    (g : ThermalUnit) (π : PriceLists) (first other k : ℕ) (f : Table) (d : Schedule) (v : ℤ) →
+    IsThermalUnit g → first ≤ suc k → other ≤ k → k < length π.energy →
+    IsFrontier g π other k f → value_of f (level g first d k) ≡ Some v →
+    IsDispatch g (length π.energy) first (suc k) d → IsDispatchOn g π other k d v
 
 -- a dispatch keeps the rules of a run
 abbrev pub DispatchesAreRuns : Type 0
 DispatchesAreRuns =
-    (g : ThermalUnit) (periods first k : ℕ) (d : Schedule) → IsThermalUnit g → first ≤ suc k → IsDispatch g periods first (suc k) d → IsRun g first (suc k) d
+    (g : ThermalUnit) (periods first k : ℕ) (d : Schedule) → IsThermalUnit g → first ≤ suc k →
+    IsDispatch g periods first (suc k) d → IsRun g first (suc k) d

@@ -1,6 +1,7 @@
--- What the steps of a spell leave for the way back over it (Bellman's principle, and the convexity of the functions; this
--- project's profile).
-use Rattle.std.specs.Prelude.{◌≡◌, ℕ, suc, ◌-◌, ◌<◌, ◌≤◌, ◌==◌, nat_lt, ℤ, pos, ◌+ℤ◌, ◌-ℤ◌, Bool, false, List, length, slice_index_or, Option, Some, None}
+-- What the steps of a spell leave for the way back over it (Bellman's principle, and the convexity
+-- of the functions; this project's profile).
+use Rattle.std.specs.Prelude.{◌≡◌, ℕ, suc, ◌-◌, ◌<◌, ◌≤◌, ◌==◌, nat_lt, ℤ, pos, ◌+ℤ◌, ◌-ℤ◌, Bool}
+use Rattle.std.specs.Prelude.{false, List, length, slice_index_or, Option, Some, None}
 use Rattle.std.specs.Option.{option_map}
 use Rattle.cost_curve.specs.CostCurve.{IsCostCurve}
 use Rattle.shape_law.specs.Effect.{IsLeast, IsLeastIn}
@@ -23,7 +24,8 @@ pub record IsCheapest (s : Step) (f : Table) (x y : ℤ) : Type 0 where
   pub least : IsLeastIn (x -ℤ s.ramp_up) (x +ℤ s.ramp_down) kinked value y
 
 -- n is noted of a step over period suc k, from the frontier of the periods before it
-pub record IsNoted (g : ThermalUnit) (π : PriceLists) (first k : ℕ) (stops : Bool) (n : Note) (after : Table) : Type 0 where
+pub record IsNoted (g : ThermalUnit) (π : PriceLists) (first k : ℕ) (stops : Bool) (n : Note)
+    (after : Table) : Type 0 where
   pub curve : Curve
   pub is_curve : IsCostCurve g.points curve
   pub before : Table
@@ -41,19 +43,25 @@ IsOnNoted g π first k n = (after : Table) × IsNoted g π first k false n after
 -- of the step that ends the spell: the least cost, the least power of that cost, and the turn
 abbrev pub IsEndNoted : ThermalUnit → PriceLists → ℕ → ℕ → Note → Lowest → Type 0
 IsEndNoted g π first k n e =
-    (after : Table) × IsNoted g π first k (nat_lt (suc k) (length π.energy)) (record { turn = e.turn; first = n.first; last = n.last }) after
+    (after : Table) × IsNoted g π first k (nat_lt (suc k) (length π.energy))
+    (record { turn = e.turn; first = n.first; last = n.last }) after
     × IsLeast after e.value e.at
 
 -- what was left at a place
 abbrev pub passed_at : List Passed → ℕ → Passed
-passed_at ps k = slice_index_or ps k (record { note = record { turn = pos 0; first = pos 0; last = pos 0 }; end = None })
+passed_at ps k =
+    slice_index_or ps k (record {
+      note = record { turn = pos 0; first = pos 0; last = pos 0 };
+      end = None;
+    })
 
 -- the cost of an end
 abbrev pub end_cost : Option Lowest → Option ℤ
 end_cost = option_map (λ (e : Lowest). e.value)
 
 -- what the spell from `first` to `last` left, by place
-pub record IsSpellNoted (g : ThermalUnit) (π : PriceLists) (first last : ℕ) (passed : ℕ → Passed) : Type 0 where
+pub record IsSpellNoted (g : ThermalUnit) (π : PriceLists) (first last : ℕ) (passed : ℕ →
+    Passed) : Type 0 where
   pub on : (k : ℕ) → first ≤ suc k → suc k < last → IsOnNoted g π first k (passed k).note
   pub lowest : Lowest
   pub is_end : (passed (last - 1)).end ≡ Some lowest

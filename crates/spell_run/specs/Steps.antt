@@ -1,6 +1,8 @@
--- One period of a spell as a step from the power before it to its own power: the dispatch rules of pglib-uc, taken one
--- period at a time and written in the power itself, not in the power above the least one.
-use Rattle.std.specs.Prelude.{ℕ, suc, ◌≤◌, ◌==◌, nat_lt, ℤ, ◌+ℤ◌, ◌-ℤ◌, ◌≤ℤ◌, Bool, false, if◌then◌else◌, IsTrue, Option, MatchOption}
+-- One period of a spell as a step from the power before it to its own power: the dispatch rules of
+-- pglib-uc, taken one period at a time and written in the power itself, not in the power above the
+-- least one.
+use Rattle.std.specs.Prelude.{ℕ, suc, ◌≤◌, ◌==◌, nat_lt, ℤ, ◌+ℤ◌, ◌-ℤ◌, ◌≤ℤ◌, Bool, false}
+use Rattle.std.specs.Prelude.{if◌then◌else◌, IsTrue, Option, MatchOption}
 use Rattle.std.specs.Int.{int_min}
 use Rattle.shape_law.specs.Effect.{IsLeast, IsLeastIn}
 use Rattle.shape_law.specs.Table.{Table, IsEmpty, HasNone}
@@ -16,11 +18,14 @@ pub use Rattle.shape_law.specs.Steps.{IsFairStep, IsCostOf, IsKinked, IsStepped,
 abbrev pub cap_at : ThermalUnit → Bool → Bool → ℤ
 cap_at g starts stops = cap_of g starts stops +ℤ g.min_power
 
--- the numbers of a step over the period at that place: before a stop the power can't be more than a fall above the least one
+-- the numbers of a step over the period at that place: before a stop the power can't be more than a
+-- fall above the least one
 abbrev pub step_at : ThermalUnit → PriceLists → ℕ → Bool → Bool → Step
 step_at g π place starts stops = record {
   least = g.min_power;
-  most = if stops then int_min (cap_at g starts stops) (g.min_power +ℤ g.ramp_down) else cap_at g starts stops;
+  most =
+      if stops then int_min (cap_at g starts stops) (g.min_power +ℤ g.ramp_down) else cap_at g
+      starts stops;
   cap = cap_at g starts stops;
   ramp_up = g.ramp_up;
   ramp_down = g.ramp_down;
@@ -36,14 +41,17 @@ pub record IsMove (g : ThermalUnit) (starts stops : Bool) (q p r : ℤ) : Type 0
   pub ramp_down : (q -ℤ p) ≤ℤ g.ramp_down
   pub leave : IsTrue stops → (p -ℤ g.min_power) ≤ℤ g.ramp_down
 
--- the power that the ramps of the period after t are measured from: a start comes from the least power
+-- the power that the ramps of the period after t are measured from: a start comes from the least
+-- power
 unfoldable pub level : ThermalUnit → ℕ → Schedule → ℕ → ℤ
 level g first d t = if nat_lt t first then g.min_power else over_min g d t +ℤ g.min_power
 
 -- the periods first to t of d keep the rules of a spell, as far as no stop follows
 abbrev pub IsRun : ThermalUnit → ℕ → ℕ → Schedule → Type 0
 IsRun g first t d =
-    (k : ℕ) → first ≤ suc k → suc k ≤ t → IsMove g (first == suc k) false (level g first d k) (power_in d (suc k)) (reserve_in d (suc k))
+    (k : ℕ) → first ≤ suc k → suc k ≤ t →
+    IsMove g (first == suc k) false (level g first d k) (power_in d (suc k))
+    (reserve_in d (suc k))
 
 -- ---- steps on functions of the power
 
@@ -53,4 +61,5 @@ IsLeastCost f o = MatchOption o (IsEmpty f) (λ v. (x : ℤ) × IsLeast f v x)
 
 -- the same at the powers from low to high
 abbrev pub IsLeastCostIn : ℤ → ℤ → Table → Option ℤ → Type 0
-IsLeastCostIn low high f o = MatchOption o (HasNone low high f) (λ v. (x : ℤ) × IsLeastIn low high f v x)
+IsLeastCostIn low high f o =
+    MatchOption o (HasNone low high f) (λ v. (x : ℤ) × IsLeastIn low high f v x)

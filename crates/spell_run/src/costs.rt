@@ -1,5 +1,6 @@
 //! The least net costs of the spells with one first period.
-ghost use Rattle.std.specs.Prelude.{◌≡◌, ℕ, suc, ◌+◌, ◌-◌, ◌*◌, ◌<◌, ◌≤◌, ◌⊎◌, pos, [], true, length, slice_index_or, None, OnOk, IfOk, IsOk};
+ghost use Rattle.std.specs.Prelude.{◌≡◌, ℕ, suc, ◌+◌, ◌-◌, ◌*◌, ◌<◌, ◌≤◌, ◌⊎◌, pos, [], true};
+ghost use Rattle.std.specs.Prelude.{length, slice_index_or, None, OnOk, IfOk, IsOk};
 ghost use Rattle.std.specs.Bool.{OnTrue};
 ghost use Rattle.std.specs.Option.{IfSome};
 ghost use Rattle.cost_curve.specs.CostCurve.{IsCostCurve};
@@ -8,7 +9,8 @@ ghost use Rattle.shape_law.specs.Table.{Table};
 ghost use Rattle.spell_run.specs.Entries.{entry_of, cells_for, IsSpellStart};
 ghost use Rattle.spell_run.specs.Frontier.{IsFrontier};
 ghost use Rattle.spell_run.specs.Spells.{spell_first, IsSpellAnswer, IsSpellWithin};
-ghost use Rattle.spell_run.specs.Steps.{IsFairStep, IsCostOf, IsStepped, IsLeastCost, IsLeastCostIn, IsSmall};
+ghost use Rattle.spell_run.specs.Steps.{IsFairStep, IsCostOf, IsStepped, IsLeastCost};
+ghost use Rattle.spell_run.specs.Steps.{IsLeastCostIn, IsSmall};
 ghost use Rattle.uc_model.specs.PlainUnits.{thermal_of, prices_of};
 
 use crate::spell::SpellCosts;
@@ -52,9 +54,13 @@ fn cost_after<S: Shape>(
     requires step { IsFairStep step }
     requires curve { IsCostOf step curve.now }
     requires small { IsSmall (S.function home.old before.now) }
-    ensures ok { IfOk result (λ cost. (after : Table) × IsStepped step curve.now (S.function home.old before.now) after × IsLeastCost after cost) }
+    ensures ok { IfOk result (λ cost. (after : Table)
+        × IsStepped step curve.now (S.function home.old before.now) after
+        × IsLeastCost after cost) }
     ensures frame { Frame S.Home.cell_list S.is_in S.numbers [] [] home.old home.new }
-    ensures sure { S.Home.counts ≡ true → S.cells before.now + (length curve.now.blocks.items + 5) ≤ S.Home.sure home.old → IsOk result }
+    ensures sure { S.Home.counts ≡ true
+        → S.cells before.now + (length curve.now.blocks.items + 5) ≤ S.Home.sure home.old
+        → IsOk result }
     ensures balance { S.Home.counts ≡ true → S.Home.sure home.new ≡ S.Home.sure home.old }
 {
     frames_join::<S>();
@@ -79,12 +85,17 @@ fn run_on<S: Shape>(
     requires curve { IsCostCurve (thermal_of unit.now).points curve.now }
     requires place { place < length (prices_of prices.now).energy }
     requires order { spell_first started first ≤ suc place }
-    requires frontier { IsFrontier (thermal_of unit.now) (prices_of prices.now) (spell_first started first) place (S.function home.old running.old) }
-    ensures ok { OnOk result (IsFrontier (thermal_of unit.now) (prices_of prices.now) (spell_first started first) (suc place) (S.function home.new running.new)) }
+    requires frontier { IsFrontier (thermal_of unit.now) (prices_of prices.now)
+        (spell_first started first) place (S.function home.old running.old) }
+    ensures ok { OnOk result (IsFrontier (thermal_of unit.now) (prices_of prices.now)
+        (spell_first started first) (suc place) (S.function home.new running.new)) }
     ensures here { S.is_in home.new running.new }
-    ensures frame { Frame S.Home.cell_list S.is_in S.numbers (S.numbers home.old running.old) (S.numbers home.new running.new) home.old home.new }
-    ensures sure { S.Home.counts ≡ true → length curve.now.blocks.items + 5 ≤ S.Home.sure home.old → IsOk result }
-    ensures balance { Balance S.Home.counts (length curve.now.blocks.items + 5) (S.Home.sure home.old) (S.cells running.old) (S.Home.sure home.new) (S.cells running.new) }
+    ensures frame { Frame S.Home.cell_list S.is_in S.numbers (S.numbers home.old running.old)
+        (S.numbers home.new running.new) home.old home.new }
+    ensures sure { S.Home.counts ≡ true → length curve.now.blocks.items + 5 ≤ S.Home.sure home.old
+        → IsOk result }
+    ensures balance { Balance S.Home.counts (length curve.now.blocks.items + 5)
+        (S.Home.sure home.old) (S.cells running.old) (S.Home.sure home.new) (S.cells running.new) }
 {
     envelope_is_cost();
     let starts = starts_at(first, started, place);
@@ -96,7 +107,8 @@ fn run_on<S: Shape>(
     )
 }
 
-/// The least cost of the spells that end with the period at a place, found by a step that knows of the stop after it.
+/// The least cost of the spells that end with the period at a place, found by a step that knows of
+/// the stop after it.
 fn cost_to_stop<S: Shape>(
     home: &mut S::Home,
     unit: &Unit,
@@ -111,11 +123,16 @@ fn cost_to_stop<S: Shape>(
     requires curve { IsCostCurve (thermal_of unit.now).points curve.now }
     requires place { suc place < length (prices_of prices.now).energy }
     requires order { spell_first started first ≤ suc place }
-    requires frontier { IsFrontier (thermal_of unit.now) (prices_of prices.now) (spell_first started first) place (S.function home.old running.now) }
-    ensures answer { IfOk result (IsSpellAnswer (thermal_of unit.now) (prices_of prices.now) (length (prices_of prices.now).energy) (spell_first started first) (suc place)) }
-    ensures within { IfOk result (λ cost. IfSome cost (IsSpellWithin (spell_first started first) (suc place))) }
+    requires frontier { IsFrontier (thermal_of unit.now) (prices_of prices.now)
+        (spell_first started first) place (S.function home.old running.now) }
+    ensures answer { IfOk result (IsSpellAnswer (thermal_of unit.now) (prices_of prices.now)
+        (length (prices_of prices.now).energy) (spell_first started first) (suc place)) }
+    ensures within { IfOk result
+        (λ cost. IfSome cost (IsSpellWithin (spell_first started first) (suc place))) }
     ensures frame { Frame S.Home.cell_list S.is_in S.numbers [] [] home.old home.new }
-    ensures sure { S.Home.counts ≡ true → S.cells running.now + (length curve.now.blocks.items + 5) ≤ S.Home.sure home.old → IsOk result }
+    ensures sure { S.Home.counts ≡ true
+        → S.cells running.now + (length curve.now.blocks.items + 5) ≤ S.Home.sure home.old
+        → IsOk result }
     ensures balance { S.Home.counts ≡ true → S.Home.sure home.new ≡ S.Home.sure home.old }
 {
     envelope_is_cost();
@@ -128,10 +145,12 @@ fn cost_to_stop<S: Shape>(
     )
 }
 
-/// Takes the step over the period at a place, and answers the least cost of the spells that end with it.
+/// Takes the step over the period at a place, and answers the least cost of the spells that end
+/// with it.
 ///
-/// A stop after the period lowers its cap. Where it doesn't, or where reserve isn't paid for, the costs up to a stop are
-/// those of the function itself at the powers that a stop allows; otherwise they are found on another shape.
+/// A stop after the period lowers its cap. Where it doesn't, or where reserve isn't paid for, the
+/// costs up to a stop are those of the function itself at the powers that a stop allows; otherwise
+/// they are found on another shape.
 fn pass<S: Shape>(
     home: &mut S::Home,
     unit: &Unit,
@@ -146,14 +165,22 @@ fn pass<S: Shape>(
     requires curve { IsCostCurve (thermal_of unit.now).points curve.now }
     requires place { place < length (prices_of prices.now).energy }
     requires order { spell_first started first ≤ suc place }
-    requires frontier { IsFrontier (thermal_of unit.now) (prices_of prices.now) (spell_first started first) place (S.function home.old running.old) }
-    ensures ok { OnOk result (IsFrontier (thermal_of unit.now) (prices_of prices.now) (spell_first started first) (suc place) (S.function home.new running.new)) }
-    ensures answer { IfOk result (IsSpellAnswer (thermal_of unit.now) (prices_of prices.now) (length (prices_of prices.now).energy) (spell_first started first) (suc place)) }
-    ensures within { IfOk result (λ cost. IfSome cost (IsSpellWithin (spell_first started first) (suc place))) }
+    requires frontier { IsFrontier (thermal_of unit.now) (prices_of prices.now)
+        (spell_first started first) place (S.function home.old running.old) }
+    ensures ok { OnOk result (IsFrontier (thermal_of unit.now) (prices_of prices.now)
+        (spell_first started first) (suc place) (S.function home.new running.new)) }
+    ensures answer { IfOk result (IsSpellAnswer (thermal_of unit.now) (prices_of prices.now)
+        (length (prices_of prices.now).energy) (spell_first started first) (suc place)) }
+    ensures within { IfOk result
+        (λ cost. IfSome cost (IsSpellWithin (spell_first started first) (suc place))) }
     ensures here { S.is_in home.new running.new }
-    ensures frame { Frame S.Home.cell_list S.is_in S.numbers (S.numbers home.old running.old) (S.numbers home.new running.new) home.old home.new }
-    ensures sure { S.Home.counts ≡ true → S.cells running.old + (length curve.now.blocks.items + 5) ≤ S.Home.sure home.old → IsOk result }
-    ensures balance { Balance S.Home.counts (length curve.now.blocks.items + 5) (S.Home.sure home.old) (S.cells running.old) (S.Home.sure home.new) (S.cells running.new) }
+    ensures frame { Frame S.Home.cell_list S.is_in S.numbers (S.numbers home.old running.old)
+        (S.numbers home.new running.new) home.old home.new }
+    ensures sure { S.Home.counts ≡ true
+        → S.cells running.old + (length curve.now.blocks.items + 5) ≤ S.Home.sure home.old
+        → IsOk result }
+    ensures balance { Balance S.Home.counts (length curve.now.blocks.items + 5)
+        (S.Home.sure home.old) (S.cells running.old) (S.Home.sure home.new) (S.cells running.new) }
 {
     envelope_is_cost();
     if place + 1 == prices.energy.len() {
@@ -174,8 +201,8 @@ fn pass<S: Shape>(
     Ok(cost)
 }
 
-/// Whether a step before a stop differs from one without in the range of the power alone: reserve isn't paid for, or the
-/// cap is the same.
+/// Whether a step before a stop differs from one without in the range of the power alone: reserve
+/// isn't paid for, or the cap is the same.
 pub(crate) fn is_alike(on: Step, last: Step) -> bool
     ensures { OnTrue result ((on.reserve_price ≡ pos 0) ⊎ (last.cap ≡ on.cap)) }
 {
@@ -195,21 +222,31 @@ fn fill<S: Shape>(
 ) -> Result<(), AllocError>
     requires here { S.is_in home.old running.old }
     requires curve { IsCostCurve (thermal_of unit.now).points curve.now }
-    requires start { IsSpellStart (thermal_of unit.now) (length (prices_of prices.now).energy) first started }
+    requires start { IsSpellStart (thermal_of unit.now) (length (prices_of prices.now).energy) first
+        started }
     requires room { length (prices_of prices.now).energy ≤ length into.old.entries.items }
-    requires frontier { IsFrontier (thermal_of unit.now) (prices_of prices.now) (spell_first started first) (first - 1) (S.function home.old running.old) }
-    ensures answers { OnOk result ((place : ℕ) → first ≤ suc place → place < length (prices_of prices.now).energy →
-        IsSpellAnswer (thermal_of unit.now) (prices_of prices.now) (length (prices_of prices.now).energy) (spell_first started first) (suc place)
+    requires frontier { IsFrontier (thermal_of unit.now) (prices_of prices.now)
+        (spell_first started first) (first - 1) (S.function home.old running.old) }
+    ensures answers { OnOk result ((place : ℕ) → first ≤ suc place
+        → place < length (prices_of prices.now).energy →
+        IsSpellAnswer (thermal_of unit.now) (prices_of prices.now)
+        (length (prices_of prices.now).energy) (spell_first started first) (suc place)
         (slice_index_or into.new.entries.items place None)
-        × IfSome (slice_index_or into.new.entries.items place None) (IsSpellWithin (spell_first started first) (suc place))) }
+        × IfSome (slice_index_or into.new.entries.items place None)
+        (IsSpellWithin (spell_first started first) (suc place))) }
     ensures length { length into.new.entries.items ≡ length into.old.entries.items }
-    ensures others { (place : ℕ) → (suc place < first) ⊎ (length (prices_of prices.now).energy ≤ place) →
-        slice_index_or into.new.entries.items place None ≡ slice_index_or into.old.entries.items place None }
+    ensures others { (place : ℕ) → (suc place < first)
+        ⊎ (length (prices_of prices.now).energy ≤ place) →
+        slice_index_or into.new.entries.items place None
+        ≡ slice_index_or into.old.entries.items place None }
     ensures here { S.is_in home.new running.new }
-    ensures frame { Frame S.Home.cell_list S.is_in S.numbers (S.numbers home.old running.old) (S.numbers home.new running.new) home.old home.new }
+    ensures frame { Frame S.Home.cell_list S.is_in S.numbers (S.numbers home.old running.old)
+        (S.numbers home.new running.new) home.old home.new }
     ensures sure { S.Home.counts ≡ true → S.cells running.old ≤ 1 →
-        2 + 2 * length (prices_of prices.now).energy * (length curve.now.blocks.items + 5) ≤ S.Home.sure home.old → IsOk result }
-    ensures balance { S.Home.counts ≡ true → S.Home.sure home.new + S.cells running.new ≡ S.Home.sure home.old + S.cells running.old }
+        2 + 2 * length (prices_of prices.now).energy * (length curve.now.blocks.items + 5)
+        ≤ S.Home.sure home.old → IsOk result }
+    ensures balance { S.Home.counts ≡ true
+        → S.Home.sure home.new + S.cells running.new ≡ S.Home.sure home.old + S.cells running.old }
 {
     frames_join::<S>();
     for place in first as usize - 1..prices.energy.len() {
@@ -223,9 +260,11 @@ fn fill<S: Shape>(
 fn clear_before(first: u32, into: &mut SpellCosts)
     requires some { 1 ≤ first }
     requires room { first ≤ length into.old.entries.items + 1 }
-    ensures before { (place : ℕ) → suc place < first → slice_index_or into.new.entries.items place None ≡ None }
+    ensures before { (place : ℕ) → suc place < first
+        → slice_index_or into.new.entries.items place None ≡ None }
     ensures others { (place : ℕ) → first ≤ suc place →
-        slice_index_or into.new.entries.items place None ≡ slice_index_or into.old.entries.items place None }
+        slice_index_or into.new.entries.items place None
+        ≡ slice_index_or into.old.entries.items place None }
     ensures length { length into.new.entries.items ≡ length into.old.entries.items }
 {
     for place in 0..first as usize - 1 {
@@ -233,13 +272,15 @@ fn clear_before(first: u32, into: &mut SpellCosts)
     }
 }
 
-/// For each last period from `first` to the prices' T, leaves in `into` the least net cost of a dispatch, with a stop
-/// after it where the last period is below T, and None exactly where there is no dispatch. Entries before `first` become
-/// None, and entries past T stay. After an error the entries up to T are open.
+/// For each last period from `first` to the prices' T, leaves in `into` the least net cost of a
+/// dispatch, with a stop after it where the last period is below T, and None exactly where there is
+/// no dispatch. Entries before `first` become None, and entries past T stay. After an error the
+/// entries up to T are open.
 ///
-/// `curve` is the curve of the unit's points. `into` has at least T entries. A spell that isn't `started` goes on from
-/// before period 1. Takes no memory but for the shapes, which are given back. In a home that counts it answers Ok where
-/// the home has (T + 2) * (1 + T * (2L + 3)) cells to give, for L cost points.
+/// `curve` is the curve of the unit's points. `into` has at least T entries. A spell that isn't
+/// `started` goes on from before period 1. Takes no memory but for the shapes, which are given
+/// back. In a home that counts it answers Ok where the home has (T + 2) * (1 + T * (2L + 3)) cells
+/// to give, for L cost points.
 pub fn spell_costs<S: Shape>(
     home: &mut S::Home,
     unit: &Unit,
@@ -250,21 +291,27 @@ pub fn spell_costs<S: Shape>(
     into: &mut SpellCosts,
 ) -> Result<(), AllocError>
     requires curve { IsCostCurve (thermal_of unit.now).points curve.now }
-    requires start { IsSpellStart (thermal_of unit.now) (length (prices_of prices.now).energy) first started }
+    requires start { IsSpellStart (thermal_of unit.now) (length (prices_of prices.now).energy) first
+        started }
     requires room { length (prices_of prices.now).energy ≤ length into.old.entries.items }
-    ensures least { OnOk result ((last : ℕ) → first ≤ last → last ≤ length (prices_of prices.now).energy →
-        IsSpellAnswer (thermal_of unit.now) (prices_of prices.now) (length (prices_of prices.now).energy) (spell_first started first) last
+    ensures least { OnOk result ((last : ℕ) → first ≤ last
+        → last ≤ length (prices_of prices.now).energy →
+        IsSpellAnswer (thermal_of unit.now) (prices_of prices.now)
+        (length (prices_of prices.now).energy) (spell_first started first) last
         (entry_of into.new.entries.items last)) }
-    ensures within { OnOk result ((last : ℕ) → first ≤ last → last ≤ length (prices_of prices.now).energy →
+    ensures within { OnOk result ((last : ℕ) → first ≤ last
+        → last ≤ length (prices_of prices.now).energy →
         IfSome (entry_of into.new.entries.items last) (IsSpellWithin (spell_first started first) last)) }
-    ensures before { OnOk result ((last : ℕ) → 1 ≤ last → last < first → entry_of into.new.entries.items last ≡ None) }
+    ensures before { OnOk result ((last : ℕ) → 1 ≤ last → last < first
+        → entry_of into.new.entries.items last ≡ None) }
     ensures length { length into.new.entries.items ≡ length into.old.entries.items }
     ensures past { (last : ℕ) → length (prices_of prices.now).energy < last →
         entry_of into.new.entries.items last ≡ entry_of into.old.entries.items last }
     ensures frame { Frame S.Home.cell_list S.is_in S.numbers [] [] home.old home.new }
     ensures sure { S.Home.counts ≡ true → S.Home.sure home.new ≡ S.Home.sure home.old }
     ensures enough { S.Home.counts ≡ true →
-        cells_for (length (prices_of prices.now).energy) (length (thermal_of unit.now).points) ≤ S.Home.sure home.old → IsOk result }
+        cells_for (length (prices_of prices.now).energy) (length (thermal_of unit.now).points)
+        ≤ S.Home.sure home.old → IsOk result }
 {
     frames_join::<S>();
     clear_before(first, into);

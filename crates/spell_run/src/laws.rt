@@ -2,18 +2,20 @@
 ghost use Rattle.spell_run.specs.Joins.{RunsGoOn, DispatchesGoOn, DispatchesAreRuns};
 ghost use Rattle.spell_run.specs.Laws.{ReserveIsAKink, ReserveIsBest};
 
-/// What the most reserve earns at given powers is a line in the power of the period and a kink in the power before it.
+/// What the most reserve earns at given powers is a line in the power of the period and a kink in
+/// the power before it.
 pub fn reserve_is_a_kink()
     ensures { ReserveIsAKink }
 {}
 
-/// At given powers the most reserve is best where reserve is paid for, and no other is; where it isn't paid for, none is
-/// the least of the best.
+/// At given powers the most reserve is best where reserve is paid for, and no other is; where it
+/// isn't paid for, none is the least of the best.
 pub fn reserve_is_best()
     ensures { ReserveIsBest }
 {}
 
-/// A run that ends at the power where another one stands goes on as that one does, at the same cost.
+/// A run that ends at the power where another one stands goes on as that one does, at the same
+/// cost.
 pub fn runs_go_on()
     ensures { RunsGoOn }
 {}

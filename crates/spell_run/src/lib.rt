@@ -1,7 +1,8 @@
 //! One spell of a thermal unit: a run of periods in which it is on.
 //!
-//! The least net cost of a spell is found by a dynamic program over convex functions of the power at the end of a
-//! period. One pass gives it for every last period; a pass back gives a dispatch of that cost.
+//! The least net cost of a spell is found by a dynamic program over convex functions of the power
+//! at the end of a period. One pass gives it for every last period; a pass back gives a dispatch of
+//! that cost.
 #![tactic(auto)]
 
 mod best;

@@ -1,5 +1,7 @@
 //! Spells that go forward in place, a period at a time, on functions that take no memory.
-ghost use Rattle.std.specs.Prelude.{◌≡◌, ℕ, ℤ, suc, ◌==◌, ◌+◌, ◌-◌, ◌^◌, ◌<◌, ◌≤◌, pos, neg_ℤ, ◌+ℤ◌, ◌≤ℤ◌, true, false, IsTrue, ◌↔◌, length, Some, MatchOption, IfSome, IfNone, None};
+ghost use Rattle.std.specs.Prelude.{◌≡◌, ℕ, ℤ, suc, ◌==◌, ◌+◌, ◌-◌, ◌^◌, ◌<◌, ◌≤◌, pos, neg_ℤ};
+ghost use Rattle.std.specs.Prelude.{◌+ℤ◌, ◌≤ℤ◌, true, false, IsTrue, ◌↔◌, length, Some};
+ghost use Rattle.std.specs.Prelude.{MatchOption, IfSome, IfNone, None};
 ghost use Rattle.std.specs.Bool.{OnTrue};
 ghost use Rattle.cost_curve.specs.CostCurve.{IsCostCurve};
 ghost use Rattle.shape_law.specs.Effect.{IsPoint, IsLeast, IsLeastIn};
@@ -7,7 +9,8 @@ ghost use Rattle.shape_law.specs.Table.{Table, value_of, IsPlace, IsAmount, IsEm
 ghost use Rattle.spell_run.specs.Frontier.{IsFrontier};
 ghost use Rattle.spell_run.specs.Notes.{IsNoted, IsEndNoted, end_cost};
 ghost use Rattle.spell_run.specs.Spells.{IsSpellAnswer, IsSpellWithin};
-ghost use Rattle.spell_run.specs.Steps.{step_at, IsFairStep, IsCostOf, IsStepped, IsLeastCost, IsLeastCostIn, IsSmall};
+ghost use Rattle.spell_run.specs.Steps.{step_at, IsFairStep, IsCostOf, IsStepped, IsLeastCost};
+ghost use Rattle.spell_run.specs.Steps.{IsLeastCostIn, IsSmall};
 ghost use Rattle.slope_step.specs.Turn.{IsTurn, IsFirst, IsLast};
 ghost use Rattle.uc_model.specs.Data.{PriceLists};
 ghost use Rattle.uc_model.specs.Limits.{IsFrom};
@@ -20,8 +23,8 @@ use cost_curve::laws::envelope_is_cost;
 use slope_list::{Lowest, Slopes, Spot};
 use uc_model::units::{Curve, Prices, Unit};
 
-/// A convex function on a whole interval, which may be empty, as `Shape` has it; but it takes steps in place, and no call
-/// takes memory or fails. It is kept in pieces, for which it has room.
+/// A convex function on a whole interval, which may be empty, as `Shape` has it; but it takes steps
+/// in place, and no call takes memory or fails. It is kept in pieces, for which it has room.
 pub trait Running: Sized {
     /// Its function.
     ghost function: { Self → Table };
@@ -51,7 +54,8 @@ pub trait Running: Sized {
         requires small { IsSmall (function self.old) }
         requires room { count self.old + length curve.now.blocks.items + 3 ≤ room self.old }
         ensures stepped { IsStepped step curve.now (function self.old) (function self.new) }
-        ensures turn { (y w : ℤ) → value_of (function self.old) y ≡ Some w → IsTurn step (function self.old) (turned self.new) }
+        ensures turn { (y w : ℤ) → value_of (function self.old) y ≡ Some w
+            → IsTurn step (function self.old) (turned self.new) }
         ensures count { count self.new ≤ count self.old + length curve.now.blocks.items + 3 }
         ensures room { room self.new ≡ room self.old };
 
@@ -62,7 +66,8 @@ pub trait Running: Sized {
         requires small { IsSmall (function self.old) }
         requires room { count self.old + length curve.now.blocks.items + 3 ≤ room self.old }
         ensures least { (after : Table) × IsStepped step curve.now (function self.old) after
-            × MatchOption result (IsEmpty after) (λ r. IsLeast after r.value r.at × IsTurn step (function self.old) r.turn) }
+            × MatchOption result (IsEmpty after) (λ r. IsLeast after r.value r.at
+            × IsTurn step (function self.old) r.turn) }
         ensures function { function self.new ≡ function self.old }
         ensures count { count self.new ≡ count self.old }
         ensures turn { turned self.new ≡ turned self.old }
@@ -70,15 +75,19 @@ pub trait Running: Sized {
 
     /// The least value and its least place, or None on an empty interval.
     fn least(&self) -> Option<Spot>
-        ensures { MatchOption result (IsEmpty (function self.now)) (λ r. IsLeast (function self.now) r.value r.at) };
+        ensures { MatchOption result (IsEmpty (function self.now))
+            (λ r. IsLeast (function self.now) r.value r.at) };
 
-    /// The least value at the places from `lo` to `hi` and its least place, or None where none of them is in the interval.
+    /// The least value at the places from `lo` to `hi` and its least place, or None where none of
+    /// them is in the interval.
     fn least_in(&self, lo: i64, hi: i64) -> Option<Spot>
-        ensures { MatchOption result (HasNone lo hi (function self.now)) (λ r. IsLeastIn lo hi (function self.now) r.value r.at) };
+        ensures { MatchOption result (HasNone lo hi (function self.now))
+            (λ r. IsLeastIn lo hi (function self.now) r.value r.at) };
 
     /// The first place, or None on an empty interval.
     fn first(&self) -> Option<Spot>
-        ensures { MatchOption result (IsEmpty (function self.now)) (λ r. IsFirst (function self.now) r.at r.value) };
+        ensures { MatchOption result (IsEmpty (function self.now))
+            (λ r. IsFirst (function self.now) r.at r.value) };
 
     /// The last place, or None on an empty interval.
     fn last(&self) -> Option<i64>
@@ -92,8 +101,8 @@ pub trait Running: Sized {
     fn turn(&self) -> i64
         ensures { result ≡ turned self.now };
 
-    /// Whether it is nowhere above another function, less the shift, and has all its places. It may answer false all the
-    /// same.
+    /// Whether it is nowhere above another function, less the shift, and has all its places. It may
+    /// answer false all the same.
     fn is_below(&self, other: &Self, shift: i64) -> bool
         requires { IsFrom (neg_ℤ (pos 4000000000000000000)) (pos 4000000000000000000) shift }
         ensures { OnTrue result ((x v : ℤ) → value_of (function other.now) x ≡ Some v →
@@ -171,10 +180,11 @@ fn power_before(unit: &Unit, first: u32) -> i64
     }
 }
 
-/// Begins a spell: at the power that its first ramp is measured from, at no cost. `first` 0 stands for a spell that goes on
-/// from before period 1.
+/// Begins a spell: at the power that its first ramp is measured from, at no cost. `first` 0 stands
+/// for a spell that goes on from before period 1.
 pub fn begin<R: Running>(unit: &Unit, first: u32, running: &mut R)
-    ensures frontier { (π : PriceLists) → IsFrontier (thermal_of unit.now) π first (first - 1) (R.function running.new) }
+    ensures frontier { (π : PriceLists)
+        → IsFrontier (thermal_of unit.now) π first (first - 1) (R.function running.new) }
     ensures count { R.count running.new ≡ 0 }
     ensures room { R.room running.new ≡ R.room running.old }
 {
@@ -183,8 +193,10 @@ pub fn begin<R: Running>(unit: &Unit, first: u32, running: &mut R)
 
 /// The first and the last place of a function; both are 0 on an empty interval.
 fn interval_of<R: Running>(running: &R) -> Interval
-    ensures first { (x v : ℤ) → value_of (R.function running.now) x ≡ Some v → (w : ℤ) × IsFirst (R.function running.now) result.first w }
-    ensures last { (x v : ℤ) → value_of (R.function running.now) x ≡ Some v → IsLast (R.function running.now) result.last }
+    ensures first { (x v : ℤ) → value_of (R.function running.now) x ≡ Some v → (w : ℤ)
+        × IsFirst (R.function running.now) result.first w }
+    ensures last { (x v : ℤ) → value_of (R.function running.now) x ≡ Some v
+        → IsLast (R.function running.now) result.last }
 {
     let first = match running.first() {
         Some(spot) => spot.at,
@@ -197,9 +209,9 @@ fn interval_of<R: Running>(running: &R) -> Interval
     Interval { first, last }
 }
 
-/// Takes a spell over the period at a place, as far as no stop follows, and answers what the step leaves for the way back,
-/// which is open where no place is left. `first` 0 stands for a spell that goes on from before period 1. `curve` is the
-/// curve of the unit's points.
+/// Takes a spell over the period at a place, as far as no stop follows, and answers what the step
+/// leaves for the way back, which is open where no place is left. `first` 0 stands for a spell that
+/// goes on from before period 1. `curve` is the curve of the unit's points.
 pub fn run_over<R: Running>(
     unit: &Unit,
     curve: &Curve,
@@ -211,9 +223,11 @@ pub fn run_over<R: Running>(
     requires curve { IsCostCurve (thermal_of unit.now).points curve.now }
     requires place { place < length (prices_of prices.now).energy }
     requires order { first ≤ suc place }
-    requires frontier { IsFrontier (thermal_of unit.now) (prices_of prices.now) first place (R.function running.old) }
+    requires frontier { IsFrontier (thermal_of unit.now) (prices_of prices.now) first place
+        (R.function running.old) }
     requires room { R.count running.old + length curve.now.blocks.items + 3 ≤ R.room running.old }
-    ensures frontier { IsFrontier (thermal_of unit.now) (prices_of prices.now) first (suc place) (R.function running.new) }
+    ensures frontier { IsFrontier (thermal_of unit.now) (prices_of prices.now) first (suc place)
+        (R.function running.new) }
     ensures noted { (x v : ℤ) → value_of (R.function running.old) x ≡ Some v →
         IsNoted (thermal_of unit.now) (prices_of prices.now) first place false result (R.function running.new) }
     ensures count { R.count running.new ≤ R.count running.old + length curve.now.blocks.items + 3 }
@@ -233,7 +247,8 @@ pub fn run_over<R: Running>(
 /// A least value of a function after a step with this turn.
 fn lowest_at(spot: Option<Spot>, turn: i64) -> Option<Lowest>
     ensures none { IfNone result (spot ≡ None) }
-    ensures some { IfSome result (λ r. (spot ≡ Some (record { at = r.at; value = r.value })) × (r.turn ≡ turn)) }
+    ensures some { IfSome result (λ r. (spot ≡ Some (record { at = r.at; value = r.value }))
+        × (r.turn ≡ turn)) }
 {
     match spot {
         Some(spot) => Some(Lowest {
@@ -245,12 +260,13 @@ fn lowest_at(spot: Option<Spot>, turn: i64) -> Option<Lowest>
     }
 }
 
-/// Takes a spell over the period at a place, as `run_over` does, and answers what it leaves for the way back, with the
-/// least net cost of the spells that end with the period, with a stop after it where the prices go on; None exactly where
-/// no dispatch is there.
+/// Takes a spell over the period at a place, as `run_over` does, and answers what it leaves for the
+/// way back, with the least net cost of the spells that end with the period, with a stop after it
+/// where the prices go on; None exactly where no dispatch is there.
 ///
-/// A stop after the period lowers its cap. Where it doesn't, or where reserve isn't paid for, the costs up to a stop are
-/// those of the function itself at the powers that a stop allows; otherwise they are found beside it.
+/// A stop after the period lowers its cap. Where it doesn't, or where reserve isn't paid for, the
+/// costs up to a stop are those of the function itself at the powers that a stop allows; otherwise
+/// they are found beside it.
 pub fn end_and_run<R: Running>(
     unit: &Unit,
     curve: &Curve,
@@ -262,12 +278,16 @@ pub fn end_and_run<R: Running>(
     requires curve { IsCostCurve (thermal_of unit.now).points curve.now }
     requires place { place < length (prices_of prices.now).energy }
     requires order { first ≤ suc place }
-    requires frontier { IsFrontier (thermal_of unit.now) (prices_of prices.now) first place (R.function running.old) }
+    requires frontier { IsFrontier (thermal_of unit.now) (prices_of prices.now) first place
+        (R.function running.old) }
     requires room { R.count running.old + length curve.now.blocks.items + 3 ≤ R.room running.old }
-    ensures answer { IsSpellAnswer (thermal_of unit.now) (prices_of prices.now) (length (prices_of prices.now).energy) first (suc place) (end_cost result.end) }
+    ensures answer { IsSpellAnswer (thermal_of unit.now) (prices_of prices.now)
+        (length (prices_of prices.now).energy) first (suc place) (end_cost result.end) }
     ensures within { IfSome result.end (λ e. IsSpellWithin first (suc place) e.value) }
-    ensures ended { IfSome result.end (IsEndNoted (thermal_of unit.now) (prices_of prices.now) first place result.note) }
-    ensures frontier { IsFrontier (thermal_of unit.now) (prices_of prices.now) first (suc place) (R.function running.new) }
+    ensures ended { IfSome result.end
+        (IsEndNoted (thermal_of unit.now) (prices_of prices.now) first place result.note) }
+    ensures frontier { IsFrontier (thermal_of unit.now) (prices_of prices.now) first (suc place)
+        (R.function running.new) }
     ensures noted { (x v : ℤ) → value_of (R.function running.old) x ≡ Some v →
         IsNoted (thermal_of unit.now) (prices_of prices.now) first place false result.note (R.function running.new) }
     ensures count { R.count running.new ≤ R.count running.old + length curve.now.blocks.items + 3 }

@@ -1,10 +1,12 @@
 //! One period of a spell, as a step on the function of least costs by the power at its end.
-ghost use Rattle.std.specs.Prelude.{◌≡◌, suc, ◌==◌, ◌+◌, ◌^◌, ◌<◌, ◌≤◌, pos, ◌+ℤ◌, true, if◌then◌else◌, length, [], OnOk, OnErr, IfOk, IsOk};
+ghost use Rattle.std.specs.Prelude.{◌≡◌, suc, ◌==◌, ◌+◌, ◌^◌, ◌<◌, ◌≤◌, pos, ◌+ℤ◌, true};
+ghost use Rattle.std.specs.Prelude.{if◌then◌else◌, length, [], OnOk, OnErr, IfOk, IsOk};
 ghost use Rattle.std.specs.Int.{int_min};
 ghost use Rattle.shape_law.specs.Cell.{Frame, Balance};
 ghost use Rattle.shape_law.specs.Effect.{IsPoint};
 ghost use Rattle.spell_run.specs.Spells.{spell_first};
-ghost use Rattle.spell_run.specs.Steps.{cap_at, step_at, IsFairStep, IsCostOf, IsKinked, IsStepped, IsSmall};
+ghost use Rattle.spell_run.specs.Steps.{cap_at, step_at, IsFairStep, IsCostOf, IsKinked, IsStepped};
+ghost use Rattle.spell_run.specs.Steps.{IsSmall};
 ghost use Rattle.uc_model.specs.PlainUnits.{thermal_of, prices_of};
 
 use shape_law::Shape;
@@ -22,7 +24,8 @@ pub(crate) fn starts_at(first: u32, started: bool, place: usize) -> bool
     started && first as usize == place + 1
 }
 
-/// Whether a spell starts in the period at a place; `first` 0 stands for one that goes on from before period 1.
+/// Whether a spell starts in the period at a place; `first` 0 stands for one that goes on from
+/// before period 1.
 pub(crate) fn starts_in(first: u32, place: usize) -> bool
     requires { suc place < 2 ^ 32 }
     ensures { result ≡ (first == suc place) }
@@ -39,7 +42,8 @@ fn cap_in(unit: &Unit, starts: bool, stops: bool) -> i64
 
 /// The greatest power under a cap: before a stop it is within a fall of the least power.
 fn most_in(unit: &Unit, cap: i64, stops: bool) -> i64
-    ensures { result ≡ (if stops then int_min cap (unit.now.min_power +ℤ unit.now.ramp_down) else cap) }
+    ensures { result ≡ (if stops then int_min cap (unit.now.min_power +ℤ unit.now.ramp_down) else
+        cap) }
 {
     if stops {
         cap.min(unit.min_power + unit.ramp_down)
@@ -48,10 +52,12 @@ fn most_in(unit: &Unit, cap: i64, stops: bool) -> i64
     }
 }
 
-/// The step over the period at a place of the horizon, where the unit starts in it, or stops after it.
+/// The step over the period at a place of the horizon, where the unit starts in it, or stops after
+/// it.
 pub(crate) fn step_of(unit: &Unit, prices: &Prices, place: usize, starts: bool, stops: bool) -> Step
     requires { place < length (prices_of prices.now).energy }
-    ensures step { result ≡ step_at (thermal_of unit.now) (prices_of prices.now) place starts stops }
+    ensures step { result ≡ step_at (thermal_of unit.now) (prices_of prices.now) place starts
+        stops }
     ensures fair { IsFairStep result }
 {
     let cap = cap_in(unit, starts, stops);
@@ -68,7 +74,8 @@ pub(crate) fn step_of(unit: &Unit, prices: &Prices, place: usize, starts: bool, 
     }
 }
 
-/// Takes the worth of the best reserve off. Where reserve isn't paid for there is nothing to do. Its charge is 1.
+/// Takes the worth of the best reserve off. Where reserve isn't paid for there is nothing to do.
+/// Its charge is 1.
 pub(crate) fn add_kink<S: Shape>(
     home: &mut S::Home,
     shape: &mut S,
@@ -77,11 +84,14 @@ pub(crate) fn add_kink<S: Shape>(
     requires here { S.is_in home.old shape.old }
     requires step { IsFairStep step }
     requires small { IsSmall (S.function home.old shape.old) }
-    ensures ok { OnOk result (IsKinked step (S.function home.old shape.old) (S.function home.new shape.new)) }
+    ensures ok { OnOk result (IsKinked step (S.function home.old shape.old)
+        (S.function home.new shape.new)) }
     ensures here { S.is_in home.new shape.new }
-    ensures frame { Frame S.Home.cell_list S.is_in S.numbers (S.numbers home.old shape.old) (S.numbers home.new shape.new) home.old home.new }
+    ensures frame { Frame S.Home.cell_list S.is_in S.numbers (S.numbers home.old shape.old)
+        (S.numbers home.new shape.new) home.old home.new }
     ensures sure { S.Home.counts ≡ true → 1 ≤ S.Home.sure home.old → IsOk result }
-    ensures balance { Balance S.Home.counts 1 (S.Home.sure home.old) (S.cells shape.old) (S.Home.sure home.new) (S.cells shape.new) }
+    ensures balance { Balance S.Home.counts 1 (S.Home.sure home.old) (S.cells shape.old)
+        (S.Home.sure home.new) (S.cells shape.new) }
 {
     if step.reserve_price == 0 {
         return Ok(());
@@ -89,7 +99,8 @@ pub(crate) fn add_kink<S: Shape>(
     shape.add_reserve(home, step.reserve_price, step.cap, step.ramp_up)
 }
 
-/// Takes a step. After an error the shape is open. Its charge is the number of the curve's blocks and 5.
+/// Takes a step. After an error the shape is open. Its charge is the number of the curve's blocks
+/// and 5.
 pub(crate) fn take_step<S: Shape>(
     home: &mut S::Home,
     shape: &mut S,
@@ -100,11 +111,15 @@ pub(crate) fn take_step<S: Shape>(
     requires step { IsFairStep step }
     requires curve { IsCostOf step curve.now }
     requires small { IsSmall (S.function home.old shape.old) }
-    ensures ok { OnOk result (IsStepped step curve.now (S.function home.old shape.old) (S.function home.new shape.new)) }
+    ensures ok { OnOk result (IsStepped step curve.now (S.function home.old shape.old)
+        (S.function home.new shape.new)) }
     ensures here { S.is_in home.new shape.new }
-    ensures frame { Frame S.Home.cell_list S.is_in S.numbers (S.numbers home.old shape.old) (S.numbers home.new shape.new) home.old home.new }
-    ensures sure { S.Home.counts ≡ true → length curve.now.blocks.items + 5 ≤ S.Home.sure home.old → IsOk result }
-    ensures balance { Balance S.Home.counts (length curve.now.blocks.items + 5) (S.Home.sure home.old) (S.cells shape.old) (S.Home.sure home.new) (S.cells shape.new) }
+    ensures frame { Frame S.Home.cell_list S.is_in S.numbers (S.numbers home.old shape.old)
+        (S.numbers home.new shape.new) home.old home.new }
+    ensures sure { S.Home.counts ≡ true → length curve.now.blocks.items + 5 ≤ S.Home.sure home.old
+        → IsOk result }
+    ensures balance { Balance S.Home.counts (length curve.now.blocks.items + 5)
+        (S.Home.sure home.old) (S.cells shape.old) (S.Home.sure home.new) (S.cells shape.new) }
 {
     frames_join::<S>();
     add_kink(home, shape, step)?;
@@ -113,7 +128,8 @@ pub(crate) fn take_step<S: Shape>(
     shape.add_curve(home, curve, 0)
 }
 
-/// Another shape, a step on. Its charge is the shape's cells, the number of the curve's blocks, and 5.
+/// Another shape, a step on. Its charge is the shape's cells, the number of the curve's blocks, and
+/// 5.
 pub(crate) fn stepped<S: Shape>(
     home: &mut S::Home,
     before: &S,
@@ -124,14 +140,21 @@ pub(crate) fn stepped<S: Shape>(
     requires step { IsFairStep step }
     requires curve { IsCostOf step curve.now }
     requires small { IsSmall (S.function home.old before.now) }
-    ensures ok { IfOk result (λ after. IsStepped step curve.now (S.function home.old before.now) (S.function home.new after)) }
+    ensures ok { IfOk result (λ after. IsStepped step curve.now (S.function home.old before.now)
+        (S.function home.new after)) }
     ensures here { IfOk result (λ after. S.is_in home.new after) }
-    ensures frame { IfOk result (λ after. Frame S.Home.cell_list S.is_in S.numbers [] (S.numbers home.new after) home.old home.new) }
-    ensures sure { S.Home.counts ≡ true → S.cells before.now + (length curve.now.blocks.items + 5) ≤ S.Home.sure home.old → IsOk result }
+    ensures frame { IfOk result (λ after. Frame S.Home.cell_list S.is_in S.numbers []
+        (S.numbers home.new after) home.old home.new) }
+    ensures sure { S.Home.counts ≡ true
+        → S.cells before.now + (length curve.now.blocks.items + 5) ≤ S.Home.sure home.old
+        → IsOk result }
     ensures balance { IfOk result (λ after. S.Home.counts ≡ true →
-        (S.cells after ≤ S.cells before.now + (length curve.now.blocks.items + 5)) × (S.Home.sure home.new + S.cells after ≡ S.Home.sure home.old)) }
-    ensures err_frame { OnErr result (Frame S.Home.cell_list S.is_in S.numbers [] [] home.old home.new) }
-    ensures err_sure { OnErr result (S.Home.counts ≡ true → S.Home.sure home.new ≡ S.Home.sure home.old) }
+        (S.cells after ≤ S.cells before.now + (length curve.now.blocks.items + 5))
+        × (S.Home.sure home.new + S.cells after ≡ S.Home.sure home.old)) }
+    ensures err_frame { OnErr result
+        (Frame S.Home.cell_list S.is_in S.numbers [] [] home.old home.new) }
+    ensures err_sure { OnErr result (S.Home.counts ≡ true
+        → S.Home.sure home.new ≡ S.Home.sure home.old) }
 {
     frames_join::<S>();
     let mut after = before.copy(home)?;
@@ -150,11 +173,15 @@ pub(crate) fn beginning<S: Shape>(
     unit: &Unit,
     started: bool,
 ) -> Result<S, AllocError>
-    ensures ok { IfOk result (λ shape. IsPoint (if started then unit.now.min_power else unit.now.power0) (pos 0) (S.function home.new shape)) }
+    ensures ok { IfOk result
+        (λ shape. IsPoint (if started then unit.now.min_power else unit.now.power0) (pos 0)
+        (S.function home.new shape)) }
     ensures here { IfOk result (λ shape. S.is_in home.new shape) }
-    ensures frame { IfOk result (λ shape. Frame S.Home.cell_list S.is_in S.numbers [] (S.numbers home.new shape) home.old home.new) }
+    ensures frame { IfOk result (λ shape. Frame S.Home.cell_list S.is_in S.numbers []
+        (S.numbers home.new shape) home.old home.new) }
     ensures sure { S.Home.counts ≡ true → 1 ≤ S.Home.sure home.old → IsOk result }
-    ensures balance { IfOk result (λ shape. S.Home.counts ≡ true → (S.cells shape ≡ 1) × (S.Home.sure home.new + 1 ≡ S.Home.sure home.old)) }
+    ensures balance { IfOk result (λ shape. S.Home.counts ≡ true → (S.cells shape ≡ 1)
+        × (S.Home.sure home.new + 1 ≡ S.Home.sure home.old)) }
     ensures err { OnErr result (home.new ≡ home.old) }
 {
     let power = if started { unit.min_power } else { unit.power0 };

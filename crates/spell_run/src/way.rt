@@ -1,7 +1,8 @@
 //! The way back over a spell, by what its steps noted on the way forward.
 //!
-//! A convex function whose least place is `turn` is least, at the places in reach of a power, at the one that is nearest to
-//! the turn. So three numbers of a step suffice to find the cheapest power before it.
+//! A convex function whose least place is `turn` is least, at the places in reach of a power, at
+//! the one that is nearest to the turn. So three numbers of a step suffice to find the cheapest
+//! power before it.
 ghost use Rattle.std.specs.Prelude.{◌≡◌, ℤ, suc, ◌==◌, ◌<◌, ◌≤◌, length, Some};
 ghost use Rattle.shape_law.specs.Effect.{Reaches};
 ghost use Rattle.shape_law.specs.Table.{Table, value_of};
@@ -36,8 +37,8 @@ pub struct Note {
 pub struct Passed {
     /// Of the step that goes on.
     pub note: Note,
-    /// The least cost of the spells that end with the period, its power, and the turn of their last step; None where there
-    /// is none.
+    /// The least cost of the spells that end with the period, its power, and the turn of their last
+    /// step; None where there is none.
     pub end: Option<Lowest>,
 }
 
@@ -45,8 +46,10 @@ pub struct Passed {
 fn cheapest_before(step: Step, note: Note, power: i64) -> i64
     requires step { IsFairStep step }
     requires power { IsOutput power }
-    ensures { (f : Table) (v y w : ℤ) → IsTurn step f note.turn → IsFirst f note.first v → IsLast f note.last →
-        value_of f y ≡ Some w → Reaches step.ramp_up step.ramp_down power y → IsCheapest step f power result }
+    ensures { (f : Table) (v y w : ℤ) → IsTurn step f note.turn → IsFirst f note.first v
+        → IsLast f note.last →
+        value_of f y ≡ Some w → Reaches step.ramp_up step.ramp_down power y
+        → IsCheapest step f power result }
 {
     let low = (power - step.ramp_up).max(note.first);
     let high = (power + step.ramp_down).min(note.last);
@@ -66,9 +69,13 @@ fn write_period(
 ) -> i64
     requires place { place < length (prices_of prices.now).energy }
     requires order { first ≤ suc place }
-    requires noted { (after : Table) × IsNoted (thermal_of unit.now) (prices_of prices.now) first place stops note after × ((v : ℤ) × (value_of after power ≡ Some v)) }
+    requires noted { (after : Table)
+        × IsNoted (thermal_of unit.now) (prices_of prices.now) first place stops note after
+        × ((v : ℤ) × (value_of after power ≡ Some v)) }
     requires into { place < length (schedule_of into.old.response).on }
-    ensures chosen { (after : Table) (v : ℤ) (n : IsNoted (thermal_of unit.now) (prices_of prices.now) first place stops note after) → value_of after power ≡ Some v →
+    ensures chosen { (after : Table) (v : ℤ)
+        (n : IsNoted (thermal_of unit.now) (prices_of prices.now) first place stops note after)
+        → value_of after power ≡ Some v →
         IsChosen (step_at (thermal_of unit.now) (prices_of prices.now) place (first == suc place) stops) n.before place power result (schedule_of into.old.response) (schedule_of into.new.response) }
     ensures earned { into.new.earned ≡ into.old.earned }
 {
@@ -78,10 +85,11 @@ fn write_period(
     before
 }
 
-/// Leaves a dispatch of least net cost in the periods of the spell from `first` to `last`, the first of those of that cost,
-/// by what the spell left of them: by powers from the last period back, less power first, and then by reserves. `first` 0
-/// stands for a spell that goes on from before period 1. All other periods, and what is earned, stay. Prices and `into` are
-/// over the same periods. Takes no memory.
+/// Leaves a dispatch of least net cost in the periods of the spell from `first` to `last`, the
+/// first of those of that cost, by what the spell left of them: by powers from the last period
+/// back, less power first, and then by reserves. `first` 0 stands for a spell that goes on from
+/// before period 1. All other periods, and what is earned, stay. Prices and `into` are over the
+/// same periods. Takes no memory.
 pub fn write_spell(
     unit: &Unit,
     prices: &Prices,
@@ -94,12 +102,18 @@ pub fn write_spell(
     requires some { 1 ≤ last }
     requires end { last ≤ length (prices_of prices.now).energy }
     requires room { last ≤ length passed.now }
-    requires noted { IsSpellNoted (thermal_of unit.now) (prices_of prices.now) first last (passed_at passed.now) }
-    requires into { length (schedule_of into.old.response).on ≡ length (prices_of prices.now).energy }
-    ensures best { (cost : ℤ) × IsBestDispatch (thermal_of unit.now) (prices_of prices.now) (length (prices_of prices.now).energy) first last (schedule_of into.new.response) cost
-        × IsFirstDispatch (thermal_of unit.now) (prices_of prices.now) (length (prices_of prices.now).energy) first last (schedule_of into.new.response) cost }
+    requires noted { IsSpellNoted (thermal_of unit.now) (prices_of prices.now) first last
+        (passed_at passed.now) }
+    requires into { length (schedule_of into.old.response).on
+        ≡ length (prices_of prices.now).energy }
+    ensures best { (cost : ℤ)
+        × IsBestDispatch (thermal_of unit.now) (prices_of prices.now)
+        (length (prices_of prices.now).energy) first last (schedule_of into.new.response) cost
+        × IsFirstDispatch (thermal_of unit.now) (prices_of prices.now)
+        (length (prices_of prices.now).energy) first last (schedule_of into.new.response) cost }
     ensures on { IsOnFromTo first last (schedule_of into.new.response) }
-    ensures outside { IsSameOutside first last (schedule_of into.old.response) (schedule_of into.new.response) }
+    ensures outside { IsSameOutside first last (schedule_of into.old.response)
+        (schedule_of into.new.response) }
     ensures earned { into.new.earned ≡ into.old.earned }
 {
     let end = last as usize - 1;

@@ -10,10 +10,10 @@ use Rattle.uc_model.specs.Sums.{int_at}
 use Rattle.uc_model.proofs.IntLaws.{sum_below-same}
 use Rattle.spell_run.specs.Entries.{IsOnFromTo, IsSameOutside}
 use Rattle.spell_run.specs.Spells.{spell_first, IsBestDispatch, IsFirstDispatch, HasNoDispatch, over_min, IsDispatch, IsLeastSpell, net_cost, spell_cost}
-use Rattle.unit_program.specs.Spells.{IsSpell, start_cost_after}
-use Rattle.unit_program.specs.declared.table.Ended.{Ended}
-use Rattle.unit_program.specs.Tables.{IsEnded, IsLatest, IsStarted, IsEntryAfter, IsComplete, IsFrom}
-use Rattle.unit_program.specs.Rows.{row_at, cost_at, first_at, before_at, IsFilled}
+use Rattle.period_table.specs.Spells.{IsSpell, start_cost_after}
+use Rattle.period_table.specs.declared.table.Ended.{Ended}
+use Rattle.period_table.specs.Tables.{IsEnded, IsLatest, IsStarted, IsEntryAfter, IsComplete, IsFrom}
+use Rattle.period_table.specs.Rows.{row_at, cost_at, first_at, before_at, IsFilled}
 use Rattle.unit_program.specs.Builds.{IsUpTo, IsIdle}
 use Rattle.unit_program.proofs.BuildLaws.{up_to_idle, up_to_first, up_to_next}
 use Rattle.unit_program.proofs.SpanLaws.{spell_first-is}

@@ -2,10 +2,10 @@
 use Rattle.std.proofs.Common.{◌≡◌, ℕ, zero, suc, ◌+◌, ◌-◌, ◌*◌, ◌≤◌, ◌⊎◌, inl, inr, Some, List, [], ◌∷◌, ◌++◌, length, sym, ap, ◌∙◌, subst, arith}
 use Rattle.std.specs.Prelude.{slice_get}
 use Rattle.std.proofs.Math.Nat.{mul-le-mul_left}
-use Rattle.unit_program.specs.declared.runner.Runner.{Runner}
+use Rattle.period_table.specs.declared.runner.Runner.{Runner}
 use Rattle.unit_program.specs.declared.bench.Bench.{Bench}
 use Rattle.unit_program.specs.Benches.{IsBenchFor}
-use Rattle.unit_program.specs.Live.{HaveRoom}
+use Rattle.period_table.specs.Live.{places_of, HaveRoom}
 
 pub room_less : {R : Type 0} (room : R → ℕ) (most less periods : ℕ) (runners : List (Runner R)) → less ≤ most → HaveRoom room most periods runners → HaveRoom room less periods runners
 room_less room most less periods runners low have f r is = (let there = (have f r is).0 in (omega (arith, low, there), (have f r is).1))
@@ -44,10 +44,10 @@ get_append [] r (suc i) x h = cc
 get_append (y ∷ ys) r zero x h = inl h
 get_append (y ∷ ys) r (suc i) x h = get_append ys r i x h
 
-pub room_more : {R : Type 0} (room : R → ℕ) (most periods : ℕ) (runners runners' : List (Runner R)) (r : Runner R) → runners' ≡ runners ++ r ∷ [] → most ≤ room r.running → periods ≤ length r.passed.items →
+pub room_more : {R : Type 0} (room : R → ℕ) (most periods : ℕ) (runners runners' : List (Runner R)) (r : Runner R) → runners' ≡ runners ++ r ∷ [] → most ≤ room r.running → periods ≤ places_of r →
     HaveRoom room most periods runners → HaveRoom room most periods runners'
 room_more room most periods runners runners' r is fits long have f x there =
     elim (get_append runners r f x (ap (λ xs. slice_get xs f) (sym is) ∙ there)) [
       | inl before ↦ have f x before
-      | inr same ↦ subst (λ x. (most ≤ room x.running) × (periods ≤ length x.passed.items)) same (fits, long)
+      | inr same ↦ subst (λ x. (most ≤ room x.running) × (periods ≤ places_of x)) same (fits, long)
     ]

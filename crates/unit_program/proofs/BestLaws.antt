@@ -7,8 +7,8 @@ use Rattle.uc_model.specs.Schedules.{IsSchedule, on_in, power_in, reserve_in}
 use Rattle.uc_model.specs.Earnings.{earnings, IsBest}
 use Rattle.uc_model.specs.Schedules.{IsThermalFeasible}
 use Rattle.uc_model.specs.Ties.{IsLeast}
-use Rattle.unit_program.specs.Spells.{IsOffRun, paid}
-use Rattle.unit_program.specs.Tables.{IsComplete, IsLeastEnd}
+use Rattle.period_table.specs.Spells.{IsOffRun, paid}
+use Rattle.period_table.specs.Tables.{IsComplete, IsLeastEnd}
 use Rattle.unit_program.specs.Builds.{IsUpTo, IsIdle}
 use Rattle.unit_program.proofs.BuildLaws.{right_of}
 use Rattle.unit_program.proofs.SpellLaws.{table_is_least}

@@ -9,7 +9,7 @@ use Rattle.uc_model.specs.Earnings.{start_cost_of, earnings}
 use Rattle.uc_model.specs.Schedules.{IsThermalFeasible}
 use Rattle.unit_program.specs.Steps.{IsStep, time_up}
 use Rattle.spell_run.specs.Spells.{IsDispatch, net_cost, spell_cost}
-use Rattle.unit_program.specs.Spells.{on_time, off_time, IsSpell, IsOffRun, IsGap, start_cost_after, paid}
+use Rattle.period_table.specs.Spells.{on_time, off_time, IsSpell, IsOffRun, IsGap, start_cost_after, paid}
 use Rattle.unit_program.specs.Builds.{IsDispatchStep, MayStop, IsUpTo, IsIdle}
 use Rattle.unit_program.proofs.RunLaws.{held-more, held-none}
 use Rattle.unit_program.proofs.CommitLaws.{rules_from_steps}

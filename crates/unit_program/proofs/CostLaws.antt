@@ -10,7 +10,7 @@ use Rattle.uc_model.specs.Earnings.{start_cost_of, earnings}
 use Rattle.uc_model.specs.Sums.{int_at, sum_below}
 use Rattle.uc_model.proofs.IntLaws.{sum_below-same, sum_below-add, sum_below-sub}
 use Rattle.spell_run.specs.Spells.{net_cost, sum_from_to}
-use Rattle.unit_program.specs.Spells.{period_cost, paid}
+use Rattle.period_table.specs.Spells.{period_cost, paid}
 
 module _ (g : ThermalUnit) (π : PriceLists) (s : Schedule) where
   abbrev income : ℕ → ℤ
@@ -55,9 +55,6 @@ module _ (g : ThermalUnit) (π : PriceLists) (s : Schedule) where
 -- ---- sums from a place to a place
 
 module _ (f : ℕ → ℤ) where
-  pub sum_from_to-none : (first : ℕ) → sum_from_to f (suc first) first ≡ pos 0
-  sum_from_to-none first = let e : suc first - suc first ≡ 0 = omega arith in ap (λ n. sum_below n (λ k. f (suc first + k))) e
-
   pub sum_from_to-more : (first last : ℕ) → first ≤ suc last → sum_from_to f first (suc last) ≡ sum_from_to f first last +ℤ f (suc last)
   sum_from_to-more first last order =
       let e : suc (suc last) - first ≡ suc (suc last - first) = omega (arith, order) in

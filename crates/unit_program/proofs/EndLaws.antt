@@ -3,10 +3,10 @@ use Rattle.std.proofs.Common.{◌≡◌, ℕ, ◌+◌, ◌<◌, ◌≤◌, ◌�
 use Rattle.std.proofs.lemmas.Int.{ints}
 use Rattle.std.proofs.lemmas.Bool.{cases_lt}
 use Rattle.uc_model.specs.Data.{ThermalUnit}
-use Rattle.unit_program.specs.Spells.{IsOffRun}
-use Rattle.unit_program.specs.Tables.{IsLeastEnd}
-use Rattle.unit_program.specs.declared.table.Entry.{Entry}
-use Rattle.unit_program.specs.Rows.{HasEntryAtMost}
+use Rattle.period_table.specs.Spells.{IsOffRun}
+use Rattle.period_table.specs.Tables.{IsLeastEnd}
+use Rattle.period_table.specs.declared.table.Entry.{Entry}
+use Rattle.period_table.specs.Rows.{HasEntryAtMost}
 
 module _ (g : ThermalUnit) (periods : ℕ) (ends : ℕ → Option ℤ) where
   pub record IsLeastEndSoFar (last : ℕ) (least : Option Entry) : Type 0 where

@@ -4,10 +4,10 @@ use Rattle.std.specs.Prelude.{IfSome, IfNone}
 use Rattle.std.proofs.lemmas.Int.{ints}
 use Rattle.std.proofs.lemmas.Bool.{cases_lt}
 use Rattle.uc_model.specs.Data.{ThermalUnit}
-use Rattle.unit_program.specs.Spells.{IsGap, start_cost_after}
-use Rattle.unit_program.specs.Tables.{IsStarted, IsEntry, IsLeastEntry}
-use Rattle.unit_program.specs.declared.table.Entry.{Entry}
-use Rattle.unit_program.specs.Rows.{HasEntryAtMost, IsWithinTimes}
+use Rattle.period_table.specs.Spells.{IsGap, start_cost_after}
+use Rattle.period_table.specs.Tables.{IsStarted, IsEntry, IsLeastEntry}
+use Rattle.period_table.specs.declared.table.Entry.{Entry}
+use Rattle.period_table.specs.Rows.{HasEntryAtMost, IsWithinTimes}
 
 pub if_some : {X : Type 0} → (P : X → Type 0) (o : Option X) (x : X) → o ≡ Some x → IfSome o P → P x
 if_some P o x is h = subst (λ o. IfSome o P) is h

@@ -1,16 +1,17 @@
 -- The table before any start, and with one more first period.
-use Rattle.std.proofs.Common.{◌≡◌, ℕ, zero, suc, ◌+◌, ◌<◌, ◌≤◌, Bool, true, false, cond, inl, inr, Option, Some, None, ℤ, pos, ◌+ℤ◌, List, length, refl, sym, ap, ◌∙◌, subst, get_or-set_same, get_or-set_other, arith}
-use Rattle.std.specs.Prelude.{IsTrue, IsFalse, MatchOption, slice_set}
+use Rattle.std.proofs.Common.{◌≡◌, ℕ, zero, suc, ◌+◌, ◌≤◌, Bool, true, false, cond, inl, inr, Option, Some, None, ℤ, pos, ◌+ℤ◌, List, length, refl, sym, ap, ◌∙◌, subst, arith}
+use Rattle.std.specs.Prelude.{IsTrue, IsFalse}
 use Rattle.std.specs.Option.{option_map}
 use Rattle.std.proofs.lemmas.Int.{ints}
 use Rattle.uc_model.specs.Data.{ThermalUnit, PriceLists}
 use Rattle.spell_run.specs.Spells.{IsSpellAnswer}
-use Rattle.unit_program.specs.declared.table.Ended.{Ended}
-use Rattle.unit_program.specs.Spells.{IsSpell, StopsAtOnce, off_time}
-use Rattle.unit_program.specs.Tables.{HasAtMost, IsEntryAfter, IsEntry, IsLeastEntry, IsTable, IsUpdate}
-use Rattle.unit_program.specs.Rows.{row_at, cost_at, first_at, before_at, AreWithin, IsFilled, IsAdded}
+use Rattle.period_table.specs.declared.table.Ended.{Ended}
+use Rattle.period_table.specs.Spells.{IsSpell, StopsAtOnce, off_time}
+use Rattle.period_table.specs.Tables.{HasAtMost, IsEntryAfter, IsEntry, IsLeastEntry, IsTable, IsUpdate}
+use Rattle.period_table.specs.Laws.{StopsAtOnceCostNothing}
+use Rattle.period_table.specs.Rows.{row_at, cost_at, first_at, before_at, AreWithin, IsFilled, IsAdded, IsFirstRow}
 use Rattle.unit_program.proofs.RowLaws.{cost_from, cost-is, first-is, before-is}
-use Rattle.unit_program.proofs.TableLaws.{table_none, table_skip, table_more, at_once_some, at_once_none}
+use Rattle.unit_program.proofs.TableLaws.{table_none, table_skip, table_more}
 
 module _ (g : ThermalUnit) where
   -- a start in period 1 is of a unit that is off before it
@@ -47,24 +48,9 @@ module _ (g : ThermalUnit) (π : PriceLists) where
       within = added.within;
     }
 
-  -- ---- what ends before period 1
-
-  abbrev pub IsFirstRow : Option Ended → Type 0
-  IsFirstRow o =
-      MatchOption o (IsTrue g.on0 × (StopsAtOnce g → g.min_up ≤ g.up0 → ⊥))
-      (λ e. (e ≡ record { cost = pos 0; first = 0; before = 0 }) × (IsTrue g.on0 → StopsAtOnce g × (g.min_up ≤ g.up0)))
-
-  -- row 0 written where there was none
-  pub begun : (cleared rows : List (Option Ended)) (o : Option Ended) → rows ≡ slice_set cleared 0 o → 0 < length cleared → ((l : ℕ) → row_at cleared l ≡ None) → IsFirstRow o
-      → IsFirstRow (row_at rows 0) × ((l : ℕ) → 1 ≤ l → row_at rows l ≡ None)
-  begun cleared rows o is room none first = (
-    subst IsFirstRow (sym (ap (λ (xs : List (Option Ended)). row_at xs 0) is ∙ get_or-set_same cleared 0 o None room)) first,
-    λ l one. ap (λ (xs : List (Option Ended)). row_at xs l) is ∙ get_or-set_other cleared 0 l o None (λ z. omega (arith, z, one)) ∙ none l,
-  )
-
-  module _ (rows : List (Option Ended)) (first : IsFirstRow (row_at rows 0)) (rest : (l : ℕ) → 1 ≤ l → row_at rows l ≡ None) where
+  module _ (rows : List (Option Ended)) (first : IsFirstRow g (row_at rows 0)) (rest : (l : ℕ) → 1 ≤ l → row_at rows l ≡ None) (within : AreWithin rows) where
     row_of : (e : Ended) → row_at rows 0 ≡ Some e → (e ≡ record { cost = pos 0; first = 0; before = 0 }) × (IsTrue g.on0 → StopsAtOnce g × (g.min_up ≤ g.up0))
-    row_of e is = subst IsFirstRow is first
+    row_of e is = subst (IsFirstRow g) is first
 
     -- each cost is that of row 0, which is 0
     only_first : (l : ℕ) (v : ℤ) → cost_at rows l ≡ Some v → (l ≡ 0) × (v ≡ pos 0) × (row_at rows 0 ≡ Some (record { cost = pos 0; first = 0; before = 0 })) × (IsTrue g.on0 → StopsAtOnce g × (g.min_up ≤ g.up0))
@@ -79,12 +65,9 @@ module _ (g : ThermalUnit) (π : PriceLists) where
         let row = r.1 in
         cc
 
-    pub within_first : AreWithin rows
-    within_first = λ l v is. (let h = only_first l v is in let z = h.1 in record { at_least = omega (arith, ints, z); at_most = omega (arith, ints, z) })
-
     zero_row : IsFalse g.on0 → row_at rows 0 ≡ Some (record { cost = pos 0; first = 0; before = 0 })
     zero_row off = elim (row_at rows 0) as (λ o. row_at rows 0 ≡ o → row_at rows 0 ≡ Some (record { cost = pos 0; first = 0; before = 0 })) [
-      | None ↦ λ is. (let h : IsFirstRow None = subst IsFirstRow is first in let on = h.0 in cc)
+      | None ↦ λ is. (let h : IsFirstRow g None = subst (IsFirstRow g) is first in let on = h.0 in cc)
       | Some e ↦ λ is. is ∙ ap Some (row_of e is).0
     ] refl
 
@@ -98,10 +81,10 @@ module _ (g : ThermalUnit) (π : PriceLists) where
         table_none g π (length π.energy) (cost_at rows) (first_at rows) (before_at rows) (λ _. idle) (λ on. cc) no_cost in
         record {
           table = table_skip g π (length π.energy) 0 (first_at rows) (before_at rows) (cost_at rows) none (λ e l entry spell. (let on = spell.goes_on refl in cc));
-          within = within_first;
+          within = within;
         }
 
-    module _ (on0 : IsTrue g.on0) (some : 1 ≤ length π.energy) (new : List (Option Ended)) (added : IsAdded g π 0 0 (pos 0) rows new) where
+    module _ (at_once : StopsAtOnceCostNothing) (on0 : IsTrue g.on0) (some : 1 ≤ length π.energy) (new : List (Option Ended)) (added : IsAdded g π 0 0 (pos 0) rows new) where
       nets : ℕ → Option ℤ
       nets zero = cost_at rows 0
       nets (suc k) = added.nets (suc k)
@@ -111,13 +94,13 @@ module _ (g : ThermalUnit) (π : PriceLists) where
       right zero spell =
           elim (row_at rows 0) as (λ o. row_at rows 0 ≡ o → IsSpellAnswer g π (length π.energy) 0 0 (option_map (λ (e : Ended). e.cost) o)) [
             | None ↦ λ is.
-                let h : IsFirstRow None = subst IsFirstRow is first in
+                let h : IsFirstRow g None = subst (IsFirstRow g) is first in
                 let up = spell.min_up (omega (arith, some)) in
-                at_once_none g π (length π.energy) some (λ stops. h.1 stops (omega (arith, up)))
+                (at_once g π (length π.energy) some).1 (λ stops. h.1 stops (omega (arith, up)))
             | Some e ↦ λ is.
                 let h = row_of e is in
                 let cost : pos 0 ≡ e.cost = sym (ap (λ (e : Ended). e.cost) h.0) in
-                subst (λ (v : ℤ). IsSpellAnswer g π (length π.energy) 0 0 (Some v)) cost (at_once_some g π (length π.energy) (h.1 on0).0)
+                subst (λ (v : ℤ). IsSpellAnswer g π (length π.energy) 0 0 (Some v)) cost ((at_once g π (length π.energy) some).0 (h.1 on0).0)
           ] refl
       right (suc k) spell = added.right (suc k) (omega arith) spell
 

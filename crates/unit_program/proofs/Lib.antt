@@ -1,35 +1,46 @@
-pub mod BenchLaws
+-- one spell of the way back
 pub mod BackLaws
+-- lists compared from the end, and the order for ties period by period
 pub mod BackwardOrder
+-- what a bench is made for stays
+pub mod BenchLaws
+-- what the way back has written from the least end is a best schedule
 pub mod BestLaws
+-- spells and times off, one after another, make a feasible schedule, whose cost is the sum of theirs
 pub mod BuildLaws
+-- the commitment rules hold exactly where each step keeps them
 pub mod CommitLaws
+-- what a schedule earns is what it costs, period by period, turned round
 pub mod CostLaws
+-- the least of the ends after which the unit may be off to the last period
 pub mod EndLaws
+-- the least entry among those after an ever later on period
 pub mod EntryLaws
+-- the table before any start, and with one more first period
 pub mod FillLaws
+-- one spell of the way back, where the rows are those of the table as far as they are within the limits
 pub mod LimitBackLaws
+-- the rows and the ends as far as they are within the limits
 pub mod LimitLaws
+-- the limits, as they are written from the last period back
 pub mod LimitListLaws
+-- every feasible schedule is a list of spells: from the last period back, by the run or the time off that a period is in
 pub mod ListLaws
-pub mod LiveLaws
-pub mod OriginLaws
-pub mod PeriodLaws
-pub mod RangeLaws
-pub mod RipeLaws
-pub mod RosterLaws
-pub mod RowByRowLaws
+-- a place of a list that a spell left
+pub mod NoteLaws
+-- what is read off rows of the table
 pub mod RowLaws
-pub mod RunAllLaws
+-- least times on and off: by runs, as the rules have them, and by single steps
 pub mod RunLaws
-pub mod RunnerRowLaws
+-- the run that a period of a schedule is in, and what the schedule costs up to it
 pub mod ShapeLaws
+-- the spells from one first period on, as far as the window goes
 pub mod SpanLaws
+-- no feasible schedule costs less than the tables say: by induction over the periods, with the run that a period is in
 pub mod SpellLaws
-pub mod StandInLaws
-pub mod StartCosts
-pub mod StartLaws
+-- one more first period in the table
 pub mod TableLaws
+-- of all schedules that cost the same, what the way back writes is the first: the table names the earliest end, the latest
 pub mod TieLaws
+-- the table after the spells from one first period to an ever later last one
 pub mod UpdateLaws
-pub mod WaysLaws

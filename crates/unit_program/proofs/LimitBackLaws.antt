@@ -5,16 +5,17 @@ use Rattle.std.proofs.lemmas.Int.{ints}
 use Rattle.uc_model.specs.BoundLaws.{StartCostsAreWithin}
 use Rattle.uc_model.specs.Data.{ThermalUnit, PriceLists, Schedule}
 use Rattle.uc_model.specs.Limits.{IsThermalUnit}
-use Rattle.unit_program.specs.declared.table.Ended.{Ended}
+use Rattle.period_table.specs.declared.table.Ended.{Ended}
 use Rattle.unit_program.specs.Backs.{IsWrittenBack}
-use Rattle.unit_program.specs.Limits.{capped, IsRowWithin}
-use Rattle.unit_program.specs.Rows.{row_at, cost_at, first_at, before_at}
-use Rattle.unit_program.specs.Tables.{IsEnded, IsStarted, IsFrom}
+use Rattle.period_table.specs.Laws.{CappedRowsAreRows, StartsAreWithinLimits}
+use Rattle.period_table.specs.Limits.{capped, IsRowWithin}
+use Rattle.period_table.specs.Rows.{row_at, cost_at, first_at, before_at}
+use Rattle.period_table.specs.Tables.{IsEnded, IsStarted, IsFrom}
 use Rattle.unit_program.proofs.BackLaws.{IsRowBack, off_back, ended_of, back_of_row, started}
-use Rattle.unit_program.proofs.LimitLaws.{low_start, row_here, row_real}
+use Rattle.unit_program.proofs.LimitLaws.{row_here, row_real}
 use Rattle.unit_program.proofs.RowLaws.{cost-is}
 
-module _ (g : ThermalUnit) (π : PriceLists) (unit : IsThermalUnit g) (starts : StartCostsAreWithin) (rows : List (Option Ended)) (l : ℕ) (low : l ≤ length π.energy) (within : IsRowWithin g π rows l) where
+module _ (capped_row : CappedRowsAreRows) (low_start : StartsAreWithinLimits) (g : ThermalUnit) (π : PriceLists) (unit : IsThermalUnit g) (starts : StartCostsAreWithin) (rows : List (Option Ended)) (l : ℕ) (low : l ≤ length π.energy) (within : IsRowWithin g π rows l) where
   abbrev limits : ℕ → ℤ
   limits = within.filled.limits
 
@@ -25,7 +26,7 @@ module _ (g : ThermalUnit) (π : PriceLists) (unit : IsThermalUnit g) (starts : 
   low_here v is = (let same : within.value ≡ v = (let e = within.ended in cc) in let under = within.low in omega (arith, ints, same, under))
 
   here : (v : ℤ) → cost_at rows l ≡ Some v → ends l ≡ Some v
-  here v is = row_here g π within.most rows within.filled l v is (low_here v is)
+  here v is = row_here capped_row g π within.most rows within.filled l v is (low_here v is)
 
   from : (v : ℤ) → cost_at rows l ≡ Some v → IsFrom g π (length π.energy) (suc (length π.energy)) ends (first_at rows) (before_at rows) l v
   from v is = within.filled.table.sound l v low is (low_here v is)
@@ -40,10 +41,10 @@ module _ (g : ThermalUnit) (π : PriceLists) (unit : IsThermalUnit g) (starts : 
         let cost = ended.cost in
         let net = ended.least.cost in
         let under = low_here e.cost (cost-is rows l e row) in
-        low_start g π within.most limits within.filled.right unit starts (cost_at rows) e.first e.before l ended.entry_cost ended.least.dispatch ends st ended.spell ended.least.keeps (omega (arith, ints, cost, net, under))
+        low_start g π within.most limits within.filled.right unit starts e.first e.before l ended.entry_cost ended.least.dispatch ends st ended.spell ended.least.keeps (omega (arith, ints, cost, net, under))
 
     prior : (ended : IsEnded g π (length π.energy) ends e.first e.before l e.cost) (st : IsStarted g ends e.first e.before ended.entry_cost) → cost_at rows e.before ≡ Some st.value
-    prior ended st = row_real g π within.most rows within.filled e.before st.value st.ended (value_low ended st)
+    prior ended st = row_real capped_row g π within.most rows within.filled e.before st.value st.ended (value_low ended st)
 
     pub row_back_within : IsRowBack g π rows l e
     row_back_within = back_of_row g π rows l unit.ramp_up.at_least unit.ramp_down.at_least unit.min_down_is_one_or_more ends within.filled.table.complete here from e row on0 prior

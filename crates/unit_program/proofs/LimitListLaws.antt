@@ -15,7 +15,7 @@ use Rattle.uc_model.specs.Limits.{IsFrom, IsOutput, IsPoint, ArePointsOrdered, S
 use Rattle.uc_model.specs.Schedules.{power_in, reserve_in}
 use Rattle.uc_model.specs.Sums.{int_at}
 use Rattle.spell_run.specs.Spells.{net_cost}
-use Rattle.unit_program.specs.Limits.{IsInRange, AreLimits}
+use Rattle.period_table.specs.Limits.{IsInRange, AreLimits}
 use Rattle.uc_model.proofs.IntLaws.{mul-mono_of, mul-add, mul-sub}
 use Rattle.uc_model.proofs.SignedLaws.{IsWithin, stored, stored_is, fits64, product_within}
 

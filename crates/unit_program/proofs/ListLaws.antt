@@ -5,7 +5,7 @@ use Rattle.std.proofs.lemmas.Bool.{cases_lt}
 use Rattle.uc_model.specs.Data.{ThermalUnit, PriceLists, Schedule}
 use Rattle.uc_model.specs.Schedules.{on_in, KeepsDispatch}
 use Rattle.unit_program.specs.Steps.{IsStep}
-use Rattle.unit_program.specs.Spells.{IsOffRun, IsGap}
+use Rattle.period_table.specs.Spells.{IsOffRun, IsGap}
 use Rattle.unit_program.specs.Lists.{Run, HasSpell, AreSpells, IsListOfSpells, SchedulesAreSpells}
 use Rattle.unit_program.proofs.CommitLaws.{steps_from_rules}
 use Rattle.unit_program.proofs.SpellLaws.{dispatch_of_run, not_must_off, not_must_on, runs_must}

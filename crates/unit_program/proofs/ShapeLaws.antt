@@ -7,7 +7,7 @@ use Rattle.uc_model.specs.Data.{ThermalUnit, PriceLists, Schedule}
 use Rattle.uc_model.specs.Schedules.{on_in, time_down}
 use Rattle.uc_model.specs.Earnings.{start_cost_of}
 use Rattle.spell_run.specs.Spells.{net_cost, spell_cost}
-use Rattle.unit_program.specs.Spells.{on_time, off_time, start_cost_after, paid}
+use Rattle.period_table.specs.Spells.{on_time, off_time, start_cost_after, paid}
 use Rattle.unit_program.specs.Steps.{time_up}
 use Rattle.unit_program.proofs.RunLaws.{held-more, held-none}
 use Rattle.unit_program.proofs.CostLaws.{sum_from_to-more, sum_from_to-one}

@@ -7,9 +7,9 @@ use Rattle.std.proofs.lemmas.Bool.Decides.{nat_tests}
 use Rattle.uc_model.specs.Data.{ThermalUnit, PriceLists}
 use Rattle.spell_run.specs.Entries.{entry_of}
 use Rattle.spell_run.specs.Spells.{spell_first, IsSpellAnswer}
-use Rattle.unit_program.specs.declared.table.Ended.{Ended}
-use Rattle.unit_program.specs.Spells.{on_time, IsSpell}
-use Rattle.unit_program.specs.Rows.{net_at, AreWithin, IsAdded, IsOpenUntil}
+use Rattle.period_table.specs.declared.table.Ended.{Ended}
+use Rattle.period_table.specs.Spells.{on_time, IsSpell}
+use Rattle.period_table.specs.Rows.{net_at, AreWithin, IsAdded, IsOpenUntil}
 
 on_time-at_most : (g : ThermalUnit) (first last until : ℕ) → last ≤ until → on_time g first last ≤ on_time g first until
 on_time-at_most g zero last until low = omega (arith, low)

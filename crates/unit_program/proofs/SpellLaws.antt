@@ -11,8 +11,8 @@ use Rattle.uc_model.specs.Schedules.{mark_in}
 use Rattle.uc_model.specs.Schedules.{IsThermalFeasible}
 use Rattle.unit_program.specs.Steps.{IsStep, time_up}
 use Rattle.spell_run.specs.Spells.{over_min, IsDispatch, net_cost, spell_cost}
-use Rattle.unit_program.specs.Spells.{on_time, off_time, IsSpell, IsOffRun, IsGap, start_cost_after, period_cost, paid}
-use Rattle.unit_program.specs.Tables.{HasAtMost, IsEntry, IsComplete}
+use Rattle.period_table.specs.Spells.{on_time, off_time, IsSpell, IsOffRun, IsGap, start_cost_after, period_cost, paid}
+use Rattle.period_table.specs.Tables.{HasAtMost, IsEntry, IsComplete}
 use Rattle.unit_program.proofs.RunLaws.{held-more, held-none}
 use Rattle.unit_program.proofs.CommitLaws.{not_true, steps_from_rules}
 use Rattle.unit_program.proofs.CostLaws.{sum_from_to-more, sum_from_to-one, earnings-paid}

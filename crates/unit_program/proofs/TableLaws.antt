@@ -1,13 +1,12 @@
 -- One more first period in the table.
-use Rattle.std.proofs.Common.{◌≡◌, ℕ, suc, ◌<◌, ◌≤◌, inl, inr, true, false, Option, Some, None, ℤ, pos, ◌+ℤ◌, ◌≤ℤ◌, [], refl, sym, ap, ◌∙◌, subst, arith}
+use Rattle.std.proofs.Common.{◌≡◌, ℕ, suc, ◌<◌, ◌≤◌, inl, inr, true, false, Option, Some, None, ℤ, pos, ◌+ℤ◌, ◌≤ℤ◌, refl, sym, ap, ◌∙◌, subst, arith}
 use Rattle.std.specs.Prelude.{IsTrue, IsFalse}
 use Rattle.std.proofs.lemmas.Int.{ints}
 use Rattle.std.proofs.lemmas.Bool.{cases_lt}
 use Rattle.uc_model.specs.Data.{ThermalUnit, PriceLists, Schedule}
-use Rattle.spell_run.specs.Spells.{IsDispatch, IsSpellAnswer, net_cost, spell_cost}
-use Rattle.unit_program.specs.Spells.{StopsAtOnce, IsSpell}
-use Rattle.unit_program.proofs.CostLaws.{sum_from_to-one}
-use Rattle.unit_program.specs.Tables.{HasAtMost, IsEntryAfter, IsEntry, IsLeastEntry, IsEnded, IsLatest, IsFrom, IsTable, IsUpdate}
+use Rattle.spell_run.specs.Spells.{IsDispatch, IsSpellAnswer, spell_cost}
+use Rattle.period_table.specs.Spells.{IsSpell}
+use Rattle.period_table.specs.Tables.{HasAtMost, IsEntryAfter, IsEntry, IsLeastEntry, IsEnded, IsLatest, IsFrom, IsTable, IsUpdate}
 
 pub at_most_more : (o : Option ℤ) (u v : ℤ) → HasAtMost o u → u ≤ℤ v → HasAtMost o v
 at_most_more o u v h low = let b = h.2 in (h.0, h.1, omega (arith, ints, b, low))
@@ -157,33 +156,3 @@ table_none g π periods ends firsts lasts idle none rest = record {
         ] refl
   ];
 }
-
--- ---- a stop in the first period
-
-pub at_once_some : (g : ThermalUnit) (π : PriceLists) (periods : ℕ) → StopsAtOnce g → IsSpellAnswer g π periods 0 0 (Some (pos 0))
-at_once_some g π periods may =
-    let d : Schedule = record { on = []; power = []; reserve = [] } in
-    let zero_cost : (d : Schedule) → spell_cost g π 0 0 d ≡ pos 0 = λ d. sum_from_to-one (net_cost g π d) 0 in
-    let down = may.down in
-    let up = may.up in
-    record {
-      dispatch = d;
-      keeps = record {
-        least = λ t one from until. absurd (omega (arith, one, until));
-        greatest = λ t one from until. absurd (omega (arith, one, until));
-        start = λ one. absurd (omega (arith, one));
-        enter = λ one. absurd (omega (arith, one));
-        ramp_up = λ k from until. absurd (omega (arith, until));
-        ramp_down = λ k from until. absurd (omega (arith, until));
-        stop = λ inside one. absurd (omega (arith, one));
-        leave = λ inside. may.down;
-        stop_at_once = λ inside none. may.cap;
-        leave_at_once = λ inside none. may.up;
-      };
-      cost = zero_cost d;
-      least = λ d dispatch. (let z = zero_cost d in omega (arith, ints, z));
-    }
-
-pub at_once_none : (g : ThermalUnit) (π : PriceLists) (periods : ℕ) → 1 ≤ periods → (StopsAtOnce g → ⊥) → IsSpellAnswer g π periods 0 0 None
-at_once_none g π periods some may d dispatch =
-    may (record { cap = dispatch.stop_at_once some refl; down = dispatch.leave some; up = dispatch.leave_at_once some refl })

@@ -8,8 +8,8 @@ use Rattle.uc_model.specs.Data.{ThermalUnit, PriceLists, Schedule}
 use Rattle.uc_model.specs.Schedules.{on_in, power_in, reserve_in, IsThermalFeasible}
 use Rattle.spell_run.specs.Spells.{IsDispatch, IsFirstDispatch, spell_cost}
 use Rattle.unit_program.specs.Steps.{IsStep}
-use Rattle.unit_program.specs.Spells.{off_time, IsSpell, IsGap, IsOffRun, start_cost_after, paid}
-use Rattle.unit_program.specs.Tables.{HasAtMost, IsEntryAfter, IsStarted, IsEnded, IsLatest, IsComplete}
+use Rattle.period_table.specs.Spells.{off_time, IsSpell, IsGap, IsOffRun, start_cost_after, paid}
+use Rattle.period_table.specs.Tables.{HasAtMost, IsEntryAfter, IsStarted, IsEnded, IsLatest, IsComplete}
 use Rattle.unit_program.specs.Backs.{IsZeroOff}
 use Rattle.unit_program.specs.Ties.{IsRival, HasSameFlags, HasSamePowers, IsFirstBeside, IsFirstUpTo}
 use Rattle.unit_program.proofs.BackwardOrder.{IsNoLater}

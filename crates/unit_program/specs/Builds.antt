@@ -1,12 +1,14 @@
--- A schedule that keeps the rules of pglib-uc up to a last on period: what the way back has at hand after each spell
--- that it writes.
-use Rattle.std.specs.Prelude.{◌≡◌, ℕ, suc, ◌<◌, ◌≤◌, ℤ, pos, ◌+ℤ◌, ◌-ℤ◌, ◌≤ℤ◌, IsTrue, IsFalse, true, false}
+-- A schedule that keeps the rules of pglib-uc up to a last on period: what the way back has at hand
+-- after each spell that it writes.
+use Rattle.std.specs.Prelude.{◌≡◌, ℕ, suc, ◌<◌, ◌≤◌, ℤ, pos, ◌+ℤ◌, ◌-ℤ◌, ◌≤ℤ◌, IsTrue, IsFalse}
+use Rattle.std.specs.Prelude.{true, false}
 use Rattle.std.specs.Int.{int_min}
 use Rattle.uc_model.specs.Data.{ThermalUnit, PriceLists, Schedule}
-use Rattle.uc_model.specs.Schedules.{on_in, above_min, above_with_reserve, reserve_in, power_in, starts_in, stops_in, cap_of}
+use Rattle.uc_model.specs.Schedules.{on_in, above_min, above_with_reserve, reserve_in, power_in}
+use Rattle.uc_model.specs.Schedules.{starts_in, stops_in, cap_of}
 use Rattle.unit_program.specs.Steps.{IsStep, time_up}
 use Rattle.spell_run.specs.Spells.{over_min}
-use Rattle.unit_program.specs.Spells.{paid}
+use Rattle.period_table.specs.Spells.{paid}
 
 -- what the dispatch rules ask of the step from period k to the next
 pub record IsDispatchStep (g : ThermalUnit) (s : Schedule) (k : ℕ) : Type 0 where
@@ -14,7 +16,8 @@ pub record IsDispatchStep (g : ThermalUnit) (s : Schedule) (k : ℕ) : Type 0 wh
   pub greatest : IsTrue (on_in g s (suc k)) → above_with_reserve g s (suc k) ≤ℤ cap_of g false false
   pub start : IsTrue (starts_in g s (suc k)) → above_with_reserve g s (suc k) ≤ℤ cap_of g true false
   pub stop : 1 ≤ k → IsTrue (stops_in g s (suc k)) → above_with_reserve g s k ≤ℤ cap_of g false true
-  pub stop_at_once : k ≡ 0 → IsTrue (stops_in g s (suc k)) → g.power0 ≤ℤ int_min g.stop_limit g.max_power
+  pub stop_at_once : k ≡ 0 → IsTrue (stops_in g s (suc k)) →
+      g.power0 ≤ℤ int_min g.stop_limit g.max_power
   pub ramp_up : (above_with_reserve g s (suc k) -ℤ above_min g s k) ≤ℤ g.ramp_up
   pub ramp_down : (above_min g s k -ℤ above_min g s (suc k)) ≤ℤ g.ramp_down
 
@@ -26,8 +29,10 @@ pub record MayStop (g : ThermalUnit) (s : Schedule) (l : ℕ) : Type 0 where
   pub down : over_min g s l ≤ℤ g.ramp_down
   pub up : (pos 0 -ℤ over_min g s l) ≤ℤ g.ramp_up
 
--- the steps up to period l are right and cost v; the unit is on in l, or l is 0, and may stop after it
-pub record IsUpTo (g : ThermalUnit) (π : PriceLists) (periods : ℕ) (s : Schedule) (l : ℕ) (v : ℤ) : Type 0 where
+-- the steps up to period l are right and cost v; the unit is on in l, or l is 0, and may stop after
+-- it
+pub record IsUpTo (g : ThermalUnit) (π : PriceLists) (periods : ℕ) (s : Schedule) (l : ℕ) (v : ℤ) :
+    Type 0 where
   pub steps : (k : ℕ) → k < l → IsStep g s k
   pub dispatch : (k : ℕ) → k < l → IsDispatchStep g s k
   pub on : 1 ≤ l → IsTrue (on_in g s l)

@@ -1,14 +1,7 @@
 pub mod Benches
 pub mod Backs
 pub mod Builds
-pub mod Limits
 pub mod Lists
-pub mod Live
-pub mod Origins
-pub mod Rosters
-pub mod Rows
-pub mod Runners
-pub mod Spells
 pub mod Steps
-pub mod Tables
 pub mod Ties
+pub mod NoEnds

@@ -1,5 +1,5 @@
--- The commitment rules of pglib-uc, and of the window (this project's profile), by single steps from a period to the
--- next, with the time that the unit has been on or off.
+-- The commitment rules of pglib-uc, and of the window (this project's profile), by single steps
+-- from a period to the next, with the time that the unit has been on or off.
 use Rattle.std.specs.Prelude.{◌≡◌, ℕ, zero, suc, ◌≤◌, Bool, if◌then◌else◌, IsTrue, IsFalse}
 use Rattle.uc_model.specs.declared.units.Mark.TheVariants.{MustOff, MustOn}
 use Rattle.uc_model.specs.Data.{ThermalUnit, Schedule}
@@ -10,7 +10,8 @@ abbrev pub held : (ℕ → Bool) → ℕ → ℕ → ℕ
 held x n zero = if x 0 then n else 0
 held x n (suc k) = if x (suc k) then suc (held x n k) else 0
 
--- for how many periods the unit has been on at the end of period t, those before the horizon counted
+-- for how many periods the unit has been on at the end of period t, those before the horizon
+-- counted
 abbrev pub time_up : ThermalUnit → Schedule → ℕ → ℕ
 time_up g s t = held (on_in g s) g.up0 t
 

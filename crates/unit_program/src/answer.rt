@@ -1,5 +1,7 @@
 //! The least end of the table, the way back from it, and the least best response.
-ghost use Rattle.std.specs.Prelude.{◌≡◌, ℕ, ◌+◌, ◌*◌, ◌<◌, ◌≤◌, ℤ, pos, neg_ℤ, [], true, false, IsTrue, IsFalse, IfOk, IfSome, IfNone, IsOk, OnOk, length, suc, slice_index, slice_index_or};
+ghost use Rattle.std.specs.Prelude.{◌≡◌, ℕ, ◌+◌, ◌*◌, ◌<◌, ◌≤◌, ℤ, pos, neg_ℤ, [], true, false};
+ghost use Rattle.std.specs.Prelude.{IsTrue, IsFalse, IfOk, IfSome, IfNone, IsOk, OnOk, length, suc};
+ghost use Rattle.std.specs.Prelude.{slice_index, slice_index_or};
 ghost use Rattle.cost_curve.specs.CostCurve.{IsCostCurve};
 ghost use Rattle.shape_law.specs.Cell.{Frame};
 ghost use Rattle.spell_run.specs.Entries.{cells_for};
@@ -11,14 +13,14 @@ ghost use Rattle.uc_model.specs.Schedules.{IsThermalFeasible};
 ghost use Rattle.uc_model.specs.Ties.{IsLeast};
 ghost use Rattle.unit_program.specs.Backs.{IsWritten, IsWrittenBack, IsZeroOff};
 ghost use Rattle.unit_program.specs.Builds.{IsIdle};
-ghost use Rattle.unit_program.specs.Rows.{cost_at, IsWithinTimes, IsFilled};
-ghost use Rattle.unit_program.specs.Spells.{IsOffRun};
-ghost use Rattle.unit_program.specs.Tables.{IsLeastEnd};
+ghost use Rattle.period_table.specs.Rows.{cost_at, IsWithinTimes, IsFilled};
+ghost use Rattle.period_table.specs.Spells.{IsOffRun};
+ghost use Rattle.period_table.specs.Tables.{IsLeastEnd};
 
-use crate::commitment::off_from;
 use crate::program::fill;
-use crate::table::{Ended, Entry, Table, lesser};
 use cost_curve::curves::curve_of;
+use period_table::commitment::off_from;
+use period_table::table::{Ended, Entry, Table, lesser};
 use shape_law::Shape;
 use spell_run::{Spell, SpellCosts, spell_best};
 use std::alloc::{AllocError, Global};
@@ -35,14 +37,17 @@ fn end_at(rows: &[Option<Ended>], last: u32) -> Option<i64>
     }
 }
 
-/// The least cost of all over a unit's horizon of T periods, with the last on period; of equal ones that with the
-/// earliest. None where no schedule is feasible.
+/// The least cost of all over a unit's horizon of T periods, with the last on period; of equal ones
+/// that with the earliest. None where no schedule is feasible.
 pub fn least_end(unit: &Unit, periods: u32, rows: &[Option<Ended>]) -> Option<Entry>
     requires periods { periods ≡ length (thermal_of unit.now).window }
     requires room { periods < length rows.now }
-    ensures some { IfSome result (λ r. IsLeastEnd (thermal_of unit.now) periods (cost_at rows.now) r.last r.cost) }
-    ensures earliest { IfSome result (λ r. (k : ℕ) → cost_at rows.now k ≡ Some r.cost → IsOffRun (thermal_of unit.now) k periods → r.last ≤ k) }
-    ensures none { IfNone result ((l : ℕ) (v : ℤ) → cost_at rows.now l ≡ Some v → IsOffRun (thermal_of unit.now) l periods → ⊥) }
+    ensures some { IfSome result (λ r. IsLeastEnd (thermal_of unit.now) periods (cost_at rows.now)
+        r.last r.cost) }
+    ensures earliest { IfSome result (λ r. (k : ℕ) → cost_at rows.now k ≡ Some r.cost
+        → IsOffRun (thermal_of unit.now) k periods → r.last ≤ k) }
+    ensures none { IfNone result ((l : ℕ) (v : ℤ) → cost_at rows.now l ≡ Some v
+        → IsOffRun (thermal_of unit.now) l periods → ⊥) }
 {
     let mut least: Option<Entry> = None;
     for last in off_from(unit, periods)..periods + 1 {
@@ -51,7 +56,8 @@ pub fn least_end(unit: &Unit, periods: u32, rows: &[Option<Ended>]) -> Option<En
     least
 }
 
-// Writes a dispatch of least net cost of the spell from `first` to `last`; nothing where it ends before period 1.
+// Writes a dispatch of least net cost of the spell from `first` to `last`; nothing where it ends
+// before period 1.
 fn write_spell<S: Shape>(
     home: &mut S::Home,
     unit: &Unit,
@@ -66,13 +72,22 @@ fn write_spell<S: Shape>(
     requires end { last ≤ length (prices_of prices.now).energy }
     requires goes_on { first ≡ 0 → IsTrue unit.now.on0 }
     requires starts { first ≡ 1 → IsFalse unit.now.on0 }
-    requires least { (net : ℤ) × IsLeastSpell (thermal_of unit.now) (prices_of prices.now) (length (prices_of prices.now).energy) first last net }
-    requires into { length (schedule_of into.old.response).on ≡ length (prices_of prices.now).energy }
-    ensures written { OnOk result (IsWritten (thermal_of unit.now) (prices_of prices.now) (length (prices_of prices.now).energy) first last (schedule_of into.old.response) (schedule_of into.new.response)) }
-    ensures length { length (schedule_of into.new.response).on ≡ length (schedule_of into.old.response).on }
+    requires least { (net : ℤ)
+        × IsLeastSpell (thermal_of unit.now) (prices_of prices.now)
+        (length (prices_of prices.now).energy) first last net }
+    requires into { length (schedule_of into.old.response).on
+        ≡ length (prices_of prices.now).energy }
+    ensures written { OnOk result
+        (IsWritten (thermal_of unit.now) (prices_of prices.now)
+        (length (prices_of prices.now).energy) first last (schedule_of into.old.response)
+        (schedule_of into.new.response)) }
+    ensures length { length (schedule_of into.new.response).on
+        ≡ length (schedule_of into.old.response).on }
     ensures frame { Frame S.Home.cell_list S.is_in S.numbers [] [] home.old home.new }
     ensures sure { S.Home.counts ≡ true → S.Home.sure home.new ≡ S.Home.sure home.old }
-    ensures enough { S.Home.counts ≡ true → cells_for (length (prices_of prices.now).energy) (length (thermal_of unit.now).points) ≤ S.Home.sure home.old → IsOk result }
+    ensures enough { S.Home.counts ≡ true
+        → cells_for (length (prices_of prices.now).energy) (length (thermal_of unit.now).points)
+        ≤ S.Home.sure home.old → IsOk result }
 {
     if last == 0 {
         return Ok(());
@@ -106,17 +121,24 @@ fn write_back<S: Shape>(
     into: &mut Answered,
 ) -> Result<(), AllocError>
     requires curve { IsCostCurve (thermal_of unit.now).points curve.now }
-    requires filled { IsFilled (thermal_of unit.now) (prices_of prices.now) (suc (length (prices_of prices.now).energy)) rows.now }
+    requires filled { IsFilled (thermal_of unit.now) (prices_of prices.now)
+        (suc (length (prices_of prices.now).energy)) rows.now }
     requires room { length (prices_of prices.now).energy < length rows.now }
     requires last { last ≤ length (prices_of prices.now).energy }
     requires ended { (v : ℤ) × (cost_at rows.now last ≡ Some v) }
-    requires into { length (schedule_of into.old.response).on ≡ length (prices_of prices.now).energy }
+    requires into { length (schedule_of into.old.response).on
+        ≡ length (prices_of prices.now).energy }
     requires idle { IsIdle (thermal_of unit.now) (schedule_of into.old.response) 0 last }
-    ensures written { OnOk result (IsWrittenBack (thermal_of unit.now) (prices_of prices.now) rows.now last (schedule_of into.old.response) (schedule_of into.new.response)) }
-    ensures length { length (schedule_of into.new.response).on ≡ length (schedule_of into.old.response).on }
+    ensures written { OnOk result
+        (IsWrittenBack (thermal_of unit.now) (prices_of prices.now) rows.now last
+        (schedule_of into.old.response) (schedule_of into.new.response)) }
+    ensures length { length (schedule_of into.new.response).on
+        ≡ length (schedule_of into.old.response).on }
     ensures frame { Frame S.Home.cell_list S.is_in S.numbers [] [] home.old home.new }
     ensures sure { S.Home.counts ≡ true → S.Home.sure home.new ≡ S.Home.sure home.old }
-    ensures enough { S.Home.counts ≡ true → cells_for (length (prices_of prices.now).energy) (length (thermal_of unit.now).points) ≤ S.Home.sure home.old → IsOk result }
+    ensures enough { S.Home.counts ≡ true
+        → cells_for (length (prices_of prices.now).energy) (length (thermal_of unit.now).points)
+        ≤ S.Home.sure home.old → IsOk result }
 {
     let Some(ended) = rows[last as usize] else {
         return Ok(());
@@ -136,7 +158,8 @@ pub(crate) fn clear(into: &mut Answered)
     ensures off { (k : ℕ) → slice_index_or (schedule_of into.new.response).on k false ≡ false }
     ensures power { (k : ℕ) → slice_index (schedule_of into.new.response).power k ≡ 0 }
     ensures reserve { (k : ℕ) → slice_index (schedule_of into.new.response).reserve k ≡ 0 }
-    ensures length { length (schedule_of into.new.response).on ≡ length (schedule_of into.old.response).on }
+    ensures length { length (schedule_of into.new.response).on
+        ≡ length (schedule_of into.old.response).on }
 {
     for place in 0..into.response.on.len() {
         into.response.on.set(place, false);
@@ -153,10 +176,11 @@ pub(crate) fn negated(cost: i64) -> i64
     0 - cost
 }
 
-/// Leaves in `into` the least best response, which the table names from the earliest of its least ends, and what it earns.
-/// Unit, prices and `into` are over the same periods, `curve` is the curve of the unit's points, and the rows are filled.
-/// Takes no memory but for the shapes, which are given back. In a home that counts it answers Ok where the home has
-/// (T + 2) * (1 + T * (2L + 3)) cells to give, for L cost points. After an error `into` is open.
+/// Leaves in `into` the least best response, which the table names from the earliest of its least
+/// ends, and what it earns. Unit, prices and `into` are over the same periods, `curve` is the curve
+/// of the unit's points, and the rows are filled. Takes no memory but for the shapes, which are
+/// given back. In a home that counts it answers Ok where the home has (T + 2) * (1 + T * (2L + 3))
+/// cells to give, for L cost points. After an error `into` is open.
 pub fn write_best<S: Shape>(
     home: &mut S::Home,
     unit: &Unit,
@@ -167,17 +191,28 @@ pub fn write_best<S: Shape>(
     into: &mut Answered,
 ) -> Result<(), AllocError>
     requires curve { IsCostCurve (thermal_of unit.now).points curve.now }
-    requires filled { IsFilled (thermal_of unit.now) (prices_of prices.now) (suc (length (prices_of prices.now).energy)) rows.now }
+    requires filled { IsFilled (thermal_of unit.now) (prices_of prices.now)
+        (suc (length (prices_of prices.now).energy)) rows.now }
     requires room { length (prices_of prices.now).energy < length rows.now }
-    requires end { IsLeastEnd (thermal_of unit.now) (length (prices_of prices.now).energy) (cost_at rows.now) end.now.last end.now.cost }
-    requires earliest { (k : ℕ) → cost_at rows.now k ≡ Some end.now.cost → IsOffRun (thermal_of unit.now) k (length (prices_of prices.now).energy) → end.now.last ≤ k }
-    requires into { length (schedule_of into.old.response).on ≡ length (prices_of prices.now).energy }
-    ensures best { OnOk result (IsBest (Thermal (thermal_of unit.now)) (prices_of prices.now) (schedule_of into.new.response)) }
-    ensures least { OnOk result (IsLeast (Thermal (thermal_of unit.now)) (prices_of prices.now) (schedule_of into.new.response)) }
-    ensures earned { OnOk result (into.new.earned ≡ earnings (Thermal (thermal_of unit.now)) (prices_of prices.now) (schedule_of into.new.response)) }
+    requires end { IsLeastEnd (thermal_of unit.now) (length (prices_of prices.now).energy)
+        (cost_at rows.now) end.now.last end.now.cost }
+    requires earliest { (k : ℕ) → cost_at rows.now k ≡ Some end.now.cost
+        → IsOffRun (thermal_of unit.now) k (length (prices_of prices.now).energy)
+        → end.now.last ≤ k }
+    requires into { length (schedule_of into.old.response).on
+        ≡ length (prices_of prices.now).energy }
+    ensures best { OnOk result (IsBest (Thermal (thermal_of unit.now)) (prices_of prices.now)
+        (schedule_of into.new.response)) }
+    ensures least { OnOk result (IsLeast (Thermal (thermal_of unit.now)) (prices_of prices.now)
+        (schedule_of into.new.response)) }
+    ensures earned { OnOk result (into.new.earned
+        ≡ earnings (Thermal (thermal_of unit.now)) (prices_of prices.now)
+        (schedule_of into.new.response)) }
     ensures frame { Frame S.Home.cell_list S.is_in S.numbers [] [] home.old home.new }
     ensures sure { S.Home.counts ≡ true → S.Home.sure home.new ≡ S.Home.sure home.old }
-    ensures enough { S.Home.counts ≡ true → cells_for (length (prices_of prices.now).energy) (length (thermal_of unit.now).points) ≤ S.Home.sure home.old → IsOk result }
+    ensures enough { S.Home.counts ≡ true
+        → cells_for (length (prices_of prices.now).energy) (length (thermal_of unit.now).points)
+        ≤ S.Home.sure home.old → IsOk result }
 {
     clear(into);
     write_back::<S>(home, unit, curve, prices, rows, end.last, into)?;
@@ -185,15 +220,16 @@ pub fn write_best<S: Shape>(
     Ok(())
 }
 
-/// The least best response of a thermal unit to prices over its horizon, with what it earns in money; None exactly where
-/// no schedule of the unit is feasible. Its powers and reserves are in kilowatts, its lists have an entry for each period.
+/// The least best response of a thermal unit to prices over its horizon, with what it earns in
+/// money; None exactly where no schedule of the unit is feasible. Its powers and reserves are in
+/// kilowatts, its lists have an entry for each period.
 ///
-/// Of several best responses the least is the first by on flags, off first, then by powers, and then by reserves, less
-/// first, each compared from the last period back.
+/// Of several best responses the least is the first by on flags, off first, then by powers, and
+/// then by reserves, less first, each compared from the last period back.
 ///
-/// Shapes of the type `S` are taken from the home and given back, so a home that counts can give as many cells
-/// afterwards as before, whatever the answer is. `AllocError` comes for want of memory alone, or from a home without
-/// enough cells.
+/// Shapes of the type `S` are taken from the home and given back, so a home that counts can give as
+/// many cells afterwards as before, whatever the answer is. `AllocError` comes for want of memory
+/// alone, or from a home without enough cells.
 pub fn best_response<S: Shape>(
     alloc: Global,
     home: &mut S::Home,
@@ -201,10 +237,17 @@ pub fn best_response<S: Shape>(
     prices: &Prices,
 ) -> Result<Option<Answered>, AllocError>
     requires { length (thermal_of unit.now).window ≡ length (prices_of prices.now).energy }
-    ensures best { IfOk result (λ o. IfSome o (λ a. IsBest (Thermal (thermal_of unit.now)) (prices_of prices.now) (schedule_of a.response))) }
-    ensures least { IfOk result (λ o. IfSome o (λ a. IsLeast (Thermal (thermal_of unit.now)) (prices_of prices.now) (schedule_of a.response))) }
-    ensures earned { IfOk result (λ o. IfSome o (λ a. a.earned ≡ earnings (Thermal (thermal_of unit.now)) (prices_of prices.now) (schedule_of a.response))) }
-    ensures none { IfOk result (λ o. IfNone o ((s : Schedule) → IsThermalFeasible (thermal_of unit.now) (length (prices_of prices.now).energy) s → ⊥)) }
+    ensures best { IfOk result
+        (λ o. IfSome o (λ a. IsBest (Thermal (thermal_of unit.now)) (prices_of prices.now)
+        (schedule_of a.response))) }
+    ensures least { IfOk result
+        (λ o. IfSome o (λ a. IsLeast (Thermal (thermal_of unit.now)) (prices_of prices.now)
+        (schedule_of a.response))) }
+    ensures earned { IfOk result
+        (λ o. IfSome o (λ a. a.earned ≡ earnings (Thermal (thermal_of unit.now))
+        (prices_of prices.now) (schedule_of a.response))) }
+    ensures none { IfOk result (λ o. IfNone o ((s : Schedule)
+        → IsThermalFeasible (thermal_of unit.now) (length (prices_of prices.now).energy) s → ⊥)) }
     ensures sure { S.Home.counts ≡ true → S.Home.sure home.new ≡ S.Home.sure home.old }
     ensures frame { Frame S.Home.cell_list S.is_in S.numbers [] [] home.old home.new }
 {

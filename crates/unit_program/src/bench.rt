@@ -1,5 +1,6 @@
 //! What answers need, taken once: with a bench an answer takes no memory.
-ghost use Rattle.std.specs.Prelude.{◌≡◌, ℕ, ◌≤◌, ℤ, pos, neg_ℤ, ◌+ℤ◌, ◌≤ℤ◌, length, IsTrue, IsFalse, IfOk, IfSome, IfNone, Some};
+ghost use Rattle.std.specs.Prelude.{◌≡◌, ℕ, ◌≤◌, ℤ, pos, neg_ℤ, ◌+ℤ◌, ◌≤ℤ◌, length, IsTrue};
+ghost use Rattle.std.specs.Prelude.{IsFalse, IfOk, IfSome, IfNone, Some};
 ghost use Rattle.uc_model.specs.Data.{Schedule, Thermal};
 ghost use Rattle.uc_model.specs.Earnings.{earnings, IsBest};
 ghost use Rattle.uc_model.specs.PlainUnits.{thermal_of, prices_of, schedule_of};
@@ -7,31 +8,32 @@ ghost use Rattle.uc_model.specs.Schedules.{IsThermalFeasible};
 ghost use Rattle.uc_model.specs.Ties.{IsLeast};
 ghost use Rattle.unit_program.specs.Benches.{IsBenchFor};
 ghost use Rattle.slope_list.specs.Slopes.{room_of};
-ghost use Rattle.unit_program.specs.Live.{left_at, HaveRoom};
+ghost use Rattle.period_table.specs.Live.{left_at, HaveRoom};
 ghost use Rattle.uc_model.specs.Limits.{IsFrom};
-ghost use Rattle.unit_program.specs.Limits.{IsFilledWithin, IsEndWithin, EachCostsMore};
-ghost use Rattle.unit_program.specs.Rows.{cost_at, first_at};
-ghost use Rattle.unit_program.specs.Runners.{HaveWays};
+ghost use Rattle.period_table.specs.Limits.{IsFilledWithin, IsEndWithin, EachCostsMore};
+ghost use Rattle.period_table.specs.Rows.{cost_at, first_at};
+ghost use Rattle.period_table.specs.Runners.{HaveWays};
 
 use crate::answer::least_end;
 use crate::kept::{Kept, NO_BOUND, guess_of, keep_answer};
 use crate::limits::fill_limits;
-use crate::origins::Origins;
-use crate::periods::fill_by_periods;
-use crate::roster::Roster;
-use crate::runner::Runner;
-use crate::table::{Entry, Table};
 use crate::way::write_noted;
 use cost_curve::curves::curve_into;
+use period_table::laws::limits_keep_rows;
+use period_table::origins::Origins;
+use period_table::periods::fill_by_periods;
+use period_table::roster::Roster;
+use period_table::runner::Runner;
+use period_table::table::{Entry, Table};
 use slope_list::Slopes;
-use spell_run::{Note, Passed, Running};
+use spell_run::Running;
 use std::alloc::{AllocError, Global};
 use uc_model::laws::earnings_are_within;
 use uc_model::lists::{Numbers, ReservedList};
 use uc_model::units::{Answered, Blocks, Curve, Prices, Unit};
 
-/// Memory for the answers of units over so many periods, with so many cost points. What it holds between two calls is
-/// open.
+/// Memory for the answers of units over so many periods, with so many cost points. What it holds
+/// between two calls is open.
 #[derive(Drop)]
 pub struct Bench<R> {
     pub curve: Curve,
@@ -58,16 +60,10 @@ fn make_runners(alloc: Global, count: u32, pieces: usize) -> Result<Vec<Runner<S
     ensures count { IfOk result (λ v. length v.items ≡ count) }
     ensures room { IfOk result (λ v. HaveRoom room_of pieces count v.items) }
 {
-    let note = Note {
-        turn: 0,
-        first: 0,
-        last: 0,
-    };
-    let nothing = Passed { note, end: None };
     let mut runners = Vec::with_capacity(alloc, count as usize)?;
     for _ in 0..count {
         let running = Slopes::make(alloc, pieces)?;
-        let passed = ReservedList::filled(alloc, count, nothing)?;
+        let passed = ReservedList::make(alloc, count)?;
         let runner = Runner {
             is_on: false,
             cost: 0,
@@ -114,10 +110,11 @@ impl Bench<Slopes> {
 }
 
 impl<R> Bench<R> {
-    /// Room for the last answers of so many units over so many periods, which takes memory. An answer is found sooner where
-    /// the last one of its unit is kept.
+    /// Room for the last answers of so many units over so many periods, which takes memory. An
+    /// answer is found sooner where the last one of its unit is kept.
     pub fn keep_for(&mut self, alloc: Global, units: u32, periods: u32) -> Result<(), AllocError>
-        ensures bench { (room : R → ℕ) (periods points : ℕ) → IsBenchFor room periods points self.old → IsBenchFor room periods points self.new }
+        ensures bench { (room : R → ℕ) (periods points : ℕ)
+            → IsBenchFor room periods points self.old → IsBenchFor room periods points self.new }
     {
         let mut kept = Vec::with_capacity(alloc, units as usize)?;
         for _ in 0..units {
@@ -130,7 +127,8 @@ impl<R> Bench<R> {
 
     /// Says the number of the unit that is asked next. The answer is the same whatever it is.
     pub fn ask_for(&mut self, number: u32)
-        ensures bench { (room : R → ℕ) (periods points : ℕ) → IsBenchFor room periods points self.old → IsBenchFor room periods points self.new }
+        ensures bench { (room : R → ℕ) (periods points : ℕ)
+            → IsBenchFor room periods points self.old → IsBenchFor room periods points self.new }
     {
         self.number = number;
     }
@@ -140,10 +138,15 @@ impl<R> Bench<R> {
 fn fill_bench<R: Running>(bench: &mut Bench<R>, unit: &Unit, prices: &Prices, most: i64)
     requires horizon { length (thermal_of unit.now).window ≡ length (prices_of prices.now).energy }
     requires most { IsFrom (neg_ℤ (pos 4000000000000000000)) (pos 4000000000000000000) most }
-    requires bench { IsBenchFor R.room (length (prices_of prices.now).energy) (length (thermal_of unit.now).points) bench.old }
-    ensures filled { IsFilledWithin (thermal_of unit.now) (prices_of prices.now) most bench.new.table.items }
-    ensures ways { HaveWays (thermal_of unit.now) (prices_of prices.now) (length (prices_of prices.now).energy) (cost_at bench.new.table.items) (first_at bench.new.table.items) (left_at bench.new.runners.items) }
-    ensures bench { (periods points : ℕ) → IsBenchFor R.room periods points bench.old → IsBenchFor R.room periods points bench.new }
+    requires bench { IsBenchFor R.room (length (prices_of prices.now).energy)
+        (length (thermal_of unit.now).points) bench.old }
+    ensures filled { IsFilledWithin (thermal_of unit.now) (prices_of prices.now) most
+        bench.new.table.items }
+    ensures ways { HaveWays (thermal_of unit.now) (prices_of prices.now)
+        (length (prices_of prices.now).energy) (cost_at bench.new.table.items)
+        (first_at bench.new.table.items) (left_at bench.new.runners.items) }
+    ensures bench { (periods points : ℕ) → IsBenchFor R.room periods points bench.old
+        → IsBenchFor R.room periods points bench.new }
 {
     curve_into(unit.points.as_slice(), &mut bench.curve);
     fill_limits(unit, prices, most, &mut bench.limits);
@@ -185,25 +188,38 @@ fn find_within<R: Running>(
 ) -> Option<Entry>
     requires horizon { length (thermal_of unit.now).window ≡ length (prices_of prices.now).energy }
     requires most { IsFrom (neg_ℤ (pos 4000000000000000000)) (pos 4000000000000000000) most }
-    requires bench { IsBenchFor R.room (length (prices_of prices.now).energy) (length (thermal_of unit.now).points) bench.old }
-    ensures some { IfSome result (λ e. IsEndWithin (thermal_of unit.now) (prices_of prices.now) bench.new.table.items e.last e.cost) }
+    requires bench { IsBenchFor R.room (length (prices_of prices.now).energy)
+        (length (thermal_of unit.now).points) bench.old }
+    ensures some { IfSome result (λ e. IsEndWithin (thermal_of unit.now) (prices_of prices.now)
+        bench.new.table.items e.last e.cost) }
     ensures none { IfNone result (EachCostsMore (thermal_of unit.now) (prices_of prices.now) most) }
-    ensures ways { HaveWays (thermal_of unit.now) (prices_of prices.now) (length (prices_of prices.now).energy) (cost_at bench.new.table.items) (first_at bench.new.table.items) (left_at bench.new.runners.items) }
-    ensures bench { (periods points : ℕ) → IsBenchFor R.room periods points bench.old → IsBenchFor R.room periods points bench.new }
+    ensures ways { HaveWays (thermal_of unit.now) (prices_of prices.now)
+        (length (prices_of prices.now).energy) (cost_at bench.new.table.items)
+        (first_at bench.new.table.items) (left_at bench.new.runners.items) }
+    ensures bench { (periods points : ℕ) → IsBenchFor R.room periods points bench.old
+        → IsBenchFor R.room periods points bench.new }
 {
+    limits_keep_rows();
     fill_bench(bench, unit, prices, most);
     let periods = prices.energy.len() as u32;
     at_most(least_end(unit, periods, bench.table.as_slice()), most)
 }
 
-// Fills a bench, and answers the least end: within what is guessed, or else within what any schedule may cost.
+// Fills a bench, and answers the least end: within what is guessed, or else within what any
+// schedule may cost.
 fn find_end<R: Running>(bench: &mut Bench<R>, unit: &Unit, prices: &Prices) -> Option<Entry>
     requires horizon { length (thermal_of unit.now).window ≡ length (prices_of prices.now).energy }
-    requires bench { IsBenchFor R.room (length (prices_of prices.now).energy) (length (thermal_of unit.now).points) bench.old }
-    ensures some { IfSome result (λ e. IsEndWithin (thermal_of unit.now) (prices_of prices.now) bench.new.table.items e.last e.cost) }
-    ensures none { IfNone result ((s : Schedule) → IsThermalFeasible (thermal_of unit.now) (length (prices_of prices.now).energy) s → ⊥) }
-    ensures ways { HaveWays (thermal_of unit.now) (prices_of prices.now) (length (prices_of prices.now).energy) (cost_at bench.new.table.items) (first_at bench.new.table.items) (left_at bench.new.runners.items) }
-    ensures bench { (periods points : ℕ) → IsBenchFor R.room periods points bench.old → IsBenchFor R.room periods points bench.new }
+    requires bench { IsBenchFor R.room (length (prices_of prices.now).energy)
+        (length (thermal_of unit.now).points) bench.old }
+    ensures some { IfSome result (λ e. IsEndWithin (thermal_of unit.now) (prices_of prices.now)
+        bench.new.table.items e.last e.cost) }
+    ensures none { IfNone result ((s : Schedule)
+        → IsThermalFeasible (thermal_of unit.now) (length (prices_of prices.now).energy) s → ⊥) }
+    ensures ways { HaveWays (thermal_of unit.now) (prices_of prices.now)
+        (length (prices_of prices.now).energy) (cost_at bench.new.table.items)
+        (first_at bench.new.table.items) (left_at bench.new.runners.items) }
+    ensures bench { (periods points : ℕ) → IsBenchFor R.room periods points bench.old
+        → IsBenchFor R.room periods points bench.new }
 {
     earnings_are_within();
     let guess = guess_of(bench.kept.as_slice(), bench.number, prices);
@@ -213,10 +229,11 @@ fn find_end<R: Running>(bench: &mut Bench<R>, unit: &Unit, prices: &Prices) -> O
     find_within(bench, unit, prices, NO_BOUND)
 }
 
-/// The least best response of a thermal unit to prices over its horizon, as `best_response` answers it: leaves it in
-/// `into`, with what it earns, and answers true; or answers false exactly where no schedule of the unit is feasible, and
-/// `into` is unchanged. The bench suffices for the prices' periods and the unit's cost points, and for all that it
-/// sufficed for afterwards. Takes no memory.
+/// The least best response of a thermal unit to prices over its horizon, as `best_response` answers
+/// it: leaves it in `into`, with what it earns, and answers true; or answers false exactly where no
+/// schedule of the unit is feasible, and `into` is unchanged. The bench suffices for the prices'
+/// periods and the unit's cost points, and for all that it sufficed for afterwards. Takes no
+/// memory.
 pub fn least_in_place<R: Running>(
     bench: &mut Bench<R>,
     unit: &Unit,
@@ -224,14 +241,24 @@ pub fn least_in_place<R: Running>(
     into: &mut Answered,
 ) -> bool
     requires horizon { length (thermal_of unit.now).window ≡ length (prices_of prices.now).energy }
-    requires bench { IsBenchFor R.room (length (prices_of prices.now).energy) (length (thermal_of unit.now).points) bench.old }
-    requires into { length (schedule_of into.old.response).on ≡ length (prices_of prices.now).energy }
-    ensures best { IsTrue result → IsBest (Thermal (thermal_of unit.now)) (prices_of prices.now) (schedule_of into.new.response) }
-    ensures least { IsTrue result → IsLeast (Thermal (thermal_of unit.now)) (prices_of prices.now) (schedule_of into.new.response) }
-    ensures earned { IsTrue result → into.new.earned ≡ earnings (Thermal (thermal_of unit.now)) (prices_of prices.now) (schedule_of into.new.response) }
-    ensures none { IsFalse result → (s : Schedule) → IsThermalFeasible (thermal_of unit.now) (length (prices_of prices.now).energy) s → ⊥ }
+    requires bench { IsBenchFor R.room (length (prices_of prices.now).energy)
+        (length (thermal_of unit.now).points) bench.old }
+    requires into { length (schedule_of into.old.response).on
+        ≡ length (prices_of prices.now).energy }
+    ensures best { IsTrue result
+        → IsBest (Thermal (thermal_of unit.now)) (prices_of prices.now)
+        (schedule_of into.new.response) }
+    ensures least { IsTrue result
+        → IsLeast (Thermal (thermal_of unit.now)) (prices_of prices.now)
+        (schedule_of into.new.response) }
+    ensures earned { IsTrue result → into.new.earned
+        ≡ earnings (Thermal (thermal_of unit.now)) (prices_of prices.now)
+        (schedule_of into.new.response) }
+    ensures none { IsFalse result → (s : Schedule)
+        → IsThermalFeasible (thermal_of unit.now) (length (prices_of prices.now).energy) s → ⊥ }
     ensures same { IsFalse result → into.new ≡ into.old }
-    ensures bench { (periods points : ℕ) → IsBenchFor R.room periods points bench.old → IsBenchFor R.room periods points bench.new }
+    ensures bench { (periods points : ℕ) → IsBenchFor R.room periods points bench.old
+        → IsBenchFor R.room periods points bench.new }
 {
     let Some(end) = find_end(bench, unit, prices) else {
         return false;

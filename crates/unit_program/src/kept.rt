@@ -1,7 +1,8 @@
 //! A unit's last answer, kept as a guess of what the next one costs.
 //!
-//! An answer costs the same beside what prices pay, whatever they are. So at other prices it costs about as much as the best
-//! one there, if these aren't far. Nothing rests on what is kept: it may be any answer.
+//! An answer costs the same beside what prices pay, whatever they are. So at other prices it costs
+//! about as much as the best one there, if these aren't far. Nothing rests on what is kept: it may
+//! be any answer.
 ghost use Rattle.std.specs.Prelude.{pos, neg_ℤ};
 ghost use Rattle.uc_model.specs.Limits.{IsFrom};
 
@@ -79,7 +80,8 @@ impl Kept {
     }
 }
 
-/// What the answer of the unit of a number costs at prices, and an amount that nothing costs where none is kept.
+/// What the answer of the unit of a number costs at prices, and an amount that nothing costs where
+/// none is kept.
 pub fn guess_of(kept: &[Kept], number: u32, prices: &Prices) -> i64
     ensures { IsFrom (neg_ℤ (pos 4000000000000000000)) (pos 4000000000000000000) result }
 {

@@ -1,14 +1,16 @@
 //! What all up to a period may cost where the whole is to cost no more than an amount.
 //!
-//! A period that the unit is on in costs no less than it would alone, with no ramps and no limits of starts and stops. So
-//! what is above the amount and all that later periods may earn is never within the amount.
-ghost use Rattle.std.specs.Prelude.{◌≡◌, ℕ, ◌<◌, ◌≤◌, ℤ, pos, neg_ℤ, ◌+ℤ◌, ◌-ℤ◌, ◌*ℤ◌, ◌≤ℤ◌, length};
+//! A period that the unit is on in costs no less than it would alone, with no ramps and no limits
+//! of starts and stops. So what is above the amount and all that later periods may earn is never
+//! within the amount.
+ghost use Rattle.std.specs.Prelude.{◌≡◌, ℕ, ◌<◌, ◌≤◌, ℤ, pos, neg_ℤ, ◌+ℤ◌, ◌-ℤ◌, ◌*ℤ◌, ◌≤ℤ◌};
+ghost use Rattle.std.specs.Prelude.{length};
 ghost use Rattle.std.specs.List.{All};
 ghost use Rattle.uc_model.specs.Envelope.{envelope};
 ghost use Rattle.uc_model.specs.Limits.{IsFrom, IsPoint};
 ghost use Rattle.uc_model.specs.PlainUnits.{thermal_of, prices_of};
 ghost use Rattle.uc_model.specs.Sums.{int_at};
-ghost use Rattle.unit_program.specs.Limits.{AreLimits};
+ghost use Rattle.period_table.specs.Limits.{AreLimits};
 
 use cost_curve::laws::envelope_earns_as_points;
 use uc_model::lists::Numbers;
@@ -38,12 +40,14 @@ fn least_net(points: &[Point], price: i64) -> i64
     least
 }
 
-// At most 0, and at most what a period at those prices costs where the unit is on, whatever its power and reserve.
+// At most 0, and at most what a period at those prices costs where the unit is on, whatever its
+// power and reserve.
 fn least_of_period(unit: &Unit, energy: i64, reserve: i64) -> i64
     requires energy { IsFrom (neg_ℤ (pos 10000000)) (pos 10000000) energy }
     requires reserve { IsFrom (pos 0) (pos 10000000) reserve }
     ensures bound { IsFrom (neg_ℤ (pos 20110000000000000)) (pos 0) result }
-    ensures least { (p r : ℤ) → unit.now.min_power ≤ℤ p → (p +ℤ r) ≤ℤ unit.now.max_power → pos 0 ≤ℤ r →
+    ensures least { (p r : ℤ) → unit.now.min_power ≤ℤ p → (p +ℤ r) ≤ℤ unit.now.max_power
+        → pos 0 ≤ℤ r →
         result ≤ℤ (envelope (thermal_of unit.now).points p -ℤ ((energy *ℤ p) +ℤ (reserve *ℤ r))) }
 {
     envelope_earns_as_points();
@@ -51,12 +55,14 @@ fn least_of_period(unit: &Unit, energy: i64, reserve: i64) -> i64
     (least - reserve * unit.max_power).min(0)
 }
 
-/// Writes the limits of a unit at prices over T periods: at place t what all up to the end of period t may cost where the
-/// whole costs at most `most`, in money. There are at least T + 1 places. `most` is within 4 * 10^18.
+/// Writes the limits of a unit at prices over T periods: at place t what all up to the end of
+/// period t may cost where the whole costs at most `most`, in money. There are at least T + 1
+/// places. `most` is within 4 * 10^18.
 pub fn fill_limits(unit: &Unit, prices: &Prices, most: i64, limits: &mut Numbers)
     requires most { IsFrom (neg_ℤ (pos 4000000000000000000)) (pos 4000000000000000000) most }
     requires room { length (prices_of prices.now).energy < length limits.old.items }
-    ensures limits { AreLimits (thermal_of unit.now) (prices_of prices.now) most (int_at limits.new.items) }
+    ensures limits { AreLimits (thermal_of unit.now) (prices_of prices.now) most
+        (int_at limits.new.items) }
     ensures length { length limits.new.items ≡ length limits.old.items }
 {
     let periods = prices.energy.len();

@@ -1,20 +1,23 @@
 //! The table filled, from the first period on.
-ghost use Rattle.std.specs.Prelude.{◌≡◌, ℕ, ◌+◌, ◌*◌, ◌<◌, ◌≤◌, pos, [], true, IsTrue, IsFalse, MatchOption, OnOk, IsOk, length, suc, None, Some};
+ghost use Rattle.std.specs.Prelude.{◌≡◌, ℕ, ◌+◌, ◌*◌, ◌<◌, ◌≤◌, [], true, IsTrue, IsFalse, OnOk};
+ghost use Rattle.std.specs.Prelude.{IsOk, length, suc};
 ghost use Rattle.cost_curve.specs.CostCurve.{IsCostCurve};
 ghost use Rattle.shape_law.specs.Cell.{Frame};
 ghost use Rattle.spell_run.specs.Entries.{cells_for};
 ghost use Rattle.uc_model.specs.PlainUnits.{thermal_of, prices_of};
-ghost use Rattle.unit_program.specs.Rows.{row_at, IsWithinTimes, AreWithin, IsAdded, IsFilled};
-ghost use Rattle.unit_program.specs.Spells.{StopsAtOnce};
+ghost use Rattle.period_table.specs.Rows.{IsWithinTimes, AreWithin, IsAdded, IsFilled};
 
-use crate::commitment::{may_end, open_until, stops_at_once};
-use crate::table::{Ended, Entry, Table, add_spells, least_entry};
+use crate::spells::{add_spells, least_entry, open_until};
+use period_table::commitment::may_end;
+use period_table::laws::stops_at_once_cost_nothing;
+use period_table::table::{Entry, Table, begin_table};
 use shape_law::Shape;
 use spell_run::{SpellCosts, spell_costs};
 use std::alloc::AllocError;
 use uc_model::units::{Curve, Prices, Unit};
 
-// Adds the spells that begin with period `first` after an entry, with one pass over the prices if one may begin there.
+// Adds the spells that begin with period `first` after an entry, with one pass over the prices if
+// one may begin there.
 fn add_spells_from<S: Shape>(
     home: &mut S::Home,
     unit: &Unit,
@@ -34,12 +37,15 @@ fn add_spells_from<S: Shape>(
     requires room { length (prices_of prices.now).energy < length table.old.items }
     requires within { AreWithin table.old.items }
     requires bound { IsWithinTimes (2 * first + 1) entry.now.cost }
-    ensures added { OnOk result (IsAdded (thermal_of unit.now) (prices_of prices.now) first entry.now.last entry.now.cost table.old.items table.new.items) }
+    ensures added { OnOk result (IsAdded (thermal_of unit.now) (prices_of prices.now) first
+        entry.now.last entry.now.cost table.old.items table.new.items) }
     ensures costs { length costs.new.entries.items ≡ length costs.old.entries.items }
     ensures length { length table.new.items ≡ length table.old.items }
     ensures frame { Frame S.Home.cell_list S.is_in S.numbers [] [] home.old home.new }
     ensures sure { S.Home.counts ≡ true → S.Home.sure home.new ≡ S.Home.sure home.old }
-    ensures enough { S.Home.counts ≡ true → cells_for (length (prices_of prices.now).energy) (length (thermal_of unit.now).points) ≤ S.Home.sure home.old → IsOk result }
+    ensures enough { S.Home.counts ≡ true
+        → cells_for (length (prices_of prices.now).energy) (length (thermal_of unit.now).points)
+        ≤ S.Home.sure home.old → IsOk result }
 {
     let periods = prices.energy.len() as u32;
     let until = open_until(unit, first);
@@ -80,43 +86,20 @@ fn add_first<S: Shape>(
     requires costs { length (prices_of prices.now).energy ≤ length costs.old.entries.items }
     requires room { length (prices_of prices.now).energy < length table.old.items }
     requires filled { IsFilled (thermal_of unit.now) (prices_of prices.now) first table.old.items }
-    ensures filled { OnOk result (IsFilled (thermal_of unit.now) (prices_of prices.now) (suc first) table.new.items) }
+    ensures filled { OnOk result (IsFilled (thermal_of unit.now) (prices_of prices.now) (suc first)
+        table.new.items) }
     ensures costs { length costs.new.entries.items ≡ length costs.old.entries.items }
     ensures length { length table.new.items ≡ length table.old.items }
     ensures frame { Frame S.Home.cell_list S.is_in S.numbers [] [] home.old home.new }
     ensures sure { S.Home.counts ≡ true → S.Home.sure home.new ≡ S.Home.sure home.old }
-    ensures enough { S.Home.counts ≡ true → cells_for (length (prices_of prices.now).energy) (length (thermal_of unit.now).points) ≤ S.Home.sure home.old → IsOk result }
+    ensures enough { S.Home.counts ≡ true
+        → cells_for (length (prices_of prices.now).energy) (length (thermal_of unit.now).points)
+        ≤ S.Home.sure home.old → IsOk result }
 {
     match least_entry(unit, table.as_slice(), first - 1) {
         Some(entry) => add_spells_from::<S>(home, unit, curve, prices, first, &entry, costs, table),
         None => Ok(()),
     }
-}
-
-// No row.
-pub(crate) fn clear_rows(table: &mut Table)
-    ensures none { (l : ℕ) → row_at table.new.items l ≡ None }
-    ensures length { length table.new.items ≡ length table.old.items }
-{
-    for place in 0..table.len() {
-        table.set(place, None);
-    }
-}
-
-// What ends before period 1: a unit that is off since before the horizon, or a spell that doesn't go on.
-pub(crate) fn first_row(unit: &Unit) -> Option<Ended>
-    ensures { MatchOption result
-        (IsTrue unit.now.on0 × (StopsAtOnce (thermal_of unit.now) → unit.now.min_up ≤ unit.now.up0 → ⊥))
-        (λ e. (e ≡ record { cost = pos 0; first = 0; before = 0 }) × (IsTrue unit.now.on0 → StopsAtOnce (thermal_of unit.now) × (unit.now.min_up ≤ unit.now.up0))) }
-{
-    if unit.on0 && !(unit.up0 >= unit.min_up && stops_at_once(unit)) {
-        return None;
-    }
-    Some(Ended {
-        cost: 0,
-        first: 0,
-        before: 0,
-    })
 }
 
 // The table with what is on, or off, since before the horizon.
@@ -132,15 +115,18 @@ fn begin<S: Shape>(
     requires curve { IsCostCurve (thermal_of unit.now).points curve.now }
     requires costs { length (prices_of prices.now).energy ≤ length costs.old.entries.items }
     requires room { length (prices_of prices.now).energy < length table.old.items }
-    ensures filled { OnOk result (IsFilled (thermal_of unit.now) (prices_of prices.now) 1 table.new.items) }
+    ensures filled { OnOk result (IsFilled (thermal_of unit.now) (prices_of prices.now) 1
+        table.new.items) }
     ensures costs { length costs.new.entries.items ≡ length costs.old.entries.items }
     ensures length { length table.new.items ≡ length table.old.items }
     ensures frame { Frame S.Home.cell_list S.is_in S.numbers [] [] home.old home.new }
     ensures sure { S.Home.counts ≡ true → S.Home.sure home.new ≡ S.Home.sure home.old }
-    ensures enough { S.Home.counts ≡ true → cells_for (length (prices_of prices.now).energy) (length (thermal_of unit.now).points) ≤ S.Home.sure home.old → IsOk result }
+    ensures enough { S.Home.counts ≡ true
+        → cells_for (length (prices_of prices.now).energy) (length (thermal_of unit.now).points)
+        ≤ S.Home.sure home.old → IsOk result }
 {
-    clear_rows(table);
-    table.set(0, first_row(unit));
+    stops_at_once_cost_nothing();
+    begin_table(unit, table);
     if !unit.on0 {
         return Ok(());
     }
@@ -148,10 +134,10 @@ fn begin<S: Shape>(
     add_spells_from::<S>(home, unit, curve, prices, 0, &entry, costs, table)
 }
 
-/// Fills the table for a unit at prices over its horizon of T periods. `curve` is the curve of the unit's points; `costs`
-/// has at least T entries, and `table` at least T + 1 rows. Takes no memory but for the shapes, which are given back. In a
-/// home that counts it answers Ok where the home has (T + 2) * (1 + T * (2L + 3)) cells to give, for L cost points. After an
-/// error the rows are open.
+/// Fills the table for a unit at prices over its horizon of T periods. `curve` is the curve of the
+/// unit's points; `costs` has at least T entries, and `table` at least T + 1 rows. Takes no memory
+/// but for the shapes, which are given back. In a home that counts it answers Ok where the home has
+/// (T + 2) * (1 + T * (2L + 3)) cells to give, for L cost points. After an error the rows are open.
 pub fn fill<S: Shape>(
     home: &mut S::Home,
     unit: &Unit,
@@ -164,12 +150,15 @@ pub fn fill<S: Shape>(
     requires curve { IsCostCurve (thermal_of unit.now).points curve.now }
     requires costs { length (prices_of prices.now).energy ≤ length costs.old.entries.items }
     requires room { length (prices_of prices.now).energy < length table.old.items }
-    ensures filled { OnOk result (IsFilled (thermal_of unit.now) (prices_of prices.now) (suc (length (prices_of prices.now).energy)) table.new.items) }
+    ensures filled { OnOk result (IsFilled (thermal_of unit.now) (prices_of prices.now)
+        (suc (length (prices_of prices.now).energy)) table.new.items) }
     ensures costs { length costs.new.entries.items ≡ length costs.old.entries.items }
     ensures length { length table.new.items ≡ length table.old.items }
     ensures frame { Frame S.Home.cell_list S.is_in S.numbers [] [] home.old home.new }
     ensures sure { S.Home.counts ≡ true → S.Home.sure home.new ≡ S.Home.sure home.old }
-    ensures enough { S.Home.counts ≡ true → cells_for (length (prices_of prices.now).energy) (length (thermal_of unit.now).points) ≤ S.Home.sure home.old → IsOk result }
+    ensures enough { S.Home.counts ≡ true
+        → cells_for (length (prices_of prices.now).energy) (length (thermal_of unit.now).points)
+        ≤ S.Home.sure home.old → IsOk result }
 {
     begin::<S>(home, unit, curve, prices, costs, table)?;
     let periods = prices.energy.len() as u32;

@@ -1,5 +1,5 @@
 //! The way back by what the runners left.
-ghost use Rattle.std.specs.Prelude.{◌≡◌, ℕ, ℤ, ◌<◌, ◌≤◌, length, suc, slice_get, Some};
+ghost use Rattle.std.specs.Prelude.{◌≡◌, ℕ, ℤ, ◌<◌, ◌≤◌, length, suc};
 ghost use Rattle.spell_run.specs.Notes.{IsSpellNoted};
 ghost use Rattle.uc_model.specs.Data.{Thermal};
 ghost use Rattle.uc_model.specs.Earnings.{earnings, IsBest};
@@ -7,19 +7,21 @@ ghost use Rattle.uc_model.specs.PlainUnits.{thermal_of, prices_of, schedule_of};
 ghost use Rattle.uc_model.specs.Ties.{IsLeast};
 ghost use Rattle.unit_program.specs.Backs.{IsWritten, IsWrittenBack};
 ghost use Rattle.unit_program.specs.Builds.{IsIdle};
-ghost use Rattle.unit_program.specs.Limits.{IsRowWithin, IsEndWithin};
-ghost use Rattle.unit_program.specs.Live.{left_at};
-ghost use Rattle.unit_program.specs.Rows.{cost_at, first_at};
-ghost use Rattle.unit_program.specs.Runners.{HaveWays};
+ghost use Rattle.period_table.specs.Limits.{IsRowWithin, IsEndWithin};
+ghost use Rattle.period_table.specs.Live.{left_at};
+ghost use Rattle.period_table.specs.Rows.{cost_at, first_at};
+ghost use Rattle.period_table.specs.Runners.{HaveWays};
 
 use crate::answer::{clear, is_all_off, negated};
-use crate::runner::Runner;
-use crate::table::{Ended, Entry};
+use period_table::laws::limits_keep_rows;
+use period_table::runner::Runner;
+use period_table::table::{Ended, Entry};
 use spell_run::write_spell;
 use uc_model::laws::start_costs_are_within;
 use uc_model::units::{Answered, Prices, Unit};
 
-// Writes a dispatch of least net cost of the spell from `first` to `last`; nothing where it ends before period 1.
+// Writes a dispatch of least net cost of the spell from `first` to `last`; nothing where it ends
+// before period 1.
 fn write_left<R>(
     unit: &Unit,
     prices: &Prices,
@@ -31,11 +33,16 @@ fn write_left<R>(
     requires order { first ≤ last }
     requires end { last ≤ length (prices_of prices.now).energy }
     requires runners { first < length runners.now }
-    requires places { (r : Runner R) → slice_get runners.now first ≡ Some r → last ≤ length r.passed.items }
-    requires noted { 1 ≤ last → IsSpellNoted (thermal_of unit.now) (prices_of prices.now) first last (left_at runners.now first) }
-    requires into { length (schedule_of into.old.response).on ≡ length (prices_of prices.now).energy }
-    ensures written { IsWritten (thermal_of unit.now) (prices_of prices.now) (length (prices_of prices.now).energy) first last (schedule_of into.old.response) (schedule_of into.new.response) }
-    ensures length { length (schedule_of into.new.response).on ≡ length (schedule_of into.old.response).on }
+    requires noted { 1 ≤ last
+        → IsSpellNoted (thermal_of unit.now) (prices_of prices.now) first last
+        (left_at runners.now first) }
+    requires into { length (schedule_of into.old.response).on
+        ≡ length (prices_of prices.now).energy }
+    ensures written { IsWritten (thermal_of unit.now) (prices_of prices.now)
+        (length (prices_of prices.now).energy) first last (schedule_of into.old.response)
+        (schedule_of into.new.response) }
+    ensures length { length (schedule_of into.new.response).on
+        ≡ length (schedule_of into.old.response).on }
 {
     if last > 0 {
         let passed = runners[first as usize].passed.as_slice();
@@ -53,17 +60,22 @@ fn write_back<R>(
     into: &mut Answered,
 )
     requires within { IsRowWithin (thermal_of unit.now) (prices_of prices.now) rows.now last }
-    requires ways { HaveWays (thermal_of unit.now) (prices_of prices.now) (length (prices_of prices.now).energy) (cost_at rows.now) (first_at rows.now) (left_at runners.now) }
+    requires ways { HaveWays (thermal_of unit.now) (prices_of prices.now)
+        (length (prices_of prices.now).energy) (cost_at rows.now) (first_at rows.now)
+        (left_at runners.now) }
     requires room { length (prices_of prices.now).energy < length rows.now }
     requires runners { length (prices_of prices.now).energy < length runners.now }
-    requires places { (f : ℕ) (r : Runner R) → slice_get runners.now f ≡ Some r → length (prices_of prices.now).energy ≤ length r.passed.items }
     requires last { last ≤ length (prices_of prices.now).energy }
-    requires into { length (schedule_of into.old.response).on ≡ length (prices_of prices.now).energy }
+    requires into { length (schedule_of into.old.response).on
+        ≡ length (prices_of prices.now).energy }
     requires idle { IsIdle (thermal_of unit.now) (schedule_of into.old.response) 0 last }
-    ensures written { IsWrittenBack (thermal_of unit.now) (prices_of prices.now) rows.now last (schedule_of into.old.response) (schedule_of into.new.response) }
-    ensures length { length (schedule_of into.new.response).on ≡ length (schedule_of into.old.response).on }
+    ensures written { IsWrittenBack (thermal_of unit.now) (prices_of prices.now) rows.now last
+        (schedule_of into.old.response) (schedule_of into.new.response) }
+    ensures length { length (schedule_of into.new.response).on
+        ≡ length (schedule_of into.old.response).on }
 {
     start_costs_are_within();
+    limits_keep_rows();
     let Some(ended) = rows[last as usize] else {
         return;
     };
@@ -77,9 +89,10 @@ fn write_back<R>(
     write_back(unit, prices, rows, runners, ended.before, into);
 }
 
-/// Leaves in `into` the least best response, which the table names from the earliest of its least ends, and what it earns.
-/// Unit, prices and `into` are over the same T periods, `end` is that end and within the limits of the rows, and the runners have left what the way back from
-/// each needs. Takes no memory.
+/// Leaves in `into` the least best response, which the table names from the earliest of its least
+/// ends, and what it earns. Unit, prices and `into` are over the same T periods, `end` is that end
+/// and within the limits of the rows, and the runners have left what the way back from each needs.
+/// Takes no memory.
 pub fn write_noted<R>(
     unit: &Unit,
     prices: &Prices,
@@ -88,16 +101,23 @@ pub fn write_noted<R>(
     end: &Entry,
     into: &mut Answered,
 )
-    requires ways { HaveWays (thermal_of unit.now) (prices_of prices.now) (length (prices_of prices.now).energy) (cost_at rows.now) (first_at rows.now) (left_at runners.now) }
+    requires ways { HaveWays (thermal_of unit.now) (prices_of prices.now)
+        (length (prices_of prices.now).energy) (cost_at rows.now) (first_at rows.now)
+        (left_at runners.now) }
     requires room { length (prices_of prices.now).energy < length rows.now }
     requires runners { length (prices_of prices.now).energy < length runners.now }
-    requires places { (f : ℕ) (r : Runner R) → slice_get runners.now f ≡ Some r → length (prices_of prices.now).energy ≤ length r.passed.items }
-    requires end { IsEndWithin (thermal_of unit.now) (prices_of prices.now) rows.now end.now.last end.now.cost }
-    requires into { length (schedule_of into.old.response).on ≡ length (prices_of prices.now).energy }
-    ensures best { IsBest (Thermal (thermal_of unit.now)) (prices_of prices.now) (schedule_of into.new.response) }
-    ensures least { IsLeast (Thermal (thermal_of unit.now)) (prices_of prices.now) (schedule_of into.new.response) }
-    ensures earned { into.new.earned ≡ earnings (Thermal (thermal_of unit.now)) (prices_of prices.now) (schedule_of into.new.response) }
+    requires end { IsEndWithin (thermal_of unit.now) (prices_of prices.now) rows.now end.now.last
+        end.now.cost }
+    requires into { length (schedule_of into.old.response).on
+        ≡ length (prices_of prices.now).energy }
+    ensures best { IsBest (Thermal (thermal_of unit.now)) (prices_of prices.now)
+        (schedule_of into.new.response) }
+    ensures least { IsLeast (Thermal (thermal_of unit.now)) (prices_of prices.now)
+        (schedule_of into.new.response) }
+    ensures earned { into.new.earned ≡ earnings (Thermal (thermal_of unit.now))
+        (prices_of prices.now) (schedule_of into.new.response) }
 {
+    limits_keep_rows();
     clear(into);
     write_back(unit, prices, rows, runners, end.last, into);
     into.earned = negated(end.cost);

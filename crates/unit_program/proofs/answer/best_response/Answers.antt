@@ -1,8 +1,8 @@
 use Rattle.std.proofs.Common.{◌≡◌, ℕ, Some, None, ℤ, length, refl}
 use Rattle.std.specs.Prelude.{IfNone}
 use Rattle.uc_model.specs.PlainUnits.{thermal_of, prices_of}
-use Rattle.unit_program.specs.Rows.{cost_at}
-use Rattle.unit_program.specs.Spells.{IsOffRun}
+use Rattle.period_table.specs.Rows.{cost_at}
+use Rattle.period_table.specs.Spells.{IsOffRun}
 use Rattle.unit_program.proofs.BestLaws.{none_right}
 use Rattle.unit_program.proofs.answer.best_response.Goals as goal
 

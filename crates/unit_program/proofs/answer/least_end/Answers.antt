@@ -1,10 +1,10 @@
 use Rattle.std.proofs.Common.{◌≡◌, ℕ, ◌≤◌, ◌⊎◌, Some, None, ℤ, refl, sym, ◌∙◌, arith}
 use Rattle.std.specs.Prelude.{IfSome, IfNone}
 use Rattle.uc_model.specs.PlainUnits.{thermal_of}
-use Rattle.unit_program.specs.Spells.{IsOffRun}
-use Rattle.unit_program.specs.Tables.{IsLeastEnd}
-use Rattle.unit_program.specs.declared.table.Entry.{Entry}
-use Rattle.unit_program.specs.Rows.{cost_at}
+use Rattle.period_table.specs.Spells.{IsOffRun}
+use Rattle.period_table.specs.Tables.{IsLeastEnd}
+use Rattle.period_table.specs.declared.table.Entry.{Entry}
+use Rattle.period_table.specs.Rows.{cost_at}
 use Rattle.unit_program.proofs.EndLaws.{one_more_end, least_end_of_all, no_end_of_all}
 use Rattle.unit_program.proofs.EntryLaws.{if_some}
 use Rattle.unit_program.proofs.answer.least_end.Goals as goal

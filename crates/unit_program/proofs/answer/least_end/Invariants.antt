@@ -1,5 +1,5 @@
 use Rattle.uc_model.specs.PlainUnits.{thermal_of}
-use Rattle.unit_program.specs.Rows.{cost_at}
+use Rattle.period_table.specs.Rows.{cost_at}
 use Rattle.unit_program.proofs.EndLaws.{IsLeastEndSoFar}
 use Rattle.unit_program.proofs.answer.least_end.Given as goal
 

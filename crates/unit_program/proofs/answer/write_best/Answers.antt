@@ -3,7 +3,7 @@ use Rattle.std.proofs.lemmas.Int.{ints, to_z-of_z}
 use Rattle.std.specs.Prelude.{FitsSigned}
 use Rattle.std.specs.Int.{w64}
 use Rattle.uc_model.specs.PlainUnits.{thermal_of, prices_of, schedule_of}
-use Rattle.unit_program.specs.Rows.{cost_at, IsWithinTimes}
+use Rattle.period_table.specs.Rows.{cost_at, IsWithinTimes}
 use Rattle.unit_program.proofs.BestLaws.{best_of, least_of, cleared_idle, cleared_zero}
 use Rattle.unit_program.proofs.answer.write_best.Goals as goal
 

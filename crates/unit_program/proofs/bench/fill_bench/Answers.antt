@@ -5,10 +5,10 @@ use Rattle.std.specs.Prelude.{FitsSigned}
 use Rattle.std.specs.Int.{w64}
 use Rattle.std.specs.Vec.{with_items}
 use Rattle.uc_model.specs.PlainUnits.{thermal_of, prices_of}
-use Rattle.unit_program.specs.declared.runner.Runner.{Runner}
-use Rattle.unit_program.specs.Live.{HaveRoom, left_at}
-use Rattle.unit_program.specs.Rows.{cost_at, first_at}
-use Rattle.unit_program.specs.Runners.{HaveWays}
+use Rattle.period_table.specs.declared.runner.Runner.{Runner}
+use Rattle.period_table.specs.Live.{HaveRoom, left_at}
+use Rattle.period_table.specs.Rows.{cost_at, first_at}
+use Rattle.period_table.specs.Runners.{HaveWays}
 use Rattle.unit_program.proofs.BenchLaws.{room_less, charge_less, bench_kept}
 use Rattle.unit_program.proofs.bench.fill_bench.Goals as goal
 

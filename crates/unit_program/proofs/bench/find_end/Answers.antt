@@ -3,7 +3,7 @@ use Rattle.std.proofs.lemmas.Int.{ints}
 use Rattle.uc_model.specs.Data.{Schedule}
 use Rattle.uc_model.specs.PlainUnits.{thermal_of, prices_of}
 use Rattle.uc_model.specs.Schedules.{IsThermalFeasible}
-use Rattle.unit_program.specs.Limits.{EachCostsMore}
+use Rattle.period_table.specs.Limits.{EachCostsMore}
 use Rattle.unit_program.proofs.LimitLaws.{if_none_more, none_feasible}
 use Rattle.unit_program.proofs.bench.find_end.Goals as goal
 

@@ -20,7 +20,7 @@ returns-clause-some g c =
     let filled = rw (to_z-of_z w64 c.args.most fits) at c.fill_bench.ensures.filled in
     let taken = rw (to_z-of_z w64 c.args.most fits) at c.at_most.ensures in
     let told = rw (c.len-periods.ensures, c.as_slice.ensures) at c.least_end.ensures in
-    found_within (thermal_of c.args.unit.now) (prices_of c.args.prices.now) c.args.most c.fill_bench.new.bench.table.items filled c.least_end.result c.at_most.result
+    found_within (thermal_of c.args.unit.now) (prices_of c.args.prices.now) c.args.most c.fill_bench.new.bench.table.items filled c.limits_keep_rows.ensures.rows c.limits_keep_rows.ensures.amount c.least_end.result c.at_most.result
     told.some told.earliest told.none taken.some taken.none
 
 pub returns-clause-none : goal.returns-clause-none
@@ -29,5 +29,5 @@ returns-clause-none g c =
     let filled = rw (to_z-of_z w64 c.args.most fits) at c.fill_bench.ensures.filled in
     let taken = rw (to_z-of_z w64 c.args.most fits) at c.at_most.ensures in
     let told = rw (c.len-periods.ensures, c.as_slice.ensures) at c.least_end.ensures in
-    none_found (thermal_of c.args.unit.now) (prices_of c.args.prices.now) c.args.most c.fill_bench.new.bench.table.items filled c.least_end.result c.at_most.result
+    none_found (thermal_of c.args.unit.now) (prices_of c.args.prices.now) c.args.most c.fill_bench.new.bench.table.items filled c.limits_keep_rows.ensures.rows c.limits_keep_rows.ensures.amount c.least_end.result c.at_most.result
     told.some told.earliest told.none taken.some taken.none

@@ -1,11 +1,10 @@
-use Rattle.std.proofs.Common.{List, Option, length, sym, ap, ◌∙◌, subst, arith}
-use Rattle.std.specs.Prelude.{slice_get}
+use Rattle.std.proofs.Common.{List, Option, length, sym, ap, subst, arith}
 use Rattle.uc_model.specs.PlainUnits.{thermal_of, prices_of}
-use Rattle.unit_program.specs.declared.runner.Runner.{Runner}
-use Rattle.unit_program.specs.declared.table.Ended.{Ended}
-use Rattle.unit_program.specs.Live.{left_at}
-use Rattle.unit_program.specs.Runners.{HaveWays}
-use Rattle.unit_program.specs.Rows.{cost_at, first_at}
+use Rattle.period_table.specs.declared.runner.Runner.{Runner}
+use Rattle.period_table.specs.declared.table.Ended.{Ended}
+use Rattle.period_table.specs.Live.{left_at}
+use Rattle.period_table.specs.Runners.{HaveWays}
+use Rattle.period_table.specs.Rows.{cost_at, first_at}
 use Rattle.unit_program.proofs.bench.least_in_place.Goals as goal
 
 pub write_noted-requires-clause-ways : goal.write_noted-requires-clause-ways
@@ -29,11 +28,6 @@ write_noted-requires-clause-runners g c =
     let count = kept.count in
     let same = ap length c.as_slice-2.ensures.value in
     omega (arith, count, same)
-
-pub write_noted-requires-clause-places : goal.write_noted-requires-clause-places
-write_noted-requires-clause-places g c = λ f r is.
-    let kept = c.find_end.ensures.bench (length c.args.prices.now.energy.items) (length c.args.unit.now.points.items) c.requires.bench in
-    (kept.room f r (ap (λ xs. slice_get xs f) (sym c.as_slice-2.ensures.value) ∙ is)).1
 
 pub returns-clause-bench : goal.returns-clause-bench
 returns-clause-bench g c = λ periods points b.

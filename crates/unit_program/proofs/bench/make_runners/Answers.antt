@@ -1,5 +1,4 @@
 use Rattle.std.proofs.Common.{length, ap, arith, length-append}
-use Rattle.std.proofs.lemmas.List.{length-replicate}
 use Rattle.slope_list.specs.Slopes.{room_of}
 use Rattle.unit_program.proofs.BenchLaws.{room_more}
 use Rattle.unit_program.proofs.bench.make_runners.Goals as goal
@@ -9,7 +8,7 @@ loop-preserved c =
     let items = c.push_reserved.ensures.items in
     let capacity = c.push_reserved.ensures.capacity in
     let room = c.in_ok-running.ensures.room in
-    let places = simp length-replicate at (ap length c.in_ok-passed.ensures) in
+    let places = c.in_ok-passed.ensures.room in
     record {
       count = omega (arith, simp length-append at (ap length items));
       capacity = omega (arith, capacity);

@@ -1,6 +1,6 @@
 use Rattle.std.proofs.Common.{◌≡◌, ℕ, suc, length, subst, arith}
 use Rattle.uc_model.specs.PlainUnits.{thermal_of, prices_of}
-use Rattle.unit_program.specs.Rows.{IsFilled}
+use Rattle.period_table.specs.Rows.{IsFilled}
 use Rattle.unit_program.proofs.program.fill.Goals as goal
 
 pub returns-clause-filled : goal.returns-clause-filled

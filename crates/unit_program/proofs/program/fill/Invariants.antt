@@ -1,7 +1,7 @@
 use Rattle.std.proofs.Common.{◌≡◌, [], length, true}
 use Rattle.shape_law.specs.Cell.{Frame}
 use Rattle.uc_model.specs.PlainUnits.{thermal_of, prices_of}
-use Rattle.unit_program.specs.Rows.{IsFilled}
+use Rattle.period_table.specs.Rows.{IsFilled}
 use Rattle.unit_program.proofs.program.fill.Given as goal
 
 abbrev pub invariant-loop-first : goal.invariant-loop-first

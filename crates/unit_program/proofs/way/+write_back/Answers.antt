@@ -1,7 +1,7 @@
 use Rattle.std.proofs.Common.{ℕ, subst, ◌≡◌, ◌<◌, ◌≤◌, length, ◌∙◌, arith}
 use Rattle.uc_model.specs.PlainUnits.{thermal_of, prices_of, schedule_of}
 use Rattle.spell_run.specs.Notes.{IsSpellNoted}
-use Rattle.unit_program.specs.Live.{left_at}
+use Rattle.period_table.specs.Live.{left_at}
 use Rattle.unit_program.proofs.LimitBackLaws.{back_off_within, row_back_within, before_within}
 use Rattle.unit_program.proofs.RowLaws.{cost-is, first-is}
 use Rattle.unit_program.proofs.way.+write_back.Goals as goal
@@ -10,37 +10,37 @@ pub returns-then-is_all_off-clause-written : goal.returns-then-is_all_off-clause
 returns-then-is_all_off-clause-written g t c =
     let u = c.args.unit.now in
     let h = c.is_all_off.ensures.yes c.if-is_all_off.true in
-    back_off_within (thermal_of u) (prices_of c.args.prices.now) u.valid c.start_costs_are_within.ensures c.args.rows.now c.args.last c.requires.last c.requires.within (schedule_of c.args.into.now.response) h.0 h.1
+    back_off_within c.limits_keep_rows.ensures.rows c.limits_keep_rows.ensures.starts (thermal_of u) (prices_of c.args.prices.now) u.valid c.start_costs_are_within.ensures c.args.rows.now c.args.last c.requires.last c.requires.within (schedule_of c.args.into.now.response) h.0 h.1
 
 pub write_left-requires-clause-order : goal.write_left-requires-clause-order
 write_left-requires-clause-order g t c =
     let u = c.args.unit.now in
-    (row_back_within (thermal_of u) (prices_of c.args.prices.now) u.valid c.start_costs_are_within.ensures c.args.rows.now c.args.last c.requires.last c.requires.within c.in-Some.ended c.in-Some.is (c.is_all_off.ensures.no c.if-is_all_off.false)).order
+    (row_back_within c.limits_keep_rows.ensures.rows c.limits_keep_rows.ensures.starts (thermal_of u) (prices_of c.args.prices.now) u.valid c.start_costs_are_within.ensures c.args.rows.now c.args.last c.requires.last c.requires.within c.in-Some.ended c.in-Some.is (c.is_all_off.ensures.no c.if-is_all_off.false)).order
 
 pub returns-then-ended-eq0-clause-written : goal.returns-then-ended-eq0-clause-written
 returns-then-ended-eq0-clause-written g t c =
     let u = c.args.unit.now in
-    (row_back_within (thermal_of u) (prices_of c.args.prices.now) u.valid c.start_costs_are_within.ensures c.args.rows.now c.args.last c.requires.last c.requires.within c.in-Some.ended c.in-Some.is (c.is_all_off.ensures.no c.if-is_all_off.false)).only
+    (row_back_within c.limits_keep_rows.ensures.rows c.limits_keep_rows.ensures.starts (thermal_of u) (prices_of c.args.prices.now) u.valid c.start_costs_are_within.ensures c.args.rows.now c.args.last c.requires.last c.requires.within c.in-Some.ended c.in-Some.is (c.is_all_off.ensures.no c.if-is_all_off.false)).only
     (schedule_of c.args.into.now.response) (schedule_of c.write_left.new.into.response) c.if-ended-eq0.true c.write_left.ensures.written
 
 pub write_back-requires : goal.write_back-requires
 write_back-requires g t c κs within =
     let u = c.args.unit.now in
-    let r = row_back_within (thermal_of u) (prices_of c.args.prices.now) u.valid c.start_costs_are_within.ensures c.args.rows.now c.args.last c.requires.last c.requires.within c.in-Some.ended c.in-Some.is (c.is_all_off.ensures.no c.if-is_all_off.false) in
+    let r = row_back_within c.limits_keep_rows.ensures.rows c.limits_keep_rows.ensures.starts (thermal_of u) (prices_of c.args.prices.now) u.valid c.start_costs_are_within.ensures c.args.rows.now c.args.last c.requires.last c.requires.within c.in-Some.ended c.in-Some.is (c.is_all_off.ensures.no c.if-is_all_off.false) in
     let one : 1 ≤ c.in-Some.ended.first = omega arith in
     let less = r.before_less one in
     let idle = r.before_idle (schedule_of c.args.into.now.response) (schedule_of c.write_left.new.into.response) one c.write_left.ensures.written c.requires.idle in
-    let ended = before_within (thermal_of u) (prices_of c.args.prices.now) u.valid c.start_costs_are_within.ensures c.args.rows.now c.args.last c.requires.last c.requires.within c.in-Some.ended c.in-Some.is (c.is_all_off.ensures.no c.if-is_all_off.false) one in
+    let ended = before_within c.limits_keep_rows.ensures.rows c.limits_keep_rows.ensures.starts (thermal_of u) (prices_of c.args.prices.now) u.valid c.start_costs_are_within.ensures c.args.rows.now c.args.last c.requires.last c.requires.within c.in-Some.ended c.in-Some.is (c.is_all_off.ensures.no c.if-is_all_off.false) one in
     let last = c.requires.last in
     let low : c.in-Some.ended.before ≤ length c.args.prices.now.energy.items = omega (arith, less, last) in
     let measure : c.in-Some.ended.before < t = omega arith in
     let into : length c.write_left.new.into.response.on.items ≡ length c.args.prices.now.energy.items = c.write_left.ensures.length ∙ c.requires.into in
-    (measure, (within, (ended, (c.requires.ways, (c.requires.room, (c.requires.runners, (c.requires.places, (low, (into, idle)))))))))
+    (measure, (within, (ended, (c.requires.ways, (c.requires.room, (c.requires.runners, (low, (into, idle))))))))
 
 pub write_left-requires-clause-runners : goal.write_left-requires-clause-runners
 write_left-requires-clause-runners g t c =
     let u = c.args.unit.now in
-    let r = row_back_within (thermal_of u) (prices_of c.args.prices.now) u.valid c.start_costs_are_within.ensures c.args.rows.now c.args.last c.requires.last c.requires.within c.in-Some.ended c.in-Some.is (c.is_all_off.ensures.no c.if-is_all_off.false) in
+    let r = row_back_within c.limits_keep_rows.ensures.rows c.limits_keep_rows.ensures.starts (thermal_of u) (prices_of c.args.prices.now) u.valid c.start_costs_are_within.ensures c.args.rows.now c.args.last c.requires.last c.requires.within c.in-Some.ended c.in-Some.is (c.is_all_off.ensures.no c.if-is_all_off.false) in
     let order = r.order in
     let last = c.requires.last in
     let few = c.requires.runners in
@@ -57,6 +57,6 @@ write_left-requires-clause-noted g t c = λ one.
 pub returns-clause-written : goal.returns-clause-written
 returns-clause-written g t c =
     let u = c.args.unit.now in
-    let r = row_back_within (thermal_of u) (prices_of c.args.prices.now) u.valid c.start_costs_are_within.ensures c.args.rows.now c.args.last c.requires.last c.requires.within c.in-Some.ended c.in-Some.is (c.is_all_off.ensures.no c.if-is_all_off.false) in
+    let r = row_back_within c.limits_keep_rows.ensures.rows c.limits_keep_rows.ensures.starts (thermal_of u) (prices_of c.args.prices.now) u.valid c.start_costs_are_within.ensures c.args.rows.now c.args.last c.requires.last c.requires.within c.in-Some.ended c.in-Some.is (c.is_all_off.ensures.no c.if-is_all_off.false) in
     r.rest (schedule_of c.args.into.now.response) (schedule_of c.write_left.new.into.response) (schedule_of c.write_back.new.into.response) (omega arith) c.requires.idle c.write_left.ensures.written
     c.write_back.ensures.written

@@ -1,9 +1,11 @@
-use Rattle.std.proofs.Common.{◌≤◌, length, sym, ap, ◌∙◌, subst, arith}
+use Rattle.std.proofs.Common.{◌-◌, ◌≤◌, List, length, sym, ap, ◌∙◌, subst, arith}
 use Rattle.std.proofs.lemmas.Option.{slice_get-get_or}
+use Rattle.spell_run.specs.declared.way.Passed.{Passed}
 use Rattle.spell_run.specs.Notes.{IsSpellNoted, passed_at}
-use Rattle.unit_program.specs.Live.{left_of}
+use Rattle.period_table.specs.Live.{left_of}
 use Rattle.uc_model.specs.PlainUnits.{thermal_of, prices_of, schedule_of}
 use Rattle.unit_program.proofs.BackLaws.{written_none, written_first}
+use Rattle.unit_program.proofs.NoteLaws.{end_within}
 use Rattle.unit_program.proofs.way.write_left.Goals as goal
 
 pub write_spell-requires-clause-noted : goal.write_spell-requires-clause-noted
@@ -11,6 +13,14 @@ write_spell-requires-clause-noted g c =
     let one : 1 ≤ c.args.last = omega arith in
     let item = slice_get-get_or c.args.runners.now c.args.first c.index-runners-first.result c.requires.runners in
     subst (IsSpellNoted (thermal_of c.args.unit.now) (prices_of c.args.prices.now) c.args.first c.args.last) (ap left_of item ∙ ap passed_at (sym c.as_slice-passed.ensures)) (c.requires.noted one)
+
+pub write_spell-requires-clause-room : goal.write_spell-requires-clause-room
+write_spell-requires-clause-room g c =
+    let one : 1 ≤ c.args.last = omega arith in
+    let item = slice_get-get_or c.args.runners.now c.args.first c.index-runners-first.result c.requires.runners in
+    let noted = c.requires.noted one in
+    let low = end_within c.as_slice-passed.result.now (c.args.last - 1) noted.lowest (ap (λ (ps : List Passed). (passed_at ps (c.args.last - 1)).end) c.as_slice-passed.ensures ∙ sym (ap (λ o. (left_of o (c.args.last - 1)).end) item) ∙ noted.is_end) in
+    omega (arith, low)
 
 pub returns-then-last-gt0-clause-written : goal.returns-then-last-gt0-clause-written
 returns-then-last-gt0-clause-written g c =

@@ -3,8 +3,8 @@ use Rattle.std.proofs.lemmas.Int.{ints, to_z-of_z}
 use Rattle.std.specs.Prelude.{FitsSigned}
 use Rattle.std.specs.Int.{w64}
 use Rattle.uc_model.specs.PlainUnits.{thermal_of, prices_of, schedule_of}
-use Rattle.unit_program.specs.Limits.{capped}
-use Rattle.unit_program.specs.Rows.{cost_at, IsWithinTimes}
+use Rattle.period_table.specs.Limits.{capped}
+use Rattle.period_table.specs.Rows.{cost_at, IsWithinTimes}
 use Rattle.unit_program.proofs.BestLaws.{best_of, least_of, cleared_idle, cleared_zero}
 use Rattle.unit_program.proofs.LimitLaws.{end_capped, end_earliest, end_low}
 use Rattle.unit_program.proofs.way.write_noted.Goals as goal
@@ -33,7 +33,7 @@ returns-clause-best g c =
     let valid = c.write_back.new.into.response.valid in
     (best_of (thermal_of u) (prices_of c.args.prices.now) T refl (capped at.filled.limits (cost_at c.args.rows.now))
     u.valid.ramp_up.at_least u.valid.ramp_down.at_least at.filled.table.complete c.args.end.now.last c.args.end.now.cost a b
-    (end_capped (thermal_of u) (prices_of c.args.prices.now) at.most c.args.rows.now at.filled c.args.end.now.last c.args.end.now.cost at.low at.least at.earliest)
+    (end_capped c.limits_keep_rows.ensures.rows (thermal_of u) (prices_of c.args.prices.now) at.most c.args.rows.now at.filled c.limits_keep_rows.ensures.amount c.args.end.now.last c.args.end.now.cost at.low at.least at.earliest)
     (cleared_idle (thermal_of u) a c.clear.ensures.off c.clear.ensures.power c.clear.ensures.reserve T)
     (back.up_to c.args.end.now.cost at.least.ended) back.later (back.zero_off (cleared_zero (thermal_of u) a c.clear.ensures.off c.clear.ensures.power c.clear.ensures.reserve))
     on (valid.power ∙ on) (valid.reserve ∙ on)).0
@@ -51,8 +51,8 @@ returns-clause-least g c =
     let ended = at.least.ended in
     least_of (thermal_of u) (prices_of c.args.prices.now) T refl (capped at.filled.limits (cost_at c.args.rows.now))
     u.valid.ramp_up.at_least u.valid.ramp_down.at_least at.filled.table.complete c.args.end.now.last c.args.end.now.cost a b
-    (end_capped (thermal_of u) (prices_of c.args.prices.now) at.most c.args.rows.now at.filled c.args.end.now.last c.args.end.now.cost at.low at.least at.earliest)
-    (end_earliest (thermal_of u) (prices_of c.args.prices.now) at.most c.args.rows.now at.filled c.args.end.now.last c.args.end.now.cost at.low at.least at.earliest)
+    (end_capped c.limits_keep_rows.ensures.rows (thermal_of u) (prices_of c.args.prices.now) at.most c.args.rows.now at.filled c.limits_keep_rows.ensures.amount c.args.end.now.last c.args.end.now.cost at.low at.least at.earliest)
+    (end_earliest c.limits_keep_rows.ensures.rows (thermal_of u) (prices_of c.args.prices.now) at.most c.args.rows.now at.filled c.limits_keep_rows.ensures.amount c.args.end.now.last c.args.end.now.cost at.low at.least at.earliest)
     (cleared_idle (thermal_of u) a c.clear.ensures.off c.clear.ensures.power c.clear.ensures.reserve T)
     (back.up_to c.args.end.now.cost ended) (back.first c.args.end.now.cost ended) back.later
     (back.zero_off (cleared_zero (thermal_of u) a c.clear.ensures.off c.clear.ensures.power c.clear.ensures.reserve)) on (valid.power ∙ on) (valid.reserve ∙ on)
@@ -71,7 +71,7 @@ returns-clause-earned g c =
     let fits_cost : FitsSigned w64 c.args.end.now.cost = search rules in
     let earned = (best_of (thermal_of u) (prices_of c.args.prices.now) T refl (capped at.filled.limits (cost_at c.args.rows.now))
     u.valid.ramp_up.at_least u.valid.ramp_down.at_least at.filled.table.complete c.args.end.now.last c.args.end.now.cost a b
-    (end_capped (thermal_of u) (prices_of c.args.prices.now) at.most c.args.rows.now at.filled c.args.end.now.last c.args.end.now.cost at.low at.least at.earliest)
+    (end_capped c.limits_keep_rows.ensures.rows (thermal_of u) (prices_of c.args.prices.now) at.most c.args.rows.now at.filled c.limits_keep_rows.ensures.amount c.args.end.now.last c.args.end.now.cost at.low at.least at.earliest)
     (cleared_idle (thermal_of u) a c.clear.ensures.off c.clear.ensures.power c.clear.ensures.reserve T)
     (back.up_to c.args.end.now.cost at.least.ended) back.later (back.zero_off (cleared_zero (thermal_of u) a c.clear.ensures.off c.clear.ensures.power c.clear.ensures.reserve))
     on (valid.power ∙ on) (valid.reserve ∙ on)).1 in
@@ -86,7 +86,7 @@ write_back-requires-clause-within g c =
       filled = at.filled;
       value = c.args.end.now.cost;
       ended = at.least.ended;
-      low = end_low (thermal_of c.args.unit.now) (prices_of c.args.prices.now) at.most c.args.rows.now at.filled c.args.end.now.last c.args.end.now.cost at.low at.least at.earliest;
+      low = end_low c.limits_keep_rows.ensures.rows (thermal_of c.args.unit.now) (prices_of c.args.prices.now) at.most c.args.rows.now at.filled c.limits_keep_rows.ensures.amount c.args.end.now.last c.args.end.now.cost at.low at.least at.earliest;
     }
 
 pub write_back-requires-clause-idle : goal.write_back-requires-clause-idle

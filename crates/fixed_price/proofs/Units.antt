@@ -1,0 +1,51 @@
+-- The unit of a number.
+use Rattle.std.proofs.Common.{◌≡◌, ℕ, Bool, true, false, Some, List, ◌≤◌, length, refl, sym, subst, arith}
+use Rattle.std.specs.List.{All}
+use Rattle.std.proofs.lemmas.List.Elements.{All-map}
+use Rattle.std.specs.Prelude.{IsTrue, IsFalse, slice_get, slice_index_or}
+use Rattle.slope_list.specs.Slopes.{room_of}
+use Rattle.slope_list.specs.declared.slopes.Slopes.{Slopes}
+use Rattle.uc_model.specs.declared.units.Answered.{Answered}
+use Rattle.uc_model.specs.declared.units.Point.{Point}
+use Rattle.uc_model.specs.Data.{ThermalUnit, NamedThermalUnit, AnyUnit, Thermal, PriceLists, Schedule, Market, units}
+use Rattle.uc_model.specs.Earnings.{earnings}
+use Rattle.uc_model.specs.PlainUnits.{schedule_of}
+use Rattle.uc_model.specs.Runs.{Fits}
+use Rattle.uc_model.specs.Schedules.{IsThermalFeasible}
+use Rattle.uc_model.proofs.ListLaws.{item_of}
+use Rattle.unit_program.specs.Benches.{IsBenchFor, BenchesServeLess}
+use Rattle.unit_program.specs.declared.bench.Bench.{Bench}
+use Rattle.fixed_price.specs.Tops.{CanAnswer, points_of, IsBenchOver}
+use Rattle.fixed_price.proofs.Items.{map_item}
+
+-- a thermal unit that isn't without a feasible schedule is answered
+pub record IsFound (g : ThermalUnit) (π : PriceLists) (a : Answered) : Type 0 where
+  pub fit : Fits (Thermal g) π (schedule_of a.response)
+  pub earned : a.earned ≡ earnings (Thermal g) π (schedule_of a.response)
+
+pub found : (g : ThermalUnit) (π : PriceLists) (a : Answered) (is_found : Bool) → (((s : Schedule) → IsThermalFeasible g (length π.energy) s → ⊥) → ⊥)
+    → (IsTrue is_found → Fits (Thermal g) π (schedule_of a.response)) → (IsTrue is_found → a.earned ≡ earnings (Thermal g) π (schedule_of a.response))
+    → (IsFalse is_found → (s : Schedule) → IsThermalFeasible g (length π.energy) s → ⊥) → IsFound g π a
+found g π a true some fit earned none = record { fit = fit refl; earned = earned refl }
+found g π a false some fit earned none = absurd (some (none refl))
+
+-- it isn't without one, over as many periods as the prices have
+pub some_at : (m : Market) (n k : ℕ) (g : ThermalUnit) → CanAnswer m → n ≡ m.periods → slice_get (units m) k ≡ Some (Thermal g) → ((s : Schedule) → IsThermalFeasible g n s → ⊥) → ⊥
+some_at m n k g can horizon is = subst (λ (p : ℕ). ((s : Schedule) → IsThermalFeasible g p s → ⊥) → ⊥) (sym horizon) (can k (Thermal g) is)
+
+-- and the bench suffices for it
+pub bench_at : (m : Market) (n k : ℕ) (t : NamedThermalUnit) (b : Bench Slopes) → IsBenchOver m b → n ≡ m.periods → slice_get m.thermal k ≡ Some t → IsBenchFor room_of n (length t.unit.points) b
+bench_at m n k t b over horizon is =
+    subst (λ (p : ℕ). IsBenchFor room_of p (length t.unit.points) b) (sym horizon)
+    (item_of (λ (ps : List Point). IsBenchFor room_of m.periods (length ps) b) (points_of m) k t.unit.points over (map_item (λ (n : NamedThermalUnit). n.unit.points) m.thermal k t is))
+
+pub bench_kept : (m : Market) (old new : Bench Slopes) → ((periods points : ℕ) → IsBenchFor room_of periods points old → IsBenchFor room_of periods points new) → IsBenchOver m old → IsBenchOver m new
+bench_kept m old new keeps over k d inside = keeps m.periods _ (over k d inside)
+
+pub unit_at : (m : Market) (k number : ℕ) (u : AnyUnit) → k ≡ number → slice_get (units m) k ≡ Some u → slice_get (units m) number ≡ Some u
+unit_at m k number u same e = subst (λ (n : ℕ). slice_get (units m) n ≡ Some u) same e
+
+pub serves_all : BenchesServeLess → (m : Market) (points : ℕ) (b : Bench Slopes) → All (λ (n : NamedThermalUnit). length n.unit.points ≤ points) m.thermal → IsBenchFor room_of m.periods points b → IsBenchOver m b
+serves_all less m points b few over =
+    All-map (λ (ps : List Point). IsBenchFor room_of m.periods (length ps) b) (λ (n : NamedThermalUnit). n.unit.points) m.thermal
+    (λ k d inside. less m.periods points m.periods (length (slice_index_or m.thermal k d).unit.points) b (omega arith) (few k d inside) over)

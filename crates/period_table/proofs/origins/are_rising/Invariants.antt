@@ -1,0 +1,7 @@
+use Rattle.std.proofs.Common.{ℕ, suc, ◌<◌, ◌≤ℤ◌}
+use Rattle.std.specs.Prelude.{slice_index_or}
+use Rattle.uc_model.specs.declared.units.Lag.{Lag}
+use Rattle.period_table.proofs.origins.are_rising.Given as goal
+
+abbrev pub invariant-loop-place : goal.invariant-loop-place
+invariant-loop-place l = (k : ℕ) (d : Lag) → suc k < l.place → (slice_index_or l.lags k d).cost ≤ℤ (slice_index_or l.lags (suc k) d).cost

@@ -1,0 +1,22 @@
+use Rattle.std.proofs.Common.{rules, suc, sym, ◌∙◌, arith}
+use Rattle.std.specs.Prelude.{FitsSigned}
+use Rattle.std.specs.Int.{w64}
+use Rattle.std.proofs.lemmas.Int.{to_z-of_z}
+use Rattle.uc_model.specs.PlainUnits.{thermal_of}
+use Rattle.period_table.specs.Live.{live_at}
+use Rattle.period_table.proofs.RosterLaws.{still_listed}
+use Rattle.period_table.proofs.StandInLaws.{none_starts}
+use Rattle.period_table.proofs.periods.start.Goals as goal
+
+pub returns-in-Some-clause-stands : goal.returns-in-Some-clause-stands
+returns-in-Some-clause-stands g c = λ π limits ends here origins now.
+    let fits : FitsSigned w64 c.args.limit = search rules in
+    c.start_after.ensures.stands π limits ends (here ∙ sym (to_z-of_z w64 c.args.limit fits)) (c.in-Some.ensures.some ends origins) now
+
+pub returns-in-None-clause-stands : goal.returns-in-None-clause-stands
+returns-in-None-clause-stands g c = λ π limits ends here origins now.
+    none_starts (thermal_of c.args.unit.now) π limits ends c.args.place (live_at g.R.Running.function c.args.runners.now) (live_at g.R.Running.function c.args.runners.now) now (λ e. c.in-None.ensures.none ends e origins)
+
+pub returns-in-None-clause-roster : goal.returns-in-None-clause-roster
+returns-in-None-clause-roster g c =
+    still_listed (live_at g.R.Running.function c.args.runners.now) (live_at g.R.Running.function c.args.runners.now) (suc c.args.place) (suc (suc c.args.place)) c.args.roster.now (omega arith) (λ f off. off) c.requires.roster

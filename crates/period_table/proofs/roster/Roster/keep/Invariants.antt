@@ -1,0 +1,13 @@
+use Rattle.std.proofs.Common.{◌≡◌, ℕ, ◌≤◌, length}
+use Rattle.period_table.specs.Live.{live_at}
+use Rattle.period_table.specs.Rosters.{IsRoster}
+use Rattle.period_table.proofs.RosterLaws.{IsKeptTo}
+use Rattle.period_table.proofs.roster.Roster.keep.Given as goal
+
+abbrev pub invariant-loop-place : goal.invariant-loop-place
+invariant-loop-place g l = record {
+  kept : (until : ℕ) → IsRoster (live_at g.R.Running.function l.runners) until l.fn.self → IsKeptTo (live_at g.R.Running.function l.runners) until l.fn.self l.place l.kept l.self.firsts.items;
+  low : l.kept ≤ l.place;
+  same_length : length l.self.firsts.items ≡ length l.fn.self.firsts.items;
+  count_same : l.self.count ≡ l.fn.self.count;
+}

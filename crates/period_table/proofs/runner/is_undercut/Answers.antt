@@ -1,0 +1,14 @@
+use Rattle.std.proofs.Common.{rules, ◌≡◌, Some}
+use Rattle.std.specs.Prelude.{FitsSigned}
+use Rattle.std.specs.Int.{w64}
+use Rattle.std.proofs.lemmas.Int.{to_z-of_z}
+use Rattle.period_table.specs.Live.{live_at, IsUnder}
+use Rattle.period_table.specs.Runners.{Going}
+use Rattle.period_table.proofs.runner.is_undercut.Goals as goal
+
+pub returns-then-undercuts_from : goal.returns-then-undercuts_from
+returns-then-undercuts_from g c =
+    let fits_power : FitsSigned w64 c.args.power = search rules in
+    let fits_cost : FitsSigned w64 c.args.cost = search rules in
+    let found : (r : Going) × (live_at g.R.Running.function c.args.runners.now c.get.result.now ≡ Some r) × IsUnder c.args.power c.args.cost r = simp to_z-of_z at c.if-undercuts_from.ensures in
+    (c.get.result.now, found.0, found.1, found.2)

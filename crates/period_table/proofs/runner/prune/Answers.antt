@@ -1,0 +1,29 @@
+use Rattle.std.proofs.Common.{◌≡◌, ◌+◌, ◌-◌, ◌<◌, ◌≤◌, ℕ, Some, ◌∙◌, arith}
+use Rattle.std.specs.Prelude.{slice_get}
+use Rattle.period_table.specs.Live.{live_at}
+use Rattle.period_table.specs.Runners.{Going}
+use Rattle.period_table.proofs.LiveLaws.{if_some_more}
+use Rattle.period_table.proofs.runner.prune.Goals as goal
+
+pub loop-back-preserved : goal.loop-back-preserved
+loop-back-preserved g c =
+    let low = c.loop-back-test.true in
+    let list = c.requires.roster in
+    let roster = c.args.roster.now in
+    let first = c.get-first.result.now in
+    record {
+      late = if_some_more (λ l. (first ≤ l) × (l ≤ c.args.period) × ((r : Going) × (live_at g.R.Running.function c.prune_one-late.new.runners l ≡ Some r)))
+          (λ l. ((j h : ℕ) → j + (c.loop-back.back + 1) < roster.count → slice_get roster.firsts.items j ≡ Some h → h < l) × (l ≤ c.args.period) × ((r : Going) × (live_at g.R.Running.function c.prune_one-late.new.runners l ≡ Some r)))
+          (λ l h. (
+            (λ j f before is. (let from = h.0 in let earlier = list.rising j (roster.count - c.loop-back.back - 1) f first (omega (arith, before)) (omega (arith, low)) is c.get-first.ensures.item in omega (arith, from, earlier))),
+            h.1,
+            h.2,
+          )) c.prune_one-late.result c.prune_one-late.ensures.late;
+      off = λ f is. c.prune_one-late.ensures.off f (c.loop-back.invariant.off f is);
+      small = c.prune_one-late.ensures.small;
+      stands = λ π limits ends n now. c.prune_one-late.ensures.stands π limits ends n (c.loop-back.invariant.stands π limits ends n now);
+      roomy = λ periods t charge roomy. c.prune_one-late.ensures.room periods t charge (c.loop-back.invariant.roomy periods t charge roomy);
+      left = λ f k. c.prune_one-late.ensures.left f k ∙ c.loop-back.invariant.left f k;
+      keeps = λ most periods have. c.prune_one-late.ensures.keeps most periods (c.loop-back.invariant.keeps most periods have);
+      count_same = c.prune_one-late.ensures.length ∙ c.loop-back.invariant.count_same;
+    }

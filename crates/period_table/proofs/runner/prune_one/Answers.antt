@@ -1,0 +1,106 @@
+use Rattle.std.proofs.Common.{◌+◌, ◌≡◌, ◌<◌, ◌≤◌, true, get_or, Some, length, refl, ap, ◌∙◌, arith}
+use Rattle.std.proofs.lemmas.Bool.{OnTrue_at}
+use Rattle.uc_model.specs.PlainUnits.{thermal_of}
+use Rattle.period_table.specs.Live.{live_at}
+use Rattle.period_table.specs.Runners.{Going}
+use Rattle.period_table.proofs.LiveLaws.{if_some}
+use Rattle.period_table.proofs.LiveLaws.{live_here, live_other, going_off, small_stopped, roomy_stopped, written_keeps, written_left}
+use Rattle.period_table.proofs.RunAllLaws.{item_at, item_same, item_live, read_live, read_on, on_of}
+use Rattle.period_table.proofs.StandInLaws.{early_goes}
+use Rattle.period_table.proofs.runner.prune_one.Goals as goal
+
+pub goes-requires-clause-late : goal.goes-requires-clause-late
+goes-requires-clause-late g c =
+    let h = if_some (λ l. (c.args.early < l) × (l ≤ c.args.period) × ((r : Going) × (live_at g.R.Running.function c.args.runners.now l ≡ Some r))) c.args.late c.in-Some.first c.in-Some.is c.requires.late in
+    let until = h.1 in
+    let end = c.requires.end in
+    let low : c.in-Some.first < length c.args.runners.now = omega (arith, until, end) in
+    let x = c.index-runners-first.result in
+    let on = read_on g.R.Running.function c.args.runners.now c.in-Some.first low x c.index-runners-first.is h.2.0 h.2.1 in
+    (c.requires.small c.in-Some.first _ (read_live g.R.Running.function c.args.runners.now c.in-Some.first low x c.index-runners-first.is on)).cost
+
+pub goes-requires-clause-early : goal.goes-requires-clause-early
+goes-requires-clause-early g c =
+    let end = c.requires.end in
+    let under = c.requires.early in
+    let low : c.args.early < length c.args.runners.now = omega (arith, under, end) in
+    let x = c.index-runners-early-in-Some.result in
+    let on = on_of x _ c.index-runners-early-in-Some.is (item_same g.R.Running.function c.args.runners.now c.args.early low c.index-runners-early.result x true c.if-not-runners-early.false) in
+    (c.requires.small c.args.early _ (read_live g.R.Running.function c.args.runners.now c.args.early low x c.index-runners-early-in-Some.is on)).cost
+
+pub returns-then-goes-clause-late : goal.returns-then-goes-clause-late
+returns-then-goes-clause-late g c =
+    let h = if_some (λ l. (c.args.early < l) × (l ≤ c.args.period) × ((r : Going) × (live_at g.R.Running.function c.args.runners.now l ≡ Some r))) c.args.late c.in-Some.first c.in-Some.is c.requires.late in
+    let above = h.0 in
+    let end = c.requires.end in
+    let under = c.requires.early in
+    let low : c.args.early < length c.args.runners.now = omega (arith, under, end) in
+    (omega (arith, above), h.1, (h.2.0, live_other g.R.Running.function c.args.runners.now _ c.args.early c.stop.new.runner low refl c.in-Some.first (λ z. omega (arith, z, above)) ∙ h.2.1))
+
+pub returns-then-goes-clause-stands : goal.returns-then-goes-clause-stands
+returns-then-goes-clause-stands g c = λ π limits ends n now.
+    let h = if_some (λ l. (c.args.early < l) × (l ≤ c.args.period) × ((r : Going) × (live_at g.R.Running.function c.args.runners.now l ≡ Some r))) c.args.late c.in-Some.first c.in-Some.is c.requires.late in
+    let above = h.0 in
+    let until = h.1 in
+    let end = c.requires.end in
+    let under = c.requires.early in
+    let low : c.args.early < length c.args.runners.now = omega (arith, under, end) in
+    let low_late : c.in-Some.first < length c.args.runners.now = omega (arith, until, end) in
+    let x = c.index-runners-early-in-Some.result in
+    let y = c.index-runners-first.result in
+    let on = on_of x _ c.index-runners-early-in-Some.is (item_same g.R.Running.function c.args.runners.now c.args.early low c.index-runners-early.result x true c.if-not-runners-early.false) in
+    let on_late = read_on g.R.Running.function c.args.runners.now c.in-Some.first low_late y c.index-runners-first.is h.2.0 h.2.1 in
+    early_goes (thermal_of c.args.unit.now) π limits ends c.args.period (live_at g.R.Running.function c.args.runners.now) _ n c.args.early c.in-Some.first _ _ now
+    (read_live g.R.Running.function c.args.runners.now c.args.early low x c.index-runners-early-in-Some.is on)
+    (read_live g.R.Running.function c.args.runners.now c.in-Some.first low_late y c.index-runners-first.is on_late)
+    above until (OnTrue_at c.if-goes.true c.goes.ensures.long) (OnTrue_at c.if-goes.true c.goes.ensures.below)
+    (live_here g.R.Running.function c.args.runners.now _ c.args.early c.stop.new.runner low refl ∙ going_off g.R.Running.function c.stop.new.runner c.stop.ensures.off)
+    (λ f other. live_other g.R.Running.function c.args.runners.now _ c.args.early c.stop.new.runner low refl f other)
+
+pub returns-then-goes-clause-small : goal.returns-then-goes-clause-small
+returns-then-goes-clause-small g c =
+    let end = c.requires.end in
+    let under = c.requires.early in
+    let low : c.args.early < length c.args.runners.now = omega (arith, under, end) in
+    small_stopped g.R.Running.function c.args.runners.now _ c.args.early c.stop.new.runner low refl c.stop.ensures.off c.requires.small
+
+pub returns-then-goes-clause-room : goal.returns-then-goes-clause-room
+returns-then-goes-clause-room g c = λ periods t charge roomy.
+    let end = c.requires.end in
+    let under = c.requires.early in
+    let low : c.args.early < length c.args.runners.now = omega (arith, under, end) in
+    let d = c.index-runners-early-then-goes.result in
+    roomy_stopped g.R.Running.function g.R.Running.count g.R.Running.room periods t charge c.args.runners.now _ c.args.early c.stop.new.runner low refl c.stop.ensures.off
+    (get_or c.args.runners.now c.args.early d) (item_at g.R.Running.function c.args.runners.now c.args.early low d) c.stop.ensures.running c.stop.ensures.passed roomy
+
+pub returns-else-goes-clause-late : goal.returns-else-goes-clause-late
+returns-else-goes-clause-late g c =
+    let end = c.requires.end in
+    let under = c.requires.early in
+    let low : c.args.early < length c.args.runners.now = omega (arith, under, end) in
+    (omega arith, c.requires.early, (_, item_live g.R.Running.function c.args.runners.now c.args.early low c.index-runners-early.result c.if-not-runners-early.false))
+
+pub returns-in_default-clause-late : goal.returns-in_default-clause-late
+returns-in_default-clause-late g c =
+    let end = c.requires.end in
+    let under = c.requires.early in
+    let low : c.args.early < length c.args.runners.now = omega (arith, under, end) in
+    (omega arith, c.requires.early, (_, item_live g.R.Running.function c.args.runners.now c.args.early low c.index-runners-early.result c.if-not-runners-early.false))
+
+pub returns-then-goes-clause-keeps : goal.returns-then-goes-clause-keeps
+returns-then-goes-clause-keeps g c =
+    let end = c.requires.end in
+    let under = c.requires.early in
+    let low : c.args.early < length c.args.runners.now = omega (arith, under, end) in
+    let d = c.index-runners-early-then-goes.result in
+    written_keeps g.R.Running.function g.R.Running.room c.args.runners.now _ c.args.early c.stop.new.runner low refl
+    (get_or c.args.runners.now c.args.early d) (item_at g.R.Running.function c.args.runners.now c.args.early low d) (ap g.R.Running.room c.stop.ensures.running) (ap (λ p. length p.items + p.spare) c.stop.ensures.passed)
+
+pub returns-then-goes-clause-left : goal.returns-then-goes-clause-left
+returns-then-goes-clause-left g c =
+    let end = c.requires.end in
+    let under = c.requires.early in
+    let low : c.args.early < length c.args.runners.now = omega (arith, under, end) in
+    let d = c.index-runners-early-then-goes.result in
+    written_left g.R.Running.function c.args.runners.now _ c.args.early c.stop.new.runner low refl
+    (get_or c.args.runners.now c.args.early d) (item_at g.R.Running.function c.args.runners.now c.args.early low d) c.stop.ensures.passed

@@ -1,0 +1,32 @@
+use Rattle.std.proofs.Common.{rules, ◌≡◌, pos, ◌+ℤ◌, ◌≤ℤ◌, Some, to_z, of_z}
+use Rattle.std.specs.Prelude.{FitsSigned}
+use Rattle.std.specs.Int.{w64}
+use Rattle.std.proofs.lemmas.Bool.{OnTrue_from}
+use Rattle.std.proofs.lemmas.Int.{to_z-of_z}
+use Rattle.shape_law.specs.Table.{value_of}
+use Rattle.spell_run.specs.Notes.{passed_at}
+use Rattle.period_table.specs.Live.{IsUnder}
+use Rattle.period_table.specs.Rows.{IsWithinTimes}
+use Rattle.period_table.proofs.LiveLaws.{under_of}
+use Rattle.period_table.proofs.runner.undercuts.Goals as goal
+
+pub sum_of-requires-clause-b : goal.sum_of-requires-clause-b
+sum_of-requires-clause-b g c =
+    let fits : FitsSigned w64 c.in-Some.value = search rules in
+    let r : IsWithinTimes 400 c.in-Some.value = c.requires.values (to_z w64 (of_z w64 c.args.power)) c.in-Some.value c.in-Some.ensures in
+    simp to_z-of_z r
+
+pub returns-in-Some : goal.returns-in-Some
+returns-in-Some g c =
+    let fits_value : FitsSigned w64 c.in-Some.value = search rules in
+    let fits_entry : FitsSigned w64 c.args.runner.now.cost = search rules in
+    let fits_power : FitsSigned w64 c.args.power = search rules in
+    let fits_cost : FitsSigned w64 c.args.cost = search rules in
+    let fits_sum : FitsSigned w64 c.sum_of.result = search rules in
+    let sum : c.sum_of.result ≡ c.args.runner.now.cost +ℤ c.in-Some.value = simp to_z-of_z at c.sum_of.ensures in
+    let there : value_of (g.R.Running.function c.args.runner.now.running) c.args.power ≡ Some c.in-Some.value = simp to_z-of_z at c.in-Some.ensures in
+    OnTrue_from c.is_less.result
+    (IsUnder c.args.power c.args.cost (record { before = c.args.runner.now.before; cost = c.args.runner.now.cost; function = g.R.Running.function c.args.runner.now.running; left = passed_at c.args.runner.now.passed.items }))
+    (λ t.
+    let less : (c.sum_of.result +ℤ pos 1) ≤ℤ c.args.cost = simp to_z-of_z at (c.is_less.ensures t) in
+    under_of (g.R.Running.function c.args.runner.now.running) c.args.runner.now.cost c.args.power c.args.cost c.in-Some.value c.sum_of.result c.args.runner.now.before (passed_at c.args.runner.now.passed.items) there sum less)

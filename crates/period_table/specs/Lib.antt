@@ -1,0 +1,9 @@
+pub mod Laws
+pub mod Limits
+pub mod Live
+pub mod Origins
+pub mod Rosters
+pub mod Rows
+pub mod Runners
+pub mod Spells
+pub mod Tables

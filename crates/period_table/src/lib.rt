@@ -1,0 +1,18 @@
+//! The table of least costs by the last on period, filled period by period.
+//!
+//! The spells of all first periods go forward together, each as a convex function of its power at
+//! the end of a period, until another one stands for all that it may become, or until it costs more
+//! than a limit. Each leaves of its periods what the way back from a row needs.
+#![tactic(auto)]
+
+pub mod commitment;
+pub mod laws;
+pub mod notes;
+pub mod origins;
+pub mod periods;
+pub mod roster;
+pub mod runner;
+pub mod table;
+
+pub use periods::fill_by_periods;
+pub use runner::Runner;

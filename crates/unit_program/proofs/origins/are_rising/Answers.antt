@@ -1,8 +1,0 @@
-use Rattle.std.proofs.Common.{arith}
-use Rattle.unit_program.proofs.StartCosts.{start_cost-rises}
-use Rattle.unit_program.proofs.origins.are_rising.Goals as goal
-
-pub returns : goal.returns
-returns c = λ yes a b low.
-    let end = c.loop-place-test.false in
-    start_cost-rises c.args.lags.now (λ k d within. c.loop-place.invariant k d (omega (arith, within, end))) a b low

@@ -1,9 +1,0 @@
-use Rattle.std.proofs.Common.{◌≡◌, ℕ, ◌<◌, length, None}
-use Rattle.unit_program.specs.Rows.{row_at}
-use Rattle.unit_program.proofs.program.clear_rows.Given as goal
-
-abbrev pub invariant-loop-place : goal.invariant-loop-place
-invariant-loop-place l = record {
-  length_is : length l.table.items ≡ length l.fn.table.items;
-  none : (k : ℕ) → k < l.place → row_at l.table.items k ≡ None;
-}
