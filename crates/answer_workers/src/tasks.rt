@@ -18,7 +18,8 @@ use unit_program::Bench;
 /// The most cost points of a thermal unit of the case; 1 where it has none.
 pub fn most_points(case: &Case) -> u32
     ensures limit { result ≤ 32 }
-    ensures each { All (λ (n : NamedThermalUnit). length n.unit.points ≤ result) (market_of case.now).thermal }
+    ensures each { All (λ (n : NamedThermalUnit). length n.unit.points ≤ result)
+        (market_of case.now).thermal }
 {
     let mut most = 1;
     for named in case.thermal.as_slice() {
@@ -36,11 +37,15 @@ fn answer_thermal(
     into: &mut Answered,
 )
     requires horizon { length (thermal_of unit.now).window ≡ length (prices_of prices.now).energy }
-    requires some { HasSchedule (Thermal (thermal_of unit.now)) (length (prices_of prices.now).energy) }
-    requires bench { IsBenchFor room_of (length (prices_of prices.now).energy) (length (thermal_of unit.now).points) bench.old }
-    requires into { length (schedule_of into.old.response).on ≡ length (prices_of prices.now).energy }
+    requires some { HasSchedule (Thermal (thermal_of unit.now))
+        (length (prices_of prices.now).energy) }
+    requires bench { IsBenchFor room_of (length (prices_of prices.now).energy)
+        (length (thermal_of unit.now).points) bench.old }
+    requires into { length (schedule_of into.old.response).on
+        ≡ length (prices_of prices.now).energy }
     ensures response { IsResponse (Thermal (thermal_of unit.now)) (prices_of prices.now) into.new }
-    ensures bench { (periods : ℕ) (u : AnyUnit) → Suffices periods u bench.old → Suffices periods u bench.new }
+    ensures bench { (periods : ℕ) (u : AnyUnit) → Suffices periods u bench.old
+        → Suffices periods u bench.new }
 {
     bench.ask_for(number);
     // It is found, since some schedule is feasible.
@@ -52,10 +57,13 @@ fn answer_thermal(
 /// sufficed for before. Takes no memory.
 pub fn answer_task(bench: &mut Bench<Slopes>, task: &Task, into: &mut Answered)
     requires some { HasSchedule (task_unit task.now) (length (prices_of task.now.prices).energy) }
-    requires bench { Suffices (length (prices_of task.now.prices).energy) (task_unit task.now) bench.old }
-    requires horizon { length (schedule_of into.old.response).on ≡ length (prices_of task.now.prices).energy }
+    requires bench { Suffices (length (prices_of task.now.prices).energy) (task_unit task.now)
+        bench.old }
+    requires horizon { length (schedule_of into.old.response).on
+        ≡ length (prices_of task.now.prices).energy }
     ensures response { IsResponse (task_unit task.now) (prices_of task.now.prices) into.new }
-    ensures bench { (periods : ℕ) (u : AnyUnit) → Suffices periods u bench.old → Suffices periods u bench.new }
+    ensures bench { (periods : ℕ) (u : AnyUnit) → Suffices periods u bench.old
+        → Suffices periods u bench.new }
 {
     match task.kind {
         UnitKind::Thermal => { answer_thermal(bench, task.unit, &task.thermal, &task.prices, into) }

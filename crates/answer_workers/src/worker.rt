@@ -47,7 +47,8 @@ impl Worker {
         requires points { points ≤ 32 }
         ensures seat { IfOk result (λ w. w.seat ≡ seat) }
         ensures parts { IfOk result (λ w. (m : Market) → m.periods ≡ periods
-            → All (λ (n : NamedThermalUnit). length n.unit.points ≤ points) m.thermal → HasParts m w) }
+            → All (λ (n : NamedThermalUnit). length n.unit.points ≤ points) m.thermal
+            → HasParts m w) }
     {
         let mut bench = Bench::make(alloc, periods, points)?;
         bench.keep_for(alloc, units, periods)?;

@@ -1,13 +1,16 @@
 -- The flat list of a task isn't long, and a walk along two of them finds where they differ.
-use Rattle.std.proofs.Common.{inl, inr, ◌≡◌, ℕ, suc, ◌+◌, ◌*◌, ◌<◌, ◌≤◌, ℤ, pos, Some, None, List, [], ◌∷◌, ◌++◌, map, length, get_or, refl, sym, ap, ◌∙◌, arith, length-append}
+use Rattle.std.proofs.Common.{inl, inr, ◌≡◌, ℕ, suc, ◌+◌, ◌*◌, ◌<◌, ◌≤◌, ℤ, pos, Option, Some, None, List, [], ◌∷◌, ◌++◌, map, length, get_or, refl, sym, ap, ◌∙◌, arith, length-append}
 use Rattle.std.proofs.lemmas.List.{length-map}
 use Rattle.std.proofs.lemmas.Option.{get_or_from_slice_get, slice_get_within, slice_get-get_or}
 use Rattle.std.proofs.lemmas.Bool.{cases_lt}
 use Rattle.std.specs.List.{flat_map}
+use Rattle.std.specs.Option.{option_map_or}
 use Rattle.std.specs.Prelude.{slice_get}
+use Rattle.board_history.specs.Board.{Setup}
 use Rattle.board_history.specs.BoardLaws.{DifferencesMean}
+use Rattle.board_history.specs.Calls.{differs_from}
 use Rattle.board_history.specs.Tasks.{difference, IsOver, IsTask}
-use Rattle.uc_model.specs.Data.{AnyUnit, Thermal, Flat, Bid}
+use Rattle.uc_model.specs.Data.{AnyUnit, PriceLists, Thermal, Flat, Bid, units}
 use Rattle.uc_model.specs.Limits.{IsUnit}
 use Rattle.uc_model.specs.PlainCases.{chosen_unit, task_unit}
 use Rattle.uc_model.specs.PlainUnits.{prices_of}
@@ -22,7 +25,7 @@ use Rattle.uc_model.specs.declared.units.UnitKind.{UnitKind}
 use Rattle.uc_model.specs.declared.units.UnitKind.TheVariants as kinds
 use Rattle.board_core.specs.declared.replies.Differs.TheVariants as differs
 use Rattle.board_core.specs.Refusals.{differs_of}
-use Rattle.board_core.specs.Same.{AreSame}
+use Rattle.board_task.specs.Same.{AreSame}
 
 -- ---- a task of the program is one over its horizon
 
@@ -49,11 +52,11 @@ points_length : (xs : List Point) → length (flat_map point_numbers xs) ≡ 2 *
 points_length [] = refl
 points_length (x ∷ xs) = let e = points_length xs in omega (arith, e)
 
-pub blocks_length : (xs : List Block) → length (flat_map block_numbers xs) ≡ 2 * length xs
+blocks_length : (xs : List Block) → length (flat_map block_numbers xs) ≡ 2 * length xs
 blocks_length [] = refl
 blocks_length (x ∷ xs) = let e = blocks_length xs in omega (arith, e)
 
-pub periods_length : (ps : List (List Block)) → ((k : ℕ) (d : List Block) → k < length ps → length (get_or ps k d) ≤ 8) → length (flat_map period_numbers ps) ≤ 17 * length ps
+periods_length : (ps : List (List Block)) → ((k : ℕ) (d : List Block) → k < length ps → length (get_or ps k d) ≤ 8) → length (flat_map period_numbers ps) ≤ 17 * length ps
 periods_length [] h = omega arith
 periods_length (p ∷ ps) h =
     let e = periods_length ps (λ k d lt. h (suc k) d (omega (arith, lt))) in
@@ -125,3 +128,10 @@ one_more own given k y z S e f same =
 
 pub none_same : (own given : List ℤ) → AreSame own given 0
 none_same own given = record { own_long = omega arith; given_long = omega arith; same = λ i lt. absurd (omega (arith, lt)) }
+
+-- the board's own task differs in nothing
+pub no_difference : DifferencesMean → (b : Setup) (u : ℕ) (π ρ : PriceLists) (x : AnyUnit) → π ≡ ρ → slice_get (units b.market) u ≡ Some x → differs_of (differs_from b u ρ x π) ≡ None
+no_difference means b u π ρ x prices is =
+    ap (λ (σ : PriceLists). differs_of (differs_from b u ρ x σ)) prices
+    ∙ ap (λ (o : Option AnyUnit). differs_of (difference (option_map_or (task_numbers ρ) o []) (task_numbers ρ x))) is
+    ∙ ap differs_of ((means (task_numbers ρ x) (task_numbers ρ x)).none (λ i a b. refl))

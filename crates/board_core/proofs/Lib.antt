@@ -1,23 +1,19 @@
 -- one more round keeps what rounds are
 pub mod Advances
--- flat lists that begin alike, and those of bids whose first periods have the same blocks
-pub mod Alike
--- lists and units that were compared part by part
-pub mod AsOne
 -- the first greatest of the closed proposals, where one proposal is changed
 pub mod Bests
 -- what a claim answers, and that the lists go on with it
 pub mod Claims
 -- entries and events, with one more of each
 pub mod Entries
--- lists of one length, one after another in one list
-pub mod Flat
--- the flat list of a task isn't long, and a walk along two of them finds where they differ
+-- the flat list of a task isn't long, and a walk along two of them finds where they differ, if they do
 pub mod FlatLists
 -- how many proposals are closed and how many are open, and the answers of those that are closed
 pub mod Fronts
 -- a caller's first halt
 pub mod Halts
+-- the answers of a board's store
+pub mod Kept
 -- numbers of tasks, lists over ranges, and the first of two that is there
 pub mod Lists
 -- what closing and opening a proposal leaves of a ledger
@@ -40,5 +36,3 @@ pub mod Rows
 pub mod Starts
 -- what holds of a post that isn't refused
 pub mod Takes
--- units of a case by their places
-pub mod UnitPlaces

@@ -1,8 +1,8 @@
 -- Numbers of tasks, lists over ranges, and the first of two that is there.
-use Rattle.std.proofs.Common.{◌≡◌, ℕ, zero, suc, ◌+◌, ◌-◌, ◌*◌, ◌<◌, ◌≤◌, true, inl, inr, Option, Some, None, List, ◌∷◌, map, refl, ap, ◌∙◌, arith}
+use Rattle.std.proofs.Common.{◌≡◌, ℕ, zero, suc, ◌+◌, ◌-◌, ◌*◌, ◌<◌, ◌≤◌, true, inl, inr, Option, Some, None, List, [], ◌∷◌, map, refl, ap, ◌∙◌, subst, arith}
 use Rattle.std.proofs.lemmas.Bool.{false≢true, cases_lt}
-use Rattle.std.specs.List.{range_with_len}
-use Rattle.std.specs.Prelude.{is_some}
+use Rattle.std.specs.List.{AllZip, range_with_len}
+use Rattle.std.specs.Prelude.{is_some, slice_get}
 use Rattle.board_history.specs.Rounds.{sooner}
 
 pub sooner_none : {X : Type 0} (o : Option X) → sooner o None ≡ o
@@ -37,3 +37,10 @@ place_same units m v n u a b i j h =
             (e, omega (arith, h, f))
       ]
     ]
+
+-- the item that goes with another
+pub partner : {X Y : Type 0} (R : X → Y → Type 0) (xs : List X) (ys : List Y) (i : ℕ) (x : X) → AllZip R xs ys → slice_get xs i ≡ Some x → (y : Y) × R x y
+partner R [] ys i x z e = (cc)
+partner R (a ∷ xs) [] i x z e = absurd z
+partner {X} {Y} R (a ∷ xs) (b ∷ ys) zero x z e = let s : a ≡ x = (cc) in (b, subst (λ (v : X). R v b) s z.0)
+partner R (a ∷ xs) (b ∷ ys) (suc i) x z e = partner R xs ys i x z.1 e

@@ -17,7 +17,9 @@ event_by replies.Closing c n u a = Closing c n u a
 event_by replies.Stopped c n u a = Stopped c
 
 abbrev pub event_of : ℕ → List Answer → Entry → Event Answer
-event_of units answers e = event_by e.reply e.caller e.proposal e.unit (slice_index_or answers (place units e.proposal e.unit) no_answer)
+event_of units answers e =
+    event_by e.reply e.caller e.proposal e.unit
+    (slice_index_or answers (place units e.proposal e.unit) no_answer)
 
 abbrev pub events_of : ℕ → List Answer → List Entry → List (Event Answer)
 events_of units answers entries = map (event_of units answers) entries

@@ -7,8 +7,9 @@ use Rattle.uc_model.specs.PriceRule.{Proposal}
 use Rattle.uc_model.specs.Schedules.{reserve_in}
 use Rattle.uc_model.specs.Sums.{int_at}
 
--- the proposals in their order, each with its prices once it is open and its value once it is closed, and with the totals
--- of the answers so far; the first so many are closed, and the first so many are open
+-- the proposals in their order, each with its prices once it is open and its value once it is
+-- closed, and with the totals of the answers so far; the first so many are closed, and the first so
+-- many are open
 pub record LedgerValue : Type 0 where
   pub proposals : List Proposal
   pub earned : List ℤ
@@ -37,4 +38,8 @@ raised_by xs f = map (λ k. int_at xs k +ℤ f k) (range_with_len 0 (length xs))
 
 -- with one more schedule in the totals
 abbrev pub with_schedule : Proposal → AnyUnit → Schedule → Proposal
-with_schedule r u s = record r { supply = raised_by r.supply (λ k. supply_in u s (suc k)); reserve = raised_by r.reserve (λ k. reserve_in s (suc k)) }
+with_schedule r u s =
+    record r {
+      supply = raised_by r.supply (λ k. supply_in u s (suc k));
+      reserve = raised_by r.reserve (λ k. reserve_in s (suc k));
+    }

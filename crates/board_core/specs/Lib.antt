@@ -6,7 +6,6 @@ pub mod Parts
 pub mod Refusals
 pub mod Replies
 pub mod Rounds
-pub mod Same
 pub mod Setups
 pub mod Stored
 pub mod Tasks

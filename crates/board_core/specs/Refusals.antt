@@ -1,5 +1,6 @@
 -- What the calls do, read off the lists of a board.
-use Rattle.std.specs.Prelude.{ℕ, ◌-◌, Bool, false, ◌||◌, ◌==◌, if◌then◌else◌, nat_le, nat_lt, Option, Some, None, List, slice_get, slice_index, slice_index_or}
+use Rattle.std.specs.Prelude.{ℕ, ◌-◌, Bool, false, ◌||◌, ◌==◌, if◌then◌else◌, nat_le, nat_lt}
+use Rattle.std.specs.Prelude.{Option, Some, None, List, slice_get, slice_index, slice_index_or}
 use Rattle.std.specs.Option.{option_map, option_map_or}
 use Rattle.board_history.specs.Board.{Setup}
 use Rattle.board_history.specs.Calls.{differs_from}
@@ -28,11 +29,15 @@ held_refusal marks takers i k =
     else if is_holder (slice_get takers i) k then None
     else Some (posted.Stranger (differs.Holder k (slice_get takers i)))
 
-abbrev pub refusal_of : Setup → LedgerValue → List Bool → List ℕ → (k n u : ℕ) → PriceLists → AnyUnit → Option Posted
+abbrev pub refusal_of : Setup → LedgerValue → List Bool → List ℕ → (k n u : ℕ) → PriceLists →
+    AnyUnit → Option Posted
 refusal_of b l marks takers k n u ρ x =
     if (n == 0) || nat_lt l.opened n then Some (posted.Stranger (differs.Proposal n l.opened))
-    else if nat_le (unit_count b.market) u then Some (posted.Stranger (differs.Unit u (unit_count b.market)))
-    else option_map_or (λ (d : Difference). Some (posted.Stranger (differs.Content d.place d.board d.task))) (differs_from b u ρ x (own_prices_in l n))
+    else if nat_le (unit_count b.market) u then Some
+    (posted.Stranger (differs.Unit u (unit_count b.market)))
+    else option_map_or (λ (d : Difference). Some
+    (posted.Stranger (differs.Content d.place d.board d.task)))
+    (differs_from b u ρ x (own_prices_in l n))
     (held_refusal marks takers (place (unit_count b.market) n u) k)
 
 abbrev pub reply_of : Bool → Reply

@@ -1,5 +1,7 @@
 -- Rows and prices read off the tallies of a board.
-use Rattle.std.specs.Prelude.{◌≡◌, ℕ, suc, ◌+◌, ◌-◌, ◌<◌, ◌≤◌, ℤ, ◌-ℤ◌, Bool, true, not, ◌&&◌, ◌==◌, if◌then◌else◌, nat_lt, List, [], ◌∷◌, ◌++◌, length, map, slice_index, slice_index_or}
+use Rattle.std.specs.Prelude.{◌≡◌, ℕ, suc, ◌+◌, ◌-◌, ◌<◌, ◌≤◌, ℤ, ◌-ℤ◌, Bool, true, not, ◌&&◌, ◌==◌}
+use Rattle.std.specs.Prelude.{if◌then◌else◌, nat_lt, List, [], ◌∷◌, ◌++◌, length, map, slice_index}
+use Rattle.std.specs.Prelude.{slice_index_or}
 use Rattle.std.specs.List.{range_with_len}
 use Rattle.board_history.specs.Board.{Setup, rules_of}
 use Rattle.board_history.specs.Rounds.{rows_by, prices_by, opened_in}
@@ -38,22 +40,30 @@ pub record IsRound (b : Setup) (units : ℕ) (counts : List ℕ) (s : Sums) (f :
   pub within : length f.rows ≤ b.budget
   pub full : (k : ℕ) → k < length f.rows → is_full units counts (suc k) ≡ true
   pub rows_are : f.rows ≡ rows_by (rules_of b) (row_in b.market s) (length f.rows)
-  pub prices_are : f.prices ≡ map (prices_by (rules_of b) (row_in b.market s)) (range_with_len 1 (opened_in (rules_of b) f.rows))
+  pub prices_are : f.prices ≡ map (prices_by (rules_of b) (row_in b.market s))
+      (range_with_len 1 (opened_in (rules_of b) f.rows))
 
 -- one more row at the prices of its proposal
 abbrev pub with_row : Market → Sums → Fronts → List Proposal
-with_row m s f = f.rows ++ row_in m s (slice_index_or f.prices (length f.rows) no_prices) (suc (length f.rows)) ∷ []
+with_row m s f =
+    f.rows ++ row_in m s (slice_index_or f.prices (length f.rows) no_prices) (suc (length f.rows))
+    ∷ []
 
--- whether one more proposal opens: the last that is open is as far ahead as it may be, there may be more, and the last
--- row isn't settled
+-- whether one more proposal opens: the last that is open is as far ahead as it may be, there may be
+-- more, and the last row isn't settled
 abbrev pub is_due : Setup → (closed opened : ℕ) → Bool
 is_due b closed opened = (opened + 1 == closed + b.ahead) && nat_lt opened b.budget
 
 abbrev pub opens : Setup → Fronts → Bool
-opens b f = is_due b (length f.rows) (length f.prices) && not (is_last_settled b.market b.cost f.rows)
+opens b f =
+    is_due b (length f.rows) (length f.prices) && not (is_last_settled b.market b.cost f.rows)
 
 abbrev pub with_opened : Setup → Fronts → Fronts
-with_opened b f = record f { prices = if opens b f then f.prices ++ next_prices b.market b.cost f.rows ∷ [] else f.prices }
+with_opened b f =
+    record f {
+      prices = if opens b f then f.prices ++ next_prices b.market b.cost f.rows
+          ∷ [] else f.prices;
+    }
 
 abbrev pub with_round : Setup → Sums → Fronts → Fronts
 with_round b s f = with_opened b (record f { rows = with_row b.market s f })

@@ -9,7 +9,8 @@ use Rattle.uc_model.specs.PlainUnits.{prices_of}
 use Rattle.uc_model.specs.Schedules.{IsFeasible}
 use Rattle.uc_model.specs.declared.cases.Task.{Task}
 
--- the task of a proposal and a unit number: its prices, and its unit, which has some feasible schedule
+-- the task of a proposal and a unit number: its prices, and its unit, which has some feasible
+-- schedule
 pub record IsOwnTask (c : Content) (n u : ℕ) (t : Task) : Type 0 where
   pub proposal : t.proposal ≡ n
   pub number : t.unit ≡ u
@@ -18,7 +19,8 @@ pub record IsOwnTask (c : Content) (n u : ℕ) (t : Task) : Type 0 where
   pub some_schedule : Schedule
   pub feasible : IsFeasible (task_unit t) c.setup.market.periods some_schedule
 
--- what a claim leaves where there was another task before: the task that it gives, or that other one
+-- what a claim leaves where there was another task before: the task that it gives, or that other
+-- one
 abbrev pub LeavesTask : Content → ClaimReply → Task → Task → Type 0
 LeavesTask c Finished before after = after ≡ before
 LeavesTask c Halted before after = after ≡ before

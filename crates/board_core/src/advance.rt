@@ -13,7 +13,8 @@ ghost use Rattle.uc_model.specs.PlainUnits.{prices_of};
 ghost use Rattle.uc_model.specs.PriceRule.{next_prices as prices_after};
 ghost use Rattle.uc_model.specs.Sums.{int_at};
 ghost use Rattle.board_core.specs.Parts.{IsLedger, sums_of, fronts_of};
-ghost use Rattle.board_core.specs.Rounds.{IsRound, row_in, is_full, with_row, with_opened, is_due as is_due_at};
+ghost use Rattle.board_core.specs.Rounds.{IsRound, row_in, is_full, with_row, with_opened};
+ghost use Rattle.board_core.specs.Rounds.{is_due as is_due_at};
 ghost use Rattle.board_core.specs.Setups.{IsSetup, setup_of};
 
 use crate::ledger::Ledger;
@@ -25,15 +26,21 @@ use uc_model::cases::Row;
 use uc_model::laws::plan_costs_are_within;
 use uc_model::units::Prices;
 
-// Whether prices follow these rows, of which the first with the greatest value is at `best`; then they are left in `into`.
+// Whether prices follow these rows, of which the first with the greatest value is at `best`; then
+// they are left in `into`.
 fn propose(terms: &Terms, rows: &[Row], best: usize, into: &mut Prices) -> bool
     requires setup { IsSetup (setup_of terms.now) }
     requires best { IsFirstUpTo (values_of (map proposal_of rows.now)) (length rows.now) best }
     requires count { length rows.now ≤ 10000 }
-    requires rows { All (IsRowBelow (setup_of terms.now).market (setup_of terms.now).cost) (map proposal_of rows.now) }
+    requires rows { All (IsRowBelow (setup_of terms.now).market (setup_of terms.now).cost)
+        (map proposal_of rows.now) }
     requires horizon { length (prices_of into.old).energy ≡ (setup_of terms.now).market.periods }
-    ensures settled { result ≡ not (is_last_settled (setup_of terms.now).market (setup_of terms.now).cost (map proposal_of rows.now)) }
-    ensures prices { result ≡ true → prices_of into.new ≡ prices_after (setup_of terms.now).market (setup_of terms.now).cost (map proposal_of rows.now) }
+    ensures settled { result
+        ≡ not (is_last_settled (setup_of terms.now).market (setup_of terms.now).cost
+        (map proposal_of rows.now)) }
+    ensures prices { result ≡ true → prices_of into.new
+        ≡ prices_after (setup_of terms.now).market (setup_of terms.now).cost
+        (map proposal_of rows.now) }
     ensures horizon { length (prices_of into.new).energy ≡ (setup_of terms.now).market.periods }
 {
     plan_costs_are_within();
@@ -57,9 +64,11 @@ fn open_next(terms: &Terms, ledger: &mut Ledger, next: &mut Prices)
     requires setup { IsSetup (setup_of terms.now) }
     requires ledger { IsLedger (setup_of terms.now) ledger.old }
     requires some { 1 ≤ ledger.old.closed }
-    requires rows { All (IsRowBelow (setup_of terms.now).market (setup_of terms.now).cost) (fronts_of ledger.old).rows }
+    requires rows { All (IsRowBelow (setup_of terms.now).market (setup_of terms.now).cost)
+        (fronts_of ledger.old).rows }
     requires horizon { length (prices_of next.old).energy ≡ (setup_of terms.now).market.periods }
-    ensures fronts { fronts_of ledger.new ≡ with_opened (setup_of terms.now) (fronts_of ledger.old) }
+    ensures fronts { fronts_of ledger.new ≡ with_opened (setup_of terms.now)
+        (fronts_of ledger.old) }
     ensures sums { sums_of ledger.new ≡ sums_of ledger.old }
     ensures ledger { IsLedger (setup_of terms.now) ledger.new }
     ensures closed { ledger.new.closed ≡ ledger.old.closed }
@@ -82,7 +91,12 @@ fn close_next(terms: &Terms, ledger: &mut Ledger)
     requires earned_count { length (sums_of ledger.old).earned ≡ (setup_of terms.now).budget }
     requires more { ledger.old.closed < ledger.old.opened }
     requires earned { IsSum (int_at (sums_of ledger.old).earned ledger.old.closed) }
-    ensures fronts { fronts_of ledger.new ≡ record { rows = with_row (setup_of terms.now).market (sums_of ledger.old) (fronts_of ledger.old); prices = (fronts_of ledger.old).prices } }
+    ensures fronts { fronts_of ledger.new ≡ record {
+      rows =
+          with_row (setup_of terms.now).market (sums_of ledger.old) (fronts_of ledger.old);
+      prices =
+          (fronts_of ledger.old).prices;
+    } }
     ensures sums { sums_of ledger.new ≡ sums_of ledger.old }
     ensures ledger { IsLedger (setup_of terms.now) ledger.new }
     ensures closed { ledger.new.closed ≡ ledger.old.closed + 1 }
@@ -93,19 +107,31 @@ fn close_next(terms: &Terms, ledger: &mut Ledger)
     ledger.close(value);
 }
 
-/// Closes all proposals from the first on whose units all have answers, and opens those that the rows then call for.
+/// Closes all proposals from the first on whose units all have answers, and opens those that the
+/// rows then call for.
 pub fn advance(terms: &Terms, counts: &[u32], ledger: &mut Ledger, next: &mut Prices)
     requires setup { IsSetup (setup_of terms.now) }
     requires counts { length counts.now ≡ (setup_of terms.now).budget }
     requires ledger { IsLedger (setup_of terms.now) ledger.old }
     requires earned_count { length (sums_of ledger.old).earned ≡ (setup_of terms.now).budget }
-    requires round { IsRound (setup_of terms.now) (unit_count (setup_of terms.now).market) counts.now (sums_of ledger.old) (fronts_of ledger.old) }
-    requires opened { (k : ℕ) → k < (setup_of terms.now).budget → is_full (unit_count (setup_of terms.now).market) counts.now (suc k) ≡ true → k < ledger.old.opened }
-    requires earned { (k : ℕ) → k < (setup_of terms.now).budget → IsSum (int_at (sums_of ledger.old).earned k) }
-    requires rows { (n : ℕ) → n ≤ (setup_of terms.now).budget → ((k : ℕ) → k < n → is_full (unit_count (setup_of terms.now).market) counts.now (suc k) ≡ true) → All (IsRowBelow (setup_of terms.now).market (setup_of terms.now).cost) (rows_by (rules_of (setup_of terms.now)) (row_in (setup_of terms.now).market (sums_of ledger.old)) n) }
+    requires round { IsRound (setup_of terms.now) (unit_count (setup_of terms.now).market)
+        counts.now (sums_of ledger.old) (fronts_of ledger.old) }
+    requires opened { (k : ℕ) → k < (setup_of terms.now).budget
+        → is_full (unit_count (setup_of terms.now).market) counts.now (suc k) ≡ true
+        → k < ledger.old.opened }
+    requires earned { (k : ℕ) → k < (setup_of terms.now).budget
+        → IsSum (int_at (sums_of ledger.old).earned k) }
+    requires rows { (n : ℕ) → n ≤ (setup_of terms.now).budget
+        → ((k : ℕ) → k < n → is_full (unit_count (setup_of terms.now).market) counts.now (suc k)
+        ≡ true) → All (IsRowBelow (setup_of terms.now).market (setup_of terms.now).cost)
+        (rows_by (rules_of (setup_of terms.now))
+        (row_in (setup_of terms.now).market (sums_of ledger.old)) n) }
     requires horizon { length (prices_of next.old).energy ≡ (setup_of terms.now).market.periods }
-    ensures round { IsRound (setup_of terms.now) (unit_count (setup_of terms.now).market) counts.now (sums_of ledger.new) (fronts_of ledger.new) }
-    ensures done { ledger.new.closed < (setup_of terms.now).budget → is_full (unit_count (setup_of terms.now).market) counts.now (suc ledger.new.closed) ≡ false }
+    ensures round { IsRound (setup_of terms.now) (unit_count (setup_of terms.now).market) counts.now
+        (sums_of ledger.new) (fronts_of ledger.new) }
+    ensures done { ledger.new.closed < (setup_of terms.now).budget
+        → is_full (unit_count (setup_of terms.now).market) counts.now (suc ledger.new.closed)
+        ≡ false }
     ensures sums { sums_of ledger.new ≡ sums_of ledger.old }
     ensures ledger { IsLedger (setup_of terms.now) ledger.new }
     ensures horizon { length (prices_of next.new).energy ≡ (setup_of terms.now).market.periods }

@@ -1,17 +1,19 @@
 //! The board.
-ghost use Rattle.std.specs.Prelude.{◌≡◌, ◌+◌, ◌*◌, ◌<◌, ◌≤◌, true, false, IfOk, Option, Some, [], length, map, take, replicate, slice_get};
+ghost use Rattle.std.specs.Prelude.{◌≡◌, ◌+◌, ◌*◌, ◌<◌, ◌≤◌, true, false, IfOk, Option, Some, []};
+ghost use Rattle.std.specs.Prelude.{length, map, take, replicate, slice_get};
 ghost use Rattle.board_history.specs.Board.{Content, IsLegalHistory};
-ghost use Rattle.board_history.specs.Calls.{own_rows, has_finished, claim_answer, after_claim, post_answer, after_post, after_halt};
+ghost use Rattle.board_history.specs.Calls.{own_rows, has_finished, claim_answer, after_claim};
+ghost use Rattle.board_history.specs.Calls.{post_answer, after_post, after_halt};
 ghost use Rattle.board_history.specs.Entries.{entries_of};
 ghost use Rattle.uc_model.specs.Data.{unit_count};
 ghost use Rattle.uc_model.specs.Earnings.{earnings};
 ghost use Rattle.uc_model.specs.PlainCases.{market_of, schedules_of, proposal_of, task_unit};
 ghost use Rattle.uc_model.specs.PlainUnits.{prices_of, schedule_of};
-ghost use Rattle.uc_model.specs.PriceRule.{chosen_number, start_prices as start_prices_of, opening_prices_of};
+ghost use Rattle.uc_model.specs.PriceRule.{chosen_number, start_prices as start_prices_of};
+ghost use Rattle.uc_model.specs.PriceRule.{opening_prices_of};
 ghost use Rattle.uc_model.specs.Runs.{Fits};
 ghost use Rattle.uc_model.specs.TaskRoom.{IsTaskFor};
 ghost use Rattle.board_core.specs.Boards.{setup_for, empty_board, kept_answer};
-ghost use Rattle.board_core.specs.Openings.{blank_ledger, with_openings};
 ghost use Rattle.board_core.specs.Replies.{claim_of, posted_of};
 ghost use Rattle.board_core.specs.Setups.{IsSetup, setup_of};
 ghost use Rattle.board_core.specs.Stored.{answer_of};
@@ -19,26 +21,26 @@ ghost use Rattle.board_core.specs.Tasks.{LeavesTask};
 
 use crate::advance::advance;
 use crate::ledger::Ledger;
+use crate::opening::{no_events, open_ledger};
 use crate::posts::{closed_of, count_up, post_entry, refusal};
 use crate::replies::{Claim, Posted};
-use crate::store::{Store, no_counts, no_flags};
-use crate::tasks::copy_task;
 use crate::terms::{Terms, place};
+use answer_store::Store;
 use board_history::entries::{Call, Entry, Reply};
 use board_history::laws::board_laws;
-use price_space::{opening_prices, start_prices};
+use board_task::tasks::copy_task;
 use std::alloc::{AllocError, Global};
 use std::marker::Model;
 use uc_model::cases::{Case, Plan, Row, Task};
-use uc_model::lists::Numbers;
 use uc_model::units::{Answered, Prices};
 
 mod closed;
 
 pub use closed::Closed;
 
-/// A board that one thread uses: callers claim tasks and post answers. Contracts see it as what it was made for and the
-/// list of its events. Its history is legal, and its plan feasible (`Board::is_legal`).
+/// A board that one thread uses: callers claim tasks and post answers. Contracts see it as what it
+/// was made for and the list of its events. Its history is legal, and its plan feasible
+/// (`Board::is_legal`).
 pub struct Board {
     terms: Terms,
     history: Vec<Entry>,
@@ -66,17 +68,25 @@ impl Model for Board {
     ghost use Rattle.board_core.specs.Events.{events_of};
     ghost use Rattle.board_core.specs.Parts.{IsBoard, IsKept};
     ghost use Rattle.board_core.specs.Setups.{setup_of};
+    ghost use Rattle.board_core.specs.Stored.{answers_kept};
 
     ghost Value = { Content };
 
-    ghost view = { λ b. record { setup = setup_of b.terms; events = events_of (unit_count (setup_of b.terms).market) b.store.answers b.history.items } };
+    ghost view = { λ b. record {
+      setup = setup_of b.terms;
+      events =
+          events_of (unit_count (setup_of b.terms).market) (answers_kept b.store) b.history.items;
+    } };
 
     ghost invariant = { λ b.
-        IsBoard (setup_of b.terms) (events_of (unit_count (setup_of b.terms).market) b.store.answers b.history.items)
-        (record { takers = b.takers.items; marks = b.marks.items; kept = b.store.answers; counts = b.counts.items; halted = b.halted.items; any_halt = b.any_halt }) b.ledger
-        × IsKept (setup_of b.terms) (events_of (unit_count (setup_of b.terms).market) b.store.answers b.history.items) b.history.items
-        (record { takers = b.takers.items; marks = b.marks.items; kept = b.store.answers; counts = b.counts.items; halted = b.halted.items; any_halt = b.any_halt })
-        (vec_capacity b.history) (vec_capacity b.takers) b.store.periods (length (prices_of b.next).energy)
+        IsBoard (setup_of b.terms) (events_of (unit_count (setup_of b.terms).market) (answers_kept b.store) b.history.items)
+        (record { takers = b.takers.items; marks = b.marks.items; kept = answers_kept b.store; counts = b.counts.items; halted = b.halted.items; any_halt = b.any_halt }) b.ledger
+        × IsKept (setup_of b.terms)
+        (events_of (unit_count (setup_of b.terms).market) (answers_kept b.store) b.history.items)
+        b.history.items
+        (record { takers = b.takers.items; marks = b.marks.items; kept = answers_kept b.store; counts = b.counts.items; halted = b.halted.items; any_halt = b.any_halt })
+        (vec_capacity b.history) (vec_capacity b.takers) b.store.periods
+        (length (prices_of b.next).energy)
         × IsTaskFor (setup_of b.terms).market.periods b.own };
 }
 
@@ -99,26 +109,13 @@ impl Drop for Board {
     }
 }
 
-// Opens so many proposals at the opening prices.
-fn open_first(start: &Numbers, count: u32, ledger: &mut Ledger, next: &mut Prices)
-    requires count { count ≤ 16 }
-    requires start { length start.now.items ≡ length (prices_of next.old).energy }
-    requires blank { ledger.old ≡ blank_ledger (length start.now.items) (length ledger.old.proposals) }
-    requires within { count ≤ length ledger.old.proposals }
-    ensures ledger { ledger.new ≡ with_openings start.now.items ledger.old count }
-    ensures horizon { length (prices_of next.new).energy ≡ length (prices_of next.old).energy }
-{
-    for k in 0..count {
-        opening_prices(start, k + 1, next);
-        ledger.open(next);
-    }
-}
-
 impl Board {
-    /// A board without events for a case and a feasible plan with its cost, with up to `budget` proposals, of which
-    /// those 1 to `ahead` are open, and for so many callers. All memory that it ever needs is taken here; case and plan are
-    /// dropped where there isn't enough. Conditions: the plan is feasible and `cost` is its cost; 1 to 10,000 proposals, 1
-    /// to 16 ahead, 1 to 33 callers, and at most 50,000,000 for proposals times units times periods, bids counted as units.
+    /// A board without events for a case and a feasible plan with its cost, with up to `budget`
+    /// proposals, of which those 1 to `ahead` are open, and for so many callers. All memory that it
+    /// ever needs is taken here; case and plan are dropped where there isn't enough. Conditions:
+    /// the plan is feasible and `cost` is its cost; 1 to 10,000 proposals, 1 to 16 ahead, 1 to 33
+    /// callers, and at most 50,000,000 for proposals times units times periods, bids counted as
+    /// units.
     pub fn make(
         alloc: Global,
         case: Case,
@@ -129,7 +126,8 @@ impl Board {
         callers: u32,
     ) -> Result<Board, AllocError>
         requires { IsSetup (setup_for case plan cost budget ahead callers) }
-        ensures { IfOk result (λ b. b ≡ empty_board (setup_for case plan cost budget ahead callers)) }
+        ensures { IfOk result
+            (λ b. b ≡ empty_board (setup_for case plan cost budget ahead callers)) }
     {
         board_laws();
         let terms = Terms {
@@ -142,37 +140,32 @@ impl Board {
         };
         let periods = terms.case.periods;
         let tasks = budget as usize * terms.units() as usize;
-        let callers = callers as usize;
-        let history = Vec::with_capacity(alloc, 2 * tasks + callers)?;
-        let takers = Vec::with_capacity(alloc, tasks)?;
-        let marks = no_flags(alloc, tasks)?;
+        let lists = no_events(alloc, tasks, budget as usize, callers as usize)?;
         let store = Store::make(alloc, tasks, periods)?;
-        let counts = no_counts(alloc, budget as usize)?;
-        let start = start_prices(alloc, &terms.case)?;
-        let mut ledger = Ledger::make(alloc, periods, budget)?;
         let mut next = Prices::make(alloc, periods)?;
-        open_first(&start, budget.min(ahead), &mut ledger, &mut next);
+        let ledger = open_ledger(alloc, &terms.case, budget, ahead, &mut next)?;
         let own = Task::make(alloc, periods)?;
-        let halted = no_flags(alloc, callers)?;
         Ok(Board {
             terms,
-            history,
-            takers,
-            marks,
+            history: lists.history,
+            takers: lists.takers,
+            marks: lists.marks,
             store,
-            counts,
+            counts: lists.counts,
             ledger,
             next,
             own,
-            halted,
+            halted: lists.halted,
             any_halt: false,
         })
     }
 
-    /// Claims a task for a caller. Answers the first that applies: `Finished` where every proposal that exists is closed;
-    /// `Halted` where some caller has halted; `Given` where an open proposal has an unclaimed unit; and `NotYet`. The task
-    /// given is the lowest unclaimed unit of the lowest such proposal, and is left in `into`, which is for the periods of the
-    /// case and stays so; it stays as it is at the other answers. Some schedule of the unit is feasible. Takes no memory.
+    /// Claims a task for a caller. Answers the first that applies: `Finished` where every proposal
+    /// that exists is closed; `Halted` where some caller has halted; `Given` where an open proposal
+    /// has an unclaimed unit; and `NotYet`. The task given is the lowest unclaimed unit of the
+    /// lowest such proposal, and is left in `into`, which is for the periods of the case and stays
+    /// so; it stays as it is at the other answers. Some schedule of the unit is feasible. Takes no
+    /// memory.
     pub fn claim(&mut self, caller: u32, into: &mut Task) -> Claim
         requires caller { caller < self.old.setup.callers }
         requires room { IsTaskFor self.old.setup.market.periods into.old }
@@ -210,17 +203,24 @@ impl Board {
         Claim::Given
     }
 
-    /// Posts an answer for a task, which is one that `Fits` the task's unit at the task's prices, with what it earns. Answers
-    /// the first that applies: `Stranger` where the task's proposal is 0 or isn't open yet, where there is no unit of its
-    /// number, or where its flat list differs from that of the board's own task; `Doubled` where an answer stands; `Stranger`
-    /// where the caller doesn't hold the task; and `Taken`, also after a halt. Then the answer is kept, and the proposal is
-    /// named that it closed, if it closed one. At the other answers the board stays as it is. Takes no memory.
+    /// Posts an answer for a task, which is one that `Fits` the task's unit at the task's prices,
+    /// with what it earns. Answers the first that applies: `Stranger` where the task's proposal is
+    /// 0 or isn't open yet, where there is no unit of its number, or where its flat list differs
+    /// from that of the board's own task; `Doubled` where an answer stands; `Stranger` where the
+    /// caller doesn't hold the task; and `Taken`, also after a halt. Then the answer is kept, and
+    /// the proposal is named that it closed, if it closed one. At the other answers the board stays
+    /// as it is. Takes no memory.
     pub fn post(&mut self, caller: u32, task: &Task, answer: &Answered) -> Posted
         requires caller { caller < self.old.setup.callers }
-        requires fit { Fits (task_unit task.now) (prices_of task.now.prices) (schedule_of answer.now.response) }
-        requires earned { earnings (task_unit task.now) (prices_of task.now.prices) (schedule_of answer.now.response) ≡ answer.now.earned }
-        ensures answer { result ≡ posted_of (post_answer self.old caller task.now.proposal task.now.unit (prices_of task.now.prices) (task_unit task.now) (answer_of answer.now)) }
-        ensures after { self.new ≡ after_post self.old caller task.now.proposal task.now.unit (prices_of task.now.prices) (task_unit task.now) (answer_of answer.now) }
+        requires fit { Fits (task_unit task.now) (prices_of task.now.prices)
+            (schedule_of answer.now.response) }
+        requires earned { earnings (task_unit task.now) (prices_of task.now.prices)
+            (schedule_of answer.now.response) ≡ answer.now.earned }
+        ensures answer { result ≡ posted_of
+            (post_answer self.old caller task.now.proposal task.now.unit (prices_of task.now.prices)
+            (task_unit task.now) (answer_of answer.now)) }
+        ensures after { self.new ≡ after_post self.old caller task.now.proposal task.now.unit
+            (prices_of task.now.prices) (task_unit task.now) (answer_of answer.now) }
     {
         board_laws();
         let refused = refusal(
@@ -249,8 +249,8 @@ impl Board {
         }
     }
 
-    /// Halts a caller: no further task is given to anyone, and posts are still taken. A later halt of the same caller changes
-    /// nothing. Takes no memory.
+    /// Halts a caller: no further task is given to anyone, and posts are still taken. A later halt
+    /// of the same caller changes nothing. Takes no memory.
     pub fn halt(&mut self, caller: u32)
         requires { caller < self.old.setup.callers }
         ensures { self.new ≡ after_halt self.old caller }
@@ -285,8 +285,8 @@ impl Board {
         self.terms.callers
     }
 
-    /// What holds of every board: its history is what its calls made, each answer that was taken fits its task, the plan
-    /// is feasible at its cost, and the numbers are within their limits.
+    /// What holds of every board: its history is what its calls made, each answer that was taken
+    /// fits its task, the plan is feasible at its cost, and the numbers are within their limits.
     pub fn is_legal(&self)
         ensures legal { IsLegalHistory self.now.setup self.now.events }
         ensures setup { IsSetup self.now.setup }
@@ -342,9 +342,11 @@ impl Board {
         requires first { 1 ≤ proposal }
         requires last { proposal ≤ length (own_rows self.now) }
         requires unit { unit < unit_count self.now.setup.market }
-        requires horizon { length (schedule_of into.old.response).on ≡ self.now.setup.market.periods }
+        requires horizon { length (schedule_of into.old.response).on
+            ≡ self.now.setup.market.periods }
         ensures answer { answer_of into.new ≡ kept_answer self.now proposal unit }
-        ensures horizon { length (schedule_of into.new.response).on ≡ self.now.setup.market.periods }
+        ensures horizon { length (schedule_of into.new.response).on
+            ≡ self.now.setup.market.periods }
     {
         board_laws();
         self.store

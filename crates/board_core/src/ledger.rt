@@ -1,5 +1,6 @@
 //! The proposals in their order.
-ghost use Rattle.std.specs.Prelude.{◌≡◌, ℕ, suc, pos, neg_ℤ, ◌+ℤ◌, ◌+◌, ◌<◌, ◌≤◌, length, map, take, replicate, IfOk, slice_index_or, slice_set};
+ghost use Rattle.std.specs.Prelude.{◌≡◌, ℕ, suc, pos, neg_ℤ, ◌+ℤ◌, ◌+◌, ◌<◌, ◌≤◌, length, map};
+ghost use Rattle.std.specs.Prelude.{take, replicate, IfOk, slice_index_or, slice_set};
 ghost use Rattle.std.specs.List.{All};
 ghost use Rattle.dual_value.specs.Totals.{IsTotal};
 ghost use Rattle.price_move.specs.Firsts.{IsFirstUpTo};
@@ -12,7 +13,7 @@ ghost use Rattle.uc_model.specs.Schedules.{IsFeasible};
 ghost use Rattle.uc_model.specs.Sums.{int_at};
 ghost use Rattle.board_core.specs.Ledgers.{blank, with_prices, with_value, with_schedule};
 
-use crate::tasks::copy_prices;
+use board_task::tasks::copy_prices;
 use dual_value::{add_response, take_bid};
 use price_move::greatest_with;
 use std::alloc::{AllocError, Global};
@@ -42,9 +43,16 @@ impl Model for Ledger {
 
     ghost Value = { LedgerValue };
 
-    ghost view = { λ l. record { proposals = map proposal_of l.proposals.items; earned = l.earned.items; closed = l.closed; opened = l.opened } };
+    ghost view = { λ l. record {
+      proposals = map proposal_of l.proposals.items;
+      earned =
+          l.earned.items;
+      closed = l.closed;
+      opened = l.opened;
+    } };
 
-    ghost invariant = { λ l. 0 < l.closed → IsFirstUpTo (values_of (map proposal_of l.proposals.items)) l.closed l.best };
+    ghost invariant = { λ l. 0 < l.closed
+        → IsFirstUpTo (values_of (map proposal_of l.proposals.items)) l.closed l.best };
 }
 
 fn blank_row(alloc: Global, periods: u32) -> Result<Row, AllocError>
@@ -90,11 +98,14 @@ fn set_value(row: &mut Row, value: i128)
 }
 
 fn add_answer(row: &mut Row, task: &Task, answer: &Answered)
-    requires horizon { length (schedule_of answer.now.response).on ≡ length (proposal_of row.old).prices.energy }
-    requires feasible { IsFeasible (task_unit task.now) (length (schedule_of answer.now.response).on) (schedule_of answer.now.response) }
+    requires horizon { length (schedule_of answer.now.response).on
+        ≡ length (proposal_of row.old).prices.energy }
+    requires feasible { IsFeasible (task_unit task.now)
+        (length (schedule_of answer.now.response).on) (schedule_of answer.now.response) }
     requires supply { All IsTotal (proposal_of row.old).supply }
     requires reserve { All IsTotal (proposal_of row.old).reserve }
-    ensures { proposal_of row.new ≡ with_schedule (proposal_of row.old) (task_unit task.now) (schedule_of answer.now.response) }
+    ensures { proposal_of row.new ≡ with_schedule (proposal_of row.old) (task_unit task.now)
+        (schedule_of answer.now.response) }
 {
     match task.kind {
         UnitKind::Thermal => add_response(row, &answer.response),
@@ -164,7 +175,8 @@ impl Ledger {
     pub fn best(&self) -> usize
         requires some { 1 ≤ self.now.closed }
         requires within { self.now.closed ≤ length self.now.proposals }
-        ensures { IsFirstUpTo (values_of (take self.now.closed self.now.proposals)) self.now.closed result }
+        ensures { IsFirstUpTo (values_of (take self.now.closed self.now.proposals)) self.now.closed
+            result }
     {
         self.best
     }
@@ -172,7 +184,8 @@ impl Ledger {
     /// The prices of the proposal at a place, which counts from 0.
     pub fn prices(&self, place: usize) -> &Prices
         requires { place < length self.now.proposals }
-        ensures { (d : Proposal) → prices_of result.now ≡ (slice_index_or self.now.proposals place d).prices }
+        ensures { (d : Proposal) → prices_of result.now
+            ≡ (slice_index_or self.now.proposals place d).prices }
     {
         &self.proposals[place].prices
     }
@@ -188,8 +201,13 @@ impl Ledger {
     /// Opens the next proposal at prices.
     pub fn open(&mut self, prices: &Prices)
         requires place { self.old.opened < length self.old.proposals }
-        requires horizon { (d : Proposal) → length (prices_of prices.now).energy ≡ length (slice_index_or self.old.proposals self.old.opened d).prices.energy }
-        ensures proposals { (d : Proposal) → self.new.proposals ≡ slice_set self.old.proposals self.old.opened (with_prices (slice_index_or self.old.proposals self.old.opened d) (prices_of prices.now)) }
+        requires horizon { (d : Proposal)
+            → length (prices_of prices.now).energy
+            ≡ length (slice_index_or self.old.proposals self.old.opened d).prices.energy }
+        ensures proposals { (d : Proposal)
+            → self.new.proposals ≡ slice_set self.old.proposals self.old.opened
+            (with_prices (slice_index_or self.old.proposals self.old.opened d)
+            (prices_of prices.now)) }
         ensures earned { self.new.earned ≡ self.old.earned }
         ensures closed { self.new.closed ≡ self.old.closed }
         ensures opened { self.new.opened ≡ self.old.opened + 1 }
@@ -201,7 +219,9 @@ impl Ledger {
     /// Closes the next proposal with its value.
     pub fn close(&mut self, value: i128)
         requires { self.old.closed < length self.old.proposals }
-        ensures proposals { (d : Proposal) → self.new.proposals ≡ slice_set self.old.proposals self.old.closed (with_value (slice_index_or self.old.proposals self.old.closed d) value) }
+        ensures proposals { (d : Proposal)
+            → self.new.proposals ≡ slice_set self.old.proposals self.old.closed
+            (with_value (slice_index_or self.old.proposals self.old.closed d) value) }
         ensures earned { self.new.earned ≡ self.old.earned }
         ensures closed { self.new.closed ≡ self.old.closed + 1 }
         ensures opened { self.new.opened ≡ self.old.opened }
@@ -216,13 +236,23 @@ impl Ledger {
     pub fn add(&mut self, place: usize, task: &Task, answer: &Answered)
         requires place { place < length self.old.proposals }
         requires earned_place { place < length self.old.earned }
-        requires horizon { (d : Proposal) → length (schedule_of answer.now.response).on ≡ length (slice_index_or self.old.proposals place d).prices.energy }
-        requires feasible { IsFeasible (task_unit task.now) (length (schedule_of answer.now.response).on) (schedule_of answer.now.response) }
-        requires supply { (d : Proposal) → All IsTotal (slice_index_or self.old.proposals place d).supply }
-        requires reserve { (d : Proposal) → All IsTotal (slice_index_or self.old.proposals place d).reserve }
-        requires earned { IsFrom (neg_ℤ (pos 100000000000000000000000)) (pos 100000000000000000000000) (int_at self.old.earned place) }
-        ensures proposals { (d : Proposal) → self.new.proposals ≡ slice_set self.old.proposals place (with_schedule (slice_index_or self.old.proposals place d) (task_unit task.now) (schedule_of answer.now.response)) }
-        ensures earned { self.new.earned ≡ slice_set self.old.earned place (int_at self.old.earned place +ℤ answer.now.earned) }
+        requires horizon { (d : Proposal)
+            → length (schedule_of answer.now.response).on
+            ≡ length (slice_index_or self.old.proposals place d).prices.energy }
+        requires feasible { IsFeasible (task_unit task.now)
+            (length (schedule_of answer.now.response).on) (schedule_of answer.now.response) }
+        requires supply { (d : Proposal)
+            → All IsTotal (slice_index_or self.old.proposals place d).supply }
+        requires reserve { (d : Proposal)
+            → All IsTotal (slice_index_or self.old.proposals place d).reserve }
+        requires earned { IsFrom (neg_ℤ (pos 100000000000000000000000))
+            (pos 100000000000000000000000) (int_at self.old.earned place) }
+        ensures proposals { (d : Proposal)
+            → self.new.proposals ≡ slice_set self.old.proposals place
+            (with_schedule (slice_index_or self.old.proposals place d) (task_unit task.now)
+            (schedule_of answer.now.response)) }
+        ensures earned { self.new.earned ≡ slice_set self.old.earned place
+            (int_at self.old.earned place +ℤ answer.now.earned) }
         ensures closed { self.new.closed ≡ self.old.closed }
         ensures opened { self.new.opened ≡ self.old.opened }
     {

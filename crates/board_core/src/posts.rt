@@ -1,5 +1,6 @@
 //! Why a post is refused, and the parts of one that is taken.
-ghost use Rattle.std.specs.Prelude.{◌≡◌, ℕ, ◌+◌, ◌-◌, ◌<◌, ◌≤◌, true, ◌==◌, length, slice_get, slice_index, slice_index_or, slice_set, false};
+ghost use Rattle.std.specs.Prelude.{◌≡◌, ℕ, ◌+◌, ◌-◌, ◌<◌, ◌≤◌, true, ◌==◌, length, slice_get};
+ghost use Rattle.std.specs.Prelude.{slice_index, slice_index_or, slice_set, false};
 ghost use Rattle.board_history.specs.Rounds.{is_holder as is_holder_of};
 ghost use Rattle.board_history.specs.Tasks.{difference as difference_of};
 ghost use Rattle.board_history.specs.Calls.{differs_from};
@@ -10,27 +11,30 @@ ghost use Rattle.uc_model.specs.PriceRule.{Proposal};
 ghost use Rattle.uc_model.specs.TaskLists.{task_numbers};
 ghost use Rattle.uc_model.specs.TaskRoom.{IsTaskFor};
 ghost use Rattle.board_core.specs.Events.{place as place_of};
-ghost use Rattle.board_core.specs.Refusals.{held_refusal, differs_of, own_prices_in, refusal_of, reply_of};
+ghost use Rattle.board_core.specs.Refusals.{held_refusal, differs_of, own_prices_in, refusal_of};
+ghost use Rattle.board_core.specs.Refusals.{reply_of};
 ghost use Rattle.board_core.specs.Replies.{closed_of as closed_if};
 ghost use Rattle.board_core.specs.Setups.{IsSetup, setup_of};
 
 use crate::ledger::Ledger;
 use crate::replies::{Differs, Posted};
-use crate::same::{alike, is_unit_of, same_prices};
-use crate::tasks::copy_task;
 use crate::terms::{Terms, place};
 use board_history::entries::{Call, Entry, Reply};
 use board_history::laws::differences_mean;
+use board_task::same::{alike, is_unit_of, same_prices};
+use board_task::tasks::copy_task;
 use uc_model::cases::Task;
 use uc_model::flat_list::flat_number;
 
 // A flat list has at most 336 prices, and a unit at most 168 marks or 17 numbers for each period.
 const MOST_NUMBERS: u32 = 4_000;
 
-// The first place at which the flat lists of two tasks differ, with the two numbers there. A number of a bid is found by
-// going over its periods, so the walk begins at the first period that differs.
+// The first place at which the flat lists of two tasks differ, with the two numbers there. A number
+// of a bid is found by going over its periods, so the walk begins at the first period that differs.
 fn difference(own: &Task, task: &Task) -> Option<Differs>
-    ensures { result ≡ differs_of (difference_of (task_numbers (prices_of own.now.prices) (task_unit own.now)) (task_numbers (prices_of task.now.prices) (task_unit task.now))) }
+    ensures { result ≡ differs_of
+        (difference_of (task_numbers (prices_of own.now.prices) (task_unit own.now))
+        (task_numbers (prices_of task.now.prices) (task_unit task.now))) }
 {
     differences_mean();
     for place in alike(own, task)..MOST_NUMBERS {
@@ -43,15 +47,19 @@ fn difference(own: &Task, task: &Task) -> Option<Differs>
     None
 }
 
-// Where a task differs from the board's own of its proposal and unit. That one is built in `own` only where the two
-// aren't seen to be the same at once.
+// Where a task differs from the board's own of its proposal and unit. That one is built in `own`
+// only where the two aren't seen to be the same at once.
 fn content(terms: &Terms, ledger: &Ledger, own: &mut Task, task: &Task) -> Option<Differs>
     requires first { 1 ≤ task.now.proposal }
     requires last { task.now.proposal ≤ length ledger.now.proposals }
     requires unit { task.now.unit < unit_count (setup_of terms.now).market }
     requires room { IsTaskFor (setup_of terms.now).market.periods own.old }
-    requires horizon { (d : Proposal) → length (slice_index_or ledger.now.proposals (task.now.proposal - 1) d).prices.energy ≡ (setup_of terms.now).market.periods }
-    ensures differs { result ≡ differs_of (differs_from (setup_of terms.now) task.now.unit (prices_of task.now.prices) (task_unit task.now) (own_prices_in ledger.now task.now.proposal)) }
+    requires horizon { (d : Proposal)
+        → length (slice_index_or ledger.now.proposals (task.now.proposal - 1) d).prices.energy
+        ≡ (setup_of terms.now).market.periods }
+    ensures differs { result ≡ differs_of
+        (differs_from (setup_of terms.now) task.now.unit (prices_of task.now.prices)
+        (task_unit task.now) (own_prices_in ledger.now task.now.proposal)) }
     ensures room { IsTaskFor (setup_of terms.now).market.periods own.new }
 {
     differences_mean();
@@ -94,7 +102,8 @@ fn refusal_at(marks: &[bool], takers: &[u32], at: usize, caller: u32) -> Option<
     Some(Posted::Stranger(Differs::Holder { caller, holder }))
 }
 
-/// Why a post is refused, if it is. Where the task differs from the board's own, that one is left in `own`.
+/// Why a post is refused, if it is. Where the task differs from the board's own, that one is left
+/// in `own`.
 pub fn refusal(
     terms: &Terms,
     ledger: &Ledger,
@@ -107,11 +116,16 @@ pub fn refusal(
     requires setup { IsSetup (setup_of terms.now) }
     requires opened { ledger.now.opened ≤ length ledger.now.proposals }
     requires few { ledger.now.opened ≤ 10000 }
-    requires horizon { (k : ℕ) (d : Proposal) → k < ledger.now.opened → length (slice_index_or ledger.now.proposals k d).prices.energy ≡ (setup_of terms.now).market.periods }
+    requires horizon { (k : ℕ) (d : Proposal) → k < ledger.now.opened
+        → length (slice_index_or ledger.now.proposals k d).prices.energy
+        ≡ (setup_of terms.now).market.periods }
     requires room { IsTaskFor (setup_of terms.now).market.periods own.old }
-    requires marks { (n u : ℕ) → 0 < n → n ≤ ledger.now.opened → u < unit_count (setup_of terms.now).market → place_of (unit_count (setup_of terms.now).market) n u < length marks.now }
+    requires marks { (n u : ℕ) → 0 < n → n ≤ ledger.now.opened
+        → u < unit_count (setup_of terms.now).market
+        → place_of (unit_count (setup_of terms.now).market) n u < length marks.now }
     requires takers { (i : ℕ) → slice_index_or marks.now i false ≡ true → i < length takers.now }
-    ensures refused { result ≡ refusal_of (setup_of terms.now) ledger.now marks.now takers.now caller task.now.proposal task.now.unit (prices_of task.now.prices) (task_unit task.now) }
+    ensures refused { result ≡ refusal_of (setup_of terms.now) ledger.now marks.now takers.now
+        caller task.now.proposal task.now.unit (prices_of task.now.prices) (task_unit task.now) }
     ensures room { IsTaskFor (setup_of terms.now).market.periods own.new }
 {
     let opened = ledger.opened();
@@ -139,7 +153,8 @@ pub fn refusal(
 pub fn count_up(counts: &mut Vec<u32>, place: usize) -> u32
     requires place { place < length counts.old.items }
     requires count { slice_index counts.old.items place ≤ 12288 }
-    ensures counts { counts.new.items ≡ slice_set counts.old.items place (slice_index counts.old.items place + 1) }
+    ensures counts { counts.new.items ≡ slice_set counts.old.items place
+        (slice_index counts.old.items place + 1) }
     ensures count { result ≡ slice_index counts.old.items place + 1 }
 {
     let count = counts[place] + 1;
@@ -155,7 +170,14 @@ fn reply_to(closes: bool) -> Reply
 
 /// The entry of a post that is taken.
 pub fn post_entry(caller: u32, task: &Task, closes: bool) -> Entry
-    ensures { result ≡ record { caller = caller; call = Call.Post; proposal = task.now.proposal; unit = task.now.unit; reply = reply_of closes } }
+    ensures { result ≡ record {
+      caller = caller;
+      call = Call.Post;
+      proposal =
+          task.now.proposal;
+      unit = task.now.unit;
+      reply = reply_of closes;
+    } }
 {
     Entry {
         caller,

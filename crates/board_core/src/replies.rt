@@ -20,13 +20,15 @@ pub enum Differs {
     Proposal { task: u32, opened: u32 },
     /// There is no unit of the task's number.
     Unit { task: u32, units: u32 },
-    /// The first place, from 0, at which the flat lists of the two tasks differ, and the two numbers there.
+    /// The first place, from 0, at which the flat lists of the two tasks differ, and the two
+    /// numbers there.
     Content { place: u32, board: i64, task: i64 },
     /// The task wasn't given to this caller, but to the holder, if to one.
     Holder { caller: u32, holder: Option<u32> },
 }
 
-/// What a post answers: the first that applies, where a stranger task's holder comes after a second answer.
+/// What a post answers: the first that applies, where a stranger task's holder comes after a second
+/// answer.
 #[derive(Clone, Copy, PartialEq, Eq, Debug)]
 pub enum Posted {
     /// The task isn't the board's own, or isn't held by this caller.

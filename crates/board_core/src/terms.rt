@@ -6,8 +6,8 @@ ghost use Rattle.board_core.specs.Setups.{setup_of};
 
 use uc_model::cases::{Case, Plan};
 
-/// A case with a feasible plan and its cost in money; how many proposals there may be, how many are open ahead of the
-/// closed ones, and the number of callers.
+/// A case with a feasible plan and its cost in money; how many proposals there may be, how many are
+/// open ahead of the closed ones, and the number of callers.
 #[derive(Drop)]
 pub struct Terms {
     pub case: Case,

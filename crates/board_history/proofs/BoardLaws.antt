@@ -6,6 +6,7 @@ use Rattle.board_history.specs.BoardLaws.{FrontIsClosed, IsOneEventMore, TakenTe
 use Rattle.board_history.specs.Calls.{differs_from}
 use Rattle.board_history.specs.Rounds.{Event, Given, Taken, Closing, Stopped, Posts, posts, is_closed}
 use Rattle.uc_model.specs.Data.{PriceLists, units, unit_count}
+use Rattle.uc_model.specs.Laws.{DualIsAtMostCost}
 use Rattle.uc_model.specs.Runs.{Fits}
 use Rattle.uc_model.specs.Schedules.{IsFeasible}
 use Rattle.board_history.proofs.Answered.{posts-given, posts-taken, posts-closing, posts-stopped, holders-given, holders-taken, holders-closing, holders-stopped, extends_with, post_cases}
@@ -19,6 +20,7 @@ use Rattle.board_history.proofs.RowBounds.{fit_lengths, totals_within, rows_are_
 use Rattle.board_history.proofs.RowLaws.{units_length, fits_is_best, answers_fit_now}
 use Rattle.board_history.proofs.Stays.{legal_more}
 use Rattle.board_history.proofs.Totals.{totals_run}
+use Rattle.board_history.proofs.UnitBounds.{ModelLaws}
 
 one_event : (h : List (Event Answer)) (e : Event Answer) → IsOneEventMore h e
 one_event h (Given c n u) = record { posts_are = posts-given h c n u; holders_are = fun_ext (λ m. fun_ext (λ v. holders-given h c n u m v)) }
@@ -71,8 +73,8 @@ round_laws b =
       adds = λ f f2 u x. totals_run (units b.market) f f2 u (unit_count b.market) x (units_length b.market);
     }
 
-pub board_laws : BoardLaws
-board_laws = record {
+pub board_laws : ModelLaws → DualIsAtMostCost → BoardLaws
+board_laws laws dual = record {
   of = round_laws;
   one_post = λ p c n u a. record { extends = extends_with p c n u a; cases = post_cases p c n u a };
   one_event = one_event;
@@ -80,7 +82,7 @@ board_laws = record {
   taken_tells = taken_tells;
   claims_mean = λ b h. claim_says (rules_of b) h;
   answers_fit = answers_fit_now;
-  totals_are_within = totals_within;
-  rows_are_within = rows_are_within;
-  rows_are_at_most_cost = rows_are_at_most_cost;
+  totals_are_within = totals_within laws;
+  rows_are_within = rows_are_within laws;
+  rows_are_at_most_cost = rows_are_at_most_cost laws dual;
 }

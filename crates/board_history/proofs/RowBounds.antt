@@ -12,17 +12,13 @@ use Rattle.std.specs.Option.{option_map_or}
 use Rattle.std.specs.Prelude.{nat_le, slice_get}
 use Rattle.uc_model.specs.Data.{AnyUnit, Bid, PriceLists, Schedule, Market, units, unit_count}
 use Rattle.uc_model.specs.BoundLaws.{GivesWithin}
+use Rattle.uc_model.specs.Laws.{DualIsAtMostCost}
 use Rattle.uc_model.specs.Limits.{IsFrom, IsUnit, IsTotal, IsHorizon, IsMarket, ArePrices, price_limit}
 use Rattle.uc_model.specs.PriceRule.{Proposal, start_prices, opening_prices_of, stepped_prices, move_of, squared_length, energy_direction, reserve_direction, age, no_prices, next_prices}
 use Rattle.uc_model.specs.Runs.{Fits}
 use Rattle.uc_model.specs.Sums.{int_at, total, floor_div, clamped}
 use Rattle.uc_model.specs.Systems.{total_power, total_reserve}
-use Rattle.uc_model.proofs.Duality.{dual_at_most_cost}
-use Rattle.uc_model.proofs.Bounds.{outputs_within}
-use Rattle.uc_model.proofs.PlanShapes.{lengths_of}
 use Rattle.uc_model.proofs.SignedLaws.{IsWithin, clamped_from}
-use Rattle.uc_model.proofs.TotalBounds as sums
-use Rattle.uc_model.proofs.TotalBounds.{units_within}
 use Rattle.board_history.specs.Board.{Setup, Answer, no_answer, rules_of, row_of, schedules_in, earned_in, IsRight, IsLegalHistory}
 use Rattle.board_history.specs.Bounds.{AreWithin, IsRowWithin, RowsAreWithin, RowsAreAtMostCost}
 use Rattle.board_history.specs.Rounds.{Rules, Event, Posts, posts, prices_at, answer_at, answers, rows_of, rows_to}
@@ -30,7 +26,7 @@ use Rattle.board_history.proofs.Answered.{all_answer}
 use Rattle.board_history.proofs.Kept.{rows_length}
 use Rattle.board_history.proofs.OwnTasks.{own_horizon, own_reserve_horizon}
 use Rattle.board_history.proofs.RowLaws.{units_length, zip_range, fits_is_best, rows_fit, rows_are_made}
-use Rattle.board_history.proofs.UnitBounds.{no_output, earnings_within}
+use Rattle.board_history.proofs.UnitBounds.{ModelLaws, no_output, earnings_within, lengths_of}
 
 -- numbers of a range within a bound
 range_within : (c : ℕ) (z : Answer → ℤ) (f : ℕ → Answer) (a n : ℕ) → ((k : ℕ) → k < a + n → IsWithin c (z (f k))) → IsWithin (n * c) (total (map z (map f (range_with_len a n))))
@@ -46,8 +42,9 @@ range_within c z f a (suc n) each =
 
 -- ---- the units of a case
 
-unit_limited : (m : Market) → IsMarket m → (u : ℕ) (x : AnyUnit) → slice_get (units m) u ≡ Some x → IsUnit x
-unit_limited m limits u x is = subst IsUnit (get_or_from_slice_get (units m) u x x is) (units_within m limits u x (slice_get_within (units m) u x is))
+unit_limited : ModelLaws → (m : Market) → IsMarket m → (u : ℕ) (x : AnyUnit) → slice_get (units m) u ≡ Some x → IsUnit x
+unit_limited laws m limits u x is =
+    subst IsUnit (get_or_from_slice_get (units m) u x x is) (laws.units m limits u x (slice_get_within (units m) u x is))
 
 -- ---- prices
 
@@ -105,7 +102,7 @@ own_are_prices b p n limits = choose (nat_le n b.ahead) refl (own_horizon b p n)
 
 -- ---- totals of a proposal
 
-module _ (b : Setup) (h : List (Event Answer)) (limits : IsMarket b.market) (legal : IsLegalHistory b h) (n : ℕ) where
+module _ (laws : ModelLaws) (b : Setup) (h : List (Event Answer)) (limits : IsMarket b.market) (legal : IsLegalHistory b h) (n : ℕ) where
   abbrev m : Market
   m = b.market
 
@@ -132,11 +129,11 @@ module _ (b : Setup) (h : List (Event Answer)) (limits : IsMarket b.market) (leg
       let same = one_unit (slice_get (units m) u) right.unit x right.is is in
       let best = fits_is_best right.unit π y.1.schedule right.fit in
       let feasible = best.feasible in
-      let limited = unit_limited m limits u right.unit right.is in
+      let limited = unit_limited laws m limits u right.unit right.is in
       subst (λ (z : AnyUnit). IsSmall z y.1) same (record {
-        output = λ k. outputs_within right.unit y.1.schedule (length π.energy) limited feasible k;
+        output = λ k. laws.outputs right.unit y.1.schedule (length π.energy) limited feasible k;
         earned = subst (λ (e : ℤ). IsWithin 5040000000000000000 e) right.earned
-            (earnings_within right.unit π y.1.schedule (length π.energy) limited (own_are_prices b (posts h) n limits) feasible refl);
+            (earnings_within laws right.unit π y.1.schedule (length π.energy) limited (own_are_prices b (posts h) n limits) feasible refl);
       })
 
   answer_is_small : (u : ℕ) (x : AnyUnit) → slice_get (units m) u ≡ Some x → IsSmall x (answer_at g (posts h) n u)
@@ -157,7 +154,7 @@ module _ (b : Setup) (h : List (Event Answer)) (limits : IsMarket b.market) (leg
       subst (λ (j : ℕ). Q x (answer_at g (posts h) n j).schedule) e (each x (answer_at g (posts h) n k) (answer_is_small k x is)))
 
   all_within : (k : ℕ) → IsTotal (total_power (units m) given k) × IsTotal (total_reserve (units m) given k)
-  all_within = sums.totals_within m given limits (all_units (λ u s. (k : ℕ) → GivesWithin u s k) (λ x a s. s.output))
+  all_within = laws.totals m given limits (all_units (λ u s. (k : ℕ) → GivesWithin u s k) (λ x a s. s.output))
 
   earned_within : IsWithin 100000000000000000000000 (total (earned_in (answers g (posts h) n)))
   earned_within =
@@ -182,7 +179,7 @@ module _ (b : Setup) (h : List (Event Answer)) (limits : IsMarket b.market) (leg
 
   row_within : IsRowWithin m row
   row_within =
-      let w = sums.demand_worth_within m π limits (own_are_prices b (posts h) n limits) (own_horizon b (posts h) n) in
+      let w = laws.worth m π limits (own_are_prices b (posts h) n limits) (own_horizon b (posts h) n) in
       let e = earned_within in
       let wl = w.at_least in
       let wm = w.at_most in
@@ -200,16 +197,16 @@ module _ (b : Setup) (h : List (Event Answer)) (limits : IsMarket b.market) (leg
 
 -- ---- rows
 
-pub rows_are_within : RowsAreWithin
-rows_are_within b h limits ahead legal k d inside =
-    subst (λ (r : Proposal). IsRowWithin b.market r) (sym (rows_are_made b h ahead k d inside).made) (row_within b h limits legal (suc k))
+pub rows_are_within : ModelLaws → RowsAreWithin
+rows_are_within laws b h limits ahead legal k d inside =
+    subst (λ (r : Proposal). IsRowWithin b.market r) (sym (rows_are_made b h ahead k d inside).made) (row_within laws b h limits legal (suc k))
 
-pub rows_are_at_most_cost : RowsAreAtMostCost
-rows_are_at_most_cost b h limits ahead legal plan cost k d inside =
-    let within = rows_are_within b h limits ahead legal k d inside in
+pub rows_are_at_most_cost : ModelLaws → DualIsAtMostCost → RowsAreAtMostCost
+rows_are_at_most_cost laws dual b h limits ahead legal plan cost k d inside =
+    let within = rows_are_within laws b h limits ahead legal k d inside in
     let next = (rows_fit b h ahead legal).each k d inside in
     let r = get_or (rows_of (rules_of b) (posts h)) k d in
-    subst (λ (c : ℤ). r.value ≤ℤ c) (sym cost) (dual_at_most_cost b.market b.plan r.prices r.value plan within.prices within.horizon next.value)
+    subst (λ (c : ℤ). r.value ≤ℤ c) (sym cost) (dual b.market b.plan r.prices r.value plan within.prices within.horizon next.value)
 
 -- the lists of an answer are as long as those of its prices
 pub fit_lengths : (x : AnyUnit) (ρ : PriceLists) (s : Schedule) → Fits x ρ s → (length s.on ≡ length ρ.energy) × (length s.power ≡ length ρ.energy) × (length s.reserve ≡ length ρ.energy)

@@ -1,4 +1,5 @@
--- The board of a unit commitment case: a board of rounds whose rows are proposals (this project's profile).
+-- The board of a unit commitment case: a board of rounds whose rows are proposals (this project's
+-- profile).
 use Rattle.std.specs.Prelude.{◌≡◌, ℕ, ℤ, pos, ◌-ℤ◌, Some, List, [], map, slice_get}
 use Rattle.std.specs.List.{range_with_len}
 use Rattle.board_history.specs.Rounds.{Rules, Event, IsLegal}
@@ -9,8 +10,8 @@ use Rattle.uc_model.specs.Runs.{Fits}
 use Rattle.uc_model.specs.Sums.{total}
 use Rattle.uc_model.specs.Systems.{total_power, total_reserve, worth_of_demand}
 
--- what a board is made for: a case, a feasible plan and its cost, how many proposals there may be, how many of them are
--- open ahead of the closed ones, and how many callers there are
+-- what a board is made for: a case, a feasible plan and its cost, how many proposals there may be,
+-- how many of them are open ahead of the closed ones, and how many callers there are
 pub record Setup : Type 0 where
   pub market : Market
   pub plan : List Schedule
@@ -33,8 +34,8 @@ schedules_in answers = map (λ (a : Answer). a.schedule) answers
 abbrev pub earned_in : List Answer → List ℤ
 earned_in answers = map (λ (a : Answer). a.earned) answers
 
--- the row that the answers of all units make at prices: its value is the dual value with what the answers earn in place
--- of what the best schedules earn (Gribik, Hogan and Pope 2007)
+-- the row that the answers of all units make at prices: its value is the dual value with what the
+-- answers earn in place of what the best schedules earn (Gribik, Hogan and Pope 2007)
 abbrev pub row_of : Market → PriceLists → List Answer → Proposal
 row_of m π answers = record {
   prices = π;
@@ -56,14 +57,17 @@ rules_of b = record {
 }
 
 -- the answer fits the unit of that number at the prices, with what it earns
-pub record IsRight (fits : AnyUnit → PriceLists → Schedule → Type 0) (m : Market) (u : ℕ) (π : PriceLists) (a : Answer) : Type 0 where
+pub record IsRight (fits : AnyUnit → PriceLists → Schedule →
+    Type 0) (m : Market) (u : ℕ) (π : PriceLists) (a : Answer) : Type 0 where
   pub unit : AnyUnit
   pub is : slice_get (units m) u ≡ Some unit
   pub fit : fits unit π a.schedule
   pub earned : earnings unit π a.schedule ≡ a.earned
 
--- each event is what the machine makes of a call at the events before it, and each answer that was taken is right
-abbrev pub IsLegalFor : (AnyUnit → PriceLists → Schedule → Type 0) → Setup → List (Event Answer) → Type 0
+-- each event is what the machine makes of a call at the events before it, and each answer that was
+-- taken is right
+abbrev pub IsLegalFor : (AnyUnit → PriceLists → Schedule → Type 0) → Setup → List (Event Answer) →
+    Type 0
 IsLegalFor fits b h = IsLegal (rules_of b) (IsRight fits b.market) h
 
 abbrev pub IsLegalHistory : Setup → List (Event Answer) → Type 0

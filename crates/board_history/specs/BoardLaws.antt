@@ -1,11 +1,16 @@
 -- What a crate that keeps a board in lists of its own goes by: laws on rows, posts and events, each
 -- the clause of a public function or a part of one (this project's profile).
-use Rattle.std.specs.Prelude.{◌≡◌, ℕ, suc, ◌+◌, ◌<◌, ◌≤◌, true, false, if◌then◌else◌, Option, Some, None, List, [], ◌∷◌, ◌++◌, ◌⊎◌, ℤ, length, take, slice_get}
-use Rattle.board_history.specs.Board.{Setup, Answer, Content, no_answer, rules_of, IsRight, IsLegalHistory}
+use Rattle.std.specs.Prelude.{◌≡◌, ℕ, suc, ◌+◌, ◌<◌, ◌≤◌, true, false, if◌then◌else◌, Option, Some}
+use Rattle.std.specs.Prelude.{None, List, [], ◌∷◌, ◌++◌, ◌⊎◌, ℤ, length, take, slice_get}
+use Rattle.board_history.specs.Board.{Setup, Answer, Content, no_answer, rules_of, IsRight}
+use Rattle.board_history.specs.Board.{IsLegalHistory}
 use Rattle.board_history.specs.Bounds.{TotalsAreWithin, RowsAreWithin, RowsAreAtMostCost}
 use Rattle.board_history.specs.Calls.{post_answer}
 use Rattle.board_history.specs.Laws.{ClaimsMean, AnswersFit}
-use Rattle.board_history.specs.Rounds.{Event, Given, Taken, Closing, Stopped, sooner, only_at, Holders, holders, Posts, posts, with_post, rows_by, prices_by, opened_in, is_closed, rows_to, prices_at, closed_front, free_front, TakenPost, IsNext}
+use Rattle.board_history.specs.Rounds.{Event, Given, Taken, Closing, Stopped, sooner, only_at}
+use Rattle.board_history.specs.Rounds.{Holders, holders, Posts, posts, with_post, rows_by}
+use Rattle.board_history.specs.Rounds.{prices_by, opened_in, is_closed, rows_to, prices_at}
+use Rattle.board_history.specs.Rounds.{closed_front, free_front, TakenPost, IsNext}
 use Rattle.board_history.specs.Tasks.{difference, IsTask}
 use Rattle.board_history.specs.Totals.{AddsOne}
 use Rattle.board_history.specs.Words.{IsOpenTask}

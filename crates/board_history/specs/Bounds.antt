@@ -1,7 +1,9 @@
--- Sizes that the totals and values of a legal history keep, so that no sum of them leaves 128 bits (this project's profile).
+-- Sizes that the totals and values of a legal history keep, so that no sum of them leaves 128 bits
+-- (this project's profile).
 use Rattle.std.specs.Prelude.{◌≡◌, ℕ, ◌<◌, ◌≤◌, ◌≤ℤ◌, List, length, slice_index_or}
 use Rattle.std.specs.List.{All}
-use Rattle.board_history.specs.Board.{Setup, Answer, rules_of, schedules_in, earned_in, IsLegalHistory}
+use Rattle.board_history.specs.Board.{Setup, Answer, rules_of, schedules_in, earned_in}
+use Rattle.board_history.specs.Board.{IsLegalHistory}
 use Rattle.board_history.specs.Rounds.{Event, posts, answers, rows_of}
 use Rattle.uc_model.specs.Data.{Market, units}
 use Rattle.uc_model.specs.Limits.{IsMarket, ArePrices}
@@ -12,12 +14,16 @@ use Rattle.uc_model.specs.Systems.{IsFeasiblePlan, plan_cost, total_power, total
 
 -- the totals of a proposal's answers, as many as there are
 pub record AreWithin (b : Setup) (h : List (Event Answer)) (n : ℕ) : Type 0 where
-  pub supply : (k : ℕ) → IsTotal (total_power (units b.market) (schedules_in (answers (rules_of b) (posts h) n)) k)
-  pub reserve : (k : ℕ) → IsTotal (total_reserve (units b.market) (schedules_in (answers (rules_of b) (posts h) n)) k)
+  pub supply : (k : ℕ) →
+      IsTotal (total_power (units b.market) (schedules_in (answers (rules_of b) (posts h) n)) k)
+  pub reserve : (k : ℕ) →
+      IsTotal (total_reserve (units b.market) (schedules_in (answers (rules_of b) (posts h) n)) k)
   pub earned : IsSum (total (earned_in (answers (rules_of b) (posts h) n)))
 
 abbrev pub TotalsAreWithin : Type 0
-TotalsAreWithin = (b : Setup) (h : List (Event Answer)) → IsMarket b.market → IsLegalHistory b h → (n : ℕ) → AreWithin b h n
+TotalsAreWithin =
+    (b : Setup) (h : List (Event Answer)) → IsMarket b.market → IsLegalHistory b h → (n : ℕ) →
+    AreWithin b h n
 
 -- a row over the horizon
 pub record IsRowWithin (m : Market) (r : Proposal) : Type 0 where

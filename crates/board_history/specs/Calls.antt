@@ -2,7 +2,9 @@
 use Rattle.std.specs.Prelude.{ℕ, ℤ, Bool, Option, List, [], slice_get}
 use Rattle.std.specs.Option.{option_map_or}
 use Rattle.board_history.specs.Board.{Setup, Answer, Content, rules_of}
-use Rattle.board_history.specs.Rounds.{ClaimReply, PostReply, posts, prices_at, rows_of, is_finished, claim_reply, events_after_claim, post_reply, events_after_post, events_after_halt}
+use Rattle.board_history.specs.Rounds.{ClaimReply, PostReply, posts, prices_at, rows_of}
+use Rattle.board_history.specs.Rounds.{is_finished, claim_reply, events_after_claim, post_reply}
+use Rattle.board_history.specs.Rounds.{events_after_post, events_after_halt}
 use Rattle.board_history.specs.Tasks.{Difference, difference}
 use Rattle.uc_model.specs.Data.{AnyUnit, PriceLists, units}
 use Rattle.uc_model.specs.PriceRule.{Proposal}
@@ -34,11 +36,17 @@ abbrev pub after_claim : Content → ℕ → Content
 after_claim c k = record c { events = events_after_claim (rules_of c.setup) c.events k }
 
 -- the post of an answer for the task of a proposal and a unit number, with its prices and its unit
-abbrev pub post_answer : Content → (k n u : ℕ) → PriceLists → AnyUnit → Answer → PostReply Difference
-post_answer c k n u ρ x a = post_reply (rules_of c.setup) c.events (differs_from c.setup u ρ x) k n u a
+abbrev pub post_answer : Content → (k n u : ℕ) → PriceLists → AnyUnit → Answer →
+    PostReply Difference
+post_answer c k n u ρ x a =
+    post_reply (rules_of c.setup) c.events (differs_from c.setup u ρ x) k n u a
 
 abbrev pub after_post : Content → (k n u : ℕ) → PriceLists → AnyUnit → Answer → Content
-after_post c k n u ρ x a = record c { events = events_after_post (rules_of c.setup) c.events (differs_from c.setup u ρ x) k n u a }
+after_post c k n u ρ x a =
+    record c {
+      events = events_after_post (rules_of c.setup) c.events (differs_from c.setup u ρ x) k
+          n u a;
+    }
 
 abbrev pub after_halt : Content → ℕ → Content
 after_halt c k = record c { events = events_after_halt c.events k }

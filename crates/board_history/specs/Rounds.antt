@@ -1,6 +1,9 @@
--- A board of rounds: proposals from 1 on, each with a task for every unit. Tasks are claimed and answered; the
--- state is the list of events, the oldest first, and everything else is read off it (this project's profile).
-use Rattle.std.specs.Prelude.{◌≡◌, ℕ, zero, suc, ◌+◌, ◌-◌, ◌<◌, ◌≤◌, Bool, true, false, not, ◌&&◌, ◌||◌, ◌==◌, if◌then◌else◌, nat_le, nat_lt, min, is_some, is_none, Option, Some, None, List, [], ◌∷◌, ◌++◌, map, take}
+-- A board of rounds: proposals from 1 on, each with a task for every unit. Tasks are claimed and
+-- answered; the state is the list of events, the oldest first, and everything else is read off it
+-- (this project's profile).
+use Rattle.std.specs.Prelude.{◌≡◌, ℕ, zero, suc, ◌+◌, ◌-◌, ◌<◌, ◌≤◌, Bool, true, false, not, ◌&&◌}
+use Rattle.std.specs.Prelude.{◌||◌, ◌==◌, if◌then◌else◌, nat_le, nat_lt, min, is_some, is_none}
+use Rattle.std.specs.Prelude.{Option, Some, None, List, [], ◌∷◌, ◌++◌, map, take}
 use Rattle.std.specs.List.{find, flat_map, list_all, list_any, prefix_len, range_with_len}
 use Rattle.std.specs.Option.{option_map_or}
 
@@ -18,7 +21,8 @@ pub record Rules (P R A : Type 0) : Type 0 where
   -- stands where there is no answer
   pub missing : A
 
--- an event: a claim that was given, a post that was taken, one that also closed its proposal, or a caller's first halt
+-- an event: a claim that was given, a post that was taken, one that also closed its proposal, or a
+-- caller's first halt
 pub data Event (A : Type 0) : Type 0 where
   Given : (caller proposal unit : ℕ) → Event A
   Taken : (caller proposal unit : ℕ) → A → Event A
@@ -106,8 +110,8 @@ module _ {P R A : Type 0} (g : Rules P R A) where
   abbrev pub free_in : List R → ℕ
   free_in rows = prefix_len (λ (r : R). not (g.settled r)) rows
 
-  -- the last proposal that is open for work where these rows are closed: those from 1 to it less ahead are among
-  -- them, and none of those is settled
+  -- the last proposal that is open for work where these rows are closed: those from 1 to it less
+  -- ahead are among them, and none of those is settled
   abbrev pub opened_in : List R → ℕ
   opened_in rows = min g.budget (g.ahead + free_in rows)
 
@@ -168,13 +172,14 @@ tasks units n = flat_map (λ k. map (λ u. (k, u)) (range_with_len 0 units)) (ra
 abbrev pub next_task : ℕ → ℕ → Holders → Option (ℕ × ℕ)
 next_task units n held = find (λ (t : ℕ × ℕ). is_none (held t.0 t.1)) (tasks units n)
 
--- the first that applies: every proposal that is open for work is closed; some caller has halted; a task that is open
--- and not claimed; and else no task yet
+-- the first that applies: every proposal that is open for work is closed; some caller has halted; a
+-- task that is open and not claimed; and else no task yet
 abbrev pub claim_from : {P R A : Type 0} → Rules P R A → Posts A → Holders → Bool → ClaimReply
 claim_from g p held halted =
     if is_finished g p then Finished
     else if halted then Halted
-    else option_map_or (λ (t : ℕ × ℕ). GivenTask t.0 t.1) (next_task g.units (opened g p) held) NotYet
+    else option_map_or (λ (t : ℕ × ℕ). GivenTask t.0 t.1) (next_task g.units (opened g p) held)
+    NotYet
 
 abbrev pub claim_reply : {P R A : Type 0} → Rules P R A → List (Event A) → ClaimReply
 claim_reply g h = claim_from g (posts h) (holders h) (list_any is_halt h)
@@ -204,25 +209,31 @@ abbrev pub is_holder : Option ℕ → ℕ → Bool
 is_holder None c = false
 is_holder (Some d) c = d == c
 
--- the first that applies: the proposal is 0 or isn't open; there is no such unit; the content differs from that of the
--- board's own task; an answer stands; the caller isn't the one who claimed the task; and else the post is taken
-abbrev pub post_from : {D A : Type 0} → (opened units : ℕ) → Option D → Option (ℕ × A) → Option ℕ → (closes : Bool) → (c n u : ℕ) → PostReply D
+-- the first that applies: the proposal is 0 or isn't open; there is no such unit; the content
+-- differs from that of the board's own task; an answer stands; the caller isn't the one who claimed
+-- the task; and else the post is taken
+abbrev pub post_from : {D A : Type 0} → (opened units : ℕ) → Option D → Option (ℕ × A) → Option ℕ →
+    (closes : Bool) → (c n u : ℕ) → PostReply D
 post_from opened units differs post holder closes c n u =
     if (n == 0) || nat_lt opened n then OtherProposal n opened
     else if nat_le units u then OtherUnit u units
     else option_map_or OtherContent differs
     (option_map_or (λ x. Doubled x.0) post
-    (if is_holder holder c then TakenPost (if closes then Some n else None) else OtherHolder c holder))
+    (if is_holder holder c then TakenPost (if closes then Some n else None) else OtherHolder c
+    holder))
 
 -- differs compares the task with the board's own, whose prices it is given
-abbrev pub post_reply : {P R A D : Type 0} → Rules P R A → List (Event A) → (differs : P → Option D) → (c n u : ℕ) → A → PostReply D
+abbrev pub post_reply : {P R A D : Type 0} → Rules P R A → List (Event A) →
+    (differs : P → Option D) → (c n u : ℕ) → A → PostReply D
 post_reply g h differs c n u a =
-    post_from (opened g (posts h)) g.units (differs (prices_at g (posts h) n)) (posts h n u) (holders h n u)
+    post_from (opened g (posts h)) g.units (differs (prices_at g (posts h) n)) (posts h n u)
+    (holders h n u)
     (is_closed g (with_post (posts h) c n u a) n) c n u
 
 -- the event of a post that is taken
 abbrev pub post_event : {P R A : Type 0} → Rules P R A → Posts A → ℕ → ℕ → ℕ → A → Event A
-post_event g p c n u a = if is_closed g (with_post p c n u a) n then Closing c n u a else Taken c n u a
+post_event g p c n u a =
+    if is_closed g (with_post p c n u a) n then Closing c n u a else Taken c n u a
 
 -- a post that is taken makes an event, and no other
 abbrev pub with_answer : {D A : Type 0} → List (Event A) → Event A → PostReply D → List (Event A)
@@ -233,8 +244,10 @@ with_answer h e (Doubled d) = h
 with_answer h e (OtherHolder c d) = h
 with_answer h e (TakenPost closed) = h ++ e ∷ []
 
-abbrev pub events_after_post : {P R A D : Type 0} → Rules P R A → List (Event A) → (differs : P → Option D) → (c n u : ℕ) → A → List (Event A)
-events_after_post g h differs c n u a = with_answer h (post_event g (posts h) c n u a) (post_reply g h differs c n u a)
+abbrev pub events_after_post : {P R A D : Type 0} → Rules P R A → List (Event A) →
+    (differs : P → Option D) → (c n u : ℕ) → A → List (Event A)
+events_after_post g h differs c n u a =
+    with_answer h (post_event g (posts h) c n u a) (post_reply g h differs c n u a)
 
 -- ---- halts
 
@@ -257,8 +270,12 @@ module _ {P R A : Type 0} (g : Rules P R A) (fits : ℕ → P → A → Type 0) 
 
   abbrev pub IsNext : List (Event A) → Event A → Type 0
   IsNext h (Given c n u) = (c < g.callers) × (claim_reply g h ≡ GivenTask n u)
-  IsNext h (Taken c n u a) = (c < g.callers) × IsPost (posts h) (holders h) c n u a × (is_closed g (with_post (posts h) c n u a) n ≡ false)
-  IsNext h (Closing c n u a) = (c < g.callers) × IsPost (posts h) (holders h) c n u a × (is_closed g (with_post (posts h) c n u a) n ≡ true)
+  IsNext h (Taken c n u a) =
+      (c < g.callers) × IsPost (posts h) (holders h) c n u a
+      × (is_closed g (with_post (posts h) c n u a) n ≡ false)
+  IsNext h (Closing c n u a) =
+      (c < g.callers) × IsPost (posts h) (holders h) c n u a
+      × (is_closed g (with_post (posts h) c n u a) n ≡ true)
   IsNext h (Stopped c) = (c < g.callers) × (list_any (is_halt_of c) h ≡ false)
 
   -- events that the machine appends one after another to those before

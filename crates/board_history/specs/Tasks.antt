@@ -15,11 +15,15 @@ pub record Difference : Type 0 where
 
 -- the first place that both lists have and where they differ
 abbrev pub first_difference : List ℤ → List ℤ → Option ℕ
-first_difference own given = find (λ k. not (int_eq (int_at own k) (int_at given k))) (range_with_len 0 (min (length own) (length given)))
+first_difference own given =
+    find (λ k. not (int_eq (int_at own k) (int_at given k)))
+    (range_with_len 0 (min (length own) (length given)))
 
 -- that place with the board's own number and the task's
 abbrev pub difference : List ℤ → List ℤ → Option Difference
-difference own given = option_map (λ k. record { place = k; board = int_at own k; task = int_at given k }) (first_difference own given)
+difference own given =
+    option_map (λ k. record { place = k; board = int_at own k; task = int_at given k })
+    (first_difference own given)
 
 -- the unit's lists over the horizon have that length
 abbrev pub IsOver : ℕ → AnyUnit → Type 0

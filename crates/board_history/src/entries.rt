@@ -24,8 +24,9 @@ pub enum Reply {
     Stopped,
 }
 
-/// A call that changed the board: a claim that was given, a post that was taken, or a caller's first halt. Other calls
-/// make no entry. Callers and units count from 0, proposals from 1; a halt has proposal 0 and unit 0.
+/// A call that changed the board: a claim that was given, a post that was taken, or a caller's
+/// first halt. Other calls make no entry. Callers and units count from 0, proposals from 1; a halt
+/// has proposal 0 and unit 0.
 #[derive(Clone, Copy, PartialEq, Eq, Debug)]
 pub struct Entry {
     pub caller: u32,

@@ -1,12 +1,14 @@
--- The rule of the shared board (this project's profile). Word 0 is the length of the history, word 1 the next ticket and
--- word 2 the ticket that is served.
-use Rattle.std.specs.Prelude.{◌≡◌, ◌≢◌, ℕ, ◌+◌, ◌%◌, ◌^◌, ◌<◌, ◌≤◌, List, [], ◌∷◌, ◌++◌, length, slice_index_or, sum_by, All, Contains}
+-- The rule of the shared board (this project's profile). Word 0 is the length of the history, word
+-- 1 the next ticket and word 2 the ticket that is served.
+use Rattle.std.specs.Prelude.{◌≡◌, ◌≢◌, ℕ, ◌+◌, ◌%◌, ◌^◌, ◌<◌, ◌≤◌, List, [], ◌∷◌, ◌++◌, length}
+use Rattle.std.specs.Prelude.{slice_index_or, sum_by, All, Contains}
 use mathlib.Core.Option.{some}
 use mathlib.Core.Option as maybe
 use lib.ListN.{get_elem?}
 use Rattle.atomic_table.specs.Table.{State}
 use Rattle.board_history.specs.Board.{Setup, Content}
-use Rattle.board_share.specs.Views.{BoardEvent, caller_of, content, Stage, idle, waits, turn, spent, joined, View, ticket_count, live_count}
+use Rattle.board_share.specs.Views.{BoardEvent, caller_of, content, Stage, idle, waits, turn, spent}
+use Rattle.board_share.specs.Views.{joined, View, ticket_count, live_count}
 
 -- where the board is: in its slot, or out with the seat of this number
 pub data Spot : Type 0 where
@@ -37,7 +39,8 @@ pub record Tickets (serving next : ℕ) (words : List ℕ) (views : List View) :
   pub next_is : slice_index_or words 1 0 ≡ next % 2 ^ 64
   pub serving_is : slice_index_or words 2 0 ≡ serving % 2 ^ 64
   pub counted : serving + tickets_of views ≡ next
-  pub in_range : (j : ℕ) (v : View) → IsAt views j v → (t : ℕ) → HasTicket v.stage t → (serving ≤ t) × (t < next)
+  pub in_range : (j : ℕ) (v : View) → IsAt views j v → (t : ℕ) → HasTicket v.stage t → (serving ≤ t)
+      × (t < next)
   pub differ : (i : ℕ) (u : View) (j : ℕ) (v : View) → IsAt views i u → IsAt views j v →
       (t : ℕ) → HasTicket u.stage t → HasTicket v.stage t → i ≡ j
 
@@ -51,8 +54,8 @@ pub record Slot (serving : ℕ) (spot : Spot) (homes : Homes) (views : List View
   pub lies : InSpot serving homes views spot
   pub turns : (j : ℕ) (v : View) → IsAt views j v → (t : ℕ) → v.stage ≡ turn t → spot ≡ away j
 
--- an event that the seat need not have seen: it is of another caller, and past what the owner has seen of one whose
--- seat is out
+-- an event that the seat need not have seen: it is of another caller, and past what the owner has
+-- seen of one whose seat is out
 abbrev pub Past : View → BoardEvent → Type 0
 Past v e = (caller_of e ≢ v.caller) × (v.caller ≡ 0 → Contains v.out (caller_of e))
 
@@ -61,9 +64,11 @@ pub record Sees (v : View) (h : List BoardEvent) : Type 0 where
   pub whole : v.seen ++ rest ≡ h
   pub past : All (Past v) rest
 
--- part 3: the board's history has the length that word 0 says, and each seat has seen a part that it begins with. While
--- the board is out, the history is that of the board as it will be given back, and the seat that has it has seen it all
-pub record Counted (about : Setup) (history : List BoardEvent) (words : List ℕ) (homes : Homes) (views : List View) : Type 0 where
+-- part 3: the board's history has the length that word 0 says, and each seat has seen a part that
+-- it begins with. While the board is out, the history is that of the board as it will be given
+-- back, and the seat that has it has seen it all
+pub record Counted (about : Setup) (history : List BoardEvent) (words : List ℕ) (homes : Homes)
+    (views : List View) : Type 0 where
   pub length_is : slice_index_or words 0 0 ≡ length history
   pub kept : (b : Content) → get_elem? homes 0 ≡ some (some b) → b ≡ content about history
   pub held : (j : ℕ) (v : View) → IsAt views j v → (t : ℕ) → v.stage ≡ turn t → v.seen ≡ history
@@ -77,7 +82,8 @@ Differ (x ∷ xs) = (Contains xs x → ⊥) × Differ xs
 
 -- it begins so, and no event past that is of the caller
 abbrev pub GoesOnWithout : ℕ → List BoardEvent → List BoardEvent → Type 0
-GoesOnWithout c h start = (rest : List BoardEvent) × (start ++ rest ≡ h) × All (λ (e : BoardEvent). caller_of e ≢ c) rest
+GoesOnWithout c h start =
+    (rest : List BoardEvent) × (start ++ rest ≡ h) × All (λ (e : BoardEvent). caller_of e ≢ c) rest
 
 -- the view where another history was seen and other callers' seats were out
 abbrev pub with_seen : View → List BoardEvent → List ℕ → View
@@ -89,17 +95,21 @@ Joined v idle = Unit {0}
 Joined v (waits t) = Unit {0}
 Joined v (turn t) = Unit {0}
 Joined v spent = Unit {0}
-Joined v (joined a b l c) = Sees (with_seen v a l) v.seen × GoesOnWithout c v.seen b × (length l ≡ length v.out + 1)
+Joined v (joined a b l c) =
+    Sees (with_seen v a l) v.seen × GoesOnWithout c v.seen b × (length l ≡ length v.out + 1)
 
 -- part 4: the callers, and whose events there can be
-pub record Callers (made : ℕ) (out : List ℕ) (history : List BoardEvent) (views : List View) : Type 0 where
+pub record Callers (made : ℕ) (out : List ℕ) (history : List BoardEvent) (views : List View) : Type
+    0 where
   pub few : live_of views ≤ made
   pub limit : made ≤ 4294967296
   pub owner : View
   pub owner_at : IsAt views 0 owner
-  pub owner_is : (owner.caller ≡ 0) × (owner.made ≡ made) × (owner.out ≡ out) × (live_count owner.stage ≡ 1)
+  pub owner_is : (owner.caller ≡ 0) × (owner.made ≡ made) × (owner.out ≡ out)
+      × (live_count owner.stage ≡ 1)
   pub outs : (j : ℕ) (v : View) → IsAt views j v → live_count v.stage ≡ 1 → Contains out v.caller
-  pub each_out : (c : ℕ) → Contains out c → (j : ℕ) × (v : View) × IsAt views j v × (live_count v.stage ≡ 1) × (v.caller ≡ c)
+  pub each_out : (c : ℕ) → Contains out c → (j : ℕ) × (v : View) × IsAt views j v
+      × (live_count v.stage ≡ 1) × (v.caller ≡ c)
   pub apart : (i : ℕ) (u : View) (j : ℕ) (v : View) → IsAt views i u → IsAt views j v →
       live_count u.stage ≡ 1 → live_count v.stage ≡ 1 → u.caller ≡ v.caller → i ≡ j
   pub differ : Differ out

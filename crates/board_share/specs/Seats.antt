@@ -25,8 +25,8 @@ IsSameBoard s t = (t.board ≡ s.board) × (t.view.setup ≡ s.view.setup)
 abbrev pub IsOwner : SeatValue → Type 0
 IsOwner s = s.view.caller ≡ 0
 
--- what holds of every seat between two calls: it has no ticket and no board in hand, its numbers are those of what it
--- knows, and it has seen a legal history
+-- what holds of every seat between two calls: it has no ticket and no board in hand, its numbers
+-- are those of what it knows, and it has seen a legal history
 pub record IsSeat (caller made place : ℕ) (me : Mine) : Type 0 where
   pub at_rest : me.0.stage ≡ idle
   pub no_board : me.1 ≡ []

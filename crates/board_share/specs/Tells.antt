@@ -1,8 +1,10 @@
 -- What each step on the table tells (this project's profile).
-use Rattle.std.specs.Prelude.{◌≡◌, ◌≢◌, ◌⊎◌, ℕ, ◌+◌, ◌%◌, ◌^◌, ◌<◌, List, [], ◌∷◌, ◌++◌, length, All}
+use Rattle.std.specs.Prelude.{◌≡◌, ◌≢◌, ◌⊎◌, ℕ, ◌+◌, ◌%◌, ◌^◌, ◌<◌, List, [], ◌∷◌, ◌++◌, length}
+use Rattle.std.specs.Prelude.{All}
 use Rattle.atomic_table.specs.Table.{Me, Step, rest}
 use Rattle.board_history.specs.Board.{Content}
-use Rattle.board_share.specs.Views.{BoardEvent, caller_of, content, Stage, idle, waits, turn, spent, joined, View, at_stage}
+use Rattle.board_share.specs.Views.{BoardEvent, caller_of, content, Stage, idle, waits, turn, spent}
+use Rattle.board_share.specs.Views.{joined, View, at_stage}
 use Rattle.board_share.specs.Rule.{Sees, Joined, GoesOnWithout}
 
 abbrev pub Mine : Type 0
@@ -18,7 +20,8 @@ OnlyMade v h = v.caller ≡ 0 → All (λ (e : BoardEvent). caller_of e < v.made
 -- the seat has the board, and has seen all that it tells
 abbrev pub Took : ℕ → Mine → Mine → Type 0
 Took t m m' =
-    (h : List BoardEvent) × (Sees m.0 h × OnlyMade m.0 h) × (m'.0 ≡ record m.0 { seen = h; stage = turn t })
+    (h : List BoardEvent) × (Sees m.0 h × OnlyMade m.0 h)
+    × (m'.0 ≡ record m.0 { seen = h; stage = turn t })
     × (m'.1 ≡ (0, content m.0.setup h) ∷ m.1)
 
 -- the seat's ticket, if it has one
@@ -31,7 +34,8 @@ ticket_of (joined a b l c) = 0
 
 abbrev pub looked : Step Content → Mine → ℕ → Mine → Type 0
 looked st m n m' =
-    (n ≡ ticket_of m.0.stage % 2 ^ 64 → Took (ticket_of m.0.stage) m m') × (n ≢ ticket_of m.0.stage % 2 ^ 64 → m' ≡ m)
+    (n ≡ ticket_of m.0.stage % 2 ^ 64 → Took (ticket_of m.0.stage) m m')
+    × (n ≢ ticket_of m.0.stage % 2 ^ 64 → m' ≡ m)
 
 -- the history of the board in the seat's hand
 abbrev pub hand_history : List (ℕ × Content) → List BoardEvent
@@ -56,11 +60,12 @@ Follows c h h' = (h' ≡ h) ⊎ ((e : BoardEvent) × (caller_of e ≡ c) × (h' 
 
 -- what the owner's second read of a join tells
 abbrev pub told : Step Content → Mine → ℕ → Mine → Type 0
-told st m n m' = (m'.0 ≡ at_stage m.0 idle) × (m'.1 ≡ m.1) × Joined m.0 m.0.stage × OnlyMade m.0 m.0.seen
+told st m n m' =
+    (m'.0 ≡ at_stage m.0 idle) × (m'.1 ≡ m.1) × Joined m.0 m.0.stage × OnlyMade m.0 m.0.seen
 
--- One call: `tells` holds of the board at a history that begins with what the seat had seen and goes on with no event of
--- its caller, for the owner only with events of callers whose seats were out. That history is seen afterwards, with the
--- call's own event, if it makes one
+-- One call: `tells` holds of the board at a history that begins with what the seat had seen and
+-- goes on with no event of its caller, for the owner only with events of callers whose seats were
+-- out. That history is seen afterwards, with the call's own event, if it makes one
 pub record Called (tells : Content → Type 0) (after : Content → Content) (v w : View) : Type 0 where
   pub before : List BoardEvent
   pub sees : Sees v before
@@ -72,8 +77,9 @@ pub record Called (tells : Content → Type 0) (after : Content → Content) (v 
 abbrev pub KeepsRest : View → View → Type 0
 KeepsRest v w = (w.caller ≡ v.caller) × (w.setup ≡ v.setup) × (w.made ≡ v.made) × (w.out ≡ v.out)
 
--- The owner, who knew v, takes in a seat that knew w, and then knows u. What it comes to see is of callers whose seats
--- were out and were made, and of the joined caller it sees what that seat had seen. One caller fewer is out
+-- The owner, who knew v, takes in a seat that knew w, and then knows u. What it comes to see is of
+-- callers whose seats were out and were made, and of the joined caller it sees what that seat had
+-- seen. One caller fewer is out
 pub record HasJoined (v w u : View) : Type 0 where
   pub fresh : Sees v u.seen
   pub made : OnlyMade v u.seen

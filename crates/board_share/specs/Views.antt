@@ -16,8 +16,8 @@ caller_of (Stopped c) = c
 abbrev pub content : Setup → List BoardEvent → Content
 content b h = record { setup = b; events = h }
 
--- A seat has no ticket where it is idle. `joined` is the owner's between the two reads of a join: what it and the
--- other had seen, the callers whose seats were out, and the other's caller number
+-- A seat has no ticket where it is idle. `joined` is the owner's between the two reads of a join:
+-- what it and the other had seen, the callers whose seats were out, and the other's caller number
 pub data Stage : Type 0 where
   idle : Stage
   waits : ℕ → Stage
@@ -25,8 +25,8 @@ pub data Stage : Type 0 where
   spent : Stage
   joined : (own other : List BoardEvent) → (out : List ℕ) → (caller : ℕ) → Stage
 
--- `setup` is what the seat names: what its board was made for. `made` and `out` are the owner's: how many seats there
--- were, and the callers whose seats are out
+-- `setup` is what the seat names: what its board was made for. `made` and `out` are the owner's:
+-- how many seats there were, and the callers whose seats are out
 pub record View : Type 0 where
   pub caller : ℕ
   pub seen : List BoardEvent
@@ -39,7 +39,8 @@ abbrev pub at_stage : View → Stage → View
 at_stage v st = record v { stage = st }
 
 abbrev pub first_view : Content → View
-first_view b = record { caller = 0; seen = b.events; setup = b.setup; made = 1; out = 0 ∷ []; stage = idle }
+first_view b =
+    record { caller = 0; seen = b.events; setup = b.setup; made = 1; out = 0 ∷ []; stage = idle }
 
 -- what a board is made for where there is none
 abbrev pub no_setup : Setup
@@ -82,7 +83,8 @@ abbrev pub cut_left : View → View
 cut_left v = record v { made = v.made + 1; out = v.out ++ v.made ∷ [] }
 
 abbrev pub cut_right : View → View
-cut_right v = record { caller = v.made; seen = v.seen; setup = v.setup; made = 0; out = []; stage = idle }
+cut_right v =
+    record { caller = v.made; seen = v.seen; setup = v.setup; made = 0; out = []; stage = idle }
 
 -- the owner between the two reads of a join
 abbrev pub glued : View → View → View

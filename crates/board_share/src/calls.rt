@@ -1,7 +1,8 @@
 //! The calls of a seat.
 ghost use Rattle.std.specs.Prelude.{◌≡◌, ◌+◌, ◌<◌, ◌≤◌, length, IfOk, IfSome, IfNone, All};
 ghost use Rattle.board_history.specs.Board.{IsLegalHistory};
-ghost use Rattle.board_history.specs.Calls.{claim_answer, after_claim, post_answer, after_post, after_halt};
+ghost use Rattle.board_history.specs.Calls.{claim_answer, after_claim, post_answer, after_post};
+ghost use Rattle.board_history.specs.Calls.{after_halt};
 ghost use Rattle.uc_model.specs.Earnings.{earnings};
 ghost use Rattle.uc_model.specs.PlainCases.{task_unit};
 ghost use Rattle.uc_model.specs.PlainUnits.{prices_of, schedule_of};
@@ -13,7 +14,8 @@ ghost use Rattle.board_core.specs.Tasks.{LeavesTask};
 ghost use Rattle.board_share.specs.Seats.{view_of, IsSeatOf, IsSameBoard, IsOwner};
 ghost use Rattle.board_share.specs.Tells.{Called, HasJoined, KeepsRest};
 ghost use Rattle.board_share.specs.Unchanged.{UnlessGiven, UnlessTaken};
-ghost use Rattle.board_share.specs.Views.{caller_of, content, first_view, cut_left, cut_right, longer, without};
+ghost use Rattle.board_share.specs.Views.{caller_of, content, first_view, cut_left, cut_right};
+ghost use Rattle.board_share.specs.Views.{longer, without};
 
 use crate::plays::Cut;
 use crate::seat::Seat;
@@ -34,7 +36,8 @@ impl Seat {
         self.caller
     }
 
-    /// What holds of every seat at any time: it has seen a legal history, and its caller number is below the number of callers.
+    /// What holds of every seat at any time: it has seen a legal history, and its caller number is
+    /// below the number of callers.
     pub fn is_legal(&self)
         ensures legal { IsLegalHistory (view_of self.now).setup (view_of self.now).seen }
         ensures caller { (view_of self.now).caller < (view_of self.now).setup.callers }
@@ -44,8 +47,9 @@ impl Seat {
 }
 
 impl SharedBoard {
-    /// Shares a board whose entries, if it has some, are all caller 0's. The seat is the owner's, caller 0, which has seen
-    /// the board's history: one seat is made and is out. The board is dropped where there is no memory.
+    /// Shares a board whose entries, if it has some, are all caller 0's. The seat is the owner's,
+    /// caller 0, which has seen the board's history: one seat is made and is out. The board is
+    /// dropped where there is no memory.
     pub fn make(alloc: Global, board: Board) -> Result<(SharedBoard, Seat), AllocError>
         requires { All (λ e. caller_of e ≡ 0) board.events }
         ensures seat { IfOk result (λ t. IsSeatOf t.0 t.1) }
@@ -72,7 +76,8 @@ impl SharedBoard {
         }
     }
 
-    /// The board's record, once every other seat was joined to the owner's: its history is what the owner has seen.
+    /// The board's record, once every other seat was joined to the owner's: its history is what the
+    /// owner has seen.
     pub fn close(self, seat: Seat) -> Closed
         requires own { IsSeatOf self seat × IsOwner seat }
         requires alone { length (view_of seat).out ≡ 1 }
@@ -90,64 +95,80 @@ impl SharedBoard {
         board.close()
     }
 
-    /// Claims a task as the seat's caller, with the answers of `Board::claim`. The call waits for its turn, and the seat has
-    /// then seen all of the history: beside its own event, what is new to it is of other callers, and what is new to the
-    /// owner of callers whose seats are out. Takes no memory.
+    /// Claims a task as the seat's caller, with the answers of `Board::claim`. The call waits for
+    /// its turn, and the seat has then seen all of the history: beside its own event, what is new
+    /// to it is of other callers, and what is new to the owner of callers whose seats are out.
+    /// Takes no memory.
     pub fn claim<R: Wait>(&self, rt: &R, seat: &mut Seat, into: &mut Task) -> Claim
         requires own { IsSeatOf self.now seat.old }
         requires room { IsTaskFor (view_of seat.old).setup.market.periods into.old }
         ensures board { IsSameBoard seat.old seat.new }
         ensures same { KeepsRest (view_of seat.old) (view_of seat.new) }
         ensures call { Called
-            (λ b. (result ≡ claim_of (claim_answer b)) × LeavesTask b (claim_answer b) into.old into.new)
+            (λ b. (result ≡ claim_of (claim_answer b))
+            × LeavesTask b (claim_answer b) into.old into.new)
             (λ b. after_claim b (view_of seat.old).caller) (view_of seat.old) (view_of seat.new) }
-        ensures unchanged { UnlessGiven result (result ≡ claim_of (claim_answer (content (view_of seat.new).setup (view_of seat.new).seen))) }
+        ensures unchanged { UnlessGiven result
+            (result ≡ claim_of
+            (claim_answer (content (view_of seat.new).setup (view_of seat.new).seen))) }
         ensures legal { IsLegalHistory (view_of seat.new).setup (view_of seat.new).seen }
         ensures room { IsTaskFor (view_of seat.new).setup.market.periods into.new }
     {
         self.claim_at(rt, &mut seat.place, seat.caller, into)
     }
 
-    /// Posts an answer for a task as the seat's caller, with the answers of `Board::post`: the answer is one that `Fits` the
-    /// task's unit at the task's prices, with what it earns. The call waits for its turn, and the seat has then seen all of
-    /// the history. Takes no memory.
+    /// Posts an answer for a task as the seat's caller, with the answers of `Board::post`: the
+    /// answer is one that `Fits` the task's unit at the task's prices, with what it earns. The call
+    /// waits for its turn, and the seat has then seen all of the history. Takes no memory.
     pub fn post<R: Wait>(&self, rt: &R, seat: &mut Seat, task: &Task, answer: &Answered) -> Posted
         requires own { IsSeatOf self.now seat.old }
-        requires fit { Fits (task_unit task.now) (prices_of task.now.prices) (schedule_of answer.now.response) }
-        requires earned { earnings (task_unit task.now) (prices_of task.now.prices) (schedule_of answer.now.response) ≡ answer.now.earned }
+        requires fit { Fits (task_unit task.now) (prices_of task.now.prices)
+            (schedule_of answer.now.response) }
+        requires earned { earnings (task_unit task.now) (prices_of task.now.prices)
+            (schedule_of answer.now.response) ≡ answer.now.earned }
         ensures board { IsSameBoard seat.old seat.new }
         ensures same { KeepsRest (view_of seat.old) (view_of seat.new) }
         ensures call { Called
-            (λ b. result ≡ posted_of (post_answer b (view_of seat.old).caller task.now.proposal task.now.unit (prices_of task.now.prices) (task_unit task.now) (answer_of answer.now)))
-            (λ b. after_post b (view_of seat.old).caller task.now.proposal task.now.unit (prices_of task.now.prices) (task_unit task.now) (answer_of answer.now))
+            (λ b. result ≡ posted_of (post_answer b (view_of seat.old).caller task.now.proposal
+            task.now.unit (prices_of task.now.prices) (task_unit task.now) (answer_of answer.now)))
+            (λ b. after_post b (view_of seat.old).caller task.now.proposal task.now.unit
+            (prices_of task.now.prices) (task_unit task.now) (answer_of answer.now))
             (view_of seat.old) (view_of seat.new) }
-        ensures unchanged { UnlessTaken result (result ≡ posted_of (post_answer (content (view_of seat.new).setup (view_of seat.new).seen) (view_of seat.old).caller task.now.proposal task.now.unit (prices_of task.now.prices) (task_unit task.now) (answer_of answer.now))) }
+        ensures unchanged { UnlessTaken result
+            (result ≡ posted_of
+            (post_answer (content (view_of seat.new).setup (view_of seat.new).seen)
+            (view_of seat.old).caller task.now.proposal task.now.unit (prices_of task.now.prices)
+            (task_unit task.now) (answer_of answer.now))) }
         ensures legal { IsLegalHistory (view_of seat.new).setup (view_of seat.new).seen }
     {
         self.post_at(rt, &mut seat.place, seat.caller, task, answer)
     }
 
-    /// Halts the seat's caller, as `Board::halt` does. The call waits for its turn, and the seat has then seen all of the
-    /// history. Takes no memory.
+    /// Halts the seat's caller, as `Board::halt` does. The call waits for its turn, and the seat
+    /// has then seen all of the history. Takes no memory.
     pub fn halt<R: Wait>(&self, rt: &R, seat: &mut Seat)
         requires { IsSeatOf self.now seat.old }
         ensures board { IsSameBoard seat.old seat.new }
         ensures same { KeepsRest (view_of seat.old) (view_of seat.new) }
-        ensures call { Called (λ b. Unit {0}) (λ b. after_halt b (view_of seat.old).caller) (view_of seat.old) (view_of seat.new) }
+        ensures call { Called (λ b. Unit {0}) (λ b. after_halt b (view_of seat.old).caller)
+            (view_of seat.old) (view_of seat.new) }
         ensures legal { IsLegalHistory (view_of seat.new).setup (view_of seat.new).seen }
     {
         self.halt_at(rt, &mut seat.place, seat.caller);
     }
 
-    /// The next caller's seat, which has seen what the owner's has; none where as many seats were made as the board has
-    /// callers. The seat is the owner's. Takes no memory.
+    /// The next caller's seat, which has seen what the owner's has; none where as many seats were
+    /// made as the board has callers. The seat is the owner's. Takes no memory.
     pub fn split(&self, seat: &mut Seat) -> Option<Seat>
         requires own { IsSeatOf self.now seat.old × IsOwner seat.old }
         ensures board { IsSameBoard seat.old seat.new × IsOwner seat.new }
-        ensures more { IfSome result (λ s. (view_of seat.old).made < (view_of seat.old).setup.callers) }
-        ensures given { IfSome result (λ s. IsSameBoard seat.old s × (view_of s ≡ cut_right (view_of seat.old))) }
+        ensures more { IfSome result (λ s. (view_of seat.old).made
+            < (view_of seat.old).setup.callers) }
+        ensures given { IfSome result (λ s. IsSameBoard seat.old s
+            × (view_of s ≡ cut_right (view_of seat.old))) }
         ensures owner { IfSome result (λ s. view_of seat.new ≡ cut_left (view_of seat.old)) }
-        ensures none { IfNone result (((view_of seat.old).setup.callers ≤ (view_of seat.old).made) × (view_of seat.new ≡ view_of seat.old)) }
+        ensures none { IfNone result (((view_of seat.old).setup.callers ≤ (view_of seat.old).made)
+            × (view_of seat.new ≡ view_of seat.old)) }
     {
         if seat.made >= self.callers {
             return None;
@@ -162,13 +183,19 @@ impl SharedBoard {
         })
     }
 
-    /// The owner's seat takes in one that was split from it: it has then seen the longer of what the two had seen, which the
-    /// other begins. What it comes to see is of callers whose seats were out, and the joined caller's events in it are those
-    /// that its seat had seen. Takes no memory.
+    /// The owner's seat takes in one that was split from it: it has then seen the longer of what
+    /// the two had seen, which the other begins. What it comes to see is of callers whose seats
+    /// were out, and the joined caller's events in it are those that its seat had seen. Takes no
+    /// memory.
     pub fn join(&self, seat: &mut Seat, other: Seat)
         requires own { IsSeatOf self.now seat.old × IsOwner seat.old × IsSameBoard seat.old other }
         ensures board { IsSameBoard seat.old seat.new × IsOwner seat.new }
-        ensures view { view_of seat.new ≡ record (view_of seat.old) { seen = longer (view_of seat.old).seen (view_of other).seen; out = without (view_of other).caller (view_of seat.old).out } }
+        ensures view { view_of seat.new ≡ record (view_of seat.old) {
+          seen =
+              longer (view_of seat.old).seen (view_of other).seen;
+          out =
+              without (view_of other).caller (view_of seat.old).out;
+        } }
         ensures joined { HasJoined (view_of seat.old) (view_of other) (view_of seat.new) }
     {
         let Seat {

@@ -2,9 +2,10 @@
 use crate::table::Place;
 use std::marker::Model;
 
-/// One caller's seat at a shared board. Contracts see it as the board that it is of and what it knows: its caller number, a
-/// legal history that the board's begins with, and what the board was made for. The owner's seat, caller 0, also knows how
-/// many seats were made and whose seats are out.
+/// One caller's seat at a shared board. Contracts see it as the board that it is of and what it
+/// knows: its caller number, a legal history that the board's begins with, and what the board was
+/// made for. The owner's seat, caller 0, also knows how many seats were made and whose seats are
+/// out.
 #[derive(Drop)]
 pub struct Seat {
     pub(crate) caller: u32,

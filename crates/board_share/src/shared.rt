@@ -1,7 +1,8 @@
 //! One call of a seat, in its steps.
 ghost use Rattle.std.specs.Prelude.{◌≡◌, ◌%◌, ◌^◌, ◌<◌, [], ◌∷◌, ℕ, length};
 ghost use Rattle.board_history.specs.Board.{Content, IsLegalHistory};
-ghost use Rattle.board_history.specs.Calls.{claim_answer, after_claim, post_answer, after_post, after_halt};
+ghost use Rattle.board_history.specs.Calls.{claim_answer, after_claim, post_answer, after_post};
+ghost use Rattle.board_history.specs.Calls.{after_halt};
 ghost use Rattle.uc_model.specs.Earnings.{earnings};
 ghost use Rattle.uc_model.specs.PlainCases.{task_unit};
 ghost use Rattle.uc_model.specs.PlainUnits.{prices_of, schedule_of};
@@ -40,15 +41,18 @@ impl SharedBoard {
     fn draw(&self, place: &mut Place) -> u64
         requires own { place.old.table_id ≡ self.now.table.shared.table_id }
         requires ready { place.old.me.0.stage ≡ idle }
-        ensures same { (place.new.table_id ≡ place.old.table_id) × (place.new.id ≡ place.old.id) × (place.new.me.1 ≡ place.old.me.1) }
-        ensures drawn { (t : ℕ) × (result ≡ t % 2 ^ 64) × (place.new.me.0 ≡ at_stage place.old.me.0 (waits t)) }
+        ensures same { (place.new.table_id ≡ place.old.table_id) × (place.new.id ≡ place.old.id)
+            × (place.new.me.1 ≡ place.old.me.1) }
+        ensures drawn { (t : ℕ) × (result ≡ t % 2 ^ 64)
+            × (place.new.me.0 ≡ at_stage place.old.me.0 (waits t)) }
     {
         self.table.shared.fetch_add::<Draw>(place, NEXT, 1)
     }
 
     fn take_turn<R: Wait>(&self, rt: &R, place: &mut Place, ticket: u64)
         requires own { place.old.table_id ≡ self.now.table.shared.table_id }
-        requires ready { (place.old.me.1 ≡ []) × ((t : ℕ) × (place.old.me.0.stage ≡ waits t) × (ticket ≡ t % 2 ^ 64)) }
+        requires ready { (place.old.me.1 ≡ [])
+            × ((t : ℕ) × (place.old.me.0.stage ≡ waits t) × (ticket ≡ t % 2 ^ 64)) }
         ensures same { (place.new.table_id ≡ place.old.table_id) × (place.new.id ≡ place.old.id) }
         ensures taken { (b : Content) × HasTaken place.old.me place.new.me b }
     {
@@ -61,14 +65,18 @@ impl SharedBoard {
         unreachable!()
     }
 
-    // Gives the board back, where `before` was the length of its history and `after` is what it is now.
+    // Gives the board back, where `before` was the length of its history and `after` is what it is
+    // now.
     fn finish(&self, place: &mut Place, before: usize, after: usize)
         requires own { place.old.table_id ≡ self.now.table.shared.table_id }
         requires turn { (t : ℕ) × (place.old.me.0.stage ≡ turn t) }
-        requires hand { (b : Content) × (place.old.me.1 ≡ (0, b) ∷ []) × Follows place.old.me.0.caller place.old.me.0.seen b.events × (after ≡ length b.events) × (b.setup ≡ place.old.me.0.setup) }
+        requires hand { (b : Content) × (place.old.me.1 ≡ (0, b) ∷ [])
+            × Follows place.old.me.0.caller place.old.me.0.seen b.events × (after ≡ length b.events)
+            × (b.setup ≡ place.old.me.0.setup) }
         requires before { before ≡ length place.old.me.0.seen }
         ensures same { (place.new.table_id ≡ place.old.table_id) × (place.new.id ≡ place.old.id) }
-        ensures given { place.new.me ≡ (record place.old.me.0 { seen = hand_history place.old.me.1; stage = idle }, []) }
+        ensures given { place.new.me
+            ≡ (record place.old.me.0 { seen = hand_history place.old.me.1; stage = idle }, []) }
     {
         self.note(place, before, after);
         self.table.shared.fetch_add::<Pass>(place, SERVING, 1);
@@ -78,10 +86,13 @@ impl SharedBoard {
     fn note(&self, place: &mut Place, before: usize, after: usize)
         requires own { place.old.table_id ≡ self.now.table.shared.table_id }
         requires turn { (t : ℕ) × (place.old.me.0.stage ≡ turn t) }
-        requires hand { (b : Content) × (place.old.me.1 ≡ (0, b) ∷ []) × Follows place.old.me.0.caller place.old.me.0.seen b.events × (after ≡ length b.events) }
+        requires hand { (b : Content) × (place.old.me.1 ≡ (0, b) ∷ [])
+            × Follows place.old.me.0.caller place.old.me.0.seen b.events
+            × (after ≡ length b.events) }
         requires before { before ≡ length place.old.me.0.seen }
         ensures same { (place.new.table_id ≡ place.old.table_id) × (place.new.id ≡ place.old.id) }
-        ensures noted { place.new.me ≡ (record place.old.me.0 { seen = hand_history place.old.me.1 }, place.old.me.1) }
+        ensures noted { place.new.me
+            ≡ (record place.old.me.0 { seen = hand_history place.old.me.1 }, place.old.me.1) }
     {
         if after != before {
             self.table.shared.store::<Grow>(place, LENGTH, after as u64);
@@ -96,11 +107,15 @@ impl SharedBoard {
         into: &mut Task,
     ) -> Claim
         requires own { place.old.table_id ≡ self.now.table.shared.table_id }
-        requires ready { (place.old.me.0.stage ≡ idle) × (place.old.me.1 ≡ []) × (place.old.me.0.caller ≡ caller) }
+        requires ready { (place.old.me.0.stage ≡ idle) × (place.old.me.1 ≡ [])
+            × (place.old.me.0.caller ≡ caller) }
         requires caller { caller < place.old.me.0.setup.callers }
         requires room { IsTaskFor place.old.me.0.setup.market.periods into.old }
-        ensures same { (place.new.table_id ≡ place.old.table_id) × (place.new.id ≡ place.old.id) × (place.new.me.1 ≡ []) }
-        ensures called { Called (λ b. (result ≡ claim_of (claim_answer b)) × LeavesTask b (claim_answer b) into.old into.new) (λ b. after_claim b caller) place.old.me.0 place.new.me.0 }
+        ensures same { (place.new.table_id ≡ place.old.table_id) × (place.new.id ≡ place.old.id)
+            × (place.new.me.1 ≡ []) }
+        ensures called { Called (λ b. (result ≡ claim_of (claim_answer b))
+            × LeavesTask b (claim_answer b) into.old into.new) (λ b. after_claim b caller)
+            place.old.me.0 place.new.me.0 }
         ensures room { IsTaskFor place.old.me.0.setup.market.periods into.new }
         ensures legal { IsLegalHistory place.new.me.0.setup place.new.me.0.seen }
     {
@@ -124,12 +139,20 @@ impl SharedBoard {
         answer: &Answered,
     ) -> Posted
         requires own { place.old.table_id ≡ self.now.table.shared.table_id }
-        requires ready { (place.old.me.0.stage ≡ idle) × (place.old.me.1 ≡ []) × (place.old.me.0.caller ≡ caller) }
+        requires ready { (place.old.me.0.stage ≡ idle) × (place.old.me.1 ≡ [])
+            × (place.old.me.0.caller ≡ caller) }
         requires caller { caller < place.old.me.0.setup.callers }
-        requires fit { Fits (task_unit task.now) (prices_of task.now.prices) (schedule_of answer.now.response) }
-        requires earned { earnings (task_unit task.now) (prices_of task.now.prices) (schedule_of answer.now.response) ≡ answer.now.earned }
-        ensures same { (place.new.table_id ≡ place.old.table_id) × (place.new.id ≡ place.old.id) × (place.new.me.1 ≡ []) }
-        ensures called { Called (λ b. result ≡ posted_of (post_answer b caller task.now.proposal task.now.unit (prices_of task.now.prices) (task_unit task.now) (answer_of answer.now))) (λ b. after_post b caller task.now.proposal task.now.unit (prices_of task.now.prices) (task_unit task.now) (answer_of answer.now)) place.old.me.0 place.new.me.0 }
+        requires fit { Fits (task_unit task.now) (prices_of task.now.prices)
+            (schedule_of answer.now.response) }
+        requires earned { earnings (task_unit task.now) (prices_of task.now.prices)
+            (schedule_of answer.now.response) ≡ answer.now.earned }
+        ensures same { (place.new.table_id ≡ place.old.table_id) × (place.new.id ≡ place.old.id)
+            × (place.new.me.1 ≡ []) }
+        ensures called { Called (λ b. result ≡ posted_of
+            (post_answer b caller task.now.proposal task.now.unit (prices_of task.now.prices)
+            (task_unit task.now) (answer_of answer.now)))
+            (λ b. after_post b caller task.now.proposal task.now.unit (prices_of task.now.prices)
+            (task_unit task.now) (answer_of answer.now)) place.old.me.0 place.new.me.0 }
         ensures legal { IsLegalHistory place.new.me.0.setup place.new.me.0.seen }
     {
         let ticket = self.draw(place);
@@ -145,10 +168,13 @@ impl SharedBoard {
 
     pub(crate) fn halt_at<R: Wait>(&self, rt: &R, place: &mut Place, caller: u32)
         requires own { place.old.table_id ≡ self.now.table.shared.table_id }
-        requires ready { (place.old.me.0.stage ≡ idle) × (place.old.me.1 ≡ []) × (place.old.me.0.caller ≡ caller) }
+        requires ready { (place.old.me.0.stage ≡ idle) × (place.old.me.1 ≡ [])
+            × (place.old.me.0.caller ≡ caller) }
         requires caller { caller < place.old.me.0.setup.callers }
-        ensures same { (place.new.table_id ≡ place.old.table_id) × (place.new.id ≡ place.old.id) × (place.new.me.1 ≡ []) }
-        ensures called { Called (λ b. Unit {0}) (λ b. after_halt b caller) place.old.me.0 place.new.me.0 }
+        ensures same { (place.new.table_id ≡ place.old.table_id) × (place.new.id ≡ place.old.id)
+            × (place.new.me.1 ≡ []) }
+        ensures called { Called (λ b. Unit {0}) (λ b. after_halt b caller) place.old.me.0
+            place.new.me.0 }
         ensures legal { IsLegalHistory place.new.me.0.setup place.new.me.0.seen }
     {
         let ticket = self.draw(place);
@@ -163,12 +189,17 @@ impl SharedBoard {
 
     // The two read word 0 twice: a join tells nothing, and the second read tells what it came to.
     pub(crate) fn join_at(&self, place: &mut Place, other: Place)
-        requires own { (place.old.table_id ≡ self.now.table.shared.table_id) × (other.table_id ≡ self.now.table.shared.table_id) × (place.old.id ≡ 0) }
-        requires ready { (place.old.me.0.stage ≡ idle) × (other.me.0.stage ≡ idle) × (other.me.1 ≡ []) }
-        ensures same { (place.new.table_id ≡ place.old.table_id) × (place.new.id ≡ place.old.id) × (place.new.me.1 ≡ place.old.me.1) }
+        requires own { (place.old.table_id ≡ self.now.table.shared.table_id)
+            × (other.table_id ≡ self.now.table.shared.table_id) × (place.old.id ≡ 0) }
+        requires ready { (place.old.me.0.stage ≡ idle) × (other.me.0.stage ≡ idle)
+            × (other.me.1 ≡ []) }
+        ensures same { (place.new.table_id ≡ place.old.table_id) × (place.new.id ≡ place.old.id)
+            × (place.new.me.1 ≡ place.old.me.1) }
         ensures glued { place.new.me.0 ≡ at_stage (glued place.old.me.0 other.me.0) idle }
-        ensures joined { Joined (glued place.old.me.0 other.me.0) (glued place.old.me.0 other.me.0).stage }
-        ensures made { OnlyMade (glued place.old.me.0 other.me.0) (glued place.old.me.0 other.me.0).seen }
+        ensures joined { Joined (glued place.old.me.0 other.me.0)
+            (glued place.old.me.0 other.me.0).stage }
+        ensures made { OnlyMade (glued place.old.me.0 other.me.0)
+            (glued place.old.me.0 other.me.0).seen }
     {
         self.table.shared.join_seat::<Glue>(place, other);
         self.table.shared.load::<Told>(place, LENGTH);

@@ -18,7 +18,8 @@ use std::marker::Model;
 use uc_model::cases::{Case, Plan, Row};
 use uc_model::units::Answered;
 
-/// The record of a board: what it was made for, its rows and its answers. Contracts see it as they see the board.
+/// The record of a board: what it was made for, its rows and its answers. Contracts see it as they
+/// see the board.
 #[derive(Drop)]
 pub struct Closed {
     board: Board,
@@ -105,7 +106,8 @@ impl Closed {
         greatest(self.board.rows()) as u32 + 1
     }
 
-    /// What the answer kept for a unit earns at the prices of a row, in money. Rows count from 1, units from 0.
+    /// What the answer kept for a unit earns at the prices of a row, in money. Rows count from 1,
+    /// units from 0.
     pub fn earned(&self, proposal: u32, unit: u32) -> i64
         requires first { 1 ≤ proposal }
         requires last { proposal ≤ length (own_rows self.now) }
@@ -115,21 +117,23 @@ impl Closed {
         self.board.earned(proposal, unit)
     }
 
-    /// Leaves the answer kept for a unit at the prices of a row in another over the same periods, whose lists keep their
-    /// lengths. Takes no memory.
+    /// Leaves the answer kept for a unit at the prices of a row in another over the same periods,
+    /// whose lists keep their lengths. Takes no memory.
     pub fn answer_into(&self, proposal: u32, unit: u32, into: &mut Answered)
         requires first { 1 ≤ proposal }
         requires last { proposal ≤ length (own_rows self.now) }
         requires unit { unit < unit_count self.now.setup.market }
-        requires horizon { length (schedule_of into.old.response).on ≡ self.now.setup.market.periods }
+        requires horizon { length (schedule_of into.old.response).on
+            ≡ self.now.setup.market.periods }
         ensures answer { answer_of into.new ≡ kept_answer self.now proposal unit }
-        ensures horizon { length (schedule_of into.new.response).on ≡ self.now.setup.market.periods }
+        ensures horizon { length (schedule_of into.new.response).on
+            ≡ self.now.setup.market.periods }
     {
         self.board.answer_into(proposal, unit, into);
     }
 
-    /// What holds of every record: its history is legal, its plan is feasible at its cost, and its numbers are within
-    /// their limits.
+    /// What holds of every record: its history is legal, its plan is feasible at its cost, and its
+    /// numbers are within their limits.
     pub fn is_legal(&self)
         ensures legal { IsLegalHistory self.now.setup self.now.events }
         ensures setup { IsSetup self.now.setup }

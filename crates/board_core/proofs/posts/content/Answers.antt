@@ -5,7 +5,7 @@ use Rattle.uc_model.specs.PlainUnits.{prices_of}
 use Rattle.board_core.specs.Ledgers.{blank}
 use Rattle.board_core.specs.Refusals.{own_prices_in}
 use Rattle.board_core.specs.Setups.{setup_of}
-use Rattle.board_core.proofs.AsOne.{no_difference}
+use Rattle.board_core.proofs.FlatLists.{no_difference}
 use Rattle.board_core.proofs.posts.content.Goals as goal
 
 pub copy_task-requires-clause-horizon : goal.copy_task-requires-clause-horizon

@@ -13,20 +13,21 @@ use Rattle.uc_model.specs.Schedules.{IsFeasible}
 use Rattle.board_core.specs.Events.{event_of, events_of}
 use Rattle.board_core.specs.Ledgers.{blank}
 use Rattle.board_core.specs.Parts.{Lists, IsBoard}
+use Rattle.board_core.specs.Stored.{answers_kept}
 use Rattle.board_core.specs.Replies.{claim_of}
 use Rattle.board_core.specs.Setups.{setup_of}
 use Rattle.board_core.specs.Tasks.{LeavesTask, IsOwnTask}
 use Rattle.board_core.proofs.Claims.{claim_finished, claim_halted, claim_not_yet, claim_given, price_is, count_within, claimed}
 use Rattle.board_core.proofs.Entries.{content, events_more, entries_more}
-use Rattle.board_core.proofs.UnitPlaces.{partner}
+use Rattle.board_core.proofs.Lists.{partner}
 use Rattle.board_core.proofs.board.Board.claim.Goals as goal
 
 pub returns-then-open-closed-clause-answer : goal.returns-then-open-closed-clause-answer
 returns-then-open-closed-clause-answer c =
     let s = c.self.inside in
     let b = setup_of s.terms in
-    let h = events_of (unit_count b.market) s.store.answers s.history.items in
-    let x : Lists = record { takers = s.takers.items; marks = s.marks.items; kept = s.store.answers; counts = s.counts.items; halted = s.halted.items; any_halt = s.any_halt } in
+    let h = events_of (unit_count b.market) (answers_kept s.store) s.history.items in
+    let x : Lists = record { takers = s.takers.items; marks = s.marks.items; kept = answers_kept s.store; counts = s.counts.items; halted = s.halted.items; any_halt = s.any_halt } in
     let I : IsBoard b h x s.ledger = c.self.invariant.0 in
     let k = c.args.caller in
     let o = c.opened-open.ensures in
@@ -39,8 +40,8 @@ pub returns-then-open-closed-clause-after : goal.returns-then-open-closed-clause
 returns-then-open-closed-clause-after c =
     let s = c.self.inside in
     let b = setup_of s.terms in
-    let h = events_of (unit_count b.market) s.store.answers s.history.items in
-    let x : Lists = record { takers = s.takers.items; marks = s.marks.items; kept = s.store.answers; counts = s.counts.items; halted = s.halted.items; any_halt = s.any_halt } in
+    let h = events_of (unit_count b.market) (answers_kept s.store) s.history.items in
+    let x : Lists = record { takers = s.takers.items; marks = s.marks.items; kept = answers_kept s.store; counts = s.counts.items; halted = s.halted.items; any_halt = s.any_halt } in
     let I : IsBoard b h x s.ledger = c.self.invariant.0 in
     let k = c.args.caller in
     let o = c.opened-open.ensures in
@@ -53,8 +54,8 @@ pub returns-then-open-closed-clause-task : goal.returns-then-open-closed-clause-
 returns-then-open-closed-clause-task c =
     let s = c.self.inside in
     let b = setup_of s.terms in
-    let h = events_of (unit_count b.market) s.store.answers s.history.items in
-    let x : Lists = record { takers = s.takers.items; marks = s.marks.items; kept = s.store.answers; counts = s.counts.items; halted = s.halted.items; any_halt = s.any_halt } in
+    let h = events_of (unit_count b.market) (answers_kept s.store) s.history.items in
+    let x : Lists = record { takers = s.takers.items; marks = s.marks.items; kept = answers_kept s.store; counts = s.counts.items; halted = s.halted.items; any_halt = s.any_halt } in
     let I : IsBoard b h x s.ledger = c.self.invariant.0 in
     let k = c.args.caller in
     let o = c.opened-open.ensures in
@@ -67,8 +68,8 @@ pub returns-then-self-clause-answer : goal.returns-then-self-clause-answer
 returns-then-self-clause-answer c =
     let s = c.self.inside in
     let b = setup_of s.terms in
-    let h = events_of (unit_count b.market) s.store.answers s.history.items in
-    let x : Lists = record { takers = s.takers.items; marks = s.marks.items; kept = s.store.answers; counts = s.counts.items; halted = s.halted.items; any_halt = s.any_halt } in
+    let h = events_of (unit_count b.market) (answers_kept s.store) s.history.items in
+    let x : Lists = record { takers = s.takers.items; marks = s.marks.items; kept = answers_kept s.store; counts = s.counts.items; halted = s.halted.items; any_halt = s.any_halt } in
     let I : IsBoard b h x s.ledger = c.self.invariant.0 in
     let k = c.args.caller in
     let o = c.opened-open.ensures in
@@ -82,8 +83,8 @@ pub returns-then-self-clause-after : goal.returns-then-self-clause-after
 returns-then-self-clause-after c =
     let s = c.self.inside in
     let b = setup_of s.terms in
-    let h = events_of (unit_count b.market) s.store.answers s.history.items in
-    let x : Lists = record { takers = s.takers.items; marks = s.marks.items; kept = s.store.answers; counts = s.counts.items; halted = s.halted.items; any_halt = s.any_halt } in
+    let h = events_of (unit_count b.market) (answers_kept s.store) s.history.items in
+    let x : Lists = record { takers = s.takers.items; marks = s.marks.items; kept = answers_kept s.store; counts = s.counts.items; halted = s.halted.items; any_halt = s.any_halt } in
     let I : IsBoard b h x s.ledger = c.self.invariant.0 in
     let k = c.args.caller in
     let o = c.opened-open.ensures in
@@ -97,8 +98,8 @@ pub returns-then-self-clause-task : goal.returns-then-self-clause-task
 returns-then-self-clause-task c =
     let s = c.self.inside in
     let b = setup_of s.terms in
-    let h = events_of (unit_count b.market) s.store.answers s.history.items in
-    let x : Lists = record { takers = s.takers.items; marks = s.marks.items; kept = s.store.answers; counts = s.counts.items; halted = s.halted.items; any_halt = s.any_halt } in
+    let h = events_of (unit_count b.market) (answers_kept s.store) s.history.items in
+    let x : Lists = record { takers = s.takers.items; marks = s.marks.items; kept = answers_kept s.store; counts = s.counts.items; halted = s.halted.items; any_halt = s.any_halt } in
     let I : IsBoard b h x s.ledger = c.self.invariant.0 in
     let k = c.args.caller in
     let o = c.opened-open.ensures in
@@ -112,8 +113,8 @@ pub returns-then-open-before-clause-answer : goal.returns-then-open-before-claus
 returns-then-open-before-clause-answer c =
     let s = c.self.inside in
     let b = setup_of s.terms in
-    let h = events_of (unit_count b.market) s.store.answers s.history.items in
-    let x : Lists = record { takers = s.takers.items; marks = s.marks.items; kept = s.store.answers; counts = s.counts.items; halted = s.halted.items; any_halt = s.any_halt } in
+    let h = events_of (unit_count b.market) (answers_kept s.store) s.history.items in
+    let x : Lists = record { takers = s.takers.items; marks = s.marks.items; kept = answers_kept s.store; counts = s.counts.items; halted = s.halted.items; any_halt = s.any_halt } in
     let I : IsBoard b h x s.ledger = c.self.invariant.0 in
     let k = c.args.caller in
     let o = c.opened-open.ensures in
@@ -133,8 +134,8 @@ pub returns-then-open-before-clause-after : goal.returns-then-open-before-clause
 returns-then-open-before-clause-after c =
     let s = c.self.inside in
     let b = setup_of s.terms in
-    let h = events_of (unit_count b.market) s.store.answers s.history.items in
-    let x : Lists = record { takers = s.takers.items; marks = s.marks.items; kept = s.store.answers; counts = s.counts.items; halted = s.halted.items; any_halt = s.any_halt } in
+    let h = events_of (unit_count b.market) (answers_kept s.store) s.history.items in
+    let x : Lists = record { takers = s.takers.items; marks = s.marks.items; kept = answers_kept s.store; counts = s.counts.items; halted = s.halted.items; any_halt = s.any_halt } in
     let I : IsBoard b h x s.ledger = c.self.invariant.0 in
     let k = c.args.caller in
     let o = c.opened-open.ensures in
@@ -154,8 +155,8 @@ pub returns-then-open-before-clause-task : goal.returns-then-open-before-clause-
 returns-then-open-before-clause-task c =
     let s = c.self.inside in
     let b = setup_of s.terms in
-    let h = events_of (unit_count b.market) s.store.answers s.history.items in
-    let x : Lists = record { takers = s.takers.items; marks = s.marks.items; kept = s.store.answers; counts = s.counts.items; halted = s.halted.items; any_halt = s.any_halt } in
+    let h = events_of (unit_count b.market) (answers_kept s.store) s.history.items in
+    let x : Lists = record { takers = s.takers.items; marks = s.marks.items; kept = answers_kept s.store; counts = s.counts.items; halted = s.halted.items; any_halt = s.any_halt } in
     let I : IsBoard b h x s.ledger = c.self.invariant.0 in
     let k = c.args.caller in
     let o = c.opened-open.ensures in
@@ -175,8 +176,8 @@ pub copy_task-requires-clause-horizon : goal.copy_task-requires-clause-horizon
 copy_task-requires-clause-horizon c =
     let s = c.self.inside in
     let b = setup_of s.terms in
-    let h = events_of (unit_count b.market) s.store.answers s.history.items in
-    let x : Lists = record { takers = s.takers.items; marks = s.marks.items; kept = s.store.answers; counts = s.counts.items; halted = s.halted.items; any_halt = s.any_halt } in
+    let h = events_of (unit_count b.market) (answers_kept s.store) s.history.items in
+    let x : Lists = record { takers = s.takers.items; marks = s.marks.items; kept = answers_kept s.store; counts = s.counts.items; halted = s.halted.items; any_halt = s.any_halt } in
     let I : IsBoard b h x s.ledger = c.self.invariant.0 in
     let k = c.args.caller in
     let o = c.opened-open.ensures in
@@ -199,8 +200,8 @@ pub push_reserved-requires : goal.push_reserved-requires
 push_reserved-requires c =
     let s = c.self.inside in
     let b = setup_of s.terms in
-    let h = events_of (unit_count b.market) s.store.answers s.history.items in
-    let x : Lists = record { takers = s.takers.items; marks = s.marks.items; kept = s.store.answers; counts = s.counts.items; halted = s.halted.items; any_halt = s.any_halt } in
+    let h = events_of (unit_count b.market) (answers_kept s.store) s.history.items in
+    let x : Lists = record { takers = s.takers.items; marks = s.marks.items; kept = answers_kept s.store; counts = s.counts.items; halted = s.halted.items; any_halt = s.any_halt } in
     let I : IsBoard b h x s.ledger = c.self.invariant.0 in
     let k = c.args.caller in
     let o = c.opened-open.ensures in
@@ -223,8 +224,8 @@ pub push_reserved-requires-2 : goal.push_reserved-requires-2
 push_reserved-requires-2 c =
     let s = c.self.inside in
     let b = setup_of s.terms in
-    let h = events_of (unit_count b.market) s.store.answers s.history.items in
-    let x : Lists = record { takers = s.takers.items; marks = s.marks.items; kept = s.store.answers; counts = s.counts.items; halted = s.halted.items; any_halt = s.any_halt } in
+    let h = events_of (unit_count b.market) (answers_kept s.store) s.history.items in
+    let x : Lists = record { takers = s.takers.items; marks = s.marks.items; kept = answers_kept s.store; counts = s.counts.items; halted = s.halted.items; any_halt = s.any_halt } in
     let I : IsBoard b h x s.ledger = c.self.invariant.0 in
     let k = c.args.caller in
     let o = c.opened-open.ensures in
@@ -247,8 +248,8 @@ pub invariant_of-self : goal.invariant_of-self
 invariant_of-self c =
     let s = c.self.inside in
     let b = setup_of s.terms in
-    let h = events_of (unit_count b.market) s.store.answers s.history.items in
-    let x : Lists = record { takers = s.takers.items; marks = s.marks.items; kept = s.store.answers; counts = s.counts.items; halted = s.halted.items; any_halt = s.any_halt } in
+    let h = events_of (unit_count b.market) (answers_kept s.store) s.history.items in
+    let x : Lists = record { takers = s.takers.items; marks = s.marks.items; kept = answers_kept s.store; counts = s.counts.items; halted = s.halted.items; any_halt = s.any_halt } in
     let I : IsBoard b h x s.ledger = c.self.invariant.0 in
     let k = c.args.caller in
     let o = c.opened-open.ensures in
@@ -268,10 +269,10 @@ invariant_of-self c =
     let caller : k < b.callers = subst (λ (v : Content). k < v.setup.callers) (sym c.self.view_is) c.requires.caller in
     let r = claim_given b h x s.ledger I c.board_laws.ensures more running c.if-self.false in
     let entry : Entry = record { caller = k; call = calls.Claim; proposal = c.len-number.result / c.units-units.result + 1; unit = c.len-number.result % c.units-units.result; reply = replies.Given } in
-    let h2 = events_of units s.store.answers c.push_reserved-2.new.self.items in
-    let given : event_of units s.store.answers entry ≡ Given k (before + 1) unit = ap (λ (i : ℕ). Given k (i + 1) (c.len-number.result % c.units-units.result)) d ∙ ap (Given k (before + 1)) u in
+    let h2 = events_of units (answers_kept s.store) c.push_reserved-2.new.self.items in
+    let given : event_of units (answers_kept s.store) entry ≡ Given k (before + 1) unit = ap (λ (i : ℕ). Given k (i + 1) (c.len-number.result % c.units-units.result)) d ∙ ap (Given k (before + 1)) u in
     let events : h2 ≡ h ++ Given k (before + 1) unit ∷ [] =
-    events_more units s.store.answers s.history.items c.push_reserved-2.new.self.items entry c.push_reserved-2.ensures.items ∙ ap (λ (e : Event Answer). h ++ e ∷ []) given in
+    events_more units (answers_kept s.store) s.history.items c.push_reserved-2.new.self.items entry c.push_reserved-2.ensures.items ∙ ap (λ (e : Event Answer). h ++ e ∷ []) given in
     let takers = c.push_reserved.ensures.items in
     let new = claimed b h x s.ledger I c.board_laws.ensures more k caller running c.if-self.false in
     let w = count_within b h x s.ledger I c.board_laws.ensures more in
@@ -296,8 +297,8 @@ pub returns-clause-answer : goal.returns-clause-answer
 returns-clause-answer c =
     let s = c.self.inside in
     let b = setup_of s.terms in
-    let h = events_of (unit_count b.market) s.store.answers s.history.items in
-    let x : Lists = record { takers = s.takers.items; marks = s.marks.items; kept = s.store.answers; counts = s.counts.items; halted = s.halted.items; any_halt = s.any_halt } in
+    let h = events_of (unit_count b.market) (answers_kept s.store) s.history.items in
+    let x : Lists = record { takers = s.takers.items; marks = s.marks.items; kept = answers_kept s.store; counts = s.counts.items; halted = s.halted.items; any_halt = s.any_halt } in
     let I : IsBoard b h x s.ledger = c.self.invariant.0 in
     let k = c.args.caller in
     let o = c.opened-open.ensures in
@@ -317,18 +318,18 @@ returns-clause-answer c =
     let caller : k < b.callers = subst (λ (v : Content). k < v.setup.callers) (sym c.self.view_is) c.requires.caller in
     let r = claim_given b h x s.ledger I c.board_laws.ensures more running c.if-self.false in
     let entry : Entry = record { caller = k; call = calls.Claim; proposal = c.len-number.result / c.units-units.result + 1; unit = c.len-number.result % c.units-units.result; reply = replies.Given } in
-    let h2 = events_of units s.store.answers c.push_reserved-2.new.self.items in
-    let given : event_of units s.store.answers entry ≡ Given k (before + 1) unit = ap (λ (i : ℕ). Given k (i + 1) (c.len-number.result % c.units-units.result)) d ∙ ap (Given k (before + 1)) u in
+    let h2 = events_of units (answers_kept s.store) c.push_reserved-2.new.self.items in
+    let given : event_of units (answers_kept s.store) entry ≡ Given k (before + 1) unit = ap (λ (i : ℕ). Given k (i + 1) (c.len-number.result % c.units-units.result)) d ∙ ap (Given k (before + 1)) u in
     let events : h2 ≡ h ++ Given k (before + 1) unit ∷ [] =
-    events_more units s.store.answers s.history.items c.push_reserved-2.new.self.items entry c.push_reserved-2.ensures.items ∙ ap (λ (e : Event Answer). h ++ e ∷ []) given in
+    events_more units (answers_kept s.store) s.history.items c.push_reserved-2.new.self.items entry c.push_reserved-2.ensures.items ∙ ap (λ (e : Event Answer). h ++ e ∷ []) given in
     ap claim_of (sym r) ∙ ap (λ (v : Content). claim_of (claim_answer v)) c.self.view_is
 
 pub returns-clause-after : goal.returns-clause-after
 returns-clause-after c =
     let s = c.self.inside in
     let b = setup_of s.terms in
-    let h = events_of (unit_count b.market) s.store.answers s.history.items in
-    let x : Lists = record { takers = s.takers.items; marks = s.marks.items; kept = s.store.answers; counts = s.counts.items; halted = s.halted.items; any_halt = s.any_halt } in
+    let h = events_of (unit_count b.market) (answers_kept s.store) s.history.items in
+    let x : Lists = record { takers = s.takers.items; marks = s.marks.items; kept = answers_kept s.store; counts = s.counts.items; halted = s.halted.items; any_halt = s.any_halt } in
     let I : IsBoard b h x s.ledger = c.self.invariant.0 in
     let k = c.args.caller in
     let o = c.opened-open.ensures in
@@ -348,18 +349,18 @@ returns-clause-after c =
     let caller : k < b.callers = subst (λ (v : Content). k < v.setup.callers) (sym c.self.view_is) c.requires.caller in
     let r = claim_given b h x s.ledger I c.board_laws.ensures more running c.if-self.false in
     let entry : Entry = record { caller = k; call = calls.Claim; proposal = c.len-number.result / c.units-units.result + 1; unit = c.len-number.result % c.units-units.result; reply = replies.Given } in
-    let h2 = events_of units s.store.answers c.push_reserved-2.new.self.items in
-    let given : event_of units s.store.answers entry ≡ Given k (before + 1) unit = ap (λ (i : ℕ). Given k (i + 1) (c.len-number.result % c.units-units.result)) d ∙ ap (Given k (before + 1)) u in
+    let h2 = events_of units (answers_kept s.store) c.push_reserved-2.new.self.items in
+    let given : event_of units (answers_kept s.store) entry ≡ Given k (before + 1) unit = ap (λ (i : ℕ). Given k (i + 1) (c.len-number.result % c.units-units.result)) d ∙ ap (Given k (before + 1)) u in
     let events : h2 ≡ h ++ Given k (before + 1) unit ∷ [] =
-    events_more units s.store.answers s.history.items c.push_reserved-2.new.self.items entry c.push_reserved-2.ensures.items ∙ ap (λ (e : Event Answer). h ++ e ∷ []) given in
+    events_more units (answers_kept s.store) s.history.items c.push_reserved-2.new.self.items entry c.push_reserved-2.ensures.items ∙ ap (λ (e : Event Answer). h ++ e ∷ []) given in
     ap (content b) events ∙ sym (ap (λ z. content b (with_claim h k z)) r) ∙ ap (λ (v : Content). after_claim v k) c.self.view_is
 
 pub returns-clause-task : goal.returns-clause-task
 returns-clause-task c =
     let s = c.self.inside in
     let b = setup_of s.terms in
-    let h = events_of (unit_count b.market) s.store.answers s.history.items in
-    let x : Lists = record { takers = s.takers.items; marks = s.marks.items; kept = s.store.answers; counts = s.counts.items; halted = s.halted.items; any_halt = s.any_halt } in
+    let h = events_of (unit_count b.market) (answers_kept s.store) s.history.items in
+    let x : Lists = record { takers = s.takers.items; marks = s.marks.items; kept = answers_kept s.store; counts = s.counts.items; halted = s.halted.items; any_halt = s.any_halt } in
     let I : IsBoard b h x s.ledger = c.self.invariant.0 in
     let k = c.args.caller in
     let o = c.opened-open.ensures in
@@ -379,10 +380,10 @@ returns-clause-task c =
     let caller : k < b.callers = subst (λ (v : Content). k < v.setup.callers) (sym c.self.view_is) c.requires.caller in
     let r = claim_given b h x s.ledger I c.board_laws.ensures more running c.if-self.false in
     let entry : Entry = record { caller = k; call = calls.Claim; proposal = c.len-number.result / c.units-units.result + 1; unit = c.len-number.result % c.units-units.result; reply = replies.Given } in
-    let h2 = events_of units s.store.answers c.push_reserved-2.new.self.items in
-    let given : event_of units s.store.answers entry ≡ Given k (before + 1) unit = ap (λ (i : ℕ). Given k (i + 1) (c.len-number.result % c.units-units.result)) d ∙ ap (Given k (before + 1)) u in
+    let h2 = events_of units (answers_kept s.store) c.push_reserved-2.new.self.items in
+    let given : event_of units (answers_kept s.store) entry ≡ Given k (before + 1) unit = ap (λ (i : ℕ). Given k (i + 1) (c.len-number.result % c.units-units.result)) d ∙ ap (Given k (before + 1)) u in
     let events : h2 ≡ h ++ Given k (before + 1) unit ∷ [] =
-    events_more units s.store.answers s.history.items c.push_reserved-2.new.self.items entry c.push_reserved-2.ensures.items ∙ ap (λ (e : Event Answer). h ++ e ∷ []) given in
+    events_more units (answers_kept s.store) s.history.items c.push_reserved-2.new.self.items entry c.push_reserved-2.ensures.items ∙ ap (λ (e : Event Answer). h ++ e ∷ []) given in
     let task = c.copy_task.new.into in
     let is = ap (λ (i : ℕ). slice_get (units_of b.market) i) (sym u) ∙ c.copy_task.ensures.unit in
     let some = partner (λ (a : AnyUnit) (t : Schedule). IsFeasible a b.market.periods t) (units_of b.market) b.plan unit (task_unit task) I.setup.feasible.feasible is in

@@ -6,29 +6,32 @@ use Rattle.board_history.specs.Calls.{own_rows}
 use Rattle.board_core.specs.Boards.{kept_answer}
 use Rattle.board_core.specs.Events.{place, events_of}
 use Rattle.board_core.specs.Setups.{setup_of}
+use Rattle.board_core.specs.Stored.{answers_kept}
 use Rattle.board_core.proofs.Fronts.{kept_inside, kept_is}
+use Rattle.board_core.proofs.Kept.{is_inside, kept_at}
 use Rattle.board_core.proofs.board.Board.earned.Goals as goal
 
 pub earned-requires : goal.earned-requires
 earned-requires c =
     let s = c.self.inside in
     let b = setup_of s.terms in
-    let h = events_of (unit_count b.market) s.store.answers s.history.items in
+    let h = events_of (unit_count b.market) (answers_kept s.store) s.history.items in
     let last = subst (λ (v : Content). c.args.proposal ≤ length (own_rows v)) (sym c.self.view_is) c.requires.last in
     let unit = subst (λ (v : Content). c.args.unit < unit_count v.setup.market) (sym c.self.view_is) c.requires.unit in
     let i = c.place.ensures ∙ ap (λ (m : ℕ). place m c.args.proposal c.args.unit) c.units.ensures in
-    subst (λ (j : ℕ). j < length s.store.answers) (sym i) (kept_inside b h _ s.ledger c.self.invariant.0 (c.board_laws.ensures.of b) c.args.proposal c.args.unit c.requires.first last unit)
+    is_inside s.store c.place.result (subst (λ (j : ℕ). j < length (answers_kept s.store)) (sym i) (kept_inside b h _ s.ledger c.self.invariant.0 (c.board_laws.ensures.of b) c.args.proposal c.args.unit c.requires.first last unit))
 
 pub returns : goal.returns
 returns c =
     let s = c.self.inside in
     let b = setup_of s.terms in
-    let h = events_of (unit_count b.market) s.store.answers s.history.items in
+    let h = events_of (unit_count b.market) (answers_kept s.store) s.history.items in
     let last = subst (λ (v : Content). c.args.proposal ≤ length (own_rows v)) (sym c.self.view_is) c.requires.last in
     let unit = subst (λ (v : Content). c.args.unit < unit_count v.setup.market) (sym c.self.view_is) c.requires.unit in
     let i = c.place.ensures ∙ ap (λ (m : ℕ). place m c.args.proposal c.args.unit) c.units.ensures in
     let f : FitsSigned w64 c.earned.result = search rules in
     let is = kept_is b h _ s.ledger c.self.invariant.0 (c.board_laws.ensures.of b) c.args.proposal c.args.unit c.requires.first last unit in
-    to_z-of_z w64 c.earned.result f ∙ c.earned.ensures
-    ∙ ap (λ (j : ℕ). (get_or s.store.answers j no_answer).earned) i ∙ ap (λ (a : Answer). a.earned) is
+    let inside = subst (λ (j : ℕ). j < length (answers_kept s.store)) (sym i) (kept_inside b h _ s.ledger c.self.invariant.0 (c.board_laws.ensures.of b) c.args.proposal c.args.unit c.requires.first last unit) in
+    to_z-of_z w64 c.earned.result f ∙ c.earned.ensures ∙ ap (λ (a : Answer). a.earned) (kept_at s.store c.place.result inside)
+    ∙ ap (λ (j : ℕ). (get_or (answers_kept s.store) j no_answer).earned) i ∙ ap (λ (a : Answer). a.earned) is
     ∙ ap (λ (v : Content). (kept_answer v c.args.proposal c.args.unit).earned) c.self.view_is

@@ -10,6 +10,7 @@ use Rattle.board_history.specs.declared.entries.Reply.TheVariants as replies
 use Rattle.uc_model.specs.Data.{unit_count}
 use Rattle.board_core.specs.Events.{events_of}
 use Rattle.board_core.specs.Parts.{Lists, IsBoard}
+use Rattle.board_core.specs.Stored.{answers_kept}
 use Rattle.board_core.specs.Setups.{setup_of}
 use Rattle.board_core.proofs.Entries.{content, events_more, entries_more}
 use Rattle.board_core.proofs.Halts.{stopped, not_yet, one_less, halted_lists}
@@ -19,8 +20,8 @@ pub returns-then-index : goal.returns-then-index
 returns-then-index c =
     let s = c.self.inside in
     let b = setup_of s.terms in
-    let h = events_of (unit_count b.market) s.store.answers s.history.items in
-    let x : Lists = record { takers = s.takers.items; marks = s.marks.items; kept = s.store.answers; counts = s.counts.items; halted = s.halted.items; any_halt = s.any_halt } in
+    let h = events_of (unit_count b.market) (answers_kept s.store) s.history.items in
+    let x : Lists = record { takers = s.takers.items; marks = s.marks.items; kept = answers_kept s.store; counts = s.counts.items; halted = s.halted.items; any_halt = s.any_halt } in
     let I : IsBoard b h x s.ledger = c.self.invariant.0 in
     let K = c.self.invariant.1 in
     let k = c.args.caller in
@@ -35,8 +36,8 @@ pub invariant_of-self : goal.invariant_of-self
 invariant_of-self c =
     let s = c.self.inside in
     let b = setup_of s.terms in
-    let h = events_of (unit_count b.market) s.store.answers s.history.items in
-    let x : Lists = record { takers = s.takers.items; marks = s.marks.items; kept = s.store.answers; counts = s.counts.items; halted = s.halted.items; any_halt = s.any_halt } in
+    let h = events_of (unit_count b.market) (answers_kept s.store) s.history.items in
+    let x : Lists = record { takers = s.takers.items; marks = s.marks.items; kept = answers_kept s.store; counts = s.counts.items; halted = s.halted.items; any_halt = s.any_halt } in
     let I : IsBoard b h x s.ledger = c.self.invariant.0 in
     let K = c.self.invariant.1 in
     let k = c.args.caller in
@@ -45,8 +46,8 @@ invariant_of-self c =
     let place : k < length s.halted.items = omega (arith, caller, count) in
     let first : get_or s.halted.items k false ≡ false = get_or_default s.halted.items k false c.index.result.now place ∙ sym c.index.ensures ∙ c.if-index.false in
     let entry : Entry = record { caller = k; call = calls.Halt; proposal = 0; unit = 0; reply = replies.Stopped } in
-    let h2 = events_of (unit_count b.market) s.store.answers c.push_reserved.new.self.items in
-    let events : h2 ≡ h ++ Stopped k ∷ [] = events_more (unit_count b.market) s.store.answers s.history.items c.push_reserved.new.self.items entry c.push_reserved.ensures.items in
+    let h2 = events_of (unit_count b.market) (answers_kept s.store) c.push_reserved.new.self.items in
+    let events : h2 ≡ h ++ Stopped k ∷ [] = events_more (unit_count b.market) (answers_kept s.store) s.history.items c.push_reserved.new.self.items entry c.push_reserved.ensures.items in
     let less = one_less s.halted.items k place first in
     let room = K.room in
     let long = ap (λ (xs : List Entry). length xs) c.push_reserved.ensures.items in (
@@ -65,8 +66,8 @@ pub returns : goal.returns
 returns c =
     let s = c.self.inside in
     let b = setup_of s.terms in
-    let h = events_of (unit_count b.market) s.store.answers s.history.items in
-    let x : Lists = record { takers = s.takers.items; marks = s.marks.items; kept = s.store.answers; counts = s.counts.items; halted = s.halted.items; any_halt = s.any_halt } in
+    let h = events_of (unit_count b.market) (answers_kept s.store) s.history.items in
+    let x : Lists = record { takers = s.takers.items; marks = s.marks.items; kept = answers_kept s.store; counts = s.counts.items; halted = s.halted.items; any_halt = s.any_halt } in
     let I : IsBoard b h x s.ledger = c.self.invariant.0 in
     let K = c.self.invariant.1 in
     let k = c.args.caller in
@@ -75,7 +76,7 @@ returns c =
     let place : k < length s.halted.items = omega (arith, caller, count) in
     let first : get_or s.halted.items k false ≡ false = get_or_default s.halted.items k false c.index.result.now place ∙ sym c.index.ensures ∙ c.if-index.false in
     let entry : Entry = record { caller = k; call = calls.Halt; proposal = 0; unit = 0; reply = replies.Stopped } in
-    let h2 = events_of (unit_count b.market) s.store.answers c.push_reserved.new.self.items in
-    let events : h2 ≡ h ++ Stopped k ∷ [] = events_more (unit_count b.market) s.store.answers s.history.items c.push_reserved.new.self.items entry c.push_reserved.ensures.items in
+    let h2 = events_of (unit_count b.market) (answers_kept s.store) c.push_reserved.new.self.items in
+    let events : h2 ≡ h ++ Stopped k ∷ [] = events_more (unit_count b.market) (answers_kept s.store) s.history.items c.push_reserved.new.self.items entry c.push_reserved.ensures.items in
     let free = not_yet b h x s.ledger I k caller first in
     ap (content b) events ∙ sym (ap (λ (t : Bool). content b (cond t h (h ++ Stopped k ∷ []))) free) ∙ ap (λ (v : Content). after_halt v k) c.self.view_is

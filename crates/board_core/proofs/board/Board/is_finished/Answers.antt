@@ -6,6 +6,7 @@ use Rattle.board_history.specs.Calls.{has_finished}
 use Rattle.board_history.specs.Rounds.{posts, opened}
 use Rattle.board_core.specs.Events.{events_of}
 use Rattle.board_core.specs.Setups.{setup_of}
+use Rattle.board_core.specs.Stored.{answers_kept}
 use Rattle.board_core.proofs.Fronts.{closed_is, opened_is}
 use Rattle.board_core.proofs.board.Board.is_finished.Goals as goal
 
@@ -13,7 +14,7 @@ pub returns : goal.returns
 returns c =
     let s = c.self.inside in
     let b = setup_of s.terms in
-    let h = events_of (unit_count b.market) s.store.answers s.history.items in
+    let h = events_of (unit_count b.market) (answers_kept s.store) s.history.items in
     let I = c.self.invariant.0 in
     let o = c.opened.ensures ∙ opened_is b s.ledger I.ledger (posts h) I.rounds in
     let k = c.closed.ensures ∙ closed_is b s.ledger I.ledger (posts h) I.rounds (c.board_laws.ensures.of b) in

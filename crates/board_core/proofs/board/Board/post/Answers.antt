@@ -1,6 +1,7 @@
 use Rattle.std.proofs.Common.{◌≡◌, ℕ, suc, ◌+◌, ◌-◌, ◌<◌, ◌==◌, ℤ, Bool, true, false, Option, List, [], ◌∷◌, ◌++◌, length, get_or, refl, subst, sym, ap, ◌∙◌, arith, length-append}
 use Rattle.std.proofs.Math.ListN.{set}
 use Rattle.std.specs.List.{All}
+use Rattle.answer_store.specs.Answers.{kept_of}
 use Rattle.board_history.specs.Board.{Answer, Content, rules_of}
 use Rattle.board_history.specs.Bounds.{IsTotal, IsSum}
 use Rattle.board_history.specs.Calls.{post_answer, after_post}
@@ -19,10 +20,11 @@ use Rattle.board_core.specs.Refusals.{refusal_of, reply_of}
 use Rattle.board_core.specs.Replies.{posted_of, closed_of as closed_if}
 use Rattle.board_core.specs.Rounds.{Sums, Fronts, is_full, IsRound}
 use Rattle.board_core.specs.Setups.{setup_of}
-use Rattle.board_core.specs.Stored.{answer_of}
+use Rattle.board_core.specs.Stored.{answer_of, answers_kept}
 use Rattle.board_core.proofs.Entries.{content, entries_more}
 use Rattle.board_core.proofs.FlatLists.{is_task}
 use Rattle.board_core.proofs.Halts.{one_less}
+use Rattle.board_core.proofs.Kept.{is_inside, put_kept}
 use Rattle.board_core.proofs.Lists.{place_before}
 use Rattle.board_core.proofs.PostEvents.{events_posted}
 use Rattle.board_core.proofs.PostLists.{mark_inside, kept_inside, free, count_few, closes_is}
@@ -37,8 +39,8 @@ refusal-refused-requires-clause-marks c =
     let s = c.self.inside in
     let b = setup_of s.terms in
     let units = unit_count b.market in
-    let h = events_of units s.store.answers s.history.items in
-    let x : Lists = record { takers = s.takers.items; marks = s.marks.items; kept = s.store.answers; counts = s.counts.items; halted = s.halted.items; any_halt = s.any_halt } in
+    let h = events_of units (answers_kept s.store) s.history.items in
+    let x : Lists = record { takers = s.takers.items; marks = s.marks.items; kept = answers_kept s.store; counts = s.counts.items; halted = s.halted.items; any_halt = s.any_halt } in
     let l = s.ledger in
     let I : IsBoard b h x l = c.self.invariant.0 in
     let K = c.self.invariant.1 in
@@ -60,8 +62,8 @@ returns-in-Some-clause-answer c =
     let s = c.self.inside in
     let b = setup_of s.terms in
     let units = unit_count b.market in
-    let h = events_of units s.store.answers s.history.items in
-    let x : Lists = record { takers = s.takers.items; marks = s.marks.items; kept = s.store.answers; counts = s.counts.items; halted = s.halted.items; any_halt = s.any_halt } in
+    let h = events_of units (answers_kept s.store) s.history.items in
+    let x : Lists = record { takers = s.takers.items; marks = s.marks.items; kept = answers_kept s.store; counts = s.counts.items; halted = s.halted.items; any_halt = s.any_halt } in
     let l = s.ledger in
     let I : IsBoard b h x l = c.self.invariant.0 in
     let K = c.self.invariant.1 in
@@ -82,8 +84,8 @@ returns-in-Some-clause-after c =
     let s = c.self.inside in
     let b = setup_of s.terms in
     let units = unit_count b.market in
-    let h = events_of units s.store.answers s.history.items in
-    let x : Lists = record { takers = s.takers.items; marks = s.marks.items; kept = s.store.answers; counts = s.counts.items; halted = s.halted.items; any_halt = s.any_halt } in
+    let h = events_of units (answers_kept s.store) s.history.items in
+    let x : Lists = record { takers = s.takers.items; marks = s.marks.items; kept = answers_kept s.store; counts = s.counts.items; halted = s.halted.items; any_halt = s.any_halt } in
     let l = s.ledger in
     let I : IsBoard b h x l = c.self.invariant.0 in
     let K = c.self.invariant.1 in
@@ -104,8 +106,8 @@ index_mut-requires c =
     let s = c.self.inside in
     let b = setup_of s.terms in
     let units = unit_count b.market in
-    let h = events_of units s.store.answers s.history.items in
-    let x : Lists = record { takers = s.takers.items; marks = s.marks.items; kept = s.store.answers; counts = s.counts.items; halted = s.halted.items; any_halt = s.any_halt } in
+    let h = events_of units (answers_kept s.store) s.history.items in
+    let x : Lists = record { takers = s.takers.items; marks = s.marks.items; kept = answers_kept s.store; counts = s.counts.items; halted = s.halted.items; any_halt = s.any_halt } in
     let l = s.ledger in
     let I : IsBoard b h x l = c.self.invariant.0 in
     let K = c.self.invariant.1 in
@@ -131,8 +133,8 @@ put-requires-clause-place c =
     let s = c.self.inside in
     let b = setup_of s.terms in
     let units = unit_count b.market in
-    let h = events_of units s.store.answers s.history.items in
-    let x : Lists = record { takers = s.takers.items; marks = s.marks.items; kept = s.store.answers; counts = s.counts.items; halted = s.halted.items; any_halt = s.any_halt } in
+    let h = events_of units (answers_kept s.store) s.history.items in
+    let x : Lists = record { takers = s.takers.items; marks = s.marks.items; kept = answers_kept s.store; counts = s.counts.items; halted = s.halted.items; any_halt = s.any_halt } in
     let l = s.ledger in
     let I : IsBoard b h x l = c.self.invariant.0 in
     let K = c.self.invariant.1 in
@@ -151,15 +153,15 @@ put-requires-clause-place c =
     let at_ : c.place-at.result ≡ i = c.place-at.ensures ∙ ap (λ (m : ℕ). place m n u) c.units-units.ensures in
     let k_ = n - 1 in
     let e = kept_inside b h x l I k n u a H in
-    omega (arith, e, at_)
+    is_inside s.store c.place-at.result (omega (arith, e, at_))
 
 pub put-requires-clause-horizon : goal.put-requires-clause-horizon
 put-requires-clause-horizon c =
     let s = c.self.inside in
     let b = setup_of s.terms in
     let units = unit_count b.market in
-    let h = events_of units s.store.answers s.history.items in
-    let x : Lists = record { takers = s.takers.items; marks = s.marks.items; kept = s.store.answers; counts = s.counts.items; halted = s.halted.items; any_halt = s.any_halt } in
+    let h = events_of units (answers_kept s.store) s.history.items in
+    let x : Lists = record { takers = s.takers.items; marks = s.marks.items; kept = answers_kept s.store; counts = s.counts.items; halted = s.halted.items; any_halt = s.any_halt } in
     let l = s.ledger in
     let I : IsBoard b h x l = c.self.invariant.0 in
     let K = c.self.invariant.1 in
@@ -184,8 +186,8 @@ add-requires-clause-horizon c =
     let s = c.self.inside in
     let b = setup_of s.terms in
     let units = unit_count b.market in
-    let h = events_of units s.store.answers s.history.items in
-    let x : Lists = record { takers = s.takers.items; marks = s.marks.items; kept = s.store.answers; counts = s.counts.items; halted = s.halted.items; any_halt = s.any_halt } in
+    let h = events_of units (answers_kept s.store) s.history.items in
+    let x : Lists = record { takers = s.takers.items; marks = s.marks.items; kept = answers_kept s.store; counts = s.counts.items; halted = s.halted.items; any_halt = s.any_halt } in
     let l = s.ledger in
     let I : IsBoard b h x l = c.self.invariant.0 in
     let K = c.self.invariant.1 in
@@ -210,8 +212,8 @@ add-requires-clause-supply c =
     let s = c.self.inside in
     let b = setup_of s.terms in
     let units = unit_count b.market in
-    let h = events_of units s.store.answers s.history.items in
-    let x : Lists = record { takers = s.takers.items; marks = s.marks.items; kept = s.store.answers; counts = s.counts.items; halted = s.halted.items; any_halt = s.any_halt } in
+    let h = events_of units (answers_kept s.store) s.history.items in
+    let x : Lists = record { takers = s.takers.items; marks = s.marks.items; kept = answers_kept s.store; counts = s.counts.items; halted = s.halted.items; any_halt = s.any_halt } in
     let l = s.ledger in
     let I : IsBoard b h x l = c.self.invariant.0 in
     let K = c.self.invariant.1 in
@@ -236,8 +238,8 @@ add-requires-clause-reserve c =
     let s = c.self.inside in
     let b = setup_of s.terms in
     let units = unit_count b.market in
-    let h = events_of units s.store.answers s.history.items in
-    let x : Lists = record { takers = s.takers.items; marks = s.marks.items; kept = s.store.answers; counts = s.counts.items; halted = s.halted.items; any_halt = s.any_halt } in
+    let h = events_of units (answers_kept s.store) s.history.items in
+    let x : Lists = record { takers = s.takers.items; marks = s.marks.items; kept = answers_kept s.store; counts = s.counts.items; halted = s.halted.items; any_halt = s.any_halt } in
     let l = s.ledger in
     let I : IsBoard b h x l = c.self.invariant.0 in
     let K = c.self.invariant.1 in
@@ -262,8 +264,8 @@ add-requires-clause-earned c =
     let s = c.self.inside in
     let b = setup_of s.terms in
     let units = unit_count b.market in
-    let h = events_of units s.store.answers s.history.items in
-    let x : Lists = record { takers = s.takers.items; marks = s.marks.items; kept = s.store.answers; counts = s.counts.items; halted = s.halted.items; any_halt = s.any_halt } in
+    let h = events_of units (answers_kept s.store) s.history.items in
+    let x : Lists = record { takers = s.takers.items; marks = s.marks.items; kept = answers_kept s.store; counts = s.counts.items; halted = s.halted.items; any_halt = s.any_halt } in
     let l = s.ledger in
     let I : IsBoard b h x l = c.self.invariant.0 in
     let K = c.self.invariant.1 in
@@ -288,8 +290,8 @@ count_up-requires-clause-count c =
     let s = c.self.inside in
     let b = setup_of s.terms in
     let units = unit_count b.market in
-    let h = events_of units s.store.answers s.history.items in
-    let x : Lists = record { takers = s.takers.items; marks = s.marks.items; kept = s.store.answers; counts = s.counts.items; halted = s.halted.items; any_halt = s.any_halt } in
+    let h = events_of units (answers_kept s.store) s.history.items in
+    let x : Lists = record { takers = s.takers.items; marks = s.marks.items; kept = answers_kept s.store; counts = s.counts.items; halted = s.halted.items; any_halt = s.any_halt } in
     let l = s.ledger in
     let I : IsBoard b h x l = c.self.invariant.0 in
     let K = c.self.invariant.1 in
@@ -315,8 +317,8 @@ push_reserved-requires c =
     let s = c.self.inside in
     let b = setup_of s.terms in
     let units = unit_count b.market in
-    let h = events_of units s.store.answers s.history.items in
-    let x : Lists = record { takers = s.takers.items; marks = s.marks.items; kept = s.store.answers; counts = s.counts.items; halted = s.halted.items; any_halt = s.any_halt } in
+    let h = events_of units (answers_kept s.store) s.history.items in
+    let x : Lists = record { takers = s.takers.items; marks = s.marks.items; kept = answers_kept s.store; counts = s.counts.items; halted = s.halted.items; any_halt = s.any_halt } in
     let l = s.ledger in
     let I : IsBoard b h x l = c.self.invariant.0 in
     let K = c.self.invariant.1 in
@@ -343,8 +345,8 @@ advance-requires-clause-ledger c =
     let s = c.self.inside in
     let b = setup_of s.terms in
     let units = unit_count b.market in
-    let h = events_of units s.store.answers s.history.items in
-    let x : Lists = record { takers = s.takers.items; marks = s.marks.items; kept = s.store.answers; counts = s.counts.items; halted = s.halted.items; any_halt = s.any_halt } in
+    let h = events_of units (answers_kept s.store) s.history.items in
+    let x : Lists = record { takers = s.takers.items; marks = s.marks.items; kept = answers_kept s.store; counts = s.counts.items; halted = s.halted.items; any_halt = s.any_halt } in
     let l = s.ledger in
     let I : IsBoard b h x l = c.self.invariant.0 in
     let K = c.self.invariant.1 in
@@ -378,8 +380,8 @@ advance-requires-clause-round c =
     let s = c.self.inside in
     let b = setup_of s.terms in
     let units = unit_count b.market in
-    let h = events_of units s.store.answers s.history.items in
-    let x : Lists = record { takers = s.takers.items; marks = s.marks.items; kept = s.store.answers; counts = s.counts.items; halted = s.halted.items; any_halt = s.any_halt } in
+    let h = events_of units (answers_kept s.store) s.history.items in
+    let x : Lists = record { takers = s.takers.items; marks = s.marks.items; kept = answers_kept s.store; counts = s.counts.items; halted = s.halted.items; any_halt = s.any_halt } in
     let l = s.ledger in
     let I : IsBoard b h x l = c.self.invariant.0 in
     let K = c.self.invariant.1 in
@@ -420,8 +422,8 @@ advance-requires-clause-opened c =
     let s = c.self.inside in
     let b = setup_of s.terms in
     let units = unit_count b.market in
-    let h = events_of units s.store.answers s.history.items in
-    let x : Lists = record { takers = s.takers.items; marks = s.marks.items; kept = s.store.answers; counts = s.counts.items; halted = s.halted.items; any_halt = s.any_halt } in
+    let h = events_of units (answers_kept s.store) s.history.items in
+    let x : Lists = record { takers = s.takers.items; marks = s.marks.items; kept = answers_kept s.store; counts = s.counts.items; halted = s.halted.items; any_halt = s.any_halt } in
     let l = s.ledger in
     let I : IsBoard b h x l = c.self.invariant.0 in
     let K = c.self.invariant.1 in
@@ -465,8 +467,8 @@ advance-requires-clause-earned c =
     let s = c.self.inside in
     let b = setup_of s.terms in
     let units = unit_count b.market in
-    let h = events_of units s.store.answers s.history.items in
-    let x : Lists = record { takers = s.takers.items; marks = s.marks.items; kept = s.store.answers; counts = s.counts.items; halted = s.halted.items; any_halt = s.any_halt } in
+    let h = events_of units (answers_kept s.store) s.history.items in
+    let x : Lists = record { takers = s.takers.items; marks = s.marks.items; kept = answers_kept s.store; counts = s.counts.items; halted = s.halted.items; any_halt = s.any_halt } in
     let l = s.ledger in
     let I : IsBoard b h x l = c.self.invariant.0 in
     let K = c.self.invariant.1 in
@@ -506,8 +508,8 @@ advance-requires-clause-rows c =
     let s = c.self.inside in
     let b = setup_of s.terms in
     let units = unit_count b.market in
-    let h = events_of units s.store.answers s.history.items in
-    let x : Lists = record { takers = s.takers.items; marks = s.marks.items; kept = s.store.answers; counts = s.counts.items; halted = s.halted.items; any_halt = s.any_halt } in
+    let h = events_of units (answers_kept s.store) s.history.items in
+    let x : Lists = record { takers = s.takers.items; marks = s.marks.items; kept = answers_kept s.store; counts = s.counts.items; halted = s.halted.items; any_halt = s.any_halt } in
     let l = s.ledger in
     let I : IsBoard b h x l = c.self.invariant.0 in
     let K = c.self.invariant.1 in
@@ -547,8 +549,8 @@ invariant_of-self-2 c =
     let s = c.self.inside in
     let b = setup_of s.terms in
     let units = unit_count b.market in
-    let h = events_of units s.store.answers s.history.items in
-    let x : Lists = record { takers = s.takers.items; marks = s.marks.items; kept = s.store.answers; counts = s.counts.items; halted = s.halted.items; any_halt = s.any_halt } in
+    let h = events_of units (answers_kept s.store) s.history.items in
+    let x : Lists = record { takers = s.takers.items; marks = s.marks.items; kept = answers_kept s.store; counts = s.counts.items; halted = s.halted.items; any_halt = s.any_halt } in
     let l = s.ledger in
     let I : IsBoard b h x l = c.self.invariant.0 in
     let K = c.self.invariant.1 in
@@ -588,22 +590,22 @@ invariant_of-self-2 c =
     let t_is : closes ≡ t = closes_as ∙ sym (closes_is b h x l I k n u a H) in
     let entry : Entry = c.post_entry.result in
     let entry_as = c.post_entry.ensures in
-    let kept_is : c.put.new.self.answers ≡ set s.store.answers i a = c.put.ensures.answers ∙ ap (λ (j : ℕ). set s.store.answers j a) at_ in
+    let kept_is : (answers_kept c.put.new.self) ≡ set (answers_kept s.store) i a = put_kept s.store c.put.new.self c.place-at.result (kept_of c.args.answer.now) c.put.ensures.answers ∙ ap (λ (j : ℕ). set (answers_kept s.store) j a) at_ in
     let marks_is : set s.marks.items c.place-at.result true ≡ set s.marks.items i true = ap (λ (j : ℕ). set s.marks.items j true) at_ in
-    let E = events_of units c.put.new.self.answers c.push_reserved.new.self.items in
+    let E = events_of units (answers_kept c.put.new.self) c.push_reserved.new.self.items in
     let events : E ≡ h2 =
     ap (λ (xs : List Answer). events_of units xs c.push_reserved.new.self.items) kept_is
-    ∙ ap (events_of units (set s.store.answers i a)) c.push_reserved.ensures.items
+    ∙ ap (events_of units (set (answers_kept s.store) i a)) c.push_reserved.ensures.items
     ∙ events_posted c.board_laws.ensures.answers_fit b h x l I k n u a H s.history.items refl closes closes_as entry entry_as in
     let T3 = subst (λ (z : Sums). AreTallies b counts2 z q) (sym c.advance.ensures.sums) T in
     let R3 = subst (λ (xs : List ℕ). IsRound b units xs (sums_of l3) (fronts_of l3)) cs c.advance.ensures.round in
     let done : l3.closed < b.budget → is_full units counts2 (suc l3.closed) ≡ false = λ lt. subst (λ (xs : List ℕ). is_full units xs (suc l3.closed) ≡ false) cs (c.advance.ensures.done lt) in
     let new = posted c.board_laws.ensures b h x l I k n u a H caller ok.right l3 c.advance.ensures.ledger T3 R3 done in
     let lists : (marks : List Bool) (kept : List Answer) (counts : List ℕ) → Lists = λ marks kept counts. record x { marks = marks; kept = kept; counts = counts } in
-    let n1 = subst (λ (xs : List ℕ). IsBoard b h2 (lists (set s.marks.items i true) (set s.store.answers i a) xs) l3) (sym c.count_up.ensures.counts) new in
+    let n1 = subst (λ (xs : List ℕ). IsBoard b h2 (lists (set s.marks.items i true) (set (answers_kept s.store) i a) xs) l3) (sym c.count_up.ensures.counts) new in
     let n2 = subst (λ (xs : List Answer). IsBoard b h2 (lists (set s.marks.items i true) xs c.count_up.new.counts.items) l3) (sym kept_is) n1 in
-    let n3 = subst (λ (xs : List Bool). IsBoard b h2 (lists xs c.put.new.self.answers c.count_up.new.counts.items) l3) (sym marks_is) n2 in
-    let n4 = subst (λ (z : List (Event Answer)). IsBoard b z (lists (set s.marks.items c.place-at.result true) c.put.new.self.answers c.count_up.new.counts.items) l3) (sym events) n3 in
+    let n3 = subst (λ (xs : List Bool). IsBoard b h2 (lists xs (answers_kept c.put.new.self) c.count_up.new.counts.items) l3) (sym marks_is) n2 in
+    let n4 = subst (λ (z : List (Event Answer)). IsBoard b z (lists (set s.marks.items c.place-at.result true) (answers_kept c.put.new.self) c.count_up.new.counts.items) l3) (sym events) n3 in
     let less = one_less s.marks.items i (mark_inside b h x l I k n u a H) (free b h x l I k n u a H) in
     let unset_at = ap unset marks_is in
     let room = K.room in
@@ -625,8 +627,8 @@ returns-clause-answer c =
     let s = c.self.inside in
     let b = setup_of s.terms in
     let units = unit_count b.market in
-    let h = events_of units s.store.answers s.history.items in
-    let x : Lists = record { takers = s.takers.items; marks = s.marks.items; kept = s.store.answers; counts = s.counts.items; halted = s.halted.items; any_halt = s.any_halt } in
+    let h = events_of units (answers_kept s.store) s.history.items in
+    let x : Lists = record { takers = s.takers.items; marks = s.marks.items; kept = answers_kept s.store; counts = s.counts.items; halted = s.halted.items; any_halt = s.any_halt } in
     let l = s.ledger in
     let I : IsBoard b h x l = c.self.invariant.0 in
     let K = c.self.invariant.1 in
@@ -666,12 +668,12 @@ returns-clause-answer c =
     let t_is : closes ≡ t = closes_as ∙ sym (closes_is b h x l I k n u a H) in
     let entry : Entry = c.post_entry.result in
     let entry_as = c.post_entry.ensures in
-    let kept_is : c.put.new.self.answers ≡ set s.store.answers i a = c.put.ensures.answers ∙ ap (λ (j : ℕ). set s.store.answers j a) at_ in
+    let kept_is : (answers_kept c.put.new.self) ≡ set (answers_kept s.store) i a = put_kept s.store c.put.new.self c.place-at.result (kept_of c.args.answer.now) c.put.ensures.answers ∙ ap (λ (j : ℕ). set (answers_kept s.store) j a) at_ in
     let marks_is : set s.marks.items c.place-at.result true ≡ set s.marks.items i true = ap (λ (j : ℕ). set s.marks.items j true) at_ in
-    let E = events_of units c.put.new.self.answers c.push_reserved.new.self.items in
+    let E = events_of units (answers_kept c.put.new.self) c.push_reserved.new.self.items in
     let events : E ≡ h2 =
     ap (λ (xs : List Answer). events_of units xs c.push_reserved.new.self.items) kept_is
-    ∙ ap (events_of units (set s.store.answers i a)) c.push_reserved.ensures.items
+    ∙ ap (events_of units (set (answers_kept s.store) i a)) c.push_reserved.ensures.items
     ∙ events_posted c.board_laws.ensures.answers_fit b h x l I k n u a H s.history.items refl closes closes_as entry entry_as in
     ap (λ (y : Option ℕ). replies_of.Taken y) (c.closed_of.ensures ∙ ap (λ (y : Bool). closed_if y n) t_is)
     ∙ sym (ap posted_of ok.reply) ∙ ap (λ (z : Content). posted_of (post_answer z k n u ρ v a)) c.self.view_is
@@ -681,8 +683,8 @@ returns-clause-after c =
     let s = c.self.inside in
     let b = setup_of s.terms in
     let units = unit_count b.market in
-    let h = events_of units s.store.answers s.history.items in
-    let x : Lists = record { takers = s.takers.items; marks = s.marks.items; kept = s.store.answers; counts = s.counts.items; halted = s.halted.items; any_halt = s.any_halt } in
+    let h = events_of units (answers_kept s.store) s.history.items in
+    let x : Lists = record { takers = s.takers.items; marks = s.marks.items; kept = answers_kept s.store; counts = s.counts.items; halted = s.halted.items; any_halt = s.any_halt } in
     let l = s.ledger in
     let I : IsBoard b h x l = c.self.invariant.0 in
     let K = c.self.invariant.1 in
@@ -722,11 +724,11 @@ returns-clause-after c =
     let t_is : closes ≡ t = closes_as ∙ sym (closes_is b h x l I k n u a H) in
     let entry : Entry = c.post_entry.result in
     let entry_as = c.post_entry.ensures in
-    let kept_is : c.put.new.self.answers ≡ set s.store.answers i a = c.put.ensures.answers ∙ ap (λ (j : ℕ). set s.store.answers j a) at_ in
+    let kept_is : (answers_kept c.put.new.self) ≡ set (answers_kept s.store) i a = put_kept s.store c.put.new.self c.place-at.result (kept_of c.args.answer.now) c.put.ensures.answers ∙ ap (λ (j : ℕ). set (answers_kept s.store) j a) at_ in
     let marks_is : set s.marks.items c.place-at.result true ≡ set s.marks.items i true = ap (λ (j : ℕ). set s.marks.items j true) at_ in
-    let E = events_of units c.put.new.self.answers c.push_reserved.new.self.items in
+    let E = events_of units (answers_kept c.put.new.self) c.push_reserved.new.self.items in
     let events : E ≡ h2 =
     ap (λ (xs : List Answer). events_of units xs c.push_reserved.new.self.items) kept_is
-    ∙ ap (events_of units (set s.store.answers i a)) c.push_reserved.ensures.items
+    ∙ ap (events_of units (set (answers_kept s.store) i a)) c.push_reserved.ensures.items
     ∙ events_posted c.board_laws.ensures.answers_fit b h x l I k n u a H s.history.items refl closes closes_as entry entry_as in
     ap (content b) events ∙ sym (ap (λ r. content b (with_answer h event r)) ok.reply) ∙ ap (λ (z : Content). after_post z k n u ρ v a) c.self.view_is

@@ -6,6 +6,7 @@ use Rattle.uc_model.specs.PriceRule.{Proposal}
 use Rattle.board_history.specs.Calls.{own_rows}
 use Rattle.board_core.specs.Events.{events_of}
 use Rattle.board_core.specs.Setups.{setup_of}
+use Rattle.board_core.specs.Stored.{answers_kept}
 use Rattle.board_core.proofs.Fronts.{rows_few}
 use Rattle.board_core.proofs.board.Board.rows.Goals as goal
 
@@ -16,7 +17,7 @@ pub returns-clause-count : goal.returns-clause-count
 returns-clause-count c =
     let s = c.self.inside in
     let b = setup_of s.terms in
-    let h = events_of (unit_count b.market) s.store.answers s.history.items in
+    let h = events_of (unit_count b.market) (answers_kept s.store) s.history.items in
     let few = rows_few b h _ s.ledger c.self.invariant.0 in
     let e = ap (λ (xs : List Proposal). length xs) c.rows.ensures in
     omega (arith, few, e, length-map c.rows.result.now proposal_of)

@@ -1,0 +1,6 @@
+-- the answers of a store, and one of them written in place
+pub mod Answers
+-- lists of one length, one after another in one list
+pub mod Parts
+-- a table with one more row written
+pub mod Tables

@@ -1,0 +1,9 @@
+use Rattle.std.proofs.Common.{ℕ, List, map, ap, ◌∙◌}
+use Rattle.answer_store.specs.Tables.{row_at}
+use Rattle.answer_store.proofs.Tables.{map_replicate}
+use Rattle.answer_store.proofs.table.Table.make.Goals as goal
+
+pub returns-clause-rows : goal.returns-clause-rows
+returns-clause-rows c =
+    let numbers = c.in_ok-numbers.numbers.items in
+    ap (λ (ps : List ℕ). map (row_at c.args.long numbers) ps) c.in_ok-places.ensures ∙ map_replicate (row_at c.args.long numbers) c.args.count 0

@@ -1,0 +1,9 @@
+use Rattle.std.proofs.Common.{arith}
+use Rattle.answer_store.proofs.Tables.{row_of}
+use Rattle.answer_store.proofs.table.Table.take.Goals as goal
+
+pub index-requires : goal.index-requires
+index-requires c =
+    let s = c.self.inside in
+    let lt = row_of c.args.self.now s.long s.numbers.items s.places.items c.args.row c.self.view_is c.requires.row in
+    omega (arith, lt)

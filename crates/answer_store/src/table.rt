@@ -1,0 +1,150 @@
+//! Rows of numbers, and lists of one length one after another.
+ghost use Rattle.std.specs.Prelude.{◌≡◌, ◌+◌, ◌*◌, ◌<◌, ◌≤◌, ◌↔◌, IsTrue, [], ◌++◌, length, IfOk};
+ghost use Rattle.std.specs.Prelude.{EachIndex, replicate, slice_index, slice_index_or, slice_set};
+ghost use Rattle.std.specs.Prelude.{vec_len, vec_capacity};
+ghost use Rattle.answer_store.specs.Parts.{part, with_part};
+
+use std::alloc::{AllocError, Global};
+use std::marker::Model;
+use uc_model::lists::{Powers, ReservedList};
+
+/// Rows of one length, at first of zeros. A row of zeros has no numbers until another row is
+/// written there.
+#[derive(Drop)]
+pub struct Table {
+    long: usize,
+    // for each row 0, or which of the rows with numbers it is, counted from 1
+    places: Vec<u32>,
+    // how many rows have numbers
+    used: usize,
+    numbers: Vec<u32>,
+}
+
+impl Model for Table {
+    ghost use Rattle.std.specs.Prelude.{vec_capacity};
+    ghost use Rattle.answer_store.specs.Tables.{Rows, IsTable, rows_in};
+
+    ghost Value = { Rows };
+
+    ghost view = { λ t. record {
+      long = t.long;
+      rows =
+          rows_in t.long t.numbers.items t.places.items;
+    } };
+
+    ghost invariant = { λ t. IsTable t.long t.places.items t.used t.numbers.items
+        (vec_capacity t.numbers) };
+}
+
+/// Writes a list at its place among lists of one length.
+pub fn put_part<T: Copy + Drop>(store: &mut Vec<T>, long: usize, place: usize, list: &[T])
+    requires inside { place * long + long ≤ length store.old.items }
+    requires same { length list.now ≡ long }
+    ensures items { store.new.items ≡ with_part store.old.items long place list.now }
+    ensures capacity { vec_capacity store.new ≡ vec_capacity store.old }
+{
+    let from = place * long;
+    store[from..from + long].copy_from_slice(list);
+}
+
+/// Leaves the list at a place in another that has room for it.
+pub fn take_part<T: Copy + Drop>(store: &[T], long: usize, place: usize, into: &mut ReservedList<T>)
+    requires inside { place * long + long ≤ length store.now }
+    requires room { long ≤ length into.old.items + into.old.spare }
+    ensures { into.new.items ≡ part store.now long place }
+{
+    let from = place * long;
+    let list = &store[from..from + long];
+    into.clear();
+    for item in list {
+        into.push(*item);
+    }
+}
+
+fn no_places(alloc: Global, count: usize) -> Result<Vec<u32>, AllocError>
+    ensures { IfOk result (λ v. v.items ≡ replicate count 0) }
+{
+    vec![in alloc; 0; count]
+}
+
+// Leaves so many zeros in a list that has room for them.
+fn take_zeros(count: usize, into: &mut Powers)
+    requires { count ≤ length into.old.items + into.old.spare }
+    ensures { into.new.items ≡ replicate count 0 }
+{
+    into.clear();
+    for _ in 0..count {
+        into.push(0);
+    }
+}
+
+fn are_zero(list: &[u32]) -> bool
+    ensures { IsTrue result ↔ EachIndex list.now (λ k. slice_index list.now k ≡ 0) }
+{
+    list.iter().all(|x| *x == 0)
+}
+
+// Adds a list at the end of another that has room for it.
+fn append(numbers: &mut Vec<u32>, list: &[u32])
+    requires { vec_len numbers.old + length list.now ≤ vec_capacity numbers.old }
+    ensures items { numbers.new.items ≡ numbers.old.items ++ list.now }
+    ensures capacity { vec_capacity numbers.new ≡ vec_capacity numbers.old }
+{
+    for x in list {
+        numbers.push_reserved(*x);
+    }
+}
+
+impl Table {
+    /// So many rows of so many zeros.
+    pub fn make(alloc: Global, count: usize, long: usize) -> Result<Table, AllocError>
+        requires few { count ≤ 200000000 }
+        requires size { count * long ≤ 50000000 }
+        ensures rows { IfOk result (λ t. t.rows ≡ replicate count (replicate long 0)) }
+        ensures long { IfOk result (λ t. t.long ≡ long) }
+    {
+        let places = no_places(alloc, count)?;
+        let numbers = Vec::with_capacity(alloc, count * long)?;
+        Ok(Table {
+            long,
+            places,
+            used: 0,
+            numbers,
+        })
+    }
+
+    /// Writes a row. Takes no memory.
+    pub fn put(&mut self, row: usize, list: &[u32])
+        requires row { row < length self.old.rows }
+        requires long { length list.now ≡ self.old.long }
+        ensures rows { self.new.rows ≡ slice_set self.old.rows row list.now }
+        ensures long { self.new.long ≡ self.old.long }
+    {
+        let place = self.places[row] as usize;
+        if place > 0 {
+            put_part(&mut self.numbers, self.long, place - 1, list);
+            return;
+        }
+        if are_zero(list) {
+            return;
+        }
+        self.used += 1;
+        self.places[row] = self.used as u32;
+        append(&mut self.numbers, list);
+    }
+
+    /// Leaves a row in a list that has room for it. Takes no memory.
+    pub fn take(&self, row: usize, into: &mut Powers)
+        requires row { row < length self.now.rows }
+        requires room { self.now.long ≤ length into.old.items + into.old.spare }
+        ensures row { into.new.items ≡ slice_index_or self.now.rows row [] }
+        ensures long { length into.new.items ≡ self.now.long }
+    {
+        let place = self.places[row] as usize;
+        if place > 0 {
+            take_part(&self.numbers, self.long, place - 1, into);
+        } else {
+            take_zeros(self.long, into);
+        }
+    }
+}

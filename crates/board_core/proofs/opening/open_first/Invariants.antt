@@ -1,0 +1,10 @@
+use Rattle.std.proofs.Common.{◌≡◌, length}
+use Rattle.uc_model.specs.PlainUnits.{prices_of}
+use Rattle.board_core.specs.Openings.{with_openings}
+use Rattle.board_core.proofs.opening.open_first.Given as goal
+
+abbrev pub invariant-loop-k : goal.invariant-loop-k
+invariant-loop-k l = record {
+  ledger : l.ledger ≡ with_openings l.start.items l.initial.ledger l.k;
+  horizon : length (prices_of l.next).energy ≡ length l.start.items;
+}

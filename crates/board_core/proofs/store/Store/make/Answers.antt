@@ -1,9 +1,0 @@
-use Rattle.std.proofs.Common.{ℤ, List, length, ap, ◌∙◌}
-use Rattle.std.proofs.lemmas.List.{length-replicate}
-use Rattle.board_core.proofs.Flat.{length-answers_in}
-use Rattle.std.specs.Prelude.{pos}
-use Rattle.board_core.proofs.store.Store.make.Goals as goal
-
-pub returns-clause-count : goal.returns-clause-count
-returns-clause-count c =
-    length-answers_in _ _ _ _ _ ∙ ap (λ (xs : List ℤ). length xs) c.in_ok-earned.ensures ∙ length-replicate c.args.count (pos 0)

@@ -1,0 +1,107 @@
+//! What a board without events begins with.
+ghost use Rattle.std.specs.Prelude.{◌≡◌, ◌+◌, ◌*◌, ◌≤◌, [], false, IfOk, length, min, replicate};
+ghost use Rattle.std.specs.Prelude.{vec_capacity};
+ghost use Rattle.uc_model.specs.PlainCases.{market_of};
+ghost use Rattle.uc_model.specs.PlainUnits.{prices_of};
+ghost use Rattle.uc_model.specs.PriceRule.{start_prices as start_prices_of};
+ghost use Rattle.board_core.specs.Openings.{blank_ledger, with_openings};
+
+use crate::ledger::Ledger;
+use board_history::entries::Entry;
+use price_space::{opening_prices, start_prices};
+use std::alloc::{AllocError, Global};
+use uc_model::cases::Case;
+use uc_model::lists::Numbers;
+use uc_model::units::Prices;
+
+/// The lists of a board that events are kept in.
+#[derive(Drop)]
+pub struct EventLists {
+    pub history: Vec<Entry>,
+    pub takers: Vec<u32>,
+    pub marks: Vec<bool>,
+    pub counts: Vec<u32>,
+    pub halted: Vec<bool>,
+}
+
+// So many flags that are off.
+fn no_flags(alloc: Global, count: usize) -> Result<Vec<bool>, AllocError>
+    ensures { IfOk result (λ v. v.items ≡ replicate count false) }
+{
+    vec![in alloc; false; count]
+}
+
+// So many counts of 0.
+fn no_counts(alloc: Global, count: usize) -> Result<Vec<u32>, AllocError>
+    ensures { IfOk result (λ v. v.items ≡ replicate count 0) }
+{
+    vec![in alloc; 0; count]
+}
+
+/// The lists without an event, with room for each that may come.
+pub fn no_events(
+    alloc: Global,
+    tasks: usize,
+    budget: usize,
+    callers: usize,
+) -> Result<EventLists, AllocError>
+    requires tasks { tasks ≤ 200000000 }
+    requires callers { callers ≤ 33 }
+    ensures history { IfOk result (λ x. x.history.items ≡ []) }
+    ensures room { IfOk result (λ x. vec_capacity x.history ≡ 2 * tasks + callers) }
+    ensures takers { IfOk result (λ x. x.takers.items ≡ []) }
+    ensures takers_room { IfOk result (λ x. vec_capacity x.takers ≡ tasks) }
+    ensures marks { IfOk result (λ x. x.marks.items ≡ replicate tasks false) }
+    ensures counts { IfOk result (λ x. x.counts.items ≡ replicate budget 0) }
+    ensures halted { IfOk result (λ x. x.halted.items ≡ replicate callers false) }
+{
+    let history = Vec::with_capacity(alloc, 2 * tasks + callers)?;
+    let takers = Vec::with_capacity(alloc, tasks)?;
+    let marks = no_flags(alloc, tasks)?;
+    let counts = no_counts(alloc, budget)?;
+    let halted = no_flags(alloc, callers)?;
+    Ok(EventLists {
+        history,
+        takers,
+        marks,
+        counts,
+        halted,
+    })
+}
+
+// Opens so many proposals at the opening prices.
+fn open_first(start: &Numbers, count: u32, ledger: &mut Ledger, next: &mut Prices)
+    requires count { count ≤ 16 }
+    requires start { length start.now.items ≡ length (prices_of next.old).energy }
+    requires blank { ledger.old ≡ blank_ledger (length start.now.items)
+        (length ledger.old.proposals) }
+    requires within { count ≤ length ledger.old.proposals }
+    ensures ledger { ledger.new ≡ with_openings start.now.items ledger.old count }
+    ensures horizon { length (prices_of next.new).energy ≡ length (prices_of next.old).energy }
+{
+    for k in 0..count {
+        opening_prices(start, k + 1, next);
+        ledger.open(next);
+    }
+}
+
+/// The ledger of a board without events. `next` is used for the prices of the proposals that are
+/// open.
+pub fn open_ledger(
+    alloc: Global,
+    case: &Case,
+    budget: u32,
+    ahead: u32,
+    next: &mut Prices,
+) -> Result<Ledger, AllocError>
+    requires ahead { ahead ≤ 16 }
+    requires horizon { length (prices_of next.old).energy ≡ (market_of case.now).periods }
+    ensures ledger { IfOk result (λ l. l ≡ with_openings (start_prices_of (market_of case.now))
+        (blank_ledger (market_of case.now).periods budget) (min budget ahead)) }
+    ensures horizon { length (prices_of next.new).energy ≡ (market_of case.now).periods }
+{
+    let start = start_prices(alloc, case)?;
+    let mut ledger = Ledger::make(alloc, case.periods, budget)?;
+    open_first(&start, budget.min(ahead), &mut ledger, next);
+    Ok(ledger)
+}

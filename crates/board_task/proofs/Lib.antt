@@ -1,0 +1,8 @@
+-- flat lists that begin alike, and those of bids whose first periods have the same blocks
+pub mod Alike
+-- lists and units that were compared part by part
+pub mod AsOne
+-- how long the flat lists of a bid's blocks are
+pub mod Numbers
+-- units of a case by their places
+pub mod UnitPlaces

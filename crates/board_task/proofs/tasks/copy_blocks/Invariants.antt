@@ -1,0 +1,13 @@
+use Rattle.std.proofs.Common.{◌≡◌, ◌≤◌, ◌<◌, ℕ, length, get_or}
+use Rattle.std.specs.List.{All}
+use Rattle.uc_model.specs.Reserved.{Reserved, items_in}
+use Rattle.uc_model.specs.TaskRoom.{room_of}
+use Rattle.uc_model.specs.declared.units.Block.{Block}
+use Rattle.board_task.proofs.tasks.copy_blocks.Given as goal
+
+abbrev pub invariant-loop-k : goal.invariant-loop-k
+invariant-loop-k l = record {
+  count : length l.into.items ≡ length l.from.items;
+  room : All (λ bs. 8 ≤ room_of bs) l.into.items;
+  so_far : (k : ℕ) (d : Reserved Block) → k < l.k → items_in (get_or l.into.items k d) ≡ items_in (get_or l.from.items k d);
+}
