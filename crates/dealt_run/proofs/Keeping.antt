@@ -5,7 +5,7 @@ use Rattle.std.proofs.lemmas.Int.{ints}
 use Rattle.std.proofs.lemmas.List.{length-replicate}
 use Rattle.std.proofs.lemmas.List.Elements.{All-replicate}
 use Rattle.std.proofs.lemmas.Slice.Zip.{all_zipped_more}
-use Rattle.std.specs.List.{All, AllZip}
+use Rattle.std.specs.List.{All}
 use Rattle.std.specs.Option.{option_map_or}
 use Rattle.std.specs.Prelude.{slice_get, slice_index}
 use Rattle.dual_value.specs.Totals.{IsRaised}
@@ -16,28 +16,16 @@ use Rattle.uc_model.specs.Earnings.{earnings, supply_in}
 use Rattle.uc_model.specs.Limits.{IsMarket, IsUnit, IsEarned, ArePrices}
 use Rattle.uc_model.specs.PlainUnits.{schedule_of}
 use Rattle.uc_model.specs.Runs.{Fits}
-use Rattle.uc_model.specs.Schedules.{reserve_in, IsFeasible}
+use Rattle.uc_model.specs.Schedules.{reserve_in}
 use Rattle.uc_model.specs.Sums.{int_at}
 use Rattle.uc_model.proofs.ListLaws.{none_some, same_item, length_same, item_of}
-use Rattle.dealt_run.specs.declared.answer.Flow.{Flow}
+use Rattle.fixed_price.specs.declared.answer.Flow.{Flow}
 use Rattle.dealt_run.specs.declared.sums.Sums.{Sums}
-use Rattle.dealt_run.specs.Answers.{IsAnswerAt, amount_of}
-use Rattle.dealt_run.specs.Benches.{HasSchedules, CanAnswer}
+use Rattle.fixed_price.specs.Answers.{IsAnswerAt, amount_of}
 use Rattle.dealt_run.specs.Sums.{part_of, sum_of, FitsAt, AreSumsOf, AreWithin, IsMore, IsSmall}
 use Rattle.dealt_run.proofs.Small.{nothing_small, zero_at, raised_within}
 
 -- ---- the beginning
-
-schedule_at : {B : Type 0} (Q : AnyUnit → B → Type 0) (us : List AnyUnit) (ys : List B) (k : ℕ) (u : AnyUnit) → AllZip Q us ys → slice_get us k ≡ Some u → (y : B) × Q u y
-schedule_at Q [] ys k u h e = absurd (none_some u e)
-schedule_at Q (x ∷ us) [] k u h e = absurd h
-schedule_at Q (x ∷ us) (y ∷ ys) zero u h e = (y, subst (λ z. Q z y) (sym (same_item x u e)) h.0)
-schedule_at Q (x ∷ us) (y ∷ ys) (suc k) u h e = schedule_at Q us ys k u h.1 e
-
-pub can_answer : (m : Market) → HasSchedules m → CanAnswer m
-can_answer m plan k u is none =
-    let at = schedule_at (λ (u : AnyUnit) (s : Schedule). IsFeasible u m.periods s) (units m) plan.0 k u plan.1 is in
-    none at.0 at.1
 
 pub starts : (m : Market) (π : PriceLists) (numbers : List ℕ) (s : Sums) (a b : ℕ) → numbers ≡ [] → s.earned ≡ pos 0 → s.supply.items ≡ replicate a (pos 0) → s.reserve.items ≡ replicate b (pos 0) → ∥ AreSumsOf m π numbers s ∥₁
 starts m π numbers s a b none earned supply reserve = ∣ subst (λ (l : List ℕ). AreSumsOf m π l s) (sym none) (record {

@@ -4,8 +4,6 @@ pub mod Fitting
 pub mod Dealt
 -- sums.rt: sizes of totals
 pub mod Small
--- answer.rt: the unit of a number
-pub mod Units
 -- rows.rt: a run row by row
 pub mod RunLaws
 -- answerer.rt, count.rt: what a job keeps while it answers

@@ -8,6 +8,7 @@ ghost use Rattle.dealt_run.specs.Sums.{AreSumsOf, AreWithin};
 
 use crate::count::count_at;
 use crate::sums::Sums;
+use fixed_price::laws::units_can_answer;
 use slope_list::Slopes;
 use std::alloc::{AllocError, Global};
 use task_deal::Job;
@@ -44,7 +45,8 @@ impl<'a> Answerer<'a> {
     ghost use Rattle.dealt_run.specs.Benches.{HasSchedules};
 
     /// A job for a case, each unit and bid of which has a feasible schedule. It takes the bench,
-    /// which suffices for each thermal unit, and room for as many numbers as there are units.
+    /// which suffices for each thermal unit and from now on keeps the last answers of these, and
+    /// room for as many numbers as there are units.
     ///
     /// # Errors
     ///
@@ -52,13 +54,15 @@ impl<'a> Answerer<'a> {
     pub fn make(
         alloc: Global,
         case: &'a Case,
-        bench: Bench<Slopes>,
+        mut bench: Bench<Slopes>,
     ) -> Result<Answerer<'a>, AllocError>
         requires schedules { HasSchedules (market_of case.now) }
         requires bench { IsBenchOver (market_of case.now) bench }
         ensures { IfOk result (λ job. job.case.now ≡ case.now) }
     {
+        units_can_answer();
         let left = case.unit_count();
+        bench.keep_for(alloc, case.thermal.len() as u32, case.periods)?;
         let prices = Prices::make(alloc, case.periods)?;
         let answer = Answered::make(alloc, case.periods)?;
         let numbers = ReservedList::make(alloc, left)?;

@@ -6,8 +6,8 @@ ghost use Rattle.uc_model.specs.PlainUnits.{prices_of, schedule_of};
 ghost use Rattle.dealt_run.specs.Benches.{CanAnswer, IsBenchOver};
 ghost use Rattle.dealt_run.specs.Sums.{AreWithin, IsMore};
 
-use crate::answer::answer_at;
 use crate::sums::Sums;
+use fixed_price::answer_at;
 use slope_list::Slopes;
 use uc_model::cases::Case;
 use uc_model::laws::{

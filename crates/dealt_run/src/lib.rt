@@ -6,14 +6,12 @@
 //! least best response of each unit, since each number is dealt once.
 #![tactic(auto)]
 
-mod answer;
 mod answerer;
 mod count;
 mod row;
 mod rows;
 mod sums;
 
-pub use answer::{Flow, answer_at};
 pub use answerer::Answerer;
 pub use rows::right_rows;
 pub use sums::Sums;

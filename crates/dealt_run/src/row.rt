@@ -50,7 +50,8 @@ fn begin_jobs(case: &Case, jobs: &mut Vec<Answerer>, prices: &Prices)
 // Adds the sums of all jobs to sums of nothing.
 fn gather(jobs: &[Answerer], sums: &mut Sums)
     requires count { length jobs.now ≤ MOST_JOBS }
-    requires jobs { All (λ job. AreWithin (length sums.old.supply.items) MOST_UNITS job.sums) jobs.now }
+    requires jobs { All (λ job. AreWithin (length sums.old.supply.items) MOST_UNITS job.sums)
+        jobs.now }
     requires none { AreWithin (length sums.old.supply.items) 0 sums.old }
     ensures added { AreAdded (λ job. job.sums) jobs.now sums.old sums.new }
     ensures supply_length { length sums.new.supply.items ≡ length sums.old.supply.items }

@@ -7,10 +7,10 @@ ghost use Rattle.uc_model.specs.declared.limits.TheConstants.{MOST_UNITS};
 ghost use Rattle.uc_model.specs.PlainUnits.{schedule_of};
 ghost use Rattle.uc_model.specs.Schedules.{reserve_in};
 ghost use Rattle.uc_model.specs.Sums.{int_at};
-ghost use Rattle.dealt_run.specs.Answers.{amount_of};
+ghost use Rattle.fixed_price.specs.Answers.{amount_of};
 ghost use Rattle.dealt_run.specs.Sums.{IsSmall, AreWithin};
 
-use crate::answer::Flow;
+use fixed_price::Flow;
 use std::alloc::{AllocError, Global};
 use uc_model::lists::{Amounts, Powers};
 use uc_model::units::Answered;
@@ -107,7 +107,8 @@ impl Sums {
 
     /// Adds what an answer earns, gives or takes, and reserves.
     pub fn count(&mut self, flow: Flow, answer: &Answered)
-        requires within { AreWithin (length (schedule_of answer.now.response).on) MOST_UNITS self.old }
+        requires within { AreWithin (length (schedule_of answer.now.response).on) MOST_UNITS
+            self.old }
         ensures earned { self.new.earned ≡ self.old.earned +ℤ answer.now.earned }
         ensures supply { IsRaised self.old.supply.items self.new.supply.items
             (λ k. amount_of flow (slice_index (schedule_of answer.now.response).power k)) }

@@ -1,5 +1,5 @@
-// What no clause says: whole runs over memory, by their status and the bytes that the sink holds. The expected texts were
-// worked by hand, or come from other programs.
+// What no clause says: whole runs over memory, by their status and the bytes that the sink holds.
+// The expected texts were worked by hand, or come from other programs.
 use answer_workers::{Gate, NoGate};
 use hull_engine::hull_run;
 use hull_io::{File, MemoryShelf, MemorySink};
@@ -192,7 +192,8 @@ fn words_in(alloc: Global, words: &[&str]) -> Result<Vec<String>, AllocError> {
     Ok(list)
 }
 
-// A run over two files, one byte a write; the numbers of the reads and writes that fail, and of the writes that take 0.
+// A run over two files, one byte a write; the numbers of the reads and writes that fail, and of the
+// writes that take 0.
 fn run<R: Threads + Wait + Sync, G: Gate>(
     rt: &R,
     gate: &G,
@@ -443,8 +444,9 @@ fn failing_reads_and_writes_end_a_run(rt: HostRuntime) -> Result<(), Fail> {
     Ok(())
 }
 
-// Want of memory is free, so only these tell a program that runs from one that gives up: more than one period, a bid, a
-// window, proposals ahead, and a generated case. The expected texts are those of other programs.
+// Want of memory is free, so only these tell a program that runs from one that gives up: more than
+// one period, a bid, a window, proposals ahead, and a generated case. The expected texts are those
+// of other programs.
 #[test]
 fn runs_answer_as_other_programs_do(rt: HostRuntime) -> Result<(), Fail> {
     for (words, case, schedule, text) in [
@@ -496,8 +498,9 @@ const FOUR_IDLE_SCHEDULE: &str =
 
 const MOST_LOOKS: u32 = 100_000_000;
 
-// Holds the first proposal's units before the last one until that one's answer was posted, and counts those that were held
-// to the limit of looks: none where as many workers as units answer at once, and no lock is held from a claim to its post.
+// Holds the first proposal's units before the last one until that one's answer was posted, and
+// counts those that were held to the limit of looks: none where as many workers as units answer at
+// once, and no lock is held from a claim to its post.
 #[derive(Drop)]
 struct Held {
     last: u32,
@@ -584,5 +587,76 @@ fn four_workers_answer_at_once(rt: HostRuntime) -> Result<(), Fail> {
     assert_eq!(rt; status, 0);
     let mut lines = bytes.as_slice().split(|byte| *byte == b'\n');
     assert!(rt; lines.any(|line| line == b"chosen 1 value 0".as_slice()));
+    Ok(())
+}
+
+const AUDIT: [&str; 7] = [
+    "audit",
+    "--case=c",
+    "--schedule=s",
+    "--report",
+    "r",
+    "--workers",
+    "2",
+];
+
+// The audit of a report of the two units.
+fn audited<R: Threads + Wait + Sync>(
+    rt: &R,
+    alloc: Global,
+    name: &str,
+    report: &[u8],
+) -> Result<(u8, Vec<u8>), AllocError> {
+    let told = File {
+        name: String::from_str(alloc, name)?,
+        bytes: Vec::from_slice(alloc, report)?,
+    };
+    let files = vec![in alloc;
+        file(alloc, "c", TWO_UNITS)?,
+        file(alloc, "s", TWO_UNITS_SCHEDULE)?,
+        told,
+    ]?;
+    let mut shelf = MemoryShelf::make(alloc, files.as_slice(), &[])?;
+    let mut out = MemorySink::make(alloc, 4096, 1, &[], &[])?;
+    let words = words_in(alloc, &AUDIT)?;
+    let status = hull_run(rt, alloc, words.as_slice(), &mut shelf, &mut out, &NoGate);
+    Ok((status, Vec::from_slice(alloc, out.bytes())?))
+}
+
+// Two right reports, that of another case, one without its last line feed, and none.
+#[test]
+fn audits_answer_as_worked(rt: HostRuntime) -> Result<(), Fail> {
+    let unended = TWO_UNITS_REPORT.len() - 1;
+    for (name, report, want, text) in [
+        (
+            "r",
+            TWO_UNITS_REPORT,
+            0,
+            b"hull-audit 1\nproposals 1\nright\n".as_slice(),
+        ),
+        (
+            "r",
+            TWO_PROPOSALS,
+            0,
+            b"hull-audit 1\nproposals 2\nright\n".as_slice(),
+        ),
+        ("r", USUAL_REPORT, 8, b"fault 8 report 61 at 6\n".as_slice()),
+        (
+            "r",
+            &TWO_UNITS_REPORT[..unended],
+            8,
+            b"fault 8 report 60 at 25\n".as_slice(),
+        ),
+        (
+            "t",
+            TWO_UNITS_REPORT,
+            2,
+            b"fault 2 read report\n".as_slice(),
+        ),
+    ] {
+        let (status, bytes) = audited(&rt, rt.alloc(), name, report)?;
+        assert_eq!(rt; bytes.as_slice(), text);
+        assert_eq!(rt; status, want);
+    }
     Ok(())
 }

@@ -26,3 +26,5 @@ pub mod OutcomeLaws
 pub mod BoundLaws
 -- fixed.rt, laws.rt: the two runs of `hull fixed`
 pub mod FixedLaws
+-- answers.rt, laws.rt: the audit of a report
+pub mod AuditLaws

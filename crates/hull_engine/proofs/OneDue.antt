@@ -1,5 +1,5 @@
 -- Over what was read at most one thing is due, and at most one text may be printed.
-use Rattle.std.proofs.Common.{◌≡◌, ℕ, ◌<◌, ℤ, List, length, unsigned_abs, Some, inl, inr, Result, Ok, Err, sym, ap, subst, ◌∙◌, arith}
+use Rattle.std.proofs.Common.{◌≡◌, ℕ, ◌<◌, ℤ, List, length, unsigned_abs, Option, Some, inl, inr, Result, Ok, Err, sym, ap, subst, ◌∙◌, arith}
 use Rattle.std.proofs.lemmas.Bool.{cases_lt}
 use Rattle.std.proofs.lemmas.Int.{ints}
 use Rattle.std.proofs.lemmas.Option.{same_Some}
@@ -18,15 +18,18 @@ use Rattle.fixed_price.specs.FixedCase.{fixed_market}
 use Rattle.gap_proof.specs.Candidates.{RowRange, candidates, range_bound, prices_of_row, IsFirstLeast}
 use Rattle.hull_report.specs.BoundText.{bound_text}
 use Rattle.hull_report.specs.FixedText.{fixed_text}
-use Rattle.hull_report.specs.Laws.{OneRightReport}
+use Rattle.hull_report.specs.AuditText.{audit_text}
+use Rattle.hull_report.specs.Laws.{OneRightReport, TextDeterminesReport, RightReportHasForm}
 use Rattle.hull_report.specs.ReportText.{Report, report_text}
 use Rattle.hull_report.specs.RightSide.{OneRightSide}
 use Rattle.hull_report.specs.TryText.{try_text}
-use Rattle.hull_report.specs.declared.fault.FileKind.TheVariants.{CaseFile, ScheduleFile}
+use Rattle.hull_report.specs.declared.fault.FileKind.TheVariants.{CaseFile, ScheduleFile, ReportFile}
 use Rattle.hull_report.specs.declared.fault.TopFault.{TopFault}
-use Rattle.hull_report.specs.declared.fault.TopFault.TheVariants.{PlanRule}
-use Rattle.hull_engine.specs.Steps.{Then, Reads, IsBytes, case_fault, plan_fault, IsCase, IsCaseFile, IsPlan, IsPlanFile, PlannedCase, IsChecked, IsInput, IsMade, IsWithinWork}
-use Rattle.hull_engine.specs.Outcome.{IsReportText, IsBoundText, IsFixedText, command_for}
+use Rattle.hull_report.specs.declared.fault.TopFault.TheVariants.{PlanRule, Report as Unfit}
+use Rattle.report_read.specs.Differences.{DiffersAt}
+use Rattle.report_read.specs.Laws.{OneReport, OneFault, OneDifference}
+use Rattle.hull_engine.specs.Steps.{Then, Reads, IsBytes, case_fault, plan_fault, IsCase, IsCaseFile, IsPlan, IsPlanFile, PlannedCase, IsChecked, IsInput, IsMade, IsWithinWork, IsReportIn, IsReportFile, IsJudged, IsAudit}
+use Rattle.hull_engine.specs.Outcome.{IsReportText, IsBoundText, IsFixedText, IsAuditText, command_for}
 use Rattle.hull_engine.proofs.StepLaws.{one_then}
 
 -- a fault is all that its refusal tells
@@ -40,12 +43,21 @@ one_checked m plan (Err f) (Ok y) p q = let e = ap (λ (xs : List Refusal). slic
 one_checked m plan (Err f) (Err g) (r, is_r, p) (s, is_s, q) =
     let same : refusal_of r ≡ refusal_of s = cc in ap Err (is_r ∙ ap PlanRule (one_fault r s same) ∙ sym is_s)
 
-module _ (one_case : OneCase) (one_plan : OnePlan) where
+-- what there is at most one of
+pub record AreOne : Type 0 where
+  pub case : OneCase
+  pub plan : OnePlan
+  pub report : OneReport
+  pub fault : OneFault
+  pub right : OneRightReport
+  pub difference : OneDifference
+
+module _ (ones : AreOne) where
   one_case_in : (bytes : List ℕ) (a b : Result Market TopFault) → IsCase bytes a → IsCase bytes b → a ≡ b
-  one_case_in bytes a b (r, is_r, p) (s, is_s, q) = p ∙ ap (result_map_both (λ m. m) case_fault) (one_case bytes r s is_r is_s) ∙ sym q
+  one_case_in bytes a b (r, is_r, p) (s, is_s, q) = p ∙ ap (result_map_both (λ m. m) case_fault) (ones.case bytes r s is_r is_s) ∙ sym q
 
   one_plan_in : (m : Market) (bytes : List ℕ) (a b : Result (List Schedule) TopFault) → IsPlan m bytes a → IsPlan m bytes b → a ≡ b
-  one_plan_in m bytes a b (r, is_r, p) (s, is_s, q) = p ∙ ap (result_map_both (λ plan. plan) plan_fault) (one_plan m bytes r s is_r is_s) ∙ sym q
+  one_plan_in m bytes a b (r, is_r, p) (s, is_s, q) = p ∙ ap (result_map_both (λ plan. plan) plan_fault) (ones.plan m bytes r s is_r is_s) ∙ sym q
 
   one_input : (reads : Reads) (a b : Result PlannedCase TopFault) → IsInput reads a → IsInput reads b → a ≡ b
   one_input reads =
@@ -59,6 +71,27 @@ module _ (one_case : OneCase) (one_plan : OnePlan) where
   one_made number (Ok x) (Err g) p q = absurd q
   one_made number (Err f) b p q = absurd p
 
+  one_report_in : (bytes : List ℕ) (a b : Result Report TopFault) → IsReportIn bytes a → IsReportIn bytes b → a ≡ b
+  one_report_in bytes (Ok r) (Ok s) p q = ap Ok (ones.report r s p.0 q.0 (sym p.1 ∙ q.1))
+  one_report_in bytes (Ok r) (Err g) p (line, fault, is) = absurd (fault.none r p.0 p.1)
+  one_report_in bytes (Err f) (Ok s) (line, fault, is) q = absurd (fault.none s q.0 q.1)
+  one_report_in bytes (Err f) (Err g) (k, fault, is) (l, other, also) = ap Err (is ∙ ap (Unfit 60) (ones.fault bytes k l fault other) ∙ sym also)
+
+  one_judged : (r : Report) (c : PlannedCase) (a b : Result PlannedCase TopFault) → IsJudged r c a → IsJudged r c b → a ≡ b
+  one_judged r c (Ok x) (Ok y) p q = ap Ok (p.1 ∙ sym q.1)
+  one_judged r c (Ok x) (Err g) p (line, wrong, differs, is) = absurd (wrong p.0)
+  one_judged r c (Err f) (Ok y) (line, wrong, differs, is) q = absurd (wrong q.0)
+  one_judged r c (Err f) (Err g) (k, wrong, (right, is_right, differs), is) (l, again, (same, is_same, other), also) =
+      let e = ones.right c.market c.plan r.budget r.ahead same right is_same is_right in
+      let line = ones.difference (report_text r) (report_text right) k l differs (subst (λ (x : Report). DiffersAt (report_text r) (report_text x) l) e other) in
+      ap Err (is ∙ ap (Unfit 61) line ∙ sym also)
+
+  one_audit : (reads : Reads) (c : PlannedCase) (a b : Result PlannedCase TopFault) → IsAudit reads c a → IsAudit reads c b → a ≡ b
+  one_audit reads c =
+      one_then (IsReportFile (reads ReportFile)) (λ r. Then (IsWithinWork r.budget c) (IsJudged r))
+      (one_then (IsBytes ReportFile (reads ReportFile)) IsReportIn (λ a b p q. p ∙ sym q) one_report_in)
+      (λ r. one_then (IsWithinWork r.budget c) (IsJudged r) (λ a b p q. p ∙ sym q) (one_judged r))
+
   pub one_due : (w : Result Asked WordFault) (reads : Reads) (a b : Result PlannedCase TopFault) → (command_for w).IsDue reads a → (command_for w).IsDue reads b → a ≡ b
   one_due (Ok (check x)) reads a b p q = one_input reads a b p q
   one_due (Ok (price x)) reads a b p q =
@@ -69,7 +102,7 @@ module _ (one_case : OneCase) (one_plan : OnePlan) where
       one_then (IsInput reads) (IsWithinWork x.run.proposals) (one_input reads) (λ c a b p q. p ∙ sym q) a b p q
   one_due (Ok (fixed x)) reads a b p q =
       one_then (IsInput reads) (IsWithinWork x.proposals) (one_input reads) (λ c a b p q. p ∙ sym q) a b p q
-  one_due (Ok (audit x)) reads a b p q = p ∙ sym q
+  one_due (Ok (audit x)) reads a b p q = one_then (IsInput reads) (IsAudit reads) (one_input reads) (one_audit reads) a b p q
   one_due (Err f) reads a b p q = p ∙ sym q
 
 -- there is one first candidate with the least bound
@@ -98,7 +131,7 @@ module _ (m : Market) (rows : List Proposal) (centre : ℕ) (radius : ℤ) where
         ]
       ]
 
-module _ (one : OneRightReport) (one_side : OneRightSide) where
+module _ (one : OneRightReport) (one_side : OneRightSide) (determined : TextDeterminesReport) (has_form : RightReportHasForm) where
   one_report_text : (text_of : Report → List ℕ) (budget ahead : ℕ) (c : PlannedCase) (text other : List ℕ)
       → IsReportText text_of budget ahead c text → IsReportText text_of budget ahead c other → text ≡ other
   one_report_text text_of budget ahead c text other (r, is_r, p) (s, is_s, q) =
@@ -118,11 +151,18 @@ module _ (one : OneRightReport) (one_side : OneRightSide) where
       let b = one_side c.market (fixed_market c.market c.plan) c.plan budget ahead held less is_held is_less in
       p ∙ (λ i. fixed_text c.market c.cost (a i) (b i)) ∙ sym q
 
+  one_audit_text : (read : Option (List ℕ)) (c : PlannedCase) (text other : List ℕ) → IsAuditText read c text → IsAuditText read c other → text ≡ other
+  one_audit_text read c text other (r, read_r, is_r, p) (s, read_s, is_s, q) =
+      let form = has_form c.market c.plan r.budget r.ahead r is_r in
+      let form_other = has_form c.market c.plan s.budget s.ahead s is_s in
+      let same = determined r s form form_other (same_Some (report_text r) (report_text s) (sym read_r ∙ read_s)) in
+      p ∙ ap (λ (x : Report). audit_text (length x.rows)) same ∙ sym q
+
   pub one_text : (w : Result Asked WordFault) (reads : Reads) (c : PlannedCase) (text other : List ℕ) → (command_for w).IsText reads c text → (command_for w).IsText reads c other → text ≡ other
   one_text (Ok (check x)) reads c text other p q = p ∙ sym q
   one_text (Ok (price x)) reads c text other p q = one_report_text report_text x.proposals x.ahead c text other p q
   one_text (Ok (try x)) reads c text other p q = one_report_text (try_text x.number) x.proposals x.ahead c text other p q
   one_text (Ok (bound x)) reads c text other p q = one_bound_text x.run.proposals x.run.ahead x.radius c text other p q
   one_text (Ok (fixed x)) reads c text other p q = one_fixed_text x.proposals x.ahead c text other p q
-  one_text (Ok (audit x)) reads c text other p q = absurd p
+  one_text (Ok (audit x)) reads c text other p q = one_audit_text (reads ReportFile) c text other p q
   one_text (Err f) reads c text other p q = absurd p

@@ -5,11 +5,9 @@ use Rattle.uc_model.specs.Data.{Market, Schedule, unit_count}
 use Rattle.uc_model.specs.Systems.{IsFeasiblePlan, plan_cost}
 use Rattle.uc_case.specs.Files.{text, value}
 use Rattle.uc_case.specs.CaseFiles.{IsCaseOf}
-use Rattle.uc_case.specs.Laws.{OneCase}
 use Rattle.uc_plan.specs.PlanFiles.{IsPlanOf}
-use Rattle.uc_plan.specs.Laws.{OnePlan}
 use Rattle.hull_io.specs.declared.read.TheConstants.{MOST_BYTES}
-use Rattle.hull_words.specs.Asked.{Asked, CheckAsked, PriceAsked, price, check, try, bound, fixed, audit}
+use Rattle.hull_words.specs.Asked.{Asked, CheckAsked, PriceAsked, AuditAsked, price, check, try, bound, fixed, audit}
 use Rattle.hull_words.specs.declared.fault.WordFault.{WordFault}
 use Rattle.hull_report.specs.FaultLines.{status_of, fault_line}
 use Rattle.hull_report.specs.Laws.{ReportPaymentsMakeUpTheGap}
@@ -19,10 +17,11 @@ use Rattle.hull_report.specs.declared.fault.TopFault.{TopFault}
 use Rattle.hull_report.specs.declared.fault.TopFault.TheVariants.{Words, Read, CaseText, CaseField, PlanText, PlanShape, PlanRule, TooBig, Work, Memory, Report as report_fault}
 use Rattle.hull_engine.specs.declared.end.End.{End}
 use Rattle.hull_engine.specs.declared.end.End.TheVariants.{Done, Cut, Refused}
-use Rattle.hull_engine.specs.Steps.{Reads, bytes_of, IsCase, IsCaseFile, IsPlan, IsPlanFile, PlannedCase, IsChecked, IsInput, IsWithinWork}
+use Rattle.hull_engine.specs.Steps.{Reads, bytes_of, IsCase, IsCaseFile, IsPlan, IsPlanFile, PlannedCase, IsChecked, IsInput, IsWithinWork, IsReportFile, IsAudit}
 use Rattle.hull_engine.specs.Outcome.{command_for, case_and_schedule, IsReadOf, AreReads, HasText, Ends, status_at}
 use Rattle.hull_engine.specs.Laws.{is_refusal, IsWritten, IsUnread, HasCause, IsQuiet, IsDecided, word_fault, FollowsFromWords, IsPromised}
-use Rattle.hull_engine.proofs.OneDue.{one_due}
+use Rattle.hull_engine.proofs.OneDue.{AreOne, one_due}
+use Rattle.hull_engine.proofs.ReadLaws.{got}
 
 -- ---- a fault by its status
 
@@ -65,14 +64,14 @@ sort (report_fault c l) = is_other (λ e. absurd cc) (λ e. absurd cc)
 -- ---- which faults are due
 
 -- the fault of a read that failed, or one of what the case (3) or the schedule (4) has
-abbrev IsInputFault : Reads → TopFault → Type 0
+abbrev pub IsInputFault : Reads → TopFault → Type 0
 IsInputFault reads f =
     ((f ≡ Read CaseFile) × (reads CaseFile ≡ None)) ⊎ ((f ≡ Read ScheduleFile) × (reads ScheduleFile ≡ None)) ⊎ (3 ≤ status_of f) × (status_of f ≤ 4)
 
-same_fault : {X : Type 0} (f g : TopFault) → ◌≡◌ {A = Result X TopFault} (Err f) (Err g) → f ≡ g
+pub same_fault : {X : Type 0} (f g : TopFault) → ◌≡◌ {A = Result X TopFault} (Err f) (Err g) → f ≡ g
 same_fault f g e = cc
 
-bytes_fault : (file : FileKind) (read : Option (List ℕ)) (f : TopFault) → Err f ≡ bytes_of file read → ((f ≡ Read file) × (read ≡ None)) ⊎ (f ≡ TooBig file)
+pub bytes_fault : (file : FileKind) (read : Option (List ℕ)) (f : TopFault) → Err f ≡ bytes_of file read → ((f ≡ Read file) × (read ≡ None)) ⊎ (f ≡ TooBig file)
 bytes_fault file None f e = inl (cc, refl)
 bytes_fault file (Some bytes) f e = inr (long (nat_lt MOST_BYTES _) e)
   where
@@ -102,7 +101,7 @@ plan_file_fault m reads f (Err g, is, e) =
       | inr s ↦ let n : status_of f ≡ 4 = ap status_of s in inr (inr (omega (arith, n), omega (arith, n)))
     ]
 
-input_fault : (reads : Reads) (f : TopFault) → IsInput reads (Err f) → IsInputFault reads f
+pub input_fault : (reads : Reads) (f : TopFault) → IsInput reads (Err f) → IsInputFault reads f
 input_fault reads f (Ok m, case_is, (Ok plan, plan_is, (rule, is, first))) = let n : status_of f ≡ 4 = ap status_of is in inr (inr (omega (arith, n), omega (arith, n)))
 input_fault reads f (Ok m, case_is, (Err g, plan_is, e)) =
     let same : g ≡ f = sym (same_fault f g e) in
@@ -115,14 +114,35 @@ above_work : (b : Bool) (proposals units periods : ℕ) (c : PlannedCase) (f : T
 above_work true proposals units periods c f e = let s : f ≡ Work proposals units periods = cc in ap status_of s
 above_work false proposals units periods c f e = absurd cc
 
-work_fault : (proposals : ℕ) (c : PlannedCase) (f : TopFault) → IsWithinWork proposals c (Err f) → status_of f ≡ 5
+pub work_fault : (proposals : ℕ) (c : PlannedCase) (f : TopFault) → IsWithinWork proposals c (Err f) → status_of f ≡ 5
 work_fault proposals c f e = above_work (nat_lt 50000000 (proposals * unit_count c.market * c.market.periods)) proposals (unit_count c.market) c.market.periods c f e
+
+-- the fault of a report's file: of its read, or of status 8
+report_file_fault : (read : Option (List ℕ)) (f : TopFault) → IsReportFile read (Err f) → ((f ≡ Read ReportFile) × (read ≡ None)) ⊎ (status_of f ≡ 8)
+report_file_fault read f (Ok bytes, is, (line, fault, e)) = inr (ap status_of e)
+report_file_fault read f (Err g, is, e) =
+    elim (bytes_fault ReportFile read f (ap Err (same_fault f g e) ∙ is)) [
+      | inl p ↦ inl p
+      | inr s ↦ inr (ap status_of s)
+    ]
+
+-- and that of an audit: or of the limit of work
+audit_fault : (reads : Reads) (c : PlannedCase) (f : TopFault) → IsAudit reads c (Err f) → ((f ≡ Read ReportFile) × (reads ReportFile ≡ None)) ⊎ ((status_of f ≡ 8) ⊎ (status_of f ≡ 5))
+audit_fault reads c f (Ok r, report_is, (Ok left, work, (line, wrong, differs, e))) = inr (inl (ap status_of e))
+audit_fault reads c f (Ok r, report_is, (Err g, work, e)) =
+    inr (inr (work_fault r.budget c f (subst (λ (h : TopFault). IsWithinWork r.budget c (Err h)) (sym (same_fault f g e)) work)))
+audit_fault reads c f (Err g, report_is, e) =
+    elim (report_file_fault (reads ReportFile) f (subst (λ (h : TopFault). IsReportFile (reads ReportFile) (Err h)) (sym (same_fault f g e)) report_is)) [
+      | inl p ↦ inl p
+      | inr s ↦ inr (inl s)
+    ]
 
 -- what a fault that is due says of the words
 data IsDueFault (w : Result Asked WordFault) (reads : Reads) (f : TopFault) : Type 0 where
   unread : (file : FileKind) (name : List ℕ) → f ≡ Read file → (command_for w).name_of file ≡ Some name → reads file ≡ None → IsDueFault w reads f
   of_input : 3 ≤ status_of f → status_of f ≤ 4 → IsDueFault w reads f
   of_work : ((a : CheckAsked) → w ≡ Ok (check a) → ⊥) → status_of f ≡ 5 → IsDueFault w reads f
+  of_report : (a : AuditAsked) → w ≡ Ok (audit a) → status_of f ≡ 8 → IsDueFault w reads f
   of_words : (x : WordFault) → f ≡ Words x → word_fault w ≡ Some x → IsDueFault w reads f
 
 due_fault : (w : Result Asked WordFault) (reads : Reads) (f : TopFault) → (command_for w).IsDue reads (Err f) → IsDueFault w reads f
@@ -158,7 +178,19 @@ due_fault (Ok (fixed a)) reads f (Err g, input, e) =
       | inr (inl p) ↦ unread ScheduleFile a.schedule_name p.0 refl p.1
       | inr (inr p) ↦ of_input p.0 p.1
     ]
-due_fault (Ok (audit a)) reads f due = of_words _ (same_fault f _ due) refl
+due_fault (Ok (audit a)) reads f (Ok c, input, audited) =
+    elim (audit_fault reads c f audited) [
+      | inl p ↦ unread ReportFile a.report_name p.0 refl p.1
+      | inr (inl eight) ↦ of_report a refl eight
+      | inr (inr five) ↦ of_work (λ b e. absurd cc) five
+    ]
+due_fault (Ok (audit a)) reads f (Err g, input, e) =
+    let same : g ≡ f = sym (same_fault f g e) in
+    elim (input_fault reads f (subst (λ (h : TopFault). IsInput reads (Err h)) same input)) [
+      | inl p ↦ unread CaseFile a.case_name p.0 refl p.1
+      | inr (inl p) ↦ unread ScheduleFile a.schedule_name p.0 refl p.1
+      | inr (inr p) ↦ of_input p.0 p.1
+    ]
 due_fault (Err x) reads f due = of_words x (same_fault f _ due) refl
 
 -- ---- the cause of each status
@@ -186,6 +218,7 @@ module _ (w : Result Asked WordFault) (told : List ℕ → Option (List ℕ)) (r
       (file, name, named, rose_of reads are file name named none, subst (λ (g : TopFault). (command_for w).IsDue reads (Err g)) is due, subst (IsWritten (command_for w) told rose gained short) is lines)
   read_failed reads f are lines z due (of_input low high) = absurd (omega (arith, z, low))
   read_failed reads f are lines z due (of_work other five) = absurd (omega (arith, z, five))
+  read_failed reads f are lines z due (of_report a same eight) = absurd (omega (arith, z, eight))
   read_failed reads f are lines z due (of_words x is faulty) = let s : status_of f ≡ 1 = ap status_of is in absurd (omega (arith, z, s))
 
   pub has_cause : (n : ℕ) (reads : Reads) (e : End) → AreReads told rose (command_for w).name_of reads → Ends (command_for w) reads gained short e → n ≡ status_at e → HasCause (command_for w) told rose gained short n
@@ -233,32 +266,27 @@ module _ (w : Result Asked WordFault) (told : List ℕ → Option (List ℕ)) (r
       each (Some name) None p q = absurd (q p)
       each (Some name) (Some bytes) p q = refl
 
-  pub is_decided : OneCase → OnePlan → (n : ℕ) (reads : Reads) (e : End) → AreReads told rose (command_for w).name_of reads → IsQuiet (command_for w) told rose gained short
+  pub is_decided : AreOne → (n : ℕ) (reads : Reads) (e : End) → AreReads told rose (command_for w).name_of reads → IsQuiet (command_for w) told rose gained short
       → Ends (command_for w) reads gained short e → n ≡ status_at e → IsDecided (command_for w) n reads
-  is_decided one_case one_plan n reads Done are quiet (i, due, shown, right, ends) is = record {
+  is_decided ones n reads Done are quiet (i, due, shown, right, ends) is = record {
     read = all_read reads are quiet;
     accepted = λ j also. inl is;
-    refused = λ f also. let e = one_due one_case one_plan w reads (Ok i) (Err f) due also in absurd cc;
+    refused = λ f also. let e = one_due ones w reads (Ok i) (Err f) due also in absurd cc;
   }
-  is_decided one_case one_plan n reads Cut are quiet (i, due, shown, right, fell) is = absurd (quiet.sink shown fell)
-  is_decided one_case one_plan n reads (Refused f) are quiet (inl due, lines) is = record {
+  is_decided ones n reads Cut are quiet (i, due, shown, right, fell) is = absurd (quiet.sink shown fell)
+  is_decided ones n reads (Refused f) are quiet (inl due, lines) is = record {
     read = all_read reads are quiet;
-    accepted = λ j also. let e = one_due one_case one_plan w reads (Err f) (Ok j) due also in absurd cc;
-    refused = λ g also. inl (is ∙ ap status_of (same_fault f g (one_due one_case one_plan w reads (Err f) (Err g) due also)));
+    accepted = λ j also. let e = one_due ones w reads (Err f) (Ok j) due also in absurd cc;
+    refused = λ g also. inl (is ∙ ap status_of (same_fault f g (one_due ones w reads (Err f) (Err g) due also)));
   }
-  is_decided one_case one_plan n reads (Refused f) are quiet (inr m, lines) is =
+  is_decided ones n reads (Refused f) are quiet (inr m, lines) is =
       let s : n ≡ 7 = is ∙ ap status_of m in
       record { read = all_read reads are quiet; accepted = λ j also. inr s; refused = λ g also. inr s }
 
 -- ---- what the words alone say
 
 refused_words : (w : Result Asked WordFault) (f : WordFault) (reads : Reads) (due : Result PlannedCase TopFault) → word_fault w ≡ Some f → (command_for w).IsDue reads due → due ≡ Err (Words f)
-refused_words (Ok (check a)) f reads due e is = absurd cc
-refused_words (Ok (price a)) f reads due e is = absurd cc
-refused_words (Ok (try a)) f reads due e is = absurd cc
-refused_words (Ok (bound a)) f reads due e is = absurd cc
-refused_words (Ok (fixed a)) f reads due e is = absurd cc
-refused_words (Ok (audit a)) f reads due e is = cc
+refused_words (Ok a) f reads due e is = absurd cc
 refused_words (Err g) f reads due e is = cc
 
 module _ (w : Result Asked WordFault) (gained short : List ℕ → Type 0) where
@@ -269,18 +297,21 @@ module _ (w : Result Asked WordFault) (gained short : List ℕ → Type 0) where
   at_1_of reads f lines z (unread file name is named none) = let s : status_of f ≡ 2 = ap status_of is in absurd (omega (arith, z, s))
   at_1_of reads f lines z (of_input low high) = absurd (omega (arith, z, low))
   at_1_of reads f lines z (of_work other five) = absurd (omega (arith, z, five))
+  at_1_of reads f lines z (of_report a same eight) = absurd (omega (arith, z, eight))
   at_1_of reads f lines z (of_words x is faulty) = (x, faulty, subst Lines is lines)
 
-  never_8 : (reads : Reads) (f : TopFault) → status_of f ≡ 8 → IsDueFault w reads f → ⊥
-  never_8 reads f z (unread file name is named none) = let s : status_of f ≡ 2 = ap status_of is in omega (arith, z, s)
-  never_8 reads f z (of_input low high) = omega (arith, z, high)
-  never_8 reads f z (of_work other five) = omega (arith, z, five)
-  never_8 reads f z (of_words x is faulty) = let s : status_of f ≡ 1 = ap status_of is in omega (arith, z, s)
+  at_8_of : (reads : Reads) (f : TopFault) → status_of f ≡ 8 → IsDueFault w reads f → (a : AuditAsked) × (w ≡ Ok (audit a))
+  at_8_of reads f z (unread file name is named none) = let s : status_of f ≡ 2 = ap status_of is in absurd (omega (arith, z, s))
+  at_8_of reads f z (of_input low high) = absurd (omega (arith, z, high))
+  at_8_of reads f z (of_work other five) = absurd (omega (arith, z, five))
+  at_8_of reads f z (of_report a same eight) = (a, same)
+  at_8_of reads f z (of_words x is faulty) = let s : status_of f ≡ 1 = ap status_of is in absurd (omega (arith, z, s))
 
   check_never_5 : (reads : Reads) (f : TopFault) (a : CheckAsked) → w ≡ Ok (check a) → status_of f ≡ 5 → IsDueFault w reads f → ⊥
   check_never_5 reads f a same z (unread file name is named none) = let s : status_of f ≡ 2 = ap status_of is in omega (arith, z, s)
   check_never_5 reads f a same z (of_input low high) = omega (arith, z, high)
   check_never_5 reads f a same z (of_work other five) = other a same
+  check_never_5 reads f a same z (of_report b also eight) = omega (arith, z, eight)
   check_never_5 reads f a same z (of_words x is faulty) = let s : status_of f ≡ 1 = ap status_of is in omega (arith, z, s)
 
   pub words_follow : (n : ℕ) (reads : Reads) (e : End) → Ends (command_for w) reads gained short e → n ≡ status_at e → FollowsFromWords w gained short n
@@ -288,19 +319,19 @@ module _ (w : Result Asked WordFault) (gained short : List ℕ → Type 0) where
     faulty = λ f e. let h = refused_words w f reads (Ok i) e due in absurd cc;
     at_1 = λ z. absurd (omega (arith, is, z));
     check_at_5 = λ a e z. omega (arith, is, z);
-    at_8 = λ z. omega (arith, is, z);
+    at_8 = λ z. absurd (omega (arith, is, z));
   }
   words_follow n reads Cut (i, due, shown, right, ends) is = record {
     faulty = λ f e. let h = refused_words w f reads (Ok i) e due in absurd cc;
     at_1 = λ z. absurd (omega (arith, is, z));
     check_at_5 = λ a e z. omega (arith, is, z);
-    at_8 = λ z. omega (arith, is, z);
+    at_8 = λ z. absurd (omega (arith, is, z));
   }
   words_follow n reads (Refused f) (inl due, lines) is = record {
     faulty = λ x e. inl (is ∙ ap status_of (same_fault f (Words x) (refused_words w x reads (Err f) e due)));
     at_1 = λ z. at_1_of reads f lines (sym is ∙ z) (due_fault w reads f due);
     check_at_5 = λ a e z. check_never_5 reads f a e (sym is ∙ z) (due_fault w reads f due);
-    at_8 = λ z. never_8 reads f (sym is ∙ z) (due_fault w reads f due);
+    at_8 = λ z. at_8_of reads f (sym is ∙ z) (due_fault w reads f due);
   }
   words_follow n reads (Refused f) (inr m, lines) is =
       let s : n ≡ 7 = is ∙ ap status_of m in
@@ -308,7 +339,7 @@ module _ (w : Result Asked WordFault) (gained short : List ℕ → Type 0) where
         faulty = λ x e. inr s;
         at_1 = λ z. absurd (omega (arith, s, z));
         check_at_5 = λ a e z. omega (arith, s, z);
-        at_8 = λ z. omega (arith, s, z);
+        at_8 = λ z. absurd (omega (arith, s, z));
       }
 
 -- ---- what is accepted
@@ -326,7 +357,7 @@ below_work : (b : Bool) (f : TopFault) (c i : PlannedCase) → Ok i ≡ (if b th
 below_work true f c i e = absurd cc
 below_work false f c i e = cc
 
-same_input : (proposals : ℕ) (c i : PlannedCase) → IsWithinWork proposals c (Ok i) → c ≡ i
+pub same_input : (proposals : ℕ) (c i : PlannedCase) → IsWithinWork proposals c (Ok i) → c ≡ i
 same_input proposals c i e =
     below_work (nat_lt 50000000 (proposals * unit_count c.market * c.market.periods)) (Work proposals (unit_count c.market) c.market.periods) c i e
 
@@ -345,19 +376,14 @@ accepted_is_feasible (Ok (bound a)) reads i (Err g, input, e) = absurd cc
 accepted_is_feasible (Ok (fixed a)) reads i (Ok c, input, work) =
     subst (λ (c : PlannedCase). IsFeasiblePlan c.market c.plan × (c.cost ≡ plan_cost c.market c.plan)) (same_input a.proposals c i work) (input_is_feasible reads c input)
 accepted_is_feasible (Ok (fixed a)) reads i (Err g, input, e) = absurd cc
-accepted_is_feasible (Ok (audit a)) reads i due = absurd cc
+accepted_is_feasible (Ok (audit a)) reads i (Ok c, input, (Ok r, report_is, (Ok left, work, (right, same)))) =
+    subst (λ (c : PlannedCase). IsFeasiblePlan c.market c.plan × (c.cost ≡ plan_cost c.market c.plan)) (same_input r.budget c left work ∙ sym same) (input_is_feasible reads c input)
+accepted_is_feasible (Ok (audit a)) reads i (Ok c, input, (Ok r, report_is, (Err g, work, e))) = absurd cc
+accepted_is_feasible (Ok (audit a)) reads i (Ok c, input, (Err g, report_is, e)) = absurd cc
+accepted_is_feasible (Ok (audit a)) reads i (Err g, input, e) = absurd cc
 accepted_is_feasible (Err f) reads i due = absurd cc
 
 -- ---- the promise of a report
-
--- the bytes that were read of a file
-got : (file : FileKind) (read : Option (List ℕ)) (bytes : List ℕ) → Ok bytes ≡ bytes_of file read → read ≡ Some bytes
-got file None bytes e = absurd cc
-got file (Some all) bytes e = more (nat_lt MOST_BYTES _) e
-  where
-    more : (b : Bool) → Ok bytes ≡ (if b then Err (TooBig file) else Ok all) → Some all ≡ Some bytes
-    more true e = absurd cc
-    more false e = cc
 
 case_found : (m : Market) (bytes : List ℕ) → IsCase bytes (Ok m) → IsCaseOf bytes (Ok m)
 case_found m bytes (Ok n, is, e) = let same : n ≡ m = cc in subst (λ (x : Market). IsCaseOf bytes (Ok x)) same is
@@ -370,14 +396,14 @@ plan_found m plan bytes (Err (text f), is, e) = absurd cc
 plan_found m plan bytes (Err (value f), is, e) = absurd cc
 
 -- the case and the schedule of an accepted input, with their bytes
-record InputParts (reads : Reads) (c : PlannedCase) : Type 0 where
-  case_bytes : List ℕ
-  case_read : reads CaseFile ≡ Some case_bytes
-  is_case : IsCaseOf case_bytes (Ok c.market)
-  plan_bytes : List ℕ
-  plan_read : reads ScheduleFile ≡ Some plan_bytes
-  is_plan : IsPlanOf c.market plan_bytes (Ok c.plan)
-  feasible : IsFeasiblePlan c.market c.plan
+pub record InputParts (reads : Reads) (c : PlannedCase) : Type 0 where
+  pub case_bytes : List ℕ
+  pub case_read : reads CaseFile ≡ Some case_bytes
+  pub is_case : IsCaseOf case_bytes (Ok c.market)
+  pub plan_bytes : List ℕ
+  pub plan_read : reads ScheduleFile ≡ Some plan_bytes
+  pub is_plan : IsPlanOf c.market plan_bytes (Ok c.plan)
+  pub feasible : IsFeasiblePlan c.market c.plan
 
 planned_parts : (reads : Reads) (m : Market) (plan : List Schedule) (c : PlannedCase) → IsCaseFile (reads CaseFile) (Ok m) → IsPlanFile m (reads ScheduleFile) (Ok plan) → IsChecked m plan (Ok c) → InputParts reads c
 planned_parts reads m plan c (Ok bytes, is_bytes, case_is) (Ok later, is_later, plan_is) (feasible, none, is) =
@@ -393,7 +419,7 @@ planned_parts reads m plan c (Ok bytes, is_bytes, case_is) (Ok later, is_later, 
 planned_parts reads m plan c (Ok bytes, is_bytes, case_is) (Err g, is_later, e) checked = absurd cc
 planned_parts reads m plan c (Err g, is_bytes, e) plan_is checked = absurd cc
 
-input_parts : (reads : Reads) (c : PlannedCase) → IsInput reads (Ok c) → InputParts reads c
+pub input_parts : (reads : Reads) (c : PlannedCase) → IsInput reads (Ok c) → InputParts reads c
 input_parts reads c (Ok m, case_is, (Ok plan, plan_is, checked)) = planned_parts reads m plan c case_is plan_is checked
 input_parts reads c (Ok m, case_is, (Err g, plan_is, e)) = absurd cc
 input_parts reads c (Err g, case_is, e) = absurd cc

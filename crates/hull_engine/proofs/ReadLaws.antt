@@ -1,4 +1,4 @@
--- What was read of a file, and of the two files of an input.
+-- What was read of a file, of the two files of an input, and of a report beside them.
 use Rattle.std.proofs.Common.{◌≡◌, ℕ, ◌+◌, ◌<◌, ◌≤◌, Bool, true, false, List, [], length, replicate, Option, None, Some, Ok, Err, refl, inl, inr, arith}
 use Rattle.std.specs.Prelude.{IfSome, nat_lt, if◌then◌else◌}
 use Rattle.std.proofs.lemmas.List.{length-replicate}
@@ -9,7 +9,7 @@ use Rattle.hull_report.specs.declared.fault.FileKind.{FileKind}
 use Rattle.hull_report.specs.declared.fault.FileKind.TheVariants.{CaseFile, ScheduleFile, ReportFile}
 use Rattle.hull_report.specs.declared.fault.TopFault.TheVariants.{TooBig}
 use Rattle.hull_engine.specs.Steps.{Reads, bytes_of, IsBytes}
-use Rattle.hull_engine.specs.Outcome.{IsReadOf, case_and_schedule, AreReads}
+use Rattle.hull_engine.specs.Outcome.{IsReadOf, case_and_schedule, with_report, AreReads}
 use Rattle.hull_engine.specs.Answers.{HasRead}
 
 -- ---- the bytes of one file
@@ -49,6 +49,15 @@ pub was_too_big : (told : Option (List ℕ)) (rose : Type 0) (file : FileKind) �
 was_too_big None rose file h = let some = longer MOST_BYTES in (Some some.0, tt, too_long file some.0 some.1)
 was_too_big (Some all) rose file h = (Some all, refl, too_long file all h)
 
+-- the bytes that were read of it
+pub got : (file : FileKind) (read : Option (List ℕ)) (bytes : List ℕ) → Ok bytes ≡ bytes_of file read → read ≡ Some bytes
+got file None bytes e = absurd cc
+got file (Some all) bytes e = more (nat_lt MOST_BYTES _) e
+  where
+    more : (b : Bool) → Ok bytes ≡ (if b then Err (TooBig file) else Ok all) → Some all ≡ Some bytes
+    more true e = absurd cc
+    more false e = cc
+
 -- ---- a later shelf
 
 -- a later start, or a count that goes on, leaves what rose risen
@@ -74,6 +83,25 @@ pub are_two_reads : (told : List ℕ → Option (List ℕ)) (rose : List ℕ →
 are_two_reads told rose case_name schedule_name case_read schedule_read p q CaseFile = p
 are_two_reads told rose case_name schedule_name case_read schedule_read p q ScheduleFile = q
 are_two_reads told rose case_name schedule_name case_read schedule_read p q ReportFile = tt
+
+-- what was read of a report too
+abbrev pub report_added : Reads → Option (List ℕ) → Reads
+report_added reads read CaseFile = reads CaseFile
+report_added reads read ScheduleFile = reads ScheduleFile
+report_added reads read ReportFile = read
+
+-- a shelf counts the faults of a name before, between and after the reads of the input and of the report
+module _ (told : List ℕ → Option (List ℕ)) (last : Option ℕ) (before between after : List ℕ → ℕ) (case_name schedule_name report_name : List ℕ) where
+  pub are_report_added : (reads : Reads) (read : Option (List ℕ)) → ((any : List ℕ) → before any ≤ between any) → ((any : List ℕ) → between any ≤ after any)
+      → AreReads told (λ name. Rose last (before name) (between name)) (case_and_schedule case_name schedule_name) reads
+      → IsReadOf (told report_name) (Rose last (between report_name) (after report_name)) read
+      → AreReads told (λ name. Rose last (before name) (after name)) (with_report case_name schedule_name report_name) (report_added reads read)
+  are_report_added reads read early late are is CaseFile =
+      read_wider (told case_name) last (before case_name) (before case_name) (between case_name) (after case_name) (reads CaseFile) (omega arith) (late case_name) (are CaseFile)
+  are_report_added reads read early late are is ScheduleFile =
+      read_wider (told schedule_name) last (before schedule_name) (before schedule_name) (between schedule_name) (after schedule_name) (reads ScheduleFile) (omega arith) (late schedule_name) (are ScheduleFile)
+  are_report_added reads read early late are is ReportFile =
+      read_wider (told report_name) last (before report_name) (between report_name) (after report_name) (after report_name) read (early report_name) (omega arith) is
 
 -- what may have been read of all files, whatever is told of them
 abbrev pub any_of : (told : List ℕ → Option (List ℕ)) → Option (List ℕ) → Option (List ℕ)

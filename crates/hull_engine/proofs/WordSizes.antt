@@ -9,11 +9,11 @@ use Rattle.std.specs.Str.Parse.{digits_value}
 use Rattle.hull_words.specs.declared.fault.WordFault.{WordFault}
 use Rattle.hull_words.specs.declared.kinds.CommandKind.{CommandKind}
 use Rattle.hull_words.specs.declared.kinds.CommandKind.TheVariants as kinds
-use Rattle.hull_words.specs.Asked.{Asked, Found, CheckAsked, PriceAsked, AuditAsked, price, check, try, bound, fixed, audit, with_both, names_from, asked_from}
+use Rattle.hull_words.specs.Asked.{Asked, Found, CheckAsked, PriceAsked, price, check, try, bound, fixed, audit, with_both, names_from, asked_from}
 use Rattle.hull_words.specs.Spelling.{command_named}
 use Rattle.hull_words.specs.Texts.{is_numeral, number_in}
 use Rattle.hull_words.specs.Words.{first_fault, backwards, found_in, or_fault, or_missing, asked_of, later_words, words_of}
-use Rattle.hull_engine.specs.Sizes.{IsWithin, IsRunSize, HasSizes}
+use Rattle.hull_engine.specs.Sizes.{IsWithin, IsWorkers, IsRunSize, HasSizes}
 
 -- ---- one number
 
@@ -90,11 +90,11 @@ by_fixed : (names : Option CheckAsked) (budget workers ahead count : ℕ) (a : A
 by_fixed None budget workers ahead count a size e = absurd cc
 by_fixed (Some names) budget workers ahead count a size e = subst HasSizes (same _ a count e) size
 
-by_report : (names : Option CheckAsked) (report : Option (List ℕ)) (f : CheckAsked → List ℕ → AuditAsked) (count : ℕ) (a : Asked)
-    → Gives (with_both names report (λ n r. audit (f n r))) count a → HasSizes a
-by_report None report f count a e = absurd cc
-by_report (Some n) None f count a e = absurd cc
-by_report (Some n) (Some r) f count a e = subst HasSizes (same _ a count e) tt
+by_report : (names : Option CheckAsked) (report : Option (List ℕ)) (workers count : ℕ) (a : Asked) → IsWorkers workers
+    → Gives (with_both names report (λ (n : CheckAsked) (r : List ℕ). audit (record { case_name = n.case_name; schedule_name = n.schedule_name; report_name = r; workers = workers }))) count a → HasSizes a
+by_report None report workers count a size e = absurd cc
+by_report (Some n) None workers count a size e = absurd cc
+by_report (Some n) (Some r) workers count a size e = subst HasSizes (same _ a count e) size
 
 by_kind : (command : CommandKind) (found : Found) (count : ℕ) (a : Asked) → Sizes found → Gives (asked_from command found) count a → HasSizes a
 by_kind kinds.Price found count a size e = by_price (names_from found) _ _ _ count a size.run e
@@ -102,7 +102,7 @@ by_kind kinds.Check found count a size e = by_check (names_from found) count a e
 by_kind kinds.Try found count a size e = by_number found.number _ _ _ count a size.run e
 by_kind kinds.Bound found count a size e = by_run (names_from found) _ _ _ _ count a size.run size.radius e
 by_kind kinds.Fixed found count a size e = by_fixed (names_from found) _ _ _ count a size.run e
-by_kind kinds.Audit found count a size e = by_report (names_from found) found.report_name _ count a e
+by_kind kinds.Audit found count a size e = by_report (names_from found) found.report_name _ count a size.run.workers_in e
 
 by_values : (faulty : Option WordFault) (command : CommandKind) (found : Found) (count : ℕ) (a : Asked) → Sizes found → asked_of command count (or_fault faulty found) ≡ Ok a → HasSizes a
 by_values None command found count a size e = by_kind command found count a size e

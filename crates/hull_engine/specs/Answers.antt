@@ -2,6 +2,10 @@
 use Rattle.std.specs.Prelude.{◌≡◌, ◌⊎◌, ◌≤◌, ⊤, ℕ, List, Option, Result, Ok, Err}
 use Rattle.uc_model.specs.PlainCases.{market_of}
 use Rattle.board_history.specs.Board.{Setup}
+use Rattle.hull_io.specs.Edge.{Rose}
+use Rattle.hull_words.specs.Asked.{Asked}
+use Rattle.hull_words.specs.declared.fault.WordFault.{WordFault}
+use Rattle.hull_report.specs.AuditText.{audit_text}
 use Rattle.hull_report.specs.CheckText.{check_text}
 use Rattle.hull_report.specs.FaultLines.{fault_line}
 use Rattle.hull_report.specs.FixedText.{told_of, fixed_text}
@@ -12,10 +16,12 @@ use Rattle.hull_report.specs.declared.fault.TopFault.{TopFault}
 use Rattle.hull_report.specs.declared.fault.TopFault.TheVariants.{Memory}
 use Rattle.hull_engine.specs.declared.answers.Answer.{Answer}
 use Rattle.hull_engine.specs.declared.answers.Answer.TheVariants.{Check, Price, Try, Bound, Fixed}
+use Rattle.hull_engine.specs.declared.answers.Answer.TheVariants.{Audit}
 use Rattle.hull_engine.specs.declared.end.End.{End}
 use Rattle.hull_engine.specs.declared.end.End.TheVariants.{Done, Cut, Refused}
 use Rattle.hull_engine.specs.Steps.{Reads, PlannedCase}
-use Rattle.hull_engine.specs.Outcome.{Command, IsReportText, IsBoundText, IsReadOf, AreReads}
+use Rattle.hull_engine.specs.Outcome.{Command, command_for, IsReportText, IsBoundText, IsReadOf}
+use Rattle.hull_engine.specs.Outcome.{AreReads}
 use Rattle.hull_engine.specs.Rounds.{IsEnded}
 use Rattle.hull_engine.specs.Bounded.{IsBounded}
 use Rattle.hull_engine.specs.Compared.{ArePaid}
@@ -69,6 +75,7 @@ IsTextOf (Bound b) text =
     (planned_in b.done.closed.setup) text
 IsTextOf (Fixed s) text =
     text ≡ fixed_text (market_of s.case) s.cost (told_of s.hull) (told_of s.fixed)
+IsTextOf (Audit proposals) text = text ≡ audit_text proposals
 
 -- a run that is answered has ended, and each unit is paid
 abbrev pub IsAnswered : Answer → Type 0
@@ -77,6 +84,7 @@ IsAnswered (Price done) = IsEnded done.closed.setup done
 IsAnswered (Try number done) = IsEnded done.closed.setup done
 IsAnswered (Bound b) = IsBounded b.done.closed.setup b.radius b
 IsAnswered (Fixed s) = ArePaid s
+IsAnswered (Audit proposals) = ⊤
 
 -- the answer's texts are texts of an accepted input of the command; a fault is one that is due, or
 -- want of memory
@@ -85,6 +93,15 @@ IsCommandAnswer c reads (Ok answer) =
     (i : PlannedCase) × c.IsDue reads (Ok i)
     × ((text : List ℕ) → IsTextOf answer text → c.IsText reads i text)
 IsCommandAnswer c reads (Err f) = IsFaultOf (c.IsDue reads) f
+
+-- a command of such words, or their refusal, is answered so over what was read of its files on a
+-- shelf, which was left so
+module _ {F : Type 0} (told : F → List ℕ → Option (List ℕ)) (faults : F → List ℕ → ℕ)
+    (last : Option ℕ) (old new : F) where
+  abbrev pub HasAnswer : Result Asked WordFault → Result Answer TopFault → Type 0
+  HasAnswer words answer =
+      HasReads (told old) (λ name. Rose last (faults old name) (faults new name))
+      (command_for words).name_of (λ reads. IsCommandAnswer (command_for words) reads answer)
 
 -- ---- the end
 

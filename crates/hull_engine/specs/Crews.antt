@@ -35,8 +35,10 @@ pub record IsCrew (b : Setup) (board : SharedBoard) (ws : List Worker) : Type 0 
   pub count : length (view_of owner.seat).out ≡ length ws
   pub owner_out : Contains (view_of owner.seat).out 0
 
--- the owner's seat after so many seats were made, its own among them, with the workers of the others
-pub record IsHired (b : Setup) (board : SharedBoard) (owner : SeatValue) (k : ℕ) (ws : List Worker) : Type 0 where
+-- the owner's seat after so many seats were made, its own among them, with the workers of the
+-- others
+pub record IsHired (b : Setup) (board : SharedBoard) (owner : SeatValue) (k : ℕ)
+    (ws : List Worker) : Type 0 where
   pub own : IsSeatOf board owner × IsOwner owner
   pub setup : (view_of owner).setup ≡ b
   pub seen : (view_of owner).seen ≡ []
@@ -65,7 +67,8 @@ StartsWith h start = (rest : List BoardEvent) × (start ++ rest ≡ h)
 -- the owner has seen a finished history, or a halt, or one of the others has seen a halt
 abbrev pub SomeEnd : View → List Worker → Type 0
 SomeEnd v ws =
-    ((start : List BoardEvent) × StartsWith v.seen start × (has_finished (content v.setup start) ≡ true))
+    ((start : List BoardEvent) × StartsWith v.seen start
+    × (has_finished (content v.setup start) ≡ true))
     ⊎ ((list_any is_halt v.seen ≡ true) ⊎ ((w : Worker) × Contains ws w × HasSeenHalt w))
 
 -- the owner's seat, and the workers whose seats are still out

@@ -2,20 +2,24 @@
 -- hull_run's clause `outcome` holds: `told` is what the shelf tells, `rose` that the count of a
 -- name rose, `gained` that the sink has a text whole, and `short` that it has a front of it and its
 -- count rose.
-use Rattle.std.specs.Prelude.{◌≡◌, ◌≢◌, ◌⊎◌, ℕ, ◌≤◌, ◌==◌, ◌||◌, Bool, ◌+ℤ◌, ◌-ℤ◌, List, Option, None, Some, Result, Ok, Err, IsTrue, IfSome, IsSome, ℤ, ◌-◌, length, slice_get, unsigned_abs}
+use Rattle.std.specs.Prelude.{◌≡◌, ◌≢◌, ◌⊎◌, ℕ, ◌<◌, ◌≤◌, ◌==◌, ◌||◌, Bool, ◌+ℤ◌, ◌-ℤ◌, List}
+use Rattle.std.specs.Prelude.{Option, None, Some, Result, Ok, Err, IsTrue, IfSome, IsSome, ℤ, ◌-◌}
+use Rattle.std.specs.Prelude.{length, slice_get, unsigned_abs}
 use Rattle.uc_model.specs.Data.{Market, Schedule}
 use Rattle.uc_model.specs.PriceRule.{Proposal}
 use Rattle.uc_model.specs.Systems.{IsFeasiblePlan, plan_cost}
 use Rattle.uc_case.specs.CaseFiles.{IsCaseOf}
 use Rattle.uc_plan.specs.PlanFiles.{IsPlanOf}
 use Rattle.hull_io.specs.Edge.{Rose, Gains, FallsShort}
-use Rattle.hull_words.specs.Asked.{Asked, CheckAsked, PriceAsked, BoundAsked, check, price, try, bound, fixed}
-use Rattle.hull_words.specs.Words.{words_of, fault}
+use Rattle.hull_io.specs.declared.read.TheConstants.{MOST_BYTES}
+use Rattle.hull_words.specs.Asked.{Asked, CheckAsked, PriceAsked, TryAsked, BoundAsked, AuditAsked}
+use Rattle.hull_words.specs.Asked.{check, price, try, bound, fixed, audit}
+use Rattle.hull_words.specs.Words.{words_of}
 use Rattle.hull_words.specs.declared.fault.WordFault.{WordFault}
-use Rattle.hull_words.specs.declared.fault.WordCode.TheVariants.{UnknownCommand}
 use Rattle.fixed_price.specs.FixedCase.{fixed_market}
 use Rattle.gap_proof.specs.Candidates.{RowRange, IsFirstLeast}
 use Rattle.gap_proof.specs.Laws.{IsBoundRound}
+use Rattle.hull_report.specs.AuditText.{audit_text}
 use Rattle.hull_report.specs.BoundText.{bound_text}
 use Rattle.hull_report.specs.FaultLines.{status_of, fault_line}
 use Rattle.hull_report.specs.FixedText.{ToldSide, fixed_text}
@@ -23,9 +27,14 @@ use Rattle.hull_report.specs.ReportText.{Report, report_text}
 use Rattle.hull_report.specs.RightReport.{IsRightReport}
 use Rattle.hull_report.specs.RightSide.{IsRightSide, IsMadeUp}
 use Rattle.hull_report.specs.declared.fault.FileKind.{FileKind}
+use Rattle.hull_report.specs.declared.fault.FileKind.TheVariants.{ReportFile}
 use Rattle.hull_report.specs.declared.fault.TopFault.{TopFault}
-use Rattle.hull_report.specs.declared.fault.TopFault.TheVariants.{Words, Read, Memory}
-use Rattle.hull_engine.specs.Steps.{Reads, PlannedCase}
+use Rattle.hull_report.specs.declared.fault.TopFault.TheVariants.{Words, Read, TooBig, Memory}
+use Rattle.hull_report.specs.declared.fault.TopFault.TheVariants.{Report as Unfit}
+use Rattle.report_read.specs.Bounds.{IsReport}
+use Rattle.report_read.specs.Faults.{IsFault}
+use Rattle.report_check.specs.Right.{DiffersFromRight}
+use Rattle.hull_engine.specs.Steps.{Reads, PlannedCase, IsInput}
 use Rattle.hull_engine.specs.Outcome.{Command, command_for, AreReads, HasText, IsOutcome}
 
 -- ---- at most one thing is due
@@ -96,25 +105,20 @@ pub record IsDecided (c : Command) (n : ℕ) (reads : Reads) : Type 0 where
 
 -- ---- what the words alone say
 
--- the fault of words that give no command that is built
+-- the fault of words that give no command
 abbrev pub word_fault : Result Asked WordFault → Option WordFault
-word_fault (Ok (check a)) = None
-word_fault (Ok (price a)) = None
-word_fault (Ok (try a)) = None
-word_fault (Ok (bound a)) = None
-word_fault (Ok (fixed a)) = None
-word_fault (Ok asked) = Some (fault UnknownCommand 1)
+word_fault (Ok asked) = None
 word_fault (Err f) = Some f
 
 -- What a status tells of words. Faulty words end in 1 or 7 and no other words end in 1; a check has
--- no limit of work; no command reads a report yet.
+-- no limit of work; only an audit reads a report.
 pub record FollowsFromWords (words : Result Asked WordFault) (gained short : List ℕ → Type 0)
     (n : ℕ) : Type 0 where
   pub faulty : (f : WordFault) → word_fault words ≡ Some f → (n ≡ 1) ⊎ (n ≡ 7)
   pub at_1 : n ≡ 1 → (f : WordFault) × (word_fault words ≡ Some f)
       × (gained (fault_line (Words f)) ⊎ short (fault_line (Words f)))
   pub check_at_5 : (a : CheckAsked) → words ≡ Ok (check a) → n ≢ 5
-  pub at_8 : n ≢ 8
+  pub at_8 : n ≡ 8 → (a : AuditAsked) × (words ≡ Ok (audit a))
 
 -- ---- what a printed report promises
 
@@ -142,7 +146,8 @@ pub record IsPromised (a : PriceAsked) (told : List ℕ → Option (List ℕ))
 -- text of a bound round the chosen row of a right report. No whole prices within the radius of that
 -- row's prices, and within the limits, have a dual value above the printed bound, and the printed
 -- distance is at least 0.
-pub record IsBoundPromised (a : BoundAsked) (i : PlannedCase) (gained : List ℕ → Type 0) : Type 0 where
+pub record IsBoundPromised (a : BoundAsked) (i : PlannedCase) (gained : List ℕ →
+    Type 0) : Type 0 where
   pub report : Report
   pub right : IsRightReport i.market i.plan a.run.proposals a.run.ahead report
   pub row : Proposal
@@ -170,6 +175,88 @@ pub record IsFixedPromised (a : PriceAsked) (i : PlannedCase) (gained : List ℕ
   pub held_made_up : IsMadeUp i.market i.plan held
   pub cost : i.cost ≡ plan_cost i.market i.plan
   pub printed : gained (fixed_text i.market i.cost hull held)
+
+-- THE PROMISE of `hull audit`, where it answers 0: there are bytes of the case, of the schedule and
+-- of the report, those that are told where any are; the first two are a case and a feasible
+-- schedule of it; the third are the text of a report that is right for its own budget and number of
+-- proposals ahead, whose payments and surplus make up what the chosen value lacks of the cost.
+pub record IsAuditPromised (a : AuditAsked) (told : List ℕ → Option (List ℕ))
+    (gained : List ℕ → Type 0) : Type 0 where
+  pub case_bytes : List ℕ
+  pub case_told : IfSome (told a.case_name) (λ all. case_bytes ≡ all)
+  pub schedule_bytes : List ℕ
+  pub schedule_told : IfSome (told a.schedule_name) (λ all. schedule_bytes ≡ all)
+  pub report_bytes : List ℕ
+  pub report_told : IfSome (told a.report_name) (λ all. report_bytes ≡ all)
+  pub market : Market
+  pub is_case : IsCaseOf case_bytes (Ok market)
+  pub plan : List Schedule
+  pub is_plan : IsPlanOf market schedule_bytes (Ok plan)
+  pub feasible : IsFeasiblePlan market plan
+  pub report : Report
+  pub bounds : IsReport report
+  pub is_report : report_bytes ≡ report_text report
+  pub right : IsRightReport market plan report.budget report.ahead report
+  pub made_up : report.payments +ℤ report.surplus ≡ plan_cost market plan -ℤ report.value
+  pub printed : gained (audit_text (length report.rows))
+
+-- Bytes are the text of a report within the bounds of reading that isn't right for its own budget
+-- and number of proposals ahead, and this is the first line at which they differ from the right
+-- one.
+pub record IsWrongAt (i : PlannedCase) (bytes : List ℕ) (line : ℕ) : Type 0 where
+  pub report : Report
+  pub bounds : IsReport report
+  pub is_text : bytes ≡ report_text report
+  pub wrong : IsRightReport i.market i.plan report.budget report.ahead report → ⊥
+  pub differs : DiffersFromRight i.market i.plan report line
+
+-- And where it answers 8, over an accepted input: the line of a fault that is due was written, as
+-- far as the sink took it. The report's file has more than 67,108,864 bytes; or the line is the
+-- first that is out of form; or the report isn't right, and the line is the first that differs. No
+-- report within the bounds of reading that is right has the bytes, unless they are too many; and
+-- where a wrong line is told, no right report at all has them.
+pub record IsAuditRefused (c : Command) (gained short : List ℕ → Type 0) (reads : Reads)
+    (i : PlannedCase) : Type 0 where
+  pub fault : TopFault
+  pub due : c.IsDue reads (Err fault)
+  pub written : gained (fault_line fault) ⊎ short (fault_line fault)
+  pub input : IsInput reads (Ok i)
+  pub bytes : List ℕ
+  pub is_read : reads ReportFile ≡ Some bytes
+  pub too_big : fault ≡ TooBig ReportFile → MOST_BYTES < length bytes
+  pub unfit : (line : ℕ) → fault ≡ Unfit 60 line → IsFault bytes line
+  pub wrong : (line : ℕ) → fault ≡ Unfit 61 line → IsWrongAt i bytes line
+  pub none : length bytes ≤ MOST_BYTES → (r : Report) → IsReport r →
+      IsRightReport i.market i.plan r.budget r.ahead r → bytes ≡ report_text r → ⊥
+  pub never : (line : ℕ) → fault ≡ Unfit 61 line → (r : Report) →
+      IsRightReport i.market i.plan r.budget r.ahead r → bytes ≡ report_text r → ⊥
+
+-- ---- how many workers there are
+
+-- Two commands read the same files, and over them the same is due and the same texts may be
+-- printed.
+pub record AreAlike (c d : Command) : Type 0 where
+  pub names : c.name_of ≡ d.name_of
+  pub due : (reads : Reads) (found : Result PlannedCase TopFault) →
+      c.IsDue reads found → d.IsDue reads found
+  pub text : (reads : Reads) (i : PlannedCase) (text : List ℕ) →
+      c.IsText reads i text → d.IsText reads i text
+
+-- The number of workers changes nothing that is due and nothing that is printed. So by OneDue and
+-- OneText a status and its bytes follow from the other words and the files.
+abbrev pub WorkersAreFree : Type 0
+WorkersAreFree =
+    (n : ℕ)
+    → ((a : PriceAsked) → AreAlike (command_for (Ok (price a)))
+    (command_for (Ok (price (record a { workers = n })))))
+    × ((a : TryAsked) → AreAlike (command_for (Ok (try a)))
+    (command_for (Ok (try (record a { workers = n })))))
+    × ((a : BoundAsked) → AreAlike (command_for (Ok (bound a)))
+    (command_for (Ok (bound (record a { run = record a.run { workers = n } })))))
+    × ((a : PriceAsked) → AreAlike (command_for (Ok (fixed a)))
+    (command_for (Ok (fixed (record a { workers = n })))))
+    × ((a : AuditAsked) → AreAlike (command_for (Ok (audit a)))
+    (command_for (Ok (audit (record a { workers = n })))))
 
 -- ---- the laws, over a shelf and a sink before and after the run
 
@@ -212,3 +299,10 @@ module _ {F S : Type 0} (told : F → List ℕ → Option (List ℕ)) (faults : 
       (a : PriceAsked) → words_of words ≡ Ok (fixed a) → n ≡ 0 →
       OverReads (command_for (words_of words)) told rose (λ reads. (i : PlannedCase) ×
       (command_for (words_of words)).IsDue reads (Ok i) × IsFixedPromised a i gained))
+
+  abbrev pub AuditsHold : Type 0
+  AuditsHold = OnRuns (λ words told rose gained short n.
+      (a : AuditAsked) → words_of words ≡ Ok (audit a) →
+      (n ≡ 0 → IsAuditPromised a told gained)
+      × (n ≡ 8 → OverReads (command_for (words_of words)) told rose (λ reads.
+      (i : PlannedCase) × IsAuditRefused (command_for (words_of words)) gained short reads i)))

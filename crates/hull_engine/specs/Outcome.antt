@@ -1,25 +1,29 @@
--- WHAT A RUN OF `hull` DOES, to be read from top to bottom (this project's profile; dual value, best
--- responses and payments are those of Gribik, Hogan and Pope 2007). `hull_run` ensures IsOutcome, the
--- record at the foot; before it stand its words: the commands, what was read of their files, and how
--- a run ends. What follows from it in full words is in Laws: IsPromised for `price`, for one.
+-- WHAT A RUN OF `hull` DOES, to be read from top to bottom (this project's profile; dual value,
+-- best responses and payments are those of Gribik, Hogan and Pope 2007). `hull_run` ensures
+-- IsOutcome, the record at the foot; before it stand its words: the commands, what was read of
+-- their files, and how a run ends. What follows from it in full words is in Laws: IsPromised for
+-- `price`, for one.
 --
 -- `told name` is what the shelf tells of a file's bytes, None where it tells none, and `rose name`
--- that its count of faults under that name rose. A real file tells nothing: then all that is said is
--- that there are bytes that fit, and that they are those on the disk is trusted; but the function is
--- one for all shelves, and over one that tells its bytes it can do nothing else. `gained text` is
--- that the sink has got the whole text, `short text` that it has a front of it and its count rose.
--- `(x : T) × P` is read 'there is an x with P', `⊎` 'or', `⊥` 'never'.
+-- that its count of faults under that name rose. A real file tells nothing: then all that is said
+-- is that there are bytes that fit, and that they are those on the disk is trusted; but the
+-- function is one for all shelves, and over one that tells its bytes it can do nothing else.
+-- `gained text` is that the sink has got the whole text, `short text` that it has a front of it and
+-- its count rose. `(x : T) × P` is read 'there is an x with P', `⊎` 'or', `⊥` 'never'.
 --
--- The steps of the commands are in Steps; texts and what makes them right in hull_report: ReportText
--- and RightReport, CheckText, TryText, BoundText, FixedText and RightSide, FaultLines; a case with
--- its schedule's commitments held in fixed_price's FixedCase.
-use Rattle.std.specs.Prelude.{◌≡◌, ◌⊎◌, ℕ, ℤ, List, length, unsigned_abs, Option, None, Some, Result, Ok, Err, IfSome}
+-- The steps of the commands are in Steps; texts and what makes them right in hull_report:
+-- ReportText and RightReport, CheckText, TryText, BoundText, FixedText and RightSide, AuditText,
+-- FaultLines; a case with its schedule's commitments held in fixed_price's FixedCase; which reports
+-- are read, and the first line in fault, in report_read's Bounds and Faults; the first line at
+-- which a report differs from the right one in report_check's Right.
+use Rattle.std.specs.Prelude.{◌≡◌, ◌⊎◌, ℕ, ℤ, List, length, unsigned_abs, Option, None, Some}
+use Rattle.std.specs.Prelude.{Result, Ok, Err, IfSome}
 use Rattle.fixed_price.specs.FixedCase.{fixed_market}
 use Rattle.gap_proof.specs.Candidates.{RowRange, IsFirstLeast}
-use Rattle.hull_words.specs.Asked.{Asked, check, price, try, bound, fixed}
-use Rattle.hull_words.specs.Words.{words_of, fault}
+use Rattle.hull_words.specs.Asked.{Asked, check, price, try, bound, fixed, audit}
+use Rattle.hull_words.specs.Words.{words_of}
 use Rattle.hull_words.specs.declared.fault.WordFault.{WordFault}
-use Rattle.hull_words.specs.declared.fault.WordCode.TheVariants.{UnknownCommand}
+use Rattle.hull_report.specs.AuditText.{audit_text}
 use Rattle.hull_report.specs.BoundText.{bound_text}
 use Rattle.hull_report.specs.CheckText.{check_text}
 use Rattle.hull_report.specs.FaultLines.{status_of, fault_line}
@@ -29,12 +33,14 @@ use Rattle.hull_report.specs.RightReport.{IsRightReport}
 use Rattle.hull_report.specs.RightSide.{IsRightSide}
 use Rattle.hull_report.specs.TryText.{try_text}
 use Rattle.hull_report.specs.declared.fault.FileKind.{FileKind}
-use Rattle.hull_report.specs.declared.fault.FileKind.TheVariants.{CaseFile, ScheduleFile, ReportFile}
+use Rattle.hull_report.specs.declared.fault.FileKind.TheVariants.{CaseFile, ScheduleFile}
+use Rattle.hull_report.specs.declared.fault.FileKind.TheVariants.{ReportFile}
 use Rattle.hull_report.specs.declared.fault.TopFault.{TopFault}
 use Rattle.hull_report.specs.declared.fault.TopFault.TheVariants.{Words, Memory}
 use Rattle.hull_engine.specs.declared.end.End.{End}
 use Rattle.hull_engine.specs.declared.end.End.TheVariants.{Done, Cut, Refused}
 use Rattle.hull_engine.specs.Steps.{Then, Reads, PlannedCase, IsInput, IsMade, IsWithinWork}
+use Rattle.hull_engine.specs.Steps.{IsAudit}
 
 -- ---- the commands
 
@@ -52,6 +58,12 @@ abbrev pub case_and_schedule : (case_name schedule_name : List ℕ) → FileKind
 case_and_schedule case_name schedule_name CaseFile = Some case_name
 case_and_schedule case_name schedule_name ScheduleFile = Some schedule_name
 case_and_schedule case_name schedule_name ReportFile = None
+
+abbrev pub with_report : (case_name schedule_name report_name : List ℕ) → FileKind →
+    Option (List ℕ)
+with_report case_name schedule_name report_name CaseFile = Some case_name
+with_report case_name schedule_name report_name ScheduleFile = Some schedule_name
+with_report case_name schedule_name report_name ReportFile = Some report_name
 
 -- the text of a right report for the input, with that budget and number of proposals ahead
 abbrev pub IsReportText : (Report → List ℕ) → (budget ahead : ℕ) → PlannedCase → List ℕ → Type 0
@@ -75,6 +87,13 @@ IsFixedText budget ahead c text =
     × IsRightSide c.market (fixed_market c.market c.plan) c.plan budget ahead held
     × (text ≡ fixed_text c.market c.cost hull held)
 
+-- the text that tells of the report that was read that it is right for its own budget and number of
+-- proposals ahead
+abbrev pub IsAuditText : Option (List ℕ) → PlannedCase → List ℕ → Type 0
+IsAuditText read c text =
+    (r : Report) × (read ≡ Some (report_text r))
+    × IsRightReport c.market c.plan r.budget r.ahead r × (text ≡ audit_text (length r.rows))
+
 -- words that are refused at once
 abbrev pub refused : WordFault → Command
 refused f = record {
@@ -83,8 +102,7 @@ refused f = record {
   IsText = λ reads c text. ⊥;
 }
 
--- THE COMMAND OF THE WORDS. A further command is a further case here; one that isn't built yet is
--- an unknown one.
+-- THE COMMAND OF THE WORDS. A further command is a further case here.
 abbrev pub command_for : Result Asked WordFault → Command
 -- whether a schedule is feasible, and what it costs
 command_for (Ok (check a)) = record {
@@ -110,13 +128,19 @@ command_for (Ok (bound a)) = record {
   IsDue = λ reads. Then (IsInput reads) (IsWithinWork a.run.proposals);
   IsText = λ reads. IsBoundText a.run.proposals a.run.ahead a.radius;
 }
--- what the units are paid at the prices of the case, and at those with the schedule's commitments held
+-- what the units are paid at the prices of the case, and at those with the schedule's commitments
+-- held
 command_for (Ok (fixed a)) = record {
   name_of = case_and_schedule a.case_name a.schedule_name;
   IsDue = λ reads. Then (IsInput reads) (IsWithinWork a.proposals);
   IsText = λ reads. IsFixedText a.proposals a.ahead;
 }
-command_for (Ok asked) = refused (fault UnknownCommand 1)
+-- whether a report is right
+command_for (Ok (audit a)) = record {
+  name_of = with_report a.case_name a.schedule_name a.report_name;
+  IsDue = λ reads. Then (IsInput reads) (IsAudit reads);
+  IsText = λ reads. IsAuditText (reads ReportFile);
+}
 command_for (Err f) = refused f
 
 -- ---- what was read
@@ -131,7 +155,8 @@ IsReadOf told rose None = rose
 abbrev pub AreReads : (told : List ℕ → Option (List ℕ)) (rose : List ℕ → Type 0) →
     (FileKind → Option (List ℕ)) → Reads → Type 0
 AreReads told rose name_of reads =
-    (file : FileKind) → IfSome (name_of file) (λ name. IsReadOf (told name) (rose name) (reads file))
+    (file : FileKind) →
+    IfSome (name_of file) (λ name. IsReadOf (told name) (rose name) (reads file))
 
 -- ---- how a run ends
 

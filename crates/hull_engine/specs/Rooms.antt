@@ -7,7 +7,8 @@ use Rattle.uc_model.specs.declared.units.Answered.{Answered}
 use Rattle.uplift_settle.specs.declared.settlement.Settlement.{Settlement}
 
 -- an answer over the horizon, the settlement, and so many of the numbers that units earn
-pub record HasRoom (b : Setup) (buffer : Answered) (settlement : Settlement) (earned : ℕ) : Type 0 where
+pub record HasRoom (b : Setup) (buffer : Answered) (settlement : Settlement) (earned : ℕ) : Type
+    0 where
   pub horizon : length (schedule_of buffer.response).on ≡ b.market.periods
   pub scheduled : length settlement.scheduled.items ≡ unit_count b.market
   pub payments : length settlement.payments.items ≡ unit_count b.market

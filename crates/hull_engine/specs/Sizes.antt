@@ -1,7 +1,7 @@
 -- How large a run may be (this project's profile).
 use Rattle.std.specs.Prelude.{ℕ, ◌≤◌, ⊤}
 use Rattle.gap_proof.specs.Sums.{IsRadius}
-use Rattle.hull_words.specs.Asked.{Asked, price, try, bound, fixed}
+use Rattle.hull_words.specs.Asked.{Asked, price, check, try, bound, fixed, audit}
 
 -- the number is from low to high
 pub record IsWithin (low high n : ℕ) : Type 0 where
@@ -28,4 +28,5 @@ HasSizes (price a) = IsRunSize a.proposals a.workers a.ahead
 HasSizes (try a) = IsRunSize a.proposals a.workers a.ahead
 HasSizes (bound a) = IsRunSize a.run.proposals a.run.workers a.run.ahead × IsRadius a.radius
 HasSizes (fixed a) = IsRunSize a.proposals a.workers a.ahead
-HasSizes asked = ⊤
+HasSizes (check a) = ⊤
+HasSizes (audit a) = IsWorkers a.workers

@@ -1,7 +1,8 @@
 -- The steps of a command, in the order in which they refuse: each goes on with what it found, or
--- ends in a refusal (this project's profile). What a file's bytes are is said in uc_case and
--- uc_plan, the rules of a schedule in uc_model.
-use Rattle.std.specs.Prelude.{◌≡◌, ℕ, ◌*◌, ℤ, nat_lt, List, [], length, Option, None, Some, Result, Ok, Err, slice_get, if◌then◌else◌}
+-- ends in a refusal (this project's profile). What a file's bytes are is said in uc_case, uc_plan
+-- and report_read, the rules of a schedule in uc_model, and what a right report is in hull_report.
+use Rattle.std.specs.Prelude.{◌≡◌, ℕ, ◌*◌, ℤ, nat_lt, List, [], length, Option, None, Some, Result}
+use Rattle.std.specs.Prelude.{Ok, Err, slice_get, if◌then◌else◌}
 use Rattle.std.specs.Result.{result_map_both}
 use Rattle.uc_model.specs.Data.{Market, Schedule, unit_count}
 use Rattle.uc_model.specs.Systems.{IsFeasiblePlan, plan_cost}
@@ -17,8 +18,16 @@ use Rattle.plan_check.specs.declared.RuleFault.{RuleFault}
 use Rattle.hull_io.specs.declared.read.TheConstants.{MOST_BYTES}
 use Rattle.hull_report.specs.declared.fault.FileKind.{FileKind}
 use Rattle.hull_report.specs.declared.fault.FileKind.TheVariants.{CaseFile, ScheduleFile}
+use Rattle.hull_report.specs.declared.fault.FileKind.TheVariants.{ReportFile}
 use Rattle.hull_report.specs.declared.fault.TopFault.{TopFault}
-use Rattle.hull_report.specs.declared.fault.TopFault.TheVariants.{Read, CaseText, CaseField, PlanText, PlanShape, PlanRule, TooBig, Work}
+use Rattle.hull_report.specs.declared.fault.TopFault.TheVariants.{Read, CaseText, CaseField}
+use Rattle.hull_report.specs.declared.fault.TopFault.TheVariants.{PlanText, PlanShape, PlanRule}
+use Rattle.hull_report.specs.declared.fault.TopFault.TheVariants.{TooBig, Work, Report as Unfit}
+use Rattle.hull_report.specs.ReportText.{Report, report_text}
+use Rattle.hull_report.specs.RightReport.{IsRightReport}
+use Rattle.report_read.specs.Bounds.{IsReport}
+use Rattle.report_read.specs.Faults.{IsFault}
+use Rattle.report_check.specs.Right.{DiffersFromRight}
 
 -- ---- one step after another
 
@@ -124,3 +133,30 @@ within_work proposals c =
 
 abbrev pub IsWithinWork : ℕ → PlannedCase → Result PlannedCase TopFault → Type 0
 IsWithinWork proposals c due = due ≡ within_work proposals c
+
+-- ---- a report
+
+-- the report within the bounds of reading that bytes are the text of, or else the first line at
+-- which they go on as none does
+abbrev pub IsReportIn : List ℕ → Result Report TopFault → Type 0
+IsReportIn bytes (Ok r) = IsReport r × (bytes ≡ report_text r)
+IsReportIn bytes (Err f) = (line : ℕ) × IsFault bytes line × (f ≡ Unfit 60 line)
+
+-- the report of its file
+abbrev pub IsReportFile : Option (List ℕ) → Result Report TopFault → Type 0
+IsReportFile read = Then (IsBytes ReportFile read) IsReportIn
+
+-- an input is left by a report that is right for its own budget and number of proposals ahead, and
+-- by any other comes the first line at which it differs from the one that is
+abbrev pub IsJudged : Report → PlannedCase → Result PlannedCase TopFault → Type 0
+IsJudged r c (Ok left) =
+    IsRightReport c.market c.plan r.budget r.ahead r × (left ≡ c)
+IsJudged r c (Err f) =
+    (line : ℕ) × (IsRightReport c.market c.plan r.budget r.ahead r → ⊥)
+    × DiffersFromRight c.market c.plan r line × (f ≡ Unfit 61 line)
+
+-- THE AUDIT of an input: the report of its file, then the limit of work for that report's budget,
+-- then whether it is right
+abbrev pub IsAudit : Reads → PlannedCase → Result PlannedCase TopFault → Type 0
+IsAudit reads c =
+    Then (IsReportFile (reads ReportFile)) (λ r. Then (IsWithinWork r.budget c) (IsJudged r))

@@ -1,19 +1,19 @@
 //! What a command answers: its files, its input and its run, up to the first refusal.
 ghost use Rattle.std.specs.Prelude.{◌≡◌, ℕ, List, Ok, Err, None, IfOk, IfErr};
 ghost use Rattle.gap_proof.specs.Sums.{IsRadius};
-ghost use Rattle.hull_io.specs.Edge.{Rose};
-ghost use Rattle.hull_words.specs.Asked.{asked, check, price, try, bound, fixed, check_asked, price_asked};
-ghost use Rattle.hull_words.specs.Words.{texts, fault, words_of};
+ghost use Rattle.hull_words.specs.Asked.{asked, check, price, try, bound, fixed, audit, check_asked, price_asked};
+ghost use Rattle.hull_words.specs.Words.{texts, words_of};
 ghost use Rattle.hull_report.specs.declared.fault.FileKind.{FileKind};
 ghost use Rattle.hull_engine.specs.Steps.{Reads, made_case};
 ghost use Rattle.hull_engine.specs.Outcome.{command_for};
-ghost use Rattle.hull_engine.specs.Answers.{IsFaultOf, IsLaterShelf, HasReads, IsAnswered, IsCommandAnswer};
-ghost use Rattle.hull_engine.specs.Inputs.{planned_of, IsPlanned, IsRunInput, try_asked, bound_asked};
+ghost use Rattle.hull_engine.specs.Answers.{IsFaultOf, IsLaterShelf, HasAnswer, IsAnswered, IsCommandAnswer};
+ghost use Rattle.hull_engine.specs.Inputs.{planned_of, IsPlanned, IsRunInput, try_asked, bound_asked, audit_asked};
 ghost use Rattle.hull_engine.specs.Rounds.{setup_of, IsEnded};
-ghost use Rattle.hull_engine.specs.Sizes.{IsRunSize, HasSizes};
+ghost use Rattle.hull_engine.specs.Sizes.{IsWorkers, IsRunSize, HasSizes};
 
+use crate::audit::right_proposals;
 use crate::bound::{Bounded, bounded_run};
-use crate::files::read_input;
+use crate::files::{read_input, read_report_file};
 use crate::fixed::{Sides, compared_runs};
 use crate::input::{Input, RunInput, RunSize, within_work};
 use crate::run::{Done, open, run_board};
@@ -22,8 +22,7 @@ use case_make::make_case;
 use hull_io::Shelf;
 use hull_report::TopFault;
 use hull_words::{
-    BoundWords, CheckWords, Command, PriceWords, TryWords, WordCode, WordError, WordFault,
-    read_words,
+    AuditWords, BoundWords, CheckWords, Command, PriceWords, TryWords, WordError, read_words,
 };
 use plan_check::costs::cost_of_plan;
 use std::alloc::{AllocError, Global};
@@ -43,6 +42,8 @@ pub enum Answer {
     Bound(Bounded),
     /// What the runs with and without the schedule's commitments held chose, and pay.
     Fixed(Sides),
+    /// That a report of so many proposals is right.
+    Audit(u32),
 }
 
 /// The command that the words give.
@@ -82,10 +83,8 @@ fn answer_check<F: Shelf>(
     shelf: &mut F,
     words: &CheckWords,
 ) -> Result<Answer, TopFault>
-    ensures answers { HasReads (F.told shelf.old)
-        (λ name. Rose F.last (F.faults shelf.old name) (F.faults shelf.new name))
-        (command_for (Ok (check (check_asked words.now)))).name_of
-        (λ reads. IsCommandAnswer (command_for (Ok (check (check_asked words.now)))) reads result) }
+    ensures answers { HasAnswer F.told F.faults F.last shelf.old shelf.new
+        (Ok (check (check_asked words.now))) result }
     ensures answered { IfOk result (λ answer. IsAnswered answer) }
     ensures shelf { IsLaterShelf F.told F.faults shelf.old shelf.new }
 {
@@ -117,10 +116,8 @@ fn answer_price<R: Threads + Wait + Sync, F: Shelf, G: Gate>(
     gate: &G,
 ) -> Result<Answer, TopFault>
     requires { IsRunSize words.now.proposals words.now.workers words.now.ahead }
-    ensures answers { HasReads (F.told shelf.old)
-        (λ name. Rose F.last (F.faults shelf.old name) (F.faults shelf.new name))
-        (command_for (Ok (price (price_asked words.now)))).name_of
-        (λ reads. IsCommandAnswer (command_for (Ok (price (price_asked words.now)))) reads result) }
+    ensures answers { HasAnswer F.told F.faults F.last shelf.old shelf.new
+        (Ok (price (price_asked words.now))) result }
     ensures answered { IfOk result (λ answer. IsAnswered answer) }
     ensures shelf { IsLaterShelf F.told F.faults shelf.old shelf.new }
 {
@@ -141,10 +138,8 @@ fn answer_bound<R: Threads + Wait + Sync, F: Shelf, G: Gate>(
 ) -> Result<Answer, TopFault>
     requires size { IsRunSize words.now.run.proposals words.now.run.workers words.now.run.ahead }
     requires radius { IsRadius words.now.radius }
-    ensures answers { HasReads (F.told shelf.old)
-        (λ name. Rose F.last (F.faults shelf.old name) (F.faults shelf.new name))
-        (command_for (Ok (bound (bound_asked words.now)))).name_of
-        (λ reads. IsCommandAnswer (command_for (Ok (bound (bound_asked words.now)))) reads result) }
+    ensures answers { HasAnswer F.told F.faults F.last shelf.old shelf.new
+        (Ok (bound (bound_asked words.now))) result }
     ensures answered { IfOk result (λ answer. IsAnswered answer) }
     ensures shelf { IsLaterShelf F.told F.faults shelf.old shelf.new }
 {
@@ -164,10 +159,8 @@ fn answer_fixed<R: Threads + Wait + Sync, F: Shelf, G: Gate>(
     gate: &G,
 ) -> Result<Answer, TopFault>
     requires { IsRunSize words.now.proposals words.now.workers words.now.ahead }
-    ensures answers { HasReads (F.told shelf.old)
-        (λ name. Rose F.last (F.faults shelf.old name) (F.faults shelf.new name))
-        (command_for (Ok (fixed (price_asked words.now)))).name_of
-        (λ reads. IsCommandAnswer (command_for (Ok (fixed (price_asked words.now)))) reads result) }
+    ensures answers { HasAnswer F.told F.faults F.last shelf.old shelf.new
+        (Ok (fixed (price_asked words.now))) result }
     ensures answered { IfOk result (λ answer. IsAnswered answer) }
     ensures shelf { IsLaterShelf F.told F.faults shelf.old shelf.new }
 {
@@ -188,19 +181,6 @@ fn made_input(alloc: Global, number: u64) -> Result<Input, AllocError>
     Ok(Input { case, plan, cost })
 }
 
-/// How large the run of `hull try` is.
-fn try_size(words: &TryWords) -> RunSize
-    ensures proposals { result.proposals ≡ words.now.proposals }
-    ensures workers { result.workers ≡ words.now.workers }
-    ensures ahead { result.ahead ≡ words.now.ahead }
-{
-    RunSize {
-        proposals: words.proposals,
-        workers: words.workers,
-        ahead: words.ahead,
-    }
-}
-
 /// What `hull try` answers.
 fn answer_try<R: Threads + Wait + Sync, G: Gate>(
     rt: &R,
@@ -216,18 +196,40 @@ fn answer_try<R: Threads + Wait + Sync, G: Gate>(
     let Ok(input) = made_input(alloc, words.number) else {
         return Err(TopFault::Memory);
     };
-    let run = within_work(input, try_size(words))?;
+    let size = RunSize {
+        proposals: words.proposals,
+        workers: words.workers,
+        ahead: words.ahead,
+    };
+    let run = within_work(input, size)?;
     Ok(Answer::Try(words.number, ended_run(rt, alloc, run, gate)?))
 }
 
-/// A command that isn't built yet is an unknown one.
-fn not_built() -> TopFault
-    ensures { result ≡ TopFault.Words (fault WordCode.UnknownCommand 1) }
+/// What `hull audit` answers. The limit of work is that of a run with the report's own budget.
+fn answer_audit<R: Threads + Wait + Sync, F: Shelf>(
+    rt: &R,
+    alloc: Global,
+    shelf: &mut F,
+    words: &AuditWords,
+) -> Result<Answer, TopFault>
+    requires { IsWorkers words.now.workers }
+    ensures answers { HasAnswer F.told F.faults F.last shelf.old shelf.new
+        (Ok (audit (audit_asked words.now))) result }
+    ensures answered { IfOk result (λ answer. IsAnswered answer) }
+    ensures shelf { IsLaterShelf F.told F.faults shelf.old shelf.new }
 {
-    TopFault::Words(WordFault {
-        code: WordCode::UnknownCommand,
-        place: 1,
-    })
+    let case_name = words.case_name.as_str();
+    let schedule_name = words.schedule_name.as_str();
+    let report_name = words.report_name.as_str();
+    let input = read_input(alloc, shelf, case_name, schedule_name)?;
+    let report = read_report_file(alloc, shelf, report_name)?;
+    let size = RunSize {
+        proposals: report.budget,
+        workers: words.workers,
+        ahead: report.ahead,
+    };
+    let run = within_work(input, size)?;
+    Ok(Answer::Audit(right_proposals(rt, alloc, &run, &report)?))
 }
 
 /// What a command answers.
@@ -239,10 +241,8 @@ fn answer_command<R: Threads + Wait + Sync, F: Shelf, G: Gate>(
     gate: &G,
 ) -> Result<Answer, TopFault>
     requires { HasSizes (asked command.now) }
-    ensures answers { HasReads (F.told shelf.old)
-        (λ name. Rose F.last (F.faults shelf.old name) (F.faults shelf.new name))
-        (command_for (Ok (asked command.now))).name_of
-        (λ reads. IsCommandAnswer (command_for (Ok (asked command.now))) reads result) }
+    ensures answers { HasAnswer F.told F.faults F.last shelf.old shelf.new
+        (Ok (asked command.now)) result }
     ensures answered { IfOk result (λ answer. IsAnswered answer) }
     ensures shelf { IsLaterShelf F.told F.faults shelf.old shelf.new }
     ensures unread { ((file : FileKind) → (command_for (Ok (asked command.now))).name_of file ≡ None)
@@ -254,7 +254,7 @@ fn answer_command<R: Threads + Wait + Sync, F: Shelf, G: Gate>(
         Command::Try(words) => answer_try(rt, alloc, words, gate),
         Command::Bound(words) => answer_bound(rt, alloc, shelf, words, gate),
         Command::Fixed(words) => answer_fixed(rt, alloc, shelf, words, gate),
-        Command::Audit(_) => Err(not_built()),
+        Command::Audit(words) => answer_audit(rt, alloc, shelf, words),
     }
 }
 
@@ -266,10 +266,8 @@ pub fn answer_run<R: Threads + Wait + Sync, F: Shelf, G: Gate>(
     shelf: &mut F,
     gate: &G,
 ) -> Result<Answer, TopFault>
-    ensures answers { HasReads (F.told shelf.old)
-        (λ name. Rose F.last (F.faults shelf.old name) (F.faults shelf.new name))
-        (command_for (words_of (texts words.now))).name_of
-        (λ reads. IsCommandAnswer (command_for (words_of (texts words.now))) reads result) }
+    ensures answers { HasAnswer F.told F.faults F.last shelf.old shelf.new
+        (words_of (texts words.now)) result }
     ensures answered { IfOk result (λ answer. IsAnswered answer) }
     ensures shelf { IsLaterShelf F.told F.faults shelf.old shelf.new }
     ensures unread { ((file : FileKind) → (command_for (words_of (texts words.now))).name_of file ≡ None)

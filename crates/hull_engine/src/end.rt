@@ -18,7 +18,8 @@ use board_core::Closed;
 use hull_io::{Sink, WriteFailed};
 use hull_report::laws::{record_report_is_right, settlements_are_of_all_units};
 use hull_report::{
-    TopFault, write_bound, write_check, write_fault, write_fixed, write_report, write_try,
+    TopFault, write_audit, write_bound, write_check, write_fault, write_fixed, write_report,
+    write_try,
 };
 use std::sync::Wait;
 use std::thread::Threads;
@@ -137,6 +138,7 @@ fn write_answer<S: Sink>(answer: Answer, out: &mut S) -> Result<(), WriteFailed>
         Answer::Fixed(sides) => {
             write_fixed(&sides.case, sides.cost, &sides.hull, &sides.fixed, out)
         }
+        Answer::Audit(proposals) => write_audit(proposals, out),
     }
 }
 

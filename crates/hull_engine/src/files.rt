@@ -1,11 +1,13 @@
 //! The files of a command: the case and its schedule, read and judged in the order of their
-//! refusals.
-ghost use Rattle.std.specs.Prelude.{◌≡◌, ◌≤◌, ℕ, true, List, Option, Vec, length, vec_len, IfOk};
+//! refusals, and a report.
+ghost use Rattle.std.specs.Prelude.{◌≡◌, ◌≤◌, ℕ, true, List, Option, Vec, length, vec_len, map, IfOk};
 ghost use Rattle.std.specs.Global.{Global};
 ghost use Rattle.uc_model.specs.Laws.{HasPlanShape};
 ghost use Rattle.uc_model.specs.PlainCases.{market_of, schedules_of};
 ghost use Rattle.hull_io.specs.Edge.{Rose};
-ghost use Rattle.hull_engine.specs.Steps.{Then, IsBytes, IsCase, IsCaseFile, IsPlan, IsPlanFile, IsChecked, IsInput};
+ghost use Rattle.report_read.specs.Bounds.{IsReport, AreInOrder};
+ghost use Rattle.report_read.specs.Plain.{report_of, told_of};
+ghost use Rattle.hull_engine.specs.Steps.{Then, IsBytes, IsCase, IsCaseFile, IsPlan, IsPlanFile, IsChecked, IsInput, IsReportIn, IsReportFile};
 ghost use Rattle.hull_engine.specs.Outcome.{case_and_schedule};
 ghost use Rattle.hull_engine.specs.Answers.{IsAnswer, IsLaterShelf, HasRead, HasReads};
 ghost use Rattle.hull_engine.specs.Inputs.{planned_of, IsPlanned};
@@ -15,12 +17,16 @@ use hull_io::{MOST_BYTES, ReadFault, Shelf, read_whole};
 use hull_report::{FileKind, TopFault};
 use plan_check::check_plan;
 use plan_check::laws::refusals_are_exact;
+use report_read::{Report, ReportError, read_report};
 use std::alloc::Global;
 use uc_case::fault::CaseFault;
 use uc_case::read_case;
 use uc_model::cases::{Case, Plan};
 use uc_plan::fault::PlanFault;
 use uc_plan::read_plan;
+
+/// The code of a report that isn't in form.
+const OUT_OF_FORM: u32 = 60;
 
 /// The bytes of a file.
 fn read_bytes<F: Shelf>(
@@ -145,4 +151,38 @@ pub fn read_input<F: Shelf>(
 {
     let case = read_case_file(alloc, shelf, case_name)?;
     read_schedule(alloc, shelf, schedule_name, case)
+}
+
+/// The report that bytes are the text of.
+fn report_in(alloc: Global, bytes: &[u8]) -> Result<Report, TopFault>
+    requires { length bytes.now ≤ MOST_BYTES }
+    ensures answers { IsAnswer (IsReportIn bytes.now) report_of result }
+    ensures bounds { IfOk result (λ r. IsReport (report_of r)) }
+    ensures order { IfOk result (λ r. AreInOrder 0 (map told_of r.lines.items)) }
+{
+    match read_report(alloc, bytes) {
+        Ok(report) => Ok(report),
+        Err(ReportError::Fault { line }) => Err(TopFault::Report {
+            code: OUT_OF_FORM,
+            line,
+        }),
+        Err(ReportError::Memory) => Err(TopFault::Memory),
+    }
+}
+
+/// The report of a file.
+pub fn read_report_file<F: Shelf>(
+    alloc: Global,
+    shelf: &mut F,
+    name: &str,
+) -> Result<Report, TopFault>
+    ensures answers { HasRead (F.told shelf.old name.now)
+        (Rose F.last (F.faults shelf.old name.now) (F.faults shelf.new name.now))
+        (λ read. IsAnswer (IsReportFile read) report_of result) }
+    ensures bounds { IfOk result (λ r. IsReport (report_of r)) }
+    ensures order { IfOk result (λ r. AreInOrder 0 (map told_of r.lines.items)) }
+    ensures shelf { IsLaterShelf F.told F.faults shelf.old shelf.new }
+{
+    let bytes = read_bytes(alloc, shelf, name, FileKind::ReportFile)?;
+    report_in(alloc, bytes.as_slice())
 }

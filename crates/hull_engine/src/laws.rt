@@ -1,13 +1,15 @@
 //! Laws over runs: each is the contract of a function that answers nothing. They follow from
 //! `IsOutcome`, which `hull_run` ensures of its run.
-ghost use Rattle.hull_engine.specs.Laws.{OneDue, OneText, AcceptedIsFeasible, EachStatusHasItsCause, WhatWasReadDecides, WordsFollow, ReportsAreRight, BoundsHold, BothGapsAreMadeUp};
+ghost use Rattle.hull_engine.specs.Laws.{OneDue, OneText, AcceptedIsFeasible, EachStatusHasItsCause, WhatWasReadDecides, WordsFollow, ReportsAreRight, BoundsHold, BothGapsAreMadeUp, AuditsHold};
+ghost use Rattle.hull_engine.specs.Laws.{WorkersAreFree};
 
 use gap_proof::laws::run_bounds_hold;
 use hull_io::{Shelf, Sink};
 use hull_report::laws::{
     one_report_is_right, one_row_is_chosen, one_side_is_right, report_payments_make_up_the_gap,
-    side_payments_make_up_the_gap,
+    right_report_has_form, side_payments_make_up_the_gap, text_determines_the_report,
 };
+use report_read::laws::{one_line_differs, one_line_is_in_fault, one_report_has_a_text};
 use uc_case::laws::one_case;
 use uc_plan::laws::one_plan;
 
@@ -18,6 +20,10 @@ pub fn one_thing_is_due()
 {
     one_case();
     one_plan();
+    one_report_has_a_text();
+    one_line_is_in_fault();
+    one_report_is_right();
+    one_line_differs();
 }
 
 /// At most one text may be printed of an input: what `hull price` prints is a function of the case,
@@ -27,6 +33,8 @@ pub fn one_text_is_right()
 {
     one_report_is_right();
     one_side_is_right();
+    text_determines_the_report();
+    right_report_has_form();
 }
 
 /// What a command accepts is a case with a feasible schedule and that schedule's cost.
@@ -46,6 +54,10 @@ pub fn what_was_read_decides<F: Shelf, S: Sink>()
 {
     one_case();
     one_plan();
+    one_report_has_a_text();
+    one_line_is_in_fault();
+    one_report_is_right();
+    one_line_differs();
 }
 
 /// What the words alone say of the status, whatever is told of the files.
@@ -78,3 +90,21 @@ pub fn both_gaps_are_made_up<F: Shelf, S: Sink>()
 {
     side_payments_make_up_the_gap();
 }
+
+/// What `hull audit` promises: where it answers 0, the bytes of the report's file are the text of a
+/// report that is right for its own budget and number of proposals ahead; where it answers 8, the
+/// file has too many bytes, or the line is the first that is out of form, or the first at which the
+/// report differs from the right one.
+pub fn audits_hold<F: Shelf, S: Sink>()
+    ensures { AuditsHold F.told F.faults F.last S.held S.faults S.last }
+{
+    report_payments_make_up_the_gap();
+    text_determines_the_report();
+    right_report_has_form();
+}
+
+/// The number of workers changes nothing that is due and nothing that may be printed, of any
+/// command.
+pub fn workers_are_free()
+    ensures { WorkersAreFree }
+{}

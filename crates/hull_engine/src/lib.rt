@@ -10,6 +10,7 @@ ghost use Rattle.hull_engine.specs.Outcome.{command_for, IsOutcome};
 ghost use Rattle.hull_engine.specs.Answers.{IsLaterShelf};
 
 mod answers;
+mod audit;
 mod bound;
 mod crew;
 mod end;

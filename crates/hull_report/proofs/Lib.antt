@@ -9,7 +9,6 @@ mod NumeralLaws
 mod ChosenRow
 mod UnitLines
 mod Records
-mod Sizes
 mod RecordTexts
 mod RecordLines
 mod WholeReports

@@ -9,7 +9,9 @@ use Rattle.board_core.specs.Setups.{IsSetup}
 use Rattle.board_history.specs.Board.{Answer, Content, rules_of, IsLegalHistory}
 use Rattle.board_history.specs.Calls.{own_rows, has_finished}
 use Rattle.board_history.specs.Rounds.{posts, answer_at}
-use Rattle.board_history.specs.Laws.{RowsAreRight, FinishedHasRow, FinishedIsRun}
+use Rattle.board_history.specs.Bounds.{RowsAreWithin, IsRowWithin}
+use Rattle.board_history.specs.Laws.{FinishedHasRow, FinishedIsRun}
+use Rattle.uc_model.specs.BoundLaws.{PlanCostsAreWithin}
 use Rattle.uc_model.specs.Runs.{Fits}
 use Rattle.uc_model.specs.declared.cases.Case.{Case}
 use Rattle.uc_model.specs.declared.cases.Row.{Row}
@@ -21,13 +23,10 @@ use Rattle.uc_model.specs.PlainCases.{market_of, proposal_of}
 use Rattle.uc_model.specs.PlainUnits.{named_thermal_of, named_renewable_of, named_bid_of, prices_of}
 use Rattle.uc_model.specs.PriceRule.{Proposal}
 use Rattle.uc_model.specs.Sums.{int_at}
-use Rattle.uc_model.specs.Systems.{IsDualValue}
 use Rattle.uc_model.proofs.SignedLaws.{IsWithin, fits_within}
 use Rattle.uplift_settle.specs.declared.settlement.Settlement.{Settlement}
 use Rattle.hull_report.specs.RecordReport.{thermal_names, renewable_names, bid_names, told_line, line_of, lines_from, chosen_of, value_of}
 use Rattle.hull_report.proofs.Records.{chosen_is}
-use Rattle.uc_model.proofs.TotalBounds.{plan_costs_within}
-use Rattle.hull_report.proofs.Sizes.{value_within}
 use Rattle.hull_report.proofs.UnitLines.{length-lines, line_at}
 
 -- ---- names
@@ -195,10 +194,9 @@ pub record IsChosenRow (c : Content) (row : Row) : Type 0 where
   pub value_fits : FitsSigned w128 row.value
   pub gap_fits : FitsSigned w128 (c.setup.cost -ℤ row.value)
 
-pub chosen_row : FinishedHasRow → RowsAreRight Fits → (c : Content) (rows : List Row) (row : Row) → IsSetup c.setup → IsLegalHistory c.setup c.events → has_finished c ≡ true → map proposal_of rows ≡ own_rows c →
+pub chosen_row : FinishedHasRow → RowsAreWithin → PlanCostsAreWithin → (c : Content) (rows : List Row) (row : Row) → IsSetup c.setup → IsLegalHistory c.setup c.events → has_finished c ≡ true → map proposal_of rows ≡ own_rows c →
     row ≡ get_or rows (chosen_of c - 1) row → IsChosenRow c row
-chosen_row has_row rows_fit c rows row setup legal finished e is =
-    let m = c.setup.market in
+chosen_row has_row rows_within costs_within c rows row setup legal finished e is =
     let k = chosen_of c - 1 in
     let long = ap length e in
     let count = length-map rows proposal_of in
@@ -206,18 +204,17 @@ chosen_row has_row rows_fit c rows row setup legal finished e is =
     let first = one.first in
     let last = one.last in
     let inside : k < length rows = omega (arith, long, count, first, last) in
-    let right = (rows_fit c.setup c.events setup.some_ahead legal).each k (proposal_of row) (omega (arith, long, count, inside)) in
-    let dual : IsDualValue m (prices_of row.prices) row.value = subst (λ (r : Proposal). IsDualValue m r.prices r.value) (row_value rows (own_rows c) k row e inside is) right.value in
-    let value = value_within m (prices_of row.prices) row.value setup.market row.prices.valid dual in
-    let costs = subst (IsWithin 100000000000000000000000) (sym setup.cost) (plan_costs_within m c.setup.plan setup.market setup.feasible) in
+    let within = rows_within c.setup c.events setup.market setup.some_ahead legal k (proposal_of row) (omega (arith, long, count, inside)) in
+    let value = (subst (IsRowWithin c.setup.market) (row_value rows (own_rows c) k row e inside is) within).value in
+    let costs = subst (IsWithin 100000000000000000000000) (sym setup.cost) (costs_within c.setup.market c.setup.plan setup.market setup.feasible) in
     let a = costs.at_least in
     let b = costs.at_most in
     let d = value.at_least in
     let f = value.at_most in
     record {
       value_is = value_is c rows k row e inside is refl;
-      value_fits = fits_within w128 200000000000000000000000 row.value value (omega arith);
-      gap_fits = fits_within w128 300000000000000000000000 (c.setup.cost -ℤ row.value) (record { at_least = omega (arith, ints, a, f); at_most = omega (arith, ints, b, d) }) (omega arith);
+      value_fits = fits_within w128 1000000000000000000000000 row.value value (omega arith);
+      gap_fits = fits_within w128 2000000000000000000000000 (c.setup.cost -ℤ row.value) (record { at_least = omega (arith, ints, a, f); at_most = omega (arith, ints, b, d) }) (omega arith);
     }
 
 -- the same of what the program reads of it
@@ -226,10 +223,10 @@ pub record IsTold (c : Content) (cost : ℤ) (row : Row) : Type 0 where
   pub gap_fits : FitsSigned w128 (to_z w128 (of_z w128 cost) -ℤ to_z w128 (of_z w128 row.value))
   pub gap : to_z w128 (of_z w128 (to_z w128 (of_z w128 cost) -ℤ to_z w128 (of_z w128 row.value))) ≡ c.setup.cost -ℤ value_of c
 
-pub choice_told : FinishedHasRow → RowsAreRight Fits → (c : Content) (rows : List Row) (row : Row) (chosen : ℕ) (cost : ℤ) → IsSetup c.setup → IsLegalHistory c.setup c.events → has_finished c ≡ true → map proposal_of rows ≡ own_rows c →
+pub choice_told : FinishedHasRow → RowsAreWithin → PlanCostsAreWithin → (c : Content) (rows : List Row) (row : Row) (chosen : ℕ) (cost : ℤ) → IsSetup c.setup → IsLegalHistory c.setup c.events → has_finished c ≡ true → map proposal_of rows ≡ own_rows c →
     chosen ≡ chosen_of c → row ≡ get_or rows (chosen - 1) row → cost ≡ c.setup.cost → FitsSigned w128 cost → IsTold c cost (get_or rows (chosen - 1) row)
-choice_told has_row rows_fit c rows row chosen cost setup legal finished e at is same fits =
-    let there = chosen_row has_row rows_fit c rows row setup legal finished e (is ∙ ap (λ (n : ℕ). get_or rows (n - 1) row) at) in
+choice_told has_row rows_within costs_within c rows row chosen cost setup legal finished e at is same fits =
+    let there = chosen_row has_row rows_within costs_within c rows row setup legal finished e (is ∙ ap (λ (n : ℕ). get_or rows (n - 1) row) at) in
     let a = to_z-of_z w128 cost fits in
     let b = to_z-of_z w128 row.value there.value_fits in
     let gap_is : to_z w128 (of_z w128 cost) -ℤ to_z w128 (of_z w128 row.value) ≡ c.setup.cost -ℤ row.value = λ i. (a ∙ same) i -ℤ b i in

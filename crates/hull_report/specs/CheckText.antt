@@ -8,5 +8,7 @@ use Rattle.hull_report.specs.Parts.{tally}
 -- only a case with bids says how many there are
 unfoldable pub check_text : Market → ℤ → List ℕ
 check_text m cost = concat (
-    codes "hull-check 1\nperiods " ∷ numeral m.periods ∷ codes " thermal " ∷ numeral (length m.thermal) ∷ codes " renewable " ∷ numeral (length m.flat)
-    ∷ tally (codes " bid ") (length m.bids) ∷ codes "\ncost " ∷ signed_numeral cost ∷ codes "\nfeasible\n" ∷ [])
+    codes "hull-check 1\nperiods " ∷ numeral m.periods ∷ codes " thermal "
+    ∷ numeral (length m.thermal) ∷ codes " renewable " ∷ numeral (length m.flat)
+    ∷ tally (codes " bid ") (length m.bids) ∷ codes "\ncost " ∷ signed_numeral cost
+    ∷ codes "\nfeasible\n" ∷ [])

@@ -35,7 +35,8 @@ status_of (faults.Report code line) = 8
 -- ---- what the line tells behind the status
 
 unfoldable pub words_told : WordFault → List ℕ
-words_told f = concat (codes "words " ∷ numeral (word_code f.code) ∷ codes " " ∷ numeral f.place ∷ [])
+words_told f =
+    concat (codes "words " ∷ numeral (word_code f.code) ∷ codes " " ∷ numeral f.place ∷ [])
 
 unfoldable pub read_told : FileKind → List ℕ
 read_told file = concat (codes "read " ∷ file_word file ∷ [])
@@ -68,7 +69,8 @@ too_big_told file = concat (file_word file ∷ codes " 32" ∷ [])
 
 unfoldable pub work_told : (proposals units periods : ℕ) → List ℕ
 work_told proposals units periods = concat (
-    codes "work " ∷ numeral proposals ∷ codes " " ∷ numeral units ∷ codes " " ∷ numeral periods ∷ [])
+    codes "work " ∷ numeral proposals ∷ codes " " ∷ numeral units ∷ codes " " ∷ numeral periods
+    ∷ [])
 
 unfoldable pub report_told : (code line : ℕ) → List ℕ
 report_told code line = concat (codes "report " ∷ numeral code ∷ codes " at " ∷ numeral line ∷ [])

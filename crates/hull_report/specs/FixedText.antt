@@ -84,7 +84,8 @@ all_paid_text m hull fixed =
 -- the last four lines, with what the schedule costs
 unfoldable pub sums_text : ToldSide → ToldSide → ℤ → List ℕ
 sums_text hull fixed cost = concat (
-    codes "payments hull " ∷ signed_numeral hull.total ∷ codes " fixed " ∷ signed_numeral fixed.total
+    codes "payments hull " ∷ signed_numeral hull.total ∷ codes " fixed "
+    ∷ signed_numeral fixed.total
     ∷ codes "\nsurplus hull " ∷ signed_numeral hull.surplus
     ∷ codes " fixed " ∷ signed_numeral fixed.surplus
     ∷ codes "\ncost " ∷ signed_numeral cost ∷ codes "\nend\n" ∷ [])

@@ -20,15 +20,20 @@ pub record HasForm (r : Report) : Type 0 where
 
 -- the text determines the report
 abbrev pub TextDeterminesReport : Type 0
-TextDeterminesReport = (a b : Report) → HasForm a → HasForm b → report_text a ≡ report_text b → a ≡ b
+TextDeterminesReport =
+    (a b : Report) → HasForm a → HasForm b → report_text a ≡ report_text b → a ≡ b
 
 -- and a right report has that form: at most one has a given text
 abbrev pub RightReportHasForm : Type 0
-RightReportHasForm = (m : Market) (plan : List Schedule) (budget ahead : ℕ) (r : Report) → IsRightReport m plan budget ahead r → HasForm r
+RightReportHasForm =
+    (m : Market) (plan : List Schedule) (budget ahead : ℕ) (r : Report) →
+    IsRightReport m plan budget ahead r → HasForm r
 
 -- where there is a row, one is chosen
 abbrev pub OneIsChosen : Type 0
-OneIsChosen = (rows : List Proposal) → 1 ≤ length rows → (k : ℕ) × (k < length rows) × (chosen_number rows ≡ suc k)
+OneIsChosen =
+    (rows : List Proposal) → 1 ≤ length rows → (k : ℕ) × (k < length rows)
+    × (chosen_number rows ≡ suc k)
 
 -- at most one list of rows is a run
 abbrev pub OneRun : Type 0
@@ -42,9 +47,10 @@ OneRightReport =
     (m : Market) (plan : List Schedule) (budget ahead : ℕ) (r other : Report) →
     IsRightReport m plan budget ahead r → IsRightReport m plan budget ahead other → r ≡ other
 
--- the settlement identity (Gribik, Hogan and Pope 2007) as a right report of a feasible plan tells it: payments and surplus
--- make up what the chosen value lacks of the cost
+-- the settlement identity (Gribik, Hogan and Pope 2007) as a right report of a feasible plan tells
+-- it: payments and surplus make up what the chosen value lacks of the cost
 abbrev pub ReportPaymentsMakeUpTheGap : Type 0
 ReportPaymentsMakeUpTheGap =
     (m : Market) (plan : List Schedule) (budget ahead : ℕ) (r : Report) →
-    IsFeasiblePlan m plan → IsRightReport m plan budget ahead r → r.payments +ℤ r.surplus ≡ r.cost -ℤ r.value
+    IsFeasiblePlan m plan → IsRightReport m plan budget ahead r →
+    r.payments +ℤ r.surplus ≡ r.cost -ℤ r.value

@@ -11,4 +11,5 @@ pub mod TryText
 pub mod Laws
 pub mod RecordReport
 pub mod FixedText
+pub mod AuditText
 pub mod RightSide

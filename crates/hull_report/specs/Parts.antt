@@ -1,9 +1,11 @@
 -- The parts of a text (this project's profile; digits are decimal).
-use Rattle.std.specs.Prelude.{ℕ, ℤ, ◌+◌, ◌-◌, ◌/◌, ◌%◌, ◌==◌, nat_lt, nat_le, ◌&&◌, Bool, true, false, not, List, [], ◌∷◌, ◌++◌, if◌then◌else◌, codes}
+use Rattle.std.specs.Prelude.{ℕ, ℤ, ◌+◌, ◌-◌, ◌/◌, ◌%◌, ◌==◌, nat_lt, nat_le, ◌&&◌, Bool, true}
+use Rattle.std.specs.Prelude.{false, not, List, [], ◌∷◌, ◌++◌, if◌then◌else◌, codes}
 use Rattle.std.specs.List.{flat_map}
 use Rattle.hull_report.specs.Numerals.{numeral, signed_numeral}
 use Rattle.hull_report.specs.declared.parts.Part.{Part}
-use Rattle.hull_report.specs.declared.parts.Part.TheVariants.{Text, Count, Amount, Counts, Numbers, Amounts, Flags, Tally, Name}
+use Rattle.hull_report.specs.declared.parts.Part.TheVariants.{Text, Count, Amount, Counts, Numbers}
+use Rattle.hull_report.specs.declared.parts.Part.TheVariants.{Amounts, Flags, Tally, Name}
 
 -- each number behind a space
 abbrev pub spaced : List ℤ → List ℕ

@@ -1,10 +1,13 @@
--- The report of a record: of what a closed board holds, and of a settlement at its chosen prices (this project's profile).
-use Rattle.std.specs.Prelude.{◌≡◌, ℕ, suc, ◌+◌, ◌-◌, ◌<◌, ◌≤◌, ℤ, ◌-ℤ◌, true, Some, List, [], ◌∷◌, map, length, slice_get}
+-- The report of a record: of what a closed board holds, and of a settlement at its chosen prices
+-- (this project's profile).
+use Rattle.std.specs.Prelude.{◌≡◌, ℕ, suc, ◌+◌, ◌-◌, ◌<◌, ◌≤◌, ℤ, ◌-ℤ◌, true, Some, List, [], ◌∷◌}
+use Rattle.std.specs.Prelude.{map, length, slice_get}
 use Rattle.std.specs.List.{AllZip}
 use Rattle.board_history.specs.Board.{Answer, Content, rules_of, IsLegalHistory}
 use Rattle.board_history.specs.Calls.{own_rows, has_finished}
 use Rattle.board_history.specs.Rounds.{posts, answer_at}
-use Rattle.uc_model.specs.Data.{NamedThermalUnit, NamedRenewableUnit, NamedBidUnit, PriceLists, Schedule, Market, units, unit_count}
+use Rattle.uc_model.specs.Data.{NamedThermalUnit, NamedRenewableUnit, NamedBidUnit, PriceLists}
+use Rattle.uc_model.specs.Data.{Schedule, Market, units, unit_count}
 use Rattle.uc_model.specs.Earnings.{IsTop}
 use Rattle.uc_model.specs.PriceRule.{Proposal, chosen_number}
 use Rattle.uc_model.specs.Sums.{int_at}
@@ -22,13 +25,22 @@ renewable_names m = map (λ (n : NamedRenewableUnit). n.name) m.flat
 abbrev pub bid_names : Market → List (List ℕ)
 bid_names m = map (λ (n : NamedBidUnit). n.name) m.bids
 
--- the line of a unit of that number and name: its answer to the proposal, and its money in the settlement
+-- the line of a unit of that number and name: its answer to the proposal, and its money in the
+-- settlement
 abbrev pub told_line : Answer → (scheduled payment : ℤ) → List ℕ → UnitLine
-told_line a scheduled payment name = record { name = name; earned = a.earned; scheduled = scheduled; payment = payment; response = a.schedule }
+told_line a scheduled payment name =
+    record {
+      name = name;
+      earned = a.earned;
+      scheduled = scheduled;
+      payment = payment;
+      response = a.schedule;
+    }
 
 abbrev pub line_of : Content → Settlement → (proposal number : ℕ) → List ℕ → UnitLine
 line_of c s proposal number name =
-    told_line (answer_at (rules_of c.setup) (posts c.events) proposal number) (int_at s.scheduled.items number) (int_at s.payments.items number) name
+    told_line (answer_at (rules_of c.setup) (posts c.events) proposal number)
+    (int_at s.scheduled.items number) (int_at s.payments.items number) name
 
 -- the lines of units of these names, whose numbers count on from the first
 abbrev pub lines_from : {Line : Type 0} → (ℕ → List ℕ → Line) → ℕ → List (List ℕ) → List Line
@@ -60,8 +72,12 @@ report_of c s = record {
   chosen = chosen_of c;
   value = value_of c;
   thermal = lines_from (line_of c s (chosen_of c)) 0 (thermal_names c.setup.market);
-  renewable = lines_from (line_of c s (chosen_of c)) (length c.setup.market.thermal) (renewable_names c.setup.market);
-  bids = lines_from (line_of c s (chosen_of c)) (length c.setup.market.thermal + length c.setup.market.flat) (bid_names c.setup.market);
+  renewable =
+      lines_from (line_of c s (chosen_of c)) (length c.setup.market.thermal)
+      (renewable_names c.setup.market);
+  bids =
+      lines_from (line_of c s (chosen_of c)) (length c.setup.market.thermal
+      + length c.setup.market.flat) (bid_names c.setup.market);
   surplus = s.surplus;
   payments = s.total;
   gap = c.setup.cost -ℤ value_of c;
@@ -69,7 +85,8 @@ report_of c s = record {
 
 -- ---- where that report is right
 
--- a finished record, of a feasible plan at its cost, with the settlement of that plan at the prices of the chosen row
+-- a finished record, of a feasible plan at its cost, with the settlement of that plan at the prices
+-- of the chosen row
 pub record IsSettledRecord (c : Content) (s : Settlement) (row : Proposal) : Type 0 where
   pub some_unit : 1 ≤ unit_count c.setup.market
   pub some_budget : 1 ≤ c.setup.budget
@@ -79,7 +96,8 @@ pub record IsSettledRecord (c : Content) (s : Settlement) (row : Proposal) : Typ
   pub legal : IsLegalHistory c.setup c.events
   pub finished : has_finished c ≡ true
   pub chosen : slice_get (own_rows c) (chosen_of c - 1) ≡ Some row
-  pub settled : IsSettled c.setup.market c.setup.plan row.prices s.scheduled.items s.payments.items s.surplus s.total
+  pub settled : IsSettled c.setup.market c.setup.plan row.prices s.scheduled.items s.payments.items
+      s.surplus s.total
 
 abbrev pub RecordReportIsRight : Type 0
 RecordReportIsRight =
@@ -89,7 +107,8 @@ RecordReportIsRight =
 -- the settlement of a feasible plan has one number for each unit
 abbrev pub SettlementsAreOfAllUnits : Type 0
 SettlementsAreOfAllUnits =
-    (m : Market) (plan : List Schedule) (π : PriceLists) (scheduled payments : List ℤ) (surplus sum : ℤ) →
+    (m : Market) (plan : List Schedule) (π : PriceLists) (scheduled payments : List ℤ)
+    (surplus sum : ℤ) →
     IsFeasiblePlan m plan → IsSettled m plan π scheduled payments surplus sum →
     (length scheduled ≡ unit_count m) × (length payments ≡ unit_count m)
 
@@ -97,7 +116,8 @@ SettlementsAreOfAllUnits =
 abbrev pub AnswersAreTops : Type 0
 AnswersAreTops =
     (c : Content) (k : ℕ) (row : Proposal) → 1 ≤ c.setup.ahead → IsLegalHistory c.setup c.events →
-    slice_get (own_rows c) k ≡ Some row → (earned : List ℤ) → length earned ≡ unit_count c.setup.market →
+    slice_get (own_rows c) k ≡ Some row → (earned : List ℤ) →
+    length earned ≡ unit_count c.setup.market →
     ((u : ℕ) → u < unit_count c.setup.market →
     int_at earned u ≡ (answer_at (rules_of c.setup) (posts c.events) (suc k) u).earned) →
     AllZip (λ u e. IsTop u row.prices e) (units c.setup.market) earned

@@ -3,7 +3,8 @@ use Rattle.std.specs.Prelude.{ℕ, List, codes}
 use Rattle.uc_model.specs.declared.kinds.Kind.{Kind}
 use Rattle.uc_model.specs.declared.kinds.Kind.TheVariants as kinds
 use Rattle.hull_report.specs.declared.fault.FileKind.{FileKind}
-use Rattle.hull_report.specs.declared.fault.FileKind.TheVariants.{CaseFile, ScheduleFile, ReportFile}
+use Rattle.hull_report.specs.declared.fault.FileKind.TheVariants.{CaseFile, ScheduleFile}
+use Rattle.hull_report.specs.declared.fault.FileKind.TheVariants.{ReportFile}
 
 abbrev pub kind_word : Kind → List ℕ
 kind_word kinds.Case = codes "case"

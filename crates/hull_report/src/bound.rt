@@ -13,8 +13,8 @@ use gap_proof::Certified;
 use hull_io::{Sink, WriteFailed};
 
 /// What the text tells: how many proposals there are, the number of the chosen one and its dual
-/// value, the radius round its prices, the rows from `first` to `last` whose mean gives the bound, and the
-/// bound. Values and bound are in money, the radius in money for a kilowatt and period, and
+/// value, the radius round its prices, the rows from `first` to `last` whose mean gives the bound,
+/// and the bound. Values and bound are in money, the radius in money for a kilowatt and period, and
 /// proposals are numbered from 1.
 #[derive(Clone, Copy)]
 pub struct BoundLines {
@@ -37,7 +37,8 @@ fn distance(lines: &BoundLines) -> i128
 }
 
 /// Writes the lines of `hull bound`. The value and the bound are at most 10^35 in magnitude.
-/// Refused only where the sink's count of faults rose, and then the sink gained a front of the text.
+/// Refused only where the sink's count of faults rose, and then the sink gained a front of the
+/// text.
 #[tactic(auto, unfolding(crate::specs::BoundText::bound_text))]
 pub fn write_bound_lines<S: Sink>(lines: &BoundLines, out: &mut S) -> Result<(), WriteFailed>
     requires value { IsTold lines.now.value }

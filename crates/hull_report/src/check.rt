@@ -10,7 +10,8 @@ use uc_model::cases::Case;
 /// Writes that the schedule is feasible, and its `cost` in money.
 #[tactic(auto, unfolding(crate::specs::CheckText::check_text))]
 pub fn write_check<S: Sink>(case: &Case, cost: i128, out: &mut S) -> Result<(), WriteFailed>
-    ensures { Writes S.held S.faults S.last out.old out.new result (check_text (market_of case.now) cost) }
+    ensures { Writes S.held S.faults S.last out.old out.new result
+        (check_text (market_of case.now) cost) }
 {
     let thermal = case.thermal.len();
     let flat = case.flat.len();

@@ -2,7 +2,10 @@
 ghost use Rattle.std.specs.Prelude.{◌≡◌};
 ghost use Rattle.hull_io.specs.Edge.{Writes};
 ghost use Rattle.hull_report.specs.Words.{kind_word, file_word, file_status};
-ghost use Rattle.hull_report.specs.FaultLines.{status_of, words_told, read_told, text_told, field_told, shape_told, rule_told, too_big_told, work_told, report_told, status_told, fault_told, fault_line};
+ghost use Rattle.hull_report.specs.FaultLines.{status_of, words_told, read_told, text_told};
+ghost use Rattle.hull_report.specs.FaultLines.{field_told, shape_told, rule_told, too_big_told};
+ghost use Rattle.hull_report.specs.FaultLines.{work_told, report_told, status_told, fault_told};
+ghost use Rattle.hull_report.specs.FaultLines.{fault_line};
 
 use crate::parts::{Part, write_parts};
 use hull_io::{Sink, WriteFailed, write_whole};
@@ -238,7 +241,8 @@ fn write_work_fault<S: Sink>(
     periods: u32,
     out: &mut S,
 ) -> Result<(), WriteFailed>
-    ensures { Writes S.held S.faults S.last out.old out.new result (work_told proposals units periods) }
+    ensures { Writes S.held S.faults S.last out.old out.new result
+        (work_told proposals units periods) }
 {
     write_parts(
         out,

@@ -6,7 +6,9 @@ ghost use Rattle.hull_io.specs.Edge.{Writes};
 ghost use Rattle.uc_model.specs.Data.{unit_count};
 ghost use Rattle.uc_model.specs.PlainCases.{market_of};
 ghost use Rattle.uc_model.specs.PlainUnits.{prices_of};
-ghost use Rattle.hull_report.specs.FixedText.{told_of, sides_text, paid_text, paid_line, thermal_paid, renewable_paid, bids_paid, all_paid_text, sums_text, fixed_text};
+ghost use Rattle.hull_report.specs.FixedText.{told_of, sides_text, paid_text, paid_line};
+ghost use Rattle.hull_report.specs.FixedText.{thermal_paid, renewable_paid, bids_paid};
+ghost use Rattle.hull_report.specs.FixedText.{all_paid_text, sums_text, fixed_text};
 ghost use Rattle.hull_report.specs.RightSide.{TellsChoice};
 
 use crate::parts::{Part, write_parts};
@@ -40,8 +42,8 @@ fn copy_prices(from: &Prices, into: &mut Prices)
     copy_list(&from.reserve, &mut into.reserve);
 }
 
-/// The side of a finished record: what it chose, with the chosen prices in `room`, which is over the
-/// record's periods, and the settlement as it is given. Takes no memory.
+/// The side of a finished record: what it chose, with the chosen prices in `room`, which is over
+/// the record's periods, and the settlement as it is given. Takes no memory.
 pub fn chosen_side(closed: &Closed, room: Prices, settlement: Settlement) -> Side
     requires finished { has_finished closed.now ≡ true }
     requires horizon { length (prices_of room).energy ≡ closed.now.setup.market.periods }

@@ -1,7 +1,10 @@
 //! Laws over the texts: each is the contract of a function that does nothing.
-ghost use Rattle.hull_report.specs.Laws.{TextDeterminesReport, RightReportHasForm, OneIsChosen, OneRun, OneRightReport, ReportPaymentsMakeUpTheGap};
-ghost use Rattle.hull_report.specs.RecordReport.{RecordReportIsRight, SettlementsAreOfAllUnits, AnswersAreTops};
-ghost use Rattle.hull_report.specs.RightSide.{OneRightSide, SidePaymentsMakeUpTheGap, SettledSidesAreRight};
+ghost use Rattle.hull_report.specs.Laws.{TextDeterminesReport, RightReportHasForm, OneIsChosen};
+ghost use Rattle.hull_report.specs.Laws.{OneRun, OneRightReport, ReportPaymentsMakeUpTheGap};
+ghost use Rattle.hull_report.specs.RecordReport.{RecordReportIsRight, SettlementsAreOfAllUnits};
+ghost use Rattle.hull_report.specs.RecordReport.{AnswersAreTops};
+ghost use Rattle.hull_report.specs.RightSide.{OneRightSide, SidePaymentsMakeUpTheGap};
+ghost use Rattle.hull_report.specs.RightSide.{SettledSidesAreRight};
 
 use board_history::laws::{answers_fit, finished_has_row, finished_is_run, rows_are_made};
 use uc_model::laws::{one_schedule_is_least, payments_make_up_the_gap};

@@ -1,6 +1,7 @@
 //! The texts that the engine writes: what a command prints, and the line of a fault.
 #![tactic(auto)]
 
+pub mod audit;
 pub mod bound;
 pub mod check;
 pub mod fault;
@@ -11,6 +12,7 @@ mod pieces;
 mod record;
 pub mod report;
 
+pub use audit::write_audit;
 pub use bound::{BoundLines, write_bound, write_bound_lines};
 pub use check::write_check;
 pub use fault::{FileKind, TopFault, write_fault};

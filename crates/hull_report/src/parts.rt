@@ -3,7 +3,8 @@ ghost use Rattle.std.specs.Prelude.{◌≡◌, ◌<◌, ◌++◌};
 ghost use Rattle.std.specs.List.{flat_map, list_all};
 ghost use Rattle.hull_io.specs.Edge.{Writes};
 ghost use Rattle.hull_report.specs.Numerals.{numeral, signed_numeral};
-ghost use Rattle.hull_report.specs.Parts.{part_text, hex_of, stands_as_is, escaped, closed, quoted, tally};
+ghost use Rattle.hull_report.specs.Parts.{part_text, hex_of, stands_as_is, escaped, closed, quoted};
+ghost use Rattle.hull_report.specs.Parts.{tally};
 
 use crate::pieces::{write_amounts, write_counts, write_flags, write_numbers};
 use hull_io::{Sink, WriteFailed, write_whole};

@@ -18,7 +18,8 @@ const LONGEST: usize = 41;
 /// Where there is no room for a number, writes the piece and empties it.
 #[tactic(auto, using(crate::proofs::PieceLemmas::pends_all, crate::proofs::PieceLemmas::pends_none))]
 fn make_room<S: Sink>(out: &mut S, piece: &mut ArrayString<MOST>) -> Result<(), WriteFailed>
-    ensures ok { OnOk result (Pends S.held S.faults out.old out.new piece.new.bytes piece.old.bytes) }
+    ensures ok { OnOk result (Pends S.held S.faults out.old out.new piece.new.bytes
+        piece.old.bytes) }
     ensures room { OnOk result (array_string_len piece.new + LONGEST ≤ MOST) }
     ensures err { OnErr result (FallsShort S.held S.faults S.last out.old out.new piece.old.bytes) }
 {
@@ -36,7 +37,8 @@ fn add_number<S: Sink, I: Integer>(
     piece: &mut ArrayString<MOST>,
     n: I,
 ) -> Result<(), WriteFailed>
-    ensures ok { OnOk result (Pends S.held S.faults out.old out.new piece.new.bytes (piece.old.bytes ++ 32 ∷ I.text n)) }
+    ensures ok { OnOk result (Pends S.held S.faults out.old out.new piece.new.bytes
+        (piece.old.bytes ++ 32 ∷ I.text n)) }
     ensures err { OnErr result (FallsShort S.held S.faults S.last out.old out.new piece.old.bytes) }
 {
     make_room(out, piece)?;
@@ -59,7 +61,8 @@ fn add_flag<S: Sink>(
     piece: &mut ArrayString<MOST>,
     flag: bool,
 ) -> Result<(), WriteFailed>
-    ensures ok { OnOk result (Pends S.held S.faults out.old out.new piece.new.bytes (piece.old.bytes ++ flag_text flag)) }
+    ensures ok { OnOk result (Pends S.held S.faults out.old out.new piece.new.bytes
+        (piece.old.bytes ++ flag_text flag)) }
     ensures err { OnErr result (FallsShort S.held S.faults S.last out.old out.new piece.old.bytes) }
 {
     make_room(out, piece)?;

@@ -5,8 +5,11 @@ ghost use Rattle.board_history.specs.Calls.{own_rows, has_finished};
 ghost use Rattle.hull_io.specs.Edge.{Writes};
 ghost use Rattle.uc_model.specs.Data.{unit_count};
 ghost use Rattle.uc_model.specs.PlainUnits.{schedule_of};
-ghost use Rattle.hull_report.specs.ReportText.{rows_text, head_text, chosen_text, thermal_text, renewable_text, bid_text, report_text};
-ghost use Rattle.hull_report.specs.RecordReport.{line_of, lines_from, thermal_names, renewable_names, bid_names, chosen_of, value_of, report_of, HasNumbers};
+ghost use Rattle.hull_report.specs.ReportText.{rows_text, head_text, chosen_text, thermal_text};
+ghost use Rattle.hull_report.specs.ReportText.{renewable_text, bid_text, report_text};
+ghost use Rattle.hull_report.specs.RecordReport.{line_of, lines_from, thermal_names};
+ghost use Rattle.hull_report.specs.RecordReport.{renewable_names, bid_names, chosen_of, value_of};
+ghost use Rattle.hull_report.specs.RecordReport.{report_of, HasNumbers};
 ghost use Rattle.hull_report.specs.TryText.{try_text};
 
 use crate::parts::{Part, write_parts};
@@ -15,12 +18,14 @@ use crate::report::{
     write_thermal,
 };
 use board_core::Closed;
-use board_history::laws::{finished_has_row, finished_is_run, rows_are_right};
+use board_history::laws::{finished_has_row, finished_is_run, rows_are_within};
 use hull_io::{Sink, WriteFailed};
+use uc_model::laws::plan_costs_are_within;
 use uc_model::units::Answered;
 use uplift_settle::Settlement;
 
-// How many rows there are, the number from 1 of the chosen one, its value, and what the plan costs above it.
+// How many rows there are, the number from 1 of the chosen one, its value, and what the plan costs
+// above it.
 #[derive(Clone, Copy)]
 pub(crate) struct Choice {
     pub(crate) proposals: u32,
@@ -43,7 +48,8 @@ pub(crate) fn choice_of(closed: &Closed) -> Choice
     closed.is_legal();
     finished_has_row();
     finished_is_run();
-    rows_are_right();
+    rows_are_within();
+    plan_costs_are_within();
     let rows = closed.rows();
     let chosen = closed.chosen();
     let value = rows[chosen as usize - 1].value;
@@ -102,7 +108,8 @@ fn take_line(
 ) -> Owed
     requires numbers { HasNumbers closed.now settlement.now proposal }
     requires number { number < unit_count closed.now.setup.market }
-    requires horizon { length (schedule_of buffer.old.response).on ≡ closed.now.setup.market.periods }
+    requires horizon { length (schedule_of buffer.old.response).on
+        ≡ closed.now.setup.market.periods }
     ensures line { (name : List ℕ) → record {
       name = name;
       earned = result.earned;
@@ -110,7 +117,8 @@ fn take_line(
       payment = result.payment;
       response = schedule_of buffer.new.response;
     } ≡ line_of closed.now settlement.now proposal number name }
-    ensures horizon { length (schedule_of buffer.new.response).on ≡ closed.now.setup.market.periods }
+    ensures horizon { length (schedule_of buffer.new.response).on
+        ≡ closed.now.setup.market.periods }
 {
     closed.answer_into(proposal, number, buffer);
     Owed {
@@ -129,9 +137,13 @@ fn write_thermal_lines<S: Sink>(
     out: &mut S,
 ) -> Result<(), WriteFailed>
     requires numbers { HasNumbers closed.now settlement.now proposal }
-    requires horizon { length (schedule_of buffer.old.response).on ≡ closed.now.setup.market.periods }
-    ensures text { Writes S.held S.faults S.last out.old out.new result (flat_map thermal_text (lines_from (line_of closed.now settlement.now proposal) 0 (thermal_names closed.now.setup.market))) }
-    ensures horizon { length (schedule_of buffer.new.response).on ≡ closed.now.setup.market.periods }
+    requires horizon { length (schedule_of buffer.old.response).on
+        ≡ closed.now.setup.market.periods }
+    ensures text { Writes S.held S.faults S.last out.old out.new result
+        (flat_map thermal_text (lines_from (line_of closed.now settlement.now proposal) 0
+        (thermal_names closed.now.setup.market))) }
+    ensures horizon { length (schedule_of buffer.new.response).on
+        ≡ closed.now.setup.market.periods }
 {
     let case = closed.case();
     for (place, named) in case.thermal.as_slice().iter().enumerate() {
@@ -150,9 +162,13 @@ fn write_renewable_lines<S: Sink>(
     out: &mut S,
 ) -> Result<(), WriteFailed>
     requires numbers { HasNumbers closed.now settlement.now proposal }
-    requires horizon { length (schedule_of buffer.old.response).on ≡ closed.now.setup.market.periods }
-    ensures text { Writes S.held S.faults S.last out.old out.new result (flat_map renewable_text (lines_from (line_of closed.now settlement.now proposal) (length closed.now.setup.market.thermal) (renewable_names closed.now.setup.market))) }
-    ensures horizon { length (schedule_of buffer.new.response).on ≡ closed.now.setup.market.periods }
+    requires horizon { length (schedule_of buffer.old.response).on
+        ≡ closed.now.setup.market.periods }
+    ensures text { Writes S.held S.faults S.last out.old out.new result
+        (flat_map renewable_text (lines_from (line_of closed.now settlement.now proposal)
+        (length closed.now.setup.market.thermal) (renewable_names closed.now.setup.market))) }
+    ensures horizon { length (schedule_of buffer.new.response).on
+        ≡ closed.now.setup.market.periods }
 {
     let case = closed.case();
     let first = case.thermal.len();
@@ -172,9 +188,14 @@ fn write_bid_lines<S: Sink>(
     out: &mut S,
 ) -> Result<(), WriteFailed>
     requires numbers { HasNumbers closed.now settlement.now proposal }
-    requires horizon { length (schedule_of buffer.old.response).on ≡ closed.now.setup.market.periods }
-    ensures text { Writes S.held S.faults S.last out.old out.new result (flat_map bid_text (lines_from (line_of closed.now settlement.now proposal) (length closed.now.setup.market.thermal + length closed.now.setup.market.flat) (bid_names closed.now.setup.market))) }
-    ensures horizon { length (schedule_of buffer.new.response).on ≡ closed.now.setup.market.periods }
+    requires horizon { length (schedule_of buffer.old.response).on
+        ≡ closed.now.setup.market.periods }
+    ensures text { Writes S.held S.faults S.last out.old out.new result
+        (flat_map bid_text (lines_from (line_of closed.now settlement.now proposal)
+        (length closed.now.setup.market.thermal + length closed.now.setup.market.flat)
+        (bid_names closed.now.setup.market))) }
+    ensures horizon { length (schedule_of buffer.new.response).on
+        ≡ closed.now.setup.market.periods }
 {
     let case = closed.case();
     let first = case.thermal.len() + case.flat.len();
@@ -194,23 +215,29 @@ fn write_unit_lines<S: Sink>(
     out: &mut S,
 ) -> Result<(), WriteFailed>
     requires numbers { HasNumbers closed.now settlement.now proposal }
-    requires horizon { length (schedule_of buffer.old.response).on ≡ closed.now.setup.market.periods }
+    requires horizon { length (schedule_of buffer.old.response).on
+        ≡ closed.now.setup.market.periods }
     ensures text { Writes S.held S.faults S.last out.old out.new result (
         flat_map thermal_text (lines_from (line_of closed.now settlement.now proposal) 0 (thermal_names closed.now.setup.market))
-        ++ flat_map renewable_text (lines_from (line_of closed.now settlement.now proposal) (length closed.now.setup.market.thermal) (renewable_names closed.now.setup.market))
-        ++ flat_map bid_text (lines_from (line_of closed.now settlement.now proposal) (length closed.now.setup.market.thermal + length closed.now.setup.market.flat) (bid_names closed.now.setup.market))
+        ++ flat_map renewable_text (lines_from (line_of closed.now settlement.now proposal)
+        (length closed.now.setup.market.thermal) (renewable_names closed.now.setup.market))
+        ++ flat_map bid_text (lines_from (line_of closed.now settlement.now proposal)
+        (length closed.now.setup.market.thermal + length closed.now.setup.market.flat)
+        (bid_names closed.now.setup.market))
         ) }
-    ensures horizon { length (schedule_of buffer.new.response).on ≡ closed.now.setup.market.periods }
+    ensures horizon { length (schedule_of buffer.new.response).on
+        ≡ closed.now.setup.market.periods }
 {
     write_thermal_lines(closed, settlement, proposal, buffer, out)?;
     write_renewable_lines(closed, settlement, proposal, buffer, out)?;
     write_bid_lines(closed, settlement, proposal, buffer, out)
 }
 
-/// Writes the report of a finished record with its settlement: every proposal, the chosen one, and for each unit and bid
-/// its response at the chosen prices, what that earns, what its schedule in the plan earns, and its payment. The lists of
-/// the settlement have one number for each unit and bid; the buffer is over the periods of the case, and holds the last
-/// response at the end. Refused only where the sink's count of faults rose, and then the sink gained a front of the text.
+/// Writes the report of a finished record with its settlement: every proposal, the chosen one, and
+/// for each unit and bid its response at the chosen prices, what that earns, what its schedule in
+/// the plan earns, and its payment. The lists of the settlement have one number for each unit and
+/// bid; the buffer is over the periods of the case, and holds the last response at the end. Refused
+/// only where the sink's count of faults rose, and then the sink gained a front of the text.
 pub fn write_report<S: Sink>(
     closed: &Closed,
     settlement: &Settlement,
@@ -218,11 +245,15 @@ pub fn write_report<S: Sink>(
     out: &mut S,
 ) -> Result<(), WriteFailed>
     requires finished { has_finished closed.now ≡ true }
-    requires scheduled { length settlement.now.scheduled.items ≡ unit_count closed.now.setup.market }
+    requires scheduled { length settlement.now.scheduled.items
+        ≡ unit_count closed.now.setup.market }
     requires payments { length settlement.now.payments.items ≡ unit_count closed.now.setup.market }
-    requires horizon { length (schedule_of buffer.old.response).on ≡ closed.now.setup.market.periods }
-    ensures text { Writes S.held S.faults S.last out.old out.new result (report_text (report_of closed.now settlement.now)) }
-    ensures horizon { length (schedule_of buffer.new.response).on ≡ closed.now.setup.market.periods }
+    requires horizon { length (schedule_of buffer.old.response).on
+        ≡ closed.now.setup.market.periods }
+    ensures text { Writes S.held S.faults S.last out.old out.new result
+        (report_text (report_of closed.now settlement.now)) }
+    ensures horizon { length (schedule_of buffer.new.response).on
+        ≡ closed.now.setup.market.periods }
 {
     let choice = choice_of(closed);
     write_proposals(closed, choice, out)?;
@@ -230,9 +261,9 @@ pub fn write_report<S: Sink>(
     write_foot(settlement.surplus, settlement.total, choice.gap, out)
 }
 
-/// Writes the lines of `hull try` for the case that `number` generates: what the report of its finished record tells
-/// beside rows and units. Refused only where the sink's count of faults rose, and then the sink gained a front of the
-/// text.
+/// Writes the lines of `hull try` for the case that `number` generates: what the report of its
+/// finished record tells beside rows and units. Refused only where the sink's count of faults rose,
+/// and then the sink gained a front of the text.
 pub fn write_try<S: Sink>(
     number: u64,
     closed: &Closed,
@@ -240,7 +271,8 @@ pub fn write_try<S: Sink>(
     out: &mut S,
 ) -> Result<(), WriteFailed>
     requires finished { has_finished closed.now ≡ true }
-    ensures { Writes S.held S.faults S.last out.old out.new result (try_text number (report_of closed.now settlement.now)) }
+    ensures { Writes S.held S.faults S.last out.old out.new result
+        (try_text number (report_of closed.now settlement.now)) }
 {
     let case = closed.case();
     let thermal = case.thermal.len();

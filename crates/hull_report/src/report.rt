@@ -3,15 +3,17 @@ ghost use Rattle.std.specs.Prelude.{◌≤◌, length, map};
 ghost use Rattle.hull_io.specs.Edge.{Writes};
 ghost use Rattle.uc_model.specs.PlainUnits.{schedule_of};
 ghost use Rattle.uc_model.specs.PlainCases.{proposal_of};
-ghost use Rattle.hull_report.specs.ReportText.{head_text, row_text, rows_text, chosen_text, thermal_text, flat_text, renewable_text, bid_text, foot_text};
+ghost use Rattle.hull_report.specs.ReportText.{head_text, row_text, rows_text, chosen_text};
+ghost use Rattle.hull_report.specs.ReportText.{thermal_text, flat_text, renewable_text, bid_text};
+ghost use Rattle.hull_report.specs.ReportText.{foot_text};
 
 use crate::parts::{Part, write_parts};
 use hull_io::{Sink, WriteFailed};
 use uc_model::cases::Row;
 use uc_model::units::Response;
 
-/// What a report begins with: the number of periods and of units with bids, the budget and the number ahead, the cost
-/// of the plan in money, and the number of proposals.
+/// What a report begins with: the number of periods and of units with bids, the budget and the
+/// number ahead, the cost of the plan in money, and the number of proposals.
 #[derive(Clone, Copy)]
 pub struct Head {
     pub periods: u32,
@@ -33,7 +35,9 @@ pub struct Owed {
 /// Writes the lines before the proposals.
 #[tactic(auto, unfolding(crate::specs::ReportText::head_text))]
 pub fn write_head<S: Sink>(head: &Head, out: &mut S) -> Result<(), WriteFailed>
-    ensures { Writes S.held S.faults S.last out.old out.new result (head_text head.now.periods head.now.units head.now.budget head.now.ahead head.now.cost head.now.proposals) }
+    ensures { Writes S.held S.faults S.last out.old out.new result
+        (head_text head.now.periods head.now.units head.now.budget head.now.ahead head.now.cost
+        head.now.proposals) }
 {
     write_parts(
         out,
@@ -58,7 +62,8 @@ pub fn write_head<S: Sink>(head: &Head, out: &mut S) -> Result<(), WriteFailed>
 /// Writes a proposal: its prices, its dual value, and the totals of the best responses to it.
 #[tactic(auto, unfolding(crate::specs::ReportText::row_text))]
 pub fn write_row<S: Sink>(number: u32, row: &Row, out: &mut S) -> Result<(), WriteFailed>
-    ensures { Writes S.held S.faults S.last out.old out.new result (row_text number (proposal_of row.now)) }
+    ensures { Writes S.held S.faults S.last out.old out.new result
+        (row_text number (proposal_of row.now)) }
 {
     let energy = row.prices.energy.as_slice();
     let reserve = row.prices.reserve.as_slice();
@@ -87,7 +92,8 @@ pub fn write_row<S: Sink>(number: u32, row: &Row, out: &mut S) -> Result<(), Wri
 /// Writes the proposals, numbered from 1.
 pub fn write_rows<S: Sink>(rows: &[Row], out: &mut S) -> Result<(), WriteFailed>
     requires { length rows.now ≤ 10000 }
-    ensures { Writes S.held S.faults S.last out.old out.new result (rows_text 1 (map proposal_of rows.now)) }
+    ensures { Writes S.held S.faults S.last out.old out.new result
+        (rows_text 1 (map proposal_of rows.now)) }
 {
     for (place, row) in rows.iter().enumerate() {
         write_row(1 + place as u32, row, out)?;
@@ -232,8 +238,8 @@ pub fn write_bid<S: Sink>(
     write_flat(b"unit bid ", name, owed, response, out)
 }
 
-/// Writes the lines behind the units: what the surplus reserve of the plan is worth, the sum of the payments, and the
-/// cost of the plan less the chosen value, in money.
+/// Writes the lines behind the units: what the surplus reserve of the plan is worth, the sum of the
+/// payments, and the cost of the plan less the chosen value, in money.
 #[tactic(auto, unfolding(crate::specs::ReportText::foot_text))]
 pub fn write_foot<S: Sink>(
     surplus: i128,
@@ -241,7 +247,8 @@ pub fn write_foot<S: Sink>(
     gap: i128,
     out: &mut S,
 ) -> Result<(), WriteFailed>
-    ensures { Writes S.held S.faults S.last out.old out.new result (foot_text surplus payments gap) }
+    ensures { Writes S.held S.faults S.last out.old out.new result
+        (foot_text surplus payments gap) }
 {
     write_parts(
         out,

@@ -1,6 +1,6 @@
 -- wrong.rt: lines that are compared one by one, and behind one another
 pub mod Comparing
--- answer.rt, due.rt, units.rt: the unit of a number
+-- due.rt, units.rt: the title and the lines of a number
 pub mod UnitLaws
 -- a line tells its numbers, since a text tells its report
 pub mod OneLine
@@ -20,3 +20,5 @@ pub mod RightReports
 pub mod Verdicts
 -- report.rt: all lines, part by part
 pub mod WholeCompared
+-- audit.rt: what the first lines tell, and how many rows that takes
+pub mod Early

@@ -25,6 +25,8 @@ use Rattle.report_check.specs.ReportLines.{unit_lines, report_lines, head_lines,
 use Rattle.report_check.specs.ReportLines.{told_lines}
 use Rattle.report_check.specs.RightLines.{Answers, titles, told_from, right_of, whole_lines}
 use Rattle.report_check.proofs.RightReports.{right_lined, ordered}
+use Rattle.report_check.specs.declared.audit.Audit.{Audit}
+use Rattle.report_check.specs.declared.audit.Audit.TheVariants.{Right, Wrong}
 use Rattle.report_check.specs.declared.wrong.WrongLine.{WrongLine}
 use Rattle.report_check.proofs.FirstLine.{differ_there, not_same}
 use Rattle.report_check.proofs.LineBytes.{report_are_lines}
@@ -105,3 +107,12 @@ module _ (law : TextDeterminesReport) (r right : Report) where
   pub not_right : (m : Market) (plan : List Schedule) (budget ahead : ℕ) (wrong : WrongLine) → OneRightReport → IsRightReport m plan budget ahead right
       → Compares 1 (Err wrong) (report_lines r) (report_lines right) → IsRightReport m plan budget ahead r → ⊥
   not_right m plan budget ahead wrong one is h mine = not_same law (report_lines r) (report_lines right) h.0 h.1 (ap report_lines (one m plan budget ahead r right mine is))
+
+-- ---- what an audit comes to
+
+abbrev IsWrong : Audit → Type 0
+IsWrong Right = ⊥
+IsWrong (Wrong line) = Unit {0}
+
+pub wrong_right : (line : ℕ) → Wrong line ≡ Right → ⊥
+wrong_right line e = subst IsWrong e tt

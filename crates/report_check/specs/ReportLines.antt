@@ -20,12 +20,19 @@ count_line word n = line word (numeral n)
 abbrev pub amount_line : List ℕ → ℤ → List ℕ
 amount_line word x = line word (signed_numeral x)
 
-abbrev pub head_lines : Report → List (List ℕ)
-head_lines r =
+-- the first six lines, which tell nothing of proposals
+abbrev pub opening_lines : Report → List (List ℕ)
+opening_lines r =
     codes "hull-report 1\n" ∷ count_line (codes "periods ") r.periods
     ∷ count_line (codes "units ") r.units ∷ count_line (codes "budget ") r.budget
-    ∷ count_line (codes "ahead ") r.ahead ∷ amount_line (codes "cost ") r.cost
-    ∷ count_line (codes "proposals ") (length r.rows) ∷ []
+    ∷ count_line (codes "ahead ") r.ahead ∷ amount_line (codes "cost ") r.cost ∷ []
+
+-- how many proposals there are
+abbrev pub number_line : ℕ → List ℕ
+number_line proposals = count_line (codes "proposals ") proposals
+
+abbrev pub head_lines : Report → List (List ℕ)
+head_lines r = opening_lines r ++ number_line (length r.rows) ∷ []
 
 abbrev pub row_lines : ℕ → Proposal → List (List ℕ)
 row_lines number r =
@@ -73,9 +80,13 @@ foot_lines surplus payments gap =
     amount_line (codes "surplus ") surplus ∷ amount_line (codes "payments ") payments
     ∷ amount_line (codes "gap ") gap ∷ codes "end\n" ∷ []
 
-abbrev pub report_lines : Report → List (List ℕ)
-report_lines r =
-    head_lines r ++ (rows_lines 1 r.rows ++ (chosen_text r.chosen r.value ∷ (
+-- all lines behind the head
+abbrev pub later_lines : Report → List (List ℕ)
+later_lines r =
+    rows_lines 1 r.rows ++ (chosen_text r.chosen r.value ∷ (
     flat_map (unit_lines kinds.Thermal) r.thermal ++ (
     flat_map (unit_lines kinds.Renewable) r.renewable ++ (
-    flat_map (unit_lines kinds.Bid) r.bids ++ foot_lines r.surplus r.payments r.gap)))))
+    flat_map (unit_lines kinds.Bid) r.bids ++ foot_lines r.surplus r.payments r.gap))))
+
+abbrev pub report_lines : Report → List (List ℕ)
+report_lines r = head_lines r ++ later_lines r

@@ -10,3 +10,8 @@ abbrev pub DiffersFromRight : Market → List Schedule → Report → ℕ → Ty
 DiffersFromRight m plan r line =
     (right : Report) × IsRightReport m plan r.budget r.ahead right
     × DiffersAt (report_text r) (report_text right) line
+
+-- the report isn't right, and this is where it first differs
+abbrev pub IsWrongFrom : Market → List Schedule → Report → ℕ → Type 0
+IsWrongFrom m plan r line =
+    DiffersFromRight m plan r line × (IsRightReport m plan r.budget r.ahead r → ⊥)

@@ -1,7 +1,6 @@
 //! Where a report first differs from the right one of its case and plan, and whether it does.
 #![tactic(auto)]
 
-mod answer;
 mod audit;
 mod desk;
 mod due;

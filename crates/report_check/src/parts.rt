@@ -7,8 +7,9 @@ ghost use Rattle.uc_model.specs.PlainCases.{market_of};
 ghost use Rattle.hull_report.specs.ReportText.{Report as PlainReport, chosen_text};
 ghost use Rattle.report_read.specs.Plain.{report_of};
 ghost use Rattle.report_check.specs.Compared.{Compares};
-ghost use Rattle.report_check.specs.ReportLines.{head_lines, foot_lines};
-ghost use Rattle.report_check.specs.Heads.{right_head};
+ghost use Rattle.report_check.specs.ReportLines.{opening_lines, number_line, head_lines};
+ghost use Rattle.report_check.specs.ReportLines.{foot_lines};
+ghost use Rattle.report_check.specs.Heads.{right_opening, right_head};
 
 use crate::lines::{same_amount, same_count};
 use crate::wrong::{WrongLine, all_same};
@@ -30,7 +31,36 @@ fn same_choice(report: &Report, chosen: usize, value: i128) -> bool
     report.chosen as usize == chosen && report.chosen_value == value
 }
 
-/// The first seven lines. Budget and number of proposals ahead are the report's own.
+/// The first six lines. Budget and number of proposals ahead are the report's own.
+pub fn opening_same(case: &Case, cost: i128, report: &Report) -> Result<u32, WrongLine>
+    ensures lines { Compares 1 result (opening_lines (report_of report.now))
+        (right_opening (market_of case.now) cost (report_of report.now)) }
+    ensures units { IfOk result (λ next. report.now.units ≡ unit_count (market_of case.now)) }
+    ensures next { IfOk result (λ next. next ≡ 7) }
+{
+    let same = [
+        true,
+        same_count(report.periods, case.periods),
+        same_count(report.units, case.unit_count()),
+        true,
+        true,
+        same_amount(&report.cost, &cost),
+    ];
+    all_same(1, &same)
+}
+
+/// The line that says how many proposals there are.
+fn number_same(first: u32, proposals: usize, report: &Report) -> Result<u32, WrongLine>
+    requires { first + 1 < 2 ^ 32 }
+    ensures lines { Compares first result
+        (number_line (length (report_of report.now).rows) ∷ []) (number_line proposals ∷ []) }
+    ensures proposals { IfOk result (λ next. length report.now.rows.items ≡ proposals) }
+    ensures next { IfOk result (λ next. next ≡ first + 1) }
+{
+    all_same(first, &[same_length(report, proposals)])
+}
+
+/// The first seven lines.
 pub fn head_same(
     case: &Case,
     cost: i128,
@@ -43,16 +73,8 @@ pub fn head_same(
     ensures proposals { IfOk result (λ next. length report.now.rows.items ≡ proposals) }
     ensures next { IfOk result (λ next. next ≡ 8) }
 {
-    let same = [
-        true,
-        same_count(report.periods, case.periods),
-        same_count(report.units, case.unit_count()),
-        true,
-        true,
-        same_amount(&report.cost, &cost),
-        same_length(report, proposals),
-    ];
-    all_same(1, &same)
+    let line = opening_same(case, cost, report)?;
+    number_same(line, proposals, report)
 }
 
 /// The line of the chosen proposal.

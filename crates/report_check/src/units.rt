@@ -13,10 +13,11 @@ ghost use Rattle.report_check.specs.Compared.{Compares};
 ghost use Rattle.report_check.specs.ReportLines.{response_lines, unit_lines, told_lines};
 ghost use Rattle.report_check.specs.RightLines.{answers_of, titles, told_from};
 
-use crate::answer::answer_at;
 use crate::due::{Title, title_at};
 use crate::lines::{same_flags, same_name, same_powers};
 use crate::wrong::{WrongLine, all_same};
+use fixed_price::answer_at;
+use fixed_price::laws::units_can_answer;
 use hull_report::report::Owed;
 use report_read::UnitLine;
 use slope_list::Slopes;
@@ -137,6 +138,7 @@ pub fn units_same(
     ensures few { IfOk result (λ next. next ≤ first + 4 * length lines.now) }
 {
     one_schedule_is_least();
+    units_can_answer();
     let mut line = first;
     for number in 0..lines.len() {
         answer_at(bench, case, prices, number, answer);

@@ -1,7 +1,8 @@
 //! Lists over the periods: each item behind a space.
 ghost use Rattle.std.specs.Prelude.{◌≡◌, ◌≤◌, []};
 ghost use Rattle.report_read.specs.Words.{Finds, spaced, flag_at as flag_spec, items_at};
-ghost use Rattle.report_read.specs.Lines.{price_at as price_spec, total_at as total_spec, power_at as power_spec};
+ghost use Rattle.report_read.specs.Lines.{price_at as price_spec, total_at as total_spec};
+ghost use Rattle.report_read.specs.Lines.{power_at as power_spec};
 
 use crate::numbers::{amount_at, count_at, number_at};
 use crate::words::behind;

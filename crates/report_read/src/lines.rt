@@ -1,8 +1,12 @@
 //! Lines of one form each, and the line in fault where one isn't in form.
 ghost use Rattle.std.specs.Prelude.{◌≡◌, ◌≤◌, []};
-ghost use Rattle.report_read.specs.Words.{Finds, spaced, flag_at, items_at, count_at as count_found};
-ghost use Rattle.report_read.specs.LineForms.{word_line as word_form, plain_line as plain_form, value_line as value_form, amount_at as amount_found};
-ghost use Rattle.report_read.specs.Lines.{Gives, line, count_line as count_spec, amount_line as amount_spec, list_line, price_at, total_at, power_at};
+ghost use Rattle.report_read.specs.Words.{Finds, spaced, flag_at, items_at};
+ghost use Rattle.report_read.specs.Words.{count_at as count_found};
+ghost use Rattle.report_read.specs.LineForms.{word_line as word_form, plain_line as plain_form};
+ghost use Rattle.report_read.specs.LineForms.{value_line as value_form, amount_at as amount_found};
+ghost use Rattle.report_read.specs.Lines.{Gives, line, count_line as count_spec};
+ghost use Rattle.report_read.specs.Lines.{amount_line as amount_spec, list_line, price_at};
+ghost use Rattle.report_read.specs.Lines.{total_at, power_at};
 
 use crate::items::{flags_at, powers_at, prices_at, totals_at};
 use crate::numbers::{amount_at, count_at};

@@ -1,6 +1,10 @@
 //! Names between double quotes.
 ghost use Rattle.std.specs.Prelude.{◌≡◌, length};
-ghost use Rattle.report_read.specs.Words.{Finds, hex_value as hex_spec, two_digits as two_spec, control_at as control_spec, backslashed_at as backslashed_spec, escaped_at as escaped_spec, closed_within, name_at as name_spec, FindsIfOk};
+ghost use Rattle.report_read.specs.Words.{Finds, hex_value as hex_spec, two_digits as two_spec};
+ghost use Rattle.report_read.specs.Words.{control_at as control_spec};
+ghost use Rattle.report_read.specs.Words.{backslashed_at as backslashed_spec};
+ghost use Rattle.report_read.specs.Words.{escaped_at as escaped_spec, closed_within};
+ghost use Rattle.report_read.specs.Words.{name_at as name_spec, FindsIfOk};
 ghost use Rattle.hull_report.specs.Parts.{stands_as_is};
 
 use crate::words::behind;

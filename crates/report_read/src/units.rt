@@ -3,8 +3,11 @@ ghost use Rattle.std.specs.Prelude.{◌≡◌, ◌≤◌, map};
 ghost use Rattle.uc_model.specs.PlainUnits.{schedule_of};
 ghost use Rattle.report_read.specs.Plain.{rank as rank_spec, told_of};
 ghost use Rattle.report_read.specs.Words.{Finds, FindsIfOk, kind_at as kind_spec};
-ghost use Rattle.report_read.specs.LineForms.{number_at as number_spec, after, owed_at as owed_spec, opening_at as opening_spec, title_line as title_spec, titled};
-ghost use Rattle.report_read.specs.Lines.{Gives, line, thermal_at, other_at, response_at, unit_at, units_at};
+ghost use Rattle.report_read.specs.LineForms.{number_at as number_spec, after};
+ghost use Rattle.report_read.specs.LineForms.{owed_at as owed_spec, opening_at as opening_spec};
+ghost use Rattle.report_read.specs.LineForms.{title_line as title_spec, titled};
+ghost use Rattle.report_read.specs.Lines.{Gives, line, thermal_at, other_at, response_at, unit_at};
+ghost use Rattle.report_read.specs.Lines.{units_at};
 
 use crate::lines::{flags_line, powers_line};
 use crate::names::name_at;

@@ -3,7 +3,8 @@ ghost use Rattle.std.specs.Prelude.{All, List, ◌≡◌, ◌+◌, ◌<◌, ◌�
 ghost use Rattle.std.specs.Prelude.{MatchOption};
 ghost use Rattle.crossbeam_deque.specs.Steals.{MatchSteal};
 ghost use Rattle.crossbeam_deque.specs.Injected.{injector_view, IsInjectorPassOf};
-ghost use Rattle.crossbeam_deque.specs.Handles.{worker_view, worker_flavor, worker_port, SameWorker};
+ghost use Rattle.crossbeam_deque.specs.Handles.{worker_view, worker_flavor, worker_port};
+ghost use Rattle.crossbeam_deque.specs.Handles.{SameWorker};
 ghost use Rattle.task_deal.specs.declared.rule.Account.{Account};
 ghost use Rattle.task_deal.specs.Drains.{RanTaken};
 ghost use Rattle.task_deal.specs.Jobs.{HasRun, IsDealt};

@@ -174,8 +174,8 @@ fn two_jobs_run_on_two_threads(rt: HostRuntime) -> Result<(), AllocError> {
     Ok(())
 }
 
-// While one job waits in its second run, at most 34 numbers have been taken for it: the first alone,
-// and the second with a batch of at most 32 more. So there are numbers left for the other.
+// While one job waits in its second run, at most 34 numbers have been taken for it: the first
+// alone, and the second with a batch of at most 32 more. So there are numbers left for the other.
 #[test]
 fn both_jobs_go_on_after_their_first_number(rt: HostRuntime) -> Result<(), AllocError> {
     let (one, two) = (AtomicUsize::new(0), AtomicUsize::new(0));

@@ -6,6 +6,7 @@ ghost use Rattle.uc_model.specs.PlainCases.{market_of};
 ghost use Rattle.dealt_run.specs.Benches.{IsBenchOver};
 
 use crate::boards::{CASE, PLAN};
+use fixed_price::laws::benches_serve_all;
 use plan_check::check_plan;
 use report_check::{Audit, check_report};
 use report_read::read_report;
@@ -20,7 +21,6 @@ use uc_model::cases::Case;
 use uc_model::limits::MOST_POINTS;
 use uc_plan::read_plan;
 use unit_program::Bench;
-use unit_program::laws::benches_serve_less;
 
 const RIGHT: &str = "hull-report 1\n\
     periods 1\nunits 2\nbudget 1\nahead 1\ncost 3500\nproposals 1\n\
@@ -55,7 +55,7 @@ fn changed(alloc: Global, from: &str, (old, new): Change<'_>) -> Result<String, 
 fn bench_for(alloc: Global, case: &Case) -> Result<Bench<Slopes>, Fail>
     ensures { IfOk result (IsBenchOver (market_of case.now)) }
 {
-    benches_serve_less();
+    benches_serve_all();
     let bench = Bench::make(alloc, case.periods, MOST_POINTS)?;
     Ok(bench)
 }

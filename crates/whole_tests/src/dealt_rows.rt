@@ -8,6 +8,7 @@ ghost use Rattle.dealt_run.specs.Benches.{HasSchedules};
 ghost use Rattle.dealt_run.specs.Jobs.{AreFor};
 
 use dealt_run::{Answerer, right_rows};
+use fixed_price::laws::benches_serve_all;
 use plan_check::check_plan;
 use std::alloc::Global;
 use std::sync::Wait;
@@ -19,7 +20,6 @@ use uc_model::limits::MOST_POINTS;
 use uc_model::lists::ReservedList;
 use uc_plan::read_plan;
 use unit_program::Bench;
-use unit_program::laws::benches_serve_less;
 
 const CASE: &[u8] =
     b"{\"time_periods\":1,\"demand\":[0.15],\"reserves\":[0],\"thermal_generators\":{\"A\":{\"must_run\":0,\"power_output_minimum\":0,\"power_output_maximum\":0.1,\"ramp_up_limit\":1,\"ramp_down_limit\":1,\"ramp_startup_limit\":1,\"ramp_shutdown_limit\":1,\"time_up_minimum\":1,\"time_down_minimum\":1,\"power_output_t0\":0,\"unit_on_t0\":0,\"time_up_t0\":0,\"time_down_t0\":1,\"startup\":[],\"piecewise_production\":[{\"mw\":0,\"cost\":0},{\"mw\":0.1,\"cost\":0.001}]},\"B\":{\"must_run\":0,\"power_output_minimum\":0.1,\"power_output_maximum\":0.1,\"ramp_up_limit\":1,\"ramp_down_limit\":1,\"ramp_startup_limit\":1,\"ramp_shutdown_limit\":1,\"time_up_minimum\":1,\"time_down_minimum\":1,\"power_output_t0\":0,\"unit_on_t0\":0,\"time_up_t0\":0,\"time_down_t0\":1,\"startup\":[],\"piecewise_production\":[{\"mw\":0.1,\"cost\":0.003}]}},\"renewable_generators\":{}}";
@@ -32,7 +32,7 @@ fn job_for<'a>(alloc: Global, case: &'a Case) -> Result<Answerer<'a>, Fail>
     requires { HasSchedules (market_of case.now) }
     ensures { IfOk result (λ job. job.case.now ≡ case.now) }
 {
-    benches_serve_less();
+    benches_serve_all();
     let bench = Bench::make(alloc, case.periods, MOST_POINTS)?;
     Ok(Answerer::make(alloc, case, bench)?)
 }

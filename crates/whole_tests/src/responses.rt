@@ -5,6 +5,7 @@ ghost use Rattle.std.specs.Prelude.{◌<◌, ◌≤◌};
 use crate::units::{BARRED, FALLING, KINKED, OFF};
 use level_table::Levels;
 use point_list::breaks::Breaks;
+use pool_program::{PoolBench, best_on_bench};
 use rand_core::utils::NextWord;
 use rand_pcg::Pcg32;
 use shape_law::{Heap, Shape};
@@ -18,7 +19,7 @@ use tiny_units::small::SmallUnit;
 use tiny_units::trying::least_by_trying;
 use uc_model::units::{Answered, Mark};
 use unit_choice::least_on_bench;
-use unit_program::{Bench, PoolBench, best_on_bench, best_response};
+use unit_program::{Bench, best_response};
 
 // What a response does in each period, and what it earns.
 #[derive(Clone, Copy)]

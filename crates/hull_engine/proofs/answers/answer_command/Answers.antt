@@ -1,4 +1,4 @@
-use Rattle.std.proofs.Common.{◌≡◌, ℕ, List, None, Some, inl, refl}
+use Rattle.std.proofs.Common.{◌≡◌, ℕ, List, None, Some}
 use Rattle.hull_report.specs.declared.fault.FileKind.TheVariants.{CaseFile}
 use Rattle.hull_engine.specs.Outcome.{no_files}
 use Rattle.hull_engine.proofs.ReadLaws.{any_reads}
@@ -34,5 +34,7 @@ pub returns-in-Fixed-clause-unread : goal.returns-in-Fixed-clause-unread
 returns-in-Fixed-clause-unread g c = rw c.in-Fixed.is (λ none. absurd (named _ (none CaseFile)))
 
 pub returns-in-Audit-clause-answers : goal.returns-in-Audit-clause-answers
-returns-in-Audit-clause-answers g c =
-    rw (c.not_built.ensures, c.in-Audit.is) (any_reads (g.F.Shelf.told c.args.shelf.now) no_files, λ file. tt, inl refl)
+returns-in-Audit-clause-answers g c = rw c.in-Audit.is c.answer_audit.ensures.answers
+
+pub returns-in-Audit-clause-unread : goal.returns-in-Audit-clause-unread
+returns-in-Audit-clause-unread g c = rw c.in-Audit.is (λ none. absurd (named _ (none CaseFile)))

@@ -1,4 +1,4 @@
-use Rattle.std.proofs.Common.{Result, Ok, Err, inr, refl, ap, ◌∙◌}
+use Rattle.std.proofs.Common.{Result, Ok, Err, inr, refl, ap}
 use Rattle.std.proofs.lemmas.Result.{err_from_is_err_and}
 use Rattle.hull_report.specs.TryText.{try_text}
 use Rattle.hull_report.specs.declared.fault.TopFault.{TopFault}
@@ -19,7 +19,7 @@ returns-in_err-run-clause-answers g c reads =
     let p = err_from_is_err_and c.from_residual.result c.from_residual.ensures.1 in
     let run : Result RunInput TopFault = Err c.in_err-run.field-0.0 in
     rw (p.1, p.2) (answer_then (IsMade words.number) (IsWithinWork words.proposals) (planned_of c.in-Ok.input) (λ (r : RunInput). planned_of r.input) run
-    (c.in-Ok.ensures.planned.feasible, c.in-Ok.ensures.made) (rw c.try_size.ensures.proposals at c.in_err-run.ensures.answers))
+    (c.in-Ok.ensures.planned.feasible, c.in-Ok.ensures.made) c.in_err-run.ensures.answers)
 
 pub returns-in_err-ended_run-clause-answers : goal.returns-in_err-ended_run-clause-answers
 returns-in_err-ended_run-clause-answers g c reads =
@@ -33,7 +33,7 @@ returns-clause-answers g c reads =
     let size = c.in_ok-run.ensures.size in (
       planned_of c.in_ok-run.run'.input,
       answer_then (IsMade words.number) (IsWithinWork words.proposals) (planned_of c.in-Ok.input) (λ (r : RunInput). planned_of r.input) run
-          (c.in-Ok.ensures.planned.feasible, c.in-Ok.ensures.made) (rw c.try_size.ensures.proposals at c.in_ok-run.ensures.answers),
+          (c.in-Ok.ensures.planned.feasible, c.in-Ok.ensures.made) c.in_ok-run.ensures.answers,
       run_texts (try_text words.number) c.in_ok-run.run' c.in_ok-ended_run.field-0.closed.setup words.proposals words.ahead c.in_ok-ended_run.ensures.ended.setup
-          (ap (λ (s : RunSize). s.proposals) size ∙ c.try_size.ensures.proposals) (ap (λ (s : RunSize). s.ahead) size ∙ c.try_size.ensures.ahead),
+          (ap (λ (s : RunSize). s.proposals) size) (ap (λ (s : RunSize). s.ahead) size),
     )

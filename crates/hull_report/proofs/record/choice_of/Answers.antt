@@ -42,7 +42,7 @@ overflow_cast-result c =
 
 pub overflow_sub-result : goal.overflow_sub-result
 overflow_sub-result c =
-    (choice_told c.finished_has_row.ensures c.rows_are_right.ensures c.args.closed.now c.rows-rows.result.now c.index-rows-chosen.result c.chosen-chosen.result c.cost.result c.is_legal.ensures.setup c.is_legal.ensures.legal c.requires c.rows-rows.ensures
+    (choice_told c.finished_has_row.ensures c.rows_are_within.ensures c.plan_costs_are_within.ensures c.args.closed.now c.rows-rows.result.now c.index-rows-chosen.result c.chosen-chosen.result c.cost.result c.is_legal.ensures.setup c.is_legal.ensures.legal c.requires c.rows-rows.ensures
     c.chosen-chosen.ensures c.index-rows-chosen.is c.cost.ensures (search rules)).gap_fits
 
 pub returns-clause-first : goal.returns-clause-first
@@ -54,12 +54,12 @@ returns-clause-first c =
 
 pub returns-clause-value : goal.returns-clause-value
 returns-clause-value c =
-    (choice_told c.finished_has_row.ensures c.rows_are_right.ensures c.args.closed.now c.rows-rows.result.now c.index-rows-chosen.result c.chosen-chosen.result c.cost.result c.is_legal.ensures.setup c.is_legal.ensures.legal c.requires c.rows-rows.ensures
+    (choice_told c.finished_has_row.ensures c.rows_are_within.ensures c.plan_costs_are_within.ensures c.args.closed.now c.rows-rows.result.now c.index-rows-chosen.result c.chosen-chosen.result c.cost.result c.is_legal.ensures.setup c.is_legal.ensures.legal c.requires c.rows-rows.ensures
     c.chosen-chosen.ensures c.index-rows-chosen.is c.cost.ensures (search rules)).value
 
 pub returns-clause-gap : goal.returns-clause-gap
 returns-clause-gap c =
-    (choice_told c.finished_has_row.ensures c.rows_are_right.ensures c.args.closed.now c.rows-rows.result.now c.index-rows-chosen.result c.chosen-chosen.result c.cost.result c.is_legal.ensures.setup c.is_legal.ensures.legal c.requires c.rows-rows.ensures
+    (choice_told c.finished_has_row.ensures c.rows_are_within.ensures c.plan_costs_are_within.ensures c.args.closed.now c.rows-rows.result.now c.index-rows-chosen.result c.chosen-chosen.result c.cost.result c.is_legal.ensures.setup c.is_legal.ensures.legal c.requires c.rows-rows.ensures
     c.chosen-chosen.ensures c.index-rows-chosen.is c.cost.ensures (search rules)).gap
 
 pub returns-clause-most : goal.returns-clause-most

@@ -1,45 +1,26 @@
-use Rattle.std.proofs.Common.{◌∷◌, [], codes, refl, true, sym, length}
+use Rattle.std.proofs.Common.{◌∷◌, [], length}
 use Rattle.std.specs.Int.{w128}
 use Rattle.std.proofs.lemmas.Int.{to_z-of_z}
-use Rattle.std.proofs.lemmas.List.{length-map}
-use Rattle.uc_model.specs.Data.{unit_count}
-use Rattle.uc_model.specs.PlainCases.{market_of, proposal_of}
+use Rattle.std.proofs.lemmas.Result.{err_from_is_err_and}
+use Rattle.uc_model.specs.PlainCases.{market_of}
 use Rattle.report_read.specs.Plain.{report_of}
-use Rattle.report_check.specs.Heads.{right_head}
-use Rattle.report_check.specs.ReportLines.{head_lines}
-use Rattle.report_check.proofs.Comparing.{judged_compare}
-use Rattle.report_check.proofs.Judging.{amount_judged, count_judged}
+use Rattle.report_check.specs.Heads.{right_opening}
+use Rattle.report_check.specs.ReportLines.{opening_lines, number_line}
+use Rattle.report_check.proofs.Comparing.{behind, stops}
 use Rattle.report_check.proofs.parts.head_same.Goals as goal
 
+pub returns-in_err-line-clause-lines : goal.returns-in_err-line-clause-lines
+returns-in_err-line-clause-lines c =
+    let r = report_of c.args.report.now in
+    let m = market_of c.args.case.now in
+    let p = err_from_is_err_and c.from_residual.result c.from_residual.ensures.1 in
+    let opening = rw (to_z-of_z w128 c.args.cost c.ranges.cost) at c.in_err-line.ensures.lines in
+    rw (p.1, p.2)
+    (stops 1 c.in_err-line.field-0.0 (opening_lines r) (right_opening m c.args.cost r) (number_line (length r.rows) ∷ []) (number_line c.args.proposals ∷ []) opening)
+
 pub returns-clause-lines : goal.returns-clause-lines
-unfolding report_of
 returns-clause-lines c =
     let r = report_of c.args.report.now in
     let m = market_of c.args.case.now in
-    let bs = true ∷ c.same_count.result ∷ c.same_count-2.result ∷ true ∷ true ∷ c.same_amount.result ∷ c.same_length.result ∷ [] in
-    let units = rw c.unit_count.ensures.value at c.same_count-2.ensures in
-    let cost = rw (to_z-of_z w128 c.args.cost c.ranges.cost) at c.same_amount.ensures in
-    let rows = rw (sym (length-map c.args.report.now.rows.items proposal_of)) at c.same_length.ensures in
-    rw c.all_same.ensures
-    (judged_compare 1 bs (head_lines r) (right_head m c.args.cost c.args.proposals r) (
-      refl,
-      (
-        count_judged (codes "periods ") c.same_count.result r.periods m.periods c.same_count.ensures,
-        (
-          count_judged (codes "units ") c.same_count-2.result r.units (unit_count m) units,
-          (
-            refl,
-            (
-              refl,
-              (
-                amount_judged (codes "cost ") c.same_amount.result r.cost c.args.cost cost,
-                (
-                  count_judged (codes "proposals ") c.same_length.result (length r.rows) c.args.proposals rows,
-                  tt,
-                ),
-              ),
-            ),
-          ),
-        ),
-      ),
-    ))
+    let opening = rw (to_z-of_z w128 c.args.cost c.ranges.cost) at c.in_ok-line.ensures.lines in
+    behind 1 c.in_ok-line.line c.number_same.result (opening_lines r) (right_opening m c.args.cost r) (number_line (length r.rows) ∷ []) (number_line c.args.proposals ∷ []) opening c.number_same.ensures.lines

@@ -1,11 +1,15 @@
 use Rattle.std.proofs.Common.{refl}
+use Rattle.slope_list.specs.Slopes.{room_of}
 use Rattle.uc_model.specs.PlainCases.{market_of}
 use Rattle.uc_model.specs.PlainUnits.{prices_of}
-use Rattle.dealt_run.proofs.Keeping.{can_answer, starts, starts_within}
+use Rattle.dealt_run.proofs.Keeping.{starts, starts_within}
 use Rattle.dealt_run.proofs.answerer.Answerer.make.Goals as goal
 
 pub invariant_of-result-clause-some : goal.invariant_of-result-clause-some
-invariant_of-result-clause-some c = can_answer (market_of c.args.case.now) c.requires.schedules
+invariant_of-result-clause-some c = c.units_can_answer.ensures (market_of c.args.case.now) c.requires.schedules
+
+pub invariant_of-result-clause-over : goal.invariant_of-result-clause-over
+invariant_of-result-clause-over c = λ k d inside. c.keep_for.ensures.bench room_of _ _ (c.requires.bench k d inside)
 
 pub invariant_of-result-clause-kept : goal.invariant_of-result-clause-kept
 invariant_of-result-clause-kept c =

@@ -1,0 +1,24 @@
+use Rattle.std.proofs.Common.{◌≡◌, List, [], ◌∷◌, ◌++◌, length, length-append, sym, ap, ◌∙◌, subst, arith}
+use Rattle.std.specs.List.{All}
+use Rattle.std.proofs.lemmas.List.Elements.{All-push}
+use Rattle.slope_list.specs.declared.slopes.Slopes.{Slopes}
+use Rattle.unit_program.specs.declared.bench.Bench.{Bench}
+use Rattle.uc_model.specs.PlainCases.{market_of}
+use Rattle.dealt_run.specs.Benches.{IsBenchOver}
+use Rattle.hull_engine.proofs.audit.benches_for.Goals as goal
+
+pub loop-preserved : goal.loop-preserved
+loop-preserved c =
+    let m = market_of c.args.case.now in
+    let bench = c.in_ok-make.field-0 in
+    let known = c.loop.invariant in
+    let over = c.benches_serve_all.ensures m c.most_points-points.result bench (λ k d less. c.most_points-points.ensures.each k d less) c.in_ok-make.ensures in
+    let pushed : c.push.new.self.items ≡ c.loop.benches.items ++ bench ∷ [] = c.in_ok-push.ensures.items in
+    let long = ap (length {A = Bench Slopes}) pushed ∙ length-append c.loop.benches.items (bench ∷ []) in
+    let was = known.count in
+    let test = c.loop-test.true in
+    record {
+      count = omega (arith, long, was);
+      within = omega (arith, test);
+      benches = subst (λ (xs : List (Bench Slopes)). All (IsBenchOver m) xs) (sym pushed) (All-push (IsBenchOver m) c.loop.benches.items bench known.benches over);
+    }

@@ -1,0 +1,82 @@
+//! Whether a report is the right one of a case and its schedule.
+ghost use Rattle.std.specs.Prelude.{◌≡◌, ℕ, ◌≤◌, length, map, IfOk};
+ghost use Rattle.std.specs.List.{All};
+ghost use Rattle.uc_model.specs.PlainCases.{market_of};
+ghost use Rattle.dealt_run.specs.Benches.{IsBenchOver};
+ghost use Rattle.report_read.specs.Bounds.{IsReport, AreInOrder};
+ghost use Rattle.report_read.specs.Plain.{report_of, told_of};
+ghost use Rattle.hull_engine.specs.Answers.{IsAnswer};
+ghost use Rattle.hull_engine.specs.Inputs.{planned_of, IsRunInput};
+ghost use Rattle.hull_engine.specs.Steps.{IsJudged};
+
+use crate::input::{RunInput, unit_count};
+use answer_workers::most_points;
+use fixed_price::laws::benches_serve_all;
+use hull_report::TopFault;
+use report_check::{Audit, check_report};
+use report_read::Report;
+use slope_list::Slopes;
+use std::alloc::{AllocError, Global};
+use std::sync::Wait;
+use std::thread::Threads;
+use uc_model::cases::Case;
+use unit_program::Bench;
+
+/// The code of a report that isn't right.
+const WRONG: u32 = 61;
+
+/// The units and periods of a proposal, multiplied, that are worth a job: to start a thread takes
+/// about as long.
+const WORTH_A_JOB: u32 = 512;
+
+/// To how many jobs an audit is dealt: one for each worker, but no more than a proposal has work
+/// for.
+fn job_count(case: &Case, workers: u32) -> u32
+    requires { 1 ≤ workers }
+    ensures some { 1 ≤ result }
+    ensures most { result ≤ workers }
+{
+    workers.min(1 + unit_count(case) * case.periods / WORTH_A_JOB)
+}
+
+/// So many benches, each of which suffices for every thermal unit of the case.
+fn benches_for(alloc: Global, case: &Case, count: u32) -> Result<Vec<Bench<Slopes>>, AllocError>
+    ensures count { IfOk result (λ benches. length benches.items ≡ count) }
+    ensures benches { IfOk result (λ benches. All (IsBenchOver (market_of case.now)) benches.items) }
+{
+    benches_serve_all();
+    let points = most_points(case);
+    let mut benches = Vec::new(alloc);
+    for _ in 0..count {
+        benches.push(Bench::make(alloc, case.periods, points)?)?;
+    }
+    Ok(benches)
+}
+
+/// How many proposals a report has that is right for the input, or its first wrong line. The audit
+/// is dealt to as many jobs as there are workers, or to fewer where a proposal is small.
+pub fn right_proposals<R: Threads + Wait + Sync>(
+    rt: &R,
+    alloc: Global,
+    run: &RunInput,
+    report: &Report,
+) -> Result<u32, TopFault>
+    requires run { IsRunInput run.now }
+    requires bounds { IsReport (report_of report.now) }
+    requires order { AreInOrder 0 (map told_of report.now.lines.items) }
+    ensures answers { IsAnswer (IsJudged (report_of report.now) (planned_of run.now.input))
+        (λ (n : ℕ). planned_of run.now.input) result }
+    ensures count { IfOk result (λ n. n ≡ length (report_of report.now).rows) }
+{
+    let input = &run.input;
+    let case = &input.case;
+    let jobs = job_count(case, run.size.workers);
+    let Ok(benches) = benches_for(alloc, case, jobs) else {
+        return Err(TopFault::Memory);
+    };
+    match check_report(rt, alloc, case, &input.plan, input.cost, report, benches) {
+        Ok(Audit::Right) => Ok(report.rows.len() as u32),
+        Ok(Audit::Wrong { line }) => Err(TopFault::Report { code: WRONG, line }),
+        Err(AllocError) => Err(TopFault::Memory),
+    }
+}

@@ -1,0 +1,22 @@
+//! The text of `hull audit`.
+ghost use Rattle.hull_io.specs.Edge.{Writes};
+ghost use Rattle.hull_report.specs.AuditText.{audit_text};
+
+use crate::parts::{Part, write_parts};
+use hull_io::{Sink, WriteFailed};
+
+/// Writes that a report of so many proposals is right. Refused only where the sink's count of
+/// faults rose, and then the sink gained a front of the text.
+#[tactic(auto, unfolding(crate::specs::AuditText::audit_text))]
+pub fn write_audit<S: Sink>(proposals: u32, out: &mut S) -> Result<(), WriteFailed>
+    ensures { Writes S.held S.faults S.last out.old out.new result (audit_text proposals) }
+{
+    write_parts(
+        out,
+        &[
+            Part::Text(b"hull-audit 1\nproposals "),
+            Part::Count(proposals as u64),
+            Part::Text(b"\nright\n"),
+        ],
+    )
+}

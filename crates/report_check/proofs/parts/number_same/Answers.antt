@@ -1,0 +1,17 @@
+use Rattle.std.proofs.Common.{◌∷◌, [], codes, sym, length}
+use Rattle.std.proofs.lemmas.List.{length-map}
+use Rattle.uc_model.specs.PlainCases.{proposal_of}
+use Rattle.report_read.specs.Plain.{report_of}
+use Rattle.report_check.specs.ReportLines.{number_line}
+use Rattle.report_check.proofs.Comparing.{judged_compare}
+use Rattle.report_check.proofs.Judging.{count_judged}
+use Rattle.report_check.proofs.parts.number_same.Goals as goal
+
+pub returns-clause-lines : goal.returns-clause-lines
+unfolding report_of
+returns-clause-lines c =
+    let r = report_of c.args.report.now in
+    let same = rw (sym (length-map c.args.report.now.rows.items proposal_of)) at c.same_length.ensures in
+    rw c.all_same.ensures
+    (judged_compare c.args.first (c.same_length.result ∷ []) (number_line (length r.rows) ∷ []) (number_line c.args.proposals ∷ [])
+    (count_judged (codes "proposals ") c.same_length.result (length r.rows) c.args.proposals same, tt))

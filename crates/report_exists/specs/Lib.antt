@@ -1,0 +1,2 @@
+-- what exists
+pub mod Laws
