@@ -1,7 +1,7 @@
 #!/usr/bin/env python3
 """Runs the repository's own checks over the built program: the launcher, the examples, the edges, and the tools.
 
-`.ci/run` calls this after the gate, which leaves the program in crates/hull_cli/out. By itself it takes a few seconds:
+`.ci/run` calls this after the gate, which leaves the program in crates/hull_cli/out. By itself it takes less than a minute:
 it proves nothing. The last line is 'N passed, M failed'; a check that needs what this machine hasn't is named, and
 counts for neither.
 """
@@ -19,12 +19,9 @@ def main():
         print(f"{PROGRAM} isn't there: `rt ci`, or ./hull, builds it\n0 passed, 1 failed")
         return 1
     suite = unittest.TestSuite()
-    for folder in (".ci/checks", "tools/tests"):
-        suite.addTests(
-            unittest.TestLoader().discover(
-                os.path.join(ROOT, folder), top_level_dir=os.path.join(ROOT, folder)
-            )
-        )
+    for folder, files in ((".ci/checks", "test*.py"), (".ci/checks", "hostile_*.py"), ("tools/tests", "test*.py")):
+        place = os.path.join(ROOT, folder)
+        suite.addTests(unittest.TestLoader().discover(place, pattern=files, top_level_dir=place))
     done = unittest.TextTestRunner(stream=sys.stdout, verbosity=1).run(suite)
     for test, why in done.skipped:
         print(f"not run: {test.id()}: {why}")

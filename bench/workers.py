@@ -4,7 +4,8 @@
 usage: workers.py [--runs N] [--only NAME,..] [--program PROGRAM]
 
 Each figure is the least of N runs (5 if left out): seconds by the clock, and beside them the share of one worker's time at the
-same number ahead. The number of workers that can be at work at once is that of open proposals times units, so `--ahead` matters.
+same number ahead. The number of workers that can be at work at once is that of open proposals times units, so `--ahead` matters;
+an audit works at one proposal at a time.
 Run this on a quiet machine with four processors or more, and compare figures of one machine alone.
 """
 import argparse
@@ -31,7 +32,7 @@ def seconds(words):
 def main():
     ask = argparse.ArgumentParser(description="Measures how much sooner several workers are done.")
     ask.add_argument("--runs", type=int, default=5)
-    ask.add_argument("--only", default="day,c610,c168")
+    ask.add_argument("--only", default="day,c610,c168,day-audit,c610-audit,c168-audit")
     ask.add_argument("--program", default=f"{run.HOME}/crates/hull_cli/out/hull_cli")
     given = ask.parse_args()
     if not os.access(given.program, os.X_OK):
@@ -41,13 +42,12 @@ def main():
     print("| Case | Ahead | " + " | ".join(f"{it} workers" if it > 1 else "1 worker" for it in WORKERS) + " |")
     print("|---|---|" + "---|" * len(WORKERS), flush=True)
     with tempfile.TemporaryDirectory(prefix="hull-workers-") as room:
-        for name, command, proposals, _ in run.ROWS:
+        for row in run.ROWS:
+            name = row[0]
             if name not in only:
                 continue
-            case, schedule = run.files_of(name, room)
             for ahead in AHEAD:
-                words = [given.program, command, "--case", case, "--schedule", schedule]
-                words += ["--proposals", proposals, "--ahead", str(ahead), "--workers"]
+                words = [*run.words_of(row, room, given.program, "--ahead", str(ahead)), "--workers"]
                 runs = {it: [seconds([*words, str(it)]) for _ in range(max(1, given.runs))] for it in WORKERS}
                 if len({output for them in runs.values() for _, output in them}) != 1:
                     sys.exit(f"workers.py: {name}: the numbers of workers don't print the same bytes")

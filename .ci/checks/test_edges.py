@@ -35,6 +35,15 @@ class Edges(unittest.TestCase):
         """The run ends with the line's status and prints the line alone."""
         self.assertEqual(self.price(case, schedule, **how), (int(line.split()[1]), f"{line}\n".encode(), b""))
 
+    def report(self):
+        """The right report of the case, as a file."""
+        self.write("report.txt", self.price()[1])
+
+    def audited(self, line, report, **how):
+        """The audit of such a file ends with the line's status and prints the line alone."""
+        words = ["audit", "--case", "case.json", "--schedule", "schedule.json", "--report", report]
+        self.assertEqual(self.hull(*words, **how), (int(line.split()[1]), f"{line}\n".encode(), b""))
+
     def write(self, name, data):
         with open(f"{self.room}/{name}", "wb") as it:
             it.write(data)
@@ -62,6 +71,44 @@ class Edges(unittest.TestCase):
     def test_directory(self):
         self.refused("fault 2 read case", case=".")
         self.refused("fault 2 read schedule", schedule=".")
+
+    def test_report_that_cannot_be_read(self):
+        self.audited("fault 2 read report", "none.txt")
+        self.audited("fault 2 read report", ".")
+        # (the schedule is refused before the report is read)
+        shutil.copy(f"{self.room}/case.json", f"{self.room}/schedule.json")
+        self.audited("fault 4 schedule 42 kind case unit 0 item 0", "none.txt")
+
+    def test_report_that_is_no_report(self):
+        self.write("empty.txt", b"")
+        self.audited("fault 8 report 60 at 1", "empty.txt")
+        self.audited("fault 8 report 60 at 1", "case.json")
+        self.audited("fault 8 report 60 at 1", "/dev/null")
+
+    def test_report_with_a_digit_changed(self):
+        self.report()
+        report = self.read("report.txt")
+        self.write("report.txt", report.replace(b"payments 0", b"payments 1"))
+        self.audited(f"fault 8 report 61 at {report.count(10) - 2}", "report.txt")
+        self.write("report.txt", report.replace(b"payments 0", b"payments 00"))
+        self.audited(f"fault 8 report 60 at {report.count(10) - 2}", "report.txt")
+
+    def test_report_from_a_fifo(self):
+        self.report()
+        writer = self.fed(self.read("report.txt"))
+        words = ["audit", "--case", "case.json", "--schedule", "schedule.json", "--report", "pipe"]
+        self.assertEqual(self.hull(*words), (0, b"hull-audit 1\nproposals 4\nright\n", b""))
+        writer.join(10)
+
+    def test_largest_report_and_one_byte_more(self):
+        self.report()
+        report = self.read("report.txt")
+        self.write("large.txt", report + b"\n" * (LARGEST - len(report)))
+        self.audited(f"fault 8 report 60 at {report.count(10) + 1}", "large.txt")
+        with open(f"{self.room}/large.txt", "ab") as it:
+            it.write(b"\n")
+        self.audited("fault 8 report 32", "large.txt")
+        self.audited("fault 8 report 32", "/dev/zero")
 
     def test_file_without_permission(self):
         program = f"{self.room}/hull_cli"
@@ -105,6 +152,11 @@ class Edges(unittest.TestCase):
             # (the status of a refusal stays where its line can't be written)
             self.assertEqual(self.price(case="none.json", stdout=full)[::2], (2, b""))
             self.assertEqual(self.hull("nothing", stdout=full)[::2], (1, b""))
+            words = ["audit", "--case", "case.json", "--schedule", "schedule.json", "--report", "report.txt"]
+            self.report()
+            self.assertEqual(self.hull(*words, stdout=full)[::2], (6, b""))
+            self.write("report.txt", b"")
+            self.assertEqual(self.hull(*words, stdout=full)[::2], (8, b""))
 
     def test_output_that_nobody_reads(self):
         reading, writing = os.pipe()

@@ -7,8 +7,9 @@ import unittest
 
 from built import EXAMPLES, ROOT, run
 
-CHANGE = re.compile(r"`(\w+)/(case|schedule)\.json`: `(.+)` becomes `(.+)`")
+CHANGE = re.compile(r"`(\w+)/(case\.json|schedule\.json|price\.output)`: `(.+)` becomes `(.+)`")
 TEXTS, CASES, PLANS = range(10, 14), {*range(20, 35), 37} - {32}, range(40, 58)
+FILES = ["--case", "case.json", "--schedule", "schedule.json"]
 
 
 def rows():
@@ -24,11 +25,12 @@ def rows():
 class Faults(unittest.TestCase):
     def test_each_code_has_an_example(self):
         lines = [line.split() for _, line in rows()]
-        told = {(it[1], next(w for w in it[3:] if w.isdigit())) for it in lines if it[1] in "134"}
+        told = {(it[1], next(w for w in it[3:] if w.isdigit())) for it in lines if it[1] in "1348"}
         due = (
             {("1", str(it)) for it in range(1, 9)}
             | {("3", str(it)) for it in {*TEXTS, *CASES}}
             | {("4", str(it)) for it in {10, *PLANS} - {58}}
+            | {("8", str(it)) for it in (32, 60, 61)}
         )
         self.assertEqual(due - told, set())
         self.assertTrue({"2", "5"} <= {it[1] for it in lines})
@@ -42,17 +44,16 @@ def check_of(example, line):
             self.assertEqual(run(example.strip("`").split()[1:], folder=EXAMPLES), due)
             return
         folder, name, old, new = change.groups()
+        words = ["audit", *FILES, "--report", name] if name == "price.output" else ["check", *FILES]
         with tempfile.TemporaryDirectory() as room:
-            for it in ("case.json", "schedule.json"):
+            for it in {"case.json", "schedule.json", name}:
                 shutil.copy(f"{EXAMPLES}/{folder}/{it}", room)
-            with open(f"{room}/{name}.json", encoding="utf-8") as it:
+            with open(f"{room}/{name}", encoding="utf-8") as it:
                 text = it.read()
-            self.assertEqual(text.count(old), 1, f"{old} stands once in {folder}/{name}.json")
-            with open(f"{room}/{name}.json", "w", encoding="utf-8") as it:
+            self.assertEqual(text.count(old), 1, f"{old} stands once in {folder}/{name}")
+            with open(f"{room}/{name}", "w", encoding="utf-8") as it:
                 it.write(text.replace(old, new))
-            self.assertEqual(
-                run(["check", "--case", "case.json", "--schedule", "schedule.json"], folder=room), due
-            )
+            self.assertEqual(run(words, folder=room), due)
 
     return check
 

@@ -137,19 +137,14 @@ class Largest(unittest.TestCase):
                 case, schedule = (
                     os.path.join(EXAMPLES, "scarf", f"100.{it}.json") for it in ("case", "schedule")
                 )
-                ran = run(
-                    [
-                        "price",
-                        "--case",
-                        case,
-                        "--schedule",
-                        schedule,
-                        "--proposals",
-                        "10000",
-                        "--ahead",
-                        str(ahead),
-                    ]
-                )
+                files = ["--case", case, "--schedule", schedule]
+                ran = run(["price", *files, "--proposals", "10000", "--ahead", str(ahead)])
                 self.assertEqual((ran[0], ran[1] == text.encode()), (0, True))
+                with open(f"{self.room}/report.txt", "w", encoding="utf-8") as it:
+                    it.write(text)
+                self.assertEqual(
+                    run(["audit", *files, "--report", f"{self.room}/report.txt", "--workers", "1"]),
+                    (0, b"hull-audit 1\nproposals 10000\nright\n", b""),
+                )
         finally:
             work_out.BUDGET, work_out.AHEAD = usual

@@ -9,7 +9,7 @@ import tempfile
 import time
 import unittest
 
-from built import EXAMPLES, LAUNCHER, run
+from built import EXAMPLES, LAUNCHER, ROOT, run
 
 WITHOUT_RT = {"PATH": "/usr/bin:/bin", "HOME": "/"}
 CRATES = "# a comment\nlow: arrayvec\nfor_tests: low\nhigh: low\nhull_cli: high low\n"
@@ -34,6 +34,7 @@ class Launcher(unittest.TestCase):
         self.addCleanup(shutil.rmtree, self.room)
         shutil.copy(LAUNCHER, f"{self.room}/hull")
         self.write("crates.txt", CRATES)
+        self.write("HANDLES", "Handles allowed: none.\n")
         for crate in ("low", "for_tests", "high", "hull_cli"):
             self.write(f"crates/{crate}/src/lib.rt", "")
         self.write("bin/rt", STAND_IN)
@@ -116,6 +117,31 @@ class Launcher(unittest.TestCase):
             (sorted(self.asked()[:4]), self.asked()[4:]),
             (["check beside", "check low", "lib beside", "lib low"], BUILT[2:]),
         )
+
+    def test_of_the_repositorys_crates_those_of_the_program_are_proved_each_after_those_below_it(self):
+        with open(f"{ROOT}/crates.txt", encoding="utf-8") as it:
+            text = it.read()
+        lines = [it.split(":") for it in text.splitlines() if ":" in it and not it.startswith("#")]
+        below = {names.split()[0]: stands_on.split() for names, stands_on in lines}
+        below = {name: [it for it in stands_on if it in below] for name, stands_on in below.items()}
+        due, found = {"hull_cli"}, ["hull_cli"]
+        while found:
+            new = set(below[found.pop()]) - due
+            due |= new
+            found.extend(new)
+        self.write("crates.txt", text)
+        for name in below:
+            self.write(f"crates/{name}/src/lib.rt", "")
+        self.assertEqual(self.hull("check")[0], 0)
+        proved = set()
+        for what, name in (it.split() for it in self.asked()):
+            self.assertIn(name, due)
+            self.assertLessEqual(set(below[name]), proved)
+            if what == "lib":
+                proved.add(name)
+        self.assertEqual(proved, due - {"hull_cli"})
+        self.assertNotIn("whole_tests", due)
+        self.assertLessEqual({"report_read", "report_check", "dealt_run", "task_deal"}, due)
 
     def test_a_build_that_fails_says_where_to_look(self):
         status, output, said = self.hull("check", FAILS="compile")

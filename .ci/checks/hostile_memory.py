@@ -1,0 +1,221 @@
+#!/usr/bin/env python3
+"""Runs with too little memory, over the built program: a limit on the address space, and each allocation refused in turn.
+
+A run ends in its whole text or in status 7 with its line (and without one where there was no memory for the words), and by
+no signal.
+
+usage: hostile_memory.py [--program PROGRAM]
+
+By itself it tries every page and every allocation, which takes minutes, and prints how many runs ended how.
+"""
+import argparse
+import collections
+import os
+import resource
+import shutil
+import subprocess
+import sys
+import tempfile
+import unittest
+
+from built import EXAMPLES, PROGRAM, run
+
+PAGE = 4_096
+MOST = 1 << 30
+STARVED = ((7, b"fault 7 memory\n"), (7, b""))
+
+
+def commands(example, room, program):
+    """Runs of each command, on the files of an example and a report of three proposals in the room."""
+    files = [f"--{it}={EXAMPLES}/{example}/{it}.json" for it in ("case", "schedule")]
+    report = f"--report={room}/report"
+    with open(f"{room}/report", "wb") as it:
+        it.write(run(["price", *files, "--proposals=3"], program=program)[1])
+    return {
+        "check": ["check", *files],
+        "price": ["price", *files, "--proposals=3", "--workers=1"],
+        "price by four": ["price", *files, "--proposals=3", "--workers=4"],
+        "bound": ["bound", *files, "--proposals=3", "--workers=1"],
+        "fixed": ["fixed", *files, "--proposals=3", "--workers=1"],
+        "audit": ["audit", *files, report, "--workers=1"],
+        "audit by four": ["audit", *files, report, "--workers=4"],
+        "try": ["try", "7", "--proposals=1", "--workers=1"],
+    }
+
+
+
+# Refuses the allocation whose number stands in the environment, and with a minus sign that one and all later ones.
+REFUSER = """
+#define _GNU_SOURCE
+#include <dlfcn.h>
+#include <errno.h>
+#include <stdatomic.h>
+#include <stdlib.h>
+#include <string.h>
+#include <unistd.h>
+static _Atomic long made;
+static long refused_number(void) {
+    static _Atomic long known;
+    if (!known) { const char *word = getenv("REFUSED"); known = word ? atol(word) : 1L << 60; }
+    return known;
+}
+static int is_refused(void) {
+    long number = ++made, at = refused_number();
+    return at < 0 ? number >= -at : number == at;
+}
+extern void *__libc_malloc(size_t), *__libc_calloc(size_t, size_t), *__libc_realloc(void *, size_t);
+extern void *__libc_memalign(size_t, size_t);
+void *malloc(size_t size) { return is_refused() ? (errno = ENOMEM, NULL) : __libc_malloc(size); }
+void *calloc(size_t count, size_t size) { return is_refused() ? (errno = ENOMEM, NULL) : __libc_calloc(count, size); }
+void *realloc(void *old, size_t size) { return is_refused() ? (errno = ENOMEM, NULL) : __libc_realloc(old, size); }
+void *aligned_alloc(size_t align, size_t size) { return is_refused() ? (errno = ENOMEM, NULL) : __libc_memalign(align, size); }
+int posix_memalign(void **into, size_t align, size_t size) {
+    void *given = is_refused() ? NULL : __libc_memalign(align, size);
+    if (!given) return ENOMEM;
+    *into = given;
+    return 0;
+}
+"""
+
+
+def limited(words, most, program):
+    """The run under a limit on its address space."""
+
+    def limit():
+        resource.setrlimit(resource.RLIMIT_AS, (most, most))
+        resource.setrlimit(resource.RLIMIT_CORE, (0, 0))
+
+    return run(words, program=program, preexec_fn=limit)[:2]
+
+
+def refuser_in(folder):
+    """A library that refuses allocations, or None where it can't be built."""
+    compiler = shutil.which("cc") or shutil.which("gcc") or shutil.which("clang")
+    if compiler is None:
+        return None
+    source, library = f"{folder}/refuser.c", f"{folder}/refuser.so"
+    with open(source, "w", encoding="utf-8") as it:
+        it.write(REFUSER)
+    built = subprocess.run(
+        [compiler, "-O1", "-shared", "-fPIC", source, "-o", library], capture_output=True, check=False
+    )
+    return library if built.returncode == 0 else None
+
+
+def refused(words, number, library, program):
+    """The run in which the allocation of that number is refused; where it is negative, all later ones too."""
+    return run(
+        words,
+        program=program,
+        env={**os.environ, "LD_PRELOAD": library, "REFUSED": str(number)},
+    )[:2]
+
+
+def least_that(holds, low, high, step):
+    """The least multiple of the step at which it holds, if it does so from there on."""
+    low, high = low // step, high // step
+    while low < high:
+        middle = (low + high) // 2
+        if holds(middle * step):
+            high = middle
+        else:
+            low = middle + 1
+    return low * step
+
+
+def loaded(program):
+    """The least address space in which the program begins: it then says what is wrong with its words."""
+    return least_that(
+        lambda most: limited([], most, program) == (1, b"fault 1 words 1 0\n"), 0, MOST, PAGE
+    )
+
+
+class Tally:
+    """How the runs of a command ended, and those that ended otherwise."""
+
+    def __init__(self, words, program):
+        self.due = run(words, program=program)[:2]
+        self.ends = collections.Counter()
+        self.wrong = []
+
+    def note(self, at, ended):
+        if ended != self.due and ended not in STARVED:
+            self.wrong.append((at, ended))
+        self.ends[ended[0]] += 1
+        return ended == self.due
+
+
+def spaces(tally, words, program, first, runs=None):
+    """Limits from that of loading to that of a whole run, page by page, or so many in equal steps."""
+    enough = least_that(lambda most: limited(words, most, program) == tally.due, first, MOST, PAGE)
+    step = PAGE if runs is None else max(PAGE, (enough - first) // runs // PAGE * PAGE)
+    for most in range(first, enough + 8 * PAGE, step):
+        tally.note(most, limited(words, most, program))
+    return enough
+
+
+def allocations(tally, words, program, library, every=1):
+    """Refuses one allocation after another, until a run meets none that is refused twice over."""
+    number = 0
+    while True:
+        number += every
+        tally.note(number, refused(words, number, library, program))
+        if tally.note(-number, refused(words, -number, library, program)):
+            return number
+
+
+class Starved(unittest.TestCase):
+    def setUp(self):
+        self.room = tempfile.mkdtemp(prefix="hull-hostile-")
+        self.addCleanup(shutil.rmtree, self.room)
+
+    def test_too_little_address_space(self):
+        self.assertEqual(run([])[:2], (1, b"fault 1 words 1 0\n"))
+        first = loaded(PROGRAM)
+        for name, words in commands("day", self.room, PROGRAM).items():
+            tally = Tally(words, PROGRAM)
+            spaces(tally, words, PROGRAM, first, 20)
+            self.assertEqual((name, tally.due[0], tally.wrong), (name, 0, []))
+
+    def test_refused_allocations(self):
+        library = refuser_in(self.room)
+        if library is None:
+            self.skipTest("there is no C compiler")
+        for name, words in commands("usual", self.room, PROGRAM).items():
+            tally = Tally(words, PROGRAM)
+            allocations(tally, words, PROGRAM, library, 97 if name == "try" else 17)
+            self.assertEqual((name, tally.due[0], tally.wrong), (name, 0, []))
+
+
+def main():
+    ask = argparse.ArgumentParser(description="Runs with too little memory, page by page and call by call.")
+    ask.add_argument("--program", default=PROGRAM)
+    program = os.path.abspath(ask.parse_args().program)
+    first, wrong = loaded(program), 0
+    room = tempfile.mkdtemp(prefix="hull-hostile-")
+    try:
+        library = refuser_in(room)
+        print(f"{'command':14} {'what is refused':16} {'runs':>6} {'in 0':>6} {'in 7':>6} {'wrong':>6} {'enough':>9}")
+        for kind, example in (("allocation", "usual"), ("address space", "day")):
+            for name, words in commands(example, room, program).items():
+                tally = Tally(words, program)
+                if kind == "address space":
+                    enough = spaces(tally, words, program, first)
+                else:
+                    enough = allocations(tally, words, program, library)
+                print(
+                    f"{name:14} {kind:16} {sum(tally.ends.values()):6} {tally.ends[0]:6} {tally.ends[7]:6}"
+                    f" {len(tally.wrong):6} {enough:9}",
+                    flush=True,
+                )
+                for it in tally.wrong[:5]:
+                    print("   ", it)
+                wrong += len(tally.wrong)
+    finally:
+        shutil.rmtree(room)
+    return 1 if wrong else 0
+
+
+if __name__ == "__main__":
+    sys.dont_write_bytecode = True
+    sys.exit(main())
