@@ -102,16 +102,16 @@ fn largest_file(rt: HostRuntime) -> Result<(), Fail> {
     Ok(())
 }
 
-// A path at which this user can make a file: in a folder that several share, another's run may have left its own.
+// A path at which this user can make a file: here, or where all can. There another's run may have left its own.
 fn scratch(rt: HostRuntime, name: &str) -> Result<String, Fail> {
     let alloc = rt.alloc();
-    for folder in ["/tmp", "/dev/shm", "/var/tmp", "out"] {
+    for folder in [".", "/tmp", "/var/tmp", "/dev/shm"] {
         let path = format!(in alloc; "{folder}/hull_io_{name}")?;
         if fs::create(&rt, path.as_str()).is_ok() {
             return Ok(path);
         }
     }
-    Ok(String::from_str(alloc, name)?)
+    Ok(String::from_str(alloc, "hull_io_real")?)
 }
 
 // A real file is read as it was written, in several reads and from any offset.
