@@ -6,6 +6,9 @@ usage: workers.py [--runs N] [--only NAME,..] [--program PROGRAM]
 Each figure is the least of N runs (5 if left out): seconds by the clock, and beside them the share of one worker's time at the
 same number ahead. The number of workers that can be at work at once is that of open proposals times units, so `--ahead` matters;
 an audit works at one proposal at a time.
+
+The last column is what the machine gives: four whole runs of one worker are started at once, and a quarter of the time until the last
+has ended is put beside the time of one alone. 0.25 means four processors of full speed; a share of four workers can't be less.
 Run this on a quiet machine with four processors or more, and compare figures of one machine alone.
 """
 import argparse
@@ -29,6 +32,14 @@ def seconds(words):
     return time.monotonic() - began, ended.stdout
 
 
+def seconds_at_once(words, number):
+    began = time.monotonic()
+    runs = [subprocess.Popen(words, stdin=subprocess.DEVNULL, stdout=subprocess.DEVNULL) for _ in range(number)]
+    for run_of in runs:
+        run_of.wait()
+    return time.monotonic() - began
+
+
 def main():
     ask = argparse.ArgumentParser(description="Measures how much sooner several workers are done.")
     ask.add_argument("--runs", type=int, default=5)
@@ -39,8 +50,8 @@ def main():
         sys.exit(f"workers.py: {given.program} isn't there: ./hull builds it on first use")
     only = given.only.split(",")
     print(f"{os.cpu_count()} processors\n")
-    print("| Case | Ahead | " + " | ".join(f"{it} workers" if it > 1 else "1 worker" for it in WORKERS) + " |")
-    print("|---|---|" + "---|" * len(WORKERS), flush=True)
+    print("| Case | Ahead | " + " | ".join(f"{it} workers" if it > 1 else "1 worker" for it in WORKERS) + " | 4 runs |")
+    print("|---|---|" + "---|" * (len(WORKERS) + 1), flush=True)
     with tempfile.TemporaryDirectory(prefix="hull-workers-") as room:
         for row in run.ROWS:
             name = row[0]
@@ -53,7 +64,8 @@ def main():
                     sys.exit(f"workers.py: {name}: the numbers of workers don't print the same bytes")
                 best = {it: min(took for took, _ in them) for it, them in runs.items()}
                 cells = [f"{best[it]:.3f} ({best[it] / best[1]:.2f})" for it in WORKERS]
-                print(f"| {name} | {ahead} | " + " | ".join(cells) + " |", flush=True)
+                four = min(seconds_at_once([*words, "1"], 4) for _ in range(max(1, given.runs)))
+                print(f"| {name} | {ahead} | " + " | ".join(cells) + f" | {four / 4 / best[1]:.2f} |", flush=True)
 
 
 if __name__ == "__main__":
