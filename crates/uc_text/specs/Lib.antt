@@ -18,3 +18,4 @@ pub mod Goes
 pub mod Small
 pub mod Decimals
 pub mod Numerals
+pub mod Known

@@ -16,7 +16,7 @@ ghost use Rattle.uc_text.specs.declared.fault.TextFault.{TextFault};
 ghost use Rattle.uc_text.specs.View.{view, views, member_views};
 
 use crate::fault::{TextCode, TextError, TextFault};
-use crate::names::add;
+use crate::names::is_new;
 use crate::nodes;
 use crate::reader::Reader;
 use crate::strings::text_of;
@@ -132,9 +132,8 @@ fn members(alloc: Global, reader: &mut Reader<'_>, left: u32) -> Result<MemberLi
         let Token::Text(quoted) = first.token else {
             return Err(fault(TextCode::NotJson, first.place));
         };
-        let key = text_of(alloc, quoted)?;
-        let name = String::from_str(alloc, key.as_str())?;
-        let new = add(&mut seen, key.into_bytes())?;
+        let name = text_of(alloc, quoted)?;
+        let new = is_new(alloc, &found, &mut seen, name.as_bytes())?;
         if !new {
             return Err(fault(TextCode::DoubleKey, first.place));
         }

@@ -1,7 +1,7 @@
-use Rattle.std.proofs.Common.{◌≡◌, ℕ, ◌++◌, ◌∷◌, [], List, refl, sym, ap, subst, ◌∙◌, arith, Vec, Global}
+use Rattle.std.proofs.Common.{◌≡◌, ℕ, ◌++◌, ◌∷◌, [], List, refl, sym, ap, subst, ◌∙◌, arith}
 use Rattle.std.proofs.lemmas.Result.{err_from_is_err_and}
 use Rattle.std.proofs.lemmas.List.{map_push}
-use Rattle.uc_text.specs.Values.{Value, text, scalar}
+use Rattle.uc_text.specs.Values.{Value, text}
 use Rattle.uc_text.specs.Strings.{said}
 use Rattle.uc_text.specs.Grammar.{Token, open_list, open_object}
 use Rattle.uc_text.specs.Parts.{Pair, names, IsStuck}
@@ -16,7 +16,7 @@ use Rattle.uc_text.specs.View.{view, views, member_views}
 use Rattle.uc_text.specs.declared.fault.TextError.{TextError}
 use Rattle.uc_text.proofs.OtherTokens.{not_close_list, not_close_object, not_comma, not_colon, not_text, not_start, passes_on}
 use Rattle.uc_text.proofs.Steps.{InItems, items_begin, items_empty, items_go_on, items_end, items_stop, items_stop_behind}
-use Rattle.uc_text.proofs.Known.{known_name, new_name, knows_more, knows_none}
+use Rattle.uc_text.proofs.Known.{known_name, new_name, knows_next}
 use Rattle.uc_text.proofs.Objects.{of_member, names_push}
 use Rattle.uc_text.proofs.MemberSteps.{InMembers, members_begin, members_empty, members_go_on, members_end, name_stops, double_stops, colon_stops, value_stops, member_stops_behind}
 use Rattle.uc_text.proofs.ValueSteps as first
@@ -104,7 +104,7 @@ members-members-init t c =
       inside = subst (λ (us : List Pair). InMembers c.args.left (rest c.args.reader.now) us (seen c.next-first.result) (rest c.next-first.new.self)) (sym ps) (members_begin c.args.left (rest c.args.reader.now) (seen c.next-first.result) (rest c.next-first.new.self) c.next-first.ensures.next (not_close_object c.next-first.result.token c.in_default.not-CloseObject));
       on = c.next-first.ensures.ahead;
       room = omega arith;
-      known = knows_none c.new-seen.result _ c.new-seen.ensures.empty (ap names ps);
+      known = λ lt. absurd (omega (arith, lt, c.new-found.ensures.len));
     }
 
 pub members-returns-in_default-token : goal.members-returns-in_default-token
@@ -121,13 +121,13 @@ members-returns-then-not-new t c =
     record {
       ok = tt;
       fault = subst (λ (e : TextError). FaultIs e (λ f. StuckAt c.args.left (open_object ∷ []) (rest c.args.reader.now) f)) (sym c.fault-then-not-new.ensures)
-          (double_stops c.args.left (rest c.args.reader.now) (member_views c.members.found.items) (seen c.members.first) (rest c.members.reader) (said c.in-Text.quoted.bytes.now) _ c.members.invariant.room c.members.invariant.inside (ap token_of c.in-Text.is) (known_name c.members.seen (names (member_views c.members.found.items)) c.into_bytes.result (said c.in-Text.quoted.bytes.now) c.in_ok-new.new c.members.invariant.known (ap (λ (v : Vec ℕ Global). v.items) c.into_bytes.ensures.value ∙ c.in_ok-key.ensures.said) c.in_ok-new.ensures.new c.if-not-new.true) refl refl);
+          (double_stops c.args.left (rest c.args.reader.now) (member_views c.members.found.items) (seen c.members.first) (rest c.members.reader) (said c.in-Text.quoted.bytes.now) _ c.members.invariant.room c.members.invariant.inside (ap token_of c.in-Text.is) (known_name (names (member_views c.members.found.items)) c.as_bytes.result.now (said c.in-Text.quoted.bytes.now) c.in_ok-new.new (c.as_bytes.ensures.value ∙ c.in_ok-name.ensures.said) c.in_ok-new.ensures.new c.if-not-new.true) refl refl);
       ahead = tt;
     }
 
 pub members-returns-in_default-token-2 : goal.members-returns-in_default-token-2
 members-returns-in_default-token-2 t c =
-    let new = new_name c.members.seen (names (member_views c.members.found.items)) c.into_bytes.result (said c.in-Text.quoted.bytes.now) c.in_ok-new.new c.members.invariant.known (ap (λ (v : Vec ℕ Global). v.items) c.into_bytes.ensures.value ∙ c.in_ok-key.ensures.said) c.in_ok-new.ensures.new c.if-not-new.false in
+    let new = new_name (names (member_views c.members.found.items)) c.as_bytes.result.now (said c.in-Text.quoted.bytes.now) c.in_ok-new.new (c.as_bytes.ensures.value ∙ c.in_ok-name.ensures.said) c.in_ok-new.ensures.new c.if-not-new.false in
     record {
       ok = tt;
       fault = subst (λ (e : TextError). FaultIs e (λ f. StuckAt c.args.left (open_object ∷ []) (rest c.args.reader.now) f)) (sym c.fault-in_default-token-2.ensures)
@@ -139,7 +139,7 @@ members-returns-in_default-token-2 t c =
 pub members-returns-in_err-inner : goal.members-returns-in_err-inner
 members-returns-in_err-inner t c =
     let p = err_from_is_err_and c.from_residual-in_err-inner.result c.from_residual-in_err-inner.ensures.1 in
-    let new = new_name c.members.seen (names (member_views c.members.found.items)) c.into_bytes.result (said c.in-Text.quoted.bytes.now) c.in_ok-new.new c.members.invariant.known (ap (λ (v : Vec ℕ Global). v.items) c.into_bytes.ensures.value ∙ c.in_ok-key.ensures.said) c.in_ok-new.ensures.new c.if-not-new.false in
+    let new = new_name (names (member_views c.members.found.items)) c.as_bytes.result.now (said c.in-Text.quoted.bytes.now) c.in_ok-new.new (c.as_bytes.ensures.value ∙ c.in_ok-name.ensures.said) c.in_ok-new.ensures.new c.if-not-new.false in
     rw (p.1, p.2) (record {
       ok = tt;
       fault = passes_on c.in_err-inner.field-0.0 _ _ (λ f s. value_stops c.args.left (rest c.args.reader.now) (member_views c.members.found.items) (seen c.members.first) (rest c.members.reader) (said c.in-Text.quoted.bytes.now) (seen c.next-between.result) (rest c.next-between.new.self) f c.members.invariant.room c.members.invariant.inside (ap token_of c.in-Text.is) new c.next-between.ensures.next (ap token_of c.in-Colon.is) (s (rest c.next-between.new.self) c.next-start.ensures.next)) c.in_err-inner.ensures.fault;
@@ -148,23 +148,23 @@ members-returns-in_err-inner t c =
 
 pub members-members-preserved : goal.members-members-preserved
 members-members-preserved t c =
-    let new = new_name c.members.seen (names (member_views c.members.found.items)) c.into_bytes.result (said c.in-Text.quoted.bytes.now) c.in_ok-new.new c.members.invariant.known (ap (λ (v : Vec ℕ Global). v.items) c.into_bytes.ensures.value ∙ c.in_ok-key.ensures.said) c.in_ok-new.ensures.new c.if-not-new.false in
+    let new = new_name (names (member_views c.members.found.items)) c.as_bytes.result.now (said c.in-Text.quoted.bytes.now) c.in_ok-new.new (c.as_bytes.ensures.value ∙ c.in_ok-name.ensures.said) c.in_ok-new.ensures.new c.if-not-new.false in
     let r = c.in_ok-inner.ensures.ok (rest c.next-between.new.self) c.next-start.ensures.next in
-    let ps = members_pushed c.members.found.items c.push.new.self.items c.in_ok-name.name c.in_ok-inner.inner (said c.in-Text.quoted.bytes.now) c.in_ok-push.ensures.items (c.in_ok-name.ensures.ok ∙ c.as_str.ensures.value ∙ c.in_ok-key.ensures.said) in
+    let ps = members_pushed c.members.found.items c.push.new.self.items c.in_ok-name.name c.in_ok-inner.inner (said c.in-Text.quoted.bytes.now) c.in_ok-push.ensures.items c.in_ok-name.ensures.said in
     record {
       inside = subst (λ (us : List Pair). InMembers c.args.left (rest c.args.reader.now) us (seen c.next-first-in-Comma.result) (rest c.next-first-in-Comma.new.self)) (sym ps)
           (members_go_on c.args.left (rest c.args.reader.now) (member_views c.members.found.items) (seen c.members.first) (rest c.members.reader) (said c.in-Text.quoted.bytes.now) (seen c.next-between.result) (rest c.next-between.new.self) (view c.in_ok-inner.inner) (rest c.value.new.reader) (seen c.next-behind.result) (rest c.next-behind.new.self) (seen c.next-first-in-Comma.result) (rest c.next-first-in-Comma.new.self)
           c.members.invariant.inside (ap token_of c.in-Text.is) new c.next-between.ensures.next (ap token_of c.in-Colon.is) r.takes r.pass c.next-behind.ensures.next (ap token_of c.in-Comma.is) c.next-first-in-Comma.ensures.next);
       on = omega (arith, c.next-first-in-Comma.ensures.ahead, c.next-behind.ensures.ahead, c.in_ok-inner.ensures.ahead, c.next-start.ensures.ahead, c.next-between.ensures.ahead, c.members.invariant.on);
       room = c.members.invariant.room;
-      known = knows_more c.members.seen c.add.new.seen (names (member_views c.members.found.items)) _ c.into_bytes.result (said c.in-Text.quoted.bytes.now) c.members.invariant.known (ap (λ (v : Vec ℕ Global). v.items) c.into_bytes.ensures.value ∙ c.in_ok-key.ensures.said) c.in_ok-new.ensures.keys (ap names ps ∙ names_push (member_views c.members.found.items) (of_member (said c.in-Text.quoted.bytes.now) (view c.in_ok-inner.inner)));
+      known = λ lt. knows_next c.is_new.new.seen (names (member_views c.members.found.items)) _ c.as_bytes.result.now (said c.in-Text.quoted.bytes.now) (c.in_ok-new.ensures.knows (omega (arith, lt, c.in_ok-push.ensures.len))) (c.as_bytes.ensures.value ∙ c.in_ok-name.ensures.said) (ap names ps ∙ names_push (member_views c.members.found.items) (of_member (said c.in-Text.quoted.bytes.now) (view c.in_ok-inner.inner)));
     }
 
 pub members-returns-in-CloseObject-token : goal.members-returns-in-CloseObject-token
 members-returns-in-CloseObject-token t c =
-    let new = new_name c.members.seen (names (member_views c.members.found.items)) c.into_bytes.result (said c.in-Text.quoted.bytes.now) c.in_ok-new.new c.members.invariant.known (ap (λ (v : Vec ℕ Global). v.items) c.into_bytes.ensures.value ∙ c.in_ok-key.ensures.said) c.in_ok-new.ensures.new c.if-not-new.false in
+    let new = new_name (names (member_views c.members.found.items)) c.as_bytes.result.now (said c.in-Text.quoted.bytes.now) c.in_ok-new.new (c.as_bytes.ensures.value ∙ c.in_ok-name.ensures.said) c.in_ok-new.ensures.new c.if-not-new.false in
     let r = c.in_ok-inner.ensures.ok (rest c.next-between.new.self) c.next-start.ensures.next in
-    let ps = members_pushed c.members.found.items c.push.new.self.items c.in_ok-name.name c.in_ok-inner.inner (said c.in-Text.quoted.bytes.now) c.in_ok-push.ensures.items (c.in_ok-name.ensures.ok ∙ c.as_str.ensures.value ∙ c.in_ok-key.ensures.said) in
+    let ps = members_pushed c.members.found.items c.push.new.self.items c.in_ok-name.name c.in_ok-inner.inner (said c.in-Text.quoted.bytes.now) c.in_ok-push.ensures.items c.in_ok-name.ensures.said in
     record {
       ok = subst (λ (us : List Pair). ReadsMembers c.args.left (rest c.args.reader.now) us (rest c.next-behind.new.self)) (sym ps)
           (members_end c.args.left (rest c.args.reader.now) (member_views c.members.found.items) (seen c.members.first) (rest c.members.reader) (said c.in-Text.quoted.bytes.now) (seen c.next-between.result) (rest c.next-between.new.self) (view c.in_ok-inner.inner) (rest c.value.new.reader) (seen c.next-behind.result) (rest c.next-behind.new.self)
@@ -175,7 +175,7 @@ members-returns-in-CloseObject-token t c =
 
 pub members-returns-in_default-token-3 : goal.members-returns-in_default-token-3
 members-returns-in_default-token-3 t c =
-    let new = new_name c.members.seen (names (member_views c.members.found.items)) c.into_bytes.result (said c.in-Text.quoted.bytes.now) c.in_ok-new.new c.members.invariant.known (ap (λ (v : Vec ℕ Global). v.items) c.into_bytes.ensures.value ∙ c.in_ok-key.ensures.said) c.in_ok-new.ensures.new c.if-not-new.false in
+    let new = new_name (names (member_views c.members.found.items)) c.as_bytes.result.now (said c.in-Text.quoted.bytes.now) c.in_ok-new.new (c.as_bytes.ensures.value ∙ c.in_ok-name.ensures.said) c.in_ok-new.ensures.new c.if-not-new.false in
     let r = c.in_ok-inner.ensures.ok (rest c.next-between.new.self) c.next-start.ensures.next in
     record {
       ok = tt;
