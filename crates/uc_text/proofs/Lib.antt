@@ -18,3 +18,4 @@ pub mod Words
 pub mod Decided
 pub mod Ending
 pub mod Escapes
+pub mod ShortNumbers
