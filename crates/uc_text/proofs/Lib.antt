@@ -19,3 +19,4 @@ pub mod Decided
 pub mod Ending
 pub mod Escapes
 pub mod ShortNumbers
+pub mod PlainStrings

@@ -19,3 +19,4 @@ pub mod Small
 pub mod Decimals
 pub mod Numerals
 pub mod Known
+pub mod Plain

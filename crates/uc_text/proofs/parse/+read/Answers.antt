@@ -121,13 +121,13 @@ members-returns-then-not-new t c =
     record {
       ok = tt;
       fault = subst (λ (e : TextError). FaultIs e (λ f. StuckAt c.args.left (open_object ∷ []) (rest c.args.reader.now) f)) (sym c.fault-then-not-new.ensures)
-          (double_stops c.args.left (rest c.args.reader.now) (member_views c.members.found.items) (seen c.members.first) (rest c.members.reader) (said c.in-Text.quoted.bytes.now) _ c.members.invariant.room c.members.invariant.inside (ap token_of c.in-Text.is) (known_name (names (member_views c.members.found.items)) c.as_bytes.result.now (said c.in-Text.quoted.bytes.now) c.in_ok-new.new (c.as_bytes.ensures.value ∙ c.in_ok-name.ensures.said) c.in_ok-new.ensures.new c.if-not-new.true) refl refl);
+          (double_stops c.args.left (rest c.args.reader.now) (member_views c.members.found.items) (seen c.members.first) (rest c.members.reader) (said c.in-Text.quoted.bytes.now) _ c.members.invariant.room c.members.invariant.inside (ap token_of c.in-Text.is) (known_name (names (member_views c.members.found.items)) c.as_bytes.result.now (said c.in-Text.quoted.bytes.now) c.in_ok-new.new (c.as_bytes.ensures.value ∙ c.in_ok-name.ensures) c.in_ok-new.ensures.new c.if-not-new.true) refl refl);
       ahead = tt;
     }
 
 pub members-returns-in_default-token-2 : goal.members-returns-in_default-token-2
 members-returns-in_default-token-2 t c =
-    let new = new_name (names (member_views c.members.found.items)) c.as_bytes.result.now (said c.in-Text.quoted.bytes.now) c.in_ok-new.new (c.as_bytes.ensures.value ∙ c.in_ok-name.ensures.said) c.in_ok-new.ensures.new c.if-not-new.false in
+    let new = new_name (names (member_views c.members.found.items)) c.as_bytes.result.now (said c.in-Text.quoted.bytes.now) c.in_ok-new.new (c.as_bytes.ensures.value ∙ c.in_ok-name.ensures) c.in_ok-new.ensures.new c.if-not-new.false in
     record {
       ok = tt;
       fault = subst (λ (e : TextError). FaultIs e (λ f. StuckAt c.args.left (open_object ∷ []) (rest c.args.reader.now) f)) (sym c.fault-in_default-token-2.ensures)
@@ -139,7 +139,7 @@ members-returns-in_default-token-2 t c =
 pub members-returns-in_err-inner : goal.members-returns-in_err-inner
 members-returns-in_err-inner t c =
     let p = err_from_is_err_and c.from_residual-in_err-inner.result c.from_residual-in_err-inner.ensures.1 in
-    let new = new_name (names (member_views c.members.found.items)) c.as_bytes.result.now (said c.in-Text.quoted.bytes.now) c.in_ok-new.new (c.as_bytes.ensures.value ∙ c.in_ok-name.ensures.said) c.in_ok-new.ensures.new c.if-not-new.false in
+    let new = new_name (names (member_views c.members.found.items)) c.as_bytes.result.now (said c.in-Text.quoted.bytes.now) c.in_ok-new.new (c.as_bytes.ensures.value ∙ c.in_ok-name.ensures) c.in_ok-new.ensures.new c.if-not-new.false in
     rw (p.1, p.2) (record {
       ok = tt;
       fault = passes_on c.in_err-inner.field-0.0 _ _ (λ f s. value_stops c.args.left (rest c.args.reader.now) (member_views c.members.found.items) (seen c.members.first) (rest c.members.reader) (said c.in-Text.quoted.bytes.now) (seen c.next-between.result) (rest c.next-between.new.self) f c.members.invariant.room c.members.invariant.inside (ap token_of c.in-Text.is) new c.next-between.ensures.next (ap token_of c.in-Colon.is) (s (rest c.next-between.new.self) c.next-start.ensures.next)) c.in_err-inner.ensures.fault;
@@ -148,23 +148,23 @@ members-returns-in_err-inner t c =
 
 pub members-members-preserved : goal.members-members-preserved
 members-members-preserved t c =
-    let new = new_name (names (member_views c.members.found.items)) c.as_bytes.result.now (said c.in-Text.quoted.bytes.now) c.in_ok-new.new (c.as_bytes.ensures.value ∙ c.in_ok-name.ensures.said) c.in_ok-new.ensures.new c.if-not-new.false in
+    let new = new_name (names (member_views c.members.found.items)) c.as_bytes.result.now (said c.in-Text.quoted.bytes.now) c.in_ok-new.new (c.as_bytes.ensures.value ∙ c.in_ok-name.ensures) c.in_ok-new.ensures.new c.if-not-new.false in
     let r = c.in_ok-inner.ensures.ok (rest c.next-between.new.self) c.next-start.ensures.next in
-    let ps = members_pushed c.members.found.items c.push.new.self.items c.in_ok-name.name c.in_ok-inner.inner (said c.in-Text.quoted.bytes.now) c.in_ok-push.ensures.items c.in_ok-name.ensures.said in
+    let ps = members_pushed c.members.found.items c.push.new.self.items c.in_ok-name.name c.in_ok-inner.inner (said c.in-Text.quoted.bytes.now) c.in_ok-push.ensures.items c.in_ok-name.ensures in
     record {
       inside = subst (λ (us : List Pair). InMembers c.args.left (rest c.args.reader.now) us (seen c.next-first-in-Comma.result) (rest c.next-first-in-Comma.new.self)) (sym ps)
           (members_go_on c.args.left (rest c.args.reader.now) (member_views c.members.found.items) (seen c.members.first) (rest c.members.reader) (said c.in-Text.quoted.bytes.now) (seen c.next-between.result) (rest c.next-between.new.self) (view c.in_ok-inner.inner) (rest c.value.new.reader) (seen c.next-behind.result) (rest c.next-behind.new.self) (seen c.next-first-in-Comma.result) (rest c.next-first-in-Comma.new.self)
           c.members.invariant.inside (ap token_of c.in-Text.is) new c.next-between.ensures.next (ap token_of c.in-Colon.is) r.takes r.pass c.next-behind.ensures.next (ap token_of c.in-Comma.is) c.next-first-in-Comma.ensures.next);
       on = omega (arith, c.next-first-in-Comma.ensures.ahead, c.next-behind.ensures.ahead, c.in_ok-inner.ensures.ahead, c.next-start.ensures.ahead, c.next-between.ensures.ahead, c.members.invariant.on);
       room = c.members.invariant.room;
-      known = λ lt. knows_next c.is_new.new.seen (names (member_views c.members.found.items)) _ c.as_bytes.result.now (said c.in-Text.quoted.bytes.now) (c.in_ok-new.ensures.knows (omega (arith, lt, c.in_ok-push.ensures.len))) (c.as_bytes.ensures.value ∙ c.in_ok-name.ensures.said) (ap names ps ∙ names_push (member_views c.members.found.items) (of_member (said c.in-Text.quoted.bytes.now) (view c.in_ok-inner.inner)));
+      known = λ lt. knows_next c.is_new.new.seen (names (member_views c.members.found.items)) _ c.as_bytes.result.now (said c.in-Text.quoted.bytes.now) (c.in_ok-new.ensures.knows (omega (arith, lt, c.in_ok-push.ensures.len))) (c.as_bytes.ensures.value ∙ c.in_ok-name.ensures) (ap names ps ∙ names_push (member_views c.members.found.items) (of_member (said c.in-Text.quoted.bytes.now) (view c.in_ok-inner.inner)));
     }
 
 pub members-returns-in-CloseObject-token : goal.members-returns-in-CloseObject-token
 members-returns-in-CloseObject-token t c =
-    let new = new_name (names (member_views c.members.found.items)) c.as_bytes.result.now (said c.in-Text.quoted.bytes.now) c.in_ok-new.new (c.as_bytes.ensures.value ∙ c.in_ok-name.ensures.said) c.in_ok-new.ensures.new c.if-not-new.false in
+    let new = new_name (names (member_views c.members.found.items)) c.as_bytes.result.now (said c.in-Text.quoted.bytes.now) c.in_ok-new.new (c.as_bytes.ensures.value ∙ c.in_ok-name.ensures) c.in_ok-new.ensures.new c.if-not-new.false in
     let r = c.in_ok-inner.ensures.ok (rest c.next-between.new.self) c.next-start.ensures.next in
-    let ps = members_pushed c.members.found.items c.push.new.self.items c.in_ok-name.name c.in_ok-inner.inner (said c.in-Text.quoted.bytes.now) c.in_ok-push.ensures.items c.in_ok-name.ensures.said in
+    let ps = members_pushed c.members.found.items c.push.new.self.items c.in_ok-name.name c.in_ok-inner.inner (said c.in-Text.quoted.bytes.now) c.in_ok-push.ensures.items c.in_ok-name.ensures in
     record {
       ok = subst (λ (us : List Pair). ReadsMembers c.args.left (rest c.args.reader.now) us (rest c.next-behind.new.self)) (sym ps)
           (members_end c.args.left (rest c.args.reader.now) (member_views c.members.found.items) (seen c.members.first) (rest c.members.reader) (said c.in-Text.quoted.bytes.now) (seen c.next-between.result) (rest c.next-between.new.self) (view c.in_ok-inner.inner) (rest c.value.new.reader) (seen c.next-behind.result) (rest c.next-behind.new.self)
@@ -175,7 +175,7 @@ members-returns-in-CloseObject-token t c =
 
 pub members-returns-in_default-token-3 : goal.members-returns-in_default-token-3
 members-returns-in_default-token-3 t c =
-    let new = new_name (names (member_views c.members.found.items)) c.as_bytes.result.now (said c.in-Text.quoted.bytes.now) c.in_ok-new.new (c.as_bytes.ensures.value ∙ c.in_ok-name.ensures.said) c.in_ok-new.ensures.new c.if-not-new.false in
+    let new = new_name (names (member_views c.members.found.items)) c.as_bytes.result.now (said c.in-Text.quoted.bytes.now) c.in_ok-new.new (c.as_bytes.ensures.value ∙ c.in_ok-name.ensures) c.in_ok-new.ensures.new c.if-not-new.false in
     let r = c.in_ok-inner.ensures.ok (rest c.next-between.new.self) c.next-start.ensures.next in
     record {
       ok = tt;
