@@ -5,6 +5,7 @@ use Rattle.std.proofs.Math.Seq.{take-add, take-append_seam, drop-append_seam}
 use Rattle.std.proofs.lemmas.Bool.Decides.{nat_tests, eqb_tells}
 use Rattle.std.proofs.lemmas.List.{take_more, append-nil}
 use Rattle.std.proofs.lemmas.List.Folds.{length-prefix_len}
+use Rattle.std.proofs.lemmas.List.Sums.{prefix_len_passes}
 use Rattle.std.specs.List.{prefix_len}
 use Rattle.uc_text.specs.Values.{number}
 use Rattle.uc_text.specs.Grammar.{word}
@@ -59,7 +60,7 @@ pub front_digits : (bs : List ℕ) → AreDigits (front bs)
 unfolding front
 front_digits bs = digits_in_front bs
 
-no_such : (d c : ℕ) → (d ≡ c → ⊥) → nat_eq d c ≡ false
+pub no_such : (d c : ℕ) → (d ≡ c → ⊥) → nat_eq d c ≡ false
 no_such d c e = grind (arith, nat_tests, e)
 
 some_digits : (ds : List ℕ) → is_whole_part ds ≡ true → 0 < length ds
@@ -145,3 +146,9 @@ fraction_number bs tail n p q e p_is w b tail_is some q_is ends is few exponent_
     let len : prefix_len is_number_byte bs ≡ prefix_len is_digit bs + suc (prefix_len is_digit tail) = omega (arith, digits_then bs, behind_digits, digits_then tail, ends') in
     let run : take (prefix_len is_number_byte bs) bs ≡ front bs ++ 46 ∷ front tail = ap (λ (k : ℕ). take k bs) len ∙ run_is_parts bs tail split' in
     ap₂ (λ t k. (t, k)) (sym (ap number_of run ∙ parts_are (front bs) (front tail) n q e (front_digits bs) (front_digits tail) w some (front_len tail ∙ sym q_is) is few exponent_is)) (omega (arith, p_is, q_is, len))
+
+pub first_digit : (bs : List ℕ) (n : ℕ) → n ≡ prefix_len is_digit bs → is_whole_part (front bs) ≡ true → (is_digit (get_or bs 0 0) ≡ true) × (0 < n)
+first_digit bs n e w =
+    let some = some_digits (front bs) w in
+    let lt : 0 < prefix_len is_digit bs = omega (arith, some, front_len bs) in
+    (prefix_len_passes is_digit bs 0 0 lt, omega (arith, e, lt))

@@ -1,5 +1,6 @@
 //! The number that a run of bytes is.
 ghost use Rattle.std.specs.Prelude.{◌≡◌, ◌<◌, ◌≤◌, ◌^◌, ◌++◌, [], length, drop, IfSome, IfNone};
+ghost use Rattle.std.specs.Prelude.{slice_index};
 ghost use Rattle.std.specs.Prelude.{true, false, if◌then◌else◌, pos, neg_ℤ, ◌-ℤ◌};
 ghost use Rattle.std.specs.List.{prefix_len};
 ghost use Rattle.uc_text.specs.Numbers.{is_digit as digit, is_number_byte as number_byte};
@@ -296,6 +297,8 @@ fn short_fraction(whole: u32, bytes: &[u8]) -> Option<(SmallNumber, usize)>
 pub fn short_number(bytes: &[u8]) -> Option<(SmallNumber, usize)>
     ensures is { IfSome result
         (λ r. (word (number (decimal_of r.0)), r.1) ≡ number_at bytes.now) }
+    ensures first { IfSome result
+        (λ r. (digit (slice_index bytes.now 0) ≡ true) × (0 < r.1)) }
     ensures within { IfSome result (λ r. r.1 ≤ length bytes.now) }
 {
     let (digits, len) = digits_ahead(0, bytes)?;

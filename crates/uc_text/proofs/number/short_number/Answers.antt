@@ -1,10 +1,10 @@
-use Rattle.std.proofs.Common.{◌≡◌, ◌+◌, ℕ, List, Bool, false, true, take, drop, sym, ap, subst, ◌∙◌, pos, ℤ}
+use Rattle.std.proofs.Common.{◌≡◌, ◌+◌, ℕ, List, Bool, false, true, take, drop, sym, ap, subst, ◌∙◌, arith, pos, ℤ}
 use Rattle.std.specs.List.{prefix_len}
 use Rattle.uc_text.specs.Values.{number}
 use Rattle.uc_text.specs.Grammar.{word}
 use Rattle.uc_text.specs.Tokens.{Read}
 use Rattle.uc_text.specs.Numbers.{is_digit, is_number_byte, value_from, front, begins_with, is_whole_part}
-use Rattle.uc_text.proofs.ShortNumbers.{whole_number, fraction_number}
+use Rattle.uc_text.proofs.ShortNumbers.{whole_number, fraction_number, first_digit}
 use Rattle.uc_text.proofs.number.short_number.Goals as goal
 
 front_at : (bs : List ℕ) (n : ℕ) → n ≡ prefix_len is_digit bs → is_whole_part (take n bs) ≡ true → is_whole_part (front bs) ≡ true
@@ -36,3 +36,16 @@ returns-clause-is c =
     let whole = front_at bs len c.in_ok-digits.ensures.len (sym c.is_whole_part.ensures ∙ c.if-not-is_whole_part.false) in
     let ends = ap (λ (k : ℕ). prefix_len is_number_byte (drop k bs)) (sym c.in_ok-digits.ensures.len) ∙ ap (prefix_len is_number_byte) (sym c.rest_from-others.ensures) ∙ c.ends_number.ensures c.if-not-ends_number.false in
     ap (λ (k : ℕ). as_read false n (pos 0) k) c.in_ok-digits.ensures.len ∙ whole_number bs n whole ends c.in_ok-digits.ensures.value c.in_ok-digits.ensures.small
+
+pub returns-then-begins_with-clause-first : goal.returns-then-begins_with-clause-first
+returns-then-begins_with-clause-first c =
+    let bs = c.args.bytes.now in
+    let len = c.in_ok-digits.len in
+    let f = first_digit bs len c.in_ok-digits.ensures.len (front_at bs len c.in_ok-digits.ensures.len (sym c.is_whole_part.ensures ∙ c.if-not-is_whole_part.false)) in
+    (f.0, omega arith)
+
+pub returns-clause-first : goal.returns-clause-first
+returns-clause-first c =
+    let bs = c.args.bytes.now in
+    let len = c.in_ok-digits.len in
+    first_digit bs len c.in_ok-digits.ensures.len (front_at bs len c.in_ok-digits.ensures.len (sym c.is_whole_part.ensures ∙ c.if-not-is_whole_part.false))

@@ -1,6 +1,8 @@
-use Rattle.std.proofs.Common.{◌≡◌, ℕ, ◌++◌, ◌∷◌, [], List, refl, sym, ap, subst, ◌∙◌, arith}
+use Rattle.std.proofs.Common.{Vec, Global, length, ◌<◌, ◌≡◌, ℕ, ◌++◌, ◌∷◌, [], List, refl, sym, ap, subst, ◌∙◌, arith}
 use Rattle.std.proofs.lemmas.Result.{err_from_is_err_and}
-use Rattle.std.proofs.lemmas.List.{map_push}
+use Rattle.std.proofs.lemmas.List.{map_push, length-map}
+use Rattle.std.specs.Prelude.{vec_len}
+use Rattle.uc_text.specs.declared.tree.Tree.{Tree}
 use Rattle.uc_text.specs.Values.{Value, text}
 use Rattle.uc_text.specs.Strings.{said}
 use Rattle.uc_text.specs.Grammar.{Token, open_list, open_object}
@@ -8,14 +10,14 @@ use Rattle.uc_text.specs.Parts.{Pair, names, IsStuck}
 use Rattle.uc_text.specs.Faults.{levels}
 use Rattle.uc_text.specs.Tokens.{Placed}
 use Rattle.uc_text.specs.declared.fault.TextCode.TheVariants.{NotJson, TooDeep}
-use Rattle.uc_text.specs.Places.{NextIs, seen, Reads, ReadsItems, ReadsMembers, StuckAt, FaultIs}
+use Rattle.uc_text.specs.Places.{AtItem, NextIs, seen, Reads, ReadsItems, ReadsMembers, StuckAt, FaultIs}
 use Rattle.uc_text.specs.Ahead.{rest}
 use Rattle.uc_text.specs.Seen.{token_of, scalar_of}
 use Rattle.uc_text.proofs.Words.{word_read, word_stops}
 use Rattle.uc_text.specs.View.{view, views, member_views}
 use Rattle.uc_text.specs.declared.fault.TextError.{TextError}
 use Rattle.uc_text.proofs.OtherTokens.{not_close_list, not_close_object, not_comma, not_colon, not_text, not_start, passes_on}
-use Rattle.uc_text.proofs.Steps.{InItems, items_begin, items_empty, items_go_on, items_end, items_stop, items_stop_behind}
+use Rattle.uc_text.proofs.Steps.{InItems, items_begin, items_empty, at_next, read_first, items_end, items_stop, items_stop_behind}
 use Rattle.uc_text.proofs.Known.{known_name, new_name, knows_next}
 use Rattle.uc_text.proofs.Objects.{of_member, names_push}
 use Rattle.uc_text.proofs.MemberSteps.{InMembers, members_begin, members_empty, members_go_on, members_end, name_stops, double_stops, colon_stops, value_stops, member_stops_behind}
@@ -24,6 +26,9 @@ use Rattle.uc_text.proofs.Views.{members_pushed}
 use Rattle.uc_text.proofs.parse.+read.Goals as goal
 
 -- ---- items
+
+some_left : (v : Vec Tree Global) → 0 < vec_len v → views v.items ≡ [] → ⊥
+some_left v lt none = omega (arith, lt, v.ok.0, length-map v.items view, ap length none)
 
 pub items-returns-in-CloseList-clause-ok : goal.items-returns-in-CloseList-clause-ok
 items-returns-in-CloseList-clause-ok t c =
@@ -55,11 +60,15 @@ items-items-preserved t c =
     let v = c.in_ok-item.item in
     let r = c.in_ok-item.ensures.ok i.ahead i.next in
     let vs : views c.push.new.self.items ≡ views c.items.found.items ++ view v ∷ [] = ap views c.in_ok-push.ensures.items ∙ map_push _ c.items.found.items v in
+    let at : AtItem c.args.left (rest c.args.reader.now) (views c.push.new.self.items) (rest c.next-behind.new.self) =
+    subst (λ (us : List Value). AtItem c.args.left (rest c.args.reader.now) us (rest c.next-behind.new.self)) (sym vs)
+    (at_next c.args.left (rest c.args.reader.now) (views c.items.found.items) (seen c.items.first) (rest c.items.reader) (view v) (rest c.value.new.reader) (seen c.next-behind.result) (rest c.next-behind.new.self)
+    i r.takes r.pass c.next-behind.ensures.next (ap token_of c.in-Comma.is)) in
     record {
-      inside = subst (λ (us : List Value). InItems c.args.left (rest c.args.reader.now) us (seen c.next-first-in-Comma.result) (rest c.next-first-in-Comma.new.self)) (sym vs)
-          (items_go_on c.args.left (rest c.args.reader.now) (views c.items.found.items) (seen c.items.first) (rest c.items.reader) (view v) (rest c.value.new.reader) (seen c.next-behind.result) (rest c.next-behind.new.self) (seen c.next-first-in-Comma.result) (rest c.next-first-in-Comma.new.self)
-          i r.takes r.pass c.next-behind.ensures.next (ap token_of c.in-Comma.is) c.next-first-in-Comma.ensures.next);
-      on = omega (arith, c.next-first-in-Comma.ensures.ahead, c.next-behind.ensures.ahead, c.in_ok-item.ensures.ahead, c.items.invariant.on);
+      inside = read_first c.args.left (rest c.args.reader.now) (views c.pass_numbers.new.found.items) (rest c.pass_numbers.new.reader) (seen c.next-first-in-Comma.result) (rest c.next-first-in-Comma.new.self)
+          (c.in_ok-pass_numbers-in-Comma.ensures.passed c.args.left (rest c.args.reader.now) at) c.next-first-in-Comma.ensures.next
+          (λ none. some_left c.pass_numbers.new.found (omega (arith, c.in_ok-pass_numbers-in-Comma.ensures.more, c.in_ok-push.ensures.len)) none);
+      on = omega (arith, c.next-first-in-Comma.ensures.ahead, c.in_ok-pass_numbers-in-Comma.ensures.ahead, c.next-behind.ensures.ahead, c.in_ok-item.ensures.ahead, c.items.invariant.on);
       room = c.items.invariant.room;
     }
 
