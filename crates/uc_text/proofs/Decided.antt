@@ -15,7 +15,8 @@ use Rattle.uc_text.specs.declared.fault.TextFault.{TextFault}
 use Rattle.uc_text.proofs.Ending.{goes-token_at}
 use Rattle.uc_text.proofs.Spellings.{is_start}
 use Rattle.uc_text.proofs.Objects.{of_member}
-use Rattle.uc_text.proofs.Known.{is_there, there_has, there_new}
+use Rattle.uc_text.proofs.Known.{there_has, there_new}
+use Rattle.uc_text.specs.Known.{is_there}
 use Rattle.uc_text.proofs.Steps.{InItems, items_begin, items_empty, items_go_on, items_end, items_stop, items_stop_behind}
 use Rattle.uc_text.proofs.MemberSteps.{InMembers, members_begin, members_empty, members_go_on, members_end, name_stops, double_stops, colon_stops, value_stops, member_stops_behind}
 use Rattle.uc_text.proofs.ValueSteps as first

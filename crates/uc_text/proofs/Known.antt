@@ -1,14 +1,12 @@
 -- A set that has the names of the members so far.
-use Rattle.std.proofs.Common.{◌≡◌, ℕ, zero, suc, Bool, true, false, true≢false, not, cond, ◌||◌, ◌⊎◌, List, [], ◌∷◌, ◌++◌, bytes_eq, refl, sym, ap, subst, ◌∙◌, arith, inl, inr}
+use Rattle.std.proofs.Common.{◌≡◌, ℕ, zero, suc, Bool, true, false, true≢false, not, cond, ◌||◌, ◌⊎◌, List, [], ◌∷◌, ◌++◌, bytes_eq, length, get_or, ◌<◌, refl, sym, ap, ap₂, subst, ◌∙◌, arith, inl, inr}
 use Rattle.std.specs.Prelude.{Contains}
 use Rattle.std.specs.List.{list_any}
 use Rattle.std.specs.Global.{Vec}
 use Rattle.std.specs.HashSet.{HashSet, contains_by}
+use Rattle.uc_text.specs.Known.{is_there, Knows}
 use Rattle.uc_text.specs.Parts.{IsNewName}
 use Rattle.uc_text.proofs.Views.{equal_bytes, unequal_bytes}
-
-abbrev pub is_there : List ℕ → List (List ℕ) → Bool
-is_there q ks = list_any (λ k. bytes_eq q k) ks
 
 or_true : (a b : Bool) → (a || b) ≡ true → (a ≡ true) ⊎ (b ≡ true)
 or_true true b e = inl refl
@@ -49,13 +47,19 @@ there_new q [] e i d lt same = absurd (omega arith)
 there_new q (k ∷ ks) e zero d lt same = unequal_bytes q k (or_false (bytes_eq q k) (is_there q ks) e).0 (sym same)
 there_new q (k ∷ ks) e (suc i) d lt same = there_new q ks (or_false (bytes_eq q k) (is_there q ks) e).1 i d (omega arith) same
 
+-- by the place of a name
+pub there_at : (q : List ℕ) (ks : List (List ℕ)) (k : ℕ) → k < length ks → bytes_eq q (get_or ks k []) ≡ true → is_there q ks ≡ true
+there_at q [] k lt e = absurd (omega arith)
+there_at q (j ∷ ks) zero lt e = ap (λ (b : Bool). b || is_there q ks) e
+there_at q (j ∷ ks) (suc k) lt e = ap (λ (b : Bool). bytes_eq q j || b) (there_at q ks k (omega arith) e) ∙ or_with_true (bytes_eq q j)
+
+pub there_nowhere : (q : List ℕ) (ks : List (List ℕ)) → ((k : ℕ) → k < length ks → bytes_eq q (get_or ks k []) ≡ false) → is_there q ks ≡ false
+there_nowhere q [] h = refl
+there_nowhere q (j ∷ ks) h = ap₂ (λ (a b : Bool). a || b) (h 0 (omega arith)) (there_nowhere q ks (λ k lt. h (suc k) (omega arith)))
+
 pub there_push : (q : List ℕ) (ks : List (List ℕ)) (k : List ℕ) → is_there q (ks ++ k ∷ []) ≡ cond (bytes_eq k q) true (is_there q ks)
 there_push q [] k = ap (λ (b : Bool). b || false) (same_test q k (bytes_eq q k) (bytes_eq k q) refl refl) ∙ last_alone (bytes_eq k q)
 there_push q (j ∷ ks) k = ap (λ (b : Bool). bytes_eq q j || b) (there_push q ks k) ∙ or_last (bytes_eq q j) (is_there q ks) (bytes_eq k q)
-
--- The set has these names.
-abbrev pub Knows : {S : Type 0} → HashSet (Vec ℕ) S → List (List ℕ) → Type 0
-Knows s ks = (q : Vec ℕ) → contains_by (λ k. bytes_eq q.items k.items) s ≡ is_there q.items ks
 
 not_false : (b : Bool) → not b ≡ false → b ≡ true
 not_false true e = refl
@@ -65,11 +69,11 @@ not_true : (b : Bool) → not b ≡ true → b ≡ false
 not_true true e = absurd (true≢false (sym e))
 not_true false e = refl
 
-pub known_name : {S : Type 0} (s : HashSet (Vec ℕ) S) (ks : List (List ℕ)) (key : Vec ℕ) (k : List ℕ) (new : Bool) → Knows s ks → key.items ≡ k → new ≡ not (contains_by (λ j. bytes_eq key.items j.items) s) → new ≡ false → Contains ks k
-known_name s ks key k new h is e off = subst (λ (j : List ℕ). Contains ks j) is (there_has key.items ks (sym (h key) ∙ not_false _ (sym e ∙ off)))
+pub known_name : (ks : List (List ℕ)) (name k : List ℕ) (new : Bool) → name ≡ k → new ≡ not (is_there name ks) → new ≡ false → Contains ks k
+known_name ks name k new is e off = subst (λ (j : List ℕ). Contains ks j) is (there_has name ks (not_false _ (sym e ∙ off)))
 
-pub new_name : {S : Type 0} (s : HashSet (Vec ℕ) S) (ks : List (List ℕ)) (key : Vec ℕ) (k : List ℕ) (new : Bool) → Knows s ks → key.items ≡ k → new ≡ not (contains_by (λ j. bytes_eq key.items j.items) s) → new ≡ true → IsNewName ks k
-new_name s ks key k new h is e on = subst (λ (j : List ℕ). IsNewName ks j) is (there_new key.items ks (sym (h key) ∙ not_true _ (sym e ∙ on)))
+pub new_name : (ks : List (List ℕ)) (name k : List ℕ) (new : Bool) → name ≡ k → new ≡ not (is_there name ks) → new ≡ true → IsNewName ks k
+new_name ks name k new is e on = subst (λ (j : List ℕ). IsNewName ks j) is (there_new name ks (not_true _ (sym e ∙ on)))
 
 pub knows_more : {S : Type 0} (s t : HashSet (Vec ℕ) S) (ks js : List (List ℕ)) (key : Vec ℕ) (k : List ℕ) → Knows s ks → key.items ≡ k
     → ((q : Vec ℕ) → contains_by (λ j. bytes_eq q.items j.items) t ≡ cond (bytes_eq key.items q.items) true (contains_by (λ j. bytes_eq q.items j.items) s)) → js ≡ ks ++ k ∷ [] → Knows t js
@@ -78,3 +82,6 @@ knows_more s t ks js key k h is more same q =
 
 pub knows_none : {S : Type 0} (s : HashSet (Vec ℕ) S) (ks : List (List ℕ)) → s.keys ≡ [] → ks ≡ [] → Knows s ks
 knows_none s ks e f q = ap (λ (vs : List (Vec ℕ)). list_any (λ k. bytes_eq q.items k.items) vs) e ∙ ap (is_there q.items) (sym f)
+
+pub knows_next : {S : Type 0} (s : HashSet (Vec ℕ) S) (ks js : List (List ℕ)) (name k : List ℕ) → Knows s (ks ++ name ∷ []) → name ≡ k → js ≡ ks ++ k ∷ [] → Knows s js
+knows_next s ks js name k h is same = subst (Knows s) (ap (λ (j : List ℕ). ks ++ j ∷ []) is ∙ sym same) h

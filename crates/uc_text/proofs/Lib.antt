@@ -18,3 +18,5 @@ pub mod Words
 pub mod Decided
 pub mod Ending
 pub mod Escapes
+pub mod ShortNumbers
+pub mod PlainStrings

@@ -33,7 +33,7 @@ value-append n (x ∷ xs) ys = value-append (10 * n + (x - 48)) xs ys
 
 -- ---- which numbers are too long
 
-and_false : (a : Bool) → (a && false) ≡ false
+pub and_false : (a : Bool) → (a && false) ≡ false
 and_false true = refl
 and_false false = refl
 
@@ -80,24 +80,14 @@ grown n whole fraction le = let g = grows (value whole) fraction in omega arith
 
 -- ---- a whole number alone
 
-none_left : (bs : List ℕ) → length bs ≡ 0 → bs ≡ []
-none_left [] e = refl
-none_left (b ∷ bs) e = absurd (omega (arith, e))
-
-plain_exponent : pos 0 ≡ exponent_of false [] []
+pub plain_exponent : pos 0 ≡ exponent_of false [] []
 unfolding exponent_of
 plain_exponent = refl
 
-no_minus : (run : List ℕ) → begins_with 45 run ≡ false → number_of run ≡ unsigned false run
+pub no_minus : (run : List ℕ) → begins_with 45 run ≡ false → number_of run ≡ unsigned false run
 unfolding number_of
 no_minus run e = rw e refl
 
-nothing_behind : (run whole : List ℕ) → whole ≡ front run → [] ≡ behind run → is_whole_part whole ≡ true → unsigned false run ≡ number_token false whole [] false []
+pub nothing_behind : (run whole : List ℕ) → whole ≡ front run → [] ≡ behind run → is_whole_part whole ≡ true → unsigned false run ≡ number_token false whole [] false []
 unfolding unsigned behind_whole behind_fraction
 nothing_behind run whole e f w = rw (← e, ← f, w) refl
-
-pub whole_alone : (run whole others : List ℕ) (n : ℕ) → begins_with 45 run ≡ false → whole ≡ front run → others ≡ behind run → AreDigits whole → is_whole_part whole ≡ true → length others ≡ 0 → n ≡ value whole → n ≤ 999999
-    → number_of run ≡ word (number (record { negative = false; digits = n; exponent = pos 0 }))
-whole_alone run whole others n plain e f digits w none is few =
-    no_minus run plain ∙ nothing_behind run whole e (sym (none_left others none) ∙ f) w
-    ∙ sym (short_enough false whole [] false [] n (pos 0) digits tt is (omega (arith, few)) (omega arith) plain_exponent)

@@ -7,7 +7,7 @@ use Rattle.uc_text.specs.Faults.{double_keys, Passes, ItemsPass}
 use Rattle.uc_text.specs.Parts.{items_of, passed_items, opened, IsStuck}
 use Rattle.uc_text.specs.Tokens.{Placed, kinds}
 use Rattle.uc_text.specs.Goes.{goes}
-use Rattle.uc_text.specs.Places.{test_of, NextIs, Takes, StuckAt, ReadsItems}
+use Rattle.uc_text.specs.Places.{test_of, AtItem, NextIs, Takes, StuckAt, ReadsItems}
 use Rattle.uc_text.specs.declared.fault.TextCode.TheVariants.{NotJson}
 use Rattle.uc_text.specs.declared.fault.TextFault.{TextFault}
 use Rattle.uc_text.proofs.Spellings.{heads}
@@ -77,15 +77,26 @@ pub record InItems (m : ℕ) (all : List Placed) (vs : List Value) (first : Plac
 pub items_begin : (m : ℕ) (all : List Placed) (first : Placed) (others : List Placed) → NextIs all first others → first.token ≢ close_list → InItems m all [] first others
 items_begin m all first others n front = record { ahead = all; passed = record { part = []; parts = refl; kinds_are = refl }; next = n; pass = tt; some = λ _. front }
 
+-- behind a comma, before that token is read
+pub at_next : (m : ℕ) (all : List Placed) (vs : List Value) (first : Placed) (r0 : List Placed) (v : Value) (r1 : List Placed) (behind : Placed) (r2 : List Placed)
+    → (i : InItems m all vs first r0) → Takes i.ahead (spell v) r1 → Passes double_keys (m - 1) v → NextIs r1 behind r2 → behind.token ≡ comma → AtItem m all (vs ++ v ∷ []) r2
+at_next m all vs first r0 v r1 behind r2 i t p n is = record {
+  passed = subst (λ (ts : List Token). Takes all ts r2) (sym (passed_push vs v)) (Takes-then all i.ahead r2 (passed_items vs) (spell v ++ comma ∷ []) i.passed (Takes-then i.ahead r1 r2 (spell v) (comma ∷ []) t (takes_next r1 behind r2 comma n is refl)));
+  pass = items_pass_push double_keys (m - 1) vs v i.pass p;
+}
+
+pub one_more : (m : ℕ) (all : List Placed) (vs : List Value) (r0 : List Placed) (v : Value) (r1 : List Placed) → AtItem m all vs r0 → Takes r0 (spell v ++ comma ∷ []) r1 → Passes double_keys (m - 1) v → AtItem m all (vs ++ v ∷ []) r1
+one_more m all vs r0 v r1 i t p = record {
+  passed = subst (λ (ts : List Token). Takes all ts r1) (sym (passed_push vs v)) (Takes-then all r0 r1 (passed_items vs) (spell v ++ comma ∷ []) i.passed t);
+  pass = items_pass_push double_keys (m - 1) vs v i.pass p;
+}
+
+pub read_first : (m : ℕ) (all : List Placed) (vs : List Value) (r0 : List Placed) (first : Placed) (others : List Placed) → AtItem m all vs r0 → NextIs r0 first others → (vs ≡ [] → ⊥) → InItems m all vs first others
+read_first m all vs r0 first others i n some = record { ahead = r0; passed = i.passed; next = n; pass = i.pass; some = λ none. absurd (some none) }
+
 pub items_go_on : (m : ℕ) (all : List Placed) (vs : List Value) (first : Placed) (r0 : List Placed) (v : Value) (r1 : List Placed) (behind : Placed) (r2 : List Placed) (first' : Placed) (r3 : List Placed)
     → (i : InItems m all vs first r0) → Takes i.ahead (spell v) r1 → Passes double_keys (m - 1) v → NextIs r1 behind r2 → behind.token ≡ comma → NextIs r2 first' r3 → InItems m all (vs ++ v ∷ []) first' r3
-items_go_on m all vs first r0 v r1 behind r2 first' r3 i t p n is n' = record {
-  ahead = r2;
-  passed = subst (λ (ts : List Token). Takes all ts r2) (sym (passed_push vs v)) (Takes-then all i.ahead r2 (passed_items vs) (spell v ++ comma ∷ []) i.passed (Takes-then i.ahead r1 r2 (spell v) (comma ∷ []) t (takes_next r1 behind r2 comma n is refl)));
-  next = n';
-  pass = items_pass_push double_keys (m - 1) vs v i.pass p;
-  some = λ none. absurd (push_is_some vs v none);
-}
+items_go_on m all vs first r0 v r1 behind r2 first' r3 i t p n is n' = read_first m all (vs ++ v ∷ []) r2 first' r3 (at_next m all vs first r0 v r1 behind r2 i t p n is) n' (push_is_some vs v)
 
 pub items_end : (m : ℕ) (all : List Placed) (vs : List Value) (first : Placed) (r0 : List Placed) (v : Value) (r1 : List Placed) (behind : Placed) (r2 : List Placed)
     → (i : InItems m all vs first r0) → Takes i.ahead (spell v) r1 → Passes double_keys (m - 1) v → NextIs r1 behind r2 → behind.token ≡ close_list → ReadsItems m all (vs ++ v ∷ []) r2

@@ -19,16 +19,16 @@ pub ends : (bs : List ℕ) (at : ℕ) → length bs ≤ at → string_from 0 (dr
 unfolding string_from
 ends bs at le = ap (string_from 0) (drop_all at bs le)
 
-is_quote : (b : ℕ) → b ≡ 34 → nat_eq b 34 ≡ true
+pub is_quote : (b : ℕ) → b ≡ 34 → nat_eq b 34 ≡ true
 is_quote b e = grind (arith, nat_tests, e)
 
-is_no_quote : (b : ℕ) → b ≢ 34 → nat_eq b 34 ≡ false
+pub is_no_quote : (b : ℕ) → b ≢ 34 → nat_eq b 34 ≡ false
 is_no_quote b e = grind (arith, nat_tests, e)
 
 abbrev joined : ℕ → List ℕ → Option Piece → Option Piece
 joined b bs p = option_and_then (λ q. option_map (after_piece q) (string_from (q.1 - 1) bs)) p
 
-opened : (b : ℕ) (bs : List ℕ) (t : Bool) (p : Option Piece) → nat_eq b 34 ≡ t → piece_at b (b ∷ bs) ≡ p → string_from 0 (b ∷ bs) ≡ cond t (Some ([], 0)) (joined b bs p)
+pub opened : (b : ℕ) (bs : List ℕ) (t : Bool) (p : Option Piece) → nat_eq b 34 ≡ t → piece_at b (b ∷ bs) ≡ p → string_from 0 (b ∷ bs) ≡ cond t (Some ([], 0)) (joined b bs p)
 unfolding string_from
 opened b bs t p e f = ap (λ (u : Bool). cond u (Some ([], 0)) (joined b bs (piece_at b (b ∷ bs)))) e ∙ ap (λ (q : Option Piece). cond t (Some ([], 0)) (joined b bs q)) f
 

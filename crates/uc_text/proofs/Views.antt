@@ -45,6 +45,9 @@ pub names_len : (ms : List Member) → length (names (member_views ms)) ≡ leng
 names_len [] = refl
 names_len (m ∷ ms) = ap suc (names_len ms)
 
+pub name_at : (ms items : List Member) (k : ℕ) (m : Member) → items ≡ ms → k < length ms → m ≡ get_or items k m → get_or (names (member_views ms)) k [] ≡ string_bytes (out-Member m).name
+name_at ms items k m same lt is = names_at ms k [] m lt ∙ ap (λ (n : Member). string_bytes (out-Member n).name) (ap (λ (xs : List Member). get_or xs k m) (sym same) ∙ sym is)
+
 pub equal_bytes : (xs ys : List ℕ) → bytes_eq xs ys ≡ true → xs ≡ ys
 equal_bytes xs ys e = (bytes_eq-Decides xs ys).0 e
 

@@ -18,3 +18,5 @@ pub mod Goes
 pub mod Small
 pub mod Decimals
 pub mod Numerals
+pub mod Known
+pub mod Plain

@@ -6,7 +6,7 @@ use Rattle.uc_text.specs.Grammar as grammar
 use Rattle.uc_text.specs.Grammar.{spell, spell_items, spell_members}
 use Rattle.uc_text.specs.Faults.{Test, length_of_numbers, levels, double_keys, Passes, ItemsPass}
 use Rattle.uc_text.specs.Faults.{MembersPass}
-use Rattle.uc_text.specs.Parts.{Pair, IsStuck, items_of, members_of, names}
+use Rattle.uc_text.specs.Parts.{Pair, IsStuck, items_of, members_of, names, passed_items}
 use Rattle.uc_text.specs.Tokens.{Placed, placed, kinds, tokens_from}
 use Rattle.uc_text.specs.Goes.{goes}
 use Rattle.uc_text.specs.Seen.{token_of}
@@ -66,6 +66,12 @@ IfFault (Err e) P = FaultIs e P
 pub record Reads (left : ℕ) (ts : List Placed) (v : Value) (others : List Placed) : Type 0 where
   pub takes : Takes ts (spell v) others
   pub pass : Passes double_keys left v
+
+-- Behind the opening bracket, where these items and a comma behind each were passed.
+pub record AtItem (left : ℕ) (all : List Placed) (vs : List Value) (ahead : List Placed) : Type 0
+  where
+    pub passed : Takes all (passed_items vs) ahead
+    pub pass : ItemsPass double_keys (left - 1) (items_of vs)
 
 -- the same of the items behind an opening bracket, and of the members behind an opening brace
 pub record ReadsItems (left : ℕ) (ts : List Placed) (vs : List Value) (others : List Placed) : Type

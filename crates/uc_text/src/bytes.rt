@@ -4,6 +4,7 @@ ghost use Rattle.std.specs.List.{prefix_len};
 ghost use Rattle.uc_text.specs.Numbers.{is_digit as digit, is_number_byte as number_byte};
 ghost use Rattle.uc_text.specs.Numbers.{begins_with as begins};
 ghost use Rattle.uc_text.specs.Tokens.{is_letter as letter};
+ghost use Rattle.uc_text.specs.Plain.{is_plain as plain};
 
 /// The bytes from a place on.
 pub fn rest_from(bytes: &[u8], at: usize) -> &[u8]
@@ -71,6 +72,24 @@ pub fn letters_len(bytes: &[u8]) -> usize
 {
     for (i, b) in bytes.iter().enumerate() {
         if !is_letter(*b) {
+            return i;
+        }
+    }
+    bytes.len()
+}
+
+/// A byte of a string that stands for itself.
+pub fn is_plain(b: u8) -> bool
+    ensures { result ≡ plain b }
+{
+    32 <= b && b != b'"' && b != b'\\'
+}
+
+pub fn plain_len(bytes: &[u8]) -> usize
+    ensures { result ≡ prefix_len plain bytes.now }
+{
+    for (i, b) in bytes.iter().enumerate() {
+        if !is_plain(*b) {
             return i;
         }
     }

@@ -21,12 +21,11 @@ pub fn large_number(alloc: Global, run: Run<'_>) -> Result<Tree, AllocError>
     Ok(Tree::LargeNumber(Box::new(alloc, run.decimal())?))
 }
 
-/// What a string says, without room to spare.
+/// What a string says.
 pub fn text(alloc: Global, quoted: Quoted<'_>) -> Result<Tree, AllocError>
     ensures { IfOk result (λ tree. view tree ≡ scalar (text_spec (said quoted.entry.bytes.now))) }
 {
-    let mut text = text_of(alloc, quoted)?;
-    text.shrink_to_fit();
+    let text = text_of(alloc, quoted)?;
     Ok(Tree::Text(Box::new(alloc, text)?))
 }
 

@@ -1,6 +1,9 @@
 //! The number that a run of bytes is.
 ghost use Rattle.std.specs.Prelude.{◌≡◌, ◌<◌, ◌≤◌, ◌^◌, ◌++◌, [], length, drop, IfSome, IfNone};
-ghost use Rattle.std.specs.Prelude.{true, if◌then◌else◌, pos, neg_ℤ, ◌-ℤ◌};
+ghost use Rattle.std.specs.Prelude.{slice_index};
+ghost use Rattle.std.specs.Prelude.{true, false, if◌then◌else◌, pos, neg_ℤ, ◌-ℤ◌};
+ghost use Rattle.std.specs.List.{prefix_len};
+ghost use Rattle.uc_text.specs.Numbers.{is_digit as digit, is_number_byte as number_byte};
 ghost use Rattle.uc_text.specs.Numbers.{AreDigits, value, value_from, front, behind};
 ghost use Rattle.uc_text.specs.Numbers.{is_whole_part as whole_part, are_digits as digits_only};
 ghost use Rattle.uc_text.specs.Numbers.{number_token as number_spec};
@@ -11,9 +14,10 @@ ghost use Rattle.uc_text.specs.Numbers.{unsigned as unsigned_spec, number_of, ex
 ghost use Rattle.uc_text.specs.Grammar.{word};
 ghost use Rattle.uc_text.specs.Numerals.{numeral_of};
 ghost use Rattle.uc_text.specs.Small.{decimal_of};
+ghost use Rattle.uc_text.specs.Tokens.{number_at};
 ghost use Rattle.uc_text.specs.Values.{number};
 
-use crate::bytes::{begins_with, digits_len, rest_from};
+use crate::bytes::{begins_with, digits_len, is_digit, is_number_byte, rest_from};
 use crate::small::SmallNumber;
 use uc_num::Decimal;
 
@@ -225,21 +229,94 @@ pub fn numeral_in(run: &[u8]) -> Numeral
     }
 }
 
-/// A whole number of at most six digits, as most are, in one pass.
-pub fn short_whole(run: &[u8]) -> Option<SmallNumber>
-    ensures { IfSome result (λ small. number_of run.now ≡ word (number (decimal_of small))) }
+/// The value of the digits in front, behind those of a value, and how many they are. None where it
+/// has ten digits.
+fn digits_ahead(before: u32, bytes: &[u8]) -> Option<(u32, usize)>
+    requires { before < 10 ^ 9 }
+    ensures value { IfSome result (λ r. r.0 ≡ value_from before (front bytes.now)) }
+    ensures small { IfSome result (λ r. r.0 < 10 ^ 9) }
+    ensures len { IfSome result (λ r. r.1 ≡ prefix_len digit bytes.now) }
+    ensures within { IfSome result (λ r. r.1 ≤ length bytes.now) }
 {
-    if begins_with(b'-', run) {
+    let mut n = before;
+    for (i, b) in bytes.iter().enumerate() {
+        if !is_digit(*b) {
+            return Some((n, i));
+        }
+        if 100_000_000 <= n {
+            return None;
+        }
+        n = 10 * n + (*b - b'0') as u32;
+    }
+    Some((n, bytes.len()))
+}
+
+fn ends_number(bytes: &[u8]) -> bool
+    ensures { result ≡ true → prefix_len number_byte bytes.now ≡ 0 }
+{
+    bytes.is_empty() || !is_number_byte(bytes[0])
+}
+
+/// The power of ten of a number without a written exponent.
+fn places_exponent(places: usize) -> i16
+    requires { places ≤ 9999 }
+    ensures { result ≡ pos 0 -ℤ pos places }
+{
+    0 - places as i16
+}
+
+/// A whole number of few digits and then a fraction, behind the point: the number, and how many
+/// digits the fraction has.
+fn short_fraction(whole: u32, bytes: &[u8]) -> Option<(SmallNumber, usize)>
+    requires { whole < 10 ^ 9 }
+    ensures some { IfSome result (λ r. (0 < r.1) × (r.1 ≡ prefix_len digit bytes.now)) }
+    ensures ends { IfSome result (λ r. prefix_len number_byte (drop r.1 bytes.now) ≡ 0) }
+    ensures digits { IfSome result
+        (λ r. (r.0.digits ≡ value_from whole (front bytes.now)) × (r.0.digits < 10 ^ 9)) }
+    ensures others { IfSome result
+        (λ r. (r.0.exponent ≡ pos 0 -ℤ pos r.1) × (r.0.negative ≡ false)) }
+    ensures within { IfSome result (λ r. r.1 ≤ length bytes.now) }
+{
+    let (digits, places) = digits_ahead(whole, bytes)?;
+    if places == 0 || 9999 < places {
         return None;
     }
-    let (whole, others) = split_digits(run);
-    if !is_whole_part(whole) || !others.is_empty() {
+    if !ends_number(rest_from(bytes, places)) {
         return None;
     }
-    let digits = value_within(whole, 999_999)?;
-    Some(SmallNumber {
+    let small = SmallNumber {
+        digits,
+        exponent: places_exponent(places),
+        negative: false,
+    };
+    Some((small, places))
+}
+
+/// A number of few digits and without a sign or an exponent, as most are, in one pass; and how many
+/// bytes it has.
+pub fn short_number(bytes: &[u8]) -> Option<(SmallNumber, usize)>
+    ensures is { IfSome result
+        (λ r. (word (number (decimal_of r.0)), r.1) ≡ number_at bytes.now) }
+    ensures first { IfSome result
+        (λ r. (digit (slice_index bytes.now 0) ≡ true) × (0 < r.1)) }
+    ensures within { IfSome result (λ r. r.1 ≤ length bytes.now) }
+{
+    let (digits, len) = digits_ahead(0, bytes)?;
+    if !is_whole_part(&bytes[..len]) {
+        return None;
+    }
+    let others = rest_from(bytes, len);
+    if begins_with(b'.', others) {
+        let (small, places) = short_fraction(digits, rest_from(others, 1))?;
+        return Some((small, len + 1 + places));
+    }
+    if !ends_number(others) {
+        return None;
+    }
+    let small = SmallNumber {
         digits,
         exponent: 0,
         negative: false,
-    })
+    };
+    Some((small, len))
 }

@@ -1,11 +1,11 @@
 //! From tokens to a tree.
 ghost use Rattle.std.specs.Prelude.{◌≡◌, ◌<◌, ◌≤◌, ◌^◌, ◌∷◌, [], List, length, IfOk, OnOk};
-ghost use Rattle.std.specs.Prelude.{Contains, IsTrue, false};
+ghost use Rattle.std.specs.Prelude.{Contains, IsTrue, false, ℕ, vec_len};
 ghost use Rattle.uc_text.specs.Grammar.{open_list, open_object};
 ghost use Rattle.uc_text.specs.Parts.{names, IsNewName};
 ghost use Rattle.uc_text.specs.Tokens.{Placed, tokens};
 ghost use Rattle.uc_text.specs.Places.{NextIs, seen, Reads, ReadsItems, ReadsMembers, StuckAt};
-ghost use Rattle.uc_text.specs.Places.{IfFault};
+ghost use Rattle.uc_text.specs.Places.{AtItem, IfFault};
 ghost use Rattle.uc_text.specs.Ahead.{rest, ahead};
 ghost use Rattle.uc_text.specs.Texts.{IsText, IsFirstFault};
 ghost use Rattle.uc_text.specs.Answers.{GivesTree, GivesFault};
@@ -16,13 +16,13 @@ ghost use Rattle.uc_text.specs.declared.fault.TextFault.{TextFault};
 ghost use Rattle.uc_text.specs.View.{view, views, member_views};
 
 use crate::fault::{TextCode, TextError, TextFault};
-use crate::names::add;
+use crate::names::is_new;
 use crate::nodes;
 use crate::reader::Reader;
 use crate::strings::text_of;
 use crate::token::{Lexeme, Token, Word};
 use crate::tree::{Member, MemberList, Tree, TreeList};
-use std::alloc::Global;
+use std::alloc::{AllocError, Global};
 use std::collections::HashSet;
 
 /// How many lists and objects may stand within one another.
@@ -87,6 +87,22 @@ fn value(
     }
 }
 
+/// Numbers of few digits with a comma behind each, as long as they come.
+fn pass_numbers(reader: &mut Reader<'_>, found: &mut TreeList) -> Result<(), AllocError>
+    ensures passed { OnOk result ((m : ℕ) (all : List Placed)
+        → AtItem m all (views found.old.items) (rest reader.old)
+        → AtItem m all (views found.new.items) (rest reader.new)) }
+    ensures more { vec_len found.old ≤ vec_len found.new }
+    ensures ahead { ahead reader.new ≤ ahead reader.old }
+{
+    'numbers: loop {
+        let Some(small) = reader.number_and_comma() else {
+            return Ok(());
+        };
+        found.push(Tree::Number(small))?;
+    }
+}
+
 /// The items behind an opening bracket, and the closing bracket.
 #[cycle(read)]
 fn items(alloc: Global, reader: &mut Reader<'_>, left: u32) -> Result<TreeList, TextError>
@@ -106,7 +122,10 @@ fn items(alloc: Global, reader: &mut Reader<'_>, left: u32) -> Result<TreeList, 
         found.push(item)?;
         let behind = reader.next();
         match behind.token {
-            Token::Comma => first = reader.next(),
+            Token::Comma => {
+                pass_numbers(reader, &mut found)?;
+                first = reader.next();
+            }
             Token::CloseList => return Ok(found),
             _ => return Err(fault(TextCode::NotJson, behind.place)),
         }
@@ -132,9 +151,8 @@ fn members(alloc: Global, reader: &mut Reader<'_>, left: u32) -> Result<MemberLi
         let Token::Text(quoted) = first.token else {
             return Err(fault(TextCode::NotJson, first.place));
         };
-        let key = text_of(alloc, quoted)?;
-        let name = String::from_str(alloc, key.as_str())?;
-        let new = add(&mut seen, key.into_bytes())?;
+        let name = text_of(alloc, quoted)?;
+        let new = is_new(alloc, &found, &mut seen, name.as_bytes())?;
         if !new {
             return Err(fault(TextCode::DoubleKey, first.place));
         }

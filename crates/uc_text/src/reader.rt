@@ -3,6 +3,8 @@ ghost use Rattle.std.specs.Prelude.{◌≡◌, ◌<◌, ◌≤◌, ◌^◌, ◌-
 ghost use Rattle.uc_text.specs.Grammar.{end};
 
 use crate::bytes::rest_from;
+use crate::number::short_number;
+use crate::small::SmallNumber;
 use crate::token::{Lexeme, Token, is_blank, token_at};
 
 #[derive(Drop)]
@@ -15,11 +17,51 @@ pub struct Reader<'a> {
 
 impl<'a> Reader<'a> {
     ghost use Rattle.uc_text.specs.Ahead.{rest, ahead};
-    ghost use Rattle.uc_text.specs.Places.{NextIs, seen};
+    ghost use Rattle.std.specs.Prelude.{IfSome, IfNone, OnSome};
+    ghost use Rattle.uc_text.specs.Grammar.{word, comma};
+    ghost use Rattle.uc_text.specs.Places.{NextIs, Takes, seen};
+    ghost use Rattle.uc_text.specs.Small.{decimal_of};
+    ghost use Rattle.uc_text.specs.Values.{number};
     ghost use Rattle.uc_text.specs.Seen.{token_of};
 
     /// The next token, or the end.
     pub fn next(&mut self) -> Lexeme<'a>
+        ensures next { NextIs (rest self.old) (seen result) (rest self.new) }
+        ensures last { token_of result.token ≡ end → rest self.old ≡ seen result ∷ [] }
+        ensures ahead { ahead self.new ≤ ahead self.old }
+        ensures less { (token_of result.token ≡ end → ⊥) → ahead self.new < ahead self.old }
+    {
+        let place = self.at;
+        if place < self.bytes.len() && self.bytes[place] == b',' {
+            self.at = place + 1;
+            return Lexeme {
+                token: Token::Comma,
+                place: place as u32,
+            };
+        }
+        self.next_of_all()
+    }
+
+    /// A number of few digits and the comma behind it, where they come next and without blanks.
+    pub fn number_and_comma(&mut self) -> Option<SmallNumber>
+        ensures some { IfSome result (λ small. Takes (rest self.old)
+            (word (number (decimal_of small)) ∷ comma ∷ []) (rest self.new)) }
+        ensures none { IfNone result (rest self.new ≡ rest self.old) }
+        ensures ahead { ahead self.new ≤ ahead self.old }
+        ensures less { OnSome result (ahead self.new < ahead self.old) }
+    {
+        let rest = rest_from(self.bytes, self.at);
+        let (small, len) = short_number(rest)?;
+        if len < rest.len() && rest[len] == b',' {
+            self.at += len + 1;
+            Some(small)
+        } else {
+            None
+        }
+    }
+
+    /// The next token, whatever it is.
+    fn next_of_all(&mut self) -> Lexeme<'a>
         ensures next { NextIs (rest self.old) (seen result) (rest self.new) }
         ensures last { token_of result.token ≡ end → rest self.old ≡ seen result ∷ [] }
         ensures ahead { ahead self.new ≤ ahead self.old }

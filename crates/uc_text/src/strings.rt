@@ -1,6 +1,6 @@
 //! The strings of a text.
 ghost use Rattle.std.specs.Prelude.{◌≡◌, ◌<◌, ◌≤◌, ◌^◌, ◌++◌, ◌∷◌, [], ◌-◌, ◌≢◌, IsUtf8};
-ghost use Rattle.std.specs.Prelude.{string_bytes, string_len, length, drop, slice_index, Option};
+ghost use Rattle.std.specs.Prelude.{string_bytes, length, take, drop, slice_index, Option};
 ghost use Rattle.std.specs.Prelude.{IfSome, IfNone, IfOk, Some, None, OnOk, option_map, true};
 ghost use Rattle.uc_text.specs.declared.strings.Said.{Said};
 ghost use Rattle.uc_text.specs.Strings.{hex_of, four, short_of, is_high as high_unit};
@@ -10,7 +10,7 @@ ghost use Rattle.uc_text.specs.Strings.{unit_piece as unit_piece_spec, escape_at
 ghost use Rattle.uc_text.specs.Strings.{piece_at as piece_spec, string_from, string_of, said};
 ghost use Rattle.uc_text.specs.Pieces.{said_by, seen_piece};
 
-use crate::bytes::{byte_or_zero, rest_from};
+use crate::bytes::{byte_or_zero, plain_len, rest_from};
 use crate::quoted::Quoted;
 use std::alloc::{AllocError, Global};
 
@@ -202,8 +202,21 @@ fn piece_at(bytes: &[u8]) -> Option<Piece>
     })
 }
 
-/// How many bytes stand before the closing quote.
-pub fn string_len(bytes: &[u8]) -> Option<usize>
+/// How many bytes stand before the closing quote, where each stands for itself.
+fn plain_string(bytes: &[u8]) -> Option<usize>
+    ensures is { IfSome result (λ n. string_from 0 bytes.now ≡ Some (take n bytes.now, n)) }
+    ensures within { IfSome result (λ n. n < length bytes.now) }
+{
+    let len = plain_len(bytes);
+    if len < bytes.len() && bytes[len] == b'"' {
+        Some(len)
+    } else {
+        None
+    }
+}
+
+/// How many bytes stand before the closing quote, piece by piece.
+fn string_len(bytes: &[u8]) -> Option<usize>
     requires { length bytes.now < 2 ^ 32 }
     ensures is { result ≡ option_map (λ s. s.1) (string_from 0 bytes.now) }
     ensures within { IfSome result (λ n. n < length bytes.now) }
@@ -219,6 +232,18 @@ pub fn string_len(bytes: &[u8]) -> Option<usize>
     None
 }
 
+/// How many bytes stand before the closing quote.
+fn closed_len(bytes: &[u8]) -> Option<usize>
+    requires { length bytes.now < 2 ^ 32 }
+    ensures is { result ≡ option_map (λ s. s.1) (string_from 0 bytes.now) }
+    ensures within { IfSome result (λ n. n < length bytes.now) }
+{
+    match plain_string(bytes) {
+        Some(len) => Some(len),
+        None => string_len(bytes),
+    }
+}
+
 /// The string behind an opening quote, and how many bytes it has.
 pub fn quoted_at(bytes: &[u8]) -> Option<(Quoted<'_>, usize)>
     requires { length bytes.now < 2 ^ 32 }
@@ -226,7 +251,7 @@ pub fn quoted_at(bytes: &[u8]) -> Option<(Quoted<'_>, usize)>
     ensures none { IfNone result (string_of bytes.now ≡ None) }
     ensures within { IfSome result (λ q. q.1 < length bytes.now) }
 {
-    let len = string_len(bytes)?;
+    let len = closed_len(bytes)?;
     match std::str::from_utf8(&bytes[..len]) {
         Ok(_) => Some((Quoted { bytes }, len)),
         Err(_) => None,
@@ -248,10 +273,9 @@ fn push_said(text: &mut Vec<u8>, said: Said) -> Result<(), AllocError>
     }
 }
 
-/// What a string says.
-pub fn text_of(alloc: Global, quoted: Quoted<'_>) -> Result<String, AllocError>
-    ensures said { IfOk result (λ text. string_bytes text ≡ said quoted.entry.bytes.now) }
-    ensures few { IfOk result (λ text. string_len text < 2 ^ 32) }
+/// What a string says, piece by piece.
+fn joined(alloc: Global, quoted: Quoted<'_>) -> Result<String, AllocError>
+    ensures { IfOk result (λ text. string_bytes text ≡ said quoted.entry.bytes.now) }
 {
     let bytes = quoted.bytes;
     let mut text = Vec::new(alloc);
@@ -263,5 +287,19 @@ pub fn text_of(alloc: Global, quoted: Quoted<'_>) -> Result<String, AllocError>
         push_said(&mut text, piece.said)?;
         at += piece.len;
     }
+    text.shrink_to_fit();
     Ok(String::from_utf8(text).unwrap())
+}
+
+/// What a string says, without room to spare.
+pub fn text_of(alloc: Global, quoted: Quoted<'_>) -> Result<String, AllocError>
+    ensures { IfOk result (λ text. string_bytes text ≡ said quoted.entry.bytes.now) }
+{
+    let Some(len) = plain_string(quoted.bytes) else {
+        return joined(alloc, quoted);
+    };
+    match std::str::from_utf8(&quoted.bytes[..len]) {
+        Ok(text) => String::from_str(alloc, text),
+        Err(_) => unreachable!(),
+    }
 }

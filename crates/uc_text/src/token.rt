@@ -11,7 +11,7 @@ ghost use Rattle.uc_text.specs.Seen.{token_of};
 ghost use Rattle.uc_text.specs.Goes.{goes};
 
 use crate::bytes::{letters_len, number_len, rest_from};
-use crate::number::{Numeral, numeral_in, short_whole};
+use crate::number::{Numeral, numeral_in, short_number};
 use crate::quoted::Quoted;
 use crate::run::Run;
 use crate::small::SmallNumber;
@@ -60,9 +60,6 @@ fn number_in(run: &[u8]) -> Token<'_>
     ensures is { token_of result ≡ number_of run.now }
     ensures goes { goes (token_of result) ≡ true }
 {
-    if let Some(small) = short_whole(run) {
-        return Token::Word(Word::Number(small));
-    }
     match numeral_in(run) {
         Numeral::Number(number) => match SmallNumber::of(number) {
             Some(small) => Token::Word(Word::Number(small)),
@@ -82,6 +79,9 @@ fn number_at(bytes: &[u8]) -> (Token<'_>, usize)
     ensures some { 0 < result.1 }
     ensures within { result.1 ≤ length bytes.now }
 {
+    if let Some((small, len)) = short_number(bytes) {
+        return (Token::Word(Word::Number(small)), len);
+    }
     let len = number_len(bytes);
     (number_in(&bytes[..len]), len)
 }

@@ -1,22 +1,24 @@
-use Rattle.std.proofs.Common.{◌≡◌, ℕ, ◌++◌, ◌∷◌, [], List, refl, sym, ap, subst, ◌∙◌, arith, Vec, Global}
+use Rattle.std.proofs.Common.{Vec, Global, length, ◌<◌, ◌≡◌, ℕ, ◌++◌, ◌∷◌, [], List, refl, sym, ap, subst, ◌∙◌, arith}
 use Rattle.std.proofs.lemmas.Result.{err_from_is_err_and}
-use Rattle.std.proofs.lemmas.List.{map_push}
-use Rattle.uc_text.specs.Values.{Value, text, scalar}
+use Rattle.std.proofs.lemmas.List.{map_push, length-map}
+use Rattle.std.specs.Prelude.{vec_len}
+use Rattle.uc_text.specs.declared.tree.Tree.{Tree}
+use Rattle.uc_text.specs.Values.{Value, text}
 use Rattle.uc_text.specs.Strings.{said}
 use Rattle.uc_text.specs.Grammar.{Token, open_list, open_object}
 use Rattle.uc_text.specs.Parts.{Pair, names, IsStuck}
 use Rattle.uc_text.specs.Faults.{levels}
 use Rattle.uc_text.specs.Tokens.{Placed}
 use Rattle.uc_text.specs.declared.fault.TextCode.TheVariants.{NotJson, TooDeep}
-use Rattle.uc_text.specs.Places.{NextIs, seen, Reads, ReadsItems, ReadsMembers, StuckAt, FaultIs}
+use Rattle.uc_text.specs.Places.{AtItem, NextIs, seen, Reads, ReadsItems, ReadsMembers, StuckAt, FaultIs}
 use Rattle.uc_text.specs.Ahead.{rest}
 use Rattle.uc_text.specs.Seen.{token_of, scalar_of}
 use Rattle.uc_text.proofs.Words.{word_read, word_stops}
 use Rattle.uc_text.specs.View.{view, views, member_views}
 use Rattle.uc_text.specs.declared.fault.TextError.{TextError}
 use Rattle.uc_text.proofs.OtherTokens.{not_close_list, not_close_object, not_comma, not_colon, not_text, not_start, passes_on}
-use Rattle.uc_text.proofs.Steps.{InItems, items_begin, items_empty, items_go_on, items_end, items_stop, items_stop_behind}
-use Rattle.uc_text.proofs.Known.{known_name, new_name, knows_more, knows_none}
+use Rattle.uc_text.proofs.Steps.{InItems, items_begin, items_empty, at_next, read_first, items_end, items_stop, items_stop_behind}
+use Rattle.uc_text.proofs.Known.{known_name, new_name, knows_next}
 use Rattle.uc_text.proofs.Objects.{of_member, names_push}
 use Rattle.uc_text.proofs.MemberSteps.{InMembers, members_begin, members_empty, members_go_on, members_end, name_stops, double_stops, colon_stops, value_stops, member_stops_behind}
 use Rattle.uc_text.proofs.ValueSteps as first
@@ -24,6 +26,9 @@ use Rattle.uc_text.proofs.Views.{members_pushed}
 use Rattle.uc_text.proofs.parse.+read.Goals as goal
 
 -- ---- items
+
+some_left : (v : Vec Tree Global) → 0 < vec_len v → views v.items ≡ [] → ⊥
+some_left v lt none = omega (arith, lt, v.ok.0, length-map v.items view, ap length none)
 
 pub items-returns-in-CloseList-clause-ok : goal.items-returns-in-CloseList-clause-ok
 items-returns-in-CloseList-clause-ok t c =
@@ -55,11 +60,15 @@ items-items-preserved t c =
     let v = c.in_ok-item.item in
     let r = c.in_ok-item.ensures.ok i.ahead i.next in
     let vs : views c.push.new.self.items ≡ views c.items.found.items ++ view v ∷ [] = ap views c.in_ok-push.ensures.items ∙ map_push _ c.items.found.items v in
+    let at : AtItem c.args.left (rest c.args.reader.now) (views c.push.new.self.items) (rest c.next-behind.new.self) =
+    subst (λ (us : List Value). AtItem c.args.left (rest c.args.reader.now) us (rest c.next-behind.new.self)) (sym vs)
+    (at_next c.args.left (rest c.args.reader.now) (views c.items.found.items) (seen c.items.first) (rest c.items.reader) (view v) (rest c.value.new.reader) (seen c.next-behind.result) (rest c.next-behind.new.self)
+    i r.takes r.pass c.next-behind.ensures.next (ap token_of c.in-Comma.is)) in
     record {
-      inside = subst (λ (us : List Value). InItems c.args.left (rest c.args.reader.now) us (seen c.next-first-in-Comma.result) (rest c.next-first-in-Comma.new.self)) (sym vs)
-          (items_go_on c.args.left (rest c.args.reader.now) (views c.items.found.items) (seen c.items.first) (rest c.items.reader) (view v) (rest c.value.new.reader) (seen c.next-behind.result) (rest c.next-behind.new.self) (seen c.next-first-in-Comma.result) (rest c.next-first-in-Comma.new.self)
-          i r.takes r.pass c.next-behind.ensures.next (ap token_of c.in-Comma.is) c.next-first-in-Comma.ensures.next);
-      on = omega (arith, c.next-first-in-Comma.ensures.ahead, c.next-behind.ensures.ahead, c.in_ok-item.ensures.ahead, c.items.invariant.on);
+      inside = read_first c.args.left (rest c.args.reader.now) (views c.pass_numbers.new.found.items) (rest c.pass_numbers.new.reader) (seen c.next-first-in-Comma.result) (rest c.next-first-in-Comma.new.self)
+          (c.in_ok-pass_numbers-in-Comma.ensures.passed c.args.left (rest c.args.reader.now) at) c.next-first-in-Comma.ensures.next
+          (λ none. some_left c.pass_numbers.new.found (omega (arith, c.in_ok-pass_numbers-in-Comma.ensures.more, c.in_ok-push.ensures.len)) none);
+      on = omega (arith, c.next-first-in-Comma.ensures.ahead, c.in_ok-pass_numbers-in-Comma.ensures.ahead, c.next-behind.ensures.ahead, c.in_ok-item.ensures.ahead, c.items.invariant.on);
       room = c.items.invariant.room;
     }
 
@@ -104,7 +113,7 @@ members-members-init t c =
       inside = subst (λ (us : List Pair). InMembers c.args.left (rest c.args.reader.now) us (seen c.next-first.result) (rest c.next-first.new.self)) (sym ps) (members_begin c.args.left (rest c.args.reader.now) (seen c.next-first.result) (rest c.next-first.new.self) c.next-first.ensures.next (not_close_object c.next-first.result.token c.in_default.not-CloseObject));
       on = c.next-first.ensures.ahead;
       room = omega arith;
-      known = knows_none c.new-seen.result _ c.new-seen.ensures.empty (ap names ps);
+      known = λ lt. absurd (omega (arith, lt, c.new-found.ensures.len));
     }
 
 pub members-returns-in_default-token : goal.members-returns-in_default-token
@@ -121,13 +130,13 @@ members-returns-then-not-new t c =
     record {
       ok = tt;
       fault = subst (λ (e : TextError). FaultIs e (λ f. StuckAt c.args.left (open_object ∷ []) (rest c.args.reader.now) f)) (sym c.fault-then-not-new.ensures)
-          (double_stops c.args.left (rest c.args.reader.now) (member_views c.members.found.items) (seen c.members.first) (rest c.members.reader) (said c.in-Text.quoted.bytes.now) _ c.members.invariant.room c.members.invariant.inside (ap token_of c.in-Text.is) (known_name c.members.seen (names (member_views c.members.found.items)) c.into_bytes.result (said c.in-Text.quoted.bytes.now) c.in_ok-new.new c.members.invariant.known (ap (λ (v : Vec ℕ Global). v.items) c.into_bytes.ensures.value ∙ c.in_ok-key.ensures.said) c.in_ok-new.ensures.new c.if-not-new.true) refl refl);
+          (double_stops c.args.left (rest c.args.reader.now) (member_views c.members.found.items) (seen c.members.first) (rest c.members.reader) (said c.in-Text.quoted.bytes.now) _ c.members.invariant.room c.members.invariant.inside (ap token_of c.in-Text.is) (known_name (names (member_views c.members.found.items)) c.as_bytes.result.now (said c.in-Text.quoted.bytes.now) c.in_ok-new.new (c.as_bytes.ensures.value ∙ c.in_ok-name.ensures) c.in_ok-new.ensures.new c.if-not-new.true) refl refl);
       ahead = tt;
     }
 
 pub members-returns-in_default-token-2 : goal.members-returns-in_default-token-2
 members-returns-in_default-token-2 t c =
-    let new = new_name c.members.seen (names (member_views c.members.found.items)) c.into_bytes.result (said c.in-Text.quoted.bytes.now) c.in_ok-new.new c.members.invariant.known (ap (λ (v : Vec ℕ Global). v.items) c.into_bytes.ensures.value ∙ c.in_ok-key.ensures.said) c.in_ok-new.ensures.new c.if-not-new.false in
+    let new = new_name (names (member_views c.members.found.items)) c.as_bytes.result.now (said c.in-Text.quoted.bytes.now) c.in_ok-new.new (c.as_bytes.ensures.value ∙ c.in_ok-name.ensures) c.in_ok-new.ensures.new c.if-not-new.false in
     record {
       ok = tt;
       fault = subst (λ (e : TextError). FaultIs e (λ f. StuckAt c.args.left (open_object ∷ []) (rest c.args.reader.now) f)) (sym c.fault-in_default-token-2.ensures)
@@ -139,7 +148,7 @@ members-returns-in_default-token-2 t c =
 pub members-returns-in_err-inner : goal.members-returns-in_err-inner
 members-returns-in_err-inner t c =
     let p = err_from_is_err_and c.from_residual-in_err-inner.result c.from_residual-in_err-inner.ensures.1 in
-    let new = new_name c.members.seen (names (member_views c.members.found.items)) c.into_bytes.result (said c.in-Text.quoted.bytes.now) c.in_ok-new.new c.members.invariant.known (ap (λ (v : Vec ℕ Global). v.items) c.into_bytes.ensures.value ∙ c.in_ok-key.ensures.said) c.in_ok-new.ensures.new c.if-not-new.false in
+    let new = new_name (names (member_views c.members.found.items)) c.as_bytes.result.now (said c.in-Text.quoted.bytes.now) c.in_ok-new.new (c.as_bytes.ensures.value ∙ c.in_ok-name.ensures) c.in_ok-new.ensures.new c.if-not-new.false in
     rw (p.1, p.2) (record {
       ok = tt;
       fault = passes_on c.in_err-inner.field-0.0 _ _ (λ f s. value_stops c.args.left (rest c.args.reader.now) (member_views c.members.found.items) (seen c.members.first) (rest c.members.reader) (said c.in-Text.quoted.bytes.now) (seen c.next-between.result) (rest c.next-between.new.self) f c.members.invariant.room c.members.invariant.inside (ap token_of c.in-Text.is) new c.next-between.ensures.next (ap token_of c.in-Colon.is) (s (rest c.next-between.new.self) c.next-start.ensures.next)) c.in_err-inner.ensures.fault;
@@ -148,23 +157,23 @@ members-returns-in_err-inner t c =
 
 pub members-members-preserved : goal.members-members-preserved
 members-members-preserved t c =
-    let new = new_name c.members.seen (names (member_views c.members.found.items)) c.into_bytes.result (said c.in-Text.quoted.bytes.now) c.in_ok-new.new c.members.invariant.known (ap (λ (v : Vec ℕ Global). v.items) c.into_bytes.ensures.value ∙ c.in_ok-key.ensures.said) c.in_ok-new.ensures.new c.if-not-new.false in
+    let new = new_name (names (member_views c.members.found.items)) c.as_bytes.result.now (said c.in-Text.quoted.bytes.now) c.in_ok-new.new (c.as_bytes.ensures.value ∙ c.in_ok-name.ensures) c.in_ok-new.ensures.new c.if-not-new.false in
     let r = c.in_ok-inner.ensures.ok (rest c.next-between.new.self) c.next-start.ensures.next in
-    let ps = members_pushed c.members.found.items c.push.new.self.items c.in_ok-name.name c.in_ok-inner.inner (said c.in-Text.quoted.bytes.now) c.in_ok-push.ensures.items (c.in_ok-name.ensures.ok ∙ c.as_str.ensures.value ∙ c.in_ok-key.ensures.said) in
+    let ps = members_pushed c.members.found.items c.push.new.self.items c.in_ok-name.name c.in_ok-inner.inner (said c.in-Text.quoted.bytes.now) c.in_ok-push.ensures.items c.in_ok-name.ensures in
     record {
       inside = subst (λ (us : List Pair). InMembers c.args.left (rest c.args.reader.now) us (seen c.next-first-in-Comma.result) (rest c.next-first-in-Comma.new.self)) (sym ps)
           (members_go_on c.args.left (rest c.args.reader.now) (member_views c.members.found.items) (seen c.members.first) (rest c.members.reader) (said c.in-Text.quoted.bytes.now) (seen c.next-between.result) (rest c.next-between.new.self) (view c.in_ok-inner.inner) (rest c.value.new.reader) (seen c.next-behind.result) (rest c.next-behind.new.self) (seen c.next-first-in-Comma.result) (rest c.next-first-in-Comma.new.self)
           c.members.invariant.inside (ap token_of c.in-Text.is) new c.next-between.ensures.next (ap token_of c.in-Colon.is) r.takes r.pass c.next-behind.ensures.next (ap token_of c.in-Comma.is) c.next-first-in-Comma.ensures.next);
       on = omega (arith, c.next-first-in-Comma.ensures.ahead, c.next-behind.ensures.ahead, c.in_ok-inner.ensures.ahead, c.next-start.ensures.ahead, c.next-between.ensures.ahead, c.members.invariant.on);
       room = c.members.invariant.room;
-      known = knows_more c.members.seen c.add.new.seen (names (member_views c.members.found.items)) _ c.into_bytes.result (said c.in-Text.quoted.bytes.now) c.members.invariant.known (ap (λ (v : Vec ℕ Global). v.items) c.into_bytes.ensures.value ∙ c.in_ok-key.ensures.said) c.in_ok-new.ensures.keys (ap names ps ∙ names_push (member_views c.members.found.items) (of_member (said c.in-Text.quoted.bytes.now) (view c.in_ok-inner.inner)));
+      known = λ lt. knows_next c.is_new.new.seen (names (member_views c.members.found.items)) _ c.as_bytes.result.now (said c.in-Text.quoted.bytes.now) (c.in_ok-new.ensures.knows (omega (arith, lt, c.in_ok-push.ensures.len))) (c.as_bytes.ensures.value ∙ c.in_ok-name.ensures) (ap names ps ∙ names_push (member_views c.members.found.items) (of_member (said c.in-Text.quoted.bytes.now) (view c.in_ok-inner.inner)));
     }
 
 pub members-returns-in-CloseObject-token : goal.members-returns-in-CloseObject-token
 members-returns-in-CloseObject-token t c =
-    let new = new_name c.members.seen (names (member_views c.members.found.items)) c.into_bytes.result (said c.in-Text.quoted.bytes.now) c.in_ok-new.new c.members.invariant.known (ap (λ (v : Vec ℕ Global). v.items) c.into_bytes.ensures.value ∙ c.in_ok-key.ensures.said) c.in_ok-new.ensures.new c.if-not-new.false in
+    let new = new_name (names (member_views c.members.found.items)) c.as_bytes.result.now (said c.in-Text.quoted.bytes.now) c.in_ok-new.new (c.as_bytes.ensures.value ∙ c.in_ok-name.ensures) c.in_ok-new.ensures.new c.if-not-new.false in
     let r = c.in_ok-inner.ensures.ok (rest c.next-between.new.self) c.next-start.ensures.next in
-    let ps = members_pushed c.members.found.items c.push.new.self.items c.in_ok-name.name c.in_ok-inner.inner (said c.in-Text.quoted.bytes.now) c.in_ok-push.ensures.items (c.in_ok-name.ensures.ok ∙ c.as_str.ensures.value ∙ c.in_ok-key.ensures.said) in
+    let ps = members_pushed c.members.found.items c.push.new.self.items c.in_ok-name.name c.in_ok-inner.inner (said c.in-Text.quoted.bytes.now) c.in_ok-push.ensures.items c.in_ok-name.ensures in
     record {
       ok = subst (λ (us : List Pair). ReadsMembers c.args.left (rest c.args.reader.now) us (rest c.next-behind.new.self)) (sym ps)
           (members_end c.args.left (rest c.args.reader.now) (member_views c.members.found.items) (seen c.members.first) (rest c.members.reader) (said c.in-Text.quoted.bytes.now) (seen c.next-between.result) (rest c.next-between.new.self) (view c.in_ok-inner.inner) (rest c.value.new.reader) (seen c.next-behind.result) (rest c.next-behind.new.self)
@@ -175,7 +184,7 @@ members-returns-in-CloseObject-token t c =
 
 pub members-returns-in_default-token-3 : goal.members-returns-in_default-token-3
 members-returns-in_default-token-3 t c =
-    let new = new_name c.members.seen (names (member_views c.members.found.items)) c.into_bytes.result (said c.in-Text.quoted.bytes.now) c.in_ok-new.new c.members.invariant.known (ap (λ (v : Vec ℕ Global). v.items) c.into_bytes.ensures.value ∙ c.in_ok-key.ensures.said) c.in_ok-new.ensures.new c.if-not-new.false in
+    let new = new_name (names (member_views c.members.found.items)) c.as_bytes.result.now (said c.in-Text.quoted.bytes.now) c.in_ok-new.new (c.as_bytes.ensures.value ∙ c.in_ok-name.ensures) c.in_ok-new.ensures.new c.if-not-new.false in
     let r = c.in_ok-inner.ensures.ok (rest c.next-between.new.self) c.next-start.ensures.next in
     record {
       ok = tt;

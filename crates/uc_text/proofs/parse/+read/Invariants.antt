@@ -4,7 +4,8 @@ use Rattle.uc_text.specs.Ahead.{rest, ahead}
 use Rattle.uc_text.specs.View.{views, member_views}
 use Rattle.uc_text.proofs.Steps.{InItems}
 use Rattle.uc_text.specs.Parts.{names}
-use Rattle.uc_text.proofs.Known.{Knows}
+use Rattle.std.specs.Prelude.{vec_len}
+use Rattle.uc_text.specs.Known.{Knows}
 use Rattle.uc_text.proofs.MemberSteps.{InMembers}
 use Rattle.uc_text.proofs.parse.+read.Given as goal
 
@@ -32,7 +33,7 @@ invariant-members-members l = record {
   inside : InMembers l.left (rest l.fn.reader) (member_views l.found.items) (seen l.first) (rest l.reader);
   on : ahead l.reader ≤ ahead l.fn.reader;
   room : 0 < l.left;
-  known : Knows l.seen (names (member_views l.found.items));
+  known : 16 < vec_len l.found → Knows l.seen (names (member_views l.found.items));
 }
 
 abbrev pub decreases-members-members : goal.decreases-members-members

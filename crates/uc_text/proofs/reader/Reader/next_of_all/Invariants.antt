@@ -1,6 +1,6 @@
 use Rattle.std.proofs.Common.{◌≡◌, ◌≤◌, ◌-◌, length}
 use Rattle.uc_text.specs.Places.{rest_at}
-use Rattle.uc_text.proofs.reader.Reader.next.Given as goal
+use Rattle.uc_text.proofs.reader.Reader.next_of_all.Given as goal
 
 abbrev pub invariant-blanks : goal.invariant-blanks
 invariant-blanks l = record {
