@@ -5,9 +5,9 @@ use Rattle.uc_model.specs.declared.kinds.Kind.{Kind}
 use Rattle.uc_model.specs.declared.kinds.Kind.TheVariants as kinds
 use Rattle.uc_model.specs.Data.{Schedule}
 use Rattle.uc_model.specs.PriceRule.{Proposal}
-use Rattle.hull_report.specs.Numerals.{numeral, signed_numeral}
-use Rattle.hull_report.specs.Parts.{spaced, spaced_counts, spaced_flags, quoted}
-use Rattle.hull_report.specs.ReportText.{UnitLine, Report, chosen_text}
+use Rattle.report_form.specs.Numerals.{numeral, signed_numeral}
+use Rattle.report_form.specs.Parts.{spaced, spaced_counts, spaced_flags, quoted}
+use Rattle.report_form.specs.ReportText.{UnitLine, Report, chosen_text}
 use Rattle.report_read.specs.Plain.{Told}
 
 -- a word, what stands behind it, and the line feed
