@@ -1,4 +1,4 @@
--- The text of a report, line by line (this project's profile; `hull_report` says the text whole).
+-- The text of a report, line by line (this project's profile; `report_form` says the text whole).
 use Rattle.std.specs.Prelude.{ℕ, suc, ℤ, List, [], ◌∷◌, ◌++◌, length, codes}
 use Rattle.std.specs.List.{concat, flat_map}
 use Rattle.uc_model.specs.declared.kinds.Kind.{Kind}
