@@ -1,6 +1,6 @@
 -- What the run of a command answers.
 use Rattle.std.proofs.Common.{◌≡◌, ℕ, ℤ, List, subst}
-use Rattle.hull_report.specs.ReportText.{Report}
+use Rattle.report_form.specs.ReportText.{Report}
 use Rattle.board_history.specs.Board.{Setup}
 use Rattle.hull_engine.specs.declared.input.RunInput.{RunInput}
 use Rattle.hull_engine.specs.Outcome.{IsReportText, IsBoundText}

@@ -8,8 +8,9 @@ use Rattle.hull_io.specs.declared.read.TheConstants.{MOST_BYTES}
 use Rattle.hull_words.specs.Asked.{Asked, AuditAsked, audit}
 use Rattle.hull_words.specs.declared.fault.WordFault.{WordFault}
 use Rattle.hull_report.specs.FaultLines.{status_of, fault_line}
-use Rattle.hull_report.specs.Laws.{IsFlatLine, HasForm, TextDeterminesReport, RightReportHasForm, ReportPaymentsMakeUpTheGap}
-use Rattle.hull_report.specs.ReportText.{UnitLine, Report, report_text}
+use Rattle.report_form.specs.Laws.{IsFlatLine, HasForm, TextDeterminesReport}
+use Rattle.hull_report.specs.Laws.{RightReportHasForm, ReportPaymentsMakeUpTheGap}
+use Rattle.report_form.specs.ReportText.{UnitLine, Report, report_text}
 use Rattle.hull_report.specs.RightReport.{IsRightReport}
 use Rattle.hull_report.specs.declared.fault.FileKind.TheVariants.{CaseFile, ScheduleFile, ReportFile}
 use Rattle.hull_report.specs.declared.fault.TopFault.{TopFault}

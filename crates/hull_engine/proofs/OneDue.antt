@@ -19,8 +19,9 @@ use Rattle.gap_proof.specs.Candidates.{RowRange, candidates, range_bound, prices
 use Rattle.hull_report.specs.BoundText.{bound_text}
 use Rattle.hull_report.specs.FixedText.{fixed_text}
 use Rattle.hull_report.specs.AuditText.{audit_text}
-use Rattle.hull_report.specs.Laws.{OneRightReport, TextDeterminesReport, RightReportHasForm}
-use Rattle.hull_report.specs.ReportText.{Report, report_text}
+use Rattle.report_form.specs.Laws.{TextDeterminesReport}
+use Rattle.hull_report.specs.Laws.{OneRightReport, RightReportHasForm}
+use Rattle.report_form.specs.ReportText.{Report, report_text}
 use Rattle.hull_report.specs.RightSide.{OneRightSide}
 use Rattle.hull_report.specs.TryText.{try_text}
 use Rattle.hull_report.specs.declared.fault.FileKind.TheVariants.{CaseFile, ScheduleFile, ReportFile}

@@ -5,7 +5,7 @@ use Rattle.uc_model.specs.Data.{unit_count}
 use Rattle.board_history.specs.Calls.{own_rows}
 use Rattle.hull_report.specs.BoundText.{bound_text}
 use Rattle.hull_report.specs.RecordReport.{chosen_of, value_of, report_of, RecordReportIsRight, SettlementsAreOfAllUnits}
-use Rattle.hull_report.specs.ReportText.{Report}
+use Rattle.report_form.specs.ReportText.{Report}
 use Rattle.hull_engine.specs.declared.run.Done.{Done}
 use Rattle.hull_engine.specs.declared.bound.Bounded.{Bounded}
 use Rattle.hull_engine.specs.Answers.{planned_in, IsRunText}

@@ -9,7 +9,7 @@ use Rattle.hull_report.specs.AuditText.{audit_text}
 use Rattle.hull_report.specs.CheckText.{check_text}
 use Rattle.hull_report.specs.FaultLines.{fault_line}
 use Rattle.hull_report.specs.FixedText.{told_of, fixed_text}
-use Rattle.hull_report.specs.ReportText.{Report, report_text}
+use Rattle.report_form.specs.ReportText.{Report, report_text}
 use Rattle.hull_report.specs.TryText.{try_text}
 use Rattle.hull_report.specs.declared.fault.FileKind.{FileKind}
 use Rattle.hull_report.specs.declared.fault.TopFault.{TopFault}

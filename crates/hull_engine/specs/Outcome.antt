@@ -11,11 +11,12 @@
 -- `gained text` is that the sink has got the whole text, `short text` that it has a front of it and
 -- its count rose. `(x : T) × P` is read 'there is an x with P', `⊎` 'or', `⊥` 'never'.
 --
--- The steps of the commands are in Steps; texts and what makes them right in hull_report:
--- ReportText and RightReport, CheckText, TryText, BoundText, FixedText and RightSide, AuditText,
--- FaultLines; a case with its schedule's commitments held in fixed_price's FixedCase; which reports
--- are read, and the first line in fault, in report_read's Bounds and Faults; the first line at
--- which a report differs from the right one in report_check's Right.
+-- The steps of the commands are in Steps; the text of a report in report_form's ReportText; the
+-- other texts, and what makes them right, in hull_report: RightReport, CheckText, TryText,
+-- BoundText, FixedText and RightSide, AuditText, FaultLines; a case with its schedule's commitments
+-- held in fixed_price's FixedCase; which reports are read, and the first line in fault, in
+-- report_read's Bounds and Faults; the first line at which a report differs from the right one in
+-- report_check's Right.
 use Rattle.std.specs.Prelude.{◌≡◌, ◌⊎◌, ℕ, ℤ, List, length, unsigned_abs, Option, None, Some}
 use Rattle.std.specs.Prelude.{Result, Ok, Err, IfSome}
 use Rattle.fixed_price.specs.FixedCase.{fixed_market}
@@ -28,7 +29,7 @@ use Rattle.hull_report.specs.BoundText.{bound_text}
 use Rattle.hull_report.specs.CheckText.{check_text}
 use Rattle.hull_report.specs.FaultLines.{status_of, fault_line}
 use Rattle.hull_report.specs.FixedText.{ToldSide, fixed_text}
-use Rattle.hull_report.specs.ReportText.{Report, report_text}
+use Rattle.report_form.specs.ReportText.{Report, report_text}
 use Rattle.hull_report.specs.RightReport.{IsRightReport}
 use Rattle.hull_report.specs.RightSide.{IsRightSide}
 use Rattle.hull_report.specs.TryText.{try_text}

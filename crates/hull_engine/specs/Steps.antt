@@ -23,7 +23,7 @@ use Rattle.hull_report.specs.declared.fault.TopFault.{TopFault}
 use Rattle.hull_report.specs.declared.fault.TopFault.TheVariants.{Read, CaseText, CaseField}
 use Rattle.hull_report.specs.declared.fault.TopFault.TheVariants.{PlanText, PlanShape, PlanRule}
 use Rattle.hull_report.specs.declared.fault.TopFault.TheVariants.{TooBig, Work, Report as Unfit}
-use Rattle.hull_report.specs.ReportText.{Report, report_text}
+use Rattle.report_form.specs.ReportText.{Report, report_text}
 use Rattle.hull_report.specs.RightReport.{IsRightReport}
 use Rattle.report_read.specs.Bounds.{IsReport}
 use Rattle.report_read.specs.Faults.{IsFault}

@@ -2,7 +2,7 @@
 ghost use Rattle.std.specs.Prelude.{◌≡◌, ℕ, List, length, IfOk, OnOk, OnErr};
 ghost use Rattle.uc_model.specs.PlainUnits.{schedule_of};
 ghost use Rattle.hull_io.specs.Edge.{Writes, Gains, FallsShort};
-ghost use Rattle.hull_report.specs.ReportText.{report_text};
+ghost use Rattle.report_form.specs.ReportText.{report_text};
 ghost use Rattle.hull_report.specs.RecordReport.{report_of, IsSettledRecord};
 ghost use Rattle.uc_model.specs.PriceRule.{Proposal};
 ghost use Rattle.uplift_settle.specs.declared.settlement.Settlement.{Settlement};

@@ -7,8 +7,9 @@ use gap_proof::laws::run_bounds_hold;
 use hull_io::{Shelf, Sink};
 use hull_report::laws::{
     one_report_is_right, one_row_is_chosen, one_side_is_right, report_payments_make_up_the_gap,
-    right_report_has_form, side_payments_make_up_the_gap, text_determines_the_report,
+    right_report_has_form, side_payments_make_up_the_gap,
 };
+use report_form::laws::text_determines_the_report;
 use report_read::laws::{one_line_differs, one_line_is_in_fault, one_report_has_a_text};
 use uc_case::laws::one_case;
 use uc_plan::laws::one_plan;

@@ -1,21 +1,12 @@
--- parts.rt, pieces.rt, record.rt: how what a sink holds grows
-mod GrownLemmas
--- pieces.rt: texts that are written in pieces
-mod PieceLemmas
--- parts.rt: names, and numbers in digits
-mod NameLemmas
-mod NumeralLaws
+-- record.rt, fixed.rt, fault.rt: texts one after another
+mod RecordTexts
 -- record.rt: the lines of a record's units, its rows, and the whole text
 mod ChosenRow
 mod UnitLines
 mod Records
-mod RecordTexts
 mod RecordLines
 mod WholeReports
--- laws.rt: a text read back, and that at most one report is right
-mod ReadBack
-mod ReadLines
-mod ReadReport
+-- laws.rt: that at most one report is right
 mod RightForm
 mod OneRun
 mod OneReport

@@ -10,7 +10,7 @@ use Rattle.uc_model.specs.Runs.{Fits}
 use Rattle.uc_model.specs.Sums.{total, zip_with}
 use Rattle.uc_model.specs.Systems.{plan_cost, IsDualValue, IsSettled}
 use Rattle.uc_model.specs.Laws.{OneLeast, PaymentsMakeUpTheGap}
-use Rattle.hull_report.specs.ReportText.{UnitLine, Report}
+use Rattle.report_form.specs.ReportText.{UnitLine, Report}
 use Rattle.hull_report.specs.RightReport.{unit_lines, HasNames, IsRightReport}
 use Rattle.hull_report.specs.Laws.{OneRightReport, ReportPaymentsMakeUpTheGap}
 use Rattle.hull_report.proofs.OneRun.{zip_same, tops_same, one_run}

@@ -19,7 +19,7 @@ use Rattle.uc_model.specs.Systems.{IsSettled}
 use Rattle.uc_model.proofs.ListLaws.{length_same, length-zip_with}
 use Rattle.uplift_settle.specs.declared.settlement.Settlement.{Settlement}
 use Rattle.hull_report.specs.Laws.{OneIsChosen}
-use Rattle.hull_report.specs.ReportText.{UnitLine}
+use Rattle.report_form.specs.ReportText.{UnitLine}
 use Rattle.hull_report.specs.RightReport.{unit_lines, HasNames}
 use Rattle.hull_report.specs.RecordReport.{thermal_names, renewable_names, bid_names, line_of, lines_from, chosen_of, report_of, IsSettledRecord, RecordReportIsRight, SettlementsAreOfAllUnits, AnswersAreTops}
 use Rattle.hull_report.proofs.ChosenRow.{one_is_chosen}

@@ -7,8 +7,9 @@ use Rattle.std.specs.Prelude.{slice_index, slice_index_or}
 use Rattle.uc_model.specs.Data.{AnyUnit, Thermal, Flat, Bid, NamedThermalUnit, NamedRenewableUnit, NamedBidUnit, PriceLists}
 use Rattle.uc_model.specs.Runs.{Fits}
 use Rattle.uc_model.specs.Schedules.{IsSchedule}
-use Rattle.hull_report.specs.ReportText.{UnitLine}
-use Rattle.hull_report.specs.Laws.{IsFlatLine, RightReportHasForm}
+use Rattle.report_form.specs.ReportText.{UnitLine}
+use Rattle.report_form.specs.Laws.{IsFlatLine}
+use Rattle.hull_report.specs.Laws.{RightReportHasForm}
 
 -- a list with one item at every place
 all_same : {X : Type 0} (xs : List X) (n : ℕ) (x y : X) → length xs ≡ n → ((k : ℕ) → k < n → get_or xs k y ≡ x) → xs ≡ replicate n x

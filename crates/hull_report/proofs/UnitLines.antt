@@ -6,7 +6,7 @@ use Rattle.std.specs.List.{AllZip, range_with_len}
 use Rattle.std.proofs.lemmas.List.{length-map}
 use Rattle.uc_model.specs.Data.{AnyUnit, Thermal, Flat, Bid, NamedThermalUnit, NamedRenewableUnit, NamedBidUnit, Market, units, unit_count}
 use Rattle.uc_model.specs.Sums.{int_at}
-use Rattle.hull_report.specs.ReportText.{UnitLine}
+use Rattle.report_form.specs.ReportText.{UnitLine}
 use Rattle.hull_report.specs.RecordReport.{lines_from}
 
 module _ {Line : Type 0} (line : ℕ → List ℕ → Line) where

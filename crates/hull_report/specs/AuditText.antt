@@ -1,7 +1,7 @@
 -- The text of `hull audit` (this project's profile).
 use Rattle.std.specs.Prelude.{ℕ, List, [], ◌∷◌, codes}
 use Rattle.std.specs.List.{concat}
-use Rattle.hull_report.specs.Numerals.{numeral}
+use Rattle.report_form.specs.Numerals.{numeral}
 
 -- that a report of so many proposals is right
 unfoldable pub audit_text : ℕ → List ℕ

@@ -2,7 +2,7 @@
 use Rattle.std.specs.Prelude.{ℕ, ℤ, pos, neg_ℤ, ◌-ℤ◌, List, [], ◌∷◌, codes}
 use Rattle.std.specs.List.{concat}
 use Rattle.uc_model.specs.Limits.{IsFrom}
-use Rattle.hull_report.specs.Numerals.{numeral, signed_numeral}
+use Rattle.report_form.specs.Numerals.{numeral, signed_numeral}
 
 -- a value or a bound, at most 10^35 in magnitude: any bound that is certified round a row
 abbrev pub IsTold : ℤ → Type 0

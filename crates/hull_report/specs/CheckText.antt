@@ -2,8 +2,8 @@
 use Rattle.std.specs.Prelude.{ℕ, ℤ, List, [], ◌∷◌, length, codes}
 use Rattle.std.specs.List.{concat}
 use Rattle.uc_model.specs.Data.{Market}
-use Rattle.hull_report.specs.Numerals.{numeral, signed_numeral}
-use Rattle.hull_report.specs.Parts.{tally}
+use Rattle.report_form.specs.Numerals.{numeral, signed_numeral}
+use Rattle.report_form.specs.Parts.{tally}
 
 -- only a case with bids says how many there are
 unfoldable pub check_text : Market → ℤ → List ℕ

@@ -11,7 +11,7 @@ use Rattle.uc_plan.specs.declared.fault.ShapeFault.{ShapeFault}
 use Rattle.uc_plan.specs.Shapes.{shape_number as shape_code}
 use Rattle.plan_check.specs.declared.RuleFault.{RuleFault}
 use Rattle.uc_model.specs.Refusals.{rule_number}
-use Rattle.hull_report.specs.Numerals.{numeral, signed_numeral}
+use Rattle.report_form.specs.Numerals.{numeral, signed_numeral}
 use Rattle.hull_report.specs.declared.fault.FileKind.{FileKind}
 use Rattle.hull_report.specs.declared.fault.FileKind.TheVariants.{CaseFile, ScheduleFile}
 use Rattle.hull_report.specs.declared.fault.TopFault.{TopFault}

@@ -4,8 +4,8 @@ use Rattle.std.specs.List.{concat, flat_map}
 use Rattle.uc_model.specs.Data.{PriceLists, Market, thermal_names, renewable_names, bid_names}
 use Rattle.uc_model.specs.PlainUnits.{prices_of}
 use Rattle.uc_model.specs.Sums.{int_at}
-use Rattle.hull_report.specs.Numerals.{numeral, signed_numeral}
-use Rattle.hull_report.specs.Parts.{spaced, quoted}
+use Rattle.report_form.specs.Numerals.{numeral, signed_numeral}
+use Rattle.report_form.specs.Parts.{spaced, quoted}
 use Rattle.hull_report.specs.RecordReport.{lines_from}
 use Rattle.hull_report.specs.declared.fixed.Side.{Side}
 

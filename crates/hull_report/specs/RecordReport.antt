@@ -13,7 +13,7 @@ use Rattle.uc_model.specs.PriceRule.{Proposal, chosen_number}
 use Rattle.uc_model.specs.Sums.{int_at}
 use Rattle.uc_model.specs.Systems.{IsFeasiblePlan, plan_cost, IsSettled}
 use Rattle.uplift_settle.specs.declared.settlement.Settlement.{Settlement}
-use Rattle.hull_report.specs.ReportText.{UnitLine, Report}
+use Rattle.report_form.specs.ReportText.{UnitLine, Report}
 use Rattle.hull_report.specs.RightReport.{IsRightReport}
 
 abbrev pub thermal_names : Market → List (List ℕ)

@@ -9,7 +9,7 @@ use Rattle.uc_model.specs.Earnings.{IsTop}
 use Rattle.uc_model.specs.PriceRule.{Proposal, chosen_number}
 use Rattle.uc_model.specs.Runs.{HasTotals, IsRun, Fits}
 use Rattle.uc_model.specs.Systems.{plan_cost, IsSettled}
-use Rattle.hull_report.specs.ReportText.{UnitLine, Report}
+use Rattle.report_form.specs.ReportText.{UnitLine, Report}
 
 -- the lines of all units and bids, in the order of their numbers
 abbrev pub unit_lines : Report → List UnitLine

@@ -2,8 +2,8 @@
 -- project's profile).
 use Rattle.std.specs.Prelude.{ℕ, ℤ, List, [], ◌∷◌, length, codes}
 use Rattle.std.specs.List.{concat}
-use Rattle.hull_report.specs.Numerals.{numeral, signed_numeral}
-use Rattle.hull_report.specs.ReportText.{Report}
+use Rattle.report_form.specs.Numerals.{numeral, signed_numeral}
+use Rattle.report_form.specs.ReportText.{Report}
 
 unfoldable pub try_lines : (number periods thermal renewable proposals chosen : ℕ) →
     (value cost payments surplus gap : ℤ) → List ℕ

@@ -2,8 +2,8 @@
 ghost use Rattle.hull_io.specs.Edge.{Writes};
 ghost use Rattle.hull_report.specs.AuditText.{audit_text};
 
-use crate::parts::{Part, write_parts};
 use hull_io::{Sink, WriteFailed};
+use report_form::{Part, write_parts};
 
 /// Writes that a report of so many proposals is right. Refused only where the sink's count of
 /// faults rose, and then the sink gained a front of the text.

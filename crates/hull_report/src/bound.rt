@@ -5,12 +5,12 @@ ghost use Rattle.hull_io.specs.Edge.{Writes};
 ghost use Rattle.hull_report.specs.BoundText.{bound_text, IsTold};
 ghost use Rattle.hull_report.specs.RecordReport.{chosen_of, value_of};
 
-use crate::parts::{Part, write_parts};
 use crate::record::choice_of;
 use board_core::Closed;
 use board_history::laws::rows_are_within;
 use gap_proof::Certified;
 use hull_io::{Sink, WriteFailed};
+use report_form::{Part, write_parts};
 
 /// What the text tells: how many proposals there are, the number of the chosen one and its dual
 /// value, the radius round its prices, the rows from `first` to `last` whose mean gives the bound,

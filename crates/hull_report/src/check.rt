@@ -3,8 +3,8 @@ ghost use Rattle.hull_io.specs.Edge.{Writes};
 ghost use Rattle.uc_model.specs.PlainCases.{market_of};
 ghost use Rattle.hull_report.specs.CheckText.{check_text};
 
-use crate::parts::{Part, write_parts};
 use hull_io::{Sink, WriteFailed};
+use report_form::{Part, write_parts};
 use uc_model::cases::Case;
 
 /// Writes that the schedule is feasible, and its `cost` in money.

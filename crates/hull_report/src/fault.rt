@@ -7,10 +7,10 @@ ghost use Rattle.hull_report.specs.FaultLines.{field_told, shape_told, rule_told
 ghost use Rattle.hull_report.specs.FaultLines.{work_told, report_told, status_told, fault_told};
 ghost use Rattle.hull_report.specs.FaultLines.{fault_line};
 
-use crate::parts::{Part, write_parts};
 use hull_io::{Sink, WriteFailed, write_whole};
 use hull_words::WordFault;
 use plan_check::RuleFault;
+use report_form::{Part, write_parts};
 use uc_case::fault::FieldFault;
 use uc_model::kinds::Kind;
 use uc_plan::fault::ShapeFault;

@@ -11,11 +11,11 @@ ghost use Rattle.hull_report.specs.FixedText.{thermal_paid, renewable_paid, bids
 ghost use Rattle.hull_report.specs.FixedText.{all_paid_text, sums_text, fixed_text};
 ghost use Rattle.hull_report.specs.RightSide.{TellsChoice};
 
-use crate::parts::{Part, write_parts};
 use crate::record::choice_of;
 use board_core::Closed;
 use board_history::laws::rows_are_within;
 use hull_io::{Sink, WriteFailed};
+use report_form::{Part, write_parts};
 use uc_model::cases::Case;
 use uc_model::copies::copy_list;
 use uc_model::units::Prices;

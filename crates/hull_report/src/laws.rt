@@ -1,6 +1,6 @@
 //! Laws over the texts: each is the contract of a function that does nothing.
-ghost use Rattle.hull_report.specs.Laws.{TextDeterminesReport, RightReportHasForm, OneIsChosen};
-ghost use Rattle.hull_report.specs.Laws.{OneRun, OneRightReport, ReportPaymentsMakeUpTheGap};
+ghost use Rattle.hull_report.specs.Laws.{RightReportHasForm, OneIsChosen, OneRun};
+ghost use Rattle.hull_report.specs.Laws.{OneRightReport, ReportPaymentsMakeUpTheGap};
 ghost use Rattle.hull_report.specs.RecordReport.{RecordReportIsRight, SettlementsAreOfAllUnits};
 ghost use Rattle.hull_report.specs.RecordReport.{AnswersAreTops};
 ghost use Rattle.hull_report.specs.RightSide.{OneRightSide, SidePaymentsMakeUpTheGap};
@@ -9,13 +9,7 @@ ghost use Rattle.hull_report.specs.RightSide.{SettledSidesAreRight};
 use board_history::laws::{answers_fit, finished_has_row, finished_is_run, rows_are_made};
 use uc_model::laws::{one_schedule_is_least, payments_make_up_the_gap};
 
-/// Two reports with equal texts are equal, so what is printed tells the report. Of renewable units
-/// and bids only the power is told: they are on in every period of it, with reserve 0.
-pub fn text_determines_the_report()
-    ensures { TextDeterminesReport }
-{}
-
-/// A right report is such a report, so no two have one text.
+/// A right report is such a report as its text determines, so no two have one text.
 pub fn right_report_has_form()
     ensures { RightReportHasForm }
 {}

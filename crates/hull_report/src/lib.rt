@@ -7,15 +7,11 @@ pub mod check;
 pub mod fault;
 mod fixed;
 pub mod laws;
-pub mod parts;
-mod pieces;
 mod record;
-pub mod report;
 
 pub use audit::write_audit;
 pub use bound::{BoundLines, write_bound, write_bound_lines};
 pub use check::write_check;
 pub use fault::{FileKind, TopFault, write_fault};
 pub use fixed::{Side, chosen_side, write_fixed};
-pub use parts::{Part, write_parts};
 pub use record::{write_report, write_try};

@@ -5,21 +5,21 @@ ghost use Rattle.board_history.specs.Calls.{own_rows, has_finished};
 ghost use Rattle.hull_io.specs.Edge.{Writes};
 ghost use Rattle.uc_model.specs.Data.{unit_count};
 ghost use Rattle.uc_model.specs.PlainUnits.{schedule_of};
-ghost use Rattle.hull_report.specs.ReportText.{rows_text, head_text, chosen_text, thermal_text};
-ghost use Rattle.hull_report.specs.ReportText.{renewable_text, bid_text, report_text};
+ghost use Rattle.report_form.specs.ReportText.{rows_text, head_text, chosen_text, thermal_text};
+ghost use Rattle.report_form.specs.ReportText.{renewable_text, bid_text, report_text};
 ghost use Rattle.hull_report.specs.RecordReport.{line_of, lines_from, thermal_names};
 ghost use Rattle.hull_report.specs.RecordReport.{renewable_names, bid_names, chosen_of, value_of};
 ghost use Rattle.hull_report.specs.RecordReport.{report_of, HasNumbers};
 ghost use Rattle.hull_report.specs.TryText.{try_text};
 
-use crate::parts::{Part, write_parts};
-use crate::report::{
-    Head, Owed, write_bid, write_chosen, write_foot, write_head, write_renewable, write_rows,
-    write_thermal,
-};
 use board_core::Closed;
 use board_history::laws::{finished_has_row, finished_is_run, rows_are_within};
 use hull_io::{Sink, WriteFailed};
+use report_form::report::{
+    Head, Owed, write_bid, write_chosen, write_foot, write_head, write_renewable, write_rows,
+    write_thermal,
+};
+use report_form::{Part, write_parts};
 use uc_model::laws::plan_costs_are_within;
 use uc_model::units::Answered;
 use uplift_settle::Settlement;

@@ -1,7 +1,7 @@
 -- Lists of lines that are compared, piece by piece.
 use Rattle.std.proofs.Common.{◌≡◌, ℕ, ◌+◌, Bool, true, false, Result, Ok, Err, List, [], ◌∷◌, ◌++◌, length, refl, sym, ap, ◌∙◌, arith, append_assoc, length-append}
 use Rattle.std.specs.Bool.{Decides}
-use Rattle.hull_report.specs.Laws.{TextDeterminesReport}
+use Rattle.report_form.specs.Laws.{TextDeterminesReport}
 use Rattle.report_check.specs.Compared.{Differ, DifferBehind, Compares, wrong_from, Judged, AreJudged}
 use Rattle.report_check.specs.declared.wrong.WrongLine.{WrongLine}
 

@@ -5,8 +5,9 @@ use Rattle.uc_model.specs.Data.{Schedule, Market}
 use Rattle.uc_model.specs.PriceRule.{Proposal}
 use Rattle.uc_model.specs.Runs.{IsRun, Fits}
 use Rattle.uc_model.specs.Systems.{plan_cost}
-use Rattle.hull_report.specs.Laws.{TextDeterminesReport, OneRun, OneRightReport}
-use Rattle.hull_report.specs.ReportText.{Report}
+use Rattle.report_form.specs.Laws.{TextDeterminesReport}
+use Rattle.hull_report.specs.Laws.{OneRun, OneRightReport}
+use Rattle.report_form.specs.ReportText.{Report}
 use Rattle.hull_report.specs.RightReport.{IsRightReport}
 use Rattle.report_check.specs.Compared.{Differ, Compares}
 use Rattle.report_check.specs.Heads.{right_opening}

@@ -4,7 +4,7 @@ use Rattle.std.specs.Prelude.{◌==◌}
 use Rattle.std.specs.List.{concat}
 use Rattle.std.proofs.lemmas.Bool.Decides.{eqb_tells}
 use Rattle.std.proofs.lemmas.List.Sums.{sum_by-append, sum_by-cons}
-use Rattle.hull_report.specs.Laws.{TextDeterminesReport}
+use Rattle.report_form.specs.Laws.{TextDeterminesReport}
 use Rattle.report_read.specs.Differences.{DiffersAt}
 use Rattle.report_read.specs.Faults.{IsLine, AreLines, line_feeds}
 use Rattle.report_check.specs.Compared.{DifferBehind}

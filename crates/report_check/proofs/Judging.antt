@@ -3,8 +3,8 @@ use Rattle.std.proofs.Common.{◌≡◌, ℕ, ℤ, Bool, List, [], ◌∷◌, re
 use Rattle.std.specs.Bool.{Decides}
 use Rattle.uc_model.specs.declared.kinds.Kind.{Kind}
 use Rattle.uc_model.specs.declared.kinds.Kind.TheVariants as kinds
-use Rattle.hull_report.specs.Parts.{spaced, spaced_counts, spaced_flags}
-use Rattle.hull_report.specs.ReportText.{chosen_text}
+use Rattle.report_form.specs.Parts.{spaced, spaced_counts, spaced_flags}
+use Rattle.report_form.specs.ReportText.{chosen_text}
 use Rattle.report_check.specs.ReportLines.{line, count_line, amount_line, kind_word}
 use Rattle.report_check.specs.Compared.{Judged}
 use Rattle.report_check.proofs.Comparing.{judged}

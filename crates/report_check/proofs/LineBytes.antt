@@ -8,9 +8,9 @@ use Rattle.uc_model.specs.declared.kinds.Kind.{Kind}
 use Rattle.uc_model.specs.declared.kinds.Kind.TheVariants as kinds
 use Rattle.uc_model.specs.Data.{Schedule}
 use Rattle.uc_model.specs.PriceRule.{Proposal}
-use Rattle.hull_report.specs.Numerals.{digits_up_to, numeral, signed_numeral}
-use Rattle.hull_report.specs.Parts.{spaced, spaced_counts, spaced_flags, flag_text, quoted, closed, escaped, hex_of, stands_as_is}
-use Rattle.hull_report.specs.ReportText.{UnitLine, Report, chosen_text}
+use Rattle.report_form.specs.Numerals.{digits_up_to, numeral, signed_numeral}
+use Rattle.report_form.specs.Parts.{spaced, spaced_counts, spaced_flags, flag_text, quoted, closed, escaped, hex_of, stands_as_is}
+use Rattle.report_form.specs.ReportText.{UnitLine, Report, chosen_text}
 use Rattle.report_read.specs.Faults.{IsLine}
 use Rattle.report_check.specs.ReportLines.{line, row_lines, rows_lines, kind_word, title_line, response_lines, unit_lines, head_lines, foot_lines, report_lines}
 

@@ -5,10 +5,10 @@ use Rattle.std.proofs.lemmas.List.{append_cancel_left, append_cancel_right}
 use Rattle.std.proofs.lemmas.List.Elements.{All-nil}
 use Rattle.uc_model.specs.Data.{Schedule}
 use Rattle.uc_model.specs.PriceRule.{Proposal}
-use Rattle.hull_report.specs.Numerals.{numeral, signed_numeral}
-use Rattle.hull_report.specs.Parts.{spaced, spaced_counts, spaced_flags}
-use Rattle.hull_report.specs.ReportText.{UnitLine, Report, head_text, row_text, chosen_text, thermal_text, report_text}
-use Rattle.hull_report.specs.Laws.{IsFlatLine, HasForm, TextDeterminesReport}
+use Rattle.report_form.specs.Numerals.{numeral, signed_numeral}
+use Rattle.report_form.specs.Parts.{spaced, spaced_counts, spaced_flags}
+use Rattle.report_form.specs.ReportText.{UnitLine, Report, head_text, row_text, chosen_text, thermal_text, report_text}
+use Rattle.report_form.specs.Laws.{IsFlatLine, HasForm, TextDeterminesReport}
 use Rattle.report_check.specs.ReportLines.{line, title_line}
 
 -- a line tells what stands behind its word

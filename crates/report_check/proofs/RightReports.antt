@@ -11,7 +11,7 @@ use Rattle.uc_model.specs.Earnings.{IsTop}
 use Rattle.uc_model.specs.PriceRule.{Proposal, chosen_number}
 use Rattle.uc_model.specs.Runs.{HasTotals, IsRun, Fits}
 use Rattle.uc_model.specs.Systems.{plan_cost, IsSettled}
-use Rattle.hull_report.specs.ReportText.{UnitLine}
+use Rattle.report_form.specs.ReportText.{UnitLine}
 use Rattle.hull_report.specs.RecordReport.{lines_from}
 use Rattle.hull_report.specs.RightReport.{IsRightReport}
 use Rattle.report_read.specs.Bounds.{AreInOrder}

@@ -12,8 +12,9 @@ use Rattle.uc_model.specs.PriceRule.{Proposal}
 use Rattle.uc_model.specs.Runs.{HasTotals, IsRun, Fits}
 use Rattle.uc_model.specs.Systems.{IsDualValue, total_power}
 use Rattle.uc_model.proofs.SignedLaws.{wider}
-use Rattle.hull_report.specs.ReportText.{UnitLine, Report, chosen_text, report_text}
-use Rattle.hull_report.specs.Laws.{IsFlatLine, HasForm, TextDeterminesReport, RightReportHasForm, OneRightReport}
+use Rattle.report_form.specs.ReportText.{UnitLine, Report, chosen_text, report_text}
+use Rattle.report_form.specs.Laws.{IsFlatLine, HasForm, TextDeterminesReport}
+use Rattle.hull_report.specs.Laws.{RightReportHasForm, OneRightReport}
 use Rattle.hull_report.specs.RightReport.{IsRightReport}
 use Rattle.report_read.specs.Bounds.{IsOtherLine, IsReport}
 use Rattle.report_read.specs.Bounds.{AreInOrder}

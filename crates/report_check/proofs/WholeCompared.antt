@@ -1,7 +1,7 @@
 -- All lines of two reports, part by part.
 use Rattle.std.proofs.Common.{◌≡◌, ℕ, ℤ, Result, Ok, Err, List, [], ◌∷◌, length, subst}
 use Rattle.uc_model.specs.Data.{Market}
-use Rattle.hull_report.specs.ReportText.{Report, chosen_text}
+use Rattle.report_form.specs.ReportText.{Report, chosen_text}
 use Rattle.report_check.specs.Compared.{Compares}
 use Rattle.report_check.specs.Heads.{right_head}
 use Rattle.report_check.specs.ReportLines.{head_lines, rows_lines, foot_lines}

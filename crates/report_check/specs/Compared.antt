@@ -1,7 +1,7 @@
 -- Where two lists of lines differ first (this project's profile).
 use Rattle.std.specs.Prelude.{◌≡◌, ℕ, ◌+◌, Bool, true, false, Result}
 use Rattle.std.specs.Prelude.{Ok, Err, List, [], ◌∷◌, ◌++◌, length}
-use Rattle.hull_report.specs.Laws.{TextDeterminesReport}
+use Rattle.report_form.specs.Laws.{TextDeterminesReport}
 use Rattle.report_check.specs.declared.wrong.WrongLine.{WrongLine}
 
 -- two lines differ, since a text determines its report

@@ -1,7 +1,7 @@
 -- The first lines that are right for a report's own budget and number of proposals ahead.
 use Rattle.std.specs.Prelude.{ℕ, ℤ, List, [], ◌∷◌, ◌++◌, codes}
 use Rattle.uc_model.specs.Data.{Market, unit_count}
-use Rattle.hull_report.specs.ReportText.{Report}
+use Rattle.report_form.specs.ReportText.{Report}
 use Rattle.report_check.specs.ReportLines.{count_line, amount_line, number_line}
 
 abbrev pub right_opening : Market → ℤ → Report → List (List ℕ)

@@ -1,13 +1,13 @@
--- The text of a report, line by line (this project's profile; `hull_report` says the text whole).
+-- The text of a report, line by line (this project's profile; `report_form` says the text whole).
 use Rattle.std.specs.Prelude.{ℕ, suc, ℤ, List, [], ◌∷◌, ◌++◌, length, codes}
 use Rattle.std.specs.List.{concat, flat_map}
 use Rattle.uc_model.specs.declared.kinds.Kind.{Kind}
 use Rattle.uc_model.specs.declared.kinds.Kind.TheVariants as kinds
 use Rattle.uc_model.specs.Data.{Schedule}
 use Rattle.uc_model.specs.PriceRule.{Proposal}
-use Rattle.hull_report.specs.Numerals.{numeral, signed_numeral}
-use Rattle.hull_report.specs.Parts.{spaced, spaced_counts, spaced_flags, quoted}
-use Rattle.hull_report.specs.ReportText.{UnitLine, Report, chosen_text}
+use Rattle.report_form.specs.Numerals.{numeral, signed_numeral}
+use Rattle.report_form.specs.Parts.{spaced, spaced_counts, spaced_flags, quoted}
+use Rattle.report_form.specs.ReportText.{UnitLine, Report, chosen_text}
 use Rattle.report_read.specs.Plain.{Told}
 
 -- a word, what stands behind it, and the line feed

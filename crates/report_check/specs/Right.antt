@@ -1,7 +1,7 @@
 -- Where a report differs from the right one (this project's profile).
 use Rattle.std.specs.Prelude.{ℕ, List}
 use Rattle.uc_model.specs.Data.{Schedule, Market}
-use Rattle.hull_report.specs.ReportText.{Report, report_text}
+use Rattle.report_form.specs.ReportText.{Report, report_text}
 use Rattle.hull_report.specs.RightReport.{IsRightReport}
 use Rattle.report_read.specs.Differences.{DiffersAt}
 

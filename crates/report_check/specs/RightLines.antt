@@ -8,7 +8,7 @@ use Rattle.uc_model.specs.Data.{thermal_names, renewable_names, bid_names}
 use Rattle.uc_model.specs.PriceRule.{Proposal}
 use Rattle.uc_model.specs.Sums.{int_at}
 use Rattle.uplift_settle.specs.declared.settlement.Settlement.{Settlement}
-use Rattle.hull_report.specs.ReportText.{UnitLine, Report, chosen_text}
+use Rattle.report_form.specs.ReportText.{UnitLine, Report, chosen_text}
 use Rattle.hull_report.specs.RecordReport.{lines_from}
 use Rattle.report_read.specs.Plain.{Told}
 use Rattle.report_check.specs.ReportLines.{head_lines, rows_lines, foot_lines}

@@ -4,7 +4,7 @@ ghost use Rattle.std.specs.Prelude.{ℤ, [], ◌∷◌, length, map, IfOk};
 ghost use Rattle.std.specs.Bool.{Decides};
 ghost use Rattle.uc_model.specs.Data.{unit_count};
 ghost use Rattle.uc_model.specs.PlainCases.{market_of};
-ghost use Rattle.hull_report.specs.ReportText.{Report as PlainReport, chosen_text};
+ghost use Rattle.report_form.specs.ReportText.{Report as PlainReport, chosen_text};
 ghost use Rattle.report_read.specs.Plain.{report_of};
 ghost use Rattle.report_check.specs.Compared.{Compares};
 ghost use Rattle.report_check.specs.ReportLines.{opening_lines, number_line, head_lines};

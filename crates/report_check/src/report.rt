@@ -25,11 +25,9 @@ use crate::rows::rows_same;
 use crate::units::units_same;
 use crate::wrong::WrongLine;
 use fixed_price::earn_all;
-use hull_report::laws::{
-    one_report_is_right, right_report_has_form, settlements_are_of_all_units,
-    text_determines_the_report,
-};
+use hull_report::laws::{one_report_is_right, right_report_has_form, settlements_are_of_all_units};
 use price_move::greatest;
+use report_form::laws::text_determines_the_report;
 use report_read::Report;
 use uc_model::cases::{Case, Plan, Row};
 use uc_model::laws::{dual_values_are_within, plan_costs_are_within};

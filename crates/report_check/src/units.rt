@@ -18,7 +18,7 @@ use crate::lines::{same_flags, same_name, same_powers};
 use crate::wrong::{WrongLine, all_same};
 use fixed_price::answer_at;
 use fixed_price::laws::units_can_answer;
-use hull_report::report::Owed;
+use report_form::report::Owed;
 use report_read::UnitLine;
 use slope_list::Slopes;
 use uc_model::cases::Case;

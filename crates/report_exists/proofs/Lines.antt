@@ -5,7 +5,7 @@ use Rattle.uc_model.specs.Data.{AnyUnit, PriceLists, Schedule}
 use Rattle.uc_model.specs.Earnings.{earnings, IsTop}
 use Rattle.uc_model.specs.Runs.{Fits}
 use Rattle.uc_model.specs.Sums.{zip_with}
-use Rattle.hull_report.specs.ReportText.{UnitLine}
+use Rattle.report_form.specs.ReportText.{UnitLine}
 
 abbrev line_of : PriceLists → List ℕ → AnyUnit → Schedule → Schedule → UnitLine
 line_of π name u scheduled response = record {

@@ -12,7 +12,7 @@ use Rattle.uc_model.specs.Sums.{total}
 use Rattle.uc_model.specs.Systems.{plan_cost, surplus_value, IsSettled}
 use Rattle.uc_model.proofs.ListLaws.{length_same}
 use Rattle.hull_report.specs.Laws.{OneIsChosen}
-use Rattle.hull_report.specs.ReportText.{UnitLine, Report}
+use Rattle.report_form.specs.ReportText.{UnitLine, Report}
 use Rattle.hull_report.specs.RightReport.{IsRightReport}
 use Rattle.run_exists.specs.Laws.{RunsExist}
 use Rattle.report_exists.specs.Laws.{RightReportsExist}

@@ -3,7 +3,7 @@
 use Rattle.std.specs.Prelude.{ℕ, ◌≤◌, List}
 use Rattle.uc_model.specs.Data.{Schedule, Market}
 use Rattle.uc_model.specs.Systems.{IsFeasiblePlan}
-use Rattle.hull_report.specs.ReportText.{Report}
+use Rattle.report_form.specs.ReportText.{Report}
 use Rattle.hull_report.specs.RightReport.{IsRightReport}
 
 -- a report that tells of the run, and of the first row of the greatest value in it

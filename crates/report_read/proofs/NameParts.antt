@@ -6,7 +6,7 @@ use Rattle.std.specs.Str.{is_utf8}
 use Rattle.std.proofs.lemmas.Str.{IsUtf8-from_is_utf8, is_utf8-from_IsUtf8}
 use Rattle.std.proofs.lemmas.Bool.{cases_lt, false_from_ne_true}
 use Rattle.std.proofs.lemmas.Bool.Decides.{nat_tests}
-use Rattle.hull_report.specs.Parts.{hex_of, stands_as_is, escaped}
+use Rattle.report_form.specs.Parts.{hex_of, stands_as_is, escaped}
 use Rattle.report_read.specs.Words.{◌>>=◌, behind, is_digit, hex_value, two_digits, control_at, backslashed_at, escaped_at, closed_within, text_only, name_at}
 use Rattle.report_read.proofs.Parts.{bind_some, if_some, some_is, behind_takes, is_inline, inline_append, Part}
 

@@ -7,7 +7,7 @@ use Rattle.std.proofs.lemmas.Bool.{cases_lt, ne_eqb}
 use Rattle.std.proofs.lemmas.Int.{ints}
 use Rattle.std.proofs.lemmas.Bool.Decides.{nat_tests}
 use Rattle.uc_model.specs.Limits.{IsFrom}
-use Rattle.hull_report.specs.Numerals.{digits_up_to, numeral, signed_numeral}
+use Rattle.report_form.specs.Numerals.{digits_up_to, numeral, signed_numeral}
 use Rattle.report_read.specs.Words.{◌>>=◌, is_digit, digits_from, numeral_at, count_between, count_at, negative, signed_at, integer_between, integer_at}
 use Rattle.report_read.proofs.Parts.{bind_some, if_some, some_is, is_inline, inline_append, Stops, Part}
 

@@ -7,10 +7,10 @@ use Rattle.uc_model.specs.declared.limits.TheConstants.{MOST_PERIODS, MOST_UNITS
 use Rattle.std.proofs.lemmas.List.Elements.{All-from_recursion}
 use Rattle.uc_model.specs.Limits.{IsFrom, ArePrices}
 use Rattle.uc_model.specs.PriceRule.{Proposal}
-use Rattle.hull_report.specs.Numerals.{numeral, signed_numeral}
-use Rattle.hull_report.specs.Parts.{spaced}
-use Rattle.hull_report.specs.declared.report.Head.{Head}
-use Rattle.hull_report.specs.ReportText.{head_text, row_text, rows_text, chosen_text, foot_text}
+use Rattle.report_form.specs.Numerals.{numeral, signed_numeral}
+use Rattle.report_form.specs.Parts.{spaced}
+use Rattle.report_form.specs.declared.report.Head.{Head}
+use Rattle.report_form.specs.ReportText.{head_text, row_text, rows_text, chosen_text, foot_text}
 use Rattle.report_read.specs.declared.head.Foot.{Foot}
 use Rattle.report_read.specs.Bounds.{IsAmount, IsEnergyPrice, IsReservePrice, IsList, IsProposal}
 use Rattle.report_read.specs.Words.{Found, count_at, integer_at, items_at}

@@ -7,9 +7,9 @@ use Rattle.std.proofs.lemmas.Bool.Decides.{nat_tests}
 use Rattle.uc_model.specs.declared.kinds.Kind.{Kind}
 use Rattle.uc_model.specs.declared.kinds.Kind.TheVariants as kinds
 use Rattle.uc_model.specs.Data.{Schedule}
-use Rattle.hull_report.specs.Numerals.{numeral, signed_numeral}
-use Rattle.hull_report.specs.Parts.{spaced_counts, spaced_flags, escaped}
-use Rattle.hull_report.specs.ReportText.{UnitLine, thermal_text, flat_text, renewable_text, bid_text}
+use Rattle.report_form.specs.Numerals.{numeral, signed_numeral}
+use Rattle.report_form.specs.Parts.{spaced_counts, spaced_flags, escaped}
+use Rattle.report_form.specs.ReportText.{UnitLine, thermal_text, flat_text, renewable_text, bid_text}
 use Rattle.report_read.specs.Plain.{Told, rank}
 use Rattle.report_read.specs.Bounds.{IsCount, IsNumber, IsList, IsTold}
 use Rattle.report_read.specs.Words.{Found, ◌>>=◌, behind, count_at, spaced, flag_at, name_at, of_kind, or_else, kind_at}

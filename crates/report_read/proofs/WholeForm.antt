@@ -7,9 +7,9 @@ use Rattle.std.proofs.lemmas.List.Elements.{All-from_recursion}
 use Rattle.uc_model.specs.declared.kinds.Kind.{Kind}
 use Rattle.uc_model.specs.declared.kinds.Kind.TheVariants as kinds
 use Rattle.uc_model.specs.PriceRule.{Proposal}
-use Rattle.hull_report.specs.declared.report.Head.{Head}
-use Rattle.hull_report.specs.Laws.{HasForm, IsFlatLine}
-use Rattle.hull_report.specs.ReportText.{UnitLine, Report, head_text, rows_text, chosen_text, thermal_text, renewable_text, bid_text, foot_text, report_text}
+use Rattle.report_form.specs.declared.report.Head.{Head}
+use Rattle.report_form.specs.Laws.{HasForm, IsFlatLine}
+use Rattle.report_form.specs.ReportText.{UnitLine, Report, head_text, rows_text, chosen_text, thermal_text, renewable_text, bid_text, foot_text, report_text}
 use Rattle.report_read.specs.declared.head.Foot.{Foot}
 use Rattle.report_read.specs.Plain.{Told, rank, same_kind, lines_of}
 use Rattle.report_read.specs.Bounds.{IsList, IsProposal, IsTold, IsThermalLine, IsOtherLine, IsReport, AreInOrder}

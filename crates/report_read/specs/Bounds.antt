@@ -5,8 +5,8 @@ use Rattle.std.specs.List.{AllByRecursion}
 use Rattle.uc_model.specs.Limits.{IsFrom, IsHorizon}
 use Rattle.uc_model.specs.PriceRule.{Proposal}
 use Rattle.uc_model.specs.declared.limits.TheConstants.{MOST_UNITS, MOST_PROPOSALS, PRICE_LIMIT}
-use Rattle.hull_report.specs.ReportText.{UnitLine, Report}
-use Rattle.hull_report.specs.Laws.{IsFlatLine}
+use Rattle.report_form.specs.ReportText.{UnitLine, Report}
+use Rattle.report_form.specs.Laws.{IsFlatLine}
 use Rattle.report_read.specs.Plain.{Told, rank}
 
 -- a number of 32 bits

@@ -1,7 +1,7 @@
 -- The first line of a file at which it goes on as no report does (this project's profile).
 use Rattle.std.specs.Prelude.{◌≡◌, ℕ, suc, ◌==◌, ◌⊎◌, Result, Ok, Err, List, [], ◌∷◌, ◌++◌}
 use Rattle.std.specs.List.{AllByRecursion, count_by}
-use Rattle.hull_report.specs.ReportText.{Report, report_text}
+use Rattle.report_form.specs.ReportText.{Report, report_text}
 use Rattle.report_read.specs.Bounds.{IsReport}
 use Rattle.report_read.specs.Plain.{report_of}
 use Rattle.report_read.specs.declared.report.Report.{Report as KeptReport}

@@ -1,6 +1,6 @@
 -- What holds of every report within the bounds. Each law is the clause of a public function.
 use Rattle.std.specs.Prelude.{◌≡◌, ℕ, List}
-use Rattle.hull_report.specs.ReportText.{Report, report_text}
+use Rattle.report_form.specs.ReportText.{Report, report_text}
 use Rattle.report_read.specs.Bounds.{IsReport}
 use Rattle.report_read.specs.Differences.{DiffersAt}
 use Rattle.report_read.specs.Faults.{IsFault}

@@ -6,8 +6,8 @@ use Rattle.uc_model.specs.declared.kinds.Kind.TheVariants as kinds
 use Rattle.uc_model.specs.declared.limits.TheConstants.{MOST_PERIODS, MOST_UNITS, MOST_PROPOSALS, PRICE_LIMIT}
 use Rattle.uc_model.specs.Data.{Schedule}
 use Rattle.uc_model.specs.PriceRule.{Proposal}
-use Rattle.hull_report.specs.declared.report.Head.{Head}
-use Rattle.hull_report.specs.ReportText.{Report}
+use Rattle.report_form.specs.declared.report.Head.{Head}
+use Rattle.report_form.specs.ReportText.{Report}
 use Rattle.report_read.specs.declared.head.Foot.{Foot}
 use Rattle.report_read.specs.declared.stop.Stop.{Stop}
 use Rattle.report_read.specs.declared.stop.Stop.TheVariants as stops

@@ -4,7 +4,7 @@ use Rattle.uc_model.specs.declared.kinds.Kind.{Kind}
 use Rattle.uc_model.specs.declared.kinds.Kind.TheVariants as kinds
 use Rattle.uc_model.specs.PlainUnits.{schedule_of}
 use Rattle.uc_model.specs.PlainCases.{proposal_of}
-use Rattle.hull_report.specs.ReportText.{UnitLine, Report}
+use Rattle.report_form.specs.ReportText.{UnitLine, Report}
 use Rattle.report_read.specs.declared.report.UnitLine.{UnitLine as KeptLine}
 use Rattle.report_read.specs.declared.report.Report.{Report as KeptReport}
 

@@ -4,7 +4,7 @@ use Rattle.std.specs.Prelude.{◌≡◌, ℕ, zero, suc, ◌+◌, ◌-◌, ◌*�
 use Rattle.std.specs.Str.{is_utf8}
 use Rattle.uc_model.specs.declared.kinds.Kind.{Kind}
 use Rattle.uc_model.specs.declared.kinds.Kind.TheVariants as kinds
-use Rattle.hull_report.specs.Parts.{stands_as_is}
+use Rattle.report_form.specs.Parts.{stands_as_is}
 
 -- what is read: a value, and the bytes behind it
 abbrev pub Found : Type 0 → Type 0

@@ -3,7 +3,7 @@ ghost use Rattle.report_read.specs.Lines.{Gives, head_at, foot_at};
 
 use crate::lines::{amount_line, count_line, word_line};
 use crate::stop::Stop;
-use hull_report::report::Head;
+use report_form::report::Head;
 use uc_model::limits::{MOST_PERIODS, MOST_PROPOSALS, MOST_UNITS};
 
 /// What stands behind the units, in money.

@@ -1,7 +1,7 @@
 //! Laws over reports within the bounds: each is the contract of a function that does nothing.
 ghost use Rattle.report_read.specs.Laws.{OneReport, OneFault, OneDifference};
 
-use hull_report::laws::text_determines_the_report;
+use report_form::laws::text_determines_the_report;
 
 /// No two reports within the bounds have one text, so what is read is the report that was written.
 pub fn one_report_has_a_text()

@@ -5,7 +5,7 @@ ghost use Rattle.report_read.specs.Words.{control_at as control_spec};
 ghost use Rattle.report_read.specs.Words.{backslashed_at as backslashed_spec};
 ghost use Rattle.report_read.specs.Words.{escaped_at as escaped_spec, closed_within};
 ghost use Rattle.report_read.specs.Words.{name_at as name_spec, FindsIfOk};
-ghost use Rattle.hull_report.specs.Parts.{stands_as_is};
+ghost use Rattle.report_form.specs.Parts.{stands_as_is};
 
 use crate::words::behind;
 use std::alloc::{AllocError, Global};

@@ -1,6 +1,6 @@
 //! A report of its text, or the first line in fault.
 ghost use Rattle.std.specs.Prelude.{◌≡◌, ◌≤◌, ◌-◌, suc, length, map, take, IfOk};
-ghost use Rattle.hull_report.specs.ReportText.{Report as PlainReport, report_text};
+ghost use Rattle.report_form.specs.ReportText.{Report as PlainReport, report_text};
 ghost use Rattle.report_read.specs.Plain.{report_of, told_of};
 ghost use Rattle.report_read.specs.Bounds.{IsReport, AreInOrder};
 ghost use Rattle.report_read.specs.Faults.{IsFault, IfFault, line_feeds, Gives as GivesReport};

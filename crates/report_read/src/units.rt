@@ -15,7 +15,7 @@ use crate::numbers::number_at;
 use crate::report::{UnitLine, UnitLines};
 use crate::stop::Stop;
 use crate::words::behind;
-use hull_report::report::Owed;
+use report_form::report::Owed;
 use std::alloc::{AllocError, Global};
 use uc_model::kinds::Kind;
 use uc_model::lists::{Flags, Name, Powers};

@@ -1,6 +1,6 @@
 use Rattle.std.proofs.Common.{Result, Ok, Err, inr, ap, ◌∙◌}
 use Rattle.std.proofs.lemmas.Result.{err_from_is_err_and}
-use Rattle.hull_report.specs.ReportText.{report_text}
+use Rattle.report_form.specs.ReportText.{report_text}
 use Rattle.hull_report.specs.declared.fault.TopFault.{TopFault}
 use Rattle.hull_engine.specs.declared.input.RunInput.{RunInput}
 use Rattle.hull_engine.specs.declared.input.RunSize.{RunSize}

@@ -4,7 +4,7 @@ use Rattle.std.proofs.lemmas.Int.{to_z-of_z}
 use Rattle.uc_model.specs.PlainCases.{market_of}
 use Rattle.hull_report.specs.FixedText.{told_of, fixed_text}
 use Rattle.hull_report.specs.RecordReport.{report_of}
-use Rattle.hull_report.specs.ReportText.{report_text}
+use Rattle.report_form.specs.ReportText.{report_text}
 use Rattle.hull_report.specs.TryText.{try_text}
 use Rattle.hull_engine.proofs.WriteLaws.{run_text, written_bound, bound_written}
 use Rattle.hull_engine.proofs.end.write_answer.Goals as goal

@@ -3,7 +3,7 @@ use Rattle.std.proofs.lemmas.List.{length-map}
 use Rattle.uc_model.specs.PlainCases.{market_of}
 use Rattle.uc_model.specs.PlainUnits.{named_thermal_of, named_renewable_of}
 use Rattle.hull_report.specs.FixedText.{told_of, paid_text, paid_line, bids_paid}
-use Rattle.hull_report.proofs.GrownLemmas.{gains_at_item, exit_at_item}
+use Rattle.report_form.proofs.GrownLemmas.{gains_at_item, exit_at_item}
 use Rattle.hull_report.proofs.RecordLines.{bid_stands, bid_lines}
 use Rattle.hull_report.proofs.RecordTexts.{all_items}
 use Rattle.hull_report.proofs.fixed.write_bids_paid.Goals as goal

@@ -1,7 +1,7 @@
 use Rattle.std.proofs.Common.{arith, ap, length, refl, codes, ◌+◌}
 use Rattle.uc_model.specs.PlainCases.{market_of}
 use Rattle.hull_report.specs.FixedText.{told_of, paid_text, paid_line, renewable_paid}
-use Rattle.hull_report.proofs.GrownLemmas.{gains_at_item, exit_at_item}
+use Rattle.report_form.proofs.GrownLemmas.{gains_at_item, exit_at_item}
 use Rattle.hull_report.proofs.RecordLines.{renewable_stands, renewable_lines}
 use Rattle.hull_report.proofs.RecordTexts.{all_items}
 use Rattle.hull_report.proofs.fixed.write_renewable_paid.Goals as goal

@@ -6,7 +6,7 @@ use Rattle.uc_model.specs.PlainCases.{proposal_of}
 use Rattle.board_history.specs.Calls.{own_rows}
 use Rattle.uc_model.specs.Data.{unit_count}
 use Rattle.hull_io.specs.Edge.{Gains, FallsShort}
-use Rattle.hull_report.specs.ReportText.{head_text, rows_text, chosen_text}
+use Rattle.report_form.specs.ReportText.{head_text, rows_text, chosen_text}
 use Rattle.hull_report.proofs.RecordTexts.{first_of_three, second_of_three, last_of_three}
 use Rattle.hull_report.proofs.record.write_proposals.Goals as goal
 

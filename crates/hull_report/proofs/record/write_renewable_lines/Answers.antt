@@ -1,6 +1,6 @@
 use Rattle.std.proofs.Common.{arith, ap, length, ◌+◌}
-use Rattle.hull_report.proofs.GrownLemmas.{gains_at_item, exit_at_item}
-use Rattle.hull_report.specs.ReportText.{renewable_text}
+use Rattle.report_form.proofs.GrownLemmas.{gains_at_item, exit_at_item}
+use Rattle.report_form.specs.ReportText.{renewable_text}
 use Rattle.hull_report.specs.RecordReport.{line_of, lines_from, renewable_names}
 use Rattle.hull_report.proofs.RecordLines.{renewable_stands, renewable_lines}
 use Rattle.hull_report.proofs.RecordTexts.{all_items}

@@ -2,7 +2,7 @@ use Rattle.std.proofs.Common.{◌≡◌, length, take}
 use Rattle.std.specs.List.{flat_map}
 use Rattle.hull_io.specs.Edge.{Gains}
 use Rattle.uc_model.specs.PlainUnits.{schedule_of}
-use Rattle.hull_report.specs.ReportText.{renewable_text}
+use Rattle.report_form.specs.ReportText.{renewable_text}
 use Rattle.hull_report.specs.RecordReport.{line_of, lines_from, renewable_names}
 use Rattle.hull_report.proofs.record.write_renewable_lines.Given as goal
 

@@ -1,7 +1,7 @@
 use Rattle.std.proofs.Common.{◌∷◌, []}
 use Rattle.std.specs.Int.{w128}
 use Rattle.std.proofs.lemmas.Int.{to_z-of_z}
-use Rattle.hull_report.specs.ReportText.{chosen_text}
+use Rattle.report_form.specs.ReportText.{chosen_text}
 use Rattle.report_read.specs.Plain.{report_of}
 use Rattle.report_check.proofs.Comparing.{judged_compare}
 use Rattle.report_check.proofs.Judging.{choice_judged}

@@ -1,6 +1,6 @@
 use Rattle.std.proofs.Common.{ℕ, ◌++◌, ◌∷◌, [], codes}
 use Rattle.uc_model.specs.PlainCases.{proposal_of}
-use Rattle.hull_report.specs.Numerals.{numeral}
+use Rattle.report_form.specs.Numerals.{numeral}
 use Rattle.report_check.specs.ReportLines.{row_lines}
 use Rattle.report_check.proofs.Comparing.{judged_compare}
 use Rattle.report_check.proofs.Judging.{amount_judged, amounts_judged}

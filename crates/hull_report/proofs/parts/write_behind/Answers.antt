@@ -1,6 +1,0 @@
-use Rattle.hull_report.proofs.GrownLemmas.{writes_then}
-use Rattle.hull_report.specs.Numerals.{numeral}
-use Rattle.hull_report.proofs.parts.write_behind.Goals as goal
-
-pub returns : goal.returns
-returns g c = writes_then c.args.word.now (numeral c.args.n) _ c.write_count.ensures c.in_ok-write_whole.ensures.ok

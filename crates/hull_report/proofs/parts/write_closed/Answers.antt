@@ -1,8 +1,0 @@
-use Rattle.std.proofs.Common.{[], ◌∷◌}
-use Rattle.std.specs.List.{flat_map}
-use Rattle.hull_report.proofs.GrownLemmas.{writes_then}
-use Rattle.hull_report.specs.Parts.{escaped}
-use Rattle.hull_report.proofs.parts.write_closed.Goals as goal
-
-pub returns : goal.returns
-returns g c = writes_then (flat_map escaped c.args.name.now) (34 ∷ []) _ c.write_whole.ensures c.in_ok-write_inside.ensures.ok

@@ -1,7 +1,0 @@
-use Rattle.std.proofs.Common.{subst, rules}
-use Rattle.hull_io.specs.Edge.{Writes}
-use Rattle.hull_report.proofs.NumeralLaws.{wide_count_is}
-use Rattle.hull_report.proofs.parts.write_count.Goals as goal
-
-pub returns : goal.returns
-returns g c = subst (Writes g.S.Sink.held g.S.Sink.faults g.S.Sink.last c.args.out.now c.write_number.new.out c.write_number.result) (wide_count_is c.args.n (search rules)) c.write_number.ensures

@@ -1,6 +1,0 @@
-use Rattle.std.proofs.Common.{sym}
-use Rattle.hull_report.proofs.NameLemmas.{escaped_all_plain}
-use Rattle.hull_report.proofs.parts.write_inside.Goals as goal
-
-pub returns-then-is_all_plain : goal.returns-then-is_all_plain
-returns-then-is_all_plain g c = rw (escaped_all_plain c.args.name.now (sym c.if-is_all_plain.ensures)) c.write_whole.ensures

@@ -1,9 +1,0 @@
-use Rattle.std.proofs.Common.{rules}
-use Rattle.std.specs.Int.{w128}
-use Rattle.std.proofs.lemmas.Int.{to_z-of_z}
-use Rattle.hull_report.specs.ReportText.{head_text}
-use Rattle.hull_report.proofs.report.write_head.Goals as goal
-
-pub returns : goal.returns
-unfolding head_text
-returns g c = rw (to_z-of_z w128 c.args.head.now.cost (search rules)) at c.write_parts.ensures

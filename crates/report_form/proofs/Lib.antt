@@ -1,0 +1,13 @@
+-- parts.rt, and the writers of the crates above: how what a sink holds grows
+pub mod GrownLemmas
+-- pieces.rt: texts that are written in pieces
+mod PieceLemmas
+-- parts.rt: names, and numbers in digits
+mod NameLemmas
+mod NumeralLaws
+-- report.rt: the rows, one after another
+mod RowTexts
+-- laws.rt: a text read back
+mod ReadBack
+mod ReadLines
+mod ReadReport

@@ -1,0 +1,184 @@
+-- The blocks of a report, read back from its text.
+use Rattle.std.proofs.Common.{◌≡◌, ℕ, suc, ℤ, true, List, [], ◌∷◌, ◌++◌, length, replicate, get_or, drop, codes, refl, sym, ap, ◌∙◌, arith, append_assoc}
+use Rattle.std.specs.List.{All, flat_map}
+use Rattle.std.proofs.lemmas.List.{append_cancel_left}
+use Rattle.std.proofs.lemmas.List.Elements.{All-head, All-tail}
+use Rattle.uc_model.specs.PriceRule.{Proposal}
+use Rattle.report_form.specs.ReportText.{UnitLine, head_text, row_text, rows_text, chosen_text, thermal_text, flat_text, renewable_text, bid_text, foot_text}
+use Rattle.report_form.specs.Laws.{IsFlatLine}
+use Rattle.report_form.proofs.ReadBack.{bytes_apart, after_count, after_amount, after_amounts, after_counts, after_flags, after_name}
+
+-- the numbers of the first lines
+pub record AreHeads (p g b a n : ℕ) (c : ℤ) (q h d e m : ℕ) (k : ℤ) : Type 0 where
+  pub periods : p ≡ q
+  pub units : g ≡ h
+  pub budget : b ≡ d
+  pub ahead : a ≡ e
+  pub cost : c ≡ k
+  pub proposals : n ≡ m
+
+pub read_head : (p g b a n : ℕ) (c : ℤ) (q h d e m : ℕ) (k : ℤ) (u v : List ℕ) → head_text p g b a c n ++ u ≡ head_text q h d e k m ++ v → AreHeads p g b a n c q h d e m k × (u ≡ v)
+unfolding head_text
+read_head p g b a n c q h d e m k u v same =
+    let text = simp append_assoc at same in
+    let r0 = after_count (codes "hull-report 1\nperiods ") p q _ _ text refl refl in
+    let r1 = after_count (codes "\nunits ") g h _ _ r0.1 refl refl in
+    let r2 = after_count (codes "\nbudget ") b d _ _ r1.1 refl refl in
+    let r3 = after_count (codes "\nahead ") a e _ _ r2.1 refl refl in
+    let r4 = after_amount (codes "\ncost ") c k _ _ r3.1 refl refl in
+    let r5 = after_count (codes "\nproposals ") n m _ _ r4.1 refl refl in
+    (record { periods = r0.0; units = r1.0; budget = r2.0; ahead = r3.0; cost = r4.0; proposals = r5.0 }, append_cancel_left (codes "\n") u v r5.1)
+
+-- ---- proposals
+
+read_row : (n : ℕ) (r s : Proposal) (u v : List ℕ) → row_text n r ++ u ≡ row_text n s ++ v → (r ≡ s) × (u ≡ v)
+unfolding row_text
+read_row n r s u v same =
+    let text = simp append_assoc at (append_cancel_left (codes "proposal ") _ _ same) in
+    let tail = append_cancel_left _ _ _ text in
+    let value = after_amount (codes " value ") r.value s.value _ _ tail refl refl in
+    let energy = after_amounts (codes "\nenergy") r.prices.energy s.prices.energy _ _ value.1 in
+    let reserve = after_amounts (codes "reserve") r.prices.reserve s.prices.reserve _ _ energy.1 in
+    let supplied = after_amounts (codes "supplied") r.supply s.supply _ _ reserve.1 in
+    let reserved = after_amounts (codes "reserved") r.reserve s.reserve u v supplied.1 in
+    (λ i. record { prices = record { energy = energy.0 i; reserve = reserve.0 i }; value = value.0 i; supply = supplied.0 i; reserve = reserved.0 i }, reserved.1)
+
+pub read_rows : (n : ℕ) (rs ss : List Proposal) (u v : List ℕ) → length rs ≡ length ss → rows_text n rs ++ u ≡ rows_text n ss ++ v → (rs ≡ ss) × (u ≡ v)
+read_rows n [] [] u v l e = (refl, e)
+read_rows n [] (s ∷ ss) u v l e = absurd (omega arith)
+read_rows n (r ∷ rs) [] u v l e = absurd (omega arith)
+read_rows n (r ∷ rs) (s ∷ ss) u v l e =
+    let nested = sym (append_assoc (row_text n r) (rows_text (suc n) rs) u) ∙ e ∙ append_assoc (row_text n s) (rows_text (suc n) ss) v in
+    let first = read_row n r s _ _ nested in
+    let rest = read_rows (suc n) rs ss u v (omega arith) first.1 in
+    (ap (λ z. z ∷ rs) first.0 ∙ ap (λ zs. s ∷ zs) rest.0, rest.1)
+
+pub read_chosen : (m n : ℕ) (y z : ℤ) (u v : List ℕ) → chosen_text m y ++ u ≡ chosen_text n z ++ v → (m ≡ n) × (y ≡ z) × (u ≡ v)
+unfolding chosen_text
+read_chosen m n y z u v same =
+    let text = simp append_assoc at same in
+    let number = after_count (codes "chosen ") m n _ _ text refl refl in
+    let value = after_amount (codes " value ") y z _ _ number.1 refl refl in
+    (number.0, value.0, append_cancel_left (codes "\n") u v value.1)
+
+-- ---- units
+
+-- each line of a kind begins so
+abbrev pub Begins : List ℕ → (UnitLine → List ℕ) → Type 0
+Begins p f = (l : UnitLine) (u : List ℕ) → (rest : List ℕ) × (f l ++ u ≡ p ++ rest)
+
+-- no line of that kind comes next
+abbrev pub BeginsOther : List ℕ → List ℕ → Type 0
+BeginsOther p u = (rest : List ℕ) → u ≡ p ++ rest → ⊥
+
+abbrev pub ReadsLine : (UnitLine → Type 0) → (UnitLine → List ℕ) → Type 0
+ReadsLine P f = (l m : UnitLine) (u v : List ℕ) → P l → P m → f l ++ u ≡ f m ++ v → (l ≡ m) × (u ≡ v)
+
+pub read_lines : (P : UnitLine → Type 0) (f : UnitLine → List ℕ) (p : List ℕ) → ReadsLine P f → Begins p f
+    → (ls ms : List UnitLine) (u v : List ℕ) → All P ls → All P ms → BeginsOther p u → BeginsOther p v → flat_map f ls ++ u ≡ flat_map f ms ++ v → (ls ≡ ms) × (u ≡ v)
+read_lines P f p reads begins [] [] u v i j a b e = (refl, e)
+read_lines P f p reads begins [] (m ∷ ms) u v i j a b e =
+    let first = begins m (flat_map f ms ++ v) in
+    absurd (a first.0 (e ∙ append_assoc (f m) (flat_map f ms) v ∙ first.1))
+read_lines P f p reads begins (l ∷ ls) [] u v i j a b e =
+    let first = begins l (flat_map f ls ++ u) in
+    absurd (b first.0 (sym e ∙ append_assoc (f l) (flat_map f ls) u ∙ first.1))
+read_lines P f p reads begins (l ∷ ls) (m ∷ ms) u v i j a b e =
+    let nested = sym (append_assoc (f l) (flat_map f ls) u) ∙ e ∙ append_assoc (f m) (flat_map f ms) v in
+    let first = reads l m _ _ (All-head P l ls i) (All-head P m ms j) nested in
+    let rest = read_lines P f p reads begins ls ms u v (All-tail P l ls i) (All-tail P m ms j) a b first.1 in
+    (ap (λ z. z ∷ ls) first.0 ∙ ap (λ zs. m ∷ zs) rest.0, rest.1)
+
+pub read_thermal : ReadsLine (λ l. Unit {0}) thermal_text
+unfolding thermal_text
+read_thermal l m u v i j same =
+    let text = simp append_assoc at same in
+    let name = after_name (codes "unit thermal \"") l.name m.name _ _ text in
+    let earned = after_amount (codes " earned ") l.earned m.earned _ _ name.1 refl refl in
+    let scheduled = after_amount (codes " scheduled ") l.scheduled m.scheduled _ _ earned.1 refl refl in
+    let payment = after_amount (codes " payment ") l.payment m.payment _ _ scheduled.1 refl refl in
+    let on = after_flags (codes "\non") l.response.on m.response.on _ _ payment.1 in
+    let power = after_counts (codes "power") l.response.power m.response.power _ _ on.1 in
+    let reserve = after_counts (codes "reserve") l.response.reserve m.response.reserve u v power.1 in (
+      λ i. record {
+        name = name.0 i;
+        earned = earned.0 i;
+        scheduled = scheduled.0 i;
+        payment = payment.0 i;
+        response = record { on = on.0 i; power = power.0 i; reserve = reserve.0 i };
+      },
+      reserve.1,
+    )
+
+-- the power of a flat line tells its on flags and its reserve
+flat_same : (l m : UnitLine) → IsFlatLine l → IsFlatLine m → l.name ≡ m.name → l.earned ≡ m.earned → l.scheduled ≡ m.scheduled → l.payment ≡ m.payment → l.response.power ≡ m.response.power → l ≡ m
+flat_same l m h k name earned scheduled payment power =
+    let on = h.on ∙ ap (λ (ps : List ℕ). replicate (length ps) true) power ∙ sym k.on in
+    let reserve = h.reserve ∙ ap (λ (ps : List ℕ). replicate (length ps) 0) power ∙ sym k.reserve in
+    λ i. record {
+      name = name i;
+      earned = earned i;
+      scheduled = scheduled i;
+      payment = payment i;
+      response = record { on = on i; power = power i; reserve = reserve i };
+    }
+
+read_flat : (kind : List ℕ) → ReadsLine IsFlatLine (flat_text kind)
+unfolding flat_text
+read_flat kind l m u v i j same =
+    let text = simp append_assoc at same in
+    let name = after_name [] l.name m.name _ _ (append_cancel_left (codes "\"") _ _ (append_cancel_left kind _ _ text)) in
+    let earned = after_amount (codes " earned ") l.earned m.earned _ _ name.1 refl refl in
+    let scheduled = after_amount (codes " scheduled ") l.scheduled m.scheduled _ _ earned.1 refl refl in
+    let payment = after_amount (codes " payment ") l.payment m.payment _ _ scheduled.1 refl refl in
+    let power = after_counts (codes "\npower") l.response.power m.response.power u v payment.1 in
+    (flat_same l m i j name.0 earned.0 scheduled.0 payment.0 power.0, power.1)
+
+pub read_renewable : ReadsLine IsFlatLine renewable_text
+read_renewable = read_flat (codes "unit renewable ")
+
+pub read_bid : ReadsLine IsFlatLine bid_text
+read_bid = read_flat (codes "unit bid ")
+
+pub thermal_begins : Begins (codes "unit thermal ") thermal_text
+unfolding thermal_text
+thermal_begins l u = (drop 13 (thermal_text l ++ u), refl)
+
+pub renewable_begins : Begins (codes "unit renewable ") renewable_text
+unfolding flat_text
+renewable_begins l u = (drop 15 (renewable_text l ++ u), refl)
+
+pub bid_begins : Begins (codes "unit bid ") bid_text
+unfolding flat_text
+bid_begins l u = (drop 9 (bid_text l ++ u), refl)
+
+-- ---- which line comes next
+
+foot_is_no_unit : (x y z : ℤ) (p : List ℕ) → get_or p 0 0 ≡ 117 → (rest : List ℕ) → foot_text x y z ≡ p ++ rest → ⊥
+unfolding foot_text
+foot_is_no_unit x y z [] begins rest e = absurd (omega arith)
+foot_is_no_unit x y z (c ∷ p) begins rest e = let first : 115 ≡ c = cc in omega arith
+
+pub foot_behind_bids : (x y z : ℤ) → BeginsOther (codes "unit bid ") (foot_text x y z)
+foot_behind_bids x y z = foot_is_no_unit x y z (codes "unit bid ") refl
+
+pub bids_behind_renewables : (bids : List UnitLine) (x y z : ℤ) → BeginsOther (codes "unit renewable ") (flat_map bid_text bids ++ foot_text x y z)
+unfolding flat_text
+bids_behind_renewables [] x y z = foot_is_no_unit x y z (codes "unit renewable ") refl
+bids_behind_renewables (b ∷ bids) x y z = λ rest e. bytes_apart 98 114 _ _ refl (append_cancel_left (codes "unit ") _ _ e)
+
+pub flat_behind_thermal : (renewables bids : List UnitLine) (x y z : ℤ) → BeginsOther (codes "unit thermal ") (flat_map renewable_text renewables ++ (flat_map bid_text bids ++ foot_text x y z))
+unfolding flat_text
+flat_behind_thermal [] [] x y z = foot_is_no_unit x y z (codes "unit thermal ") refl
+flat_behind_thermal [] (b ∷ bids) x y z = λ rest e. bytes_apart 98 116 _ _ refl (append_cancel_left (codes "unit ") _ _ e)
+flat_behind_thermal (r ∷ renewables) bids x y z = λ rest e. bytes_apart 114 116 _ _ refl (append_cancel_left (codes "unit ") _ _ e)
+
+-- ---- the last lines
+
+pub read_foot : (x y z p q r : ℤ) → foot_text x y z ≡ foot_text p q r → (x ≡ p) × (y ≡ q) × (z ≡ r)
+unfolding foot_text
+read_foot x y z p q r same =
+    let surplus = after_amount (codes "surplus ") x p _ _ same refl refl in
+    let payments = after_amount (codes "\npayments ") y q _ _ surplus.1 refl refl in
+    let gap = after_amount (codes "\ngap ") z r _ _ payments.1 refl refl in
+    (surplus.0, payments.0, gap.0)

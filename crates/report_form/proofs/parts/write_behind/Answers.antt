@@ -1,0 +1,6 @@
+use Rattle.report_form.proofs.GrownLemmas.{writes_then}
+use Rattle.report_form.specs.Numerals.{numeral}
+use Rattle.report_form.proofs.parts.write_behind.Goals as goal
+
+pub returns : goal.returns
+returns g c = writes_then c.args.word.now (numeral c.args.n) _ c.write_count.ensures c.in_ok-write_whole.ensures.ok

@@ -1,0 +1,8 @@
+use Rattle.std.proofs.Common.{[], ◌∷◌}
+use Rattle.std.specs.List.{flat_map}
+use Rattle.report_form.proofs.GrownLemmas.{writes_then}
+use Rattle.report_form.specs.Parts.{escaped}
+use Rattle.report_form.proofs.parts.write_closed.Goals as goal
+
+pub returns : goal.returns
+returns g c = writes_then (flat_map escaped c.args.name.now) (34 ∷ []) _ c.write_whole.ensures c.in_ok-write_inside.ensures.ok

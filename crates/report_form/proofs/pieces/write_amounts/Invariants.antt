@@ -1,0 +1,8 @@
+use Rattle.std.proofs.Common.{take}
+use Rattle.report_form.specs.Parts.{spaced}
+use Rattle.report_form.specs.Pending.{Pends}
+use Rattle.report_form.proofs.pieces.write_amounts.Given as goal
+
+-- a front of what stands before was gained, and the rest waits
+abbrev pub invariant-loop-x : goal.invariant-loop-x
+invariant-loop-x g l = Pends g.S.Sink.held g.S.Sink.faults l.fn.out l.out l.piece.bytes (spaced (take l.x-index l.xs))

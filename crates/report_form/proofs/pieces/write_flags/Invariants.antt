@@ -1,0 +1,8 @@
+use Rattle.std.proofs.Common.{take}
+use Rattle.report_form.specs.Parts.{spaced_flags}
+use Rattle.report_form.specs.Pending.{Pends}
+use Rattle.report_form.proofs.pieces.write_flags.Given as goal
+
+-- a front of what stands before was gained, and the rest waits
+abbrev pub invariant-loop-flag : goal.invariant-loop-flag
+invariant-loop-flag g l = Pends g.S.Sink.held g.S.Sink.faults l.fn.out l.out l.piece.bytes (spaced_flags (take l.flag-index l.flags))

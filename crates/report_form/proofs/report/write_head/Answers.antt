@@ -1,0 +1,9 @@
+use Rattle.std.proofs.Common.{rules}
+use Rattle.std.specs.Int.{w128}
+use Rattle.std.proofs.lemmas.Int.{to_z-of_z}
+use Rattle.report_form.specs.ReportText.{head_text}
+use Rattle.report_form.proofs.report.write_head.Goals as goal
+
+pub returns : goal.returns
+unfolding head_text
+returns g c = rw (to_z-of_z w128 c.args.head.now.cost (search rules)) at c.write_parts.ensures

@@ -1,0 +1,5 @@
+pub mod Numerals
+pub mod Parts
+pub mod ReportText
+pub mod Pending
+pub mod Laws

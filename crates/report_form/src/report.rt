@@ -1,0 +1,265 @@
+//! The blocks of the text of `hull price`, in the order in which they stand.
+ghost use Rattle.std.specs.Prelude.{◌≤◌, length, map};
+ghost use Rattle.hull_io.specs.Edge.{Writes};
+ghost use Rattle.uc_model.specs.PlainUnits.{schedule_of};
+ghost use Rattle.uc_model.specs.PlainCases.{proposal_of};
+ghost use Rattle.report_form.specs.ReportText.{head_text, row_text, rows_text, chosen_text};
+ghost use Rattle.report_form.specs.ReportText.{thermal_text, flat_text, renewable_text, bid_text};
+ghost use Rattle.report_form.specs.ReportText.{foot_text};
+
+use crate::parts::{Part, write_parts};
+use hull_io::{Sink, WriteFailed};
+use uc_model::cases::Row;
+use uc_model::units::Response;
+
+/// What a report begins with: the number of periods and of units with bids, the budget and the
+/// number ahead, the cost of the plan in money, and the number of proposals.
+#[derive(Clone, Copy)]
+pub struct Head {
+    pub periods: u32,
+    pub units: u32,
+    pub budget: u32,
+    pub ahead: u32,
+    pub cost: i128,
+    pub proposals: u32,
+}
+
+/// What a unit or a bid earns at best and in the plan, and what it is owed, in money.
+#[derive(Clone, Copy)]
+pub struct Owed {
+    pub earned: i64,
+    pub scheduled: i64,
+    pub payment: i64,
+}
+
+/// Writes the lines before the proposals.
+#[tactic(auto, unfolding(crate::specs::ReportText::head_text))]
+pub fn write_head<S: Sink>(head: &Head, out: &mut S) -> Result<(), WriteFailed>
+    ensures { Writes S.held S.faults S.last out.old out.new result
+        (head_text head.now.periods head.now.units head.now.budget head.now.ahead head.now.cost
+        head.now.proposals) }
+{
+    write_parts(
+        out,
+        &[
+            Part::Text(b"hull-report 1\nperiods "),
+            Part::Count(head.periods as u64),
+            Part::Text(b"\nunits "),
+            Part::Count(head.units as u64),
+            Part::Text(b"\nbudget "),
+            Part::Count(head.budget as u64),
+            Part::Text(b"\nahead "),
+            Part::Count(head.ahead as u64),
+            Part::Text(b"\ncost "),
+            Part::Amount(head.cost),
+            Part::Text(b"\nproposals "),
+            Part::Count(head.proposals as u64),
+            Part::Text(b"\n"),
+        ],
+    )
+}
+
+/// Writes a proposal: its prices, its dual value, and the totals of the best responses to it.
+#[tactic(auto, unfolding(crate::specs::ReportText::row_text))]
+pub fn write_row<S: Sink>(number: u32, row: &Row, out: &mut S) -> Result<(), WriteFailed>
+    ensures { Writes S.held S.faults S.last out.old out.new result
+        (row_text number (proposal_of row.now)) }
+{
+    let energy = row.prices.energy.as_slice();
+    let reserve = row.prices.reserve.as_slice();
+    let supplied = row.supply.as_slice();
+    let reserved = row.reserve.as_slice();
+    write_parts(
+        out,
+        &[
+            Part::Text(b"proposal "),
+            Part::Count(number as u64),
+            Part::Text(b" value "),
+            Part::Amount(row.value),
+            Part::Text(b"\nenergy"),
+            Part::Numbers(energy),
+            Part::Text(b"\nreserve"),
+            Part::Numbers(reserve),
+            Part::Text(b"\nsupplied"),
+            Part::Amounts(supplied),
+            Part::Text(b"\nreserved"),
+            Part::Amounts(reserved),
+            Part::Text(b"\n"),
+        ],
+    )
+}
+
+/// Writes the proposals, numbered from 1.
+pub fn write_rows<S: Sink>(rows: &[Row], out: &mut S) -> Result<(), WriteFailed>
+    requires { length rows.now ≤ 10000 }
+    ensures { Writes S.held S.faults S.last out.old out.new result
+        (rows_text 1 (map proposal_of rows.now)) }
+{
+    for (place, row) in rows.iter().enumerate() {
+        write_row(1 + place as u32, row, out)?;
+    }
+    Ok(())
+}
+
+/// Writes which proposal is chosen, and its dual value.
+#[tactic(auto, unfolding(crate::specs::ReportText::chosen_text))]
+pub fn write_chosen<S: Sink>(number: u32, value: i128, out: &mut S) -> Result<(), WriteFailed>
+    ensures { Writes S.held S.faults S.last out.old out.new result (chosen_text number value) }
+{
+    write_parts(
+        out,
+        &[
+            Part::Text(b"chosen "),
+            Part::Count(number as u64),
+            Part::Text(b" value "),
+            Part::Amount(value),
+            Part::Text(b"\n"),
+        ],
+    )
+}
+
+/// Writes the lines of a thermal unit.
+#[tactic(auto, unfolding(crate::specs::ReportText::thermal_text))]
+pub fn write_thermal<'a, S: Sink>(
+    name: &'a str,
+    owed: &Owed,
+    response: &'a Response,
+    out: &mut S,
+) -> Result<(), WriteFailed>
+    ensures { Writes S.held S.faults S.last out.old out.new result (thermal_text (record {
+      name = name.now;
+      earned = owed.now.earned;
+      scheduled = owed.now.scheduled;
+      payment = owed.now.payment;
+      response = schedule_of response.now;
+    })) }
+{
+    let bytes = name.as_bytes();
+    let earned = i128::from(owed.earned);
+    let scheduled = i128::from(owed.scheduled);
+    let payment = i128::from(owed.payment);
+    let on = response.on.as_slice();
+    let power = response.power.as_slice();
+    let reserve = response.reserve.as_slice();
+    write_parts(
+        out,
+        &[
+            Part::Text(b"unit thermal "),
+            Part::Name(bytes),
+            Part::Text(b" earned "),
+            Part::Amount(earned),
+            Part::Text(b" scheduled "),
+            Part::Amount(scheduled),
+            Part::Text(b" payment "),
+            Part::Amount(payment),
+            Part::Text(b"\non"),
+            Part::Flags(on),
+            Part::Text(b"\npower"),
+            Part::Counts(power),
+            Part::Text(b"\nreserve"),
+            Part::Counts(reserve),
+            Part::Text(b"\n"),
+        ],
+    )
+}
+
+#[tactic(auto, unfolding(crate::specs::ReportText::flat_text))]
+fn write_flat<'a, S: Sink>(
+    kind: &'a [u8],
+    name: &'a str,
+    owed: &Owed,
+    response: &'a Response,
+    out: &mut S,
+) -> Result<(), WriteFailed>
+    ensures { Writes S.held S.faults S.last out.old out.new result (flat_text kind.now (record {
+      name = name.now;
+      earned = owed.now.earned;
+      scheduled = owed.now.scheduled;
+      payment = owed.now.payment;
+      response = schedule_of response.now;
+    })) }
+{
+    let bytes = name.as_bytes();
+    let earned = i128::from(owed.earned);
+    let scheduled = i128::from(owed.scheduled);
+    let payment = i128::from(owed.payment);
+    let power = response.power.as_slice();
+    write_parts(
+        out,
+        &[
+            Part::Text(kind),
+            Part::Name(bytes),
+            Part::Text(b" earned "),
+            Part::Amount(earned),
+            Part::Text(b" scheduled "),
+            Part::Amount(scheduled),
+            Part::Text(b" payment "),
+            Part::Amount(payment),
+            Part::Text(b"\npower"),
+            Part::Counts(power),
+            Part::Text(b"\n"),
+        ],
+    )
+}
+
+/// Writes the lines of a renewable unit.
+pub fn write_renewable<S: Sink>(
+    name: &str,
+    owed: &Owed,
+    response: &Response,
+    out: &mut S,
+) -> Result<(), WriteFailed>
+    ensures { Writes S.held S.faults S.last out.old out.new result (renewable_text (record {
+      name = name.now;
+      earned = owed.now.earned;
+      scheduled = owed.now.scheduled;
+      payment = owed.now.payment;
+      response = schedule_of response.now;
+    })) }
+{
+    write_flat(b"unit renewable ", name, owed, response, out)
+}
+
+/// Writes the lines of a bid.
+pub fn write_bid<S: Sink>(
+    name: &str,
+    owed: &Owed,
+    response: &Response,
+    out: &mut S,
+) -> Result<(), WriteFailed>
+    ensures { Writes S.held S.faults S.last out.old out.new result (bid_text (record {
+      name = name.now;
+      earned = owed.now.earned;
+      scheduled = owed.now.scheduled;
+      payment = owed.now.payment;
+      response = schedule_of response.now;
+    })) }
+{
+    write_flat(b"unit bid ", name, owed, response, out)
+}
+
+/// Writes the lines behind the units: what the surplus reserve of the plan is worth, the sum of the
+/// payments, and the cost of the plan less the chosen value, in money.
+#[tactic(auto, unfolding(crate::specs::ReportText::foot_text))]
+pub fn write_foot<S: Sink>(
+    surplus: i128,
+    payments: i128,
+    gap: i128,
+    out: &mut S,
+) -> Result<(), WriteFailed>
+    ensures { Writes S.held S.faults S.last out.old out.new result
+        (foot_text surplus payments gap) }
+{
+    write_parts(
+        out,
+        &[
+            Part::Text(b"surplus "),
+            Part::Amount(surplus),
+            Part::Text(b"\npayments "),
+            Part::Amount(payments),
+            Part::Text(b"\ngap "),
+            Part::Amount(gap),
+            Part::Text(b"\nend\n"),
+        ],
+    )
+}
