@@ -1,5 +1,5 @@
--- The two runs of `hull fixed`: their sides, the second run's input, and what is promised.
-use Rattle.std.proofs.Common.{◌≡◌, ℕ, suc, ◌*◌, ◌≤◌, ℤ, List, [], ◌∷◌, ◌++◌, map, length, Option, Result, Ok, sym, ap, ◌∙◌, subst, arith, append_assoc}
+-- The two runs of `hull fixed`: their sides, and the second run's input.
+use Rattle.std.proofs.Common.{◌≡◌, ℕ, suc, ◌*◌, ◌≤◌, ℤ, List, [], ◌∷◌, ◌++◌, map, length, sym, ap, ◌∙◌, subst, arith, append_assoc}
 use Rattle.std.proofs.lemmas.Option.{same_Some}
 use Rattle.std.specs.List.{All}
 use Rattle.board_core.specs.Boards.{setup_for}
@@ -22,15 +22,11 @@ use Rattle.uplift_settle.specs.declared.settlement.Settlement.{Settlement}
 use Rattle.fixed_price.specs.FixedCase.{fixed_market}
 use Rattle.fixed_price.specs.Laws.{CommitmentsAreFixed}
 use Rattle.fixed_price.specs.Tops.{IsBenchOver}
-use Rattle.hull_words.specs.Asked.{Asked, PriceAsked, fixed}
-use Rattle.hull_words.specs.Words.{words_of}
-use Rattle.hull_words.specs.declared.fault.WordFault.{WordFault}
+use Rattle.hull_words.specs.Asked.{fixed}
 use Rattle.hull_report.specs.FixedText.{told_of, fixed_text}
 use Rattle.hull_report.specs.RecordReport.{SettlementsAreOfAllUnits}
-use Rattle.hull_report.specs.RightSide.{IsRightSide, SidePaymentsMakeUpTheGap, TellsChoice, SettledSidesAreRight}
+use Rattle.hull_report.specs.RightSide.{IsRightSide, TellsChoice, SettledSidesAreRight}
 use Rattle.hull_report.specs.declared.fixed.Side.{Side}
-use Rattle.hull_engine.specs.declared.end.End.{End}
-use Rattle.hull_engine.specs.declared.end.End.TheVariants.{Done as done_whole, Cut, Refused}
 use Rattle.hull_engine.specs.declared.fixed.Sides.{Sides}
 use Rattle.hull_engine.specs.declared.input.Input.{Input}
 use Rattle.hull_engine.specs.declared.input.RunInput.{RunInput}
@@ -38,12 +34,10 @@ use Rattle.hull_engine.specs.declared.input.RunSize.{RunSize}
 use Rattle.hull_engine.specs.declared.run.Done.{Done}
 use Rattle.hull_engine.specs.Compared.{IsHullSide, IsHeldInput, AreSides, ArePaid}
 use Rattle.hull_engine.specs.Inputs.{planned_of, IsPlanned, IsRunInput}
-use Rattle.hull_engine.specs.Laws.{OverReads, IsFixedPromised}
-use Rattle.hull_engine.specs.Outcome.{command_for, IsFixedText, AreReads, Ends, status_at}
+use Rattle.hull_engine.specs.Outcome.{IsFixedText}
 use Rattle.answer_workers.specs.Answers.{Suffices, IsBenchOf}
 use Rattle.hull_engine.specs.Rounds.{setup_of, IsEnded}
-use Rattle.hull_engine.specs.Steps.{Reads, PlannedCase}
-use Rattle.hull_engine.proofs.OutcomeLaws.{status_within, accepted_is_feasible}
+use Rattle.hull_engine.specs.Steps.{PlannedCase}
 use Rattle.hull_engine.proofs.PlanShapes.{all_more, all_none}
 
 -- ---- the bench of a run
@@ -187,27 +181,3 @@ fixed_texts run s budget ahead h e f text is =
     subst (λ (n : ℕ). IsFixedText budget n (planned_of run.input) text) f
     (subst (λ (n : ℕ). IsFixedText n run.size.ahead (planned_of run.input) text) e
     (told_of s.hull, told_of s.fixed, h.hull.right, h.fixed.right, is ∙ (λ j. fixed_text (h.case j) (h.cost j) (told_of s.hull) (told_of s.fixed))))
-
--- ---- what is promised
-
-module _ (made_up : SidePaymentsMakeUpTheGap) where
-  promised : (a : PriceAsked) (i : PlannedCase) (gained : List ℕ → Type 0) (text : List ℕ) → IsFeasiblePlan i.market i.plan → i.cost ≡ plan_cost i.market i.plan → IsFixedText a.proposals a.ahead i text → gained text → IsFixedPromised a i gained
-  promised a i gained text feasible cost (hull, held, is_hull, is_held, is) printed = record {
-    hull = hull;
-    held = held;
-    hull_right = is_hull;
-    held_right = is_held;
-    hull_made_up = made_up i.market i.market i.plan a.proposals a.ahead hull feasible is_hull;
-    held_made_up = made_up i.market (fixed_market i.market i.plan) i.plan a.proposals a.ahead held feasible is_held;
-    cost = cost;
-    printed = subst gained is printed;
-  }
-
-  pub fixed_at_0 : (a : PriceAsked) (words : List (List ℕ)) (told : List ℕ → Option (List ℕ)) (rose gained short : List ℕ → Type 0) (n : ℕ) (reads : Reads) (e : End)
-      → AreReads told rose (command_for (words_of words)).name_of reads → Ends (command_for (words_of words)) reads gained short e → n ≡ status_at e → words_of words ≡ Ok (fixed a) → n ≡ 0
-      → OverReads (command_for (words_of words)) told rose (λ reads. (i : PlannedCase) × (command_for (words_of words)).IsDue reads (Ok i) × IsFixedPromised a i gained)
-  fixed_at_0 a words told rose gained short n reads done_whole are (i, due, text, shown, printed) is same z =
-      let accepted = accepted_is_feasible (words_of words) reads i due in
-      (reads, are, (i, due, promised a i gained text accepted.0 accepted.1 (subst (λ (v : Result Asked WordFault). (command_for v).IsText reads i text) same shown) printed))
-  fixed_at_0 a words told rose gained short n reads Cut are ends is same z = absurd (omega (arith, is, z))
-  fixed_at_0 a words told rose gained short n reads (Refused f) are ends is same z = absurd (omega (arith, is, z, (status_within f).0))

@@ -1,7 +1,7 @@
 use Rattle.std.proofs.Common.{refl}
-use Rattle.hull_engine.specs.Laws.{AreAlike}
+use Rattle.run_laws.specs.Laws.{AreAlike}
 use Rattle.hull_engine.specs.Outcome.{Command}
-use Rattle.hull_engine.proofs.laws.workers_are_free.Goals as goal
+use Rattle.run_laws.proofs.laws.workers_are_free.Goals as goal
 
 same : (c : Command) → AreAlike c c
 same c = record { names = refl; due = λ reads found due. due; text = λ reads i text is. is }

@@ -28,9 +28,19 @@ use Rattle.hull_report.specs.declared.fault.TopFault.{TopFault}
 use Rattle.hull_report.specs.declared.fault.TopFault.TheVariants.{PlanRule, Report as Unfit}
 use Rattle.report_read.specs.Differences.{DiffersAt}
 use Rattle.report_read.specs.Laws.{OneReport, OneFault, OneDifference}
-use Rattle.hull_engine.specs.Steps.{Then, Reads, IsBytes, case_fault, plan_fault, IsCase, IsCaseFile, IsPlan, IsPlanFile, PlannedCase, IsChecked, IsInput, IsMade, IsWithinWork, IsReportIn, IsReportFile, IsJudged, IsAudit}
+use Rattle.hull_engine.specs.Steps.{Goes, Then, Reads, IsBytes, case_fault, plan_fault, IsCase, IsCaseFile, IsPlan, IsPlanFile, PlannedCase, IsChecked, IsInput, IsMade, IsWithinWork, IsReportIn, IsReportFile, IsJudged, IsAudit}
 use Rattle.hull_engine.specs.Outcome.{IsReportText, IsBoundText, IsFixedText, IsAuditText, command_for}
-use Rattle.hull_engine.proofs.StepLaws.{one_then}
+
+-- one step's answer and then the next's are one, where each is
+module _ {A B : Type 0} (first : Result A TopFault → Type 0) (next : A → Result B TopFault → Type 0) where
+  one_then : ((a b : Result A TopFault) → first a → first b → a ≡ b) → ((x : A) (a b : Result B TopFault) → next x a → next x b → a ≡ b)
+      → (a b : Result B TopFault) → Then first next a → Then first next b → a ≡ b
+  one_then one ones a b (c, is_c, goes_c) (d, is_d, goes_d) =
+      same d (subst (λ e. Goes e next a) (one c d is_c is_d) goes_c) goes_d
+    where
+      same : (d : Result A TopFault) → Goes d next a → Goes d next b → a ≡ b
+      same (Ok x) p q = ones x a b p q
+      same (Err f) p q = p ∙ sym q
 
 -- a fault is all that its refusal tells
 one_fault : (f g : RuleFault) → refusal_of f ≡ refusal_of g → f ≡ g

@@ -1,6 +1,6 @@
 use Rattle.hull_words.specs.Words.{words_of}
-use Rattle.hull_engine.proofs.AuditLaws.{audit_holds}
-use Rattle.hull_engine.proofs.laws.audits_hold.Goals as goal
+use Rattle.run_laws.proofs.AuditPromise.{audit_holds}
+use Rattle.run_laws.proofs.laws.audits_hold.Goals as goal
 
 pub returns : goal.returns
 returns g c words old new before after n h a same =

@@ -1,7 +1,7 @@
 //! Laws over runs: each is the contract of a function that answers nothing. They follow from
-//! `IsOutcome`, which `hull_run` ensures of its run.
-ghost use Rattle.hull_engine.specs.Laws.{OneDue, OneText, AcceptedIsFeasible, EachStatusHasItsCause, WhatWasReadDecides, WordsFollow, ReportsAreRight, BoundsHold, BothGapsAreMadeUp, AuditsHold};
-ghost use Rattle.hull_engine.specs.Laws.{WorkersAreFree};
+//! `IsOutcome`, which `hull_engine::hull_run` ensures of its run.
+ghost use Rattle.run_laws.specs.Laws.{OneDue, OneText, AcceptedIsFeasible, EachStatusHasItsCause, WhatWasReadDecides, WordsFollow, ReportsAreRight, BoundsHold, BothGapsAreMadeUp, AuditsHold};
+ghost use Rattle.run_laws.specs.Laws.{WorkersAreFree};
 
 use gap_proof::laws::run_bounds_hold;
 use hull_io::{Shelf, Sink};

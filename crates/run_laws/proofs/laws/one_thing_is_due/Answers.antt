@@ -1,6 +1,6 @@
 use Rattle.hull_words.specs.Words.{words_of}
-use Rattle.hull_engine.proofs.OneDue.{one_due}
-use Rattle.hull_engine.proofs.laws.one_thing_is_due.Goals as goal
+use Rattle.run_laws.proofs.OneDue.{one_due}
+use Rattle.run_laws.proofs.laws.one_thing_is_due.Goals as goal
 
 pub returns : goal.returns
 returns c words reads a b =

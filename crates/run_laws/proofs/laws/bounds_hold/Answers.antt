@@ -1,5 +1,5 @@
-use Rattle.hull_engine.proofs.BoundLaws.{bound_at_0}
-use Rattle.hull_engine.proofs.laws.bounds_hold.Goals as goal
+use Rattle.run_laws.proofs.BoundPromise.{bound_at_0}
+use Rattle.run_laws.proofs.laws.bounds_hold.Goals as goal
 
 pub returns : goal.returns
 returns g c words old new before after n h a same z =

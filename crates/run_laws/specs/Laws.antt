@@ -1,7 +1,7 @@
 -- What holds of every run. Each law is the clause of a public function. A run is one of which
 -- hull_run's clause `outcome` holds: `told` is what the shelf tells, `rose` that the count of a
 -- name rose, `gained` that the sink has a text whole, and `short` that it has a front of it and its
--- count rose.
+-- count rose. IsOutcome and the commands are in the Outcome of hull_engine.
 use Rattle.std.specs.Prelude.{◌≡◌, ◌≢◌, ◌⊎◌, ℕ, ◌<◌, ◌≤◌, ◌==◌, ◌||◌, Bool, ◌+ℤ◌, ◌-ℤ◌, List}
 use Rattle.std.specs.Prelude.{Option, None, Some, Result, Ok, Err, IsTrue, IfSome, IsSome, ℤ, ◌-◌}
 use Rattle.std.specs.Prelude.{length, slice_get, unsigned_abs}

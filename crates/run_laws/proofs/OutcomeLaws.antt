@@ -19,8 +19,8 @@ use Rattle.hull_engine.specs.declared.end.End.{End}
 use Rattle.hull_engine.specs.declared.end.End.TheVariants.{Done, Cut, Refused}
 use Rattle.hull_engine.specs.Steps.{Reads, bytes_of, IsCase, IsCaseFile, IsPlan, IsPlanFile, PlannedCase, IsChecked, IsInput, IsWithinWork, IsReportFile, IsAudit}
 use Rattle.hull_engine.specs.Outcome.{command_for, case_and_schedule, IsReadOf, AreReads, HasText, Ends, status_at}
-use Rattle.hull_engine.specs.Laws.{is_refusal, IsWritten, IsUnread, HasCause, IsQuiet, IsDecided, word_fault, FollowsFromWords, IsPromised}
-use Rattle.hull_engine.proofs.OneDue.{AreOne, one_due}
+use Rattle.run_laws.specs.Laws.{is_refusal, IsWritten, IsUnread, HasCause, IsQuiet, IsDecided, word_fault, FollowsFromWords, IsPromised}
+use Rattle.run_laws.proofs.OneDue.{AreOne, one_due}
 use Rattle.hull_engine.proofs.ReadLaws.{got}
 
 -- ---- a fault by its status

@@ -1,7 +1,7 @@
 use Rattle.hull_words.specs.Words.{words_of}
-use Rattle.hull_engine.proofs.OneDue.{AreOne}
-use Rattle.hull_engine.proofs.OutcomeLaws.{is_decided}
-use Rattle.hull_engine.proofs.laws.what_was_read_decides.Goals as goal
+use Rattle.run_laws.proofs.OneDue.{AreOne}
+use Rattle.run_laws.proofs.OutcomeLaws.{is_decided}
+use Rattle.run_laws.proofs.laws.what_was_read_decides.Goals as goal
 
 pub returns : goal.returns
 returns g c words old new before after n h quiet =

@@ -1,6 +1,6 @@
 use Rattle.hull_words.specs.Words.{words_of}
-use Rattle.hull_engine.proofs.OutcomeLaws.{promised_at_0}
-use Rattle.hull_engine.proofs.laws.reports_are_right.Goals as goal
+use Rattle.run_laws.proofs.OutcomeLaws.{promised_at_0}
+use Rattle.run_laws.proofs.laws.reports_are_right.Goals as goal
 
 pub returns : goal.returns
 returns g c words old new before after n h a same z =

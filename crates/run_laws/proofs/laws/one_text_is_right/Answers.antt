@@ -1,6 +1,6 @@
 use Rattle.hull_words.specs.Words.{words_of}
-use Rattle.hull_engine.proofs.OneDue.{one_text}
-use Rattle.hull_engine.proofs.laws.one_text_is_right.Goals as goal
+use Rattle.run_laws.proofs.OneDue.{one_text}
+use Rattle.run_laws.proofs.laws.one_text_is_right.Goals as goal
 
 pub returns : goal.returns
 returns c words reads i text other =

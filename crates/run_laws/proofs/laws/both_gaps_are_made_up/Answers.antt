@@ -1,5 +1,5 @@
-use Rattle.hull_engine.proofs.FixedLaws.{fixed_at_0}
-use Rattle.hull_engine.proofs.laws.both_gaps_are_made_up.Goals as goal
+use Rattle.run_laws.proofs.FixedPromise.{fixed_at_0}
+use Rattle.run_laws.proofs.laws.both_gaps_are_made_up.Goals as goal
 
 pub returns : goal.returns
 returns g c words old new before after n h a same z =
