@@ -1,7 +1,8 @@
 -- The two runs of `hull fixed`: their sides, and the second run's input.
-use Rattle.std.proofs.Common.{◌≡◌, ℕ, suc, ◌*◌, ◌≤◌, ℤ, List, [], ◌∷◌, ◌++◌, map, length, sym, ap, ◌∙◌, subst, arith, append_assoc}
+use Rattle.std.proofs.Common.{◌≡◌, ℕ, suc, ◌*◌, ◌≤◌, ℤ, List, [], ◌∷◌, ◌++◌, map, length, Result, Ok, Err, sym, ap, ◌∙◌, subst, arith, append_assoc}
 use Rattle.std.proofs.lemmas.Option.{same_Some}
 use Rattle.std.specs.List.{All}
+use Rattle.std.specs.Prelude.{IfOk}
 use Rattle.board_core.specs.Boards.{setup_for}
 use Rattle.board_core.specs.Setups.{IsSetup}
 use Rattle.board_history.specs.Board.{Setup, Content}
@@ -32,7 +33,7 @@ use Rattle.hull_engine.specs.declared.input.Input.{Input}
 use Rattle.hull_engine.specs.declared.input.RunInput.{RunInput}
 use Rattle.hull_engine.specs.declared.input.RunSize.{RunSize}
 use Rattle.hull_engine.specs.declared.run.Done.{Done}
-use Rattle.hull_engine.specs.Compared.{IsHullSide, IsHeldInput, AreSides, ArePaid}
+use Rattle.hull_engine.specs.Compared.{IsHullSide, IsHeldInput, IsHeldRun, IsFixedSide, AreSides, ArePaid}
 use Rattle.hull_engine.specs.Inputs.{planned_of, IsPlanned, IsRunInput}
 use Rattle.hull_engine.specs.Outcome.{IsFixedText}
 use Rattle.answer_workers.specs.Answers.{Suffices, IsBenchOf}
@@ -76,20 +77,23 @@ settlement_at m plan π ρ s t e f h =
     (subst (λ (p : PriceLists). IsSettled m plan p s.scheduled.items s.payments.items s.surplus s.total) e h)
 
 -- a run that has ended, with what it chose, is a right side
-pub hull_right : SettledSidesAreRight → SettlementsAreOfAllUnits → (run : RunInput) (b : Setup) (d : Done) (s : Side) → b ≡ setup_of run → IsEnded b d → IsSetup d.closed.setup
-    → TellsChoice d.closed s → s.settlement ≡ d.settlement → IsHullSide run s
-hull_right right lengths run b d s opened ended setup choice same =
+pub own_right : SettledSidesAreRight → SettlementsAreOfAllUnits → (d : Done) (s : Side) → IsEnded d.closed.setup d → IsSetup d.closed.setup → TellsChoice d.closed s → s.settlement ≡ d.settlement
+    → IsRightSide d.closed.setup.market d.closed.setup.market d.closed.setup.plan d.closed.setup.budget d.closed.setup.ahead (told_of s) × (length s.settlement.payments.items ≡ unit_count d.closed.setup.market)
+own_right right lengths d s ended setup choice same =
     let c = d.closed in
     let row = same_Some ended.row choice.row (sym ended.settled.chosen ∙ choice.is_chosen) in
     let prices : ended.row.prices ≡ prices_of s.prices = ap (λ (r : Proposal). r.prices) row ∙ sym choice.prices in
-    let settled = settlement_at c.setup.market c.setup.plan ended.row.prices (prices_of s.prices) d.settlement s.settlement prices (sym same) ended.settled.settled in
-    let side = right c.setup.market c s setup ended.settled.legal ended.settled.finished choice settled in
-    let count = (lengths c.setup.market c.setup.plan (prices_of s.prices) s.settlement.scheduled.items s.settlement.payments.items s.settlement.surplus s.settlement.total ended.settled.feasible settled).1 in
-    let is = ended.setup ∙ opened in
-    record {
-      right = subst (λ (x : Setup). IsRightSide x.market x.market x.plan x.budget x.ahead (told_of s)) is side;
-      count = subst (λ (x : Setup). length s.settlement.payments.items ≡ unit_count x.market) is count;
-    }
+    let settled = settlement_at c.setup.market c.setup.plan ended.row.prices (prices_of s.prices) d.settlement s.settlement prices (sym same) ended.settled.settled in (
+      right c.setup.market c s setup ended.settled.legal ended.settled.finished choice settled,
+      (lengths c.setup.market c.setup.plan (prices_of s.prices) s.settlement.scheduled.items s.settlement.payments.items s.settlement.surplus s.settlement.total ended.settled.feasible settled).1,
+    )
+
+-- and the side of the input that it is the run of
+pub hull_side : (run : RunInput) (b : Setup) (s : Side) → b ≡ setup_of run → IsRightSide b.market b.market b.plan b.budget b.ahead (told_of s) → length s.settlement.payments.items ≡ unit_count b.market → IsHullSide run s
+hull_side run b s is right count = record {
+  right = subst (λ (x : Setup). IsRightSide x.market x.market x.plan x.budget x.ahead (told_of s)) is right;
+  count = subst (λ (x : Setup). length s.settlement.payments.items ≡ unit_count x.market) is count;
+}
 
 -- the schedule of a record, settled at what the record chose, is a right side of the case as given
 pub held_right : SettledSidesAreRight → SettlementsAreOfAllUnits → (given : Market) (d : Done) (s : Side) → IsFeasiblePlan given d.closed.setup.plan → IsEnded d.closed.setup d → IsSetup d.closed.setup
@@ -167,6 +171,28 @@ held_setup law given plan cost size held h same =
       size = subst (λ (x : Market). size.proposals * unit_count x * x.periods ≤ 50000000) (sym same)
           (subst (λ (k : ℕ). size.proposals * k * m.periods ≤ 50000000) (sym fixing.count) h.work);
     }
+
+-- and what that is
+pub held_opened : {E : Type 0} (given : Case) (plan : Plan) (cost shown : ℤ) (size : RunSize) (held : Case) → market_of held ≡ fixed_market (market_of given) (schedules_of plan) → shown ≡ cost
+    → (r : Result Setup E) → IfOk r (λ b. b ≡ setup_for held plan shown size.proposals size.ahead size.workers) → IfOk r (IsHeldRun given plan cost size)
+held_opened given plan cost shown size held same e (Ok b) is = (held, same, is ∙ ap (λ (k : ℤ). setup_for held plan k size.proposals size.ahead size.workers) e)
+held_opened given plan cost shown size held same e (Err f) is = tt
+
+-- the side of a run of that
+module _ (given : Case) (plan : Plan) (cost : ℤ) (size : RunSize) (b : Setup) (run : IsHeldRun given plan cost size b) where
+  pub held_feasible : IsFeasiblePlan (market_of given) (schedules_of plan) → (c : Setup) → c ≡ b → IsFeasiblePlan (market_of given) c.plan
+  held_feasible feasible c is = subst (λ (x : Setup). IsFeasiblePlan (market_of given) x.plan) (sym (is ∙ run.2)) feasible
+
+  pub held_market : (c : Setup) → c ≡ b → c.market ≡ fixed_market (market_of given) c.plan
+  held_market c is = subst (λ (x : Setup). x.market ≡ fixed_market (market_of given) x.plan) (sym (is ∙ run.2)) run.1
+
+  pub fixed_right : (c : Setup) (s : Side) → c ≡ b → IsRightSide (market_of given) c.market c.plan c.budget c.ahead (told_of s) → length s.settlement.payments.items ≡ unit_count (market_of given)
+      → IsFixedSide (market_of given) (schedules_of plan) size s
+  fixed_right c s is right count = record {
+    right = subst (λ (m : Market). IsRightSide (market_of given) m (schedules_of plan) size.proposals size.ahead (told_of s)) run.1
+        (subst (λ (x : Setup). IsRightSide (market_of given) x.market x.plan x.budget x.ahead (told_of s)) (is ∙ run.2) right);
+    count = count;
+  }
 
 -- ---- what is written
 
