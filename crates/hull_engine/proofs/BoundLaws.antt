@@ -1,5 +1,5 @@
 -- The size of the best bound round the chosen row of a run.
-use Rattle.std.proofs.Common.{◌≡◌, ◌-◌, ◌<◌, ◌≤◌, ℤ, pos, ◌≤ℤ◌, true, [], length, get_or, slice_get, refl, arith}
+use Rattle.std.proofs.Common.{◌≡◌, ◌-◌, ◌<◌, ℤ, pos, ◌≤ℤ◌, true, [], length, get_or, refl, arith}
 use Rattle.std.proofs.lemmas.Int.{ints}
 use Rattle.std.proofs.lemmas.Option.{slice_get-get_or}
 use Rattle.board_core.specs.Setups.{IsSetup}
@@ -13,7 +13,6 @@ use Rattle.gap_proof.specs.Sums.{most_bound}
 use Rattle.uc_model.specs.Limits.{IsWorth}
 use Rattle.uc_model.specs.PriceRule.{Proposal, no_prices}
 use Rattle.uc_model.specs.Runs.{Fits}
-use Rattle.hull_words.specs.Asked.{bound}
 use Rattle.hull_report.specs.BoundText.{IsTold}
 use Rattle.hull_report.specs.Laws.{OneIsChosen}
 use Rattle.hull_report.specs.RecordReport.{chosen_of}

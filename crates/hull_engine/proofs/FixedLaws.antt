@@ -23,7 +23,6 @@ use Rattle.uplift_settle.specs.declared.settlement.Settlement.{Settlement}
 use Rattle.fixed_price.specs.FixedCase.{fixed_market}
 use Rattle.fixed_price.specs.Laws.{CommitmentsAreFixed}
 use Rattle.fixed_price.specs.Tops.{IsBenchOver}
-use Rattle.hull_words.specs.Asked.{fixed}
 use Rattle.hull_report.specs.FixedText.{told_of, fixed_text}
 use Rattle.hull_report.specs.RecordReport.{SettlementsAreOfAllUnits}
 use Rattle.hull_report.specs.RightSide.{IsRightSide, TellsChoice, SettledSidesAreRight}

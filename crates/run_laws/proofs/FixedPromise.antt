@@ -1,5 +1,5 @@
 -- What is promised of the two runs of `hull fixed`.
-use Rattle.std.proofs.Common.{◌≡◌, ℕ, List, ◌∷◌, Option, Result, Ok, subst, arith}
+use Rattle.std.proofs.Common.{◌≡◌, ℕ, List, Option, Result, Ok, subst, arith}
 use Rattle.uc_model.specs.Systems.{IsFeasiblePlan, plan_cost}
 use Rattle.fixed_price.specs.FixedCase.{fixed_market}
 use Rattle.hull_words.specs.Asked.{Asked, PriceAsked, fixed}
