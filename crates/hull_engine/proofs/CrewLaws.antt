@@ -204,7 +204,7 @@ module _ (b : Setup) (board : SharedBoard) where
         seen = ap (λ (v : View). v.seen) (view ∙ cut) ∙ none;
       }
 
-  pub hired_none : (owner : SeatValue) → IsSeatOf board owner → (view_of owner).setup ≡ b → view_of owner ≡ first_view (empty_board (view_of owner).setup) → IsHired b board owner 1 []
+  hired_none : (owner : SeatValue) → IsSeatOf board owner → (view_of owner).setup ≡ b → view_of owner ≡ first_view (empty_board (view_of owner).setup) → IsHired b board owner 1 []
   hired_none owner at named first = record {
     own = (at, ap (λ (v : View). v.caller) first);
     setup = named;
@@ -217,7 +217,7 @@ module _ (b : Setup) (board : SharedBoard) where
     split = All-nil (λ (w : Worker). IsOwner w.seat → ⊥);
   }
 
-  pub hired_more : (owner later s : SeatValue) (k : ℕ) (ws : List Worker) (w : Worker) → IsHired b board owner k ws → IsSameBoard owner later × IsOwner later → IsSameBoard owner s × (view_of s ≡ cut_right (view_of owner)) → view_of later ≡ cut_left (view_of owner)
+  hired_more : (owner later s : SeatValue) (k : ℕ) (ws : List Worker) (w : Worker) → IsHired b board owner k ws → IsSameBoard owner later × IsOwner later → IsSameBoard owner s × (view_of s ≡ cut_right (view_of owner)) → view_of later ≡ cut_left (view_of owner)
       → w.seat ≡ s → HasParts b.market w → IsHired b board later (k + 1) (ws ++ w ∷ [])
   hired_more owner later s k ws w h same cut left is parts =
       let Apart : Worker → Type 0 = λ x. IsOwner x.seat → ⊥ in
@@ -241,7 +241,7 @@ module _ (b : Setup) (board : SharedBoard) where
         split = All-push Apart ws w h.split (λ owns. let none : k ≡ 0 = sym caller ∙ owns in absurd (omega (arith, none, old_count)));
       }
 
-  pub hired_all : (owner : SeatValue) (k : ℕ) (ws : List Worker) (w : Worker) → IsHired b board owner k ws → w.seat ≡ owner → HasParts b.market w → IsCrew b board (ws ++ w ∷ [])
+  hired_all : (owner : SeatValue) (k : ℕ) (ws : List Worker) (w : Worker) → IsHired b board owner k ws → w.seat ≡ owner → HasParts b.market w → IsCrew b board (ws ++ w ∷ [])
   hired_all owner k ws w h is parts =
       let view : view_of w.seat ≡ view_of owner = ap view_of is in
       let setup : (view_of w.seat).setup ≡ b = ap (λ (v : View). v.setup) view ∙ h.setup in
@@ -264,6 +264,17 @@ module _ (b : Setup) (board : SharedBoard) where
         count = omega (arith, out, old_out, count, more);
         owner_out = subst (λ (l : List ℕ). Contains l 0) (sym (ap (λ (v : View). v.out) view)) h.owner_out;
       }
+
+  -- the same over a list that is said to be that one
+  pub hired_first : (owner : SeatValue) (vs : List Worker) → IsSeatOf board owner → (view_of owner).setup ≡ b → view_of owner ≡ first_view (empty_board (view_of owner).setup) → vs ≡ [] → IsHired b board owner 1 vs
+  hired_first owner vs at named first is = subst (IsHired b board owner 1) (sym is) (hired_none owner at named first)
+
+  pub hired_again : (owner later s : SeatValue) (k : ℕ) (ws vs : List Worker) (w : Worker) → IsHired b board owner k ws → IsSameBoard owner later × IsOwner later → IsSameBoard owner s × (view_of s ≡ cut_right (view_of owner)) → view_of later ≡ cut_left (view_of owner)
+      → w.seat ≡ s → HasParts b.market w → vs ≡ ws ++ w ∷ [] → IsHired b board later (k + 1) vs
+  hired_again owner later s k ws vs w h same cut left is parts all = subst (IsHired b board later (k + 1)) (sym all) (hired_more owner later s k ws w h same cut left is parts)
+
+  pub crew_all : (owner : SeatValue) (k : ℕ) (ws vs : List Worker) (w : Worker) → IsHired b board owner k ws → w.seat ≡ owner → HasParts b.market w → vs ≡ ws ++ w ∷ [] → IsCrew b board vs
+  crew_all owner k ws vs w h is parts all = subst (IsCrew b board) (sym all) (hired_all owner k ws w h is parts)
 
 -- ---- a row of workers that was lent
 

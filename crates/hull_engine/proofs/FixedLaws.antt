@@ -1,7 +1,8 @@
--- The two runs of `hull fixed`: their sides, the second run's input, and what is promised.
-use Rattle.std.proofs.Common.{◌≡◌, ℕ, suc, ◌*◌, ◌≤◌, ℤ, List, [], ◌∷◌, ◌++◌, map, length, Option, Result, Ok, sym, ap, ◌∙◌, subst, arith, append_assoc}
+-- The two runs of `hull fixed`: their sides, and the second run's input.
+use Rattle.std.proofs.Common.{◌≡◌, ℕ, suc, ◌*◌, ◌≤◌, ℤ, List, [], ◌∷◌, ◌++◌, map, length, Result, Ok, Err, sym, ap, ◌∙◌, subst, arith, append_assoc}
 use Rattle.std.proofs.lemmas.Option.{same_Some}
 use Rattle.std.specs.List.{All}
+use Rattle.std.specs.Prelude.{IfOk}
 use Rattle.board_core.specs.Boards.{setup_for}
 use Rattle.board_core.specs.Setups.{IsSetup}
 use Rattle.board_history.specs.Board.{Setup, Content}
@@ -22,28 +23,21 @@ use Rattle.uplift_settle.specs.declared.settlement.Settlement.{Settlement}
 use Rattle.fixed_price.specs.FixedCase.{fixed_market}
 use Rattle.fixed_price.specs.Laws.{CommitmentsAreFixed}
 use Rattle.fixed_price.specs.Tops.{IsBenchOver}
-use Rattle.hull_words.specs.Asked.{Asked, PriceAsked, fixed}
-use Rattle.hull_words.specs.Words.{words_of}
-use Rattle.hull_words.specs.declared.fault.WordFault.{WordFault}
 use Rattle.hull_report.specs.FixedText.{told_of, fixed_text}
 use Rattle.hull_report.specs.RecordReport.{SettlementsAreOfAllUnits}
-use Rattle.hull_report.specs.RightSide.{IsRightSide, SidePaymentsMakeUpTheGap, TellsChoice, SettledSidesAreRight}
+use Rattle.hull_report.specs.RightSide.{IsRightSide, TellsChoice, SettledSidesAreRight}
 use Rattle.hull_report.specs.declared.fixed.Side.{Side}
-use Rattle.hull_engine.specs.declared.end.End.{End}
-use Rattle.hull_engine.specs.declared.end.End.TheVariants.{Done as done_whole, Cut, Refused}
 use Rattle.hull_engine.specs.declared.fixed.Sides.{Sides}
 use Rattle.hull_engine.specs.declared.input.Input.{Input}
 use Rattle.hull_engine.specs.declared.input.RunInput.{RunInput}
 use Rattle.hull_engine.specs.declared.input.RunSize.{RunSize}
 use Rattle.hull_engine.specs.declared.run.Done.{Done}
-use Rattle.hull_engine.specs.Compared.{IsHullSide, IsHeldInput, AreSides, ArePaid}
+use Rattle.hull_engine.specs.Compared.{IsHullSide, IsHeldInput, IsHeldRun, IsFixedSide, AreSides, ArePaid}
 use Rattle.hull_engine.specs.Inputs.{planned_of, IsPlanned, IsRunInput}
-use Rattle.hull_engine.specs.Laws.{OverReads, IsFixedPromised}
-use Rattle.hull_engine.specs.Outcome.{command_for, IsFixedText, AreReads, Ends, status_at}
+use Rattle.hull_engine.specs.Outcome.{IsFixedText}
 use Rattle.answer_workers.specs.Answers.{Suffices, IsBenchOf}
 use Rattle.hull_engine.specs.Rounds.{setup_of, IsEnded}
-use Rattle.hull_engine.specs.Steps.{Reads, PlannedCase}
-use Rattle.hull_engine.proofs.OutcomeLaws.{status_within, accepted_is_feasible}
+use Rattle.hull_engine.specs.Steps.{PlannedCase}
 use Rattle.hull_engine.proofs.PlanShapes.{all_more, all_none}
 
 -- ---- the bench of a run
@@ -82,20 +76,23 @@ settlement_at m plan π ρ s t e f h =
     (subst (λ (p : PriceLists). IsSettled m plan p s.scheduled.items s.payments.items s.surplus s.total) e h)
 
 -- a run that has ended, with what it chose, is a right side
-pub hull_right : SettledSidesAreRight → SettlementsAreOfAllUnits → (run : RunInput) (b : Setup) (d : Done) (s : Side) → b ≡ setup_of run → IsEnded b d → IsSetup d.closed.setup
-    → TellsChoice d.closed s → s.settlement ≡ d.settlement → IsHullSide run s
-hull_right right lengths run b d s opened ended setup choice same =
+pub own_right : SettledSidesAreRight → SettlementsAreOfAllUnits → (d : Done) (s : Side) → IsEnded d.closed.setup d → IsSetup d.closed.setup → TellsChoice d.closed s → s.settlement ≡ d.settlement
+    → IsRightSide d.closed.setup.market d.closed.setup.market d.closed.setup.plan d.closed.setup.budget d.closed.setup.ahead (told_of s) × (length s.settlement.payments.items ≡ unit_count d.closed.setup.market)
+own_right right lengths d s ended setup choice same =
     let c = d.closed in
     let row = same_Some ended.row choice.row (sym ended.settled.chosen ∙ choice.is_chosen) in
     let prices : ended.row.prices ≡ prices_of s.prices = ap (λ (r : Proposal). r.prices) row ∙ sym choice.prices in
-    let settled = settlement_at c.setup.market c.setup.plan ended.row.prices (prices_of s.prices) d.settlement s.settlement prices (sym same) ended.settled.settled in
-    let side = right c.setup.market c s setup ended.settled.legal ended.settled.finished choice settled in
-    let count = (lengths c.setup.market c.setup.plan (prices_of s.prices) s.settlement.scheduled.items s.settlement.payments.items s.settlement.surplus s.settlement.total ended.settled.feasible settled).1 in
-    let is = ended.setup ∙ opened in
-    record {
-      right = subst (λ (x : Setup). IsRightSide x.market x.market x.plan x.budget x.ahead (told_of s)) is side;
-      count = subst (λ (x : Setup). length s.settlement.payments.items ≡ unit_count x.market) is count;
-    }
+    let settled = settlement_at c.setup.market c.setup.plan ended.row.prices (prices_of s.prices) d.settlement s.settlement prices (sym same) ended.settled.settled in (
+      right c.setup.market c s setup ended.settled.legal ended.settled.finished choice settled,
+      (lengths c.setup.market c.setup.plan (prices_of s.prices) s.settlement.scheduled.items s.settlement.payments.items s.settlement.surplus s.settlement.total ended.settled.feasible settled).1,
+    )
+
+-- and the side of the input that it is the run of
+pub hull_side : (run : RunInput) (b : Setup) (s : Side) → b ≡ setup_of run → IsRightSide b.market b.market b.plan b.budget b.ahead (told_of s) → length s.settlement.payments.items ≡ unit_count b.market → IsHullSide run s
+hull_side run b s is right count = record {
+  right = subst (λ (x : Setup). IsRightSide x.market x.market x.plan x.budget x.ahead (told_of s)) is right;
+  count = subst (λ (x : Setup). length s.settlement.payments.items ≡ unit_count x.market) is count;
+}
 
 -- the schedule of a record, settled at what the record chose, is a right side of the case as given
 pub held_right : SettledSidesAreRight → SettlementsAreOfAllUnits → (given : Market) (d : Done) (s : Side) → IsFeasiblePlan given d.closed.setup.plan → IsEnded d.closed.setup d → IsSetup d.closed.setup
@@ -174,6 +171,28 @@ held_setup law given plan cost size held h same =
           (subst (λ (k : ℕ). size.proposals * k * m.periods ≤ 50000000) (sym fixing.count) h.work);
     }
 
+-- and what that is
+pub held_opened : {E : Type 0} (given : Case) (plan : Plan) (cost shown : ℤ) (size : RunSize) (held : Case) → market_of held ≡ fixed_market (market_of given) (schedules_of plan) → shown ≡ cost
+    → (r : Result Setup E) → IfOk r (λ b. b ≡ setup_for held plan shown size.proposals size.ahead size.workers) → IfOk r (IsHeldRun given plan cost size)
+held_opened given plan cost shown size held same e (Ok b) is = (held, same, is ∙ ap (λ (k : ℤ). setup_for held plan k size.proposals size.ahead size.workers) e)
+held_opened given plan cost shown size held same e (Err f) is = tt
+
+-- the side of a run of that
+module _ (given : Case) (plan : Plan) (cost : ℤ) (size : RunSize) (b : Setup) (run : IsHeldRun given plan cost size b) where
+  pub held_feasible : IsFeasiblePlan (market_of given) (schedules_of plan) → (c : Setup) → c ≡ b → IsFeasiblePlan (market_of given) c.plan
+  held_feasible feasible c is = subst (λ (x : Setup). IsFeasiblePlan (market_of given) x.plan) (sym (is ∙ run.2)) feasible
+
+  pub held_market : (c : Setup) → c ≡ b → c.market ≡ fixed_market (market_of given) c.plan
+  held_market c is = subst (λ (x : Setup). x.market ≡ fixed_market (market_of given) x.plan) (sym (is ∙ run.2)) run.1
+
+  pub fixed_right : (c : Setup) (s : Side) → c ≡ b → IsRightSide (market_of given) c.market c.plan c.budget c.ahead (told_of s) → length s.settlement.payments.items ≡ unit_count (market_of given)
+      → IsFixedSide (market_of given) (schedules_of plan) size s
+  fixed_right c s is right count = record {
+    right = subst (λ (m : Market). IsRightSide (market_of given) m (schedules_of plan) size.proposals size.ahead (told_of s)) run.1
+        (subst (λ (x : Setup). IsRightSide (market_of given) x.market x.plan x.budget x.ahead (told_of s)) (is ∙ run.2) right);
+    count = count;
+  }
+
 -- ---- what is written
 
 pub sides_paid : (run : RunInput) (s : Sides) → AreSides run s → ArePaid s
@@ -187,27 +206,3 @@ fixed_texts run s budget ahead h e f text is =
     subst (λ (n : ℕ). IsFixedText budget n (planned_of run.input) text) f
     (subst (λ (n : ℕ). IsFixedText n run.size.ahead (planned_of run.input) text) e
     (told_of s.hull, told_of s.fixed, h.hull.right, h.fixed.right, is ∙ (λ j. fixed_text (h.case j) (h.cost j) (told_of s.hull) (told_of s.fixed))))
-
--- ---- what is promised
-
-module _ (made_up : SidePaymentsMakeUpTheGap) where
-  promised : (a : PriceAsked) (i : PlannedCase) (gained : List ℕ → Type 0) (text : List ℕ) → IsFeasiblePlan i.market i.plan → i.cost ≡ plan_cost i.market i.plan → IsFixedText a.proposals a.ahead i text → gained text → IsFixedPromised a i gained
-  promised a i gained text feasible cost (hull, held, is_hull, is_held, is) printed = record {
-    hull = hull;
-    held = held;
-    hull_right = is_hull;
-    held_right = is_held;
-    hull_made_up = made_up i.market i.market i.plan a.proposals a.ahead hull feasible is_hull;
-    held_made_up = made_up i.market (fixed_market i.market i.plan) i.plan a.proposals a.ahead held feasible is_held;
-    cost = cost;
-    printed = subst gained is printed;
-  }
-
-  pub fixed_at_0 : (a : PriceAsked) (words : List (List ℕ)) (told : List ℕ → Option (List ℕ)) (rose gained short : List ℕ → Type 0) (n : ℕ) (reads : Reads) (e : End)
-      → AreReads told rose (command_for (words_of words)).name_of reads → Ends (command_for (words_of words)) reads gained short e → n ≡ status_at e → words_of words ≡ Ok (fixed a) → n ≡ 0
-      → OverReads (command_for (words_of words)) told rose (λ reads. (i : PlannedCase) × (command_for (words_of words)).IsDue reads (Ok i) × IsFixedPromised a i gained)
-  fixed_at_0 a words told rose gained short n reads done_whole are (i, due, text, shown, printed) is same z =
-      let accepted = accepted_is_feasible (words_of words) reads i due in
-      (reads, are, (i, due, promised a i gained text accepted.0 accepted.1 (subst (λ (v : Result Asked WordFault). (command_for v).IsText reads i text) same shown) printed))
-  fixed_at_0 a words told rose gained short n reads Cut are ends is same z = absurd (omega (arith, is, z))
-  fixed_at_0 a words told rose gained short n reads (Refused f) are ends is same z = absurd (omega (arith, is, z, (status_within f).0))

@@ -18,13 +18,9 @@ pub mod SettleLaws
 pub mod WriteLaws
 -- lib.rt: the end of a run is its outcome
 pub mod EndLaws
--- laws.rt: at most one thing is due
-pub mod OneDue
--- laws.rt: what follows from an outcome
-pub mod OutcomeLaws
--- bound.rt, laws.rt: the best bound round the chosen prices of a run
+-- bound.rt: the best bound round the chosen prices of a run
 pub mod BoundLaws
--- fixed.rt, laws.rt: the two runs of `hull fixed`
+-- fixed.rt: the two runs of `hull fixed`
 pub mod FixedLaws
--- answers.rt, laws.rt: the audit of a report
+-- answers.rt: the audit of a report
 pub mod AuditLaws

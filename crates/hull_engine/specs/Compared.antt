@@ -1,5 +1,7 @@
 -- The two runs of `hull fixed` (Gribik, Hogan and Pope 2007 compare such prices).
 use Rattle.std.specs.Prelude.{◌≡◌, ◌*◌, ◌≤◌, ℤ, List, length}
+use Rattle.board_core.specs.Boards.{setup_for}
+use Rattle.board_history.specs.Board.{Setup}
 use Rattle.uc_model.specs.Data.{Schedule, Market, unit_count}
 use Rattle.uc_model.specs.PlainCases.{market_of, schedules_of}
 use Rattle.uc_model.specs.Systems.{IsFeasiblePlan, plan_cost}
@@ -36,6 +38,12 @@ pub record IsHeldInput (given : Case) (plan : Plan) (cost : ℤ) (size : RunSize
   pub cost_is : cost ≡ plan_cost (market_of given) (schedules_of plan)
   pub within : IsRunSize size.proposals size.workers size.ahead
   pub work : size.proposals * unit_count (market_of given) * (market_of given).periods ≤ 50000000
+
+-- what its board is made for: a case that is the one with commitments held
+abbrev pub IsHeldRun : Case → Plan → ℤ → RunSize → Setup → Type 0
+IsHeldRun given plan cost size b =
+    (held : Case) × (market_of held ≡ fixed_market (market_of given) (schedules_of plan))
+    × (b ≡ setup_for held plan cost size.proposals size.ahead size.workers)
 
 -- both sides of an input
 pub record AreSides (run : RunInput) (s : Sides) : Type 0 where

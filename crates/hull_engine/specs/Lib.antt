@@ -1,6 +1,5 @@
 pub mod Steps
 pub mod Outcome
-pub mod Laws
 pub mod Sizes
 pub mod Inputs
 pub mod Rounds

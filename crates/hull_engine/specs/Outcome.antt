@@ -1,8 +1,8 @@
 -- WHAT A RUN OF `hull` DOES, to be read from top to bottom (this project's profile; dual value,
 -- best responses and payments are those of Gribik, Hogan and Pope 2007). `hull_run` ensures
 -- IsOutcome, the record at the foot; before it stand its words: the commands, what was read of
--- their files, and how a run ends. What follows from it in full words is in Laws: IsPromised for
--- `price`, for one.
+-- their files, and how a run ends. What follows from it in full words is in the Laws of run_laws:
+-- IsPromised for `price`, for one.
 --
 -- `told name` is what the shelf tells of a file's bytes, None where it tells none, and `rose name`
 -- that its count of faults under that name rose. A real file tells nothing: then all that is said

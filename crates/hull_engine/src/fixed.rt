@@ -8,12 +8,13 @@ ghost use Rattle.uc_model.specs.Systems.{IsFeasiblePlan};
 ghost use Rattle.fixed_price.specs.FixedCase.{fixed_market};
 ghost use Rattle.hull_report.specs.FixedText.{told_of};
 ghost use Rattle.hull_report.specs.RightSide.{IsRightSide};
-ghost use Rattle.hull_engine.specs.Compared.{IsHullSide, IsHeldInput, IsFixedSide, AreSides};
+ghost use Rattle.hull_engine.specs.Compared.{IsHullSide, IsHeldInput, IsHeldRun, IsFixedSide, AreSides};
+ghost use Rattle.hull_engine.specs.Answers.{planned_in};
 ghost use Rattle.hull_engine.specs.Inputs.{planned_of, IsPlanned, IsRunInput};
 ghost use Rattle.hull_engine.specs.Rounds.{IsEnded};
 
 use crate::input::{Input, RunInput, RunSize, unit_count};
-use crate::run::{Done, open, run_board};
+use crate::run::{Done, Run, open, run_board};
 use answer_workers::Gate;
 use fixed_price::laws::commitments_are_fixed;
 use fixed_price::{earn_all, fix_case};
@@ -37,7 +38,35 @@ pub struct Sides {
     pub fixed: Side,
 }
 
+/// The side of a run that has ended, with its input: its chosen prices are copied into the room.
+/// Lets all else of the run go, and takes no memory.
+fn own_side(done: Done, room: Prices) -> (Side, Input)
+    requires ended { IsEnded done.closed.setup done }
+    requires horizon { length (prices_of room).energy ≡ done.closed.setup.market.periods }
+    ensures right { IsRightSide done.closed.setup.market done.closed.setup.market
+        done.closed.setup.plan done.closed.setup.budget done.closed.setup.ahead (told_of result.0) }
+    ensures count { length result.0.settlement.payments.items
+        ≡ units_in done.closed.setup.market }
+    ensures input { planned_of result.1 ≡ planned_in done.closed.setup }
+    ensures planned { IsPlanned result.1 }
+{
+    let Done {
+        closed,
+        settlement,
+        buffer: _buffer,
+        bench: _bench,
+    } = done;
+    settled_sides_are_right();
+    settlements_are_of_all_units();
+    closed.is_legal();
+    let side = chosen_side(&closed, room, settlement);
+    let cost = closed.cost();
+    let (case, plan) = closed.into_parts();
+    (side, Input { case, plan, cost })
+}
+
 /// Runs the board of an input. Gives back the input, and lets all else of the run go but its side.
+/// The memory that is needed after the opening of the run is taken before it.
 fn hull_side<R: Threads + Wait + Sync, G: Gate>(
     rt: &R,
     alloc: Global,
@@ -49,21 +78,9 @@ fn hull_side<R: Threads + Wait + Sync, G: Gate>(
     ensures input { IfOk result (λ r. planned_of r.1 ≡ planned_of run.input) }
     ensures planned { IfOk result (λ r. IsPlanned r.1) }
 {
+    let room = Prices::make(alloc, run.input.case.periods)?;
     let opened = open(alloc, run)?;
-    let Done {
-        closed,
-        settlement,
-        buffer: _buffer,
-        bench: _bench,
-    } = run_board(rt, opened, gate);
-    settled_sides_are_right();
-    settlements_are_of_all_units();
-    closed.is_legal();
-    let room = Prices::make(alloc, closed.case().periods)?;
-    let side = chosen_side(&closed, room, settlement);
-    let cost = closed.cost();
-    let (case, plan) = closed.into_parts();
-    Ok((side, Input { case, plan, cost }))
+    Ok(own_side(run_board(rt, opened, gate), room))
 }
 
 /// The side of a run with commitments held that has ended: its chosen prices are copied into the
@@ -102,7 +119,36 @@ fn settled_side(given: &Case, done: Done, room: Prices, earned: Numbers) -> Side
     side
 }
 
-/// Runs the board of a case with the commitments of its schedule held. All memory that is needed
+/// Room for the prices of a side of the case, and for what its units earn.
+fn side_room(alloc: Global, given: &Case) -> Result<(Prices, Numbers), AllocError>
+    ensures horizon { IfOk result (λ r. length (prices_of r.0).energy
+        ≡ (market_of given.now).periods) }
+    ensures count { IfOk result (λ r. units_in (market_of given.now)
+        ≤ length r.1.items + r.1.spare) }
+{
+    let room = Prices::make(alloc, given.periods)?;
+    let earned = Numbers::make(alloc, unit_count(given))?;
+    Ok((room, earned))
+}
+
+/// Opens the run of the case with the commitments of its schedule held.
+fn held_run(
+    alloc: Global,
+    given: &Case,
+    plan: Plan,
+    cost: i128,
+    size: RunSize,
+) -> Result<Run, AllocError>
+    requires { IsHeldInput given.now plan cost size }
+    ensures { IfOk result (IsHeldRun given.now plan cost size) }
+{
+    commitments_are_fixed();
+    let case = fix_case(alloc, given, &plan)?;
+    let input = Input { case, plan, cost };
+    open(alloc, RunInput { input, size })
+}
+
+/// Runs the board of a case with the commitments of its schedule held. The memory that is needed
 /// after the opening of the run is taken before it.
 fn fixed_side<R: Threads + Wait + Sync, G: Gate>(
     rt: &R,
@@ -116,12 +162,8 @@ fn fixed_side<R: Threads + Wait + Sync, G: Gate>(
     requires { IsHeldInput given.now plan cost size }
     ensures { IfOk result (IsFixedSide (market_of given.now) (schedules_of plan) size) }
 {
-    commitments_are_fixed();
-    let case = fix_case(alloc, given, &plan)?;
-    let room = Prices::make(alloc, given.periods)?;
-    let earned = Numbers::make(alloc, unit_count(given))?;
-    let input = Input { case, plan, cost };
-    let opened = open(alloc, RunInput { input, size })?;
+    let (room, earned) = side_room(alloc, given)?;
+    let opened = held_run(alloc, given, plan, cost, size)?;
     Ok(settled_side(given, run_board(rt, opened, gate), room, earned))
 }
 

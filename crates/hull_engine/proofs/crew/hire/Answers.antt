@@ -1,9 +1,7 @@
-use Rattle.std.proofs.Common.{◌+◌, List, sym, ap, refl, subst, arith}
+use Rattle.std.proofs.Common.{ap, refl, arith}
 use Rattle.board_history.specs.Board.{Setup}
 use Rattle.board_share.specs.Seats.{view_of}
-use Rattle.answer_workers.specs.declared.worker.Worker.{Worker}
-use Rattle.hull_engine.specs.Crews.{IsCrew, IsHired}
-use Rattle.hull_engine.proofs.CrewLaws.{hired_none, hired_more, hired_all}
+use Rattle.hull_engine.proofs.CrewLaws.{hired_first, hired_again, crew_all}
 use Rattle.hull_engine.proofs.crew.hire.Goals as goal
 
 pub loop-init : goal.loop-init
@@ -11,7 +9,7 @@ loop-init c =
     let b = (view_of c.args.owner).setup in
     let e = c.in_ok-workers.ensures in
     record {
-      hired = subst (λ (ws : List Worker). IsHired b c.args.board.now c.args.owner 1 ws) (sym e.items) (hired_none b c.args.board.now c.args.owner c.requires.own refl c.requires.new);
+      hired = hired_first b c.args.board.now c.args.owner _ c.requires.own refl c.requires.new e.items;
       room = e.capacity;
     }
 
@@ -46,9 +44,9 @@ loop-preserved c =
     let room = l.invariant.room in
     let same = p.capacity in
     record {
-      hired = subst (λ (ws : List Worker). IsHired b c.args.board.now c.split.new.seat (l.counter + 1) ws) (sym p.items)
-          (hired_more b c.args.board.now l.owner c.split.new.seat c.in-Some.seat l.counter l.workers.items c.in_ok-make.field-0 l.invariant.hired split.board split.given split.owner made.seat
-          (made.parts b.market c.requires.horizon c.requires.points));
+      hired =
+          hired_again b c.args.board.now l.owner c.split.new.seat c.in-Some.seat l.counter l.workers.items _ c.in_ok-make.field-0 l.invariant.hired split.board split.given split.owner made.seat
+          (made.parts b.market c.requires.horizon c.requires.points) p.items;
       room = omega (arith, room, same);
     }
 
@@ -65,6 +63,7 @@ returns c =
     let b = (view_of c.args.owner).setup in
     let made = c.in_ok-make-2.ensures in
     record {
-      crew = subst (λ (ws : List Worker). IsCrew b c.args.board.now ws) (sym c.push_reserved-2.ensures.items)
-          (hired_all b c.args.board.now c.loop.owner c.loop.counter c.loop.workers.items c.in_ok-make-2.field-0 c.loop.invariant.hired made.seat (made.parts b.market c.requires.horizon c.requires.points));
+      crew =
+          crew_all b c.args.board.now c.loop.owner c.loop.counter c.loop.workers.items _ c.in_ok-make-2.field-0 c.loop.invariant.hired made.seat (made.parts b.market c.requires.horizon c.requires.points)
+          c.push_reserved-2.ensures.items;
     }

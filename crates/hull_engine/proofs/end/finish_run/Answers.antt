@@ -1,6 +1,3 @@
-use Rattle.std.proofs.Common.{◌≡◌, sym, subst}
-use Rattle.board_history.specs.Board.{Setup}
-use Rattle.hull_engine.specs.Rounds.{IsEnded}
 use Rattle.hull_engine.proofs.WriteLaws.{status_written}
 use Rattle.hull_engine.proofs.end.finish_run.Goals as goal
 

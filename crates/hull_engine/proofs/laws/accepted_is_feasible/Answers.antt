@@ -1,6 +1,0 @@
-use Rattle.hull_words.specs.Words.{words_of}
-use Rattle.hull_engine.proofs.OutcomeLaws.{accepted_is_feasible}
-use Rattle.hull_engine.proofs.laws.accepted_is_feasible.Goals as goal
-
-pub returns : goal.returns
-returns c words reads i due = accepted_is_feasible (words_of words) reads i due

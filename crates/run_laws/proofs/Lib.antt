@@ -1,0 +1,10 @@
+-- at most one thing is due
+pub mod OneDue
+-- what follows from an outcome
+pub mod OutcomeLaws
+-- what is promised of a bound
+pub mod BoundPromise
+-- what is promised of the two runs of `hull fixed`
+pub mod FixedPromise
+-- what is promised of an audit
+pub mod AuditPromise

@@ -1,0 +1,8 @@
+use Rattle.hull_words.specs.Words.{words_of}
+use Rattle.run_laws.proofs.AuditPromise.{audit_holds}
+use Rattle.run_laws.proofs.laws.audits_hold.Goals as goal
+
+pub returns : goal.returns
+returns g c words old new before after n h a same =
+    audit_holds c.report_payments_make_up_the_gap.ensures c.text_determines_the_report.ensures c.right_report_has_form.ensures a _ _ _ _
+    (words_of words) n h.reads h.end h.are_reads h.ends h.status_is same

@@ -1,0 +1,2 @@
+-- what holds of every run
+pub mod Laws
