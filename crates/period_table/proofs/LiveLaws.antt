@@ -1,11 +1,10 @@
 -- A list of runners, and one of them written.
-use Rattle.std.proofs.Common.{◌≡◌, ◌≢◌, ℕ, zero, suc, ◌+◌, ◌-◌, ◌*◌, ◌<◌, ◌≤◌, inl, inr, Bool, true, false, cond, Option, Some, None, ℤ, pos, ◌+ℤ◌, ◌-ℤ◌, ◌≤ℤ◌, List, [], ◌∷◌, length, refl, sym, ap, ◌∙◌, subst, arith}
+use Rattle.std.proofs.Common.{◌≡◌, ◌≢◌, ℕ, zero, suc, ◌+◌, ◌-◌, ◌*◌, ◌<◌, ◌≤◌, inl, inr, Bool, true, false, cond, Option, Some, None, ℤ, pos, ◌+ℤ◌, ◌-ℤ◌, ◌≤ℤ◌, ◌<ℤ◌, List, [], ◌∷◌, length, refl, sym, ap, ◌∙◌, subst, arith}
 use Rattle.std.specs.Prelude.{IfSome, slice_get, slice_set}
 use Rattle.std.proofs.lemmas.Int.{ints}
 use Rattle.std.proofs.lemmas.Option.{slice_get_within}
 use Rattle.std.proofs.lemmas.Bool.{cases_eq}
 use Rattle.std.proofs.Math.Nat.{mul-le-mul_right}
-use Rattle.shape_law.specs.Effect.{IsLeast}
 use Rattle.shape_law.specs.Table.{Table, value_of}
 use Rattle.uc_model.specs.Data.{ThermalUnit, PriceLists}
 use Rattle.spell_run.specs.Notes.{passed_at}
@@ -57,8 +56,8 @@ pub under_of : (f : Table) (e power cost v sum : ℤ) (before : ℕ) (left : ℕ
     IsUnder power cost (record { before = before; cost = e; function = f; left = left })
 under_of f e power cost v sum before left there is less = (v, there, omega (arith, ints, is, less))
 
-pub beyond_of : (f : Table) (e limit v x sum : ℤ) → IsLeast f v x → sum ≡ e +ℤ v → (limit +ℤ pos 1) ≤ℤ sum → IsBeyond limit e f
-beyond_of f e limit v x sum least is less y w there = (let low = least.least y w there in omega (arith, ints, low, is, less))
+pub beyond_of : (f : Table) (e limit : ℤ) → ((x v : ℤ) → value_of f x ≡ Some v → limit <ℤ (v +ℤ e)) → IsBeyond limit e f
+beyond_of f e limit above x v there = (let over = above x v there in omega (arith, ints, over))
 
 -- ---- one of the list written
 

@@ -524,10 +524,7 @@ fn is_beyond<R: Running>(runner: &Runner<R>, limit: i64) -> bool
         → IsWithinTimes 400 v }
     ensures { OnTrue result (IsBeyond limit runner.now.cost (R.function runner.now.running)) }
 {
-    match runner.running.least() {
-        Some(spot) => is_less(limit, sum_of(runner.cost, spot.value)),
-        None => false,
-    }
+    runner.running.is_above(runner.cost, limit)
 }
 
 // Stops the runner that begins with a period, if it is above the limit at each power.

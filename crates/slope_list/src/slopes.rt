@@ -81,7 +81,7 @@ impl Slopes {
     ghost use Rattle.shape_law.specs.Effect.{IsPoint, IsLeast, IsLeastIn};
     ghost use Rattle.shape_law.specs.Steps.{IsFairStep, IsCostOf, IsStepped, IsSmall};
     ghost use Rattle.shape_law.specs.Table.{Table, value_of, IsPlace, IsAmount, IsEmpty, HasNone};
-    ghost use Rattle.slope_step.specs.Below.{IsShift, IsNowhereAbove};
+    ghost use Rattle.slope_step.specs.Below.{IsShift, IsNowhereAbove, IsAbove};
     ghost use Rattle.slope_step.specs.Turn.{IsTurn, IsFirst, IsLast};
     ghost use Rattle.slope_list.specs.Slopes.{shown, room_of, count_of, turn_of};
 
@@ -174,6 +174,17 @@ impl Slopes {
         match self.made {
             Some(made) => Some(read::least(&self.pieces[..made.used], made.start)),
             None => None,
+        }
+    }
+
+    /// Whether it has a place, and with the shift is above a limit at each.
+    pub fn is_above(&self, shift: i64, limit: i64) -> bool
+        requires { IsShift shift }
+        ensures { OnTrue result (IsAbove (shown self.now) shift limit) }
+    {
+        match self.made {
+            Some(made) => read::is_above(&self.pieces[..made.used], made.start, shift, limit),
+            None => false,
         }
     }
 

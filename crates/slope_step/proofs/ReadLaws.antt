@@ -10,6 +10,7 @@ use Rattle.slope_step.specs.declared.piece.Piece.{Piece}
 use Rattle.slope_step.specs.declared.piece.Start.{Start}
 use Rattle.slope_step.specs.Pieces.{piece, end_at, last_place, function_of, table_on, AreSlopes}
 use Rattle.slope_step.specs.Kink.{IsValley}
+use Rattle.slope_step.specs.Below.{IsAbove}
 use Rattle.slope_step.specs.Laws.{PiecesBegin, PiecesEnd}
 use Rattle.slope_step.proofs.LineLaws.{line_step}
 use Rattle.slope_step.proofs.PieceLaws.{ends_rise_to, slopes_rise, along_first, along_line, held}
@@ -52,6 +53,14 @@ valley_at start ps slopes k inside falls rises =
           let up = slopes_rise start.first ps slopes (j - k) k j (omega arith) i in
           omega (arith, ints);
     }
+
+-- above a limit at the least place, above it everywhere
+pub above_all : (f : ℤ → ℤ) (a b m : ℤ) → IsValley f a b m → (shift limit : ℤ) → limit <ℤ (f m +ℤ shift) → IsAbove (table_on f a b) shift limit
+above_all f a b m v shift limit h x w there =
+    let o = on_back f a b x w there in
+    let e = o.value in
+    let l = valley_least f a b m v x o.from o.to in
+    omega (arith, ints)
 
 -- the least value of some places is at the one nearest to the least place
 module _ (f : ℤ → ℤ) (a b m : ℤ) (v : IsValley f a b m) (lo hi low high at : ℤ) (low_is : low ≡ int_max lo a) (high_is : high ≡ int_min hi b) (some : low ≤ℤ high) (at_is : at ≡ int_max low (int_min high m)) where

@@ -1,5 +1,5 @@
 -- One function below another one (this project's profile).
-use Rattle.std.specs.Prelude.{ℤ, ◌+ℤ◌, ◌≤ℤ◌, ◌≡◌, pos, neg_ℤ, List, Some}
+use Rattle.std.specs.Prelude.{ℤ, ◌+ℤ◌, ◌≤ℤ◌, ◌<ℤ◌, ◌≡◌, pos, neg_ℤ, List, Some}
 use Rattle.uc_model.specs.Limits.{IsFrom}
 use Rattle.shape_law.specs.Table.{Table, value_of}
 use Rattle.slope_step.specs.declared.piece.Piece.{Piece}
@@ -12,6 +12,10 @@ use Rattle.slope_step.specs.Kink.{IsPlaced}
 abbrev pub IsNowhereAbove : Table → Table → ℤ → Type 0
 IsNowhereAbove f g shift =
     (x v : ℤ) → value_of g x ≡ Some v → (u : ℤ) × (value_of f x ≡ Some u) × ((u +ℤ shift) ≤ℤ v)
+
+-- with the shift f is above a limit at each place
+abbrev pub IsAbove : Table → ℤ → ℤ → Type 0
+IsAbove f shift limit = (x v : ℤ) → value_of f x ≡ Some v → limit <ℤ (v +ℤ shift)
 
 -- the same of pieces: the first function is wherever the other one is, and with the shift it is
 -- nowhere above it there

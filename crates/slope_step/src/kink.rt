@@ -1,8 +1,8 @@
 //! The function less the worth of the best reserve, part by part.
-ghost use Rattle.std.specs.Prelude.{◌≡◌, ℕ, ℤ, ◌+◌, ◌<◌, ◌≤◌, pos, ◌+ℤ◌, ◌-ℤ◌, ◌≤ℤ◌, ◌<ℤ◌, length};
+ghost use Rattle.std.specs.Prelude.{◌≡◌, ℕ, ℤ, ◌+◌, ◌<◌, ◌≤◌, pos, negsuc, ◌+ℤ◌, ◌-ℤ◌, ◌≤ℤ◌, ◌<ℤ◌, length};
 ghost use Rattle.shape_law.specs.Steps.{IsFairStep};
 ghost use Rattle.slope_step.specs.Pieces.{piece, last_place, function_of, AreSlopes, IsLine};
-ghost use Rattle.slope_step.specs.Kink.{kinked, parts_from, IsPlaced, IsLowered, AreWithin};
+ghost use Rattle.slope_step.specs.Kink.{kinked, bend_of, parts_from, IsPlaced, IsLowered, AreWithin};
 ghost use Rattle.slope_step.specs.Kink.{IsGentle, AreGentle, IsSteep, IsValley};
 
 use crate::piece::{Piece, Start, along};
@@ -23,16 +23,25 @@ pub(crate) struct Part {
     pub then: Place,
 }
 
+/// Where the reserve meets its cap, or before all places where reserve isn't paid for.
+fn bend_for(step: Step) -> i64
+    requires fair { IsFairStep step }
+    ensures paid { pos 0 <ℤ step.reserve_price → result ≡ bend_of step }
+    ensures free { step.reserve_price ≤ℤ pos 0 → result ≡ negsuc 9223372036854775807 }
+{
+    if step.reserve_price <= 0 {
+        return i64::MIN;
+    }
+    step.cap - step.ramp_up
+}
+
 /// What is left of a piece from a place on, after the worth of the reserve is taken off.
 fn lowered(piece: Piece, place: Place, step: Step) -> Piece
     requires fair { IsFairStep step }
     requires gentle { IsGentle piece.slope }
     ensures { IsLowered step place.at piece result }
 {
-    if step.reserve_price <= 0 {
-        return piece;
-    }
-    let bend = step.cap - step.ramp_up;
+    let bend = bend_for(step);
     if place.at >= bend {
         return piece;
     }

@@ -1,12 +1,14 @@
 //! What is read off pieces.
-ghost use Rattle.std.specs.Prelude.{◌≡◌, ◌≤ℤ◌, MatchOption};
+ghost use Rattle.std.specs.Prelude.{◌≡◌, ◌+ℤ◌, ◌≤ℤ◌, ◌<ℤ◌, IsTrue, MatchOption};
+ghost use Rattle.std.specs.Bool.{OnTrue};
 ghost use Rattle.shape_law.specs.Effect.{IsLeast, IsLeastIn};
-ghost use Rattle.shape_law.specs.Table.{HasNone};
+ghost use Rattle.shape_law.specs.Table.{HasNone, IsAmount};
+ghost use Rattle.slope_step.specs.Below.{IsAbove, IsShift};
 ghost use Rattle.slope_step.specs.Pieces.{last_place, function_of, table_of, AreSlopes};
 ghost use Rattle.slope_step.specs.Kink.{AreWithin, IsValley};
 
 use crate::kink::seek;
-use crate::piece::{Piece, Start};
+use crate::piece::{Piece, Start, along};
 
 /// A place and the value there.
 #[derive(Clone, Copy)]
@@ -24,6 +26,38 @@ pub fn last_place(pieces: &[Piece], first: i64) -> i64
     } else {
         pieces[pieces.len() - 1].end
     }
+}
+
+/// Whether a value with the shift is above a limit.
+fn exceeds(value: i64, shift: i64, limit: i64) -> bool
+    requires value { IsAmount value }
+    requires shift { IsShift shift }
+    ensures { IsTrue result → limit <ℤ (value +ℤ shift) }
+{
+    value + shift > limit
+}
+
+/// Whether the function with the shift is above a limit at each place. It falls at first, so only
+/// its falling pieces are looked at, and only as long as they are above.
+pub fn is_above(pieces: &[Piece], start: Start, shift: i64, limit: i64) -> bool
+    requires slopes { AreSlopes start.first pieces.now }
+    requires within { AreWithin start pieces.now }
+    requires shift { IsShift shift }
+    ensures { OnTrue result (IsAbove (table_of start pieces.now) shift limit) }
+{
+    let mut at = start.first;
+    let mut value = start.level;
+    for piece in pieces {
+        if !exceeds(value, shift, limit) {
+            return false;
+        }
+        if piece.slope >= 0 {
+            return true;
+        }
+        value = along(value, *piece, at, piece.end);
+        at = piece.end;
+    }
+    exceeds(value, shift, limit)
 }
 
 /// The place from which the function doesn't fall.
@@ -64,8 +98,16 @@ pub fn least(pieces: &[Piece], start: Start) -> Spot
     requires within { AreWithin start pieces.now }
     ensures { IsLeast (table_of start pieces.now) result.value result.at }
 {
-    let at = bottom(pieces, start);
-    spot_at(pieces, start, at)
+    let mut at = start.first;
+    let mut value = start.level;
+    for piece in pieces {
+        if piece.slope >= 0 {
+            return Spot { at, value };
+        }
+        value = along(value, *piece, at, piece.end);
+        at = piece.end;
+    }
+    Spot { at, value }
 }
 
 /// The least value of the places from `lo` to `hi`, at its least place; None exactly where none of

@@ -1,6 +1,6 @@
 //! Spells that go forward in place, a period at a time, on functions that take no memory.
 ghost use Rattle.std.specs.Prelude.{◌≡◌, ℕ, ℤ, suc, ◌==◌, ◌+◌, ◌-◌, ◌^◌, ◌<◌, ◌≤◌, pos, neg_ℤ};
-ghost use Rattle.std.specs.Prelude.{◌+ℤ◌, ◌≤ℤ◌, true, false, IsTrue, ◌↔◌, length, Some};
+ghost use Rattle.std.specs.Prelude.{◌+ℤ◌, ◌≤ℤ◌, ◌<ℤ◌, true, false, IsTrue, ◌↔◌, length, Some};
 ghost use Rattle.std.specs.Prelude.{MatchOption, IfSome, IfNone, None};
 ghost use Rattle.std.specs.Bool.{OnTrue};
 ghost use Rattle.cost_curve.specs.CostCurve.{IsCostCurve};
@@ -78,6 +78,12 @@ pub trait Running: Sized {
         ensures { MatchOption result (IsEmpty (function self.now))
             (λ r. IsLeast (function self.now) r.value r.at) };
 
+    /// Whether it has a place, and with the shift is above a limit at each.
+    fn is_above(&self, shift: i64, limit: i64) -> bool
+        requires { IsFrom (neg_ℤ (pos 4000000000000000000)) (pos 4000000000000000000) shift }
+        ensures { OnTrue result ((x v : ℤ) → value_of (function self.now) x ≡ Some v →
+            limit <ℤ (v +ℤ shift)) };
+
     /// The least value at the places from `lo` to `hi` and its least place, or None where none of
     /// them is in the interval.
     fn least_in(&self, lo: i64, hi: i64) -> Option<Spot>
@@ -134,6 +140,10 @@ impl Running for Slopes {
 
     fn least(&self) -> Option<Spot> {
         Slopes::least(self)
+    }
+
+    fn is_above(&self, shift: i64, limit: i64) -> bool {
+        Slopes::is_above(self, shift, limit)
     }
 
     fn least_in(&self, lo: i64, hi: i64) -> Option<Spot> {

@@ -1,10 +1,15 @@
-use Rattle.std.proofs.Common.{arith}
-use Rattle.std.proofs.lemmas.Int.{ints, clamps}
+use Rattle.std.proofs.Common.{arith, rules}
+use Rattle.std.specs.Prelude.{FitsSigned, pos}
+use Rattle.std.specs.Int.{w64}
+use Rattle.std.proofs.lemmas.Int.{ints, clamps, to_z-of_z, by_lt_z}
 use Rattle.slope_step.proofs.kink.lowered.Goals as goal
 
 pub returns : goal.returns
-returns c = record {
-  below = λ paid low. (omega (arith, ints, clamps), omega (arith, ints));
-  above = λ high. absurd (omega (arith, ints));
-  free = λ none. absurd (omega (arith, ints));
-}
+returns c =
+    let f : FitsSigned w64 c.bend_for-bend.result = search rules in
+    let e = to_z-of_z w64 c.bend_for-bend.result f in
+    record {
+      below = λ paid low. let b = c.bend_for-bend.ensures.paid paid in (omega (arith, ints, clamps), omega (arith, ints));
+      above = λ high. by_lt_z (pos 0) c.args.step.reserve_price (λ paid. let b = c.bend_for-bend.ensures.paid paid in absurd (omega (arith, ints))) (λ free. let b = c.bend_for-bend.ensures.free free in absurd (omega (arith, ints)));
+      free = λ none. let b = c.bend_for-bend.ensures.free none in absurd (omega (arith, ints));
+    }

@@ -1,5 +1,5 @@
 use Rattle.std.proofs.Common.{to_z, of_z, ◌≡◌, ◌≤◌, List, length, ap, sym, ◌∙◌, subst, arith, rules}
-use Rattle.std.specs.Prelude.{ℤ, FitsSigned, ◌+ℤ◌, ◌-ℤ◌, ◌≤ℤ◌, ◌<ℤ◌}
+use Rattle.std.specs.Prelude.{FitsSigned, ◌+ℤ◌, ◌-ℤ◌, ◌≤ℤ◌}
 use Rattle.std.specs.Int.{w64, int_min, int_max}
 use Rattle.std.proofs.lemmas.Int.{to_z-of_z}
 use Rattle.shape_law.specs.Steps.{IsSmall}
