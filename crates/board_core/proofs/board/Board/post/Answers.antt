@@ -16,7 +16,7 @@ use Rattle.board_core.specs.declared.replies.Posted.TheVariants as replies_of
 use Rattle.board_core.specs.Events.{place, events_of}
 use Rattle.board_core.specs.Ledgers.{blank}
 use Rattle.board_core.specs.Parts.{Lists, unset, sums_of, fronts_of, AreTallies, IsBoard}
-use Rattle.board_core.specs.Refusals.{reply_of}
+use Rattle.board_core.specs.Refusals.{refusal_of, reply_of}
 use Rattle.board_core.specs.Replies.{posted_of, closed_of as closed_if}
 use Rattle.board_core.specs.Rounds.{Sums, Fronts, is_full, IsRound}
 use Rattle.board_core.specs.Stored.{answer_of, answers_kept}
