@@ -1,8 +1,10 @@
 // What no clause says: whole runs over memory, by their status and the bytes that the sink holds.
 // The expected texts were worked by hand, or come from other programs.
+ghost use Rattle.std.specs.Prelude.{Some};
+
 use answer_workers::{Gate, NoGate};
 use hull_engine::hull_run;
-use hull_io::{File, MemoryShelf, MemorySink};
+use hull_io::{File, MemoryShelf, MemorySink, ReadFailed, Shelf};
 use std::alloc::{AllocError, Global};
 use std::sync::Wait;
 use std::sync::atomic::{AtomicU64, Ordering};
@@ -164,7 +166,41 @@ const TRY: &[u8] = b"\
 hull-try 1\nnumber 7\nperiods 48 thermal 73 renewable 81\nproposals 12\nchosen 1 value 13991626824349\n\
 cost 17876574967200\npayments 3884948142851\nsurplus 0\ngap 3884948142851\n";
 
+// The first proposal is the best of those twelve, so a run that stops at it prints the same sums.
+const TRY_FIRST: &[u8] = b"\
+hull-try 1\nnumber 7\nperiods 48 thermal 73 renewable 81\nproposals 1\nchosen 1 value 13991626824349\n\
+cost 17876574967200\npayments 3884948142851\nsurplus 0\ngap 3884948142851\n";
+
 const CHECK: [&str; 5] = ["check", "--case", "c", "--schedule", "s"];
+
+const BOUND: [&str; 6] = [
+    "bound",
+    "--case=c",
+    "--schedule=s",
+    "--proposals=2",
+    "--ahead=1",
+    "--radius=10",
+];
+
+const FIXED: [&str; 5] = [
+    "fixed",
+    "--case=c",
+    "--schedule=s",
+    "--proposals=2",
+    "--ahead=1",
+];
+
+const TRY_ONE: [&str; 4] = ["try", "7", "--proposals", "1"];
+
+const AUDIT: [&str; 7] = [
+    "audit",
+    "--case=c",
+    "--schedule=s",
+    "--report",
+    "r",
+    "--workers",
+    "2",
+];
 
 const PRICE: [&str; 8] = [
     "price",
@@ -177,10 +213,63 @@ const PRICE: [&str; 8] = [
     "1",
 ];
 
-fn file(alloc: Global, name: &str, text: &str) -> Result<File, AllocError> {
+// A shelf in memory whose reads give at most so many bytes. It tells no bytes.
+#[derive(Drop)]
+struct ShortShelf {
+    whole: MemoryShelf,
+    most: usize,
+    faults: u64,
+}
+
+impl Shelf for ShortShelf {
+    ghost use Rattle.std.specs.Prelude.{None, Some};
+
+    ghost told = { λ _ _. None };
+
+    ghost faults = { λ s _. s.faults };
+
+    ghost last = { Some 0xffff_ffff_ffff_ffff };
+
+    fn read(&mut self, name: &str, offset: u64, into: &mut [u8]) -> Result<usize, ReadFailed> {
+        let most = self.most.min(into.len());
+        match self.whole.read(name, offset, &mut into[..most]) {
+            Ok(n) => Ok(n),
+            Err(ReadFailed) => {
+                self.faults = self.faults.saturating_add(1);
+                Err(ReadFailed)
+            }
+        }
+    }
+}
+
+// What the files c, s and r hold: a case, its schedule and a report.
+type Texts<'a> = (&'a str, &'a str, &'a [u8]);
+
+// How the outside of a run falls short: the most bytes that a read gives and a write takes, and the
+// numbers of the reads that fail, of the writes that fail and of those that take nothing.
+#[derive(Clone, Copy)]
+struct Edges<'a> {
+    gives: u64,
+    takes: u64,
+    reads: &'a [u64],
+    writes: &'a [u64],
+    empty: &'a [u64],
+}
+
+const SHORT: Edges<'static> = Edges {
+    gives: 1,
+    takes: 1,
+    reads: &[],
+    writes: &[],
+    empty: &[],
+};
+
+const WHOLE: u64 = 65_536;
+
+fn file(alloc: Global, name: &str, bytes: &[u8]) -> Result<File, AllocError> {
     Ok(File {
         name: String::from_str(alloc, name)?,
-        bytes: Vec::from_slice(alloc, text.as_bytes())?,
+        bytes: Vec::from_slice(alloc, bytes)?,
     })
 }
 
@@ -192,20 +281,27 @@ fn words_in(alloc: Global, words: &[&str]) -> Result<Vec<String>, AllocError> {
     Ok(list)
 }
 
-// A run over two files, one byte a write; the numbers of the reads and writes that fail, and of the
-// writes that take 0.
+// The status of a run, and what its sink holds.
 fn run<R: Threads + Wait + Sync, G: Gate>(
     rt: &R,
     gate: &G,
     alloc: Global,
     words: &[&str],
-    case: &str,
-    schedule: &str,
-    failing: (&[u64], &[u64], &[u64]),
+    texts: Texts,
+    edges: Edges,
 ) -> Result<(u8, Vec<u8>), AllocError> {
-    let files = vec![in alloc; file(alloc, "c", case)?, file(alloc, "s", schedule)?]?;
-    let mut shelf = MemoryShelf::make(alloc, files.as_slice(), failing.0)?;
-    let mut out = MemorySink::make(alloc, 4096, 1, failing.1, failing.2)?;
+    let (case, schedule, report) = texts;
+    let files = vec![in alloc;
+        file(alloc, "c", case.as_bytes())?,
+        file(alloc, "s", schedule.as_bytes())?,
+        file(alloc, "r", report)?,
+    ]?;
+    let mut shelf = ShortShelf {
+        whole: MemoryShelf::make(alloc, files.as_slice(), edges.reads)?,
+        most: edges.gives as usize,
+        faults: 0,
+    };
+    let mut out = MemorySink::make(alloc, 4096, edges.takes.max(1), edges.writes, edges.empty)?;
     let words = words_in(alloc, words)?;
     let status = hull_run(rt, alloc, words.as_slice(), &mut shelf, &mut out, gate);
     Ok((status, Vec::from_slice(alloc, out.bytes())?))
@@ -243,15 +339,7 @@ fn runs_answer_as_worked(rt: HostRuntime) -> Result<(), Fail> {
             TWO_PROPOSALS,
         ),
         (
-            [
-                "bound",
-                "--case=c",
-                "--schedule=s",
-                "--proposals=2",
-                "--ahead=1",
-                "--radius=10",
-            ]
-            .as_slice(),
+            BOUND.as_slice(),
             TWO_UNITS,
             TWO_UNITS_SCHEDULE,
             0,
@@ -272,14 +360,7 @@ fn runs_answer_as_worked(rt: HostRuntime) -> Result<(), Fail> {
             TWO_UNITS_FIXED,
         ),
         (
-            [
-                "fixed",
-                "--case=c",
-                "--schedule=s",
-                "--proposals=2",
-                "--ahead=1",
-            ]
-            .as_slice(),
+            FIXED.as_slice(),
             TWO_UNITS,
             TWO_UNITS_SCHEDULE,
             0,
@@ -384,9 +465,8 @@ fn runs_answer_as_worked(rt: HostRuntime) -> Result<(), Fail> {
             &NoGate,
             rt.alloc(),
             words,
-            case,
-            schedule,
-            (&[], &[], &[]),
+            (case, schedule, b"".as_slice()),
+            SHORT,
         )?;
         assert_eq!(rt; bytes.as_slice(), text);
         assert_eq!(rt; status, want);
@@ -394,52 +474,218 @@ fn runs_answer_as_worked(rt: HostRuntime) -> Result<(), Fail> {
     Ok(())
 }
 
-// Each file is read to its end by two reads. A refused line doesn't change the status.
-#[test]
-fn failing_reads_and_writes_end_a_run(rt: HostRuntime) -> Result<(), Fail> {
-    for (words, failing, want, text) in [
+const TWO_UNITS_TEXTS: Texts<'static> = (TWO_UNITS, TWO_UNITS_SCHEDULE, TWO_UNITS_REPORT);
+
+const RIGHT: &[u8] = b"hull-audit 1\nproposals 1\nright\n";
+
+// The first read of a run that fails in another way than it should, where there is one. It should
+// end the run with the line of its own file, or with none where that can't be written, and a run
+// of which no read fails with its text.
+fn wrong_read<R: Threads + Wait + Sync>(
+    rt: &R,
+    alloc: Global,
+    words: &[&str],
+    reads: &[(u64, &[u8])],
+    edges: Edges,
+    text: &[u8],
+) -> Result<Option<u64>, AllocError> {
+    let refused = edges.writes.is_empty();
+    let mut number = 1u64;
+    for (count, line) in reads {
+        for _ in 0..*count {
+            let failing = [number];
+            let failing = Edges {
+                reads: &failing,
+                ..edges
+            };
+            let (status, bytes) = run(rt, &NoGate, alloc, words, TWO_UNITS_TEXTS, failing)?;
+            let due = if refused { *line } else { b"".as_slice() };
+            if status != 2 || bytes.as_slice() != due {
+                return Ok(Some(number));
+            }
+            number = number.saturating_add(1);
+        }
+    }
+    let failing = [number];
+    let failing = Edges {
+        reads: &failing,
+        writes: &[],
+        ..edges
+    };
+    let (status, bytes) = run(rt, &NoGate, alloc, words, TWO_UNITS_TEXTS, failing)?;
+    let right = status == 0 && bytes.as_slice() == text;
+    Ok(if right { None } else { Some(number) })
+}
+
+// The reads of a file that give so many bytes each, the last of them none, and the line of its fault.
+fn parts(gives: u64) -> [(u64, &'static [u8]); 3] {
+    [
+        (TWO_UNITS.len() as u64, b"fault 2 read case\n".as_slice()),
         (
-            PRICE.as_slice(),
-            ([1u64].as_slice(), [].as_slice(), [].as_slice()),
-            2,
-            b"fault 2 read case\n".as_slice(),
-        ),
-        (
-            PRICE.as_slice(),
-            ([4].as_slice(), [].as_slice(), [].as_slice()),
-            2,
+            TWO_UNITS_SCHEDULE.len() as u64,
             b"fault 2 read schedule\n".as_slice(),
         ),
         (
-            PRICE.as_slice(),
-            ([].as_slice(), [100u64].as_slice(), [].as_slice()),
-            6,
-            &TWO_UNITS_REPORT[..99],
+            TWO_UNITS_REPORT.len() as u64,
+            b"fault 2 read report\n".as_slice(),
+        ),
+    ]
+    .map(|(bytes, line)| (bytes.div_ceil(gives.max(1)).saturating_add(1), line))
+}
+
+// Each read of each command fails in turn.
+#[test]
+fn a_failing_read_ends_a_run(rt: HostRuntime) -> Result<(), Fail> {
+    for (words, files, text) in [
+        (CHECK.as_slice(), 2, TWO_UNITS_CHECK),
+        (PRICE.as_slice(), 2, TWO_UNITS_REPORT),
+        (BOUND.as_slice(), 2, TWO_PROPOSALS_BOUND),
+        (FIXED.as_slice(), 2, TWO_PROPOSALS_FIXED),
+        (TRY_ONE.as_slice(), 0, TRY_FIRST),
+        (AUDIT.as_slice(), 3, RIGHT),
+    ] {
+        for (gives, writes) in [
+            (WHOLE, [].as_slice()),
+            (WHOLE, [1u64].as_slice()),
+            (64, [].as_slice()),
+        ] {
+            let edges = Edges {
+                gives,
+                takes: WHOLE,
+                writes,
+                ..SHORT
+            };
+            let reads = &parts(gives)[..files];
+            let wrong = wrong_read(&rt, rt.alloc(), words, reads, edges, text)?;
+            assert_eq!(rt; wrong, None, "{words:?}");
+        }
+    }
+    Ok(())
+}
+
+// The first write of a run that fails in another way than it should, where there is one, as the
+// number of writes before it. It should leave the sink with what they wrote, a front of the text,
+// and end a run that isn't refused with 6. Of the many writes of one byte that a long text takes,
+// every ninth is tried.
+fn wrong_write<R: Threads + Wait + Sync>(
+    rt: &R,
+    alloc: Global,
+    words: &[&str],
+    texts: Texts,
+    way: (u64, bool),
+    want: (u8, &[u8]),
+) -> Result<Option<usize>, AllocError> {
+    let (takes, fails) = way;
+    let (status_due, text) = want;
+    let cut = if status_due == 0 { 6 } else { status_due };
+    let mut held = 0usize;
+    for before in 0..=text.len() {
+        if takes == 1 && text.len() > 100 && before % 9 != 2 && before != text.len() {
+            continue;
+        }
+        let number = [(before as u64).saturating_add(1)];
+        let edges = Edges {
+            gives: WHOLE,
+            takes,
+            reads: &[],
+            writes: if fails { &number } else { &[] },
+            empty: if fails { &[] } else { &number },
+        };
+        let (status, bytes) = run(rt, &NoGate, alloc, words, texts, edges)?;
+        let count = bytes.len();
+        let goes_on = if before == 0 {
+            count == 0
+        } else {
+            count > held
+        };
+        let due = if count == text.len() { status_due } else { cut };
+        if !goes_on
+            || takes == 1 && count != before
+            || !text.starts_with(bytes.as_slice())
+            || status != due
+        {
+            return Ok(Some(before));
+        }
+        held = count;
+        if held == text.len() {
+            return Ok(None);
+        }
+    }
+    Ok(Some(held))
+}
+
+// The most bytes of a write, and whether the write fails or takes nothing.
+const ALL_WAYS: [(u64, bool); 4] = [(1, true), (1, false), (WHOLE, true), (WHOLE, false)];
+
+const LONG_WAYS: [(u64, bool); 2] = [(1, true), (WHOLE, false)];
+
+const SLOW_WAYS: [(u64, bool); 1] = [(WHOLE, true)];
+
+// Each write of each command fails in turn, or takes nothing.
+#[test]
+fn a_failing_write_ends_a_run(rt: HostRuntime) -> Result<(), Fail> {
+    for (words, ways, text) in [
+        (CHECK.as_slice(), ALL_WAYS.as_slice(), TWO_UNITS_CHECK),
+        (PRICE.as_slice(), LONG_WAYS.as_slice(), TWO_UNITS_REPORT),
+        (BOUND.as_slice(), LONG_WAYS.as_slice(), TWO_PROPOSALS_BOUND),
+        (FIXED.as_slice(), LONG_WAYS.as_slice(), TWO_PROPOSALS_FIXED),
+        (TRY_ONE.as_slice(), SLOW_WAYS.as_slice(), TRY_FIRST),
+        (AUDIT.as_slice(), ALL_WAYS.as_slice(), RIGHT),
+    ] {
+        for way in ways {
+            let wrong = wrong_write(&rt, rt.alloc(), words, TWO_UNITS_TEXTS, *way, (0, text))?;
+            assert_eq!(rt; wrong, None, "{words:?}");
+        }
+    }
+    Ok(())
+}
+
+// Each write of the line of a refusal fails in turn, or takes nothing, and the status stays.
+#[test]
+fn a_failing_write_leaves_a_refusal(rt: HostRuntime) -> Result<(), Fail> {
+    let sound = TWO_UNITS_TEXTS;
+    let cut = ("{\"time_periods\":1", "{}", b"".as_slice());
+    let cut_line = b"fault 3 case 10 at 17\n".as_slice();
+    let no_plan = (SMALLEST, "[1,]", b"".as_slice());
+    let other = (TWO_UNITS, TWO_UNITS_SCHEDULE, USUAL_REPORT);
+    let no_schedule = ["check", "--case", "c", "--schedule", "t"];
+    let too_much = ["try", "7", "--proposals", "6765"];
+    for (words, texts, status, text) in [
+        ([].as_slice(), sound, 1, b"fault 1 words 1 0\n".as_slice()),
+        (
+            no_schedule.as_slice(),
+            sound,
+            2,
+            b"fault 2 read schedule\n".as_slice(),
+        ),
+        (CHECK.as_slice(), cut, 3, cut_line),
+        (PRICE.as_slice(), cut, 3, cut_line),
+        (BOUND.as_slice(), cut, 3, cut_line),
+        (FIXED.as_slice(), cut, 3, cut_line),
+        (AUDIT.as_slice(), cut, 3, cut_line),
+        (
+            CHECK.as_slice(),
+            no_plan,
+            4,
+            b"fault 4 schedule 10 at 3\n".as_slice(),
         ),
         (
-            PRICE.as_slice(),
-            ([].as_slice(), [].as_slice(), [3u64].as_slice()),
-            6,
-            b"hu".as_slice(),
+            too_much.as_slice(),
+            sound,
+            5,
+            b"fault 5 work 6765 154 48\n".as_slice(),
         ),
         (
-            ["check", "--case=a"].as_slice(),
-            ([].as_slice(), [1].as_slice(), [].as_slice()),
-            1,
-            b"".as_slice(),
+            AUDIT.as_slice(),
+            other,
+            8,
+            b"fault 8 report 61 at 6\n".as_slice(),
         ),
     ] {
-        let (status, bytes) = run(
-            &rt,
-            &NoGate,
-            rt.alloc(),
-            words,
-            TWO_UNITS,
-            TWO_UNITS_SCHEDULE,
-            failing,
-        )?;
-        assert_eq!(rt; bytes.as_slice(), text);
-        assert_eq!(rt; status, want);
+        for way in ALL_WAYS {
+            let wrong = wrong_write(&rt, rt.alloc(), words, texts, way, (status, text))?;
+            assert_eq!(rt; wrong, None, "{words:?}");
+        }
     }
     Ok(())
 }
@@ -476,9 +722,8 @@ fn runs_answer_as_other_programs_do(rt: HostRuntime) -> Result<(), Fail> {
             &NoGate,
             rt.alloc(),
             words,
-            case,
-            schedule,
-            (&[], &[], &[]),
+            (case, schedule, b"".as_slice()),
+            SHORT,
         )?;
         assert_eq!(rt; bytes.as_slice(), text);
         assert_eq!(rt; status, 0);
@@ -553,9 +798,8 @@ fn two_workers_answer_at_once(rt: HostRuntime) -> Result<(), Fail> {
         &gate,
         rt.alloc(),
         &words,
-        TWO_UNITS,
-        TWO_UNITS_SCHEDULE,
-        (&[], &[], &[]),
+        (TWO_UNITS, TWO_UNITS_SCHEDULE, b"".as_slice()),
+        SHORT,
     )?;
     assert_eq!(rt; gate.late.load(Ordering::SeqCst), 0);
     assert_eq!(rt; bytes.as_slice(), TWO_UNITS_REPORT);
@@ -579,9 +823,8 @@ fn four_workers_answer_at_once(rt: HostRuntime) -> Result<(), Fail> {
         &gate,
         rt.alloc(),
         &words,
-        FOUR_IDLE,
-        FOUR_IDLE_SCHEDULE,
-        (&[], &[], &[]),
+        (FOUR_IDLE, FOUR_IDLE_SCHEDULE, b"".as_slice()),
+        SHORT,
     )?;
     assert_eq!(rt; gate.late.load(Ordering::SeqCst), 0);
     assert_eq!(rt; status, 0);
@@ -590,71 +833,40 @@ fn four_workers_answer_at_once(rt: HostRuntime) -> Result<(), Fail> {
     Ok(())
 }
 
-const AUDIT: [&str; 7] = [
-    "audit",
-    "--case=c",
-    "--schedule=s",
-    "--report",
-    "r",
-    "--workers",
-    "2",
-];
-
-// The audit of a report of the two units.
-fn audited<R: Threads + Wait + Sync>(
-    rt: &R,
-    alloc: Global,
-    name: &str,
-    report: &[u8],
-) -> Result<(u8, Vec<u8>), AllocError> {
-    let told = File {
-        name: String::from_str(alloc, name)?,
-        bytes: Vec::from_slice(alloc, report)?,
-    };
-    let files = vec![in alloc;
-        file(alloc, "c", TWO_UNITS)?,
-        file(alloc, "s", TWO_UNITS_SCHEDULE)?,
-        told,
-    ]?;
-    let mut shelf = MemoryShelf::make(alloc, files.as_slice(), &[])?;
-    let mut out = MemorySink::make(alloc, 4096, 1, &[], &[])?;
-    let words = words_in(alloc, &AUDIT)?;
-    let status = hull_run(rt, alloc, words.as_slice(), &mut shelf, &mut out, &NoGate);
-    Ok((status, Vec::from_slice(alloc, out.bytes())?))
-}
-
 // Two right reports, that of another case, one without its last line feed, and none.
 #[test]
 fn audits_answer_as_worked(rt: HostRuntime) -> Result<(), Fail> {
     let unended = TWO_UNITS_REPORT.len() - 1;
-    for (name, report, want, text) in [
+    let missing = ["audit", "--case=c", "--schedule=s", "--report=t"];
+    for (words, report, want, text) in [
+        (AUDIT.as_slice(), TWO_UNITS_REPORT, 0, RIGHT),
         (
-            "r",
-            TWO_UNITS_REPORT,
-            0,
-            b"hull-audit 1\nproposals 1\nright\n".as_slice(),
-        ),
-        (
-            "r",
+            AUDIT.as_slice(),
             TWO_PROPOSALS,
             0,
             b"hull-audit 1\nproposals 2\nright\n".as_slice(),
         ),
-        ("r", USUAL_REPORT, 8, b"fault 8 report 61 at 6\n".as_slice()),
         (
-            "r",
+            AUDIT.as_slice(),
+            USUAL_REPORT,
+            8,
+            b"fault 8 report 61 at 6\n".as_slice(),
+        ),
+        (
+            AUDIT.as_slice(),
             &TWO_UNITS_REPORT[..unended],
             8,
             b"fault 8 report 60 at 25\n".as_slice(),
         ),
         (
-            "t",
+            missing.as_slice(),
             TWO_UNITS_REPORT,
             2,
             b"fault 2 read report\n".as_slice(),
         ),
     ] {
-        let (status, bytes) = audited(&rt, rt.alloc(), name, report)?;
+        let texts = (TWO_UNITS, TWO_UNITS_SCHEDULE, report);
+        let (status, bytes) = run(&rt, &NoGate, rt.alloc(), words, texts, SHORT)?;
         assert_eq!(rt; bytes.as_slice(), text);
         assert_eq!(rt; status, want);
     }
