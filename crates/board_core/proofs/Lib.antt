@@ -12,6 +12,8 @@ pub mod FlatLists
 pub mod Fronts
 -- a caller's first halt
 pub mod Halts
+-- what a board holds: its setup, its events and its lists
+pub mod Inner
 -- the answers of a board's store
 pub mod Kept
 -- numbers of tasks, lists over ranges, and the first of two that is there

@@ -1,4 +1,4 @@
-use Rattle.std.proofs.Common.{rules, ◌≡◌, ℕ, ◌<◌, ℤ, ◌-ℤ◌, length, get_or, sym, ap, ◌∙◌, arith, FitsSigned}
+use Rattle.std.proofs.Common.{rules, ◌≡◌, ℕ, ◌<◌, ℤ, ◌-ℤ◌, length, get_or, ap, ◌∙◌, arith, FitsSigned}
 use Rattle.std.proofs.lemmas.Int.{to_z-of_z}
 use Rattle.std.specs.Int.{w128}
 use Rattle.uc_model.specs.Data.{PriceLists}
@@ -20,14 +20,13 @@ dual_value-value-requires-clause-horizon c =
     let place : c.closed-place.result < length l.proposals = omega (arith, more, n, m, e) in
     ap (λ (π : PriceLists). length π.energy) (c.prices.ensures d) ∙ c.requires.ledger.horizon c.closed-place.result d place
 
-pub returns-clause-fronts : goal.returns-clause-fronts
-returns-clause-fronts c =
+pub returns : goal.returns
+returns c =
     let b = setup_of c.args.terms.now in
     let l = c.args.ledger.now in
     let l2 = c.close.new.self in
     let d = blank 0 in
     let v = c.dual_value-value.result in
-    let k : l.closed ≡ c.closed-place.result = sym c.closed-place.ensures in
     let f : FitsSigned w128 v = search rules in
     let g : FitsSigned w128 c.earned.result = search rules in
     let written = simp to_z-of_z at c.close.ensures.proposals in
@@ -36,40 +35,10 @@ returns-clause-fronts c =
     let is : v ≡ worth_of_demand b.market (get_or l.proposals l.closed d).prices -ℤ int_at l.earned l.closed =
     value ∙ ap (λ (π : PriceLists). worth_of_demand b.market π -ℤ c.earned.result) (c.prices.ensures d ∙ ap (λ (i : ℕ). (get_or l.proposals i d).prices) c.closed-place.ensures)
     ∙ ap (λ (z : ℤ). worth_of_demand b.market (get_or l.proposals l.closed d).prices -ℤ z) (c.earned.ensures ∙ ap (int_at l.earned) c.closed-place.ensures) in
-    closed_fronts b l l2 c.requires.ledger v d c.requires.more W c.close.ensures.closed c.close.ensures.opened is
-
-pub returns-clause-sums : goal.returns-clause-sums
-returns-clause-sums c =
-    let b = setup_of c.args.terms.now in
-    let l = c.args.ledger.now in
-    let l2 = c.close.new.self in
-    let d = blank 0 in
-    let v = c.dual_value-value.result in
-    let k : l.closed ≡ c.closed-place.result = sym c.closed-place.ensures in
-    let f : FitsSigned w128 v = search rules in
-    let g : FitsSigned w128 c.earned.result = search rules in
-    let written = simp to_z-of_z at c.close.ensures.proposals in
-    let W : IsWritten l l2 l.closed (with_value (get_or l.proposals l.closed d) v) = record { proposals = written d; earned = c.close.ensures.earned } in
-    let value = simp to_z-of_z at c.dual_value-value.ensures in
-    let is : v ≡ worth_of_demand b.market (get_or l.proposals l.closed d).prices -ℤ int_at l.earned l.closed =
-    value ∙ ap (λ (π : PriceLists). worth_of_demand b.market π -ℤ c.earned.result) (c.prices.ensures d ∙ ap (λ (i : ℕ). (get_or l.proposals i d).prices) c.closed-place.ensures)
-    ∙ ap (λ (z : ℤ). worth_of_demand b.market (get_or l.proposals l.closed d).prices -ℤ z) (c.earned.ensures ∙ ap (int_at l.earned) c.closed-place.ensures) in
-    closed_sums b l l2 c.requires.ledger v d c.requires.more W c.close.ensures.closed c.close.ensures.opened is
-
-pub returns-clause-ledger : goal.returns-clause-ledger
-returns-clause-ledger c =
-    let b = setup_of c.args.terms.now in
-    let l = c.args.ledger.now in
-    let l2 = c.close.new.self in
-    let d = blank 0 in
-    let v = c.dual_value-value.result in
-    let k : l.closed ≡ c.closed-place.result = sym c.closed-place.ensures in
-    let f : FitsSigned w128 v = search rules in
-    let g : FitsSigned w128 c.earned.result = search rules in
-    let written = simp to_z-of_z at c.close.ensures.proposals in
-    let W : IsWritten l l2 l.closed (with_value (get_or l.proposals l.closed d) v) = record { proposals = written d; earned = c.close.ensures.earned } in
-    let value = simp to_z-of_z at c.dual_value-value.ensures in
-    let is : v ≡ worth_of_demand b.market (get_or l.proposals l.closed d).prices -ℤ int_at l.earned l.closed =
-    value ∙ ap (λ (π : PriceLists). worth_of_demand b.market π -ℤ c.earned.result) (c.prices.ensures d ∙ ap (λ (i : ℕ). (get_or l.proposals i d).prices) c.closed-place.ensures)
-    ∙ ap (λ (z : ℤ). worth_of_demand b.market (get_or l.proposals l.closed d).prices -ℤ z) (c.earned.ensures ∙ ap (int_at l.earned) c.closed-place.ensures) in
-    closed_ledger b l l2 c.requires.ledger v d c.requires.more W c.close.ensures.closed c.close.ensures.opened is
+    record {
+      fronts = closed_fronts b l l2 c.requires.ledger v d c.requires.more W c.close.ensures.closed c.close.ensures.opened is;
+      sums = closed_sums b l l2 c.requires.ledger v d c.requires.more W c.close.ensures.closed c.close.ensures.opened is;
+      ledger = closed_ledger b l l2 c.requires.ledger v d c.requires.more W c.close.ensures.closed c.close.ensures.opened is;
+      closed = c.close.ensures.closed;
+      opened = c.close.ensures.opened;
+    }

@@ -23,8 +23,8 @@ propose-requires-clause-best c =
     subst (λ (ps : List Proposal). IsFirstUpTo (values_of ps) (length c.rows.result.now) c.best.result) (sym c.rows.ensures)
     (subst (λ (n : ℕ). IsFirstUpTo (values_of (take l.closed l.proposals)) n c.best.result) (sym rows) c.best.ensures)
 
-pub returns-clause-fronts : goal.returns-clause-fronts
-returns-clause-fronts c =
+pub returns : goal.returns
+returns c =
     let b = setup_of c.args.terms.now in
     let l = c.args.ledger.now in
     let l2 = c.open.new.self in
@@ -39,35 +39,13 @@ returns-clause-fronts c =
     let settled = sym c.propose.ensures.settled ∙ c.if-not-propose.false in
     let free = ap (λ (xs : List Proposal). not (is_last_settled b.market b.cost xs)) (sym c.rows.ensures) ∙ settled in
     let next = c.propose.ensures.prices c.if-not-propose.false ∙ ap (next_prices b.market b.cost) c.rows.ensures in
-    opened_fronts b l l2 c.requires.ledger π d say.1 before W c.open.ensures.closed c.open.ensures.opened c.propose.ensures.horizon
-    ∙ with_one b (fronts_of l) π (opens_it b l c.requires.ledger due free) next
-
-pub returns-clause-sums : goal.returns-clause-sums
-returns-clause-sums c =
-    let b = setup_of c.args.terms.now in
-    let l = c.args.ledger.now in
-    let l2 = c.open.new.self in
-    let d = blank 0 in
-    let π = prices_of c.propose.new.into in
-    let due : is_due b l.closed l.opened ≡ true = sym c.is_due.ensures ∙ c.if-not-is_due.false in
-    let say = due_says b l.closed l.opened due in
-    let more = say.0 in
-    let some = c.requires.setup.some_ahead in
-    let before : l.closed ≤ l.opened = omega (arith, more, some) in
-    let W : IsWritten l l2 l.opened (with_prices (get_or l.proposals l.opened d) π) = record { proposals = c.open.ensures.proposals d; earned = c.open.ensures.earned } in
-    opened_sums b l l2 c.requires.ledger π d say.1 before W c.open.ensures.closed c.open.ensures.opened c.propose.ensures.horizon
-
-pub returns-clause-ledger : goal.returns-clause-ledger
-returns-clause-ledger c =
-    let b = setup_of c.args.terms.now in
-    let l = c.args.ledger.now in
-    let l2 = c.open.new.self in
-    let d = blank 0 in
-    let π = prices_of c.propose.new.into in
-    let due : is_due b l.closed l.opened ≡ true = sym c.is_due.ensures ∙ c.if-not-is_due.false in
-    let say = due_says b l.closed l.opened due in
-    let more = say.0 in
-    let some = c.requires.setup.some_ahead in
-    let before : l.closed ≤ l.opened = omega (arith, more, some) in
-    let W : IsWritten l l2 l.opened (with_prices (get_or l.proposals l.opened d) π) = record { proposals = c.open.ensures.proposals d; earned = c.open.ensures.earned } in
-    opened_ledger b l l2 c.requires.ledger π d say.1 before W c.open.ensures.closed c.open.ensures.opened c.propose.ensures.horizon
+    let opened = c.open.ensures.opened in
+    record {
+      fronts = opened_fronts b l l2 c.requires.ledger π d say.1 before W c.open.ensures.closed opened c.propose.ensures.horizon
+          ∙ with_one b (fronts_of l) π (opens_it b l c.requires.ledger due free) next;
+      sums = opened_sums b l l2 c.requires.ledger π d say.1 before W c.open.ensures.closed opened c.propose.ensures.horizon;
+      ledger = opened_ledger b l l2 c.requires.ledger π d say.1 before W c.open.ensures.closed opened c.propose.ensures.horizon;
+      closed = c.open.ensures.closed;
+      opened = omega (arith, opened);
+      horizon = c.propose.ensures.horizon;
+    }

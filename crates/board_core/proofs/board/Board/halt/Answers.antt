@@ -10,52 +10,63 @@ use Rattle.board_history.specs.declared.entries.Reply.TheVariants as replies
 use Rattle.uc_model.specs.Data.{unit_count}
 use Rattle.board_core.specs.Events.{events_of}
 use Rattle.board_core.specs.Parts.{Lists, IsBoard}
-use Rattle.board_core.specs.Stored.{answers_kept}
-use Rattle.board_core.specs.Setups.{setup_of}
 use Rattle.board_core.proofs.Entries.{content, events_more, entries_more}
 use Rattle.board_core.proofs.Halts.{stopped, not_yet, one_less, halted_lists}
 use Rattle.board_core.proofs.board.Board.halt.Goals as goal
+use Rattle.board_history.specs.Board.{Setup}
+use Rattle.board_core.proofs.Inner.{setup_in, events_in, lists_in}
+use Rattle.board_core.proofs.board.Board.halt.Goals.{After-index}
+
+module _ (c : After-index) where
+  abbrev b : Setup
+  b = setup_in c.self.inside
+
+  abbrev h : List (Event Answer)
+  h = events_in c.self.inside
+
+  abbrev x : Lists
+  x = lists_in c.self.inside
+
+  caller : c.args.caller < b.callers
+  caller = subst (λ (v : Content). c.args.caller < v.setup.callers) (sym c.self.view_is) c.requires
+
+  place : c.args.caller < length x.halted
+  place = let i = caller in let count = c.self.invariant.0.halts.count in omega (arith, i, count)
+
+  was : get_or x.halted c.args.caller false ≡ c.index.result.now
+  was = get_or_default x.halted c.args.caller false c.index.result.now place ∙ sym c.index.ensures
+
+  abbrev entry : Entry
+  entry = record { caller = c.args.caller; call = calls.Halt; proposal = 0; unit = 0; reply = replies.Stopped }
+
+  events_are : (entries : List Entry) → entries ≡ c.self.inside.history.items ++ entry ∷ [] → events_of (unit_count b.market) x.kept entries ≡ h ++ Stopped c.args.caller ∷ []
+  events_are entries longer = events_more (unit_count b.market) x.kept c.self.inside.history.items entries entry longer
+
+  followed : (t : Bool) → list_any (is_halt_of c.args.caller) h ≡ t → content b (cond t h (h ++ Stopped c.args.caller ∷ [])) ≡ after_halt c.args.self.now c.args.caller
+  followed t e = sym (ap (λ (z : Bool). content b (cond z h (h ++ Stopped c.args.caller ∷ []))) e) ∙ ap (λ (v : Content). after_halt v c.args.caller) c.self.view_is
 
 pub returns-then-index : goal.returns-then-index
 returns-then-index c =
-    let s = c.self.inside in
-    let b = setup_of s.terms in
-    let h = events_of (unit_count b.market) (answers_kept s.store) s.history.items in
-    let x : Lists = record { takers = s.takers.items; marks = s.marks.items; kept = answers_kept s.store; counts = s.counts.items; halted = s.halted.items; any_halt = s.any_halt } in
-    let I : IsBoard b h x s.ledger = c.self.invariant.0 in
-    let K = c.self.invariant.1 in
-    let k = c.args.caller in
-    let caller : k < b.callers = subst (λ (v : Content). k < v.setup.callers) (sym c.self.view_is) c.requires in
-    let count = I.halts.count in
-    let place : k < length s.halted.items = omega (arith, caller, count) in
-    let was : get_or s.halted.items k false ≡ true = get_or_default s.halted.items k false c.index.result.now place ∙ sym c.index.ensures ∙ c.if-index.true in
-    let already : list_any (is_halt_of k) h ≡ true = sym (I.halts.each k caller) ∙ was in
-    sym c.self.view_is ∙ sym (ap (λ (t : Bool). content b (cond t h (h ++ Stopped k ∷ []))) already) ∙ ap (λ (v : Content). after_halt v k) c.self.view_is
+    let d = (goal.at.returns-then-index c).After-index in
+    sym c.self.view_is ∙ followed d true (sym (c.self.invariant.0.halts.each c.args.caller (caller d)) ∙ was d ∙ c.if-index.true)
 
 pub invariant_of-self : goal.invariant_of-self
 invariant_of-self c =
+    let d = (goal.at.invariant_of-self c).After-index in
     let s = c.self.inside in
-    let b = setup_of s.terms in
-    let h = events_of (unit_count b.market) (answers_kept s.store) s.history.items in
-    let x : Lists = record { takers = s.takers.items; marks = s.marks.items; kept = answers_kept s.store; counts = s.counts.items; halted = s.halted.items; any_halt = s.any_halt } in
-    let I : IsBoard b h x s.ledger = c.self.invariant.0 in
-    let K = c.self.invariant.1 in
     let k = c.args.caller in
-    let caller : k < b.callers = subst (λ (v : Content). k < v.setup.callers) (sym c.self.view_is) c.requires in
-    let count = I.halts.count in
-    let place : k < length s.halted.items = omega (arith, caller, count) in
-    let first : get_or s.halted.items k false ≡ false = get_or_default s.halted.items k false c.index.result.now place ∙ sym c.index.ensures ∙ c.if-index.false in
-    let entry : Entry = record { caller = k; call = calls.Halt; proposal = 0; unit = 0; reply = replies.Stopped } in
-    let h2 = events_of (unit_count b.market) (answers_kept s.store) c.push_reserved.new.self.items in
-    let events : h2 ≡ h ++ Stopped k ∷ [] = events_more (unit_count b.market) (answers_kept s.store) s.history.items c.push_reserved.new.self.items entry c.push_reserved.ensures.items in
-    let less = one_less s.halted.items k place first in
+    let K = c.self.invariant.1 in
+    let first = was d ∙ c.if-index.false in
+    let history = c.push_reserved.ensures.items in
+    let events = events_are d c.push_reserved.new.self.items history in
+    let less = one_less s.halted.items k (place d) first in
     let room = K.room in
-    let long = ap (λ (xs : List Entry). length xs) c.push_reserved.ensures.items in (
-      subst (λ (z : List (Event Answer)). IsBoard b z (halted_lists x k) s.ledger) (sym events) (stopped b h x s.ledger I k caller first c.board_laws.ensures),
+    let long = ap (λ (xs : List Entry). length xs) history in (
+      subst (λ (z : List (Event Answer)). IsBoard (b d) z (halted_lists (x d) k) s.ledger) (sym events) (stopped (b d) (h d) (x d) s.ledger c.self.invariant.0 k (caller d) first c.board_laws.ensures),
       record {
-        room = omega (arith, room, less, long, length-append s.history.items (entry ∷ []), c.push_reserved.ensures.capacity);
+        room = omega (arith, room, less, long, length-append s.history.items (entry d ∷ []), c.push_reserved.ensures.capacity);
         takers_room = K.takers_room;
-        entries_are = entries_more h h2 (Stopped k) s.history.items c.push_reserved.new.self.items events c.push_reserved.ensures.items K.entries_are;
+        entries_are = entries_more (h d) (events_of (unit_count (b d).market) (x d).kept c.push_reserved.new.self.items) (Stopped k) s.history.items c.push_reserved.new.self.items events history K.entries_are;
         store = K.store;
         next = K.next;
       },
@@ -64,19 +75,5 @@ invariant_of-self c =
 
 pub returns : goal.returns
 returns c =
-    let s = c.self.inside in
-    let b = setup_of s.terms in
-    let h = events_of (unit_count b.market) (answers_kept s.store) s.history.items in
-    let x : Lists = record { takers = s.takers.items; marks = s.marks.items; kept = answers_kept s.store; counts = s.counts.items; halted = s.halted.items; any_halt = s.any_halt } in
-    let I : IsBoard b h x s.ledger = c.self.invariant.0 in
-    let K = c.self.invariant.1 in
-    let k = c.args.caller in
-    let caller : k < b.callers = subst (λ (v : Content). k < v.setup.callers) (sym c.self.view_is) c.requires in
-    let count = I.halts.count in
-    let place : k < length s.halted.items = omega (arith, caller, count) in
-    let first : get_or s.halted.items k false ≡ false = get_or_default s.halted.items k false c.index.result.now place ∙ sym c.index.ensures ∙ c.if-index.false in
-    let entry : Entry = record { caller = k; call = calls.Halt; proposal = 0; unit = 0; reply = replies.Stopped } in
-    let h2 = events_of (unit_count b.market) (answers_kept s.store) c.push_reserved.new.self.items in
-    let events : h2 ≡ h ++ Stopped k ∷ [] = events_more (unit_count b.market) (answers_kept s.store) s.history.items c.push_reserved.new.self.items entry c.push_reserved.ensures.items in
-    let free = not_yet b h x s.ledger I k caller first in
-    ap (content b) events ∙ sym (ap (λ (t : Bool). content b (cond t h (h ++ Stopped k ∷ []))) free) ∙ ap (λ (v : Content). after_halt v k) c.self.view_is
+    let d = (goal.at.returns c).After-index in
+    ap (content (b d)) (events_are d c.push_reserved.new.self.items c.push_reserved.ensures.items) ∙ followed d false (not_yet (b d) (h d) (x d) c.self.inside.ledger c.self.invariant.0 c.args.caller (caller d) (was d ∙ c.if-index.false))

@@ -19,7 +19,6 @@ use Rattle.board_core.specs.Parts.{Lists, unset, sums_of, fronts_of, AreTallies,
 use Rattle.board_core.specs.Refusals.{refusal_of, reply_of}
 use Rattle.board_core.specs.Replies.{posted_of, closed_of as closed_if}
 use Rattle.board_core.specs.Rounds.{Sums, Fronts, is_full, IsRound}
-use Rattle.board_core.specs.Setups.{setup_of}
 use Rattle.board_core.specs.Stored.{answer_of, answers_kept}
 use Rattle.board_core.proofs.Entries.{content, entries_more}
 use Rattle.board_core.proofs.FlatLists.{is_task}
@@ -33,589 +32,291 @@ use Rattle.board_core.proofs.PostSums.{IsCounted, place_, supply_was, reserve_wa
 use Rattle.board_core.proofs.Refused.{refusal_is, refused_says}
 use Rattle.board_core.proofs.Takes.{taken_here, supply_small, reserve_small, units_few, entry_is}
 use Rattle.board_core.proofs.board.Board.post.Goals as goal
+use Rattle.board_core.proofs.Inner.{setup_in, events_in, lists_in}
+use Rattle.board_core.proofs.board.Board.post.Goals.{In-Some, In_default, After-place-at, After-put, After-add, After-deref-3}
+use Rattle.board_history.specs.Rounds.{Posts, PostReply}
+use Rattle.board_history.specs.Board.{Setup, IsLegalHistory}
+use Rattle.board_history.specs.Tasks.{Difference}
+use Rattle.uc_model.specs.Data.{AnyUnit, PriceLists}
+use Rattle.uc_model.specs.PriceRule.{Proposal}
+use Rattle.uc_model.specs.Sums.{int_at}
+use Rattle.board_core.specs.Ledgers.{LedgerValue}
+use Rattle.board_core.specs.Parts.{IsLedger}
+use Rattle.board_core.proofs.Takes.{IsTakenHere}
+use Rattle.std.proofs.Common.{◌≤◌}
+
+place_is : (c : After-place-at) → c.place-at.result ≡ place (unit_count (setup_in c.self.inside).market) c.args.task.now.proposal c.args.task.now.unit
+place_is c = c.place-at.ensures ∙ ap (λ (m : ℕ). place m c.args.task.now.proposal c.args.task.now.unit) c.units-units.ensures
+
+kept_is : (c : After-put) (i : ℕ) → c.place-at.result ≡ i → answers_kept c.put.new.self ≡ set (answers_kept c.self.inside.store) i (answer_of c.args.answer.now)
+kept_is c i at_ = put_kept c.self.inside.store c.put.new.self c.place-at.result (kept_of c.args.answer.now) c.put.ensures.answers ∙ ap (λ (j : ℕ). set (answers_kept c.self.inside.store) j (answer_of c.args.answer.now)) at_
+
+counted : (c : After-add) → IsCounted c.self.inside.ledger c.add.new.self (c.args.task.now.proposal - 1) (task_unit c.args.task.now) (answer_of c.args.answer.now) (blank 0)
+counted c = record { proposals = c.add.ensures.proposals (blank 0); earned = c.add.ensures.earned; closed = c.add.ensures.closed; opened = c.add.ensures.opened }
+
+counts_are : (c : After-deref-3) → c.deref-3.result.now ≡ set c.self.inside.counts.items (c.args.task.now.proposal - 1) (get_or c.self.inside.counts.items (c.args.task.now.proposal - 1) 0 + 1)
+counts_are c = c.deref-3.ensures.value ∙ c.count_up.ensures.counts
+
+-- a post that is refused
+module _ (c : In-Some) where
+  abbrev refused : PostReply Difference
+  refused = post_answer (content (setup_in c.self.inside) (events_in c.self.inside)) c.args.caller c.args.task.now.proposal c.args.task.now.unit (prices_of c.args.task.now.prices) (task_unit c.args.task.now) (answer_of c.args.answer.now)
+
+  says : (posted_of refused ≡ c.in-Some.refused) × ((h : List (Event Answer)) (e : Event Answer) → with_answer h e refused ≡ h)
+  says =
+      let s = c.self.inside in
+      let asked = rw (c.deref.ensures.value, c.deref-2.ensures.value) at c.refusal-refused.ensures.refused in
+      refused_says refused c.in-Some.refused
+      (refusal_is (setup_in s) (events_in s) (lists_in s) s.ledger c.self.invariant.0 c.args.caller c.args.task.now.proposal c.args.task.now.unit (prices_of c.args.task.now.prices) (task_unit c.args.task.now) (answer_of c.args.answer.now)
+      ∙ sym asked ∙ c.in-Some.is)
+
+-- a post that is taken
+module _ (c : In_default) where
+  abbrev b : Setup
+  b = setup_in c.self.inside
+
+  abbrev units : ℕ
+  units = unit_count b.market
+
+  abbrev h : List (Event Answer)
+  h = events_in c.self.inside
+
+  abbrev x : Lists
+  x = lists_in c.self.inside
+
+  abbrev l : LedgerValue
+  l = c.self.inside.ledger
+
+  I : IsBoard b h x l
+  I = c.self.invariant.0
+
+  abbrev k : ℕ
+  k = c.args.caller
+
+  abbrev n : ℕ
+  n = c.args.task.now.proposal
+
+  abbrev u : ℕ
+  u = c.args.task.now.unit
+
+  abbrev ρ : PriceLists
+  ρ = prices_of c.args.task.now.prices
+
+  abbrev v : AnyUnit
+  v = task_unit c.args.task.now
+
+  abbrev a : Answer
+  a = answer_of c.args.answer.now
+
+  ok : IsTakenHere b h l k n u ρ v a
+  ok =
+      let asked : c.refusal-refused.result ≡ refusal_of b l x.marks x.takers k n u ρ v = rw (c.deref.ensures.value, c.deref-2.ensures.value) at c.refusal-refused.ensures.refused in
+      taken_here c.board_laws.ensures.taken_tells b h x l I k n u ρ v a (is_task c.args.task.now) c.requires.fit c.requires.earned (sym asked ∙ c.in_default.is)
+
+  abbrev i : ℕ
+  i = place units n u
+
+  mark_in : i < length x.marks
+  mark_in = mark_inside b h x l I k n u a ok.held
+
+  kept_in : i < length x.kept
+  kept_in = kept_inside b h x l I k n u a ok.held
+
+  place_inside : n - 1 < length l.proposals
+  place_inside = place_ b (c.board_laws.ensures.of b) h x l I k n u a ok.held v ok.is
+
+  supply : (d : Proposal) → All IsTotal (get_or l.proposals (n - 1) d).supply
+  supply d = subst (λ (xs : List ℤ). All IsTotal xs) (sym (supply_was b (c.board_laws.ensures.of b) h x l I k n u a ok.held v ok.is d)) (supply_small c.board_laws.ensures.totals_are_within b h I.setup I.legal n)
+
+  reserve : (d : Proposal) → All IsTotal (get_or l.proposals (n - 1) d).reserve
+  reserve d = subst (λ (xs : List ℤ). All IsTotal xs) (sym (reserve_was b (c.board_laws.ensures.of b) h x l I k n u a ok.held v ok.is d)) (reserve_small c.board_laws.ensures.totals_are_within b h I.setup I.legal n)
+
+  earned : IsSum (int_at l.earned (n - 1))
+  earned = subst IsSum (sym (earned_was b (c.board_laws.ensures.of b) h x l I k n u a ok.held v ok.is)) (c.board_laws.ensures.totals_are_within b h I.setup.market I.legal n).earned
+
+  caller : k < b.callers
+  caller = subst (λ (z : Content). k < z.setup.callers) (sym c.self.view_is) c.requires.caller
+
+  abbrev event : Event Answer
+  event = post_event (rules_of b) (posts h) k n u a
+
+  abbrev h2 : List (Event Answer)
+  h2 = h ++ event ∷ []
+
+  abbrev q : Posts Answer
+  q = with_post (posts h) k n u a
+
+  abbrev counts2 : List ℕ
+  counts2 = set x.counts (n - 1) (get_or x.counts (n - 1) 0 + 1)
+
+  legal2 : IsLegalHistory b h2
+  legal2 = legal_post c.board_laws.ensures b h x l I k n u a ok.held caller ok.right
+
+  few : get_or x.counts (n - 1) 0 ≤ units
+  few = count_few b h x l I k n u a ok.held
+
+  less : unset (set x.marks i true) + 1 ≡ unset x.marks
+  less = one_less x.marks i mark_in (free b h x l I k n u a ok.held)
+
+  -- the ledger with the answer
+  module _ (l2 : LedgerValue) (W : IsCounted l l2 (n - 1) v a (blank 0)) where
+    tallies : AreTallies b counts2 (sums_of l2) q
+    tallies = tallies_more b (c.board_laws.ensures.of b) h x l I k n u a ok.held v ok.is l2 (blank 0) W
+
+    tallies2 : AreTallies b counts2 (sums_of l2) (posts h2)
+    tallies2 = subst (AreTallies b counts2 (sums_of l2)) (sym (posts_are c.board_laws.ensures b h x l I k n u a ok.held caller ok.right)) tallies
+
+    ledger : IsLedger b l2
+    ledger = counted_ledger b (c.board_laws.ensures.of b) h x l I k n u a ok.held v ok.is l2 (blank 0) W
+
+    round : IsRound b units counts2 (sums_of l2) (fronts_of l2)
+    round = subst (λ (z : Fronts). IsRound b units counts2 (sums_of l2) z) (sym (fronts_same b (c.board_laws.ensures.of b) h x l I k n u a ok.held v ok.is l2 (blank 0) W))
+        (rounds_in b (c.board_laws.ensures.of b) counts2 (sums_of l2) q tallies (posts h) (fronts_of l) (extends c.board_laws.ensures b h x l I k n u a ok.held caller ok.right) I.rounds)
+
+    was_open : (j : ℕ) → j < b.budget → is_full units counts2 (suc j) ≡ true → j < l.opened
+    was_open = full_was_open c.board_laws.ensures b h x l I k n u a ok.held caller ok.right counts2 (sums_of l2) tallies
+
+  -- whether it closes its proposal, by the code's test
+  module _ (count m : ℕ) (one_more : count ≡ get_or x.counts (n - 1) 0 + 1) (all : m ≡ units) where
+    tested : (count == m) ≡ (get_or x.counts (n - 1) 0 + 1 == units)
+    tested = ap (λ (y : ℕ). y == m) one_more ∙ ap (λ (y : ℕ). get_or x.counts (n - 1) 0 + 1 == y) all
+
+    closes_so : (count == m) ≡ is_closed (rules_of b) q n
+    closes_so = tested ∙ sym (closes_is b h x l I k n u a ok.held)
+
+    events_so : (entry : Entry) (entries : List Entry) (kept : List Answer) → entry ≡ record { caller = k; call = calls.Post; proposal = n; unit = u; reply = reply_of (count == m) } →
+        entries ≡ c.self.inside.history.items ++ entry ∷ [] → kept ≡ set x.kept i a → events_of units kept entries ≡ h2
+    events_so entry entries kept entry_as longer more =
+        ap (λ (xs : List Answer). events_of units xs entries) more ∙ ap (events_of units (set x.kept i a)) longer
+        ∙ events_posted c.board_laws.ensures.answers_fit b h x l I k n u a ok.held c.self.inside.history.items refl (count == m) tested entry entry_as
 
 pub refusal-refused-requires-clause-marks : goal.refusal-refused-requires-clause-marks
 refusal-refused-requires-clause-marks c =
-    let s = c.self.inside in
-    let b = setup_of s.terms in
-    let units = unit_count b.market in
-    let h = events_of units (answers_kept s.store) s.history.items in
-    let x : Lists = record { takers = s.takers.items; marks = s.marks.items; kept = answers_kept s.store; counts = s.counts.items; halted = s.halted.items; any_halt = s.any_halt } in
-    let l = s.ledger in
-    let I : IsBoard b h x l = c.self.invariant.0 in
-    let K = c.self.invariant.1 in
-    let k = c.args.caller in
-    let n = c.args.task.now.proposal in
-    let u = c.args.task.now.unit in
-    let ρ = prices_of c.args.task.now.prices in
-    let v = task_unit c.args.task.now in
-    let a = answer_of c.args.answer.now in
+    let b = setup_in c.self.inside in
+    let I = c.self.invariant.0 in
     λ m w one within inside.
     let o = I.ledger.opened in
-    let e = place_before units b.budget m w one (omega (arith, within, o)) inside in
+    let e = place_before (unit_count b.market) b.budget m w one (omega (arith, within, o)) inside in
     let f = ap (λ (xs : List Bool). length xs) c.deref.ensures.value in
     let size = I.marks_are.marks_count in
     omega (arith, e, f, size)
 
 pub returns-in-Some-clause-answer : goal.returns-in-Some-clause-answer
 returns-in-Some-clause-answer c =
-    let s = c.self.inside in
-    let b = setup_of s.terms in
-    let units = unit_count b.market in
-    let h = events_of units (answers_kept s.store) s.history.items in
-    let x : Lists = record { takers = s.takers.items; marks = s.marks.items; kept = answers_kept s.store; counts = s.counts.items; halted = s.halted.items; any_halt = s.any_halt } in
-    let l = s.ledger in
-    let I : IsBoard b h x l = c.self.invariant.0 in
-    let K = c.self.invariant.1 in
-    let k = c.args.caller in
-    let n = c.args.task.now.proposal in
-    let u = c.args.task.now.unit in
-    let ρ = prices_of c.args.task.now.prices in
-    let v = task_unit c.args.task.now in
-    let a = answer_of c.args.answer.now in
-    let asked : c.refusal-refused.result ≡ refusal_of b l s.marks.items s.takers.items k n u ρ v =
-    c.refusal-refused.ensures.refused ∙ ap (λ (xs : List Bool). refusal_of b l xs c.deref-2.result.now k n u ρ v) c.deref.ensures.value
-    ∙ ap (λ (xs : List ℕ). refusal_of b l s.marks.items xs k n u ρ v) c.deref-2.ensures.value in
-    let says = refused_says (post_answer (content b h) k n u ρ v a) c.in-Some.refused (refusal_is b h x l I k n u ρ v a ∙ sym asked ∙ c.in-Some.is) in
-    sym says.0 ∙ ap (λ (z : Content). posted_of (post_answer z k n u ρ v a)) c.self.view_is
+    sym (says (goal.at.returns-in-Some-clause-answer c).In-Some).0 ∙ ap (λ (z : Content). posted_of (post_answer z c.args.caller c.args.task.now.proposal c.args.task.now.unit (prices_of c.args.task.now.prices) (task_unit c.args.task.now) (answer_of c.args.answer.now))) c.self.view_is
 
 pub returns-in-Some-clause-after : goal.returns-in-Some-clause-after
 returns-in-Some-clause-after c =
-    let s = c.self.inside in
-    let b = setup_of s.terms in
-    let units = unit_count b.market in
-    let h = events_of units (answers_kept s.store) s.history.items in
-    let x : Lists = record { takers = s.takers.items; marks = s.marks.items; kept = answers_kept s.store; counts = s.counts.items; halted = s.halted.items; any_halt = s.any_halt } in
-    let l = s.ledger in
-    let I : IsBoard b h x l = c.self.invariant.0 in
-    let K = c.self.invariant.1 in
-    let k = c.args.caller in
-    let n = c.args.task.now.proposal in
-    let u = c.args.task.now.unit in
-    let ρ = prices_of c.args.task.now.prices in
-    let v = task_unit c.args.task.now in
-    let a = answer_of c.args.answer.now in
-    let asked : c.refusal-refused.result ≡ refusal_of b l s.marks.items s.takers.items k n u ρ v =
-    c.refusal-refused.ensures.refused ∙ ap (λ (xs : List Bool). refusal_of b l xs c.deref-2.result.now k n u ρ v) c.deref.ensures.value
-    ∙ ap (λ (xs : List ℕ). refusal_of b l s.marks.items xs k n u ρ v) c.deref-2.ensures.value in
-    let says = refused_says (post_answer (content b h) k n u ρ v a) c.in-Some.refused (refusal_is b h x l I k n u ρ v a ∙ sym asked ∙ c.in-Some.is) in
-    sym (ap (content b) (says.1 h (post_event (rules_of b) (posts h) k n u a))) ∙ ap (λ (z : Content). after_post z k n u ρ v a) c.self.view_is
+    let b = setup_in c.self.inside in
+    let h = events_in c.self.inside in
+    sym (ap (content b) ((says (goal.at.returns-in-Some-clause-after c).In-Some).1 h (post_event (rules_of b) (posts h) c.args.caller c.args.task.now.proposal c.args.task.now.unit (answer_of c.args.answer.now))))
+    ∙ ap (λ (z : Content). after_post z c.args.caller c.args.task.now.proposal c.args.task.now.unit (prices_of c.args.task.now.prices) (task_unit c.args.task.now) (answer_of c.args.answer.now)) c.self.view_is
 
 pub index_mut-requires : goal.index_mut-requires
 index_mut-requires c =
-    let s = c.self.inside in
-    let b = setup_of s.terms in
-    let units = unit_count b.market in
-    let h = events_of units (answers_kept s.store) s.history.items in
-    let x : Lists = record { takers = s.takers.items; marks = s.marks.items; kept = answers_kept s.store; counts = s.counts.items; halted = s.halted.items; any_halt = s.any_halt } in
-    let l = s.ledger in
-    let I : IsBoard b h x l = c.self.invariant.0 in
-    let K = c.self.invariant.1 in
-    let k = c.args.caller in
-    let n = c.args.task.now.proposal in
-    let u = c.args.task.now.unit in
-    let ρ = prices_of c.args.task.now.prices in
-    let v = task_unit c.args.task.now in
-    let a = answer_of c.args.answer.now in
-    let asked : c.refusal-refused.result ≡ refusal_of b l s.marks.items s.takers.items k n u ρ v =
-    c.refusal-refused.ensures.refused ∙ ap (λ (xs : List Bool). refusal_of b l xs c.deref-2.result.now k n u ρ v) c.deref.ensures.value
-    ∙ ap (λ (xs : List ℕ). refusal_of b l s.marks.items xs k n u ρ v) c.deref-2.ensures.value in
-    let ok = taken_here c.board_laws.ensures.taken_tells b h x l I k n u ρ v a (is_task c.args.task.now) c.requires.fit c.requires.earned (sym asked ∙ c.in_default.is) in
-    let H = ok.held in
-    let i = place units n u in
-    let at_ : c.place-at.result ≡ i = c.place-at.ensures ∙ ap (λ (m : ℕ). place m n u) c.units-units.ensures in
-    let k_ = n - 1 in
-    let e = mark_inside b h x l I k n u a H in
+    let e = mark_in (goal.at.index_mut-requires c).In_default in
+    let at_ = place_is (goal.at.index_mut-requires c).After-place-at in
     omega (arith, e, at_)
 
 pub put-requires-clause-place : goal.put-requires-clause-place
 put-requires-clause-place c =
-    let s = c.self.inside in
-    let b = setup_of s.terms in
-    let units = unit_count b.market in
-    let h = events_of units (answers_kept s.store) s.history.items in
-    let x : Lists = record { takers = s.takers.items; marks = s.marks.items; kept = answers_kept s.store; counts = s.counts.items; halted = s.halted.items; any_halt = s.any_halt } in
-    let l = s.ledger in
-    let I : IsBoard b h x l = c.self.invariant.0 in
-    let K = c.self.invariant.1 in
-    let k = c.args.caller in
-    let n = c.args.task.now.proposal in
-    let u = c.args.task.now.unit in
-    let ρ = prices_of c.args.task.now.prices in
-    let v = task_unit c.args.task.now in
-    let a = answer_of c.args.answer.now in
-    let asked : c.refusal-refused.result ≡ refusal_of b l s.marks.items s.takers.items k n u ρ v =
-    c.refusal-refused.ensures.refused ∙ ap (λ (xs : List Bool). refusal_of b l xs c.deref-2.result.now k n u ρ v) c.deref.ensures.value
-    ∙ ap (λ (xs : List ℕ). refusal_of b l s.marks.items xs k n u ρ v) c.deref-2.ensures.value in
-    let ok = taken_here c.board_laws.ensures.taken_tells b h x l I k n u ρ v a (is_task c.args.task.now) c.requires.fit c.requires.earned (sym asked ∙ c.in_default.is) in
-    let H = ok.held in
-    let i = place units n u in
-    let at_ : c.place-at.result ≡ i = c.place-at.ensures ∙ ap (λ (m : ℕ). place m n u) c.units-units.ensures in
-    let k_ = n - 1 in
-    let e = kept_inside b h x l I k n u a H in
-    is_inside s.store c.place-at.result (omega (arith, e, at_))
+    let e = kept_in (goal.at.put-requires-clause-place c).In_default in
+    let at_ = place_is (goal.at.put-requires-clause-place c).After-place-at in
+    is_inside c.self.inside.store c.place-at.result (omega (arith, e, at_))
 
 pub put-requires-clause-horizon : goal.put-requires-clause-horizon
-put-requires-clause-horizon c =
-    let s = c.self.inside in
-    let b = setup_of s.terms in
-    let units = unit_count b.market in
-    let h = events_of units (answers_kept s.store) s.history.items in
-    let x : Lists = record { takers = s.takers.items; marks = s.marks.items; kept = answers_kept s.store; counts = s.counts.items; halted = s.halted.items; any_halt = s.any_halt } in
-    let l = s.ledger in
-    let I : IsBoard b h x l = c.self.invariant.0 in
-    let K = c.self.invariant.1 in
-    let k = c.args.caller in
-    let n = c.args.task.now.proposal in
-    let u = c.args.task.now.unit in
-    let ρ = prices_of c.args.task.now.prices in
-    let v = task_unit c.args.task.now in
-    let a = answer_of c.args.answer.now in
-    let asked : c.refusal-refused.result ≡ refusal_of b l s.marks.items s.takers.items k n u ρ v =
-    c.refusal-refused.ensures.refused ∙ ap (λ (xs : List Bool). refusal_of b l xs c.deref-2.result.now k n u ρ v) c.deref.ensures.value
-    ∙ ap (λ (xs : List ℕ). refusal_of b l s.marks.items xs k n u ρ v) c.deref-2.ensures.value in
-    let ok = taken_here c.board_laws.ensures.taken_tells b h x l I k n u ρ v a (is_task c.args.task.now) c.requires.fit c.requires.earned (sym asked ∙ c.in_default.is) in
-    let H = ok.held in
-    let i = place units n u in
-    let at_ : c.place-at.result ≡ i = c.place-at.ensures ∙ ap (λ (m : ℕ). place m n u) c.units-units.ensures in
-    let k_ = n - 1 in
-    ok.long ∙ sym K.store
+put-requires-clause-horizon c = (ok (goal.at.put-requires-clause-horizon c).In_default).long ∙ sym c.self.invariant.1.store
 
 pub add-requires-clause-horizon : goal.add-requires-clause-horizon
 add-requires-clause-horizon c =
-    let s = c.self.inside in
-    let b = setup_of s.terms in
-    let units = unit_count b.market in
-    let h = events_of units (answers_kept s.store) s.history.items in
-    let x : Lists = record { takers = s.takers.items; marks = s.marks.items; kept = answers_kept s.store; counts = s.counts.items; halted = s.halted.items; any_halt = s.any_halt } in
-    let l = s.ledger in
-    let I : IsBoard b h x l = c.self.invariant.0 in
-    let K = c.self.invariant.1 in
-    let k = c.args.caller in
-    let n = c.args.task.now.proposal in
-    let u = c.args.task.now.unit in
-    let ρ = prices_of c.args.task.now.prices in
-    let v = task_unit c.args.task.now in
-    let a = answer_of c.args.answer.now in
-    let asked : c.refusal-refused.result ≡ refusal_of b l s.marks.items s.takers.items k n u ρ v =
-    c.refusal-refused.ensures.refused ∙ ap (λ (xs : List Bool). refusal_of b l xs c.deref-2.result.now k n u ρ v) c.deref.ensures.value
-    ∙ ap (λ (xs : List ℕ). refusal_of b l s.marks.items xs k n u ρ v) c.deref-2.ensures.value in
-    let ok = taken_here c.board_laws.ensures.taken_tells b h x l I k n u ρ v a (is_task c.args.task.now) c.requires.fit c.requires.earned (sym asked ∙ c.in_default.is) in
-    let H = ok.held in
-    let i = place units n u in
-    let at_ : c.place-at.result ≡ i = c.place-at.ensures ∙ ap (λ (m : ℕ). place m n u) c.units-units.ensures in
-    let k_ = n - 1 in
-    λ d. ok.long ∙ sym (I.ledger.horizon k_ d (place_ b (c.board_laws.ensures.of b) h x l I k n u a H v ok.is))
+    let d = (goal.at.add-requires-clause-horizon c).In_default in
+    λ r. (ok d).long ∙ sym ((I d).ledger.horizon (n d - 1) r (place_inside d))
 
 pub add-requires-clause-supply : goal.add-requires-clause-supply
-add-requires-clause-supply c =
-    let s = c.self.inside in
-    let b = setup_of s.terms in
-    let units = unit_count b.market in
-    let h = events_of units (answers_kept s.store) s.history.items in
-    let x : Lists = record { takers = s.takers.items; marks = s.marks.items; kept = answers_kept s.store; counts = s.counts.items; halted = s.halted.items; any_halt = s.any_halt } in
-    let l = s.ledger in
-    let I : IsBoard b h x l = c.self.invariant.0 in
-    let K = c.self.invariant.1 in
-    let k = c.args.caller in
-    let n = c.args.task.now.proposal in
-    let u = c.args.task.now.unit in
-    let ρ = prices_of c.args.task.now.prices in
-    let v = task_unit c.args.task.now in
-    let a = answer_of c.args.answer.now in
-    let asked : c.refusal-refused.result ≡ refusal_of b l s.marks.items s.takers.items k n u ρ v =
-    c.refusal-refused.ensures.refused ∙ ap (λ (xs : List Bool). refusal_of b l xs c.deref-2.result.now k n u ρ v) c.deref.ensures.value
-    ∙ ap (λ (xs : List ℕ). refusal_of b l s.marks.items xs k n u ρ v) c.deref-2.ensures.value in
-    let ok = taken_here c.board_laws.ensures.taken_tells b h x l I k n u ρ v a (is_task c.args.task.now) c.requires.fit c.requires.earned (sym asked ∙ c.in_default.is) in
-    let H = ok.held in
-    let i = place units n u in
-    let at_ : c.place-at.result ≡ i = c.place-at.ensures ∙ ap (λ (m : ℕ). place m n u) c.units-units.ensures in
-    let k_ = n - 1 in
-    λ d. subst (λ (xs : List ℤ). All IsTotal xs) (sym (supply_was b (c.board_laws.ensures.of b) h x l I k n u a H v ok.is d)) (supply_small c.board_laws.ensures.totals_are_within b h I.setup I.legal n)
+add-requires-clause-supply c = supply (goal.at.add-requires-clause-supply c).In_default
 
 pub add-requires-clause-reserve : goal.add-requires-clause-reserve
-add-requires-clause-reserve c =
-    let s = c.self.inside in
-    let b = setup_of s.terms in
-    let units = unit_count b.market in
-    let h = events_of units (answers_kept s.store) s.history.items in
-    let x : Lists = record { takers = s.takers.items; marks = s.marks.items; kept = answers_kept s.store; counts = s.counts.items; halted = s.halted.items; any_halt = s.any_halt } in
-    let l = s.ledger in
-    let I : IsBoard b h x l = c.self.invariant.0 in
-    let K = c.self.invariant.1 in
-    let k = c.args.caller in
-    let n = c.args.task.now.proposal in
-    let u = c.args.task.now.unit in
-    let ρ = prices_of c.args.task.now.prices in
-    let v = task_unit c.args.task.now in
-    let a = answer_of c.args.answer.now in
-    let asked : c.refusal-refused.result ≡ refusal_of b l s.marks.items s.takers.items k n u ρ v =
-    c.refusal-refused.ensures.refused ∙ ap (λ (xs : List Bool). refusal_of b l xs c.deref-2.result.now k n u ρ v) c.deref.ensures.value
-    ∙ ap (λ (xs : List ℕ). refusal_of b l s.marks.items xs k n u ρ v) c.deref-2.ensures.value in
-    let ok = taken_here c.board_laws.ensures.taken_tells b h x l I k n u ρ v a (is_task c.args.task.now) c.requires.fit c.requires.earned (sym asked ∙ c.in_default.is) in
-    let H = ok.held in
-    let i = place units n u in
-    let at_ : c.place-at.result ≡ i = c.place-at.ensures ∙ ap (λ (m : ℕ). place m n u) c.units-units.ensures in
-    let k_ = n - 1 in
-    λ d. subst (λ (xs : List ℤ). All IsTotal xs) (sym (reserve_was b (c.board_laws.ensures.of b) h x l I k n u a H v ok.is d)) (reserve_small c.board_laws.ensures.totals_are_within b h I.setup I.legal n)
+add-requires-clause-reserve c = reserve (goal.at.add-requires-clause-reserve c).In_default
 
 pub add-requires-clause-earned : goal.add-requires-clause-earned
-add-requires-clause-earned c =
-    let s = c.self.inside in
-    let b = setup_of s.terms in
-    let units = unit_count b.market in
-    let h = events_of units (answers_kept s.store) s.history.items in
-    let x : Lists = record { takers = s.takers.items; marks = s.marks.items; kept = answers_kept s.store; counts = s.counts.items; halted = s.halted.items; any_halt = s.any_halt } in
-    let l = s.ledger in
-    let I : IsBoard b h x l = c.self.invariant.0 in
-    let K = c.self.invariant.1 in
-    let k = c.args.caller in
-    let n = c.args.task.now.proposal in
-    let u = c.args.task.now.unit in
-    let ρ = prices_of c.args.task.now.prices in
-    let v = task_unit c.args.task.now in
-    let a = answer_of c.args.answer.now in
-    let asked : c.refusal-refused.result ≡ refusal_of b l s.marks.items s.takers.items k n u ρ v =
-    c.refusal-refused.ensures.refused ∙ ap (λ (xs : List Bool). refusal_of b l xs c.deref-2.result.now k n u ρ v) c.deref.ensures.value
-    ∙ ap (λ (xs : List ℕ). refusal_of b l s.marks.items xs k n u ρ v) c.deref-2.ensures.value in
-    let ok = taken_here c.board_laws.ensures.taken_tells b h x l I k n u ρ v a (is_task c.args.task.now) c.requires.fit c.requires.earned (sym asked ∙ c.in_default.is) in
-    let H = ok.held in
-    let i = place units n u in
-    let at_ : c.place-at.result ≡ i = c.place-at.ensures ∙ ap (λ (m : ℕ). place m n u) c.units-units.ensures in
-    let k_ = n - 1 in
-    subst IsSum (sym (earned_was b (c.board_laws.ensures.of b) h x l I k n u a H v ok.is)) (c.board_laws.ensures.totals_are_within b h I.setup.market I.legal n).earned
+add-requires-clause-earned c = earned (goal.at.add-requires-clause-earned c).In_default
 
 pub count_up-requires-clause-count : goal.count_up-requires-clause-count
 count_up-requires-clause-count c =
-    let s = c.self.inside in
-    let b = setup_of s.terms in
-    let units = unit_count b.market in
-    let h = events_of units (answers_kept s.store) s.history.items in
-    let x : Lists = record { takers = s.takers.items; marks = s.marks.items; kept = answers_kept s.store; counts = s.counts.items; halted = s.halted.items; any_halt = s.any_halt } in
-    let l = s.ledger in
-    let I : IsBoard b h x l = c.self.invariant.0 in
-    let K = c.self.invariant.1 in
-    let k = c.args.caller in
-    let n = c.args.task.now.proposal in
-    let u = c.args.task.now.unit in
-    let ρ = prices_of c.args.task.now.prices in
-    let v = task_unit c.args.task.now in
-    let a = answer_of c.args.answer.now in
-    let asked : c.refusal-refused.result ≡ refusal_of b l s.marks.items s.takers.items k n u ρ v =
-    c.refusal-refused.ensures.refused ∙ ap (λ (xs : List Bool). refusal_of b l xs c.deref-2.result.now k n u ρ v) c.deref.ensures.value
-    ∙ ap (λ (xs : List ℕ). refusal_of b l s.marks.items xs k n u ρ v) c.deref-2.ensures.value in
-    let ok = taken_here c.board_laws.ensures.taken_tells b h x l I k n u ρ v a (is_task c.args.task.now) c.requires.fit c.requires.earned (sym asked ∙ c.in_default.is) in
-    let H = ok.held in
-    let i = place units n u in
-    let at_ : c.place-at.result ≡ i = c.place-at.ensures ∙ ap (λ (m : ℕ). place m n u) c.units-units.ensures in
-    let k_ = n - 1 in
-    let e = count_few b h x l I k n u a H in
-    omega (arith, e, units_few b I.setup)
+    let d = (goal.at.count_up-requires-clause-count c).In_default in
+    let e = few d in
+    omega (arith, e, units_few (b d) (I d).setup)
 
 pub push_reserved-requires : goal.push_reserved-requires
 push_reserved-requires c =
-    let s = c.self.inside in
-    let b = setup_of s.terms in
-    let units = unit_count b.market in
-    let h = events_of units (answers_kept s.store) s.history.items in
-    let x : Lists = record { takers = s.takers.items; marks = s.marks.items; kept = answers_kept s.store; counts = s.counts.items; halted = s.halted.items; any_halt = s.any_halt } in
-    let l = s.ledger in
-    let I : IsBoard b h x l = c.self.invariant.0 in
-    let K = c.self.invariant.1 in
-    let k = c.args.caller in
-    let n = c.args.task.now.proposal in
-    let u = c.args.task.now.unit in
-    let ρ = prices_of c.args.task.now.prices in
-    let v = task_unit c.args.task.now in
-    let a = answer_of c.args.answer.now in
-    let asked : c.refusal-refused.result ≡ refusal_of b l s.marks.items s.takers.items k n u ρ v =
-    c.refusal-refused.ensures.refused ∙ ap (λ (xs : List Bool). refusal_of b l xs c.deref-2.result.now k n u ρ v) c.deref.ensures.value
-    ∙ ap (λ (xs : List ℕ). refusal_of b l s.marks.items xs k n u ρ v) c.deref-2.ensures.value in
-    let ok = taken_here c.board_laws.ensures.taken_tells b h x l I k n u ρ v a (is_task c.args.task.now) c.requires.fit c.requires.earned (sym asked ∙ c.in_default.is) in
-    let H = ok.held in
-    let i = place units n u in
-    let at_ : c.place-at.result ≡ i = c.place-at.ensures ∙ ap (λ (m : ℕ). place m n u) c.units-units.ensures in
-    let k_ = n - 1 in
-    let less = one_less s.marks.items i (mark_inside b h x l I k n u a H) (free b h x l I k n u a H) in
-    let room = K.room in
-    omega (arith, less, room)
+    let e = less (goal.at.push_reserved-requires c).In_default in
+    let room = c.self.invariant.1.room in
+    omega (arith, e, room)
 
 pub advance-requires-clause-ledger : goal.advance-requires-clause-ledger
-advance-requires-clause-ledger c =
-    let s = c.self.inside in
-    let b = setup_of s.terms in
-    let units = unit_count b.market in
-    let h = events_of units (answers_kept s.store) s.history.items in
-    let x : Lists = record { takers = s.takers.items; marks = s.marks.items; kept = answers_kept s.store; counts = s.counts.items; halted = s.halted.items; any_halt = s.any_halt } in
-    let l = s.ledger in
-    let I : IsBoard b h x l = c.self.invariant.0 in
-    let K = c.self.invariant.1 in
-    let k = c.args.caller in
-    let n = c.args.task.now.proposal in
-    let u = c.args.task.now.unit in
-    let ρ = prices_of c.args.task.now.prices in
-    let v = task_unit c.args.task.now in
-    let a = answer_of c.args.answer.now in
-    let asked : c.refusal-refused.result ≡ refusal_of b l s.marks.items s.takers.items k n u ρ v =
-    c.refusal-refused.ensures.refused ∙ ap (λ (xs : List Bool). refusal_of b l xs c.deref-2.result.now k n u ρ v) c.deref.ensures.value
-    ∙ ap (λ (xs : List ℕ). refusal_of b l s.marks.items xs k n u ρ v) c.deref-2.ensures.value in
-    let ok = taken_here c.board_laws.ensures.taken_tells b h x l I k n u ρ v a (is_task c.args.task.now) c.requires.fit c.requires.earned (sym asked ∙ c.in_default.is) in
-    let H = ok.held in
-    let i = place units n u in
-    let at_ : c.place-at.result ≡ i = c.place-at.ensures ∙ ap (λ (m : ℕ). place m n u) c.units-units.ensures in
-    let k_ = n - 1 in
-    let d = blank 0 in
-    let l2 = c.add.new.self in
-    let W : IsCounted l l2 k_ v a d = record { proposals = c.add.ensures.proposals d; earned = c.add.ensures.earned; closed = c.add.ensures.closed; opened = c.add.ensures.opened } in
-    let p = posts h in
-    let q = with_post p k n u a in
-    let caller : k < b.callers = subst (λ (z : Content). k < z.setup.callers) (sym c.self.view_is) c.requires.caller in
-    let counts2 = set s.counts.items k_ (get_or s.counts.items k_ 0 + 1) in
-    let T = tallies_more b (c.board_laws.ensures.of b) h x l I k n u a H v ok.is l2 d W in
-    let fronts = fronts_same b (c.board_laws.ensures.of b) h x l I k n u a H v ok.is l2 d W in
-    counted_ledger b (c.board_laws.ensures.of b) h x l I k n u a H v ok.is l2 d W
+advance-requires-clause-ledger c = ledger (goal.at.advance-requires-clause-ledger c).In_default c.add.new.self (counted (goal.at.advance-requires-clause-ledger c).After-add)
 
 pub advance-requires-clause-round : goal.advance-requires-clause-round
 advance-requires-clause-round c =
-    let s = c.self.inside in
-    let b = setup_of s.terms in
-    let units = unit_count b.market in
-    let h = events_of units (answers_kept s.store) s.history.items in
-    let x : Lists = record { takers = s.takers.items; marks = s.marks.items; kept = answers_kept s.store; counts = s.counts.items; halted = s.halted.items; any_halt = s.any_halt } in
-    let l = s.ledger in
-    let I : IsBoard b h x l = c.self.invariant.0 in
-    let K = c.self.invariant.1 in
-    let k = c.args.caller in
-    let n = c.args.task.now.proposal in
-    let u = c.args.task.now.unit in
-    let ρ = prices_of c.args.task.now.prices in
-    let v = task_unit c.args.task.now in
-    let a = answer_of c.args.answer.now in
-    let asked : c.refusal-refused.result ≡ refusal_of b l s.marks.items s.takers.items k n u ρ v =
-    c.refusal-refused.ensures.refused ∙ ap (λ (xs : List Bool). refusal_of b l xs c.deref-2.result.now k n u ρ v) c.deref.ensures.value
-    ∙ ap (λ (xs : List ℕ). refusal_of b l s.marks.items xs k n u ρ v) c.deref-2.ensures.value in
-    let ok = taken_here c.board_laws.ensures.taken_tells b h x l I k n u ρ v a (is_task c.args.task.now) c.requires.fit c.requires.earned (sym asked ∙ c.in_default.is) in
-    let H = ok.held in
-    let i = place units n u in
-    let at_ : c.place-at.result ≡ i = c.place-at.ensures ∙ ap (λ (m : ℕ). place m n u) c.units-units.ensures in
-    let k_ = n - 1 in
-    let d = blank 0 in
-    let l2 = c.add.new.self in
-    let W : IsCounted l l2 k_ v a d = record { proposals = c.add.ensures.proposals d; earned = c.add.ensures.earned; closed = c.add.ensures.closed; opened = c.add.ensures.opened } in
-    let p = posts h in
-    let q = with_post p k n u a in
-    let caller : k < b.callers = subst (λ (z : Content). k < z.setup.callers) (sym c.self.view_is) c.requires.caller in
-    let counts2 = set s.counts.items k_ (get_or s.counts.items k_ 0 + 1) in
-    let T = tallies_more b (c.board_laws.ensures.of b) h x l I k n u a H v ok.is l2 d W in
-    let fronts = fronts_same b (c.board_laws.ensures.of b) h x l I k n u a H v ok.is l2 d W in
-    let cs : c.deref-3.result.now ≡ counts2 = c.deref-3.ensures.value ∙ c.count_up.ensures.counts in
-    let event = post_event (rules_of b) p k n u a in
-    let h2 = h ++ event ∷ [] in
-    let legal2 = legal_post c.board_laws.ensures b h x l I k n u a H caller ok.right in
-    let same = posts_are c.board_laws.ensures b h x l I k n u a H caller ok.right in
-    let T2 : AreTallies b counts2 (sums_of l2) (posts h2) = subst (AreTallies b counts2 (sums_of l2)) (sym same) T in
-    let old = rounds_in b (c.board_laws.ensures.of b) counts2 (sums_of l2) q T p (fronts_of l) (extends c.board_laws.ensures b h x l I k n u a H caller ok.right) I.rounds in
-    subst (λ (xs : List ℕ). IsRound b units xs (sums_of l2) (fronts_of l2)) (sym cs) (subst (λ (z : Fronts). IsRound b units counts2 (sums_of l2) z) (sym fronts) old)
+    let d = (goal.at.advance-requires-clause-round c).In_default in
+    subst (λ (xs : List ℕ). IsRound (b d) (units d) xs (sums_of c.add.new.self) (fronts_of c.add.new.self)) (sym (counts_are (goal.at.advance-requires-clause-round c).After-deref-3))
+    (round d c.add.new.self (counted (goal.at.advance-requires-clause-round c).After-add))
 
 pub advance-requires-clause-opened : goal.advance-requires-clause-opened
 advance-requires-clause-opened c =
-    let s = c.self.inside in
-    let b = setup_of s.terms in
-    let units = unit_count b.market in
-    let h = events_of units (answers_kept s.store) s.history.items in
-    let x : Lists = record { takers = s.takers.items; marks = s.marks.items; kept = answers_kept s.store; counts = s.counts.items; halted = s.halted.items; any_halt = s.any_halt } in
-    let l = s.ledger in
-    let I : IsBoard b h x l = c.self.invariant.0 in
-    let K = c.self.invariant.1 in
-    let k = c.args.caller in
-    let n = c.args.task.now.proposal in
-    let u = c.args.task.now.unit in
-    let ρ = prices_of c.args.task.now.prices in
-    let v = task_unit c.args.task.now in
-    let a = answer_of c.args.answer.now in
-    let asked : c.refusal-refused.result ≡ refusal_of b l s.marks.items s.takers.items k n u ρ v =
-    c.refusal-refused.ensures.refused ∙ ap (λ (xs : List Bool). refusal_of b l xs c.deref-2.result.now k n u ρ v) c.deref.ensures.value
-    ∙ ap (λ (xs : List ℕ). refusal_of b l s.marks.items xs k n u ρ v) c.deref-2.ensures.value in
-    let ok = taken_here c.board_laws.ensures.taken_tells b h x l I k n u ρ v a (is_task c.args.task.now) c.requires.fit c.requires.earned (sym asked ∙ c.in_default.is) in
-    let H = ok.held in
-    let i = place units n u in
-    let at_ : c.place-at.result ≡ i = c.place-at.ensures ∙ ap (λ (m : ℕ). place m n u) c.units-units.ensures in
-    let k_ = n - 1 in
-    let d = blank 0 in
-    let l2 = c.add.new.self in
-    let W : IsCounted l l2 k_ v a d = record { proposals = c.add.ensures.proposals d; earned = c.add.ensures.earned; closed = c.add.ensures.closed; opened = c.add.ensures.opened } in
-    let p = posts h in
-    let q = with_post p k n u a in
-    let caller : k < b.callers = subst (λ (z : Content). k < z.setup.callers) (sym c.self.view_is) c.requires.caller in
-    let counts2 = set s.counts.items k_ (get_or s.counts.items k_ 0 + 1) in
-    let T = tallies_more b (c.board_laws.ensures.of b) h x l I k n u a H v ok.is l2 d W in
-    let fronts = fronts_same b (c.board_laws.ensures.of b) h x l I k n u a H v ok.is l2 d W in
-    let cs : c.deref-3.result.now ≡ counts2 = c.deref-3.ensures.value ∙ c.count_up.ensures.counts in
-    let event = post_event (rules_of b) p k n u a in
-    let h2 = h ++ event ∷ [] in
-    let legal2 = legal_post c.board_laws.ensures b h x l I k n u a H caller ok.right in
-    let same = posts_are c.board_laws.ensures b h x l I k n u a H caller ok.right in
-    let T2 : AreTallies b counts2 (sums_of l2) (posts h2) = subst (AreTallies b counts2 (sums_of l2)) (sym same) T in
+    let d = (goal.at.advance-requires-clause-opened c).In_default in
+    let cs = counts_are (goal.at.advance-requires-clause-opened c).After-deref-3 in
     λ j lt full.
-    let full2 = subst (λ (xs : List ℕ). is_full units xs (suc j) ≡ true) cs full in
-    let e = full_was_open c.board_laws.ensures b h x l I k n u a H caller ok.right counts2 (sums_of l2) T j lt full2 in
+    let e = was_open d c.add.new.self (counted (goal.at.advance-requires-clause-opened c).After-add) j lt (subst (λ (xs : List ℕ). is_full (units d) xs (suc j) ≡ true) cs full) in
     let o = c.add.ensures.opened in
     omega (arith, e, o)
 
 pub advance-requires-clause-earned : goal.advance-requires-clause-earned
 advance-requires-clause-earned c =
-    let s = c.self.inside in
-    let b = setup_of s.terms in
-    let units = unit_count b.market in
-    let h = events_of units (answers_kept s.store) s.history.items in
-    let x : Lists = record { takers = s.takers.items; marks = s.marks.items; kept = answers_kept s.store; counts = s.counts.items; halted = s.halted.items; any_halt = s.any_halt } in
-    let l = s.ledger in
-    let I : IsBoard b h x l = c.self.invariant.0 in
-    let K = c.self.invariant.1 in
-    let k = c.args.caller in
-    let n = c.args.task.now.proposal in
-    let u = c.args.task.now.unit in
-    let ρ = prices_of c.args.task.now.prices in
-    let v = task_unit c.args.task.now in
-    let a = answer_of c.args.answer.now in
-    let asked : c.refusal-refused.result ≡ refusal_of b l s.marks.items s.takers.items k n u ρ v =
-    c.refusal-refused.ensures.refused ∙ ap (λ (xs : List Bool). refusal_of b l xs c.deref-2.result.now k n u ρ v) c.deref.ensures.value
-    ∙ ap (λ (xs : List ℕ). refusal_of b l s.marks.items xs k n u ρ v) c.deref-2.ensures.value in
-    let ok = taken_here c.board_laws.ensures.taken_tells b h x l I k n u ρ v a (is_task c.args.task.now) c.requires.fit c.requires.earned (sym asked ∙ c.in_default.is) in
-    let H = ok.held in
-    let i = place units n u in
-    let at_ : c.place-at.result ≡ i = c.place-at.ensures ∙ ap (λ (m : ℕ). place m n u) c.units-units.ensures in
-    let k_ = n - 1 in
-    let d = blank 0 in
-    let l2 = c.add.new.self in
-    let W : IsCounted l l2 k_ v a d = record { proposals = c.add.ensures.proposals d; earned = c.add.ensures.earned; closed = c.add.ensures.closed; opened = c.add.ensures.opened } in
-    let p = posts h in
-    let q = with_post p k n u a in
-    let caller : k < b.callers = subst (λ (z : Content). k < z.setup.callers) (sym c.self.view_is) c.requires.caller in
-    let counts2 = set s.counts.items k_ (get_or s.counts.items k_ 0 + 1) in
-    let T = tallies_more b (c.board_laws.ensures.of b) h x l I k n u a H v ok.is l2 d W in
-    let fronts = fronts_same b (c.board_laws.ensures.of b) h x l I k n u a H v ok.is l2 d W in
-    let cs : c.deref-3.result.now ≡ counts2 = c.deref-3.ensures.value ∙ c.count_up.ensures.counts in
-    let event = post_event (rules_of b) p k n u a in
-    let h2 = h ++ event ∷ [] in
-    let legal2 = legal_post c.board_laws.ensures b h x l I k n u a H caller ok.right in
-    let same = posts_are c.board_laws.ensures b h x l I k n u a H caller ok.right in
-    let T2 : AreTallies b counts2 (sums_of l2) (posts h2) = subst (AreTallies b counts2 (sums_of l2)) (sym same) T in
-    sums_small c.board_laws.ensures b h2 I.setup legal2 counts2 (sums_of l2) T2
+    let d = (goal.at.advance-requires-clause-earned c).In_default in
+    sums_small c.board_laws.ensures (b d) (h2 d) (I d).setup (legal2 d) (counts2 d) (sums_of c.add.new.self) (tallies2 d c.add.new.self (counted (goal.at.advance-requires-clause-earned c).After-add))
 
 pub advance-requires-clause-rows : goal.advance-requires-clause-rows
 advance-requires-clause-rows c =
-    let s = c.self.inside in
-    let b = setup_of s.terms in
-    let units = unit_count b.market in
-    let h = events_of units (answers_kept s.store) s.history.items in
-    let x : Lists = record { takers = s.takers.items; marks = s.marks.items; kept = answers_kept s.store; counts = s.counts.items; halted = s.halted.items; any_halt = s.any_halt } in
-    let l = s.ledger in
-    let I : IsBoard b h x l = c.self.invariant.0 in
-    let K = c.self.invariant.1 in
-    let k = c.args.caller in
-    let n = c.args.task.now.proposal in
-    let u = c.args.task.now.unit in
-    let ρ = prices_of c.args.task.now.prices in
-    let v = task_unit c.args.task.now in
-    let a = answer_of c.args.answer.now in
-    let asked : c.refusal-refused.result ≡ refusal_of b l s.marks.items s.takers.items k n u ρ v =
-    c.refusal-refused.ensures.refused ∙ ap (λ (xs : List Bool). refusal_of b l xs c.deref-2.result.now k n u ρ v) c.deref.ensures.value
-    ∙ ap (λ (xs : List ℕ). refusal_of b l s.marks.items xs k n u ρ v) c.deref-2.ensures.value in
-    let ok = taken_here c.board_laws.ensures.taken_tells b h x l I k n u ρ v a (is_task c.args.task.now) c.requires.fit c.requires.earned (sym asked ∙ c.in_default.is) in
-    let H = ok.held in
-    let i = place units n u in
-    let at_ : c.place-at.result ≡ i = c.place-at.ensures ∙ ap (λ (m : ℕ). place m n u) c.units-units.ensures in
-    let k_ = n - 1 in
-    let d = blank 0 in
-    let l2 = c.add.new.self in
-    let W : IsCounted l l2 k_ v a d = record { proposals = c.add.ensures.proposals d; earned = c.add.ensures.earned; closed = c.add.ensures.closed; opened = c.add.ensures.opened } in
-    let p = posts h in
-    let q = with_post p k n u a in
-    let caller : k < b.callers = subst (λ (z : Content). k < z.setup.callers) (sym c.self.view_is) c.requires.caller in
-    let counts2 = set s.counts.items k_ (get_or s.counts.items k_ 0 + 1) in
-    let T = tallies_more b (c.board_laws.ensures.of b) h x l I k n u a H v ok.is l2 d W in
-    let fronts = fronts_same b (c.board_laws.ensures.of b) h x l I k n u a H v ok.is l2 d W in
-    let cs : c.deref-3.result.now ≡ counts2 = c.deref-3.ensures.value ∙ c.count_up.ensures.counts in
-    let event = post_event (rules_of b) p k n u a in
-    let h2 = h ++ event ∷ [] in
-    let legal2 = legal_post c.board_laws.ensures b h x l I k n u a H caller ok.right in
-    let same = posts_are c.board_laws.ensures b h x l I k n u a H caller ok.right in
-    let T2 : AreTallies b counts2 (sums_of l2) (posts h2) = subst (AreTallies b counts2 (sums_of l2)) (sym same) T in
-    λ m le full. rows_below c.board_laws.ensures b h2 I.setup legal2 counts2 (sums_of l2) T2 m le (λ j lt. subst (λ (xs : List ℕ). is_full units xs (suc j) ≡ true) cs (full j lt))
+    let d = (goal.at.advance-requires-clause-rows c).In_default in
+    let cs = counts_are (goal.at.advance-requires-clause-rows c).After-deref-3 in
+    λ m le full.
+    rows_below c.board_laws.ensures (b d) (h2 d) (I d).setup (legal2 d) (counts2 d) (sums_of c.add.new.self) (tallies2 d c.add.new.self (counted (goal.at.advance-requires-clause-rows c).After-add)) m le
+    (λ j lt. subst (λ (xs : List ℕ). is_full (units d) xs (suc j) ≡ true) cs (full j lt))
 
 pub invariant_of-self-2 : goal.invariant_of-self-2
 invariant_of-self-2 c =
+    let d = (goal.at.invariant_of-self-2 c).In_default in
     let s = c.self.inside in
-    let b = setup_of s.terms in
-    let units = unit_count b.market in
-    let h = events_of units (answers_kept s.store) s.history.items in
-    let x : Lists = record { takers = s.takers.items; marks = s.marks.items; kept = answers_kept s.store; counts = s.counts.items; halted = s.halted.items; any_halt = s.any_halt } in
-    let l = s.ledger in
-    let I : IsBoard b h x l = c.self.invariant.0 in
     let K = c.self.invariant.1 in
-    let k = c.args.caller in
-    let n = c.args.task.now.proposal in
-    let u = c.args.task.now.unit in
-    let ρ = prices_of c.args.task.now.prices in
-    let v = task_unit c.args.task.now in
-    let a = answer_of c.args.answer.now in
-    let asked : c.refusal-refused.result ≡ refusal_of b l s.marks.items s.takers.items k n u ρ v =
-    c.refusal-refused.ensures.refused ∙ ap (λ (xs : List Bool). refusal_of b l xs c.deref-2.result.now k n u ρ v) c.deref.ensures.value
-    ∙ ap (λ (xs : List ℕ). refusal_of b l s.marks.items xs k n u ρ v) c.deref-2.ensures.value in
-    let ok = taken_here c.board_laws.ensures.taken_tells b h x l I k n u ρ v a (is_task c.args.task.now) c.requires.fit c.requires.earned (sym asked ∙ c.in_default.is) in
-    let H = ok.held in
-    let i = place units n u in
-    let at_ : c.place-at.result ≡ i = c.place-at.ensures ∙ ap (λ (m : ℕ). place m n u) c.units-units.ensures in
-    let k_ = n - 1 in
-    let d = blank 0 in
-    let l2 = c.add.new.self in
-    let W : IsCounted l l2 k_ v a d = record { proposals = c.add.ensures.proposals d; earned = c.add.ensures.earned; closed = c.add.ensures.closed; opened = c.add.ensures.opened } in
-    let p = posts h in
-    let q = with_post p k n u a in
-    let caller : k < b.callers = subst (λ (z : Content). k < z.setup.callers) (sym c.self.view_is) c.requires.caller in
-    let counts2 = set s.counts.items k_ (get_or s.counts.items k_ 0 + 1) in
-    let T = tallies_more b (c.board_laws.ensures.of b) h x l I k n u a H v ok.is l2 d W in
-    let fronts = fronts_same b (c.board_laws.ensures.of b) h x l I k n u a H v ok.is l2 d W in
-    let cs : c.deref-3.result.now ≡ counts2 = c.deref-3.ensures.value ∙ c.count_up.ensures.counts in
-    let event = post_event (rules_of b) p k n u a in
-    let h2 = h ++ event ∷ [] in
-    let legal2 = legal_post c.board_laws.ensures b h x l I k n u a H caller ok.right in
-    let same = posts_are c.board_laws.ensures b h x l I k n u a H caller ok.right in
-    let T2 : AreTallies b counts2 (sums_of l2) (posts h2) = subst (AreTallies b counts2 (sums_of l2)) (sym same) T in
+    let x = lists_in s in
+    let at_ = place_is (goal.at.invariant_of-self-2 c).After-place-at in
+    let cs = counts_are (goal.at.invariant_of-self-2 c).After-deref-3 in
+    let T = tallies d c.add.new.self (counted (goal.at.invariant_of-self-2 c).After-add) in
     let l3 = c.advance.new.ledger in
-    let closes : Bool = c.count_up.result == c.units-units.result in
-    let closes_as : closes ≡ (get_or s.counts.items k_ 0 + 1 == units) = ap (λ (y : ℕ). y == c.units-units.result) c.count_up.ensures.count ∙ ap (λ (y : ℕ). get_or s.counts.items k_ 0 + 1 == y) c.units-units.ensures in
-    let t = is_closed (rules_of b) q n in
-    let t_is : closes ≡ t = closes_as ∙ sym (closes_is b h x l I k n u a H) in
-    let entry : Entry = c.post_entry.result in
-    let entry_as = c.post_entry.ensures in
-    let kept_is : (answers_kept c.put.new.self) ≡ set (answers_kept s.store) i a = put_kept s.store c.put.new.self c.place-at.result (kept_of c.args.answer.now) c.put.ensures.answers ∙ ap (λ (j : ℕ). set (answers_kept s.store) j a) at_ in
-    let marks_is : set s.marks.items c.place-at.result true ≡ set s.marks.items i true = ap (λ (j : ℕ). set s.marks.items j true) at_ in
-    let E = events_of units (answers_kept c.put.new.self) c.push_reserved.new.self.items in
-    let events : E ≡ h2 =
-    ap (λ (xs : List Answer). events_of units xs c.push_reserved.new.self.items) kept_is
-    ∙ ap (events_of units (set (answers_kept s.store) i a)) c.push_reserved.ensures.items
-    ∙ events_posted c.board_laws.ensures.answers_fit b h x l I k n u a H s.history.items refl closes closes_as entry entry_as in
-    let T3 = subst (λ (z : Sums). AreTallies b counts2 z q) (sym c.advance.ensures.sums) T in
-    let R3 = subst (λ (xs : List ℕ). IsRound b units xs (sums_of l3) (fronts_of l3)) cs c.advance.ensures.round in
-    let done : l3.closed < b.budget → is_full units counts2 (suc l3.closed) ≡ false = λ lt. subst (λ (xs : List ℕ). is_full units xs (suc l3.closed) ≡ false) cs (c.advance.ensures.done lt) in
-    let new = posted c.board_laws.ensures b h x l I k n u a H caller ok.right l3 c.advance.ensures.ledger T3 R3 done in
+    let kept : answers_kept c.put.new.self ≡ set (answers_kept s.store) (i d) (a d) = kept_is (goal.at.invariant_of-self-2 c).After-put (i d) at_ in
+    let marks_is : set s.marks.items c.place-at.result true ≡ set s.marks.items (i d) true = ap (λ (j : ℕ). set s.marks.items j true) at_ in
+    let events = events_so d c.count_up.result c.units-units.result c.count_up.ensures.count c.units-units.ensures c.post_entry.result c.push_reserved.new.self.items (answers_kept c.put.new.self) c.post_entry.ensures c.push_reserved.ensures.items kept in
+    let T3 = subst (λ (z : Sums). AreTallies (b d) (counts2 d) z (q d)) (sym c.advance.ensures.sums) T in
+    let R3 = subst (λ (xs : List ℕ). IsRound (b d) (units d) xs (sums_of l3) (fronts_of l3)) cs c.advance.ensures.round in
+    let done : l3.closed < (b d).budget → is_full (units d) (counts2 d) (suc l3.closed) ≡ false = λ lt. subst (λ (xs : List ℕ). is_full (units d) xs (suc l3.closed) ≡ false) cs (c.advance.ensures.done lt) in
+    let new = posted c.board_laws.ensures (b d) (h d) x (l d) (I d) (k d) (n d) (u d) (a d) (ok d).held (caller d) (ok d).right l3 c.advance.ensures.ledger T3 R3 done in
     let lists : (marks : List Bool) (kept : List Answer) (counts : List ℕ) → Lists = λ marks kept counts. record x { marks = marks; kept = kept; counts = counts } in
-    let n1 = subst (λ (xs : List ℕ). IsBoard b h2 (lists (set s.marks.items i true) (set (answers_kept s.store) i a) xs) l3) (sym c.count_up.ensures.counts) new in
-    let n2 = subst (λ (xs : List Answer). IsBoard b h2 (lists (set s.marks.items i true) xs c.count_up.new.counts.items) l3) (sym kept_is) n1 in
-    let n3 = subst (λ (xs : List Bool). IsBoard b h2 (lists xs (answers_kept c.put.new.self) c.count_up.new.counts.items) l3) (sym marks_is) n2 in
-    let n4 = subst (λ (z : List (Event Answer)). IsBoard b z (lists (set s.marks.items c.place-at.result true) (answers_kept c.put.new.self) c.count_up.new.counts.items) l3) (sym events) n3 in
-    let less = one_less s.marks.items i (mark_inside b h x l I k n u a H) (free b h x l I k n u a H) in
+    let n1 = subst (λ (xs : List ℕ). IsBoard (b d) (h2 d) (lists (set s.marks.items (i d) true) (set (answers_kept s.store) (i d) (a d)) xs) l3) (sym c.count_up.ensures.counts) new in
+    let n2 = subst (λ (xs : List Answer). IsBoard (b d) (h2 d) (lists (set s.marks.items (i d) true) xs c.count_up.new.counts.items) l3) (sym kept) n1 in
+    let n3 = subst (λ (xs : List Bool). IsBoard (b d) (h2 d) (lists xs (answers_kept c.put.new.self) c.count_up.new.counts.items) l3) (sym marks_is) n2 in
+    let n4 = subst (λ (z : List (Event Answer)). IsBoard (b d) z (lists (set s.marks.items c.place-at.result true) (answers_kept c.put.new.self) c.count_up.new.counts.items) l3) (sym events) n3 in
+    let fewer = less d in
     let unset_at = ap unset marks_is in
     let room = K.room in
     let longer = ap (λ (xs : List Entry). length xs) c.push_reserved.ensures.items in
-    let entry_same : entry ≡ entry_of event = entry_as ∙ ap (λ (y : Bool). record { caller = k; call = calls.Post; proposal = n; unit = u; reply = reply_of y }) t_is ∙ sym (entry_is t k n u a) in (
+    let entry_same : c.post_entry.result ≡ entry_of (event d) =
+    c.post_entry.ensures ∙ ap (λ (y : Bool). record { caller = k d; call = calls.Post; proposal = n d; unit = u d; reply = reply_of y }) (closes_so d c.count_up.result c.units-units.result c.count_up.ensures.count c.units-units.ensures) ∙ sym (entry_is (is_closed (rules_of (b d)) (q d) (n d)) (k d) (n d) (u d) (a d)) in (
       n4,
       record {
-        room = omega (arith, room, less, longer, unset_at, length-append s.history.items (entry ∷ []), c.push_reserved.ensures.capacity);
+        room = omega (arith, room, fewer, longer, unset_at, length-append s.history.items (c.post_entry.result ∷ []), c.push_reserved.ensures.capacity);
         takers_room = K.takers_room;
-        entries_are = entries_more h E event s.history.items c.push_reserved.new.self.items events (c.push_reserved.ensures.items ∙ ap (λ (y : Entry). s.history.items ++ y ∷ []) entry_same) K.entries_are;
+        entries_are = entries_more (h d) (events_of (units d) (answers_kept c.put.new.self) c.push_reserved.new.self.items) (event d) s.history.items c.push_reserved.new.self.items events (c.push_reserved.ensures.items ∙ ap (λ (y : Entry). s.history.items ++ y ∷ []) entry_same) K.entries_are;
         store = c.put.ensures.periods ∙ K.store;
         next = c.advance.ensures.horizon;
       },
@@ -624,111 +325,13 @@ invariant_of-self-2 c =
 
 pub returns-clause-answer : goal.returns-clause-answer
 returns-clause-answer c =
-    let s = c.self.inside in
-    let b = setup_of s.terms in
-    let units = unit_count b.market in
-    let h = events_of units (answers_kept s.store) s.history.items in
-    let x : Lists = record { takers = s.takers.items; marks = s.marks.items; kept = answers_kept s.store; counts = s.counts.items; halted = s.halted.items; any_halt = s.any_halt } in
-    let l = s.ledger in
-    let I : IsBoard b h x l = c.self.invariant.0 in
-    let K = c.self.invariant.1 in
-    let k = c.args.caller in
-    let n = c.args.task.now.proposal in
-    let u = c.args.task.now.unit in
-    let ρ = prices_of c.args.task.now.prices in
-    let v = task_unit c.args.task.now in
-    let a = answer_of c.args.answer.now in
-    let asked : c.refusal-refused.result ≡ refusal_of b l s.marks.items s.takers.items k n u ρ v =
-    c.refusal-refused.ensures.refused ∙ ap (λ (xs : List Bool). refusal_of b l xs c.deref-2.result.now k n u ρ v) c.deref.ensures.value
-    ∙ ap (λ (xs : List ℕ). refusal_of b l s.marks.items xs k n u ρ v) c.deref-2.ensures.value in
-    let ok = taken_here c.board_laws.ensures.taken_tells b h x l I k n u ρ v a (is_task c.args.task.now) c.requires.fit c.requires.earned (sym asked ∙ c.in_default.is) in
-    let H = ok.held in
-    let i = place units n u in
-    let at_ : c.place-at.result ≡ i = c.place-at.ensures ∙ ap (λ (m : ℕ). place m n u) c.units-units.ensures in
-    let k_ = n - 1 in
-    let d = blank 0 in
-    let l2 = c.add.new.self in
-    let W : IsCounted l l2 k_ v a d = record { proposals = c.add.ensures.proposals d; earned = c.add.ensures.earned; closed = c.add.ensures.closed; opened = c.add.ensures.opened } in
-    let p = posts h in
-    let q = with_post p k n u a in
-    let caller : k < b.callers = subst (λ (z : Content). k < z.setup.callers) (sym c.self.view_is) c.requires.caller in
-    let counts2 = set s.counts.items k_ (get_or s.counts.items k_ 0 + 1) in
-    let T = tallies_more b (c.board_laws.ensures.of b) h x l I k n u a H v ok.is l2 d W in
-    let fronts = fronts_same b (c.board_laws.ensures.of b) h x l I k n u a H v ok.is l2 d W in
-    let cs : c.deref-3.result.now ≡ counts2 = c.deref-3.ensures.value ∙ c.count_up.ensures.counts in
-    let event = post_event (rules_of b) p k n u a in
-    let h2 = h ++ event ∷ [] in
-    let legal2 = legal_post c.board_laws.ensures b h x l I k n u a H caller ok.right in
-    let same = posts_are c.board_laws.ensures b h x l I k n u a H caller ok.right in
-    let T2 : AreTallies b counts2 (sums_of l2) (posts h2) = subst (AreTallies b counts2 (sums_of l2)) (sym same) T in
-    let l3 = c.advance.new.ledger in
-    let closes : Bool = c.count_up.result == c.units-units.result in
-    let closes_as : closes ≡ (get_or s.counts.items k_ 0 + 1 == units) = ap (λ (y : ℕ). y == c.units-units.result) c.count_up.ensures.count ∙ ap (λ (y : ℕ). get_or s.counts.items k_ 0 + 1 == y) c.units-units.ensures in
-    let t = is_closed (rules_of b) q n in
-    let t_is : closes ≡ t = closes_as ∙ sym (closes_is b h x l I k n u a H) in
-    let entry : Entry = c.post_entry.result in
-    let entry_as = c.post_entry.ensures in
-    let kept_is : (answers_kept c.put.new.self) ≡ set (answers_kept s.store) i a = put_kept s.store c.put.new.self c.place-at.result (kept_of c.args.answer.now) c.put.ensures.answers ∙ ap (λ (j : ℕ). set (answers_kept s.store) j a) at_ in
-    let marks_is : set s.marks.items c.place-at.result true ≡ set s.marks.items i true = ap (λ (j : ℕ). set s.marks.items j true) at_ in
-    let E = events_of units (answers_kept c.put.new.self) c.push_reserved.new.self.items in
-    let events : E ≡ h2 =
-    ap (λ (xs : List Answer). events_of units xs c.push_reserved.new.self.items) kept_is
-    ∙ ap (events_of units (set (answers_kept s.store) i a)) c.push_reserved.ensures.items
-    ∙ events_posted c.board_laws.ensures.answers_fit b h x l I k n u a H s.history.items refl closes closes_as entry entry_as in
-    ap (λ (y : Option ℕ). replies_of.Taken y) (c.closed_of.ensures ∙ ap (λ (y : Bool). closed_if y n) t_is)
-    ∙ sym (ap posted_of ok.reply) ∙ ap (λ (z : Content). posted_of (post_answer z k n u ρ v a)) c.self.view_is
+    let d = (goal.at.returns-clause-answer c).In_default in
+    ap (λ (y : Option ℕ). replies_of.Taken y) (c.closed_of.ensures ∙ ap (λ (y : Bool). closed_if y (n d)) (closes_so d c.count_up.result c.units-units.result c.count_up.ensures.count c.units-units.ensures))
+    ∙ sym (ap posted_of (ok d).reply) ∙ ap (λ (z : Content). posted_of (post_answer z (k d) (n d) (u d) (ρ d) (v d) (a d))) c.self.view_is
 
 pub returns-clause-after : goal.returns-clause-after
 returns-clause-after c =
-    let s = c.self.inside in
-    let b = setup_of s.terms in
-    let units = unit_count b.market in
-    let h = events_of units (answers_kept s.store) s.history.items in
-    let x : Lists = record { takers = s.takers.items; marks = s.marks.items; kept = answers_kept s.store; counts = s.counts.items; halted = s.halted.items; any_halt = s.any_halt } in
-    let l = s.ledger in
-    let I : IsBoard b h x l = c.self.invariant.0 in
-    let K = c.self.invariant.1 in
-    let k = c.args.caller in
-    let n = c.args.task.now.proposal in
-    let u = c.args.task.now.unit in
-    let ρ = prices_of c.args.task.now.prices in
-    let v = task_unit c.args.task.now in
-    let a = answer_of c.args.answer.now in
-    let asked : c.refusal-refused.result ≡ refusal_of b l s.marks.items s.takers.items k n u ρ v =
-    c.refusal-refused.ensures.refused ∙ ap (λ (xs : List Bool). refusal_of b l xs c.deref-2.result.now k n u ρ v) c.deref.ensures.value
-    ∙ ap (λ (xs : List ℕ). refusal_of b l s.marks.items xs k n u ρ v) c.deref-2.ensures.value in
-    let ok = taken_here c.board_laws.ensures.taken_tells b h x l I k n u ρ v a (is_task c.args.task.now) c.requires.fit c.requires.earned (sym asked ∙ c.in_default.is) in
-    let H = ok.held in
-    let i = place units n u in
-    let at_ : c.place-at.result ≡ i = c.place-at.ensures ∙ ap (λ (m : ℕ). place m n u) c.units-units.ensures in
-    let k_ = n - 1 in
-    let d = blank 0 in
-    let l2 = c.add.new.self in
-    let W : IsCounted l l2 k_ v a d = record { proposals = c.add.ensures.proposals d; earned = c.add.ensures.earned; closed = c.add.ensures.closed; opened = c.add.ensures.opened } in
-    let p = posts h in
-    let q = with_post p k n u a in
-    let caller : k < b.callers = subst (λ (z : Content). k < z.setup.callers) (sym c.self.view_is) c.requires.caller in
-    let counts2 = set s.counts.items k_ (get_or s.counts.items k_ 0 + 1) in
-    let T = tallies_more b (c.board_laws.ensures.of b) h x l I k n u a H v ok.is l2 d W in
-    let fronts = fronts_same b (c.board_laws.ensures.of b) h x l I k n u a H v ok.is l2 d W in
-    let cs : c.deref-3.result.now ≡ counts2 = c.deref-3.ensures.value ∙ c.count_up.ensures.counts in
-    let event = post_event (rules_of b) p k n u a in
-    let h2 = h ++ event ∷ [] in
-    let legal2 = legal_post c.board_laws.ensures b h x l I k n u a H caller ok.right in
-    let same = posts_are c.board_laws.ensures b h x l I k n u a H caller ok.right in
-    let T2 : AreTallies b counts2 (sums_of l2) (posts h2) = subst (AreTallies b counts2 (sums_of l2)) (sym same) T in
-    let l3 = c.advance.new.ledger in
-    let closes : Bool = c.count_up.result == c.units-units.result in
-    let closes_as : closes ≡ (get_or s.counts.items k_ 0 + 1 == units) = ap (λ (y : ℕ). y == c.units-units.result) c.count_up.ensures.count ∙ ap (λ (y : ℕ). get_or s.counts.items k_ 0 + 1 == y) c.units-units.ensures in
-    let t = is_closed (rules_of b) q n in
-    let t_is : closes ≡ t = closes_as ∙ sym (closes_is b h x l I k n u a H) in
-    let entry : Entry = c.post_entry.result in
-    let entry_as = c.post_entry.ensures in
-    let kept_is : (answers_kept c.put.new.self) ≡ set (answers_kept s.store) i a = put_kept s.store c.put.new.self c.place-at.result (kept_of c.args.answer.now) c.put.ensures.answers ∙ ap (λ (j : ℕ). set (answers_kept s.store) j a) at_ in
-    let marks_is : set s.marks.items c.place-at.result true ≡ set s.marks.items i true = ap (λ (j : ℕ). set s.marks.items j true) at_ in
-    let E = events_of units (answers_kept c.put.new.self) c.push_reserved.new.self.items in
-    let events : E ≡ h2 =
-    ap (λ (xs : List Answer). events_of units xs c.push_reserved.new.self.items) kept_is
-    ∙ ap (events_of units (set (answers_kept s.store) i a)) c.push_reserved.ensures.items
-    ∙ events_posted c.board_laws.ensures.answers_fit b h x l I k n u a H s.history.items refl closes closes_as entry entry_as in
-    ap (content b) events ∙ sym (ap (λ r. content b (with_answer h event r)) ok.reply) ∙ ap (λ (z : Content). after_post z k n u ρ v a) c.self.view_is
+    let d = (goal.at.returns-clause-after c).In_default in
+    let kept = kept_is (goal.at.returns-clause-after c).After-put (i d) (place_is (goal.at.returns-clause-after c).After-place-at) in
+    let events = events_so d c.count_up.result c.units-units.result c.count_up.ensures.count c.units-units.ensures c.post_entry.result c.push_reserved.new.self.items (answers_kept c.put.new.self) c.post_entry.ensures c.push_reserved.ensures.items kept in
+    ap (content (b d)) events ∙ sym (ap (λ r. content (b d) (with_answer (h d) (event d) r)) (ok d).reply) ∙ ap (λ (z : Content). after_post z (k d) (n d) (u d) (ρ d) (v d) (a d)) c.self.view_is
