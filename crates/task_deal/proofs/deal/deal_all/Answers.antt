@@ -1,4 +1,4 @@
-use Rattle.std.proofs.Common.{◌≡◌, ◌≤◌, ◌∙◌, ℕ, length, All, ap, sym, subst, arith}
+use Rattle.std.proofs.Common.{◌≡◌, ◌≤◌, ◌∙◌, ◌++◌, ℕ, List, length, take, drop, All, ap, sym, subst, arith}
 use Rattle.crossbeam_deque.specs.Injected.{injector_view}
 use Rattle.task_deal.specs.declared.member.Member.{Member}
 use Rattle.task_deal.specs.declared.rule.Account.{Account}
@@ -8,6 +8,31 @@ use Rattle.task_deal.specs.Seats.{IsSeatOf, Each, Stands}
 use Rattle.task_deal.specs.Rule.{sum_of}
 use Rattle.task_deal.proofs.Together.{AreOf, ready, worked, whole, made_of, members_count, parts_left, owns_stand, purses_left, ledger_begins}
 use Rattle.task_deal.proofs.deal.deal_all.Goals as goal
+use Rattle.task_deal.proofs.deal.deal_all.Given.{Over}
+use Rattle.task_deal.proofs.deal.deal_all.Goals.{After-work_all, After-take_apart}
+
+-- the members before they work and after
+module _ (g : Over) (c : After-work_all g) where
+  abbrev shared : Shared
+  shared = record { source = c.in_ok-source.source; thieves = c.in_ok-owns.thieves }
+
+  abbrev ss : List (Member g.row.J.Denot)
+  ss = c.put_together.new.members.items
+
+  abbrev ts : List (Member g.row.J.Denot)
+  ts = c.work_all.new.members
+
+  count : length ts ≡ length ss
+  count = omega (arith, c.work_all.auto.members, ap length c.deref_mut.ensures.value)
+
+  all : take c.put_together.new.members.len (ts ++ drop (length ts) ss) ≡ ts
+  all = whole c.put_together.new.members.len ss ts c.put_together.new.members.ok.0 count
+
+  first : AreOf ss c.args.jobs.now.items c.fill_all.new.owns.items c.in_ok-purses.purses.items
+  first = record { jobs_are = c.put_together.ensures.jobs; owns_are = c.put_together.ensures.owns; purses_are = c.put_together.ensures.purses }
+
+  were : (length c.args.jobs.now.items ≡ length ss) × (length c.fill_all.new.owns.items ≡ length ss) × (length c.in_ok-purses.purses.items ≡ length ss)
+  were = members_count ss c.args.jobs.now.items c.fill_all.new.owns.items c.in_ok-purses.purses.items first
 
 pub work_all-requires-clause-ready : goal.work_all-requires-clause-ready
 work_all-requires-clause-ready g c κs within =
@@ -19,117 +44,66 @@ work_all-requires-clause-ready g c κs within =
 
 pub take_apart-requires-clause-members : goal.take_apart-requires-clause-members
 take_apart-requires-clause-members g c =
-    let shared : Shared = record { source = c.in_ok-source.source; thieves = c.in_ok-owns.thieves } in
-    let ss = c.put_together.new.members.items in
-    let ts = c.work_all.new.members in
-    let count : length ts ≡ length ss = omega (arith, c.work_all.auto.members, ap length c.deref_mut.ensures.value) in
-    let all = whole c.put_together.new.members.len ss ts c.put_together.new.members.ok.0 count in
-    let first : AreOf ss c.args.jobs.now.items c.fill_all.new.owns.items c.in_ok-purses.purses.items = record { jobs_are = c.put_together.ensures.jobs; owns_are = c.put_together.ensures.owns; purses_are = c.put_together.ensures.purses } in
-    let zip = worked shared g.J.Job.work g.J.Job.runs g.J.Job.spare c.deref_mut.result.now ss ts c.deref_mut.ensures.value c.work_all.auto.members c.work_all.ensures in
-    subst (All (λ (m : Member g.row.J.Denot). HasPart shared.source m.seat)) (sym all) (parts_left shared g.J.Job.work g.J.Job.runs g.J.Job.spare ss ts zip)
+    let d = (goal.at.take_apart-requires-clause-members g c).After-work_all in
+    let zip = worked (shared g d) g.J.Job.work g.J.Job.runs g.J.Job.spare c.deref_mut.result.now (ss g d) (ts g d) c.deref_mut.ensures.value c.work_all.auto.members c.work_all.ensures in
+    subst (All (λ (m : Member g.row.J.Denot). HasPart (shared g d).source m.seat)) (sym (all g d)) (parts_left (shared g d) g.J.Job.work g.J.Job.runs g.J.Job.spare (ss g d) (ts g d) zip)
 
 pub take_apart-requires-clause-jobs : goal.take_apart-requires-clause-jobs
 take_apart-requires-clause-jobs g c =
-    let shared : Shared = record { source = c.in_ok-source.source; thieves = c.in_ok-owns.thieves } in
-    let ss = c.put_together.new.members.items in
-    let ts = c.work_all.new.members in
-    let count : length ts ≡ length ss = omega (arith, c.work_all.auto.members, ap length c.deref_mut.ensures.value) in
-    let all = whole c.put_together.new.members.len ss ts c.put_together.new.members.ok.0 count in
-    let first : AreOf ss c.args.jobs.now.items c.fill_all.new.owns.items c.in_ok-purses.purses.items = record { jobs_are = c.put_together.ensures.jobs; owns_are = c.put_together.ensures.owns; purses_are = c.put_together.ensures.purses } in
-    let were = members_count ss c.args.jobs.now.items c.fill_all.new.owns.items c.in_ok-purses.purses.items first in
-    omega (arith, ap length all, count, were.0, c.put_together.ensures.room.0, c.args.jobs.now.ok.0, c.args.jobs.now.ok.1)
+    let d = (goal.at.take_apart-requires-clause-jobs g c).After-work_all in
+    omega (arith, ap length (all g d), count g d, (were g d).0, c.put_together.ensures.room.0, c.args.jobs.now.ok.0, c.args.jobs.now.ok.1)
 
 pub take_apart-requires-clause-owns : goal.take_apart-requires-clause-owns
 take_apart-requires-clause-owns g c =
-    let shared : Shared = record { source = c.in_ok-source.source; thieves = c.in_ok-owns.thieves } in
-    let ss = c.put_together.new.members.items in
-    let ts = c.work_all.new.members in
-    let count : length ts ≡ length ss = omega (arith, c.work_all.auto.members, ap length c.deref_mut.ensures.value) in
-    let all = whole c.put_together.new.members.len ss ts c.put_together.new.members.ok.0 count in
-    let first : AreOf ss c.args.jobs.now.items c.fill_all.new.owns.items c.in_ok-purses.purses.items = record { jobs_are = c.put_together.ensures.jobs; owns_are = c.put_together.ensures.owns; purses_are = c.put_together.ensures.purses } in
-    let were = members_count ss c.args.jobs.now.items c.fill_all.new.owns.items c.in_ok-purses.purses.items first in
-    omega (arith, ap length all, count, were.1, c.put_together.ensures.room.1, c.fill_all.new.owns.ok.0, c.fill_all.new.owns.ok.1)
+    let d = (goal.at.take_apart-requires-clause-owns g c).After-work_all in
+    omega (arith, ap length (all g d), count g d, (were g d).1, c.put_together.ensures.room.1, c.fill_all.new.owns.ok.0, c.fill_all.new.owns.ok.1)
 
 pub take_apart-requires-clause-purses : goal.take_apart-requires-clause-purses
 take_apart-requires-clause-purses g c =
-    let shared : Shared = record { source = c.in_ok-source.source; thieves = c.in_ok-owns.thieves } in
-    let ss = c.put_together.new.members.items in
-    let ts = c.work_all.new.members in
-    let count : length ts ≡ length ss = omega (arith, c.work_all.auto.members, ap length c.deref_mut.ensures.value) in
-    let all = whole c.put_together.new.members.len ss ts c.put_together.new.members.ok.0 count in
-    let first : AreOf ss c.args.jobs.now.items c.fill_all.new.owns.items c.in_ok-purses.purses.items = record { jobs_are = c.put_together.ensures.jobs; owns_are = c.put_together.ensures.owns; purses_are = c.put_together.ensures.purses } in
-    let were = members_count ss c.args.jobs.now.items c.fill_all.new.owns.items c.in_ok-purses.purses.items first in
-    omega (arith, ap length all, count, were.2, c.put_together.ensures.room.2, c.in_ok-purses.purses.ok.0, c.in_ok-purses.purses.ok.1)
+    let d = (goal.at.take_apart-requires-clause-purses g c).After-work_all in
+    omega (arith, ap length (all g d), count g d, (were g d).2, c.put_together.ensures.room.2, c.in_ok-purses.purses.ok.0, c.in_ok-purses.purses.ok.1)
 
 pub settle-requires-clause-count : goal.settle-requires-clause-count
 settle-requires-clause-count g c =
-    let shared : Shared = record { source = c.in_ok-source.source; thieves = c.in_ok-owns.thieves } in
-    let ss = c.put_together.new.members.items in
-    let ts = c.work_all.new.members in
-    let count : length ts ≡ length ss = omega (arith, c.work_all.auto.members, ap length c.deref_mut.ensures.value) in
-    let all = whole c.put_together.new.members.len ss ts c.put_together.new.members.ok.0 count in
-    let first : AreOf ss c.args.jobs.now.items c.fill_all.new.owns.items c.in_ok-purses.purses.items = record { jobs_are = c.put_together.ensures.jobs; owns_are = c.put_together.ensures.owns; purses_are = c.put_together.ensures.purses } in
-    let were = members_count ss c.args.jobs.now.items c.fill_all.new.owns.items c.in_ok-purses.purses.items first in
-    let then : AreOf ts c.take_apart.new.jobs.items c.take_apart.new.owns.items c.take_apart.new.purses.items = made_of _ ts c.take_apart.new.jobs.items c.take_apart.new.owns.items c.take_apart.new.purses.items all c.take_apart.ensures.jobs c.take_apart.ensures.owns c.take_apart.ensures.purses in
-    let are = members_count ts c.take_apart.new.jobs.items c.take_apart.new.owns.items c.take_apart.new.purses.items then in
-    omega (arith, are.1, count, were.1, c.in_ok-purses.ensures.count)
+    let d = (goal.at.settle-requires-clause-count g c).After-work_all in
+    let then : AreOf (ts g d) c.take_apart.new.jobs.items c.take_apart.new.owns.items c.take_apart.new.purses.items = made_of _ (ts g d) c.take_apart.new.jobs.items c.take_apart.new.owns.items c.take_apart.new.purses.items (all g d) c.take_apart.ensures.jobs c.take_apart.ensures.owns c.take_apart.ensures.purses in
+    let are = members_count (ts g d) c.take_apart.new.jobs.items c.take_apart.new.owns.items c.take_apart.new.purses.items then in
+    omega (arith, are.1, count g d, (were g d).1, c.in_ok-purses.ensures.count)
 
 pub settle-requires-clause-purses : goal.settle-requires-clause-purses
 settle-requires-clause-purses g c =
-    let shared : Shared = record { source = c.in_ok-source.source; thieves = c.in_ok-owns.thieves } in
-    let ss = c.put_together.new.members.items in
-    let ts = c.work_all.new.members in
-    let count : length ts ≡ length ss = omega (arith, c.work_all.auto.members, ap length c.deref_mut.ensures.value) in
-    let all = whole c.put_together.new.members.len ss ts c.put_together.new.members.ok.0 count in
-    let first : AreOf ss c.args.jobs.now.items c.fill_all.new.owns.items c.in_ok-purses.purses.items = record { jobs_are = c.put_together.ensures.jobs; owns_are = c.put_together.ensures.owns; purses_are = c.put_together.ensures.purses } in
-    let zip = worked shared g.J.Job.work g.J.Job.runs g.J.Job.spare c.deref_mut.result.now ss ts c.deref_mut.ensures.value c.work_all.auto.members c.work_all.ensures in
-    let then : AreOf ts c.take_apart.new.jobs.items c.take_apart.new.owns.items c.take_apart.new.purses.items = made_of _ ts c.take_apart.new.jobs.items c.take_apart.new.owns.items c.take_apart.new.purses.items all c.take_apart.ensures.jobs c.take_apart.ensures.owns c.take_apart.ensures.purses in
-    purses_left shared g.J.Job.work g.J.Job.runs g.J.Job.spare ss ts c.args.jobs.now.items c.take_apart.new.jobs.items c.fill_all.new.owns.items c.take_apart.new.owns.items c.in_ok-purses.purses.items c.take_apart.new.purses.items first then zip
+    let d = (goal.at.settle-requires-clause-purses g c).After-work_all in
+    let zip = worked (shared g d) g.J.Job.work g.J.Job.runs g.J.Job.spare c.deref_mut.result.now (ss g d) (ts g d) c.deref_mut.ensures.value c.work_all.auto.members c.work_all.ensures in
+    let then : AreOf (ts g d) c.take_apart.new.jobs.items c.take_apart.new.owns.items c.take_apart.new.purses.items = made_of _ (ts g d) c.take_apart.new.jobs.items c.take_apart.new.owns.items c.take_apart.new.purses.items (all g d) c.take_apart.ensures.jobs c.take_apart.ensures.owns c.take_apart.ensures.purses in
+    purses_left (shared g d) g.J.Job.work g.J.Job.runs g.J.Job.spare (ss g d) (ts g d) c.args.jobs.now.items c.take_apart.new.jobs.items c.fill_all.new.owns.items c.take_apart.new.owns.items c.in_ok-purses.purses.items c.take_apart.new.purses.items (first g d) then zip
 
 pub settle-requires-clause-owns : goal.settle-requires-clause-owns
 settle-requires-clause-owns g c =
-    let shared : Shared = record { source = c.in_ok-source.source; thieves = c.in_ok-owns.thieves } in
-    let ss = c.put_together.new.members.items in
-    let ts = c.work_all.new.members in
-    let count : length ts ≡ length ss = omega (arith, c.work_all.auto.members, ap length c.deref_mut.ensures.value) in
-    let all = whole c.put_together.new.members.len ss ts c.put_together.new.members.ok.0 count in
-    let first : AreOf ss c.args.jobs.now.items c.fill_all.new.owns.items c.in_ok-purses.purses.items = record { jobs_are = c.put_together.ensures.jobs; owns_are = c.put_together.ensures.owns; purses_are = c.put_together.ensures.purses } in
-    let were = members_count ss c.args.jobs.now.items c.fill_all.new.owns.items c.in_ok-purses.purses.items first in
-    let zip = worked shared g.J.Job.work g.J.Job.runs g.J.Job.spare c.deref_mut.result.now ss ts c.deref_mut.ensures.value c.work_all.auto.members c.work_all.ensures in
-    let then : AreOf ts c.take_apart.new.jobs.items c.take_apart.new.owns.items c.take_apart.new.purses.items = made_of _ ts c.take_apart.new.jobs.items c.take_apart.new.owns.items c.take_apart.new.purses.items all c.take_apart.ensures.jobs c.take_apart.ensures.owns c.take_apart.ensures.purses in
-    let are = members_count ts c.take_apart.new.jobs.items c.take_apart.new.owns.items c.take_apart.new.purses.items then in
-    let out : c.len-count.result ≡ length c.take_apart.new.purses.items = omega (arith, are.2, count, were.2, c.in_ok-purses.ensures.purses.0) in
-    subst (λ k. Each (Stands shared.thieves.items k) 0 (length shared.thieves.items) c.take_apart.new.owns.items) out
-    (owns_stand shared g.J.Job.work g.J.Job.runs g.J.Job.spare ss ts c.args.jobs.now.items c.take_apart.new.jobs.items c.fill_all.new.owns.items c.take_apart.new.owns.items c.in_ok-purses.purses.items c.take_apart.new.purses.items first then zip c.len-count.result (length shared.thieves.items) c.in_ok-purses.ensures.count c.in_ok-purses.ensures.owns)
+    let d = (goal.at.settle-requires-clause-owns g c).After-work_all in
+    let zip = worked (shared g d) g.J.Job.work g.J.Job.runs g.J.Job.spare c.deref_mut.result.now (ss g d) (ts g d) c.deref_mut.ensures.value c.work_all.auto.members c.work_all.ensures in
+    let then : AreOf (ts g d) c.take_apart.new.jobs.items c.take_apart.new.owns.items c.take_apart.new.purses.items = made_of _ (ts g d) c.take_apart.new.jobs.items c.take_apart.new.owns.items c.take_apart.new.purses.items (all g d) c.take_apart.ensures.jobs c.take_apart.ensures.owns c.take_apart.ensures.purses in
+    let are = members_count (ts g d) c.take_apart.new.jobs.items c.take_apart.new.owns.items c.take_apart.new.purses.items then in
+    let out : c.len-count.result ≡ length c.take_apart.new.purses.items = omega (arith, are.2, count g d, (were g d).2, c.in_ok-purses.ensures.purses.0) in
+    subst (λ k. Each (Stands (shared g d).thieves.items k) 0 (length (shared g d).thieves.items) c.take_apart.new.owns.items) out
+    (owns_stand (shared g d) g.J.Job.work g.J.Job.runs g.J.Job.spare (ss g d) (ts g d) c.args.jobs.now.items c.take_apart.new.jobs.items c.fill_all.new.owns.items c.take_apart.new.owns.items c.in_ok-purses.purses.items c.take_apart.new.purses.items (first g d) then zip c.len-count.result (length (shared g d).thieves.items) c.in_ok-purses.ensures.count c.in_ok-purses.ensures.owns)
 
 pub drain_all-requires-clause-some : goal.drain_all-requires-clause-some
 drain_all-requires-clause-some g c =
-    let shared : Shared = record { source = c.in_ok-source.source; thieves = c.in_ok-owns.thieves } in
-    let ss = c.put_together.new.members.items in
-    let ts = c.work_all.new.members in
-    let count : length ts ≡ length ss = omega (arith, c.work_all.auto.members, ap length c.deref_mut.ensures.value) in
-    let all = whole c.put_together.new.members.len ss ts c.put_together.new.members.ok.0 count in
-    let first : AreOf ss c.args.jobs.now.items c.fill_all.new.owns.items c.in_ok-purses.purses.items = record { jobs_are = c.put_together.ensures.jobs; owns_are = c.put_together.ensures.owns; purses_are = c.put_together.ensures.purses } in
-    let were = members_count ss c.args.jobs.now.items c.fill_all.new.owns.items c.in_ok-purses.purses.items first in
-    let then : AreOf ts c.take_apart.new.jobs.items c.take_apart.new.owns.items c.take_apart.new.purses.items = made_of _ ts c.take_apart.new.jobs.items c.take_apart.new.owns.items c.take_apart.new.purses.items all c.take_apart.ensures.jobs c.take_apart.ensures.owns c.take_apart.ensures.purses in
-    let are = members_count ts c.take_apart.new.jobs.items c.take_apart.new.owns.items c.take_apart.new.purses.items then in
-    omega (arith, are.0, count, were.0, c.requires.jobs.0)
+    let d = (goal.at.drain_all-requires-clause-some g c).After-work_all in
+    let then : AreOf (ts g d) c.take_apart.new.jobs.items c.take_apart.new.owns.items c.take_apart.new.purses.items = made_of _ (ts g d) c.take_apart.new.jobs.items c.take_apart.new.owns.items c.take_apart.new.purses.items (all g d) c.take_apart.ensures.jobs c.take_apart.ensures.owns c.take_apart.ensures.purses in
+    let are = members_count (ts g d) c.take_apart.new.jobs.items c.take_apart.new.owns.items c.take_apart.new.purses.items then in
+    omega (arith, are.0, count g d, (were g d).0, c.requires.jobs.0)
 
 pub drain_all-requires-clause-ledger : goal.drain_all-requires-clause-ledger
 drain_all-requires-clause-ledger g c =
-    let shared : Shared = record { source = c.in_ok-source.source; thieves = c.in_ok-owns.thieves } in
-    let ss = c.put_together.new.members.items in
-    let ts = c.work_all.new.members in
-    let count : length ts ≡ length ss = omega (arith, c.work_all.auto.members, ap length c.deref_mut.ensures.value) in
-    let all = whole c.put_together.new.members.len ss ts c.put_together.new.members.ok.0 count in
-    let first : AreOf ss c.args.jobs.now.items c.fill_all.new.owns.items c.in_ok-purses.purses.items = record { jobs_are = c.put_together.ensures.jobs; owns_are = c.put_together.ensures.owns; purses_are = c.put_together.ensures.purses } in
-    let zip = worked shared g.J.Job.work g.J.Job.runs g.J.Job.spare c.deref_mut.result.now ss ts c.deref_mut.ensures.value c.work_all.auto.members c.work_all.ensures in
-    let then : AreOf ts c.take_apart.new.jobs.items c.take_apart.new.owns.items c.take_apart.new.purses.items = made_of _ ts c.take_apart.new.jobs.items c.take_apart.new.owns.items c.take_apart.new.purses.items all c.take_apart.ensures.jobs c.take_apart.ensures.owns c.take_apart.ensures.purses in (
+    let d = (goal.at.drain_all-requires-clause-ledger g c).After-work_all in
+    let zip = worked (shared g d) g.J.Job.work g.J.Job.runs g.J.Job.spare c.deref_mut.result.now (ss g d) (ts g d) c.deref_mut.ensures.value c.work_all.auto.members c.work_all.ensures in
+    let then : AreOf (ts g d) c.take_apart.new.jobs.items c.take_apart.new.owns.items c.take_apart.new.purses.items = made_of _ (ts g d) c.take_apart.new.jobs.items c.take_apart.new.owns.items c.take_apart.new.purses.items (all g d) c.take_apart.ensures.jobs c.take_apart.ensures.owns c.take_apart.ensures.purses in (
       c.args.jobs.now.items,
-      ledger_begins shared g.J.Job.work g.J.Job.runs g.J.Job.spare ss ts c.args.jobs.now.items c.take_apart.new.jobs.items c.fill_all.new.owns.items c.take_apart.new.owns.items c.in_ok-purses.purses.items c.take_apart.new.purses.items first then zip c.args.tasks c.settle.new.owns.items c.check_all.new.owns.items (injector_view c.take_apart.new.owner)
+      ledger_begins (shared g d) g.J.Job.work g.J.Job.runs g.J.Job.spare (ss g d) (ts g d) c.args.jobs.now.items c.take_apart.new.jobs.items c.fill_all.new.owns.items c.take_apart.new.owns.items c.in_ok-purses.purses.items c.take_apart.new.purses.items (first g d) then zip c.args.tasks c.settle.new.owns.items c.check_all.new.owns.items (injector_view c.take_apart.new.owner)
           c.take_apart.ensures.owner.2
           (c.take_apart.ensures.owner.3 ∙ (ap (λ (v : Account). v.put) c.put_together.ensures.owner.2 ∙ ap (λ (v : Account). v.put) c.in_ok-source.ensures.2))
-          (λ h. let taken : Account → ℕ = λ v. sum_of h v.taken in omega (arith, c.take_apart.ensures.books h, ap (sum_of (source_taken h)) all, ap taken c.put_together.ensures.owner.2, ap taken c.in_ok-source.ensures.2))
+          (λ h. let taken : Account → ℕ = λ v. sum_of h v.taken in omega (arith, c.take_apart.ensures.books h, ap (sum_of (source_taken h)) (all g d), ap taken c.put_together.ensures.owner.2, ap taken c.in_ok-source.ensures.2))
           c.put_together.ensures.members.1
           (λ h. let old = c.in_ok-owns.ensures.1.books h in let new = c.in_ok-purses.ensures.books h in (omega (arith, old.0, new.0), omega (arith, old.1, new.1)))
           c.in_ok-purses.ensures.purses.2
@@ -142,19 +116,14 @@ drain_all-requires-clause-ledger g c =
 
 pub returns-clause-dealt : goal.returns-clause-dealt
 returns-clause-dealt g c =
-    let shared : Shared = record { source = c.in_ok-source.source; thieves = c.in_ok-owns.thieves } in
-    let ss = c.put_together.new.members.items in
-    let ts = c.work_all.new.members in
-    let count : length ts ≡ length ss = omega (arith, c.work_all.auto.members, ap length c.deref_mut.ensures.value) in
-    let all = whole c.put_together.new.members.len ss ts c.put_together.new.members.ok.0 count in
-    let first : AreOf ss c.args.jobs.now.items c.fill_all.new.owns.items c.in_ok-purses.purses.items = record { jobs_are = c.put_together.ensures.jobs; owns_are = c.put_together.ensures.owns; purses_are = c.put_together.ensures.purses } in
-    let zip = worked shared g.J.Job.work g.J.Job.runs g.J.Job.spare c.deref_mut.result.now ss ts c.deref_mut.ensures.value c.work_all.auto.members c.work_all.ensures in
-    let then : AreOf ts c.take_apart.new.jobs.items c.take_apart.new.owns.items c.take_apart.new.purses.items = made_of _ ts c.take_apart.new.jobs.items c.take_apart.new.owns.items c.take_apart.new.purses.items all c.take_apart.ensures.jobs c.take_apart.ensures.owns c.take_apart.ensures.purses in
+    let d = (goal.at.returns-clause-dealt g c).After-work_all in
+    let zip = worked (shared g d) g.J.Job.work g.J.Job.runs g.J.Job.spare c.deref_mut.result.now (ss g d) (ts g d) c.deref_mut.ensures.value c.work_all.auto.members c.work_all.ensures in
+    let then : AreOf (ts g d) c.take_apart.new.jobs.items c.take_apart.new.owns.items c.take_apart.new.purses.items = made_of _ (ts g d) c.take_apart.new.jobs.items c.take_apart.new.owns.items c.take_apart.new.purses.items (all g d) c.take_apart.ensures.jobs c.take_apart.ensures.owns c.take_apart.ensures.purses in
     c.drain_all.ensures c.args.jobs.now.items
-    (ledger_begins shared g.J.Job.work g.J.Job.runs g.J.Job.spare ss ts c.args.jobs.now.items c.take_apart.new.jobs.items c.fill_all.new.owns.items c.take_apart.new.owns.items c.in_ok-purses.purses.items c.take_apart.new.purses.items first then zip c.args.tasks c.settle.new.owns.items c.check_all.new.owns.items (injector_view c.take_apart.new.owner)
+    (ledger_begins (shared g d) g.J.Job.work g.J.Job.runs g.J.Job.spare (ss g d) (ts g d) c.args.jobs.now.items c.take_apart.new.jobs.items c.fill_all.new.owns.items c.take_apart.new.owns.items c.in_ok-purses.purses.items c.take_apart.new.purses.items (first g d) then zip c.args.tasks c.settle.new.owns.items c.check_all.new.owns.items (injector_view c.take_apart.new.owner)
     c.take_apart.ensures.owner.2
     (c.take_apart.ensures.owner.3 ∙ (ap (λ (v : Account). v.put) c.put_together.ensures.owner.2 ∙ ap (λ (v : Account). v.put) c.in_ok-source.ensures.2))
-    (λ h. let taken : Account → ℕ = λ v. sum_of h v.taken in omega (arith, c.take_apart.ensures.books h, ap (sum_of (source_taken h)) all, ap taken c.put_together.ensures.owner.2, ap taken c.in_ok-source.ensures.2))
+    (λ h. let taken : Account → ℕ = λ v. sum_of h v.taken in omega (arith, c.take_apart.ensures.books h, ap (sum_of (source_taken h)) (all g d), ap taken c.put_together.ensures.owner.2, ap taken c.in_ok-source.ensures.2))
     c.put_together.ensures.members.1
     (λ h. let old = c.in_ok-owns.ensures.1.books h in let new = c.in_ok-purses.ensures.books h in (omega (arith, old.0, new.0), omega (arith, old.1, new.1)))
     c.in_ok-purses.ensures.purses.2
