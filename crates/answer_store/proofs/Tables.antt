@@ -2,7 +2,6 @@
 use Rattle.std.proofs.Common.{◌≡◌, ℕ, zero, suc, ◌+◌, ◌*◌, ◌<◌, ◌≤◌, ◌⊎◌, inl, inr, List, [], ◌∷◌, ◌++◌, length, map, get_or, refl, sym, ap, ◌∙◌, arith, length-append}
 use Rattle.std.proofs.Math.ListN.{set, length-set}
 use Rattle.std.proofs.lemmas.List.{get_or-set_same, get_or-set_other, length-map, length-replicate}
-use Rattle.std.proofs.lemmas.List.Folds.{sum_by-replicate}
 use Rattle.std.proofs.lemmas.List.Sums.{sum_by-set}
 use Rattle.std.specs.Prelude.{replicate}
 use Rattle.answer_store.specs.Parts.{with_part}
@@ -43,28 +42,6 @@ zeros [] h = refl
 zeros (x ∷ xs) h =
     ap (λ (y : ℕ). y ∷ xs) (h 0 (omega arith))
     ∙ ap (λ (ys : List ℕ). 0 ∷ ys) (zeros xs (λ k lt. h (suc k) (omega (arith, lt))))
-
--- ---- an empty table
-
-blanks_none : (n : ℕ) → blanks (replicate {A = ℕ} n 0) ≡ n
-blanks_none n = let e = sum_by-replicate blank n 0 in omega (arith, e)
-
-none : (n k : ℕ) → get_or (replicate {A = ℕ} n 0) k 0 ≡ 0
-none zero k = refl
-none (suc n) zero = refl
-none (suc n) (suc k) = none n k
-
-pub empty_table : (long count room : ℕ) → count ≤ 200000000 → count * long ≤ room → IsTable long (replicate count 0) 0 [] room
-empty_table long count room few fits =
-    let l = length-replicate {A = ℕ} count 0 in
-    record {
-      size = omega arith;
-      within = λ k. let e = none count k in omega (arith, e);
-      apart = λ j k some same. let e = none count j in absurd (omega (arith, e, some));
-      few = let e = blanks_none count in omega (arith, e, l);
-      count = omega (arith, l, few);
-      fits = let e = ap (λ (n : ℕ). n * long) l in omega (arith, e, fits);
-    }
 
 blank_here : (ps : List ℕ) (i : ℕ) → i < length ps → get_or ps i 0 ≡ 0 → 1 ≤ blanks ps
 blank_here ps i lt e =

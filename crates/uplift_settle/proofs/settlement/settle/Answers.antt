@@ -4,7 +4,7 @@ use Rattle.std.proofs.lemmas.List.{take_more, take_all}
 use Rattle.std.proofs.lemmas.Option.{get_or_from_slice_get}
 use Rattle.std.specs.Int.{w128}
 use Rattle.std.specs.Prelude.{slice_get}
-use Rattle.uc_model.specs.Data.{AnyUnit, units}
+use Rattle.uc_model.specs.Data.{AnyUnit, units, unit_count}
 use Rattle.uc_model.specs.Earnings.{IsTop}
 use Rattle.uc_model.specs.PlainCases.{market_of, schedules_of}
 use Rattle.uc_model.specs.PlainUnits.{prices_of}
@@ -14,6 +14,7 @@ use Rattle.uplift_settle.specs.Earned.{earned_in}
 use Rattle.uplift_settle.proofs.Bounds.{best_within}
 use Rattle.uplift_settle.proofs.Units.{earned_length}
 use Rattle.uplift_settle.proofs.settlement.settle.Goals as goal
+use Rattle.uplift_settle.proofs.settlement.settle.Goals.{After-units_are_numbered}
 
 abbrev less : ℤ → ℤ → ℤ
 less e s = e -ℤ s
@@ -21,6 +22,14 @@ less e s = e -ℤ s
 zip_with-nil : (es : List ℤ) → zip_with less es [] ≡ []
 zip_with-nil [] = refl
 zip_with-nil (e ∷ es) = refl
+
+-- as many earnings as units
+units_earn : (c : After-units_are_numbered) → length c.args.earned.now ≡ unit_count (market_of c.args.case.now)
+units_earn c =
+    let m = market_of c.args.case.now in
+    let count = length_same (λ (u : AnyUnit) (e : ℤ). IsTop u (prices_of c.args.prices.now) e) (units m) c.args.earned.now c.requires.best in
+    let all = (c.units_are_numbered.ensures m).count in
+    omega (arith, count, all)
 
 pub loop-number-init : goal.loop-number-init
 loop-number-init c =
@@ -41,11 +50,10 @@ loop-number-init c =
 pub earned_by-scheduled-requires-clause-number : goal.earned_by-scheduled-requires-clause-number
 earned_by-scheduled-requires-clause-number c =
     let m = market_of c.args.case.now in
-    let count = length_same (λ (u : AnyUnit) (e : ℤ). IsTop u (prices_of c.args.prices.now) e) (units m) c.args.earned.now c.requires.best in
-    let all = (c.units_are_numbered.ensures m).count in
+    let count = units_earn (goal.at.earned_by-scheduled-requires-clause-number c).After-units_are_numbered in
     let test = c.loop-number-test.true in
     let plan = (c.feasible_plans_have_shape.ensures m (schedules_of c.args.plan.now) c.requires.feasible).count in
-    omega (arith, count, all, test, plan)
+    omega (arith, count, test, plan)
 
 pub uplift-payment-requires-clause-best : goal.uplift-payment-requires-clause-best
 uplift-payment-requires-clause-best c =
@@ -56,40 +64,33 @@ uplift-payment-requires-clause-best c =
 
 pub add_unit-requires-clause-scheduled_room : goal.add_unit-requires-clause-scheduled_room
 add_unit-requires-clause-scheduled_room c =
-    let m = market_of c.args.case.now in
-    let count = length_same (λ (u : AnyUnit) (e : ℤ). IsTop u (prices_of c.args.prices.now) e) (units m) c.args.earned.now c.requires.best in
-    let all = (c.units_are_numbered.ensures m).count in
+    let count = units_earn (goal.at.add_unit-requires-clause-scheduled_room c).After-units_are_numbered in
     let test = c.loop-number-test.true in
     let room = c.loop-number.invariant.scheduled_room in
-    omega (arith, count, all, test, room)
+    omega (arith, count, test, room)
 
 pub add_unit-requires-clause-payments_room : goal.add_unit-requires-clause-payments_room
 add_unit-requires-clause-payments_room c =
-    let m = market_of c.args.case.now in
-    let count = length_same (λ (u : AnyUnit) (e : ℤ). IsTop u (prices_of c.args.prices.now) e) (units m) c.args.earned.now c.requires.best in
-    let all = (c.units_are_numbered.ensures m).count in
+    let count = units_earn (goal.at.add_unit-requires-clause-payments_room c).After-units_are_numbered in
     let test = c.loop-number-test.true in
     let room = c.loop-number.invariant.payments_room in
-    omega (arith, count, all, test, room)
+    omega (arith, count, test, room)
 
 pub add_unit-requires-clause-total : goal.add_unit-requires-clause-total
 add_unit-requires-clause-total c =
-    let m = market_of c.args.case.now in
-    let count = length_same (λ (u : AnyUnit) (e : ℤ). IsTop u (prices_of c.args.prices.now) e) (units m) c.args.earned.now c.requires.best in
-    let all = (c.units_are_numbered.ensures m).count in
+    let count = units_earn (goal.at.add_unit-requires-clause-total c).After-units_are_numbered in
     let test = c.loop-number-test.true in
     let low = c.loop-number.invariant.limit.at_least in
     let high = c.loop-number.invariant.limit.at_most in
     let a = c.args.case.now.valid.thermal_count in
     let b = c.args.case.now.valid.flat_count in
     let d = c.args.case.now.valid.bid_count in
-    record { at_least = omega (arith, ints, count, all, test, low, a, b, d); at_most = omega (arith, ints, count, all, test, high, a, b, d) }
+    record { at_least = omega (arith, ints, count, test, low, a, b, d); at_most = omega (arith, ints, count, test, high, a, b, d) }
 
 pub loop-number-preserved : goal.loop-number-preserved
 loop-number-preserved c =
     let m = market_of c.args.case.now in
-    let count = length_same (λ (u : AnyUnit) (e : ℤ). IsTop u (prices_of c.args.prices.now) e) (units m) c.args.earned.now c.requires.best in
-    let all = (c.units_are_numbered.ensures m).count in
+    let count = units_earn (goal.at.loop-number-preserved c).After-units_are_numbered in
     let test = c.loop-number-test.true in
     let ps = schedules_of c.args.plan.now in
     let xs = earned_in m ps (prices_of c.args.prices.now) in
@@ -118,7 +119,7 @@ loop-number-preserved c =
     let longer = ap length scheduled in
     let pushed = length-append done (r ∷ []) in
     let last = earned_length m ps (prices_of c.args.prices.now) (c.units_are_numbered.ensures m) (c.feasible_plans_have_shape.ensures m ps c.requires.feasible) in
-    let lt : k < length xs = omega (arith, count, all, test, last) in
+    let lt : k < length xs = omega (arith, count, test, last) in
     let item = get_or_from_slice_get xs k r (pos 0) c.earned_by-scheduled.ensures.value in
     let at = ap (slice_get c.args.earned.now) number ∙ c.best_of.ensures in
     let totals = ap total payments ∙ total-push c.loop-number.into.payments.items c.uplift-payment.result in
@@ -139,15 +140,14 @@ returns-clause-settled c =
     let ps = schedules_of c.args.plan.now in
     let xs = earned_in m ps (prices_of c.args.prices.now) in
     let known = c.loop-number.invariant in
-    let count = length_same (λ (u : AnyUnit) (e : ℤ). IsTop u (prices_of c.args.prices.now) e) (units m) c.args.earned.now c.requires.best in
-    let all = (c.units_are_numbered.ensures m).count in
+    let count = units_earn (goal.at.returns-clause-settled c).After-units_are_numbered in
     let last = earned_length m ps (prices_of c.args.prices.now) (c.units_are_numbered.ensures m) (c.feasible_plans_have_shape.ensures m ps c.requires.feasible) in
     let test = c.loop-number-test.false in
     let f : FitsSigned w128 c.surplus_of-into.result = search rules in
     record {
       tops = c.args.earned.now;
       best = c.requires.best;
-      scheduled_is = known.scheduled ∙ take_all c.loop-number.number xs (omega (arith, count, all, last, test));
+      scheduled_is = known.scheduled ∙ take_all c.loop-number.number xs (omega (arith, count, last, test));
       payments_are = known.payments;
       surplus_is = to_z-of_z w128 c.surplus_of-into.result f ∙ c.surplus_of-into.ensures;
       sum_is = known.total;
@@ -155,20 +155,16 @@ returns-clause-settled c =
 
 pub returns-clause-scheduled_room : goal.returns-clause-scheduled_room
 returns-clause-scheduled_room c =
-    let m = market_of c.args.case.now in
-    let count = length_same (λ (u : AnyUnit) (e : ℤ). IsTop u (prices_of c.args.prices.now) e) (units m) c.args.earned.now c.requires.best in
-    let all = (c.units_are_numbered.ensures m).count in
+    let count = units_earn (goal.at.returns-clause-scheduled_room c).After-units_are_numbered in
     let room = c.loop-number.invariant.scheduled_room in
     let test = c.loop-number-test.false in
     let end = c.loop-number.auto.number-end in
-    omega (arith, count, all, room, test, end)
+    omega (arith, count, room, test, end)
 
 pub returns-clause-payments_room : goal.returns-clause-payments_room
 returns-clause-payments_room c =
-    let m = market_of c.args.case.now in
-    let count = length_same (λ (u : AnyUnit) (e : ℤ). IsTop u (prices_of c.args.prices.now) e) (units m) c.args.earned.now c.requires.best in
-    let all = (c.units_are_numbered.ensures m).count in
+    let count = units_earn (goal.at.returns-clause-payments_room c).After-units_are_numbered in
     let room = c.loop-number.invariant.payments_room in
     let test = c.loop-number-test.false in
     let end = c.loop-number.auto.number-end in
-    omega (arith, count, all, room, test, end)
+    omega (arith, count, room, test, end)
