@@ -72,6 +72,14 @@ module _ (mu cap up : ℤ) where
       let g = c x y low order high in
       omega (arith, ints)
 
+-- where f falls, it falls all the more less the worth of the reserve
+pub kinked_falls : (start : Start) (ps : List Piece) (s : Step) → IsFairStep s → (x : ℤ) → function_of start ps (x +ℤ pos 1) <ℤ function_of start ps x → kinked start ps s (x +ℤ pos 1) <ℤ kinked start ps s x
+kinked_falls start ps s fair x falls =
+    let m0 = int_min s.cap (s.ramp_up +ℤ x) in
+    let m1 = int_min s.cap (s.ramp_up +ℤ (x +ℤ pos 1)) in
+    let l = mul-mono_of s.reserve_price m0 m1 fair.reserve_price.at_least (omega (arith, ints, clamps)) in
+    omega (arith, ints)
+
 pub kinked_curves : (start : Start) (ps : List Piece) (s : Step) → IsFairStep s → AreSlopes start.first ps → Curves (kinked start ps s) start.first (last_place start.first ps)
 kinked_curves start ps s fair slopes = term_curves s.reserve_price s.cap s.ramp_up fair.reserve_price.at_least (function_of start ps) start.first (last_place start.first ps) (along_curves start.first start.level ps slopes)
 

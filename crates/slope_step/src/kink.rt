@@ -1,9 +1,10 @@
 //! The function less the worth of the best reserve, part by part.
-ghost use Rattle.std.specs.Prelude.{◌≡◌, ℕ, ℤ, ◌+◌, ◌<◌, ◌≤◌, pos, negsuc, ◌+ℤ◌, ◌-ℤ◌, ◌≤ℤ◌, ◌<ℤ◌, length};
+ghost use Rattle.std.specs.Prelude.{◌≡◌, ℕ, ℤ, ◌+◌, ◌<◌, ◌≤◌, pos, negsuc, ◌+ℤ◌, ◌-ℤ◌, ◌≤ℤ◌};
+ghost use Rattle.std.specs.Prelude.{◌<ℤ◌, length};
 ghost use Rattle.shape_law.specs.Steps.{IsFairStep};
 ghost use Rattle.slope_step.specs.Pieces.{piece, last_place, function_of, AreSlopes, IsLine};
-ghost use Rattle.slope_step.specs.Kink.{kinked, bend_of, parts_from, IsPlaced, IsLowered, AreWithin};
-ghost use Rattle.slope_step.specs.Kink.{IsGentle, AreGentle, IsSteep, IsValley};
+ghost use Rattle.slope_step.specs.Kink.{kinked, bend_of, parts_from, IsPlaced, IsLowered};
+ghost use Rattle.slope_step.specs.Kink.{AreWithin, IsGentle, AreGentle, IsSteep, IsValley};
 
 use crate::piece::{Piece, Start, along};
 use shape_law::step::Step;
@@ -83,7 +84,28 @@ pub(crate) fn part_at(pieces: &[Piece], place: Place, step: Step) -> Part
     }
 }
 
-/// The least place of the least value.
+/// The place from which the function doesn't fall, with the index of the piece that goes on there.
+pub(crate) fn fall(pieces: &[Piece], start: Start) -> Place
+    requires slopes { AreSlopes start.first pieces.now }
+    ensures placed { IsPlaced start.first pieces.now result }
+    ensures valley { IsValley (function_of start pieces.now) start.first
+        (last_place start.first pieces.now) result.at }
+{
+    let mut at = start.first;
+    for (next, piece) in pieces.iter().enumerate() {
+        if piece.slope >= 0 {
+            return Place { at, next };
+        }
+        at = piece.end;
+    }
+    Place {
+        at,
+        next: pieces.len(),
+    }
+}
+
+/// The least place of the least value, less the worth of the best reserve. Where the function
+/// itself falls, it falls all the more less that worth, so the parts before that are passed by.
 pub(crate) fn turn(pieces: &[Piece], start: Start, step: Step) -> i64
     requires slopes { AreSlopes start.first pieces.now }
     requires fair { IsFairStep step }
@@ -91,10 +113,7 @@ pub(crate) fn turn(pieces: &[Piece], start: Start, step: Step) -> i64
     ensures { IsValley (kinked start pieces.now step) start.first
         (last_place start.first pieces.now) result }
 {
-    let mut place = Place {
-        at: start.first,
-        next: 0,
-    };
+    let mut place = fall(pieces, start);
     while place.next < pieces.len() {
         let part = part_at(pieces, place, step);
         if part.slope >= 0 {

@@ -5,9 +5,9 @@ ghost use Rattle.shape_law.specs.Effect.{IsLeast, IsLeastIn};
 ghost use Rattle.shape_law.specs.Table.{HasNone, IsAmount};
 ghost use Rattle.slope_step.specs.Below.{IsAbove, IsShift};
 ghost use Rattle.slope_step.specs.Pieces.{last_place, function_of, table_of, AreSlopes};
-ghost use Rattle.slope_step.specs.Kink.{AreWithin, IsValley};
+ghost use Rattle.slope_step.specs.Kink.{AreWithin};
 
-use crate::kink::seek;
+use crate::kink::{fall, seek};
 use crate::piece::{Piece, Start, along};
 
 /// A place and the value there.
@@ -60,22 +60,6 @@ pub fn is_above(pieces: &[Piece], start: Start, shift: i64, limit: i64) -> bool
     exceeds(value, shift, limit)
 }
 
-/// The place from which the function doesn't fall.
-fn bottom(pieces: &[Piece], start: Start) -> i64
-    requires slopes { AreSlopes start.first pieces.now }
-    ensures { IsValley (function_of start pieces.now) start.first
-        (last_place start.first pieces.now) result }
-{
-    let mut at = start.first;
-    for piece in pieces {
-        if piece.slope >= 0 {
-            return at;
-        }
-        at = piece.end;
-    }
-    at
-}
-
 /// The value at a place of the interval.
 fn spot_at(pieces: &[Piece], start: Start, at: i64) -> Spot
     requires slopes { AreSlopes start.first pieces.now }
@@ -123,6 +107,6 @@ pub fn least_in(pieces: &[Piece], start: Start, lo: i64, hi: i64) -> Option<Spot
     if low > high {
         return None;
     }
-    let at = low.max(high.min(bottom(pieces, start)));
+    let at = low.max(high.min(fall(pieces, start).at));
     Some(spot_at(pieces, start, at))
 }

@@ -1,25 +1,15 @@
-use Rattle.std.proofs.Common.{ap, arith, rules}
+use Rattle.std.proofs.Common.{arith, rules}
 use Rattle.std.specs.Prelude.{FitsSigned}
 use Rattle.std.specs.Int.{w64}
 use Rattle.std.proofs.lemmas.Int.{ints, to_z-of_z}
-use Rattle.slope_step.specs.Pieces.{end_at}
-use Rattle.slope_step.proofs.KinkLaws.{placed_within, valley_here, valley_end, falls_on}
+use Rattle.slope_step.proofs.KinkLaws.{kinked_falls, placed_within, valley_here, valley_end, falls_on}
 use Rattle.slope_step.proofs.kink.turn.Goals as goal
 
 pub loop-place-init : goal.loop-place-init
-loop-place-init c =
-    let f : FitsSigned w64 c.args.start.first = search rules in
-    let slopes = c.requires.slopes in
-    rw (to_z-of_z w64 c.args.start.first f)
-    (record {
-      placed = record {
-        some = omega arith;
-        from = omega (arith, ints);
-        to = λ h. slopes.rise 0 h;
-        last = λ h. ap (end_at c.args.start.first c.args.pieces.now) h;
-      };
-      falls = λ x low high. absurd (omega (arith, ints));
-    })
+loop-place-init c = record {
+  placed = c.fall-place.ensures.placed;
+  falls = λ x low high. kinked_falls c.args.start c.args.pieces.now c.args.step c.requires.fair x (c.fall-place.ensures.valley.falls x low high);
+}
 
 pub part_at-part-requires-clause-to : goal.part_at-part-requires-clause-to
 part_at-part-requires-clause-to c = c.loop-place.invariant.placed.to (omega arith)

@@ -5,23 +5,18 @@ use Rattle.std.proofs.lemmas.Int.{ints, to_z-of_z}
 use Rattle.slope_step.specs.Pieces.{piece, end_at, last_place, function_of}
 use Rattle.slope_step.specs.Kink.{IsValley}
 use Rattle.slope_step.proofs.ReadLaws.{valley_at}
-use Rattle.slope_step.proofs.read.bottom.Goals as goal
+use Rattle.slope_step.proofs.kink.fall.Goals as goal
 
-pub loop-piece-init : goal.loop-piece-init
-loop-piece-init c =
-    let f : FitsSigned w64 c.args.start.first = search rules in
-    record { at_is = to_z-of_z w64 c.args.start.first f; falls = λ k h. absurd (omega arith) }
-
-pub returns-then-piece-ge0 : goal.returns-then-piece-ge0
-returns-then-piece-ge0 c =
-    let was = c.loop-piece.invariant in
+pub returns-then-piece-ge0-clause-valley : goal.returns-then-piece-ge0-clause-valley
+returns-then-piece-ge0-clause-valley c =
+    let was = c.loop-next.invariant in
     subst (λ (z : ℤ). IsValley (function_of c.args.start c.args.pieces.now) c.args.start.first (last_place c.args.start.first c.args.pieces.now) z) (sym was.at_is)
-    (valley_at c.args.start c.args.pieces.now c.requires.slopes c.loop-piece.piece-index (omega arith) was.falls (λ h. omega (arith, ints)))
+    (valley_at c.args.start c.args.pieces.now c.requires.slopes c.loop-next.next (omega arith) was.falls (λ h. omega (arith, ints)))
 
-pub loop-piece-preserved : goal.loop-piece-preserved
-loop-piece-preserved c =
-    let was = c.loop-piece.invariant in
-    let k = c.loop-piece.piece-index in
+pub loop-next-preserved : goal.loop-next-preserved
+loop-next-preserved c =
+    let was = c.loop-next.invariant in
+    let k = c.loop-next.next in
     let end = (piece c.args.pieces.now k).end in
     let f : FitsSigned w64 end = search rules in
     record {
@@ -29,8 +24,8 @@ loop-piece-preserved c =
       falls = below_more _ _ was.falls (omega (arith, ints));
     }
 
-pub returns : goal.returns
-returns c =
-    let was = c.loop-piece.invariant in
+pub returns-clause-valley : goal.returns-clause-valley
+returns-clause-valley c =
+    let was = c.loop-next.invariant in
     subst (λ (z : ℤ). IsValley (function_of c.args.start c.args.pieces.now) c.args.start.first (last_place c.args.start.first c.args.pieces.now) z) (sym was.at_is)
-    (valley_at c.args.start c.args.pieces.now c.requires.slopes c.loop-piece.piece-index (omega arith) was.falls (λ h. absurd (omega arith)))
+    (valley_at c.args.start c.args.pieces.now c.requires.slopes c.loop-next.next (omega arith) was.falls (λ h. absurd (omega arith)))
