@@ -2,7 +2,7 @@
 use Rattle.std.proofs.Common.{◌≡◌, ℕ, zero, suc, ◌+◌, ◌-◌, ◌<◌, ◌≤◌, Bool, true, false, cond, List, [], ◌∷◌, length, get_or, drop, drop-cons, refl, sym, ap, ap₂, ◌∙◌, arith}
 use Rattle.std.proofs.lemmas.List.{drop-drop, length-drop, drop_all, get_or-drop}
 use Rattle.std.proofs.lemmas.Bool.Decides.{nat_tests}
-use Rattle.uc_text.specs.Grammar.{Token, end, comma, colon}
+use Rattle.uc_text.specs.Grammar.{Token, end, comma}
 use Rattle.uc_text.specs.Numbers.{is_digit}
 use Rattle.uc_text.proofs.Digits.{digit_range}
 use Rattle.uc_text.proofs.ShortNumbers.{no_such}
@@ -74,19 +74,6 @@ comma_step bytes at lt is =
     let s = drop at bytes in
     let here : get_or s 0 0 ≡ 44 = get_or-drop at bytes 0 0 ∙ ap (λ (n : ℕ). get_or bytes n 0) (omega arith) ∙ is in
     next_token bytes s at comma 1 lt (no_blank_comma (get_or bytes at 0) is) refl (comma_read (get_or s 0 0) s here) (omega arith) (omega (arith, length-drop at bytes))
-
-no_blank_colon : (b : ℕ) → b ≡ 58 → is_blank b ≡ false
-no_blank_colon b e = rw e refl
-
-colon_read : (b : ℕ) (s : List ℕ) → b ≡ 58 → (colon, 1) ≡ token_at b s
-unfolding token_at
-colon_read b s e = rw e refl
-
-pub colon_step : (bytes : List ℕ) (at : ℕ) → at < length bytes → get_or bytes at 0 ≡ 58 → rest_at bytes at ≡ placed colon at ∷ rest_at bytes (at + 1)
-colon_step bytes at lt is =
-    let s = drop at bytes in
-    let here : get_or s 0 0 ≡ 58 = get_or-drop at bytes 0 0 ∙ ap (λ (n : ℕ). get_or bytes n 0) (omega arith) ∙ is in
-    next_token bytes s at colon 1 lt (no_blank_colon (get_or bytes at 0) is) refl (colon_read (get_or s 0 0) s here) (omega arith) (omega (arith, length-drop at bytes))
 
 pub number_step : (bytes s : List ℕ) (at : ℕ) (t : Token) (len : ℕ) → at < length bytes → s ≡ drop at bytes → ◌≡◌ {A = Read} (t, len) (number_at s) → is_digit (get_or s 0 0) ≡ true → 0 < len → len ≤ length s
     → rest_at bytes at ≡ placed t at ∷ rest_at bytes (at + len)

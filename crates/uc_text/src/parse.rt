@@ -112,7 +112,7 @@ fn items(alloc: Global, reader: &mut Reader<'_>, left: u32) -> Result<TreeList, 
     ensures fault { IfFault result (λ f. StuckAt left (open_list ∷ []) (rest reader.old) f) }
     ensures ahead { OnOk result (ahead reader.new ≤ ahead reader.old) }
 {
-    let mut found = Vec::new(alloc);
+    let mut found = Vec::with_capacity(alloc, 1)?;
     let mut first = reader.next();
     if let Token::CloseList = first.token {
         return Ok(found);
@@ -141,7 +141,7 @@ fn members(alloc: Global, reader: &mut Reader<'_>, left: u32) -> Result<MemberLi
     ensures fault { IfFault result (λ f. StuckAt left (open_object ∷ []) (rest reader.old) f) }
     ensures ahead { OnOk result (ahead reader.new ≤ ahead reader.old) }
 {
-    let mut found = Vec::new(alloc);
+    let mut found = Vec::with_capacity(alloc, 1)?;
     let mut seen: HashSet<Vec<u8>> = HashSet::new(alloc);
     let mut first = reader.next();
     if let Token::CloseObject = first.token {

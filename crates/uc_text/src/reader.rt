@@ -39,24 +39,6 @@ impl<'a> Reader<'a> {
                 place: place as u32,
             };
         }
-        self.next_but_comma()
-    }
-
-    /// The next token, where a comma was tried.
-    fn next_but_comma(&mut self) -> Lexeme<'a>
-        ensures next { NextIs (rest self.old) (seen result) (rest self.new) }
-        ensures last { token_of result.token ≡ end → rest self.old ≡ seen result ∷ [] }
-        ensures ahead { ahead self.new ≤ ahead self.old }
-        ensures less { (token_of result.token ≡ end → ⊥) → ahead self.new < ahead self.old }
-    {
-        let place = self.at;
-        if place < self.bytes.len() && self.bytes[place] == b':' {
-            self.at = place + 1;
-            return Lexeme {
-                token: Token::Colon,
-                place: place as u32,
-            };
-        }
         self.next_of_all()
     }
 

@@ -32,12 +32,12 @@ some_left v lt none = omega (arith, lt, v.ok.0, length-map v.items view, ap leng
 
 pub items-returns-in-CloseList-clause-ok : goal.items-returns-in-CloseList-clause-ok
 items-returns-in-CloseList-clause-ok t c =
-    let vs : views c.new-found.result.items ≡ [] = ap views c.new-found.ensures.items in
+    let vs : views c.in_ok-found.found.items ≡ [] = ap views c.in_ok-found.ensures.items in
     subst (λ (us : List Value). ReadsItems c.args.left (rest c.args.reader.now) us (rest c.next-first.new.self)) (sym vs) (items_empty c.args.left (rest c.args.reader.now) (seen c.next-first.result) (rest c.next-first.new.self) c.next-first.ensures.next (ap token_of c.in-CloseList.is))
 
 pub items-items-init : goal.items-items-init
 items-items-init t c =
-    let vs : views c.new-found.result.items ≡ [] = ap views c.new-found.ensures.items in
+    let vs : views c.in_ok-found.found.items ≡ [] = ap views c.in_ok-found.ensures.items in
     record {
       inside = subst (λ (us : List Value). InItems c.args.left (rest c.args.reader.now) us (seen c.next-first.result) (rest c.next-first.new.self)) (sym vs) (items_begin c.args.left (rest c.args.reader.now) (seen c.next-first.result) (rest c.next-first.new.self) c.next-first.ensures.next (not_close_list c.next-first.result.token c.in_default.not-CloseList));
       on = c.next-first.ensures.ahead;
@@ -46,7 +46,7 @@ items-items-init t c =
 
 pub items-returns-in_err-item : goal.items-returns-in_err-item
 items-returns-in_err-item t c =
-    let p = err_from_is_err_and c.from_residual.result c.from_residual.ensures.1 in
+    let p = err_from_is_err_and c.from_residual-in_err-item.result c.from_residual-in_err-item.ensures.1 in
     let i = c.items.invariant.inside in
     rw (p.1, p.2) (record {
       ok = tt;
@@ -103,17 +103,17 @@ items-returns-in_default-token t c =
 
 pub members-returns-in-CloseObject-clause-ok : goal.members-returns-in-CloseObject-clause-ok
 members-returns-in-CloseObject-clause-ok t c =
-    let ps : member_views c.new-found.result.items ≡ [] = ap member_views c.new-found.ensures.items in
+    let ps : member_views c.in_ok-found.found.items ≡ [] = ap member_views c.in_ok-found.ensures.items in
     subst (λ (us : List Pair). ReadsMembers c.args.left (rest c.args.reader.now) us (rest c.next-first.new.self)) (sym ps) (members_empty c.args.left (rest c.args.reader.now) (seen c.next-first.result) (rest c.next-first.new.self) c.next-first.ensures.next (ap token_of c.in-CloseObject.is))
 
 pub members-members-init : goal.members-members-init
 members-members-init t c =
-    let ps : member_views c.new-found.result.items ≡ [] = ap member_views c.new-found.ensures.items in
+    let ps : member_views c.in_ok-found.found.items ≡ [] = ap member_views c.in_ok-found.ensures.items in
     record {
       inside = subst (λ (us : List Pair). InMembers c.args.left (rest c.args.reader.now) us (seen c.next-first.result) (rest c.next-first.new.self)) (sym ps) (members_begin c.args.left (rest c.args.reader.now) (seen c.next-first.result) (rest c.next-first.new.self) c.next-first.ensures.next (not_close_object c.next-first.result.token c.in_default.not-CloseObject));
       on = c.next-first.ensures.ahead;
       room = omega arith;
-      known = λ lt. absurd (omega (arith, lt, c.new-found.ensures.len));
+      known = λ lt. absurd (omega (arith, lt, c.in_ok-found.ensures.len));
     }
 
 pub members-returns-in_default-token : goal.members-returns-in_default-token
