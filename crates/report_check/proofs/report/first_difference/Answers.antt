@@ -20,7 +20,7 @@ use Rattle.uc_model.specs.PriceRule.{Proposal}
 use Rattle.uc_model.specs.Earnings.{IsTop}
 use Rattle.uc_model.specs.Systems.{IsSettled}
 use Rattle.uplift_settle.specs.declared.settlement.Settlement.{Settlement}
-use Rattle.hull_report.specs.ReportText.{Report}
+use Rattle.report_form.specs.ReportText.{Report}
 use Rattle.hull_report.specs.RightReport.{IsRightReport}
 use Rattle.report_check.specs.Compared.{Compares}
 use Rattle.report_check.specs.ReportLines.{told_lines}
