@@ -17,15 +17,15 @@ STAND_IN = """#!/usr/bin/env bash
 crate=$(basename "$PWD")
 echo "$1 $crate" >> "$ASKED"
 case "$1 $crate $FAILS" in
-    "check high high") exit 1 ;;
-    "check high killed") [ "$(grep -c 'check high' "$ASKED")" -gt 1 ] || exit 137 ;;
+    "lib high high") exit 1 ;;
+    "lib high killed") [ "$(grep -c 'lib high' "$ASKED")" -gt 1 ] || exit 137 ;;
     "run hull_cli compile") exit 1 ;;
     run*)
         printf '#!/bin/sh\\n[ "$#" -gt 0 ] && { echo "given $*"; exit 0; }\\necho fault 1 words 1 0\\nexit 1\\n' > out/hull_cli
         chmod +x out/hull_cli; ./out/hull_cli ;;
 esac
 """
-BUILT = ["check low", "lib low", "check high", "lib high", "check hull_cli", "run hull_cli"]
+BUILT = ["lib low", "lib high", "run hull_cli"]
 
 
 class Launcher(unittest.TestCase):
@@ -65,17 +65,17 @@ class Launcher(unittest.TestCase):
         self.assertEqual((status, output), (0, b"given price --case a b\n"))
         lines = said.decode().splitlines()
         self.assertRegex(
-            lines[0], r"^hull: proving the 3 crates of the program with \d+ processes; this is done once\. At: low$"
+            lines[0], r"^hull: proving the 2 crates below hull_cli with \d+ processes; this is done once\. At: low$"
         )
         self.assertEqual(
-            lines[1:4],
+            lines[1:],
             [
-                "hull: low is proved, 2 of 3 are left. At: high",
-                "hull: high is proved, 1 of 3 are left. At: hull_cli",
-                "hull: hull_cli is proved, 0 of 3 are left",
+                "hull: low is proved, 1 of 2 are left. At: high",
+                "hull: high is proved, 0 of 2 are left",
+                "hull: proving hull_cli and compiling the program",
+                "hull: the program is built",
             ],
         )
-        self.assertEqual(lines[-1], "hull: the program is built")
         self.assertEqual(self.asked(), BUILT)
 
     def test_second_use_asks_for_no_proof_and_is_quick(self):
@@ -101,21 +101,21 @@ class Launcher(unittest.TestCase):
         lines = said.decode().splitlines()
         self.assertEqual(lines[2], "hull: high ended badly, and is tried once more at the end")
         self.assertRegex(lines[-1], r"^hull: no program: high failed; .*/crates/hull_cli/out/logs/high says why$")
-        self.assertEqual(self.asked(), ["check low", "lib low", "check high", "check high"])
+        self.assertEqual(self.asked(), ["lib low", "lib high", "lib high"])
 
     def test_a_crate_that_was_killed_is_tried_again_with_nothing_beside_it(self):
         status, output, said = self.hull("check", FAILS="killed")
         self.assertEqual((status, output), (0, b"given check\n"))
-        self.assertEqual(self.asked(), [*BUILT[:2], "check high", *BUILT[2:]])
-        self.assertIn("hull: high is proved, 1 of 3 are left", said.decode())
+        self.assertEqual(self.asked(), [*BUILT[:1], "lib high", *BUILT[1:]])
+        self.assertIn("hull: high is proved, 0 of 2 are left", said.decode())
 
     def test_crates_that_do_not_stand_on_each_other_are_proved_side_by_side(self):
         self.write("crates.txt", "low:\nbeside:\nhigh: low beside\nhull_cli: high\n")
         self.write("crates/beside/src/lib.rt", "")
         self.hull("check")
         self.assertEqual(
-            (sorted(self.asked()[:4]), self.asked()[4:]),
-            (["check beside", "check low", "lib beside", "lib low"], BUILT[2:]),
+            (sorted(self.asked()[:2]), self.asked()[2:]),
+            (["lib beside", "lib low"], BUILT[1:]),
         )
 
     def test_of_the_repositorys_crates_those_of_the_program_are_proved_each_after_those_below_it(self):
@@ -147,6 +147,7 @@ class Launcher(unittest.TestCase):
         status, output, said = self.hull("check", FAILS="compile")
         self.assertEqual((status, output), (127, b""))
         self.assertTrue(said.decode().splitlines()[-1].endswith("crates/hull_cli/out/build.log says why"))
+        self.assertEqual(self.asked(), [*BUILT, "run hull_cli"])
 
     def test_without_rt_it_says_so(self):
         status, output, said = run(["check"], program=f"{self.room}/hull", env=WITHOUT_RT)

@@ -1,4 +1,7 @@
 //! Why a reader of a tree stops.
+ghost use Rattle.std.specs.Prelude.{◌≡◌};
+ghost use Rattle.uc_case.specs.declared.stop.Stop.TheVariants.{Memory};
+
 use std::alloc::{AllocError, AllocFailed};
 
 /// A test failed, or memory ran out.
@@ -9,9 +12,6 @@ pub enum Stop<F> {
 }
 
 impl<F: Drop> From<AllocError> for Stop<F> {
-    ghost use Rattle.std.specs.Prelude.{◌≡◌};
-    ghost use Rattle.uc_case.specs.declared.stop.Stop.TheVariants.{Memory};
-
     ghost from_gives = { λ _ e. e ≡ Memory };
 
     fn from(_: AllocError) -> Stop<F> {
@@ -20,9 +20,6 @@ impl<F: Drop> From<AllocError> for Stop<F> {
 }
 
 impl<T: Drop, F: Drop> From<AllocFailed<T>> for Stop<F> {
-    ghost use Rattle.std.specs.Prelude.{◌≡◌};
-    ghost use Rattle.uc_case.specs.declared.stop.Stop.TheVariants.{Memory};
-
     ghost from_gives = { λ _ e. e ≡ Memory };
 
     fn from(_: AllocFailed<T>) -> Stop<F> {
