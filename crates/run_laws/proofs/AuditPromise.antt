@@ -131,6 +131,7 @@ module _ (determined : TextDeterminesReport) (has_form : RightReportHasForm) (a 
     i,
     record {
       fault = f;
+      status = eight;
       due = due_f;
       written = lines;
       input = input;
@@ -150,6 +151,7 @@ module _ (determined : TextDeterminesReport) (has_form : RightReportHasForm) (a 
     i,
     record {
       fault = f;
+      status = eight;
       due = due_f;
       written = lines;
       input = input;
@@ -168,6 +170,7 @@ module _ (determined : TextDeterminesReport) (has_form : RightReportHasForm) (a 
     i,
     record {
       fault = f;
+      status = eight;
       due = due_f;
       written = lines;
       input = input;

@@ -218,6 +218,7 @@ pub record IsWrongAt (i : PlannedCase) (bytes : List ℕ) (line : ℕ) : Type 0 
 pub record IsAuditRefused (c : Command) (gained short : List ℕ → Type 0) (reads : Reads)
     (i : PlannedCase) : Type 0 where
   pub fault : TopFault
+  pub status : status_of fault ≡ 8
   pub due : c.IsDue reads (Err fault)
   pub written : gained (fault_line fault) ⊎ short (fault_line fault)
   pub input : IsInput reads (Ok i)
