@@ -5,8 +5,8 @@ use Rattle.uc_text.specs.Values.{Scalar, long_number, text, Value, scalar, list,
 use Rattle.uc_text.specs.Grammar.{Token, open_list, close_list, open_object, close_object, comma, colon, word, key, end}
 use Rattle.uc_text.specs.Faults.{length_of_numbers, levels}
 use Rattle.uc_text.specs.Parts.{Pair, names, items_of, members_of, IsNewName, IsStuck}
-use Rattle.uc_text.specs.Tokens.{Placed, placed, is_blank, token_at, tokens_from, tokens}
-use Rattle.uc_text.specs.Goes.{goes}
+use Rattle.text_tokens.specs.Tokens.{Placed, placed, is_blank, token_at, tokens_from, tokens}
+use Rattle.text_tokens.specs.Goes.{goes}
 use Rattle.uc_text.specs.Places.{NextIs, StuckAt, Reads, ReadsItems, ReadsMembers}
 use Rattle.uc_text.specs.Texts.{IsText, IsFirstFault}
 use Rattle.uc_text.specs.declared.fault.TextCode.{TextCode}

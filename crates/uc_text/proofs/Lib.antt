@@ -9,14 +9,6 @@ pub mod Answered
 pub mod Known
 pub mod Views
 pub mod OtherTokens
-pub mod Runs
-pub mod Ahead
-pub mod Digits
-pub mod NumberParts
-pub mod Texts
 pub mod Words
 pub mod Decided
 pub mod Ending
-pub mod Escapes
-pub mod ShortNumbers
-pub mod PlainStrings

@@ -7,8 +7,8 @@ use Rattle.uc_text.specs.Values.{Value}
 use Rattle.uc_text.specs.Grammar.{Token, open_object, close_object, comma, colon, key, spell}
 use Rattle.uc_text.specs.Faults.{double_keys, Passes, MembersPass}
 use Rattle.uc_text.specs.Parts.{Pair, members_of, names, IsNewName, passed_members, opened_object, IsStuck}
-use Rattle.uc_text.specs.Tokens.{Placed, kinds}
-use Rattle.uc_text.specs.Goes.{goes}
+use Rattle.text_tokens.specs.Tokens.{Placed, kinds}
+use Rattle.text_tokens.specs.Goes.{goes}
 use Rattle.uc_text.specs.Places.{test_of, NextIs, Takes, StuckAt, ReadsMembers}
 use Rattle.uc_text.specs.declared.fault.TextCode.{TextCode}
 use Rattle.uc_text.specs.declared.fault.TextCode.TheVariants.{NotJson, DoubleKey}

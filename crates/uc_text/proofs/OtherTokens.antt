@@ -3,13 +3,13 @@ use Rattle.std.proofs.Common.{◌≡◌, ◌≢◌, ℕ, List, false, refl}
 use Rattle.uc_text.specs.Grammar as grammar
 use Rattle.uc_text.specs.Places.{FaultIs}
 use Rattle.uc_text.proofs.Spellings.{is_start}
-use Rattle.uc_text.specs.Seen.{token_of}
+use Rattle.text_tokens.specs.Seen.{token_of}
 use Rattle.uc_text.specs.declared.fault.TextFault.{TextFault}
 use Rattle.uc_text.specs.declared.fault.TextError.{TextError}
 use Rattle.uc_text.specs.declared.fault.TextError.TheVariants as errors
-use Rattle.uc_text.specs.declared.token.Word.TheVariants.{Null, Flag, Number, LargeNumber, LongNumber}
-use Rattle.uc_text.specs.declared.token.Token.{Token}
-use Rattle.uc_text.specs.declared.token.Token.TheVariants.{OpenList, CloseList, OpenObject, CloseObject, Comma, Colon, Word, Text, End}
+use Rattle.text_tokens.specs.declared.token.Word.TheVariants.{Null, Flag, Number, LargeNumber, LongNumber}
+use Rattle.text_tokens.specs.declared.token.Token.{Token}
+use Rattle.text_tokens.specs.declared.token.Token.TheVariants.{OpenList, CloseList, OpenObject, CloseObject, Comma, Colon, Word, Text, End}
 
 pub not_close_list : (t : Token) → (t ≡ CloseList → ⊥) → token_of t ≢ grammar.close_list
 not_close_list CloseList n e = n refl

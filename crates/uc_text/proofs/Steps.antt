@@ -5,8 +5,8 @@ use Rattle.uc_text.specs.Values.{Value}
 use Rattle.uc_text.specs.Grammar.{Token, open_list, close_list, comma, spell}
 use Rattle.uc_text.specs.Faults.{double_keys, Passes, ItemsPass}
 use Rattle.uc_text.specs.Parts.{items_of, passed_items, opened, IsStuck}
-use Rattle.uc_text.specs.Tokens.{Placed, kinds}
-use Rattle.uc_text.specs.Goes.{goes}
+use Rattle.text_tokens.specs.Tokens.{Placed, kinds}
+use Rattle.text_tokens.specs.Goes.{goes}
 use Rattle.uc_text.specs.Places.{test_of, AtItem, NextIs, Takes, StuckAt, ReadsItems}
 use Rattle.uc_text.specs.declared.fault.TextCode.TheVariants.{NotJson}
 use Rattle.uc_text.specs.declared.fault.TextFault.{TextFault}

@@ -4,7 +4,7 @@ use Rattle.std.proofs.lemmas.Bool.{cases_lt}
 use Rattle.uc_text.specs.Values.{Scalar, Value, scalar, list, object, Items, no_items, item, Members, no_members, member, keys}
 use Rattle.uc_text.specs.Grammar.{Token, end}
 use Rattle.uc_text.specs.Faults.{Test, grammar, length_of_numbers, levels, double_keys, ScalarPasses, LevelPasses, KeysPass, Passes, ItemsPass, MembersPass, Begins, IsFault}
-use Rattle.uc_text.specs.Tokens.{Placed, tokens, kinds}
+use Rattle.text_tokens.specs.Tokens.{Placed, tokens, kinds}
 use Rattle.uc_text.specs.Places.{test_of}
 use Rattle.uc_text.specs.Texts.{IsText, IsFirstFault}
 use Rattle.uc_text.specs.declared.fault.TextCode.{TextCode}

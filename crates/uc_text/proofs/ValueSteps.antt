@@ -4,8 +4,8 @@ use Rattle.uc_text.specs.Values.{Scalar, null, flag, number, long_number, text, 
 use Rattle.uc_text.specs.Grammar.{Token, open_list, close_list, open_object, close_object, word, end, spell, spell_items, spell_members}
 use Rattle.uc_text.specs.Faults.{Test, IsShort, grammar, length_of_numbers, levels, double_keys, Passes, Begins, PassesBefore, IsFault}
 use Rattle.uc_text.specs.Parts.{Pair, items_of, members_of, Starts, StartsBefore, IsStuck}
-use Rattle.uc_text.specs.Tokens.{Placed, kinds, tokens}
-use Rattle.uc_text.specs.Goes.{goes}
+use Rattle.text_tokens.specs.Tokens.{Placed, kinds, tokens}
+use Rattle.text_tokens.specs.Goes.{goes}
 use Rattle.uc_text.specs.Places.{test_of, NextIs, StuckAt, Reads, ReadsItems, ReadsMembers}
 use Rattle.uc_text.specs.Texts.{IsText, IsFirstFault}
 use Rattle.uc_text.specs.declared.fault.TextCode.{TextCode}

@@ -3,8 +3,8 @@ use Rattle.std.proofs.Common.{◌≡◌, ℕ, zero, suc, ◌<◌, List, [], ◌�
 use Rattle.std.proofs.lemmas.Slice.Eq.{bytes_eq-Decides}
 use Rattle.std.proofs.lemmas.List.{map_push}
 use Rattle.uc_num.specs.declared.Decimal.{Decimal}
-use Rattle.uc_text.specs.Small.{decimal_of}
-use Rattle.uc_text.specs.declared.small.SmallNumber.{SmallNumber}
+use Rattle.text_tokens.specs.Small.{decimal_of}
+use Rattle.text_tokens.specs.declared.small.SmallNumber.{SmallNumber}
 use Rattle.uc_text.proofs.Objects.{of_member}
 use Rattle.uc_text.specs.Values.{null, flag, number, text, scalar, list, object}
 use Rattle.uc_text.specs.Parts.{Pair, items_of, members_of, names}

@@ -5,7 +5,7 @@ use Rattle.uc_text.specs.Values.{Scalar, long_number, Value, scalar}
 use Rattle.uc_text.specs.Grammar.{Token, word}
 use Rattle.uc_text.specs.Faults.{IsShort, length_of_numbers}
 use Rattle.uc_text.specs.Parts.{IsStuck}
-use Rattle.uc_text.specs.Tokens.{Placed}
+use Rattle.text_tokens.specs.Tokens.{Placed}
 use Rattle.uc_text.specs.Places.{NextIs, Reads, StuckAt, IfFault}
 use Rattle.uc_text.specs.View.{view}
 use Rattle.uc_text.specs.declared.fault.TextCode.TheVariants.{NumberTooLong}

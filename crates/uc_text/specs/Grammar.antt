@@ -1,23 +1,9 @@
 -- The tokens of a value (RFC 8259). A value has one list of tokens, so the grammar is a function.
-use Rattle.std.specs.Prelude.{ℕ, List, [], ◌∷◌, ◌++◌}
-use Rattle.uc_text.specs.Values.{Scalar, text, Value, scalar, list, object, Items, no_items, item}
+use Rattle.std.specs.Prelude.{List, [], ◌∷◌, ◌++◌}
+use Rattle.uc_text.specs.Values.{Value, scalar, list, object, Items, no_items, item}
 use Rattle.uc_text.specs.Values.{Members, no_members, member}
-
-pub data Token : Type 0 where
-  open_list : Token
-  close_list : Token
-  open_object : Token
-  close_object : Token
-  comma : Token
-  colon : Token
-  word : Scalar → Token
-  -- what is no token, and the end of the input: no value has either
-  bad : Token
-  end : Token
-
--- a member's key
-abbrev pub key : List ℕ → Token
-key k = word (text k)
+pub use Rattle.text_tokens.specs.Grammar.{Token, open_list, close_list, open_object, close_object}
+pub use Rattle.text_tokens.specs.Grammar.{comma, colon, word, bad, end, key}
 
 abbrev mutual
   pub spell : Value → List Token

@@ -1,47 +1,25 @@
 -- What the reader's functions say of the tokens with their places.
-use Rattle.std.specs.Prelude.{◌≡◌, ◌≢◌, ℕ, ◌-◌, true, List, ◌∷◌, ◌++◌, drop, AllPairs, Result, Ok}
-use Rattle.std.specs.Prelude.{Err}
+use Rattle.std.specs.Prelude.{◌≡◌, ◌≢◌, ℕ, ◌-◌, List, ◌∷◌, ◌++◌, AllPairs, Result, Ok, Err}
 use Rattle.uc_text.specs.Values.{Value}
 use Rattle.uc_text.specs.Grammar as grammar
 use Rattle.uc_text.specs.Grammar.{spell, spell_items, spell_members}
 use Rattle.uc_text.specs.Faults.{Test, length_of_numbers, levels, double_keys, Passes, ItemsPass}
 use Rattle.uc_text.specs.Faults.{MembersPass}
 use Rattle.uc_text.specs.Parts.{Pair, IsStuck, items_of, members_of, names, passed_items}
-use Rattle.uc_text.specs.Tokens.{Placed, placed, kinds, tokens_from}
-use Rattle.uc_text.specs.Goes.{goes}
-use Rattle.uc_text.specs.Seen.{token_of}
+use Rattle.text_tokens.specs.Tokens.{Placed, kinds}
+pub use Rattle.text_tokens.specs.Places.{seen, NextIs, Takes}
 use Rattle.uc_text.specs.declared.fault.TextCode.{TextCode}
 use Rattle.uc_text.specs.declared.fault.TextCode.TheVariants.{NotJson, NumberTooLong, TooDeep}
 use Rattle.uc_text.specs.declared.fault.TextCode.TheVariants.{DoubleKey}
 use Rattle.uc_text.specs.declared.fault.TextFault.{TextFault}
 use Rattle.uc_text.specs.declared.fault.TextError.{TextError}
 use Rattle.uc_text.specs.declared.fault.TextError.TheVariants as errors
-use Rattle.uc_text.specs.declared.token.Lexeme.{Lexeme}
 
 abbrev pub test_of : TextCode → Test
 test_of NotJson = Test.grammar
 test_of NumberTooLong = length_of_numbers
 test_of TooDeep = levels
 test_of DoubleKey = double_keys
-
-abbrev pub seen : Lexeme → Placed
-seen l = placed (token_of l.token) l.place
-
--- the tokens from a place on
-abbrev pub rest_at : List ℕ → ℕ → List Placed
-rest_at bytes at = tokens_from at 0 (drop at bytes)
-
--- this is the first of the tokens, and those are the others
-abbrev pub NextIs : List Placed → Placed → List Placed → Type 0
-NextIs ts first others =
-    (more : List Placed) × (ts ≡ first ∷ more) × (goes first.token ≡ true → more ≡ others)
-
--- the tokens are a part that is spelled so, and the others
-pub record Takes (ts : List Placed) (spelled : List grammar.Token) (others : List Placed) : Type
-    0 where
-  pub part : List Placed
-  pub parts : ts ≡ part ++ others
-  pub kinds_are : kinds part ≡ spelled
 
 -- Behind what was opened these tokens come, and the fault is at one of them.
 pub record StuckAt (left : ℕ) (front : List grammar.Token) (ts : List Placed) (f : TextFault) : Type

@@ -3,7 +3,7 @@ use Rattle.std.specs.Prelude.{◌≡◌, ℕ, List, ◌∷◌, ◌++◌}
 use Rattle.uc_text.specs.Values.{Value}
 use Rattle.uc_text.specs.Grammar.{whole}
 use Rattle.uc_text.specs.Faults.{double_keys, Passes, IsFault}
-use Rattle.uc_text.specs.Tokens.{Placed, tokens, kinds}
+use Rattle.text_tokens.specs.Tokens.{Placed, tokens, kinds}
 use Rattle.uc_text.specs.Places.{test_of}
 use Rattle.uc_text.specs.declared.fault.TextFault.{TextFault}
 

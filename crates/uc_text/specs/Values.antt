@@ -1,14 +1,6 @@
 -- What a text says: a value of RFC 8259. Keys may repeat. Text is a list of bytes.
-use Rattle.std.specs.Prelude.{ℕ, Bool, List, [], ◌∷◌}
-use Rattle.uc_num.specs.declared.Decimal.{Decimal}
-
-pub data Scalar : Type 0 where
-  null : Scalar
-  flag : Bool → Scalar
-  number : Decimal → Scalar
-  -- a number with too many digits or too large an exponent, whatever they are
-  long_number : Scalar
-  text : List ℕ → Scalar
+use Rattle.std.specs.Prelude.{ℕ, List, [], ◌∷◌}
+pub use Rattle.text_tokens.specs.Scalars.{Scalar, null, flag, number, long_number, text}
 
 mutual
   pub data Value : Type 0 where

@@ -2,7 +2,7 @@
 use Rattle.std.specs.Prelude.{List, map, string_bytes}
 use Rattle.uc_text.specs.Values.{null, flag, number, text, Value, scalar, list, object}
 use Rattle.uc_text.specs.Parts.{Pair, items_of, members_of}
-use Rattle.uc_text.specs.Small.{decimal_of}
+use Rattle.text_tokens.specs.Small.{decimal_of}
 use Rattle.uc_text.specs.declared.tree.Tree.{Tree, fold-Tree}
 use Rattle.uc_text.specs.declared.tree.Tree.TheOpen.{Tree-F, Member-F}
 use Rattle.uc_text.specs.declared.tree.Member.{Member, fold-Member}

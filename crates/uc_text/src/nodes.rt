@@ -1,17 +1,15 @@
 //! Trees of what was read, in no more memory than they need.
 ghost use Rattle.std.specs.Prelude.{◌≡◌, IfOk};
-ghost use Rattle.uc_text.specs.Decimals.{decimal_in};
-ghost use Rattle.uc_text.specs.Numbers.{number_of};
+ghost use Rattle.text_tokens.specs.Decimals.{decimal_in};
+ghost use Rattle.text_tokens.specs.Numbers.{number_of};
 ghost use Rattle.uc_text.specs.Parts.{items_of, members_of};
-ghost use Rattle.uc_text.specs.Strings.{said};
+ghost use Rattle.text_tokens.specs.Strings.{said};
 ghost use Rattle.uc_text.specs.Values.{scalar, number, text as text_spec, list, object};
 ghost use Rattle.uc_text.specs.View.{view, views, member_views};
 
-use crate::quoted::Quoted;
-use crate::run::Run;
-use crate::strings::text_of;
 use crate::tree::{MemberList, Tree, TreeList};
 use std::alloc::{AllocError, Global};
+use text_tokens::{Quoted, Run, text_of};
 
 /// A number that the node doesn't hold.
 pub fn large_number(alloc: Global, run: Run<'_>) -> Result<Tree, AllocError>

@@ -3,27 +3,25 @@ ghost use Rattle.std.specs.Prelude.{◌≡◌, ◌<◌, ◌≤◌, ◌^◌, ◌�
 ghost use Rattle.std.specs.Prelude.{Contains, IsTrue, false, ℕ, vec_len};
 ghost use Rattle.uc_text.specs.Grammar.{open_list, open_object};
 ghost use Rattle.uc_text.specs.Parts.{names, IsNewName};
-ghost use Rattle.uc_text.specs.Tokens.{Placed, tokens};
+ghost use Rattle.text_tokens.specs.Tokens.{Placed, tokens};
 ghost use Rattle.uc_text.specs.Places.{NextIs, seen, Reads, ReadsItems, ReadsMembers, StuckAt};
 ghost use Rattle.uc_text.specs.Places.{AtItem, IfFault};
-ghost use Rattle.uc_text.specs.Ahead.{rest, ahead};
+ghost use Rattle.text_tokens.specs.Ahead.{rest, ahead};
 ghost use Rattle.uc_text.specs.Texts.{IsText, IsFirstFault};
 ghost use Rattle.uc_text.specs.Answers.{GivesTree, GivesFault};
 ghost use Rattle.uc_text.specs.Values.{Value, scalar, long_number};
 ghost use Rattle.uc_text.specs.Faults.{IsShort};
-ghost use Rattle.uc_text.specs.Seen.{scalar_of};
+ghost use Rattle.text_tokens.specs.Seen.{scalar_of};
 ghost use Rattle.uc_text.specs.declared.fault.TextFault.{TextFault};
 ghost use Rattle.uc_text.specs.View.{view, views, member_views};
 
 use crate::fault::{TextCode, TextError, TextFault};
 use crate::names::is_new;
 use crate::nodes;
-use crate::reader::Reader;
-use crate::strings::text_of;
-use crate::token::{Lexeme, Token, Word};
 use crate::tree::{Member, MemberList, Tree, TreeList};
 use std::alloc::{AllocError, Global};
 use std::collections::HashSet;
+use text_tokens::{Lexeme, Reader, Token, Word, text_of};
 
 /// How many lists and objects may stand within one another.
 const LEVELS: u32 = 32;

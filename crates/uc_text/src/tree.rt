@@ -1,5 +1,5 @@
 //! What a text says.
-use crate::small::SmallNumber;
+use text_tokens::small::SmallNumber;
 use uc_num::Decimal;
 
 /// A value of a JSON text. The members of an object stand in file order.

@@ -4,15 +4,15 @@ use Rattle.std.proofs.lemmas.List.{map_push, length-map}
 use Rattle.std.specs.Prelude.{vec_len}
 use Rattle.uc_text.specs.declared.tree.Tree.{Tree}
 use Rattle.uc_text.specs.Values.{Value, text}
-use Rattle.uc_text.specs.Strings.{said}
+use Rattle.text_tokens.specs.Strings.{said}
 use Rattle.uc_text.specs.Grammar.{Token, open_list, open_object}
 use Rattle.uc_text.specs.Parts.{Pair, names, IsStuck}
 use Rattle.uc_text.specs.Faults.{levels}
-use Rattle.uc_text.specs.Tokens.{Placed}
+use Rattle.text_tokens.specs.Tokens.{Placed}
 use Rattle.uc_text.specs.declared.fault.TextCode.TheVariants.{NotJson, TooDeep}
 use Rattle.uc_text.specs.Places.{AtItem, NextIs, seen, Reads, ReadsItems, ReadsMembers, StuckAt, FaultIs}
-use Rattle.uc_text.specs.Ahead.{rest}
-use Rattle.uc_text.specs.Seen.{token_of, scalar_of}
+use Rattle.text_tokens.specs.Ahead.{rest}
+use Rattle.text_tokens.specs.Seen.{token_of, scalar_of}
 use Rattle.uc_text.proofs.Words.{word_read, word_stops}
 use Rattle.uc_text.specs.View.{view, views, member_views}
 use Rattle.uc_text.specs.declared.fault.TextError.{TextError}

@@ -1,6 +1,6 @@
 use Rattle.std.proofs.Common.{◌+◌, ◌*◌, ◌<◌, ◌≤◌}
 use Rattle.uc_text.specs.Places.{seen}
-use Rattle.uc_text.specs.Ahead.{rest, ahead}
+use Rattle.text_tokens.specs.Ahead.{rest, ahead}
 use Rattle.uc_text.specs.View.{views, member_views}
 use Rattle.uc_text.proofs.Steps.{InItems}
 use Rattle.uc_text.specs.Parts.{names}

@@ -1,8 +1,8 @@
 use Rattle.std.proofs.Common.{◌≡◌, ◌++◌, ◌∷◌, [], List, sym, ap, subst, ◌∙◌, arith}
 use Rattle.std.proofs.lemmas.List.{map_push}
-use Rattle.uc_text.specs.Ahead.{rest}
+use Rattle.text_tokens.specs.Ahead.{rest}
 use Rattle.uc_text.specs.Places.{AtItem}
-use Rattle.uc_text.specs.Small.{decimal_of}
+use Rattle.text_tokens.specs.Small.{decimal_of}
 use Rattle.uc_text.specs.Values.{Value, scalar, number}
 use Rattle.uc_text.specs.View.{view, views}
 use Rattle.uc_text.specs.declared.tree.Tree.{Number}

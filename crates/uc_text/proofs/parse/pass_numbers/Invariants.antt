@@ -1,8 +1,8 @@
 use Rattle.std.proofs.Common.{ℕ, ◌≤◌, List}
 use Rattle.std.specs.Prelude.{vec_len}
-use Rattle.uc_text.specs.Ahead.{rest, ahead}
+use Rattle.text_tokens.specs.Ahead.{rest, ahead}
 use Rattle.uc_text.specs.Places.{AtItem}
-use Rattle.uc_text.specs.Tokens.{Placed}
+use Rattle.text_tokens.specs.Tokens.{Placed}
 use Rattle.uc_text.specs.View.{views}
 use Rattle.uc_text.proofs.parse.pass_numbers.Given as goal
 

@@ -1,9 +1,9 @@
 use Rattle.std.proofs.Common.{refl, sym, ap, subst}
 use Rattle.std.proofs.lemmas.Result.{err_from_is_err_and}
-use Rattle.uc_text.specs.Tokens.{tokens}
+use Rattle.text_tokens.specs.Tokens.{tokens}
 use Rattle.uc_text.specs.Places.{seen, FaultIs}
-use Rattle.uc_text.specs.Ahead.{rest}
-use Rattle.uc_text.specs.Seen.{token_of}
+use Rattle.text_tokens.specs.Ahead.{rest}
+use Rattle.text_tokens.specs.Seen.{token_of}
 use Rattle.uc_text.specs.Texts.{IsFirstFault}
 use Rattle.uc_text.specs.View.{view}
 use Rattle.uc_text.specs.declared.fault.TextError.{TextError}

@@ -1,0 +1,42 @@
+use Rattle.std.proofs.Common.{◌≡◌, ℕ, true, length, get_or, take, sym, ap, subst, ◌∙◌, arith, inl, inr}
+use Rattle.std.proofs.lemmas.Bool.{cases_lt}
+use Rattle.text_tokens.specs.Numbers.{is_digit, value_from, front}
+use Rattle.text_tokens.proofs.Runs.{run_ends, run_is_all}
+use Rattle.text_tokens.proofs.Digits.{digit_range}
+use Rattle.text_tokens.proofs.ShortNumbers.{value_takes}
+use Rattle.text_tokens.proofs.number.digits_ahead.Goals as goal
+
+pub returns-then-not-is_digit-clause-len : goal.returns-then-not-is_digit-clause-len
+returns-then-not-is_digit-clause-len c = run_ends is_digit c.args.bytes.now c.loop-i.i c.loop-i-test.true c.loop-i.invariant.digits (sym c.is_digit.ensures ∙ c.if-not-is_digit.true)
+
+pub returns-then-not-is_digit-clause-value : goal.returns-then-not-is_digit-clause-value
+unfolding front
+returns-then-not-is_digit-clause-value c =
+    let len = run_ends is_digit c.args.bytes.now c.loop-i.i c.loop-i-test.true c.loop-i.invariant.digits (sym c.is_digit.ensures ∙ c.if-not-is_digit.true) in
+    c.loop-i.invariant.so_far ∙ ap (λ (k : ℕ). value_from c.args.before (take k c.args.bytes.now)) len
+
+pub loop-i-preserved : goal.loop-i-preserved
+loop-i-preserved c =
+    let i = c.loop-i.i in
+    let bs = c.args.bytes.now in
+    let digit : is_digit (get_or bs i 0) ≡ true = sym c.is_digit.ensures ∙ c.if-not-is_digit.false in
+    let r = digit_range (get_or bs i 0) digit in
+    record {
+      so_far = omega (arith, c.loop-i.invariant.so_far, value_takes c.args.before bs i c.loop-i-test.true);
+      small = omega (arith, r.0, r.1, c.if-n-ge100000000.false);
+      digits = λ k lt. elim (cases_lt k i) [
+        | inl before ↦ c.loop-i.invariant.digits k before
+        | inr behind ↦ subst (λ (j : ℕ). is_digit (get_or bs j 0) ≡ true) (omega (arith, lt, behind)) digit
+      ];
+    }
+
+pub returns-clause-len : goal.returns-clause-len
+returns-clause-len c = run_is_all is_digit c.args.bytes.now c.loop-i.i (omega arith) c.loop-i.invariant.digits
+
+pub returns-clause-value : goal.returns-clause-value
+unfolding front
+returns-clause-value c =
+    let bs = c.args.bytes.now in
+    let is_all : length bs ≡ c.loop-i.i = omega arith in
+    let len = run_is_all is_digit bs c.loop-i.i is_all c.loop-i.invariant.digits in
+    c.loop-i.invariant.so_far ∙ ap (λ (k : ℕ). value_from c.args.before (take k bs)) (sym is_all ∙ len)

@@ -1,0 +1,10 @@
+use Rattle.std.proofs.Common.{◌≡◌, ℕ, ◌<◌, ◌^◌, true, get_or, take}
+use Rattle.text_tokens.specs.Numbers.{is_digit, value_from}
+use Rattle.text_tokens.proofs.number.digits_ahead.Given as goal
+
+abbrev pub invariant-loop-i : goal.invariant-loop-i
+invariant-loop-i l = record {
+  so_far : l.n ≡ value_from l.before (take l.i l.bytes);
+  small : l.n < 10 ^ 9;
+  digits : (k : ℕ) → k < l.i → is_digit (get_or l.bytes k 0) ≡ true;
+}

@@ -1,0 +1,19 @@
+use Rattle.std.proofs.Common.{ℕ, take, drop, ap, sym, subst, ◌∙◌, arith}
+use Rattle.text_tokens.specs.Numbers.{AreDigits, is_digit, front, behind}
+use Rattle.text_tokens.proofs.NumberParts.{digits_in_front}
+use Rattle.text_tokens.proofs.Runs.{run_within}
+use Rattle.text_tokens.proofs.number.split_digits.Goals as goal
+
+pub rest_from-requires : goal.rest_from-requires
+rest_from-requires c = let le = run_within is_digit c.args.bytes.now in omega arith
+
+pub returns-clause-front : goal.returns-clause-front
+unfolding front
+returns-clause-front c = ap (λ (n : ℕ). take n c.args.bytes.now) c.digits_len-len.ensures
+
+pub returns-clause-behind : goal.returns-clause-behind
+unfolding behind
+returns-clause-behind c = c.rest_from.ensures ∙ ap (λ (n : ℕ). drop n c.args.bytes.now) c.digits_len-len.ensures
+
+pub returns-clause-digits : goal.returns-clause-digits
+returns-clause-digits c = subst (λ (n : ℕ). AreDigits (take n c.args.bytes.now)) (sym c.digits_len-len.ensures) (digits_in_front c.args.bytes.now)

@@ -1,0 +1,13 @@
+use Rattle.std.proofs.Common.{◌≡◌, ◌+◌, ◌-◌, ◌≤◌, length, drop}
+use Rattle.std.specs.Prelude.{option_map}
+use Rattle.text_tokens.specs.Strings.{string_from}
+use Rattle.text_tokens.proofs.strings.string_len.Given as goal
+
+abbrev pub invariant-pieces : goal.invariant-pieces
+invariant-pieces l = record {
+  rest : option_map (λ s. s.1) (string_from 0 l.bytes) ≡ option_map (λ s. l.at + s.1) (string_from 0 (drop l.at l.bytes));
+  near : l.at ≤ length l.bytes + 12;
+}
+
+abbrev pub decreases-pieces : goal.decreases-pieces
+decreases-pieces l = length l.bytes + 12 - l.at

@@ -1,0 +1,10 @@
+use Rattle.std.proofs.Common.{◌≡◌, ℕ, List, subst, ◌∙◌, string_bytes}
+use Rattle.std.specs.Prelude.{IfOk}
+use Rattle.text_tokens.proofs.PlainStrings.{plain_said, plain_utf8}
+use Rattle.text_tokens.proofs.strings.text_of.Goals as goal
+
+pub unreachable-requires : goal.unreachable-requires
+unreachable-requires c = c.in-Err.ensures.cases.0 (plain_utf8 c.args.quoted.bytes.now c.in-Some.len c.args.quoted.closed c.in-Some.ensures.is)
+
+pub returns : goal.returns
+returns c = subst (λ (bs : List ℕ). IfOk c.from_str.result (λ text. string_bytes text ≡ bs)) (c.in-Ok.ensures.cases.0 ∙ plain_said c.args.quoted.bytes.now c.in-Some.len c.args.quoted.closed c.in-Some.ensures.is) c.from_str.ensures.ok

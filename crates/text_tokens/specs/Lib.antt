@@ -1,0 +1,14 @@
+pub mod Scalars
+pub mod Grammar
+pub mod Numbers
+pub mod Strings
+pub mod Tokens
+pub mod Seen
+pub mod Pieces
+pub mod Places
+pub mod Ahead
+pub mod Goes
+pub mod Small
+pub mod Decimals
+pub mod Numerals
+pub mod Plain

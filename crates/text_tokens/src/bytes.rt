@@ -1,0 +1,97 @@
+//! Parts of a list of bytes.
+ghost use Rattle.std.specs.Prelude.{◌≡◌, ◌≤◌, ◌<◌, length, drop, slice_index};
+ghost use Rattle.std.specs.List.{prefix_len};
+ghost use Rattle.text_tokens.specs.Numbers.{is_digit as digit, is_number_byte as number_byte};
+ghost use Rattle.text_tokens.specs.Numbers.{begins_with as begins};
+ghost use Rattle.text_tokens.specs.Tokens.{is_letter as letter};
+ghost use Rattle.text_tokens.specs.Plain.{is_plain as plain};
+
+/// The bytes from a place on.
+pub fn rest_from(bytes: &[u8], at: usize) -> &[u8]
+    requires { at ≤ length bytes.now }
+    ensures { result.now ≡ drop at bytes.now }
+{
+    &bytes[at..]
+}
+
+/// The byte at a place, and 0 past the end.
+pub fn byte_or_zero(bytes: &[u8], at: usize) -> u8
+    ensures { result ≡ slice_index bytes.now at }
+{
+    if at < bytes.len() { bytes[at] } else { 0 }
+}
+
+pub fn begins_with(byte: u8, bytes: &[u8]) -> bool
+    ensures { result ≡ begins byte bytes.now }
+{
+    !bytes.is_empty() && bytes[0] == byte
+}
+
+pub fn is_digit(b: u8) -> bool
+    ensures { result ≡ digit b }
+{
+    b'0' <= b && b <= b'9'
+}
+
+pub fn is_number_byte(b: u8) -> bool
+    ensures { result ≡ number_byte b }
+{
+    is_digit(b) || b == b'-' || b == b'+' || b == b'.' || b == b'e' || b == b'E'
+}
+
+pub fn is_letter(b: u8) -> bool
+    ensures { result ≡ letter b }
+{
+    b'a' <= b && b <= b'z'
+}
+
+pub fn digits_len(bytes: &[u8]) -> usize
+    ensures { result ≡ prefix_len digit bytes.now }
+{
+    for (i, b) in bytes.iter().enumerate() {
+        if !is_digit(*b) {
+            return i;
+        }
+    }
+    bytes.len()
+}
+
+pub fn number_len(bytes: &[u8]) -> usize
+    ensures { result ≡ prefix_len number_byte bytes.now }
+{
+    for (i, b) in bytes.iter().enumerate() {
+        if !is_number_byte(*b) {
+            return i;
+        }
+    }
+    bytes.len()
+}
+
+pub fn letters_len(bytes: &[u8]) -> usize
+    ensures { result ≡ prefix_len letter bytes.now }
+{
+    for (i, b) in bytes.iter().enumerate() {
+        if !is_letter(*b) {
+            return i;
+        }
+    }
+    bytes.len()
+}
+
+/// A byte of a string that stands for itself.
+pub fn is_plain(b: u8) -> bool
+    ensures { result ≡ plain b }
+{
+    32 <= b && b != b'"' && b != b'\\'
+}
+
+pub fn plain_len(bytes: &[u8]) -> usize
+    ensures { result ≡ prefix_len plain bytes.now }
+{
+    for (i, b) in bytes.iter().enumerate() {
+        if !is_plain(*b) {
+            return i;
+        }
+    }
+    bytes.len()
+}

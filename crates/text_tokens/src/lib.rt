@@ -1,0 +1,17 @@
+//! The tokens of JSON texts of RFC 8259, one after the other, each with its place.
+#![tactic(auto)]
+
+mod bytes;
+mod number;
+mod quoted;
+mod reader;
+mod run;
+pub mod small;
+mod strings;
+mod token;
+
+pub use quoted::Quoted;
+pub use reader::Reader;
+pub use run::Run;
+pub use strings::text_of;
+pub use token::{Lexeme, Token, Word};

@@ -1,0 +1,86 @@
+//! The tokens of a text, one after the other.
+ghost use Rattle.std.specs.Prelude.{◌≡◌, ◌<◌, ◌≤◌, ◌^◌, ◌-◌, ◌∷◌, length, []};
+ghost use Rattle.text_tokens.specs.Grammar.{end};
+
+use crate::bytes::rest_from;
+use crate::number::short_number;
+use crate::small::SmallNumber;
+use crate::token::{Lexeme, Token, is_blank, token_at};
+
+/// A text, and the place behind the last token that was read.
+#[derive(Drop)]
+pub struct Reader<'a> {
+    pub bytes: &'a [u8],
+    pub at: usize,
+    ghost within: { at ≤ length bytes.now },
+    ghost few: { length bytes.now < 2 ^ 30 },
+}
+
+impl<'a> Reader<'a> {
+    ghost use Rattle.text_tokens.specs.Ahead.{rest, ahead};
+    ghost use Rattle.std.specs.Prelude.{IfSome, IfNone, OnSome};
+    ghost use Rattle.text_tokens.specs.Grammar.{word, comma};
+    ghost use Rattle.text_tokens.specs.Places.{NextIs, Takes, seen};
+    ghost use Rattle.text_tokens.specs.Small.{decimal_of};
+    ghost use Rattle.text_tokens.specs.Scalars.{number};
+    ghost use Rattle.text_tokens.specs.Seen.{token_of};
+
+    /// The next token, or the end.
+    pub fn next(&mut self) -> Lexeme<'a>
+        ensures next { NextIs (rest self.old) (seen result) (rest self.new) }
+        ensures last { token_of result.token ≡ end → rest self.old ≡ seen result ∷ [] }
+        ensures ahead { ahead self.new ≤ ahead self.old }
+        ensures less { (token_of result.token ≡ end → ⊥) → ahead self.new < ahead self.old }
+    {
+        let place = self.at;
+        if place < self.bytes.len() && self.bytes[place] == b',' {
+            self.at = place + 1;
+            return Lexeme {
+                token: Token::Comma,
+                place: place as u32,
+            };
+        }
+        self.next_of_all()
+    }
+
+    /// A number of few digits and the comma behind it, where they come next and without blanks.
+    pub fn number_and_comma(&mut self) -> Option<SmallNumber>
+        ensures some { IfSome result (λ small. Takes (rest self.old)
+            (word (number (decimal_of small)) ∷ comma ∷ []) (rest self.new)) }
+        ensures none { IfNone result (rest self.new ≡ rest self.old) }
+        ensures ahead { ahead self.new ≤ ahead self.old }
+        ensures less { OnSome result (ahead self.new < ahead self.old) }
+    {
+        let rest = rest_from(self.bytes, self.at);
+        let (small, len) = short_number(rest)?;
+        if len < rest.len() && rest[len] == b',' {
+            self.at += len + 1;
+            Some(small)
+        } else {
+            None
+        }
+    }
+
+    /// The next token, whatever it is.
+    fn next_of_all(&mut self) -> Lexeme<'a>
+        ensures next { NextIs (rest self.old) (seen result) (rest self.new) }
+        ensures last { token_of result.token ≡ end → rest self.old ≡ seen result ∷ [] }
+        ensures ahead { ahead self.new ≤ ahead self.old }
+        ensures less { (token_of result.token ≡ end → ⊥) → ahead self.new < ahead self.old }
+    {
+        'blanks: while self.at < self.bytes.len() && is_blank(self.bytes[self.at]) {
+            self.at += 1;
+        }
+        let place = self.at;
+        if place == self.bytes.len() {
+            return Lexeme {
+                token: Token::End,
+                place: place as u32,
+            };
+        }
+        let (token, len) = token_at(rest_from(self.bytes, place));
+        self.at += len;
+        let place = place as u32;
+        Lexeme { token, place }
+    }
+}

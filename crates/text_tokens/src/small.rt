@@ -1,0 +1,39 @@
+//! Numbers of few digits, which fit the node of a tree.
+ghost use Rattle.std.specs.Prelude.{◌≡◌, IfSome};
+ghost use Rattle.text_tokens.specs.Small.{decimal_of};
+
+use uc_num::Decimal;
+
+/// A number of few digits, as most are, in 8 bytes: a `Decimal` takes 32.
+#[derive(Clone, Copy)]
+pub struct SmallNumber {
+    pub digits: u32,
+    pub exponent: i16,
+    pub negative: bool,
+}
+
+impl SmallNumber {
+    /// The same number, where it is small enough.
+    pub fn of(number: Decimal) -> Option<SmallNumber>
+        ensures { IfSome result (λ small. decimal_of small ≡ number) }
+    {
+        let digits = u32::try_from(number.digits).ok()?;
+        let exponent = i16::try_from(number.exponent).ok()?;
+        Some(SmallNumber {
+            digits,
+            exponent,
+            negative: number.negative,
+        })
+    }
+
+    /// The number that it is.
+    pub fn decimal(self) -> Decimal
+        ensures { result ≡ decimal_of self }
+    {
+        Decimal {
+            digits: u128::from(self.digits),
+            exponent: i32::from(self.exponent),
+            negative: self.negative,
+        }
+    }
+}

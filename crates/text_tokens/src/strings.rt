@@ -1,0 +1,306 @@
+//! The strings of a text.
+ghost use Rattle.std.specs.Prelude.{◌≡◌, ◌<◌, ◌≤◌, ◌^◌, ◌++◌, ◌∷◌, [], ◌-◌, ◌≢◌, IsUtf8};
+ghost use Rattle.std.specs.Prelude.{string_bytes, length, take, drop, slice_index, Option};
+ghost use Rattle.std.specs.Prelude.{IfSome, IfNone, IfOk, Some, None, OnOk, option_map, true};
+ghost use Rattle.text_tokens.specs.declared.strings.Said.{Said};
+ghost use Rattle.text_tokens.specs.Strings.{hex_of, four, short_of, is_high as high_unit};
+ghost use Rattle.text_tokens.specs.Strings.{is_low as low_unit, unit_at as unit_spec};
+ghost use Rattle.text_tokens.specs.Strings.{pair as pair_spec, second_at as second_spec};
+ghost use Rattle.text_tokens.specs.Strings.{unit_piece as unit_piece_spec, string_from};
+ghost use Rattle.text_tokens.specs.Strings.{escape_at as escape_spec, piece_at as piece_spec};
+ghost use Rattle.text_tokens.specs.Strings.{string_of, said};
+ghost use Rattle.text_tokens.specs.Pieces.{said_by, seen_piece};
+
+use crate::bytes::{byte_or_zero, plain_len, rest_from};
+use crate::quoted::Quoted;
+use std::alloc::{AllocError, Global};
+
+/// A byte that stands for itself, or a character.
+#[derive(Clone, Copy)]
+enum Said {
+    Byte(u8),
+    Character(char),
+}
+
+/// What some bytes of a string say, and how many they are.
+#[derive(Clone, Copy)]
+struct Piece {
+    said: Said,
+    len: usize,
+}
+
+#[tactic(auto, unfolding(crate::specs::Strings::hex_of))]
+fn hex(b: u8) -> Option<u32>
+    ensures is { result ≡ hex_of b }
+    ensures small { IfSome result (λ n. n < 16) }
+    ensures ascii { IfSome result (λ _. b < 128) }
+{
+    match b {
+        b'0'..=b'9' => Some((b - b'0') as u32),
+        b'a'..=b'f' => Some((b - 87) as u32),
+        b'A'..=b'F' => Some((b - 55) as u32),
+        _ => None,
+    }
+}
+
+/// The byte that a letter behind a backslash stands for.
+#[tactic(auto, unfolding(crate::specs::Strings::short_of))]
+fn short(letter: u8) -> Option<u8>
+    ensures is { result ≡ short_of letter }
+    ensures ascii { IfSome result (λ b. (b < 128) × (letter < 128)) }
+{
+    match letter {
+        b'"' | b'\\' | b'/' => Some(letter),
+        b'b' => Some(8),
+        b'f' => Some(12),
+        b'n' => Some(10),
+        b'r' => Some(13),
+        b't' => Some(9),
+        _ => None,
+    }
+}
+
+#[tactic(auto, unfolding(crate::specs::Strings::four))]
+fn four_digits(a: u8, b: u8, c: u8, d: u8) -> Option<u32>
+    ensures is { result ≡ four a b c d }
+    ensures small { IfSome result (λ n. n < 65536) }
+    ensures ascii { IfSome result (λ _. d < 128) }
+{
+    let first = hex(a)?;
+    let second = hex(b)?;
+    let third = hex(c)?;
+    let last = hex(d)?;
+    Some(4096 * first + 256 * second + 16 * third + last)
+}
+
+#[tactic(auto, unfolding(crate::specs::Strings::unit_at))]
+fn unit_at(bytes: &[u8]) -> Option<u32>
+    ensures is { result ≡ unit_spec bytes.now }
+    ensures small { IfSome result (λ n. n < 65536) }
+    ensures long { IfSome result (λ _. 4 ≤ length bytes.now) }
+    ensures ascii { IfSome result (λ _. slice_index bytes.now 3 < 128) }
+{
+    if bytes.len() < 4 {
+        return None;
+    }
+    four_digits(bytes[0], bytes[1], bytes[2], bytes[3])
+}
+
+fn is_high(unit: u32) -> bool
+    ensures { result ≡ high_unit unit }
+{
+    0xD800 <= unit && unit <= 0xDBFF
+}
+
+fn is_low(unit: u32) -> bool
+    ensures { result ≡ low_unit unit }
+{
+    0xDC00 <= unit && unit <= 0xDFFF
+}
+
+/// A character, where the number is one.
+fn character(code: u32, len: usize) -> Option<Piece>
+    requires few { 4 ≤ len }
+    ensures low { code < 55296 → result ≡ Some (record { said = Said.Character code; len = len }) }
+    ensures high { 57344 ≤ code → code < 1114112
+        → result ≡ Some (record { said = Said.Character code; len = len }) }
+    ensures len { IfSome result (λ p. p.len ≡ len) }
+    ensures utf8 { IfSome result (λ p. IsUtf8 (said_by p.said)) }
+    ensures short { IfSome result (λ p. length (said_by p.said) ≤ 4) }
+{
+    let said = Said::Character(char::from_u32(code)?);
+    Some(Piece { said, len })
+}
+
+#[tactic(auto, unfolding(crate::specs::Strings::pair))]
+fn pair(high: u32, low: u32) -> Option<Piece>
+    requires { high_unit high ≡ true }
+    ensures is { seen_piece result ≡ pair_spec high (Some low) }
+    ensures len { IfSome result (λ p. p.len ≡ 12) }
+    ensures utf8 { IfSome result (λ p. IsUtf8 (said_by p.said)) }
+    ensures short { IfSome result (λ p. length (said_by p.said) ≤ 4) }
+{
+    if !is_low(low) {
+        return None;
+    }
+    character(65536 + 1024 * (high - 0xD800) + (low - 0xDC00), 12)
+}
+
+#[tactic(auto, unfolding(crate::specs::Strings::second_at))]
+fn second_at(bytes: &[u8]) -> Option<u32>
+    ensures is { result ≡ second_spec bytes.now }
+    ensures ascii { IfSome result (λ _. slice_index bytes.now 5 < 128) }
+{
+    if byte_or_zero(bytes, 0) == b'\\' && byte_or_zero(bytes, 1) == b'u' {
+        unit_at(rest_from(bytes, 2))
+    } else {
+        None
+    }
+}
+
+#[tactic(auto, unfolding(crate::specs::Strings::unit_piece))]
+fn unit_piece(unit: u32, bytes: &[u8]) -> Option<Piece>
+    requires { unit < 65536 }
+    ensures is { seen_piece result ≡ unit_piece_spec unit bytes.now }
+    ensures len { IfSome result (λ p. p.len ≢ 6 → (p.len ≡ 12) × (slice_index bytes.now 5 < 128)) }
+    ensures utf8 { IfSome result (λ p. IsUtf8 (said_by p.said)) }
+    ensures short { IfSome result (λ p. length (said_by p.said) ≤ 4) }
+{
+    if is_high(unit) {
+        let low = second_at(bytes)?;
+        return pair(unit, low);
+    }
+    if is_low(unit) {
+        return None;
+    }
+    character(unit, 6)
+}
+
+/// The piece behind a backslash.
+#[tactic(auto, unfolding(crate::specs::Strings::escape_at))]
+fn escape_at(bytes: &[u8]) -> Option<Piece>
+    ensures is { seen_piece result ≡ escape_spec bytes.now }
+    ensures len { IfSome result (λ p. (2 ≤ p.len) × (p.len ≤ 12)) }
+    ensures ascii { IfSome result (λ p. slice_index bytes.now (p.len - 2) < 128) }
+    ensures utf8 { IfSome result (λ p. IsUtf8 (said_by p.said)) }
+    ensures short { IfSome result (λ p. length (said_by p.said) ≤ p.len) }
+{
+    let letter = byte_or_zero(bytes, 0);
+    if letter != b'u' {
+        let byte = short(letter)?;
+        return Some(Piece {
+            said: Said::Byte(byte),
+            len: 2,
+        });
+    }
+    let unit = unit_at(rest_from(bytes, 1))?;
+    unit_piece(unit, rest_from(bytes, 5))
+}
+
+/// The piece in front.
+#[tactic(auto, unfolding(crate::specs::Strings::piece_at))]
+fn piece_at(bytes: &[u8]) -> Option<Piece>
+    requires { 0 < length bytes.now }
+    ensures is { seen_piece result ≡ piece_spec (slice_index bytes.now 0) bytes.now }
+    ensures len { IfSome result (λ p. (0 < p.len) × (p.len ≤ 12)) }
+    ensures short { IfSome result (λ p. length (said_by p.said) ≤ p.len) }
+    // An escape is ASCII to its end, and says whole characters; another byte says itself.
+    ensures escape { slice_index bytes.now 0 ≡ 92
+        → IfSome result (λ p. (slice_index bytes.now (p.len - 1) < 128) × IsUtf8 (said_by p.said)) }
+    ensures plain { slice_index bytes.now 0 ≢ 92
+        → IfSome result (λ p. (p.len ≡ 1) × (said_by p.said ≡ slice_index bytes.now 0 ∷ [])) }
+{
+    let byte = bytes[0];
+    if byte == b'\\' {
+        return escape_at(rest_from(bytes, 1));
+    }
+    if byte < 32 {
+        return None;
+    }
+    Some(Piece {
+        said: Said::Byte(byte),
+        len: 1,
+    })
+}
+
+/// How many bytes stand before the closing quote, where each stands for itself.
+fn plain_string(bytes: &[u8]) -> Option<usize>
+    ensures is { IfSome result (λ n. string_from 0 bytes.now ≡ Some (take n bytes.now, n)) }
+    ensures within { IfSome result (λ n. n < length bytes.now) }
+{
+    let len = plain_len(bytes);
+    if len < bytes.len() && bytes[len] == b'"' {
+        Some(len)
+    } else {
+        None
+    }
+}
+
+/// How many bytes stand before the closing quote, piece by piece.
+fn string_len(bytes: &[u8]) -> Option<usize>
+    requires { length bytes.now < 2 ^ 32 }
+    ensures is { result ≡ option_map (λ s. s.1) (string_from 0 bytes.now) }
+    ensures within { IfSome result (λ n. n < length bytes.now) }
+{
+    let mut at = 0;
+    'pieces: while at < bytes.len() {
+        if bytes[at] == b'"' {
+            return Some(at);
+        }
+        let piece = piece_at(rest_from(bytes, at))?;
+        at += piece.len;
+    }
+    None
+}
+
+/// How many bytes stand before the closing quote.
+fn closed_len(bytes: &[u8]) -> Option<usize>
+    requires { length bytes.now < 2 ^ 32 }
+    ensures is { result ≡ option_map (λ s. s.1) (string_from 0 bytes.now) }
+    ensures within { IfSome result (λ n. n < length bytes.now) }
+{
+    match plain_string(bytes) {
+        Some(len) => Some(len),
+        None => string_len(bytes),
+    }
+}
+
+/// The string behind an opening quote, and how many bytes it has.
+pub fn quoted_at(bytes: &[u8]) -> Option<(Quoted<'_>, usize)>
+    requires { length bytes.now < 2 ^ 32 }
+    ensures some { IfSome result (λ q. string_of bytes.now ≡ Some (said q.0.bytes.now, q.1)) }
+    ensures none { IfNone result (string_of bytes.now ≡ None) }
+    ensures within { IfSome result (λ q. q.1 < length bytes.now) }
+{
+    let len = closed_len(bytes)?;
+    match std::str::from_utf8(&bytes[..len]) {
+        Ok(_) => Some((Quoted { bytes }, len)),
+        Err(_) => None,
+    }
+}
+
+fn push_said(text: &mut Vec<u8>, said: Said) -> Result<(), AllocError>
+    ensures { OnOk result (text.new.items ≡ text.old.items ++ said_by said) }
+{
+    match said {
+        Said::Byte(byte) => {
+            text.push(byte)?;
+            Ok(())
+        }
+        Said::Character(c) => {
+            let mut room = [0u8; 4];
+            text.extend_from_slice(c.encode_utf8(&mut room).as_bytes())
+        }
+    }
+}
+
+/// What a string says, piece by piece.
+fn joined(alloc: Global, quoted: Quoted<'_>) -> Result<String, AllocError>
+    ensures { IfOk result (λ text. string_bytes text ≡ said quoted.entry.bytes.now) }
+{
+    let bytes = quoted.bytes;
+    let mut text = Vec::new(alloc);
+    let mut at = 0;
+    'pieces: while at < bytes.len() && bytes[at] != b'"' {
+        let Some(piece) = piece_at(rest_from(bytes, at)) else {
+            unreachable!();
+        };
+        push_said(&mut text, piece.said)?;
+        at += piece.len;
+    }
+    text.shrink_to_fit();
+    Ok(String::from_utf8(text).unwrap())
+}
+
+/// What a string says, without room to spare.
+pub fn text_of(alloc: Global, quoted: Quoted<'_>) -> Result<String, AllocError>
+    ensures { IfOk result (λ text. string_bytes text ≡ said quoted.entry.bytes.now) }
+{
+    let Some(len) = plain_string(quoted.bytes) else {
+        return joined(alloc, quoted);
+    };
+    match std::str::from_utf8(&quoted.bytes[..len]) {
+        Ok(text) => String::from_str(alloc, text),
+        Err(_) => unreachable!(),
+    }
+}

@@ -1,0 +1,145 @@
+//! The tokens of a text.
+ghost use Rattle.std.specs.Prelude.{◌≡◌, ◌<◌, ◌≤◌, ◌^◌, ◌+◌, ◌||◌, ◌==◌, true, length, slice_index};
+ghost use Rattle.std.specs.List.{prefix_len};
+ghost use Rattle.text_tokens.specs.Numbers.{is_digit as digit, is_number_byte as number_byte};
+ghost use Rattle.text_tokens.specs.Numbers.{number_of};
+ghost use Rattle.text_tokens.specs.Strings.{string_at as string_spec};
+ghost use Rattle.text_tokens.specs.Tokens.{is_blank as blank, is_letter as letter};
+ghost use Rattle.text_tokens.specs.Tokens.{number_at as number_spec, word_at as word_spec};
+ghost use Rattle.text_tokens.specs.Tokens.{token_at as token_spec};
+ghost use Rattle.text_tokens.specs.Seen.{token_of};
+ghost use Rattle.text_tokens.specs.Goes.{goes};
+
+use crate::bytes::{letters_len, number_len, rest_from};
+use crate::number::{Numeral, numeral_in, short_number};
+use crate::quoted::Quoted;
+use crate::run::Run;
+use crate::small::SmallNumber;
+use crate::strings::quoted_at;
+
+/// A value that is one token, apart from strings.
+#[derive(Clone, Copy)]
+pub enum Word<'a> {
+    Null,
+    Flag(bool),
+    Number(SmallNumber),
+    LargeNumber(Run<'a>),
+    /// Too many digits, or too large an exponent.
+    LongNumber,
+}
+
+/// A token of a text; what is none is `Bad`, and behind the last one comes `End`.
+#[derive(Clone, Copy)]
+pub enum Token<'a> {
+    OpenList,
+    CloseList,
+    OpenObject,
+    CloseObject,
+    Comma,
+    Colon,
+    Word(Word<'a>),
+    Text(Quoted<'a>),
+    Bad,
+    End,
+}
+
+/// A token, and the place of its first byte.
+#[derive(Clone, Copy)]
+pub struct Lexeme<'a> {
+    pub token: Token<'a>,
+    pub place: u32,
+}
+
+pub fn is_blank(b: u8) -> bool
+    ensures { result ≡ blank b }
+{
+    b == b' ' || b == b'\t' || b == b'\n' || b == b'\r'
+}
+
+/// The token of a run of bytes of a number.
+fn number_in(run: &[u8]) -> Token<'_>
+    requires { length run.now < 2 ^ 30 }
+    ensures is { token_of result ≡ number_of run.now }
+    ensures goes { goes (token_of result) ≡ true }
+{
+    match numeral_in(run) {
+        Numeral::Number(number) => match SmallNumber::of(number) {
+            Some(small) => Token::Word(Word::Number(small)),
+            None => Token::Word(Word::LargeNumber(Run { bytes: run })),
+        },
+        Numeral::TooLong => Token::Word(Word::LongNumber),
+        Numeral::Bad => Token::Bad,
+    }
+}
+
+fn number_at(bytes: &[u8]) -> (Token<'_>, usize)
+    requires some { 0 < length bytes.now }
+    requires first { number_byte (slice_index bytes.now 0) ≡ true }
+    requires few { length bytes.now < 2 ^ 30 }
+    ensures is { (token_of result.0, result.1) ≡ number_spec bytes.now }
+    ensures goes { goes (token_of result.0) ≡ true }
+    ensures some { 0 < result.1 }
+    ensures within { result.1 ≤ length bytes.now }
+{
+    if let Some((small, len)) = short_number(bytes) {
+        return (Token::Word(Word::Number(small)), len);
+    }
+    let len = number_len(bytes);
+    (number_in(&bytes[..len]), len)
+}
+
+fn word_at(bytes: &[u8]) -> (Token<'_>, usize)
+    requires some { 0 < length bytes.now }
+    requires first { letter (slice_index bytes.now 0) ≡ true }
+    ensures is { (token_of result.0, result.1) ≡ word_spec bytes.now }
+    ensures some { 0 < result.1 }
+    ensures within { result.1 ≤ length bytes.now }
+{
+    let len = letters_len(bytes);
+    let run = &bytes[..len];
+    if run == b"null".as_slice() {
+        (Token::Word(Word::Null), len)
+    } else if run == b"true".as_slice() {
+        (Token::Word(Word::Flag(true)), len)
+    } else if run == b"false".as_slice() {
+        (Token::Word(Word::Flag(false)), len)
+    } else {
+        (Token::Bad, len)
+    }
+}
+
+fn string_at(bytes: &[u8]) -> (Token<'_>, usize)
+    requires { length bytes.now < 2 ^ 30 }
+    ensures is { (token_of result.0, result.1) ≡ string_spec bytes.now }
+    ensures goes { goes (token_of result.0) ≡ true }
+    ensures some { 0 < result.1 }
+    ensures within { result.1 ≤ 1 + length bytes.now }
+{
+    match quoted_at(bytes) {
+        Some((quoted, len)) => (Token::Text(quoted), len + 2),
+        None => (Token::Bad, 1),
+    }
+}
+
+#[tactic(auto, unfolding(crate::specs::Tokens::token_at))]
+pub fn token_at(bytes: &[u8]) -> (Token<'_>, usize)
+    requires some { 0 < length bytes.now }
+    requires few { length bytes.now < 2 ^ 30 }
+    ensures is { (token_of result.0, result.1) ≡ token_spec (slice_index bytes.now 0) bytes.now }
+    ensures some { 0 < result.1 }
+    ensures within { result.1 ≤ length bytes.now }
+    ensures goes { goes (token_of result.0) ≡ true }
+{
+    match bytes[0] {
+        b'{' => (Token::OpenObject, 1),
+        b'}' => (Token::CloseObject, 1),
+        b'[' => (Token::OpenList, 1),
+        b']' => (Token::CloseList, 1),
+        b',' => (Token::Comma, 1),
+        b':' => (Token::Colon, 1),
+        b'"' => string_at(rest_from(bytes, 1)),
+        b'-' | b'0'..=b'9' => number_at(bytes),
+        b'a'..=b'z' => word_at(bytes),
+        _ => (Token::Bad, 1),
+    }
+}

@@ -1,6 +1,0 @@
-use Rattle.std.proofs.Common.{◌≡◌, ℕ, ◌<◌, true, get_or}
-use Rattle.uc_text.specs.Tokens.{is_letter}
-use Rattle.uc_text.proofs.bytes.letters_len.Given as goal
-
-abbrev pub invariant-loop-i : goal.invariant-loop-i
-invariant-loop-i l = (k : ℕ) → k < l.i → is_letter (get_or l.bytes k 0) ≡ true

@@ -1,6 +1,0 @@
-use Rattle.std.proofs.Common.{◌≡◌, ◌^◌, ◌<◌, drop}
-use Rattle.uc_text.specs.Numbers.{value_from}
-use Rattle.uc_text.proofs.number.digits_after.Given as goal
-
-abbrev pub invariant-loop-b : goal.invariant-loop-b
-invariant-loop-b l = record { so_far : value_from l.n (drop l.b-index l.digits) ≡ value_from l.before l.digits; small : l.n < 10 ^ 30 }

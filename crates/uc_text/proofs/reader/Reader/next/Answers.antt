@@ -1,8 +1,0 @@
-use Rattle.std.proofs.Common.{◌+◌, refl}
-use Rattle.uc_text.specs.Places.{rest_at}
-use Rattle.uc_text.proofs.Ahead.{comma_step}
-use Rattle.uc_text.proofs.reader.Reader.next.Goals as goal
-
-pub returns-then-self-place-eq44-clause-next : goal.returns-then-self-place-eq44-clause-next
-returns-then-self-place-eq44-clause-next c =
-    (rest_at c.args.self.now.bytes.now (c.args.self.now.at + 1), comma_step c.args.self.now.bytes.now c.args.self.now.at c.if-place-self.true c.if-self-place-eq44.true, λ h. refl)

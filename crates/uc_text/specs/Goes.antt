@@ -1,8 +1,0 @@
--- Whether tokens lie behind this one.
-use Rattle.std.specs.Prelude.{Bool, true, false}
-use Rattle.uc_text.specs.Grammar as grammar
-
--- tokens lie behind it
-abbrev pub goes : grammar.Token → Bool
-goes grammar.end = false
-goes t = true

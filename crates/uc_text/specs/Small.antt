@@ -1,6 +1,0 @@
--- The number that a small one is.
-use Rattle.uc_num.specs.declared.Decimal.{Decimal}
-use Rattle.uc_text.specs.declared.small.SmallNumber.{SmallNumber}
-
-abbrev pub decimal_of : SmallNumber → Decimal
-decimal_of s = record { digits = s.digits; exponent = s.exponent; negative = s.negative }
