@@ -10,6 +10,7 @@ ghost use Rattle.hull_report.specs.FaultLines.{fault_line};
 use hull_io::{Sink, WriteFailed, write_whole};
 use hull_words::WordFault;
 use plan_check::RuleFault;
+use report_form::laws::texts_add_up;
 use report_form::{Part, write_parts};
 use uc_case::fault::FieldFault;
 use uc_model::kinds::Kind;
@@ -314,6 +315,7 @@ fn write_status<S: Sink>(status: u8, out: &mut S) -> Result<(), WriteFailed>
 pub fn write_fault<S: Sink>(fault: &TopFault, out: &mut S) -> Result<(), WriteFailed>
     ensures { Writes S.held S.faults S.last out.old out.new result (fault_line fault.now) }
 {
+    texts_add_up::<S>();
     write_status(fault.status(), out)?;
     write_told(fault, out)?;
     write_whole(out, b"\n")

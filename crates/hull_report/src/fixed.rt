@@ -15,6 +15,7 @@ use crate::record::choice_of;
 use board_core::Closed;
 use board_history::laws::rows_are_within;
 use hull_io::{Sink, WriteFailed};
+use report_form::laws::texts_add_up;
 use report_form::{Part, write_parts};
 use uc_model::cases::Case;
 use uc_model::copies::copy_list;
@@ -169,6 +170,7 @@ fn write_thermal_paid<S: Sink>(
         (flat_map (paid_text (codes "unit thermal "))
         (thermal_paid (market_of case.now) (told_of hull.now) (told_of fixed.now))) }
 {
+    texts_add_up::<S>();
     for (place, named) in case.thermal.as_slice().iter().enumerate() {
         let paid = paid_at(hull, fixed, place);
         write_paid(b"unit thermal ", named.name.as_str(), paid, out)?;
@@ -189,6 +191,7 @@ fn write_renewable_paid<S: Sink>(
         (flat_map (paid_text (codes "unit renewable "))
         (renewable_paid (market_of case.now) (told_of hull.now) (told_of fixed.now))) }
 {
+    texts_add_up::<S>();
     let first = case.thermal.len();
     for (place, named) in case.flat.as_slice().iter().enumerate() {
         let paid = paid_at(hull, fixed, first + place);
@@ -210,6 +213,7 @@ fn write_bids_paid<S: Sink>(
         (flat_map (paid_text (codes "unit bid "))
         (bids_paid (market_of case.now) (told_of hull.now) (told_of fixed.now))) }
 {
+    texts_add_up::<S>();
     let first = case.producer_count();
     for (place, named) in case.bids.as_slice().iter().enumerate() {
         let paid = paid_at(hull, fixed, first + place);
@@ -230,6 +234,7 @@ fn write_all_paid<S: Sink>(
     ensures { Writes S.held S.faults S.last out.old out.new result
         (all_paid_text (market_of case.now) (told_of hull.now) (told_of fixed.now)) }
 {
+    texts_add_up::<S>();
     write_thermal_paid(case, hull, fixed, out)?;
     write_renewable_paid(case, hull, fixed, out)?;
     write_bids_paid(case, hull, fixed, out)
@@ -282,6 +287,7 @@ pub fn write_fixed<S: Sink>(
     ensures { Writes S.held S.faults S.last out.old out.new result
         (fixed_text (market_of case.now) cost (told_of hull.now) (told_of fixed.now)) }
 {
+    texts_add_up::<S>();
     write_sides(hull, fixed, out)?;
     write_all_paid(case, hull, fixed, out)?;
     write_sums(hull, fixed, cost, out)

@@ -15,6 +15,7 @@ ghost use Rattle.hull_report.specs.TryText.{try_text};
 use board_core::Closed;
 use board_history::laws::{finished_has_row, finished_is_run, rows_are_within};
 use hull_io::{Sink, WriteFailed};
+use report_form::laws::texts_add_up;
 use report_form::report::{
     Head, Owed, write_bid, write_chosen, write_foot, write_head, write_renewable, write_rows,
     write_thermal,
@@ -92,6 +93,7 @@ fn write_proposals<S: Sink>(closed: &Closed, choice: Choice, out: &mut S) -> Res
         ++ chosen_text choice.chosen choice.value
         ) }
 {
+    texts_add_up::<S>();
     let head = head_of(closed, choice.proposals);
     write_head(&head, out)?;
     write_rows(closed.rows(), out)?;
@@ -145,6 +147,7 @@ fn write_thermal_lines<S: Sink>(
     ensures horizon { length (schedule_of buffer.new.response).on
         ≡ closed.now.setup.market.periods }
 {
+    texts_add_up::<S>();
     let case = closed.case();
     for (place, named) in case.thermal.as_slice().iter().enumerate() {
         let owed = take_line(closed, settlement, proposal, place as u32, buffer);
@@ -170,6 +173,7 @@ fn write_renewable_lines<S: Sink>(
     ensures horizon { length (schedule_of buffer.new.response).on
         ≡ closed.now.setup.market.periods }
 {
+    texts_add_up::<S>();
     let case = closed.case();
     let first = case.thermal.len();
     for (place, named) in case.flat.as_slice().iter().enumerate() {
@@ -197,6 +201,7 @@ fn write_bid_lines<S: Sink>(
     ensures horizon { length (schedule_of buffer.new.response).on
         ≡ closed.now.setup.market.periods }
 {
+    texts_add_up::<S>();
     let case = closed.case();
     let first = case.thermal.len() + case.flat.len();
     for (place, named) in case.bids.as_slice().iter().enumerate() {
@@ -228,6 +233,7 @@ fn write_unit_lines<S: Sink>(
     ensures horizon { length (schedule_of buffer.new.response).on
         ≡ closed.now.setup.market.periods }
 {
+    texts_add_up::<S>();
     write_thermal_lines(closed, settlement, proposal, buffer, out)?;
     write_renewable_lines(closed, settlement, proposal, buffer, out)?;
     write_bid_lines(closed, settlement, proposal, buffer, out)
@@ -255,6 +261,7 @@ pub fn write_report<S: Sink>(
     ensures horizon { length (schedule_of buffer.new.response).on
         ≡ closed.now.setup.market.periods }
 {
+    texts_add_up::<S>();
     let choice = choice_of(closed);
     write_proposals(closed, choice, out)?;
     write_unit_lines(closed, settlement, choice.chosen, buffer, out)?;

@@ -1,8 +1,8 @@
 -- How what a sink holds grows, one text after another.
-use Rattle.std.proofs.Common.{◌≡◌, ℕ, ◌+◌, ◌<◌, ◌≤◌, List, [], ◌∷◌, ◌++◌, length, take, drop, get_or, Option, None, Some, Result, Ok, Err, IsErr, refl, sym, ap, subst, ◌∙◌, inl, inr, arith, append_assoc}
-use Rattle.std.proofs.lemmas.List.{append-nil, take-append-drop, take_more, drop_more}
-use Rattle.std.proofs.lemmas.List.Concat.{flat_map-append}
+use Rattle.std.proofs.Common.{◌≡◌, ℕ, ◌+◌, ◌<◌, ◌≤◌, List, [], ◌++◌, length, take, drop, get_or, Option, None, Some, Result, Ok, Err, IsErr, refl, sym, ap, subst, ◌∙◌, inl, inr, arith, append_assoc}
+use Rattle.std.proofs.lemmas.List.{append-nil}
 use Rattle.std.specs.List.{flat_map}
+use Rattle.uc_model.proofs.ListLaws.{flat_map_at, flat_map_up_to}
 use Rattle.hull_io.specs.Edge.{Rose, grown, Gains, FallsShort, Writes}
 
 grown_nothing : (o : Option (List ℕ)) → grown o [] ≡ o
@@ -18,18 +18,6 @@ rose_wider : (last : Option ℕ) (a b c d : ℕ) → a ≤ b → Rose last b c �
 rose_wider None a b c d p h q = omega arith
 rose_wider (Some most) a b c d p (inl h) q = inl (omega arith)
 rose_wider (Some most) a b c d p (inr h) q = inr (omega arith)
-
--- the texts of a list, before a place, at it and after it
-flat_map_at : {X : Type 0} (f : X → List ℕ) (xs : List X) (i : ℕ) (d : X) → i < length xs → flat_map f xs ≡ flat_map f (take i xs) ++ f (get_or xs i d) ++ flat_map f (drop (i + 1) xs)
-flat_map_at f xs i d h =
-    ap (flat_map f) (sym (take-append-drop i xs)) ∙ flat_map-append f (take i xs) (drop i xs)
-    ∙ ap (λ t. flat_map f (take i xs) ++ flat_map f t) (drop_more xs i d h) ∙ sym (append_assoc (flat_map f (take i xs)) (f (get_or xs i d)) (flat_map f (drop (i + 1) xs)))
-
--- and up to the place after it
-flat_map_up_to : {X : Type 0} (f : X → List ℕ) (xs : List X) (i : ℕ) (d : X) → i < length xs → flat_map f (take (i + 1) xs) ≡ flat_map f (take i xs) ++ f (get_or xs i d)
-flat_map_up_to f xs i d h =
-    ap (flat_map f) (take_more xs i d h) ∙ flat_map-append f (take i xs) (get_or xs i d ∷ [])
-    ∙ ap (λ t. flat_map f (take i xs) ++ t) (append-nil (f (get_or xs i d)))
 
 module _ {S : Type 0} {held : S → Option (List ℕ)} {faults : S → ℕ} where
   -- nothing was written
@@ -87,10 +75,3 @@ module _ {S : Type 0} {held : S → Option (List ℕ)} {faults : S → ℕ} wher
   -- the exit of a `?` in a loop over such a list
   pub exit_in_list : {X E : Type 0} {last : Option ℕ} {old mid new : S} (f : X → List ℕ) (xs : List X) (i : ℕ) (d : X) (r : Result (Unit {0}) E) → IsErr r → i < length xs → FallsShort held faults last mid new (f (get_or xs i d)) → Gains held faults old mid (flat_map f (take i xs)) → Writes held faults last old new r (flat_map f xs)
   exit_in_list f xs i d r e h q p = writes_exit _ r e (short_in_list f xs i d h q p)
-
-  -- the same where the element was read as `x`
-  pub gains_at_item : {X : Type 0} {old mid new : S} (f : X → List ℕ) (xs : List X) (i : ℕ) (x : X) → i < length xs → x ≡ get_or xs i x → Gains held faults mid new (f x) → Gains held faults old mid (flat_map f (take i xs)) → Gains held faults old new (flat_map f (take (i + 1) xs))
-  gains_at_item {mid = mid} {new = new} f xs i x h is q p = gains_in_list f xs i x h (subst (λ y. Gains held faults mid new (f y)) is q) p
-
-  pub exit_at_item : {X E : Type 0} {last : Option ℕ} {old mid new : S} (f : X → List ℕ) (xs : List X) (i : ℕ) (x : X) (r : Result (Unit {0}) E) → IsErr r → i < length xs → x ≡ get_or xs i x → FallsShort held faults last mid new (f x) → Gains held faults old mid (flat_map f (take i xs)) → Writes held faults last old new r (flat_map f xs)
-  exit_at_item {last = last} {mid = mid} {new = new} f xs i x r e h at q p = exit_in_list f xs i x r e h (subst (λ y. FallsShort held faults last mid new (f y)) at q) p

@@ -1,5 +1,5 @@
--- parts.rt, and the writers of the crates above: how what a sink holds grows
-pub mod GrownLemmas
+-- parts.rt, laws.rt: how what a sink holds grows
+mod GrownLemmas
 -- pieces.rt: texts that are written in pieces
 mod PieceLemmas
 -- parts.rt: names, and numbers in digits

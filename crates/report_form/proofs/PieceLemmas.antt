@@ -1,16 +1,12 @@
 -- Texts that are written in pieces.
-use Rattle.std.proofs.Common.{◌≡◌, ℕ, ◌+◌, ◌<◌, ◌≤◌, List, [], ◌∷◌, ◌++◌, length, take, drop, get_or, Option, Result, IsErr, refl, sym, ap, subst, ◌∙◌, append_assoc}
-use Rattle.std.proofs.lemmas.List.{append-nil, take-append-drop, take_more, take_all}
+use Rattle.std.proofs.Common.{◌≡◌, ℕ, ◌+◌, ◌<◌, ◌≤◌, List, [], ◌++◌, length, take, drop, get_or, Option, Result, IsErr, refl, sym, ap, subst, ◌∙◌, append_assoc}
+use Rattle.std.proofs.lemmas.List.{append-nil, take-append-drop, take_all}
 use Rattle.std.proofs.lemmas.List.Concat.{flat_map-append}
 use Rattle.std.specs.List.{flat_map}
 use Rattle.hull_io.specs.Edge.{Gains, FallsShort, Writes}
+use Rattle.uc_model.proofs.ListLaws.{flat_map_up_to}
 use Rattle.report_form.proofs.GrownLemmas.{gains_nothing, gains_then, short_then, short_more, writes_then, writes_exit}
 use Rattle.report_form.specs.Pending.{Pends}
-
-flat_map_next : {X : Type 0} (f : X → List ℕ) (xs : List X) (i : ℕ) (d : X) → i < length xs → flat_map f (take (i + 1) xs) ≡ flat_map f (take i xs) ++ f (get_or xs i d)
-flat_map_next f xs i d h =
-    ap (flat_map f) (take_more xs i d h) ∙ flat_map-append f (take i xs) (get_or xs i d ∷ [])
-    ∙ ap (λ t. flat_map f (take i xs) ++ t) (append-nil (f (get_or xs i d)))
 
 flat_map_split : {X : Type 0} (f : X → List ℕ) (xs : List X) (i : ℕ) → flat_map f xs ≡ flat_map f (take i xs) ++ flat_map f (drop i xs)
 flat_map_split f xs i = ap (flat_map f) (sym (take-append-drop i xs)) ∙ flat_map-append f (take i xs) (drop i xs)
@@ -38,7 +34,7 @@ module _ {S : Type 0} {held : S → Option (List ℕ)} {faults : S → ℕ} wher
   pub pends_in_list : {X : Type 0} {old mid new : S} (f : X → List ℕ) (xs : List X) (i : ℕ) (d : X) (waiting later : List ℕ) → i < length xs
       → Pends held faults mid new later (waiting ++ f (get_or xs i d)) → Pends held faults old mid waiting (flat_map f (take i xs)) → Pends held faults old new later (flat_map f (take (i + 1) xs))
   pends_in_list {old = old} {new = new} f xs i d waiting later h q p =
-      subst (Pends held faults old new later) (sym (flat_map_next f xs i d h)) (pends_then waiting later _ _ q p)
+      subst (Pends held faults old new later) (sym (flat_map_up_to f xs i d h)) (pends_then waiting later _ _ q p)
 
   -- the exit of a `?` in a loop over such a list
   pub pends_exit : {X E : Type 0} {last : Option ℕ} {old mid new : S} (f : X → List ℕ) (xs : List X) (i : ℕ) (waiting : List ℕ) (r : Result (Unit {0}) E) → IsErr r

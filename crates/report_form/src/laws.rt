@@ -1,5 +1,13 @@
-//! The law over the texts of reports: the contract of a function that does nothing.
-ghost use Rattle.report_form.specs.Laws.{TextDeterminesReport};
+//! Laws over texts: each is the contract of a function that does nothing.
+ghost use Rattle.report_form.specs.Laws.{GainsAddUp, TextDeterminesReport};
+
+use hull_io::Sink;
+
+/// Two texts that a sink gained one after the other are one text that it gained. Where the second
+/// was cut short, so was the one; where the first was, so is any text that goes on from it.
+pub fn texts_add_up<S: Sink>()
+    ensures { GainsAddUp S.held S.faults S.last }
+{}
 
 /// Two reports with equal texts are equal, so what is printed tells the report. Of renewable units
 /// and bids only the power is told: they are on in every period of it, with reserve 0.

@@ -1,9 +1,8 @@
 use Rattle.std.proofs.Common.{arith, ap, length}
-use Rattle.report_form.proofs.GrownLemmas.{gains_at_item, exit_at_item}
 use Rattle.report_form.specs.ReportText.{thermal_text}
 use Rattle.hull_report.specs.RecordReport.{line_of, lines_from, thermal_names}
 use Rattle.hull_report.proofs.RecordLines.{thermal_stands, thermal_lines}
-use Rattle.hull_report.proofs.RecordTexts.{all_items}
+use Rattle.hull_report.proofs.RecordTexts.{all_items, gains_at_item, exit_at_item}
 use Rattle.hull_report.proofs.record.write_thermal_lines.Goals as goal
 
 pub returns-in_err-write_thermal-clause-text : goal.returns-in_err-write_thermal-clause-text
@@ -12,7 +11,7 @@ returns-in_err-write_thermal-clause-text g c =
     let lines = lines_from (line_of c.args.closed.now c.args.settlement.now c.args.proposal) 0 (thermal_names m) in
     let at = thermal_stands (line_of c.args.closed.now c.args.settlement.now c.args.proposal) m c.case-case.result.now c.case-case.ensures c.loop-place.place c.loop-place.place c.as_str.result.now _ (c.take_line-owed.ensures.line c.as_str.result.now)
     c.as_slice-named-items.result.now c.named-item.result c.as_slice-named-items.ensures (omega arith) c.named-item.is c.as_str.ensures (omega arith) in
-    exit_at_item thermal_text lines c.loop-place.place _ _ c.from_residual.ensures.0 at.inside at.is c.in_err-write_thermal.ensures.err c.loop-place.invariant.gained
+    exit_at_item c.texts_add_up.ensures thermal_text lines c.loop-place.place _ _ c.from_residual.ensures.0 at.inside at.is c.in_err-write_thermal.ensures.err c.loop-place.invariant.gained
 
 pub loop-place-preserved : goal.loop-place-preserved
 loop-place-preserved g c =
@@ -21,7 +20,7 @@ loop-place-preserved g c =
     let at = thermal_stands (line_of c.args.closed.now c.args.settlement.now c.args.proposal) m c.case-case.result.now c.case-case.ensures c.loop-place.place c.loop-place.place c.as_str.result.now _ (c.take_line-owed.ensures.line c.as_str.result.now)
     c.as_slice-named-items.result.now c.named-item.result c.as_slice-named-items.ensures (omega arith) c.named-item.is c.as_str.ensures (omega arith) in
     record {
-      gained = gains_at_item thermal_text lines c.loop-place.place _ at.inside at.is c.in_ok-write_thermal.ensures.ok c.loop-place.invariant.gained;
+      gained = gains_at_item c.texts_add_up.ensures thermal_text lines c.loop-place.place _ at.inside at.is c.in_ok-write_thermal.ensures.ok c.loop-place.invariant.gained;
       horizon = c.take_line-owed.ensures.horizon;
     }
 
