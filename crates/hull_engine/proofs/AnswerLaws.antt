@@ -1,12 +1,17 @@
 -- What the run of a command answers.
-use Rattle.std.proofs.Common.{◌≡◌, ℕ, ℤ, List, subst}
+use Rattle.std.proofs.Common.{◌≡◌, ℕ, ℤ, List, subst, sym, ap, ◌∙◌}
+use Rattle.uc_model.specs.Data.{unit_count}
+use Rattle.uc_model.specs.PlainCases.{market_of}
 use Rattle.report_form.specs.ReportText.{Report}
+use Rattle.hull_report.specs.FixedText.{told_of, fixed_text}
 use Rattle.board_history.specs.Board.{Setup}
-use Rattle.hull_engine.specs.declared.input.RunInput.{RunInput}
-use Rattle.hull_engine.specs.Outcome.{IsReportText, IsBoundText}
-use Rattle.hull_engine.specs.Answers.{planned_in, IsRunText}
-use Rattle.hull_engine.specs.Inputs.{planned_of}
-use Rattle.hull_engine.specs.Rounds.{setup_of}
+use Rattle.board_run.specs.Compared.{AreSides, ArePaid}
+use Rattle.board_run.specs.declared.fixed.Sides.{Sides}
+use Rattle.board_run.specs.declared.input.RunInput.{RunInput}
+use Rattle.hull_engine.specs.Outcome.{IsReportText, IsBoundText, IsFixedText}
+use Rattle.board_run.specs.Inputs.{planned_in, planned_of}
+use Rattle.hull_engine.specs.Answers.{IsRunText}
+use Rattle.board_run.specs.Rounds.{setup_of}
 
 -- the texts of a run are those of its input, with the numbers of the words
 pub run_texts : (text_of : Report → List ℕ) (run : RunInput) (b : Setup) (budget ahead : ℕ) → b ≡ setup_of run → run.size.proposals ≡ budget → run.size.ahead ≡ ahead
@@ -24,3 +29,17 @@ bound_texts run b budget ahead held radius same e f g text is =
     (subst (λ (n : ℕ). IsBoundText budget n held (planned_of run.input) text) f
     (subst (λ (n : ℕ). IsBoundText n run.size.ahead held (planned_of run.input) text) e
     (subst (λ (x : Setup). IsBoundText x.budget x.ahead held (planned_in x) text) same is)))
+
+-- ---- both runs of `hull fixed`
+
+pub sides_paid : (run : RunInput) (s : Sides) → AreSides run s → ArePaid s
+sides_paid run s h =
+    let same = ap unit_count (sym h.case) in
+    record { hull = h.hull.count ∙ same; fixed = h.fixed.count ∙ same }
+
+pub fixed_texts : (run : RunInput) (s : Sides) (budget ahead : ℕ) → AreSides run s → run.size.proposals ≡ budget → run.size.ahead ≡ ahead
+    → (text : List ℕ) → text ≡ fixed_text (market_of s.case) s.cost (told_of s.hull) (told_of s.fixed) → IsFixedText budget ahead (planned_of run.input) text
+fixed_texts run s budget ahead h e f text is =
+    subst (λ (n : ℕ). IsFixedText budget n (planned_of run.input) text) f
+    (subst (λ (n : ℕ). IsFixedText n run.size.ahead (planned_of run.input) text) e
+    (told_of s.hull, told_of s.fixed, h.hull.right, h.fixed.right, is ∙ (λ j. fixed_text (h.case j) (h.cost j) (told_of s.hull) (told_of s.fixed))))

@@ -4,7 +4,8 @@ use Rattle.report_form.specs.ReportText.{Report, report_text}
 use Rattle.hull_report.specs.declared.fault.FileKind.TheVariants.{ReportFile}
 use Rattle.hull_report.specs.declared.fault.TopFault.{TopFault}
 use Rattle.hull_engine.specs.Answers.{IsFaultOf}
-use Rattle.hull_engine.specs.Steps.{Then, Reads, PlannedCase, IsInput, IsWithinWork, IsReportFile, IsJudged, IsAudit}
+use Rattle.hull_engine.specs.Steps.{Then, Reads, IsInput, IsWithinWork, IsReportFile, IsJudged, IsAudit}
+use Rattle.board_run.specs.Inputs.{PlannedCase}
 use Rattle.hull_engine.proofs.ReadLaws.{got}
 
 -- ---- the steps

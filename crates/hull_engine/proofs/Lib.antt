@@ -8,19 +8,9 @@ pub mod AnswerLaws
 pub mod WordSizes
 -- answers.rt: a feasible plan has the shape that its cost is taken of
 pub mod PlanShapes
--- crew.rt: the callers whose seats are out
-pub mod Outs
--- crew.rt: nobody halts, so the board has finished
-pub mod CrewLaws
--- run.rt: the settlement at the prices of the chosen row
-pub mod SettleLaws
 -- end.rt: what is written of a run that has ended is the text of a right report
 pub mod WriteLaws
 -- lib.rt: the end of a run is its outcome
 pub mod EndLaws
--- bound.rt: the best bound round the chosen prices of a run
-pub mod BoundLaws
--- fixed.rt: the two runs of `hull fixed`
-pub mod FixedLaws
 -- answers.rt: the audit of a report
 pub mod AuditLaws

@@ -13,7 +13,8 @@ use Rattle.hull_words.specs.Asked.{Asked, Found, CheckAsked, PriceAsked, price, 
 use Rattle.hull_words.specs.Spelling.{command_named}
 use Rattle.hull_words.specs.Texts.{is_numeral, number_in}
 use Rattle.hull_words.specs.Words.{first_fault, backwards, found_in, or_fault, or_missing, asked_of, later_words, words_of}
-use Rattle.hull_engine.specs.Sizes.{IsWithin, IsWorkers, IsRunSize, HasSizes}
+use Rattle.board_run.specs.Sizes.{IsWithin, IsWorkers, IsRunSize}
+use Rattle.hull_engine.specs.Sizes.{HasSizes}
 
 -- ---- one number
 

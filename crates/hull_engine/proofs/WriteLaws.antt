@@ -6,12 +6,13 @@ use Rattle.board_history.specs.Calls.{own_rows}
 use Rattle.hull_report.specs.BoundText.{bound_text}
 use Rattle.hull_report.specs.RecordReport.{chosen_of, value_of, report_of, RecordReportIsRight, SettlementsAreOfAllUnits}
 use Rattle.report_form.specs.ReportText.{Report}
-use Rattle.hull_engine.specs.declared.run.Done.{Done}
-use Rattle.hull_engine.specs.declared.bound.Bounded.{Bounded}
-use Rattle.hull_engine.specs.Answers.{planned_in, IsRunText}
-use Rattle.hull_engine.specs.Bounded.{IsBounded}
+use Rattle.board_run.specs.declared.run.Done.{Done}
+use Rattle.board_run.specs.declared.bound.Bounded.{Bounded}
+use Rattle.board_run.specs.Inputs.{planned_in}
+use Rattle.hull_engine.specs.Answers.{IsRunText}
+use Rattle.board_run.specs.Bounded.{IsBounded}
 use Rattle.hull_engine.specs.Outcome.{IsBoundText, HasStatus}
-use Rattle.hull_engine.specs.Rounds.{IsEnded}
+use Rattle.board_run.specs.Rounds.{IsEnded}
 
 -- the settlement has one number for each unit
 pub ended_lengths : SettlementsAreOfAllUnits → (d : Done) → IsEnded d.closed.setup d

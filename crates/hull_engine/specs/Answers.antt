@@ -19,12 +19,13 @@ use Rattle.hull_engine.specs.declared.answers.Answer.TheVariants.{Check, Price, 
 use Rattle.hull_engine.specs.declared.answers.Answer.TheVariants.{Audit}
 use Rattle.hull_engine.specs.declared.end.End.{End}
 use Rattle.hull_engine.specs.declared.end.End.TheVariants.{Done, Cut, Refused}
-use Rattle.hull_engine.specs.Steps.{Reads, PlannedCase}
+use Rattle.hull_engine.specs.Steps.{Reads}
+use Rattle.board_run.specs.Inputs.{PlannedCase, planned_in}
 use Rattle.hull_engine.specs.Outcome.{Command, command_for, IsReportText, IsBoundText, IsReadOf}
 use Rattle.hull_engine.specs.Outcome.{AreReads}
-use Rattle.hull_engine.specs.Rounds.{IsEnded}
-use Rattle.hull_engine.specs.Bounded.{IsBounded}
-use Rattle.hull_engine.specs.Compared.{ArePaid}
+use Rattle.board_run.specs.Rounds.{IsEnded}
+use Rattle.board_run.specs.Bounded.{IsBounded}
+use Rattle.board_run.specs.Compared.{ArePaid}
 
 -- ---- a step
 
@@ -56,10 +57,6 @@ abbrev pub HasReads : (List ℕ → Option (List ℕ)) → (List ℕ → Type 0)
 HasReads told rose name_of P = (reads : Reads) × AreReads told rose name_of reads × P reads
 
 -- ---- the answer of a command
-
--- what the board of a run was made for
-abbrev pub planned_in : Setup → PlannedCase
-planned_in b = record { market = b.market; plan = b.plan; cost = b.cost }
 
 -- the texts that may be printed of a run
 abbrev pub IsRunText : (Report → List ℕ) → Setup → List ℕ → Type 0

@@ -2,9 +2,4 @@ pub mod Steps
 pub mod Outcome
 pub mod Sizes
 pub mod Inputs
-pub mod Rounds
-pub mod Crews
-pub mod Rooms
-pub mod Bounded
-pub mod Compared
 pub mod Answers

@@ -11,12 +11,12 @@
 -- `gained text` is that the sink has got the whole text, `short text` that it has a front of it and
 -- its count rose. `(x : T) × P` is read 'there is an x with P', `⊎` 'or', `⊥` 'never'.
 --
--- The steps of the commands are in Steps; the text of a report in report_form's ReportText; the
--- other texts, and what makes them right, in hull_report: RightReport, CheckText, TryText,
--- BoundText, FixedText and RightSide, AuditText, FaultLines; a case with its schedule's commitments
--- held in fixed_price's FixedCase; which reports are read, and the first line in fault, in
--- report_read's Bounds and Faults; the first line at which a report differs from the right one in
--- report_check's Right.
+-- The steps of the commands are in Steps; a case with its schedule is in board_run's Inputs; the
+-- text of a report in report_form's ReportText; the other texts, and what makes them right, in
+-- hull_report: RightReport, CheckText, TryText, BoundText, FixedText and RightSide, AuditText,
+-- FaultLines; a case with its schedule's commitments held in fixed_price's FixedCase; which reports
+-- are read, and the first line in fault, in report_read's Bounds and Faults; the first line at
+-- which a report differs from the right one in report_check's Right.
 use Rattle.std.specs.Prelude.{◌≡◌, ◌⊎◌, ℕ, ℤ, List, length, unsigned_abs, Option, None, Some}
 use Rattle.std.specs.Prelude.{Result, Ok, Err, IfSome}
 use Rattle.fixed_price.specs.FixedCase.{fixed_market}
@@ -40,7 +40,8 @@ use Rattle.hull_report.specs.declared.fault.TopFault.{TopFault}
 use Rattle.hull_report.specs.declared.fault.TopFault.TheVariants.{Words, Memory}
 use Rattle.hull_engine.specs.declared.end.End.{End}
 use Rattle.hull_engine.specs.declared.end.End.TheVariants.{Done, Cut, Refused}
-use Rattle.hull_engine.specs.Steps.{Then, Reads, PlannedCase, IsInput, IsMade, IsWithinWork}
+use Rattle.hull_engine.specs.Steps.{Then, Reads, IsInput, IsMade, IsWithinWork}
+use Rattle.board_run.specs.Inputs.{PlannedCase}
 use Rattle.hull_engine.specs.Steps.{IsAudit}
 
 -- ---- the commands

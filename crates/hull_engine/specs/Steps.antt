@@ -1,7 +1,7 @@
 -- The steps of a command, in the order in which they refuse: each goes on with what it found, or
 -- ends in a refusal (this project's profile). What a file's bytes are is said in uc_case, uc_plan
 -- and report_read, the rules of a schedule in uc_model, and what a right report is in hull_report.
-use Rattle.std.specs.Prelude.{◌≡◌, ℕ, ◌*◌, ℤ, nat_lt, List, [], length, Option, None, Some, Result}
+use Rattle.std.specs.Prelude.{◌≡◌, ℕ, ◌*◌, nat_lt, List, [], length, Option, None, Some, Result}
 use Rattle.std.specs.Prelude.{Ok, Err, slice_get, if◌then◌else◌}
 use Rattle.std.specs.Result.{result_map_both}
 use Rattle.uc_model.specs.Data.{Market, Schedule, unit_count}
@@ -13,6 +13,7 @@ use Rattle.uc_case.specs.CaseFiles.{IsCaseOf}
 use Rattle.uc_case.specs.declared.fault.FieldFault.{FieldFault}
 use Rattle.uc_plan.specs.PlanFiles.{IsPlanOf}
 use Rattle.uc_plan.specs.declared.fault.ShapeFault.{ShapeFault}
+use Rattle.board_run.specs.Inputs.{PlannedCase}
 use Rattle.plan_check.specs.Checks.{refusal_of}
 use Rattle.plan_check.specs.declared.RuleFault.{RuleFault}
 use Rattle.hull_io.specs.declared.read.TheConstants.{MOST_BYTES}
@@ -88,12 +89,6 @@ IsPlan m bytes due =
 -- the schedules of their file
 abbrev pub IsPlanFile : Market → Option (List ℕ) → Result (List Schedule) TopFault → Type 0
 IsPlanFile m read = Then (IsBytes ScheduleFile read) (IsPlan m)
-
--- a case, a schedule of all its units, and what that costs
-pub record PlannedCase : Type 0 where
-  pub market : Market
-  pub plan : List Schedule
-  pub cost : ℤ
 
 -- a feasible schedule comes with its cost, and any other with its first refusal
 abbrev pub IsChecked : Market → List Schedule → Result PlannedCase TopFault → Type 0

@@ -7,17 +7,19 @@ ghost use Rattle.hull_report.specs.declared.fault.FileKind.{FileKind};
 ghost use Rattle.hull_engine.specs.Steps.{Reads, made_case};
 ghost use Rattle.hull_engine.specs.Outcome.{command_for};
 ghost use Rattle.hull_engine.specs.Answers.{IsFaultOf, IsLaterShelf, HasAnswer, IsAnswered, IsCommandAnswer};
-ghost use Rattle.hull_engine.specs.Inputs.{planned_of, IsPlanned, IsRunInput, try_asked, bound_asked, audit_asked};
-ghost use Rattle.hull_engine.specs.Rounds.{setup_of, IsEnded};
-ghost use Rattle.hull_engine.specs.Sizes.{IsWorkers, IsRunSize, HasSizes};
+ghost use Rattle.board_run.specs.Inputs.{planned_of, IsPlanned, IsRunInput};
+ghost use Rattle.hull_engine.specs.Inputs.{try_asked, bound_asked, audit_asked};
+ghost use Rattle.board_run.specs.Rounds.{setup_of, IsEnded};
+ghost use Rattle.board_run.specs.Sizes.{IsWorkers, IsRunSize};
+ghost use Rattle.hull_engine.specs.Sizes.{HasSizes};
 
 use crate::audit::right_proposals;
-use crate::bound::{Bounded, bounded_run};
 use crate::files::{read_input, read_report_file};
-use crate::fixed::{Sides, compared_runs};
-use crate::input::{Input, RunInput, RunSize, within_work};
-use crate::run::{Done, open, run_board};
+use crate::input::within_work;
 use answer_workers::Gate;
+use board_run::{
+    Bounded, Done, Input, RunInput, RunSize, Sides, bounded_run, compared_runs, open, run_board,
+};
 use case_make::make_case;
 use hull_io::Shelf;
 use hull_report::TopFault;

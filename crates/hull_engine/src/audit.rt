@@ -6,11 +6,11 @@ ghost use Rattle.dealt_run.specs.Benches.{IsBenchOver};
 ghost use Rattle.report_read.specs.Bounds.{IsReport, AreInOrder};
 ghost use Rattle.report_read.specs.Plain.{report_of, told_of};
 ghost use Rattle.hull_engine.specs.Answers.{IsAnswer};
-ghost use Rattle.hull_engine.specs.Inputs.{planned_of, IsRunInput};
+ghost use Rattle.board_run.specs.Inputs.{planned_of, IsRunInput};
 ghost use Rattle.hull_engine.specs.Steps.{IsJudged};
 
-use crate::input::{RunInput, unit_count};
 use answer_workers::most_points;
+use board_run::{RunInput, unit_count};
 use fixed_price::laws::benches_serve_all;
 use hull_report::TopFault;
 use report_check::{Audit, check_report};

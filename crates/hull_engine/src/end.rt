@@ -8,13 +8,12 @@ ghost use Rattle.uc_model.specs.PriceRule.{Proposal};
 ghost use Rattle.uplift_settle.specs.declared.settlement.Settlement.{Settlement};
 ghost use Rattle.hull_engine.specs.Outcome.{status_at, HasStatus};
 ghost use Rattle.hull_engine.specs.Answers.{IsTextOf, IsAnswered, IsEndOf};
-ghost use Rattle.hull_engine.specs.Rounds.{IsEnded};
+ghost use Rattle.board_run.specs.Rounds.{IsEnded};
 
 use crate::answers::Answer;
-use crate::bound::Bounded;
-use crate::run::{Done, Run, run_board};
 use answer_workers::Gate;
 use board_core::Closed;
+use board_run::{Bounded, Done, Run, run_board};
 use hull_io::{Sink, WriteFailed};
 use hull_report::laws::{record_report_is_right, settlements_are_of_all_units};
 use hull_report::{

@@ -10,9 +10,9 @@ ghost use Rattle.report_read.specs.Plain.{report_of, told_of};
 ghost use Rattle.hull_engine.specs.Steps.{Then, IsBytes, IsCase, IsCaseFile, IsPlan, IsPlanFile, IsChecked, IsInput, IsReportIn, IsReportFile};
 ghost use Rattle.hull_engine.specs.Outcome.{case_and_schedule};
 ghost use Rattle.hull_engine.specs.Answers.{IsAnswer, IsLaterShelf, HasRead, HasReads};
-ghost use Rattle.hull_engine.specs.Inputs.{planned_of, IsPlanned};
+ghost use Rattle.board_run.specs.Inputs.{planned_of, IsPlanned};
 
-use crate::input::Input;
+use board_run::Input;
 use hull_io::{MOST_BYTES, ReadFault, Shelf, read_whole};
 use hull_report::{FileKind, TopFault};
 use plan_check::check_plan;

@@ -11,20 +11,16 @@ ghost use Rattle.hull_engine.specs.Answers.{IsLaterShelf};
 
 mod answers;
 mod audit;
-mod bound;
-mod crew;
 mod end;
 mod files;
-mod fixed;
 mod input;
-mod run;
 
 use answer_workers::Gate;
 use answers::answer_run;
+pub use board_run::{Done, Run, open_run, run_board};
 use end::finish;
 pub use end::finish_run;
 use hull_io::{Shelf, Sink};
-pub use run::{Done, Run, open_run, run_board};
 use std::alloc::Global;
 use std::sync::Wait;
 use std::thread::Threads;

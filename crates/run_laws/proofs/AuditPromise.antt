@@ -20,7 +20,8 @@ use Rattle.report_read.specs.Faults.{IsFault}
 use Rattle.report_check.specs.Right.{DiffersFromRight}
 use Rattle.hull_engine.specs.declared.end.End.{End}
 use Rattle.hull_engine.specs.declared.end.End.TheVariants.{Done, Cut, Refused}
-use Rattle.hull_engine.specs.Steps.{Reads, bytes_of, PlannedCase, IsInput, IsWithinWork, IsReportFile, IsAudit}
+use Rattle.hull_engine.specs.Steps.{Reads, bytes_of, IsInput, IsWithinWork, IsReportFile, IsAudit}
+use Rattle.board_run.specs.Inputs.{PlannedCase}
 use Rattle.hull_engine.specs.Outcome.{command_for, IsReadOf, AreReads, with_report, HasText, Ends, status_at}
 use Rattle.run_laws.specs.Laws.{OverReads, IsAuditPromised, IsWrongAt, IsAuditRefused}
 use Rattle.run_laws.proofs.OutcomeLaws.{status_within, same_fault, bytes_fault, input_fault, work_fault, same_input, InputParts, input_parts}

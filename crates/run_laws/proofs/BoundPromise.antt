@@ -10,7 +10,8 @@ use Rattle.hull_words.specs.Words.{words_of}
 use Rattle.hull_report.specs.Laws.{OneIsChosen}
 use Rattle.hull_engine.specs.declared.end.End.{End}
 use Rattle.hull_engine.specs.declared.end.End.TheVariants.{Done, Cut, Refused}
-use Rattle.hull_engine.specs.Steps.{Reads, PlannedCase}
+use Rattle.hull_engine.specs.Steps.{Reads}
+use Rattle.board_run.specs.Inputs.{PlannedCase}
 use Rattle.hull_engine.specs.Outcome.{command_for, IsBoundText, AreReads, Ends, status_at}
 use Rattle.run_laws.specs.Laws.{OverReads, IsBoundPromised}
 use Rattle.hull_engine.specs.Sizes.{HasSizes}

@@ -10,7 +10,8 @@ use Rattle.hull_engine.specs.declared.end.End.{End}
 use Rattle.hull_engine.specs.declared.end.End.TheVariants.{Done as done_whole, Cut, Refused}
 use Rattle.run_laws.specs.Laws.{OverReads, IsFixedPromised}
 use Rattle.hull_engine.specs.Outcome.{command_for, IsFixedText, AreReads, Ends, status_at}
-use Rattle.hull_engine.specs.Steps.{Reads, PlannedCase}
+use Rattle.hull_engine.specs.Steps.{Reads}
+use Rattle.board_run.specs.Inputs.{PlannedCase}
 use Rattle.run_laws.proofs.OutcomeLaws.{status_within, accepted_is_feasible}
 
 module _ (made_up : SidePaymentsMakeUpTheGap) where

@@ -29,7 +29,8 @@ use Rattle.hull_report.specs.declared.fault.TopFault.{TopFault}
 use Rattle.hull_report.specs.declared.fault.TopFault.TheVariants.{PlanRule, Report as Unfit}
 use Rattle.report_read.specs.Differences.{DiffersAt}
 use Rattle.report_read.specs.Laws.{OneReport, OneFault, OneDifference}
-use Rattle.hull_engine.specs.Steps.{Goes, Then, Reads, IsBytes, case_fault, plan_fault, IsCase, IsCaseFile, IsPlan, IsPlanFile, PlannedCase, IsChecked, IsInput, IsMade, IsWithinWork, IsReportIn, IsReportFile, IsJudged, IsAudit}
+use Rattle.hull_engine.specs.Steps.{Goes, Then, Reads, IsBytes, case_fault, plan_fault, IsCase, IsCaseFile, IsPlan, IsPlanFile, IsChecked, IsInput, IsMade, IsWithinWork, IsReportIn, IsReportFile, IsJudged, IsAudit}
+use Rattle.board_run.specs.Inputs.{PlannedCase}
 use Rattle.hull_engine.specs.Outcome.{IsReportText, IsBoundText, IsFixedText, IsAuditText, command_for}
 
 -- one step's answer and then the next's are one, where each is

@@ -17,7 +17,8 @@ use Rattle.hull_report.specs.declared.fault.TopFault.{TopFault}
 use Rattle.hull_report.specs.declared.fault.TopFault.TheVariants.{Words, Read, CaseText, CaseField, PlanText, PlanShape, PlanRule, TooBig, Work, Memory, Report as report_fault}
 use Rattle.hull_engine.specs.declared.end.End.{End}
 use Rattle.hull_engine.specs.declared.end.End.TheVariants.{Done, Cut, Refused}
-use Rattle.hull_engine.specs.Steps.{Reads, bytes_of, IsCase, IsCaseFile, IsPlan, IsPlanFile, PlannedCase, IsChecked, IsInput, IsWithinWork, IsReportFile, IsAudit}
+use Rattle.hull_engine.specs.Steps.{Reads, bytes_of, IsCase, IsCaseFile, IsPlan, IsPlanFile, IsChecked, IsInput, IsWithinWork, IsReportFile, IsAudit}
+use Rattle.board_run.specs.Inputs.{PlannedCase}
 use Rattle.hull_engine.specs.Outcome.{command_for, case_and_schedule, IsReadOf, AreReads, HasText, Ends, status_at}
 use Rattle.run_laws.specs.Laws.{is_refusal, IsWritten, IsUnread, HasCause, IsQuiet, IsDecided, word_fault, FollowsFromWords, IsPromised}
 use Rattle.run_laws.proofs.OneDue.{AreOne, one_due}

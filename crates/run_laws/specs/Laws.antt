@@ -34,7 +34,8 @@ use Rattle.hull_report.specs.declared.fault.TopFault.TheVariants.{Report as Unfi
 use Rattle.report_read.specs.Bounds.{IsReport}
 use Rattle.report_read.specs.Faults.{IsFault}
 use Rattle.report_check.specs.Right.{DiffersFromRight}
-use Rattle.hull_engine.specs.Steps.{Reads, PlannedCase, IsInput}
+use Rattle.hull_engine.specs.Steps.{Reads, IsInput}
+use Rattle.board_run.specs.Inputs.{PlannedCase}
 use Rattle.hull_engine.specs.Outcome.{Command, command_for, AreReads, HasText, IsOutcome}
 
 -- ---- at most one thing is due

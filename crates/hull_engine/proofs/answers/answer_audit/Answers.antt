@@ -2,7 +2,7 @@ use Rattle.std.proofs.Common.{arith, ap, ◌∙◌}
 use Rattle.std.proofs.lemmas.Result.{err_from_is_err_and}
 use Rattle.report_read.specs.Plain.{report_of}
 use Rattle.hull_report.specs.AuditText.{audit_text}
-use Rattle.hull_engine.specs.Inputs.{planned_of}
+use Rattle.board_run.specs.Inputs.{planned_of}
 use Rattle.hull_engine.specs.Steps.{IsInput, IsAudit}
 use Rattle.hull_engine.proofs.AuditLaws.{report_refused, work_refused, wrong_refused, right_left, text_read}
 use Rattle.hull_engine.proofs.ReadLaws.{unread, unread_is, report_added, are_report_added}

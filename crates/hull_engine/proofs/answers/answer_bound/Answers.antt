@@ -3,9 +3,9 @@ use Rattle.std.specs.Int.{w64}
 use Rattle.std.proofs.lemmas.Int.{to_z-of_z}
 use Rattle.std.proofs.lemmas.Result.{err_from_is_err_and}
 use Rattle.hull_report.specs.declared.fault.TopFault.{TopFault}
-use Rattle.hull_engine.specs.declared.input.RunInput.{RunInput}
-use Rattle.hull_engine.specs.declared.input.RunSize.{RunSize}
-use Rattle.hull_engine.specs.Inputs.{planned_of}
+use Rattle.board_run.specs.declared.input.RunInput.{RunInput}
+use Rattle.board_run.specs.declared.input.RunSize.{RunSize}
+use Rattle.board_run.specs.Inputs.{planned_of}
 use Rattle.hull_engine.specs.Steps.{IsInput, IsWithinWork}
 use Rattle.hull_engine.proofs.AnswerLaws.{bound_texts}
 use Rattle.hull_engine.proofs.StepLaws.{refused_then, answer_then}

@@ -2,9 +2,9 @@ use Rattle.std.proofs.Common.{Result, Ok, Err, inr, ap, ◌∙◌}
 use Rattle.std.proofs.lemmas.Result.{err_from_is_err_and}
 use Rattle.report_form.specs.ReportText.{report_text}
 use Rattle.hull_report.specs.declared.fault.TopFault.{TopFault}
-use Rattle.hull_engine.specs.declared.input.RunInput.{RunInput}
-use Rattle.hull_engine.specs.declared.input.RunSize.{RunSize}
-use Rattle.hull_engine.specs.Inputs.{planned_of}
+use Rattle.board_run.specs.declared.input.RunInput.{RunInput}
+use Rattle.board_run.specs.declared.input.RunSize.{RunSize}
+use Rattle.board_run.specs.Inputs.{planned_of}
 use Rattle.hull_engine.specs.Steps.{IsInput, IsWithinWork}
 use Rattle.hull_engine.proofs.AnswerLaws.{run_texts}
 use Rattle.hull_engine.proofs.StepLaws.{refused_then, answer_then}

@@ -1,6 +1,6 @@
 use Rattle.std.proofs.lemmas.Result.{err_from_is_err_and}
 use Rattle.uc_model.specs.PlainCases.{market_of, schedules_of}
-use Rattle.hull_engine.specs.Inputs.{planned_of}
+use Rattle.board_run.specs.Inputs.{planned_of}
 use Rattle.hull_engine.specs.Steps.{IsPlanFile, IsChecked}
 use Rattle.hull_engine.proofs.StepLaws.{refused_then, answer_then}
 use Rattle.hull_engine.proofs.files.read_schedule.Goals as goal

@@ -1,0 +1,12 @@
+use Rattle.std.proofs.Common.{◌≡◌, true, sym, subst}
+use Rattle.board_history.specs.Board.{Content, IsLegalHistory}
+use Rattle.board_history.specs.Calls.{has_finished}
+use Rattle.board_run.proofs.CrewLaws.{all_finished}
+use Rattle.board_run.proofs.crew.close_board.Goals as goal
+
+pub returns-clause-finished : goal.returns-clause-finished
+returns-clause-finished c =
+    let same = c.close-closed.ensures in
+    subst (λ (x : Content). has_finished x ≡ true) (sym same)
+    (all_finished c.finished_stays_finished.ensures c.args.board c.join_all.new.owner c.join_all.ensures.out
+    (subst (λ (x : Content). IsLegalHistory x.setup x.events) same c.is_legal.ensures.legal))

@@ -1,0 +1,11 @@
+use Rattle.std.proofs.Common.{◌≤◌}
+use Rattle.std.specs.Prelude.{vec_capacity}
+use Rattle.board_share.specs.Seats.{view_of}
+use Rattle.board_run.specs.Crews.{IsHired}
+use Rattle.board_run.proofs.crew.hire.Given as goal
+
+abbrev pub invariant-loop : goal.invariant-loop
+invariant-loop l = record {
+  hired : IsHired (view_of l.fn.owner).setup l.board l.owner l.counter l.workers.items;
+  room : l.count ≤ vec_capacity l.workers;
+}

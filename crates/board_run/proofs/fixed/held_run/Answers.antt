@@ -1,0 +1,13 @@
+use Rattle.std.proofs.Common.{rules}
+use Rattle.std.specs.Int.{w128}
+use Rattle.std.proofs.lemmas.Int.{to_z-of_z}
+use Rattle.board_run.proofs.FixedLaws.{held_setup, held_opened}
+use Rattle.board_run.proofs.fixed.held_run.Goals as goal
+
+pub open-requires : goal.open-requires
+open-requires c =
+    rw (to_z-of_z w128 c.args.cost (search rules))
+    (held_setup c.commitments_are_fixed.ensures c.args.given.now c.args.plan c.args.cost c.args.size c.in_ok-case.case c.requires c.in_ok-case.ensures)
+
+pub returns : goal.returns
+returns c = held_opened c.args.given.now c.args.plan c.args.cost _ c.args.size c.in_ok-case.case c.in_ok-case.ensures (to_z-of_z w128 c.args.cost (search rules)) c.open.result c.open.ensures

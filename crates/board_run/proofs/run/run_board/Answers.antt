@@ -1,0 +1,16 @@
+use Rattle.std.proofs.Common.{◌≡◌, ◌∙◌, length, subst}
+use Rattle.board_history.specs.Board.{Setup}
+use Rattle.uc_model.specs.PlainUnits.{schedule_of}
+use Rattle.answer_workers.specs.Answers.{IsBenchOf}
+use Rattle.board_run.proofs.run.run_board.Goals as goal
+
+pub returns : goal.returns
+returns g c =
+    let named = c.run.view_is in
+    let e = c.answer_board-closed.ensures in record {
+      setup = e.setup ∙ named;
+      row = c.settle_chosen.ensures.0;
+      settled = c.settle_chosen.ensures.1;
+      buffer = subst (λ (b : Setup). length (schedule_of c.run.inside.buffer.response).on ≡ b.market.periods) named c.run.invariant.1.horizon;
+      bench = subst (λ (b : Setup). IsBenchOf b.market c.answer_board-closed.result.1) named e.bench;
+    }

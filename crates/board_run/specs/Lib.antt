@@ -1,0 +1,7 @@
+pub mod Sizes
+pub mod Inputs
+pub mod Rounds
+pub mod Crews
+pub mod Rooms
+pub mod Bounded
+pub mod Compared

@@ -1,0 +1,17 @@
+//! Runs on a shared board whose tasks workers answer: of a case with a feasible schedule, with the
+//! best bound round the prices that a run chose, and with the schedule's commitments held.
+//!
+//! No report is read here and nothing is written: a run ends with the record of its board and the
+//! settlement at its chosen prices.
+#![tactic(auto)]
+
+mod bound;
+mod crew;
+mod fixed;
+mod input;
+mod run;
+
+pub use bound::{Bounded, bounded_run};
+pub use fixed::{Sides, compared_runs};
+pub use input::{Input, RunInput, RunSize, unit_count};
+pub use run::{Done, Run, open, open_run, run_board};

@@ -1,0 +1,189 @@
+//! One run of the price rule: a shared board whose tasks are answered by workers, and the settlement
+//! at the prices that it chooses.
+ghost use Rattle.std.specs.Prelude.{◌≡◌, ◌+◌, ◌<◌, ◌≤◌, ℕ, true, length, IfOk};
+ghost use Rattle.board_history.specs.Calls.{own_rows, has_finished};
+ghost use Rattle.board_core.specs.Boards.{setup_for, kept_answer};
+ghost use Rattle.board_core.specs.Setups.{IsSetup};
+ghost use Rattle.uc_model.specs.Data.{unit_count as units_in};
+ghost use Rattle.uc_model.specs.PriceRule.{Proposal};
+ghost use Rattle.uc_model.specs.Sums.{int_at};
+ghost use Rattle.hull_report.specs.RecordReport.{IsSettledRecord};
+ghost use Rattle.board_run.specs.Rounds.{setup_of, IsEnded};
+
+use crate::crew::{answer_board, hire};
+use crate::input::{Input, RunInput, RunSize, unit_count};
+use answer_workers::{Gate, Worker, most_points};
+use board_core::{Board, Closed};
+use board_history::laws::{finished_has_row, rows_are_within};
+use board_share::SharedBoard;
+use hull_report::laws::{answers_are_tops, one_row_is_chosen};
+use slope_list::Slopes;
+use std::alloc::{AllocError, Global};
+use std::marker::Model;
+use std::sync::Wait;
+use std::thread::Threads;
+use uc_model::cases::{Case, Plan};
+use uc_model::lists::Numbers;
+use uc_model::units::Answered;
+use unit_program::Bench;
+use uplift_settle::{Settlement, settle};
+
+/// A run that is opened: its board with a worker for each seat, and room for the settlement, what
+/// each unit earns at best, and an answer. Contracts see it as what its board was made for: the
+/// case, the schedule and its cost, how many proposals there may be and how many are open ahead,
+/// and one caller for each worker.
+#[derive(Drop)]
+pub struct Run {
+    board: SharedBoard,
+    /// The owner's last.
+    workers: Vec<Worker>,
+    buffer: Answered,
+    settlement: Settlement,
+    earned: Numbers,
+}
+
+impl Model for Run {
+    ghost use Rattle.std.specs.Prelude.{◌+◌, length};
+    ghost use Rattle.board_history.specs.Board.{Setup};
+    ghost use Rattle.board_run.specs.Crews.{named_by, IsCrew};
+    ghost use Rattle.board_run.specs.Rooms.{HasRoom};
+
+    ghost Value = { Setup };
+
+    ghost view = { λ r. named_by r.workers.items };
+
+    ghost invariant = { λ r. IsCrew (named_by r.workers.items) r.board r.workers.items
+        × HasRoom (named_by r.workers.items) r.buffer r.settlement
+        (length r.earned.items + r.earned.spare) };
+}
+
+/// A run that has ended: the record of its board, the settlement of the schedule at the chosen
+/// prices, and room for an answer and for the work on one.
+#[derive(Drop)]
+pub struct Done {
+    pub closed: Closed,
+    pub settlement: Settlement,
+    pub buffer: Answered,
+    pub bench: Bench<Slopes>,
+}
+
+/// Opens the run of an input: takes all memory that the run needs to its end. `AllocError` is want
+/// of memory; the input is then dropped.
+pub fn open(alloc: Global, run: RunInput) -> Result<Run, AllocError>
+    requires { IsSetup (setup_of run) }
+    ensures { IfOk result (λ opened. opened ≡ setup_of run) }
+{
+    let RunInput { input, size } = run;
+    let Input { case, plan, cost } = input;
+    let units = unit_count(&case);
+    let periods = case.periods;
+    let points = most_points(&case);
+    let thermal = case.thermal.len() as u32;
+    let buffer = Answered::make(alloc, periods)?;
+    let settlement = Settlement::make(alloc, units)?;
+    let earned = Numbers::make(alloc, units)?;
+    let board = Board::make(
+        alloc,
+        case,
+        plan,
+        cost,
+        size.proposals,
+        size.ahead,
+        size.workers,
+    )?;
+    let (board, owner) = SharedBoard::make(alloc, board)?;
+    let workers = hire(alloc, &board, owner, size.workers, thermal, periods, points)?;
+    Ok(Run {
+        board,
+        workers,
+        buffer,
+        settlement,
+        earned,
+    })
+}
+
+/// Opens a run for a case with a feasible schedule of that cost: at most so many proposals, of
+/// which `ahead` may be open ahead of the answered ones, and so many workers. All memory of the run
+/// is taken here. `AllocError` is want of it; the case and the schedule are then dropped.
+pub fn open_run(
+    alloc: Global,
+    case: Case,
+    plan: Plan,
+    cost: i128,
+    proposals: u32,
+    workers: u32,
+    ahead: u32,
+) -> Result<Run, AllocError>
+    requires { IsSetup (setup_for case plan cost proposals ahead workers) }
+    ensures { IfOk result (λ run. run ≡ setup_for case plan cost proposals ahead workers) }
+{
+    let size = RunSize {
+        proposals,
+        workers,
+        ahead,
+    };
+    let input = Input { case, plan, cost };
+    open(alloc, RunInput { input, size })
+}
+
+/// Leaves what each unit earns at best at the prices of a row, in money and in the order of the
+/// units' numbers.
+fn earn_at(closed: &Closed, row: u32, earned: &mut Numbers)
+    requires first { 1 ≤ row }
+    requires last { row ≤ length (own_rows closed.now) }
+    requires room { units_in closed.now.setup.market ≤ length earned.old.items + earned.old.spare }
+    ensures count { length earned.new.items ≡ units_in closed.now.setup.market }
+    ensures each { (u : ℕ) → u < units_in closed.now.setup.market → int_at earned.new.items u ≡ (kept_answer closed.now row u).earned }
+{
+    earned.clear();
+    for unit in 0..unit_count(closed.case()) {
+        earned.push(closed.earned(row, unit));
+    }
+}
+
+/// Settles the schedule at the prices of the chosen row.
+fn settle_chosen(closed: &Closed, earned: &mut Numbers, settlement: &mut Settlement)
+    requires finished { has_finished closed.now ≡ true }
+    requires room { units_in closed.now.setup.market ≤ length earned.old.items + earned.old.spare }
+    requires scheduled { length settlement.old.scheduled.items ≡ units_in closed.now.setup.market }
+    requires payments { length settlement.old.payments.items ≡ units_in closed.now.setup.market }
+    ensures { (row : Proposal) × IsSettledRecord closed.now settlement.new row }
+{
+    finished_has_row();
+    rows_are_within();
+    one_row_is_chosen();
+    answers_are_tops();
+    closed.is_legal();
+    let chosen = closed.chosen();
+    earn_at(closed, chosen, earned);
+    let row = &closed.rows()[chosen as usize - 1];
+    settle(
+        closed.case(),
+        closed.plan(),
+        &row.prices,
+        earned.as_slice(),
+        settlement,
+    );
+}
+
+/// Runs until every proposal that the budget and the price rule call for is answered, and settles
+/// the schedule at the chosen prices. The gate is told of each task. Takes no memory.
+pub fn run_board<R: Threads + Wait + Sync, G: Gate>(rt: &R, run: Run, gate: &G) -> Done
+    ensures { IsEnded run result }
+{
+    let Run {
+        board,
+        workers,
+        buffer,
+        mut settlement,
+        mut earned,
+    } = run;
+    let (closed, bench) = answer_board(rt, board, workers, gate);
+    settle_chosen(&closed, &mut earned, &mut settlement);
+    Done {
+        closed,
+        settlement,
+        buffer,
+        bench,
+    }
+}

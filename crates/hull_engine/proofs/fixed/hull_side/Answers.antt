@@ -1,7 +1,0 @@
-use Rattle.std.proofs.Common.{◌∙◌}
-use Rattle.hull_engine.proofs.FixedLaws.{hull_side}
-use Rattle.hull_engine.proofs.fixed.hull_side.Goals as goal
-
-pub returns-clause-side : goal.returns-clause-side
-returns-clause-side g c =
-    hull_side c.args.run c.run_board.result.closed.setup c.own_side.result.0 (c.run_board.ensures.setup ∙ c.in_ok-opened.ensures) c.own_side.ensures.right c.own_side.ensures.count
