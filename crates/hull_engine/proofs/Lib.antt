@@ -1,10 +1,10 @@
 -- files.rt, answers.rt: one step after another
 pub mod StepLaws
--- files.rt: what was read of a file
+-- files.rt, laws.rt: what was read of a file
 pub mod ReadLaws
 -- answers.rt: what the run of a command answers
 pub mod AnswerLaws
--- answers.rt: the numbers of a run that words give are within their limits
+-- answers.rt, laws.rt: the numbers of a run that words give are within their limits
 pub mod WordSizes
 -- answers.rt: a feasible plan has the shape that its cost is taken of
 pub mod PlanShapes
@@ -12,5 +12,5 @@ pub mod PlanShapes
 pub mod WriteLaws
 -- lib.rt: the end of a run is its outcome
 pub mod EndLaws
--- answers.rt: the audit of a report
+-- answers.rt, laws.rt: the audit of a report
 pub mod AuditLaws

@@ -3,3 +3,4 @@ pub mod Outcome
 pub mod Sizes
 pub mod Inputs
 pub mod Answers
+pub mod Laws

@@ -7,6 +7,7 @@ use Rattle.std.specs.Result.{result_map_both}
 use Rattle.uc_model.specs.Data.{Market, Schedule, unit_count}
 use Rattle.uc_model.specs.Systems.{IsFeasiblePlan, plan_cost}
 use Rattle.uc_model.specs.Refusals.{refusals}
+use Rattle.uc_model.specs.declared.limits.TheConstants.{MOST_WORK}
 use Rattle.case_make.specs.Made.{made}
 use Rattle.uc_case.specs.Files.{FileFault, text, value}
 use Rattle.uc_case.specs.CaseFiles.{IsCaseOf}
@@ -122,7 +123,7 @@ IsMade number (Err f) = ⊥
 -- a run has at most 50,000,000 proposals, units and periods multiplied; a bid counts as a unit
 abbrev pub within_work : ℕ → PlannedCase → Result PlannedCase TopFault
 within_work proposals c =
-    if nat_lt 50000000 (proposals * unit_count c.market * c.market.periods)
+    if nat_lt MOST_WORK (proposals * unit_count c.market * c.market.periods)
     then Err (Work proposals (unit_count c.market) c.market.periods)
     else Ok c
 

@@ -7,9 +7,7 @@ ghost use Rattle.hull_engine.specs.Answers.{IsAnswer};
 
 use board_run::{Input, RunInput, RunSize, unit_count};
 use hull_report::TopFault;
-
-/// The most proposals, units and periods of a run, multiplied.
-pub const MOST_WORK: u64 = 50_000_000;
+use uc_model::limits::MOST_WORK;
 
 /// So many proposals, units and periods multiplied.
 fn work_of(proposals: u32, units: u32, periods: u32) -> u64

@@ -14,6 +14,7 @@ mod audit;
 mod end;
 mod files;
 mod input;
+pub mod laws;
 
 use answer_workers::Gate;
 use answers::answer_run;

@@ -25,8 +25,7 @@ use Rattle.board_run.specs.Inputs.{PlannedCase}
 use Rattle.hull_engine.specs.Outcome.{command_for, IsReadOf, AreReads, with_report, HasText, Ends, status_at}
 use Rattle.run_laws.specs.Laws.{OverReads, IsAuditPromised, IsWrongAt, IsAuditRefused}
 use Rattle.run_laws.proofs.OutcomeLaws.{status_within, same_fault, bytes_fault, input_fault, work_fault, same_input, InputParts, input_parts}
-use Rattle.hull_engine.proofs.ReadLaws.{got}
-use Rattle.hull_engine.proofs.AuditLaws.{text_read}
+use Rattle.hull_engine.specs.Laws.{BytesAreThoseRead, ReportBytesAreItsText}
 
 -- ---- a report within the bounds of reading
 
@@ -47,10 +46,10 @@ within_has_form r h = record {
 
 -- ---- the promise
 
-module _ (gap : ReportPaymentsMakeUpTheGap) (determined : TextDeterminesReport) (has_form : RightReportHasForm) (a : AuditAsked) (told : List ℕ → Option (List ℕ)) (rose gained : List ℕ → Type 0) where
+module _ (got : BytesAreThoseRead) (text_read : ReportBytesAreItsText) (gap : ReportPaymentsMakeUpTheGap) (determined : TextDeterminesReport) (has_form : RightReportHasForm) (a : AuditAsked) (told : List ℕ → Option (List ℕ)) (rose gained : List ℕ → Type 0) where
   audited_parts : (reads : Reads) (i : PlannedCase) → (command_for (Ok (audit a))).IsDue reads (Ok i) → InputParts reads i
   audited_parts reads i (Ok c, input, (Ok r, file, (Ok left, work, (right, same)))) =
-      subst (InputParts reads) (same_input r.budget c left work ∙ sym same) (input_parts reads c input)
+      subst (InputParts reads) (same_input r.budget c left work ∙ sym same) (input_parts got reads c input)
   audited_parts reads i (Ok c, input, (Ok r, file, (Err g, work, e))) = absurd cc
   audited_parts reads i (Ok c, input, (Err g, file, e)) = absurd cc
   audited_parts reads i (Err g, input, e) = absurd cc
@@ -107,7 +106,7 @@ too_many (Some bytes) e = (bytes, refl, ltb-true MOST_BYTES (length bytes) (long
     long true e = refl
     long false e = absurd cc
 
-module _ (determined : TextDeterminesReport) (has_form : RightReportHasForm) (a : AuditAsked) (gained short : List ℕ → Type 0) (reads : Reads) (f : TopFault) (lines : gained (fault_line f) ⊎ short (fault_line f))
+module _ (got : BytesAreThoseRead) (text_read : ReportBytesAreItsText) (determined : TextDeterminesReport) (has_form : RightReportHasForm) (a : AuditAsked) (gained short : List ℕ → Type 0) (reads : Reads) (f : TopFault) (lines : gained (fault_line f) ⊎ short (fault_line f))
     (eight : status_of f ≡ 8) (due_f : (command_for (Ok (audit a))).IsDue reads (Err f)) where
   abbrev IsSo : Type 0
   IsSo = (i : PlannedCase) × IsAuditRefused (command_for (Ok (audit a))) gained short reads i
@@ -217,18 +216,18 @@ module _ (determined : TextDeterminesReport) (has_form : RightReportHasForm) (a 
 
 -- ---- both
 
-module _ (gap : ReportPaymentsMakeUpTheGap) (determined : TextDeterminesReport) (has_form : RightReportHasForm) (a : AuditAsked) (told : List ℕ → Option (List ℕ)) (rose gained short : List ℕ → Type 0) where
+module _ (got : BytesAreThoseRead) (text_read : ReportBytesAreItsText) (gap : ReportPaymentsMakeUpTheGap) (determined : TextDeterminesReport) (has_form : RightReportHasForm) (a : AuditAsked) (told : List ℕ → Option (List ℕ)) (rose gained short : List ℕ → Type 0) where
   abbrev Promise : Result Asked WordFault → ℕ → Type 0
   Promise w n =
       (n ≡ 0 → IsAuditPromised a told gained)
       × (n ≡ 8 → OverReads (command_for w) told rose (λ reads. (i : PlannedCase) × IsAuditRefused (command_for w) gained short reads i))
 
   audited : (n : ℕ) (reads : Reads) (e : End) → AreReads told rose (command_for (Ok (audit a))).name_of reads → Ends (command_for (Ok (audit a))) reads gained short e → n ≡ status_at e → Promise (Ok (audit a)) n
-  audited n reads Done are ends is = (λ z. audit_promised gap determined has_form a told rose gained reads are ends, λ z. absurd (omega (arith, is, z)))
+  audited n reads Done are ends is = (λ z. audit_promised got text_read gap determined has_form a told rose gained reads are ends, λ z. absurd (omega (arith, is, z)))
   audited n reads Cut are ends is = (λ z. absurd (omega (arith, is, z)), λ z. absurd (omega (arith, is, z)))
   audited n reads (Refused f) are (inl due, lines) is = (
     λ z. absurd (omega (arith, is, z, (status_within f).0)),
-    λ z. (reads, are, audit_refused determined has_form a gained short reads f lines (sym is ∙ z) due),
+    λ z. (reads, are, audit_refused got text_read determined has_form a gained short reads f lines (sym is ∙ z) due),
   )
   audited n reads (Refused f) are (inr memory, lines) is =
       let seven : n ≡ 7 = is ∙ ap status_of memory in (

@@ -14,9 +14,9 @@ use Rattle.hull_engine.specs.Steps.{Reads}
 use Rattle.board_run.specs.Inputs.{PlannedCase}
 use Rattle.hull_engine.specs.Outcome.{command_for, IsBoundText, AreReads, Ends, status_at}
 use Rattle.run_laws.specs.Laws.{OverReads, IsBoundPromised}
+use Rattle.hull_engine.specs.Laws.{WordsHaveSizes}
 use Rattle.hull_engine.specs.Sizes.{HasSizes}
 use Rattle.run_laws.proofs.OutcomeLaws.{status_within}
-use Rattle.hull_engine.proofs.WordSizes.{words_have_sizes}
 
 -- there is a row, so a row is chosen
 chosen_low : OneIsChosen → (rows : List Proposal) (chosen : ℕ) (row : Proposal) → chosen ≡ chosen_number rows → slice_get rows (chosen - 1) ≡ Some row → 1 ≤ chosen
@@ -26,7 +26,7 @@ chosen_low one rows chosen row is at =
     let number = is ∙ k.2 in
     omega (arith, number)
 
-module _ (holds : RunBoundsHold) (one : OneIsChosen) where
+module _ (words_have_sizes : WordsHaveSizes) (holds : RunBoundsHold) (one : OneIsChosen) where
   promised : (a : BoundAsked) → HasSizes (bound a) → (i : PlannedCase) (gained : List ℕ → Type 0) (text : List ℕ) → IsBoundText a.run.proposals a.run.ahead a.radius i text → gained text
       → IsBoundPromised a i gained
   promised a sizes i gained text (r, right, range, limit, best, is) printed =

@@ -22,7 +22,8 @@ use Rattle.board_run.specs.Inputs.{PlannedCase}
 use Rattle.hull_engine.specs.Outcome.{command_for, case_and_schedule, IsReadOf, AreReads, HasText, Ends, status_at}
 use Rattle.run_laws.specs.Laws.{is_refusal, IsWritten, IsUnread, HasCause, IsQuiet, IsDecided, word_fault, FollowsFromWords, IsPromised}
 use Rattle.run_laws.proofs.OneDue.{AreOne, one_due}
-use Rattle.hull_engine.proofs.ReadLaws.{got}
+use Rattle.hull_engine.specs.Laws.{BytesAreThoseRead}
+use Rattle.uc_model.specs.declared.limits.TheConstants.{MOST_WORK}
 
 -- ---- a fault by its status
 
@@ -116,7 +117,7 @@ above_work true proposals units periods c f e = let s : f ≡ Work proposals uni
 above_work false proposals units periods c f e = absurd cc
 
 pub work_fault : (proposals : ℕ) (c : PlannedCase) (f : TopFault) → IsWithinWork proposals c (Err f) → status_of f ≡ 5
-work_fault proposals c f e = above_work (nat_lt 50000000 (proposals * unit_count c.market * c.market.periods)) proposals (unit_count c.market) c.market.periods c f e
+work_fault proposals c f e = above_work (nat_lt MOST_WORK (proposals * unit_count c.market * c.market.periods)) proposals (unit_count c.market) c.market.periods c f e
 
 -- the fault of a report's file: of its read, or of status 8
 report_file_fault : (read : Option (List ℕ)) (f : TopFault) → IsReportFile read (Err f) → ((f ≡ Read ReportFile) × (read ≡ None)) ⊎ (status_of f ≡ 8)
@@ -360,7 +361,7 @@ below_work false f c i e = cc
 
 pub same_input : (proposals : ℕ) (c i : PlannedCase) → IsWithinWork proposals c (Ok i) → c ≡ i
 same_input proposals c i e =
-    below_work (nat_lt 50000000 (proposals * unit_count c.market * c.market.periods)) (Work proposals (unit_count c.market) c.market.periods) c i e
+    below_work (nat_lt MOST_WORK (proposals * unit_count c.market * c.market.periods)) (Work proposals (unit_count c.market) c.market.periods) c i e
 
 pub accepted_is_feasible : (w : Result Asked WordFault) (reads : Reads) (i : PlannedCase) → (command_for w).IsDue reads (Ok i) → IsFeasiblePlan i.market i.plan × (i.cost ≡ plan_cost i.market i.plan)
 accepted_is_feasible (Ok (check a)) reads i due = input_is_feasible reads i due
@@ -406,8 +407,8 @@ pub record InputParts (reads : Reads) (c : PlannedCase) : Type 0 where
   pub is_plan : IsPlanOf c.market plan_bytes (Ok c.plan)
   pub feasible : IsFeasiblePlan c.market c.plan
 
-planned_parts : (reads : Reads) (m : Market) (plan : List Schedule) (c : PlannedCase) → IsCaseFile (reads CaseFile) (Ok m) → IsPlanFile m (reads ScheduleFile) (Ok plan) → IsChecked m plan (Ok c) → InputParts reads c
-planned_parts reads m plan c (Ok bytes, is_bytes, case_is) (Ok later, is_later, plan_is) (feasible, none, is) =
+planned_parts : BytesAreThoseRead → (reads : Reads) (m : Market) (plan : List Schedule) (c : PlannedCase) → IsCaseFile (reads CaseFile) (Ok m) → IsPlanFile m (reads ScheduleFile) (Ok plan) → IsChecked m plan (Ok c) → InputParts reads c
+planned_parts got reads m plan c (Ok bytes, is_bytes, case_is) (Ok later, is_later, plan_is) (feasible, none, is) =
     subst (InputParts reads) (sym is) (record {
       case_bytes = bytes;
       case_read = got CaseFile (reads CaseFile) bytes is_bytes;
@@ -417,22 +418,22 @@ planned_parts reads m plan c (Ok bytes, is_bytes, case_is) (Ok later, is_later, 
       is_plan = plan_found m plan later plan_is;
       feasible = feasible;
     })
-planned_parts reads m plan c (Ok bytes, is_bytes, case_is) (Err g, is_later, e) checked = absurd cc
-planned_parts reads m plan c (Err g, is_bytes, e) plan_is checked = absurd cc
+planned_parts got reads m plan c (Ok bytes, is_bytes, case_is) (Err g, is_later, e) checked = absurd cc
+planned_parts got reads m plan c (Err g, is_bytes, e) plan_is checked = absurd cc
 
-pub input_parts : (reads : Reads) (c : PlannedCase) → IsInput reads (Ok c) → InputParts reads c
-input_parts reads c (Ok m, case_is, (Ok plan, plan_is, checked)) = planned_parts reads m plan c case_is plan_is checked
-input_parts reads c (Ok m, case_is, (Err g, plan_is, e)) = absurd cc
-input_parts reads c (Err g, case_is, e) = absurd cc
+pub input_parts : BytesAreThoseRead → (reads : Reads) (c : PlannedCase) → IsInput reads (Ok c) → InputParts reads c
+input_parts got reads c (Ok m, case_is, (Ok plan, plan_is, checked)) = planned_parts got reads m plan c case_is plan_is checked
+input_parts got reads c (Ok m, case_is, (Err g, plan_is, e)) = absurd cc
+input_parts got reads c (Err g, case_is, e) = absurd cc
 
-price_parts : (a : PriceAsked) (reads : Reads) (i : PlannedCase) → (command_for (Ok (price a))).IsDue reads (Ok i) → InputParts reads i
-price_parts a reads i (Ok c, input, work) = subst (InputParts reads) (same_input a.proposals c i work) (input_parts reads c input)
-price_parts a reads i (Err g, input, e) = absurd cc
+price_parts : BytesAreThoseRead → (a : PriceAsked) (reads : Reads) (i : PlannedCase) → (command_for (Ok (price a))).IsDue reads (Ok i) → InputParts reads i
+price_parts got a reads i (Ok c, input, work) = subst (InputParts reads) (same_input a.proposals c i work) (input_parts got reads c input)
+price_parts got a reads i (Err g, input, e) = absurd cc
 
-module _ (gap : ReportPaymentsMakeUpTheGap) (a : PriceAsked) (told : List ℕ → Option (List ℕ)) (rose gained short : List ℕ → Type 0) where
+module _ (got : BytesAreThoseRead) (gap : ReportPaymentsMakeUpTheGap) (a : PriceAsked) (told : List ℕ → Option (List ℕ)) (rose gained short : List ℕ → Type 0) where
   promised : (reads : Reads) → AreReads told rose (case_and_schedule a.case_name a.schedule_name) reads → HasText (command_for (Ok (price a))) reads gained → IsPromised a told gained
   promised reads are (i, due, shown, (r, right, is), printed) =
-      let parts = price_parts a reads i due in
+      let parts = price_parts got a reads i due in
       let made_up = gap i.market i.plan a.proposals a.ahead r parts.feasible right in
       record {
         case_bytes = parts.case_bytes;

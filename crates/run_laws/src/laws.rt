@@ -4,6 +4,7 @@ ghost use Rattle.run_laws.specs.Laws.{OneDue, OneText, AcceptedIsFeasible, EachS
 ghost use Rattle.run_laws.specs.Laws.{WorkersAreFree};
 
 use gap_proof::laws::run_bounds_hold;
+use hull_engine::laws::{bytes_are_those_read, report_bytes_are_its_text, words_have_sizes};
 use hull_io::{Shelf, Sink};
 use hull_report::laws::{
     one_report_is_right, one_row_is_chosen, one_side_is_right, report_payments_make_up_the_gap,
@@ -70,6 +71,7 @@ pub fn words_follow<F: Shelf, S: Sink>()
 pub fn reports_are_right<F: Shelf, S: Sink>()
     ensures { ReportsAreRight F.told F.faults F.last S.held S.faults S.last }
 {
+    bytes_are_those_read();
     report_payments_make_up_the_gap();
 }
 
@@ -79,6 +81,7 @@ pub fn reports_are_right<F: Shelf, S: Sink>()
 pub fn bounds_hold<F: Shelf, S: Sink>()
     ensures { BoundsHold F.told F.faults F.last S.held S.faults S.last }
 {
+    words_have_sizes();
     one_row_is_chosen();
     run_bounds_hold();
 }
@@ -99,6 +102,8 @@ pub fn both_gaps_are_made_up<F: Shelf, S: Sink>()
 pub fn audits_hold<F: Shelf, S: Sink>()
     ensures { AuditsHold F.told F.faults F.last S.held S.faults S.last }
 {
+    bytes_are_those_read();
+    report_bytes_are_its_text();
     report_payments_make_up_the_gap();
     text_determines_the_report();
     right_report_has_form();
