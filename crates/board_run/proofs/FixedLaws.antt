@@ -24,7 +24,7 @@ use Rattle.unit_program.specs.declared.bench.Bench.{Bench}
 use Rattle.uplift_settle.specs.declared.settlement.Settlement.{Settlement}
 use Rattle.fixed_price.specs.FixedCase.{fixed_market}
 use Rattle.fixed_price.specs.Laws.{CommitmentsAreFixed}
-use Rattle.fixed_price.specs.Tops.{IsBenchOver}
+use Rattle.case_answers.specs.Tops.{IsBenchOver}
 use Rattle.hull_report.specs.FixedText.{told_of}
 use Rattle.hull_report.specs.RecordReport.{SettlementsAreOfAllUnits}
 use Rattle.hull_report.specs.RightSide.{IsRightSide, TellsChoice, SettledSidesAreRight}

@@ -19,9 +19,9 @@ use Rattle.uc_model.specs.Runs.{Fits}
 use Rattle.uc_model.specs.Schedules.{reserve_in}
 use Rattle.uc_model.specs.Sums.{int_at}
 use Rattle.uc_model.proofs.ListLaws.{none_some, same_item, length_same, item_of}
-use Rattle.fixed_price.specs.declared.answer.Flow.{Flow}
+use Rattle.case_answers.specs.declared.answer.Flow.{Flow}
 use Rattle.dealt_run.specs.declared.sums.Sums.{Sums}
-use Rattle.fixed_price.specs.Answers.{IsAnswerAt, amount_of}
+use Rattle.case_answers.specs.Answers.{IsAnswerAt, amount_of}
 use Rattle.dealt_run.specs.Sums.{part_of, sum_of, FitsAt, AreSumsOf, AreWithin, IsMore, IsSmall}
 use Rattle.dealt_run.proofs.Small.{nothing_small, zero_at, raised_within}
 

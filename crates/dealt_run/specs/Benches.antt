@@ -1,2 +1,2 @@
--- What answers to a case's units rest on: `fixed_price` says it.
-pub use Rattle.fixed_price.specs.Tops.{HasSchedules, CanAnswer, IsBenchOver}
+-- What answers to a case's units rest on: `case_answers` says it.
+pub use Rattle.case_answers.specs.Tops.{HasSchedules, CanAnswer, IsBenchOver}

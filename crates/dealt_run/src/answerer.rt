@@ -8,7 +8,7 @@ ghost use Rattle.dealt_run.specs.Sums.{AreSumsOf, AreWithin};
 
 use crate::count::count_at;
 use crate::sums::Sums;
-use fixed_price::laws::units_can_answer;
+use case_answers::laws::units_can_answer;
 use slope_list::Slopes;
 use std::alloc::{AllocError, Global};
 use task_deal::Job;

@@ -7,7 +7,7 @@ ghost use Rattle.dealt_run.specs.Benches.{CanAnswer, IsBenchOver};
 ghost use Rattle.dealt_run.specs.Sums.{AreWithin, IsMore};
 
 use crate::sums::Sums;
-use fixed_price::answer_at;
+use case_answers::answer_at;
 use slope_list::Slopes;
 use uc_model::cases::Case;
 use uc_model::laws::{

@@ -7,10 +7,10 @@ ghost use Rattle.uc_model.specs.declared.limits.TheConstants.{MOST_UNITS};
 ghost use Rattle.uc_model.specs.PlainUnits.{schedule_of};
 ghost use Rattle.uc_model.specs.Schedules.{reserve_in};
 ghost use Rattle.uc_model.specs.Sums.{int_at};
-ghost use Rattle.fixed_price.specs.Answers.{amount_of};
+ghost use Rattle.case_answers.specs.Answers.{amount_of};
 ghost use Rattle.dealt_run.specs.Sums.{IsSmall, AreWithin};
 
-use fixed_price::Flow;
+use case_answers::Flow;
 use std::alloc::{AllocError, Global};
 use uc_model::lists::{Amounts, Powers};
 use uc_model::units::Answered;

@@ -15,7 +15,7 @@ use Rattle.uc_model.specs.Sums.{int_at, total, zip_with}
 use Rattle.uc_model.specs.Systems.{IsFeasiblePlan, plan_cost, IsDualValue}
 use Rattle.fixed_price.specs.FixedCase.{held_mark, held_unit, held_named, fixed_market}
 use Rattle.fixed_price.specs.Laws.{CommitmentsAreFixed}
-use Rattle.fixed_price.specs.Tops.{points_of}
+use Rattle.case_answers.specs.Tops.{points_of}
 use Rattle.fixed_price.proofs.Held.{held_feasible, given_feasible}
 
 abbrev pub any_thermal : NamedThermalUnit → AnyUnit

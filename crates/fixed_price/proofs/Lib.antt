@@ -4,7 +4,3 @@ pub mod Fixing
 pub mod Held
 -- fix.rt: items of lists that are mapped, and of plans
 pub mod Items
--- answer.rt: the unit of a number
-pub mod Units
--- earn.rt, laws.rt: what all units of a case earn at best
-pub mod TopLaws

@@ -1,18 +1,12 @@
--- What holding the commitments of a plan does, and what answers rest on. Each law is the clause of
--- a public function of its name.
-use Rattle.std.specs.Prelude.{◌≡◌, ◌↔◌, ℕ, ◌≤◌, ℤ, ◌≤ℤ◌, List, length}
-use Rattle.std.specs.List.{All}
-use Rattle.slope_list.specs.Slopes.{room_of}
-use Rattle.slope_list.specs.declared.slopes.Slopes.{Slopes}
-use Rattle.uc_model.specs.Data.{ThermalUnit, NamedThermalUnit, PriceLists, Schedule, Market}
-use Rattle.uc_model.specs.Data.{unit_count}
+-- What holding the commitments of a plan does. Each law is the clause of a public function of its
+-- name.
+use Rattle.std.specs.Prelude.{◌≡◌, ◌↔◌, ℕ, ℤ, ◌≤ℤ◌, List, length}
+use Rattle.uc_model.specs.Data.{ThermalUnit, PriceLists, Schedule, Market, unit_count}
 use Rattle.uc_model.specs.Limits.{ArePrices, IsMarket}
 use Rattle.uc_model.specs.Schedules.{IsThermalFeasible}
 use Rattle.uc_model.specs.Systems.{IsFeasiblePlan, plan_cost, IsDualValue}
-use Rattle.unit_program.specs.Benches.{IsBenchFor}
-use Rattle.unit_program.specs.declared.bench.Bench.{Bench}
 use Rattle.fixed_price.specs.FixedCase.{held_unit, fixed_market}
-use Rattle.fixed_price.specs.Tops.{HasSchedules, CanAnswer, points_of, IsBenchOver}
+use Rattle.case_answers.specs.Tops.{points_of}
 
 -- a schedule is feasible for the held unit exactly where it is feasible for the unit as given and
 -- has the commitment that is held
@@ -38,15 +32,3 @@ pub record IsFixing (m : Market) (plan : List Schedule) : Type 0 where
 abbrev pub CommitmentsAreFixed : Type 0
 CommitmentsAreFixed =
     (m : Market) (plan : List Schedule) → IsMarket m → IsFeasiblePlan m plan → IsFixing m plan
-
--- where each unit has a feasible schedule, none is without one
-abbrev pub UnitsCanAnswer : Type 0
-UnitsCanAnswer = (m : Market) → HasSchedules m → CanAnswer m
-
--- a bench for the periods of a case, and as many cost points as any of its units has, suffices for
--- each thermal unit
-abbrev pub BenchesServeAll : Type 0
-BenchesServeAll =
-    (m : Market) (points : ℕ) (b : Bench Slopes) →
-    All (λ (n : NamedThermalUnit). length n.unit.points ≤ points) m.thermal →
-    IsBenchFor room_of m.periods points b → IsBenchOver m b

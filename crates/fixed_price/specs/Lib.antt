@@ -1,4 +1,2 @@
 pub mod FixedCase
-pub mod Tops
-pub mod Answers
 pub mod Laws

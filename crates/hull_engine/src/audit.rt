@@ -11,7 +11,7 @@ ghost use Rattle.hull_engine.specs.Steps.{IsJudged};
 
 use answer_workers::most_points;
 use board_run::{RunInput, unit_count};
-use fixed_price::laws::benches_serve_all;
+use case_answers::laws::benches_serve_all;
 use hull_report::TopFault;
 use report_check::{Audit, check_report};
 use report_read::Report;

@@ -7,7 +7,7 @@ ghost use Rattle.uc_model.specs.PlainCases.{market_of, schedules_of, proposal_of
 ghost use Rattle.uc_model.specs.Runs.{IsRun, Fits};
 ghost use Rattle.uc_model.specs.Systems.{IsFeasiblePlan, plan_cost};
 ghost use Rattle.dealt_run.specs.Jobs.{AreFor};
-ghost use Rattle.fixed_price.specs.Tops.{HasSchedules, IsBenchOver};
+ghost use Rattle.case_answers.specs.Tops.{HasSchedules, IsBenchOver};
 ghost use Rattle.hull_report.specs.RightReport.{IsRightReport};
 ghost use Rattle.report_read.specs.Bounds.{IsReport, AreInOrder};
 ghost use Rattle.report_read.specs.Plain.{report_of, told_of};

@@ -21,7 +21,7 @@ pub struct Desk {
 impl Desk {
     ghost use Rattle.std.specs.Prelude.{IfOk};
     ghost use Rattle.uc_model.specs.PlainCases.{market_of};
-    ghost use Rattle.fixed_price.specs.Tops.{IsBenchOver};
+    ghost use Rattle.case_answers.specs.Tops.{IsBenchOver};
     ghost use Rattle.report_check.specs.Desks.{IsDeskFor};
 
     /// A desk for the case, with a bench that suffices for each of its thermal units.

@@ -8,7 +8,7 @@ ghost use Rattle.uc_model.specs.PlainCases.{market_of, schedules_of, proposal_of
 ghost use Rattle.uc_model.specs.PlainUnits.{prices_of};
 ghost use Rattle.uc_model.specs.Runs.{IsRun, Fits};
 ghost use Rattle.uc_model.specs.Systems.{IsFeasiblePlan, plan_cost};
-ghost use Rattle.fixed_price.specs.Tops.{HasSchedules};
+ghost use Rattle.case_answers.specs.Tops.{HasSchedules};
 ghost use Rattle.hull_report.specs.RightReport.{IsRightReport};
 ghost use Rattle.report_read.specs.Bounds.{IsReport, AreInOrder};
 ghost use Rattle.report_read.specs.Plain.{report_of, told_of};
@@ -24,7 +24,7 @@ use crate::parts::{chosen_same, foot_same, head_same};
 use crate::rows::rows_same;
 use crate::units::units_same;
 use crate::wrong::WrongLine;
-use fixed_price::earn_all;
+use case_answers::earn_all;
 use hull_report::laws::{one_report_is_right, right_report_has_form, settlements_are_of_all_units};
 use price_move::greatest;
 use report_form::laws::text_determines_the_report;

@@ -6,7 +6,7 @@ ghost use Rattle.uc_model.specs.PlainCases.{market_of};
 ghost use Rattle.dealt_run.specs.Benches.{IsBenchOver};
 
 use crate::boards::{CASE, PLAN};
-use fixed_price::laws::benches_serve_all;
+use case_answers::laws::benches_serve_all;
 use plan_check::check_plan;
 use report_check::{Audit, check_report};
 use report_read::read_report;

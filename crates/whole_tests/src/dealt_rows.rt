@@ -7,8 +7,8 @@ ghost use Rattle.uc_model.specs.PlainCases.{market_of};
 ghost use Rattle.dealt_run.specs.Benches.{HasSchedules};
 ghost use Rattle.dealt_run.specs.Jobs.{AreFor};
 
+use case_answers::laws::benches_serve_all;
 use dealt_run::{Answerer, right_rows};
-use fixed_price::laws::benches_serve_all;
 use plan_check::check_plan;
 use std::alloc::Global;
 use std::sync::Wait;

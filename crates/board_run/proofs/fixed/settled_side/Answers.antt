@@ -1,7 +1,7 @@
 use Rattle.std.proofs.Common.{ℤ, List, subst, sym}
 use Rattle.uc_model.specs.PlainCases.{market_of, schedules_of}
 use Rattle.uc_model.specs.PlainUnits.{prices_of}
-use Rattle.fixed_price.specs.Tops.{AreTops}
+use Rattle.case_answers.specs.Tops.{AreTops}
 use Rattle.board_run.proofs.FixedLaws.{bench_over_given, held_lengths, held_side}
 use Rattle.board_run.proofs.fixed.settled_side.Goals as goal
 

@@ -4,7 +4,7 @@ use Rattle.slope_list.specs.declared.slopes.Slopes.{Slopes}
 use Rattle.unit_program.specs.declared.bench.Bench.{Bench}
 use Rattle.uc_model.specs.PlainCases.{market_of}
 use Rattle.dealt_run.specs.declared.answerer.Answerer.{Answerer}
-use Rattle.fixed_price.specs.Tops.{IsBenchOver}
+use Rattle.case_answers.specs.Tops.{IsBenchOver}
 use Rattle.dealt_run.specs.Jobs.{AreFor}
 use Rattle.report_check.proofs.audit.jobs_for.Goals as goal
 

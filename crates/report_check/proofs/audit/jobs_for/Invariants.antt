@@ -1,7 +1,7 @@
 use Rattle.std.proofs.Common.{◌≡◌, ◌+◌, length, vec_len}
 use Rattle.std.specs.List.{All}
 use Rattle.uc_model.specs.PlainCases.{market_of}
-use Rattle.fixed_price.specs.Tops.{IsBenchOver}
+use Rattle.case_answers.specs.Tops.{IsBenchOver}
 use Rattle.dealt_run.specs.Jobs.{AreFor}
 use Rattle.report_check.proofs.audit.jobs_for.Given as goal
 

@@ -4,7 +4,7 @@ use Rattle.uc_model.specs.Data.{Schedule, units}
 use Rattle.uc_model.specs.PlainCases.{market_of}
 use Rattle.uc_model.specs.PlainUnits.{prices_of, schedule_of}
 use Rattle.uc_model.specs.Runs.{Fits}
-use Rattle.fixed_price.specs.Tops.{IsBenchOver}
+use Rattle.case_answers.specs.Tops.{IsBenchOver}
 use Rattle.report_read.specs.Plain.{told_of}
 use Rattle.report_check.specs.Compared.{Compares}
 use Rattle.report_check.specs.ReportLines.{told_lines}

@@ -9,14 +9,14 @@ use Rattle.uc_model.specs.declared.units.Answered.{Answered}
 use Rattle.uc_model.specs.declared.units.Point.{Point}
 use Rattle.uc_model.specs.Data.{ThermalUnit, NamedThermalUnit, AnyUnit, Thermal, PriceLists, Schedule, Market, units}
 use Rattle.uc_model.specs.Earnings.{earnings}
+use Rattle.uc_model.specs.Limits.{IsThermalUnit, IsMarket}
 use Rattle.uc_model.specs.PlainUnits.{schedule_of}
 use Rattle.uc_model.specs.Runs.{Fits}
 use Rattle.uc_model.specs.Schedules.{IsThermalFeasible}
-use Rattle.uc_model.proofs.ListLaws.{item_of}
+use Rattle.uc_model.proofs.ListLaws.{item_of, map_item}
 use Rattle.unit_program.specs.Benches.{IsBenchFor, BenchesServeLess}
 use Rattle.unit_program.specs.declared.bench.Bench.{Bench}
-use Rattle.fixed_price.specs.Tops.{CanAnswer, points_of, IsBenchOver}
-use Rattle.fixed_price.proofs.Items.{map_item}
+use Rattle.case_answers.specs.Tops.{CanAnswer, points_of, IsBenchOver}
 
 -- a thermal unit that isn't without a feasible schedule is answered
 pub record IsFound (g : ThermalUnit) (π : PriceLists) (a : Answered) : Type 0 where
@@ -32,6 +32,10 @@ found g π a false some fit earned none = absurd (some (none refl))
 -- it isn't without one, over as many periods as the prices have
 pub some_at : (m : Market) (n k : ℕ) (g : ThermalUnit) → CanAnswer m → n ≡ m.periods → slice_get (units m) k ≡ Some (Thermal g) → ((s : Schedule) → IsThermalFeasible g n s → ⊥) → ⊥
 some_at m n k g can horizon is = subst (λ (p : ℕ). ((s : Schedule) → IsThermalFeasible g p s → ⊥) → ⊥) (sym horizon) (can k (Thermal g) is)
+
+-- its window is over the horizon
+pub window_length : (m : Market) → IsMarket m → (k : ℕ) (t : NamedThermalUnit) → slice_get m.thermal k ≡ Some t → length t.unit.window ≡ m.periods
+window_length m h k t e = (item_of (λ (n : NamedThermalUnit). IsThermalUnit n.unit × (length n.unit.window ≡ m.periods)) m.thermal k t h.thermal e).1
 
 -- and the bench suffices for it
 pub bench_at : (m : Market) (n k : ℕ) (t : NamedThermalUnit) (b : Bench Slopes) → IsBenchOver m b → n ≡ m.periods → slice_get m.thermal k ≡ Some t → IsBenchFor room_of n (length t.unit.points) b

@@ -1,9 +1,9 @@
 use Rattle.std.proofs.Common.{◌≡◌, ◌+◌, ◌≤◌, length}
 use Rattle.uc_model.specs.PlainCases.{market_of}
 use Rattle.uc_model.specs.PlainUnits.{prices_of, schedule_of}
-use Rattle.fixed_price.specs.Tops.{IsBenchOver}
-use Rattle.fixed_price.proofs.TopLaws.{AreTopsTo}
-use Rattle.fixed_price.proofs.earn.earn_all.Given as goal
+use Rattle.case_answers.specs.Tops.{IsBenchOver}
+use Rattle.case_answers.proofs.TopLaws.{AreTopsTo}
+use Rattle.case_answers.proofs.earn.earn_all.Given as goal
 
 abbrev pub invariant-loop-number : goal.invariant-loop-number
 invariant-loop-number l = record {

@@ -3,9 +3,8 @@ use Rattle.uc_model.specs.Data.{Thermal}
 use Rattle.uc_model.specs.PlainCases.{market_of}
 use Rattle.uc_model.specs.PlainUnits.{named_thermal_of, thermal_of}
 use Rattle.uc_model.proofs.ListLaws.{map_item}
-use Rattle.fixed_price.proofs.Fixing.{window_length}
-use Rattle.fixed_price.proofs.Units.{some_at, bench_at, bench_kept}
-use Rattle.fixed_price.proofs.answer.answer_thermal_at.Goals as goal
+use Rattle.case_answers.proofs.Units.{some_at, window_length, bench_at, bench_kept}
+use Rattle.case_answers.proofs.answer.answer_thermal_at.Goals as goal
 
 pub answer_thermal-requires-clause-horizon : goal.answer_thermal-requires-clause-horizon
 answer_thermal-requires-clause-horizon c =

@@ -5,8 +5,8 @@ use Rattle.uc_model.specs.Data.{AnyUnit, PriceLists, Market, units}
 use Rattle.uc_model.specs.Earnings.{earnings, supply_in}
 use Rattle.uc_model.specs.PlainUnits.{schedule_of}
 use Rattle.uc_model.specs.Runs.{Fits}
-use Rattle.fixed_price.specs.declared.answer.Flow.{Flow}
-use Rattle.fixed_price.specs.declared.answer.Flow.TheVariants.{Gives, Takes}
+use Rattle.case_answers.specs.declared.answer.Flow.{Flow}
+use Rattle.case_answers.specs.declared.answer.Flow.TheVariants.{Gives, Takes}
 
 -- what a power counts for in the supply
 abbrev pub amount_of : Flow → ℕ → ℤ

@@ -5,8 +5,8 @@ use Rattle.uc_model.specs.Limits.{IsRenewableUnit, IsBidUnit}
 use Rattle.uc_model.specs.PlainCases.{market_of}
 use Rattle.uc_model.specs.PlainUnits.{named_thermal_of, named_renewable_of, renewable_of, named_bid_of, bid_of}
 use Rattle.uc_model.proofs.ListLaws.{item_of, map_item}
-use Rattle.fixed_price.proofs.Units.{unit_at}
-use Rattle.fixed_price.proofs.answer.answer_other_at.Goals as goal
+use Rattle.case_answers.proofs.Units.{unit_at}
+use Rattle.case_answers.proofs.answer.answer_other_at.Goals as goal
 
 pub best_flat-requires-clause-prices : goal.best_flat-requires-clause-prices
 best_flat-requires-clause-prices c =

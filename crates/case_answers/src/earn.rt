@@ -3,7 +3,7 @@ ghost use Rattle.std.specs.Prelude.{◌≡◌, ◌+◌, ◌≤◌, length};
 ghost use Rattle.uc_model.specs.Data.{unit_count};
 ghost use Rattle.uc_model.specs.PlainCases.{market_of};
 ghost use Rattle.uc_model.specs.PlainUnits.{prices_of, schedule_of};
-ghost use Rattle.fixed_price.specs.Tops.{HasSchedules, IsBenchOver, AreTops};
+ghost use Rattle.case_answers.specs.Tops.{HasSchedules, IsBenchOver, AreTops};
 
 use crate::answer::answer_at;
 use crate::laws::units_can_answer;

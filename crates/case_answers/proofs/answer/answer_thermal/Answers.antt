@@ -1,8 +1,8 @@
 use Rattle.std.proofs.Common.{length}
 use Rattle.slope_list.specs.Slopes.{room_of}
 use Rattle.uc_model.specs.PlainUnits.{thermal_of, prices_of}
-use Rattle.fixed_price.proofs.Units.{found}
-use Rattle.fixed_price.proofs.answer.answer_thermal.Goals as goal
+use Rattle.case_answers.proofs.Units.{found}
+use Rattle.case_answers.proofs.answer.answer_thermal.Goals as goal
 
 pub returns-clause-fit : goal.returns-clause-fit
 returns-clause-fit c =

@@ -53,8 +53,8 @@ fn answer_thermal(
     let _ = least_on_bench(bench, unit, prices, into);
 }
 
-ghost use Rattle.fixed_price.specs.Answers.{IsAnswerAt};
-ghost use Rattle.fixed_price.specs.Tops.{CanAnswer, IsBenchOver};
+ghost use Rattle.case_answers.specs.Answers.{IsAnswerAt};
+ghost use Rattle.case_answers.specs.Tops.{CanAnswer, IsBenchOver};
 
 // Answers the thermal unit of a number.
 fn answer_thermal_at(

@@ -2,22 +2,21 @@
 use Rattle.std.proofs.Common.{◌≡◌, ℕ, zero, suc, ◌+◌, ℤ, Some, List, [], ◌∷◌, ◌++◌, take, sym, ap, ◌∙◌, subst, arith}
 use Rattle.std.specs.Prelude.{slice_get}
 use Rattle.std.specs.List.{AllZip}
-use Rattle.std.proofs.lemmas.Option.{none-some}
+use Rattle.std.proofs.lemmas.Option.{none-some, same_Some}
 use Rattle.std.proofs.lemmas.Slice.Zip.{all_zipped_more}
 use Rattle.uc_model.specs.declared.units.Answered.{Answered}
 use Rattle.uc_model.specs.Data.{AnyUnit, PriceLists, Schedule, Market, units}
 use Rattle.uc_model.specs.Earnings.{IsTop}
 use Rattle.uc_model.specs.PlainUnits.{schedule_of}
 use Rattle.uc_model.specs.Schedules.{IsFeasible}
-use Rattle.fixed_price.specs.declared.answer.Flow.{Flow}
-use Rattle.fixed_price.specs.Answers.{IsAnswerAt}
-use Rattle.fixed_price.specs.Tops.{HasSchedules, CanAnswer}
-use Rattle.fixed_price.proofs.Items.{same_item}
+use Rattle.case_answers.specs.declared.answer.Flow.{Flow}
+use Rattle.case_answers.specs.Answers.{IsAnswerAt}
+use Rattle.case_answers.specs.Tops.{HasSchedules, CanAnswer}
 
 one_of : {A B : Type 0} (Q : A → B → Type 0) (us : List A) (ys : List B) (k : ℕ) (u : A) → AllZip Q us ys → slice_get us k ≡ Some u → (y : B) × Q u y
 one_of Q [] ys k u h e = absurd (none-some u e)
 one_of Q (x ∷ us) [] k u h e = absurd h
-one_of Q (x ∷ us) (y ∷ ys) zero u h e = (y, subst (λ z. Q z y) (same_item x u e) h.0)
+one_of Q (x ∷ us) (y ∷ ys) zero u h e = (y, subst (λ z. Q z y) (same_Some x u e) h.0)
 one_of Q (x ∷ us) (y ∷ ys) (suc k) u h e = one_of Q us ys k u h.1 e
 
 -- ---- answers
@@ -35,7 +34,7 @@ answer_top m π number flow a h = record { schedule = schedule_of a.response; be
 
 take_item : {A : Type 0} (us : List A) (k : ℕ) (u : A) → slice_get us k ≡ Some u → take (k + 1) us ≡ take k us ++ u ∷ []
 take_item [] k u e = absurd (none-some u e)
-take_item (x ∷ us) zero u e = ap (λ z. z ∷ []) (same_item x u e)
+take_item (x ∷ us) zero u e = ap (λ z. z ∷ []) (same_Some x u e)
 take_item (x ∷ us) (suc k) u e =
     let n : suc k + 1 ≡ suc (k + 1) = omega arith in
     ap (λ (i : ℕ). take i (x ∷ us)) n ∙ ap (λ l. x ∷ l) (take_item us k u e)

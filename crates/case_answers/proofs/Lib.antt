@@ -1,0 +1,4 @@
+-- answer.rt, laws.rt: the unit of a number
+pub mod Units
+-- earn.rt, laws.rt: what all units of a case earn at best
+pub mod TopLaws

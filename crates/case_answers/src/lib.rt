@@ -1,0 +1,10 @@
+//! What the units and bids of a case answer and earn at prices, one by one and all of them, on a
+//! bench whose memory is taken once.
+#![tactic(auto)]
+
+mod answer;
+mod earn;
+pub mod laws;
+
+pub use answer::{Flow, answer_at};
+pub use earn::earn_all;

@@ -1,5 +1,0 @@
-use Rattle.fixed_price.proofs.Units.{serves_all}
-use Rattle.fixed_price.proofs.laws.benches_serve_all.Goals as goal
-
-pub returns : goal.returns
-returns c = serves_all c.benches_serve_less.ensures
