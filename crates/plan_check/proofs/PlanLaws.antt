@@ -60,13 +60,11 @@ module _ (periods : ℕ) where
 
   renewable_is : (u : RenewableUnit) (s : Schedule) → HasLengths periods s → IsSteady s → ((k : ℕ) → k < periods → renewable_broken u s k ≡ None) → IsRenewableFeasible u periods s
   renewable_is u s l steady none =
-      let a = l.0 in
-      let b = l.2 in
-      let on : (k : ℕ) → k < periods → IsTrue (slice_index_or s.on k false) = λ k lt. steady.0 k false (omega (arith, a, lt)) in
+      let on : (k : ℕ) → k < periods → IsTrue (slice_index_or s.on k false) = λ k lt. steady.0 k false (omega (arith, lt)) in
       record {
         schedule = record { on = l.0; power = l.1; reserve = l.2; off = λ k lt off. absurd (true_false (sym (on k lt) ∙ off)) };
         on = on;
-        reserve = λ k lt. steady.1 k 0 (omega (arith, b, lt));
+        reserve = λ k lt. steady.1 k 0 (omega (arith, lt));
         least = λ k lt. let parts = or_else_none (unless (int_le (int_at u.least k) (power_in s (suc k))) (int_at u.least k) (power_in s (suc k))) (unless (int_le (power_in s (suc k)) (int_at u.most k)) (power_in s (suc k)) (int_at u.most k)) (none k lt) in
             le_from_z (int_at u.least k) (power_in s (suc k)) (unless_none (int_le (int_at u.least k) (power_in s (suc k))) (int_at u.least k) (power_in s (suc k)) parts.0);
         most = λ k lt. let parts = or_else_none (unless (int_le (int_at u.least k) (power_in s (suc k))) (int_at u.least k) (power_in s (suc k))) (unless (int_le (power_in s (suc k)) (int_at u.most k)) (power_in s (suc k)) (int_at u.most k)) (none k lt) in
@@ -101,13 +99,11 @@ module _ (periods : ℕ) where
 
   bid_is : (u : BidUnit) (s : Schedule) → HasLengths periods s → IsSteady s → ((k : ℕ) → k < periods → bid_broken u s k ≡ None) → IsBidFeasible u periods s
   bid_is u s l steady none =
-      let a = l.0 in
-      let b = l.2 in
-      let on : (k : ℕ) → k < periods → IsTrue (slice_index_or s.on k false) = λ k lt. steady.0 k false (omega (arith, a, lt)) in
+      let on : (k : ℕ) → k < periods → IsTrue (slice_index_or s.on k false) = λ k lt. steady.0 k false (omega (arith, lt)) in
       record {
         schedule = record { on = l.0; power = l.1; reserve = l.2; off = λ k lt off. absurd (true_false (sym (on k lt) ∙ off)) };
         on = on;
-        reserve = λ k lt. steady.1 k 0 (omega (arith, b, lt));
+        reserve = λ k lt. steady.1 k 0 (omega (arith, lt));
         most = λ k lt. le_from_z (power_in s (suc k)) (width_of (blocks_at u k)) (unless_none (int_le (power_in s (suc k)) (width_of (blocks_at u k))) (power_in s (suc k)) (width_of (blocks_at u k)) (none k lt));
       }
 
@@ -182,7 +178,6 @@ module _ (m : Market) (plan : List Schedule) (shape : HasPlanShape m plan) where
 
   feasible_none : refusals m plan ≡ [] → IsFeasiblePlan m plan
   feasible_none none =
-      let count = shape.count in
       let e4 = append_nil_left (p1 ++ p2 ++ p3 ++ p4) p5 none in
       let e3 = append_nil_left (p1 ++ p2 ++ p3) p4 e4 in
       let e2 = append_nil_left (p1 ++ p2) p3 e3 in
@@ -190,9 +185,9 @@ module _ (m : Market) (plan : List Schedule) (shape : HasPlanShape m plan) where
       let last_length = length-drop (length m.thermal + length m.flat) plan in
       let later_lengths = All-drop (HasLengths m.periods) (length m.thermal) plan lengths in
       let last_lengths = All-drop (HasLengths m.periods) (length m.thermal + length m.flat) plan lengths in
-      let z3 = bid_feasible m.periods 1 m.bids last (omega (arith, count, last_length)) last_lengths steady_last (append_nil_right (p1 ++ p2) p3 e3) in
-      let z2 = renewable_feasible m.periods 1 m.flat later (bids m.periods m.bids) (omega (arith, count, later_length)) later_lengths shape.always_on (append_nil_right p1 p2 e2) (subst (AllZip (Feasible m.periods) (bids m.periods m.bids)) last_is z3) in
-      let z1 = thermal_feasible m.periods 1 m.thermal plan (flat m.periods m.flat ++ bids m.periods m.bids) (omega (arith, count)) lengths (append_nil_left p1 p2 e2) z2 in
+      let z3 = bid_feasible m.periods 1 m.bids last (omega (arith, last_length)) last_lengths steady_last (append_nil_right (p1 ++ p2) p3 e3) in
+      let z2 = renewable_feasible m.periods 1 m.flat later (bids m.periods m.bids) (omega (arith, later_length)) later_lengths shape.always_on (append_nil_right p1 p2 e2) (subst (AllZip (Feasible m.periods) (bids m.periods m.bids)) last_is z3) in
+      let z1 = thermal_feasible m.periods 1 m.thermal plan (flat m.periods m.flat ++ bids m.periods m.bids) (omega arith) lengths (append_nil_left p1 p2 e2) z2 in
       record {
         feasible = subst (λ us. AllZip (Feasible m.periods) us plan) (sym units_are) z1;
         balance = λ k lt.

@@ -94,11 +94,10 @@ module _ (g : ThermalUnit) (s : Schedule) where
         | inl same ↦
             let r = IsRunSince-changed k c (sym (ap (λ t. cond t (changed_in g s k) (Some (suc k))) same) ∙ e) in
             let on = same_is (on_in g s k) (on_in g s (suc k)) same in
-            let reached = r.reached in
             record {
               before = r.before;
               is = r.is;
-              reached = omega (arith, reached);
+              reached = omega arith;
               changed = r.changed;
               run = λ j low high. elim (inner_or_last j k high) [ inl inner ↦ r.run j low inner ∙ sym on | inr end ↦ ap (on_in g s) end ];
             }
@@ -156,22 +155,20 @@ module _ (g : ThermalUnit) (s : Schedule) where
     pub keeps_up : (begun t : ℕ) → IsTrue (starts_in g s begun) → begun ≤ t → t < begun + g.min_up → IsPeriod s t → on_in g s t ≡ true
     keeps_up zero t h low high period = absurd (false_true h)
     keeps_up (suc m) t h low high period =
-        let last = period.to_last in
-        up_run m (t - suc m) h (omega (arith, low, high)) (omega (arith, low, last)) t low (omega (arith, low))
+        up_run m (t - suc m) h (omega (arith, low, high)) (omega (arith, low)) t low (omega (arith, low))
 
   module _ (keeps : (begun t : ℕ) → IsTrue (starts_in g s begun) → begun ≤ t → t < begun + g.min_up → IsPeriod s t → on_in g s t ≡ true) where
     up_test : (k c : ℕ) → k < length s.on → IsTrue (stops_in g s (suc k)) → changed_in g s k ≡ Some c → unless (nat_le g.min_up (suc k - c)) (pos (suc k - c)) (pos g.min_up) ≡ None
     up_test k c lt ended since =
         let r = IsRunSince-changed k c since in
         let reached = r.reached in
-        let is = r.is in
         let now = (stops_is k ended).0 in
         let first = r.run (suc r.before) (omega arith) reached ∙ now in
         let begun = starts_from r.before (r.changed ∙ ap not first) first in
         elim (le_or_gt g.min_up (suc k - c)) [
           | inl long ↦ unless_holds (nat_le g.min_up (suc k - c)) (pos (suc k - c)) (pos g.min_up) (le_to g.min_up (suc k - c) long)
           | inr short ↦
-              let on = keeps (suc r.before) (suc k) begun (omega (arith, reached)) (omega (arith, short, is)) (record { from_one = omega arith; to_last = omega (arith, lt) }) in
+              let on = keeps (suc r.before) (suc k) begun (omega (arith, reached)) (omega (arith, short)) (record { from_one = omega arith; to_last = omega (arith, lt) }) in
               absurd (false_true (sym (stops_is k ended).1 ∙ on))
         ]
 
@@ -211,22 +208,20 @@ module _ (g : ThermalUnit) (s : Schedule) where
     pub keeps_down : (begun t : ℕ) → IsTrue (stops_in g s begun) → begun ≤ t → t < begun + g.min_down → IsPeriod s t → on_in g s t ≡ false
     keeps_down zero t h low high period = absurd (false_true h)
     keeps_down (suc m) t h low high period =
-        let last = period.to_last in
-        down_run m (t - suc m) h (omega (arith, low, high)) (omega (arith, low, last)) t low (omega (arith, low))
+        down_run m (t - suc m) h (omega (arith, low, high)) (omega (arith, low)) t low (omega (arith, low))
 
   module _ (keeps : (begun t : ℕ) → IsTrue (stops_in g s begun) → begun ≤ t → t < begun + g.min_down → IsPeriod s t → on_in g s t ≡ false) where
     down_test : (k c : ℕ) → k < length s.on → IsTrue (starts_in g s (suc k)) → changed_in g s k ≡ Some c → unless (nat_le g.min_down (suc k - c)) (pos (suc k - c)) (pos g.min_down) ≡ None
     down_test k c lt ended since =
         let r = IsRunSince-changed k c since in
         let reached = r.reached in
-        let is = r.is in
         let now = (starts_is k ended).0 in
         let first = r.run (suc r.before) (omega arith) reached ∙ now in
         let begun = stops_from r.before (r.changed ∙ ap not first) first in
         elim (le_or_gt g.min_down (suc k - c)) [
           | inl long ↦ unless_holds (nat_le g.min_down (suc k - c)) (pos (suc k - c)) (pos g.min_down) (le_to g.min_down (suc k - c) long)
           | inr short ↦
-              let on = keeps (suc r.before) (suc k) begun (omega (arith, reached)) (omega (arith, short, is)) (record { from_one = omega arith; to_last = omega (arith, lt) }) in
+              let on = keeps (suc r.before) (suc k) begun (omega (arith, reached)) (omega (arith, short)) (record { from_one = omega arith; to_last = omega (arith, lt) }) in
               absurd (true_false (sym (starts_is k ended).1 ∙ on))
         ]
 

@@ -12,5 +12,4 @@ covers rs periods place lengths lt = λ k d k_in.
     let count = length-map rs schedule_of in
     let item = get_or-map schedule_of rs k d (schedule_of d) k_in in
     let l = subst (HasLengths periods) item (lengths k (schedule_of d) (omega (arith, count, k_in))) in
-    let on = l.0 in
-    omega (arith, on, lt)
+    omega (arith, lt)

@@ -146,7 +146,7 @@ module _ (g : ThermalUnit) (s : Schedule) where
 
 module _ (periods : ℕ) (g : ThermalUnit) (s : Schedule) (on_length : length s.on ≡ periods) (power_length : length s.power ≡ periods) (reserve_length : length s.reserve ≡ periods) where
   inside : (k : ℕ) → IsPeriod s (suc k) → k < periods
-  inside k p = let l = p.to_last in omega (arith, l, on_length)
+  inside k p = omega (arith, on_length)
 
   period : (k : ℕ) → k < periods → IsPeriod s (suc k)
   period k lt = record { from_one = omega arith; to_last = omega (arith, lt, on_length) }
@@ -262,10 +262,9 @@ module _ (periods : ℕ) (g : ThermalUnit) (s : Schedule) (on_length : length s.
           | inr off ↦
               let none = f.schedule.off k lt off in
               let a = none.0 in
-              let b = none.1 in
               range_off g s k off ∙ or_else_holds (unless (int_le (power_in s (suc k)) (pos 0)) (power_in s (suc k)) (pos 0)) (unless (int_le (reserve_in s (suc k)) (pos 0)) (reserve_in s (suc k)) (pos 0))
               (unless_holds (int_le (power_in s (suc k)) (pos 0)) (power_in s (suc k)) (pos 0) (le_to_z (power_in s (suc k)) (pos 0) (omega (arith, ints, a))))
-              (unless_holds (int_le (reserve_in s (suc k)) (pos 0)) (reserve_in s (suc k)) (pos 0) (le_to_z (reserve_in s (suc k)) (pos 0) (omega (arith, ints, b))))
+              (unless_holds (int_le (reserve_in s (suc k)) (pos 0)) (reserve_in s (suc k)) (pos 0) (le_to_z (reserve_in s (suc k)) (pos 0) (omega (arith, ints))))
         ]
 
     initial_clear : (k : ℕ) → k < periods → initial_broken g s k ≡ None

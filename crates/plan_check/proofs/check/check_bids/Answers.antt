@@ -23,9 +23,7 @@ check_bid-requires-clause-horizon c =
     let first_is : (length (map named_thermal_of c.args.case.now.thermal.items) + length (map named_renewable_of c.args.case.now.flat.items)) + c.loop-place.place ≡ (c.len.result + c.len-2.result) + c.loop-place.place = omega (arith, length-map c.args.case.now.thermal.items named_thermal_of, length-map c.args.case.now.flat.items named_renewable_of, c.len.ensures, c.len-2.ensures) in
     let plan_at = drop_item ((length (map named_thermal_of c.args.case.now.thermal.items) + length (map named_renewable_of c.args.case.now.flat.items))) (schedules_of c.args.plan.now) c.loop-place.place ∙ ap (slice_get (schedules_of c.args.plan.now)) first_is ∙ whole_at in
     let lengths = item_of (HasLengths c.args.case.now.periods) (schedules_of c.args.plan.now) ((c.len.result + c.len-2.result) + c.loop-place.place) s c.requires.lengths whole_at in
-    let on = lengths.0 in
-    let most = c.args.case.now.valid.horizon.at_most in
-    omega (arith, on, most)
+    omega arith
 
 pub check_bid-requires-clause-blocks : goal.check_bid-requires-clause-blocks
 check_bid-requires-clause-blocks c =

@@ -23,9 +23,7 @@ check_renewable-requires-clause-horizon c =
     let first_is : length (map named_thermal_of c.args.case.now.thermal.items) + c.loop-place.place ≡ c.len-first.result + c.loop-place.place = omega (arith, length-map c.args.case.now.thermal.items named_thermal_of, c.len-first.ensures) in
     let plan_at = drop_item (length (map named_thermal_of c.args.case.now.thermal.items)) (schedules_of c.args.plan.now) c.loop-place.place ∙ ap (slice_get (schedules_of c.args.plan.now)) first_is ∙ whole_at in
     let lengths = item_of (HasLengths c.args.case.now.periods) (schedules_of c.args.plan.now) (c.len-first.result + c.loop-place.place) s c.requires.lengths whole_at in
-    let on = lengths.0 in
-    let most = c.args.case.now.valid.horizon.at_most in
-    omega (arith, on, most)
+    omega arith
 
 pub check_renewable-requires-clause-range : goal.check_renewable-requires-clause-range
 check_renewable-requires-clause-range c =

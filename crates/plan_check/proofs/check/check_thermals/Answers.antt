@@ -19,9 +19,7 @@ check_thermal-requires-clause-horizon c =
     let unit_at = map_item named_thermal_of c.args.case.now.thermal.items c.loop-place.place c.get-unit.result.now c.get-unit.ensures.item in
     let plan_at = map_item schedule_of c.args.plan.now.responses.items c.loop-place.place c.get-response.result.now c.get-response.ensures.item in
     let lengths = item_of (HasLengths c.args.case.now.periods) (schedules_of c.args.plan.now) c.loop-place.place s c.requires.lengths plan_at in
-    let on = lengths.0 in
-    let most = c.args.case.now.valid.horizon.at_most in
-    omega (arith, on, most)
+    omega arith
 
 pub check_thermal-requires-clause-window : goal.check_thermal-requires-clause-window
 check_thermal-requires-clause-window c =

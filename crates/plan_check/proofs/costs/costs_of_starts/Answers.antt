@@ -14,24 +14,14 @@ loop-place-preserved c =
     let k = c.loop-place.place in
     let known = c.loop-place.invariant in
     let down = known.down in
-    let down_limit = known.down_limit in
-    let is = known.is in
-    let low = known.limit.at_least in
-    let high = known.limit.at_most in
     let called = c.cost_of_start-sum.ensures in
-    let value = called.value in
-    let call_low = called.limit.at_least in
-    let call_high = called.limit.at_most in
-    let horizon = c.requires in
-    let test = c.loop-place-test.true in
-    let len = c.len-place-end.ensures in
     let more = sum_more k (start_cost_at g s) in
     let next : k + 1 ≡ suc k = omega arith in
     let after = c.time_after-down.ensures in
     let bound = cond_at_most (get_or s.on k false) c.loop-place.down in
     record {
       down = after ∙ ap (λ (n : ℕ). cond (get_or s.on k false) 0 (suc n)) down ∙ ap (time_down g s) (sym next);
-      down_limit = omega (arith, after, bound, down_limit);
-      is = omega (arith, ints, is, low, high, value, call_low, call_high, more, horizon, test, len);
-      limit = record { at_least = omega (arith, ints, low, high, call_low, call_high, horizon, test, len); at_most = omega (arith, ints, low, high, call_low, call_high, horizon, test, len) };
+      down_limit = omega (arith, after, bound);
+      is = omega (arith, ints, more);
+      limit = record { at_least = omega (arith, ints); at_most = omega (arith, ints) };
     }

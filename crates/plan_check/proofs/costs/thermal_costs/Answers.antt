@@ -23,9 +23,7 @@ power_costs-requires-clause-horizon c =
     let plan_at = map_item schedule_of c.args.plan.now.responses.items i c.get-response.result.now c.get-response.ensures.item in
     let lengths = item_of (HasLengths c.args.case.now.periods) ps i s c.requires.shape.lengths plan_at in
     let u_at = map_item (λ (n : NamedThermalUnit). Thermal n.unit) m.thermal i (named_thermal_of x) unit_at in
-    let on = lengths.0 in
-    let most = c.args.case.now.valid.horizon.at_most in
-    omega (arith, on, most)
+    omega arith
 
 pub costs_of_starts-requires : goal.costs_of_starts-requires
 costs_of_starts-requires c =
@@ -38,9 +36,7 @@ costs_of_starts-requires c =
     let plan_at = map_item schedule_of c.args.plan.now.responses.items i c.get-response.result.now c.get-response.ensures.item in
     let lengths = item_of (HasLengths c.args.case.now.periods) ps i s c.requires.shape.lengths plan_at in
     let u_at = map_item (λ (n : NamedThermalUnit). Thermal n.unit) m.thermal i (named_thermal_of x) unit_at in
-    let on = lengths.0 in
-    let most = c.args.case.now.valid.horizon.at_most in
-    omega (arith, on, most)
+    omega arith
 
 pub power_costs-requires-clause-feasible : goal.power_costs-requires-clause-feasible
 power_costs-requires-clause-feasible c =
@@ -70,25 +66,12 @@ loop-place-preserved c =
     let lengths = item_of (HasLengths c.args.case.now.periods) ps i s c.requires.shape.lengths plan_at in
     let u_at = map_item (λ (n : NamedThermalUnit). Thermal n.unit) m.thermal i (named_thermal_of x) unit_at in
     let known = c.loop-place.invariant in
-    let is = known.is in
-    let low = known.limit.at_least in
-    let high = known.limit.at_most in
-    let powers = c.power_costs.ensures.value in
-    let powers_low = c.power_costs.ensures.limit.at_least in
-    let powers_high = c.power_costs.ensures.limit.at_most in
-    let starts = c.costs_of_starts.ensures.value in
-    let starts_low = c.costs_of_starts.ensures.limit.at_least in
-    let starts_high = c.costs_of_starts.ensures.limit.at_most in
-    let wide = c.from-sum.ensures in
-    let count = c.args.case.now.valid.thermal_count in
     let mapped = length-map c.args.case.now.thermal.items named_thermal_of in
-    let test = c.loop-place-test.true in
-    let len = c.len-place-end.ensures in
     let more = sum_over-more cost_of (thermal_units m) ps i (Thermal (thermal_of x.unit)) s u_at plan_at in
     record {
-      is = omega (arith, ints, is, low, high, powers, powers_low, powers_high, starts, starts_low, starts_high, wide, more, count, mapped, test, len);
+      is = omega (arith, ints, more, mapped);
       limit = record {
-        at_least = omega (arith, ints, low, high, powers_low, powers_high, starts_low, starts_high, wide, count, mapped, test, len);
-        at_most = omega (arith, ints, low, high, powers_low, powers_high, starts_low, starts_high, wide, count, mapped, test, len);
+        at_least = omega (arith, ints, mapped);
+        at_most = omega (arith, ints, mapped);
       };
     }

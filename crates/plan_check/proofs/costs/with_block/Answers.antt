@@ -9,11 +9,7 @@ overflow_add-result c =
     let f1 : FitsSigned w64 c.args.bought.rest = search rules in
     let f2 : FitsSigned w64 c.args.block.now.width = search rules in
     let least = simp to_z-of_z at c.min-width.ensures.value in
-    let a = c.requires.rest.at_least in
-    let b = c.requires.rest.at_most in
-    let d = c.requires.block.width.at_least in
-    let e = c.requires.block.width.at_most in
-    let limit : IsFrom (pos 0) (pos 1000000000) c.min-width.result = record { at_least = omega (arith, ints, clamps, least, a, d); at_most = omega (arith, ints, clamps, least, e) } in
+    let limit : IsFrom (pos 0) (pos 1000000000) c.min-width.result = record { at_least = omega (arith, ints, clamps, least); at_most = omega (arith, ints, clamps, least) } in
     worth_fits c.args.bought.worth c.args.block.now.price c.min-width.result c.requires.worth c.requires.block.price limit
 
 pub returns-clause-worth : goal.returns-clause-worth
@@ -21,11 +17,7 @@ returns-clause-worth c =
     let f1 : FitsSigned w64 c.args.bought.rest = search rules in
     let f2 : FitsSigned w64 c.args.block.now.width = search rules in
     let least = simp to_z-of_z at c.min-width.ensures.value in
-    let a = c.requires.rest.at_least in
-    let b = c.requires.rest.at_most in
-    let d = c.requires.block.width.at_least in
-    let e = c.requires.block.width.at_most in
-    let limit : IsFrom (pos 0) (pos 1000000000) c.min-width.result = record { at_least = omega (arith, ints, clamps, least, a, d); at_most = omega (arith, ints, clamps, least, e) } in
+    let limit : IsFrom (pos 0) (pos 1000000000) c.min-width.result = record { at_least = omega (arith, ints, clamps, least); at_most = omega (arith, ints, clamps, least) } in
     worth_is c.args.bought.worth c.args.block.now.price c.min-width.result c.requires.worth c.requires.block.price limit ∙ ap (λ (z : ℤ). c.args.bought.worth +ℤ (c.args.block.now.price *ℤ z)) least
 
 pub returns-clause-worth_limit : goal.returns-clause-worth_limit
@@ -33,11 +25,7 @@ returns-clause-worth_limit c =
     let f1 : FitsSigned w64 c.args.bought.rest = search rules in
     let f2 : FitsSigned w64 c.args.block.now.width = search rules in
     let least = simp to_z-of_z at c.min-width.ensures.value in
-    let a = c.requires.rest.at_least in
-    let b = c.requires.rest.at_most in
-    let d = c.requires.block.width.at_least in
-    let e = c.requires.block.width.at_most in
-    let limit : IsFrom (pos 0) (pos 1000000000) c.min-width.result = record { at_least = omega (arith, ints, clamps, least, a, d); at_most = omega (arith, ints, clamps, least, e) } in
+    let limit : IsFrom (pos 0) (pos 1000000000) c.min-width.result = record { at_least = omega (arith, ints, clamps, least); at_most = omega (arith, ints, clamps, least) } in
     worth_within c.args.bought.worth c.args.block.now.price c.min-width.result c.requires.worth c.requires.block.price limit
 
 pub returns-clause-rest_limit : goal.returns-clause-rest_limit
@@ -45,9 +33,5 @@ returns-clause-rest_limit c =
     let f1 : FitsSigned w64 c.args.bought.rest = search rules in
     let f2 : FitsSigned w64 c.args.block.now.width = search rules in
     let least = simp to_z-of_z at c.min-width.ensures.value in
-    let a = c.requires.rest.at_least in
-    let b = c.requires.rest.at_most in
-    let d = c.requires.block.width.at_least in
-    let e = c.requires.block.width.at_most in
-    let limit : IsFrom (pos 0) (pos 1000000000) c.min-width.result = record { at_least = omega (arith, ints, clamps, least, a, d); at_most = omega (arith, ints, clamps, least, e) } in
-    record { at_least = omega (arith, ints, clamps, least, a, b, d); at_most = omega (arith, ints, clamps, least, a, b, d) }
+    let limit : IsFrom (pos 0) (pos 1000000000) c.min-width.result = record { at_least = omega (arith, ints, clamps, least); at_most = omega (arith, ints, clamps, least) } in
+    record { at_least = omega (arith, ints, clamps, least); at_most = omega (arith, ints, clamps, least) }

@@ -23,21 +23,12 @@ loop-place-preserved c =
     let s = schedule_of c.args.response.now in
     let k = c.loop-place.place in
     let known = c.loop-place.invariant in
-    let is = known.is in
-    let low = known.limit.at_least in
-    let high = known.limit.at_most in
     let f : FitsSigned w64 c.power_at.result = search rules in
     let blocks = get_or_from_slice_get b.blocks k (items_in c.get.result.now) [] (map_item items_in c.args.bid.now.blocks.items k c.get.result.now c.get.ensures.item) in
     let power = to_z-of_z w64 c.power_at.result f ∙ c.power_at.ensures.value in
     let value = c.worth_in.ensures.value ∙ ap (worth_of c.as_slice-blocks.result.now) power ∙ ap (λ (l : List Block). worth_of l (power_in s (suc k))) (c.as_slice-blocks.ensures ∙ sym blocks) in
-    let call_low = c.worth_in.ensures.limit.at_least in
-    let call_high = c.worth_in.ensures.limit.at_most in
-    let wide = c.from-sum.ensures in
-    let horizon = c.requires.horizon in
-    let test = c.loop-place-test.true in
-    let len = c.len-place-end.ensures in
     let more = sum_more k (worth_at b s) in
     record {
-      is = omega (arith, ints, is, low, high, value, call_low, call_high, wide, more, horizon, test, len);
-      limit = record { at_least = omega (arith, ints, low, high, call_low, call_high, wide, horizon, test, len); at_most = omega (arith, ints, low, high, call_low, call_high, wide, horizon, test, len) };
+      is = omega (arith, ints, value, more);
+      limit = record { at_least = omega (arith, ints); at_most = omega (arith, ints) };
     }

@@ -14,15 +14,11 @@ loop-block-preserved c =
     let rest = drop (i + 1) bs in
     let known = c.loop-block.invariant in
     let called = c.with_block-bought.ensures in
-    let is = known.is in
     let cut = ap (λ (l : List Block). worth_of l c.loop-block.bought.rest) (drop_more bs i none c.loop-block-test.true) in
-    let worth = called.worth in
     let left = ap (worth_of rest) called.rest in
-    let most = known.worth_limit.at_most in
     let worth_low = called.worth_limit.at_least in
-    let worth_high = called.worth_limit.at_most in
     record {
-      is = omega (arith, ints, is, cut, worth, left);
-      worth_limit = record { at_least = worth_low; at_most = omega (arith, ints, most, worth_high) };
+      is = omega (arith, ints, cut, left);
+      worth_limit = record { at_least = worth_low; at_most = omega (arith, ints) };
       rest_limit = called.rest_limit;
     }

@@ -24,9 +24,7 @@ worth-sum-requires-clause-horizon c =
     let unit_at = map_item named_bid_of c.args.case.now.bids.items i x c.get.ensures.item in
     let whole_at = map_item schedule_of c.args.plan.now.responses.items (first + i) c.get-in-loop-place.result.now c.get-in-loop-place.ensures.item in
     let lengths = item_of (HasLengths c.args.case.now.periods) ps (first + i) s c.requires.lengths whole_at in
-    let on = lengths.0 in
-    let most = c.args.case.now.valid.horizon.at_most in
-    omega (arith, on, most)
+    omega arith
 
 pub worth-sum-requires-clause-blocks : goal.worth-sum-requires-clause-blocks
 worth-sum-requires-clause-blocks c =
@@ -57,21 +55,12 @@ loop-place-preserved c =
     let plan_at = drop_item (length m.thermal + length m.flat) ps i ∙ ap (λ (n : ℕ). slice_get ps (n + i)) skip ∙ whole_at in
     let u_at = map_item (λ (n : NamedBidUnit). Bid n.unit) m.bids i (named_bid_of x) unit_at in
     let known = c.loop-place.invariant in
-    let is = known.is in
-    let low = known.limit.at_least in
-    let high = known.limit.at_most in
-    let value = c.worth-sum.ensures.value in
-    let call_low = c.worth-sum.ensures.limit.at_least in
-    let call_high = c.worth-sum.ensures.limit.at_most in
-    let count = c.args.case.now.valid.bid_count in
     let mapped = length-map c.args.case.now.bids.items named_bid_of in
-    let test = c.loop-place-test.true in
-    let len = c.len-place-end.ensures in
     let more = sum_over-more cost_of (bid_units m) (drop (length m.thermal + length m.flat) ps) i (Bid (bid_of x.bid)) s u_at plan_at in
     record {
-      is = omega (arith, ints, is, low, high, value, call_low, call_high, more, count, mapped, test, len);
+      is = omega (arith, ints, more, mapped);
       limit = record {
-        at_least = omega (arith, ints, low, high, call_low, call_high, count, mapped, test, len);
-        at_most = omega (arith, ints, low, high, call_low, call_high, count, mapped, test, len);
+        at_least = omega (arith, ints, mapped);
+        at_most = omega (arith, ints, mapped);
       };
     }

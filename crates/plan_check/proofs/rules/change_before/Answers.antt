@@ -12,11 +12,10 @@ returns-then-on_in_period-on c =
 pub back-preserved : goal.back-preserved
 back-preserved c =
     let known = c.back.invariant in
-    let within = known.within in
     let same : c.on_in_period.result ≡ c.on_in_period-on.result = search rules in
     let on = sym c.on_in_period.ensures ∙ same in
     record {
-      within = omega (arith, within);
+      within = omega arith;
       on = on;
       since = known.since ∙ changed_back (thermal_of c.args.unit.now) (schedule_of c.args.response.now) c.back.since (search rules) (on ∙ sym known.on);
     }

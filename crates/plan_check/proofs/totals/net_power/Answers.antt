@@ -42,8 +42,4 @@ returns-clause-value c =
     let back = c.split_at.ensures.back ∙ ap (λ (rs : List Response). drop c.producer_count-producers.result rs) c.as_slice.ensures in
     let given = c.totals_at-given.ensures.power ∙ ap (λ (rs : List Response). powers_at (map schedule_of rs) k) front ∙ ap (λ ss. powers_at ss k) (sym (take-map schedule_of n items)) in
     let bought = c.totals_at-bought.ensures.power ∙ ap (λ (rs : List Response). powers_at (map schedule_of rs) k) back ∙ ap (λ ss. powers_at ss k) (sym (drop-map schedule_of n items)) in
-    let a = c.totals_at-given.ensures.power_limit.at_least in
-    let b = c.totals_at-given.ensures.power_limit.at_most in
-    let d = c.totals_at-bought.ensures.power_limit.at_least in
-    let e = c.totals_at-bought.ensures.power_limit.at_most in
-    omega (arith, ints, whole, front_n, back_n, given, bought, a, b, d, e)
+    omega (arith, ints, whole, front_n, back_n, given, bought)

@@ -20,19 +20,11 @@ loop-response-preserved c =
     let more = take_more rs i x c.loop-response-test.true ∙ ap (λ (y : Response). take i rs ++ y ∷ []) (sym c.response-item.is) in
     let powers = ap (λ (l : List Response). powers_at (map schedule_of l) k) more ∙ total_map-append (λ (s : Schedule). power_in s (suc k)) schedule_of (take i rs) x in
     let reserves = ap (λ (l : List Response). reserves_at (map schedule_of l) k) more ∙ total_map-append (λ (s : Schedule). reserve_in s (suc k)) schedule_of (take i rs) x in
-    let p = known.power in
-    let q = known.reserve in
-    let p_high = known.power_limit.at_most in
-    let q_high = known.reserve_limit.at_most in
-    let cp = called.power in
-    let cq = called.reserve in
     let cp_low = called.power_limit.at_least in
-    let cp_high = called.power_limit.at_most in
     let cq_low = called.reserve_limit.at_least in
-    let cq_high = called.reserve_limit.at_most in
     record {
-      power = omega (arith, ints, p, cp, powers);
-      reserve = omega (arith, ints, q, cq, reserves);
-      power_limit = record { at_least = cp_low; at_most = omega (arith, ints, p_high, cp_high) };
-      reserve_limit = record { at_least = cq_low; at_most = omega (arith, ints, q_high, cq_high) };
+      power = omega (arith, ints, powers);
+      reserve = omega (arith, ints, reserves);
+      power_limit = record { at_least = cp_low; at_most = omega (arith, ints) };
+      reserve_limit = record { at_least = cq_low; at_most = omega (arith, ints) };
     }
