@@ -7,7 +7,7 @@ use Rattle.std.specs.List.{flat_map}
 use Rattle.uc_model.specs.declared.kinds.Kind.TheVariants as kinds
 use Rattle.uc_model.specs.declared.kinds.RuleCode.TheVariants.{RenewableRange, BidRange, MustRun, Initial, MinUp, MinDown, Range, StartCap, StopCap, RampUp, RampDown, Window}
 use Rattle.uc_model.specs.Data.{ThermalUnit, Schedule, NamedThermalUnit, NamedRenewableUnit, NamedBidUnit}
-use Rattle.uc_model.specs.Refusals.{Refusal, told, must_run_broken, initial_broken, min_up_broken, min_down_broken, range_broken, start_broken, stop_broken, ramp_up_broken, ramp_down_broken, window_broken, renewable_broken, bid_broken, thermal_refusals, all_thermal, all_renewable, all_bids}
+use Rattle.uc_model.specs.Refusals.{Refusal, told, renewable_broken, bid_broken, thermal_refusals, all_thermal, all_renewable, all_bids}
 use Rattle.uc_model.proofs.ListLaws.{none_some, same_item}
 use Rattle.plan_check.specs.States.{rule_refusals}
 use Rattle.plan_check.proofs.ToldLaws.{append_nil, first_left, first_right}
@@ -30,22 +30,9 @@ module _ {X : Type 0} (f : X → List Refusal) (xs : List X) (i : ℕ) (d : X) (
       ∙ first_right (flat_map f (take i xs)) (flat_map f (item ∷ rest)) r before (first_left (f item) (flat_map f rest) r here)
 
 -- the thermal rules one after another
-regrouped : (a b c d e f g h i j : List Refusal) → a ++ b ++ c ++ d ++ e ++ f ++ g ++ h ++ i ++ j ≡ a ++ (b ++ (c ++ (d ++ (e ++ (f ++ (g ++ (h ++ (i ++ (j ++ [])))))))))
-regrouped a b c d e f g h i j = simp (append_assoc, append-nil)
-
 pub thermal_rules : (periods unit : ℕ) (g : ThermalUnit) (s : Schedule) →
     thermal_refusals periods unit g s ≡ flat_map (rule_refusals periods unit g s) (MustRun ∷ Initial ∷ MinUp ∷ MinDown ∷ Range ∷ StartCap ∷ StopCap ∷ RampUp ∷ RampDown ∷ Window ∷ [])
-thermal_rules periods unit g s =
-    regrouped (told MustRun kinds.Thermal unit periods 1 (must_run_broken g s))
-    (told Initial kinds.Thermal unit periods 1 (initial_broken g s))
-    (told MinUp kinds.Thermal unit periods 1 (min_up_broken g s))
-    (told MinDown kinds.Thermal unit periods 1 (min_down_broken g s))
-    (told Range kinds.Thermal unit periods 1 (range_broken g s))
-    (told StartCap kinds.Thermal unit periods 1 (start_broken g s))
-    (told StopCap kinds.Thermal unit periods 0 (stop_broken g s))
-    (told RampUp kinds.Thermal unit periods 1 (ramp_up_broken g s))
-    (told RampDown kinds.Thermal unit periods 1 (ramp_down_broken g s))
-    (told Window kinds.Thermal unit periods 1 (window_broken g s))
+thermal_rules periods unit g s = simp (append_assoc, append-nil)
 
 -- ---- over units with their schedules
 

@@ -8,7 +8,7 @@ use Rattle.uc_model.specs.declared.kinds.Kind.TheVariants as kinds
 use Rattle.uc_model.specs.declared.kinds.RuleCode.TheVariants.{RenewableRange, BidRange, Balance, Reserve}
 use Rattle.uc_model.specs.Data.{AnyUnit, Thermal, Flat, Bid, NamedThermalUnit, NamedRenewableUnit, NamedBidUnit, RenewableUnit, BidUnit, Schedule, Market, units}
 use Rattle.uc_model.specs.Laws.{HasPlanShape, RefusalsAreExact}
-use Rattle.uc_model.specs.Refusals.{Refusal, unless, renewable_broken, bid_broken, balance_broken, reserve_broken, told, thermal_refusals, all_thermal, all_renewable, all_bids, refusals}
+use Rattle.uc_model.specs.Refusals.{unless, renewable_broken, bid_broken, balance_broken, reserve_broken, told, thermal_refusals, all_thermal, all_renewable, all_bids, refusals}
 use Rattle.uc_model.specs.Schedules.{power_in, IsFeasible, IsRenewableFeasible, IsBidFeasible, width_of, blocks_at}
 use Rattle.uc_model.specs.Sums.{int_at}
 use Rattle.uc_model.specs.Systems.{total_power, total_reserve, IsFeasiblePlan}
@@ -149,21 +149,6 @@ module _ (m : Market) (plan : List Schedule) (shape : HasPlanShape m plan) where
   abbrev last : List Schedule
   last = drop (length m.thermal + length m.flat) plan
 
-  abbrev p1 : List Refusal
-  p1 = all_thermal m.periods 1 m.thermal plan
-
-  abbrev p2 : List Refusal
-  p2 = all_renewable m.periods 1 m.flat later
-
-  abbrev p3 : List Refusal
-  p3 = all_bids m.periods 1 m.bids last
-
-  abbrev p4 : List Refusal
-  p4 = told Balance kinds.Case 0 m.periods 1 (balance_broken m plan)
-
-  abbrev p5 : List Refusal
-  p5 = told Reserve kinds.Case 0 m.periods 1 (reserve_broken m plan)
-
   lengths : All (HasLengths m.periods) plan
   lengths = shape.lengths
 
@@ -178,23 +163,24 @@ module _ (m : Market) (plan : List Schedule) (shape : HasPlanShape m plan) where
 
   feasible_none : refusals m plan ≡ [] → IsFeasiblePlan m plan
   feasible_none none =
-      let e4 = append_nil_left (p1 ++ p2 ++ p3 ++ p4) p5 none in
-      let e3 = append_nil_left (p1 ++ p2 ++ p3) p4 e4 in
-      let e2 = append_nil_left (p1 ++ p2) p3 e3 in
-      let later_length = length-drop (length m.thermal) plan in
-      let last_length = length-drop (length m.thermal + length m.flat) plan in
+      let units_left : length m.thermal ≤ length plan = omega arith in
+      let flat_left : length m.flat ≤ length later = omega (arith, length-drop (length m.thermal) plan) in
+      let bids_left : length m.bids ≡ length last = omega (arith, length-drop (length m.thermal + length m.flat) plan) in
+      let e4 = append_nil_left _ _ none in
+      let e3 = append_nil_left _ _ e4 in
+      let e2 = append_nil_left _ _ e3 in
       let later_lengths = All-drop (HasLengths m.periods) (length m.thermal) plan lengths in
       let last_lengths = All-drop (HasLengths m.periods) (length m.thermal + length m.flat) plan lengths in
-      let z3 = bid_feasible m.periods 1 m.bids last (omega (arith, last_length)) last_lengths steady_last (append_nil_right (p1 ++ p2) p3 e3) in
-      let z2 = renewable_feasible m.periods 1 m.flat later (bids m.periods m.bids) (omega (arith, later_length)) later_lengths shape.always_on (append_nil_right p1 p2 e2) (subst (AllZip (Feasible m.periods) (bids m.periods m.bids)) last_is z3) in
-      let z1 = thermal_feasible m.periods 1 m.thermal plan (flat m.periods m.flat ++ bids m.periods m.bids) (omega arith) lengths (append_nil_left p1 p2 e2) z2 in
+      let z3 = bid_feasible m.periods 1 m.bids last bids_left last_lengths steady_last (append_nil_right _ _ e3) in
+      let z2 = renewable_feasible m.periods 1 m.flat later (bids m.periods m.bids) flat_left later_lengths shape.always_on (append_nil_right _ _ e2) (subst (AllZip (Feasible m.periods) (bids m.periods m.bids)) last_is z3) in
+      let z1 = thermal_feasible m.periods 1 m.thermal plan (flat m.periods m.flat ++ bids m.periods m.bids) units_left lengths (append_nil_left _ _ e2) z2 in
       record {
         feasible = subst (λ us. AllZip (Feasible m.periods) us plan) (sym units_are) z1;
         balance = λ k lt.
-            let test = unless_none (int_le (total_power (units m) plan k) (int_at m.demand k) && int_le (int_at m.demand k) (total_power (units m) plan k)) (total_power (units m) plan k) (int_at m.demand k) (told_all Balance kinds.Case 0 m.periods 1 (balance_broken m plan) (append_nil_right (p1 ++ p2 ++ p3) p4 e4) k lt) in
+            let test = unless_none (int_le (total_power (units m) plan k) (int_at m.demand k) && int_le (int_at m.demand k) (total_power (units m) plan k)) (total_power (units m) plan k) (int_at m.demand k) (told_all Balance kinds.Case 0 m.periods 1 (balance_broken m plan) (append_nil_right _ _ e4) k lt) in
             let both = both_true (int_le (total_power (units m) plan k) (int_at m.demand k)) (int_le (int_at m.demand k) (total_power (units m) plan k)) test in
             same_number (total_power (units m) plan k) (int_at m.demand k) (le_from_z (total_power (units m) plan k) (int_at m.demand k) both.0) (le_from_z (int_at m.demand k) (total_power (units m) plan k) both.1);
-        reserve = λ k lt. le_from_z (int_at m.reserves k) (total_reserve (units m) plan k) (unless_none (int_le (int_at m.reserves k) (total_reserve (units m) plan k)) (int_at m.reserves k) (total_reserve (units m) plan k) (told_all Reserve kinds.Case 0 m.periods 1 (reserve_broken m plan) (append_nil_right (p1 ++ p2 ++ p3 ++ p4) p5 none) k lt));
+        reserve = λ k lt. le_from_z (int_at m.reserves k) (total_reserve (units m) plan k) (unless_none (int_le (int_at m.reserves k) (total_reserve (units m) plan k)) (int_at m.reserves k) (total_reserve (units m) plan k) (told_all Reserve kinds.Case 0 m.periods 1 (reserve_broken m plan) (append_nil_right _ _ none) k lt));
       }
 
   none_feasible : IsFeasiblePlan m plan → refusals m plan ≡ []
@@ -202,13 +188,13 @@ module _ (m : Market) (plan : List Schedule) (shape : HasPlanShape m plan) where
       let z1 = thermal_none m.periods 1 m.thermal plan (flat m.periods m.flat ++ bids m.periods m.bids) lengths (subst (λ us. AllZip (Feasible m.periods) us plan) units_are f.feasible) in
       let z2 = renewable_none m.periods 1 m.flat later (bids m.periods m.bids) z1.1 in
       let z3 = bid_none m.periods 1 m.bids last (subst (AllZip (Feasible m.periods) (bids m.periods m.bids)) (sym last_is) z2.1) in
-      let e2 = append_nil p1 p2 z1.0 z2.0 in
-      let e3 = append_nil (p1 ++ p2) p3 e2 z3 in
-      let e4 = append_nil (p1 ++ p2 ++ p3) p4 e3 (told_none Balance kinds.Case 0 m.periods 1 (balance_broken m plan) (λ k lt.
+      let e2 = append_nil _ _ z1.0 z2.0 in
+      let e3 = append_nil _ _ e2 z3 in
+      let e4 = append_nil _ _ e3 (told_none Balance kinds.Case 0 m.periods 1 (balance_broken m plan) (λ k lt.
       unless_holds (int_le (total_power (units m) plan k) (int_at m.demand k) && int_le (int_at m.demand k) (total_power (units m) plan k)) (total_power (units m) plan k) (int_at m.demand k)
       (let b = f.balance k lt in
       and_true (int_le (total_power (units m) plan k) (int_at m.demand k)) (int_le (int_at m.demand k) (total_power (units m) plan k)) (le_to_z (total_power (units m) plan k) (int_at m.demand k) (below (total_power (units m) plan k) (int_at m.demand k) b)) (le_to_z (int_at m.demand k) (total_power (units m) plan k) (below (int_at m.demand k) (total_power (units m) plan k) (sym b)))))) in
-      append_nil (p1 ++ p2 ++ p3 ++ p4) p5 e4 (told_none Reserve kinds.Case 0 m.periods 1 (reserve_broken m plan) (λ k lt.
+      append_nil _ _ e4 (told_none Reserve kinds.Case 0 m.periods 1 (reserve_broken m plan) (λ k lt.
       unless_holds (int_le (int_at m.reserves k) (total_reserve (units m) plan k)) (int_at m.reserves k) (total_reserve (units m) plan k) (le_to_z (int_at m.reserves k) (total_reserve (units m) plan k) (f.reserve k lt))))
 
 pub refusals_are_exact : RefusalsAreExact

@@ -1,5 +1,5 @@
 -- How long a unit has been on or off, and that the tests of the minimum times are the rules.
-use Rattle.std.proofs.Common.{◌≡◌, ℕ, zero, suc, ◌+◌, ◌-◌, ◌<◌, ◌≤◌, ◌⊎◌, inl, inr, pos, Bool, true, false, not, ◌&&◌, cond, Option, Some, None, IsTrue, refl, sym, ap, ◌∙◌, arith}
+use Rattle.std.proofs.Common.{◌≡◌, ℕ, zero, suc, ◌+◌, ◌-◌, ◌<◌, ◌≤◌, ◌⊎◌, inl, inr, ℤ, pos, Bool, true, false, not, ◌&&◌, cond, Option, Some, None, IsTrue, refl, sym, ap, ◌∙◌, arith}
 use Rattle.std.specs.Prelude.{nat_le, length}
 use Rattle.std.specs.Option.{option_and_then}
 use Rattle.std.proofs.lemmas.Bool.Decides.{nat_tests}
@@ -41,6 +41,15 @@ differ_is false false e = absurd (false_true (sym e))
 
 pub true_false : true ≡ false → ⊥
 true_false h = cc
+
+not_both : (b : Bool) → not b ≡ b → ⊥
+not_both true h = cc
+not_both false h = cc
+
+same_or_not : (a b : Bool) → (a ≡ b) ⊎ (a ≡ not b)
+same_or_not a true = true_or_false a
+same_or_not true false = inr refl
+same_or_not false false = inl refl
 
 opposite : (b : Bool) → same_flag (not b) b ≡ false
 opposite true = refl
@@ -126,108 +135,77 @@ module _ (g : ThermalUnit) (s : Schedule) where
   pub stops_from : (m : ℕ) → on_in g s m ≡ true → on_in g s (suc m) ≡ false → IsTrue (stops_in g s (suc m))
   stops_from m a b = and_true (on_in g s m) (not (on_in g s (suc m))) a (ap not b)
 
-  -- ---- minimum time up: what the test clears, and what it tells
+  -- ---- minimum times: what the test clears, and what it tells
 
-  module _ (clear : (k : ℕ) → k < length s.on → min_up_broken g s k ≡ None) where
-    still_up : (m d : ℕ) → IsTrue (starts_in g s (suc m)) → suc d < g.min_up → suc m + suc d ≤ length s.on → ((j : ℕ) → suc m ≤ j → j ≤ suc m + d → on_in g s j ≡ true) → on_in g s (suc (suc m + d)) ≡ true
-    still_up m d begun short within before =
-        elim (true_or_false (on_in g s (suc (suc m + d)))) [
-          | inl as_it_was ↦ as_it_was
-          | inr turned ↦
-              let k : ℕ = suc m + d in
-              let ended = stops_from k (before k (omega arith) (omega arith)) turned in
-              let since = changed_run true m d (starts_is m begun).0 before in
-              let inner = if_none (stops_in g s (suc k)) (option_and_then (λ (c : ℕ). unless (nat_le g.min_up (suc k - c)) (pos (suc k - c)) (pos g.min_up)) (changed_in g s k)) (clear k (omega (arith, within))) ended in
-              let test = unless_none (nat_le g.min_up (suc k - suc m)) (pos (suc k - suc m)) (pos g.min_up) (sym (ap (option_and_then (λ (c : ℕ). unless (nat_le g.min_up (suc k - c)) (pos (suc k - c)) (pos g.min_up))) since) ∙ inner) in
-              let long = le_from g.min_up (suc k - suc m) test in
-              absurd (omega (arith, long, short))
-        ]
+  -- of runs of periods that are on, or of periods that are off: where one begins and ends, and how long it is to last
+  module _ (b : Bool) (least : ℕ) (begins ends : ℕ → Bool)
+      (begun_is : (m : ℕ) → IsTrue (begins (suc m)) → (on_in g s m ≡ not b) × (on_in g s (suc m) ≡ b))
+      (begun_from : (m : ℕ) → on_in g s m ≡ not b → on_in g s (suc m) ≡ b → IsTrue (begins (suc m)))
+      (ended_is : (m : ℕ) → IsTrue (ends (suc m)) → (on_in g s m ≡ b) × (on_in g s (suc m) ≡ not b))
+      (ended_from : (m : ℕ) → on_in g s m ≡ b → on_in g s (suc m) ≡ not b → IsTrue (ends (suc m))) where
+    abbrev short_of : ℕ → ℕ → Option (ℤ × ℤ)
+    short_of k c = unless (nat_le least (suc k - c)) (pos (suc k - c)) (pos least)
 
-    up_run : (m d : ℕ) → IsTrue (starts_in g s (suc m)) → d < g.min_up → suc m + d ≤ length s.on → (j : ℕ) → suc m ≤ j → j ≤ suc m + d → on_in g s j ≡ true
-    up_run m zero begun short within j low high = let here : j ≡ suc m = omega (arith, low, high) in ap (on_in g s) here ∙ (starts_is m begun).1
-    up_run m (suc d) begun short within j low high =
-        let before = up_run m d begun (omega (arith, short)) (omega (arith, within)) in
-        elim (inner_or_last j (suc m + d) (omega (arith, high))) [
-          | inl inner ↦ before j low inner
-          | inr end ↦ ap (on_in g s) end ∙ still_up m d begun short within before
-        ]
+    abbrev broken : ℕ → Option (ℤ × ℤ)
+    broken k = cond (ends (suc k)) (option_and_then (λ (c : ℕ). short_of k c) (changed_in g s k)) None
 
-    pub keeps_up : (begun t : ℕ) → IsTrue (starts_in g s begun) → begun ≤ t → t < begun + g.min_up → IsPeriod s t → on_in g s t ≡ true
-    keeps_up zero t h low high period = absurd (false_true h)
-    keeps_up (suc m) t h low high period =
-        up_run m (t - suc m) h (omega (arith, low, high)) (omega (arith, low)) t low (omega (arith, low))
+    module _ (clear : (k : ℕ) → k < length s.on → broken k ≡ None) where
+      still : (m d : ℕ) → IsTrue (begins (suc m)) → suc d < least → suc m + suc d ≤ length s.on → ((j : ℕ) → suc m ≤ j → j ≤ suc m + d → on_in g s j ≡ b) → on_in g s (suc (suc m + d)) ≡ b
+      still m d begun short within before =
+          elim (same_or_not (on_in g s (suc (suc m + d))) b) [
+            | inl as_it_was ↦ as_it_was
+            | inr turned ↦
+                let k : ℕ = suc m + d in
+                let ended = ended_from k (before k (omega arith) (omega arith)) turned in
+                let since = changed_run b m d (begun_is m begun).0 before in
+                let inner = if_none (ends (suc k)) (option_and_then (λ (c : ℕ). short_of k c) (changed_in g s k)) (clear k (omega (arith, within))) ended in
+                let test = unless_none (nat_le least (suc k - suc m)) (pos (suc k - suc m)) (pos least) (sym (ap (option_and_then (λ (c : ℕ). short_of k c)) since) ∙ inner) in
+                let long = le_from least (suc k - suc m) test in
+                absurd (omega (arith, long, short))
+          ]
 
-  module _ (keeps : (begun t : ℕ) → IsTrue (starts_in g s begun) → begun ≤ t → t < begun + g.min_up → IsPeriod s t → on_in g s t ≡ true) where
-    up_test : (k c : ℕ) → k < length s.on → IsTrue (stops_in g s (suc k)) → changed_in g s k ≡ Some c → unless (nat_le g.min_up (suc k - c)) (pos (suc k - c)) (pos g.min_up) ≡ None
-    up_test k c lt ended since =
-        let r = IsRunSince-changed k c since in
-        let reached = r.reached in
-        let now = (stops_is k ended).0 in
-        let first = r.run (suc r.before) (omega arith) reached ∙ now in
-        let begun = starts_from r.before (r.changed ∙ ap not first) first in
-        elim (le_or_gt g.min_up (suc k - c)) [
-          | inl long ↦ unless_holds (nat_le g.min_up (suc k - c)) (pos (suc k - c)) (pos g.min_up) (le_to g.min_up (suc k - c) long)
-          | inr short ↦
-              let on = keeps (suc r.before) (suc k) begun (omega (arith, reached)) (omega (arith, short)) (record { from_one = omega arith; to_last = omega (arith, lt) }) in
-              absurd (false_true (sym (stops_is k ended).1 ∙ on))
-        ]
+      run_on : (m d : ℕ) → IsTrue (begins (suc m)) → d < least → suc m + d ≤ length s.on → (j : ℕ) → suc m ≤ j → j ≤ suc m + d → on_in g s j ≡ b
+      run_on m zero begun short within j low high = let here : j ≡ suc m = omega (arith, low, high) in ap (on_in g s) here ∙ (begun_is m begun).1
+      run_on m (suc d) begun short within j low high =
+          let before = run_on m d begun (omega (arith, short)) (omega (arith, within)) in
+          elim (inner_or_last j (suc m + d) (omega (arith, high))) [
+            | inl inner ↦ before j low inner
+            | inr end ↦ ap (on_in g s) end ∙ still m d begun short within before
+          ]
 
-    up_option : (k : ℕ) → k < length s.on → IsTrue (stops_in g s (suc k)) → (o : Option ℕ) → changed_in g s k ≡ o → option_and_then (λ (c : ℕ). unless (nat_le g.min_up (suc k - c)) (pos (suc k - c)) (pos g.min_up)) o ≡ None
-    up_option k lt ended None e = refl
-    up_option k lt ended (Some c) e = up_test k c lt ended e
+      keeps_run : (m t : ℕ) → IsTrue (begins (suc m)) → suc m ≤ t → t < suc m + least → IsPeriod s t → on_in g s t ≡ b
+      keeps_run m t h low high period = run_on m (t - suc m) h (omega (arith, low, high)) (omega (arith, low)) t low (omega (arith, low))
 
-    pub clear_up : (k : ℕ) → k < length s.on → min_up_broken g s k ≡ None
-    clear_up k lt = if_holds (stops_in g s (suc k)) (option_and_then (λ (c : ℕ). unless (nat_le g.min_up (suc k - c)) (pos (suc k - c)) (pos g.min_up)) (changed_in g s k)) (λ ended. up_option k lt ended (changed_in g s k) refl)
+    module _ (keeps : (begun t : ℕ) → IsTrue (begins begun) → begun ≤ t → t < begun + least → IsPeriod s t → on_in g s t ≡ b) where
+      long_enough : (k c : ℕ) → k < length s.on → IsTrue (ends (suc k)) → changed_in g s k ≡ Some c → short_of k c ≡ None
+      long_enough k c lt ended since =
+          let r = IsRunSince-changed k c since in
+          let first = r.run (suc r.before) (omega arith) r.reached ∙ (ended_is k ended).0 in
+          let begun = begun_from r.before (r.changed ∙ ap not first) first in
+          elim (le_or_gt least (suc k - c)) [
+            | inl long ↦ unless_holds (nat_le least (suc k - c)) (pos (suc k - c)) (pos least) (le_to least (suc k - c) long)
+            | inr short ↦
+                let here = keeps (suc r.before) (suc k) begun (omega arith) (omega (arith, short)) (record { from_one = omega arith; to_last = omega (arith, lt) }) in
+                absurd (not_both b (sym (ended_is k ended).1 ∙ here))
+          ]
 
-  -- ---- minimum time down
+      option_clear : (k : ℕ) → k < length s.on → IsTrue (ends (suc k)) → (o : Option ℕ) → changed_in g s k ≡ o → option_and_then (λ (c : ℕ). short_of k c) o ≡ None
+      option_clear k lt ended None e = refl
+      option_clear k lt ended (Some c) e = long_enough k c lt ended e
 
-  module _ (clear : (k : ℕ) → k < length s.on → min_down_broken g s k ≡ None) where
-    still_down : (m d : ℕ) → IsTrue (stops_in g s (suc m)) → suc d < g.min_down → suc m + suc d ≤ length s.on → ((j : ℕ) → suc m ≤ j → j ≤ suc m + d → on_in g s j ≡ false) → on_in g s (suc (suc m + d)) ≡ false
-    still_down m d begun short within before =
-        elim (true_or_false (on_in g s (suc (suc m + d)))) [
-          | inr as_it_was ↦ as_it_was
-          | inl turned ↦
-              let k : ℕ = suc m + d in
-              let ended = starts_from k (before k (omega arith) (omega arith)) turned in
-              let since = changed_run false m d (stops_is m begun).0 before in
-              let inner = if_none (starts_in g s (suc k)) (option_and_then (λ (c : ℕ). unless (nat_le g.min_down (suc k - c)) (pos (suc k - c)) (pos g.min_down)) (changed_in g s k)) (clear k (omega (arith, within))) ended in
-              let test = unless_none (nat_le g.min_down (suc k - suc m)) (pos (suc k - suc m)) (pos g.min_down) (sym (ap (option_and_then (λ (c : ℕ). unless (nat_le g.min_down (suc k - c)) (pos (suc k - c)) (pos g.min_down))) since) ∙ inner) in
-              let long = le_from g.min_down (suc k - suc m) test in
-              absurd (omega (arith, long, short))
-        ]
+      clear_run : (k : ℕ) → k < length s.on → broken k ≡ None
+      clear_run k lt = if_holds (ends (suc k)) (option_and_then (λ (c : ℕ). short_of k c) (changed_in g s k)) (λ ended. option_clear k lt ended (changed_in g s k) refl)
 
-    down_run : (m d : ℕ) → IsTrue (stops_in g s (suc m)) → d < g.min_down → suc m + d ≤ length s.on → (j : ℕ) → suc m ≤ j → j ≤ suc m + d → on_in g s j ≡ false
-    down_run m zero begun short within j low high = let here : j ≡ suc m = omega (arith, low, high) in ap (on_in g s) here ∙ (stops_is m begun).1
-    down_run m (suc d) begun short within j low high =
-        let before = down_run m d begun (omega (arith, short)) (omega (arith, within)) in
-        elim (inner_or_last j (suc m + d) (omega (arith, high))) [
-          | inl inner ↦ before j low inner
-          | inr end ↦ ap (on_in g s) end ∙ still_down m d begun short within before
-        ]
+  pub keeps_up : ((k : ℕ) → k < length s.on → min_up_broken g s k ≡ None) → (begun t : ℕ) → IsTrue (starts_in g s begun) → begun ≤ t → t < begun + g.min_up → IsPeriod s t → on_in g s t ≡ true
+  keeps_up clear zero t h low high period = absurd (false_true h)
+  keeps_up clear (suc m) t h low high period = keeps_run true g.min_up (starts_in g s) (stops_in g s) starts_is starts_from stops_is stops_from clear m t h low high period
 
-    pub keeps_down : (begun t : ℕ) → IsTrue (stops_in g s begun) → begun ≤ t → t < begun + g.min_down → IsPeriod s t → on_in g s t ≡ false
-    keeps_down zero t h low high period = absurd (false_true h)
-    keeps_down (suc m) t h low high period =
-        down_run m (t - suc m) h (omega (arith, low, high)) (omega (arith, low)) t low (omega (arith, low))
+  pub clear_up : ((begun t : ℕ) → IsTrue (starts_in g s begun) → begun ≤ t → t < begun + g.min_up → IsPeriod s t → on_in g s t ≡ true) → (k : ℕ) → k < length s.on → min_up_broken g s k ≡ None
+  clear_up = clear_run true g.min_up (starts_in g s) (stops_in g s) starts_is starts_from stops_is stops_from
 
-  module _ (keeps : (begun t : ℕ) → IsTrue (stops_in g s begun) → begun ≤ t → t < begun + g.min_down → IsPeriod s t → on_in g s t ≡ false) where
-    down_test : (k c : ℕ) → k < length s.on → IsTrue (starts_in g s (suc k)) → changed_in g s k ≡ Some c → unless (nat_le g.min_down (suc k - c)) (pos (suc k - c)) (pos g.min_down) ≡ None
-    down_test k c lt ended since =
-        let r = IsRunSince-changed k c since in
-        let reached = r.reached in
-        let now = (starts_is k ended).0 in
-        let first = r.run (suc r.before) (omega arith) reached ∙ now in
-        let begun = stops_from r.before (r.changed ∙ ap not first) first in
-        elim (le_or_gt g.min_down (suc k - c)) [
-          | inl long ↦ unless_holds (nat_le g.min_down (suc k - c)) (pos (suc k - c)) (pos g.min_down) (le_to g.min_down (suc k - c) long)
-          | inr short ↦
-              let on = keeps (suc r.before) (suc k) begun (omega (arith, reached)) (omega (arith, short)) (record { from_one = omega arith; to_last = omega (arith, lt) }) in
-              absurd (true_false (sym (starts_is k ended).1 ∙ on))
-        ]
+  pub keeps_down : ((k : ℕ) → k < length s.on → min_down_broken g s k ≡ None) → (begun t : ℕ) → IsTrue (stops_in g s begun) → begun ≤ t → t < begun + g.min_down → IsPeriod s t → on_in g s t ≡ false
+  keeps_down clear zero t h low high period = absurd (false_true h)
+  keeps_down clear (suc m) t h low high period = keeps_run false g.min_down (stops_in g s) (starts_in g s) stops_is stops_from starts_is starts_from clear m t h low high period
 
-    down_option : (k : ℕ) → k < length s.on → IsTrue (starts_in g s (suc k)) → (o : Option ℕ) → changed_in g s k ≡ o → option_and_then (λ (c : ℕ). unless (nat_le g.min_down (suc k - c)) (pos (suc k - c)) (pos g.min_down)) o ≡ None
-    down_option k lt ended None e = refl
-    down_option k lt ended (Some c) e = down_test k c lt ended e
-
-    pub clear_down : (k : ℕ) → k < length s.on → min_down_broken g s k ≡ None
-    clear_down k lt = if_holds (starts_in g s (suc k)) (option_and_then (λ (c : ℕ). unless (nat_le g.min_down (suc k - c)) (pos (suc k - c)) (pos g.min_down)) (changed_in g s k)) (λ ended. down_option k lt ended (changed_in g s k) refl)
+  pub clear_down : ((begun t : ℕ) → IsTrue (stops_in g s begun) → begun ≤ t → t < begun + g.min_down → IsPeriod s t → on_in g s t ≡ false) → (k : ℕ) → k < length s.on → min_down_broken g s k ≡ None
+  clear_down = clear_run false g.min_down (stops_in g s) (starts_in g s) stops_is stops_from starts_is starts_from

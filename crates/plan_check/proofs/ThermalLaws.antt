@@ -1,5 +1,5 @@
 -- What is refused of a thermal unit's schedule is what keeps it from being feasible.
-use Rattle.std.proofs.Common.{◌≡◌, ℕ, zero, suc, ◌-◌, ◌<◌, ◌≤◌, inl, inr, ℤ, pos, ◌+ℤ◌, ◌-ℤ◌, ◌≤ℤ◌, Bool, true, false, not, ◌&&◌, cond, None, IsTrue, IsFalse, List, [], ◌++◌, length, refl, sym, ap, ◌∙◌, arith}
+use Rattle.std.proofs.Common.{◌≡◌, ℕ, zero, suc, ◌-◌, ◌<◌, ◌≤◌, inl, inr, ℤ, pos, ◌+ℤ◌, ◌-ℤ◌, ◌≤ℤ◌, Bool, true, false, not, ◌&&◌, cond, None, IsTrue, IsFalse, [], length, refl, sym, ap, ◌∙◌, arith}
 use Rattle.std.proofs.lemmas.Int.{ints, clamps}
 use Rattle.std.specs.Prelude.{nat_le, int_le, slice_index}
 use Rattle.std.specs.Int.{int_min}
@@ -8,7 +8,7 @@ use Rattle.uc_model.specs.declared.units.Mark.TheVariants.{Free, MustOff, MustOn
 use Rattle.uc_model.specs.declared.kinds.Kind.TheVariants as kinds
 use Rattle.uc_model.specs.declared.kinds.RuleCode.TheVariants.{MustRun, Initial, MinUp, MinDown, Range, StartCap, StopCap, RampUp, RampDown, Window}
 use Rattle.uc_model.specs.Data.{ThermalUnit, Schedule}
-use Rattle.uc_model.specs.Refusals.{Refusal, unless, or_else, same_flag, must_run_broken, initial_broken, min_up_broken, min_down_broken, range_broken, start_broken, output_in, stop_broken, ramp_up_broken, ramp_down_broken, mark_broken, window_broken, told, thermal_refusals}
+use Rattle.uc_model.specs.Refusals.{unless, or_else, same_flag, must_run_broken, initial_broken, min_up_broken, min_down_broken, range_broken, start_broken, output_in, stop_broken, ramp_up_broken, ramp_down_broken, mark_broken, window_broken, thermal_refusals}
 use Rattle.uc_model.specs.Schedules.{on_in, power_in, reserve_in, above_min, above_with_reserve, starts_in, stops_in, IsPeriod, mark_in, KeepsCommitment, cap_of, KeepsDispatch, IsThermalFeasible}
 use Rattle.uc_model.specs.TaskLists.{flag_number}
 use Rattle.uc_model.proofs.ListLaws.{true_or_false}
@@ -30,71 +30,41 @@ pub record IsClear (periods : ℕ) (g : ThermalUnit) (s : Schedule) : Type 0 whe
   pub window : (k : ℕ) → k < periods → window_broken g s k ≡ None
 
 module _ (periods unit : ℕ) (g : ThermalUnit) (s : Schedule) where
-  abbrev t1 : List Refusal
-  t1 = told MustRun kinds.Thermal unit periods 1 (must_run_broken g s)
-
-  abbrev t2 : List Refusal
-  t2 = told Initial kinds.Thermal unit periods 1 (initial_broken g s)
-
-  abbrev t3 : List Refusal
-  t3 = told MinUp kinds.Thermal unit periods 1 (min_up_broken g s)
-
-  abbrev t4 : List Refusal
-  t4 = told MinDown kinds.Thermal unit periods 1 (min_down_broken g s)
-
-  abbrev t5 : List Refusal
-  t5 = told Range kinds.Thermal unit periods 1 (range_broken g s)
-
-  abbrev t6 : List Refusal
-  t6 = told StartCap kinds.Thermal unit periods 1 (start_broken g s)
-
-  abbrev t7 : List Refusal
-  t7 = told StopCap kinds.Thermal unit periods 0 (stop_broken g s)
-
-  abbrev t8 : List Refusal
-  t8 = told RampUp kinds.Thermal unit periods 1 (ramp_up_broken g s)
-
-  abbrev t9 : List Refusal
-  t9 = told RampDown kinds.Thermal unit periods 1 (ramp_down_broken g s)
-
-  abbrev t10 : List Refusal
-  t10 = told Window kinds.Thermal unit periods 1 (window_broken g s)
-
   pub IsClear-none : thermal_refusals periods unit g s ≡ [] → IsClear periods g s
   IsClear-none e =
-      let e9 = append_nil_left (t1 ++ t2 ++ t3 ++ t4 ++ t5 ++ t6 ++ t7 ++ t8 ++ t9) t10 e in
-      let e8 = append_nil_left (t1 ++ t2 ++ t3 ++ t4 ++ t5 ++ t6 ++ t7 ++ t8) t9 e9 in
-      let e7 = append_nil_left (t1 ++ t2 ++ t3 ++ t4 ++ t5 ++ t6 ++ t7) t8 e8 in
-      let e6 = append_nil_left (t1 ++ t2 ++ t3 ++ t4 ++ t5 ++ t6) t7 e7 in
-      let e5 = append_nil_left (t1 ++ t2 ++ t3 ++ t4 ++ t5) t6 e6 in
-      let e4 = append_nil_left (t1 ++ t2 ++ t3 ++ t4) t5 e5 in
-      let e3 = append_nil_left (t1 ++ t2 ++ t3) t4 e4 in
-      let e2 = append_nil_left (t1 ++ t2) t3 e3 in
+      let e9 = append_nil_left _ _ e in
+      let e8 = append_nil_left _ _ e9 in
+      let e7 = append_nil_left _ _ e8 in
+      let e6 = append_nil_left _ _ e7 in
+      let e5 = append_nil_left _ _ e6 in
+      let e4 = append_nil_left _ _ e5 in
+      let e3 = append_nil_left _ _ e4 in
+      let e2 = append_nil_left _ _ e3 in
       record {
-        must_run = told_all MustRun kinds.Thermal unit periods 1 (must_run_broken g s) (append_nil_left t1 t2 e2);
-        initial = told_all Initial kinds.Thermal unit periods 1 (initial_broken g s) (append_nil_right t1 t2 e2);
-        min_up = told_all MinUp kinds.Thermal unit periods 1 (min_up_broken g s) (append_nil_right (t1 ++ t2) t3 e3);
-        min_down = told_all MinDown kinds.Thermal unit periods 1 (min_down_broken g s) (append_nil_right (t1 ++ t2 ++ t3) t4 e4);
-        range = told_all Range kinds.Thermal unit periods 1 (range_broken g s) (append_nil_right (t1 ++ t2 ++ t3 ++ t4) t5 e5);
-        start = told_all StartCap kinds.Thermal unit periods 1 (start_broken g s) (append_nil_right (t1 ++ t2 ++ t3 ++ t4 ++ t5) t6 e6);
-        stop = told_all StopCap kinds.Thermal unit periods 0 (stop_broken g s) (append_nil_right (t1 ++ t2 ++ t3 ++ t4 ++ t5 ++ t6) t7 e7);
-        ramp_up = told_all RampUp kinds.Thermal unit periods 1 (ramp_up_broken g s) (append_nil_right (t1 ++ t2 ++ t3 ++ t4 ++ t5 ++ t6 ++ t7) t8 e8);
-        ramp_down = told_all RampDown kinds.Thermal unit periods 1 (ramp_down_broken g s) (append_nil_right (t1 ++ t2 ++ t3 ++ t4 ++ t5 ++ t6 ++ t7 ++ t8) t9 e9);
-        window = told_all Window kinds.Thermal unit periods 1 (window_broken g s) (append_nil_right (t1 ++ t2 ++ t3 ++ t4 ++ t5 ++ t6 ++ t7 ++ t8 ++ t9) t10 e);
+        must_run = told_all MustRun kinds.Thermal unit periods 1 (must_run_broken g s) (append_nil_left _ _ e2);
+        initial = told_all Initial kinds.Thermal unit periods 1 (initial_broken g s) (append_nil_right _ _ e2);
+        min_up = told_all MinUp kinds.Thermal unit periods 1 (min_up_broken g s) (append_nil_right _ _ e3);
+        min_down = told_all MinDown kinds.Thermal unit periods 1 (min_down_broken g s) (append_nil_right _ _ e4);
+        range = told_all Range kinds.Thermal unit periods 1 (range_broken g s) (append_nil_right _ _ e5);
+        start = told_all StartCap kinds.Thermal unit periods 1 (start_broken g s) (append_nil_right _ _ e6);
+        stop = told_all StopCap kinds.Thermal unit periods 0 (stop_broken g s) (append_nil_right _ _ e7);
+        ramp_up = told_all RampUp kinds.Thermal unit periods 1 (ramp_up_broken g s) (append_nil_right _ _ e8);
+        ramp_down = told_all RampDown kinds.Thermal unit periods 1 (ramp_down_broken g s) (append_nil_right _ _ e9);
+        window = told_all Window kinds.Thermal unit periods 1 (window_broken g s) (append_nil_right _ _ e);
       }
 
   pub none_clear : IsClear periods g s → thermal_refusals periods unit g s ≡ []
   none_clear c =
       let e1 = told_none MustRun kinds.Thermal unit periods 1 (must_run_broken g s) c.must_run in
-      let e2 = append_nil t1 t2 e1 (told_none Initial kinds.Thermal unit periods 1 (initial_broken g s) c.initial) in
-      let e3 = append_nil (t1 ++ t2) t3 e2 (told_none MinUp kinds.Thermal unit periods 1 (min_up_broken g s) c.min_up) in
-      let e4 = append_nil (t1 ++ t2 ++ t3) t4 e3 (told_none MinDown kinds.Thermal unit periods 1 (min_down_broken g s) c.min_down) in
-      let e5 = append_nil (t1 ++ t2 ++ t3 ++ t4) t5 e4 (told_none Range kinds.Thermal unit periods 1 (range_broken g s) c.range) in
-      let e6 = append_nil (t1 ++ t2 ++ t3 ++ t4 ++ t5) t6 e5 (told_none StartCap kinds.Thermal unit periods 1 (start_broken g s) c.start) in
-      let e7 = append_nil (t1 ++ t2 ++ t3 ++ t4 ++ t5 ++ t6) t7 e6 (told_none StopCap kinds.Thermal unit periods 0 (stop_broken g s) c.stop) in
-      let e8 = append_nil (t1 ++ t2 ++ t3 ++ t4 ++ t5 ++ t6 ++ t7) t8 e7 (told_none RampUp kinds.Thermal unit periods 1 (ramp_up_broken g s) c.ramp_up) in
-      let e9 = append_nil (t1 ++ t2 ++ t3 ++ t4 ++ t5 ++ t6 ++ t7 ++ t8) t9 e8 (told_none RampDown kinds.Thermal unit periods 1 (ramp_down_broken g s) c.ramp_down) in
-      append_nil (t1 ++ t2 ++ t3 ++ t4 ++ t5 ++ t6 ++ t7 ++ t8 ++ t9) t10 e9 (told_none Window kinds.Thermal unit periods 1 (window_broken g s) c.window)
+      let e2 = append_nil _ _ e1 (told_none Initial kinds.Thermal unit periods 1 (initial_broken g s) c.initial) in
+      let e3 = append_nil _ _ e2 (told_none MinUp kinds.Thermal unit periods 1 (min_up_broken g s) c.min_up) in
+      let e4 = append_nil _ _ e3 (told_none MinDown kinds.Thermal unit periods 1 (min_down_broken g s) c.min_down) in
+      let e5 = append_nil _ _ e4 (told_none Range kinds.Thermal unit periods 1 (range_broken g s) c.range) in
+      let e6 = append_nil _ _ e5 (told_none StartCap kinds.Thermal unit periods 1 (start_broken g s) c.start) in
+      let e7 = append_nil _ _ e6 (told_none StopCap kinds.Thermal unit periods 0 (stop_broken g s) c.stop) in
+      let e8 = append_nil _ _ e7 (told_none RampUp kinds.Thermal unit periods 1 (ramp_up_broken g s) c.ramp_up) in
+      let e9 = append_nil _ _ e8 (told_none RampDown kinds.Thermal unit periods 1 (ramp_down_broken g s) c.ramp_down) in
+      append_nil _ _ e9 (told_none Window kinds.Thermal unit periods 1 (window_broken g s) c.window)
 
 -- ---- the two forms of the dispatch rules
 

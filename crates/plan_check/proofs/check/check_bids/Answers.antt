@@ -1,4 +1,4 @@
-use Rattle.std.proofs.Common.{◌≡◌, ℕ, ◌+◌, map, length, drop, sym, ap, ◌∙◌, arith}
+use Rattle.std.proofs.Common.{◌≡◌, ℕ, ◌+◌, Some, map, length, drop, sym, ap, ◌∙◌, arith}
 use Rattle.std.proofs.lemmas.List.{length-map}
 use Rattle.std.proofs.lemmas.Result.{err_from_is_err_and}
 use Rattle.std.specs.Prelude.{slice_get}
@@ -13,57 +13,52 @@ use Rattle.uc_model.proofs.ListLaws.{item_of, map_item, drop_item}
 use Rattle.plan_check.proofs.FindLaws.{over_units_first, over_units_none, NoneBefore-more, all_bids_is}
 use Rattle.plan_check.proofs.PlanLaws.{HasLengths}
 use Rattle.plan_check.proofs.check.check_bids.Goals as goal
+use Rattle.plan_check.proofs.check.check_bids.Goals.{After-get-response}
+
+-- the unit and its schedule at the place of the loop
+module _ (c : After-get-response) where
+  unit_at : slice_get (map named_bid_of c.args.case.now.bids.items) c.loop-place.place ≡ Some (named_bid_of c.get-bid.result.now)
+  unit_at = map_item named_bid_of c.args.case.now.bids.items c.loop-place.place c.get-bid.result.now c.get-bid.ensures.item
+
+  whole_at : slice_get (schedules_of c.args.plan.now) ((c.len.result + c.len-2.result) + c.loop-place.place) ≡ Some (schedule_of c.get-response.result.now)
+  whole_at = map_item schedule_of c.args.plan.now.responses.items ((c.len.result + c.len-2.result) + c.loop-place.place) c.get-response.result.now c.get-response.ensures.item
+
+  plan_at : slice_get (drop (length (map named_thermal_of c.args.case.now.thermal.items) + length (map named_renewable_of c.args.case.now.flat.items)) (schedules_of c.args.plan.now)) c.loop-place.place ≡ Some (schedule_of c.get-response.result.now)
+  plan_at =
+      let first_is : (length (map named_thermal_of c.args.case.now.thermal.items) + length (map named_renewable_of c.args.case.now.flat.items)) + c.loop-place.place ≡ (c.len.result + c.len-2.result) + c.loop-place.place = omega (arith, length-map c.args.case.now.thermal.items named_thermal_of, length-map c.args.case.now.flat.items named_renewable_of, c.len.ensures, c.len-2.ensures) in
+      drop_item ((length (map named_thermal_of c.args.case.now.thermal.items) + length (map named_renewable_of c.args.case.now.flat.items))) (schedules_of c.args.plan.now) c.loop-place.place ∙ ap (slice_get (schedules_of c.args.plan.now)) first_is ∙ whole_at
+
+  lengths : HasLengths c.args.case.now.periods (schedule_of c.get-response.result.now)
+  lengths = item_of (HasLengths c.args.case.now.periods) (schedules_of c.args.plan.now) ((c.len.result + c.len-2.result) + c.loop-place.place) _ c.requires.lengths whole_at
 
 pub check_bid-requires-clause-horizon : goal.check_bid-requires-clause-horizon
 check_bid-requires-clause-horizon c =
-    let n = named_bid_of c.get-bid.result.now in
-    let s = schedule_of c.get-response.result.now in
-    let unit_at = map_item named_bid_of c.args.case.now.bids.items c.loop-place.place c.get-bid.result.now c.get-bid.ensures.item in
-    let whole_at = map_item schedule_of c.args.plan.now.responses.items ((c.len.result + c.len-2.result) + c.loop-place.place) c.get-response.result.now c.get-response.ensures.item in
-    let first_is : (length (map named_thermal_of c.args.case.now.thermal.items) + length (map named_renewable_of c.args.case.now.flat.items)) + c.loop-place.place ≡ (c.len.result + c.len-2.result) + c.loop-place.place = omega (arith, length-map c.args.case.now.thermal.items named_thermal_of, length-map c.args.case.now.flat.items named_renewable_of, c.len.ensures, c.len-2.ensures) in
-    let plan_at = drop_item ((length (map named_thermal_of c.args.case.now.thermal.items) + length (map named_renewable_of c.args.case.now.flat.items))) (schedules_of c.args.plan.now) c.loop-place.place ∙ ap (slice_get (schedules_of c.args.plan.now)) first_is ∙ whole_at in
-    let lengths = item_of (HasLengths c.args.case.now.periods) (schedules_of c.args.plan.now) ((c.len.result + c.len-2.result) + c.loop-place.place) s c.requires.lengths whole_at in
+    let l = lengths (goal.at.check_bid-requires-clause-horizon c).After-get-response in
     omega arith
 
 pub check_bid-requires-clause-blocks : goal.check_bid-requires-clause-blocks
 check_bid-requires-clause-blocks c =
-    let n = named_bid_of c.get-bid.result.now in
-    let s = schedule_of c.get-response.result.now in
-    let unit_at = map_item named_bid_of c.args.case.now.bids.items c.loop-place.place c.get-bid.result.now c.get-bid.ensures.item in
-    let whole_at = map_item schedule_of c.args.plan.now.responses.items ((c.len.result + c.len-2.result) + c.loop-place.place) c.get-response.result.now c.get-response.ensures.item in
-    let first_is : (length (map named_thermal_of c.args.case.now.thermal.items) + length (map named_renewable_of c.args.case.now.flat.items)) + c.loop-place.place ≡ (c.len.result + c.len-2.result) + c.loop-place.place = omega (arith, length-map c.args.case.now.thermal.items named_thermal_of, length-map c.args.case.now.flat.items named_renewable_of, c.len.ensures, c.len-2.ensures) in
-    let plan_at = drop_item ((length (map named_thermal_of c.args.case.now.thermal.items) + length (map named_renewable_of c.args.case.now.flat.items))) (schedules_of c.args.plan.now) c.loop-place.place ∙ ap (slice_get (schedules_of c.args.plan.now)) first_is ∙ whole_at in
-    let lengths = item_of (HasLengths c.args.case.now.periods) (schedules_of c.args.plan.now) ((c.len.result + c.len-2.result) + c.loop-place.place) s c.requires.lengths whole_at in
-    let limits = item_of (λ (n : NamedBidUnit). IsBidUnit n.unit × (length n.unit.blocks ≡ c.args.case.now.periods)) (map named_bid_of c.args.case.now.bids.items) c.loop-place.place n c.args.case.now.valid.bids unit_at in
-    limits.1 ∙ sym lengths.0
+    let d = (goal.at.check_bid-requires-clause-blocks c).After-get-response in
+    let limits = item_of (λ (n : NamedBidUnit). IsBidUnit n.unit × (length n.unit.blocks ≡ c.args.case.now.periods)) (map named_bid_of c.args.case.now.bids.items) c.loop-place.place _ c.args.case.now.valid.bids (unit_at d) in
+    limits.1 ∙ sym (lengths d).0
 
 pub returns-in_err-check_bid : goal.returns-in_err-check_bid
 returns-in_err-check_bid c =
-    let n = named_bid_of c.get-bid.result.now in
     let s = schedule_of c.get-response.result.now in
-    let unit_at = map_item named_bid_of c.args.case.now.bids.items c.loop-place.place c.get-bid.result.now c.get-bid.ensures.item in
-    let whole_at = map_item schedule_of c.args.plan.now.responses.items ((c.len.result + c.len-2.result) + c.loop-place.place) c.get-response.result.now c.get-response.ensures.item in
-    let first_is : (length (map named_thermal_of c.args.case.now.thermal.items) + length (map named_renewable_of c.args.case.now.flat.items)) + c.loop-place.place ≡ (c.len.result + c.len-2.result) + c.loop-place.place = omega (arith, length-map c.args.case.now.thermal.items named_thermal_of, length-map c.args.case.now.flat.items named_renewable_of, c.len.ensures, c.len-2.ensures) in
-    let plan_at = drop_item ((length (map named_thermal_of c.args.case.now.thermal.items) + length (map named_renewable_of c.args.case.now.flat.items))) (schedules_of c.args.plan.now) c.loop-place.place ∙ ap (slice_get (schedules_of c.args.plan.now)) first_is ∙ whole_at in
-    let lengths = item_of (HasLengths c.args.case.now.periods) (schedules_of c.args.plan.now) ((c.len.result + c.len-2.result) + c.loop-place.place) s c.requires.lengths whole_at in
+    let d = (goal.at.returns-in_err-check_bid c).After-get-response in
     let p = err_from_is_err_and c.from_residual.result c.from_residual.ensures.1 in
     let number : 1 + c.loop-place.place ≡ c.loop-place.place + 1 = omega arith in
     rw (p.1, p.2) (ap (λ xs. slice_get xs 0) (all_bids_is c.args.case.now.periods 1 (map named_bid_of c.args.case.now.bids.items) (drop (length (map named_thermal_of c.args.case.now.thermal.items) + length (map named_renewable_of c.args.case.now.flat.items)) (schedules_of c.args.plan.now)))
-    ∙ over_units_first (λ (n : NamedBidUnit) (s : Schedule) (unit : ℕ). told BidRange kinds.Bid unit c.args.case.now.periods 1 (bid_broken n.unit s)) 1 c.loop-place.place (map named_bid_of c.args.case.now.bids.items) (drop (length (map named_thermal_of c.args.case.now.thermal.items) + length (map named_renewable_of c.args.case.now.flat.items)) (schedules_of c.args.plan.now)) n s _ unit_at plan_at c.loop-place.invariant
-    (ap (λ (x : ℕ). slice_get (told BidRange kinds.Bid (1 + c.loop-place.place) x 1 (bid_broken (bid_of c.get-bid.result.now.bid) s)) 0) (sym lengths.0) ∙ ap (λ (x : ℕ). slice_get (told BidRange kinds.Bid x (length s.on) 1 (bid_broken (bid_of c.get-bid.result.now.bid) s)) 0) number ∙ c.in_err-check_bid.ensures))
+    ∙ over_units_first (λ (n : NamedBidUnit) (s : Schedule) (unit : ℕ). told BidRange kinds.Bid unit c.args.case.now.periods 1 (bid_broken n.unit s)) 1 c.loop-place.place (map named_bid_of c.args.case.now.bids.items) (drop (length (map named_thermal_of c.args.case.now.thermal.items) + length (map named_renewable_of c.args.case.now.flat.items)) (schedules_of c.args.plan.now)) _ s _ (unit_at d) (plan_at d) c.loop-place.invariant
+    (ap (λ (x : ℕ). slice_get (told BidRange kinds.Bid (1 + c.loop-place.place) x 1 (bid_broken (bid_of c.get-bid.result.now.bid) s)) 0) (sym (lengths d).0) ∙ ap (λ (x : ℕ). slice_get (told BidRange kinds.Bid x (length s.on) 1 (bid_broken (bid_of c.get-bid.result.now.bid) s)) 0) number ∙ c.in_err-check_bid.ensures))
 
 pub loop-place-preserved : goal.loop-place-preserved
 loop-place-preserved c =
-    let n = named_bid_of c.get-bid.result.now in
     let s = schedule_of c.get-response.result.now in
-    let unit_at = map_item named_bid_of c.args.case.now.bids.items c.loop-place.place c.get-bid.result.now c.get-bid.ensures.item in
-    let whole_at = map_item schedule_of c.args.plan.now.responses.items ((c.len.result + c.len-2.result) + c.loop-place.place) c.get-response.result.now c.get-response.ensures.item in
-    let first_is : (length (map named_thermal_of c.args.case.now.thermal.items) + length (map named_renewable_of c.args.case.now.flat.items)) + c.loop-place.place ≡ (c.len.result + c.len-2.result) + c.loop-place.place = omega (arith, length-map c.args.case.now.thermal.items named_thermal_of, length-map c.args.case.now.flat.items named_renewable_of, c.len.ensures, c.len-2.ensures) in
-    let plan_at = drop_item ((length (map named_thermal_of c.args.case.now.thermal.items) + length (map named_renewable_of c.args.case.now.flat.items))) (schedules_of c.args.plan.now) c.loop-place.place ∙ ap (slice_get (schedules_of c.args.plan.now)) first_is ∙ whole_at in
-    let lengths = item_of (HasLengths c.args.case.now.periods) (schedules_of c.args.plan.now) ((c.len.result + c.len-2.result) + c.loop-place.place) s c.requires.lengths whole_at in
+    let d = (goal.at.loop-place-preserved c).After-get-response in
     let number : 1 + c.loop-place.place ≡ c.loop-place.place + 1 = omega arith in
-    NoneBefore-more (λ (n : NamedBidUnit) (s : Schedule) (unit : ℕ). told BidRange kinds.Bid unit c.args.case.now.periods 1 (bid_broken n.unit s)) 1 c.loop-place.place (map named_bid_of c.args.case.now.bids.items) (drop (length (map named_thermal_of c.args.case.now.thermal.items) + length (map named_renewable_of c.args.case.now.flat.items)) (schedules_of c.args.plan.now)) n s unit_at plan_at c.loop-place.invariant
-    (ap (λ (x : ℕ). told BidRange kinds.Bid (1 + c.loop-place.place) x 1 (bid_broken (bid_of c.get-bid.result.now.bid) s)) (sym lengths.0) ∙ ap (λ (x : ℕ). told BidRange kinds.Bid x (length s.on) 1 (bid_broken (bid_of c.get-bid.result.now.bid) s)) number ∙ c.in_ok-check_bid.ensures)
+    NoneBefore-more (λ (n : NamedBidUnit) (s : Schedule) (unit : ℕ). told BidRange kinds.Bid unit c.args.case.now.periods 1 (bid_broken n.unit s)) 1 c.loop-place.place (map named_bid_of c.args.case.now.bids.items) (drop (length (map named_thermal_of c.args.case.now.thermal.items) + length (map named_renewable_of c.args.case.now.flat.items)) (schedules_of c.args.plan.now)) _ s (unit_at d) (plan_at d) c.loop-place.invariant
+    (ap (λ (x : ℕ). told BidRange kinds.Bid (1 + c.loop-place.place) x 1 (bid_broken (bid_of c.get-bid.result.now.bid) s)) (sym (lengths d).0) ∙ ap (λ (x : ℕ). told BidRange kinds.Bid x (length s.on) 1 (bid_broken (bid_of c.get-bid.result.now.bid) s)) number ∙ c.in_ok-check_bid.ensures)
 
 pub returns : goal.returns
 returns c =

@@ -14,7 +14,6 @@ loop-place-preserved c =
     let k = c.loop-place.place in
     let known = c.loop-place.invariant in
     let down = known.down in
-    let called = c.cost_of_start-sum.ensures in
     let more = sum_more k (start_cost_at g s) in
     let next : k + 1 ≡ suc k = omega arith in
     let after = c.time_after-down.ensures in

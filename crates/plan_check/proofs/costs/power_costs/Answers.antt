@@ -7,8 +7,6 @@ use Rattle.plan_check.proofs.costs.power_costs.Goals as goal
 
 pub loop-place-preserved : goal.loop-place-preserved
 loop-place-preserved c =
-    let known = c.loop-place.invariant in
-    let called = c.power_cost-sum.ensures in
     let more = sum_more c.loop-place.place (production_at (thermal_of c.args.unit.now) (schedule_of c.args.response.now)) in
     record {
       is = omega (arith, ints, more);

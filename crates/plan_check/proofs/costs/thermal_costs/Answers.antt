@@ -1,6 +1,7 @@
-use Rattle.std.proofs.Common.{ℕ, ◌++◌, map, sym, subst, arith}
+use Rattle.std.proofs.Common.{◌≡◌, ℕ, ◌++◌, Some, map, sym, subst, arith}
 use Rattle.std.proofs.lemmas.Int.{ints}
 use Rattle.std.proofs.lemmas.List.{length-map}
+use Rattle.std.specs.Prelude.{slice_get}
 use Rattle.uc_model.specs.Data.{AnyUnit, Thermal, Flat, NamedThermalUnit, NamedRenewableUnit, Schedule}
 use Rattle.uc_model.specs.Earnings.{cost_of}
 use Rattle.uc_model.specs.PlainCases.{market_of, schedules_of}
@@ -11,63 +12,46 @@ use Rattle.plan_check.specs.Costs.{thermal_units, bid_units}
 use Rattle.plan_check.proofs.PlanLaws.{HasLengths}
 use Rattle.plan_check.proofs.SystemLaws.{sum_over-more}
 use Rattle.plan_check.proofs.costs.thermal_costs.Goals as goal
+use Rattle.plan_check.proofs.costs.thermal_costs.Goals.{After-get-response}
+
+-- the unit and its schedule at the place of the loop
+module _ (c : After-get-response) where
+  plan_at : slice_get (schedules_of c.args.plan.now) c.loop-place.place ≡ Some (schedule_of c.get-response.result.now)
+  plan_at = map_item schedule_of c.args.plan.now.responses.items c.loop-place.place c.get-response.result.now c.get-response.ensures.item
+
+  unit_at : slice_get (thermal_units (market_of c.args.case.now)) c.loop-place.place ≡ Some (Thermal (thermal_of c.get.result.now.unit))
+  unit_at =
+      let named = map_item named_thermal_of c.args.case.now.thermal.items c.loop-place.place c.get.result.now c.get.ensures.item in
+      map_item (λ (n : NamedThermalUnit). Thermal n.unit) (market_of c.args.case.now).thermal c.loop-place.place (named_thermal_of c.get.result.now) named
+
+  lengths : HasLengths c.args.case.now.periods (schedule_of c.get-response.result.now)
+  lengths = item_of (HasLengths c.args.case.now.periods) (schedules_of c.args.plan.now) c.loop-place.place _ c.requires.shape.lengths plan_at
 
 pub power_costs-requires-clause-horizon : goal.power_costs-requires-clause-horizon
 power_costs-requires-clause-horizon c =
-    let m = market_of c.args.case.now in
-    let ps = schedules_of c.args.plan.now in
-    let i = c.loop-place.place in
-    let x = c.get.result.now in
-    let s = schedule_of c.get-response.result.now in
-    let unit_at = map_item named_thermal_of c.args.case.now.thermal.items i x c.get.ensures.item in
-    let plan_at = map_item schedule_of c.args.plan.now.responses.items i c.get-response.result.now c.get-response.ensures.item in
-    let lengths = item_of (HasLengths c.args.case.now.periods) ps i s c.requires.shape.lengths plan_at in
-    let u_at = map_item (λ (n : NamedThermalUnit). Thermal n.unit) m.thermal i (named_thermal_of x) unit_at in
+    let l = lengths (goal.at.power_costs-requires-clause-horizon c).After-get-response in
     omega arith
 
 pub costs_of_starts-requires : goal.costs_of_starts-requires
 costs_of_starts-requires c =
-    let m = market_of c.args.case.now in
-    let ps = schedules_of c.args.plan.now in
-    let i = c.loop-place.place in
-    let x = c.get.result.now in
-    let s = schedule_of c.get-response.result.now in
-    let unit_at = map_item named_thermal_of c.args.case.now.thermal.items i x c.get.ensures.item in
-    let plan_at = map_item schedule_of c.args.plan.now.responses.items i c.get-response.result.now c.get-response.ensures.item in
-    let lengths = item_of (HasLengths c.args.case.now.periods) ps i s c.requires.shape.lengths plan_at in
-    let u_at = map_item (λ (n : NamedThermalUnit). Thermal n.unit) m.thermal i (named_thermal_of x) unit_at in
+    let l = lengths (goal.at.costs_of_starts-requires c).After-get-response in
     omega arith
 
 pub power_costs-requires-clause-feasible : goal.power_costs-requires-clause-feasible
 power_costs-requires-clause-feasible c =
     let m = market_of c.args.case.now in
-    let ps = schedules_of c.args.plan.now in
-    let i = c.loop-place.place in
-    let x = c.get.result.now in
-    let s = schedule_of c.get-response.result.now in
-    let unit_at = map_item named_thermal_of c.args.case.now.thermal.items i x c.get.ensures.item in
-    let plan_at = map_item schedule_of c.args.plan.now.responses.items i c.get-response.result.now c.get-response.ensures.item in
-    let lengths = item_of (HasLengths c.args.case.now.periods) ps i s c.requires.shape.lengths plan_at in
-    let u_at = map_item (λ (n : NamedThermalUnit). Thermal n.unit) m.thermal i (named_thermal_of x) unit_at in
+    let u = Thermal (thermal_of c.get.result.now.unit) in
+    let d = (goal.at.power_costs-requires-clause-feasible c).After-get-response in
     let flats = map (λ (n : NamedRenewableUnit). Flat n.unit) m.flat in
-    let whole_at = front_item (thermal_units m ++ flats) (bid_units m) i (Thermal (thermal_of x.unit)) (front_item (thermal_units m) flats i (Thermal (thermal_of x.unit)) u_at) in
-    let feasible = zip_item (λ (u : AnyUnit) (t : Schedule). IsFeasible u m.periods t) ((thermal_units m ++ flats) ++ bid_units m) ps i (Thermal (thermal_of x.unit)) s c.requires.feasible.feasible whole_at plan_at in
-    subst (λ (n : ℕ). IsThermalFeasible (thermal_of x.unit) n s) (sym lengths.0) feasible
+    let whole_at = front_item (thermal_units m ++ flats) (bid_units m) c.loop-place.place u (front_item (thermal_units m) flats c.loop-place.place u (unit_at d)) in
+    let feasible = zip_item (λ (u : AnyUnit) (t : Schedule). IsFeasible u m.periods t) ((thermal_units m ++ flats) ++ bid_units m) (schedules_of c.args.plan.now) c.loop-place.place u _ c.requires.feasible.feasible whole_at (plan_at d) in
+    subst (λ (n : ℕ). IsThermalFeasible (thermal_of c.get.result.now.unit) n (schedule_of c.get-response.result.now)) (sym (lengths d).0) feasible
 
 pub loop-place-preserved : goal.loop-place-preserved
 loop-place-preserved c =
-    let m = market_of c.args.case.now in
-    let ps = schedules_of c.args.plan.now in
-    let i = c.loop-place.place in
-    let x = c.get.result.now in
-    let s = schedule_of c.get-response.result.now in
-    let unit_at = map_item named_thermal_of c.args.case.now.thermal.items i x c.get.ensures.item in
-    let plan_at = map_item schedule_of c.args.plan.now.responses.items i c.get-response.result.now c.get-response.ensures.item in
-    let lengths = item_of (HasLengths c.args.case.now.periods) ps i s c.requires.shape.lengths plan_at in
-    let u_at = map_item (λ (n : NamedThermalUnit). Thermal n.unit) m.thermal i (named_thermal_of x) unit_at in
-    let known = c.loop-place.invariant in
+    let d = (goal.at.loop-place-preserved c).After-get-response in
     let mapped = length-map c.args.case.now.thermal.items named_thermal_of in
-    let more = sum_over-more cost_of (thermal_units m) ps i (Thermal (thermal_of x.unit)) s u_at plan_at in
+    let more = sum_over-more cost_of _ _ c.loop-place.place _ _ (unit_at d) (plan_at d) in
     record {
       is = omega (arith, ints, more, mapped);
       limit = record {

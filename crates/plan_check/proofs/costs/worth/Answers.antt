@@ -22,7 +22,6 @@ loop-place-preserved c =
     let b = bid_of c.args.bid.now in
     let s = schedule_of c.args.response.now in
     let k = c.loop-place.place in
-    let known = c.loop-place.invariant in
     let f : FitsSigned w64 c.power_at.result = search rules in
     let blocks = get_or_from_slice_get b.blocks k (items_in c.get.result.now) [] (map_item items_in c.args.bid.now.blocks.items k c.get.result.now c.get.ensures.item) in
     let power = to_z-of_z w64 c.power_at.result f ∙ c.power_at.ensures.value in

@@ -12,7 +12,6 @@ loop-block-preserved c =
     let none : Block = record { width = pos 0; price = pos 0 } in
     let b = get_or bs i none in
     let rest = drop (i + 1) bs in
-    let known = c.loop-block.invariant in
     let called = c.with_block-bought.ensures in
     let cut = ap (λ (l : List Block). worth_of l c.loop-block.bought.rest) (drop_more bs i none c.loop-block-test.true) in
     let left = ap (worth_of rest) called.rest in

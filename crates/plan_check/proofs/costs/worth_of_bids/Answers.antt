@@ -1,4 +1,4 @@
-use Rattle.std.proofs.Common.{◌≡◌, ℕ, ◌+◌, length, drop, sym, ap, ◌∙◌, arith}
+use Rattle.std.proofs.Common.{◌≡◌, ℕ, ◌+◌, Some, length, drop, sym, ap, ◌∙◌, arith}
 use Rattle.std.proofs.lemmas.Int.{ints}
 use Rattle.std.proofs.lemmas.List.{length-map}
 use Rattle.std.specs.Prelude.{slice_get}
@@ -6,57 +6,47 @@ use Rattle.uc_model.specs.Data.{Bid, NamedBidUnit}
 use Rattle.uc_model.specs.Earnings.{cost_of}
 use Rattle.uc_model.specs.Limits.{IsBidUnit}
 use Rattle.uc_model.specs.PlainCases.{market_of, schedules_of}
-use Rattle.uc_model.specs.PlainUnits.{bid_of, schedule_of, named_bid_of}
+use Rattle.uc_model.specs.PlainUnits.{schedule_of, named_bid_of}
 use Rattle.uc_model.proofs.ListLaws.{item_of, map_item, drop_item}
 use Rattle.plan_check.specs.Costs.{bid_units}
 use Rattle.plan_check.proofs.PlanLaws.{HasLengths}
 use Rattle.plan_check.proofs.SystemLaws.{sum_over-more}
 use Rattle.plan_check.proofs.costs.worth_of_bids.Goals as goal
+use Rattle.plan_check.proofs.costs.worth_of_bids.Goals.{After-get-in-loop-place}
+
+-- the bid and its schedule at the place of the loop
+module _ (c : After-get-in-loop-place) where
+  unit_at : slice_get (market_of c.args.case.now).bids c.loop-place.place ≡ Some (named_bid_of c.get.result.now)
+  unit_at = map_item named_bid_of c.args.case.now.bids.items c.loop-place.place c.get.result.now c.get.ensures.item
+
+  whole_at : slice_get (schedules_of c.args.plan.now) (c.producer_count-first.result + c.loop-place.place) ≡ Some (schedule_of c.get-in-loop-place.result.now)
+  whole_at = map_item schedule_of c.args.plan.now.responses.items (c.producer_count-first.result + c.loop-place.place) c.get-in-loop-place.result.now c.get-in-loop-place.ensures.item
+
+  lengths : HasLengths c.args.case.now.periods (schedule_of c.get-in-loop-place.result.now)
+  lengths = item_of (HasLengths c.args.case.now.periods) (schedules_of c.args.plan.now) (c.producer_count-first.result + c.loop-place.place) _ c.requires.lengths whole_at
 
 pub worth-sum-requires-clause-horizon : goal.worth-sum-requires-clause-horizon
 worth-sum-requires-clause-horizon c =
-    let m = market_of c.args.case.now in
-    let ps = schedules_of c.args.plan.now in
-    let i = c.loop-place.place in
-    let first = c.producer_count-first.result in
-    let x = c.get.result.now in
-    let s = schedule_of c.get-in-loop-place.result.now in
-    let unit_at = map_item named_bid_of c.args.case.now.bids.items i x c.get.ensures.item in
-    let whole_at = map_item schedule_of c.args.plan.now.responses.items (first + i) c.get-in-loop-place.result.now c.get-in-loop-place.ensures.item in
-    let lengths = item_of (HasLengths c.args.case.now.periods) ps (first + i) s c.requires.lengths whole_at in
+    let l = lengths (goal.at.worth-sum-requires-clause-horizon c).After-get-in-loop-place in
     omega arith
 
 pub worth-sum-requires-clause-blocks : goal.worth-sum-requires-clause-blocks
 worth-sum-requires-clause-blocks c =
-    let m = market_of c.args.case.now in
-    let ps = schedules_of c.args.plan.now in
-    let i = c.loop-place.place in
-    let first = c.producer_count-first.result in
-    let x = c.get.result.now in
-    let s = schedule_of c.get-in-loop-place.result.now in
-    let unit_at = map_item named_bid_of c.args.case.now.bids.items i x c.get.ensures.item in
-    let whole_at = map_item schedule_of c.args.plan.now.responses.items (first + i) c.get-in-loop-place.result.now c.get-in-loop-place.ensures.item in
-    let lengths = item_of (HasLengths c.args.case.now.periods) ps (first + i) s c.requires.lengths whole_at in
-    let limits = item_of (λ (n : NamedBidUnit). IsBidUnit n.unit × (length n.unit.blocks ≡ c.args.case.now.periods)) m.bids i (named_bid_of x) c.args.case.now.valid.bids unit_at in
-    limits.1 ∙ sym lengths.0
+    let d = (goal.at.worth-sum-requires-clause-blocks c).After-get-in-loop-place in
+    let limits = item_of (λ (n : NamedBidUnit). IsBidUnit n.unit × (length n.unit.blocks ≡ c.args.case.now.periods)) (market_of c.args.case.now).bids c.loop-place.place _ c.args.case.now.valid.bids (unit_at d) in
+    limits.1 ∙ sym (lengths d).0
 
 pub loop-place-preserved : goal.loop-place-preserved
 loop-place-preserved c =
     let m = market_of c.args.case.now in
     let ps = schedules_of c.args.plan.now in
     let i = c.loop-place.place in
-    let first = c.producer_count-first.result in
-    let x = c.get.result.now in
-    let s = schedule_of c.get-in-loop-place.result.now in
-    let unit_at = map_item named_bid_of c.args.case.now.bids.items i x c.get.ensures.item in
-    let whole_at = map_item schedule_of c.args.plan.now.responses.items (first + i) c.get-in-loop-place.result.now c.get-in-loop-place.ensures.item in
-    let lengths = item_of (HasLengths c.args.case.now.periods) ps (first + i) s c.requires.lengths whole_at in
+    let d = (goal.at.loop-place-preserved c).After-get-in-loop-place in
     let skip = sym c.producer_count-first.ensures in
-    let plan_at = drop_item (length m.thermal + length m.flat) ps i ∙ ap (λ (n : ℕ). slice_get ps (n + i)) skip ∙ whole_at in
-    let u_at = map_item (λ (n : NamedBidUnit). Bid n.unit) m.bids i (named_bid_of x) unit_at in
-    let known = c.loop-place.invariant in
+    let plan_at = drop_item (length m.thermal + length m.flat) ps i ∙ ap (λ (n : ℕ). slice_get ps (n + i)) skip ∙ whole_at d in
+    let u_at = map_item (λ (n : NamedBidUnit). Bid n.unit) m.bids i (named_bid_of c.get.result.now) (unit_at d) in
     let mapped = length-map c.args.case.now.bids.items named_bid_of in
-    let more = sum_over-more cost_of (bid_units m) (drop (length m.thermal + length m.flat) ps) i (Bid (bid_of x.bid)) s u_at plan_at in
+    let more = sum_over-more cost_of (bid_units m) (drop (length m.thermal + length m.flat) ps) i _ _ u_at plan_at in
     record {
       is = omega (arith, ints, more, mapped);
       limit = record {

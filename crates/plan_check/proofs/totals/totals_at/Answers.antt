@@ -15,7 +15,6 @@ loop-response-preserved c =
     let i = c.loop-response.response-index in
     let k = c.args.place in
     let x = c.response-item.result in
-    let known = c.loop-response.invariant in
     let called = c.with_response-totals.ensures in
     let more = take_more rs i x c.loop-response-test.true ∙ ap (λ (y : Response). take i rs ++ y ∷ []) (sym c.response-item.is) in
     let powers = ap (λ (l : List Response). powers_at (map schedule_of l) k) more ∙ total_map-append (λ (s : Schedule). power_in s (suc k)) schedule_of (take i rs) x in
