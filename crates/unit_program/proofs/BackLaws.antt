@@ -87,62 +87,40 @@ module _ (g : ThermalUnit) (π : PriceLists) (periods first last : ℕ) where
     others = λ t out. record { on = refl; power = refl; reserve = refl };
   }
 
+  written_by : (a b : Schedule) (c : ℤ) → IsBestDispatch g π periods first last b c → IsFirstDispatch g π periods first last b c
+      → ((k : ℕ) → first ≤ suc k → suc k ≤ last → IsTrue (on_in g b (suc k))) → ((k : ℕ) → (suc k < first) ⊎ (last < suc k) → IsSameIn g a b (suc k)) → IsWritten g π periods first last a b
+  written_by a b c best first_of on outside =
+      let cost_is : (net : ℤ) → IsLeastSpell g π periods first last net → c ≡ net = λ net least.
+      (let low = best.least least.dispatch least.keeps in
+      let high = least.least b best.keeps in
+      omega (arith, ints, low, high)) in
+      record {
+        on = λ t. elim t as (λ t. 1 ≤ t → first ≤ t → t ≤ last → IsTrue (on_in g b t)) [
+          | zero ↦ λ one from until. absurd (omega (arith, one))
+          | suc k ↦ λ one from until. on k from until
+        ];
+        best = λ net least. (best.keeps, best.cost ∙ cost_is net least);
+        tie = λ net least. subst (λ (c : ℤ). IsFirstDispatch g π periods first last b c) (cost_is net least) first_of;
+        others = λ t. elim t as (λ t. (t < first) ⊎ (last < t) → IsSameIn g a b t) [
+          | zero ↦ λ out. record { on = refl; power = refl; reserve = refl }
+          | suc k ↦ λ out. outside k out
+        ];
+      }
+
   pub written_best : (n : ℕ) (a b : Schedule) (c : ℤ) → n ≡ max first 1 → IsBestDispatch g π periods (spell_first (ltb 0 first) n) last b c
       → IsFirstDispatch g π periods (spell_first (ltb 0 first) n) last b c → IsOnFromTo n last b → IsSameOutside n last a b
       → IsWritten g π periods first last a b
-  written_best n a b c is best first_of on outside = record {
-    on = λ t. elim t as (λ t. 1 ≤ t → first ≤ t → t ≤ last → IsTrue (on_in g b t)) [
-      | zero ↦ λ one from until. absurd (omega (arith, one))
-      | suc k ↦ λ one from until. on k (omega (arith, from, is)) until
-    ];
-    best = λ net least.
-        (let here = subst (λ (f : ℕ). IsBestDispatch g π periods f last b c) (spell_first-is first n is) best in
-        let low = here.least least.dispatch least.keeps in
-        let high = least.least b here.keeps in
-        let cost = here.cost in
-        let net_is = least.cost in
-        (here.keeps, omega (arith, ints, low, high, cost, net_is)));
-    tie = λ net least.
-        (let here = subst (λ (f : ℕ). IsBestDispatch g π periods f last b c) (spell_first-is first n is) best in
-        let low = here.least least.dispatch least.keeps in
-        let high = least.least b here.keeps in
-        let cost = here.cost in
-        let net_is = least.cost in
-        let same : c ≡ net = omega (arith, ints, low, high, cost, net_is) in
-        subst (λ (c : ℤ). IsFirstDispatch g π periods first last b c) same (subst (λ (f : ℕ). IsFirstDispatch g π periods f last b c) (spell_first-is first n is) first_of));
-    others = λ t. elim t as (λ t. (t < first) ⊎ (last < t) → IsSameIn g a b t) [
-      | zero ↦ λ out. record { on = refl; power = refl; reserve = refl }
-      | suc k ↦ λ out.
-          let beyond : (suc k < n) ⊎ (last < suc k) = elim out [ inl h ↦ inl (omega (arith, h, is)) | inr h ↦ inr h ] in
-          record { on = outside.on k beyond; power = ap pos (outside.power k beyond); reserve = ap pos (outside.reserve k beyond) }
-    ];
-  }
+  written_best n a b c is best first_of on outside =
+      written_by a b c (subst (λ (f : ℕ). IsBestDispatch g π periods f last b c) (spell_first-is first n is) best)
+      (subst (λ (f : ℕ). IsFirstDispatch g π periods f last b c) (spell_first-is first n is) first_of) (λ k from until. on k (omega (arith, from, is)) until)
+      (λ k out.
+      let beyond : (suc k < n) ⊎ (last < suc k) = elim out [ inl h ↦ inl (omega (arith, h, is)) | inr h ↦ inr h ] in
+      record { on = outside.on k beyond; power = ap pos (outside.power k beyond); reserve = ap pos (outside.reserve k beyond) })
 
   -- the first dispatch of least cost
   pub written_first : (a b : Schedule) → (c : ℤ) × IsBestDispatch g π periods first last b c × IsFirstDispatch g π periods first last b c → IsOnFromTo first last b → IsSameOutside first last a b → IsWritten g π periods first last a b
-  written_first a b best on outside = record {
-    on = λ t. elim t as (λ t. 1 ≤ t → first ≤ t → t ≤ last → IsTrue (on_in g b t)) [
-      | zero ↦ λ one from until. absurd (omega (arith, one))
-      | suc k ↦ λ one from until. on k from until
-    ];
-    best = λ net least.
-        (let low = best.1.least least.dispatch least.keeps in
-        let high = least.least b best.1.keeps in
-        let cost = best.1.cost in
-        let net_is = least.cost in
-        (best.1.keeps, omega (arith, ints, low, high, cost, net_is)));
-    tie = λ net least.
-        (let low = best.1.least least.dispatch least.keeps in
-        let high = least.least b best.1.keeps in
-        let cost = best.1.cost in
-        let net_is = least.cost in
-        let same : best.0 ≡ net = omega (arith, ints, low, high, cost, net_is) in
-        subst (λ (c : ℤ). IsFirstDispatch g π periods first last b c) same best.2);
-    others = λ t. elim t as (λ t. (t < first) ⊎ (last < t) → IsSameIn g a b t) [
-      | zero ↦ λ out. record { on = refl; power = refl; reserve = refl }
-      | suc k ↦ λ out. record { on = outside.on k out; power = ap pos (outside.power k out); reserve = ap pos (outside.reserve k out) }
-    ];
-  }
+  written_first a b best on outside =
+      written_by a b best.0 best.1 best.2 on (λ k out. record { on = outside.on k out; power = ap pos (outside.power k out); reserve = ap pos (outside.reserve k out) })
 
   -- there is a dispatch, so one is answered
   pub written_answer : (n : ℕ) (a b : Schedule) (answer : Option ℤ) → n ≡ max first 1 → (net : ℤ) × IsLeastSpell g π periods first last net
@@ -170,13 +148,12 @@ module _ (g : ThermalUnit) (π : PriceLists) (periods : ℕ) (ends : ℕ → Opt
       let dispatch : IsDispatch g periods 0 l b = subst (λ (f : ℕ). IsDispatch g periods f l b) none best.0 in
       let net : spell_cost g π 0 l b ≡ ended.net = subst (λ (f : ℕ). spell_cost g π f l b ≡ ended.net) none best.1 in
       let e : ended.entry_cost ≡ pos 0 = elim (ended.entry.entry) [ inl z ↦ z.1 | inr st ↦ (let f = st.first in absurd (omega (arith, f, none))) ] in
-      let cost = ended.cost in
-      let v_is : spell_cost g π 0 l b ≡ v = omega (arith, ints, e, cost, net) in
+      let v_is : spell_cost g π 0 l b ≡ v = omega (arith, ints, e, net) in
       subst (λ (v : ℤ). IsUpTo g π periods b l v) v_is (up_to_first g π periods b ramp_up ramp_down l spell (on_all a b written none (ended.spell.goes_on none)) dispatch)
 
   pub started : 1 ≤ first → IsStarted g ends first before ended.entry_cost
   started one = elim (ended.entry.entry) [
-    | inl z ↦ let none = z.0 in absurd (omega (arith, none, one))
+    | inl z ↦ absurd (omega (arith, one))
     | inr st ↦ st
   ]
 
@@ -189,24 +166,20 @@ module _ (g : ThermalUnit) (π : PriceLists) (periods : ℕ) (ends : ℕ → Opt
       let least : IsLeastSpell g π periods (suc st.before) l ended.net = subst (λ (f : ℕ). IsLeastSpell g π periods f l ended.net) begins ended.least in
       let here : IsWritten g π periods (suc st.before) l a b = subst (λ (f : ℕ). IsWritten g π periods f l a b) begins written in
       let order = spell.order in
-      let from = st.gap.off.order in
       let best = here.best ended.net least in
       let same : (t : ℕ) → 1 ≤ t → suc st.before ≤ t → t ≤ l → (power_in c t ≡ power_in b t) × (reserve_in c t ≡ reserve_in b t) =
-      λ t one low until. (let r = later t (omega (arith, low, from)) in (r.power, r.reserve)) in
+      λ t one low until. (let r = later t (omega (arith, low)) in (r.power, r.reserve)) in
       let dispatch = dispatch-same g π periods (suc st.before) l order b c same best.0 in
       let cost = spell_cost-same g π periods (suc st.before) l order b c same in
       let on : (t : ℕ) → suc st.before ≤ t → t ≤ l → IsTrue (on_in g c t) =
-      λ t low until. (later t (omega (arith, low, from))).on ∙ here.on t (omega (arith, low)) low until in
+      λ t low until. (later t (omega (arith, low))).on ∙ here.on t (omega (arith, low)) low until in
       let off : IsIdle g c before st.before = record {
         off = λ t above until. (later t above).on ∙ (here.others t (inl (omega (arith, until)))).on ∙ idle.off t (omega (arith, above)) (omega (arith, until, order));
         power = λ t above until. (later t above).power ∙ (here.others t (inl (omega (arith, until)))).power ∙ idle.power t (omega (arith, above)) (omega (arith, until, order));
         reserve = λ t above until. (later t above).reserve ∙ (here.others t (inl (omega (arith, until)))).reserve ∙ idle.reserve t (omega (arith, above)) (omega (arith, until, order));
       } in
       let r = up_to_next g π periods c ramp_up ramp_down before st.before l st.value up st.gap some_down off spell on dispatch in
-      let net = best.1 in
-      let value = ended.cost in
-      let entry = st.cost in
-      let z : (st.value +ℤ start_cost_after g before st.before) +ℤ spell_cost g π (suc st.before) l c ≡ v = omega (arith, ints, cost, net, value, entry) in
+      let z : (st.value +ℤ start_cost_after g before st.before) +ℤ spell_cost g π (suc st.before) l c ≡ v = omega (arith, ints, cost) in
       subst (λ (v : ℤ). IsUpTo g π periods c l v) z r
 
 -- ---- what stays
@@ -261,8 +234,7 @@ module _ (g : ThermalUnit) (π : PriceLists) (rows : List (Option Ended)) (l : �
           subst (λ (k : ℕ). IsUpTo g π (length π.energy) a k v) (sym none)
           (subst (λ (v : ℤ). IsUpTo g π (length π.energy) a 0 v) (sym z.2) (up_to_idle g π (length π.energy) a ramp_up ramp_down off))
       | inr from ↦
-          let order = from.1.spell.order in
-          let on = from.1.spell.goes_on (omega (arith, order, none)) in cc
+          let on = from.1.spell.goes_on (omega (arith, none)) in cc
     ];
     first = λ v is other rival. record {
       flag = λ t low agree here. (let z : 0 ≡ t = omega (arith, low, none) in subst (λ (t : ℕ). IsTrue (on_in g a t) → IsTrue (on_in g other t)) z (λ on0. on0) here);
@@ -276,7 +248,7 @@ module _ (g : ThermalUnit) (π : PriceLists) (rows : List (Option Ended)) (l : �
   module _ (e : Ended) (row : row_at rows l ≡ Some e) (on0 : l ≡ 0 → IsTrue g.on0) where
     pub ended_of : IsEnded g π (length π.energy) ends e.first e.before l e.cost
     ended_of = elim (from_row e.cost (cost-is rows l e row)) [
-      | inl h ↦ let on = on0 h.1 in let off = h.0 in cc
+      | inl h ↦ let on = on0 h.1 in cc
       | inr h ↦
           subst (λ (f : ℕ). IsEnded g π (length π.energy) ends f e.before l e.cost) (first-is rows l e row)
           (subst (λ (k : ℕ). IsEnded g π (length π.energy) ends (first_at rows l) k l e.cost) (before-is rows l e row) h.1)
@@ -284,7 +256,7 @@ module _ (g : ThermalUnit) (π : PriceLists) (rows : List (Option Ended)) (l : �
 
     latest_of : IsLatest g π (length π.energy) (suc (length π.energy)) ends e.first l e.cost
     latest_of = elim (from_row e.cost (cost-is rows l e row)) [
-      | inl h ↦ let on = on0 h.1 in let off = h.0 in cc
+      | inl h ↦ let on = on0 h.1 in cc
       | inr h ↦ subst (λ (f : ℕ). IsLatest g π (length π.energy) (suc (length π.energy)) ends f l e.cost) (first-is rows l e row) h.2
     ]
 
@@ -311,25 +283,23 @@ module _ (g : ThermalUnit) (π : PriceLists) (rows : List (Option Ended)) (l : �
             later = λ t above. written.others t (inr above);
             zero_off = zero_off_written g π T e.first l a b written;
           };
-          before_less = λ one. (let st = start one in let first = st.first in let from = st.gap.off.order in omega (arith, order, first, from));
+          before_less = λ one. (let st = start one in omega (arith, order));
           before_ended = λ one. (let st = start one in (st.value, prior ended st));
           before_idle = λ a b one written idle.
-              (let st = start one in let first = st.first in let from = st.gap.off.order in
-              idle_written g π T e.first l e.before a b written (omega (arith, first, from)) order idle);
+              (let st = start one in
+              idle_written g π T e.first l e.before a b written (omega arith) order idle);
           rest = λ a b c one idle written back.
               (let st = start one in
-              let first = st.first in
-              let from = st.gap.off.order in
               record {
                 up_to = λ v is. subst (λ (v : ℤ). IsUpTo g π T c l v) (value_of v is)
                     (back_next g π T ends ramp_up ramp_down some_down e.first e.before l e.cost ended st a b c idle written (back.up_to st.value (prior ended st)) back.later);
                 first = λ v is. subst (λ (v : ℤ). IsFirstUpTo g π T l v c) (value_of v is)
                     (first_after g π ends T complete e.first e.before l e.cost ended (here e.cost (cost-is rows l e row)) latest_of c
-                    (first_dispatch-same g π T e.first l order b c (λ t one low until. (let r = back.later t (omega (arith, low, first, from)) in (r.power, r.reserve))) ended.net (written.tie ended.net ended.least))
+                    (first_dispatch-same g π T e.first l order b c (λ t one low until. (let r = back.later t (omega (arith, low)) in (r.power, r.reserve))) ended.net (written.tie ended.net ended.least))
                     some_down st
-                    (λ t above until. (back.later t above).on ∙ (written.others t (inl (omega (arith, until, first)))).on ∙ idle.off t (omega (arith, above)) (omega (arith, until, order, first)))
+                    (λ t above until. (back.later t above).on ∙ (written.others t (inl (omega (arith, until)))).on ∙ idle.off t (omega (arith, above)) (omega (arith, until, order)))
                     (back.first st.value (prior ended st)));
-                later = λ t above. same_then g a b c t (written.others t (inr above)) (back.later t (omega (arith, above, order, first, from)));
+                later = λ t above. same_then g a b c t (written.others t (inr above)) (back.later t (omega (arith, above, order)));
                 zero_off = λ h. back.zero_off (zero_off_written g π T e.first l a b written h);
               });
         }

@@ -142,9 +142,8 @@ module _ (periods : ℕ) (o s : Schedule) (shape_o : IsSchedule periods o) (shap
 
   powers_not_less : o.on ≡ s.on → slice_cmp nat_cmp (reverse o.power) (reverse s.power) ≡ Less → ⊥
   powers_not_less on less =
-      let n = shape_o.power in
-      not_less_backwards o.power s.power (n ∙ sym shape_s.power)
-      (λ k low agree. no_later.power on k (omega (arith, low, n)) (λ j above inside. agree j above (omega (arith, inside, n)))) less
+      not_less_backwards o.power s.power (shape_o.power ∙ sym shape_s.power)
+      (λ k low agree. no_later.power on k (omega (arith, low)) (λ j above inside. agree j above (omega (arith, inside)))) less
 
   reserves_not_less : o.on ≡ s.on → o.power ≡ s.power → slice_cmp nat_cmp (reverse o.reserve) (reverse s.reserve) ≡ Less → ⊥
   reserves_not_less on power less =

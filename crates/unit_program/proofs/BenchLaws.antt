@@ -20,20 +20,14 @@ pub bench_kept : {R : Type 0} (room : R → ℕ) (periods points : ℕ) (old new
     length new.origins.list.items ≡ length old.origins.list.items →
     length new.roster.firsts.items ≡ length old.roster.firsts.items → length new.limits.items ≡ length old.limits.items → IsBenchFor room periods points old → IsBenchFor room periods points new
 bench_kept room periods points old new curve count keeps rows list firsts each b =
-    let blocks = b.blocks in
-    let enough = b.count in
-    let long = b.rows in
-    let origins = b.origins in
-    let roster = b.roster in
-    let limits = b.limits in
     record {
-      blocks = omega (arith, blocks, curve);
-      count = omega (arith, enough, count);
+      blocks = omega (arith, curve);
+      count = omega (arith, count);
       room = keeps (periods * (2 * points + 3)) periods b.room;
-      rows = omega (arith, long, rows);
-      origins = omega (arith, origins, list);
-      roster = omega (arith, roster, firsts);
-      limits = omega (arith, limits, each);
+      rows = omega (arith, rows);
+      origins = omega (arith, list);
+      roster = omega (arith, firsts);
+      limits = omega (arith, each);
     }
 
 -- ---- runners made one by one

@@ -11,7 +11,7 @@ use Rattle.period_table.specs.Spells.{IsOffRun, paid}
 use Rattle.period_table.specs.Tables.{IsComplete, IsLeastEnd}
 use Rattle.unit_program.specs.Builds.{IsUpTo, IsIdle}
 use Rattle.unit_program.proofs.BuildLaws.{right_of}
-use Rattle.unit_program.proofs.SpellLaws.{table_is_least}
+use Rattle.unit_program.proofs.ShapeLaws.{table_is_least}
 use Rattle.unit_program.specs.Backs.{IsSameIn, IsZeroOff}
 use Rattle.unit_program.specs.Ties.{IsFirstUpTo}
 use Rattle.unit_program.proofs.BackwardOrder.{not_before}
@@ -54,18 +54,15 @@ module _ (g : ThermalUnit) (π : PriceLists) (periods : ℕ) (horizon : periods 
         power = λ t above until. (later t above).power ∙ cleared.power t (omega (arith, above)) until;
         reserve = λ t above until. (later t above).reserve ∙ cleared.reserve t (omega (arith, above)) until;
       } in
-      let r = right_of g π periods b ramp_up ramp_down l v schedule up least.off.order least.off idle in
-      let earned = r.1 in (
+      let r = right_of g π periods b ramp_up ramp_down l v schedule up least.off.order least.off idle in (
         record {
           feasible = subst (λ (n : ℕ). IsThermalFeasible g n b) horizon r.0;
           greatest = λ other right.
               (let s = table_is_least g π ends periods other (subst (λ (n : ℕ). IsThermalFeasible g n other) (sym horizon) right) complete in
-              let h = s.3 in
-              let low = least.least s.0 h.0 h.1 s.2 in
-              let cost = h.2 in
-              omega (arith, ints, low, cost, earned));
+              let low = least.least s.0 s.3.0 s.3.1 s.2 in
+              omega (arith, ints, low));
         },
-        earned,
+        r.1,
       )
 
   -- and where the end is the earliest, and all up to it the first of that cost, it is the least of the best ones
@@ -75,7 +72,6 @@ module _ (g : ThermalUnit) (π : PriceLists) (periods : ℕ) (horizon : periods 
       → IsLeast (Thermal g) π b
   least_of l v a b least earliest cleared up first later zero_off on power reserve =
       let r = best_of l v a b least cleared up later zero_off on power reserve in
-      let earned = r.1 in
       let best = r.0 in
       let right = subst (λ (n : ℕ). IsThermalFeasible g n b) (sym horizon) best.feasible in
       record {
@@ -85,7 +81,7 @@ module _ (g : ThermalUnit) (π : PriceLists) (periods : ℕ) (horizon : periods 
             let above = best_other.greatest b best.feasible in
             let below = best.greatest other best_other.feasible in
             let paid_is = earnings-paid g π other periods right_other.schedule in
-            let cost : paid g π other periods ≡ v = omega (arith, ints, above, below, paid_is, earned) in
+            let cost : paid g π other periods ≡ v = omega (arith, ints, above, below, paid_is) in
             not_before periods other b right_other.schedule right.schedule
             (no_later_whole g π ends periods complete l v least.off.order earliest least.least b
             (λ t above until. (later t above).on ∙ cleared.off t (omega (arith, above)) until) zero_off first other right_other cost) before);
@@ -95,8 +91,7 @@ module _ (g : ThermalUnit) (π : PriceLists) (periods : ℕ) (horizon : periods 
   pub none_right : ((l : ℕ) (v : ℤ) → ends l ≡ Some v → IsOffRun g l periods → ⊥) → (s : Schedule) → IsThermalFeasible g periods s → ⊥
   none_right none s right =
       let r = table_is_least g π ends periods s right complete in
-      let h = r.3 in
-      none r.0 h.0 h.1 r.2
+      none r.0 r.3.0 r.3.1 r.2
 
 -- what holds of an answer that came
 pub ok_then : {X E : Type 0} (r : Result X E) (P : Type 0) → OnOk r P → is_ok r ≡ true → P

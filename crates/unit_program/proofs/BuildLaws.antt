@@ -41,16 +41,14 @@ module _ (g : ThermalUnit) (π : PriceLists) (periods : ℕ) (s : Schedule)
     stop_step here after none may =
         let a = above-on g s k here in
         let b = above-off g s (suc k) after in
-        let up = may.up in
-        let down = may.down in
         record {
           least = λ on. cc;
           greatest = λ on. cc;
-          start = λ st. (let p = start_is_on (on_in g s k) (on_in g s (suc k)) st in let off = p.0 in cc);
+          start = λ st. (let p = start_is_on (on_in g s k) (on_in g s (suc k)) st in cc);
           stop = λ one st. (let h = may.cap one in omega (arith, ints, h, a));
           stop_at_once = λ none st. may.cap_at_once none;
-          ramp_up = omega (arith, ints, a, b, none, up);
-          ramp_down = omega (arith, ints, a, b, down);
+          ramp_up = omega (arith, ints, a, b, none);
+          ramp_down = omega (arith, ints, a, b);
         }
 
     off_step : IsFalse (on_in g s k) → IsFalse (on_in g s (suc k)) → reserve_in s (suc k) ≡ pos 0 → IsDispatchStep g s k
@@ -96,9 +94,9 @@ module _ (g : ThermalUnit) (π : PriceLists) (periods : ℕ) (s : Schedule)
         record {
           least = λ on. omega (arith, ints, b, least);
           greatest = λ on. omega (arith, ints, b, greatest);
-          start = λ st. (let p = start_is_on (on_in g s k) (on_in g s (suc k)) st in let off = p.0 in cc);
-          stop = λ one st. (let p = stop_is_off (on_in g s k) (on_in g s (suc k)) st in let off = p.1 in cc);
-          stop_at_once = λ none st. (let p = stop_is_off (on_in g s k) (on_in g s (suc k)) st in let off = p.1 in cc);
+          start = λ st. (let p = start_is_on (on_in g s k) (on_in g s (suc k)) st in cc);
+          stop = λ one st. (let p = stop_is_off (on_in g s k) (on_in g s (suc k)) st in cc);
+          stop_at_once = λ none st. (let p = stop_is_off (on_in g s k) (on_in g s (suc k)) st in cc);
           ramp_up = omega (arith, ints, a, b, up);
           ramp_down = omega (arith, ints, a, b, down);
         }
@@ -149,7 +147,7 @@ module _ (g : ThermalUnit) (π : PriceLists) (periods : ℕ) (s : Schedule)
                   dispatch = below_suc (λ k. IsDispatchStep g s k) t there.dispatch (stop_step t on off none may);
                   off = off;
                   time = time_down-more g s t off ∙ ap suc was ∙ sym (off_time-first g s t on) ∙ ap (λ (k : ℕ). off_time g k (suc t)) (sym z);
-                  cost = (let c = there.cost in omega (arith, ints, c, zero_cost));
+                  cost = omega (arith, ints, zero_cost);
                 }
           ]
           | false ↦ λ before.
@@ -159,7 +157,7 @@ module _ (g : ThermalUnit) (π : PriceLists) (periods : ℕ) (s : Schedule)
                 dispatch = below_suc (λ k. IsDispatchStep g s k) t r.dispatch (off_step t before off none);
                 off = off;
                 time = time_down-more g s t off ∙ ap suc r.time ∙ sym (off_time-more g l t (omega (arith, more)));
-                cost = (let c = r.cost in omega (arith, ints, c, zero_cost));
+                cost = omega (arith, ints, zero_cost);
               }
         ] refl
   ]
@@ -188,12 +186,11 @@ module _ (g : ThermalUnit) (π : PriceLists) (periods : ℕ) (s : Schedule)
         let after = on (suc t) (omega (arith, from)) until in
         let stay = period_cost-stay g π s t here after in
         let more = sum_from_to-more (net_cost g π s) f t (omega (arith, from)) in
-        let c = st.cost in
         record {
           steps = below_suc (λ k. IsStep g s k) t st.steps (on_commit f l t spell (omega (arith, from)) until after (λ off. cc));
           dispatch = below_suc (λ k. IsDispatchStep g s k) t st.dispatch (on_step t f l here after d from until);
           time = held-more (on_in g s) g.up0 t after ∙ ap suc st.time ∙ sym (on_time-more g f t from);
-          cost = omega (arith, ints, stay, more, c);
+          cost = omega (arith, ints, stay, more);
         }
 
     on_to : IsOnTo f f e → (t : ℕ) → f ≤ t → t ≤ l → IsOnTo f t e
@@ -211,7 +208,7 @@ module _ (g : ThermalUnit) (π : PriceLists) (periods : ℕ) (s : Schedule)
           dispatch = r.dispatch;
           on = λ one. on l spell.order (omega arith);
           stops = λ inside here. record {
-            min_up = (let m = spell.min_up inside in let time = r.time in omega (arith, m, time));
+            min_up = (let m = spell.min_up inside in omega (arith, m));
             cap = λ one. d.stop inside one;
             cap_at_once = λ none. d.stop_at_once inside none;
             down = d.leave inside;
@@ -259,32 +256,29 @@ module _ (g : ThermalUnit) (π : PriceLists) (periods : ℕ) (s : Schedule)
   pub up_to_next : (l k m : ℕ) (v : ℤ) → IsUpTo g π periods s l v → IsGap g l k → 1 ≤ g.min_down → IsIdle g s l k → IsSpell g periods (suc k) m → ((t : ℕ) → suc k ≤ t → t ≤ m → IsTrue (on_in g s t)) → IsDispatch g periods (suc k) m s → IsUpTo g π periods s m ((v +ℤ start_cost_after g l k) +ℤ spell_cost g π (suc k) m s)
   up_to_next l k m v up gap some idle spell on d =
       let order = spell.order in
-      let end = spell.end in
       let after = on (suc k) (omega arith) order in
       let off : IsFalse (on_in g s k) = elim (on_in g s k) as (λ b. on_in g s k ≡ b → IsFalse (on_in g s k)) [
         | false ↦ λ is. is
         | true ↦ λ is. elim (cases_lt l k) [
           | inl more ↦ idle.off k more (omega arith)
           | inr most ↦
-              let from = gap.off.order in
-              let z : l ≡ k = omega (arith, most, from) in
+              let z : l ≡ k = omega (arith, most) in
               let none = off_time-same l (subst (λ (k : ℕ). IsTrue (on_in g s k)) (sym z) is) in
               let down = subst (λ (k : ℕ). g.min_down ≤ off_time g l k) (sym z) gap.min_down in
               absurd (omega (arith, none, down, some))
         ]
       ] refl in
-      let r = off_to l v up k (omega (arith, order, end)) gap.off idle k gap.off.order (omega arith) off in
+      let r = off_to l v up k (omega (arith, order)) gap.off idle k gap.off.order (omega arith) off in
       let none = held-none (on_in g s) g.up0 k off in
       let one = sum_from_to-one (net_cost g π s) (suc k) in
       let starts = period_cost-start g π s k off after in
       let start = ap (start_cost_of g.lags) r.time in
-      let c = r.cost in
       let time = r.time in
       let first : IsOnTo (suc k) (suc k) (v +ℤ start_cost_after g l k) = record {
-        steps = below_suc (λ k. IsStep g s k) k r.steps (on_commit (suc k) m k spell (omega arith) order after (λ _. (let h = gap.min_down in omega (arith, h, time))));
+        steps = below_suc (λ k. IsStep g s k) k r.steps (on_commit (suc k) m k spell (omega arith) order after (λ _. (omega (arith, time))));
         dispatch = below_suc (λ k. IsDispatchStep g s k) k r.dispatch (start_step k m off after d order);
         time = held-more (on_in g s) g.up0 k after ∙ ap suc none ∙ (omega arith);
-        cost = omega (arith, ints, one, starts, start, c);
+        cost = omega (arith, ints, one, starts, start);
       } in
       up_to (suc k) m (v +ℤ start_cost_after g l k) spell on d first
 
@@ -292,18 +286,18 @@ module _ (g : ThermalUnit) (π : PriceLists) (periods : ℕ) (s : Schedule)
 
   module _ (is : length s.on ≡ periods) (dispatch : (k : ℕ) → k < periods → IsDispatchStep g s k) where
     dispatch_of : (t : ℕ) → IsPeriod s t → (P : ℕ → Type 0) → ((k : ℕ) → IsDispatchStep g s k → P (suc k)) → P t
-    dispatch_of zero period P f = let one = period.from_one in absurd (omega (arith, one))
-    dispatch_of (suc k) period P f = let low = period.to_last in f k (dispatch k (omega (arith, low, is)))
+    dispatch_of zero period P f = absurd (omega arith)
+    dispatch_of (suc k) period P f = f k (dispatch k (omega (arith, is)))
 
     keeps_dispatch : KeepsDispatch g s
     keeps_dispatch = record {
       least = λ t period. dispatch_of t period (λ t. IsTrue (on_in g s t) → pos 0 ≤ℤ above_min g s t) (λ k st. st.least);
       greatest = λ t period. dispatch_of t period (λ t. IsTrue (on_in g s t) → above_with_reserve g s t ≤ℤ cap_of g false false) (λ k st. st.greatest);
       start = λ t period. dispatch_of t period (λ t. IsTrue (starts_in g s t) → above_with_reserve g s t ≤ℤ cap_of g true false) (λ k st. st.start);
-      stop = λ t period next. (let low = next.to_last in (dispatch t (omega (arith, low, is))).stop period.from_one);
-      stop_at_once = λ one. (let low = one.to_last in (dispatch 0 (omega (arith, low, is))).stop_at_once refl);
-      ramp_up = λ k period. (let low = period.to_last in (dispatch k (omega (arith, low, is))).ramp_up);
-      ramp_down = λ k period. (let low = period.to_last in (dispatch k (omega (arith, low, is))).ramp_down);
+      stop = λ t period next. ((dispatch t (omega (arith, is))).stop period.from_one);
+      stop_at_once = λ one. ((dispatch 0 (omega (arith, is))).stop_at_once refl);
+      ramp_up = λ k period. ((dispatch k (omega (arith, is))).ramp_up);
+      ramp_down = λ k period. ((dispatch k (omega (arith, is))).ramp_down);
     }
 
   -- a schedule that is right up to period l and off after it is feasible and earns what it costs, turned round

@@ -82,8 +82,8 @@ module _ (g : ThermalUnit) (s : Schedule) where
         omega (arith, l, e))
 
     step_of : (t : ℕ) → IsPeriod s t → (P : ℕ → Type 0) → ((k : ℕ) → k < end → P (suc k)) → P t
-    step_of zero period P f = let one = period.from_one in absurd (omega (arith, one))
-    step_of (suc k) period P f = let low = period.to_last in f k (omega (arith, low))
+    step_of zero period P f = absurd (omega arith)
+    step_of (suc k) period P f = f k (omega arith)
 
     rule_up : (start t : ℕ) → IsTrue (starts_in g s start) → start ≤ t → t < start + g.min_up → IsPeriod s t → IsTrue (on_in g s t)
     rule_up zero t h order within period = cc

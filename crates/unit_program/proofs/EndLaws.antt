@@ -32,8 +32,7 @@ module _ (g : ThermalUnit) (periods : ℕ) (ends : ℕ → Option ℤ) where
       | inl less ↦
           let r = so_far.complete k v less is run in
           let s = old r.0 r.1 in
-          let a = r.2 in let b = s.2 in
-          (s.0, s.1, omega (arith, ints, a, b))
+          (s.0, s.1, omega (arith, ints))
       | inr most ↦
           let z : k ≡ last = omega (arith, most, low) in
           added v (all_ends v (ap ends (sym z) ∙ is) (subst (λ (k : ℕ). IsOffRun g k periods) z run))
@@ -53,10 +52,9 @@ module _ (g : ThermalUnit) (periods : ℕ) (ends : ℕ → Option ℤ) where
             let s = so_far.complete k r.cost less ended run in
             let below = so_far.inside s.0 s.1 in
             let z = h.1 in
-            let cost = s.2 in
             elim (kept s.0 r s.1 is) [
               | inl same ↦ absurd (omega (arith, same, below, z))
-              | inr more ↦ absurd (omega (arith, ints, more, cost))
+              | inr more ↦ absurd (omega (arith, ints, more))
             ]
       ]
     ];
@@ -69,16 +67,14 @@ module _ (g : ThermalUnit) (periods : ℕ) (ends : ℕ → Option ℤ) where
         ended = here.0;
         off = here.1;
         least = λ k u ended run.
-            (let order = run.order in
-            let s = so_far.complete k u (omega (arith, order, all_)) ended run in
-            let same : s.0 ≡ r = (let a = s.1 in cc) in
+            (
+            let s = so_far.complete k u (omega (arith, all_)) ended run in
+            let same : s.0 ≡ r = (cc) in
             let cost = ap (λ (r : Entry). r.cost) same in
-            let low = s.2 in
-            omega (arith, ints, cost, low));
+            omega (arith, ints, cost));
       }
 
   pub no_end_of_all : (last : ℕ) (least : Option Entry) → periods < last → IsLeastEndSoFar last least → least ≡ None → (k : ℕ) (u : ℤ) → ends k ≡ Some u → IsOffRun g k periods → ⊥
   no_end_of_all last least all_ so_far is k u ended run =
-      let order = run.order in
-      let s = so_far.complete k u (omega (arith, order, all_)) ended run in
-      let a = s.1 in cc
+      let s = so_far.complete k u (omega (arith, all_)) ended run in
+      cc

@@ -45,8 +45,7 @@ module _ (g : ThermalUnit) (ends : ℕ → Option ℤ) (before : ℕ) where
       | inl less ↦
           let r = so_far.complete k v less is gap in
           let s = old r.0 r.1 in
-          let a = r.2 in let b = s.2 in
-          (s.0, s.1, omega (arith, ints, a, b))
+          (s.0, s.1, omega (arith, ints))
       | inr most ↦
           let z : k ≡ last = omega (arith, most, low) in
           let is' = ap ends (sym z) ∙ is in
@@ -56,11 +55,10 @@ module _ (g : ThermalUnit) (ends : ℕ → Option ℤ) (before : ℕ) where
             | None ↦ λ e. absurd (if_none ((v : ℤ) → ends last ≡ Some v → IsGap g last before → ⊥) o e none v is' gap')
             | Some x ↦ λ e.
                 let way = if_some (Way last) o x e some in
-                let value : way.0 ≡ v = (let a = way.1 in cc) in
+                let value : way.0 ≡ v = (cc) in
                 let cost = way.3 in
                 let r = added x e in
-                let b = r.2 in
-                (r.0, r.1, omega (arith, ints, same, value, cost, b))
+                (r.0, r.1, omega (arith, ints, same, value, cost))
           ] refl
     ];
     bound = λ r is. elim (from r is) [
@@ -97,28 +95,21 @@ module _ (g : ThermalUnit) (ends : ℕ → Option ℤ) (before : ℕ) where
     least = λ d entry. elim (entry.1) [
       | inl h ↦ let z = h.0 in absurd (omega (arith, z))
       | inr h ↦
-          let first = h.first in
-          let z : h.before ≡ before = omega (arith, first) in
+          let z : h.before ≡ before = omega arith in
           let gap = subst (λ (k : ℕ). IsGap g entry.0 k) z h.gap in
-          let order = gap.off.order in
-          let s = so_far.complete entry.0 h.value (omega (arith, order, all_)) h.ended gap in
-          let same : s.0 ≡ r = (let a = s.1 in cc) in
+          let s = so_far.complete entry.0 h.value (omega (arith, all_)) h.ended gap in
+          let same : s.0 ≡ r = (cc) in
           let cost = ap (λ (r : Entry). r.cost) same in
           let start = ap (λ (k : ℕ). start_cost_after g entry.0 k) z in
-          let low = s.2 in
-          let is_cost = h.cost in
-          omega (arith, ints, cost, start, low, is_cost)
+          omega (arith, ints, cost, start)
     ];
     earliest = λ k entry. elim entry [
       | inl h ↦ let z = h.0 in absurd (omega (arith, z))
       | inr h ↦
-          let first = h.first in
-          let z : h.before ≡ before = omega (arith, first) in
+          let z : h.before ≡ before = omega arith in
           let gap = subst (λ (b : ℕ). IsGap g k b) z h.gap in
-          let order = gap.off.order in
           let start = ap (λ (b : ℕ). start_cost_after g k b) z in
-          let is_cost = h.cost in
-          so_far.earliest r is k h.value (omega (arith, order, all_)) h.ended gap (omega (arith, ints, start, is_cost))
+          so_far.earliest r is k h.value (omega (arith, all_)) h.ended gap (omega (arith, ints, start))
     ];
   }
 
@@ -126,10 +117,8 @@ module _ (g : ThermalUnit) (ends : ℕ → Option ℤ) (before : ℕ) where
   none_of_all last least all_ so_far is e entry = elim (entry.1) [
     | inl h ↦ let z = h.0 in absurd (omega (arith, z))
     | inr h ↦
-        let first = h.first in
-        let z : h.before ≡ before = omega (arith, first) in
+        let z : h.before ≡ before = omega arith in
         let gap = subst (λ (k : ℕ). IsGap g entry.0 k) z h.gap in
-        let order = gap.off.order in
-        let s = so_far.complete entry.0 h.value (omega (arith, order, all_)) h.ended gap in
-        let a = s.1 in cc
+        let s = so_far.complete entry.0 h.value (omega (arith, all_)) h.ended gap in
+        cc
   ]

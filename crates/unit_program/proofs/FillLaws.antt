@@ -19,15 +19,12 @@ module _ (g : ThermalUnit) where
   starts_off ends last e some entry = elim entry [
     | inl h ↦ let none = h.0 in absurd (omega (arith, none))
     | inr st ↦
-        let first = st.first in
-        let order = st.gap.off.order in
-        let z : last ≡ 0 = omega (arith, order, first) in
-        let k : st.before ≡ 0 = omega (arith, first) in
-        let down = st.gap.min_down in
+        let z : last ≡ 0 = omega arith in
+        let k : st.before ≡ 0 = omega arith in
         let time : off_time g last st.before ≡ off_time g 0 0 = ap (λ (l : ℕ). off_time g l st.before) z ∙ ap (off_time g 0) k in
         elim (g.on0) as (λ b. g.on0 ≡ b → IsFalse b) [
           | false ↦ λ off. refl
-          | true ↦ λ on. (let none : off_time g 0 0 ≡ 0 = ap (λ (b : Bool). cond b 0 (g.down0 + 0)) on in absurd (omega (arith, none, time, down, some)))
+          | true ↦ λ on. (let none : off_time g 0 0 ≡ 0 = ap (λ (b : Bool). cond b 0 (g.down0 + 0)) on in absurd (omega (arith, none, time, some)))
         ] refl
   ]
 
@@ -44,7 +41,7 @@ module _ (g : ThermalUnit) (π : PriceLists) where
     pub filled_more : (last : ℕ) (e : ℤ) (new : List (Option Ended)) → 1 ≤ n → IsLeastEntry g (cost_at rows) n last e → IsAdded g π n last e rows new → IsFilled g π (suc n) new
     filled_more last e new one least added = record {
       table = table_more g π (length π.energy) n (first_at rows) (before_at rows) (cost_at rows) filled.table last e least added.nets (cost_at new) (first_at new) (before_at new)
-          (λ l spell. (let order = spell.order in added.right l (omega (arith, one, order)) spell)) added.update;
+          (λ l spell. (added.right l (omega (arith, one)) spell)) added.update;
       within = added.within;
     }
 
@@ -67,7 +64,7 @@ module _ (g : ThermalUnit) (π : PriceLists) where
 
     zero_row : IsFalse g.on0 → row_at rows 0 ≡ Some (record { cost = pos 0; first = 0; before = 0 })
     zero_row off = elim (row_at rows 0) as (λ o. row_at rows 0 ≡ o → row_at rows 0 ≡ Some (record { cost = pos 0; first = 0; before = 0 })) [
-      | None ↦ λ is. (let h : IsFirstRow g None = subst (IsFirstRow g) is first in let on = h.0 in cc)
+      | None ↦ λ is. (let h : IsFirstRow g None = subst (IsFirstRow g) is first in cc)
       | Some e ↦ λ is. is ∙ ap Some (row_of e is).0
     ] refl
 
@@ -115,7 +112,7 @@ module _ (g : ThermalUnit) (π : PriceLists) where
 
       adds : (l : ℕ) (c : ℤ) → IsSpell g (length π.energy) 0 l → nets l ≡ Some c → HasAtMost (cost_at new l) (pos 0 +ℤ c)
       unfolding nets
-      adds zero c spell net = let r = added.update.keeps 0 c net in let low = r.2 in (r.0, r.1, omega (arith, ints, low))
+      adds zero c spell net = let r = added.update.keeps 0 c net in (r.0, r.1, omega (arith, ints))
       adds (suc k) c spell net = added.update.adds (suc k) c spell net
 
       abbrev From : ℕ → ℤ → Type 0
@@ -129,10 +126,10 @@ module _ (g : ThermalUnit) (π : PriceLists) where
             let row = only.2 in
             let e : Ended = record { cost = pos 0; first = 0; before = 0 } in
             (h.1 ∙ first-is rows 0 e row, h.2 ∙ before-is rows 0 e row, spell_at_once (only.3 on0).1, (v, h.0, omega (arith, ints)))
-        | inr h ↦ let none = added.none in let net = h.3.1 in cc
+        | inr h ↦ let none = added.none in cc
       ]
       sound (suc k) v is = elim (added.update.sound (suc k) v is) [
-        | inl h ↦ let none = no_cost (suc k) (omega arith) in let here = h.0 in cc
+        | inl h ↦ let none = no_cost (suc k) (omega arith) in cc
         | inr h ↦ h
       ]
 
@@ -150,8 +147,8 @@ module _ (g : ThermalUnit) (π : PriceLists) where
       least_before = record {
         entry = inl (refl, refl);
         least = λ d entry. elim (entry.1) [
-          | inl h ↦ let z = h.1 in omega (arith, ints, z)
-          | inr h ↦ let f = h.first in absurd (omega (arith, f))
+          | inl h ↦ omega (arith, ints)
+          | inr h ↦ absurd (omega arith)
         ];
         earliest = λ k entry. omega arith;
       }

@@ -32,11 +32,11 @@ pub mod NoteLaws
 pub mod RowLaws
 -- least times on and off: by runs, as the rules have them, and by single steps
 pub mod RunLaws
--- the run that a period of a schedule is in, and what the schedule costs up to it
+-- the run that a period of a schedule is in, and what the schedule costs up to it: no less than the tables say
 pub mod ShapeLaws
 -- the spells from one first period on, as far as the window goes
 pub mod SpanLaws
--- no feasible schedule costs less than the tables say: by induction over the periods, with the run that a period is in
+-- runs of on periods and times off of a schedule, by single steps: their dispatch, costs, times and marks
 pub mod SpellLaws
 -- one more first period in the table
 pub mod TableLaws

@@ -23,7 +23,7 @@ module _ (capped_row : CappedRowsAreRows) (low_start : StartsAreWithinLimits) (g
   ends = capped limits (cost_at rows)
 
   low_here : (v : ℤ) → cost_at rows l ≡ Some v → v ≤ℤ limits l
-  low_here v is = (let same : within.value ≡ v = (let e = within.ended in cc) in let under = within.low in omega (arith, ints, same, under))
+  low_here v is = (let same : within.value ≡ v = (cc) in omega (arith, ints, same))
 
   here : (v : ℤ) → cost_at rows l ≡ Some v → ends l ≡ Some v
   here v is = row_here capped_row g π within.most rows within.filled l v is (low_here v is)
@@ -38,10 +38,8 @@ module _ (capped_row : CappedRowsAreRows) (low_start : StartsAreWithinLimits) (g
   module _ (e : Ended) (row : row_at rows l ≡ Some e) (on0 : l ≡ 0 → IsTrue g.on0) where
     value_low : (ended : IsEnded g π (length π.energy) ends e.first e.before l e.cost) (st : IsStarted g ends e.first e.before ended.entry_cost) → st.value ≤ℤ limits e.before
     value_low ended st =
-        let cost = ended.cost in
-        let net = ended.least.cost in
         let under = low_here e.cost (cost-is rows l e row) in
-        low_start g π within.most limits within.filled.right unit starts e.first e.before l ended.entry_cost ended.least.dispatch ends st ended.spell ended.least.keeps (omega (arith, ints, cost, net, under))
+        low_start g π within.most limits within.filled.right unit starts e.first e.before l ended.entry_cost ended.least.dispatch ends st ended.spell ended.least.keeps (omega (arith, ints, under))
 
     prior : (ended : IsEnded g π (length π.energy) ends e.first e.before l e.cost) (st : IsStarted g ends e.first e.before ended.entry_cost) → cost_at rows e.before ≡ Some st.value
     prior ended st = row_real capped_row g π within.most rows within.filled e.before st.value st.ended (value_low ended st)

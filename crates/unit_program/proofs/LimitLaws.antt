@@ -15,7 +15,7 @@ use Rattle.period_table.specs.Rows.{cost_at}
 use Rattle.period_table.specs.Spells.{IsOffRun}
 use Rattle.period_table.specs.Tables.{IsLeastEnd}
 use Rattle.unit_program.proofs.EntryLaws.{if_some}
-use Rattle.unit_program.proofs.SpellLaws.{table_is_least}
+use Rattle.unit_program.proofs.ShapeLaws.{table_is_least}
 
 -- ---- the rows
 
@@ -37,12 +37,10 @@ module _ (capped_row : CappedRowsAreRows) (g : ThermalUnit) (π : PriceLists) (m
     pub none_within : ((l : ℕ) (v : ℤ) → cost_at rows l ≡ Some v → IsOffRun g l (length π.energy) → (most +ℤ pos 1) ≤ℤ v) → EachCostsMore g π most
     none_within above s right =
         let r = table_is_least g π ends (length π.energy) s right filled.table.complete in
-        let h = r.3 in
-        let low = h.2 in
         let limit = above_most g π most filled.limits filled.right r.0 r.1 in
-        elim ((capped_row (filled.limits r.0) (cost_at rows r.0) h.0).1 h.1) [
-          | inl there ↦ let high = above r.0 h.0 there.0 r.2 in omega (arith, ints, high, low)
-          | inr cap ↦ omega (arith, ints, cap, low, limit)
+        elim ((capped_row (filled.limits r.0) (cost_at rows r.0) r.3.0).1 r.3.1) [
+          | inl there ↦ let high = above r.0 r.3.0 there.0 r.2 in omega (arith, ints, high)
+          | inr cap ↦ omega (arith, ints, cap, limit)
         ]
 
     -- the least end is that of the capped rows

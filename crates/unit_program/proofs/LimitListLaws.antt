@@ -24,41 +24,30 @@ use Rattle.uc_model.proofs.SignedLaws.{IsWithin, stored, stored_is, fits64, prod
 module _ (p : Point) (price : ℤ) (point : IsPoint p) (limit : IsWithin 20000000 price) where
   worth : IsWithin 20000000000000000 (price *ℤ p.at)
   worth =
-      let at = point.at in
-      let h = product_within 20000000 1000000000 price p.at limit at in
-      let a = h.at_least in
-      let b = h.at_most in
-      record { at_least = omega (arith, ints, a); at_most = omega (arith, ints, b) }
+      let h = product_within 20000000 1000000000 price p.at limit point.at in
+      record { at_least = omega (arith, ints); at_most = omega (arith, ints) }
 
   price_is : stored price ≡ price
-  price_is = let a = limit.at_least in let b = limit.at_most in stored_is price (record { at_least = omega (arith, ints, a); at_most = omega (arith, ints, b) })
+  price_is = stored_is price (record { at_least = omega (arith, ints); at_most = omega (arith, ints) })
 
   at_is : stored p.at ≡ p.at
-  at_is = let a = point.at.at_least in let b = point.at.at_most in stored_is p.at (record { at_least = omega (arith, ints, a); at_most = omega (arith, ints, b) })
+  at_is = stored_is p.at (record { at_least = omega (arith, ints); at_most = omega (arith, ints) })
 
   cost_is : stored p.cost ≡ p.cost
-  cost_is = let a = point.cost.at_least in let b = point.cost.at_most in stored_is p.cost (record { at_least = omega (arith, ints, a); at_most = omega (arith, ints, b) })
+  cost_is = stored_is p.cost (record { at_least = omega (arith, ints); at_most = omega (arith, ints) })
 
   worth_is : stored (stored price *ℤ stored p.at) ≡ price *ℤ p.at
   worth_is =
-      let a = worth.at_least in
-      let b = worth.at_most in
-      ap stored (ap (λ (z : ℤ). z *ℤ stored p.at) price_is ∙ ap (λ (z : ℤ). price *ℤ z) at_is) ∙ stored_is (price *ℤ p.at) (record { at_least = omega (arith, ints, a); at_most = omega (arith, ints, b) })
+      ap stored (ap (λ (z : ℤ). z *ℤ stored p.at) price_is ∙ ap (λ (z : ℤ). price *ℤ z) at_is) ∙ stored_is (price *ℤ p.at) (record { at_least = omega (arith, ints, worth.at_least); at_most = omega (arith, ints, worth.at_most) })
 
   net_within : IsWithin 20010000000000000 (p.cost -ℤ (price *ℤ p.at))
   net_within =
-      let a = worth.at_least in
-      let b = worth.at_most in
-      let c = point.cost.at_least in
-      let d = point.cost.at_most in
-      record { at_least = omega (arith, ints, b, c); at_most = omega (arith, ints, a, d) }
+      record { at_least = omega (arith, ints, worth.at_most); at_most = omega (arith, ints, worth.at_least) }
 
   pub net_stored : stored (stored p.cost -ℤ stored (stored price *ℤ stored p.at)) ≡ p.cost -ℤ (price *ℤ p.at)
   net_stored =
-      let a = net_within.at_least in
-      let b = net_within.at_most in
       ap stored (ap (λ (z : ℤ). z -ℤ stored (stored price *ℤ stored p.at)) cost_is ∙ ap (λ (z : ℤ). p.cost -ℤ z) worth_is)
-      ∙ stored_is (p.cost -ℤ (price *ℤ p.at)) (record { at_least = omega (arith, ints, a); at_most = omega (arith, ints, b) })
+      ∙ stored_is (p.cost -ℤ (price *ℤ p.at)) (record { at_least = omega (arith, ints, net_within.at_least); at_most = omega (arith, ints, net_within.at_most) })
 
   pub net_bound : IsWithin 20010000000000000 (stored (stored p.cost -ℤ stored (stored price *ℤ stored p.at)))
   net_bound = subst (IsWithin 20010000000000000) (sym net_stored) net_within
@@ -68,34 +57,23 @@ module _ (p : Point) (price : ℤ) (point : IsPoint p) (limit : IsWithin 2000000
 module _ (reserve greatest least : ℤ) (r : IsFrom (pos 0) (pos 10000000) reserve) (m : IsOutput greatest) (l : IsWithin 20010000000000000 least) where
   held : IsWithin 100000000000000 (reserve *ℤ greatest)
   held =
-      let a = r.at_least in
       let b = r.at_most in
-      let h = product_within 10000000 10000000 reserve greatest (record { at_least = omega (arith, ints, a); at_most = b }) m in
-      let c = h.at_least in
-      let d = h.at_most in
-      record { at_least = omega (arith, ints, c); at_most = omega (arith, ints, d) }
+      let h = product_within 10000000 10000000 reserve greatest (record { at_least = omega (arith, ints); at_most = b }) m in
+      record { at_least = omega (arith, ints); at_most = omega (arith, ints) }
 
   product_is : stored reserve *ℤ stored greatest ≡ reserve *ℤ greatest
   product_is =
-      let a = r.at_least in
-      let b = r.at_most in
-      let c = m.at_least in
-      let d = m.at_most in
-      ap (λ (z : ℤ). z *ℤ stored greatest) (stored_is reserve (record { at_least = omega (arith, ints, a); at_most = omega (arith, ints, b) }))
-      ∙ ap (λ (z : ℤ). reserve *ℤ z) (stored_is greatest (record { at_least = omega (arith, ints, c); at_most = omega (arith, ints, d) }))
+      ap (λ (z : ℤ). z *ℤ stored greatest) (stored_is reserve (record { at_least = omega (arith, ints); at_most = omega (arith, ints) }))
+      ∙ ap (λ (z : ℤ). reserve *ℤ z) (stored_is greatest (record { at_least = omega (arith, ints); at_most = omega (arith, ints) }))
 
   pub product_fits : FitsSigned w64 (stored reserve *ℤ stored greatest)
-  product_fits = subst (FitsSigned w64) (sym product_is) (let a = held.at_least in let b = held.at_most in fits64 (reserve *ℤ greatest) (omega (arith, ints, a)) (omega (arith, ints, b)))
+  product_fits = subst (FitsSigned w64) (sym product_is) (fits64 (reserve *ℤ greatest) (omega (arith, ints, held.at_least)) (omega (arith, ints, held.at_most)))
 
   less_is_inside : stored least -ℤ stored (stored reserve *ℤ stored greatest) ≡ least -ℤ (reserve *ℤ greatest)
   less_is_inside =
-      let a = held.at_least in
-      let b = held.at_most in
-      let c = l.at_least in
-      let d = l.at_most in
-      let e = stored_is (reserve *ℤ greatest) (record { at_least = omega (arith, ints, a); at_most = omega (arith, ints, b) }) in
+      let e = stored_is (reserve *ℤ greatest) (record { at_least = omega (arith, ints, held.at_least); at_most = omega (arith, ints, held.at_most) }) in
       let f = ap stored product_is in
-      let h = stored_is least (record { at_least = omega (arith, ints, c); at_most = omega (arith, ints, d) }) in
+      let h = stored_is least (record { at_least = omega (arith, ints); at_most = omega (arith, ints) }) in
       both (stored least) least (stored (stored reserve *ℤ stored greatest)) (reserve *ℤ greatest) h (f ∙ e)
     where
       both : (x y z w : ℤ) → x ≡ y → z ≡ w → x -ℤ z ≡ y -ℤ w
@@ -103,17 +81,13 @@ module _ (reserve greatest least : ℤ) (r : IsFrom (pos 0) (pos 10000000) reser
 
   pub less_within : IsWithin 20110000000000000 (least -ℤ (reserve *ℤ greatest))
   less_within =
-      let a = held.at_least in
-      let b = held.at_most in
-      let c = l.at_least in
-      let d = l.at_most in
-      record { at_least = omega (arith, ints, b, c); at_most = omega (arith, ints, a, d) }
+      record { at_least = omega (arith, ints, held.at_most); at_most = omega (arith, ints, held.at_least) }
 
   pub less_fits : FitsSigned w64 (stored least -ℤ stored (stored reserve *ℤ stored greatest))
-  less_fits = subst (FitsSigned w64) (sym less_is_inside) (let a = less_within.at_least in let b = less_within.at_most in fits64 (least -ℤ (reserve *ℤ greatest)) (omega (arith, ints, a)) (omega (arith, ints, b)))
+  less_fits = subst (FitsSigned w64) (sym less_is_inside) (fits64 (least -ℤ (reserve *ℤ greatest)) (omega (arith, ints, less_within.at_least)) (omega (arith, ints, less_within.at_most)))
 
   pub less_is : stored (stored least -ℤ stored (stored reserve *ℤ stored greatest)) ≡ least -ℤ (reserve *ℤ greatest)
-  less_is = ap stored less_is_inside ∙ (let a = less_within.at_least in let b = less_within.at_most in stored_is (least -ℤ (reserve *ℤ greatest)) (record { at_least = omega (arith, ints, a); at_most = omega (arith, ints, b) }))
+  less_is = ap stored less_is_inside ∙ (stored_is (least -ℤ (reserve *ℤ greatest)) (record { at_least = omega (arith, ints, less_within.at_least); at_most = omega (arith, ints, less_within.at_most) }))
 
 -- ---- the least over the points, and over the powers
 
@@ -231,17 +205,13 @@ module _ (g : ThermalUnit) (π : PriceLists) (most : ℤ) where
 
 pub price_stored : (energy reserve : ℤ) → IsFrom (neg_ℤ (pos 10000000)) (pos 10000000) energy → IsFrom (pos 0) (pos 10000000) reserve → stored (stored energy -ℤ stored reserve) ≡ energy -ℤ reserve
 price_stored energy reserve e r =
-    let a = e.at_least in
-    let b = e.at_most in
-    let c = r.at_least in
-    let d = r.at_most in
-    let energy_is = stored_is energy (record { at_least = omega (arith, ints, a); at_most = omega (arith, ints, b) }) in
-    let reserve_is = stored_is reserve (record { at_least = omega (arith, ints, c); at_most = omega (arith, ints, d) }) in
+    let energy_is = stored_is energy (record { at_least = omega (arith, ints); at_most = omega (arith, ints) }) in
+    let reserve_is = stored_is reserve (record { at_least = omega (arith, ints); at_most = omega (arith, ints) }) in
     ap stored (ap (λ (z : ℤ). z -ℤ stored reserve) energy_is ∙ ap (λ (z : ℤ). energy -ℤ z) reserve_is)
-    ∙ stored_is (energy -ℤ reserve) (record { at_least = omega (arith, ints, a, d); at_most = omega (arith, ints, b, c) })
+    ∙ stored_is (energy -ℤ reserve) (record { at_least = omega (arith, ints); at_most = omega (arith, ints) })
 
 pub min_bound : (x w : ℤ) → x ≡ w → IsWithin 20110000000000000 w → IsFrom (neg_ℤ (pos 20110000000000000)) (pos 0) (int_min x (pos 0))
-min_bound x w is h = (let a = h.at_least in let b = h.at_most in record { at_least = omega (arith, ints, clamps, a, is); at_most = omega (arith, ints, clamps) })
+min_bound x w is h = (record { at_least = omega (arith, ints, clamps, is); at_most = omega (arith, ints, clamps) })
 
 pub min_low : (x w : ℤ) → x ≡ w → int_min x (pos 0) ≤ℤ w
 min_low x w is = omega (arith, ints, clamps, is)

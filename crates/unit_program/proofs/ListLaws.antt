@@ -8,40 +8,14 @@ use Rattle.unit_program.specs.Steps.{IsStep}
 use Rattle.period_table.specs.Spells.{IsOffRun, IsGap}
 use Rattle.unit_program.specs.Lists.{Run, HasSpell, AreSpells, IsListOfSpells, SchedulesAreSpells}
 use Rattle.unit_program.proofs.CommitLaws.{steps_from_rules}
-use Rattle.unit_program.proofs.SpellLaws.{dispatch_of_run, not_must_off, not_must_on, runs_must}
-use Rattle.unit_program.proofs.ShapeLaws.{IsOffAfter, IsOnSince, shape_of}
+use Rattle.unit_program.proofs.SpellLaws.{dispatch_of_run}
+use Rattle.unit_program.proofs.ShapeLaws.{shape_of, stops_after, spell_of, off_run_of, gap_of}
 
 -- no price is looked at
 abbrev free : PriceLists
 free = record { energy = []; reserve = [] }
 
 module _ (g : ThermalUnit) (s : Schedule) (dispatch : KeepsDispatch g s) (steps : (k : ℕ) → k < length s.on → IsStep g s k) where
-  spell_of : (f l : ℕ) → IsOnSince g free s f l → l ≤ length s.on → (l < length s.on → IsFalse (on_in g s (suc l))) → HasSpell g (length s.on) s (record { first = f; last = l })
-  spell_of f l since low after = record {
-    spell = record {
-      order = since.run.order;
-      end = low;
-      goes_on = λ is. (since.goes_on is).0;
-      marks = λ t one from until mark. not_must_off g s steps t one (omega (arith, until, low)) (since.run.on t from until) mark;
-      min_up = λ inside. (let h = (steps l inside).stop (since.run.on l since.run.order (omega arith)) (after inside) in let e = since.time in omega (arith, h, e));
-    };
-    on = since.run.on;
-    dispatch = dispatch_of_run g s dispatch f l since.run low after;
-  }
-
-  off_run_of : (l t : ℕ) → IsOffAfter g free s l t → t ≤ length s.on → IsOffRun g l t
-  off_run_of l t after low = record {
-    order = after.order;
-    must_run = λ must. runs_must g s steps l t low (λ _. after.here) must;
-    marks = λ u above until mark. not_must_on g s steps l u above (omega (arith, until, low)) (after.off u above until) mark;
-  }
-
-  gap_of : (l k : ℕ) → IsOffAfter g free s l k → k < length s.on → IsTrue (on_in g s (suc k)) → IsGap g l k
-  gap_of l k after low on = record {
-    off = off_run_of l k after (omega (arith, low));
-    min_down = (let h = (steps k low).start after.here on in let e = after.time in omega (arith, h, e));
-  }
-
   abbrev SpellsTo : ℕ → Type 0
   SpellsTo l = (rs : List Run) × AreSpells g (length s.on) s l rs
 
@@ -56,25 +30,17 @@ module _ (g : ThermalUnit) (s : Schedule) (dispatch : KeepsDispatch g s) (steps 
     | inr off ↦ none_to l off.1.here on
     | inl since ↦
         let f = since.0 in
-        let here = since.1.run.on l since.1.run.order (omega arith) in
-        let spell = spell_of f l since.1 low (after here) in
+        let last = after (since.1.run.on l since.1.run.order (omega arith)) in
+        let spell : HasSpell g (length s.on) s (record { first = f; last = l }) =
+        record { spell = spell_of g free s steps f l since.1 low last; on = since.1.run.on; dispatch = dispatch_of_run g s dispatch f l since.1.run low last } in
         elim f as (λ n. f ≡ n → SpellsTo l) [
           | zero ↦ λ is. (record { first = f; last = l } ∷ [], (refl, spell, inl (is, refl)))
           | suc k ↦ λ is.
               let entered = since.1.starts k is in
               let off = entered.1 in
-              let order = since.1.run.order in
-              let back = off.order in
-              let start : IsTrue (on_in g s (suc k)) = subst (λ (t : ℕ). IsTrue (on_in g s t)) is (since.1.run.on f (omega arith) order) in
-              let gap = gap_of entered.0 k off (omega (arith, order, low, is)) start in
-              let rest = spells_to n entered.0 (omega (arith, back, order, is, near)) (omega (arith, back, order, is, low)) off.on
-              (λ last_on inside. elim (cases_lt entered.0 k) [
-                | inl less ↦ off.off (suc entered.0) (omega arith) (omega (arith, less))
-                | inr same ↦
-                    let z : k ≡ entered.0 = omega (arith, same, back) in
-                    let last_off : IsFalse (on_in g s entered.0) = subst (λ (t : ℕ). IsFalse (on_in g s t)) z off.here in
-                    cc
-              ]) in
+              let gap = gap_of g free s steps f l entered.0 k since.1 low is off in
+              let rest = spells_to n entered.0 (omega (arith, is, near)) (omega (arith, is, low)) off.on
+              (λ last_on _. stops_after g free s entered.0 k off last_on) in
               (record { first = f; last = l } ∷ rest.0, (refl, spell, inr (k, is, (entered.0, gap, off.off, rest.1))))
         ] refl
   ]
@@ -86,11 +52,8 @@ module _ (g : ThermalUnit) (s : Schedule) (dispatch : KeepsDispatch g s) (steps 
         | inr off ↦
             let l = off.0 in
             let order = off.1.order in
-            let r = spells_to (suc l) l (omega arith) order off.1.on (λ last_on inside. elim (cases_lt l end) [
-              | inl less ↦ off.1.off (suc l) (omega arith) (omega (arith, less))
-              | inr same ↦ absurd (omega (arith, same, inside))
-            ]) in
-            (r.0, record { last = l; spells = r.1; rest = off_run_of l end off.1 (omega arith); off = off.1.off })
+            let r = spells_to (suc l) l (omega arith) order off.1.on (λ last_on _. stops_after g free s l end off.1 last_on) in
+            (r.0, record { last = l; spells = r.1; rest = off_run_of g free s steps l end off.1 (omega arith); off = off.1.off })
         | inl since ↦
             let order = since.1.run.order in
             let r = spells_to (suc end) end (omega arith) (omega arith) (λ one. since.1.run.on end order (omega arith)) (λ last_on inside. absurd (omega (arith, inside))) in (

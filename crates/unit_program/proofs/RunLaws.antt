@@ -21,8 +21,8 @@ module _ (x : ℕ → Bool) (n : ℕ) where
       let more = held-more k h in
       elim (x k) as (λ b. x k ≡ b → HoldsSince (suc k)) [
         | true ↦ λ e. elim (holds_since k e) [
-          | inl w ↦ inl (w.0, (let l = w.1 in omega (arith, more, l)))
-          | inr w ↦ inr (w.0, w.1, w.2, (let l = w.3 in omega (arith, more, l)), (let l = w.4 in omega (arith, l)))
+          | inl w ↦ inl (w.0, (omega (arith, more)))
+          | inr w ↦ inr (w.0, w.1, w.2, (omega (arith, more)), (omega arith))
         ]
         | false ↦ λ e. let none = held-none k e in inr (k, e, h, omega (arith, more, none), omega arith)
       ] refl
@@ -41,12 +41,12 @@ module _ (x : ℕ → Bool) (n : ℕ) where
     ends_late keeps k low here after =
         elim (holds_since k here) [
           | inl w ↦ elim (cases_lt (least - n) (suc k)) [
-            | inl above ↦ let l = w.1 in omega (arith, above, l)
+            | inl above ↦ omega (arith, above)
             | inr below ↦ let on : x (suc k) ≡ true = keeps.begins w.0 (suc k) (omega arith) (omega (arith, low)) (omega (arith, below)) in cc
           ]
           | inr w ↦ elim (cases_lt (suc k) (suc w.0 + least)) [
-            | inl above ↦ let at_least = w.4 in let on : x (suc k) ≡ true = keeps.runs w.0 (suc k) w.1 w.2 (omega (arith, at_least)) above (omega (arith, low)) in cc
-            | inr below ↦ let l = w.3 in omega (arith, below, l)
+            | inl above ↦ let on : x (suc k) ≡ true = keeps.runs w.0 (suc k) w.1 w.2 (omega arith) above (omega (arith, low)) in cc
+            | inr below ↦ omega (arith, below)
           ]
         ]
 
@@ -56,8 +56,8 @@ module _ (x : ℕ → Bool) (n : ℕ) where
       from_before h (suc t) low within =
           let r = from_before h t (omega (arith, low)) (omega (arith, within)) in
           elim (x (suc t)) as (λ b. x (suc t) ≡ b → (x (suc t) ≡ true) × (held x n (suc t) ≡ n + suc t)) [
-            | true ↦ λ e. let more = held-more t e in let l = r.1 in (e, omega (arith, more, l))
-            | false ↦ λ e. let over = late t (omega (arith, low)) r.0 e in let l = r.1 in absurd (omega (arith, over, l, within))
+            | true ↦ λ e. let more = held-more t e in (e, omega (arith, more))
+            | false ↦ λ e. let over = late t (omega (arith, low)) r.0 e in absurd (omega (arith, over, within))
           ] refl
 
       from_start : (k : ℕ) → x k ≡ false → x (suc k) ≡ true → (m t : ℕ) → t ≡ k + suc m → suc m ≤ least → t ≤ last → (x t ≡ true) × (held x n t ≡ suc m)
@@ -71,7 +71,7 @@ module _ (x : ℕ → Bool) (n : ℕ) where
           let r = from_start k off on m t (omega (arith, is)) (omega (arith, within)) (omega (arith, low)) in
           elim (x (suc t)) as (λ b. x (suc t) ≡ b → (x (suc t) ≡ true) × (held x n (suc t) ≡ suc (suc m))) [
             | true ↦ λ e. let more = held-more t e in (e, more ∙ ap suc r.1)
-            | false ↦ λ e. let over = late t (omega (arith, low)) r.0 e in let l = r.1 in absurd (omega (arith, over, l, within))
+            | false ↦ λ e. let over = late t (omega (arith, low)) r.0 e in absurd (omega (arith, over, within))
           ] refl
 
       pub keeps_times : KeepsTimes

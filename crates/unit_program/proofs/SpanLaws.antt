@@ -18,10 +18,9 @@ on_time-at_most g (suc k) last until low = omega (arith, low)
 module _ (g : ThermalUnit) (periods first until : ℕ) (horizon : periods ≡ length g.window) (span : IsOpenUntil g first until) where
   pub spell_within : (last : ℕ) → (first ≡ 0 → IsTrue g.on0) → first ≤ last → last ≤ until → (last < periods → g.min_up ≤ on_time g first last) → IsSpell g periods first last
   spell_within last goes_on order low min_up =
-      let end = span.end in
       record {
         order = order;
-        end = omega (arith, low, end, horizon);
+        end = omega (arith, low, horizon);
         goes_on = goes_on;
         marks = λ t one from until mark. span.marks t one from (omega (arith, until, low)) mark;
         min_up = min_up;
@@ -30,9 +29,7 @@ module _ (g : ThermalUnit) (periods first until : ℕ) (horizon : periods ≡ le
   -- a later one would have a period marked `MustOff`
   pub no_spell_after : (last : ℕ) → until < last → IsSpell g periods first last → ⊥
   no_spell_after last above spell =
-      let end = spell.end in
-      let from = span.from in
-      spell.marks (suc until) (omega arith) from (omega (arith, above)) (span.next (omega (arith, above, end, horizon)))
+      spell.marks (suc until) (omega arith) span.from (omega (arith, above)) (span.next (omega (arith, above, horizon)))
 
   -- where the longest one is too short, each is
   pub none_long_enough : until < periods → on_time g first until < g.min_up → (last : ℕ) → IsSpell g periods first last → ⊥
@@ -74,5 +71,4 @@ pub answers_at : (g : ThermalUnit) (π : PriceLists) (periods first n : ℕ) (co
     → (l : ℕ) → 1 ≤ l → IsSpell g periods first l → IsSpellAnswer g π periods first l (net_at costs l)
 answers_at g π periods first n costs is told zero one spell = absurd (omega (arith, one))
 answers_at g π periods first n costs is told (suc k) one spell =
-    let order = spell.order in
-    subst (λ (f : ℕ). IsSpellAnswer g π periods f (suc k) (entry_of costs (suc k))) (spell_first-is first n is) (told (suc k) (omega (arith, order, is)) spell.end)
+    subst (λ (f : ℕ). IsSpellAnswer g π periods f (suc k) (entry_of costs (suc k))) (spell_first-is first n is) (told (suc k) (omega (arith, is)) spell.end)

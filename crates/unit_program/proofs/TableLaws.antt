@@ -9,16 +9,15 @@ use Rattle.period_table.specs.Spells.{IsSpell}
 use Rattle.period_table.specs.Tables.{HasAtMost, IsEntryAfter, IsEntry, IsLeastEntry, IsEnded, IsLatest, IsFrom, IsTable, IsUpdate}
 
 pub at_most_more : (o : Option ℤ) (u v : ℤ) → HasAtMost o u → u ≤ℤ v → HasAtMost o v
-at_most_more o u v h low = let b = h.2 in (h.0, h.1, omega (arith, ints, b, low))
+at_most_more o u v h low = (h.0, h.1, omega (arith, ints, low))
 
 module _ (g : ThermalUnit) where
   -- an entry looks at the table below its first period alone
   pub entry_same : (a b : ℕ → Option ℤ) (f last : ℕ) (e : ℤ) → ((l : ℕ) → l < f → a l ≡ b l) → IsEntryAfter g a f last e → IsEntryAfter g b f last e
   entry_same a b f last e same (inl h) = inl h
   entry_same a b f last e same (inr h) =
-      let order = h.gap.off.order in
       let first = h.first in
-      inr (record { before = h.before; first = first; value = h.value; ended = sym (same last (omega (arith, order, first))) ∙ h.ended; gap = h.gap; cost = h.cost })
+      inr (record { before = h.before; first = first; value = h.value; ended = sym (same last (omega (arith, first))) ∙ h.ended; gap = h.gap; cost = h.cost })
 
   module _ (π : PriceLists) (periods n : ℕ) (firsts lasts : ℕ → ℕ) (old : ℕ → Option ℤ) (table : IsTable g π periods n old firsts lasts) where
     latest_skip : ((e : ℤ) (l : ℕ) → IsEntry g old n e → IsSpell g periods n l → ⊥) → (first l : ℕ) (v : ℤ) → IsLatest g π periods n old first l v → IsLatest g π periods (suc n) old first l v
@@ -86,8 +85,7 @@ module _ (g : ThermalUnit) where
                 let low = h.least d dispatch in
                 let r = update.adds l c spell net in
                 let same : r.0 ≡ v = (let a = r.1 in cc) in
-                let most = r.2 in
-                let v_is : v ≡ e +ℤ c = omega (arith, ints, same, most, low, below, cost) in
+                let v_is : v ≡ e +ℤ c = omega (arith, ints, same, low, below, cost) in
                 update.takes l c spell net (is ∙ ap Some v_is)
           ] refl (right l spell)
 

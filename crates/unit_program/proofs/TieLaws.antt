@@ -14,8 +14,8 @@ use Rattle.unit_program.specs.Backs.{IsZeroOff}
 use Rattle.unit_program.specs.Ties.{IsRival, HasSameFlags, HasSamePowers, IsFirstBeside, IsFirstUpTo}
 use Rattle.unit_program.proofs.BackwardOrder.{IsNoLater}
 use Rattle.unit_program.proofs.CommitLaws.{steps_from_rules}
-use Rattle.unit_program.proofs.SpellLaws.{IsRun, dispatch_of_run, ended_by, state_of, not_must_off, not_must_on, runs_must}
-use Rattle.unit_program.proofs.ShapeLaws.{IsOffAfter, IsOnSince, shape_of}
+use Rattle.unit_program.proofs.SpellLaws.{IsRun, dispatch_of_run}
+use Rattle.unit_program.proofs.ShapeLaws.{IsOffAfter, IsOnSince, shape_of, stops_after, spell_of, off_run_of, gap_of, known}
 
 some_same : {X : Type 0} → (o : Option X) (a b : X) → o ≡ Some a → o ≡ Some b → a ≡ b
 some_same o a b h i = cc
@@ -53,67 +53,20 @@ module _ (g : ThermalUnit) (π : PriceLists) (ends : ℕ → Option ℤ) (o : Sc
   steps : (k : ℕ) → k < length o.on → IsStep g o k
   steps = steps_from_rules g o right.commitment
 
-  -- the table knows an end at l that costs at most what the schedule does
-  known : (l : ℕ) → l ≤ length o.on → (IsTrue (on_in g o l) → l < length o.on → IsFalse (on_in g o (suc l))) → (1 ≤ l → IsTrue (on_in g o l)) → HasAtMost (ends l) (paid g π o l)
-  known zero low after on = elim (g.on0) as (λ b. g.on0 ≡ b → HasAtMost (ends 0) (paid g π o 0)) [
-    | false ↦ λ off. complete.idle off
-    | true ↦ λ here. elim (state_of g π ends o right.dispatch steps complete 0 low) [
-      | inl st ↦ ended_by g π ends o right.dispatch steps complete 0 low st (after here)
-      | inr st ↦ let off = st.here in cc
-    ]
-  ] refl
-  known (suc k) low after on =
-      let here = on (omega arith) in
-      elim (state_of g π ends o right.dispatch steps complete (suc k) low) [
-        | inl st ↦ ended_by g π ends o right.dispatch steps complete (suc k) low st (after here)
-        | inr st ↦ let off = st.here in cc
-      ]
-
-  gap_of : (f l k last : ℕ) → IsSpell g (length o.on) f l → IsOnSince g π o f l → f ≡ suc k → IsOffAfter g π o last k → IsGap g last k
-  gap_of f l k last spell since is st =
-      let order = spell.order in
-      let end = spell.end in
-      let inside : k < length o.on = omega (arith, is, order, end) in
-      let on_f : IsTrue (on_in g o (suc k)) = subst (λ (f : ℕ). IsTrue (on_in g o f)) is (since.run.on f (omega arith) order) in
-      let time = st.time in
-      record {
-        off = record {
-          order = st.order;
-          must_run = λ must. runs_must g o steps last k (omega (arith, inside)) (λ _. st.here) must;
-          marks = λ u above until mark. not_must_on g o steps last u above (omega (arith, until, inside)) (st.off u above until) mark;
-        };
-        min_down = (let h = (steps k inside).start st.here on_f in omega (arith, h, time));
-      }
-
-  off_after : (last k : ℕ) → IsOffAfter g π o last k → IsTrue (on_in g o last) → last < length o.on → IsFalse (on_in g o (suc last))
-  off_after last k st here inside = elim (cases_lt last k) [
-    | inl more ↦ st.off (suc last) (omega arith) more
-    | inr most ↦
-        let from = st.order in
-        let z : last ≡ k = omega (arith, most, from) in
-        let off = subst (λ (k : ℕ). IsFalse (on_in g o k)) (sym z) st.here in cc
-  ]
-
   started_run : (f l : ℕ) (v : ℤ) → ends l ≡ Some v → paid g π o l ≡ v → IsSpell g (length o.on) f l → IsDispatch g (length o.on) f l o → IsOnSince g π o f l
       → (k : ℕ) → f ≡ suc k → IsStartedRun g π ends (length o.on) o k l v
   started_run f l v ended paid_is spell keeps since k is =
       let r = since.starts k is in
       let last = r.0 in
       let st = r.1 in
-      let cost = r.2 in
-      let from = st.order in
-      let order = spell.order in
-      let end = spell.end in
-      let gap = gap_of f l k last spell since is st in
-      let after = off_after last k st in
-      let known_last = known last (omega (arith, from, is, order, end)) after st.on in
+      let gap = gap_of g π o steps f l last k since spell.end is st in
+      let after : IsTrue (on_in g o last) → last < length o.on → IsFalse (on_in g o (suc last)) = λ here _. stops_after g π o last k st here in
+      let known_last = known g π o steps ends right.dispatch complete last (omega (arith, is)) after st.on in
       let u = known_last.0 in
       let start : IsStarted g ends f last (u +ℤ start_cost_after g last k) = record { before = k; first = is; value = u; ended = known_last.1; gap = gap; cost = refl } in
-      let known_here = complete.spell f l (u +ℤ start_cost_after g last k) o (omega (arith, order, end)) spell (last, inr start) keeps in
+      let known_here = complete.spell f l (u +ℤ start_cost_after g last k) o (omega arith) spell (last, inr start) keeps in
       let v_is = some_same (ends l) known_here.0 v known_here.1 ended in
-      let below = known_here.2 in
-      let most = known_last.2 in
-      let u_is : paid g π o last ≡ u = omega (arith, ints, v_is, below, most, cost, paid_is) in
+      let u_is : paid g π o last ≡ u = omega (arith, ints, v_is, paid_is) in
       let same = ap (λ (f : ℕ). spell_cost g π f l o) is in
       record {
         last = last;
@@ -122,22 +75,15 @@ module _ (g : ThermalUnit) (π : PriceLists) (ends : ℕ → Option ℤ) (o : Sc
         ended = known_last.1;
         rival = record { right = right; cost = u_is; on = st.on; after = after };
         started = record { before = k; first = refl; value = u; ended = known_last.1; gap = gap; cost = refl };
-        cost = omega (arith, ints, cost, paid_is, u_is, same);
+        cost = omega (arith, ints, paid_is, u_is, same);
       }
 
   edge_at : (f l : ℕ) (v : ℤ) → l ≤ length o.on → ends l ≡ Some v → IsRival g π (length o.on) l v o → IsTrue (on_in g o l) → IsOnSince g π o f l → IsEdge g π ends (length o.on) o f l v
   edge_at f l v low ended rival on since =
       let run = since.run in
-      let order = run.order in
       let after = rival.after on in
       let paid_is = rival.cost in
-      let spell : IsSpell g (length o.on) f l = record {
-        order = order;
-        end = low;
-        goes_on = λ is. (since.goes_on is).0;
-        marks = λ u one from until mark. not_must_off g o steps u one (omega (arith, until, low)) (run.on u from until) mark;
-        min_up = λ inside. (let h = (steps l inside).stop on (after inside) in let e = since.time in omega (arith, h, e));
-      } in
+      let spell = spell_of g π o steps f l since low after in
       let keeps = dispatch_of_run g o right.dispatch f l run low after in
       record {
         run = run;
@@ -150,7 +96,7 @@ module _ (g : ThermalUnit) (π : PriceLists) (ends : ℕ → Option ℤ) (o : Sc
   edge_of : (l : ℕ) (v : ℤ) → l ≤ length o.on → ends l ≡ Some v → IsRival g π (length o.on) l v o → IsTrue (on_in g o l) → (f : ℕ) × IsEdge g π ends (length o.on) o f l v
   edge_of l v low ended rival on = elim (shape_of g π o l) [
     | inl w ↦ (w.0, edge_at w.0 l v low ended rival on w.1)
-    | inr w ↦ let off = w.1.here in cc
+    | inr w ↦ cc
   ]
 
   end_at : (v : ℤ) → ((k : ℕ) (u : ℤ) → ends k ≡ Some u → IsOffRun g k (length o.on) → v ≤ℤ u)
@@ -158,10 +104,9 @@ module _ (g : ThermalUnit) (π : PriceLists) (ends : ℕ → Option ℤ) (o : Sc
       → IsEnd g π ends (length o.on) o k v
   end_at v least k low run on off paid_is =
       let after : IsTrue (on_in g o k) → k < length o.on → IsFalse (on_in g o (suc k)) = λ _ inside. off (suc k) (omega arith) (omega (arith, inside)) in
-      let r = known k low after on in
+      let r = known g π o steps ends right.dispatch complete k low after on in
       let above = least k r.0 r.1 run in
-      let below = r.2 in
-      let u_is : r.0 ≡ v = omega (arith, ints, above, below, paid_is) in
+      let u_is : r.0 ≡ v = omega (arith, ints, above, paid_is) in
       record { low = low; ended = r.1 ∙ ap Some u_is; run = run; rival = record { right = right; cost = paid_is; on = on; after = after }; off = off }
 
   end_of : (v : ℤ) → ((k : ℕ) (u : ℤ) → ends k ≡ Some u → IsOffRun g k (length o.on) → v ≤ℤ u) → paid g π o (length o.on) ≡ v → (k : ℕ) × IsEnd g π ends (length o.on) o k v
@@ -172,17 +117,11 @@ module _ (g : ThermalUnit) (π : PriceLists) (ends : ℕ → Option ℤ) (o : Sc
           (λ _. w.1.run.on (length o.on) w.1.run.order (omega arith)) (λ u above until. absurd (omega (arith, above, until))) paid_is,
     )
     | inr w ↦
-        let st = w.1 in
-        let same = st.cost in
-        let order = st.order in (
+        let st = w.1 in (
           w.0,
-          end_at v least w.0 order
-              (record {
-                order = order;
-                must_run = λ must. runs_must g o steps w.0 (length o.on) (omega arith) (λ _. st.here) must;
-                marks = λ u above until mark. not_must_on g o steps w.0 u above until (st.off u above until) mark;
-              })
-              st.on st.off (omega (arith, ints, same, paid_is)),
+          end_at v least w.0 st.order
+              (off_run_of g π o steps w.0 (length o.on) st (omega arith))
+              st.on st.off (omega (arith, ints, paid_is)),
         )
   ]
 
@@ -204,10 +143,9 @@ module _ (g : ThermalUnit) (π : PriceLists) (ends : ℕ → Option ℤ) (n : �
     (s : Schedule) (best : IsFirstDispatch g π n first l s named.net) where
   edge_here : (o : Schedule) → IsRival g π n l v o → (f : ℕ) × IsEdge g π ends n o f l v
   edge_here o rival =
-      let order = named.spell.order in
       let on : IsTrue (on_in g o l) = elim (cases_lt 0 l) [
         | inl one ↦ rival.on (omega (arith, one))
-        | inr none ↦ let z : 0 ≡ l = omega (arith, none) in subst (λ (l : ℕ). IsTrue (on_in g o l)) z (named.spell.goes_on (omega (arith, order, none)))
+        | inr none ↦ let z : 0 ≡ l = omega (arith, none) in subst (λ (l : ℕ). IsTrue (on_in g o l)) z (named.spell.goes_on (omega (arith, none)))
       ] in
       edge_right g π ends n complete o l v named.spell.end ended rival on
 
@@ -224,9 +162,7 @@ module _ (g : ThermalUnit) (π : PriceLists) (ends : ℕ → Option ℤ) (n : �
   no_later : (o : Schedule) (f : ℕ) → IsEdge g π ends n o f l v → f ≤ first
   no_later o f edge =
       let e = entry_of o f edge in
-      let order = edge.spell.order in
-      let end = edge.spell.end in
-      latest f e.0 e.1.0 o (omega (arith, order, end)) edge.spell e.1.1 edge.keeps (sym e.1.2)
+      latest f e.0 e.1.0 o (omega arith) edge.spell e.1.1 edge.keeps (sym e.1.2)
 
   -- where it begins there, its spell costs what the named one does
   same_net : (o : Schedule) (f : ℕ) → IsEdge g π ends n o f l v → f ≡ first → IsDispatch g n first l o × (spell_cost g π first l o ≡ named.net)
@@ -235,10 +171,8 @@ module _ (g : ThermalUnit) (π : PriceLists) (ends : ℕ → Option ℤ) (n : �
       let keeps = subst (λ (f : ℕ). IsDispatch g n f l o) is edge.keeps in
       let low = named.least.least o keeps in
       let least = named.entry.least e.1.0 (e.0, subst (λ (f : ℕ). IsEntryAfter g ends f e.0 e.1.0) is e.1.1) in
-      let cost = e.1.2 in
       let same = ap (λ (f : ℕ). spell_cost g π f l o) is in
-      let value = named.cost in
-      (keeps, omega (arith, ints, low, least, cost, same, value))
+      (keeps, omega (arith, ints, low, least, same))
 
   -- a spell that goes on from before the horizon
   pub first_alone : first ≡ 0 → IsFirstUpTo g π n l v s
@@ -263,8 +197,7 @@ module _ (g : ThermalUnit) (π : PriceLists) (ends : ℕ → Option ℤ) (n : �
     off_before = elim (cases_lt before st.before) [
       | inl more ↦ idle st.before more (omega arith)
       | inr most ↦
-          let from = st.gap.off.order in
-          let z : before ≡ st.before = omega (arith, most, from) in
+          let z : before ≡ st.before = omega (arith, most) in
           let down = subst (λ (k : ℕ). g.min_down ≤ off_time g k st.before) z st.gap.min_down in
           elim (on_in g s st.before) as (λ b. on_in g s st.before ≡ b → IsFalse b) [
             | false ↦ λ here. refl
@@ -275,32 +208,26 @@ module _ (g : ThermalUnit) (π : PriceLists) (ends : ℕ → Option ℤ) (n : �
     same_first : (o : Schedule) (f : ℕ) → IsEdge g π ends n o f l v → on_in g o st.before ≡ on_in g s st.before → f ≡ first
     same_first o f edge same =
         let late = no_later o f edge in
-        let is = st.first in
-        let order = named.spell.order in
         elim (cases_lt st.before f) [
-          | inl more ↦ omega (arith, more, late, is)
-          | inr most ↦ let on = edge.run.on st.before most (omega (arith, order, is)) in let off = off_before in cc
+          | inl more ↦ omega (arith, more, late)
+          | inr most ↦ let on = edge.run.on st.before most (omega arith) in let off = off_before in cc
         ]
 
     -- both start there: so both have the same on period before it, and the rival costs as much up to that one
     rival_before : (o : Schedule) (f : ℕ) → IsEdge g π ends n o f l v → f ≡ first → HasSameFlags g o s before st.before → IsRival g π n before st.value o
     rival_before o f edge f_is agree =
-        let k = st.before in
-        let r = edge.starts k (f_is ∙ st.first) in
-        let from = r.idle.order in
+        let r = edge.starts st.before (f_is ∙ st.first) in
         let net = (same_net o f edge f_is).1 in
-        let e : ℤ = r.value +ℤ start_cost_after g r.last k in
+        let e : ℤ = r.value +ℤ start_cost_after g r.last st.before in
         let entry : IsEntryAfter g ends first r.last e = inr (subst (λ (f : ℕ). IsStarted g ends f r.last e) (sym st.first) r.started) in
-        let value = named.cost in
-        let cost = r.cost in
         let same = ap (λ (f : ℕ). spell_cost g π f l o) st.first in
-        let e_is : e ≡ named.entry_cost = omega (arith, ints, net, value, cost, same) in
+        let e_is : e ≡ named.entry_cost = omega (arith, ints, net, same) in
         let earliest = named.entry.earliest r.last (subst (λ (z : ℤ). IsEntryAfter g ends first r.last z) e_is entry) in
         let last_is : r.last ≡ before = elim (cases_lt before r.last) [
           | inl more ↦
-              let s_off = idle r.last more from in
+              let s_off = idle r.last more r.idle.order in
               let o_on = r.idle.on (omega (arith, more)) in
-              let a = agree r.last more from in cc
+              let a = agree r.last more r.idle.order in cc
           | inr most ↦ omega (arith, most, earliest)
         ] in
         let value_is : r.value ≡ st.value = some_same (ends before) r.value st.value (subst (λ (l : ℕ). ends l ≡ Some r.value) last_is r.ended) st.ended in
@@ -310,18 +237,15 @@ module _ (g : ThermalUnit) (π : PriceLists) (ends : ℕ → Option ℤ) (n : �
     flag_after o rival t low agree here =
         let r = edge_here o rival in
         let late = no_later o r.0 r.1 in
-        let is = st.first in
-        let order = named.spell.order in
-        let from = st.gap.off.order in
         elim (cases_lt st.before t) [
-          | inl later ↦ r.1.run.on t (omega (arith, late, is, later)) low
+          | inl later ↦ r.1.run.on t (omega (arith, late, later)) low
           | inr until ↦ elim (cases_lt before t) [
             | inl gap ↦ let off = idle t gap until in cc
             | inr under ↦ elim (cases_lt t st.before) [
               | inl below ↦
-                  let f_is = same_first o r.0 r.1 (agree st.before below (omega (arith, order, is))) in
-                  let rival' = rival_before o r.0 r.1 f_is (λ u above inside. agree u (omega (arith, above, under)) (omega (arith, inside, is, order))) in
-                  (rest o rival').flag t under (λ u above inside. agree u above (omega (arith, inside, from, is, order))) here
+                  let f_is = same_first o r.0 r.1 (agree st.before below (omega arith)) in
+                  let rival' = rival_before o r.0 r.1 f_is (λ u above inside. agree u (omega (arith, above, under)) (omega (arith, inside))) in
+                  (rest o rival').flag t under (λ u above inside. agree u above (omega (arith, inside))) here
               | inr most ↦
                   let z : st.before ≡ t = omega (arith, most, until) in
                   let off = subst (λ (t : ℕ). IsFalse (on_in g s t)) z off_before in cc
@@ -337,48 +261,38 @@ module _ (g : ThermalUnit) (π : PriceLists) (ends : ℕ → Option ℤ) (n : �
 
       starts_same : (edge_here o rival).0 ≡ first
       starts_same =
-          let is = st.first in
-          let order = named.spell.order in
           let r = edge_here o rival in
-          same_first o r.0 r.1 (flags_at st.before (omega (arith, is, order)))
+          same_first o r.0 r.1 (flags_at st.before (omega arith))
 
       before_same : IsFirstBeside g before o s
       before_same =
-          let is = st.first in
-          let order = named.spell.order in
           let r = edge_here o rival in
-          rest o (rival_before o r.0 r.1 starts_same (λ u above inside. flags_at u (omega (arith, inside, is, order))))
+          rest o (rival_before o r.0 r.1 starts_same (λ u above inside. flags_at u (omega (arith, inside))))
 
       net_same : IsDispatch g n first l o × (spell_cost g π first l o ≡ named.net)
       net_same = let r = edge_here o rival in same_net o r.0 r.1 starts_same
 
       power_after : (k : ℕ) → k < l → IsTrue (on_in g s (suc k)) → HasSamePowers o s (suc k) l → power_in s (suc k) ≤ℤ power_in o (suc k)
       power_after k low here agree =
-          let is = st.first in
-          let order = named.spell.order in
-          let from = st.gap.off.order in
           elim (cases_lt st.before (suc k)) [
-            | inl inside ↦ best.power o net_same.0 net_same.1 k (omega (arith, is, inside)) low (λ j above until. agree j (omega (arith, above)) until)
+            | inl inside ↦ best.power o net_same.0 net_same.1 k (omega (arith, inside)) low (λ j above until. agree j (omega (arith, above)) until)
             | inr until ↦ elim (cases_lt before (suc k)) [
               | inl gap ↦ let off = idle (suc k) gap until in cc
               | inr under ↦
-                  before_same.power (λ u above inside. flags u above (omega (arith, inside, from, is, order))) k (omega (arith, under)) here
-                  (λ j above inside. agree j above (omega (arith, inside, from, is, order)))
+                  before_same.power (λ u above inside. flags u above (omega (arith, inside))) k (omega (arith, under)) here
+                  (λ j above inside. agree j above (omega (arith, inside)))
             ]
           ]
 
       reserve_after : HasSamePowers o s 0 l → (k : ℕ) → k < l → IsTrue (on_in g s (suc k)) → reserve_in s (suc k) ≤ℤ reserve_in o (suc k)
       reserve_after powers k low here =
-          let is = st.first in
-          let order = named.spell.order in
-          let from = st.gap.off.order in
           elim (cases_lt st.before (suc k)) [
-            | inl inside ↦ best.reserve o net_same.0 net_same.1 (λ j above until. powers j (omega arith) until) k (omega (arith, is, inside)) low
+            | inl inside ↦ best.reserve o net_same.0 net_same.1 (λ j above until. powers j (omega arith) until) k (omega (arith, inside)) low
             | inr until ↦ elim (cases_lt before (suc k)) [
               | inl gap ↦ let off = idle (suc k) gap until in cc
               | inr under ↦
-                  before_same.reserve (λ u above inside. flags u above (omega (arith, inside, from, is, order)))
-                  (λ j above inside. powers j above (omega (arith, inside, from, is, order))) k (omega (arith, under)) here
+                  before_same.reserve (λ u above inside. flags u above (omega (arith, inside)))
+                  (λ j above inside. powers j above (omega (arith, inside))) k (omega (arith, under)) here
             ]
           ]
 

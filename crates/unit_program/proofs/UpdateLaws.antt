@@ -78,20 +78,19 @@ module _ (g : ThermalUnit) (periods first before : ℕ) (e : ℤ) (nets : ℕ �
 
     pub update_more : IsUpdateSoFar (last + 1) rows''
     update_more = record {
-      same = λ l low. (let order = spell.order in others l (λ is. omega (arith, low, is, order)) ∙ so_far.same l low);
+      same = λ l low. (others l (λ is. omega (arith, low, is)) ∙ so_far.same l low);
       keeps = λ l v is. (let r = so_far.keeps l v is in elim (cases_eq l last) [
         | inl same ↦
             let s = old r.0 (ap (cost_at rows') (sym same) ∙ r.1) in
-            let a = s.2 in let b = r.2 in
-            (s.0, ap (cost_at rows'') same ∙ s.1, omega (arith, ints, a, b))
+            let a = s.2 in
+            (s.0, ap (cost_at rows'') same ∙ s.1, omega (arith, ints, a))
         | inr other ↦ (r.0, cost-same rows'' rows' l l (others l other) ∙ r.1, r.2)
       ]);
       adds = λ l d low spell' net'. elim (cases_eq l last) [
         | inl same ↦
             let z : c ≡ d = (let a = ap nets same in cc) in
             let r = added in
-            let b = r.2 in
-            (r.0, ap (cost_at rows'') same ∙ r.1, omega (arith, ints, b, z, cost))
+            (r.0, ap (cost_at rows'') same ∙ r.1, omega (arith, ints, z, cost))
         | inr other ↦
             let r = so_far.adds l d (omega (arith, low, other)) spell' net' in
             (r.0, cost-same rows'' rows' l l (others l other) ∙ r.1, r.2)

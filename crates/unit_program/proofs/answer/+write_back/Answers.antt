@@ -44,8 +44,7 @@ write_back-requires g t c κs within =
     let less = r.before_less one in
     let idle = r.before_idle (schedule_of c.args.into.now.response) (schedule_of c.write_spell.new.into.response) one c.in_ok-write_spell.ensures.written c.requires.idle in
     let ended = r.before_ended one in
-    let last = c.requires.last in
-    let low : c.in-Some.ended.before ≤ length c.args.prices.now.energy.items = omega (arith, less, last) in
+    let low : c.in-Some.ended.before ≤ length c.args.prices.now.energy.items = omega (arith, less) in
     let measure : c.in-Some.ended.before < t = omega arith in
     let into : length c.write_spell.new.into.response.on.items ≡ length c.args.prices.now.energy.items = c.write_spell.ensures.length ∙ c.requires.into in
     (measure, (within.0, (within.1, (c.requires.curve, (c.requires.filled, (c.requires.room, (low, (ended, (into, idle)))))))))

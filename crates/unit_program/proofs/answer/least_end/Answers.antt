@@ -44,5 +44,5 @@ pub returns-clause-earliest : goal.returns-clause-earliest
 returns-clause-earliest c =
     elim (c.loop-last.least) as (λ o. c.loop-last.least ≡ o → IfSome o (λ r. (k : ℕ) → cost_at c.args.rows.now k ≡ Some r.cost → IsOffRun (thermal_of c.args.unit.now) k c.args.periods → r.last ≤ k)) [
       | None ↦ λ is. tt
-      | Some r ↦ λ is. λ k ended run. (let order = run.order in c.loop-last.invariant.earliest r is k (omega (arith, order)) ended run)
+      | Some r ↦ λ is. λ k ended run. (c.loop-last.invariant.earliest r is k (omega arith) ended run)
     ] refl

@@ -10,13 +10,8 @@ use Rattle.unit_program.proofs.answer.write_best.Goals as goal
 pub negated-into-requires : goal.negated-into-requires
 negated-into-requires g c =
     let fits : FitsSigned w64 c.args.end.now.cost = search rules in
-    let least = c.requires.end in
-    let within = c.requires.filled.within c.args.end.now.last c.args.end.now.cost least.ended in
-    let order = least.off.order in
-    let low = within.at_least in
-    let high = within.at_most in
-    let few = c.args.prices.now.valid.horizon.at_most in
-    let r : IsWithinTimes 400 c.args.end.now.cost = record { at_least = omega (arith, ints, low, order, few); at_most = omega (arith, ints, high, order, few) } in
+    let within = c.requires.filled.within c.args.end.now.last c.args.end.now.cost c.requires.end.ended in
+    let r : IsWithinTimes 400 c.args.end.now.cost = record { at_least = omega (arith, ints); at_most = omega (arith, ints) } in
     simp to_z-of_z r
 
 pub returns-clause-best : goal.returns-clause-best
@@ -43,11 +38,10 @@ returns-clause-least g c =
     let back = c.in_ok-write_back.ensures.written in
     let on : length c.write_back.new.into.response.on.items ≡ T = c.write_back.ensures.length ∙ c.clear.ensures.length ∙ c.requires.into in
     let valid = c.write_back.new.into.response.valid in
-    let ended = c.requires.end.ended in
     least_of (thermal_of u) (prices_of c.args.prices.now) T refl (cost_at c.args.rows.now)
     u.valid.ramp_up.at_least u.valid.ramp_down.at_least c.requires.filled.table.complete c.args.end.now.last c.args.end.now.cost a b c.requires.end c.requires.earliest
     (cleared_idle (thermal_of u) a c.clear.ensures.off c.clear.ensures.power c.clear.ensures.reserve T)
-    (back.up_to c.args.end.now.cost ended) (back.first c.args.end.now.cost ended) back.later
+    (back.up_to c.args.end.now.cost c.requires.end.ended) (back.first c.args.end.now.cost c.requires.end.ended) back.later
     (back.zero_off (cleared_zero (thermal_of u) a c.clear.ensures.off c.clear.ensures.power c.clear.ensures.reserve)) on (valid.power ∙ on) (valid.reserve ∙ on)
 
 pub returns-clause-earned : goal.returns-clause-earned

@@ -9,10 +9,8 @@ use Rattle.unit_program.proofs.bench.find_within.Goals as goal
 pub least_end-requires-clause-room : goal.least_end-requires-clause-room
 least_end-requires-clause-room g c =
     let kept = c.fill_bench.ensures.bench (length c.args.prices.now.energy.items) (length c.args.unit.now.points.items) c.requires.bench in
-    let rows = kept.rows in
-    let periods = c.len-periods.ensures in
     let same = ap length c.as_slice.ensures in
-    omega (arith, rows, periods, same)
+    omega (arith, same)
 
 pub returns-clause-some : goal.returns-clause-some
 returns-clause-some g c =

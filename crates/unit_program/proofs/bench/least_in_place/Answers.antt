@@ -18,16 +18,14 @@ write_noted-requires-clause-ways g c =
 pub write_noted-requires-clause-room : goal.write_noted-requires-clause-room
 write_noted-requires-clause-room g c =
     let kept = c.find_end.ensures.bench (length c.args.prices.now.energy.items) (length c.args.unit.now.points.items) c.requires.bench in
-    let rows = kept.rows in
     let same = ap length c.as_slice.ensures in
-    omega (arith, rows, same)
+    omega (arith, same)
 
 pub write_noted-requires-clause-runners : goal.write_noted-requires-clause-runners
 write_noted-requires-clause-runners g c =
     let kept = c.find_end.ensures.bench (length c.args.prices.now.energy.items) (length c.args.unit.now.points.items) c.requires.bench in
-    let count = kept.count in
     let same = ap length c.as_slice-2.ensures.value in
-    omega (arith, count, same)
+    omega (arith, same)
 
 pub returns-clause-bench : goal.returns-clause-bench
 returns-clause-bench g c = λ periods points b.

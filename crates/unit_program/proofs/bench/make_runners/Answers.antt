@@ -6,11 +6,8 @@ use Rattle.unit_program.proofs.bench.make_runners.Goals as goal
 pub loop-preserved : goal.loop-preserved
 loop-preserved c =
     let items = c.push_reserved.ensures.items in
-    let capacity = c.push_reserved.ensures.capacity in
-    let room = c.in_ok-running.ensures.room in
-    let places = c.in_ok-passed.ensures.room in
     record {
       count = omega (arith, simp length-append at (ap length items));
-      capacity = omega (arith, capacity);
-      room = room_more room_of c.args.pieces c.args.count c.loop.runners.items c.push_reserved.new.self.items _ items (omega (arith, room)) (omega (arith, places)) c.loop.invariant.room;
+      capacity = omega (arith, c.push_reserved.ensures.capacity);
+      room = room_more room_of c.args.pieces c.args.count c.loop.runners.items c.push_reserved.new.self.items _ items (omega (arith, c.in_ok-running.ensures.room)) (omega (arith, c.in_ok-passed.ensures.room)) c.loop.invariant.room;
     }

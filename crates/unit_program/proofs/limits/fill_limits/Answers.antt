@@ -16,39 +16,30 @@ loop-back-preserved c =
     let limit = to_z w64 c.loop-back.limit-bits in
     let least = c.least_of_period-limit.result in
     let p = c.least_of_period-limit.ensures.bound in
-    let a = p.at_least in
     let b = p.at_most in
     let inv = c.loop-back.invariant in
-    let d = inv.bound.at_least in
-    let e = inv.bound.at_most in
-    let few = c.args.prices.now.valid.horizon.at_most in
-    let count = c.len-periods.ensures in
-    let test = c.loop-back-test.true in
-    let low : back < T = omega (arith, test, count) in
-    let least_is : to_z w64 (of_z w64 least) ≡ least = stored_is least (record { at_least = omega (arith, ints, a); at_most = omega (arith, ints, b) }) in
+    let low : back < T = omega arith in
+    let least_is : to_z w64 (of_z w64 least) ≡ least = stored_is least (record { at_least = omega (arith, ints); at_most = omega (arith, ints, b) }) in
     let v_is : to_z w64 (of_z w64 (limit -ℤ to_z w64 (of_z w64 least))) ≡ limit -ℤ least =
-    ap (λ (z : ℤ). to_z w64 (of_z w64 (limit -ℤ z))) least_is ∙ stored_is (limit -ℤ least) (record { at_least = omega (arith, ints, b, d); at_most = omega (arith, ints, a, e, low, few) }) in
+    ap (λ (z : ℤ). to_z w64 (of_z w64 (limit -ℤ z))) least_is ∙ stored_is (limit -ℤ least) (record { at_least = omega (arith, ints, b); at_most = omega (arith, ints, low) }) in
     let same = inv.same in
-    let room = c.requires.room in
-    let place_is : c.len-periods.result - 1 - back ≡ T - (back + 1) = omega (arith, count) in
+    let place_is : c.len-periods.result - 1 - back ≡ T - (back + 1) = omega arith in
     let energy_is = to_z-of_z w64 c.get-energy.result.now (search rules) in
     let reserve_is = to_z-of_z w64 c.get.result.now (search rules) in
     let told = rw (energy_is, reserve_is) at c.least_of_period-limit.ensures.least in
     let items = c.set-in-loop-back.ensures.items in
     record {
-      here = limit_here g π c.args.most back (T - (back + 1)) _ c.loop-back.limits.items c.set-in-loop-back.new.self.items limit least _ low place_is refl (omega (arith, same, room)) items v_is inv.here;
-      right = limits_next g π _ back (T - (back + 1)) _ c.loop-back.limits.items c.set-in-loop-back.new.self.items limit least _ low place_is refl (omega (arith, same, room)) items v_is inv.here
+      here = limit_here g π c.args.most back (T - (back + 1)) _ c.loop-back.limits.items c.set-in-loop-back.new.self.items limit least _ low place_is refl (omega (arith, same)) items v_is inv.here;
+      right = limits_next g π _ back (T - (back + 1)) _ c.loop-back.limits.items c.set-in-loop-back.new.self.items limit least _ low place_is refl (omega (arith, same)) items v_is inv.here
           b (period_net g π (T - (back + 1)) _ place_is c.get-energy.result.now c.get.result.now least c.get-energy.ensures.item c.get.ensures.item told) inv.right;
-      bound = record { at_least = omega (arith, ints, v_is, b, d); at_most = omega (arith, ints, v_is, a, e) };
+      bound = record { at_least = omega (arith, ints, v_is, b); at_most = omega (arith, ints, v_is) };
       same = ap (λ (xs : List ℤ). length xs) items ∙ length-set c.loop-back.limits.items _ _ ∙ same;
     }
 
 pub returns-clause-limits : goal.returns-clause-limits
 returns-clause-limits c =
     let T = length c.args.prices.now.energy.items in
-    let count = c.len-periods.ensures in
-    let from = c.loop-back-test.false in
-    let z : T - c.loop-back.back ≡ 0 = omega (arith, count, from) in
+    let z : T - c.loop-back.back ≡ 0 = omega arith in
     let fits : FitsSigned w64 c.args.most = search rules in
     limits_whole (thermal_of c.args.unit.now) (prices_of c.args.prices.now) c.args.most c.loop-back.limits.items
     (subst (λ (m : ℤ). AreLimitsFrom (thermal_of c.args.unit.now) (prices_of c.args.prices.now) m 0 c.loop-back.limits.items) (to_z-of_z w64 c.args.most fits)

@@ -17,13 +17,10 @@ loop-point-preserved c =
     let at = c.loop-point.point-index in
     let none : Point = record { at = pos 0; cost = pos 0 } in
     let net : c.net_of.result ≡ (get_or points at none).cost -ℤ (to_z w64 (of_z w64 c.args.price) *ℤ (get_or points at none).at) = c.net_of.ensures.value in
-    let low = c.loop-point-test.true in
     record {
-      below = λ k d less. net_beside points at none (to_z w64 (of_z w64 c.args.price)) (to_z w64 c.loop-point.least-bits) c.net_of.result (to_z w64 (of_z w64 c.net_of.result)) (to_z w64 (of_z w64 c.min-least.result)) net net_is (min_is ∙ value) c.loop-point.invariant.below k d less (omega (arith, low));
+      below = λ k d less. net_beside points at none (to_z w64 (of_z w64 c.args.price)) (to_z w64 c.loop-point.least-bits) c.net_of.result (to_z w64 (of_z w64 c.net_of.result)) (to_z w64 (of_z w64 c.min-least.result)) net net_is (min_is ∙ value) c.loop-point.invariant.below k d less (omega arith);
       within =
-          let a = c.net_of.ensures.bound.at_least in
-          let b = c.loop-point.invariant.within.at_least in
           let d = c.loop-point.invariant.within.at_most in
           let e : to_z w64 (of_z w64 c.min-least.result) ≡ int_min (to_z w64 (of_z w64 c.net_of.result)) (to_z w64 c.loop-point.least-bits) = min_is ∙ value in
-          record { at_least = omega (arith, ints, clamps, e, net_is, a, b); at_most = omega (arith, ints, clamps, e, d) };
+          record { at_least = omega (arith, ints, clamps, e, net_is); at_most = omega (arith, ints, clamps, e, d) };
     }

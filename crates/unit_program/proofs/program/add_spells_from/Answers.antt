@@ -8,20 +8,17 @@ pub returns-then-until-max-clause-added : goal.returns-then-until-max-clause-add
 returns-then-until-max-clause-added g c =
     let u = thermal_of c.args.unit.now in
     let T = length c.args.prices.now.energy.items in
-    let none = c.if-until-max.true in
-    let larger = c.max.ensures in
     added_none u (prices_of c.args.prices.now) c.args.first c.args.entry.now.last c.args.entry.now.cost c.args.table.now.items
     (λ l one spell. no_spell_after u T c.args.first c.open_until-until.result (sym c.requires.horizon) c.open_until-until.ensures l
-    (let order = spell.order in omega (arith, none, larger, one, order)) spell) c.requires.within
+    (omega (arith, one)) spell) c.requires.within
 
 pub returns-then-not-may_end-clause-added : goal.returns-then-not-may_end-clause-added
 returns-then-not-may_end-clause-added g c =
     let u = thermal_of c.args.unit.now in
     let T = length c.args.prices.now.energy.items in
     let short = c.may_end.ensures.no c.if-not-may_end.true in
-    let periods = c.len-periods.ensures in
     added_none u (prices_of c.args.prices.now) c.args.first c.args.entry.now.last c.args.entry.now.cost c.args.table.now.items
-    (λ l one spell. none_long_enough u T c.args.first c.open_until-until.result (sym c.requires.horizon) c.open_until-until.ensures (let inside = short.0 in omega (arith, inside, periods)) short.1 l spell) c.requires.within
+    (λ l one spell. none_long_enough u T c.args.first c.open_until-until.result (sym c.requires.horizon) c.open_until-until.ensures (omega arith) short.1 l spell) c.requires.within
 
 pub returns-clause-added : goal.returns-clause-added
 returns-clause-added g c =

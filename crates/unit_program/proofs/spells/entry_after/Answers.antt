@@ -10,11 +10,7 @@ pub sum_of-requires-clause-a : goal.sum_of-requires-clause-a
 sum_of-requires-clause-a c =
     let fits : FitsSigned w64 c.in-Some.ended.cost = search rules in
     let within = c.requires.within c.args.last c.in-Some.ended.cost (cost-is c.args.rows.now c.args.last c.in-Some.ended c.in-Some.is) in
-    let order = c.requires.off.order in
-    let small = c.requires.small in
-    let low = within.at_least in
-    let high = within.at_most in
-    let r : IsWithinTimes 400 c.in-Some.ended.cost = record { at_least = omega (arith, ints, low, order, small); at_most = omega (arith, ints, high, order, small) } in
+    let r : IsWithinTimes 400 c.in-Some.ended.cost = record { at_least = omega (arith, ints); at_most = omega (arith, ints) } in
     simp to_z-of_z r
 
 pub returns-then-from-time_off-clause-bound : goal.returns-then-from-time_off-clause-bound
@@ -24,9 +20,5 @@ returns-then-from-time_off-clause-bound c =
     let fits_sum : FitsSigned w64 c.sum_of.result = search rules in
     let within = c.requires.within c.args.last c.in-Some.ended.cost (cost-is c.args.rows.now c.args.last c.in-Some.ended c.in-Some.is) in
     let sum : c.sum_of.result ≡ c.in-Some.ended.cost +ℤ c.start_after.result = simp to_z-of_z at c.sum_of.ensures in
-    let low = within.at_least in
-    let high = within.at_most in
-    let low' = c.start_after.ensures.bound.at_least in
-    let high' = c.start_after.ensures.bound.at_most in
-    let r : IsWithinTimes (2 * c.args.last + 3) c.sum_of.result = record { at_least = omega (arith, ints, low, low', sum); at_most = omega (arith, ints, high, high', sum) } in
+    let r : IsWithinTimes (2 * c.args.last + 3) c.sum_of.result = record { at_least = omega (arith, ints, sum); at_most = omega (arith, ints, sum) } in
     simp to_z-of_z r

@@ -22,8 +22,7 @@ loop-last-preserved c =
     one_more (thermal_of c.args.unit.now) (cost_at c.args.rows.now) c.args.before c.loop-last.last c.loop-last.least c.lesser-least.result c.entry_after.result
     c.loop-last.invariant c.entry_after.ensures.some c.entry_after.ensures.none
     (λ e is. (let w = if_some (IsWithinTimes (2 * c.loop-last.last + 3)) c.entry_after.result e is c.entry_after.ensures.bound in
-    let low = w.at_least in let high = w.at_most in
-    record { at_least = omega (arith, ints, low, c.loop-last-test.true); at_most = omega (arith, ints, high, c.loop-last-test.true) }))
+    record { at_least = omega (arith, ints, c.loop-last-test.true); at_most = omega (arith, ints, c.loop-last-test.true) }))
     (λ r is. if_some (λ (r : Entry). (c.loop-last.least ≡ Some r) ⊎ ((c.entry_after.result ≡ Some r.cost) × (r.last ≡ c.loop-last.last))) c.lesser-least.result r is c.lesser-least.ensures.from)
     c.lesser-least.ensures.old c.lesser-least.ensures.added c.lesser-least.ensures.kept
 

@@ -31,8 +31,7 @@ write_back-requires g t c κs within =
     let less = r.before_less one in
     let idle = r.before_idle (schedule_of c.args.into.now.response) (schedule_of c.write_left.new.into.response) one c.write_left.ensures.written c.requires.idle in
     let ended = before_within c.limits_keep_rows.ensures.rows c.limits_keep_rows.ensures.starts (thermal_of u) (prices_of c.args.prices.now) u.valid c.start_costs_are_within.ensures c.args.rows.now c.args.last c.requires.last c.requires.within c.in-Some.ended c.in-Some.is (c.is_all_off.ensures.no c.if-is_all_off.false) one in
-    let last = c.requires.last in
-    let low : c.in-Some.ended.before ≤ length c.args.prices.now.energy.items = omega (arith, less, last) in
+    let low : c.in-Some.ended.before ≤ length c.args.prices.now.energy.items = omega (arith, less) in
     let measure : c.in-Some.ended.before < t = omega arith in
     let into : length c.write_left.new.into.response.on.items ≡ length c.args.prices.now.energy.items = c.write_left.ensures.length ∙ c.requires.into in
     (measure, (within, (ended, (c.requires.ways, (c.requires.room, (c.requires.runners, (low, (into, idle))))))))
@@ -41,18 +40,14 @@ pub write_left-requires-clause-runners : goal.write_left-requires-clause-runners
 write_left-requires-clause-runners g t c =
     let u = c.args.unit.now in
     let r = row_back_within c.limits_keep_rows.ensures.rows c.limits_keep_rows.ensures.starts (thermal_of u) (prices_of c.args.prices.now) u.valid c.start_costs_are_within.ensures c.args.rows.now c.args.last c.requires.last c.requires.within c.in-Some.ended c.in-Some.is (c.is_all_off.ensures.no c.if-is_all_off.false) in
-    let order = r.order in
-    let last = c.requires.last in
-    let few = c.requires.runners in
-    omega (arith, order, last, few)
+    omega arith
 
 pub write_left-requires-clause-noted : goal.write_left-requires-clause-noted
 write_left-requires-clause-noted g t c = λ one.
-    let rows = c.args.rows.now in
     let last = c.args.last in
-    let first = first-is rows last c.in-Some.ended c.in-Some.is in
+    let first = first-is c.args.rows.now last c.in-Some.ended c.in-Some.is in
     subst (λ (f : ℕ). IsSpellNoted (thermal_of c.args.unit.now) (prices_of c.args.prices.now) f last (left_at c.args.runners.now f)) first
-    (c.requires.ways last c.in-Some.ended.cost one c.requires.last (cost-is rows last c.in-Some.ended c.in-Some.is))
+    (c.requires.ways last c.in-Some.ended.cost one c.requires.last (cost-is c.args.rows.now last c.in-Some.ended c.in-Some.is))
 
 pub returns-clause-written : goal.returns-clause-written
 returns-clause-written g t c =

@@ -12,13 +12,8 @@ use Rattle.unit_program.proofs.way.write_noted.Goals as goal
 pub negated-into-requires : goal.negated-into-requires
 negated-into-requires g c =
     let fits : FitsSigned w64 c.args.end.now.cost = search rules in
-    let least = c.requires.end.least in
-    let within = c.requires.end.filled.within c.args.end.now.last c.args.end.now.cost least.ended in
-    let order = least.off.order in
-    let low = within.at_least in
-    let high = within.at_most in
-    let few = c.args.prices.now.valid.horizon.at_most in
-    let r : IsWithinTimes 400 c.args.end.now.cost = record { at_least = omega (arith, ints, low, order, few); at_most = omega (arith, ints, high, order, few) } in
+    let within = c.requires.end.filled.within c.args.end.now.last c.args.end.now.cost c.requires.end.least.ended in
+    let r : IsWithinTimes 400 c.args.end.now.cost = record { at_least = omega (arith, ints); at_most = omega (arith, ints) } in
     simp to_z-of_z r
 
 pub returns-clause-best : goal.returns-clause-best
@@ -48,13 +43,12 @@ returns-clause-least g c =
     let back = c.write_back.ensures.written in
     let on : length c.write_back.new.into.response.on.items ≡ T = c.write_back.ensures.length ∙ c.clear.ensures.length ∙ c.requires.into in
     let valid = c.write_back.new.into.response.valid in
-    let ended = at.least.ended in
     least_of (thermal_of u) (prices_of c.args.prices.now) T refl (capped at.filled.limits (cost_at c.args.rows.now))
     u.valid.ramp_up.at_least u.valid.ramp_down.at_least at.filled.table.complete c.args.end.now.last c.args.end.now.cost a b
     (end_capped c.limits_keep_rows.ensures.rows (thermal_of u) (prices_of c.args.prices.now) at.most c.args.rows.now at.filled c.limits_keep_rows.ensures.amount c.args.end.now.last c.args.end.now.cost at.low at.least at.earliest)
     (end_earliest c.limits_keep_rows.ensures.rows (thermal_of u) (prices_of c.args.prices.now) at.most c.args.rows.now at.filled c.limits_keep_rows.ensures.amount c.args.end.now.last c.args.end.now.cost at.low at.least at.earliest)
     (cleared_idle (thermal_of u) a c.clear.ensures.off c.clear.ensures.power c.clear.ensures.reserve T)
-    (back.up_to c.args.end.now.cost ended) (back.first c.args.end.now.cost ended) back.later
+    (back.up_to c.args.end.now.cost at.least.ended) (back.first c.args.end.now.cost at.least.ended) back.later
     (back.zero_off (cleared_zero (thermal_of u) a c.clear.ensures.off c.clear.ensures.power c.clear.ensures.reserve)) on (valid.power ∙ on) (valid.reserve ∙ on)
 
 pub returns-clause-earned : goal.returns-clause-earned

@@ -4,15 +4,13 @@ use Rattle.unit_program.proofs.bench.Bench+Slopes.make.Goals as goal
 
 pub returns : goal.returns
 returns c =
-    let blocks = c.in_ok-blocks.ensures.room in
-    let count = c.in_ok-runners.ensures.count in
     let rows = simp length-replicate at (ap length c.in_ok-table.ensures) in
     let origins = c.in_ok-origins.ensures in
     let roster = c.in_ok-roster.ensures in
     let limits = simp length-replicate at (ap length c.in_ok-limits.ensures) in
     record {
-      blocks = omega (arith, blocks);
-      count = omega (arith, count);
+      blocks = omega (arith, c.in_ok-blocks.ensures.room);
+      count = omega (arith, c.in_ok-runners.ensures.count);
       room = λ f r is.
           let have = c.in_ok-runners.ensures.room f r is in
           let most = have.0 in
