@@ -14,7 +14,7 @@ use Rattle.unit_program.specs.Builds.{IsDispatchStep, MayStop, IsUpTo, IsIdle}
 use Rattle.unit_program.proofs.RunLaws.{held-more, held-none}
 use Rattle.unit_program.proofs.CommitLaws.{rules_from_steps}
 use Rattle.unit_program.proofs.CostLaws.{sum_from_to-more, sum_from_to-one, earnings-paid}
-use Rattle.unit_program.proofs.SpellLaws.{above-on, above-off, period_cost-stay, period_cost-start, period_cost-off, on_time-more, off_time-more, off_time-first, time_down-on, time_down-more}
+use Rattle.unit_program.proofs.SpellLaws.{above-on, above-off, period_cost-stay, period_cost-start, period_cost-off, on_time-more, off_time-more, off_time-first, off_time-same, time_down-on, time_down-more}
 
 -- one more place below
 below_suc : (P : ℕ → Type 0) (t : ℕ) → ((k : ℕ) → k < t → P k) → P t → (k : ℕ) → k < suc t → P k
@@ -220,10 +220,6 @@ module _ (g : ThermalUnit) (π : PriceLists) (periods : ℕ) (s : Schedule)
           cost = r.cost;
         }
 
-  off_time-same : (l : ℕ) → IsTrue (on_in g s l) → off_time g l l ≡ 0
-  off_time-same zero h = ap (λ (b : Bool). cond b 0 (g.down0 + 0)) h
-  off_time-same (suc l) h = omega arith
-
   -- ---- one after another
 
   -- off since before the horizon
@@ -263,7 +259,7 @@ module _ (g : ThermalUnit) (π : PriceLists) (periods : ℕ) (s : Schedule)
           | inl more ↦ idle.off k more (omega arith)
           | inr most ↦
               let z : l ≡ k = omega (arith, most) in
-              let none = off_time-same l (subst (λ (k : ℕ). IsTrue (on_in g s k)) (sym z) is) in
+              let none = off_time-same g s l (subst (λ (k : ℕ). IsTrue (on_in g s k)) (sym z) is) in
               let down = subst (λ (k : ℕ). g.min_down ≤ off_time g l k) (sym z) gap.min_down in
               absurd (omega (arith, none, down, some))
         ]

@@ -27,17 +27,10 @@ module _ (p : Point) (price : ℤ) (point : IsPoint p) (limit : IsWithin 2000000
       let h = product_within 20000000 1000000000 price p.at limit point.at in
       record { at_least = omega (arith, ints); at_most = omega (arith, ints) }
 
-  price_is : stored price ≡ price
-  price_is = stored_is price (record { at_least = omega (arith, ints); at_most = omega (arith, ints) })
-
-  at_is : stored p.at ≡ p.at
-  at_is = stored_is p.at (record { at_least = omega (arith, ints); at_most = omega (arith, ints) })
-
-  cost_is : stored p.cost ≡ p.cost
-  cost_is = stored_is p.cost (record { at_least = omega (arith, ints); at_most = omega (arith, ints) })
-
   worth_is : stored (stored price *ℤ stored p.at) ≡ price *ℤ p.at
   worth_is =
+      let at_is = stored_is p.at (record { at_least = omega (arith, ints); at_most = omega (arith, ints) }) in
+      let price_is = stored_is price (record { at_least = omega (arith, ints); at_most = omega (arith, ints) }) in
       ap stored (ap (λ (z : ℤ). z *ℤ stored p.at) price_is ∙ ap (λ (z : ℤ). price *ℤ z) at_is) ∙ stored_is (price *ℤ p.at) (record { at_least = omega (arith, ints, worth.at_least); at_most = omega (arith, ints, worth.at_most) })
 
   net_within : IsWithin 20010000000000000 (p.cost -ℤ (price *ℤ p.at))
@@ -46,6 +39,7 @@ module _ (p : Point) (price : ℤ) (point : IsPoint p) (limit : IsWithin 2000000
 
   pub net_stored : stored (stored p.cost -ℤ stored (stored price *ℤ stored p.at)) ≡ p.cost -ℤ (price *ℤ p.at)
   net_stored =
+      let cost_is = stored_is p.cost (record { at_least = omega (arith, ints); at_most = omega (arith, ints) }) in
       ap stored (ap (λ (z : ℤ). z -ℤ stored (stored price *ℤ stored p.at)) cost_is ∙ ap (λ (z : ℤ). p.cost -ℤ z) worth_is)
       ∙ stored_is (p.cost -ℤ (price *ℤ p.at)) (record { at_least = omega (arith, ints, net_within.at_least); at_most = omega (arith, ints, net_within.at_most) })
 
@@ -96,9 +90,6 @@ fold_low f a m [] low all = low
 fold_low f a m (p ∷ ps) low all =
     let here = all 0 p (omega arith) in
     fold_low f (int_max a (f p)) m ps (omega (arith, ints, clamps, low, here)) (λ k d inside. all (suc k) d (omega (arith, inside)))
-
-some_is : (a b : ℤ) → Some a ≡ Some b → a ≡ b
-some_is a b e = cc
 
 pub net_low : (law : EnvelopeEarnsAsPoints) (ps : List Point) → 1 ≤ length ps → All IsPoint ps → ArePointsOrdered ps → (price least : ℤ) → All (λ (p : Point). least ≤ℤ (p.cost -ℤ (price *ℤ p.at))) ps →
     (x : ℤ) → Spans ps x x → least ≤ℤ (envelope ps x -ℤ (price *ℤ x))
@@ -154,13 +145,6 @@ at_other : (xs : List ℤ) (i j : ℕ) (a : ℤ) → j ≢ i → int_at (set xs 
 at_other xs i j a other = get_or-set_other xs i j a (pos 0) other
 
 module _ (g : ThermalUnit) (π : PriceLists) (most : ℤ) where
-  pub limits_begun : (old : List ℤ) → length π.energy < length old → AreLimitsFrom g π most (length π.energy) (set old (length π.energy) most)
-  limits_begun old room = record {
-    end = at_same old (length π.energy) most room;
-    falls = λ k from low. absurd (omega (arith, from, low));
-    step = λ k d from low range. absurd (omega (arith, from, low));
-  }
-
   pub limits_more : (place : ℕ) (old new : List ℤ) (limit least : ℤ) → place < length π.energy → place < length old → new ≡ set old place (limit -ℤ least) → limit ≡ int_at old (suc place) → least ≤ℤ pos 0 →
       ((d : Schedule) → IsInRange g d place → least ≤ℤ net_cost g π d (suc place)) → AreLimitsFrom g π most (suc place) old → AreLimitsFrom g π most place new
   limits_more place old new limit least low room is limit_is none each h =

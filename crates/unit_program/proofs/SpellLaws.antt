@@ -1,21 +1,17 @@
 -- Runs of on periods and times off of a schedule, by single steps: their dispatch, costs, times and marks.
-use Rattle.std.proofs.Common.{◌≡◌, ℕ, zero, suc, ◌+◌, ◌<◌, ◌≤◌, Bool, true, false, not, cond, ◌&&◌, ◌⊎◌, inl, inr, Option, Some, ℤ, pos, neg_ℤ, ◌+ℤ◌, ◌-ℤ◌, ◌≤ℤ◌, length, refl, sym, ap, ◌∙◌, subst, arith}
+use Rattle.std.proofs.Common.{◌≡◌, ℕ, zero, suc, ◌+◌, ◌<◌, ◌≤◌, Bool, true, false, not, cond, ◌&&◌, inl, inr, pos, ◌+ℤ◌, ◌-ℤ◌, ◌≤ℤ◌, length, refl, sym, ap, ◌∙◌, subst, arith}
 use Rattle.std.specs.Prelude.{IsTrue, IsFalse}
 use Rattle.std.proofs.lemmas.Int.{ints}
 use Rattle.std.proofs.lemmas.Bool.{cases_lt}
 use Rattle.uc_model.specs.declared.units.Mark.TheVariants.{MustOff, MustOn}
-use Rattle.uc_model.specs.Data.{ThermalUnit, Thermal, PriceLists, Schedule}
+use Rattle.uc_model.specs.Data.{ThermalUnit, PriceLists, Schedule}
 use Rattle.uc_model.specs.Schedules.{on_in, above_min, reserve_in, starts_in, stops_in, time_down, cap_of, IsPeriod, KeepsDispatch}
-use Rattle.uc_model.specs.Earnings.{start_cost_of, earnings}
+use Rattle.uc_model.specs.Earnings.{start_cost_of}
 use Rattle.uc_model.specs.Schedules.{mark_in}
-use Rattle.uc_model.specs.Schedules.{IsThermalFeasible}
-use Rattle.unit_program.specs.Steps.{IsStep, time_up}
-use Rattle.spell_run.specs.Spells.{over_min, IsDispatch, net_cost, spell_cost}
-use Rattle.period_table.specs.Spells.{on_time, off_time, IsSpell, IsOffRun, IsGap, start_cost_after, period_cost, paid}
-use Rattle.period_table.specs.Tables.{HasAtMost, IsEntry, IsComplete}
-use Rattle.unit_program.proofs.RunLaws.{held-more, held-none}
-use Rattle.unit_program.proofs.CommitLaws.{not_true, steps_from_rules}
-use Rattle.unit_program.proofs.CostLaws.{sum_from_to-more, sum_from_to-one, earnings-paid}
+use Rattle.unit_program.specs.Steps.{IsStep}
+use Rattle.spell_run.specs.Spells.{over_min, IsDispatch, net_cost}
+use Rattle.period_table.specs.Spells.{on_time, off_time, period_cost}
+use Rattle.unit_program.proofs.CommitLaws.{not_true}
 
 module _ (g : ThermalUnit) (s : Schedule) where
   pub above-on : (t : ℕ) → IsTrue (on_in g s t) → above_min g s t ≡ over_min g s t
@@ -137,6 +133,10 @@ module _ (g : ThermalUnit) where
   pub off_time-first : (s : Schedule) (l : ℕ) → IsTrue (on_in g s l) → off_time g l (suc l) ≡ 1
   off_time-first s zero h = ap (λ (b : Bool). cond b 1 (g.down0 + 1)) h
   off_time-first s (suc l) h = omega arith
+
+  pub off_time-same : (s : Schedule) (l : ℕ) → IsTrue (on_in g s l) → off_time g l l ≡ 0
+  off_time-same s zero h = ap (λ (b : Bool). cond b 0 (g.down0 + 0)) h
+  off_time-same s (suc l) h = omega arith
 
 module _ (g : ThermalUnit) (s : Schedule) where
   pub time_down-on : (t : ℕ) → IsTrue (on_in g s t) → time_down g s t ≡ 0

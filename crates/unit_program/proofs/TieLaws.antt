@@ -1,6 +1,6 @@
 -- Of all schedules that cost the same, what the way back writes is the first: the table names the earliest end, the latest
 -- first period of a spell and the earliest on period before it, and each spell is written first by powers and reserves.
-use Rattle.std.proofs.Common.{◌≡◌, ℕ, zero, suc, ◌+◌, ◌<◌, ◌≤◌, true, false, cond, inl, inr, Option, Some, ℤ, pos, ◌+ℤ◌, ◌≤ℤ◌, length, refl, sym, ap, ◌∙◌, subst, arith}
+use Rattle.std.proofs.Common.{◌≡◌, ℕ, zero, suc, ◌<◌, ◌≤◌, true, false, inl, inr, Option, Some, ℤ, pos, ◌+ℤ◌, ◌≤ℤ◌, length, refl, sym, ap, ◌∙◌, subst, arith}
 use Rattle.std.specs.Prelude.{IsTrue, IsFalse, slice_index, slice_index_or}
 use Rattle.std.proofs.lemmas.Int.{ints}
 use Rattle.std.proofs.lemmas.Bool.{cases_lt}
@@ -8,17 +8,14 @@ use Rattle.uc_model.specs.Data.{ThermalUnit, PriceLists, Schedule}
 use Rattle.uc_model.specs.Schedules.{on_in, power_in, reserve_in, IsThermalFeasible}
 use Rattle.spell_run.specs.Spells.{IsDispatch, IsFirstDispatch, spell_cost}
 use Rattle.unit_program.specs.Steps.{IsStep}
-use Rattle.period_table.specs.Spells.{off_time, IsSpell, IsGap, IsOffRun, start_cost_after, paid}
-use Rattle.period_table.specs.Tables.{HasAtMost, IsEntryAfter, IsStarted, IsEnded, IsLatest, IsComplete}
+use Rattle.period_table.specs.Spells.{off_time, IsSpell, IsOffRun, start_cost_after, paid}
+use Rattle.period_table.specs.Tables.{IsEntryAfter, IsStarted, IsEnded, IsLatest, IsComplete}
 use Rattle.unit_program.specs.Backs.{IsZeroOff}
 use Rattle.unit_program.specs.Ties.{IsRival, HasSameFlags, HasSamePowers, IsFirstBeside, IsFirstUpTo}
 use Rattle.unit_program.proofs.BackwardOrder.{IsNoLater}
 use Rattle.unit_program.proofs.CommitLaws.{steps_from_rules}
-use Rattle.unit_program.proofs.SpellLaws.{IsRun, dispatch_of_run}
+use Rattle.unit_program.proofs.SpellLaws.{IsRun, dispatch_of_run, off_time-same}
 use Rattle.unit_program.proofs.ShapeLaws.{IsOffAfter, IsOnSince, shape_of, stops_after, spell_of, off_run_of, gap_of, known}
-
-some_same : {X : Type 0} → (o : Option X) (a b : X) → o ≡ Some a → o ≡ Some b → a ≡ b
-some_same o a b h i = cc
 
 -- ---- the last spell of a schedule that costs what the table says
 
@@ -65,7 +62,7 @@ module _ (g : ThermalUnit) (π : PriceLists) (ends : ℕ → Option ℤ) (o : Sc
       let u = known_last.0 in
       let start : IsStarted g ends f last (u +ℤ start_cost_after g last k) = record { before = k; first = is; value = u; ended = known_last.1; gap = gap; cost = refl } in
       let known_here = complete.spell f l (u +ℤ start_cost_after g last k) o (omega arith) spell (last, inr start) keeps in
-      let v_is = some_same (ends l) known_here.0 v known_here.1 ended in
+      let v_is : known_here.0 ≡ v = (cc) in
       let u_is : paid g π o last ≡ u = omega (arith, ints, v_is, paid_is) in
       let same = ap (λ (f : ℕ). spell_cost g π f l o) is in
       record {
@@ -189,10 +186,6 @@ module _ (g : ThermalUnit) (π : PriceLists) (ends : ℕ → Option ℤ) (n : �
   -- a spell that starts after the rest, of which s is the first
   module _ (some_down : 1 ≤ g.min_down) (st : IsStarted g ends first before named.entry_cost)
       (idle : (t : ℕ) → before < t → t ≤ st.before → IsFalse (on_in g s t)) (rest : IsFirstUpTo g π n before st.value s) where
-    off_time-none : (k : ℕ) → IsTrue (on_in g s k) → off_time g k k ≡ 0
-    off_time-none zero here = ap (λ b. cond b 0 (g.down0 + 0)) here
-    off_time-none (suc k) here = omega arith
-
     off_before : IsFalse (on_in g s st.before)
     off_before = elim (cases_lt before st.before) [
       | inl more ↦ idle st.before more (omega arith)
@@ -201,7 +194,7 @@ module _ (g : ThermalUnit) (π : PriceLists) (ends : ℕ → Option ℤ) (n : �
           let down = subst (λ (k : ℕ). g.min_down ≤ off_time g k st.before) z st.gap.min_down in
           elim (on_in g s st.before) as (λ b. on_in g s st.before ≡ b → IsFalse b) [
             | false ↦ λ here. refl
-            | true ↦ λ here. let none = off_time-none st.before here in absurd (omega (arith, none, down, some_down))
+            | true ↦ λ here. let none = off_time-same g s st.before here in absurd (omega (arith, none, down, some_down))
           ] refl
     ]
 
@@ -230,7 +223,7 @@ module _ (g : ThermalUnit) (π : PriceLists) (ends : ℕ → Option ℤ) (n : �
               let a = agree r.last more r.idle.order in cc
           | inr most ↦ omega (arith, most, earliest)
         ] in
-        let value_is : r.value ≡ st.value = some_same (ends before) r.value st.value (subst (λ (l : ℕ). ends l ≡ Some r.value) last_is r.ended) st.ended in
+        let value_is : r.value ≡ st.value = (let a = subst (λ (l : ℕ). ends l ≡ Some r.value) last_is r.ended in cc) in
         subst (λ (v : ℤ). IsRival g π n before v o) value_is (subst (λ (l : ℕ). IsRival g π n l r.value o) last_is r.rival)
 
     flag_after : (o : Schedule) → IsRival g π n l v o → (t : ℕ) → t ≤ l → HasSameFlags g o s t l → IsTrue (on_in g s t) → IsTrue (on_in g o t)

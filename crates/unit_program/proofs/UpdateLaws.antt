@@ -1,5 +1,5 @@
 -- The table after the spells from one first period to an ever later last one.
-use Rattle.std.proofs.Common.{◌≡◌, ◌≢◌, ℕ, ◌+◌, ◌<◌, ◌≤◌, ◌⊎◌, inl, inr, Option, Some, ℤ, ◌+ℤ◌, List, refl, sym, ap, ◌∙◌, subst, arith}
+use Rattle.std.proofs.Common.{◌≡◌, ◌≢◌, ℕ, ◌+◌, ◌<◌, ◌≤◌, ◌⊎◌, inl, inr, Option, Some, ℤ, ◌+ℤ◌, List, sym, ap, ◌∙◌, subst, arith}
 use Rattle.std.proofs.lemmas.Int.{ints}
 use Rattle.std.proofs.lemmas.Bool.{cases_eq, cases_lt}
 use Rattle.uc_model.specs.Data.{ThermalUnit}
@@ -24,16 +24,6 @@ module _ (g : ThermalUnit) (periods first before : ℕ) (e : ℤ) (nets : ℕ �
     pub takes : (l : ℕ) (c : ℤ) → l < last → IsSpell g periods first l → nets l ≡ Some c → cost_at rows' l ≡ Some (e +ℤ c) → first_at rows' l ≡ first
     pub sound : (l : ℕ) (v : ℤ) → cost_at rows' l ≡ Some v → IsRowOf rows' l v
     pub within : AreWithin rows'
-
-  pub update_none : AreWithin rows → (last : ℕ) → ((l : ℕ) (c : ℤ) → l < last → IsSpell g periods first l → nets l ≡ Some c → ⊥) → IsUpdateSoFar last rows
-  update_none within last none = record {
-    same = λ l low. refl;
-    keeps = λ l v is. (v, is, omega (arith, ints));
-    adds = λ l c low spell net. absurd (none l c low spell net);
-    takes = λ l c low spell net is. absurd (none l c low spell net);
-    sound = λ l v is. inl refl;
-    within = within;
-  }
 
   -- no spell ends with period `last`
   pub update_skip : (last : ℕ) (rows' : List (Option Ended)) → ((c : ℤ) → IsSpell g periods first last → nets last ≡ Some c → ⊥) → IsUpdateSoFar last rows' → IsUpdateSoFar (last + 1) rows'

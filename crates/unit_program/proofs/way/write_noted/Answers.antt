@@ -16,23 +16,6 @@ negated-into-requires g c =
     let r : IsWithinTimes 400 c.args.end.now.cost = record { at_least = omega (arith, ints); at_most = omega (arith, ints) } in
     simp to_z-of_z r
 
-pub returns-clause-best : goal.returns-clause-best
-returns-clause-best g c =
-    let u = c.args.unit.now in
-    let at = c.requires.end in
-    let a = schedule_of c.clear.new.into.response in
-    let b = schedule_of c.write_back.new.into.response in
-    let T = length c.args.prices.now.energy.items in
-    let back = c.write_back.ensures.written in
-    let on : length c.write_back.new.into.response.on.items ≡ T = c.write_back.ensures.length ∙ c.clear.ensures.length ∙ c.requires.into in
-    let valid = c.write_back.new.into.response.valid in
-    (best_of (thermal_of u) (prices_of c.args.prices.now) T refl (capped at.filled.limits (cost_at c.args.rows.now))
-    u.valid.ramp_up.at_least u.valid.ramp_down.at_least at.filled.table.complete c.args.end.now.last c.args.end.now.cost a b
-    (end_capped c.limits_keep_rows.ensures.rows (thermal_of u) (prices_of c.args.prices.now) at.most c.args.rows.now at.filled c.limits_keep_rows.ensures.amount c.args.end.now.last c.args.end.now.cost at.low at.least at.earliest)
-    (cleared_idle (thermal_of u) a c.clear.ensures.off c.clear.ensures.power c.clear.ensures.reserve T)
-    (back.up_to c.args.end.now.cost at.least.ended) back.later (back.zero_off (cleared_zero (thermal_of u) a c.clear.ensures.off c.clear.ensures.power c.clear.ensures.reserve))
-    on (valid.power ∙ on) (valid.reserve ∙ on)).0
-
 pub returns-clause-least : goal.returns-clause-least
 returns-clause-least g c =
     let u = c.args.unit.now in
@@ -50,6 +33,9 @@ returns-clause-least g c =
     (cleared_idle (thermal_of u) a c.clear.ensures.off c.clear.ensures.power c.clear.ensures.reserve T)
     (back.up_to c.args.end.now.cost at.least.ended) (back.first c.args.end.now.cost at.least.ended) back.later
     (back.zero_off (cleared_zero (thermal_of u) a c.clear.ensures.off c.clear.ensures.power c.clear.ensures.reserve)) on (valid.power ∙ on) (valid.reserve ∙ on)
+
+pub returns-clause-best : goal.returns-clause-best
+returns-clause-best g c = (returns-clause-least g c).best
 
 pub returns-clause-earned : goal.returns-clause-earned
 returns-clause-earned g c =
