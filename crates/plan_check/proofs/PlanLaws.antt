@@ -1,7 +1,8 @@
 -- What is refused of a plan is what keeps it from being feasible.
-use Rattle.std.proofs.Common.{◌≡◌, ℕ, zero, suc, ◌+◌, ◌<◌, ◌≤◌, ℤ, ◌≤ℤ◌, false, ◌&&◌, None, IsTrue, List, [], ◌∷◌, ◌++◌, map, length, drop, refl, sym, ◌∙◌, subst, arith, append_assoc, length-drop}
+use Rattle.std.proofs.Common.{◌≡◌, ℕ, suc, ◌+◌, ◌<◌, ◌≤◌, ℤ, ◌≤ℤ◌, false, ◌&&◌, None, IsTrue, List, [], ◌∷◌, ◌++◌, map, length, drop, refl, sym, ◌∙◌, subst, arith, append_assoc, length-drop}
 use Rattle.std.proofs.lemmas.Int.{ints}
 use Rattle.std.proofs.lemmas.List.{drop-drop}
+use Rattle.std.proofs.lemmas.List.Elements.{All-drop}
 use Rattle.std.specs.List.{All, AllZip}
 use Rattle.std.specs.Prelude.{int_le, slice_index_or}
 use Rattle.uc_model.specs.declared.kinds.Kind.TheVariants as kinds
@@ -128,14 +129,6 @@ module _ (periods : ℕ) where
 
 -- ---- the plan
 
-All-drop : {X : Type 0} → (P : X → Type 0) (n : ℕ) (xs : List X) → All P xs → All P (drop n xs)
-All-drop P zero xs h = h
-All-drop P (suc n) [] h = h
-All-drop P (suc n) (x ∷ xs) h = All-drop P n xs (tail_of P x xs h)
-
-drop_twice : {X : Type 0} → (a b : ℕ) (xs : List X) → drop (a + b) xs ≡ drop b (drop a xs)
-drop_twice a b xs = sym (drop-drop b a xs)
-
 same_number : (a b : ℤ) → a ≤ℤ b → b ≤ℤ a → a ≡ b
 same_number a b h i = omega (arith, ints, h, i)
 
@@ -156,7 +149,7 @@ module _ (m : Market) (plan : List Schedule) (shape : HasPlanShape m plan) where
   units_are = append_assoc (thermal m.periods m.thermal) (flat m.periods m.flat) (bids m.periods m.bids)
 
   last_is : last ≡ drop (length m.flat) later
-  last_is = drop_twice (length m.thermal) (length m.flat) plan
+  last_is = sym (drop-drop (length m.flat) (length m.thermal) plan)
 
   steady_last : All IsSteady last
   steady_last = subst (All IsSteady) (sym last_is) (All-drop IsSteady (length m.flat) later shape.always_on)

@@ -67,9 +67,6 @@ le_from a b h = grind (arith, nat_tests)
 pub le_to : (a b : ℕ) → a ≤ b → nat_le a b ≡ true
 le_to a b h = grind (arith, nat_tests)
 
-some_same : {X : Type 0} → {a b : X} → Some a ≡ Some b → b ≡ a
-some_same e = cc
-
 -- ---- the last change
 
 module _ (g : ThermalUnit) (s : Schedule) where
@@ -114,7 +111,7 @@ module _ (g : ThermalUnit) (s : Schedule) where
             let c_is : Some (suc k) ≡ Some c = sym (ap (λ t. cond t (changed_in g s k) (Some (suc k))) differ) ∙ e in
             record {
               before = k;
-              is = some_same c_is;
+              is = cc;
               reached = omega arith;
               changed = differ_is (on_in g s k) (on_in g s (suc k)) differ;
               run = λ j low high. let end : j ≡ suc k = omega (arith, low, high) in ap (on_in g s) end;

@@ -1,9 +1,9 @@
 -- Sums over all units are sums over their schedules; what a bid buys counts below 0.
-use Rattle.std.proofs.Common.{◌≡◌, ℕ, zero, suc, ◌+◌, ◌<◌, ◌≤◌, ℤ, pos, neg_ℤ, ◌+ℤ◌, ◌-ℤ◌, Bool, true, false, ◌&&◌, Some, None, List, [], ◌∷◌, ◌++◌, map, length, take, drop, refl, ap, arith, length-append, length-take, length-drop}
+use Rattle.std.proofs.Common.{◌≡◌, ℕ, zero, suc, ◌+◌, ◌≤◌, ℤ, pos, neg_ℤ, ◌+ℤ◌, ◌-ℤ◌, Bool, true, false, ◌&&◌, Some, List, [], ◌∷◌, ◌++◌, map, length, take, drop, refl, ap, arith, length-append, length-take, length-drop}
 use Rattle.std.proofs.lemmas.Int.{ints}
 use Rattle.std.proofs.lemmas.List.{length-map}
-use Rattle.std.proofs.lemmas.List.Elements.{All-append}
-use Rattle.std.specs.Prelude.{int_le, slice_get, slice_index_or}
+use Rattle.std.proofs.lemmas.List.Elements.{All-append, All-map}
+use Rattle.std.specs.Prelude.{int_le, slice_get}
 use Rattle.std.specs.List.{All}
 use Rattle.uc_model.specs.Data.{AnyUnit, Thermal, Flat, Bid, NamedThermalUnit, NamedRenewableUnit, NamedBidUnit, Schedule, Market, units, unit_count}
 use Rattle.uc_model.specs.Earnings.{supply_in, cost_of}
@@ -14,9 +14,8 @@ use Rattle.uc_model.specs.Systems.{total_power, total_reserve, plan_cost}
 use Rattle.uc_model.proofs.ListLaws.{same_item, none_some}
 use Rattle.plan_check.specs.Costs.{sum_over, thermal_units, bid_units}
 use Rattle.plan_check.specs.Totals.{powers_at, reserves_at}
-use Rattle.plan_check.proofs.RunLaws.{and_true, both_true}
-use Rattle.plan_check.proofs.ThermalLaws.{le_from_z, le_to_z}
-use Rattle.plan_check.proofs.ToldLaws.{unless_holds}
+use Rattle.plan_check.proofs.RunLaws.{both_true}
+use Rattle.plan_check.proofs.ThermalLaws.{le_from_z}
 
 -- one item more
 pub total_map-append : {X Y : Type 0} → (g : Y → ℤ) (f : X → Y) (xs : List X) (x : X) → total (map g (map f (xs ++ x ∷ []))) ≡ total (map g (map f xs)) +ℤ g (f x)
@@ -41,11 +40,6 @@ sum_over-plain f g (u ∷ us) (s ∷ ss) len same =
 total-negated : (g : Schedule → ℤ) (ss : List Schedule) → total (map (λ s. neg_ℤ (g s)) ss) ≡ neg_ℤ (total (map g ss))
 total-negated g [] = refl
 total-negated g (s ∷ ss) = omega (arith, ints, total-negated g ss)
-
-All-map : {X Y : Type 0} → (P : Y → Type 0) (f : X → Y) (xs : List X) → ((x : X) → P (f x)) → (k : ℕ) (d : Y) → k < length (map f xs) → P (slice_index_or (map f xs) k d)
-All-map P f [] h k d lt = absurd (omega (arith, lt))
-All-map P f (x ∷ xs) h zero d lt = h x
-All-map P f (x ∷ xs) h (suc k) d lt = All-map P f xs h k d (omega (arith, lt))
 
 module _ (m : Market) (plan : List Schedule) (count : length plan ≡ unit_count m) (k : ℕ) where
   abbrev thermal : List AnyUnit
@@ -77,10 +71,10 @@ module _ (m : Market) (plan : List Schedule) (count : length plan ≡ unit_count
       let split = sum_over-front supply (thermal ++ flat) bids plan (omega (arith, n, count)) in
       let given = sum_over-plain supply gives (thermal ++ flat) front (omega (arith, n, count, front_length))
       (All-append (λ u. (s : Schedule) → supply u s ≡ gives s) thermal flat
-      (λ j d lt. All-map (λ u. (s : Schedule) → supply u s ≡ gives s) (λ (x : NamedThermalUnit). Thermal x.unit) m.thermal (λ x s. refl) j d lt)
-      (λ j d lt. All-map (λ u. (s : Schedule) → supply u s ≡ gives s) (λ (x : NamedRenewableUnit). Flat x.unit) m.flat (λ x s. refl) j d lt)) in
+      (All-map (λ u. (s : Schedule) → supply u s ≡ gives s) (λ (x : NamedThermalUnit). Thermal x.unit) m.thermal (λ j d lt s. refl))
+      (All-map (λ u. (s : Schedule) → supply u s ≡ gives s) (λ (x : NamedRenewableUnit). Flat x.unit) m.flat (λ j d lt s. refl))) in
       let bought = sum_over-plain supply (λ s. neg_ℤ (gives s)) bids back (omega (arith, n, count, back_length, bid_count))
-      (λ j d lt. All-map (λ u. (s : Schedule) → supply u s ≡ neg_ℤ (gives s)) (λ (x : NamedBidUnit). Bid x.unit) m.bids (λ x s. refl) j d lt) in
+      (All-map (λ u. (s : Schedule) → supply u s ≡ neg_ℤ (gives s)) (λ (x : NamedBidUnit). Bid x.unit) m.bids (λ j d lt s. refl)) in
       let negated = total-negated gives back in
       let front_is = ap (λ (j : ℕ). powers_at (take j plan) k) n in
       let back_is = ap (λ (j : ℕ). powers_at (drop j plan) k) n in
@@ -96,10 +90,6 @@ module _ (m : Market) (plan : List Schedule) (count : length plan ≡ unit_count
 -- ---- the test of the balance
 
 module _ (total_is demand : ℤ) where
-  pub balanced : total_is ≡ demand → unless (int_le total_is demand && int_le demand total_is) total_is demand ≡ None
-  balanced e = unless_holds (int_le total_is demand && int_le demand total_is) total_is demand
-      (and_true (int_le total_is demand) (int_le demand total_is) (le_to_z total_is demand (omega (arith, ints, e))) (le_to_z demand total_is (omega (arith, ints, e))))
-
   unbalanced_test : (b : Bool) → int_le total_is demand && int_le demand total_is ≡ b → (total_is ≡ demand → ⊥) → b ≡ false
   unbalanced_test true e h = let p = both_true (int_le total_is demand) (int_le demand total_is) e in
       let a = le_from_z total_is demand p.0 in let b = le_from_z demand total_is p.1 in absurd (h (omega (arith, ints, a, b)))
@@ -146,7 +136,7 @@ plan_cost_is m plan count =
     let outer = sum_over-front cost_of (ts ++ fs) bs plan (omega (arith, n, count)) in
     let whole = sum_over-front cost_of ts fs plan (omega (arith, n, count, thermal_count)) in
     let whole_front = sum_over-take cost_of (ts ++ fs) plan in
-    let whole_zero = sum_over-zero fs (drop (length ts) plan) (λ j d lt. All-map (λ u. (s : Schedule) → cost_of u s ≡ pos 0) (λ (x : NamedRenewableUnit). Flat x.unit) m.flat (λ x s. refl) j d lt) in
+    let whole_zero = sum_over-zero fs (drop (length ts) plan) (All-map (λ u. (s : Schedule) → cost_of u s ≡ pos 0) (λ (x : NamedRenewableUnit). Flat x.unit) m.flat (λ j d lt s. refl)) in
     let whole_thermal = sum_over-take cost_of ts plan in
     let back = ap (λ (j : ℕ). sum_over cost_of bs (drop j plan)) n in
     omega (arith, ints, outer, whole, whole_front, whole_zero, whole_thermal, back)

@@ -121,6 +121,10 @@ module _ (periods : ℕ) (g : ThermalUnit) (s : Schedule) (on_length : length s.
   period : (k : ℕ) → k < periods → IsPeriod s (suc k)
   period k lt = record { from_one = omega arith; to_last = omega (arith, lt, on_length) }
 
+  of_period : (P : ℕ → Type 0) → ((k : ℕ) → k < periods → P (suc k)) → (t : ℕ) → IsPeriod s t → P t
+  of_period P f zero p = absurd (omega (arith, p.from_one))
+  of_period P f (suc k) p = f k (inside k p)
+
   module _ (c : IsClear periods g s) where
     on_range : (k : ℕ) → k < periods → on_in g s (suc k) ≡ true → (g.min_power ≤ℤ power_in s (suc k)) × ((power_in s (suc k) +ℤ reserve_in s (suc k)) ≤ℤ g.max_power)
     on_range k lt on =
@@ -137,10 +141,6 @@ module _ (periods : ℕ) (g : ThermalUnit) (s : Schedule) (on_length : length s.
           zero_power (slice_index s.reserve k) (le_from_z (reserve_in s (suc k)) (pos 0) (unless_none (int_le (reserve_in s (suc k)) (pos 0)) (reserve_in s (suc k)) (pos 0) parts.1)),
         )
 
-    keeps_must_run : IsTrue g.must_run → (t : ℕ) → IsPeriod s t → IsTrue (on_in g s t)
-    keeps_must_run m zero p = absurd (omega (arith, p.from_one))
-    keeps_must_run m (suc k) p = must_run_test g.must_run (on_in g s (suc k)) (unless_none (not (g.must_run && not (on_in g s (suc k)))) (pos 0) (pos 1) (c.must_run k (inside k p))) m
-
     keeps_initial : (t : ℕ) → IsPeriod s t → t ≤ cond g.on0 (g.min_up - g.up0) (g.min_down - g.down0) → on_in g s t ≡ g.on0
     keeps_initial zero p le = absurd (omega (arith, p.from_one))
     keeps_initial (suc k) p le =
@@ -148,32 +148,16 @@ module _ (periods : ℕ) (g : ThermalUnit) (s : Schedule) (on_length : length s.
         same_is g.on0 (on_in g s (suc k)) (unless_none (same_flag g.on0 (on_in g s (suc k))) (flag_number (on_in g s (suc k))) (flag_number g.on0)
         (if_none (nat_le (suc k) (cond g.on0 (g.min_up - g.up0) (g.min_down - g.down0))) (unless (same_flag g.on0 (on_in g s (suc k))) (flag_number (on_in g s (suc k))) (flag_number g.on0)) (c.initial k (inside k p)) test))
 
-    keeps_on_mark : (t : ℕ) → IsPeriod s t → mark_in g.window t ≡ MustOn → IsTrue (on_in g s t)
-    keeps_on_mark zero p m = absurd (omega (arith, p.from_one))
-    keeps_on_mark (suc k) p m = mark_on (mark_in g.window (suc k)) (on_in g s (suc k)) (c.window k (inside k p)) m
-
-    keeps_off_mark : (t : ℕ) → IsPeriod s t → mark_in g.window t ≡ MustOff → IsFalse (on_in g s t)
-    keeps_off_mark zero p m = absurd (omega (arith, p.from_one))
-    keeps_off_mark (suc k) p m = mark_off (mark_in g.window (suc k)) (on_in g s (suc k)) (c.window k (inside k p)) m
-
     commitment : KeepsCommitment g s
     commitment = record {
-      must_run = keeps_must_run;
+      must_run = λ m. of_period (λ t. IsTrue (on_in g s t)) (λ k lt. must_run_test g.must_run (on_in g s (suc k)) (unless_none (not (g.must_run && not (on_in g s (suc k)))) (pos 0) (pos 1) (c.must_run k lt)) m);
       stays_on = λ on0 t p le. keeps_initial t p (let e = ap (λ b. cond b (g.min_up - g.up0) (g.min_down - g.down0)) on0 in omega (arith, e, le)) ∙ on0;
       stays_off = λ off0 t p le. keeps_initial t p (let e = ap (λ b. cond b (g.min_up - g.up0) (g.min_down - g.down0)) off0 in omega (arith, e, le)) ∙ off0;
       min_up = keeps_up g s (λ k lt. c.min_up k (omega (arith, lt, on_length)));
       min_down = keeps_down g s (λ k lt. c.min_down k (omega (arith, lt, on_length)));
-      must_on = keeps_on_mark;
-      must_off = keeps_off_mark;
+      must_on = of_period (λ t. mark_in g.window t ≡ MustOn → IsTrue (on_in g s t)) (λ k lt. mark_on (mark_in g.window (suc k)) (on_in g s (suc k)) (c.window k lt));
+      must_off = of_period (λ t. mark_in g.window t ≡ MustOff → IsFalse (on_in g s t)) (λ k lt. mark_off (mark_in g.window (suc k)) (on_in g s (suc k)) (c.window k lt));
     }
-
-    keeps_least : (t : ℕ) → IsPeriod s t → IsTrue (on_in g s t) → pos 0 ≤ℤ above_min g s t
-    keeps_least zero p on = absurd (omega (arith, p.from_one))
-    keeps_least (suc k) p on = let r = (on_range k (inside k p) on).0 in let a = above_on g s k on in omega (arith, ints, r, a)
-
-    keeps_greatest : (t : ℕ) → IsPeriod s t → IsTrue (on_in g s t) → above_with_reserve g s t ≤ℤ cap_of g false false
-    keeps_greatest zero p on = absurd (omega (arith, p.from_one))
-    keeps_greatest (suc k) p on = let r = (on_range k (inside k p) on).1 in let a = above_on g s k on in omega (arith, ints, clamps, r, a)
 
     keeps_start : (t : ℕ) → IsPeriod s t → IsTrue (starts_in g s t) → above_with_reserve g s t ≤ℤ cap_of g true false
     keeps_start zero p start = absurd (false_true start)
@@ -199,8 +183,8 @@ module _ (periods : ℕ) (g : ThermalUnit) (s : Schedule) (on_length : length s.
 
     dispatch : KeepsDispatch g s
     dispatch = record {
-      least = keeps_least;
-      greatest = keeps_greatest;
+      least = of_period (λ t. IsTrue (on_in g s t) → pos 0 ≤ℤ above_min g s t) (λ k lt on. (let r = (on_range k lt on).0 in let a = above_on g s k on in omega (arith, ints, r, a)));
+      greatest = of_period (λ t. IsTrue (on_in g s t) → above_with_reserve g s t ≤ℤ cap_of g false false) (λ k lt on. (let r = (on_range k lt on).1 in let a = above_on g s k on in omega (arith, ints, clamps, r, a)));
       start = keeps_start;
       stop = keeps_stop;
       stop_at_once = λ p stop. stop_test 0 (inside 0 p) stop;

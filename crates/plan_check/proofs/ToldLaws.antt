@@ -8,18 +8,15 @@ use Rattle.uc_model.specs.declared.kinds.Kind.{Kind}
 use Rattle.uc_model.specs.declared.kinds.RuleCode.{RuleCode}
 use Rattle.uc_model.proofs.ListLaws.{none_some}
 
-nil_cons : {X : Type 0} → (x : X) (xs : List X) → x ∷ xs ≡ [] → ⊥
-nil_cons x xs e = cc
-
 -- ---- one list after another
 
 pub append_nil_left : {X : Type 0} → (xs ys : List X) → xs ++ ys ≡ [] → xs ≡ []
 append_nil_left [] ys e = refl
-append_nil_left (x ∷ xs) ys e = absurd (nil_cons x (xs ++ ys) e)
+append_nil_left (x ∷ xs) ys e = cc
 
 pub append_nil_right : {X : Type 0} → (xs ys : List X) → xs ++ ys ≡ [] → ys ≡ []
 append_nil_right [] ys e = e
-append_nil_right (x ∷ xs) ys e = absurd (nil_cons x (xs ++ ys) e)
+append_nil_right (x ∷ xs) ys e = cc
 
 pub append_nil : {X : Type 0} → (xs ys : List X) → xs ≡ [] → ys ≡ [] → xs ++ ys ≡ []
 append_nil xs ys e f = ap (λ zs. zs ++ ys) e ∙ f
@@ -44,7 +41,7 @@ cons_some o xs r e = ap (λ q. cons_option q xs) e
 
 cons_nil : (o : Option Refusal) (xs : List Refusal) → cons_option o xs ≡ [] → (o ≡ None) × (xs ≡ [])
 cons_nil None xs e = (refl, e)
-cons_nil (Some r) xs e = absurd (nil_cons r xs e)
+cons_nil (Some r) xs e = cc
 
 at_or_after : (a k : ℕ) → a ≤ k → (k ≡ a) ⊎ (a + 1 ≤ k)
 at_or_after a k h = grind arith
