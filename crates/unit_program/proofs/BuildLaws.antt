@@ -271,7 +271,7 @@ module _ (g : ThermalUnit) (π : PriceLists) (periods : ℕ) (s : Schedule)
       let start = ap (start_cost_of g.lags) r.time in
       let time = r.time in
       let first : IsOnTo (suc k) (suc k) (v +ℤ start_cost_after g l k) = record {
-        steps = below_suc (λ k. IsStep g s k) k r.steps (on_commit (suc k) m k spell (omega arith) order after (λ _. (omega (arith, time))));
+        steps = below_suc (λ k. IsStep g s k) k r.steps (on_commit (suc k) m k spell (omega arith) order after (λ _. omega (arith, time)));
         dispatch = below_suc (λ k. IsDispatchStep g s k) k r.dispatch (start_step k m off after d order);
         time = held-more (on_in g s) g.up0 k after ∙ ap suc none ∙ (omega arith);
         cost = omega (arith, ints, one, starts, start);

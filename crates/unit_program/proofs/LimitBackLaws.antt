@@ -23,7 +23,7 @@ module _ (capped_row : CappedRowsAreRows) (low_start : StartsAreWithinLimits) (g
   ends = capped limits (cost_at rows)
 
   low_here : (v : ℤ) → cost_at rows l ≡ Some v → v ≤ℤ limits l
-  low_here v is = (let same : within.value ≡ v = (cc) in omega (arith, ints, same))
+  low_here v is = (let same : within.value ≡ v = cc in omega (arith, ints, same))
 
   here : (v : ℤ) → cost_at rows l ≡ Some v → ends l ≡ Some v
   here v is = row_here capped_row g π within.most rows within.filled l v is (low_here v is)

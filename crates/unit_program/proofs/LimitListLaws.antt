@@ -195,7 +195,7 @@ price_stored energy reserve e r =
     ∙ stored_is (energy -ℤ reserve) (record { at_least = omega (arith, ints); at_most = omega (arith, ints) })
 
 pub min_bound : (x w : ℤ) → x ≡ w → IsWithin 20110000000000000 w → IsFrom (neg_ℤ (pos 20110000000000000)) (pos 0) (int_min x (pos 0))
-min_bound x w is h = (record { at_least = omega (arith, ints, clamps, is); at_most = omega (arith, ints, clamps) })
+min_bound x w is h = record { at_least = omega (arith, ints, clamps, is); at_most = omega (arith, ints, clamps) }
 
 pub min_low : (x w : ℤ) → x ≡ w → int_min x (pos 0) ≤ℤ w
 min_low x w is = omega (arith, ints, clamps, is)

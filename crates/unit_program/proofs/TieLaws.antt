@@ -62,7 +62,7 @@ module _ (g : ThermalUnit) (π : PriceLists) (ends : ℕ → Option ℤ) (o : Sc
       let u = known_last.0 in
       let start : IsStarted g ends f last (u +ℤ start_cost_after g last k) = record { before = k; first = is; value = u; ended = known_last.1; gap = gap; cost = refl } in
       let known_here = complete.spell f l (u +ℤ start_cost_after g last k) o (omega arith) spell (last, inr start) keeps in
-      let v_is : known_here.0 ≡ v = (cc) in
+      let v_is : known_here.0 ≡ v = cc in
       let u_is : paid g π o last ≡ u = omega (arith, ints, v_is, paid_is) in
       let same = ap (λ (f : ℕ). spell_cost g π f l o) is in
       record {

@@ -5,21 +5,23 @@ use Rattle.uc_model.specs.PlainUnits.{thermal_of}
 use Rattle.period_table.specs.Tables.{IsLeastEntry, IsEntry}
 use Rattle.period_table.specs.declared.table.Entry.{Entry}
 use Rattle.period_table.specs.Rows.{cost_at, IsWithinTimes}
-use Rattle.unit_program.proofs.EntryLaws.{one_more, least_of_all, none_of_all, if_some}
+use Rattle.unit_program.proofs.EntryLaws.{one_more_way, least_of_all, none_of_all, if_some}
 use Rattle.unit_program.proofs.spells.least_entry.Goals as goal
 
 pub loop-last-init : goal.loop-last-init
 loop-last-init c = record {
-  sound = λ r is. cc;
-  complete = λ k v low is gap. (let from = c.off_from-last.ensures.no k gap.off in absurd (omega (arith, low, from)));
+  of_ways = record {
+    sound = λ r is. cc;
+    complete = λ k v low way. (let from = c.off_from-last.ensures.no k way.2.off in absurd (omega (arith, low, from)));
+    inside = λ r is. cc;
+    earliest = λ r is k low way. cc;
+  };
   bound = λ r is. cc;
-  inside = λ r is. cc;
-  earliest = λ r is k v low ended gap cost. cc;
 }
 
 pub loop-last-preserved : goal.loop-last-preserved
 loop-last-preserved c =
-    one_more (thermal_of c.args.unit.now) (cost_at c.args.rows.now) c.args.before c.loop-last.last c.loop-last.least c.lesser-least.result c.entry_after.result
+    one_more_way (thermal_of c.args.unit.now) (cost_at c.args.rows.now) c.args.before c.loop-last.last c.loop-last.least c.lesser-least.result c.entry_after.result
     c.loop-last.invariant c.entry_after.ensures.some c.entry_after.ensures.none
     (λ e is. (let w = if_some (IsWithinTimes (2 * c.loop-last.last + 3)) c.entry_after.result e is c.entry_after.ensures.bound in
     record { at_least = omega (arith, ints, c.loop-last-test.true); at_most = omega (arith, ints, c.loop-last-test.true) }))
