@@ -1,4 +1,4 @@
-use Rattle.std.proofs.Common.{◌≡◌, ap, sym, ◌∙◌, subst, refl, rules}
+use Rattle.std.proofs.Common.{to_z, of_z, ◌≡◌, ap, sym, ◌∙◌, subst, refl, rules}
 use Rattle.std.specs.Prelude.{ℤ, FitsSigned, ◌+ℤ◌, ◌-ℤ◌, ◌*ℤ◌, ◌≤ℤ◌}
 use Rattle.std.specs.Int.{w64, int_min, int_max}
 use Rattle.std.proofs.lemmas.Int.{to_z-of_z}
@@ -12,258 +12,97 @@ use Rattle.slope_step.proofs.KinkLaws.{end_of_valley, within_from_small}
 use Rattle.slope_step.proofs.WindowLaws.{nearest_inside, le_trans, lt_le_trans, same_le, level_joined}
 use Rattle.slope_step.proofs.WrapLaws.{coded_is, output_near, up_coded, down_coded, fits_sum, fits_less}
 use Rattle.slope_step.proofs.step.open.Goals as goal
+use Rattle.slope_step.proofs.step.open.Goals.{After-max-near}
+
+-- the place nearest to the turn, which is one of the function before the step
+record Near (c : After-max-near) : Type 0 where
+  is : c.max-near.result ≡ nearest c.args.window.now.step.ramp_up c.args.window.now.step.ramp_down c.args.window.now.turn c.args.low
+  coded : to_z w64 (of_z w64 c.max-near.result) ≡ c.max-near.result
+  from : c.args.window.now.start.first ≤ℤ c.max-near.result
+  to : c.max-near.result ≤ℤ last_place c.args.window.now.start.first c.args.window.now.pieces.now
+
+near : (c : After-max-near) → Near c
+near c =
+    let w = c.args.window.now in
+    let s = w.step in
+    let low = c.args.low in
+    let last = last_place w.start.first w.pieces.now in
+    let fair = w.valid.fair in
+    let turn = end_of_valley w.start w.pieces.now w.valid.small s w.turn w.valid.valley in
+    let fm : FitsSigned w64 c.min.result = search rules in
+    let fq : FitsSigned w64 c.max-near.result = search rules in
+    let e1 : c.min.result ≡ int_min (low +ℤ s.ramp_down) w.turn = rw (up_coded low s.ramp_down c.requires.at fair.ramp_down, coded_is w.turn (output_near w.turn turn)) at c.min.ensures.value in
+    let e2 : c.max-near.result ≡ int_max (low -ℤ s.ramp_up) c.min.result = rw (down_coded low s.ramp_up c.requires.at fair.ramp_up, to_z-of_z w64 c.min.result fm) at c.max-near.ensures.value in
+    let is : c.max-near.result ≡ nearest s.ramp_up s.ramp_down w.turn low = e2 ∙ ap (int_max (low -ℤ s.ramp_up)) e1 in
+    let inside = nearest_inside w.start.first last w.turn s.ramp_up s.ramp_down low w.valid.valley.from w.valid.valley.to c.requires.from (le_trans low w.high (last +ℤ s.ramp_up) c.requires.to w.valid.high) fair.ramp_up.at_least fair.ramp_down.at_least in
+    record {
+      is = is;
+      coded = to_z-of_z w64 c.max-near.result fq;
+      from = subst (λ (z : ℤ). w.start.first ≤ℤ z) (sym is) inside.0;
+      to = subst (λ (z : ℤ). z ≤ℤ last) (sym is) inside.1;
+    }
 
 pub overflow_sub-low : goal.overflow_sub-low
-overflow_sub-low c =
-    let w = c.args.window.now in
-    fits_less c.args.low w.step.ramp_up c.requires.at w.valid.fair.ramp_up
+overflow_sub-low c = fits_less c.args.low c.args.window.now.step.ramp_up c.requires.at c.args.window.now.valid.fair.ramp_up
 
 pub overflow_add-low : goal.overflow_add-low
-overflow_add-low c =
-    let w = c.args.window.now in
-    fits_sum c.args.low w.step.ramp_down c.requires.at w.valid.fair.ramp_down
+overflow_add-low c = fits_sum c.args.low c.args.window.now.step.ramp_down c.requires.at c.args.window.now.valid.fair.ramp_down
 
-pub seek-reached-requires-clause-slopes : goal.seek-reached-requires-clause-slopes
-seek-reached-requires-clause-slopes c =
-    c.args.window.now.valid.slopes
-
-pub seek-reached-requires-clause-from : goal.seek-reached-requires-clause-from
-seek-reached-requires-clause-from c =
+pub seek-reached-requires : goal.seek-reached-requires
+seek-reached-requires c =
     let w = c.args.window.now in
+    let n = near (goal.at.seek-reached-requires c).After-max-near in
+    record { slopes = w.valid.slopes; from = rw n.coded n.from; to = rw n.coded n.to; within = within_from_small w.start w.pieces.now w.valid.small }
+
+pub find-found-requires : goal.find-found-requires
+find-found-requires c =
     let cv = c.args.curve.now in
-    let s = w.step in
-    let low = c.args.low in
-    let ps = w.pieces.now in
-    let fair = w.valid.fair in
-    let out = c.requires.at in
-    let el = to_z-of_z w64 low c.ranges.low in
-    let tn = end_of_valley w.start ps w.valid.small s w.turn w.valid.valley in
-    let fm : FitsSigned w64 c.min.result = search rules in
-    let fq : FitsSigned w64 c.max-near.result = search rules in
-    let e1 : c.min.result ≡ int_min (low +ℤ s.ramp_down) w.turn = rw (up_coded low s.ramp_down out fair.ramp_down, coded_is w.turn (output_near w.turn tn)) at c.min.ensures.value in
-    let e2 : c.max-near.result ≡ int_max (low -ℤ s.ramp_up) c.min.result = rw (down_coded low s.ramp_up out fair.ramp_up, to_z-of_z w64 c.min.result fm) at c.max-near.ensures.value in
-    let near : c.max-near.result ≡ nearest s.ramp_up s.ramp_down w.turn low = e2 ∙ ap (int_max (low -ℤ s.ramp_up)) e1 in
-    let ec = to_z-of_z w64 c.max-near.result fq in
-    let in_old = nearest_inside w.start.first (last_place w.start.first ps) w.turn s.ramp_up s.ramp_down low w.valid.valley.from w.valid.valley.to c.requires.from (le_trans low w.high (last_place w.start.first ps +ℤ s.ramp_up) c.requires.to w.valid.high) fair.ramp_up.at_least fair.ramp_down.at_least in
-    let from : w.start.first ≤ℤ c.max-near.result = subst (λ (z : ℤ). w.start.first ≤ℤ z) (sym near) in_old.0 in
-    let to : c.max-near.result ≤ℤ last_place w.start.first ps = subst (λ (z : ℤ). z ≤ℤ last_place w.start.first ps) (sym near) in_old.1 in
-    rw ec from
+    let el = to_z-of_z w64 c.args.low c.ranges.low in
+    let k = c.requires.costs c.args.low (same_le c.args.low) c.requires.to in
+    let on = on_curve cv c.args.low k.0 (wide_of cv c.requires.limited) k.1 in
+    record { limited = c.requires.limited; from = rw el on.from; to = rw (el, end_of-width cv.at cv.blocks.items) on.to }
 
-pub seek-reached-requires-clause-to : goal.seek-reached-requires-clause-to
-seek-reached-requires-clause-to c =
+pub level_of-requires : goal.level_of-requires
+level_of-requires c =
     let w = c.args.window.now in
-    let cv = c.args.curve.now in
-    let s = w.step in
-    let low = c.args.low in
-    let ps = w.pieces.now in
-    let fair = w.valid.fair in
-    let out = c.requires.at in
-    let el = to_z-of_z w64 low c.ranges.low in
-    let tn = end_of_valley w.start ps w.valid.small s w.turn w.valid.valley in
-    let fm : FitsSigned w64 c.min.result = search rules in
-    let fq : FitsSigned w64 c.max-near.result = search rules in
-    let e1 : c.min.result ≡ int_min (low +ℤ s.ramp_down) w.turn = rw (up_coded low s.ramp_down out fair.ramp_down, coded_is w.turn (output_near w.turn tn)) at c.min.ensures.value in
-    let e2 : c.max-near.result ≡ int_max (low -ℤ s.ramp_up) c.min.result = rw (down_coded low s.ramp_up out fair.ramp_up, to_z-of_z w64 c.min.result fm) at c.max-near.ensures.value in
-    let near : c.max-near.result ≡ nearest s.ramp_up s.ramp_down w.turn low = e2 ∙ ap (int_max (low -ℤ s.ramp_up)) e1 in
-    let ec = to_z-of_z w64 c.max-near.result fq in
-    let in_old = nearest_inside w.start.first (last_place w.start.first ps) w.turn s.ramp_up s.ramp_down low w.valid.valley.from w.valid.valley.to c.requires.from (le_trans low w.high (last_place w.start.first ps +ℤ s.ramp_up) c.requires.to w.valid.high) fair.ramp_up.at_least fair.ramp_down.at_least in
-    let from : w.start.first ≤ℤ c.max-near.result = subst (λ (z : ℤ). w.start.first ≤ℤ z) (sym near) in_old.0 in
-    let to : c.max-near.result ≤ℤ last_place w.start.first ps = subst (λ (z : ℤ). z ≤ℤ last_place w.start.first ps) (sym near) in_old.1 in
-    rw ec to
-
-pub seek-reached-requires-clause-within : goal.seek-reached-requires-clause-within
-seek-reached-requires-clause-within c =
-    let w = c.args.window.now in
-    within_from_small w.start w.pieces.now w.valid.small
-
-pub find-found-requires-clause-from : goal.find-found-requires-clause-from
-find-found-requires-clause-from c =
-    let w = c.args.window.now in
-    let cv = c.args.curve.now in
-    let s = w.step in
-    let low = c.args.low in
-    let ps = w.pieces.now in
-    let fair = w.valid.fair in
-    let out = c.requires.at in
-    let el = to_z-of_z w64 low c.ranges.low in
-    let tn = end_of_valley w.start ps w.valid.small s w.turn w.valid.valley in
-    let k = c.requires.costs low (same_le low) c.requires.to in
-    let on = on_curve cv low k.0 (wide_of cv c.requires.limited) k.1 in
-    rw el on.from
-
-pub find-found-requires-clause-to : goal.find-found-requires-clause-to
-find-found-requires-clause-to c =
-    let w = c.args.window.now in
-    let cv = c.args.curve.now in
-    let s = w.step in
-    let low = c.args.low in
-    let ps = w.pieces.now in
-    let fair = w.valid.fair in
-    let out = c.requires.at in
-    let el = to_z-of_z w64 low c.ranges.low in
-    let tn = end_of_valley w.start ps w.valid.small s w.turn w.valid.valley in
-    let k = c.requires.costs low (same_le low) c.requires.to in
-    let on = on_curve cv low k.0 (wide_of cv c.requires.limited) k.1 in
-    rw (el, end_of-width cv.at cv.blocks.items) on.to
-
-pub level_of-requires-clause-fair : goal.level_of-requires-clause-fair
-level_of-requires-clause-fair c =
-    c.args.window.now.valid.fair
-
-pub level_of-requires-clause-value : goal.level_of-requires-clause-value
-level_of-requires-clause-value c =
-    let w = c.args.window.now in
-    let cv = c.args.curve.now in
-    let s = w.step in
-    let low = c.args.low in
-    let ps = w.pieces.now in
-    let fair = w.valid.fair in
-    let out = c.requires.at in
-    let el = to_z-of_z w64 low c.ranges.low in
-    let tn = end_of_valley w.start ps w.valid.small s w.turn w.valid.valley in
-    let fm : FitsSigned w64 c.min.result = search rules in
-    let fq : FitsSigned w64 c.max-near.result = search rules in
-    let e1 : c.min.result ≡ int_min (low +ℤ s.ramp_down) w.turn = rw (up_coded low s.ramp_down out fair.ramp_down, coded_is w.turn (output_near w.turn tn)) at c.min.ensures.value in
-    let e2 : c.max-near.result ≡ int_max (low -ℤ s.ramp_up) c.min.result = rw (down_coded low s.ramp_up out fair.ramp_up, to_z-of_z w64 c.min.result fm) at c.max-near.ensures.value in
-    let near : c.max-near.result ≡ nearest s.ramp_up s.ramp_down w.turn low = e2 ∙ ap (int_max (low -ℤ s.ramp_up)) e1 in
-    let ec = to_z-of_z w64 c.max-near.result fq in
-    let in_old = nearest_inside w.start.first (last_place w.start.first ps) w.turn s.ramp_up s.ramp_down low w.valid.valley.from w.valid.valley.to c.requires.from (le_trans low w.high (last_place w.start.first ps +ℤ s.ramp_up) c.requires.to w.valid.high) fair.ramp_up.at_least fair.ramp_down.at_least in
-    let from : w.start.first ≤ℤ c.max-near.result = subst (λ (z : ℤ). w.start.first ≤ℤ z) (sym near) in_old.0 in
-    let to : c.max-near.result ≤ℤ last_place w.start.first ps = subst (λ (z : ℤ). z ≤ℤ last_place w.start.first ps) (sym near) in_old.1 in
+    let n = near (goal.at.level_of-requires c).After-max-near in
+    let small = w.valid.small c.max-near.result n.from n.to in
+    let el = to_z-of_z w64 c.args.low c.ranges.low in
+    let k = c.requires.costs c.args.low (same_le c.args.low) c.requires.to in
     let fv : FitsSigned w64 c.seek-reached.result.value = search rules in
-    let ev = to_z-of_z w64 c.seek-reached.result.value fv in
-    let value : c.seek-reached.result.value ≡ function_of w.start ps c.max-near.result = rw ec at c.seek-reached.ensures.value in
-    rw (ev, value) (w.valid.small c.max-near.result from to).1
-
-pub level_of-requires-clause-near : goal.level_of-requires-clause-near
-level_of-requires-clause-near c =
-    let w = c.args.window.now in
-    let cv = c.args.curve.now in
-    let s = w.step in
-    let low = c.args.low in
-    let ps = w.pieces.now in
-    let fair = w.valid.fair in
-    let out = c.requires.at in
-    let el = to_z-of_z w64 low c.ranges.low in
-    let tn = end_of_valley w.start ps w.valid.small s w.turn w.valid.valley in
-    let fm : FitsSigned w64 c.min.result = search rules in
-    let fq : FitsSigned w64 c.max-near.result = search rules in
-    let e1 : c.min.result ≡ int_min (low +ℤ s.ramp_down) w.turn = rw (up_coded low s.ramp_down out fair.ramp_down, coded_is w.turn (output_near w.turn tn)) at c.min.ensures.value in
-    let e2 : c.max-near.result ≡ int_max (low -ℤ s.ramp_up) c.min.result = rw (down_coded low s.ramp_up out fair.ramp_up, to_z-of_z w64 c.min.result fm) at c.max-near.ensures.value in
-    let near : c.max-near.result ≡ nearest s.ramp_up s.ramp_down w.turn low = e2 ∙ ap (int_max (low -ℤ s.ramp_up)) e1 in
-    let ec = to_z-of_z w64 c.max-near.result fq in
-    let in_old = nearest_inside w.start.first (last_place w.start.first ps) w.turn s.ramp_up s.ramp_down low w.valid.valley.from w.valid.valley.to c.requires.from (le_trans low w.high (last_place w.start.first ps +ℤ s.ramp_up) c.requires.to w.valid.high) fair.ramp_up.at_least fair.ramp_down.at_least in
-    let from : w.start.first ≤ℤ c.max-near.result = subst (λ (z : ℤ). w.start.first ≤ℤ z) (sym near) in_old.0 in
-    let to : c.max-near.result ≤ℤ last_place w.start.first ps = subst (λ (z : ℤ). z ≤ℤ last_place w.start.first ps) (sym near) in_old.1 in
-    rw ec (w.valid.small c.max-near.result from to).0
-
-pub level_of-requires-clause-at : goal.level_of-requires-clause-at
-level_of-requires-clause-at c =
-    let w = c.args.window.now in
-    let cv = c.args.curve.now in
-    let s = w.step in
-    let low = c.args.low in
-    let ps = w.pieces.now in
-    let fair = w.valid.fair in
-    let out = c.requires.at in
-    let el = to_z-of_z w64 low c.ranges.low in
-    let tn = end_of_valley w.start ps w.valid.small s w.turn w.valid.valley in
-    rw el c.requires.at
-
-pub level_of-requires-clause-cost : goal.level_of-requires-clause-cost
-level_of-requires-clause-cost c =
-    let w = c.args.window.now in
-    let cv = c.args.curve.now in
-    let s = w.step in
-    let low = c.args.low in
-    let ps = w.pieces.now in
-    let fair = w.valid.fair in
-    let out = c.requires.at in
-    let el = to_z-of_z w64 low c.ranges.low in
-    let tn = end_of_valley w.start ps w.valid.small s w.turn w.valid.valley in
-    let k = c.requires.costs low (same_le low) c.requires.to in
-    let on = on_curve cv low k.0 (wide_of cv c.requires.limited) k.1 in
     let fc : FitsSigned w64 c.find-found.result.value = search rules in
-    let ek = to_z-of_z w64 c.find-found.result.value fc in
-    let cost = cost_at_is cv low c.find-found.result.value (rw el at c.find-found.ensures.value) in
-    let same : k.0 ≡ c.find-found.result.value = sym (cost_at_is cv low k.0 k.1) ∙ cost in
-    rw ek (subst (λ (z : ℤ). IsCost z) same k.2)
+    let value : c.seek-reached.result.value ≡ function_of w.start w.pieces.now c.max-near.result = rw n.coded at c.seek-reached.ensures.value in
+    let cost : k.0 ≡ c.find-found.result.value = cc (k.1, rw el at c.find-found.ensures.value) in
+    record {
+      fair = w.valid.fair;
+      value = rw (to_z-of_z w64 c.seek-reached.result.value fv, value) small.1;
+      near = rw n.coded small.0;
+      at = rw el c.requires.at;
+      cost = rw (to_z-of_z w64 c.find-found.result.value fc) (subst (λ (z : ℤ). IsCost z) cost k.2);
+    }
 
-pub returns-clause-near : goal.returns-clause-near
-returns-clause-near c =
+pub returns : goal.returns
+returns c =
     let w = c.args.window.now in
     let cv = c.args.curve.now in
     let s = w.step in
     let low = c.args.low in
-    let ps = w.pieces.now in
-    let fair = w.valid.fair in
-    let out = c.requires.at in
+    let n = near (goal.at.returns c).After-max-near in
     let el = to_z-of_z w64 low c.ranges.low in
-    let tn = end_of_valley w.start ps w.valid.small s w.turn w.valid.valley in
-    let fm : FitsSigned w64 c.min.result = search rules in
-    let fq : FitsSigned w64 c.max-near.result = search rules in
-    let e1 : c.min.result ≡ int_min (low +ℤ s.ramp_down) w.turn = rw (up_coded low s.ramp_down out fair.ramp_down, coded_is w.turn (output_near w.turn tn)) at c.min.ensures.value in
-    let e2 : c.max-near.result ≡ int_max (low -ℤ s.ramp_up) c.min.result = rw (down_coded low s.ramp_up out fair.ramp_up, to_z-of_z w64 c.min.result fm) at c.max-near.ensures.value in
-    let near : c.max-near.result ≡ nearest s.ramp_up s.ramp_down w.turn low = e2 ∙ ap (int_max (low -ℤ s.ramp_up)) e1 in
-    let ec = to_z-of_z w64 c.max-near.result fq in
-    let in_old = nearest_inside w.start.first (last_place w.start.first ps) w.turn s.ramp_up s.ramp_down low w.valid.valley.from w.valid.valley.to c.requires.from (le_trans low w.high (last_place w.start.first ps +ℤ s.ramp_up) c.requires.to w.valid.high) fair.ramp_up.at_least fair.ramp_down.at_least in
-    let from : w.start.first ≤ℤ c.max-near.result = subst (λ (z : ℤ). w.start.first ≤ℤ z) (sym near) in_old.0 in
-    let to : c.max-near.result ≤ℤ last_place w.start.first ps = subst (λ (z : ℤ). z ≤ℤ last_place w.start.first ps) (sym near) in_old.1 in
-    ec ∙ near
-
-pub returns-clause-placed : goal.returns-clause-placed
-returns-clause-placed c =
-    c.seek-reached.ensures.placed
-
-pub returns-clause-pen : goal.returns-clause-pen
-returns-clause-pen c =
-    (to_z-of_z w64 c.args.low c.ranges.low, refl, c.find-found.ensures.blocks)
-
-pub returns-clause-block : goal.returns-clause-block
-returns-clause-block c =
-    let w = c.args.window.now in
-    let cv = c.args.curve.now in
-    let s = w.step in
-    let low = c.args.low in
-    let ps = w.pieces.now in
-    let fair = w.valid.fair in
-    let out = c.requires.at in
-    let el = to_z-of_z w64 low c.ranges.low in
-    let tn = end_of_valley w.start ps w.valid.small s w.turn w.valid.valley in
-    let k = c.requires.costs low (same_le low) c.requires.to in
-    let on = on_curve cv low k.0 (wide_of cv c.requires.limited) k.1 in
-    let kh = c.requires.costs w.high c.requires.to (same_le w.high) in
-    let onh = on_curve cv w.high kh.0 (wide_of cv c.requires.limited) kh.1 in
+    let fv : FitsSigned w64 c.seek-reached.result.value = search rules in
+    let fc : FitsSigned w64 c.find-found.result.value = search rules in
     let fe : FitsSigned w64 c.find-found.result.end = search rules in
-    λ h. rw (to_z-of_z w64 c.find-found.result.end fe) ((rw el at c.find-found.ensures.block) (rw (end_of-width cv.at cv.blocks.items) (lt_le_trans low w.high _ h onh.to)))
-
-pub returns-clause-level : goal.returns-clause-level
-returns-clause-level c =
-    let w = c.args.window.now in
-    let cv = c.args.curve.now in
-    let s = w.step in
-    let low = c.args.low in
-    let ps = w.pieces.now in
-    let fair = w.valid.fair in
-    let out = c.requires.at in
-    let el = to_z-of_z w64 low c.ranges.low in
-    let tn = end_of_valley w.start ps w.valid.small s w.turn w.valid.valley in
-    let fm : FitsSigned w64 c.min.result = search rules in
-    let fq : FitsSigned w64 c.max-near.result = search rules in
-    let e1 : c.min.result ≡ int_min (low +ℤ s.ramp_down) w.turn = rw (up_coded low s.ramp_down out fair.ramp_down, coded_is w.turn (output_near w.turn tn)) at c.min.ensures.value in
-    let e2 : c.max-near.result ≡ int_max (low -ℤ s.ramp_up) c.min.result = rw (down_coded low s.ramp_up out fair.ramp_up, to_z-of_z w64 c.min.result fm) at c.max-near.ensures.value in
-    let near : c.max-near.result ≡ nearest s.ramp_up s.ramp_down w.turn low = e2 ∙ ap (int_max (low -ℤ s.ramp_up)) e1 in
-    let ec = to_z-of_z w64 c.max-near.result fq in
-    let in_old = nearest_inside w.start.first (last_place w.start.first ps) w.turn s.ramp_up s.ramp_down low w.valid.valley.from w.valid.valley.to c.requires.from (le_trans low w.high (last_place w.start.first ps +ℤ s.ramp_up) c.requires.to w.valid.high) fair.ramp_up.at_least fair.ramp_down.at_least in
-    let from : w.start.first ≤ℤ c.max-near.result = subst (λ (z : ℤ). w.start.first ≤ℤ z) (sym near) in_old.0 in
-    let to : c.max-near.result ≤ℤ last_place w.start.first ps = subst (λ (z : ℤ). z ≤ℤ last_place w.start.first ps) (sym near) in_old.1 in
-    let fv : FitsSigned w64 c.seek-reached.result.value = search rules in
-    let ev = to_z-of_z w64 c.seek-reached.result.value fv in
-    let value : c.seek-reached.result.value ≡ function_of w.start ps c.max-near.result = rw ec at c.seek-reached.ensures.value in
-    let fc : FitsSigned w64 c.find-found.result.value = search rules in
-    let ek = to_z-of_z w64 c.find-found.result.value fc in
-    let cost = cost_at_is cv low c.find-found.result.value (rw el at c.find-found.ensures.value) in
     let fl : FitsSigned w64 c.level_of.result = search rules in
-    let got : c.level_of.result ≡ ((c.seek-reached.result.value +ℤ reserve_term s.reserve_price s.cap s.ramp_up c.max-near.result) +ℤ s.slope *ℤ low) +ℤ c.find-found.result.value = rw (ev, ec, el, ek) at c.level_of.ensures in
-    to_z-of_z w64 c.level_of.result fl ∙ got
-    ∙ level_joined (function_of w.start ps) (reserve_term s.reserve_price s.cap s.ramp_up) c.max-near.result (nearest s.ramp_up s.ramp_down w.turn low) c.seek-reached.result.value (s.slope *ℤ low) c.find-found.result.value _ value near cost
+    let value : c.seek-reached.result.value ≡ function_of w.start w.pieces.now c.max-near.result = rw n.coded at c.seek-reached.ensures.value in
+    let cost = cost_at_is cv low c.find-found.result.value (rw el at c.find-found.ensures.value) in
+    let got : c.level_of.result ≡ ((c.seek-reached.result.value +ℤ reserve_term s.reserve_price s.cap s.ramp_up c.max-near.result) +ℤ s.slope *ℤ low) +ℤ c.find-found.result.value = rw (to_z-of_z w64 c.seek-reached.result.value fv, n.coded, el, to_z-of_z w64 c.find-found.result.value fc) at c.level_of.ensures in
+    let kh = c.requires.costs w.high c.requires.to (same_le w.high) in
+    let high = on_curve cv w.high kh.0 (wide_of cv c.requires.limited) kh.1 in
+    record {
+      near = n.coded ∙ n.is;
+      placed = c.seek-reached.ensures.placed;
+      pen = (el, refl, c.find-found.ensures.blocks);
+      block = λ h. rw (to_z-of_z w64 c.find-found.result.end fe) ((rw el at c.find-found.ensures.block) (rw (end_of-width cv.at cv.blocks.items) (lt_le_trans low w.high _ h high.to)));
+      level = to_z-of_z w64 c.level_of.result fl ∙ got
+          ∙ level_joined (function_of w.start w.pieces.now) (reserve_term s.reserve_price s.cap s.ramp_up) c.max-near.result (nearest s.ramp_up s.ramp_down w.turn low) c.seek-reached.result.value (s.slope *ℤ low) c.find-found.result.value _ value n.is cost;
+    }
