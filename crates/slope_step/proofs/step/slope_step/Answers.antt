@@ -1,4 +1,4 @@
-use Rattle.std.proofs.Common.{to_z, of_z, ◌≡◌, ◌≤◌, List, length, ap, sym, ◌∙◌, subst, arith, rules}
+use Rattle.std.proofs.Common.{to_z, of_z, ◌≡◌, ◌≤◌, false, List, length, ap, sym, ◌∙◌, subst, arith, rules}
 use Rattle.std.specs.Prelude.{FitsSigned, ◌+ℤ◌, ◌-ℤ◌, ◌≤ℤ◌}
 use Rattle.std.specs.Int.{w64, int_min, int_max}
 use Rattle.std.proofs.lemmas.Int.{to_z-of_z}
@@ -18,6 +18,7 @@ use Rattle.slope_step.proofs.WindowLaws.{same_le}
 use Rattle.slope_step.proofs.WrapLaws.{coded_is, output_near, up_coded, down_coded, fits_sum, fits_less, test_true, test_false}
 use Rattle.slope_step.proofs.step.slope_step.Goals as goal
 use Rattle.slope_step.proofs.step.slope_step.Goals.{After-turn-turn}
+use lib.Signed.{lt_z}
 
 -- where the function before the step begins and ends
 record Ends (start : Start) (ps : List Piece) : Type 0 where
@@ -81,6 +82,10 @@ turned c =
     subst (IsTurn c.args.step (table_of c.args.start c.args.pieces.now)) (sym r.turn)
     (turn_on c.args.start c.args.pieces.now c.args.step c.args.curve.now c.turn-turn.result c.max-low.result c.min-high.result c.requires.slopes c.requires.step c.requires.curve c.turn-turn.ensures r.low_is r.high_is)
 
+-- there is a place
+order : (c : After-turn-turn) → Range c → lt_z (to_z w64 (of_z w64 c.min-high.result)) (to_z w64 (of_z w64 c.max-low.result)) ≡ false → c.max-low.result ≤ℤ c.min-high.result
+order c r = test_false c.min-high.result c.max-low.result _ _ r.high r.low
+
 pub overflow_sub-start : goal.overflow_sub-start
 overflow_sub-start c =
     let e = ends c.args.start c.args.pieces.now c.requires.slopes c.requires.small in
@@ -120,48 +125,41 @@ invariant_of-window c =
       };
     }
 
-pub open-opening-requires-clause-from : goal.open-opening-requires-clause-from
-open-opening-requires-clause-from c = let r = range (goal.at.open-opening-requires-clause-from c).After-turn-turn in rw r.low r.at_low.0
+pub open-opening-requires : goal.open-opening-requires
+open-opening-requires c =
+    let t = (goal.at.open-opening-requires c).After-turn-turn in
+    let r = range t in
+    let rise = order t r c.if-low-high.false in
+    record {
+      limited = c.requires.curve.limited;
+      from = rw r.low r.at_low.0;
+      to = rw (r.low, r.high) rise;
+      at = rw r.low (step_output c.args.step.least c.max-low.result c.min-high.result c.args.step.most c.requires.step.least c.requires.step.most r.at_low.1 rise r.at_high.1);
+      costs = rw (r.low, r.high) (costs t);
+    }
 
-pub open-opening-requires-clause-to : goal.open-opening-requires-clause-to
-open-opening-requires-clause-to c = let r = range (goal.at.open-opening-requires-clause-to c).After-turn-turn in rw (r.low, r.high) (test_false c.min-high.result c.max-low.result _ _ r.high r.low c.if-low-high.false)
+pub draw-used-requires : goal.draw-used-requires
+draw-used-requires c =
+    let t = (goal.at.draw-used-requires c).After-turn-turn in
+    let r = range t in
+    let pen = c.open-opening.ensures.pen in
+    record {
+      limited = c.requires.curve.limited;
+      placed = c.open-opening.ensures.placed;
+      near = c.open-opening.ensures.near ∙ ap (nearest c.args.step.ramp_up c.args.step.ramp_down _) (sym pen.0);
+      low = rw (pen.0 ∙ r.low) r.at_low.0;
+      high = rw (pen.0 ∙ r.low, r.high) (order t r c.if-low-high.false);
+      costs = rw (pen.0 ∙ r.low, r.high) (costs t);
+      block = rw pen.0 c.open-opening.ensures.block;
+      blocks = pen.2;
+      begins = pen.1;
+      room = c.requires.room;
+    }
 
-pub open-opening-requires-clause-at : goal.open-opening-requires-clause-at
-open-opening-requires-clause-at c =
-    let r = range (goal.at.open-opening-requires-clause-at c).After-turn-turn in
-    rw r.low (step_output c.args.step.least c.max-low.result c.min-high.result c.args.step.most c.requires.step.least c.requires.step.most r.at_low.1 (test_false c.min-high.result c.max-low.result _ _ r.high r.low c.if-low-high.false) r.at_high.1)
-
-pub open-opening-requires-clause-costs : goal.open-opening-requires-clause-costs
-open-opening-requires-clause-costs c = let r = range (goal.at.open-opening-requires-clause-costs c).After-turn-turn in rw (r.low, r.high) (costs (goal.at.open-opening-requires-clause-costs c).After-turn-turn)
-
-pub draw-used-requires-clause-placed : goal.draw-used-requires-clause-placed
-draw-used-requires-clause-placed c = c.open-opening.ensures.placed
-
-pub draw-used-requires-clause-near : goal.draw-used-requires-clause-near
-draw-used-requires-clause-near c =
-    c.open-opening.ensures.near ∙ ap (nearest c.args.step.ramp_up c.args.step.ramp_down _) (sym c.open-opening.ensures.pen.0)
-
-pub draw-used-requires-clause-low : goal.draw-used-requires-clause-low
-draw-used-requires-clause-low c = let r = range (goal.at.draw-used-requires-clause-low c).After-turn-turn in rw (c.open-opening.ensures.pen.0 ∙ r.low) r.at_low.0
-
-pub draw-used-requires-clause-high : goal.draw-used-requires-clause-high
-draw-used-requires-clause-high c = let r = range (goal.at.draw-used-requires-clause-high c).After-turn-turn in rw (c.open-opening.ensures.pen.0 ∙ r.low, r.high) (test_false c.min-high.result c.max-low.result _ _ r.high r.low c.if-low-high.false)
-
-pub draw-used-requires-clause-costs : goal.draw-used-requires-clause-costs
-draw-used-requires-clause-costs c = let r = range (goal.at.draw-used-requires-clause-costs c).After-turn-turn in rw (c.open-opening.ensures.pen.0 ∙ r.low, r.high) (costs (goal.at.draw-used-requires-clause-costs c).After-turn-turn)
-
-pub draw-used-requires-clause-block : goal.draw-used-requires-clause-block
-draw-used-requires-clause-block c = rw c.open-opening.ensures.pen.0 c.open-opening.ensures.block
-
-pub draw-used-requires-clause-blocks : goal.draw-used-requires-clause-blocks
-draw-used-requires-clause-blocks c = c.open-opening.ensures.pen.2
-
-pub draw-used-requires-clause-begins : goal.draw-used-requires-clause-begins
-draw-used-requires-clause-begins c = c.open-opening.ensures.pen.1
-
-pub returns-clause-stepped : goal.returns-clause-stepped
-returns-clause-stepped c =
-    let r = range (goal.at.returns-clause-stepped c).After-turn-turn in
+pub returns : goal.returns
+returns c =
+    let t = (goal.at.returns c).After-turn-turn in
+    let r = range t in
     let at = c.open-opening.ensures.pen.0 ∙ r.low in
     let gv : FitsSigned w64 c.open-opening.result.level = search rules in
     let cw = to_z-of_z w64 c.open-opening.result.level gv in
@@ -170,33 +168,10 @@ returns-clause-stepped c =
     let last = rw (at, r.high) at c.draw-used.ensures.ends in
     let used = c.draw-used.ensures.used in
     let room : c.draw-used.result ≤ length c.draw-used.new.out = omega arith in
-    rw (r.low, cw) (written c.args.start c.args.pieces.now c.args.step c.args.curve.now c.turn-turn.result c.max-low.result c.min-high.result c.requires.slopes c.requires.step c.requires.curve c.turn-turn.ensures r.low_is r.high_is c.open-opening.result.level c.draw-used.new.out c.draw-used.result room stand last level)
-
-pub returns-clause-slopes : goal.returns-clause-slopes
-returns-clause-slopes c =
-    let r = range (goal.at.returns-clause-slopes c).After-turn-turn in
-    let at = c.open-opening.ensures.pen.0 ∙ r.low in
-    let gv : FitsSigned w64 c.open-opening.result.level = search rules in
-    let cw = to_z-of_z w64 c.open-opening.result.level gv in
-    let level : c.open-opening.result.level ≡ stepped c.args.start c.args.pieces.now c.args.step c.turn-turn.result c.args.curve.now c.max-low.result = rw (r.turn, r.low) at c.open-opening.ensures.level in
-    let stand = rw (r.turn, at) at c.draw-used.ensures.drawn in
-    let last = rw (at, r.high) at c.draw-used.ensures.ends in
-    let used = c.draw-used.ensures.used in
-    let room : c.draw-used.result ≤ length c.draw-used.new.out = omega arith in
-    rw r.low (written_slopes c.args.start c.args.pieces.now c.args.step c.args.curve.now c.turn-turn.result c.max-low.result c.min-high.result c.requires.slopes c.requires.step c.requires.curve c.turn-turn.ensures r.low_is r.high_is c.open-opening.result.level c.draw-used.new.out c.draw-used.result room stand last level c.steps_keep_convexity.ensures c.convexity_is_of_places.ensures)
-
-pub returns-clause-within : goal.returns-clause-within
-returns-clause-within c =
-    let r = range (goal.at.returns-clause-within c).After-turn-turn in
-    let at = c.open-opening.ensures.pen.0 ∙ r.low in
-    let gv : FitsSigned w64 c.open-opening.result.level = search rules in
-    let cw = to_z-of_z w64 c.open-opening.result.level gv in
-    let level : c.open-opening.result.level ≡ stepped c.args.start c.args.pieces.now c.args.step c.turn-turn.result c.args.curve.now c.max-low.result = rw (r.turn, r.low) at c.open-opening.ensures.level in
-    let stand = rw (r.turn, at) at c.draw-used.ensures.drawn in
-    let last = rw (at, r.high) at c.draw-used.ensures.ends in
-    let used = c.draw-used.ensures.used in
-    let room : c.draw-used.result ≤ length c.draw-used.new.out = omega arith in
-    rw (r.low, cw) (written_within c.args.start c.args.pieces.now c.args.step c.args.curve.now c.turn-turn.result c.max-low.result c.min-high.result c.requires.slopes c.requires.step c.requires.curve r.ends.small c.turn-turn.ensures r.low_is r.high_is c.open-opening.result.level c.draw-used.new.out c.draw-used.result room stand last level)
-
-pub returns-clause-turn : goal.returns-clause-turn
-returns-clause-turn c = turned (goal.at.returns-clause-turn c).After-turn-turn
+    record {
+      stepped = rw (r.low, cw) (written c.args.start c.args.pieces.now c.args.step c.args.curve.now c.turn-turn.result c.max-low.result c.min-high.result c.requires.slopes c.requires.step c.requires.curve c.turn-turn.ensures r.low_is r.high_is c.open-opening.result.level c.draw-used.new.out c.draw-used.result room stand last level);
+      slopes = rw r.low (written_slopes c.args.start c.args.pieces.now c.args.step c.args.curve.now c.turn-turn.result c.max-low.result c.min-high.result c.requires.slopes c.requires.step c.requires.curve c.turn-turn.ensures r.low_is r.high_is c.open-opening.result.level c.draw-used.new.out c.draw-used.result room stand last level c.steps_keep_convexity.ensures c.convexity_is_of_places.ensures);
+      within = rw (r.low, cw) (written_within c.args.start c.args.pieces.now c.args.step c.args.curve.now c.turn-turn.result c.max-low.result c.min-high.result c.requires.slopes c.requires.step c.requires.curve r.ends.small c.turn-turn.ensures r.low_is r.high_is c.open-opening.result.level c.draw-used.new.out c.draw-used.result room stand last level);
+      turn = turned t;
+      count = used;
+    }
