@@ -40,7 +40,6 @@ less s q d e down short =
 pub between : (f g : ℤ → ℤ) (a b s q shift : ℤ) → IsLine f a b s → IsLine g a b q
     → (f a +ℤ shift) ≤ℤ g a → (f b +ℤ shift) ≤ℤ g b → (x : ℤ) → a ≤ℤ x → x ≤ℤ b → (f x +ℤ shift) ≤ℤ g x
 between f g a b s q shift l m here there x from to =
-    let up = l.rise in
     let fx = l.line x from to in
     let gx = m.line x from to in
     let fb = l.line b (omega (arith, ints)) (omega (arith, ints)) in
@@ -74,15 +73,9 @@ module _ (start : Start) (ps : List Piece) (slopes : AreSlopes start.first ps) (
   part_goes =
       let low = ends_rise_to start.first ps slopes 0 r.next (omega arith) (omega arith) in
       let high = ends_rise_to start.first ps slopes (suc r.next) (length ps) inside (omega arith) in
-      let from = reached.placed.from in
       let a = within at (omega (arith, ints)) (omega (arith, ints)) in
       let b = within end (omega (arith, ints)) (omega (arith, ints)) in
       let e = part_value in
-      let v = reached.value in
-      let va = a.1.0 in
-      let va' = a.1.1 in
-      let vb = b.1.0 in
-      let vb' = b.1.1 in
       record {
         from_place = a.0;
         to_place = b.0;
@@ -156,7 +149,5 @@ fewer n m h h' t t' a b c d e f (inr k) = omega arith
 pub shown_under : (start : Start) (ps : List Piece) (other : Start) (qs : List Piece) (shift : ℤ) → IsUnder start ps other qs shift → IsNowhereAbove (table_of start ps) (table_of other qs) shift
 shown_under start ps other qs shift under x v h =
     let o = on_back (function_of other qs) other.first (last_place other.first qs) x v h in
-    let e = o.value in
     let u = under x o.from o.to in
-    let b = u.2 in
     (function_of start ps x, on_inside (function_of start ps) start.first (last_place start.first ps) x u.0 u.1, omega (arith, ints))

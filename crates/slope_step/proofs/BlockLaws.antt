@@ -161,17 +161,12 @@ module _ (c : Curve) (w : AreWide c.blocks.items) (j : ℕ) (inside : j < length
 pub price_within : (c : Curve) → IsLimitedCurve c → (a b : ℤ) (j : ℕ) (end : ℤ) → a <ℤ b → IsInBlock c a j end → b ≤ℤ end → HasCosts c a b
     → IsFrom (neg_ℤ (pos 20000000000000)) (pos 20000000000000) (block c.blocks.items j).price
 price_within c limited a b j end rise in_block within costs =
-    let ends = in_block.ends in
     let line = cost_line c (wide_of c limited) j in_block.inside a b rise in_block.begun (omega (arith, ints)) in
     let step = line_step (cost_at c) a b (block c.blocks.items j).price a line (omega (arith, ints)) rise in
     let u = costs a (omega (arith, ints)) (omega (arith, ints)) in
     let v = costs (a +ℤ pos 1) (omega (arith, ints)) (omega (arith, ints)) in
     let eu = cost_at_is c a u.0 u.1 in
     let ev = cost_at_is c (a +ℤ pos 1) v.0 v.1 in
-    let lu = u.2.at_least in
-    let hu = u.2.at_most in
-    let lv = v.2.at_least in
-    let hv = v.2.at_most in
     record { at_least = omega (arith, ints); at_most = omega (arith, ints) }
 
 -- a place of the curve
@@ -201,9 +196,6 @@ on_curve c x v w h = by_lt_z x c.at
 -- a block that ends within the curve isn't the last
 pub block_more : (c : Curve) (at : ℤ) (j : ℕ) (end x : ℤ) → IsInBlock c at j end → end <ℤ x → IsOnCurve c x → suc j < length c.blocks.items
 block_more c at j end x i l o =
-    let inside = i.inside in
-    let ends = i.ends in
-    let to = o.to in
     elim (cases_lt (suc j) (length c.blocks.items)) [
       | inl h ↦ h
       | inr h ↦ absurd (let e = ap (width_to c.blocks.items) {x = suc j} {y = length c.blocks.items} (omega arith) in omega (arith, ints))
@@ -222,8 +214,6 @@ block_place c limited j h =
     let low = width_to-positive c.blocks.items w j h in
     let high = width_to-rises_to c.blocks.items w j (length c.blocks.items) h (omega arith) in
     let e = end_of-width c.at c.blocks.items in
-    let first = limited.first_place.0 in
-    let last = limited.last_place.1 in
     (omega (arith, ints), omega (arith, ints))
 
 -- a later place is past the block's start too

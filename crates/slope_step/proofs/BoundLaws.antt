@@ -32,12 +32,4 @@ pub level_within : (s : Step) → IsFairStep s → (value near x cost : ℤ) →
 level_within s fair value near x cost v n o c =
     let r = reserve_within s fair near n in
     let l = slope_within s fair x o in
-    let a = r.at_least in
-    let b = r.at_most in
-    let d = l.at_least in
-    let e = l.at_most in
-    let f = v.at_least in
-    let g = v.at_most in
-    let h = c.at_least in
-    let i = c.at_most in
     record { at_least = omega (arith, ints); at_most = omega (arith, ints) }

@@ -85,10 +85,6 @@ IsConvex-from_curves law f a b c = (law (table_on f a b)).1 (λ x u v w p q r.
     let e = on_back f a b (x +ℤ pos 1) v q in
     let g = on_back f a b (x +ℤ pos 2) w r in
     let low = d.from in
-    let high = g.to in
-    let i = d.value in
-    let j = e.value in
-    let k = g.value in
     let h = c x (x +ℤ pos 1) low (omega (arith, ints)) (omega (arith, ints)) in
     let s : f ((x +ℤ pos 1) +ℤ pos 1) ≡ f (x +ℤ pos 2) = ap f (omega (arith, ints)) in
     omega (arith, ints))

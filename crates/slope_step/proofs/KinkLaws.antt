@@ -96,7 +96,6 @@ module _ (s : Step) (fair : IsFairStep s) (at : ℤ) (p q : Piece) (to : at <ℤ
   left_below : pos 0 <ℤ s.reserve_price → at <ℤ bend_of s → IsLeft s at p q
   left_below paid below =
       let r = l.below paid below in
-      let end = r.0 in
       let slope = r.1 in
       record {
         rise = omega (arith, ints, clamps);
@@ -122,15 +121,10 @@ module _ (s : Step) (fair : IsFairStep s) (at : ℤ) (p q : Piece) (to : at <ℤ
       (λ (above : bend_of s ≤ℤ at). let r = l.above above in left_same r.0 r.1 (λ x from. term_above s.reserve_price s.cap s.ramp_up x at above from)))
       (λ (free : s.reserve_price ≤ℤ pos 0).
       let r = l.free free in
-      let low = fair.reserve_price.at_least in
       left_same r.0 r.1 (λ x from. term_free s.reserve_price s.cap s.ramp_up x at (omega (arith, ints))))
 
   pub left_steep : IsGentle p.slope → IsSteep q.slope
   left_steep g =
-      let a = g.at_least in
-      let b = g.at_most in
-      let c = fair.reserve_price.at_least in
-      let d = fair.reserve_price.at_most in
       by_lt_z (pos 0) s.reserve_price
       (λ (paid : pos 0 <ℤ s.reserve_price). by_lt_z at (bend_of s)
       (λ (below : at <ℤ bend_of s). let e = (l.below paid below).1 in record { at_least = omega (arith, ints); at_most = omega (arith, ints) })
@@ -150,8 +144,6 @@ module _ (ps : List Piece) (s : Step) (place place' : Place) (q : Piece) (next :
     (within : q.end <ℤ (piece ps place.next).end → place'.next ≡ place.next) (past : (piece ps place.next).end ≤ℤ q.end → place'.next ≡ suc place.next) where
   pub part_placed : (first : ℤ) → AreSlopes first ps → IsPlaced first ps place → IsPlaced first ps place'
   part_placed first slopes placed =
-      let rise = l.rise in
-      let in_piece = l.within in
       by_lt_z q.end (piece ps place.next).end
       (λ (h : q.end <ℤ (piece ps place.next).end).
       let e = within h in
@@ -174,8 +166,6 @@ module _ (ps : List Piece) (s : Step) (place place' : Place) (q : Piece) (next :
 
   pub part_fewer : parts_from ps s place' + 1 ≤ parts_from ps s place
   part_fewer =
-      let rise = l.rise in
-      let in_piece = l.within in
       by_lt_z q.end (piece ps place.next).end
       (λ (h : q.end <ℤ (piece ps place.next).end).
       let e = within h in
@@ -200,7 +190,6 @@ module _ (ps : List Piece) (s : Step) (place place' : Place) (q : Piece) (next :
 pub placed_within : (first : ℤ) (ps : List Piece) (place : Place) → AreSlopes first ps → IsPlaced first ps place → (first ≤ℤ place.at) × (place.at ≤ℤ last_place first ps)
 placed_within first ps place slopes placed =
     let some = placed.some in
-    let from = placed.from in
     let low = ends_rise_to first ps slopes 0 place.next (omega arith) some in
     elim (cases_lt place.next (length ps)) [
       | inl inside ↦
@@ -238,7 +227,6 @@ module _ (start : Start) (ps : List Piece) (s : Step) (fair : IsFairStep s) (slo
   pub valley_end : length ps ≤ place.next → IsValley (kinked start ps s) start.first (last_place start.first ps) place.at
   valley_end past =
       let w = placed_within start.first ps place slopes placed in
-      let some = placed.some in
       let e = placed.last (omega arith) in
       record { from = w.0; to = w.1; falls = falls; rises = λ x low high. absurd (omega (arith, ints)) }
 
@@ -252,10 +240,6 @@ module _ (start : Start) (ps : List Piece) (s : Step) (fair : IsFairStep s) (slo
 pub within_from_small : (start : Start) (ps : List Piece) → AreSmall start ps → AreWithin start ps
 within_from_small start ps small x low high =
     let a = small x low high in
-    let p = a.0.at_least in
-    let q = a.0.at_most in
-    let r = a.1.at_least in
-    let t = a.1.at_most in
     ((omega (arith, ints), omega (arith, ints)), (omega (arith, ints), omega (arith, ints)))
 
 module _ (start : Start) (ps : List Piece) (slopes : AreSlopes start.first ps) (within : AreWithin start ps) (k : ℕ) (inside : k < length ps) (x : ℤ) (low : end_at start.first ps k ≤ℤ x) (high : x ≤ℤ (piece ps k).end) where
@@ -276,10 +260,6 @@ module _ (start : Start) (ps : List Piece) (slopes : AreSlopes start.first ps) (
       let a = within from (omega (arith, ints)) (omega (arith, ints)) in
       let b = within x (omega (arith, ints)) (omega (arith, ints)) in
       let e = level_from level from from_is level_is in
-      let va = a.1.0 in
-      let va' = a.1.1 in
-      let vb = b.1.0 in
-      let vb' = b.1.1 in
       record {
         from_place = a.0;
         to_place = b.0;

@@ -14,8 +14,6 @@ module _ (s : Step) (fair : IsFairStep s) (value near x cost m : ℤ) (v : IsFro
   worth_within : IsFrom (neg_ℤ (pos 100000000000000)) (pos 100000000000000) (s.reserve_price *ℤ m)
   worth_within =
       let r = reserve_within s fair near n in
-      let a = r.at_least in
-      let b = r.at_most in
       let e = ap (λ (z : ℤ). s.reserve_price *ℤ z) m_is in
       record { at_least = omega (arith, ints); at_most = omega (arith, ints) }
 
@@ -23,7 +21,7 @@ module _ (s : Step) (fair : IsFairStep s) (value near x cost m : ℤ) (v : IsFro
   worth_near = let r = worth_within in let a = r.at_least in let b = r.at_most in record { at_least = omega (arith, ints); at_most = omega (arith, ints) }
 
   value_near : IsNear value
-  value_near = let a = v.at_least in let b = v.at_most in record { at_least = omega (arith, ints); at_most = omega (arith, ints) }
+  value_near = record { at_least = omega (arith, ints); at_most = omega (arith, ints) }
 
   cost_near : IsNear cost
   cost_near = let a = k.at_least in let b = k.at_most in record { at_least = omega (arith, ints); at_most = omega (arith, ints) }

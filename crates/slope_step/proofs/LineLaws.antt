@@ -53,7 +53,6 @@ line_part f a b s c d l low rise high = record {
 
 pub line_moved : (f : ℤ → ℤ) (a b s d a' b' : ℤ) → IsLine f a b s → a' +ℤ d ≡ a → b' +ℤ d ≡ b → IsLine (λ x. f (x +ℤ d)) a' b' s
 line_moved f a b s d a' b' l ea eb =
-    let up = l.rise in
     record {
       rise = omega (arith, ints);
       line = λ x from to.

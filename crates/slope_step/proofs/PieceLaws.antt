@@ -119,8 +119,6 @@ along_curves first level ps s x y low order high =
     let b = along_line first level ps s j q.inside in
     let sx = line_step (value_along first level ps) (end_at first ps k) (end_at first ps (suc k)) (piece ps k).slope x a p.from p.to in
     let sy = line_step (value_along first level ps) (end_at first ps j) (end_at first ps (suc j)) (piece ps j).slope y b q.from q.to in
-    let pf = p.from in
-    let qt = q.to in
     let up : (piece ps k).slope ≤ℤ (piece ps j).slope = elim (cases_lt j k) [
       | inl below ↦ absurd (let r = ends_rise_to first ps s (suc j) k (omega arith) (let i = p.inside in omega arith) in omega (arith, ints))
       | inr above ↦ slopes_rise first ps s (j - k) k j (omega arith) q.inside
@@ -137,7 +135,6 @@ pub along_from_stand : (h : ℤ → ℤ) (lo level : ℤ) (ps : List Piece) → 
 along_from_stand h lo level [] s e x low high = let same : h x ≡ h lo = ap h (omega (arith, ints)) in sym e ∙ sym same
 along_from_stand h lo level (p ∷ ps) s e x low high =
     let l = s 0 (omega arith) in
-    let up : lo <ℤ p.end = l.rise in
     by_lt_z p.end x
     (λ (past : p.end <ℤ x).
     let end = l.line p.end (omega (arith, ints)) (omega (arith, ints)) in

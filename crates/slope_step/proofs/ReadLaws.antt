@@ -32,7 +32,6 @@ valley_at start ps slopes k inside falls rises =
           let h = held start.first ps x from (omega (arith, ints)) in
           let j = h.index in
           let l = line_step f (e j) (e (suc j)) (piece ps j).slope x (along_line start.first start.level ps slopes j h.inside) h.from h.to in
-          let hf = h.from in
           let below : j < k = elim (cases_lt j k) [
             | inl p ↦ p
             | inr p ↦ absurd (let r = ends_rise_to start.first ps slopes k j p (let i = h.inside in omega arith) in omega (arith, ints))
@@ -43,7 +42,6 @@ valley_at start ps slopes k inside falls rises =
           let h = held start.first ps x (omega (arith, ints)) to in
           let j = h.index in
           let l = line_step f (e j) (e (suc j)) (piece ps j).slope x (along_line start.first start.level ps slopes j h.inside) h.from h.to in
-          let ht = h.to in
           let i = h.inside in
           let above : k ≤ j = elim (cases_lt j k) [
             | inl p ↦ absurd (let r = ends_rise_to start.first ps slopes (suc j) k (omega arith) inside in omega (arith, ints))
@@ -58,7 +56,6 @@ valley_at start ps slopes k inside falls rises =
 pub above_all : (f : ℤ → ℤ) (a b m : ℤ) → IsValley f a b m → (shift limit : ℤ) → limit <ℤ (f m +ℤ shift) → IsAbove (table_on f a b) shift limit
 above_all f a b m v shift limit h x w there =
     let o = on_back f a b x w there in
-    let e = o.value in
     let l = valley_least f a b m v x o.from o.to in
     omega (arith, ints)
 
@@ -70,8 +67,6 @@ module _ (f : ℤ → ℤ) (a b m : ℤ) (v : IsValley f a b m) (lo hi low high 
   least_at : (y : ℤ) → a ≤ℤ y → y ≤ℤ b → lo ≤ℤ y → y ≤ℤ hi → f at ≤ℤ f y
   least_at y from to l h =
       let i = at_inside in
-      let ia = i.0 in
-      let ib = i.1 in
       by_lt_z at m
       (λ (below : at <ℤ m). falls_to f a b m v y at from (omega (arith, ints, clamps)) (omega (arith, ints)))
       (λ (above : m ≤ℤ at). by_lt_z m at

@@ -42,7 +42,6 @@ slopes_from_stand law h lo ps s convex = record {
       let a = s k (omega arith) in
       let b = s (suc k) i in
       let e = end_at lo ps (suc k) in
-      let up = a.rise in
       let on = b.rise in
       let low = stand_rises h lo ps (length ps) s k 0 k (omega arith) (omega arith) in
       let high : end_at lo ps (suc (suc k)) ≤ℤ last_place lo ps = stand_rises h lo ps (length ps) s (length ps - suc (suc k)) (suc (suc k)) (length ps) (omega arith) (omega arith) in
@@ -69,10 +68,6 @@ gentle_from_small start ps slopes small k inside =
     let high = ends_rise_to start.first ps slopes (suc k) (length ps) inside (omega arith) in
     let a = (small e (omega (arith, ints)) (omega (arith, ints))).1 in
     let b = (small (e +ℤ pos 1) (omega (arith, ints)) (omega (arith, ints))).1 in
-    let al = a.at_least in
-    let ah = a.at_most in
-    let bl = b.at_least in
-    let bh = b.at_most in
     record { at_least = omega (arith, ints); at_most = omega (arith, ints) }
 
 -- ---- the step
@@ -158,8 +153,6 @@ step_high hi most b up h = (omega (arith, ints, clamps), omega (arith, ints, cla
 
 pub step_output : (least lo hi most : ℤ) → IsOutput least → IsOutput most → least ≤ℤ lo → lo ≤ℤ hi → hi ≤ℤ most → IsOutput lo
 step_output least lo hi most a b p q r =
-    let x = a.at_least in
-    let y = b.at_most in
     record { at_least = omega (arith, ints); at_most = omega (arith, ints) }
 
 -- ---- the values after a step
@@ -171,10 +164,6 @@ module _ (start : Start) (ps : List Piece) (s : Step) (c : Curve) (m lo hi : ℤ
   stepped_within x low high =
       let l = step_low lo s.least start.first s.ramp_down lo_is in
       let h = step_high hi s.most (last_place start.first ps) s.ramp_up hi_is in
-      let l0 = l.0 in
-      let l1 = l.1 in
-      let h0 = h.0 in
-      let h1 = h.1 in
       let out = step_output s.least x x s.most fair.least fair.most (omega (arith, ints)) (omega (arith, ints)) (omega (arith, ints)) in
       let n = nearest_inside start.first (last_place start.first ps) m s.ramp_up s.ramp_down x valley.from valley.to (omega (arith, ints)) (omega (arith, ints)) fair.ramp_up.at_least fair.ramp_down.at_least in
       let near = nearest s.ramp_up s.ramp_down m x in

@@ -108,8 +108,6 @@ module _ (f : ℤ → ℤ) (a b m : ℤ) (v : IsValley f a b m) where
     near_least x y low high from to reach back =
         let q = nearest up down m x in
         let i = near_inside x low high in
-        let qa = i.0 in
-        let qb = i.1 in
         by_lt_z q m
         (λ (l : q <ℤ m).
         let below : y ≤ℤ q = omega (arith, ints, clamps) in
@@ -140,9 +138,6 @@ module _ (f : ℤ → ℤ) (a b m : ℤ) (v : IsValley f a b m) where
           let o = on_back f a b y w h in
           let from = o.from in
           let to = o.to in
-          let e = o.value in
-          let l = inside.0 in
-          let r = inside.1 in
           let p = reach.0 in
           let q = reach.1 in
           let low : lo ≤ℤ x = omega (arith, ints, clamps) in

@@ -44,7 +44,6 @@ module _ (k : ℤ → ℤ) (a b m : ℤ) (v : IsValley k a b m) (up down : ℤ) 
 
   pub part_flat : (e x' : ℤ) → y ≡ m → x <ℤ (y +ℤ up) → IsFlat k y e → x' ≡ e +ℤ up → IsPart k up down m x x' e (pos 0)
   part_flat e x' turn short flat is =
-      let order = flat.from in
       let same : (z : ℤ) → x ≤ℤ z → z ≤ℤ x' → k (nearest up down m z) ≡ k y = λ z from to. flat.same (nearest up down m z) (omega (arith, ints, clamps)) (omega (arith, ints, clamps)) in
       record {
         line = line_flat (λ z. k (nearest up down m z)) x x' (omega (arith, ints)) (λ z from to. same z from to ∙ sym (same x (omega (arith, ints)) (omega (arith, ints))));
@@ -54,7 +53,6 @@ module _ (k : ℤ → ℤ) (a b m : ℤ) (v : IsValley k a b m) (up down : ℤ) 
   pub part_rising : (e s x' : ℤ) → m ≤ℤ y → (y +ℤ up) ≤ℤ x → IsLine k y e s → x' ≡ e +ℤ up → IsPart k up down m x x' e s
   part_rising e s x' above long line is =
       let at : x ≡ y +ℤ up = omega (arith, ints, clamps) in
-      let rise = line.rise in
       record {
         line = line_same (λ z. k (z +ℤ (pos 0 -ℤ up))) (λ z. k (nearest up down m z)) x x' s
             (line_moved k y e s (pos 0 -ℤ up) x x' line (omega (arith, ints)) (omega (arith, ints)))
@@ -92,7 +90,6 @@ module _ (ps : List Piece) (s : Step) (place place' : Place) (x x' : ℤ) where
 
 pub flat_from_line : (f : ℤ → ℤ) (a b s : ℤ) → IsLine f a b s → s ≡ pos 0 → IsFlat f a b
 flat_from_line f a b s l none =
-    let rise = l.rise in
     record {
       from = omega (arith, ints);
       same = λ x low high.

@@ -39,9 +39,6 @@ loop-there-init c =
     let ew = to_z-of_z w64 c.seek-there.result.value fw in
     let es = to_z-of_z w64 c.args.shift c.ranges.shift in
     let at = to_z w64 (of_z w64 c.args.other.first) in
-    let hv = c.seek-here.ensures.value in
-    let tv = c.seek-there.ensures.value in
-    let over = c.if-is_over.ensures in
     record {
       from = omega (arith, ints);
       here = record { value = c.seek-here.ensures.value; placed = c.seek-here.ensures.placed };
@@ -109,9 +106,6 @@ loop-there-preserved c =
     let ew = to_z-of_z w64 c.go_on-there.result.value fw in
     let es = to_z-of_z w64 c.args.shift c.ranges.shift in
     let over : (c.go_on-here.result.value +ℤ to_z w64 (of_z w64 c.args.shift)) ≤ℤ c.go_on-there.result.value = (rw (ev, ew) at c.if-is_over-2.ensures) (search rules) in
-    let hv = c.go_on-here.ensures.reached.value in
-    let tv = c.go_on-there.ensures.reached.value in
-    let rise = c.go_on-here.ensures.line.rise in
     record {
       from = (let f = was.from in omega (arith, ints));
       here = c.go_on-here.ensures.reached;

@@ -41,8 +41,6 @@ next_part-part-requires-clause-near c =
 
 pub next_part-part-requires-clause-low : goal.next_part-part-requires-clause-low
 next_part-part-requires-clause-low c =
-    let a = c.loop-pen.invariant.low in
-    let b = c.requires.low in
     omega (arith, ints)
 
 pub next_part-part-requires-clause-high : goal.next_part-part-requires-clause-high
@@ -50,17 +48,12 @@ next_part-part-requires-clause-high c = omega (arith, ints)
 
 pub overflow_add-part : goal.overflow_add-part
 overflow_add-part c =
-    let a = c.next_part-part.ensures.steep.at_least in
-    let b = c.next_part-part.ensures.steep.at_most in
-    let d = c.args.window.now.valid.fair.slope.at_least in
-    let e = c.args.window.now.valid.fair.slope.at_most in
     omega (arith, ints)
 
 pub put-pen-requires-clause-rise : goal.put-pen-requires-clause-rise
 put-pen-requires-clause-rise c =
     let f : FitsSigned w64 c.loop-pen.pen.at = search rules in
     let line = rw (to_z-of_z w64 c.loop-pen.pen.at f) at c.next_part-part.ensures.line in
-    let rise = line.rise in
     omega (arith, ints, clamps)
 
 pub put-pen-requires-clause-block : goal.put-pen-requires-clause-block
@@ -68,29 +61,21 @@ put-pen-requires-clause-block c = c.loop-pen.invariant.block (omega (arith, ints
 
 pub put-pen-requires-clause-costs : goal.put-pen-requires-clause-costs
 put-pen-requires-clause-costs c =
-    let low = c.loop-pen.invariant.low in
     λ x from to. c.requires.costs x (omega (arith, ints)) (omega (arith, ints, clamps))
 
 pub put-pen-requires-clause-total : goal.put-pen-requires-clause-total
 put-pen-requires-clause-total c =
-    let a = c.next_part-part.ensures.steep.at_least in
-    let b = c.next_part-part.ensures.steep.at_most in
-    let d = c.args.window.now.valid.fair.slope.at_least in
-    let e = c.args.window.now.valid.fair.slope.at_most in
     record { at_least = omega (arith, ints); at_most = omega (arith, ints) }
 
 pub put-pen-requires-clause-room : goal.put-pen-requires-clause-room
 put-pen-requires-clause-room c =
     let p = c.loop-pen.invariant.parts (omega (arith, ints)) in
-    let room = c.requires.room in
     omega arith
 
 pub loop-pen-smaller : goal.loop-pen-smaller
 loop-pen-smaller c =
     let f : FitsSigned w64 c.loop-pen.pen.at = search rules in
     let line = rw (to_z-of_z w64 c.loop-pen.pen.at f) at c.next_part-part.ensures.line in
-    let rise = line.rise in
-    let at = c.put-pen.ensures.at in
     nearer c.loop-pen.pen.at c.put-pen.result.at c.args.window.now.high (omega (arith, ints, clamps)) (omega (arith, ints, clamps))
 
 pub loop-pen-preserved : goal.loop-pen-preserved
@@ -106,13 +91,8 @@ loop-pen-preserved c =
     let line = rw fa at c.next_part-part.ensures.line in
     let rise = line.rise in
     let at = c.put-pen.ensures.at in
-    let lower = was.low in
     let test : pen.at <ℤ w.high = omega (arith, ints) in
     let end : new.at ≡ int_min part.end w.high = omega (arith, ints, clamps) in
-    let a = c.next_part-part.ensures.steep.at_least in
-    let b = c.next_part-part.ensures.steep.at_most in
-    let d = w.valid.fair.slope.at_least in
-    let e = w.valid.fair.slope.at_most in
     let slope = to_z w64 (of_z w64 (to_z w64 (of_z w64 part.slope) +ℤ to_z w64 (of_z w64 w.step.slope))) in
     let stop = to_z w64 (of_z w64 c.min-end.result) in
     let es : slope ≡ part.slope +ℤ w.step.slope = omega (arith, ints) in
@@ -126,7 +106,6 @@ loop-pen-preserved c =
     let p = was.parts test in
     let fewer = rw fa at c.next_part-part.ensures.fewer in
     let used = c.put-pen.ensures.used in
-    let inside = c.put-pen.ensures.block.inside in
     let same = clip.same in
     record {
       placed = c.next_part-part.ensures.placed;
@@ -148,11 +127,8 @@ returns-clause-drawn c = c.loop-pen.invariant.drawn.pieces
 pub returns-clause-ends : goal.returns-clause-ends
 returns-clause-ends c =
     let m = c.loop-pen.invariant.drawn.meets in
-    let h = c.loop-pen.invariant.high in
     m ∙ omega (arith, ints)
 
 pub returns-clause-used : goal.returns-clause-used
 returns-clause-used c =
-    let u = c.loop-pen.invariant.used in
-    let b = c.loop-pen.invariant.blocks in
     omega arith

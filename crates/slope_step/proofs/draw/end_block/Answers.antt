@@ -25,16 +25,12 @@ write-written-requires-clause-total c = rw (to_z-of_z w64 c.args.slope c.ranges.
 pub next_block-requires-clause-block : goal.next_block-requires-clause-block
 next_block-requires-clause-block c =
     let f : FitsSigned w64 c.args.pen.block_end = search rules in
-    let e = c.write-written.ensures.at in
-    let l = c.if-pen.true in
     in_block_at c.args.curve.now c.args.pen.at c.args.pen.block c.args.pen.block_end c.requires.block c.write-written.result.at c.write-written.result.block c.write-written.result.block_end
     (omega (arith, ints)) c.write-written.ensures.block.0 c.write-written.ensures.block.1
 
 pub next_block-requires-clause-passed : goal.next_block-requires-clause-passed
 next_block-requires-clause-passed c =
     let f : FitsSigned w64 c.args.pen.block_end = search rules in
-    let e = c.write-written.ensures.at in
-    let b = c.write-written.ensures.block.1 in
     omega (arith, ints)
 
 pub next_block-requires-clause-more : goal.next_block-requires-clause-more
@@ -48,7 +44,6 @@ returns-then-pen-clause-drawn c = λ f lo end short line d.
     let fe : FitsSigned w64 c.args.pen.block_end = search rules in
     let es = to_z-of_z w64 c.args.slope c.ranges.slope in
     let eb = to_z-of_z w64 c.args.pen.block_end fe in
-    let up = c.if-pen.true in
     let part = line_part f c.args.pen.at end c.args.slope c.args.pen.at c.args.pen.block_end line (omega (arith, ints)) (omega (arith, ints)) (omega (arith, ints)) in
     let w = (rw (es, eb) at c.write-written.ensures.drawn) f lo part d in
     drawn_same (with_cost f c.args.curve.now) lo _ c.write-written.result _ w c.next_block.ensures.same.1 c.next_block.ensures.same.0
@@ -71,9 +66,6 @@ returns-then-pen-clause-used c =
 pub returns-then-pen-clause-at : goal.returns-then-pen-clause-at
 returns-then-pen-clause-at c =
     let f : FitsSigned w64 c.args.pen.block_end = search rules in
-    let a = c.next_block.ensures.same.0 in
-    let b = c.write-written.ensures.at in
-    let l = c.if-pen.true in
     omega (arith, ints, clamps)
 
 pub next_block-requires-2-clause-passed : goal.next_block-requires-2-clause-passed
@@ -93,6 +85,4 @@ returns-clause-used c =
 
 pub returns-clause-at : goal.returns-clause-at
 returns-clause-at c =
-    let a = c.next_block-2.ensures.same.0 in
-    let l = c.if-pen.false in
     omega (arith, ints, clamps)

@@ -8,7 +8,6 @@ use Rattle.slope_step.proofs.draw.put.Goals as goal
 pub loop-pen-init : goal.loop-pen-init
 loop-pen-init c =
     let ee = to_z-of_z w64 c.args.end c.ranges.end in
-    let r = c.requires.rise in
     record {
       low = omega (arith, ints);
       high = omega (arith, ints);
@@ -22,8 +21,6 @@ end_block-pen-requires-clause-block c = c.loop-pen.invariant.block
 
 pub end_block-pen-requires-clause-costs : goal.end_block-pen-requires-clause-costs
 end_block-pen-requires-clause-costs c =
-    let low = c.loop-pen.invariant.low in
-    let t = c.loop-pen-test.true in
     λ x from to. c.requires.costs x (omega (arith, ints)) (omega (arith, ints))
 
 pub end_block-pen-requires-clause-total : goal.end_block-pen-requires-clause-total
@@ -32,24 +29,18 @@ end_block-pen-requires-clause-total c = rw (to_z-of_z w64 c.args.slope c.ranges.
 pub end_block-pen-requires-clause-more : goal.end_block-pen-requires-clause-more
 end_block-pen-requires-clause-more c =
     let cv = c.args.curve.now in
-    let r = c.requires.rise in
     let k = c.requires.costs c.args.end (omega (arith, ints)) (omega (arith, ints)) in
     block_more cv c.loop-pen.pen.at c.loop-pen.pen.block c.loop-pen.pen.block_end c.args.end c.loop-pen.invariant.block (omega (arith, ints)) (on_curve cv c.args.end k.0 (wide_of cv c.requires.limited) k.1)
 
 pub end_block-pen-requires-clause-room : goal.end_block-pen-requires-clause-room
 end_block-pen-requires-clause-room c =
     let cv = c.args.curve.now in
-    let r = c.requires.rise in
     let k = c.requires.costs c.args.end (omega (arith, ints)) (omega (arith, ints)) in
     let m = block_more cv c.loop-pen.pen.at c.loop-pen.pen.block c.loop-pen.pen.block_end c.args.end c.loop-pen.invariant.block (omega (arith, ints)) (on_curve cv c.args.end k.0 (wide_of cv c.requires.limited) k.1) in
-    let u = c.loop-pen.invariant.used in
-    let room = c.requires.room in
     omega arith
 
 pub loop-pen-smaller : goal.loop-pen-smaller
 loop-pen-smaller c =
-    let n = c.end_block-pen.ensures.next in
-    let b = c.end_block-pen.ensures.block.inside in
     omega arith
 
 pub loop-pen-preserved : goal.loop-pen-preserved
@@ -58,12 +49,8 @@ loop-pen-preserved c =
     let es = to_z-of_z w64 c.args.slope c.ranges.slope in
     let ee = to_z-of_z w64 c.args.end c.ranges.end in
     let at = c.end_block-pen.ensures.at in
-    let t = c.loop-pen-test.true in
     let low = was.low in
     let high = was.high in
-    let n = c.end_block-pen.ensures.next in
-    let u = c.end_block-pen.ensures.used in
-    let v = was.used in
     let written = rw es at c.end_block-pen.ensures.drawn in
     record {
       low = omega (arith, ints, clamps);
@@ -85,7 +72,6 @@ write-requires-clause-within c = omega (arith, ints)
 
 pub write-requires-clause-costs : goal.write-requires-clause-costs
 write-requires-clause-costs c =
-    let low = c.loop-pen.invariant.low in
     let ee = to_z-of_z w64 c.args.end c.ranges.end in
     λ x from to. c.requires.costs x (omega (arith, ints)) (omega (arith, ints))
 
@@ -94,9 +80,6 @@ write-requires-clause-total c = rw (to_z-of_z w64 c.args.slope c.ranges.slope) c
 
 pub write-requires-clause-room : goal.write-requires-clause-room
 write-requires-clause-room c =
-    let u = c.loop-pen.invariant.used in
-    let b = c.loop-pen.invariant.block.inside in
-    let room = c.requires.room in
     omega arith
 
 pub returns-clause-drawn : goal.returns-clause-drawn
@@ -104,8 +87,6 @@ returns-clause-drawn c = λ f lo line d.
     let was = c.loop-pen.invariant in
     let es = to_z-of_z w64 c.args.slope c.ranges.slope in
     let ee = to_z-of_z w64 c.args.end c.ranges.end in
-    let low = was.low in
-    let high = was.high in
     let part = line_part f c.args.from.at c.args.end c.args.slope c.loop-pen.pen.at c.args.end line (omega (arith, ints)) (omega (arith, ints)) (omega (arith, ints)) in
     (rw (es, ee) at c.write.ensures.drawn) f lo part ((rw (es, ee) at was.drawn) f lo line d)
 
@@ -115,12 +96,8 @@ returns-clause-at c = let a = c.write.ensures.at in omega (arith, ints)
 pub returns-clause-block : goal.returns-clause-block
 returns-clause-block c =
     let was = c.loop-pen.invariant in
-    let high = was.high in
     in_block_at c.args.curve.now c.loop-pen.pen.at c.loop-pen.pen.block c.loop-pen.pen.block_end was.block c.args.end c.write.result.block c.write.result.block_end (omega (arith, ints)) c.write.ensures.block.0 c.write.ensures.block.1
 
 pub returns-clause-used : goal.returns-clause-used
 returns-clause-used c =
-    let u = c.loop-pen.invariant.used in
-    let a = c.write.ensures.used in
-    let b = c.write.ensures.block.0 in
     omega arith

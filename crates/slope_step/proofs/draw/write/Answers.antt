@@ -20,8 +20,6 @@ pub overflow_add-out : goal.overflow_add-out
 overflow_add-out c =
     let j = c.args.pen.block in
     let p = price_within c.args.curve.now c.requires.limited c.args.pen.at c.args.end j c.args.pen.block_end c.requires.rise c.requires.block c.requires.within c.requires.costs in
-    let a = p.at_least in
-    let b = p.at_most in
     let e = ap (λ (bs : List Block). (block bs j).price) c.as_slice.ensures in
     omega (arith, ints, e)
 
@@ -30,13 +28,7 @@ returns-clause-drawn c = λ f lo line d.
     let cv = c.args.curve.now in
     let j = c.args.pen.block in
     let p = price_within cv c.requires.limited c.args.pen.at c.args.end j c.args.pen.block_end c.requires.rise c.requires.block c.requires.within c.requires.costs in
-    let a = p.at_least in
-    let b = p.at_most in
-    let t = c.requires.total.at_least in
-    let u = c.requires.total.at_most in
     let e = ap (λ (bs : List Block). (block bs j).price) c.as_slice.ensures in
-    let ends = c.requires.block.ends in
-    let within = c.requires.within in
     let cost = cost_line cv (wide_of cv c.requires.limited) j c.requires.block.inside c.args.pen.at c.args.end c.requires.rise c.requires.block.begun (omega (arith, ints)) in
     let sum = line_sum f (cost_at cv) c.args.pen.at c.args.end c.args.slope (block cv.blocks.items j).price line cost in
     let ee : to_z w64 (of_z w64 c.args.end) ≡ c.args.end = to_z-of_z w64 _ c.ranges.end in

@@ -87,7 +87,6 @@ pub returns-then-next-pieces-clause-placed : goal.returns-then-next-pieces-claus
 returns-then-next-pieces-clause-placed c =
     let was = c.loop-next.invariant in
     let ea = to_z-of_z w64 c.args.at c.ranges.at in
-    let inside = c.if-next-pieces.true in
     record {
       some = was.some;
       from = omega (arith, ints);

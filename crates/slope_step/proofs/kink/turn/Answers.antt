@@ -17,7 +17,6 @@ part_at-part-requires-clause-to c = c.loop-place.invariant.placed.to (omega arit
 pub loop-place-preserved : goal.loop-place-preserved
 loop-place-preserved c =
     let was = c.loop-place.invariant in
-    let e = c.part_at-part.ensures.then in
     let line = c.part_at-part.ensures.line c.args.start c.requires.slopes was.placed in
     record {
       placed = c.part_at-part.ensures.placed c.args.start.first c.requires.slopes was.placed;
@@ -29,7 +28,6 @@ loop-place-preserved c =
 pub returns-then-part-ge0 : goal.returns-then-part-ge0
 returns-then-part-ge0 c =
     let was = c.loop-place.invariant in
-    let e = c.part_at-part.ensures.then in
     let line = c.part_at-part.ensures.line c.args.start c.requires.slopes was.placed in
     let next = c.part_at-part.ensures.placed c.args.start.first c.requires.slopes was.placed in
     let within = (placed_within c.args.start.first c.args.pieces.now c.part_at-part.result.then c.requires.slopes next).1 in

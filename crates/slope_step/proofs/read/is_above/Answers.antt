@@ -51,30 +51,20 @@ loop-piece-preserved c =
 
 pub exceeds-requires-clause-value : goal.exceeds-requires-clause-value
 exceeds-requires-clause-value c =
-    let was = c.loop-piece.invariant in
     let ps = c.args.pieces.now in
     let k = c.loop-piece.piece-index in
     let low = ends_rise_to c.args.start.first ps c.requires.slopes 0 k (omega arith) (omega arith) in
     let high = ends_rise_to c.args.start.first ps c.requires.slopes k (length ps) (omega arith) (omega arith) in
-    let e = was.at_is in
     let w = c.requires.within (to_z w64 c.loop-piece.at-bits) (omega (arith, ints)) (omega (arith, ints)) in
-    let is = was.value_is in
-    let a = w.1.0 in
-    let b = w.1.1 in
     (omega (arith, ints), omega (arith, ints))
 
 pub exceeds-requires-2-clause-value : goal.exceeds-requires-2-clause-value
 exceeds-requires-2-clause-value c =
-    let was = c.loop-piece.invariant in
     let ps = c.args.pieces.now in
     let k = c.loop-piece.piece-index in
     let low = ends_rise_to c.args.start.first ps c.requires.slopes 0 k (omega arith) (omega arith) in
     let high = ends_rise_to c.args.start.first ps c.requires.slopes k (length ps) (omega arith) (omega arith) in
-    let e = was.at_is in
     let w = c.requires.within (to_z w64 c.loop-piece.at-bits) (omega (arith, ints)) (omega (arith, ints)) in
-    let is = was.value_is in
-    let a = w.1.0 in
-    let b = w.1.1 in
     (omega (arith, ints), omega (arith, ints))
 
 pub returns-then-piece-ge0 : goal.returns-then-piece-ge0
@@ -87,7 +77,6 @@ returns-then-piece-ge0 c =
     let v : IsValley f first last m = subst (λ (z : ℤ). IsValley f first last z) (sym was.at_is)
     (valley_at c.args.start c.args.pieces.now c.requires.slopes c.loop-piece.piece-index (omega arith) was.falls (λ h. omega (arith, ints))) in
     let over : c.args.limit <ℤ (to_z w64 c.loop-piece.value-bits +ℤ c.args.shift) = rw (to_z-of_z w64 c.args.shift c.ranges.shift, to_z-of_z w64 c.args.limit c.ranges.limit) at (c.exceeds.ensures (search rules)) in
-    let is : to_z w64 c.loop-piece.value-bits ≡ f m = was.value_is in
     above_all f first last m v c.args.shift c.args.limit (omega (arith, ints))
 
 pub returns : goal.returns
@@ -102,5 +91,4 @@ returns c =
     OnTrue_from c.exceeds-2.result (IsAbove (table_of c.args.start c.args.pieces.now) c.args.shift c.args.limit)
     (λ t.
     let over : c.args.limit <ℤ (to_z w64 c.loop-piece.value-bits +ℤ c.args.shift) = rw (to_z-of_z w64 c.args.shift c.ranges.shift, to_z-of_z w64 c.args.limit c.ranges.limit) at (c.exceeds-2.ensures t) in
-    let is : to_z w64 c.loop-piece.value-bits ≡ f m = was.value_is in
     above_all f first last m v c.args.shift c.args.limit (omega (arith, ints)))

@@ -15,18 +15,12 @@ returns-then-low-high c =
 
 pub spot_at-requires-clause-from : goal.spot_at-requires-clause-from
 spot_at-requires-clause-from c =
-    let v = c.fall.ensures.valley in
-    let from = v.from in
-    let to = v.to in
     let ff : FitsSigned w64 c.args.start.first = search rules in
     let last : c.last_place.result ≡ last_place c.args.start.first c.args.pieces.now = rw (to_z-of_z w64 c.args.start.first ff) at c.last_place.ensures in
     omega (arith, ints, clamps)
 
 pub spot_at-requires-clause-to : goal.spot_at-requires-clause-to
 spot_at-requires-clause-to c =
-    let v = c.fall.ensures.valley in
-    let from = v.from in
-    let to = v.to in
     let ff : FitsSigned w64 c.args.start.first = search rules in
     let last : c.last_place.result ≡ last_place c.args.start.first c.args.pieces.now = rw (to_z-of_z w64 c.args.start.first ff) at c.last_place.ensures in
     omega (arith, ints, clamps)
