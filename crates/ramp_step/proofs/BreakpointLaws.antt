@@ -108,9 +108,7 @@ module _ (ks : List Knot) (m : ℕ) (b : AreBreakpoints ks (suc m)) where
   convex_part x low high =
       let r = behind ks m x low (omega (arith, ints)) in
       let k = r.at in
-      let inside = r.bound in
       let from = r.from in
-      let to = r.to in
       by_lt_z x (place ks (k + 1))
       (λ within. let e = straight_part k (omega arith) x from within in omega (arith, ints))
       (λ knot. elim (cases_lt (k + 1) m) [

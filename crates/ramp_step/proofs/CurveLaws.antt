@@ -64,8 +64,6 @@ rise_straight (b ∷ bs) s lo hi out x low high =
 first_slope : (p : ℤ) (bs : List Block) (s : ℤ) → AreBlocks p bs → s <ℤ block_end bs s (length bs) → p ≤ℤ (rise_over bs s (s +ℤ pos 1) -ℤ rise_over bs s s)
 first_slope p [] s are h = absurd (omega (arith, ints))
 first_slope p (b ∷ bs) s are h =
-    let low = are.0 in
-    let width = are.1 in
     by_lt_z (pos 0) b.width
     (λ some.
     let e = rise_left b bs s s (omega (arith, ints)) in
@@ -133,8 +131,6 @@ IsRefined-more bs s j ks k1 k2 n n1 n2 x r split e = record {
   apart = λ k h i l. elim (cases_lt i j) [
     | inl earlier ↦
         let p = split.finer k h in
-        let from = p.from in
-        let to = p.to in
         elim (r.apart p.old p.bound i earlier) [
           | inl high ↦ inl (omega (arith, ints))
           | inr low ↦ inr (omega (arith, ints))
@@ -161,7 +157,6 @@ block_end_far p (b ∷ bs) s (suc j) are = let rest = block_end_far b.price bs (
 pub rise_zero : (p : ℤ) (bs : List Block) (s : ℤ) → AreBlocks p bs → rise_over bs s s ≡ pos 0
 rise_zero p [] s are = refl
 rise_zero p (b ∷ bs) s are =
-    let width = are.1 in
     let e = rise_left b bs s s (omega (arith, ints)) in
     let a : b.price *ℤ (s -ℤ s) ≡ pos 0 = ap (λ z. b.price *ℤ z) (none s) ∙ *ℤ-zero b.price in
     let rest = rise_zero b.price bs (s +ℤ b.width) are.2 in
@@ -172,7 +167,6 @@ pub rise_in : (p : ℤ) (bs : List Block) (s : ℤ) (j : ℕ) (d : Block) (x : �
     → rise_over bs s x ≡ rise_over bs s (block_end bs s j) +ℤ (get_or bs j d).price *ℤ (x -ℤ block_end bs s j)
 rise_in p [] s j d x are h low high = absurd (omega arith)
 rise_in p (b ∷ bs) s zero d x are h low high =
-    let width = are.1 in
     let e = rise_left b bs s x high in
     let e0 = rise_left b bs s s (omega (arith, ints)) in
     let a : b.price *ℤ (s -ℤ s) ≡ pos 0 = ap (λ z. b.price *ℤ z) (none s) ∙ *ℤ-zero b.price in

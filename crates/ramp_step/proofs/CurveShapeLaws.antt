@@ -155,15 +155,7 @@ module _ (c : Curve) (shift : ℤ) (ks : List Knot) (n : ℕ) (some : 0 < n) (sh
       let are = lowest.1 in
       let first = is_inside ks n shape.0 0 shape.1 some in
       let o = IsOver-curve (place ks 0) first in
-      let o0 = o.0 in
-      let o1 = o.1 in
       let near = (within (place ks 0) (shape.0 (place ks 0)) (value_inside ks n shape.0 shape.1 (place ks 0) first)).0 in
-      let n0 = near.0 in
-      let n1 = near.1 in
-      let a0 = limited.first_place.0 in
-      let a1 = limited.first_place.1 in
-      let z0 = limited.last_place.0 in
-      let z1 = limited.last_place.1 in
       let end = end_shifted bs c.at shift in
       let last = end_is bs c.at in
       record {

@@ -135,7 +135,6 @@ module _ (ks ks' : List Knot) (n m : ℕ) (f : ℤ → ℤ) (x : ℤ) (q : Knot)
     straight = λ k h y from to.
         let p = part_of k h in
         let a = p.from in
-        let b = p.to in
         s.straight p.old p.bound y (omega (arith, ints)) (omega (arith, ints));
     convex = λ y from to.
         let a = before_place 0 some in
@@ -288,7 +287,6 @@ pub IsCut-below : (ks ks1 ks' : List Knot) (n0 n m : ℕ) (lo : ℤ) → IsShape
 IsCut-below ks ks1 ks' n0 n m lo shape split b d =
     let f = shape.0 in
     let s = split.function f shape.1 in
-    let within = b.within in
     record {
       function = λ f' s'. elim (cases_lt m n) [
         | inl inside ↦ StandFor-dropped ks1 ks' n m f' (split.function f' s') inside d
@@ -296,8 +294,6 @@ IsCut-below ks ks1 ks' n0 n m lo shape split b d =
       ];
       inside = λ x h.
           let some = h.some in
-          let from = h.from_first in
-          let to = h.to_last in
           let was = was_some ks ks1 n0 n split.ends (omega arith) in
           let e0 = dropped_place ks1 ks' n m f s (omega arith) d 0 (omega arith) in
           let e1 : place ks1 (0 + m) ≡ place ks1 m = ap (place ks1) (omega arith) in
@@ -310,8 +306,6 @@ IsCut-below ks ks1 ks' n0 n m lo shape split b d =
           (record { some = was; from_first = omega (arith, ints); to_last = omega (arith, ints) }, omega (arith, ints));
       back = λ x h low.
           let was = h.some in
-          let from = h.from_first in
-          let to = h.to_last in
           let first = split.ends.first was in
           let last = split.ends.last was in
           let some = split.ends.some was in
@@ -349,7 +343,6 @@ IsCut-at ks ks1 n0 n m hi shape split inside there =
 -- no knot is at hi: all are below it, or none
 all_or_none : (ks ks1 : List Knot) (n0 n m : ℕ) (hi : ℤ) → IsSplit hi ks n0 ks1 n → AreBelow ks1 n hi m → (m < n → place ks1 m ≡ hi → ⊥) → (m ≡ n) ⊎ (m ≡ 0)
 all_or_none ks ks1 n0 n m hi split b off =
-    let within = b.within in
     elim (cases_lt m n) [
       | inr whole ↦ inl (omega arith)
       | inl inside ↦ elim (cases_lt 0 m) [
@@ -372,8 +365,6 @@ IsCut-off ks ks1 n0 n m hi shape split b off =
       function = λ f' s'. StandFor-fewer ks1 n m f' (split.function f' s') within;
       inside = λ x h.
           let some = h.some in
-          let from = h.from_first in
-          let to = h.to_last in
           let was = was_some ks ks1 n0 n split.ends (omega arith) in
           let first = split.ends.first was in
           let last = split.ends.last was in
@@ -386,8 +377,6 @@ IsCut-off ks ks1 n0 n m hi shape split b off =
           ];
       back = λ x h low.
           let was = h.some in
-          let from = h.from_first in
-          let to = h.to_last in
           let first = split.ends.first was in
           let last = split.ends.last was in
           let some = split.ends.some was in

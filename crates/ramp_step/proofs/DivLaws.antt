@@ -20,8 +20,6 @@ exact_div a s (pos n) h e =
     let t = s -ℤ q in
     let back : s *ℤ d ≡ d *ℤ q +ℤ d *ℤ t = *ℤ_comm s d ∙ ap (λ z. d *ℤ z) (omega (arith, ints)) ∙ mul-add d q t in
     let turn = *ℤ_comm q d in
-    let low = small.0 in
-    let high = small.1 in
     by_lt_z q s
     (λ less.
     let m = mul-mono_of d (pos 1) t (omega (arith, ints)) (omega (arith, ints)) in
@@ -55,10 +53,6 @@ part_of_rise s d e h i =
 
 pub amount_part : (va vb s d e : ℤ) → vb ≡ va +ℤ s *ℤ e → pos 0 ≤ℤ d → d ≤ℤ e → IsAmount va → IsAmount vb → IsAmount (va +ℤ s *ℤ d)
 amount_part va vb s d e whole low high a b =
-    let a0 = a.0 in
-    let a1 = a.1 in
-    let b0 = b.0 in
-    let b1 = b.1 in
     elim (part_of_rise s d e low high) [
       | inl p ↦ let p0 = p.0 in let p1 = p.1 in (omega (arith, ints), omega (arith, ints))
       | inr p ↦ let p0 = p.0 in let p1 = p.1 in (omega (arith, ints), omega (arith, ints))

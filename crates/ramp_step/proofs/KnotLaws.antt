@@ -97,8 +97,6 @@ inside_same ks ks' n n' x e h =
     let was : 0 < n = elim (cases_lt 0 n) [ inl y ↦ y | inr empty ↦ let z = e.none (omega arith) in absurd (omega arith) ] in
     let first = e.first was in
     let last = e.last was in
-    let from = h.from_first in
-    let to = h.to_last in
     record { some = was; from_first = omega (arith, ints); to_last = omega (arith, ints) }
 
 pub HaveSameEnds-back : (ks ks' : List Knot) (n n' : ℕ) → HaveSameEnds ks n ks' n' → HaveSameEnds ks' n' ks n

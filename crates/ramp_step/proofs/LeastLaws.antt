@@ -96,10 +96,7 @@ module _ (ks : List Knot) (n j : ℕ) (f : ℤ → ℤ) (s : StandFor ks n f) (t
     least = λ y h.
         let low = h.inside.from_first in
         let high = h.inside.to_last in
-        let from = h.from in
-        let to = h.to in
         let x = int_max lo (int_min hi (place ks j)) in
-        let x_low = inside.from_first in
         by_lt_z y x
         (λ before. let d = falls_below y x low before (omega (arith, ints, clamps)) in omega (arith, ints))
         (λ after. by_lt_z x y
@@ -107,7 +104,6 @@ module _ (ks : List Knot) (n j : ℕ) (f : ℤ → ℤ) (s : StandFor ks n f) (t
         (λ upto. let e : f y ≡ f x = ap f (omega (arith, ints)) in omega (arith, ints)));
     first = λ y h e.
         let low = h.inside.from_first in
-        let from = h.from in
         let x = int_max lo (int_min hi (place ks j)) in
         by_lt_z y x
         (λ before. let d = falls_below y x low before (omega (arith, ints, clamps)) in absurd (omega (arith, ints)))
@@ -117,10 +113,6 @@ module _ (ks : List Knot) (n j : ℕ) (f : ℤ → ℤ) (s : StandFor ks n f) (t
   -- where there is a place left, that place is in the interval
   pub HasNoPlace-within : (lo hi : ℤ) → (IsInside ks n (int_max lo (int_min hi (place ks j))) → ⊥) → HasNoPlace (IsInsideWithin lo hi ks n)
   HasNoPlace-within lo hi outside y h =
-      let low = h.inside.from_first in
-      let high = h.inside.to_last in
-      let from = h.from in
-      let to = h.to in
       let a = turn_from_first in
       let b = turn_to_last in
       outside (record { some = h.inside.some; from_first = omega (arith, ints, clamps); to_last = omega (arith, ints, clamps) })

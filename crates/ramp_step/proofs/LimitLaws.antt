@@ -21,13 +21,10 @@ IsLimited-within ks n w = record {
 amount_inside : (ks : List Knot) (n : ℕ) (f : ℤ → ℤ) → StandFor ks n f → AreWithinLimits ks n → (x : ℤ) → IsInside ks n x → IsAmount (f x)
 amount_inside ks n f s w x h =
     let some = h.some in
-    let low = h.from_first in
     by_lt_z (place ks 0) x
     (λ past.
     let b = behind ks (n - 1) x past h.to_last in
     let k = b.at in
-    let inside = b.bound in
-    let from = b.from in
     let to = b.to in
     let rise = s.rise k (omega arith) in
     let straight = s.straight k (omega arith) in
@@ -46,8 +43,6 @@ IsWithinLimits-from_knots ks n shape w x v h =
     let f = shape.0 in
     let i = inside_value ks n f shape.1 x v h in
     let some = i.inside.some in
-    let from = i.inside.from_first in
-    let to = i.inside.to_last in
     let a = (w.places 0 some).0 in
     let b = (w.places (n - 1) (omega arith)).1 in
     ((omega (arith, ints), omega (arith, ints)), subst IsAmount i.is (amount_inside ks n f shape.1 w x i.inside))

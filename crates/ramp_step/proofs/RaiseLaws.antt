@@ -23,7 +23,6 @@ pub next_level : (v : ℤ) (bs : List Block) (s : ℤ) (j : ℕ) (d : Block) →
 next_level v bs s j d l h order =
     let next = block_end_next bs s j d h in
     let b = on_block_is v bs s j d (block_end bs s (j + 1)) l h order (omega (arith, ints)) in
-    let is = b.is in
     let way : (get_or bs j d).price *ℤ (get_or bs j d).width ≡ (get_or bs j d).price *ℤ (block_end bs s (j + 1) -ℤ block_end bs s j) = ap (λ (z : ℤ). (get_or bs j d).price *ℤ z) (omega (arith, ints)) in
     omega (arith, ints)
 

@@ -37,8 +37,6 @@ module _ (ks ks' : List Knot) (n from n' : ℕ) (run : IsRun ks n from ks' n') (
 
   last_place : place ks' (n' - 1) ≤ℤ place ks (n - 1)
   last_place =
-      let inside = run.inside in
-      let some = run.some in
       let at = place_at (n' - 1) (omega arith) in
       let o = rises n (place ks) s.rise ((n - 1) - (from + (n' - 1))) (from + (n' - 1)) (n - 1) (omega arith) (omega arith) in
       omega (arith, ints)
@@ -56,7 +54,6 @@ module _ (ks ks' : List Knot) (n from n' : ℕ) (run : IsRun ks n from ks' n') (
     straight = λ k h x low high.
         let a = place_at k (omega arith) in
         let b = place_at (k + 1) h in
-        let inside = run.inside in
         let e : place ks (from + (k + 1)) ≡ place ks ((from + k) + 1) = ap (place ks) (omega arith) in
         s.straight (from + k) (omega arith) x (omega (arith, ints)) (omega (arith, ints));
     convex = λ x low high.
@@ -71,7 +68,6 @@ module _ (ks ks' : List Knot) (n from n' : ℕ) (run : IsRun ks n from ks' n') (
       let to_last = h.to_last in
       let a = first_place in
       let b = last_place in
-      let inside = run.inside in
       let some = run.some in
       record { some = omega arith; from_first = omega (arith, ints); to_last = omega (arith, ints) }
 
@@ -79,7 +75,6 @@ module _ (ks ks' : List Knot) (n from n' : ℕ) (run : IsRun ks n from ks' n') (
     from_first_of : IsInside ks n x → place ks' 0 ≤ℤ x
     from_first_of h =
         let a = first_at in
-        let b = h.from_first in
         elim (cases_lt 0 from) [
           | inl later ↦ let l = low later in omega (arith, ints)
           | inr now ↦ let e : place ks from ≡ place ks 0 = ap (place ks) (omega arith) in omega (arith, ints)
@@ -87,9 +82,6 @@ module _ (ks ks' : List Knot) (n from n' : ℕ) (run : IsRun ks n from ks' n') (
 
     to_last_of : IsInside ks n x → x ≤ℤ place ks' (n' - 1)
     to_last_of h =
-        let inside = run.inside in
-        let some = run.some in
-        let b = h.to_last in
         elim (cases_lt (from + n') n) [
           | inl more ↦ high more
           | inr all ↦ let e : place ks (n - 1) ≡ place ks (from + (n' - 1)) = ap (place ks) (omega arith) in let a = place_at (n' - 1) (omega arith) in omega (arith, ints)

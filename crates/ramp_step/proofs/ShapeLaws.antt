@@ -119,7 +119,6 @@ IsWindow-from_knots ks ks' n n' up down lo hi shape w =
           let low = old.inside.from_first in
           let high = old.inside.to_last in
           let least = r.2.least y low high reach.0 reach.1 in
-          let is = old.is in
           (g.0 x, value_inside ks' n' g.0 g.1 x inside, omega (arith, ints));
     }
 
@@ -141,7 +140,6 @@ IsLeastIn-from_knots ks n lo hi q shape l = record {
   there = value_inside ks n shape.0 shape.1 q.at l.inside.inside ∙ ap Some l.there;
   least = λ y w h from to.
       let v = inside_value ks n shape.0 shape.1 y w h in
-      let is = v.is in
       let a = l.least y (record { inside = v.inside; from = from; to = to }) in
       omega (arith, ints);
   first = λ y h from to.
@@ -166,8 +164,6 @@ IsConvexList-from_knots ks n shape k h =
     let c = v.each (k + 2) h in
     let first = v.inside k (omega arith) in
     let last = v.inside (k + 2) h in
-    let low = first.from_first in
-    let high = last.to_last in
     let x = lo +ℤ pos (k + 1) in
     let convex = s.convex x (omega (arith, ints)) (omega (arith, ints)) in
     let e0 : f (x -ℤ pos 1) ≡ f (lo +ℤ pos k) = ap f (omega (arith, ints)) in
@@ -198,8 +194,6 @@ IsPoint-from_knots ks = record {
   there = value_inside ks 1 (λ x. height ks 0) (StandFor-one ks) (place ks 0) (record { some = omega arith; from_first = omega (arith, ints); to_last = let e : place ks (1 - 1) ≡ place ks 0 = ap (place ks) (omega arith) in omega (arith, ints) });
   only = λ x v h.
       let i = (inside_value ks 1 (λ z. height ks 0) (StandFor-one ks) x v h).inside in
-      let from = i.from_first in
-      let to = i.to_last in
       let e : place ks (1 - 1) ≡ place ks 0 = ap (place ks) (omega arith) in
       omega (arith, ints);
 }

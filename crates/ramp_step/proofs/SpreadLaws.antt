@@ -50,7 +50,6 @@ rises_by ks n j f s t more x low high =
 
 pub turn_rises : (ks : List Knot) (n j : ℕ) (f : ℤ → ℤ) → StandFor ks n f → IsTurn ks n j → (x : ℤ) → place ks j ≤ℤ x → x <ℤ place ks (n - 1) → f x ≤ℤ f (x +ℤ pos 1)
 turn_rises ks n j f s t x low high =
-    let inside = t.inside in
     elim (cases_lt (j + 1) n) [
       | inl more ↦ rises_by ks n j f s t more x low high
       | inr last ↦ let same : place ks j ≡ place ks (n - 1) = ap (place ks) (omega arith) in absurd (omega (arith, ints))
@@ -156,7 +155,6 @@ module _ (ks : List Knot) (n j : ℕ) (f : ℤ → ℤ) (up down : ℤ) (s : Sta
               let e : place ks' ((k - 1) + 1) ≡ place ks' k = ap (place ks') (omega arith) in
               let e' : height ks' ((k - 1) + 1) ≡ height ks' k = ap (height ks') (omega arith) in
               let order = rises n (place ks) s.rise ((k - 1) - j) j (k - 1) (omega arith) (omega arith) in
-              let a0 = a.0 in
               let a1 = a.1 in
               let near = near_right (place ks' k) (omega (arith, ints)) in
               let back : f (place ks' k -ℤ up) ≡ f (place ks (k - 1)) = ap f (omega (arith, ints)) in
@@ -166,7 +164,6 @@ module _ (ks : List Knot) (n j : ℕ) (f : ℤ → ℤ) (up down : ℤ) (s : Sta
               let inside = t.inside in
               let m = s.meet k (omega arith) in
               let order = rises n (place ks) s.rise (j - k) k j (omega arith) inside in
-              let a0 = a.0 in
               let a1 = a.1 in
               let near = near_left (place ks' k) (omega (arith, ints)) in
               let back : f (place ks' k +ℤ down) ≡ f (place ks k) = ap f (omega (arith, ints)) in
@@ -215,7 +212,6 @@ module _ (ks : List Knot) (n j : ℕ) (f : ℤ → ℤ) (up down : ℤ) (s : Sta
       meet = spread_meet;
       straight = spread_straight;
       convex = λ x low high.
-          let inside = t.inside in
           let a = (r.falling 0 (omega arith)).0 in
           let b = (r.rising (n - 1) (omega arith) (omega arith)).0 in
           let e : place ks' ((n + 1) - 1) ≡ place ks' ((n - 1) + 1) = ap (place ks') (omega arith) in
@@ -224,7 +220,6 @@ module _ (ks : List Knot) (n j : ℕ) (f : ℤ → ℤ) (up down : ℤ) (s : Sta
 
     pub ends-spread : (place ks' 0 ≡ place ks 0 -ℤ down) × (place ks' n ≡ place ks (n - 1) +ℤ up)
     ends-spread =
-        let inside = t.inside in
         let e : place ks' n ≡ place ks' ((n - 1) + 1) = ap (place ks') (omega arith) in
         ((r.falling 0 (omega arith)).0, e ∙ (r.rising (n - 1) (omega arith) (omega arith)).0)
 
@@ -252,7 +247,6 @@ AreWindow-spread ks ks' n j up down is_up is_down some t r = record {
   some = omega arith;
   first = let inside = t.inside in (r.falling 0 (omega arith)).0;
   last =
-      let inside = t.inside in
       let e : place ks' ((n + 1) - 1) ≡ place ks' ((n - 1) + 1) = ap (place ks') (omega arith) in
       e ∙ (r.rising (n - 1) (omega arith) (omega arith)).0;
   function = λ f s. (
@@ -273,10 +267,6 @@ IsLimited-still ks n places amounts = record {
 pub IsLimited-spread : (ks ks' : List Knot) (n j : ℕ) (up down : ℤ) → ((k : ℕ) → k < n → IsPlace (place ks k)) → ((k : ℕ) → k < n → IsAmount (height ks k))
     → IsPlace up → IsPlace down → j < n → AreSpread up down n j ks ks' → IsLimited ks' (n + 1)
 IsLimited-spread ks ks' n j up down places amounts fits_up fits_down inside r =
-    let u0 = fits_up.0 in
-    let u1 = fits_up.1 in
-    let d0 = fits_down.0 in
-    let d1 = fits_down.1 in
     record {
       places = λ k h. elim (cases_lt j k) [
         | inl after ↦
@@ -324,14 +314,8 @@ IsWindow-cut ks k1 k2 k3 n n1 n2 n3 up down lo hi w above below some = record {
             let i1 = above.inside x i2.0 in
             let from = i1.0.from_first in
             let to = i1.0.to_last in
-            let first = w.first in
-            let last = w.last in
             (i2.1, i1.1, g.2 x (omega (arith, ints)) (omega (arith, ints))),
       );
   places = λ x y h low high from to.
-      let first = w.first in
-      let last = w.last in
-      let a = h.from_first in
-      let b = h.to_last in
       below.back x (above.back x (record { some = w.some; from_first = omega (arith, ints); to_last = omega (arith, ints) }) to) from;
 }

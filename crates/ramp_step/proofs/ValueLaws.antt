@@ -36,7 +36,6 @@ value_upto_is ks n f s (suc k) h x low high =
     exact_div (height ks (k + 1) -ℤ height ks k) slope (place ks (k + 1) -ℤ place ks k) (omega (arith, ints)) (omega (arith, ints)) in
     elim (chosen (place ks k) x (line_at (knot ks k) (knot ks (k + 1)) x) (value_upto ks k x)) [
       | inl p ↦
-          let past = p.0 in
           let here = straight_line f (place ks k) (place ks (k + 1)) straight x (omega (arith, ints)) (omega (arith, ints)) in
           let line : line_at (knot ks k) (knot ks (k + 1)) x ≡ height ks k +ℤ slope *ℤ (x -ℤ place ks k) = ap (λ z. height ks k +ℤ z *ℤ (x -ℤ place ks k)) q in
           p.1 ∙ line ∙ omega (arith, ints)
@@ -73,7 +72,6 @@ values_of_is ks (suc m) f s =
       inside = λ i h. record { some = omega arith; from_first = omega (arith, ints); to_last = omega (arith, ints) };
       back = λ x h.
           let from = h.from_first in
-          let to = h.to_last in
           let k = steps (p 0) x from in
           let e = k.1 in
           (k.0, omega (arith, ints), e);

@@ -7,10 +7,10 @@ use Rattle.uc_model.specs.Limits.{IsFrom, IsOutput, IsCost}
 use Rattle.shape_law.specs.declared.step.Step.{Step}
 use Rattle.shape_law.specs.Steps.{IsFairStep}
 use Rattle.slope_step.proofs.BoundLaws.{reserve_within, slope_within}
-use Rattle.slope_step.proofs.WrapLaws.{coded, IsNear, near_fits, coded_is}
+use Rattle.slope_step.proofs.WrapLaws.{coded, IsNear, near_fits, coded_is, output_near, price_near, slope_near, most_near}
 
 module _ (s : Step) (fair : IsFairStep s) (value near x cost m : ℤ) (v : IsFrom (neg_ℤ (pos 500000000000000000)) (pos 500000000000000000) value)
-    (n : IsOutput near) (o : IsOutput x) (k : IsCost cost) (m_is : m ≡ int_min s.cap (s.ramp_up +ℤ near)) (m_near : IsNear m) (price_near : IsNear s.reserve_price) (slope_near : IsNear s.slope) (x_near : IsNear x) where
+    (n : IsOutput near) (o : IsOutput x) (k : IsCost cost) (m_is : m ≡ int_min s.cap (s.ramp_up +ℤ near)) where
   worth_within : IsFrom (neg_ℤ (pos 100000000000000)) (pos 100000000000000) (s.reserve_price *ℤ m)
   worth_within =
       let r = reserve_within s fair near n in
@@ -18,40 +18,40 @@ module _ (s : Step) (fair : IsFairStep s) (value near x cost m : ℤ) (v : IsFro
       record { at_least = omega (arith, ints); at_most = omega (arith, ints) }
 
   worth_near : IsNear (s.reserve_price *ℤ m)
-  worth_near = let r = worth_within in let a = r.at_least in let b = r.at_most in record { at_least = omega (arith, ints); at_most = omega (arith, ints) }
+  worth_near = let r = worth_within in record { at_least = omega (arith, ints); at_most = omega (arith, ints) }
 
   value_near : IsNear value
   value_near = record { at_least = omega (arith, ints); at_most = omega (arith, ints) }
 
   cost_near : IsNear cost
-  cost_near = let a = k.at_least in let b = k.at_most in record { at_least = omega (arith, ints); at_most = omega (arith, ints) }
+  cost_near = record { at_least = omega (arith, ints); at_most = omega (arith, ints) }
 
   kinked_within : IsFrom (neg_ℤ (pos 600000000000000000)) (pos 600000000000000000) (value -ℤ s.reserve_price *ℤ m)
-  kinked_within = let r = worth_within in let a = r.at_least in let b = r.at_most in let d = v.at_least in let e = v.at_most in record { at_least = omega (arith, ints); at_most = omega (arith, ints) }
+  kinked_within = let r = worth_within in record { at_least = omega (arith, ints); at_most = omega (arith, ints) }
 
   kinked_near : IsNear (value -ℤ s.reserve_price *ℤ m)
-  kinked_near = let r = kinked_within in let a = r.at_least in let b = r.at_most in record { at_least = omega (arith, ints); at_most = omega (arith, ints) }
+  kinked_near = let r = kinked_within in record { at_least = omega (arith, ints); at_most = omega (arith, ints) }
 
   pay_near : IsNear (s.slope *ℤ x)
-  pay_near = let r = slope_within s fair x o in let a = r.at_least in let b = r.at_most in record { at_least = omega (arith, ints); at_most = omega (arith, ints) }
+  pay_near = let r = slope_within s fair x o in record { at_least = omega (arith, ints); at_most = omega (arith, ints) }
 
   paid_within : IsFrom (neg_ℤ (pos 700000000000000000)) (pos 700000000000000000) ((value -ℤ s.reserve_price *ℤ m) +ℤ s.slope *ℤ x)
   paid_within =
-      let r = kinked_within in let a = r.at_least in let b = r.at_most in
-      let t = slope_within s fair x o in let d = t.at_least in let e = t.at_most in
+      let r = kinked_within in
+      let t = slope_within s fair x o in
       record { at_least = omega (arith, ints); at_most = omega (arith, ints) }
 
   paid_near : IsNear ((value -ℤ s.reserve_price *ℤ m) +ℤ s.slope *ℤ x)
-  paid_near = let r = paid_within in let a = r.at_least in let b = r.at_most in record { at_least = omega (arith, ints); at_most = omega (arith, ints) }
+  paid_near = let r = paid_within in record { at_least = omega (arith, ints); at_most = omega (arith, ints) }
 
   all_near : IsNear (((value -ℤ s.reserve_price *ℤ m) +ℤ s.slope *ℤ x) +ℤ cost)
-  all_near = let r = paid_within in let a = r.at_least in let b = r.at_most in let d = k.at_least in let e = k.at_most in record { at_least = omega (arith, ints); at_most = omega (arith, ints) }
+  all_near = let r = paid_within in record { at_least = omega (arith, ints); at_most = omega (arith, ints) }
 
   pub fits_worth : FitsSigned w64 (coded s.reserve_price *ℤ coded m)
-  fits_worth = rw (coded_is s.reserve_price price_near, coded_is m m_near) (near_fits (s.reserve_price *ℤ m) worth_near)
+  fits_worth = rw (coded_is s.reserve_price (price_near s fair), coded_is m (most_near s fair near n m m_is)) (near_fits (s.reserve_price *ℤ m) worth_near)
 
   worth_is : coded (coded s.reserve_price *ℤ coded m) ≡ s.reserve_price *ℤ m
-  worth_is = rw (coded_is s.reserve_price price_near, coded_is m m_near) (coded_is (s.reserve_price *ℤ m) worth_near)
+  worth_is = rw (coded_is s.reserve_price (price_near s fair), coded_is m (most_near s fair near n m m_is)) (coded_is (s.reserve_price *ℤ m) worth_near)
 
   pub fits_kinked : FitsSigned w64 (coded value -ℤ coded (coded s.reserve_price *ℤ coded m))
   fits_kinked = rw (worth_is, coded_is value value_near) (near_fits (value -ℤ s.reserve_price *ℤ m) kinked_near)
@@ -60,10 +60,10 @@ module _ (s : Step) (fair : IsFairStep s) (value near x cost m : ℤ) (v : IsFro
   kinked_is = rw (worth_is, coded_is value value_near) (coded_is (value -ℤ s.reserve_price *ℤ m) kinked_near)
 
   pub fits_pay : FitsSigned w64 (coded s.slope *ℤ coded x)
-  fits_pay = rw (coded_is s.slope slope_near, coded_is x x_near) (near_fits (s.slope *ℤ x) pay_near)
+  fits_pay = rw (coded_is s.slope (slope_near s fair), coded_is x (output_near x o)) (near_fits (s.slope *ℤ x) pay_near)
 
   pay_is : coded (coded s.slope *ℤ coded x) ≡ s.slope *ℤ x
-  pay_is = rw (coded_is s.slope slope_near, coded_is x x_near) (coded_is (s.slope *ℤ x) pay_near)
+  pay_is = rw (coded_is s.slope (slope_near s fair), coded_is x (output_near x o)) (coded_is (s.slope *ℤ x) pay_near)
 
   pub fits_paid : FitsSigned w64 (coded (coded value -ℤ coded (coded s.reserve_price *ℤ coded m)) +ℤ coded (coded s.slope *ℤ coded x))
   fits_paid = rw (kinked_is, pay_is) (near_fits ((value -ℤ s.reserve_price *ℤ m) +ℤ s.slope *ℤ x) paid_near)

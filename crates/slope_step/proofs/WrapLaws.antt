@@ -16,16 +16,16 @@ abbrev pub IsNear : ℤ → Type 0
 IsNear z = IsFrom (neg_ℤ (pos 8000000000000000000)) (pos 8000000000000000000) z
 
 pub near_fits : (z : ℤ) → IsNear z → FitsSigned w64 z
-near_fits z h = let a = h.at_least in let b = h.at_most in omega (arith, ints)
+near_fits z h = omega (arith, ints)
 
 pub coded_is : (z : ℤ) → IsNear z → coded z ≡ z
 coded_is z h = to_z-of_z w64 z (near_fits z h)
 
 pub output_near : (z : ℤ) → IsOutput z → IsNear z
-output_near z h = let a = h.at_least in let b = h.at_most in record { at_least = omega (arith, ints); at_most = omega (arith, ints) }
+output_near z h = record { at_least = omega (arith, ints); at_most = omega (arith, ints) }
 
 pub power_near : (z : ℤ) → IsPower z → IsNear z
-power_near z h = let a = h.at_least in let b = h.at_most in record { at_least = omega (arith, ints); at_most = omega (arith, ints) }
+power_near z h = record { at_least = omega (arith, ints); at_most = omega (arith, ints) }
 
 pub coded_add : (a b : ℤ) → IsNear a → IsNear b → IsNear (a +ℤ b) → coded (coded a +ℤ coded b) ≡ a +ℤ b
 coded_add a b p q r = rw (coded_is a p, coded_is b q) (coded_is (a +ℤ b) r)
@@ -72,10 +72,10 @@ fits_less a b h i = rw (coded_is a (output_near a h), coded_is b (power_near b i
 
 module _ (s : Step) (fair : IsFairStep s) where
   pub price_near : IsNear s.reserve_price
-  price_near = let a = fair.reserve_price.at_least in let b = fair.reserve_price.at_most in record { at_least = omega (arith, ints); at_most = omega (arith, ints) }
+  price_near = record { at_least = omega (arith, ints); at_most = omega (arith, ints) }
 
   pub slope_near : IsNear s.slope
-  slope_near = let a = fair.slope.at_least in let b = fair.slope.at_most in record { at_least = omega (arith, ints); at_most = omega (arith, ints) }
+  slope_near = record { at_least = omega (arith, ints); at_most = omega (arith, ints) }
 
   module _ (x : ℤ) (o : IsOutput x) where
     up_near : IsNear (s.ramp_up +ℤ x)

@@ -16,8 +16,6 @@ split_all-n-requires-clause-limits c =
     record {
       places = λ k h.
           let r = (c.requires.fits f s (place ks k) (is_inside ks c.args.used f k s h)).0 in
-          let a = r.0 in
-          let b = r.1 in
           (omega (arith, ints), omega (arith, ints));
       amounts = λ k h. rw (s.meet k h) ((c.requires.fits f s (place ks k) (is_inside ks c.args.used f k s h)).1);
     }

@@ -23,8 +23,6 @@ overflow_sub-from c =
     let e-at : to_z w64 (of_z w64 c.args.curve.now.at) ≡ c.args.curve.now.at = to_z-of_z w64 _ fits-at in
     let limited = AreLimitedBlocks-curve c.args.curve.now c.args.shift ks n c.requires.some (shape_of ks n c.requires.breaks) c.requires.breaks.within c.requires.limited c.requires.fits in
     let start = limited.ends 0 (omega arith) in
-    let s0 = start.0 in
-    let s1 = start.1 in
     omega (arith, ints)
 
 read : (c : After-as_slice-blocks) → FitsSigned w64 c.args.curve.now.value → FitsSigned w64 c.args.curve.now.at → Read (to_z w64 (of_z w64 c.args.curve.now.value)) (to_z w64 (of_z w64 (to_z w64 (of_z w64 c.args.curve.now.at) -ℤ to_z w64 (of_z w64 c.args.shift)))) c.as_slice-blocks.result.now
@@ -35,8 +33,6 @@ read c fits fits-at =
     let e-at : to_z w64 (of_z w64 c.args.curve.now.at) ≡ c.args.curve.now.at = to_z-of_z w64 _ fits-at in
     let limited = AreLimitedBlocks-curve c.args.curve.now c.args.shift ks n c.requires.some (shape_of ks n c.requires.breaks) c.requires.breaks.within c.requires.limited c.requires.fits in
     let start = limited.ends 0 (omega arith) in
-    let s0 = start.0 in
-    let s1 = start.1 in
     record { value_is = to_z-of_z w64 _ fits; from_is = omega (arith, ints); blocks_are = c.as_slice-blocks.ensures }
 
 pub add_blocks-n-requires-clause-stand : goal.add_blocks-n-requires-clause-stand

@@ -6,9 +6,6 @@ use Rattle.ramp_step.proofs.curve.on_block.Goals as goal
 
 pub along-line-requires-clause-after : goal.along-line-requires-clause-after
 along-line-requires-clause-after c =
-    let p = c.requires.fits.place in
-    let p0 = p.0 in
-    let p1 = p.1 in
     let e-level : to_z w64 (of_z w64 c.args.level) ≡ c.args.level = to_z-of_z w64 _ c.ranges.level in
     let e-price : to_z w64 (of_z w64 c.args.price) ≡ c.args.price = to_z-of_z w64 _ c.ranges.price in
     let e-way : to_z w64 (of_z w64 (to_z w64 (of_z w64 c.args.knot.at) -ℤ to_z w64 (of_z w64 c.args.start))) ≡ c.args.knot.at -ℤ c.args.start = omega (arith, ints) in
@@ -16,34 +13,16 @@ along-line-requires-clause-after c =
 
 pub overflow_add-result : goal.overflow_add-result
 overflow_add-result c =
-    let p = c.requires.fits.place in
-    let p0 = p.0 in
-    let p1 = p.1 in
     let e-level : to_z w64 (of_z w64 c.args.level) ≡ c.args.level = to_z-of_z w64 _ c.ranges.level in
     let e-price : to_z w64 (of_z w64 c.args.price) ≡ c.args.price = to_z-of_z w64 _ c.ranges.price in
     let e-way : to_z w64 (of_z w64 (to_z w64 (of_z w64 c.args.knot.at) -ℤ to_z w64 (of_z w64 c.args.start))) ≡ c.args.knot.at -ℤ c.args.start = omega (arith, ints) in
     let is = rw (e-level, e-price, e-way) at c.along-line.ensures in
-    let before = c.requires.fits.before in
-    let b0 = before.0 in
-    let b1 = before.1 in
-    let after = c.requires.fits.after in
-    let a0 = after.0 in
-    let a1 = after.1 in
     omega (arith, ints)
 
 pub returns-clause-value : goal.returns-clause-value
 returns-clause-value c =
-    let p = c.requires.fits.place in
-    let p0 = p.0 in
-    let p1 = p.1 in
     let e-level : to_z w64 (of_z w64 c.args.level) ≡ c.args.level = to_z-of_z w64 _ c.ranges.level in
     let e-price : to_z w64 (of_z w64 c.args.price) ≡ c.args.price = to_z-of_z w64 _ c.ranges.price in
     let e-way : to_z w64 (of_z w64 (to_z w64 (of_z w64 c.args.knot.at) -ℤ to_z w64 (of_z w64 c.args.start))) ≡ c.args.knot.at -ℤ c.args.start = omega (arith, ints) in
     let is = rw (e-level, e-price, e-way) at c.along-line.ensures in
-    let before = c.requires.fits.before in
-    let b0 = before.0 in
-    let b1 = before.1 in
-    let after = c.requires.fits.after in
-    let a0 = after.0 in
-    let a1 = after.1 in
     omega (arith, ints)

@@ -37,7 +37,6 @@ loop-block-init c =
 
 pub overflow_add-end : goal.overflow_add-end
 overflow_add-end c =
-    let v = c.args.value in
     let bs = c.args.blocks.now in
     let j = c.loop-block.block-index in
     let d : Block = record { width = pos 0; price = pos 0 } in

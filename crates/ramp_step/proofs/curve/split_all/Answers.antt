@@ -123,7 +123,6 @@ loop-block-preserved c =
     let end : to_z w64 (of_z w64 (to_z w64 c.loop-block.end-bits +ℤ to_z w64 (of_z w64 (get_or bs j d).width))) ≡ block_end bs from (j + 1) = omega (arith, ints) in
     let cells = c.loop-block.invariant.cells in
     let order = c.loop-block.invariant.order in
-    let to = c.advance-front.ensures.to in
     record {
       refined = IsRefined-more bs from j c.args.knots.now mid new c.args.used (total - c.loop-block.room) (total - c.fill-room.result)
           (to_z w64 (of_z w64 (to_z w64 c.loop-block.end-bits +ℤ to_z w64 (of_z w64 (get_or bs j d).width))))

@@ -13,8 +13,6 @@ use Rattle.ramp_step.proofs.read.value_at.Goals as goal
 pub returns-then-m-used : goal.returns-then-m-used
 returns-then-m-used c =
     value_of-from_knots c.args.knots.now c.args.used c.args.x None (shape_of c.args.knots.now c.args.used c.requires.breaks) (λ inside.
-    let some = inside.some in
-    let last = inside.to_last in
     let b = c.below-m.ensures.before (c.args.used - 1) (omega arith) in
     omega (arith, ints))
 
@@ -26,11 +24,8 @@ returns-then-knots-m c =
     let f = shape.0 in
     let s = shape.1 in
     let limits = within_of ks c.args.used c.requires.breaks in
-    let within = c.below-m.ensures.within in
     let there : place ks m ≡ c.args.x = omega (arith, ints) in
     let i = is_inside ks c.args.used f m s (omega arith) in
-    let from = i.from_first in
-    let to = i.to_last in
     let a0 = (limits.amounts m (omega arith)).0 in
     let a1 = (limits.amounts m (omega arith)).1 in
     let e : to_z w64 (of_z w64 (knot ks m).value) ≡ height ks m = omega (arith, ints) in
@@ -43,7 +38,6 @@ pub between-knot-requires-clause-line : goal.between-knot-requires-clause-line
 between-knot-requires-clause-line c =
     let e : to_z w64 (of_z w64 c.args.x) ≡ c.args.x = to_z-of_z w64 _ c.ranges.x in
     let b = rw e at c.below-m.ensures in
-    let within = b.within in
     let m = c.below-m.result in
     let low = b.before (m - 1) (omega arith) in
     let high = b.after (omega arith) in
@@ -52,7 +46,6 @@ between-knot-requires-clause-line c =
 
 pub between-knot-requires-clause-within : goal.between-knot-requires-clause-within
 between-knot-requires-clause-within c =
-    let within = c.below-m.ensures.within in
     within_between c.args.knots.now c.args.used c.below-m.result (IsLimited-within c.args.knots.now c.args.used (within_of c.args.knots.now c.args.used c.requires.breaks)) (omega arith) (omega arith)
 
 pub returns : goal.returns
@@ -64,13 +57,10 @@ returns c =
     let s = shape.1 in
     let e : to_z w64 (of_z w64 c.args.x) ≡ c.args.x = to_z-of_z w64 _ c.ranges.x in
     let b = rw e at c.below-m.ensures in
-    let within = b.within in
     let m = c.below-m.result in
     let low = b.before (m - 1) (omega arith) in
     let high = b.after (omega arith) in
     let is = rw e at c.between-knot.ensures in
-    let a0 = is.amount.0 in
-    let a1 = is.amount.1 in
     let fits : to_z w64 (of_z w64 c.between-knot.result.value) ≡ c.between-knot.result.value = omega (arith, ints) in
     let first = rises n (place ks) s.rise (m - 1) 0 (m - 1) (omega arith) (omega arith) in
     let last = rises n (place ks) s.rise ((n - 1) - m) m (n - 1) (omega arith) (omega arith) in

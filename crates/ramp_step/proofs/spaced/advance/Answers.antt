@@ -47,7 +47,6 @@ returns-then-knot-x c =
 
 pub returns : goal.returns
 returns c =
-    let i = c.loop-i.i in
     let n = c.args.total - c.args.room in
     let was = c.loop-i.invariant in
     IsMovedOn-stop c.args.knots.now c.loop-i.knots c.args.front c.args.room n n c.args.x

@@ -82,7 +82,6 @@ returns-clause-limits c =
     let high = b.after (omega arith) in
     let p0 = (c.requires.limits.places (front - 1) (omega arith)).0 in
     let q1 = (c.requires.limits.places front (omega arith)).1 in
-    let at = is.at in
     subst (λ (m : ℕ). IsLimited (spaced new front (room - 1)) m) (omega arith)
     (IsLimited-inserted (spaced ks front room) (spaced new front (room - 1)) n front q c.requires.limits (omega arith)
     (IsInserted-put ks front room n q c.requires.some (omega arith)) (omega (arith, ints), omega (arith, ints)) is.amount)

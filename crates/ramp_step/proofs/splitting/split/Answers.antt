@@ -23,7 +23,6 @@ pub between-knot-requires-clause-line : goal.between-knot-requires-clause-line
 between-knot-requires-clause-line c =
     let e : to_z w64 (of_z w64 c.args.x) ≡ c.args.x = to_z-of_z w64 _ c.ranges.x in
     let b = rw e at c.below-m.ensures in
-    let within = b.within in
     let m = c.below-m.result in
     let low = b.before (m - 1) (omega arith) in
     let high = b.after (omega arith) in
@@ -31,14 +30,12 @@ between-knot-requires-clause-line c =
 
 pub between-knot-requires-clause-within : goal.between-knot-requires-clause-within
 between-knot-requires-clause-within c =
-    let within = c.below-m.ensures.within in
     within_between c.args.knots.now c.args.used c.below-m.result c.requires.limits (omega arith) (omega arith)
 
 pub returns-clause-split : goal.returns-clause-split
 returns-clause-split c =
     let e : to_z w64 (of_z w64 c.args.x) ≡ c.args.x = to_z-of_z w64 _ c.ranges.x in
     let b = rw e at c.below-m.ensures in
-    let within = b.within in
     IsSplit-inserted c.args.knots.now c.insert.new.knots c.args.used c.below-m.result c.args.x c.between-knot.result c.requires.stand b
     (omega arith) (omega arith) (λ same. omega (arith, ints)) (rw e at c.between-knot.ensures) c.insert.ensures
 
@@ -47,15 +44,11 @@ returns-clause-limits c =
     let e : to_z w64 (of_z w64 c.args.x) ≡ c.args.x = to_z-of_z w64 _ c.ranges.x in
     let b = rw e at c.below-m.ensures in
     let is = rw e at c.between-knot.ensures in
-    let within = b.within in
     let ks = c.args.knots.now in
     let m = c.below-m.result in
     let low = b.before (m - 1) (omega arith) in
     let high = b.after (omega arith) in
     let p = c.requires.limits.places (m - 1) (omega arith) in
     let q = c.requires.limits.places m (omega arith) in
-    let p0 = p.0 in
-    let q1 = q.1 in
-    let at = is.at in
     IsLimited-inserted ks c.insert.new.knots c.args.used m c.between-knot.result c.requires.limits (omega arith) c.insert.ensures
     (omega (arith, ints), omega (arith, ints)) is.amount
