@@ -1,19 +1,21 @@
 -- What is read off pieces.
-use Rattle.std.proofs.Common.{◌≡◌, ℕ, suc, ◌-◌, ◌<◌, ◌≤◌, List, length, sym, ap, ◌∙◌, inl, inr, arith, Some}
-use Rattle.std.specs.Prelude.{ℤ, pos, ◌+ℤ◌, ◌≤ℤ◌, ◌<ℤ◌}
+use Rattle.std.proofs.Common.{◌≡◌, ℕ, suc, ◌+◌, ◌-◌, ◌<◌, ◌≤◌, List, length, refl, sym, ap, ◌∙◌, subst, below_more, inl, inr, arith, Some}
+use Rattle.std.specs.Prelude.{ℤ, pos, ◌+ℤ◌, ◌-ℤ◌, ◌*ℤ◌, ◌≤ℤ◌, ◌<ℤ◌}
 use Rattle.std.specs.Int.{int_min, int_max}
 use Rattle.std.proofs.lemmas.Int.{ints, clamps, by_lt_z}
 use Rattle.std.proofs.lemmas.Bool.{cases_lt}
 use Rattle.shape_law.specs.Effect.{IsLeastIn}
-use Rattle.shape_law.specs.Table.{HasNone}
+use Rattle.shape_law.specs.Table.{HasNone, IsAmount}
 use Rattle.slope_step.specs.declared.piece.Piece.{Piece}
 use Rattle.slope_step.specs.declared.piece.Start.{Start}
 use Rattle.slope_step.specs.Pieces.{piece, end_at, last_place, function_of, table_on, AreSlopes}
-use Rattle.slope_step.specs.Kink.{IsValley}
+use Rattle.slope_step.specs.Kink.{AreWithin, IsValley}
 use Rattle.slope_step.specs.Below.{IsAbove}
+use Rattle.slope_step.specs.Totals.{CanGo}
 use Rattle.slope_step.specs.Laws.{PiecesBegin, PiecesEnd}
 use Rattle.slope_step.proofs.LineLaws.{line_step}
 use Rattle.slope_step.proofs.PieceLaws.{ends_rise_to, slopes_rise, along_first, along_line, held}
+use Rattle.slope_step.proofs.KinkLaws.{level_from, can_go}
 use Rattle.slope_step.proofs.FunctionLaws.{on_inside, on_back, by_place}
 use Rattle.slope_step.proofs.ValleyLaws.{falls_to, rises_to, valley_least}
 
@@ -51,6 +53,40 @@ valley_at start ps slopes k inside falls rises =
           let up = slopes_rise start.first ps slopes (j - k) k j (omega arith) i in
           omega (arith, ints);
     }
+
+-- a walk over the pieces that fall, with the level at the place that it has come to
+pub record HasFallen (start : Start) (ps : List Piece) (k : ℕ) (at value : ℤ) : Type 0 where
+  pub at_is : at ≡ end_at start.first ps k
+  pub value_is : value ≡ function_of start ps at
+  pub falls : (j : ℕ) → j < k → (piece ps j).slope <ℤ pos 0
+
+module _ (start : Start) (ps : List Piece) (slopes : AreSlopes start.first ps) where
+  pub fallen_none : HasFallen start ps 0 start.first start.level
+  fallen_none = record { at_is = refl; value_is = sym (along_first start.first start.level ps slopes); falls = λ j h. absurd (omega arith) }
+
+  module _ (k : ℕ) (at value : ℤ) (w : HasFallen start ps k at value) where
+    module _ (within : AreWithin start ps) (inside : k < length ps) where
+      pub fallen_goes : CanGo value (piece ps k).slope at (piece ps k).end
+      fallen_goes = let rise = slopes.rise k inside in can_go start ps slopes within k inside (piece ps k).end (omega (arith, ints)) (omega (arith, ints)) value at w.at_is w.value_is
+
+      pub fallen_on : (next : ℤ) → next ≡ value +ℤ (piece ps k).slope *ℤ ((piece ps k).end -ℤ at) → (piece ps k).slope <ℤ pos 0 → HasFallen start ps (k + 1) (piece ps k).end next
+      fallen_on next is down =
+          let rise = slopes.rise k inside in
+          record {
+            at_is = sym (ap (end_at start.first ps) {x = k + 1} {y = suc k} (omega arith));
+            value_is = is ∙ sym (level_from start ps slopes within k inside (piece ps k).end (omega (arith, ints)) (omega (arith, ints)) value at w.at_is w.value_is);
+            falls = below_more _ _ w.falls down;
+          }
+
+    pub fallen_amount : AreWithin start ps → k ≤ length ps → IsAmount value
+    fallen_amount within upto =
+        let low = ends_rise_to start.first ps slopes 0 k (omega arith) upto in
+        let high = ends_rise_to start.first ps slopes k (length ps) upto (omega arith) in
+        let e = w.at_is in
+        subst IsAmount (sym w.value_is) (within at (omega (arith, ints)) (omega (arith, ints))).1
+
+    pub fallen_valley : k ≤ length ps → (k < length ps → pos 0 ≤ℤ (piece ps k).slope) → IsValley (function_of start ps) start.first (last_place start.first ps) at
+    fallen_valley upto rises = subst (IsValley (function_of start ps) start.first (last_place start.first ps)) (sym w.at_is) (valley_at start ps slopes k upto w.falls rises)
 
 -- above a limit at the least place, above it everywhere
 pub above_all : (f : ℤ → ℤ) (a b m : ℤ) → IsValley f a b m → (shift limit : ℤ) → limit <ℤ (f m +ℤ shift) → IsAbove (table_on f a b) shift limit

@@ -1,11 +1,12 @@
-use Rattle.std.proofs.Common.{◌≡◌, ap, ◌∙◌, inl, inr, arith, rules, to_z, of_z}
+use Rattle.std.proofs.Common.{◌≡◌, ◌<◌, ap, ◌∙◌, inl, inr, arith, rules, to_z, of_z}
 use Rattle.std.specs.Prelude.{FitsSigned, ◌+ℤ◌, ◌≤ℤ◌, length}
 use Rattle.std.specs.Int.{w64}
-use Rattle.std.proofs.lemmas.Int.{ints, to_z-of_z}
+use Rattle.std.proofs.lemmas.Int.{ints, clamps, to_z-of_z}
 use Rattle.slope_step.specs.Pieces.{piece, function_of}
 use Rattle.slope_step.proofs.PieceLaws.{ends_rise_to}
 use Rattle.slope_step.proofs.BelowLaws.{reached_amount, goes_on, end_ahead, end_of_one, fewer, under_on, shown_under}
 use Rattle.slope_step.proofs.below.is_below.Goals as goal
+use Rattle.slope_step.proofs.below.is_below.Goals.{In-loop-there}
 
 pub seek-here-requires-clause-to : goal.seek-here-requires-clause-to
 seek-here-requires-clause-to c =
@@ -50,28 +51,20 @@ loop-there-init c =
           omega (arith, ints);
     }
 
+inside : (c : In-loop-there) → c.loop-there.here.next < length c.args.pieces.now
+inside c = goes_on c.args.start c.args.pieces.now c.args.other c.args.others.now c.requires.other_slopes c.if-not-covers.ensures.last (to_z w64 c.loop-there.at-bits) c.loop-there.here c.loop-there.invariant.here c.loop-there.there c.loop-there.invariant.there c.loop-there-test.true
+
 pub bounds-pieces-here : goal.bounds-pieces-here
-bounds-pieces-here c =
-    let was = c.loop-there.invariant in
-    goes_on c.args.start c.args.pieces.now c.args.other c.args.others.now c.requires.other_slopes c.if-not-covers.ensures.last (to_z w64 c.loop-there.at-bits) c.loop-there.here was.here c.loop-there.there was.there c.loop-there-test.true
+bounds-pieces-here c = inside (goal.at.bounds-pieces-here c).In-loop-there
 
 pub go_on-here-requires-clause-next : goal.go_on-here-requires-clause-next
-go_on-here-requires-clause-next c =
-    let was = c.loop-there.invariant in
-    goes_on c.args.start c.args.pieces.now c.args.other c.args.others.now c.requires.other_slopes c.if-not-covers.ensures.last (to_z w64 c.loop-there.at-bits) c.loop-there.here was.here c.loop-there.there was.there c.loop-there-test.true
+go_on-here-requires-clause-next c = inside (goal.at.go_on-here-requires-clause-next c).In-loop-there
 
 pub go_on-here-requires-clause-rise : goal.go_on-here-requires-clause-rise
 go_on-here-requires-clause-rise c =
     let was = c.loop-there.invariant in
     end_ahead c.args.start c.args.pieces.now c.args.other c.args.others.now c.requires.other_slopes c.if-not-covers.ensures.last (to_z w64 c.loop-there.at-bits) c.loop-there.here was.here c.loop-there.there was.there c.loop-there-test.true
-    (to_z w64 (of_z w64 c.min-end.result))
-    (let f : FitsSigned w64 c.min-end.result = search rules in
-    let g : FitsSigned w64 (piece c.args.pieces.now c.loop-there.here.next).end = search rules in
-    let h : FitsSigned w64 (piece c.args.others.now c.loop-there.there.next).end = search rules in
-    let eg = to_z-of_z w64 (piece c.args.pieces.now c.loop-there.here.next).end g in
-    let eh = to_z-of_z w64 (piece c.args.others.now c.loop-there.there.next).end h in
-    let m = rw (eg, eh) at c.min-end.ensures.value in
-    to_z-of_z w64 c.min-end.result f ∙ m)
+    (to_z w64 (of_z w64 c.min-end.result)) (omega (arith, ints, clamps))
 
 pub is_over-requires-in-loop-there-clause-value : goal.is_over-requires-in-loop-there-clause-value
 is_over-requires-in-loop-there-clause-value c =
@@ -81,18 +74,10 @@ is_over-requires-in-loop-there-clause-value c =
 
 pub loop-there-smaller : goal.loop-there-smaller
 loop-there-smaller c =
-    let was = c.loop-there.invariant in
-    let inside = goes_on c.args.start c.args.pieces.now c.args.other c.args.others.now c.requires.other_slopes c.if-not-covers.ensures.last (to_z w64 c.loop-there.at-bits) c.loop-there.here was.here c.loop-there.there was.there c.loop-there-test.true in
-    fewer (length c.args.pieces.now) (length c.args.others.now) c.loop-there.here.next c.go_on-here.result.next c.loop-there.there.next c.go_on-there.result.next inside c.loop-there-test.true
+    fewer (length c.args.pieces.now) (length c.args.others.now) c.loop-there.here.next c.go_on-here.result.next c.loop-there.there.next c.go_on-there.result.next (inside (goal.at.loop-there-smaller c).In-loop-there) c.loop-there-test.true
     c.go_on-here.ensures.later c.go_on-there.ensures.later c.go_on-here.ensures.reached.placed.some c.go_on-there.ensures.reached.placed.some
     (elim (end_of_one (piece c.args.pieces.now c.loop-there.here.next).end (piece c.args.others.now c.loop-there.there.next).end (to_z w64 (of_z w64 c.min-end.result))
-    (let f : FitsSigned w64 c.min-end.result = search rules in
-    let g : FitsSigned w64 (piece c.args.pieces.now c.loop-there.here.next).end = search rules in
-    let h : FitsSigned w64 (piece c.args.others.now c.loop-there.there.next).end = search rules in
-    let eg = to_z-of_z w64 (piece c.args.pieces.now c.loop-there.here.next).end g in
-    let eh = to_z-of_z w64 (piece c.args.others.now c.loop-there.there.next).end h in
-    let m = rw (eg, eh) at c.min-end.ensures.value in
-    to_z-of_z w64 c.min-end.result f ∙ m)) [
+    (omega (arith, ints, clamps))) [
       | inl p ↦ inl (c.go_on-here.ensures.past p)
       | inr p ↦ inr (c.go_on-there.ensures.past p)
     ])

@@ -1,11 +1,5 @@
-use Rattle.std.proofs.Common.{◌≡◌, ℕ, ◌<◌}
-use Rattle.std.specs.Prelude.{pos, ◌<ℤ◌}
-use Rattle.slope_step.specs.Pieces.{piece, end_at, function_of}
+use Rattle.slope_step.proofs.ReadLaws.{HasFallen}
 use Rattle.slope_step.proofs.read.least.Given as goal
 
 abbrev pub invariant-loop-piece : goal.invariant-loop-piece
-invariant-loop-piece l = record {
-  at_is : l.at ≡ end_at l.fn.start.first l.pieces l.piece-index;
-  value_is : l.value ≡ function_of l.fn.start l.pieces l.at;
-  falls : (k : ℕ) → k < l.piece-index → (piece l.pieces k).slope <ℤ pos 0;
-}
+invariant-loop-piece l = HasFallen l.fn.start l.pieces l.piece-index l.at l.value
