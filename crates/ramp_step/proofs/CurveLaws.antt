@@ -1,13 +1,13 @@
 -- A curve is straight within a block, and convex where prices don't fall.
-use Rattle.std.proofs.Common.{◌≡◌, ℕ, zero, suc, ◌+◌, ◌<◌, List, [], ◌∷◌, length, get_or, refl, sym, ap, ◌∙◌, subst, arith, inl, inr}
+use Rattle.std.proofs.Common.{◌≡◌, ℕ, zero, suc, ◌+◌, ◌<◌, ◌≤◌, List, [], ◌∷◌, length, get_or, refl, sym, ap, ◌∙◌, subst, arith, inl, inr, to_z, of_z}
 use Rattle.std.specs.Prelude.{ℤ, pos, ◌+ℤ◌, ◌-ℤ◌, ◌*ℤ◌, ◌≤ℤ◌, ◌<ℤ◌}
-use Rattle.std.specs.Int.{int_min, int_max}
+use Rattle.std.specs.Int.{w64, int_min, int_max}
 use Rattle.std.proofs.lemmas.Int.{ints, clamps, by_lt_z}
 use Rattle.std.proofs.lemmas.Bool.{cases_lt}
 use Rattle.std.proofs.Math.IntN.{*ℤ-zero}
 use Rattle.ramp_step.specs.declared.breakpoint.Knot.{Knot}
 use Rattle.uc_model.specs.declared.units.Block.{Block}
-use Rattle.ramp_step.specs.Knots.{IsStraight, IsConvex}
+use Rattle.ramp_step.specs.Knots.{IsStraight, IsConvex, IsWide}
 use Rattle.shape_law.specs.Table.{IsAmount}
 use Rattle.ramp_step.specs.Cut.{IsSplit}
 use Rattle.ramp_step.specs.Curve.{rise_over, curve_term, block_end, AreBlocks, EndsOutside, IsRefined, AreLimitedBlocks}
@@ -210,3 +210,18 @@ block_end_rise p (b ∷ bs) s (suc j) are h =
     let rest = block_end_rise b.price bs (s +ℤ b.width) j are.2 (omega arith) in
     let e = ap (block_end (b ∷ bs) s) (next j) in
     omega (arith, ints)
+
+-- where the next block ends
+pub record IsNextEnd (bs : List Block) (s : ℤ) (j : ℕ) (d : Block) : Type 0 where
+  pub next : block_end bs s (j + 1) ≡ block_end bs s j +ℤ (get_or bs j d).width
+  pub rise : block_end bs s j ≤ℤ block_end bs s (j + 1)
+  pub here : IsWide (block_end bs s j)
+  pub there : IsWide (block_end bs s (j + 1))
+
+pub next_end : (p : ℤ) (bs : List Block) (s : ℤ) (j : ℕ) (d : Block) → AreBlocks p bs → ((i : ℕ) → i ≤ length bs → IsWide (block_end bs s i)) → j < length bs → IsNextEnd bs s j d
+next_end p bs s j d are wide h = record { next = block_end_next bs s j d h; rise = block_end_rise p bs s j are h; here = wide j (omega arith); there = wide (j + 1) (omega arith) }
+
+-- as the code has it
+pub end_coded : (bs : List Block) (s : ℤ) (j : ℕ) (d : Block) (start : ℤ) → start ≡ block_end bs s j → IsNextEnd bs s j d
+    → to_z w64 (of_z w64 (start +ℤ to_z w64 (of_z w64 (get_or bs j d).width))) ≡ block_end bs s (j + 1)
+end_coded bs s j d start is e = omega (arith, ints)

@@ -1,4 +1,4 @@
-use Rattle.std.proofs.Common.{◌≡◌, ℕ, ◌+◌, ◌-◌, length, get_or, refl, sym, ap, subst, arith, to_z, of_z}
+use Rattle.std.proofs.Common.{◌≡◌, ℕ, ◌+◌, ◌-◌, length, get_or, refl, sym, ap, ◌∙◌, subst, arith, to_z, of_z}
 use Rattle.std.specs.Prelude.{pos, ◌+ℤ◌}
 use Rattle.std.specs.Int.{w64}
 use Rattle.std.proofs.lemmas.Int.{ints, to_z-of_z}
@@ -6,9 +6,25 @@ use Rattle.uc_model.specs.declared.units.Block.{Block}
 use Rattle.ramp_step.specs.Cut.{IsLimited}
 use Rattle.ramp_step.specs.Curve.{block_end, IsRefined}
 use Rattle.ramp_step.specs.Spaced.{spaced}
-use Rattle.ramp_step.proofs.CurveLaws.{block_end_next, block_end_rise, IsRefined-none, IsRefined-more}
+use Rattle.ramp_step.proofs.CurveLaws.{IsNextEnd, next_end, end_coded, IsRefined-none, IsRefined-more}
 use Rattle.ramp_step.proofs.SpacedLaws.{spaced_moved, spaced_closed, StandFor-same, IsLimited-same, IsRefined-same, AreBelow-moved}
 use Rattle.ramp_step.proofs.curve.split_all.Goals as goal
+use Rattle.ramp_step.proofs.curve.split_all.Goals.{In-loop-block}
+
+-- where the loop is
+record Here (c : In-loop-block) : Type 0 where
+  from : to_z w64 (of_z w64 c.args.from) ≡ c.args.from
+  at : to_z w64 c.loop-block.end-bits ≡ block_end c.args.blocks.now c.args.from c.loop-block.block-index
+  end : IsNextEnd c.args.blocks.now c.args.from c.loop-block.block-index (record { width = pos 0; price = pos 0 })
+
+here : (c : In-loop-block) → Here c
+here c =
+    let from = to_z-of_z w64 c.args.from c.ranges.from in
+    record {
+      from = from;
+      at = rw from at c.loop-block.invariant.end;
+      end = next_end c.requires.ascending.0 c.args.blocks.now c.args.from c.loop-block.block-index (record { width = pos 0; price = pos 0 }) c.requires.ascending.1 c.requires.places (omega arith);
+    }
 
 pub loop-block-init : goal.loop-block-init
 loop-block-init c =
@@ -37,95 +53,47 @@ fill-room-requires-clause-stand c =
     )
 
 pub fill-room-requires-clause-limits : goal.fill-room-requires-clause-limits
-fill-room-requires-clause-limits c =
-    let old = spaced c.loop-block.knots c.loop-block.front c.loop-block.room in
-    let new = spaced c.advance-front.new.knots c.advance-front.result c.loop-block.room in
-    let n = (c.args.used + length c.args.blocks.now) - c.loop-block.room in
-    IsLimited-same old new n c.advance-front.ensures.same c.loop-block.invariant.limits
+fill-room-requires-clause-limits c = IsLimited-same _ _ _ c.advance-front.ensures.same c.loop-block.invariant.limits
 
 pub fill-room-requires-clause-below : goal.fill-room-requires-clause-below
 fill-room-requires-clause-below c =
     let bs = c.args.blocks.now in
-    let j = c.loop-block.block-index in
-    let d : Block = record { width = pos 0; price = pos 0 } in
-    let from = to_z w64 (of_z w64 c.args.from) in
-    let e-from : to_z w64 (of_z w64 c.args.from) ≡ c.args.from = to_z-of_z w64 _ c.ranges.from in
-    let now = rw e-from at c.loop-block.invariant.end in
-    let next = block_end_next bs c.args.from j d (omega arith) in
-    let rise = block_end_rise c.requires.ascending.0 bs c.args.from j c.requires.ascending.1 (omega arith) in
-    let a0 = (c.requires.places j (omega arith)).0 in
-    let a1 = (c.requires.places j (omega arith)).1 in
-    let b0 = (c.requires.places (j + 1) (omega arith)).0 in
-    let b1 = (c.requires.places (j + 1) (omega arith)).1 in
-    let x = to_z w64 (of_z w64 (to_z w64 c.loop-block.end-bits +ℤ to_z w64 (of_z w64 (get_or bs j d).width))) in
+    let l = here (goal.at.fill-room-requires-clause-below c).In-loop-block in
+    let x = to_z w64 (of_z w64 (to_z w64 c.loop-block.end-bits +ℤ to_z w64 (of_z w64 (get_or bs c.loop-block.block-index (record { width = pos 0; price = pos 0 })).width))) in
     AreBelow-moved c.loop-block.knots c.advance-front.new.knots c.loop-block.front c.advance-front.result c.loop-block.room ((c.args.used + length bs) - c.loop-block.room) x c.advance-front.ensures
     (λ k h. let b = c.loop-block.invariant.below k h in omega (arith, ints))
 
-pub returns-clause-refined : goal.returns-clause-refined
-returns-clause-refined c =
+pub returns : goal.returns
+returns c =
     let ks = c.loop-block.knots in
     let bs = c.args.blocks.now in
     let total = c.args.used + length bs in
     let room = c.loop-block.room in
-    let e-from : to_z w64 (of_z w64 c.args.from) ≡ c.args.from = to_z-of_z w64 _ c.ranges.from in
-    let order = c.loop-block.invariant.order in
-    let refined = rw e-from at c.loop-block.invariant.refined in
-    subst (λ (j : ℕ). IsRefined bs c.args.from j c.args.knots.now c.args.used c.drop_from.new.knots (total - room)) {x = c.loop-block.block-index} {y = length bs} (omega arith)
-    (IsRefined-same (spaced ks c.loop-block.front room) c.drop_from.new.knots (total - room)
-    (spaced_closed ks c.drop_from.new.knots c.loop-block.front room total order (omega arith) c.drop_from.ensures)
-    bs c.args.from c.loop-block.block-index c.args.knots.now c.args.used refined)
-
-pub returns-clause-limits : goal.returns-clause-limits
-returns-clause-limits c =
-    let ks = c.loop-block.knots in
-    let total = c.args.used + length c.args.blocks.now in
-    let room = c.loop-block.room in
-    let order = c.loop-block.invariant.order in
-    IsLimited-same (spaced ks c.loop-block.front room) c.drop_from.new.knots (total - room)
-    (spaced_closed ks c.drop_from.new.knots c.loop-block.front room total order (omega arith) c.drop_from.ensures) c.loop-block.invariant.limits
+    let refined = rw (to_z-of_z w64 c.args.from c.ranges.from) at c.loop-block.invariant.refined in
+    let closed = spaced_closed ks c.drop_from.new.knots c.loop-block.front room total c.loop-block.invariant.order (omega arith) c.drop_from.ensures in
+    record {
+      refined = subst (λ (j : ℕ). IsRefined bs c.args.from j c.args.knots.now c.args.used c.drop_from.new.knots (total - room)) {x = c.loop-block.block-index} {y = length bs} (omega arith)
+          (IsRefined-same (spaced ks c.loop-block.front room) c.drop_from.new.knots (total - room) closed bs c.args.from c.loop-block.block-index c.args.knots.now c.args.used refined);
+      limits = IsLimited-same (spaced ks c.loop-block.front room) c.drop_from.new.knots (total - room) closed c.loop-block.invariant.limits;
+      charge = omega arith;
+    }
 
 pub overflow_add-end : goal.overflow_add-end
-overflow_add-end c =
-    let bs = c.args.blocks.now in
-    let j = c.loop-block.block-index in
-    let d : Block = record { width = pos 0; price = pos 0 } in
-    let from = to_z w64 (of_z w64 c.args.from) in
-    let e-from : to_z w64 (of_z w64 c.args.from) ≡ c.args.from = to_z-of_z w64 _ c.ranges.from in
-    let now = rw e-from at c.loop-block.invariant.end in
-    let next = block_end_next bs c.args.from j d (omega arith) in
-    let rise = block_end_rise c.requires.ascending.0 bs c.args.from j c.requires.ascending.1 (omega arith) in
-    let a0 = (c.requires.places j (omega arith)).0 in
-    let a1 = (c.requires.places j (omega arith)).1 in
-    let b0 = (c.requires.places (j + 1) (omega arith)).0 in
-    let b1 = (c.requires.places (j + 1) (omega arith)).1 in
-    omega (arith, ints)
+overflow_add-end c = let l = here (goal.at.overflow_add-end c).In-loop-block in omega (arith, ints)
 
 pub loop-block-preserved : goal.loop-block-preserved
 loop-block-preserved c =
     let bs = c.args.blocks.now in
     let j = c.loop-block.block-index in
-    let d : Block = record { width = pos 0; price = pos 0 } in
     let from = to_z w64 (of_z w64 c.args.from) in
-    let e-from : to_z w64 (of_z w64 c.args.from) ≡ c.args.from = to_z-of_z w64 _ c.ranges.from in
-    let now = rw e-from at c.loop-block.invariant.end in
-    let next = block_end_next bs c.args.from j d (omega arith) in
-    let rise = block_end_rise c.requires.ascending.0 bs c.args.from j c.requires.ascending.1 (omega arith) in
-    let a0 = (c.requires.places j (omega arith)).0 in
-    let a1 = (c.requires.places j (omega arith)).1 in
-    let b0 = (c.requires.places (j + 1) (omega arith)).0 in
-    let b1 = (c.requires.places (j + 1) (omega arith)).1 in
+    let l = here (goal.at.loop-block-preserved c).In-loop-block in
     let old = spaced c.loop-block.knots c.loop-block.front c.loop-block.room in
     let mid = spaced c.advance-front.new.knots c.advance-front.result c.loop-block.room in
     let new = spaced c.fill-room.new.knots c.advance-front.result c.fill-room.result in
     let total = c.args.used + length bs in
-    let same0 : block_end bs from j ≡ block_end bs c.args.from j = ap (λ z. block_end bs z j) e-from in
-    let same1 : block_end bs from (j + 1) ≡ block_end bs c.args.from (j + 1) = ap (λ z. block_end bs z (j + 1)) e-from in
-    let end : to_z w64 (of_z w64 (to_z w64 c.loop-block.end-bits +ℤ to_z w64 (of_z w64 (get_or bs j d).width))) ≡ block_end bs from (j + 1) = omega (arith, ints) in
-    let cells = c.loop-block.invariant.cells in
-    let order = c.loop-block.invariant.order in
+    let end = end_coded bs c.args.from j _ _ l.at l.end ∙ ap (λ z. block_end bs z (j + 1)) (sym l.from) in
     record {
-      refined = IsRefined-more bs from j c.args.knots.now mid new c.args.used (total - c.loop-block.room) (total - c.fill-room.result)
-          (to_z w64 (of_z w64 (to_z w64 c.loop-block.end-bits +ℤ to_z w64 (of_z w64 (get_or bs j d).width))))
+      refined = IsRefined-more bs from j c.args.knots.now mid new c.args.used (total - c.loop-block.room) (total - c.fill-room.result) _
           (IsRefined-same old mid (total - c.loop-block.room) c.advance-front.ensures.same bs from j c.args.knots.now c.args.used c.loop-block.invariant.refined)
           c.fill-room.ensures.split (sym end);
       limits = c.fill-room.ensures.limits;

@@ -25,7 +25,6 @@ loop-i-preserved c =
     let q = c.on_line.result in
     let lt : i < length ks = omega arith in
     let was : knot ks i ≡ knot c.args.knots.now i = c.loop-i.invariant.rest i (omega arith) in
-    let e : to_z w64 (of_z w64 c.args.slope) ≡ c.args.slope = to_z-of_z w64 _ c.ranges.slope in
     record {
       places = below_more _ _ (λ j below. ap (λ (k : Knot). k.at) (knot_other ks i j q (omega arith)) ∙ c.loop-i.invariant.places j below)
           (ap (λ (k : Knot). k.at) (knot_same ks i q lt) ∙ c.on_line.ensures.at ∙ ap (λ (k : Knot). k.at) was);

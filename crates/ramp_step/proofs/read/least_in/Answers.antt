@@ -16,7 +16,6 @@ nearest : (c : After-max-at) → to_z w64 (of_z w64 c.max-at.result) ≡ int_max
 nearest c =
     let ks = c.args.knots.now in
     let j = c.turn-j.result in
-    let l = (within_of ks c.args.used c.requires.breaks).places j c.turn-j.ensures.inside in
     let e-lo : to_z w64 (of_z w64 c.args.lo) ≡ c.args.lo = to_z-of_z w64 _ c.ranges.lo in
     let e-hi : to_z w64 (of_z w64 c.args.hi) ≡ c.args.hi = to_z-of_z w64 _ c.ranges.hi in
     let e-turn : to_z w64 (of_z w64 (place ks j)) ≡ place ks j = omega (arith, ints) in

@@ -27,7 +27,6 @@ returns-then-knots-m c =
     let there : place ks m ≡ c.args.x = omega (arith, ints) in
     let i = is_inside ks c.args.used f m s (omega arith) in
     let a0 = (limits.amounts m (omega arith)).0 in
-    let a1 = (limits.amounts m (omega arith)).1 in
     let e : to_z w64 (of_z w64 (knot ks m).value) ≡ height ks m = omega (arith, ints) in
     value_of-from_knots ks c.args.used c.args.x _ shape (record {
       inside = record { some = omega arith; from_first = omega (arith, ints); to_last = omega (arith, ints) };
