@@ -218,11 +218,6 @@ module _ (ks : List Knot) (n j : ℕ) (f : ℤ → ℤ) (up down : ℤ) (s : Sta
           window_convex x (omega (arith, ints)) (omega (arith, ints));
     }
 
-    pub ends-spread : (place ks' 0 ≡ place ks 0 -ℤ down) × (place ks' n ≡ place ks (n - 1) +ℤ up)
-    ends-spread =
-        let e : place ks' n ≡ place ks' ((n - 1) + 1) = ap (place ks') (omega arith) in
-        ((r.falling 0 (omega arith)).0, e ∙ (r.rising (n - 1) (omega arith) (omega arith)).0)
-
 pub AreWindow-still : (ks : List Knot) (n : ℕ) (up down : ℤ) → 0 < n → up ≡ pos 0 → down ≡ pos 0 → AreWindow up down ks n ks n
 AreWindow-still ks n up down some no_up no_down = record {
   some = some;
@@ -290,16 +285,6 @@ IsLimited-spread ks ks' n j up down places amounts fits_up fits_down inside r =
     }
 
 -- ---- the window, cut
-
-h_none : (ks : List Knot) (n : ℕ) (x y : ℤ) → n ≡ 0 → IsInside ks n y → IsInside ks n x
-h_none ks n x y e h = let some = h.some in absurd (omega arith)
-
-pub IsWindow-none : (ks : List Knot) (n : ℕ) (up down lo hi : ℤ) → n ≡ 0 → IsWindow up down lo hi ks n ks n
-IsWindow-none ks n up down lo hi e = record {
-  some = λ h. h;
-  function = λ f s. (f, s, λ x h. let some = h.some in absurd (omega arith));
-  places = λ x y h low high from to. h_none ks n x y e h;
-}
 
 pub IsWindow-cut : (ks k1 k2 k3 : List Knot) (n n1 n2 n3 : ℕ) (up down lo hi : ℤ) → AreWindow up down ks n k1 n1 → IsCut (λ x. x ≤ℤ hi) k1 n1 k2 n2 → IsCut (λ x. lo ≤ℤ x) k2 n2 k3 n3
     → 0 < n → IsWindow up down lo hi ks n k3 n3

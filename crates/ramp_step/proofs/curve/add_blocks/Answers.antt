@@ -1,12 +1,13 @@
-use Rattle.std.proofs.Common.{◌≡◌, ◌+◌, ◌-◌, ap, arith, inl, inr, to_z, of_z}
+use Rattle.std.proofs.Common.{◌≡◌, ℕ, ◌<◌, ◌+◌, ◌-◌, ap, arith, inl, inr, to_z, of_z}
 use Rattle.std.specs.Int.{w64}
 use Rattle.std.proofs.lemmas.Int.{ints, to_z-of_z}
 use Rattle.std.proofs.lemmas.Bool.{cases_lt}
-use Rattle.ramp_step.specs.Knots.{place}
+use Rattle.ramp_step.specs.Knots.{place, IsInside}
 use Rattle.ramp_step.specs.Curve.{curve_term}
 use Rattle.ramp_step.proofs.KnotLaws.{is_inside, inside_same, StandFor-raised, HaveSameEnds-raised, HaveSameEnds-then}
 use Rattle.ramp_step.proofs.CurveLaws.{curve_straight, curve_convex}
 use Rattle.ramp_step.proofs.curve.add_blocks.Goals as goal
+use Rattle.ramp_step.proofs.curve.add_blocks.Goals.{After-split_all-n}
 
 pub split_all-n-requires-clause-limits : goal.split_all-n-requires-clause-limits
 split_all-n-requires-clause-limits c =
@@ -20,61 +21,47 @@ split_all-n-requires-clause-limits c =
       amounts = λ k h. rw (s.meet k h) ((c.requires.fits f s (place ks k) (is_inside ks c.args.used f k s h)).1);
     }
 
-pub raise_curve-requires-clause-curve : goal.raise_curve-requires-clause-curve
-raise_curve-requires-clause-curve c =
-    let e-start : to_z w64 (of_z w64 c.args.from) ≡ c.args.from = to_z-of_z w64 _ c.ranges.from in
-    let e-value : to_z w64 (of_z w64 c.args.value) ≡ c.args.value = to_z-of_z w64 _ c.ranges.value in
-    rw (e-value, e-start) c.requires.curve
+-- the places after the splits are on the curve
+inside : (c : After-split_all-n) (k : ℕ) → k < c.split_all-n.result → IsInside c.args.knots.now c.args.used (place c.split_all-n.new.knots k)
+inside c k h =
+    inside_same c.args.knots.now c.split_all-n.new.knots c.args.used c.split_all-n.result (place c.split_all-n.new.knots k) c.split_all-n.ensures.refined.ends
+    (is_inside c.split_all-n.new.knots c.split_all-n.result c.requires.stand.0 k (c.split_all-n.ensures.refined.function c.requires.stand.0 c.requires.stand.1) h)
 
-pub raise_curve-requires-clause-low : goal.raise_curve-requires-clause-low
-raise_curve-requires-clause-low c = λ k h.
-    let ks = c.args.knots.now in
+pub raise_curve-requires : goal.raise_curve-requires
+raise_curve-requires c =
     let k1 = c.split_all-n.new.knots in
     let f = c.requires.stand.0 in
     let s1 = c.split_all-n.ensures.refined.function f c.requires.stand.1 in
-    let e-start : to_z w64 (of_z w64 c.args.from) ≡ c.args.from = to_z-of_z w64 _ c.ranges.from in
-    rw e-start ((c.requires.inside (place k1 k) (inside_same ks k1 c.args.used c.split_all-n.result (place k1 k) c.split_all-n.ensures.refined.ends (is_inside k1 c.split_all-n.result f k s1 h))).0)
-
-pub raise_curve-requires-clause-high : goal.raise_curve-requires-clause-high
-raise_curve-requires-clause-high c = λ k h.
-    let ks = c.args.knots.now in
-    let k1 = c.split_all-n.new.knots in
-    let f = c.requires.stand.0 in
-    let s1 = c.split_all-n.ensures.refined.function f c.requires.stand.1 in
-    let e-start : to_z w64 (of_z w64 c.args.from) ≡ c.args.from = to_z-of_z w64 _ c.ranges.from in
-    rw e-start ((c.requires.inside (place k1 k) (inside_same ks k1 c.args.used c.split_all-n.result (place k1 k) c.split_all-n.ensures.refined.ends (is_inside k1 c.split_all-n.result f k s1 h))).1)
-
-pub raise_curve-requires-clause-after : goal.raise_curve-requires-clause-after
-raise_curve-requires-clause-after c = λ k h.
-    let ks = c.args.knots.now in
-    let k1 = c.split_all-n.new.knots in
-    let f = c.requires.stand.0 in
-    let s = c.requires.stand.1 in
-    let s1 = c.split_all-n.ensures.refined.function f s in
-    let e-value : to_z w64 (of_z w64 c.args.value) ≡ c.args.value = to_z-of_z w64 _ c.ranges.value in
-    let e-start : to_z w64 (of_z w64 c.args.from) ≡ c.args.from = to_z-of_z w64 _ c.ranges.from in
-    rw (s1.meet k h, e-value, e-start)
-    ((c.requires.fits f s (place k1 k) (inside_same ks k1 c.args.used c.split_all-n.result (place k1 k) c.split_all-n.ensures.refined.ends (is_inside k1 c.split_all-n.result f k s1 h))).2)
+    let in_old = inside (goal.at.raise_curve-requires c).After-split_all-n in
+    let e-value = to_z-of_z w64 c.args.value c.ranges.value in
+    let e-start = to_z-of_z w64 c.args.from c.ranges.from in
+    record {
+      room = omega arith;
+      curve = rw (e-value, e-start) c.requires.curve;
+      rise = s1.rise;
+      low = λ k h. rw e-start (c.requires.inside (place k1 k) (in_old k h)).0;
+      high = λ k h. rw e-start (c.requires.inside (place k1 k) (in_old k h)).1;
+      before = c.split_all-n.ensures.limits.amounts;
+      after = λ k h. rw (s1.meet k h, e-value, e-start) ((c.requires.fits f c.requires.stand.1 (place k1 k) (in_old k h)).2);
+    }
 
 pub returns-clause-stand : goal.returns-clause-stand
 returns-clause-stand c = λ f s.
-    let ks = c.args.knots.now in
     let k1 = c.split_all-n.new.knots in
     let n = c.split_all-n.result in
     let bs = c.args.blocks.now in
     let v = c.args.value in
     let start = c.args.from in
-    let e-value : to_z w64 (of_z w64 c.args.value) ≡ c.args.value = to_z-of_z w64 _ c.ranges.value in
     let e-start : to_z w64 (of_z w64 c.args.from) ≡ start = to_z-of_z w64 _ c.ranges.from in
     let refined = rw e-start at c.split_all-n.ensures.refined in
-    let raised = rw (e-value, e-start) at c.raise_curve.ensures in
+    let raised = rw (to_z-of_z w64 c.args.value c.ranges.value, e-start) at c.raise_curve.ensures in
     let s1 = refined.function f s in
     StandFor-raised (curve_term v bs start) n k1 c.raise_curve.new.knots f s1 raised
     (λ k h. curve_straight v bs start (place k1 k) (place k1 (k + 1)) (refined.apart k h))
     (λ x from to. elim (cases_lt 0 n) [
       | inl some ↦ curve_convex v c.requires.curve.lowest bs start (place k1 0) (place k1 (n - 1)) c.requires.curve.blocks
-          ((c.requires.inside (place k1 0) (inside_same ks k1 c.args.used n (place k1 0) refined.ends (is_inside k1 n f 0 s1 some))).0)
-          ((c.requires.inside (place k1 (n - 1)) (inside_same ks k1 c.args.used n (place k1 (n - 1)) refined.ends (is_inside k1 n f (n - 1) s1 (omega arith)))).1)
+          (c.requires.inside (place k1 0) (inside (goal.at.returns-clause-stand c).After-split_all-n 0 some)).0
+          (c.requires.inside (place k1 (n - 1)) (inside (goal.at.returns-clause-stand c).After-split_all-n (n - 1) (omega arith))).1
           x from to
       | inr none ↦ let e : place k1 (n - 1) ≡ place k1 0 = ap (place k1) (omega arith) in absurd (omega (arith, ints))
     ])
@@ -83,6 +70,3 @@ pub returns-clause-ends : goal.returns-clause-ends
 returns-clause-ends c =
     HaveSameEnds-then c.args.knots.now c.split_all-n.new.knots c.raise_curve.new.knots c.args.used c.split_all-n.result c.split_all-n.result
     c.split_all-n.ensures.refined.ends (HaveSameEnds-raised _ c.split_all-n.result c.split_all-n.new.knots c.raise_curve.new.knots c.raise_curve.ensures)
-
-pub raise_curve-requires-clause-rise : goal.raise_curve-requires-clause-rise
-raise_curve-requires-clause-rise c = (c.split_all-n.ensures.refined.function c.requires.stand.0 c.requires.stand.1).rise

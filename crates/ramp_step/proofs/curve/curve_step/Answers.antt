@@ -35,35 +35,21 @@ read c fits fits-at =
     let start = limited.ends 0 (omega arith) in
     record { value_is = to_z-of_z w64 _ fits; from_is = omega (arith, ints); blocks_are = c.as_slice-blocks.ensures }
 
-pub add_blocks-n-requires-clause-stand : goal.add_blocks-n-requires-clause-stand
-add_blocks-n-requires-clause-stand c = shape_of c.args.knots.now c.args.used c.requires.breaks
-
-pub add_blocks-n-requires-clause-curve : goal.add_blocks-n-requires-clause-curve
-add_blocks-n-requires-clause-curve c =
+pub add_blocks-n-requires : goal.add_blocks-n-requires
+add_blocks-n-requires c =
     let ks = c.args.knots.now in
     let n = c.args.used in
     let fits : FitsSigned w64 c.args.curve.now.value = search rules in
     let fits-at : FitsSigned w64 c.args.curve.now.at = search rules in
-    let r = read (goal.at.add_blocks-n-requires-clause-curve c).After-as_slice-blocks fits fits-at in
-    rw (r.value_is, r.from_is, r.blocks_are) (AreLimitedBlocks-curve c.args.curve.now c.args.shift ks n c.requires.some (shape_of ks n c.requires.breaks) c.requires.breaks.within c.requires.limited c.requires.fits)
-
-pub add_blocks-n-requires-clause-inside : goal.add_blocks-n-requires-clause-inside
-add_blocks-n-requires-clause-inside c =
-    let ks = c.args.knots.now in
-    let n = c.args.used in
-    let fits : FitsSigned w64 c.args.curve.now.value = search rules in
-    let fits-at : FitsSigned w64 c.args.curve.now.at = search rules in
-    let r = read (goal.at.add_blocks-n-requires-clause-inside c).After-as_slice-blocks fits fits-at in
-    rw (r.from_is, r.blocks_are) (IsOver-curve c.args.curve.now c.args.shift ks n c.requires.some (shape_of ks n c.requires.breaks) c.requires.breaks.within c.requires.limited c.requires.fits)
-
-pub add_blocks-n-requires-clause-fits : goal.add_blocks-n-requires-clause-fits
-add_blocks-n-requires-clause-fits c =
-    let ks = c.args.knots.now in
-    let n = c.args.used in
-    let fits : FitsSigned w64 c.args.curve.now.value = search rules in
-    let fits-at : FitsSigned w64 c.args.curve.now.at = search rules in
-    let r = read (goal.at.add_blocks-n-requires-clause-fits c).After-as_slice-blocks fits fits-at in
-    rw (r.value_is, r.from_is, r.blocks_are) (CanAdd-curve c.args.curve.now c.args.shift ks n c.requires.some (shape_of ks n c.requires.breaks) c.requires.breaks.within c.requires.limited c.requires.fits)
+    let r = read (goal.at.add_blocks-n-requires c).After-as_slice-blocks fits fits-at in
+    let shape = shape_of ks n c.requires.breaks in
+    record {
+      room = rw r.blocks_are c.requires.room;
+      stand = shape;
+      curve = rw (r.value_is, r.from_is, r.blocks_are) (AreLimitedBlocks-curve c.args.curve.now c.args.shift ks n c.requires.some shape c.requires.breaks.within c.requires.limited c.requires.fits);
+      inside = rw (r.from_is, r.blocks_are) (IsOver-curve c.args.curve.now c.args.shift ks n c.requires.some shape c.requires.breaks.within c.requires.limited c.requires.fits);
+      fits = rw (r.value_is, r.from_is, r.blocks_are) (CanAdd-curve c.args.curve.now c.args.shift ks n c.requires.some shape c.requires.breaks.within c.requires.limited c.requires.fits);
+    }
 
 pub returns-clause-sum : goal.returns-clause-sum
 returns-clause-sum c =

@@ -14,10 +14,8 @@ on_block-requires-clause-fits c =
     let i = c.loop-i.i in
     let was : knot c.loop-i.knots i ≡ knot c.args.knots.now i = c.loop-i.invariant.rest i (omega arith) in
     let at = ap (λ (q : Knot). q.at) was in
-    let e-start : to_z w64 (of_z w64 c.args.start) ≡ c.args.start = to_z-of_z w64 _ c.ranges.start in
-    let e-level : to_z w64 (of_z w64 c.args.level) ≡ c.args.level = to_z-of_z w64 _ c.ranges.level in
     let e-price : to_z w64 (of_z w64 c.args.price) ≡ c.args.price = to_z-of_z w64 _ c.ranges.price in
-    rw (e-start, e-level, e-price, was) (c.requires.fits i (omega arith) (omega arith) (omega (arith, ints)))
+    rw (to_z-of_z w64 c.args.start c.ranges.start, to_z-of_z w64 c.args.level c.ranges.level, e-price, was) (c.requires.fits i (omega arith) (omega arith) (omega (arith, ints)))
 
 pub loop-i-preserved : goal.loop-i-preserved
 loop-i-preserved c =
@@ -60,16 +58,13 @@ loop-i-preserved c =
 pub returns-then-knot-end : goal.returns-then-knot-end
 returns-then-knot-end c =
     let was = c.loop-i.invariant in
-    let e-start : to_z w64 (of_z w64 c.args.start) ≡ c.args.start = to_z-of_z w64 _ c.ranges.start in
-    let e-level : to_z w64 (of_z w64 c.args.level) ≡ c.args.level = to_z-of_z w64 _ c.ranges.level in
-    let e-price : to_z w64 (of_z w64 c.args.price) ≡ c.args.price = to_z-of_z w64 _ c.ranges.price in
     let same = was.rest c.loop-i.i (omega arith) in
     record {
       from = omega arith;
       to = omega arith;
       before = was.before;
       places = was.places;
-      heights = rw (e-start, e-level, e-price) at was.heights;
+      heights = rw (to_z-of_z w64 c.args.start c.ranges.start, to_z-of_z w64 c.args.level c.ranges.level, to_z-of_z w64 c.args.price c.ranges.price) at was.heights;
       upto = λ k h l. let u = was.upto k h l in omega (arith, ints);
       after = was.rest;
       beyond = λ h. let at = ap (λ (p : Knot). p.at) same in omega (arith, ints);
@@ -78,10 +73,7 @@ returns-then-knot-end c =
 pub returns : goal.returns
 returns c =
     let was = c.loop-i.invariant in
-    let e-start : to_z w64 (of_z w64 c.args.start) ≡ c.args.start = to_z-of_z w64 _ c.ranges.start in
-    let e-level : to_z w64 (of_z w64 c.args.level) ≡ c.args.level = to_z-of_z w64 _ c.ranges.level in
-    let e-price : to_z w64 (of_z w64 c.args.price) ≡ c.args.price = to_z-of_z w64 _ c.ranges.price in
-    let heights = rw (e-start, e-level, e-price) at was.heights in
+    let heights = rw (to_z-of_z w64 c.args.start c.ranges.start, to_z-of_z w64 c.args.level c.ranges.level, to_z-of_z w64 c.args.price c.ranges.price) at was.heights in
     record {
       from = omega arith;
       to = omega arith;

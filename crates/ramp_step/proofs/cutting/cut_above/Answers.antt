@@ -12,9 +12,8 @@ returns-then-m-n-clause-cut c =
 
 pub returns-then-knots-m-clause-cut : goal.returns-then-knots-m-clause-cut
 returns-then-knots-m-clause-cut c =
-    let e : to_z w64 (of_z w64 c.args.hi) ≡ c.args.hi = to_z-of_z w64 _ c.ranges.hi in
     IsCut-at c.args.knots.now c.split-n.new.knots c.args.used c.split-n.result c.below-m.result c.args.hi c.requires.stand
-    (rw e at c.split-n.ensures.split) (omega arith) (omega (arith, ints))
+    (rw (to_z-of_z w64 c.args.hi c.ranges.hi) at c.split-n.ensures.split) (omega arith) (omega (arith, ints))
 
 pub returns-clause-cut : goal.returns-clause-cut
 returns-clause-cut c =

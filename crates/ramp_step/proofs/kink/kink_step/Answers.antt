@@ -26,10 +26,7 @@ lower-requires-clause-after c = λ k h.
     let shape = shape_of ks n c.requires.breaks in
     let s1 = c.split-n.ensures.split.function shape.0 shape.1 in
     let fits = can_add ks n c.requires.breaks (reserve_term c.args.mu c.args.cap c.args.up) c.requires.fits shape.0 shape.1 in
-    let e-mu : to_z w64 (of_z w64 c.args.mu) ≡ c.args.mu = to_z-of_z w64 _ c.ranges.mu in
-    let e-cap : to_z w64 (of_z w64 c.args.cap) ≡ c.args.cap = to_z-of_z w64 _ c.ranges.cap in
-    let e-up : to_z w64 (of_z w64 c.args.up) ≡ c.args.up = to_z-of_z w64 _ c.ranges.up in
-    rw (s1.meet k h, e-mu, e-cap, e-up)
+    rw (s1.meet k h, to_z-of_z w64 c.args.mu c.ranges.mu, to_z-of_z w64 c.args.cap c.ranges.cap, to_z-of_z w64 c.args.up c.ranges.up)
     ((fits (place k1 k) (inside_same ks k1 n c.split-n.result (place k1 k) c.split-n.ensures.split.ends (is_inside k1 c.split-n.result shape.0 k s1 h))).2)
 
 step : (c : After-lower) → (f : ℤ → ℤ) → StandFor c.args.knots.now c.args.used f → StandFor c.lower.new.knots c.split-n.result (λ x. f x +ℤ reserve_term c.args.mu c.args.cap c.args.up x)
@@ -38,12 +35,9 @@ step c f s =
     let mu = c.args.mu in
     let cap = c.args.cap in
     let up = c.args.up in
-    let e-mu : to_z w64 (of_z w64 c.args.mu) ≡ c.args.mu = to_z-of_z w64 _ c.ranges.mu in
-    let e-cap : to_z w64 (of_z w64 c.args.cap) ≡ c.args.cap = to_z-of_z w64 _ c.ranges.cap in
-    let e-up : to_z w64 (of_z w64 c.args.up) ≡ c.args.up = to_z-of_z w64 _ c.ranges.up in
     let e-kink : to_z w64 (of_z w64 (to_z w64 (of_z w64 c.args.cap) -ℤ to_z w64 (of_z w64 c.args.up))) ≡ cap -ℤ up = omega (arith, ints) in
     let split = rw e-kink at c.split-n.ensures.split in
-    let raised = rw (e-mu, e-cap, e-up) at c.lower.ensures in
+    let raised = rw (to_z-of_z w64 c.args.mu c.ranges.mu, to_z-of_z w64 c.args.cap c.ranges.cap, to_z-of_z w64 c.args.up c.ranges.up) at c.lower.ensures in
     StandFor-raised (reserve_term mu cap up) c.split-n.result k1 c.lower.new.knots f (split.function f s) raised
     (λ k h. kink_straight mu cap up (place k1 k) (place k1 (k + 1)) (split.apart k h))
     (kink_convex mu cap up (place k1 0) (place k1 (c.split-n.result - 1)) c.requires.mu)

@@ -28,17 +28,11 @@ pub lowered-requires-clause-after : goal.lowered-requires-clause-after
 lowered-requires-clause-after c =
     let i = c.loop-i.i in
     let was : knot c.loop-i.knots i ≡ knot c.args.knots.now i = c.loop-i.invariant.rest i (omega arith) in
-    let e-mu : to_z w64 (of_z w64 c.args.mu) ≡ c.args.mu = to_z-of_z w64 _ c.ranges.mu in
-    let e-cap : to_z w64 (of_z w64 c.args.cap) ≡ c.args.cap = to_z-of_z w64 _ c.ranges.cap in
-    let e-up : to_z w64 (of_z w64 c.args.up) ≡ c.args.up = to_z-of_z w64 _ c.ranges.up in
-    rw (was, e-mu, e-cap, e-up) (c.requires.after i (omega arith))
+    rw (was, to_z-of_z w64 c.args.mu c.ranges.mu, to_z-of_z w64 c.args.cap c.ranges.cap, to_z-of_z w64 c.args.up c.ranges.up) (c.requires.after i (omega arith))
 
 pub returns : goal.returns
 returns c =
-    let e-mu : to_z w64 (of_z w64 c.args.mu) ≡ c.args.mu = to_z-of_z w64 _ c.ranges.mu in
-    let e-cap : to_z w64 (of_z w64 c.args.cap) ≡ c.args.cap = to_z-of_z w64 _ c.ranges.cap in
-    let e-up : to_z w64 (of_z w64 c.args.up) ≡ c.args.up = to_z-of_z w64 _ c.ranges.up in
-    let heights = rw (e-mu, e-cap, e-up) at c.loop-i.invariant.heights in
+    let heights = rw (to_z-of_z w64 c.args.mu c.ranges.mu, to_z-of_z w64 c.args.cap c.ranges.cap, to_z-of_z w64 c.args.up c.ranges.up) at c.loop-i.invariant.heights in
     record {
       places = λ k h. c.loop-i.invariant.places k (omega arith);
       heights = λ k h. heights k (omega arith);

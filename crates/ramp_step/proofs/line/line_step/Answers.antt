@@ -15,22 +15,20 @@ raise_line-requires c =
     let b = c.requires.breaks in
     let shape = shape_of ks n b in
     let s = shape.1 in
-    let e : to_z w64 (of_z w64 c.args.slope) ≡ c.args.slope = to_z-of_z w64 _ c.ranges.slope in
     let fits = can_add ks n b (λ x. c.args.slope *ℤ x) c.requires.fits shape.0 s in
     let within = within_of ks n b in
     record {
       room = c.requires.room;
       places = within.places;
       before = within.amounts;
-      after = λ k h. rw (s.meet k h, e) ((fits (place ks k) (is_inside ks n shape.0 k s h)).2);
+      after = λ k h. rw (s.meet k h, to_z-of_z w64 c.args.slope c.ranges.slope) ((fits (place ks k) (is_inside ks n shape.0 k s h)).2);
     }
 
 pub returns : goal.returns
 returns c =
     let ks = c.args.knots.now in
     let n = c.args.used in
-    let e : to_z w64 (of_z w64 c.args.slope) ≡ c.args.slope = to_z-of_z w64 _ c.ranges.slope in
-    let raised = rw e at c.raise_line.ensures in
+    let raised = rw (to_z-of_z w64 c.args.slope c.ranges.slope) at c.raise_line.ensures in
     let term : ℤ → ℤ = λ x. c.args.slope *ℤ x in
     let ends = HaveSameEnds-raised term n ks c.raise_line.new.knots raised in
     let step : (f : ℤ → ℤ) → StandFor ks n f → StandFor c.raise_line.new.knots n (λ x. f x +ℤ term x) =

@@ -11,11 +11,10 @@ pub on_line-requires : goal.on_line-requires
 on_line-requires c =
     let i = c.loop-i.i in
     let was : knot c.loop-i.knots i ≡ knot c.args.knots.now i = c.loop-i.invariant.rest i (omega arith) in
-    let e : to_z w64 (of_z w64 c.args.slope) ≡ c.args.slope = to_z-of_z w64 _ c.ranges.slope in
     record {
       at = rw was (c.requires.places i (omega arith));
       before = rw was (c.requires.before i (omega arith));
-      after = rw (was, e) (c.requires.after i (omega arith));
+      after = rw (was, to_z-of_z w64 c.args.slope c.ranges.slope) (c.requires.after i (omega arith));
     }
 
 pub loop-i-preserved : goal.loop-i-preserved

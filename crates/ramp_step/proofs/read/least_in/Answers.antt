@@ -16,11 +16,10 @@ nearest : (c : After-max-at) → to_z w64 (of_z w64 c.max-at.result) ≡ int_max
 nearest c =
     let ks = c.args.knots.now in
     let j = c.turn-j.result in
-    let e-lo : to_z w64 (of_z w64 c.args.lo) ≡ c.args.lo = to_z-of_z w64 _ c.ranges.lo in
     let e-hi : to_z w64 (of_z w64 c.args.hi) ≡ c.args.hi = to_z-of_z w64 _ c.ranges.hi in
     let e-turn : to_z w64 (of_z w64 (place ks j)) ≡ place ks j = omega (arith, ints) in
     let e-min : to_z w64 (of_z w64 c.min.result) ≡ int_min c.args.hi (place ks j) = to_z-of_z w64 _ (record { sfits = c.min.type_inv }) ∙ rw (e-hi, e-turn) at c.min.ensures.value in
-    to_z-of_z w64 _ (record { sfits = c.max-at.type_inv }) ∙ rw (e-lo, e-min) at c.max-at.ensures.value
+    to_z-of_z w64 _ (record { sfits = c.max-at.type_inv }) ∙ rw (to_z-of_z w64 c.args.lo c.ranges.lo, e-min) at c.max-at.ensures.value
 
 -- what the value there says
 answered : (c : After-max-at) → c.args.lo ≤ℤ c.args.hi → (o : Option ℤ) → o ≡ value_of (table_of c.args.knots.now c.args.used) (to_z w64 (of_z w64 c.max-at.result))

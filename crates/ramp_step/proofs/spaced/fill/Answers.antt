@@ -23,78 +23,49 @@ returns-then-knots-back-clause-split c =
     let at = ap (λ (q : Knot). q.at) (spaced_after c.args.knots.now c.args.front c.args.room c.args.front (omega arith) (omega arith)) in
     IsSplit-still (spaced c.args.knots.now c.args.front c.args.room) (c.args.total - c.args.room) c.args.front c.args.x c.requires.stand c.requires.below (inr (inr (omega (arith, ints))))
 
-pub between-knot-requires-clause-line : goal.between-knot-requires-clause-line
-between-knot-requires-clause-line c =
+pub between-knot-requires : goal.between-knot-requires
+between-knot-requires c =
     let ks = c.args.knots.now in
     let front = c.args.front in
     let room = c.args.room in
-    let e : to_z w64 (of_z w64 c.args.x) ≡ c.args.x = to_z-of_z w64 _ c.ranges.x in
     let b = c.requires.below in
     let low = b.before (front - 1) (omega arith) in
     let high = b.after (omega arith) in
     let left = spaced_before ks front room (front - 1) (omega arith) (omega arith) in
     let right = spaced_after ks front room front (omega arith) (omega arith) in
     let line = on_line_between (spaced ks front room) (c.args.total - room) front c.requires.stand.0 c.requires.stand.1 (omega arith) (omega arith) c.args.x (omega (arith, ints)) high in
-    rw e (subst (λ (q : Knot). IsOnLine (knot ks (front - 1)) q c.args.x) right (subst (λ (p : Knot). IsOnLine p (knot (spaced ks front room) front) c.args.x) left line))
-
-pub between-knot-requires-clause-within : goal.between-knot-requires-clause-within
-between-knot-requires-clause-within c =
-    let ks = c.args.knots.now in
-    let front = c.args.front in
-    let room = c.args.room in
-    let left = spaced_before ks front room (front - 1) (omega arith) (omega arith) in
-    let right = spaced_after ks front room front (omega arith) (omega arith) in
     let within = within_between (spaced ks front room) (c.args.total - room) front c.requires.limits (omega arith) (omega arith) in
-    subst (λ (q : Knot). AreWithin (knot ks (front - 1)) q) right (subst (λ (p : Knot). AreWithin p (knot (spaced ks front room) front)) left within)
+    record {
+      line = rw (to_z-of_z w64 c.args.x c.ranges.x) (subst (λ (q : Knot). IsOnLine (knot ks (front - 1)) q c.args.x) right (subst (λ (p : Knot). IsOnLine p (knot (spaced ks front room) front) c.args.x) left line));
+      within = subst (λ (q : Knot). AreWithin (knot ks (front - 1)) q) right (subst (λ (p : Knot). AreWithin p (knot (spaced ks front room) front)) left within);
+    }
 
-pub returns-clause-split : goal.returns-clause-split
-returns-clause-split c =
+pub returns : goal.returns
+returns c =
     let ks = c.args.knots.now in
     let front = c.args.front in
     let room = c.args.room in
     let n = c.args.total - room in
     let q : Knot = c.between-knot.result in
     let x = c.args.x in
-    let e : to_z w64 (of_z w64 c.args.x) ≡ c.args.x = to_z-of_z w64 _ c.ranges.x in
     let left = spaced_before ks front room (front - 1) (omega arith) (omega arith) in
     let right = spaced_after ks front room front (omega arith) (omega arith) in
-    let is : IsBetween (knot ks (front - 1)) (knot ks (front + room)) x q = rw e at c.between-knot.ensures in
+    let is : IsBetween (knot ks (front - 1)) (knot ks (front + room)) x q = rw (to_z-of_z w64 x c.ranges.x) at c.between-knot.ensures in
     let between : IsBetween (knot (spaced ks front room) (front - 1)) (knot (spaced ks front room) front) x q =
     subst (λ (b : Knot). IsBetween (knot (spaced ks front room) (front - 1)) b x q) (sym right) (subst (λ (a : Knot). IsBetween a (knot ks (front + room)) x q) (sym left) is) in
     let new = slice_set ks ((front + room) - 1) q in
+    let put = IsInserted-put ks front room n q c.requires.some (omega arith) in
     let at = ap (λ (p : Knot). p.at) right in
-    subst (λ (m : ℕ). IsSplit x (spaced ks front room) n (spaced new front (room - 1)) m) (omega arith)
-    (IsSplit-inserted (spaced ks front room) (spaced new front (room - 1)) n front x q c.requires.stand c.requires.below (omega arith) (omega arith)
-    (λ same. omega (arith, ints)) between (IsInserted-put ks front room n q c.requires.some (omega arith)))
-
-pub returns-clause-limits : goal.returns-clause-limits
-returns-clause-limits c =
-    let ks = c.args.knots.now in
-    let front = c.args.front in
-    let room = c.args.room in
-    let n = c.args.total - room in
-    let q : Knot = c.between-knot.result in
-    let e : to_z w64 (of_z w64 c.args.x) ≡ c.args.x = to_z-of_z w64 _ c.ranges.x in
-    let is : IsBetween (knot ks (front - 1)) (knot ks (front + room)) c.args.x q = rw e at c.between-knot.ensures in
-    let new = slice_set ks ((front + room) - 1) q in
-    let b = c.requires.below in
-    let low = b.before (front - 1) (omega arith) in
-    let high = b.after (omega arith) in
+    let low = c.requires.below.before (front - 1) (omega arith) in
+    let high = c.requires.below.after (omega arith) in
     let p0 = (c.requires.limits.places (front - 1) (omega arith)).0 in
     let q1 = (c.requires.limits.places front (omega arith)).1 in
-    subst (λ (m : ℕ). IsLimited (spaced new front (room - 1)) m) (omega arith)
-    (IsLimited-inserted (spaced ks front room) (spaced new front (room - 1)) n front q c.requires.limits (omega arith)
-    (IsInserted-put ks front room n q c.requires.some (omega arith)) (omega (arith, ints), omega (arith, ints)) is.amount)
-
-pub returns-clause-below : goal.returns-clause-below
-returns-clause-below c =
-    let ks = c.args.knots.now in
-    let front = c.args.front in
-    let room = c.args.room in
-    let n = c.args.total - room in
-    let q : Knot = c.between-knot.result in
-    let e : to_z w64 (of_z w64 c.args.x) ≡ c.args.x = to_z-of_z w64 _ c.ranges.x in
-    let is : IsBetween (knot ks (front - 1)) (knot ks (front + room)) c.args.x q = rw e at c.between-knot.ensures in
-    let new = slice_set ks ((front + room) - 1) q in
-    subst (λ (m : ℕ). AreBelow (spaced new front (room - 1)) m c.args.x front) (omega arith)
-    (AreBelow-put ks front room n q c.requires.some (omega arith) c.args.x is.at c.requires.below)
+    record {
+      split = subst (λ (m : ℕ). IsSplit x (spaced ks front room) n (spaced new front (room - 1)) m) (omega arith)
+          (IsSplit-inserted (spaced ks front room) (spaced new front (room - 1)) n front x q c.requires.stand c.requires.below (omega arith) (omega arith) (λ same. omega (arith, ints)) between put);
+      limits = subst (λ (m : ℕ). IsLimited (spaced new front (room - 1)) m) (omega arith)
+          (IsLimited-inserted (spaced ks front room) (spaced new front (room - 1)) n front q c.requires.limits (omega arith) put (omega (arith, ints), omega (arith, ints)) is.amount);
+      below = subst (λ (m : ℕ). AreBelow (spaced new front (room - 1)) m x front) (omega arith) (AreBelow-put ks front room n q c.requires.some (omega arith) x is.at c.requires.below);
+      at_most = omega arith;
+      charge = omega arith;
+    }

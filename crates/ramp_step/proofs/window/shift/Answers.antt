@@ -11,16 +11,12 @@ returns-then-reach-eq0-clause-window c =
 pub returns-then-reach-eq0-clause-limits : goal.returns-then-reach-eq0-clause-limits
 returns-then-reach-eq0-clause-limits c = IsLimited-still c.args.knots.now c.args.used c.requires.places c.requires.amounts
 
-pub returns-clause-window : goal.returns-clause-window
-returns-clause-window c =
-    let e-up : to_z w64 (of_z w64 c.args.up) ≡ c.args.up = to_z-of_z w64 _ c.ranges.up in
-    let e-down : to_z w64 (of_z w64 c.args.down) ≡ c.args.down = to_z-of_z w64 _ c.ranges.down in
-    AreWindow-spread c.args.knots.now c.spread.new.knots c.args.used c.turn-j.result c.args.up c.args.down
-    c.requires.up c.requires.down (omega (arith, ints)) c.turn-j.ensures (rw (e-up, e-down) at c.spread.ensures)
-
-pub returns-clause-limits : goal.returns-clause-limits
-returns-clause-limits c =
-    let e-up : to_z w64 (of_z w64 c.args.up) ≡ c.args.up = to_z-of_z w64 _ c.ranges.up in
-    let e-down : to_z w64 (of_z w64 c.args.down) ≡ c.args.down = to_z-of_z w64 _ c.ranges.down in
-    IsLimited-spread c.args.knots.now c.spread.new.knots c.args.used c.turn-j.result c.args.up c.args.down
-    c.requires.places c.requires.amounts c.requires.up_fits c.requires.down_fits c.turn-j.ensures.inside (rw (e-up, e-down) at c.spread.ensures)
+pub returns : goal.returns
+returns c =
+    let spread = rw (to_z-of_z w64 c.args.up c.ranges.up, to_z-of_z w64 c.args.down c.ranges.down) at c.spread.ensures in
+    record {
+      window = AreWindow-spread c.args.knots.now c.spread.new.knots c.args.used c.turn-j.result c.args.up c.args.down c.requires.up c.requires.down (omega (arith, ints)) c.turn-j.ensures spread;
+      limits = IsLimited-spread c.args.knots.now c.spread.new.knots c.args.used c.turn-j.result c.args.up c.args.down
+          c.requires.places c.requires.amounts c.requires.up_fits c.requires.down_fits c.turn-j.ensures.inside spread;
+      charge = omega arith;
+    }

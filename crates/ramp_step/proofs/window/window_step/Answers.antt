@@ -32,13 +32,12 @@ cut_below-left-requires-clause-stand c =
 
 on_knots : (c : After-cut_below-left) → IsWindow c.args.up c.args.down c.args.lo c.args.hi c.args.knots.now c.args.used c.cut_below-left.new.knots c.cut_below-left.result
 on_knots c =
-    let e-up : to_z w64 (of_z w64 c.args.up) ≡ c.args.up = to_z-of_z w64 _ c.ranges.up in
     let e-down : to_z w64 (of_z w64 c.args.down) ≡ c.args.down = to_z-of_z w64 _ c.ranges.down in
     let e-lo : to_z w64 (of_z w64 c.args.lo) ≡ c.args.lo = to_z-of_z w64 _ c.ranges.lo in
     let e-hi : to_z w64 (of_z w64 c.args.hi) ≡ c.args.hi = to_z-of_z w64 _ c.ranges.hi in
     IsWindow-cut c.args.knots.now c.shift-moved.new.knots c.cut_above-kept.new.knots c.cut_below-left.new.knots
     c.args.used c.shift-moved.result c.cut_above-kept.result c.cut_below-left.result c.args.up c.args.down c.args.lo c.args.hi
-    (rw (e-up, e-down) at c.shift-moved.ensures.window) (rw e-hi at c.cut_above-kept.ensures.cut) (rw e-lo at c.cut_below-left.ensures.cut) (omega arith)
+    (rw (to_z-of_z w64 c.args.up c.ranges.up, e-down) at c.shift-moved.ensures.window) (rw e-hi at c.cut_above-kept.ensures.cut) (rw e-lo at c.cut_below-left.ensures.cut) (omega arith)
 
 pub returns-clause-window : goal.returns-clause-window
 returns-clause-window c =
