@@ -29,18 +29,6 @@ rise_right b bs s x h =
     ap (λ z. b.price *ℤ z +ℤ rise_over bs (s +ℤ b.width) (int_max x (s +ℤ b.width))) m
     ∙ ap (λ z. b.price *ℤ b.width +ℤ rise_over bs (s +ℤ b.width) z) n
 
-before : (x s : ℤ) → (x -ℤ pos 1) -ℤ s ≡ (x -ℤ s) -ℤ pos 1
-before x s = omega (arith, ints)
-
-none : (s : ℤ) → s -ℤ s ≡ pos 0
-none s = omega (arith, ints)
-
-one : (s : ℤ) → (s +ℤ pos 1) -ℤ s ≡ pos 1
-one s = omega (arith, ints)
-
-next : (j : ℕ) → suc j + 1 ≡ suc (j + 1)
-next j = omega arith
-
 -- where no block ends in between, the rise is straight
 pub rise_straight : (bs : List Block) (s lo hi : ℤ) → EndsOutside bs s (length bs) lo hi → IsStraight lo hi (rise_over bs s)
 rise_straight [] s lo hi out x low high = omega (arith, ints)
@@ -68,8 +56,8 @@ first_slope p (b ∷ bs) s are h =
     (λ some.
     let e = rise_left b bs s s (omega (arith, ints)) in
     let e1 = rise_left b bs s (s +ℤ pos 1) (omega (arith, ints)) in
-    let a : b.price *ℤ (s -ℤ s) ≡ pos 0 = ap (λ z. b.price *ℤ z) (none s) ∙ *ℤ-zero b.price in
-    let c : b.price *ℤ ((s +ℤ pos 1) -ℤ s) ≡ b.price = ap (λ z. b.price *ℤ z) (one s) ∙ times_one b.price in
+    let a : b.price *ℤ (s -ℤ s) ≡ pos 0 = ap (λ (z : ℤ). b.price *ℤ z) (omega (arith, ints)) ∙ *ℤ-zero b.price in
+    let c : b.price *ℤ ((s +ℤ pos 1) -ℤ s) ≡ b.price = ap (λ (z : ℤ). b.price *ℤ z) (omega (arith, ints)) ∙ times_one b.price in
     omega (arith, ints))
     (λ empty.
     let t = s +ℤ b.width in
@@ -105,7 +93,7 @@ rise_convex p (b ∷ bs) s are x low high =
     let e0 = rise_left b bs s (x -ℤ pos 1) (omega (arith, ints)) in
     let e1 = rise_right b bs s (x +ℤ pos 1) (omega (arith, ints)) in
     let w : b.price *ℤ b.width ≡ b.price *ℤ (x -ℤ s) = ap (λ z. b.price *ℤ z) (omega (arith, ints)) in
-    let l = ap (λ z. b.price *ℤ z) (before x s) ∙ times_prev b.price (x -ℤ s) in
+    let l = ap (λ (z : ℤ). b.price *ℤ z) {x = (x -ℤ pos 1) -ℤ s} (omega (arith, ints)) ∙ times_prev b.price (x -ℤ s) in
     let rest = first_slope b.price bs t are.2 (omega (arith, ints)) in
     let g : rise_over bs t (t +ℤ pos 1) ≡ rise_over bs t (x +ℤ pos 1) = ap (λ z. rise_over bs t (z +ℤ pos 1)) same in
     omega (arith, ints)))
@@ -115,7 +103,7 @@ rise_convex p (b ∷ bs) s are x low high =
 pub block_end_next : (bs : List Block) (s : ℤ) (j : ℕ) (d : Block) → j < length bs → block_end bs s (j + 1) ≡ block_end bs s j +ℤ (get_or bs j d).width
 block_end_next [] s j d h = absurd (omega arith)
 block_end_next (b ∷ bs) s zero d h = refl
-block_end_next (b ∷ bs) s (suc j) d h = ap (block_end (b ∷ bs) s) (next j) ∙ block_end_next bs (s +ℤ b.width) j d (omega arith)
+block_end_next (b ∷ bs) s (suc j) d h = ap (block_end (b ∷ bs) s) {x = suc j + 1} {y = suc (j + 1)} (omega arith) ∙ block_end_next bs (s +ℤ b.width) j d (omega arith)
 
 pub IsRefined-none : (bs : List Block) (s : ℤ) (ks : List Knot) (n : ℕ) → IsRefined bs s 0 ks n ks n
 IsRefined-none bs s ks n = record {
@@ -158,7 +146,7 @@ pub rise_zero : (p : ℤ) (bs : List Block) (s : ℤ) → AreBlocks p bs → ris
 rise_zero p [] s are = refl
 rise_zero p (b ∷ bs) s are =
     let e = rise_left b bs s s (omega (arith, ints)) in
-    let a : b.price *ℤ (s -ℤ s) ≡ pos 0 = ap (λ z. b.price *ℤ z) (none s) ∙ *ℤ-zero b.price in
+    let a : b.price *ℤ (s -ℤ s) ≡ pos 0 = ap (λ (z : ℤ). b.price *ℤ z) (omega (arith, ints)) ∙ *ℤ-zero b.price in
     let rest = rise_zero b.price bs (s +ℤ b.width) are.2 in
     omega (arith, ints)
 
@@ -169,7 +157,7 @@ rise_in p [] s j d x are h low high = absurd (omega arith)
 rise_in p (b ∷ bs) s zero d x are h low high =
     let e = rise_left b bs s x high in
     let e0 = rise_left b bs s s (omega (arith, ints)) in
-    let a : b.price *ℤ (s -ℤ s) ≡ pos 0 = ap (λ z. b.price *ℤ z) (none s) ∙ *ℤ-zero b.price in
+    let a : b.price *ℤ (s -ℤ s) ≡ pos 0 = ap (λ (z : ℤ). b.price *ℤ z) (omega (arith, ints)) ∙ *ℤ-zero b.price in
     omega (arith, ints)
 rise_in p (b ∷ bs) s (suc j) d x are h low high =
     let far = block_end_far b.price bs (s +ℤ b.width) j are.2 in
@@ -208,7 +196,7 @@ block_end_rise p [] s j are h = absurd (omega arith)
 block_end_rise p (b ∷ bs) s zero are h = let width = are.1 in omega (arith, ints)
 block_end_rise p (b ∷ bs) s (suc j) are h =
     let rest = block_end_rise b.price bs (s +ℤ b.width) j are.2 (omega arith) in
-    let e = ap (block_end (b ∷ bs) s) (next j) in
+    let e = ap (block_end (b ∷ bs) s) {x = suc j + 1} {y = suc (j + 1)} (omega arith) in
     omega (arith, ints)
 
 -- where the next block ends

@@ -27,15 +27,12 @@ not_lt_is a b h = grind (arith, ints)
 pub rise_past : (b : Block) (bs : List Block) (x : ℤ) → b.width <ℤ x → rise_at (b ∷ bs) x ≡ option_map (λ v. v +ℤ (b.price *ℤ b.width)) (rise_at bs (x -ℤ b.width))
 rise_past b bs x h = rw (lt_is b.width x h)
 
-pub rise_within : (b : Block) (bs : List Block) (x : ℤ) → x ≤ℤ b.width → rise_at (b ∷ bs) x ≡ Some (b.price *ℤ x)
+rise_within : (b : Block) (bs : List Block) (x : ℤ) → x ≤ℤ b.width → rise_at (b ∷ bs) x ≡ Some (b.price *ℤ x)
 rise_within b bs x h = rw (not_lt_is b.width x h)
 
 pub mapped : (k v : ℤ) (o : Option ℤ) → option_map (λ u. u +ℤ k) o ≡ Some v → (u : ℤ) × (o ≡ Some u)
 mapped k v None h = cc
 mapped k v (Some u) h = (u, refl)
-
-some_same : (a b : ℤ) → Some a ≡ Some b → a ≡ b
-some_same a b h = cc
 
 step_on : (x s w : ℤ) → (x -ℤ s) -ℤ w ≡ x -ℤ (s +ℤ w)
 step_on x s w = omega (arith, ints)
@@ -144,7 +141,7 @@ module _ (c : Curve) (shift : ℤ) (ks : List Knot) (n : ℕ) (some : 0 < n) (sh
   CanAdd-curve f s x h =
       let v = value_inside ks n f s x h in
       let r = fits x (f x) v in
-      let same = some_same r.0 (curve_term c.value c.blocks.items (c.at -ℤ shift) x) (sym r.1 ∙ curve_on x h) in
+      let same : r.0 ≡ curve_term c.value c.blocks.items (c.at -ℤ shift) x = (let e = sym r.1 ∙ curve_on x h in cc) in
       ((within x (f x) v).0, (within x (f x) v).1, subst (λ (z : ℤ). IsAmount (f x +ℤ z)) same r.2)
 
   pub AreLimitedBlocks-curve : AreLimitedBlocks c.value c.blocks.items (c.at -ℤ shift)

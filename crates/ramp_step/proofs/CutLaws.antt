@@ -55,25 +55,28 @@ within_between ks n m l some inside = record {
 
 -- ---- a knot is put in
 
+-- what holds of each knot and of the new one
+inserted_each : (ks ks' : List Knot) (n m : ℕ) (q : Knot) → m < n → IsInserted m n q ks ks' → (P : Knot → Type 0) → ((k : ℕ) → k < n → P (knot ks k)) → P q → (k : ℕ) → k < n + 1 → P (knot ks' k)
+inserted_each ks ks' n m q inside i P all new k h = elim (cases_lt k m) [
+  | inl before ↦ subst P (sym (i.before k before)) (all k (omega arith))
+  | inr past ↦ elim (cases_lt m k) [
+    | inl after ↦
+        let e : knot ks' k ≡ knot ks (k - 1) = ap (knot ks') (omega arith) ∙ i.after (k - 1) (omega arith) (omega arith) in
+        subst P (sym e) (all (k - 1) (omega arith))
+    | inr same ↦ let e : knot ks' k ≡ q = ap (knot ks') (omega arith) ∙ i.there in subst P (sym e) new
+  ]
+]
+
 module _ (ks ks' : List Knot) (n m : ℕ) (f : ℤ → ℤ) (x : ℤ) (q : Knot) (s : StandFor ks n f) (some : 0 < m) (inside : m < n)
     (low : place ks (m - 1) <ℤ x) (high : x <ℤ place ks m) (at : q.at ≡ x) (value : q.value ≡ f x) (i : IsInserted m n q ks ks') where
   before_place : (k : ℕ) → k < m → place ks' k ≡ place ks k
   before_place k h = ap (λ (r : Knot). r.at) (i.before k h)
 
-  before_height : (k : ℕ) → k < m → height ks' k ≡ height ks k
-  before_height k h = ap (λ (r : Knot). r.value) (i.before k h)
-
   there_place : place ks' m ≡ x
   there_place = ap (λ (r : Knot). r.at) i.there ∙ at
 
-  there_height : height ks' m ≡ f x
-  there_height = ap (λ (r : Knot). r.value) i.there ∙ value
-
   after_place : (k : ℕ) → m < k → k < n + 1 → place ks' k ≡ place ks (k - 1)
   after_place k h l = ap (place ks') (omega arith) ∙ ap (λ (r : Knot). r.at) (i.after (k - 1) (omega arith) (omega arith))
-
-  after_height : (k : ℕ) → m < k → k < n + 1 → height ks' k ≡ height ks (k - 1)
-  after_height k h l = ap (height ks') (omega arith) ∙ ap (λ (r : Knot). r.value) (i.after (k - 1) (omega arith) (omega arith))
 
   pub part_of : (k : ℕ) → k + 1 < n + 1 → IsPart ks n ks' k
   part_of k h =
@@ -110,16 +113,6 @@ module _ (ks ks' : List Knot) (n m : ℕ) (f : ℤ → ℤ) (x : ℤ) (q : Knot)
         ]
       ]
 
-  inserted_meet : (k : ℕ) → k < n + 1 → height ks' k ≡ f (place ks' k)
-  inserted_meet k h =
-      elim (cases_lt k m) [
-        | inl before ↦ before_height k before ∙ s.meet k (omega arith) ∙ ap f (sym (before_place k before))
-        | inr past ↦ elim (cases_lt m k) [
-          | inl after ↦ after_height k after h ∙ s.meet (k - 1) (omega arith) ∙ ap f (sym (after_place k after h))
-          | inr same ↦ let e : k ≡ m = omega arith in ap (height ks') e ∙ there_height ∙ ap f (sym there_place) ∙ ap (λ (j : ℕ). f (place ks' j)) (sym e)
-        ]
-      ]
-
   pub ends_inserted : HaveSameEnds ks n ks' (n + 1)
   ends_inserted = record {
     some = λ h. omega arith;
@@ -131,7 +124,7 @@ module _ (ks ks' : List Knot) (n m : ℕ) (f : ℤ → ℤ) (x : ℤ) (q : Knot)
   pub StandFor-inserted : StandFor ks' (n + 1) f
   StandFor-inserted = record {
     rise = λ k h. let p = part_of k h in p.rise;
-    meet = inserted_meet;
+    meet = inserted_each ks ks' n m q inside i (λ r. r.value ≡ f r.at) s.meet (value ∙ ap f (sym at));
     straight = λ k h y from to.
         let p = part_of k h in
         let a = p.from in
@@ -165,24 +158,8 @@ module _ (ks ks' : List Knot) (n m : ℕ) (f : ℤ → ℤ) (x : ℤ) (q : Knot)
 
 pub IsLimited-inserted : (ks ks' : List Knot) (n m : ℕ) (q : Knot) → IsLimited ks n → m < n → IsInserted m n q ks ks' → IsFar q.at → IsAmount q.value → IsLimited ks' (n + 1)
 IsLimited-inserted ks ks' n m q l inside i at value = record {
-  places = λ k h. elim (cases_lt k m) [
-    | inl before ↦ let e : place ks' k ≡ place ks k = ap (λ (r : Knot). r.at) (i.before k before) in subst IsFar (sym e) (l.places k (omega arith))
-    | inr past ↦ elim (cases_lt m k) [
-      | inl after ↦
-          let e : place ks' k ≡ place ks (k - 1) = ap (place ks') (omega arith) ∙ ap (λ (r : Knot). r.at) (i.after (k - 1) (omega arith) (omega arith)) in
-          subst IsFar (sym e) (l.places (k - 1) (omega arith))
-      | inr same ↦ let e : place ks' k ≡ q.at = ap (place ks') (omega arith) ∙ ap (λ (r : Knot). r.at) i.there in subst IsFar (sym e) at
-    ]
-  ];
-  amounts = λ k h. elim (cases_lt k m) [
-    | inl before ↦ let e : height ks' k ≡ height ks k = ap (λ (r : Knot). r.value) (i.before k before) in subst IsAmount (sym e) (l.amounts k (omega arith))
-    | inr past ↦ elim (cases_lt m k) [
-      | inl after ↦
-          let e : height ks' k ≡ height ks (k - 1) = ap (height ks') (omega arith) ∙ ap (λ (r : Knot). r.value) (i.after (k - 1) (omega arith) (omega arith)) in
-          subst IsAmount (sym e) (l.amounts (k - 1) (omega arith))
-      | inr same ↦ let e : height ks' k ≡ q.value = ap (height ks') (omega arith) ∙ ap (λ (r : Knot). r.value) i.there in subst IsAmount (sym e) value
-    ]
-  ];
+  places = inserted_each ks ks' n m q inside i (λ r. IsFar r.at) l.places at;
+  amounts = inserted_each ks ks' n m q inside i (λ r. IsAmount r.value) l.amounts value;
 }
 
 pub IsSplit-inserted : (ks ks' : List Knot) (n m : ℕ) (x : ℤ) (q : Knot) → IsShape ks n → AreBelow ks n x m → 0 < m → m < n → (place ks m ≡ x → ⊥)
@@ -244,9 +221,6 @@ module _ (ks ks' : List Knot) (n by_ : ℕ) (f : ℤ → ℤ) (s : StandFor ks n
   pub dropped_place : (k : ℕ) → k + by_ < n → place ks' k ≡ place ks (k + by_)
   dropped_place k h = ap (λ (q : Knot). q.at) (d.moved k (omega arith) h)
 
-  dropped_height : (k : ℕ) → k + by_ < n → height ks' k ≡ height ks (k + by_)
-  dropped_height k h = ap (λ (q : Knot). q.value) (d.moved k (omega arith) h)
-
   pub StandFor-dropped : StandFor ks' (n - by_) f
   StandFor-dropped = record {
     rise = λ k h.
@@ -255,7 +229,7 @@ module _ (ks ks' : List Knot) (n by_ : ℕ) (f : ℤ → ℤ) (s : StandFor ks n
         let e : place ks ((k + 1) + by_) ≡ place ks ((k + by_) + 1) = ap (place ks) (omega arith) in
         let r = s.rise (k + by_) (omega arith) in
         omega (arith, ints);
-    meet = λ k h. dropped_height k (omega arith) ∙ s.meet (k + by_) (omega arith) ∙ ap f (sym (dropped_place k (omega arith)));
+    meet = λ k h. subst (λ (q : Knot). q.value ≡ f q.at) (sym (d.moved k (omega arith) (omega arith))) (s.meet (k + by_) (omega arith));
     straight = λ k h y from to.
         let a = dropped_place k (omega arith) in
         let b = dropped_place (k + 1) (omega arith) in

@@ -12,59 +12,18 @@ use Rattle.ramp_step.specs.Read.{IsLowest, HasNoPlace, IsInsideWithin}
 use Rattle.ramp_step.specs.Laws.{MovesParts}
 use Rattle.ramp_step.proofs.KnotLaws.{rises}
 use Rattle.ramp_step.proofs.WindowLaws.{slopes, straight_line, straight_slope, falls_to, rises_to, window_law}
-use Rattle.ramp_step.proofs.SpreadLaws.{turn_falls, turn_rises}
-
--- a straight part that ends lower falls at each place
-pub strict_slope : (f : ℤ → ℤ) (a b : ℤ) → IsStraight a b f → a <ℤ b → f b <ℤ f a → (f (a +ℤ pos 1) -ℤ f a) <ℤ pos 0
-strict_slope f a b straight order low =
-    let s = f (a +ℤ pos 1) -ℤ f a in
-    let e = straight_line f a b straight b (omega (arith, ints)) (omega (arith, ints)) in
-    by_lt_z s (pos 0)
-    (λ down. down)
-    (λ up.
-    let m = mul-mono_of s (pos 0) (b -ℤ a) up (omega (arith, ints)) in
-    let z = *ℤ-zero s in
-    absurd (omega (arith, ints)))
-
-strict_by : (ks : List Knot) (n j : ℕ) (f : ℤ → ℤ) → StandFor ks n f → IsTurn ks n j → (i : ℕ) → i + 1 ≡ j → (x : ℤ) → place ks 0 ≤ℤ x → x <ℤ place ks j → f (x +ℤ pos 1) <ℤ f x
-strict_by ks n j f s t i e x low high =
-    let p = place ks in
-    let inside = t.inside in
-    let same : p (i + 1) ≡ p j = ap p e in
-    let step = s.rise i (omega arith) in
-    let straight : IsStraight (p i) (p j) f = λ y from to. s.straight i (omega arith) y from (omega (arith, ints)) in
-    let meet_i = s.meet i (omega arith) in
-    let meet_j = s.meet j inside in
-    let low_j = t.falls i e in
-    let slope = strict_slope f (p i) (p j) straight (omega (arith, ints)) (omega (arith, ints)) in
-    let last = straight_slope f (p i) (p j) straight (p j -ℤ pos 1) (omega (arith, ints)) (omega (arith, ints)) in
-    let end = rises n p s.rise ((n - 1) - j) j (n - 1) (omega arith) (omega arith) in
-    let order = slopes f (p 0) (p (n - 1)) s.convex x (p j -ℤ pos 1) low (omega (arith, ints)) (omega (arith, ints)) in
-    omega (arith, ints)
-
-strict_from : (ks : List Knot) (n j : ℕ) (f : ℤ → ℤ) → StandFor ks n f → IsTurn ks n j → (k : ℕ) → k ≡ j → (x : ℤ) → place ks 0 ≤ℤ x → x <ℤ place ks j → f (x +ℤ pos 1) <ℤ f x
-strict_from ks n j f s t zero e x low high = let same : place ks 0 ≡ place ks j = ap (place ks) e in absurd (omega (arith, ints))
-strict_from ks n j f s t (suc i) e x low high = strict_by ks n j f s t i (omega arith) x low high
+use Rattle.ramp_step.proofs.SpreadLaws.{turn_falls_strictly, turn_falls, turn_rises, turn_from_first, turn_to_last}
 
 module _ (ks : List Knot) (n j : ℕ) (f : ℤ → ℤ) (s : StandFor ks n f) (t : IsTurn ks n j) where
-  falls_strictly : (x : ℤ) → place ks 0 ≤ℤ x → x <ℤ place ks j → f (x +ℤ pos 1) <ℤ f x
-  falls_strictly = strict_from ks n j f s t j refl
-
   -- the value falls from each place to each later one up to the turn
   falls_below : (x y : ℤ) → place ks 0 ≤ℤ x → x <ℤ y → y ≤ℤ place ks j → f y <ℤ f x
   falls_below x y low order high =
-      let step = falls_strictly x low (omega (arith, ints)) in
+      let step = turn_falls_strictly ks n j f s t x low (omega (arith, ints)) in
       let rest = falls_to f (place ks 0) (place ks (n - 1)) (place ks j) (turn_falls ks n j f s t) (turn_rises ks n j f s t) (x +ℤ pos 1) y (omega (arith, ints)) (omega (arith, ints)) high in
       omega (arith, ints)
 
   rises_after : (x y : ℤ) → place ks j ≤ℤ x → x ≤ℤ y → y ≤ℤ place ks (n - 1) → f x ≤ℤ f y
   rises_after = rises_to f (place ks 0) (place ks (n - 1)) (place ks j) (turn_falls ks n j f s t) (turn_rises ks n j f s t)
-
-  turn_from_first : place ks 0 ≤ℤ place ks j
-  turn_from_first = let inside = t.inside in rises n (place ks) s.rise j 0 j (omega arith) inside
-
-  turn_to_last : place ks j ≤ℤ place ks (n - 1)
-  turn_to_last = let inside = t.inside in rises n (place ks) s.rise ((n - 1) - j) j (n - 1) (omega arith) (omega arith)
 
   -- the knot at the turn is the lowest
   pub IsLowest-turn : IsLowest (IsInside ks n) f (knot ks j)
@@ -72,7 +31,7 @@ module _ (ks : List Knot) (n j : ℕ) (f : ℤ → ℤ) (s : StandFor ks n f) (t
       let some = t.inside in
       let meet = s.meet j some in
       record {
-        inside = record { some = omega arith; from_first = turn_from_first; to_last = turn_to_last };
+        inside = record { some = omega arith; from_first = turn_from_first ks n j f s t; to_last = turn_to_last ks n j f s t };
         there = sym meet;
         least = λ y h.
             let low = h.from_first in
@@ -113,8 +72,8 @@ module _ (ks : List Knot) (n j : ℕ) (f : ℤ → ℤ) (s : StandFor ks n f) (t
   -- where there is a place left, that place is in the interval
   pub HasNoPlace-within : (lo hi : ℤ) → (IsInside ks n (int_max lo (int_min hi (place ks j))) → ⊥) → HasNoPlace (IsInsideWithin lo hi ks n)
   HasNoPlace-within lo hi outside y h =
-      let a = turn_from_first in
-      let b = turn_to_last in
+      let a = turn_from_first ks n j f s t in
+      let b = turn_to_last ks n j f s t in
       outside (record { some = h.inside.some; from_first = omega (arith, ints, clamps); to_last = omega (arith, ints, clamps) })
 
 -- ---- the law of the window, from convexity alone

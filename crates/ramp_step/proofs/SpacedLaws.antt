@@ -36,13 +36,10 @@ module _ (ks ks' : List Knot) (n : ℕ) (same : (k : ℕ) → k < n → knot ks'
   pub same_place : (k : ℕ) → k < n → place ks' k ≡ place ks k
   same_place k h = ap (λ (q : Knot). q.at) (same k h)
 
-  pub same_height : (k : ℕ) → k < n → height ks' k ≡ height ks k
-  same_height k h = ap (λ (q : Knot). q.value) (same k h)
-
   pub StandFor-same : (f : ℤ → ℤ) → StandFor ks n f → StandFor ks' n f
   StandFor-same f s = record {
     rise = λ k h. let a = same_place k (omega arith) in let b = same_place (k + 1) h in let r = s.rise k h in omega (arith, ints);
-    meet = λ k h. same_height k h ∙ s.meet k h ∙ ap f (sym (same_place k h));
+    meet = λ k h. subst (λ (q : Knot). q.value ≡ f q.at) (sym (same k h)) (s.meet k h);
     straight = λ k h x from to.
         let a = same_place k (omega arith) in
         let b = same_place (k + 1) h in
@@ -59,7 +56,7 @@ module _ (ks ks' : List Knot) (n : ℕ) (same : (k : ℕ) → k < n → knot ks'
   pub IsLimited-same : IsLimited ks n → IsLimited ks' n
   IsLimited-same l = record {
     places = λ k h. subst IsFar (sym (same_place k h)) (l.places k h);
-    amounts = λ k h. subst IsAmount (sym (same_height k h)) (l.amounts k h);
+    amounts = λ k h. subst (λ (q : Knot). IsAmount q.value) (sym (same k h)) (l.amounts k h);
   }
 
   pub IsRefined-same : (bs : List Block) (s : ℤ) (j : ℕ) (ks0 : List Knot) (n0 : ℕ) → IsRefined bs s j ks0 n0 ks n → IsRefined bs s j ks0 n0 ks' n

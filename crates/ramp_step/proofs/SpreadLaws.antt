@@ -9,11 +9,11 @@ use Rattle.shape_law.specs.Table.{IsPlace, IsAmount}
 use Rattle.ramp_step.specs.Window.{nearest, IsLeastInReach, IsTurn, AreSpread, AreWindow, IsWindow}
 use Rattle.ramp_step.specs.Cut.{IsLimited, IsCut}
 use Rattle.ramp_step.proofs.KnotLaws.{rises}
-use Rattle.ramp_step.proofs.WindowLaws.{slopes, straight_slope, falling_slope, rising_slope, falls_to, rises_to, window_law}
+use Rattle.ramp_step.proofs.WindowLaws.{slopes, straight_slope, strict_slope, rising_slope, falls_to, rises_to, window_law}
 
 -- ---- a convex function falls up to the turn, and rises from it
 
-falls_by : (ks : List Knot) (n j : ℕ) (f : ℤ → ℤ) → StandFor ks n f → IsTurn ks n j → (i : ℕ) → i + 1 ≡ j → (x : ℤ) → place ks 0 ≤ℤ x → x <ℤ place ks j → f (x +ℤ pos 1) ≤ℤ f x
+falls_by : (ks : List Knot) (n j : ℕ) (f : ℤ → ℤ) → StandFor ks n f → IsTurn ks n j → (i : ℕ) → i + 1 ≡ j → (x : ℤ) → place ks 0 ≤ℤ x → x <ℤ place ks j → f (x +ℤ pos 1) <ℤ f x
 falls_by ks n j f s t i e x low high =
     let p = place ks in
     let inside = t.inside in
@@ -23,18 +23,21 @@ falls_by ks n j f s t i e x low high =
     let meet_i = s.meet i (omega arith) in
     let meet_j = s.meet j inside in
     let low_j = t.falls i e in
-    let slope = falling_slope f (p i) (p j) straight (omega (arith, ints)) (omega (arith, ints)) in
+    let slope = strict_slope f (p i) (p j) straight (omega (arith, ints)) (omega (arith, ints)) in
     let last = straight_slope f (p i) (p j) straight (p j -ℤ pos 1) (omega (arith, ints)) (omega (arith, ints)) in
     let end = rises n p s.rise ((n - 1) - j) j (n - 1) (omega arith) (omega arith) in
     let order = slopes f (p 0) (p (n - 1)) s.convex x (p j -ℤ pos 1) low (omega (arith, ints)) (omega (arith, ints)) in
     omega (arith, ints)
 
-falls_from : (ks : List Knot) (n j : ℕ) (f : ℤ → ℤ) → StandFor ks n f → IsTurn ks n j → (k : ℕ) → k ≡ j → (x : ℤ) → place ks 0 ≤ℤ x → x <ℤ place ks j → f (x +ℤ pos 1) ≤ℤ f x
+falls_from : (ks : List Knot) (n j : ℕ) (f : ℤ → ℤ) → StandFor ks n f → IsTurn ks n j → (k : ℕ) → k ≡ j → (x : ℤ) → place ks 0 ≤ℤ x → x <ℤ place ks j → f (x +ℤ pos 1) <ℤ f x
 falls_from ks n j f s t zero e x low high = let same : place ks 0 ≡ place ks j = ap (place ks) e in absurd (omega (arith, ints))
 falls_from ks n j f s t (suc i) e x low high = falls_by ks n j f s t i (omega arith) x low high
 
+pub turn_falls_strictly : (ks : List Knot) (n j : ℕ) (f : ℤ → ℤ) → StandFor ks n f → IsTurn ks n j → (x : ℤ) → place ks 0 ≤ℤ x → x <ℤ place ks j → f (x +ℤ pos 1) <ℤ f x
+turn_falls_strictly ks n j f s t = falls_from ks n j f s t j refl
+
 pub turn_falls : (ks : List Knot) (n j : ℕ) (f : ℤ → ℤ) → StandFor ks n f → IsTurn ks n j → (x : ℤ) → place ks 0 ≤ℤ x → x <ℤ place ks j → f (x +ℤ pos 1) ≤ℤ f x
-turn_falls ks n j f s t = falls_from ks n j f s t j refl
+turn_falls ks n j f s t x low high = let h = turn_falls_strictly ks n j f s t x low high in omega (arith, ints)
 
 rises_by : (ks : List Knot) (n j : ℕ) (f : ℤ → ℤ) → StandFor ks n f → IsTurn ks n j → j + 1 < n → (x : ℤ) → place ks j ≤ℤ x → x <ℤ place ks (n - 1) → f x ≤ℤ f (x +ℤ pos 1)
 rises_by ks n j f s t more x low high =
@@ -55,32 +58,21 @@ turn_rises ks n j f s t x low high =
       | inr last ↦ let same : place ks j ≡ place ks (n - 1) = ap (place ks) (omega arith) in absurd (omega (arith, ints))
     ]
 
-minus_one : (x d : ℤ) → (x -ℤ pos 1) +ℤ d ≡ (x +ℤ d) -ℤ pos 1
-minus_one x d = omega (arith, ints)
+module _ (ks : List Knot) (n j : ℕ) (f : ℤ → ℤ) (s : StandFor ks n f) (t : IsTurn ks n j) where
+  pub turn_from_first : place ks 0 ≤ℤ place ks j
+  turn_from_first = let inside = t.inside in rises n (place ks) s.rise j 0 j (omega arith) inside
 
-plus_one : (x d : ℤ) → (x +ℤ pos 1) +ℤ d ≡ (x +ℤ d) +ℤ pos 1
-plus_one x d = omega (arith, ints)
-
-minus_one_less : (x d : ℤ) → (x -ℤ pos 1) -ℤ d ≡ (x -ℤ d) -ℤ pos 1
-minus_one_less x d = omega (arith, ints)
-
-plus_one_less : (x d : ℤ) → (x +ℤ pos 1) -ℤ d ≡ (x -ℤ d) +ℤ pos 1
-plus_one_less x d = omega (arith, ints)
+  pub turn_to_last : place ks j ≤ℤ place ks (n - 1)
+  turn_to_last = let inside = t.inside in rises n (place ks) s.rise ((n - 1) - j) j (n - 1) (omega arith) (omega arith)
 
 -- ---- the law of the window over knots
 
 module _ (ks : List Knot) (n j : ℕ) (f : ℤ → ℤ) (up down : ℤ) (s : StandFor ks n f) (t : IsTurn ks n j) (is_up : pos 0 ≤ℤ up) (is_down : pos 0 ≤ℤ down) where
-  first : place ks 0 ≤ℤ place ks j
-  first = let inside = t.inside in rises n (place ks) s.rise j 0 j (omega arith) inside
-
-  last : place ks j ≤ℤ place ks (n - 1)
-  last = let inside = t.inside in rises n (place ks) s.rise ((n - 1) - j) j (n - 1) (omega arith) (omega arith)
-
   pub window_of_knots : (x : ℤ) → (place ks 0 -ℤ down) ≤ℤ x → x ≤ℤ (place ks (n - 1) +ℤ up)
       → IsLeastInReach f (place ks 0) (place ks (n - 1)) up down x (f (nearest up down (place ks j) x))
   window_of_knots x low high =
       window_law f (place ks 0) (place ks (n - 1)) (place ks j) (turn_falls ks n j f s t) (turn_rises ks n j f s t)
-      up down x first last is_up is_down (omega (arith, ints)) (omega (arith, ints))
+      up down x (turn_from_first ks n j f s t) (turn_to_last ks n j f s t) is_up is_down (omega (arith, ints)) (omega (arith, ints))
 
   least_at : (y : ℤ) → place ks 0 ≤ℤ y → y ≤ℤ place ks (n - 1) → f (place ks j) ≤ℤ f y
   least_at y low high = by_lt_z y (place ks j)
@@ -88,11 +80,11 @@ module _ (ks : List Knot) (n j : ℕ) (f : ℤ → ℤ) (up down : ℤ) (s : Sta
       (λ after. rises_to f (place ks 0) (place ks (n - 1)) (place ks j) (turn_falls ks n j f s t) (turn_rises ks n j f s t) (place ks j) y (omega (arith, ints)) after high)
 
   -- where the nearest place is
-  near_left : (x : ℤ) → (x +ℤ down) ≤ℤ place ks j → f (nearest up down (place ks j) x) ≡ f (x +ℤ down)
-  near_left x h = let e : nearest up down (place ks j) x ≡ x +ℤ down = omega (arith, ints, clamps) in ap f e
+  near_left : (x y : ℤ) → (x +ℤ down) ≤ℤ place ks j → y ≡ x +ℤ down → f (nearest up down (place ks j) x) ≡ f y
+  near_left x y h is = let e : nearest up down (place ks j) x ≡ y = omega (arith, ints, clamps) in ap f e
 
-  near_right : (x : ℤ) → place ks j ≤ℤ (x -ℤ up) → f (nearest up down (place ks j) x) ≡ f (x -ℤ up)
-  near_right x h = let e : nearest up down (place ks j) x ≡ x -ℤ up = omega (arith, ints, clamps) in ap f e
+  near_right : (x y : ℤ) → place ks j ≤ℤ (x -ℤ up) → y ≡ x -ℤ up → f (nearest up down (place ks j) x) ≡ f y
+  near_right x y h is = let e : nearest up down (place ks j) x ≡ y = omega (arith, ints, clamps) in ap f e
 
   near_flat : (x : ℤ) → place ks j ≤ℤ (x +ℤ down) → (x -ℤ up) ≤ℤ place ks j → f (nearest up down (place ks j) x) ≡ f (place ks j)
   near_flat x h i = let e : nearest up down (place ks j) x ≡ place ks j = omega (arith, ints, clamps) in ap f e
@@ -100,21 +92,21 @@ module _ (ks : List Knot) (n j : ℕ) (f : ℤ → ℤ) (up down : ℤ) (s : Sta
   -- the window is convex
   window_convex : IsConvex (place ks 0 -ℤ down) (place ks (n - 1) +ℤ up) (λ x. f (nearest up down (place ks j) x))
   window_convex x low high =
-      let a = first in
-      let b = last in
+      let a = turn_from_first ks n j f s t in
+      let b = turn_to_last ks n j f s t in
       by_lt_z (x +ℤ down) (place ks j)
       (λ left.
       let c = s.convex (x +ℤ down) (omega (arith, ints)) (omega (arith, ints)) in
-      let e = near_left x (omega (arith, ints)) in
-      let e0 = near_left (x -ℤ pos 1) (omega (arith, ints)) ∙ ap f (minus_one x down) in
-      let e1 = near_left (x +ℤ pos 1) (omega (arith, ints)) ∙ ap f (plus_one x down) in
+      let e = near_left x (x +ℤ down) (omega (arith, ints)) (omega (arith, ints)) in
+      let e0 = near_left (x -ℤ pos 1) ((x +ℤ down) -ℤ pos 1) (omega (arith, ints)) (omega (arith, ints)) in
+      let e1 = near_left (x +ℤ pos 1) ((x +ℤ down) +ℤ pos 1) (omega (arith, ints)) (omega (arith, ints)) in
       omega (arith, ints))
       (λ past. by_lt_z (place ks j) (x -ℤ up)
       (λ right.
       let c = s.convex (x -ℤ up) (omega (arith, ints)) (omega (arith, ints)) in
-      let e = near_right x (omega (arith, ints)) in
-      let e0 = near_right (x -ℤ pos 1) (omega (arith, ints)) ∙ ap f (minus_one_less x up) in
-      let e1 = near_right (x +ℤ pos 1) (omega (arith, ints)) ∙ ap f (plus_one_less x up) in
+      let e = near_right x (x -ℤ up) (omega (arith, ints)) (omega (arith, ints)) in
+      let e0 = near_right (x -ℤ pos 1) ((x -ℤ up) -ℤ pos 1) (omega (arith, ints)) (omega (arith, ints)) in
+      let e1 = near_right (x +ℤ pos 1) ((x -ℤ up) +ℤ pos 1) (omega (arith, ints)) (omega (arith, ints)) in
       omega (arith, ints))
       (λ flat.
       let e = near_flat x past flat in
@@ -156,18 +148,16 @@ module _ (ks : List Knot) (n j : ℕ) (f : ℤ → ℤ) (up down : ℤ) (s : Sta
               let e' : height ks' ((k - 1) + 1) ≡ height ks' k = ap (height ks') (omega arith) in
               let order = rises n (place ks) s.rise ((k - 1) - j) j (k - 1) (omega arith) (omega arith) in
               let a1 = a.1 in
-              let near = near_right (place ks' k) (omega (arith, ints)) in
-              let back : f (place ks' k -ℤ up) ≡ f (place ks (k - 1)) = ap f (omega (arith, ints)) in
-              sym e' ∙ a1 ∙ m ∙ sym back ∙ sym near
+              let near = near_right (place ks' k) (place ks (k - 1)) (omega (arith, ints)) (omega (arith, ints)) in
+              sym e' ∙ a1 ∙ m ∙ sym near
           | inr upto ↦
               let a = r.falling k (omega arith) in
               let inside = t.inside in
               let m = s.meet k (omega arith) in
               let order = rises n (place ks) s.rise (j - k) k j (omega arith) inside in
               let a1 = a.1 in
-              let near = near_left (place ks' k) (omega (arith, ints)) in
-              let back : f (place ks' k +ℤ down) ≡ f (place ks k) = ap f (omega (arith, ints)) in
-              a1 ∙ m ∙ sym back ∙ sym near
+              let near = near_left (place ks' k) (place ks k) (omega (arith, ints)) (omega (arith, ints)) in
+              a1 ∙ m ∙ sym near
         ]
 
     spread_straight : (k : ℕ) → k + 1 < n + 1 → IsStraight (place ks' k) (place ks' (k + 1)) (λ x. f (nearest up down (place ks j) x))
@@ -179,9 +169,9 @@ module _ (ks : List Knot) (n j : ℕ) (f : ℤ → ℤ) (up down : ℤ) (s : Sta
               let b = (r.falling (k + 1) (omega arith)).0 in
               let order = rises n (place ks) s.rise (j - (k + 1)) (k + 1) j (omega arith) inside in
               let c = s.straight k (omega arith) (x +ℤ down) (omega (arith, ints)) (omega (arith, ints)) in
-              let e = near_left x (omega (arith, ints)) in
-              let e0 = near_left (x -ℤ pos 1) (omega (arith, ints)) ∙ ap f (minus_one x down) in
-              let e1 = near_left (x +ℤ pos 1) (omega (arith, ints)) ∙ ap f (plus_one x down) in
+              let e = near_left x (x +ℤ down) (omega (arith, ints)) (omega (arith, ints)) in
+              let e0 = near_left (x -ℤ pos 1) ((x +ℤ down) -ℤ pos 1) (omega (arith, ints)) (omega (arith, ints)) in
+              let e1 = near_left (x +ℤ pos 1) ((x +ℤ down) +ℤ pos 1) (omega (arith, ints)) (omega (arith, ints)) in
               omega (arith, ints)
           | inr from ↦ elim (cases_lt j k) [
             | inl after ↦
@@ -191,9 +181,9 @@ module _ (ks : List Knot) (n j : ℕ) (f : ℤ → ℤ) (up down : ℤ) (s : Sta
                 let q' : place ks ((k - 1) + 1) ≡ place ks k = ap (place ks) (omega arith) in
                 let order = rises n (place ks) s.rise ((k - 1) - j) j (k - 1) (omega arith) (omega arith) in
                 let c = s.straight (k - 1) (omega arith) (x -ℤ up) (omega (arith, ints)) (omega (arith, ints)) in
-                let e = near_right x (omega (arith, ints)) in
-                let e0 = near_right (x -ℤ pos 1) (omega (arith, ints)) ∙ ap f (minus_one_less x up) in
-                let e1 = near_right (x +ℤ pos 1) (omega (arith, ints)) ∙ ap f (plus_one_less x up) in
+                let e = near_right x (x -ℤ up) (omega (arith, ints)) (omega (arith, ints)) in
+                let e0 = near_right (x -ℤ pos 1) ((x -ℤ up) -ℤ pos 1) (omega (arith, ints)) (omega (arith, ints)) in
+                let e1 = near_right (x +ℤ pos 1) ((x -ℤ up) +ℤ pos 1) (omega (arith, ints)) (omega (arith, ints)) in
                 omega (arith, ints)
             | inr same ↦
                 let q : place ks k ≡ place ks j = ap (place ks) (omega arith) in

@@ -85,16 +85,17 @@ straight_slope f a b straight x low high =
     let e' : f (x +ℤ pos 1) ≡ f ((a +ℤ pos s.0) +ℤ pos 1) = ap (λ z. f (z +ℤ pos 1)) s.1 in
     omega (arith, ints)
 
--- a straight part that doesn't rise at its end has no slope above 0, and one that doesn't fall none below
-pub falling_slope : (f : ℤ → ℤ) (a b : ℤ) → IsStraight a b f → a <ℤ b → f b ≤ℤ f a → (f (a +ℤ pos 1) -ℤ f a) ≤ℤ pos 0
-falling_slope f a b straight order low =
+-- a straight part that ends lower falls at each place, and one that doesn't end lower has no slope below 0
+pub strict_slope : (f : ℤ → ℤ) (a b : ℤ) → IsStraight a b f → a <ℤ b → f b <ℤ f a → (f (a +ℤ pos 1) -ℤ f a) <ℤ pos 0
+strict_slope f a b straight order low =
     let s = f (a +ℤ pos 1) -ℤ f a in
     let e = straight_line f a b straight b (omega (arith, ints)) (omega (arith, ints)) in
-    by_lt_z (pos 0) s
-    (λ up. let m = mul-mono_of s (pos 1) (b -ℤ a) (omega (arith, ints)) (omega (arith, ints)) in
-    let one : s *ℤ pos 1 ≡ s = times_one s in
-    absurd (omega (arith, ints)))
+    by_lt_z s (pos 0)
     (λ down. down)
+    (λ up.
+    let m = mul-mono_of s (pos 0) (b -ℤ a) up (omega (arith, ints)) in
+    let z = *ℤ-zero s in
+    absurd (omega (arith, ints)))
 
 pub rising_slope : (f : ℤ → ℤ) (a b : ℤ) → IsStraight a b f → a <ℤ b → f a ≤ℤ f b → pos 0 ≤ℤ (f (a +ℤ pos 1) -ℤ f a)
 rising_slope f a b straight order low =

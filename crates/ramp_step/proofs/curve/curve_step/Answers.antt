@@ -51,19 +51,17 @@ add_blocks-n-requires c =
       fits = rw (r.value_is, r.from_is, r.blocks_are) (CanAdd-curve c.args.curve.now c.args.shift ks n c.requires.some shape c.requires.breaks.within c.requires.limited c.requires.fits);
     }
 
-pub returns-clause-sum : goal.returns-clause-sum
-returns-clause-sum c =
+pub returns : goal.returns
+returns c =
     let fits : FitsSigned w64 c.args.curve.now.value = search rules in
     let fits-at : FitsSigned w64 c.args.curve.now.at = search rules in
-    let r = read (goal.at.returns-clause-sum c).After-as_slice-blocks fits fits-at in
-    curve_sum c.args.knots.now c.args.used c.requires.breaks c.args.curve.now c.args.shift c.requires.some c.requires.limited c.requires.fits
-    c.add_blocks-n.new.knots c.add_blocks-n.result (rw (r.value_is, r.from_is, r.blocks_are) at c.add_blocks-n.ensures.stand) c.add_blocks-n.ensures.ends
-
-pub returns-clause-breaks : goal.returns-clause-breaks
-returns-clause-breaks c =
-    let fits : FitsSigned w64 c.args.curve.now.value = search rules in
-    let fits-at : FitsSigned w64 c.args.curve.now.at = search rules in
-    let r = read (goal.at.returns-clause-breaks c).After-as_slice-blocks fits fits-at in
-    curve_sum_breaks c.args.knots.now c.args.used c.requires.breaks c.args.curve.now c.args.shift c.requires.some c.requires.limited c.requires.fits
-    c.add_blocks-n.new.knots c.add_blocks-n.result (rw (r.value_is, r.from_is, r.blocks_are) at c.add_blocks-n.ensures.stand) c.add_blocks-n.ensures.ends
-    c.effects_keep_limits.ensures.curve
+    let r = read (goal.at.returns c).After-as_slice-blocks fits fits-at in
+    let stand = rw (r.value_is, r.from_is, r.blocks_are) at c.add_blocks-n.ensures.stand in
+    let charge = rw r.blocks_are at c.add_blocks-n.ensures.charge in
+    record {
+      sum = curve_sum c.args.knots.now c.args.used c.requires.breaks c.args.curve.now c.args.shift c.requires.some c.requires.limited c.requires.fits
+          c.add_blocks-n.new.knots c.add_blocks-n.result stand c.add_blocks-n.ensures.ends;
+      breaks = curve_sum_breaks c.args.knots.now c.args.used c.requires.breaks c.args.curve.now c.args.shift c.requires.some c.requires.limited c.requires.fits
+          c.add_blocks-n.new.knots c.add_blocks-n.result stand c.add_blocks-n.ensures.ends c.effects_keep_limits.ensures.curve;
+      charge = charge;
+    }

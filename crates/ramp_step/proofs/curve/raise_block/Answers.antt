@@ -41,9 +41,9 @@ loop-i-preserved c =
         | inl passed ↦ ap (λ (p : Knot). p.value) (other k (omega arith)) ∙ was.heights k h passed
         | inr now ↦
             let e : k ≡ i = omega arith in
-            subst (λ (z : ℕ). height (slice_set ks i q) z ≡ height c.args.knots.now z +ℤ line_from (to_z w64 (of_z w64 c.args.start)) (to_z w64 (of_z w64 c.args.level)) (to_z w64 (of_z w64 c.args.price)) (place c.args.knots.now z)) (sym e)
+            subst (λ (z : ℕ). height (slice_set ks i q) z ≡ height c.args.knots.now z +ℤ line (place c.args.knots.now z)) (sym e)
             (ap (λ (p : Knot). p.value) here ∙ c.on_block.ensures.value
-            ∙ ap (λ (p : Knot). p.value +ℤ line_from (to_z w64 (of_z w64 c.args.start)) (to_z w64 (of_z w64 c.args.level)) (to_z w64 (of_z w64 c.args.price)) p.at) same)
+            ∙ ap (λ (p : Knot). p.value +ℤ line p.at) same)
       ];
       upto = λ k h l. elim (cases_lt k i) [
         | inl passed ↦ was.upto k h passed

@@ -47,13 +47,12 @@ ends c =
     HaveSameEnds-then c.args.knots.now c.split-n.new.knots c.lower.new.knots c.args.used c.split-n.result c.split-n.result
     c.split-n.ensures.split.ends (HaveSameEnds-raised _ c.split-n.result c.split-n.new.knots c.lower.new.knots c.lower.ensures)
 
-pub returns-clause-sum : goal.returns-clause-sum
-returns-clause-sum c =
-    let after = (goal.at.returns-clause-sum c).After-lower in
-    sum c.args.knots.now c.args.used c.requires.breaks (reserve_term c.args.mu c.args.cap c.args.up) c.lower.new.knots c.split-n.result (step after) (ends after)
-
-pub returns-clause-breaks : goal.returns-clause-breaks
-returns-clause-breaks c =
-    let after = (goal.at.returns-clause-breaks c).After-lower in
-    sum_breaks c.args.knots.now c.args.used c.requires.breaks (reserve_term c.args.mu c.args.cap c.args.up) c.lower.new.knots c.split-n.result (step after) (ends after)
-    c.effects_keep_limits.ensures.sum c.requires.fits
+pub returns : goal.returns
+returns c =
+    let after = (goal.at.returns c).After-lower in
+    record {
+      sum = sum c.args.knots.now c.args.used c.requires.breaks (reserve_term c.args.mu c.args.cap c.args.up) c.lower.new.knots c.split-n.result (step after) (ends after);
+      breaks = sum_breaks c.args.knots.now c.args.used c.requires.breaks (reserve_term c.args.mu c.args.cap c.args.up) c.lower.new.knots c.split-n.result (step after) (ends after)
+          c.effects_keep_limits.ensures.sum c.requires.fits;
+      charge = c.split-n.ensures.charge;
+    }

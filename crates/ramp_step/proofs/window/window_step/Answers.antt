@@ -39,18 +39,15 @@ on_knots c =
     c.args.used c.shift-moved.result c.cut_above-kept.result c.cut_below-left.result c.args.up c.args.down c.args.lo c.args.hi
     (rw (to_z-of_z w64 c.args.up c.ranges.up, e-down) at c.shift-moved.ensures.window) (rw e-hi at c.cut_above-kept.ensures.cut) (rw e-lo at c.cut_below-left.ensures.cut) (omega arith)
 
-pub returns-clause-window : goal.returns-clause-window
-returns-clause-window c =
-    IsWindow-from_knots c.args.knots.now c.cut_below-left.new.knots c.args.used c.cut_below-left.result c.args.up c.args.down c.args.lo c.args.hi
-    (shape_of c.args.knots.now c.args.used c.requires.breaks) (on_knots (goal.at.returns-clause-window c).After-cut_below-left)
-
-pub returns-clause-breaks : goal.returns-clause-breaks
-returns-clause-breaks c =
-    let ks = c.args.knots.now in
+pub returns : goal.returns
+returns c =
     let new = c.cut_below-left.new.knots in
-    let shape = shape_of ks c.args.used c.requires.breaks in
-    let w = on_knots (goal.at.returns-clause-breaks c).After-cut_below-left in
-    let g = w.function shape.0 shape.1 in
-    AreBreaks-from new c.cut_below-left.result (g.0, g.1)
-    (c.effects_keep_limits.ensures.window c.args.up c.args.down c.args.lo c.args.hi _ _ c.requires.lo c.requires.hi
-    (IsWindow-from_knots ks new c.args.used c.cut_below-left.result c.args.up c.args.down c.args.lo c.args.hi shape w) c.requires.breaks.within)
+    let shape = shape_of c.args.knots.now c.args.used c.requires.breaks in
+    let on = on_knots (goal.at.returns c).After-cut_below-left in
+    let w = IsWindow-from_knots c.args.knots.now new c.args.used c.cut_below-left.result c.args.up c.args.down c.args.lo c.args.hi shape on in
+    let g = on.function shape.0 shape.1 in
+    record {
+      window = w;
+      breaks = AreBreaks-from new c.cut_below-left.result (g.0, g.1) (c.effects_keep_limits.ensures.window c.args.up c.args.down c.args.lo c.args.hi _ _ c.requires.lo c.requires.hi w c.requires.breaks.within);
+      charge = omega arith;
+    }
