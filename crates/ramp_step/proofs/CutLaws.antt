@@ -7,7 +7,7 @@ use Rattle.ramp_step.specs.declared.breakpoint.Knot.{Knot}
 use Rattle.ramp_step.specs.Knots.{knot, place, height, IsStraight, StandFor, IsShape, HaveSameEnds, IsFar}
 use Rattle.shape_law.specs.Table.{IsAmount}
 use Rattle.ramp_step.specs.Cut.{IsOnLine, IsBetween, AreWithin, IsLimited, AreBelow, IsCut, AreDropped, IsInserted, IsSplit, IsPart}
-use Rattle.ramp_step.proofs.KnotLaws.{rises}
+use Rattle.ramp_step.proofs.KnotLaws.{rises, StandFor-run}
 use Rattle.ramp_step.proofs.WindowLaws.{straight_line}
 
 -- ---- between neighbours
@@ -222,26 +222,7 @@ module _ (ks ks' : List Knot) (n by_ : ℕ) (f : ℤ → ℤ) (s : StandFor ks n
   dropped_place k h = ap (λ (q : Knot). q.at) (d.moved k (omega arith) h)
 
   pub StandFor-dropped : StandFor ks' (n - by_) f
-  StandFor-dropped = record {
-    rise = λ k h.
-        let a = dropped_place k (omega arith) in
-        let b = dropped_place (k + 1) (omega arith) in
-        let e : place ks ((k + 1) + by_) ≡ place ks ((k + by_) + 1) = ap (place ks) (omega arith) in
-        let r = s.rise (k + by_) (omega arith) in
-        omega (arith, ints);
-    meet = λ k h. subst (λ (q : Knot). q.value ≡ f q.at) (sym (d.moved k (omega arith) (omega arith))) (s.meet (k + by_) (omega arith));
-    straight = λ k h y from to.
-        let a = dropped_place k (omega arith) in
-        let b = dropped_place (k + 1) (omega arith) in
-        let e : place ks ((k + 1) + by_) ≡ place ks ((k + by_) + 1) = ap (place ks) (omega arith) in
-        s.straight (k + by_) (omega arith) y (omega (arith, ints)) (omega (arith, ints));
-    convex = λ y from to.
-        let a = dropped_place 0 (omega arith) in
-        let b = dropped_place ((n - by_) - 1) (omega arith) in
-        let e : place ks (((n - by_) - 1) + by_) ≡ place ks (n - 1) = ap (place ks) (omega arith) in
-        let order = rises n (place ks) s.rise (0 + by_) 0 (0 + by_) (omega arith) (omega arith) in
-        s.convex y (omega (arith, ints)) (omega (arith, ints));
-  }
+  StandFor-dropped = StandFor-run ks ks' n by_ (n - by_) (record { inside = omega arith; some = omega arith; knots = λ k h. d.moved k (omega arith) (omega arith) ∙ ap (knot ks) (omega arith) }) f s
 
 -- ---- cuts
 

@@ -5,6 +5,7 @@ use Rattle.std.proofs.lemmas.Int.{ints}
 use Rattle.std.proofs.lemmas.Bool.{cases_lt}
 use Rattle.ramp_step.specs.declared.breakpoint.Knot.{Knot}
 use Rattle.ramp_step.specs.Knots.{knot, place, height, IsStraight, IsConvex, Joins, StandFor, IsInside, HaveSameEnds, AreRaised}
+use Rattle.ramp_step.specs.Laws.{IsRun}
 use Rattle.ramp_step.proofs.TimesLaws.{times_next, times_prev}
 
 -- the places rise from each knot to each later one
@@ -25,41 +26,34 @@ is_inside ks n f k s h = record {
 }
 
 -- a term that is straight between neighbours, and convex, is added
-pub Joins-raised : (term : ℤ → ℤ) (n : ℕ) (p v p' v' : ℕ → ℤ) (f : ℤ → ℤ)
-    → Joins n p v f
-    → ((k : ℕ) → k < n → p' k ≡ p k) → ((k : ℕ) → k < n → v' k ≡ v k +ℤ term (p k))
-    → ((k : ℕ) → k + 1 < n → IsStraight (p k) (p (k + 1)) term) → IsConvex (p 0) (p (n - 1)) term
-    → Joins n p' v' (λ x. f x +ℤ term x)
-Joins-raised term n p v p' v' f s places heights straight convex = record {
-  rise = λ k h. let a = places k (omega arith) in let b = places (k + 1) h in let r = s.rise k h in omega (arith, ints);
+pub StandFor-raised : (term : ℤ → ℤ) (n : ℕ) (ks ks' : List Knot) (f : ℤ → ℤ) → StandFor ks n f → AreRaised term n ks ks'
+    → ((k : ℕ) → k + 1 < n → IsStraight (place ks k) (place ks (k + 1)) term) → IsConvex (place ks 0) (place ks (n - 1)) term
+    → StandFor ks' n (λ x. f x +ℤ term x)
+StandFor-raised term n ks ks' f s r straight convex = record {
+  rise = λ k h. let a = r.places k (omega arith) in let b = r.places (k + 1) h in let up = s.rise k h in omega (arith, ints);
   meet = λ k h.
-      let a = heights k h in
+      let a = r.heights k h in
       let m = s.meet k h in
-      let ef : f (p' k) ≡ f (p k) = ap f (places k h) in
-      let et : term (p' k) ≡ term (p k) = ap term (places k h) in
+      let ef : f (place ks' k) ≡ f (place ks k) = ap f (r.places k h) in
+      let et : term (place ks' k) ≡ term (place ks k) = ap term (r.places k h) in
       omega (arith, ints);
   straight = λ k h x from to.
-      let a = places k (omega arith) in
-      let b = places (k + 1) h in
+      let a = r.places k (omega arith) in
+      let b = r.places (k + 1) h in
       let g = s.straight k h x (omega (arith, ints)) (omega (arith, ints)) in
       let t = straight k h x (omega (arith, ints)) (omega (arith, ints)) in
       omega (arith, ints);
   convex = λ x from to.
       elim (cases_lt 0 n) [
         | inl some ↦
-            let a = places 0 some in
-            let b = places (n - 1) (omega arith) in
+            let a = r.places 0 some in
+            let b = r.places (n - 1) (omega arith) in
             let g = s.convex x (omega (arith, ints)) (omega (arith, ints)) in
             let t = convex x (omega (arith, ints)) (omega (arith, ints)) in
             omega (arith, ints)
-        | inr none ↦ absurd (let e : p' (n - 1) ≡ p' 0 = ap p' (omega arith) in omega (arith, ints))
+        | inr none ↦ absurd (let e : place ks' (n - 1) ≡ place ks' 0 = ap (place ks') (omega arith) in omega (arith, ints))
       ];
 }
-
-pub StandFor-raised : (term : ℤ → ℤ) (n : ℕ) (ks ks' : List Knot) (f : ℤ → ℤ) → StandFor ks n f → AreRaised term n ks ks'
-    → ((k : ℕ) → k + 1 < n → IsStraight (place ks k) (place ks (k + 1)) term) → IsConvex (place ks 0) (place ks (n - 1)) term
-    → StandFor ks' n (λ x. f x +ℤ term x)
-StandFor-raised term n ks ks' f s r straight convex = Joins-raised term n (place ks) (height ks) (place ks') (height ks') f s r.places r.heights straight convex
 
 pub HaveSameEnds-raised : (term : ℤ → ℤ) (n : ℕ) (ks ks' : List Knot) → AreRaised term n ks ks' → HaveSameEnds ks n ks' n
 HaveSameEnds-raised term n ks ks' r = record {
@@ -114,3 +108,46 @@ HaveSameEnds-back ks ks' n n' e = elim (cases_lt 0 n) [
     last = λ h. let z = e.none (omega arith) in absurd (omega arith);
   }
 ]
+
+-- ---- knots of another list, one after another
+
+module _ (ks ks' : List Knot) (n from n' : ℕ) (run : IsRun ks n from ks' n') (f : ℤ → ℤ) (s : StandFor ks n f) where
+  pub place_at : (k : ℕ) → k < n' → place ks' k ≡ place ks (from + k)
+  place_at k h = ap (λ (q : Knot). q.at) (run.knots k h)
+
+  pub first_at : place ks' 0 ≡ place ks from
+  first_at = place_at 0 run.some ∙ ap (place ks) (omega arith)
+
+  -- the first and the last of them are between the ends of all
+  order : (i j : ℕ) → i + j < n → place ks i ≤ℤ place ks (i + j)
+  order i j h = rises n (place ks) s.rise j i (i + j) refl h
+
+  pub first_place : place ks 0 ≤ℤ place ks' 0
+  first_place = let inside = run.inside in let some = run.some in let o = order 0 from (omega arith) in let e : place ks (0 + from) ≡ place ks from = ap (place ks) (omega arith) in let a = first_at in omega (arith, ints)
+
+  pub last_place : place ks' (n' - 1) ≤ℤ place ks (n - 1)
+  last_place =
+      let at = place_at (n' - 1) (omega arith) in
+      let o = rises n (place ks) s.rise ((n - 1) - (from + (n' - 1))) (from + (n' - 1)) (n - 1) (omega arith) (omega arith) in
+      omega (arith, ints)
+
+  pub StandFor-run : StandFor ks' n' f
+  StandFor-run = record {
+    rise = λ k h.
+        let a = place_at k (omega arith) in
+        let b = place_at (k + 1) h in
+        let inside = run.inside in
+        let r = s.rise (from + k) (omega arith) in
+        let e : place ks (from + (k + 1)) ≡ place ks ((from + k) + 1) = ap (place ks) (omega arith) in
+        omega (arith, ints);
+    meet = λ k h. let inside = run.inside in ap (λ (q : Knot). q.value) (run.knots k h) ∙ s.meet (from + k) (omega arith) ∙ ap f (sym (place_at k h));
+    straight = λ k h x low high.
+        let a = place_at k (omega arith) in
+        let b = place_at (k + 1) h in
+        let e : place ks (from + (k + 1)) ≡ place ks ((from + k) + 1) = ap (place ks) (omega arith) in
+        s.straight (from + k) (omega arith) x (omega (arith, ints)) (omega (arith, ints));
+    convex = λ x low high.
+        let a = first_place in
+        let b = last_place in
+        s.convex x (omega (arith, ints)) (omega (arith, ints));
+  }

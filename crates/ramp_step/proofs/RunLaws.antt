@@ -10,7 +10,7 @@ use Rattle.ramp_step.specs.Knots.{knot, place, height, StandFor, IsShape, IsInsi
 use Rattle.ramp_step.specs.Laws.{IsRun, RunsStandBetween, SameKnotsAreSame, OneKnotIsPoint}
 use Rattle.ramp_step.specs.Tables.{table_of, AreBreaks, AreWithinLimits}
 use Rattle.ramp_step.proofs.BreakpointLaws.{IsShape-breakpoints, AreBreakpoints-shape}
-use Rattle.ramp_step.proofs.KnotLaws.{rises}
+use Rattle.ramp_step.proofs.KnotLaws.{place_at, first_at, first_place, last_place, StandFor-run}
 use Rattle.ramp_step.proofs.LimitLaws.{IsWithinLimits-from_knots}
 use Rattle.ramp_step.proofs.ShapeLaws.{value_inside, inside_value, none_outside, IsConvexList-from_knots, IsPoint-from_knots, StandFor-one}
 use Rattle.ramp_step.proofs.SpacedLaws.{StandFor-same}
@@ -22,59 +22,19 @@ pub AreBreaks-from : (ks : List Knot) (n : ℕ) → IsShape ks n → IsWithinLim
 AreBreaks-from ks n shape within = record { points = AreBreakpoints-shape ks n shape; convex = IsConvexList-from_knots ks n shape; within = within }
 
 module _ (ks ks' : List Knot) (n from n' : ℕ) (run : IsRun ks n from ks' n') (f : ℤ → ℤ) (s : StandFor ks n f) where
-  place_at : (k : ℕ) → k < n' → place ks' k ≡ place ks (from + k)
-  place_at k h = ap (λ (q : Knot). q.at) (run.knots k h)
-
-  first_at : place ks' 0 ≡ place ks from
-  first_at = place_at 0 run.some ∙ ap (place ks) (omega arith)
-
-  -- the first and the last of them are between the ends of all
-  order : (i j : ℕ) → i + j < n → place ks i ≤ℤ place ks (i + j)
-  order i j h = rises n (place ks) s.rise j i (i + j) refl h
-
-  first_place : place ks 0 ≤ℤ place ks' 0
-  first_place = let inside = run.inside in let some = run.some in let o = order 0 from (omega arith) in let e : place ks (0 + from) ≡ place ks from = ap (place ks) (omega arith) in let a = first_at in omega (arith, ints)
-
-  last_place : place ks' (n' - 1) ≤ℤ place ks (n - 1)
-  last_place =
-      let at = place_at (n' - 1) (omega arith) in
-      let o = rises n (place ks) s.rise ((n - 1) - (from + (n' - 1))) (from + (n' - 1)) (n - 1) (omega arith) (omega arith) in
-      omega (arith, ints)
-
-  pub StandFor-run : StandFor ks' n' f
-  StandFor-run = record {
-    rise = λ k h.
-        let a = place_at k (omega arith) in
-        let b = place_at (k + 1) h in
-        let inside = run.inside in
-        let r = s.rise (from + k) (omega arith) in
-        let e : place ks (from + (k + 1)) ≡ place ks ((from + k) + 1) = ap (place ks) (omega arith) in
-        omega (arith, ints);
-    meet = λ k h. let inside = run.inside in ap (λ (q : Knot). q.value) (run.knots k h) ∙ s.meet (from + k) (omega arith) ∙ ap f (sym (place_at k h));
-    straight = λ k h x low high.
-        let a = place_at k (omega arith) in
-        let b = place_at (k + 1) h in
-        let e : place ks (from + (k + 1)) ≡ place ks ((from + k) + 1) = ap (place ks) (omega arith) in
-        s.straight (from + k) (omega arith) x (omega (arith, ints)) (omega (arith, ints));
-    convex = λ x low high.
-        let a = first_place in
-        let b = last_place in
-        s.convex x (omega (arith, ints)) (omega (arith, ints));
-  }
-
   inside_all : (x : ℤ) → IsInside ks' n' x → IsInside ks n x
   inside_all x h =
       let from_first = h.from_first in
       let to_last = h.to_last in
-      let a = first_place in
-      let b = last_place in
+      let a = first_place ks ks' n from n' run f s in
+      let b = last_place ks ks' n from n' run f s in
       let some = run.some in
       record { some = omega arith; from_first = omega (arith, ints); to_last = omega (arith, ints) }
 
   module _ (x : ℤ) (low : 0 < from → place ks from ≤ℤ x) (high : from + n' < n → x ≤ℤ place ks' (n' - 1)) where
     from_first_of : IsInside ks n x → place ks' 0 ≤ℤ x
     from_first_of h =
-        let a = first_at in
+        let a = first_at ks ks' n from n' run f s in
         elim (cases_lt 0 from) [
           | inl later ↦ let l = low later in omega (arith, ints)
           | inr now ↦ let e : place ks from ≡ place ks 0 = ap (place ks) (omega arith) in omega (arith, ints)
@@ -84,7 +44,7 @@ module _ (ks ks' : List Knot) (n from n' : ℕ) (run : IsRun ks n from ks' n') (
     to_last_of h =
         elim (cases_lt (from + n') n) [
           | inl more ↦ high more
-          | inr all ↦ let e : place ks (n - 1) ≡ place ks (from + (n' - 1)) = ap (place ks) (omega arith) in let a = place_at (n' - 1) (omega arith) in omega (arith, ints)
+          | inr all ↦ let e : place ks (n - 1) ≡ place ks (from + (n' - 1)) = ap (place ks) (omega arith) in let a = place_at ks ks' n from n' run f s (n' - 1) (omega arith) in omega (arith, ints)
         ]
 
     -- inside both have the function's value, outside none
@@ -97,14 +57,14 @@ module _ (ks ks' : List Knot) (n from n' : ℕ) (run : IsRun ks n from ks' n') (
         (λ above. outside (λ h. let a = to_last_of h in omega (arith, ints)))
         (λ to_last.
         let h : IsInside ks' n' x = record { some = run.some; from_first = from_first; to_last = to_last } in
-        value_inside ks' n' f StandFor-run x h ∙ sym (value_inside ks n f s x (inside_all x h))))
+        value_inside ks' n' f (StandFor-run ks ks' n from n' run f s) x h ∙ sym (value_inside ks n f s x (inside_all x h))))
       where
         outside : (IsInside ks n x → ⊥) → value_of (table_of ks' n') x ≡ value_of (table_of ks n) x
-        outside out = none_outside ks' n' f StandFor-run x (λ h. out (inside_all x h)) ∙ sym (none_outside ks n f s x out)
+        outside out = none_outside ks' n' f (StandFor-run ks ks' n from n' run f s) x (λ h. out (inside_all x h)) ∙ sym (none_outside ks n f s x out)
 
   within_run : IsWithinLimits (table_of ks n) → IsWithinLimits (table_of ks' n')
   within_run within x v h =
-      let i = inside_value ks' n' f StandFor-run x v h in
+      let i = inside_value ks' n' f (StandFor-run ks ks' n from n' run f s) x v h in
       within x v (value_inside ks n f s x (inside_all x i.inside) ∙ ap Some i.is)
 
 pub runs_stand_between : RunsStandBetween

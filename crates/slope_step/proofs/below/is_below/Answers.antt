@@ -1,4 +1,4 @@
-use Rattle.std.proofs.Common.{◌≡◌, ◌<◌, ap, ◌∙◌, inl, inr, arith, rules, to_z, of_z}
+use Rattle.std.proofs.Common.{◌≡◌, ◌<◌, ap, inl, inr, arith, rules, to_z, of_z}
 use Rattle.std.specs.Prelude.{FitsSigned, ◌+ℤ◌, ◌≤ℤ◌, length}
 use Rattle.std.specs.Int.{w64}
 use Rattle.std.proofs.lemmas.Int.{ints, clamps, to_z-of_z}

@@ -42,7 +42,7 @@ pub part_at-part-requires : goal.part_at-part-requires
 part_at-part-requires c =
     let w = c.args.window.now in
     let inside = placed_inside w.start.first w.pieces.now c.args.place c.requires.placed
-        (before_last c.args.place.at w.turn (last_place w.start.first w.pieces.now) (below w c.args.place c.requires.placed c.if-place-window.true) w.valid.valley.to) in
+    (before_last c.args.place.at w.turn (last_place w.start.first w.pieces.now) (below w c.args.place c.requires.placed c.if-place-window.true) w.valid.valley.to) in
     record { next = inside; to = c.requires.placed.to inside; fair = w.valid.fair; gentle = w.valid.gentle }
 
 pub overflow_sub-result : goal.overflow_sub-result
@@ -63,7 +63,7 @@ returns-then-place-window c =
     let is = down_coded part.end w.step.ramp_down n.out fair.ramp_down in
     let low = below w place c.requires.placed c.if-place-window.true in
     let p = part_falling (kinked w.start w.pieces.now w.step) w.start.first (last_place w.start.first w.pieces.now) w.turn w.valid.valley w.step.ramp_up w.step.ramp_down fair.ramp_up.at_least fair.ramp_down.at_least c.args.at place.at c.requires.near part.end part.slope stop
-        (here w place c.requires.placed).from low n.to (c.part_at-part.ensures.line w.start w.valid.slopes c.requires.placed) is in
+    (here w place c.requires.placed).from low n.to (c.part_at-part.ensures.line w.start w.valid.slopes c.requires.placed) is in
     let fs : FitsSigned w64 part.slope = search rules in
     let es = to_z-of_z w64 part.slope fs in
     record {
@@ -87,7 +87,7 @@ past_flat-then-requires c =
     let place = c.args.place in
     let is = to_z-of_z w64 c.args.at c.ranges.at in
     let turn = flat_at w.step.ramp_up w.step.ramp_down w.turn c.args.at place.at w.valid.fair.ramp_up.at_least w.valid.fair.ramp_down.at_least c.requires.near
-        (above w place c.requires.placed c.if-place-window.false) (short w place c.requires.placed c.args.at is c.if-at-place.true) in
+    (above w place c.requires.placed c.if-place-window.false) (short w place c.requires.placed c.args.at is c.if-at-place.true) in
     record { placed = c.requires.placed; turn = turn }
 
 pub overflow_add-result : goal.overflow_add-result
@@ -118,7 +118,7 @@ part_at-part-requires-2 c =
     let w = c.args.window.now in
     let is = to_z-of_z w64 c.args.at c.ranges.at in
     let inside = placed_inside w.start.first w.pieces.now c.args.place c.requires.placed
-        (before_end c.args.at c.args.place.at w.step.ramp_up (last_place w.start.first w.pieces.now) w.high (long w c.args.place c.requires.placed c.args.at is c.if-at-place.false) c.requires.high w.valid.high) in
+    (before_end c.args.at c.args.place.at w.step.ramp_up (last_place w.start.first w.pieces.now) w.high (long w c.args.place c.requires.placed c.args.at is c.if-at-place.false) c.requires.high w.valid.high) in
     record { next = inside; to = c.requires.placed.to inside; fair = w.valid.fair; gentle = w.valid.gentle }
 
 pub overflow_add-result-2 : goal.overflow_add-result-2
@@ -139,7 +139,7 @@ returns c =
     let is = up_coded part.end w.step.ramp_up n.out fair.ramp_up in
     let far = long w place c.requires.placed c.args.at (to_z-of_z w64 c.args.at c.ranges.at) c.if-at-place.false in
     let p = part_rising (kinked w.start w.pieces.now w.step) w.start.first (last_place w.start.first w.pieces.now) w.turn w.valid.valley w.step.ramp_up w.step.ramp_down fair.ramp_up.at_least fair.ramp_down.at_least c.args.at place.at c.requires.near part.end part.slope stop
-        (above w place c.requires.placed c.if-place-window.false) far (c.part_at-part-2.ensures.line w.start w.valid.slopes c.requires.placed) is in
+    (above w place c.requires.placed c.if-place-window.false) far (c.part_at-part-2.ensures.line w.start w.valid.slopes c.requires.placed) is in
     let fs : FitsSigned w64 part.slope = search rules in
     let es = to_z-of_z w64 part.slope fs in
     record {
