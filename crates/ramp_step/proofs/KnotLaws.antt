@@ -4,7 +4,7 @@ use Rattle.std.specs.Prelude.{slice_set, ℤ, pos, ◌+ℤ◌, ◌-ℤ◌, ◌*�
 use Rattle.std.proofs.lemmas.Int.{ints}
 use Rattle.std.proofs.lemmas.Bool.{cases_lt}
 use Rattle.ramp_step.specs.declared.breakpoint.Knot.{Knot}
-use Rattle.ramp_step.specs.Knots.{knot, place, height, IsStraight, IsConvex, Joins, StandFor, IsInside, HaveSameEnds, AreRaised}
+use Rattle.ramp_step.specs.Knots.{knot, place, IsStraight, IsConvex, StandFor, IsInside, HaveSameEnds, AreRaised}
 use Rattle.ramp_step.specs.Laws.{IsRun}
 use Rattle.ramp_step.proofs.TimesLaws.{times_next, times_prev}
 

@@ -6,7 +6,7 @@ use Rattle.std.proofs.lemmas.Bool.{cases_lt}
 use Rattle.std.proofs.lemmas.List.{length-set, length-take-le, get_or-take, get_or-drop, get_or-append_right, get_or_append_left}
 use Rattle.ramp_step.specs.declared.breakpoint.Knot.{Knot}
 use Rattle.uc_model.specs.declared.units.Block.{Block}
-use Rattle.ramp_step.specs.Knots.{knot, place, height, StandFor, IsFar}
+use Rattle.ramp_step.specs.Knots.{knot, place, StandFor, IsFar}
 use Rattle.shape_law.specs.Table.{IsAmount}
 use Rattle.ramp_step.specs.Cut.{IsLimited, IsInserted, AreBelow, AreDropped}
 use Rattle.ramp_step.specs.Curve.{IsRefined}

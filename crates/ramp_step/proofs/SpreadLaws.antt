@@ -4,7 +4,7 @@ use Rattle.std.specs.Prelude.{ℤ, pos, ◌+ℤ◌, ◌-ℤ◌, ◌≤ℤ◌, �
 use Rattle.std.proofs.lemmas.Int.{ints, clamps, by_lt_z}
 use Rattle.std.proofs.lemmas.Bool.{cases_lt}
 use Rattle.ramp_step.specs.declared.breakpoint.Knot.{Knot}
-use Rattle.ramp_step.specs.Knots.{place, height, IsStraight, IsConvex, StandFor, IsInside}
+use Rattle.ramp_step.specs.Knots.{place, height, IsStraight, IsConvex, StandFor}
 use Rattle.shape_law.specs.Table.{IsPlace, IsAmount}
 use Rattle.ramp_step.specs.Window.{nearest, IsLeastInReach, IsTurn, AreSpread, AreWindow, IsWindow}
 use Rattle.ramp_step.specs.Cut.{IsLimited, IsCut}

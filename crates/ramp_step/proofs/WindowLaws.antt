@@ -6,7 +6,7 @@ use Rattle.ramp_step.specs.Knots.{IsStraight, IsConvex}
 use Rattle.ramp_step.specs.Window.{nearest, IsLeastInReach}
 use Rattle.std.proofs.Math.IntN.{*ℤ-zero, *ℤ_comm}
 use Rattle.uc_model.proofs.IntLaws.{mul-mono_of}
-use Rattle.ramp_step.proofs.TimesLaws.{times_next, times_one, times_minus}
+use Rattle.ramp_step.proofs.TimesLaws.{times_next, times_minus}
 
 -- ---- slopes
 

@@ -1,5 +1,5 @@
 use Rattle.std.proofs.Common.{◌≡◌, ℕ, ◌+◌, length, get_or, refl, sym, ap, ◌∙◌, subst, arith, rules, to_z, of_z}
-use Rattle.std.specs.Prelude.{pos, ◌+ℤ◌, FitsSigned}
+use Rattle.std.specs.Prelude.{pos, FitsSigned}
 use Rattle.std.specs.Int.{w64}
 use Rattle.std.proofs.lemmas.Int.{ints, to_z-of_z}
 use Rattle.uc_model.specs.declared.units.Block.{Block}

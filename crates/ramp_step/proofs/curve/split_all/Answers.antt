@@ -2,7 +2,6 @@ use Rattle.std.proofs.Common.{◌≡◌, ℕ, ◌+◌, ◌-◌, length, get_or, 
 use Rattle.std.specs.Prelude.{pos, ◌+ℤ◌}
 use Rattle.std.specs.Int.{w64}
 use Rattle.std.proofs.lemmas.Int.{ints, to_z-of_z}
-use Rattle.uc_model.specs.declared.units.Block.{Block}
 use Rattle.ramp_step.specs.Cut.{IsLimited}
 use Rattle.ramp_step.specs.Curve.{block_end, IsRefined}
 use Rattle.ramp_step.specs.Spaced.{spaced}

@@ -6,7 +6,6 @@ use Rattle.shape_law.specs.Effect.{IsLeastIn}
 use Rattle.shape_law.specs.Table.{value_of, HasNone}
 use Rattle.ramp_step.specs.Knots.{place}
 use Rattle.ramp_step.specs.Tables.{table_of}
-use Rattle.ramp_step.proofs.StepLaws.{within_of}
 use Rattle.ramp_step.proofs.TurnLaws.{nearest_is_least}
 use Rattle.ramp_step.proofs.read.least_in.Goals as goal
 use Rattle.ramp_step.proofs.read.least_in.Goals.{After-max-at}
