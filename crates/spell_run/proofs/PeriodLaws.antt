@@ -16,22 +16,12 @@ use Rattle.spell_run.specs.declared.best.Found.{Found}
 use Rattle.shape_law.specs.declared.step.Step.{Step}
 use Rattle.spell_run.specs.Entries.{IsOnFromTo}
 use Rattle.spell_run.specs.Frontier.{IsFrontier, IsWritten, IsChosen, IsUnreached, IsWayFrom, stops_at}
-use Rattle.spell_run.specs.Spells.{HasNoDispatch, IsSpellWithin}
-use Rattle.spell_run.specs.Steps.{cap_at, step_at, IsStepped}
+use Rattle.spell_run.specs.Spells.{HasNoDispatch, IsSpellAnswer, IsSpellWithin}
+use Rattle.spell_run.specs.Steps.{cap_at, step_at, IsStepped, IsSmall, IsLeastCost}
 use Rattle.spell_run.proofs.FairLaws.{IsStep}
-use Rattle.spell_run.proofs.FrontierLaws.{frontier_more, answer_of_step}
-use Rattle.spell_run.proofs.StepLaws.{step_sound}
+use Rattle.spell_run.proofs.FrontierLaws.{small_frontier, frontier_more, answer_of_step}
+use Rattle.spell_run.proofs.StepLaws.{IsFromMove, step_sound}
 use Rattle.spell_run.proofs.WayLaws.{stops_before, stops_last, IsOnward, onward_end, onward_more, way_of_choice}
-
--- two clauses on one result
-pub both_ok : {X E : Type 0} → (r : Result X E) (P Q R : X → Type 0) → ((x : X) → P x → Q x → R x) → IfOk r P → IfOk r Q → IfOk r R
-both_ok (Ok x) P Q R f p q = f x p q
-both_ok (Err e) P Q R f p q = tt
-
--- what holds where a choice is found
-pub on_chosen : (P : Type 0) (Q : Found → Type 0) (R : Type 0) (best : Option Found) → MatchOption best P Q → ((found : Found) → Q found → R) → IfSome best (λ (found : Found). R)
-on_chosen P Q R None h f = tt
-on_chosen P Q R (Some found) h f = f found h
 
 -- periods that are on, and one before them
 pub on_more : (k last : ℕ) (p r : ℤ) (d d' : Schedule) → IsWritten k p r d d' → IsOnFromTo (suc (suc k)) last d → IsOnFromTo (suc k) last d'
@@ -45,8 +35,19 @@ on_last k last p r d d' is written j from until =
     let z : k ≡ j = omega (arith, is, from, until) in
     subst (λ (i : ℕ). IsTrue (get_or d'.on i false)) z written.on
 
-module _ (g : ThermalUnit) (π : PriceLists) (first k last : ℕ) (c : Curve) (unit : IsThermalUnit g) (prices : ArePrices π) (curve : IsCostCurve g.points c) (law : EnvelopeIsCost) (within : k < length π.energy) (from : first ≤ suc k)
-    (s : Step) (s_is : IsStep s (step_at g π k (eqb first (suc k)) (stops_at last (length π.energy) k))) (f h : Table) (front : IsFrontier g π first k f) (step : IsStepped s c f h) where
+-- a period of a spell, and the step over it
+pub record IsPeriod (g : ThermalUnit) (π : PriceLists) (first k last : ℕ) (c : Curve) (s : Step) (f h : Table) : Type 0 where
+  pub unit : IsThermalUnit g
+  pub prices : ArePrices π
+  pub curve : IsCostCurve g.points c
+  pub law : EnvelopeIsCost
+  pub within : k < length π.energy
+  pub from : first ≤ suc k
+  pub step_is : IsStep s (step_at g π k (eqb first (suc k)) (stops_at last (length π.energy) k))
+  pub frontier : IsFrontier g π first k f
+  pub step : IsStepped s c f h
+
+module _ {g : ThermalUnit} {π : PriceLists} {first k last : ℕ} {c : Curve} {s : Step} {f h : Table} (p : IsPeriod g π first k last c s f h) where
   abbrev starts : Bool
   starts = eqb first (suc k)
 
@@ -54,59 +55,65 @@ module _ (g : ThermalUnit) (π : PriceLists) (first k last : ℕ) (c : Curve) (u
   stops = stops_at last (length π.energy) k
 
   price : pos 0 ≤ℤ int_at π.reserve k
-  price = (prices.reserve k (pos 0) (let e = prices.lengths in omega (arith, e, within))).at_least
+  price = (p.prices.reserve k (pos 0) (let e = p.prices.lengths in let low = p.within in omega (arith, e, low))).at_least
 
   taken : IsStepped (step_at g π k starts stops) c f h
-  taken = subst (λ (s : Step). IsStepped s c f h) s_is step
+  taken = subst (λ (s : Step). IsStepped s c f h) p.step_is p.step
+
+  moved : (x v : ℤ) → value_of h x ≡ Some v → IsFromMove g π k starts stops f x v
+  moved = step_sound g π k c p.unit price p.curve starts stops f h taken
 
   pub found_range : (x v : ℤ) → value_of h x ≡ Some v → IsFrom s.least s.cap x
   found_range x v is =
-      let m = step_sound g π k c unit price curve starts stops f h taken x v is in
-      let least = m.move.least in
+      let m = moved x v is in
       let greatest = m.move.greatest in
       let kept = m.not_negative in
-      let range : IsFrom g.min_power (cap_at g starts stops) x = record { at_least = least; at_most = omega (arith, ints, greatest, kept) } in
-      subst (λ (s : Step). IsFrom s.least s.cap x) (sym s_is) range
+      let range : IsFrom g.min_power (cap_at g starts stops) x = record { at_least = m.move.least; at_most = omega (arith, ints, greatest, kept) } in
+      subst (λ (s : Step). IsFrom s.least s.cap x) (sym p.step_is) range
+
+  pub small_period : IsSmall f
+  small_period =
+      let horizon = p.prices.horizon.at_most in
+      let within = p.within in
+      small_frontier g π first k f (omega (arith, horizon, within)) p.frontier
 
   -- ---- the last period
 
   module _ (is : suc k ≡ last) where
-    end_is : stops ≡ ltb (suc k) (length π.energy)
-    end_is = subst (λ (l : ℕ). stops_at l (length π.energy) k ≡ ltb (suc k) (length π.energy)) is (stops_last (length π.energy) k)
-
     pub onward_last : (d : Schedule) (x cost : ℤ) → IsLeast h cost x → IsOnward g π first k last h d x cost
     onward_last d x cost least =
         let P : ℕ → Type 0 = λ l. IsStepped (step_at g π k starts (stops_at l (length π.energy) k)) c f h → IsOnward g π first k l h d x cost in
-        subst P is (λ step. onward_end g π first k c unit prices curve within from f h front step d x cost least) taken
+        subst P is (λ step. onward_end g π first k c p.unit p.prices p.curve p.within p.from f h p.frontier step d x cost least) taken
+
+    answer_last : (o : Option ℤ) → IsLeastCost h o → IsSpellAnswer g π (length π.energy) first last o × IfSome o (IsSpellWithin first last)
+    answer_last o least =
+        let stop = subst (λ (l : ℕ). stops_at l (length π.energy) k ≡ ltb (suc k) (length π.energy)) is (stops_last (length π.energy) k) in
+        subst (λ (l : ℕ). IsSpellAnswer g π (length π.energy) first l o × IfSome o (IsSpellWithin first l)) is
+        (answer_of_step g π first k c p.unit p.prices p.curve p.law p.within p.from f h p.frontier stops stop taken o least)
 
     pub none_last : IsEmpty h → HasNoDispatch g (length π.energy) first last
-    none_last empty =
-        subst (λ (l : ℕ). HasNoDispatch g (length π.energy) first l) is
-        (answer_of_step g π first k c unit prices curve law within from f h front stops end_is taken None empty).0
+    none_last empty = (answer_last None empty).0
 
     pub within_last : (x cost : ℤ) → IsLeast h cost x → IsSpellWithin first last cost
-    within_last x cost least =
-        subst (λ (l : ℕ). IsSpellWithin first l cost) is
-        (answer_of_step g π first k c unit prices curve law within from f h front stops end_is taken (Some cost) (x, least)).1
+    within_last x cost least = (answer_last (Some cost) (x, least)).1
 
   -- ---- an earlier period
 
-  module _ (low : suc k < last) where
-    pub frontier_next : IsFrontier g π first (suc k) h
-    frontier_next =
-        let e = stops_before last (length π.energy) k low in
-        frontier_more g π first k c unit prices curve law within from f h front (subst (λ (b : Bool). IsStepped (step_at g π k starts b) c f h) e taken)
+  pub frontier_next : suc k < last → IsFrontier g π first (suc k) h
+  frontier_next low =
+      let e = stops_before last (length π.energy) k low in
+      frontier_more g π first k c p.unit p.prices p.curve p.law p.within p.from f h p.frontier (subst (λ (b : Bool). IsStepped (step_at g π k starts b) c f h) e taken)
 
-    pub onward_next : (d : Schedule) (x cost : ℤ) → IsWayFrom g π first (suc k) last h d x cost → IsOnward g π first k last h d x cost
-    onward_next d x cost way = onward_more g π first k c unit prices curve within from last low f h front d x cost way
+  pub onward_next : suc k < last → (d : Schedule) (x cost : ℤ) → IsWayFrom g π first (suc k) last h d x cost → IsOnward g π first k last h d x cost
+  onward_next low = onward_more g π first k c p.unit p.prices p.curve p.within p.from last low f h p.frontier
 
-  -- ---- the choice
+  -- ---- the choice, from a shape that is as it was
 
-  module _ (low : suc k ≤ last) (d d' : Schedule) (x cost : ℤ) (onward : IsOnward g π first k last h d x cost) where
-    pub is_reached : IsUnreached s f x → ⊥
+  module _ (low : suc k ≤ last) {d : Schedule} (d' : Schedule) {x cost : ℤ} (onward : IsOnward g π first k last h d x cost) {f' : Table} (same : f' ≡ f) where
+    is_reached : IsUnreached s f' x → ⊥
     is_reached unreached =
-        let u = subst (λ (s : Step). IsUnreached s f x) s_is unreached in
-        let m = step_sound g π k c unit price curve starts stops f h taken x onward.value onward.there in
+        let u = subst (λ (s : Step). IsUnreached s f x) p.step_is (subst (λ (f : Table). IsUnreached s f x) same unreached) in
+        let m = moved x onward.value onward.there in
         let up = m.move.ramp_up in
         let down = m.move.ramp_down in
         let kept = m.not_negative in
@@ -115,14 +122,24 @@ module _ (g : ThermalUnit) (π : PriceLists) (first k last : ℕ) (c : Curve) (u
         let none : value_of u.kinked m.before ≡ None = u.none m.before (omega (arith, ints, up, kept)) (omega (arith, ints, down)) in
         cc
 
-    pub way_chosen : (best : Option Found) → MatchOption best (IsUnreached s f x) (λ (found : Found). IsChosen s f k x found.power d d') → IfSome best (λ (found : Found). found.cost ≡ cost) →
-        MatchOption best (HasNoDispatch g (length π.energy) first last) (λ (found : Found). IsWayFrom g π first k last f d' found.power found.cost)
-    way_chosen None unreached e = absurd (is_reached unreached)
-    way_chosen (Some found) chosen e =
-        let there = subst (λ (s : Step). IsChosen s f k x found.power d d') s_is chosen in
-        let way = way_of_choice g π first k c unit prices curve within from last low f h front taken d d' x found.power cost onward there in
-        subst (λ (z : ℤ). IsWayFrom g π first k last f d' found.power z) (sym e) way
+    abbrev Choice : Option Found → Type 0
+    Choice best = MatchOption best (IsUnreached s f' x) (λ (found : Found). IsChosen s f' k x found.power d d')
 
-    pub none_chosen : (best : Option Found) (P : Type 0) → MatchOption best (IsUnreached s f x) (λ (found : Found). IsChosen s f k x found.power d d') → best ≡ None → P
-    none_chosen None P unreached e = absurd (is_reached unreached)
-    none_chosen (Some found) P chosen e = cc
+    pub way_chosen : {E : Type 0} → (r : Result (Option Found) E) → IfOk r Choice → IfOk r (λ (best : Option Found). IfSome best (λ (found : Found). found.cost ≡ cost)) →
+        IfOk r (λ (best : Option Found). MatchOption best (HasNoDispatch g (length π.energy) first last) (λ (found : Found). IsWayFrom g π first k last f d' found.power found.cost))
+    way_chosen (Err e) chosen is = tt
+    way_chosen (Ok None) unreached is = absurd (is_reached unreached)
+    way_chosen (Ok (Some found)) chosen is =
+        let there = subst (λ (s : Step). IsChosen s f k x found.power d d') p.step_is (subst (λ (f : Table). IsChosen s f k x found.power d d') same chosen) in
+        let way = way_of_choice g π first k c p.unit p.prices p.curve p.within p.from last low f h p.frontier taken d d' x found.power cost onward there in
+        subst (λ (z : ℤ). IsWayFrom g π first k last f d' found.power z) (sym is) way
+
+    pub on_chosen : {E : Type 0} → (r : Result (Option Found) E) → IfOk r Choice → ((q : ℤ) → IsWritten k x q d d' → IsOnFromTo (suc k) last d') → IfOk r (λ (best : Option Found). IfSome best (λ (found : Found). IsOnFromTo (suc k) last d'))
+    on_chosen (Err e) chosen on = tt
+    on_chosen (Ok None) chosen on = tt
+    on_chosen (Ok (Some found)) chosen on = on _ chosen.written
+
+    pub none_chosen : {E : Type 0} → (r : Result (Option Found) E) (P : Type 0) → IfOk r Choice → IfOk r (λ (best : Option Found). best ≡ None → P)
+    none_chosen (Err e) P chosen = tt
+    none_chosen (Ok None) P unreached = λ e. absurd (is_reached unreached)
+    none_chosen (Ok (Some found)) P chosen = λ e. cc

@@ -1,20 +1,63 @@
-use Rattle.std.proofs.Common.{rules, ◌≡◌, ℕ, suc, ◌+◌, ◌-◌, ◌*◌, ◌<◌, ◌≤◌, length, Option, None, IfOk, IfSome, MatchOption, sym, subst, arith}
+use Rattle.std.proofs.Common.{rules, ◌≡◌, ℕ, suc, ◌+◌, ◌-◌, ◌*◌, ◌<◌, ◌≤◌, length, [], sym, subst, arith}
 use Rattle.std.proofs.lemmas.Option.{MatchOption-at_some}
-use Rattle.std.proofs.lemmas.Result.{IfOk-weaker}
+use Rattle.shape_law.specs.Laws.{StaysAs}
 use Rattle.shape_law.specs.Table.{Table}
 use Rattle.uc_model.specs.PlainUnits.{thermal_of, prices_of, schedule_of}
 use Rattle.spell_run.specs.declared.best.Found.{Found}
 use Rattle.spell_run.specs.Entries.{IsOnFromTo}
-use Rattle.spell_run.specs.Frontier.{IsFrontier, IsChosen, IsUnreached, IsWayFrom}
+use Rattle.spell_run.specs.Frontier.{IsFrontier, IsWayFrom}
 use Rattle.spell_run.specs.Spells.{spell_first, HasNoDispatch}
 use Rattle.spell_run.specs.Steps.{IsSmall}
 use Rattle.spell_run.proofs.EntryLaws.{first_from}
 use Rattle.spell_run.proofs.FairLaws.{cost_is}
 use Rattle.spell_run.proofs.FrameLaws.{stays, kept}
 use Rattle.spell_run.proofs.FrontierLaws.{small_frontier}
-use Rattle.spell_run.proofs.PeriodLaws.{both_ok, on_chosen, on_more, found_range, frontier_next, onward_next, way_chosen, none_chosen}
+use Rattle.spell_run.proofs.PeriodLaws.{IsPeriod, on_more, found_range, small_period, frontier_next, onward_next, way_chosen, on_chosen, none_chosen}
 use Rattle.spell_run.proofs.SizeLaws.{never_both, next_fits, one_fits, rest_room, rest_enough}
+use Rattle.spell_run.proofs.best.+way_from.Given.{Over}
 use Rattle.spell_run.proofs.best.+way_from.Goals as goal
+use Rattle.spell_run.proofs.best.+way_from.Goals.{In_ok-after, After-give_back, In-Some}
+
+-- the period at the place, and the step over it
+period : (g : Over) (t : ℕ) (c : In_ok-after g t) →
+    IsPeriod (thermal_of c.args.unit.now) (prices_of c.args.prices.now) (spell_first c.args.spell.now.started c.args.spell.now.first) c.args.place c.args.spell.now.last c.args.curve.now c.step_in-step.result
+    (g.S.Shape.function c.args.home.now c.args.before.now) (g.S.Shape.function c.stepped.new.home c.in_ok-after.after)
+period g t c =
+    let until = c.requires.until in
+    let end = c.requires.spell.end in
+    record {
+      unit = c.args.unit.now.valid;
+      prices = c.args.prices.now.valid;
+      curve = c.requires.curve;
+      law = c.envelope_is_cost.ensures;
+      within = omega (arith, until, end);
+      from = first_from c.args.spell.now.started c.args.spell.now.first c.args.place c.requires.from;
+      step_is = c.step_in-step.ensures.step;
+      frontier = c.requires.frontier;
+      step = c.in_ok-after.ensures.ok;
+    }
+
+-- the shape before, which the shapes after leave as it was
+same : (g : Over) (t : ℕ) (c : After-give_back g t) → StaysAs g.S.Home.Cells.cell_list g.S.Shape.is_in g.S.Shape.numbers g.S.Shape.function [] c.args.home.now c.give_back.new.home c.args.before.now
+same g t c =
+    let join = c.frames_join.ensures in
+    let frame = join _ _ _ _ _ _ c.in_ok-after.ensures.frame (join _ _ _ _ _ _ c.way_from-found.ensures.frame c.give_back.ensures.frame) in
+    stays c.others_stay.ensures c.args.home.now c.give_back.new.home c.args.before.now frame c.requires.here
+
+-- the way on from the next place
+later : (g : Over) (t : ℕ) (c : In-Some g t) →
+    IsWayFrom (thermal_of c.args.unit.now) (prices_of c.args.prices.now) (spell_first c.args.spell.now.started c.args.spell.now.first) (suc c.args.place) c.args.spell.now.last (g.S.Shape.function c.stepped.new.home c.in_ok-after.after)
+    (schedule_of c.way_from-found.new.into.response) c.in-Some.found.power c.in-Some.found.cost
+later g t c =
+    let unit = thermal_of c.args.unit.now in
+    let prices = prices_of c.args.prices.now in
+    let first = spell_first c.args.spell.now.started c.args.spell.now.first in
+    let last = c.args.spell.now.last in
+    let after = g.S.Shape.function c.stepped.new.home c.in_ok-after.after in
+    let d = schedule_of c.way_from-found.new.into.response in
+    let next : c.args.place + 1 ≡ suc c.args.place = omega arith in
+    subst (λ (t : ℕ). IsWayFrom unit prices first t last after d c.in-Some.found.power c.in-Some.found.cost) next
+    (MatchOption-at_some (HasNoDispatch unit (length prices.energy) first last) (λ (found : Found). IsWayFrom unit prices first (c.args.place + 1) last after d found.power found.cost) c.in-Some.found c.in-Some.is c.in_ok-found.ensures.way)
 
 pub stepped-requires-clause-curve : goal.stepped-requires-clause-curve
 stepped-requires-clause-curve g t c =
@@ -35,28 +78,14 @@ returns-in_err-after-clause-frame g t c =
 
 pub way_from-found-requires : goal.way_from-found-requires
 way_from-found-requires g t c =
-    let unit = thermal_of c.args.unit.now in
-    let prices = prices_of c.args.prices.now in
-    let first = spell_first c.args.spell.now.started c.args.spell.now.first in
-    let last = c.args.spell.now.last in
-    let until = c.requires.until in
-    let end = c.requires.spell.end in
-    let within : c.args.place < length c.args.prices.now.energy.items = omega (arith, until, end) in
-    let from = first_from c.args.spell.now.started c.args.spell.now.first c.args.place c.requires.from in
-    let before = g.S.Shape.function c.args.home.now c.args.before.now in
-    let after = g.S.Shape.function c.stepped.new.home c.in_ok-after.after in
-    let step = c.step_in-step.result in
-    let below : suc c.args.place < last = omega arith in
+    let below : suc c.args.place < c.args.spell.now.last = omega arith in
     let next : suc c.args.place ≡ c.args.place + 1 = omega arith in
-    let front = subst (λ (t : ℕ). IsFrontier unit prices first t after) next (frontier_next unit prices first c.args.place last c.args.curve.now c.args.unit.now.valid c.args.prices.now.valid c.requires.curve c.envelope_is_cost.ensures within from step c.step_in-step.ensures.step before after c.requires.frontier c.in_ok-after.ensures.ok below) in
+    let front = subst (λ (t : ℕ). IsFrontier (thermal_of c.args.unit.now) (prices_of c.args.prices.now) (spell_first c.args.spell.now.started c.args.spell.now.first) t (g.S.Shape.function c.stepped.new.home c.in_ok-after.after)) next
+    (frontier_next (period g t (goal.at.way_from-found-requires g t c).In_ok-after) below) in
     search rules
 
 pub returns-in_err-found-clause-here : goal.returns-in_err-found-clause-here
-returns-in_err-found-clause-here g t c =
-    let join = c.frames_join.ensures in
-    let frame = join _ _ _ _ _ _ c.in_ok-after.ensures.frame (join _ _ _ _ _ _ c.way_from-found.ensures.frame c.give_back.ensures.frame) in
-    let same = stays c.others_stay.ensures c.args.home.now c.give_back.new.home c.args.before.now frame c.requires.here in
-    same.here
+returns-in_err-found-clause-here g t c = (same g t (goal.at.returns-in_err-found-clause-here g t c).After-give_back).here
 
 pub returns-in_err-found-clause-frame : goal.returns-in_err-found-clause-frame
 returns-in_err-found-clause-frame g t c =
@@ -65,142 +94,51 @@ returns-in_err-found-clause-frame g t c =
     kept c.others_stay.ensures c.args.home.now c.give_back.new.home c.args.before.now frame c.requires.here
 
 pub choose-requires-clause-here : goal.choose-requires-clause-here
-choose-requires-clause-here g t c =
-    let join = c.frames_join.ensures in
-    let frame = join _ _ _ _ _ _ c.in_ok-after.ensures.frame (join _ _ _ _ _ _ c.way_from-found.ensures.frame c.give_back.ensures.frame) in
-    let same = stays c.others_stay.ensures c.args.home.now c.give_back.new.home c.args.before.now frame c.requires.here in
-    same.here
+choose-requires-clause-here g t c = (same g t (goal.at.choose-requires-clause-here g t c).After-give_back).here
 
 pub choose-requires-clause-small : goal.choose-requires-clause-small
 choose-requires-clause-small g t c =
-    let join = c.frames_join.ensures in
-    let frame = join _ _ _ _ _ _ c.in_ok-after.ensures.frame (join _ _ _ _ _ _ c.way_from-found.ensures.frame c.give_back.ensures.frame) in
-    let same = stays c.others_stay.ensures c.args.home.now c.give_back.new.home c.args.before.now frame c.requires.here in
-    let horizon = c.args.prices.now.valid.horizon.at_most in
-    let until = c.requires.until in
-    let end = c.requires.spell.end in
-    let small = small_frontier (thermal_of c.args.unit.now) (prices_of c.args.prices.now) (spell_first c.args.spell.now.started c.args.spell.now.first) c.args.place _ (omega (arith, horizon, until, end)) c.requires.frontier in
-    subst (λ (f : Table). IsSmall f) (sym same.function_same) small
+    let at = goal.at.choose-requires-clause-small g t c in
+    subst (λ (f : Table). IsSmall f) (sym (same g t at.After-give_back).function_same) (small_period (period g t at.In_ok-after))
 
 pub choose-requires-clause-found : goal.choose-requires-clause-found
 choose-requires-clause-found g t c =
-    let unit = thermal_of c.args.unit.now in
-    let prices = prices_of c.args.prices.now in
-    let first = spell_first c.args.spell.now.started c.args.spell.now.first in
-    let last = c.args.spell.now.last in
-    let until = c.requires.until in
-    let end = c.requires.spell.end in
-    let within : c.args.place < length c.args.prices.now.energy.items = omega (arith, until, end) in
-    let from = first_from c.args.spell.now.started c.args.spell.now.first c.args.place c.requires.from in
-    let before = g.S.Shape.function c.args.home.now c.args.before.now in
-    let after = g.S.Shape.function c.stepped.new.home c.in_ok-after.after in
-    let step = c.step_in-step.result in
-    let below : suc c.args.place < last = omega arith in
-    let d = schedule_of c.way_from-found.new.into.response in
-    let next : c.args.place + 1 ≡ suc c.args.place = omega arith in
-    let told = MatchOption-at_some (HasNoDispatch unit (length prices.energy) first last) (λ (found : Found). IsWayFrom unit prices first (c.args.place + 1) last after d found.power found.cost) c.in-Some.found c.in-Some.is c.in_ok-found.ensures.way in
-    let x = c.in-Some.found.power in
-    let cost = c.in-Some.found.cost in
-    let way = subst (λ (t : ℕ). IsWayFrom unit prices first t last after d x cost) next told in
-    found_range unit prices first c.args.place last c.args.curve.now c.args.unit.now.valid c.args.prices.now.valid c.requires.curve c.envelope_is_cost.ensures within from step c.step_in-step.ensures.step before after c.requires.frontier c.in_ok-after.ensures.ok x way.before way.there
+    let at = goal.at.choose-requires-clause-found g t c in
+    let way = later g t at.In-Some in
+    found_range (period g t at.In_ok-after) c.in-Some.found.power way.before way.there
 
 pub returns-in-Some-clause-way : goal.returns-in-Some-clause-way
 returns-in-Some-clause-way g t c =
-    let unit = thermal_of c.args.unit.now in
-    let prices = prices_of c.args.prices.now in
-    let first = spell_first c.args.spell.now.started c.args.spell.now.first in
-    let last = c.args.spell.now.last in
-    let until = c.requires.until in
-    let end = c.requires.spell.end in
-    let within : c.args.place < length c.args.prices.now.energy.items = omega (arith, until, end) in
-    let from = first_from c.args.spell.now.started c.args.spell.now.first c.args.place c.requires.from in
-    let before = g.S.Shape.function c.args.home.now c.args.before.now in
-    let after = g.S.Shape.function c.stepped.new.home c.in_ok-after.after in
-    let step = c.step_in-step.result in
-    let below : suc c.args.place < last = omega arith in
-    let join = c.frames_join.ensures in
-    let frame = join _ _ _ _ _ _ c.in_ok-after.ensures.frame (join _ _ _ _ _ _ c.way_from-found.ensures.frame c.give_back.ensures.frame) in
-    let same = stays c.others_stay.ensures c.args.home.now c.give_back.new.home c.args.before.now frame c.requires.here in
+    let at = goal.at.returns-in-Some-clause-way g t c in
+    let p = period g t at.In_ok-after in
+    let below : suc c.args.place < c.args.spell.now.last = omega arith in
     let d = schedule_of c.way_from-found.new.into.response in
-    let next : c.args.place + 1 ≡ suc c.args.place = omega arith in
-    let told = MatchOption-at_some (HasNoDispatch unit (length prices.energy) first last) (λ (found : Found). IsWayFrom unit prices first (c.args.place + 1) last after d found.power found.cost) c.in-Some.found c.in-Some.is c.in_ok-found.ensures.way in
-    let x = c.in-Some.found.power in
-    let cost = c.in-Some.found.cost in
-    let way = subst (λ (t : ℕ). IsWayFrom unit prices first t last after d x cost) next told in
     let d' = schedule_of c.choose.new.into.response in
-    let P : Table → Option Found → Type 0 = λ f best. MatchOption best (IsUnreached step f x) (λ (chosen : Found). IsChosen step f c.args.place x chosen.power d d') in
-    let chosen = subst (λ (f : Table). IfOk c.choose.result (P f)) same.function_same c.choose.ensures.chosen in
-    let onward = onward_next unit prices first c.args.place last c.args.curve.now c.args.unit.now.valid c.args.prices.now.valid c.requires.curve c.envelope_is_cost.ensures within from step c.step_in-step.ensures.step before after c.requires.frontier c.in_ok-after.ensures.ok below d x cost way in
-    let low : suc c.args.place ≤ last = until in
-    both_ok c.choose.result (P before) (λ (best : Option Found). IfSome best (λ (found : Found). found.cost ≡ cost))
-    (λ (best : Option Found). MatchOption best (HasNoDispatch unit (length prices.energy) first last) (λ (found : Found). IsWayFrom unit prices first c.args.place last before d' found.power found.cost))
-    (λ best p q. way_chosen unit prices first c.args.place last c.args.curve.now c.args.unit.now.valid c.args.prices.now.valid c.requires.curve c.envelope_is_cost.ensures within from step c.step_in-step.ensures.step before after c.requires.frontier c.in_ok-after.ensures.ok low d d' x cost onward best p q)
-    chosen c.choose.ensures.cost
+    let onward = onward_next p below d c.in-Some.found.power c.in-Some.found.cost (later g t at.In-Some) in
+    way_chosen p c.requires.until d' onward (same g t at.After-give_back).function_same c.choose.result c.choose.ensures.chosen c.choose.ensures.cost
 
 pub returns-in-Some-clause-on : goal.returns-in-Some-clause-on
 returns-in-Some-clause-on g t c =
-    let unit = thermal_of c.args.unit.now in
-    let prices = prices_of c.args.prices.now in
-    let first = spell_first c.args.spell.now.started c.args.spell.now.first in
-    let last = c.args.spell.now.last in
-    let until = c.requires.until in
-    let end = c.requires.spell.end in
-    let within : c.args.place < length c.args.prices.now.energy.items = omega (arith, until, end) in
-    let from = first_from c.args.spell.now.started c.args.spell.now.first c.args.place c.requires.from in
-    let before = g.S.Shape.function c.args.home.now c.args.before.now in
-    let after = g.S.Shape.function c.stepped.new.home c.in_ok-after.after in
-    let step = c.step_in-step.result in
-    let below : suc c.args.place < last = omega arith in
-    let join = c.frames_join.ensures in
-    let frame = join _ _ _ _ _ _ c.in_ok-after.ensures.frame (join _ _ _ _ _ _ c.way_from-found.ensures.frame c.give_back.ensures.frame) in
-    let same = stays c.others_stay.ensures c.args.home.now c.give_back.new.home c.args.before.now frame c.requires.here in
+    let at = goal.at.returns-in-Some-clause-on g t c in
+    let p = period g t at.In_ok-after in
+    let below : suc c.args.place < c.args.spell.now.last = omega arith in
     let d = schedule_of c.way_from-found.new.into.response in
-    let next : c.args.place + 1 ≡ suc c.args.place = omega arith in
-    let told = MatchOption-at_some (HasNoDispatch unit (length prices.energy) first last) (λ (found : Found). IsWayFrom unit prices first (c.args.place + 1) last after d found.power found.cost) c.in-Some.found c.in-Some.is c.in_ok-found.ensures.way in
-    let x = c.in-Some.found.power in
-    let cost = c.in-Some.found.cost in
-    let way = subst (λ (t : ℕ). IsWayFrom unit prices first t last after d x cost) next told in
     let d' = schedule_of c.choose.new.into.response in
-    let P : Table → Option Found → Type 0 = λ f best. MatchOption best (IsUnreached step f x) (λ (chosen : Found). IsChosen step f c.args.place x chosen.power d d') in
-    let chosen = subst (λ (f : Table). IfOk c.choose.result (P f)) same.function_same c.choose.ensures.chosen in
-    let later = MatchOption-at_some (Unit {0}) (λ (found : Found). IsOnFromTo (suc (c.args.place + 1)) last d) c.in-Some.found c.in-Some.is c.in_ok-found.ensures.on in
-    let on = subst (λ (t : ℕ). IsOnFromTo (suc t) last d) next later in
-    IfOk-weaker c.choose.result (P before) (λ (best : Option Found). IfSome best (λ (found : Found). IsOnFromTo (suc c.args.place) last d'))
-    (λ best p. on_chosen (IsUnreached step before x) (λ (chosen : Found). IsChosen step before c.args.place x chosen.power d d') (IsOnFromTo (suc c.args.place) last d') best p (λ found h. on_more c.args.place last x _ d d' h.written on))
-    chosen
+    let onward = onward_next p below d c.in-Some.found.power c.in-Some.found.cost (later g t at.In-Some) in
+    let next : c.args.place + 1 ≡ suc c.args.place = omega arith in
+    let last = c.args.spell.now.last in
+    let on = subst (λ (t : ℕ). IsOnFromTo (suc t) last d) next (MatchOption-at_some (Unit {0}) (λ (found : Found). IsOnFromTo (suc (c.args.place + 1)) last d) c.in-Some.found c.in-Some.is c.in_ok-found.ensures.on) in
+    on_chosen p c.requires.until d' onward (same g t at.After-give_back).function_same c.choose.result c.choose.ensures.chosen (λ q written. on_more c.args.place last c.in-Some.found.power q d d' written on)
 
 pub returns-in-Some-clause-none : goal.returns-in-Some-clause-none
 returns-in-Some-clause-none g t c =
-    let unit = thermal_of c.args.unit.now in
-    let prices = prices_of c.args.prices.now in
-    let first = spell_first c.args.spell.now.started c.args.spell.now.first in
-    let last = c.args.spell.now.last in
-    let until = c.requires.until in
-    let end = c.requires.spell.end in
-    let within : c.args.place < length c.args.prices.now.energy.items = omega (arith, until, end) in
-    let from = first_from c.args.spell.now.started c.args.spell.now.first c.args.place c.requires.from in
-    let before = g.S.Shape.function c.args.home.now c.args.before.now in
-    let after = g.S.Shape.function c.stepped.new.home c.in_ok-after.after in
-    let step = c.step_in-step.result in
-    let below : suc c.args.place < last = omega arith in
-    let join = c.frames_join.ensures in
-    let frame = join _ _ _ _ _ _ c.in_ok-after.ensures.frame (join _ _ _ _ _ _ c.way_from-found.ensures.frame c.give_back.ensures.frame) in
-    let same = stays c.others_stay.ensures c.args.home.now c.give_back.new.home c.args.before.now frame c.requires.here in
+    let at = goal.at.returns-in-Some-clause-none g t c in
+    let p = period g t at.In_ok-after in
+    let below : suc c.args.place < c.args.spell.now.last = omega arith in
     let d = schedule_of c.way_from-found.new.into.response in
-    let next : c.args.place + 1 ≡ suc c.args.place = omega arith in
-    let told = MatchOption-at_some (HasNoDispatch unit (length prices.energy) first last) (λ (found : Found). IsWayFrom unit prices first (c.args.place + 1) last after d found.power found.cost) c.in-Some.found c.in-Some.is c.in_ok-found.ensures.way in
-    let x = c.in-Some.found.power in
-    let cost = c.in-Some.found.cost in
-    let way = subst (λ (t : ℕ). IsWayFrom unit prices first t last after d x cost) next told in
     let d' = schedule_of c.choose.new.into.response in
-    let P : Table → Option Found → Type 0 = λ f best. MatchOption best (IsUnreached step f x) (λ (chosen : Found). IsChosen step f c.args.place x chosen.power d d') in
-    let chosen = subst (λ (f : Table). IfOk c.choose.result (P f)) same.function_same c.choose.ensures.chosen in
-    let onward = onward_next unit prices first c.args.place last c.args.curve.now c.args.unit.now.valid c.args.prices.now.valid c.requires.curve c.envelope_is_cost.ensures within from step c.step_in-step.ensures.step before after c.requires.frontier c.in_ok-after.ensures.ok below d x cost way in
-    let low : suc c.args.place ≤ last = until in
-    let old = schedule_of c.args.into.now.response in
-    IfOk-weaker c.choose.result (P before) (λ (best : Option Found). best ≡ None → d' ≡ old)
-    (λ best p e. none_chosen unit prices first c.args.place last c.args.curve.now c.args.unit.now.valid c.args.prices.now.valid c.requires.curve c.envelope_is_cost.ensures within from step c.step_in-step.ensures.step before after c.requires.frontier c.in_ok-after.ensures.ok low d d' x cost onward best (d' ≡ old) p e)
-    chosen
+    let onward = onward_next p below d c.in-Some.found.power c.in-Some.found.cost (later g t at.In-Some) in
+    none_chosen p c.requires.until d' onward (same g t at.After-give_back).function_same c.choose.result (d' ≡ schedule_of c.args.into.now.response) c.choose.ensures.chosen
 
 pub returns-in-Some-clause-frame : goal.returns-in-Some-clause-frame
 returns-in-Some-clause-frame g t c =
@@ -210,11 +148,7 @@ returns-in-Some-clause-frame g t c =
     join _ _ _ _ _ _ rest c.choose.ensures.frame
 
 pub returns-in-None-clause-here : goal.returns-in-None-clause-here
-returns-in-None-clause-here g t c =
-    let join = c.frames_join.ensures in
-    let frame = join _ _ _ _ _ _ c.in_ok-after.ensures.frame (join _ _ _ _ _ _ c.way_from-found.ensures.frame c.give_back.ensures.frame) in
-    let same = stays c.others_stay.ensures c.args.home.now c.give_back.new.home c.args.before.now frame c.requires.here in
-    same.here
+returns-in-None-clause-here g t c = (same g t (goal.at.returns-in-None-clause-here g t c).After-give_back).here
 
 pub returns-in-None-clause-frame : goal.returns-in-None-clause-frame
 returns-in-None-clause-frame g t c =
