@@ -1,50 +1,47 @@
-use Rattle.std.proofs.Common.{◌≡◌, suc, eqb, ◌<◌, length, sym, subst, arith}
+use Rattle.std.proofs.Common.{IfSome, ◌≡◌, suc, eqb, ◌<◌, length, sym, subst, arith}
 use Rattle.shape_law.specs.Table.{Table}
 use Rattle.uc_model.specs.PlainUnits.{thermal_of, prices_of}
 use Rattle.spell_run.specs.Frontier.{IsFrontier}
-use Rattle.spell_run.specs.Spells.{spell_first}
+use Rattle.spell_run.specs.Spells.{spell_first, IsSpellAnswer, IsSpellWithin}
 use Rattle.spell_run.proofs.FairLaws.{alike_of, range_of}
 use Rattle.spell_run.proofs.FrameLaws.{stays, kept}
 use Rattle.spell_run.proofs.FrontierLaws.{answer_at_end, answer_alike}
+use Rattle.spell_run.proofs.costs.pass.Given.{Over}
 use Rattle.spell_run.proofs.costs.pass.Goals as goal
+use Rattle.spell_run.proofs.costs.pass.Goals.{After-least_cost, After-least_cost_in}
+
+at_end : (g : Over) (c : After-least_cost g) →
+    IsSpellAnswer (thermal_of c.args.unit.now) (prices_of c.args.prices.now) (length c.args.prices.now.energy.items) (spell_first c.args.started c.args.first) (suc c.args.place) c.least_cost.result × IfSome c.least_cost.result (IsSpellWithin (spell_first c.args.started c.args.first) (suc c.args.place))
+at_end g c =
+    let end : suc c.args.place ≡ length c.args.prices.now.energy.items = omega arith in
+    answer_at_end (thermal_of c.args.unit.now) (prices_of c.args.prices.now) (spell_first c.args.started c.args.first) c.args.place c.args.curve.now c.args.unit.now.valid c.args.prices.now.valid c.requires.curve c.envelope_is_cost.ensures c.requires.place c.requires.order
+    (g.S.Shape.function c.run_on.new.home c.run_on.new.running) c.in_ok-run_on.ensures.ok end c.least_cost.result c.least_cost.ensures
+
+at_range : (g : Over) (c : After-least_cost_in g) →
+    IsSpellAnswer (thermal_of c.args.unit.now) (prices_of c.args.prices.now) (length c.args.prices.now.energy.items) (spell_first c.args.started c.args.first) (suc c.args.place) c.least_cost_in.result × IfSome c.least_cost_in.result (IsSpellWithin (spell_first c.args.started c.args.first) (suc c.args.place))
+at_range g c =
+    let unit = thermal_of c.args.unit.now in
+    let prices = prices_of c.args.prices.now in
+    let first = spell_first c.args.started c.args.first in
+    let place = c.args.place in
+    let before : suc place < length c.args.prices.now.energy.items = omega arith in
+    let after = g.S.Shape.function c.run_on-then-is_alike.new.home c.run_on-then-is_alike.new.running in
+    let starts = c.starts_at-starts.result in
+    let alike = alike_of unit prices place starts (eqb first (suc place)) c.step_of-last.result c.step_of-last.ensures.step c.starts_at-starts.ensures c.step_of-on.result c.step_of-on.ensures.step c.if-is_alike.ensures in
+    let least = range_of unit prices place starts (eqb first (suc place)) c.step_of-last.result c.step_of-last.ensures.step c.starts_at-starts.ensures c.step_of-last.ensures.fair after c.least_cost_in.result c.least_cost_in.ensures in
+    answer_alike unit prices first place c.args.curve.now c.args.unit.now.valid c.args.prices.now.valid c.requires.curve c.envelope_is_cost.ensures c.requires.place c.requires.order after c.in_ok-run_on-2.ensures.ok before alike c.least_cost_in.result least
 
 pub returns-then-place-len-clause-answer : goal.returns-then-place-len-clause-answer
-returns-then-place-len-clause-answer g c =
-    let end : suc c.args.place ≡ length c.args.prices.now.energy.items = omega arith in
-    (answer_at_end (thermal_of c.args.unit.now) (prices_of c.args.prices.now) (spell_first c.args.started c.args.first) c.args.place c.args.curve.now c.args.unit.now.valid c.args.prices.now.valid c.requires.curve c.envelope_is_cost.ensures c.requires.place c.requires.order
-    (g.S.Shape.function c.run_on.new.home c.run_on.new.running) c.in_ok-run_on.ensures.ok end c.least_cost.result c.least_cost.ensures).0
+returns-then-place-len-clause-answer g c = (at_end g (goal.at.returns-then-place-len-clause-answer g c).After-least_cost).0
 
 pub returns-then-place-len-clause-within : goal.returns-then-place-len-clause-within
-returns-then-place-len-clause-within g c =
-    let end : suc c.args.place ≡ length c.args.prices.now.energy.items = omega arith in
-    (answer_at_end (thermal_of c.args.unit.now) (prices_of c.args.prices.now) (spell_first c.args.started c.args.first) c.args.place c.args.curve.now c.args.unit.now.valid c.args.prices.now.valid c.requires.curve c.envelope_is_cost.ensures c.requires.place c.requires.order
-    (g.S.Shape.function c.run_on.new.home c.run_on.new.running) c.in_ok-run_on.ensures.ok end c.least_cost.result c.least_cost.ensures).1
+returns-then-place-len-clause-within g c = (at_end g (goal.at.returns-then-place-len-clause-within g c).After-least_cost).1
 
 pub returns-then-is_alike-clause-answer : goal.returns-then-is_alike-clause-answer
-returns-then-is_alike-clause-answer g c =
-    let unit = thermal_of c.args.unit.now in
-    let prices = prices_of c.args.prices.now in
-    let first = spell_first c.args.started c.args.first in
-    let place = c.args.place in
-    let before : suc place < length c.args.prices.now.energy.items = omega arith in
-    let after = g.S.Shape.function c.run_on-then-is_alike.new.home c.run_on-then-is_alike.new.running in
-    let starts = c.starts_at-starts.result in
-    let alike = alike_of unit prices place starts (eqb first (suc place)) c.step_of-last.result c.step_of-last.ensures.step c.starts_at-starts.ensures c.step_of-on.result c.step_of-on.ensures.step c.if-is_alike.ensures in
-    let least = range_of unit prices place starts (eqb first (suc place)) c.step_of-last.result c.step_of-last.ensures.step c.starts_at-starts.ensures c.step_of-last.ensures.fair after c.least_cost_in.result c.least_cost_in.ensures in
-    (answer_alike unit prices first place c.args.curve.now c.args.unit.now.valid c.args.prices.now.valid c.requires.curve c.envelope_is_cost.ensures c.requires.place c.requires.order after c.in_ok-run_on-2.ensures.ok before alike c.least_cost_in.result least).0
+returns-then-is_alike-clause-answer g c = (at_range g (goal.at.returns-then-is_alike-clause-answer g c).After-least_cost_in).0
 
 pub returns-then-is_alike-clause-within : goal.returns-then-is_alike-clause-within
-returns-then-is_alike-clause-within g c =
-    let unit = thermal_of c.args.unit.now in
-    let prices = prices_of c.args.prices.now in
-    let first = spell_first c.args.started c.args.first in
-    let place = c.args.place in
-    let before : suc place < length c.args.prices.now.energy.items = omega arith in
-    let after = g.S.Shape.function c.run_on-then-is_alike.new.home c.run_on-then-is_alike.new.running in
-    let starts = c.starts_at-starts.result in
-    let alike = alike_of unit prices place starts (eqb first (suc place)) c.step_of-last.result c.step_of-last.ensures.step c.starts_at-starts.ensures c.step_of-on.result c.step_of-on.ensures.step c.if-is_alike.ensures in
-    let least = range_of unit prices place starts (eqb first (suc place)) c.step_of-last.result c.step_of-last.ensures.step c.starts_at-starts.ensures c.step_of-last.ensures.fair after c.least_cost_in.result c.least_cost_in.ensures in
-    (answer_alike unit prices first place c.args.curve.now c.args.unit.now.valid c.args.prices.now.valid c.requires.curve c.envelope_is_cost.ensures c.requires.place c.requires.order after c.in_ok-run_on-2.ensures.ok before alike c.least_cost_in.result least).1
+returns-then-is_alike-clause-within g c = (at_range g (goal.at.returns-then-is_alike-clause-within g c).After-least_cost_in).1
 
 pub returns-in_err-cost-clause-frame : goal.returns-in_err-cost-clause-frame
 returns-in_err-cost-clause-frame g c =

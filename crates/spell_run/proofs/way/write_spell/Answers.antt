@@ -4,6 +4,18 @@ use Rattle.uc_model.specs.PlainUnits.{thermal_of, prices_of, schedule_of}
 use Rattle.spell_run.specs.Notes.{passed_at}
 use Rattle.spell_run.proofs.NoteLaws.{IsWrittenFrom, end_stored, written_last, written_more, there_after, written_best, written_on, written_outside}
 use Rattle.spell_run.proofs.way.write_spell.Goals as goal
+use Rattle.spell_run.proofs.way.write_spell.Goals.{After-loop-back}
+
+-- all periods are written
+whole : (c : After-loop-back) → IsWrittenFrom (thermal_of c.args.unit.now) (prices_of c.args.prices.now) c.args.first (c.args.first - 1) c.args.last (schedule_of c.args.into.now.response) (schedule_of c.loop-back.into.response) (to_z w64 c.loop-back.power-bits)
+whole c =
+    let test = c.loop-back-test.false in
+    let most = c.max.ensures in
+    let order = c.requires.order in
+    let one = c.requires.some in
+    let end = c.loop-back.auto.back-end (omega (arith, most, order, one)) in
+    let z : c.args.last - c.loop-back.back ≡ c.args.first - 1 = omega (arith, test, most, end, order, one) in
+    subst (λ (t : ℕ). IsWrittenFrom (thermal_of c.args.unit.now) (prices_of c.args.prices.now) c.args.first t c.args.last (schedule_of c.args.into.now.response) (schedule_of c.loop-back.into.response) (to_z w64 c.loop-back.power-bits)) z c.loop-back.invariant.from
 
 pub write_period-power-requires-clause-noted : goal.write_period-power-requires-clause-noted
 write_period-power-requires-clause-noted c =
@@ -57,33 +69,15 @@ loop-back-preserved c =
 
 pub returns-clause-best : goal.returns-clause-best
 returns-clause-best c =
-    let test = c.loop-back-test.false in
-    let most = c.max.ensures in
-    let order = c.requires.order in
-    let one = c.requires.some in
-    let end = c.loop-back.auto.back-end (omega (arith, most, order, one)) in
-    let z : c.args.last - c.loop-back.back ≡ c.args.first - 1 = omega (arith, test, most, end, order, one) in
-    let from = subst (λ (t : ℕ). IsWrittenFrom (thermal_of c.args.unit.now) (prices_of c.args.prices.now) c.args.first t c.args.last (schedule_of c.args.into.now.response) (schedule_of c.loop-back.into.response) (to_z w64 c.loop-back.power-bits)) z c.loop-back.invariant.from in
-    written_best (thermal_of c.args.unit.now) (prices_of c.args.prices.now) c.args.last c.args.unit.now.valid c.args.prices.now.valid c.requires.end (schedule_of c.args.into.now.response) (schedule_of c.loop-back.into.response) (to_z w64 c.loop-back.power-bits) c.args.first from
+    written_best (thermal_of c.args.unit.now) (prices_of c.args.prices.now) c.args.last c.args.unit.now.valid c.args.prices.now.valid c.requires.end (schedule_of c.args.into.now.response) (schedule_of c.loop-back.into.response) (to_z w64 c.loop-back.power-bits) c.args.first
+    (whole (goal.at.returns-clause-best c).After-loop-back)
 
 pub returns-clause-on : goal.returns-clause-on
 returns-clause-on c =
-    let test = c.loop-back-test.false in
-    let most = c.max.ensures in
-    let order = c.requires.order in
-    let one = c.requires.some in
-    let end = c.loop-back.auto.back-end (omega (arith, most, order, one)) in
-    let z : c.args.last - c.loop-back.back ≡ c.args.first - 1 = omega (arith, test, most, end, order, one) in
-    let from = subst (λ (t : ℕ). IsWrittenFrom (thermal_of c.args.unit.now) (prices_of c.args.prices.now) c.args.first t c.args.last (schedule_of c.args.into.now.response) (schedule_of c.loop-back.into.response) (to_z w64 c.loop-back.power-bits)) z c.loop-back.invariant.from in
-    written_on (thermal_of c.args.unit.now) (prices_of c.args.prices.now) c.args.last c.args.unit.now.valid c.args.prices.now.valid c.requires.end (schedule_of c.args.into.now.response) (schedule_of c.loop-back.into.response) (to_z w64 c.loop-back.power-bits) c.args.first from
+    written_on (thermal_of c.args.unit.now) (prices_of c.args.prices.now) c.args.last c.args.unit.now.valid c.args.prices.now.valid c.requires.end (schedule_of c.args.into.now.response) (schedule_of c.loop-back.into.response) (to_z w64 c.loop-back.power-bits) c.args.first
+    (whole (goal.at.returns-clause-on c).After-loop-back)
 
 pub returns-clause-outside : goal.returns-clause-outside
 returns-clause-outside c =
-    let test = c.loop-back-test.false in
-    let most = c.max.ensures in
-    let order = c.requires.order in
-    let one = c.requires.some in
-    let end = c.loop-back.auto.back-end (omega (arith, most, order, one)) in
-    let z : c.args.last - c.loop-back.back ≡ c.args.first - 1 = omega (arith, test, most, end, order, one) in
-    let from = subst (λ (t : ℕ). IsWrittenFrom (thermal_of c.args.unit.now) (prices_of c.args.prices.now) c.args.first t c.args.last (schedule_of c.args.into.now.response) (schedule_of c.loop-back.into.response) (to_z w64 c.loop-back.power-bits)) z c.loop-back.invariant.from in
-    written_outside (thermal_of c.args.unit.now) (prices_of c.args.prices.now) c.args.last c.args.unit.now.valid c.args.prices.now.valid c.requires.end (schedule_of c.args.into.now.response) (schedule_of c.loop-back.into.response) (to_z w64 c.loop-back.power-bits) c.args.first from
+    written_outside (thermal_of c.args.unit.now) (prices_of c.args.prices.now) c.args.last c.args.unit.now.valid c.args.prices.now.valid c.requires.end (schedule_of c.args.into.now.response) (schedule_of c.loop-back.into.response) (to_z w64 c.loop-back.power-bits) c.args.first
+    (whole (goal.at.returns-clause-outside c).After-loop-back)
