@@ -1,6 +1,6 @@
 -- The way back by what the steps noted: the place nearest to the turn is the cheapest power before, and the periods that
 -- are written for it are a way on.
-use Rattle.std.proofs.Common.{◌≡◌, ℕ, zero, suc, ◌-◌, ◌<◌, ◌≤◌, ltb, eqb, ◌⊎◌, inl, inr, ℤ, pos, ◌+ℤ◌, ◌-ℤ◌, ◌≤ℤ◌, ◌<ℤ◌, Bool, false, length, Some, sym, ap, ◌∙◌, subst, arith}
+use Rattle.std.proofs.Common.{◌≡◌, ℕ, zero, suc, ◌-◌, ◌<◌, ◌≤◌, ltb, eqb, ◌⊎◌, inl, inr, ℤ, pos, ◌+ℤ◌, ◌-ℤ◌, ◌≤ℤ◌, ◌<ℤ◌, Bool, true, false, length, Some, refl, sym, ap, ◌∙◌, subst, arith}
 use Rattle.std.specs.Option.{option_map}
 use Rattle.std.specs.Int.{int_min, int_max}
 use Rattle.std.proofs.lemmas.Int.{ints, clamps, by_lt_z}
@@ -17,11 +17,11 @@ use Rattle.uc_model.specs.Sums.{int_at}
 use Rattle.slope_list.specs.declared.slopes.Lowest.{Lowest}
 use Rattle.spell_run.specs.declared.way.Note.{Note}
 use Rattle.spell_run.specs.declared.way.Passed.{Passed}
-use Rattle.spell_run.specs.Entries.{IsOnFromTo, IsSameOutside}
+use Rattle.spell_run.specs.Entries.{IsSpellStart, IsOnFromTo, IsSameOutside}
 use Rattle.spell_run.specs.Frontier.{IsFrontier, IsWritten, IsChosen, IsWayFrom}
 use Rattle.spell_run.specs.Laws.{best_reserve}
 use Rattle.spell_run.specs.Notes.{IsNoted, IsEndNoted, IsSpellNoted, IsCheapest}
-use Rattle.spell_run.specs.Spells.{IsBestDispatch, IsFirstDispatch, spell_cost}
+use Rattle.spell_run.specs.Spells.{spell_first, IsBestDispatch, IsFirstDispatch, spell_cost}
 use Rattle.spell_run.specs.Steps.{cap_at, step_at, level, IsStepped}
 use Rattle.spell_run.proofs.ChoiceLaws.{stored, output_stored}
 use Rattle.spell_run.proofs.CutLaws.{between_places}
@@ -31,7 +31,7 @@ use Rattle.spell_run.proofs.PeriodLaws.{on_last, on_more}
 use Rattle.spell_run.proofs.RunLaws.{level_before, level_within, cost_none, cost_zero}
 use Rattle.spell_run.proofs.StepLaws.{step_sound}
 use Rattle.spell_run.proofs.SumLaws.{added}
-use Rattle.spell_run.proofs.TieLaws.{best_of_way, first_of_way}
+use Rattle.spell_run.proofs.TieLaws.{of_way}
 use Rattle.spell_run.proofs.WayLaws.{stops_before, stops_last, onward_end, onward_more, way_of_choice}
 
 -- ---- the place nearest to the turn
@@ -253,10 +253,8 @@ module _ (g : ThermalUnit) (π : PriceLists) (last : ℕ) (f : Table) (d : Sched
       let none : (k : ℕ) → 0 ≤ suc k → suc k ≤ 0 → ⊥ = λ k from until. absurd (omega (arith, until)) in
       let at : (d : Schedule) → level g 0 d 0 ≡ g.power0 = λ d. (let e = level_within g 0 d 0 (omega arith) in omega (arith, ints, e)) in
       let point = point_from_frontier g π 0 0 g.power0 f here none at (cost_zero g π) d in
-      let starts : (k : ℕ) → 0 ≤ suc k → 0 ≤ k = λ k from. omega arith in (
-        best_of_way g π 0 0 last g.power0 f d y c unit prices point none starts (at d) (cost_zero g π d) end on,
-        first_of_way g π 0 0 last g.power0 f d y c unit prices point none starts (at d) (cost_zero g π d) end on,
-      )
+      let starts : (k : ℕ) → 0 ≤ suc k → 0 ≤ k = λ k from. omega arith in
+      of_way g π 0 0 last g.power0 f d y c unit prices point none starts (at d) (cost_zero g π d) end on
   whole_way (suc b) front way =
       let z : suc b - 1 ≡ b = omega arith in
       let here = subst (λ (t : ℕ). IsFrontier g π (suc b) t f) z front in
@@ -265,10 +263,17 @@ module _ (g : ThermalUnit) (π : PriceLists) (last : ℕ) (f : Table) (d : Sched
       let at : (d : Schedule) → level g (suc b) d b ≡ g.min_power = λ d. level_before g (suc b) d b (omega arith) in
       let free : (d : Schedule) → spell_cost g π (suc b) b d ≡ pos 0 = λ d. cost_none g π (suc b) b d (omega arith) in
       let point = point_from_frontier g π (suc b) b g.min_power f here none at free d in
-      let starts : (k : ℕ) → suc b ≤ suc k → b ≤ k = λ k from. omega (arith, from) in (
-        best_of_way g π (suc b) b last g.min_power f d y c unit prices point none starts (at d) (free d) end on,
-        first_of_way g π (suc b) b last g.min_power f d y c unit prices point none starts (at d) (free d) end on,
-      )
+      let starts : (k : ℕ) → suc b ≤ suc k → b ≤ k = λ k from. omega (arith, from) in
+      of_way g π (suc b) b last g.min_power f d y c unit prices point none starts (at d) (free d) end on
+
+  -- the same by whether the unit starts
+  pub whole_of : (first : ℕ) (started : Bool) → IsSpellStart g (length π.energy) first started → IsFrontier g π (spell_first started first) (first - 1) f → IsWayFrom g π (spell_first started first) (first - 1) last f d y c →
+      IsBestDispatch g π (length π.energy) (spell_first started first) last d c × IsFirstDispatch g π (length π.energy) (spell_first started first) last d c
+  whole_of first true start front way = whole_way first front way
+  whole_of first false start front way =
+      let one = (start.goes_on refl).0 in
+      let z : first - 1 ≡ 0 - 1 = omega (arith, one) in
+      whole_way 0 (subst (λ (t : ℕ). IsFrontier g π 0 t f) z front) (subst (λ (t : ℕ). IsWayFrom g π 0 t last f d y c) z way)
 
 -- ---- period by period
 

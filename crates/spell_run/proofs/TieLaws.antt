@@ -110,41 +110,12 @@ module _ (g : ThermalUnit) (π : PriceLists) (first b last : ℕ) (base : ℤ) (
       let cost = r.1 in
       (r.0, omega (arith, ints, cost, cost_none, z), r.2)
 
-  pub best_of_way : IsBestDispatch g π (length π.energy) first last d c
-  best_of_way = record { keeps = whole.0; cost = whole.1; least = way.least }
-
-  pub first_of_way : IsFirstDispatch g π (length π.energy) first last d c
-  first_of_way = record {
-    power = λ other dispatch cost k from low same. way.first_after other dispatch cost k (start k from) low same;
-    reserve = λ other dispatch cost same.
-        reserve_first g π first last unit prices end d other whole.0 dispatch (λ j from low. whole.2 j (start j from) low) same (cost ∙ sym whole.1);
-  }
-
--- by where the spell begins
-module _ (g : ThermalUnit) (π : PriceLists) (first last : ℕ) (f : Table) (d : Schedule) (y c : ℤ) (unit : IsThermalUnit g) (prices : ArePrices π) (end : last ≤ length π.energy) where
-  abbrev IsWhole : ℕ → Type 0
-  IsWhole from = IsBestDispatch g π (length π.energy) from last d c × IsFirstDispatch g π (length π.energy) from last d c
-
-  pub whole_of : (started : Bool) → IsSpellStart g (length π.energy) first started → IsPoint (cond started g.min_power g.power0) (pos 0) f → IsWayFrom g π (spell_first started first) (first - 1) last f d y c →
-      IsWhole (spell_first started first)
-  whole_of true start point way =
-      let one = start.from_one in
-      let none : (k : ℕ) → first ≤ suc k → suc k ≤ first - 1 → ⊥ = λ k from until. absurd (omega (arith, from, until, one)) in
-      let begins : (k : ℕ) → first ≤ suc k → first - 1 ≤ k = λ k from. omega (arith, from) in
-      let before : first - 1 < first = omega (arith, one) in
-      let at = level_before g first d (first - 1) before in
-      let free = cost_none g π first (first - 1) d before in (
-        best_of_way g π first (first - 1) last g.min_power f d y c unit prices point none begins at free end way,
-        first_of_way g π first (first - 1) last g.min_power f d y c unit prices point none begins at free end way,
-      )
-  whole_of false start point way =
-      let one = (start.goes_on refl).0 in
-      let zero_is : 0 ≡ first - 1 = omega (arith, one) in
-      let none : (k : ℕ) → 0 ≤ suc k → suc k ≤ first - 1 → ⊥ = λ k from until. absurd (omega (arith, until, one)) in
-      let begins : (k : ℕ) → 0 ≤ suc k → first - 1 ≤ k = λ k from. omega (arith, one) in
-      let level0 : level g 0 d 0 ≡ g.power0 = (let e = level_within g 0 d 0 (omega arith) in omega (arith, ints, e)) in
-      let at = subst (λ (t : ℕ). level g 0 d t ≡ g.power0) zero_is level0 in
-      let free = subst (λ (t : ℕ). spell_cost g π 0 t d ≡ pos 0) zero_is (cost_zero g π d) in (
-        best_of_way g π 0 (first - 1) last g.power0 f d y c unit prices point none begins at free end way,
-        first_of_way g π 0 (first - 1) last g.power0 f d y c unit prices point none begins at free end way,
-      )
+  pub of_way : IsBestDispatch g π (length π.energy) first last d c × IsFirstDispatch g π (length π.energy) first last d c
+  of_way = (
+    record { keeps = whole.0; cost = whole.1; least = way.least },
+    record {
+      power = λ other dispatch cost k from low same. way.first_after other dispatch cost k (start k from) low same;
+      reserve = λ other dispatch cost same.
+          reserve_first g π first last unit prices end d other whole.0 dispatch (λ j from low. whole.2 j (start j from) low) same (cost ∙ sym whole.1);
+    },
+  )

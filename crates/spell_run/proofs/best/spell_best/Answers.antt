@@ -6,9 +6,24 @@ use Rattle.spell_run.specs.declared.best.Found.{Found}
 use Rattle.spell_run.specs.Frontier.{IsWayFrom}
 use Rattle.spell_run.specs.Spells.{spell_first, HasNoDispatch, IsBestDispatch, IsFirstDispatch}
 use Rattle.spell_run.proofs.FrontierLaws.{frontier_begin}
+use Rattle.spell_run.proofs.NoteLaws.{whole_of}
 use Rattle.spell_run.proofs.SizeLaws.{never_both, charge_of, costs_fit, way_most, way_fits}
-use Rattle.spell_run.proofs.TieLaws.{whole_of}
+use Rattle.spell_run.proofs.best.spell_best.Given.{Over}
 use Rattle.spell_run.proofs.best.spell_best.Goals as goal
+use Rattle.spell_run.proofs.best.spell_best.Goals.{In-Some}
+
+-- what is written is the first dispatch of least cost
+whole : (g : Over) (c : In-Some g) → IsBestDispatch (thermal_of c.args.unit.now) (prices_of c.args.prices.now) (length c.args.prices.now.energy.items) (spell_first c.args.spell.now.started c.args.spell.now.first) c.args.spell.now.last (schedule_of c.way_from-found.new.into.response) c.in-Some.found.cost × IsFirstDispatch (thermal_of c.args.unit.now) (prices_of c.args.prices.now) (length c.args.prices.now.energy.items) (spell_first c.args.spell.now.started c.args.spell.now.first) c.args.spell.now.last (schedule_of c.way_from-found.new.into.response) c.in-Some.found.cost
+whole g c =
+    let unit = thermal_of c.args.unit.now in
+    let prices = prices_of c.args.prices.now in
+    let spell = c.args.spell.now in
+    let before = g.S.Shape.function c.beginning.new.home c.in_ok-start.start in
+    let d = schedule_of c.way_from-found.new.into.response in
+    let first = spell_first spell.started spell.first in
+    let front = frontier_begin unit prices (length prices.energy) spell.first spell.started before c.args.unit.now.valid c.requires.spell.start c.in_ok-start.ensures.ok in
+    let way = MatchOption-at_some (HasNoDispatch unit (length prices.energy) first spell.last) (λ (found : Found). IsWayFrom unit prices first (spell.first - 1) spell.last before d found.power found.cost) c.in-Some.found c.in-Some.is c.in_ok-found.ensures.way in
+    whole_of unit prices spell.last before d c.in-Some.found.power c.in-Some.found.cost c.args.unit.now.valid c.args.prices.now.valid c.requires.spell.end spell.first spell.started c.requires.spell.start front way
 
 pub way_from-found-requires-clause-frontier : goal.way_from-found-requires-clause-frontier
 way_from-found-requires-clause-frontier g c =
@@ -21,29 +36,13 @@ returns-in_err-found-clause-frame g c =
 
 pub returns-in-Some-clause-least : goal.returns-in-Some-clause-least
 returns-in-Some-clause-least g c =
-    let unit = thermal_of c.args.unit.now in
-    let prices = prices_of c.args.prices.now in
-    let spell = c.args.spell.now in
-    let before = g.S.Shape.function c.beginning.new.home c.in_ok-start.start in
-    let d = schedule_of c.way_from-found.new.into.response in
-    let first = spell_first spell.started spell.first in
-    let way = MatchOption-at_some (HasNoDispatch unit (length prices.energy) first spell.last) (λ (found : Found). IsWayFrom unit prices first (spell.first - 1) spell.last before d found.power found.cost) c.in-Some.found c.in-Some.is c.in_ok-found.ensures.way in
     let fits : FitsSigned w64 c.in-Some.found.cost = search rules in
-    subst (λ (z : ℤ). IsBestDispatch unit prices (length prices.energy) first spell.last d z) (sym (to_z-of_z w64 c.in-Some.found.cost fits))
-    (whole_of unit prices spell.first spell.last before d c.in-Some.found.power c.in-Some.found.cost c.args.unit.now.valid c.args.prices.now.valid c.requires.spell.end spell.started c.requires.spell.start c.in_ok-start.ensures.ok way).0
+    subst (λ (z : ℤ). IsBestDispatch (thermal_of c.args.unit.now) (prices_of c.args.prices.now) (length c.args.prices.now.energy.items) (spell_first c.args.spell.now.started c.args.spell.now.first) c.args.spell.now.last (schedule_of c.way_from-found.new.into.response) z) (sym (to_z-of_z w64 c.in-Some.found.cost fits)) (whole g (goal.at.returns-in-Some-clause-least g c).In-Some).0
 
 pub returns-in-Some-clause-first : goal.returns-in-Some-clause-first
 returns-in-Some-clause-first g c =
-    let unit = thermal_of c.args.unit.now in
-    let prices = prices_of c.args.prices.now in
-    let spell = c.args.spell.now in
-    let before = g.S.Shape.function c.beginning.new.home c.in_ok-start.start in
-    let d = schedule_of c.way_from-found.new.into.response in
-    let first = spell_first spell.started spell.first in
-    let way = MatchOption-at_some (HasNoDispatch unit (length prices.energy) first spell.last) (λ (found : Found). IsWayFrom unit prices first (spell.first - 1) spell.last before d found.power found.cost) c.in-Some.found c.in-Some.is c.in_ok-found.ensures.way in
     let fits : FitsSigned w64 c.in-Some.found.cost = search rules in
-    subst (λ (z : ℤ). IsFirstDispatch unit prices (length prices.energy) first spell.last d z) (sym (to_z-of_z w64 c.in-Some.found.cost fits))
-    (whole_of unit prices spell.first spell.last before d c.in-Some.found.power c.in-Some.found.cost c.args.unit.now.valid c.args.prices.now.valid c.requires.spell.end spell.started c.requires.spell.start c.in_ok-start.ensures.ok way).1
+    subst (λ (z : ℤ). IsFirstDispatch (thermal_of c.args.unit.now) (prices_of c.args.prices.now) (length c.args.prices.now.energy.items) (spell_first c.args.spell.now.started c.args.spell.now.first) c.args.spell.now.last (schedule_of c.way_from-found.new.into.response) z) (sym (to_z-of_z w64 c.in-Some.found.cost fits)) (whole g (goal.at.returns-in-Some-clause-first g c).In-Some).1
 
 pub returns-in-Some-clause-frame : goal.returns-in-Some-clause-frame
 returns-in-Some-clause-frame g c =
