@@ -1,12 +1,7 @@
 -- The answers of a store, and one of them written in place.
-use Rattle.std.proofs.Common.{◌≡◌, ℕ, ◌*◌, ◌<◌, ◌⊎◌, ℤ, pos, Bool, inl, inr, List, [], length, get_or, sym, ap, ◌∙◌, arith}
-use Rattle.std.proofs.Math.ListN.{set, length-set}
-use Rattle.std.proofs.lemmas.List.{get_or-set_same, get_or-set_other}
+use Rattle.answer_store.proofs.Common.{◌≡◌, ℕ, ◌*◌, ◌<◌, ◌⊎◌, ℤ, pos, Bool, inl, inr, List, [], length, get_or, sym, ap, ◌∙◌, arith, set, length-set, get_or-set_same, get_or-set_other, int_at, Kept, Answers, nothing, answer_in, answers_in, part, with_part}
 use Rattle.std.proofs.lemmas.List.FromFn.{fill_by_all, length-map-range_with_len, get_or-map-range_with_len}
-use Rattle.uc_model.specs.Sums.{int_at}
-use Rattle.answer_store.specs.Answers.{Kept, Answers, nothing, answer_in, answers_in}
-use Rattle.answer_store.specs.Parts.{part, with_part}
-use Rattle.answer_store.proofs.Parts.{inside, stands, others_stay}
+use Rattle.answer_store.proofs.Lemmas.{inside, stands, others_stay}
 
 pub same_answer : (on on2 : List Bool) (power power2 reserve reserve2 : List ℕ) (earned earned2 : ℤ) → on ≡ on2 → power ≡ power2 → reserve ≡ reserve2 → earned ≡ earned2 →
     (let a : Kept = record { schedule = record { on = on; power = power; reserve = reserve }; earned = earned } in

@@ -1,6 +1,10 @@
+-- The names from elsewhere that the proofs here cite.
+pub mod Common
 -- the answers of a store, and one of them written in place
 pub mod Answers
 -- lists of one length, one after another in one list
 pub mod Parts
 -- a table with one more row written
 pub mod Tables
+-- The lemmas that answers cite.
+pub mod Lemmas

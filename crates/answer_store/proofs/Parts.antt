@@ -1,8 +1,6 @@
 -- Lists of one length, one after another in one list.
-use Rattle.std.proofs.Common.{◌≡◌, ℕ, zero, suc, ◌+◌, ◌-◌, ◌*◌, ◌<◌, ◌≤◌, ◌⊎◌, inl, inr, List, [], ◌∷◌, ◌++◌, length, take, drop, refl, sym, ap, ◌∙◌, arith, append_assoc, length-append}
+use Rattle.answer_store.proofs.Common.{◌≡◌, ℕ, zero, suc, ◌+◌, ◌-◌, ◌*◌, ◌<◌, ◌≤◌, ◌⊎◌, inl, inr, List, [], ◌∷◌, ◌++◌, length, take, drop, refl, sym, ap, ◌∙◌, arith, append_assoc, length-append, length-take-le, length-drop, part, with_part}
 use Rattle.std.proofs.lemmas.Bool.{cases_lt}
-use Rattle.std.proofs.lemmas.List.{length-take-le, length-drop}
-use Rattle.answer_store.specs.Parts.{part, with_part}
 
 -- a window that ends where the change begins
 before_change : {A : Type 0} (xs zs : List A) (i n p : ℕ) → i + n ≤ p → p ≤ length xs → take n (drop i (take p xs ++ zs)) ≡ take n (drop i xs)

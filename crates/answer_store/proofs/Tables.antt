@@ -1,11 +1,6 @@
 -- A table with one more row written.
-use Rattle.std.proofs.Common.{◌≡◌, ℕ, zero, suc, ◌+◌, ◌*◌, ◌<◌, ◌≤◌, ◌⊎◌, inl, inr, List, [], ◌∷◌, ◌++◌, length, map, get_or, refl, sym, ap, ◌∙◌, arith, length-append}
-use Rattle.std.proofs.Math.ListN.{set, length-set}
-use Rattle.std.proofs.lemmas.List.{get_or-set_same, get_or-set_other, length-map, length-replicate}
+use Rattle.answer_store.proofs.Common.{◌≡◌, ℕ, zero, suc, ◌+◌, ◌*◌, ◌<◌, ◌≤◌, ◌⊎◌, inl, inr, List, [], ◌∷◌, ◌++◌, length, map, get_or, refl, sym, ap, ◌∙◌, arith, length-append, set, length-set, get_or-set_same, get_or-set_other, length-map, length-replicate, replicate, with_part, Rows, row_at, rows_in, blank, blanks, IsTable}
 use Rattle.std.proofs.lemmas.List.Sums.{sum_by-set}
-use Rattle.std.specs.Prelude.{replicate}
-use Rattle.answer_store.specs.Parts.{with_part}
-use Rattle.answer_store.specs.Tables.{Rows, row_at, rows_in, blank, blanks, IsTable}
 use Rattle.answer_store.proofs.Parts.{inside, stands, others_stay, others_stay_more, stands_last, length-with_part, length-part}
 
 same_or : (x y : ℕ) → (x ≡ y) ⊎ (x ≡ y → ⊥)

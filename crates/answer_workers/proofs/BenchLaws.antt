@@ -1,27 +1,13 @@
 -- A bench for the most cost points of a case suffices for each of its units.
-use Rattle.std.proofs.Common.{◌≡◌, ℕ, suc, ◌+◌, ◌*◌, ◌<◌, ◌≤◌, ◌⊎◌, inl, inr, Bool, true, false, cond, Some, List, [], ◌∷◌, ◌++◌, map, length, refl, sym, ap, ◌∙◌, subst, arith, append_assoc}
-use Rattle.std.proofs.Common.{Less, Equal, Greater}
+use Rattle.answer_workers.proofs.Common.{◌≡◌, ℕ, suc, ◌+◌, ◌*◌, ◌<◌, ◌≤◌, ◌⊎◌, inl, inr, Bool, true, false, cond, Some, List, [], ◌∷◌, ◌++◌, map, length, refl, sym, ap, ◌∙◌, subst, arith, append_assoc, Less, Equal, Greater, All, slice_get_within, get_or_from_slice_get, room_of, Slopes, AnyUnit, Thermal, Flat, Bid, Market, NamedThermalUnit, NamedRenewableUnit, NamedBidUnit, PriceLists, Schedule, ThermalUnit, units, named_thermal_of, schedule_of, IsThermalFeasible, Answered, NamedUnit, IsBenchFor, Bench, HasSchedule, IsResponse, Suffices, IsBenchOf, All-nil, All-cons}
 use Rattle.std.specs.Prelude.{IsTrue, IsFalse, slice_get}
 use Rattle.std.specs.Cmp.{nat_cmp_is}
 use Rattle.std.specs.Ordering.{nat_cmp, ord_max, is_lt}
 use Rattle.std.specs.declared.cmp.Ordering.{Ordering}
-use Rattle.std.specs.List.{All}
 use Rattle.std.proofs.Math.Nat.{mul-le-mul_left, le_trans}
 use Rattle.std.proofs.lemmas.Bool.{cases_lt, cases_order}
-use Rattle.std.proofs.lemmas.Option.{slice_get_within, get_or_from_slice_get}
-use Rattle.slope_list.specs.Slopes.{room_of}
-use Rattle.slope_list.specs.declared.slopes.Slopes.{Slopes}
-use Rattle.uc_model.specs.Data.{AnyUnit, Thermal, Flat, Bid, Market, NamedThermalUnit, NamedRenewableUnit, NamedBidUnit, PriceLists, Schedule, ThermalUnit, units}
 use Rattle.uc_model.specs.Earnings.{earnings}
-use Rattle.uc_model.specs.PlainUnits.{named_thermal_of, schedule_of}
-use Rattle.uc_model.specs.Schedules.{IsThermalFeasible}
 use Rattle.uc_model.specs.Ties.{IsLeast}
-use Rattle.uc_model.specs.declared.units.Answered.{Answered}
-use Rattle.uc_model.specs.declared.units.NamedUnit.{NamedUnit}
-use Rattle.unit_program.specs.Benches.{IsBenchFor}
-use Rattle.unit_program.specs.declared.bench.Bench.{Bench}
-use Rattle.answer_workers.specs.Answers.{HasSchedule, IsResponse, Suffices, IsBenchOf}
-use Rattle.std.proofs.lemmas.List.Elements.{All-nil, All-cons}
 
 -- ---- the most points of the units before one
 

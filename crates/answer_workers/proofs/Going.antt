@@ -1,15 +1,6 @@
 -- A call goes on with what its seat had seen.
-use Rattle.std.proofs.Common.{◌≡◌, ◌≢◌, inl, inr, ℕ, Bool, true, false, cond, List, [], ◌∷◌, ◌++◌, sym, ap, ◌∙◌, refl, subst, append-nil, append_assoc}
-use Rattle.std.specs.List.{All}
-use Rattle.std.proofs.lemmas.List.Elements.{All-nil, All-cons, All-append, All-weaker}
-use Rattle.board_history.specs.Board.{Answer, Content, rules_of}
-use Rattle.board_history.specs.Calls.{differs_from, after_claim, after_post}
-use Rattle.board_history.specs.Rounds.{Given, Taken, Closing, Stopped, ClaimReply, Finished, Halted, GivenTask, NotYet, PostReply, OtherProposal, OtherUnit, OtherContent, Doubled, OtherHolder, TakenPost, claim_reply, post_reply, post_event, posts, with_post, is_closed, with_claim, with_answer}
-use Rattle.uc_model.specs.Data.{AnyUnit, PriceLists}
+use Rattle.answer_workers.proofs.Common.{◌≡◌, ◌≢◌, inl, inr, ℕ, Bool, true, false, cond, List, [], ◌∷◌, ◌++◌, sym, ap, ◌∙◌, refl, subst, append-nil, append_assoc, All, All-nil, All-cons, All-append, All-weaker, Answer, Content, rules_of, differs_from, after_claim, after_post, Given, Taken, Closing, Stopped, ClaimReply, Finished, Halted, GivenTask, NotYet, PostReply, OtherProposal, OtherUnit, OtherContent, Doubled, OtherHolder, TakenPost, claim_reply, post_reply, post_event, posts, with_post, is_closed, with_claim, with_answer, AnyUnit, PriceLists, Called, BoardEvent, View, caller_of, content, Came, GoesOn}
 use Rattle.board_share.specs.Rule.{Past}
-use Rattle.board_share.specs.Tells.{Called}
-use Rattle.board_share.specs.Views.{BoardEvent, View, caller_of, content}
-use Rattle.answer_workers.specs.Workers.{Came, GoesOn}
 
 pub stays : (v : View) → GoesOn v v
 stays v = record { more = []; longer = append-nil v.seen; came = All-nil (Came v); same = refl }

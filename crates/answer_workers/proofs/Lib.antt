@@ -1,3 +1,5 @@
+-- The names from elsewhere that the proofs here cite.
+pub mod Common
 -- tasks.rt, worker.rt: the bench of a worker suffices for each unit of the case
 pub mod BenchLaws
 -- waiting.rt, work.rt: a call goes on with what the seat had seen
@@ -8,3 +10,5 @@ pub mod Told
 pub mod Steady
 -- all.rt: rows of workers, of which one after another works
 pub mod Rows
+-- The lemmas that answers cite.
+pub mod Lemmas

@@ -1,12 +1,6 @@
 -- Rows of workers, of which one after another works.
-use Rattle.std.proofs.Common.{◌≡◌, ◌≢◌, ℕ, suc, ◌+◌, ◌<◌, List, [], ◌∷◌, length, get_or, set, sym, subst, arith}
-use Rattle.std.specs.List.{All, Contains}
-use Rattle.std.proofs.lemmas.List.{get_or-set_same, get_or-set_other, get_or_default, length-set}
-use Rattle.std.proofs.lemmas.List.Elements.{All-cons, All-head, All-tail}
+use Rattle.answer_workers.proofs.Common.{◌≡◌, ◌≢◌, ℕ, suc, ◌+◌, ◌<◌, List, [], ◌∷◌, length, get_or, set, sym, subst, arith, All, Contains, get_or-set_same, get_or-set_other, get_or_default, length-set, All-cons, All-head, All-tail, SharedBoard, IsWorkerOf, HasWorked, HaveWorked, HasFinished, Worker}
 use native.Mathlib.Decide.{ℕ_discrete}
-use Rattle.board_share.specs.declared.shared.SharedBoard.{SharedBoard}
-use Rattle.answer_workers.specs.Workers.{IsWorkerOf, HasWorked, HaveWorked, HasFinished}
-use Rattle.answer_workers.specs.declared.worker.Worker.{Worker}
 use Rattle.answer_workers.proofs.Steady.{rests, works_on, still_of}
 
 abbrev pub EachWorked : List Worker → List Worker → Type 0

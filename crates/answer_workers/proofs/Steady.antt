@@ -1,19 +1,5 @@
 -- A worker that has worked still is one of its board.
-use Rattle.std.proofs.Common.{◌≡◌, ℕ, length, ap, ◌∙◌, refl, sym, subst}
-use Rattle.board_history.specs.Board.{Setup}
-use Rattle.board_share.specs.Seats.{SeatValue, view_of, IsSameBoard}
-use Rattle.board_share.specs.declared.shared.SharedBoard.{SharedBoard}
-use Rattle.uc_model.specs.Data.{AnyUnit, Thermal, Flat, Bid, PriceLists, Market}
-use Rattle.slope_list.specs.declared.slopes.Slopes.{Slopes}
-use Rattle.uc_model.specs.PlainCases.{task_unit}
-use Rattle.uc_model.specs.PlainUnits.{prices_of, schedule_of}
-use Rattle.uc_model.specs.TaskRoom.{IsTaskFor}
-use Rattle.uc_model.specs.declared.cases.Task.{Task}
-use Rattle.uc_model.specs.declared.units.Answered.{Answered}
-use Rattle.unit_program.specs.declared.bench.Bench.{Bench}
-use Rattle.answer_workers.specs.Answers.{IsBenchOf, IsResponse, Suffices}
-use Rattle.answer_workers.specs.Workers.{IsWorkerOf, HasParts, HasWorked, market_at}
-use Rattle.answer_workers.specs.declared.worker.Worker.{Worker}
+use Rattle.answer_workers.proofs.Common.{◌≡◌, ℕ, length, ap, ◌∙◌, refl, sym, subst, Setup, SeatValue, view_of, IsSameBoard, SharedBoard, AnyUnit, Thermal, Flat, Bid, PriceLists, Market, Slopes, task_unit, prices_of, schedule_of, IsTaskFor, Task, Answered, Bench, IsBenchOf, IsResponse, Suffices, IsWorkerOf, HasParts, HasWorked, market_at, Worker}
 use Rattle.answer_workers.proofs.BenchLaws.{all_kept}
 use Rattle.answer_workers.proofs.Going.{stays, then_on}
 

@@ -1,24 +1,11 @@
 -- What the answer of a claim tells.
-use Rattle.std.proofs.Common.{◌≡◌, ℕ, refl, sym, ap, ◌∙◌, subst}
-use Rattle.board_history.specs.Board.{Content}
-use Rattle.board_history.specs.Calls.{claim_answer}
+use Rattle.answer_workers.proofs.Common.{◌≡◌, ℕ, refl, sym, ap, ◌∙◌, subst, Content, claim_answer, ClaimReply, Finished, Halted, GivenTask, NotYet, view_of, Called, View, content, Market, task_unit, IsFeasible, Task, Suffices, IsBenchOf, IsTold, IsReady, market_at, Worker}
 use Rattle.board_history.specs.Laws.{ClaimsMean}
-use Rattle.board_history.specs.Rounds.{ClaimReply, Finished, Halted, GivenTask, NotYet}
 use Rattle.board_core.specs.Replies.{claim_of}
 use Rattle.board_core.specs.Tasks.{IsOwnTask, LeavesTask}
 use Rattle.board_core.specs.declared.replies.Claim.{Claim}
 use Rattle.board_core.specs.declared.replies.Claim.TheVariants as claim
-use Rattle.board_share.specs.Seats.{view_of}
-use Rattle.board_share.specs.Tells.{Called}
 use Rattle.board_share.specs.Unchanged.{UnlessGiven}
-use Rattle.board_share.specs.Views.{View, content}
-use Rattle.uc_model.specs.Data.{Market}
-use Rattle.uc_model.specs.PlainCases.{task_unit}
-use Rattle.uc_model.specs.Schedules.{IsFeasible}
-use Rattle.uc_model.specs.declared.cases.Task.{Task}
-use Rattle.answer_workers.specs.Answers.{Suffices, IsBenchOf}
-use Rattle.answer_workers.specs.Workers.{IsTold, IsReady, market_at}
-use Rattle.answer_workers.specs.declared.worker.Worker.{Worker}
 use Rattle.answer_workers.proofs.BenchLaws.{serves_at}
 
 -- ---- which reply it was

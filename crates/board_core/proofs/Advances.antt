@@ -1,21 +1,7 @@
 -- One more round keeps what rounds are.
-use Rattle.std.proofs.Common.{eq-eqb, ◌≡◌, ℕ, suc, ◌+◌, ◌-◌, ◌<◌, ◌≤◌, ℤ, Bool, true, false, cond, ◌&&◌, ◌==◌, Option, Some, inl, inr, List, [], ◌∷◌, ◌++◌, length, map, get_or, refl, sym, ap, ◌∙◌, subst, arith, length-append}
-use Rattle.std.proofs.lemmas.Bool.{false≢true, cases_lt}
-use Rattle.std.proofs.lemmas.Bool.Decides.{nat_tests}
-use Rattle.std.proofs.lemmas.List.FromFn.{length-map-range_with_len, get_or-map-range_with_len, map-range_with_len_more}
-use Rattle.std.proofs.lemmas.Option.{slice_get-get_or}
-use Rattle.std.specs.List.{range_with_len}
-use Rattle.std.specs.Option.{option_map_or}
-use Rattle.std.specs.Prelude.{not, nat_lt, nat_le, slice_get, slice_index}
-use Rattle.board_history.specs.Board.{Setup, Answer, rules_of}
-use Rattle.board_history.specs.BoardLaws.{RoundLaws}
-use Rattle.board_history.specs.Rounds.{Rules, rows_by, prices_by, opened_in}
+use Rattle.board_core.proofs.Common.{eq-eqb, ◌≡◌, ℕ, suc, ◌+◌, ◌-◌, ◌<◌, ◌≤◌, ℤ, Bool, true, false, cond, ◌&&◌, ◌==◌, Option, Some, inl, inr, List, [], ◌∷◌, ◌++◌, length, map, get_or, refl, sym, ap, ◌∙◌, subst, arith, length-append, false≢true, cases_lt, nat_tests, length-map-range_with_len, get_or-map-range_with_len, map-range_with_len_more, slice_get-get_or, range_with_len, option_map_or, not, nat_lt, nat_le, slice_get, slice_index, Setup, Answer, rules_of, RoundLaws, Rules, rows_by, prices_by, opened_in, is_last_settled, Market, PriceLists, Proposal, age, stepped_prices, price_rule, next_prices, no_prices, opening_prices_of, start_prices, is_settled, Sums, Fronts, is_full, row_in, with_row, opens, with_round, IsRound}
 use Rattle.price_move.specs.declared.next.Moved.{Moved}
 use Rattle.price_move.specs.declared.next.Moved.TheVariants.{Made, Settled}
-use Rattle.price_move.specs.Moves.{is_last_settled}
-use Rattle.uc_model.specs.Data.{Market, PriceLists}
-use Rattle.uc_model.specs.PriceRule.{Proposal, age, stepped_prices, price_rule, next_prices, no_prices, opening_prices_of, start_prices, is_settled}
-use Rattle.board_core.specs.Rounds.{Sums, Fronts, is_full, row_in, with_row, opens, with_round, IsRound}
 
 pub choose_true : {X : Type 0} (b : Bool) (x y : X) → b ≡ true → cond b x y ≡ x
 choose_true true x y h = refl

@@ -1,11 +1,6 @@
 -- The first greatest of the closed proposals, where one proposal is changed.
-use Rattle.std.proofs.Common.{◌≡◌, ◌≢◌, ℕ, zero, suc, ◌<◌, ℤ, pos, List, [], ◌∷◌, take, get_or, set, refl, ap, ◌∙◌, arith}
-use Rattle.std.proofs.lemmas.Int.{ints}
-use Rattle.std.proofs.lemmas.List.{map-set, get_or-set_other}
-use Rattle.price_move.specs.Firsts.{IsFirstUpTo}
-use Rattle.price_move.specs.Moves.{values_of}
-use Rattle.uc_model.specs.PriceRule.{Proposal}
-use Rattle.uc_model.specs.Sums.{int_at}
+use Rattle.board_core.proofs.Common.{◌≡◌, ◌≢◌, ℕ, zero, suc, ◌<◌, ℤ, pos, List, [], ◌∷◌, take, get_or, refl, ap, ◌∙◌, arith, ints, map-set, get_or-set_other, IsFirstUpTo, values_of, Proposal, int_at}
+use Rattle.std.proofs.Common.{set}
 
 -- a change that leaves the value
 pub same_values : (ps : List Proposal) (i : ℕ) (r d : Proposal) → r.value ≡ (get_or ps i d).value → values_of (set ps i r) ≡ values_of ps

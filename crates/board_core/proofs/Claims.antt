@@ -1,23 +1,6 @@
 -- What a claim answers, and that the lists go on with it.
-use Rattle.std.proofs.Common.{◌≡◌, ℕ, zero, suc, ◌+◌, ◌-◌, ◌*◌, ◌/◌, ◌%◌, ◌<◌, ◌≤◌, ◌⊎◌, Bool, true, false, cond, ◌&&◌, ◌==◌, inl, inr, Option, Some, None, List, [], ◌∷◌, ◌++◌, length, map, get_or, refl, sym, ap, ◌∙◌, subst, arith, eq-eqb, length-append}
-use Rattle.std.proofs.lemmas.Bool.{le-leb, lt-leb}
-use Rattle.std.proofs.lemmas.Bool.Decides.{nat_tests}
-use Rattle.std.proofs.lemmas.List.{get_or-map, get_or-take}
-use Rattle.std.proofs.lemmas.List.FromFn.{get_or-map-range_with_len}
-use Rattle.std.proofs.lemmas.List.Folds.{list_any-append}
-use Rattle.std.proofs.lemmas.Option.{slice_get_past, slice_get-get_or}
-use Rattle.std.specs.List.{list_any}
-use Rattle.std.specs.Prelude.{slice_get, slice_index_or}
-use Rattle.board_history.specs.Board.{Setup, Answer, no_answer, rules_of}
-use Rattle.board_history.specs.BoardLaws.{BoardLaws}
-use Rattle.board_history.specs.Rounds.{Rules, Event, Given, sooner, only_at, posts, holders, closed_front, opened, is_finished, prices_at, is_halt, is_halt_of, Holders, Finished, Halted, GivenTask, NotYet, claim_reply}
+use Rattle.board_core.proofs.Common.{◌≡◌, ℕ, zero, suc, ◌+◌, ◌-◌, ◌*◌, ◌/◌, ◌%◌, ◌<◌, ◌≤◌, ◌⊎◌, Bool, true, false, cond, ◌&&◌, ◌==◌, inl, inr, Option, Some, None, List, [], ◌∷◌, ◌++◌, length, map, get_or, refl, sym, ap, ◌∙◌, subst, arith, eq-eqb, length-append, le-leb, lt-leb, nat_tests, get_or-map, get_or-take, get_or-map-range_with_len, list_any-append, slice_get_past, slice_get-get_or, list_any, slice_get, slice_index_or, Setup, Answer, no_answer, rules_of, BoardLaws, Rules, Event, Given, sooner, only_at, posts, holders, closed_front, opened, is_finished, prices_at, is_halt, is_halt_of, Holders, Finished, Halted, GivenTask, NotYet, claim_reply, PriceLists, unit_count, Proposal, no_prices, place, LedgerValue, Lists, task_count, sums_of, fronts_of, AreTakers, mark, AreMarks, AreTallies, AreRounds, IsBoard, IsSetup}
 use Rattle.board_history.specs.Words.{IsHeld, IsGoing, ClaimSays}
-use Rattle.uc_model.specs.Data.{PriceLists, unit_count}
-use Rattle.uc_model.specs.PriceRule.{Proposal, no_prices}
-use Rattle.board_core.specs.Events.{place}
-use Rattle.board_core.specs.Ledgers.{LedgerValue}
-use Rattle.board_core.specs.Parts.{Lists, task_count, sums_of, fronts_of, AreTakers, mark, AreMarks, AreTallies, AreRounds, IsBoard}
-use Rattle.board_core.specs.Setups.{IsSetup}
 use Rattle.board_core.proofs.Fronts.{closed_is, opened_is}
 use Rattle.board_core.proofs.Halts.{or_false}
 use Rattle.board_core.proofs.Lists.{place_before, place_same}

@@ -1,11 +1,5 @@
 -- Entries and events, with one more of each.
-use Rattle.std.proofs.Common.{◌≡◌, ℕ, List, [], ◌∷◌, ◌++◌, sym, ap, ◌∙◌}
-use Rattle.std.proofs.lemmas.List.{map-append}
-use Rattle.board_history.specs.Board.{Setup, Answer, Content}
-use Rattle.board_history.specs.Entries.{entry_of, entries_of}
-use Rattle.board_history.specs.Rounds.{Event}
-use Rattle.board_history.specs.declared.entries.Entry.{Entry}
-use Rattle.board_core.specs.Events.{event_of, events_of}
+use Rattle.board_core.proofs.Common.{◌≡◌, ℕ, List, [], ◌∷◌, ◌++◌, sym, ap, ◌∙◌, map-append, Setup, Answer, Content, entry_of, entries_of, Event, Entry, event_of, events_of}
 
 pub events_more : (units : ℕ) (answers : List Answer) (entries entries2 : List Entry) (e : Entry) → entries2 ≡ entries ++ e ∷ [] → events_of units answers entries2 ≡ events_of units answers entries ++ event_of units answers e ∷ []
 events_more units answers entries entries2 e is = ap (events_of units answers) is ∙ map-append (event_of units answers) entries (e ∷ [])

@@ -1,31 +1,11 @@
 -- The flat list of a task isn't long, and a walk along two of them finds where they differ.
-use Rattle.std.proofs.Common.{inl, inr, ◌≡◌, ℕ, suc, ◌+◌, ◌*◌, ◌<◌, ◌≤◌, ℤ, pos, Option, Some, None, List, [], ◌∷◌, ◌++◌, map, length, get_or, refl, sym, ap, ◌∙◌, arith, length-append}
-use Rattle.std.proofs.lemmas.List.{length-map}
-use Rattle.std.proofs.lemmas.Option.{get_or_from_slice_get, slice_get_within, slice_get-get_or}
-use Rattle.std.proofs.lemmas.Bool.{cases_lt}
-use Rattle.std.specs.List.{flat_map}
-use Rattle.std.specs.Option.{option_map_or}
-use Rattle.std.specs.Prelude.{slice_get}
-use Rattle.board_history.specs.Board.{Setup}
-use Rattle.board_history.specs.BoardLaws.{DifferencesMean}
-use Rattle.board_history.specs.Calls.{differs_from}
-use Rattle.board_history.specs.Tasks.{difference, IsOver, IsTask}
-use Rattle.uc_model.specs.Data.{AnyUnit, PriceLists, Thermal, Flat, Bid, units}
+use Rattle.board_core.proofs.Common.{inl, inr, ◌≡◌, ℕ, suc, ◌+◌, ◌*◌, ◌<◌, ◌≤◌, ℤ, pos, Option, Some, None, List, [], ◌∷◌, ◌++◌, map, length, get_or, refl, sym, ap, ◌∙◌, arith, length-append, length-map, get_or_from_slice_get, slice_get_within, slice_get-get_or, cases_lt, flat_map, option_map_or, slice_get, Setup, DifferencesMean, differs_from, difference, IsOver, IsTask, AnyUnit, PriceLists, Thermal, Flat, Bid, units, chosen_unit, task_unit, prices_of, items_in, int_at, lag_numbers, point_numbers, block_numbers, period_numbers, mark_number, fixed_numbers, list_numbers, unit_numbers, task_numbers, Task, UnitKind, differs_of, AreSame}
 use Rattle.uc_model.specs.Limits.{IsUnit}
-use Rattle.uc_model.specs.PlainCases.{chosen_unit, task_unit}
-use Rattle.uc_model.specs.PlainUnits.{prices_of}
-use Rattle.uc_model.specs.Reserved.{items_in}
-use Rattle.uc_model.specs.Sums.{int_at}
-use Rattle.uc_model.specs.TaskLists.{lag_numbers, point_numbers, block_numbers, period_numbers, mark_number, fixed_numbers, list_numbers, unit_numbers, task_numbers}
-use Rattle.uc_model.specs.declared.cases.Task.{Task}
 use Rattle.uc_model.specs.declared.units.Block.{Block}
 use Rattle.uc_model.specs.declared.units.Lag.{Lag}
 use Rattle.uc_model.specs.declared.units.Point.{Point}
-use Rattle.uc_model.specs.declared.units.UnitKind.{UnitKind}
 use Rattle.uc_model.specs.declared.units.UnitKind.TheVariants as kinds
 use Rattle.board_core.specs.declared.replies.Differs.TheVariants as differs
-use Rattle.board_core.specs.Refusals.{differs_of}
-use Rattle.board_task.specs.Same.{AreSame}
 
 -- ---- a task of the program is one over its horizon
 

@@ -1,17 +1,5 @@
 -- How many proposals are closed and how many are open, and the answers of those that are closed.
-use Rattle.std.proofs.Common.{◌≡◌, ℕ, suc, ◌-◌, ◌<◌, ◌≤◌, Bool, true, false, cond, Option, Some, None, List, length, map, get_or, sym, ap, ◌∙◌, subst, arith}
-use Rattle.std.proofs.lemmas.List.{length-map, length-take-le}
-use Rattle.std.proofs.lemmas.List.FromFn.{length-map-range_with_len}
-use Rattle.std.specs.Option.{option_map_or}
-use Rattle.std.specs.Prelude.{slice_index}
-use Rattle.board_history.specs.Board.{Setup, Answer, no_answer, rules_of}
-use Rattle.board_history.specs.BoardLaws.{RoundLaws}
-use Rattle.board_history.specs.Rounds.{Rules, Event, Posts, posts, is_closed, answer_at, row_by, closed_front, rows_of, opened, prices_at}
-use Rattle.uc_model.specs.Data.{PriceLists, unit_count}
-use Rattle.uc_model.specs.PriceRule.{Proposal}
-use Rattle.board_core.specs.Events.{place}
-use Rattle.board_core.specs.Ledgers.{LedgerValue}
-use Rattle.board_core.specs.Parts.{Lists, fronts_of, IsLedger, AreRounds, IsBoard}
+use Rattle.board_core.proofs.Common.{◌≡◌, ℕ, suc, ◌-◌, ◌<◌, ◌≤◌, Bool, true, false, cond, Option, Some, None, List, length, map, get_or, sym, ap, ◌∙◌, subst, arith, length-map, length-take-le, length-map-range_with_len, option_map_or, slice_index, Setup, Answer, no_answer, rules_of, RoundLaws, Rules, Event, Posts, posts, is_closed, answer_at, row_by, closed_front, rows_of, opened, prices_at, PriceLists, unit_count, Proposal, place, LedgerValue, Lists, fronts_of, IsLedger, AreRounds, IsBoard}
 use Rattle.board_core.proofs.Lists.{place_before}
 
 -- the answer of a mark

@@ -1,17 +1,6 @@
 -- A caller's first halt.
-use Rattle.std.proofs.Common.{◌≡◌, ℕ, ◌+◌, ◌<◌, ◌⊎◌, Bool, true, false, ◌||◌, ◌==◌, inl, inr, List, [], ◌∷◌, ◌++◌, length, get_or, refl, sym, ap, ◌∙◌, subst, arith}
-use Rattle.std.proofs.Math.ListN.{set, length-set}
-use Rattle.std.proofs.lemmas.Bool.Decides.{nat_tests}
-use Rattle.std.proofs.lemmas.List.{get_or-set_same, get_or-set_other}
-use Rattle.std.proofs.lemmas.List.Folds.{list_any-append}
+use Rattle.board_core.proofs.Common.{◌≡◌, ℕ, ◌+◌, ◌<◌, ◌⊎◌, Bool, true, false, ◌||◌, ◌==◌, inl, inr, List, [], ◌∷◌, ◌++◌, length, get_or, refl, sym, ap, ◌∙◌, subst, arith, set, length-set, nat_tests, get_or-set_same, get_or-set_other, list_any-append, list_any, not, Setup, Answer, BoardLaws, Event, Stopped, is_halt, is_halt_of, LedgerValue, bit, unset, Lists, sums_of, fronts_of, AreTakers, AreMarks, AreTallies, AreRounds, AreHalts, IsBoard}
 use Rattle.std.proofs.lemmas.List.Sums.{sum_by-set}
-use Rattle.std.specs.List.{list_any}
-use Rattle.std.specs.Prelude.{not}
-use Rattle.board_history.specs.Board.{Setup, Answer}
-use Rattle.board_history.specs.BoardLaws.{BoardLaws}
-use Rattle.board_history.specs.Rounds.{Event, Stopped, is_halt, is_halt_of}
-use Rattle.board_core.specs.Ledgers.{LedgerValue}
-use Rattle.board_core.specs.Parts.{bit, unset, Lists, sums_of, fronts_of, AreTakers, AreMarks, AreTallies, AreRounds, AreHalts, IsBoard}
 
 pub or_false : (b : Bool) → (b || false) ≡ b
 or_false true = refl

@@ -1,13 +1,6 @@
 -- What a board holds: its setup, its events and its lists.
-use Rattle.std.proofs.Common.{List}
-use Rattle.board_history.specs.Board.{Setup, Answer}
-use Rattle.board_history.specs.Rounds.{Event}
-use Rattle.uc_model.specs.Data.{unit_count}
+use Rattle.board_core.proofs.Common.{List, Setup, Answer, Event, unit_count, events_of, Lists, setup_of, answers_kept}
 use Rattle.board_core.specs.declared.board.Board.TheInside.{Inside}
-use Rattle.board_core.specs.Events.{events_of}
-use Rattle.board_core.specs.Parts.{Lists}
-use Rattle.board_core.specs.Setups.{setup_of}
-use Rattle.board_core.specs.Stored.{answers_kept}
 
 abbrev pub setup_in : Inside → Setup
 setup_in s = setup_of s.terms

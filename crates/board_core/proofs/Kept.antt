@@ -1,10 +1,5 @@
 -- The answers of a board's store.
-use Rattle.std.proofs.Common.{◌≡◌, ℕ, ◌<◌, List, length, map, get_or, sym, ap, ◌∙◌, subst}
-use Rattle.std.proofs.Math.ListN.{set}
-use Rattle.std.proofs.lemmas.List.{length-map, get_or-map, map-set}
-use Rattle.answer_store.specs.Answers.{Kept, Answers, nothing}
-use Rattle.board_history.specs.Board.{no_answer}
-use Rattle.board_core.specs.Stored.{answer_kept, answers_kept}
+use Rattle.board_core.proofs.Common.{◌≡◌, ℕ, ◌<◌, List, length, map, get_or, sym, ap, ◌∙◌, subst, set, length-map, get_or-map, map-set, Kept, Answers, nothing, no_answer, answer_kept, answers_kept}
 
 pub as_many : (s : Answers) → length (answers_kept s) ≡ length s.answers
 as_many s = length-map s.answers answer_kept

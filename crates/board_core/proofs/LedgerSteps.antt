@@ -1,19 +1,5 @@
 -- What closing and opening a proposal leaves of a ledger.
-use Rattle.std.proofs.Common.{◌≡◌, ℕ, suc, ◌+◌, ◌-◌, ◌<◌, ◌≤◌, ◌⊎◌, ℤ, ◌-ℤ◌, Bool, true, ◌&&◌, inl, inr, List, [], ◌∷◌, ◌++◌, length, map, take, get_or, refl, sym, ap, ◌∙◌, subst, arith}
-use Rattle.std.proofs.Math.ListN.{set, length-set}
-use Rattle.std.proofs.lemmas.List.{length-map, get_or-map, map-set, set-get_or, get_or-set_same, get_or-set_other, get_or-take, take-set-le, take_more_set}
-use Rattle.std.proofs.lemmas.Bool.Decides.{nat_tests}
-use Rattle.std.specs.List.{All}
-use Rattle.std.specs.Prelude.{not}
-use Rattle.board_history.specs.Board.{Setup}
-use Rattle.price_move.specs.Moves.{is_last_settled}
-use Rattle.uc_model.specs.Data.{PriceLists}
-use Rattle.uc_model.specs.PriceRule.{Proposal, next_prices, no_prices}
-use Rattle.uc_model.specs.Sums.{int_at}
-use Rattle.uc_model.specs.Systems.{worth_of_demand}
-use Rattle.board_core.specs.Ledgers.{LedgerValue, with_prices, with_value}
-use Rattle.board_core.specs.Parts.{sums_of, fronts_of, IsLedger}
-use Rattle.board_core.specs.Rounds.{Sums, Fronts, row_in, with_row, is_due, opens, with_opened}
+use Rattle.board_core.proofs.Common.{◌≡◌, ℕ, suc, ◌+◌, ◌-◌, ◌<◌, ◌≤◌, ◌⊎◌, ℤ, ◌-ℤ◌, Bool, true, ◌&&◌, inl, inr, List, [], ◌∷◌, ◌++◌, length, map, take, get_or, refl, sym, ap, ◌∙◌, subst, arith, set, length-set, length-map, get_or-map, map-set, set-get_or, get_or-set_same, get_or-set_other, get_or-take, take-set-le, take_more_set, nat_tests, All, not, Setup, is_last_settled, PriceLists, Proposal, next_prices, no_prices, int_at, worth_of_demand, LedgerValue, with_prices, with_value, sums_of, fronts_of, IsLedger, Sums, Fronts, row_in, with_row, is_due, opens, with_opened}
 use Rattle.board_core.proofs.Advances.{choose_true}
 use Rattle.board_core.proofs.Fronts.{rows_count, prices_count}
 use Rattle.board_core.proofs.Rows.{same_proposal}

@@ -1,3 +1,5 @@
+-- The names from elsewhere that the proofs here cite.
+pub mod Common
 -- one more round keeps what rounds are
 pub mod Advances
 -- the first greatest of the closed proposals, where one proposal is changed
@@ -38,3 +40,5 @@ pub mod Rows
 pub mod Starts
 -- what holds of a post that isn't refused
 pub mod Takes
+-- The lemmas that answers cite.
+pub mod Lemmas

@@ -1,9 +1,5 @@
 -- Numbers of tasks, lists over ranges, and the first of two that is there.
-use Rattle.std.proofs.Common.{◌≡◌, ℕ, zero, suc, ◌+◌, ◌-◌, ◌*◌, ◌<◌, ◌≤◌, true, inl, inr, Option, Some, None, List, [], ◌∷◌, map, refl, ap, ◌∙◌, subst, arith}
-use Rattle.std.proofs.lemmas.Bool.{false≢true, cases_lt}
-use Rattle.std.specs.List.{AllZip, range_with_len}
-use Rattle.std.specs.Prelude.{is_some, slice_get}
-use Rattle.board_history.specs.Rounds.{sooner}
+use Rattle.board_core.proofs.Common.{◌≡◌, ℕ, zero, suc, ◌+◌, ◌-◌, ◌*◌, ◌<◌, ◌≤◌, true, inl, inr, Option, Some, None, List, [], ◌∷◌, map, refl, ap, ◌∙◌, subst, arith, false≢true, cases_lt, AllZip, range_with_len, is_some, slice_get, sooner}
 
 pub sooner_none : {X : Type 0} (o : Option X) → sooner o None ≡ o
 sooner_none None = refl

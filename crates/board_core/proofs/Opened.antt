@@ -1,11 +1,5 @@
 -- The ledger with the opening proposals.
-use Rattle.std.proofs.Common.{◌≡◌, ℕ, zero, suc, ◌<◌, ◌≤◌, ◌⊎◌, ℤ, pos, inl, inr, List, length, get_or, refl, sym, ap, ◌∙◌, arith}
-use Rattle.std.proofs.Math.ListN.{set, length-set}
-use Rattle.std.proofs.lemmas.List.{get_or-replicate, length-replicate, get_or-set_same, get_or-set_other, length-map}
-use Rattle.std.specs.Prelude.{replicate}
-use Rattle.uc_model.specs.PriceRule.{Proposal, opening_prices_of}
-use Rattle.board_core.specs.Ledgers.{LedgerValue, blank, with_prices}
-use Rattle.board_core.specs.Openings.{blank_ledger, with_openings}
+use Rattle.board_core.proofs.Common.{◌≡◌, ℕ, zero, suc, ◌<◌, ◌≤◌, ◌⊎◌, ℤ, pos, inl, inr, List, length, get_or, refl, sym, ap, ◌∙◌, arith, set, length-set, get_or-replicate, length-replicate, get_or-set_same, get_or-set_other, length-map, replicate, Proposal, opening_prices_of, LedgerValue, blank, with_prices, blank_ledger, with_openings}
 
 same_or : (x y : ℕ) → (x ≡ y) ⊎ (x ≡ y → ⊥)
 same_or x y = grind arith

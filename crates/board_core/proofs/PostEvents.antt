@@ -1,20 +1,9 @@
 -- The events of a board whose store has one more answer.
-use Rattle.std.proofs.Common.{◌≡◌, ℕ, ◌+◌, ◌-◌, Bool, true, false, cond, ◌==◌, Option, Some, None, List, [], ◌∷◌, ◌++◌, get_or, refl, sym, ap, ◌∙◌, subst}
-use Rattle.std.proofs.Math.ListN.{set}
-use Rattle.std.proofs.lemmas.List.{get_or-set_same, get_or-set_other, map-append}
-use Rattle.std.specs.Prelude.{is_some}
-use Rattle.board_history.specs.Board.{Setup, Answer, no_answer, rules_of}
+use Rattle.board_core.proofs.Common.{◌≡◌, ℕ, ◌+◌, ◌-◌, Bool, true, false, cond, ◌==◌, Option, Some, None, List, [], ◌∷◌, ◌++◌, get_or, refl, sym, ap, ◌∙◌, subst, set, get_or-set_same, get_or-set_other, map-append, is_some, Setup, Answer, no_answer, rules_of, Event, Taken, Closing, sooner, only_at, posts, post_event, Entry, unit_count, place, event_by, event_of, events_of, LedgerValue, Lists, IsBoard, reply_of}
 use Rattle.board_history.specs.Laws.{AnswersFit}
-use Rattle.board_history.specs.Rounds.{Event, Taken, Closing, sooner, only_at, posts, post_event}
 use Rattle.board_history.specs.declared.entries.Call.TheVariants as calls
-use Rattle.board_history.specs.declared.entries.Entry.{Entry}
 use Rattle.board_history.specs.declared.entries.Reply.{Reply}
 use Rattle.board_history.specs.declared.entries.Reply.TheVariants as replies
-use Rattle.uc_model.specs.Data.{unit_count}
-use Rattle.board_core.specs.Events.{place, event_by, event_of, events_of}
-use Rattle.board_core.specs.Ledgers.{LedgerValue}
-use Rattle.board_core.specs.Parts.{Lists, IsBoard}
-use Rattle.board_core.specs.Refusals.{reply_of}
 use Rattle.board_core.proofs.Lists.{some_of, place_same}
 use Rattle.board_core.proofs.PostLists.{IsHeldTask, only_here, kept_inside, closes_is}
 

@@ -1,18 +1,5 @@
 -- The lists of a board with one more post.
-use Rattle.std.proofs.Common.{◌≡◌, ℕ, zero, suc, ◌+◌, ◌-◌, ◌*◌, ◌<◌, ◌≤◌, ◌⊎◌, Bool, true, false, cond, ◌&&◌, ◌==◌, inl, inr, Option, Some, None, List, length, map, get_or, refl, sym, ap, ◌∙◌, subst, arith, eq-eqb}
-use Rattle.std.proofs.Math.ListN.{set, length-set}
-use Rattle.std.proofs.lemmas.Bool.{cases_lt}
-use Rattle.std.proofs.lemmas.Bool.Decides.{nat_tests}
-use Rattle.std.proofs.lemmas.List.{get_or-set_same, get_or-set_other}
-use Rattle.std.proofs.lemmas.Option.{slice_get_within, get_or_from_slice_get}
-use Rattle.std.specs.List.{list_all, range_with_len}
-use Rattle.std.specs.Prelude.{is_some, slice_get, slice_index}
-use Rattle.board_history.specs.Board.{Setup, Answer, no_answer, rules_of}
-use Rattle.board_history.specs.Rounds.{Event, sooner, only_at, Posts, posts, holders, with_post, is_closed}
-use Rattle.uc_model.specs.Data.{unit_count}
-use Rattle.board_core.specs.Events.{place}
-use Rattle.board_core.specs.Ledgers.{LedgerValue}
-use Rattle.board_core.specs.Parts.{Lists, task_count, bit, sum_up, answered, mark, AreMarks, IsBoard}
+use Rattle.board_core.proofs.Common.{◌≡◌, ℕ, zero, suc, ◌+◌, ◌-◌, ◌*◌, ◌<◌, ◌≤◌, ◌⊎◌, Bool, true, false, cond, ◌&&◌, ◌==◌, inl, inr, Option, Some, None, List, length, map, get_or, refl, sym, ap, ◌∙◌, subst, arith, eq-eqb, set, length-set, cases_lt, nat_tests, get_or-set_same, get_or-set_other, slice_get_within, get_or_from_slice_get, list_all, range_with_len, is_some, slice_get, slice_index, Setup, Answer, no_answer, rules_of, Event, sooner, only_at, Posts, posts, holders, with_post, is_closed, unit_count, place, LedgerValue, Lists, task_count, bit, sum_up, answered, mark, AreMarks, IsBoard}
 use Rattle.board_core.proofs.Lists.{sooner_none, map_range_same, place_before, place_same}
 
 pub same_or : (x y : ℕ) → (x ≡ y) ⊎ (x ≡ y → ⊥)

@@ -1,25 +1,5 @@
 -- The rounds of a board with one more post.
-use Rattle.std.proofs.Common.{◌≡◌, ℕ, suc, ◌+◌, ◌-◌, ◌<◌, ◌≤◌, ℤ, ◌-ℤ◌, Bool, true, false, cond, ◌==◌, inl, inr, List, [], ◌∷◌, ◌++◌, length, map, take, get_or, refl, sym, ap, ◌∙◌, subst, arith}
-use Rattle.std.proofs.Math.ListN.{set}
-use Rattle.std.proofs.lemmas.List.{get_or-take, length-take-le}
-use Rattle.std.proofs.lemmas.List.Folds.{list_any-append}
-use Rattle.std.specs.List.{All, list_any, range_with_len}
-use Rattle.std.specs.Prelude.{slice_index}
-use Rattle.board_history.specs.Board.{Setup, Answer, IsRight, IsLegalHistory, rules_of, earned_in}
-use Rattle.board_history.specs.BoardLaws.{Extends, RoundLaws, BoardLaws}
-use Rattle.board_history.specs.Bounds.{IsSum}
-use Rattle.board_history.specs.Rounds.{Rules, Event, Taken, Closing, Posts, posts, holders, with_post, is_closed, answers, row_by, rows_by, rows_to, prices_by, prices_at, closed_front, rows_of, opened, opened_in, is_halt, is_halt_of, IsPost, IsNext, post_event}
-use Rattle.price_move.specs.Sizes.{IsRowBelow}
-use Rattle.uc_model.specs.Data.{PriceLists, unit_count}
-use Rattle.uc_model.specs.PriceRule.{Proposal}
-use Rattle.uc_model.specs.Runs.{Fits}
-use Rattle.uc_model.specs.Sums.{int_at, total}
-use Rattle.uc_model.specs.Systems.{worth_of_demand}
-use Rattle.board_core.specs.Events.{place}
-use Rattle.board_core.specs.Ledgers.{LedgerValue}
-use Rattle.board_core.specs.Parts.{Lists, supply_to, reserve_to, sums_of, fronts_of, AreTakers, AreMarks, AreTallies, AreRounds, AreHalts, IsLedger, IsBoard}
-use Rattle.board_core.specs.Rounds.{Sums, Fronts, is_full, row_in, IsRound}
-use Rattle.board_core.specs.Setups.{IsSetup}
+use Rattle.board_core.proofs.Common.{◌≡◌, ℕ, suc, ◌+◌, ◌-◌, ◌<◌, ◌≤◌, ℤ, ◌-ℤ◌, Bool, true, false, cond, ◌==◌, inl, inr, List, [], ◌∷◌, ◌++◌, length, map, take, get_or, refl, sym, ap, ◌∙◌, subst, arith, set, get_or-take, length-take-le, list_any-append, All, list_any, range_with_len, slice_index, Setup, Answer, IsRight, IsLegalHistory, rules_of, earned_in, Extends, RoundLaws, BoardLaws, IsSum, Rules, Event, Taken, Closing, Posts, posts, holders, with_post, is_closed, answers, row_by, rows_by, rows_to, prices_by, prices_at, closed_front, rows_of, opened, opened_in, is_halt, is_halt_of, IsPost, IsNext, post_event, IsRowBelow, PriceLists, unit_count, Proposal, Fits, int_at, total, worth_of_demand, place, LedgerValue, Lists, supply_to, reserve_to, sums_of, fronts_of, AreTakers, AreMarks, AreTallies, AreRounds, AreHalts, IsLedger, IsBoard, Sums, Fronts, is_full, row_in, IsRound, IsSetup}
 use Rattle.board_core.proofs.Claims.{some_units}
 use Rattle.board_core.proofs.Fronts.{opened_is, rows_count}
 use Rattle.board_core.proofs.Halts.{or_false}

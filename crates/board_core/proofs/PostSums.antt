@@ -1,24 +1,6 @@
 -- The totals of a ledger with one more answer.
-use Rattle.std.proofs.Common.{◌≡◌, ℕ, suc, ◌+◌, ◌-◌, ◌<◌, ◌≤◌, ℤ, pos, ◌+ℤ◌, inl, inr, Option, Some, None, List, [], length, map, take, get_or, refl, sym, ap, ◌∙◌, subst, arith}
-use Rattle.std.proofs.Math.ListN.{set, length-set}
-use Rattle.std.proofs.lemmas.Bool.{cases_lt}
-use Rattle.std.proofs.lemmas.List.{get_or-set_same, get_or-set_other, get_or-map, map-set, take-set-le}
-use Rattle.std.proofs.lemmas.List.FromFn.{length-map-range_with_len, get_or-map-range_with_len}
-use Rattle.std.specs.List.{All, range_with_len}
-use Rattle.std.specs.Option.{option_map_or}
-use Rattle.std.specs.Prelude.{slice_get}
-use Rattle.board_history.specs.Board.{Setup, Answer, no_answer, rules_of, schedules_in, earned_in}
-use Rattle.board_history.specs.BoardLaws.{RoundLaws}
-use Rattle.board_history.specs.Rounds.{Rules, Event, Posts, posts, with_post, answer_at, answers}
+use Rattle.board_core.proofs.Common.{◌≡◌, ℕ, suc, ◌+◌, ◌-◌, ◌<◌, ◌≤◌, ℤ, pos, ◌+ℤ◌, inl, inr, Option, Some, None, List, [], length, map, take, get_or, refl, sym, ap, ◌∙◌, subst, arith, set, length-set, cases_lt, get_or-set_same, get_or-set_other, get_or-map, map-set, take-set-le, length-map-range_with_len, get_or-map-range_with_len, All, range_with_len, option_map_or, slice_get, Setup, Answer, no_answer, rules_of, schedules_in, earned_in, RoundLaws, Rules, Event, Posts, posts, with_post, answer_at, answers, AnyUnit, PriceLists, units, unit_count, supply_in, Proposal, reserve_in, int_at, total, total_power, total_reserve, LedgerValue, raised_by, with_schedule, Lists, supply_to, reserve_to, sums_of, fronts_of, AreTallies, IsLedger, IsBoard}
 use Rattle.board_history.specs.Totals.{AddsOne}
-use Rattle.uc_model.specs.Data.{AnyUnit, PriceLists, units, unit_count}
-use Rattle.uc_model.specs.Earnings.{supply_in}
-use Rattle.uc_model.specs.PriceRule.{Proposal}
-use Rattle.uc_model.specs.Schedules.{reserve_in}
-use Rattle.uc_model.specs.Sums.{int_at, total}
-use Rattle.uc_model.specs.Systems.{total_power, total_reserve}
-use Rattle.board_core.specs.Ledgers.{LedgerValue, raised_by, with_schedule}
-use Rattle.board_core.specs.Parts.{Lists, supply_to, reserve_to, sums_of, fronts_of, AreTallies, IsLedger, IsBoard}
 use Rattle.board_core.proofs.Fronts.{closed_is}
 use Rattle.board_core.proofs.LedgerSteps.{map_unchanged, same_fronts}
 use Rattle.board_core.proofs.Lists.{map_range_same}

@@ -1,23 +1,9 @@
 -- Why a post is refused, and what holds where it isn't.
-use Rattle.std.proofs.Common.{◌≡◌, ℕ, ◌+◌, ◌-◌, ◌<◌, ◌≤◌, Bool, true, false, cond, ◌||◌, ◌==◌, Option, Some, None, List, get_or, refl, sym, ap, ◌∙◌, arith}
-use Rattle.std.proofs.lemmas.Bool.Decides.{nat_tests}
-use Rattle.std.specs.Option.{option_map_or}
-use Rattle.std.specs.Prelude.{nat_lt, nat_le, slice_get, slice_index}
-use Rattle.board_history.specs.Board.{Setup, Answer, no_answer, rules_of}
-use Rattle.board_history.specs.Calls.{differs_from, post_answer}
-use Rattle.board_history.specs.Rounds.{Rules, Event, posts, holders, opened, prices_at, is_closed, with_post, PostReply, OtherProposal, OtherUnit, OtherContent, Doubled, OtherHolder, TakenPost, is_holder, with_answer}
-use Rattle.board_history.specs.Tasks.{Difference}
-use Rattle.uc_model.specs.Data.{AnyUnit, PriceLists, unit_count}
-use Rattle.uc_model.specs.PriceRule.{Proposal}
+use Rattle.board_core.proofs.Common.{◌≡◌, ℕ, ◌+◌, ◌-◌, ◌<◌, ◌≤◌, Bool, true, false, cond, ◌||◌, ◌==◌, Option, Some, None, List, get_or, refl, sym, ap, ◌∙◌, arith, nat_tests, option_map_or, nat_lt, nat_le, slice_get, slice_index, Setup, Answer, no_answer, rules_of, differs_from, post_answer, Rules, Event, posts, holders, opened, prices_at, is_closed, with_post, PostReply, OtherProposal, OtherUnit, OtherContent, Doubled, OtherHolder, TakenPost, is_holder, with_answer, Difference, AnyUnit, PriceLists, unit_count, Proposal, place, LedgerValue, blank, Lists, mark, IsBoard, differs_of, own_prices_in, held_refusal, refusal_of, posted_of}
 use Rattle.board_core.specs.declared.replies.Differs.{Differs}
 use Rattle.board_core.specs.declared.replies.Differs.TheVariants as differs
 use Rattle.board_core.specs.declared.replies.Posted.{Posted}
 use Rattle.board_core.specs.declared.replies.Posted.TheVariants as posted
-use Rattle.board_core.specs.Events.{place}
-use Rattle.board_core.specs.Ledgers.{LedgerValue, blank}
-use Rattle.board_core.specs.Parts.{Lists, mark, IsBoard}
-use Rattle.board_core.specs.Refusals.{differs_of, own_prices_in, held_refusal, refusal_of}
-use Rattle.board_core.specs.Replies.{posted_of}
 use Rattle.board_core.proofs.Advances.{choose_true, choose_false, bool_cases}
 use Rattle.board_core.proofs.Claims.{price_is}
 use Rattle.board_core.proofs.Entries.{content}

@@ -1,18 +1,5 @@
 -- Rows as proposals, one of them written.
-use Rattle.std.proofs.Common.{◌≡◌, ℕ, suc, ◌<◌, ℤ, pos, ◌+ℤ◌, List, map, length, get_or, sym, ap, ◌∙◌, arith}
-use Rattle.std.proofs.Math.ListN.{set}
-use Rattle.std.proofs.lemmas.Int.{ints}
-use Rattle.std.proofs.lemmas.List.{length-map, get_or-map, map-set}
-use Rattle.std.proofs.lemmas.List.FromFn.{fill_by_all}
-use Rattle.dual_value.specs.Totals.{IsRaised}
-use Rattle.uc_model.specs.Data.{AnyUnit, PriceLists, Schedule}
-use Rattle.uc_model.specs.Earnings.{supply_in}
-use Rattle.uc_model.specs.PlainCases.{proposal_of}
-use Rattle.uc_model.specs.PriceRule.{Proposal}
-use Rattle.uc_model.specs.Schedules.{reserve_in}
-use Rattle.uc_model.specs.Sums.{int_at}
-use Rattle.uc_model.specs.declared.cases.Row.{Row}
-use Rattle.board_core.specs.Ledgers.{raised_by, with_schedule}
+use Rattle.board_core.proofs.Common.{◌≡◌, ℕ, suc, ◌<◌, ℤ, pos, ◌+ℤ◌, List, map, length, get_or, sym, ap, ◌∙◌, arith, set, ints, length-map, get_or-map, map-set, fill_by_all, IsRaised, AnyUnit, PriceLists, Schedule, supply_in, proposal_of, Proposal, reserve_in, int_at, Row, raised_by, with_schedule}
 
 pub at_mapped : (xs : List Row) (i : ℕ) (r : Row) (d : Proposal) → i < length (map proposal_of xs) → r ≡ get_or xs i r → get_or (map proposal_of xs) i d ≡ proposal_of r
 at_mapped xs i r d lt read = get_or-map proposal_of xs i r d (omega (arith, lt, length-map xs proposal_of)) ∙ ap proposal_of (sym read)

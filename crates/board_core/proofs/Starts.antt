@@ -1,26 +1,5 @@
 -- A board without events.
-use Rattle.std.proofs.Common.{◌≡◌, ℕ, zero, suc, ◌+◌, ◌-◌, ◌<◌, ◌≤◌, ℤ, pos, Bool, true, false, cond, Option, Some, None, List, [], ◌∷◌, length, map, take, get_or, refl, sym, ap, ◌∙◌, arith}
-use Rattle.std.proofs.lemmas.Bool.{false≢true}
-use Rattle.std.proofs.lemmas.Bool.Decides.{nat_tests}
-use Rattle.std.proofs.lemmas.Int.{ints}
-use Rattle.std.proofs.lemmas.List.{ext_get_or, get_or-map, get_or-replicate, get_or-take, length-map, length-replicate, length-take-le}
-use Rattle.std.proofs.lemmas.List.Folds.{sum_by-replicate}
-use Rattle.std.proofs.lemmas.List.FromFn.{fill_by_all, length-map-range_with_len, get_or-map-range_with_len}
-use Rattle.std.specs.List.{list_all, range_with_len}
-use Rattle.std.specs.Prelude.{is_some, min, not, nat_le, replicate, slice_index}
-use Rattle.board_history.specs.Board.{Setup, Answer, no_answer, rules_of, schedules_in, earned_in}
-use Rattle.board_history.specs.BoardLaws.{RoundLaws}
-use Rattle.board_history.specs.Rounds.{Rules, Posts, posts, is_closed, answers, closed_front, rows_of, rows_to, opened as opened_of, opened_in, prices_at}
-use Rattle.uc_model.specs.Data.{AnyUnit, Thermal, Flat, Bid, PriceLists, Schedule, units, unit_count}
-use Rattle.uc_model.specs.Earnings.{supply_in}
-use Rattle.uc_model.specs.PriceRule.{Proposal, start_prices, opening_prices_of, next_prices, no_prices}
-use Rattle.uc_model.specs.Schedules.{reserve_in}
-use Rattle.uc_model.specs.Sums.{int_at, total, zip_with}
-use Rattle.uc_model.specs.Systems.{total_power, total_reserve}
-use Rattle.board_core.specs.Events.{place}
-use Rattle.board_core.specs.Ledgers.{LedgerValue, blank}
-use Rattle.board_core.specs.Parts.{task_count, bit, sum_up, unset, supply_to, reserve_to, sums_of, fronts_of, IsLedger, IsBoard}
-use Rattle.board_core.specs.Setups.{IsSetup}
+use Rattle.board_core.proofs.Common.{◌≡◌, ℕ, zero, suc, ◌+◌, ◌-◌, ◌<◌, ◌≤◌, ℤ, pos, Bool, true, false, cond, Option, Some, None, List, [], ◌∷◌, length, map, take, get_or, refl, sym, ap, ◌∙◌, arith, false≢true, nat_tests, ints, ext_get_or, get_or-map, get_or-replicate, get_or-take, length-map, length-replicate, length-take-le, sum_by-replicate, fill_by_all, length-map-range_with_len, get_or-map-range_with_len, list_all, range_with_len, is_some, min, not, nat_le, replicate, slice_index, Setup, Answer, no_answer, rules_of, schedules_in, earned_in, RoundLaws, Rules, Posts, posts, is_closed, answers, closed_front, rows_of, rows_to, opened_of, opened_in, prices_at, AnyUnit, Thermal, Flat, Bid, PriceLists, Schedule, units, unit_count, supply_in, Proposal, start_prices, opening_prices_of, next_prices, no_prices, reserve_in, int_at, total, zip_with, total_power, total_reserve, place, LedgerValue, blank, task_count, bit, sum_up, unset, supply_to, reserve_to, sums_of, fronts_of, IsLedger, IsBoard, IsSetup}
 use Rattle.board_core.proofs.Advances.{choose_true}
 use Rattle.board_core.proofs.Claims.{some_units}
 use Rattle.board_core.proofs.Opened.{IsOpened}

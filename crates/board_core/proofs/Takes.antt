@@ -1,25 +1,7 @@
 -- What holds of a post that isn't refused.
-use Rattle.std.proofs.Common.{◌≡◌, ℕ, ◌≤◌, Bool, true, false, cond, Some, None, List, length, refl, ◌∙◌, arith}
+use Rattle.board_core.proofs.Common.{◌≡◌, ℕ, ◌≤◌, Bool, true, false, cond, Some, None, List, length, refl, ◌∙◌, arith, All, range_with_len, slice_get, Setup, Answer, IsRight, IsLegalHistory, rules_of, schedules_in, TakenTells, IsTotal, TotalsAreWithin, post_answer, entry_of, Event, Taken, Closing, TakenPost, posts, prices_at, is_closed, answers, with_post, IsTask, AnyUnit, PriceLists, units, unit_count, earnings, Fits, IsFeasible, total_power, total_reserve, LedgerValue, Lists, supply_to, reserve_to, IsBoard, refusal_of, reply_of, IsSetup}
 use Rattle.std.proofs.lemmas.List.Elements.{All-map}
-use Rattle.std.specs.List.{All, range_with_len}
-use Rattle.std.specs.Prelude.{slice_get}
-use Rattle.board_history.specs.Board.{Setup, Answer, IsRight, IsLegalHistory, rules_of, schedules_in}
-use Rattle.board_history.specs.BoardLaws.{TakenTells}
-use Rattle.board_history.specs.Bounds.{IsTotal, TotalsAreWithin}
-use Rattle.board_history.specs.Calls.{post_answer}
-use Rattle.board_history.specs.Entries.{entry_of}
-use Rattle.board_history.specs.Rounds.{Event, Taken, Closing, TakenPost, posts, prices_at, is_closed, answers, with_post}
-use Rattle.board_history.specs.Tasks.{IsTask}
 use Rattle.board_history.specs.declared.entries.Call.TheVariants as calls
-use Rattle.uc_model.specs.Data.{AnyUnit, PriceLists, units, unit_count}
-use Rattle.uc_model.specs.Earnings.{earnings}
-use Rattle.uc_model.specs.Runs.{Fits}
-use Rattle.uc_model.specs.Schedules.{IsFeasible}
-use Rattle.uc_model.specs.Systems.{total_power, total_reserve}
-use Rattle.board_core.specs.Ledgers.{LedgerValue}
-use Rattle.board_core.specs.Parts.{Lists, supply_to, reserve_to, IsBoard}
-use Rattle.board_core.specs.Refusals.{refusal_of, reply_of}
-use Rattle.board_core.specs.Setups.{IsSetup}
 use Rattle.board_core.proofs.Entries.{content}
 use Rattle.board_core.proofs.Fronts.{opened_is}
 use Rattle.board_core.proofs.PostLists.{IsHeldTask}

@@ -1,10 +1,5 @@
 -- In a legal history each answer fits the prices of its proposal.
-use Rattle.std.proofs.Common.{◌≡◌, ℕ, ◌<◌, ◌≤◌, Bool, true, false, cond, ◌&&◌, ◌==◌, ◌⊎◌, inl, inr, Option, Some, None, List, [], ◌∷◌, ◌++◌, refl, sym, ap, ◌∙◌, subst, arith, append_assoc}
-use Rattle.std.proofs.lemmas.Bool.Decides.{nat_tests}
-use Rattle.std.proofs.lemmas.List.{append-nil}
-use Rattle.std.proofs.Math.Path.{fun_ext}
-use Rattle.board_history.specs.BoardLaws.{Extends}
-use Rattle.board_history.specs.Rounds.{Rules, Event, Given, Taken, Closing, Stopped, sooner, first_some, only_at, given_by, posted_by, Holders, holders, Posts, posts, with_post, prices_at, opened, IsPost, IsNext, GoesOn, IsLegal}
+use Rattle.board_history.proofs.Common.{◌≡◌, ℕ, ◌<◌, ◌≤◌, Bool, true, false, cond, ◌&&◌, ◌==◌, ◌⊎◌, inl, inr, Option, Some, None, List, [], ◌∷◌, ◌++◌, refl, sym, ap, ◌∙◌, subst, arith, append_assoc, nat_tests, append-nil, fun_ext, Extends, Rules, Event, Given, Taken, Closing, Stopped, sooner, first_some, only_at, given_by, posted_by, Holders, holders, Posts, posts, with_post, prices_at, opened, IsPost, IsNext, GoesOn, IsLegal}
 use Rattle.board_history.proofs.Kept.{opened_kept, prices_kept}
 
 pub sooner_none : {X : Type 0} (o : Option X) → sooner o None ≡ o

@@ -1,14 +1,5 @@
 -- The laws that a crate goes by that keeps a board in lists of its own.
-use Rattle.std.proofs.Common.{ℕ, length, List, ap, sym, subst, ◌∙◌}
-use Rattle.std.proofs.Math.Path.{fun_ext}
-use Rattle.board_history.specs.Board.{Setup, Answer, rules_of, IsRight}
-use Rattle.board_history.specs.BoardLaws.{FrontIsClosed, IsOneEventMore, TakenTells, RoundLaws, BoardLaws}
-use Rattle.board_history.specs.Calls.{differs_from}
-use Rattle.board_history.specs.Rounds.{Event, Given, Taken, Closing, Stopped, Posts, posts, is_closed}
-use Rattle.uc_model.specs.Data.{PriceLists, units, unit_count}
-use Rattle.uc_model.specs.Laws.{DualIsAtMostCost}
-use Rattle.uc_model.specs.Runs.{Fits}
-use Rattle.uc_model.specs.Schedules.{IsFeasible}
+use Rattle.board_history.proofs.Common.{ℕ, length, List, ap, sym, subst, ◌∙◌, fun_ext, Setup, Answer, rules_of, IsRight, FrontIsClosed, IsOneEventMore, TakenTells, RoundLaws, BoardLaws, differs_from, Event, Given, Taken, Closing, Stopped, Posts, posts, is_closed, PriceLists, units, unit_count, DualIsAtMostCost, Fits, IsFeasible}
 use Rattle.board_history.proofs.Answered.{posts-given, posts-taken, posts-closing, posts-stopped, holders-given, holders-taken, holders-closing, holders-stopped, extends_with, post_cases}
 use Rattle.board_history.proofs.ClaimWords.{claim_says}
 use Rattle.board_history.proofs.Fronts.{front_le, front_most, front_is}

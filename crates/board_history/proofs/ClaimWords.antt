@@ -1,10 +1,5 @@
 -- What each answer of a claim says.
-use Rattle.std.proofs.Common.{◌≡◌, ℕ, Bool, true, false, cond, Option, Some, None, List, refl, sym, ap, ◌∙◌, arith}
-use Rattle.std.proofs.lemmas.Bool.{false≢true}
-use Rattle.std.specs.List.{list_any}
-use Rattle.std.specs.Prelude.{is_none}
-use Rattle.board_history.specs.Rounds.{Rules, Event, is_halt, Holders, holders, Posts, posts, opened, is_finished, ClaimReply, Finished, Halted, GivenTask, NotYet, next_task}
-use Rattle.board_history.specs.Words.{IsOpenTask, IsHeld, IsFirstFree, ClaimSays}
+use Rattle.board_history.proofs.Common.{◌≡◌, ℕ, Bool, true, false, cond, Option, Some, None, List, refl, sym, ap, ◌∙◌, arith, false≢true, list_any, is_none, Rules, Event, is_halt, Holders, holders, Posts, posts, opened, is_finished, ClaimReply, Finished, Halted, GivenTask, NotYet, next_task, IsOpenTask, IsHeld, IsFirstFree, ClaimSays}
 use Rattle.board_history.proofs.Held.{given_or, is_given, not_none}
 use Rattle.board_history.proofs.NextTask.{first_in_rows, found_in_rows, none_in_rows, not_in_rows}
 

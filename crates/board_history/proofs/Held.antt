@@ -1,12 +1,5 @@
 -- Who holds and who posted a task in a legal history, and what a claim that is given tells.
-use Rattle.std.proofs.Common.{◌≡◌, ℕ, ◌<◌, ◌≤◌, Bool, true, false, cond, ◌⊎◌, inl, inr, Option, Some, None, List, [], ◌∷◌, ◌++◌, refl, sym, ap, ◌∙◌, subst, arith, append_assoc}
-use Rattle.std.proofs.lemmas.Bool.{false≢true}
-use Rattle.std.proofs.lemmas.List.{append-nil}
-use Rattle.std.specs.List.{list_any}
-use Rattle.std.specs.Option.{option_map_or}
-use Rattle.std.specs.Prelude.{is_none}
-use Rattle.board_history.specs.Words.{IsOpenTask}
-use Rattle.board_history.specs.Rounds.{is_halt, claim_reply, Rules, Event, Given, Taken, Closing, Stopped, sooner, only_at, Holders, holders, Posts, posts, with_post, opened, is_finished, ClaimReply, Finished, Halted, GivenTask, NotYet, next_task, claim_from, IsPost, IsNext, GoesOn, IsLegal}
+use Rattle.board_history.proofs.Common.{◌≡◌, ℕ, ◌<◌, ◌≤◌, Bool, true, false, cond, ◌⊎◌, inl, inr, Option, Some, None, List, [], ◌∷◌, ◌++◌, refl, sym, ap, ◌∙◌, subst, arith, append_assoc, false≢true, append-nil, list_any, option_map_or, is_none, IsOpenTask, is_halt, claim_reply, Rules, Event, Given, Taken, Closing, Stopped, sooner, only_at, Holders, holders, Posts, posts, with_post, opened, is_finished, ClaimReply, Finished, Halted, GivenTask, NotYet, next_task, claim_from, IsPost, IsNext, GoesOn, IsLegal}
 use Rattle.board_history.proofs.Answered.{posts-given, posts-stopped, posts-taken, posts-closing, holders-given, holders-taken, holders-closing, holders-stopped, extends_with, only_cases, post_cases}
 use Rattle.board_history.proofs.Kept.{opened_kept}
 use Rattle.board_history.proofs.NextTask.{found_in_rows}

@@ -1,13 +1,6 @@
 -- What is read off posts stays where posts are added: rows, prices, and what is open.
-use Rattle.std.proofs.Common.{◌≡◌, ℕ, zero, suc, ◌-◌, ◌<◌, ◌≤◌, true, inl, inr, Option, Some, List, [], ◌∷◌, ◌++◌, length, take, get_or, refl, sym, ap, ◌∙◌, subst, arith, length-append}
-use Rattle.std.proofs.lemmas.Bool.{cases_lt}
-use Rattle.std.proofs.lemmas.List.{take-append-le}
-use Rattle.std.proofs.lemmas.List.Sums.{prefix_len-le-length, prefix_len_passes}
+use Rattle.board_history.proofs.Common.{◌≡◌, ℕ, zero, suc, ◌-◌, ◌<◌, ◌≤◌, true, inl, inr, Option, Some, List, [], ◌∷◌, ◌++◌, length, take, get_or, refl, sym, ap, ◌∙◌, subst, arith, length-append, cases_lt, take-append-le, prefix_len-le-length, prefix_len_passes, option_map_or, is_some, not, Extends, Rules, Posts, is_closed, answer_at, answers, with_row, rows_by, prices_by, row_by, rows_to, prices_at, closed_front, rows_of, free_front, opened}
 use Rattle.std.proofs.Math.Seq.{get_or-append_seam}
-use Rattle.std.specs.Option.{option_map_or}
-use Rattle.std.specs.Prelude.{is_some, not}
-use Rattle.board_history.specs.BoardLaws.{Extends}
-use Rattle.board_history.specs.Rounds.{Rules, Posts, is_closed, answer_at, answers, with_row, rows_by, prices_by, row_by, rows_to, prices_at, closed_front, rows_of, free_front, opened}
 use Rattle.board_history.proofs.Fronts.{all_in_range, range_passes, map_range_same, some_of, prefix_most, front_le, front_passes, front_most}
 
 pub take_nil : {X : Type 0} (n : ℕ) → take {A = X} n [] ≡ []

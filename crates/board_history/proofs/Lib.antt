@@ -1,3 +1,5 @@
+-- The names from elsewhere that the proofs here cite.
+pub mod Common
 -- in a legal history each answer fits the prices of its proposal
 pub mod Answered
 -- the laws that a crate goes by that keeps a board in lists of its own
@@ -42,3 +44,5 @@ pub mod Totals
 pub mod UnitBounds
 -- the numbers of a board of rounds in words: which proposals are open for work, and when all of them are closed
 pub mod Words
+-- The lemmas that answers cite.
+pub mod Lemmas

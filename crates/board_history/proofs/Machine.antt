@@ -1,14 +1,6 @@
 -- The machine's calls and the legal next events are one: what a call appends is legal, and each legal event is what a call
 -- appends.
-use Rattle.std.proofs.Common.{◌≡◌, ℕ, ◌<◌, ◌≤◌, Bool, true, false, cond, ◌⊎◌, inl, inr, ◌||◌, ◌==◌, ◌↔◌, Option, Some, None, List, [], ◌∷◌, ◌++◌, length, refl, ap, ◌∙◌, arith, length-append}
-use Rattle.std.proofs.lemmas.Bool.{false≢true}
-use Rattle.std.proofs.lemmas.Bool.Decides.{nat_tests}
-use Rattle.std.proofs.lemmas.List.{append_cancel_left}
-use Rattle.std.specs.List.{list_any}
-use Rattle.std.specs.Option.{option_map_or}
-use Rattle.std.specs.Prelude.{nat_le, nat_lt}
-use Rattle.board_history.specs.Rounds.{Rules, Event, Given, Taken, Closing, Stopped, is_halt_of, holders, Posts, posts, with_post, is_closed, prices_at, opened, ClaimReply, Finished, Halted, GivenTask, NotYet, claim_reply, with_claim, events_after_claim, PostReply, OtherProposal, OtherUnit, OtherContent, Doubled, OtherHolder, TakenPost, is_holder, post_from, post_reply, post_event, with_answer, events_after_post, events_after_halt, IsPost, IsNext, IsLegal}
-use Rattle.board_history.specs.Words.{no_difference, IsMachineStep, IsOpenTask, PostSays}
+use Rattle.board_history.proofs.Common.{◌≡◌, ℕ, ◌<◌, ◌≤◌, Bool, true, false, cond, ◌⊎◌, inl, inr, ◌||◌, ◌==◌, ◌↔◌, Option, Some, None, List, [], ◌∷◌, ◌++◌, length, refl, ap, ◌∙◌, arith, length-append, false≢true, nat_tests, append_cancel_left, list_any, option_map_or, nat_le, nat_lt, Rules, Event, Given, Taken, Closing, Stopped, is_halt_of, holders, Posts, posts, with_post, is_closed, prices_at, opened, ClaimReply, Finished, Halted, GivenTask, NotYet, claim_reply, with_claim, events_after_claim, PostReply, OtherProposal, OtherUnit, OtherContent, Doubled, OtherHolder, TakenPost, is_holder, post_from, post_reply, post_event, with_answer, events_after_post, events_after_halt, IsPost, IsNext, IsLegal, no_difference, IsMachineStep, IsOpenTask, PostSays}
 use Rattle.board_history.proofs.Stays.{legal_more}
 
 -- a list isn't itself with one more

@@ -1,19 +1,6 @@
 -- Rounds of one caller: between two rounds a claim is given or the board has finished, and the answer of a task that was
 -- given is taken.
-use Rattle.std.proofs.Common.{◌≡◌, ℕ, zero, suc, ◌+◌, ◌<◌, ◌≤◌, ◌⊎◌, Bool, true, false, cond, ◌&&◌, ◌||◌, ◌==◌, inl, inr, Option, Some, None, List, [], ◌∷◌, ◌++◌, length, refl, sym, ap, ◌∙◌, subst, arith, length-append}
-use Rattle.std.proofs.lemmas.Bool.{false≢true, cases_lt, le-leb}
-use Rattle.std.proofs.lemmas.Bool.Decides.{nat_tests}
-use Rattle.std.proofs.lemmas.List.Elements.{filter-append}
-use Rattle.std.proofs.lemmas.List.Folds.{list_any-append}
-use Rattle.std.specs.List.{filter, list_all, list_any, range_with_len}
-use Rattle.std.specs.Prelude.{is_some, is_none}
-use Rattle.board_history.specs.Board.{Answer, rules_of, IsRight}
-use Rattle.board_history.specs.Calls.{differs_from}
-use Rattle.board_history.specs.Counts.{is_post, posts_in}
-use Rattle.board_history.specs.OneCaller.{IsBetween, ClaimsAreGiven, GivenIsTaken}
-use Rattle.board_history.specs.Rounds.{Rules, Event, Given, Taken, Closing, sooner, only_at, is_halt, Holders, holders, Posts, posts, with_post, is_closed, prices_at, closed_front, opened, is_finished, ClaimReply, Finished, GivenTask, next_task, claim_from, claim_reply, with_claim, events_after_claim, PostReply, TakenPost, post_event, with_answer, post_reply, events_after_post, IsLegal}
-use Rattle.uc_model.specs.Runs.{Fits}
-use Rattle.board_history.specs.Tasks.{Difference}
+use Rattle.board_history.proofs.Common.{◌≡◌, ℕ, zero, suc, ◌+◌, ◌<◌, ◌≤◌, ◌⊎◌, Bool, true, false, cond, ◌&&◌, ◌||◌, ◌==◌, inl, inr, Option, Some, None, List, [], ◌∷◌, ◌++◌, length, refl, sym, ap, ◌∙◌, subst, arith, length-append, false≢true, cases_lt, le-leb, nat_tests, filter-append, list_any-append, filter, list_all, list_any, range_with_len, is_some, is_none, Answer, rules_of, IsRight, differs_from, is_post, posts_in, IsBetween, ClaimsAreGiven, GivenIsTaken, Rules, Event, Given, Taken, Closing, sooner, only_at, is_halt, Holders, holders, Posts, posts, with_post, is_closed, prices_at, closed_front, opened, is_finished, ClaimReply, Finished, GivenTask, next_task, claim_from, claim_reply, with_claim, events_after_claim, PostReply, TakenPost, post_event, with_answer, post_reply, events_after_post, IsLegal, Fits, Difference}
 use Rattle.board_history.proofs.Answered.{posts-given, posts-taken, posts-closing, holders-given, holders-taken, holders-closing, only_cases}
 use Rattle.board_history.proofs.Fronts.{front_stops}
 use Rattle.board_history.proofs.Held.{given_or, given_says, free_is_unposted}

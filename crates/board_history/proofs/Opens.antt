@@ -1,10 +1,5 @@
 -- What one more row opens.
-use Rattle.std.proofs.Common.{◌≡◌, ℕ, suc, ◌+◌, ◌<◌, Bool, true, false, cond, inl, inr, List, [], ◌∷◌, ◌++◌, length, refl, ap, arith}
-use Rattle.std.proofs.lemmas.Bool.{cases_lt}
-use Rattle.std.proofs.lemmas.List.Sums.{prefix_len-le-length}
-use Rattle.std.specs.List.{prefix_len}
-use Rattle.std.specs.Prelude.{not}
-use Rattle.board_history.specs.Rounds.{Rules, free_in, opened_in}
+use Rattle.board_history.proofs.Common.{◌≡◌, ℕ, suc, ◌+◌, ◌<◌, Bool, true, false, cond, inl, inr, List, [], ◌∷◌, ◌++◌, length, refl, ap, arith, cases_lt, prefix_len-le-length, prefix_len, not, Rules, free_in, opened_in}
 
 abbrev pub bit : Bool → ℕ
 bit true = 1

@@ -1,28 +1,6 @@
 -- The board's own tasks: prices and units over the horizon, and what a post whose task nowhere differs from the board's own
 -- tells.
-use Rattle.std.proofs.Common.{◌≡◌, ℕ, zero, suc, ◌-◌, ◌<◌, ℤ, pos, Bool, true, false, cond, Option, Some, None, List, [], ◌∷◌, ◌++◌, length, map, get_or, refl, sym, ap, ◌∙◌, subst, arith}
-use Rattle.std.proofs.lemmas.Bool.Decides.{nat_tests}
-use Rattle.std.proofs.lemmas.List.{length-map, length-replicate}
-use Rattle.std.proofs.lemmas.List.Elements.{All-append, All-map}
-use Rattle.std.proofs.lemmas.List.FromFn.{length-map-range_with_len}
-use Rattle.std.proofs.lemmas.Option.{slice_get_within, slice_get-get_or, get_or_from_slice_get}
-use Rattle.std.specs.List.{All, AllZip}
-use Rattle.std.specs.Option.{option_map_or}
-use Rattle.std.specs.Prelude.{nat_le, slice_get}
-use Rattle.uc_model.specs.Data.{AnyUnit, Thermal, Flat, Bid, PriceLists, Schedule, Market, NamedThermalUnit, NamedRenewableUnit, NamedBidUnit, units, unit_count}
-use Rattle.uc_model.specs.Earnings.{earnings}
-use Rattle.uc_model.specs.Limits.{IsMarket}
-use Rattle.uc_model.specs.PriceRule.{Proposal, start_prices, opening_prices_of, stepped_prices, age, no_prices, next_prices}
-use Rattle.uc_model.specs.Runs.{Fits}
-use Rattle.uc_model.specs.Schedules.{IsFeasible}
-use Rattle.uc_model.specs.Systems.{IsFeasiblePlan}
-use Rattle.uc_model.specs.TaskLists.{task_numbers}
-use Rattle.board_history.specs.Board.{Setup, Answer, rules_of, IsRight, row_of}
-use Rattle.board_history.specs.Calls.{own_numbers, differs_from}
-use Rattle.board_history.specs.Laws.{CallsStayLegal, StepsAreMachine, PostsMean}
-use Rattle.board_history.specs.OneCaller.{HeldIsTaken}
-use Rattle.board_history.specs.Rounds.{Posts, posts, prices_at, rows_to, with_post, is_closed}
-use Rattle.board_history.specs.Tasks.{difference, IsOver, IsTask}
+use Rattle.board_history.proofs.Common.{◌≡◌, ℕ, zero, suc, ◌-◌, ◌<◌, ℤ, pos, Bool, true, false, cond, Option, Some, None, List, [], ◌∷◌, ◌++◌, length, map, get_or, refl, sym, ap, ◌∙◌, subst, arith, nat_tests, length-map, length-replicate, All-append, All-map, length-map-range_with_len, slice_get_within, slice_get-get_or, get_or_from_slice_get, All, AllZip, option_map_or, nat_le, slice_get, AnyUnit, Thermal, Flat, Bid, PriceLists, Schedule, Market, NamedThermalUnit, NamedRenewableUnit, NamedBidUnit, units, unit_count, earnings, IsMarket, Proposal, start_prices, opening_prices_of, stepped_prices, age, no_prices, next_prices, Fits, IsFeasible, IsFeasiblePlan, task_numbers, Setup, Answer, rules_of, IsRight, row_of, own_numbers, differs_from, CallsStayLegal, StepsAreMachine, PostsMean, HeldIsTaken, Posts, posts, prices_at, rows_to, with_post, is_closed, difference, IsOver, IsTask}
 use Rattle.board_history.proofs.Kept.{rows_length}
 use Rattle.board_history.proofs.Machine.{claim_stays, post_stays, halt_stays, steps_are_machine, post_says}
 use Rattle.board_history.proofs.RowLaws.{units_length}

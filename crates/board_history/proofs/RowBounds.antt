@@ -1,27 +1,7 @@
 -- How large the totals, the earnings and the value of a proposal can be, whether all of its answers are there or not; and
 -- that no row's value is above the cost of a feasible plan.
-use Rattle.std.proofs.Common.{◌≡◌, ℕ, zero, suc, ◌+◌, ◌-◌, ◌*◌, ◌<◌, Bool, true, false, cond, Option, Some, None, ℤ, pos, neg_ℤ, ◌+ℤ◌, ◌-ℤ◌, ◌*ℤ◌, ◌≤ℤ◌, List, [], ◌∷◌, map, length, get_or, refl, sym, ◌∙◌, subst, arith}
-use Rattle.std.proofs.lemmas.Bool.Decides.{nat_tests}
-use Rattle.std.proofs.lemmas.Int.{ints}
-use Rattle.std.proofs.lemmas.List.{length-map}
-use Rattle.std.proofs.lemmas.List.Elements.{All-map, All-replicate}
-use Rattle.std.proofs.lemmas.List.FromFn.{length-range_with_len}
-use Rattle.std.proofs.lemmas.Option.{slice_get_within, slice_get-get_or, get_or_from_slice_get}
-use Rattle.std.specs.List.{AllZip, range_with_len}
-use Rattle.std.specs.Option.{option_map_or}
-use Rattle.std.specs.Prelude.{nat_le, slice_get}
-use Rattle.uc_model.specs.Data.{AnyUnit, Bid, PriceLists, Schedule, Market, units, unit_count}
-use Rattle.uc_model.specs.BoundLaws.{GivesWithin}
-use Rattle.uc_model.specs.Laws.{DualIsAtMostCost}
-use Rattle.uc_model.specs.Limits.{IsFrom, IsUnit, IsTotal, IsHorizon, IsMarket, ArePrices, price_limit}
-use Rattle.uc_model.specs.PriceRule.{Proposal, start_prices, opening_prices_of, stepped_prices, move_of, squared_length, energy_direction, reserve_direction, age, no_prices, next_prices}
-use Rattle.uc_model.specs.Runs.{Fits}
-use Rattle.uc_model.specs.Sums.{int_at, total, floor_div, clamped}
-use Rattle.uc_model.specs.Systems.{total_power, total_reserve}
-use Rattle.uc_model.proofs.SignedLaws.{IsWithin, clamped_from}
-use Rattle.board_history.specs.Board.{Setup, Answer, no_answer, rules_of, row_of, schedules_in, earned_in, IsRight, IsLegalHistory}
+use Rattle.board_history.proofs.Common.{◌≡◌, ℕ, zero, suc, ◌+◌, ◌-◌, ◌*◌, ◌<◌, Bool, true, false, cond, Option, Some, None, ℤ, pos, neg_ℤ, ◌+ℤ◌, ◌-ℤ◌, ◌*ℤ◌, ◌≤ℤ◌, List, [], ◌∷◌, map, length, get_or, refl, sym, ◌∙◌, subst, arith, nat_tests, ints, length-map, All-map, All-replicate, length-range_with_len, slice_get_within, slice_get-get_or, get_or_from_slice_get, AllZip, range_with_len, option_map_or, nat_le, slice_get, AnyUnit, Bid, PriceLists, Schedule, Market, units, unit_count, GivesWithin, DualIsAtMostCost, IsFrom, IsUnit, IsTotal, IsHorizon, IsMarket, ArePrices, price_limit, Proposal, start_prices, opening_prices_of, stepped_prices, move_of, squared_length, energy_direction, reserve_direction, age, no_prices, next_prices, Fits, int_at, total, floor_div, clamped, total_power, total_reserve, IsWithin, clamped_from, Setup, Answer, no_answer, rules_of, row_of, schedules_in, earned_in, IsRight, IsLegalHistory, Rules, Event, Posts, posts, prices_at, answer_at, answers, rows_of, rows_to}
 use Rattle.board_history.specs.Bounds.{AreWithin, IsRowWithin, RowsAreWithin, RowsAreAtMostCost}
-use Rattle.board_history.specs.Rounds.{Rules, Event, Posts, posts, prices_at, answer_at, answers, rows_of, rows_to}
 use Rattle.board_history.proofs.Answered.{all_answer}
 use Rattle.board_history.proofs.Kept.{rows_length}
 use Rattle.board_history.proofs.OwnTasks.{own_horizon, own_reserve_horizon}

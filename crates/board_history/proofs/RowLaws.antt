@@ -1,23 +1,9 @@
 -- The rows of a legal history are right, and where it is finished they are the whole run.
-use Rattle.std.proofs.Common.{◌≡◌, ℕ, zero, suc, ◌+◌, ◌-◌, ◌<◌, ◌≤◌, Bool, true, false, inl, inr, Option, Some, List, [], ◌∷◌, ◌++◌, length, map, take, get_or, refl, sym, ap, subst, arith, rules, length-append}
-use Rattle.std.proofs.lemmas.Bool.{false≢true, cases_lt, leb-true}
-use Rattle.std.proofs.lemmas.List.{length-map}
-use Rattle.std.proofs.lemmas.Option.{slice_get_within}
-use Rattle.std.proofs.lemmas.List.Sums.{prefix_len_passes, prefix_len_stops}
-use Rattle.std.specs.List.{AllZip, range_with_len}
-use Rattle.std.specs.Option.{option_map_or}
-use Rattle.std.specs.Prelude.{not, slice_get, IsTrue, IsFalse}
-use Rattle.board_history.specs.Rounds.{Rules, Event, Posts, posts, is_closed, answer_at, answers, rows_to, prices_at, closed_front, rows_of, free_front, opened, is_finished}
+use Rattle.board_history.proofs.Common.{◌≡◌, ℕ, zero, suc, ◌+◌, ◌-◌, ◌<◌, ◌≤◌, Bool, true, false, inl, inr, Option, Some, List, [], ◌∷◌, ◌++◌, length, map, take, get_or, refl, sym, ap, subst, arith, rules, length-append, false≢true, cases_lt, leb-true, length-map, slice_get_within, prefix_len_passes, prefix_len_stops, AllZip, range_with_len, option_map_or, not, slice_get, IsTrue, IsFalse, Rules, Event, Posts, posts, is_closed, answer_at, answers, rows_to, prices_at, closed_front, rows_of, free_front, opened, is_finished, AnyUnit, Thermal, Flat, Bid, PriceLists, Schedule, Market, NamedThermalUnit, NamedRenewableUnit, NamedBidUnit, units, unit_count, IsBest, IsTop, earnings, Proposal, no_prices, price_rule, is_settled, Fits, IsNextRow, AreRightRows, IsRun, Setup, Answer, row_of, rules_of, schedules_in, earned_in, IsRight, IsLegalFor, RowsAreRight, RowsAreMade, FinishedIsRun, FinishedHasRow, FinishedStays, HaltsChangeNothing, AnswersFit}
 use Rattle.board_history.proofs.Answered.{all_answer}
 use Rattle.board_history.proofs.Fronts.{front_le}
 use Rattle.board_history.proofs.Kept.{post_of, rows_length, rows_take, row_at, front_closed}
 use Rattle.board_history.proofs.Stays.{finished_stays, goes_after, works_legal, posts-works}
-use Rattle.uc_model.specs.Data.{AnyUnit, Thermal, Flat, Bid, PriceLists, Schedule, Market, NamedThermalUnit, NamedRenewableUnit, NamedBidUnit, units, unit_count}
-use Rattle.uc_model.specs.Earnings.{IsBest, IsTop, earnings}
-use Rattle.uc_model.specs.PriceRule.{Proposal, no_prices, price_rule, is_settled}
-use Rattle.uc_model.specs.Runs.{Fits, IsNextRow, AreRightRows, IsRun}
-use Rattle.board_history.specs.Board.{Setup, Answer, row_of, rules_of, schedules_in, earned_in, IsRight, IsLegalFor}
-use Rattle.board_history.specs.Laws.{RowsAreRight, RowsAreMade, FinishedIsRun, FinishedHasRow, FinishedStays, HaltsChangeNothing, AnswersFit}
 
 pub units_length : (m : Market) → length (units m) ≡ unit_count m
 units_length m =

@@ -1,20 +1,11 @@
 -- The flat list of a task tells where it ends, so two that nowhere differ as far as both go are one.
-use Rattle.std.proofs.Common.{◌≡◌, ℕ, zero, suc, ◌+◌, ◌<◌, ◌≤◌, min, ℤ, pos, Bool, true, false, cond, inl, inr, Option, Some, None, List, [], ◌∷◌, ◌++◌, length, map, refl, sym, ap, ◌∙◌, subst, arith, append_assoc}
-use Rattle.std.proofs.lemmas.Bool.{false≢true, cases_lt}
-use Rattle.std.proofs.lemmas.Bool.Decides.{Decides-int_eq}
-use Rattle.std.specs.List.{find, flat_map, range_with_len}
-use Rattle.std.specs.Option.{option_map}
+use Rattle.board_history.proofs.Common.{◌≡◌, ℕ, zero, suc, ◌+◌, ◌<◌, ◌≤◌, min, ℤ, pos, Bool, true, false, cond, inl, inr, Option, Some, None, List, [], ◌∷◌, ◌++◌, length, map, refl, sym, ap, ◌∙◌, subst, arith, append_assoc, false≢true, cases_lt, Decides-int_eq, find, flat_map, range_with_len, option_map, not, ThermalUnit, AnyUnit, Thermal, Flat, Bid, int_at, flag_number, lag_numbers, point_numbers, mark_number, block_numbers, period_numbers, fixed_numbers, list_numbers, unit_numbers, task_numbers, Difference, first_difference, difference, IsOver, SameTask}
 use Rattle.std.specs.Ordering.{int_eq}
-use Rattle.std.specs.Prelude.{not}
 use Rattle.uc_model.specs.declared.units.Lag.{Lag}
 use Rattle.uc_model.specs.declared.units.Point.{Point}
 use Rattle.uc_model.specs.declared.units.Block.{Block}
 use Rattle.uc_model.specs.declared.units.Mark.{Mark}
 use Rattle.uc_model.specs.declared.units.Mark.TheVariants.{Free, MustOff, MustOn}
-use Rattle.uc_model.specs.Data.{ThermalUnit, AnyUnit, Thermal, Flat, Bid}
-use Rattle.uc_model.specs.Sums.{int_at}
-use Rattle.uc_model.specs.TaskLists.{flag_number, lag_numbers, point_numbers, mark_number, block_numbers, period_numbers, fixed_numbers, list_numbers, unit_numbers, task_numbers}
-use Rattle.board_history.specs.Tasks.{Difference, first_difference, difference, IsOver, SameTask}
 
 -- the lists have the same numbers at each place that both have
 abbrev pub Agree : List ℤ → List ℤ → Type 0

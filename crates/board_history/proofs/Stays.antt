@@ -1,12 +1,5 @@
 -- A finished history stays finished, and halts change nothing.
-use Rattle.std.proofs.Common.{◌≡◌, ℕ, suc, ◌-◌, ◌<◌, ◌≤◌, Bool, true, false, cond, Option, Some, None, List, [], ◌∷◌, ◌++◌, refl, sym, ap, ◌∙◌, subst, arith, append_assoc}
-use Rattle.std.proofs.lemmas.Bool.{false≢true, leb-true}
-use Rattle.std.proofs.lemmas.List.{append-nil}
-use Rattle.std.proofs.Math.Path.{fun_ext}
-use Rattle.std.specs.List.{list_any, filter}
-use Rattle.std.specs.Option.{option_map_or}
-use Rattle.std.specs.Prelude.{not}
-use Rattle.board_history.specs.Rounds.{Rules, Event, Given, Taken, Closing, Stopped, sooner, first_some, given_by, posted_by, is_halt, Holders, holders, Posts, posts, with_post, is_closed, closed_front, opened, is_finished, ClaimReply, Finished, Halted, GivenTask, NotYet, next_task, claim_from, IsPost, IsNext, GoesOn, IsLegal}
+use Rattle.board_history.proofs.Common.{◌≡◌, ℕ, suc, ◌-◌, ◌<◌, ◌≤◌, Bool, true, false, cond, Option, Some, None, List, [], ◌∷◌, ◌++◌, refl, sym, ap, ◌∙◌, subst, arith, append_assoc, false≢true, leb-true, append-nil, fun_ext, list_any, filter, option_map_or, not, Rules, Event, Given, Taken, Closing, Stopped, sooner, first_some, given_by, posted_by, is_halt, Holders, holders, Posts, posts, with_post, is_closed, closed_front, opened, is_finished, ClaimReply, Finished, Halted, GivenTask, NotYet, next_task, claim_from, IsPost, IsNext, GoesOn, IsLegal}
 use Rattle.board_history.proofs.Answered.{posts-stopped}
 use Rattle.board_history.proofs.Kept.{post_of, front_closed}
 

@@ -1,21 +1,8 @@
 -- How many events a legal history has: a task is claimed at most once and posted at most once, and a caller halts at most
 -- once.
-use Rattle.std.proofs.Common.{◌≡◌, ℕ, zero, suc, ◌+◌, ◌*◌, ◌<◌, ◌≤◌, ◌⊎◌, Bool, true, false, cond, ◌&&◌, ◌||◌, ◌==◌, inl, inr, Option, Some, None, List, [], ◌∷◌, ◌++◌, length, map, refl, sym, ap, ◌∙◌, subst, arith, length-append}
+use Rattle.board_history.proofs.Common.{◌≡◌, ℕ, zero, suc, ◌+◌, ◌*◌, ◌<◌, ◌≤◌, ◌⊎◌, Bool, true, false, cond, ◌&&◌, ◌||◌, ◌==◌, inl, inr, Option, Some, None, List, [], ◌∷◌, ◌++◌, length, map, refl, sym, ap, ◌∙◌, subst, arith, length-append, false≢true, cases_lt, nat_tests, length-map, filter-append, list_any-append, length-range_with_len, filter, flat_map, list_any, range_with_len, is_some, Fits, rules_of, IsRight, is_claim, is_post, claims_in, posts_in, halts_in, EventsAreAtMost, Rules, Event, Given, Taken, Closing, Stopped, sooner, only_at, is_halt, is_halt_of, Holders, holders, Posts, posts, with_post, IsPost, IsNext, IsLegal}
 use Rattle.std.proofs.Math.Nat.{suc-mul}
-use Rattle.std.proofs.lemmas.Bool.{false≢true, cases_lt}
-use Rattle.std.proofs.lemmas.Bool.Decides.{nat_tests}
-use Rattle.std.proofs.lemmas.List.{length-map}
-use Rattle.std.proofs.lemmas.List.Elements.{filter-append}
-use Rattle.std.proofs.lemmas.List.Folds.{list_any-append}
-use Rattle.std.proofs.lemmas.List.FromFn.{length-range_with_len}
-use Rattle.std.specs.List.{filter, flat_map, list_any, range_with_len}
-use Rattle.std.specs.Prelude.{is_some}
-use Rattle.uc_model.specs.Runs.{Fits}
-use Rattle.board_history.specs.Board.{rules_of, IsRight}
-use Rattle.board_history.specs.Counts.{is_claim, is_post, claims_in, posts_in, halts_in}
 use Rattle.board_history.specs.Entries.{entry_of, entries_of}
-use Rattle.board_history.specs.Laws.{EventsAreAtMost}
-use Rattle.board_history.specs.Rounds.{Rules, Event, Given, Taken, Closing, Stopped, sooner, only_at, is_halt, is_halt_of, Holders, holders, Posts, posts, with_post, IsPost, IsNext, IsLegal}
 use Rattle.board_history.proofs.Answered.{posts-given, posts-stopped, posts-taken, posts-closing, holders-given, holders-taken, holders-closing, holders-stopped}
 use Rattle.board_history.proofs.Held.{along, given_says}
 

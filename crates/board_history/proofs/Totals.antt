@@ -1,19 +1,8 @@
 -- Running totals: one more answer adds what it gives and earns to the totals of its proposal, since the missing answer
 -- gives and earns nothing. So totals that run while answers come in are those of the row at its closing.
-use Rattle.std.proofs.Common.{◌≡◌, ℕ, zero, suc, ◌+◌, ◌-◌, ◌<◌, ◌≤◌, ℤ, pos, ◌+ℤ◌, inl, inr, Some, List, [], ◌∷◌, length, map, refl, sym, ap, ◌∙◌, subst, arith}
-use Rattle.std.proofs.lemmas.Bool.{cases_lt}
-use Rattle.std.proofs.lemmas.Int.{ints}
-use Rattle.std.specs.List.{range_with_len}
-use Rattle.std.specs.Prelude.{slice_get}
+use Rattle.board_history.proofs.Common.{◌≡◌, ℕ, zero, suc, ◌+◌, ◌-◌, ◌<◌, ◌≤◌, ℤ, pos, ◌+ℤ◌, inl, inr, Some, List, [], ◌∷◌, length, map, refl, sym, ap, ◌∙◌, subst, arith, cases_lt, ints, range_with_len, slice_get, AnyUnit, Thermal, Flat, Bid, Schedule, supply_in, reserve_in, total, zip_with, total_power, total_reserve, slice_get_within, Answer, no_answer, schedules_in, earned_in}
 use Rattle.board_history.proofs.Fronts.{map_range_same}
-use Rattle.uc_model.specs.Data.{AnyUnit, Thermal, Flat, Bid, Schedule}
-use Rattle.uc_model.specs.Earnings.{supply_in}
-use Rattle.uc_model.specs.Schedules.{reserve_in}
-use Rattle.uc_model.specs.Sums.{total, zip_with}
-use Rattle.uc_model.specs.Systems.{total_power, total_reserve}
-use Rattle.std.proofs.lemmas.Option.{slice_get_within}
 use Rattle.board_history.specs.Totals.{TotalsRun}
-use Rattle.board_history.specs.Board.{Answer, no_answer, schedules_in, earned_in}
 
 no_supply : (u : AnyUnit) (k : ℕ) → supply_in u no_answer.schedule (suc k) ≡ pos 0
 no_supply (Thermal g) k = refl

@@ -1,13 +1,5 @@
 -- How large the earnings of one unit's feasible schedule can be, and what a schedule that is missing gives.
-use Rattle.std.proofs.Common.{◌≡◌, ℕ, pos, length, sym, ap, subst, arith}
-use Rattle.std.proofs.lemmas.Int.{ints}
-use Rattle.std.specs.Prelude.{slice_index}
-use Rattle.uc_model.specs.BoundLaws.{GivesWithin, OutputsAreWithin, EarningsAreWithin, UnitsAreWithin, TotalsAreWithin, DemandWorthIsWithin}
-use Rattle.uc_model.specs.Data.{AnyUnit, Thermal, Flat, Bid, PriceLists, Schedule}
-use Rattle.uc_model.specs.Earnings.{earnings}
-use Rattle.uc_model.specs.Limits.{IsUnit, ArePrices}
-use Rattle.uc_model.specs.Schedules.{IsFeasible}
-use Rattle.uc_model.proofs.SignedLaws.{IsWithin, wider}
+use Rattle.board_history.proofs.Common.{◌≡◌, ℕ, pos, length, sym, ap, subst, arith, ints, slice_index, GivesWithin, OutputsAreWithin, EarningsAreWithin, UnitsAreWithin, TotalsAreWithin, DemandWorthIsWithin, AnyUnit, Thermal, Flat, Bid, PriceLists, Schedule, earnings, IsUnit, ArePrices, IsFeasible, IsWithin, wider}
 
 -- the model's laws of bounds that those of a board rest on
 pub record ModelLaws : Type 0 where

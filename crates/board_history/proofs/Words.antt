@@ -1,10 +1,5 @@
 -- The numbers of a board of rounds in words: which proposals are open for work, and when all of them are closed.
-use Rattle.std.proofs.Common.{◌≡◌, ℕ, suc, ◌-◌, ◌<◌, ◌≤◌, Bool, true, false, List, get_or, refl, sym, ap, ◌∙◌, subst, arith}
-use Rattle.std.proofs.lemmas.Bool.{false≢true, le-leb, leb-true}
-use Rattle.std.proofs.lemmas.List.Sums.{prefix_len_passes}
-use Rattle.std.specs.Prelude.{not, is_some}
-use Rattle.board_history.specs.Rounds.{Rules, Posts, is_closed, rows_to, closed_front, rows_of, free_front, opened, is_finished}
-use Rattle.board_history.specs.Words.{IsClosed, IsOpen, Means}
+use Rattle.board_history.proofs.Common.{◌≡◌, ℕ, suc, ◌-◌, ◌<◌, ◌≤◌, Bool, true, false, List, get_or, refl, sym, ap, ◌∙◌, subst, arith, false≢true, le-leb, leb-true, prefix_len_passes, not, is_some, Rules, Posts, is_closed, rows_to, closed_front, rows_of, free_front, opened, is_finished, IsClosed, IsOpen, Means}
 use Rattle.board_history.proofs.Fronts.{range_passes, prefix_most, front_most}
 use Rattle.board_history.proofs.Kept.{post_of, rows_length, rows_take, front_closed, free_le, get_or_take_of}
 

@@ -1,21 +1,9 @@
 -- The size of the best bound round the chosen row of a run.
-use Rattle.std.proofs.Common.{◌≡◌, ◌-◌, ◌<◌, ℤ, pos, ◌≤ℤ◌, true, [], length, get_or, refl, arith}
-use Rattle.std.proofs.lemmas.Int.{ints}
-use Rattle.std.proofs.lemmas.Option.{slice_get-get_or}
-use Rattle.board_core.specs.Setups.{IsSetup}
-use Rattle.board_history.specs.Board.{Content, IsLegalHistory}
-use Rattle.board_history.specs.Bounds.{RowsAreWithin}
-use Rattle.board_history.specs.Calls.{own_rows, has_finished}
-use Rattle.board_history.specs.Laws.{FinishedHasRow, FinishedIsRun}
+use Rattle.board_run.proofs.Common.{◌≡◌, ◌-◌, ◌<◌, ℤ, pos, ◌≤ℤ◌, true, [], length, get_or, refl, arith, ints, slice_get-get_or, IsSetup, Content, IsLegalHistory, RowsAreWithin, own_rows, has_finished, FinishedHasRow, FinishedIsRun, IsWorth, Proposal, no_prices, Fits, OneIsChosen, chosen_of}
 use Rattle.gap_proof.specs.Candidates.{RowRange, IsFirstLeast}
 use Rattle.gap_proof.specs.Laws.{RunBoundsHold}
 use Rattle.gap_proof.specs.Sums.{most_bound}
-use Rattle.uc_model.specs.Limits.{IsWorth}
-use Rattle.uc_model.specs.PriceRule.{Proposal, no_prices}
-use Rattle.uc_model.specs.Runs.{Fits}
 use Rattle.hull_report.specs.BoundText.{IsTold}
-use Rattle.hull_report.specs.Laws.{OneIsChosen}
-use Rattle.hull_report.specs.RecordReport.{chosen_of}
 use Rattle.board_run.proofs.SettleLaws.{chosen_place}
 
 told_above : (value limit : ℤ) → IsWorth value → value ≤ℤ limit → limit ≤ℤ most_bound → IsTold limit

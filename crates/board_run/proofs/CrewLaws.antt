@@ -1,26 +1,12 @@
 -- The seats of a run's workers, from the splits to the joins: nobody halts, so the board has finished.
-use Rattle.std.proofs.Common.{◌≡◌, ◌≢◌, ℕ, ◌+◌, Bool, true, false, ◌||◌, inl, inr, ⊎_elim, Some, List, [], ◌∷◌, ◌++◌, length, take, drop, subst, sym, ap, ◌∙◌, refl, arith, append_assoc, append-nil, length-append}
-use Rattle.std.specs.List.{All, AllZip, Contains, list_any}
-use Rattle.std.proofs.lemmas.List.Elements.{All-nil, All-cons, All-head, All-tail, All-append, All-weaker, All-pop, All-push, Contains-push, Contains-push_cases, Contains-append_left}
+use Rattle.board_run.proofs.Common.{◌≡◌, ◌≢◌, ℕ, ◌+◌, Bool, true, false, ◌||◌, inl, inr, ⊎_elim, Some, List, [], ◌∷◌, ◌++◌, length, take, drop, subst, sym, ap, ◌∙◌, refl, arith, append_assoc, append-nil, length-append, All, AllZip, Contains, list_any, All-nil, All-cons, All-head, All-tail, All-append, All-weaker, All-pop, All-push, Contains-push, Contains-push_cases, Contains-append_left, AllZip-long, Fits, Setup, IsLegalHistory, has_finished, FinishedStays, empty_board, SeatValue, view_of, IsSeatOf, IsSameBoard, IsOwner, BoardEvent, View, caller_of, content, cut_left, cut_right, first_view, without, IsBenchOf, IsWorkerOf, HasParts, Came, HasWorked, HaveWorked, HaveEnded, HasSeenHalt, HasFinished, Worker, StartsWith, named_by, IsNew, IsCrew, IsHired, IsCalmWorker, IsCalm, SomeEnd, AreOut}
 use Rattle.std.proofs.lemmas.List.Folds.{list_any-append}
-use Rattle.std.proofs.lemmas.Slice.Zip.{AllZip-long}
-use Rattle.uc_model.specs.Runs.{Fits}
-use Rattle.board_history.specs.Board.{Setup, IsLegalHistory}
-use Rattle.board_history.specs.Calls.{has_finished}
-use Rattle.board_history.specs.Laws.{FinishedStays}
 use Rattle.board_history.specs.Rounds.{Given, Taken, Closing, Stopped, is_halt}
-use Rattle.board_core.specs.Boards.{empty_board}
 use Rattle.board_share.specs.Rule.{GoesOnWithout, Past, Sees}
-use Rattle.board_share.specs.Seats.{SeatValue, view_of, IsSeatOf, IsSameBoard, IsOwner}
 use Rattle.board_share.specs.Tells.{HasJoined}
-use Rattle.board_share.specs.Views.{BoardEvent, View, caller_of, content, cut_left, cut_right, first_view, without}
 use Rattle.board_share.specs.declared.shared.SharedBoard.{SharedBoard}
-use Rattle.answer_workers.specs.Answers.{IsBenchOf}
-use Rattle.answer_workers.specs.Workers.{IsWorkerOf, HasParts, Came, HasWorked, HaveWorked, HaveEnded, HasSeenHalt, HasFinished}
-use Rattle.answer_workers.specs.declared.worker.Worker.{Worker}
 use Rattle.answer_workers.specs.declared.worker.Ended.{Ended}
 use Rattle.answer_workers.specs.declared.worker.Ended.TheVariants.{Finished, Halted}
-use Rattle.board_run.specs.Crews.{StartsWith, named_by, IsNew, IsCrew, IsHired, IsCalmWorker, IsCalm, SomeEnd, AreOut}
 use Rattle.board_run.proofs.Outs.{in_none, in_one, in_without}
 
 -- ---- one more seat is joined

@@ -1,32 +1,16 @@
 -- The two runs of `hull fixed`: their sides, and the second run's input.
-use Rattle.std.proofs.Common.{◌≡◌, ℕ, suc, ◌*◌, ◌≤◌, ℤ, List, [], ◌∷◌, ◌++◌, map, length, Result, Ok, Err, sym, ap, ◌∙◌, subst, arith, append_assoc}
-use Rattle.std.proofs.lemmas.Option.{same_Some}
-use Rattle.std.proofs.lemmas.List.Elements.{All-nil, All-cons}
-use Rattle.std.specs.List.{All}
-use Rattle.std.specs.Prelude.{IfOk}
-use Rattle.board_core.specs.Boards.{setup_for}
-use Rattle.board_core.specs.Setups.{IsSetup}
-use Rattle.board_history.specs.Board.{Setup, Content}
+use Rattle.board_run.proofs.Common.{◌≡◌, ℕ, suc, ◌*◌, ◌≤◌, ℤ, List, [], ◌∷◌, ◌++◌, map, length, Result, Ok, Err, sym, ap, ◌∙◌, subst, arith, append_assoc, same_Some, All-nil, All-cons, All, IfOk, setup_for, IsSetup, Setup, Content, AnyUnit, Thermal, Flat, Bid, Market, NamedThermalUnit, NamedRenewableUnit, NamedBidUnit, PriceLists, Schedule, unit_count, IsMarket, market_of, schedules_of, prices_of, Proposal, IsFeasiblePlan, plan_cost, IsSettled, Settlement, IsBenchOver, SettlementsAreOfAllUnits, Suffices, IsBenchOf, setup_of, IsEnded}
 use Rattle.slope_list.specs.Slopes.{room_of}
 use Rattle.slope_list.specs.declared.slopes.Slopes.{Slopes}
 use Rattle.uc_model.specs.declared.cases.Case.{Case}
 use Rattle.uc_model.specs.declared.cases.Plan.{Plan}
 use Rattle.uc_model.specs.declared.limits.TheConstants.{MOST_WORK}
 use Rattle.uc_model.specs.declared.units.Point.{Point}
-use Rattle.uc_model.specs.Data.{AnyUnit, Thermal, Flat, Bid, Market, NamedThermalUnit, NamedRenewableUnit, NamedBidUnit, PriceLists, Schedule, unit_count}
-use Rattle.uc_model.specs.Limits.{IsMarket}
-use Rattle.uc_model.specs.PlainCases.{market_of, schedules_of}
-use Rattle.uc_model.specs.PlainUnits.{prices_of}
-use Rattle.uc_model.specs.PriceRule.{Proposal}
-use Rattle.uc_model.specs.Systems.{IsFeasiblePlan, plan_cost, IsSettled}
 use Rattle.unit_program.specs.Benches.{IsBenchFor}
 use Rattle.unit_program.specs.declared.bench.Bench.{Bench}
-use Rattle.uplift_settle.specs.declared.settlement.Settlement.{Settlement}
 use Rattle.fixed_price.specs.FixedCase.{fixed_market}
 use Rattle.fixed_price.specs.Laws.{CommitmentsAreFixed}
-use Rattle.case_answers.specs.Tops.{IsBenchOver}
 use Rattle.hull_report.specs.FixedText.{told_of}
-use Rattle.hull_report.specs.RecordReport.{SettlementsAreOfAllUnits}
 use Rattle.hull_report.specs.RightSide.{IsRightSide, TellsChoice, SettledSidesAreRight}
 use Rattle.hull_report.specs.declared.fixed.Side.{Side}
 use Rattle.board_run.specs.declared.input.Input.{Input}
@@ -35,8 +19,6 @@ use Rattle.board_run.specs.declared.input.RunSize.{RunSize}
 use Rattle.board_run.specs.declared.run.Done.{Done}
 use Rattle.board_run.specs.Compared.{IsHullSide, IsHeldInput, IsHeldRun, IsFixedSide}
 use Rattle.board_run.specs.Inputs.{planned_of, IsPlanned, IsRunInput, PlannedCase}
-use Rattle.answer_workers.specs.Answers.{Suffices, IsBenchOf}
-use Rattle.board_run.specs.Rounds.{setup_of, IsEnded}
 
 -- ---- the bench of a run
 

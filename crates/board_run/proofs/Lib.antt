@@ -1,3 +1,5 @@
+-- The names from elsewhere that the proofs here cite.
+pub mod Common
 -- crew.rt: the callers whose seats are out
 pub mod Outs
 -- crew.rt: nobody halts, so the board has finished
@@ -8,3 +10,5 @@ pub mod SettleLaws
 pub mod BoundLaws
 -- fixed.rt: the two runs of `hull fixed`
 pub mod FixedLaws
+-- The lemmas that answers cite.
+pub mod Lemmas

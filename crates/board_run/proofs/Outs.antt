@@ -1,9 +1,6 @@
 -- The list of the callers whose seats are out.
-use Rattle.std.proofs.Common.{◌≡◌, ◌≢◌, ℕ, Bool, zero, suc, ◌<◌, ◌⊎◌, inl, inr, ⊎_elim, List, [], ◌∷◌, length, slice_index_or, subst, sym, ◌∙◌, refl, arith, eq-eqb, ne_eqb}
-use Rattle.std.specs.Prelude.{◌==◌, if◌then◌else◌}
-use Rattle.std.specs.List.{Contains}
+use Rattle.board_run.proofs.Common.{◌≡◌, ◌≢◌, ℕ, Bool, zero, suc, ◌<◌, ◌⊎◌, inl, inr, ⊎_elim, List, [], ◌∷◌, length, slice_index_or, subst, sym, ◌∙◌, refl, arith, eq-eqb, ne_eqb, ◌==◌, if◌then◌else◌, Contains, without}
 use native.Mathlib.Decide.{ℕ_discrete}
-use Rattle.board_share.specs.Views.{without}
 
 has_head : {A : Type 0} (x : A) (xs : List A) → Contains (x ∷ xs) x
 has_head x xs = (zero, omega arith, refl)

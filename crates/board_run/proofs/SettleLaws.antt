@@ -1,24 +1,8 @@
 -- The settlement of a finished board at the prices of its chosen row.
-use Rattle.std.proofs.Common.{◌≡◌, ℕ, suc, ◌-◌, ◌<◌, ◌≤◌, ℤ, true, Some, List, length, map, get_or, slice_get, sym, ap, ◌∙◌, subst, arith}
-use Rattle.std.proofs.lemmas.Option.{slice_get-map, slice_get-get_or, slice_get_within, get_or_from_slice_get}
-use Rattle.std.specs.List.{AllZip}
+use Rattle.board_run.proofs.Common.{◌≡◌, ℕ, suc, ◌-◌, ◌<◌, ◌≤◌, ℤ, true, Some, List, length, map, get_or, slice_get, sym, ap, ◌∙◌, subst, arith, slice_get-map, slice_get-get_or, slice_get_within, get_or_from_slice_get, AllZip, AnyUnit, Market, Schedule, units, unit_count, proposal_of, Proposal, chosen_number, int_at, IsSettled, Content, IsLegalHistory, own_rows, has_finished, FinishedHasRow, RowsAreWithin, kept_answer, IsSetup, Settlement, OneIsChosen, IsSettledRecord, AnswersAreTops}
 use Rattle.std.specs.Option.{option_map}
-use Rattle.uc_model.specs.Data.{AnyUnit, Market, Schedule, units, unit_count}
 use Rattle.uc_model.specs.Earnings.{IsTop}
-use Rattle.uc_model.specs.PlainCases.{proposal_of}
-use Rattle.uc_model.specs.PriceRule.{Proposal, chosen_number}
-use Rattle.uc_model.specs.Sums.{int_at}
-use Rattle.uc_model.specs.Systems.{IsSettled}
 use Rattle.uc_model.specs.declared.cases.Row.{Row}
-use Rattle.board_history.specs.Board.{Content, IsLegalHistory}
-use Rattle.board_history.specs.Calls.{own_rows, has_finished}
-use Rattle.board_history.specs.Laws.{FinishedHasRow}
-use Rattle.board_history.specs.Bounds.{RowsAreWithin}
-use Rattle.board_core.specs.Boards.{kept_answer}
-use Rattle.board_core.specs.Setups.{IsSetup}
-use Rattle.uplift_settle.specs.declared.settlement.Settlement.{Settlement}
-use Rattle.hull_report.specs.Laws.{OneIsChosen}
-use Rattle.hull_report.specs.RecordReport.{IsSettledRecord, AnswersAreTops}
 
 -- a row is chosen
 pub record IsPlace (c : Content) (chosen : ℕ) : Type 0 where

@@ -1,12 +1,5 @@
 -- The rule at the start.
-use Rattle.std.proofs.Common.{⊎_elim, ◌≡◌, ℕ, zero, suc, ◌<◌, ◌≤◌, [], ◌∷◌, length, subst, sym, ◌∙◌, refl, arith, lit<}
-use Rattle.std.specs.Prelude.{All, Contains}
-use mathlib.Core.Option.{some, some-injective, some-ne-none}
-use lib.ListN.{get_elem?}
-use Rattle.atomic_table.specs.Table.{opening}
-use Rattle.board_history.specs.Board.{Content}
-use Rattle.board_share.specs.Views.{BoardEvent, caller_of, idle, turn, View, first_view, live_count}
-use Rattle.board_share.specs.Rule.{Shared, Sees, home, HasTicket, Joined}
+use Rattle.board_share.proofs.Common.{⊎_elim, ◌≡◌, ℕ, zero, suc, ◌<◌, ◌≤◌, [], ◌∷◌, length, subst, sym, ◌∙◌, refl, arith, lit<, All, Contains, some, some-injective, some-ne-none, get_elem?, opening, Content, BoardEvent, caller_of, idle, turn, View, first_view, live_count, Shared, Sees, home, HasTicket, Joined}
 use Rattle.board_share.proofs.SlotSteps.{same_board}
 use Rattle.board_share.proofs.Outs.{in_cons, in_none}
 use Rattle.board_share.proofs.HistorySteps.{sees_all, all_one}

@@ -1,12 +1,5 @@
 -- The callers, after each kind of step.
-use Rattle.std.proofs.Common.{◌≡◌, ℕ, ◌<◌, ◌≢◌, List, [], ◌∷◌, ◌++◌, set, subst, sym, ap, ◌∙◌, refl, arith}
-use Rattle.std.specs.Prelude.{All, Contains}
-use Rattle.std.proofs.lemmas.List.Elements.{All-append}
-use mathlib.Core.Option.{some}
-use lib.ListN.{get_elem?}
-use Rattle.board_share.specs.Views.{BoardEvent, caller_of, View, live_count}
-use Rattle.board_share.specs.Rule.{Past, Joined, Callers}
-use Rattle.board_share.specs.Tells.{OnlyMade}
+use Rattle.board_share.proofs.Common.{◌≡◌, ℕ, ◌<◌, ◌≢◌, List, [], ◌∷◌, ◌++◌, set, subst, sym, ap, ◌∙◌, refl, arith, All, Contains, All-append, some, get_elem?, BoardEvent, caller_of, View, live_count, Past, Joined, Callers, OnlyMade}
 use Rattle.board_share.proofs.Views.{each_set, pairs_set, sum_set, there_set, one_view}
 use Rattle.board_share.proofs.HistorySteps.{all_one}
 

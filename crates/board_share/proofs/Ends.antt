@@ -1,12 +1,5 @@
 -- What is left when the owner's seat alone is out.
-use Rattle.std.proofs.Common.{◌≡◌, ℕ, zero, suc, List, [], ◌∷◌, ◌++◌, length, subst, sym, ap, ◌∙◌, refl, arith, append-nil}
-use Rattle.std.specs.Prelude.{All, Contains}
-use mathlib.Core.Option.{some}
-use lib.ListN.{get_elem?}
-use Rattle.atomic_table.specs.Table.{State, Final, Seen}
-use Rattle.board_history.specs.Board.{Content}
-use Rattle.board_share.specs.Views.{BoardEvent, caller_of, content, Stage, idle, turn, View, live_count}
-use Rattle.board_share.specs.Rule.{Shared, Past, Spot, home, away, InSpot}
+use Rattle.board_share.proofs.Common.{◌≡◌, ℕ, zero, suc, List, [], ◌∷◌, ◌++◌, length, subst, sym, ap, ◌∙◌, refl, arith, append-nil, All, Contains, some, get_elem?, State, Final, Seen, Content, BoardEvent, caller_of, content, Stage, idle, turn, View, live_count, Shared, Past, Spot, home, away, InSpot}
 use Rattle.board_share.proofs.Views.{one_view}
 
 -- the members of a list of one are equal

@@ -1,14 +1,6 @@
 -- The history, and what of it the seats have seen, after each kind of step.
-use Rattle.std.proofs.Common.{◌≡◌, ℕ, zero, suc, ◌+◌, ◌≢◌, List, [], ◌∷◌, ◌++◌, length, get_or, set, sym, ap, ◌∙◌, arith, append_assoc, length-append, append-nil}
-use Rattle.std.specs.Prelude.{All}
-use Rattle.std.proofs.lemmas.List.{get_or-set_same}
-use Rattle.std.proofs.lemmas.List.Elements.{All-append}
-use mathlib.Core.Option.{some, none}
+use Rattle.board_share.proofs.Common.{◌≡◌, ℕ, zero, suc, ◌+◌, ◌≢◌, List, [], ◌∷◌, ◌++◌, length, get_or, set, sym, ap, ◌∙◌, arith, append_assoc, length-append, append-nil, All, get_or-set_same, All-append, some, none, get_elem?, Setup, Content, BoardEvent, content, turn, View, live_count, Homes, Past, Sees, Counted}
 use mathlib.Core.Option as maybe
-use lib.ListN.{get_elem?}
-use Rattle.board_history.specs.Board.{Setup, Content}
-use Rattle.board_share.specs.Views.{BoardEvent, content, turn, View, live_count}
-use Rattle.board_share.specs.Rule.{Homes, Past, Sees, Counted}
 use Rattle.board_share.proofs.Views.{each_set}
 
 pub all_one : {X : Type 0} (P : X → Type 0) (x : X) → P x → All P (x ∷ [])

@@ -1,16 +1,6 @@
 -- A join keeps the rule, and what the read after it tells.
-use Rattle.std.proofs.Common.{◌≡◌, ◌≢◌, ℕ, Bool, true, false, zero, suc, ◌+◌, ◌<◌, ◌≤◌, List, [], ◌∷◌, ◌++◌, length, set, subst, sym, ap, ◌∙◌, refl, arith, append-nil}
-use Rattle.std.specs.Prelude.{All, Contains, nat_lt, if◌then◌else◌}
-use Rattle.std.proofs.lemmas.List.{set-get_or}
-use mathlib.Core.Option.{some, none}
-use lib.ListN.{get_elem?}
+use Rattle.board_share.proofs.Common.{◌≡◌, ◌≢◌, ℕ, Bool, true, false, zero, suc, ◌+◌, ◌<◌, ◌≤◌, List, [], ◌∷◌, ◌++◌, length, set, subst, sym, ap, ◌∙◌, refl, arith, append-nil, All, Contains, nat_lt, if◌then◌else◌, set-get_or, some, none, get_elem?, Joins, Allows, step, keeps, set_else, Content, BoardEvent, caller_of, Stage, idle, turn, spent, joined, View, at_stage, nobody, glued, longer, without, live_count, ticket_count, Shared, Sees, Past, Joined, Callers, Mine, told, OnlyMade, HasJoined}
 use Rattle.std.proofs.lemmas.Bool.Decides.{nat_tests}
-use Rattle.atomic_table.specs.Table.{Joins, Allows, step, keeps}
-use Rattle.atomic_table.proofs.Lists.{set_else}
-use Rattle.board_history.specs.Board.{Content}
-use Rattle.board_share.specs.Views.{BoardEvent, caller_of, Stage, idle, turn, spent, joined, View, at_stage, nobody, glued, longer, without, live_count, ticket_count}
-use Rattle.board_share.specs.Rule.{Shared, Sees, Past, Joined, Callers}
-use Rattle.board_share.specs.Tells.{Mine, told, OnlyMade, HasJoined}
 use Rattle.board_share.proofs.Views.{each_set, pairs_set, sum_set, set_at, one_view, there_set}
 use Rattle.board_share.proofs.TicketSteps.{kept_tickets}
 use Rattle.board_share.proofs.SlotSteps.{kept_slot}

@@ -1,3 +1,5 @@
+-- The names from elsewhere that the proofs here cite.
+pub mod Common
 -- what holds of each view, and of each two, after one is changed
 pub mod Views
 -- part 1 of the rule after each kind of step: who waits
@@ -24,3 +26,5 @@ pub mod Splits
 pub mod Joins
 -- a call that changes nothing was answered at what is then seen
 pub mod Unmoved
+-- The lemmas that answers cite.
+pub mod Lemmas

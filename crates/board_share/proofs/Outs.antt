@@ -1,10 +1,5 @@
 -- The list of the callers whose seats are out.
-use Rattle.std.proofs.Common.{◌≡◌, ◌≢◌, ℕ, Bool, zero, suc, ◌+◌, ◌<◌, ◌⊎◌, inl, inr, ⊎_elim, List, [], ◌∷◌, ◌++◌, length, slice_index_or, subst, sym, ◌∙◌, refl, arith, eq-eqb, ne_eqb}
-use Rattle.std.specs.Prelude.{All, Contains, ◌==◌, if◌then◌else◌}
-use Rattle.std.proofs.lemmas.List.Elements.{Contains-append_right, Contains-append_cases}
-use native.Mathlib.Decide.{ℕ_discrete}
-use Rattle.board_share.specs.Views.{without}
-use Rattle.board_share.specs.Rule.{Differ}
+use Rattle.board_share.proofs.Common.{◌≡◌, ◌≢◌, ℕ, Bool, zero, suc, ◌+◌, ◌<◌, ◌⊎◌, inl, inr, ⊎_elim, List, [], ◌∷◌, ◌++◌, length, slice_index_or, subst, sym, ◌∙◌, refl, arith, eq-eqb, ne_eqb, All, Contains, ◌==◌, if◌then◌else◌, Contains-append_right, Contains-append_cases, ℕ_discrete, without, Differ}
 
 pub has_head : {A : Type 0} (x : A) (xs : List A) → Contains (x ∷ xs) x
 has_head x xs = (zero, omega arith, refl)

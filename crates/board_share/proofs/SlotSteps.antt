@@ -1,12 +1,6 @@
 -- Where the board is, after each kind of step.
-use Rattle.std.proofs.Common.{◌≡◌, ℕ, ◌+◌, List, length, set, subst, sym, ap, ◌∙◌, refl, arith}
-use mathlib.Core.Option.{some, none}
+use Rattle.board_share.proofs.Common.{◌≡◌, ℕ, ◌+◌, List, length, set, subst, sym, ap, ◌∙◌, refl, arith, some, none, get_elem?, set_here, set_else, Content, Stage, waits, turn, View, Homes, HasTicket, Tickets, Spot, home, away, InSpot, Slot}
 use mathlib.Core.Option as maybe
-use lib.ListN.{get_elem?}
-use Rattle.atomic_table.proofs.Lists.{set_here, set_else}
-use Rattle.board_history.specs.Board.{Content}
-use Rattle.board_share.specs.Views.{Stage, waits, turn, View}
-use Rattle.board_share.specs.Rule.{Homes, HasTicket, Tickets, Spot, home, away, InSpot, Slot}
 use Rattle.board_share.proofs.Views.{each_set, one_view, set_at}
 
 -- a view with a turn that is not the other's is another view

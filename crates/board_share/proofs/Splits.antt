@@ -1,14 +1,5 @@
 -- A split keeps the rule.
-use Rattle.std.proofs.Common.{⊎_elim, ◌≡◌, ℕ, suc, ◌+◌, ◌<◌, ◌≤◌, List, [], ◌∷◌, ◌++◌, length, set, subst, sym, ap, ◌∙◌, refl, arith}
-use Rattle.std.specs.Prelude.{All, Contains}
-use Rattle.std.proofs.lemmas.List.Elements.{All-append, Contains-append_left, Contains-append_cases}
-use mathlib.Core.Option.{some}
-use lib.ListN.{get_elem?}
-use Rattle.atomic_table.specs.Table.{Splits}
-use Rattle.atomic_table.proofs.Lists.{at_longer, at_last}
-use Rattle.board_history.specs.Board.{Setup, Content}
-use Rattle.board_share.specs.Views.{BoardEvent, caller_of, Stage, idle, turn, View, cut_left, cut_right, live_count, ticket_count}
-use Rattle.board_share.specs.Rule.{Homes, Shared, Sees, Spot, home, away, InSpot, HasTicket, Joined, Tickets, Slot, Counted, Callers}
+use Rattle.board_share.proofs.Common.{⊎_elim, ◌≡◌, ℕ, suc, ◌+◌, ◌<◌, ◌≤◌, List, [], ◌∷◌, ◌++◌, length, set, subst, sym, ap, ◌∙◌, refl, arith, All, Contains, All-append, Contains-append_left, Contains-append_cases, some, get_elem?, Splits, at_longer, at_last, Setup, Content, BoardEvent, caller_of, Stage, idle, turn, View, cut_left, cut_right, live_count, ticket_count, Homes, Shared, Sees, Spot, home, away, InSpot, HasTicket, Joined, Tickets, Slot, Counted, Callers}
 use Rattle.board_share.proofs.Views.{each_set, pairs_set, each_snoc, pairs_snoc, sum_set, sum_snoc, set_at, one_view, there_set}
 use Rattle.board_share.proofs.TicketSteps.{kept_tickets}
 use Rattle.board_share.proofs.SlotSteps.{kept_slot}

@@ -1,15 +1,5 @@
 -- Each step keeps the rule.
-use Rattle.std.proofs.Common.{◌≡◌, ℕ, ◌+◌, ◌%◌, ◌^◌, ◌<◌, List, [], ◌∷◌, ◌++◌, length, get_or, set, subst, sym, ap, ◌∙◌, refl, arith, length-set, length-append, ⊎_elim}
-use Rattle.std.proofs.lemmas.List.{get_or-set_other, set-get_or}
-use mathlib.Core.Option.{some, none}
-use lib.ListN.{get_elem?}
-use native.Mathlib.Decide.{ℕ_discrete}
-use Rattle.atomic_table.proofs.Lists.{set_again, set_here}
-use Rattle.atomic_table.specs.Table.{State, Step, step, Act, keeps, takes, gives, Allows, Valid, carried_after, stepped}
-use Rattle.board_history.specs.Board.{Setup, Content}
-use Rattle.board_share.specs.Views.{BoardEvent, caller_of, content, Stage, idle, waits, turn, View, at_stage, live_count, ticket_count}
-use Rattle.board_share.specs.Rule.{Shared, home, away, HasTicket, Joined}
-use Rattle.board_share.specs.Tells.{Follows, Mine, drew, Took, ticket_of, looked, hand_history, grew, passed}
+use Rattle.board_share.proofs.Common.{◌≡◌, ℕ, ◌+◌, ◌%◌, ◌^◌, ◌<◌, List, [], ◌∷◌, ◌++◌, length, get_or, set, subst, sym, ap, ◌∙◌, refl, arith, length-set, length-append, ⊎_elim, get_or-set_other, set-get_or, some, none, get_elem?, ℕ_discrete, set_again, set_here, State, Step, step, Act, keeps, takes, gives, Allows, Valid, carried_after, stepped, Setup, Content, BoardEvent, caller_of, content, Stage, idle, waits, turn, View, at_stage, live_count, ticket_count, Shared, home, away, HasTicket, Joined, Follows, Mine, drew, Took, ticket_of, looked, hand_history, grew, passed}
 use Rattle.board_share.proofs.TicketSteps.{is_served, drawn, kept_tickets, passed_on}
 use Rattle.board_share.proofs.SlotSteps.{which, same_board, at_home, in_hand, taken, kept_slot, kept_turn, returned}
 use Rattle.board_share.proofs.HistorySteps.{not_out, sees_all, kept_history, grown}

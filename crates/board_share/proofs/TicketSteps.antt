@@ -1,13 +1,6 @@
 -- The tickets, after each kind of step.
-use Rattle.std.proofs.Common.{◌≡◌, ℕ, ◌+◌, ◌%◌, ◌^◌, ◌<◌, ◌≤◌, ◌≢◌, List, length, get_or, set, subst, sym, ap, ◌∙◌, refl, arith}
-use Rattle.std.proofs.lemmas.List.{get_or-set_same, get_or-set_other}
-use Rattle.std.proofs.lemmas.List.Sums.{sum_by-le-sum_by}
+use Rattle.board_share.proofs.Common.{◌≡◌, ℕ, ◌+◌, ◌%◌, ◌^◌, ◌<◌, ◌≤◌, ◌≢◌, List, length, get_or, set, subst, sym, ap, ◌∙◌, refl, arith, get_or-set_same, get_or-set_other, sum_by-le-sum_by, some, get_elem?, one_turn, Stage, idle, waits, turn, spent, joined, View, at_stage, ticket_count, live_count, HasTicket, tickets_of, live_of, Tickets}
 use Rattle.std.proofs.Math.Nat.{mod-add-mod}
-use mathlib.Core.Option.{some}
-use lib.ListN.{get_elem?}
-use Rattle.atomic_table.proofs.Lists.{one_turn}
-use Rattle.board_share.specs.Views.{Stage, idle, waits, turn, spent, joined, View, at_stage, ticket_count, live_count}
-use Rattle.board_share.specs.Rule.{HasTicket, tickets_of, live_of, Tickets}
 use Rattle.board_share.proofs.Views.{each_set, pairs_set, sum_set}
 
 -- no more seats wait than there are

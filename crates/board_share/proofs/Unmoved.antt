@@ -1,20 +1,11 @@
 -- A call that changes nothing was answered at what is then seen.
-use Rattle.std.proofs.Common.{◌≡◌, ℕ, List, refl, subst, sym, ap, ◌∙◌}
-use Rattle.board_history.specs.Board.{Answer, Content, rules_of}
-use Rattle.board_history.specs.Calls.{differs_from, claim_answer, after_claim, post_answer, after_post}
-use Rattle.board_history.specs.Rounds.{ClaimReply, Finished, Halted, GivenTask, NotYet, PostReply, OtherProposal, OtherUnit, OtherContent, Doubled, OtherHolder, TakenPost, claim_reply, post_reply, post_event, posts, with_claim, with_answer}
+use Rattle.board_share.proofs.Common.{◌≡◌, ℕ, List, refl, subst, sym, ap, ◌∙◌, Answer, Content, rules_of, differs_from, claim_answer, after_claim, post_answer, after_post, ClaimReply, Finished, Halted, GivenTask, NotYet, PostReply, OtherProposal, OtherUnit, OtherContent, Doubled, OtherHolder, TakenPost, claim_reply, post_reply, post_event, posts, with_claim, with_answer, AnyUnit, PriceLists, claim_of, posted_of, LeavesTask, Called, UnlessGiven, UnlessTaken, BoardEvent, content, View}
 use Rattle.board_history.specs.Tasks.{Difference}
-use Rattle.uc_model.specs.Data.{AnyUnit, PriceLists}
 use Rattle.uc_model.specs.declared.cases.Task.{Task}
-use Rattle.board_core.specs.Replies.{claim_of, posted_of}
-use Rattle.board_core.specs.Tasks.{LeavesTask}
 use Rattle.board_core.specs.declared.replies.Claim.{Claim}
 use Rattle.board_core.specs.declared.replies.Claim.TheVariants as claim
 use Rattle.board_core.specs.declared.replies.Posted.{Posted}
 use Rattle.board_core.specs.declared.replies.Posted.TheVariants as posted
-use Rattle.board_share.specs.Tells.{Called}
-use Rattle.board_share.specs.Unchanged.{UnlessGiven, UnlessTaken}
-use Rattle.board_share.specs.Views.{BoardEvent, content, View}
 
 -- where the call makes no event, the board that answers is the one that is then seen
 still : (tells : Content → Type 0) (after : Content → Content) (v w : View) (q : Called tells after v w) → (after (content v.setup q.before)).events ≡ q.before → tells (content w.setup w.seen)

@@ -1,17 +1,7 @@
 -- The steps of one call, put together.
-use Rattle.std.proofs.Common.{◌≡◌, ℕ, Bool, true, false, cond, inl, inr, List, [], ◌∷◌, ◌++◌, length, refl, subst, sym, ap, ◌∙◌}
-use Rattle.std.proofs.lemmas.List.{length-map}
+use Rattle.board_share.proofs.Common.{◌≡◌, ℕ, Bool, true, false, cond, inl, inr, List, [], ◌∷◌, ◌++◌, length, refl, subst, sym, ap, ◌∙◌, length-map, rest, Answer, Content, rules_of, differs_from, after_claim, after_post, after_halt, Entry, Given, Taken, Closing, Stopped, is_halt_of, ClaimReply, Finished, Halted, GivenTask, NotYet, PostReply, OtherProposal, OtherUnit, OtherContent, Doubled, OtherHolder, TakenPost, claim_reply, post_reply, post_event, posts, with_post, is_closed, with_claim, with_answer, AnyUnit, PriceLists, BoardEvent, caller_of, content, idle, waits, View, at_stage, Sees, Mine, HasTaken, Follows, Called, OnlyMade}
 use Rattle.std.specs.List.{list_any}
-use Rattle.atomic_table.specs.Table.{rest}
-use Rattle.board_history.specs.Board.{Answer, Content, rules_of}
-use Rattle.board_history.specs.Calls.{differs_from, after_claim, after_post, after_halt}
 use Rattle.board_history.specs.Entries.{entry_of, entries_of}
-use Rattle.board_history.specs.declared.entries.Entry.{Entry}
-use Rattle.board_history.specs.Rounds.{Given, Taken, Closing, Stopped, is_halt_of, ClaimReply, Finished, Halted, GivenTask, NotYet, PostReply, OtherProposal, OtherUnit, OtherContent, Doubled, OtherHolder, TakenPost, claim_reply, post_reply, post_event, posts, with_post, is_closed, with_claim, with_answer}
-use Rattle.uc_model.specs.Data.{AnyUnit, PriceLists}
-use Rattle.board_share.specs.Views.{BoardEvent, caller_of, content, idle, waits, View, at_stage}
-use Rattle.board_share.specs.Rule.{Sees}
-use Rattle.board_share.specs.Tells.{Mine, HasTaken, Follows, Called, OnlyMade}
 
 pub calls : (tells : Content → Type 0) (after : Content → Content) (m0 m1 m2 m3 : Mine) (t : ℕ) (b b' : Content) → m0.0.stage ≡ idle → m1.0 ≡ at_stage m0.0 (waits t) → HasTaken m1 m2 b
     → tells b → b' ≡ after b → m3 ≡ (record m2.0 { seen = b'.events; stage = idle }, []) → Called tells after m0.0 m3.0

@@ -1,13 +1,6 @@
 -- Lists and units that were compared part by part.
-use Rattle.std.proofs.Common.{◌≡◌, ℕ, suc, ◌<◌, Some, List, [], ◌∷◌, length, map, get_or, refl, sym, ap, ◌∙◌, arith}
-use Rattle.std.specs.Prelude.{slice_get}
-use Rattle.uc_model.specs.Data.{ThermalUnit}
-use Rattle.uc_model.specs.PlainCases.{chosen_unit, task_unit}
-use Rattle.uc_model.specs.Reserved.{Reserved, items_in}
+use Rattle.board_task.proofs.Common.{◌≡◌, ℕ, suc, ◌<◌, Some, List, [], ◌∷◌, length, map, get_or, refl, sym, ap, ◌∙◌, arith, slice_get, ThermalUnit, chosen_unit, task_unit, Reserved, items_in, Block, UnitKind, HaveSamePowers, HaveSameTimes}
 use Rattle.uc_model.specs.declared.cases.Task.{Task}
-use Rattle.uc_model.specs.declared.units.Block.{Block}
-use Rattle.uc_model.specs.declared.units.UnitKind.{UnitKind}
-use Rattle.board_task.specs.Same.{HaveSamePowers, HaveSameTimes}
 use Rattle.board_task.proofs.UnitPlaces.{map_got}
 
 -- lists with the same item at each place

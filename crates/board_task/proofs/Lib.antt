@@ -1,3 +1,5 @@
+-- The names from elsewhere that the proofs here cite.
+pub mod Common
 -- flat lists that begin alike, and those of bids whose first periods have the same blocks
 pub mod Alike
 -- lists and units that were compared part by part
@@ -6,3 +8,5 @@ pub mod AsOne
 pub mod Numbers
 -- units of a case by their places
 pub mod UnitPlaces
+-- The lemmas that answers cite.
+pub mod Lemmas

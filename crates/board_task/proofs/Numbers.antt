@@ -1,9 +1,5 @@
 -- How long the flat lists of a bid's blocks are.
-use Rattle.std.proofs.Common.{◌≡◌, ℕ, suc, ◌*◌, ◌<◌, ◌≤◌, ℤ, List, [], ◌∷◌, length, get_or, refl, arith, length-append}
-use Rattle.std.specs.List.{flat_map}
-use Rattle.uc_model.specs.TaskLists.{block_numbers, period_numbers}
-use Rattle.uc_model.specs.declared.units.Block.{Block}
-use Rattle.board_task.specs.Same.{AreSame}
+use Rattle.board_task.proofs.Common.{◌≡◌, ℕ, suc, ◌*◌, ◌<◌, ◌≤◌, ℤ, List, [], ◌∷◌, length, get_or, refl, arith, length-append, flat_map, block_numbers, period_numbers, Block, AreSame}
 
 pub blocks_length : (xs : List Block) → length (flat_map block_numbers xs) ≡ 2 * length xs
 blocks_length [] = refl

@@ -1,17 +1,9 @@
 -- What all units of a case earn at best, unit by unit.
-use Rattle.std.proofs.Common.{◌≡◌, ℕ, zero, suc, ◌+◌, ℤ, Some, List, [], ◌∷◌, ◌++◌, take, sym, ap, ◌∙◌, subst, arith}
-use Rattle.std.specs.Prelude.{slice_get}
-use Rattle.std.specs.List.{AllZip}
+use Rattle.case_answers.proofs.Common.{◌≡◌, ℕ, zero, suc, ◌+◌, ℤ, Some, List, [], ◌∷◌, ◌++◌, take, sym, ap, ◌∙◌, subst, arith, slice_get, AllZip, Answered, AnyUnit, PriceLists, Schedule, Market, units, IsTop, schedule_of, IsFeasible, HasSchedules, CanAnswer}
 use Rattle.std.proofs.lemmas.Option.{none-some, same_Some}
 use Rattle.std.proofs.lemmas.Slice.Zip.{all_zipped_more}
-use Rattle.uc_model.specs.declared.units.Answered.{Answered}
-use Rattle.uc_model.specs.Data.{AnyUnit, PriceLists, Schedule, Market, units}
-use Rattle.uc_model.specs.Earnings.{IsTop}
-use Rattle.uc_model.specs.PlainUnits.{schedule_of}
-use Rattle.uc_model.specs.Schedules.{IsFeasible}
 use Rattle.case_answers.specs.declared.answer.Flow.{Flow}
 use Rattle.case_answers.specs.Answers.{IsAnswerAt}
-use Rattle.case_answers.specs.Tops.{HasSchedules, CanAnswer}
 
 one_of : {A B : Type 0} (Q : A → B → Type 0) (us : List A) (ys : List B) (k : ℕ) (u : A) → AllZip Q us ys → slice_get us k ≡ Some u → (y : B) × Q u y
 one_of Q [] ys k u h e = absurd (none-some u e)

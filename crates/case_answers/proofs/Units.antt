@@ -1,22 +1,11 @@
 -- The unit of a number.
-use Rattle.std.proofs.Common.{◌≡◌, ℕ, Bool, true, false, Some, List, ◌≤◌, length, refl, sym, subst, arith}
-use Rattle.std.specs.List.{All}
+use Rattle.case_answers.proofs.Common.{◌≡◌, ℕ, Bool, true, false, Some, List, ◌≤◌, length, refl, sym, subst, arith, All, IsTrue, IsFalse, slice_get, slice_index_or, room_of, Answered, ThermalUnit, NamedThermalUnit, AnyUnit, Thermal, PriceLists, Schedule, Market, units, earnings, IsThermalUnit, IsMarket, schedule_of, IsThermalFeasible, item_of, map_item, CanAnswer, points_of, IsBenchOver}
 use Rattle.std.proofs.lemmas.List.Elements.{All-map}
-use Rattle.std.specs.Prelude.{IsTrue, IsFalse, slice_get, slice_index_or}
-use Rattle.slope_list.specs.Slopes.{room_of}
 use Rattle.slope_list.specs.declared.slopes.Slopes.{Slopes}
-use Rattle.uc_model.specs.declared.units.Answered.{Answered}
 use Rattle.uc_model.specs.declared.units.Point.{Point}
-use Rattle.uc_model.specs.Data.{ThermalUnit, NamedThermalUnit, AnyUnit, Thermal, PriceLists, Schedule, Market, units}
-use Rattle.uc_model.specs.Earnings.{earnings}
-use Rattle.uc_model.specs.Limits.{IsThermalUnit, IsMarket}
-use Rattle.uc_model.specs.PlainUnits.{schedule_of}
 use Rattle.uc_model.specs.Runs.{Fits}
-use Rattle.uc_model.specs.Schedules.{IsThermalFeasible}
-use Rattle.uc_model.proofs.ListLaws.{item_of, map_item}
 use Rattle.unit_program.specs.Benches.{IsBenchFor, BenchesServeLess}
 use Rattle.unit_program.specs.declared.bench.Bench.{Bench}
-use Rattle.case_answers.specs.Tops.{CanAnswer, points_of, IsBenchOver}
 
 -- a thermal unit that isn't without a feasible schedule is answered
 pub record IsFound (g : ThermalUnit) (π : PriceLists) (a : Answered) : Type 0 where

@@ -1,12 +1,5 @@
 -- What follows from draws that are within their ranges.
-use Rattle.std.proofs.Common.{◌≡◌, ℕ, zero, suc, ◌+◌, ◌-◌, ◌*◌, ◌≤◌, refl, arith}
-use Rattle.std.proofs.Math.Nat.{div-le_self, mul-le-mul_left, min-le_left, min-le_right}
-use Rattle.std.proofs.lemmas.Nat.{mul-le}
-use Rattle.case_make.specs.declared.draws.UnitDraws.{UnitDraws}
-use Rattle.rand_pcg.specs.Lcg.{Lcg}
-use Rattle.case_make.specs.Drawn.{unit_draws, max_of, min_of, ramp_of, level_of, step_of, high_of, reserve_of, at_of, cost_of}
-use Rattle.case_make.specs.Sizes.{AreDrawn}
-use Rattle.case_make.specs.Words.{word_at}
+use Rattle.case_make.proofs.Common.{◌≡◌, ℕ, zero, suc, ◌+◌, ◌-◌, ◌*◌, ◌≤◌, refl, arith, div-le_self, mul-le-mul_left, min-le_left, min-le_right, mul-le, UnitDraws, Lcg, unit_draws, max_of, min_of, ramp_of, level_of, step_of, high_of, reserve_of, at_of, cost_of, AreDrawn, word_at}
 use Rattle.case_make.proofs.WordLaws.{drawn_within}
 
 -- a part of a whole in hundredths

@@ -1,10 +1,5 @@
 -- A unit that stays as it is before the horizon keeps all rules.
-use Rattle.std.proofs.Common.{◌≡◌, ℕ, zero, suc, ◌+◌, ◌<◌, ◌≤◌, ℤ, pos, ◌+ℤ◌, ◌-ℤ◌, ◌≤ℤ◌, Bool, true, false, not, ◌&&◌, if◌then◌else◌, length, slice_index, slice_index_or, refl, ap, sym, ◌∙◌, arith}
-use Rattle.std.proofs.lemmas.Int.{ints, clamps}
-use Rattle.uc_model.specs.declared.units.Mark.{Mark}
-use Rattle.uc_model.specs.declared.units.Mark.TheVariants.{Free, MustOn, MustOff}
-use Rattle.uc_model.specs.Data.{ThermalUnit, Schedule}
-use Rattle.uc_model.specs.Schedules.{on_in, above_min, above_with_reserve, starts_in, stops_in, mark_in, cap_of, IsPeriod, KeepsCommitment, KeepsDispatch, IsThermalFeasible}
+use Rattle.case_make.proofs.Common.{◌≡◌, ℕ, zero, suc, ◌+◌, ◌<◌, ◌≤◌, ℤ, pos, ◌+ℤ◌, ◌-ℤ◌, ◌≤ℤ◌, Bool, true, false, not, ◌&&◌, if◌then◌else◌, length, slice_index, slice_index_or, refl, ap, sym, ◌∙◌, arith, ints, clamps, Mark, Free, MustOn, MustOff, ThermalUnit, Schedule, on_in, above_min, above_with_reserve, starts_in, stops_in, mark_in, cap_of, IsPeriod, KeepsCommitment, KeepsDispatch, IsThermalFeasible}
 
 -- a schedule over n periods with one flag throughout, which is that of the unit before the horizon; the unit need not
 -- run, and its window is free

@@ -1,11 +1,5 @@
 -- What is drawn after so many words is what stands at that place.
-use Rattle.std.proofs.Common.{◌≡◌, ℕ, ◌+◌, ◌*◌, ◌/◌, List, [], ◌∷◌, map, refl, ap, sym, ◌∙◌, arith}
-use Rattle.std.specs.List.{range_with_len}
-use Rattle.rand_pcg.specs.Lcg.{Lcg}
-use Rattle.uc_model.specs.Data.{NamedThermalUnit, NamedRenewableUnit}
-use Rattle.case_make.specs.Drawn.{unit_draws, unit_of, unit_schedule, capacity_at, most_at, most_powers, renewable_of, full}
-use Rattle.case_make.specs.Made.{name_of, named_unit, unit_plan, named_renewable, renewable_plan, renewable_units, renewable_plans}
-use Rattle.case_make.specs.Words.{draw, word_at, moved_on}
+use Rattle.case_make.proofs.Common.{◌≡◌, ℕ, ◌+◌, ◌*◌, ◌/◌, List, [], ◌∷◌, map, refl, ap, sym, ◌∙◌, arith, range_with_len, Lcg, NamedThermalUnit, NamedRenewableUnit, unit_draws, unit_of, unit_schedule, capacity_at, most_at, most_powers, renewable_of, full, name_of, named_unit, unit_plan, named_renewable, renewable_plan, renewable_units, renewable_plans, draw, word_at, moved_on}
 use Rattle.case_make.proofs.WordLaws.{word_later}
 
 word_from : (n k m : ℕ) (g h : Lcg) → h ≡ moved_on n g → m ≡ n + k → word_at h k ≡ word_at g m

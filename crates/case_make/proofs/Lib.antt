@@ -1,3 +1,5 @@
+-- The names from elsewhere that the proofs here cite.
+pub mod Common
 -- ---- src/draws.rt
 -- the words of a generator that has moved on are those behind the ones that it gave
 pub mod WordLaws
@@ -22,3 +24,5 @@ pub mod FeasibleLaws
 pub mod MadeLaws
 -- a generated case is within the limits, and its schedule is feasible
 pub mod MarketLaws
+-- The lemmas that answers cite.
+pub mod Lemmas

@@ -1,8 +1,5 @@
 -- A loop that pushes what a function gives at each place.
-use Rattle.std.proofs.Common.{◌≡◌, ℕ, ◌+◌, List, [], ◌∷◌, ◌++◌, map, refl, ap, sym, ◌∙◌, append_assoc, arith}
-use Rattle.std.proofs.lemmas.List.FromFn.{map-range_with_len_more}
-use Rattle.std.proofs.lemmas.List.{map_push}
-use Rattle.std.specs.List.{range_with_len}
+use Rattle.case_make.proofs.Common.{◌≡◌, ℕ, ◌+◌, List, [], ◌∷◌, ◌++◌, map, refl, ap, sym, ◌∙◌, append_assoc, arith, map-range_with_len_more, map_push, range_with_len}
 
 module _ {X : Type 0} (f : ℕ → X) (k : ℕ) where
   pub pushed : (xs ys : List X) (x : X) → ys ≡ xs ++ x ∷ [] → xs ≡ map f (range_with_len 0 k) → x ≡ f k → ys ≡ map f (range_with_len 0 (k + 1))

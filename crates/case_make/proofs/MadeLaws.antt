@@ -1,13 +1,5 @@
 -- What is built step by step is the generated case and schedule.
-use Rattle.std.proofs.Common.{◌≡◌, ℕ, ◌*◌, ◌/◌, ◌≤◌, ℤ, pos, List, [], ◌++◌, replicate, length, ap, ◌∙◌, arith}
-use Rattle.std.proofs.lemmas.List.{length-replicate, get_or-replicate}
-use Rattle.std.proofs.lemmas.List.FromFn.{fill_by_all}
-use Rattle.rand_pcg.specs.Lcg.{Lcg}
-use Rattle.uc_model.specs.Data.{NamedThermalUnit, NamedRenewableUnit, NamedBidUnit, Schedule, Market}
-use Rattle.uc_model.specs.Sums.{int_at}
-use Rattle.case_make.specs.Grown.{AreSums, IsSmall}
-use Rattle.case_make.specs.Made.{thermal_units, thermal_plan, renewable_units, renewable_plans, power_sum, reserve_sum, demand_of, requirement_of, plan_from, market_from}
-use Rattle.case_make.specs.Words.{moved_on}
+use Rattle.case_make.proofs.Common.{◌≡◌, ℕ, ◌*◌, ◌/◌, ◌≤◌, ℤ, pos, List, [], ◌++◌, replicate, length, ap, ◌∙◌, arith, length-replicate, get_or-replicate, fill_by_all, Lcg, NamedThermalUnit, NamedRenewableUnit, NamedBidUnit, Schedule, Market, int_at, AreSums, IsSmall, thermal_units, thermal_plan, renewable_units, renewable_plans, power_sum, reserve_sum, demand_of, requirement_of, plan_from, market_from, moved_on}
 use Rattle.case_make.proofs.LaterLaws.{renewable_units_later, renewable_plans_later}
 
 pub plan_made : (g h : Lcg) (before plan : List Schedule) → before ≡ thermal_plan g 73 → plan ≡ before ++ renewable_plans h 0 81 → h ≡ moved_on (9 * 73) g → plan ≡ plan_from g

@@ -1,24 +1,7 @@
 -- A generated case is within the limits, and its schedule is feasible.
-use Rattle.std.proofs.Common.{◌≡◌, ℕ, suc, ◌*◌, ◌/◌, ◌<◌, ◌≤◌, ℤ, pos, ◌≤ℤ◌, Bool, true, false, if◌then◌else◌, List, [], ◌∷◌, ◌++◌, map, replicate, length, get_or, slice_index, slice_index_or, refl, ap, sym, ◌∙◌, subst, arith}
-use Rattle.std.proofs.lemmas.Int.{ints}
-use Rattle.std.proofs.lemmas.List.{append-nil, length-replicate, get_or-replicate}
-use Rattle.std.proofs.lemmas.List.Elements.{All-map, All-nil}
-use Rattle.std.proofs.lemmas.List.FromFn.{length-map-range_with_len, get_or-map-range_with_len}
-use Rattle.std.proofs.lemmas.List.Sums.{sum_by-cons}
-use Rattle.std.specs.List.{All, AllZip, sum_by, range_with_len}
-use Rattle.rand_pcg.specs.Lcg.{Lcg}
-use Rattle.uc_model.specs.declared.units.Mark.TheVariants.{Free}
-use Rattle.uc_model.specs.Data.{AnyUnit, Thermal, Flat, NamedThermalUnit, NamedRenewableUnit, NamedBidUnit, Schedule, Market, units}
-use Rattle.uc_model.specs.Limits.{IsPower, IsThermalUnit, IsRenewableUnit, IsBidUnit, IsMarket}
-use Rattle.uc_model.specs.Schedules.{reserve_in, IsThermalFeasible, IsFeasible}
+use Rattle.case_make.proofs.Common.{◌≡◌, ℕ, suc, ◌*◌, ◌/◌, ◌<◌, ◌≤◌, ℤ, pos, ◌≤ℤ◌, Bool, true, false, if◌then◌else◌, List, [], ◌∷◌, ◌++◌, map, replicate, length, get_or, slice_index, slice_index_or, refl, ap, sym, ◌∙◌, subst, arith, ints, append-nil, length-replicate, get_or-replicate, All-map, All-nil, length-map-range_with_len, get_or-map-range_with_len, sum_by-cons, All, AllZip, sum_by, range_with_len, Lcg, Free, AnyUnit, Thermal, Flat, NamedThermalUnit, NamedRenewableUnit, NamedBidUnit, Schedule, Market, units, IsPower, IsThermalUnit, IsRenewableUnit, IsBidUnit, IsMarket, reserve_in, IsThermalFeasible, IsFeasible, int_at, total, zip_with, UnitDraws, unit_draws, max_of, min_of, ramp_of, is_on, level_of, high_of, reserve_of, is_high, power_at, unit_of, running, idle, unit_schedule, most_powers, renewable_of, IsSmall, unit_place, named_unit, unit_plan, thermal_units, thermal_plan, renewable_place, named_renewable, renewable_plan, renewable_units, renewable_plans, power_sum, reserve_sum, demand_of, requirement_of, plan_from, market_from, AreDrawn}
 use Rattle.uc_model.specs.Earnings.{supply_in}
-use Rattle.uc_model.specs.Sums.{int_at, total, zip_with}
 use Rattle.uc_model.specs.Systems.{total_power, total_reserve, IsFeasiblePlan}
-use Rattle.case_make.specs.declared.draws.UnitDraws.{UnitDraws}
-use Rattle.case_make.specs.Drawn.{unit_draws, max_of, min_of, ramp_of, is_on, level_of, high_of, reserve_of, is_high, power_at, unit_of, running, idle, unit_schedule, most_powers, renewable_of}
-use Rattle.case_make.specs.Grown.{IsSmall}
-use Rattle.case_make.specs.Made.{unit_place, named_unit, unit_plan, thermal_units, thermal_plan, renewable_place, named_renewable, renewable_plan, renewable_units, renewable_plans, power_sum, reserve_sum, demand_of, requirement_of, plan_from, market_from}
-use Rattle.case_make.specs.Sizes.{AreDrawn}
 use Rattle.case_make.proofs.Bounds.{has_range, draws_within}
 use Rattle.case_make.proofs.FeasibleLaws.{Stays, IsBetween, IsIdle, on_feasible, off_feasible}
 use Rattle.case_make.proofs.RenewableLaws.{powers_within, renewable_limited, full_feasible}

@@ -1,19 +1,5 @@
 -- A generated renewable unit is within the limits, and giving its greatest power is feasible.
-use Rattle.std.proofs.Common.{◌≡◌, ℕ, zero, suc, ◌+◌, ◌*◌, ◌≤◌, ℤ, pos, true, false, List, [], ◌∷◌, map, replicate, get_or, slice_index, refl, sym, ◌∙◌, arith}
-use Rattle.std.proofs.lemmas.Int.{ints}
-use Rattle.std.proofs.lemmas.List.{length-map, length-replicate, get_or-replicate}
-use Rattle.std.proofs.lemmas.List.Elements.{All-map, All-weaker, All-replicate}
-use Rattle.std.proofs.lemmas.List.FromFn.{length-map-range_with_len}
-use Rattle.std.proofs.Math.Nat.{mul-le-mul_left}
-use Rattle.std.specs.List.{range_with_len}
-use Rattle.rand_pcg.specs.Lcg.{Lcg}
-use Rattle.uc_model.specs.Data.{RenewableUnit}
-use Rattle.uc_model.specs.Limits.{IsPower, IsRenewableUnit}
-use Rattle.uc_model.specs.Schedules.{IsRenewableFeasible}
-use Rattle.uc_model.specs.Sums.{int_at}
-use Rattle.case_make.specs.Drawn.{capacity_at, most_at, most_powers, renewable_of, full}
-use Rattle.case_make.specs.Sizes.{ArePowers}
-use Rattle.case_make.specs.Words.{draw, word_at}
+use Rattle.case_make.proofs.Common.{◌≡◌, ℕ, zero, suc, ◌+◌, ◌*◌, ◌≤◌, ℤ, pos, true, false, List, [], ◌∷◌, map, replicate, get_or, slice_index, refl, sym, ◌∙◌, arith, ints, length-map, length-replicate, get_or-replicate, All-map, All-weaker, All-replicate, length-map-range_with_len, mul-le-mul_left, range_with_len, Lcg, RenewableUnit, IsPower, IsRenewableUnit, IsRenewableFeasible, int_at, capacity_at, most_at, most_powers, renewable_of, full, ArePowers, draw, word_at}
 use Rattle.case_make.proofs.WordLaws.{drawn_within}
 
 pub most_low : (g : Lcg) (place k : ℕ) → most_at g place k ≤ 100000

@@ -1,19 +1,6 @@
 -- The sums of generated schedules, and how large they can be.
-use Rattle.std.proofs.Common.{◌≡◌, ℕ, ◌*◌, ◌<◌, ◌≤◌, ℤ, pos, Bool, true, false, if◌then◌else◌, List, [], ◌++◌, map, replicate, length, get_or, slice_index, ap, sym, ◌∙◌, inl, inr, arith}
+use Rattle.case_make.proofs.Common.{◌≡◌, ℕ, ◌*◌, ◌<◌, ◌≤◌, ℤ, pos, Bool, true, false, if◌then◌else◌, List, [], ◌++◌, map, replicate, length, get_or, slice_index, ap, sym, ◌∙◌, inl, inr, arith, length-replicate, get_or-replicate, get_or_past, All-map, length-map-range_with_len, get_or-map-range_with_len, sum_by-append, sum_by-le, All, range_with_len, Lcg, Schedule, int_at, UnitDraws, unit_draws, is_on, level_of, high_of, reserve_of, is_high, power_at, running, idle, unit_schedule, most_powers, full, AreSums, IsSmall, IsSteady, unit_place, unit_plan, thermal_plan, renewable_place, renewable_plan, renewable_plans, power_sum, reserve_sum, AreDrawn, ArePowers}
 use Rattle.std.proofs.lemmas.Bool.{cases_lt}
-use Rattle.std.proofs.lemmas.List.{length-replicate, get_or-replicate, get_or_past}
-use Rattle.std.proofs.lemmas.List.Elements.{All-map}
-use Rattle.std.proofs.lemmas.List.FromFn.{length-map-range_with_len, get_or-map-range_with_len}
-use Rattle.std.proofs.lemmas.List.Sums.{sum_by-append, sum_by-le}
-use Rattle.std.specs.List.{All, range_with_len}
-use Rattle.rand_pcg.specs.Lcg.{Lcg}
-use Rattle.uc_model.specs.Data.{Schedule}
-use Rattle.uc_model.specs.Sums.{int_at}
-use Rattle.case_make.specs.declared.draws.UnitDraws.{UnitDraws}
-use Rattle.case_make.specs.Drawn.{unit_draws, is_on, level_of, high_of, reserve_of, is_high, power_at, running, idle, unit_schedule, most_powers, full}
-use Rattle.case_make.specs.Grown.{AreSums, IsSmall, IsSteady}
-use Rattle.case_make.specs.Made.{unit_place, unit_plan, thermal_plan, renewable_place, renewable_plan, renewable_plans, power_sum, reserve_sum}
-use Rattle.case_make.specs.Sizes.{AreDrawn, ArePowers}
 use Rattle.case_make.proofs.Bounds.{has_range, draws_within}
 use Rattle.case_make.proofs.RenewableLaws.{powers_within}
 

@@ -1,18 +1,7 @@
 -- A generated thermal unit is within the limits.
-use Rattle.std.proofs.Common.{◌≡◌, ℕ, zero, suc, ◌+◌, ◌*◌, ◌≤◌, ℤ, pos, ◌≤ℤ◌, Bool, true, false, if◌then◌else◌, List, map, replicate, length, slice_index_or, refl, ap, sym, ◌∙◌, subst, arith, to_z, of_z}
-use Rattle.std.proofs.lemmas.Int.{ints, to_z-of_z}
-use Rattle.std.proofs.lemmas.List.{length-replicate}
+use Rattle.case_make.proofs.Common.{◌≡◌, ℕ, zero, suc, ◌+◌, ◌*◌, ◌≤◌, ℤ, pos, ◌≤ℤ◌, Bool, true, false, if◌then◌else◌, List, map, replicate, length, slice_index_or, refl, ap, sym, ◌∙◌, subst, arith, to_z, of_z, ints, to_z-of_z, length-replicate, All, range_with_len, Point, Mark, Free, ThermalUnit, IsFrom, IsLag, IsPoint, Spans, IsThermalUnit, AreLagsOrdered, ArePointsOrdered, UnitDraws, max_of, min_of, ramp_of, is_on, level_of, start_cost_of, lags_of, at_of, point_of, unit_of, AreDrawn}
 use Rattle.std.specs.Int.{w64}
-use Rattle.std.specs.List.{All, range_with_len}
 use Rattle.uc_model.specs.declared.units.Lag.{Lag}
-use Rattle.uc_model.specs.declared.units.Point.{Point}
-use Rattle.uc_model.specs.declared.units.Mark.{Mark}
-use Rattle.uc_model.specs.declared.units.Mark.TheVariants.{Free}
-use Rattle.uc_model.specs.Data.{ThermalUnit}
-use Rattle.uc_model.specs.Limits.{IsFrom, IsLag, IsPoint, Spans, IsThermalUnit, AreLagsOrdered, ArePointsOrdered}
-use Rattle.case_make.specs.declared.draws.UnitDraws.{UnitDraws}
-use Rattle.case_make.specs.Drawn.{max_of, min_of, ramp_of, is_on, level_of, start_cost_of, lags_of, at_of, point_of, unit_of}
-use Rattle.case_make.specs.Sizes.{AreDrawn}
 use Rattle.case_make.proofs.Bounds.{has_range, at_first, at_last, at_rises, at_most, cost_range}
 
 -- ---- numbers that are kept

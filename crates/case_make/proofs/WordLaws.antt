@@ -1,10 +1,6 @@
 -- The words of a generator that has moved on are those behind the ones that it gave.
-use Rattle.std.proofs.Common.{◌≡◌, ℕ, zero, suc, ◌+◌, ◌-◌, ◌%◌, ◌<◌, ◌≤◌, refl, ap, sym, ◌∙◌, arith, zero-add}
-use Rattle.std.proofs.lemmas.Nat.{mod_below}
-use Rattle.rand_pcg.specs.Lcg.{Lcg, next_state, state_after}
+use Rattle.case_make.proofs.Common.{◌≡◌, ℕ, zero, suc, ◌+◌, ◌-◌, ◌%◌, ◌<◌, ◌≤◌, refl, ap, sym, ◌∙◌, arith, zero-add, mod_below, Lcg, next_state, state_after, IsDrawn, moved_on, word_at, draw}
 use Rattle.rand_pcg.specs.Pcg.{multiplier_64, pcg32}
-use Rattle.case_make.specs.Sizes.{IsDrawn}
-use Rattle.case_make.specs.Words.{moved_on, word_at, draw}
 
 states_join : (w m increment a b s : ℕ) → state_after w m increment b (state_after w m increment a s) ≡ state_after w m increment (a + b) s
 unfolding state_after

@@ -1,24 +1,7 @@
 -- A curve grows by the blocks of an edge, and is right once no edge leads on.
-use Rattle.std.proofs.Common.{◌≡◌, ℕ, suc, ◌+◌, ◌-◌, ◌*◌, ◌<◌, ◌≤◌, ◌⊎◌, inl, inr, ℤ, pos, ◌+ℤ◌, ◌-ℤ◌, ◌*ℤ◌, ◌≤ℤ◌, ◌<ℤ◌, Bool, true, false, cond, Some, None, List, [], ◌∷◌, ◌++◌, length, slice_index_or, refl, sym, ap, ◌∙◌, subst, arith, length-append}
-use Rattle.std.proofs.lemmas.Int.{ints}
-use Rattle.std.proofs.lemmas.List.{get_or_append_left, get_or_default}
+use Rattle.cost_curve.proofs.Common.{◌≡◌, ℕ, suc, ◌+◌, ◌-◌, ◌*◌, ◌<◌, ◌≤◌, ◌⊎◌, inl, inr, ℤ, pos, ◌+ℤ◌, ◌-ℤ◌, ◌*ℤ◌, ◌≤ℤ◌, ◌<ℤ◌, Bool, true, false, cond, Some, None, List, [], ◌∷◌, ◌++◌, length, slice_index_or, refl, sym, ap, ◌∙◌, subst, arith, length-append, ints, get_or_append_left, get_or_default, int_lt, All, option_map, Block, Curve, Point, rise_at, curve_value, envelope, line_at, width_of, mul-add, PowerCostsAreWithin, EnvelopeIsGreatest, rise_of, extended, IsBuilt, AreCostPoints, IsCostCurve, CanEvaluate, point_at, IsEdge, IsLast, IsVertex}
 use Rattle.std.proofs.Math.Seq.{get_or-append_seam}
 use Rattle.std.proofs.lemmas.List.Elements.{All-append}
-use Rattle.std.specs.Prelude.{int_lt}
-use Rattle.std.specs.List.{All}
-use Rattle.std.specs.Option.{option_map}
-use Rattle.uc_model.specs.declared.units.Block.{Block}
-use Rattle.uc_model.specs.declared.units.Curve.{Curve}
-use Rattle.uc_model.specs.declared.units.Point.{Point}
-use Rattle.uc_model.specs.Curves.{rise_at, curve_value}
-use Rattle.uc_model.specs.Envelope.{envelope, line_at}
-use Rattle.uc_model.specs.Schedules.{width_of}
-use Rattle.uc_model.proofs.IntLaws.{mul-add}
-use Rattle.uc_model.specs.BoundLaws.{PowerCostsAreWithin}
-use Rattle.uc_model.specs.Laws.{EnvelopeIsGreatest}
-use Rattle.cost_curve.specs.Building.{rise_of, extended, IsBuilt}
-use Rattle.cost_curve.specs.CostCurve.{AreCostPoints, IsCostCurve, CanEvaluate}
-use Rattle.cost_curve.specs.Edges.{point_at, IsEdge, IsLast, IsVertex}
 use Rattle.cost_curve.proofs.CurveLaws.{width-append, rise-append, rise_old, rise_new, end_is}
 use Rattle.cost_curve.proofs.EdgeLaws.{ordered_powers, price_rises}
 use Rattle.cost_curve.proofs.EnvelopeValues.{Spans-ordered, envelope_value, envelope_vertex, IsEnvelope-before, IsEnvelope-after}

@@ -1,16 +1,6 @@
 -- The cost of a power on an edge, as the code computes it.
-use Rattle.std.proofs.Common.{◌≡◌, ℕ, ◌<◌, ◌⊎◌, inl, inr, ℤ, pos, neg_ℤ, ◌+ℤ◌, ◌-ℤ◌, ◌*ℤ◌, ◌≤ℤ◌, ◌<ℤ◌, List, length, sym, ap, ◌∙◌, subst, arith, w64, FitsSigned, true, false}
-use Rattle.std.specs.Prelude.{int_le}
-use Rattle.std.proofs.lemmas.Int.{ints, to_z-of_z}
-use Rattle.uc_model.specs.declared.units.Point.{Point}
-use Rattle.uc_model.specs.Envelope.{envelope, line_at}
-use Rattle.uc_model.specs.BoundLaws.{PowerCostsAreWithin}
-use Rattle.uc_model.specs.Laws.{EnvelopeIsGreatest}
-use Rattle.uc_model.specs.Limits.{IsCost, IsFrom, IsPoint, IsPower, Spans}
-use Rattle.cost_curve.specs.CostCurve.{AreCostPoints, IsAmount}
-use Rattle.cost_curve.specs.Edges.{point_at, IsEdge, IsVertex}
+use Rattle.cost_curve.proofs.Common.{◌≡◌, ℕ, ◌<◌, ◌⊎◌, inl, inr, ℤ, pos, neg_ℤ, ◌+ℤ◌, ◌-ℤ◌, ◌*ℤ◌, ◌≤ℤ◌, ◌<ℤ◌, List, length, sym, ap, ◌∙◌, subst, arith, w64, FitsSigned, true, false, int_le, ints, to_z-of_z, Point, envelope, line_at, PowerCostsAreWithin, EnvelopeIsGreatest, IsCost, IsFrom, IsPoint, IsPower, Spans, AreCostPoints, IsAmount, point_at, IsEdge, IsVertex, fits64, stored}
 use Rattle.cost_curve.proofs.EnvelopeValues.{Spans-ordered, envelope_value, IsEnvelope-before, IsEnvelope-after}
-use Rattle.uc_model.proofs.SignedLaws.{fits64, stored}
 
 le_from_test : (a b : ℤ) → int_le a b ≡ true → a ≤ℤ b
 le_from_test a b h = grind (arith, ints)

@@ -1,14 +1,5 @@
 -- What blocks add, one block after another.
-use Rattle.std.proofs.Common.{◌≡◌, suc, ◌⊎◌, inl, inr, ℤ, pos, ◌+ℤ◌, ◌-ℤ◌, ◌*ℤ◌, ◌≤ℤ◌, ◌<ℤ◌, Bool, true, false, cond, Option, Some, None, List, [], ◌∷◌, ◌++◌, refl, sym, ap, ◌∙◌, arith}
-use Rattle.std.proofs.lemmas.Int.{ints}
-use Rattle.std.proofs.Math.IntN.{*ℤ-zero}
-use Rattle.std.specs.Prelude.{int_lt}
-use Rattle.std.specs.List.{All}
-use Rattle.std.specs.Option.{option_map}
-use Rattle.uc_model.specs.declared.units.Block.{Block}
-use Rattle.uc_model.specs.Curves.{rise_at, end_of}
-use Rattle.uc_model.specs.Schedules.{width_of}
-use Rattle.cost_curve.specs.Building.{rise_of}
+use Rattle.cost_curve.proofs.Common.{◌≡◌, suc, ◌⊎◌, inl, inr, ℤ, pos, ◌+ℤ◌, ◌-ℤ◌, ◌*ℤ◌, ◌≤ℤ◌, ◌<ℤ◌, Bool, true, false, cond, Option, Some, None, List, [], ◌∷◌, ◌++◌, refl, sym, ap, ◌∙◌, arith, ints, *ℤ-zero, int_lt, All, option_map, Block, rise_at, end_of, width_of, rise_of}
 
 abbrev pub AreWide : List Block → Type 0
 AreWide bs = All (λ (b : Block). pos 0 ≤ℤ b.width) bs

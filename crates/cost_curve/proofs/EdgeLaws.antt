@@ -1,11 +1,5 @@
 -- The edges of the envelope: how one is found point by point, and what it says of all points.
-use Rattle.std.proofs.Common.{◌≡◌, ℕ, zero, suc, ◌+◌, ◌-◌, ◌<◌, ◌≤◌, ◌⊎◌, inl, inr, ℤ, pos, neg_ℤ, ◌+ℤ◌, ◌-ℤ◌, ◌*ℤ◌, ◌≤ℤ◌, ◌<ℤ◌, List, length, sym, ap, subst, arith}
-use Rattle.std.proofs.lemmas.Int.{ints}
-use Rattle.std.proofs.Math.IntN.{*ℤ_comm, zero-*ℤ, *ℤ-one}
-use Rattle.uc_model.specs.declared.units.Point.{Point}
-use Rattle.uc_model.specs.Limits.{IsPoint, ArePointsOrdered}
-use Rattle.uc_model.proofs.IntLaws.{mul-add, mul-sub, mul-mono_of}
-use Rattle.cost_curve.specs.Edges.{point_at, AllFirst, net_at, IsSlope, IsEdge, IsLast, IsStart, IsVertex}
+use Rattle.cost_curve.proofs.Common.{◌≡◌, ℕ, zero, suc, ◌+◌, ◌-◌, ◌<◌, ◌≤◌, ◌⊎◌, inl, inr, ℤ, pos, neg_ℤ, ◌+ℤ◌, ◌-ℤ◌, ◌*ℤ◌, ◌≤ℤ◌, ◌<ℤ◌, List, length, sym, ap, subst, arith, ints, *ℤ_comm, zero-*ℤ, *ℤ-one, Point, IsPoint, ArePointsOrdered, mul-add, mul-sub, mul-mono_of, point_at, AllFirst, net_at, IsSlope, IsEdge, IsLast, IsStart, IsVertex}
 use Rattle.cost_curve.proofs.SlopeLaws.{before_times}
 
 -- ---- facts on the first points

@@ -1,18 +1,5 @@
 -- What the envelope is at a vertex and on an edge, and what it earns at a price.
-use Rattle.std.proofs.Common.{◌≡◌, ℕ, zero, suc, ◌<◌, ◌≤◌, ◌⊎◌, inl, inr, ℤ, pos, ◌+ℤ◌, ◌-ℤ◌, ◌*ℤ◌, ◌≤ℤ◌, List, [], ◌∷◌, map, length, Some, refl, sym, ap, ◌∙◌, subst, arith}
-use Rattle.std.proofs.lemmas.Int.{ints, clamps, fold-int_min_bounds, fold-int_max_bounds}
-use Rattle.std.proofs.lemmas.List.{get_or_default, get_or-map, length-map}
-use Rattle.std.proofs.Math.IntN.{*ℤ_comm}
-use Rattle.std.specs.List.{All, fold, reduce}
-use Rattle.std.specs.Int.{int_min, int_max}
-use Rattle.std.specs.Prelude.{unwrap_or}
-use Rattle.uc_model.specs.declared.units.Point.{Point}
-use Rattle.uc_model.specs.Envelope.{line_at, least_line, IsEnvelope, envelope}
-use Rattle.uc_model.specs.Laws.{EnvelopeIsGreatest, EnvelopeEarnsAsPoints}
-use Rattle.uc_model.specs.Limits.{ArePointsOrdered, Spans}
-use Rattle.uc_model.proofs.IntLaws.{mul-sub, mul-mono_of}
-use Rattle.cost_curve.specs.CostCurve.{AreCostPoints}
-use Rattle.cost_curve.specs.Edges.{point_at, AllFirst, net_at, IsEdge, IsVertex}
+use Rattle.cost_curve.proofs.Common.{◌≡◌, ℕ, zero, suc, ◌<◌, ◌≤◌, ◌⊎◌, inl, inr, ℤ, pos, ◌+ℤ◌, ◌-ℤ◌, ◌*ℤ◌, ◌≤ℤ◌, List, [], ◌∷◌, map, length, Some, refl, sym, ap, ◌∙◌, subst, arith, ints, clamps, fold-int_min_bounds, fold-int_max_bounds, get_or_default, get_or-map, length-map, *ℤ_comm, All, fold, reduce, int_min, int_max, unwrap_or, Point, line_at, least_line, IsEnvelope, envelope, EnvelopeIsGreatest, EnvelopeEarnsAsPoints, ArePointsOrdered, Spans, mul-sub, mul-mono_of, AreCostPoints, point_at, AllFirst, net_at, IsEdge, IsVertex}
 use Rattle.cost_curve.proofs.EdgeLaws.{ordered_powers, cheapest_before, IsVertex-next}
 use Rattle.cost_curve.proofs.SlopeLaws.{before_times}
 

@@ -1,3 +1,5 @@
+-- The names from elsewhere that the proofs here cite.
+pub mod Common
 -- ---- src/walk.rt and src/edges.rt: the edges of the envelope
 -- the slope from a point to one of more power, rounded up
 pub mod SlopeLaws
@@ -18,3 +20,5 @@ pub mod CurveLaws
 pub mod ValueLaws
 -- a curve grows by the blocks of an edge, and is right once no edge leads on
 pub mod BuildLaws
+-- The lemmas that answers cite.
+pub mod Lemmas

@@ -1,14 +1,6 @@
 -- The slope from a point to one of more power: a quotient of whole numbers, rounded up.
-use Rattle.std.proofs.Common.{◌≡◌, ℕ, zero, suc, ◌/◌, ◌≤◌, ℤ, pos, negsuc, neg_ℤ, ◌+ℤ◌, ◌-ℤ◌, ◌*ℤ◌, ◌≤ℤ◌, ◌<ℤ◌, refl, sym, ap, ◌∙◌, subst, arith, w64, FitsSigned, of_z}
-use Rattle.std.proofs.lemmas.Int.{ints, to_z-of_z}
-use Rattle.std.proofs.Math.IntN.{pos-*ℤ-pos, negsuc-*ℤ-pos, suc_ℤ-*ℤ, pred_ℤ-*ℤ, +ℤ_one, -ℤ_one}
+use Rattle.cost_curve.proofs.Common.{◌≡◌, ℕ, zero, suc, ◌/◌, ◌≤◌, ℤ, pos, negsuc, neg_ℤ, ◌+ℤ◌, ◌-ℤ◌, ◌*ℤ◌, ◌≤ℤ◌, ◌<ℤ◌, refl, sym, ap, ◌∙◌, subst, arith, w64, FitsSigned, of_z, ints, to_z-of_z, pos-*ℤ-pos, negsuc-*ℤ-pos, suc_ℤ-*ℤ, pred_ℤ-*ℤ, +ℤ_one, -ℤ_one, int_div_euclid, int_rem_euclid, Point, mul-sub, IsFrom, IsPoint, IsWithin, fits64, stored, IsSlope}
 use Rattle.std.proofs.Math.Nat.{div-le_self}
-use Rattle.std.specs.Int.{int_div_euclid, int_rem_euclid}
-use Rattle.uc_model.specs.declared.units.Point.{Point}
-use Rattle.uc_model.proofs.IntLaws.{mul-sub}
-use Rattle.uc_model.specs.Limits.{IsFrom, IsPoint}
-use Rattle.uc_model.proofs.SignedLaws.{IsWithin, fits64, stored}
-use Rattle.cost_curve.specs.Edges.{IsSlope}
 
 natural : (d : ℤ) → pos 1 ≤ℤ d → (n : ℕ) × (d ≡ pos n) × (1 ≤ n)
 natural (pos n) h = (n, refl, omega (arith, ints, h))

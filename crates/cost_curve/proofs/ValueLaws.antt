@@ -1,15 +1,5 @@
 -- The value of a curve at a place, found block by block.
-use Rattle.std.proofs.Common.{◌≡◌, inl, inr, ℤ, pos, ◌+ℤ◌, ◌-ℤ◌, ◌*ℤ◌, ◌≤ℤ◌, ◌<ℤ◌, Bool, true, false, cond, Option, Some, None, IsSome, List, [], ◌∷◌, refl, sym, ap, ◌∙◌, subst, arith}
-use Rattle.std.proofs.lemmas.Int.{ints}
-use Rattle.std.proofs.Math.IntN.{*ℤ-zero}
-use Rattle.std.specs.Prelude.{int_lt, is_some}
-use Rattle.std.specs.Option.{option_map}
-use Rattle.uc_model.specs.declared.units.Block.{Block}
-use Rattle.uc_model.specs.declared.units.Curve.{Curve}
-use Rattle.uc_model.specs.Curves.{rise_at, curve_value}
-use Rattle.uc_model.specs.Limits.{IsFrom}
-use Rattle.uc_model.specs.Schedules.{width_of}
-use Rattle.cost_curve.specs.CostCurve.{IsAmount, CanEvaluate}
+use Rattle.cost_curve.proofs.Common.{◌≡◌, inl, inr, ℤ, pos, ◌+ℤ◌, ◌-ℤ◌, ◌*ℤ◌, ◌≤ℤ◌, ◌<ℤ◌, Bool, true, false, cond, Option, Some, None, IsSome, List, [], ◌∷◌, refl, sym, ap, ◌∙◌, subst, arith, ints, *ℤ-zero, int_lt, is_some, option_map, Block, Curve, rise_at, curve_value, IsFrom, width_of, IsAmount, CanEvaluate}
 use Rattle.cost_curve.proofs.CurveLaws.{AreWide, head_wide, tail_wide, width_least, end_is, rise_in, rise_past, in_or_past}
 
 is_not_some : IsSome {T = ℤ} None → ⊥

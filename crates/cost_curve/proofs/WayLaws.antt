@@ -1,11 +1,7 @@
 -- The search for the way on, and for the first point, at one more point.
-use Rattle.std.proofs.Common.{◌≡◌, ℕ, ◌+◌, ◌<◌, ◌≤ℤ◌, ◌<ℤ◌, Option, Some, None, List, length, ap, subst, arith}
-use Rattle.std.proofs.lemmas.Int.{ints}
-use Rattle.uc_model.specs.declared.units.Point.{Point}
+use Rattle.cost_curve.proofs.Common.{◌≡◌, ℕ, ◌+◌, ◌<◌, ◌≤ℤ◌, ◌<ℤ◌, Option, Some, None, List, length, ap, subst, arith, ints, Point, AreCostPoints, point_at, IsSlope, LeadsOn, IsWayOn, IsStart}
 use Rattle.cost_curve.specs.declared.edges.Edge.{Edge}
 use Rattle.cost_curve.specs.declared.edges.Slope.{Slope}
-use Rattle.cost_curve.specs.CostCurve.{AreCostPoints}
-use Rattle.cost_curve.specs.Edges.{point_at, IsSlope, LeadsOn, IsWayOn, IsStart}
 use Rattle.cost_curve.proofs.EdgeLaws.{more, ordered_powers, IsBetter, IsWorse, IsEdge-first, IsEdge-passes, IsEdge-keeps, IsEdge-takes}
 
 module _ (ps : List Point) (from n : ℕ) where

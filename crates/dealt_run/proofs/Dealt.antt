@@ -1,25 +1,6 @@
 -- What jobs added up that were dealt each unit once: the sums of one plan.
-use Rattle.std.proofs.Common.{◌≡◌, ℕ, zero, suc, ◌+◌, ◌<◌, ℤ, pos, ◌+ℤ◌, Option, None, Some, List, [], ◌∷◌, ◌++◌, map, length, refl, sym, ap, ◌∙◌, subst, ⊎_elim, arith}
-use Rattle.std.proofs.Props.{props}
-use Rattle.std.proofs.Math.Logic.{∥∥₁_elim}
-use Rattle.std.proofs.lemmas.Int.{ints}
-use Rattle.std.proofs.lemmas.List.Elements.{Contains-append_cases}
-use Rattle.std.proofs.lemmas.Option.{slice_get_within, slice_get-get_or}
-use Rattle.std.specs.List.{All, AllZip, concat, range_with_len}
-use Rattle.std.specs.Option.{option_map_or}
-use Rattle.std.specs.Prelude.{Contains, IsPermutation, slice_get, slice_index_or}
-use Rattle.task_deal.specs.Jobs.{below, added, all_added, HasRun}
+use Rattle.dealt_run.proofs.Common.{◌≡◌, ℕ, zero, suc, ◌+◌, ◌<◌, ℤ, pos, ◌+ℤ◌, Option, None, Some, List, [], ◌∷◌, ◌++◌, map, length, refl, sym, ap, ◌∙◌, subst, ⊎_elim, arith, props, ∥∥₁_elim, ints, Contains-append_cases, slice_get_within, slice_get-get_or, All, AllZip, concat, range_with_len, option_map_or, Contains, IsPermutation, slice_get, slice_index_or, below, added, all_added, HasRun, AnyUnit, PriceLists, Schedule, Market, units, earnings, supply_in, OneLeast, Fits, reserve_in, int_at, total, sum_below, zip_with, total_power, total_reserve, head_of, tail_of, zip_item, length_same, Sums, part_of, sum_of, FitsAt, AreSumsOf, AreAdded, AreSumsOfAll}
 use Rattle.task_deal.specs.Laws.{SumsAreDealt, NumbersAreDealt}
-use Rattle.uc_model.specs.Data.{AnyUnit, PriceLists, Schedule, Market, units}
-use Rattle.uc_model.specs.Earnings.{earnings, supply_in}
-use Rattle.uc_model.specs.Laws.{OneLeast}
-use Rattle.uc_model.specs.Runs.{Fits}
-use Rattle.uc_model.specs.Schedules.{reserve_in}
-use Rattle.uc_model.specs.Sums.{int_at, total, sum_below, zip_with}
-use Rattle.uc_model.specs.Systems.{total_power, total_reserve}
-use Rattle.uc_model.proofs.ListLaws.{head_of, tail_of, zip_item, length_same}
-use Rattle.dealt_run.specs.declared.sums.Sums.{Sums}
-use Rattle.dealt_run.specs.Sums.{part_of, sum_of, FitsAt, AreSumsOf, AreAdded, AreSumsOfAll}
 use Rattle.dealt_run.proofs.Fitting.{Plan, the_plan, all_there}
 
 sum_front : (n : ℕ) (f : ℕ → ℤ) → sum_below (suc n) f ≡ f 0 +ℤ sum_below n (λ k. f (suc k))

@@ -1,15 +1,7 @@
 -- Plans of schedules that fit prices: there is at most one.
-use Rattle.std.proofs.Common.{◌≡◌, ℕ, List, [], ◌∷◌, ap, ◌∙◌, refl}
-use Rattle.std.proofs.Props.{props}
-use Rattle.std.proofs.Math.Logic.{∥∥₁_elim, ∥∥₁_map, ∥∥₁_prop}
+use Rattle.dealt_run.proofs.Common.{◌≡◌, ℕ, List, [], ◌∷◌, ap, ◌∙◌, refl, props, ∥∥₁_elim, ∥∥₁_map, ∥∥₁_prop, All, AllZip, AnyUnit, Thermal, Flat, Bid, PriceLists, Schedule, OneLeast, Fits, IsFeasible, head_of, tail_of, all_nil, all_cons}
 use mathlib.Core.HLevel.{×_prop, Σ_prop_path}
 use Rattle.std.specs.Coded.{Unit-prop}
-use Rattle.std.specs.List.{All, AllZip}
-use Rattle.uc_model.specs.Data.{AnyUnit, Thermal, Flat, Bid, PriceLists, Schedule}
-use Rattle.uc_model.specs.Laws.{OneLeast}
-use Rattle.uc_model.specs.Runs.{Fits}
-use Rattle.uc_model.specs.Schedules.{IsFeasible}
-use Rattle.uc_model.proofs.ListLaws.{head_of, tail_of, all_nil, all_cons}
 
 feasible-prop : (u : AnyUnit) (n : ℕ) (s : Schedule) → IsProp (IsFeasible u n s)
 feasible-prop (Thermal g) n s = hlevel props

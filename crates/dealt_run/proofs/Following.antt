@@ -1,19 +1,9 @@
 -- The prices that follow rows.
-use Rattle.std.proofs.Common.{◌≡◌, ℕ, suc, ◌-◌, ◌<◌, ◌≤◌, Bool, true, false, if◌then◌else◌, Option, ℤ, List, [], ◌∷◌, take, length, refl, sym, ap, ◌∙◌, arith, rules, get_or}
-use Rattle.std.proofs.lemmas.Bool.{false≢true}
+use Rattle.dealt_run.proofs.Common.{◌≡◌, ℕ, suc, ◌-◌, ◌<◌, ◌≤◌, Bool, true, false, if◌then◌else◌, Option, ℤ, List, [], ◌∷◌, take, length, refl, sym, ap, ◌∙◌, arith, rules, get_or, false≢true, length-map, get_or-take, length-take-le, length-range_with_len, slice_get-get_or, range_with_len, option_map_or, not, nat_le, IsTrue, IsFalse, slice_index_or, PriceLists, Market, Proposal, no_prices, age, stepped_prices, next_prices, is_settled, opening_prices_of, start_prices, IsNextProposal, IsLast}
 use Rattle.std.proofs.lemmas.Bool.Decides.{nat_tests}
-use Rattle.std.proofs.lemmas.List.{length-map, get_or-take, length-take-le}
-use Rattle.std.proofs.lemmas.List.FromFn.{length-range_with_len}
-use Rattle.std.proofs.lemmas.Option.{slice_get-get_or}
-use Rattle.std.specs.List.{range_with_len}
-use Rattle.std.specs.Option.{option_map_or}
-use Rattle.std.specs.Prelude.{not, nat_le, IsTrue, IsFalse, slice_index_or}
 use Rattle.price_move.specs.declared.next.Moved.{Moved}
 use Rattle.price_move.specs.declared.next.Moved.TheVariants.{Made, Settled}
 use Rattle.price_move.specs.Moves.{is_last_settled}
-use Rattle.uc_model.specs.Data.{PriceLists, Market}
-use Rattle.uc_model.specs.PriceRule.{Proposal, no_prices, age, stepped_prices, next_prices, is_settled, opening_prices_of, start_prices}
-use Rattle.dealt_run.specs.Rows.{IsNextProposal, IsLast}
 
 next_over : (m : Market) (cost : ℤ) (rows : List Proposal) → 1 ≤ length rows → length (next_prices m cost rows).energy ≡ m.periods
 next_over m cost [] some = absurd (omega (arith, some))

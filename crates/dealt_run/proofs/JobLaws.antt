@@ -1,23 +1,5 @@
 -- Jobs after a deal, and what they added up.
-use Rattle.std.proofs.Common.{◌≡◌, ℕ, ◌≤◌, ℤ, List, [], ◌∷◌, map, length, refl, sym, ap, ◌∙◌, subst, subst₂, arith}
-use Rattle.std.proofs.lemmas.List.{length-map}
-use Rattle.std.proofs.lemmas.List.FromFn.{length-range_with_len}
-use Rattle.std.specs.List.{All, AllZip, range_with_len}
-use Rattle.std.specs.Prelude.{slice_index_or}
-use Rattle.task_deal.specs.Jobs.{HasRun}
-use Rattle.uc_model.specs.BoundLaws.{EarningsAreWithin, EarnedSumsAreWithin, UnitsAreWithin}
-use Rattle.uc_model.specs.Data.{AnyUnit, PriceLists, Schedule, Market, units, unit_count}
-use Rattle.uc_model.specs.Earnings.{earnings, IsTop}
-use Rattle.uc_model.specs.Limits.{IsUnit, IsEarned, IsSum, IsMarket, ArePrices}
-use Rattle.uc_model.specs.PlainCases.{market_of}
-use Rattle.uc_model.specs.PlainUnits.{prices_of}
-use Rattle.uc_model.specs.Runs.{Fits}
-use Rattle.uc_model.specs.Sums.{zip_with}
-use Rattle.uc_model.proofs.ListLaws.{head_of, tail_of, all_nil, all_cons, length_same, length-zip_with}
-use Rattle.dealt_run.specs.declared.answerer.Answerer.{Answerer}
-use Rattle.dealt_run.specs.declared.sums.Sums.{Sums}
-use Rattle.dealt_run.specs.Jobs.{HasBegun, HaveBegun}
-use Rattle.dealt_run.specs.Sums.{AreSumsOf, AreWithin, AreSumsOfAll}
+use Rattle.dealt_run.proofs.Common.{◌≡◌, ℕ, ◌≤◌, ℤ, List, [], ◌∷◌, map, length, refl, sym, ap, ◌∙◌, subst, subst₂, arith, length-map, length-range_with_len, All, AllZip, range_with_len, slice_index_or, HasRun, EarningsAreWithin, EarnedSumsAreWithin, UnitsAreWithin, AnyUnit, PriceLists, Schedule, Market, units, unit_count, earnings, IsTop, IsUnit, IsEarned, IsSum, IsMarket, ArePrices, market_of, prices_of, Fits, zip_with, head_of, tail_of, all_nil, all_cons, length_same, length-zip_with, Answerer, Sums, HasBegun, HaveBegun, AreSumsOf, AreWithin, AreSumsOfAll}
 use Rattle.dealt_run.proofs.Fitting.{Plan}
 use Rattle.dealt_run.proofs.Keeping.{few_units}
 use Rattle.dealt_run.proofs.Small.{within_wider}

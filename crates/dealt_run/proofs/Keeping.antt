@@ -1,28 +1,8 @@
 -- What a job keeps while it answers.
-use Rattle.std.proofs.Common.{◌≡◌, ℕ, zero, suc, ◌+◌, ◌≤◌, ℤ, pos, neg_ℤ, ◌+ℤ◌, ◌≤ℤ◌, Option, None, Some, List, [], ◌∷◌, ◌++◌, length, replicate, refl, sym, ap, ◌∙◌, subst, arith}
-use Rattle.std.proofs.Math.Logic.{∥∥₁_map}
-use Rattle.std.proofs.lemmas.Int.{ints}
-use Rattle.std.proofs.lemmas.List.{length-replicate}
-use Rattle.std.proofs.lemmas.List.Elements.{All-replicate}
+use Rattle.dealt_run.proofs.Common.{◌≡◌, ℕ, zero, suc, ◌+◌, ◌≤◌, ℤ, pos, neg_ℤ, ◌+ℤ◌, ◌≤ℤ◌, Option, None, Some, List, [], ◌∷◌, ◌++◌, length, replicate, refl, sym, ap, ◌∙◌, subst, arith, ∥∥₁_map, ints, length-replicate, All-replicate, All, option_map_or, slice_get, slice_index, IsRaised, GivesWithin, most_given, least_given, UnitsAreWithin, OutputsAreWithin, EarningsAreWithin, AnyUnit, Thermal, Flat, Bid, PriceLists, Schedule, Market, units, unit_count, earnings, supply_in, IsMarket, IsUnit, IsEarned, ArePrices, schedule_of, Fits, reserve_in, int_at, none_some, same_item, length_same, item_of, Sums, IsAnswerAt, amount_of, part_of, sum_of, FitsAt, AreSumsOf, AreWithin, IsMore, IsSmall}
 use Rattle.std.proofs.lemmas.Slice.Zip.{all_zipped_more}
-use Rattle.std.specs.List.{All}
-use Rattle.std.specs.Option.{option_map_or}
-use Rattle.std.specs.Prelude.{slice_get, slice_index}
-use Rattle.dual_value.specs.Totals.{IsRaised}
 use Rattle.uc_model.specs.declared.units.Answered.{Answered}
-use Rattle.uc_model.specs.BoundLaws.{GivesWithin, most_given, least_given, UnitsAreWithin, OutputsAreWithin, EarningsAreWithin}
-use Rattle.uc_model.specs.Data.{AnyUnit, Thermal, Flat, Bid, PriceLists, Schedule, Market, units, unit_count}
-use Rattle.uc_model.specs.Earnings.{earnings, supply_in}
-use Rattle.uc_model.specs.Limits.{IsMarket, IsUnit, IsEarned, ArePrices}
-use Rattle.uc_model.specs.PlainUnits.{schedule_of}
-use Rattle.uc_model.specs.Runs.{Fits}
-use Rattle.uc_model.specs.Schedules.{reserve_in}
-use Rattle.uc_model.specs.Sums.{int_at}
-use Rattle.uc_model.proofs.ListLaws.{none_some, same_item, length_same, item_of}
 use Rattle.case_answers.specs.declared.answer.Flow.{Flow}
-use Rattle.dealt_run.specs.declared.sums.Sums.{Sums}
-use Rattle.case_answers.specs.Answers.{IsAnswerAt, amount_of}
-use Rattle.dealt_run.specs.Sums.{part_of, sum_of, FitsAt, AreSumsOf, AreWithin, IsMore, IsSmall}
 use Rattle.dealt_run.proofs.Small.{nothing_small, zero_at, raised_within}
 
 -- ---- the beginning

@@ -1,3 +1,5 @@
+-- The names from elsewhere that the proofs here cite.
+pub mod Common
 -- at most one plan of schedules fits prices
 pub mod Fitting
 -- row.rt: what jobs added up that were dealt each unit once
@@ -12,3 +14,5 @@ pub mod Keeping
 pub mod JobLaws
 -- rows.rt: the prices that follow rows
 pub mod Following
+-- The lemmas that answers cite.
+pub mod Lemmas

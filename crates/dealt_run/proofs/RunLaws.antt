@@ -1,20 +1,5 @@
 -- A run row by row.
-use Rattle.std.proofs.Common.{◌≡◌, ℕ, zero, suc, ◌+◌, ◌-◌, ◌<◌, ◌≤◌, inl, inr, ℤ, ◌≤ℤ◌, List, [], ◌∷◌, ◌++◌, take, length, refl, sym, ap, ◌∙◌, subst, arith, length-append}
-use Rattle.std.proofs.lemmas.Bool.{cases_lt}
-use Rattle.std.proofs.lemmas.Int.{ints}
-use Rattle.std.proofs.lemmas.List.Elements.{All-map, All-push, All-nil}
-use Rattle.std.specs.List.{All, AllZip, range_with_len}
-use Rattle.std.specs.Prelude.{slice_index_or, IsFalse}
-use Rattle.price_move.specs.Sizes.{IsRowBelow}
-use Rattle.uc_model.specs.Data.{AnyUnit, PriceLists, Schedule, Market, units}
-use Rattle.uc_model.specs.BoundLaws.{GivesWithin, UnitsAreWithin, OutputsAreWithin, TotalsAreWithin, DualValuesAreWithin, PlanCostsAreWithin}
-use Rattle.uc_model.specs.Laws.{DualIsAtMostCost}
-use Rattle.uc_model.specs.Limits.{IsUnit, IsTotal, IsWorth, IsMarket, ArePrices}
-use Rattle.uc_model.specs.PriceRule.{Proposal, is_settled}
-use Rattle.uc_model.specs.Runs.{Fits, IsNextRow, IsRun}
-use Rattle.uc_model.specs.Systems.{total_power, total_reserve, IsDualValue}
-use Rattle.uc_model.proofs.ListLaws.{head_of, tail_of}
-use Rattle.dealt_run.specs.Rows.{IsCostOfPlan, IsRowAt, IsRunSoFar, IsNextProposal, IsLast}
+use Rattle.dealt_run.proofs.Common.{◌≡◌, ℕ, zero, suc, ◌+◌, ◌-◌, ◌<◌, ◌≤◌, inl, inr, ℤ, ◌≤ℤ◌, List, [], ◌∷◌, ◌++◌, take, length, refl, sym, ap, ◌∙◌, subst, arith, length-append, cases_lt, ints, All-map, All-push, All-nil, All, AllZip, range_with_len, slice_index_or, IsFalse, IsRowBelow, AnyUnit, PriceLists, Schedule, Market, units, GivesWithin, UnitsAreWithin, OutputsAreWithin, TotalsAreWithin, DualValuesAreWithin, PlanCostsAreWithin, DualIsAtMostCost, IsUnit, IsTotal, IsWorth, IsMarket, ArePrices, Proposal, is_settled, Fits, IsNextRow, IsRun, total_power, total_reserve, IsDualValue, head_of, tail_of, IsCostOfPlan, IsRowAt, IsRunSoFar, IsNextProposal, IsLast}
 
 take_front : {X : Type 0} → (k : ℕ) (xs ys : List X) → k ≤ length xs → take k (xs ++ ys) ≡ take k xs
 take_front zero xs ys h = refl

@@ -1,14 +1,5 @@
 -- Sizes of totals, and numbers by their places.
-use Rattle.std.proofs.Common.{◌≡◌, ℕ, zero, suc, ◌+◌, ◌<◌, ◌≤◌, ℤ, pos, ◌+ℤ◌, List, [], ◌∷◌, ◌++◌, map, take, length, replicate, refl, sym, ap, ◌∙◌, subst, arith}
-use Rattle.std.proofs.lemmas.Int.{ints}
-use Rattle.std.proofs.lemmas.List.Elements.{All-from_get_or}
-use Rattle.std.specs.List.{All}
-use Rattle.std.specs.Prelude.{slice_index_or}
-use Rattle.dual_value.specs.Totals.{IsRaised}
-use Rattle.uc_model.specs.Sums.{int_at, total}
-use Rattle.uc_model.proofs.ListLaws.{at_place, map-append, total-push}
-use Rattle.dealt_run.specs.declared.sums.Sums.{Sums}
-use Rattle.dealt_run.specs.Sums.{IsSmall, AreWithin}
+use Rattle.dealt_run.proofs.Common.{◌≡◌, ℕ, zero, suc, ◌+◌, ◌<◌, ◌≤◌, ℤ, pos, ◌+ℤ◌, List, [], ◌∷◌, ◌++◌, map, take, length, replicate, refl, sym, ap, ◌∙◌, subst, arith, ints, All-from_get_or, All, slice_index_or, IsRaised, int_at, total, at_place, map-append, total-push, Sums, IsSmall, AreWithin}
 
 pub nothing_small : (n : ℕ) → IsSmall n (pos 0)
 nothing_small n = record { at_least = omega (arith, ints); at_most = omega (arith, ints) }

@@ -1,19 +1,10 @@
 -- The fixed case of a plan: within the limits, feasible at the same cost, with dual values between.
-use Rattle.std.proofs.Common.{◌≡◌, ℕ, suc, ◌+◌, ℤ, ◌≤ℤ◌, List, [], ◌∷◌, ◌++◌, map, length, refl, sym, ap, ◌∙◌, subst, append_assoc, Some, arith}
-use Rattle.std.proofs.lemmas.Int.{ints}
-use Rattle.std.proofs.lemmas.List.{length-map}
+use Rattle.fixed_price.proofs.Common.{◌≡◌, ℕ, suc, ◌+◌, ℤ, ◌≤ℤ◌, List, [], ◌∷◌, ◌++◌, map, length, refl, sym, ap, ◌∙◌, subst, append_assoc, Some, arith, ints, length-map, slice_get_within, get_or_from_slice_get, All, AllZip, slice_get, ThermalUnit, NamedThermalUnit, NamedRenewableUnit, NamedBidUnit, AnyUnit, Thermal, Flat, Bid, PriceLists, Schedule, Market, units, unit_count, IsFeasible, reserve_in, int_at, total, zip_with, held_mark, held_unit, held_named, fixed_market}
 use Rattle.std.proofs.lemmas.List.Elements.{All-head, All-tail, All-cons, All-nil}
-use Rattle.std.proofs.lemmas.Option.{slice_get_within, get_or_from_slice_get}
-use Rattle.std.specs.List.{All, AllZip}
-use Rattle.std.specs.Prelude.{slice_get}
-use Rattle.uc_model.specs.Data.{ThermalUnit, NamedThermalUnit, NamedRenewableUnit, NamedBidUnit, AnyUnit, Thermal, Flat, Bid, PriceLists, Schedule, Market, units, unit_count}
 use Rattle.uc_model.specs.Earnings.{cost_of, earnings, supply_in, IsTop}
 use Rattle.uc_model.specs.Laws.{DualIsAtMostCost}
 use Rattle.uc_model.specs.Limits.{IsThermalUnit, IsMarket}
-use Rattle.uc_model.specs.Schedules.{IsFeasible, reserve_in}
-use Rattle.uc_model.specs.Sums.{int_at, total, zip_with}
 use Rattle.uc_model.specs.Systems.{IsFeasiblePlan, plan_cost, IsDualValue}
-use Rattle.fixed_price.specs.FixedCase.{held_mark, held_unit, held_named, fixed_market}
 use Rattle.fixed_price.specs.Laws.{CommitmentsAreFixed}
 use Rattle.case_answers.specs.Tops.{points_of}
 use Rattle.fixed_price.proofs.Held.{held_feasible, given_feasible}

@@ -1,10 +1,6 @@
 -- A unit that is held to a schedule's commitment.
-use Rattle.std.proofs.Common.{◌≡◌, ℕ, zero, suc, ◌<◌, Bool, true, false, List, [], ◌∷◌, map, length, refl, sym, ap, ◌∙◌, arith}
-use Rattle.std.specs.Prelude.{slice_index_or}
+use Rattle.fixed_price.proofs.Common.{◌≡◌, ℕ, zero, suc, ◌<◌, Bool, true, false, List, [], ◌∷◌, map, length, refl, sym, ap, ◌∙◌, arith, slice_index_or, ThermalUnit, Schedule, on_in, mark_in, IsPeriod, IsThermalFeasible, held_mark, held_unit}
 use Rattle.uc_model.specs.declared.units.Mark.TheVariants.{Free, MustOff, MustOn}
-use Rattle.uc_model.specs.Data.{ThermalUnit, Schedule}
-use Rattle.uc_model.specs.Schedules.{on_in, mark_in, IsPeriod, IsThermalFeasible}
-use Rattle.fixed_price.specs.FixedCase.{held_mark, held_unit}
 
 mark_at : (on : List Bool) (k : ℕ) → k < length on → slice_index_or (map held_mark on) k Free ≡ held_mark (slice_index_or on k false)
 mark_at [] k h = absurd (omega (arith, h))

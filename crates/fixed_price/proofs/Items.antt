@@ -1,11 +1,5 @@
 -- Items of lists that are mapped, and of plans.
-use Rattle.std.proofs.Common.{◌≡◌, ℕ, zero, suc, ◌+◌, ◌<◌, ◌≤◌, Some, List, [], ◌∷◌, ◌++◌, map, take, length, refl, sym, ap, ◌∙◌, arith}
-use Rattle.std.proofs.lemmas.Option.{none-some}
-use Rattle.std.specs.List.{AllZip}
-use Rattle.std.specs.Prelude.{slice_index_or, slice_get}
-use Rattle.uc_model.specs.Data.{NamedThermalUnit, AnyUnit, Schedule}
-use Rattle.uc_model.specs.Schedules.{IsFeasible}
-use Rattle.uc_model.specs.Sums.{zip_with}
+use Rattle.fixed_price.proofs.Common.{◌≡◌, ℕ, zero, suc, ◌+◌, ◌<◌, ◌≤◌, Some, List, [], ◌∷◌, ◌++◌, map, take, length, refl, sym, ap, ◌∙◌, arith, none-some, AllZip, slice_index_or, slice_get, NamedThermalUnit, AnyUnit, Schedule, IsFeasible, zip_with}
 use Rattle.fixed_price.proofs.Fixing.{any_thermal}
 
 pub mapped_at : {X Y : Type 0} → (f : X → Y) (xs : List X) (k : ℕ) (d : X) (e : Y) → k < length xs → slice_index_or (map f xs) k e ≡ f (slice_index_or xs k d)

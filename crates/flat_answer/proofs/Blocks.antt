@@ -1,15 +1,5 @@
 -- A bid's best power: all blocks whose price is above the energy price, and no more.
-use Rattle.std.proofs.Common.{◌≡◌, ℕ, zero, suc, ◌+◌, ◌≤◌, ◌<◌, ◌⊎◌, inl, inr, ⊎_elim, Bool, true, false, ℤ, pos, neg_ℤ, ◌+ℤ◌, ◌-ℤ◌, ◌*ℤ◌, ◌≤ℤ◌, ◌<ℤ◌, int_lt, if◌then◌else◌, List, [], ◌∷◌, drop, length, slice_index_or, refl, ap, sym, ◌∙◌, arith}
-use Rattle.std.proofs.lemmas.Int.{ints, clamps, by_lt_z}
-use Rattle.std.proofs.lemmas.List.{drop_more, drop_all}
-use Rattle.std.proofs.Math.IntN.{*ℤ_comm, *ℤ-zero}
-use Rattle.std.specs.Int.{int_min}
-use Rattle.uc_model.specs.declared.units.Block.{Block}
-use Rattle.uc_model.specs.Earnings.{worth_of}
-use Rattle.uc_model.specs.Limits.{IsBlock, IsBlockList, IsFrom, price_limit}
-use Rattle.uc_model.specs.Schedules.{width_of}
-use Rattle.flat_answer.specs.Choices.{IsLeastChoice, IsWithinBlocks, bought_at, added_power, added_gain}
-use Rattle.uc_model.proofs.IntLaws.{mul-sub, mul-add, mul-mono_of}
+use Rattle.flat_answer.proofs.Common.{◌≡◌, ℕ, zero, suc, ◌+◌, ◌≤◌, ◌<◌, ◌⊎◌, inl, inr, ⊎_elim, Bool, true, false, ℤ, pos, neg_ℤ, ◌+ℤ◌, ◌-ℤ◌, ◌*ℤ◌, ◌≤ℤ◌, ◌<ℤ◌, int_lt, if◌then◌else◌, List, [], ◌∷◌, drop, length, slice_index_or, refl, ap, sym, ◌∙◌, arith, ints, clamps, by_lt_z, drop_more, drop_all, *ℤ_comm, *ℤ-zero, int_min, Block, worth_of, IsBlock, IsBlockList, IsFrom, price_limit, width_of, IsLeastChoice, IsWithinBlocks, bought_at, added_power, added_gain, mul-sub, mul-add, mul-mono_of}
 use Rattle.flat_answer.proofs.Powers.{mul-fall, mul-rise, sub-mul}
 
 -- the widths of the blocks above the price, and what they earn

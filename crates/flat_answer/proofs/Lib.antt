@@ -1,3 +1,5 @@
+-- The names from elsewhere that the proofs here cite.
+pub mod Common
 -- ---- src/renewables.rt and src/bids.rt: place by place
 -- renewable units and bids earn place by place
 pub mod Forms
@@ -10,3 +12,5 @@ pub mod Ordered
 pub mod Powers
 -- a bid's best power: all blocks whose price is above the energy price
 pub mod Blocks
+-- The lemmas that answers cite.
+pub mod Lemmas

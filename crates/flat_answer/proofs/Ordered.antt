@@ -1,14 +1,11 @@
 -- No schedule comes before one whose powers are at most its own, where all else is the same.
-use Rattle.std.proofs.Common.{◌≡◌, ℕ, suc, ◌≤◌, ◌<◌, Bool, cond, List, [], ◌∷◌, ◌++◌, map, reverse, length, get_or, refl, sym, subst, arith}
-use Rattle.std.proofs.lemmas.List.{reverse-append}
+use Rattle.flat_answer.proofs.Common.{◌≡◌, ℕ, suc, ◌≤◌, ◌<◌, Bool, cond, List, [], ◌∷◌, ◌++◌, map, reverse, length, get_or, refl, sym, subst, arith, reverse-append, Schedule, ComesBefore, tie_numbers}
 use Rattle.std.proofs.lemmas.List.Elements.{AllZip-push}
 use Rattle.std.specs.List.{AllZip}
 use Rattle.std.specs.Cmp.Lexicographic.{slice_cmp}
 use Rattle.std.specs.Ordering.{nat_cmp, ordering_then}
 use Rattle.std.specs.declared.cmp.Ordering.TheVariants.{Less, Equal, Greater}
 use Rattle.std.proofs.lemmas.Bool.Decides.{nat_tests}
-use Rattle.uc_model.specs.Data.{Schedule}
-use Rattle.uc_model.specs.Ties.{ComesBefore, tie_numbers}
 
 abbrev AtMost : ℕ → ℕ → Type 0
 AtMost x y = y ≤ x

@@ -1,15 +1,5 @@
 -- Where a unit's powers earn place by place, the least best power at each place makes the least best schedule.
-use Rattle.std.proofs.Common.{◌≡◌, ℕ, zero, suc, ◌+◌, ◌*◌, ◌<◌, true, false, IsTrue, ℤ, pos, ◌+ℤ◌, ◌≤ℤ◌, List, length, set, slice_index, slice_index_or, refl, ap, sym, subst, ◌∙◌, arith, add-one, below_more, get_or-set_same, get_or-set_other}
-use Rattle.std.proofs.lemmas.Int.{ints}
-use Rattle.std.proofs.lemmas.List.{length-set, ext_get_or}
-use Rattle.uc_model.specs.Data.{AnyUnit, PriceLists, Schedule}
-use Rattle.uc_model.specs.Earnings.{earnings, IsBest}
-use Rattle.uc_model.specs.Schedules.{IsFeasible, IsSchedule}
-use Rattle.uc_model.specs.Sums.{sum_below}
-use Rattle.uc_model.specs.Ties.{IsLeast}
-use Rattle.uc_model.proofs.IntLaws.{sum_below-le, sum_below-same}
-use Rattle.uc_model.proofs.SignedLaws.{IsWithin, sum_within}
-use Rattle.flat_answer.specs.Choices.{IsLeastBest, IsLeastChoice, with_power}
+use Rattle.flat_answer.proofs.Common.{◌≡◌, ℕ, zero, suc, ◌+◌, ◌*◌, ◌<◌, true, false, IsTrue, ℤ, pos, ◌+ℤ◌, ◌≤ℤ◌, List, length, set, slice_index, slice_index_or, refl, ap, sym, subst, ◌∙◌, arith, add-one, below_more, get_or-set_same, get_or-set_other, ints, length-set, ext_get_or, AnyUnit, PriceLists, Schedule, earnings, IsBest, IsFeasible, IsSchedule, sum_below, IsLeast, sum_below-le, sum_below-same, IsWithin, sum_within, IsLeastBest, IsLeastChoice, with_power}
 use Rattle.flat_answer.proofs.Ordered.{not_first}
 
 -- on in each period, without reserve, and with an allowed power

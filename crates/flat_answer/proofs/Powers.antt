@@ -1,9 +1,5 @@
 -- The best power at a price: all where it is paid for, else as little as allowed.
-use Rattle.std.proofs.Common.{◌≡◌, ℕ, ℤ, pos, ◌+ℤ◌, ◌-ℤ◌, ◌*ℤ◌, ◌≤ℤ◌, ◌<ℤ◌, arith}
-use Rattle.std.proofs.lemmas.Int.{ints}
-use Rattle.std.proofs.Math.IntN.{*ℤ_comm, *ℤ-zero}
-use Rattle.flat_answer.specs.Choices.{IsLeastBest, IsBetween, sold_at}
-use Rattle.uc_model.proofs.IntLaws.{mul-sub, mul-mono_of}
+use Rattle.flat_answer.proofs.Common.{◌≡◌, ℕ, ℤ, pos, ◌+ℤ◌, ◌-ℤ◌, ◌*ℤ◌, ◌≤ℤ◌, ◌<ℤ◌, arith, ints, *ℤ_comm, *ℤ-zero, IsLeastBest, IsBetween, sold_at, mul-sub, mul-mono_of}
 
 mul-one : (z : ℤ) → z *ℤ pos 1 ≡ z
 mul-one z = omega (arith, ints)

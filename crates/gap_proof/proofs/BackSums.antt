@@ -1,17 +1,5 @@
 -- The sums of the rows from a place to the last, each once.
-use Rattle.std.proofs.Common.{◌≡◌, ℕ, zero, suc, ◌+◌, ◌-◌, ◌*◌, ◌<◌, ◌≤◌, Some, ℤ, pos, ◌+ℤ◌, ◌*ℤ◌, List, [], ◌∷◌, drop, replicate, length, unsigned_abs, refl, sym, ap, subst, ◌∙◌, arith, length-drop}
-use Rattle.std.proofs.lemmas.Int.{ints}
-use Rattle.std.proofs.lemmas.List.{drop_all}
-use Rattle.std.specs.List.{All}
-use Rattle.std.specs.Prelude.{slice_get}
-use Rattle.uc_model.specs.Data.{PriceLists, Market}
-use Rattle.uc_model.specs.Limits.{IsFrom, IsMarket}
-use Rattle.uc_model.specs.PriceRule.{Proposal}
-use Rattle.uc_model.specs.Sums.{int_at, total, floor_div}
-use Rattle.uc_model.proofs.SignedLaws.{IsWithin}
-use Rattle.price_move.specs.Sizes.{IsRowOver}
-use Rattle.gap_proof.specs.CertifiedBound.{slope_at, height_of, most_over}
-use Rattle.gap_proof.specs.Sums.{IsSlopeSum, IsHeightSum, AreSums}
+use Rattle.gap_proof.proofs.Common.{◌≡◌, ℕ, zero, suc, ◌+◌, ◌-◌, ◌*◌, ◌<◌, ◌≤◌, Some, ℤ, pos, ◌+ℤ◌, ◌*ℤ◌, List, [], ◌∷◌, drop, replicate, length, unsigned_abs, refl, sym, ap, subst, ◌∙◌, arith, length-drop, ints, drop_all, All, slice_get, PriceLists, Market, IsFrom, IsMarket, Proposal, int_at, total, floor_div, IsWithin, IsRowOver, slope_at, height_of, most_over, IsSlopeSum, IsHeightSum, AreSums}
 use Rattle.gap_proof.proofs.RangeLaws.{back_bounds, back_is}
 use Rattle.gap_proof.proofs.RowLists.{drop_at}
 use Rattle.gap_proof.proofs.SumLaws.{sums_more, height_size, weight_size, slope_sizes, bound_is}

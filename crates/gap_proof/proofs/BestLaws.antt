@@ -1,19 +1,5 @@
 -- What the bound of the best range says.
-use Rattle.std.proofs.Common.{◌≡◌, ℕ, zero, suc, ◌+◌, ◌-◌, ◌<◌, ◌≤◌, Bool, true, false, ◌&&◌, nat_le, if◌then◌else◌, Some, ℤ, pos, ◌≤ℤ◌, ◌<ℤ◌, List, length, sym, subst, inl, inr, arith}
-use Rattle.std.proofs.lemmas.Bool.{cases_lt}
-use Rattle.std.proofs.lemmas.Int.{ints}
-use Rattle.std.proofs.lemmas.List.Elements.{All-map}
-use Rattle.std.proofs.lemmas.List.FromFn.{length-map-range_with_len}
-use Rattle.std.proofs.lemmas.Option.{slice_get_within}
-use Rattle.std.specs.List.{All, range_with_len}
-use Rattle.std.specs.Prelude.{slice_get}
-use Rattle.uc_model.specs.Data.{PriceLists, Market}
-use Rattle.uc_model.specs.Limits.{ArePrices}
-use Rattle.uc_model.specs.PriceRule.{Proposal}
-use Rattle.uc_model.specs.Sums.{total}
-use Rattle.uc_model.specs.Systems.{IsDualValue}
-use Rattle.gap_proof.specs.Candidates.{RowRange, range_weights, candidates, prices_of_row, IsFirstLeast}
-use Rattle.gap_proof.specs.Laws.{IsAnswered, AreWeights, IsInBox}
+use Rattle.gap_proof.proofs.Common.{◌≡◌, ℕ, zero, suc, ◌+◌, ◌-◌, ◌<◌, ◌≤◌, Bool, true, false, ◌&&◌, nat_le, if◌then◌else◌, Some, ℤ, pos, ◌≤ℤ◌, ◌<ℤ◌, List, length, sym, subst, inl, inr, arith, cases_lt, ints, All-map, length-map-range_with_len, slice_get_within, All, range_with_len, slice_get, PriceLists, Market, ArePrices, Proposal, total, IsDualValue, RowRange, range_weights, candidates, prices_of_row, IsFirstLeast, IsAnswered, AreWeights, IsInBox}
 use Rattle.gap_proof.proofs.Box.{centre_in_box}
 use Rattle.gap_proof.proofs.FirstLeast.{back_item}
 use Rattle.gap_proof.proofs.Mean.{bound_above}

@@ -1,12 +1,5 @@
 -- Products and sums within bounds.
-use Rattle.std.proofs.Common.{◌≡◌, ℕ, suc, ◌+◌, ◌*◌, ◌^◌, ◌<◌, ◌≤◌, FitsSigned, ℤ, pos, negsuc, neg_ℤ, ◌+ℤ◌, ◌-ℤ◌, ◌*ℤ◌, sym, ap, ◌∙◌, subst, arith}
-use Rattle.std.proofs.lemmas.Int.{ints}
-use Rattle.std.proofs.Math.IntN.{*ℤ-zero}
-use Rattle.std.proofs.Math.Nat.{mul-le-mul_right}
-use Rattle.std.specs.Int.{w128}
-use Rattle.uc_model.specs.Limits.{IsFrom}
-use Rattle.uc_model.proofs.IntLaws.{mul-sub}
-use Rattle.uc_model.proofs.SignedLaws.{IsWithin, product_within, fits_within}
+use Rattle.gap_proof.proofs.Common.{◌≡◌, ℕ, suc, ◌+◌, ◌*◌, ◌^◌, ◌<◌, ◌≤◌, FitsSigned, ℤ, pos, negsuc, neg_ℤ, ◌+ℤ◌, ◌-ℤ◌, ◌*ℤ◌, sym, ap, ◌∙◌, subst, arith, ints, *ℤ-zero, mul-le-mul_right, w128, IsFrom, mul-sub, IsWithin, product_within, fits_within}
 use mir.Val.{hbits}
 
 mul-neg : (a b : ℤ) → a *ℤ neg_ℤ b ≡ neg_ℤ (a *ℤ b)

@@ -1,14 +1,5 @@
 -- The centre stands in its box.
-use Rattle.std.proofs.Common.{◌≡◌, ℕ, ◌-◌, ◌*◌, ◌<◌, Bool, inl, inr, if◌then◌else◌, ℤ, pos, neg_ℤ, ◌≤ℤ◌, List, length, sym, subst, ◌∙◌, arith}
-use Rattle.std.proofs.lemmas.Int.{ints, clamps}
-use Rattle.std.proofs.lemmas.Bool.{cases_lt}
-use Rattle.std.specs.List.{All}
-use Rattle.uc_model.specs.Data.{PriceLists, Market}
-use Rattle.uc_model.specs.Limits.{IsFrom, ArePrices, price_limit}
-use Rattle.uc_model.specs.PriceRule.{Proposal}
-use Rattle.uc_model.specs.Sums.{int_at}
-use Rattle.gap_proof.specs.CertifiedBound.{price_at, lowest_price, certified_bound}
-use Rattle.gap_proof.specs.Laws.{IsAnswered, AreWeights, IsInBox}
+use Rattle.gap_proof.proofs.Common.{◌≡◌, ℕ, ◌-◌, ◌*◌, ◌<◌, Bool, inl, inr, if◌then◌else◌, ℤ, pos, neg_ℤ, ◌≤ℤ◌, List, length, sym, subst, ◌∙◌, arith, ints, clamps, cases_lt, All, PriceLists, Market, IsFrom, ArePrices, price_limit, Proposal, int_at, price_at, lowest_price, certified_bound, IsAnswered, AreWeights, IsInBox}
 use Rattle.gap_proof.proofs.Mean.{bound_above}
 use Rattle.gap_proof.proofs.Subgradients.{lt_true, lt_false}
 

@@ -1,13 +1,5 @@
 -- The first of the candidates with the least bound.
-use Rattle.std.proofs.Common.{◌≡◌, true, false, int_lt, ℕ, zero, suc, ◌+◌, ◌<◌, ◌≤◌, Some, ℤ, ◌≤ℤ◌, ◌<ℤ◌, List, map, length, refl, sym, ap, subst, ◌∙◌, arith}
-use Rattle.std.proofs.lemmas.Int.{ints}
-use Rattle.std.proofs.lemmas.List.FromFn.{length-map-range_with_len, get_or-map-range_with_len}
-use Rattle.std.proofs.lemmas.Option.{get_or_from_slice_get, slice_get_within, slice_get-get_or}
-use Rattle.std.specs.List.{range_with_len}
-use Rattle.std.specs.Prelude.{slice_get}
-use Rattle.uc_model.specs.Data.{PriceLists, Market}
-use Rattle.uc_model.specs.PriceRule.{Proposal}
-use Rattle.gap_proof.specs.Candidates.{RowRange, candidates, range_bound, prices_of_row, IsFirstLeast}
+use Rattle.gap_proof.proofs.Common.{◌≡◌, true, false, int_lt, ℕ, zero, suc, ◌+◌, ◌<◌, ◌≤◌, Some, ℤ, ◌≤ℤ◌, ◌<ℤ◌, List, map, length, refl, sym, ap, subst, ◌∙◌, arith, ints, length-map-range_with_len, get_or-map-range_with_len, get_or_from_slice_get, slice_get_within, slice_get-get_or, range_with_len, slice_get, PriceLists, Market, Proposal, RowRange, candidates, range_bound, prices_of_row, IsFirstLeast}
 use Rattle.gap_proof.proofs.RangeLaws.{same_item}
 
 -- what a test of two bounds says

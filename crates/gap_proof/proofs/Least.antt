@@ -1,7 +1,5 @@
 -- The least of some numbers, the first of them in a tie, found from the last one back.
-use Rattle.std.proofs.Common.{◌≡◌, ℕ, ◌+◌, ◌-◌, ◌<◌, ◌≤◌, ℤ, ◌≤ℤ◌, ◌<ℤ◌, inl, inr, sym, ap, ◌∙◌, arith}
-use Rattle.std.proofs.lemmas.Bool.{cases_lt}
-use Rattle.std.proofs.lemmas.Int.{ints, by_lt_z}
+use Rattle.gap_proof.proofs.Common.{◌≡◌, ℕ, ◌+◌, ◌-◌, ◌<◌, ◌≤◌, ℤ, ◌≤ℤ◌, ◌<ℤ◌, inl, inr, sym, ap, ◌∙◌, arith, cases_lt, ints, by_lt_z}
 
 -- among the numbers behind place i, up to n, the one at first
 pub record IsLeastBehind (f : ℕ → ℤ) (i n first : ℕ) (bound : ℤ) : Type 0 where

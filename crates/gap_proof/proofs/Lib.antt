@@ -1,3 +1,5 @@
+-- The names from elsewhere that the proofs here cite.
+pub mod Common
 pub mod BackSums
 pub mod BestLaws
 pub mod Bounds
@@ -12,3 +14,5 @@ pub mod Running
 pub mod Subgradients
 pub mod Sizes
 pub mod SumLaws
+-- The lemmas that answers cite.
+pub mod Lemmas

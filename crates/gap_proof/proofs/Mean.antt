@@ -1,20 +1,6 @@
 -- A weighted mean of planes is nowhere below the dual, and its greatest height over a box bounds it there.
-use Rattle.std.proofs.Common.{◌≡◌, ℕ, zero, suc, ◌*◌, ◌/◌, ◌<◌, ◌≤◌, ℤ, pos, negsuc, neg_ℤ, ◌+ℤ◌, ◌-ℤ◌, ◌*ℤ◌, ◌≤ℤ◌, ◌<ℤ◌, unsigned_abs, List, [], ◌∷◌, length, refl, sym, ap, ◌∙◌, arith}
-use Rattle.std.proofs.lemmas.Int.{ints, clamps}
-use Rattle.std.proofs.lemmas.List.Elements.{All-head, All-tail}
+use Rattle.gap_proof.proofs.Common.{◌≡◌, ℕ, zero, suc, ◌*◌, ◌/◌, ◌<◌, ◌≤◌, ℤ, pos, negsuc, neg_ℤ, ◌+ℤ◌, ◌-ℤ◌, ◌*ℤ◌, ◌≤ℤ◌, ◌<ℤ◌, unsigned_abs, List, [], ◌∷◌, length, refl, sym, ap, ◌∙◌, arith, ints, clamps, All-head, All-tail, *ℤ_comm, *ℤ-zero, zero-*ℤ, pos-*ℤ-pos, *ℤ-negsuc, suc_ℤ-*ℤ, pred_ℤ-*ℤ, ℤ_ind, div-lt_iff_lt-mul, mul_comm, int_max, All, PriceLists, Market, IsFrom, Proposal, total, sum_below, floor_div, IsDualValue, mul-add, mul-sub, mul-mono_of, sum_below-le, sum_below-same, sum_below-add, sum_below-zero, price_at, slope_at, height_of, weighted, low_end, high_end, most_over, certified_bound, IsAnswered, AreWeights, IsInBox}
 use Rattle.std.proofs.lemmas.Nat.{le-div}
-use Rattle.std.proofs.Math.IntN.{*ℤ_comm, *ℤ-zero, zero-*ℤ, pos-*ℤ-pos, *ℤ-negsuc, suc_ℤ-*ℤ, pred_ℤ-*ℤ, ℤ_ind}
-use Rattle.std.proofs.Math.Nat.{div-lt_iff_lt-mul, mul_comm}
-use Rattle.std.specs.Int.{int_max}
-use Rattle.std.specs.List.{All}
-use Rattle.uc_model.specs.Data.{PriceLists, Market}
-use Rattle.uc_model.specs.Limits.{IsFrom}
-use Rattle.uc_model.specs.PriceRule.{Proposal}
-use Rattle.uc_model.specs.Sums.{total, sum_below, floor_div}
-use Rattle.uc_model.specs.Systems.{IsDualValue}
-use Rattle.uc_model.proofs.IntLaws.{mul-add, mul-sub, mul-mono_of, sum_below-le, sum_below-same, sum_below-add, sum_below-zero}
-use Rattle.gap_proof.specs.CertifiedBound.{price_at, slope_at, height_of, weighted, low_end, high_end, most_over, certified_bound}
-use Rattle.gap_proof.specs.Laws.{IsAnswered, AreWeights, IsInBox}
 use Rattle.gap_proof.proofs.Subgradients.{plane_above}
 
 add-mul : (a b c : ℤ) → (a +ℤ b) *ℤ c ≡ (a *ℤ c) +ℤ (b *ℤ c)

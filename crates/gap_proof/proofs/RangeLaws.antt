@@ -1,20 +1,5 @@
 -- The bound by a range of rows is the bound by those rows alone, each once.
-use Rattle.std.proofs.Common.{◌≡◌, ℕ, zero, suc, ◌+◌, ◌-◌, ◌*◌, ◌<◌, ◌≤◌, Bool, true, false, ◌&&◌, nat_le, if◌then◌else◌, Some, ℤ, pos, ◌+ℤ◌, ◌*ℤ◌, List, [], ◌∷◌, map, drop, replicate, length, unsigned_abs, refl, sym, ap, ◌∙◌, arith, length-drop}
-use Rattle.std.proofs.lemmas.Bool.Decides.{nat_tests}
-use Rattle.std.proofs.lemmas.Int.{ints}
-use Rattle.std.proofs.lemmas.List.FromFn.{length-map-range_with_len}
-use Rattle.std.proofs.lemmas.List.{length-replicate}
-use Rattle.std.proofs.lemmas.Option.{none-some}
-use Rattle.std.proofs.Math.IntN.{*ℤ_comm, zero-*ℤ}
-use Rattle.std.specs.Int.{int_max}
-use Rattle.std.specs.List.{range_with_len}
-use Rattle.std.specs.Prelude.{slice_get}
-use Rattle.uc_model.specs.Data.{PriceLists, Market}
-use Rattle.uc_model.specs.PriceRule.{Proposal}
-use Rattle.uc_model.specs.Sums.{total, floor_div}
-use Rattle.uc_model.proofs.IntLaws.{sum_below-same}
-use Rattle.gap_proof.specs.Candidates.{range_bound}
-use Rattle.gap_proof.specs.CertifiedBound.{slope_at, height_of, weighted, low_end, high_end, most_over, certified_bound}
+use Rattle.gap_proof.proofs.Common.{◌≡◌, ℕ, zero, suc, ◌+◌, ◌-◌, ◌*◌, ◌<◌, ◌≤◌, Bool, true, false, ◌&&◌, nat_le, if◌then◌else◌, Some, ℤ, pos, ◌+ℤ◌, ◌*ℤ◌, List, [], ◌∷◌, map, drop, replicate, length, unsigned_abs, refl, sym, ap, ◌∙◌, arith, length-drop, nat_tests, ints, length-map-range_with_len, length-replicate, none-some, *ℤ_comm, zero-*ℤ, int_max, range_with_len, slice_get, PriceLists, Market, Proposal, total, floor_div, sum_below-same, range_bound, slope_at, height_of, weighted, low_end, high_end, most_over, certified_bound}
 use Rattle.gap_proof.proofs.Mean.{one_mul}
 
 -- ---- bounds of equal sums

@@ -1,12 +1,5 @@
 -- The rows and weights from a place on.
-use Rattle.std.proofs.Common.{◌≡◌, ℕ, ◌+◌, ◌-◌, ◌<◌, ◌≤◌, Some, List, [], ◌∷◌, length, drop, sym, ap, subst, ◌∙◌, arith}
-use Rattle.std.proofs.lemmas.List.{drop_more, drop_all}
-use Rattle.std.proofs.lemmas.Option.{get_or_from_slice_get}
-use Rattle.std.specs.List.{All}
-use Rattle.std.specs.Option.{option_map_or}
-use Rattle.std.specs.Prelude.{slice_get}
-use Rattle.uc_model.specs.PriceRule.{Proposal, no_prices}
-use Rattle.gap_proof.specs.Candidates.{prices_of_row}
+use Rattle.gap_proof.proofs.Common.{◌≡◌, ℕ, ◌+◌, ◌-◌, ◌<◌, ◌≤◌, Some, List, [], ◌∷◌, length, drop, sym, ap, subst, ◌∙◌, arith, drop_more, drop_all, get_or_from_slice_get, All, option_map_or, slice_get, Proposal, no_prices, prices_of_row}
 
 module _ {X : Type 0} where
   pub drop_at : (xs : List X) (i : ℕ) (x : X) → 0 < i → i ≤ length xs → slice_get xs (i - 1) ≡ Some x → drop (i - 1) xs ≡ x ∷ drop i xs

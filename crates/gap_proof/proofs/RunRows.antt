@@ -1,22 +1,5 @@
 -- The rows of a run are answered, and their prices are within the limits.
-use Rattle.std.proofs.Common.{◌≡◌, ℕ, suc, ◌+◌, ◌-◌, ◌<◌, ◌≤◌, Bool, true, false, cond, Option, ℤ, pos, neg_ℤ, ◌+ℤ◌, ◌-ℤ◌, ◌*ℤ◌, ◌≤ℤ◌, List, [], ◌∷◌, length, take, get_or, refl, sym, ◌∙◌, subst, arith}
-use Rattle.std.proofs.lemmas.Bool.Decides.{nat_tests}
-use Rattle.std.proofs.lemmas.Int.{ints}
-use Rattle.std.proofs.lemmas.List.{length-map, length-replicate, length-take}
-use Rattle.std.proofs.lemmas.List.Elements.{All-map, All-replicate}
-use Rattle.std.proofs.lemmas.List.FromFn.{length-range_with_len}
-use Rattle.std.proofs.lemmas.Option.{slice_get_within, slice_get-get_or}
-use Rattle.std.specs.List.{All, range_with_len}
-use Rattle.std.specs.Option.{option_map_or}
-use Rattle.std.specs.Prelude.{nat_le}
-use Rattle.uc_model.specs.Data.{PriceLists, Market}
-use Rattle.uc_model.specs.Limits.{IsFrom, price_limit}
-use Rattle.uc_model.specs.PriceRule.{Proposal, start_price, start_prices, opening_prices_of, stepped_prices, move_of, squared_length, energy_direction, reserve_direction, age, no_prices, next_prices, price_rule}
-use Rattle.uc_model.specs.Runs.{Fits, IsNextRow}
-use Rattle.uc_model.specs.Sums.{int_at, floor_div, clamped}
-use Rattle.uc_model.specs.Systems.{IsDualValue}
-use Rattle.uc_model.proofs.SignedLaws.{clamped_from}
-use Rattle.gap_proof.specs.Laws.{IsAnswered, IsInBox, RunBoundsHold}
+use Rattle.gap_proof.proofs.Common.{◌≡◌, ℕ, suc, ◌+◌, ◌-◌, ◌<◌, ◌≤◌, Bool, true, false, cond, Option, ℤ, pos, neg_ℤ, ◌+ℤ◌, ◌-ℤ◌, ◌*ℤ◌, ◌≤ℤ◌, List, [], ◌∷◌, length, take, get_or, refl, sym, ◌∙◌, subst, arith, nat_tests, ints, length-map, length-replicate, length-take, All-map, All-replicate, length-range_with_len, slice_get_within, slice_get-get_or, All, range_with_len, option_map_or, nat_le, PriceLists, Market, IsFrom, price_limit, Proposal, start_price, start_prices, opening_prices_of, stepped_prices, move_of, squared_length, energy_direction, reserve_direction, age, no_prices, next_prices, price_rule, Fits, IsNextRow, int_at, floor_div, clamped, IsDualValue, clamped_from, IsAnswered, IsInBox, RunBoundsHold}
 use Rattle.gap_proof.proofs.BestLaws.{best_holds}
 use Rattle.gap_proof.proofs.Box.{ArePriced, priced_in_box}
 use Rattle.gap_proof.proofs.RowLists.{item_of, row_prices}

@@ -1,9 +1,5 @@
 -- Sums in a list, as they run while a number is added at each place.
-use Rattle.std.proofs.Common.{Some, ◌≡◌, ℕ, ◌+◌, ◌<◌, ◌≤◌, ◌≢◌, ℤ, pos, ◌+ℤ◌, List, length, set, refl, sym, ap, ◌∙◌, arith, below_more, get_or-set_other, get_or-set_same}
-use Rattle.std.proofs.lemmas.List.{length-set}
-use Rattle.std.proofs.lemmas.Option.{get_or_from_slice_get}
-use Rattle.std.specs.Prelude.{slice_get}
-use Rattle.uc_model.specs.Sums.{int_at}
+use Rattle.gap_proof.proofs.Common.{Some, ◌≡◌, ℕ, ◌+◌, ◌<◌, ◌≤◌, ◌≢◌, ℤ, pos, ◌+ℤ◌, List, length, set, refl, sym, ap, ◌∙◌, arith, below_more, get_or-set_other, get_or-set_same, length-set, get_or_from_slice_get, slice_get, int_at}
 
 -- at the places below i the numbers are added, and not yet behind them
 pub record IsAddedUpTo (old now : List ℤ) (g : ℕ → ℤ) (i : ℕ) : Type 0 where

@@ -1,14 +1,6 @@
 -- Answered rows are far from the limits of their types.
-use Rattle.std.proofs.Common.{◌≡◌, ℕ, ℤ, List, [], ◌∷◌, map, length, sym, subst, arith}
-use Rattle.std.proofs.lemmas.List.FromFn.{length-map-range_with_len, get_or-map-range_with_len}
-use Rattle.std.specs.List.{All, AllZip, range_with_len}
+use Rattle.gap_proof.proofs.Common.{◌≡◌, ℕ, ℤ, List, [], ◌∷◌, map, length, sym, subst, arith, length-map-range_with_len, get_or-map-range_with_len, All, AllZip, range_with_len, AnyUnit, PriceLists, Schedule, units, IsUnit, IsTotal, Fits, total_power, total_reserve, All-head, All-tail, AnsweredRowsAreWithin}
 use Rattle.uc_model.specs.BoundLaws.{GivesWithin, UnitsAreWithin, OutputsAreWithin, TotalsAreWithin, DualValuesAreWithin}
-use Rattle.uc_model.specs.Data.{AnyUnit, PriceLists, Schedule, units}
-use Rattle.uc_model.specs.Limits.{IsUnit, IsTotal}
-use Rattle.uc_model.specs.Runs.{Fits}
-use Rattle.uc_model.specs.Systems.{total_power, total_reserve}
-use Rattle.std.proofs.lemmas.List.Elements.{All-head, All-tail}
-use Rattle.gap_proof.specs.Laws.{AnsweredRowsAreWithin}
 
 answers_give : OutputsAreWithin → (π : PriceLists) (us : List AnyUnit) (ss : List Schedule) → All IsUnit us → AllZip (λ u s. Fits u π s) us ss → AllZip (λ u s. (k : ℕ) → GivesWithin u s k) us ss
 answers_give law π [] [] h z = tt

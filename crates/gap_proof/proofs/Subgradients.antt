@@ -1,20 +1,7 @@
 -- A row's plane is nowhere below the dual.
-use Rattle.std.proofs.Common.{◌≡◌, ℕ, zero, suc, ◌+◌, ◌-◌, ◌*◌, ◌<◌, ◌≤◌, Bool, true, false, nat_lt, if◌then◌else◌, ℤ, pos, ◌+ℤ◌, ◌-ℤ◌, ◌*ℤ◌, ◌≤ℤ◌, List, [], ◌∷◌, map, length, refl, sym, ap, ◌∙◌, subst, arith}
-use Rattle.std.proofs.lemmas.Int.{ints}
-use Rattle.std.proofs.lemmas.Bool.Decides.{nat_tests}
-use Rattle.std.proofs.lemmas.List.FromFn.{get_or-map-range_with_len}
-use Rattle.std.proofs.Math.IntN.{*ℤ_comm}
-use Rattle.std.specs.List.{AllZip, zip}
-use Rattle.uc_model.specs.Data.{AnyUnit, Thermal, Flat, Bid, PriceLists, Schedule, Market, units}
+use Rattle.gap_proof.proofs.Common.{◌≡◌, ℕ, zero, suc, ◌+◌, ◌-◌, ◌*◌, ◌<◌, ◌≤◌, Bool, true, false, nat_lt, if◌then◌else◌, ℤ, pos, ◌+ℤ◌, ◌-ℤ◌, ◌*ℤ◌, ◌≤ℤ◌, List, [], ◌∷◌, map, length, refl, sym, ap, ◌∙◌, subst, arith, ints, nat_tests, get_or-map-range_with_len, *ℤ_comm, AllZip, zip, AnyUnit, Thermal, Flat, Bid, PriceLists, Schedule, Market, units, Proposal, HasTotals, Fits, int_at, total, sum_below, zip_with, total_power, total_reserve, worth_of_demand, IsDualValue, mul-sub, sum_below-same, sum_below-add, sum_below-sub, total-sum_below, total-mul, price_at, slope_at, height_of, IsAnswered}
 use Rattle.uc_model.specs.Earnings.{revenue, supply_in, cost_of, earnings, IsTop}
-use Rattle.uc_model.specs.PriceRule.{Proposal}
-use Rattle.uc_model.specs.Runs.{HasTotals, Fits}
 use Rattle.uc_model.specs.Schedules.{IsFeasible, reserve_in}
-use Rattle.uc_model.specs.Sums.{int_at, total, sum_below, zip_with}
-use Rattle.uc_model.specs.Systems.{total_power, total_reserve, worth_of_demand, IsDualValue}
-use Rattle.uc_model.proofs.IntLaws.{mul-sub, sum_below-same, sum_below-add, sum_below-sub, total-sum_below, total-mul}
-use Rattle.gap_proof.specs.CertifiedBound.{price_at, slope_at, height_of}
-use Rattle.gap_proof.specs.Laws.{IsAnswered}
 
 -- ---- price places
 

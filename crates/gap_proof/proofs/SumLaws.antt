@@ -1,20 +1,5 @@
 -- Weighted sums of planes, as they run while a row is added before those that are summed.
-use Rattle.std.proofs.Common.{◌≡◌, ℕ, zero, suc, ◌+◌, ◌-◌, ◌*◌, ◌<◌, ◌≤◌, Bool, if◌then◌else◌, ℤ, pos, ◌+ℤ◌, ◌-ℤ◌, ◌*ℤ◌, List, [], ◌∷◌, length, unsigned_abs, refl, sym, ap, subst, ◌∙◌, inl, inr, arith}
-use Rattle.std.proofs.lemmas.Bool.{cases_lt}
-use Rattle.std.proofs.lemmas.Int.{ints}
-use Rattle.std.proofs.lemmas.List.{get_or_default}
-use Rattle.std.proofs.lemmas.List.Elements.{All-head, All-tail}
-use Rattle.std.specs.Int.{int_max}
-use Rattle.std.specs.List.{All}
-use Rattle.uc_model.specs.Data.{PriceLists, Market}
-use Rattle.uc_model.specs.Limits.{IsFrom, IsPower, IsTotal, IsMarket}
-use Rattle.uc_model.specs.PriceRule.{Proposal}
-use Rattle.uc_model.specs.Sums.{int_at, floor_div}
-use Rattle.uc_model.proofs.IntLaws.{sum_below-same}
-use Rattle.uc_model.proofs.SignedLaws.{IsWithin}
-use Rattle.price_move.specs.Sizes.{IsRowOver}
-use Rattle.gap_proof.specs.CertifiedBound.{slope_at, height_of, weighted, low_end, high_end, most_over, certified_bound}
-use Rattle.gap_proof.specs.Sums.{IsWeight, IsSlopeSum, IsHeightSum, AreSums}
+use Rattle.gap_proof.proofs.Common.{◌≡◌, ℕ, zero, suc, ◌+◌, ◌-◌, ◌*◌, ◌<◌, ◌≤◌, Bool, if◌then◌else◌, ℤ, pos, ◌+ℤ◌, ◌-ℤ◌, ◌*ℤ◌, List, [], ◌∷◌, length, unsigned_abs, refl, sym, ap, subst, ◌∙◌, inl, inr, arith, cases_lt, ints, get_or_default, All-head, All-tail, int_max, All, PriceLists, Market, IsFrom, IsPower, IsTotal, IsMarket, Proposal, int_at, floor_div, sum_below-same, IsWithin, IsRowOver, slope_at, height_of, weighted, low_end, high_end, most_over, certified_bound, IsWeight, IsSlopeSum, IsHeightSum, AreSums}
 use Rattle.gap_proof.proofs.Bounds.{signed_product_within, within_both}
 use Rattle.gap_proof.proofs.Subgradients.{lt_true, lt_false}
 

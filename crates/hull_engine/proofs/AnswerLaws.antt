@@ -1,17 +1,8 @@
 -- What the run of a command answers.
-use Rattle.std.proofs.Common.{◌≡◌, ℕ, ℤ, List, subst, sym, ap, ◌∙◌}
-use Rattle.uc_model.specs.Data.{unit_count}
-use Rattle.uc_model.specs.PlainCases.{market_of}
-use Rattle.report_form.specs.ReportText.{Report}
-use Rattle.hull_report.specs.FixedText.{told_of, fixed_text}
+use Rattle.hull_engine.proofs.Common.{◌≡◌, ℕ, ℤ, List, subst, sym, ap, ◌∙◌, unit_count, market_of, Report, told_of, fixed_text, RunInput, IsReportText, IsBoundText, IsFixedText, planned_in, planned_of, IsRunText, setup_of}
 use Rattle.board_history.specs.Board.{Setup}
 use Rattle.board_run.specs.Compared.{AreSides, ArePaid}
 use Rattle.board_run.specs.declared.fixed.Sides.{Sides}
-use Rattle.board_run.specs.declared.input.RunInput.{RunInput}
-use Rattle.hull_engine.specs.Outcome.{IsReportText, IsBoundText, IsFixedText}
-use Rattle.board_run.specs.Inputs.{planned_in, planned_of}
-use Rattle.hull_engine.specs.Answers.{IsRunText}
-use Rattle.board_run.specs.Rounds.{setup_of}
 
 -- the texts of a run are those of its input, with the numbers of the words
 pub run_texts : (text_of : Report → List ℕ) (run : RunInput) (b : Setup) (budget ahead : ℕ) → b ≡ setup_of run → run.size.proposals ≡ budget → run.size.ahead ≡ ahead

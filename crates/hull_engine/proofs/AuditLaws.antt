@@ -1,11 +1,5 @@
 -- The steps of an audit, one after another.
-use Rattle.std.proofs.Common.{◌≡◌, ℕ, inl, inr, List, Option, Some, Result, Ok, Err, refl, ap, ◌∙◌}
-use Rattle.report_form.specs.ReportText.{Report, report_text}
-use Rattle.hull_report.specs.declared.fault.FileKind.TheVariants.{ReportFile}
-use Rattle.hull_report.specs.declared.fault.TopFault.{TopFault}
-use Rattle.hull_engine.specs.Answers.{IsFaultOf}
-use Rattle.hull_engine.specs.Steps.{Then, Reads, IsInput, IsWithinWork, IsReportFile, IsJudged, IsAudit}
-use Rattle.board_run.specs.Inputs.{PlannedCase}
+use Rattle.hull_engine.proofs.Common.{◌≡◌, ℕ, inl, inr, List, Option, Some, Result, Ok, Err, refl, ap, ◌∙◌, Report, report_text, ReportFile, TopFault, IsFaultOf, Then, Reads, IsInput, IsWithinWork, IsReportFile, IsJudged, IsAudit, PlannedCase}
 use Rattle.hull_engine.proofs.ReadLaws.{got}
 
 -- ---- the steps

@@ -1,16 +1,8 @@
 -- The end of a run is its outcome.
-use Rattle.std.proofs.Common.{◌≡◌, ℕ, ◌≤◌, List, Option, Result, Ok, Err, inl, inr, sym, subst}
-use Rattle.hull_io.specs.Edge.{Gains, FallsShort}
-use Rattle.hull_words.specs.Asked.{Asked}
-use Rattle.hull_words.specs.declared.fault.WordFault.{WordFault}
-use Rattle.hull_report.specs.declared.fault.TopFault.{TopFault}
-use Rattle.hull_report.specs.declared.fault.TopFault.TheVariants.{Words}
+use Rattle.hull_engine.proofs.Common.{◌≡◌, ℕ, ◌≤◌, List, Option, Result, Ok, Err, inl, inr, sym, subst, Gains, FallsShort, Asked, WordFault, TopFault, Words, Reads, Command, command_for, Ends, IsFaultOf, IsCommandAnswer, IsEndOf}
 use Rattle.hull_engine.specs.declared.answers.Answer.{Answer}
 use Rattle.hull_engine.specs.declared.end.End.{End}
 use Rattle.hull_engine.specs.declared.end.End.TheVariants.{Done, Cut, Refused}
-use Rattle.hull_engine.specs.Steps.{Reads}
-use Rattle.hull_engine.specs.Outcome.{Command, command_for, Ends}
-use Rattle.hull_engine.specs.Answers.{IsFaultOf, IsCommandAnswer, IsEndOf}
 
 pub ends_as : (c : Command) (reads : Reads) (gained short : List ℕ → Type 0) (r : Result Answer TopFault) (e : End) → IsCommandAnswer c reads r → IsEndOf gained short r e → Ends c reads gained short e
 ends_as c reads gained short (Ok a) Done (i, due, texts) (text, is, p) = (i, due, text, texts text is, p)

@@ -1,3 +1,5 @@
+-- The names from elsewhere that the proofs here cite.
+pub mod Common
 -- files.rt, answers.rt: one step after another
 pub mod StepLaws
 -- files.rt, laws.rt: what was read of a file
@@ -14,3 +16,5 @@ pub mod WriteLaws
 pub mod EndLaws
 -- answers.rt, laws.rt: the audit of a report
 pub mod AuditLaws
+-- The lemmas that answers cite.
+pub mod Lemmas

@@ -1,11 +1,6 @@
 -- A feasible plan has a schedule for each unit over the whole horizon.
-use Rattle.std.proofs.Common.{◌≡◌, ℕ, zero, suc, ◌<◌, false, List, [], ◌∷◌, ◌++◌, length, map, drop, slice_index_or, slice_index, ◌∙◌, subst, arith, append_assoc, length-append}
-use Rattle.std.specs.Prelude.{IsTrue}
-use Rattle.std.specs.List.{All, AllZip}
-use Rattle.std.proofs.lemmas.List.{length-map}
-use Rattle.std.proofs.lemmas.List.Elements.{All-from_get_or}
+use Rattle.hull_engine.proofs.Common.{◌≡◌, ℕ, zero, suc, ◌<◌, false, List, [], ◌∷◌, ◌++◌, length, map, drop, slice_index_or, slice_index, ◌∙◌, subst, arith, append_assoc, length-append, IsTrue, All, AllZip, length-map, All-from_get_or, AnyUnit, Thermal, Flat, Bid, NamedThermalUnit, NamedRenewableUnit, NamedBidUnit, Schedule, Market, units, unit_count}
 use Rattle.std.proofs.lemmas.Slice.Zip.{AllZip-long}
-use Rattle.uc_model.specs.Data.{AnyUnit, Thermal, Flat, Bid, NamedThermalUnit, NamedRenewableUnit, NamedBidUnit, Schedule, Market, units, unit_count}
 use Rattle.uc_model.specs.Laws.{HasPlanShape}
 use Rattle.uc_model.specs.Schedules.{IsSchedule, IsFeasible}
 use Rattle.uc_model.specs.Systems.{IsFeasiblePlan}

@@ -1,16 +1,7 @@
 -- What was read of a file, of the two files of an input, and of a report beside them.
-use Rattle.std.proofs.Common.{◌≡◌, ℕ, ◌+◌, ◌<◌, ◌≤◌, Bool, true, false, List, [], length, replicate, Option, None, Some, Ok, Err, refl, inl, inr, arith}
-use Rattle.std.specs.Prelude.{IfSome, nat_lt, if◌then◌else◌}
-use Rattle.std.proofs.lemmas.List.{length-replicate}
-use Rattle.std.proofs.lemmas.Bool.{le-ltb, lt-ltb}
-use Rattle.hull_io.specs.Edge.{Rose}
+use Rattle.hull_engine.proofs.Common.{◌≡◌, ℕ, ◌+◌, ◌<◌, ◌≤◌, Bool, true, false, List, [], length, replicate, Option, None, Some, Ok, Err, refl, inl, inr, arith, IfSome, nat_lt, if◌then◌else◌, length-replicate, le-ltb, lt-ltb, Rose, CaseFile, ScheduleFile, ReportFile, TooBig, Reads, bytes_of, IsBytes, IsReadOf, case_and_schedule, with_report, AreReads, HasRead}
 use Rattle.hull_io.specs.declared.read.TheConstants.{MOST_BYTES}
 use Rattle.hull_report.specs.declared.fault.FileKind.{FileKind}
-use Rattle.hull_report.specs.declared.fault.FileKind.TheVariants.{CaseFile, ScheduleFile, ReportFile}
-use Rattle.hull_report.specs.declared.fault.TopFault.TheVariants.{TooBig}
-use Rattle.hull_engine.specs.Steps.{Reads, bytes_of, IsBytes}
-use Rattle.hull_engine.specs.Outcome.{IsReadOf, case_and_schedule, with_report, AreReads}
-use Rattle.hull_engine.specs.Answers.{HasRead}
 
 -- ---- the bytes of one file
 

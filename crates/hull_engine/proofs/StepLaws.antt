@@ -1,8 +1,5 @@
 -- How one step's answer goes on to the next.
-use Rattle.std.proofs.Common.{Result, Ok, Err, refl, inl, inr}
-use Rattle.hull_report.specs.declared.fault.TopFault.{TopFault}
-use Rattle.hull_engine.specs.Steps.{Then}
-use Rattle.hull_engine.specs.Answers.{IsFaultOf, IsAnswer}
+use Rattle.hull_engine.proofs.Common.{Result, Ok, Err, refl, inl, inr, TopFault, Then, IsFaultOf, IsAnswer}
 
 module _ {A B : Type 0} (first : Result A TopFault → Type 0) (next : A → Result B TopFault → Type 0) where
   pub refused_then : (f : TopFault) → IsFaultOf first f → IsFaultOf (Then first next) f

@@ -1,18 +1,12 @@
 -- The numbers of a run that words ask for are within their ranges.
-use Rattle.std.proofs.Common.{◌≡◌, ℕ, ℤ, pos, ◌+◌, Bool, true, false, ◌&&◌, cond, leb, List, [], ◌∷◌, length, Option, Some, None, Ok, refl, subst, option_map, unwrap_or, arith}
-use Rattle.std.specs.Prelude.{option_and_then}
-use Rattle.std.proofs.lemmas.Bool.{leb-true}
-use Rattle.std.proofs.lemmas.Int.{ints}
+use Rattle.hull_engine.proofs.Common.{◌≡◌, ℕ, ℤ, pos, ◌+◌, Bool, true, false, ◌&&◌, cond, leb, List, [], ◌∷◌, length, Option, Some, None, Ok, refl, subst, option_map, unwrap_or, arith, option_and_then, leb-true, ints, WordFault, Asked, Found, CheckAsked, PriceAsked, price, check, try, bound, fixed, audit, with_both, names_from, asked_from, first_fault, backwards, found_in, or_fault, or_missing, asked_of, later_words, words_of}
 use Rattle.std.proofs.lemmas.Option.{same_Some}
 use Rattle.gap_proof.specs.Sums.{IsRadius}
 use Rattle.std.specs.Str.Parse.{digits_value}
-use Rattle.hull_words.specs.declared.fault.WordFault.{WordFault}
 use Rattle.hull_words.specs.declared.kinds.CommandKind.{CommandKind}
 use Rattle.hull_words.specs.declared.kinds.CommandKind.TheVariants as kinds
-use Rattle.hull_words.specs.Asked.{Asked, Found, CheckAsked, PriceAsked, price, check, try, bound, fixed, audit, with_both, names_from, asked_from}
 use Rattle.hull_words.specs.Spelling.{command_named}
 use Rattle.hull_words.specs.Texts.{is_numeral, number_in}
-use Rattle.hull_words.specs.Words.{first_fault, backwards, found_in, or_fault, or_missing, asked_of, later_words, words_of}
 use Rattle.board_run.specs.Sizes.{IsWithin, IsWorkers, IsRunSize}
 use Rattle.hull_engine.specs.Sizes.{HasSizes}
 

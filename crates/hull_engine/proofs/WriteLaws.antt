@@ -1,18 +1,11 @@
 -- What is written of a run that has ended is the text of a right report.
-use Rattle.std.proofs.Common.{◌≡◌, ℕ, inl, inr, List, Result, Ok, Err, length, unsigned_abs, refl}
-use Rattle.std.specs.Prelude.{OnOk, OnErr}
-use Rattle.uc_model.specs.Data.{unit_count}
+use Rattle.hull_engine.proofs.Common.{◌≡◌, ℕ, inl, inr, List, Result, Ok, Err, length, unsigned_abs, refl, OnOk, OnErr, unit_count, Report, planned_in, IsRunText, IsBoundText, HasStatus, IsEnded}
 use Rattle.board_history.specs.Calls.{own_rows}
 use Rattle.hull_report.specs.BoundText.{bound_text}
 use Rattle.hull_report.specs.RecordReport.{chosen_of, value_of, report_of, RecordReportIsRight, SettlementsAreOfAllUnits}
-use Rattle.report_form.specs.ReportText.{Report}
 use Rattle.board_run.specs.declared.run.Done.{Done}
 use Rattle.board_run.specs.declared.bound.Bounded.{Bounded}
-use Rattle.board_run.specs.Inputs.{planned_in}
-use Rattle.hull_engine.specs.Answers.{IsRunText}
 use Rattle.board_run.specs.Bounded.{IsBounded}
-use Rattle.hull_engine.specs.Outcome.{IsBoundText, HasStatus}
-use Rattle.board_run.specs.Rounds.{IsEnded}
 
 -- the settlement has one number for each unit
 pub ended_lengths : SettlementsAreOfAllUnits → (d : Done) → IsEnded d.closed.setup d

@@ -1,14 +1,5 @@
 -- The chosen value of a record is of a size that the lines of a bound tell.
-use Rattle.std.proofs.Common.{◌≡◌, ℕ, ◌-◌, ◌<◌, ◌≤◌, pos, [], length, sym, subst, arith}
-use Rattle.std.proofs.lemmas.Int.{ints}
-use Rattle.std.proofs.lemmas.List.{get_or-map}
-use Rattle.board_core.specs.Setups.{IsSetup}
-use Rattle.board_history.specs.Board.{Content, IsLegalHistory}
-use Rattle.board_history.specs.Bounds.{RowsAreWithin}
-use Rattle.board_history.specs.Calls.{own_rows}
-use Rattle.uc_model.specs.PriceRule.{Proposal, no_prices}
-use Rattle.hull_report.specs.BoundText.{IsTold}
-use Rattle.hull_report.specs.RecordReport.{chosen_of, value_of}
+use Rattle.hull_report.proofs.Common.{◌≡◌, ℕ, ◌-◌, ◌<◌, ◌≤◌, pos, [], length, sym, subst, arith, ints, get_or-map, IsSetup, Content, IsLegalHistory, RowsAreWithin, own_rows, Proposal, no_prices, IsTold, chosen_of, value_of}
 
 no_row : Proposal
 no_row = record { prices = no_prices; value = pos 0; supply = []; reserve = [] }

@@ -1,15 +1,7 @@
 -- Where there is a row, one is chosen.
-use Rattle.std.proofs.Common.{◌≡◌, ℕ, suc, ◌<◌, ◌≤◌, Bool, true, false, ◌&&◌, cond, ℤ, pos, Some, None, Option, List, [], ◌∷◌, map, length, get_or, inl, inr, refl, ap, arith}
-use Rattle.std.specs.Prelude.{int_le, unwrap_or}
-use Rattle.std.specs.List.{list_all, position_or_len}
-use Rattle.std.specs.Option.{option_map}
-use Rattle.std.proofs.lemmas.Bool.{lt-ltb}
+use Rattle.hull_report.proofs.Common.{◌≡◌, ℕ, suc, ◌<◌, ◌≤◌, Bool, true, false, ◌&&◌, cond, ℤ, pos, Some, None, Option, List, [], ◌∷◌, map, length, get_or, inl, inr, refl, ap, arith, int_le, unwrap_or, list_all, position_or_len, option_map, lt-ltb, ints, length-map, Proposal, first_greatest, OneIsChosen}
 use Rattle.std.proofs.lemmas.Bool.Decides.{leb_tells}
-use Rattle.std.proofs.lemmas.Int.{ints}
-use Rattle.std.proofs.lemmas.List.{length-map}
 use Rattle.std.proofs.lemmas.List.Sums.{fails_before_first}
-use Rattle.uc_model.specs.PriceRule.{Proposal, first_greatest}
-use Rattle.hull_report.specs.Laws.{OneIsChosen}
 
 abbrev is_top : List ℤ → ℤ → Bool
 is_top values v = list_all (λ w. int_le w v) values

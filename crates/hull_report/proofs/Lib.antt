@@ -1,3 +1,5 @@
+-- The names from elsewhere that the proofs here cite.
+pub mod Common
 -- record.rt, fixed.rt, fault.rt: texts one after another
 mod RecordTexts
 -- record.rt: the lines of a record's units, its rows, and the whole text
@@ -14,3 +16,5 @@ mod OneReport
 mod BoundLaws
 -- fixed.rt, laws.rt: the sides of the text of `hull fixed`
 mod Sides
+-- The lemmas that answers cite.
+pub mod Lemmas

@@ -1,18 +1,5 @@
 -- At most one report is right, and its payments make up its gap.
-use Rattle.std.proofs.Common.{◌≡◌, ℕ, ◌-◌, ◌<◌, ℤ, ◌-ℤ◌, List, [], ◌∷◌, ◌++◌, map, length, take, drop, get_or, slice_get, refl, sym, ap, ◌∙◌, subst, arith, length-append}
-use Rattle.std.proofs.lemmas.List.{length-map, get_or-map, map-append, take_at, drop_at, same_lists}
-use Rattle.std.proofs.lemmas.Option.{same_Some, slice_get_within, get_or_from_slice_get}
-use Rattle.std.specs.List.{AllZip}
-use Rattle.uc_model.specs.Data.{PriceLists, Schedule, Market, units}
-use Rattle.uc_model.specs.Earnings.{IsTop}
-use Rattle.uc_model.specs.PriceRule.{Proposal, chosen_number}
-use Rattle.uc_model.specs.Runs.{Fits}
-use Rattle.uc_model.specs.Sums.{total, zip_with}
-use Rattle.uc_model.specs.Systems.{plan_cost, IsDualValue, IsSettled}
-use Rattle.uc_model.specs.Laws.{OneLeast, PaymentsMakeUpTheGap}
-use Rattle.report_form.specs.ReportText.{UnitLine, Report}
-use Rattle.hull_report.specs.RightReport.{unit_lines, HasNames, IsRightReport}
-use Rattle.hull_report.specs.Laws.{OneRightReport, ReportPaymentsMakeUpTheGap}
+use Rattle.hull_report.proofs.Common.{◌≡◌, ℕ, ◌-◌, ◌<◌, ℤ, ◌-ℤ◌, List, [], ◌∷◌, ◌++◌, map, length, take, drop, get_or, slice_get, refl, sym, ap, ◌∙◌, subst, arith, length-append, length-map, get_or-map, map-append, take_at, drop_at, same_lists, same_Some, slice_get_within, get_or_from_slice_get, AllZip, PriceLists, Schedule, Market, units, IsTop, Proposal, chosen_number, Fits, total, zip_with, plan_cost, IsDualValue, IsSettled, OneLeast, PaymentsMakeUpTheGap, UnitLine, Report, unit_lines, HasNames, IsRightReport, OneRightReport, ReportPaymentsMakeUpTheGap}
 use Rattle.hull_report.proofs.OneRun.{zip_same, tops_same, one_run}
 
 -- ---- the numbers of a settlement

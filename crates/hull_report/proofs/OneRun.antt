@@ -1,18 +1,5 @@
 -- At most one list of rows is a run: each row follows from the rows before it, and so does the end.
-use Rattle.std.proofs.Common.{◌≡◌, ℕ, zero, suc, ◌+◌, ◌<◌, ◌≤◌, inl, inr, ℤ, pos, ◌-ℤ◌, List, [], ◌∷◌, length, take, get_or, refl, sym, ap, ◌∙◌, subst, arith}
-use Rattle.std.proofs.lemmas.Bool.{false≢true}
-use Rattle.std.proofs.lemmas.Int.{ints}
-use Rattle.std.proofs.lemmas.List.{take_all, take_more_same}
-use Rattle.std.specs.List.{AllZip}
-use Rattle.std.specs.Prelude.{IsTrue}
-use Rattle.uc_model.specs.Data.{AnyUnit, PriceLists, Schedule, Market, units}
-use Rattle.uc_model.specs.Earnings.{IsTop}
-use Rattle.uc_model.specs.PriceRule.{Proposal, no_prices, is_settled}
-use Rattle.uc_model.specs.Runs.{Fits, HasTotals, IsNextRow, AreRightRows, IsRun}
-use Rattle.uc_model.specs.Sums.{total}
-use Rattle.uc_model.specs.Systems.{worth_of_demand, IsDualValue}
-use Rattle.uc_model.specs.Laws.{OneLeast}
-use Rattle.hull_report.specs.Laws.{OneRun}
+use Rattle.hull_report.proofs.Common.{◌≡◌, ℕ, zero, suc, ◌+◌, ◌<◌, ◌≤◌, inl, inr, ℤ, pos, ◌-ℤ◌, List, [], ◌∷◌, length, take, get_or, refl, sym, ap, ◌∙◌, subst, arith, false≢true, ints, take_all, take_more_same, AllZip, IsTrue, AnyUnit, PriceLists, Schedule, Market, units, IsTop, Proposal, no_prices, is_settled, Fits, HasTotals, IsNextRow, AreRightRows, IsRun, total, worth_of_demand, IsDualValue, OneLeast, OneRun}
 
 -- items of which each left item has one make one list
 pub zip_same : {A B : Type 0} (R : A → B → Type 0) → ((a : A) (x y : B) → R a x → R a y → x ≡ y) → (us : List A) (xs ys : List B) → AllZip R us xs → AllZip R us ys → xs ≡ ys

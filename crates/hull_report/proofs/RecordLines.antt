@@ -1,31 +1,11 @@
 -- The lines of a record's units, found by their place among the units of a kind.
-use Rattle.std.proofs.Common.{to_z, of_z, ◌≡◌, ℕ, ◌+◌, ◌-◌, ◌<◌, ◌≤◌, ℤ, pos, ◌-ℤ◌, true, Some, List, [], map, length, get_or, slice_get, refl, sym, ap, ◌∙◌, subst, arith}
-use Rattle.std.proofs.lemmas.Int.{ints, to_z-of_z}
-use Rattle.std.proofs.lemmas.List.{length-map, get_or-map}
-use Rattle.std.proofs.lemmas.Option.{get_or_from_slice_get}
-use Rattle.std.specs.Int.{w128}
-use Rattle.std.specs.Prelude.{FitsSigned}
-use Rattle.board_core.specs.Setups.{IsSetup}
-use Rattle.board_history.specs.Board.{Answer, Content, rules_of, IsLegalHistory}
-use Rattle.board_history.specs.Calls.{own_rows, has_finished}
-use Rattle.board_history.specs.Rounds.{posts, answer_at}
-use Rattle.board_history.specs.Bounds.{RowsAreWithin, IsRowWithin}
-use Rattle.board_history.specs.Laws.{FinishedHasRow, FinishedIsRun}
+use Rattle.hull_report.proofs.Common.{to_z, of_z, ◌≡◌, ℕ, ◌+◌, ◌-◌, ◌<◌, ◌≤◌, ℤ, pos, ◌-ℤ◌, true, Some, List, [], map, length, get_or, slice_get, refl, sym, ap, ◌∙◌, subst, arith, ints, to_z-of_z, length-map, get_or-map, get_or_from_slice_get, w128, FitsSigned, IsSetup, Answer, Content, rules_of, IsLegalHistory, own_rows, has_finished, posts, answer_at, RowsAreWithin, IsRowWithin, FinishedHasRow, FinishedIsRun, Fits, Row, NamedThermalUnit, NamedRenewableUnit, NamedBidUnit, Market, market_of, proposal_of, named_thermal_of, named_renewable_of, named_bid_of, Proposal, int_at, Settlement, thermal_names, renewable_names, bid_names, told_line, line_of, lines_from, chosen_of, value_of}
 use Rattle.uc_model.specs.BoundLaws.{PlanCostsAreWithin}
-use Rattle.uc_model.specs.Runs.{Fits}
 use Rattle.uc_model.specs.declared.cases.Case.{Case}
-use Rattle.uc_model.specs.declared.cases.Row.{Row}
 use Rattle.uc_model.specs.declared.units.NamedUnit.{NamedUnit}
 use Rattle.uc_model.specs.declared.units.NamedFlat.{NamedFlat}
 use Rattle.uc_model.specs.declared.units.NamedBid.{NamedBid}
-use Rattle.uc_model.specs.Data.{NamedThermalUnit, NamedRenewableUnit, NamedBidUnit, Market}
-use Rattle.uc_model.specs.PlainCases.{market_of, proposal_of}
-use Rattle.uc_model.specs.PlainUnits.{named_thermal_of, named_renewable_of, named_bid_of}
-use Rattle.uc_model.specs.PriceRule.{Proposal}
-use Rattle.uc_model.specs.Sums.{int_at}
 use Rattle.uc_model.proofs.SignedLaws.{IsWithin, fits_within}
-use Rattle.uplift_settle.specs.declared.settlement.Settlement.{Settlement}
-use Rattle.hull_report.specs.RecordReport.{thermal_names, renewable_names, bid_names, told_line, line_of, lines_from, chosen_of, value_of}
 use Rattle.hull_report.proofs.Records.{chosen_is}
 use Rattle.hull_report.proofs.UnitLines.{length-lines, line_at}
 

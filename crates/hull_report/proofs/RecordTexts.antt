@@ -1,10 +1,5 @@
 -- Texts that are written one after another: lines of a list, and three texts.
-use Rattle.std.proofs.Common.{◌≡◌, ℕ, ◌+◌, ◌<◌, ◌≤◌, List, ◌++◌, length, take, drop, get_or, Option, Result, Ok, Err, IsErr, sym, ap, subst, ◌∙◌}
-use Rattle.std.proofs.lemmas.List.{take_all}
-use Rattle.std.specs.List.{flat_map}
-use Rattle.hull_io.specs.Edge.{Gains, FallsShort, Writes}
-use Rattle.uc_model.proofs.ListLaws.{flat_map_at, flat_map_up_to}
-use Rattle.report_form.specs.Laws.{GainsAddUp}
+use Rattle.hull_report.proofs.Common.{◌≡◌, ℕ, ◌+◌, ◌<◌, ◌≤◌, List, ◌++◌, length, take, drop, get_or, Option, Result, Ok, Err, IsErr, sym, ap, subst, ◌∙◌, take_all, flat_map, Gains, FallsShort, Writes, flat_map_at, flat_map_up_to, GainsAddUp}
 
 module _ {S : Type 0} {held : S → Option (List ℕ)} {faults : S → ℕ} where
   -- all lines of a list

@@ -1,27 +1,6 @@
 -- What the record of a finished board tells of its chosen row.
-use Rattle.std.proofs.Common.{◌≡◌, ℕ, suc, ◌+◌, ◌-◌, ◌<◌, ◌≤◌, ℤ, pos, ◌-ℤ◌, Some, Option, List, ◌++◌, map, length, slice_get, refl, sym, ap, ◌∙◌, subst, arith, length-append}
-use Rattle.std.proofs.lemmas.List.{length-map, get_or-map}
+use Rattle.hull_report.proofs.Common.{◌≡◌, ℕ, suc, ◌+◌, ◌-◌, ◌<◌, ◌≤◌, ℤ, pos, ◌-ℤ◌, Some, Option, List, ◌++◌, map, length, slice_get, refl, sym, ap, ◌∙◌, subst, arith, length-append, length-map, get_or-map, slice_get_within, get_or_from_slice_get, AllZip, range_with_len, option_map_or, Answer, Content, rules_of, row_of, schedules_in, IsLegalHistory, own_rows, posts, answer_at, answers, prices_at, AnswersFit, RowsAreMade, FinishedHasRow, FinishedIsRun, AnyUnit, Market, NamedThermalUnit, NamedRenewableUnit, NamedBidUnit, PriceLists, Schedule, units, unit_count, earnings, IsTop, Proposal, Fits, HasTotals, IsRun, IsFeasible, int_at, IsSettled, length_same, length-zip_with, Settlement, OneIsChosen, UnitLine, unit_lines, HasNames, thermal_names, renewable_names, bid_names, line_of, lines_from, chosen_of, report_of, IsSettledRecord, RecordReportIsRight, SettlementsAreOfAllUnits, AnswersAreTops}
 use Rattle.std.proofs.lemmas.Simd.{map-map}
-use Rattle.std.proofs.lemmas.Option.{slice_get_within, get_or_from_slice_get}
-use Rattle.std.specs.List.{AllZip, range_with_len}
-use Rattle.std.specs.Option.{option_map_or}
-use Rattle.board_history.specs.Board.{Answer, Content, rules_of, row_of, schedules_in, IsLegalHistory}
-use Rattle.board_history.specs.Calls.{own_rows}
-use Rattle.board_history.specs.Rounds.{posts, answer_at, answers, prices_at}
-use Rattle.board_history.specs.Laws.{AnswersFit, RowsAreMade, FinishedHasRow, FinishedIsRun}
-use Rattle.uc_model.specs.Data.{AnyUnit, Market, NamedThermalUnit, NamedRenewableUnit, NamedBidUnit, PriceLists, Schedule, units, unit_count}
-use Rattle.uc_model.specs.Earnings.{earnings, IsTop}
-use Rattle.uc_model.specs.PriceRule.{Proposal}
-use Rattle.uc_model.specs.Runs.{Fits, HasTotals, IsRun}
-use Rattle.uc_model.specs.Schedules.{IsFeasible}
-use Rattle.uc_model.specs.Sums.{int_at}
-use Rattle.uc_model.specs.Systems.{IsSettled}
-use Rattle.uc_model.proofs.ListLaws.{length_same, length-zip_with}
-use Rattle.uplift_settle.specs.declared.settlement.Settlement.{Settlement}
-use Rattle.hull_report.specs.Laws.{OneIsChosen}
-use Rattle.report_form.specs.ReportText.{UnitLine}
-use Rattle.hull_report.specs.RightReport.{unit_lines, HasNames}
-use Rattle.hull_report.specs.RecordReport.{thermal_names, renewable_names, bid_names, line_of, lines_from, chosen_of, report_of, IsSettledRecord, RecordReportIsRight, SettlementsAreOfAllUnits, AnswersAreTops}
 use Rattle.hull_report.proofs.ChosenRow.{one_is_chosen}
 use Rattle.hull_report.proofs.UnitLines.{units_length, lines_append, lines_map, lines_names, lines_zip, zip_each, numbers_at}
 

@@ -1,15 +1,6 @@
 -- A right report has the form of a report: renewable units and bids are always on and give no reserve.
-use Rattle.std.proofs.Common.{◌≡◌, ℕ, ◌<◌, true, false, IsTrue, List, [], ◌∷◌, ◌++◌, map, length, replicate, get_or, sym, ap, ◌∙◌, arith, length-append}
-use Rattle.std.proofs.lemmas.List.{length-map, length-replicate, get_or-replicate, get_or_default, same_lists}
+use Rattle.hull_report.proofs.Common.{◌≡◌, ℕ, ◌<◌, true, false, IsTrue, List, [], ◌∷◌, ◌++◌, map, length, replicate, get_or, sym, ap, ◌∙◌, arith, length-append, length-map, length-replicate, get_or-replicate, get_or_default, same_lists, All, AllZip, slice_index, slice_index_or, AnyUnit, Thermal, Flat, Bid, NamedThermalUnit, NamedRenewableUnit, NamedBidUnit, PriceLists, Fits, IsSchedule, UnitLine, IsFlatLine, RightReportHasForm}
 use Rattle.std.proofs.lemmas.List.Elements.{All-nil, All-cons}
-use Rattle.std.specs.List.{All, AllZip}
-use Rattle.std.specs.Prelude.{slice_index, slice_index_or}
-use Rattle.uc_model.specs.Data.{AnyUnit, Thermal, Flat, Bid, NamedThermalUnit, NamedRenewableUnit, NamedBidUnit, PriceLists}
-use Rattle.uc_model.specs.Runs.{Fits}
-use Rattle.uc_model.specs.Schedules.{IsSchedule}
-use Rattle.report_form.specs.ReportText.{UnitLine}
-use Rattle.report_form.specs.Laws.{IsFlatLine}
-use Rattle.hull_report.specs.Laws.{RightReportHasForm}
 
 -- a list with one item at every place
 all_same : {X : Type 0} (xs : List X) (n : ℕ) (x y : X) → length xs ≡ n → ((k : ℕ) → k < n → get_or xs k y ≡ x) → xs ≡ replicate n x

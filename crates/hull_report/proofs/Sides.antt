@@ -1,22 +1,5 @@
 -- The sides of `hull fixed`: what a record chose, that it is right, and that at most one is.
-use Rattle.std.proofs.Common.{◌≡◌, ℕ, ◌-◌, ◌<◌, ◌≤◌, ℤ, pos, ◌-ℤ◌, List, map, length, get_or, slice_get, Some, refl, sym, ap, ◌∙◌, subst, arith}
-use Rattle.std.proofs.lemmas.List.{length-map, get_or-map}
-use Rattle.std.proofs.lemmas.Option.{same_Some, slice_get-map, slice_get-get_or, slice_get_within, get_or_from_slice_get}
-use Rattle.std.specs.Option.{option_map}
-use Rattle.board_core.specs.Setups.{IsSetup}
-use Rattle.board_history.specs.Board.{Content, IsLegalHistory}
-use Rattle.board_history.specs.Bounds.{RowsAreWithin}
-use Rattle.board_history.specs.Calls.{own_rows}
-use Rattle.board_history.specs.Laws.{FinishedIsRun}
-use Rattle.uc_model.specs.Data.{PriceLists}
-use Rattle.uc_model.specs.Laws.{OneLeast, PaymentsMakeUpTheGap}
-use Rattle.uc_model.specs.PlainCases.{proposal_of}
-use Rattle.uc_model.specs.PriceRule.{Proposal, chosen_number}
-use Rattle.uc_model.specs.Runs.{IsRun, Fits}
-use Rattle.uc_model.specs.Sums.{total}
-use Rattle.uc_model.specs.Systems.{plan_cost, worth_of_demand, IsDualValue, IsSettled}
-use Rattle.uc_model.specs.declared.cases.Row.{Row}
-use Rattle.hull_report.specs.RecordReport.{chosen_of, value_of}
+use Rattle.hull_report.proofs.Common.{◌≡◌, ℕ, ◌-◌, ◌<◌, ◌≤◌, ℤ, pos, ◌-ℤ◌, List, map, length, get_or, slice_get, Some, refl, sym, ap, ◌∙◌, subst, arith, length-map, get_or-map, same_Some, slice_get-map, slice_get-get_or, slice_get_within, get_or_from_slice_get, option_map, IsSetup, Content, IsLegalHistory, RowsAreWithin, own_rows, FinishedIsRun, PriceLists, OneLeast, PaymentsMakeUpTheGap, proposal_of, Proposal, chosen_number, IsRun, Fits, total, plan_cost, worth_of_demand, IsDualValue, IsSettled, Row, chosen_of, value_of}
 use Rattle.hull_report.specs.RightSide.{OneRightSide, SidePaymentsMakeUpTheGap, SettledSidesAreRight}
 use Rattle.hull_report.proofs.OneReport.{settled_same}
 use Rattle.hull_report.proofs.OneRun.{one_run}

@@ -1,13 +1,6 @@
 -- Lists of lines that are made of names and numbers.
-use Rattle.std.proofs.Common.{◌≡◌, ℕ, zero, suc, ◌+◌, ◌<◌, ℤ, pos, Some, List, [], ◌∷◌, ◌++◌, map, length, get_or, slice_get, refl, ap, ◌∙◌, subst, arith, length-append}
-use Rattle.std.proofs.lemmas.List.{get_or_default, same_lists}
+use Rattle.hull_report.proofs.Common.{◌≡◌, ℕ, zero, suc, ◌+◌, ◌<◌, ℤ, pos, Some, List, [], ◌∷◌, ◌++◌, map, length, get_or, slice_get, refl, ap, ◌∙◌, subst, arith, length-append, get_or_default, same_lists, AllZip, range_with_len, length-map, AnyUnit, Thermal, Flat, Bid, NamedThermalUnit, NamedRenewableUnit, NamedBidUnit, Market, units, unit_count, int_at, UnitLine, lines_from}
 use Rattle.std.proofs.lemmas.List.FromFn.{length-map-range_with_len, get_or-map-range_with_len}
-use Rattle.std.specs.List.{AllZip, range_with_len}
-use Rattle.std.proofs.lemmas.List.{length-map}
-use Rattle.uc_model.specs.Data.{AnyUnit, Thermal, Flat, Bid, NamedThermalUnit, NamedRenewableUnit, NamedBidUnit, Market, units, unit_count}
-use Rattle.uc_model.specs.Sums.{int_at}
-use Rattle.report_form.specs.ReportText.{UnitLine}
-use Rattle.hull_report.specs.RecordReport.{lines_from}
 
 module _ {Line : Type 0} (line : ℕ → List ℕ → Line) where
   pub length-lines : (first : ℕ) (names : List (List ℕ)) → length (lines_from line first names) ≡ length names

@@ -1,14 +1,5 @@
 -- The text of a record's report, part by part.
-use Rattle.std.proofs.Common.{◌≡◌, ℕ, ◌+◌, ℤ, ◌-ℤ◌, List, ◌++◌, length, sym, ◌∙◌, append_assoc}
-use Rattle.std.proofs.lemmas.List.{length-map}
-use Rattle.std.specs.List.{flat_map}
-use Rattle.board_history.specs.Board.{Content}
-use Rattle.board_history.specs.Calls.{own_rows}
-use Rattle.uc_model.specs.Data.{NamedThermalUnit, NamedRenewableUnit, unit_count}
-use Rattle.uplift_settle.specs.declared.settlement.Settlement.{Settlement}
-use Rattle.report_form.specs.ReportText.{head_text, rows_text, chosen_text, thermal_text, renewable_text, bid_text, foot_text, report_text}
-use Rattle.hull_report.specs.RecordReport.{thermal_names, renewable_names, bid_names, line_of, lines_from, chosen_of, value_of, report_of}
-use Rattle.hull_report.specs.TryText.{try_lines, try_text}
+use Rattle.hull_report.proofs.Common.{◌≡◌, ℕ, ◌+◌, ℤ, ◌-ℤ◌, List, ◌++◌, length, sym, ◌∙◌, append_assoc, length-map, flat_map, Content, own_rows, NamedThermalUnit, NamedRenewableUnit, unit_count, Settlement, head_text, rows_text, chosen_text, thermal_text, renewable_text, bid_text, foot_text, report_text, thermal_names, renewable_names, bid_names, line_of, lines_from, chosen_of, value_of, report_of, try_lines, try_text}
 use Rattle.hull_report.proofs.UnitLines.{length-lines}
 
 -- the lines up to the chosen value

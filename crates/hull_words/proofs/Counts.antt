@@ -1,15 +1,5 @@
 -- How many values are set, and what one step of the reader adds.
-use Rattle.std.proofs.Common.{◌≡◌, ℕ, ◌+◌, ◌≤◌, Bool, true, false, cond, List, Option, Some, None, Result, Ok, Err, refl, ap, subst, arith, is_some}
-use Rattle.hull_words.specs.declared.kinds.CommandKind.{CommandKind}
-use Rattle.hull_words.specs.declared.kinds.CommandKind.TheVariants.{Try}
-use Rattle.hull_words.specs.declared.kinds.OptionKind.{OptionKind}
-use Rattle.hull_words.specs.declared.kinds.OptionKind.TheVariants.{Case, Schedule, Report, Proposals, Workers, Ahead, Radius}
-use Rattle.hull_words.specs.declared.fault.WordCode.{WordCode}
-use Rattle.hull_words.specs.declared.fault.WordCode.TheVariants.{RepeatedOption, NoValue, StrayWord}
-use Rattle.hull_words.specs.Texts.{is_option, option_name, can_be_value}
-use Rattle.hull_words.specs.Asked.{Found}
-use Rattle.hull_words.specs.Words.{option_in, value_at, setting, try_number}
-use Rattle.hull_words.specs.Reading.{flag, set_count, is_set, with_number, set_to, value_step, option_step, plain_step, word_step}
+use Rattle.hull_words.proofs.Common.{◌≡◌, ℕ, ◌+◌, ◌≤◌, Bool, true, false, cond, List, Option, Some, None, Result, Ok, Err, refl, ap, subst, arith, is_some, CommandKind, Try, OptionKind, Case, Schedule, Report, Proposals, Workers, Ahead, Radius, WordCode, RepeatedOption, NoValue, StrayWord, is_option, option_name, can_be_value, Found, option_in, value_at, setting, try_number, flag, set_count, is_set, with_number, set_to, value_step, option_step, plain_step, word_step}
 
 pub flag_bound : (b : Bool) → flag b ≤ 1
 flag_bound true = omega arith

@@ -1,16 +1,5 @@
 -- The reader's pass gives what the rules give.
-use Rattle.std.proofs.Common.{◌≡◌, ℕ, ◌+◌, Bool, true, false, List, [], ◌∷◌, length, Some, None, Result, Ok, Err, refl, sym, ap, ◌∙◌, arith}
-use Rattle.std.proofs.lemmas.Option.{same_Some}
-use Rattle.hull_words.specs.declared.kinds.CommandKind.{CommandKind}
-use Rattle.hull_words.specs.declared.kinds.OptionKind.{OptionKind}
-use Rattle.hull_words.specs.declared.kinds.OptionKind.TheVariants.{Case}
-use Rattle.hull_words.specs.declared.fault.WordCode.{WordCode}
-use Rattle.hull_words.specs.declared.fault.WordFault.{WordFault}
-use Rattle.hull_words.specs.Texts.{is_option, takes_next}
-use Rattle.hull_words.specs.Spelling.{spelling}
-use Rattle.hull_words.specs.Asked.{Found}
-use Rattle.hull_words.specs.Words.{is_given, is_value_after, fault_at, first_of, first_fault, backwards, found_in, or_fault, fault, values_of, value_of}
-use Rattle.hull_words.specs.Reading.{nothing, is_set, word_step, then_on, read_from}
+use Rattle.hull_words.proofs.Common.{◌≡◌, ℕ, ◌+◌, Bool, true, false, List, [], ◌∷◌, length, Some, None, Result, Ok, Err, refl, sym, ap, ◌∙◌, arith, same_Some, CommandKind, OptionKind, Case, WordCode, WordFault, is_option, takes_next, spelling, Found, is_given, is_value_after, fault_at, first_of, first_fault, backwards, found_in, or_fault, fault, values_of, value_of, nothing, is_set, word_step, then_on, read_from}
 use Rattle.hull_words.proofs.Steps.{Agrees, Goes, Follows, word_follows}
 
 -- what the rules give for these words, where others stand before

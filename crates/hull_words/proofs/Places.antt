@@ -1,19 +1,9 @@
 -- The pass over the words, place by place, as the reader's loop makes it.
-use Rattle.std.proofs.Common.{◌≡◌, ℕ, ◌+◌, ◌*◌, ◌<◌, ◌≤◌, Bool, true, false, List, [], ◌∷◌, length, drop, get_or, Option, Some, None, Result, Ok, Err, refl, sym, ap, ◌∙◌, arith, add-one, String}
+use Rattle.hull_words.proofs.Common.{◌≡◌, ℕ, ◌+◌, ◌*◌, ◌<◌, ◌≤◌, Bool, true, false, List, [], ◌∷◌, length, drop, get_or, Option, Some, None, Result, Ok, Err, refl, sym, ap, ◌∙◌, arith, add-one, String, string_bytes, CommandKind, WordCode, NoCommand, UnknownCommand, WordFault, command_named, takes_next, Found, asked_from, first_of, fault, texts, words_of, values_of, asked_of, or_missing, flag, nothing, word_step, read_from}
 use Rattle.std.specs.Global.{Global}
-use Rattle.std.specs.String.{string_bytes}
 use Rattle.std.proofs.Math.Seq.{drop-cons}
 use Rattle.std.proofs.Math.ListN.{get_or-map, drop_of_length-le}
 use Rattle.std.proofs.lemmas.List.{length-map}
-use Rattle.hull_words.specs.declared.kinds.CommandKind.{CommandKind}
-use Rattle.hull_words.specs.declared.fault.WordCode.{WordCode}
-use Rattle.hull_words.specs.declared.fault.WordCode.TheVariants.{NoCommand, UnknownCommand}
-use Rattle.hull_words.specs.declared.fault.WordFault.{WordFault}
-use Rattle.hull_words.specs.Spelling.{command_named}
-use Rattle.hull_words.specs.Texts.{takes_next}
-use Rattle.hull_words.specs.Asked.{Found, asked_from}
-use Rattle.hull_words.specs.Words.{first_of, fault, texts, words_of, values_of, asked_of, or_missing}
-use Rattle.hull_words.specs.Reading.{flag, nothing, word_step, read_from}
 use Rattle.hull_words.proofs.Counts.{flag_bound}
 use Rattle.hull_words.proofs.Exact.{read_is}
 

@@ -1,20 +1,6 @@
 -- One step of the reader is the rules at that place.
-use Rattle.std.proofs.Common.{◌≡◌, ℕ, Bool, true, false, ◌||◌, cond, List, [], ◌∷◌, Option, Some, None, is_some, Result, Ok, Err, refl, sym, ap, subst, ◌∙◌}
-use Rattle.std.specs.List.{find}
+use Rattle.hull_words.proofs.Common.{◌≡◌, ℕ, Bool, true, false, ◌||◌, cond, List, [], ◌∷◌, Option, Some, None, is_some, Result, Ok, Err, refl, sym, ap, subst, ◌∙◌, find, bytes_eq-Decides, same_Some, CommandKind, Price, Check, Try, Bound, Fixed, Audit, OptionKind, Case, Schedule, Report, Proposals, Workers, Ahead, Radius, WordCode, RepeatedOption, NoValue, BadNumber, options, spelling, is_option, option_name, own_value, takes_next, can_be_value, Found, option_in, is_named, is_given, or_else, value_at, setting, fits, option_fault, is_value_after, plain_words, try_number, plain_fault, fault_at, first_of, value_of, found_in, is_set, with_number, set_to, value_step, option_step, plain_step, word_step}
 use Rattle.std.specs.Str.{bytes_eq}
-use Rattle.std.proofs.lemmas.Slice.Eq.{bytes_eq-Decides}
-use Rattle.std.proofs.lemmas.Option.{same_Some}
-use Rattle.hull_words.specs.declared.kinds.CommandKind.{CommandKind}
-use Rattle.hull_words.specs.declared.kinds.CommandKind.TheVariants.{Price, Check, Try, Bound, Fixed, Audit}
-use Rattle.hull_words.specs.declared.kinds.OptionKind.{OptionKind}
-use Rattle.hull_words.specs.declared.kinds.OptionKind.TheVariants.{Case, Schedule, Report, Proposals, Workers, Ahead, Radius}
-use Rattle.hull_words.specs.declared.fault.WordCode.{WordCode}
-use Rattle.hull_words.specs.declared.fault.WordCode.TheVariants.{RepeatedOption, NoValue, BadNumber}
-use Rattle.hull_words.specs.Spelling.{options, spelling}
-use Rattle.hull_words.specs.Texts.{is_option, option_name, own_value, takes_next, can_be_value}
-use Rattle.hull_words.specs.Asked.{Found}
-use Rattle.hull_words.specs.Words.{option_in, is_named, is_given, or_else, value_at, setting, fits, option_fault, is_value_after, plain_words, try_number, plain_fault, fault_at, first_of, value_of, found_in}
-use Rattle.hull_words.specs.Reading.{is_set, with_number, set_to, value_step, option_step, plain_step, word_step}
 use Rattle.hull_words.proofs.Counts.{ok_is, number_ok}
 use Rattle.hull_words.proofs.TextLemmas.{is_option-value}
 

@@ -1,12 +1,5 @@
 -- The least of the values is the least of the function.
-use Rattle.std.proofs.Common.{◌≡◌, ℕ, ◌+◌, ◌-◌, ◌<◌, ◌≤◌, List, length, get_or, take, drop, None, refl, sym, ap, ◌∙◌, arith, inl, inr, get_or-take, get_or-drop, length-take, length-drop}
-use Rattle.std.specs.Prelude.{ℤ, pos, ◌+ℤ◌, ◌≤ℤ◌, ◌<ℤ◌, ◌⊎◌}
-use Rattle.std.proofs.lemmas.Int.{ints}
-use Rattle.std.proofs.lemmas.Bool.{cases_lt}
-use Rattle.shape_law.specs.Table.{value_of, HasNone}
-use Rattle.shape_law.specs.Effect.{IsLeast, IsLeastIn}
-use Rattle.shape_law.specs.Lookup.{IsAt-from_value, value-from_is_at, value_of-at, value_of-below, place_split, slice_get_past}
-use Rattle.level_table.specs.Values.{table, IsLeastOf}
+use Rattle.level_table.proofs.Common.{◌≡◌, ℕ, ◌+◌, ◌-◌, ◌<◌, ◌≤◌, List, length, get_or, take, drop, None, refl, sym, ap, ◌∙◌, arith, inl, inr, get_or-take, get_or-drop, length-take, length-drop, ℤ, pos, ◌+ℤ◌, ◌≤ℤ◌, ◌<ℤ◌, ◌⊎◌, ints, cases_lt, value_of, HasNone, IsLeast, IsLeastIn, IsAt-from_value, value-from_is_at, value_of-at, value_of-below, place_split, slice_get_past, table, IsLeastOf}
 
 pub IsLeast-from_list : (lo : ℤ) (xs : List ℤ) (v : ℤ) (i : ℕ) → IsLeastOf xs v i → IsLeast (table lo xs) v (lo +ℤ pos i)
 IsLeast-from_list lo xs v i is =

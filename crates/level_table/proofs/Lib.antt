@@ -1,3 +1,5 @@
+-- The names from elsewhere that the proofs here cite.
+pub mod Common
 -- ---- src/lib.rt
 -- the values and the function, index by index and place by place
 pub mod ValueLaws
@@ -5,3 +7,5 @@ pub mod ValueLaws
 pub mod LeastLaws
 -- the least values in reach of the places between the two ends are the window
 pub mod WindowLaws
+-- The lemmas that answers cite.
+pub mod Lemmas

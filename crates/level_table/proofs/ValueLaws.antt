@@ -1,12 +1,6 @@
 -- The values and the function, index by index and place by place.
-use Rattle.std.proofs.Common.{◌≡◌, ℕ, ◌<◌, List, length, get_or, Option, Some, None, refl, sym, subst, ap, ◌∙◌, arith, inl, inr}
-use Rattle.std.specs.Prelude.{ℤ, pos, ◌+ℤ◌, ◌<ℤ◌, ◌⊎◌, slice_get, MatchOption}
+use Rattle.level_table.proofs.Common.{◌≡◌, ℕ, ◌<◌, List, length, get_or, Option, Some, None, refl, sym, subst, ap, ◌∙◌, arith, inl, inr, ℤ, pos, ◌+ℤ◌, ◌<ℤ◌, ◌⊎◌, slice_get, MatchOption, cases_lt, value_of, IsWithinLimits, IsSum, same_some, value-from_index, value_of-at, value_of-below, place_split, slice_get_in, slice_get_past, table, AreWithin}
 use Rattle.std.specs.Option.{option_map}
-use Rattle.std.proofs.lemmas.Bool.{cases_lt}
-use Rattle.shape_law.specs.Table.{value_of, IsWithinLimits}
-use Rattle.shape_law.specs.Effect.{IsSum}
-use Rattle.shape_law.specs.Lookup.{same_some, value-from_index, value_of-at, value_of-below, place_split, slice_get_in, slice_get_past}
-use Rattle.level_table.specs.Values.{table, AreWithin}
 
 pub AreWithin-from_limits : (lo : ℤ) (values : List ℤ) → IsWithinLimits (table lo values) → AreWithin lo values
 AreWithin-from_limits lo values h = record {

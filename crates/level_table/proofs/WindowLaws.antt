@@ -1,12 +1,5 @@
 -- The least values in reach of the places between the two ends are the window.
-use Rattle.std.proofs.Common.{◌≡◌, ℕ, ◌-◌, ◌<◌, List, length, get_or, Some, refl, ◌∙◌, arith, inl, inr}
-use Rattle.std.specs.Prelude.{ℤ, pos, ◌+ℤ◌, ◌-ℤ◌, ◌≤ℤ◌, ◌<ℤ◌, ◌⊎◌}
-use Rattle.std.specs.Int.{int_max, int_min}
-use Rattle.std.proofs.lemmas.Int.{ints, clamps}
-use Rattle.shape_law.specs.Table.{value_of, IsPlace}
-use Rattle.shape_law.specs.Effect.{IsWindow, IsLeastIn, Reaches}
-use Rattle.shape_law.specs.Lookup.{IsAt-from_value, value-from_is_at, place_split}
-use Rattle.level_table.specs.Values.{table, AreWithin}
+use Rattle.level_table.proofs.Common.{◌≡◌, ℕ, ◌-◌, ◌<◌, List, length, get_or, Some, refl, ◌∙◌, arith, inl, inr, ℤ, pos, ◌+ℤ◌, ◌-ℤ◌, ◌≤ℤ◌, ◌<ℤ◌, ◌⊎◌, int_max, int_min, ints, clamps, value_of, IsPlace, IsWindow, IsLeastIn, Reaches, IsAt-from_value, value-from_is_at, place_split, table, AreWithin}
 
 module _ (values : List ℤ) (own last up down lo hi from to : ℤ) (count : ℕ)
     (some : 0 < length values) (is_up : pos 0 ≤ℤ up) (is_down : pos 0 ≤ℤ down)

@@ -1,13 +1,5 @@
 -- The table before the first period, and what it is read from.
-use Rattle.std.proofs.Common.{◌≡◌, ℕ, zero, suc, ◌<◌, ◌≤◌, inl, inr, Option, Some, None, ℤ, pos, ◌≤ℤ◌, List, [], length, refl, sym, ap, ◌∙◌, subst, get_or-set_same, get_or-set_other, arith}
-use Rattle.std.specs.Prelude.{IsTrue, slice_set}
-use Rattle.std.proofs.lemmas.Int.{ints}
-use Rattle.uc_model.specs.Data.{ThermalUnit, PriceLists, Schedule}
-use Rattle.spell_run.specs.Spells.{IsSpellAnswer, net_cost, spell_cost}
-use Rattle.period_table.specs.declared.table.Ended.{Ended}
-use Rattle.period_table.specs.Rows.{row_at, cost_at, AreWithin, IsFirstRow}
-use Rattle.period_table.specs.Spells.{StopsAtOnce}
-use Rattle.period_table.specs.Tables.{HasAtMost, IsEntryAfter}
+use Rattle.period_table.proofs.Common.{◌≡◌, ℕ, zero, suc, ◌<◌, ◌≤◌, inl, inr, Option, Some, None, ℤ, pos, ◌≤ℤ◌, List, [], length, refl, sym, ap, ◌∙◌, subst, get_or-set_same, get_or-set_other, arith, IsTrue, slice_set, ints, ThermalUnit, PriceLists, Schedule, IsSpellAnswer, net_cost, spell_cost, Ended, row_at, cost_at, AreWithin, IsFirstRow, StopsAtOnce, HasAtMost, IsEntryAfter}
 use Rattle.period_table.proofs.RowLaws.{cost_from}
 use Rattle.period_table.proofs.SumLaws.{sum_from_to-one}
 

@@ -1,3 +1,5 @@
+-- The names from elsewhere that the proofs here cite.
+pub mod Common
 -- the table before the first period, and what it is read from
 pub mod BeginLaws
 -- the table as far as it is within the limits: what is above them can't become the answer
@@ -34,3 +36,5 @@ pub mod StartLaws
 pub mod SumLaws
 -- what the runners left for the way back from each row
 pub mod WaysLaws
+-- The lemmas that answers cite.
+pub mod Lemmas

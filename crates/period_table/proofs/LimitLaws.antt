@@ -1,17 +1,6 @@
 -- The table as far as it is within the limits: what is above them can't become the answer.
-use Rattle.std.proofs.Common.{◌≡◌, ℕ, zero, suc, ◌+◌, ◌-◌, ◌≤◌, ◌⊎◌, inl, inr, Bool, true, false, cond, Option, Some, None, ℤ, pos, ◌+ℤ◌, ◌≤ℤ◌, length, refl, sym, ap, ◌∙◌, subst, arith}
-use Rattle.std.specs.Prelude.{int_le}
-use Rattle.std.proofs.lemmas.Int.{ints}
-use Rattle.std.proofs.lemmas.Bool.{cases_Bool}
-use Rattle.uc_model.specs.BoundLaws.{StartCostsAreWithin}
-use Rattle.uc_model.specs.Data.{ThermalUnit, PriceLists, Schedule}
-use Rattle.uc_model.specs.Limits.{IsThermalUnit}
-use Rattle.spell_run.specs.Spells.{IsDispatch, net_cost, spell_cost}
+use Rattle.period_table.proofs.Common.{◌≡◌, ℕ, zero, suc, ◌+◌, ◌-◌, ◌≤◌, ◌⊎◌, inl, inr, Bool, true, false, cond, Option, Some, None, ℤ, pos, ◌+ℤ◌, ◌≤ℤ◌, length, refl, sym, ap, ◌∙◌, subst, arith, int_le, ints, cases_Bool, StartCostsAreWithin, ThermalUnit, PriceLists, Schedule, IsThermalUnit, IsDispatch, net_cost, spell_cost, AreLimits, capped, cap_of_row, IsTableWithin, IsTableTo, IsSpell, off_time, HasAtMost, IsStarted, IsEntryAfter, IsLeastEntry, IsEnded, IsLatest}
 use Rattle.period_table.specs.Laws.{CappedRowsAreRows, LimitsAreAboveTheAmount, StartsAreWithinLimits}
-use Rattle.period_table.specs.Limits.{AreLimits, capped, cap_of_row, IsTableWithin}
-use Rattle.period_table.specs.Runners.{IsTableTo}
-use Rattle.period_table.specs.Spells.{IsSpell, off_time}
-use Rattle.period_table.specs.Tables.{HasAtMost, IsStarted, IsEntryAfter, IsLeastEntry, IsEnded, IsLatest}
 use Rattle.period_table.proofs.SumLaws.{sum_from_to-none}
 use Rattle.period_table.proofs.RangeLaws.{dispatch_in_range, before_low}
 use Rattle.period_table.proofs.StandInLaws.{one_more_cost}

@@ -1,17 +1,6 @@
 -- A list of runners, and one of them written.
-use Rattle.std.proofs.Common.{◌≡◌, ◌≢◌, ℕ, zero, suc, ◌+◌, ◌-◌, ◌*◌, ◌<◌, ◌≤◌, inl, inr, Bool, true, false, cond, Option, Some, None, ℤ, pos, ◌+ℤ◌, ◌-ℤ◌, ◌≤ℤ◌, ◌<ℤ◌, List, [], ◌∷◌, length, refl, sym, ap, ◌∙◌, subst, arith}
-use Rattle.std.specs.Prelude.{IfSome, slice_get, slice_set}
-use Rattle.std.proofs.lemmas.Int.{ints}
-use Rattle.std.proofs.lemmas.Option.{slice_get_within}
-use Rattle.std.proofs.lemmas.Bool.{cases_eq}
+use Rattle.period_table.proofs.Common.{◌≡◌, ◌≢◌, ℕ, zero, suc, ◌+◌, ◌-◌, ◌*◌, ◌<◌, ◌≤◌, inl, inr, Bool, true, false, cond, Option, Some, None, ℤ, pos, ◌+ℤ◌, ◌-ℤ◌, ◌≤ℤ◌, ◌<ℤ◌, List, [], ◌∷◌, length, refl, sym, ap, ◌∙◌, subst, arith, IfSome, slice_get, slice_set, ints, slice_get_within, cases_eq, Table, value_of, ThermalUnit, PriceLists, passed_at, Runner, Passed, going_of, live_at, left_of, left_at, places_of, IsRoomy, AreRoomy, AreSmall, IsUnder, IsBeyond, IsBelow, HaveRoom, Going, AreRunners}
 use Rattle.std.proofs.Math.Nat.{mul-le-mul_right}
-use Rattle.shape_law.specs.Table.{Table, value_of}
-use Rattle.uc_model.specs.Data.{ThermalUnit, PriceLists}
-use Rattle.spell_run.specs.Notes.{passed_at}
-use Rattle.period_table.specs.declared.runner.Runner.{Runner}
-use Rattle.spell_run.specs.declared.way.Passed.{Passed}
-use Rattle.period_table.specs.Live.{going_of, live_at, left_of, left_at, places_of, IsRoomy, AreRoomy, AreSmall, IsUnder, IsBeyond, IsBelow, HaveRoom}
-use Rattle.period_table.specs.Runners.{Going, AreRunners}
 
 -- the runners are small
 pub small_of : (g : ThermalUnit) (π : PriceLists) (limits : ℕ → ℤ) (ends : ℕ → Option ℤ) (live : ℕ → Option Going) (t n : ℕ) → t ≤ 168 → n ≤ 170 → AreRunners g π limits ends live t n → AreSmall live

@@ -1,7 +1,5 @@
 -- The places of a list that a spell left, read and written.
-use Rattle.std.proofs.Common.{◌≡◌, ◌≢◌, ℕ, zero, suc, ◌<◌, None, pos, List, [], ◌∷◌, ◌++◌, length, set, refl, ap, ◌∙◌, get_or-set_same, get_or-set_other}
-use Rattle.spell_run.specs.declared.way.Passed.{Passed}
-use Rattle.spell_run.specs.Notes.{passed_at}
+use Rattle.period_table.proofs.Common.{◌≡◌, ◌≢◌, ℕ, zero, suc, ◌<◌, None, pos, List, [], ◌∷◌, ◌++◌, length, set, refl, ap, ◌∙◌, get_or-set_same, get_or-set_other, Passed, passed_at}
 
 -- a place that says nothing isn't seen behind the others
 pub passed_append : (ps : List Passed) (k : ℕ) → passed_at (ps ++ (record { note = record { turn = pos 0; first = pos 0; last = pos 0 }; end = None }) ∷ []) k ≡ passed_at ps k

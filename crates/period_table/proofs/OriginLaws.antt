@@ -1,21 +1,7 @@
 -- The ends that the next start may follow, a period later, and the cheapest start.
-use Rattle.std.proofs.Common.{◌≡◌, ℕ, zero, suc, ◌+◌, ◌-◌, ◌*◌, ◌<◌, ◌≤◌, ◌⊎◌, inl, inr, true, false, cond, Option, Some, None, ℤ, pos, ◌+ℤ◌, ◌≤ℤ◌, List, [], ◌∷◌, length, refl, sym, ap, ◌∙◌, subst, arith}
-use Rattle.std.specs.Prelude.{IsTrue, IsFalse, slice_get}
-use Rattle.std.proofs.lemmas.Int.{ints}
-use Rattle.std.proofs.lemmas.Bool.{cases_lt, cases_eq}
-use Rattle.uc_model.specs.declared.units.Mark.TheVariants.{MustOn}
-use Rattle.uc_model.specs.Data.{ThermalUnit}
-use Rattle.uc_model.specs.Limits.{IsThermalUnit}
-use Rattle.uc_model.specs.Schedules.{mark_in}
+use Rattle.period_table.proofs.Common.{◌≡◌, ℕ, zero, suc, ◌+◌, ◌-◌, ◌*◌, ◌<◌, ◌≤◌, ◌⊎◌, inl, inr, true, false, cond, Option, Some, None, ℤ, pos, ◌+ℤ◌, ◌≤ℤ◌, List, [], ◌∷◌, length, refl, sym, ap, ◌∙◌, subst, arith, IsTrue, IsFalse, slice_get, ints, cases_lt, cases_eq, MustOn, ThermalUnit, IsThermalUnit, mark_in, Origin, Ended, Entry, IsRising, IsRipe, IsOrigin, HasOrigin, AreInOrder, AreRight, AreOrigins, AreOriginsWithin, IsOriginPut, cost_at, HasEntryAtMost, IsWithinTimes, AreWithin, IsOffRun, IsGap, off_time, start_cost_after, IsStarted, IsEntry, IsLeastEntry}
 use Rattle.period_table.proofs.RipeLaws.{off_next}
-use Rattle.period_table.specs.declared.origins.Origin.{Origin}
 use Rattle.period_table.specs.declared.origins.Origins.{Origins}
-use Rattle.period_table.specs.declared.table.Ended.{Ended}
-use Rattle.period_table.specs.declared.table.Entry.{Entry}
-use Rattle.period_table.specs.Origins.{IsRising, IsRipe, IsOrigin, HasOrigin, AreInOrder, AreRight, AreOrigins, AreOriginsWithin, IsOriginPut}
-use Rattle.period_table.specs.Rows.{cost_at, HasEntryAtMost, IsWithinTimes, AreWithin}
-use Rattle.period_table.specs.Spells.{IsOffRun, IsGap, off_time, start_cost_after}
-use Rattle.period_table.specs.Tables.{IsStarted, IsEntry, IsLeastEntry}
 
 -- ---- time off
 

@@ -1,16 +1,5 @@
 -- A period of the table, from its runners.
-use Rattle.std.proofs.Common.{◌≡◌, ◌≢◌, ℕ, suc, ◌<◌, Option, Some, None, ℤ, List, length, refl, sym, arith}
-use Rattle.uc_model.specs.declared.units.Mark.TheVariants.{MustOff}
-use Rattle.uc_model.specs.BoundLaws.{StartCostsAreWithin}
-use Rattle.uc_model.specs.Data.{ThermalUnit, PriceLists}
-use Rattle.uc_model.specs.Limits.{IsThermalUnit}
-use Rattle.uc_model.specs.Schedules.{mark_in}
-use Rattle.spell_run.specs.Joins.{RunsGoOn, DispatchesGoOn, DispatchesAreRuns}
-use Rattle.period_table.specs.declared.table.Ended.{Ended}
-use Rattle.period_table.specs.Live.{IsFilledTo}
-use Rattle.period_table.specs.Rows.{row_at, cost_at, first_at, before_at, AreWithin}
-use Rattle.period_table.specs.Limits.{AreLimits, IsFilledWithin}
-use Rattle.period_table.specs.Runners.{Going, AreRunners, IsRowOf, IsGoneOn}
+use Rattle.period_table.proofs.Common.{◌≡◌, ◌≢◌, ℕ, suc, ◌<◌, Option, Some, None, ℤ, List, length, refl, sym, arith, MustOff, StartCostsAreWithin, ThermalUnit, PriceLists, IsThermalUnit, mark_in, RunsGoOn, DispatchesGoOn, DispatchesAreRuns, Ended, IsFilledTo, row_at, cost_at, first_at, before_at, AreWithin, AreLimits, IsFilledWithin, Going, AreRunners, IsRowOf, IsGoneOn}
 use Rattle.period_table.proofs.LimitLaws.{table_whole}
 use Rattle.period_table.proofs.RowByRowLaws.{runners_to, table_off, table_on}
 use Rattle.period_table.proofs.RowLaws.{cost-same, first-same, before-same}

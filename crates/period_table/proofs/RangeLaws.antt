@@ -1,13 +1,5 @@
 -- What the rules of a step or a dispatch say of the range of a period, and what that says of a limit.
-use Rattle.std.proofs.Common.{◌≡◌, ℕ, suc, ◌<◌, ◌≤◌, Bool, false, ℤ, pos, ◌+ℤ◌, ◌-ℤ◌, ◌≤ℤ◌, arith}
-use Rattle.std.specs.Prelude.{if◌then◌else◌}
-use Rattle.std.specs.Int.{int_min}
-use Rattle.std.proofs.lemmas.Int.{ints, clamps}
-use Rattle.uc_model.specs.Data.{ThermalUnit, Schedule}
-use Rattle.uc_model.specs.Schedules.{cap_of, power_in, reserve_in}
-use Rattle.spell_run.specs.Spells.{IsDispatch}
-use Rattle.spell_run.specs.Steps.{IsMove}
-use Rattle.period_table.specs.Limits.{IsInRange}
+use Rattle.period_table.proofs.Common.{◌≡◌, ℕ, suc, ◌<◌, ◌≤◌, Bool, false, ℤ, pos, ◌+ℤ◌, ◌-ℤ◌, ◌≤ℤ◌, arith, if◌then◌else◌, int_min, ints, clamps, ThermalUnit, Schedule, cap_of, power_in, reserve_in, IsDispatch, IsMove, IsInRange}
 
 min_two : (a b c : ℤ) → int_min (int_min a b) c ≤ℤ a
 min_two a b c = omega (arith, ints, clamps)

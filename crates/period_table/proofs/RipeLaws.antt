@@ -1,8 +1,5 @@
 -- When the unit has been off for long enough.
-use Rattle.std.proofs.Common.{◌≡◌, ℕ, zero, suc, ◌+◌, ◌-◌, ◌<◌, ◌≤◌, true, false, cond, refl, subst, arith}
-use Rattle.uc_model.specs.Data.{ThermalUnit}
-use Rattle.period_table.specs.Origins.{IsRipe}
-use Rattle.period_table.specs.Spells.{off_time}
+use Rattle.period_table.proofs.Common.{◌≡◌, ℕ, zero, suc, ◌+◌, ◌-◌, ◌<◌, ◌≤◌, true, false, cond, refl, subst, arith, ThermalUnit, IsRipe, off_time}
 
 -- since before the horizon it has been off for all the periods at least
 off_least : (g : ThermalUnit) (k : ℕ) → k ≤ off_time g 0 k

@@ -1,15 +1,6 @@
 -- The list of the runners that are on: one more, some fewer, and a loop over it.
-use Rattle.std.proofs.Common.{◌≡◌, ◌≢◌, ℕ, suc, ◌+◌, ◌<◌, ◌≤◌, ◌⊎◌, inl, inr, Option, Some, None, ℤ, List, length, refl, sym, ap, ◌∙◌, subst, arith, length-set}
-use Rattle.std.specs.Prelude.{slice_get, slice_set}
-use Rattle.std.proofs.lemmas.Bool.{cases_lt, cases_eq}
-use Rattle.shape_law.specs.Table.{Table}
-use Rattle.uc_model.specs.Data.{ThermalUnit, PriceLists}
+use Rattle.period_table.proofs.Common.{◌≡◌, ◌≢◌, ℕ, suc, ◌+◌, ◌<◌, ◌≤◌, ◌⊎◌, inl, inr, Option, Some, None, ℤ, List, length, refl, sym, ap, ◌∙◌, subst, arith, length-set, slice_get, slice_set, cases_lt, cases_eq, Table, ThermalUnit, PriceLists, Runner, Ended, going_of, live_at, AreRoomy, IsRoster, Going, IsRowOf}
 use Rattle.period_table.specs.declared.roster.Roster.{Roster}
-use Rattle.period_table.specs.declared.runner.Runner.{Runner}
-use Rattle.period_table.specs.declared.table.Ended.{Ended}
-use Rattle.period_table.specs.Live.{going_of, live_at, AreRoomy}
-use Rattle.period_table.specs.Rosters.{IsRoster}
-use Rattle.period_table.specs.Runners.{Going, IsRowOf}
 use Rattle.period_table.proofs.LiveLaws.{get_set_same, get_set_other, going_on, live_other}
 use Rattle.period_table.proofs.RunAllLaws.{IsRunTo, IsOneRun, run_more}
 

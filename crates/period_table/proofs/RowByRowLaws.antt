@@ -1,21 +1,6 @@
 -- The table row by row: a period more, and all periods.
-use Rattle.std.proofs.Common.{◌≡◌, ◌≢◌, ℕ, suc, ◌<◌, ◌≤◌, ◌⊎◌, inl, inr, true, false, Option, Some, None, ℤ, pos, ◌+ℤ◌, ◌≤ℤ◌, List, length, refl, sym, ap, ◌∙◌, subst, arith}
-use Rattle.std.specs.Prelude.{IsTrue, IsFalse}
-use Rattle.std.specs.Option.{option_map}
-use Rattle.std.proofs.lemmas.Int.{ints}
-use Rattle.std.proofs.lemmas.Bool.{cases_lt}
-use Rattle.uc_model.specs.declared.units.Mark.TheVariants.{MustOff}
-use Rattle.uc_model.specs.Data.{ThermalUnit, PriceLists, Schedule}
-use Rattle.uc_model.specs.Limits.{IsThermalUnit}
-use Rattle.uc_model.specs.Schedules.{mark_in}
-use Rattle.spell_run.specs.Joins.{DispatchesGoOn, DispatchesAreRuns}
-use Rattle.spell_run.specs.Spells.{IsDispatch, net_cost, spell_cost}
-use Rattle.period_table.specs.declared.table.Ended.{Ended}
-use Rattle.period_table.specs.Rows.{row_at, cost_at, first_at, before_at, IsFirstRow}
-use Rattle.period_table.specs.Limits.{AreLimits}
-use Rattle.period_table.specs.Spells.{IsSpell, StopsAtOnce}
-use Rattle.period_table.specs.Tables.{HasAtMost, IsEntry, IsLeastEntry, IsEnded, IsLatest, IsFrom}
-use Rattle.period_table.specs.Runners.{Going, MayBeOn, AreRunners, IsTableTo, IsRowOf}
+use Rattle.period_table.proofs.Common.{◌≡◌, ◌≢◌, ℕ, suc, ◌<◌, ◌≤◌, ◌⊎◌, inl, inr, true, false, Option, Some, None, ℤ, pos, ◌+ℤ◌, ◌≤ℤ◌, List, length, refl, sym, ap, ◌∙◌, subst, arith, IsTrue, IsFalse, option_map, ints, cases_lt, MustOff, ThermalUnit, PriceLists, Schedule, IsThermalUnit, mark_in, DispatchesGoOn, DispatchesAreRuns, IsDispatch, net_cost, spell_cost, Ended, row_at, cost_at, first_at, before_at, IsFirstRow, AreLimits, IsSpell, StopsAtOnce, HasAtMost, IsEntry, IsLeastEntry, IsEnded, IsLatest, Going, MayBeOn, AreRunners, IsTableTo, IsRowOf}
+use Rattle.period_table.specs.Tables.{IsFrom}
 use Rattle.period_table.proofs.BeginLaws.{at_most_more, entry_same, at_once_some, at_once_none}
 use Rattle.period_table.proofs.RangeLaws.{dispatch_in_range, before_low}
 use Rattle.period_table.proofs.RowLaws.{cost_from, cost-is, first-is, before-is}

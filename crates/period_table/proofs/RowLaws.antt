@@ -1,11 +1,5 @@
 -- Rows of the table, and one of them written.
-use Rattle.std.proofs.Common.{◌≡◌, ℕ, ◌<◌, Option, Some, None, ℤ, ◌≤ℤ◌, List, length, refl, ap, ◌∙◌, get_or-set_same, arith}
-use Rattle.std.specs.Prelude.{slice_set}
-use Rattle.std.specs.Option.{option_map, option_map_or}
-use Rattle.std.proofs.lemmas.Int.{ints}
-use Rattle.period_table.specs.declared.table.Ended.{Ended}
-use Rattle.period_table.specs.Tables.{HasAtMost}
-use Rattle.period_table.specs.Rows.{row_at, cost_at, first_at, before_at}
+use Rattle.period_table.proofs.Common.{◌≡◌, ℕ, ◌<◌, Option, Some, None, ℤ, ◌≤ℤ◌, List, length, refl, ap, ◌∙◌, get_or-set_same, arith, slice_set, option_map, option_map_or, ints, Ended, HasAtMost, row_at, cost_at, first_at, before_at}
 
 module _ (a b : List (Option Ended)) (l k : ℕ) (same : row_at a l ≡ row_at b k) where
   pub cost-same : cost_at a l ≡ cost_at b k

@@ -1,16 +1,5 @@
 -- All runners over a period, one after the other.
-use Rattle.std.proofs.Common.{◌≡◌, ◌≢◌, ℕ, suc, ◌+◌, ◌<◌, ◌≤◌, ◌⊎◌, ℤ, inl, inr, Bool, true, false, get_or, Option, Some, None, List, length, refl, sym, ap, ◌∙◌, subst, arith}
-use Rattle.std.specs.Prelude.{slice_get, slice_set}
-use Rattle.std.proofs.lemmas.Option.{slice_get-get_or}
-use Rattle.std.proofs.lemmas.Bool.{cases_lt, cases_eq}
-use Rattle.shape_law.specs.Table.{Table}
-use Rattle.uc_model.specs.Data.{ThermalUnit, PriceLists}
-use Rattle.spell_run.specs.Notes.{passed_at}
-use Rattle.period_table.specs.declared.runner.Runner.{Runner}
-use Rattle.period_table.specs.declared.table.Ended.{Ended}
-use Rattle.period_table.specs.Live.{going_of, live_at, left_of, left_at, IsRoomy, AreRoomy, HaveRoom}
-use Rattle.period_table.specs.Rows.{row_at, cost_at, first_at, before_at, AreWithin}
-use Rattle.period_table.specs.Runners.{Going, IsRowOf, IsGoneOn, IsEndLeft}
+use Rattle.period_table.proofs.Common.{◌≡◌, ◌≢◌, ℕ, suc, ◌+◌, ◌<◌, ◌≤◌, ◌⊎◌, ℤ, inl, inr, Bool, true, false, get_or, Option, Some, None, List, length, refl, sym, ap, ◌∙◌, subst, arith, slice_get, slice_set, slice_get-get_or, cases_lt, cases_eq, Table, ThermalUnit, PriceLists, passed_at, Runner, Ended, going_of, live_at, left_of, left_at, IsRoomy, AreRoomy, HaveRoom, row_at, cost_at, first_at, before_at, AreWithin, Going, IsRowOf, IsGoneOn, IsEndLeft}
 use Rattle.period_table.proofs.LiveLaws.{going_on, going_off, on_some, get_set_same}
 use Rattle.period_table.proofs.RowLaws.{cost-same, first-same}
 use Rattle.period_table.proofs.RunnerRowLaws.{row_none}

@@ -1,15 +1,5 @@
 -- A row of the table, runner by runner.
-use Rattle.std.proofs.Common.{◌≡◌, ℕ, suc, ◌<◌, ◌≤◌, ◌⊎◌, inl, inr, Option, Some, None, ℤ, ◌+ℤ◌, ◌≤ℤ◌, List, length, refl, sym, ap, ◌∙◌, subst, arith}
-use Rattle.std.specs.Prelude.{IfSome, IfNone}
-use Rattle.std.proofs.lemmas.Int.{ints}
-use Rattle.std.proofs.lemmas.Bool.{cases_lt}
-use Rattle.uc_model.specs.Data.{ThermalUnit, PriceLists, Schedule}
-use Rattle.spell_run.specs.Spells.{IsDispatch, IsLeastSpell, IsSpellAnswer, spell_cost}
-use Rattle.period_table.specs.declared.table.Ended.{Ended}
-use Rattle.period_table.specs.Rows.{row_at, cost_at, first_at, before_at, IsPut}
-use Rattle.period_table.specs.Spells.{IsSpell, on_time}
-use Rattle.period_table.specs.Tables.{HasAtMost}
-use Rattle.period_table.specs.Runners.{Going, MayBeOn, IsRowOf}
+use Rattle.period_table.proofs.Common.{◌≡◌, ℕ, suc, ◌<◌, ◌≤◌, ◌⊎◌, inl, inr, Option, Some, None, ℤ, ◌+ℤ◌, ◌≤ℤ◌, List, length, refl, sym, ap, ◌∙◌, subst, arith, IfSome, IfNone, ints, cases_lt, ThermalUnit, PriceLists, Schedule, IsDispatch, IsLeastSpell, IsSpellAnswer, spell_cost, Ended, row_at, cost_at, first_at, before_at, IsPut, IsSpell, on_time, HasAtMost, Going, MayBeOn, IsRowOf}
 use Rattle.period_table.proofs.RowLaws.{cost-same, first-same, before-same, cost-is, first-is, before-is}
 use Rattle.period_table.proofs.BeginLaws.{at_most_more}
 

@@ -1,19 +1,5 @@
 -- A runner that stands for a run goes on standing for it: a period more, a start that isn't begun, a runner that goes.
-use Rattle.std.proofs.Common.{◌≡◌, ◌≢◌, ℕ, zero, suc, ◌<◌, ◌≤◌, ◌==◌, false, inl, inr, Option, Some, None, ℤ, pos, ◌+ℤ◌, ◌≤ℤ◌, length, refl, sym, ap, ◌∙◌, subst, arith}
-use Rattle.std.proofs.lemmas.Int.{ints}
-use Rattle.std.proofs.lemmas.Bool.{cases_lt, cases_eq, lt-ltb}
-use Rattle.shape_law.specs.Table.{Table, value_of}
-use Rattle.uc_model.specs.declared.units.Mark.TheVariants.{MustOff}
-use Rattle.uc_model.specs.Data.{ThermalUnit, PriceLists, Schedule}
-use Rattle.uc_model.specs.Schedules.{mark_in}
-use Rattle.spell_run.specs.Frontier.{IsFrontier}
-use Rattle.spell_run.specs.Joins.{RunsGoOn}
-use Rattle.spell_run.specs.Spells.{net_cost, spell_cost}
-use Rattle.spell_run.specs.Steps.{level, IsRun}
-use Rattle.period_table.specs.Limits.{AreLimits}
-use Rattle.period_table.specs.Spells.{on_time}
-use Rattle.period_table.specs.Tables.{IsEntry, IsLeastEntry}
-use Rattle.period_table.specs.Runners.{Going, MayBeOn, IsRunner, HasStandIn, AreRunners, IsGoneOn}
+use Rattle.period_table.proofs.Common.{◌≡◌, ◌≢◌, ℕ, zero, suc, ◌<◌, ◌≤◌, ◌==◌, false, inl, inr, Option, Some, None, ℤ, pos, ◌+ℤ◌, ◌≤ℤ◌, length, refl, sym, ap, ◌∙◌, subst, arith, ints, cases_lt, cases_eq, lt-ltb, Table, value_of, MustOff, ThermalUnit, PriceLists, Schedule, mark_in, IsFrontier, RunsGoOn, net_cost, spell_cost, level, IsRun, AreLimits, on_time, IsEntry, IsLeastEntry, Going, MayBeOn, IsRunner, HasStandIn, AreRunners, IsGoneOn}
 use Rattle.period_table.proofs.RangeLaws.{move_in_range, before_low}
 use Rattle.period_table.proofs.WaysLaws.{noted_more}
 use Rattle.period_table.proofs.SumLaws.{sum_from_to-more, sum_from_to-none}

@@ -1,19 +1,5 @@
 -- A runner begun, and none.
-use Rattle.std.proofs.Common.{◌≡◌, ℕ, suc, ◌+◌, ◌-◌, ◌*◌, ◌<◌, inl, inr, true, Option, Some, None, ℤ, pos, List, length, refl, sym, ap, ◌∙◌, subst, arith}
-use Rattle.std.specs.Prelude.{IsTrue, IsFalse, slice_set}
-use Rattle.std.proofs.lemmas.Int.{ints}
-use Rattle.std.proofs.lemmas.Bool.{cases_eq}
-use Rattle.shape_law.specs.Table.{Table}
-use Rattle.uc_model.specs.declared.units.Mark.TheVariants.{MustOff}
-use Rattle.uc_model.specs.Data.{ThermalUnit, PriceLists, Schedule}
-use Rattle.uc_model.specs.Schedules.{mark_in}
-use Rattle.spell_run.specs.Frontier.{IsFrontier}
-use Rattle.spell_run.specs.Notes.{passed_at}
-use Rattle.period_table.specs.declared.runner.Runner.{Runner}
-use Rattle.period_table.specs.Live.{live_at}
-use Rattle.period_table.specs.Rows.{IsWithinTimes}
-use Rattle.period_table.specs.Runners.{Going, IsRunner, HasStandIn, AreRunners}
-use Rattle.period_table.specs.Tables.{IsEntry, IsLeastEntry}
+use Rattle.period_table.proofs.Common.{◌≡◌, ℕ, suc, ◌+◌, ◌-◌, ◌*◌, ◌<◌, inl, inr, true, Option, Some, None, ℤ, pos, List, length, refl, sym, ap, ◌∙◌, subst, arith, IsTrue, IsFalse, slice_set, ints, cases_eq, Table, MustOff, ThermalUnit, PriceLists, Schedule, mark_in, IsFrontier, passed_at, Runner, live_at, IsWithinTimes, Going, IsRunner, HasStandIn, AreRunners, IsEntry, IsLeastEntry}
 use Rattle.period_table.proofs.LiveLaws.{going_on, live_here, live_other}
 use Rattle.period_table.proofs.StandInLaws.{start_begun}
 

@@ -1,8 +1,5 @@
 -- Sums from a place to a place.
-use Rattle.std.proofs.Common.{◌≡◌, ℕ, suc, ◌+◌, ◌-◌, ◌≤◌, ℤ, pos, ◌+ℤ◌, ap, ◌∙◌, arith}
-use Rattle.std.proofs.lemmas.Int.{ints}
-use Rattle.uc_model.specs.Sums.{sum_below}
-use Rattle.spell_run.specs.Spells.{sum_from_to}
+use Rattle.period_table.proofs.Common.{◌≡◌, ℕ, suc, ◌+◌, ◌-◌, ◌≤◌, ℤ, pos, ◌+ℤ◌, ap, ◌∙◌, arith, ints, sum_below, sum_from_to}
 
 module _ (f : ℕ → ℤ) where
   pub sum_from_to-none : (first : ℕ) → sum_from_to f (suc first) first ≡ pos 0

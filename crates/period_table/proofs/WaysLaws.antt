@@ -1,18 +1,5 @@
 -- What the runners left for the way back from each row.
-use Rattle.std.proofs.Common.{◌≡◌, ◌≢◌, ℕ, suc, ◌-◌, ◌<◌, ◌≤◌, ◌⊎◌, inl, inr, Option, Some, None, ℤ, ◌+ℤ◌, List, length, sym, ap, ◌∙◌, subst, arith}
-use Rattle.std.specs.Prelude.{IfSome, IfNone}
-use Rattle.std.proofs.lemmas.Bool.{cases_lt, cases_eq}
-use Rattle.shape_law.specs.Table.{Table, value_of}
-use Rattle.slope_list.specs.declared.slopes.Lowest.{Lowest}
-use Rattle.uc_model.specs.Data.{ThermalUnit, PriceLists}
-use Rattle.spell_run.specs.declared.way.Passed.{Passed}
-use Rattle.spell_run.specs.Frontier.{IsFrontier}
-use Rattle.spell_run.specs.Notes.{IsOnNoted, IsEndNoted, IsSpellNoted, end_cost}
-use Rattle.period_table.specs.declared.runner.Runner.{Runner}
-use Rattle.period_table.specs.declared.table.Ended.{Ended}
-use Rattle.period_table.specs.Live.{live_at, left_at, left_of}
-use Rattle.period_table.specs.Rows.{row_at, first_at, IsPut}
-use Rattle.period_table.specs.Runners.{Going, AreRunners, AreNoted, IsRowOf, IsEndLeft, HaveWays}
+use Rattle.period_table.proofs.Common.{◌≡◌, ◌≢◌, ℕ, suc, ◌-◌, ◌<◌, ◌≤◌, ◌⊎◌, inl, inr, Option, Some, None, ℤ, ◌+ℤ◌, List, length, sym, ap, ◌∙◌, subst, arith, IfSome, IfNone, cases_lt, cases_eq, Table, value_of, Lowest, ThermalUnit, PriceLists, Passed, IsFrontier, IsOnNoted, IsEndNoted, IsSpellNoted, end_cost, Runner, Ended, live_at, left_at, left_of, row_at, first_at, IsPut, Going, AreRunners, AreNoted, IsRowOf, IsEndLeft, HaveWays}
 use Rattle.period_table.proofs.LiveLaws.{on_some}
 use Rattle.period_table.proofs.RowLaws.{first-is}
 

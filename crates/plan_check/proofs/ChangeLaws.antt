@@ -1,9 +1,5 @@
 -- The last change, one period back; and the tests of the minimum times at the end of a run.
-use Rattle.std.proofs.Common.{◌≡◌, ℕ, zero, suc, ◌+◌, ◌-◌, ◌<◌, Bool, true, false, cond, Some, None, refl, sym, ap, ◌∙◌, arith}
-use Rattle.uc_model.specs.Data.{ThermalUnit, Schedule}
-use Rattle.uc_model.specs.Refusals.{same_flag, changed_in, min_up_broken, min_down_broken}
-use Rattle.uc_model.specs.Schedules.{on_in}
-use Rattle.plan_check.specs.States.{run_broken}
+use Rattle.plan_check.proofs.Common.{◌≡◌, ℕ, zero, suc, ◌+◌, ◌-◌, ◌<◌, Bool, true, false, cond, Some, None, refl, sym, ap, ◌∙◌, arith, ThermalUnit, Schedule, same_flag, changed_in, min_up_broken, min_down_broken, on_in, run_broken}
 use Rattle.plan_check.proofs.RunLaws.{same_refl, starts_from, stops_from}
 
 differs : (a b : Bool) → (a ≡ b → ⊥) → same_flag a b ≡ false

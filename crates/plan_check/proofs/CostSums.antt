@@ -1,10 +1,6 @@
 -- What a block is worth fits its type, and the power of an on period lies within the cost points.
-use Rattle.std.proofs.Common.{◌≡◌, ℕ, suc, ◌<◌, ◌≤◌, ℤ, pos, ◌+ℤ◌, ◌*ℤ◌, Bool, true, false, cond, length, ap, ◌∙◌, arith, w64, FitsSigned}
-use Rattle.std.proofs.lemmas.Int.{ints, clamps, to_z-of_z}
+use Rattle.plan_check.proofs.Common.{◌≡◌, ℕ, suc, ◌<◌, ◌≤◌, ℤ, pos, ◌+ℤ◌, ◌*ℤ◌, Bool, true, false, cond, length, ap, ◌∙◌, arith, w64, FitsSigned, ints, clamps, to_z-of_z, ThermalUnit, Schedule, IsFrom, IsThermalUnit, Spans, on_in, power_in, IsPeriod, IsThermalFeasible}
 use Rattle.std.proofs.Math.IntN.{*ℤ_comm, *ℤ-zero}
-use Rattle.uc_model.specs.Data.{ThermalUnit, Schedule}
-use Rattle.uc_model.specs.Limits.{IsFrom, IsThermalUnit, Spans}
-use Rattle.uc_model.specs.Schedules.{on_in, power_in, IsPeriod, IsThermalFeasible}
 use Rattle.uc_model.proofs.IntLaws.{mul-mono_of}
 use Rattle.uc_model.proofs.SignedLaws.{fits64, stored}
 use Rattle.plan_check.proofs.ThermalLaws.{above_on}

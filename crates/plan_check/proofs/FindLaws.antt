@@ -1,15 +1,7 @@
 -- The first refusal over lists of rules and of units.
-use Rattle.std.proofs.Common.{◌≡◌, ℕ, zero, suc, ◌+◌, ◌<◌, ◌⊎◌, inl, inr, Some, List, [], ◌∷◌, ◌++◌, length, take, drop, get_or, refl, sym, ap, ◌∙◌, arith, append_assoc, append-nil}
+use Rattle.plan_check.proofs.Common.{◌≡◌, ℕ, zero, suc, ◌+◌, ◌<◌, ◌⊎◌, inl, inr, Some, List, [], ◌∷◌, ◌++◌, length, take, drop, get_or, refl, sym, ap, ◌∙◌, arith, append_assoc, append-nil, take_more, drop_more, take-append-drop, slice_get, flat_map, RenewableRange, BidRange, MustRun, Initial, MinUp, MinDown, Range, StartCap, StopCap, RampUp, RampDown, Window, ThermalUnit, Schedule, NamedThermalUnit, NamedRenewableUnit, NamedBidUnit, Refusal, told, renewable_broken, bid_broken, thermal_refusals, all_thermal, all_renewable, all_bids, none_some, same_item, rule_refusals}
 use Rattle.std.proofs.lemmas.Grind.{flat_map-append}
-use Rattle.std.proofs.lemmas.List.{take_more, drop_more, take-append-drop}
-use Rattle.std.specs.Prelude.{slice_get}
-use Rattle.std.specs.List.{flat_map}
 use Rattle.uc_model.specs.declared.kinds.Kind.TheVariants as kinds
-use Rattle.uc_model.specs.declared.kinds.RuleCode.TheVariants.{RenewableRange, BidRange, MustRun, Initial, MinUp, MinDown, Range, StartCap, StopCap, RampUp, RampDown, Window}
-use Rattle.uc_model.specs.Data.{ThermalUnit, Schedule, NamedThermalUnit, NamedRenewableUnit, NamedBidUnit}
-use Rattle.uc_model.specs.Refusals.{Refusal, told, renewable_broken, bid_broken, thermal_refusals, all_thermal, all_renewable, all_bids}
-use Rattle.uc_model.proofs.ListLaws.{none_some, same_item}
-use Rattle.plan_check.specs.States.{rule_refusals}
 use Rattle.plan_check.proofs.ToldLaws.{append_nil, first_left, first_right}
 
 -- ---- over a list of rules

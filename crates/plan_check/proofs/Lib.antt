@@ -1,3 +1,5 @@
+-- The names from elsewhere that the proofs here cite.
+pub mod Common
 -- ---- src/check.rt: the first refusal
 -- lists of refusals: when one is empty, and what its first item is
 pub mod ToldLaws
@@ -20,3 +22,5 @@ pub mod SystemLaws
 -- ---- src/costs.rt: what schedules cost
 -- what a block is worth, and the powers of on periods within the cost points
 pub mod CostSums
+-- The lemmas that answers cite.
+pub mod Lemmas

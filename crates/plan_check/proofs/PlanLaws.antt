@@ -1,19 +1,6 @@
 -- What is refused of a plan is what keeps it from being feasible.
-use Rattle.std.proofs.Common.{◌≡◌, ℕ, suc, ◌+◌, ◌<◌, ◌≤◌, ℤ, ◌≤ℤ◌, false, ◌&&◌, None, IsTrue, List, [], ◌∷◌, ◌++◌, map, length, drop, refl, sym, ◌∙◌, subst, arith, append_assoc, length-drop}
-use Rattle.std.proofs.lemmas.Int.{ints}
-use Rattle.std.proofs.lemmas.List.{drop-drop}
-use Rattle.std.proofs.lemmas.List.Elements.{All-drop}
-use Rattle.std.specs.List.{All, AllZip}
-use Rattle.std.specs.Prelude.{int_le, slice_index_or}
+use Rattle.plan_check.proofs.Common.{◌≡◌, ℕ, suc, ◌+◌, ◌<◌, ◌≤◌, ℤ, ◌≤ℤ◌, false, ◌&&◌, None, IsTrue, List, [], ◌∷◌, ◌++◌, map, length, drop, refl, sym, ◌∙◌, subst, arith, append_assoc, length-drop, ints, drop-drop, All-drop, All, AllZip, int_le, slice_index_or, RenewableRange, BidRange, Balance, Reserve, AnyUnit, Thermal, Flat, Bid, NamedThermalUnit, NamedRenewableUnit, NamedBidUnit, RenewableUnit, BidUnit, Schedule, Market, units, HasPlanShape, RefusalsAreExact, unless, renewable_broken, bid_broken, balance_broken, reserve_broken, told, thermal_refusals, all_thermal, all_renewable, all_bids, refusals, power_in, IsFeasible, IsRenewableFeasible, IsBidFeasible, width_of, blocks_at, int_at, total_power, total_reserve, IsFeasiblePlan, head_of, tail_of}
 use Rattle.uc_model.specs.declared.kinds.Kind.TheVariants as kinds
-use Rattle.uc_model.specs.declared.kinds.RuleCode.TheVariants.{RenewableRange, BidRange, Balance, Reserve}
-use Rattle.uc_model.specs.Data.{AnyUnit, Thermal, Flat, Bid, NamedThermalUnit, NamedRenewableUnit, NamedBidUnit, RenewableUnit, BidUnit, Schedule, Market, units}
-use Rattle.uc_model.specs.Laws.{HasPlanShape, RefusalsAreExact}
-use Rattle.uc_model.specs.Refusals.{unless, renewable_broken, bid_broken, balance_broken, reserve_broken, told, thermal_refusals, all_thermal, all_renewable, all_bids, refusals}
-use Rattle.uc_model.specs.Schedules.{power_in, IsFeasible, IsRenewableFeasible, IsBidFeasible, width_of, blocks_at}
-use Rattle.uc_model.specs.Sums.{int_at}
-use Rattle.uc_model.specs.Systems.{total_power, total_reserve, IsFeasiblePlan}
-use Rattle.uc_model.proofs.ListLaws.{head_of, tail_of}
 use Rattle.plan_check.proofs.RunLaws.{both_true, and_true, true_false}
 use Rattle.plan_check.proofs.ThermalLaws.{IsClear-none, none_clear, IsThermalFeasible-clear, IsClear-feasible, le_from_z, le_to_z}
 use Rattle.plan_check.proofs.ToldLaws.{append_nil_left, append_nil_right, append_nil, told_none, told_all, unless_none, unless_holds, or_else_none, or_else_holds}

@@ -1,12 +1,6 @@
 -- How long a unit has been on or off, and that the tests of the minimum times are the rules.
-use Rattle.std.proofs.Common.{◌≡◌, ℕ, zero, suc, ◌+◌, ◌-◌, ◌<◌, ◌≤◌, ◌⊎◌, inl, inr, ℤ, pos, Bool, true, false, not, ◌&&◌, cond, Option, Some, None, IsTrue, refl, sym, ap, ◌∙◌, arith}
-use Rattle.std.specs.Prelude.{nat_le, length}
-use Rattle.std.specs.Option.{option_and_then}
+use Rattle.plan_check.proofs.Common.{◌≡◌, ℕ, zero, suc, ◌+◌, ◌-◌, ◌<◌, ◌≤◌, ◌⊎◌, inl, inr, ℤ, pos, Bool, true, false, not, ◌&&◌, cond, Option, Some, None, IsTrue, refl, sym, ap, ◌∙◌, arith, nat_le, length, option_and_then, ThermalUnit, Schedule, unless, same_flag, changed_in, min_up_broken, min_down_broken, on_in, starts_in, stops_in, IsPeriod, none_some, true_or_false}
 use Rattle.std.proofs.lemmas.Bool.Decides.{nat_tests}
-use Rattle.uc_model.specs.Data.{ThermalUnit, Schedule}
-use Rattle.uc_model.specs.Refusals.{unless, same_flag, changed_in, min_up_broken, min_down_broken}
-use Rattle.uc_model.specs.Schedules.{on_in, starts_in, stops_in, IsPeriod}
-use Rattle.uc_model.proofs.ListLaws.{none_some, true_or_false}
 use Rattle.plan_check.proofs.ToldLaws.{unless_none, unless_holds, if_none, if_holds}
 
 -- ---- flags

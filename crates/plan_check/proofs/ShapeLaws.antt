@@ -1,9 +1,5 @@
 -- What the shape of a plan and the limits of a case say of one unit with its schedule.
-use Rattle.std.proofs.Common.{ℕ, ◌<◌, List, map, length, subst, arith}
-use Rattle.std.specs.List.{All}
-use Rattle.std.proofs.lemmas.List.{length-map, get_or-map}
-use Rattle.uc_model.specs.declared.units.Response.{Response}
-use Rattle.uc_model.specs.PlainUnits.{schedule_of}
+use Rattle.plan_check.proofs.Common.{ℕ, ◌<◌, List, map, length, subst, arith, All, length-map, get_or-map, Response, schedule_of}
 use Rattle.plan_check.proofs.PlanLaws.{HasLengths}
 
 -- each response of a plan covers the horizon

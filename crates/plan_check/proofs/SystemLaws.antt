@@ -1,19 +1,5 @@
 -- Sums over all units are sums over their schedules; what a bid buys counts below 0.
-use Rattle.std.proofs.Common.{◌≡◌, ℕ, zero, suc, ◌+◌, ◌≤◌, ℤ, pos, neg_ℤ, ◌+ℤ◌, ◌-ℤ◌, Bool, true, false, ◌&&◌, Some, List, [], ◌∷◌, ◌++◌, map, length, take, drop, refl, ap, arith, length-append, length-take, length-drop}
-use Rattle.std.proofs.lemmas.Int.{ints}
-use Rattle.std.proofs.lemmas.List.{length-map}
-use Rattle.std.proofs.lemmas.List.Elements.{All-append, All-map}
-use Rattle.std.specs.Prelude.{int_le, slice_get}
-use Rattle.std.specs.List.{All}
-use Rattle.uc_model.specs.Data.{AnyUnit, Thermal, Flat, Bid, NamedThermalUnit, NamedRenewableUnit, NamedBidUnit, Schedule, Market, units, unit_count}
-use Rattle.uc_model.specs.Earnings.{supply_in, cost_of}
-use Rattle.uc_model.specs.Refusals.{unless}
-use Rattle.uc_model.specs.Schedules.{power_in, reserve_in}
-use Rattle.uc_model.specs.Sums.{total}
-use Rattle.uc_model.specs.Systems.{total_power, total_reserve, plan_cost}
-use Rattle.uc_model.proofs.ListLaws.{same_item, none_some}
-use Rattle.plan_check.specs.Costs.{sum_over, thermal_units, bid_units}
-use Rattle.plan_check.specs.Totals.{powers_at, reserves_at}
+use Rattle.plan_check.proofs.Common.{◌≡◌, ℕ, zero, suc, ◌+◌, ◌≤◌, ℤ, pos, neg_ℤ, ◌+ℤ◌, ◌-ℤ◌, Bool, true, false, ◌&&◌, Some, List, [], ◌∷◌, ◌++◌, map, length, take, drop, refl, ap, arith, length-append, length-take, length-drop, ints, length-map, All-append, All-map, int_le, slice_get, All, AnyUnit, Thermal, Flat, Bid, NamedThermalUnit, NamedRenewableUnit, NamedBidUnit, Schedule, Market, units, unit_count, supply_in, cost_of, unless, power_in, reserve_in, total, total_power, total_reserve, plan_cost, same_item, none_some, sum_over, thermal_units, bid_units, powers_at, reserves_at}
 use Rattle.plan_check.proofs.RunLaws.{both_true}
 use Rattle.plan_check.proofs.ThermalLaws.{le_from_z}
 

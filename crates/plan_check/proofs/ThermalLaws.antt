@@ -1,17 +1,9 @@
 -- What is refused of a thermal unit's schedule is what keeps it from being feasible.
-use Rattle.std.proofs.Common.{◌≡◌, ℕ, zero, suc, ◌-◌, ◌<◌, ◌≤◌, inl, inr, ℤ, pos, ◌+ℤ◌, ◌-ℤ◌, ◌≤ℤ◌, Bool, true, false, not, ◌&&◌, cond, None, IsTrue, IsFalse, [], length, refl, sym, ap, ◌∙◌, arith}
-use Rattle.std.proofs.lemmas.Int.{ints, clamps}
-use Rattle.std.specs.Prelude.{nat_le, int_le, slice_index}
-use Rattle.std.specs.Int.{int_min}
+use Rattle.plan_check.proofs.Common.{◌≡◌, ℕ, zero, suc, ◌-◌, ◌<◌, ◌≤◌, inl, inr, ℤ, pos, ◌+ℤ◌, ◌-ℤ◌, ◌≤ℤ◌, Bool, true, false, not, ◌&&◌, cond, None, IsTrue, IsFalse, [], length, refl, sym, ap, ◌∙◌, arith, ints, clamps, nat_le, int_le, slice_index, int_min, MustRun, Initial, MinUp, MinDown, Range, StartCap, StopCap, RampUp, RampDown, Window, ThermalUnit, Schedule, unless, or_else, same_flag, must_run_broken, initial_broken, min_up_broken, min_down_broken, range_broken, start_broken, output_in, stop_broken, ramp_up_broken, ramp_down_broken, mark_broken, window_broken, thermal_refusals, on_in, power_in, reserve_in, above_min, above_with_reserve, starts_in, stops_in, IsPeriod, mark_in, KeepsCommitment, cap_of, KeepsDispatch, IsThermalFeasible, true_or_false}
 use Rattle.uc_model.specs.declared.units.Mark.{Mark}
 use Rattle.uc_model.specs.declared.units.Mark.TheVariants.{Free, MustOff, MustOn}
 use Rattle.uc_model.specs.declared.kinds.Kind.TheVariants as kinds
-use Rattle.uc_model.specs.declared.kinds.RuleCode.TheVariants.{MustRun, Initial, MinUp, MinDown, Range, StartCap, StopCap, RampUp, RampDown, Window}
-use Rattle.uc_model.specs.Data.{ThermalUnit, Schedule}
-use Rattle.uc_model.specs.Refusals.{unless, or_else, same_flag, must_run_broken, initial_broken, min_up_broken, min_down_broken, range_broken, start_broken, output_in, stop_broken, ramp_up_broken, ramp_down_broken, mark_broken, window_broken, thermal_refusals}
-use Rattle.uc_model.specs.Schedules.{on_in, power_in, reserve_in, above_min, above_with_reserve, starts_in, stops_in, IsPeriod, mark_in, KeepsCommitment, cap_of, KeepsDispatch, IsThermalFeasible}
 use Rattle.uc_model.specs.TaskLists.{flag_number}
-use Rattle.uc_model.proofs.ListLaws.{true_or_false}
 use Rattle.plan_check.proofs.RunLaws.{false_true, not_true, same_is, same_refl, le_from, le_to, starts_is, stops_is, keeps_up, keeps_down, clear_up, clear_down}
 use Rattle.plan_check.proofs.ToldLaws.{append_nil_left, append_nil_right, append_nil, told_none, told_all, unless_none, unless_holds, or_else_none, or_else_holds, if_none, if_holds}
 

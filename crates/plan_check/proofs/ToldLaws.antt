@@ -1,12 +1,7 @@
 -- Lists of refusals: when one is empty, and what its first item is.
-use Rattle.std.proofs.Common.{◌≡◌, ℕ, zero, suc, ◌+◌, ◌<◌, ◌≤◌, ◌⊎◌, inl, inr, ℤ, Bool, true, false, cond, Option, Some, None, List, [], ◌∷◌, ◌++◌, refl, sym, ap, ◌∙◌, arith}
-use Rattle.std.specs.Prelude.{slice_get}
-use Rattle.std.specs.List.{filter_map, range_with_len, cons_option}
-use Rattle.std.specs.Option.{option_map}
-use Rattle.uc_model.specs.Refusals.{Refusal, unless, or_else, told}
+use Rattle.plan_check.proofs.Common.{◌≡◌, ℕ, zero, suc, ◌+◌, ◌<◌, ◌≤◌, ◌⊎◌, inl, inr, ℤ, Bool, true, false, cond, Option, Some, None, List, [], ◌∷◌, ◌++◌, refl, sym, ap, ◌∙◌, arith, slice_get, filter_map, range_with_len, cons_option, option_map, Refusal, unless, or_else, told, none_some}
 use Rattle.uc_model.specs.declared.kinds.Kind.{Kind}
 use Rattle.uc_model.specs.declared.kinds.RuleCode.{RuleCode}
-use Rattle.uc_model.proofs.ListLaws.{none_some}
 
 -- ---- one list after another
 

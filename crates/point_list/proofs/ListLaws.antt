@@ -1,15 +1,11 @@
 -- A step on a list that is long enough, whose knots are then kept, is the step on its function.
-use Rattle.std.proofs.Common.{◌≡◌, ℕ, ◌^◌, ◌<◌, ◌≤◌, List, ◌++◌, length, take, drop, Option, sym, ◌∙◌, subst, arith}
-use Rattle.std.specs.Prelude.{ℤ, pos}
+use Rattle.point_list.proofs.Common.{◌≡◌, ℕ, ◌^◌, ◌<◌, ◌≤◌, List, ◌++◌, length, take, drop, Option, sym, ◌∙◌, subst, arith, ℤ, pos, Knot, knot, IsCountedList}
 use Rattle.std.proofs.lemmas.List.{length-append, length-take-le, get_or-take, get_or_append_left}
 use Rattle.shape_law.specs.Effect.{IsSame, IsSum, IsCurveSum, CanAddCurve, IsWindow}
 use Rattle.shape_law.specs.Laws.{SumIsOfValues, CurveSumIsOfValues, WindowIsOfValues}
 use Rattle.shape_law.specs.Table.{CanAdd}
-use Rattle.ramp_step.specs.declared.breakpoint.Knot.{Knot}
-use Rattle.ramp_step.specs.Knots.{knot}
 use Rattle.ramp_step.specs.Laws.{SameKnotsAreSame}
 use Rattle.ramp_step.specs.Tables.{table_of, function_of, AreBreaks}
-use Rattle.point_list.specs.Breaks.{IsCountedList}
 
 nothing : Knot
 nothing = record { at = pos 0; value = pos 0 }

@@ -1,12 +1,6 @@
 -- A call that changes only its own cells leaves the shapes that are apart from them.
-use Rattle.std.proofs.Common.{◌≡◌, ℕ, List, sym, ap, ◌∙◌, subst}
-use Rattle.shape_law.specs.Cell.{IsAmong, Frame}
+use Rattle.point_pool.proofs.Common.{◌≡◌, ℕ, List, sym, ap, ◌∙◌, subst, IsAmong, Frame, Slot, IsBreakList, same_by_slots, same_cell, slot_if_used, cells_of, numbers_of, IsIn, slot_at, AreUsed, Changes}
 use Rattle.point_pool.specs.declared.pool.Pool.{Pool}
-use Rattle.point_pool.specs.declared.slot.Slot.{Slot}
-use Rattle.ramp_step.specs.Tables.{IsBreakList}
-use Rattle.point_pool.specs.CellLaws.{same_by_slots, same_cell, slot_if_used}
-use Rattle.point_pool.specs.Seen.{cells_of, numbers_of, IsIn}
-use Rattle.point_pool.specs.Walk.{slot_at, AreUsed, Changes}
 
 pub Frame-changes : (p p' : Pool) (own own' : List ℕ) → Changes p.slots.items p'.slots.items own own' → Frame cells_of IsIn numbers_of own own' p p'
 Frame-changes p p' own own' c =

@@ -1,3 +1,5 @@
+-- The names from elsewhere that the proofs here cite.
+pub mod Common
 -- ---- src/pool.rt
 -- lists of cells that are taken, stored and given back
 mod WalkLaws
@@ -10,3 +12,5 @@ mod ListLaws
 -- ---- src/pooled.rt
 -- a call that changes only its own cells leaves the shapes that are apart from them
 mod FrameLaws
+-- The lemmas that answers cite.
+pub mod Lemmas

@@ -1,14 +1,6 @@
 -- A step on the first knots of a work list is the step on their function.
-use Rattle.std.proofs.Common.{◌≡◌, ℕ, ◌<◌, ◌≤◌, List, ◌++◌, length, take, drop, Option, sym, ◌∙◌, ap, arith}
-use Rattle.std.specs.Prelude.{ℤ, pos}
-use Rattle.std.proofs.lemmas.List.{length-take-le, get_or-take, take_at}
-use Rattle.shape_law.specs.Effect.{IsSame, IsSum, IsCurveSum, CanAddCurve, IsWindow}
+use Rattle.point_pool.proofs.Common.{◌≡◌, ℕ, ◌<◌, ◌≤◌, List, ◌++◌, length, take, drop, Option, sym, ◌∙◌, ap, arith, ℤ, pos, length-take-le, get_or-take, take_at, IsSame, IsSum, IsCurveSum, CanAddCurve, IsWindow, CanAdd, Knot, knot, SameKnotsAreSame, table_of, function_of, AreBreaks, IsBreakList}
 use Rattle.shape_law.specs.Laws.{SumIsOfValues, CurveSumIsOfValues, WindowIsOfValues}
-use Rattle.shape_law.specs.Table.{CanAdd}
-use Rattle.ramp_step.specs.declared.breakpoint.Knot.{Knot}
-use Rattle.ramp_step.specs.Knots.{knot}
-use Rattle.ramp_step.specs.Laws.{SameKnotsAreSame}
-use Rattle.ramp_step.specs.Tables.{table_of, function_of, AreBreaks, IsBreakList}
 
 nothing : Knot
 nothing = record { at = pos 0; value = pos 0 }

@@ -1,21 +1,7 @@
 -- What is read off a list of cells, cell by cell.
-use Rattle.std.proofs.Common.{◌≡◌, ℕ, zero, suc, ◌+◌, ◌-◌, ◌<◌, true, List, [], ◌∷◌, length, refl, sym, ap, ◌∙◌, subst, inl, inr, arith}
-use Rattle.std.specs.Prelude.{ℤ, ◌≤ℤ◌, ◌<ℤ◌, Option, MatchOption}
-use Rattle.std.specs.Int.{int_min, int_max}
-use Rattle.std.proofs.lemmas.Int.{ints}
-use Rattle.std.proofs.lemmas.List.{length-map}
-use Rattle.shape_law.specs.Cell.{IsAmong}
-use Rattle.shape_law.specs.Table.{value_of, HasNone}
-use Rattle.shape_law.specs.Effect.{IsLeast, IsLeastIn}
-use Rattle.ramp_step.specs.declared.breakpoint.Knot.{Knot}
-use Rattle.ramp_step.specs.Knots.{knot, height}
-use Rattle.ramp_step.specs.Laws.{IsRun, TurnIsLeast, NearestIsLeast}
-use Rattle.ramp_step.specs.Tables.{function_of, IsBreakList}
+use Rattle.point_pool.proofs.Common.{◌≡◌, ℕ, zero, suc, ◌+◌, ◌-◌, ◌<◌, true, List, [], ◌∷◌, length, refl, sym, ap, ◌∙◌, subst, inl, inr, arith, ℤ, ◌≤ℤ◌, ◌<ℤ◌, Option, MatchOption, int_min, int_max, ints, length-map, IsAmong, value_of, HasNone, IsLeast, IsLeastIn, Knot, knot, height, IsRun, TurnIsLeast, NearestIsLeast, function_of, IsBreakList, Slot, inside_if_used, length-walk, slot_at, walk, knots_at, AreUsed}
 use Rattle.ramp_step.specs.Window.{IsTurn}
-use Rattle.point_pool.specs.declared.slot.Slot.{Slot}
-use Rattle.point_pool.specs.CellLaws.{inside_if_used, length-walk}
 use Rattle.point_pool.specs.Turn.{IsAtTurn}
-use Rattle.point_pool.specs.Walk.{slot_at, walk, knots_at, AreUsed}
 
 -- ---- the cell at an index
 

@@ -1,16 +1,9 @@
 -- Lists of cells that are taken, stored and given back.
-use Rattle.std.proofs.Common.{◌≡◌, ◌≢◌, ℕ, zero, suc, ◌+◌, ◌-◌, ◌<◌, ◌≤◌, Bool, true, false, List, [], ◌∷◌, ◌++◌, length, refl, sym, ap, ◌∙◌, subst, inl, inr, arith, set, get_or-set_same, get_or-set_other, eqb}
-use Rattle.std.specs.Prelude.{◌⊎◌}
+use Rattle.point_pool.proofs.Common.{◌≡◌, ◌≢◌, ℕ, zero, suc, ◌+◌, ◌-◌, ◌<◌, ◌≤◌, Bool, true, false, List, [], ◌∷◌, ◌++◌, length, refl, sym, ap, ◌∙◌, subst, inl, inr, arith, set, get_or-set_same, get_or-set_other, eqb, ◌⊎◌, length-set, length-append, IsAmong, AreDistinct, Knot, Slot, no_slot, slot_at, walk, knots_at, AreUsed, AreFree, Stored, Released, Changes, Replaced, walk_same, knots_same, length-walk, differ, inside_if_used}
 use Rattle.std.specs.List.{AllByRecursion, IsDistinct, list_any}
 use Rattle.std.proofs.lemmas.Bool.{cases_eq}
 use Rattle.std.proofs.lemmas.Bool.Decides.{eqb_tells}
-use Rattle.std.proofs.lemmas.List.{length-set, length-append}
 use Rattle.std.proofs.lemmas.Map.Steps.{length-le_from_distinct_below}
-use Rattle.shape_law.specs.Cell.{IsAmong, AreDistinct}
-use Rattle.ramp_step.specs.declared.breakpoint.Knot.{Knot}
-use Rattle.point_pool.specs.declared.slot.Slot.{Slot}
-use Rattle.point_pool.specs.Walk.{no_slot, slot_at, walk, knots_at, AreUsed, AreFree, Stored, Released, Changes, Replaced}
-use Rattle.point_pool.specs.CellLaws.{walk_same, knots_same, length-walk, differ, inside_if_used}
 
 pub walk_more : (slots : List Slot) (n head : ℕ) → 0 < n → walk slots head n ≡ head ∷ walk slots (slot_at slots head).next (n - 1)
 walk_more slots zero head h = absurd (omega arith)

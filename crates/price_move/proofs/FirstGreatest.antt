@@ -1,17 +1,7 @@
 -- The first greatest of a list of numbers.
-use Rattle.std.proofs.Common.{◌≡◌, ℕ, zero, suc, ◌+◌, ◌<◌, Bool, true, false, ◌&&◌, cond, if◌then◌else◌, nat_lt, int_le, int_lt, ℤ, pos, ◌≤ℤ◌, ◌<ℤ◌, Some, None, Option, unwrap_or, List, [], ◌∷◌, map, length, get_or, refl, ap, sym, ◌∙◌, subst, arith, below_more}
-use Rattle.std.proofs.lemmas.Int.{ints, by_lt_z}
-use Rattle.std.proofs.lemmas.List.{length-map}
+use Rattle.price_move.proofs.Common.{◌≡◌, ℕ, zero, suc, ◌+◌, ◌<◌, Bool, true, false, ◌&&◌, cond, if◌then◌else◌, nat_lt, int_le, int_lt, ℤ, pos, ◌≤ℤ◌, ◌<ℤ◌, Some, None, Option, unwrap_or, List, [], ◌∷◌, map, length, get_or, refl, ap, sym, ◌∙◌, subst, arith, below_more, ints, by_lt_z, length-map, list_all, position_or_len, option_map, Row, proposal_of, Proposal, first_greatest, chosen_number, int_at, IsFirstUpTo, values_of}
 use Rattle.std.proofs.lemmas.List.Sums.{position_or_len_is}
 use Rattle.std.proofs.lemmas.Bool.Decides.{nat_tests}
-use Rattle.std.specs.List.{list_all, position_or_len}
-use Rattle.std.specs.Option.{option_map}
-use Rattle.uc_model.specs.declared.cases.Row.{Row}
-use Rattle.uc_model.specs.PlainCases.{proposal_of}
-use Rattle.uc_model.specs.PriceRule.{Proposal, first_greatest, chosen_number}
-use Rattle.uc_model.specs.Sums.{int_at}
-use Rattle.price_move.specs.Firsts.{IsFirstUpTo}
-use Rattle.price_move.specs.Moves.{values_of}
 
 pub value_at : (rows : List Row) (i : ℕ) (r : Row) → i < length rows → int_at (values_of (map proposal_of rows)) i ≡ (get_or rows i r).value
 value_at [] i r h = absurd (omega (arith, h))

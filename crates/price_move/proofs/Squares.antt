@@ -1,11 +1,5 @@
 -- Sizes of squares and quotients.
-use Rattle.std.proofs.Common.{◌≡◌, ℕ, suc, ◌*◌, ℤ, pos, negsuc, ◌-ℤ◌, ◌*ℤ◌, ◌≤ℤ◌, ◌<ℤ◌, int_div, ap, ◌∙◌, arith}
-use Rattle.std.proofs.lemmas.Int.{ints}
-use Rattle.std.proofs.Math.IntN.{*ℤ_comm, *ℤ-zero, pos-*ℤ-pos}
-use Rattle.std.proofs.Math.Nat.{div-le_self}
-use Rattle.uc_model.specs.Limits.{IsFrom}
-use Rattle.uc_model.proofs.IntLaws.{mul-sub, mul-mono_of}
-use Rattle.uc_model.proofs.SignedLaws.{IsWithin}
+use Rattle.price_move.proofs.Common.{◌≡◌, ℕ, suc, ◌*◌, ℤ, pos, negsuc, ◌-ℤ◌, ◌*ℤ◌, ◌≤ℤ◌, ◌<ℤ◌, int_div, ap, ◌∙◌, arith, ints, *ℤ_comm, *ℤ-zero, pos-*ℤ-pos, div-le_self, IsFrom, mul-sub, mul-mono_of, IsWithin}
 
 -- the square of a number that isn't negative
 square_of : (n : ℕ) (z : ℤ) → pos 0 ≤ℤ z → z ≤ℤ pos n → IsFrom (pos 0) (pos (n * n)) (z *ℤ z)

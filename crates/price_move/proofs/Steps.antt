@@ -1,17 +1,9 @@
 -- The prices after a step are those of the price rule, and within their limits.
-use Rattle.std.proofs.Common.{◌≡◌, ℕ, ◌-◌, ◌/◌, ◌^◌, ◌≤◌, min, ℤ, pos, ◌+ℤ◌, ◌-ℤ◌, ◌*ℤ◌, ◌≤ℤ◌, int_div, false, Some, Option, List, map, length, slice_get, ap, sym, subst, ◌∙◌, arith}
-use Rattle.std.proofs.lemmas.Int.{ints}
-use Rattle.std.specs.List.{All, range_with_len}
-use Rattle.std.specs.Option.{option_map_or}
+use Rattle.price_move.proofs.Common.{◌≡◌, ℕ, ◌-◌, ◌/◌, ◌^◌, ◌≤◌, min, ℤ, pos, ◌+ℤ◌, ◌-ℤ◌, ◌*ℤ◌, ◌≤ℤ◌, int_div, false, Some, Option, List, map, length, slice_get, ap, sym, subst, ◌∙◌, arith, ints, All, range_with_len, option_map_or, IsFrom, price_limit, Proposal, squared_length, age, stepped_prices, next_prices, no_prices, is_settled, int_at, clamped_from, low_of, prices_on, direction_on, price_after, is_last_settled}
 use Rattle.std.proofs.lemmas.Option.{get_or_from_slice_get}
 use Rattle.price_move.specs.declared.entries.Side.{Side}
 use Rattle.price_move.specs.declared.entries.Side.TheVariants.{Energy, Reserve}
 use Rattle.uc_model.specs.Data.{Market, PriceLists}
-use Rattle.uc_model.specs.Limits.{IsFrom, price_limit}
-use Rattle.uc_model.specs.PriceRule.{Proposal, squared_length, age, stepped_prices, next_prices, no_prices, is_settled}
-use Rattle.uc_model.specs.Sums.{int_at}
-use Rattle.uc_model.proofs.SignedLaws.{clamped_from}
-use Rattle.price_move.specs.Moves.{low_of, prices_on, direction_on, price_after, is_last_settled}
 use Rattle.price_move.specs.Sizes.{IsRowBelow}
 
 low_is_low : (side : Side) → low_of side ≤ℤ price_limit

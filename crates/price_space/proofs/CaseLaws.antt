@@ -1,16 +1,6 @@
 -- What a case says of the units that prices are made from.
-use Rattle.std.proofs.Common.{◌≡◌, ℕ, zero, suc, ◌+◌, ◌<◌, ◌≤◌, ℤ, ◌+ℤ◌, List, [], ◌∷◌, map, drop, length, get_or, refl, ap, sym, subst, ◌∙◌, arith}
-use Rattle.std.proofs.lemmas.List.{length-map, at_drop_more}
-use Rattle.std.proofs.lemmas.List.Sorted.{All-permutation, length_permutation}
-use Rattle.std.specs.List.{All}
+use Rattle.price_space.proofs.Common.{◌≡◌, ℕ, zero, suc, ◌+◌, ◌<◌, ◌≤◌, ℤ, ◌+ℤ◌, List, [], ◌∷◌, map, drop, length, get_or, refl, ap, sym, subst, ◌∙◌, arith, length-map, at_drop_more, All-permutation, length_permutation, All, NamedFlat, Priced, NamedThermalUnit, NamedRenewableUnit, Market, IsOutput, IsThermalUnit, IsRenewableUnit, IsMarket, thermal_of, named_thermal_of, named_renewable_of, int_at, total, priced_of, priced_units_of, AreRisingUnits}
 use Rattle.uc_model.specs.declared.units.NamedUnit.{NamedUnit}
-use Rattle.uc_model.specs.declared.units.NamedFlat.{NamedFlat}
-use Rattle.price_space.specs.declared.start.Priced.{Priced}
-use Rattle.uc_model.specs.Data.{NamedThermalUnit, NamedRenewableUnit, Market}
-use Rattle.uc_model.specs.Limits.{IsOutput, IsThermalUnit, IsRenewableUnit, IsMarket}
-use Rattle.uc_model.specs.PlainUnits.{thermal_of, named_thermal_of, named_renewable_of}
-use Rattle.uc_model.specs.Sums.{int_at, total}
-use Rattle.price_space.specs.Starts.{priced_of, priced_units_of, AreRisingUnits}
 use Rattle.price_space.proofs.StartLaws.{AreGiving}
 
 pub units_same : (ns : List NamedUnit) → map (λ (n : NamedUnit). priced_of (thermal_of n.unit)) ns ≡ map (λ (n : NamedThermalUnit). priced_of n.unit) (map named_thermal_of ns)

@@ -1,14 +1,5 @@
 -- Lists of opening prices.
-use Rattle.std.proofs.Common.{◌≡◌, ℕ, suc, ◌+◌, ◌<◌, ◌≤◌, ℤ, pos, negsuc, neg_ℤ, ◌*ℤ◌, unsigned_abs, FitsSigned, List, [], ◌∷◌, map, replicate, length, refl, ap, sym, ◌∙◌, arith}
-use Rattle.std.proofs.lemmas.Int.{ints}
-use Rattle.std.proofs.lemmas.List.{ext_get_or, length-replicate, get_or-replicate}
-use Rattle.std.specs.Int.{w64}
-use Rattle.uc_model.specs.Data.{PriceLists}
-use Rattle.uc_model.specs.Limits.{IsFrom, price_limit}
-use Rattle.uc_model.specs.PriceRule.{opening_prices_of}
-use Rattle.uc_model.specs.Sums.{int_at, floor_div}
-use Rattle.uc_model.proofs.SignedLaws.{clamped_from}
-use Rattle.price_space.specs.Opening.{opened}
+use Rattle.price_space.proofs.Common.{◌≡◌, ℕ, suc, ◌+◌, ◌<◌, ◌≤◌, ℤ, pos, negsuc, neg_ℤ, ◌*ℤ◌, unsigned_abs, FitsSigned, List, [], ◌∷◌, map, replicate, length, refl, ap, sym, ◌∙◌, arith, ints, ext_get_or, length-replicate, get_or-replicate, w64, PriceLists, IsFrom, price_limit, opening_prices_of, int_at, floor_div, clamped_from, opened}
 
 pub opened_limits : (n : ℕ) (s : ℤ) → IsFrom (neg_ℤ price_limit) price_limit (opened n s)
 unfolding opened

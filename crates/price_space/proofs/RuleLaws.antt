@@ -1,17 +1,6 @@
 -- The price that is found is the start price of the rule.
-use Rattle.std.proofs.Common.{◌≡◌, ℕ, zero, suc, ◌<◌, ◌⊎◌, inl, inr, ⊎_elim, Bool, true, false, cond, ℤ, pos, ◌+ℤ◌, ◌-ℤ◌, ◌≤ℤ◌, int_le, Option, Some, unwrap_or, List, [], ◌∷◌, map, filter, length, get_or, refl, ap, sym, subst, ◌∙◌, arith}
-use Rattle.std.proofs.lemmas.Int.{ints, fold-int_min_bounds, fold-int_min_reached, fold-int_max_bounds, fold-int_max_reached}
-use Rattle.std.proofs.lemmas.List.{get_or_default, nil_from_length, length-map}
+use Rattle.price_space.proofs.Common.{◌≡◌, ℕ, zero, suc, ◌<◌, ◌⊎◌, inl, inr, ⊎_elim, Bool, true, false, cond, ℤ, pos, ◌+ℤ◌, ◌-ℤ◌, ◌≤ℤ◌, int_le, Option, Some, unwrap_or, List, [], ◌∷◌, map, filter, length, get_or, refl, ap, sym, subst, ◌∙◌, arith, ints, fold-int_min_bounds, fold-int_min_reached, fold-int_max_bounds, fold-int_max_reached, get_or_default, nil_from_length, length-map, IsPermutation-sym, IsPermutation-map, Contains-permutation, sum_by-IsPermutation, length_permutation, int_min, int_max, All, Contains, fold, reduce, sum_by, IsPermutation, Priced, NamedThermalUnit, Market, full_load_price, power_up_to, start_price, int_at, total, priced_of, priced_units_of, renewable_power_of, power_at, IsStartPrice, IsLeastReaching, IsGreatestShort, IsWithoutUnits}
 use Rattle.std.proofs.lemmas.List.Elements.{All-filter, filter_passes}
-use Rattle.std.proofs.lemmas.List.Sorted.{IsPermutation-sym, IsPermutation-map, Contains-permutation, sum_by-IsPermutation, length_permutation}
-use Rattle.std.specs.Int.{int_min, int_max}
-use Rattle.std.specs.List.{All, Contains, fold, reduce, sum_by}
-use Rattle.std.specs.List.Sorted.{IsPermutation}
-use Rattle.price_space.specs.declared.start.Priced.{Priced}
-use Rattle.uc_model.specs.Data.{NamedThermalUnit, Market}
-use Rattle.uc_model.specs.PriceRule.{full_load_price, power_up_to, start_price}
-use Rattle.uc_model.specs.Sums.{int_at, total}
-use Rattle.price_space.specs.Starts.{priced_of, priced_units_of, renewable_power_of, power_at, IsStartPrice, IsLeastReaching, IsGreatestShort, IsWithoutUnits}
 use Rattle.price_space.proofs.StartLaws.{AreGiving, power_sum, price_of, le_true, le_false, from_true}
 
 abbrev price : Priced → ℤ

@@ -1,15 +1,8 @@
 -- The start price of a period, from the units in the order of their full-load prices.
-use Rattle.std.proofs.Common.{◌≡◌, ℕ, zero, suc, ◌+◌, ◌-◌, ◌<◌, ◌≤◌, inl, inr, Bool, true, false, cond, if◌then◌else◌, ℤ, pos, negsuc, ◌≤ℤ◌, ◌<ℤ◌, int_le, unsigned_abs, Option, Some, slice_get, int_lt, List, [], ◌∷◌, map, filter, take, drop, length, get_or, refl, ap, sym, subst, ◌∙◌, arith, add-zero}
-use Rattle.std.proofs.lemmas.Int.{ints, by_lt_z}
-use Rattle.std.proofs.lemmas.List.{get_or-drop, length-drop, length-map, get_or_default}
-use Rattle.std.proofs.lemmas.List.Sums.{sum_by-cons, sum_by-take-drop, sum_by-take-le, sum_by-le-sum_by}
+use Rattle.price_space.proofs.Common.{◌≡◌, ℕ, zero, suc, ◌+◌, ◌-◌, ◌<◌, ◌≤◌, inl, inr, Bool, true, false, cond, if◌then◌else◌, ℤ, pos, negsuc, ◌≤ℤ◌, ◌<ℤ◌, int_le, unsigned_abs, Option, Some, slice_get, int_lt, List, [], ◌∷◌, map, filter, take, drop, length, get_or, refl, ap, sym, subst, ◌∙◌, arith, add-zero, ints, by_lt_z, get_or-drop, length-drop, length-map, get_or_default, sum_by-cons, sum_by-take-drop, sum_by-take-le, sum_by-le-sum_by, Contains, sum_by, Priced, total, power_at, IsRising, IsStartPrice}
 use Rattle.std.specs.Option.{option_map_or}
 use Rattle.std.specs.Ordering.{is_lt, ordering_then, int_cmp}
 use Rattle.std.specs.declared.cmp.Ordering.TheVariants.{Less, Equal, Greater}
-use Rattle.std.specs.List.{Contains, sum_by}
-use Rattle.price_space.specs.declared.start.Priced.{Priced}
-use Rattle.uc_model.specs.Sums.{total}
-use Rattle.price_space.specs.Starts.{power_at, IsRising, IsStartPrice}
 
 -- ---- powers up to a price
 

@@ -1,13 +1,6 @@
 -- Knots with whole slopes that don't fall are those that stand for a convex function.
-use Rattle.std.proofs.Common.{◌≡◌, ℕ, zero, suc, ◌+◌, ◌-◌, ◌<◌, List, refl, sym, ap, ◌∙◌, arith, inl, inr}
-use Rattle.std.specs.Prelude.{ℤ, pos, ◌+ℤ◌, ◌-ℤ◌, ◌*ℤ◌, ◌≤ℤ◌, ◌<ℤ◌}
-use Rattle.std.proofs.lemmas.Int.{ints, by_lt_z}
-use Rattle.std.proofs.lemmas.Bool.{cases_lt}
-use Rattle.std.proofs.Math.IntN.{*ℤ-zero}
-use Rattle.ramp_step.specs.declared.breakpoint.Knot.{Knot}
-use Rattle.ramp_step.specs.Knots.{knot, place, height, IsStraight, IsConvex, StandFor}
+use Rattle.ramp_step.proofs.Common.{◌≡◌, ℕ, zero, suc, ◌+◌, ◌-◌, ◌<◌, List, refl, sym, ap, ◌∙◌, arith, inl, inr, ℤ, pos, ◌+ℤ◌, ◌-ℤ◌, ◌*ℤ◌, ◌≤ℤ◌, ◌<ℤ◌, ints, by_lt_z, cases_lt, *ℤ-zero, Knot, knot, place, height, IsStraight, IsConvex, StandFor, line_at, value_upto}
 use Rattle.ramp_step.specs.Breakpoints.{slope_at, AreBreakpoints, BreakpointsAreShapes, ShapesAreBreakpoints}
-use Rattle.ramp_step.specs.Values.{line_at, value_upto}
 use Rattle.ramp_step.proofs.TimesLaws.{times_one, times_prev, straight_product}
 use Rattle.ramp_step.proofs.KnotLaws.{rises}
 use Rattle.ramp_step.proofs.WindowLaws.{slopes, straight_line}

@@ -1,16 +1,5 @@
 -- A curve is straight within a block, and convex where prices don't fall.
-use Rattle.std.proofs.Common.{◌≡◌, ℕ, zero, suc, ◌+◌, ◌<◌, ◌≤◌, List, [], ◌∷◌, length, get_or, refl, sym, ap, ◌∙◌, subst, arith, inl, inr, to_z, of_z}
-use Rattle.std.specs.Prelude.{ℤ, pos, ◌+ℤ◌, ◌-ℤ◌, ◌*ℤ◌, ◌≤ℤ◌, ◌<ℤ◌}
-use Rattle.std.specs.Int.{w64, int_min, int_max}
-use Rattle.std.proofs.lemmas.Int.{ints, clamps, by_lt_z}
-use Rattle.std.proofs.lemmas.Bool.{cases_lt}
-use Rattle.std.proofs.Math.IntN.{*ℤ-zero}
-use Rattle.ramp_step.specs.declared.breakpoint.Knot.{Knot}
-use Rattle.uc_model.specs.declared.units.Block.{Block}
-use Rattle.ramp_step.specs.Knots.{IsStraight, IsConvex, IsWide}
-use Rattle.shape_law.specs.Table.{IsAmount}
-use Rattle.ramp_step.specs.Cut.{IsSplit}
-use Rattle.ramp_step.specs.Curve.{rise_over, curve_term, block_end, AreBlocks, EndsOutside, IsRefined, AreLimitedBlocks}
+use Rattle.ramp_step.proofs.Common.{◌≡◌, ℕ, zero, suc, ◌+◌, ◌<◌, ◌≤◌, List, [], ◌∷◌, length, get_or, refl, sym, ap, ◌∙◌, subst, arith, inl, inr, to_z, of_z, ℤ, pos, ◌+ℤ◌, ◌-ℤ◌, ◌*ℤ◌, ◌≤ℤ◌, ◌<ℤ◌, w64, int_min, int_max, ints, clamps, by_lt_z, cases_lt, *ℤ-zero, Knot, Block, IsStraight, IsConvex, IsWide, IsAmount, IsSplit, rise_over, curve_term, block_end, AreBlocks, EndsOutside, IsRefined, AreLimitedBlocks}
 use Rattle.ramp_step.proofs.TimesLaws.{times_prev, times_one, straight_product}
 use Rattle.ramp_step.proofs.DivLaws.{amount_part}
 use Rattle.ramp_step.proofs.KnotLaws.{HaveSameEnds-then}

@@ -1,19 +1,7 @@
 -- A curve of blocks is the term that the step on knots adds.
-use Rattle.std.proofs.Common.{◌≡◌, ℕ, zero, suc, ◌<◌, ◌≤◌, List, [], ◌∷◌, length, Option, Some, None, true, false, refl, sym, ap, ◌∙◌, subst, arith}
-use Rattle.std.specs.Prelude.{ℤ, pos, ◌+ℤ◌, ◌-ℤ◌, ◌*ℤ◌, ◌≤ℤ◌, ◌<ℤ◌, int_lt}
-use Rattle.std.specs.Option.{option_map}
-use Rattle.std.proofs.lemmas.Int.{ints, by_lt_z}
-use Rattle.uc_model.specs.declared.units.Block.{Block}
-use Rattle.uc_model.specs.declared.units.Curve.{Curve}
+use Rattle.ramp_step.proofs.Common.{◌≡◌, ℕ, zero, suc, ◌<◌, ◌≤◌, List, [], ◌∷◌, length, Option, Some, None, true, false, refl, sym, ap, ◌∙◌, subst, arith, ℤ, pos, ◌+ℤ◌, ◌-ℤ◌, ◌*ℤ◌, ◌≤ℤ◌, ◌<ℤ◌, int_lt, option_map, ints, by_lt_z, Block, Curve, rise_at, curve_value, end_of, CanAddCurve, IsWithinLimits, IsAmount, Knot, place, StandFor, IsShape, IsInside, CanAdd, rise_over, curve_term, block_end, AreBlocks, AreLimitedBlocks, IsOver, table_of}
 use Rattle.uc_model.specs.Limits.{IsCurve}
 use Rattle.shape_law.specs.Curve as curves
-use Rattle.shape_law.specs.Curve.{rise_at, curve_value, end_of}
-use Rattle.shape_law.specs.Effect.{CanAddCurve}
-use Rattle.shape_law.specs.Table.{IsWithinLimits, IsAmount}
-use Rattle.ramp_step.specs.declared.breakpoint.Knot.{Knot}
-use Rattle.ramp_step.specs.Knots.{place, StandFor, IsShape, IsInside, CanAdd}
-use Rattle.ramp_step.specs.Curve.{rise_over, curve_term, block_end, AreBlocks, AreLimitedBlocks, IsOver}
-use Rattle.ramp_step.specs.Tables.{table_of}
 use Rattle.ramp_step.proofs.KnotLaws.{is_inside}
 use Rattle.ramp_step.proofs.CurveLaws.{rise_left, rise_right, rise_zero, block_end_far}
 use Rattle.ramp_step.proofs.ShapeLaws.{value_inside}

@@ -1,12 +1,5 @@
 -- Knots that are dropped, put at an end, or put in between.
-use Rattle.std.proofs.Common.{◌≡◌, ℕ, ◌+◌, ◌-◌, ◌<◌, ◌≤◌, List, refl, sym, ap, ◌∙◌, subst, arith, inl, inr}
-use Rattle.std.specs.Prelude.{ℤ, pos, ◌+ℤ◌, ◌-ℤ◌, ◌*ℤ◌, ◌≤ℤ◌, ◌<ℤ◌, ◌⊎◌}
-use Rattle.std.proofs.lemmas.Int.{ints, by_lt_z}
-use Rattle.std.proofs.lemmas.Bool.{cases_lt}
-use Rattle.ramp_step.specs.declared.breakpoint.Knot.{Knot}
-use Rattle.ramp_step.specs.Knots.{knot, place, height, IsStraight, StandFor, IsShape, HaveSameEnds, IsFar}
-use Rattle.shape_law.specs.Table.{IsAmount}
-use Rattle.ramp_step.specs.Cut.{IsOnLine, IsBetween, AreWithin, IsLimited, AreBelow, IsCut, AreDropped, IsInserted, IsSplit, IsPart}
+use Rattle.ramp_step.proofs.Common.{◌≡◌, ℕ, ◌+◌, ◌-◌, ◌<◌, ◌≤◌, List, refl, sym, ap, ◌∙◌, subst, arith, inl, inr, ℤ, pos, ◌+ℤ◌, ◌-ℤ◌, ◌*ℤ◌, ◌≤ℤ◌, ◌<ℤ◌, ◌⊎◌, ints, by_lt_z, cases_lt, Knot, knot, place, height, IsStraight, StandFor, IsShape, HaveSameEnds, IsFar, IsAmount, IsOnLine, IsBetween, AreWithin, IsLimited, AreBelow, IsCut, AreDropped, IsInserted, IsSplit, IsPart}
 use Rattle.ramp_step.proofs.KnotLaws.{rises, StandFor-run}
 use Rattle.ramp_step.proofs.WindowLaws.{straight_line}
 

@@ -1,11 +1,6 @@
 -- Division without a remainder, and values along a line.
-use Rattle.std.proofs.Common.{◌≡◌, ℕ, ◌<◌, ap, ◌∙◌, arith, inl, inr}
-use Rattle.std.specs.Prelude.{ℤ, pos, negsuc, ◌+ℤ◌, ◌-ℤ◌, ◌*ℤ◌, ◌≤ℤ◌, ◌<ℤ◌, ◌⊎◌, int_div, int_rem, unsigned_abs}
-use Rattle.std.proofs.lemmas.Int.{ints, by_lt_z, quot-rem, rem_below}
-use Rattle.std.proofs.Math.IntN.{*ℤ_comm, *ℤ-zero}
-use Rattle.uc_model.proofs.IntLaws.{mul-add, mul-mono_of}
+use Rattle.ramp_step.proofs.Common.{◌≡◌, ℕ, ◌<◌, ap, ◌∙◌, arith, inl, inr, ℤ, pos, negsuc, ◌+ℤ◌, ◌-ℤ◌, ◌*ℤ◌, ◌≤ℤ◌, ◌<ℤ◌, ◌⊎◌, int_div, int_rem, unsigned_abs, ints, by_lt_z, quot-rem, rem_below, *ℤ_comm, *ℤ-zero, mul-add, mul-mono_of, IsAmount}
 use Rattle.ramp_step.proofs.TimesLaws.{times_one, times_minus}
-use Rattle.shape_law.specs.Table.{IsAmount}
 
 abs_below : (r : ℤ) (n : ℕ) → unsigned_abs r < n → (r <ℤ pos n) × ((pos 0 -ℤ pos n) <ℤ r)
 abs_below (pos m) n h = (omega (arith, ints), omega (arith, ints))

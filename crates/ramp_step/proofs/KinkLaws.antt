@@ -1,11 +1,5 @@
 -- The worth of the reserve is straight on both sides of its kink, and convex.
-use Rattle.std.proofs.Common.{◌≡◌, ap, arith, inl, inr}
-use Rattle.std.specs.Prelude.{ℤ, pos, ◌+ℤ◌, ◌-ℤ◌, ◌*ℤ◌, ◌≤ℤ◌, ◌⊎◌}
-use Rattle.std.specs.Int.{int_min}
-use Rattle.std.proofs.lemmas.Int.{ints, clamps}
-use Rattle.ramp_step.specs.Knots.{IsStraight, IsConvex}
-use Rattle.shape_law.specs.Curve.{reserve_term}
-use Rattle.uc_model.proofs.IntLaws.{mul-add, mul-mono_of}
+use Rattle.ramp_step.proofs.Common.{◌≡◌, ap, arith, inl, inr, ℤ, pos, ◌+ℤ◌, ◌-ℤ◌, ◌*ℤ◌, ◌≤ℤ◌, ◌⊎◌, int_min, ints, clamps, IsStraight, IsConvex, reserve_term, mul-add, mul-mono_of}
 use Rattle.ramp_step.proofs.TimesLaws.{times_next, times_prev}
 
 pub kink_straight : (mu cap up a b : ℤ) → (b ≤ℤ (cap -ℤ up)) ⊎ ((cap -ℤ up) ≤ℤ a) → IsStraight a b (reserve_term mu cap up)

@@ -1,11 +1,5 @@
 -- Laws of knots, over the places p and the heights v by index.
-use Rattle.std.proofs.Common.{◌≡◌, ◌≢◌, length, get_or-set_same, get_or-set_other, ℕ, zero, suc, ◌+◌, ◌-◌, ◌<◌, List, refl, sym, ap, ◌∙◌, arith, inl, inr}
-use Rattle.std.specs.Prelude.{slice_set, ℤ, pos, ◌+ℤ◌, ◌-ℤ◌, ◌*ℤ◌, ◌≤ℤ◌, ◌<ℤ◌}
-use Rattle.std.proofs.lemmas.Int.{ints}
-use Rattle.std.proofs.lemmas.Bool.{cases_lt}
-use Rattle.ramp_step.specs.declared.breakpoint.Knot.{Knot}
-use Rattle.ramp_step.specs.Knots.{knot, place, IsStraight, IsConvex, StandFor, IsInside, HaveSameEnds, AreRaised}
-use Rattle.ramp_step.specs.Laws.{IsRun}
+use Rattle.ramp_step.proofs.Common.{◌≡◌, ◌≢◌, length, get_or-set_same, get_or-set_other, ℕ, zero, suc, ◌+◌, ◌-◌, ◌<◌, List, refl, sym, ap, ◌∙◌, arith, inl, inr, slice_set, ℤ, pos, ◌+ℤ◌, ◌-ℤ◌, ◌*ℤ◌, ◌≤ℤ◌, ◌<ℤ◌, ints, cases_lt, Knot, knot, place, IsStraight, IsConvex, StandFor, IsInside, HaveSameEnds, AreRaised, IsRun}
 use Rattle.ramp_step.proofs.TimesLaws.{times_next, times_prev}
 
 -- the places rise from each knot to each later one

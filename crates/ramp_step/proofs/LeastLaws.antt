@@ -1,13 +1,5 @@
 -- Where a convex function is least.
-use Rattle.std.proofs.Common.{◌≡◌, ℕ, ◌-◌, List, sym, ap, subst, arith}
-use Rattle.std.specs.Prelude.{ℤ, pos, ◌+ℤ◌, ◌-ℤ◌, ◌≤ℤ◌, ◌<ℤ◌}
-use Rattle.std.specs.Int.{int_min, int_max}
-use Rattle.std.proofs.lemmas.Int.{ints, clamps, by_lt_z}
-use Rattle.ramp_step.specs.declared.breakpoint.Knot.{Knot}
-use Rattle.ramp_step.specs.Knots.{knot, place, IsConvex, StandFor, IsInside}
-use Rattle.ramp_step.specs.Window.{nearest, IsLeastInReach, IsTurn}
-use Rattle.ramp_step.specs.Read.{IsLowest, HasNoPlace, IsInsideWithin}
-use Rattle.ramp_step.specs.Laws.{MovesParts}
+use Rattle.ramp_step.proofs.Common.{◌≡◌, ℕ, ◌-◌, List, sym, ap, subst, arith, ℤ, pos, ◌+ℤ◌, ◌-ℤ◌, ◌≤ℤ◌, ◌<ℤ◌, int_min, int_max, ints, clamps, by_lt_z, Knot, knot, place, IsConvex, StandFor, IsInside, nearest, IsLeastInReach, IsTurn, IsLowest, HasNoPlace, IsInsideWithin, MovesParts}
 use Rattle.ramp_step.proofs.WindowLaws.{slopes, falls_to, rises_to, window_law}
 use Rattle.ramp_step.proofs.SpreadLaws.{turn_falls_strictly, turn_falls, turn_rises, turn_from_first, turn_to_last}
 

@@ -1,3 +1,5 @@
+-- The names from elsewhere that the proofs here cite.
+pub mod Common
 -- ---- src/breakpoint.rt and every step
 -- laws of knots, over the places p and the heights v by index
 pub mod KnotLaws
@@ -43,3 +45,5 @@ pub mod RunLaws
 pub mod StepLaws
 -- a convex function is least at its turn, and between two places nearest to it
 pub mod TurnLaws
+-- The lemmas that answers cite.
+pub mod Lemmas

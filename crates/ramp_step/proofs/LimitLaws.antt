@@ -1,12 +1,5 @@
 -- Between knots within the limits every value is within them.
-use Rattle.std.proofs.Common.{◌≡◌, ℕ, ◌+◌, ◌-◌, List, sym, ap, ◌∙◌, subst, arith}
-use Rattle.std.specs.Prelude.{ℤ, pos, ◌+ℤ◌, ◌-ℤ◌}
-use Rattle.std.proofs.lemmas.Int.{ints, by_lt_z}
-use Rattle.shape_law.specs.Table.{IsWithinLimits, IsAmount}
-use Rattle.ramp_step.specs.declared.breakpoint.Knot.{Knot}
-use Rattle.ramp_step.specs.Knots.{place, StandFor, IsShape, IsInside}
-use Rattle.ramp_step.specs.Cut.{IsLimited}
-use Rattle.ramp_step.specs.Tables.{table_of, AreWithinLimits}
+use Rattle.ramp_step.proofs.Common.{◌≡◌, ℕ, ◌+◌, ◌-◌, List, sym, ap, ◌∙◌, subst, arith, ℤ, pos, ◌+ℤ◌, ◌-ℤ◌, ints, by_lt_z, IsWithinLimits, IsAmount, Knot, place, StandFor, IsShape, IsInside, IsLimited, table_of, AreWithinLimits}
 use Rattle.ramp_step.proofs.DivLaws.{amount_part}
 use Rattle.ramp_step.proofs.WindowLaws.{straight_line}
 use Rattle.ramp_step.proofs.BreakpointLaws.{behind}

@@ -1,15 +1,5 @@
 -- Heights are raised block by block.
-use Rattle.std.proofs.Common.{◌≡◌, ℕ, ◌+◌, ◌-◌, ◌<◌, List, length, get_or, sym, ap, ◌∙◌, subst, arith, inl, inr}
-use Rattle.std.specs.Prelude.{ℤ, pos, ◌+ℤ◌, ◌-ℤ◌, ◌*ℤ◌, ◌≤ℤ◌, ◌<ℤ◌}
-use Rattle.std.proofs.lemmas.Int.{ints}
-use Rattle.std.proofs.lemmas.Bool.{cases_lt}
-use Rattle.std.proofs.Math.IntN.{zero-*ℤ}
-use Rattle.ramp_step.specs.declared.breakpoint.Knot.{Knot}
-use Rattle.uc_model.specs.declared.units.Block.{Block}
-use Rattle.ramp_step.specs.Knots.{place, height, IsWide, AreRaised}
-use Rattle.shape_law.specs.Table.{IsAmount}
-use Rattle.ramp_step.specs.Curve.{block_end, curve_term, AreLimitedBlocks}
-use Rattle.ramp_step.specs.Raise.{line_from, CanRaise, AreRaisedUpto, AreRaisedSoFar}
+use Rattle.ramp_step.proofs.Common.{◌≡◌, ℕ, ◌+◌, ◌-◌, ◌<◌, List, length, get_or, sym, ap, ◌∙◌, subst, arith, inl, inr, ℤ, pos, ◌+ℤ◌, ◌-ℤ◌, ◌*ℤ◌, ◌≤ℤ◌, ◌<ℤ◌, ints, cases_lt, zero-*ℤ, Knot, Block, place, height, IsWide, AreRaised, IsAmount, block_end, curve_term, AreLimitedBlocks, line_from, CanRaise, AreRaisedUpto, AreRaisedSoFar}
 use Rattle.ramp_step.proofs.KnotLaws.{rises}
 use Rattle.ramp_step.proofs.CurveLaws.{block_end_next, on_block_is, curve_begins}
 

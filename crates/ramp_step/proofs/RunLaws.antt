@@ -1,14 +1,5 @@
 -- Knots of another list, one after another, stand for the same function.
-use Rattle.std.proofs.Common.{◌≡◌, ℕ, ◌+◌, ◌-◌, ◌<◌, List, sym, ap, ◌∙◌, subst, inl, inr, arith}
-use Rattle.std.specs.Prelude.{ℤ, ◌≤ℤ◌, Some, None}
-use Rattle.std.proofs.lemmas.Bool.{cases_lt}
-use Rattle.std.proofs.lemmas.Int.{ints, by_lt_z}
-use Rattle.shape_law.specs.Effect.{IsSame}
-use Rattle.shape_law.specs.Table.{value_of, IsWithinLimits}
-use Rattle.ramp_step.specs.declared.breakpoint.Knot.{Knot}
-use Rattle.ramp_step.specs.Knots.{knot, place, height, StandFor, IsShape, IsInside}
-use Rattle.ramp_step.specs.Laws.{IsRun, RunsStandBetween, SameKnotsAreSame, OneKnotIsPoint}
-use Rattle.ramp_step.specs.Tables.{table_of, AreBreaks, AreWithinLimits}
+use Rattle.ramp_step.proofs.Common.{◌≡◌, ℕ, ◌+◌, ◌-◌, ◌<◌, List, sym, ap, ◌∙◌, subst, inl, inr, arith, ℤ, ◌≤ℤ◌, Some, None, cases_lt, ints, by_lt_z, IsSame, value_of, IsWithinLimits, Knot, knot, place, height, StandFor, IsShape, IsInside, IsRun, RunsStandBetween, SameKnotsAreSame, OneKnotIsPoint, table_of, AreBreaks, AreWithinLimits}
 use Rattle.ramp_step.proofs.BreakpointLaws.{IsShape-breakpoints, AreBreakpoints-shape}
 use Rattle.ramp_step.proofs.KnotLaws.{place_at, first_at, first_place, last_place, StandFor-run}
 use Rattle.ramp_step.proofs.LimitLaws.{IsWithinLimits-from_knots}

@@ -1,19 +1,8 @@
 -- A step on knots is the step on the table that they stand for.
-use Rattle.std.proofs.Common.{◌≡◌, ℕ, ◌+◌, ◌-◌, List, Option, Some, None, refl, sym, ap, ◌∙◌, subst, arith, inl, inr}
-use Rattle.std.specs.Prelude.{ℤ, pos, ◌+ℤ◌, ◌-ℤ◌, ◌⊎◌, MatchOption}
-use Rattle.std.specs.Option.{option_map}
-use Rattle.std.proofs.lemmas.Int.{ints}
+use Rattle.ramp_step.proofs.Common.{◌≡◌, ℕ, ◌+◌, ◌-◌, List, Option, Some, None, refl, sym, ap, ◌∙◌, subst, arith, inl, inr, ℤ, pos, ◌+ℤ◌, ◌-ℤ◌, ◌⊎◌, MatchOption, option_map, ints, Table, value_of, IsConvexList, IsEmpty, HasNone, IsWithinLimits, IsPlace, IsAmount, IsPoint, IsSum, IsCurveSum, CanAddCurve, IsLeast, IsLeastIn, Knot, place, height, StandFor, IsShape, IsInside, HaveSameEnds, CanAdd, IsWindow, IsLowest, HasNoPlace, IsInsideWithin, IsValueAt, values_of, table_of, AreWithinLimits}
 use Rattle.shape_law.specs.Table as tables
-use Rattle.shape_law.specs.Table.{Table, value_of, IsConvexList, IsEmpty, HasNone, IsWithinLimits, IsPlace, IsAmount}
 use Rattle.shape_law.specs.Effect as effects
-use Rattle.shape_law.specs.Effect.{IsPoint, IsSum, IsCurveSum, CanAddCurve, IsLeast, IsLeastIn}
 use Rattle.shape_law.specs.Lookup.{IsAt-from_value, value-from_is_at}
-use Rattle.ramp_step.specs.declared.breakpoint.Knot.{Knot}
-use Rattle.ramp_step.specs.Knots.{place, height, StandFor, IsShape, IsInside, HaveSameEnds, CanAdd}
-use Rattle.ramp_step.specs.Window.{IsWindow}
-use Rattle.ramp_step.specs.Read.{IsLowest, HasNoPlace, IsInsideWithin, IsValueAt}
-use Rattle.ramp_step.specs.Values.{values_of}
-use Rattle.ramp_step.specs.Tables.{table_of, AreWithinLimits}
 use Rattle.ramp_step.proofs.ValueLaws.{values_of_is}
 use Rattle.ramp_step.proofs.KnotLaws.{inside_same, is_inside, HaveSameEnds-back}
 

@@ -1,16 +1,6 @@
 -- Knots with free cells between them.
-use Rattle.std.proofs.Common.{◌≡◌, ◌≢◌, ℕ, ◌+◌, ◌-◌, ◌<◌, ◌≤◌, List, length, take, drop, get_or, sym, ap, ◌∙◌, subst, arith, inl, inr}
-use Rattle.std.specs.Prelude.{ℤ, pos, ◌≤ℤ◌, ◌<ℤ◌, slice_set}
-use Rattle.std.proofs.lemmas.Int.{ints}
-use Rattle.std.proofs.lemmas.Bool.{cases_lt}
+use Rattle.ramp_step.proofs.Common.{◌≡◌, ◌≢◌, ℕ, ◌+◌, ◌-◌, ◌<◌, ◌≤◌, List, length, take, drop, get_or, sym, ap, ◌∙◌, subst, arith, inl, inr, ℤ, pos, ◌≤ℤ◌, ◌<ℤ◌, slice_set, ints, cases_lt, Knot, Block, knot, place, StandFor, IsFar, IsAmount, IsLimited, IsInserted, AreBelow, AreDropped, IsRefined, spaced, AreMovedBack, IsMovedOn}
 use Rattle.std.proofs.lemmas.List.{length-set, length-take-le, get_or-take, get_or-drop, get_or-append_right, get_or_append_left}
-use Rattle.ramp_step.specs.declared.breakpoint.Knot.{Knot}
-use Rattle.uc_model.specs.declared.units.Block.{Block}
-use Rattle.ramp_step.specs.Knots.{knot, place, StandFor, IsFar}
-use Rattle.shape_law.specs.Table.{IsAmount}
-use Rattle.ramp_step.specs.Cut.{IsLimited, IsInserted, AreBelow, AreDropped}
-use Rattle.ramp_step.specs.Curve.{IsRefined}
-use Rattle.ramp_step.specs.Spaced.{spaced, AreMovedBack, IsMovedOn}
 use Rattle.ramp_step.proofs.KnotLaws.{knot_same, knot_other}
 
 nothing : Knot

@@ -1,13 +1,5 @@
 -- Knots whose falling part is moved by -down, and whose rising part by up, stand for the window.
-use Rattle.std.proofs.Common.{◌≡◌, ℕ, zero, suc, ◌+◌, ◌-◌, ◌<◌, List, refl, sym, ap, ◌∙◌, subst, arith, inl, inr}
-use Rattle.std.specs.Prelude.{ℤ, pos, ◌+ℤ◌, ◌-ℤ◌, ◌≤ℤ◌, ◌<ℤ◌}
-use Rattle.std.proofs.lemmas.Int.{ints, clamps, by_lt_z}
-use Rattle.std.proofs.lemmas.Bool.{cases_lt}
-use Rattle.ramp_step.specs.declared.breakpoint.Knot.{Knot}
-use Rattle.ramp_step.specs.Knots.{place, height, IsStraight, IsConvex, StandFor}
-use Rattle.shape_law.specs.Table.{IsPlace, IsAmount}
-use Rattle.ramp_step.specs.Window.{nearest, IsLeastInReach, IsTurn, AreSpread, AreWindow, IsWindow}
-use Rattle.ramp_step.specs.Cut.{IsLimited, IsCut}
+use Rattle.ramp_step.proofs.Common.{◌≡◌, ℕ, zero, suc, ◌+◌, ◌-◌, ◌<◌, List, refl, sym, ap, ◌∙◌, subst, arith, inl, inr, ℤ, pos, ◌+ℤ◌, ◌-ℤ◌, ◌≤ℤ◌, ◌<ℤ◌, ints, clamps, by_lt_z, cases_lt, Knot, place, height, IsStraight, IsConvex, StandFor, IsPlace, IsAmount, nearest, IsLeastInReach, IsTurn, AreSpread, AreWindow, IsWindow, IsLimited, IsCut}
 use Rattle.ramp_step.proofs.KnotLaws.{rises}
 use Rattle.ramp_step.proofs.WindowLaws.{slopes, straight_slope, strict_slope, rising_slope, falls_to, rises_to, window_law}
 

@@ -1,15 +1,7 @@
 -- A term that is added to the function of some knots: the new knots, and what the step asks for.
-use Rattle.std.proofs.Common.{ℕ, ◌<◌, List}
-use Rattle.std.specs.Prelude.{ℤ, ◌+ℤ◌, ◌-ℤ◌}
-use Rattle.uc_model.specs.declared.units.Curve.{Curve}
-use Rattle.shape_law.specs.Curve.{curve_value, IsLimitedCurve}
-use Rattle.shape_law.specs.Effect.{IsSum, IsCurveSum, CanAddCurve}
+use Rattle.ramp_step.proofs.Common.{ℕ, ◌<◌, List, ℤ, ◌+ℤ◌, ◌-ℤ◌, Curve, curve_value, IsLimitedCurve, IsSum, IsCurveSum, CanAddCurve, Knot, curve_term, StandFor, HaveSameEnds, CanAdd, table_of, AreBreaks, AreWithinLimits}
 use Rattle.shape_law.specs.Laws.{SumIsWithinLimits, CurveSumIsWithinLimits}
 use Rattle.shape_law.specs.Table as tables
-use Rattle.ramp_step.specs.declared.breakpoint.Knot.{Knot}
-use Rattle.ramp_step.specs.Curve.{curve_term}
-use Rattle.ramp_step.specs.Knots.{StandFor, HaveSameEnds, CanAdd}
-use Rattle.ramp_step.specs.Tables.{table_of, AreBreaks, AreWithinLimits}
 use Rattle.ramp_step.proofs.RunLaws.{shape_of, AreBreaks-from}
 use Rattle.ramp_step.proofs.CurveShapeLaws.{curve_on}
 use Rattle.ramp_step.proofs.ShapeLaws.{IsSum-from_knots, IsCurveSum-from_knots, CanAdd-from_table, AreWithinLimits-from_table}

@@ -1,9 +1,5 @@
 -- Products with the next number, the one before, and with 1 and -1.
-use Rattle.std.proofs.Common.{◌≡◌, ap, arith}
-use Rattle.std.specs.Prelude.{ℤ, pos, negsuc, ◌+ℤ◌, ◌-ℤ◌, ◌*ℤ◌}
-use Rattle.std.proofs.lemmas.Int.{ints}
-use Rattle.std.proofs.Math.IntN.{one, *ℤ-zero, *ℤ-one}
-use Rattle.uc_model.proofs.IntLaws.{mul-add, mul-sub}
+use Rattle.ramp_step.proofs.Common.{◌≡◌, ap, arith, ℤ, pos, negsuc, ◌+ℤ◌, ◌-ℤ◌, ◌*ℤ◌, ints, one, *ℤ-zero, *ℤ-one, mul-add, mul-sub}
 
 pub times_one : (s : ℤ) → s *ℤ pos 1 ≡ s
 unfolding one

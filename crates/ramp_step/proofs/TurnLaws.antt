@@ -1,14 +1,5 @@
 -- A convex function is least at its turn, and between two places nearest to it.
-use Rattle.std.proofs.Common.{◌≡◌, ℕ, List, Some, None, refl, sym, ◌∙◌}
-use Rattle.std.specs.Prelude.{ℤ, ◌≤ℤ◌, Option, MatchOption}
-use Rattle.std.specs.Int.{int_min, int_max}
-use Rattle.shape_law.specs.Effect.{IsLeastIn}
-use Rattle.shape_law.specs.Table.{value_of, HasNone}
-use Rattle.ramp_step.specs.declared.breakpoint.Knot.{Knot}
-use Rattle.ramp_step.specs.Knots.{knot, place, IsInside}
-use Rattle.ramp_step.specs.Laws.{TurnIsLeast, NearestIsLeast}
-use Rattle.ramp_step.specs.Tables.{table_of, AreBreaks}
-use Rattle.ramp_step.specs.Window.{IsTurn}
+use Rattle.ramp_step.proofs.Common.{◌≡◌, ℕ, List, Some, None, refl, sym, ◌∙◌, ℤ, ◌≤ℤ◌, Option, MatchOption, int_min, int_max, IsLeastIn, value_of, HasNone, Knot, knot, place, IsInside, TurnIsLeast, NearestIsLeast, table_of, AreBreaks, IsTurn}
 use Rattle.ramp_step.proofs.LeastLaws.{IsLowest-turn, IsLowest-within, HasNoPlace-within}
 use Rattle.ramp_step.proofs.RunLaws.{shape_of}
 use Rattle.ramp_step.proofs.ShapeLaws.{value_inside, inside_value, IsLeast-from_knots, IsLeastIn-from_knots, HasNone-from_knots}

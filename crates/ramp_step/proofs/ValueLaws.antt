@@ -1,10 +1,5 @@
 -- The list of values over all places is the list of the function's values.
-use Rattle.std.proofs.Common.{◌≡◌, ℕ, zero, suc, ◌+◌, ◌-◌, ◌<◌, List, length, get_or, refl, ap, ◌∙◌, arith, inl, inr, cond}
-use Rattle.std.specs.Prelude.{ℤ, pos, negsuc, ◌+ℤ◌, ◌-ℤ◌, ◌*ℤ◌, ◌≤ℤ◌, ◌<ℤ◌, ◌⊎◌, int_lt, int_div, unsigned_abs}
-use Rattle.std.proofs.lemmas.Int.{ints, by_lt_z}
-use Rattle.ramp_step.specs.declared.breakpoint.Knot.{Knot}
-use Rattle.ramp_step.specs.Knots.{knot, place, height, StandFor, IsInside}
-use Rattle.ramp_step.specs.Values.{line_at, value_upto, values_from, values_of}
+use Rattle.ramp_step.proofs.Common.{◌≡◌, ℕ, zero, suc, ◌+◌, ◌-◌, ◌<◌, List, length, get_or, refl, ap, ◌∙◌, arith, inl, inr, cond, ℤ, pos, negsuc, ◌+ℤ◌, ◌-ℤ◌, ◌*ℤ◌, ◌≤ℤ◌, ◌<ℤ◌, ◌⊎◌, int_lt, int_div, unsigned_abs, ints, by_lt_z, Knot, knot, place, height, StandFor, IsInside, line_at, value_upto, values_from, values_of}
 use Rattle.ramp_step.proofs.KnotLaws.{rises}
 use Rattle.ramp_step.proofs.WindowLaws.{straight_line, steps}
 use Rattle.ramp_step.proofs.DivLaws.{exact_div}

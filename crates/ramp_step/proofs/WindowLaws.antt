@@ -1,11 +1,5 @@
 -- The window of a convex function: the falling part moves by -down, the rising part by up, the flat part is between.
-use Rattle.std.proofs.Common.{◌≡◌, ℕ, zero, suc, refl, ap, ◌∙◌, arith, inl, inr}
-use Rattle.std.specs.Prelude.{ℤ, pos, negsuc, ◌+ℤ◌, ◌-ℤ◌, ◌*ℤ◌, ◌≤ℤ◌, ◌<ℤ◌, ◌⊎◌}
-use Rattle.std.proofs.lemmas.Int.{ints, clamps, by_lt_z}
-use Rattle.ramp_step.specs.Knots.{IsStraight, IsConvex}
-use Rattle.ramp_step.specs.Window.{nearest, IsLeastInReach}
-use Rattle.std.proofs.Math.IntN.{*ℤ-zero, *ℤ_comm}
-use Rattle.uc_model.proofs.IntLaws.{mul-mono_of}
+use Rattle.ramp_step.proofs.Common.{◌≡◌, ℕ, zero, suc, refl, ap, ◌∙◌, arith, inl, inr, ℤ, pos, negsuc, ◌+ℤ◌, ◌-ℤ◌, ◌*ℤ◌, ◌≤ℤ◌, ◌<ℤ◌, ◌⊎◌, ints, clamps, by_lt_z, IsStraight, IsConvex, nearest, IsLeastInReach, *ℤ-zero, *ℤ_comm, mul-mono_of}
 use Rattle.ramp_step.proofs.TimesLaws.{times_next, times_minus}
 
 -- ---- slopes

@@ -1,9 +1,5 @@
 -- Lists of lines that are compared, piece by piece.
-use Rattle.std.proofs.Common.{◌≡◌, ℕ, ◌+◌, Bool, true, false, Result, Ok, Err, List, [], ◌∷◌, ◌++◌, length, refl, sym, ap, ◌∙◌, arith, append_assoc, length-append}
-use Rattle.std.specs.Bool.{Decides}
-use Rattle.report_form.specs.Laws.{TextDeterminesReport}
-use Rattle.report_check.specs.Compared.{Differ, DifferBehind, Compares, wrong_from, Judged, AreJudged}
-use Rattle.report_check.specs.declared.wrong.WrongLine.{WrongLine}
+use Rattle.report_check.proofs.Common.{◌≡◌, ℕ, ◌+◌, Bool, true, false, Result, Ok, Err, List, [], ◌∷◌, ◌++◌, length, refl, sym, ap, ◌∙◌, arith, append_assoc, length-append, Decides, TextDeterminesReport, Differ, DifferBehind, Compares, wrong_from, Judged, AreJudged, WrongLine}
 
 abbrev Lines : Type 0
 Lines = List (List ℕ)

@@ -1,19 +1,6 @@
 -- What the first lines tell of a report, and how many rows have to be worked out for that.
-use Rattle.std.proofs.Common.{◌≡◌, ℕ, ◌+◌, inl, inr, ℤ, Result, Ok, Err, List, [], ◌∷◌, codes, length, refl, sym, ap, ◌∙◌, subst, arith}
-use Rattle.std.specs.Prelude.{min, IfOk, IfErr}
-use Rattle.uc_model.specs.Data.{Schedule, Market}
-use Rattle.uc_model.specs.PriceRule.{Proposal}
-use Rattle.uc_model.specs.Runs.{IsRun, Fits}
-use Rattle.uc_model.specs.Systems.{plan_cost}
-use Rattle.report_form.specs.Laws.{TextDeterminesReport}
-use Rattle.hull_report.specs.Laws.{OneRun, OneRightReport}
-use Rattle.report_form.specs.ReportText.{Report}
-use Rattle.hull_report.specs.RightReport.{IsRightReport}
-use Rattle.report_check.specs.Compared.{Differ, Compares}
-use Rattle.report_check.specs.Heads.{right_opening}
-use Rattle.report_check.specs.ReportLines.{count_line, amount_line, opening_lines, number_line, later_lines, report_lines}
+use Rattle.report_check.proofs.Common.{◌≡◌, ℕ, ◌+◌, inl, inr, ℤ, Result, Ok, Err, List, [], ◌∷◌, codes, length, refl, sym, ap, ◌∙◌, subst, arith, min, IfOk, IfErr, Schedule, Market, Proposal, IsRun, Fits, plan_cost, TextDeterminesReport, OneRun, OneRightReport, Report, IsRightReport, Differ, Compares, right_opening, count_line, amount_line, opening_lines, number_line, later_lines, report_lines, WrongLine}
 use Rattle.report_check.specs.Right.{IsWrongFrom}
-use Rattle.report_check.specs.declared.wrong.WrongLine.{WrongLine}
 use Rattle.report_check.proofs.Comparing.{behind, stops, here_differ}
 use Rattle.report_check.proofs.OneLine.{line_told, count_told}
 use Rattle.report_check.proofs.Verdicts.{first_wrong, not_right}

@@ -1,13 +1,6 @@
 -- The first lines that differ are where the texts do.
-use Rattle.std.proofs.Common.{◌≡◌, ℕ, ◌+◌, Bool, cond, inl, inr, List, [], ◌∷◌, ◌++◌, length, refl, sym, ap, ◌∙◌, subst, arith, append_assoc}
-use Rattle.std.specs.Prelude.{◌==◌}
-use Rattle.std.specs.List.{concat}
-use Rattle.std.proofs.lemmas.Bool.Decides.{eqb_tells}
+use Rattle.report_check.proofs.Common.{◌≡◌, ℕ, ◌+◌, Bool, cond, inl, inr, List, [], ◌∷◌, ◌++◌, length, refl, sym, ap, ◌∙◌, subst, arith, append_assoc, ◌==◌, concat, eqb_tells, TextDeterminesReport, DiffersAt, IsLine, AreLines, line_feeds, DifferBehind}
 use Rattle.std.proofs.lemmas.List.Sums.{sum_by-append, sum_by-cons}
-use Rattle.report_form.specs.Laws.{TextDeterminesReport}
-use Rattle.report_read.specs.Differences.{DiffersAt}
-use Rattle.report_read.specs.Faults.{IsLine, AreLines, line_feeds}
-use Rattle.report_check.specs.Compared.{DifferBehind}
 use Rattle.report_check.proofs.LineBytes.{Unbroken, AreAllLines}
 use Rattle.report_check.proofs.Texts.{concat_append}
 

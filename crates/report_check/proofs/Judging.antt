@@ -1,12 +1,6 @@
 -- How the lines of each form are judged.
-use Rattle.std.proofs.Common.{◌≡◌, ℕ, ℤ, Bool, List, [], ◌∷◌, refl, ap, arith}
-use Rattle.std.specs.Bool.{Decides}
-use Rattle.uc_model.specs.declared.kinds.Kind.{Kind}
+use Rattle.report_check.proofs.Common.{◌≡◌, ℕ, ℤ, Bool, List, [], ◌∷◌, refl, ap, arith, Decides, Kind, spaced, spaced_counts, spaced_flags, chosen_text, line, count_line, amount_line, kind_word, Judged}
 use Rattle.uc_model.specs.declared.kinds.Kind.TheVariants as kinds
-use Rattle.report_form.specs.Parts.{spaced, spaced_counts, spaced_flags}
-use Rattle.report_form.specs.ReportText.{chosen_text}
-use Rattle.report_check.specs.ReportLines.{line, count_line, amount_line, kind_word}
-use Rattle.report_check.specs.Compared.{Judged}
 use Rattle.report_check.proofs.Comparing.{judged}
 use Rattle.report_check.proofs.OneLine.{line_told, count_told, amount_told, choice_told, amounts_told, counts_told, flags_told, Titled, title_text}
 

@@ -1,3 +1,5 @@
+-- The names from elsewhere that the proofs here cite.
+pub mod Common
 -- wrong.rt: lines that are compared one by one, and behind one another
 pub mod Comparing
 -- due.rt, units.rt: the title and the lines of a number
@@ -22,3 +24,5 @@ pub mod Verdicts
 pub mod WholeCompared
 -- audit.rt: what the first lines tell, and how many rows that takes
 pub mod Early
+-- The lemmas that answers cite.
+pub mod Lemmas

@@ -1,18 +1,7 @@
 -- Each line of a report is a line of its text: its one line feed ends it.
-use Rattle.std.proofs.Common.{◌≡◌, ℕ, zero, suc, ◌+◌, ◌-◌, ◌/◌, ◌%◌, ◌<◌, ◌≤◌, ℤ, pos, negsuc, Bool, true, false, cond, not, ◌&&◌, inl, inr, nat_lt, List, [], ◌∷◌, ◌++◌, length, refl, sym, ap, subst, arith, codes, append_assoc}
-use Rattle.std.specs.Prelude.{◌==◌, nat_le}
-use Rattle.std.specs.List.{AllByRecursion, flat_map, list_all}
+use Rattle.report_check.proofs.Common.{◌≡◌, ℕ, zero, suc, ◌+◌, ◌-◌, ◌/◌, ◌%◌, ◌<◌, ◌≤◌, ℤ, pos, negsuc, Bool, true, false, cond, not, ◌&&◌, inl, inr, nat_lt, List, [], ◌∷◌, ◌++◌, length, refl, sym, ap, subst, arith, codes, append_assoc, ◌==◌, nat_le, AllByRecursion, flat_map, list_all, eqb_tells, nat_tests, Kind, Schedule, Proposal, digits_up_to, numeral, signed_numeral, spaced, spaced_counts, spaced_flags, flag_text, quoted, closed, escaped, hex_of, stands_as_is, UnitLine, Report, chosen_text, IsLine, line, row_lines, rows_lines, kind_word, title_line, response_lines, unit_lines, head_lines, foot_lines, report_lines}
 use Rattle.std.proofs.lemmas.Bool.{cases_lt}
-use Rattle.std.proofs.lemmas.Bool.Decides.{eqb_tells, nat_tests}
-use Rattle.uc_model.specs.declared.kinds.Kind.{Kind}
 use Rattle.uc_model.specs.declared.kinds.Kind.TheVariants as kinds
-use Rattle.uc_model.specs.Data.{Schedule}
-use Rattle.uc_model.specs.PriceRule.{Proposal}
-use Rattle.report_form.specs.Numerals.{digits_up_to, numeral, signed_numeral}
-use Rattle.report_form.specs.Parts.{spaced, spaced_counts, spaced_flags, flag_text, quoted, closed, escaped, hex_of, stands_as_is}
-use Rattle.report_form.specs.ReportText.{UnitLine, Report, chosen_text}
-use Rattle.report_read.specs.Faults.{IsLine}
-use Rattle.report_check.specs.ReportLines.{line, row_lines, rows_lines, kind_word, title_line, response_lines, unit_lines, head_lines, foot_lines, report_lines}
 
 abbrev Other : ℕ → Type 0
 Other b = b ≡ 10 → ⊥

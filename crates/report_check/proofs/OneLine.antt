@@ -1,15 +1,5 @@
 -- A line tells its numbers: a report that has it is told by its text.
-use Rattle.std.proofs.Common.{◌≡◌, ℕ, ℤ, pos, Bool, List, [], ◌∷◌, ◌++◌, refl, sym, ap, ◌∙◌, append_assoc}
-use Rattle.std.specs.Prelude.{codes}
-use Rattle.std.proofs.lemmas.List.{append_cancel_left, append_cancel_right}
-use Rattle.std.proofs.lemmas.List.Elements.{All-nil}
-use Rattle.uc_model.specs.Data.{Schedule}
-use Rattle.uc_model.specs.PriceRule.{Proposal}
-use Rattle.report_form.specs.Numerals.{numeral, signed_numeral}
-use Rattle.report_form.specs.Parts.{spaced, spaced_counts, spaced_flags}
-use Rattle.report_form.specs.ReportText.{UnitLine, Report, head_text, row_text, chosen_text, thermal_text, report_text}
-use Rattle.report_form.specs.Laws.{IsFlatLine, HasForm, TextDeterminesReport}
-use Rattle.report_check.specs.ReportLines.{line, title_line}
+use Rattle.report_check.proofs.Common.{◌≡◌, ℕ, ℤ, pos, Bool, List, [], ◌∷◌, ◌++◌, refl, sym, ap, ◌∙◌, append_assoc, codes, append_cancel_left, append_cancel_right, All-nil, Schedule, Proposal, numeral, signed_numeral, spaced, spaced_counts, spaced_flags, UnitLine, Report, head_text, row_text, chosen_text, thermal_text, report_text, IsFlatLine, HasForm, TextDeterminesReport, line, title_line}
 
 -- a line tells what stands behind its word
 pub line_told : (word a b : List ℕ) → line word a ≡ line word b → a ≡ b

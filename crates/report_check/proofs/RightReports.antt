@@ -1,23 +1,7 @@
 -- The right report, and its lines in the order of the units' numbers.
-use Rattle.std.proofs.Common.{◌≡◌, ℕ, suc, ◌+◌, ◌-◌, ◌<◌, ◌≤◌, ℤ, pos, Bool, true, false, cond, Some, List, [], ◌∷◌, ◌++◌, map, length, refl, sym, ap, ◌∙◌, subst, arith, append_assoc, length-append}
-use Rattle.std.specs.Prelude.{slice_get, slice_index_or}
-use Rattle.std.specs.List.{AllZip, flat_map, range_with_len}
-use Rattle.std.proofs.lemmas.List.{get_or_default, same_lists, length-map}
-use Rattle.std.proofs.lemmas.List.FromFn.{length-map-range_with_len, get_or-map-range_with_len}
-use Rattle.uc_model.specs.declared.kinds.Kind.{Kind}
+use Rattle.report_check.proofs.Common.{◌≡◌, ℕ, suc, ◌+◌, ◌-◌, ◌<◌, ◌≤◌, ℤ, pos, Bool, true, false, cond, Some, List, [], ◌∷◌, ◌++◌, map, length, refl, sym, ap, ◌∙◌, subst, arith, append_assoc, length-append, slice_get, slice_index_or, AllZip, flat_map, range_with_len, get_or_default, same_lists, length-map, length-map-range_with_len, get_or-map-range_with_len, Kind, AnyUnit, Thermal, Flat, Bid, NamedThermalUnit, NamedRenewableUnit, NamedBidUnit, Schedule, Market, units, unit_count, thermal_names, renewable_names, bid_names, IsTop, Proposal, chosen_number, HasTotals, IsRun, Fits, plan_cost, IsSettled, UnitLine, IsRightReport, AreInOrder, Told, rank, same_kind, lines_of, unit_lines, told_lines, Title, titles_of, titles, Answers, idle, line_at, told_from, right_of}
 use Rattle.uc_model.specs.declared.kinds.Kind.TheVariants as kinds
-use Rattle.uc_model.specs.Data.{AnyUnit, Thermal, Flat, Bid, NamedThermalUnit, NamedRenewableUnit, NamedBidUnit, Schedule, Market, units, unit_count, thermal_names, renewable_names, bid_names}
-use Rattle.uc_model.specs.Earnings.{IsTop}
-use Rattle.uc_model.specs.PriceRule.{Proposal, chosen_number}
-use Rattle.uc_model.specs.Runs.{HasTotals, IsRun, Fits}
-use Rattle.uc_model.specs.Systems.{plan_cost, IsSettled}
-use Rattle.report_form.specs.ReportText.{UnitLine}
 use Rattle.hull_report.specs.RecordReport.{lines_from}
-use Rattle.hull_report.specs.RightReport.{IsRightReport}
-use Rattle.report_read.specs.Bounds.{AreInOrder}
-use Rattle.report_read.specs.Plain.{Told, rank, same_kind, lines_of}
-use Rattle.report_check.specs.ReportLines.{unit_lines, told_lines}
-use Rattle.report_check.specs.RightLines.{Title, titles_of, titles, Answers, idle, line_at, told_from, right_of}
 
 -- ---- lines by numbers
 

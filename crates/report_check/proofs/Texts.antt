@@ -1,10 +1,6 @@
 -- The text of a report is that of its lines.
-use Rattle.std.proofs.Common.{◌≡◌, ℕ, suc, ℤ, List, [], ◌∷◌, ◌++◌, length, refl, sym, ap, ◌∙◌, append_assoc}
-use Rattle.std.specs.List.{concat, flat_map}
+use Rattle.report_check.proofs.Common.{◌≡◌, ℕ, suc, ℤ, List, [], ◌∷◌, ◌++◌, length, refl, sym, ap, ◌∙◌, append_assoc, concat, flat_map, Proposal, UnitLine, Report, head_text, row_text, rows_text, chosen_text, thermal_text, flat_text, renewable_text, bid_text, foot_text, report_text, head_lines, row_lines, rows_lines, unit_lines, foot_lines, report_lines}
 use Rattle.uc_model.specs.declared.kinds.Kind.TheVariants as kinds
-use Rattle.uc_model.specs.PriceRule.{Proposal}
-use Rattle.report_form.specs.ReportText.{UnitLine, Report, head_text, row_text, rows_text, chosen_text, thermal_text, flat_text, renewable_text, bid_text, foot_text, report_text}
-use Rattle.report_check.specs.ReportLines.{head_lines, row_lines, rows_lines, unit_lines, foot_lines, report_lines}
 
 joined : (a b c d : List ℕ) → a ≡ b → c ≡ d → a ++ c ≡ b ++ d
 joined a b c d e f = ap (λ (z : List ℕ). z ++ c) e ∙ ap (λ (z : List ℕ). b ++ z) f

@@ -1,13 +1,6 @@
 -- The title and the lines of the unit of a number.
-use Rattle.std.proofs.Common.{◌≡◌, ℕ, zero, suc, ◌+◌, ◌<◌, ◌≤◌, Some, List, [], ◌∷◌, ◌++◌, map, drop, length, sym, ap, ◌∙◌, subst, refl, arith, length-append}
-use Rattle.std.specs.Prelude.{slice_get, slice_index_or}
-use Rattle.std.specs.List.{AllZip}
-use Rattle.std.proofs.lemmas.List.{length-map}
-use Rattle.std.proofs.lemmas.Option.{none-some, slice_get_read}
-use Rattle.uc_model.specs.Data.{NamedThermalUnit, NamedRenewableUnit, NamedBidUnit, Market, unit_count, thermal_names, renewable_names, bid_names}
-use Rattle.uc_model.specs.declared.kinds.Kind.{Kind}
+use Rattle.report_check.proofs.Common.{◌≡◌, ℕ, zero, suc, ◌+◌, ◌<◌, ◌≤◌, Some, List, [], ◌∷◌, ◌++◌, map, drop, length, sym, ap, ◌∙◌, subst, refl, arith, length-append, slice_get, slice_index_or, AllZip, length-map, none-some, slice_get_read, NamedThermalUnit, NamedRenewableUnit, NamedBidUnit, Market, unit_count, thermal_names, renewable_names, bid_names, Kind, Title, titles_of, titles}
 use Rattle.uc_model.specs.declared.kinds.Kind.TheVariants as kinds
-use Rattle.report_check.specs.RightLines.{Title, titles_of, titles}
 
 pub same_item : {X : Type 0} → (x y : X) → Some x ≡ Some y → x ≡ y
 same_item x y e = cc

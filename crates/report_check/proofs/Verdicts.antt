@@ -1,34 +1,10 @@
 -- What the comparison of all lines tells of the two reports.
-use Rattle.std.proofs.Common.{◌≡◌, ℕ, ◌+◌, ◌-◌, ℤ, Result, Ok, Err, Some, List, [], ◌∷◌, ◌++◌, map, length, sym, ap, ◌∙◌, subst, arith, append_assoc}
-use Rattle.std.specs.Prelude.{slice_get}
-use Rattle.std.specs.List.{All, AllByRecursion, AllZip, concat, flat_map}
-use Rattle.std.proofs.lemmas.List.Elements.{All-nil, All-cons}
-use Rattle.std.proofs.lemmas.List.FromFn.{length-map-range_with_len}
-use Rattle.std.proofs.lemmas.Option.{slice_get_within, get_or_from_slice_get}
+use Rattle.report_check.proofs.Common.{◌≡◌, ℕ, ◌+◌, ◌-◌, ℤ, Result, Ok, Err, Some, List, [], ◌∷◌, ◌++◌, map, length, sym, ap, ◌∙◌, subst, arith, append_assoc, slice_get, All, AllByRecursion, AllZip, concat, flat_map, All-nil, All-cons, length-map-range_with_len, slice_get_within, get_or_from_slice_get, Schedule, Market, units, IsSum, IsWorth, Proposal, HasTotals, IsRun, Fits, IsDualValue, total_power, wider, UnitLine, Report, chosen_text, report_text, IsFlatLine, HasForm, TextDeterminesReport, RightReportHasForm, OneRightReport, IsRightReport, IsOtherLine, IsReport, AreInOrder, DiffersAt, report_of, told_of, Compares, unit_lines, report_lines, head_lines, rows_lines, foot_lines, told_lines, Answers, titles, told_from, right_of, whole_lines, WrongLine}
 use Rattle.uc_model.specs.declared.kinds.Kind.TheVariants as kinds
-use Rattle.uc_model.specs.Data.{Schedule, Market, units}
-use Rattle.uc_model.specs.Limits.{IsSum, IsWorth}
-use Rattle.uc_model.specs.PriceRule.{Proposal}
-use Rattle.uc_model.specs.Runs.{HasTotals, IsRun, Fits}
-use Rattle.uc_model.specs.Systems.{IsDualValue, total_power}
-use Rattle.uc_model.proofs.SignedLaws.{wider}
-use Rattle.report_form.specs.ReportText.{UnitLine, Report, chosen_text, report_text}
-use Rattle.report_form.specs.Laws.{IsFlatLine, HasForm, TextDeterminesReport}
-use Rattle.hull_report.specs.Laws.{RightReportHasForm, OneRightReport}
-use Rattle.hull_report.specs.RightReport.{IsRightReport}
-use Rattle.report_read.specs.Bounds.{IsOtherLine, IsReport}
-use Rattle.report_read.specs.Bounds.{AreInOrder}
-use Rattle.report_read.specs.Differences.{DiffersAt}
-use Rattle.report_read.specs.Plain.{report_of, told_of}
 use Rattle.report_read.specs.declared.report.Report.{Report as KeptReport}
-use Rattle.report_check.specs.Compared.{Compares}
-use Rattle.report_check.specs.ReportLines.{unit_lines, report_lines, head_lines, rows_lines, foot_lines}
-use Rattle.report_check.specs.ReportLines.{told_lines}
-use Rattle.report_check.specs.RightLines.{Answers, titles, told_from, right_of, whole_lines}
 use Rattle.report_check.proofs.RightReports.{right_lined, ordered}
 use Rattle.report_check.specs.declared.audit.Audit.{Audit}
 use Rattle.report_check.specs.declared.audit.Audit.TheVariants.{Right, Wrong}
-use Rattle.report_check.specs.declared.wrong.WrongLine.{WrongLine}
 use Rattle.report_check.proofs.FirstLine.{differ_there, not_same}
 use Rattle.report_check.proofs.LineBytes.{report_are_lines}
 use Rattle.report_check.proofs.Texts.{report_lined}

@@ -1,12 +1,5 @@
 -- All lines of two reports, part by part.
-use Rattle.std.proofs.Common.{◌≡◌, ℕ, ℤ, Result, Ok, Err, List, [], ◌∷◌, length, subst}
-use Rattle.uc_model.specs.Data.{Market}
-use Rattle.report_form.specs.ReportText.{Report, chosen_text}
-use Rattle.report_check.specs.Compared.{Compares}
-use Rattle.report_check.specs.Heads.{right_head}
-use Rattle.report_check.specs.ReportLines.{head_lines, rows_lines, foot_lines}
-use Rattle.report_check.specs.RightLines.{whole_lines}
-use Rattle.report_check.specs.declared.wrong.WrongLine.{WrongLine}
+use Rattle.report_check.proofs.Common.{◌≡◌, ℕ, ℤ, Result, Ok, Err, List, [], ◌∷◌, length, subst, Market, Report, chosen_text, Compares, right_head, head_lines, rows_lines, foot_lines, whole_lines, WrongLine}
 use Rattle.report_check.proofs.Comparing.{first_part, second_part, third_part, fourth_part, all_parts}
 
 module _ (r q : Report) (us vs : List (List ℕ)) where

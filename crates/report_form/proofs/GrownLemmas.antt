@@ -1,9 +1,5 @@
 -- How what a sink holds grows, one text after another.
-use Rattle.std.proofs.Common.{◌≡◌, ℕ, ◌+◌, ◌<◌, ◌≤◌, List, [], ◌++◌, length, take, drop, get_or, Option, None, Some, Result, Ok, Err, IsErr, refl, sym, ap, subst, ◌∙◌, inl, inr, arith, append_assoc}
-use Rattle.std.proofs.lemmas.List.{append-nil}
-use Rattle.std.specs.List.{flat_map}
-use Rattle.uc_model.proofs.ListLaws.{flat_map_at, flat_map_up_to}
-use Rattle.hull_io.specs.Edge.{Rose, grown, Gains, FallsShort, Writes}
+use Rattle.report_form.proofs.Common.{◌≡◌, ℕ, ◌+◌, ◌<◌, ◌≤◌, List, [], ◌++◌, length, take, drop, get_or, Option, None, Some, Result, Ok, Err, IsErr, refl, sym, ap, subst, ◌∙◌, inl, inr, arith, append_assoc, append-nil, flat_map, flat_map_at, flat_map_up_to, Rose, grown, Gains, FallsShort, Writes}
 
 grown_nothing : (o : Option (List ℕ)) → grown o [] ≡ o
 grown_nothing None = refl

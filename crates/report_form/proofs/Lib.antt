@@ -1,3 +1,5 @@
+-- The names from elsewhere that the proofs here cite.
+pub mod Common
 -- parts.rt, laws.rt: how what a sink holds grows
 mod GrownLemmas
 -- pieces.rt: texts that are written in pieces
@@ -11,3 +13,5 @@ mod RowTexts
 mod ReadBack
 mod ReadLines
 mod ReadReport
+-- The lemmas that answers cite.
+pub mod Lemmas

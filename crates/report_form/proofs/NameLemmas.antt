@@ -1,8 +1,5 @@
 -- How the bytes of a name are escaped.
-use Rattle.std.proofs.Common.{◌≡◌, ℕ, ◌<◌, ◌≤◌, ◌/◌, ◌%◌, ◌&&◌, Bool, true, false, nat_lt, List, [], ◌∷◌, refl, ap, arith}
-use Rattle.std.specs.List.{flat_map, list_all}
-use Rattle.std.proofs.lemmas.Bool.Decides.{nat_tests, Decides-ltb}
-use Rattle.report_form.specs.Parts.{hex_of, stands_as_is, escaped}
+use Rattle.report_form.proofs.Common.{◌≡◌, ℕ, ◌<◌, ◌≤◌, ◌/◌, ◌%◌, ◌&&◌, Bool, true, false, nat_lt, List, [], ◌∷◌, refl, ap, arith, flat_map, list_all, nat_tests, Decides-ltb, hex_of, stands_as_is, escaped}
 
 pub escaped-plain : (b : ℕ) → stands_as_is b ≡ true → escaped b ≡ b ∷ []
 unfolding escaped

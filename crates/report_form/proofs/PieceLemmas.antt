@@ -1,12 +1,7 @@
 -- Texts that are written in pieces.
-use Rattle.std.proofs.Common.{◌≡◌, ℕ, ◌+◌, ◌<◌, ◌≤◌, List, [], ◌++◌, length, take, drop, get_or, Option, Result, IsErr, refl, sym, ap, subst, ◌∙◌, append_assoc}
-use Rattle.std.proofs.lemmas.List.{append-nil, take-append-drop, take_all}
+use Rattle.report_form.proofs.Common.{◌≡◌, ℕ, ◌+◌, ◌<◌, ◌≤◌, List, [], ◌++◌, length, take, drop, get_or, Option, Result, IsErr, refl, sym, ap, subst, ◌∙◌, append_assoc, append-nil, take-append-drop, take_all, flat_map, Gains, FallsShort, Writes, flat_map_up_to, Pends}
 use Rattle.std.proofs.lemmas.List.Concat.{flat_map-append}
-use Rattle.std.specs.List.{flat_map}
-use Rattle.hull_io.specs.Edge.{Gains, FallsShort, Writes}
-use Rattle.uc_model.proofs.ListLaws.{flat_map_up_to}
 use Rattle.report_form.proofs.GrownLemmas.{gains_nothing, gains_then, short_then, short_more, writes_then, writes_exit}
-use Rattle.report_form.specs.Pending.{Pends}
 
 flat_map_split : {X : Type 0} (f : X → List ℕ) (xs : List X) (i : ℕ) → flat_map f xs ≡ flat_map f (take i xs) ++ flat_map f (drop i xs)
 flat_map_split f xs i = ap (flat_map f) (sym (take-append-drop i xs)) ∙ flat_map-append f (take i xs) (drop i xs)

@@ -1,10 +1,5 @@
 -- A text is read back from the left: a part of it ends at a byte that the part doesn't hold.
-use Rattle.std.proofs.Common.{◌≡◌, ℕ, suc, ◌<◌, ◌≤◌, ◌/◌, ◌%◌, ℤ, pos, negsuc, Bool, true, false, nat_lt, ◌==◌, List, [], ◌∷◌, ◌++◌, refl, sym, ap, ◌∙◌, subst, arith, append_assoc}
-use Rattle.std.specs.List.{flat_map}
-use Rattle.std.proofs.lemmas.Bool.Decides.{nat_tests}
-use Rattle.std.proofs.lemmas.List.{append_cancel_left}
-use Rattle.report_form.specs.Numerals.{numeral, signed_numeral}
-use Rattle.report_form.specs.Parts.{hex_of, stands_as_is, escaped, spaced_flags}
+use Rattle.report_form.proofs.Common.{◌≡◌, ℕ, suc, ◌<◌, ◌≤◌, ◌/◌, ◌%◌, ℤ, pos, negsuc, Bool, true, false, nat_lt, ◌==◌, List, [], ◌∷◌, ◌++◌, refl, sym, ap, ◌∙◌, subst, arith, append_assoc, flat_map, nat_tests, append_cancel_left, numeral, signed_numeral, hex_of, stands_as_is, escaped, spaced_flags}
 use Rattle.report_form.proofs.NumeralLaws.{AreDigits, numeral_digits, numeral_same}
 use Rattle.report_form.proofs.NameLemmas.{escaped-plain, escaped-control, escaped-behind}
 

@@ -1,11 +1,6 @@
 -- The blocks of a report, read back from its text.
-use Rattle.std.proofs.Common.{◌≡◌, ℕ, suc, ℤ, true, List, [], ◌∷◌, ◌++◌, length, replicate, get_or, drop, codes, refl, sym, ap, ◌∙◌, arith, append_assoc}
-use Rattle.std.specs.List.{All, flat_map}
-use Rattle.std.proofs.lemmas.List.{append_cancel_left}
+use Rattle.report_form.proofs.Common.{◌≡◌, ℕ, suc, ℤ, true, List, [], ◌∷◌, ◌++◌, length, replicate, get_or, drop, codes, refl, sym, ap, ◌∙◌, arith, append_assoc, All, flat_map, append_cancel_left, Proposal, UnitLine, head_text, row_text, rows_text, chosen_text, thermal_text, flat_text, renewable_text, bid_text, foot_text, IsFlatLine}
 use Rattle.std.proofs.lemmas.List.Elements.{All-head, All-tail}
-use Rattle.uc_model.specs.PriceRule.{Proposal}
-use Rattle.report_form.specs.ReportText.{UnitLine, head_text, row_text, rows_text, chosen_text, thermal_text, flat_text, renewable_text, bid_text, foot_text}
-use Rattle.report_form.specs.Laws.{IsFlatLine}
 use Rattle.report_form.proofs.ReadBack.{bytes_apart, after_count, after_amount, after_amounts, after_counts, after_flags, after_name}
 
 -- the numbers of the first lines

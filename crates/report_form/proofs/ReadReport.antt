@@ -1,8 +1,5 @@
 -- A report, read back from its text block by block.
-use Rattle.std.proofs.Common.{◌≡◌, ℕ, List, ◌++◌, length, codes, sym, ◌∙◌, append_assoc}
-use Rattle.std.specs.List.{flat_map}
-use Rattle.report_form.specs.ReportText.{Report, head_text, rows_text, chosen_text, thermal_text, renewable_text, bid_text, foot_text, report_text}
-use Rattle.report_form.specs.Laws.{IsFlatLine, TextDeterminesReport}
+use Rattle.report_form.proofs.Common.{◌≡◌, ℕ, List, ◌++◌, length, codes, sym, ◌∙◌, append_assoc, flat_map, Report, head_text, rows_text, chosen_text, thermal_text, renewable_text, bid_text, foot_text, report_text, IsFlatLine, TextDeterminesReport}
 use Rattle.report_form.proofs.ReadLines.{read_head, read_rows, read_chosen, read_lines, read_thermal, read_renewable, read_bid, thermal_begins, renewable_begins, bid_begins, foot_behind_bids, bids_behind_renewables, flat_behind_thermal, read_foot}
 
 -- what comes behind the first lines

@@ -1,11 +1,6 @@
 -- The texts of rows, one after another.
-use Rattle.std.proofs.Common.{◌≡◌, ℕ, zero, suc, ◌+◌, ◌<◌, List, [], ◌∷◌, ◌++◌, map, length, take, get_or, Option, Result, IsErr, refl, sym, ap, ◌∙◌, subst, arith, append_assoc}
-use Rattle.std.proofs.lemmas.List.{append-nil, get_or-map, length-map}
-use Rattle.hull_io.specs.Edge.{Gains, FallsShort, Writes}
+use Rattle.report_form.proofs.Common.{◌≡◌, ℕ, zero, suc, ◌+◌, ◌<◌, List, [], ◌∷◌, ◌++◌, map, length, take, get_or, Option, Result, IsErr, refl, sym, ap, ◌∙◌, subst, arith, append_assoc, append-nil, get_or-map, length-map, Gains, FallsShort, Writes, proposal_of, Proposal, row_text, rows_text}
 use Rattle.uc_model.specs.declared.cases.Row.{Row}
-use Rattle.uc_model.specs.PlainCases.{proposal_of}
-use Rattle.uc_model.specs.PriceRule.{Proposal}
-use Rattle.report_form.specs.ReportText.{row_text, rows_text}
 use Rattle.report_form.proofs.GrownLemmas.{gains_then, short_then, short_more, writes_exit}
 
 -- one row more

@@ -1,13 +1,7 @@
 -- Lines one after the other: what is taken is the text of a value, the text of a value is read again, and where reading
 -- stops the lines before begin a text and with the next line they begin none.
-use Rattle.std.proofs.Common.{◌≡◌, ℕ, true, false, nat_le, ◌&&◌, ◌⊎◌, List, [], ◌∷◌, ◌++◌, length, Option, Some, None, Result, Ok, Err, refl, sym, ap, ◌∙◌, subst, arith, append_assoc, inl, inr}
-use Rattle.std.specs.List.{AllByRecursion}
-use Rattle.std.proofs.lemmas.Bool.Decides.{nat_tests}
-use Rattle.std.proofs.lemmas.List.{append-nil}
-use Rattle.report_read.specs.Faults.{IsLine, AreLines}
-use Rattle.report_read.specs.Words.{Found}
-use Rattle.report_read.specs.LineForms.{ended}
-use Rattle.report_read.specs.Lines.{Read, ◌>>=◌, or_left, line, then_lines, making}
+use Rattle.report_read.proofs.Common.{◌≡◌, ℕ, true, false, nat_le, ◌&&◌, ◌⊎◌, List, [], ◌∷◌, ◌++◌, length, Option, Some, None, Result, Ok, Err, refl, sym, ap, ◌∙◌, subst, arith, append_assoc, inl, inr, AllByRecursion, nat_tests, append-nil, IsLine, AreLines, Found, ended, Read, or_left, line, then_lines, making}
+use Rattle.report_read.specs.Lines.{◌>>=◌}
 use Rattle.report_read.proofs.Parts.{is_inline, Part, ended_takes, ended_again}
 
 pub bind_ok : {A B : Type 0} (r : Result A ℕ) (f : A → Result B ℕ) (y : B) → (r >>= f) ≡ Ok y → (x : A) × (r ≡ Ok x) × (f x ≡ Ok y)

@@ -1,3 +1,5 @@
+-- The names from elsewhere that the proofs here cite.
+pub mod Common
 -- words.rt, numbers.rt: what a loop over bytes has read so far
 pub mod Steps
 -- items.rt, names.rt: what a loop over items, or over a name, has read so far
@@ -20,3 +22,5 @@ pub mod UnitForms
 pub mod WholeForm
 -- laws.rt: at most one line is in fault, and one is the first that differs
 pub mod OneFault
+-- The lemmas that answers cite.
+pub mod Lemmas

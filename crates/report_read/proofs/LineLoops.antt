@@ -1,11 +1,8 @@
 -- What a loop has read so far, and what it still reads: proposals and units.
-use Rattle.std.proofs.Common.{◌≡◌, ℕ, suc, ◌+◌, ◌-◌, ◌<◌, ◌≤◌, List, [], ◌∷◌, ◌++◌, Ok, Err, refl, sym, ap, ◌∙◌, arith, append_assoc}
-use Rattle.std.proofs.lemmas.List.{append-nil}
-use Rattle.uc_model.specs.PriceRule.{Proposal}
+use Rattle.report_read.proofs.Common.{◌≡◌, ℕ, suc, ◌+◌, ◌-◌, ◌<◌, ◌≤◌, List, [], ◌∷◌, ◌++◌, Ok, Err, refl, sym, ap, ◌∙◌, arith, append_assoc, append-nil, Proposal, Told, rank, Read, Fails, making, joined, row_at, rows_at, unit_at, units_at}
 use Rattle.report_read.specs.declared.stop.Stop.{Stop}
 use Rattle.report_read.specs.declared.stop.Stop.TheVariants as stops
-use Rattle.report_read.specs.Plain.{Told, rank}
-use Rattle.report_read.specs.Lines.{Read, ◌>>=◌, Fails, making, joined, row_at, rows_at, unit_at, units_at}
+use Rattle.report_read.specs.Lines.{◌>>=◌}
 
 abbrev pub with_front : {A : Type 0} → List A → Read (List A) → Read (List A)
 with_front front read = read >>= λ x. Ok (front ++ x.0, x.1)

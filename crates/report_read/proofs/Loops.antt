@@ -1,7 +1,5 @@
 -- What a loop has read so far, and what it still reads: items of a line, and bytes of a name.
-use Rattle.std.proofs.Common.{◌≡◌, ℕ, suc, ◌+◌, ◌-◌, ◌<◌, ◌≤◌, true, false, cond, ◌==◌, List, [], ◌∷◌, ◌++◌, Some, None, refl, sym, ap, ◌∙◌, arith, append_assoc}
-use Rattle.std.proofs.lemmas.List.{append-nil}
-use Rattle.report_read.specs.Words.{Found, ◌>>=◌, behind, items_at, escaped_at, closed_within}
+use Rattle.report_read.proofs.Common.{◌≡◌, ℕ, suc, ◌+◌, ◌-◌, ◌<◌, ◌≤◌, true, false, cond, ◌==◌, List, [], ◌∷◌, ◌++◌, Some, None, refl, sym, ap, ◌∙◌, arith, append_assoc, append-nil, Found, ◌>>=◌, behind, items_at, escaped_at, closed_within}
 use Rattle.report_read.proofs.Parts.{behind_takes}
 
 -- what was read before, and what is still read

@@ -1,13 +1,7 @@
 -- Names: what is taken is the form in which a name is printed, and a name is read again from it.
-use Rattle.std.proofs.Common.{◌≡◌, ℕ, zero, suc, ◌+◌, ◌-◌, ◌*◌, ◌<◌, ◌≤◌, ◌/◌, ◌%◌, true, false, cond, nat_lt, nat_le, ◌==◌, ◌&&◌, ◌||◌, ◌⊎◌, List, [], ◌∷◌, ◌++◌, length, codes, Some, None, refl, sym, ap, ◌∙◌, subst, arith, append_assoc, length-append, inl, inr}
-use Rattle.std.specs.Prelude.{IsUtf8}
-use Rattle.std.specs.List.{flat_map}
+use Rattle.report_read.proofs.Common.{◌≡◌, ℕ, zero, suc, ◌+◌, ◌-◌, ◌*◌, ◌<◌, ◌≤◌, ◌/◌, ◌%◌, true, false, cond, nat_lt, nat_le, ◌==◌, ◌&&◌, ◌||◌, ◌⊎◌, List, [], ◌∷◌, ◌++◌, length, codes, Some, None, refl, sym, ap, ◌∙◌, subst, arith, append_assoc, length-append, inl, inr, IsUtf8, flat_map, cases_lt, false_from_ne_true, nat_tests, hex_of, stands_as_is, escaped, ◌>>=◌, behind, is_digit, hex_value, two_digits, control_at, backslashed_at, escaped_at, closed_within, text_only, name_at}
 use Rattle.std.specs.Str.{is_utf8}
 use Rattle.std.proofs.lemmas.Str.{IsUtf8-from_is_utf8, is_utf8-from_IsUtf8}
-use Rattle.std.proofs.lemmas.Bool.{cases_lt, false_from_ne_true}
-use Rattle.std.proofs.lemmas.Bool.Decides.{nat_tests}
-use Rattle.report_form.specs.Parts.{hex_of, stands_as_is, escaped}
-use Rattle.report_read.specs.Words.{◌>>=◌, behind, is_digit, hex_value, two_digits, control_at, backslashed_at, escaped_at, closed_within, text_only, name_at}
 use Rattle.report_read.proofs.Parts.{bind_some, if_some, some_is, behind_takes, is_inline, inline_append, Part}
 
 -- ---- hexadecimal digits

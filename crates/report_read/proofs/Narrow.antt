@@ -1,12 +1,5 @@
 -- A number within narrower limits, and numbers with a sign from those without.
-use Rattle.std.proofs.Common.{◌≡◌, ◌≢◌, ℕ, zero, suc, ◌<◌, ◌≤◌, ℤ, pos, negsuc, true, false, cond, nat_le, ◌==◌, ◌&&◌, List, [], ◌∷◌, get_or, Some, None, refl, sym, ap, ◌∙◌, subst, arith}
-use Rattle.std.specs.Prelude.{int_le, neg_ℤ, ◌≤ℤ◌, ◌<ℤ◌}
-use Rattle.std.specs.Int.Signed.{le_z_yes}
-use Rattle.std.proofs.lemmas.Int.{ints}
-use Rattle.std.proofs.lemmas.Float.{T_from_true}
-use Rattle.std.proofs.lemmas.Bool.{ne_eqb}
-use Rattle.std.proofs.lemmas.Bool.Decides.{nat_tests}
-use Rattle.report_read.specs.Words.{Found, ◌>>=◌, numeral_at, count_between, count_at, negative, signed_at, integer_between, integer_at}
+use Rattle.report_read.proofs.Common.{◌≡◌, ◌≢◌, ℕ, zero, suc, ◌<◌, ◌≤◌, ℤ, pos, negsuc, true, false, cond, nat_le, ◌==◌, ◌&&◌, List, [], ◌∷◌, get_or, Some, None, refl, sym, ap, ◌∙◌, subst, arith, int_le, neg_ℤ, ◌≤ℤ◌, ◌<ℤ◌, le_z_yes, ints, T_from_true, ne_eqb, nat_tests, Found, ◌>>=◌, numeral_at, count_between, count_at, negative, signed_at, integer_between, integer_at}
 
 -- ---- without a sign
 

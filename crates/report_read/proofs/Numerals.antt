@@ -1,14 +1,5 @@
 -- Numbers in digits: what is taken is the numeral of a number, and the numeral of a number is read again.
-use Rattle.std.proofs.Common.{◌≡◌, ◌≢◌, ℕ, zero, suc, ◌+◌, ◌-◌, ◌*◌, ◌<◌, ◌≤◌, ◌/◌, ◌%◌, ℤ, pos, negsuc, Bool, true, false, cond, nat_lt, nat_le, ◌==◌, ◌&&◌, List, [], ◌∷◌, ◌++◌, Some, None, refl, sym, ap, ◌∙◌, subst, arith, append_assoc, inl, inr}
-use Rattle.std.specs.Prelude.{int_le, ◌≤ℤ◌}
-use Rattle.std.specs.Int.Signed.{le_z_yes}
-use Rattle.std.proofs.lemmas.Float.{T_from_true}
-use Rattle.std.proofs.lemmas.Bool.{cases_lt, ne_eqb}
-use Rattle.std.proofs.lemmas.Int.{ints}
-use Rattle.std.proofs.lemmas.Bool.Decides.{nat_tests}
-use Rattle.uc_model.specs.Limits.{IsFrom}
-use Rattle.report_form.specs.Numerals.{digits_up_to, numeral, signed_numeral}
-use Rattle.report_read.specs.Words.{◌>>=◌, is_digit, digits_from, numeral_at, count_between, count_at, negative, signed_at, integer_between, integer_at}
+use Rattle.report_read.proofs.Common.{◌≡◌, ◌≢◌, ℕ, zero, suc, ◌+◌, ◌-◌, ◌*◌, ◌<◌, ◌≤◌, ◌/◌, ◌%◌, ℤ, pos, negsuc, Bool, true, false, cond, nat_lt, nat_le, ◌==◌, ◌&&◌, List, [], ◌∷◌, ◌++◌, Some, None, refl, sym, ap, ◌∙◌, subst, arith, append_assoc, inl, inr, int_le, ◌≤ℤ◌, le_z_yes, T_from_true, cases_lt, ne_eqb, ints, nat_tests, IsFrom, digits_up_to, numeral, signed_numeral, ◌>>=◌, is_digit, digits_from, numeral_at, count_between, count_at, negative, signed_at, integer_between, integer_at}
 use Rattle.report_read.proofs.Parts.{bind_some, if_some, some_is, is_inline, inline_append, Stops, Part}
 
 small : (n : ℕ) → n < 10 → nat_lt n 10 ≡ true

@@ -1,9 +1,6 @@
 -- A file has at most one line in fault, and two texts differ first at one line.
-use Rattle.std.proofs.Common.{◌≡◌, ℕ, suc, List, [], ◌∷◌, ◌++◌, length, refl, sym, ap, ◌∙◌, subst, arith, append_assoc, length-append, inl, inr}
-use Rattle.std.proofs.lemmas.Bool.Decides.{eqb_tells}
-use Rattle.report_form.specs.ReportText.{report_text}
+use Rattle.report_read.proofs.Common.{◌≡◌, ℕ, suc, List, [], ◌∷◌, ◌++◌, length, refl, sym, ap, ◌∙◌, subst, arith, append_assoc, length-append, inl, inr, eqb_tells, report_text, IsLine, AreLines, line_feeds, IsFault}
 use Rattle.report_read.specs.Differences.{DiffersAt}
-use Rattle.report_read.specs.Faults.{IsLine, AreLines, line_feeds, IsFault}
 
 -- ---- of two fronts of one list one is a front of the other
 

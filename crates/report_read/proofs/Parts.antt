@@ -1,10 +1,5 @@
 -- Parts of a line: what is taken is the text of a value, and the text of a value is read again.
-use Rattle.std.proofs.Common.{◌≡◌, ℕ, zero, suc, Bool, true, false, cond, nat_le, ◌==◌, ◌&&◌, List, [], ◌∷◌, ◌++◌, length, Option, Some, None, refl, sym, ap, ◌∙◌, subst, arith, append_assoc}
-use Rattle.std.specs.List.{flat_map, AllByRecursion}
-use Rattle.std.proofs.lemmas.Bool.{eqb-true}
-use Rattle.report_read.specs.Words.{Found, ◌>>=◌, behind, is_digit, spaced, items_at}
-use Rattle.report_read.specs.Bounds.{IsList}
-use Rattle.report_read.specs.LineForms.{after, just, both, ended}
+use Rattle.report_read.proofs.Common.{◌≡◌, ℕ, zero, suc, Bool, true, false, cond, nat_le, ◌==◌, ◌&&◌, List, [], ◌∷◌, ◌++◌, length, Option, Some, None, refl, sym, ap, ◌∙◌, subst, arith, append_assoc, flat_map, AllByRecursion, eqb-true, Found, ◌>>=◌, behind, is_digit, spaced, items_at, IsList, after, just, both, ended}
 
 pub bind_some : {A B : Type 0} (r : Option A) (f : A → Option B) (y : B) → (r >>= f) ≡ Some y → (x : A) × (r ≡ Some x) × (f x ≡ Some y)
 bind_some (Some x) f y e = (x, refl, e)

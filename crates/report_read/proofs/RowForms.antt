@@ -1,21 +1,6 @@
 -- The first lines, proposals and last lines of a report, line by line: they are the texts that are written.
-use Rattle.std.proofs.Common.{◌≡◌, true, ℕ, zero, suc, ◌+◌, ◌≤◌, ℤ, pos, List, [], ◌∷◌, ◌++◌, length, replicate, codes, Ok, refl, sym, ap, ◌∙◌, subst, arith, append_assoc, length-append, inl, rules}
-use Rattle.std.proofs.lemmas.List.{nil_from_length}
-use Rattle.std.specs.Prelude.{neg_ℤ}
-use Rattle.std.specs.List.{flat_map}
-use Rattle.uc_model.specs.declared.limits.TheConstants.{MOST_PERIODS, MOST_UNITS, MOST_PROPOSALS, PRICE_LIMIT}
-use Rattle.std.proofs.lemmas.List.Elements.{All-from_recursion}
-use Rattle.uc_model.specs.Limits.{IsFrom, ArePrices}
-use Rattle.uc_model.specs.PriceRule.{Proposal}
-use Rattle.report_form.specs.Numerals.{numeral, signed_numeral}
+use Rattle.report_read.proofs.Common.{◌≡◌, true, ℕ, zero, suc, ◌+◌, ◌≤◌, ℤ, pos, List, [], ◌∷◌, ◌++◌, length, replicate, codes, Ok, refl, sym, ap, ◌∙◌, subst, arith, append_assoc, length-append, inl, rules, nil_from_length, neg_ℤ, flat_map, MOST_PERIODS, MOST_UNITS, MOST_PROPOSALS, PRICE_LIMIT, All-from_recursion, IsFrom, ArePrices, Proposal, numeral, signed_numeral, Head, head_text, row_text, rows_text, chosen_text, foot_text, Foot, IsAmount, IsEnergyPrice, IsReservePrice, IsList, IsProposal, Found, count_at, integer_at, items_at, amount_at, after, just, both, ended, value_line, Read, line, then_lines, count_line, amount_line, made_head, head_at, list_line, price_at, total_at, made_row, row_at, joined, rows_at, made_foot, foot_at}
 use Rattle.report_form.specs.Parts.{spaced}
-use Rattle.report_form.specs.declared.report.Head.{Head}
-use Rattle.report_form.specs.ReportText.{head_text, row_text, rows_text, chosen_text, foot_text}
-use Rattle.report_read.specs.declared.head.Foot.{Foot}
-use Rattle.report_read.specs.Bounds.{IsAmount, IsEnergyPrice, IsReservePrice, IsList, IsProposal}
-use Rattle.report_read.specs.Words.{Found, count_at, integer_at, items_at}
-use Rattle.report_read.specs.LineForms.{amount_at, after, just, both, ended, value_line}
-use Rattle.report_read.specs.Lines.{Read, line, then_lines, count_line, amount_line, made_head, head_at, list_line, price_at, total_at, made_row, row_at, joined, rows_at, made_foot, foot_at}
 use Rattle.report_read.proofs.Parts.{is_inline, Stops, Part, after_part, both_parts, just_part, spaced_part, items_part}
 use Rattle.report_read.proofs.Numerals.{IsBetween, count_part, integer_part}
 use Rattle.report_read.proofs.Forms.{good, ok_is, part_ended, Form, line_form, then_form, making_form}

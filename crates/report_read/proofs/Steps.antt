@@ -1,10 +1,5 @@
 -- What a loop over bytes has read so far: words and digits.
-use Rattle.std.proofs.Common.{◌≡◌, ℕ, ◌+◌, ◌-◌, ◌*◌, ◌<◌, ◌≤◌, true, false, cond, nat_le, ◌==◌, ◌&&◌, List, [], ◌∷◌, length, get_or, drop, Some, None, refl, ◌∙◌, arith, eq-eqb}
-use Rattle.std.proofs.Math.ListN.{drop_of_length-le}
-use Rattle.std.proofs.lemmas.List.{drop_more}
-use Rattle.std.proofs.lemmas.Bool.{ne_eqb}
-use Rattle.std.proofs.lemmas.Bool.Decides.{nat_tests}
-use Rattle.report_read.specs.Words.{behind, is_digit, digits_from, count_between}
+use Rattle.report_read.proofs.Common.{◌≡◌, ℕ, ◌+◌, ◌-◌, ◌*◌, ◌<◌, ◌≤◌, true, false, cond, nat_le, ◌==◌, ◌&&◌, List, [], ◌∷◌, length, get_or, drop, Some, None, refl, ◌∙◌, arith, eq-eqb, drop_of_length-le, drop_more, ne_eqb, nat_tests, behind, is_digit, digits_from, count_between}
 
 -- ---- words
 

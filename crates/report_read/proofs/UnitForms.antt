@@ -1,20 +1,7 @@
 -- The lines of units and bids: they are the texts that are written.
-use Rattle.std.proofs.Common.{◌≡◌, ℕ, zero, suc, ◌≤◌, Bool, true, false, cond, nat_le, ◌==◌, ◌⊎◌, ℤ, pos, List, [], ◌∷◌, ◌++◌, length, replicate, codes, Option, Some, None, Ok, refl, sym, ap, ◌∙◌, subst, arith, append_assoc, inl, inr, rules}
-use Rattle.std.specs.Prelude.{neg_ℤ, IsUtf8}
-use Rattle.std.specs.List.{flat_map, AllByRecursion}
-use Rattle.std.proofs.lemmas.List.{nil_from_length}
-use Rattle.std.proofs.lemmas.Bool.Decides.{nat_tests}
-use Rattle.uc_model.specs.declared.kinds.Kind.{Kind}
+use Rattle.report_read.proofs.Common.{◌≡◌, ℕ, zero, suc, ◌≤◌, Bool, true, false, cond, nat_le, ◌==◌, ◌⊎◌, ℤ, pos, List, [], ◌∷◌, ◌++◌, length, replicate, codes, Option, Some, None, Ok, refl, sym, ap, ◌∙◌, subst, arith, append_assoc, inl, inr, rules, neg_ℤ, IsUtf8, flat_map, AllByRecursion, nil_from_length, nat_tests, Kind, numeral, signed_numeral, spaced_counts, spaced_flags, escaped, UnitLine, thermal_text, flat_text, renewable_text, bid_text, Told, rank, IsCount, IsNumber, IsList, IsTold, Found, ◌>>=◌, behind, count_at, spaced, flag_at, name_at, of_kind, or_else, kind_at, number_at, after, both, in_order, opening_at, owed_at, Title, title_line, line, then_lines, list_line, power_at, made_response, always_on, thermal_at, other_at, response_at, made_unit, unit_at, joined, units_at}
 use Rattle.uc_model.specs.declared.kinds.Kind.TheVariants as kinds
 use Rattle.uc_model.specs.Data.{Schedule}
-use Rattle.report_form.specs.Numerals.{numeral, signed_numeral}
-use Rattle.report_form.specs.Parts.{spaced_counts, spaced_flags, escaped}
-use Rattle.report_form.specs.ReportText.{UnitLine, thermal_text, flat_text, renewable_text, bid_text}
-use Rattle.report_read.specs.Plain.{Told, rank}
-use Rattle.report_read.specs.Bounds.{IsCount, IsNumber, IsList, IsTold}
-use Rattle.report_read.specs.Words.{Found, ◌>>=◌, behind, count_at, spaced, flag_at, name_at, of_kind, or_else, kind_at}
-use Rattle.report_read.specs.LineForms.{number_at, after, both, in_order, opening_at, owed_at, Title, title_line}
-use Rattle.report_read.specs.Lines.{line, then_lines, list_line, power_at, made_response, always_on, thermal_at, other_at, response_at, made_unit, unit_at, joined, units_at}
 use Rattle.report_read.proofs.Parts.{bind_some, if_some, some_is, behind_takes, behind_again, is_inline, inline_append, Part, after_part, both_parts, both_behind, spaced_part}
 use Rattle.report_read.proofs.Numerals.{IsBetween, count_part, integer_part}
 use Rattle.report_read.proofs.NameParts.{name_part}

@@ -1,21 +1,8 @@
 -- The whole report: a report within the bounds is read from its text and from nothing else, and where reading stops stands
 -- the first line in fault.
-use Rattle.std.proofs.Common.{◌≡◌, ℕ, suc, ◌+◌, ◌-◌, ◌≤◌, true, false, cond, ℤ, pos, List, [], ◌∷◌, ◌++◌, length, map, take, replicate, codes, Ok, Err, refl, sym, ap, ◌∙◌, subst, arith, append_assoc, length-append, inl, inr}
-use Rattle.std.specs.List.{flat_map, AllByRecursion}
-use Rattle.std.proofs.lemmas.List.{append-nil, take_at}
-use Rattle.std.proofs.lemmas.List.Elements.{All-from_recursion}
-use Rattle.uc_model.specs.declared.kinds.Kind.{Kind}
+use Rattle.report_read.proofs.Common.{◌≡◌, ℕ, suc, ◌+◌, ◌-◌, ◌≤◌, true, false, cond, ℤ, pos, List, [], ◌∷◌, ◌++◌, length, map, take, replicate, codes, Ok, Err, refl, sym, ap, ◌∙◌, subst, arith, append_assoc, length-append, inl, inr, flat_map, AllByRecursion, append-nil, take_at, All-from_recursion, Kind, Proposal, Head, UnitLine, Report, head_text, rows_text, chosen_text, thermal_text, renewable_text, bid_text, foot_text, report_text, Foot, Told, rank, same_kind, lines_of, IsList, IsProposal, IsTold, IsThermalLine, IsOtherLine, IsReport, AreInOrder, IsLine, AreLines, line_feeds, Begins, IsFault, value_line, line, then_lines, head_at, rows_at, units_at, foot_at, made_report, report_at, if_no_more, all_of}
 use Rattle.uc_model.specs.declared.kinds.Kind.TheVariants as kinds
-use Rattle.uc_model.specs.PriceRule.{Proposal}
-use Rattle.report_form.specs.declared.report.Head.{Head}
 use Rattle.report_form.specs.Laws.{HasForm, IsFlatLine}
-use Rattle.report_form.specs.ReportText.{UnitLine, Report, head_text, rows_text, chosen_text, thermal_text, renewable_text, bid_text, foot_text, report_text}
-use Rattle.report_read.specs.declared.head.Foot.{Foot}
-use Rattle.report_read.specs.Plain.{Told, rank, same_kind, lines_of}
-use Rattle.report_read.specs.Bounds.{IsList, IsProposal, IsTold, IsThermalLine, IsOtherLine, IsReport, AreInOrder}
-use Rattle.report_read.specs.Faults.{IsLine, AreLines, line_feeds, Begins, IsFault}
-use Rattle.report_read.specs.LineForms.{value_line}
-use Rattle.report_read.specs.Lines.{line, then_lines, head_at, rows_at, units_at, foot_at, made_report, report_at, if_no_more, all_of}
 use Rattle.report_read.proofs.Forms.{bind_ok, bind_err, good, ok_is, Form, then_form, making_form}
 use Rattle.report_read.proofs.RowForms.{amount_zero, value_form, value_text, word_text, IsValued, IsHead, told_head, head_form, rows_form, zero_rows, chosen_same, told_foot, IsFoot, foot_form, pair_form}
 use Rattle.report_read.proofs.UnitForms.{IsResponse, AreUnits, AreSomeUnits, told_text, told_texts, units_form, zero_unit, zero_units, thermal_told, renewable_told, bid_told}

@@ -1,11 +1,5 @@
 -- Among the items of a list that pass, one is first in a total order.
-use Rattle.std.proofs.Common.{◌≡◌, ◌⊎◌, inl, inr, true, false, List, [], ◌∷◌, refl, sym, ap, ◌∙◌}
-use Rattle.std.proofs.lemmas.Bool.{cases_Bool, false≢true}
-use Rattle.std.proofs.lemmas.Cmp.{upto, tied_itself}
-use Rattle.std.specs.Cmp.{IsTotalOrder}
-use Rattle.std.specs.Ordering.{is_gt, ordering_reverse}
-use Rattle.std.specs.declared.cmp.Ordering.{Ordering}
-use Rattle.std.specs.declared.cmp.Ordering.TheVariants.{Less, Equal, Greater}
+use Rattle.run_exists.proofs.Common.{◌≡◌, ◌⊎◌, inl, inr, true, false, List, [], ◌∷◌, refl, sym, ap, ◌∙◌, cases_Bool, false≢true, upto, tied_itself, IsTotalOrder, is_gt, ordering_reverse, Ordering, Less, Equal, Greater}
 use Rattle.run_exists.proofs.Listing.{IsIn}
 
 turned : (o : Ordering) → is_gt (ordering_reverse o) ≡ true → is_gt o ≡ false

@@ -1,8 +1,5 @@
 -- What is made of parts that are decided is decided.
-use Rattle.std.proofs.Common.{◌≡◌, ℕ, zero, suc, ◌<◌, inl, inr, ℤ, ◌≤ℤ◌, Bool, true, false, refl, subst, arith}
-use Rattle.std.proofs.lemmas.Bool.{cases_lt, true≢false, false≢true}
-use Rattle.std.proofs.lemmas.Int.{ints, by_lt_z}
-use Rattle.std.specs.Prelude.{IsTrue, IsFalse}
+use Rattle.run_exists.proofs.Common.{◌≡◌, ℕ, zero, suc, ◌<◌, inl, inr, ℤ, ◌≤ℤ◌, Bool, true, false, refl, subst, arith, cases_lt, true≢false, false≢true, ints, by_lt_z, IsTrue, IsFalse}
 
 pub both : {P Q : Type 0} → Dec P → Dec Q → Dec (P × Q)
 both (yes p) (yes q) = yes (p, q)

@@ -1,14 +1,9 @@
 -- Whether a schedule is feasible is decided, rule by rule.
-use Rattle.std.proofs.Common.{◌≡◌, ℕ, suc, ◌+◌, ◌-◌, ◌<◌, ◌≤◌, ℤ, pos, ◌-ℤ◌, ◌≤ℤ◌, false, true, length, refl, arith}
+use Rattle.run_exists.proofs.Common.{◌≡◌, ℕ, suc, ◌+◌, ◌-◌, ◌<◌, ◌≤◌, ℤ, pos, ◌-ℤ◌, ◌≤ℤ◌, false, true, length, refl, arith, IsTrue, IsFalse, slice_index, slice_index_or, ThermalUnit, RenewableUnit, BidUnit, AnyUnit, Thermal, Flat, Bid, Schedule, on_in, above_min, above_with_reserve, starts_in, stops_in, mark_in, cap_of, width_of, blocks_at, IsPeriod, KeepsCommitment, KeepsDispatch, IsSchedule, IsThermalFeasible, IsRenewableFeasible, IsBidFeasible, IsFeasible, int_at}
 use Rattle.std.specs.Int.{int_min}
-use Rattle.std.specs.Prelude.{IsTrue, IsFalse, slice_index, slice_index_or}
 use native.Mathlib.Decide.{dec_le, dec_lt, ℕ_discrete}
 use Rattle.uc_model.specs.declared.units.Mark.{Mark}
 use Rattle.uc_model.specs.declared.units.Mark.TheVariants.{Free, MustOff, MustOn}
-use Rattle.uc_model.specs.Data.{ThermalUnit, RenewableUnit, BidUnit, AnyUnit, Thermal, Flat, Bid, Schedule}
-use Rattle.uc_model.specs.Schedules.{on_in, above_min, above_with_reserve, starts_in, stops_in, mark_in, cap_of, width_of, blocks_at}
-use Rattle.uc_model.specs.Schedules.{IsPeriod, KeepsCommitment, KeepsDispatch, IsSchedule, IsThermalFeasible, IsRenewableFeasible, IsBidFeasible, IsFeasible}
-use Rattle.uc_model.specs.Sums.{int_at}
 use Rattle.run_exists.proofs.Deciding.{both, implies, restated, true_or_not, false_or_not, at_most_or_not, each_below}
 
 must_on_or_not : (m : Mark) → Dec (m ≡ MustOn)

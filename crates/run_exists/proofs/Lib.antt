@@ -1,3 +1,5 @@
+-- The names from elsewhere that the proofs here cite.
+pub mod Common
 -- ---- of any kind of item
 -- what is made of parts that are decided
 pub mod Deciding

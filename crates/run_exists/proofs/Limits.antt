@@ -1,11 +1,5 @@
 -- How large the powers and reserves of a feasible schedule can be.
-use Rattle.std.proofs.Common.{◌≡◌, ℕ, zero, suc, ◌+◌, ◌<◌, ◌≤◌, inl, inr, ℤ, pos, negsuc, ◌+ℤ◌, ◌-ℤ◌, ◌≤ℤ◌, Bool, true, false, if◌then◌else◌, unsigned_abs, refl, subst, arith}
-use Rattle.std.proofs.lemmas.Bool.{cases_lt}
-use Rattle.std.proofs.lemmas.Int.{ints, clamps}
-use Rattle.std.specs.Prelude.{IsTrue, IsFalse, slice_index, slice_index_or}
-use Rattle.uc_model.specs.Data.{ThermalUnit, AnyUnit, Thermal, Flat, Bid, Schedule}
-use Rattle.uc_model.specs.Schedules.{cap_of, width_of, blocks_at, IsPeriod, IsThermalFeasible, IsFeasible}
-use Rattle.uc_model.specs.Sums.{int_at}
+use Rattle.run_exists.proofs.Common.{◌≡◌, ℕ, zero, suc, ◌+◌, ◌<◌, ◌≤◌, inl, inr, ℤ, pos, negsuc, ◌+ℤ◌, ◌-ℤ◌, ◌≤ℤ◌, Bool, true, false, if◌then◌else◌, unsigned_abs, refl, subst, arith, cases_lt, ints, clamps, IsTrue, IsFalse, slice_index, slice_index_or, ThermalUnit, AnyUnit, Thermal, Flat, Bid, Schedule, cap_of, width_of, blocks_at, IsPeriod, IsThermalFeasible, IsFeasible, int_at}
 
 below_magnitude : (x : ℕ) (z : ℤ) → pos x ≤ℤ z → x ≤ unsigned_abs z
 below_magnitude x (pos m) h = omega (arith, ints, h)

@@ -1,20 +1,7 @@
 -- The feasible schedules of a unit are among finitely many, so one of the best of them comes first.
-use Rattle.std.proofs.Common.{◌≡◌, ℕ, ◌<◌, ◌≤◌, inl, inr, ℤ, ◌≤ℤ◌, Bool, false, List, length, map, refl, sym, ap, ◌∙◌, subst, arith}
-use Rattle.std.proofs.lemmas.Bool.{true≢false}
-use Rattle.std.proofs.lemmas.Cmp.{int_ranked, int_cmp_total, tied_itself, on_total, then_total, back_total, nat_list_cmp_total}
-use Rattle.std.proofs.lemmas.Int.{ints}
-use Rattle.std.specs.Cmp.{IsTotalOrder}
+use Rattle.run_exists.proofs.Common.{◌≡◌, ℕ, ◌<◌, ◌≤◌, inl, inr, ℤ, ◌≤ℤ◌, Bool, false, List, length, map, refl, sym, ap, ◌∙◌, subst, arith, true≢false, int_ranked, int_cmp_total, tied_itself, on_total, then_total, back_total, nat_list_cmp_total, ints, IsTotalOrder, flat_map, MatchOrdering, nat_cmp, int_cmp, is_gt, on, then_cmp, flip_args, ordering_then, ordering_reverse, ◌<ℤ◌, slice_index, Ordering, Less, Equal, Greater, AnyUnit, Thermal, Flat, Bid, PriceLists, Schedule, earnings, IsBest, IsSchedule, IsFeasible, BestResponsesExist}
 use Rattle.std.specs.Cmp.Lexicographic.{slice_cmp}
-use Rattle.std.specs.List.{flat_map}
-use Rattle.std.specs.Ordering.{MatchOrdering, nat_cmp, int_cmp, is_gt, on, then_cmp, flip_args, ordering_then, ordering_reverse}
-use Rattle.std.specs.Prelude.{◌<ℤ◌, slice_index}
-use Rattle.std.specs.declared.cmp.Ordering.{Ordering}
-use Rattle.std.specs.declared.cmp.Ordering.TheVariants.{Less, Equal, Greater}
-use Rattle.uc_model.specs.Data.{AnyUnit, Thermal, Flat, Bid, PriceLists, Schedule}
-use Rattle.uc_model.specs.Earnings.{earnings, IsBest}
-use Rattle.uc_model.specs.Schedules.{IsSchedule, IsFeasible}
 use Rattle.uc_model.specs.Ties.{tie_numbers, ComesBefore, IsLeast}
-use Rattle.run_exists.specs.Laws.{BestResponsesExist}
 use Rattle.run_exists.proofs.Choosing.{none_or_first}
 use Rattle.run_exists.proofs.Feasible.{feasible_or_not}
 use Rattle.run_exists.proofs.Limits.{limit_of, limits}

@@ -1,20 +1,9 @@
 -- Prices over the horizon have a dual value, and there is a row at those that follow any rows.
-use Rattle.std.proofs.Common.{◌≡◌, ℕ, suc, ◌-◌, ◌≤◌, Option, ℤ, ◌-ℤ◌, List, [], ◌∷◌, map, take, length, refl, sym, ap, ◌∙◌, subst, arith}
-use Rattle.std.proofs.lemmas.Bool.{cond_both, leb-false}
-use Rattle.std.proofs.lemmas.List.{length-map, length-take}
+use Rattle.run_exists.proofs.Common.{◌≡◌, ℕ, suc, ◌-◌, ◌≤◌, Option, ℤ, ◌-ℤ◌, List, [], ◌∷◌, map, take, length, refl, sym, ap, ◌∙◌, subst, arith, cond_both, leb-false, length-map, length-take, AllZip, range_with_len, nat_le, AnyUnit, PriceLists, Schedule, Market, units, earnings, IsTop, Proposal, start_price, start_prices, opening_prices_of, stepped_prices, age, no_prices, next_prices, price_rule, Fits, IsNextRow, IsFeasible, total, AreFeasible, DualValuesExist}
 use Rattle.std.proofs.lemmas.List.FromFn.{length-range_with_len}
 use Rattle.std.proofs.lemmas.Option.{slice_get-get_or}
-use Rattle.std.specs.List.{AllZip, range_with_len}
 use Rattle.std.specs.Option.{option_map_or}
-use Rattle.std.specs.Prelude.{nat_le}
-use Rattle.uc_model.specs.Data.{AnyUnit, PriceLists, Schedule, Market, units}
-use Rattle.uc_model.specs.Earnings.{earnings, IsTop}
-use Rattle.uc_model.specs.PriceRule.{Proposal, start_price, start_prices, opening_prices_of, stepped_prices, age, no_prices, next_prices, price_rule}
-use Rattle.uc_model.specs.Runs.{Fits, IsNextRow}
-use Rattle.uc_model.specs.Schedules.{IsFeasible}
-use Rattle.uc_model.specs.Sums.{total}
 use Rattle.uc_model.specs.Systems.{total_power, total_reserve, worth_of_demand}
-use Rattle.run_exists.specs.Laws.{AreFeasible, DualValuesExist}
 use Rattle.run_exists.proofs.Responses.{best_responses_exist}
 
 -- ---- the prices of the rule are over the horizon

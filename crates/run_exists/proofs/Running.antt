@@ -1,12 +1,5 @@
 -- A run, row after row, up to the budget or a settled row.
-use Rattle.std.proofs.Common.{◌≡◌, ℕ, zero, suc, ◌+◌, ◌-◌, ◌<◌, ◌≤◌, ◌⊎◌, inl, inr, ℤ, List, [], ◌∷◌, ◌++◌, take, length, sym, ◌∙◌, subst, arith, length-append}
-use Rattle.std.proofs.lemmas.Bool.{cases_lt, cases_Bool}
-use Rattle.std.proofs.lemmas.List.{get_or_append_left, get_or_default, get_or_push, take-append-le, take_all}
-use Rattle.std.specs.Prelude.{IsTrue, IsFalse, slice_index_or}
-use Rattle.uc_model.specs.Data.{Schedule, Market}
-use Rattle.uc_model.specs.PriceRule.{Proposal, is_settled}
-use Rattle.uc_model.specs.Runs.{Fits, IsNextRow, AreRightRows, IsRun}
-use Rattle.run_exists.specs.Laws.{AreFeasible, RunsExist}
+use Rattle.run_exists.proofs.Common.{◌≡◌, ℕ, zero, suc, ◌+◌, ◌-◌, ◌<◌, ◌≤◌, ◌⊎◌, inl, inr, ℤ, List, [], ◌∷◌, ◌++◌, take, length, sym, ◌∙◌, subst, arith, length-append, cases_lt, cases_Bool, get_or_append_left, get_or_default, get_or_push, take-append-le, take_all, IsTrue, IsFalse, slice_index_or, Schedule, Market, Proposal, is_settled, Fits, IsNextRow, AreRightRows, IsRun, AreFeasible, RunsExist}
 use Rattle.run_exists.proofs.Rows.{next_row_exists}
 
 module _ (m : Market) (cost : ℤ) (ahead : ℕ) where

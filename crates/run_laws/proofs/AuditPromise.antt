@@ -1,31 +1,12 @@
 -- What is promised of an audit.
-use Rattle.std.proofs.Common.{◌≡◌, ℕ, ◌<◌, ◌⊎◌, inl, inr, Bool, true, false, List, [], ◌∷◌, Option, None, Some, Result, Ok, Err, refl, sym, ap, ◌∙◌, subst, arith, length}
-use Rattle.std.specs.Prelude.{nat_lt, if◌then◌else◌}
+use Rattle.run_laws.proofs.Common.{◌≡◌, ℕ, ◌<◌, ◌⊎◌, inl, inr, Bool, true, false, List, [], ◌∷◌, Option, None, Some, Result, Ok, Err, refl, sym, ap, ◌∙◌, subst, arith, length, nat_lt, if◌then◌else◌, ltb-true, MOST_BYTES, Asked, AuditAsked, audit, WordFault, status_of, fault_line, IsFlatLine, HasForm, TextDeterminesReport, RightReportHasForm, ReportPaymentsMakeUpTheGap, UnitLine, Report, report_text, CaseFile, ScheduleFile, ReportFile, TopFault, TooBig, Unfit, End, Done, Cut, Refused, Reads, bytes_of, IsInput, IsWithinWork, IsReportFile, IsAudit, PlannedCase, command_for, IsReadOf, AreReads, with_report, HasText, Ends, status_at, OverReads, IsAuditPromised, IsWrongAt, IsAuditRefused, BytesAreThoseRead, ReportBytesAreItsText}
 use Rattle.std.specs.List.{AllByRecursion}
-use Rattle.std.proofs.lemmas.Bool.{ltb-true}
 use Rattle.std.proofs.lemmas.List.Elements.{All-from_recursion}
-use Rattle.hull_io.specs.declared.read.TheConstants.{MOST_BYTES}
-use Rattle.hull_words.specs.Asked.{Asked, AuditAsked, audit}
-use Rattle.hull_words.specs.declared.fault.WordFault.{WordFault}
-use Rattle.hull_report.specs.FaultLines.{status_of, fault_line}
-use Rattle.report_form.specs.Laws.{IsFlatLine, HasForm, TextDeterminesReport}
-use Rattle.hull_report.specs.Laws.{RightReportHasForm, ReportPaymentsMakeUpTheGap}
-use Rattle.report_form.specs.ReportText.{UnitLine, Report, report_text}
 use Rattle.hull_report.specs.RightReport.{IsRightReport}
-use Rattle.hull_report.specs.declared.fault.FileKind.TheVariants.{CaseFile, ScheduleFile, ReportFile}
-use Rattle.hull_report.specs.declared.fault.TopFault.{TopFault}
-use Rattle.hull_report.specs.declared.fault.TopFault.TheVariants.{TooBig, Report as Unfit}
 use Rattle.report_read.specs.Bounds.{IsOtherLine, IsReport}
 use Rattle.report_read.specs.Faults.{IsFault}
 use Rattle.report_check.specs.Right.{DiffersFromRight}
-use Rattle.hull_engine.specs.declared.end.End.{End}
-use Rattle.hull_engine.specs.declared.end.End.TheVariants.{Done, Cut, Refused}
-use Rattle.hull_engine.specs.Steps.{Reads, bytes_of, IsInput, IsWithinWork, IsReportFile, IsAudit}
-use Rattle.board_run.specs.Inputs.{PlannedCase}
-use Rattle.hull_engine.specs.Outcome.{command_for, IsReadOf, AreReads, with_report, HasText, Ends, status_at}
-use Rattle.run_laws.specs.Laws.{OverReads, IsAuditPromised, IsWrongAt, IsAuditRefused}
 use Rattle.run_laws.proofs.OutcomeLaws.{status_within, same_fault, bytes_fault, input_fault, work_fault, same_input, InputParts, input_parts}
-use Rattle.hull_engine.specs.Laws.{BytesAreThoseRead, ReportBytesAreItsText}
 
 -- ---- a report within the bounds of reading
 

@@ -1,20 +1,6 @@
 -- The bound that `hull bound` prints holds.
-use Rattle.std.proofs.Common.{◌≡◌, ℕ, ◌-◌, ◌≤◌, List, slice_get, Some, Option, Result, Ok, ◌∙◌, subst, arith}
-use Rattle.std.proofs.lemmas.Option.{slice_get_within}
+use Rattle.run_laws.proofs.Common.{◌≡◌, ℕ, ◌-◌, ◌≤◌, List, slice_get, Some, Option, Result, Ok, ◌∙◌, subst, arith, slice_get_within, Proposal, chosen_number, plan_cost, Asked, BoundAsked, bound, WordFault, words_of, OneIsChosen, End, Done, Cut, Refused, Reads, PlannedCase, command_for, IsBoundText, AreReads, Ends, status_at, OverReads, IsBoundPromised, WordsHaveSizes}
 use Rattle.gap_proof.specs.Laws.{RunBoundsHold}
-use Rattle.uc_model.specs.PriceRule.{Proposal, chosen_number}
-use Rattle.uc_model.specs.Systems.{plan_cost}
-use Rattle.hull_words.specs.Asked.{Asked, BoundAsked, bound}
-use Rattle.hull_words.specs.declared.fault.WordFault.{WordFault}
-use Rattle.hull_words.specs.Words.{words_of}
-use Rattle.hull_report.specs.Laws.{OneIsChosen}
-use Rattle.hull_engine.specs.declared.end.End.{End}
-use Rattle.hull_engine.specs.declared.end.End.TheVariants.{Done, Cut, Refused}
-use Rattle.hull_engine.specs.Steps.{Reads}
-use Rattle.board_run.specs.Inputs.{PlannedCase}
-use Rattle.hull_engine.specs.Outcome.{command_for, IsBoundText, AreReads, Ends, status_at}
-use Rattle.run_laws.specs.Laws.{OverReads, IsBoundPromised}
-use Rattle.hull_engine.specs.Laws.{WordsHaveSizes}
 use Rattle.hull_engine.specs.Sizes.{HasSizes}
 use Rattle.run_laws.proofs.OutcomeLaws.{status_within}
 

@@ -1,17 +1,5 @@
 -- What is promised of the two runs of `hull fixed`.
-use Rattle.std.proofs.Common.{◌≡◌, ℕ, List, Option, Result, Ok, subst, arith}
-use Rattle.uc_model.specs.Systems.{IsFeasiblePlan, plan_cost}
-use Rattle.fixed_price.specs.FixedCase.{fixed_market}
-use Rattle.hull_words.specs.Asked.{Asked, PriceAsked, fixed}
-use Rattle.hull_words.specs.Words.{words_of}
-use Rattle.hull_words.specs.declared.fault.WordFault.{WordFault}
-use Rattle.hull_report.specs.RightSide.{SidePaymentsMakeUpTheGap}
-use Rattle.hull_engine.specs.declared.end.End.{End}
-use Rattle.hull_engine.specs.declared.end.End.TheVariants.{Done as done_whole, Cut, Refused}
-use Rattle.run_laws.specs.Laws.{OverReads, IsFixedPromised}
-use Rattle.hull_engine.specs.Outcome.{command_for, IsFixedText, AreReads, Ends, status_at}
-use Rattle.hull_engine.specs.Steps.{Reads}
-use Rattle.board_run.specs.Inputs.{PlannedCase}
+use Rattle.run_laws.proofs.Common.{◌≡◌, ℕ, List, Option, Result, Ok, subst, arith, IsFeasiblePlan, plan_cost, fixed_market, Asked, PriceAsked, fixed, words_of, WordFault, SidePaymentsMakeUpTheGap, End, done_whole, Cut, Refused, OverReads, IsFixedPromised, command_for, IsFixedText, AreReads, Ends, status_at, Reads, PlannedCase}
 use Rattle.run_laws.proofs.OutcomeLaws.{status_within, accepted_is_feasible}
 
 module _ (made_up : SidePaymentsMakeUpTheGap) where

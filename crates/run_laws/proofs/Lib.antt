@@ -1,3 +1,5 @@
+-- The names from elsewhere that the proofs here cite.
+pub mod Common
 -- at most one thing is due
 pub mod OneDue
 -- what follows from an outcome
@@ -8,3 +10,5 @@ pub mod BoundPromise
 pub mod FixedPromise
 -- what is promised of an audit
 pub mod AuditPromise
+-- The lemmas that answers cite.
+pub mod Lemmas

@@ -1,37 +1,19 @@
 -- Over what was read at most one thing is due, and at most one text may be printed.
-use Rattle.std.proofs.Common.{◌≡◌, ℕ, ◌<◌, ℤ, List, length, unsigned_abs, Option, Some, inl, inr, Result, Ok, Err, sym, ap, subst, ◌∙◌, arith}
-use Rattle.std.proofs.lemmas.Bool.{cases_lt}
+use Rattle.run_laws.proofs.Common.{◌≡◌, ℕ, ◌<◌, ℤ, List, length, unsigned_abs, Option, Some, inl, inr, Result, Ok, Err, sym, ap, subst, ◌∙◌, arith, cases_lt, same_Some, slice_get, Market, Schedule, Proposal, Asked, price, check, try, bound, fixed, audit, WordFault, fixed_market, TextDeterminesReport, OneRightReport, RightReportHasForm, Report, report_text, OneRightSide, CaseFile, ScheduleFile, ReportFile, TopFault, PlanRule, Unfit, Goes, Then, Reads, IsBytes, case_fault, plan_fault, IsCase, IsCaseFile, IsPlan, IsPlanFile, IsChecked, IsInput, IsMade, IsWithinWork, IsReportIn, IsReportFile, IsJudged, IsAudit, PlannedCase, IsReportText, IsBoundText, IsFixedText, IsAuditText, command_for}
 use Rattle.std.proofs.lemmas.Int.{ints}
-use Rattle.std.proofs.lemmas.Option.{same_Some}
-use Rattle.std.specs.Prelude.{slice_get}
 use Rattle.std.specs.Result.{result_map_both}
-use Rattle.uc_model.specs.Data.{Market, Schedule}
-use Rattle.uc_model.specs.PriceRule.{Proposal}
 use Rattle.uc_model.specs.Refusals.{Refusal}
 use Rattle.uc_case.specs.Laws.{OneCase}
 use Rattle.uc_plan.specs.Laws.{OnePlan}
-use Rattle.hull_words.specs.Asked.{Asked, price, check, try, bound, fixed, audit}
-use Rattle.hull_words.specs.declared.fault.WordFault.{WordFault}
 use Rattle.plan_check.specs.Checks.{refusal_of}
 use Rattle.plan_check.specs.declared.RuleFault.{RuleFault}
-use Rattle.fixed_price.specs.FixedCase.{fixed_market}
 use Rattle.gap_proof.specs.Candidates.{RowRange, candidates, range_bound, prices_of_row, IsFirstLeast}
 use Rattle.hull_report.specs.BoundText.{bound_text}
 use Rattle.hull_report.specs.FixedText.{fixed_text}
 use Rattle.hull_report.specs.AuditText.{audit_text}
-use Rattle.report_form.specs.Laws.{TextDeterminesReport}
-use Rattle.hull_report.specs.Laws.{OneRightReport, RightReportHasForm}
-use Rattle.report_form.specs.ReportText.{Report, report_text}
-use Rattle.hull_report.specs.RightSide.{OneRightSide}
 use Rattle.hull_report.specs.TryText.{try_text}
-use Rattle.hull_report.specs.declared.fault.FileKind.TheVariants.{CaseFile, ScheduleFile, ReportFile}
-use Rattle.hull_report.specs.declared.fault.TopFault.{TopFault}
-use Rattle.hull_report.specs.declared.fault.TopFault.TheVariants.{PlanRule, Report as Unfit}
 use Rattle.report_read.specs.Differences.{DiffersAt}
 use Rattle.report_read.specs.Laws.{OneReport, OneFault, OneDifference}
-use Rattle.hull_engine.specs.Steps.{Goes, Then, Reads, IsBytes, case_fault, plan_fault, IsCase, IsCaseFile, IsPlan, IsPlanFile, IsChecked, IsInput, IsMade, IsWithinWork, IsReportIn, IsReportFile, IsJudged, IsAudit}
-use Rattle.board_run.specs.Inputs.{PlannedCase}
-use Rattle.hull_engine.specs.Outcome.{IsReportText, IsBoundText, IsFixedText, IsAuditText, command_for}
 
 -- one step's answer and then the next's are one, where each is
 module _ {A B : Type 0} (first : Result A TopFault → Type 0) (next : A → Result B TopFault → Type 0) where

@@ -1,28 +1,10 @@
 -- What follows from the outcome of a run.
-use Rattle.std.proofs.Common.{◌≡◌, ℕ, ◌*◌, ◌≤◌, ◌⊎◌, inl, inr, Bool, true, false, List, Option, None, Some, Result, Ok, Err, refl, sym, ap, ◌∙◌, subst, arith}
-use Rattle.std.specs.Prelude.{IsTrue, IfSome, IsSome, if◌then◌else◌, nat_lt}
-use Rattle.uc_model.specs.Data.{Market, Schedule, unit_count}
-use Rattle.uc_model.specs.Systems.{IsFeasiblePlan, plan_cost}
+use Rattle.run_laws.proofs.Common.{◌≡◌, ℕ, ◌*◌, ◌≤◌, ◌⊎◌, inl, inr, Bool, true, false, List, Option, None, Some, Result, Ok, Err, refl, sym, ap, ◌∙◌, subst, arith, IsTrue, IfSome, IsSome, if◌then◌else◌, nat_lt, Market, Schedule, unit_count, IsFeasiblePlan, plan_cost, MOST_BYTES, Asked, CheckAsked, PriceAsked, AuditAsked, price, check, try, bound, fixed, audit, WordFault, status_of, fault_line, ReportPaymentsMakeUpTheGap, CaseFile, ScheduleFile, ReportFile, TopFault, Words, Read, CaseText, CaseField, PlanText, PlanShape, PlanRule, TooBig, Work, Memory, report_fault, End, Done, Cut, Refused, Reads, bytes_of, IsCase, IsCaseFile, IsPlan, IsPlanFile, IsChecked, IsInput, IsWithinWork, IsReportFile, IsAudit, PlannedCase, command_for, case_and_schedule, IsReadOf, AreReads, HasText, Ends, status_at, is_refusal, IsWritten, IsUnread, HasCause, IsQuiet, IsDecided, word_fault, FollowsFromWords, IsPromised, BytesAreThoseRead}
 use Rattle.uc_case.specs.Files.{text, value}
 use Rattle.uc_case.specs.CaseFiles.{IsCaseOf}
 use Rattle.uc_plan.specs.PlanFiles.{IsPlanOf}
-use Rattle.hull_io.specs.declared.read.TheConstants.{MOST_BYTES}
-use Rattle.hull_words.specs.Asked.{Asked, CheckAsked, PriceAsked, AuditAsked, price, check, try, bound, fixed, audit}
-use Rattle.hull_words.specs.declared.fault.WordFault.{WordFault}
-use Rattle.hull_report.specs.FaultLines.{status_of, fault_line}
-use Rattle.hull_report.specs.Laws.{ReportPaymentsMakeUpTheGap}
 use Rattle.hull_report.specs.declared.fault.FileKind.{FileKind}
-use Rattle.hull_report.specs.declared.fault.FileKind.TheVariants.{CaseFile, ScheduleFile, ReportFile}
-use Rattle.hull_report.specs.declared.fault.TopFault.{TopFault}
-use Rattle.hull_report.specs.declared.fault.TopFault.TheVariants.{Words, Read, CaseText, CaseField, PlanText, PlanShape, PlanRule, TooBig, Work, Memory, Report as report_fault}
-use Rattle.hull_engine.specs.declared.end.End.{End}
-use Rattle.hull_engine.specs.declared.end.End.TheVariants.{Done, Cut, Refused}
-use Rattle.hull_engine.specs.Steps.{Reads, bytes_of, IsCase, IsCaseFile, IsPlan, IsPlanFile, IsChecked, IsInput, IsWithinWork, IsReportFile, IsAudit}
-use Rattle.board_run.specs.Inputs.{PlannedCase}
-use Rattle.hull_engine.specs.Outcome.{command_for, case_and_schedule, IsReadOf, AreReads, HasText, Ends, status_at}
-use Rattle.run_laws.specs.Laws.{is_refusal, IsWritten, IsUnread, HasCause, IsQuiet, IsDecided, word_fault, FollowsFromWords, IsPromised}
 use Rattle.run_laws.proofs.OneDue.{AreOne, one_due}
-use Rattle.hull_engine.specs.Laws.{BytesAreThoseRead}
 use Rattle.uc_model.specs.declared.limits.TheConstants.{MOST_WORK}
 
 -- ---- a fault by its status

@@ -1,8 +1,7 @@
 -- The cells of a chain of calls.
-use Rattle.std.proofs.Common.{◌≡◌, ℕ, ◌+◌, ◌-◌, ◌*◌, ◌≤◌, List, [], ◌∷◌, ap, arith}
+use Rattle.shape_law.proofs.Common.{◌≡◌, ℕ, ◌+◌, ◌-◌, ◌*◌, ◌≤◌, List, [], ◌∷◌, ap, arith, Table}
 use Rattle.std.proofs.Math.Nat.{mul-le-mul_right}
 use Rattle.shape_law.specs.Chain.{Call, AddCurve, AddLine, AddReserve, Window, charge_of, charges_of, curves_in, kinks_in, windows_in, AreCurvesOf, CellsAreCharged, CellsAreBounded}
-use Rattle.shape_law.specs.Table.{Table}
 
 -- the charges, where no curve has more than so many blocks
 charges_bounded : (points : ℕ) (calls : List Call) → AreCurvesOf points calls

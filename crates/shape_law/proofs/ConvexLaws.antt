@@ -1,15 +1,7 @@
 -- Each effect keeps convexity, whatever the representation.
-use Rattle.std.proofs.Common.{◌≡◌, ℕ, zero, suc, ◌+◌, ◌-◌, ◌<◌, length, get_or, Option, Some, None, refl, sym, ap, ◌∙◌, arith}
-use Rattle.std.specs.Prelude.{ℤ, pos, ◌+ℤ◌, ◌-ℤ◌, ◌*ℤ◌, ◌≤ℤ◌, ◌<ℤ◌}
-use Rattle.std.proofs.lemmas.Int.{by_lt_z, ints, clamps}
+use Rattle.shape_law.proofs.Common.{◌≡◌, ℕ, zero, suc, ◌+◌, ◌-◌, ◌<◌, length, get_or, Option, Some, None, refl, sym, ap, ◌∙◌, arith, ℤ, pos, ◌+ℤ◌, ◌-ℤ◌, ◌*ℤ◌, ◌≤ℤ◌, ◌<ℤ◌, by_lt_z, ints, clamps, option_map, *ℤ-one, one, Table, value_of, IsConvex, reserve_term, IsWindow, IsSum, PointIsConvex, CopyIsConvex, LineKeepsConvexity, ReserveKeepsConvexity, WindowKeepsConvexity}
 use Rattle.std.specs.Int.{int_min}
-use Rattle.std.specs.Option.{option_map}
-use Rattle.std.proofs.Math.IntN.{*ℤ-one, one}
 use Rattle.uc_model.proofs.IntLaws.{mul-add, mul-mono_of}
-use Rattle.shape_law.specs.Table.{Table, value_of, IsConvex}
-use Rattle.shape_law.specs.Curve.{reserve_term}
-use Rattle.shape_law.specs.Effect.{IsWindow, IsSum}
-use Rattle.shape_law.specs.Laws.{PointIsConvex, CopyIsConvex, LineKeepsConvexity, ReserveKeepsConvexity, WindowKeepsConvexity}
 use Rattle.shape_law.specs.Lookup.{IsAt, IsAt-from_value, value-from_index, value-from_is_at}
 pub use Rattle.shape_law.specs.Lookup.{same_some}
 

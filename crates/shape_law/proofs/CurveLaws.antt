@@ -1,16 +1,9 @@
 -- The sum of a convex function and a curve is convex.
-use Rattle.std.proofs.Common.{◌≡◌, ℕ, suc, ◌<◌, List, [], ◌∷◌, length, get_or, Option, Some, None, refl, sym, ap, ◌∙◌, arith, true, false}
-use Rattle.std.specs.Prelude.{ℤ, pos, ◌+ℤ◌, ◌-ℤ◌, ◌*ℤ◌, ◌≤ℤ◌, ◌<ℤ◌, int_lt, MatchOption}
+use Rattle.shape_law.proofs.Common.{◌≡◌, ℕ, suc, ◌<◌, List, [], ◌∷◌, length, get_or, Option, Some, None, refl, sym, ap, ◌∙◌, arith, true, false, ℤ, pos, ◌+ℤ◌, ◌-ℤ◌, ◌*ℤ◌, ◌≤ℤ◌, ◌<ℤ◌, int_lt, MatchOption, option_map, by_lt_z, ints, *ℤ-zero, rise_at, curve_value, end_of, CurveKeepsConvexity, CurvePlacesAreLimited, CurvesHaveValues, value_of}
 use Rattle.std.specs.List.{All}
-use Rattle.std.specs.Option.{option_map}
-use Rattle.std.proofs.lemmas.Int.{by_lt_z, ints}
-use Rattle.std.proofs.Math.IntN.{*ℤ-zero}
 use Rattle.uc_model.specs.declared.units.Block.{Block}
 use Rattle.uc_model.specs.declared.units.Curve.{Curve}
 use Rattle.uc_model.specs.Limits as limits
-use Rattle.shape_law.specs.Curve.{rise_at, curve_value, end_of}
-use Rattle.shape_law.specs.Laws.{CurveKeepsConvexity, CurvePlacesAreLimited, CurvesHaveValues}
-use Rattle.shape_law.specs.Table.{value_of}
 use Rattle.shape_law.proofs.ConvexLaws.{convex_at, IsConvex-from_places, times_next, same_some}
 
 -- ---- what a test on places chooses

@@ -1,11 +1,5 @@
 -- Each effect fixes the new function, and is that of any function with the same values.
-use Rattle.std.proofs.Common.{◌≡◌, Option, Some, None, refl, sym, ap, ◌∙◌, subst, arith}
-use Rattle.std.specs.Prelude.{ℤ, ◌+ℤ◌, ◌≤ℤ◌, MatchOption}
-use Rattle.std.specs.Option.{option_map}
-use Rattle.std.proofs.lemmas.Int.{ints}
-use Rattle.shape_law.specs.Table.{Table, value_of}
-use Rattle.shape_law.specs.Effect.{IsPoint, IsWindow}
-use Rattle.shape_law.specs.Laws.{PointIsExact, SumIsExact, CurveSumIsExact, WindowIsExact, SumIsOfValues, CurveSumIsOfValues, WindowIsOfValues}
+use Rattle.shape_law.proofs.Common.{◌≡◌, Option, Some, None, refl, sym, ap, ◌∙◌, subst, arith, ℤ, ◌+ℤ◌, ◌≤ℤ◌, MatchOption, option_map, ints, Table, value_of, IsPoint, IsWindow, PointIsExact, SumIsExact, CurveSumIsExact, WindowIsExact, SumIsOfValues, CurveSumIsOfValues, WindowIsOfValues}
 use Rattle.shape_law.proofs.ConvexLaws.{same_some}
 
 -- two look-ups agree where each value of one is a value of the other

@@ -1,11 +1,7 @@
 -- A call on one shape leaves the shapes that are apart from it.
-use Rattle.std.proofs.Common.{◌≡◌, ℕ, List, [], ◌∷◌, ◌∙◌, ap, subst, inl, inr}
-use Rattle.std.specs.Prelude.{◌⊎◌}
-use Rattle.std.specs.Option.{option_map}
+use Rattle.shape_law.proofs.Common.{◌≡◌, ℕ, List, [], ◌∷◌, ◌∙◌, ap, subst, inl, inr, ◌⊎◌, option_map, Table, OthersStay, FramesJoin, EndedShapesLeaveNothing}
 use Rattle.std.proofs.lemmas.Bool.{cases_eq}
-use Rattle.shape_law.specs.Table.{Table}
 use Rattle.shape_law.specs.Cell.{Cell, IsUsed, IsAmong, AreSameAt, Frame}
-use Rattle.shape_law.specs.Laws.{OthersStay, FramesJoin, EndedShapesLeaveNothing}
 
 pub is_among : (n : ℕ) (xs : List ℕ) → IsAmong n xs ⊎ (IsAmong n xs → ⊥)
 is_among n [] = inr (λ h. h)

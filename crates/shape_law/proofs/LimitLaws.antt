@@ -1,9 +1,5 @@
 -- Each effect keeps places and values within the limits.
-use Rattle.std.proofs.Common.{◌≡◌, sym, ap, ◌∙◌, subst, arith}
-use Rattle.std.specs.Prelude.{◌+ℤ◌}
-use Rattle.std.proofs.lemmas.Int.{ints}
-use Rattle.shape_law.specs.Table.{value_of, IsPlace, IsAmount}
-use Rattle.shape_law.specs.Laws.{PointIsWithinLimits, CopyIsWithinLimits, SumIsWithinLimits, CurveSumIsWithinLimits, WindowIsWithinLimits}
+use Rattle.shape_law.proofs.Common.{◌≡◌, sym, ap, ◌∙◌, subst, arith, ◌+ℤ◌, ints, value_of, IsPlace, IsAmount, PointIsWithinLimits, CopyIsWithinLimits, SumIsWithinLimits, CurveSumIsWithinLimits, WindowIsWithinLimits}
 use Rattle.shape_law.proofs.ConvexLaws.{same_some, added}
 use Rattle.shape_law.proofs.CurveLaws.{raised_by}
 

@@ -1,16 +1,10 @@
 -- What is seen of pieces, and of none.
-use Rattle.std.proofs.Common.{◌≡◌, [], true, false, Option, Some, None, refl, sym, ap, ◌∙◌, subst}
-use Rattle.std.specs.Prelude.{IfSome, ℤ, pos, negsuc, ◌+ℤ◌, ◌-ℤ◌, ◌*ℤ◌, MatchOption}
+use Rattle.slope_list.proofs.Common.{◌≡◌, [], true, false, Option, Some, None, refl, sym, ap, ◌∙◌, subst, IfSome, ℤ, pos, negsuc, ◌+ℤ◌, ◌-ℤ◌, ◌*ℤ◌, MatchOption, IsStepped, Table, value_of, offset_value, IsEmpty, Made, IsLeast, IsTurn}
 use Rattle.std.specs.Option.{option_map}
 use Rattle.uc_model.specs.declared.units.Curve.{Curve}
 use Rattle.shape_law.specs.declared.step.Step.{Step}
 use Rattle.shape_law.specs.Curve.{curve_value, reserve_term}
-use Rattle.shape_law.specs.Steps.{IsStepped}
-use Rattle.shape_law.specs.Table.{Table, value_of, offset_value, IsEmpty}
-use Rattle.slope_step.specs.declared.step.Made.{Made}
-use Rattle.shape_law.specs.Effect.{IsLeast}
 use Rattle.slope_list.specs.declared.slopes.Lowest.{Lowest}
-use Rattle.slope_step.specs.Turn.{IsTurn}
 
 -- ---- no place
 

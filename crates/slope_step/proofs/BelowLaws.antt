@@ -1,18 +1,6 @@
 -- One function below another one, piece by piece.
-use Rattle.std.proofs.Common.{◌≡◌, ℕ, suc, ◌+◌, ◌-◌, ◌<◌, ◌≤◌, ◌⊎◌, List, length, sym, ap, ◌∙◌, subst, inl, inr, arith}
-use Rattle.std.specs.Prelude.{ℤ, pos, ◌+ℤ◌, ◌-ℤ◌, ◌*ℤ◌, ◌≤ℤ◌, ◌<ℤ◌}
-use Rattle.std.specs.Int.{int_min}
-use Rattle.std.proofs.lemmas.Int.{ints, clamps, by_lt_z}
-use Rattle.shape_law.specs.Table.{IsAmount}
-use Rattle.std.proofs.Math.IntN.{*ℤ-zero}
-use Rattle.uc_model.proofs.IntLaws.{mul-mono_of}
-use Rattle.slope_step.specs.declared.piece.Piece.{Piece}
-use Rattle.slope_step.specs.declared.piece.Start.{Start}
+use Rattle.slope_step.proofs.Common.{◌≡◌, ℕ, suc, ◌+◌, ◌-◌, ◌<◌, ◌≤◌, ◌⊎◌, List, length, sym, ap, ◌∙◌, subst, inl, inr, arith, ℤ, pos, ◌+ℤ◌, ◌-ℤ◌, ◌*ℤ◌, ◌≤ℤ◌, ◌<ℤ◌, int_min, ints, clamps, by_lt_z, IsAmount, *ℤ-zero, mul-mono_of, Piece, Start, CanGo, piece, end_at, last_place, function_of, table_of, AreSlopes, IsLine, AreWithin, IsPlaced, IsReached, IsUnder, IsUnderTo, IsNowhereAbove}
 use Rattle.slope_step.specs.declared.kink.Reached.{Reached}
-use Rattle.slope_step.specs.Totals.{CanGo}
-use Rattle.slope_step.specs.Pieces.{piece, end_at, last_place, function_of, table_of, AreSlopes, IsLine}
-use Rattle.slope_step.specs.Kink.{AreWithin, IsPlaced}
-use Rattle.slope_step.specs.Below.{IsReached, IsUnder, IsUnderTo, IsNowhereAbove}
 use Rattle.slope_step.proofs.LineLaws.{add-mul, line_part}
 use Rattle.slope_step.proofs.PieceLaws.{ends_rise_to, along_line}
 use Rattle.slope_step.proofs.FunctionLaws.{on_inside, on_back}

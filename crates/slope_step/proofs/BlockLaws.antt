@@ -1,17 +1,5 @@
 -- The curve's values block by block.
-use Rattle.std.proofs.Common.{◌≡◌, ℕ, zero, suc, ◌+◌, ◌-◌, ◌<◌, ◌≤◌, List, [], ◌∷◌, length, Option, Some, None, refl, sym, ap, ◌∙◌, inl, inr, arith, neg_ℤ}
-use Rattle.std.specs.Prelude.{ℤ, pos, ◌+ℤ◌, ◌-ℤ◌, ◌*ℤ◌, ◌≤ℤ◌, ◌<ℤ◌, slice_index_or}
-use Rattle.std.specs.Option.{option_map}
-use Rattle.std.proofs.lemmas.Int.{ints, by_lt_z}
-use Rattle.std.proofs.lemmas.Bool.{cases_lt}
-use Rattle.uc_model.specs.declared.units.Block.{Block}
-use Rattle.uc_model.specs.declared.units.Curve.{Curve}
-use Rattle.uc_model.specs.Limits.{IsFrom}
-use Rattle.shape_law.specs.Curve.{rise_at, curve_value, end_of, IsLimitedCurve}
-use Rattle.shape_law.specs.Table.{IsPlace}
-use Rattle.slope_step.specs.Pieces.{IsLine}
-use Rattle.slope_step.specs.Blocks.{width_to, IsInBlock, HasCosts}
-use Rattle.slope_step.specs.Drawn.{cost_at}
+use Rattle.slope_step.proofs.Common.{◌≡◌, ℕ, zero, suc, ◌+◌, ◌-◌, ◌<◌, ◌≤◌, List, [], ◌∷◌, length, Option, Some, None, refl, sym, ap, ◌∙◌, inl, inr, arith, neg_ℤ, ℤ, pos, ◌+ℤ◌, ◌-ℤ◌, ◌*ℤ◌, ◌≤ℤ◌, ◌<ℤ◌, slice_index_or, option_map, ints, by_lt_z, cases_lt, Block, Curve, IsFrom, rise_at, curve_value, end_of, IsLimitedCurve, IsPlace, IsLine, width_to, IsInBlock, HasCosts, cost_at}
 use Rattle.slope_step.proofs.LineLaws.{lt_is, not_lt_is, times_none, times_split, line_step}
 use Rattle.slope_step.proofs.FunctionLaws.{cost_at_is}
 

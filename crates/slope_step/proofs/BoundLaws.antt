@@ -1,12 +1,6 @@
 -- The values of a step are within the limits.
-use Rattle.std.proofs.Common.{arith, neg_ℤ}
-use Rattle.std.specs.Prelude.{ℤ, pos, ◌+ℤ◌, ◌*ℤ◌}
-use Rattle.std.specs.Int.{int_min}
-use Rattle.std.proofs.lemmas.Int.{ints, clamps}
-use Rattle.uc_model.specs.Limits.{IsFrom, IsOutput, IsCost}
+use Rattle.slope_step.proofs.Common.{arith, neg_ℤ, ℤ, pos, ◌+ℤ◌, ◌*ℤ◌, int_min, ints, clamps, IsFrom, IsOutput, IsCost, Step, IsFairStep}
 use Rattle.uc_model.proofs.SignedLaws.{IsWithin, product_within}
-use Rattle.shape_law.specs.declared.step.Step.{Step}
-use Rattle.shape_law.specs.Steps.{IsFairStep}
 
 module _ (s : Step) (fair : IsFairStep s) (x : ℤ) (out : IsOutput x) where
   pub reserve_within : IsWithin 100000000000000 (s.reserve_price *ℤ int_min s.cap (s.ramp_up +ℤ x))

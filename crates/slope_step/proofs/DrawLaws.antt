@@ -1,11 +1,6 @@
 -- Pieces that are written one after another.
-use Rattle.std.proofs.Common.{◌≡◌, ◌≢◌, ℕ, zero, suc, ◌+◌, ◌<◌, ◌≤◌, List, length, get_or-set_same, get_or-set_other, refl, sym, ap, ◌∙◌, subst, inl, inr, arith}
-use Rattle.std.specs.Prelude.{slice_set, ℤ, pos}
-use Rattle.std.proofs.lemmas.Bool.{cases_lt}
-use Rattle.slope_step.specs.declared.piece.Piece.{Piece}
+use Rattle.slope_step.proofs.Common.{◌≡◌, ◌≢◌, ℕ, zero, suc, ◌+◌, ◌<◌, ◌≤◌, List, length, get_or-set_same, get_or-set_other, refl, sym, ap, ◌∙◌, subst, inl, inr, arith, slice_set, ℤ, pos, cases_lt, Piece, piece, end_at, IsLine, IsDrawn}
 use Rattle.slope_step.specs.declared.draw.Pen.{Pen}
-use Rattle.slope_step.specs.Pieces.{piece, end_at, IsLine}
-use Rattle.slope_step.specs.Drawn.{IsDrawn}
 
 piece_same : (out : List Piece) (i : ℕ) (q : Piece) → i < length out → piece (slice_set out i q) i ≡ q
 piece_same out i q h = get_or-set_same out i q (record { end = pos 0; slope = pos 0 }) h

@@ -1,15 +1,7 @@
 -- A walk over the blocks of a curve.
-use Rattle.std.proofs.Common.{◌≡◌, ℕ, suc, ◌<◌, length, Some, sym, ap, ◌∙◌, arith}
-use Rattle.std.specs.Prelude.{ℤ, ◌+ℤ◌, ◌-ℤ◌, ◌*ℤ◌, ◌≤ℤ◌, ◌<ℤ◌, FitsSigned}
-use Rattle.std.specs.Int.{w64}
-use Rattle.std.proofs.lemmas.Int.{ints}
-use Rattle.uc_model.specs.declared.units.Curve.{Curve}
-use Rattle.shape_law.specs.Curve.{curve_value, end_of, IsLimitedCurve}
-use Rattle.slope_step.specs.Blocks.{width_to}
-use Rattle.slope_step.specs.Totals.{CanGo}
+use Rattle.slope_step.proofs.Common.{◌≡◌, ℕ, suc, ◌<◌, length, Some, sym, ap, ◌∙◌, arith, ℤ, ◌+ℤ◌, ◌-ℤ◌, ◌*ℤ◌, ◌≤ℤ◌, ◌<ℤ◌, FitsSigned, w64, ints, Curve, curve_value, end_of, IsLimitedCurve, width_to, CanGo, rise_at}
 use Rattle.slope_step.proofs.BlockLaws.{block, rise_to, wide_of, width_to-next, rise_to-next, value_in_block, block_place, end_of-width, rise_at_end, curve_value_is, width_to-positive}
 use Rattle.slope_step.proofs.WrapLaws.{coded, IsNear, near_fits, coded_is}
-use Rattle.shape_law.specs.Curve.{rise_at}
 use Rattle.slope_step.proofs.LineLaws.{times_none}
 
 module _ (c : Curve) (limited : IsLimitedCurve c) (k : ℕ) (inside : k < length c.blocks.items) (from value : ℤ)

@@ -1,16 +1,5 @@
 -- A function at the places from a to b as a table, and back.
-use Rattle.std.proofs.Common.{◌≡◌, ℕ, zero, suc, ◌<◌, ◌≤◌, Option, Some, None, refl, sym, ap, ◌∙◌, subst, arith}
-use Rattle.std.specs.Prelude.{ℤ, pos, negsuc, ◌+ℤ◌, ◌-ℤ◌, ◌≤ℤ◌, ◌<ℤ◌, slice_get, MatchOption}
-use Rattle.std.specs.Option.{option_map}
-use Rattle.std.proofs.lemmas.Int.{ints, by_lt_z}
-use Rattle.shape_law.specs.Table.{value_of, offset_value, IsConvex}
-use Rattle.shape_law.specs.Effect.{IsSum, IsCurveSum}
-use Rattle.shape_law.specs.Curve.{curve_value}
-use Rattle.shape_law.specs.Laws.{ConvexityIsOfPlaces}
-use Rattle.uc_model.specs.declared.units.Curve.{Curve}
-use Rattle.slope_step.specs.Blocks.{HasCosts}
-use Rattle.slope_step.specs.Drawn.{cost_at, with_cost}
-use Rattle.slope_step.specs.Pieces.{values_from, places_to, table_on, Curves}
+use Rattle.slope_step.proofs.Common.{◌≡◌, ℕ, zero, suc, ◌<◌, ◌≤◌, Option, Some, None, refl, sym, ap, ◌∙◌, subst, arith, ℤ, pos, negsuc, ◌+ℤ◌, ◌-ℤ◌, ◌≤ℤ◌, ◌<ℤ◌, slice_get, MatchOption, option_map, ints, by_lt_z, value_of, offset_value, IsConvex, IsSum, IsCurveSum, curve_value, ConvexityIsOfPlaces, Curve, HasCosts, cost_at, with_cost, values_from, places_to, table_on, Curves}
 
 get_values : (f : ℤ → ℤ) (x : ℤ) (n k : ℕ) → k < n → slice_get (values_from f x n) k ≡ Some (f (x +ℤ pos k))
 get_values f x zero k h = absurd (omega arith)

@@ -1,21 +1,5 @@
 -- The function less the worth of the reserve, part by part.
-use Rattle.std.proofs.Common.{◌≡◌, ℕ, suc, ◌+◌, ◌<◌, ◌≤◌, List, length, sym, ap, ◌∙◌, subst, inl, inr, arith, neg_ℤ}
-use Rattle.std.specs.Prelude.{ℤ, pos, ◌+ℤ◌, ◌-ℤ◌, ◌*ℤ◌, ◌≤ℤ◌, ◌<ℤ◌}
-use Rattle.std.specs.Int.{int_min}
-use Rattle.std.proofs.lemmas.Int.{ints, clamps, by_lt_z}
-use Rattle.std.proofs.lemmas.Bool.{cases_lt}
-use Rattle.std.proofs.Math.IntN.{zero-*ℤ, *ℤ_comm}
-use Rattle.uc_model.proofs.IntLaws.{mul-add, mul-sub, mul-mono_of}
-use Rattle.shape_law.specs.declared.step.Step.{Step}
-use Rattle.shape_law.specs.Steps.{IsFairStep}
-use Rattle.shape_law.specs.Curve.{reserve_term}
-use Rattle.slope_step.specs.declared.piece.Piece.{Piece}
-use Rattle.slope_step.specs.declared.piece.Start.{Start}
-use Rattle.slope_step.specs.declared.kink.Place.{Place}
-use Rattle.slope_step.specs.Pieces.{piece, end_at, last_place, function_of, AreSlopes, IsLine, Curves}
-use Rattle.slope_step.specs.Kink.{kinked, bend_of, IsLowered, IsPlaced, AreSmall, AreWithin, IsGentle, IsSteep, IsValley, parts_from}
-use Rattle.slope_step.specs.Totals.{CanGo}
-use Rattle.uc_model.specs.Limits.{IsOutput}
+use Rattle.slope_step.proofs.Common.{◌≡◌, ℕ, suc, ◌+◌, ◌<◌, ◌≤◌, List, length, sym, ap, ◌∙◌, subst, inl, inr, arith, neg_ℤ, ℤ, pos, ◌+ℤ◌, ◌-ℤ◌, ◌*ℤ◌, ◌≤ℤ◌, ◌<ℤ◌, int_min, ints, clamps, by_lt_z, cases_lt, zero-*ℤ, *ℤ_comm, mul-add, mul-sub, mul-mono_of, Step, IsFairStep, reserve_term, Piece, Start, Place, piece, end_at, last_place, function_of, AreSlopes, IsLine, Curves, kinked, bend_of, IsLowered, IsPlaced, AreSmall, AreWithin, IsGentle, IsSteep, IsValley, parts_from, CanGo, IsOutput}
 use Rattle.slope_step.proofs.LineLaws.{lt_is, not_lt_is, times_split, line_step, line_part}
 use Rattle.slope_step.proofs.PieceLaws.{ends_rise_to, along_line, along_curves}
 

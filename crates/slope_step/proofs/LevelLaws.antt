@@ -1,11 +1,5 @@
 -- The value of a step at a place, as the code computes it.
-use Rattle.std.proofs.Common.{◌≡◌, ap, ◌∙◌, arith, neg_ℤ}
-use Rattle.std.specs.Prelude.{ℤ, pos, ◌+ℤ◌, ◌-ℤ◌, ◌*ℤ◌, FitsSigned}
-use Rattle.std.specs.Int.{w64, int_min}
-use Rattle.std.proofs.lemmas.Int.{ints}
-use Rattle.uc_model.specs.Limits.{IsFrom, IsOutput, IsCost}
-use Rattle.shape_law.specs.declared.step.Step.{Step}
-use Rattle.shape_law.specs.Steps.{IsFairStep}
+use Rattle.slope_step.proofs.Common.{◌≡◌, ap, ◌∙◌, arith, neg_ℤ, ℤ, pos, ◌+ℤ◌, ◌-ℤ◌, ◌*ℤ◌, FitsSigned, w64, int_min, ints, IsFrom, IsOutput, IsCost, Step, IsFairStep}
 use Rattle.slope_step.proofs.BoundLaws.{reserve_within, slope_within}
 use Rattle.slope_step.proofs.WrapLaws.{coded, IsNear, near_fits, coded_is, output_near, price_near, slope_near, most_near}
 

@@ -1,3 +1,5 @@
+-- The names from elsewhere that the proofs here cite.
+pub mod Common
 -- lines, their parts, sums and moves
 pub mod LineLaws
 -- pieces and the function that they stand for
@@ -28,3 +30,5 @@ pub mod WrapLaws
 pub mod LevelLaws
 -- a walk over the blocks of a curve
 pub mod FindLaws
+-- The lemmas that answers cite.
+pub mod Lemmas

@@ -1,10 +1,5 @@
 -- Lines: functions of one slope from one place to another.
-use Rattle.std.proofs.Common.{◌≡◌, ap, ◌∙◌, arith, true, false}
-use Rattle.std.specs.Prelude.{ℤ, pos, ◌+ℤ◌, ◌-ℤ◌, ◌*ℤ◌, ◌≤ℤ◌, ◌<ℤ◌, int_lt}
-use Rattle.std.proofs.lemmas.Int.{ints}
-use Rattle.std.proofs.Math.IntN.{one, *ℤ-one, *ℤ-zero, zero-*ℤ, *ℤ_comm}
-use Rattle.uc_model.proofs.IntLaws.{mul-add, mul-sub}
-use Rattle.slope_step.specs.Pieces.{IsLine}
+use Rattle.slope_step.proofs.Common.{◌≡◌, ap, ◌∙◌, arith, true, false, ℤ, pos, ◌+ℤ◌, ◌-ℤ◌, ◌*ℤ◌, ◌≤ℤ◌, ◌<ℤ◌, int_lt, ints, one, *ℤ-one, *ℤ-zero, zero-*ℤ, *ℤ_comm, mul-add, mul-sub, IsLine}
 
 pub lt_is : (a b : ℤ) → a <ℤ b → int_lt a b ≡ true
 lt_is a b h = grind (arith, ints)

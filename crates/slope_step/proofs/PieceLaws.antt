@@ -1,11 +1,6 @@
 -- Pieces, and the function that they stand for.
-use Rattle.std.proofs.Common.{◌≡◌, ℕ, zero, suc, ◌+◌, ◌-◌, ◌<◌, ◌≤◌, List, [], ◌∷◌, length, take, refl, sym, ap, ◌∙◌, subst, inl, inr, arith}
-use Rattle.std.specs.Prelude.{ℤ, pos, ◌+ℤ◌, ◌-ℤ◌, ◌*ℤ◌, ◌≤ℤ◌, ◌<ℤ◌}
-use Rattle.std.proofs.lemmas.Int.{ints, by_lt_z}
+use Rattle.slope_step.proofs.Common.{◌≡◌, ℕ, zero, suc, ◌+◌, ◌-◌, ◌<◌, ◌≤◌, List, [], ◌∷◌, length, take, refl, sym, ap, ◌∙◌, subst, inl, inr, arith, ℤ, pos, ◌+ℤ◌, ◌-ℤ◌, ◌*ℤ◌, ◌≤ℤ◌, ◌<ℤ◌, ints, by_lt_z, cases_lt, Piece, piece, end_at, value_along, last_place, AreSlopes, IsLine, Stand, Curves}
 use Rattle.std.proofs.lemmas.List.{get_or-take, length-take-le}
-use Rattle.std.proofs.lemmas.Bool.{cases_lt}
-use Rattle.slope_step.specs.declared.piece.Piece.{Piece}
-use Rattle.slope_step.specs.Pieces.{piece, end_at, value_along, last_place, AreSlopes, IsLine, Stand, Curves}
 use Rattle.slope_step.proofs.LineLaws.{lt_is, not_lt_is, times_none, line_step, line_same}
 
 pub end_at-tail : (first : ℤ) (p : Piece) (ps : List Piece) (k : ℕ) → end_at first (p ∷ ps) (suc k) ≡ end_at p.end ps k

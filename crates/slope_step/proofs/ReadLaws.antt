@@ -1,17 +1,5 @@
 -- What is read off pieces.
-use Rattle.std.proofs.Common.{◌≡◌, ℕ, suc, ◌+◌, ◌-◌, ◌<◌, ◌≤◌, List, length, refl, sym, ap, ◌∙◌, subst, below_more, inl, inr, arith, Some}
-use Rattle.std.specs.Prelude.{ℤ, pos, ◌+ℤ◌, ◌-ℤ◌, ◌*ℤ◌, ◌≤ℤ◌, ◌<ℤ◌}
-use Rattle.std.specs.Int.{int_min, int_max}
-use Rattle.std.proofs.lemmas.Int.{ints, clamps, by_lt_z}
-use Rattle.std.proofs.lemmas.Bool.{cases_lt}
-use Rattle.shape_law.specs.Effect.{IsLeastIn}
-use Rattle.shape_law.specs.Table.{HasNone, IsAmount}
-use Rattle.slope_step.specs.declared.piece.Piece.{Piece}
-use Rattle.slope_step.specs.declared.piece.Start.{Start}
-use Rattle.slope_step.specs.Pieces.{piece, end_at, last_place, function_of, table_on, AreSlopes}
-use Rattle.slope_step.specs.Kink.{AreWithin, IsValley}
-use Rattle.slope_step.specs.Below.{IsAbove}
-use Rattle.slope_step.specs.Totals.{CanGo}
+use Rattle.slope_step.proofs.Common.{◌≡◌, ℕ, suc, ◌+◌, ◌-◌, ◌<◌, ◌≤◌, List, length, refl, sym, ap, ◌∙◌, subst, below_more, inl, inr, arith, Some, ℤ, pos, ◌+ℤ◌, ◌-ℤ◌, ◌*ℤ◌, ◌≤ℤ◌, ◌<ℤ◌, int_min, int_max, ints, clamps, by_lt_z, cases_lt, IsLeastIn, HasNone, IsAmount, Piece, Start, piece, end_at, last_place, function_of, table_on, AreSlopes, AreWithin, IsValley, IsAbove, CanGo}
 use Rattle.slope_step.specs.Laws.{PiecesBegin, PiecesEnd}
 use Rattle.slope_step.proofs.LineLaws.{line_step}
 use Rattle.slope_step.proofs.PieceLaws.{ends_rise_to, slopes_rise, along_first, along_line, held}

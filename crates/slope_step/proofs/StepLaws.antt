@@ -1,23 +1,5 @@
 -- The parts of a step together.
-use Rattle.std.proofs.Common.{◌≡◌, ℕ, zero, suc, ◌+◌, ◌-◌, ◌≤◌, List, [], length, take, Option, Some, None, refl, sym, ap, ◌∙◌, subst, arith}
-use Rattle.std.specs.Prelude.{ℤ, pos, negsuc, ◌+ℤ◌, ◌-ℤ◌, ◌*ℤ◌, ◌≤ℤ◌, ◌<ℤ◌, MatchOption}
-use Rattle.std.specs.Int.{int_min, int_max}
-use Rattle.std.proofs.lemmas.Int.{ints, clamps}
-use Rattle.uc_model.specs.declared.units.Curve.{Curve}
-use Rattle.uc_model.specs.Limits.{IsOutput, IsCost}
-use Rattle.shape_law.specs.declared.step.Step.{Step}
-use Rattle.shape_law.specs.Curve.{curve_value, reserve_term}
-use Rattle.shape_law.specs.Laws.{StepKeepsConvexity, ConvexityIsOfPlaces}
-use Rattle.shape_law.specs.Steps.{IsFairStep, IsCostOf, IsStepped, IsSmall}
-use Rattle.shape_law.specs.Table.{Table, value_of, offset_value, IsConvex, IsPlace, IsAmount}
-use Rattle.slope_step.specs.declared.piece.Piece.{Piece}
-use Rattle.slope_step.specs.declared.piece.Start.{Start}
-use Rattle.slope_step.specs.Pieces.{piece, end_at, last_place, function_of, table_on, table_of, AreSlopes, Stand}
-use Rattle.slope_step.specs.Kink.{kinked, AreSmall, AreWithin, AreGentle, IsValley}
-use Rattle.slope_step.specs.Window.{nearest, moved}
-use Rattle.slope_step.specs.Blocks.{HasCosts}
-use Rattle.slope_step.specs.Drawn.{cost_at, paid, stepped}
-use Rattle.slope_step.specs.Turn.{IsTurn}
+use Rattle.slope_step.proofs.Common.{◌≡◌, ℕ, zero, suc, ◌+◌, ◌-◌, ◌≤◌, List, [], length, take, Option, Some, None, refl, sym, ap, ◌∙◌, subst, arith, ℤ, pos, negsuc, ◌+ℤ◌, ◌-ℤ◌, ◌*ℤ◌, ◌≤ℤ◌, ◌<ℤ◌, MatchOption, int_min, int_max, ints, clamps, Curve, IsOutput, IsCost, Step, curve_value, reserve_term, StepKeepsConvexity, ConvexityIsOfPlaces, IsFairStep, IsCostOf, IsStepped, IsSmall, Table, value_of, offset_value, IsConvex, IsPlace, IsAmount, Piece, Start, piece, end_at, last_place, function_of, table_on, table_of, AreSlopes, Stand, kinked, AreSmall, AreWithin, AreGentle, IsValley, nearest, moved, HasCosts, cost_at, paid, stepped, IsTurn}
 use Rattle.slope_step.proofs.LineLaws.{line_step}
 use Rattle.slope_step.proofs.PieceLaws.{ends_rise_to, along_line, along_curves, along_from_stand, last_place-take, stand-take}
 use Rattle.slope_step.proofs.FunctionLaws.{on_inside, by_place, on_same, IsConvex-from_curves, convex_steps, IsSum-on, IsCurveSum-on, cost_at_is}

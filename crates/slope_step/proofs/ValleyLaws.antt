@@ -1,13 +1,5 @@
 -- A valley: a part that falls and a part that doesn't, and the window over it.
-use Rattle.std.proofs.Common.{◌≡◌, ℕ, zero, suc, Some, refl, sym, ap, ◌∙◌, arith}
-use Rattle.std.specs.Prelude.{ℤ, pos, negsuc, ◌+ℤ◌, ◌-ℤ◌, ◌≤ℤ◌, ◌<ℤ◌}
-use Rattle.std.specs.Int.{int_min, int_max}
-use Rattle.std.proofs.lemmas.Int.{ints, clamps, by_lt_z}
-use Rattle.shape_law.specs.Effect.{IsWindow, IsLeast}
-use Rattle.slope_step.specs.Pieces.{table_on}
-use Rattle.slope_step.specs.Kink.{IsValley}
-use Rattle.slope_step.specs.Turn.{IsBottom}
-use Rattle.slope_step.specs.Window.{nearest}
+use Rattle.slope_step.proofs.Common.{◌≡◌, ℕ, zero, suc, Some, refl, sym, ap, ◌∙◌, arith, ℤ, pos, negsuc, ◌+ℤ◌, ◌-ℤ◌, ◌≤ℤ◌, ◌<ℤ◌, int_min, int_max, ints, clamps, by_lt_z, IsWindow, IsLeast, table_on, IsValley, IsBottom, nearest}
 use Rattle.slope_step.proofs.FunctionLaws.{on_inside, on_back}
 
 steps_by : (x y d : ℤ) → y -ℤ x ≡ d → x ≤ℤ y → (k : ℕ) × (y ≡ x +ℤ pos k)

@@ -1,15 +1,5 @@
 -- The parts of the window: the nearest place in reach goes along with each.
-use Rattle.std.proofs.Common.{◌≡◌, ℕ, ◌+◌, ◌<◌, ◌≤◌, List, length, refl, sym, ap, ◌∙◌, arith}
-use Rattle.std.specs.Prelude.{ℤ, pos, ◌+ℤ◌, ◌-ℤ◌, ◌*ℤ◌, ◌≤ℤ◌, ◌<ℤ◌, int_lt, if◌then◌else◌, negsuc, unsigned_abs}
-use Rattle.std.specs.Int.{int_min}
-use Rattle.std.proofs.lemmas.Int.{ints, clamps, by_lt_z}
-use Rattle.std.proofs.Math.IntN.{zero-*ℤ}
-use Rattle.shape_law.specs.declared.step.Step.{Step}
-use Rattle.slope_step.specs.declared.piece.Piece.{Piece}
-use Rattle.slope_step.specs.declared.kink.Place.{Place}
-use Rattle.slope_step.specs.Pieces.{IsLine}
-use Rattle.slope_step.specs.Kink.{bend_of, parts_from, IsValley}
-use Rattle.slope_step.specs.Window.{nearest, moved_parts, IsFlat}
+use Rattle.slope_step.proofs.Common.{◌≡◌, ℕ, ◌+◌, ◌<◌, ◌≤◌, List, length, refl, sym, ap, ◌∙◌, arith, ℤ, pos, ◌+ℤ◌, ◌-ℤ◌, ◌*ℤ◌, ◌≤ℤ◌, ◌<ℤ◌, int_lt, if◌then◌else◌, negsuc, unsigned_abs, int_min, ints, clamps, by_lt_z, zero-*ℤ, Step, Piece, Place, IsLine, bend_of, parts_from, IsValley, nearest, moved_parts, IsFlat}
 use Rattle.slope_step.proofs.LineLaws.{lt_is, not_lt_is, line_step, line_moved, line_same, line_flat}
 
 -- a part of the window from x to x'

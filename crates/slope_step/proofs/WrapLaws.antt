@@ -1,12 +1,5 @@
 -- Numbers that fit 64 bits are those that the code computes with.
-use Rattle.std.proofs.Common.{◌≡◌, true, false, arith, neg_ℤ, to_z, of_z}
-use Rattle.std.specs.Prelude.{ℤ, pos, ◌+ℤ◌, ◌-ℤ◌, ◌≤ℤ◌, ◌<ℤ◌, FitsSigned}
-use Rattle.std.specs.Int.{w64, int_min}
-use Rattle.std.proofs.lemmas.Int.{ints, clamps, to_z-of_z}
-use Rattle.uc_model.specs.Limits.{IsFrom, IsOutput, IsPower}
-use Rattle.shape_law.specs.declared.step.Step.{Step}
-use Rattle.shape_law.specs.Steps.{IsFairStep}
-use lib.Signed.{lt_z}
+use Rattle.slope_step.proofs.Common.{◌≡◌, true, false, arith, neg_ℤ, to_z, of_z, ℤ, pos, ◌+ℤ◌, ◌-ℤ◌, ◌≤ℤ◌, ◌<ℤ◌, FitsSigned, w64, int_min, ints, clamps, to_z-of_z, IsFrom, IsOutput, IsPower, Step, IsFairStep, lt_z}
 
 -- a number as the code has it
 abbrev pub coded : ℤ → ℤ

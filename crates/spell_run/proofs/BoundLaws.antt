@@ -1,17 +1,5 @@
 -- The values of a shape through a step: each part of it may be added.
-use Rattle.std.proofs.Common.{◌≡◌, ℕ, ◌+◌, ◌≤◌, ℤ, pos, neg_ℤ, ◌+ℤ◌, ◌*ℤ◌, Option, Some, None, refl, ap, ◌∙◌, subst, arith}
-use Rattle.std.specs.Option.{option_map}
-use Rattle.std.specs.Int.{int_min}
-use Rattle.std.proofs.lemmas.Int.{ints, clamps}
-use Rattle.std.proofs.Math.IntN.{zero-*ℤ}
-use Rattle.shape_law.specs.Curve.{curve_value, reserve_term}
-use Rattle.shape_law.specs.Effect.{IsSum, IsWindow, CanAddCurve}
-use Rattle.shape_law.specs.Table.{Table, value_of, CanAdd}
-use Rattle.uc_model.specs.declared.units.Curve.{Curve}
-use Rattle.uc_model.specs.Limits.{IsFrom, IsOutput}
-use Rattle.uc_model.proofs.SignedLaws.{IsWithin, product_within}
-use Rattle.shape_law.specs.declared.step.Step.{Step}
-use Rattle.spell_run.specs.Steps.{IsFairStep, IsCostOf, IsKinked, IsSmall}
+use Rattle.spell_run.proofs.Common.{◌≡◌, ℕ, ◌+◌, ◌≤◌, ℤ, pos, neg_ℤ, ◌+ℤ◌, ◌*ℤ◌, Option, Some, None, refl, ap, ◌∙◌, subst, arith, option_map, int_min, ints, clamps, zero-*ℤ, curve_value, reserve_term, IsSum, IsWindow, CanAddCurve, Table, value_of, CanAdd, Curve, IsFrom, IsOutput, IsWithin, product_within, Step, IsFairStep, IsCostOf, IsKinked, IsSmall}
 use Rattle.spell_run.proofs.SumLaws.{added}
 
 -- places are outputs, and values at most n in magnitude

@@ -1,17 +1,5 @@
 -- The numbers of a choice as they are stored, and that they stay within limits.
-use Rattle.std.proofs.Common.{◌≡◌, ℕ, ℤ, pos, nat_abs, ◌+ℤ◌, ◌-ℤ◌, ◌≤ℤ◌, ◌<ℤ◌, Some, sym, ap, ◌∙◌, subst, arith, w64, FitsSigned, to_z, of_z}
-use Rattle.std.specs.Int.{int_min}
-use Rattle.std.proofs.lemmas.Int.{ints, to_z-of_z}
-use Rattle.shape_law.specs.Curve.{reserve_term}
-use Rattle.shape_law.specs.Effect.{IsLeastIn}
-use Rattle.shape_law.specs.Table.{Table, value_of, HasNone}
-use Rattle.uc_model.specs.Data.{Schedule}
-use Rattle.uc_model.specs.Limits.{IsFrom, IsOutput}
-use Rattle.uc_model.proofs.SignedLaws.{IsWithin, fits_within}
-use Rattle.shape_law.specs.declared.step.Step.{Step}
-use Rattle.spell_run.specs.Frontier.{IsWritten, IsChosen}
-use Rattle.spell_run.specs.Laws.{best_reserve}
-use Rattle.spell_run.specs.Steps.{IsFairStep, IsKinked, IsSmall}
+use Rattle.spell_run.proofs.Common.{◌≡◌, ℕ, ℤ, pos, nat_abs, ◌+ℤ◌, ◌-ℤ◌, ◌≤ℤ◌, ◌<ℤ◌, Some, sym, ap, ◌∙◌, subst, arith, w64, FitsSigned, to_z, of_z, int_min, ints, to_z-of_z, reserve_term, IsLeastIn, Table, value_of, HasNone, Schedule, IsFrom, IsOutput, IsWithin, fits_within, Step, IsWritten, IsChosen, best_reserve, IsFairStep, IsKinked, IsSmall}
 use Rattle.spell_run.proofs.ReserveLaws.{best_where_paid, best_may}
 use Rattle.spell_run.proofs.SumLaws.{added}
 

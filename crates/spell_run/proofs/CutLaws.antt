@@ -1,19 +1,6 @@
 -- A function cut above a place, and a step before a stop that only cuts.
-use Rattle.std.proofs.Common.{◌≡◌, ℕ, zero, suc, ◌<◌, ◌≤◌, ◌⊎◌, inl, inr, ℤ, pos, negsuc, ◌+ℤ◌, ◌-ℤ◌, ◌*ℤ◌, ◌≤ℤ◌, ◌<ℤ◌, Bool, true, false, List, [], ◌∷◌, take, Option, Some, None, refl, sym, ap, ◌∙◌, subst, arith}
-use Rattle.std.specs.Prelude.{slice_get, MatchOption}
-use Rattle.std.specs.Option.{option_map}
-use Rattle.std.proofs.lemmas.Int.{ints, by_lt_z}
-use Rattle.cost_curve.specs.CostCurve.{IsCostCurve}
-use Rattle.shape_law.specs.Curve.{curve_value, reserve_term}
-use Rattle.shape_law.specs.Effect.{IsLeast, IsLeastIn, IsSum, IsCurveSum}
-use Rattle.shape_law.specs.Table.{Table, value_of, offset_value}
+use Rattle.spell_run.proofs.Common.{◌≡◌, ℕ, zero, suc, ◌<◌, ◌≤◌, ◌⊎◌, inl, inr, ℤ, pos, negsuc, ◌+ℤ◌, ◌-ℤ◌, ◌*ℤ◌, ◌≤ℤ◌, ◌<ℤ◌, Bool, true, false, List, [], ◌∷◌, take, Option, Some, None, refl, sym, ap, ◌∙◌, subst, arith, slice_get, MatchOption, option_map, ints, by_lt_z, IsCostCurve, curve_value, reserve_term, IsLeast, IsLeastIn, IsSum, IsCurveSum, Table, value_of, offset_value, IsTurn, Curve, ThermalUnit, PriceLists, IsThermalUnit, int_at, cap_at, step_at, IsKinked, IsStepped}
 use Rattle.slope_step.specs.Pieces.{places_to}
-use Rattle.slope_step.specs.Turn.{IsTurn}
-use Rattle.uc_model.specs.declared.units.Curve.{Curve}
-use Rattle.uc_model.specs.Data.{ThermalUnit, PriceLists}
-use Rattle.uc_model.specs.Limits.{IsThermalUnit}
-use Rattle.uc_model.specs.Sums.{int_at}
-use Rattle.spell_run.specs.Steps.{cap_at, step_at, IsKinked, IsStepped}
 use Rattle.spell_run.proofs.StepLaws.{under_cap, cap_over, under_most, step_sound}
 
 -- ---- places of a table

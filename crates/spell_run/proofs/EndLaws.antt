@@ -1,22 +1,6 @@
 -- What is noted of the last step of a spell.
-use Rattle.std.proofs.Common.{◌≡◌, ℕ, suc, ◌<◌, ltb, eqb, ◌⊎◌, ℤ, pos, ◌≤ℤ◌, Bool, true, false, length, Option, Some, None, sym, ◌∙◌, subst, arith}
-use Rattle.std.specs.Prelude.{IfSome, IfNone, MatchOption}
-use Rattle.std.proofs.lemmas.Bool.{lt-ltb, le-ltb}
-use Rattle.cost_curve.specs.CostCurve.{IsCostCurve}
-use Rattle.shape_law.specs.Effect.{IsLeast, IsLeastIn}
-use Rattle.shape_law.specs.Table.{Table, value_of, IsEmpty, HasNone}
-use Rattle.slope_list.specs.declared.slopes.Lowest.{Lowest}
+use Rattle.spell_run.proofs.Common.{◌≡◌, ℕ, suc, ◌<◌, ltb, eqb, ◌⊎◌, ℤ, pos, ◌≤ℤ◌, Bool, true, false, length, Option, Some, None, sym, ◌∙◌, subst, arith, IfSome, IfNone, MatchOption, lt-ltb, le-ltb, IsCostCurve, IsLeast, IsLeastIn, Table, value_of, IsEmpty, HasNone, Lowest, IsTurn, Curve, ThermalUnit, PriceLists, IsThermalUnit, int_at, Note, IsFrontier, IsNoted, IsEndNoted, end_cost, IsSpellWithin, cap_at, step_at, IsStepped, IsLeastCost, IsLeastCostIn}
 use Rattle.slope_step.specs.declared.read.Spot.{Spot}
-use Rattle.slope_step.specs.Turn.{IsTurn}
-use Rattle.uc_model.specs.declared.units.Curve.{Curve}
-use Rattle.uc_model.specs.Data.{ThermalUnit, PriceLists}
-use Rattle.uc_model.specs.Limits.{IsThermalUnit}
-use Rattle.uc_model.specs.Sums.{int_at}
-use Rattle.spell_run.specs.declared.way.Note.{Note}
-use Rattle.spell_run.specs.Frontier.{IsFrontier}
-use Rattle.spell_run.specs.Notes.{IsNoted, IsEndNoted, end_cost}
-use Rattle.spell_run.specs.Spells.{IsSpellWithin}
-use Rattle.spell_run.specs.Steps.{cap_at, step_at, IsStepped, IsLeastCost, IsLeastCostIn}
 use Rattle.spell_run.proofs.CutLaws.{cut, stepped_cut, least_cut, turn_alike}
 use Rattle.spell_run.proofs.NoteLaws.{frontier_same}
 use Rattle.spell_run.proofs.RunLaws.{run_less}

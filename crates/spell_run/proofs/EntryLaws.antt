@@ -1,8 +1,5 @@
 -- Entries by last period.
-use Rattle.std.proofs.Common.{◌≡◌, ℕ, zero, suc, ◌+◌, ◌-◌, ◌<◌, ◌≤◌, ◌≢◌, inl, inr, ℤ, Bool, true, false, List, length, get_or, set, Option, None, sym, ap, ◌∙◌, subst, arith, get_or-set_same, get_or-set_other}
-use Rattle.std.proofs.lemmas.Bool.{cases_lt}
-use Rattle.spell_run.specs.Entries.{entry_of}
-use Rattle.spell_run.specs.Spells.{spell_first}
+use Rattle.spell_run.proofs.Common.{◌≡◌, ℕ, zero, suc, ◌+◌, ◌-◌, ◌<◌, ◌≤◌, ◌≢◌, inl, inr, ℤ, Bool, true, false, List, length, get_or, set, Option, None, sym, ap, ◌∙◌, subst, arith, get_or-set_same, get_or-set_other, cases_lt, entry_of, spell_first}
 
 -- one more entry
 module _ (xs ys : List (Option ℤ)) (place : ℕ) (o : Option ℤ) (is : ys ≡ set xs place o) where

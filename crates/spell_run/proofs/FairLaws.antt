@@ -1,24 +1,6 @@
 -- The numbers of a unit's step are within limits, and the curve of its points is a cost of the step.
-use Rattle.std.proofs.Common.{◌≡◌, ℕ, suc, ◌-◌, ◌<◌, ◌⊎◌, inl, inr, ℤ, pos, neg_ℤ, ◌+ℤ◌, ◌-ℤ◌, ◌≤ℤ◌, Bool, true, false, cond, List, length, Option, Some, IsSome, refl, sym, ap, ◌∙◌, subst, arith, w64, FitsSigned, to_z, of_z}
-use Rattle.std.specs.Prelude.{slice_get}
-use Rattle.std.specs.Int.{int_min}
-use Rattle.std.specs.Option.{option_map}
-use Rattle.std.proofs.lemmas.Int.{ints, clamps, to_z-of_z}
-use Rattle.std.proofs.lemmas.Option.{get_or_from_slice_get}
-use Rattle.cost_curve.specs.CostCurve.{IsCostCurve, AreCostPoints, EnvelopeIsCost}
-use Rattle.shape_law.specs.Curve.{curve_value, end_of, reserve_term, IsLimitedCurve}
-use Rattle.shape_law.specs.Effect.{IsSame}
-use Rattle.shape_law.specs.Lookup.{same_some}
-use Rattle.shape_law.specs.Table.{Table, IsPlace, IsAmount}
-use Rattle.uc_model.specs.declared.units.Curve.{Curve}
+use Rattle.spell_run.proofs.Common.{◌≡◌, ℕ, suc, ◌-◌, ◌<◌, ◌⊎◌, inl, inr, ℤ, pos, neg_ℤ, ◌+ℤ◌, ◌-ℤ◌, ◌≤ℤ◌, Bool, true, false, cond, List, length, Option, Some, IsSome, refl, sym, ap, ◌∙◌, subst, arith, w64, FitsSigned, to_z, of_z, slice_get, int_min, option_map, ints, clamps, to_z-of_z, get_or_from_slice_get, IsCostCurve, AreCostPoints, EnvelopeIsCost, curve_value, end_of, reserve_term, IsLimitedCurve, IsSame, same_some, Table, IsPlace, IsAmount, Curve, ThermalUnit, PriceLists, envelope, IsFrom, IsPower, IsOutput, IsCost, IsThermalUnit, ArePrices, int_at, fits_within, Step, cap_at, step_at, IsFairStep, IsCostOf, IsStepped, IsSmall, IsLeastCostIn}
 use Rattle.uc_model.specs.declared.units.Point.{Point}
-use Rattle.uc_model.specs.Data.{ThermalUnit, PriceLists}
-use Rattle.uc_model.specs.Envelope.{envelope}
-use Rattle.uc_model.specs.Limits.{IsFrom, IsPower, IsOutput, IsCost, IsThermalUnit, ArePrices}
-use Rattle.uc_model.specs.Sums.{int_at}
-use Rattle.uc_model.proofs.SignedLaws.{fits_within}
-use Rattle.shape_law.specs.declared.step.Step.{Step}
-use Rattle.spell_run.specs.Steps.{cap_at, step_at, IsFairStep, IsCostOf, IsStepped, IsSmall, IsLeastCostIn}
 use Rattle.spell_run.proofs.StepLaws.{under_cap, under_most, cost_on}
 
 pub read_is : (xs : List ℤ) (k : ℕ) (v : ℤ) → slice_get xs k ≡ Some v → v ≡ int_at xs k

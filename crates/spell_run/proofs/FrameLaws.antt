@@ -1,8 +1,5 @@
 -- What calls on shapes that came and went leave of the others, by the laws of shapes.
-use Rattle.std.proofs.Common.{ℕ, List, [], sym, subst}
-use Rattle.shape_law.specs.Cell.{Cell, Frame}
-use Rattle.shape_law.specs.Laws.{StaysAs, OthersStay}
-use Rattle.shape_law.specs.Table.{Table}
+use Rattle.spell_run.proofs.Common.{ℕ, List, [], sym, subst, Cell, Frame, StaysAs, OthersStay, Table}
 
 module _ {H S : Type 0} {cell_list : H → List Cell} {is_in : H → S → Type 0} {numbers : H → S → List ℕ} {function : H → S → Table}
     (law : OthersStay cell_list is_in numbers function) (h h' : H) (s : S) (frame : Frame cell_list is_in numbers [] [] h h') (here : is_in h s) where

@@ -1,22 +1,5 @@
 -- The frontier of a spell's first periods: its beginning, one more period, and the least costs that are read off it.
-use Rattle.std.proofs.Common.{◌≡◌, ℕ, zero, suc, ◌+◌, ◌-◌, ◌*◌, ◌<◌, ◌≤◌, ◌⊎◌, inl, inr, ℤ, pos, neg_ℤ, ◌+ℤ◌, ◌≤ℤ◌, Bool, true, false, cond, eqb, ltb, length, Option, Some, None, IfSome, refl, sym, ap, ◌∙◌, subst, arith, length-set}
-use Rattle.std.proofs.lemmas.Int.{ints}
-use Rattle.std.proofs.lemmas.Bool.{lt-ltb}
-use Rattle.std.proofs.lemmas.List.{length-replicate}
-use Rattle.cost_curve.specs.CostCurve.{IsCostCurve, EnvelopeIsCost}
-use Rattle.shape_law.specs.Effect.{IsPoint}
-use Rattle.shape_law.specs.Lookup.{same_some}
-use Rattle.shape_law.specs.Table.{Table, value_of}
-use Rattle.uc_model.specs.declared.units.Curve.{Curve}
-use Rattle.uc_model.specs.Data.{ThermalUnit, PriceLists, Schedule}
-use Rattle.uc_model.specs.Limits.{IsFrom, IsOutput, IsThermalUnit, ArePrices}
-use Rattle.uc_model.specs.Schedules.{power_in, reserve_in}
-use Rattle.uc_model.specs.Sums.{int_at}
-use Rattle.uc_model.proofs.SignedLaws.{IsWithin}
-use Rattle.spell_run.specs.Entries.{IsSpellStart}
-use Rattle.spell_run.specs.Frontier.{IsReached, IsFrontier}
-use Rattle.spell_run.specs.Spells.{spell_first, IsDispatch, net_cost_at, net_cost, spell_cost, IsSpellAnswer, IsSpellWithin}
-use Rattle.spell_run.specs.Steps.{cap_at, step_at, IsMove, level, IsRun, IsStepped, IsSmall, IsLeastCost, IsLeastCostIn}
+use Rattle.spell_run.proofs.Common.{◌≡◌, ℕ, zero, suc, ◌+◌, ◌-◌, ◌*◌, ◌<◌, ◌≤◌, ◌⊎◌, inl, inr, ℤ, pos, neg_ℤ, ◌+ℤ◌, ◌≤ℤ◌, Bool, true, false, cond, eqb, ltb, length, Option, Some, None, IfSome, refl, sym, ap, ◌∙◌, subst, arith, length-set, ints, lt-ltb, length-replicate, IsCostCurve, EnvelopeIsCost, IsPoint, same_some, Table, value_of, Curve, ThermalUnit, PriceLists, Schedule, IsFrom, IsOutput, IsThermalUnit, ArePrices, power_in, reserve_in, int_at, IsWithin, IsSpellStart, IsReached, IsFrontier, spell_first, IsDispatch, net_cost_at, net_cost, spell_cost, IsSpellAnswer, IsSpellWithin, cap_at, step_at, IsMove, level, IsRun, IsStepped, IsSmall, IsLeastCost, IsLeastCostIn}
 use Rattle.spell_run.proofs.RunLaws.{level_before, level_within, level_power, level_same, move_same, run_alike, run_more, run_less, cost_alike, cost_more, cost_none, cost_zero, with_period, written_power, written_reserve, written_alike, blank, blank_reserve, natural, reserve_not_negative, MayEnd, move_parts, move_whole, dispatch_from_run, run_from_dispatch, end_from_dispatch}
 use Rattle.spell_run.proofs.StepLaws.{under_cap, under_most, most_over, IsFromMove, step_sound, step_complete, net_within}
 

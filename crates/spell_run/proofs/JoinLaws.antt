@@ -1,15 +1,6 @@
 -- A period of one spell behind a run of another.
-use Rattle.std.proofs.Common.{◌≡◌, ℕ, suc, ◌<◌, ◌≤◌, ℤ, pos, ◌+ℤ◌, ◌≤ℤ◌, Bool, true, false, eqb, Some, length, refl, sym, ap, ◌∙◌, subst, arith}
-use Rattle.std.proofs.lemmas.Int.{ints}
-use Rattle.std.proofs.lemmas.Bool.{eqb-true}
-use Rattle.shape_law.specs.Table.{Table, value_of}
-use Rattle.uc_model.specs.Data.{ThermalUnit, PriceLists, Schedule}
-use Rattle.uc_model.specs.Limits.{IsThermalUnit}
-use Rattle.uc_model.specs.Schedules.{power_in, reserve_in}
-use Rattle.spell_run.specs.Frontier.{IsFrontier}
+use Rattle.spell_run.proofs.Common.{◌≡◌, ℕ, suc, ◌<◌, ◌≤◌, ℤ, pos, ◌+ℤ◌, ◌≤ℤ◌, Bool, true, false, eqb, Some, length, refl, sym, ap, ◌∙◌, subst, arith, ints, eqb-true, Table, value_of, ThermalUnit, PriceLists, Schedule, IsThermalUnit, power_in, reserve_in, IsFrontier, IsDispatch, net_cost_at, net_cost, spell_cost, IsMove, level, IsRun}
 use Rattle.spell_run.specs.Joins.{IsRunOn, IsDispatchOn, RunsGoOn, DispatchesGoOn, DispatchesAreRuns}
-use Rattle.spell_run.specs.Spells.{IsDispatch, net_cost_at, net_cost, spell_cost}
-use Rattle.spell_run.specs.Steps.{IsMove, level, IsRun}
 use Rattle.spell_run.proofs.RunLaws.{level_power, level_same, move_same, run_alike, run_more, cost_alike, cost_more, with_period, written_power, written_reserve, written_alike, natural, reserve_not_negative, dispatch_from_run, run_from_dispatch, end_from_dispatch}
 use Rattle.spell_run.proofs.StepLaws.{under_cap, cap_over}
 

@@ -1,3 +1,5 @@
+-- The names from elsewhere that the proofs here cite.
+pub mod Common
 pub mod BoundLaws
 pub mod ChoiceLaws
 pub mod CutLaws
@@ -17,3 +19,5 @@ pub mod SumLaws
 pub mod TieLaws
 pub mod TurnLaws
 pub mod WayLaws
+-- The lemmas that answers cite.
+pub mod Lemmas

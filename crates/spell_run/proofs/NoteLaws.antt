@@ -1,28 +1,7 @@
 -- The way back by what the steps noted: the place nearest to the turn is the cheapest power before, and the periods that
 -- are written for it are a way on.
-use Rattle.std.proofs.Common.{◌≡◌, ℕ, zero, suc, ◌-◌, ◌<◌, ◌≤◌, ltb, eqb, ◌⊎◌, inl, inr, ℤ, pos, ◌+ℤ◌, ◌-ℤ◌, ◌≤ℤ◌, ◌<ℤ◌, Bool, true, false, length, Some, refl, sym, ap, ◌∙◌, subst, arith}
-use Rattle.std.specs.Option.{option_map}
-use Rattle.std.specs.Int.{int_min, int_max}
-use Rattle.std.proofs.lemmas.Int.{ints, clamps, by_lt_z}
-use Rattle.cost_curve.specs.CostCurve.{EnvelopeIsCost}
-use Rattle.shape_law.specs.Curve.{reserve_term}
-use Rattle.shape_law.specs.Effect.{IsPoint, IsLeast, IsLeastIn, Reaches}
-use Rattle.shape_law.specs.Lookup.{same_some}
-use Rattle.shape_law.specs.Table.{Table, value_of}
-use Rattle.shape_law.specs.declared.step.Step.{Step}
-use Rattle.slope_step.specs.Turn.{IsBottom, IsTurn, IsFirst, IsLast}
-use Rattle.uc_model.specs.Data.{ThermalUnit, PriceLists, Schedule}
-use Rattle.uc_model.specs.Limits.{IsOutput, IsThermalUnit, ArePrices}
-use Rattle.uc_model.specs.Sums.{int_at}
-use Rattle.slope_list.specs.declared.slopes.Lowest.{Lowest}
-use Rattle.spell_run.specs.declared.way.Note.{Note}
+use Rattle.spell_run.proofs.Common.{◌≡◌, ℕ, zero, suc, ◌-◌, ◌<◌, ◌≤◌, ltb, eqb, ◌⊎◌, inl, inr, ℤ, pos, ◌+ℤ◌, ◌-ℤ◌, ◌≤ℤ◌, ◌<ℤ◌, Bool, true, false, length, Some, refl, sym, ap, ◌∙◌, subst, arith, option_map, int_min, int_max, ints, clamps, by_lt_z, EnvelopeIsCost, reserve_term, IsPoint, IsLeast, IsLeastIn, Reaches, same_some, Table, value_of, Step, IsBottom, IsTurn, IsFirst, IsLast, ThermalUnit, PriceLists, Schedule, IsOutput, IsThermalUnit, ArePrices, int_at, Lowest, Note, IsSpellStart, IsOnFromTo, IsSameOutside, IsFrontier, IsWritten, IsChosen, IsWayFrom, best_reserve, IsNoted, IsEndNoted, IsSpellNoted, IsCheapest, spell_first, IsBestDispatch, IsFirstDispatch, spell_cost, cap_at, step_at, level, IsStepped}
 use Rattle.spell_run.specs.declared.way.Passed.{Passed}
-use Rattle.spell_run.specs.Entries.{IsSpellStart, IsOnFromTo, IsSameOutside}
-use Rattle.spell_run.specs.Frontier.{IsFrontier, IsWritten, IsChosen, IsWayFrom}
-use Rattle.spell_run.specs.Laws.{best_reserve}
-use Rattle.spell_run.specs.Notes.{IsNoted, IsEndNoted, IsSpellNoted, IsCheapest}
-use Rattle.spell_run.specs.Spells.{spell_first, IsBestDispatch, IsFirstDispatch, spell_cost}
-use Rattle.spell_run.specs.Steps.{cap_at, step_at, level, IsStepped}
 use Rattle.spell_run.proofs.ChoiceLaws.{stored, output_stored}
 use Rattle.spell_run.proofs.CutLaws.{between_places}
 use Rattle.spell_run.proofs.FairLaws.{cap_out}

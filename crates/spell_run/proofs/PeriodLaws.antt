@@ -1,23 +1,5 @@
 -- One period of the way back, as its function has it.
-use Rattle.std.proofs.Common.{◌≡◌, ℕ, suc, ◌<◌, ◌≤◌, inl, inr, ℤ, pos, ◌+ℤ◌, ◌≤ℤ◌, Bool, false, eqb, ltb, length, get_or, Option, Some, None, Result, Ok, Err, IfOk, IfSome, MatchOption, sym, ap, ◌∙◌, subst, arith}
-use Rattle.std.specs.Prelude.{IsTrue}
-use Rattle.std.specs.Option.{option_map}
-use Rattle.std.proofs.lemmas.Int.{ints}
-use Rattle.std.proofs.lemmas.Bool.{cases_lt}
-use Rattle.cost_curve.specs.CostCurve.{IsCostCurve, EnvelopeIsCost}
-use Rattle.shape_law.specs.Curve.{reserve_term}
-use Rattle.shape_law.specs.Effect.{IsLeast}
-use Rattle.shape_law.specs.Table.{Table, value_of, IsEmpty}
-use Rattle.uc_model.specs.declared.units.Curve.{Curve}
-use Rattle.uc_model.specs.Data.{ThermalUnit, PriceLists, Schedule}
-use Rattle.uc_model.specs.Limits.{IsFrom, IsThermalUnit, ArePrices}
-use Rattle.uc_model.specs.Sums.{int_at}
-use Rattle.spell_run.specs.declared.best.Found.{Found}
-use Rattle.shape_law.specs.declared.step.Step.{Step}
-use Rattle.spell_run.specs.Entries.{IsOnFromTo}
-use Rattle.spell_run.specs.Frontier.{IsFrontier, IsWritten, IsChosen, IsUnreached, IsWayFrom, stops_at}
-use Rattle.spell_run.specs.Spells.{HasNoDispatch, IsSpellAnswer, IsSpellWithin}
-use Rattle.spell_run.specs.Steps.{cap_at, step_at, IsStepped, IsSmall, IsLeastCost}
+use Rattle.spell_run.proofs.Common.{◌≡◌, ℕ, suc, ◌<◌, ◌≤◌, inl, inr, ℤ, pos, ◌+ℤ◌, ◌≤ℤ◌, Bool, false, eqb, ltb, length, get_or, Option, Some, None, Result, Ok, Err, IfOk, IfSome, MatchOption, sym, ap, ◌∙◌, subst, arith, IsTrue, option_map, ints, cases_lt, IsCostCurve, EnvelopeIsCost, reserve_term, IsLeast, Table, value_of, IsEmpty, Curve, ThermalUnit, PriceLists, Schedule, IsFrom, IsThermalUnit, ArePrices, int_at, Found, Step, IsOnFromTo, IsFrontier, IsWritten, IsChosen, IsUnreached, IsWayFrom, stops_at, HasNoDispatch, IsSpellAnswer, IsSpellWithin, cap_at, step_at, IsStepped, IsSmall, IsLeastCost}
 use Rattle.spell_run.proofs.FairLaws.{IsStep}
 use Rattle.spell_run.proofs.FrontierLaws.{small_frontier, frontier_more, answer_of_step}
 use Rattle.spell_run.proofs.StepLaws.{IsFromMove, step_sound}

@@ -1,11 +1,5 @@
 -- The best reserve for given powers.
-use Rattle.std.proofs.Common.{◌≡◌, ℤ, pos, ◌+ℤ◌, ◌-ℤ◌, ◌*ℤ◌, ◌≤ℤ◌, Bool, true, false, cond, sym, ap, ◌∙◌, subst, arith}
-use Rattle.std.specs.Prelude.{◌<ℤ◌, int_lt}
-use Rattle.std.specs.Int.{int_min}
-use Rattle.std.proofs.lemmas.Int.{ints, clamps, by_lt_z}
-use Rattle.std.proofs.Math.IntN.{zero-*ℤ, *ℤ-one}
-use Rattle.uc_model.proofs.IntLaws.{mul-sub, mul-mono_of}
-use Rattle.spell_run.specs.Laws.{most_reserve, best_reserve, IsReserve, ReserveIsAKink, ReserveIsBest}
+use Rattle.spell_run.proofs.Common.{◌≡◌, ℤ, pos, ◌+ℤ◌, ◌-ℤ◌, ◌*ℤ◌, ◌≤ℤ◌, Bool, true, false, cond, sym, ap, ◌∙◌, subst, arith, ◌<ℤ◌, int_lt, int_min, ints, clamps, by_lt_z, zero-*ℤ, *ℤ-one, mul-sub, mul-mono_of, most_reserve, best_reserve, IsReserve, ReserveIsAKink, ReserveIsBest}
 
 pub positive_is : (a : ℤ) → pos 0 <ℤ a → int_lt (pos 0) a ≡ true
 positive_is a h = grind (arith, ints)

@@ -1,14 +1,5 @@
 -- Runs of periods: one more period, the periods that two schedules share, and dispatches.
-use Rattle.std.proofs.Common.{◌≡◌, ℕ, zero, suc, ◌+◌, ◌-◌, ◌<◌, ◌≤◌, ◌≢◌, inl, inr, ℤ, pos, negsuc, ◌+ℤ◌, ◌-ℤ◌, ◌≤ℤ◌, Bool, true, false, cond, eqb, ltb, List, [], length, get_or, set, replicate, refl, sym, ap, ◌∙◌, subst, arith, get_or-set_same, get_or-set_other}
-use Rattle.std.proofs.lemmas.Int.{ints, clamps}
-use Rattle.std.proofs.lemmas.Bool.{cases_lt, lt-ltb, le-ltb, ltb-true, eqb-true, eq-eqb}
-use Rattle.std.proofs.lemmas.List.{get_or-replicate, get_or_past, length-replicate}
-use Rattle.uc_model.specs.Data.{ThermalUnit, PriceLists, Schedule}
-use Rattle.uc_model.specs.Schedules.{power_in, reserve_in, cap_of}
-use Rattle.uc_model.specs.Sums.{sum_below}
-use Rattle.uc_model.proofs.IntLaws.{sum_below-same}
-use Rattle.spell_run.specs.Spells.{over_min, IsDispatch, net_cost_at, net_cost, spell_cost}
-use Rattle.spell_run.specs.Steps.{cap_at, IsMove, level, IsRun}
+use Rattle.spell_run.proofs.Common.{◌≡◌, ℕ, zero, suc, ◌+◌, ◌-◌, ◌<◌, ◌≤◌, ◌≢◌, inl, inr, ℤ, pos, negsuc, ◌+ℤ◌, ◌-ℤ◌, ◌≤ℤ◌, Bool, true, false, cond, eqb, ltb, List, [], length, get_or, set, replicate, refl, sym, ap, ◌∙◌, subst, arith, get_or-set_same, get_or-set_other, ints, clamps, cases_lt, lt-ltb, le-ltb, ltb-true, eqb-true, eq-eqb, get_or-replicate, get_or_past, length-replicate, ThermalUnit, PriceLists, Schedule, power_in, reserve_in, cap_of, sum_below, sum_below-same, over_min, IsDispatch, net_cost_at, net_cost, spell_cost, cap_at, IsMove, level, IsRun}
 use Rattle.spell_run.proofs.StepLaws.{under_cap, cap_over}
 
 -- ---- the power before a period

@@ -1,8 +1,6 @@
 -- How many cells the calls need.
-use Rattle.std.proofs.Common.{◌≡◌, ℕ, ◌+◌, ◌-◌, ◌*◌, ◌≤◌, ◌<◌, is_ok, Result, Err, IsOk, sym, ap, ◌∙◌, arith}
-use Rattle.std.proofs.lemmas.Bool.{false≢true}
+use Rattle.spell_run.proofs.Common.{◌≡◌, ℕ, ◌+◌, ◌-◌, ◌*◌, ◌≤◌, ◌<◌, is_ok, Result, Err, IsOk, sym, ap, ◌∙◌, arith, false≢true, cells_for}
 use Rattle.std.proofs.Math.Nat.{mul-le-mul}
-use Rattle.spell_run.specs.Entries.{cells_for}
 
 pub never_both : {X E : Type 0} → (r : Result X E) (e : E) → r ≡ Err e → IsOk r → ⊥
 never_both r e was ok = absurd (false≢true (sym (ap is_ok was) ∙ ok))

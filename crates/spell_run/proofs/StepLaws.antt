@@ -1,25 +1,6 @@
 -- A step on a function of the power is one period of a spell: each new value is an old one and a move, and no move is
 -- cheaper.
-use Rattle.std.proofs.Common.{◌≡◌, ℕ, ℤ, pos, neg_ℤ, ◌+ℤ◌, ◌-ℤ◌, ◌*ℤ◌, ◌≤ℤ◌, Bool, true, false, Some, None, refl, ap, ◌∙◌, subst, arith}
-use Rattle.std.specs.Prelude.{IsTrue, MatchOption}
-use Rattle.std.specs.Option.{option_map}
-use Rattle.std.specs.Int.{int_min}
-use Rattle.std.proofs.lemmas.Int.{ints, clamps}
-use Rattle.std.proofs.Math.IntN.{*ℤ_comm}
-use Rattle.cost_curve.specs.CostCurve.{IsCostCurve, AreCostPoints, EnvelopeIsCost}
-use Rattle.shape_law.specs.Curve.{curve_value, reserve_term}
-use Rattle.shape_law.specs.Lookup.{same_some}
-use Rattle.shape_law.specs.Table.{Table, value_of}
-use Rattle.uc_model.specs.declared.units.Curve.{Curve}
-use Rattle.uc_model.specs.Data.{ThermalUnit, PriceLists}
-use Rattle.uc_model.specs.Envelope.{envelope}
-use Rattle.uc_model.specs.Limits.{IsFrom, IsThermalUnit, Spans}
-use Rattle.uc_model.specs.Sums.{int_at}
-use Rattle.uc_model.proofs.IntLaws.{mul-sub}
-use Rattle.uc_model.proofs.SignedLaws.{IsWithin, product_within}
-use Rattle.spell_run.specs.Laws.{most_reserve, best_reserve, IsReserve}
-use Rattle.spell_run.specs.Spells.{net_cost_at}
-use Rattle.spell_run.specs.Steps.{cap_at, step_at, IsMove, IsStepped}
+use Rattle.spell_run.proofs.Common.{◌≡◌, ℕ, ℤ, pos, neg_ℤ, ◌+ℤ◌, ◌-ℤ◌, ◌*ℤ◌, ◌≤ℤ◌, Bool, true, false, Some, None, refl, ap, ◌∙◌, subst, arith, IsTrue, MatchOption, option_map, int_min, ints, clamps, *ℤ_comm, IsCostCurve, AreCostPoints, EnvelopeIsCost, curve_value, reserve_term, same_some, Table, value_of, Curve, ThermalUnit, PriceLists, envelope, IsFrom, IsThermalUnit, Spans, int_at, mul-sub, IsWithin, product_within, most_reserve, best_reserve, IsReserve, net_cost_at, cap_at, step_at, IsMove, IsStepped}
 use Rattle.spell_run.proofs.ReserveLaws.{reserve_is_a_kink, best_may, best_earns, best_is_best, best_where_not_paid}
 use Rattle.spell_run.proofs.SumLaws.{added, raised}
 

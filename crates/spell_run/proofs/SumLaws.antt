@@ -1,8 +1,5 @@
 -- What a value was before something was added to it.
-use Rattle.std.proofs.Common.{◌≡◌, ℤ, ◌+ℤ◌, Option, Some, None, refl}
-use Rattle.std.specs.Prelude.{MatchOption}
-use Rattle.std.specs.Option.{option_map}
-use Rattle.shape_law.specs.Lookup.{same_some}
+use Rattle.spell_run.proofs.Common.{◌≡◌, ℤ, ◌+ℤ◌, Option, Some, None, refl, MatchOption, option_map, same_some}
 
 -- a term
 pub added : (term : ℤ → ℤ) (x v : ℤ) (o o' : Option ℤ) → o' ≡ option_map (λ v. v +ℤ term x) o → o' ≡ Some v → (u : ℤ) × (o ≡ Some u) × (v ≡ u +ℤ term x)

@@ -1,19 +1,5 @@
 -- A way on from the power before a spell is a best dispatch, and the first of those of its cost.
-use Rattle.std.proofs.Common.{◌≡◌, ℕ, zero, suc, ◌+◌, ◌-◌, ◌<◌, ◌≤◌, inl, inr, ℤ, pos, ◌+ℤ◌, ◌*ℤ◌, ◌≤ℤ◌, Bool, true, false, cond, eqb, length, refl, sym, ap, ◌∙◌, subst, arith}
-use Rattle.std.proofs.lemmas.Int.{ints}
-use Rattle.std.proofs.lemmas.Bool.{cases_lt}
-use Rattle.shape_law.specs.Effect.{IsPoint}
-use Rattle.shape_law.specs.Lookup.{same_some}
-use Rattle.shape_law.specs.Table.{Table, value_of}
-use Rattle.uc_model.specs.Data.{ThermalUnit, PriceLists, Schedule}
-use Rattle.uc_model.specs.Limits.{IsThermalUnit, ArePrices}
-use Rattle.uc_model.specs.Schedules.{power_in, reserve_in}
-use Rattle.uc_model.specs.Sums.{int_at, sum_below}
-use Rattle.spell_run.specs.Entries.{IsSpellStart}
-use Rattle.spell_run.specs.Frontier.{stops_at, HasBestReserve, IsWayFrom}
-use Rattle.spell_run.specs.Laws.{best_reserve, IsReserve}
-use Rattle.spell_run.specs.Spells.{spell_first, IsDispatch, net_cost_at, net_cost, spell_cost, IsBestDispatch, IsFirstDispatch}
-use Rattle.spell_run.specs.Steps.{cap_at, level}
+use Rattle.spell_run.proofs.Common.{◌≡◌, ℕ, zero, suc, ◌+◌, ◌-◌, ◌<◌, ◌≤◌, inl, inr, ℤ, pos, ◌+ℤ◌, ◌*ℤ◌, ◌≤ℤ◌, Bool, true, false, cond, eqb, length, refl, sym, ap, ◌∙◌, subst, arith, ints, cases_lt, IsPoint, same_some, Table, value_of, ThermalUnit, PriceLists, Schedule, IsThermalUnit, ArePrices, power_in, reserve_in, int_at, sum_below, IsSpellStart, stops_at, HasBestReserve, IsWayFrom, best_reserve, IsReserve, spell_first, IsDispatch, net_cost_at, net_cost, spell_cost, IsBestDispatch, IsFirstDispatch, cap_at, level}
 use Rattle.spell_run.proofs.ReserveLaws.{reserve_is_best}
 use Rattle.spell_run.proofs.RunLaws.{level_before, level_within, cost_none, cost_zero, move_same, reserve_not_negative}
 use Rattle.spell_run.proofs.WayLaws.{move_of}

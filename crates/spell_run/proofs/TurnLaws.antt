@@ -1,10 +1,5 @@
 -- The turn of a step: where the kinked function before it is least.
-use Rattle.std.proofs.Common.{◌≡◌, ℕ, ℤ, Bool, ap, ◌∙◌, subst}
-use Rattle.shape_law.specs.Table.{Table}
-use Rattle.uc_model.specs.Data.{ThermalUnit, PriceLists}
-use Rattle.shape_law.specs.declared.step.Step.{Step}
-use Rattle.spell_run.specs.Steps.{step_at}
-use Rattle.slope_step.specs.Turn.{IsTurn}
+use Rattle.spell_run.proofs.Common.{◌≡◌, ℕ, ℤ, Bool, ap, ◌∙◌, subst, Table, ThermalUnit, PriceLists, Step, step_at, IsTurn}
 
 pub turn_moved : (g : ThermalUnit) (π : PriceLists) (k : ℕ) (starts starts' stops : Bool) (s : Step) (f : Table) (x : ℤ) → s ≡ step_at g π k starts stops → starts ≡ starts' → IsTurn s f x → IsTurn (step_at g π k starts' stops) f x
 turn_moved g π k starts starts' stops s f x is same turn =

@@ -1,23 +1,6 @@
 -- The way back: the periods that are written make, with what comes before them, a dispatch of least cost, the first of
 -- those of that cost.
-use Rattle.std.proofs.Common.{◌≡◌, ℕ, zero, suc, ◌<◌, ◌≤◌, inl, inr, ℤ, pos, ◌+ℤ◌, ◌-ℤ◌, ◌≤ℤ◌, Bool, true, false, ◌&&◌, eqb, ltb, length, Some, refl, sym, ap, ◌∙◌, subst, arith}
-use Rattle.std.specs.Option.{option_map}
-use Rattle.std.proofs.lemmas.Int.{ints}
-use Rattle.std.proofs.lemmas.Bool.{cases_lt, eq-eqb, ne_eqb, and_right}
-use Rattle.cost_curve.specs.CostCurve.{IsCostCurve}
-use Rattle.shape_law.specs.Curve.{reserve_term}
-use Rattle.shape_law.specs.Effect.{IsLeast}
-use Rattle.shape_law.specs.Lookup.{same_some}
-use Rattle.shape_law.specs.Table.{Table, value_of}
-use Rattle.uc_model.specs.declared.units.Curve.{Curve}
-use Rattle.uc_model.specs.Data.{ThermalUnit, PriceLists, Schedule}
-use Rattle.uc_model.specs.Limits.{IsThermalUnit, ArePrices}
-use Rattle.uc_model.specs.Schedules.{power_in, reserve_in}
-use Rattle.uc_model.specs.Sums.{int_at}
-use Rattle.spell_run.specs.Frontier.{IsFrontier, IsChosen, stops_at, HasSamePowersAfter, IsSameAfter, HasBestReserve, IsWayFrom}
-use Rattle.spell_run.specs.Laws.{best_reserve, IsReserve}
-use Rattle.spell_run.specs.Spells.{IsDispatch, net_cost_at, net_cost, spell_cost}
-use Rattle.spell_run.specs.Steps.{cap_at, step_at, IsMove, level, IsRun, IsStepped}
+use Rattle.spell_run.proofs.Common.{◌≡◌, ℕ, zero, suc, ◌<◌, ◌≤◌, inl, inr, ℤ, pos, ◌+ℤ◌, ◌-ℤ◌, ◌≤ℤ◌, Bool, true, false, ◌&&◌, eqb, ltb, length, Some, refl, sym, ap, ◌∙◌, subst, arith, option_map, ints, cases_lt, eq-eqb, ne_eqb, and_right, IsCostCurve, reserve_term, IsLeast, same_some, Table, value_of, Curve, ThermalUnit, PriceLists, Schedule, IsThermalUnit, ArePrices, power_in, reserve_in, int_at, IsFrontier, IsChosen, stops_at, HasSamePowersAfter, IsSameAfter, HasBestReserve, IsWayFrom, best_reserve, IsReserve, IsDispatch, net_cost_at, net_cost, spell_cost, cap_at, step_at, IsMove, level, IsRun, IsStepped}
 use Rattle.spell_run.proofs.ReserveLaws.{best_may}
 use Rattle.spell_run.proofs.RunLaws.{level_power, move_same, run_more, cost_more, reserve_not_negative, move_parts, move_whole, dispatch_from_run, run_from_dispatch, end_from_dispatch}
 use Rattle.spell_run.proofs.StepLaws.{step_sound, step_complete, net_of_best, net_at_least}

@@ -1,7 +1,5 @@
 -- Lists the other way round.
-use Rattle.std.proofs.Common.{◌≡◌, ℕ, List, [], ◌∷◌, ◌++◌, ap, ◌∙◌, sym, refl, append_assoc, arith}
-use Rattle.task_deal.specs.Rule.{sum_of}
-use Rattle.task_deal.specs.Apart.{backwards}
+use Rattle.task_deal.proofs.Common.{◌≡◌, ℕ, List, [], ◌∷◌, ◌++◌, ap, ◌∙◌, sym, refl, append_assoc, arith, sum_of, backwards}
 use Rattle.task_deal.proofs.Sums.{sum_of-append}
 
 pub backwards_last : {X Y : Type 0} (f : X → Y) (xs : List X) (x : X) → backwards f (xs ++ x ∷ []) ≡ f x ∷ backwards f xs

@@ -1,9 +1,5 @@
 -- A job runs what a queue still has.
-use Rattle.std.proofs.Common.{◌≡◌, ℕ, ◌+◌, ◌<◌, ◌≤◌, List, [], ◌∷◌, ◌++◌, length, ap, ◌∙◌, refl, arith}
-use Rattle.task_deal.specs.declared.rule.Account.{Account}
-use Rattle.task_deal.specs.Rule.{sum_of, account, Fits}
-use Rattle.task_deal.specs.Jobs.{HasRun}
-use Rattle.task_deal.specs.Drains.{RanTaken}
+use Rattle.task_deal.proofs.Common.{◌≡◌, ℕ, ◌+◌, ◌<◌, ◌≤◌, List, [], ◌∷◌, ◌++◌, length, ap, ◌∙◌, refl, arith, Account, sum_of, account, Fits, HasRun, RanTaken}
 use Rattle.task_deal.proofs.Sums.{sum_of-append}
 use Rattle.task_deal.proofs.Gaining.{taken_more}
 use Rattle.task_deal.proofs.Running.{runs_none, runs_one, spared}

@@ -1,20 +1,10 @@
 -- What each way of finding a number gains.
-use Rattle.std.proofs.Common.{◌≡◌, ℕ, ◌+◌, List, [], ◌∷◌, ◌++◌, length, ◌<◌, set, slice_index_or, Option, Some, None, MatchOption, refl, ap, ◌∙◌, subst, arith}
+use Rattle.task_deal.proofs.Common.{◌≡◌, ℕ, ◌+◌, List, [], ◌∷◌, ◌++◌, length, ◌<◌, set, slice_index_or, Option, Some, None, MatchOption, refl, ap, ◌∙◌, subst, arith, ordered, InjectorPass, Global, Rule, Pass, view, worker_view, worker_flavor, injector_view, Account, Seat, sum_of, account, Gains, FoundIn}
 use Rattle.crossbeam_deque.specs.Steals.{MatchSteal}
 use Rattle.crossbeam_deque.specs.declared.steal.Steal.{Steal}
 use Rattle.crossbeam_deque.specs.declared.steal.Steal.TheVariants.{Empty, Success, Retry}
-use Rattle.crossbeam_deque.specs.Tasks.{ordered}
-use Rattle.crossbeam_deque.specs.Injected.{InjectorPass}
 use Rattle.crossbeam_deque.specs.declared.handles.Worker.{Worker}
 use Rattle.crossbeam_deque.specs.declared.handles.Stealer.{Stealer}
-use Rattle.std.specs.declared.alloc.Global.{Global}
-use Rattle.task_deal.specs.declared.rule.Rule.{Rule}
-use Rattle.crossbeam_deque.specs.Handles.{Pass, view, worker_view, worker_flavor}
-use Rattle.crossbeam_deque.specs.Injected.{injector_view}
-use Rattle.task_deal.specs.declared.rule.Account.{Account}
-use Rattle.task_deal.specs.declared.seat.Seat.{Seat}
-use Rattle.task_deal.specs.Rule.{sum_of, account}
-use Rattle.task_deal.specs.Seats.{Gains, FoundIn}
 use Rattle.task_deal.proofs.Sums.{sum_of-append, sum_of_set_at}
 
 abbrev pub Deque : Type 0

@@ -1,14 +1,5 @@
 -- The accounts leave the first job room for what is left, and come out at the end.
-use Rattle.std.proofs.Common.{◌≡◌, ℕ, zero, suc, ◌+◌, ◌<◌, ◌≤◌, List, [], ◌∷◌, length, length-append, set, slice_index_or, refl, ap, ◌∙◌, subst, arith}
-use Rattle.std.specs.Prelude.{All}
-use Rattle.std.specs.List.{AllZip}
-use Rattle.crossbeam_deque.specs.Handles.{worker_view, SameWorker}
-use Rattle.task_deal.specs.declared.rule.Account.{Account}
-use Rattle.task_deal.specs.Rule.{sum_of, Fits, IsSettled}
-use Rattle.task_deal.specs.Jobs.{below, HasRun}
-use Rattle.task_deal.specs.Seats.{Each, Stands, own_taken, own_put}
-use Rattle.task_deal.specs.Drains.{RanTaken}
-use Rattle.task_deal.specs.Ledger.{IsEmptied, run_sum, Ledger}
+use Rattle.task_deal.proofs.Common.{◌≡◌, ℕ, zero, suc, ◌+◌, ◌<◌, ◌≤◌, List, [], ◌∷◌, length, length-append, set, slice_index_or, refl, ap, ◌∙◌, subst, arith, All, AllZip, worker_view, SameWorker, Account, sum_of, Fits, IsSettled, below, HasRun, Each, Stands, own_taken, own_put, RanTaken, IsEmptied, run_sum, Ledger}
 use Rattle.task_deal.proofs.Sums.{sum_of_set_at}
 use Rattle.task_deal.proofs.Gaining.{Deque, Thief}
 use Rattle.task_deal.proofs.Running.{runs_on, weighs, spared}

@@ -1,3 +1,5 @@
+-- The names from elsewhere that the proofs here cite.
+pub mod Common
 -- sums over lists, and places of lists
 pub mod Sums
 pub mod Places
@@ -22,3 +24,5 @@ pub mod Ledgers
 -- lists of the same numbers in another order, and that each number was run once
 pub mod Orders
 pub mod Once
+-- The lemmas that answers cite.
+pub mod Lemmas

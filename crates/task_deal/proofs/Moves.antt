@@ -1,10 +1,5 @@
 -- Each move keeps the rule.
-use Rattle.std.proofs.Common.{◌≡◌, ℕ, zero, suc, ◌+◌, ◌-◌, ◌<◌, List, [], ◌∷◌, ◌++◌, set, sym, refl, ap, ◌∙◌, subst, arith}
-use mathlib.Core.Option.{some, some-injective, some-ne-none}
-use lib.ListN.{get_elem?}
-use Rattle.crossbeam_deque.specs.Tasks.{Pushes, Takes, Finds, FindsFew, Admits, Forks, Merges, Learns}
-use Rattle.task_deal.specs.declared.rule.Account.{Account}
-use Rattle.task_deal.specs.Rule.{sum_of, account, IsHelper, AreHelpers, IsFair, Fits, IsSettled}
+use Rattle.task_deal.proofs.Common.{◌≡◌, ℕ, zero, suc, ◌+◌, ◌-◌, ◌<◌, List, [], ◌∷◌, ◌++◌, set, sym, refl, ap, ◌∙◌, subst, arith, some, some-injective, some-ne-none, get_elem?, Pushes, Takes, Finds, FindsFew, Admits, Forks, Merges, Learns, Account, sum_of, account, IsHelper, AreHelpers, IsFair, Fits, IsSettled}
 use Rattle.task_deal.proofs.Sums.{sum_of-append, sum_of_push, sum_of_set}
 
 helpers_set : (vs : List Account) (i : ℕ) (w : Account) → IsHelper w → AreHelpers vs → AreHelpers (set vs i w)

@@ -1,17 +1,10 @@
 -- After a deal the jobs have added each number once, and what follows.
-use Rattle.std.proofs.Common.{◌≡◌, ℕ, zero, suc, ◌+◌, ◌<◌, ℤ, pos, negsuc, ◌+ℤ◌, List, [], ◌∷◌, map, sym, refl, ap, ◌∙◌, subst, ⊎_elim, arith}
-use Rattle.std.specs.Prelude.{Contains, IsPermutation, sum_by}
-use Rattle.std.specs.List.{AllZip, concat}
+use Rattle.task_deal.proofs.Common.{◌≡◌, ℕ, zero, suc, ◌+◌, ◌<◌, ℤ, pos, negsuc, ◌+ℤ◌, List, [], ◌∷◌, map, sym, refl, ap, ◌∙◌, subst, ⊎_elim, arith, Contains, IsPermutation, sum_by, AllZip, concat, Contains-append_left, Contains-push, Contains-push_cases, Contains-permutation, IsPermutation-sym, sum_by-IsPermutation, below, added, all_added, HasRun, IsDealt, run_sum, sum_of}
 use Rattle.std.proofs.lemmas.Int.{ints}
-use Rattle.std.proofs.lemmas.List.Elements.{Contains-append_left, Contains-push, Contains-push_cases}
-use Rattle.std.proofs.lemmas.List.Sorted.{Contains-permutation, IsPermutation-sym, sum_by-IsPermutation}
 use Rattle.std.proofs.lemmas.List.Sums.{sum_by-cons}
 use Rattle.uc_model.specs.Sums.{total, sum_below}
 use Rattle.uc_model.proofs.ListLaws.{map-append, total-append}
-use Rattle.task_deal.specs.Jobs.{below, added, all_added, HasRun, IsDealt}
 use Rattle.task_deal.specs.Laws.{SumsAreDealt, NumbersAreDealt}
-use Rattle.task_deal.specs.Ledger.{run_sum}
-use Rattle.task_deal.specs.Rule.{sum_of}
 use Rattle.task_deal.proofs.Orders.{permutes}
 use Rattle.task_deal.proofs.Places.{split_le}
 use Rattle.task_deal.proofs.Running.{weighs}

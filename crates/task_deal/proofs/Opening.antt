@@ -1,11 +1,5 @@
 -- Deques are opened, and passes split off.
-use Rattle.std.proofs.Common.{◌≡◌, ℕ, ◌+◌, ◌<◌, ◌≤◌, List, [], ◌∷◌, ◌++◌, length, length-append, slice_index_or, sym, refl, ap, ◌∙◌, subst, ⊎_elim, arith}
-use Rattle.crossbeam_deque.specs.Handles.{view, IsPassOf, SameWorker, stealer_deque, worker_deque, worker_flavor, worker_port, worker_view}
-use Rattle.task_deal.specs.declared.rule.Account.{Account}
-use Rattle.task_deal.specs.declared.rule.Rule.{Rule}
-use Rattle.task_deal.specs.Rule.{sum_of, account}
-use Rattle.task_deal.specs.Seats.{Each, Stands, IsPart, AreParts, HaveTaken, taken_by, own_taken, own_put}
-use Rattle.task_deal.specs.Open.{AreOpen}
+use Rattle.task_deal.proofs.Common.{◌≡◌, ℕ, ◌+◌, ◌<◌, ◌≤◌, List, [], ◌∷◌, ◌++◌, length, length-append, slice_index_or, sym, refl, ap, ◌∙◌, subst, ⊎_elim, arith, view, IsPassOf, SameWorker, stealer_deque, worker_deque, worker_flavor, worker_port, worker_view, Account, Rule, sum_of, account, Each, Stands, IsPart, AreParts, HaveTaken, taken_by, own_taken, own_put, AreOpen}
 use Rattle.task_deal.proofs.Moves.{begins}
 use Rattle.task_deal.proofs.Sums.{sum_of_push}
 use Rattle.task_deal.proofs.Places.{index_left, index_last, split_le}

@@ -1,7 +1,5 @@
 -- Places of a list.
-use Rattle.std.proofs.Common.{◌≡◌, ◌≢◌, ℕ, zero, suc, ◌+◌, ◌<◌, ◌≤◌, ◌⊎◌, inl, inr, List, [], ◌∷◌, ◌++◌, length, length-append, set, slice_index_or, sym, refl, ap, subst, ⊎_elim, arith}
-use Rattle.std.specs.Prelude.{All}
-use Rattle.task_deal.specs.Seats.{Each}
+use Rattle.task_deal.proofs.Common.{◌≡◌, ◌≢◌, ℕ, zero, suc, ◌+◌, ◌<◌, ◌≤◌, ◌⊎◌, inl, inr, List, [], ◌∷◌, ◌++◌, length, length-append, set, slice_index_or, sym, refl, ap, subst, ⊎_elim, arith, All, Each}
 
 pub index_here : {X : Type 0} (xs : List X) (i : ℕ) (w d : X) → i < length xs → slice_index_or (set xs i w) i d ≡ w
 index_here [] i w d le = absurd (omega (arith, le))

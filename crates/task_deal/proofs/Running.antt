@@ -1,8 +1,5 @@
 -- A job runs more.
-use Rattle.std.proofs.Common.{◌≡◌, ℕ, ◌+◌, List, [], ◌∷◌, ◌++◌, length, length-append, drop, append_assoc, append-nil, sym, refl, ap, ◌∙◌, arith}
-use Rattle.std.proofs.Math.Seq.{drop-append_seam}
-use Rattle.task_deal.specs.Jobs.{added, HasRun}
-use Rattle.task_deal.specs.Rule.{sum_of}
+use Rattle.task_deal.proofs.Common.{◌≡◌, ℕ, ◌+◌, List, [], ◌∷◌, ◌++◌, length, length-append, drop, append_assoc, append-nil, sym, refl, ap, ◌∙◌, arith, drop-append_seam, added, HasRun, sum_of}
 use Rattle.task_deal.proofs.Sums.{sum_of-append}
 
 module _ {J W : Type 0} (work : J → W) (runs : J → List ℕ) (spare : J → ℕ) where

@@ -1,10 +1,5 @@
 -- A pass goes back to its deque.
-use Rattle.std.proofs.Common.{◌≡◌, ℕ, ◌+◌, ◌-◌, ◌<◌, ◌≤◌, List, [], ◌∷◌, ◌++◌, length, length-append, set, slice_index_or, sym, refl, ap, ◌∙◌, subst, arith}
-use Rattle.crossbeam_deque.specs.Handles.{Pass, view, IsPassOf, SameWorker, worker_deque, worker_view}
-use Rattle.std.specs.declared.alloc.Global.{Global}
-use Rattle.task_deal.specs.declared.rule.Account.{Account}
-use Rattle.task_deal.specs.Rule.{sum_of, account}
-use Rattle.task_deal.specs.Seats.{own_taken, own_put, taken_by, HaveTaken, Stands, IsPart, AreParts, Each}
+use Rattle.task_deal.proofs.Common.{◌≡◌, ℕ, ◌+◌, ◌-◌, ◌<◌, ◌≤◌, List, [], ◌∷◌, ◌++◌, length, length-append, set, slice_index_or, sym, refl, ap, ◌∙◌, subst, arith, Pass, view, IsPassOf, SameWorker, worker_deque, worker_view, Global, Account, sum_of, account, own_taken, own_put, taken_by, HaveTaken, Stands, IsPart, AreParts, Each}
 use Rattle.task_deal.proofs.Sums.{sum_of-append, sum_of_set_at}
 use Rattle.task_deal.proofs.Places.{pick, index_left, index_last}
 use Rattle.task_deal.proofs.Gaining.{Deque, Thief, ThiefPass}

@@ -1,22 +1,7 @@
 -- What the members did, as what jobs, deques and purses did.
-use Rattle.std.proofs.Common.{◌≡◌, ℕ, ◌+◌, ◌<◌, ◌≤◌, List, [], ◌∷◌, ◌++◌, length, slice_index_or, take, drop, append-nil, sym, refl, ap, ◌∙◌, subst, arith}
-use Rattle.std.specs.Prelude.{All}
-use Rattle.std.specs.List.{AllZip}
-use Rattle.std.specs.declared.alloc.Global.{Global}
+use Rattle.task_deal.proofs.Common.{◌≡◌, ℕ, ◌+◌, ◌<◌, ◌≤◌, List, [], ◌∷◌, ◌++◌, length, slice_index_or, take, drop, append-nil, sym, refl, ap, ◌∙◌, subst, arith, All, AllZip, Global, take-length, length_all_zip, worker_view, worker_deque, worker_flavor, worker_port, Account, Shared, Member, backwards, HasPart, source_taken, below, HasRun, Ledger, run_sum, HasWorked, sum_of, Fits, Each, Stands, AreParts, HaveTaken, IsSeatOf, own_taken, own_put, taken_by, gained}
 use Rattle.std.specs.declared.vec.Vec.{Vec}
-use Rattle.std.proofs.Math.Seq.{take-length}
 use Rattle.std.proofs.Math.ListN.{drop_of_length-le}
-use Rattle.std.proofs.lemmas.List.Elements.{length_all_zip}
-use Rattle.crossbeam_deque.specs.Handles.{worker_view, worker_deque, worker_flavor, worker_port}
-use Rattle.task_deal.specs.declared.rule.Account.{Account}
-use Rattle.task_deal.specs.declared.rule.Shared.{Shared}
-use Rattle.task_deal.specs.declared.member.Member.{Member}
-use Rattle.task_deal.specs.Apart.{backwards, HasPart, source_taken}
-use Rattle.task_deal.specs.Jobs.{below, HasRun}
-use Rattle.task_deal.specs.Ledger.{Ledger, run_sum}
-use Rattle.task_deal.specs.Members.{HasWorked}
-use Rattle.task_deal.specs.Rule.{sum_of, Fits}
-use Rattle.task_deal.specs.Seats.{Each, Stands, AreParts, HaveTaken, IsSeatOf, own_taken, own_put, taken_by, gained}
 use Rattle.task_deal.proofs.Backs.{sum_of_back}
 use Rattle.task_deal.proofs.Gaining.{Deque, Thief, ThiefPass}
 use Rattle.task_deal.proofs.Zips.{all_of_back, back_of_all, length_back, zip_at, zip_back, zip_second, zip_each, zip_balance}

@@ -1,11 +1,5 @@
 -- A worker's account goes on.
-use Rattle.std.proofs.Common.{◌≡◌, ℕ, ◌+◌, List, [], ◌∷◌, ◌++◌, ap, ◌∙◌, refl, arith}
-use Rattle.task_deal.specs.declared.rule.Shared.{Shared}
-use Rattle.task_deal.specs.declared.seat.Seat.{Seat}
-use Rattle.task_deal.specs.declared.member.Member.{Member}
-use Rattle.task_deal.specs.Rule.{sum_of}
-use Rattle.task_deal.specs.Seats.{Gains, IsSeatOf, SameDeque}
-use Rattle.task_deal.specs.Members.{HasWorked}
+use Rattle.task_deal.proofs.Common.{◌≡◌, ℕ, ◌+◌, List, [], ◌∷◌, ◌++◌, ap, ◌∙◌, refl, arith, Shared, Seat, Member, sum_of, Gains, IsSeatOf, SameDeque, HasWorked}
 use Rattle.task_deal.proofs.Sums.{sum_of-append}
 use Rattle.task_deal.proofs.Running.{runs_none, runs_one}
 

@@ -1,11 +1,6 @@
 -- Two lists, place by place, and lists the other way round.
-use Rattle.std.proofs.Common.{◌≡◌, ℕ, zero, suc, ◌+◌, ◌<◌, ◌≤◌, List, [], ◌∷◌, ◌++◌, length, slice_index_or, refl, arith}
-use Rattle.std.specs.Prelude.{All}
-use Rattle.std.specs.List.{AllZip}
+use Rattle.task_deal.proofs.Common.{◌≡◌, ℕ, zero, suc, ◌+◌, ◌<◌, ◌≤◌, List, [], ◌∷◌, ◌++◌, length, slice_index_or, refl, arith, All, AllZip, All-cons, All-head, All-tail, All-push, AllZip-push, backwards, sum_of}
 use Rattle.std.proofs.lemmas.List.{length_push}
-use Rattle.std.proofs.lemmas.List.Elements.{All-cons, All-head, All-tail, All-push, AllZip-push}
-use Rattle.task_deal.specs.Apart.{backwards}
-use Rattle.task_deal.specs.Rule.{sum_of}
 use Rattle.task_deal.proofs.Places.{all_last, all_rest}
 
 pub all_of_back : {X Y : Type 0} (P : Y → Type 0) (f : X → Y) (xs : List X) → All P (backwards f xs) → All (λ x. P (f x)) xs

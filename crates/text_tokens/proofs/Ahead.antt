@@ -1,13 +1,7 @@
 -- The tokens from a place on, and those from the next place.
-use Rattle.std.proofs.Common.{◌≡◌, ℕ, zero, suc, ◌+◌, ◌-◌, ◌<◌, ◌≤◌, Bool, true, false, cond, List, [], ◌∷◌, length, get_or, drop, drop-cons, refl, sym, ap, ap₂, ◌∙◌, arith}
-use Rattle.std.proofs.lemmas.List.{drop-drop, length-drop, drop_all, get_or-drop}
-use Rattle.std.proofs.lemmas.Bool.Decides.{nat_tests}
-use Rattle.text_tokens.specs.Grammar.{Token, end, comma}
-use Rattle.text_tokens.specs.Numbers.{is_digit}
+use Rattle.text_tokens.proofs.Common.{◌≡◌, ℕ, zero, suc, ◌+◌, ◌-◌, ◌<◌, ◌≤◌, Bool, true, false, cond, List, [], ◌∷◌, length, get_or, drop, drop-cons, refl, sym, ap, ap₂, ◌∙◌, arith, drop-drop, length-drop, drop_all, get_or-drop, nat_tests, Token, end, comma, is_digit, Placed, placed, is_blank, token_at, tokens_from, Read, number_at, rest_at, Takes}
 use Rattle.text_tokens.proofs.Digits.{digit_range}
 use Rattle.text_tokens.proofs.ShortNumbers.{no_such}
-use Rattle.text_tokens.specs.Tokens.{Placed, placed, is_blank, token_at, tokens_from, Read, number_at}
-use Rattle.text_tokens.specs.Places.{rest_at, Takes}
 
 passed_over : (at k : ℕ) (bytes : List ℕ) → k ≤ length bytes → tokens_from at k bytes ≡ tokens_from (at + k) 0 (drop k bytes)
 unfolding tokens_from

@@ -1,15 +1,7 @@
 -- Texts stay UTF-8, piece by piece.
-use Rattle.std.proofs.Common.{◌≡◌, ◌≢◌, ℕ, suc, ◌+◌, ◌-◌, ◌<◌, ◌≤◌, Bool, true, cond, List, [], ◌∷◌, ◌++◌, length, length-append, get_or, take, drop, refl, sym, ap, ap₂, subst, ◌∙◌, append_assoc, arith, Option, Some, None}
+use Rattle.text_tokens.proofs.Common.{◌≡◌, ◌≢◌, ℕ, suc, ◌+◌, ◌-◌, ◌<◌, ◌≤◌, Bool, true, cond, List, [], ◌∷◌, ◌++◌, length, length-append, get_or, take, drop, refl, sym, ap, ap₂, subst, ◌∙◌, append_assoc, arith, Option, Some, None, encode_utf8, IsUtf8-encode, IsUtf8-append, IsUtf8-take, IsUtf8-drop, IsCharBoundary-before_ascii, IsCharBoundary-after_ascii, encode_ascii, length-encode, len_utf8_bounds, zero, inl, inr, option_map, is_some, true≢false, eqb_tells, take_all, take-append-le, get_or-append_right, get_or-drop, get_or-take, drop_all, length-take, length-drop, drop-drop, append-nil, is_high, is_low, pair, second_at, unit_piece, Piece, after_piece, string_from, string_of, len_or}
 use Rattle.std.specs.Str.{IsUtf8}
-use Rattle.std.specs.Char.{encode_utf8}
-use Rattle.std.proofs.lemmas.Str.{IsUtf8-encode, IsUtf8-append, IsUtf8-take, IsUtf8-drop, IsCharBoundary-before_ascii, IsCharBoundary-after_ascii, encode_ascii, length-encode, len_utf8_bounds}
 use Rattle.std.proofs.Math.Utf8.{low_scalar}
-use Rattle.std.proofs.Common.{zero, inl, inr}
-use Rattle.std.specs.Prelude.{option_map, is_some}
-use Rattle.std.proofs.Common.{true≢false}
-use Rattle.std.proofs.lemmas.Bool.Decides.{eqb_tells}
-use Rattle.std.proofs.lemmas.List.{take_all, take-append-le, get_or-append_right, get_or-drop, get_or-take, drop_all, length-take, length-drop, drop-drop, append-nil}
-use Rattle.text_tokens.specs.Strings.{is_high, is_low, pair, second_at, unit_piece, Piece, after_piece, string_from, string_of, len_or}
 use Rattle.text_tokens.proofs.Texts.{whole_string}
 
 pub ascii_is_utf8 : (b : ℕ) → b < 128 → IsUtf8 (b ∷ [])

@@ -1,3 +1,5 @@
+-- The names from elsewhere that the proofs here cite.
+pub mod Common
 pub mod Runs
 pub mod Ahead
 pub mod Digits
@@ -6,3 +8,5 @@ pub mod Texts
 pub mod Escapes
 pub mod ShortNumbers
 pub mod PlainStrings
+-- The lemmas that answers cite.
+pub mod Lemmas

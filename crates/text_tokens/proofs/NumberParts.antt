@@ -1,11 +1,5 @@
 -- The parts of a number.
-use Rattle.std.proofs.Common.{◌≡◌, ℕ, suc, ◌+◌, ◌-◌, ◌*◌, ◌^◌, ◌<◌, ◌≤◌, true, false, Bool, List, [], ◌∷◌, ◌++◌, length, take, refl, sym, ap, subst, ◌∙◌, arith, nat_le, ap₂, ◌&&◌, if◌then◌else◌, ℤ, pos, neg_ℤ, ◌-ℤ◌}
-use Rattle.std.proofs.lemmas.Bool.Decides.{nat_tests}
-use Rattle.std.proofs.lemmas.List.{take_all}
-use Rattle.text_tokens.specs.Scalars.{number, long_number}
-use Rattle.text_tokens.specs.Grammar.{Token, word}
-use Rattle.std.specs.List.{prefix_len}
-use Rattle.text_tokens.specs.Numbers.{is_digit, AreDigits, value_from, value, significant, exponent_of, number_token, begins_with, front, behind, is_whole_part, behind_fraction, behind_whole, unsigned, number_of}
+use Rattle.text_tokens.proofs.Common.{◌≡◌, ℕ, suc, ◌+◌, ◌-◌, ◌*◌, ◌^◌, ◌<◌, ◌≤◌, true, false, Bool, List, [], ◌∷◌, ◌++◌, length, take, refl, sym, ap, subst, ◌∙◌, arith, nat_le, ap₂, ◌&&◌, if◌then◌else◌, ℤ, pos, neg_ℤ, ◌-ℤ◌, nat_tests, take_all, number, long_number, Token, word, prefix_len, is_digit, AreDigits, value_from, value, significant, exponent_of, number_token, begins_with, front, behind, is_whole_part, behind_fraction, behind_whole, unsigned, number_of}
 use Rattle.text_tokens.proofs.Digits.{large_has_many, is_short, grows}
 
 one_more_digit : (b : ℕ) (bs : List ℕ) (t : Bool) → is_digit b ≡ t → AreDigits (take (prefix_len is_digit bs) bs) → AreDigits (take (prefix_len is_digit (b ∷ bs)) (b ∷ bs))

@@ -1,10 +1,5 @@
 -- Strings of bytes that stand for themselves.
-use Rattle.std.proofs.Common.{◌≡◌, ◌≢◌, ℕ, suc, ◌+◌, ◌<◌, Bool, true, false, cond, List, [], ◌∷◌, length, get_or, take, refl, sym, ap, subst, ◌∙◌, arith, Some}
-use Rattle.std.specs.Prelude.{option_map, nat_eq, nat_lt, is_some, IsUtf8}
-use Rattle.std.specs.List.{prefix_len}
-use Rattle.std.proofs.lemmas.Bool.Decides.{nat_tests}
-use Rattle.text_tokens.specs.Plain.{is_plain}
-use Rattle.text_tokens.specs.Strings.{after_piece, piece_at, string_from, string_of, said, text_or, len_or}
+use Rattle.text_tokens.proofs.Common.{◌≡◌, ◌≢◌, ℕ, suc, ◌+◌, ◌<◌, Bool, true, false, cond, List, [], ◌∷◌, length, get_or, take, refl, sym, ap, subst, ◌∙◌, arith, Some, option_map, nat_eq, nat_lt, is_some, IsUtf8, prefix_len, nat_tests, is_plain, after_piece, piece_at, string_from, string_of, said, text_or, len_or}
 use Rattle.text_tokens.proofs.Texts.{opened, is_quote, is_no_quote, whole_string, raw_utf8}
 
 no_quote : (b : ℕ) → is_plain b ≡ true → b ≢ 34

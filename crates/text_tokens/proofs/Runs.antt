@@ -1,7 +1,5 @@
 -- The longest run in front.
-use Rattle.std.proofs.Common.{◌≡◌, ℕ, ◌<◌, Bool, true, false, List, [], ◌∷◌, length, get_or, refl, sym, ◌∙◌, arith, ◌≤◌}
-use Rattle.std.specs.List.{prefix_len}
-use Rattle.std.proofs.lemmas.List.Sums.{prefix_len_is}
+use Rattle.text_tokens.proofs.Common.{◌≡◌, ℕ, ◌<◌, Bool, true, false, List, [], ◌∷◌, length, get_or, refl, sym, ◌∙◌, arith, ◌≤◌, prefix_len, prefix_len_is}
 
 pub run_ends : (p : ℕ → Bool) (xs : List ℕ) (n : ℕ) → n < length xs → ((k : ℕ) → k < n → p (get_or xs k 0) ≡ true) → p (get_or xs n 0) ≡ false → n ≡ prefix_len p xs
 run_ends p xs n lt before off = sym (prefix_len_is p xs n 0 (omega arith) before (λ _. off))

@@ -1,16 +1,7 @@
 -- Numbers of few digits, which are read in one pass.
-use Rattle.std.proofs.Common.{◌≡◌, ℕ, suc, ◌+◌, ◌-◌, ◌*◌, ◌^◌, ◌<◌, Bool, true, false, true≢false, cond, ◌&&◌, List, [], ◌∷◌, ◌++◌, length, get_or, take, drop, refl, sym, ap, ap₂, subst, ◌∙◌, arith, inl, inr, ℤ, pos, ◌-ℤ◌}
-use Rattle.std.specs.Prelude.{nat_lt, nat_eq}
+use Rattle.text_tokens.proofs.Common.{◌≡◌, ℕ, suc, ◌+◌, ◌-◌, ◌*◌, ◌^◌, ◌<◌, Bool, true, false, true≢false, cond, ◌&&◌, List, [], ◌∷◌, ◌++◌, length, get_or, take, drop, refl, sym, ap, ap₂, subst, ◌∙◌, arith, inl, inr, ℤ, pos, ◌-ℤ◌, nat_lt, nat_eq, nat_tests, eqb_tells, take_more, append-nil, prefix_len_passes, prefix_len, number, word, is_digit, is_number_byte, AreDigits, value_from, value, exponent_of, number_token, begins_with, front, behind, is_whole_part, behind_fraction, behind_whole, unsigned, number_of, Read, number_at}
 use Rattle.std.proofs.Math.Seq.{take-add, take-append_seam, drop-append_seam}
-use Rattle.std.proofs.lemmas.Bool.Decides.{nat_tests, eqb_tells}
-use Rattle.std.proofs.lemmas.List.{take_more, append-nil}
 use Rattle.std.proofs.lemmas.List.Folds.{length-prefix_len}
-use Rattle.std.proofs.lemmas.List.Sums.{prefix_len_passes}
-use Rattle.std.specs.List.{prefix_len}
-use Rattle.text_tokens.specs.Scalars.{number}
-use Rattle.text_tokens.specs.Grammar.{word}
-use Rattle.text_tokens.specs.Numbers.{is_digit, is_number_byte, AreDigits, value_from, value, exponent_of, number_token, begins_with, front, behind, is_whole_part, behind_fraction, behind_whole, unsigned, number_of}
-use Rattle.text_tokens.specs.Tokens.{Read, number_at}
 use Rattle.text_tokens.proofs.Digits.{digit_range}
 use Rattle.text_tokens.proofs.NumberParts.{value-append, digits_in_front, no_minus, nothing_behind, short_enough, plain_exponent, and_false}
 

@@ -1,12 +1,6 @@
 -- Strings, piece by piece.
-use Rattle.std.proofs.Common.{◌≡◌, ◌≢◌, ℕ, zero, suc, ◌+◌, ◌-◌, ◌<◌, ◌≤◌, Bool, true, false, cond, List, [], ◌∷◌, ◌++◌, length, get_or, take, drop, drop-cons, refl, sym, ap, ap₂, subst, ◌∙◌, append_assoc, arith, Option, Some, None}
-use Rattle.std.specs.Prelude.{option_map, option_and_then, nat_eq, is_some, if◌then◌else◌}
+use Rattle.text_tokens.proofs.Common.{◌≡◌, ◌≢◌, ℕ, zero, suc, ◌+◌, ◌-◌, ◌<◌, ◌≤◌, Bool, true, false, cond, List, [], ◌∷◌, ◌++◌, length, get_or, take, drop, drop-cons, refl, sym, ap, ap₂, subst, ◌∙◌, append_assoc, arith, Option, Some, None, option_map, option_and_then, nat_eq, is_some, if◌then◌else◌, IsUtf8-from_is_utf8, true≢false, nat_tests, drop-drop, drop_all, get_or-drop, append-nil, Piece, after_piece, piece_at, string_from, string_of, said, text_or, len_or}
 use Rattle.std.specs.Str.{is_utf8, IsUtf8}
-use Rattle.std.proofs.lemmas.Str.{IsUtf8-from_is_utf8}
-use Rattle.std.proofs.Common.{true≢false}
-use Rattle.std.proofs.lemmas.Bool.Decides.{nat_tests}
-use Rattle.std.proofs.lemmas.List.{drop-drop, drop_all, get_or-drop, append-nil}
-use Rattle.text_tokens.specs.Strings.{Piece, after_piece, piece_at, string_from, string_of, said, text_or, len_or}
 
 pub passed_over : (k : ℕ) (bs : List ℕ) → string_from k bs ≡ string_from 0 (drop k bs)
 unfolding string_from

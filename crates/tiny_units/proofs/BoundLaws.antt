@@ -1,10 +1,5 @@
 -- Products, sums and least ones of numbers within bounds.
-use Rattle.std.proofs.Common.{ℕ, ◌*◌, ◌^◌, ◌<◌, ◌≤◌, ℤ, pos, negsuc, neg_ℤ, ◌*ℤ◌, arith}
-use Rattle.std.proofs.Math.Nat.{mul-le-mul}
-use Rattle.std.proofs.lemmas.Int.{ints, fits_signed_mul, unsigned_abs-mul}
-use Rattle.std.specs.Int.{Width}
-use Rattle.std.specs.Prelude.{FitsSigned, unsigned_abs}
-use Rattle.uc_model.specs.Limits.{IsFrom}
+use Rattle.tiny_units.proofs.Common.{ℕ, ◌*◌, ◌^◌, ◌<◌, ◌≤◌, ℤ, pos, negsuc, neg_ℤ, ◌*ℤ◌, arith, mul-le-mul, ints, fits_signed_mul, unsigned_abs-mul, Width, FitsSigned, unsigned_abs, IsFrom}
 use mir.Val.{hbits}
 
 abs_within : (n : ℕ) (z : ℤ) → IsFrom (neg_ℤ (pos n)) (pos n) z → unsigned_abs z ≤ n

@@ -1,14 +1,8 @@
 -- The count of the schedules that come after one falls along the order for ties, and no two have the same.
-use Rattle.std.proofs.Common.{◌≡◌, ℕ, zero, suc, ◌+◌, ◌-◌, ◌*◌, ◌<◌, ◌≤◌, ◌⊎◌, inl, inr, Bool, true, false, List, [], ◌∷◌, ◌++◌, map, reverse, length, refl, sym, ap, ◌∙◌, subst, arith, append_assoc}
-use Rattle.std.proofs.Math.Nat.{mul-le-mul_left}
-use Rattle.std.proofs.lemmas.List.{map-append, reverse-append, reverse-reverse, length-reverse, length-map}
+use Rattle.tiny_units.proofs.Common.{◌≡◌, ℕ, zero, suc, ◌+◌, ◌-◌, ◌*◌, ◌<◌, ◌≤◌, ◌⊎◌, inl, inr, Bool, true, false, List, [], ◌∷◌, ◌++◌, map, reverse, length, refl, sym, ap, ◌∙◌, subst, arith, append_assoc, mul-le-mul_left, map-append, reverse-append, reverse-reverse, length-reverse, length-map, All, Schedule, tie_numbers, ComesBefore, after_of, list_count, flag, flags_of, schedules_after, IsWithin}
 use Rattle.std.specs.Cmp.Lexicographic.{slice_cmp}
-use Rattle.std.specs.List.{All}
 use Rattle.std.specs.Ordering.{nat_cmp, ordering_then}
 use Rattle.std.specs.declared.cmp.Ordering.TheVariants.{Less, Equal, Greater}
-use Rattle.uc_model.specs.Data.{Schedule}
-use Rattle.uc_model.specs.Ties.{tie_numbers, ComesBefore}
-use Rattle.tiny_units.specs.Counts.{after_of, list_count, flag, flags_of, schedules_after, IsWithin}
 
 -- ---- numbers
 

@@ -1,14 +1,6 @@
 -- Earnings are the sum of what each period earns, and a feasible schedule gives no more than the greatest power.
-use Rattle.std.proofs.Common.{◌≡◌, ℕ, suc, ◌<◌, Bool, true, false, cond, pos, ◌+ℤ◌, ◌-ℤ◌, ◌≤ℤ◌, length, refl, ap, arith}
-use Rattle.std.proofs.lemmas.Int.{ints, clamps}
-use Rattle.std.specs.Prelude.{slice_index, slice_index_or}
-use Rattle.uc_model.specs.Data.{ThermalUnit, Thermal, PriceLists, Schedule}
-use Rattle.uc_model.specs.Earnings.{earnings}
-use Rattle.uc_model.specs.Limits.{IsThermalUnit}
-use Rattle.uc_model.specs.Schedules.{IsPeriod, IsThermalFeasible}
-use Rattle.uc_model.specs.Sums.{sum_below}
+use Rattle.tiny_units.proofs.Common.{◌≡◌, ℕ, suc, ◌<◌, Bool, true, false, cond, pos, ◌+ℤ◌, ◌-ℤ◌, ◌≤ℤ◌, length, refl, ap, arith, ints, clamps, slice_index, slice_index_or, ThermalUnit, Thermal, PriceLists, Schedule, earnings, IsThermalUnit, IsPeriod, IsThermalFeasible, sum_below, revenue_in, production_in, start_in, net_in}
 use Rattle.uc_model.proofs.IntLaws.{sum_below-add, sum_below-sub}
-use Rattle.tiny_units.specs.Money.{revenue_in, production_in, start_in, net_in}
 
 -- ---- earnings as one sum
 

@@ -1,12 +1,5 @@
 -- The least line as a fold over the points.
-use Rattle.std.proofs.Common.{◌≡◌, ℕ, suc, ◌+◌, ◌^◌, ◌≤◌, ℤ, pos, neg_ℤ, ◌+ℤ◌, ◌-ℤ◌, ◌≤ℤ◌, Bool, true, false, cond, List, [], ◌∷◌, map, length, refl, sym, ap, ◌∙◌, arith}
-use Rattle.std.proofs.Math.Nat.{two-pow-succ}
-use Rattle.std.proofs.lemmas.Int.{ints, clamps}
-use Rattle.std.specs.List.{fold}
-use Rattle.std.specs.Int.{int_min}
-use Rattle.std.specs.Prelude.{slice_index_or, if◌then◌else◌}
-use Rattle.uc_model.specs.declared.units.Point.{Point}
-use Rattle.uc_model.specs.Envelope.{line_at, least_line, rises_after, best_price, envelope}
+use Rattle.tiny_units.proofs.Common.{◌≡◌, ℕ, suc, ◌+◌, ◌^◌, ◌≤◌, ℤ, pos, neg_ℤ, ◌+ℤ◌, ◌-ℤ◌, ◌≤ℤ◌, Bool, true, false, cond, List, [], ◌∷◌, map, length, refl, sym, ap, ◌∙◌, arith, two-pow-succ, ints, clamps, fold, int_min, slice_index_or, if◌then◌else◌, Point, line_at, least_line, rises_after, best_price, envelope}
 
 fold-map : (k x start : ℤ) (ps : List Point) → fold int_min start (map (line_at k x) ps) ≡ fold (λ a p. int_min a (line_at k x p)) start ps
 fold-map k x start [] = refl

@@ -1,11 +1,6 @@
 -- A schedule is feasible exactly where each period keeps the rules.
-use Rattle.std.proofs.Common.{◌≡◌, ℕ, zero, suc, ◌+◌, ◌-◌, ◌<◌, ◌≤◌, pos, ◌≤ℤ◌, true, false, length, arith, ◌∙◌}
-use Rattle.std.specs.Prelude.{IsTrue, IsFalse}
+use Rattle.tiny_units.proofs.Common.{◌≡◌, ℕ, zero, suc, ◌+◌, ◌-◌, ◌<◌, ◌≤◌, pos, ◌≤ℤ◌, true, false, length, arith, ◌∙◌, IsTrue, IsFalse, ThermalUnit, Schedule, AreOneLength, on_in, starts_in, stops_in, mark_in, above_min, above_with_reserve, cap_of, IsPeriod, IsThermalFeasible, KeepsRules, MayStopAtOnce}
 use Rattle.uc_model.specs.declared.units.Mark.TheVariants.{MustOff, MustOn}
-use Rattle.uc_model.specs.Data.{ThermalUnit, Schedule}
-use Rattle.uc_model.specs.Limits.{AreOneLength}
-use Rattle.uc_model.specs.Schedules.{on_in, starts_in, stops_in, mark_in, above_min, above_with_reserve, cap_of, IsPeriod, IsThermalFeasible}
-use Rattle.tiny_units.specs.Rules.{KeepsRules, MayStopAtOnce}
 
 -- a period is the one at some place
 at_place : (P : ℕ → Type 0) (s : Schedule) → ((k : ℕ) → k < length s.on → P (suc k)) → (t : ℕ) → IsPeriod s t → P t

@@ -1,3 +1,5 @@
+-- The names from elsewhere that the proofs here cite.
+pub mod Common
 -- ---- src/feasible.rt, src/commitment.rt and src/dispatch.rt
 -- a schedule is feasible exactly where each period keeps the rules
 pub mod FeasibleLaws
@@ -15,3 +17,5 @@ pub mod StepLaws
 pub mod CountLaws
 -- what is kept while schedules are tried, and that at the end it is the least of the best
 pub mod TryLaws
+-- The lemmas that answers cite.
+pub mod Lemmas

@@ -1,8 +1,5 @@
 -- What the next list is: the places before the first that isn't at its last item begin again, and that one is one more.
-use Rattle.std.proofs.Common.{◌≡◌, ℕ, zero, suc, ◌+◌, ◌*◌, ◌<◌, ◌≤◌, Bool, true, false, List, [], ◌∷◌, ◌++◌, map, length, drop, set, replicate, refl, sym, ap, ◌∙◌, subst, arith, add-one}
-use Rattle.std.proofs.lemmas.List.{drop_all}
-use Rattle.std.specs.Prelude.{slice_index_or}
-use Rattle.tiny_units.specs.Counts.{after_of, list_count, flag}
+use Rattle.tiny_units.proofs.Common.{◌≡◌, ℕ, zero, suc, ◌+◌, ◌*◌, ◌<◌, ◌≤◌, Bool, true, false, List, [], ◌∷◌, ◌++◌, map, length, drop, set, replicate, refl, sym, ap, ◌∙◌, subst, arith, add-one, drop_all, slice_index_or, after_of, list_count, flag}
 
 -- ---- lists that begin again up to a place
 

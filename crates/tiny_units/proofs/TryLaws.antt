@@ -1,16 +1,5 @@
 -- What is kept while schedules are tried, and that at the end it is the least of the best.
-use Rattle.std.proofs.Common.{◌≡◌, ℕ, zero, suc, ◌+◌, ◌*◌, ◌<◌, ◌≤◌, ◌⊎◌, inl, inr, Bool, true, false, ℤ, pos, negsuc, ◌≤ℤ◌, List, [], ◌∷◌, map, length, replicate, refl, sym, ap, ◌∙◌, subst, arith}
-use Rattle.std.proofs.Math.Nat.{mul-le-mul_left}
-use Rattle.std.proofs.lemmas.Int.{ints}
-use Rattle.std.proofs.lemmas.List.{length-replicate, get_or-replicate, append-nil}
-use Rattle.std.specs.Prelude.{◌<ℤ◌, unsigned_abs, IsTrue, slice_index_or}
-use Rattle.uc_model.specs.Data.{ThermalUnit, Thermal, PriceLists, Schedule}
-use Rattle.uc_model.specs.Earnings.{earnings}
-use Rattle.uc_model.specs.Limits.{IsThermalUnit}
-use Rattle.uc_model.specs.Schedules.{IsThermalFeasible}
-use Rattle.uc_model.specs.Ties.{IsLeast}
-use Rattle.tiny_units.specs.Counts.{after_of, list_count, flag, flags_of, schedules_after}
-use Rattle.tiny_units.specs.Tries.{IsKept}
+use Rattle.tiny_units.proofs.Common.{◌≡◌, ℕ, zero, suc, ◌+◌, ◌*◌, ◌<◌, ◌≤◌, ◌⊎◌, inl, inr, Bool, true, false, ℤ, pos, negsuc, ◌≤ℤ◌, List, [], ◌∷◌, map, length, replicate, refl, sym, ap, ◌∙◌, subst, arith, mul-le-mul_left, ints, length-replicate, get_or-replicate, append-nil, ◌<ℤ◌, unsigned_abs, IsTrue, slice_index_or, ThermalUnit, Thermal, PriceLists, Schedule, earnings, IsThermalUnit, IsThermalFeasible, IsLeast, after_of, list_count, flag, flags_of, schedules_after, IsKept}
 use Rattle.tiny_units.proofs.CountLaws.{IsCounted, before-more, one_place, below_or, power_below, reserve_below, flags_below, schedules_after-counted}
 use Rattle.tiny_units.proofs.EarningsLaws.{power_and_reserve}
 use Rattle.tiny_units.proofs.StepLaws.{after-firsts, flags-firsts}

@@ -1,14 +1,11 @@
 -- The answer of the reader is the only one.
-use Rattle.std.proofs.Common.{◌≡◌, ℕ, List, Result, Ok, Err}
+use Rattle.uc_case.proofs.Common.{◌≡◌, ℕ, List, Result, Ok, Err, FileFault, text, value, FieldFault, OneCase}
 use Rattle.uc_model.specs.Data.{Market}
 use Rattle.uc_model.specs.PlainCases.{market_of}
 use Rattle.uc_model.specs.declared.cases.Case.{Case}
 use Rattle.uc_case.specs.CaseFiles.{IsCaseOf, IfRead}
-use Rattle.uc_case.specs.Files.{FileFault, text, value}
 use Rattle.uc_case.specs.declared.fault.CaseFault.{CaseFault}
 use Rattle.uc_case.specs.declared.fault.CaseFault.TheVariants as faults
-use Rattle.uc_case.specs.declared.fault.FieldFault.{FieldFault}
-use Rattle.uc_case.specs.Laws.{OneCase}
 
 pub is_only : OneCase → (bytes : List ℕ) (a : Result Case CaseFault) → IfRead market_of a (λ r. IsCaseOf bytes r) → (r : Result Market (FileFault FieldFault)) → IsCaseOf bytes r → IfRead market_of a (λ s. s ≡ r)
 is_only law bytes (Ok c) answer r is = law bytes (Ok (market_of c)) r answer is

@@ -1,11 +1,7 @@
 -- A file is one value, or has one first fault.
-use Rattle.std.proofs.Common.{List, ℕ, Result, Ok, Err, ◌⊎◌, inl, inr, ap}
+use Rattle.uc_case.proofs.Common.{List, ℕ, Result, Ok, Err, ◌⊎◌, inl, inr, ap, IsText, IsFirstFault, Value, IsFile, SomeFile, OneFile}
 use Rattle.uc_text.specs.Laws.{TextOrFault, NeverBoth, OneValue, OneFault}
-use Rattle.uc_text.specs.Texts.{IsText, IsFirstFault}
-use Rattle.uc_text.specs.Values.{Value}
 use Rattle.uc_text.specs.declared.fault.TextFault.{TextFault}
-use Rattle.uc_case.specs.Files.{IsFile}
-use Rattle.uc_case.specs.Laws.{SomeFile, OneFile}
 
 found : Value → Result Value TextFault
 found v = Ok v

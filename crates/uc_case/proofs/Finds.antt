@@ -1,8 +1,5 @@
 -- A key looked for, member by member.
-use Rattle.std.proofs.Common.{◌≡◌, ℕ, suc, ◌+◌, ◌<◌, List, ◌∷◌, length, get_or, drop, Some, cond, bytes_eq, refl, sym, ap, ◌∙◌, drop-cons, add-one}
-use Rattle.uc_text.specs.View.{member_view, member_views}
-use Rattle.uc_text.specs.declared.tree.Member.{Member}
-use Rattle.uc_case.specs.Inside.{value_of}
+use Rattle.uc_case.proofs.Common.{◌≡◌, ℕ, suc, ◌+◌, ◌<◌, List, ◌∷◌, length, get_or, drop, Some, cond, bytes_eq, refl, sym, ap, ◌∙◌, drop-cons, add-one, member_view, member_views, Member, value_of}
 
 pub value_step : (key : List ℕ) (ms : List Member) (i : ℕ) (m : Member) → i < length ms → m ≡ get_or ms i m
     → value_of key (member_views (drop i ms)) ≡ cond (bytes_eq (member_view m).name key) (Some (member_view m).value) (value_of key (member_views (drop (i + 1) ms)))

@@ -1,9 +1,5 @@
 -- Numbers that passed their tests are within their limits.
-use Rattle.std.proofs.Common.{◌≡◌, ℕ, ◌≤◌, false, arith, true≢false}
-use Rattle.std.specs.Prelude.{ℤ, pos, negsuc, neg_ℤ, unsigned_abs, nat_lt, int_lt}
-use Rattle.std.proofs.lemmas.Bool.{ltb-false}
-use Rattle.std.proofs.lemmas.Int.{ints}
-use Rattle.uc_model.specs.Limits.{IsFrom}
+use Rattle.uc_case.proofs.Common.{◌≡◌, ℕ, ◌≤◌, false, arith, true≢false, ℤ, pos, negsuc, neg_ℤ, unsigned_abs, nat_lt, int_lt, ltb-false, ints, IsFrom}
 
 pub not_above : (limit : ℕ) (n : ℤ) → nat_lt limit (unsigned_abs n) ≡ false → int_lt n (pos 0) ≡ false → IsFrom (pos 0) (pos limit) n
 not_above limit (pos m) above below = let le : m ≤ limit = ltb-false _ _ above in record { at_least = omega (arith, ints); at_most = omega (arith, ints, le) }

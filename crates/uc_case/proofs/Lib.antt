@@ -1,3 +1,5 @@
+-- The names from elsewhere that the proofs here cite.
+pub mod Common
 pub mod FileLaws
 pub mod Views
 pub mod Fits
@@ -7,3 +9,5 @@ pub mod Ordered
 pub mod Limited
 pub mod Answered
 pub mod Worked
+-- The lemmas that answers cite.
+pub mod Lemmas

@@ -1,22 +1,9 @@
 -- What was read for a unit is within the limits of its type.
-use Rattle.std.proofs.Common.{◌≡◌, ℕ, zero, suc, ◌<◌, ◌≤◌, Bool, true, false, List, [], ◌∷◌, length, map, get_or, Ok, Err, refl, sym, ◌∙◌, if◌then◌else◌, arith, w64, to_z, of_z}
-use Rattle.std.specs.Prelude.{ℤ, pos, ◌≤ℤ◌, int_lt, nat_lt}
-use Rattle.std.specs.List.{All}
-use Rattle.std.proofs.lemmas.Int.{ints, to_z-of_z}
-use Rattle.uc_model.specs.declared.units.Lag.{Lag}
-use Rattle.uc_model.specs.declared.units.Point.{Point}
-use Rattle.uc_model.specs.declared.units.Block.{Block}
+use Rattle.uc_case.proofs.Common.{◌≡◌, ℕ, zero, suc, ◌<◌, ◌≤◌, Bool, true, false, List, [], ◌∷◌, length, map, get_or, Ok, Err, refl, sym, ◌∙◌, if◌then◌else◌, arith, w64, to_z, of_z, ℤ, pos, ◌≤ℤ◌, int_lt, nat_lt, All, ints, to_z-of_z, Lag, Point, Block, IsPower, IsOutput, IsThermalUnit, IsRenewableUnit, Spans, Value, IsRange, AreRamps, IsPast, AreLags, ArePoints, fault, each, first_crossed, block, period_blocks, Place}
 use Rattle.uc_model.specs.declared.units.Mark.{Mark}
-use Rattle.uc_model.specs.Limits.{IsPower, IsOutput, IsThermalUnit, IsRenewableUnit, Spans}
 use Rattle.uc_model.specs.Sums.{total}
-use Rattle.uc_text.specs.Values.{Value}
-use Rattle.uc_case.specs.Kept.{IsRange, AreRamps, IsPast, AreLags, ArePoints}
-use Rattle.uc_case.specs.Places.{fault}
-use Rattle.uc_case.specs.Words.{each}
 use Rattle.uc_case.specs.Forms.{list}
-use Rattle.uc_case.specs.Tables.{first_crossed, block, period_blocks}
 use Rattle.uc_case.specs.declared.fault.CaseCode.TheVariants as codes
-use Rattle.uc_case.specs.declared.fault.Place.{Place}
 use Rattle.uc_case.specs.declared.parts.Output.{Output}
 use Rattle.uc_case.specs.declared.parts.Ramps.{Ramps}
 use Rattle.uc_case.specs.declared.parts.Past.{Past}

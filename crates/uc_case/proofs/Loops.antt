@@ -1,23 +1,8 @@
 -- The items of a list, read one after the other as a loop does.
-use Rattle.std.proofs.Common.{◌≡◌, ℕ, ◌+◌, ◌<◌, List, [], ◌∷◌, ◌++◌, length, map, get_or, drop, Ok, refl, sym, subst, ◌∙◌}
-use Rattle.std.proofs.lemmas.List.{length-map, map_push}
-use Rattle.uc_model.specs.Reserved.{Reserved, items_in}
+use Rattle.uc_case.proofs.Common.{◌≡◌, ℕ, ◌+◌, ◌<◌, List, [], ◌∷◌, ◌++◌, length, map, get_or, drop, Ok, refl, sym, subst, ◌∙◌, length-map, map_push, Reserved, items_in, Block, period_blocks, Value, Pair, view, views, member_view, member_views, Tree, Member, goes_on, ends, place, item_at, each, position, Read, Place, FieldFault}
 use Rattle.uc_model.specs.declared.kinds.Kind.{Kind}
-use Rattle.uc_model.specs.declared.units.Block.{Block}
-use Rattle.uc_case.specs.Tables.{period_blocks}
-use Rattle.uc_text.specs.Values.{Value}
-use Rattle.uc_text.specs.Parts.{Pair}
-use Rattle.uc_text.specs.View.{view, views, member_view, member_views}
-use Rattle.uc_text.specs.declared.tree.Tree.{Tree}
-use Rattle.uc_text.specs.declared.tree.Member.{Member}
-use Rattle.uc_case.specs.EachLaws.{goes_on, ends}
 use Rattle.uc_case.specs.Given.{Fails}
-use Rattle.uc_case.specs.Places.{place, item_at}
-use Rattle.uc_case.specs.Words.{each, position}
-use Rattle.uc_case.specs.Forms.{Read}
-use Rattle.uc_case.specs.declared.fault.Place.{Place}
 use Rattle.uc_case.specs.declared.fault.Field.{Field}
-use Rattle.uc_case.specs.declared.fault.FieldFault.{FieldFault}
 use Rattle.uc_case.specs.declared.stop.Stop.{Stop}
 
 -- ---- the same for items, each at the place of its position

@@ -1,18 +1,7 @@
 -- Lists whose items keep an order, one item more at the end.
-use Rattle.std.proofs.Common.{◌≡◌, ℕ, zero, suc, ◌-◌, ◌<◌, ◌≤◌, Bool, true, false, ◌||◌, List, [], ◌∷◌, ◌++◌, length, get_or, Some, refl, sym, ap, ◌∙◌, arith, true≢false}
-use Rattle.std.specs.Prelude.{ℤ, ◌≤ℤ◌, nat_lt, int_lt, slice_get}
+use Rattle.uc_case.proofs.Common.{◌≡◌, ℕ, zero, suc, ◌-◌, ◌<◌, ◌≤◌, Bool, true, false, ◌||◌, List, [], ◌∷◌, ◌++◌, length, get_or, Some, refl, sym, ap, ◌∙◌, arith, true≢false, ℤ, ◌≤ℤ◌, nat_lt, int_lt, slice_get, ltb-false, ints, All-nil, All-push, Lag, Point, Block, IsLag, IsPoint, IsBlock, Spans, ends_miss, AreLags, ArePoints, AreBlocks, last_is}
 use Rattle.std.specs.Option.{option_map_or}
-use Rattle.std.proofs.lemmas.Bool.{ltb-false}
-use Rattle.std.proofs.lemmas.Int.{ints}
 use Rattle.std.proofs.lemmas.Option.{slice_get-get_or}
-use Rattle.std.proofs.lemmas.List.Elements.{All-nil, All-push}
-use Rattle.uc_model.specs.declared.units.Lag.{Lag}
-use Rattle.uc_model.specs.declared.units.Point.{Point}
-use Rattle.uc_model.specs.declared.units.Block.{Block}
-use Rattle.uc_model.specs.Limits.{IsLag, IsPoint, IsBlock, Spans}
-use Rattle.uc_case.specs.Tables.{ends_miss}
-use Rattle.uc_case.specs.Kept.{AreLags, ArePoints, AreBlocks}
-use Rattle.uc_case.specs.Words.{last_is}
 
 -- each item but the first keeps R with the one before it
 abbrev Chain : {A : Type 0} → (A → A → Type 0) → List A → Type 0

@@ -1,11 +1,5 @@
 -- A tree and a member, level by level.
-use Rattle.std.proofs.Common.{◌≡◌, List, [], ◌∷◌, Vec, Global, Box, Some, string_bytes, refl, ap, rules}
-use Rattle.uc_text.specs.Values.{Value, list, object}
-use Rattle.uc_text.specs.Parts.{Pair, items_of, members_of}
-use Rattle.uc_text.specs.View.{view, views, member_view, member_views}
-use Rattle.uc_text.specs.declared.tree.Tree.{Tree, List as ListOf, Object, the_lemmas}
-use Rattle.uc_text.specs.declared.tree.Member.{Member, out-Member, the_lemmas as member_lemmas}
-use Rattle.uc_case.specs.Inside.{values, pairs, list_in, object_in}
+use Rattle.uc_case.proofs.Common.{◌≡◌, List, [], ◌∷◌, Vec, Global, Box, Some, string_bytes, refl, ap, rules, Value, list, object, Pair, items_of, members_of, view, views, member_view, member_views, Tree, ListOf, Object, the_lemmas, Member, out-Member, member_lemmas, values, pairs, list_in, object_in}
 
 pub values_back : (vs : List Value) → values (items_of vs) ≡ vs
 values_back [] = refl

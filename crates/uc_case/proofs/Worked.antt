@@ -1,14 +1,6 @@
 -- Worked trees: the definition computes.
-use Rattle.std.proofs.Common.{◌≡◌, [], ◌∷◌, Ok, Err, ℕ, List, true, false, refl}
-use Rattle.std.specs.Prelude.{pos, negsuc, codes}
+use Rattle.uc_case.proofs.Common.{◌≡◌, [], ◌∷◌, Ok, Err, ℕ, List, true, false, refl, pos, negsuc, codes, Value, scalar, number, list, object, Pair, items_of, members_of, value_of, each, amount, time_within, powers, renewable_unit, units, renewable, bids, case_of}
 use Rattle.uc_num.specs.Rounding.{rounded, rounded_size}
-use Rattle.uc_text.specs.Values.{Value, scalar, number, list, object}
-use Rattle.uc_text.specs.Parts.{Pair, items_of, members_of}
-use Rattle.uc_case.specs.Inside.{value_of}
-use Rattle.uc_case.specs.Words.{each}
-use Rattle.uc_case.specs.Forms.{amount, time_within}
-use Rattle.uc_case.specs.Tables.{powers, renewable_unit}
-use Rattle.uc_case.specs.Cases.{units, renewable, bids, case_of}
 use Rattle.uc_case.specs.declared.fault.CaseCode.TheVariants as codes_of
 use Rattle.uc_case.specs.declared.fault.Field.TheVariants as fields
 use Rattle.uc_model.specs.declared.kinds.Kind.TheVariants as kinds

@@ -1,23 +1,5 @@
 -- How large the powers, the cost and the earnings of one unit's feasible schedule can be.
-use Rattle.std.proofs.Common.{◌≡◌, ℕ, suc, ◌-◌, ◌<◌, ◌≤◌, ◌⊎◌, inl, inr, Bool, true, false, cond, Some, None, ℤ, pos, ◌+ℤ◌, ◌-ℤ◌, ◌*ℤ◌, ◌≤ℤ◌, List, [], ◌∷◌, ◌++◌, map, length, refl, sym, ap, ◌∙◌, subst, arith}
-use Rattle.std.proofs.Math.IntN.{*ℤ_comm, *ℤ-zero}
-use Rattle.std.proofs.lemmas.Bool.{cases_lt}
-use Rattle.std.proofs.lemmas.Int.{ints, clamps}
-use Rattle.std.proofs.lemmas.List.{length-reverse, get_or-reverse, get_or_past}
-use Rattle.std.specs.Int.{int_min}
-use Rattle.std.specs.List.{All, find}
-use Rattle.std.specs.Option.{option_map_or}
-use Rattle.std.specs.Prelude.{reverse, nat_le, slice_get, slice_index, slice_index_or}
-use Rattle.uc_model.specs.declared.units.Block.{Block}
-use Rattle.uc_model.specs.declared.units.Lag.{Lag}
-use Rattle.uc_model.specs.declared.units.Point.{Point}
-use Rattle.uc_model.specs.BoundLaws.{GivesWithin, StartCostsAreWithin, PowerCostsAreWithin, OutputsAreWithin, CostsAreWithin, EarningsAreWithin}
-use Rattle.uc_model.specs.Data.{ThermalUnit, BidUnit, AnyUnit, Thermal, Flat, Bid, PriceLists, Schedule}
-use Rattle.uc_model.specs.Earnings.{start_cost_of, worth_of, supply_in, revenue}
-use Rattle.uc_model.specs.Envelope.{line_at, least_line, envelope}
-use Rattle.uc_model.specs.Limits.{IsLag, IsStartCost, IsPoint, Spans, IsThermalUnit, IsBlock, IsBidUnit, IsUnit, ArePrices}
-use Rattle.uc_model.specs.Schedules.{power_in, reserve_in, starts_in, time_down, IsPeriod, blocks_at, width_of, IsFeasible, IsThermalFeasible}
-use Rattle.uc_model.specs.Sums.{int_at, total}
+use Rattle.uc_model.proofs.Common.{◌≡◌, ℕ, suc, ◌-◌, ◌<◌, ◌≤◌, ◌⊎◌, inl, inr, Bool, true, false, cond, Some, None, ℤ, pos, ◌+ℤ◌, ◌-ℤ◌, ◌*ℤ◌, ◌≤ℤ◌, List, [], ◌∷◌, ◌++◌, map, length, refl, sym, ap, ◌∙◌, subst, arith, *ℤ_comm, *ℤ-zero, cases_lt, ints, clamps, length-reverse, get_or-reverse, get_or_past, int_min, All, find, option_map_or, reverse, nat_le, slice_get, slice_index, slice_index_or, Block, Lag, Point, GivesWithin, StartCostsAreWithin, PowerCostsAreWithin, OutputsAreWithin, CostsAreWithin, EarningsAreWithin, ThermalUnit, BidUnit, AnyUnit, Thermal, Flat, Bid, PriceLists, Schedule, start_cost_of, worth_of, supply_in, revenue, line_at, least_line, envelope, IsLag, IsStartCost, IsPoint, Spans, IsThermalUnit, IsBlock, IsBidUnit, IsUnit, ArePrices, power_in, reserve_in, starts_in, time_down, IsPeriod, blocks_at, width_of, IsFeasible, IsThermalFeasible, int_at, total}
 use Rattle.uc_model.proofs.EnvelopeLaws.{least_le, least_reached, item_is_in, All-is_in, some_last, envelope_is}
 use Rattle.uc_model.proofs.IntLaws.{mul-mono_of}
 use Rattle.uc_model.proofs.ListLaws.{none_some, same_item, head_of, tail_of, item_of, at_place, map-append, total-append}

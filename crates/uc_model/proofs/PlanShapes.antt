@@ -1,12 +1,6 @@
 -- Units by their numbers, and the lists of a feasible plan.
-use Rattle.std.proofs.Common.{◌≡◌, ℕ, suc, ◌+◌, ◌<◌, false, IsTrue, List, [], ◌∷◌, ◌++◌, map, length, drop, sym, ap, ◌∙◌, subst, arith, length-append, append_assoc}
-use Rattle.std.proofs.lemmas.List.{length-map, get_or_default}
-use Rattle.std.proofs.lemmas.List.Elements.{All-append, All-map}
-use Rattle.std.specs.List.{All, AllZip}
-use Rattle.std.specs.Prelude.{slice_get, slice_index_or}
-use Rattle.uc_model.specs.Data.{AnyUnit, Thermal, Flat, Bid, NamedThermalUnit, NamedRenewableUnit, NamedBidUnit, Schedule, Market, units, unit_count}
+use Rattle.uc_model.proofs.Common.{◌≡◌, ℕ, suc, ◌+◌, ◌<◌, false, IsTrue, List, [], ◌∷◌, ◌++◌, map, length, drop, sym, ap, ◌∙◌, subst, arith, length-append, append_assoc, length-map, get_or_default, All-append, All-map, All, AllZip, slice_get, slice_index_or, AnyUnit, Thermal, Flat, Bid, NamedThermalUnit, NamedRenewableUnit, NamedBidUnit, Schedule, Market, units, unit_count, IsFeasible}
 use Rattle.uc_model.specs.PlanLaws.{UnitsAreNumbered, FeasiblePlansHaveShape}
-use Rattle.uc_model.specs.Schedules.{IsFeasible}
 use Rattle.uc_model.proofs.ListLaws.{map_item, front_item, back_item, length_same, all_nil, all_cons}
 
 module _ (m : Market) where

@@ -1,16 +1,5 @@
 -- How large the totals, costs and earnings of all units together can be.
-use Rattle.std.proofs.Common.{◌≡◌, ℕ, suc, ◌+◌, ◌*◌, ◌≤◌, ℤ, pos, neg_ℤ, ◌+ℤ◌, ◌*ℤ◌, ◌≤ℤ◌, List, [], ◌∷◌, ◌++◌, map, length, refl, ap, ◌∙◌, subst, arith}
-use Rattle.std.proofs.Math.Nat.{mul-le-mul_left}
-use Rattle.std.proofs.lemmas.Int.{ints}
-use Rattle.std.proofs.lemmas.List.Elements.{All-append, All-map}
-use Rattle.std.specs.List.{All, AllZip}
-use Rattle.uc_model.specs.BoundLaws.{most_given, least_given, GivesWithin, UnitsAreWithin, TotalsAreWithin, EarnedSumsAreWithin, PlanCostsAreWithin, DemandWorthIsWithin, DualValuesAreWithin}
-use Rattle.uc_model.specs.Data.{AnyUnit, Thermal, Flat, Bid, PriceLists, Schedule, Market, NamedThermalUnit, NamedRenewableUnit, NamedBidUnit, units}
-use Rattle.uc_model.specs.Earnings.{cost_of, supply_in, IsTop}
-use Rattle.uc_model.specs.Limits.{IsUnit, IsMarket, IsUnitCost, IsEarned, ArePrices}
-use Rattle.uc_model.specs.Schedules.{reserve_in, IsFeasible}
-use Rattle.uc_model.specs.Sums.{int_at, total, zip_with}
-use Rattle.uc_model.specs.Systems.{total_power, total_reserve, plan_cost, worth_of_demand}
+use Rattle.uc_model.proofs.Common.{◌≡◌, ℕ, suc, ◌+◌, ◌*◌, ◌≤◌, ℤ, pos, neg_ℤ, ◌+ℤ◌, ◌*ℤ◌, ◌≤ℤ◌, List, [], ◌∷◌, ◌++◌, map, length, refl, ap, ◌∙◌, subst, arith, mul-le-mul_left, ints, All-append, All-map, All, AllZip, most_given, least_given, GivesWithin, UnitsAreWithin, TotalsAreWithin, EarnedSumsAreWithin, PlanCostsAreWithin, DemandWorthIsWithin, DualValuesAreWithin, AnyUnit, Thermal, Flat, Bid, PriceLists, Schedule, Market, NamedThermalUnit, NamedRenewableUnit, NamedBidUnit, units, cost_of, supply_in, IsTop, IsUnit, IsMarket, IsUnitCost, IsEarned, ArePrices, reserve_in, IsFeasible, int_at, total, zip_with, total_power, total_reserve, plan_cost, worth_of_demand}
 use Rattle.uc_model.proofs.Bounds.{costs_within, earnings_within}
 use Rattle.uc_model.proofs.ListLaws.{head_of, tail_of, map-append, map-map, total-append, length_same, all_nil, all_cons}
 use Rattle.uc_model.proofs.PlanShapes.{length-units}

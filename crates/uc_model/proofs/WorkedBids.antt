@@ -1,17 +1,6 @@
 -- Bids and commitment windows, at numbers that were worked out by hand.
-use Rattle.std.proofs.Common.{◌≡◌, ℕ, pos, neg_ℤ, true, false, List, [], ◌∷◌, refl}
-use Rattle.uc_model.specs.declared.units.Mark.{Mark}
-use Rattle.uc_model.specs.declared.units.Mark.TheVariants.{Free, MustOff, MustOn}
-use Rattle.uc_model.specs.Data.{ThermalUnit, BidUnit, Bid, Schedule, Market}
-use Rattle.uc_model.specs.Earnings.{earnings, worth_of, supply_in}
-use Rattle.uc_model.specs.Envelope.{envelope}
-use Rattle.uc_model.specs.PriceRule.{start_prices, is_settled}
+use Rattle.uc_model.proofs.Common.{◌≡◌, ℕ, pos, neg_ℤ, true, false, List, [], ◌∷◌, refl, Mark, Free, MustOff, MustOn, ThermalUnit, BidUnit, Bid, Schedule, Market, earnings, worth_of, supply_in, envelope, start_prices, is_settled, Window, MustRun, BidRange, Balance, refusals, thermal_refusals, plan_cost, total_power, unit_numbers, units}
 use Rattle.uc_model.specs.declared.kinds.Kind.TheVariants as kinds
-use Rattle.uc_model.specs.declared.kinds.RuleCode.TheVariants.{Window, MustRun, BidRange, Balance}
-use Rattle.uc_model.specs.Refusals.{refusals, thermal_refusals}
-use Rattle.uc_model.specs.Systems.{plan_cost, total_power}
-use Rattle.uc_model.specs.TaskLists.{unit_numbers}
-use Rattle.uc_model.specs.Data.{units}
 use Rattle.uc_model.proofs.WorkedSystems.{two_units, block_unit, one_period, energy_only}
 
 -- ---- a bid of 50 kW at 40 beside the two units

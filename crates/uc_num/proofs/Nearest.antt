@@ -1,14 +1,6 @@
 -- The number that is computed is the nearest one, and the only one.
-use Rattle.std.proofs.Common.{◌≡◌, ℕ, zero, suc, ◌+◌, ◌-◌, ◌*◌, ◌/◌, ◌^◌, ◌<◌, ◌≤◌, ℤ, pos, negsuc, neg_ℤ, ◌+ℤ◌, ◌-ℤ◌, ◌*ℤ◌, ◌≤ℤ◌, ◌<ℤ◌, Bool, true, false, unsigned_abs, sym, ap, subst, arith}
-use Rattle.std.proofs.Common.{Result, Ok, Err, nat_lt, if◌then◌else◌}
-use Rattle.std.proofs.lemmas.Bool.Decides.{nat_tests}
-use Rattle.std.proofs.lemmas.Int.{ints, by_lt_z}
-use Rattle.std.proofs.Common.{nat_le, inl, inr, ◌%◌}
+use Rattle.uc_num.proofs.Common.{◌≡◌, ℕ, zero, suc, ◌+◌, ◌-◌, ◌*◌, ◌/◌, ◌^◌, ◌<◌, ◌≤◌, ℤ, pos, negsuc, neg_ℤ, ◌+ℤ◌, ◌-ℤ◌, ◌*ℤ◌, ◌≤ℤ◌, ◌<ℤ◌, Bool, true, false, unsigned_abs, sym, ap, subst, arith, Result, Ok, Err, nat_lt, if◌then◌else◌, nat_tests, ints, by_lt_z, nat_le, inl, inr, ◌%◌, div_below, mul-le-mul_right, IsNearest, IsRounded, signed, zeros, places, size_cut, size_at, rounded_size, rounded, Decimal}
 use Rattle.std.proofs.lemmas.Bool.{cases_lt}
-use Rattle.std.proofs.lemmas.Nat.{div_below}
-use Rattle.std.proofs.Math.Nat.{mul-le-mul_right}
-use Rattle.uc_num.specs.Rounding.{IsNearest, IsRounded, signed, zeros, places, size_cut, size_at, rounded_size, rounded}
-use Rattle.uc_num.specs.declared.Decimal.{Decimal}
 use Rattle.uc_num.proofs.Powers.{ten_some}
 
 -- products with a number that isn't negative

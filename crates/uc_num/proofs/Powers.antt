@@ -1,11 +1,5 @@
 -- Powers of ten, and numbers that are multiples of one.
-use Rattle.std.proofs.Common.{◌≡◌, ℕ, zero, suc, ◌+◌, ◌*◌, ◌/◌, ◌%◌, ◌^◌, ◌<◌, ◌≤◌, ℤ, pos, negsuc, ◌≤ℤ◌, ◌<ℤ◌, unsigned_abs, sym, ap, subst, ◌∙◌, arith, lit<}
-use Rattle.std.proofs.lemmas.Int.{ints}
-use Rattle.std.proofs.Math.Nat.{pow-le-pow_right, one-le-pow}
-use Rattle.std.proofs.lemmas.Nat.{mod-mul-add}
-use Rattle.std.proofs.Common.{Bool, true, nat_eq}
-use Rattle.std.proofs.lemmas.Bool.Decides.{nat_tests, same_from_decides}
-use Rattle.uc_num.specs.Rounding.{IsWholeValue, is_whole_value, zeros, places}
+use Rattle.uc_num.proofs.Common.{◌≡◌, ℕ, zero, suc, ◌+◌, ◌*◌, ◌/◌, ◌%◌, ◌^◌, ◌<◌, ◌≤◌, ℤ, pos, negsuc, ◌≤ℤ◌, ◌<ℤ◌, unsigned_abs, sym, ap, subst, ◌∙◌, arith, lit<, ints, pow-le-pow_right, one-le-pow, mod-mul-add, Bool, true, nat_eq, nat_tests, same_from_decides, IsWholeValue, is_whole_value, zeros, places}
 
 pub ten_up : (i j : ℕ) → i ≤ j → 10 ^ i ≤ 10 ^ j
 ten_up i j le = pow-le-pow_right {n = 10} (lit< tt) le

@@ -1,7 +1,5 @@
 -- Rounding at numbers that were worked out by hand.
-use Rattle.std.proofs.Common.{◌≡◌, ℕ, ℤ, pos, negsuc, Bool, true, false, refl}
-use Rattle.uc_num.specs.Rounding.{rounded, rounded_size}
-use Rattle.uc_num.specs.declared.Decimal.{Decimal}
+use Rattle.uc_num.proofs.Common.{◌≡◌, ℕ, ℤ, pos, negsuc, Bool, true, false, refl, rounded, rounded_size, Decimal}
 
 abbrev number : Bool → ℕ → ℤ → Decimal
 number negative digits exponent = record { negative = negative; digits = digits; exponent = exponent }

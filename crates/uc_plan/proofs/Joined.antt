@@ -1,24 +1,11 @@
 -- The schedules of the three kinds make up the plan.
-use Rattle.std.proofs.Common.{◌≡◌, ℕ, List, [], ◌∷◌, ◌++◌, length, map, Result, Ok, refl, sym, ap, ◌∙◌, arith, length-append, subst}
-use Rattle.std.specs.List.{All}
+use Rattle.uc_plan.proofs.Common.{◌≡◌, ℕ, List, [], ◌∷◌, ◌++◌, length, map, Result, Ok, refl, sym, ap, ◌∙◌, arith, length-append, subst, All, append_assoc, All-append, Schedule, Market, NamedThermalUnit, NamedRenewableUnit, NamedBidUnit, thermal_names, renewable_names, bid_names, HasPlanShape, named_thermal_of, named_renewable_of, named_bid_of, Value, Fails, ◌>>=◌, ◌>>◌, Stop, IsShaped, HasLengths, IsFlat, Groups, Read, groups, all_known, schedules, plan_of, ShapeFault}
 use Rattle.std.proofs.Math.Seq.{drop-append_seam}
-use Rattle.std.proofs.lemmas.List.{append_assoc}
-use Rattle.std.proofs.lemmas.List.Elements.{All-append}
-use Rattle.uc_model.specs.Data.{Schedule, Market, NamedThermalUnit, NamedRenewableUnit, NamedBidUnit, thermal_names, renewable_names, bid_names}
-use Rattle.uc_model.specs.Laws.{HasPlanShape}
-use Rattle.uc_model.specs.PlainUnits.{named_thermal_of, named_renewable_of, named_bid_of}
 use Rattle.uc_model.specs.declared.kinds.Kind.TheVariants.{Thermal, Renewable, Bid}
 use Rattle.uc_model.specs.declared.units.NamedUnit.{NamedUnit}
 use Rattle.uc_model.specs.declared.units.NamedFlat.{NamedFlat}
 use Rattle.uc_model.specs.declared.units.NamedBid.{NamedBid}
-use Rattle.uc_text.specs.Values.{Value}
-use Rattle.uc_case.specs.Given.{Fails}
-use Rattle.uc_case.specs.Words.{◌>>=◌, ◌>>◌}
-use Rattle.uc_case.specs.declared.stop.Stop.{Stop}
 use Rattle.uc_case.specs.declared.stop.Stop.TheVariants as stops
-use Rattle.uc_plan.specs.Added.{IsShaped, HasLengths, IsFlat}
-use Rattle.uc_plan.specs.Plans.{Groups, Read, groups, all_known, schedules, plan_of}
-use Rattle.uc_plan.specs.declared.fault.ShapeFault.{ShapeFault}
 
 pub thermal_named : (ts : List NamedUnit) → map (λ (n : NamedThermalUnit). n.name) (map named_thermal_of ts) ≡ map (λ (n : NamedUnit). n.name.items) ts
 thermal_named [] = refl

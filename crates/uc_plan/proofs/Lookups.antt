@@ -1,13 +1,6 @@
 -- Look-ups by name, while a map or a set of names is filled from the last one on.
-use Rattle.std.proofs.Common.{◌≡◌, ℕ, suc, ◌+◌, ◌-◌, ◌<◌, ◌≤◌, Bool, true, false, cond, List, [], length, map, get_or, drop, Option, Some, None, bytes_eq, refl, sym, ap, ◌∙◌, if◌then◌else◌, drop-cons, add-one, arith, Bor}
-use Rattle.std.specs.Option.{option_map}
-use Rattle.std.proofs.lemmas.List.{nil_from_length, length-drop}
-use Rattle.uc_text.specs.Values.{Value}
-use Rattle.uc_text.specs.View.{view, member_view, member_views}
-use Rattle.uc_text.specs.declared.tree.Tree.{Tree}
+use Rattle.uc_plan.proofs.Common.{◌≡◌, ℕ, suc, ◌+◌, ◌-◌, ◌<◌, ◌≤◌, Bool, true, false, cond, List, [], length, map, get_or, drop, Option, Some, None, bytes_eq, refl, sym, ap, ◌∙◌, if◌then◌else◌, drop-cons, add-one, arith, Bor, option_map, nil_from_length, length-drop, Value, view, member_view, member_views, Tree, value_of, is_among, first_unknown}
 use Rattle.uc_text.specs.declared.tree.Member.{Member}
-use Rattle.uc_case.specs.Inside.{value_of}
-use Rattle.uc_plan.specs.Plans.{is_among, first_unknown}
 
 -- nothing is left behind the last one
 all_dropped : {A : Type 0} (xs : List A) (n : ℕ) → length xs ≤ n → drop n xs ≡ []

@@ -1,18 +1,8 @@
 -- The numbers of a list, read one after the other as a loop does.
-use Rattle.std.proofs.Common.{◌≡◌, ℕ, ◌+◌, ◌<◌, ◌≤◌, List, [], ◌∷◌, ◌++◌, length, get_or, drop, Option, Some, None, Result, Ok, Err, refl, ap}
-use Rattle.uc_text.specs.Values.{Value}
-use Rattle.uc_text.specs.View.{view, views}
-use Rattle.uc_text.specs.declared.tree.Tree.{Tree}
-use Rattle.uc_case.specs.Given.{Fails}
-use Rattle.uc_case.specs.Words.{need, each, position}
-use Rattle.uc_case.specs.declared.stop.Stop.{Stop}
+use Rattle.uc_plan.proofs.Common.{◌≡◌, ℕ, ◌+◌, ◌<◌, ◌≤◌, List, [], ◌∷◌, ◌++◌, length, get_or, drop, Option, Some, None, Result, Ok, Err, refl, ap, Value, view, views, Tree, Fails, need, each, position, Stop, goes_on, ends, is_done, Read, numbers, Seat, ShapeFault}
 use Rattle.uc_case.specs.declared.stop.Stop.TheVariants as stops
-use Rattle.uc_case.specs.EachLaws.{goes_on, ends, is_done}
-use Rattle.uc_plan.specs.Plans.{Read, numbers}
 use Rattle.uc_plan.specs.Shapes.{fault}
-use Rattle.uc_plan.specs.declared.fault.Seat.{Seat}
 use Rattle.uc_plan.specs.declared.fault.ShapeCode.TheVariants.{PlanNumber}
-use Rattle.uc_plan.specs.declared.fault.ShapeFault.{ShapeFault}
 
 -- one of the numbers, with those before it
 abbrev pub one_number : {A : Type 0} → (Value → Option A) → Seat → List A → Value → Read A

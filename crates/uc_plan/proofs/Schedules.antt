@@ -1,21 +1,7 @@
 -- The schedules of units, read one after the other as a loop does.
-use Rattle.std.proofs.Common.{◌≡◌, ℕ, ◌+◌, ◌<◌, ◌≤◌, List, [], ◌∷◌, ◌++◌, length, map, get_or, drop, Ok, refl, sym, subst, ◌∙◌}
-use Rattle.std.specs.List.{All}
-use Rattle.std.proofs.lemmas.List.Elements.{All-nil, All-push}
-use Rattle.std.proofs.lemmas.List.{map_push, append-nil, append_assoc}
-use Rattle.uc_model.specs.Data.{Schedule}
-use Rattle.uc_model.specs.PlainUnits.{schedule_of}
+use Rattle.uc_plan.proofs.Common.{◌≡◌, ℕ, ◌+◌, ◌<◌, ◌≤◌, List, [], ◌∷◌, ◌++◌, length, map, get_or, drop, Ok, refl, sym, subst, ◌∙◌, All, All-nil, All-push, map_push, append-nil, append_assoc, Schedule, schedule_of, Pair, Fails, each, position, Stop, goes_on, ends, is_done, counted, IsShaped, Read, seat, named, schedules, Seat, ShapeFault}
 use Rattle.uc_model.specs.declared.kinds.Kind.{Kind}
 use Rattle.uc_model.specs.declared.units.Response.{Response}
-use Rattle.uc_text.specs.Parts.{Pair}
-use Rattle.uc_case.specs.Given.{Fails}
-use Rattle.uc_case.specs.Words.{each, position}
-use Rattle.uc_case.specs.declared.stop.Stop.{Stop}
-use Rattle.uc_case.specs.EachLaws.{goes_on, ends, is_done, counted}
-use Rattle.uc_plan.specs.Added.{IsShaped}
-use Rattle.uc_plan.specs.Plans.{Read, seat, named, schedules}
-use Rattle.uc_plan.specs.declared.fault.Seat.{Seat}
-use Rattle.uc_plan.specs.declared.fault.ShapeFault.{ShapeFault}
 
 -- one of the schedules, with those before it
 abbrev pub one_schedule : ℕ → Kind → List Pair → List Schedule → List ℕ → Read Schedule

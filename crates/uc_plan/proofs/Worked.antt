@@ -1,14 +1,8 @@
 -- Worked trees: the definition computes.
-use Rattle.std.proofs.Common.{◌≡◌, [], ◌∷◌, Ok, Err, ℕ, List, true, false, refl}
+use Rattle.uc_plan.proofs.Common.{◌≡◌, [], ◌∷◌, Ok, Err, ℕ, List, true, false, refl, Market, Value, scalar, number, list, object, Pair, items_of, members_of, value_of, each, numbers, flat_schedule, schedule, named, all_known, schedules, groups, plan_of}
 use Rattle.std.specs.Prelude.{pos, codes}
-use Rattle.uc_model.specs.Data.{Market}
 use Rattle.uc_model.specs.declared.kinds.Kind.TheVariants as kinds
 use Rattle.uc_num.specs.Rounding.{rounded, rounded_size}
-use Rattle.uc_text.specs.Values.{Value, scalar, number, list, object}
-use Rattle.uc_text.specs.Parts.{Pair, items_of, members_of}
-use Rattle.uc_case.specs.Inside.{value_of}
-use Rattle.uc_case.specs.Words.{each}
-use Rattle.uc_plan.specs.Plans.{numbers, flat_schedule, schedule, named, all_known, schedules, groups, plan_of}
 use Rattle.uc_plan.specs.declared.fault.ShapeCode.TheVariants as codes_of
 
 abbrev whole_number : ℕ → Value

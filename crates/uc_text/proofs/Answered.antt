@@ -1,15 +1,7 @@
 -- An answer is the only one.
-use Rattle.std.proofs.Common.{ℕ, List, Result, Ok, Err}
-use Rattle.std.specs.Prelude.{IfOk}
-use Rattle.uc_text.specs.Values.{Value}
-use Rattle.uc_text.specs.Places.{IfFault}
+use Rattle.uc_text.proofs.Common.{ℕ, List, Result, Ok, Err, IfOk, Value, IfFault, IsText, IsFirstFault, view, TextFault, TextError, Tree}
 use Rattle.uc_text.specs.Answers.{GivesTree, GivesFault}
-use Rattle.uc_text.specs.Texts.{IsText, IsFirstFault}
-use Rattle.uc_text.specs.View.{view}
-use Rattle.uc_text.specs.declared.fault.TextFault.{TextFault}
-use Rattle.uc_text.specs.declared.fault.TextError.{TextError}
 use Rattle.uc_text.specs.declared.fault.TextError.TheVariants as errors
-use Rattle.uc_text.specs.declared.tree.Tree.{Tree}
 use Rattle.uc_text.proofs.Uniqueness.{one_value, text_or_fault, one_fault}
 
 pub is_only : (limit : ℕ) (bytes : List ℕ) (r : Result Tree TextError) → IfOk r (λ t. IsText limit bytes (view t)) → IfFault r (λ f. IsFirstFault limit bytes f) → (v : Value) → IsText limit bytes v → GivesTree r v

@@ -1,22 +1,9 @@
 -- Each text has a tree or a first fault.
-use Rattle.std.proofs.Common.{◌≡◌, ◌≢◌, ℕ, zero, suc, ◌+◌, ◌-◌, ◌*◌, ◌<◌, ◌≤◌, Bool, true, false, cond, ◌⊎◌, inl, inr, List, [], ◌∷◌, ◌++◌, length, refl, sym, ap, subst, ◌∙◌, arith, true≢false}
-use Rattle.std.proofs.lemmas.Bool.{cases_lt}
-use Rattle.uc_text.specs.Values.{Scalar, long_number, text, Value, scalar, list, object}
-use Rattle.uc_text.specs.Grammar.{Token, open_list, close_list, open_object, close_object, comma, colon, word, key, end}
-use Rattle.uc_text.specs.Faults.{length_of_numbers, levels}
-use Rattle.uc_text.specs.Parts.{Pair, names, items_of, members_of, IsNewName, IsStuck}
-use Rattle.text_tokens.specs.Tokens.{Placed, placed, is_blank, token_at, tokens_from, tokens}
-use Rattle.text_tokens.specs.Goes.{goes}
-use Rattle.uc_text.specs.Places.{NextIs, StuckAt, Reads, ReadsItems, ReadsMembers}
-use Rattle.uc_text.specs.Texts.{IsText, IsFirstFault}
-use Rattle.uc_text.specs.declared.fault.TextCode.{TextCode}
-use Rattle.uc_text.specs.declared.fault.TextCode.TheVariants.{NotJson, NumberTooLong, TooDeep, DoubleKey}
-use Rattle.uc_text.specs.declared.fault.TextFault.{TextFault}
+use Rattle.uc_text.proofs.Common.{◌≡◌, ◌≢◌, ℕ, zero, suc, ◌+◌, ◌-◌, ◌*◌, ◌<◌, ◌≤◌, Bool, true, false, cond, ◌⊎◌, inl, inr, List, [], ◌∷◌, ◌++◌, length, refl, sym, ap, subst, ◌∙◌, arith, true≢false, cases_lt, Scalar, long_number, text, Value, scalar, list, object, Token, open_list, close_list, open_object, close_object, comma, colon, word, key, end, length_of_numbers, levels, Pair, names, items_of, members_of, IsNewName, IsStuck, Placed, placed, is_blank, token_at, tokens_from, tokens, goes, NextIs, StuckAt, Reads, ReadsItems, ReadsMembers, IsText, IsFirstFault, TextCode, NotJson, NumberTooLong, TooDeep, DoubleKey, TextFault, is_there}
 use Rattle.uc_text.proofs.Ending.{goes-token_at}
 use Rattle.uc_text.proofs.Spellings.{is_start}
 use Rattle.uc_text.proofs.Objects.{of_member}
 use Rattle.uc_text.proofs.Known.{there_has, there_new}
-use Rattle.uc_text.specs.Known.{is_there}
 use Rattle.uc_text.proofs.Steps.{InItems, items_begin, items_empty, items_go_on, items_end, items_stop, items_stop_behind}
 use Rattle.uc_text.proofs.MemberSteps.{InMembers, members_begin, members_empty, members_go_on, members_end, name_stops, double_stops, colon_stops, value_stops, member_stops_behind}
 use Rattle.uc_text.proofs.ValueSteps as first

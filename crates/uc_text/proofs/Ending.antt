@@ -1,10 +1,6 @@
 -- No bytes are the token at the end.
-use Rattle.std.proofs.Common.{◌≡◌, ℕ, Bool, true, false, cond, List, Option, Some, None, refl, rules}
-use Rattle.uc_text.specs.Grammar.{Token}
+use Rattle.uc_text.proofs.Common.{◌≡◌, ℕ, Bool, true, false, cond, List, Option, Some, None, refl, rules, Token, Piece, string_of, string_token, string_at, Read, word_of, token_at, goes}
 use Rattle.text_tokens.specs.Numbers.{number_token, power_digits, power, behind_fraction, behind_whole, unsigned, number_of}
-use Rattle.text_tokens.specs.Strings.{Piece, string_of, string_token, string_at}
-use Rattle.text_tokens.specs.Tokens.{Read, word_of, token_at}
-use Rattle.text_tokens.specs.Goes.{goes}
 
 either : (b : Bool) (t u : Token) → goes t ≡ true → goes u ≡ true → goes (cond b t u) ≡ true
 either true t u h k = h

@@ -1,11 +1,8 @@
 -- A set that has the names of the members so far.
-use Rattle.std.proofs.Common.{◌≡◌, ℕ, zero, suc, Bool, true, false, true≢false, not, cond, ◌||◌, ◌⊎◌, List, [], ◌∷◌, ◌++◌, bytes_eq, length, get_or, ◌<◌, refl, sym, ap, ap₂, subst, ◌∙◌, arith, inl, inr}
-use Rattle.std.specs.Prelude.{Contains}
+use Rattle.uc_text.proofs.Common.{◌≡◌, ℕ, zero, suc, Bool, true, false, true≢false, not, cond, ◌||◌, ◌⊎◌, List, [], ◌∷◌, ◌++◌, bytes_eq, length, get_or, ◌<◌, refl, sym, ap, ap₂, subst, ◌∙◌, arith, inl, inr, Contains, is_there, Knows, IsNewName}
 use Rattle.std.specs.List.{list_any}
 use Rattle.std.specs.Global.{Vec}
 use Rattle.std.specs.HashSet.{HashSet, contains_by}
-use Rattle.uc_text.specs.Known.{is_there, Knows}
-use Rattle.uc_text.specs.Parts.{IsNewName}
 use Rattle.uc_text.proofs.Views.{equal_bytes, unequal_bytes}
 
 or_true : (a b : Bool) → (a || b) ≡ true → (a ≡ true) ⊎ (b ≡ true)

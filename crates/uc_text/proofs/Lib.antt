@@ -1,3 +1,5 @@
+-- The names from elsewhere that the proofs here cite.
+pub mod Common
 pub mod Spellings
 pub mod Lists
 pub mod Objects
@@ -12,3 +14,5 @@ pub mod OtherTokens
 pub mod Words
 pub mod Decided
 pub mod Ending
+-- The lemmas that answers cite.
+pub mod Lemmas

@@ -1,10 +1,5 @@
 -- A fault within a list.
-use Rattle.std.proofs.Common.{◌≡◌, ◌≢◌, ℕ, ◌-◌, ◌<◌, List, [], ◌∷◌, ◌++◌, refl, sym, ap, subst, ◌∙◌, append_assoc}
-use Rattle.uc_text.specs.Values.{Scalar, Value, scalar, list, object, Items, no_items, item, Members, no_members, member, keys}
-use Rattle.std.proofs.lemmas.List.{append-nil}
-use Rattle.uc_text.specs.Grammar.{Token, open_list, close_list, comma, spell, spell_items, spell_more_items}
-use Rattle.uc_text.specs.Faults.{Test, grammar, length_of_numbers, levels, double_keys, ScalarPasses, LevelPasses, KeysPass, Passes, ItemsPass, MembersPass}
-use Rattle.uc_text.specs.Parts.{items_of, passed_items, opened, Starts, StartsBefore, IsStuck}
+use Rattle.uc_text.proofs.Common.{◌≡◌, ◌≢◌, ℕ, ◌-◌, ◌<◌, List, [], ◌∷◌, ◌++◌, refl, sym, ap, subst, ◌∙◌, append_assoc, Scalar, Value, scalar, list, object, Items, no_items, item, Members, no_members, member, keys, append-nil, Token, open_list, close_list, comma, spell, spell_items, spell_more_items, Test, grammar, length_of_numbers, levels, double_keys, ScalarPasses, LevelPasses, KeysPass, Passes, ItemsPass, MembersPass, items_of, passed_items, opened, Starts, StartsBefore, IsStuck}
 use Rattle.uc_text.proofs.Spellings.{heads, tails, not_close, one_spelling}
 
 pub level_passes : (t : Test) (m : ℕ) → 0 < m → LevelPasses t m

@@ -1,18 +1,5 @@
 -- The steps of the reader over an object's tokens.
-use Rattle.std.proofs.Common.{◌≡◌, ◌≢◌, ℕ, ◌-◌, ◌<◌, true, List, [], ◌∷◌, ◌++◌, refl, sym, subst, append_assoc}
-use Rattle.std.specs.Prelude.{Contains}
-use Rattle.std.proofs.Common.{arith}
-use Rattle.std.proofs.lemmas.List.{append-nil}
-use Rattle.uc_text.specs.Values.{Value}
-use Rattle.uc_text.specs.Grammar.{Token, open_object, close_object, comma, colon, key, spell}
-use Rattle.uc_text.specs.Faults.{double_keys, Passes, MembersPass}
-use Rattle.uc_text.specs.Parts.{Pair, members_of, names, IsNewName, passed_members, opened_object, IsStuck}
-use Rattle.text_tokens.specs.Tokens.{Placed, kinds}
-use Rattle.text_tokens.specs.Goes.{goes}
-use Rattle.uc_text.specs.Places.{test_of, NextIs, Takes, StuckAt, ReadsMembers}
-use Rattle.uc_text.specs.declared.fault.TextCode.{TextCode}
-use Rattle.uc_text.specs.declared.fault.TextCode.TheVariants.{NotJson, DoubleKey}
-use Rattle.uc_text.specs.declared.fault.TextFault.{TextFault}
+use Rattle.uc_text.proofs.Common.{◌≡◌, ◌≢◌, ℕ, ◌-◌, ◌<◌, true, List, [], ◌∷◌, ◌++◌, refl, sym, subst, append_assoc, Contains, arith, append-nil, Value, Token, open_object, close_object, comma, colon, key, spell, double_keys, Passes, MembersPass, Pair, members_of, names, IsNewName, passed_members, opened_object, IsStuck, Placed, kinds, goes, test_of, NextIs, Takes, StuckAt, ReadsMembers, TextCode, NotJson, DoubleKey, TextFault}
 use Rattle.uc_text.proofs.Objects.{AreDifferent, of_member, new_name_passes, names_push, members_push, passed_members_push, members_pass_push, stuck_at_name, stuck_at_double, stuck_at_colon, stuck_in_member, stuck_behind_member}
 use Rattle.uc_text.proofs.Steps.{Takes-then, takes_next, stuck_behind, stuck_here, push_is_some}
 

@@ -1,13 +1,7 @@
 -- A fault within an object.
-use Rattle.std.proofs.Common.{◌≡◌, ◌≢◌, ℕ, zero, suc, ◌-◌, ◌<◌, List, [], ◌∷◌, ◌++◌, length, get_or, refl, sym, ap, subst, ◌∙◌, append_assoc, arith}
-use Rattle.std.specs.Prelude.{Contains, AllPairs}
-use Rattle.std.proofs.lemmas.List.{append-nil, length-append, get_or_append_left}
+use Rattle.uc_text.proofs.Common.{◌≡◌, ◌≢◌, ℕ, zero, suc, ◌-◌, ◌<◌, List, [], ◌∷◌, ◌++◌, length, get_or, refl, sym, ap, subst, ◌∙◌, append_assoc, arith, Contains, AllPairs, append-nil, length-append, get_or_append_left, null, Value, scalar, list, object, Members, no_members, member, keys, Token, open_object, close_object, comma, colon, word, key, spell, spell_members, spell_more_members, Test, grammar, length_of_numbers, levels, double_keys, ScalarPasses, KeysPass, Passes, MembersPass, Pair, members_of, names, IsNewName, passed_members, opened_object, Starts, IsStuck}
 use Rattle.std.proofs.Math.Seq.{get_or-append_seam}
 use Rattle.std.proofs.lemmas.List.Quantifiers.{all_pairs_push}
-use Rattle.uc_text.specs.Values.{null, Value, scalar, list, object, Members, no_members, member, keys}
-use Rattle.uc_text.specs.Grammar.{Token, open_object, close_object, comma, colon, word, key, spell, spell_members, spell_more_members}
-use Rattle.uc_text.specs.Faults.{Test, grammar, length_of_numbers, levels, double_keys, ScalarPasses, KeysPass, Passes, MembersPass}
-use Rattle.uc_text.specs.Parts.{Pair, members_of, names, IsNewName, passed_members, opened_object, Starts, IsStuck}
 use Rattle.uc_text.proofs.Spellings.{heads, tails, one_spelling}
 use Rattle.uc_text.proofs.Lists.{level_passes, keys_pass_less, members_pass_less, before_by}
 

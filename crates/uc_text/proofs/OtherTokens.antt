@@ -1,11 +1,7 @@
 -- Which token it isn't.
-use Rattle.std.proofs.Common.{◌≡◌, ◌≢◌, ℕ, List, false, refl}
+use Rattle.uc_text.proofs.Common.{◌≡◌, ◌≢◌, ℕ, List, false, refl, FaultIs, token_of, TextFault, TextError}
 use Rattle.uc_text.specs.Grammar as grammar
-use Rattle.uc_text.specs.Places.{FaultIs}
 use Rattle.uc_text.proofs.Spellings.{is_start}
-use Rattle.text_tokens.specs.Seen.{token_of}
-use Rattle.uc_text.specs.declared.fault.TextFault.{TextFault}
-use Rattle.uc_text.specs.declared.fault.TextError.{TextError}
 use Rattle.uc_text.specs.declared.fault.TextError.TheVariants as errors
 use Rattle.text_tokens.specs.declared.token.Word.TheVariants.{Null, Flag, Number, LargeNumber, LongNumber}
 use Rattle.text_tokens.specs.declared.token.Token.{Token}

@@ -1,7 +1,5 @@
 -- No value's tokens begin another's, and what stands before an item or a member.
-use Rattle.std.proofs.Common.{◌≡◌, ℕ, Bool, true, false, List, [], ◌∷◌, ◌++◌, refl, sym, ap, ◌∙◌, append_assoc, true≢false}
-use Rattle.uc_text.specs.Values.{Value, scalar, list, object, Items, no_items, item, Members, no_members, member}
-use Rattle.uc_text.specs.Grammar.{Token, open_list, close_list, open_object, word, end, spell, spell_items, spell_more_items, spell_members, spell_more_members}
+use Rattle.uc_text.proofs.Common.{◌≡◌, ℕ, Bool, true, false, List, [], ◌∷◌, ◌++◌, refl, sym, ap, ◌∙◌, append_assoc, true≢false, Value, scalar, list, object, Items, no_items, item, Members, no_members, member, Token, open_list, close_list, open_object, word, end, spell, spell_items, spell_more_items, spell_members, spell_more_members}
 
 abbrev pub is_start : Token → Bool
 is_start open_list = true

@@ -1,15 +1,5 @@
 -- The steps of the reader over a list's tokens.
-use Rattle.std.proofs.Common.{◌≡◌, ◌≢◌, ℕ, ◌-◌, ◌<◌, true, List, [], ◌∷◌, ◌++◌, refl, sym, ap, subst, ◌∙◌, append_assoc}
-use Rattle.std.proofs.lemmas.List.{append-nil}
-use Rattle.uc_text.specs.Values.{Value}
-use Rattle.uc_text.specs.Grammar.{Token, open_list, close_list, comma, spell}
-use Rattle.uc_text.specs.Faults.{double_keys, Passes, ItemsPass}
-use Rattle.uc_text.specs.Parts.{items_of, passed_items, opened, IsStuck}
-use Rattle.text_tokens.specs.Tokens.{Placed, kinds}
-use Rattle.text_tokens.specs.Goes.{goes}
-use Rattle.uc_text.specs.Places.{test_of, AtItem, NextIs, Takes, StuckAt, ReadsItems}
-use Rattle.uc_text.specs.declared.fault.TextCode.TheVariants.{NotJson}
-use Rattle.uc_text.specs.declared.fault.TextFault.{TextFault}
+use Rattle.uc_text.proofs.Common.{◌≡◌, ◌≢◌, ℕ, ◌-◌, ◌<◌, true, List, [], ◌∷◌, ◌++◌, refl, sym, ap, subst, ◌∙◌, append_assoc, append-nil, Value, Token, open_list, close_list, comma, spell, double_keys, Passes, ItemsPass, items_of, passed_items, opened, IsStuck, Placed, kinds, goes, test_of, AtItem, NextIs, Takes, StuckAt, ReadsItems, NotJson, TextFault}
 use Rattle.uc_text.proofs.Spellings.{heads}
 use Rattle.uc_text.proofs.Lists.{passed_push, spell_push, items_pass_push, stuck_in_list, stuck_behind_item}
 

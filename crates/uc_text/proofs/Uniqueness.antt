@@ -1,15 +1,5 @@
 -- A text has one tree or one first fault.
-use Rattle.std.proofs.Common.{◌≡◌, ℕ, ◌-◌, ◌<◌, ◌≤◌, inl, inr, List, [], ◌∷◌, ◌++◌, refl, sym, ap, ap₂, subst, ◌∙◌, append_assoc, arith}
-use Rattle.std.proofs.lemmas.Bool.{cases_lt}
-use Rattle.uc_text.specs.Values.{Scalar, Value, scalar, list, object, Items, no_items, item, Members, no_members, member, keys}
-use Rattle.uc_text.specs.Grammar.{Token, end}
-use Rattle.uc_text.specs.Faults.{Test, grammar, length_of_numbers, levels, double_keys, ScalarPasses, LevelPasses, KeysPass, Passes, ItemsPass, MembersPass, Begins, IsFault}
-use Rattle.text_tokens.specs.Tokens.{Placed, tokens, kinds}
-use Rattle.uc_text.specs.Places.{test_of}
-use Rattle.uc_text.specs.Texts.{IsText, IsFirstFault}
-use Rattle.uc_text.specs.declared.fault.TextCode.{TextCode}
-use Rattle.uc_text.specs.declared.fault.TextCode.TheVariants.{NotJson, NumberTooLong, TooDeep, DoubleKey}
-use Rattle.uc_text.specs.declared.fault.TextFault.{TextFault}
+use Rattle.uc_text.proofs.Common.{◌≡◌, ℕ, ◌-◌, ◌<◌, ◌≤◌, inl, inr, List, [], ◌∷◌, ◌++◌, refl, sym, ap, ap₂, subst, ◌∙◌, append_assoc, arith, cases_lt, Scalar, Value, scalar, list, object, Items, no_items, item, Members, no_members, member, keys, Token, end, Test, grammar, length_of_numbers, levels, double_keys, ScalarPasses, LevelPasses, KeysPass, Passes, ItemsPass, MembersPass, Begins, IsFault, Placed, tokens, kinds, test_of, IsText, IsFirstFault, TextCode, NotJson, NumberTooLong, TooDeep, DoubleKey, TextFault}
 use Rattle.uc_text.proofs.Spellings.{one_spelling}
 use Rattle.uc_text.proofs.Lists.{passes_less}
 use Rattle.uc_text.proofs.Steps.{kinds_append, first_of_two}

@@ -1,16 +1,5 @@
 -- The steps of the reader at the first token of a value, and at the end of the text.
-use Rattle.std.proofs.Common.{◌≡◌, ◌≢◌, ℕ, ◌<◌, true, false, List, [], ◌∷◌, ◌++◌, refl, sym, ap, subst, ◌∙◌, append_assoc, true≢false, arith}
-use Rattle.uc_text.specs.Values.{Scalar, null, flag, number, long_number, text, Value, scalar, list, object, no_items, no_members}
-use Rattle.uc_text.specs.Grammar.{Token, open_list, close_list, open_object, close_object, word, end, spell, spell_items, spell_members}
-use Rattle.uc_text.specs.Faults.{Test, IsShort, grammar, length_of_numbers, levels, double_keys, Passes, Begins, PassesBefore, IsFault}
-use Rattle.uc_text.specs.Parts.{Pair, items_of, members_of, Starts, StartsBefore, IsStuck}
-use Rattle.text_tokens.specs.Tokens.{Placed, kinds, tokens}
-use Rattle.text_tokens.specs.Goes.{goes}
-use Rattle.uc_text.specs.Places.{test_of, NextIs, StuckAt, Reads, ReadsItems, ReadsMembers}
-use Rattle.uc_text.specs.Texts.{IsText, IsFirstFault}
-use Rattle.uc_text.specs.declared.fault.TextCode.{TextCode}
-use Rattle.uc_text.specs.declared.fault.TextCode.TheVariants.{NotJson}
-use Rattle.uc_text.specs.declared.fault.TextFault.{TextFault}
+use Rattle.uc_text.proofs.Common.{◌≡◌, ◌≢◌, ℕ, ◌<◌, true, false, List, [], ◌∷◌, ◌++◌, refl, sym, ap, subst, ◌∙◌, append_assoc, true≢false, arith, Scalar, null, flag, number, long_number, text, Value, scalar, list, object, no_items, no_members, Token, open_list, close_list, open_object, close_object, word, end, spell, spell_items, spell_members, Test, IsShort, grammar, length_of_numbers, levels, double_keys, Passes, Begins, PassesBefore, IsFault, Pair, items_of, members_of, Starts, StartsBefore, IsStuck, Placed, kinds, tokens, goes, test_of, NextIs, StuckAt, Reads, ReadsItems, ReadsMembers, IsText, IsFirstFault, TextCode, NotJson, TextFault}
 use Rattle.uc_text.proofs.Spellings.{heads, starts, is_start, one_spelling}
 use Rattle.uc_text.proofs.Objects.{AreDifferent, keys-members_of}
 use Rattle.uc_text.proofs.Steps.{Takes-then, takes_next, stuck_here, stuck_behind, kinds_append}

@@ -1,15 +1,10 @@
 -- A tree and a member, level by level.
-use Rattle.std.proofs.Common.{◌≡◌, ℕ, zero, suc, ◌<◌, List, [], ◌∷◌, ◌++◌, length, get_or, Vec, Global, String, Box, string_bytes, Bool, true, false, true≢false, bytes_eq, refl, sym, ap, ◌∙◌, arith, rules}
+use Rattle.uc_text.proofs.Common.{◌≡◌, ℕ, zero, suc, ◌<◌, List, [], ◌∷◌, ◌++◌, length, get_or, Vec, Global, String, Box, string_bytes, Bool, true, false, true≢false, bytes_eq, refl, sym, ap, ◌∙◌, arith, rules, map_push, decimal_of, null, flag, number, text, scalar, list, object, Pair, items_of, members_of, names, view, views, member_view, member_views, Tree, Number, ListOf, Object, the_lemmas}
 use Rattle.std.proofs.lemmas.Slice.Eq.{bytes_eq-Decides}
-use Rattle.std.proofs.lemmas.List.{map_push}
 use Rattle.uc_num.specs.declared.Decimal.{Decimal}
-use Rattle.text_tokens.specs.Small.{decimal_of}
 use Rattle.text_tokens.specs.declared.small.SmallNumber.{SmallNumber}
 use Rattle.uc_text.proofs.Objects.{of_member}
-use Rattle.uc_text.specs.Values.{null, flag, number, text, scalar, list, object}
-use Rattle.uc_text.specs.Parts.{Pair, items_of, members_of, names}
-use Rattle.uc_text.specs.View.{view, views, member_view, member_views}
-use Rattle.uc_text.specs.declared.tree.Tree.{Tree, Null, Flag, Number, LargeNumber, Text, List as ListOf, Object, the_lemmas}
+use Rattle.uc_text.specs.declared.tree.Tree.{Null, Flag, LargeNumber, Text}
 use Rattle.uc_text.specs.declared.tree.Member.{Member, out-Member, the_lemmas as member_lemmas}
 
 pub view-Null : view Null ≡ scalar null

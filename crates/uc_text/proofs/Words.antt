@@ -1,18 +1,6 @@
 -- The answers for a value of one token.
-use Rattle.std.proofs.Common.{◌≡◌, ℕ, List, [], Result, Ok, Err, sym, ap, subst, ◌∙◌}
-use Rattle.std.specs.Prelude.{IfOk}
-use Rattle.uc_text.specs.Values.{Scalar, long_number, Value, scalar}
-use Rattle.uc_text.specs.Grammar.{Token, word}
-use Rattle.uc_text.specs.Faults.{IsShort, length_of_numbers}
-use Rattle.uc_text.specs.Parts.{IsStuck}
-use Rattle.text_tokens.specs.Tokens.{Placed}
-use Rattle.uc_text.specs.Places.{NextIs, Reads, StuckAt, IfFault}
-use Rattle.uc_text.specs.View.{view}
-use Rattle.uc_text.specs.declared.fault.TextCode.TheVariants.{NumberTooLong}
-use Rattle.uc_text.specs.declared.fault.TextFault.{TextFault}
-use Rattle.uc_text.specs.declared.fault.TextError.{TextError}
+use Rattle.uc_text.proofs.Common.{◌≡◌, ℕ, List, [], Result, Ok, Err, sym, ap, subst, ◌∙◌, IfOk, Scalar, long_number, Value, scalar, Token, word, IsShort, length_of_numbers, IsStuck, Placed, NextIs, Reads, StuckAt, IfFault, view, NumberTooLong, TextFault, TextError, Tree}
 use Rattle.uc_text.specs.declared.fault.TextError.TheVariants as errors
-use Rattle.uc_text.specs.declared.tree.Tree.{Tree}
 use Rattle.uc_text.proofs.ValueSteps.{reads_scalar, value_stops, stuck_long}
 
 pub word_read : (left : ℕ) (first : Placed) (others : List Placed) (r : Result Tree TextError) (s : Scalar) → first.token ≡ word s → IfOk r (λ tree. (view tree ≡ scalar s) × IsShort s)

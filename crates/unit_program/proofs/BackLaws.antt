@@ -1,25 +1,9 @@
 -- One spell of the way back.
-use Rattle.std.proofs.Common.{◌≡◌, ℕ, zero, suc, ◌+◌, ◌-◌, ◌<◌, ◌≤◌, ltb, ◌⊎◌, inl, inr, Option, Some, None, ℤ, pos, ◌+ℤ◌, ◌-ℤ◌, ◌*ℤ◌, ◌≤ℤ◌, List, length, refl, sym, ap, ◌∙◌, subst, arith}
-use Rattle.std.specs.Prelude.{IsTrue, IsFalse, IfSome, MatchOption, max}
-use Rattle.std.proofs.lemmas.Int.{ints}
-use Rattle.std.proofs.lemmas.Bool.{cases_lt}
-use Rattle.uc_model.specs.Data.{ThermalUnit, PriceLists, Schedule}
-use Rattle.uc_model.specs.Envelope.{envelope}
-use Rattle.uc_model.specs.Schedules.{on_in, power_in, reserve_in}
-use Rattle.uc_model.specs.Sums.{int_at}
-use Rattle.uc_model.proofs.IntLaws.{sum_below-same}
-use Rattle.spell_run.specs.Entries.{IsOnFromTo, IsSameOutside}
-use Rattle.spell_run.specs.Spells.{spell_first, IsBestDispatch, IsFirstDispatch, HasNoDispatch, over_min, IsDispatch, IsLeastSpell, net_cost, spell_cost}
-use Rattle.period_table.specs.Spells.{IsSpell, start_cost_after}
-use Rattle.period_table.specs.declared.table.Ended.{Ended}
-use Rattle.period_table.specs.Tables.{IsEnded, IsLatest, IsStarted, IsEntryAfter, IsComplete, IsFrom}
-use Rattle.period_table.specs.Rows.{row_at, cost_at, first_at, before_at, IsFilled}
-use Rattle.unit_program.specs.Builds.{IsUpTo, IsIdle}
+use Rattle.unit_program.proofs.Common.{◌≡◌, ℕ, zero, suc, ◌+◌, ◌-◌, ◌<◌, ◌≤◌, ltb, ◌⊎◌, inl, inr, Option, Some, None, ℤ, pos, ◌+ℤ◌, ◌-ℤ◌, ◌*ℤ◌, ◌≤ℤ◌, List, length, refl, sym, ap, ◌∙◌, subst, arith, IsTrue, IsFalse, IfSome, MatchOption, max, ints, cases_lt, ThermalUnit, PriceLists, Schedule, envelope, on_in, power_in, reserve_in, int_at, sum_below-same, IsOnFromTo, IsSameOutside, spell_first, IsBestDispatch, IsFirstDispatch, HasNoDispatch, over_min, IsDispatch, IsLeastSpell, net_cost, spell_cost, IsSpell, start_cost_after, Ended, IsEnded, IsLatest, IsStarted, IsEntryAfter, IsComplete, row_at, cost_at, first_at, before_at, IsFilled, IsUpTo, IsIdle, IsFirstUpTo, IsSameIn, IsZeroOff, IsWritten, IsWrittenBack}
+use Rattle.period_table.specs.Tables.{IsFrom}
 use Rattle.unit_program.proofs.BuildLaws.{up_to_idle, up_to_first, up_to_next}
 use Rattle.unit_program.proofs.SpanLaws.{spell_first-is}
 use Rattle.unit_program.proofs.TieLaws.{first_alone, first_after}
-use Rattle.unit_program.specs.Ties.{IsFirstUpTo}
-use Rattle.unit_program.specs.Backs.{IsSameIn, IsZeroOff, IsWritten, IsWrittenBack}
 use Rattle.unit_program.proofs.FillLaws.{starts_off}
 use Rattle.unit_program.proofs.RowLaws.{cost-is, first-is, before-is}
 

@@ -1,11 +1,7 @@
 -- What a bench is made for stays.
-use Rattle.std.proofs.Common.{◌≡◌, ℕ, zero, suc, ◌+◌, ◌-◌, ◌*◌, ◌≤◌, ◌⊎◌, inl, inr, Some, List, [], ◌∷◌, ◌++◌, length, sym, ap, ◌∙◌, subst, arith}
-use Rattle.std.specs.Prelude.{slice_get}
-use Rattle.std.proofs.Math.Nat.{mul-le-mul_left}
-use Rattle.period_table.specs.declared.runner.Runner.{Runner}
+use Rattle.unit_program.proofs.Common.{◌≡◌, ℕ, zero, suc, ◌+◌, ◌-◌, ◌*◌, ◌≤◌, ◌⊎◌, inl, inr, Some, List, [], ◌∷◌, ◌++◌, length, sym, ap, ◌∙◌, subst, arith, slice_get, mul-le-mul_left, Runner, places_of, HaveRoom}
 use Rattle.unit_program.specs.declared.bench.Bench.{Bench}
 use Rattle.unit_program.specs.Benches.{IsBenchFor}
-use Rattle.period_table.specs.Live.{places_of, HaveRoom}
 
 pub room_less : {R : Type 0} (room : R → ℕ) (most less periods : ℕ) (runners : List (Runner R)) → less ≤ most → HaveRoom room most periods runners → HaveRoom room less periods runners
 room_less room most less periods runners low have f r is = (let there = (have f r is).0 in (omega (arith, low, there), (have f r is).1))

@@ -1,19 +1,7 @@
 -- What the way back has written from the least end is a best schedule.
-use Rattle.std.proofs.Common.{Result, Ok, Err, true, ◌≡◌, ℕ, zero, suc, ◌<◌, ◌≤◌, false, refl, ap, Option, Some, ℤ, pos, neg_ℤ, ◌≤ℤ◌, length, sym, subst, ◌∙◌, arith}
-use Rattle.std.specs.Prelude.{slice_index, slice_index_or, IsFalse, OnOk, is_ok}
-use Rattle.std.proofs.lemmas.Int.{ints}
-use Rattle.uc_model.specs.Data.{ThermalUnit, Thermal, PriceLists, Schedule}
-use Rattle.uc_model.specs.Schedules.{IsSchedule, on_in, power_in, reserve_in}
-use Rattle.uc_model.specs.Earnings.{earnings, IsBest}
-use Rattle.uc_model.specs.Schedules.{IsThermalFeasible}
-use Rattle.uc_model.specs.Ties.{IsLeast}
-use Rattle.period_table.specs.Spells.{IsOffRun, paid}
-use Rattle.period_table.specs.Tables.{IsComplete, IsLeastEnd}
-use Rattle.unit_program.specs.Builds.{IsUpTo, IsIdle}
+use Rattle.unit_program.proofs.Common.{Result, Ok, Err, true, ◌≡◌, ℕ, zero, suc, ◌<◌, ◌≤◌, false, refl, ap, Option, Some, ℤ, pos, neg_ℤ, ◌≤ℤ◌, length, sym, subst, ◌∙◌, arith, slice_index, slice_index_or, IsFalse, OnOk, is_ok, ints, ThermalUnit, Thermal, PriceLists, Schedule, IsSchedule, on_in, power_in, reserve_in, earnings, IsBest, IsThermalFeasible, IsLeast, IsOffRun, paid, IsComplete, IsLeastEnd, IsUpTo, IsIdle, IsSameIn, IsZeroOff, IsFirstUpTo}
 use Rattle.unit_program.proofs.BuildLaws.{right_of}
 use Rattle.unit_program.proofs.ShapeLaws.{table_is_least}
-use Rattle.unit_program.specs.Backs.{IsSameIn, IsZeroOff}
-use Rattle.unit_program.specs.Ties.{IsFirstUpTo}
 use Rattle.unit_program.proofs.BackwardOrder.{not_before}
 use Rattle.unit_program.proofs.CostLaws.{earnings-paid}
 use Rattle.unit_program.proofs.TieLaws.{no_later_whole}

@@ -1,16 +1,5 @@
 -- Spells and times off, one after another, make a feasible schedule, whose cost is the sum of theirs.
-use Rattle.std.proofs.Common.{◌≡◌, ℕ, zero, suc, ◌+◌, ◌<◌, ◌≤◌, Bool, true, false, not, cond, ◌&&◌, inl, inr, ℤ, pos, neg_ℤ, ◌+ℤ◌, ◌≤ℤ◌, length, refl, sym, ap, ◌∙◌, subst, arith}
-use Rattle.std.specs.Prelude.{IsTrue, IsFalse}
-use Rattle.std.proofs.lemmas.Int.{ints}
-use Rattle.std.proofs.lemmas.Bool.{cases_lt}
-use Rattle.uc_model.specs.Data.{ThermalUnit, Thermal, PriceLists, Schedule}
-use Rattle.uc_model.specs.Schedules.{on_in, above_min, above_with_reserve, reserve_in, starts_in, time_down, cap_of, IsPeriod, IsSchedule, KeepsDispatch}
-use Rattle.uc_model.specs.Earnings.{start_cost_of, earnings}
-use Rattle.uc_model.specs.Schedules.{IsThermalFeasible}
-use Rattle.unit_program.specs.Steps.{IsStep, time_up}
-use Rattle.spell_run.specs.Spells.{IsDispatch, net_cost, spell_cost}
-use Rattle.period_table.specs.Spells.{on_time, off_time, IsSpell, IsOffRun, IsGap, start_cost_after, paid}
-use Rattle.unit_program.specs.Builds.{IsDispatchStep, MayStop, IsUpTo, IsIdle}
+use Rattle.unit_program.proofs.Common.{◌≡◌, ℕ, zero, suc, ◌+◌, ◌<◌, ◌≤◌, Bool, true, false, not, cond, ◌&&◌, inl, inr, ℤ, pos, neg_ℤ, ◌+ℤ◌, ◌≤ℤ◌, length, refl, sym, ap, ◌∙◌, subst, arith, IsTrue, IsFalse, ints, cases_lt, ThermalUnit, Thermal, PriceLists, Schedule, on_in, above_min, above_with_reserve, reserve_in, starts_in, time_down, cap_of, IsPeriod, IsSchedule, KeepsDispatch, start_cost_of, earnings, IsThermalFeasible, IsStep, time_up, IsDispatch, net_cost, spell_cost, on_time, off_time, IsSpell, IsOffRun, IsGap, start_cost_after, paid, IsDispatchStep, MayStop, IsUpTo, IsIdle}
 use Rattle.unit_program.proofs.RunLaws.{held-more, held-none}
 use Rattle.unit_program.proofs.CommitLaws.{rules_from_steps}
 use Rattle.unit_program.proofs.CostLaws.{sum_from_to-more, sum_from_to-one, earnings-paid}

@@ -1,11 +1,5 @@
 -- The commitment rules hold exactly where each step keeps them.
-use Rattle.std.proofs.Common.{◌≡◌, ℕ, zero, suc, ◌+◌, ◌<◌, ◌≤◌, Bool, true, false, not, cond, ◌&&◌, length, refl, ap, ◌∙◌, arith}
-use Rattle.std.specs.Prelude.{IsTrue, IsFalse}
-use Rattle.uc_model.specs.declared.units.Mark.TheVariants.{MustOff, MustOn}
-use Rattle.uc_model.specs.Data.{ThermalUnit, Schedule}
-use Rattle.uc_model.specs.Schedules.{on_in, starts_in, stops_in, time_down, IsPeriod, KeepsCommitment}
-use Rattle.uc_model.specs.Schedules.{mark_in}
-use Rattle.unit_program.specs.Steps.{IsStep, held}
+use Rattle.unit_program.proofs.Common.{◌≡◌, ℕ, zero, suc, ◌+◌, ◌<◌, ◌≤◌, Bool, true, false, not, cond, ◌&&◌, length, refl, ap, ◌∙◌, arith, IsTrue, IsFalse, MustOff, MustOn, ThermalUnit, Schedule, on_in, starts_in, stops_in, time_down, IsPeriod, KeepsCommitment, mark_in, IsStep, held}
 use Rattle.unit_program.proofs.RunLaws.{KeepsTimes, ends_late, keeps_times}
 
 pub not_true : (b : Bool) → b ≡ false → not b ≡ true

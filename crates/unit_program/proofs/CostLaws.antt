@@ -1,16 +1,5 @@
 -- What a schedule earns is what it costs, period by period, turned round; and the cost of a spell is the sum of its periods.
-use Rattle.std.proofs.Common.{◌≡◌, ℕ, suc, ◌+◌, ◌-◌, ◌<◌, ◌≤◌, true, false, cond, ℤ, pos, neg_ℤ, ◌+ℤ◌, ◌-ℤ◌, ◌*ℤ◌, refl, ap, ◌∙◌, arith}
-use Rattle.std.specs.Prelude.{IsFalse}
-use Rattle.std.proofs.lemmas.Int.{ints}
-use Rattle.std.proofs.Math.IntN.{*ℤ-zero}
-use Rattle.uc_model.specs.Data.{ThermalUnit, Thermal, PriceLists, Schedule}
-use Rattle.uc_model.specs.Envelope.{envelope}
-use Rattle.uc_model.specs.Schedules.{on_in, power_in, reserve_in, starts_in, time_down, IsSchedule}
-use Rattle.uc_model.specs.Earnings.{start_cost_of, earnings}
-use Rattle.uc_model.specs.Sums.{int_at, sum_below}
-use Rattle.uc_model.proofs.IntLaws.{sum_below-same, sum_below-add, sum_below-sub}
-use Rattle.spell_run.specs.Spells.{net_cost, sum_from_to}
-use Rattle.period_table.specs.Spells.{period_cost, paid}
+use Rattle.unit_program.proofs.Common.{◌≡◌, ℕ, suc, ◌+◌, ◌-◌, ◌<◌, ◌≤◌, true, false, cond, ℤ, pos, neg_ℤ, ◌+ℤ◌, ◌-ℤ◌, ◌*ℤ◌, refl, ap, ◌∙◌, arith, IsFalse, ints, *ℤ-zero, ThermalUnit, Thermal, PriceLists, Schedule, envelope, on_in, power_in, reserve_in, starts_in, time_down, IsSchedule, start_cost_of, earnings, int_at, sum_below, sum_below-same, sum_below-add, sum_below-sub, net_cost, sum_from_to, period_cost, paid}
 
 module _ (g : ThermalUnit) (π : PriceLists) (s : Schedule) where
   abbrev income : ℕ → ℤ

@@ -1,10 +1,5 @@
 -- The least of the ends after which the unit may be off to the last period.
-use Rattle.std.proofs.Common.{◌≡◌, ℕ, ◌<◌, Option, Some, None, ℤ, ap, arith}
-use Rattle.std.proofs.lemmas.Int.{ints}
-use Rattle.uc_model.specs.Data.{ThermalUnit}
-use Rattle.period_table.specs.Spells.{IsOffRun}
-use Rattle.period_table.specs.Tables.{IsLeastEnd}
-use Rattle.period_table.specs.declared.table.Entry.{Entry}
+use Rattle.unit_program.proofs.Common.{◌≡◌, ℕ, ◌<◌, Option, Some, None, ℤ, ap, arith, ints, ThermalUnit, IsOffRun, IsLeastEnd, Entry}
 use Rattle.unit_program.proofs.EntryLaws.{IsLeastOf}
 
 module _ (g : ThermalUnit) (periods : ℕ) (ends : ℕ → Option ℤ) where

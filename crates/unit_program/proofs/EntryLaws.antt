@@ -1,13 +1,5 @@
 -- The least entry among those after an ever later on period.
-use Rattle.std.proofs.Common.{◌≡◌, ℕ, suc, ◌+◌, ◌*◌, ◌<◌, ◌⊎◌, inl, inr, ◌≤◌, Option, Some, None, ℤ, pos, ◌+ℤ◌, ◌≤ℤ◌, refl, sym, ap, ◌∙◌, subst, arith}
-use Rattle.std.specs.Prelude.{IfSome, IfNone}
-use Rattle.std.proofs.lemmas.Int.{ints}
-use Rattle.std.proofs.lemmas.Bool.{cases_lt}
-use Rattle.uc_model.specs.Data.{ThermalUnit}
-use Rattle.period_table.specs.Spells.{IsGap, start_cost_after}
-use Rattle.period_table.specs.Tables.{IsStarted, IsEntry, IsLeastEntry}
-use Rattle.period_table.specs.declared.table.Entry.{Entry}
-use Rattle.period_table.specs.Rows.{HasEntryAtMost, IsWithinTimes}
+use Rattle.unit_program.proofs.Common.{◌≡◌, ℕ, suc, ◌+◌, ◌*◌, ◌<◌, ◌⊎◌, inl, inr, ◌≤◌, Option, Some, None, ℤ, pos, ◌+ℤ◌, ◌≤ℤ◌, refl, sym, ap, ◌∙◌, subst, arith, IfSome, IfNone, ints, cases_lt, ThermalUnit, IsGap, start_cost_after, IsStarted, IsEntry, IsLeastEntry, Entry, HasEntryAtMost, IsWithinTimes}
 
 pub if_some : {X : Type 0} → (P : X → Type 0) (o : Option X) (x : X) → o ≡ Some x → IfSome o P → P x
 if_some P o x is h = subst (λ o. IfSome o P) is h

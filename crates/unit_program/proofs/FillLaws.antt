@@ -1,15 +1,5 @@
 -- The table before any start, and with one more first period.
-use Rattle.std.proofs.Common.{◌≡◌, ℕ, zero, suc, ◌+◌, ◌≤◌, Bool, true, false, cond, inl, inr, Option, Some, None, ℤ, pos, ◌+ℤ◌, List, length, refl, sym, ap, ◌∙◌, subst, arith}
-use Rattle.std.specs.Prelude.{IsTrue, IsFalse}
-use Rattle.std.specs.Option.{option_map}
-use Rattle.std.proofs.lemmas.Int.{ints}
-use Rattle.uc_model.specs.Data.{ThermalUnit, PriceLists}
-use Rattle.spell_run.specs.Spells.{IsSpellAnswer}
-use Rattle.period_table.specs.declared.table.Ended.{Ended}
-use Rattle.period_table.specs.Spells.{IsSpell, StopsAtOnce, off_time}
-use Rattle.period_table.specs.Tables.{HasAtMost, IsEntryAfter, IsEntry, IsLeastEntry, IsTable, IsUpdate}
-use Rattle.period_table.specs.Laws.{StopsAtOnceCostNothing}
-use Rattle.period_table.specs.Rows.{row_at, cost_at, first_at, before_at, AreWithin, IsFilled, IsAdded, IsFirstRow}
+use Rattle.unit_program.proofs.Common.{◌≡◌, ℕ, zero, suc, ◌+◌, ◌≤◌, Bool, true, false, cond, inl, inr, Option, Some, None, ℤ, pos, ◌+ℤ◌, List, length, refl, sym, ap, ◌∙◌, subst, arith, IsTrue, IsFalse, option_map, ints, ThermalUnit, PriceLists, IsSpellAnswer, Ended, IsSpell, StopsAtOnce, off_time, HasAtMost, IsEntryAfter, IsEntry, IsLeastEntry, IsTable, IsUpdate, StopsAtOnceCostNothing, row_at, cost_at, first_at, before_at, AreWithin, IsFilled, IsAdded, IsFirstRow}
 use Rattle.unit_program.proofs.RowLaws.{cost_from, cost-is, first-is, before-is}
 use Rattle.unit_program.proofs.TableLaws.{table_none, table_skip, table_more}
 

@@ -1,3 +1,5 @@
+-- The names from elsewhere that the proofs here cite.
+pub mod Common
 -- one spell of the way back
 pub mod BackLaws
 -- lists compared from the end, and the order for ties period by period
@@ -44,3 +46,5 @@ pub mod TableLaws
 pub mod TieLaws
 -- the table after the spells from one first period to an ever later last one
 pub mod UpdateLaws
+-- The lemmas that answers cite.
+pub mod Lemmas

@@ -1,19 +1,5 @@
 -- The rows and the ends as far as they are within the limits.
-use Rattle.std.proofs.Common.{◌≡◌, ℕ, ◌≤◌, inl, inr, Option, Some, None, ℤ, pos, ◌+ℤ◌, ◌≤ℤ◌, List, length, refl, arith}
-use Rattle.std.specs.Prelude.{IfSome, IfNone, neg_ℤ}
-use Rattle.std.proofs.lemmas.Int.{ints}
-use Rattle.uc_model.specs.BoundLaws.{EarningsAreWithin}
-use Rattle.uc_model.specs.Data.{ThermalUnit, PriceLists, Schedule, Thermal}
-use Rattle.uc_model.specs.Earnings.{earnings}
-use Rattle.uc_model.specs.Limits.{IsThermalUnit, ArePrices}
-use Rattle.uc_model.specs.Schedules.{IsThermalFeasible}
-use Rattle.period_table.specs.declared.table.Ended.{Ended}
-use Rattle.period_table.specs.declared.table.Entry.{Entry}
-use Rattle.period_table.specs.Laws.{CappedRowsAreRows, LimitsAreAboveTheAmount}
-use Rattle.period_table.specs.Limits.{capped, IsFilledWithin, IsEndWithin, EachCostsMore}
-use Rattle.period_table.specs.Rows.{cost_at}
-use Rattle.period_table.specs.Spells.{IsOffRun}
-use Rattle.period_table.specs.Tables.{IsLeastEnd}
+use Rattle.unit_program.proofs.Common.{◌≡◌, ℕ, ◌≤◌, inl, inr, Option, Some, None, ℤ, pos, ◌+ℤ◌, ◌≤ℤ◌, List, length, refl, arith, IfSome, IfNone, neg_ℤ, ints, EarningsAreWithin, ThermalUnit, PriceLists, Schedule, Thermal, earnings, IsThermalUnit, ArePrices, IsThermalFeasible, Ended, Entry, CappedRowsAreRows, LimitsAreAboveTheAmount, capped, IsFilledWithin, IsEndWithin, EachCostsMore, cost_at, IsOffRun, IsLeastEnd}
 use Rattle.unit_program.proofs.EntryLaws.{if_some}
 use Rattle.unit_program.proofs.ShapeLaws.{table_is_least}
 

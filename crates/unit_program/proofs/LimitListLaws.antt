@@ -1,23 +1,6 @@
 -- The limits, as they are written from the last period back.
-use Rattle.std.proofs.Common.{◌≡◌, ◌≢◌, ℕ, suc, ◌+◌, ◌-◌, ◌<◌, ◌≤◌, inl, inr, Some, ℤ, pos, neg_ℤ, ◌+ℤ◌, ◌-ℤ◌, ◌*ℤ◌, ◌≤ℤ◌, List, [], ◌∷◌, map, length, refl, sym, ap, ◌∙◌, subst, get_or, set, get_or-set_same, get_or-set_other, arith}
-use Rattle.std.specs.Prelude.{FitsSigned, slice_get, slice_index_or}
-use Rattle.std.specs.List.{All, fold}
-use Rattle.std.specs.Int.{int_max, int_min, w64}
-use Rattle.std.proofs.lemmas.Int.{ints, clamps}
-use Rattle.std.proofs.lemmas.Bool.{cases_eq, cases_lt}
-use Rattle.std.proofs.lemmas.Option.{slice_get-get_or, get_or_from_slice_get}
-use Rattle.std.proofs.Math.IntN.{*ℤ_comm}
-use Rattle.uc_model.specs.declared.units.Point.{Point}
-use Rattle.uc_model.specs.Data.{ThermalUnit, PriceLists, Schedule}
-use Rattle.uc_model.specs.Envelope.{envelope}
+use Rattle.unit_program.proofs.Common.{◌≡◌, ◌≢◌, ℕ, suc, ◌+◌, ◌-◌, ◌<◌, ◌≤◌, inl, inr, Some, ℤ, pos, neg_ℤ, ◌+ℤ◌, ◌-ℤ◌, ◌*ℤ◌, ◌≤ℤ◌, List, [], ◌∷◌, map, length, refl, sym, ap, ◌∙◌, subst, get_or, set, get_or-set_same, get_or-set_other, arith, FitsSigned, slice_get, slice_index_or, All, fold, int_max, int_min, w64, ints, clamps, cases_eq, cases_lt, slice_get-get_or, get_or_from_slice_get, *ℤ_comm, Point, ThermalUnit, PriceLists, Schedule, envelope, IsFrom, IsOutput, IsPoint, ArePointsOrdered, Spans, IsThermalUnit, power_in, reserve_in, int_at, net_cost, IsInRange, AreLimits, mul-mono_of, mul-add, mul-sub, IsWithin, stored, stored_is, fits64, product_within}
 use Rattle.uc_model.specs.Laws.{EnvelopeEarnsAsPoints}
-use Rattle.uc_model.specs.Limits.{IsFrom, IsOutput, IsPoint, ArePointsOrdered, Spans, IsThermalUnit}
-use Rattle.uc_model.specs.Schedules.{power_in, reserve_in}
-use Rattle.uc_model.specs.Sums.{int_at}
-use Rattle.spell_run.specs.Spells.{net_cost}
-use Rattle.period_table.specs.Limits.{IsInRange, AreLimits}
-use Rattle.uc_model.proofs.IntLaws.{mul-mono_of, mul-add, mul-sub}
-use Rattle.uc_model.proofs.SignedLaws.{IsWithin, stored, stored_is, fits64, product_within}
 
 -- ---- what a point costs less what it is worth
 

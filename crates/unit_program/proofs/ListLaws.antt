@@ -1,9 +1,5 @@
 -- Every feasible schedule is a list of spells: from the last period back, by the run or the time off that a period is in.
-use Rattle.std.proofs.Common.{◌≡◌, ℕ, zero, suc, ◌<◌, ◌≤◌, inl, inr, List, [], ◌∷◌, length, refl, subst, arith}
-use Rattle.std.specs.Prelude.{IsTrue, IsFalse}
-use Rattle.uc_model.specs.Data.{ThermalUnit, PriceLists, Schedule}
-use Rattle.uc_model.specs.Schedules.{on_in, KeepsDispatch}
-use Rattle.unit_program.specs.Steps.{IsStep}
+use Rattle.unit_program.proofs.Common.{◌≡◌, ℕ, zero, suc, ◌<◌, ◌≤◌, inl, inr, List, [], ◌∷◌, length, refl, subst, arith, IsTrue, IsFalse, ThermalUnit, PriceLists, Schedule, on_in, KeepsDispatch, IsStep}
 use Rattle.unit_program.specs.Lists.{Run, HasSpell, AreSpells, IsListOfSpells, SchedulesAreSpells}
 use Rattle.unit_program.proofs.CommitLaws.{steps_from_rules}
 use Rattle.unit_program.proofs.SpellLaws.{dispatch_of_run}

@@ -1,8 +1,6 @@
 -- A place of a list that a spell left.
-use Rattle.std.proofs.Common.{◌≡◌, ℕ, zero, suc, ◌<◌, Some, List, [], ◌∷◌, length, arith}
+use Rattle.unit_program.proofs.Common.{◌≡◌, ℕ, zero, suc, ◌<◌, Some, List, [], ◌∷◌, length, arith, Passed, passed_at}
 use Rattle.slope_list.specs.declared.slopes.Lowest.{Lowest}
-use Rattle.spell_run.specs.declared.way.Passed.{Passed}
-use Rattle.spell_run.specs.Notes.{passed_at}
 
 -- where an end is noted, the list has that place
 pub end_within : (ps : List Passed) (k : ℕ) (e : Lowest) → (passed_at ps k).end ≡ Some e → k < length ps

@@ -1,8 +1,5 @@
 -- What is read off rows of the table.
-use Rattle.std.proofs.Common.{◌≡◌, ℕ, Option, Some, None, ℤ, List, refl, ap}
-use Rattle.std.specs.Option.{option_map, option_map_or}
-use Rattle.period_table.specs.declared.table.Ended.{Ended}
-use Rattle.period_table.specs.Rows.{row_at, cost_at, first_at, before_at}
+use Rattle.unit_program.proofs.Common.{◌≡◌, ℕ, Option, Some, None, ℤ, List, refl, ap, option_map, option_map_or, Ended, row_at, cost_at, first_at, before_at}
 
 module _ (a b : List (Option Ended)) (l k : ℕ) (same : row_at a l ≡ row_at b k) where
   pub cost-same : cost_at a l ≡ cost_at b k

@@ -1,7 +1,5 @@
 -- Least times on and off: by runs, as the rules have them, and by single steps.
-use Rattle.std.proofs.Common.{◌≡◌, ℕ, zero, suc, ◌+◌, ◌-◌, ◌<◌, ◌≤◌, Bool, true, false, cond, inl, inr, ◌⊎◌, refl, sym, ap, ◌∙◌, arith}
-use Rattle.std.proofs.lemmas.Bool.{cases_lt}
-use Rattle.unit_program.specs.Steps.{held}
+use Rattle.unit_program.proofs.Common.{◌≡◌, ℕ, zero, suc, ◌+◌, ◌-◌, ◌<◌, ◌≤◌, Bool, true, false, cond, inl, inr, ◌⊎◌, refl, sym, ap, ◌∙◌, arith, cases_lt, held}
 
 module _ (x : ℕ → Bool) (n : ℕ) where
   pub held-more : (k : ℕ) → x (suc k) ≡ true → held x n (suc k) ≡ suc (held x n k)

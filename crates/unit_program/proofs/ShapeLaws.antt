@@ -1,15 +1,5 @@
 -- The run that a period of a schedule is in, and what the schedule costs up to it: no less than the tables say.
-use Rattle.std.proofs.Common.{◌≡◌, ℕ, zero, suc, ◌+◌, ◌<◌, ◌≤◌, Bool, true, false, cond, ◌⊎◌, inl, inr, Option, ℤ, pos, neg_ℤ, ◌+ℤ◌, length, refl, sym, ap, ◌∙◌, subst, arith}
-use Rattle.std.specs.Prelude.{IsTrue, IsFalse}
-use Rattle.std.proofs.lemmas.Int.{ints}
-use Rattle.std.proofs.lemmas.Bool.{cases_lt}
-use Rattle.uc_model.specs.Data.{ThermalUnit, Thermal, PriceLists, Schedule}
-use Rattle.uc_model.specs.Schedules.{on_in, time_down, KeepsDispatch, IsThermalFeasible}
-use Rattle.uc_model.specs.Earnings.{start_cost_of, earnings}
-use Rattle.spell_run.specs.Spells.{net_cost, spell_cost}
-use Rattle.period_table.specs.Spells.{on_time, off_time, IsSpell, IsOffRun, IsGap, start_cost_after, paid}
-use Rattle.period_table.specs.Tables.{HasAtMost, IsEntry, IsComplete}
-use Rattle.unit_program.specs.Steps.{IsStep, time_up}
+use Rattle.unit_program.proofs.Common.{◌≡◌, ℕ, zero, suc, ◌+◌, ◌<◌, ◌≤◌, Bool, true, false, cond, ◌⊎◌, inl, inr, Option, ℤ, pos, neg_ℤ, ◌+ℤ◌, length, refl, sym, ap, ◌∙◌, subst, arith, IsTrue, IsFalse, ints, cases_lt, ThermalUnit, Thermal, PriceLists, Schedule, on_in, time_down, KeepsDispatch, IsThermalFeasible, start_cost_of, earnings, net_cost, spell_cost, on_time, off_time, IsSpell, IsOffRun, IsGap, start_cost_after, paid, HasAtMost, IsEntry, IsComplete, IsStep, time_up}
 use Rattle.unit_program.proofs.CommitLaws.{steps_from_rules}
 use Rattle.unit_program.proofs.RunLaws.{held-more, held-none}
 use Rattle.unit_program.proofs.CostLaws.{sum_from_to-more, sum_from_to-one, earnings-paid}

@@ -1,15 +1,6 @@
 -- The spells from one first period on, as far as the window goes.
-use Rattle.std.proofs.Common.{◌≡◌, ℕ, zero, suc, ◌<◌, ◌≤◌, true, false, ltb, inl, inr, Option, None, ℤ, List, length, refl, subst, arith}
-use Rattle.std.specs.Prelude.{IsTrue, max}
-use Rattle.std.proofs.lemmas.Int.{ints}
-use Rattle.std.proofs.lemmas.Bool.{cases_lt}
+use Rattle.unit_program.proofs.Common.{◌≡◌, ℕ, zero, suc, ◌<◌, ◌≤◌, true, false, ltb, inl, inr, Option, None, ℤ, List, length, refl, subst, arith, IsTrue, max, ints, cases_lt, ThermalUnit, PriceLists, entry_of, spell_first, IsSpellAnswer, Ended, on_time, IsSpell, net_at, AreWithin, IsAdded, IsOpenUntil}
 use Rattle.std.proofs.lemmas.Bool.Decides.{nat_tests}
-use Rattle.uc_model.specs.Data.{ThermalUnit, PriceLists}
-use Rattle.spell_run.specs.Entries.{entry_of}
-use Rattle.spell_run.specs.Spells.{spell_first, IsSpellAnswer}
-use Rattle.period_table.specs.declared.table.Ended.{Ended}
-use Rattle.period_table.specs.Spells.{on_time, IsSpell}
-use Rattle.period_table.specs.Rows.{net_at, AreWithin, IsAdded, IsOpenUntil}
 
 on_time-at_most : (g : ThermalUnit) (first last until : ℕ) → last ≤ until → on_time g first last ≤ on_time g first until
 on_time-at_most g zero last until low = omega (arith, low)

@@ -1,16 +1,5 @@
 -- Runs of on periods and times off of a schedule, by single steps: their dispatch, costs, times and marks.
-use Rattle.std.proofs.Common.{◌≡◌, ℕ, zero, suc, ◌+◌, ◌<◌, ◌≤◌, Bool, true, false, not, cond, ◌&&◌, inl, inr, pos, ◌+ℤ◌, ◌-ℤ◌, ◌≤ℤ◌, length, refl, sym, ap, ◌∙◌, subst, arith}
-use Rattle.std.specs.Prelude.{IsTrue, IsFalse}
-use Rattle.std.proofs.lemmas.Int.{ints}
-use Rattle.std.proofs.lemmas.Bool.{cases_lt}
-use Rattle.uc_model.specs.declared.units.Mark.TheVariants.{MustOff, MustOn}
-use Rattle.uc_model.specs.Data.{ThermalUnit, PriceLists, Schedule}
-use Rattle.uc_model.specs.Schedules.{on_in, above_min, reserve_in, starts_in, stops_in, time_down, cap_of, IsPeriod, KeepsDispatch}
-use Rattle.uc_model.specs.Earnings.{start_cost_of}
-use Rattle.uc_model.specs.Schedules.{mark_in}
-use Rattle.unit_program.specs.Steps.{IsStep}
-use Rattle.spell_run.specs.Spells.{over_min, IsDispatch, net_cost}
-use Rattle.period_table.specs.Spells.{on_time, off_time, period_cost}
+use Rattle.unit_program.proofs.Common.{◌≡◌, ℕ, zero, suc, ◌+◌, ◌<◌, ◌≤◌, Bool, true, false, not, cond, ◌&&◌, inl, inr, pos, ◌+ℤ◌, ◌-ℤ◌, ◌≤ℤ◌, length, refl, sym, ap, ◌∙◌, subst, arith, IsTrue, IsFalse, ints, cases_lt, MustOff, MustOn, ThermalUnit, PriceLists, Schedule, on_in, above_min, reserve_in, starts_in, stops_in, time_down, cap_of, IsPeriod, KeepsDispatch, start_cost_of, mark_in, IsStep, over_min, IsDispatch, net_cost, on_time, off_time, period_cost}
 use Rattle.unit_program.proofs.CommitLaws.{not_true}
 
 module _ (g : ThermalUnit) (s : Schedule) where

@@ -1,12 +1,6 @@
 -- One more first period in the table.
-use Rattle.std.proofs.Common.{◌≡◌, ℕ, suc, ◌<◌, ◌≤◌, inl, inr, true, false, Option, Some, None, ℤ, pos, ◌+ℤ◌, ◌≤ℤ◌, refl, sym, ap, ◌∙◌, subst, arith}
-use Rattle.std.specs.Prelude.{IsTrue, IsFalse}
-use Rattle.std.proofs.lemmas.Int.{ints}
-use Rattle.std.proofs.lemmas.Bool.{cases_lt}
-use Rattle.uc_model.specs.Data.{ThermalUnit, PriceLists, Schedule}
-use Rattle.spell_run.specs.Spells.{IsDispatch, IsSpellAnswer, spell_cost}
-use Rattle.period_table.specs.Spells.{IsSpell}
-use Rattle.period_table.specs.Tables.{HasAtMost, IsEntryAfter, IsEntry, IsLeastEntry, IsEnded, IsLatest, IsFrom, IsTable, IsUpdate}
+use Rattle.unit_program.proofs.Common.{◌≡◌, ℕ, suc, ◌<◌, ◌≤◌, inl, inr, true, false, Option, Some, None, ℤ, pos, ◌+ℤ◌, ◌≤ℤ◌, refl, sym, ap, ◌∙◌, subst, arith, IsTrue, IsFalse, ints, cases_lt, ThermalUnit, PriceLists, Schedule, IsDispatch, IsSpellAnswer, spell_cost, IsSpell, HasAtMost, IsEntryAfter, IsEntry, IsLeastEntry, IsEnded, IsLatest, IsTable, IsUpdate}
+use Rattle.period_table.specs.Tables.{IsFrom}
 
 pub at_most_more : (o : Option ℤ) (u v : ℤ) → HasAtMost o u → u ≤ℤ v → HasAtMost o v
 at_most_more o u v h low = (h.0, h.1, omega (arith, ints, low))

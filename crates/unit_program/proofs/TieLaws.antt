@@ -1,17 +1,6 @@
 -- Of all schedules that cost the same, what the way back writes is the first: the table names the earliest end, the latest
 -- first period of a spell and the earliest on period before it, and each spell is written first by powers and reserves.
-use Rattle.std.proofs.Common.{◌≡◌, ℕ, zero, suc, ◌<◌, ◌≤◌, true, false, inl, inr, Option, Some, ℤ, pos, ◌+ℤ◌, ◌≤ℤ◌, length, refl, sym, ap, ◌∙◌, subst, arith}
-use Rattle.std.specs.Prelude.{IsTrue, IsFalse, slice_index, slice_index_or}
-use Rattle.std.proofs.lemmas.Int.{ints}
-use Rattle.std.proofs.lemmas.Bool.{cases_lt}
-use Rattle.uc_model.specs.Data.{ThermalUnit, PriceLists, Schedule}
-use Rattle.uc_model.specs.Schedules.{on_in, power_in, reserve_in, IsThermalFeasible}
-use Rattle.spell_run.specs.Spells.{IsDispatch, IsFirstDispatch, spell_cost}
-use Rattle.unit_program.specs.Steps.{IsStep}
-use Rattle.period_table.specs.Spells.{off_time, IsSpell, IsOffRun, start_cost_after, paid}
-use Rattle.period_table.specs.Tables.{IsEntryAfter, IsStarted, IsEnded, IsLatest, IsComplete}
-use Rattle.unit_program.specs.Backs.{IsZeroOff}
-use Rattle.unit_program.specs.Ties.{IsRival, HasSameFlags, HasSamePowers, IsFirstBeside, IsFirstUpTo}
+use Rattle.unit_program.proofs.Common.{◌≡◌, ℕ, zero, suc, ◌<◌, ◌≤◌, true, false, inl, inr, Option, Some, ℤ, pos, ◌+ℤ◌, ◌≤ℤ◌, length, refl, sym, ap, ◌∙◌, subst, arith, IsTrue, IsFalse, slice_index, slice_index_or, ints, cases_lt, ThermalUnit, PriceLists, Schedule, on_in, power_in, reserve_in, IsThermalFeasible, IsDispatch, IsFirstDispatch, spell_cost, IsStep, off_time, IsSpell, IsOffRun, start_cost_after, paid, IsEntryAfter, IsStarted, IsEnded, IsLatest, IsComplete, IsZeroOff, IsRival, HasSameFlags, HasSamePowers, IsFirstBeside, IsFirstUpTo}
 use Rattle.unit_program.proofs.BackwardOrder.{IsNoLater}
 use Rattle.unit_program.proofs.CommitLaws.{steps_from_rules}
 use Rattle.unit_program.proofs.SpellLaws.{IsRun, dispatch_of_run, off_time-same}

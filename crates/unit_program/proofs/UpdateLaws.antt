@@ -1,12 +1,5 @@
 -- The table after the spells from one first period to an ever later last one.
-use Rattle.std.proofs.Common.{◌≡◌, ◌≢◌, ℕ, ◌+◌, ◌<◌, ◌≤◌, ◌⊎◌, inl, inr, Option, Some, ℤ, ◌+ℤ◌, List, sym, ap, ◌∙◌, subst, arith}
-use Rattle.std.proofs.lemmas.Int.{ints}
-use Rattle.std.proofs.lemmas.Bool.{cases_eq, cases_lt}
-use Rattle.uc_model.specs.Data.{ThermalUnit}
-use Rattle.period_table.specs.declared.table.Ended.{Ended}
-use Rattle.period_table.specs.Spells.{IsSpell}
-use Rattle.period_table.specs.Tables.{HasAtMost, IsUpdate}
-use Rattle.period_table.specs.Rows.{row_at, cost_at, first_at, before_at, AreWithin}
+use Rattle.unit_program.proofs.Common.{◌≡◌, ◌≢◌, ℕ, ◌+◌, ◌<◌, ◌≤◌, ◌⊎◌, inl, inr, Option, Some, ℤ, ◌+ℤ◌, List, sym, ap, ◌∙◌, subst, arith, ints, cases_eq, cases_lt, ThermalUnit, Ended, IsSpell, HasAtMost, IsUpdate, row_at, cost_at, first_at, before_at, AreWithin}
 use Rattle.unit_program.proofs.RowLaws.{cost-same, first-same, before-same, cost-is, first-is, before-is}
 
 module _ (g : ThermalUnit) (periods first before : ℕ) (e : ℤ) (nets : ℕ → Option ℤ) (rows : List (Option Ended)) where

@@ -1,14 +1,6 @@
 -- What one of a plan's schedules, or a best schedule, earns is within the limit of a unit's earnings.
-use Rattle.std.proofs.Common.{◌≡◌, ℕ, zero, suc, ℤ, Some, List, [], ◌∷◌, length, sym, ◌∙◌, subst}
-use Rattle.std.specs.List.{All, AllZip}
-use Rattle.std.specs.Prelude.{slice_get}
+use Rattle.uplift_settle.proofs.Common.{◌≡◌, ℕ, zero, suc, ℤ, Some, List, [], ◌∷◌, length, sym, ◌∙◌, subst, All, AllZip, slice_get, AnyUnit, PriceLists, Schedule, earnings, IsTop, IsUnit, IsEarned, ArePrices, IsFeasible, zip_with, none_some, same_item, head_of, tail_of}
 use Rattle.uc_model.specs.BoundLaws.{EarningsAreWithin}
-use Rattle.uc_model.specs.Data.{AnyUnit, PriceLists, Schedule}
-use Rattle.uc_model.specs.Earnings.{earnings, IsTop}
-use Rattle.uc_model.specs.Limits.{IsUnit, IsEarned, ArePrices}
-use Rattle.uc_model.specs.Schedules.{IsFeasible}
-use Rattle.uc_model.specs.Sums.{zip_with}
-use Rattle.uc_model.proofs.ListLaws.{none_some, same_item, head_of, tail_of}
 
 module _ (law : EarningsAreWithin) (π : PriceLists) (prices : ArePrices π) where
   pub scheduled_within : (us : List AnyUnit) (ss : List Schedule) (i : ℕ) (x : ℤ) → All IsUnit us → AllZip (λ u s. IsFeasible u (length π.energy) s) us ss →

@@ -1,3 +1,5 @@
+-- The names from elsewhere that the proofs here cite.
+pub mod Common
 -- ---- src/earned.rt
 -- what prices pay for the power and the reserve of a schedule
 pub mod Paid
@@ -6,3 +8,5 @@ pub mod Units
 -- ---- src/earned.rt and src/settlement.rt
 -- what one of a plan's schedules, or a best schedule, earns fits its type
 pub mod Bounds
+-- The lemmas that answers cite.
+pub mod Lemmas

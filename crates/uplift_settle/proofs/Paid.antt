@@ -1,14 +1,6 @@
 -- What prices pay for the power and the reserve of a schedule.
-use Rattle.std.proofs.Common.{◌≡◌, ℕ, suc, ℤ, neg_ℤ, ◌+ℤ◌, ◌-ℤ◌, ◌*ℤ◌, length, ap, arith}
-use Rattle.std.proofs.lemmas.Int.{ints}
-use Rattle.uc_model.specs.Data.{ThermalUnit, RenewableUnit, BidUnit, Thermal, Flat, Bid, PriceLists, Schedule}
-use Rattle.uc_model.specs.Earnings.{revenue}
-use Rattle.uc_model.specs.Limits.{AreOneLength}
-use Rattle.uc_model.specs.Schedules.{power_in, reserve_in}
-use Rattle.uc_model.specs.Sums.{int_at, sum_below}
+use Rattle.uplift_settle.proofs.Common.{◌≡◌, ℕ, suc, ℤ, neg_ℤ, ◌+ℤ◌, ◌-ℤ◌, ◌*ℤ◌, length, ap, arith, ints, ThermalUnit, RenewableUnit, BidUnit, Thermal, Flat, Bid, PriceLists, Schedule, revenue, AreOneLength, power_in, reserve_in, int_at, sum_below, mul-neg, paid_for}
 use Rattle.uc_model.proofs.IntLaws.{sum_below-same, sum_below-add, sum_below-sub}
-use Rattle.uc_model.proofs.SignedLaws.{mul-neg}
-use Rattle.uplift_settle.specs.Earned.{paid_for}
 
 module _ (π : PriceLists) (s : Schedule) (one : AreOneLength s) where
   abbrev energy : ℕ → ℤ

@@ -1,13 +1,7 @@
 -- The unit of a number, by its kind, and what its schedule in a plan earns.
-use Rattle.std.proofs.Common.{◌≡◌, ℕ, ◌+◌, ◌-◌, ◌<◌, ◌≤◌, ℤ, Some, List, [], length, sym, ap, ◌∙◌, arith}
-use Rattle.std.proofs.lemmas.Option.{slice_get-get_or}
-use Rattle.std.specs.Prelude.{slice_get, slice_index_or}
-use Rattle.uc_model.specs.Data.{AnyUnit, Flat, NamedRenewableUnit, RenewableUnit, PriceLists, Schedule, Market, units, unit_count}
-use Rattle.uc_model.specs.Earnings.{earnings}
+use Rattle.uplift_settle.proofs.Common.{◌≡◌, ℕ, ◌+◌, ◌-◌, ◌<◌, ◌≤◌, ℤ, Some, List, [], length, sym, ap, ◌∙◌, arith, slice_get-get_or, slice_get, slice_index_or, AnyUnit, Flat, NamedRenewableUnit, RenewableUnit, PriceLists, Schedule, Market, units, unit_count, earnings, zip_with_item, length-zip_with, earned_in}
 use Rattle.uc_model.specs.Laws.{HasPlanShape}
 use Rattle.uc_model.specs.PlanLaws.{NumbersUnits}
-use Rattle.uc_model.proofs.ListLaws.{zip_with_item, length-zip_with}
-use Rattle.uplift_settle.specs.Earned.{earned_in}
 
 -- three lists over the horizon
 abbrev pub HasLengths : ℕ → Schedule → Type 0

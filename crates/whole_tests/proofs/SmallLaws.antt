@@ -1,22 +1,15 @@
 -- What the tests check suffices for the conditions of the calls.
-use Rattle.std.proofs.Common.{◌≡◌, ℕ, zero, suc, ◌+◌, ◌*◌, ◌<◌, List, [], ◌∷◌, length, get_or, Option, Some, None, refl, sym, ap, ◌∙◌, arith, inl, inr}
-use Rattle.std.specs.Prelude.{ℤ, pos, neg_ℤ, ◌+ℤ◌, ◌-ℤ◌, ◌*ℤ◌, ◌≤ℤ◌, ◌<ℤ◌, int_lt, true, false}
-use Rattle.std.specs.Int.{int_min}
+use Rattle.whole_tests.proofs.Common.{◌≡◌, ℕ, zero, suc, ◌+◌, ◌*◌, ◌<◌, List, [], ◌∷◌, length, get_or, Option, Some, None, refl, sym, ap, ◌∙◌, arith, inl, inr, ℤ, pos, neg_ℤ, ◌+ℤ◌, ◌-ℤ◌, ◌*ℤ◌, ◌≤ℤ◌, ◌<ℤ◌, int_lt, true, false, int_min, ints, clamps, by_lt_z, cases_lt, Block, rise_at, curve_value, end_of, reserve_term, IsLimitedCurve, IsSmall, IsModestAt, IsNear, AreFair}
 use Rattle.std.specs.Option.{option_map}
-use Rattle.std.proofs.lemmas.Int.{ints, clamps, by_lt_z}
-use Rattle.std.proofs.lemmas.Bool.{cases_lt}
 use Rattle.std.proofs.Math.IntN.{*ℤ_comm, *ℤ-zero}
-use Rattle.uc_model.specs.declared.units.Block.{Block}
 use Rattle.uc_model.specs.declared.units.Curve.{Curve}
 use Rattle.uc_model.specs.Limits.{IsFrom, IsCurve}
 use Rattle.uc_model.proofs.IntLaws.{mul-sub}
 use Rattle.uc_model.proofs.SignedLaws.{IsWithin, product_within}
-use Rattle.shape_law.specs.Curve.{rise_at, curve_value, end_of, reserve_term, IsLimitedCurve}
 use Rattle.shape_law.specs.Effect.{CanAddCurve}
 use Rattle.shape_law.specs.Laws.{CurvesHaveValues}
 use Rattle.shape_law.specs.Lookup.{place_split}
 use Rattle.shape_law.specs.Table.{Table, value_of, IsWithinLimits, HasNone, CanAdd}
-use Rattle.whole_tests.specs.Small.{IsSmall, IsModestAt, IsNear, AreFair}
 
 near : (f : Table) → IsWithinLimits f → HasNone (neg_ℤ (pos 4000000000)) (neg_ℤ (pos 1001)) f → HasNone (pos 1001) (pos 4000000000) f → (x v : ℤ) → value_of f x ≡ Some v → IsNear x
 near f within before after x v h =

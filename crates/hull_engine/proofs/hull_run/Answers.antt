@@ -1,6 +1,5 @@
-use Rattle.hull_words.specs.Words.{texts, words_of}
-use Rattle.hull_engine.specs.Outcome.{command_for}
-use Rattle.hull_engine.proofs.EndLaws.{ends_as, sink_later}
+use Rattle.hull_engine.proofs.Common.{texts, words_of, command_for}
+use Rattle.hull_engine.proofs.Lemmas.{ends_as, sink_later}
 use Rattle.hull_engine.proofs.hull_run.Goals as goal
 
 pub returns-clause-outcome : goal.returns-clause-outcome

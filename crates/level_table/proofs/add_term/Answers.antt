@@ -1,7 +1,4 @@
-use Rattle.std.proofs.Common.{rules, ◌≡◌, ◌≢◌, ◌<◌, length, get_or, arith, ◌∙◌, below_more, get_or-set_same, get_or-set_other, to_z, of_z}
-use Rattle.std.specs.Prelude.{pos, ◌+ℤ◌, FitsSigned}
-use Rattle.std.specs.Int.{w64}
-use Rattle.std.proofs.lemmas.Int.{ints, to_z-of_z}
+use Rattle.level_table.proofs.Common.{rules, ◌≡◌, ◌≢◌, ◌<◌, length, get_or, arith, ◌∙◌, below_more, get_or-set_same, get_or-set_other, to_z, of_z, pos, ◌+ℤ◌, FitsSigned, w64, ints, to_z-of_z}
 use Rattle.level_table.proofs.add_term.Goals as goal
 
 pub loop-k-preserved : goal.loop-k-preserved

@@ -1,5 +1,4 @@
-use Rattle.std.proofs.Common.{◌≡◌, ℕ, ◌<◌, ◌≤◌, get_or, Some}
-use Rattle.std.specs.Prelude.{ℤ, pos, ◌+ℤ◌}
+use Rattle.level_table.proofs.Common.{◌≡◌, ℕ, ◌<◌, ◌≤◌, get_or, Some, ℤ, pos, ◌+ℤ◌}
 use Rattle.level_table.proofs.add_term.Given as goal
 
 abbrev pub invariant-loop-k : goal.invariant-loop-k

@@ -1,7 +1,4 @@
-use Rattle.std.proofs.Common.{arith}
-use Rattle.std.specs.Prelude.{◌+ℤ◌, ◌*ℤ◌, FitsSigned}
-use Rattle.std.specs.Int.{w64}
-use Rattle.std.proofs.lemmas.Int.{ints, to_z-of_z}
+use Rattle.level_table.proofs.Common.{arith, ◌+ℤ◌, ◌*ℤ◌, FitsSigned, w64, ints, to_z-of_z}
 use Rattle.level_table.proofs.along.Goals as goal
 
 pub returns : goal.returns

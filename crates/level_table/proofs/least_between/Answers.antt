@@ -1,8 +1,5 @@
-use Rattle.std.proofs.Common.{rules, ◌≡◌, ◌+◌, ◌<◌, length, arith, to_z, of_z, length-take, length-drop}
-use Rattle.std.specs.Prelude.{ℤ, pos, ◌+ℤ◌, FitsSigned}
-use Rattle.std.specs.Int.{w64}
-use Rattle.std.proofs.lemmas.Int.{ints, to_z-of_z}
-use Rattle.level_table.proofs.LeastLaws.{none_between, least_between_is}
+use Rattle.level_table.proofs.Common.{rules, ◌≡◌, ◌+◌, ◌<◌, length, arith, to_z, of_z, length-take, length-drop, ℤ, pos, ◌+ℤ◌, FitsSigned, w64, ints, to_z-of_z}
+use Rattle.level_table.proofs.Lemmas.{none_between, least_between_is}
 use Rattle.level_table.proofs.least_between.Goals as goal
 
 pub returns-then-end-start : goal.returns-then-end-start

@@ -1,9 +1,4 @@
-use Rattle.std.proofs.Common.{rules, ◌≡◌, Some, None, arith, to_z, of_z}
-use Rattle.std.specs.Prelude.{◌+ℤ◌, ◌-ℤ◌, FitsSigned}
-use Rattle.std.specs.Int.{w64}
-use Rattle.std.proofs.lemmas.Int.{ints, to_z-of_z}
-use Rattle.shape_law.specs.Table.{value_of}
-use Rattle.level_table.specs.Values.{table}
+use Rattle.level_table.proofs.Common.{rules, ◌≡◌, Some, None, arith, to_z, of_z, ◌+ℤ◌, ◌-ℤ◌, FitsSigned, w64, ints, to_z-of_z, value_of, table}
 use Rattle.level_table.proofs.least_in_reach.Goals as goal
 
 pub unreachable-requires : goal.unreachable-requires

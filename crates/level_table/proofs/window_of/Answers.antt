@@ -1,11 +1,5 @@
-use Rattle.std.proofs.Common.{◌≡◌, ℕ, ◌-◌, ◌<◌, length, arith, to_z, of_z, vec_len}
-use Rattle.std.specs.Prelude.{ℤ, pos, ◌+ℤ◌, ◌-ℤ◌}
-use Rattle.std.specs.Int.{w64, int_max, int_min}
-use Rattle.std.proofs.lemmas.Int.{ints, clamps, to_z-of_z}
-use Rattle.shape_law.specs.Effect.{IsWindow}
-use Rattle.shape_law.specs.Table.{IsPlace}
-use Rattle.level_table.specs.Values.{table, within_limits}
-use Rattle.level_table.proofs.ValueLaws.{AreWithin-from_limits}
+use Rattle.level_table.proofs.Common.{◌≡◌, ℕ, ◌-◌, ◌<◌, length, arith, to_z, of_z, vec_len, ℤ, pos, ◌+ℤ◌, ◌-ℤ◌, w64, int_max, int_min, ints, clamps, to_z-of_z, IsWindow, IsPlace, table, within_limits}
+use Rattle.level_table.proofs.Lemmas.{AreWithin-from_limits}
 use Rattle.level_table.proofs.WindowLaws.{ends_are_places, place_inside, some_in_reach, window_is}
 use Rattle.level_table.proofs.window_of.Goals as goal
 use Rattle.level_table.proofs.window_of.Goals.{After-min-to, After-count_between-count, In_ok-values}

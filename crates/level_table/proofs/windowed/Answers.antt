@@ -1,8 +1,4 @@
-use Rattle.std.proofs.Common.{rules, ◌≡◌, ◌<◌, length, arith, ap, length-append, to_z, of_z, below_more}
-use Rattle.std.specs.Prelude.{ℤ, pos, ◌+ℤ◌, FitsSigned}
-use Rattle.std.specs.Int.{w64}
-use Rattle.std.proofs.lemmas.Int.{ints, to_z-of_z}
-use Rattle.std.proofs.lemmas.List.{get_or_append_left, get_or_push}
+use Rattle.level_table.proofs.Common.{rules, ◌≡◌, ◌<◌, length, arith, ap, length-append, to_z, of_z, below_more, ℤ, pos, ◌+ℤ◌, FitsSigned, w64, ints, to_z-of_z, get_or_append_left, get_or_push}
 use Rattle.level_table.proofs.windowed.Goals as goal
 
 pub overflow_cast-k : goal.overflow_cast-k

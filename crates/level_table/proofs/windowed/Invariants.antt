@@ -1,7 +1,4 @@
-use Rattle.std.proofs.Common.{◌≡◌, ℕ, ◌<◌, length, get_or}
-use Rattle.std.specs.Prelude.{ℤ, pos, ◌+ℤ◌, ◌-ℤ◌}
-use Rattle.shape_law.specs.Effect.{IsLeastIn}
-use Rattle.level_table.specs.Values.{table}
+use Rattle.level_table.proofs.Common.{◌≡◌, ℕ, ◌<◌, length, get_or, ℤ, pos, ◌+ℤ◌, ◌-ℤ◌, IsLeastIn, table}
 use Rattle.level_table.proofs.windowed.Given as goal
 
 abbrev pub invariant-loop-k : goal.invariant-loop-k

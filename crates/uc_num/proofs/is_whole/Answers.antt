@@ -1,7 +1,5 @@
-use Rattle.std.proofs.Common.{pos, ◌<ℤ◌, ◌≤ℤ◌, ◌%◌, nat_eq, true, refl, arith, rules, FitsSigned, w32}
-use Rattle.std.proofs.lemmas.Int.{ints, to_z-of_z}
-use Rattle.std.proofs.lemmas.Bool.Decides.{nat_tests}
-use Rattle.uc_num.proofs.Powers.{ten_up, ten_some, whole_right, whole_far, whole_none, whole_is_multiple, multiple_is_whole, same_test}
+use Rattle.uc_num.proofs.Common.{pos, ◌<ℤ◌, ◌≤ℤ◌, ◌%◌, nat_eq, true, refl, arith, rules, FitsSigned, w32, ints, to_z-of_z, nat_tests}
+use Rattle.uc_num.proofs.Lemmas.{ten_up, ten_some, whole_right, whole_far, whole_none, whole_is_multiple, multiple_is_whole, same_test}
 use Rattle.uc_num.proofs.is_whole.Goals as goal
 
 pub returns-then-d-ge0-clause-exact : goal.returns-then-d-ge0-clause-exact

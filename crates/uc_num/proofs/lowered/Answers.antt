@@ -1,6 +1,5 @@
-use Rattle.std.proofs.Common.{◌^◌, sym, arith}
-use Rattle.uc_num.proofs.Powers.{ten_up, ten_some}
-use Rattle.uc_num.proofs.Nearest.{cut_to_none}
+use Rattle.uc_num.proofs.Common.{◌^◌, sym, arith}
+use Rattle.uc_num.proofs.Lemmas.{ten_up, ten_some, cut_to_none}
 use Rattle.uc_num.proofs.lowered.Goals as goal
 
 pub returns-then-places-gt38 : goal.returns-then-places-gt38

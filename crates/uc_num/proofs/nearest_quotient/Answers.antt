@@ -1,5 +1,5 @@
-use Rattle.std.proofs.Common.{sym, ◌∙◌}
-use Rattle.uc_num.proofs.Nearest.{cut_up, cut_down}
+use Rattle.uc_num.proofs.Common.{sym, ◌∙◌}
+use Rattle.uc_num.proofs.Lemmas.{cut_up, cut_down}
 use Rattle.uc_num.proofs.nearest_quotient.Goals as goal
 
 pub returns-then-counts : goal.returns-then-counts

@@ -1,6 +1,5 @@
-use Rattle.std.proofs.Common.{◌*◌, ◌^◌, ◌≤◌, arith}
-use Rattle.std.proofs.Math.Nat.{mul-le-mul_right, mul-le-mul_left}
-use Rattle.uc_num.proofs.Powers.{ten_up, ten_some}
+use Rattle.uc_num.proofs.Common.{◌*◌, ◌^◌, ◌≤◌, arith, mul-le-mul_right, mul-le-mul_left}
+use Rattle.uc_num.proofs.Lemmas.{ten_up, ten_some}
 use Rattle.uc_num.proofs.raised.Goals as goal
 
 pub returns-then-places-gt18 : goal.returns-then-places-gt18

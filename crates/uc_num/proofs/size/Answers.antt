@@ -1,6 +1,5 @@
-use Rattle.std.proofs.Common.{◌≡◌, ◌≤◌, ℕ, pos, ◌+ℤ◌, ◌<ℤ◌, ◌≤ℤ◌, unsigned_abs, sym, subst, arith, rules, w32, SomeIff, FitsSigned}
-use Rattle.std.proofs.lemmas.Int.{ints}
-use Rattle.uc_num.proofs.Nearest.{size_right, size_left}
+use Rattle.uc_num.proofs.Common.{◌≡◌, ◌≤◌, ℕ, pos, ◌+ℤ◌, ◌<ℤ◌, ◌≤ℤ◌, unsigned_abs, sym, subst, arith, rules, w32, SomeIff, FitsSigned, ints}
+use Rattle.uc_num.proofs.Lemmas.{size_right, size_left}
 use Rattle.uc_num.proofs.size.Goals as goal
 
 pub returns-then-power-ge0 : goal.returns-then-power-ge0

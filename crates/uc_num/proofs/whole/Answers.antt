@@ -1,7 +1,5 @@
-use Rattle.std.proofs.Common.{◌≡◌, ℤ, pos, neg_ℤ, ◌-ℤ◌, Ok, unsigned_abs, ap, ◌∙◌, arith, to_z, of_z, w64}
-use Rattle.std.proofs.lemmas.Int.{ints}
-use Rattle.uc_num.specs.Rounding.{rounded, rounded_size}
-use Rattle.uc_num.proofs.Nearest.{size-rounded, rounded_plus, rounded_minus, refused, answered}
+use Rattle.uc_num.proofs.Common.{◌≡◌, ℤ, pos, neg_ℤ, ◌-ℤ◌, Ok, unsigned_abs, ap, ◌∙◌, arith, to_z, of_z, w64, ints, rounded, rounded_size}
+use Rattle.uc_num.proofs.Lemmas.{size-rounded, rounded_plus, rounded_minus, refused, answered}
 use Rattle.uc_num.specs.declared.NumFault.TheVariants.{TooLarge}
 use Rattle.uc_num.proofs.whole.Goals as goal
 

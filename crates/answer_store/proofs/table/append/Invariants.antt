@@ -1,4 +1,4 @@
-use Rattle.std.proofs.Common.{◌≡◌, ◌++◌, take, vec_capacity}
+use Rattle.answer_store.proofs.Common.{◌≡◌, ◌++◌, take, vec_capacity}
 use Rattle.answer_store.proofs.table.append.Given as goal
 
 abbrev pub invariant-loop-x : goal.invariant-loop-x

@@ -1,4 +1,4 @@
-use Rattle.std.proofs.Common.{◌≡◌, ◌+◌, length, take}
+use Rattle.answer_store.proofs.Common.{◌≡◌, ◌+◌, length, take}
 use Rattle.answer_store.proofs.table.take_part.Given as goal
 
 abbrev pub invariant-loop-item : goal.invariant-loop-item

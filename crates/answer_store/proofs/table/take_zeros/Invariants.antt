@@ -1,4 +1,4 @@
-use Rattle.std.proofs.Common.{◌≡◌, ◌+◌, ◌≤◌, replicate}
+use Rattle.answer_store.proofs.Common.{◌≡◌, ◌+◌, ◌≤◌, replicate}
 use Rattle.answer_store.proofs.table.take_zeros.Given as goal
 
 abbrev pub invariant-loop : goal.invariant-loop

@@ -1,4 +1,4 @@
-use Rattle.answer_workers.proofs.Rows.{zip_worked, then_worked}
+use Rattle.answer_workers.proofs.Lemmas.{zip_worked, then_worked}
 use Rattle.answer_workers.proofs.all.answer_all.Goals as goal
 
 pub returns-clause-worked : goal.returns-clause-worked

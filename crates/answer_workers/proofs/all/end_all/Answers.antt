@@ -1,6 +1,5 @@
-use Rattle.std.proofs.Common.{◌∙◌, ◌<◌, length, arith}
-use Rattle.std.proofs.lemmas.List.{length-set}
-use Rattle.answer_workers.proofs.Rows.{one_works, one_there, one_finishes, zip_worked, all_still, still_all_of}
+use Rattle.answer_workers.proofs.Common.{◌∙◌, ◌<◌, length, arith, length-set}
+use Rattle.answer_workers.proofs.Lemmas.{one_works, one_there, one_finishes, zip_worked, all_still, still_all_of}
 use Rattle.answer_workers.proofs.all.end_all.Goals as goal
 
 pub loop-k-preserved : goal.loop-k-preserved

@@ -1,5 +1,5 @@
-use Rattle.std.proofs.Common.{◌≡◌, length}
-use Rattle.answer_workers.proofs.Rows.{EachWorked, EachFinished}
+use Rattle.answer_workers.proofs.Common.{◌≡◌, length}
+use Rattle.answer_workers.proofs.Lemmas.{EachWorked, EachFinished}
 use Rattle.answer_workers.proofs.all.end_all.Given as goal
 
 abbrev pub invariant-loop-k : goal.invariant-loop-k

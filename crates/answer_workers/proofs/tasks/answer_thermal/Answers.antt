@@ -1,7 +1,5 @@
-use Rattle.std.proofs.Common.{length}
-use Rattle.slope_list.specs.Slopes.{room_of}
-use Rattle.uc_model.specs.PlainUnits.{thermal_of, prices_of}
-use Rattle.answer_workers.proofs.BenchLaws.{found, kept}
+use Rattle.answer_workers.proofs.Common.{length, room_of, thermal_of, prices_of}
+use Rattle.answer_workers.proofs.Lemmas.{found, kept}
 use Rattle.answer_workers.proofs.tasks.answer_thermal.Goals as goal
 
 pub returns-clause-response : goal.returns-clause-response

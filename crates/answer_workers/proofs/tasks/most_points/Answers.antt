@@ -1,7 +1,5 @@
-use Rattle.std.proofs.Common.{◌≡◌, ◌<◌, ◌≤◌, List, length, get_or, refl, ap, subst, arith}
-use Rattle.std.proofs.lemmas.Option.{slice_get_read}
-use Rattle.uc_model.specs.declared.units.NamedUnit.{NamedUnit}
-use Rattle.answer_workers.proofs.BenchLaws.{greater, greater_within, few_more, all_few}
+use Rattle.answer_workers.proofs.Common.{◌≡◌, ◌<◌, ◌≤◌, List, length, get_or, refl, ap, subst, arith, slice_get_read, NamedUnit}
+use Rattle.answer_workers.proofs.Lemmas.{greater, greater_within, few_more, all_few}
 use Rattle.answer_workers.proofs.tasks.most_points.Goals as goal
 
 pub loop-named-preserved : goal.loop-named-preserved

@@ -1,5 +1,5 @@
-use Rattle.std.proofs.Common.{◌≤◌}
-use Rattle.answer_workers.proofs.BenchLaws.{HaveFew}
+use Rattle.answer_workers.proofs.Common.{◌≤◌}
+use Rattle.answer_workers.proofs.Lemmas.{HaveFew}
 use Rattle.answer_workers.proofs.tasks.most_points.Given as goal
 
 abbrev pub invariant-loop-named : goal.invariant-loop-named

@@ -1,6 +1,5 @@
-use Rattle.board_share.specs.Seats.{view_of}
-use Rattle.answer_workers.proofs.Going.{claim_goes}
-use Rattle.answer_workers.proofs.Steady.{parts_after}
+use Rattle.answer_workers.proofs.Common.{view_of}
+use Rattle.answer_workers.proofs.Lemmas.{claim_goes, parts_after}
 use Rattle.answer_workers.proofs.Told.{told}
 use Rattle.answer_workers.proofs.waiting.claim.Goals as goal
 

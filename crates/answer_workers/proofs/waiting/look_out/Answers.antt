@@ -1,4 +1,4 @@
-use Rattle.answer_workers.proofs.Steady.{rests, works_on, still_of}
+use Rattle.answer_workers.proofs.Lemmas.{rests, works_on, still_of}
 use Rattle.answer_workers.proofs.waiting.look_out.Goals as goal
 
 pub returns-then-ne-clause-worked : goal.returns-then-ne-clause-worked

@@ -1,4 +1,4 @@
-use Rattle.answer_workers.specs.Workers.{IsWorkerOf, HasWorked}
+use Rattle.answer_workers.proofs.Common.{IsWorkerOf, HasWorked}
 use Rattle.answer_workers.proofs.waiting.look_out.Given as goal
 
 abbrev pub invariant-loop : goal.invariant-loop

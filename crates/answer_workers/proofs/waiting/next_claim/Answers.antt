@@ -1,4 +1,4 @@
-use Rattle.answer_workers.proofs.Steady.{works_on}
+use Rattle.answer_workers.proofs.Lemmas.{works_on}
 use Rattle.answer_workers.proofs.waiting.next_claim.Goals as goal
 
 pub returns-clause-worked : goal.returns-clause-worked

@@ -1,9 +1,6 @@
-use Rattle.uc_model.specs.PlainCases.{task_unit}
-use Rattle.uc_model.specs.PlainUnits.{prices_of}
+use Rattle.answer_workers.proofs.Common.{task_unit, prices_of, view_of}
 use Rattle.board_core.specs.Stored.{answer_of}
-use Rattle.board_share.specs.Seats.{view_of}
-use Rattle.answer_workers.proofs.Going.{post_goes}
-use Rattle.answer_workers.proofs.Steady.{parts_posted}
+use Rattle.answer_workers.proofs.Lemmas.{post_goes, parts_posted}
 use Rattle.answer_workers.proofs.work.answer_given.Goals as goal
 
 pub returns : goal.returns

@@ -1,4 +1,4 @@
-use Rattle.answer_workers.proofs.Steady.{rests, works_on, still_of}
+use Rattle.answer_workers.proofs.Lemmas.{rests, works_on, still_of}
 use Rattle.answer_workers.proofs.work.work.Goals as goal
 
 pub loop-init : goal.loop-init

@@ -1,15 +1,5 @@
-use Rattle.std.proofs.Common.{◌≡◌, ℕ, suc, ◌<◌, true, List, length, get_or, sym, ap, ◌∙◌, subst, arith}
-use Rattle.std.specs.List.{All}
-use Rattle.board_history.specs.Board.{rules_of}
-use Rattle.board_history.specs.Rounds.{rows_by}
-use Rattle.price_move.specs.Sizes.{IsRowBelow}
-use Rattle.uc_model.specs.Data.{unit_count}
-use Rattle.uc_model.specs.PriceRule.{Proposal}
-use Rattle.board_core.specs.Parts.{sums_of, fronts_of}
-use Rattle.board_core.specs.Rounds.{Sums, Fronts, IsRound, is_full, row_in, with_opened, with_round}
-use Rattle.board_core.specs.Setups.{setup_of}
-use Rattle.board_core.proofs.Advances.{full_is, rows_next, round_more, full_to}
-use Rattle.board_core.proofs.Fronts.{rows_count, prices_count}
+use Rattle.board_core.proofs.Common.{◌≡◌, ℕ, suc, ◌<◌, true, List, length, get_or, sym, ap, ◌∙◌, subst, arith, All, rules_of, rows_by, IsRowBelow, unit_count, Proposal, sums_of, fronts_of, Sums, Fronts, IsRound, is_full, row_in, with_opened, with_round, setup_of}
+use Rattle.board_core.proofs.Lemmas.{full_is, rows_next, round_more, full_to, rows_count, prices_count}
 use Rattle.board_core.proofs.advance.advance.Goals as goal
 
 pub close_next-requires-clause-more : goal.close_next-requires-clause-more

@@ -1,9 +1,4 @@
-use Rattle.std.proofs.Common.{◌≡◌, ◌≤◌, ◌-◌, length}
-use Rattle.uc_model.specs.Data.{unit_count}
-use Rattle.uc_model.specs.PlainUnits.{prices_of}
-use Rattle.board_core.specs.Parts.{IsLedger, sums_of, fronts_of}
-use Rattle.board_core.specs.Rounds.{IsRound}
-use Rattle.board_core.specs.Setups.{setup_of}
+use Rattle.board_core.proofs.Common.{◌≡◌, ◌≤◌, ◌-◌, length, unit_count, prices_of, IsLedger, sums_of, fronts_of, IsRound, setup_of}
 use Rattle.board_core.proofs.advance.advance.Given as goal
 
 abbrev pub invariant-loop-ledger : goal.invariant-loop-ledger

@@ -1,12 +1,5 @@
-use Rattle.std.proofs.Common.{rules, ◌≡◌, ℕ, ◌<◌, ℤ, ◌-ℤ◌, length, get_or, ap, ◌∙◌, arith, FitsSigned}
-use Rattle.std.proofs.lemmas.Int.{to_z-of_z}
-use Rattle.std.specs.Int.{w128}
-use Rattle.uc_model.specs.Data.{PriceLists}
-use Rattle.uc_model.specs.Sums.{int_at}
-use Rattle.uc_model.specs.Systems.{worth_of_demand}
-use Rattle.board_core.specs.Ledgers.{blank, with_value}
-use Rattle.board_core.specs.Setups.{setup_of}
-use Rattle.board_core.proofs.LedgerSteps.{IsWritten, closed_fronts, closed_sums, closed_ledger}
+use Rattle.board_core.proofs.Common.{rules, ◌≡◌, ℕ, ◌<◌, ℤ, ◌-ℤ◌, length, get_or, ap, ◌∙◌, arith, FitsSigned, to_z-of_z, w128, PriceLists, int_at, worth_of_demand, blank, with_value, setup_of}
+use Rattle.board_core.proofs.Lemmas.{IsWritten, closed_fronts, closed_sums, closed_ledger}
 use Rattle.board_core.proofs.advance.close_next.Goals as goal
 
 pub dual_value-value-requires-clause-horizon : goal.dual_value-value-requires-clause-horizon

@@ -1,16 +1,5 @@
-use Rattle.std.proofs.Common.{◌≡◌, ◌≤◌, ℕ, List, true, get_or, length, map, take, sym, ap, subst, ◌∙◌, arith}
-use Rattle.std.proofs.lemmas.List.{length-map, length-take}
-use Rattle.std.specs.Prelude.{not}
-use Rattle.price_move.specs.Firsts.{IsFirstUpTo}
-use Rattle.price_move.specs.Moves.{is_last_settled, values_of}
-use Rattle.uc_model.specs.PlainCases.{proposal_of}
-use Rattle.uc_model.specs.PlainUnits.{prices_of}
-use Rattle.uc_model.specs.PriceRule.{Proposal, next_prices}
-use Rattle.board_core.specs.Ledgers.{blank, with_prices}
-use Rattle.board_core.specs.Parts.{fronts_of}
-use Rattle.board_core.specs.Rounds.{is_due}
-use Rattle.board_core.specs.Setups.{setup_of}
-use Rattle.board_core.proofs.LedgerSteps.{IsWritten, due_says, opens_it, with_one, opened_fronts, opened_sums, opened_ledger}
+use Rattle.board_core.proofs.Common.{◌≡◌, ◌≤◌, ℕ, List, true, get_or, length, map, take, sym, ap, subst, ◌∙◌, arith, length-map, length-take, not, IsFirstUpTo, is_last_settled, values_of, proposal_of, prices_of, Proposal, next_prices, blank, with_prices, fronts_of, is_due, setup_of}
+use Rattle.board_core.proofs.Lemmas.{IsWritten, due_says, opens_it, with_one, opened_fronts, opened_sums, opened_ledger}
 use Rattle.board_core.proofs.advance.open_next.Goals as goal
 
 pub propose-requires-clause-best : goal.propose-requires-clause-best

@@ -1,12 +1,5 @@
-use Rattle.std.proofs.Common.{rules, map, sym, subst, arith, FitsSigned}
-use Rattle.std.proofs.lemmas.Int.{ints, to_z-of_z}
-use Rattle.std.proofs.lemmas.List.{length-map}
-use Rattle.std.specs.Int.{w128}
-use Rattle.board_history.specs.Bounds.{IsWorth}
-use Rattle.uc_model.specs.PlainCases.{market_of, proposal_of}
-use Rattle.uc_model.specs.PlainUnits.{prices_of}
-use Rattle.board_core.specs.Setups.{setup_of}
-use Rattle.board_core.proofs.Advances.{moved_over}
+use Rattle.board_core.proofs.Common.{rules, map, sym, subst, arith, FitsSigned, ints, to_z-of_z, length-map, w128, IsWorth, market_of, proposal_of, prices_of, setup_of}
+use Rattle.board_core.proofs.Lemmas.{moved_over}
 use Rattle.board_core.proofs.advance.propose.Goals as goal
 
 pub next_prices_from-moved-requires-clause-cost : goal.next_prices_from-moved-requires-clause-cost

@@ -1,13 +1,5 @@
-use Rattle.std.proofs.Common.{◌≡◌, suc, pos, length, sym, ap, subst, arith}
-use Rattle.dual_value.specs.Totals.{IsRaised}
-use Rattle.uc_model.specs.Data.{AnyUnit, Thermal, Flat, Bid}
-use Rattle.uc_model.specs.Earnings.{supply_in}
-use Rattle.uc_model.specs.PlainCases.{chosen_unit, proposal_of, task_unit}
-use Rattle.uc_model.specs.PlainUnits.{thermal_of, renewable_of, bid_of, prices_of, schedule_of}
-use Rattle.uc_model.specs.Reserved.{items_in}
-use Rattle.uc_model.specs.Schedules.{reserve_in, IsFeasible}
-use Rattle.uc_model.specs.declared.units.UnitKind.{UnitKind}
-use Rattle.board_core.proofs.Rows.{added, unraised}
+use Rattle.board_core.proofs.Common.{◌≡◌, suc, pos, length, sym, ap, subst, arith, IsRaised, AnyUnit, Thermal, Flat, Bid, supply_in, chosen_unit, proposal_of, task_unit, thermal_of, renewable_of, bid_of, prices_of, schedule_of, items_in, reserve_in, IsFeasible, UnitKind}
+use Rattle.board_core.proofs.Lemmas.{added, unraised}
 use Rattle.board_core.proofs.ledger.add_answer.Goals as goal
 
 pub returns-in-Thermal : goal.returns-in-Thermal

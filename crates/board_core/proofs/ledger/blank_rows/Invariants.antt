@@ -1,6 +1,4 @@
-use Rattle.std.proofs.Common.{◌≡◌, ◌≤◌, map, replicate, vec_capacity}
-use Rattle.uc_model.specs.PlainCases.{proposal_of}
-use Rattle.board_core.specs.Ledgers.{blank}
+use Rattle.board_core.proofs.Common.{◌≡◌, ◌≤◌, map, replicate, vec_capacity, proposal_of, blank}
 use Rattle.board_core.proofs.ledger.blank_rows.Given as goal
 
 abbrev pub invariant-loop : goal.invariant-loop

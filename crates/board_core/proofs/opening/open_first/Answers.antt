@@ -1,12 +1,5 @@
-use Rattle.std.proofs.Common.{◌≡◌, suc, ◌+◌, length, get_or, sym, ap, ◌∙◌, subst, arith}
-use Rattle.std.proofs.Math.ListN.{set}
-use Rattle.std.proofs.lemmas.List.{length-map}
-use Rattle.uc_model.specs.Data.{PriceLists}
-use Rattle.uc_model.specs.PlainUnits.{prices_of}
-use Rattle.uc_model.specs.PriceRule.{opening_prices_of}
-use Rattle.board_core.specs.Ledgers.{LedgerValue, blank, with_prices}
-use Rattle.board_core.specs.Openings.{with_opening, with_openings}
-use Rattle.board_core.proofs.Opened.{IsOpened, opened, same_ledger}
+use Rattle.board_core.proofs.Common.{◌≡◌, suc, ◌+◌, length, get_or, sym, ap, ◌∙◌, subst, arith, set, length-map, PriceLists, prices_of, opening_prices_of, LedgerValue, blank, with_prices, with_opening, with_openings}
+use Rattle.board_core.proofs.Lemmas.{IsOpened, opened, same_ledger}
 use Rattle.board_core.proofs.opening.open_first.Goals as goal
 
 pub open-requires-clause-place : goal.open-requires-clause-place

@@ -1,6 +1,4 @@
-use Rattle.std.proofs.Common.{◌≡◌, length}
-use Rattle.uc_model.specs.PlainUnits.{prices_of}
-use Rattle.board_core.specs.Openings.{with_openings}
+use Rattle.board_core.proofs.Common.{◌≡◌, length, prices_of, with_openings}
 use Rattle.board_core.proofs.opening.open_first.Given as goal
 
 abbrev pub invariant-loop-k : goal.invariant-loop-k

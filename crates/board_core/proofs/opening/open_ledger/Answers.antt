@@ -1,12 +1,5 @@
-use Rattle.std.proofs.Common.{◌≡◌, ℕ, ℤ, pos, List, length, min, sym, ap, ◌∙◌, arith}
-use Rattle.std.proofs.lemmas.List.{length-replicate}
-use Rattle.std.proofs.lemmas.List.FromFn.{length-map-range_with_len}
-use Rattle.std.specs.Prelude.{replicate}
-use Rattle.uc_model.specs.PlainCases.{market_of}
-use Rattle.uc_model.specs.PriceRule.{Proposal}
-use Rattle.board_core.specs.Ledgers.{LedgerValue, blank}
-use Rattle.board_core.specs.Openings.{blank_ledger, with_openings}
-use Rattle.board_core.proofs.Opened.{same_ledger}
+use Rattle.board_core.proofs.Common.{◌≡◌, ℕ, ℤ, pos, List, length, min, sym, ap, ◌∙◌, arith, length-replicate, length-map-range_with_len, replicate, market_of, Proposal, LedgerValue, blank, blank_ledger, with_openings}
+use Rattle.board_core.proofs.Lemmas.{same_ledger}
 use Rattle.board_core.proofs.opening.open_ledger.Goals as goal
 
 pub open_first-requires-clause-start : goal.open_first-requires-clause-start

@@ -1,11 +1,5 @@
-use Rattle.std.proofs.Common.{length, sym, ap, ◌∙◌}
-use Rattle.uc_model.specs.Data.{PriceLists}
-use Rattle.uc_model.specs.PlainCases.{task_unit}
-use Rattle.uc_model.specs.PlainUnits.{prices_of}
-use Rattle.board_core.specs.Ledgers.{blank}
-use Rattle.board_core.specs.Refusals.{own_prices_in}
-use Rattle.board_core.specs.Setups.{setup_of}
-use Rattle.board_core.proofs.FlatLists.{no_difference}
+use Rattle.board_core.proofs.Common.{length, sym, ap, ◌∙◌, PriceLists, task_unit, prices_of, blank, own_prices_in, setup_of}
+use Rattle.board_core.proofs.Lemmas.{no_difference}
 use Rattle.board_core.proofs.posts.content.Goals as goal
 
 pub copy_task-requires-clause-horizon : goal.copy_task-requires-clause-horizon

@@ -1,11 +1,6 @@
-use Rattle.std.proofs.Common.{rules, ◌≡◌, ℤ, Some, sym, ap, ◌∙◌, arith, w64, FitsSigned}
-use Rattle.std.proofs.lemmas.Int.{to_z-of_z}
-use Rattle.std.specs.Int.{cast_signed, cast_unsigned}
-use Rattle.uc_model.specs.PlainCases.{task_unit}
-use Rattle.uc_model.specs.PlainUnits.{prices_of}
-use Rattle.uc_model.specs.TaskLists.{task_numbers}
+use Rattle.board_core.proofs.Common.{rules, ◌≡◌, ℤ, Some, sym, ap, ◌∙◌, arith, w64, FitsSigned, to_z-of_z, cast_signed, cast_unsigned, task_unit, prices_of, task_numbers}
 use Rattle.board_core.specs.declared.replies.Differs.TheVariants as differs
-use Rattle.board_core.proofs.FlatLists.{one_more, differ_here, own_ends, given_ends, no_more, numbers_few}
+use Rattle.board_core.proofs.Lemmas.{one_more, differ_here, own_ends, given_ends, no_more, numbers_few}
 use Rattle.board_core.proofs.posts.difference.Goals as goal
 
 pub returns-in_err-board : goal.returns-in_err-board

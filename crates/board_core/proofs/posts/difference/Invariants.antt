@@ -1,7 +1,4 @@
-use Rattle.uc_model.specs.PlainCases.{task_unit}
-use Rattle.uc_model.specs.PlainUnits.{prices_of}
-use Rattle.uc_model.specs.TaskLists.{task_numbers}
-use Rattle.board_task.specs.Same.{AreSame}
+use Rattle.board_core.proofs.Common.{task_unit, prices_of, task_numbers, AreSame}
 use Rattle.board_core.proofs.posts.difference.Given as goal
 
 abbrev pub invariant-loop-place : goal.invariant-loop-place

@@ -1,12 +1,5 @@
-use Rattle.std.proofs.Common.{ℕ, ◌<◌, ◌≤◌, length, sym, ap, ◌∙◌, subst, arith}
-use Rattle.board_history.specs.Calls.{differs_from}
-use Rattle.uc_model.specs.Data.{unit_count}
-use Rattle.uc_model.specs.PlainCases.{task_unit}
-use Rattle.uc_model.specs.PlainUnits.{prices_of}
-use Rattle.board_core.specs.Events.{place}
-use Rattle.board_core.specs.Refusals.{own_prices_in, held_refusal}
-use Rattle.board_core.specs.Setups.{setup_of}
-use Rattle.board_core.proofs.Refused.{differing, not_differing, past_tests}
+use Rattle.board_core.proofs.Common.{ℕ, ◌<◌, ◌≤◌, length, sym, ap, ◌∙◌, subst, arith, differs_from, unit_count, task_unit, prices_of, place, own_prices_in, held_refusal, setup_of}
+use Rattle.board_core.proofs.Lemmas.{differing, not_differing, past_tests}
 use Rattle.board_core.proofs.posts.refusal.Goals as goal
 
 pub returns-in-Some-clause-refused : goal.returns-in-Some-clause-refused

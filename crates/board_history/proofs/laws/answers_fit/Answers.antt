@@ -1,4 +1,4 @@
-use Rattle.board_history.proofs.RowLaws.{answers_fit_now}
+use Rattle.board_history.proofs.Lemmas.{answers_fit_now}
 use Rattle.board_history.proofs.laws.answers_fit.Goals as goal
 
 pub returns : goal.returns

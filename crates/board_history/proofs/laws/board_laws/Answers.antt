@@ -1,5 +1,5 @@
 use Rattle.board_history.proofs.BoardLaws.{board_laws}
-use Rattle.board_history.proofs.UnitBounds.{model_laws}
+use Rattle.board_history.proofs.Lemmas.{model_laws}
 use Rattle.board_history.proofs.laws.board_laws.Goals as goal
 
 pub returns : goal.returns

@@ -1,4 +1,4 @@
-use Rattle.board_history.proofs.OwnTasks.{calls_stay_legal}
+use Rattle.board_history.proofs.Lemmas.{calls_stay_legal}
 use Rattle.board_history.proofs.laws.calls_stay_legal.Goals as goal
 
 pub returns : goal.returns

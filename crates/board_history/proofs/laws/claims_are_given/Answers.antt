@@ -1,4 +1,4 @@
-use Rattle.board_history.proofs.OneCaller.{claims_are_given}
+use Rattle.board_history.proofs.Lemmas.{claims_are_given}
 use Rattle.board_history.proofs.laws.claims_are_given.Goals as goal
 
 pub returns : goal.returns

@@ -1,4 +1,4 @@
-use Rattle.board_history.specs.Board.{rules_of}
+use Rattle.board_history.proofs.Common.{rules_of}
 use Rattle.board_history.proofs.ClaimWords.{claim_says}
 use Rattle.board_history.proofs.laws.claims_mean.Goals as goal
 

@@ -1,4 +1,4 @@
-use Rattle.board_history.proofs.SameTask.{difference_at, difference_none}
+use Rattle.board_history.proofs.Lemmas.{difference_at, difference_none}
 use Rattle.board_history.proofs.laws.differences_mean.Goals as goal
 
 pub returns : goal.returns

@@ -1,4 +1,4 @@
-use Rattle.board_history.proofs.RowLaws.{has_row}
+use Rattle.board_history.proofs.Lemmas.{has_row}
 use Rattle.board_history.proofs.laws.finished_has_row.Goals as goal
 
 pub returns : goal.returns

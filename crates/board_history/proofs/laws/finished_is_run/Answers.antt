@@ -1,4 +1,4 @@
-use Rattle.board_history.proofs.RowLaws.{run_fits}
+use Rattle.board_history.proofs.Lemmas.{run_fits}
 use Rattle.board_history.proofs.laws.finished_is_run.Goals as goal
 
 pub returns : goal.returns

@@ -1,4 +1,4 @@
-use Rattle.board_history.proofs.RowLaws.{stays_finished}
+use Rattle.board_history.proofs.Lemmas.{stays_finished}
 use Rattle.board_history.proofs.laws.finished_stays_finished.Goals as goal
 
 pub returns : goal.returns

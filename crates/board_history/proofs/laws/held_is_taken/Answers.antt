@@ -1,4 +1,4 @@
-use Rattle.board_history.proofs.OwnTasks.{held_is_taken}
+use Rattle.board_history.proofs.Lemmas.{held_is_taken}
 use Rattle.board_history.proofs.laws.held_is_taken.Goals as goal
 
 pub returns : goal.returns

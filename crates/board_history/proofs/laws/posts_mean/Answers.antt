@@ -1,4 +1,4 @@
-use Rattle.board_history.proofs.OwnTasks.{posts_mean}
+use Rattle.board_history.proofs.Lemmas.{posts_mean}
 use Rattle.board_history.proofs.laws.posts_mean.Goals as goal
 
 pub returns : goal.returns

@@ -1,4 +1,4 @@
-use Rattle.board_history.proofs.RowLaws.{rows_are_made}
+use Rattle.board_history.proofs.Lemmas.{rows_are_made}
 use Rattle.board_history.proofs.laws.rows_are_made.Goals as goal
 
 pub returns : goal.returns

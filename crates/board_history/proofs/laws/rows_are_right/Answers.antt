@@ -1,4 +1,4 @@
-use Rattle.board_history.proofs.RowLaws.{rows_fit}
+use Rattle.board_history.proofs.Lemmas.{rows_fit}
 use Rattle.board_history.proofs.laws.rows_are_right.Goals as goal
 
 pub returns : goal.returns

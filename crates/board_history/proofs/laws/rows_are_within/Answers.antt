@@ -1,5 +1,4 @@
-use Rattle.board_history.proofs.RowBounds.{rows_are_within}
-use Rattle.board_history.proofs.UnitBounds.{model_laws}
+use Rattle.board_history.proofs.Lemmas.{rows_are_within, model_laws}
 use Rattle.board_history.proofs.laws.rows_are_within.Goals as goal
 
 pub returns : goal.returns

@@ -1,4 +1,4 @@
-use Rattle.board_history.proofs.SameTask.{same_task}
+use Rattle.board_history.proofs.Lemmas.{same_task}
 use Rattle.board_history.proofs.laws.same_task.Goals as goal
 
 pub returns : goal.returns

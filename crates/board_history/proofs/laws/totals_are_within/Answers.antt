@@ -1,5 +1,4 @@
-use Rattle.board_history.proofs.RowBounds.{totals_within}
-use Rattle.board_history.proofs.UnitBounds.{model_laws}
+use Rattle.board_history.proofs.Lemmas.{totals_within, model_laws}
 use Rattle.board_history.proofs.laws.totals_are_within.Goals as goal
 
 pub returns : goal.returns

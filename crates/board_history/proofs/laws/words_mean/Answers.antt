@@ -1,7 +1,4 @@
-use Rattle.std.specs.Prelude.{[]}
-use Rattle.uc_model.specs.PriceRule.{no_prices}
-use Rattle.board_history.specs.Board.{row_of, rules_of}
-use Rattle.board_history.specs.Rounds.{posts}
+use Rattle.board_history.proofs.Common.{[], no_prices, row_of, rules_of, posts}
 use Rattle.board_history.proofs.Words.{means}
 use Rattle.board_history.proofs.laws.words_mean.Goals as goal
 

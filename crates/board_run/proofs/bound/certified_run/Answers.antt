@@ -1,8 +1,4 @@
-use Rattle.std.proofs.Common.{rules, subst}
-use Rattle.std.specs.Int.{w64}
-use Rattle.std.proofs.lemmas.Int.{to_z-of_z}
-use Rattle.board_history.specs.Board.{Setup}
-use Rattle.board_run.specs.Rounds.{IsEnded}
+use Rattle.board_run.proofs.Common.{rules, subst, w64, to_z-of_z, Setup, IsEnded}
 use Rattle.board_run.proofs.bound.certified_run.Goals as goal
 
 pub returns : goal.returns

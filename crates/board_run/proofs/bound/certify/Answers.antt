@@ -1,6 +1,4 @@
-use Rattle.std.proofs.Common.{rules}
-use Rattle.std.specs.Int.{w64}
-use Rattle.std.proofs.lemmas.Int.{to_z-of_z}
+use Rattle.board_run.proofs.Common.{rules, w64, to_z-of_z}
 use Rattle.board_run.proofs.BoundLaws.{best_told}
 use Rattle.board_run.proofs.bound.certify.Goals as goal
 

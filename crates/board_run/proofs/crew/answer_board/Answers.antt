@@ -1,9 +1,5 @@
-use Rattle.std.proofs.Common.{List, [], ◌∷◌, ◌++◌, subst, ◌∙◌}
-use Rattle.std.proofs.lemmas.Slice.Zip.{AllZip-long}
-use Rattle.answer_workers.specs.Workers.{HasWorked, HaveWorked}
-use Rattle.answer_workers.specs.declared.worker.Worker.{Worker}
-use Rattle.board_run.specs.Crews.{named_by}
-use Rattle.board_run.proofs.CrewLaws.{crew_done, written}
+use Rattle.board_run.proofs.Common.{List, [], ◌∷◌, ◌++◌, subst, ◌∙◌, AllZip-long, HasWorked, HaveWorked, Worker, named_by}
+use Rattle.board_run.proofs.Lemmas.{crew_done, written}
 use Rattle.board_run.proofs.crew.answer_board.Goals as goal
 
 pub close_board-requires : goal.close_board-requires

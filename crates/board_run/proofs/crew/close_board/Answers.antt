@@ -1,7 +1,5 @@
-use Rattle.std.proofs.Common.{◌≡◌, true, sym, subst}
-use Rattle.board_history.specs.Board.{Content, IsLegalHistory}
-use Rattle.board_history.specs.Calls.{has_finished}
-use Rattle.board_run.proofs.CrewLaws.{all_finished}
+use Rattle.board_run.proofs.Common.{◌≡◌, true, sym, subst, Content, IsLegalHistory, has_finished}
+use Rattle.board_run.proofs.Lemmas.{all_finished}
 use Rattle.board_run.proofs.crew.close_board.Goals as goal
 
 pub returns-clause-finished : goal.returns-clause-finished

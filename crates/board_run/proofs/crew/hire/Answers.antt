@@ -1,7 +1,5 @@
-use Rattle.std.proofs.Common.{ap, refl, arith}
-use Rattle.board_history.specs.Board.{Setup}
-use Rattle.board_share.specs.Seats.{view_of}
-use Rattle.board_run.proofs.CrewLaws.{hired_first, hired_again, crew_all}
+use Rattle.board_run.proofs.Common.{ap, refl, arith, Setup, view_of}
+use Rattle.board_run.proofs.Lemmas.{hired_first, hired_again, crew_all}
 use Rattle.board_run.proofs.crew.hire.Goals as goal
 
 pub loop-init : goal.loop-init

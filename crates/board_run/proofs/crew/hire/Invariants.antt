@@ -1,7 +1,4 @@
-use Rattle.std.proofs.Common.{◌≤◌}
-use Rattle.std.specs.Prelude.{vec_capacity}
-use Rattle.board_share.specs.Seats.{view_of}
-use Rattle.board_run.specs.Crews.{IsHired}
+use Rattle.board_run.proofs.Common.{◌≤◌, vec_capacity, view_of, IsHired}
 use Rattle.board_run.proofs.crew.hire.Given as goal
 
 abbrev pub invariant-loop : goal.invariant-loop

@@ -1,8 +1,5 @@
-use Rattle.std.proofs.Common.{List, ap, ◌∙◌, subst}
-use Rattle.board_share.specs.Views.{View}
-use Rattle.answer_workers.specs.declared.worker.Worker.{Worker}
-use Rattle.board_run.specs.Crews.{AreOut}
-use Rattle.board_run.proofs.CrewLaws.{join_one}
+use Rattle.board_run.proofs.Common.{List, ap, ◌∙◌, subst, View, Worker, AreOut}
+use Rattle.board_run.proofs.Lemmas.{join_one}
 use Rattle.board_run.proofs.crew.join_all.Goals as goal
 
 pub loop-worker-preserved : goal.loop-worker-preserved

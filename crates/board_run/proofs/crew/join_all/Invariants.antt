@@ -1,6 +1,4 @@
-use Rattle.std.proofs.Common.{◌≡◌, vec_len}
-use Rattle.board_share.specs.Seats.{view_of}
-use Rattle.board_run.specs.Crews.{AreOut}
+use Rattle.board_run.proofs.Common.{◌≡◌, vec_len, view_of, AreOut}
 use Rattle.board_run.proofs.crew.join_all.Given as goal
 
 abbrev pub invariant-loop-worker : goal.invariant-loop-worker

@@ -1,7 +1,5 @@
-use Rattle.std.proofs.Common.{rules}
-use Rattle.std.specs.Int.{w128}
-use Rattle.std.proofs.lemmas.Int.{to_z-of_z}
-use Rattle.board_run.proofs.FixedLaws.{held_input}
+use Rattle.board_run.proofs.Common.{rules, w128, to_z-of_z}
+use Rattle.board_run.proofs.Lemmas.{held_input}
 use Rattle.board_run.proofs.fixed.both_sides.Goals as goal
 
 pub fixed_side-requires-after_bounds : goal.fixed_side-requires-after_bounds

@@ -1,7 +1,5 @@
-use Rattle.std.proofs.Common.{rules}
-use Rattle.std.specs.Int.{w128}
-use Rattle.std.proofs.lemmas.Int.{to_z-of_z}
-use Rattle.board_run.proofs.FixedLaws.{held_feasible, held_market, fixed_right}
+use Rattle.board_run.proofs.Common.{rules, w128, to_z-of_z}
+use Rattle.board_run.proofs.Lemmas.{held_feasible, held_market, fixed_right}
 use Rattle.board_run.proofs.fixed.fixed_side.Goals as goal
 
 pub settled_side-requires-clause-feasible : goal.settled_side-requires-clause-feasible

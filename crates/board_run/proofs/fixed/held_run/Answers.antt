@@ -1,7 +1,5 @@
-use Rattle.std.proofs.Common.{rules}
-use Rattle.std.specs.Int.{w128}
-use Rattle.std.proofs.lemmas.Int.{to_z-of_z}
-use Rattle.board_run.proofs.FixedLaws.{held_setup, held_opened}
+use Rattle.board_run.proofs.Common.{rules, w128, to_z-of_z}
+use Rattle.board_run.proofs.Lemmas.{held_setup, held_opened}
 use Rattle.board_run.proofs.fixed.held_run.Goals as goal
 
 pub open-requires : goal.open-requires

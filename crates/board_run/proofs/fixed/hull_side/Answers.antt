@@ -1,5 +1,5 @@
-use Rattle.std.proofs.Common.{◌∙◌}
-use Rattle.board_run.proofs.FixedLaws.{hull_side}
+use Rattle.board_run.proofs.Common.{◌∙◌}
+use Rattle.board_run.proofs.Lemmas.{hull_side}
 use Rattle.board_run.proofs.fixed.hull_side.Goals as goal
 
 pub returns-clause-side : goal.returns-clause-side

@@ -1,7 +1,5 @@
-use Rattle.std.proofs.Common.{rules, ◌∙◌}
-use Rattle.std.specs.Int.{w128}
-use Rattle.std.proofs.lemmas.Int.{to_z-of_z}
-use Rattle.board_run.proofs.FixedLaws.{own_right, planned_back}
+use Rattle.board_run.proofs.Common.{rules, ◌∙◌, w128, to_z-of_z}
+use Rattle.board_run.proofs.Lemmas.{own_right, planned_back}
 use Rattle.board_run.proofs.fixed.own_side.Goals as goal
 
 pub returns-clause-right : goal.returns-clause-right

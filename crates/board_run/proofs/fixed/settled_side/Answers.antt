@@ -1,8 +1,5 @@
-use Rattle.std.proofs.Common.{ℤ, List, subst, sym}
-use Rattle.uc_model.specs.PlainCases.{market_of, schedules_of}
-use Rattle.uc_model.specs.PlainUnits.{prices_of}
-use Rattle.case_answers.specs.Tops.{AreTops}
-use Rattle.board_run.proofs.FixedLaws.{bench_over_given, held_lengths, held_side}
+use Rattle.board_run.proofs.Common.{ℤ, List, subst, sym, market_of, schedules_of, prices_of, AreTops}
+use Rattle.board_run.proofs.Lemmas.{bench_over_given, held_lengths, held_side}
 use Rattle.board_run.proofs.fixed.settled_side.Goals as goal
 
 pub earn_all-requires-clause-bench : goal.earn_all-requires-clause-bench

@@ -1,6 +1,4 @@
-use Rattle.std.proofs.Common.{◌≡◌, ◌+◌, ◌<◌, ◌≤◌, ℕ, length}
-use Rattle.board_core.specs.Boards.{kept_answer}
-use Rattle.uc_model.specs.Sums.{int_at}
+use Rattle.board_run.proofs.Common.{◌≡◌, ◌+◌, ◌<◌, ◌≤◌, ℕ, length, kept_answer, int_at}
 use Rattle.board_run.proofs.run.earn_at.Given as goal
 
 abbrev pub invariant-loop-unit : goal.invariant-loop-unit

@@ -1,16 +1,6 @@
-use Rattle.std.proofs.Common.{◌≡◌, ◌+◌, ◌≤◌, rules, sym, ap, ◌∙◌, length, subst, arith}
-use Rattle.std.specs.List.{All}
-use Rattle.std.specs.Int.{w128}
-use Rattle.std.proofs.lemmas.Int.{to_z-of_z}
-use Rattle.std.proofs.lemmas.List.{length-replicate}
-use Rattle.board_history.specs.Board.{Setup, Content}
-use Rattle.board_share.specs.Seats.{view_of}
-use Rattle.board_share.specs.Views.{View}
-use Rattle.uc_model.specs.Data.{NamedThermalUnit}
-use Rattle.board_run.specs.Crews.{named_by, IsCrew}
+use Rattle.board_run.proofs.Common.{◌≡◌, ◌+◌, ◌≤◌, rules, sym, ap, ◌∙◌, length, subst, arith, All, w128, to_z-of_z, length-replicate, Setup, Content, view_of, View, NamedThermalUnit, named_by, IsCrew, setup_of}
 use Rattle.board_run.specs.Rooms.{HasRoom}
-use Rattle.board_run.specs.Rounds.{setup_of}
-use Rattle.board_run.proofs.CrewLaws.{crew_names}
+use Rattle.board_run.proofs.Lemmas.{crew_names}
 use Rattle.board_run.proofs.run.open.Goals as goal
 
 pub hire-requires-clause-points : goal.hire-requires-clause-points

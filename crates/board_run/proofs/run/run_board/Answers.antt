@@ -1,7 +1,4 @@
-use Rattle.std.proofs.Common.{◌≡◌, ◌∙◌, length, subst}
-use Rattle.board_history.specs.Board.{Setup}
-use Rattle.uc_model.specs.PlainUnits.{schedule_of}
-use Rattle.answer_workers.specs.Answers.{IsBenchOf}
+use Rattle.board_run.proofs.Common.{◌≡◌, ◌∙◌, length, subst, Setup, schedule_of, IsBenchOf}
 use Rattle.board_run.proofs.run.run_board.Goals as goal
 
 pub returns : goal.returns

@@ -1,6 +1,4 @@
-use Rattle.std.proofs.Common.{ap, arith, length, refl}
-use Rattle.std.proofs.lemmas.List.{length-map}
-use Rattle.uc_model.specs.PlainCases.{market_of, schedules_of, proposal_of}
+use Rattle.board_run.proofs.Common.{ap, arith, length, refl, length-map, market_of, schedules_of, proposal_of}
 use Rattle.board_run.proofs.SettleLaws.{chosen_place, row_at_place, row_is_long, tops_for, settled_record}
 use Rattle.board_run.proofs.run.settle_chosen.Goals as goal
 

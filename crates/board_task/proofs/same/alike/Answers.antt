@@ -1,14 +1,5 @@
-use Rattle.std.proofs.Common.{◌≡◌, ◌≤◌, ◌+◌, ℕ, suc, pos, List, ◌++◌, length, length-append, map, refl, sym, ap, subst, arith}
-use Rattle.std.proofs.lemmas.List.{length-map, get_or-map}
-use Rattle.uc_model.specs.Data.{AnyUnit, Bid, PriceLists}
-use Rattle.uc_model.specs.PlainCases.{chosen_unit, task_unit}
-use Rattle.uc_model.specs.PlainUnits.{bid_of, prices_of}
-use Rattle.uc_model.specs.Reserved.{items_in}
-use Rattle.uc_model.specs.TaskLists.{task_numbers}
-use Rattle.uc_model.specs.declared.units.Block.{Block}
-use Rattle.uc_model.specs.declared.units.UnitKind.{UnitKind}
-use Rattle.board_task.specs.Same.{AreSame}
-use Rattle.board_task.proofs.Alike.{numbers_of, same_cons, same_under}
+use Rattle.board_task.proofs.Common.{◌≡◌, ◌≤◌, ◌+◌, ℕ, suc, pos, List, ◌++◌, length, length-append, map, refl, sym, ap, subst, arith, length-map, get_or-map, AnyUnit, Bid, PriceLists, chosen_unit, task_unit, bid_of, prices_of, items_in, task_numbers, Block, UnitKind, AreSame}
+use Rattle.board_task.proofs.Lemmas.{numbers_of, same_cons, same_under}
 use Rattle.board_task.proofs.Numbers.{periods_length}
 use Rattle.board_task.proofs.same.alike.Goals as goal
 

@@ -1,9 +1,6 @@
-use Rattle.std.proofs.Common.{◌≡◌, ◌+◌, ◌<◌, ◌≤◌, ℕ, suc, List, length, get_or, sym, ap, subst, ◌∙◌, arith, below_more}
+use Rattle.board_task.proofs.Common.{◌≡◌, ◌+◌, ◌<◌, ◌≤◌, ℕ, suc, List, length, get_or, sym, ap, subst, ◌∙◌, arith, below_more, Reserved, items_in, Block, AreSame}
 use Rattle.std.proofs.lemmas.Option.{get_or_from_slice_get}
-use Rattle.uc_model.specs.Reserved.{Reserved, items_in}
-use Rattle.uc_model.specs.declared.units.Block.{Block}
-use Rattle.board_task.specs.Same.{AreSame}
-use Rattle.board_task.proofs.Alike.{numbers_of, count_in, count_none, count_more, same_periods_alike}
+use Rattle.board_task.proofs.Lemmas.{numbers_of, count_in, count_none, count_more, same_periods_alike}
 use Rattle.board_task.proofs.same.alike_periods.Goals as goal
 
 pub loop-k-init : goal.loop-k-init

@@ -1,11 +1,6 @@
-use Rattle.std.proofs.Common.{Some, List, ap, ◌∙◌}
-use Rattle.uc_model.specs.Data.{Bid}
-use Rattle.uc_model.specs.PlainCases.{market_of}
-use Rattle.uc_model.specs.PlainUnits.{named_bid_of}
-use Rattle.uc_model.specs.declared.units.Block.{Block}
+use Rattle.board_task.proofs.Common.{Some, List, ap, ◌∙◌, Bid, market_of, named_bid_of, Block}
 use Rattle.uc_model.specs.declared.units.UnitKind.TheVariants as kinds
-use Rattle.board_task.proofs.AsOne.{kind_is}
-use Rattle.board_task.proofs.UnitPlaces.{map_got, bid_at}
+use Rattle.board_task.proofs.Lemmas.{kind_is, map_got, bid_at}
 use Rattle.board_task.proofs.same.is_bid_of.Goals as goal
 
 pub returns : goal.returns

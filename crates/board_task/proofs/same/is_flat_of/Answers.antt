@@ -1,10 +1,6 @@
-use Rattle.std.proofs.Common.{Some, ap, ◌∙◌}
-use Rattle.uc_model.specs.Data.{Flat, RenewableUnit}
-use Rattle.uc_model.specs.PlainCases.{market_of}
-use Rattle.uc_model.specs.PlainUnits.{named_renewable_of}
+use Rattle.board_task.proofs.Common.{Some, ap, ◌∙◌, Flat, RenewableUnit, market_of, named_renewable_of}
 use Rattle.uc_model.specs.declared.units.UnitKind.TheVariants as kinds
-use Rattle.board_task.proofs.AsOne.{kind_is}
-use Rattle.board_task.proofs.UnitPlaces.{map_got, flat_at}
+use Rattle.board_task.proofs.Lemmas.{kind_is, map_got, flat_at}
 use Rattle.board_task.proofs.same.is_flat_of.Goals as goal
 
 pub returns : goal.returns

@@ -1,10 +1,6 @@
-use Rattle.std.proofs.Common.{Some, ap, ◌∙◌}
-use Rattle.uc_model.specs.Data.{Thermal, ThermalUnit}
-use Rattle.uc_model.specs.PlainCases.{market_of}
-use Rattle.uc_model.specs.PlainUnits.{named_thermal_of}
+use Rattle.board_task.proofs.Common.{Some, ap, ◌∙◌, Thermal, ThermalUnit, market_of, named_thermal_of}
 use Rattle.uc_model.specs.declared.units.UnitKind.TheVariants as kinds
-use Rattle.board_task.proofs.AsOne.{kind_is}
-use Rattle.board_task.proofs.UnitPlaces.{map_got, thermal_at}
+use Rattle.board_task.proofs.Lemmas.{kind_is, map_got, thermal_at}
 use Rattle.board_task.proofs.same.is_thermal_of.Goals as goal
 
 pub returns : goal.returns

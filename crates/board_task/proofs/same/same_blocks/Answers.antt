@@ -1,5 +1,5 @@
-use Rattle.std.proofs.Common.{refl, arith}
-use Rattle.board_task.proofs.AsOne.{same_lists}
+use Rattle.board_task.proofs.Common.{refl, arith}
+use Rattle.board_task.proofs.Lemmas.{same_lists}
 use Rattle.board_task.proofs.same.same_blocks.Goals as goal
 
 pub returns : goal.returns

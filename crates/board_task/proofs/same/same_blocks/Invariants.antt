@@ -1,5 +1,4 @@
-use Rattle.std.proofs.Common.{◌≡◌, ◌<◌, ℕ, get_or}
-use Rattle.uc_model.specs.declared.units.Block.{Block}
+use Rattle.board_task.proofs.Common.{◌≡◌, ◌<◌, ℕ, get_or, Block}
 use Rattle.board_task.proofs.same.same_blocks.Given as goal
 
 abbrev pub invariant-loop-k : goal.invariant-loop-k

@@ -1,4 +1,4 @@
-use Rattle.std.proofs.Common.{◌≡◌, ◌<◌, ℕ, get_or}
+use Rattle.board_task.proofs.Common.{◌≡◌, ◌<◌, ℕ, get_or}
 use Rattle.uc_model.specs.declared.units.Mark.{Mark}
 use Rattle.board_task.proofs.same.same_marks.Given as goal
 

@@ -1,7 +1,6 @@
-use Rattle.std.proofs.Common.{refl, sym, ◌∙◌, arith}
+use Rattle.board_task.proofs.Common.{refl, sym, ◌∙◌, arith}
 use Rattle.std.proofs.lemmas.Bool.{false≢true}
-use Rattle.board_task.proofs.AsOne.{one_item}
-use Rattle.board_task.proofs.UnitPlaces.{same_items}
+use Rattle.board_task.proofs.Lemmas.{one_item, same_items}
 use Rattle.board_task.proofs.same.same_periods.Goals as goal
 
 pub returns-then-not-same_blocks : goal.returns-then-not-same_blocks

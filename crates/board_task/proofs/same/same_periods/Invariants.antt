@@ -1,6 +1,4 @@
-use Rattle.std.proofs.Common.{◌≡◌, ◌<◌, ℕ, get_or}
-use Rattle.uc_model.specs.Reserved.{Reserved, items_in}
-use Rattle.uc_model.specs.declared.units.Block.{Block}
+use Rattle.board_task.proofs.Common.{◌≡◌, ◌<◌, ℕ, get_or, Reserved, items_in, Block}
 use Rattle.board_task.proofs.same.same_periods.Given as goal
 
 abbrev pub invariant-loop-k : goal.invariant-loop-k

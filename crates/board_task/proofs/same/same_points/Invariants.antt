@@ -1,4 +1,4 @@
-use Rattle.std.proofs.Common.{◌≡◌, ◌<◌, ℕ, get_or}
+use Rattle.board_task.proofs.Common.{◌≡◌, ◌<◌, ℕ, get_or}
 use Rattle.uc_model.specs.declared.units.Point.{Point}
 use Rattle.board_task.proofs.same.same_points.Given as goal
 

@@ -1,7 +1,4 @@
-use Rattle.std.proofs.Common.{◌≤◌, List, length, subst, arith}
-use Rattle.std.proofs.lemmas.List.{length-map, get_or-map}
-use Rattle.uc_model.specs.Reserved.{items_in}
-use Rattle.uc_model.specs.declared.units.Block.{Block}
+use Rattle.board_task.proofs.Common.{◌≤◌, List, length, subst, arith, length-map, get_or-map, items_in, Block}
 use Rattle.board_task.proofs.tasks.copy_bid.Goals as goal
 
 pub copy_blocks-requires-clause-counts : goal.copy_blocks-requires-clause-counts

@@ -1,11 +1,5 @@
-use Rattle.std.proofs.Common.{◌≡◌, Some, length, sym, ap, ◌∙◌}
-use Rattle.std.proofs.lemmas.List.{length-map}
-use Rattle.uc_model.specs.Data.{Bid, BidUnit, NamedBidUnit}
-use Rattle.uc_model.specs.Limits.{IsBidUnit}
-use Rattle.uc_model.specs.PlainCases.{market_of}
-use Rattle.uc_model.specs.PlainUnits.{named_bid_of}
-use Rattle.uc_model.specs.Reserved.{items_in}
-use Rattle.board_task.proofs.UnitPlaces.{item_of, map_got, bid_at}
+use Rattle.board_task.proofs.Common.{◌≡◌, Some, length, sym, ap, ◌∙◌, length-map, Bid, BidUnit, NamedBidUnit, IsBidUnit, market_of, named_bid_of, items_in}
+use Rattle.board_task.proofs.Lemmas.{item_of, map_got, bid_at}
 use Rattle.board_task.proofs.tasks.copy_bid_of.Goals as goal
 
 pub copy_bid-requires-clause-lengths : goal.copy_bid-requires-clause-lengths

@@ -1,5 +1,5 @@
-use Rattle.std.proofs.Common.{arith}
-use Rattle.board_task.proofs.UnitPlaces.{same_items}
+use Rattle.board_task.proofs.Common.{arith}
+use Rattle.board_task.proofs.Lemmas.{same_items}
 use Rattle.board_task.proofs.tasks.copy_blocks.Goals as goal
 
 pub returns-clause-blocks : goal.returns-clause-blocks

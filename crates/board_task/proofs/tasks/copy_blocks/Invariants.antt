@@ -1,8 +1,5 @@
-use Rattle.std.proofs.Common.{◌≡◌, ◌≤◌, ◌<◌, ℕ, length, get_or}
-use Rattle.std.specs.List.{All}
-use Rattle.uc_model.specs.Reserved.{Reserved, items_in}
+use Rattle.board_task.proofs.Common.{◌≡◌, ◌≤◌, ◌<◌, ℕ, length, get_or, All, Reserved, items_in, Block}
 use Rattle.uc_model.specs.TaskRoom.{room_of}
-use Rattle.uc_model.specs.declared.units.Block.{Block}
 use Rattle.board_task.proofs.tasks.copy_blocks.Given as goal
 
 abbrev pub invariant-loop-k : goal.invariant-loop-k

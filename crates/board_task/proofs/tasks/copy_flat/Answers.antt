@@ -1,9 +1,5 @@
-use Rattle.std.proofs.Common.{◌≡◌, Some, length, sym, ap, ◌∙◌}
-use Rattle.uc_model.specs.Data.{Flat, RenewableUnit, NamedRenewableUnit}
-use Rattle.uc_model.specs.Limits.{IsRenewableUnit}
-use Rattle.uc_model.specs.PlainCases.{market_of}
-use Rattle.uc_model.specs.PlainUnits.{named_renewable_of}
-use Rattle.board_task.proofs.UnitPlaces.{item_of, map_got, flat_at}
+use Rattle.board_task.proofs.Common.{◌≡◌, Some, length, sym, ap, ◌∙◌, Flat, RenewableUnit, NamedRenewableUnit, IsRenewableUnit, market_of, named_renewable_of}
+use Rattle.board_task.proofs.Lemmas.{item_of, map_got, flat_at}
 use Rattle.board_task.proofs.tasks.copy_flat.Goals as goal
 
 pub copy_renewable-requires : goal.copy_renewable-requires

@@ -1,9 +1,5 @@
-use Rattle.std.proofs.Common.{◌≡◌, Some, length, sym, ap, ◌∙◌, arith}
-use Rattle.uc_model.specs.Data.{Thermal, ThermalUnit, NamedThermalUnit}
-use Rattle.uc_model.specs.Limits.{IsThermalUnit}
-use Rattle.uc_model.specs.PlainCases.{market_of}
-use Rattle.uc_model.specs.PlainUnits.{named_thermal_of}
-use Rattle.board_task.proofs.UnitPlaces.{item_of, map_got, thermal_at}
+use Rattle.board_task.proofs.Common.{◌≡◌, Some, length, sym, ap, ◌∙◌, arith, Thermal, ThermalUnit, NamedThermalUnit, IsThermalUnit, market_of, named_thermal_of}
+use Rattle.board_task.proofs.Lemmas.{item_of, map_got, thermal_at}
 use Rattle.board_task.proofs.tasks.copy_thermal.Goals as goal
 
 pub copy_unit-requires-clause-window : goal.copy_unit-requires-clause-window

@@ -1,11 +1,6 @@
-use Rattle.std.proofs.Common.{◌≡◌, ◌+◌, ◌-◌, length, refl, sym, ◌∙◌, arith}
+use Rattle.case_answers.proofs.Common.{◌≡◌, ◌+◌, ◌-◌, length, refl, sym, ◌∙◌, arith, Flat, Bid, NamedRenewableUnit, NamedBidUnit, IsRenewableUnit, IsBidUnit, market_of, named_thermal_of, named_renewable_of, renewable_of, named_bid_of, bid_of, item_of, map_item}
 use Rattle.std.proofs.lemmas.List.{length-map}
-use Rattle.uc_model.specs.Data.{Flat, Bid, NamedRenewableUnit, NamedBidUnit}
-use Rattle.uc_model.specs.Limits.{IsRenewableUnit, IsBidUnit}
-use Rattle.uc_model.specs.PlainCases.{market_of}
-use Rattle.uc_model.specs.PlainUnits.{named_thermal_of, named_renewable_of, renewable_of, named_bid_of, bid_of}
-use Rattle.uc_model.proofs.ListLaws.{item_of, map_item}
-use Rattle.case_answers.proofs.Units.{unit_at}
+use Rattle.case_answers.proofs.Lemmas.{unit_at}
 use Rattle.case_answers.proofs.answer.answer_other_at.Goals as goal
 
 pub best_flat-requires-clause-prices : goal.best_flat-requires-clause-prices

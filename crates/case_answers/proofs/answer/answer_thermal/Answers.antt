@@ -1,7 +1,5 @@
-use Rattle.std.proofs.Common.{length}
-use Rattle.slope_list.specs.Slopes.{room_of}
-use Rattle.uc_model.specs.PlainUnits.{thermal_of, prices_of}
-use Rattle.case_answers.proofs.Units.{found}
+use Rattle.case_answers.proofs.Common.{length, room_of, thermal_of, prices_of}
+use Rattle.case_answers.proofs.Lemmas.{found}
 use Rattle.case_answers.proofs.answer.answer_thermal.Goals as goal
 
 pub returns-clause-fit : goal.returns-clause-fit

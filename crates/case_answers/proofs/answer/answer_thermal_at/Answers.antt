@@ -1,9 +1,5 @@
-use Rattle.std.proofs.Common.{sym, refl, ◌∙◌}
-use Rattle.uc_model.specs.Data.{Thermal}
-use Rattle.uc_model.specs.PlainCases.{market_of}
-use Rattle.uc_model.specs.PlainUnits.{named_thermal_of, thermal_of}
-use Rattle.uc_model.proofs.ListLaws.{map_item}
-use Rattle.case_answers.proofs.Units.{some_at, window_length, bench_at, bench_kept}
+use Rattle.case_answers.proofs.Common.{sym, refl, ◌∙◌, Thermal, market_of, named_thermal_of, thermal_of, map_item}
+use Rattle.case_answers.proofs.Lemmas.{some_at, window_length, bench_at, bench_kept}
 use Rattle.case_answers.proofs.answer.answer_thermal_at.Goals as goal
 
 pub answer_thermal-requires-clause-horizon : goal.answer_thermal-requires-clause-horizon

@@ -1,8 +1,6 @@
-use Rattle.std.proofs.Common.{rules, w64, arith}
+use Rattle.case_answers.proofs.Common.{rules, w64, arith, market_of, prices_of}
 use Rattle.std.proofs.lemmas.Int.{to_z-of_z}
-use Rattle.uc_model.specs.PlainCases.{market_of}
-use Rattle.uc_model.specs.PlainUnits.{prices_of}
-use Rattle.case_answers.proofs.TopLaws.{answer_top, tops_pushed}
+use Rattle.case_answers.proofs.Lemmas.{answer_top, tops_pushed}
 use Rattle.case_answers.proofs.earn.earn_all.Goals as goal
 
 pub loop-number-preserved : goal.loop-number-preserved

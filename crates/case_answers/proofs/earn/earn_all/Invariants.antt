@@ -1,8 +1,5 @@
-use Rattle.std.proofs.Common.{◌≡◌, ◌+◌, ◌≤◌, length}
-use Rattle.uc_model.specs.PlainCases.{market_of}
-use Rattle.uc_model.specs.PlainUnits.{prices_of, schedule_of}
-use Rattle.case_answers.specs.Tops.{IsBenchOver}
-use Rattle.case_answers.proofs.TopLaws.{AreTopsTo}
+use Rattle.case_answers.proofs.Common.{◌≡◌, ◌+◌, ◌≤◌, length, market_of, prices_of, schedule_of, IsBenchOver}
+use Rattle.case_answers.proofs.Lemmas.{AreTopsTo}
 use Rattle.case_answers.proofs.earn.earn_all.Given as goal
 
 abbrev pub invariant-loop-number : goal.invariant-loop-number

@@ -1,4 +1,4 @@
-use Rattle.case_answers.proofs.Units.{serves_all}
+use Rattle.case_answers.proofs.Lemmas.{serves_all}
 use Rattle.case_answers.proofs.laws.benches_serve_all.Goals as goal
 
 pub returns : goal.returns

@@ -1,4 +1,4 @@
-use Rattle.case_answers.proofs.TopLaws.{can_answer}
+use Rattle.case_answers.proofs.Lemmas.{can_answer}
 use Rattle.case_answers.proofs.laws.units_can_answer.Goals as goal
 
 pub returns : goal.returns

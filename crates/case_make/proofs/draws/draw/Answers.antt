@@ -1,7 +1,5 @@
-use Rattle.std.proofs.Common.{◌+◌, ◌-◌, ◌%◌, ℕ, ap, ◌∙◌}
-use Rattle.rand_pcg.specs.Lcg.{Lcg}
-use Rattle.case_make.specs.Words.{draw}
-use Rattle.case_make.proofs.WordLaws.{first_word, one_step}
+use Rattle.case_make.proofs.Common.{◌+◌, ◌-◌, ◌%◌, ℕ, ap, ◌∙◌, Lcg, draw}
+use Rattle.case_make.proofs.Lemmas.{first_word, one_step}
 use Rattle.case_make.proofs.draws.draw.Goals as goal
 
 pub returns-clause-value : goal.returns-clause-value

@@ -1,8 +1,5 @@
-use Rattle.std.proofs.Common.{◌≡◌, ◌+◌, ℕ, ap, ◌∙◌}
-use Rattle.rand_pcg.specs.Lcg.{Lcg}
-use Rattle.case_make.specs.Drawn.{unit_draws}
-use Rattle.case_make.specs.Words.{draw, word_at, moved_on}
-use Rattle.case_make.proofs.WordLaws.{word_after, one_more}
+use Rattle.case_make.proofs.Common.{◌≡◌, ◌+◌, ℕ, ap, ◌∙◌, Lcg, unit_draws, draw, word_at, moved_on}
+use Rattle.case_make.proofs.Lemmas.{word_after, one_more}
 use Rattle.case_make.proofs.draws.draw_unit.Goals as goal
 
 -- a draw after so many words

@@ -1,5 +1,4 @@
-use Rattle.std.proofs.Common.{◌≡◌, ℕ, ◌<◌, ◌≤◌, pos, ◌+ℤ◌, length, slice_index}
-use Rattle.uc_model.specs.Sums.{int_at}
+use Rattle.case_make.proofs.Common.{◌≡◌, ℕ, ◌<◌, ◌≤◌, pos, ◌+ℤ◌, length, slice_index, int_at}
 use Rattle.case_make.proofs.growing.add_powers.Given as goal
 
 abbrev pub invariant-loop-k : goal.invariant-loop-k

@@ -1,12 +1,5 @@
-use Rattle.std.proofs.Common.{◌+◌, ◌*◌, ap, sym, subst, map, arith}
-use Rattle.std.proofs.lemmas.List.{append-nil}
-use Rattle.uc_model.specs.PlainUnits.{named_renewable_of}
-use Rattle.case_make.specs.Grown.{IsSmall, plan_of}
-use Rattle.case_make.specs.Made.{named_renewable, renewable_plan, renewable_units, renewable_plans}
-use Rattle.case_make.proofs.LaterLaws.{renewable_named, renewable_planned}
-use Rattle.case_make.proofs.Loops.{pushed_after, viewed}
-use Rattle.case_make.proofs.SumLaws.{grown_small}
-use Rattle.case_make.proofs.WordLaws.{not_moved, then_moved}
+use Rattle.case_make.proofs.Common.{◌+◌, ◌*◌, ap, sym, subst, map, arith, append-nil, named_renewable_of, IsSmall, plan_of, named_renewable, renewable_plan, renewable_units, renewable_plans}
+use Rattle.case_make.proofs.Lemmas.{renewable_named, renewable_planned, pushed_after, viewed, grown_small, not_moved, then_moved}
 use Rattle.case_make.proofs.make.add_renewables.Goals as goal
 
 pub loop-j-init : goal.loop-j-init

@@ -1,8 +1,4 @@
-use Rattle.std.proofs.Common.{◌≡◌, ◌+◌, ◌*◌, ◌≤◌, ◌++◌, map}
-use Rattle.uc_model.specs.PlainUnits.{named_renewable_of}
-use Rattle.case_make.specs.Grown.{plan_of, IsSummed}
-use Rattle.case_make.specs.Made.{renewable_units, renewable_plans}
-use Rattle.case_make.specs.Words.{moved_on}
+use Rattle.case_make.proofs.Common.{◌≡◌, ◌+◌, ◌*◌, ◌≤◌, ◌++◌, map, named_renewable_of, plan_of, IsSummed, renewable_units, renewable_plans, moved_on}
 use Rattle.case_make.proofs.make.add_renewables.Given as goal
 
 abbrev pub invariant-loop-j : goal.invariant-loop-j

@@ -1,11 +1,5 @@
-use Rattle.std.proofs.Common.{◌+◌, ◌*◌, ap, sym, subst, map, arith}
-use Rattle.uc_model.specs.PlainUnits.{named_thermal_of}
-use Rattle.case_make.specs.Grown.{IsSmall}
-use Rattle.case_make.specs.Made.{named_unit, unit_plan, thermal_units, thermal_plan}
-use Rattle.case_make.proofs.LaterLaws.{unit_named, unit_planned}
-use Rattle.case_make.proofs.Loops.{pushed, viewed}
-use Rattle.case_make.proofs.SumLaws.{thermal_small, smaller}
-use Rattle.case_make.proofs.WordLaws.{not_moved, then_moved}
+use Rattle.case_make.proofs.Common.{◌+◌, ◌*◌, ap, sym, subst, map, arith, named_thermal_of, IsSmall, named_unit, unit_plan, thermal_units, thermal_plan}
+use Rattle.case_make.proofs.Lemmas.{unit_named, unit_planned, pushed, viewed, thermal_small, smaller, not_moved, then_moved}
 use Rattle.case_make.proofs.make.add_thermal.Goals as goal
 
 pub loop-i-init : goal.loop-i-init

@@ -1,8 +1,4 @@
-use Rattle.std.proofs.Common.{◌≡◌, ◌+◌, ◌*◌, ◌≤◌, map}
-use Rattle.uc_model.specs.PlainUnits.{named_thermal_of}
-use Rattle.case_make.specs.Grown.{plan_of, IsSummed}
-use Rattle.case_make.specs.Made.{thermal_units, thermal_plan}
-use Rattle.case_make.specs.Words.{moved_on}
+use Rattle.case_make.proofs.Common.{◌≡◌, ◌+◌, ◌*◌, ◌≤◌, map, named_thermal_of, plan_of, IsSummed, thermal_units, thermal_plan, moved_on}
 use Rattle.case_make.proofs.make.add_thermal.Given as goal
 
 abbrev pub invariant-loop-i : goal.invariant-loop-i

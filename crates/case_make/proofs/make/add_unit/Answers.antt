@@ -1,6 +1,5 @@
-use Rattle.std.proofs.Common.{sym, subst}
-use Rattle.case_make.specs.Grown.{IsSteady}
-use Rattle.case_make.proofs.SumLaws.{unit_within}
+use Rattle.case_make.proofs.Common.{sym, subst, IsSteady}
+use Rattle.case_make.proofs.Lemmas.{unit_within}
 use Rattle.case_make.proofs.make.add_unit.Goals as goal
 
 pub push-requires-clause-steady : goal.push-requires-clause-steady

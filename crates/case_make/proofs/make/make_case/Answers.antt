@@ -1,12 +1,7 @@
-use Rattle.std.proofs.Common.{ap, sym, ◌∙◌, subst, map, arith}
-use Rattle.uc_model.specs.Limits.{IsMarket}
-use Rattle.uc_model.specs.PlainUnits.{named_bid_of}
-use Rattle.case_make.specs.Grown.{IsSmall}
-use Rattle.case_make.specs.Made.{market_from, plan_from}
-use Rattle.case_make.specs.Words.{start_of}
+use Rattle.case_make.proofs.Common.{ap, sym, ◌∙◌, subst, map, arith, IsMarket, named_bid_of, IsSmall, market_from, plan_from, start_of}
 use Rattle.case_make.proofs.MadeLaws.{plan_made, demand_made, requirement_made, market_made, reserve_low}
 use Rattle.case_make.proofs.MarketLaws.{feasible_for, made_limited, plan_small}
-use Rattle.case_make.proofs.SumLaws.{thermal_small}
+use Rattle.case_make.proofs.Lemmas.{thermal_small}
 use Rattle.case_make.proofs.make.make_case.Goals as goal
 
 pub add_renewables-requires-clause-small : goal.add_renewables-requires-clause-small

@@ -1,11 +1,5 @@
-use Rattle.std.proofs.Common.{◌≡◌, ℕ, ◌+◌, ◌*◌, ◌/◌, ap, sym, ◌∙◌, subst, arith}
-use Rattle.rand_pcg.specs.Lcg.{Lcg}
-use Rattle.case_make.specs.Drawn.{capacity_at, most_at, most_powers}
-use Rattle.case_make.specs.Sizes.{ArePowers}
-use Rattle.case_make.specs.Words.{draw, word_at, moved_on}
-use Rattle.case_make.proofs.Loops.{pushed, whole}
-use Rattle.case_make.proofs.RenewableLaws.{powers_within}
-use Rattle.case_make.proofs.WordLaws.{word_after, one_more}
+use Rattle.case_make.proofs.Common.{◌≡◌, ℕ, ◌+◌, ◌*◌, ◌/◌, ap, sym, ◌∙◌, subst, arith, Lcg, capacity_at, most_at, most_powers, ArePowers, draw, word_at, moved_on}
+use Rattle.case_make.proofs.Lemmas.{pushed, whole, powers_within, word_after, one_more}
 use Rattle.case_make.proofs.renewables.draw_powers.Goals as goal
 
 most_is : (g h : Lcg) (k x y : ℕ) → x ≡ draw 5 100 (word_at g 0) → h ≡ moved_on (1 + k) g → y ≡ draw 0 100 (word_at h 0) → 1000 * x * y / 100 ≡ most_at g 0 k

@@ -1,7 +1,4 @@
-use Rattle.std.proofs.Common.{◌≡◌, ◌+◌, ◌≤◌, map}
-use Rattle.std.specs.List.{range_with_len}
-use Rattle.case_make.specs.Drawn.{most_at}
-use Rattle.case_make.specs.Words.{moved_on}
+use Rattle.case_make.proofs.Common.{◌≡◌, ◌+◌, ◌≤◌, map, range_with_len, most_at, moved_on}
 use Rattle.case_make.proofs.renewables.draw_powers.Given as goal
 
 abbrev pub invariant-loop : goal.invariant-loop

@@ -1,4 +1,4 @@
-use Rattle.std.proofs.Common.{◌≡◌, ◌+◌, ◌≤◌, pos, map, take, length}
+use Rattle.case_make.proofs.Common.{◌≡◌, ◌+◌, ◌≤◌, pos, map, take, length}
 use Rattle.case_make.proofs.renewables.numbers.Given as goal
 
 abbrev pub invariant-loop-power : goal.invariant-loop-power

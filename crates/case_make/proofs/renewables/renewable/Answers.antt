@@ -1,6 +1,5 @@
-use Rattle.std.proofs.Common.{sym, subst}
-use Rattle.uc_model.specs.Limits.{IsRenewableUnit}
-use Rattle.case_make.proofs.RenewableLaws.{renewable_is, renewable_limited}
+use Rattle.case_make.proofs.Common.{sym, subst, IsRenewableUnit}
+use Rattle.case_make.proofs.Lemmas.{renewable_is, renewable_limited}
 use Rattle.case_make.proofs.renewables.renewable.Goals as goal
 
 pub invariant_of-result : goal.invariant_of-result

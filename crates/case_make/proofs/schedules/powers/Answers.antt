@@ -1,6 +1,5 @@
-use Rattle.std.proofs.Common.{arith}
-use Rattle.case_make.specs.Drawn.{power_at}
-use Rattle.case_make.proofs.Loops.{pushed}
+use Rattle.case_make.proofs.Common.{arith, power_at}
+use Rattle.case_make.proofs.Lemmas.{pushed}
 use Rattle.case_make.proofs.schedules.powers.Goals as goal
 
 pub loop-place-preserved : goal.loop-place-preserved

@@ -1,6 +1,5 @@
-use Rattle.std.proofs.Common.{◌+◌, ◌*◌, arith}
-use Rattle.std.proofs.lemmas.Nat.{mul-le}
-use Rattle.case_make.proofs.Bounds.{at_rises, at_most, max_range, cost_range}
+use Rattle.case_make.proofs.Common.{◌+◌, ◌*◌, arith, mul-le}
+use Rattle.case_make.proofs.Lemmas.{at_rises, at_most, max_range, cost_range}
 use Rattle.case_make.proofs.units.next_cost.Goals as goal
 
 pub overflow_sub-width : goal.overflow_sub-width

@@ -1,5 +1,5 @@
-use Rattle.std.proofs.Common.{arith}
-use Rattle.case_make.proofs.Bounds.{cost_range}
+use Rattle.case_make.proofs.Common.{arith}
+use Rattle.case_make.proofs.Lemmas.{cost_range}
 use Rattle.case_make.proofs.units.point.Goals as goal
 
 pub money-requires : goal.money-requires

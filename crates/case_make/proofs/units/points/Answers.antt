@@ -1,8 +1,4 @@
-use Rattle.std.proofs.Common.{◌+◌, [], ◌∷◌, ◌++◌, List, map, ap, sym, ◌∙◌, arith}
-use Rattle.std.proofs.lemmas.List.FromFn.{map-range_with_len_more}
-use Rattle.std.specs.List.{range_with_len}
-use Rattle.uc_model.specs.declared.units.Point.{Point}
-use Rattle.case_make.specs.Drawn.{point_of}
+use Rattle.case_make.proofs.Common.{◌+◌, [], ◌∷◌, ◌++◌, List, map, ap, sym, ◌∙◌, arith, map-range_with_len_more, range_with_len, Point, point_of}
 use Rattle.case_make.proofs.units.points.Goals as goal
 
 pub loop-place-preserved : goal.loop-place-preserved

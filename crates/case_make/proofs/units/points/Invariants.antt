@@ -1,6 +1,4 @@
-use Rattle.std.proofs.Common.{◌≡◌, ◌+◌, ◌≤◌, map}
-use Rattle.std.specs.List.{range_with_len}
-use Rattle.case_make.specs.Drawn.{point_of, cost_of}
+use Rattle.case_make.proofs.Common.{◌≡◌, ◌+◌, ◌≤◌, map, range_with_len, point_of, cost_of}
 use Rattle.case_make.proofs.units.points.Given as goal
 
 abbrev pub invariant-loop-place : goal.invariant-loop-place

@@ -1,7 +1,5 @@
-use Rattle.std.proofs.Common.{◌+◌, ◌≡◌, sym, subst, arith}
-use Rattle.uc_model.specs.Limits.{IsThermalUnit}
-use Rattle.case_make.specs.Drawn.{min_of, ramp_of}
-use Rattle.case_make.proofs.Bounds.{has_range}
+use Rattle.case_make.proofs.Common.{◌+◌, ◌≡◌, sym, subst, arith, IsThermalUnit, min_of, ramp_of}
+use Rattle.case_make.proofs.Lemmas.{has_range}
 use Rattle.case_make.proofs.UnitLaws.{kept, unit_is, unit_limited, first_power_low}
 use Rattle.case_make.proofs.units.unit.Goals as goal
 

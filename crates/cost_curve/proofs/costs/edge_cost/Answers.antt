@@ -1,6 +1,5 @@
-use Rattle.std.proofs.Common.{arith}
-use Rattle.std.proofs.lemmas.Int.{ints}
-use Rattle.cost_curve.proofs.CostLaws.{product_fits, cost_fits, cost_is, near, far, total_fits, total_is}
+use Rattle.cost_curve.proofs.Common.{arith, ints}
+use Rattle.cost_curve.proofs.Lemmas.{product_fits, cost_fits, cost_is, near, far, total_fits, total_is}
 use Rattle.cost_curve.proofs.costs.edge_cost.Goals as goal
 
 pub overflow_mul-cost : goal.overflow_mul-cost

@@ -1,14 +1,6 @@
-use Rattle.std.proofs.Common.{rules, ◌≡◌, ℕ, suc, ◌-◌, pos, neg_ℤ, ◌≤ℤ◌, ◌<ℤ◌, length, refl, sym, ap, ◌∙◌, subst, w64, FitsSigned, to_z, of_z, arith}
-use Rattle.std.proofs.lemmas.Int.{ints, to_z-of_z}
-use Rattle.uc_model.specs.declared.units.Point.{Point}
-use Rattle.uc_model.specs.Envelope.{envelope}
-use Rattle.uc_model.specs.Limits.{IsPoint}
-use Rattle.cost_curve.specs.Edges.{point_at, IsWayOn}
-use Rattle.cost_curve.proofs.BuildLaws.{last_power}
-use Rattle.cost_curve.proofs.CostLaws.{x_power, line_within, edge_value, edge_limit}
-use Rattle.cost_curve.proofs.EdgeLaws.{IsVertex-start, IsVertex-next}
+use Rattle.cost_curve.proofs.Common.{rules, ◌≡◌, ℕ, suc, ◌-◌, pos, neg_ℤ, ◌≤ℤ◌, ◌<ℤ◌, length, refl, sym, ap, ◌∙◌, subst, w64, FitsSigned, to_z, of_z, arith, ints, to_z-of_z, Point, envelope, IsPoint, point_at, IsWayOn, fits64}
+use Rattle.cost_curve.proofs.Lemmas.{last_power, x_power, line_within, edge_value, edge_limit, IsVertex-start, IsVertex-next}
 use Rattle.cost_curve.proofs.EnvelopeValues.{envelope_vertex}
-use Rattle.uc_model.proofs.SignedLaws.{fits64}
 use Rattle.cost_curve.proofs.costs.envelope_at.Goals as goal
 
 abbrev no_point : Point

@@ -1,5 +1,4 @@
-use Rattle.std.proofs.Common.{◌-◌, ◌<◌, ℤ, ◌≤ℤ◌, length}
-use Rattle.cost_curve.specs.Edges.{point_at, IsVertex}
+use Rattle.cost_curve.proofs.Common.{◌-◌, ◌<◌, ℤ, ◌≤ℤ◌, length, point_at, IsVertex}
 use Rattle.cost_curve.proofs.costs.envelope_at.Given as goal
 
 abbrev pub invariant-walk : goal.invariant-walk

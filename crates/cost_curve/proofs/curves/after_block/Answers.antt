@@ -1,5 +1,5 @@
-use Rattle.std.proofs.Common.{rules, w64, FitsSigned}
-use Rattle.cost_curve.proofs.CostLaws.{block_sum}
+use Rattle.cost_curve.proofs.Common.{rules, w64, FitsSigned}
+use Rattle.cost_curve.proofs.Lemmas.{block_sum}
 use Rattle.cost_curve.proofs.curves.after_block.Goals as goal
 
 pub returns-clause-value : goal.returns-clause-value

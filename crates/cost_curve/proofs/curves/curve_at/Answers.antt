@@ -1,10 +1,5 @@
-use Rattle.std.proofs.Common.{rules, ◌≡◌, ◌+◌, ℤ, pos, ◌+ℤ◌, ◌-ℤ◌, ◌*ℤ◌, ◌≤ℤ◌, ◌<ℤ◌, Some, ◌∷◌, get_or, drop, sym, ap, ◌∙◌, subst, w64, FitsSigned, to_z, of_z, arith}
-use Rattle.std.proofs.lemmas.Int.{ints, to_z-of_z}
-use Rattle.std.proofs.lemmas.List.{drop_more}
-use Rattle.uc_model.specs.declared.units.Block.{Block}
-use Rattle.uc_model.specs.Curves.{curve_value}
-use Rattle.uc_model.proofs.SignedLaws.{fits64}
-use Rattle.cost_curve.proofs.ValueLaws.{IsReached, IsReached-start, value_amount, near_amount, near_value, width_power, far_amount, IsReached-past}
+use Rattle.cost_curve.proofs.Common.{rules, ◌≡◌, ◌+◌, ℤ, pos, ◌+ℤ◌, ◌-ℤ◌, ◌*ℤ◌, ◌≤ℤ◌, ◌<ℤ◌, Some, ◌∷◌, get_or, drop, sym, ap, ◌∙◌, subst, w64, FitsSigned, to_z, of_z, arith, ints, to_z-of_z, drop_more, Block, curve_value, fits64}
+use Rattle.cost_curve.proofs.Lemmas.{IsReached, IsReached-start, value_amount, near_amount, near_value, width_power, far_amount, IsReached-past}
 use Rattle.cost_curve.proofs.curves.curve_at.Goals as goal
 
 abbrev no_block : Block

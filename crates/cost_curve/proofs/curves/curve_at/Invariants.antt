@@ -1,6 +1,5 @@
-use Rattle.std.proofs.Common.{drop}
-use Rattle.uc_model.specs.Curves.{curve_value}
-use Rattle.cost_curve.proofs.ValueLaws.{IsReached}
+use Rattle.cost_curve.proofs.Common.{drop, curve_value}
+use Rattle.cost_curve.proofs.Lemmas.{IsReached}
 use Rattle.cost_curve.proofs.curves.curve_at.Given as goal
 
 abbrev pub invariant-loop-block : goal.invariant-loop-block

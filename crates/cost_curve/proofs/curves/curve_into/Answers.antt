@@ -1,12 +1,5 @@
-use Rattle.std.proofs.Common.{pos, neg_ℤ, ◌-ℤ◌, List, [], length, refl, sym, ap, subst, w64, to_z, of_z, arith}
-use Rattle.std.proofs.lemmas.Int.{ints, to_z-of_z}
-use Rattle.uc_model.specs.declared.units.Block.{Block}
-use Rattle.uc_model.specs.Limits.{IsPoint}
-use Rattle.cost_curve.specs.Building.{extended, IsBuilt}
-use Rattle.cost_curve.specs.Edges.{point_at, IsWayOn}
-use Rattle.cost_curve.proofs.BuildLaws.{IsBuilt-start, IsBuilt-edge, IsCostCurve-built, CanEvaluate-curve, length-extended}
-use Rattle.cost_curve.proofs.EdgeLaws.{ordered_powers, IsVertex-start, IsVertex-next}
-use Rattle.uc_model.proofs.SignedLaws.{fits64}
+use Rattle.cost_curve.proofs.Common.{pos, neg_ℤ, ◌-ℤ◌, List, [], length, refl, sym, ap, subst, w64, to_z, of_z, arith, ints, to_z-of_z, Block, IsPoint, extended, IsBuilt, point_at, IsWayOn, fits64}
+use Rattle.cost_curve.proofs.Lemmas.{IsBuilt-start, IsBuilt-edge, IsCostCurve-built, CanEvaluate-curve, length-extended, ordered_powers, IsVertex-start, IsVertex-next}
 use Rattle.cost_curve.proofs.curves.curve_into.Goals as goal
 
 pub walk-init : goal.walk-init

@@ -1,6 +1,4 @@
-use Rattle.std.proofs.Common.{◌≡◌, ◌+◌, ◌-◌, ◌*◌, ◌<◌, ◌≤◌, ℤ, length}
-use Rattle.cost_curve.specs.Building.{IsBuilt}
-use Rattle.cost_curve.specs.Edges.{point_at, IsVertex}
+use Rattle.cost_curve.proofs.Common.{◌≡◌, ◌+◌, ◌-◌, ◌*◌, ◌<◌, ◌≤◌, ℤ, length, IsBuilt, point_at, IsVertex}
 use Rattle.cost_curve.proofs.curves.curve_into.Given as goal
 
 abbrev pub invariant-walk : goal.invariant-walk

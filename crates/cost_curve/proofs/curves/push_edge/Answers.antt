@@ -1,8 +1,4 @@
-use Rattle.std.proofs.Common.{pos, ◌-ℤ◌, List, ap, ◌∙◌, w64, FitsSigned, arith}
-use Rattle.std.proofs.lemmas.Int.{ints, to_z-of_z}
-use Rattle.uc_model.specs.declared.units.Block.{Block}
-use Rattle.cost_curve.specs.Building.{extended}
-use Rattle.uc_model.proofs.SignedLaws.{fits64}
+use Rattle.cost_curve.proofs.Common.{pos, ◌-ℤ◌, List, ap, ◌∙◌, w64, FitsSigned, arith, ints, to_z-of_z, Block, extended, fits64}
 use Rattle.cost_curve.proofs.curves.push_edge.Goals as goal
 
 pub returns-clause-items : goal.returns-clause-items

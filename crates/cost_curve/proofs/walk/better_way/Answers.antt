@@ -1,8 +1,5 @@
-use Rattle.std.proofs.Common.{rules, ◌≤ℤ◌, ◌<ℤ◌, arith}
-use Rattle.std.proofs.lemmas.Int.{ints}
-use Rattle.cost_curve.specs.Edges.{point_at}
-use Rattle.cost_curve.proofs.EdgeLaws.{IsBetter, IsWorse}
-use Rattle.cost_curve.proofs.WayLaws.{IsWayOn-passes, LeadsOn-first, LeadsOn-takes, LeadsOn-keeps}
+use Rattle.cost_curve.proofs.Common.{rules, ◌≤ℤ◌, ◌<ℤ◌, arith, ints, point_at}
+use Rattle.cost_curve.proofs.Lemmas.{IsBetter, IsWorse, IsWayOn-passes, LeadsOn-first, LeadsOn-takes, LeadsOn-keeps}
 use Rattle.cost_curve.proofs.walk.better_way.Goals as goal
 
 pub returns-then-end-start : goal.returns-then-end-start

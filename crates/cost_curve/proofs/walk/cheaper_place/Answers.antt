@@ -1,8 +1,5 @@
-use Rattle.std.proofs.Common.{rules, ◌≤ℤ◌, ◌<ℤ◌, arith}
-use Rattle.std.proofs.lemmas.Int.{ints}
-use Rattle.cost_curve.specs.Edges.{point_at}
-use Rattle.cost_curve.proofs.EdgeLaws.{ordered_powers}
-use Rattle.cost_curve.proofs.WayLaws.{IsStart-keeps, IsStart-takes}
+use Rattle.cost_curve.proofs.Common.{rules, ◌≤ℤ◌, ◌<ℤ◌, arith, ints, point_at}
+use Rattle.cost_curve.proofs.Lemmas.{ordered_powers, IsStart-keeps, IsStart-takes}
 use Rattle.cost_curve.proofs.walk.cheaper_place.Goals as goal
 
 pub returns-then-found-point-clause-start : goal.returns-then-found-point-clause-start

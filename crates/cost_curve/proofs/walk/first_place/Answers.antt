@@ -1,5 +1,5 @@
-use Rattle.std.proofs.Common.{arith}
-use Rattle.cost_curve.proofs.WayLaws.{IsStart-one}
+use Rattle.cost_curve.proofs.Common.{arith}
+use Rattle.cost_curve.proofs.Lemmas.{IsStart-one}
 use Rattle.cost_curve.proofs.walk.first_place.Goals as goal
 
 pub loop-place-init : goal.loop-place-init

@@ -1,5 +1,4 @@
-use Rattle.std.proofs.Common.{◌<◌}
-use Rattle.cost_curve.specs.Edges.{point_at, IsStart}
+use Rattle.cost_curve.proofs.Common.{◌<◌, point_at, IsStart}
 use Rattle.cost_curve.proofs.walk.first_place.Given as goal
 
 abbrev pub invariant-loop-place : goal.invariant-loop-place

@@ -1,6 +1,5 @@
 use Rattle.cost_curve.proofs.SlopeLaws.{next_fits, even_slope, even_price, up_slope, up_price, up_width}
-use Rattle.std.proofs.Common.{arith}
-use Rattle.std.proofs.lemmas.Int.{ints}
+use Rattle.cost_curve.proofs.Common.{arith, ints}
 use Rattle.cost_curve.proofs.walk.slope_of.Goals as goal
 
 pub overflow_add-result : goal.overflow_add-result

@@ -1,4 +1,4 @@
-use Rattle.cost_curve.proofs.WayLaws.{IsWayOn-none}
+use Rattle.cost_curve.proofs.Lemmas.{IsWayOn-none}
 use Rattle.cost_curve.proofs.walk.way_on.Goals as goal
 
 pub loop-place-init : goal.loop-place-init

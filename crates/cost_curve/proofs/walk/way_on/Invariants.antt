@@ -1,4 +1,4 @@
-use Rattle.cost_curve.specs.Edges.{IsWayOn}
+use Rattle.cost_curve.proofs.Common.{IsWayOn}
 use Rattle.cost_curve.proofs.walk.way_on.Given as goal
 
 abbrev pub invariant-loop-place : goal.invariant-loop-place

@@ -1,8 +1,5 @@
-use Rattle.std.proofs.Common.{◌+◌, sym, arith}
-use Rattle.uc_model.specs.PlainCases.{market_of}
-use Rattle.uc_model.specs.PlainUnits.{prices_of}
-use Rattle.dealt_run.proofs.Keeping.{nothing_more, answer_more, answer_small}
-use Rattle.dealt_run.proofs.Small.{within_wider, within_over}
+use Rattle.dealt_run.proofs.Common.{◌+◌, sym, arith, market_of, prices_of}
+use Rattle.dealt_run.proofs.Lemmas.{nothing_more, answer_more, answer_small, within_wider, within_over}
 use Rattle.dealt_run.proofs.count.count_at.Goals as goal
 
 pub count-requires : goal.count-requires

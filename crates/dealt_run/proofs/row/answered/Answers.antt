@@ -1,17 +1,6 @@
-use Rattle.std.proofs.Common.{◌≡◌, ℕ, List, length, map, sym, ap, ◌∙◌, subst, subst₂, pos, []}
-use Rattle.std.proofs.lemmas.List.{length-replicate}
-use Rattle.std.specs.List.{All, concat}
-use Rattle.std.specs.Prelude.{IsPermutation}
-use Rattle.task_deal.specs.Jobs.{below}
-use Rattle.uc_model.specs.Data.{Schedule, units}
-use Rattle.uc_model.specs.PlainCases.{market_of}
-use Rattle.uc_model.specs.PlainUnits.{prices_of}
-use Rattle.uc_model.specs.Sums.{int_at}
-use Rattle.dealt_run.specs.declared.answerer.Answerer.{Answerer}
-use Rattle.dealt_run.specs.Sums.{AreWithin, AreAdded}
+use Rattle.dealt_run.proofs.Common.{◌≡◌, ℕ, List, length, map, sym, ap, ◌∙◌, subst, subst₂, pos, [], length-replicate, All, concat, IsPermutation, below, Schedule, units, market_of, prices_of, int_at, Answerer, AreWithin, AreAdded}
 use Rattle.dealt_run.proofs.Dealt.{all_runs, all_sums}
-use Rattle.dealt_run.proofs.JobLaws.{work_of, runs_of, spare_of, after, none_run, all_kept, all_within, all_for}
-use Rattle.dealt_run.proofs.Small.{zero_at}
+use Rattle.dealt_run.proofs.Lemmas.{work_of, runs_of, spare_of, after, none_run, all_kept, all_within, all_for, zero_at}
 use Rattle.dealt_run.proofs.row.answered.Goals as goal
 
 pub gather-requires-clause-jobs : goal.gather-requires-clause-jobs

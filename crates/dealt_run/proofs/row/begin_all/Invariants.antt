@@ -1,9 +1,4 @@
-use Rattle.std.proofs.Common.{◌≡◌, ℕ, ◌<◌, ◌≤◌, length}
-use Rattle.std.specs.Prelude.{slice_index_or}
-use Rattle.uc_model.specs.PlainCases.{market_of}
-use Rattle.uc_model.specs.PlainUnits.{prices_of}
-use Rattle.dealt_run.specs.declared.answerer.Answerer.{Answerer}
-use Rattle.dealt_run.specs.Jobs.{HasBegun}
+use Rattle.dealt_run.proofs.Common.{◌≡◌, ℕ, ◌<◌, ◌≤◌, length, slice_index_or, market_of, prices_of, Answerer, HasBegun}
 use Rattle.dealt_run.proofs.row.begin_all.Given as goal
 
 abbrev pub invariant-loop-job : goal.invariant-loop-job

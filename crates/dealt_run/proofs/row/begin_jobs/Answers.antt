@@ -1,9 +1,4 @@
-use Rattle.std.proofs.Common.{List, length, sym, ap, ◌∙◌, subst}
-use Rattle.std.proofs.lemmas.List.{with_items_is}
-use Rattle.uc_model.specs.PlainCases.{market_of}
-use Rattle.uc_model.specs.PlainUnits.{prices_of}
-use Rattle.dealt_run.specs.declared.answerer.Answerer.{Answerer}
-use Rattle.dealt_run.specs.Jobs.{AreFor, HaveBegun}
+use Rattle.dealt_run.proofs.Common.{List, length, sym, ap, ◌∙◌, subst, with_items_is, market_of, prices_of, Answerer, AreFor, HaveBegun}
 use Rattle.dealt_run.proofs.row.begin_jobs.Goals as goal
 
 pub begin_all-requires-clause-jobs : goal.begin_all-requires-clause-jobs

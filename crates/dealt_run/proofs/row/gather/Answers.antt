@@ -1,8 +1,5 @@
-use Rattle.std.proofs.Common.{◌≡◌, ℕ, ◌+◌, ◌*◌, sym, ◌∙◌, subst, length, arith}
-use Rattle.uc_model.specs.Sums.{int_at}
-use Rattle.dealt_run.specs.declared.answerer.Answerer.{Answerer}
-use Rattle.dealt_run.specs.Sums.{AreWithin}
-use Rattle.dealt_run.proofs.Small.{within_wider, within_over, raised_within, gather_more, small_at}
+use Rattle.dealt_run.proofs.Common.{◌≡◌, ℕ, ◌+◌, ◌*◌, sym, ◌∙◌, subst, length, arith, int_at, Answerer, AreWithin}
+use Rattle.dealt_run.proofs.Lemmas.{within_wider, within_over, raised_within, gather_more, small_at}
 use Rattle.dealt_run.proofs.row.gather.Goals as goal
 
 pub add-requires-clause-within : goal.add-requires-clause-within

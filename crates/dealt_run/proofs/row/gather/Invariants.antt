@@ -1,7 +1,4 @@
-use Rattle.std.proofs.Common.{◌≡◌, ℕ, ◌*◌, ◌<◌, ◌+ℤ◌, map, take, length}
-use Rattle.uc_model.specs.Sums.{int_at, total}
-use Rattle.dealt_run.specs.declared.answerer.Answerer.{Answerer}
-use Rattle.dealt_run.specs.Sums.{AreWithin}
+use Rattle.dealt_run.proofs.Common.{◌≡◌, ℕ, ◌*◌, ◌<◌, ◌+ℤ◌, map, take, length, int_at, total, Answerer, AreWithin}
 use Rattle.dealt_run.proofs.row.gather.Given as goal
 
 abbrev pub invariant-loop-job : goal.invariant-loop-job

@@ -1,11 +1,5 @@
-use Rattle.std.proofs.Common.{sym, ap, ◌∙◌, refl, rules, FitsSigned, ◌-ℤ◌}
-use Rattle.std.proofs.lemmas.Int.{to_z-of_z}
-use Rattle.std.specs.Int.{w128}
-use Rattle.uc_model.specs.Data.{units}
-use Rattle.uc_model.specs.PlainCases.{market_of}
-use Rattle.uc_model.specs.PlainUnits.{prices_of}
-use Rattle.uc_model.specs.Systems.{total_power, total_reserve, worth_of_demand}
-use Rattle.dealt_run.proofs.JobLaws.{earned_sum, tops, as_long}
+use Rattle.dealt_run.proofs.Common.{sym, ap, ◌∙◌, refl, rules, FitsSigned, ◌-ℤ◌, to_z-of_z, w128, units, market_of, prices_of, total_power, total_reserve, worth_of_demand}
+use Rattle.dealt_run.proofs.Lemmas.{earned_sum, tops, as_long}
 use Rattle.dealt_run.proofs.row.row_at.Goals as goal
 
 pub dual_value-value-requires-clause-earned : goal.dual_value-value-requires-clause-earned

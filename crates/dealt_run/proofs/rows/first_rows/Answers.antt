@@ -1,6 +1,4 @@
-use Rattle.std.proofs.Common.{sym}
-use Rattle.std.proofs.lemmas.List.{take-map}
-use Rattle.uc_model.specs.PlainCases.{proposal_of}
+use Rattle.dealt_run.proofs.Common.{sym, take-map, proposal_of}
 use Rattle.dealt_run.proofs.rows.first_rows.Goals as goal
 
 pub returns : goal.returns

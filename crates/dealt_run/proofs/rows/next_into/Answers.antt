@@ -1,16 +1,5 @@
-use Rattle.std.proofs.Common.{map, take, length, sym, ap, ◌∙◌, subst, arith}
-use Rattle.std.proofs.lemmas.Int.{to_z-of_z}
-use Rattle.std.proofs.lemmas.List.{length-map}
-use Rattle.std.specs.Int.{w128}
-use Rattle.std.proofs.lemmas.List.Elements.{All-take}
-use Rattle.std.specs.List.{All}
-use Rattle.price_move.specs.Sizes.{IsRowBelow}
-use Rattle.uc_model.specs.Data.{PriceLists}
-use Rattle.uc_model.specs.PlainCases.{market_of, proposal_of}
-use Rattle.uc_model.specs.PlainUnits.{prices_of}
-use Rattle.uc_model.specs.PriceRule.{start_price}
-use Rattle.dealt_run.proofs.JobLaws.{as_long}
-use Rattle.dealt_run.proofs.Following.{next_is, last_is, past_long}
+use Rattle.dealt_run.proofs.Common.{map, take, length, sym, ap, ◌∙◌, subst, arith, to_z-of_z, length-map, w128, All-take, All, IsRowBelow, PriceLists, market_of, proposal_of, prices_of, start_price}
+use Rattle.dealt_run.proofs.Lemmas.{as_long, next_is, last_is, past_long}
 use Rattle.dealt_run.proofs.rows.next_into.Goals as goal
 
 pub opening_prices-requires-clause-lengths : goal.opening_prices-requires-clause-lengths

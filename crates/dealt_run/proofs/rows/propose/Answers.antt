@@ -1,10 +1,5 @@
-use Rattle.std.proofs.Common.{map, arith}
-use Rattle.std.proofs.lemmas.Int.{to_z-of_z}
-use Rattle.std.proofs.lemmas.List.{length-map}
-use Rattle.std.specs.Int.{w128}
-use Rattle.uc_model.specs.PlainCases.{market_of, proposal_of}
-use Rattle.uc_model.specs.PlainUnits.{prices_of}
-use Rattle.dealt_run.proofs.Following.{moved_over}
+use Rattle.dealt_run.proofs.Common.{map, arith, to_z-of_z, length-map, w128, market_of, proposal_of, prices_of}
+use Rattle.dealt_run.proofs.Lemmas.{moved_over}
 use Rattle.dealt_run.proofs.rows.propose.Goals as goal
 
 pub returns-clause-horizon : goal.returns-clause-horizon

@@ -1,14 +1,6 @@
-use Rattle.std.proofs.Common.{◌≡◌, map, sym, ap, ◌∙◌, subst, arith, rules, ◌++◌, ◌∷◌, [], List}
-use Rattle.std.proofs.lemmas.Int.{to_z-of_z}
-use Rattle.std.proofs.lemmas.List.{length-map}
-use Rattle.std.specs.Int.{w128}
-use Rattle.std.specs.Prelude.{IsTrue, IsFalse}
+use Rattle.dealt_run.proofs.Common.{◌≡◌, map, sym, ap, ◌∙◌, subst, arith, rules, ◌++◌, ◌∷◌, [], List, to_z-of_z, length-map, w128, IsTrue, IsFalse, market_of, proposal_of, prices_of, map-append, IsRunSoFar, IsNextProposal, IsLast}
 use Rattle.uc_model.specs.declared.cases.Row.{Row}
-use Rattle.uc_model.specs.PlainCases.{market_of, proposal_of}
-use Rattle.uc_model.specs.PlainUnits.{prices_of}
-use Rattle.uc_model.proofs.ListLaws.{map-append}
-use Rattle.dealt_run.specs.Rows.{IsRunSoFar, IsNextProposal, IsLast}
-use Rattle.dealt_run.proofs.RunLaws.{row_below, goes_on, ends_at_budget, ends_settled, cost_worth, one_longer}
+use Rattle.dealt_run.proofs.Lemmas.{row_below, goes_on, ends_at_budget, ends_settled, cost_worth, one_longer}
 use Rattle.dealt_run.proofs.rows.right_rows.Goals as goal
 
 pub next_into-requires-clause-cost : goal.next_into-requires-clause-cost

@@ -1,7 +1,4 @@
-use Rattle.std.proofs.Common.{◌≡◌, ◌+◌, ◌≤◌, map, length}
-use Rattle.uc_model.specs.PlainCases.{market_of, proposal_of}
-use Rattle.dealt_run.specs.Jobs.{AreFor}
-use Rattle.dealt_run.specs.Rows.{IsRunSoFar}
+use Rattle.dealt_run.proofs.Common.{◌≡◌, ◌+◌, ◌≤◌, map, length, market_of, proposal_of, AreFor, IsRunSoFar}
 use Rattle.dealt_run.proofs.rows.right_rows.Given as goal
 
 abbrev pub invariant-loop : goal.invariant-loop

@@ -1,5 +1,4 @@
-use Rattle.std.proofs.Common.{◌≡◌, ℕ, ◌<◌, ◌≤◌, ◌+ℤ◌, length}
-use Rattle.uc_model.specs.Sums.{int_at}
+use Rattle.dealt_run.proofs.Common.{◌≡◌, ℕ, ◌<◌, ◌≤◌, ◌+ℤ◌, length, int_at}
 use Rattle.dealt_run.proofs.sums.add_each.Given as goal
 
 abbrev pub invariant-loop-k : goal.invariant-loop-k

@@ -1,6 +1,4 @@
-use Rattle.std.proofs.Common.{◌≡◌, ℕ, ◌<◌, ◌≤◌, ◌+ℤ◌, length, slice_index}
-use Rattle.uc_model.specs.Sums.{int_at}
-use Rattle.case_answers.specs.Answers.{amount_of}
+use Rattle.dealt_run.proofs.Common.{◌≡◌, ℕ, ◌<◌, ◌≤◌, ◌+ℤ◌, length, slice_index, int_at, amount_of}
 use Rattle.dealt_run.proofs.sums.count_each.Given as goal
 
 abbrev pub invariant-loop-k : goal.invariant-loop-k

@@ -1,5 +1,5 @@
-use Rattle.std.proofs.Common.{length, arith}
-use Rattle.dealt_run.proofs.Small.{all_zero}
+use Rattle.dealt_run.proofs.Common.{length, arith}
+use Rattle.dealt_run.proofs.Lemmas.{all_zero}
 use Rattle.dealt_run.proofs.sums.write_zeros.Goals as goal
 
 pub returns : goal.returns

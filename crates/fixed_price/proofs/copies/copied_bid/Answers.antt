@@ -1,8 +1,6 @@
-use Rattle.std.proofs.Common.{◌<◌, [], List, length, ap, ◌∙◌, arith}
-use Rattle.std.proofs.lemmas.List.{length-map}
+use Rattle.fixed_price.proofs.Common.{◌<◌, [], List, length, ap, ◌∙◌, arith, length-map, items_in}
 use Rattle.uc_model.specs.declared.units.Block.{Block}
-use Rattle.uc_model.specs.Reserved.{items_in}
-use Rattle.fixed_price.proofs.Items.{mapped_at}
+use Rattle.fixed_price.proofs.Lemmas.{mapped_at}
 use Rattle.fixed_price.proofs.copies.copied_bid.Goals as goal
 
 pub copied-requires : goal.copied-requires

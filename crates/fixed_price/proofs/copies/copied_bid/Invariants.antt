@@ -1,5 +1,4 @@
-use Rattle.std.proofs.Common.{◌≡◌, ◌+◌, ◌≤◌, length, map, take}
-use Rattle.uc_model.specs.Reserved.{items_in}
+use Rattle.fixed_price.proofs.Common.{◌≡◌, ◌+◌, ◌≤◌, length, map, take, items_in}
 use Rattle.fixed_price.proofs.copies.copied_bid.Given as goal
 
 abbrev pub invariant-loop-place : goal.invariant-loop-place

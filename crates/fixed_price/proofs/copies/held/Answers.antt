@@ -1,8 +1,6 @@
-use Rattle.std.proofs.Common.{rules, refl, FitsSigned}
-use Rattle.std.proofs.lemmas.Int.{to_z-of_z}
+use Rattle.fixed_price.proofs.Common.{rules, refl, FitsSigned, to_z-of_z, thermal_of, schedule_of}
 use Rattle.std.specs.Int.{w64}
-use Rattle.uc_model.specs.PlainUnits.{thermal_of, schedule_of}
-use Rattle.fixed_price.proofs.Fixing.{held_limits}
+use Rattle.fixed_price.proofs.Lemmas.{held_limits}
 use Rattle.fixed_price.proofs.copies.held.Goals as goal
 
 pub invariant_of-result : goal.invariant_of-result

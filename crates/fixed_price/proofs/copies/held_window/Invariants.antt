@@ -1,5 +1,4 @@
-use Rattle.std.proofs.Common.{◌≡◌, ◌+◌, ◌≤◌, length, map, take}
-use Rattle.fixed_price.specs.FixedCase.{held_mark}
+use Rattle.fixed_price.proofs.Common.{◌≡◌, ◌+◌, ◌≤◌, length, map, take, held_mark}
 use Rattle.fixed_price.proofs.copies.held_window.Given as goal
 
 abbrev pub invariant-loop-place : goal.invariant-loop-place

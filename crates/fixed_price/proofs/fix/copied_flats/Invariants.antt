@@ -1,5 +1,4 @@
-use Rattle.std.proofs.Common.{◌≡◌, ◌+◌, ◌≤◌, length, map, take}
-use Rattle.uc_model.specs.PlainUnits.{named_renewable_of}
+use Rattle.fixed_price.proofs.Common.{◌≡◌, ◌+◌, ◌≤◌, length, map, take, named_renewable_of}
 use Rattle.fixed_price.proofs.fix.copied_flats.Given as goal
 
 abbrev pub invariant-loop-place : goal.invariant-loop-place

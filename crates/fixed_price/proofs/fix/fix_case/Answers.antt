@@ -1,5 +1,5 @@
-use Rattle.uc_model.specs.PlainCases.{market_of, schedules_of}
-use Rattle.fixed_price.proofs.Fixing.{market_held}
+use Rattle.fixed_price.proofs.Common.{market_of, schedules_of}
+use Rattle.fixed_price.proofs.Lemmas.{market_held}
 use Rattle.fixed_price.proofs.fix.fix_case.Goals as goal
 
 pub invariant_of-result : goal.invariant_of-result

@@ -1,12 +1,5 @@
-use Rattle.std.proofs.Common.{◌<◌, ◌≤◌, List, [], ◌∷◌, ◌++◌, map, take, length, sym, ap, ◌∙◌, arith}
-use Rattle.std.proofs.lemmas.List.{length-map}
-use Rattle.uc_model.specs.Data.{NamedThermalUnit}
-use Rattle.uc_model.specs.PlainCases.{market_of, schedules_of}
-use Rattle.uc_model.specs.PlainUnits.{named_thermal_of, schedule_of}
-use Rattle.uc_model.specs.Sums.{zip_with}
-use Rattle.fixed_price.specs.FixedCase.{held_named}
-use Rattle.fixed_price.proofs.Fixing.{others, plan_apart, window_length}
-use Rattle.fixed_price.proofs.Items.{map_item, map_push, zip_more, zip_whole, plan_count, on_length}
+use Rattle.fixed_price.proofs.Common.{◌<◌, ◌≤◌, List, [], ◌∷◌, ◌++◌, map, take, length, sym, ap, ◌∙◌, arith, length-map, NamedThermalUnit, market_of, schedules_of, named_thermal_of, schedule_of, zip_with, held_named}
+use Rattle.fixed_price.proofs.Lemmas.{others, plan_apart, window_length, map_item, map_push, zip_more, zip_whole, plan_count, on_length}
 use Rattle.fixed_price.proofs.fix.held_units.Goals as goal
 
 pub held_unit_of-requires : goal.held_unit_of-requires

@@ -1,8 +1,4 @@
-use Rattle.std.proofs.Common.{◌≡◌, ◌+◌, ◌≤◌, length, map, take}
-use Rattle.uc_model.specs.PlainCases.{market_of, schedules_of}
-use Rattle.uc_model.specs.PlainUnits.{named_thermal_of}
-use Rattle.uc_model.specs.Sums.{zip_with}
-use Rattle.fixed_price.specs.FixedCase.{held_named}
+use Rattle.fixed_price.proofs.Common.{◌≡◌, ◌+◌, ◌≤◌, length, map, take, market_of, schedules_of, named_thermal_of, zip_with, held_named}
 use Rattle.fixed_price.proofs.fix.held_units.Given as goal
 
 abbrev pub invariant-loop-place : goal.invariant-loop-place

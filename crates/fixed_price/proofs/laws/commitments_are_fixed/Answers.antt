@@ -1,4 +1,4 @@
-use Rattle.fixed_price.proofs.Fixing.{fixing}
+use Rattle.fixed_price.proofs.Lemmas.{fixing}
 use Rattle.fixed_price.proofs.laws.commitments_are_fixed.Goals as goal
 
 pub returns : goal.returns

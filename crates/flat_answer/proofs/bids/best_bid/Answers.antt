@@ -1,8 +1,5 @@
-use Rattle.std.proofs.Common.{length, arith}
-use Rattle.uc_model.specs.Data.{Bid}
-use Rattle.uc_model.specs.PlainUnits.{bid_of, prices_of, schedule_of}
-use Rattle.flat_answer.proofs.Forms.{bid_can, bid_earns, bid_by_place}
-use Rattle.flat_answer.proofs.Places.{answered_next, answered_all}
+use Rattle.flat_answer.proofs.Common.{length, arith, Bid, bid_of, prices_of, schedule_of}
+use Rattle.flat_answer.proofs.Lemmas.{bid_can, bid_earns, bid_by_place, answered_next, answered_all}
 use Rattle.flat_answer.proofs.bids.best_bid.Goals as goal
 
 pub loop-k-preserved : goal.loop-k-preserved

@@ -1,7 +1,5 @@
-use Rattle.std.proofs.Common.{length}
-use Rattle.uc_model.specs.PlainUnits.{bid_of, prices_of, schedule_of}
-use Rattle.flat_answer.proofs.Forms.{bid_can, bid_earns}
-use Rattle.flat_answer.proofs.Places.{IsAnswered}
+use Rattle.flat_answer.proofs.Common.{length, bid_of, prices_of, schedule_of}
+use Rattle.flat_answer.proofs.Lemmas.{bid_can, bid_earns, IsAnswered}
 use Rattle.flat_answer.proofs.bids.best_bid.Given as goal
 
 abbrev pub invariant-loop-k : goal.invariant-loop-k

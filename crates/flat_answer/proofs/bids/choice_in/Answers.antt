@@ -1,12 +1,6 @@
-use Rattle.std.proofs.Common.{rules, pos, ℤ, FitsSigned, List, [], subst, sym, ◌∙◌}
-use Rattle.std.proofs.lemmas.Int.{to_z-of_z}
+use Rattle.flat_answer.proofs.Common.{rules, pos, ℤ, FitsSigned, List, [], subst, sym, ◌∙◌, to_z-of_z, w64, Block, IsBlockList, int_at, IsLeastChoice, IsWithinBlocks, bought_at}
 use Rattle.std.proofs.lemmas.Option.{get_or_from_slice_get}
-use Rattle.std.specs.Int.{w64}
-use Rattle.uc_model.specs.declared.units.Block.{Block}
-use Rattle.uc_model.specs.Limits.{IsBlockList}
-use Rattle.uc_model.specs.Sums.{int_at}
-use Rattle.flat_answer.specs.Choices.{IsLeastChoice, IsWithinBlocks, bought_at}
-use Rattle.flat_answer.proofs.Forms.{blocks_read}
+use Rattle.flat_answer.proofs.Lemmas.{blocks_read}
 use Rattle.flat_answer.proofs.bids.choice_in.Goals as goal
 
 pub choice_of-requires-clause-blocks : goal.choice_of-requires-clause-blocks

@@ -1,6 +1,5 @@
-use Rattle.std.proofs.Common.{pos, arith}
-use Rattle.std.proofs.lemmas.Int.{ints, to_z-of_z}
-use Rattle.flat_answer.proofs.Blocks.{part_step, part_is_choice}
+use Rattle.flat_answer.proofs.Common.{pos, arith, ints, to_z-of_z}
+use Rattle.flat_answer.proofs.Lemmas.{part_step, part_is_choice}
 use Rattle.flat_answer.proofs.bids.choice_of.Goals as goal
 
 pub choice_with-choice-requires-clause-power : goal.choice_with-choice-requires-clause-power

@@ -1,4 +1,4 @@
-use Rattle.flat_answer.proofs.Blocks.{IsPart}
+use Rattle.flat_answer.proofs.Lemmas.{IsPart}
 use Rattle.flat_answer.proofs.bids.choice_of.Given as goal
 
 abbrev pub invariant-loop-block : goal.invariant-loop-block

@@ -1,9 +1,5 @@
-use Rattle.std.proofs.Common.{rules, ◌≡◌, ◌+ℤ◌, ◌-ℤ◌, ◌<ℤ◌, FitsSigned, sym, ap, ◌∙◌, arith}
-use Rattle.std.proofs.lemmas.Int.{ints, to_z-of_z}
-use Rattle.std.specs.Int.{w64}
-use Rattle.uc_model.proofs.SignedLaws.{fits_within, IsWithin}
-use Rattle.flat_answer.specs.Choices.{added_gain}
-use Rattle.flat_answer.proofs.Blocks.{counts}
+use Rattle.flat_answer.proofs.Common.{rules, ◌≡◌, ◌+ℤ◌, ◌-ℤ◌, ◌<ℤ◌, FitsSigned, sym, ap, ◌∙◌, arith, ints, to_z-of_z, w64, fits_within, IsWithin, added_gain}
+use Rattle.flat_answer.proofs.Lemmas.{counts}
 use Rattle.flat_answer.proofs.bids.choice_with.Goals as goal
 
 above : (c : goal.After-struct_told-1) → c.args.price <ℤ c.args.block.now.price

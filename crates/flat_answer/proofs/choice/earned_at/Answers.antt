@@ -1,7 +1,4 @@
-use Rattle.std.proofs.Common.{◌*ℤ◌, arith}
-use Rattle.std.proofs.lemmas.Int.{to_z-of_z}
-use Rattle.std.specs.Int.{w64}
-use Rattle.uc_model.proofs.SignedLaws.{product_within, fits_within}
+use Rattle.flat_answer.proofs.Common.{◌*ℤ◌, arith, to_z-of_z, w64, product_within, fits_within}
 use Rattle.flat_answer.proofs.choice.earned_at.Goals as goal
 
 pub overflow_mul-result : goal.overflow_mul-result

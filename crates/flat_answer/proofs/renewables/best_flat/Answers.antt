@@ -1,9 +1,5 @@
-use Rattle.std.proofs.Common.{length, arith}
-use Rattle.std.proofs.lemmas.Int.{ints}
-use Rattle.uc_model.specs.Data.{Flat}
-use Rattle.uc_model.specs.PlainUnits.{renewable_of, prices_of, schedule_of}
-use Rattle.flat_answer.proofs.Forms.{flat_can, flat_earns, flat_by_place}
-use Rattle.flat_answer.proofs.Places.{answered_next, answered_all}
+use Rattle.flat_answer.proofs.Common.{length, arith, ints, Flat, renewable_of, prices_of, schedule_of}
+use Rattle.flat_answer.proofs.Lemmas.{flat_can, flat_earns, flat_by_place, answered_next, answered_all}
 use Rattle.flat_answer.proofs.renewables.best_flat.Goals as goal
 
 pub keep-requires-clause-so_far : goal.keep-requires-clause-so_far

@@ -1,7 +1,5 @@
-use Rattle.std.proofs.Common.{length}
-use Rattle.uc_model.specs.PlainUnits.{renewable_of, prices_of, schedule_of}
-use Rattle.flat_answer.proofs.Forms.{flat_can, flat_earns}
-use Rattle.flat_answer.proofs.Places.{IsAnswered}
+use Rattle.flat_answer.proofs.Common.{length, renewable_of, prices_of, schedule_of}
+use Rattle.flat_answer.proofs.Lemmas.{flat_can, flat_earns, IsAnswered}
 use Rattle.flat_answer.proofs.renewables.best_flat.Given as goal
 
 abbrev pub invariant-loop-k : goal.invariant-loop-k

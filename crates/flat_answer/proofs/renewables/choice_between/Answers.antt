@@ -1,5 +1,4 @@
-use Rattle.std.proofs.Common.{pos, ℤ, ◌*ℤ◌, ◌<ℤ◌, ◌≤ℤ◌, sym, ap, ◌∙◌, arith}
-use Rattle.std.proofs.lemmas.Int.{ints, to_z-of_z}
+use Rattle.flat_answer.proofs.Common.{pos, ℤ, ◌*ℤ◌, ◌<ℤ◌, ◌≤ℤ◌, sym, ap, ◌∙◌, arith, ints, to_z-of_z}
 use Rattle.flat_answer.proofs.Powers.{sold_all, sold_least}
 use Rattle.flat_answer.proofs.renewables.choice_between.Goals as goal
 

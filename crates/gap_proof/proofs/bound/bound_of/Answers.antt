@@ -1,14 +1,5 @@
-use Rattle.std.proofs.Common.{rules, ◌≡◌, ℕ, ◌-◌, ◌≤◌, ℤ, FitsSigned, List, length, drop, map, refl, sym, ap, subst, ◌∙◌, arith, length-drop}
-use Rattle.std.proofs.lemmas.Int.{ints, to_z-of_z}
-use Rattle.std.proofs.lemmas.List.{length-map}
-use Rattle.std.specs.Int.{w64, w128}
-use Rattle.uc_model.specs.Data.{PriceLists, Market}
-use Rattle.uc_model.specs.PlainCases.{market_of, proposal_of}
-use Rattle.uc_model.specs.PriceRule.{Proposal}
-use Rattle.gap_proof.specs.CertifiedBound.{certified_bound}
-use Rattle.gap_proof.specs.Sums.{IsRowWithin, IsWeight, AreSums}
-use Rattle.gap_proof.proofs.RowLists.{drop_at, item_of, none_left, row_prices}
-use Rattle.gap_proof.proofs.SumLaws.{sums_none, sums_more, height_size, weight_size, slope_sizes, bound_is}
+use Rattle.gap_proof.proofs.Common.{rules, ◌≡◌, ℕ, ◌-◌, ◌≤◌, ℤ, FitsSigned, List, length, drop, map, refl, sym, ap, subst, ◌∙◌, arith, length-drop, ints, to_z-of_z, length-map, w64, w128, PriceLists, Market, market_of, proposal_of, Proposal, certified_bound, IsRowWithin, IsWeight, AreSums}
+use Rattle.gap_proof.proofs.Lemmas.{drop_at, item_of, none_left, row_prices, sums_none, sums_more, height_size, weight_size, slope_sizes, bound_is}
 use Rattle.gap_proof.proofs.bound.bound_of.Goals as goal
 
 pub loop-place-init : goal.loop-place-init

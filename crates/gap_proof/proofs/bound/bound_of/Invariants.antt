@@ -1,6 +1,4 @@
-use Rattle.std.proofs.Common.{◌≡◌, drop, map}
-use Rattle.uc_model.specs.PlainCases.{market_of, proposal_of}
-use Rattle.gap_proof.specs.Sums.{AreSums}
+use Rattle.gap_proof.proofs.Common.{◌≡◌, drop, map, market_of, proposal_of, AreSums}
 use Rattle.gap_proof.proofs.bound.bound_of.Given as goal
 
 abbrev pub invariant-loop-place : goal.invariant-loop-place

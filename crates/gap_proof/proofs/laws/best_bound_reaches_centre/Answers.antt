@@ -1,4 +1,4 @@
-use Rattle.gap_proof.proofs.BestLaws.{best_reaches}
+use Rattle.gap_proof.proofs.Lemmas.{best_reaches}
 use Rattle.gap_proof.proofs.laws.best_bound_reaches_centre.Goals as goal
 
 pub returns : goal.returns

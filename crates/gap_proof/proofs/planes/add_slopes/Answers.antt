@@ -1,11 +1,5 @@
-use Rattle.std.proofs.Common.{rules, ◌≡◌, ℤ, pos, ◌+ℤ◌, ◌*ℤ◌, FitsSigned, sym, ap, subst, ◌∙◌, arith}
-use Rattle.std.proofs.lemmas.Int.{to_z-of_z}
-use Rattle.std.specs.Int.{w64, w128}
-use Rattle.uc_model.specs.PlainCases.{market_of, proposal_of}
-use Rattle.uc_model.specs.Sums.{int_at}
-use Rattle.gap_proof.specs.CertifiedBound.{slope_at}
-use Rattle.gap_proof.specs.Sums.{IsSlopeSum}
-use Rattle.gap_proof.proofs.Running.{before_turn, added_more}
+use Rattle.gap_proof.proofs.Common.{rules, ◌≡◌, ℤ, pos, ◌+ℤ◌, ◌*ℤ◌, FitsSigned, sym, ap, subst, ◌∙◌, arith, to_z-of_z, w64, w128, market_of, proposal_of, int_at, slope_at, IsSlopeSum}
+use Rattle.gap_proof.proofs.Lemmas.{before_turn, added_more}
 use Rattle.gap_proof.proofs.planes.add_slopes.Goals as goal
 
 pub sum_with-requires-clause-sum : goal.sum_with-requires-clause-sum

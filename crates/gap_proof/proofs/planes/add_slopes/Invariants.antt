@@ -1,7 +1,5 @@
-use Rattle.std.proofs.Common.{◌≡◌, ◌*ℤ◌}
-use Rattle.uc_model.specs.PlainCases.{market_of, proposal_of}
-use Rattle.gap_proof.specs.CertifiedBound.{slope_at}
-use Rattle.gap_proof.proofs.Running.{IsAddedUpTo}
+use Rattle.gap_proof.proofs.Common.{◌≡◌, ◌*ℤ◌, market_of, proposal_of, slope_at}
+use Rattle.gap_proof.proofs.Lemmas.{IsAddedUpTo}
 use Rattle.gap_proof.proofs.planes.add_slopes.Given as goal
 
 abbrev pub invariant-loop-place : goal.invariant-loop-place

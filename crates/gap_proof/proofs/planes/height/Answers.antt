@@ -1,11 +1,5 @@
-use Rattle.std.proofs.Common.{rules, ◌≡◌, ℕ, ◌+◌, ◌*◌, ℤ, ◌+ℤ◌, ◌-ℤ◌, ◌*ℤ◌, FitsSigned, ap, ◌∙◌, add-one, arith}
-use Rattle.std.proofs.lemmas.Int.{ints, to_z-of_z}
-use Rattle.std.specs.Int.{w64, w128, cast_signed}
-use Rattle.uc_model.specs.PlainCases.{market_of, proposal_of}
-use Rattle.uc_model.specs.Sums.{sum_below}
-use Rattle.uc_model.proofs.SignedLaws.{fits_within, IsWithin}
-use Rattle.gap_proof.specs.CertifiedBound.{price_at, slope_at}
-use Rattle.gap_proof.proofs.Bounds.{sum_step}
+use Rattle.gap_proof.proofs.Common.{rules, ◌≡◌, ℕ, ◌+◌, ◌*◌, ℤ, ◌+ℤ◌, ◌-ℤ◌, ◌*ℤ◌, FitsSigned, ap, ◌∙◌, add-one, arith, ints, to_z-of_z, w64, w128, cast_signed, market_of, proposal_of, sum_below, fits_within, IsWithin, price_at, slope_at}
+use Rattle.gap_proof.proofs.Lemmas.{sum_step}
 use Rattle.gap_proof.proofs.planes.height.Goals as goal
 
 pub loop-place-preserved : goal.loop-place-preserved

@@ -1,8 +1,4 @@
-use Rattle.std.proofs.Common.{◌≡◌, ◌*◌, ◌*ℤ◌}
-use Rattle.uc_model.specs.PlainCases.{market_of, proposal_of}
-use Rattle.uc_model.specs.Sums.{sum_below}
-use Rattle.uc_model.proofs.SignedLaws.{IsWithin}
-use Rattle.gap_proof.specs.CertifiedBound.{price_at, slope_at}
+use Rattle.gap_proof.proofs.Common.{◌≡◌, ◌*◌, ◌*ℤ◌, market_of, proposal_of, sum_below, IsWithin, price_at, slope_at}
 use Rattle.gap_proof.proofs.planes.height.Given as goal
 
 abbrev pub invariant-loop-place : goal.invariant-loop-place

@@ -1,14 +1,5 @@
-use Rattle.std.proofs.Common.{rules, ◌-◌, pos, FitsSigned, [], ◌∷◌, map, refl, sym, ap, ◌∙◌, arith}
-use Rattle.std.proofs.lemmas.Int.{ints, to_z-of_z}
-use Rattle.std.proofs.lemmas.List.{length-map}
-use Rattle.std.specs.Int.{w128}
-use Rattle.uc_model.specs.Data.{PriceLists}
-use Rattle.uc_model.specs.PlainCases.{market_of, proposal_of}
-use Rattle.gap_proof.specs.Candidates.{range_bound}
-use Rattle.gap_proof.specs.Sums.{IsRowWithin}
-use Rattle.gap_proof.proofs.RangeLaws.{one_bound}
-use Rattle.gap_proof.proofs.RowLists.{item_of, row_prices}
-use Rattle.gap_proof.proofs.SumLaws.{height_size, slope_sizes, bound_is}
+use Rattle.gap_proof.proofs.Common.{rules, ◌-◌, pos, FitsSigned, [], ◌∷◌, map, refl, sym, ap, ◌∙◌, arith, ints, to_z-of_z, length-map, w128, PriceLists, market_of, proposal_of, range_bound, IsRowWithin}
+use Rattle.gap_proof.proofs.Lemmas.{one_bound, item_of, row_prices, height_size, slope_sizes, bound_is}
 use Rattle.gap_proof.proofs.ranges.alone.Goals as goal
 
 pub sums_of-sums-requires-clause-row : goal.sums_of-sums-requires-clause-row

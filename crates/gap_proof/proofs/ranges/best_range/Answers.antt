@@ -1,10 +1,6 @@
-use Rattle.std.proofs.Common.{rules, FitsSigned, length, map}
-use Rattle.std.proofs.lemmas.Int.{to_z-of_z}
-use Rattle.std.proofs.lemmas.List.{length-map}
-use Rattle.std.specs.Int.{w128}
-use Rattle.uc_model.specs.PlainCases.{market_of, proposal_of}
+use Rattle.gap_proof.proofs.Common.{rules, FitsSigned, length, map, to_z-of_z, length-map, w128, market_of, proposal_of}
 use Rattle.gap_proof.proofs.FirstLeast.{back_chosen, centre_chosen, less_from_test, least_from_test}
-use Rattle.gap_proof.proofs.RowLists.{row_prices}
+use Rattle.gap_proof.proofs.Lemmas.{row_prices}
 use Rattle.gap_proof.proofs.ranges.best_range.Goals as goal
 
 pub returns-then-trailing-alone-clause-best : goal.returns-then-trailing-alone-clause-best

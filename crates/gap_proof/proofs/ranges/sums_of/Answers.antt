@@ -1,7 +1,5 @@
-use Rattle.std.proofs.Common.{pos, [], ◌∙◌, arith}
-use Rattle.std.proofs.lemmas.Int.{ints}
-use Rattle.uc_model.specs.PlainCases.{market_of, proposal_of}
-use Rattle.gap_proof.proofs.SumLaws.{sums_none, sums_more, slope_sizes}
+use Rattle.gap_proof.proofs.Common.{pos, [], ◌∙◌, arith, ints, market_of, proposal_of}
+use Rattle.gap_proof.proofs.Lemmas.{sums_none, sums_more, slope_sizes}
 use Rattle.gap_proof.proofs.ranges.sums_of.Goals as goal
 
 pub add_row-requires-clause-slopes : goal.add_row-requires-clause-slopes

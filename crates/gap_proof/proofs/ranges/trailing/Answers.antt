@@ -1,15 +1,6 @@
-use Rattle.std.proofs.Common.{rules, ◌≡◌, ◌+◌, ◌-◌, pos, FitsSigned, [], ◌∷◌, length, map, refl, sym, ap, ◌∙◌, arith}
-use Rattle.std.proofs.lemmas.Int.{ints, to_z-of_z}
-use Rattle.std.proofs.lemmas.List.{length-map}
-use Rattle.std.specs.Int.{w128}
-use Rattle.uc_model.specs.PlainCases.{market_of, proposal_of}
-use Rattle.uc_model.specs.PlainUnits.{prices_of}
-use Rattle.gap_proof.specs.Sums.{IsRowWithin}
+use Rattle.gap_proof.proofs.Common.{rules, ◌≡◌, ◌+◌, ◌-◌, pos, FitsSigned, [], ◌∷◌, length, map, refl, sym, ap, ◌∙◌, arith, ints, to_z-of_z, length-map, w128, market_of, proposal_of, prices_of, IsRowWithin}
 use Rattle.gap_proof.proofs.BackSums.{back_first, back_more, back_height, back_weight, back_slopes, back_some, back_value}
-use Rattle.gap_proof.proofs.Least.{least_one, least_more}
-use Rattle.gap_proof.proofs.RangeLaws.{back_bounds}
-use Rattle.gap_proof.proofs.RowLists.{item_of}
-use Rattle.gap_proof.proofs.SumLaws.{height_size, slope_sizes}
+use Rattle.gap_proof.proofs.Lemmas.{least_one, least_more, back_bounds, item_of, height_size, slope_sizes}
 use Rattle.gap_proof.proofs.ranges.trailing.Goals as goal
 
 pub sums_of-sums-requires-clause-row : goal.sums_of-sums-requires-clause-row

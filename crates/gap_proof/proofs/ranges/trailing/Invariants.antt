@@ -1,9 +1,5 @@
-use Rattle.std.proofs.Common.{◌≡◌, ◌-◌, pos, length, drop, map, replicate}
-use Rattle.uc_model.specs.PlainCases.{market_of, proposal_of}
-use Rattle.uc_model.specs.PlainUnits.{prices_of}
-use Rattle.gap_proof.specs.Sums.{AreSums}
-use Rattle.gap_proof.proofs.Least.{IsLeastBehind}
-use Rattle.gap_proof.proofs.RangeLaws.{back_bounds}
+use Rattle.gap_proof.proofs.Common.{◌≡◌, ◌-◌, pos, length, drop, map, replicate, market_of, proposal_of, prices_of, AreSums}
+use Rattle.gap_proof.proofs.Lemmas.{IsLeastBehind, back_bounds}
 use Rattle.gap_proof.proofs.ranges.trailing.Given as goal
 
 abbrev pub invariant-loop-place : goal.invariant-loop-place

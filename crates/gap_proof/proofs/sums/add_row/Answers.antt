@@ -1,7 +1,4 @@
-use Rattle.std.proofs.Common.{rules, ℤ, ◌+ℤ◌, ◌*ℤ◌, ap, ◌∙◌, arith, FitsSigned}
-use Rattle.std.proofs.lemmas.Int.{to_z-of_z}
-use Rattle.std.specs.Int.{w128}
-use Rattle.uc_model.proofs.SignedLaws.{sum_within, fits_within}
+use Rattle.gap_proof.proofs.Common.{rules, ℤ, ◌+ℤ◌, ◌*ℤ◌, ap, ◌∙◌, arith, FitsSigned, to_z-of_z, w128, sum_within, fits_within}
 use Rattle.gap_proof.proofs.sums.add_row.Goals as goal
 
 pub returns-clause-height : goal.returns-clause-height

@@ -1,8 +1,4 @@
-use Rattle.std.proofs.Common.{rules, ℤ, ◌+ℤ◌, unsigned_abs, ap, ◌∙◌, arith, FitsSigned}
-use Rattle.std.proofs.lemmas.Int.{to_z-of_z}
-use Rattle.std.specs.Int.{w64, w128}
-use Rattle.uc_model.specs.Sums.{floor_div}
-use Rattle.uc_model.proofs.SignedLaws.{sum_within, fits_within}
+use Rattle.gap_proof.proofs.Common.{rules, ℤ, ◌+ℤ◌, unsigned_abs, ap, ◌∙◌, arith, FitsSigned, to_z-of_z, w64, w128, floor_div, sum_within, fits_within}
 use Rattle.gap_proof.proofs.sums.bound_by.Goals as goal
 
 pub returns-clause-value : goal.returns-clause-value

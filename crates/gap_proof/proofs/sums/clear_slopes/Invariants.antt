@@ -1,5 +1,4 @@
-use Rattle.std.proofs.Common.{◌≡◌, ℕ, ◌<◌, pos, length}
-use Rattle.uc_model.specs.Sums.{int_at}
+use Rattle.gap_proof.proofs.Common.{◌≡◌, ℕ, ◌<◌, pos, length, int_at}
 use Rattle.gap_proof.proofs.sums.clear_slopes.Given as goal
 
 abbrev pub invariant-loop-place : goal.invariant-loop-place

@@ -1,8 +1,5 @@
-use Rattle.std.proofs.Common.{rules, ◌*ℤ◌, arith, FitsSigned}
-use Rattle.std.proofs.lemmas.Int.{to_z-of_z}
-use Rattle.std.specs.Int.{w128}
-use Rattle.uc_model.proofs.SignedLaws.{fits_within, IsWithin}
-use Rattle.gap_proof.proofs.Bounds.{signed_product_within, within_both}
+use Rattle.gap_proof.proofs.Common.{rules, ◌*ℤ◌, arith, FitsSigned, to_z-of_z, w128, fits_within, IsWithin}
+use Rattle.gap_proof.proofs.Lemmas.{signed_product_within, within_both}
 use Rattle.gap_proof.proofs.sums.lifted.Goals as goal
 
 pub returns-clause-bound : goal.returns-clause-bound

@@ -1,9 +1,4 @@
-use Rattle.std.proofs.Common.{rules, ℤ, ◌-ℤ◌, ap, ◌∙◌, arith, FitsSigned}
-use Rattle.std.proofs.lemmas.Int.{ints, clamps, to_z-of_z}
-use Rattle.std.specs.Int.{w64, int_max}
-use Rattle.uc_model.specs.PlainCases.{market_of}
-use Rattle.uc_model.proofs.SignedLaws.{fits_within, IsWithin}
-use Rattle.gap_proof.specs.CertifiedBound.{lowest_price}
+use Rattle.gap_proof.proofs.Common.{rules, ℤ, ◌-ℤ◌, ap, ◌∙◌, arith, FitsSigned, ints, clamps, to_z-of_z, w64, int_max, market_of, fits_within, IsWithin, lowest_price}
 use Rattle.gap_proof.proofs.sums.lower.Goals as goal
 
 pub returns-clause-value : goal.returns-clause-value

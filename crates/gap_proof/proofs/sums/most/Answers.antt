@@ -1,13 +1,5 @@
-use Rattle.std.proofs.Common.{rules, ◌≡◌, ℕ, ◌+◌, ℤ, pos, ◌+ℤ◌, ◌*ℤ◌, FitsSigned, ap, sym, subst, ◌∙◌, add-one, arith}
-use Rattle.std.proofs.lemmas.Int.{ints, to_z-of_z}
-use Rattle.std.proofs.lemmas.Option.{get_or_from_slice_get}
-use Rattle.std.specs.Int.{w64, w128, cast_signed, int_max}
-use Rattle.uc_model.specs.PlainCases.{market_of}
-use Rattle.uc_model.specs.PlainUnits.{prices_of}
-use Rattle.uc_model.specs.Sums.{int_at, sum_below}
-use Rattle.gap_proof.specs.CertifiedBound.{low_end, high_end}
-use Rattle.gap_proof.specs.Sums.{IsSlopeSum}
-use Rattle.gap_proof.proofs.Bounds.{sum_step}
+use Rattle.gap_proof.proofs.Common.{rules, ◌≡◌, ℕ, ◌+◌, ℤ, pos, ◌+ℤ◌, ◌*ℤ◌, FitsSigned, ap, sym, subst, ◌∙◌, add-one, arith, ints, to_z-of_z, get_or_from_slice_get, w64, w128, cast_signed, int_max, market_of, prices_of, int_at, sum_below, low_end, high_end, IsSlopeSum}
+use Rattle.gap_proof.proofs.Lemmas.{sum_step}
 use Rattle.gap_proof.proofs.sums.most.Goals as goal
 
 pub most_between-total-requires-clause-slope : goal.most_between-total-requires-clause-slope

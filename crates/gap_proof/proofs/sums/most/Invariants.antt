@@ -1,10 +1,4 @@
-use Rattle.std.proofs.Common.{◌≡◌, ◌*◌, ◌*ℤ◌}
-use Rattle.std.specs.Int.{int_max}
-use Rattle.uc_model.specs.PlainCases.{market_of}
-use Rattle.uc_model.specs.PlainUnits.{prices_of}
-use Rattle.uc_model.specs.Sums.{int_at, sum_below}
-use Rattle.uc_model.proofs.SignedLaws.{IsWithin}
-use Rattle.gap_proof.specs.CertifiedBound.{low_end, high_end}
+use Rattle.gap_proof.proofs.Common.{◌≡◌, ◌*◌, ◌*ℤ◌, int_max, market_of, prices_of, int_at, sum_below, IsWithin, low_end, high_end}
 use Rattle.gap_proof.proofs.sums.most.Given as goal
 
 abbrev pub invariant-loop-place : goal.invariant-loop-place

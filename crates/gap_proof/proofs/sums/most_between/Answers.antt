@@ -1,7 +1,4 @@
-use Rattle.std.proofs.Common.{rules, arith, FitsSigned}
-use Rattle.std.proofs.lemmas.Int.{ints, clamps, to_z-of_z}
-use Rattle.std.specs.Int.{w128}
-use Rattle.uc_model.proofs.SignedLaws.{IsWithin}
+use Rattle.gap_proof.proofs.Common.{rules, arith, FitsSigned, ints, clamps, to_z-of_z, w128, IsWithin}
 use Rattle.gap_proof.proofs.sums.most_between.Goals as goal
 
 pub returns-clause-bound : goal.returns-clause-bound

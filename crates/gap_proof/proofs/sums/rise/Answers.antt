@@ -1,8 +1,5 @@
-use Rattle.std.proofs.Common.{rules, ℤ, ◌*ℤ◌, ap, arith, FitsSigned}
-use Rattle.std.proofs.lemmas.Int.{to_z-of_z}
-use Rattle.std.specs.Int.{w128}
-use Rattle.uc_model.proofs.SignedLaws.{fits_within, IsWithin}
-use Rattle.gap_proof.proofs.Bounds.{signed_product_within}
+use Rattle.gap_proof.proofs.Common.{rules, ℤ, ◌*ℤ◌, ap, arith, FitsSigned, to_z-of_z, w128, fits_within, IsWithin}
+use Rattle.gap_proof.proofs.Lemmas.{signed_product_within}
 use Rattle.gap_proof.proofs.sums.rise.Goals as goal
 
 pub returns-clause-bound : goal.returns-clause-bound

@@ -1,8 +1,4 @@
-use Rattle.std.proofs.Common.{rules, ℤ, ◌+ℤ◌, ap, ◌∙◌, arith, FitsSigned}
-use Rattle.std.proofs.lemmas.Int.{ints, clamps, to_z-of_z}
-use Rattle.std.specs.Int.{w64, int_min}
-use Rattle.uc_model.specs.Limits.{price_limit}
-use Rattle.uc_model.proofs.SignedLaws.{fits_within, IsWithin}
+use Rattle.gap_proof.proofs.Common.{rules, ℤ, ◌+ℤ◌, ap, ◌∙◌, arith, FitsSigned, ints, clamps, to_z-of_z, w64, int_min, price_limit, fits_within, IsWithin}
 use Rattle.gap_proof.proofs.sums.upper.Goals as goal
 
 pub returns-clause-value : goal.returns-clause-value

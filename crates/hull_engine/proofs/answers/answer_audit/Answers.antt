@@ -1,12 +1,6 @@
-use Rattle.std.proofs.Common.{arith, ap, ◌∙◌}
-use Rattle.std.proofs.lemmas.Result.{err_from_is_err_and}
-use Rattle.report_read.specs.Plain.{report_of}
+use Rattle.hull_engine.proofs.Common.{arith, ap, ◌∙◌, err_from_is_err_and, report_of, planned_of, IsInput, IsAudit}
 use Rattle.hull_report.specs.AuditText.{audit_text}
-use Rattle.board_run.specs.Inputs.{planned_of}
-use Rattle.hull_engine.specs.Steps.{IsInput, IsAudit}
-use Rattle.hull_engine.proofs.AuditLaws.{report_refused, work_refused, wrong_refused, right_left, text_read}
-use Rattle.hull_engine.proofs.ReadLaws.{unread, unread_is, report_added, are_report_added}
-use Rattle.hull_engine.proofs.StepLaws.{refused_then}
+use Rattle.hull_engine.proofs.Lemmas.{report_refused, work_refused, wrong_refused, right_left, text_read, unread, unread_is, report_added, are_report_added, refused_then}
 use Rattle.hull_engine.proofs.answers.answer_audit.Goals as goal
 
 pub within_work-requires-clause-size : goal.within_work-requires-clause-size

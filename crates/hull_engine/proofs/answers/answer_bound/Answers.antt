@@ -1,14 +1,5 @@
-use Rattle.std.proofs.Common.{rules, Result, Ok, Err, inr, ap, ◌∙◌}
-use Rattle.std.specs.Int.{w64}
-use Rattle.std.proofs.lemmas.Int.{to_z-of_z}
-use Rattle.std.proofs.lemmas.Result.{err_from_is_err_and}
-use Rattle.hull_report.specs.declared.fault.TopFault.{TopFault}
-use Rattle.board_run.specs.declared.input.RunInput.{RunInput}
-use Rattle.board_run.specs.declared.input.RunSize.{RunSize}
-use Rattle.board_run.specs.Inputs.{planned_of}
-use Rattle.hull_engine.specs.Steps.{IsInput, IsWithinWork}
-use Rattle.hull_engine.proofs.AnswerLaws.{bound_texts}
-use Rattle.hull_engine.proofs.StepLaws.{refused_then, answer_then}
+use Rattle.hull_engine.proofs.Common.{rules, Result, Ok, Err, inr, ap, ◌∙◌, w64, to_z-of_z, err_from_is_err_and, TopFault, RunInput, RunSize, planned_of, IsInput, IsWithinWork}
+use Rattle.hull_engine.proofs.Lemmas.{bound_texts, refused_then, answer_then}
 use Rattle.hull_engine.proofs.answers.answer_bound.Goals as goal
 
 pub returns-in_err-input-clause-answers : goal.returns-in_err-input-clause-answers

@@ -1,5 +1,4 @@
-use Rattle.std.proofs.lemmas.Result.{err_from_is_err_and}
-use Rattle.board_run.specs.Inputs.{planned_of}
+use Rattle.hull_engine.proofs.Common.{err_from_is_err_and, planned_of}
 use Rattle.hull_engine.proofs.answers.answer_check.Goals as goal
 
 pub returns-in_err-input-clause-answers : goal.returns-in_err-input-clause-answers

@@ -1,7 +1,5 @@
-use Rattle.std.proofs.Common.{◌≡◌, ℕ, List, None, Some}
-use Rattle.hull_report.specs.declared.fault.FileKind.TheVariants.{CaseFile}
-use Rattle.hull_engine.specs.Outcome.{no_files}
-use Rattle.hull_engine.proofs.ReadLaws.{any_reads}
+use Rattle.hull_engine.proofs.Common.{◌≡◌, ℕ, List, None, Some, CaseFile, no_files}
+use Rattle.hull_engine.proofs.Lemmas.{any_reads}
 use Rattle.hull_engine.proofs.answers.answer_command.Goals as goal
 
 named : (name : List ℕ) → Some name ≡ None → ⊥

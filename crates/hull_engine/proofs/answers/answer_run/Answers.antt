@@ -1,7 +1,5 @@
-use Rattle.std.proofs.lemmas.Result.{err_from_is_err_and}
-use Rattle.hull_words.specs.Words.{texts, words_of}
-use Rattle.hull_engine.specs.Outcome.{command_for}
-use Rattle.hull_engine.proofs.ReadLaws.{any_reads, are_any_reads}
+use Rattle.hull_engine.proofs.Common.{err_from_is_err_and, texts, words_of, command_for}
+use Rattle.hull_engine.proofs.Lemmas.{any_reads, are_any_reads}
 use Rattle.hull_engine.proofs.answers.answer_run.Goals as goal
 
 pub returns-in_err-command-clause-answers : goal.returns-in_err-command-clause-answers

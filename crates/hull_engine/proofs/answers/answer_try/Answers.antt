@@ -1,13 +1,5 @@
-use Rattle.std.proofs.Common.{Result, Ok, Err, inr, refl, ap}
-use Rattle.std.proofs.lemmas.Result.{err_from_is_err_and}
-use Rattle.hull_report.specs.TryText.{try_text}
-use Rattle.hull_report.specs.declared.fault.TopFault.{TopFault}
-use Rattle.board_run.specs.declared.input.RunInput.{RunInput}
-use Rattle.board_run.specs.declared.input.RunSize.{RunSize}
-use Rattle.board_run.specs.Inputs.{planned_of}
-use Rattle.hull_engine.specs.Steps.{IsMade, IsWithinWork}
-use Rattle.hull_engine.proofs.AnswerLaws.{run_texts}
-use Rattle.hull_engine.proofs.StepLaws.{answer_then}
+use Rattle.hull_engine.proofs.Common.{Result, Ok, Err, inr, refl, ap, err_from_is_err_and, try_text, TopFault, RunInput, RunSize, planned_of, IsMade, IsWithinWork}
+use Rattle.hull_engine.proofs.Lemmas.{run_texts, answer_then}
 use Rattle.hull_engine.proofs.answers.answer_try.Goals as goal
 
 pub returns-in_default-clause-answers : goal.returns-in_default-clause-answers

@@ -1,8 +1,5 @@
-use Rattle.std.proofs.Common.{inl, inr, refl}
-use Rattle.hull_words.specs.Asked.{asked}
-use Rattle.hull_words.specs.Words.{texts, words_of}
-use Rattle.hull_engine.proofs.EndLaws.{refused_words}
-use Rattle.hull_engine.proofs.WordSizes.{words_have_sizes}
+use Rattle.hull_engine.proofs.Common.{inl, inr, refl, asked, texts, words_of}
+use Rattle.hull_engine.proofs.Lemmas.{refused_words, words_have_sizes}
 use Rattle.hull_engine.proofs.answers.command_of.Goals as goal
 
 pub returns-in-Ok-clause-sizes : goal.returns-in-Ok-clause-sizes

@@ -1,10 +1,6 @@
-use Rattle.std.proofs.Common.{◌≡◌, List, [], ◌∷◌, ◌++◌, length, length-append, sym, ap, ◌∙◌, subst, arith}
-use Rattle.std.specs.List.{All}
-use Rattle.std.proofs.lemmas.List.Elements.{All-push}
+use Rattle.hull_engine.proofs.Common.{◌≡◌, List, [], ◌∷◌, ◌++◌, length, length-append, sym, ap, ◌∙◌, subst, arith, All, All-push, market_of, IsBenchOver}
 use Rattle.slope_list.specs.declared.slopes.Slopes.{Slopes}
 use Rattle.unit_program.specs.declared.bench.Bench.{Bench}
-use Rattle.uc_model.specs.PlainCases.{market_of}
-use Rattle.dealt_run.specs.Benches.{IsBenchOver}
 use Rattle.hull_engine.proofs.audit.benches_for.Goals as goal
 
 pub loop-preserved : goal.loop-preserved

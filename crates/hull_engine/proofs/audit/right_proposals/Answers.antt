@@ -1,7 +1,4 @@
-use Rattle.std.proofs.Common.{◌≡◌, ℕ, arith, inl, refl, sym, subst, ◌∙◌}
-use Rattle.std.proofs.lemmas.List.{length-map}
-use Rattle.uc_model.specs.PlainCases.{proposal_of}
-use Rattle.report_read.specs.Plain.{report_of}
+use Rattle.hull_engine.proofs.Common.{◌≡◌, ℕ, arith, inl, refl, sym, subst, ◌∙◌, length-map, proposal_of, report_of}
 use Rattle.report_check.specs.declared.audit.Audit.{Audit}
 use Rattle.report_check.specs.declared.audit.Audit.TheVariants.{Right, Wrong}
 use Rattle.hull_engine.proofs.audit.right_proposals.Goals as goal

@@ -1,4 +1,4 @@
-use Rattle.hull_engine.proofs.WriteLaws.{status_written}
+use Rattle.hull_engine.proofs.Lemmas.{status_written}
 use Rattle.hull_engine.proofs.end.finish_run.Goals as goal
 
 pub returns-clause-report : goal.returns-clause-report

@@ -1,12 +1,6 @@
-use Rattle.std.proofs.Common.{rules, refl}
-use Rattle.std.specs.Int.{w64, w128}
-use Rattle.std.proofs.lemmas.Int.{to_z-of_z}
-use Rattle.uc_model.specs.PlainCases.{market_of}
-use Rattle.hull_report.specs.FixedText.{told_of, fixed_text}
+use Rattle.hull_engine.proofs.Common.{rules, refl, w64, w128, to_z-of_z, market_of, told_of, fixed_text, report_text, try_text}
 use Rattle.hull_report.specs.RecordReport.{report_of}
-use Rattle.report_form.specs.ReportText.{report_text}
-use Rattle.hull_report.specs.TryText.{try_text}
-use Rattle.hull_engine.proofs.WriteLaws.{run_text, written_bound, bound_written}
+use Rattle.hull_engine.proofs.Lemmas.{run_text, written_bound, bound_written}
 use Rattle.hull_engine.proofs.end.write_answer.Goals as goal
 
 pub returns-in-Price : goal.returns-in-Price

@@ -1,4 +1,4 @@
-use Rattle.hull_engine.proofs.WriteLaws.{ended_lengths}
+use Rattle.hull_engine.proofs.Lemmas.{ended_lengths}
 use Rattle.hull_engine.proofs.end.write_done.Goals as goal
 
 pub write_report-requires-clause-scheduled : goal.write_report-requires-clause-scheduled

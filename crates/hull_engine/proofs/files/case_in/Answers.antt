@@ -1,6 +1,4 @@
-use Rattle.std.proofs.Common.{Ok, Err, inl, refl}
-use Rattle.uc_model.specs.PlainCases.{market_of}
-use Rattle.uc_case.specs.Files.{text, value}
+use Rattle.hull_engine.proofs.Common.{Ok, Err, inl, refl, market_of, text, value}
 use Rattle.hull_engine.proofs.files.case_in.Goals as goal
 
 pub returns-in-Ok : goal.returns-in-Ok

@@ -1,8 +1,4 @@
-use Rattle.std.proofs.Common.{rules, refl, inl, ap, ℤ}
-use Rattle.std.specs.Int.{w128}
-use Rattle.std.proofs.lemmas.Int.{to_z-of_z}
-use Rattle.uc_model.specs.PlainCases.{market_of, schedules_of}
-use Rattle.board_run.specs.Inputs.{PlannedCase}
+use Rattle.hull_engine.proofs.Common.{rules, refl, inl, ap, ℤ, w128, to_z-of_z, market_of, schedules_of, PlannedCase}
 use Rattle.hull_engine.proofs.files.checked_input.Goals as goal
 
 pub returns-in-Ok-clause-answers : goal.returns-in-Ok-clause-answers

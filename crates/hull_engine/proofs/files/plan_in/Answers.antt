@@ -1,6 +1,4 @@
-use Rattle.std.proofs.Common.{Ok, Err, inl, refl}
-use Rattle.uc_model.specs.PlainCases.{schedules_of}
-use Rattle.uc_case.specs.Files.{text, value}
+use Rattle.hull_engine.proofs.Common.{Ok, Err, inl, refl, schedules_of, text, value}
 use Rattle.hull_engine.proofs.files.plan_in.Goals as goal
 
 pub returns-in-Ok-clause-answers : goal.returns-in-Ok-clause-answers

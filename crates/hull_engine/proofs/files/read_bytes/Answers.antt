@@ -1,5 +1,5 @@
-use Rattle.std.proofs.Common.{None, Err, inl, inr, refl, ap, arith}
-use Rattle.hull_engine.proofs.ReadLaws.{unread, unread_is, was_read, was_too_big}
+use Rattle.hull_engine.proofs.Common.{None, Err, inl, inr, refl, ap, arith}
+use Rattle.hull_engine.proofs.Lemmas.{unread, unread_is, was_read, was_too_big}
 use Rattle.hull_engine.proofs.files.read_bytes.Goals as goal
 
 pub returns-in-Ok-clause-answers : goal.returns-in-Ok-clause-answers

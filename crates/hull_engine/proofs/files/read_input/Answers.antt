@@ -1,11 +1,5 @@
-use Rattle.std.proofs.lemmas.Result.{err_from_is_err_and}
-use Rattle.std.proofs.Common.{arith}
-use Rattle.uc_model.specs.Data.{Market}
-use Rattle.uc_model.specs.PlainCases.{market_of}
-use Rattle.board_run.specs.Inputs.{planned_of}
-use Rattle.hull_engine.specs.Steps.{Then, IsCaseFile, IsPlanFile, IsChecked}
-use Rattle.hull_engine.proofs.ReadLaws.{unread, unread_is, read_wider, two_reads, are_two_reads}
-use Rattle.hull_engine.proofs.StepLaws.{refused_then, answer_then}
+use Rattle.hull_engine.proofs.Common.{err_from_is_err_and, arith, Market, market_of, planned_of, Then, IsCaseFile, IsPlanFile, IsChecked}
+use Rattle.hull_engine.proofs.Lemmas.{unread, unread_is, read_wider, two_reads, are_two_reads, refused_then, answer_then}
 use Rattle.hull_engine.proofs.files.read_input.Goals as goal
 
 pub returns-in_err-case-clause-answers : goal.returns-in_err-case-clause-answers

@@ -1,8 +1,5 @@
-use Rattle.std.proofs.lemmas.Result.{err_from_is_err_and}
-use Rattle.uc_model.specs.PlainCases.{market_of, schedules_of}
-use Rattle.hull_report.specs.declared.fault.FileKind.TheVariants.{ScheduleFile}
-use Rattle.hull_engine.specs.Steps.{IsBytes, IsPlan}
-use Rattle.hull_engine.proofs.StepLaws.{refused_then, answer_then}
+use Rattle.hull_engine.proofs.Common.{err_from_is_err_and, market_of, schedules_of, ScheduleFile, IsBytes, IsPlan}
+use Rattle.hull_engine.proofs.Lemmas.{refused_then, answer_then}
 use Rattle.hull_engine.proofs.files.read_plan_file.Goals as goal
 
 pub returns-in_err-bytes-clause-answers : goal.returns-in_err-bytes-clause-answers

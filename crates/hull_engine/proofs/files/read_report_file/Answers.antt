@@ -1,8 +1,5 @@
-use Rattle.std.proofs.lemmas.Result.{err_from_is_err_and}
-use Rattle.report_read.specs.Plain.{report_of}
-use Rattle.hull_report.specs.declared.fault.FileKind.TheVariants.{ReportFile}
-use Rattle.hull_engine.specs.Steps.{IsBytes, IsReportIn}
-use Rattle.hull_engine.proofs.StepLaws.{refused_then, answer_then}
+use Rattle.hull_engine.proofs.Common.{err_from_is_err_and, report_of, ReportFile, IsBytes, IsReportIn}
+use Rattle.hull_engine.proofs.Lemmas.{refused_then, answer_then}
 use Rattle.hull_engine.proofs.files.read_report_file.Goals as goal
 
 pub returns-in_err-bytes-clause-answers : goal.returns-in_err-bytes-clause-answers

@@ -1,8 +1,5 @@
-use Rattle.std.proofs.lemmas.Result.{err_from_is_err_and}
-use Rattle.uc_model.specs.PlainCases.{market_of, schedules_of}
-use Rattle.board_run.specs.Inputs.{planned_of}
-use Rattle.hull_engine.specs.Steps.{IsPlanFile, IsChecked}
-use Rattle.hull_engine.proofs.StepLaws.{refused_then, answer_then}
+use Rattle.hull_engine.proofs.Common.{err_from_is_err_and, market_of, schedules_of, planned_of, IsPlanFile, IsChecked}
+use Rattle.hull_engine.proofs.Lemmas.{refused_then, answer_then}
 use Rattle.hull_engine.proofs.files.read_schedule.Goals as goal
 
 pub returns-in_err-plan-clause-answers : goal.returns-in_err-plan-clause-answers

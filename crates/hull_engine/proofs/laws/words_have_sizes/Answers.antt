@@ -1,4 +1,4 @@
-use Rattle.hull_engine.proofs.WordSizes.{words_have_sizes as sizes}
+use Rattle.hull_engine.proofs.Lemmas.{sizes}
 use Rattle.hull_engine.proofs.laws.words_have_sizes.Goals as goal
 
 pub returns : goal.returns

@@ -1,6 +1,4 @@
-use Rattle.std.proofs.Common.{rules}
-use Rattle.std.specs.Int.{w128}
-use Rattle.std.proofs.lemmas.Int.{to_z-of_z}
+use Rattle.hull_report.proofs.Common.{rules, w128, to_z-of_z}
 use Rattle.hull_report.proofs.BoundLaws.{value_told}
 use Rattle.hull_report.proofs.bound.write_bound.Goals as goal
 

@@ -1,7 +1,4 @@
-use Rattle.std.proofs.Common.{rules}
-use Rattle.std.specs.Int.{w128}
-use Rattle.std.proofs.lemmas.Int.{to_z-of_z}
-use Rattle.hull_report.specs.BoundText.{bound_text}
+use Rattle.hull_report.proofs.Common.{rules, w128, to_z-of_z, bound_text}
 use Rattle.hull_report.proofs.bound.write_bound_lines.Goals as goal
 
 pub returns : goal.returns

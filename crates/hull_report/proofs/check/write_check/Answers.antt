@@ -1,8 +1,4 @@
-use Rattle.std.proofs.Common.{rules}
-use Rattle.std.specs.Int.{w128}
-use Rattle.std.proofs.lemmas.Int.{to_z-of_z}
-use Rattle.std.proofs.lemmas.List.{length-map}
-use Rattle.uc_model.specs.PlainUnits.{named_thermal_of, named_renewable_of, named_bid_of}
+use Rattle.hull_report.proofs.Common.{rules, w128, to_z-of_z, length-map, named_thermal_of, named_renewable_of, named_bid_of}
 use Rattle.hull_report.specs.CheckText.{check_text}
 use Rattle.hull_report.proofs.check.write_check.Goals as goal
 

@@ -1,6 +1,5 @@
-use Rattle.std.proofs.Common.{codes}
-use Rattle.hull_report.specs.FaultLines.{status_of, status_told, fault_told}
-use Rattle.hull_report.proofs.RecordTexts.{first_of_three, second_of_three, last_of_three}
+use Rattle.hull_report.proofs.Common.{codes, status_of, status_told, fault_told}
+use Rattle.hull_report.proofs.Lemmas.{first_of_three, second_of_three, last_of_three}
 use Rattle.hull_report.proofs.fault.write_fault.Goals as goal
 
 pub returns-in_err-write_status : goal.returns-in_err-write_status

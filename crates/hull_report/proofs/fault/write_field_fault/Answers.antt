@@ -1,4 +1,4 @@
-use Rattle.hull_report.specs.FaultLines.{field_told}
+use Rattle.hull_report.proofs.Common.{field_told}
 use Rattle.hull_report.proofs.fault.write_field_fault.Goals as goal
 
 pub returns : goal.returns

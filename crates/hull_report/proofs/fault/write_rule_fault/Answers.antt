@@ -1,7 +1,4 @@
-use Rattle.std.proofs.Common.{rules}
-use Rattle.std.specs.Int.{w128}
-use Rattle.std.proofs.lemmas.Int.{to_z-of_z}
-use Rattle.hull_report.specs.FaultLines.{rule_told}
+use Rattle.hull_report.proofs.Common.{rules, w128, to_z-of_z, rule_told}
 use Rattle.hull_report.proofs.fault.write_rule_fault.Goals as goal
 
 pub returns : goal.returns

@@ -1,4 +1,4 @@
-use Rattle.hull_report.specs.FaultLines.{shape_told}
+use Rattle.hull_report.proofs.Common.{shape_told}
 use Rattle.hull_report.proofs.fault.write_shape_fault.Goals as goal
 
 pub returns : goal.returns

@@ -1,4 +1,4 @@
-use Rattle.hull_report.specs.FaultLines.{text_told}
+use Rattle.hull_report.proofs.Common.{text_told}
 use Rattle.hull_report.proofs.fault.write_text_fault.Goals as goal
 
 pub returns : goal.returns

@@ -1,4 +1,4 @@
-use Rattle.hull_report.specs.FaultLines.{words_told}
+use Rattle.hull_report.proofs.Common.{words_told}
 use Rattle.hull_report.proofs.fault.write_words_fault.Goals as goal
 
 pub returns : goal.returns

@@ -1,9 +1,5 @@
-use Rattle.std.proofs.Common.{rules, ap, sym, ◌∙◌, length}
-use Rattle.std.specs.Int.{w128}
-use Rattle.std.proofs.lemmas.Int.{to_z-of_z}
-use Rattle.uc_model.specs.Data.{PriceLists}
-use Rattle.uc_model.specs.PlainCases.{proposal_of}
-use Rattle.hull_report.proofs.Sides.{chosen_row_at}
+use Rattle.hull_report.proofs.Common.{rules, ap, sym, ◌∙◌, length, w128, to_z-of_z, PriceLists, proposal_of}
+use Rattle.hull_report.proofs.Lemmas.{chosen_row_at}
 use Rattle.hull_report.proofs.fixed.chosen_side.Goals as goal
 
 pub copy_prices-requires : goal.copy_prices-requires

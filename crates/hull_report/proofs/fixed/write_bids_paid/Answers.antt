@@ -1,10 +1,5 @@
-use Rattle.std.proofs.Common.{arith, ap, length, refl, codes, ◌+◌}
-use Rattle.std.proofs.lemmas.List.{length-map}
-use Rattle.uc_model.specs.PlainCases.{market_of}
-use Rattle.uc_model.specs.PlainUnits.{named_thermal_of, named_renewable_of}
-use Rattle.hull_report.specs.FixedText.{told_of, paid_text, paid_line, bids_paid}
-use Rattle.hull_report.proofs.RecordLines.{bid_stands, bid_lines}
-use Rattle.hull_report.proofs.RecordTexts.{all_items, gains_at_item, exit_at_item}
+use Rattle.hull_report.proofs.Common.{arith, ap, length, refl, codes, ◌+◌, length-map, market_of, named_thermal_of, named_renewable_of, told_of, paid_text, paid_line, bids_paid}
+use Rattle.hull_report.proofs.Lemmas.{bid_stands, bid_lines, all_items, gains_at_item, exit_at_item}
 use Rattle.hull_report.proofs.fixed.write_bids_paid.Goals as goal
 
 pub returns-in_err-write_paid : goal.returns-in_err-write_paid

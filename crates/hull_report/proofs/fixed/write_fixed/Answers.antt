@@ -1,7 +1,5 @@
-use Rattle.hull_report.proofs.RecordTexts.{first_of_three, second_of_three, last_of_three}
-use Rattle.std.proofs.Common.{rules}
-use Rattle.std.specs.Int.{w128}
-use Rattle.std.proofs.lemmas.Int.{to_z-of_z}
+use Rattle.hull_report.proofs.Lemmas.{first_of_three, second_of_three, last_of_three}
+use Rattle.hull_report.proofs.Common.{rules, w128, to_z-of_z}
 use Rattle.hull_report.proofs.fixed.write_fixed.Goals as goal
 
 pub returns-in_err-write_sides : goal.returns-in_err-write_sides

@@ -1,7 +1,4 @@
-use Rattle.std.proofs.Common.{rules, w64}
-use Rattle.std.specs.Int.{w128}
-use Rattle.std.proofs.lemmas.Int.{to_z-of_z}
-use Rattle.hull_report.specs.FixedText.{paid_text}
+use Rattle.hull_report.proofs.Common.{rules, w64, w128, to_z-of_z, paid_text}
 use Rattle.hull_report.proofs.fixed.write_paid.Goals as goal
 
 pub returns : goal.returns

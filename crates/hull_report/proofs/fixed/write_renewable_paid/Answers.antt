@@ -1,8 +1,5 @@
-use Rattle.std.proofs.Common.{arith, ap, length, refl, codes, ◌+◌}
-use Rattle.uc_model.specs.PlainCases.{market_of}
-use Rattle.hull_report.specs.FixedText.{told_of, paid_text, paid_line, renewable_paid}
-use Rattle.hull_report.proofs.RecordLines.{renewable_stands, renewable_lines}
-use Rattle.hull_report.proofs.RecordTexts.{all_items, gains_at_item, exit_at_item}
+use Rattle.hull_report.proofs.Common.{arith, ap, length, refl, codes, ◌+◌, market_of, told_of, paid_text, paid_line, renewable_paid}
+use Rattle.hull_report.proofs.Lemmas.{renewable_stands, renewable_lines, all_items, gains_at_item, exit_at_item}
 use Rattle.hull_report.proofs.fixed.write_renewable_paid.Goals as goal
 
 pub returns-in_err-write_paid : goal.returns-in_err-write_paid

@@ -1,8 +1,4 @@
-use Rattle.std.proofs.Common.{take, codes}
-use Rattle.std.specs.List.{flat_map}
-use Rattle.hull_io.specs.Edge.{Gains}
-use Rattle.uc_model.specs.PlainCases.{market_of}
-use Rattle.hull_report.specs.FixedText.{told_of, paid_text, renewable_paid}
+use Rattle.hull_report.proofs.Common.{take, codes, flat_map, Gains, market_of, told_of, paid_text, renewable_paid}
 use Rattle.hull_report.proofs.fixed.write_renewable_paid.Given as goal
 
 -- the lines before were gained

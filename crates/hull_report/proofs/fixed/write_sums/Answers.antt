@@ -1,7 +1,4 @@
-use Rattle.std.proofs.Common.{rules}
-use Rattle.std.specs.Int.{w128}
-use Rattle.std.proofs.lemmas.Int.{to_z-of_z}
-use Rattle.hull_report.specs.FixedText.{sums_text}
+use Rattle.hull_report.proofs.Common.{rules, w128, to_z-of_z, sums_text}
 use Rattle.hull_report.proofs.fixed.write_sums.Goals as goal
 
 pub returns : goal.returns

@@ -1,4 +1,4 @@
-use Rattle.hull_report.proofs.Records.{tops_at}
+use Rattle.hull_report.proofs.Lemmas.{tops_at}
 use Rattle.hull_report.proofs.laws.answers_are_tops.Goals as goal
 
 pub returns : goal.returns

@@ -1,4 +1,4 @@
-use Rattle.hull_report.proofs.OneReport.{one_right_report}
+use Rattle.hull_report.proofs.Lemmas.{one_right_report}
 use Rattle.hull_report.proofs.laws.one_report_is_right.Goals as goal
 
 pub returns : goal.returns

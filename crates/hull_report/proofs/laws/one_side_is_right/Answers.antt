@@ -1,4 +1,4 @@
-use Rattle.hull_report.proofs.Sides.{one_side}
+use Rattle.hull_report.proofs.Lemmas.{one_side}
 use Rattle.hull_report.proofs.laws.one_side_is_right.Goals as goal
 
 pub returns : goal.returns

@@ -1,4 +1,4 @@
-use Rattle.hull_report.proofs.Records.{record_is_right}
+use Rattle.hull_report.proofs.Lemmas.{record_is_right}
 use Rattle.hull_report.proofs.laws.record_report_is_right.Goals as goal
 
 pub returns : goal.returns

@@ -1,4 +1,4 @@
-use Rattle.hull_report.proofs.OneReport.{report_payments}
+use Rattle.hull_report.proofs.Lemmas.{report_payments}
 use Rattle.hull_report.proofs.laws.report_payments_make_up_the_gap.Goals as goal
 
 pub returns : goal.returns

@@ -1,4 +1,4 @@
-use Rattle.hull_report.proofs.Sides.{sides_are_right}
+use Rattle.hull_report.proofs.Lemmas.{sides_are_right}
 use Rattle.hull_report.proofs.laws.settled_sides_are_right.Goals as goal
 
 pub returns : goal.returns

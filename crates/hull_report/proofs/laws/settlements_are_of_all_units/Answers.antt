@@ -1,4 +1,4 @@
-use Rattle.hull_report.proofs.Records.{settled_lengths}
+use Rattle.hull_report.proofs.Lemmas.{settled_lengths}
 use Rattle.hull_report.proofs.laws.settlements_are_of_all_units.Goals as goal
 
 pub returns : goal.returns

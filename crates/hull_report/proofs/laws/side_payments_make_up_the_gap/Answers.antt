@@ -1,4 +1,4 @@
-use Rattle.hull_report.proofs.Sides.{made_up}
+use Rattle.hull_report.proofs.Lemmas.{made_up}
 use Rattle.hull_report.proofs.laws.side_payments_make_up_the_gap.Goals as goal
 
 pub returns : goal.returns

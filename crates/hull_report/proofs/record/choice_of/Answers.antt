@@ -1,7 +1,5 @@
-use Rattle.std.proofs.Common.{rules, ap, arith, length}
-use Rattle.std.proofs.lemmas.List.{length-map}
-use Rattle.uc_model.specs.PlainCases.{proposal_of}
-use Rattle.hull_report.proofs.RecordLines.{most_rows, chosen_in, choice_told}
+use Rattle.hull_report.proofs.Common.{rules, ap, arith, length, length-map, proposal_of}
+use Rattle.hull_report.proofs.Lemmas.{most_rows, chosen_in, choice_told}
 use Rattle.hull_report.proofs.record.choice_of.Goals as goal
 
 pub chosen-chosen-requires : goal.chosen-chosen-requires

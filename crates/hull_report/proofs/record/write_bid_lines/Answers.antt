@@ -1,8 +1,5 @@
-use Rattle.std.proofs.Common.{arith, ap, length, ◌+◌}
-use Rattle.report_form.specs.ReportText.{bid_text}
-use Rattle.hull_report.specs.RecordReport.{line_of, lines_from, bid_names}
-use Rattle.hull_report.proofs.RecordLines.{bid_stands, bid_lines}
-use Rattle.hull_report.proofs.RecordTexts.{all_items, gains_at_item, exit_at_item}
+use Rattle.hull_report.proofs.Common.{arith, ap, length, ◌+◌, bid_text, line_of, lines_from, bid_names}
+use Rattle.hull_report.proofs.Lemmas.{bid_stands, bid_lines, all_items, gains_at_item, exit_at_item}
 use Rattle.hull_report.proofs.record.write_bid_lines.Goals as goal
 
 pub returns-in_err-write_bid-clause-text : goal.returns-in_err-write_bid-clause-text

@@ -1,13 +1,5 @@
-use Rattle.std.proofs.Common.{ap, length, subst, arith, rules}
-use Rattle.std.specs.Int.{w128}
-use Rattle.std.proofs.lemmas.Int.{to_z-of_z}
-use Rattle.std.proofs.lemmas.List.{length-map}
-use Rattle.uc_model.specs.PlainCases.{proposal_of}
-use Rattle.board_history.specs.Calls.{own_rows}
-use Rattle.uc_model.specs.Data.{unit_count}
-use Rattle.hull_io.specs.Edge.{Gains, FallsShort}
-use Rattle.report_form.specs.ReportText.{head_text, rows_text, chosen_text}
-use Rattle.hull_report.proofs.RecordTexts.{first_of_three, second_of_three, last_of_three}
+use Rattle.hull_report.proofs.Common.{ap, length, subst, arith, rules, w128, to_z-of_z, length-map, proposal_of, own_rows, unit_count, Gains, FallsShort, head_text, rows_text, chosen_text}
+use Rattle.hull_report.proofs.Lemmas.{first_of_three, second_of_three, last_of_three}
 use Rattle.hull_report.proofs.record.write_proposals.Goals as goal
 
 pub returns-in_err-write_head : goal.returns-in_err-write_head

@@ -1,8 +1,5 @@
-use Rattle.std.proofs.Common.{arith, ap, length, ◌+◌}
-use Rattle.report_form.specs.ReportText.{renewable_text}
-use Rattle.hull_report.specs.RecordReport.{line_of, lines_from, renewable_names}
-use Rattle.hull_report.proofs.RecordLines.{renewable_stands, renewable_lines}
-use Rattle.hull_report.proofs.RecordTexts.{all_items, gains_at_item, exit_at_item}
+use Rattle.hull_report.proofs.Common.{arith, ap, length, ◌+◌, renewable_text, line_of, lines_from, renewable_names}
+use Rattle.hull_report.proofs.Lemmas.{renewable_stands, renewable_lines, all_items, gains_at_item, exit_at_item}
 use Rattle.hull_report.proofs.record.write_renewable_lines.Goals as goal
 
 pub returns-in_err-write_renewable-clause-text : goal.returns-in_err-write_renewable-clause-text

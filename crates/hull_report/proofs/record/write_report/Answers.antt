@@ -1,9 +1,5 @@
-use Rattle.std.proofs.Common.{ap, subst, rules}
-use Rattle.std.specs.Int.{w128}
-use Rattle.std.proofs.lemmas.Int.{to_z-of_z}
-use Rattle.hull_io.specs.Edge.{Gains, FallsShort, Writes}
-use Rattle.hull_report.proofs.RecordTexts.{first_of_three, second_of_three, last_of_three}
-use Rattle.hull_report.proofs.WholeReports.{front_text, units_text, whole_report}
+use Rattle.hull_report.proofs.Common.{ap, subst, rules, w128, to_z-of_z, Gains, FallsShort, Writes}
+use Rattle.hull_report.proofs.Lemmas.{first_of_three, second_of_three, last_of_three, front_text, units_text, whole_report}
 use Rattle.hull_report.proofs.record.write_report.Goals as goal
 
 pub returns-in_err-write_proposals-clause-text : goal.returns-in_err-write_proposals-clause-text

@@ -1,8 +1,5 @@
-use Rattle.std.proofs.Common.{arith, ap, length}
-use Rattle.report_form.specs.ReportText.{thermal_text}
-use Rattle.hull_report.specs.RecordReport.{line_of, lines_from, thermal_names}
-use Rattle.hull_report.proofs.RecordLines.{thermal_stands, thermal_lines}
-use Rattle.hull_report.proofs.RecordTexts.{all_items, gains_at_item, exit_at_item}
+use Rattle.hull_report.proofs.Common.{arith, ap, length, thermal_text, line_of, lines_from, thermal_names}
+use Rattle.hull_report.proofs.Lemmas.{thermal_stands, thermal_lines, all_items, gains_at_item, exit_at_item}
 use Rattle.hull_report.proofs.record.write_thermal_lines.Goals as goal
 
 pub returns-in_err-write_thermal-clause-text : goal.returns-in_err-write_thermal-clause-text

@@ -1,9 +1,4 @@
-use Rattle.std.proofs.Common.{◌≡◌, length, take}
-use Rattle.std.specs.List.{flat_map}
-use Rattle.hull_io.specs.Edge.{Gains}
-use Rattle.uc_model.specs.PlainUnits.{schedule_of}
-use Rattle.report_form.specs.ReportText.{thermal_text}
-use Rattle.hull_report.specs.RecordReport.{line_of, lines_from, thermal_names}
+use Rattle.hull_report.proofs.Common.{◌≡◌, length, take, flat_map, Gains, schedule_of, thermal_text, line_of, lines_from, thermal_names}
 use Rattle.hull_report.proofs.record.write_thermal_lines.Given as goal
 
 -- the lines before were gained, and the buffer is over the periods of the case

@@ -1,11 +1,5 @@
-use Rattle.std.proofs.Common.{subst, rules, ap, ◌∙◌}
-use Rattle.std.specs.Int.{w128}
-use Rattle.std.proofs.lemmas.Int.{to_z-of_z}
-use Rattle.hull_io.specs.Edge.{Writes}
-use Rattle.uc_model.specs.Data.{Market}
-use Rattle.hull_report.specs.TryText.{try_lines}
-use Rattle.hull_report.proofs.RecordLines.{counts_of}
-use Rattle.hull_report.proofs.WholeReports.{whole_try}
+use Rattle.hull_report.proofs.Common.{subst, rules, ap, ◌∙◌, w128, to_z-of_z, Writes, Market, try_lines}
+use Rattle.hull_report.proofs.Lemmas.{counts_of, whole_try}
 use Rattle.hull_report.proofs.record.write_try.Goals as goal
 
 pub returns : goal.returns

@@ -1,4 +1,4 @@
-use Rattle.hull_report.proofs.RecordTexts.{first_of_three, second_of_three, last_of_three}
+use Rattle.hull_report.proofs.Lemmas.{first_of_three, second_of_three, last_of_three}
 use Rattle.hull_report.proofs.record.write_unit_lines.Goals as goal
 
 pub returns-in_err-write_thermal_lines-clause-text : goal.returns-in_err-write_thermal_lines-clause-text

@@ -1,5 +1,5 @@
-use Rattle.std.proofs.Common.{sym, ◌∙◌, ◌+◌}
-use Rattle.hull_words.proofs.Places.{at_end}
+use Rattle.hull_words.proofs.Common.{sym, ◌∙◌, ◌+◌}
+use Rattle.hull_words.proofs.Lemmas.{at_end}
 use Rattle.hull_words.proofs.reading.read_later.Goals as goal
 
 pub returns-clause-read : goal.returns-clause-read

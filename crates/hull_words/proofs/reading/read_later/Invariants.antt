@@ -1,7 +1,4 @@
-use Rattle.std.proofs.Common.{◌≡◌, ◌+◌, ◌*◌, ◌≤◌, false, drop}
-use Rattle.hull_words.specs.Asked.{Found}
-use Rattle.hull_words.specs.Words.{texts}
-use Rattle.hull_words.specs.Reading.{flag, set_count, found_so_far, nothing, read_from}
+use Rattle.hull_words.proofs.Common.{◌≡◌, ◌+◌, ◌*◌, ◌≤◌, false, drop, Found, texts, flag, set_count, found_so_far, nothing, read_from}
 use Rattle.hull_words.proofs.reading.read_later.Given as goal
 
 abbrev pub invariant-loop-index : goal.invariant-loop-index

@@ -1,10 +1,7 @@
-use Rattle.std.proofs.Common.{sym, drop, ◌+◌}
-use Rattle.std.specs.String.{string_bytes}
+use Rattle.hull_words.proofs.Common.{sym, drop, ◌+◌, string_bytes, texts, found_so_far, set_count}
 use Rattle.std.specs.Option.{option_copied}
-use Rattle.hull_words.specs.Words.{texts}
-use Rattle.hull_words.specs.Reading.{found_so_far, set_count}
 use Rattle.hull_words.proofs.Counts.{word_step-count}
-use Rattle.hull_words.proofs.Places.{texts-drop, past_value, past_word, at_fault, few_more}
+use Rattle.hull_words.proofs.Lemmas.{texts-drop, past_value, past_word, at_fault, few_more}
 use Rattle.hull_words.proofs.reading.read_place.Goals as goal
 
 pub returns-then-is_value-clause-ok : goal.returns-then-is_value-clause-ok

@@ -1,6 +1,6 @@
 use Rattle.std.proofs.lemmas.Result.{err_from_is_err_and}
-use Rattle.hull_words.specs.Reading.{found_so_far}
-use Rattle.hull_words.proofs.Places.{words_of-none, words_of-unknown, words_of-fault, words_of-found}
+use Rattle.hull_words.proofs.Common.{found_so_far}
+use Rattle.hull_words.proofs.Lemmas.{words_of-none, words_of-unknown, words_of-fault, words_of-found}
 use Rattle.hull_words.proofs.reading.read_words.Goals as goal
 
 pub returns-in_default : goal.returns-in_default

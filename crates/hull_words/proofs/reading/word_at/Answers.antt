@@ -1,4 +1,4 @@
-use Rattle.hull_words.proofs.Places.{first_of-texts}
+use Rattle.hull_words.proofs.Lemmas.{first_of-texts}
 use Rattle.hull_words.proofs.reading.word_at.Goals as goal
 
 pub returns-then-index-words : goal.returns-then-index-words

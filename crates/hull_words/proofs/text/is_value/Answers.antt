@@ -1,5 +1,5 @@
-use Rattle.std.proofs.Common.{sym, arith}
-use Rattle.hull_words.proofs.TextLemmas.{can_be_value-first, can_be_value-empty}
+use Rattle.hull_words.proofs.Common.{sym, arith}
+use Rattle.hull_words.proofs.Lemmas.{can_be_value-first, can_be_value-empty}
 use Rattle.hull_words.proofs.text.is_value.Goals as goal
 
 pub returns-in-empty : goal.returns-in-empty

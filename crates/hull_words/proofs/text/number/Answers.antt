@@ -1,5 +1,5 @@
-use Rattle.std.proofs.Common.{sym, arith, inl, inr}
-use Rattle.hull_words.proofs.TextLemmas.{number_in-long, number_in-other, number_in-below, number_in-above, number_in-within, parsed, not_parsed}
+use Rattle.hull_words.proofs.Common.{sym, arith, inl, inr}
+use Rattle.hull_words.proofs.Lemmas.{number_in-long, number_in-other, number_in-below, number_in-above, number_in-within, parsed, not_parsed}
 use Rattle.hull_words.proofs.text.number.Goals as goal
 use Rattle.hull_words.proofs.text.number.Goals.{then-text-gt20-via-then-text-gt20, then-text-gt20-via-else-text-gt20+then-not-is_digits}
 

@@ -1,7 +1,6 @@
-use Rattle.std.proofs.Common.{sym, lit<}
+use Rattle.hull_words.proofs.Common.{sym, lit<, Some, None}
 use Rattle.std.proofs.lemmas.Str.Pattern.{split_once_first}
-use Rattle.std.specs.Prelude.{Some, None}
-use Rattle.hull_words.proofs.TextLemmas.{is_option-false, stripped, name-before, name-whole, value-behind, value-none}
+use Rattle.hull_words.proofs.Lemmas.{is_option-false, stripped, name-before, name-whole, value-behind, value-none}
 use Rattle.hull_words.proofs.text.option_parts.Goals as goal
 
 pub returns-in_err-text-clause-option : goal.returns-in_err-text-clause-option

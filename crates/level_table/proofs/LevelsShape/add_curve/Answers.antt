@@ -1,13 +1,5 @@
-use Rattle.std.proofs.Common.{rules, ◌≡◌, ℕ, ◌<◌, length, arith, ap, to_z, of_z, get_or, ◌++◌, List, take, drop, Option, Some}
-use Rattle.std.specs.Prelude.{ℤ, pos, ◌+ℤ◌}
-use Rattle.std.specs.Int.{w64}
-use Rattle.std.proofs.lemmas.Int.{to_z-of_z}
-use Rattle.std.proofs.lemmas.List.{take_at}
-use Rattle.shape_law.specs.Curve.{curve_value}
-use Rattle.shape_law.specs.Effect.{IsCurveSum}
-use Rattle.shape_law.specs.Lookup.{value-from_index}
-use Rattle.level_table.specs.Values.{table, within_limits}
-use Rattle.level_table.proofs.ValueLaws.{AreWithin-from_limits, added_at}
+use Rattle.level_table.proofs.Common.{rules, ◌≡◌, ℕ, ◌<◌, length, arith, ap, to_z, of_z, get_or, ◌++◌, List, take, drop, Option, Some, ℤ, pos, ◌+ℤ◌, w64, to_z-of_z, take_at, curve_value, IsCurveSum, value-from_index, table, within_limits}
+use Rattle.level_table.proofs.Lemmas.{AreWithin-from_limits, added_at}
 use Rattle.level_table.proofs.LevelsShape.add_curve.Goals as goal
 use Rattle.level_table.proofs.LevelsShape.add_curve.Goals.{After-add_term}
 

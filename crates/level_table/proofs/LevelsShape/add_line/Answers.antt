@@ -1,12 +1,5 @@
-use Rattle.std.proofs.Common.{rules, ◌≡◌, ℕ, ◌<◌, length, arith, ap, to_z, of_z, get_or, ◌++◌, List, take, drop, Option, Some, refl}
-use Rattle.std.specs.Prelude.{ℤ, pos, ◌+ℤ◌, ◌*ℤ◌}
-use Rattle.std.specs.Int.{w64}
-use Rattle.std.proofs.lemmas.Int.{to_z-of_z}
-use Rattle.std.proofs.lemmas.List.{take_at}
-use Rattle.shape_law.specs.Effect.{IsSum}
-use Rattle.shape_law.specs.Lookup.{value-from_index}
-use Rattle.level_table.specs.Values.{table, within_limits}
-use Rattle.level_table.proofs.ValueLaws.{AreWithin-from_limits, IsSum-from_index}
+use Rattle.level_table.proofs.Common.{rules, ◌≡◌, ℕ, ◌<◌, length, arith, ap, to_z, of_z, get_or, ◌++◌, List, take, drop, Option, Some, refl, ℤ, pos, ◌+ℤ◌, ◌*ℤ◌, w64, to_z-of_z, take_at, IsSum, value-from_index, table, within_limits}
+use Rattle.level_table.proofs.Lemmas.{AreWithin-from_limits, IsSum-from_index}
 use Rattle.level_table.proofs.LevelsShape.add_line.Goals as goal
 use Rattle.level_table.proofs.LevelsShape.add_line.Goals.{After-add_term}
 

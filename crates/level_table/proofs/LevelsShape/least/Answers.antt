@@ -1,8 +1,5 @@
-use Rattle.std.proofs.Common.{rules, ◌≡◌, length, arith, to_z, of_z, vec_len}
-use Rattle.std.specs.Prelude.{pos, ◌+ℤ◌, FitsSigned}
-use Rattle.std.specs.Int.{w64}
-use Rattle.std.proofs.lemmas.Int.{ints, to_z-of_z}
-use Rattle.level_table.proofs.LeastLaws.{IsLeast-from_list}
+use Rattle.level_table.proofs.Common.{rules, ◌≡◌, length, arith, to_z, of_z, vec_len, pos, ◌+ℤ◌, FitsSigned, w64, ints, to_z-of_z}
+use Rattle.level_table.proofs.Lemmas.{IsLeast-from_list}
 use Rattle.level_table.proofs.LevelsShape.least.Goals as goal
 
 pub returns : goal.returns

@@ -1,8 +1,4 @@
-use Rattle.std.proofs.Common.{rules, ◌≡◌, ◌∙◌, Some, refl, arith, to_z, of_z}
-use Rattle.std.specs.Prelude.{◌*ℤ◌, FitsSigned}
-use Rattle.std.specs.Int.{w64}
-use Rattle.std.proofs.lemmas.Int.{ints, to_z-of_z}
-use Rattle.shape_law.specs.Lookup.{same_some}
+use Rattle.level_table.proofs.Common.{rules, ◌≡◌, ◌∙◌, Some, refl, arith, to_z, of_z, ◌*ℤ◌, FitsSigned, w64, ints, to_z-of_z, same_some}
 use Rattle.level_table.proofs.LineTerm.plus.Goals as goal
 
 pub along-requires-clause-after : goal.along-requires-clause-after

@@ -1,9 +1,4 @@
-use Rattle.std.proofs.Common.{◌≡◌, Some, refl, arith, to_z, of_z}
-use Rattle.std.specs.Prelude.{◌+ℤ◌}
-use Rattle.std.specs.Int.{w64}
-use Rattle.std.proofs.lemmas.Int.{ints}
-use Rattle.shape_law.specs.Curve.{curve_value}
-use Rattle.shape_law.specs.Lookup.{same_some}
+use Rattle.level_table.proofs.Common.{◌≡◌, Some, refl, arith, to_z, of_z, ◌+ℤ◌, w64, ints, curve_value, same_some}
 use Rattle.level_table.proofs.MovedTerm.plus.Goals as goal
 use Rattle.level_table.proofs.MovedTerm.plus.Goals.{After-curve_at}
 

@@ -1,8 +1,4 @@
-use Rattle.std.proofs.Common.{rules, ◌≡◌, ◌∙◌, Some, refl, arith, to_z, of_z}
-use Rattle.std.specs.Prelude.{ℤ, neg_ℤ, ◌+ℤ◌, ◌-ℤ◌, ◌*ℤ◌, FitsSigned}
-use Rattle.std.specs.Int.{w64, int_min}
-use Rattle.std.proofs.lemmas.Int.{ints, to_z-of_z}
-use Rattle.shape_law.specs.Lookup.{same_some}
+use Rattle.level_table.proofs.Common.{rules, ◌≡◌, ◌∙◌, Some, refl, arith, to_z, of_z, ℤ, neg_ℤ, ◌+ℤ◌, ◌-ℤ◌, ◌*ℤ◌, FitsSigned, w64, int_min, ints, to_z-of_z, same_some}
 use Rattle.level_table.proofs.ReserveTerm.plus.Goals as goal
 use Rattle.level_table.proofs.ReserveTerm.plus.Goals.{After-min}
 

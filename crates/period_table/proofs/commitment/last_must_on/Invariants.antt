@@ -1,6 +1,4 @@
-use Rattle.std.proofs.Common.{◌≡◌, ℕ, ◌<◌, ◌≤◌}
-use Rattle.uc_model.specs.declared.units.Mark.TheVariants.{MustOn}
-use Rattle.uc_model.specs.Schedules.{mark_in}
+use Rattle.period_table.proofs.Common.{◌≡◌, ℕ, ◌<◌, ◌≤◌, MustOn, mark_in}
 use Rattle.period_table.proofs.commitment.last_must_on.Given as goal
 
 abbrev pub invariant-loop-place : goal.invariant-loop-place

@@ -1,5 +1,4 @@
-use Rattle.std.proofs.Common.{◌-◌, Some, ap, arith}
-use Rattle.uc_model.specs.PlainUnits.{thermal_of}
+use Rattle.period_table.proofs.Common.{◌-◌, Some, ap, arith, thermal_of}
 use Rattle.period_table.proofs.RipeLaws.{spell_ripe, none_before}
 use Rattle.period_table.proofs.commitment.ripened.Goals as goal
 

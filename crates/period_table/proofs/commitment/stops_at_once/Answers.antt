@@ -1,7 +1,4 @@
-use Rattle.std.proofs.Common.{rules, ◌≡◌, false, ℤ, ◌+ℤ◌, ◌<ℤ◌, ◌≤ℤ◌, arith}
-use Rattle.std.proofs.lemmas.Int.{ints, to_z-of_z}
-use Rattle.std.specs.Prelude.{FitsSigned, int_lt, int_le, IsTrue}
-use Rattle.std.specs.Int.{w64}
+use Rattle.period_table.proofs.Common.{rules, ◌≡◌, false, ℤ, ◌+ℤ◌, ◌<ℤ◌, ◌≤ℤ◌, arith, ints, to_z-of_z, FitsSigned, int_lt, int_le, IsTrue, w64}
 use Rattle.period_table.proofs.commitment.stops_at_once.Goals as goal
 
 not_above : (a b : ℤ) → int_lt a b ≡ false → b ≤ℤ a

@@ -1,4 +1,4 @@
-use Rattle.period_table.proofs.BeginLaws.{at_once_some, at_once_none}
+use Rattle.period_table.proofs.Lemmas.{at_once_some, at_once_none}
 use Rattle.period_table.proofs.laws.stops_at_once_cost_nothing.Goals as goal
 
 pub returns : goal.returns

@@ -1,5 +1,5 @@
-use Rattle.std.proofs.Common.{◌<◌, length, ◌∙◌, arith}
-use Rattle.period_table.proofs.NoteLaws.{passed_here, passed_other}
+use Rattle.period_table.proofs.Common.{◌<◌, length, ◌∙◌, arith}
+use Rattle.period_table.proofs.Lemmas.{passed_here, passed_other}
 use Rattle.period_table.proofs.notes.leave_at.Goals as goal
 
 pub returns-clause-here : goal.returns-clause-here

@@ -1,6 +1,5 @@
-use Rattle.std.proofs.Common.{length, ap, ◌∙◌, arith, length-append}
-use Rattle.spell_run.specs.Notes.{passed_at}
-use Rattle.period_table.proofs.NoteLaws.{passed_append}
+use Rattle.period_table.proofs.Common.{length, ap, ◌∙◌, arith, length-append, passed_at}
+use Rattle.period_table.proofs.Lemmas.{passed_append}
 use Rattle.period_table.proofs.notes.lengthen.Goals as goal
 
 pub loop-preserved : goal.loop-preserved

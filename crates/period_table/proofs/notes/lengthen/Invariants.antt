@@ -1,5 +1,4 @@
-use Rattle.std.proofs.Common.{◌≡◌, ℕ, ◌+◌, length}
-use Rattle.spell_run.specs.Notes.{passed_at}
+use Rattle.period_table.proofs.Common.{◌≡◌, ℕ, ◌+◌, length, passed_at}
 use Rattle.period_table.proofs.notes.lengthen.Given as goal
 
 abbrev pub invariant-loop : goal.invariant-loop

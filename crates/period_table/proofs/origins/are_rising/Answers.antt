@@ -1,5 +1,5 @@
-use Rattle.std.proofs.Common.{arith}
-use Rattle.period_table.proofs.StartCosts.{start_cost-rises}
+use Rattle.period_table.proofs.Common.{arith}
+use Rattle.period_table.proofs.Lemmas.{start_cost-rises}
 use Rattle.period_table.proofs.origins.are_rising.Goals as goal
 
 pub returns : goal.returns

@@ -1,6 +1,4 @@
-use Rattle.std.proofs.Common.{ℕ, suc, ◌<◌, ◌≤ℤ◌}
-use Rattle.std.specs.Prelude.{slice_index_or}
-use Rattle.uc_model.specs.declared.units.Lag.{Lag}
+use Rattle.period_table.proofs.Common.{ℕ, suc, ◌<◌, ◌≤ℤ◌, slice_index_or, Lag}
 use Rattle.period_table.proofs.origins.are_rising.Given as goal
 
 abbrev pub invariant-loop-place : goal.invariant-loop-place

@@ -1,5 +1,4 @@
-use Rattle.uc_model.specs.PlainUnits.{thermal_of}
-use Rattle.period_table.specs.Rows.{cost_at}
+use Rattle.period_table.proofs.Common.{thermal_of, cost_at}
 use Rattle.period_table.proofs.RowByRowLaws.{table_begun}
 use Rattle.period_table.proofs.periods.begin_all.Goals as goal
 

@@ -1,15 +1,5 @@
-use Rattle.std.proofs.Common.{◌≡◌, ℕ, suc, ◌+◌, List, Option, length, sym, ◌∙◌, subst, arith}
-use Rattle.uc_model.specs.PlainUnits.{thermal_of, prices_of}
-use Rattle.period_table.specs.declared.table.Ended.{Ended}
-use Rattle.uc_model.specs.Sums.{int_at}
-use Rattle.period_table.specs.Live.{live_at, left_at, AreRoomy, IsFilledTo}
-use Rattle.period_table.specs.Origins.{AreOrigins}
-use Rattle.period_table.specs.Rosters.{IsRoster}
-use Rattle.period_table.specs.Rows.{cost_at, first_at}
-use Rattle.period_table.specs.Runners.{HaveWays}
-use Rattle.period_table.proofs.OriginLaws.{origins_to}
-use Rattle.period_table.proofs.PeriodLaws.{filled_whole}
-use Rattle.period_table.proofs.RowLaws.{cost-same}
+use Rattle.period_table.proofs.Common.{◌≡◌, ℕ, suc, ◌+◌, List, Option, length, sym, ◌∙◌, subst, arith, thermal_of, prices_of, Ended, int_at, live_at, left_at, AreRoomy, IsFilledTo, AreOrigins, IsRoster, cost_at, first_at, HaveWays}
+use Rattle.period_table.proofs.Lemmas.{origins_to, filled_whole, cost-same}
 use Rattle.period_table.proofs.periods.fill_by_periods.Goals as goal
 
 pub loop-place-init : goal.loop-place-init

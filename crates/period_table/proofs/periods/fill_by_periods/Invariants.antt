@@ -1,11 +1,4 @@
-use Rattle.std.proofs.Common.{◌≡◌, ℕ, suc, ◌+◌, length}
-use Rattle.uc_model.specs.PlainUnits.{thermal_of, prices_of}
-use Rattle.uc_model.specs.Sums.{int_at}
-use Rattle.period_table.specs.Live.{live_at, left_at, AreRoomy, HaveRoom, IsFilledTo}
-use Rattle.period_table.specs.Origins.{AreOrigins}
-use Rattle.period_table.specs.Rosters.{IsRoster}
-use Rattle.period_table.specs.Rows.{cost_at, first_at}
-use Rattle.period_table.specs.Runners.{HaveWays}
+use Rattle.period_table.proofs.Common.{◌≡◌, ℕ, suc, ◌+◌, length, thermal_of, prices_of, int_at, live_at, left_at, AreRoomy, HaveRoom, IsFilledTo, AreOrigins, IsRoster, cost_at, first_at, HaveWays}
 use Rattle.period_table.proofs.periods.fill_by_periods.Given as goal
 
 abbrev pub invariant-loop-place : goal.invariant-loop-place

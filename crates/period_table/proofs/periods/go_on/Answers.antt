@@ -1,10 +1,5 @@
-use Rattle.std.proofs.Common.{◌+◌, ℕ, List, length, refl, ap, ◌∙◌, arith, length-set}
-use Rattle.uc_model.specs.PlainUnits.{thermal_of}
-use Rattle.period_table.specs.Live.{live_at}
-use Rattle.period_table.proofs.LiveLaws.{roomy_begun, written_keeps, written_left}
-use Rattle.period_table.proofs.RosterLaws.{none_listed, begun_listed}
-use Rattle.period_table.proofs.RunAllLaws.{item_at}
-use Rattle.period_table.proofs.StartLaws.{none_goes_on, one_goes_on}
+use Rattle.period_table.proofs.Common.{◌+◌, ℕ, List, length, refl, ap, ◌∙◌, arith, length-set, thermal_of, live_at}
+use Rattle.period_table.proofs.Lemmas.{roomy_begun, written_keeps, written_left, none_listed, begun_listed, item_at, none_goes_on, one_goes_on}
 use Rattle.period_table.proofs.periods.go_on.Goals as goal
 
 pub returns-then-unit-clause-stands : goal.returns-then-unit-clause-stands

@@ -1,11 +1,5 @@
-use Rattle.std.proofs.Common.{rules, suc, sym, ◌∙◌, arith}
-use Rattle.std.specs.Prelude.{FitsSigned}
-use Rattle.std.specs.Int.{w64}
-use Rattle.std.proofs.lemmas.Int.{to_z-of_z}
-use Rattle.uc_model.specs.PlainUnits.{thermal_of}
-use Rattle.period_table.specs.Live.{live_at}
-use Rattle.period_table.proofs.RosterLaws.{still_listed}
-use Rattle.period_table.proofs.StandInLaws.{none_starts}
+use Rattle.period_table.proofs.Common.{rules, suc, sym, ◌∙◌, arith, FitsSigned, w64, to_z-of_z, thermal_of, live_at}
+use Rattle.period_table.proofs.Lemmas.{still_listed, none_starts}
 use Rattle.period_table.proofs.periods.start.Goals as goal
 
 pub returns-in-Some-clause-stands : goal.returns-in-Some-clause-stands

@@ -1,15 +1,5 @@
-use Rattle.std.proofs.Common.{rules, ◌≡◌, ℕ, suc, ◌+◌, ◌<◌, pos, ◌+ℤ◌, ◌≤ℤ◌, Some, List, length, refl, ap, ◌∙◌, arith, length-set}
-use Rattle.std.specs.Prelude.{FitsSigned}
-use Rattle.std.specs.Int.{w64}
-use Rattle.std.proofs.lemmas.Int.{ints, to_z-of_z}
-use Rattle.uc_model.specs.PlainUnits.{thermal_of}
-use Rattle.period_table.specs.Live.{live_at, IsUnder}
-use Rattle.period_table.specs.Runners.{Going}
-use Rattle.period_table.proofs.LiveLaws.{roomy_begun, written_keeps, written_left}
-use Rattle.period_table.proofs.RosterLaws.{still_listed, begun_listed}
-use Rattle.period_table.proofs.RunAllLaws.{item_at}
-use Rattle.period_table.proofs.StandInLaws.{start_undercut, start_beyond}
-use Rattle.period_table.proofs.StartLaws.{started}
+use Rattle.period_table.proofs.Common.{rules, ◌≡◌, ℕ, suc, ◌+◌, ◌<◌, pos, ◌+ℤ◌, ◌≤ℤ◌, Some, List, length, refl, ap, ◌∙◌, arith, length-set, FitsSigned, w64, ints, to_z-of_z, thermal_of, live_at, IsUnder, Going}
+use Rattle.period_table.proofs.Lemmas.{roomy_begun, written_keeps, written_left, still_listed, begun_listed, item_at, start_undercut, start_beyond, started}
 use Rattle.period_table.proofs.periods.start_after.Goals as goal
 
 pub returns-then-is_undercut-clause-stands : goal.returns-then-is_undercut-clause-stands

@@ -1,19 +1,5 @@
-use Rattle.std.proofs.Common.{rules, ◌≡◌, ℕ, suc, ◌+◌, pos, length, sym, ◌∙◌, subst, arith, to_z, of_z}
-use Rattle.std.specs.Prelude.{FitsSigned}
-use Rattle.std.specs.Int.{w64}
-use Rattle.std.proofs.lemmas.Int.{to_z-of_z}
-use Rattle.std.proofs.lemmas.Option.{get_or_from_slice_get}
-use Rattle.uc_model.specs.PlainUnits.{thermal_of, prices_of}
-use Rattle.uc_model.specs.Sums.{int_at}
-use Rattle.period_table.specs.Live.{live_at, left_at}
-use Rattle.period_table.specs.Rows.{cost_at, first_at}
-use Rattle.period_table.specs.Runners.{AreRunners}
-use Rattle.period_table.proofs.LiveLaws.{small_of, have_room}
-use Rattle.period_table.proofs.OriginLaws.{origins_within}
-use Rattle.period_table.proofs.PeriodLaws.{period_off, period_run, period_filled}
-use Rattle.period_table.proofs.RosterLaws.{none_listed, still_listed}
-use Rattle.period_table.proofs.RowLaws.{cost-same, first-same}
-use Rattle.period_table.proofs.WaysLaws.{left_live, ways_same, ways_none, ways_more}
+use Rattle.period_table.proofs.Common.{rules, ◌≡◌, ℕ, suc, ◌+◌, pos, length, sym, ◌∙◌, subst, arith, to_z, of_z, FitsSigned, w64, to_z-of_z, get_or_from_slice_get, thermal_of, prices_of, int_at, live_at, left_at, cost_at, first_at, AreRunners}
+use Rattle.period_table.proofs.Lemmas.{small_of, have_room, origins_within, period_off, period_run, period_filled, none_listed, still_listed, cost-same, first-same, left_live, ways_same, ways_none, ways_more}
 use Rattle.period_table.proofs.periods.take_period.Goals as goal
 
 pub returns-then-is_must_off-clause-filled : goal.returns-then-is_must_off-clause-filled

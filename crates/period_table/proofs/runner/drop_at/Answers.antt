@@ -1,12 +1,5 @@
-use Rattle.std.proofs.Common.{◌+◌, rules, inl, inr, true, get_or, length, refl, ap, ◌∙◌, arith}
-use Rattle.std.specs.Prelude.{FitsSigned}
-use Rattle.std.specs.Int.{w64}
-use Rattle.std.proofs.lemmas.Bool.{OnTrue_at, cases_eq}
-use Rattle.std.proofs.lemmas.Int.{ints, to_z-of_z}
-use Rattle.period_table.specs.Live.{live_at, IsBeyond}
-use Rattle.period_table.proofs.LiveLaws.{live_here, live_other, going_off, small_stopped, roomy_stopped, written_keeps, written_left}
-use Rattle.period_table.proofs.RunAllLaws.{item_at, item_same, item_live}
-use Rattle.period_table.proofs.StandInLaws.{beyond_goes}
+use Rattle.period_table.proofs.Common.{◌+◌, rules, inl, inr, true, get_or, length, refl, ap, ◌∙◌, arith, FitsSigned, w64, OnTrue_at, cases_eq, ints, to_z-of_z, live_at, IsBeyond}
+use Rattle.period_table.proofs.Lemmas.{live_here, live_other, going_off, small_stopped, roomy_stopped, written_keeps, written_left, item_at, item_same, item_live, beyond_goes}
 use Rattle.period_table.proofs.runner.drop_at.Goals as goal
 
 pub is_beyond-requires-clause-bound : goal.is_beyond-requires-clause-bound

@@ -1,4 +1,4 @@
-use Rattle.std.proofs.Common.{◌∙◌, arith}
+use Rattle.period_table.proofs.Common.{◌∙◌, arith}
 use Rattle.period_table.proofs.runner.drop_beyond.Goals as goal
 
 pub drop_at-requires-clause-end : goal.drop_at-requires-clause-end

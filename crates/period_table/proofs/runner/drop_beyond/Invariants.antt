@@ -1,7 +1,4 @@
-use Rattle.std.proofs.Common.{◌≡◌, ℕ, ℤ, Option, None, length}
-use Rattle.uc_model.specs.Data.{ThermalUnit, PriceLists}
-use Rattle.period_table.specs.Live.{live_at, left_at, AreRoomy, AreSmall, HaveRoom}
-use Rattle.period_table.specs.Runners.{AreRunners}
+use Rattle.period_table.proofs.Common.{◌≡◌, ℕ, ℤ, Option, None, length, ThermalUnit, PriceLists, live_at, left_at, AreRoomy, AreSmall, HaveRoom, AreRunners}
 use Rattle.period_table.proofs.runner.drop_beyond.Given as goal
 
 abbrev pub invariant-loop-place : goal.invariant-loop-place

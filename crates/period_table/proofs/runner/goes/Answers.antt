@@ -1,10 +1,5 @@
-use Rattle.std.proofs.Common.{rules, ◌≡◌, ◌-ℤ◌, ◌∙◌, to_z, of_z}
-use Rattle.std.specs.Prelude.{FitsSigned}
-use Rattle.std.specs.Int.{w64}
-use Rattle.std.proofs.lemmas.Bool.{OnTrue_at, OnTrue_from}
-use Rattle.std.proofs.lemmas.Int.{to_z-of_z}
-use Rattle.period_table.specs.Live.{IsBelow}
-use Rattle.period_table.proofs.LiveLaws.{below_of}
+use Rattle.period_table.proofs.Common.{rules, ◌≡◌, ◌-ℤ◌, ◌∙◌, to_z, of_z, FitsSigned, w64, OnTrue_at, OnTrue_from, to_z-of_z, IsBelow}
+use Rattle.period_table.proofs.Lemmas.{below_of}
 use Rattle.period_table.proofs.runner.goes.Goals as goal
 
 pub returns-then-is_long_enough-clause-below : goal.returns-then-is_long_enough-clause-below

@@ -1,11 +1,5 @@
-use Rattle.std.proofs.Common.{arith, rules, ℤ, ◌+ℤ◌}
-use Rattle.std.specs.Prelude.{FitsSigned, ◌<ℤ◌, ◌≡◌, Some}
-use Rattle.std.specs.Int.{w64}
-use Rattle.std.proofs.lemmas.Bool.{OnTrue_at, OnTrue_from}
-use Rattle.std.proofs.lemmas.Int.{ints, to_z-of_z}
-use Rattle.period_table.specs.Live.{IsBeyond}
-use Rattle.shape_law.specs.Table.{value_of}
-use Rattle.period_table.proofs.LiveLaws.{beyond_of}
+use Rattle.period_table.proofs.Common.{arith, rules, ℤ, ◌+ℤ◌, FitsSigned, ◌<ℤ◌, ◌≡◌, Some, w64, OnTrue_at, OnTrue_from, ints, to_z-of_z, IsBeyond, value_of}
+use Rattle.period_table.proofs.Lemmas.{beyond_of}
 use Rattle.period_table.proofs.runner.is_beyond.Goals as goal
 
 pub is_above-requires : goal.is_above-requires

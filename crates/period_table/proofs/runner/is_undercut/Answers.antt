@@ -1,9 +1,4 @@
-use Rattle.std.proofs.Common.{rules, ◌≡◌, Some}
-use Rattle.std.specs.Prelude.{FitsSigned}
-use Rattle.std.specs.Int.{w64}
-use Rattle.std.proofs.lemmas.Int.{to_z-of_z}
-use Rattle.period_table.specs.Live.{live_at, IsUnder}
-use Rattle.period_table.specs.Runners.{Going}
+use Rattle.period_table.proofs.Common.{rules, ◌≡◌, Some, FitsSigned, w64, to_z-of_z, live_at, IsUnder, Going}
 use Rattle.period_table.proofs.runner.is_undercut.Goals as goal
 
 pub returns-then-undercuts_from : goal.returns-then-undercuts_from

@@ -1,8 +1,5 @@
-use Rattle.std.proofs.Common.{◌≡◌, ◌+◌, ◌-◌, ◌<◌, ◌≤◌, ℕ, Some, ◌∙◌, arith}
-use Rattle.std.specs.Prelude.{slice_get}
-use Rattle.period_table.specs.Live.{live_at}
-use Rattle.period_table.specs.Runners.{Going}
-use Rattle.period_table.proofs.LiveLaws.{if_some_more}
+use Rattle.period_table.proofs.Common.{◌≡◌, ◌+◌, ◌-◌, ◌<◌, ◌≤◌, ℕ, Some, ◌∙◌, arith, slice_get, live_at, Going}
+use Rattle.period_table.proofs.Lemmas.{if_some_more}
 use Rattle.period_table.proofs.runner.prune.Goals as goal
 
 pub loop-back-preserved : goal.loop-back-preserved

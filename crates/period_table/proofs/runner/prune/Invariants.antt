@@ -1,9 +1,4 @@
-use Rattle.std.proofs.Common.{◌≡◌, ℕ, ◌+◌, ◌<◌, ◌≤◌, ℤ, Option, Some, None, length}
-use Rattle.std.specs.Prelude.{IfSome, slice_get}
-use Rattle.uc_model.specs.Data.{PriceLists}
-use Rattle.uc_model.specs.PlainUnits.{thermal_of}
-use Rattle.period_table.specs.Live.{live_at, left_at, AreRoomy, AreSmall, HaveRoom}
-use Rattle.period_table.specs.Runners.{Going, AreRunners}
+use Rattle.period_table.proofs.Common.{◌≡◌, ℕ, ◌+◌, ◌<◌, ◌≤◌, ℤ, Option, Some, None, length, IfSome, slice_get, PriceLists, thermal_of, live_at, left_at, AreRoomy, AreSmall, HaveRoom, Going, AreRunners}
 use Rattle.period_table.proofs.runner.prune.Given as goal
 
 abbrev pub invariant-loop-back : goal.invariant-loop-back

@@ -1,12 +1,5 @@
-use Rattle.std.proofs.Common.{◌+◌, ◌≡◌, ◌<◌, ◌≤◌, true, get_or, Some, length, refl, ap, ◌∙◌, arith}
-use Rattle.std.proofs.lemmas.Bool.{OnTrue_at}
-use Rattle.uc_model.specs.PlainUnits.{thermal_of}
-use Rattle.period_table.specs.Live.{live_at}
-use Rattle.period_table.specs.Runners.{Going}
-use Rattle.period_table.proofs.LiveLaws.{if_some}
-use Rattle.period_table.proofs.LiveLaws.{live_here, live_other, going_off, small_stopped, roomy_stopped, written_keeps, written_left}
-use Rattle.period_table.proofs.RunAllLaws.{item_at, item_same, item_live, read_live, read_on, on_of}
-use Rattle.period_table.proofs.StandInLaws.{early_goes}
+use Rattle.period_table.proofs.Common.{◌+◌, ◌≡◌, ◌<◌, ◌≤◌, true, get_or, Some, length, refl, ap, ◌∙◌, arith, OnTrue_at, thermal_of, live_at, Going}
+use Rattle.period_table.proofs.Lemmas.{if_some, live_here, live_other, going_off, small_stopped, roomy_stopped, written_keeps, written_left, item_at, item_same, item_live, read_live, read_on, on_of, early_goes}
 use Rattle.period_table.proofs.runner.prune_one.Goals as goal
 
 pub goes-requires-clause-late : goal.goes-requires-clause-late

@@ -1,9 +1,5 @@
-use Rattle.std.proofs.Common.{◌+◌, suc, length, sym, ap, ◌∙◌, arith}
-use Rattle.uc_model.specs.PlainUnits.{thermal_of, prices_of}
-use Rattle.period_table.specs.Live.{going_of}
-use Rattle.period_table.proofs.RosterLaws.{none_run, run_before, one_run, run_whole}
-use Rattle.period_table.proofs.RunAllLaws.{run_begins, all_go, all_off, all_roomy}
-use Rattle.period_table.proofs.StandInLaws.{may_next}
+use Rattle.period_table.proofs.Common.{◌+◌, suc, length, sym, ap, ◌∙◌, arith, thermal_of, prices_of, going_of}
+use Rattle.period_table.proofs.Lemmas.{none_run, run_before, one_run, run_whole, run_begins, all_go, all_off, all_roomy, may_next}
 use Rattle.period_table.proofs.runner.run_all.Goals as goal
 
 pub loop-index-init : goal.loop-index-init

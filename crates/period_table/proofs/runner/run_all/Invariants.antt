@@ -1,6 +1,5 @@
-use Rattle.std.proofs.Common.{suc, ◌+◌, length}
-use Rattle.uc_model.specs.PlainUnits.{thermal_of, prices_of}
-use Rattle.period_table.proofs.RosterLaws.{IsListRun}
+use Rattle.period_table.proofs.Common.{suc, ◌+◌, length, thermal_of, prices_of}
+use Rattle.period_table.proofs.Lemmas.{IsListRun}
 use Rattle.period_table.proofs.runner.run_all.Given as goal
 
 abbrev pub invariant-loop-index : goal.invariant-loop-index

@@ -1,11 +1,5 @@
-use Rattle.std.proofs.Common.{◌≡◌, suc, ◌+◌, inl, inr, true, false, get_or, length, refl, sym, ap, ◌∙◌, subst}
-use Rattle.uc_model.specs.PlainUnits.{thermal_of, prices_of}
-use Rattle.period_table.specs.Live.{going_of, left_of}
-use Rattle.period_table.specs.Rows.{cost_at, first_at, before_at}
-use Rattle.period_table.specs.Runners.{IsEndLeft}
-use Rattle.period_table.proofs.LiveLaws.{get_set_same, get_set_other, written_keeps}
-use Rattle.period_table.proofs.RunAllLaws.{item_at, item_same, item_live, item_off, goes_written, on_of, room_of}
-use Rattle.period_table.proofs.RunnerRowLaws.{row_skip}
+use Rattle.period_table.proofs.Common.{◌≡◌, suc, ◌+◌, inl, inr, true, false, get_or, length, refl, sym, ap, ◌∙◌, subst, thermal_of, prices_of, going_of, left_of, cost_at, first_at, before_at, IsEndLeft}
+use Rattle.period_table.proofs.Lemmas.{get_set_same, get_set_other, written_keeps, item_at, item_same, item_live, item_off, goes_written, on_of, room_of, row_skip}
 use Rattle.period_table.proofs.runner.run_at.Goals as goal
 
 pub take_runner-requires-clause-frontier : goal.take_runner-requires-clause-frontier

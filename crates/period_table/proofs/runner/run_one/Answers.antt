@@ -1,7 +1,5 @@
-use Rattle.std.proofs.Common.{◌≡◌, ℕ, suc, ◌+◌, ◌<◌, ◌≤◌, length, subst, arith}
-use Rattle.uc_model.specs.PlainUnits.{thermal_of}
-use Rattle.period_table.specs.Spells.{on_time}
-use Rattle.period_table.proofs.WaysLaws.{always}
+use Rattle.period_table.proofs.Common.{◌≡◌, ℕ, suc, ◌+◌, ◌<◌, ◌≤◌, length, subst, arith, thermal_of, on_time}
+use Rattle.period_table.proofs.Lemmas.{always}
 use Rattle.period_table.proofs.runner.run_one.Goals as goal
 
 pub returns-then-may_end-clause-may : goal.returns-then-may_end-clause-may

@@ -1,6 +1,5 @@
-use Rattle.std.proofs.Common.{refl, arith, length-set}
-use Rattle.period_table.proofs.LiveLaws.{none_stopped, stopped_more, stopped_off, stopped_roomy, stopped_keeps, stopped_left}
-use Rattle.period_table.proofs.RunAllLaws.{item_at}
+use Rattle.period_table.proofs.Common.{refl, arith, length-set}
+use Rattle.period_table.proofs.Lemmas.{none_stopped, stopped_more, stopped_off, stopped_roomy, stopped_keeps, stopped_left, item_at}
 use Rattle.period_table.proofs.runner.stop_all.Goals as goal
 
 pub loop-place-init : goal.loop-place-init

@@ -1,4 +1,4 @@
-use Rattle.period_table.proofs.LiveLaws.{IsStopped}
+use Rattle.period_table.proofs.Lemmas.{IsStopped}
 use Rattle.period_table.proofs.runner.stop_all.Given as goal
 
 abbrev pub invariant-loop-place : goal.invariant-loop-place

@@ -1,15 +1,5 @@
-use Rattle.std.proofs.Common.{rules, ◌≡◌, ℕ, suc, ◌+◌, ◌-◌, ◌<◌, ◌≤◌, ◌+ℤ◌, ℤ, inl, inr, Some, length, sym, ap, ◌∙◌, subst, arith, to_z, of_z}
-use Rattle.std.specs.Prelude.{FitsSigned, IfSome}
-use Rattle.std.specs.Int.{w64}
-use Rattle.std.proofs.lemmas.Int.{to_z-of_z}
-use Rattle.uc_model.specs.PlainUnits.{thermal_of, prices_of}
-use Rattle.slope_list.specs.declared.slopes.Lowest.{Lowest}
-use Rattle.spell_run.specs.Notes.{passed_at, IsOnNoted}
-use Rattle.period_table.specs.Rows.{IsPut, IsWithinTimes}
-use Rattle.period_table.specs.Spells.{on_time}
-use Rattle.period_table.proofs.LiveLaws.{going_on}
-use Rattle.period_table.proofs.RunnerRowLaws.{row_end}
-use Rattle.period_table.proofs.WaysLaws.{end_some, end_left}
+use Rattle.period_table.proofs.Common.{rules, ◌≡◌, ℕ, suc, ◌+◌, ◌-◌, ◌<◌, ◌≤◌, ◌+ℤ◌, ℤ, inl, inr, Some, length, sym, ap, ◌∙◌, subst, arith, to_z, of_z, FitsSigned, IfSome, w64, to_z-of_z, thermal_of, prices_of, Lowest, passed_at, IsOnNoted, IsPut, IsWithinTimes, on_time}
+use Rattle.period_table.proofs.Lemmas.{going_on, row_end, end_some, end_left}
 use Rattle.period_table.proofs.runner.take_runner.Goals as goal
 
 pub returns-clause-row : goal.returns-clause-row

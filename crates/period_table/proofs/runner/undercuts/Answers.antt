@@ -1,13 +1,5 @@
-use Rattle.std.proofs.Common.{rules, ◌≡◌, pos, ◌+ℤ◌, ◌≤ℤ◌, Some, to_z, of_z}
-use Rattle.std.specs.Prelude.{FitsSigned}
-use Rattle.std.specs.Int.{w64}
-use Rattle.std.proofs.lemmas.Bool.{OnTrue_from}
-use Rattle.std.proofs.lemmas.Int.{to_z-of_z}
-use Rattle.shape_law.specs.Table.{value_of}
-use Rattle.spell_run.specs.Notes.{passed_at}
-use Rattle.period_table.specs.Live.{IsUnder}
-use Rattle.period_table.specs.Rows.{IsWithinTimes}
-use Rattle.period_table.proofs.LiveLaws.{under_of}
+use Rattle.period_table.proofs.Common.{rules, ◌≡◌, pos, ◌+ℤ◌, ◌≤ℤ◌, Some, to_z, of_z, FitsSigned, w64, OnTrue_from, to_z-of_z, value_of, passed_at, IsUnder, IsWithinTimes}
+use Rattle.period_table.proofs.Lemmas.{under_of}
 use Rattle.period_table.proofs.runner.undercuts.Goals as goal
 
 pub sum_of-requires-clause-b : goal.sum_of-requires-clause-b

@@ -1,12 +1,5 @@
-use Rattle.std.proofs.Common.{rules, ◌≡◌, true, Some}
-use Rattle.std.specs.Prelude.{FitsSigned}
-use Rattle.std.specs.Int.{w64}
-use Rattle.std.proofs.lemmas.Bool.{OnTrue_at, OnTrue_from}
-use Rattle.std.proofs.lemmas.Int.{to_z-of_z}
-use Rattle.spell_run.specs.Notes.{passed_at}
-use Rattle.period_table.specs.Live.{live_at, IsUnder}
-use Rattle.period_table.specs.Runners.{Going}
-use Rattle.period_table.proofs.RunAllLaws.{item_same, read_live, on_of}
+use Rattle.period_table.proofs.Common.{rules, ◌≡◌, true, Some, FitsSigned, w64, OnTrue_at, OnTrue_from, to_z-of_z, passed_at, live_at, IsUnder, Going}
+use Rattle.period_table.proofs.Lemmas.{item_same, read_live, on_of}
 use Rattle.period_table.proofs.runner.undercuts_from.Goals as goal
 
 pub undercuts-requires-clause-bound : goal.undercuts-requires-clause-bound

@@ -1,6 +1,5 @@
-use Rattle.std.proofs.Common.{arith}
-use Rattle.uc_model.specs.PlainUnits.{thermal_of}
-use Rattle.period_table.proofs.BeginLaws.{begun, within_first}
+use Rattle.period_table.proofs.Common.{arith, thermal_of}
+use Rattle.period_table.proofs.Lemmas.{begun, within_first}
 use Rattle.period_table.proofs.table.begin_table.Goals as goal
 
 pub returns-clause-first : goal.returns-clause-first

@@ -1,5 +1,4 @@
-use Rattle.std.proofs.Common.{◌≡◌, ℕ, ◌<◌, length, None}
-use Rattle.period_table.specs.Rows.{row_at}
+use Rattle.period_table.proofs.Common.{◌≡◌, ℕ, ◌<◌, length, None, row_at}
 use Rattle.period_table.proofs.table.clear_rows.Given as goal
 
 abbrev pub invariant-loop-place : goal.invariant-loop-place

@@ -1,10 +1,5 @@
-use Rattle.std.proofs.Common.{rules, ◌≡◌, ◌≤ℤ◌, Some, List, Option, ap, ◌∙◌, to_z, of_z}
-use Rattle.std.specs.Prelude.{FitsSigned}
-use Rattle.std.specs.Int.{w64}
-use Rattle.std.proofs.lemmas.Int.{to_z-of_z}
-use Rattle.period_table.specs.declared.table.Ended.{Ended}
-use Rattle.period_table.specs.Rows.{row_at}
-use Rattle.period_table.proofs.RowLaws.{written_added, written_old}
+use Rattle.period_table.proofs.Common.{rules, ◌≡◌, ◌≤ℤ◌, Some, List, Option, ap, ◌∙◌, to_z, of_z, FitsSigned, w64, to_z-of_z, Ended, row_at}
+use Rattle.period_table.proofs.Lemmas.{written_added, written_old}
 use Rattle.period_table.proofs.table.put.Goals as goal
 
 pub returns-then-is_taken-clause-old : goal.returns-then-is_taken-clause-old

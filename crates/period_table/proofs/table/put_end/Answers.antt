@@ -1,9 +1,5 @@
-use Rattle.std.proofs.Common.{rules, ◌≡◌, suc, ◌+◌, ◌-◌, ◌*◌, ◌+ℤ◌, Option, ℤ, sym, ◌∙◌, subst, arith, to_z, of_z}
-use Rattle.std.specs.Prelude.{FitsSigned, IfSome}
-use Rattle.std.specs.Int.{w64}
-use Rattle.std.proofs.lemmas.Int.{ints, to_z-of_z}
-use Rattle.period_table.specs.Rows.{IsWithinTimes, IsPut}
-use Rattle.period_table.proofs.LiveLaws.{if_some}
+use Rattle.period_table.proofs.Common.{rules, ◌≡◌, suc, ◌+◌, ◌-◌, ◌*◌, ◌+ℤ◌, Option, ℤ, sym, ◌∙◌, subst, arith, to_z, of_z, FitsSigned, IfSome, w64, ints, to_z-of_z, IsWithinTimes, IsPut}
+use Rattle.period_table.proofs.Lemmas.{if_some}
 use Rattle.period_table.proofs.table.put_end.Goals as goal
 
 pub put-requires-clause-bound : goal.put-requires-clause-bound

@@ -1,9 +1,5 @@
-use Rattle.std.proofs.Common.{rules, pos, sym, subst, arith}
-use Rattle.std.proofs.lemmas.Int.{ints, to_z-of_z}
-use Rattle.std.specs.Int.{w64}
-use Rattle.std.specs.Prelude.{FitsSigned}
-use Rattle.uc_model.specs.Limits.{IsFrom}
-use Rattle.period_table.proofs.StartCosts.{start_cost-within}
+use Rattle.period_table.proofs.Common.{rules, pos, sym, subst, arith, ints, to_z-of_z, w64, FitsSigned, IsFrom}
+use Rattle.period_table.proofs.Lemmas.{start_cost-within}
 use Rattle.period_table.proofs.table.start_after.Goals as goal
 
 pub returns-clause-bound : goal.returns-clause-bound

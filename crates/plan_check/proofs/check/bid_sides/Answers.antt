@@ -1,8 +1,4 @@
-use Rattle.std.proofs.Common.{sym, subst}
-use Rattle.uc_model.specs.Limits.{IsBlockList}
-use Rattle.uc_model.specs.PlainUnits.{bid_of}
-use Rattle.uc_model.specs.Reserved.{items_in}
-use Rattle.uc_model.proofs.ListLaws.{item_of, map_item}
+use Rattle.plan_check.proofs.Common.{sym, subst, IsBlockList, bid_of, items_in, item_of, map_item}
 use Rattle.plan_check.proofs.check.bid_sides.Goals as goal
 
 limits : (c : goal.After-as_slice) → IsBlockList c.as_slice.result.now

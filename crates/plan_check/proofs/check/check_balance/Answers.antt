@@ -1,9 +1,6 @@
-use Rattle.std.proofs.Common.{rules, ◌<◌, Some, sym, ap, ◌∙◌, arith}
-use Rattle.uc_model.specs.PlainCases.{market_of, schedules_of}
-use Rattle.uc_model.specs.Refusals.{balance_broken}
+use Rattle.plan_check.proofs.Common.{rules, ◌<◌, Some, sym, ap, ◌∙◌, arith, market_of, schedules_of, balance_broken, Balance}
 use Rattle.uc_model.specs.declared.kinds.Kind.TheVariants as kinds
-use Rattle.uc_model.specs.declared.kinds.RuleCode.TheVariants.{Balance}
-use Rattle.plan_check.proofs.ToldLaws.{told_none, told_first}
+use Rattle.plan_check.proofs.Lemmas.{told_none, told_first}
 use Rattle.plan_check.proofs.check.check_balance.Goals as goal
 
 pub returns-in-Some : goal.returns-in-Some

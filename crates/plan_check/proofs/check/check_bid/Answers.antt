@@ -1,9 +1,6 @@
-use Rattle.std.proofs.Common.{rules, ◌<◌, Some, length, sym, ap, ◌∙◌, arith}
-use Rattle.uc_model.specs.PlainUnits.{bid_of, schedule_of}
-use Rattle.uc_model.specs.Refusals.{bid_broken}
+use Rattle.plan_check.proofs.Common.{rules, ◌<◌, Some, length, sym, ap, ◌∙◌, arith, bid_of, schedule_of, bid_broken, BidRange}
 use Rattle.uc_model.specs.declared.kinds.Kind.TheVariants as kinds
-use Rattle.uc_model.specs.declared.kinds.RuleCode.TheVariants.{BidRange}
-use Rattle.plan_check.proofs.ToldLaws.{told_none, told_first}
+use Rattle.plan_check.proofs.Lemmas.{told_none, told_first}
 use Rattle.plan_check.proofs.check.check_bid.Goals as goal
 
 pub returns-in-Some : goal.returns-in-Some

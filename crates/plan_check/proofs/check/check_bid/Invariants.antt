@@ -1,6 +1,4 @@
-use Rattle.std.proofs.Common.{◌≡◌, ℕ, ◌<◌, None}
-use Rattle.uc_model.specs.PlainUnits.{bid_of, schedule_of}
-use Rattle.uc_model.specs.Refusals.{bid_broken}
+use Rattle.plan_check.proofs.Common.{◌≡◌, ℕ, ◌<◌, None, bid_of, schedule_of, bid_broken}
 use Rattle.plan_check.proofs.check.check_bid.Given as goal
 
 abbrev pub invariant-loop-place : goal.invariant-loop-place

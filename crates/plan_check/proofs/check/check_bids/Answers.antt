@@ -1,17 +1,6 @@
-use Rattle.std.proofs.Common.{◌≡◌, ℕ, ◌+◌, Some, map, length, drop, sym, ap, ◌∙◌, arith}
-use Rattle.std.proofs.lemmas.List.{length-map}
-use Rattle.std.proofs.lemmas.Result.{err_from_is_err_and}
-use Rattle.std.specs.Prelude.{slice_get}
+use Rattle.plan_check.proofs.Common.{◌≡◌, ℕ, ◌+◌, Some, map, length, drop, sym, ap, ◌∙◌, arith, length-map, err_from_is_err_and, slice_get, BidRange, Schedule, NamedBidUnit, IsBidUnit, schedules_of, bid_of, schedule_of, named_thermal_of, named_renewable_of, named_bid_of, told, bid_broken, item_of, map_item, drop_item}
 use Rattle.uc_model.specs.declared.kinds.Kind.TheVariants as kinds
-use Rattle.uc_model.specs.declared.kinds.RuleCode.TheVariants.{BidRange}
-use Rattle.uc_model.specs.Data.{Schedule, NamedBidUnit}
-use Rattle.uc_model.specs.Limits.{IsBidUnit}
-use Rattle.uc_model.specs.PlainCases.{schedules_of}
-use Rattle.uc_model.specs.PlainUnits.{bid_of, schedule_of, named_thermal_of, named_renewable_of, named_bid_of}
-use Rattle.uc_model.specs.Refusals.{told, bid_broken}
-use Rattle.uc_model.proofs.ListLaws.{item_of, map_item, drop_item}
-use Rattle.plan_check.proofs.FindLaws.{over_units_first, over_units_none, NoneBefore-more, all_bids_is}
-use Rattle.plan_check.proofs.PlanLaws.{HasLengths}
+use Rattle.plan_check.proofs.Lemmas.{over_units_first, over_units_none, NoneBefore-more, all_bids_is, HasLengths}
 use Rattle.plan_check.proofs.check.check_bids.Goals as goal
 use Rattle.plan_check.proofs.check.check_bids.Goals.{After-get-response}
 

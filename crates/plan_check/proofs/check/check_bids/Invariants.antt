@@ -1,9 +1,6 @@
-use Rattle.std.proofs.Common.{◌+◌, length, drop}
-use Rattle.uc_model.specs.PlainCases.{market_of, schedules_of}
-use Rattle.uc_model.specs.Refusals.{told, bid_broken}
+use Rattle.plan_check.proofs.Common.{◌+◌, length, drop, market_of, schedules_of, told, bid_broken, BidRange}
 use Rattle.uc_model.specs.declared.kinds.Kind.TheVariants as kinds
-use Rattle.uc_model.specs.declared.kinds.RuleCode.TheVariants.{BidRange}
-use Rattle.plan_check.proofs.FindLaws.{NoneBefore}
+use Rattle.plan_check.proofs.Lemmas.{NoneBefore}
 use Rattle.plan_check.proofs.check.check_bids.Given as goal
 
 abbrev pub invariant-loop-place : goal.invariant-loop-place

@@ -1,10 +1,5 @@
-use Rattle.std.proofs.Common.{is_ok, refl, sym, ap, ◌∙◌}
-use Rattle.std.proofs.lemmas.Result.{err_from_is_err_and}
-use Rattle.uc_model.specs.PlainCases.{market_of, schedules_of}
-use Rattle.uc_model.specs.Refusals.{refusals}
-use Rattle.plan_check.proofs.PlanLaws.{refusals_are_exact}
-use Rattle.plan_check.proofs.RunLaws.{false_true}
-use Rattle.plan_check.proofs.ToldLaws.{some_first}
+use Rattle.plan_check.proofs.Common.{is_ok, refl, sym, ap, ◌∙◌, err_from_is_err_and, market_of, schedules_of, refusals}
+use Rattle.plan_check.proofs.Lemmas.{refusals_are_exact, false_true, some_first}
 use Rattle.plan_check.proofs.check.check_plan.Goals as goal
 
 pub cost_of_plan-requires-clause-feasible : goal.cost_of_plan-requires-clause-feasible

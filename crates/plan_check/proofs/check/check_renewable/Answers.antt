@@ -1,9 +1,6 @@
-use Rattle.std.proofs.Common.{rules, ◌<◌, Some, length, sym, ap, ◌∙◌, arith}
-use Rattle.uc_model.specs.PlainUnits.{renewable_of, schedule_of}
-use Rattle.uc_model.specs.Refusals.{renewable_broken}
+use Rattle.plan_check.proofs.Common.{rules, ◌<◌, Some, length, sym, ap, ◌∙◌, arith, renewable_of, schedule_of, renewable_broken, RenewableRange}
 use Rattle.uc_model.specs.declared.kinds.Kind.TheVariants as kinds
-use Rattle.uc_model.specs.declared.kinds.RuleCode.TheVariants.{RenewableRange}
-use Rattle.plan_check.proofs.ToldLaws.{told_none, told_first}
+use Rattle.plan_check.proofs.Lemmas.{told_none, told_first}
 use Rattle.plan_check.proofs.check.check_renewable.Goals as goal
 
 pub returns-in-Some : goal.returns-in-Some

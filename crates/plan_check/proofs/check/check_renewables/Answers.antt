@@ -1,17 +1,6 @@
-use Rattle.std.proofs.Common.{◌≡◌, ℕ, ◌+◌, Some, map, length, drop, sym, ap, ◌∙◌, arith}
-use Rattle.std.proofs.lemmas.List.{length-map}
-use Rattle.std.proofs.lemmas.Result.{err_from_is_err_and}
-use Rattle.std.specs.Prelude.{slice_get}
+use Rattle.plan_check.proofs.Common.{◌≡◌, ℕ, ◌+◌, Some, map, length, drop, sym, ap, ◌∙◌, arith, length-map, err_from_is_err_and, slice_get, RenewableRange, Schedule, NamedRenewableUnit, IsRenewableUnit, schedules_of, renewable_of, schedule_of, named_thermal_of, named_renewable_of, told, renewable_broken, item_of, map_item, drop_item}
 use Rattle.uc_model.specs.declared.kinds.Kind.TheVariants as kinds
-use Rattle.uc_model.specs.declared.kinds.RuleCode.TheVariants.{RenewableRange}
-use Rattle.uc_model.specs.Data.{Schedule, NamedRenewableUnit}
-use Rattle.uc_model.specs.Limits.{IsRenewableUnit}
-use Rattle.uc_model.specs.PlainCases.{schedules_of}
-use Rattle.uc_model.specs.PlainUnits.{renewable_of, schedule_of, named_thermal_of, named_renewable_of}
-use Rattle.uc_model.specs.Refusals.{told, renewable_broken}
-use Rattle.uc_model.proofs.ListLaws.{item_of, map_item, drop_item}
-use Rattle.plan_check.proofs.FindLaws.{over_units_first, over_units_none, NoneBefore-more, all_renewable_is}
-use Rattle.plan_check.proofs.PlanLaws.{HasLengths}
+use Rattle.plan_check.proofs.Lemmas.{over_units_first, over_units_none, NoneBefore-more, all_renewable_is, HasLengths}
 use Rattle.plan_check.proofs.check.check_renewables.Goals as goal
 use Rattle.plan_check.proofs.check.check_renewables.Goals.{After-get-response}
 

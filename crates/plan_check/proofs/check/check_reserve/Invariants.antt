@@ -1,6 +1,4 @@
-use Rattle.std.proofs.Common.{◌≡◌, ℕ, ◌<◌, None}
-use Rattle.uc_model.specs.PlainCases.{market_of, schedules_of}
-use Rattle.uc_model.specs.Refusals.{reserve_broken}
+use Rattle.plan_check.proofs.Common.{◌≡◌, ℕ, ◌<◌, None, market_of, schedules_of, reserve_broken}
 use Rattle.plan_check.proofs.check.check_reserve.Given as goal
 
 abbrev pub invariant-loop-place : goal.invariant-loop-place

@@ -1,8 +1,6 @@
-use Rattle.std.proofs.Common.{rules, ℕ, ◌+◌, ◌<◌, Some, length, sym, ap, ◌∙◌, arith}
-use Rattle.uc_model.specs.PlainUnits.{thermal_of, schedule_of}
+use Rattle.plan_check.proofs.Common.{rules, ℕ, ◌+◌, ◌<◌, Some, length, sym, ap, ◌∙◌, arith, thermal_of, schedule_of, thermal_broken, told_shift}
 use Rattle.uc_model.specs.declared.kinds.Kind.TheVariants as kinds
-use Rattle.plan_check.specs.States.{thermal_broken, told_shift}
-use Rattle.plan_check.proofs.ToldLaws.{told_none, told_first}
+use Rattle.plan_check.proofs.Lemmas.{told_none, told_first}
 use Rattle.plan_check.proofs.check.check_rule.Goals as goal
 
 pub returns-in-Some : goal.returns-in-Some

@@ -1,9 +1,5 @@
-use Rattle.std.proofs.Common.{length}
-use Rattle.std.proofs.lemmas.Result.{err_from_is_err_and}
-use Rattle.uc_model.specs.PlainUnits.{thermal_of, schedule_of}
-use Rattle.uc_model.specs.declared.kinds.RuleCode.TheVariants.{MustRun}
-use Rattle.plan_check.specs.States.{rule_refusals}
-use Rattle.plan_check.proofs.FindLaws.{flat_map_on, flat_map_first}
+use Rattle.plan_check.proofs.Common.{length, err_from_is_err_and, thermal_of, schedule_of, MustRun, rule_refusals}
+use Rattle.plan_check.proofs.Lemmas.{flat_map_on, flat_map_first}
 use Rattle.plan_check.proofs.check.check_rules.Goals as goal
 
 pub returns-in_err-check_rule : goal.returns-in_err-check_rule

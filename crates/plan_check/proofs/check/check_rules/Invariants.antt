@@ -1,7 +1,4 @@
-use Rattle.std.proofs.Common.{◌≡◌, [], length, take}
-use Rattle.std.specs.List.{flat_map}
-use Rattle.uc_model.specs.PlainUnits.{thermal_of, schedule_of}
-use Rattle.plan_check.specs.States.{rule_refusals}
+use Rattle.plan_check.proofs.Common.{◌≡◌, [], length, take, flat_map, thermal_of, schedule_of, rule_refusals}
 use Rattle.plan_check.proofs.check.check_rules.Given as goal
 
 abbrev pub invariant-loop-rule : goal.invariant-loop-rule

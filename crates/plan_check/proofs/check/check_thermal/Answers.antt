@@ -1,7 +1,6 @@
-use Rattle.std.proofs.Common.{length, sym, subst}
-use Rattle.uc_model.specs.PlainUnits.{thermal_of, schedule_of}
+use Rattle.plan_check.proofs.Common.{length, sym, subst, thermal_of, schedule_of}
 use Rattle.plan_check.specs.Checks.{Finds}
-use Rattle.plan_check.proofs.FindLaws.{thermal_rules}
+use Rattle.plan_check.proofs.Lemmas.{thermal_rules}
 use Rattle.plan_check.proofs.check.check_thermal.Goals as goal
 
 pub returns : goal.returns

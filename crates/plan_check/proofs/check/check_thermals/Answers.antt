@@ -1,15 +1,5 @@
-use Rattle.std.proofs.Common.{◌≡◌, ℕ, ◌+◌, Some, map, length, sym, ap, ◌∙◌, arith}
-use Rattle.std.proofs.lemmas.List.{length-map}
-use Rattle.std.proofs.lemmas.Result.{err_from_is_err_and}
-use Rattle.std.specs.Prelude.{slice_get}
-use Rattle.uc_model.specs.Data.{Schedule, NamedThermalUnit}
-use Rattle.uc_model.specs.Limits.{IsThermalUnit}
-use Rattle.uc_model.specs.PlainCases.{schedules_of}
-use Rattle.uc_model.specs.PlainUnits.{thermal_of, schedule_of, named_thermal_of}
-use Rattle.uc_model.specs.Refusals.{thermal_refusals}
-use Rattle.uc_model.proofs.ListLaws.{item_of, map_item}
-use Rattle.plan_check.proofs.FindLaws.{over_units_first, over_units_none, NoneBefore-more, all_thermal_is}
-use Rattle.plan_check.proofs.PlanLaws.{HasLengths}
+use Rattle.plan_check.proofs.Common.{◌≡◌, ℕ, ◌+◌, Some, map, length, sym, ap, ◌∙◌, arith, length-map, err_from_is_err_and, slice_get, Schedule, NamedThermalUnit, IsThermalUnit, schedules_of, thermal_of, schedule_of, named_thermal_of, thermal_refusals, item_of, map_item}
+use Rattle.plan_check.proofs.Lemmas.{over_units_first, over_units_none, NoneBefore-more, all_thermal_is, HasLengths}
 use Rattle.plan_check.proofs.check.check_thermals.Goals as goal
 use Rattle.plan_check.proofs.check.check_thermals.Goals.{After-get-response}
 

@@ -1,6 +1,5 @@
-use Rattle.uc_model.specs.PlainCases.{market_of, schedules_of}
-use Rattle.uc_model.specs.Refusals.{thermal_refusals}
-use Rattle.plan_check.proofs.FindLaws.{NoneBefore}
+use Rattle.plan_check.proofs.Common.{market_of, schedules_of, thermal_refusals}
+use Rattle.plan_check.proofs.Lemmas.{NoneBefore}
 use Rattle.plan_check.proofs.check.check_thermals.Given as goal
 
 abbrev pub invariant-loop-place : goal.invariant-loop-place

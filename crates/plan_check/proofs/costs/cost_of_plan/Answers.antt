@@ -1,7 +1,5 @@
-use Rattle.std.proofs.Common.{arith}
-use Rattle.std.proofs.lemmas.Int.{ints}
-use Rattle.uc_model.specs.PlainCases.{market_of, schedules_of}
-use Rattle.plan_check.proofs.SystemLaws.{plan_cost_is}
+use Rattle.plan_check.proofs.Common.{arith, ints, market_of, schedules_of}
+use Rattle.plan_check.proofs.Lemmas.{plan_cost_is}
 use Rattle.plan_check.proofs.costs.cost_of_plan.Goals as goal
 
 pub returns : goal.returns

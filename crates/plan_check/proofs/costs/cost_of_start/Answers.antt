@@ -1,5 +1,4 @@
-use Rattle.std.proofs.Common.{arith}
-use Rattle.std.proofs.lemmas.Int.{ints}
+use Rattle.plan_check.proofs.Common.{arith, ints}
 use Rattle.plan_check.proofs.costs.cost_of_start.Goals as goal
 
 pub returns-clause-limit : goal.returns-clause-limit

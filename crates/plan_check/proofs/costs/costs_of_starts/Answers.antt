@@ -1,10 +1,5 @@
-use Rattle.std.proofs.Common.{◌≡◌, ◌+◌, ℕ, suc, false, cond, get_or, sym, ap, ◌∙◌, arith}
-use Rattle.std.proofs.lemmas.Int.{ints}
-use Rattle.uc_model.specs.PlainUnits.{thermal_of, schedule_of}
-use Rattle.uc_model.specs.Schedules.{time_down}
-use Rattle.uc_model.proofs.ListLaws.{sum_more}
-use Rattle.plan_check.specs.Costs.{start_cost_at}
-use Rattle.plan_check.proofs.CostSums.{cond_at_most}
+use Rattle.plan_check.proofs.Common.{◌≡◌, ◌+◌, ℕ, suc, false, cond, get_or, sym, ap, ◌∙◌, arith, ints, thermal_of, schedule_of, time_down, sum_more, start_cost_at}
+use Rattle.plan_check.proofs.Lemmas.{cond_at_most}
 use Rattle.plan_check.proofs.costs.costs_of_starts.Goals as goal
 
 pub loop-place-preserved : goal.loop-place-preserved

@@ -1,9 +1,4 @@
-use Rattle.std.proofs.Common.{◌≡◌, ◌≤◌, ◌+◌, ◌*◌, pos}
-use Rattle.uc_model.specs.Limits.{IsFrom}
-use Rattle.uc_model.specs.PlainUnits.{thermal_of, schedule_of}
-use Rattle.uc_model.specs.Schedules.{time_down}
-use Rattle.uc_model.specs.Sums.{sum_below}
-use Rattle.plan_check.specs.Costs.{start_cost_at}
+use Rattle.plan_check.proofs.Common.{◌≡◌, ◌≤◌, ◌+◌, ◌*◌, pos, IsFrom, thermal_of, schedule_of, time_down, sum_below, start_cost_at}
 use Rattle.plan_check.proofs.costs.costs_of_starts.Given as goal
 
 abbrev pub invariant-loop-place : goal.invariant-loop-place

@@ -1,10 +1,6 @@
-use Rattle.std.proofs.Common.{rules, ◌≡◌, suc, ℤ, true, List, sym, ◌∙◌, subst, w64, FitsSigned}
-use Rattle.std.proofs.lemmas.Int.{to_z-of_z}
+use Rattle.plan_check.proofs.Common.{rules, ◌≡◌, suc, ℤ, true, List, sym, ◌∙◌, subst, w64, FitsSigned, to_z-of_z, Spans, thermal_of, schedule_of, on_in, power_in}
 use Rattle.uc_model.specs.declared.units.Point.{Point}
-use Rattle.uc_model.specs.Limits.{Spans}
-use Rattle.uc_model.specs.PlainUnits.{thermal_of, schedule_of}
-use Rattle.uc_model.specs.Schedules.{on_in, power_in}
-use Rattle.plan_check.proofs.CostSums.{power_spans}
+use Rattle.plan_check.proofs.Lemmas.{power_spans}
 use Rattle.plan_check.proofs.costs.power_cost.Goals as goal
 
 pub envelope_at-requires-clause-within : goal.envelope_at-requires-clause-within

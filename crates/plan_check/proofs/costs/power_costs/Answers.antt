@@ -1,8 +1,4 @@
-use Rattle.std.proofs.Common.{arith}
-use Rattle.std.proofs.lemmas.Int.{ints}
-use Rattle.uc_model.specs.PlainUnits.{thermal_of, schedule_of}
-use Rattle.uc_model.proofs.ListLaws.{sum_more}
-use Rattle.plan_check.specs.Costs.{production_at}
+use Rattle.plan_check.proofs.Common.{arith, ints, thermal_of, schedule_of, sum_more, production_at}
 use Rattle.plan_check.proofs.costs.power_costs.Goals as goal
 
 pub loop-place-preserved : goal.loop-place-preserved

@@ -1,8 +1,4 @@
-use Rattle.std.proofs.Common.{◌≡◌, ◌*◌, pos, neg_ℤ}
-use Rattle.uc_model.specs.Limits.{IsFrom}
-use Rattle.uc_model.specs.PlainUnits.{thermal_of, schedule_of}
-use Rattle.uc_model.specs.Sums.{sum_below}
-use Rattle.plan_check.specs.Costs.{production_at}
+use Rattle.plan_check.proofs.Common.{◌≡◌, ◌*◌, pos, neg_ℤ, IsFrom, thermal_of, schedule_of, sum_below, production_at}
 use Rattle.plan_check.proofs.costs.power_costs.Given as goal
 
 abbrev pub invariant-loop-place : goal.invariant-loop-place

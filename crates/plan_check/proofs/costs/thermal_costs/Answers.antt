@@ -1,16 +1,5 @@
-use Rattle.std.proofs.Common.{◌≡◌, ℕ, ◌++◌, Some, map, sym, subst, arith}
-use Rattle.std.proofs.lemmas.Int.{ints}
-use Rattle.std.proofs.lemmas.List.{length-map}
-use Rattle.std.specs.Prelude.{slice_get}
-use Rattle.uc_model.specs.Data.{AnyUnit, Thermal, Flat, NamedThermalUnit, NamedRenewableUnit, Schedule}
-use Rattle.uc_model.specs.Earnings.{cost_of}
-use Rattle.uc_model.specs.PlainCases.{market_of, schedules_of}
-use Rattle.uc_model.specs.PlainUnits.{thermal_of, schedule_of, named_thermal_of}
-use Rattle.uc_model.specs.Schedules.{IsFeasible, IsThermalFeasible}
-use Rattle.uc_model.proofs.ListLaws.{item_of, map_item, zip_item, front_item}
-use Rattle.plan_check.specs.Costs.{thermal_units, bid_units}
-use Rattle.plan_check.proofs.PlanLaws.{HasLengths}
-use Rattle.plan_check.proofs.SystemLaws.{sum_over-more}
+use Rattle.plan_check.proofs.Common.{◌≡◌, ℕ, ◌++◌, Some, map, sym, subst, arith, ints, length-map, slice_get, AnyUnit, Thermal, Flat, NamedThermalUnit, NamedRenewableUnit, Schedule, cost_of, market_of, schedules_of, thermal_of, schedule_of, named_thermal_of, IsFeasible, IsThermalFeasible, item_of, map_item, zip_item, front_item, thermal_units, bid_units}
+use Rattle.plan_check.proofs.Lemmas.{HasLengths, sum_over-more}
 use Rattle.plan_check.proofs.costs.thermal_costs.Goals as goal
 use Rattle.plan_check.proofs.costs.thermal_costs.Goals.{After-get-response}
 

@@ -1,8 +1,5 @@
-use Rattle.std.proofs.Common.{rules, ◌≡◌, ℤ, pos, ◌+ℤ◌, ◌*ℤ◌, ap, ◌∙◌, w64, FitsSigned, arith}
-use Rattle.std.proofs.lemmas.Int.{ints, clamps, to_z-of_z}
-use Rattle.std.specs.Int.{int_min}
-use Rattle.uc_model.specs.Limits.{IsFrom}
-use Rattle.plan_check.proofs.CostSums.{worth_fits, worth_is, worth_within}
+use Rattle.plan_check.proofs.Common.{rules, ◌≡◌, ℤ, pos, ◌+ℤ◌, ◌*ℤ◌, ap, ◌∙◌, w64, FitsSigned, arith, ints, clamps, to_z-of_z, int_min, IsFrom}
+use Rattle.plan_check.proofs.Lemmas.{worth_fits, worth_is, worth_within}
 use Rattle.plan_check.proofs.costs.with_block.Goals as goal
 use Rattle.plan_check.proofs.costs.with_block.Goals.{After-min-width}
 

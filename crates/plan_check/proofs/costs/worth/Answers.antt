@@ -1,14 +1,4 @@
-use Rattle.std.proofs.Common.{rules, suc, List, [], sym, ap, ◌∙◌, subst, w64, FitsSigned, arith}
-use Rattle.std.proofs.lemmas.Int.{ints, to_z-of_z}
-use Rattle.std.proofs.lemmas.Option.{get_or_from_slice_get}
-use Rattle.uc_model.specs.declared.units.Block.{Block}
-use Rattle.uc_model.specs.Earnings.{worth_of}
-use Rattle.uc_model.specs.Limits.{IsBlockList}
-use Rattle.uc_model.specs.PlainUnits.{bid_of, schedule_of}
-use Rattle.uc_model.specs.Reserved.{items_in}
-use Rattle.uc_model.specs.Schedules.{power_in}
-use Rattle.uc_model.proofs.ListLaws.{sum_more, item_of, map_item}
-use Rattle.plan_check.specs.Costs.{worth_at}
+use Rattle.plan_check.proofs.Common.{rules, suc, List, [], sym, ap, ◌∙◌, subst, w64, FitsSigned, arith, ints, to_z-of_z, get_or_from_slice_get, Block, worth_of, IsBlockList, bid_of, schedule_of, items_in, power_in, sum_more, item_of, map_item, worth_at}
 use Rattle.plan_check.proofs.costs.worth.Goals as goal
 
 pub worth_in-requires-clause-blocks : goal.worth_in-requires-clause-blocks

@@ -1,8 +1,4 @@
-use Rattle.std.proofs.Common.{◌≡◌, ◌*◌, pos}
-use Rattle.uc_model.specs.Limits.{IsFrom}
-use Rattle.uc_model.specs.PlainUnits.{bid_of, schedule_of}
-use Rattle.uc_model.specs.Sums.{sum_below}
-use Rattle.plan_check.specs.Costs.{worth_at}
+use Rattle.plan_check.proofs.Common.{◌≡◌, ◌*◌, pos, IsFrom, bid_of, schedule_of, sum_below, worth_at}
 use Rattle.plan_check.proofs.costs.worth.Given as goal
 
 abbrev pub invariant-loop-place : goal.invariant-loop-place

@@ -1,8 +1,4 @@
-use Rattle.std.proofs.Common.{◌+◌, pos, List, drop, get_or, ap, arith}
-use Rattle.std.proofs.lemmas.Int.{ints}
-use Rattle.std.proofs.lemmas.List.{drop_more}
-use Rattle.uc_model.specs.declared.units.Block.{Block}
-use Rattle.uc_model.specs.Earnings.{worth_of}
+use Rattle.plan_check.proofs.Common.{◌+◌, pos, List, drop, get_or, ap, arith, ints, drop_more, Block, worth_of}
 use Rattle.plan_check.proofs.costs.worth_in.Goals as goal
 
 pub loop-block-preserved : goal.loop-block-preserved

@@ -1,6 +1,4 @@
-use Rattle.std.proofs.Common.{◌≡◌, ◌*◌, pos, ◌+ℤ◌, drop}
-use Rattle.uc_model.specs.Earnings.{worth_of}
-use Rattle.uc_model.specs.Limits.{IsFrom}
+use Rattle.plan_check.proofs.Common.{◌≡◌, ◌*◌, pos, ◌+ℤ◌, drop, worth_of, IsFrom}
 use Rattle.plan_check.proofs.costs.worth_in.Given as goal
 
 abbrev pub invariant-loop-block : goal.invariant-loop-block

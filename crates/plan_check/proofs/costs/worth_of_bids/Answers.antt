@@ -1,16 +1,5 @@
-use Rattle.std.proofs.Common.{◌≡◌, ℕ, ◌+◌, Some, length, drop, sym, ap, ◌∙◌, arith}
-use Rattle.std.proofs.lemmas.Int.{ints}
-use Rattle.std.proofs.lemmas.List.{length-map}
-use Rattle.std.specs.Prelude.{slice_get}
-use Rattle.uc_model.specs.Data.{Bid, NamedBidUnit}
-use Rattle.uc_model.specs.Earnings.{cost_of}
-use Rattle.uc_model.specs.Limits.{IsBidUnit}
-use Rattle.uc_model.specs.PlainCases.{market_of, schedules_of}
-use Rattle.uc_model.specs.PlainUnits.{schedule_of, named_bid_of}
-use Rattle.uc_model.proofs.ListLaws.{item_of, map_item, drop_item}
-use Rattle.plan_check.specs.Costs.{bid_units}
-use Rattle.plan_check.proofs.PlanLaws.{HasLengths}
-use Rattle.plan_check.proofs.SystemLaws.{sum_over-more}
+use Rattle.plan_check.proofs.Common.{◌≡◌, ℕ, ◌+◌, Some, length, drop, sym, ap, ◌∙◌, arith, ints, length-map, slice_get, Bid, NamedBidUnit, cost_of, IsBidUnit, market_of, schedules_of, schedule_of, named_bid_of, item_of, map_item, drop_item, bid_units}
+use Rattle.plan_check.proofs.Lemmas.{HasLengths, sum_over-more}
 use Rattle.plan_check.proofs.costs.worth_of_bids.Goals as goal
 use Rattle.plan_check.proofs.costs.worth_of_bids.Goals.{After-get-in-loop-place}
 

@@ -1,8 +1,4 @@
-use Rattle.std.proofs.Common.{◌≡◌, ◌+◌, ◌*◌, pos, neg_ℤ, length, drop, take}
-use Rattle.uc_model.specs.Earnings.{cost_of}
-use Rattle.uc_model.specs.Limits.{IsFrom}
-use Rattle.uc_model.specs.PlainCases.{market_of, schedules_of}
-use Rattle.plan_check.specs.Costs.{sum_over, bid_units}
+use Rattle.plan_check.proofs.Common.{◌≡◌, ◌+◌, ◌*◌, pos, neg_ℤ, length, drop, take, cost_of, IsFrom, market_of, schedules_of, sum_over, bid_units}
 use Rattle.plan_check.proofs.costs.worth_of_bids.Given as goal
 
 abbrev pub invariant-loop-place : goal.invariant-loop-place

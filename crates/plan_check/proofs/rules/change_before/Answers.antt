@@ -1,6 +1,5 @@
-use Rattle.std.proofs.Common.{rules, ◌≡◌, sym, ◌∙◌, arith}
-use Rattle.uc_model.specs.PlainUnits.{thermal_of, schedule_of}
-use Rattle.plan_check.proofs.ChangeLaws.{changed_here, changed_back}
+use Rattle.plan_check.proofs.Common.{rules, ◌≡◌, sym, ◌∙◌, arith, thermal_of, schedule_of}
+use Rattle.plan_check.proofs.Lemmas.{changed_here, changed_back}
 use Rattle.plan_check.proofs.rules.change_before.Goals as goal
 
 pub returns-then-on_in_period-on : goal.returns-then-on_in_period-on

@@ -1,7 +1,4 @@
-use Rattle.std.proofs.Common.{◌≡◌, ◌≤◌}
-use Rattle.uc_model.specs.PlainUnits.{thermal_of, schedule_of}
-use Rattle.uc_model.specs.Refusals.{changed_in}
-use Rattle.uc_model.specs.Schedules.{on_in}
+use Rattle.plan_check.proofs.Common.{◌≡◌, ◌≤◌, thermal_of, schedule_of, changed_in, on_in}
 use Rattle.plan_check.proofs.rules.change_before.Given as goal
 
 abbrev pub invariant-back : goal.invariant-back

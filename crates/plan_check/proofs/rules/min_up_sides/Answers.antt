@@ -1,8 +1,5 @@
-use Rattle.std.proofs.Common.{rules, ◌≡◌, suc, ◌+◌, true, false, sym, ap, ◌∙◌, arith}
-use Rattle.uc_model.specs.PlainUnits.{thermal_of, schedule_of}
-use Rattle.uc_model.specs.Schedules.{on_in}
-use Rattle.plan_check.specs.States.{run_broken}
-use Rattle.plan_check.proofs.ChangeLaws.{min_up-ends}
+use Rattle.plan_check.proofs.Common.{rules, ◌≡◌, suc, ◌+◌, true, false, sym, ap, ◌∙◌, arith, thermal_of, schedule_of, on_in, run_broken}
+use Rattle.plan_check.proofs.Lemmas.{min_up-ends}
 use Rattle.plan_check.proofs.rules.min_up_sides.Goals as goal
 
 pub returns : goal.returns

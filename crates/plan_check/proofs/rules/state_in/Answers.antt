@@ -1,6 +1,4 @@
-use Rattle.std.proofs.Common.{sym, subst}
-use Rattle.uc_model.specs.PlainUnits.{thermal_of, schedule_of}
-use Rattle.plan_check.specs.States.{IsStateIn}
+use Rattle.plan_check.proofs.Common.{sym, subst, thermal_of, schedule_of, IsStateIn}
 use Rattle.plan_check.proofs.rules.state_in.Goals as goal
 
 pub returns-then-period-eq0 : goal.returns-then-period-eq0

@@ -1,11 +1,5 @@
-use Rattle.std.proofs.Common.{rules, ◌≡◌, suc, ℤ, Bool, true, false, cond, None, sym, ap, ◌∙◌, w64, FitsSigned}
-use Rattle.std.proofs.lemmas.Int.{to_z-of_z}
-use Rattle.std.specs.Prelude.{int_le}
-use Rattle.std.specs.Int.{int_min}
-use Rattle.uc_model.specs.PlainUnits.{thermal_of, schedule_of}
-use Rattle.uc_model.specs.Refusals.{unless, output_in}
-use Rattle.uc_model.specs.Schedules.{on_in}
-use Rattle.plan_check.proofs.RunLaws.{stops_from}
+use Rattle.plan_check.proofs.Common.{rules, ◌≡◌, suc, ℤ, Bool, true, false, cond, None, sym, ap, ◌∙◌, w64, FitsSigned, to_z-of_z, int_le, int_min, thermal_of, schedule_of, unless, output_in, on_in}
+use Rattle.plan_check.proofs.Lemmas.{stops_from}
 use Rattle.plan_check.proofs.rules.stop_sides.Goals as goal
 
 pub returns : goal.returns

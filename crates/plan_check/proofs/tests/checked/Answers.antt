@@ -1,10 +1,5 @@
-use Rattle.std.proofs.Common.{◌≡◌, ℕ, IsTrue, true, [], ◌∷◌, length, drop, refl, sym, subst, arith}
-use Rattle.std.specs.List.{All}
-use Rattle.std.specs.Prelude.{slice_index_or}
-use Rattle.uc_model.specs.Data.{Schedule, Market}
-use Rattle.uc_model.specs.Laws.{HasPlanShape}
-use Rattle.uc_model.specs.PlainCases.{market_of}
-use Rattle.plan_check.proofs.PlanLaws.{HasLengths, IsSteady}
+use Rattle.plan_check.proofs.Common.{◌≡◌, ℕ, IsTrue, true, [], ◌∷◌, length, drop, refl, sym, subst, arith, All, slice_index_or, Schedule, Market, HasPlanShape, market_of}
+use Rattle.plan_check.proofs.Lemmas.{HasLengths, IsSteady}
 use Rattle.plan_check.proofs.tests.checked.Goals as goal
 
 All-one : {X : Type 0} → (P : X → Type 0) (x : X) → P x → All P (x ∷ [])

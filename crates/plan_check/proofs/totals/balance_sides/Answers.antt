@@ -1,11 +1,5 @@
-use Rattle.std.proofs.Common.{rules, ◌≡◌, ℤ, pos, Some, sym, ap, ◌∙◌, w64, FitsSigned, to_z, of_z}
-use Rattle.std.proofs.lemmas.Int.{to_z-of_z}
-use Rattle.std.proofs.lemmas.Option.{get_or_from_slice_get}
-use Rattle.uc_model.specs.Data.{units}
-use Rattle.uc_model.specs.PlainCases.{market_of, schedules_of}
-use Rattle.uc_model.specs.Sums.{int_at}
-use Rattle.uc_model.specs.Systems.{total_power}
-use Rattle.plan_check.proofs.SystemLaws.{unbalanced}
+use Rattle.plan_check.proofs.Common.{rules, ◌≡◌, ℤ, pos, Some, sym, ap, ◌∙◌, w64, FitsSigned, to_z, of_z, to_z-of_z, get_or_from_slice_get, units, market_of, schedules_of, int_at, total_power}
+use Rattle.plan_check.proofs.Lemmas.{unbalanced}
 use Rattle.plan_check.proofs.totals.balance_sides.Goals as goal
 
 pub returns : goal.returns

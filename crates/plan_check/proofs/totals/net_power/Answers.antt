@@ -1,15 +1,5 @@
-use Rattle.std.proofs.Common.{◌<◌, ℕ, List, map, length, take, drop, sym, ap, ◌∙◌, subst, arith}
-use Rattle.std.proofs.lemmas.Int.{ints}
-use Rattle.std.proofs.lemmas.List.{take-map}
-use Rattle.std.proofs.lemmas.List.Elements.{All-take, All-drop}
-use Rattle.std.specs.List.{All}
-use Rattle.uc_model.specs.declared.units.Response.{Response}
-use Rattle.uc_model.specs.PlainCases.{market_of, schedules_of}
-use Rattle.uc_model.specs.PlainUnits.{schedule_of}
-use Rattle.uc_model.proofs.ListLaws.{drop-map}
-use Rattle.plan_check.specs.Totals.{powers_at}
-use Rattle.plan_check.proofs.ShapeLaws.{covers}
-use Rattle.plan_check.proofs.SystemLaws.{total_power_is}
+use Rattle.plan_check.proofs.Common.{◌<◌, ℕ, List, map, length, take, drop, sym, ap, ◌∙◌, subst, arith, ints, take-map, All-take, All-drop, All, Response, market_of, schedules_of, schedule_of, drop-map, powers_at}
+use Rattle.plan_check.proofs.Lemmas.{covers, total_power_is}
 use Rattle.plan_check.proofs.totals.net_power.Goals as goal
 
 pub totals_at-given-requires-clause-place : goal.totals_at-given-requires-clause-place

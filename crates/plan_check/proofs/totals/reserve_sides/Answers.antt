@@ -1,9 +1,4 @@
-use Rattle.std.proofs.Common.{rules, ℤ, ap, ◌∙◌, w64, FitsSigned}
-use Rattle.std.proofs.lemmas.Int.{to_z-of_z}
-use Rattle.std.specs.Prelude.{int_le}
-use Rattle.uc_model.specs.PlainCases.{market_of}
-use Rattle.uc_model.specs.Refusals.{unless}
-use Rattle.uc_model.specs.Sums.{int_at}
+use Rattle.plan_check.proofs.Common.{rules, ℤ, ap, ◌∙◌, w64, FitsSigned, to_z-of_z, int_le, market_of, unless, int_at}
 use Rattle.plan_check.proofs.totals.reserve_sides.Goals as goal
 
 pub returns : goal.returns

@@ -1,15 +1,5 @@
-use Rattle.std.proofs.Common.{rules, ◌<◌, pos, List, map, length, sym, ap, ◌∙◌, subst, w64, FitsSigned}
-use Rattle.std.proofs.lemmas.Int.{to_z-of_z}
-use Rattle.std.proofs.lemmas.Option.{get_or_from_slice_get}
-use Rattle.std.specs.List.{All}
-use Rattle.uc_model.specs.declared.units.Response.{Response}
-use Rattle.uc_model.specs.Limits.{IsPower}
-use Rattle.uc_model.specs.PlainCases.{market_of, schedules_of}
-use Rattle.uc_model.specs.PlainUnits.{schedule_of}
-use Rattle.uc_model.proofs.ListLaws.{item_of}
-use Rattle.plan_check.specs.Totals.{reserves_at}
-use Rattle.plan_check.proofs.ShapeLaws.{covers}
-use Rattle.plan_check.proofs.SystemLaws.{total_reserve_is}
+use Rattle.plan_check.proofs.Common.{rules, ◌<◌, pos, List, map, length, sym, ap, ◌∙◌, subst, w64, FitsSigned, to_z-of_z, get_or_from_slice_get, All, Response, IsPower, market_of, schedules_of, schedule_of, item_of, reserves_at}
+use Rattle.plan_check.proofs.Lemmas.{covers, total_reserve_is}
 use Rattle.plan_check.proofs.totals.reserves_in.Goals as goal
 
 pub totals_at-totals-requires-clause-place : goal.totals_at-totals-requires-clause-place

@@ -1,12 +1,5 @@
-use Rattle.std.proofs.Common.{suc, List, [], ◌∷◌, ◌++◌, map, take, sym, ap, ◌∙◌, arith}
-use Rattle.std.proofs.lemmas.Int.{ints}
-use Rattle.std.proofs.lemmas.List.{take_more}
-use Rattle.uc_model.specs.declared.units.Response.{Response}
-use Rattle.uc_model.specs.Data.{Schedule}
-use Rattle.uc_model.specs.PlainUnits.{schedule_of}
-use Rattle.uc_model.specs.Schedules.{power_in, reserve_in}
-use Rattle.plan_check.specs.Totals.{powers_at, reserves_at}
-use Rattle.plan_check.proofs.SystemLaws.{total_map-append}
+use Rattle.plan_check.proofs.Common.{suc, List, [], ◌∷◌, ◌++◌, map, take, sym, ap, ◌∙◌, arith, ints, take_more, Response, Schedule, schedule_of, power_in, reserve_in, powers_at, reserves_at}
+use Rattle.plan_check.proofs.Lemmas.{total_map-append}
 use Rattle.plan_check.proofs.totals.totals_at.Goals as goal
 
 pub loop-response-preserved : goal.loop-response-preserved

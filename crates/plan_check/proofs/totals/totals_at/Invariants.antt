@@ -1,7 +1,4 @@
-use Rattle.std.proofs.Common.{◌≡◌, ◌*◌, pos, map, take}
-use Rattle.uc_model.specs.Limits.{IsFrom}
-use Rattle.uc_model.specs.PlainUnits.{schedule_of}
-use Rattle.plan_check.specs.Totals.{powers_at, reserves_at}
+use Rattle.plan_check.proofs.Common.{◌≡◌, ◌*◌, pos, map, take, IsFrom, schedule_of, powers_at, reserves_at}
 use Rattle.plan_check.proofs.totals.totals_at.Given as goal
 
 abbrev pub invariant-loop-response : goal.invariant-loop-response

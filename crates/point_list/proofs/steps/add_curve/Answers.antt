@@ -1,9 +1,4 @@
-use Rattle.std.proofs.Common.{◌≡◌, ℕ, ◌<◌, List, ◌++◌, length, take, drop, sym, ap, ◌∙◌, arith, to_z, of_z}
-use Rattle.std.specs.Int.{w64}
-use Rattle.std.proofs.lemmas.Int.{to_z-of_z}
-use Rattle.ramp_step.specs.declared.breakpoint.Knot.{Knot}
-use Rattle.ramp_step.specs.Knots.{knot}
-use Rattle.shape_law.specs.Curve.{curve_value}
+use Rattle.point_list.proofs.Common.{◌≡◌, ℕ, ◌<◌, List, ◌++◌, length, take, drop, sym, ap, ◌∙◌, arith, to_z, of_z, w64, to_z-of_z, Knot, knot, curve_value}
 use Rattle.point_list.proofs.ListLaws.{written_back, cut_back, IsKept, breaks, can_add_curve, kept_breaks, curve_sum}
 use Rattle.point_list.proofs.steps.add_curve.Goals as goal
 use Rattle.point_list.proofs.steps.add_curve.Goals.{After-deref_mut, After-truncate}

@@ -1,9 +1,4 @@
-use Rattle.std.proofs.Common.{◌≡◌, ℕ, ◌<◌, List, ◌++◌, length, take, drop, sym, ap, ◌∙◌, arith, to_z, of_z}
-use Rattle.std.specs.Prelude.{ℤ, ◌*ℤ◌}
-use Rattle.std.specs.Int.{w64}
-use Rattle.std.proofs.lemmas.Int.{to_z-of_z}
-use Rattle.ramp_step.specs.declared.breakpoint.Knot.{Knot}
-use Rattle.ramp_step.specs.Knots.{knot}
+use Rattle.point_list.proofs.Common.{◌≡◌, ℕ, ◌<◌, List, ◌++◌, length, take, drop, sym, ap, ◌∙◌, arith, to_z, of_z, ℤ, ◌*ℤ◌, w64, to_z-of_z, Knot, knot}
 use Rattle.point_list.proofs.ListLaws.{written_back, written_length, IsKept, breaks, can_add, kept_breaks, sum}
 use Rattle.point_list.proofs.steps.add_line.Goals as goal
 use Rattle.point_list.proofs.steps.add_line.Goals.{After-deref_mut, After-line_step}

@@ -1,7 +1,4 @@
-use Rattle.std.proofs.Common.{◌≡◌, rules, to_z, of_z}
-use Rattle.std.specs.Prelude.{FitsSigned}
-use Rattle.std.specs.Int.{w64}
-use Rattle.std.proofs.lemmas.Int.{to_z-of_z}
+use Rattle.point_list.proofs.Common.{◌≡◌, rules, to_z, of_z, FitsSigned, w64, to_z-of_z}
 use Rattle.point_list.proofs.steps.least.Goals as goal
 
 pub returns-in-Some : goal.returns-in-Some

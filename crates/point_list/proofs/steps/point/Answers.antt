@@ -1,8 +1,4 @@
-use Rattle.std.proofs.Common.{◌≡◌, List, [], ◌∷◌, sym, subst, rules, arith, to_z, of_z}
-use Rattle.std.specs.Int.{w64}
-use Rattle.std.proofs.lemmas.Int.{to_z-of_z}
-use Rattle.ramp_step.specs.declared.breakpoint.Knot.{Knot}
-use Rattle.point_list.specs.Breaks.{IsCountedList}
+use Rattle.point_list.proofs.Common.{◌≡◌, List, [], ◌∷◌, sym, subst, rules, arith, to_z, of_z, w64, to_z-of_z, Knot, IsCountedList}
 use Rattle.point_list.proofs.steps.point.Goals as goal
 
 pub returns-clause-breaks : goal.returns-clause-breaks

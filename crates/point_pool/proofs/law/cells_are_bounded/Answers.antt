@@ -1,4 +1,4 @@
-use Rattle.std.proofs.Common.{refl}
+use Rattle.point_pool.proofs.Common.{refl}
 use Rattle.point_pool.proofs.law.cells_are_bounded.Goals as goal
 
 pub returns : goal.returns

@@ -1,10 +1,5 @@
-use Rattle.std.proofs.Common.{rules, true, false, FitsSigned, map, get_or, sym, subst}
-use Rattle.std.proofs.lemmas.Int.{to_z-of_z}
-use Rattle.std.specs.Int.{w128}
-use Rattle.uc_model.specs.declared.cases.Row.{Row}
-use Rattle.uc_model.specs.PlainCases.{proposal_of}
-use Rattle.price_move.specs.Moves.{values_of}
-use Rattle.price_move.proofs.FirstGreatest.{value_at, picks}
+use Rattle.price_move.proofs.Common.{rules, true, false, FitsSigned, map, get_or, sym, subst, to_z-of_z, w128, Row, proposal_of, values_of}
+use Rattle.price_move.proofs.Lemmas.{value_at, picks}
 use Rattle.price_move.proofs.best_row.better_of.Goals as goal
 
 pub returns-then-rows-best : goal.returns-then-rows-best

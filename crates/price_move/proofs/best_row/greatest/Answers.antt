@@ -1,8 +1,5 @@
-use Rattle.std.proofs.Common.{◌≡◌, map, length, subst, arith}
-use Rattle.uc_model.specs.PlainCases.{proposal_of}
-use Rattle.price_move.specs.Firsts.{IsFirstUpTo}
-use Rattle.price_move.specs.Moves.{values_of}
-use Rattle.price_move.proofs.FirstGreatest.{first_more, first_is, number_is, length_values}
+use Rattle.price_move.proofs.Common.{◌≡◌, map, length, subst, arith, proposal_of, IsFirstUpTo, values_of}
+use Rattle.price_move.proofs.Lemmas.{first_more, first_is, number_is, length_values}
 use Rattle.price_move.proofs.best_row.greatest.Goals as goal
 
 pub loop-i-preserved : goal.loop-i-preserved

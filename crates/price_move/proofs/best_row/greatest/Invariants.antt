@@ -1,7 +1,4 @@
-use Rattle.std.proofs.Common.{map}
-use Rattle.uc_model.specs.PlainCases.{proposal_of}
-use Rattle.price_move.specs.Firsts.{IsFirstUpTo}
-use Rattle.price_move.specs.Moves.{values_of}
+use Rattle.price_move.proofs.Common.{map, proposal_of, IsFirstUpTo, values_of}
 use Rattle.price_move.proofs.best_row.greatest.Given as goal
 
 abbrev pub invariant-loop-i : goal.invariant-loop-i

@@ -1,7 +1,5 @@
-use Rattle.std.proofs.Common.{map, arith}
-use Rattle.uc_model.specs.PlainCases.{proposal_of}
-use Rattle.price_move.specs.Moves.{values_of}
-use Rattle.price_move.proofs.FirstGreatest.{first_more}
+use Rattle.price_move.proofs.Common.{map, arith, proposal_of, values_of}
+use Rattle.price_move.proofs.Lemmas.{first_more}
 use Rattle.price_move.proofs.best_row.greatest_with.Goals as goal
 
 pub better_of-requires-clause-best : goal.better_of-requires-clause-best

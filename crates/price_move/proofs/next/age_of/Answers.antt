@@ -1,7 +1,5 @@
-use Rattle.std.proofs.Common.{arith}
-use Rattle.std.proofs.lemmas.List.{length-map}
-use Rattle.uc_model.specs.PlainCases.{proposal_of}
-use Rattle.price_move.proofs.FirstGreatest.{number_is}
+use Rattle.price_move.proofs.Common.{arith, length-map, proposal_of}
+use Rattle.price_move.proofs.Lemmas.{number_is}
 use Rattle.price_move.proofs.next.age_of.Goals as goal
 
 pub returns : goal.returns

@@ -1,10 +1,5 @@
-use Rattle.std.proofs.Common.{rules, ◌/◌, ◌^◌, min, ℕ, ℤ, pos, ◌*ℤ◌, FitsSigned, map, ap, ◌∙◌, arith}
-use Rattle.std.proofs.lemmas.Int.{to_z-of_z}
-use Rattle.std.proofs.lemmas.List.{length-map}
-use Rattle.std.specs.Int.{w128}
-use Rattle.uc_model.specs.PlainCases.{market_of, proposal_of}
-use Rattle.uc_model.specs.PriceRule.{squared_length}
-use Rattle.price_move.proofs.Steps.{stepped_is, last_below}
+use Rattle.price_move.proofs.Common.{rules, ◌/◌, ◌^◌, min, ℕ, ℤ, pos, ◌*ℤ◌, FitsSigned, map, ap, ◌∙◌, arith, to_z-of_z, length-map, w128, market_of, proposal_of, squared_length}
+use Rattle.price_move.proofs.Lemmas.{stepped_is, last_below}
 use Rattle.price_move.proofs.next.next_prices_from.Goals as goal
 
 pub take_step-requires-2-clause-row : goal.take_step-requires-2-clause-row

@@ -1,5 +1,4 @@
-use Rattle.std.proofs.Common.{◌≤◌, arith}
-use Rattle.std.proofs.Math.Nat.{pow-le-pow_right}
+use Rattle.price_move.proofs.Common.{◌≤◌, arith, pow-le-pow_right}
 use Rattle.price_move.proofs.step.doublings.Goals as goal
 
 pub returns-clause-high : goal.returns-clause-high

@@ -1,9 +1,4 @@
-use Rattle.std.proofs.Common.{rules, ◌≡◌, ◌*◌, pos, neg_ℤ, ℤ, ◌*ℤ◌, ◌<ℤ◌, int_div, FitsSigned, ap, sym, subst, arith}
-use Rattle.std.proofs.lemmas.Int.{ints, to_z-of_z, quot_fits}
-use Rattle.std.proofs.Math.IntN.{*ℤ_comm}
-use Rattle.std.specs.Int.{w128}
-use Rattle.uc_model.specs.Limits.{IsFrom}
-use Rattle.uc_model.proofs.SignedLaws.{product_within, fits_within, IsWithin}
+use Rattle.price_move.proofs.Common.{rules, ◌≡◌, ◌*◌, pos, neg_ℤ, ℤ, ◌*ℤ◌, ◌<ℤ◌, int_div, FitsSigned, ap, sym, subst, arith, ints, to_z-of_z, quot_fits, *ℤ_comm, w128, IsFrom, product_within, fits_within, IsWithin}
 use Rattle.price_move.proofs.Squares.{quotient_within}
 use Rattle.price_move.proofs.step.move_along.Goals as goal
 

@@ -1,11 +1,4 @@
-use Rattle.std.proofs.Common.{rules, ◌≡◌, ℕ, ◌+◌, ◌*◌, ℤ, pos, ◌+ℤ◌, ◌*ℤ◌, FitsSigned, ap, ◌∙◌, add-one, arith}
-use Rattle.std.proofs.lemmas.Int.{ints, to_z-of_z}
-use Rattle.std.specs.Int.{w64, w128, cast_signed}
-use Rattle.uc_model.specs.Limits.{IsFrom}
-use Rattle.uc_model.specs.PlainCases.{market_of, proposal_of}
-use Rattle.uc_model.specs.PriceRule.{direction_at}
-use Rattle.uc_model.specs.Sums.{sum_below}
-use Rattle.uc_model.proofs.SignedLaws.{fits_within, IsWithin}
+use Rattle.price_move.proofs.Common.{rules, ◌≡◌, ℕ, ◌+◌, ◌*◌, ℤ, pos, ◌+ℤ◌, ◌*ℤ◌, FitsSigned, ap, ◌∙◌, add-one, arith, ints, to_z-of_z, w64, w128, cast_signed, IsFrom, market_of, proposal_of, direction_at, sum_below, fits_within, IsWithin}
 use Rattle.price_move.proofs.step.norm_of.Goals as goal
 
 pub loop-place-preserved : goal.loop-place-preserved

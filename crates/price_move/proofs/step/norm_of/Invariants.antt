@@ -1,8 +1,4 @@
-use Rattle.std.proofs.Common.{◌≡◌, ◌*◌, pos, ◌*ℤ◌}
-use Rattle.uc_model.specs.Limits.{IsFrom}
-use Rattle.uc_model.specs.PlainCases.{market_of, proposal_of}
-use Rattle.uc_model.specs.PriceRule.{direction_at}
-use Rattle.uc_model.specs.Sums.{sum_below}
+use Rattle.price_move.proofs.Common.{◌≡◌, ◌*◌, pos, ◌*ℤ◌, IsFrom, market_of, proposal_of, direction_at, sum_below}
 use Rattle.price_move.proofs.step.norm_of.Given as goal
 
 abbrev pub invariant-loop-place : goal.invariant-loop-place

@@ -1,11 +1,4 @@
-use Rattle.std.proofs.Common.{rules, ◌≡◌, ℤ, ◌+ℤ◌, ◌*ℤ◌, int_div, FitsSigned, ap, ◌∙◌, arith}
-use Rattle.std.proofs.lemmas.Int.{ints, to_z-of_z}
-use Rattle.std.specs.Int.{w64, w128}
-use Rattle.uc_model.specs.Limits.{price_limit}
-use Rattle.uc_model.specs.PlainCases.{market_of, proposal_of}
-use Rattle.uc_model.specs.Sums.{int_at, clamped}
-use Rattle.uc_model.proofs.SignedLaws.{fits_within, IsWithin}
-use Rattle.price_move.specs.Moves.{low_of, prices_on, direction_on, price_after}
+use Rattle.price_move.proofs.Common.{rules, ◌≡◌, ℤ, ◌+ℤ◌, ◌*ℤ◌, int_div, FitsSigned, ap, ◌∙◌, arith, ints, to_z-of_z, w64, w128, price_limit, market_of, proposal_of, int_at, clamped, fits_within, IsWithin, low_of, prices_on, direction_on, price_after}
 use Rattle.price_move.proofs.step.price_after.Goals as goal
 
 pub returns : goal.returns

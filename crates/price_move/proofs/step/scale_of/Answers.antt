@@ -1,9 +1,4 @@
-use Rattle.std.proofs.Common.{rules, ◌≡◌, ◌*◌, pos, ◌*ℤ◌, FitsSigned, arith}
-use Rattle.std.proofs.lemmas.Int.{ints, to_z-of_z}
-use Rattle.std.specs.Int.{w128}
-use Rattle.uc_model.specs.Limits.{IsFrom}
-use Rattle.uc_model.proofs.IntLaws.{mul-mono_of}
-use Rattle.uc_model.proofs.SignedLaws.{product_within, fits_within, IsWithin}
+use Rattle.price_move.proofs.Common.{rules, ◌≡◌, ◌*◌, pos, ◌*ℤ◌, FitsSigned, arith, ints, to_z-of_z, w128, IsFrom, mul-mono_of, product_within, fits_within, IsWithin}
 use Rattle.price_move.proofs.step.scale_of.Goals as goal
 
 pub returns-clause-bound : goal.returns-clause-bound

@@ -1,10 +1,6 @@
-use Rattle.std.proofs.Common.{ℤ, pos, sym, subst, ◌∙◌, arith}
-use Rattle.std.proofs.lemmas.List.{get_or_default}
+use Rattle.price_move.proofs.Common.{ℤ, pos, sym, subst, ◌∙◌, arith, get_or_default, IsFrom, price_limit, market_of, proposal_of, low_of, price_after}
 use Rattle.std.proofs.lemmas.List.FromFn.{fill_by_all}
-use Rattle.uc_model.specs.Limits.{IsFrom, price_limit}
-use Rattle.uc_model.specs.PlainCases.{market_of, proposal_of}
-use Rattle.price_move.specs.Moves.{low_of, price_after}
-use Rattle.price_move.proofs.Steps.{price_limits}
+use Rattle.price_move.proofs.Lemmas.{price_limits}
 use Rattle.price_move.proofs.step.take_step.Goals as goal
 
 pub returns-clause-prices : goal.returns-clause-prices

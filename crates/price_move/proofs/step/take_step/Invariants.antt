@@ -1,7 +1,4 @@
-use Rattle.std.proofs.Common.{◌≡◌, ℕ, ◌<◌, length}
-use Rattle.uc_model.specs.PlainCases.{market_of, proposal_of}
-use Rattle.uc_model.specs.Sums.{int_at}
-use Rattle.price_move.specs.Moves.{price_after}
+use Rattle.price_move.proofs.Common.{◌≡◌, ℕ, ◌<◌, length, market_of, proposal_of, int_at, price_after}
 use Rattle.price_move.proofs.step.take_step.Given as goal
 
 abbrev pub invariant-loop-k : goal.invariant-loop-k

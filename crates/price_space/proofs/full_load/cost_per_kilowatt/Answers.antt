@@ -1,7 +1,4 @@
-use Rattle.std.proofs.Common.{rules, ◌≡◌, ◌≤ℤ◌, ℤ, pos, negsuc, neg_ℤ, ◌-ℤ◌, unsigned_abs, FitsSigned, refl, ap, ◌∙◌, arith}
-use Rattle.std.proofs.lemmas.Int.{ints, to_z-of_z}
-use Rattle.std.specs.Int.{w64, int_div_euclid}
-use Rattle.uc_model.proofs.SignedLaws.{fits_within, IsWithin}
+use Rattle.price_space.proofs.Common.{rules, ◌≡◌, ◌≤ℤ◌, ℤ, pos, negsuc, neg_ℤ, ◌-ℤ◌, unsigned_abs, FitsSigned, refl, ap, ◌∙◌, arith, ints, to_z-of_z, w64, int_div_euclid, fits_within, IsWithin}
 use Rattle.price_space.proofs.full_load.cost_per_kilowatt.Goals as goal
 
 magnitude_of : (z : ℤ) → pos 1 ≤ℤ z → z ≡ pos (unsigned_abs z)

@@ -1,9 +1,5 @@
-use Rattle.std.proofs.Common.{ℤ, pos, neg_ℤ, sym, subst, ◌∙◌, arith}
-use Rattle.std.proofs.lemmas.List.{get_or_default}
-use Rattle.uc_model.specs.Limits.{IsFrom, price_limit}
-use Rattle.uc_model.specs.Sums.{int_at}
-use Rattle.price_space.specs.Opening.{opened}
-use Rattle.price_space.proofs.OpeningLaws.{opened_limits, map_by_places}
+use Rattle.price_space.proofs.Common.{ℤ, pos, neg_ℤ, sym, subst, ◌∙◌, arith, get_or_default, IsFrom, price_limit, int_at, opened}
+use Rattle.price_space.proofs.Lemmas.{opened_limits, map_by_places}
 use Rattle.price_space.proofs.opening.open_energy.Goals as goal
 
 pub returns-clause-prices : goal.returns-clause-prices

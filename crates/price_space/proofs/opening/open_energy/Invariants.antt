@@ -1,6 +1,4 @@
-use Rattle.std.proofs.Common.{◌≡◌, ℕ, ◌<◌, length}
-use Rattle.uc_model.specs.Sums.{int_at}
-use Rattle.price_space.specs.Opening.{opened}
+use Rattle.price_space.proofs.Common.{◌≡◌, ℕ, ◌<◌, length, int_at, opened}
 use Rattle.price_space.proofs.opening.open_energy.Given as goal
 
 abbrev pub invariant-loop-k : goal.invariant-loop-k

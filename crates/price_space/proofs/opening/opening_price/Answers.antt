@@ -1,9 +1,4 @@
-use Rattle.std.proofs.Common.{rules, ℤ, neg_ℤ, FitsSigned, ap, ◌∙◌}
-use Rattle.std.proofs.lemmas.Int.{to_z-of_z}
-use Rattle.std.specs.Int.{w64, w128}
-use Rattle.uc_model.specs.Limits.{price_limit}
-use Rattle.uc_model.specs.Sums.{clamped}
-use Rattle.price_space.specs.Opening.{opened}
+use Rattle.price_space.proofs.Common.{rules, ℤ, neg_ℤ, FitsSigned, ap, ◌∙◌, to_z-of_z, w64, w128, price_limit, clamped, opened}
 use Rattle.price_space.proofs.opening.opening_price.Goals as goal
 
 pub returns : goal.returns

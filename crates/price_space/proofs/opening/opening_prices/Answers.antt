@@ -1,5 +1,5 @@
-use Rattle.std.proofs.Common.{ℕ, pos, replicate, ap, sym, ◌∙◌}
-use Rattle.price_space.proofs.OpeningLaws.{opening_is}
+use Rattle.price_space.proofs.Common.{ℕ, pos, replicate, ap, sym, ◌∙◌}
+use Rattle.price_space.proofs.Lemmas.{opening_is}
 use Rattle.price_space.proofs.opening.opening_prices.Goals as goal
 
 pub returns : goal.returns

@@ -1,7 +1,5 @@
-use Rattle.std.proofs.Common.{rules, ◌≤◌, ℤ, pos, ◌*ℤ◌, unsigned_abs, FitsSigned, ap, ◌∙◌, arith}
-use Rattle.std.proofs.lemmas.Int.{to_z-of_z, fits_signed_mul}
-use Rattle.std.specs.Int.{w128, int_div_euclid}
-use Rattle.price_space.proofs.OpeningLaws.{magnitude}
+use Rattle.price_space.proofs.Common.{rules, ◌≤◌, ℤ, pos, ◌*ℤ◌, unsigned_abs, FitsSigned, ap, ◌∙◌, arith, to_z-of_z, fits_signed_mul, w128, int_div_euclid}
+use Rattle.price_space.proofs.Lemmas.{magnitude}
 use Rattle.price_space.proofs.opening.share_of.Goals as goal
 
 pub returns : goal.returns

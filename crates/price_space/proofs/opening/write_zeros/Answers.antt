@@ -1,5 +1,5 @@
-use Rattle.std.proofs.Common.{length, arith}
-use Rattle.price_space.proofs.OpeningLaws.{zeros_by_places}
+use Rattle.price_space.proofs.Common.{length, arith}
+use Rattle.price_space.proofs.Lemmas.{zeros_by_places}
 use Rattle.price_space.proofs.opening.write_zeros.Goals as goal
 
 pub returns-clause-zeros : goal.returns-clause-zeros

@@ -1,11 +1,5 @@
-use Rattle.std.proofs.Common.{rules, ◌≡◌, ◌<◌, ◌≤◌, ◌+◌, ◌^◌, true, int_le, get_or, ℤ, pos, ◌<ℤ◌, ◌≤ℤ◌, FitsSigned, take, length, ap, sym, subst, arith}
-use Rattle.std.proofs.lemmas.Int.{ints, to_z-of_z, to_z_pos}
-use Rattle.std.proofs.lemmas.List.{take_all}
-use Rattle.std.proofs.lemmas.List.Sums.{sum_by_more}
-use Rattle.std.specs.Int.{w64}
-use Rattle.std.specs.List.{sum_by}
-use Rattle.price_space.specs.Starts.{IsStartPrice}
-use Rattle.price_space.proofs.StartLaws.{power_of, stops_at, ends_short, from_true, abs_up_to}
+use Rattle.price_space.proofs.Common.{rules, ◌≡◌, ◌<◌, ◌≤◌, ◌+◌, ◌^◌, true, int_le, get_or, ℤ, pos, ◌<ℤ◌, ◌≤ℤ◌, FitsSigned, take, length, ap, sym, subst, arith, ints, to_z-of_z, to_z_pos, take_all, sum_by_more, w64, sum_by, IsStartPrice}
+use Rattle.price_space.proofs.Lemmas.{power_of, stops_at, ends_short, from_true, abs_up_to}
 use Rattle.price_space.proofs.start.first_reaching.Goals as goal
 
 pub returns-then-short-power : goal.returns-then-short-power

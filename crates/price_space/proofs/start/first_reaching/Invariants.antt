@@ -1,6 +1,5 @@
-use Rattle.std.proofs.Common.{◌≡◌, ◌*◌, ◌<◌, ◌≤◌, take, pos, ◌<ℤ◌}
-use Rattle.std.specs.List.{sum_by}
-use Rattle.price_space.proofs.StartLaws.{power_of}
+use Rattle.price_space.proofs.Common.{◌≡◌, ◌*◌, ◌<◌, ◌≤◌, take, pos, ◌<ℤ◌, sum_by}
+use Rattle.price_space.proofs.Lemmas.{power_of}
 use Rattle.price_space.proofs.start.first_reaching.Given as goal
 
 abbrev pub invariant-loop-unit : goal.invariant-loop-unit

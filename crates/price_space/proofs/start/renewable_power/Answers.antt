@@ -1,7 +1,5 @@
-use Rattle.std.proofs.Common.{◌≡◌, ◌<◌, List, length, get_or, ap, subst, arith}
-use Rattle.std.proofs.lemmas.Int.{ints}
-use Rattle.uc_model.specs.declared.units.NamedFlat.{NamedFlat}
-use Rattle.price_space.proofs.CaseLaws.{flat_horizon, most_more}
+use Rattle.price_space.proofs.Common.{◌≡◌, ◌<◌, List, length, get_or, ap, subst, arith, ints, NamedFlat}
+use Rattle.price_space.proofs.Lemmas.{flat_horizon, most_more}
 use Rattle.price_space.proofs.start.renewable_power.Goals as goal
 
 pub most_at-power-requires : goal.most_at-power-requires

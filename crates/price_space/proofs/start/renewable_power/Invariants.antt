@@ -1,7 +1,4 @@
-use Rattle.std.proofs.Common.{◌≡◌, ◌*◌, ◌≤◌, drop, map, pos, ◌+ℤ◌}
-use Rattle.uc_model.specs.Data.{NamedRenewableUnit}
-use Rattle.uc_model.specs.PlainUnits.{named_renewable_of}
-use Rattle.uc_model.specs.Sums.{int_at, total}
+use Rattle.price_space.proofs.Common.{◌≡◌, ◌*◌, ◌≤◌, drop, map, pos, ◌+ℤ◌, NamedRenewableUnit, named_renewable_of, int_at, total}
 use Rattle.price_space.proofs.start.renewable_power.Given as goal
 
 abbrev pub invariant-loop-named : goal.invariant-loop-named

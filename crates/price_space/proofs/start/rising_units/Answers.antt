@@ -1,8 +1,5 @@
-use Rattle.std.proofs.Common.{◌+◌, List, get_or, subst, ◌∙◌, arith}
-use Rattle.std.specs.List.Sorted.{IsPermutation}
-use Rattle.price_space.specs.declared.start.Priced.{Priced}
-use Rattle.price_space.proofs.StartLaws.{rising_from, not_under}
-use Rattle.price_space.proofs.CaseLaws.{units_same}
+use Rattle.price_space.proofs.Common.{◌+◌, List, get_or, subst, ◌∙◌, arith, IsPermutation, Priced}
+use Rattle.price_space.proofs.Lemmas.{rising_from, not_under, units_same}
 use Rattle.price_space.proofs.start.rising_units.Goals as goal
 
 pub returns : goal.returns

@@ -1,10 +1,5 @@
-use Rattle.std.proofs.Common.{rules, ℤ, ◌-ℤ◌, FitsSigned, sym, subst}
-use Rattle.std.proofs.lemmas.Int.{to_z-of_z}
-use Rattle.std.specs.Int.{w64}
-use Rattle.uc_model.specs.PlainCases.{market_of}
-use Rattle.uc_model.specs.Sums.{int_at}
-use Rattle.price_space.specs.Starts.{priced_units_of, renewable_power_of, IsStartPrice}
-use Rattle.price_space.proofs.CaseLaws.{giving, rising_outputs, rising_count}
+use Rattle.price_space.proofs.Common.{rules, ℤ, ◌-ℤ◌, FitsSigned, sym, subst, to_z-of_z, w64, market_of, int_at, priced_units_of, renewable_power_of, IsStartPrice}
+use Rattle.price_space.proofs.Lemmas.{giving, rising_outputs, rising_count}
 use Rattle.price_space.proofs.RuleLaws.{start_is, start_moved}
 use Rattle.price_space.proofs.start.start_price.Goals as goal
 

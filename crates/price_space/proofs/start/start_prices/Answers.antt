@@ -1,10 +1,5 @@
-use Rattle.std.proofs.Common.{rules, ℤ, ◌++◌, [], ◌∷◌, List, FitsSigned, map, ap, sym, ◌∙◌, arith}
-use Rattle.std.proofs.lemmas.Int.{to_z-of_z}
+use Rattle.price_space.proofs.Common.{rules, ℤ, ◌++◌, [], ◌∷◌, List, FitsSigned, map, ap, sym, ◌∙◌, arith, to_z-of_z, w64, range_with_len, market_of, start_price}
 use Rattle.std.proofs.lemmas.List.FromFn.{map-range_with_len_more}
-use Rattle.std.specs.Int.{w64}
-use Rattle.std.specs.List.{range_with_len}
-use Rattle.uc_model.specs.PlainCases.{market_of}
-use Rattle.uc_model.specs.PriceRule.{start_price}
 use Rattle.price_space.proofs.start.start_prices.Goals as goal
 
 pub loop-k-preserved : goal.loop-k-preserved

@@ -1,7 +1,4 @@
-use Rattle.std.proofs.Common.{◌≡◌, ◌+◌, ◌≤◌, map}
-use Rattle.std.specs.List.{range_with_len}
-use Rattle.uc_model.specs.PlainCases.{market_of}
-use Rattle.uc_model.specs.PriceRule.{start_price}
+use Rattle.price_space.proofs.Common.{◌≡◌, ◌+◌, ◌≤◌, map, range_with_len, market_of, start_price}
 use Rattle.price_space.proofs.start.start_prices.Given as goal
 
 abbrev pub invariant-loop-k : goal.invariant-loop-k

@@ -1,11 +1,5 @@
-use Rattle.std.proofs.Common.{◌≡◌, ℕ, ◌<◌, ◌+◌, ◌-◌, ap, arith, inl, inr, to_z, of_z}
-use Rattle.std.specs.Int.{w64}
-use Rattle.std.proofs.lemmas.Int.{ints, to_z-of_z}
-use Rattle.std.proofs.lemmas.Bool.{cases_lt}
-use Rattle.ramp_step.specs.Knots.{place, IsInside}
-use Rattle.ramp_step.specs.Curve.{curve_term}
-use Rattle.ramp_step.proofs.KnotLaws.{is_inside, inside_same, StandFor-raised, HaveSameEnds-raised, HaveSameEnds-then}
-use Rattle.ramp_step.proofs.CurveLaws.{curve_straight, curve_convex}
+use Rattle.ramp_step.proofs.Common.{◌≡◌, ℕ, ◌<◌, ◌+◌, ◌-◌, ap, arith, inl, inr, to_z, of_z, w64, ints, to_z-of_z, cases_lt, place, IsInside, curve_term}
+use Rattle.ramp_step.proofs.Lemmas.{is_inside, inside_same, StandFor-raised, HaveSameEnds-raised, HaveSameEnds-then, curve_straight, curve_convex}
 use Rattle.ramp_step.proofs.curve.add_blocks.Goals as goal
 use Rattle.ramp_step.proofs.curve.add_blocks.Goals.{After-split_all-n}
 

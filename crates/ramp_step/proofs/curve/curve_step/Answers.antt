@@ -1,11 +1,6 @@
-use Rattle.std.proofs.Common.{◌≡◌, List, arith, rules, to_z, of_z}
-use Rattle.std.specs.Prelude.{ℤ, ◌-ℤ◌, FitsSigned}
-use Rattle.std.specs.Int.{w64}
-use Rattle.std.proofs.lemmas.Int.{ints, to_z-of_z}
-use Rattle.uc_model.specs.declared.units.Block.{Block}
+use Rattle.ramp_step.proofs.Common.{◌≡◌, List, arith, rules, to_z, of_z, ℤ, ◌-ℤ◌, FitsSigned, w64, ints, to_z-of_z, Block}
 use Rattle.ramp_step.proofs.CurveShapeLaws.{IsOver-curve, CanAdd-curve, AreLimitedBlocks-curve}
-use Rattle.ramp_step.proofs.RunLaws.{shape_of}
-use Rattle.ramp_step.proofs.StepLaws.{curve_sum, curve_sum_breaks}
+use Rattle.ramp_step.proofs.Lemmas.{shape_of, curve_sum, curve_sum_breaks}
 use Rattle.ramp_step.proofs.curve.curve_step.Goals as goal
 use Rattle.ramp_step.proofs.curve.curve_step.Goals.{After-as_slice-blocks}
 

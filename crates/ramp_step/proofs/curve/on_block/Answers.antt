@@ -1,7 +1,4 @@
-use Rattle.std.proofs.Common.{◌≡◌, arith, to_z, of_z}
-use Rattle.std.specs.Prelude.{◌-ℤ◌}
-use Rattle.std.specs.Int.{w64}
-use Rattle.std.proofs.lemmas.Int.{ints, to_z-of_z}
+use Rattle.ramp_step.proofs.Common.{◌≡◌, arith, to_z, of_z, ◌-ℤ◌, w64, ints, to_z-of_z}
 use Rattle.ramp_step.proofs.curve.on_block.Goals as goal
 
 pub along-line-requires-clause-after : goal.along-line-requires-clause-after

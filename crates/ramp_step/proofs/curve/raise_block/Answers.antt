@@ -1,12 +1,5 @@
-use Rattle.std.proofs.Common.{◌≡◌, ◌≢◌, ℕ, ◌<◌, length, ap, sym, ◌∙◌, subst, arith, inl, inr, to_z, of_z}
-use Rattle.std.specs.Prelude.{slice_set, ◌+ℤ◌}
-use Rattle.std.specs.Int.{w64}
-use Rattle.std.proofs.lemmas.Int.{ints, to_z-of_z}
-use Rattle.std.proofs.lemmas.Bool.{cases_lt}
-use Rattle.ramp_step.specs.declared.breakpoint.Knot.{Knot}
-use Rattle.ramp_step.specs.Knots.{knot, place, height}
-use Rattle.ramp_step.specs.Raise.{line_from}
-use Rattle.ramp_step.proofs.KnotLaws.{knot_same, knot_other}
+use Rattle.ramp_step.proofs.Common.{◌≡◌, ◌≢◌, ℕ, ◌<◌, length, ap, sym, ◌∙◌, subst, arith, inl, inr, to_z, of_z, slice_set, ◌+ℤ◌, w64, ints, to_z-of_z, cases_lt, Knot, knot, place, height, line_from}
+use Rattle.ramp_step.proofs.Lemmas.{knot_same, knot_other}
 use Rattle.ramp_step.proofs.curve.raise_block.Goals as goal
 
 pub on_block-requires-clause-fits : goal.on_block-requires-clause-fits

@@ -1,7 +1,4 @@
-use Rattle.std.proofs.Common.{◌≡◌, ℕ, ◌<◌, ◌≤◌}
-use Rattle.std.specs.Prelude.{◌+ℤ◌, ◌≤ℤ◌}
-use Rattle.ramp_step.specs.Knots.{knot, place, height}
-use Rattle.ramp_step.specs.Raise.{line_from}
+use Rattle.ramp_step.proofs.Common.{◌≡◌, ℕ, ◌<◌, ◌≤◌, ◌+ℤ◌, ◌≤ℤ◌, knot, place, height, line_from}
 use Rattle.ramp_step.proofs.curve.raise_block.Given as goal
 
 abbrev pub invariant-loop-i : goal.invariant-loop-i

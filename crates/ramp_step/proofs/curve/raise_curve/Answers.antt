@@ -1,14 +1,5 @@
-use Rattle.std.proofs.Common.{◌≡◌, ℕ, ◌+◌, length, get_or, refl, sym, ap, ◌∙◌, subst, arith, rules, to_z, of_z}
-use Rattle.std.specs.Prelude.{pos, FitsSigned}
-use Rattle.std.specs.Int.{w64}
-use Rattle.std.proofs.lemmas.Int.{ints, to_z-of_z}
-use Rattle.uc_model.specs.declared.units.Block.{Block}
-use Rattle.ramp_step.specs.declared.breakpoint.Knot.{Knot}
-use Rattle.ramp_step.specs.Knots.{knot}
-use Rattle.shape_law.specs.Table.{IsAmount}
-use Rattle.ramp_step.specs.Curve.{block_end, curve_term}
-use Rattle.ramp_step.specs.Raise.{AreRaisedSoFar}
-use Rattle.ramp_step.proofs.CurveLaws.{IsNextEnd, next_end, end_coded, curve_begins}
+use Rattle.ramp_step.proofs.Common.{◌≡◌, ℕ, ◌+◌, length, get_or, refl, sym, ap, ◌∙◌, subst, arith, rules, to_z, of_z, pos, FitsSigned, w64, ints, to_z-of_z, Block, Knot, knot, IsAmount, block_end, curve_term, AreRaisedSoFar}
+use Rattle.ramp_step.proofs.Lemmas.{IsNextEnd, next_end, end_coded, curve_begins}
 use Rattle.ramp_step.proofs.RaiseLaws.{next_level, CanRaise-begin, CanRaise-on_block, AreRaisedSoFar-begin, AreRaisedSoFar-more, AreRaised-so_far}
 use Rattle.ramp_step.proofs.curve.raise_curve.Goals as goal
 use Rattle.ramp_step.proofs.curve.raise_curve.Goals.{In-loop-block}

@@ -1,6 +1,4 @@
-use Rattle.std.proofs.Common.{◌≡◌}
-use Rattle.ramp_step.specs.Curve.{block_end, curve_term}
-use Rattle.ramp_step.specs.Raise.{AreRaisedSoFar}
+use Rattle.ramp_step.proofs.Common.{◌≡◌, block_end, curve_term, AreRaisedSoFar}
 use Rattle.ramp_step.proofs.curve.raise_curve.Given as goal
 
 abbrev pub invariant-loop-block : goal.invariant-loop-block

@@ -1,12 +1,5 @@
-use Rattle.std.proofs.Common.{◌≡◌, ℕ, ◌+◌, ◌-◌, length, get_or, refl, sym, ap, ◌∙◌, subst, arith, to_z, of_z}
-use Rattle.std.specs.Prelude.{pos, ◌+ℤ◌}
-use Rattle.std.specs.Int.{w64}
-use Rattle.std.proofs.lemmas.Int.{ints, to_z-of_z}
-use Rattle.ramp_step.specs.Cut.{IsLimited}
-use Rattle.ramp_step.specs.Curve.{block_end, IsRefined}
-use Rattle.ramp_step.specs.Spaced.{spaced}
-use Rattle.ramp_step.proofs.CurveLaws.{IsNextEnd, next_end, end_coded, IsRefined-none, IsRefined-more}
-use Rattle.ramp_step.proofs.SpacedLaws.{spaced_moved, spaced_closed, StandFor-same, IsLimited-same, IsRefined-same, AreBelow-moved}
+use Rattle.ramp_step.proofs.Common.{◌≡◌, ℕ, ◌+◌, ◌-◌, length, get_or, refl, sym, ap, ◌∙◌, subst, arith, to_z, of_z, pos, ◌+ℤ◌, w64, ints, to_z-of_z, IsLimited, block_end, IsRefined, spaced}
+use Rattle.ramp_step.proofs.Lemmas.{IsNextEnd, next_end, end_coded, IsRefined-none, IsRefined-more, spaced_moved, spaced_closed, StandFor-same, IsLimited-same, IsRefined-same, AreBelow-moved}
 use Rattle.ramp_step.proofs.curve.split_all.Goals as goal
 use Rattle.ramp_step.proofs.curve.split_all.Goals.{In-loop-block}
 

@@ -1,9 +1,4 @@
-use Rattle.std.proofs.Common.{◌≡◌, ℕ, ◌+◌, ◌-◌, ◌<◌, ◌≤◌, length}
-use Rattle.std.specs.Prelude.{◌<ℤ◌}
-use Rattle.ramp_step.specs.Knots.{place}
-use Rattle.ramp_step.specs.Cut.{IsLimited}
-use Rattle.ramp_step.specs.Curve.{block_end, IsRefined}
-use Rattle.ramp_step.specs.Spaced.{spaced}
+use Rattle.ramp_step.proofs.Common.{◌≡◌, ℕ, ◌+◌, ◌-◌, ◌<◌, ◌≤◌, length, ◌<ℤ◌, place, IsLimited, block_end, IsRefined, spaced}
 use Rattle.ramp_step.proofs.curve.split_all.Given as goal
 
 abbrev pub invariant-loop-block : goal.invariant-loop-block

@@ -1,7 +1,5 @@
-use Rattle.std.proofs.Common.{◌≡◌, arith, to_z, of_z}
-use Rattle.std.specs.Int.{w64}
-use Rattle.std.proofs.lemmas.Int.{ints, to_z-of_z}
-use Rattle.ramp_step.proofs.CutLaws.{IsCut-at, IsCut-off, IsLimited-fewer}
+use Rattle.ramp_step.proofs.Common.{◌≡◌, arith, to_z, of_z, w64, ints, to_z-of_z}
+use Rattle.ramp_step.proofs.Lemmas.{IsCut-at, IsCut-off, IsLimited-fewer}
 use Rattle.ramp_step.proofs.cutting.cut_above.Goals as goal
 
 pub returns-then-m-n-clause-cut : goal.returns-then-m-n-clause-cut

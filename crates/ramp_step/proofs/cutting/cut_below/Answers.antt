@@ -1,7 +1,5 @@
-use Rattle.std.proofs.Common.{◌≡◌, to_z, of_z}
-use Rattle.std.specs.Int.{w64}
-use Rattle.std.proofs.lemmas.Int.{to_z-of_z}
-use Rattle.ramp_step.proofs.CutLaws.{IsCut-below}
+use Rattle.ramp_step.proofs.Common.{◌≡◌, to_z, of_z, w64, to_z-of_z}
+use Rattle.ramp_step.proofs.Lemmas.{IsCut-below}
 use Rattle.ramp_step.proofs.cutting.cut_below.Goals as goal
 
 pub returns-clause-cut : goal.returns-clause-cut

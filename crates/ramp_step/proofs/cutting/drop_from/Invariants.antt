@@ -1,5 +1,4 @@
-use Rattle.std.proofs.Common.{◌≡◌, ℕ, ◌+◌, ◌<◌, ◌≤◌}
-use Rattle.ramp_step.specs.Knots.{knot}
+use Rattle.ramp_step.proofs.Common.{◌≡◌, ℕ, ◌+◌, ◌<◌, ◌≤◌, knot}
 use Rattle.ramp_step.proofs.cutting.drop_from.Given as goal
 
 abbrev pub invariant-loop-i : goal.invariant-loop-i

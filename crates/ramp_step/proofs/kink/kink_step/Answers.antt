@@ -1,14 +1,6 @@
-use Rattle.std.proofs.Common.{◌≡◌, ◌+◌, ◌-◌, arith, to_z, of_z}
-use Rattle.std.specs.Prelude.{ℤ, ◌+ℤ◌, ◌-ℤ◌}
-use Rattle.std.specs.Int.{w64}
-use Rattle.std.proofs.lemmas.Int.{ints, to_z-of_z}
-use Rattle.ramp_step.specs.Knots.{place, StandFor, HaveSameEnds}
-use Rattle.shape_law.specs.Curve.{reserve_term}
-use Rattle.ramp_step.proofs.KnotLaws.{is_inside, inside_same, StandFor-raised, HaveSameEnds-raised, HaveSameEnds-then}
+use Rattle.ramp_step.proofs.Common.{◌≡◌, ◌+◌, ◌-◌, arith, to_z, of_z, ℤ, ◌+ℤ◌, ◌-ℤ◌, w64, ints, to_z-of_z, place, StandFor, HaveSameEnds, reserve_term}
+use Rattle.ramp_step.proofs.Lemmas.{is_inside, inside_same, StandFor-raised, HaveSameEnds-raised, HaveSameEnds-then, IsLimited-within, shape_of, within_of, can_add, sum, sum_breaks}
 use Rattle.ramp_step.proofs.KinkLaws.{kink_straight, kink_convex}
-use Rattle.ramp_step.proofs.LimitLaws.{IsLimited-within}
-use Rattle.ramp_step.proofs.RunLaws.{shape_of}
-use Rattle.ramp_step.proofs.StepLaws.{within_of, can_add, sum, sum_breaks}
 use Rattle.ramp_step.proofs.kink.kink_step.Goals as goal
 use Rattle.ramp_step.proofs.kink.kink_step.Goals.{After-lower}
 

@@ -1,11 +1,5 @@
-use Rattle.std.proofs.Common.{◌≡◌, ◌<◌, length, arith, ap, ◌∙◌, below_more, to_z, of_z}
-use Rattle.std.specs.Prelude.{◌+ℤ◌}
-use Rattle.std.specs.Int.{w64}
-use Rattle.std.proofs.lemmas.Int.{to_z-of_z}
-use Rattle.ramp_step.specs.declared.breakpoint.Knot.{Knot}
-use Rattle.ramp_step.specs.Knots.{knot}
-use Rattle.shape_law.specs.Curve.{reserve_term}
-use Rattle.ramp_step.proofs.KnotLaws.{knot_same, knot_other}
+use Rattle.ramp_step.proofs.Common.{◌≡◌, ◌<◌, length, arith, ap, ◌∙◌, below_more, to_z, of_z, ◌+ℤ◌, w64, to_z-of_z, Knot, knot, reserve_term}
+use Rattle.ramp_step.proofs.Lemmas.{knot_same, knot_other}
 use Rattle.ramp_step.proofs.kink.lower.Goals as goal
 
 pub loop-i-preserved : goal.loop-i-preserved

@@ -1,7 +1,4 @@
-use Rattle.std.proofs.Common.{◌≡◌, ℕ, ◌<◌, ◌≤◌}
-use Rattle.std.specs.Prelude.{◌+ℤ◌}
-use Rattle.ramp_step.specs.Knots.{place, height, knot}
-use Rattle.shape_law.specs.Curve.{reserve_term}
+use Rattle.ramp_step.proofs.Common.{◌≡◌, ℕ, ◌<◌, ◌≤◌, ◌+ℤ◌, place, height, knot, reserve_term}
 use Rattle.ramp_step.proofs.kink.lower.Given as goal
 
 abbrev pub invariant-loop-i : goal.invariant-loop-i

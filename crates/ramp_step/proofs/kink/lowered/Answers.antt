@@ -1,7 +1,4 @@
-use Rattle.std.proofs.Common.{◌≡◌, ◌∙◌, arith, to_z, of_z}
-use Rattle.std.specs.Prelude.{◌+ℤ◌, ◌-ℤ◌, ◌*ℤ◌, FitsSigned}
-use Rattle.std.specs.Int.{w64, int_min}
-use Rattle.std.proofs.lemmas.Int.{ints, to_z-of_z}
+use Rattle.ramp_step.proofs.Common.{◌≡◌, ◌∙◌, arith, to_z, of_z, ◌+ℤ◌, ◌-ℤ◌, ◌*ℤ◌, FitsSigned, w64, int_min, ints, to_z-of_z}
 use Rattle.ramp_step.proofs.kink.lowered.Goals as goal
 use Rattle.ramp_step.proofs.kink.lowered.Goals.{After-min-most}
 

@@ -1,4 +1,4 @@
-use Rattle.ramp_step.proofs.RunLaws.{one_knot_is_point, same_knots_are_same, runs_stand_between}
+use Rattle.ramp_step.proofs.Lemmas.{one_knot_is_point, same_knots_are_same, runs_stand_between}
 use Rattle.ramp_step.proofs.law.knots_decide.Goals as goal
 
 pub returns-clause-point : goal.returns-clause-point

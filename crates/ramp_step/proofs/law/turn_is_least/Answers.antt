@@ -1,4 +1,4 @@
-use Rattle.ramp_step.proofs.TurnLaws.{turn_is_least, nearest_is_least}
+use Rattle.ramp_step.proofs.Lemmas.{turn_is_least, nearest_is_least}
 use Rattle.ramp_step.proofs.law.turn_is_least.Goals as goal
 
 pub returns-clause-least : goal.returns-clause-least

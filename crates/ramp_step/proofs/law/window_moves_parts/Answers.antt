@@ -1,5 +1,5 @@
 use Rattle.ramp_step.proofs.LeastLaws.{MovesParts-convex}
-use Rattle.ramp_step.proofs.SpreadLaws.{AreWindow-spread}
+use Rattle.ramp_step.proofs.Lemmas.{AreWindow-spread}
 use Rattle.ramp_step.proofs.law.window_moves_parts.Goals as goal
 
 pub returns-clause-function : goal.returns-clause-function

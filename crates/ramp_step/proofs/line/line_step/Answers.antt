@@ -1,10 +1,5 @@
-use Rattle.std.specs.Prelude.{ℤ, ◌+ℤ◌, ◌*ℤ◌}
-use Rattle.std.specs.Int.{w64}
-use Rattle.std.proofs.lemmas.Int.{to_z-of_z}
-use Rattle.ramp_step.specs.Knots.{place, StandFor}
-use Rattle.ramp_step.proofs.KnotLaws.{is_inside, StandFor-raised, HaveSameEnds-raised, line_straight, straight_convex}
-use Rattle.ramp_step.proofs.RunLaws.{shape_of}
-use Rattle.ramp_step.proofs.StepLaws.{within_of, can_add, sum, sum_breaks}
+use Rattle.ramp_step.proofs.Common.{ℤ, ◌+ℤ◌, ◌*ℤ◌, w64, to_z-of_z, place, StandFor}
+use Rattle.ramp_step.proofs.Lemmas.{is_inside, StandFor-raised, HaveSameEnds-raised, line_straight, straight_convex, shape_of, within_of, can_add, sum, sum_breaks}
 use Rattle.ramp_step.proofs.line.line_step.Goals as goal
 
 pub raise_line-requires : goal.raise_line-requires

@@ -1,6 +1,4 @@
-use Rattle.std.proofs.Common.{◌≡◌, ℕ, ◌<◌, ◌≤◌}
-use Rattle.std.specs.Prelude.{◌+ℤ◌, ◌*ℤ◌}
-use Rattle.ramp_step.specs.Knots.{place, height, knot}
+use Rattle.ramp_step.proofs.Common.{◌≡◌, ℕ, ◌<◌, ◌≤◌, ◌+ℤ◌, ◌*ℤ◌, place, height, knot}
 use Rattle.ramp_step.proofs.line.raise_line.Given as goal
 
 abbrev pub invariant-loop-i : goal.invariant-loop-i

@@ -1,4 +1,4 @@
-use Rattle.ramp_step.proofs.TurnLaws.{turn_is_least}
+use Rattle.ramp_step.proofs.Lemmas.{turn_is_least}
 use Rattle.ramp_step.proofs.read.least.Goals as goal
 
 pub returns : goal.returns

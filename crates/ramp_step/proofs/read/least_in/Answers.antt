@@ -1,12 +1,5 @@
-use Rattle.std.proofs.Common.{◌≡◌, sym, ap, ◌∙◌, subst, arith, rules, to_z, of_z, Option, Some, None}
-use Rattle.std.specs.Prelude.{ℤ, ◌≤ℤ◌, FitsSigned, MatchOption}
-use Rattle.std.specs.Int.{w64, int_min, int_max}
-use Rattle.std.proofs.lemmas.Int.{ints, to_z-of_z}
-use Rattle.shape_law.specs.Effect.{IsLeastIn}
-use Rattle.shape_law.specs.Table.{value_of, HasNone}
-use Rattle.ramp_step.specs.Knots.{place}
-use Rattle.ramp_step.specs.Tables.{table_of}
-use Rattle.ramp_step.proofs.TurnLaws.{nearest_is_least}
+use Rattle.ramp_step.proofs.Common.{◌≡◌, sym, ap, ◌∙◌, subst, arith, rules, to_z, of_z, Option, Some, None, ℤ, ◌≤ℤ◌, FitsSigned, MatchOption, w64, int_min, int_max, ints, to_z-of_z, IsLeastIn, value_of, HasNone, place, table_of}
+use Rattle.ramp_step.proofs.Lemmas.{nearest_is_least}
 use Rattle.ramp_step.proofs.read.least_in.Goals as goal
 use Rattle.ramp_step.proofs.read.least_in.Goals.{After-max-at}
 

@@ -1,13 +1,5 @@
-use Rattle.std.proofs.Common.{◌≡◌, ◌-◌, None, ap, ◌∙◌, arith, to_z, of_z}
-use Rattle.std.specs.Int.{w64}
-use Rattle.std.proofs.lemmas.Int.{ints, to_z-of_z}
-use Rattle.ramp_step.specs.Knots.{knot, place, height}
-use Rattle.ramp_step.proofs.KnotLaws.{is_inside, rises}
-use Rattle.ramp_step.proofs.CutLaws.{on_line_between, within_between, value_between}
-use Rattle.ramp_step.proofs.LimitLaws.{IsLimited-within}
-use Rattle.ramp_step.proofs.RunLaws.{shape_of}
-use Rattle.ramp_step.proofs.ShapeLaws.{value_of-from_knots}
-use Rattle.ramp_step.proofs.StepLaws.{within_of}
+use Rattle.ramp_step.proofs.Common.{◌≡◌, ◌-◌, None, ap, ◌∙◌, arith, to_z, of_z, w64, ints, to_z-of_z, knot, place, height}
+use Rattle.ramp_step.proofs.Lemmas.{is_inside, rises, on_line_between, within_between, value_between, IsLimited-within, shape_of, value_of-from_knots, within_of}
 use Rattle.ramp_step.proofs.read.value_at.Goals as goal
 
 pub returns-then-m-used : goal.returns-then-m-used

@@ -1,11 +1,5 @@
-use Rattle.std.proofs.Common.{◌≡◌, ◌≢◌, ℕ, ◌+◌, ◌-◌, ◌<◌, length, ap, sym, ◌∙◌, subst, arith, inl, inr}
-use Rattle.std.specs.Prelude.{slice_set}
-use Rattle.std.proofs.lemmas.Int.{ints}
-use Rattle.std.proofs.lemmas.Bool.{cases_lt}
-use Rattle.ramp_step.specs.declared.breakpoint.Knot.{Knot}
-use Rattle.ramp_step.specs.Knots.{knot}
-use Rattle.ramp_step.proofs.KnotLaws.{knot_same, knot_other}
-use Rattle.ramp_step.proofs.SpacedLaws.{IsMovedOn-stop}
+use Rattle.ramp_step.proofs.Common.{◌≡◌, ◌≢◌, ℕ, ◌+◌, ◌-◌, ◌<◌, length, ap, sym, ◌∙◌, subst, arith, inl, inr, slice_set, ints, cases_lt, Knot, knot}
+use Rattle.ramp_step.proofs.Lemmas.{knot_same, knot_other, IsMovedOn-stop}
 use Rattle.ramp_step.proofs.spaced.advance.Goals as goal
 
 pub loop-i-preserved : goal.loop-i-preserved

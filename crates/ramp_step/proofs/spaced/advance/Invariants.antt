@@ -1,6 +1,4 @@
-use Rattle.std.proofs.Common.{◌≡◌, ℕ, ◌+◌, ◌<◌, ◌≤◌}
-use Rattle.std.specs.Prelude.{◌<ℤ◌}
-use Rattle.ramp_step.specs.Knots.{knot, place}
+use Rattle.ramp_step.proofs.Common.{◌≡◌, ℕ, ◌+◌, ◌<◌, ◌≤◌, ◌<ℤ◌, knot, place}
 use Rattle.ramp_step.proofs.spaced.advance.Given as goal
 
 abbrev pub invariant-loop-i : goal.invariant-loop-i

@@ -1,13 +1,5 @@
-use Rattle.std.proofs.Common.{ℕ, ◌+◌, ◌-◌, ap, sym, subst, arith, inl, inr}
-use Rattle.std.specs.Prelude.{slice_set}
-use Rattle.std.specs.Int.{w64}
-use Rattle.std.proofs.lemmas.Int.{ints, to_z-of_z}
-use Rattle.ramp_step.specs.declared.breakpoint.Knot.{Knot}
-use Rattle.ramp_step.specs.Knots.{knot}
-use Rattle.ramp_step.specs.Cut.{IsOnLine, AreWithin, IsBetween, IsSplit, IsLimited, AreBelow}
-use Rattle.ramp_step.specs.Spaced.{spaced}
-use Rattle.ramp_step.proofs.CutLaws.{IsSplit-still, IsSplit-inserted, IsLimited-inserted, on_line_between, within_between}
-use Rattle.ramp_step.proofs.SpacedLaws.{spaced_before, spaced_after, IsInserted-put, AreBelow-put}
+use Rattle.ramp_step.proofs.Common.{ℕ, ◌+◌, ◌-◌, ap, sym, subst, arith, inl, inr, slice_set, w64, ints, to_z-of_z, Knot, knot, IsOnLine, AreWithin, IsBetween, IsSplit, IsLimited, AreBelow, spaced}
+use Rattle.ramp_step.proofs.Lemmas.{IsSplit-still, IsSplit-inserted, IsLimited-inserted, on_line_between, within_between, spaced_before, spaced_after, IsInserted-put, AreBelow-put}
 use Rattle.ramp_step.proofs.spaced.fill.Goals as goal
 
 pub returns-then-front-eq0-clause-split : goal.returns-then-front-eq0-clause-split

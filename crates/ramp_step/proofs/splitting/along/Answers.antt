@@ -1,7 +1,4 @@
-use Rattle.std.proofs.Common.{arith}
-use Rattle.std.specs.Prelude.{◌*ℤ◌, FitsSigned}
-use Rattle.std.specs.Int.{w64}
-use Rattle.std.proofs.lemmas.Int.{ints, to_z-of_z}
+use Rattle.ramp_step.proofs.Common.{arith, ◌*ℤ◌, FitsSigned, w64, ints, to_z-of_z}
 use Rattle.ramp_step.proofs.splitting.along.Goals as goal
 
 pub overflow_mul-result : goal.overflow_mul-result

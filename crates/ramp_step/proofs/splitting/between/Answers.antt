@@ -1,8 +1,5 @@
-use Rattle.std.proofs.Common.{◌≡◌, sym, ap, ◌∙◌, arith, to_z, of_z}
-use Rattle.std.specs.Prelude.{ℤ, ◌+ℤ◌, ◌-ℤ◌, ◌*ℤ◌}
-use Rattle.std.specs.Int.{w64}
-use Rattle.std.proofs.lemmas.Int.{ints, to_z-of_z}
-use Rattle.ramp_step.proofs.DivLaws.{amount_part}
+use Rattle.ramp_step.proofs.Common.{◌≡◌, sym, ap, ◌∙◌, arith, to_z, of_z, ℤ, ◌+ℤ◌, ◌-ℤ◌, ◌*ℤ◌, w64, ints, to_z-of_z}
+use Rattle.ramp_step.proofs.Lemmas.{amount_part}
 use Rattle.ramp_step.proofs.splitting.between.Goals as goal
 
 pub along-value-requires-clause-after : goal.along-value-requires-clause-after

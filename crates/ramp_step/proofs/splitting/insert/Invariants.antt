@@ -1,5 +1,4 @@
-use Rattle.std.proofs.Common.{◌≡◌, ℕ, ◌+◌, ◌<◌, ◌≤◌}
-use Rattle.ramp_step.specs.Knots.{knot}
+use Rattle.ramp_step.proofs.Common.{◌≡◌, ℕ, ◌+◌, ◌<◌, ◌≤◌, knot}
 use Rattle.ramp_step.proofs.splitting.insert.Given as goal
 
 abbrev pub decreases-loop-k : goal.decreases-loop-k

@@ -1,7 +1,5 @@
-use Rattle.std.proofs.Common.{◌∙◌}
-use Rattle.std.specs.Int.{w64}
-use Rattle.std.proofs.lemmas.Int.{quot_is, quot_fits}
-use Rattle.ramp_step.proofs.DivLaws.{exact_div}
+use Rattle.ramp_step.proofs.Common.{◌∙◌, w64, quot_is, quot_fits}
+use Rattle.ramp_step.proofs.Lemmas.{exact_div}
 use Rattle.ramp_step.proofs.splitting.slope_of.Goals as goal
 
 pub returns : goal.returns

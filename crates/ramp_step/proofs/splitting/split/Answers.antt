@@ -1,7 +1,5 @@
-use Rattle.std.proofs.Common.{◌≡◌, ◌-◌, arith, inl, inr, to_z, of_z}
-use Rattle.std.specs.Int.{w64}
-use Rattle.std.proofs.lemmas.Int.{ints, to_z-of_z}
-use Rattle.ramp_step.proofs.CutLaws.{IsSplit-still, IsSplit-inserted, IsLimited-inserted, on_line_between, within_between}
+use Rattle.ramp_step.proofs.Common.{◌≡◌, ◌-◌, arith, inl, inr, to_z, of_z, w64, ints, to_z-of_z}
+use Rattle.ramp_step.proofs.Lemmas.{IsSplit-still, IsSplit-inserted, IsLimited-inserted, on_line_between, within_between}
 use Rattle.ramp_step.proofs.splitting.split.Goals as goal
 
 pub returns-then-m-eq0-clause-split : goal.returns-then-m-eq0-clause-split

@@ -1,7 +1,5 @@
-use Rattle.std.proofs.Common.{arith}
-use Rattle.std.specs.Int.{w64}
-use Rattle.std.proofs.lemmas.Int.{ints, to_z-of_z}
-use Rattle.ramp_step.proofs.SpreadLaws.{AreWindow-still, AreWindow-spread, IsLimited-still, IsLimited-spread}
+use Rattle.ramp_step.proofs.Common.{arith, w64, ints, to_z-of_z}
+use Rattle.ramp_step.proofs.Lemmas.{AreWindow-still, AreWindow-spread, IsLimited-still, IsLimited-spread}
 use Rattle.ramp_step.proofs.window.shift.Goals as goal
 
 pub returns-then-reach-eq0-clause-window : goal.returns-then-reach-eq0-clause-window

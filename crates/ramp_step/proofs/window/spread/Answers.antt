@@ -1,10 +1,5 @@
-use Rattle.std.proofs.Common.{◌≡◌, ◌<◌, length, arith, ap, ◌∙◌, below_more}
-use Rattle.ramp_step.specs.declared.breakpoint.Knot.{Knot}
-use Rattle.ramp_step.specs.Knots.{knot}
-use Rattle.ramp_step.proofs.KnotLaws.{knot_same, knot_other}
-use Rattle.std.specs.Prelude.{◌-ℤ◌}
-use Rattle.std.specs.Int.{w64}
-use Rattle.std.proofs.Common.{to_z, of_z}
+use Rattle.ramp_step.proofs.Common.{◌≡◌, ◌<◌, length, arith, ap, ◌∙◌, below_more, Knot, knot, ◌-ℤ◌, w64, to_z, of_z}
+use Rattle.ramp_step.proofs.Lemmas.{knot_same, knot_other}
 use Rattle.ramp_step.proofs.window.spread.Goals as goal
 
 pub loop-i-preserved : goal.loop-i-preserved

@@ -1,6 +1,4 @@
-use Rattle.std.proofs.Common.{ℕ, ◌+◌, ◌<◌}
-use Rattle.std.specs.Prelude.{◌<ℤ◌}
-use Rattle.ramp_step.specs.Knots.{height}
+use Rattle.ramp_step.proofs.Common.{ℕ, ◌+◌, ◌<◌, ◌<ℤ◌, height}
 use Rattle.ramp_step.proofs.window.turn.Given as goal
 
 abbrev pub invariant-loop-j : goal.invariant-loop-j

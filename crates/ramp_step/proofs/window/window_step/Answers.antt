@@ -1,11 +1,5 @@
-use Rattle.std.proofs.Common.{◌≡◌, arith, to_z, of_z}
-use Rattle.std.specs.Int.{w64}
-use Rattle.std.proofs.lemmas.Int.{to_z-of_z}
-use Rattle.ramp_step.specs.Window.{IsWindow}
-use Rattle.ramp_step.proofs.RunLaws.{shape_of, AreBreaks-from}
-use Rattle.ramp_step.proofs.ShapeLaws.{IsWindow-from_knots}
-use Rattle.ramp_step.proofs.SpreadLaws.{IsWindow-cut}
-use Rattle.ramp_step.proofs.StepLaws.{within_of}
+use Rattle.ramp_step.proofs.Common.{◌≡◌, arith, to_z, of_z, w64, to_z-of_z, IsWindow}
+use Rattle.ramp_step.proofs.Lemmas.{shape_of, AreBreaks-from, IsWindow-from_knots, IsWindow-cut, within_of}
 use Rattle.ramp_step.proofs.window.window_step.Goals as goal
 use Rattle.ramp_step.proofs.window.window_step.Goals.{After-cut_below-left}
 

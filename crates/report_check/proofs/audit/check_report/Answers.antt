@@ -1,4 +1,4 @@
-use Rattle.report_check.proofs.Verdicts.{wrong_right}
+use Rattle.report_check.proofs.Lemmas.{wrong_right}
 use Rattle.report_check.proofs.audit.check_report.Goals as goal
 
 pub returns-in-Err-clause-right : goal.returns-in-Err-clause-right

@@ -1,11 +1,6 @@
-use Rattle.std.proofs.Common.{◌≡◌, List, [], ◌∷◌, ◌++◌, length, length-append, sym, ap, ◌∙◌, subst, arith, Some}
-use Rattle.std.proofs.lemmas.List.Elements.{All-push, All-pop}
+use Rattle.report_check.proofs.Common.{◌≡◌, List, [], ◌∷◌, ◌++◌, length, length-append, sym, ap, ◌∙◌, subst, arith, Some, All-push, All-pop, market_of, Answerer, IsBenchOver, AreFor}
 use Rattle.slope_list.specs.declared.slopes.Slopes.{Slopes}
 use Rattle.unit_program.specs.declared.bench.Bench.{Bench}
-use Rattle.uc_model.specs.PlainCases.{market_of}
-use Rattle.dealt_run.specs.declared.answerer.Answerer.{Answerer}
-use Rattle.case_answers.specs.Tops.{IsBenchOver}
-use Rattle.dealt_run.specs.Jobs.{AreFor}
 use Rattle.report_check.proofs.audit.jobs_for.Goals as goal
 
 pub make-requires-clause-bench : goal.make-requires-clause-bench

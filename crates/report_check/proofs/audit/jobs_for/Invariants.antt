@@ -1,8 +1,4 @@
-use Rattle.std.proofs.Common.{◌≡◌, ◌+◌, length, vec_len}
-use Rattle.std.specs.List.{All}
-use Rattle.uc_model.specs.PlainCases.{market_of}
-use Rattle.case_answers.specs.Tops.{IsBenchOver}
-use Rattle.dealt_run.specs.Jobs.{AreFor}
+use Rattle.report_check.proofs.Common.{◌≡◌, ◌+◌, length, vec_len, All, market_of, IsBenchOver, AreFor}
 use Rattle.report_check.proofs.audit.jobs_for.Given as goal
 
 abbrev pub invariant-loop-bench : goal.invariant-loop-bench

@@ -1,17 +1,5 @@
-use Rattle.std.proofs.Common.{◌≡◌, ℤ, ◌+◌, map, length, subst, sym, refl, arith}
-use Rattle.std.specs.Prelude.{min}
-use Rattle.std.specs.Int.{w128}
-use Rattle.std.proofs.lemmas.Int.{to_z-of_z}
-use Rattle.std.proofs.lemmas.List.{length-map}
-use Rattle.std.proofs.lemmas.Option.{none-some}
-use Rattle.uc_model.specs.PlainCases.{market_of, schedules_of, proposal_of}
-use Rattle.uc_model.specs.Runs.{IsRun, Fits}
-use Rattle.uc_model.specs.Systems.{plan_cost}
-use Rattle.report_read.specs.Plain.{report_of}
-use Rattle.report_check.specs.Heads.{right_opening}
-use Rattle.report_check.specs.ReportLines.{opening_lines}
-use Rattle.report_check.proofs.Early.{number_wrong, beyond, no_more}
-use Rattle.report_check.proofs.Verdicts.{wrong_right}
+use Rattle.report_check.proofs.Common.{◌≡◌, ℤ, ◌+◌, map, length, subst, sym, refl, arith, min, w128, to_z-of_z, length-map, none-some, market_of, schedules_of, proposal_of, IsRun, Fits, plan_cost, report_of, right_opening, opening_lines}
+use Rattle.report_check.proofs.Lemmas.{number_wrong, beyond, no_more, wrong_right}
 use Rattle.report_check.proofs.audit.judged.Goals as goal
 
 pub returns-then-right-told : goal.returns-then-right-told

@@ -1,8 +1,4 @@
-use Rattle.std.proofs.Common.{◌≡◌, Some, subst}
-use Rattle.std.proofs.lemmas.List.Elements.{All-pop}
-use Rattle.uc_model.specs.PlainCases.{market_of}
-use Rattle.dealt_run.specs.declared.answerer.Answerer.{Answerer}
-use Rattle.case_answers.specs.Tops.{IsBenchOver}
+use Rattle.report_check.proofs.Common.{◌≡◌, Some, subst, All-pop, market_of, Answerer, IsBenchOver}
 use Rattle.report_check.proofs.audit.last_bench.Goals as goal
 
 pub returns : goal.returns

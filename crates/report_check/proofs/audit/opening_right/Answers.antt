@@ -1,12 +1,5 @@
-use Rattle.std.proofs.Common.{ℤ, subst}
-use Rattle.std.specs.Int.{w128}
-use Rattle.std.proofs.lemmas.Int.{to_z-of_z}
-use Rattle.uc_model.specs.PlainCases.{market_of, schedules_of}
-use Rattle.report_read.specs.Plain.{report_of}
-use Rattle.report_check.specs.Compared.{Compares}
-use Rattle.report_check.specs.Heads.{right_opening}
-use Rattle.report_check.specs.ReportLines.{opening_lines}
-use Rattle.report_check.proofs.Early.{opening_told, opening_fails}
+use Rattle.report_check.proofs.Common.{ℤ, subst, w128, to_z-of_z, market_of, schedules_of, report_of, Compares, right_opening, opening_lines}
+use Rattle.report_check.proofs.Lemmas.{opening_told, opening_fails}
 use Rattle.report_check.proofs.audit.opening_right.Goals as goal
 
 pub returns-clause-right : goal.returns-clause-right

@@ -1,10 +1,4 @@
-use Rattle.std.proofs.Common.{ℕ, ◌+◌, sym, ap, ◌∙◌, arith}
-use Rattle.std.specs.Prelude.{min}
-use Rattle.std.specs.Int.{w128}
-use Rattle.std.proofs.lemmas.Int.{to_z-of_z}
-use Rattle.std.proofs.lemmas.List.{length-map}
-use Rattle.uc_model.specs.PlainCases.{market_of, schedules_of, proposal_of}
-use Rattle.report_read.specs.Plain.{report_of}
+use Rattle.report_check.proofs.Common.{ℕ, ◌+◌, sym, ap, ◌∙◌, arith, min, w128, to_z-of_z, length-map, market_of, schedules_of, proposal_of, report_of}
 use Rattle.report_check.proofs.audit.rows_right.Goals as goal
 
 pub jobs_for-requires-clause-schedules : goal.jobs_for-requires-clause-schedules

@@ -1,9 +1,6 @@
-use Rattle.std.proofs.Common.{Some, ◌-◌, sym, ap, ◌∙◌, arith, List, ℕ}
-use Rattle.std.proofs.lemmas.List.{length-map}
+use Rattle.report_check.proofs.Common.{Some, ◌-◌, sym, ap, ◌∙◌, arith, List, ℕ, length-map, market_of, named_thermal_of, named_renewable_of, named_bid_of}
 use Rattle.uc_model.specs.declared.kinds.Kind.TheVariants as kinds
-use Rattle.uc_model.specs.PlainCases.{market_of}
-use Rattle.uc_model.specs.PlainUnits.{named_thermal_of, named_renewable_of, named_bid_of}
-use Rattle.report_check.proofs.UnitLaws.{map_item, title, thermal_title, renewable_title, bid_title}
+use Rattle.report_check.proofs.Lemmas.{map_item, title, thermal_title, renewable_title, bid_title}
 use Rattle.report_check.proofs.due.title_at.Goals as goal
 
 pub returns-then-number-thermal : goal.returns-then-number-thermal

@@ -1,5 +1,5 @@
 use Rattle.std.specs.Cmp.{booleans_Decides}
-use Rattle.std.proofs.lemmas.Slice.Eq.{slice_eq-Decides}
+use Rattle.report_check.proofs.Common.{slice_eq-Decides}
 use Rattle.report_check.proofs.lines.same_flags.Goals as goal
 
 pub returns : goal.returns

@@ -1,10 +1,5 @@
-use Rattle.std.proofs.Common.{◌∷◌, []}
-use Rattle.std.specs.Int.{w128}
-use Rattle.std.proofs.lemmas.Int.{to_z-of_z}
-use Rattle.report_form.specs.ReportText.{chosen_text}
-use Rattle.report_read.specs.Plain.{report_of}
-use Rattle.report_check.proofs.Comparing.{judged_compare}
-use Rattle.report_check.proofs.Judging.{choice_judged}
+use Rattle.report_check.proofs.Common.{◌∷◌, [], w128, to_z-of_z, chosen_text, report_of}
+use Rattle.report_check.proofs.Lemmas.{judged_compare, choice_judged}
 use Rattle.report_check.proofs.parts.chosen_same.Goals as goal
 
 pub returns-clause-lines : goal.returns-clause-lines

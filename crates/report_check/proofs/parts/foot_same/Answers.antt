@@ -1,10 +1,5 @@
-use Rattle.std.proofs.Common.{◌∷◌, [], codes, refl, true}
-use Rattle.std.specs.Int.{w128}
-use Rattle.std.proofs.lemmas.Int.{to_z-of_z}
-use Rattle.report_read.specs.Plain.{report_of}
-use Rattle.report_check.specs.ReportLines.{foot_lines}
-use Rattle.report_check.proofs.Comparing.{judged_compare}
-use Rattle.report_check.proofs.Judging.{amount_judged}
+use Rattle.report_check.proofs.Common.{◌∷◌, [], codes, refl, true, w128, to_z-of_z, report_of, foot_lines}
+use Rattle.report_check.proofs.Lemmas.{judged_compare, amount_judged}
 use Rattle.report_check.proofs.parts.foot_same.Goals as goal
 
 pub returns : goal.returns

@@ -1,12 +1,5 @@
-use Rattle.std.proofs.Common.{◌∷◌, [], length}
-use Rattle.std.specs.Int.{w128}
-use Rattle.std.proofs.lemmas.Int.{to_z-of_z}
-use Rattle.std.proofs.lemmas.Result.{err_from_is_err_and}
-use Rattle.uc_model.specs.PlainCases.{market_of}
-use Rattle.report_read.specs.Plain.{report_of}
-use Rattle.report_check.specs.Heads.{right_opening}
-use Rattle.report_check.specs.ReportLines.{opening_lines, number_line}
-use Rattle.report_check.proofs.Comparing.{behind, stops}
+use Rattle.report_check.proofs.Common.{◌∷◌, [], length, w128, to_z-of_z, err_from_is_err_and, market_of, report_of, right_opening, opening_lines, number_line}
+use Rattle.report_check.proofs.Lemmas.{behind, stops}
 use Rattle.report_check.proofs.parts.head_same.Goals as goal
 
 pub returns-in_err-line-clause-lines : goal.returns-in_err-line-clause-lines

@@ -1,10 +1,5 @@
-use Rattle.std.proofs.Common.{◌∷◌, [], codes, sym, length}
-use Rattle.std.proofs.lemmas.List.{length-map}
-use Rattle.uc_model.specs.PlainCases.{proposal_of}
-use Rattle.report_read.specs.Plain.{report_of}
-use Rattle.report_check.specs.ReportLines.{number_line}
-use Rattle.report_check.proofs.Comparing.{judged_compare}
-use Rattle.report_check.proofs.Judging.{count_judged}
+use Rattle.report_check.proofs.Common.{◌∷◌, [], codes, sym, length, length-map, proposal_of, report_of, number_line}
+use Rattle.report_check.proofs.Lemmas.{judged_compare, count_judged}
 use Rattle.report_check.proofs.parts.number_same.Goals as goal
 
 pub returns-clause-lines : goal.returns-clause-lines

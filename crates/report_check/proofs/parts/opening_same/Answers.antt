@@ -1,13 +1,5 @@
-use Rattle.std.proofs.Common.{◌∷◌, [], codes, refl, true}
-use Rattle.std.specs.Int.{w128}
-use Rattle.std.proofs.lemmas.Int.{to_z-of_z}
-use Rattle.uc_model.specs.Data.{unit_count}
-use Rattle.uc_model.specs.PlainCases.{market_of}
-use Rattle.report_read.specs.Plain.{report_of}
-use Rattle.report_check.specs.Heads.{right_opening}
-use Rattle.report_check.specs.ReportLines.{opening_lines}
-use Rattle.report_check.proofs.Comparing.{judged_compare}
-use Rattle.report_check.proofs.Judging.{amount_judged, count_judged}
+use Rattle.report_check.proofs.Common.{◌∷◌, [], codes, refl, true, w128, to_z-of_z, unit_count, market_of, report_of, right_opening, opening_lines}
+use Rattle.report_check.proofs.Lemmas.{judged_compare, amount_judged, count_judged}
 use Rattle.report_check.proofs.parts.opening_same.Goals as goal
 
 pub returns-clause-lines : goal.returns-clause-lines

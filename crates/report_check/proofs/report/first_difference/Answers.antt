@@ -1,32 +1,8 @@
-use Rattle.std.proofs.Common.{◌+◌, Ok, Err, map, arith, refl, sym, subst}
-use Rattle.std.specs.Int.{w128}
-use Rattle.std.proofs.lemmas.Int.{to_z-of_z}
-use Rattle.std.proofs.lemmas.Option.{none-some}
-use Rattle.std.proofs.lemmas.List.{length-map}
-use Rattle.uc_model.specs.Limits.{IsWorth}
-use Rattle.uc_model.specs.PlainCases.{market_of, schedules_of, proposal_of}
-use Rattle.report_read.specs.Plain.{report_of, told_of}
-use Rattle.report_check.specs.ReportLines.{report_lines}
-use Rattle.report_check.specs.RightLines.{answers_of, right_of}
+use Rattle.report_check.proofs.Common.{◌+◌, Ok, Err, map, arith, refl, sym, subst, w128, to_z-of_z, none-some, length-map, IsWorth, market_of, schedules_of, proposal_of, report_of, told_of, report_lines, answers_of, right_of, ◌≡◌, ℕ, ℤ, Result, Some, List, length, slice_get, AllZip, flat_map, Schedule, Market, units, Proposal, IsTop, IsSettled, Report, IsRightReport, Compares, told_lines, Answers, titles, told_from, whole_lines, WrongLine}
 use Rattle.report_check.proofs.RightReports.{right_is, counted, count_zipped}
-use Rattle.report_check.proofs.UnitLaws.{read_item}
-use Rattle.report_check.proofs.Verdicts.{row_made, row_long, mine_whole, right_whole, compared_as, number_behind, sum_is_worth, all_right, first_wrong, not_right}
+use Rattle.report_check.proofs.Lemmas.{read_item, row_made, row_long, mine_whole, right_whole, compared_as, number_behind, sum_is_worth, all_right, first_wrong, not_right, IsMade}
 use Rattle.report_check.proofs.report.first_difference.Goals as goal
-use Rattle.std.proofs.Common.{◌≡◌, ℕ, ℤ, Result, Some, List, length}
-use Rattle.std.specs.Prelude.{slice_get}
-use Rattle.std.specs.List.{AllZip, flat_map}
-use Rattle.uc_model.specs.Data.{Schedule, Market, units}
-use Rattle.uc_model.specs.PriceRule.{Proposal}
-use Rattle.uc_model.specs.Earnings.{IsTop}
-use Rattle.uc_model.specs.Systems.{IsSettled}
 use Rattle.uplift_settle.specs.declared.settlement.Settlement.{Settlement}
-use Rattle.report_form.specs.ReportText.{Report}
-use Rattle.hull_report.specs.RightReport.{IsRightReport}
-use Rattle.report_check.specs.Compared.{Compares}
-use Rattle.report_check.specs.ReportLines.{told_lines}
-use Rattle.report_check.specs.RightLines.{Answers, titles, told_from, whole_lines}
-use Rattle.report_check.specs.declared.wrong.WrongLine.{WrongLine}
-use Rattle.report_check.proofs.Verdicts.{IsMade}
 use Rattle.report_check.proofs.report.first_difference.Goals.{After-index-rows-chosen}
 
 -- the chosen row of the run

@@ -1,17 +1,4 @@
-use Rattle.std.proofs.Common.{rules, lit<, ℤ, ◌-ℤ◌, ◌+◌, Ok, Err, List, map, length, arith, sym}
-use Rattle.std.specs.Int.{w128}
-use Rattle.std.specs.Prelude.{FitsSigned}
-use Rattle.std.specs.List.{flat_map}
-use Rattle.std.proofs.lemmas.Int.{to_z-of_z, ints}
-use Rattle.std.proofs.lemmas.List.{length-map}
-use Rattle.std.proofs.lemmas.Result.{err_from_is_err_and}
-use Rattle.uc_model.specs.Data.{Schedule}
-use Rattle.uc_model.specs.Limits.{IsWorth}
-use Rattle.uc_model.specs.PlainCases.{market_of, proposal_of}
-use Rattle.uc_model.proofs.SignedLaws.{fits_within}
-use Rattle.report_read.specs.Plain.{report_of, told_of}
-use Rattle.report_check.specs.ReportLines.{told_lines}
-use Rattle.report_check.specs.RightLines.{answers_of, titles, told_from, right_of}
+use Rattle.report_check.proofs.Common.{rules, lit<, ℤ, ◌-ℤ◌, ◌+◌, Ok, Err, List, map, length, arith, sym, w128, FitsSigned, flat_map, to_z-of_z, ints, length-map, err_from_is_err_and, Schedule, IsWorth, market_of, proposal_of, fits_within, report_of, told_of, told_lines, answers_of, titles, told_from, right_of}
 use Rattle.report_check.proofs.WholeCompared.{whole_first, whole_second, whole_third, whole_fourth, whole_compared, head_given}
 use Rattle.report_check.proofs.report.report_same.Goals as goal
 

@@ -1,9 +1,5 @@
-use Rattle.std.proofs.Common.{ℕ, ◌++◌, ◌∷◌, [], codes}
-use Rattle.uc_model.specs.PlainCases.{proposal_of}
-use Rattle.report_form.specs.Numerals.{numeral}
-use Rattle.report_check.specs.ReportLines.{row_lines}
-use Rattle.report_check.proofs.Comparing.{judged_compare}
-use Rattle.report_check.proofs.Judging.{amount_judged, amounts_judged}
+use Rattle.report_check.proofs.Common.{ℕ, ◌++◌, ◌∷◌, [], codes, proposal_of, numeral, row_lines}
+use Rattle.report_check.proofs.Lemmas.{judged_compare, amount_judged, amounts_judged}
 use Rattle.report_check.proofs.rows.row_same.Goals as goal
 
 pub returns-clause-lines : goal.returns-clause-lines

@@ -1,9 +1,5 @@
-use Rattle.std.proofs.Common.{suc, ◌<◌, Ok, Err, map, length, arith}
-use Rattle.std.proofs.lemmas.List.{length-map}
-use Rattle.std.proofs.lemmas.Result.{err_from_is_err_and}
-use Rattle.uc_model.specs.PlainCases.{proposal_of}
-use Rattle.report_check.proofs.UnitLaws.{read_item}
-use Rattle.report_check.proofs.UnitCompared.{rows_step, rows_stop, rows_end}
+use Rattle.report_check.proofs.Common.{suc, ◌<◌, Ok, Err, map, length, arith, length-map, err_from_is_err_and, proposal_of}
+use Rattle.report_check.proofs.Lemmas.{read_item, rows_step, rows_stop, rows_end}
 use Rattle.report_check.proofs.rows.rows_same.Goals as goal
 
 pub returns-in_err-line-clause-lines : goal.returns-in_err-line-clause-lines

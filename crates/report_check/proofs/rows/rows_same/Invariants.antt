@@ -1,8 +1,4 @@
-use Rattle.std.proofs.Common.{◌≡◌, ℕ, suc, ◌+◌, ◌*◌, Result, map, drop}
-use Rattle.uc_model.specs.PlainCases.{proposal_of}
-use Rattle.report_check.specs.Compared.{Compares}
-use Rattle.report_check.specs.ReportLines.{rows_lines}
-use Rattle.report_check.specs.declared.wrong.WrongLine.{WrongLine}
+use Rattle.report_check.proofs.Common.{◌≡◌, ℕ, suc, ◌+◌, ◌*◌, Result, map, drop, proposal_of, Compares, rows_lines, WrongLine}
 use Rattle.report_check.proofs.rows.rows_same.Given as goal
 
 -- what is told of the rows left is told of all

@@ -1,5 +1,5 @@
-use Rattle.uc_model.specs.PlainUnits.{schedule_of}
-use Rattle.report_check.proofs.UnitCompared.{thermal_response, other_response}
+use Rattle.report_check.proofs.Common.{schedule_of}
+use Rattle.report_check.proofs.Lemmas.{thermal_response, other_response}
 use Rattle.report_check.proofs.units.response_same.Goals as goal
 
 pub returns-in-Thermal : goal.returns-in-Thermal

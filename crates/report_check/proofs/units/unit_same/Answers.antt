@@ -1,9 +1,6 @@
-use Rattle.std.proofs.Common.{◌≡◌, ap, true, false, sym, ◌∙◌}
-use Rattle.uc_model.specs.PlainUnits.{schedule_of}
-use Rattle.report_check.specs.ReportLines.{kind_word, response_lines}
-use Rattle.report_check.proofs.Comparing.{here_differ}
+use Rattle.report_check.proofs.Common.{◌≡◌, ap, true, false, sym, ◌∙◌, schedule_of, kind_word, response_lines}
+use Rattle.report_check.proofs.Lemmas.{here_differ, titles_differ, unit_compared}
 use Rattle.report_check.proofs.OneLine.{Titled, title_text}
-use Rattle.report_check.proofs.UnitCompared.{titles_differ, unit_compared}
 use Rattle.report_check.proofs.units.unit_same.Goals as goal
 use Rattle.report_check.proofs.units.unit_same.Goals.{then-not-same_title-via-then-not-same_title, then-not-same_title-via-else-not-same_title+then-not-same_money}
 

@@ -1,16 +1,5 @@
-use Rattle.std.proofs.Common.{ℕ, Ok, Err, List, map, arith, subst}
-use Rattle.std.proofs.lemmas.List.{length-map}
-use Rattle.std.proofs.lemmas.Result.{err_from_is_err_and}
-use Rattle.uc_model.specs.Data.{Schedule, units}
-use Rattle.uc_model.specs.PlainCases.{market_of}
-use Rattle.uc_model.specs.PlainUnits.{prices_of, schedule_of}
-use Rattle.uc_model.specs.Runs.{Fits}
-use Rattle.report_read.specs.Plain.{told_of}
-use Rattle.report_check.specs.Compared.{Compares}
-use Rattle.report_check.specs.ReportLines.{told_lines}
-use Rattle.report_check.specs.RightLines.{Title, answers_of, idle, titles}
-use Rattle.report_check.proofs.UnitLaws.{read_item, zip_at, titles_length}
-use Rattle.report_check.proofs.UnitCompared.{units_step, units_stop, units_end, due_lines}
+use Rattle.report_check.proofs.Common.{ℕ, Ok, Err, List, map, arith, subst, length-map, err_from_is_err_and, Schedule, units, market_of, prices_of, schedule_of, Fits, told_of, Compares, told_lines, Title, answers_of, idle, titles}
+use Rattle.report_check.proofs.Lemmas.{read_item, zip_at, titles_length, units_step, units_stop, units_end, due_lines}
 use Rattle.report_check.proofs.units.units_same.Goals as goal
 
 pub returns-in_err-line-clause-lines : goal.returns-in_err-line-clause-lines

@@ -1,15 +1,4 @@
-use Rattle.std.proofs.Common.{◌≡◌, ℕ, ◌+◌, ◌*◌, ◌≤◌, Result, List, map, drop, length}
-use Rattle.std.specs.List.{AllZip, flat_map}
-use Rattle.uc_model.specs.Data.{Schedule, units}
-use Rattle.uc_model.specs.PlainCases.{market_of}
-use Rattle.uc_model.specs.PlainUnits.{prices_of, schedule_of}
-use Rattle.uc_model.specs.Runs.{Fits}
-use Rattle.case_answers.specs.Tops.{IsBenchOver}
-use Rattle.report_read.specs.Plain.{told_of}
-use Rattle.report_check.specs.Compared.{Compares}
-use Rattle.report_check.specs.ReportLines.{told_lines}
-use Rattle.report_check.specs.RightLines.{Answers, answers_of, titles, told_from}
-use Rattle.report_check.specs.declared.wrong.WrongLine.{WrongLine}
+use Rattle.report_check.proofs.Common.{◌≡◌, ℕ, ◌+◌, ◌*◌, ◌≤◌, Result, List, map, drop, length, AllZip, flat_map, Schedule, units, market_of, prices_of, schedule_of, Fits, IsBenchOver, told_of, Compares, told_lines, Answers, answers_of, titles, told_from, WrongLine}
 use Rattle.report_check.proofs.units.units_same.Given as goal
 
 -- what is told of the units left is told of all

@@ -1,5 +1,4 @@
-use Rattle.std.proofs.Common.{◌≡◌, ◌+◌, drop}
-use Rattle.report_check.specs.Compared.{wrong_from}
+use Rattle.report_check.proofs.Common.{◌≡◌, ◌+◌, drop, wrong_from}
 use Rattle.report_check.proofs.wrong.all_same.Given as goal
 
 -- what is told of the rest is told of all

@@ -1,8 +1,5 @@
-use Rattle.std.proofs.Common.{subst, rules}
-use Rattle.std.specs.Int.{w128}
-use Rattle.std.proofs.lemmas.Int.{to_z-of_z}
-use Rattle.hull_io.specs.Edge.{Writes}
-use Rattle.report_form.proofs.NumeralLaws.{amount_is}
+use Rattle.report_form.proofs.Common.{subst, rules, w128, to_z-of_z, Writes}
+use Rattle.report_form.proofs.Lemmas.{amount_is}
 use Rattle.report_form.proofs.parts.write_amount.Goals as goal
 
 pub returns : goal.returns

@@ -1,5 +1,5 @@
-use Rattle.report_form.proofs.GrownLemmas.{writes_then}
-use Rattle.report_form.specs.Numerals.{numeral}
+use Rattle.report_form.proofs.Lemmas.{writes_then}
+use Rattle.report_form.proofs.Common.{numeral}
 use Rattle.report_form.proofs.parts.write_behind.Goals as goal
 
 pub returns : goal.returns

@@ -1,6 +1,5 @@
-use Rattle.std.proofs.Common.{arith}
-use Rattle.report_form.proofs.GrownLemmas.{exit_in_list}
-use Rattle.report_form.specs.Parts.{escaped}
+use Rattle.report_form.proofs.Common.{arith, escaped}
+use Rattle.report_form.proofs.Lemmas.{exit_in_list}
 use Rattle.report_form.proofs.parts.write_bytes.Goals as goal
 
 pub returns-in_err-write_escaped : goal.returns-in_err-write_escaped

@@ -1,7 +1,4 @@
-use Rattle.std.proofs.Common.{take}
-use Rattle.hull_io.specs.Edge.{Gains}
-use Rattle.std.specs.List.{flat_map}
-use Rattle.report_form.specs.Parts.{escaped}
+use Rattle.report_form.proofs.Common.{take, Gains, flat_map, escaped}
 use Rattle.report_form.proofs.parts.write_bytes.Given as goal
 
 -- what stands before was gained

@@ -1,7 +1,5 @@
-use Rattle.std.proofs.Common.{[], ◌∷◌}
-use Rattle.std.specs.List.{flat_map}
-use Rattle.report_form.proofs.GrownLemmas.{writes_then}
-use Rattle.report_form.specs.Parts.{escaped}
+use Rattle.report_form.proofs.Common.{[], ◌∷◌, flat_map, escaped}
+use Rattle.report_form.proofs.Lemmas.{writes_then}
 use Rattle.report_form.proofs.parts.write_closed.Goals as goal
 
 pub returns : goal.returns

@@ -1,6 +1,5 @@
-use Rattle.std.proofs.Common.{subst, rules}
-use Rattle.hull_io.specs.Edge.{Writes}
-use Rattle.report_form.proofs.NumeralLaws.{wide_count_is}
+use Rattle.report_form.proofs.Common.{subst, rules, Writes}
+use Rattle.report_form.proofs.Lemmas.{wide_count_is}
 use Rattle.report_form.proofs.parts.write_count.Goals as goal
 
 pub returns : goal.returns

@@ -1,5 +1,5 @@
-use Rattle.std.proofs.Common.{sym}
-use Rattle.report_form.proofs.NameLemmas.{escaped-plain, escaped-control, escaped-behind}
+use Rattle.report_form.proofs.Common.{sym}
+use Rattle.report_form.proofs.Lemmas.{escaped-plain, escaped-control, escaped-behind}
 use Rattle.report_form.proofs.parts.write_escaped.Goals as goal
 
 pub returns-then-is_plain : goal.returns-then-is_plain

@@ -1,5 +1,5 @@
-use Rattle.std.proofs.Common.{sym}
-use Rattle.report_form.proofs.NameLemmas.{escaped_all_plain}
+use Rattle.report_form.proofs.Common.{sym}
+use Rattle.report_form.proofs.Lemmas.{escaped_all_plain}
 use Rattle.report_form.proofs.parts.write_inside.Goals as goal
 
 pub returns-then-is_all_plain : goal.returns-then-is_all_plain

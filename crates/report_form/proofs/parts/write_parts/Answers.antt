@@ -1,5 +1,5 @@
-use Rattle.std.proofs.Common.{arith}
-use Rattle.report_form.proofs.GrownLemmas.{exit_in_list}
+use Rattle.report_form.proofs.Common.{arith}
+use Rattle.report_form.proofs.Lemmas.{exit_in_list}
 use Rattle.report_form.proofs.parts.write_parts.Goals as goal
 
 pub returns-in_err-write_part : goal.returns-in_err-write_part

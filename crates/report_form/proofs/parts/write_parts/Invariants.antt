@@ -1,7 +1,4 @@
-use Rattle.std.proofs.Common.{take}
-use Rattle.hull_io.specs.Edge.{Gains}
-use Rattle.std.specs.List.{flat_map}
-use Rattle.report_form.specs.Parts.{part_text}
+use Rattle.report_form.proofs.Common.{take, Gains, flat_map, part_text}
 use Rattle.report_form.proofs.parts.write_parts.Given as goal
 
 -- what stands before was gained

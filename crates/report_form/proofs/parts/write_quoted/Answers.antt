@@ -1,5 +1,5 @@
-use Rattle.std.proofs.Common.{[], ◌∷◌}
-use Rattle.report_form.proofs.GrownLemmas.{short_more, writes_then, writes_exit}
+use Rattle.report_form.proofs.Common.{[], ◌∷◌}
+use Rattle.report_form.proofs.Lemmas.{short_more, writes_then, writes_exit}
 use Rattle.report_form.proofs.parts.write_quoted.Goals as goal
 
 pub returns-in_err-write_whole : goal.returns-in_err-write_whole

@@ -1,9 +1,5 @@
-use Rattle.std.proofs.Common.{arith, ◌∷◌, rules, pos, get_or}
-use Rattle.std.specs.Int.{w128}
-use Rattle.std.proofs.lemmas.Int.{to_z-of_z}
-use Rattle.report_form.specs.Numerals.{signed_numeral}
-use Rattle.report_form.proofs.NumeralLaws.{amount_is}
-use Rattle.report_form.proofs.PieceLemmas.{pends_in_list, pends_exit, pends_end}
+use Rattle.report_form.proofs.Common.{arith, ◌∷◌, rules, pos, get_or, w128, to_z-of_z, signed_numeral}
+use Rattle.report_form.proofs.Lemmas.{amount_is, pends_in_list, pends_exit, pends_end}
 use Rattle.report_form.proofs.pieces.write_amounts.Goals as goal
 
 pub returns-in_err-add_number : goal.returns-in_err-add_number

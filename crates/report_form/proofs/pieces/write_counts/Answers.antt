@@ -1,7 +1,5 @@
-use Rattle.std.proofs.Common.{arith, ◌∷◌, get_or, rules}
-use Rattle.report_form.specs.Numerals.{numeral}
-use Rattle.report_form.proofs.NumeralLaws.{count_is}
-use Rattle.report_form.proofs.PieceLemmas.{pends_in_list, pends_exit, pends_end}
+use Rattle.report_form.proofs.Common.{arith, ◌∷◌, get_or, rules, numeral}
+use Rattle.report_form.proofs.Lemmas.{count_is, pends_in_list, pends_exit, pends_end}
 use Rattle.report_form.proofs.pieces.write_counts.Goals as goal
 
 pub returns-in_err-add_number : goal.returns-in_err-add_number

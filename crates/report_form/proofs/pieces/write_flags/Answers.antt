@@ -1,6 +1,5 @@
-use Rattle.std.proofs.Common.{arith, false}
-use Rattle.report_form.specs.Parts.{flag_text}
-use Rattle.report_form.proofs.PieceLemmas.{pends_in_list, pends_exit, pends_end}
+use Rattle.report_form.proofs.Common.{arith, false, flag_text}
+use Rattle.report_form.proofs.Lemmas.{pends_in_list, pends_exit, pends_end}
 use Rattle.report_form.proofs.pieces.write_flags.Goals as goal
 
 pub returns-in_err-add_flag : goal.returns-in_err-add_flag

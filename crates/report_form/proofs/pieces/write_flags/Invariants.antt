@@ -1,6 +1,4 @@
-use Rattle.std.proofs.Common.{take}
-use Rattle.report_form.specs.Parts.{spaced_flags}
-use Rattle.report_form.specs.Pending.{Pends}
+use Rattle.report_form.proofs.Common.{take, spaced_flags, Pends}
 use Rattle.report_form.proofs.pieces.write_flags.Given as goal
 
 -- a front of what stands before was gained, and the rest waits

@@ -1,7 +1,4 @@
-use Rattle.std.proofs.Common.{rules}
-use Rattle.std.specs.Int.{w128}
-use Rattle.std.proofs.lemmas.Int.{to_z-of_z}
-use Rattle.report_form.specs.ReportText.{foot_text}
+use Rattle.report_form.proofs.Common.{rules, w128, to_z-of_z, foot_text}
 use Rattle.report_form.proofs.report.write_foot.Goals as goal
 
 pub returns : goal.returns

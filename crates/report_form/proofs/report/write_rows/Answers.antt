@@ -1,4 +1,4 @@
-use Rattle.std.proofs.Common.{arith}
+use Rattle.report_form.proofs.Common.{arith}
 use Rattle.report_form.proofs.RowTexts.{gains_row, exit_row}
 use Rattle.report_form.proofs.report.write_rows.Goals as goal
 

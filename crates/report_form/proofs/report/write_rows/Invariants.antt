@@ -1,7 +1,4 @@
-use Rattle.std.proofs.Common.{map, take}
-use Rattle.hull_io.specs.Edge.{Gains}
-use Rattle.uc_model.specs.PlainCases.{proposal_of}
-use Rattle.report_form.specs.ReportText.{rows_text}
+use Rattle.report_form.proofs.Common.{map, take, Gains, proposal_of, rows_text}
 use Rattle.report_form.proofs.report.write_rows.Given as goal
 
 -- the rows before were gained

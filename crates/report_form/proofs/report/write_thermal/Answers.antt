@@ -1,7 +1,4 @@
-use Rattle.std.proofs.Common.{rules, w64}
-use Rattle.std.specs.Int.{w128}
-use Rattle.std.proofs.lemmas.Int.{to_z-of_z}
-use Rattle.report_form.specs.ReportText.{thermal_text}
+use Rattle.report_form.proofs.Common.{rules, w64, w128, to_z-of_z, thermal_text}
 use Rattle.report_form.proofs.report.write_thermal.Goals as goal
 
 pub returns : goal.returns

@@ -1,7 +1,4 @@
-use Rattle.std.proofs.Common.{refl, rules}
-use Rattle.std.specs.Int.{w128}
-use Rattle.std.proofs.lemmas.Int.{to_z-of_z}
-use Rattle.report_read.specs.Lines.{head_at}
+use Rattle.report_read.proofs.Common.{refl, rules, w128, to_z-of_z, head_at}
 use Rattle.report_read.proofs.head.read_head.Goals as goal
 
 pub returns : goal.returns

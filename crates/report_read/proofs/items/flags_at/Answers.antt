@@ -1,6 +1,5 @@
-use Rattle.std.proofs.Common.{arith}
-use Rattle.report_read.specs.Words.{spaced, flag_at, items_at}
-use Rattle.report_read.proofs.Loops.{item_goes_on, item_fails, items_done}
+use Rattle.report_read.proofs.Common.{arith, spaced, flag_at, items_at}
+use Rattle.report_read.proofs.Lemmas.{item_goes_on, item_fails, items_done}
 use Rattle.report_read.proofs.items.flags_at.Goals as goal
 
 pub returns-in_err-flag : goal.returns-in_err-flag

@@ -1,5 +1,4 @@
-use Rattle.std.proofs.Common.{◌≡◌, ◌-◌, ◌≤◌}
-use Rattle.report_read.specs.Words.{spaced, flag_at, items_at}
+use Rattle.report_read.proofs.Common.{◌≡◌, ◌-◌, ◌≤◌, spaced, flag_at, items_at}
 use Rattle.report_read.proofs.Loops.{with_front}
 use Rattle.report_read.proofs.items.flags_at.Given as goal
 

@@ -1,7 +1,5 @@
-use Rattle.std.proofs.Common.{arith}
-use Rattle.report_read.specs.Words.{items_at}
-use Rattle.report_read.specs.Lines.{power_at}
-use Rattle.report_read.proofs.Loops.{item_goes_on, item_fails, items_done}
+use Rattle.report_read.proofs.Common.{arith, items_at, power_at}
+use Rattle.report_read.proofs.Lemmas.{item_goes_on, item_fails, items_done}
 use Rattle.report_read.proofs.items.powers_at.Goals as goal
 
 pub returns-in_err-power : goal.returns-in_err-power

@@ -1,8 +1,5 @@
-use Rattle.std.proofs.Common.{arith, rules, w64}
-use Rattle.std.proofs.lemmas.Int.{to_z-of_z}
-use Rattle.report_read.specs.Words.{items_at}
-use Rattle.report_read.specs.Lines.{price_at}
-use Rattle.report_read.proofs.Loops.{item_goes_on, item_fails, items_done}
+use Rattle.report_read.proofs.Common.{arith, rules, w64, to_z-of_z, items_at, price_at}
+use Rattle.report_read.proofs.Lemmas.{item_goes_on, item_fails, items_done}
 use Rattle.report_read.proofs.items.prices_at.Goals as goal
 
 pub returns-in_err-price : goal.returns-in_err-price

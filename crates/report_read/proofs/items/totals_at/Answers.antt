@@ -1,9 +1,5 @@
-use Rattle.std.proofs.Common.{arith, rules}
-use Rattle.std.specs.Int.{w128}
-use Rattle.std.proofs.lemmas.Int.{to_z-of_z}
-use Rattle.report_read.specs.Words.{items_at}
-use Rattle.report_read.specs.Lines.{total_at}
-use Rattle.report_read.proofs.Loops.{item_goes_on, item_fails, items_done}
+use Rattle.report_read.proofs.Common.{arith, rules, w128, to_z-of_z, items_at, total_at}
+use Rattle.report_read.proofs.Lemmas.{item_goes_on, item_fails, items_done}
 use Rattle.report_read.proofs.items.totals_at.Goals as goal
 
 pub returns-in_err-total : goal.returns-in_err-total

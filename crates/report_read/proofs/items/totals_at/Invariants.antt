@@ -1,6 +1,4 @@
-use Rattle.std.proofs.Common.{◌≡◌, ◌-◌, ◌≤◌}
-use Rattle.report_read.specs.Words.{items_at}
-use Rattle.report_read.specs.Lines.{total_at}
+use Rattle.report_read.proofs.Common.{◌≡◌, ◌-◌, ◌≤◌, items_at, total_at}
 use Rattle.report_read.proofs.Loops.{with_front}
 use Rattle.report_read.proofs.items.totals_at.Given as goal
 

@@ -1,4 +1,4 @@
-use Rattle.report_read.proofs.OneFault.{one_difference}
+use Rattle.report_read.proofs.Lemmas.{one_difference}
 use Rattle.report_read.proofs.laws.one_line_differs.Goals as goal
 
 pub returns : goal.returns

@@ -1,4 +1,4 @@
-use Rattle.report_read.proofs.WholeForm.{has_form}
+use Rattle.report_read.proofs.Lemmas.{has_form}
 use Rattle.report_read.proofs.laws.one_report_has_a_text.Goals as goal
 
 pub returns : goal.returns

@@ -1,6 +1,5 @@
-use Rattle.std.proofs.Common.{length}
-use Rattle.report_read.specs.Words.{closed_within}
-use Rattle.report_read.proofs.Loops.{byte_goes_on, byte_fails, name_ends, name_is_open}
+use Rattle.report_read.proofs.Common.{length, closed_within}
+use Rattle.report_read.proofs.Lemmas.{byte_goes_on, byte_fails, name_ends, name_is_open}
 use Rattle.report_read.proofs.names.closed_at.Goals as goal
 
 pub returns : goal.returns

@@ -1,5 +1,4 @@
-use Rattle.std.proofs.Common.{◌≡◌, ◌-◌, length}
-use Rattle.report_read.specs.Words.{closed_within}
+use Rattle.report_read.proofs.Common.{◌≡◌, ◌-◌, length, closed_within}
 use Rattle.report_read.proofs.Loops.{with_front}
 use Rattle.report_read.proofs.names.closed_at.Given as goal
 

@@ -1,5 +1,4 @@
-use Rattle.std.proofs.Common.{◌≡◌, ℕ, List, Some, sym, ap, ◌∙◌, subst}
-use Rattle.std.specs.Prelude.{IsUtf8}
+use Rattle.report_read.proofs.Common.{◌≡◌, ℕ, List, Some, sym, ap, ◌∙◌, subst, IsUtf8}
 use Rattle.report_read.proofs.NameParts.{name_found, name_bad}
 use Rattle.report_read.proofs.names.name_at.Goals as goal
 

@@ -1,6 +1,5 @@
-use Rattle.std.proofs.Common.{◌∙◌, arith}
-use Rattle.report_read.specs.declared.numbers.TheConstants.{MOST}
-use Rattle.report_read.proofs.Narrow.{below_least, above_most, within, count_none, count_some}
+use Rattle.report_read.proofs.Common.{◌∙◌, arith, MOST}
+use Rattle.report_read.proofs.Lemmas.{below_least, above_most, within, count_none, count_some}
 use Rattle.report_read.proofs.numbers.count_at.Goals as goal
 use Rattle.report_read.proofs.numbers.count_at.Goals.{then-number-least-via-then-number-least, then-number-least-via-else-number-least+then-most-number}
 

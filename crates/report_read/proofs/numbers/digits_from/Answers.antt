@@ -1,8 +1,5 @@
-use Rattle.std.proofs.Common.{◌≡◌, ℕ, List, length, drop, sym, ap, ◌∙◌, arith}
-use Rattle.std.proofs.Math.ListN.{drop_of_length-le}
+use Rattle.report_read.proofs.Common.{◌≡◌, ℕ, List, length, drop, sym, ap, ◌∙◌, arith, drop_of_length-le, digits_spec, MOST}
 use Rattle.std.proofs.Math.Seq.{drop-length}
-use Rattle.report_read.specs.Words.{digits_from as digits_spec}
-use Rattle.report_read.specs.declared.numbers.TheConstants.{MOST}
 use Rattle.report_read.proofs.Steps.{digits_step, digits_stop, digits_end, digits_too_many}
 use Rattle.report_read.proofs.numbers.digits_from.Goals as goal
 

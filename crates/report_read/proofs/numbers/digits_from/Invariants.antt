@@ -1,5 +1,4 @@
-use Rattle.std.proofs.Common.{◌≡◌, drop}
-use Rattle.report_read.specs.Words.{digits_from as digits_spec}
+use Rattle.report_read.proofs.Common.{◌≡◌, drop, digits_spec}
 use Rattle.report_read.proofs.numbers.digits_from.Given as goal
 
 abbrev pub invariant-loop-place : goal.invariant-loop-place

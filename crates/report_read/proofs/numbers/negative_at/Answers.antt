@@ -1,9 +1,5 @@
-use Rattle.std.proofs.Common.{◌∙◌, sym, ap, ℤ, pos}
-use Rattle.std.specs.Int.{w128}
-use Rattle.std.proofs.Common.{Some, rules}
-use Rattle.std.proofs.lemmas.Int.{to_z-of_z}
-use Rattle.report_read.specs.declared.numbers.TheConstants.{MOST}
-use Rattle.report_read.proofs.Narrow.{count_most, minus_none, minus_zero, minus_some}
+use Rattle.report_read.proofs.Common.{◌∙◌, sym, ap, ℤ, pos, w128, Some, rules, to_z-of_z, MOST}
+use Rattle.report_read.proofs.Lemmas.{count_most, minus_none, minus_zero, minus_some}
 use Rattle.report_read.proofs.numbers.negative_at.Goals as goal
 
 pub returns-in_err-magnitude : goal.returns-in_err-magnitude

@@ -1,7 +1,5 @@
-use Rattle.std.proofs.Common.{◌∙◌, ap, arith, rules, ℤ, pos, Some}
-use Rattle.std.specs.Prelude.{neg_ℤ}
-use Rattle.std.proofs.lemmas.Int.{ints}
-use Rattle.report_read.proofs.Narrow.{int_below, int_above, int_within, integer_none, integer_some}
+use Rattle.report_read.proofs.Common.{◌∙◌, ap, arith, rules, ℤ, pos, Some, neg_ℤ, ints}
+use Rattle.report_read.proofs.Lemmas.{int_below, int_above, int_within, integer_none, integer_some}
 use Rattle.report_read.proofs.numbers.number_at.Goals as goal
 use Rattle.report_read.proofs.numbers.number_at.Goals.{then-number-least-via-then-number-least, then-number-least-via-else-number-least+then-most-number}
 

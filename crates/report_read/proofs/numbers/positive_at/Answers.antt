@@ -1,8 +1,5 @@
-use Rattle.std.proofs.Common.{◌∙◌, ap, arith, ℤ, pos, Some}
-use Rattle.std.proofs.lemmas.Int.{ints}
-use Rattle.std.specs.Prelude.{neg_ℤ}
-use Rattle.report_read.specs.declared.numbers.TheConstants.{MOST}
-use Rattle.report_read.proofs.Narrow.{count_most, plus_none, plus_above, plus_some}
+use Rattle.report_read.proofs.Common.{◌∙◌, ap, arith, ℤ, pos, Some, ints, neg_ℤ, MOST}
+use Rattle.report_read.proofs.Lemmas.{count_most, plus_none, plus_above, plus_some}
 use Rattle.report_read.proofs.numbers.positive_at.Goals as goal
 
 pub returns-in_err-magnitude : goal.returns-in_err-magnitude

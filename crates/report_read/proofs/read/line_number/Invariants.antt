@@ -1,5 +1,4 @@
-use Rattle.std.proofs.Common.{◌≡◌, ◌-◌, ◌≤◌, suc, length, take}
-use Rattle.report_read.specs.Faults.{line_feeds}
+use Rattle.report_read.proofs.Common.{◌≡◌, ◌-◌, ◌≤◌, suc, length, take, line_feeds}
 use Rattle.report_read.proofs.read.line_number.Given as goal
 
 abbrev pub invariant-loop-byte : goal.invariant-loop-byte

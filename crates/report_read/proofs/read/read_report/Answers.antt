@@ -1,7 +1,5 @@
-use Rattle.std.proofs.Common.{ℕ, sym, subst}
-use Rattle.report_read.specs.Plain.{report_of}
-use Rattle.report_read.specs.Faults.{IsFault}
-use Rattle.report_read.proofs.WholeForm.{all_takes, is_fault, left_within, never_both, one_read}
+use Rattle.report_read.proofs.Common.{ℕ, sym, subst, report_of, IsFault}
+use Rattle.report_read.proofs.Lemmas.{all_takes, is_fault, left_within, never_both, one_read}
 use Rattle.report_read.proofs.read.read_report.Goals as goal
 
 pub returns-in-Ok-clause-bounds : goal.returns-in-Ok-clause-bounds

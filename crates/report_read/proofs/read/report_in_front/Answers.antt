@@ -1,6 +1,5 @@
-use Rattle.std.proofs.Common.{map, arith, rules}
-use Rattle.report_read.specs.Plain.{told_of}
-use Rattle.report_read.proofs.WholeForm.{head_is, head_shorter, units_order}
+use Rattle.report_read.proofs.Common.{map, arith, rules, told_of}
+use Rattle.report_read.proofs.Lemmas.{head_is, head_shorter, units_order}
 use Rattle.report_read.proofs.read.report_in_front.Goals as goal
 
 pub read_rows-requires : goal.read_rows-requires

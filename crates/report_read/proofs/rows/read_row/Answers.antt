@@ -1,7 +1,5 @@
-use Rattle.std.proofs.Common.{sym, ◌∙◌, codes, refl}
-use Rattle.std.specs.Prelude.{neg_ℤ, pos}
-use Rattle.uc_model.specs.declared.limits.TheConstants.{PRICE_LIMIT}
-use Rattle.report_read.proofs.RowForms.{prices_are, totals_are, prices_valid, energy_zero, reserve_zero}
+use Rattle.report_read.proofs.Common.{sym, ◌∙◌, codes, refl, neg_ℤ, pos, PRICE_LIMIT}
+use Rattle.report_read.proofs.Lemmas.{prices_are, totals_are, prices_valid, energy_zero, reserve_zero}
 use Rattle.report_read.proofs.rows.read_row.Goals as goal
 
 pub invariant_of-row : goal.invariant_of-row

@@ -1,10 +1,5 @@
-use Rattle.std.proofs.Common.{◌≡◌, ◌++◌, ◌∷◌, [], ◌+◌, map, ap, ◌∙◌, arith}
-use Rattle.std.proofs.lemmas.Result.{err_from_is_err_and}
-use Rattle.std.proofs.lemmas.List.{map_push}
-use Rattle.uc_model.specs.PlainCases.{proposal_of}
-use Rattle.report_read.specs.Lines.{rows_at}
-use Rattle.report_read.proofs.LineLoops.{row_goes_on, row_fails, rows_done}
-use Rattle.report_read.proofs.RowForms.{row_shortens}
+use Rattle.report_read.proofs.Common.{◌≡◌, ◌++◌, ◌∷◌, [], ◌+◌, map, ap, ◌∙◌, arith, err_from_is_err_and, map_push, proposal_of, rows_at}
+use Rattle.report_read.proofs.Lemmas.{row_goes_on, row_fails, rows_done, row_shortens}
 use Rattle.report_read.proofs.rows.read_rows.Goals as goal
 
 pub returns-in_err-row : goal.returns-in_err-row

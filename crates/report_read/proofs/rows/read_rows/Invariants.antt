@@ -1,6 +1,4 @@
-use Rattle.std.proofs.Common.{◌≡◌, ◌+◌, ◌-◌, ◌*◌, ◌≤◌, length, map, min, ◌/◌}
-use Rattle.uc_model.specs.PlainCases.{proposal_of}
-use Rattle.report_read.specs.Lines.{rows_at}
+use Rattle.report_read.proofs.Common.{◌≡◌, ◌+◌, ◌-◌, ◌*◌, ◌≤◌, length, map, min, ◌/◌, proposal_of, rows_at}
 use Rattle.report_read.proofs.LineLoops.{with_front}
 use Rattle.report_read.proofs.rows.read_rows.Given as goal
 

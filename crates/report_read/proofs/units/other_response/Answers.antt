@@ -1,5 +1,5 @@
-use Rattle.std.proofs.Common.{List, Bool, ℕ, length, sym, ap, ◌∙◌, codes, refl, true}
-use Rattle.report_read.proofs.UnitForms.{powers_are, length-replicate}
+use Rattle.report_read.proofs.Common.{List, Bool, ℕ, length, sym, ap, ◌∙◌, codes, refl, true}
+use Rattle.report_read.proofs.Lemmas.{powers_are, length-replicate}
 use Rattle.report_read.proofs.units.other_response.Goals as goal
 
 pub invariant_of-result : goal.invariant_of-result

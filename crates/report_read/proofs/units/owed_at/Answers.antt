@@ -1,6 +1,4 @@
-use Rattle.std.proofs.Common.{refl, rules, w64}
-use Rattle.std.proofs.lemmas.Int.{to_z-of_z}
-use Rattle.report_read.specs.LineForms.{both}
+use Rattle.report_read.proofs.Common.{refl, rules, w64, to_z-of_z, both}
 use Rattle.report_read.proofs.units.owed_at.Goals as goal
 
 pub returns : goal.returns

@@ -1,9 +1,5 @@
-use Rattle.std.proofs.Common.{◌≡◌, ◌++◌, ◌∷◌, [], map, ap, ◌∙◌, arith}
-use Rattle.std.proofs.lemmas.Result.{err_from_is_err_and}
-use Rattle.std.proofs.lemmas.List.{map_push}
-use Rattle.report_read.specs.Plain.{told_of}
-use Rattle.report_read.specs.Lines.{units_at}
-use Rattle.report_read.proofs.LineLoops.{unit_goes_on, unit_fails, units_done}
+use Rattle.report_read.proofs.Common.{◌≡◌, ◌++◌, ◌∷◌, [], map, ap, ◌∙◌, arith, err_from_is_err_and, map_push, told_of, units_at}
+use Rattle.report_read.proofs.Lemmas.{unit_goes_on, unit_fails, units_done}
 use Rattle.report_read.proofs.units.read_units.Goals as goal
 
 pub returns-in_err-line : goal.returns-in_err-line

@@ -1,6 +1,4 @@
-use Rattle.std.proofs.Common.{◌≡◌, ◌-◌, ◌≤◌, map}
-use Rattle.report_read.specs.Plain.{told_of}
-use Rattle.report_read.specs.Lines.{units_at}
+use Rattle.report_read.proofs.Common.{◌≡◌, ◌-◌, ◌≤◌, map, told_of, units_at}
 use Rattle.report_read.proofs.LineLoops.{with_front}
 use Rattle.report_read.proofs.units.read_units.Given as goal
 

@@ -1,5 +1,5 @@
-use Rattle.std.proofs.Common.{sym, ◌∙◌, codes, refl}
-use Rattle.report_read.proofs.UnitForms.{flags_are, powers_are}
+use Rattle.report_read.proofs.Common.{sym, ◌∙◌, codes, refl}
+use Rattle.report_read.proofs.Lemmas.{flags_are, powers_are}
 use Rattle.report_read.proofs.units.thermal_response.Goals as goal
 
 pub invariant_of-result : goal.invariant_of-result

@@ -1,5 +1,4 @@
-use Rattle.std.proofs.Common.{◌≡◌, ◌≤◌, length, drop}
-use Rattle.report_read.specs.Words.{behind as behind_spec}
+use Rattle.report_read.proofs.Common.{◌≡◌, ◌≤◌, length, drop, behind_spec}
 use Rattle.report_read.proofs.words.behind.Given as goal
 
 abbrev pub invariant-loop-place : goal.invariant-loop-place

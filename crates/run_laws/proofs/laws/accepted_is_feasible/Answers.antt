@@ -1,5 +1,5 @@
-use Rattle.hull_words.specs.Words.{words_of}
-use Rattle.run_laws.proofs.OutcomeLaws.{accepted_is_feasible}
+use Rattle.run_laws.proofs.Common.{words_of}
+use Rattle.run_laws.proofs.Lemmas.{accepted_is_feasible}
 use Rattle.run_laws.proofs.laws.accepted_is_feasible.Goals as goal
 
 pub returns : goal.returns

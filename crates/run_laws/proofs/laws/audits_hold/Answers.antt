@@ -1,4 +1,4 @@
-use Rattle.hull_words.specs.Words.{words_of}
+use Rattle.run_laws.proofs.Common.{words_of}
 use Rattle.run_laws.proofs.AuditPromise.{audit_holds}
 use Rattle.run_laws.proofs.laws.audits_hold.Goals as goal
 

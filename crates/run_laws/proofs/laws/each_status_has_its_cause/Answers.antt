@@ -1,5 +1,5 @@
-use Rattle.hull_words.specs.Words.{words_of}
-use Rattle.run_laws.proofs.OutcomeLaws.{has_cause}
+use Rattle.run_laws.proofs.Common.{words_of}
+use Rattle.run_laws.proofs.Lemmas.{has_cause}
 use Rattle.run_laws.proofs.laws.each_status_has_its_cause.Goals as goal
 
 pub returns : goal.returns

@@ -1,5 +1,5 @@
-use Rattle.hull_words.specs.Words.{words_of}
-use Rattle.run_laws.proofs.OneDue.{one_text}
+use Rattle.run_laws.proofs.Common.{words_of}
+use Rattle.run_laws.proofs.Lemmas.{one_text}
 use Rattle.run_laws.proofs.laws.one_text_is_right.Goals as goal
 
 pub returns : goal.returns

@@ -1,5 +1,5 @@
-use Rattle.hull_words.specs.Words.{words_of}
-use Rattle.run_laws.proofs.OneDue.{one_due}
+use Rattle.run_laws.proofs.Common.{words_of}
+use Rattle.run_laws.proofs.Lemmas.{one_due}
 use Rattle.run_laws.proofs.laws.one_thing_is_due.Goals as goal
 
 pub returns : goal.returns

@@ -1,5 +1,5 @@
-use Rattle.hull_words.specs.Words.{words_of}
-use Rattle.run_laws.proofs.OutcomeLaws.{promised_at_0}
+use Rattle.run_laws.proofs.Common.{words_of}
+use Rattle.run_laws.proofs.Lemmas.{promised_at_0}
 use Rattle.run_laws.proofs.laws.reports_are_right.Goals as goal
 
 pub returns : goal.returns

@@ -1,6 +1,5 @@
-use Rattle.hull_words.specs.Words.{words_of}
-use Rattle.run_laws.proofs.OneDue.{AreOne}
-use Rattle.run_laws.proofs.OutcomeLaws.{is_decided}
+use Rattle.run_laws.proofs.Common.{words_of}
+use Rattle.run_laws.proofs.Lemmas.{AreOne, is_decided}
 use Rattle.run_laws.proofs.laws.what_was_read_decides.Goals as goal
 
 pub returns : goal.returns

@@ -1,5 +1,5 @@
-use Rattle.hull_words.specs.Words.{words_of}
-use Rattle.run_laws.proofs.OutcomeLaws.{words_follow}
+use Rattle.run_laws.proofs.Common.{words_of}
+use Rattle.run_laws.proofs.Lemmas.{words_follow}
 use Rattle.run_laws.proofs.laws.words_follow.Goals as goal
 
 pub returns : goal.returns

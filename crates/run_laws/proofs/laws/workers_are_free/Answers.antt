@@ -1,6 +1,4 @@
-use Rattle.std.proofs.Common.{refl}
-use Rattle.run_laws.specs.Laws.{AreAlike}
-use Rattle.hull_engine.specs.Outcome.{Command}
+use Rattle.run_laws.proofs.Common.{refl, AreAlike, Command}
 use Rattle.run_laws.proofs.laws.workers_are_free.Goals as goal
 
 same : (c : Command) → AreAlike c c

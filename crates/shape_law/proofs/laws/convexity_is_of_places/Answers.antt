@@ -1,4 +1,4 @@
-use Rattle.shape_law.proofs.ConvexLaws.{convex_at, IsConvex-from_places}
+use Rattle.shape_law.proofs.Lemmas.{convex_at, IsConvex-from_places}
 use Rattle.shape_law.proofs.laws.convexity_is_of_places.Goals as goal
 
 pub returns : goal.returns

@@ -1,4 +1,4 @@
-use Rattle.shape_law.proofs.ChainLaws.{charged_by, bounded_by}
+use Rattle.shape_law.proofs.Lemmas.{charged_by, bounded_by}
 use Rattle.shape_law.proofs.laws.counted_cells_are_bounded.Goals as goal
 
 pub returns-clause-charged : goal.returns-clause-charged

@@ -1,4 +1,4 @@
-use Rattle.shape_law.proofs.CurveLaws.{IsPlace-on_curve}
+use Rattle.shape_law.proofs.Lemmas.{IsPlace-on_curve}
 use Rattle.shape_law.proofs.laws.curve_places_are_limited.Goals as goal
 
 pub returns : goal.returns

@@ -1,4 +1,4 @@
-use Rattle.shape_law.proofs.CurveLaws.{curve_value-there}
+use Rattle.shape_law.proofs.Lemmas.{curve_value-there}
 use Rattle.shape_law.proofs.laws.curves_have_values.Goals as goal
 
 pub returns : goal.returns

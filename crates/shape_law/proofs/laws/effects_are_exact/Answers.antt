@@ -1,4 +1,4 @@
-use Rattle.shape_law.proofs.EffectLaws.{point_is_exact, sum_is_exact, curve_sum_is_exact, window_is_exact}
+use Rattle.shape_law.proofs.Lemmas.{point_is_exact, sum_is_exact, curve_sum_is_exact, window_is_exact}
 use Rattle.shape_law.proofs.laws.effects_are_exact.Goals as goal
 
 pub returns-clause-point : goal.returns-clause-point

@@ -1,4 +1,4 @@
-use Rattle.shape_law.proofs.EffectLaws.{sum_is_of_values, curve_sum_is_of_values, window_is_of_values}
+use Rattle.shape_law.proofs.Lemmas.{sum_is_of_values, curve_sum_is_of_values, window_is_of_values}
 use Rattle.shape_law.proofs.laws.effects_are_of_values.Goals as goal
 
 pub returns-clause-sum : goal.returns-clause-sum

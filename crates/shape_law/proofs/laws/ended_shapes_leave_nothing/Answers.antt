@@ -1,4 +1,4 @@
-use Rattle.shape_law.proofs.FrameLaws.{ended_shapes_leave_nothing}
+use Rattle.shape_law.proofs.Lemmas.{ended_shapes_leave_nothing}
 use Rattle.shape_law.proofs.laws.ended_shapes_leave_nothing.Goals as goal
 
 pub returns : goal.returns

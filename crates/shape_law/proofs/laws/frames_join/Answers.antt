@@ -1,4 +1,4 @@
-use Rattle.shape_law.proofs.FrameLaws.{frames_join}
+use Rattle.shape_law.proofs.Lemmas.{frames_join}
 use Rattle.shape_law.proofs.laws.frames_join.Goals as goal
 
 pub returns : goal.returns

@@ -1,4 +1,4 @@
-use Rattle.shape_law.proofs.FrameLaws.{others_stay}
+use Rattle.shape_law.proofs.Lemmas.{others_stay}
 use Rattle.shape_law.proofs.laws.others_stay.Goals as goal
 
 pub returns : goal.returns

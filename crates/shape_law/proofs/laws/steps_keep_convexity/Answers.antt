@@ -1,6 +1,5 @@
-use Rattle.std.specs.Prelude.{pos}
-use Rattle.shape_law.proofs.ConvexLaws.{IsConvex-line, IsConvex-reserve, IsConvex-window}
-use Rattle.shape_law.proofs.CurveLaws.{IsConvex-curve_sum}
+use Rattle.shape_law.proofs.Common.{pos}
+use Rattle.shape_law.proofs.Lemmas.{IsConvex-line, IsConvex-reserve, IsConvex-window, IsConvex-curve_sum}
 use Rattle.shape_law.proofs.laws.steps_keep_convexity.Goals as goal
 
 pub returns : goal.returns

@@ -1,4 +1,4 @@
-use Rattle.std.proofs.Common.{◌≡◌, length, vec_capacity}
+use Rattle.slope_list.proofs.Common.{◌≡◌, length, vec_capacity}
 use Rattle.slope_list.proofs.slopes.lengthen.Given as goal
 
 abbrev pub invariant-loop : goal.invariant-loop

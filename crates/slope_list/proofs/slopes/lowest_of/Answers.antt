@@ -1,6 +1,4 @@
-use Rattle.std.proofs.Common.{◌≤◌, length, arith}
-use Rattle.std.proofs.lemmas.List.{length-take}
-use Rattle.slope_step.specs.declared.step.Made.{Made}
+use Rattle.slope_list.proofs.Common.{◌≤◌, length, arith, length-take, Made}
 use Rattle.slope_list.proofs.ShownLaws.{at_some}
 use Rattle.slope_list.proofs.slopes.lowest_of.Goals as goal
 

@@ -1,8 +1,5 @@
-use Rattle.std.proofs.Common.{sym, ◌∙◌, arith, rules}
-use Rattle.std.specs.Prelude.{FitsSigned}
-use Rattle.std.specs.Int.{w64}
-use Rattle.std.proofs.lemmas.Int.{ints, to_z-of_z}
-use Rattle.slope_step.proofs.BelowLaws.{part, part_value, part_goes, placed_on}
+use Rattle.slope_step.proofs.Common.{sym, ◌∙◌, arith, rules, FitsSigned, w64, ints, to_z-of_z}
+use Rattle.slope_step.proofs.Lemmas.{part, part_value, part_goes, placed_on}
 use Rattle.slope_step.proofs.below.go_on.Goals as goal
 use Rattle.slope_step.proofs.below.go_on.Goals.{then-end-piece, else-end-piece}
 

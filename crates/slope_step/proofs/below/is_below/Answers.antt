@@ -1,10 +1,5 @@
-use Rattle.std.proofs.Common.{◌≡◌, ◌<◌, ap, inl, inr, arith, rules, to_z, of_z}
-use Rattle.std.specs.Prelude.{FitsSigned, ◌+ℤ◌, ◌≤ℤ◌, length}
-use Rattle.std.specs.Int.{w64}
-use Rattle.std.proofs.lemmas.Int.{ints, clamps, to_z-of_z}
-use Rattle.slope_step.specs.Pieces.{piece, function_of}
-use Rattle.slope_step.proofs.PieceLaws.{ends_rise_to}
-use Rattle.slope_step.proofs.BelowLaws.{reached_amount, goes_on, end_ahead, end_of_one, fewer, under_on, shown_under}
+use Rattle.slope_step.proofs.Common.{◌≡◌, ◌<◌, ap, inl, inr, arith, rules, to_z, of_z, FitsSigned, ◌+ℤ◌, ◌≤ℤ◌, length, w64, ints, clamps, to_z-of_z, piece, function_of}
+use Rattle.slope_step.proofs.Lemmas.{ends_rise_to, reached_amount, goes_on, end_ahead, end_of_one, fewer, under_on, shown_under}
 use Rattle.slope_step.proofs.below.is_below.Goals as goal
 use Rattle.slope_step.proofs.below.is_below.Goals.{In-loop-there}
 

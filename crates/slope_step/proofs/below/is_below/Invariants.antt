@@ -1,6 +1,4 @@
-use Rattle.std.proofs.Common.{◌-◌, ◌+◌, length}
-use Rattle.std.specs.Prelude.{◌≤ℤ◌}
-use Rattle.slope_step.specs.Below.{IsReached, IsUnderTo}
+use Rattle.slope_step.proofs.Common.{◌-◌, ◌+◌, length, ◌≤ℤ◌, IsReached, IsUnderTo}
 use Rattle.slope_step.proofs.below.is_below.Given as goal
 
 abbrev pub invariant-loop-there : goal.invariant-loop-there

@@ -1,13 +1,6 @@
-use Rattle.std.proofs.Common.{◌≡◌, ℕ, suc, ◌+◌, ◌<◌, List, length, Some, sym, ap, ◌∙◌, arith, rules, to_z}
-use Rattle.std.specs.Prelude.{FitsSigned, ◌+ℤ◌, ◌-ℤ◌, ◌*ℤ◌, ◌≤ℤ◌}
-use Rattle.std.specs.Int.{w64}
-use Rattle.std.proofs.lemmas.Int.{ints, to_z-of_z}
-use Rattle.uc_model.specs.declared.units.Block.{Block}
-use Rattle.slope_step.specs.Blocks.{width_to}
-use Rattle.slope_step.proofs.BlockLaws.{block, rise_to}
+use Rattle.slope_step.proofs.Common.{◌≡◌, ℕ, suc, ◌+◌, ◌<◌, List, length, Some, sym, ap, ◌∙◌, arith, rules, to_z, FitsSigned, ◌+ℤ◌, ◌-ℤ◌, ◌*ℤ◌, ◌≤ℤ◌, w64, ints, to_z-of_z, Block, width_to}
+use Rattle.slope_step.proofs.Lemmas.{block, rise_to, same_le, coded, test_true, test_false}
 use Rattle.slope_step.proofs.FindLaws.{fits_stop, coded_stop, value_to, may_go, block_rises, lt_le, rise_on, value_at_end, before_end_of}
-use Rattle.slope_step.proofs.WindowLaws.{same_le}
-use Rattle.slope_step.proofs.WrapLaws.{coded, test_true, test_false}
 use Rattle.slope_step.proofs.blocks.find.Goals as goal
 use Rattle.slope_step.proofs.blocks.find.Goals.{In-loop-index}
 

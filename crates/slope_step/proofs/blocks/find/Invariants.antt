@@ -1,7 +1,5 @@
-use Rattle.std.proofs.Common.{◌≡◌}
-use Rattle.std.specs.Prelude.{◌+ℤ◌, ◌≤ℤ◌}
-use Rattle.slope_step.specs.Blocks.{width_to}
-use Rattle.slope_step.proofs.BlockLaws.{rise_to}
+use Rattle.slope_step.proofs.Common.{◌≡◌, ◌+ℤ◌, ◌≤ℤ◌, width_to}
+use Rattle.slope_step.proofs.Lemmas.{rise_to}
 use Rattle.slope_step.proofs.blocks.find.Given as goal
 
 abbrev pub invariant-loop-index : goal.invariant-loop-index

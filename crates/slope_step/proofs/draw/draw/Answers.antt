@@ -1,14 +1,5 @@
-use Rattle.std.proofs.Common.{◌≡◌, refl, ap, sym, ◌∙◌, arith, rules, to_z, of_z}
-use Rattle.std.specs.Prelude.{FitsSigned, ◌+ℤ◌, ◌*ℤ◌, ◌<ℤ◌}
-use Rattle.std.specs.Int.{w64, int_min}
-use Rattle.std.proofs.lemmas.Int.{ints, clamps, to_z-of_z}
-use Rattle.slope_step.specs.Pieces.{end_at}
-use Rattle.slope_step.specs.Window.{nearest, moved, moved_parts}
-use Rattle.slope_step.specs.Drawn.{paid}
-use Rattle.slope_step.proofs.LineLaws.{line_part, line_sum, line_product}
-use Rattle.slope_step.proofs.BlockLaws.{in_block_at}
-use Rattle.slope_step.proofs.DrawLaws.{same_line}
-use Rattle.slope_step.proofs.WindowLaws.{moved_parts_most, nearer, clipped, same_le, le_lt, le_same}
+use Rattle.slope_step.proofs.Common.{◌≡◌, refl, ap, sym, ◌∙◌, arith, rules, to_z, of_z, FitsSigned, ◌+ℤ◌, ◌*ℤ◌, ◌<ℤ◌, w64, int_min, ints, clamps, to_z-of_z, end_at, nearest, moved, moved_parts, paid}
+use Rattle.slope_step.proofs.Lemmas.{line_part, line_sum, line_product, in_block_at, same_line, moved_parts_most, nearer, clipped, same_le, le_lt, le_same}
 use Rattle.slope_step.proofs.draw.draw.Goals as goal
 
 pub loop-pen-init : goal.loop-pen-init

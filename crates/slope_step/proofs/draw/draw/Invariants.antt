@@ -1,9 +1,4 @@
-use Rattle.std.proofs.Common.{◌≡◌, ◌+◌, ◌≤◌, length}
-use Rattle.std.specs.Prelude.{◌-ℤ◌, ◌<ℤ◌, ◌≤ℤ◌, unsigned_abs}
-use Rattle.slope_step.specs.Kink.{IsPlaced}
-use Rattle.slope_step.specs.Window.{nearest, moved_parts}
-use Rattle.slope_step.specs.Blocks.{IsInBlock}
-use Rattle.slope_step.specs.Drawn.{stepped, IsDrawn}
+use Rattle.slope_step.proofs.Common.{◌≡◌, ◌+◌, ◌≤◌, length, ◌-ℤ◌, ◌<ℤ◌, ◌≤ℤ◌, unsigned_abs, IsPlaced, nearest, moved_parts, IsInBlock, stepped, IsDrawn}
 use Rattle.slope_step.proofs.draw.draw.Given as goal
 
 abbrev pub decreases-loop-pen : goal.decreases-loop-pen

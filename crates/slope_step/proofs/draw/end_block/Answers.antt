@@ -1,11 +1,5 @@
-use Rattle.std.proofs.Common.{arith, rules}
-use Rattle.std.specs.Prelude.{FitsSigned}
-use Rattle.std.specs.Int.{w64}
-use Rattle.std.proofs.lemmas.Int.{ints, clamps, to_z-of_z}
-use Rattle.slope_step.specs.Drawn.{with_cost}
-use Rattle.slope_step.proofs.LineLaws.{line_part}
-use Rattle.slope_step.proofs.BlockLaws.{in_block_at}
-use Rattle.slope_step.proofs.DrawLaws.{drawn_same}
+use Rattle.slope_step.proofs.Common.{arith, rules, FitsSigned, w64, ints, clamps, to_z-of_z, with_cost}
+use Rattle.slope_step.proofs.Lemmas.{line_part, in_block_at, drawn_same}
 use Rattle.slope_step.proofs.draw.end_block.Goals as goal
 
 pub write-written-requires-clause-rise : goal.write-written-requires-clause-rise

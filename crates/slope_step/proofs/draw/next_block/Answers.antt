@@ -1,10 +1,5 @@
-use Rattle.std.proofs.Common.{◌≡◌, ℕ, suc, ◌+◌, List, length, ap, subst, arith, to_z, of_z}
-use Rattle.std.specs.Prelude.{◌+ℤ◌}
-use Rattle.std.specs.Int.{w64}
-use Rattle.std.proofs.lemmas.Int.{ints}
-use Rattle.uc_model.specs.declared.units.Block.{Block}
-use Rattle.slope_step.specs.Blocks.{IsInBlock}
-use Rattle.slope_step.proofs.BlockLaws.{block, block_next, block_place, width_to-next}
+use Rattle.slope_step.proofs.Common.{◌≡◌, ℕ, suc, ◌+◌, List, length, ap, subst, arith, to_z, of_z, ◌+ℤ◌, w64, ints, Block, IsInBlock}
+use Rattle.slope_step.proofs.Lemmas.{block, block_next, block_place, width_to-next}
 use Rattle.slope_step.proofs.draw.next_block.Goals as goal
 
 pub bounds-blocks-block : goal.bounds-blocks-block

@@ -1,8 +1,5 @@
-use Rattle.std.proofs.Common.{arith}
-use Rattle.std.specs.Int.{w64}
-use Rattle.std.proofs.lemmas.Int.{ints, clamps, to_z-of_z}
-use Rattle.slope_step.proofs.LineLaws.{line_part}
-use Rattle.slope_step.proofs.BlockLaws.{wide_of, on_curve, block_more, in_block_at}
+use Rattle.slope_step.proofs.Common.{arith, w64, ints, clamps, to_z-of_z}
+use Rattle.slope_step.proofs.Lemmas.{line_part, wide_of, on_curve, block_more, in_block_at}
 use Rattle.slope_step.proofs.draw.put.Goals as goal
 
 pub loop-pen-init : goal.loop-pen-init

@@ -1,8 +1,4 @@
-use Rattle.std.proofs.Common.{ℤ, ◌+◌, ◌-◌, ◌≤◌, length}
-use Rattle.std.specs.Prelude.{◌<ℤ◌, ◌≤ℤ◌}
-use Rattle.slope_step.specs.Pieces.{IsLine}
-use Rattle.slope_step.specs.Blocks.{IsInBlock}
-use Rattle.slope_step.specs.Drawn.{with_cost, IsDrawn}
+use Rattle.slope_step.proofs.Common.{ℤ, ◌+◌, ◌-◌, ◌≤◌, length, ◌<ℤ◌, ◌≤ℤ◌, IsLine, IsInBlock, with_cost, IsDrawn}
 use Rattle.slope_step.proofs.draw.put.Given as goal
 
 abbrev pub decreases-loop-pen : goal.decreases-loop-pen

@@ -1,13 +1,5 @@
-use Rattle.std.proofs.Common.{◌≡◌, List, length, ap, refl, arith, to_z, of_z}
-use Rattle.std.specs.Prelude.{◌+ℤ◌}
-use Rattle.std.specs.Int.{w64}
-use Rattle.std.proofs.lemmas.Int.{ints, to_z-of_z}
-use Rattle.uc_model.specs.declared.units.Block.{Block}
-use Rattle.slope_step.specs.declared.piece.Piece.{Piece}
-use Rattle.slope_step.specs.Drawn.{with_cost, cost_at}
-use Rattle.slope_step.proofs.LineLaws.{line_sum}
-use Rattle.slope_step.proofs.BlockLaws.{block, wide_of, cost_line, price_within}
-use Rattle.slope_step.proofs.DrawLaws.{drawn_more, same_line}
+use Rattle.slope_step.proofs.Common.{◌≡◌, List, length, ap, refl, arith, to_z, of_z, ◌+ℤ◌, w64, ints, to_z-of_z, Block, Piece, with_cost, cost_at}
+use Rattle.slope_step.proofs.Lemmas.{line_sum, block, wide_of, cost_line, price_within, drawn_more, same_line}
 use Rattle.slope_step.proofs.draw.write.Goals as goal
 
 pub bounds-as_slice-pen : goal.bounds-as_slice-pen

@@ -1,10 +1,5 @@
-use Rattle.std.proofs.Common.{suc, ◌+◌, sym, ap, ◌∙◌, subst, below_more, arith, rules}
-use Rattle.std.specs.Prelude.{ℤ, FitsSigned}
-use Rattle.std.specs.Int.{w64}
-use Rattle.std.proofs.lemmas.Int.{ints, to_z-of_z}
-use Rattle.slope_step.specs.Pieces.{piece, end_at, last_place, function_of}
-use Rattle.slope_step.specs.Kink.{IsValley}
-use Rattle.slope_step.proofs.ReadLaws.{valley_at}
+use Rattle.slope_step.proofs.Common.{suc, ◌+◌, sym, ap, ◌∙◌, subst, below_more, arith, rules, ℤ, FitsSigned, w64, ints, to_z-of_z, piece, end_at, last_place, function_of, IsValley}
+use Rattle.slope_step.proofs.Lemmas.{valley_at}
 use Rattle.slope_step.proofs.kink.fall.Goals as goal
 
 pub returns-then-piece-ge0-clause-valley : goal.returns-then-piece-ge0-clause-valley

@@ -1,6 +1,4 @@
-use Rattle.std.proofs.Common.{◌≡◌, ℕ, ◌<◌}
-use Rattle.std.specs.Prelude.{pos, ◌<ℤ◌}
-use Rattle.slope_step.specs.Pieces.{piece, end_at}
+use Rattle.slope_step.proofs.Common.{◌≡◌, ℕ, ◌<◌, pos, ◌<ℤ◌, piece, end_at}
 use Rattle.slope_step.proofs.kink.fall.Given as goal
 
 abbrev pub invariant-loop-next : goal.invariant-loop-next

@@ -1,7 +1,4 @@
-use Rattle.std.proofs.Common.{arith, rules}
-use Rattle.std.specs.Prelude.{FitsSigned, pos}
-use Rattle.std.specs.Int.{w64}
-use Rattle.std.proofs.lemmas.Int.{ints, clamps, to_z-of_z, by_lt_z}
+use Rattle.slope_step.proofs.Common.{arith, rules, FitsSigned, pos, w64, ints, clamps, to_z-of_z, by_lt_z}
 use Rattle.slope_step.proofs.kink.lowered.Goals as goal
 
 pub returns : goal.returns

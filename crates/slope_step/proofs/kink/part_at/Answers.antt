@@ -1,10 +1,5 @@
-use Rattle.std.proofs.Common.{arith, to_z, of_z}
-use Rattle.std.specs.Int.{w64}
-use Rattle.std.specs.Prelude.{FitsSigned}
-use Rattle.std.proofs.Common.{rules}
-use Rattle.std.proofs.lemmas.Int.{ints, to_z-of_z}
-use Rattle.slope_step.specs.Pieces.{piece}
-use Rattle.slope_step.proofs.KinkLaws.{left, left_steep, part_line, part_placed, part_fewer}
+use Rattle.slope_step.proofs.Common.{arith, to_z, of_z, w64, FitsSigned, rules, ints, to_z-of_z, piece}
+use Rattle.slope_step.proofs.Lemmas.{left, left_steep, part_line, part_placed, part_fewer}
 use Rattle.slope_step.proofs.kink.part_at.Goals as goal
 use Rattle.slope_step.proofs.kink.part_at.Goals.{then-piece-whole, else-piece-whole}
 

@@ -1,10 +1,5 @@
-use Rattle.std.proofs.Common.{◌≡◌, suc, ◌+◌, length, sym, ap, ◌∙◌, arith, rules, to_z}
-use Rattle.std.specs.Prelude.{FitsSigned, ◌+ℤ◌, ◌-ℤ◌, ◌*ℤ◌, ◌≤ℤ◌}
-use Rattle.std.specs.Int.{w64}
-use Rattle.std.proofs.lemmas.Int.{ints, to_z-of_z}
-use Rattle.slope_step.specs.Pieces.{piece, end_at, function_of}
-use Rattle.slope_step.proofs.PieceLaws.{along_first}
-use Rattle.slope_step.proofs.KinkLaws.{level_from, can_go}
+use Rattle.slope_step.proofs.Common.{◌≡◌, suc, ◌+◌, length, sym, ap, ◌∙◌, arith, rules, to_z, FitsSigned, ◌+ℤ◌, ◌-ℤ◌, ◌*ℤ◌, ◌≤ℤ◌, w64, ints, to_z-of_z, piece, end_at, function_of}
+use Rattle.slope_step.proofs.Lemmas.{along_first, level_from, can_go}
 use Rattle.slope_step.proofs.kink.seek.Goals as goal
 use Rattle.slope_step.proofs.kink.seek.Goals.{then-loop-next-test+else-pieces-next, else-loop-next-test}
 

@@ -1,6 +1,4 @@
-use Rattle.std.proofs.Common.{◌≡◌, ◌-◌, ◌≤◌, length}
-use Rattle.std.specs.Prelude.{◌≤ℤ◌}
-use Rattle.slope_step.specs.Pieces.{end_at, function_of}
+use Rattle.slope_step.proofs.Common.{◌≡◌, ◌-◌, ◌≤◌, length, ◌≤ℤ◌, end_at, function_of}
 use Rattle.slope_step.proofs.kink.seek.Given as goal
 
 abbrev pub decreases-loop-next : goal.decreases-loop-next

@@ -1,8 +1,5 @@
-use Rattle.std.proofs.Common.{arith, rules}
-use Rattle.std.specs.Prelude.{FitsSigned}
-use Rattle.std.specs.Int.{w64}
-use Rattle.std.proofs.lemmas.Int.{ints, to_z-of_z}
-use Rattle.slope_step.proofs.KinkLaws.{kinked_falls, placed_within, valley_here, valley_end, falls_on}
+use Rattle.slope_step.proofs.Common.{arith, rules, FitsSigned, w64, ints, to_z-of_z}
+use Rattle.slope_step.proofs.Lemmas.{kinked_falls, placed_within, valley_here, valley_end, falls_on}
 use Rattle.slope_step.proofs.kink.turn.Goals as goal
 
 pub loop-place-init : goal.loop-place-init

@@ -1,6 +1,4 @@
-use Rattle.std.proofs.Common.{ℤ}
-use Rattle.std.specs.Prelude.{pos, ◌+ℤ◌, ◌≤ℤ◌, ◌<ℤ◌}
-use Rattle.slope_step.specs.Kink.{kinked, parts_from, IsPlaced}
+use Rattle.slope_step.proofs.Common.{ℤ, pos, ◌+ℤ◌, ◌≤ℤ◌, ◌<ℤ◌, kinked, parts_from, IsPlaced}
 use Rattle.slope_step.proofs.kink.turn.Given as goal
 
 abbrev pub decreases-loop-place : goal.decreases-loop-place

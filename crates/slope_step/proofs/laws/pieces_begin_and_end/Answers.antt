@@ -1,4 +1,4 @@
-use Rattle.slope_step.proofs.ReadLaws.{pieces_begin, pieces_end}
+use Rattle.slope_step.proofs.Lemmas.{pieces_begin, pieces_end}
 use Rattle.slope_step.proofs.laws.pieces_begin_and_end.Goals as goal
 
 pub returns-clause-first : goal.returns-clause-first

@@ -1,7 +1,4 @@
-use Rattle.std.proofs.Common.{arith}
-use Rattle.std.specs.Prelude.{◌+ℤ◌, ◌-ℤ◌, ◌*ℤ◌, FitsSigned}
-use Rattle.std.specs.Int.{w64}
-use Rattle.std.proofs.lemmas.Int.{ints, to_z-of_z}
+use Rattle.slope_step.proofs.Common.{arith, ◌+ℤ◌, ◌-ℤ◌, ◌*ℤ◌, FitsSigned, w64, ints, to_z-of_z}
 use Rattle.slope_step.proofs.piece.along.Goals as goal
 
 pub overflow_mul-result : goal.overflow_mul-result

@@ -1,11 +1,5 @@
-use Rattle.std.proofs.Common.{arith, rules, to_z}
-use Rattle.std.specs.Prelude.{FitsSigned, ◌+ℤ◌, ◌<ℤ◌}
-use Rattle.std.specs.Int.{w64}
-use Rattle.std.proofs.lemmas.Bool.{OnTrue_from}
-use Rattle.std.proofs.lemmas.Int.{ints, to_z-of_z}
-use Rattle.slope_step.specs.Below.{IsAbove}
-use Rattle.slope_step.specs.Pieces.{piece, last_place, function_of, table_of}
-use Rattle.slope_step.proofs.ReadLaws.{fallen_none, fallen_goes, fallen_on, fallen_amount, fallen_valley, above_all}
+use Rattle.slope_step.proofs.Common.{arith, rules, to_z, FitsSigned, ◌+ℤ◌, ◌<ℤ◌, w64, OnTrue_from, ints, to_z-of_z, IsAbove, piece, last_place, function_of, table_of}
+use Rattle.slope_step.proofs.Lemmas.{fallen_none, fallen_goes, fallen_on, fallen_amount, fallen_valley, above_all}
 use Rattle.slope_step.proofs.read.is_above.Goals as goal
 
 pub loop-piece-init : goal.loop-piece-init

@@ -1,10 +1,5 @@
-use Rattle.std.proofs.Common.{sym, subst, arith, rules, to_z}
-use Rattle.std.specs.Prelude.{ℤ, FitsSigned}
-use Rattle.std.specs.Int.{w64}
-use Rattle.std.proofs.lemmas.Int.{ints, to_z-of_z}
-use Rattle.shape_law.specs.Effect.{IsLeast}
-use Rattle.slope_step.specs.Pieces.{piece, last_place, function_of, table_of}
-use Rattle.slope_step.proofs.ReadLaws.{fallen_none, fallen_goes, fallen_on, fallen_valley}
+use Rattle.slope_step.proofs.Common.{sym, subst, arith, rules, to_z, ℤ, FitsSigned, w64, ints, to_z-of_z, IsLeast, piece, last_place, function_of, table_of}
+use Rattle.slope_step.proofs.Lemmas.{fallen_none, fallen_goes, fallen_on, fallen_valley}
 use Rattle.slope_step.proofs.ValleyLaws.{IsLeast-valley}
 use Rattle.slope_step.proofs.read.least.Goals as goal
 

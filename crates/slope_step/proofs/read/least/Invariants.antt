@@ -1,4 +1,4 @@
-use Rattle.slope_step.proofs.ReadLaws.{HasFallen}
+use Rattle.slope_step.proofs.Lemmas.{HasFallen}
 use Rattle.slope_step.proofs.read.least.Given as goal
 
 abbrev pub invariant-loop-piece : goal.invariant-loop-piece

@@ -1,10 +1,5 @@
-use Rattle.std.proofs.Common.{◌≡◌, ap, ◌∙◌, subst, sym, arith, rules}
-use Rattle.std.specs.Prelude.{ℤ, FitsSigned}
-use Rattle.std.specs.Int.{w64, int_min, int_max}
-use Rattle.std.proofs.lemmas.Int.{ints, clamps, to_z-of_z}
-use Rattle.shape_law.specs.Effect.{IsLeastIn}
-use Rattle.slope_step.specs.Pieces.{last_place, function_of, table_of}
-use Rattle.slope_step.proofs.ReadLaws.{IsLeastIn-valley, HasNone-on}
+use Rattle.slope_step.proofs.Common.{◌≡◌, ap, ◌∙◌, subst, sym, arith, rules, ℤ, FitsSigned, w64, int_min, int_max, ints, clamps, to_z-of_z, IsLeastIn, last_place, function_of, table_of}
+use Rattle.slope_step.proofs.Lemmas.{IsLeastIn-valley, HasNone-on}
 use Rattle.slope_step.proofs.read.least_in.Goals as goal
 
 pub returns-then-low-high : goal.returns-then-low-high

@@ -1,7 +1,4 @@
-use Rattle.std.proofs.Common.{◌∙◌, arith, rules}
-use Rattle.std.specs.Prelude.{FitsSigned}
-use Rattle.std.specs.Int.{w64}
-use Rattle.std.proofs.lemmas.Int.{ints, to_z-of_z}
+use Rattle.slope_step.proofs.Common.{◌∙◌, arith, rules, FitsSigned, w64, ints, to_z-of_z}
 use Rattle.slope_step.proofs.read.spot_at.Goals as goal
 
 pub seek-reached-requires-clause-from : goal.seek-reached-requires-clause-from

@@ -1,7 +1,5 @@
-use Rattle.std.proofs.Common.{◌≡◌}
-use Rattle.std.specs.Prelude.{◌+ℤ◌}
-use Rattle.std.specs.Int.{int_min}
-use Rattle.slope_step.proofs.WrapLaws.{coded_is, output_near, coded_up, fits_up}
+use Rattle.slope_step.proofs.Common.{◌≡◌, ◌+ℤ◌, int_min}
+use Rattle.slope_step.proofs.Lemmas.{coded_is, output_near, coded_up, fits_up}
 use Rattle.slope_step.proofs.LevelLaws.{fits_worth, fits_kinked, fits_pay, fits_paid, fits_all, level_is}
 use Rattle.slope_step.proofs.step.level_of.Goals as goal
 use Rattle.slope_step.proofs.step.level_of.Goals.{After-min-most}

@@ -1,16 +1,6 @@
-use Rattle.std.proofs.Common.{to_z, of_z, ◌≡◌, ap, sym, ◌∙◌, subst, refl, rules}
-use Rattle.std.specs.Prelude.{ℤ, FitsSigned, ◌+ℤ◌, ◌-ℤ◌, ◌*ℤ◌, ◌≤ℤ◌}
-use Rattle.std.specs.Int.{w64, int_min, int_max}
-use Rattle.std.proofs.lemmas.Int.{to_z-of_z}
-use Rattle.uc_model.specs.Limits.{IsCost}
-use Rattle.shape_law.specs.Curve.{reserve_term}
-use Rattle.slope_step.specs.Pieces.{last_place, function_of}
-use Rattle.slope_step.specs.Window.{nearest}
-use Rattle.slope_step.proofs.BlockLaws.{wide_of, on_curve, end_of-width}
+use Rattle.slope_step.proofs.Common.{to_z, of_z, ◌≡◌, ap, sym, ◌∙◌, subst, refl, rules, ℤ, FitsSigned, ◌+ℤ◌, ◌-ℤ◌, ◌*ℤ◌, ◌≤ℤ◌, w64, int_min, int_max, to_z-of_z, IsCost, reserve_term, last_place, function_of, nearest}
+use Rattle.slope_step.proofs.Lemmas.{wide_of, on_curve, end_of-width, end_of_valley, within_from_small, nearest_inside, le_trans, lt_le_trans, same_le, level_joined, coded_is, output_near, up_coded, down_coded, fits_sum, fits_less}
 use Rattle.slope_step.proofs.FunctionLaws.{cost_at_is}
-use Rattle.slope_step.proofs.KinkLaws.{end_of_valley, within_from_small}
-use Rattle.slope_step.proofs.WindowLaws.{nearest_inside, le_trans, lt_le_trans, same_le, level_joined}
-use Rattle.slope_step.proofs.WrapLaws.{coded_is, output_near, up_coded, down_coded, fits_sum, fits_less}
 use Rattle.slope_step.proofs.step.open.Goals as goal
 use Rattle.slope_step.proofs.step.open.Goals.{After-max-near}
 

@@ -1,24 +1,8 @@
-use Rattle.std.proofs.Common.{to_z, of_z, ◌≡◌, ◌≤◌, false, List, length, ap, sym, ◌∙◌, subst, arith, rules}
-use Rattle.std.specs.Prelude.{FitsSigned, ◌+ℤ◌, ◌-ℤ◌, ◌≤ℤ◌}
-use Rattle.std.specs.Int.{w64, int_min, int_max}
-use Rattle.std.proofs.lemmas.Int.{to_z-of_z}
-use Rattle.shape_law.specs.Steps.{IsSmall}
-use Rattle.uc_model.specs.Limits.{IsOutput}
-use Rattle.slope_step.specs.declared.piece.Piece.{Piece}
-use Rattle.slope_step.specs.declared.piece.Start.{Start}
-use Rattle.slope_step.specs.Blocks.{HasCosts}
-use Rattle.slope_step.specs.Kink.{AreSmall}
-use Rattle.slope_step.specs.Pieces.{last_place, table_of, AreSlopes}
-use Rattle.slope_step.specs.Window.{nearest}
-use Rattle.slope_step.specs.Drawn.{stepped}
-use Rattle.slope_step.specs.Turn.{IsTurn}
-use Rattle.slope_step.proofs.PieceLaws.{ends_rise_to}
+use Rattle.slope_step.proofs.Common.{to_z, of_z, ◌≡◌, ◌≤◌, false, List, length, ap, sym, ◌∙◌, subst, arith, rules, FitsSigned, ◌+ℤ◌, ◌-ℤ◌, ◌≤ℤ◌, w64, int_min, int_max, to_z-of_z, IsSmall, IsOutput, Piece, Start, HasCosts, AreSmall, last_place, table_of, AreSlopes, nearest, stepped, IsTurn, lt_z}
+use Rattle.slope_step.proofs.Lemmas.{ends_rise_to, same_le, coded_is, output_near, up_coded, down_coded, fits_sum, fits_less, test_true, test_false}
 use Rattle.slope_step.proofs.StepLaws.{small_from_table, gentle_from_small, costs_on, stepped_none, turn_on, written, written_slopes, written_within, step_low, step_high, step_output}
-use Rattle.slope_step.proofs.WindowLaws.{same_le}
-use Rattle.slope_step.proofs.WrapLaws.{coded_is, output_near, up_coded, down_coded, fits_sum, fits_less, test_true, test_false}
 use Rattle.slope_step.proofs.step.slope_step.Goals as goal
 use Rattle.slope_step.proofs.step.slope_step.Goals.{After-turn-turn}
-use lib.Signed.{lt_z}
 
 -- where the function before the step begins and ends
 record Ends (start : Start) (ps : List Piece) : Type 0 where

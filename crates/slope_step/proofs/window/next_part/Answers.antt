@@ -1,16 +1,7 @@
-use Rattle.std.proofs.Common.{◌≡◌, true, false, refl, ◌∙◌, rules}
-use Rattle.std.specs.Prelude.{ℤ, pos, FitsSigned, ◌+ℤ◌, ◌-ℤ◌, ◌≤ℤ◌, ◌<ℤ◌}
-use Rattle.std.specs.Int.{w64}
-use Rattle.std.proofs.lemmas.Int.{to_z-of_z}
-use Rattle.slope_step.specs.declared.kink.Place.{Place}
+use Rattle.slope_step.proofs.Common.{◌≡◌, true, false, refl, ◌∙◌, rules, ℤ, pos, FitsSigned, ◌+ℤ◌, ◌-ℤ◌, ◌≤ℤ◌, ◌<ℤ◌, w64, to_z-of_z, Place, last_place, kinked, IsPlaced, lt_z}
 use Rattle.slope_step.specs.declared.window.Window.{Window}
-use Rattle.slope_step.specs.Pieces.{last_place}
-use Rattle.slope_step.specs.Kink.{kinked, IsPlaced}
-use Rattle.slope_step.proofs.KinkLaws.{IsEnd, placed_inside, end_within, end_of_valley}
-use Rattle.slope_step.proofs.WindowLaws.{part_falling, part_flat, part_rising, fewer_along, fewer_flat, falling_at, flat_at, rising_at, shifted_down, before_last, before_end, shifted_by}
-use Rattle.slope_step.proofs.WrapLaws.{coded, coded_is, fits_less, fits_sum, output_near, up_coded, down_coded, test_true, test_false}
+use Rattle.slope_step.proofs.Lemmas.{IsEnd, placed_inside, end_within, end_of_valley, part_falling, part_flat, part_rising, fewer_along, fewer_flat, falling_at, flat_at, rising_at, shifted_down, before_last, before_end, shifted_by, coded, coded_is, fits_less, fits_sum, output_near, up_coded, down_coded, test_true, test_false}
 use Rattle.slope_step.proofs.window.next_part.Goals as goal
-use lib.Signed.{lt_z}
 
 -- what the tests say of a place of the window's function
 module _ (w : Window) (place : Place) (placed : IsPlaced w.start.first w.pieces.now place) where

@@ -1,9 +1,5 @@
-use Rattle.slope_step.specs.Kink.{kinked}
-use Rattle.std.proofs.Common.{◌≡◌, subst, sym, arith}
-use Rattle.std.proofs.lemmas.Int.{ints}
-use Rattle.std.specs.Prelude.{ℤ, pos}
-use Rattle.slope_step.specs.Window.{IsFlat}
-use Rattle.slope_step.proofs.WindowLaws.{flat_from_line, flat_here}
+use Rattle.slope_step.proofs.Common.{kinked, ◌≡◌, subst, sym, arith, ints, ℤ, pos, IsFlat}
+use Rattle.slope_step.proofs.Lemmas.{flat_from_line, flat_here}
 use Rattle.slope_step.proofs.window.past_flat.Goals as goal
 
 pub returns-then-part-eq0-clause-flat : goal.returns-then-part-eq0-clause-flat

@@ -1,19 +1,5 @@
-use Rattle.std.proofs.Common.{rules, ◌≡◌, ℕ, suc, ◌+◌, ◌-◌, ◌*◌, ◌<◌, ◌≤◌, length, [], sym, subst, arith}
-use Rattle.std.proofs.lemmas.Option.{MatchOption-at_some}
-use Rattle.shape_law.specs.Laws.{StaysAs}
-use Rattle.shape_law.specs.Table.{Table}
-use Rattle.uc_model.specs.PlainUnits.{thermal_of, prices_of, schedule_of}
-use Rattle.spell_run.specs.declared.best.Found.{Found}
-use Rattle.spell_run.specs.Entries.{IsOnFromTo}
-use Rattle.spell_run.specs.Frontier.{IsFrontier, IsWayFrom}
-use Rattle.spell_run.specs.Spells.{spell_first, HasNoDispatch}
-use Rattle.spell_run.specs.Steps.{IsSmall}
-use Rattle.spell_run.proofs.EntryLaws.{first_from}
-use Rattle.spell_run.proofs.FairLaws.{cost_is}
-use Rattle.spell_run.proofs.FrameLaws.{stays, kept}
-use Rattle.spell_run.proofs.FrontierLaws.{small_frontier}
-use Rattle.spell_run.proofs.PeriodLaws.{IsPeriod, on_more, found_range, small_period, frontier_next, onward_next, way_chosen, on_chosen, none_chosen}
-use Rattle.spell_run.proofs.SizeLaws.{never_both, next_fits, one_fits, rest_room, rest_enough}
+use Rattle.spell_run.proofs.Common.{rules, ◌≡◌, ℕ, suc, ◌+◌, ◌-◌, ◌*◌, ◌<◌, ◌≤◌, length, [], sym, subst, arith, MatchOption-at_some, StaysAs, Table, thermal_of, prices_of, schedule_of, Found, IsOnFromTo, IsFrontier, IsWayFrom, spell_first, HasNoDispatch, IsSmall}
+use Rattle.spell_run.proofs.Lemmas.{first_from, cost_is, stays, kept, small_frontier, IsPeriod, on_more, found_range, small_period, frontier_next, onward_next, way_chosen, on_chosen, none_chosen, never_both, next_fits, one_fits, rest_room, rest_enough}
 use Rattle.spell_run.proofs.best.+way_from.Given.{Over}
 use Rattle.spell_run.proofs.best.+way_from.Goals as goal
 use Rattle.spell_run.proofs.best.+way_from.Goals.{In_ok-after, After-give_back, In-Some}

@@ -1,4 +1,4 @@
-use Rattle.std.proofs.Common.{◌-◌}
+use Rattle.spell_run.proofs.Common.{◌-◌}
 use Rattle.spell_run.proofs.best.+way_from.Given as goal
 
 abbrev pub decreases-way_from : goal.decreases-way_from

@@ -1,7 +1,5 @@
-use Rattle.std.proofs.Common.{sym, subst, arith}
-use Rattle.std.proofs.lemmas.Int.{ints}
-use Rattle.uc_model.specs.Limits.{IsOutput}
-use Rattle.spell_run.proofs.ChoiceLaws.{least_stored, none_stored, found_out, kinked_out, output_stored, chosen_stored}
+use Rattle.spell_run.proofs.Common.{sym, subst, arith, ints, IsOutput}
+use Rattle.spell_run.proofs.Lemmas.{least_stored, none_stored, found_out, kinked_out, output_stored, chosen_stored}
 use Rattle.spell_run.proofs.best.choose.Goals as goal
 
 pub write_best-requires-clause-before : goal.write_best-requires-clause-before

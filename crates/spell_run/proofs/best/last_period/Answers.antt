@@ -1,18 +1,5 @@
-use Rattle.std.proofs.Common.{◌≡◌, [], Option, IfSome, ℤ, sym, subst, arith}
-use Rattle.std.proofs.lemmas.Option.{IfSome_then}
-use Rattle.std.proofs.lemmas.Result.{IfOk-weaker}
-use Rattle.shape_law.specs.Laws.{StaysAs}
-use Rattle.shape_law.specs.Table.{Table}
-use Rattle.uc_model.specs.PlainUnits.{thermal_of, prices_of, schedule_of}
-use Rattle.spell_run.specs.declared.best.Found.{Found}
-use Rattle.spell_run.specs.Spells.{spell_first, IsSpellWithin}
-use Rattle.spell_run.specs.Steps.{IsSmall}
-use Rattle.spell_run.proofs.EntryLaws.{first_from}
-use Rattle.spell_run.proofs.FairLaws.{cost_is}
-use Rattle.spell_run.proofs.FrameLaws.{stays, kept}
-use Rattle.spell_run.proofs.FrontierLaws.{small_frontier}
-use Rattle.spell_run.proofs.PeriodLaws.{IsPeriod, on_last, found_range, small_period, onward_last, none_last, within_last, way_chosen, on_chosen, none_chosen}
-use Rattle.spell_run.proofs.SizeLaws.{never_both}
+use Rattle.spell_run.proofs.Common.{◌≡◌, [], Option, IfSome, ℤ, sym, subst, arith, IfSome_then, IfOk-weaker, StaysAs, Table, thermal_of, prices_of, schedule_of, Found, spell_first, IsSpellWithin, IsSmall}
+use Rattle.spell_run.proofs.Lemmas.{first_from, cost_is, stays, kept, small_frontier, IsPeriod, on_last, found_range, small_period, onward_last, none_last, within_last, way_chosen, on_chosen, none_chosen, never_both}
 use Rattle.spell_run.proofs.best.last_period.Given.{Over}
 use Rattle.spell_run.proofs.best.last_period.Goals as goal
 use Rattle.spell_run.proofs.best.last_period.Goals.{In_ok-after, In-Some}

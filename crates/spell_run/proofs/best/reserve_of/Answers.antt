@@ -1,7 +1,5 @@
-use Rattle.std.proofs.Common.{sym, subst, arith}
-use Rattle.std.proofs.lemmas.Int.{ints}
-use Rattle.uc_model.specs.Limits.{IsOutput}
-use Rattle.spell_run.proofs.ChoiceLaws.{reserve_is, reserve_out}
+use Rattle.spell_run.proofs.Common.{sym, subst, arith, ints, IsOutput}
+use Rattle.spell_run.proofs.Lemmas.{reserve_is, reserve_out}
 use Rattle.spell_run.proofs.best.reserve_of.Goals as goal
 
 pub returns-clause-best : goal.returns-clause-best

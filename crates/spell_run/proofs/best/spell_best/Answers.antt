@@ -1,13 +1,5 @@
-use Rattle.std.proofs.Common.{◌+◌, ◌-◌, ◌*◌, ◌≤◌, arith, length, ℤ, sym, subst, rules, w64, FitsSigned}
-use Rattle.std.proofs.lemmas.Int.{to_z-of_z}
-use Rattle.std.proofs.lemmas.Option.{MatchOption-at_some}
-use Rattle.uc_model.specs.PlainUnits.{thermal_of, prices_of, schedule_of}
-use Rattle.spell_run.specs.declared.best.Found.{Found}
-use Rattle.spell_run.specs.Frontier.{IsWayFrom}
-use Rattle.spell_run.specs.Spells.{spell_first, HasNoDispatch, IsBestDispatch, IsFirstDispatch}
-use Rattle.spell_run.proofs.FrontierLaws.{frontier_begin}
-use Rattle.spell_run.proofs.NoteLaws.{whole_of}
-use Rattle.spell_run.proofs.SizeLaws.{never_both, charge_of, costs_fit, way_most, way_fits}
+use Rattle.spell_run.proofs.Common.{◌+◌, ◌-◌, ◌*◌, ◌≤◌, arith, length, ℤ, sym, subst, rules, w64, FitsSigned, to_z-of_z, MatchOption-at_some, thermal_of, prices_of, schedule_of, Found, IsWayFrom, spell_first, HasNoDispatch, IsBestDispatch, IsFirstDispatch}
+use Rattle.spell_run.proofs.Lemmas.{frontier_begin, whole_of, never_both, charge_of, costs_fit, way_most, way_fits}
 use Rattle.spell_run.proofs.best.spell_best.Given.{Over}
 use Rattle.spell_run.proofs.best.spell_best.Goals as goal
 use Rattle.spell_run.proofs.best.spell_best.Goals.{In-Some}

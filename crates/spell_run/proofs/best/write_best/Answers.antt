@@ -1,5 +1,5 @@
-use Rattle.std.proofs.Common.{◌∙◌}
-use Rattle.spell_run.proofs.ChoiceLaws.{written_cast, best_stored}
+use Rattle.spell_run.proofs.Common.{◌∙◌}
+use Rattle.spell_run.proofs.Lemmas.{written_cast, best_stored}
 use Rattle.spell_run.proofs.best.write_best.Goals as goal
 
 pub returns-clause-written : goal.returns-clause-written

@@ -1,4 +1,4 @@
-use Rattle.std.proofs.Common.{◌≡◌, ℕ, ◌<◌, ◌≤◌, length, get_or, None}
+use Rattle.spell_run.proofs.Common.{◌≡◌, ℕ, ◌<◌, ◌≤◌, length, get_or, None}
 use Rattle.spell_run.proofs.costs.clear_before.Given as goal
 
 abbrev pub invariant-loop-place : goal.invariant-loop-place

@@ -1,12 +1,5 @@
-use Rattle.std.proofs.Common.{true, suc, Option, ℤ, length, sym, arith, IfSome, ◌<◌}
-use Rattle.std.proofs.lemmas.Bool.{lt-ltb}
-use Rattle.std.proofs.lemmas.Result.{IfOk-weaker}
-use Rattle.shape_law.specs.Table.{Table}
-use Rattle.uc_model.specs.PlainUnits.{thermal_of, prices_of}
-use Rattle.spell_run.specs.Spells.{spell_first, IsSpellAnswer, IsSpellWithin}
-use Rattle.spell_run.specs.Steps.{IsStepped, IsLeastCost}
-use Rattle.spell_run.proofs.FairLaws.{cost_is, step_moved}
-use Rattle.spell_run.proofs.FrontierLaws.{small_frontier, answer_of_step}
+use Rattle.spell_run.proofs.Common.{true, suc, Option, ℤ, length, sym, arith, IfSome, ◌<◌, lt-ltb, IfOk-weaker, Table, thermal_of, prices_of, spell_first, IsSpellAnswer, IsSpellWithin, IsStepped, IsLeastCost}
+use Rattle.spell_run.proofs.Lemmas.{cost_is, step_moved, small_frontier, answer_of_step}
 use Rattle.spell_run.proofs.costs.cost_to_stop.Goals as goal
 
 pub cost_after-requires-clause-curve : goal.cost_after-requires-clause-curve

@@ -1,9 +1,5 @@
-use Rattle.std.proofs.Common.{◌≡◌, ℕ, suc, ◌+◌, ◌<◌, ◌≢◌, length, Option, ℤ, IfSome, ap, ◌∙◌, subst, inl, inr, arith, length-set}
-use Rattle.uc_model.specs.PlainUnits.{thermal_of, prices_of}
-use Rattle.spell_run.specs.Frontier.{IsFrontier}
-use Rattle.spell_run.specs.Spells.{spell_first, IsSpellAnswer, IsSpellWithin}
-use Rattle.spell_run.proofs.EntryLaws.{entry_other, entries_more}
-use Rattle.spell_run.proofs.SizeLaws.{never_both, one_more}
+use Rattle.spell_run.proofs.Common.{◌≡◌, ℕ, suc, ◌+◌, ◌<◌, ◌≢◌, length, Option, ℤ, IfSome, ap, ◌∙◌, subst, inl, inr, arith, length-set, thermal_of, prices_of, IsFrontier, spell_first, IsSpellAnswer, IsSpellWithin}
+use Rattle.spell_run.proofs.Lemmas.{entry_other, entries_more, never_both, one_more}
 use Rattle.spell_run.proofs.costs.fill.Goals as goal
 
 pub returns-in_err-cost-clause-frame : goal.returns-in_err-cost-clause-frame

@@ -1,8 +1,4 @@
-use Rattle.std.proofs.Common.{◌≡◌, ℕ, suc, ◌+◌, ◌*◌, ◌<◌, ◌≤◌, ◌⊎◌, length, get_or, None, IfSome, true}
-use Rattle.shape_law.specs.Cell.{Frame}
-use Rattle.uc_model.specs.PlainUnits.{thermal_of, prices_of}
-use Rattle.spell_run.specs.Frontier.{IsFrontier}
-use Rattle.spell_run.specs.Spells.{spell_first, IsSpellAnswer, IsSpellWithin}
+use Rattle.spell_run.proofs.Common.{◌≡◌, ℕ, suc, ◌+◌, ◌*◌, ◌<◌, ◌≤◌, ◌⊎◌, length, get_or, None, IfSome, true, Frame, thermal_of, prices_of, IsFrontier, spell_first, IsSpellAnswer, IsSpellWithin}
 use Rattle.spell_run.proofs.costs.fill.Given as goal
 
 abbrev pub invariant-loop-place : goal.invariant-loop-place

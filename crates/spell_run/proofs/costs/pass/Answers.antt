@@ -1,11 +1,5 @@
-use Rattle.std.proofs.Common.{IfSome, ◌≡◌, suc, eqb, ◌<◌, length, sym, subst, arith}
-use Rattle.shape_law.specs.Table.{Table}
-use Rattle.uc_model.specs.PlainUnits.{thermal_of, prices_of}
-use Rattle.spell_run.specs.Frontier.{IsFrontier}
-use Rattle.spell_run.specs.Spells.{spell_first, IsSpellAnswer, IsSpellWithin}
-use Rattle.spell_run.proofs.FairLaws.{alike_of, range_of}
-use Rattle.spell_run.proofs.FrameLaws.{stays, kept}
-use Rattle.spell_run.proofs.FrontierLaws.{answer_at_end, answer_alike}
+use Rattle.spell_run.proofs.Common.{IfSome, ◌≡◌, suc, eqb, ◌<◌, length, sym, subst, arith, Table, thermal_of, prices_of, IsFrontier, spell_first, IsSpellAnswer, IsSpellWithin}
+use Rattle.spell_run.proofs.Lemmas.{alike_of, range_of, stays, kept, answer_at_end, answer_alike}
 use Rattle.spell_run.proofs.costs.pass.Given.{Over}
 use Rattle.spell_run.proofs.costs.pass.Goals as goal
 use Rattle.spell_run.proofs.costs.pass.Goals.{After-least_cost, After-least_cost_in}

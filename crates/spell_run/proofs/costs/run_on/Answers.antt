@@ -1,10 +1,5 @@
-use Rattle.std.proofs.Common.{false, suc, arith}
-use Rattle.std.proofs.lemmas.Result.{on_ok_weaker}
-use Rattle.uc_model.specs.PlainUnits.{thermal_of, prices_of}
-use Rattle.spell_run.specs.Frontier.{IsFrontier}
-use Rattle.spell_run.specs.Spells.{spell_first}
-use Rattle.spell_run.proofs.FairLaws.{cost_is, step_moved}
-use Rattle.spell_run.proofs.FrontierLaws.{small_frontier, frontier_more}
+use Rattle.spell_run.proofs.Common.{false, suc, arith, on_ok_weaker, thermal_of, prices_of, IsFrontier, spell_first}
+use Rattle.spell_run.proofs.Lemmas.{cost_is, step_moved, small_frontier, frontier_more}
 use Rattle.spell_run.proofs.costs.run_on.Goals as goal
 
 pub take_step-requires-clause-curve : goal.take_step-requires-clause-curve

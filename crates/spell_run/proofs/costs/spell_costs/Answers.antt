@@ -1,11 +1,5 @@
-use Rattle.std.proofs.Common.{◌≡◌, ℕ, ◌+◌, ◌≤◌, ◌<◌, inl, inr, None, ◌∙◌, arith, length, Option, ℤ, IfSome}
-use Rattle.std.proofs.lemmas.Result.{on_ok_weaker}
-use Rattle.uc_model.specs.PlainUnits.{thermal_of, prices_of}
-use Rattle.spell_run.specs.Entries.{entry_of}
-use Rattle.spell_run.specs.Spells.{spell_first, IsSpellAnswer, IsSpellWithin}
-use Rattle.spell_run.proofs.EntryLaws.{entries_by_last, entries_before, entries_past}
-use Rattle.spell_run.proofs.FrontierLaws.{frontier_begin}
-use Rattle.spell_run.proofs.SizeLaws.{never_both, charge_of, costs_fit}
+use Rattle.spell_run.proofs.Common.{◌≡◌, ℕ, ◌+◌, ◌≤◌, ◌<◌, inl, inr, None, ◌∙◌, arith, length, Option, ℤ, IfSome, on_ok_weaker, thermal_of, prices_of, entry_of, spell_first, IsSpellAnswer, IsSpellWithin}
+use Rattle.spell_run.proofs.Lemmas.{entries_by_last, entries_before, entries_past, frontier_begin, never_both, charge_of, costs_fit}
 use Rattle.spell_run.proofs.costs.spell_costs.Goals as goal
 
 pub fill-filled-requires-clause-frontier : goal.fill-filled-requires-clause-frontier

@@ -1,10 +1,6 @@
-use Rattle.std.proofs.Common.{rules, pos}
-use Rattle.std.proofs.lemmas.Int.{to_z-of_z}
+use Rattle.spell_run.proofs.Common.{rules, pos, to_z-of_z, FitsSigned, IsPoint, thermal_of}
 use Rattle.std.specs.Int.{w64}
-use Rattle.std.specs.Prelude.{FitsSigned}
-use Rattle.shape_law.specs.Effect.{IsPoint}
-use Rattle.uc_model.specs.PlainUnits.{thermal_of}
-use Rattle.spell_run.proofs.FrontierLaws.{frontier_from}
+use Rattle.spell_run.proofs.Lemmas.{frontier_from}
 use Rattle.spell_run.proofs.running.begin.Goals as goal
 
 pub returns-clause-frontier : goal.returns-clause-frontier

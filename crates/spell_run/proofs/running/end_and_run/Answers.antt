@@ -1,20 +1,6 @@
-use Rattle.std.proofs.Common.{rules, ◌≡◌, ◌⊎◌, pos, false, IfSome, suc, true, eqb, ◌<◌, length, sym, ap, ◌∙◌, subst, arith, w64, FitsSigned}
-use Rattle.std.specs.Prelude.{MatchOption}
-use Rattle.std.proofs.lemmas.Bool.{lt-ltb}
-use Rattle.std.proofs.lemmas.Int.{to_z-of_z}
-use Rattle.shape_law.specs.Effect.{IsLeast, IsLeastIn}
-use Rattle.shape_law.specs.Table.{Table, value_of, IsEmpty, HasNone}
-use Rattle.shape_law.specs.declared.step.Step.{Step}
-use Rattle.slope_step.specs.Turn.{IsTurn}
-use Rattle.uc_model.specs.PlainUnits.{thermal_of, prices_of}
-use Rattle.uc_model.specs.Sums.{int_at}
-use Rattle.spell_run.specs.Frontier.{IsFrontier}
-use Rattle.spell_run.specs.Notes.{end_cost}
-use Rattle.spell_run.specs.Spells.{IsSpellAnswer, IsSpellWithin}
-use Rattle.spell_run.specs.Steps.{cap_at, step_at}
+use Rattle.spell_run.proofs.Common.{rules, ◌≡◌, ◌⊎◌, pos, false, IfSome, suc, true, eqb, ◌<◌, length, sym, ap, ◌∙◌, subst, arith, w64, FitsSigned, MatchOption, lt-ltb, to_z-of_z, IsLeast, IsLeastIn, Table, value_of, IsEmpty, HasNone, Step, IsTurn, thermal_of, prices_of, int_at, IsFrontier, end_cost, IsSpellAnswer, IsSpellWithin, cap_at, step_at}
 use Rattle.spell_run.proofs.EndLaws.{end_least, end_least_in, end_least_after, end_within, ended_last, ended_alike, ended_beside}
-use Rattle.spell_run.proofs.FairLaws.{alike_of, range_moved, cost_is, step_moved}
-use Rattle.spell_run.proofs.FrontierLaws.{small_frontier, answer_at_end, answer_alike, answer_of_step}
+use Rattle.spell_run.proofs.Lemmas.{alike_of, range_moved, cost_is, step_moved, small_frontier, answer_at_end, answer_alike, answer_of_step}
 use Rattle.spell_run.proofs.running.end_and_run.Given.{Over}
 use Rattle.spell_run.proofs.running.end_and_run.Goals as goal
 use Rattle.spell_run.proofs.running.end_and_run.Goals.{After-lowest_at-end, After-lowest_at-end-then-is_alike, After-run_over-note-2}

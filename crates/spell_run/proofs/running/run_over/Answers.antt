@@ -1,12 +1,5 @@
-use Rattle.std.proofs.Common.{false, suc, eqb, sym, subst, arith, ℤ, rules, FitsSigned, w64}
-use Rattle.uc_model.specs.PlainUnits.{thermal_of, prices_of}
-use Rattle.std.proofs.lemmas.Int.{to_z-of_z}
-use Rattle.slope_step.specs.Turn.{IsTurn}
-use Rattle.spell_run.specs.declared.way.Note.{Note}
-use Rattle.spell_run.specs.Notes.{IsNoted}
-use Rattle.spell_run.specs.Steps.{step_at}
-use Rattle.spell_run.proofs.FairLaws.{cost_is, step_moved}
-use Rattle.spell_run.proofs.FrontierLaws.{small_frontier, frontier_more}
+use Rattle.spell_run.proofs.Common.{false, suc, eqb, sym, subst, arith, ℤ, rules, FitsSigned, w64, thermal_of, prices_of, to_z-of_z, IsTurn, Note, IsNoted, step_at}
+use Rattle.spell_run.proofs.Lemmas.{cost_is, step_moved, small_frontier, frontier_more}
 use Rattle.spell_run.proofs.TurnLaws.{turn_moved}
 use Rattle.spell_run.proofs.running.run_over.Goals as goal
 

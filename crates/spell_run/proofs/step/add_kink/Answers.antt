@@ -1,6 +1,5 @@
-use Rattle.std.proofs.Common.{rules, arith, w64, FitsSigned}
-use Rattle.std.proofs.lemmas.Int.{ints, to_z-of_z}
-use Rattle.spell_run.proofs.BoundLaws.{kink_of_none, can_kink}
+use Rattle.spell_run.proofs.Common.{rules, arith, w64, FitsSigned, ints, to_z-of_z}
+use Rattle.spell_run.proofs.Lemmas.{kink_of_none, can_kink}
 use Rattle.spell_run.proofs.step.add_kink.Goals as goal
 
 pub returns-then-step-eq0-clause-ok : goal.returns-then-step-eq0-clause-ok

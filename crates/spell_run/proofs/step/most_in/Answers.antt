@@ -1,7 +1,5 @@
-use Rattle.std.proofs.Common.{Bool, cond, ◌+ℤ◌, sym, ap, ◌∙◌}
-use Rattle.std.specs.Int.{int_min}
-use Rattle.uc_model.specs.PlainUnits.{thermal_of}
-use Rattle.spell_run.proofs.FairLaws.{most_chosen}
+use Rattle.spell_run.proofs.Common.{Bool, cond, ◌+ℤ◌, sym, ap, ◌∙◌, int_min, thermal_of}
+use Rattle.spell_run.proofs.Lemmas.{most_chosen}
 use Rattle.spell_run.proofs.step.most_in.Goals as goal
 
 pub returns-then-stops : goal.returns-then-stops

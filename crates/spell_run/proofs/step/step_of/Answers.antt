@@ -1,7 +1,5 @@
-use Rattle.std.proofs.Common.{sym, subst}
-use Rattle.uc_model.specs.PlainUnits.{thermal_of, prices_of}
-use Rattle.spell_run.specs.Steps.{IsFairStep}
-use Rattle.spell_run.proofs.FairLaws.{read_is, step_fair, slope_fits, step_stored}
+use Rattle.spell_run.proofs.Common.{sym, subst, thermal_of, prices_of, IsFairStep}
+use Rattle.spell_run.proofs.Lemmas.{read_is, step_fair, slope_fits, step_stored}
 use Rattle.spell_run.proofs.step.step_of.Goals as goal
 
 pub overflow_sub-result : goal.overflow_sub-result

@@ -1,4 +1,4 @@
-use Rattle.spell_run.proofs.FairLaws.{small_same, stepped_same}
+use Rattle.spell_run.proofs.Lemmas.{small_same, stepped_same}
 use Rattle.spell_run.proofs.step.stepped.Goals as goal
 
 pub take_step-requires-clause-small : goal.take_step-requires-clause-small

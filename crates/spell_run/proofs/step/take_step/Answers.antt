@@ -1,8 +1,5 @@
-use Rattle.std.proofs.Common.{rules, arith, w64, FitsSigned}
-use Rattle.std.proofs.lemmas.Int.{to_z-of_z}
-use Rattle.std.proofs.lemmas.Result.{on_ok_weaker}
-use Rattle.spell_run.specs.Steps.{IsStepped}
-use Rattle.spell_run.proofs.BoundLaws.{can_line, can_curve}
+use Rattle.spell_run.proofs.Common.{rules, arith, w64, FitsSigned, to_z-of_z, on_ok_weaker, IsStepped}
+use Rattle.spell_run.proofs.Lemmas.{can_line, can_curve}
 use Rattle.spell_run.proofs.step.take_step.Goals as goal
 
 pub add_line-requires-clause-fits : goal.add_line-requires-clause-fits

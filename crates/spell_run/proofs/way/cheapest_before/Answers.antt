@@ -1,8 +1,5 @@
-use Rattle.std.proofs.Common.{rules, ◌≡◌, ℤ, ◌+ℤ◌, ◌-ℤ◌, ap, ◌∙◌, arith, w64, FitsSigned, to_z, of_z}
-use Rattle.std.specs.Int.{int_min, int_max}
-use Rattle.std.proofs.lemmas.Int.{ints, to_z-of_z}
-use Rattle.uc_model.proofs.SignedLaws.{fits_within}
-use Rattle.spell_run.proofs.NoteLaws.{cheapest_near}
+use Rattle.spell_run.proofs.Common.{rules, ◌≡◌, ℤ, ◌+ℤ◌, ◌-ℤ◌, ap, ◌∙◌, arith, w64, FitsSigned, to_z, of_z, int_min, int_max, ints, to_z-of_z, fits_within}
+use Rattle.spell_run.proofs.Lemmas.{cheapest_near}
 use Rattle.spell_run.proofs.way.cheapest_before.Goals as goal
 
 pub returns : goal.returns

@@ -1,16 +1,5 @@
-use Rattle.std.proofs.Common.{rules, ◌≡◌, ℤ, ◌≤ℤ◌, suc, eqb, to_z, of_z, Some, sym, subst, arith, w64, FitsSigned}
-use Rattle.std.proofs.lemmas.Int.{ints, to_z-of_z}
-use Rattle.shape_law.specs.Effect.{Reaches}
-use Rattle.shape_law.specs.Table.{Table, value_of}
-use Rattle.slope_step.specs.Turn.{IsTurn, IsFirst, IsLast}
-use Rattle.shape_law.specs.declared.step.Step.{Step}
-use Rattle.uc_model.specs.Limits.{IsOutput}
-use Rattle.uc_model.specs.PlainUnits.{thermal_of, prices_of, schedule_of}
-use Rattle.spell_run.specs.declared.way.Note.{Note}
-use Rattle.spell_run.specs.Notes.{IsCheapest}
-use Rattle.spell_run.specs.Steps.{cap_at}
-use Rattle.spell_run.proofs.ChoiceLaws.{output_stored}
-use Rattle.spell_run.proofs.NoteLaws.{power_range, before_out, before_rise, before_under, chosen_noted}
+use Rattle.spell_run.proofs.Common.{rules, ◌≡◌, ℤ, ◌≤ℤ◌, suc, eqb, to_z, of_z, Some, sym, subst, arith, w64, FitsSigned, ints, to_z-of_z, Reaches, Table, value_of, IsTurn, IsFirst, IsLast, Step, IsOutput, thermal_of, prices_of, schedule_of, Note, IsCheapest, cap_at}
+use Rattle.spell_run.proofs.Lemmas.{output_stored, power_range, before_out, before_rise, before_under, chosen_noted}
 use Rattle.spell_run.proofs.way.write_period.Goals as goal
 use Rattle.spell_run.proofs.way.write_period.Goals.{Start}
 

@@ -1,8 +1,5 @@
-use Rattle.std.proofs.Common.{rules, ◌≡◌, ℕ, suc, ◌+◌, ◌-◌, ◌<◌, ◌≤◌, ◌∙◌, subst, arith, w64, FitsSigned, to_z}
-use Rattle.std.proofs.lemmas.Int.{to_z-of_z}
-use Rattle.uc_model.specs.PlainUnits.{thermal_of, prices_of, schedule_of}
-use Rattle.spell_run.specs.Notes.{passed_at}
-use Rattle.spell_run.proofs.NoteLaws.{IsWrittenFrom, end_stored, written_last, written_more, there_after, written_best, written_on, written_outside}
+use Rattle.spell_run.proofs.Common.{rules, ◌≡◌, ℕ, suc, ◌+◌, ◌-◌, ◌<◌, ◌≤◌, ◌∙◌, subst, arith, w64, FitsSigned, to_z, to_z-of_z, thermal_of, prices_of, schedule_of, passed_at}
+use Rattle.spell_run.proofs.Lemmas.{IsWrittenFrom, end_stored, written_last, written_more, there_after, written_best, written_on, written_outside}
 use Rattle.spell_run.proofs.way.write_spell.Goals as goal
 use Rattle.spell_run.proofs.way.write_spell.Goals.{After-loop-back}
 

@@ -1,6 +1,5 @@
-use Rattle.std.proofs.Common.{◌≡◌, ◌-◌}
-use Rattle.uc_model.specs.PlainUnits.{thermal_of, prices_of, schedule_of}
-use Rattle.spell_run.proofs.NoteLaws.{IsWrittenFrom}
+use Rattle.spell_run.proofs.Common.{◌≡◌, ◌-◌, thermal_of, prices_of, schedule_of}
+use Rattle.spell_run.proofs.Lemmas.{IsWrittenFrom}
 use Rattle.spell_run.proofs.way.write_spell.Given as goal
 
 abbrev pub invariant-loop-back : goal.invariant-loop-back

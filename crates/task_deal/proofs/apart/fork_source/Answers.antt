@@ -1,4 +1,4 @@
-use Rattle.task_deal.proofs.Moves.{forks}
+use Rattle.task_deal.proofs.Lemmas.{forks}
 use Rattle.task_deal.proofs.apart.fork_source.Goals as goal
 
 pub another-requires-clause-rule : goal.another-requires-clause-rule

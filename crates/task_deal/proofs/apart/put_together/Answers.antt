@@ -1,12 +1,5 @@
-use Rattle.std.proofs.Common.{rules, ◌≡◌, ◌+◌, ◌∙◌, ◌∷◌, ◌++◌, [], ap, sym, subst, length, length-append, arith}
-use Rattle.crossbeam_deque.specs.Injected.{injector_view}
-use Rattle.task_deal.specs.declared.rule.Account.{Account}
-use Rattle.task_deal.specs.declared.member.Member.{Member}
-use Rattle.task_deal.specs.Rule.{account, sum_of}
-use Rattle.task_deal.specs.Apart.{HasPart, source_taken}
-use Rattle.task_deal.proofs.Places.{all_push}
-use Rattle.task_deal.proofs.Sums.{sum_of_push}
-use Rattle.task_deal.proofs.Backs.{under}
+use Rattle.task_deal.proofs.Common.{rules, ◌≡◌, ◌+◌, ◌∙◌, ◌∷◌, ◌++◌, [], ap, sym, subst, length, length-append, arith, injector_view, Account, Member, account, sum_of, HasPart, source_taken}
+use Rattle.task_deal.proofs.Lemmas.{all_push, sum_of_push, under}
 use Rattle.task_deal.proofs.apart.put_together.Goals as goal
 
 pub loop-job-preserved : goal.loop-job-preserved

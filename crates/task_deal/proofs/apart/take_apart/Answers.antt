@@ -1,11 +1,5 @@
-use Rattle.std.proofs.Common.{◌≡◌, ◌+◌, ◌∙◌, ◌∷◌, [], ap, length, length-append, arith}
-use Rattle.crossbeam_deque.specs.Injected.{injector_view}
-use Rattle.task_deal.specs.declared.rule.Account.{Account}
-use Rattle.task_deal.specs.Rule.{sum_of}
-use Rattle.task_deal.specs.Apart.{HasPart, source_taken}
-use Rattle.task_deal.proofs.Places.{all_last, all_rest}
-use Rattle.task_deal.proofs.Sums.{sum_of_push, sum_of-append}
-use Rattle.task_deal.proofs.Backs.{over}
+use Rattle.task_deal.proofs.Common.{◌≡◌, ◌+◌, ◌∙◌, ◌∷◌, [], ap, length, length-append, arith, injector_view, Account, sum_of, HasPart, source_taken}
+use Rattle.task_deal.proofs.Lemmas.{all_last, all_rest, sum_of_push, sum_of-append, over}
 use Rattle.task_deal.proofs.apart.take_apart.Goals as goal
 
 pub loop-member-preserved : goal.loop-member-preserved

@@ -1,7 +1,4 @@
-use Rattle.std.proofs.Common.{◌≡◌, ◌+◌, ◌≤◌, ◌++◌, ℕ, All, length, vec_len, vec_capacity}
-use Rattle.crossbeam_deque.specs.Injected.{injector_view, IsInjectorPassOf}
-use Rattle.task_deal.specs.Rule.{sum_of}
-use Rattle.task_deal.specs.Apart.{backwards, HasPart, source_taken}
+use Rattle.task_deal.proofs.Common.{◌≡◌, ◌+◌, ◌≤◌, ◌++◌, ℕ, All, length, vec_len, vec_capacity, injector_view, IsInjectorPassOf, sum_of, backwards, HasPart, source_taken}
 use Rattle.task_deal.proofs.apart.take_apart.Given as goal
 
 abbrev pub decreases-loop-member : goal.decreases-loop-member

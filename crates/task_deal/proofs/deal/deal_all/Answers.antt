@@ -1,11 +1,4 @@
-use Rattle.std.proofs.Common.{◌≡◌, ◌≤◌, ◌∙◌, ◌++◌, ℕ, List, length, take, drop, All, ap, sym, subst, arith}
-use Rattle.crossbeam_deque.specs.Injected.{injector_view}
-use Rattle.task_deal.specs.declared.member.Member.{Member}
-use Rattle.task_deal.specs.declared.rule.Account.{Account}
-use Rattle.task_deal.specs.declared.rule.Shared.{Shared}
-use Rattle.task_deal.specs.Apart.{HasPart, source_taken}
-use Rattle.task_deal.specs.Seats.{IsSeatOf, Each, Stands}
-use Rattle.task_deal.specs.Rule.{sum_of}
+use Rattle.task_deal.proofs.Common.{◌≡◌, ◌≤◌, ◌∙◌, ◌++◌, ℕ, List, length, take, drop, All, ap, sym, subst, arith, injector_view, Member, Account, Shared, HasPart, source_taken, IsSeatOf, Each, Stands, sum_of}
 use Rattle.task_deal.proofs.Together.{AreOf, ready, worked, whole, made_of, members_count, parts_left, owns_stand, purses_left, ledger_begins}
 use Rattle.task_deal.proofs.deal.deal_all.Goals as goal
 use Rattle.task_deal.proofs.deal.deal_all.Given.{Over}

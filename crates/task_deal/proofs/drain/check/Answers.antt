@@ -1,4 +1,4 @@
-use Rattle.task_deal.proofs.Moves.{fits}
+use Rattle.task_deal.proofs.Lemmas.{fits}
 use Rattle.task_deal.proofs.drain.check.Goals as goal
 
 pub len_as-requires : goal.len_as-requires

@@ -1,4 +1,4 @@
-use Rattle.std.proofs.Common.{◌∙◌, arith}
+use Rattle.task_deal.proofs.Common.{◌∙◌, arith}
 use Rattle.task_deal.proofs.drain.check_all.Goals as goal
 
 pub loop-at-preserved : goal.loop-at-preserved

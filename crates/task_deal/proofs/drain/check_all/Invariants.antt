@@ -1,7 +1,4 @@
-use Rattle.std.proofs.Common.{◌≡◌, length}
-use Rattle.crossbeam_deque.specs.Handles.{worker_view}
-use Rattle.task_deal.specs.Rule.{Fits}
-use Rattle.task_deal.specs.Seats.{HaveTaken, Each, Stands}
+use Rattle.task_deal.proofs.Common.{◌≡◌, length, worker_view, Fits, HaveTaken, Each, Stands}
 use Rattle.task_deal.proofs.drain.check_all.Given as goal
 
 abbrev pub invariant-loop-at : goal.invariant-loop-at

@@ -1,11 +1,5 @@
-use Rattle.std.proofs.Common.{rules, ◌≡◌, ap, subst, slice_index_or, arith}
-use Rattle.crossbeam_deque.specs.Handles.{worker_view}
-use Rattle.task_deal.specs.declared.rule.Account.{Account}
-use Rattle.task_deal.specs.Rule.{sum_of, Fits}
-use Rattle.task_deal.specs.Seats.{Stands}
-use Rattle.task_deal.proofs.Settling.{books_set}
-use Rattle.task_deal.proofs.Places.{each_up}
-use Rattle.task_deal.proofs.Ledgers.{check_stands}
+use Rattle.task_deal.proofs.Common.{rules, ◌≡◌, ap, subst, slice_index_or, arith, worker_view, Account, sum_of, Fits, Stands}
+use Rattle.task_deal.proofs.Lemmas.{books_set, each_up, check_stands}
 use Rattle.task_deal.proofs.drain.check_at.Goals as goal
 
 pub check-requires : goal.check-requires

@@ -1,7 +1,5 @@
-use Rattle.std.proofs.Common.{◌∙◌, arith}
-use Rattle.crossbeam_deque.specs.Injected.{injector_view}
-use Rattle.task_deal.proofs.Ledgers.{comes_out, even_sum}
-use Rattle.task_deal.proofs.Once.{each_once}
+use Rattle.task_deal.proofs.Common.{◌∙◌, arith, injector_view}
+use Rattle.task_deal.proofs.Lemmas.{comes_out, even_sum, each_once}
 use Rattle.task_deal.proofs.drain.drain_all.Goals as goal
 
 pub drain_at-requires-clause-ledger : goal.drain_at-requires-clause-ledger

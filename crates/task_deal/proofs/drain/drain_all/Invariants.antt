@@ -1,8 +1,4 @@
-use Rattle.std.proofs.Common.{◌≡◌, ◌<◌, List, length}
-use Rattle.crossbeam_deque.specs.Injected.{injector_view}
-use Rattle.task_deal.specs.Rule.{IsSettled}
-use Rattle.task_deal.specs.Seats.{Each}
-use Rattle.task_deal.specs.Ledger.{IsEmptied, Ledger}
+use Rattle.task_deal.proofs.Common.{◌≡◌, ◌<◌, List, length, injector_view, IsSettled, Each, IsEmptied, Ledger}
 use Rattle.task_deal.proofs.drain.drain_all.Given as goal
 
 abbrev pub invariant-loop-at : goal.invariant-loop-at

@@ -1,9 +1,5 @@
-use Rattle.std.proofs.Common.{rules, ◌≡◌, ap, length, slice_index_or, arith}
-use Rattle.crossbeam_deque.specs.Handles.{worker_view}
-use Rattle.task_deal.specs.Ledger.{IsEmptied}
-use Rattle.task_deal.proofs.Gaining.{Deque}
-use Rattle.task_deal.proofs.Places.{each_up}
-use Rattle.task_deal.proofs.Ledgers.{room_own, ledger_own}
+use Rattle.task_deal.proofs.Common.{rules, ◌≡◌, ap, length, slice_index_or, arith, worker_view, IsEmptied}
+use Rattle.task_deal.proofs.Lemmas.{Deque, each_up, room_own, ledger_own}
 use Rattle.task_deal.proofs.drain.drain_at.Goals as goal
 
 pub drain_own-requires-clause-room : goal.drain_own-requires-clause-room

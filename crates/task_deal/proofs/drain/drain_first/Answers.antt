@@ -1,6 +1,5 @@
-use Rattle.std.proofs.Common.{rules, ◌≡◌, ap, slice_index_or, arith}
-use Rattle.crossbeam_deque.specs.Injected.{injector_view}
-use Rattle.task_deal.proofs.Ledgers.{room_source, ledger_source}
+use Rattle.task_deal.proofs.Common.{rules, ◌≡◌, ap, slice_index_or, arith, injector_view}
+use Rattle.task_deal.proofs.Lemmas.{room_source, ledger_source}
 use Rattle.task_deal.proofs.drain.drain_first.Goals as goal
 
 pub drain_source-requires-clause-pass : goal.drain_source-requires-clause-pass

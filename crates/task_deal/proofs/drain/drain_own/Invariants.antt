@@ -1,7 +1,4 @@
-use Rattle.std.proofs.Common.{◌≡◌}
-use Rattle.crossbeam_deque.specs.Handles.{worker_view, SameWorker}
-use Rattle.task_deal.specs.Drains.{RanTaken}
-use Rattle.task_deal.specs.Jobs.{HasRun}
+use Rattle.task_deal.proofs.Common.{◌≡◌, worker_view, SameWorker, RanTaken, HasRun}
 use Rattle.task_deal.proofs.drain.drain_own.Given as goal
 
 abbrev pub invariant-loop : goal.invariant-loop

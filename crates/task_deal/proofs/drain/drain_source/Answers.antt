@@ -1,8 +1,5 @@
-use Rattle.std.proofs.Common.{◌∙◌, ap}
-use Rattle.task_deal.specs.declared.rule.Account.{Account}
-use Rattle.crossbeam_deque.specs.Injected.{injector_view}
-use Rattle.task_deal.proofs.Draining.{books_on, may_run}
-use Rattle.task_deal.proofs.Running.{runs_one}
+use Rattle.task_deal.proofs.Common.{◌∙◌, ap, Account, injector_view}
+use Rattle.task_deal.proofs.Lemmas.{books_on, may_run, runs_one}
 use Rattle.task_deal.proofs.drain.drain_source.Goals as goal
 
 pub run-requires : goal.run-requires

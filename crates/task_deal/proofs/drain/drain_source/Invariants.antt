@@ -1,7 +1,4 @@
-use Rattle.std.proofs.Common.{◌≡◌}
-use Rattle.crossbeam_deque.specs.Injected.{injector_view, IsInjectorPassOf}
-use Rattle.task_deal.specs.Drains.{RanTaken}
-use Rattle.task_deal.specs.Jobs.{HasRun}
+use Rattle.task_deal.proofs.Common.{◌≡◌, injector_view, IsInjectorPassOf, RanTaken, HasRun}
 use Rattle.task_deal.proofs.drain.drain_source.Given as goal
 
 abbrev pub invariant-loop : goal.invariant-loop

@@ -1,4 +1,4 @@
-use Rattle.task_deal.proofs.Moves.{drains, finds}
+use Rattle.task_deal.proofs.Lemmas.{drains, finds}
 use Rattle.task_deal.proofs.drain.next_own.Goals as goal
 
 pub pop_as-requires-clause-fifo : goal.pop_as-requires-clause-fifo

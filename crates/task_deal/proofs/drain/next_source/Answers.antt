@@ -1,4 +1,4 @@
-use Rattle.task_deal.proofs.Moves.{drains, finds}
+use Rattle.task_deal.proofs.Lemmas.{drains, finds}
 use Rattle.task_deal.proofs.drain.next_source.Goals as goal
 
 pub steal_as-requires-clause-rule : goal.steal_as-requires-clause-rule

@@ -1,4 +1,4 @@
-use Rattle.task_deal.proofs.Once.{numbers_are_dealt}
+use Rattle.task_deal.proofs.Lemmas.{numbers_are_dealt}
 use Rattle.task_deal.proofs.law.numbers_are_dealt.Goals as goal
 
 pub returns : goal.returns

@@ -1,4 +1,4 @@
-use Rattle.task_deal.proofs.Once.{values_dealt}
+use Rattle.task_deal.proofs.Lemmas.{values_dealt}
 use Rattle.task_deal.proofs.law.values_are_dealt.Goals as goal
 
 pub returns : goal.returns

@@ -1,4 +1,4 @@
-use Rattle.std.proofs.Common.{arith}
+use Rattle.task_deal.proofs.Common.{arith}
 use Rattle.task_deal.proofs.Working.{ran}
 use Rattle.task_deal.proofs.member.work.Goals as goal
 

@@ -1,5 +1,4 @@
-use Rattle.std.proofs.Common.{◌≤◌, ◌+◌}
-use Rattle.task_deal.specs.Members.{HasWorked}
+use Rattle.task_deal.proofs.Common.{◌≤◌, ◌+◌, HasWorked}
 use Rattle.task_deal.proofs.member.work.Given as goal
 
 abbrev pub invariant-loop-done : goal.invariant-loop-done

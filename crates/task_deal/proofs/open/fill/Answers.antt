@@ -1,5 +1,5 @@
-use Rattle.std.proofs.Common.{rules, ◌≡◌, ◌+◌, ◌∷◌, ◌++◌, [], subst, sym, arith}
-use Rattle.task_deal.proofs.Opening.{Filling, filling, filled, purse_full}
+use Rattle.task_deal.proofs.Common.{rules, ◌≡◌, ◌+◌, ◌∷◌, ◌++◌, [], subst, sym, arith}
+use Rattle.task_deal.proofs.Lemmas.{Filling, filling, filled, purse_full}
 use Rattle.task_deal.proofs.open.fill.Goals as goal
 
 pub loop-at-init : goal.loop-at-init

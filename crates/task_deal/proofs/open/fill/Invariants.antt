@@ -1,4 +1,4 @@
-use Rattle.task_deal.proofs.Opening.{Filling}
+use Rattle.task_deal.proofs.Lemmas.{Filling}
 use Rattle.task_deal.proofs.open.fill.Given as goal
 
 abbrev pub invariant-loop-at : goal.invariant-loop-at

@@ -1,8 +1,5 @@
-use Rattle.std.proofs.Common.{rules, ◌≡◌, ◌∙◌, ◌∷◌, ◌++◌, [], ap, length, length-append, arith}
-use Rattle.task_deal.specs.Rule.{sum_of}
-use Rattle.task_deal.specs.Seats.{AreParts, taken_by}
-use Rattle.task_deal.proofs.Sums.{sum_of_push}
-use Rattle.task_deal.proofs.Places.{all_push}
+use Rattle.task_deal.proofs.Common.{rules, ◌≡◌, ◌∙◌, ◌∷◌, ◌++◌, [], ap, length, length-append, arith, sum_of, AreParts, taken_by}
+use Rattle.task_deal.proofs.Lemmas.{sum_of_push, all_push}
 use Rattle.task_deal.proofs.open.fill_all.Goals as goal
 
 pub loop-out-preserved : goal.loop-out-preserved

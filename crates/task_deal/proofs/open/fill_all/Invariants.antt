@@ -1,6 +1,4 @@
-use Rattle.std.proofs.Common.{◌≡◌, ℕ, All, length}
-use Rattle.task_deal.specs.Rule.{sum_of}
-use Rattle.task_deal.specs.Seats.{AreParts, HaveTaken, Each, Stands, taken_by}
+use Rattle.task_deal.proofs.Common.{◌≡◌, ℕ, All, length, sum_of, AreParts, HaveTaken, Each, Stands, taken_by}
 use Rattle.task_deal.proofs.open.fill_all.Given as goal
 
 abbrev pub invariant-loop-out : goal.invariant-loop-out

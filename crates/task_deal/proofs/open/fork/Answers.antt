@@ -1,4 +1,4 @@
-use Rattle.task_deal.proofs.Moves.{forks}
+use Rattle.task_deal.proofs.Lemmas.{forks}
 use Rattle.task_deal.proofs.open.fork.Goals as goal
 
 pub another-requires : goal.another-requires

@@ -1,7 +1,5 @@
-use Rattle.std.proofs.Common.{rules, ap, arith}
-use Rattle.task_deal.specs.declared.rule.Account.{Account}
-use Rattle.task_deal.specs.Rule.{sum_of}
-use Rattle.task_deal.proofs.Settling.{books_set}
+use Rattle.task_deal.proofs.Common.{rules, ap, arith, Account, sum_of}
+use Rattle.task_deal.proofs.Lemmas.{books_set}
 use Rattle.task_deal.proofs.open.fork_at.Goals as goal
 
 pub returns-clause-books : goal.returns-clause-books

@@ -1,6 +1,5 @@
-use Rattle.std.proofs.Common.{rules, ◌≡◌, ◌∷◌, ◌++◌, [], subst, sym, ap, length, length-append, arith}
-use Rattle.task_deal.specs.Open.{AreOpen}
-use Rattle.task_deal.proofs.Opening.{opened_on}
+use Rattle.task_deal.proofs.Common.{rules, ◌≡◌, ◌∷◌, ◌++◌, [], subst, sym, ap, length, length-append, arith, AreOpen}
+use Rattle.task_deal.proofs.Lemmas.{opened_on}
 use Rattle.task_deal.proofs.open.open.Goals as goal
 
 pub loop-preserved : goal.loop-preserved

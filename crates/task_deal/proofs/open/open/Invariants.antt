@@ -1,5 +1,4 @@
-use Rattle.std.proofs.Common.{◌≡◌, length}
-use Rattle.task_deal.specs.Open.{AreOpen}
+use Rattle.task_deal.proofs.Common.{◌≡◌, length, AreOpen}
 use Rattle.task_deal.proofs.open.open.Given as goal
 
 abbrev pub invariant-loop : goal.invariant-loop

@@ -1,4 +1,4 @@
-use Rattle.task_deal.proofs.Moves.{begins, pushes}
+use Rattle.task_deal.proofs.Lemmas.{begins, pushes}
 use Rattle.task_deal.proofs.pour.pour.Goals as goal
 
 pub new_as-requires : goal.new_as-requires

@@ -1,7 +1,4 @@
-use Rattle.std.proofs.Common.{◌≡◌, []}
-use Rattle.crossbeam_deque.specs.Injected.{injector_view, IsInjectorPassOf}
-use Rattle.task_deal.specs.Rule.{account}
-use Rattle.task_deal.specs.Jobs.{below}
+use Rattle.task_deal.proofs.Common.{◌≡◌, [], injector_view, IsInjectorPassOf, account, below}
 use Rattle.task_deal.proofs.pour.pour.Given as goal
 
 abbrev pub invariant-loop-task : goal.invariant-loop-task

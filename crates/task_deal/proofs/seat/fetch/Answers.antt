@@ -1,6 +1,5 @@
-use Rattle.std.proofs.Common.{arith}
-use Rattle.task_deal.proofs.Moves.{pushes, takes, finds, admits}
-use Rattle.task_deal.proofs.Gaining.{fetched}
+use Rattle.task_deal.proofs.Common.{arith}
+use Rattle.task_deal.proofs.Lemmas.{pushes, takes, finds, admits, fetched}
 use Rattle.task_deal.proofs.seat.fetch.Goals as goal
 
 pub steal_batch_and_pop_as-requires-clause-takes : goal.steal_batch_and_pop_as-requires-clause-takes

@@ -1,4 +1,4 @@
-use Rattle.task_deal.specs.Seats.{IsSeatOf, Gains, SameDeque}
+use Rattle.task_deal.proofs.Common.{IsSeatOf, Gains, SameDeque}
 use Rattle.task_deal.proofs.seat.find.Given as goal
 
 abbrev pub invariant-loop : goal.invariant-loop

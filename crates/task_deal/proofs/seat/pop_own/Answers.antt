@@ -1,5 +1,4 @@
-use Rattle.task_deal.proofs.Moves.{takes_owner, finds}
-use Rattle.task_deal.proofs.Gaining.{popped}
+use Rattle.task_deal.proofs.Lemmas.{takes_owner, finds, popped}
 use Rattle.task_deal.proofs.seat.pop_own.Goals as goal
 
 pub pop_as-requires-clause-fifo : goal.pop_as-requires-clause-fifo

@@ -1,6 +1,4 @@
-use Rattle.std.proofs.Common.{◌≡◌}
-use Rattle.crossbeam_deque.specs.Handles.{view}
-use Rattle.task_deal.specs.Seats.{IsPart}
+use Rattle.task_deal.proofs.Common.{◌≡◌, view, IsPart}
 use Rattle.task_deal.proofs.seat.steal.Given as goal
 
 abbrev pub invariant-loop : goal.invariant-loop

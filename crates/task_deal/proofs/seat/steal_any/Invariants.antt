@@ -1,4 +1,4 @@
-use Rattle.task_deal.specs.Seats.{IsSeatOf, Gains, SameDeque}
+use Rattle.task_deal.proofs.Common.{IsSeatOf, Gains, SameDeque}
 use Rattle.task_deal.proofs.seat.steal_any.Given as goal
 
 abbrev pub invariant-loop-at : goal.invariant-loop-at

@@ -1,7 +1,6 @@
-use Rattle.std.proofs.Common.{rules, refl, arith}
+use Rattle.task_deal.proofs.Common.{rules, refl, arith, Seat}
 use Rattle.std.specs.Vec.{with_item}
-use Rattle.task_deal.specs.declared.seat.Seat.{Seat}
-use Rattle.task_deal.proofs.Gaining.{stolen}
+use Rattle.task_deal.proofs.Lemmas.{stolen}
 use Rattle.task_deal.proofs.seat.steal_at.Goals as goal
 
 pub returns-clause-gains : goal.returns-clause-gains

@@ -1,5 +1,5 @@
-use Rattle.std.proofs.Common.{arith}
-use Rattle.task_deal.proofs.Moves.{takes}
+use Rattle.task_deal.proofs.Common.{arith}
+use Rattle.task_deal.proofs.Lemmas.{takes}
 use Rattle.task_deal.proofs.seat.steal_once.Goals as goal
 
 pub steal_as-requires-clause-takes : goal.steal_as-requires-clause-takes

@@ -1,6 +1,5 @@
-use Rattle.std.proofs.Common.{arith}
-use Rattle.task_deal.proofs.Moves.{takes, finds}
-use Rattle.task_deal.proofs.Gaining.{took}
+use Rattle.task_deal.proofs.Common.{arith}
+use Rattle.task_deal.proofs.Lemmas.{takes, finds, took}
 use Rattle.task_deal.proofs.seat.take_one.Goals as goal
 
 pub steal_as-requires-clause-rule : goal.steal_as-requires-clause-rule

@@ -1,7 +1,5 @@
-use Rattle.std.proofs.Common.{rules, ◌+◌, arith}
-use Rattle.task_deal.specs.Seats.{Stands}
-use Rattle.task_deal.proofs.Places.{each_down}
-use Rattle.task_deal.proofs.Settling.{TakenBack, books_set, back_books, back_stands, its_pass, its_one}
+use Rattle.task_deal.proofs.Common.{rules, ◌+◌, arith, Stands}
+use Rattle.task_deal.proofs.Lemmas.{each_down, TakenBack, books_set, back_books, back_stands, its_pass, its_one}
 use Rattle.task_deal.proofs.settle.return_pass.Goals as goal
 
 pub take_back-requires-clause-pass : goal.take_back-requires-clause-pass

@@ -1,5 +1,5 @@
-use Rattle.std.proofs.Common.{arith}
-use Rattle.task_deal.proofs.Settling.{returning, last_pass, returned}
+use Rattle.task_deal.proofs.Common.{arith}
+use Rattle.task_deal.proofs.Lemmas.{returning, last_pass, returned}
 use Rattle.task_deal.proofs.settle.return_purse.Goals as goal
 
 pub loop-pass-init : goal.loop-pass-init

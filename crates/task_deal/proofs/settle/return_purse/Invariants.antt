@@ -1,5 +1,5 @@
-use Rattle.std.proofs.Common.{vec_len}
-use Rattle.task_deal.proofs.Settling.{Returning}
+use Rattle.task_deal.proofs.Common.{vec_len}
+use Rattle.task_deal.proofs.Lemmas.{Returning}
 use Rattle.task_deal.proofs.settle.return_purse.Given as goal
 
 abbrev pub decreases-loop-pass : goal.decreases-loop-pass

@@ -1,8 +1,5 @@
-use Rattle.std.proofs.Common.{◌≡◌, ◌∙◌, ap, subst, length, arith}
-use Rattle.task_deal.specs.Rule.{sum_of}
-use Rattle.task_deal.specs.Seats.{AreParts, Each, Stands, taken_by}
-use Rattle.task_deal.proofs.Places.{all_last, all_rest}
-use Rattle.task_deal.proofs.Sums.{sum_of_push}
+use Rattle.task_deal.proofs.Common.{◌≡◌, ◌∙◌, ap, subst, length, arith, sum_of, AreParts, Each, Stands, taken_by}
+use Rattle.task_deal.proofs.Lemmas.{all_last, all_rest, sum_of_push}
 use Rattle.task_deal.proofs.settle.settle.Goals as goal
 
 pub return_purse-requires-clause-purse : goal.return_purse-requires-clause-purse

@@ -1,6 +1,4 @@
-use Rattle.std.proofs.Common.{◌≡◌, ◌+◌, ℕ, All, length, vec_len}
-use Rattle.task_deal.specs.Rule.{sum_of}
-use Rattle.task_deal.specs.Seats.{AreParts, Each, Stands, taken_by, own_taken, own_put}
+use Rattle.task_deal.proofs.Common.{◌≡◌, ◌+◌, ℕ, All, length, vec_len, sum_of, AreParts, Each, Stands, taken_by, own_taken, own_put}
 use Rattle.task_deal.proofs.settle.settle.Given as goal
 
 abbrev pub decreases-loop-purse : goal.decreases-loop-purse

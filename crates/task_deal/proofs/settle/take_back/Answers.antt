@@ -1,4 +1,4 @@
-use Rattle.task_deal.proofs.Moves.{merges}
+use Rattle.task_deal.proofs.Lemmas.{merges}
 use Rattle.task_deal.proofs.settle.take_back.Goals as goal
 
 pub absorb-requires-clause-rule : goal.absorb-requires-clause-rule

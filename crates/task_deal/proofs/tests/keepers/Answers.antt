@@ -1,6 +1,6 @@
-use Rattle.std.proofs.Common.{rules, ◌≡◌, ◌≤◌, ◌∷◌, ◌++◌, [], ap, length, length-append, arith}
+use Rattle.task_deal.proofs.Common.{rules, ◌≡◌, ◌≤◌, ◌∷◌, ◌++◌, [], ap, length, length-append, arith}
 use Rattle.task_deal.specs.declared.tests.Keeper.{Keeper}
-use Rattle.task_deal.proofs.Places.{all_push}
+use Rattle.task_deal.proofs.Lemmas.{all_push}
 use Rattle.task_deal.proofs.tests.keepers.Goals as goal
 
 pub loop-preserved : goal.loop-preserved

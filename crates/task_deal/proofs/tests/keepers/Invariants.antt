@@ -1,4 +1,4 @@
-use Rattle.std.proofs.Common.{◌≡◌, ◌≤◌, All, length}
+use Rattle.task_deal.proofs.Common.{◌≡◌, ◌≤◌, All, length}
 use Rattle.task_deal.proofs.tests.keepers.Given as goal
 
 abbrev pub invariant-loop : goal.invariant-loop

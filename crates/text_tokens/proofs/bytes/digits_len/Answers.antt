@@ -1,6 +1,5 @@
-use Rattle.std.proofs.Common.{sym, ◌∙◌, arith}
-use Rattle.text_tokens.specs.Numbers.{is_digit}
-use Rattle.text_tokens.proofs.Runs.{run_ends, run_is_all}
+use Rattle.text_tokens.proofs.Common.{sym, ◌∙◌, arith, is_digit}
+use Rattle.text_tokens.proofs.Lemmas.{run_ends, run_is_all}
 use Rattle.text_tokens.proofs.bytes.digits_len.Goals as goal
 
 pub returns-then-not-is_digit : goal.returns-then-not-is_digit

@@ -1,6 +1,5 @@
-use Rattle.std.proofs.Common.{sym, ◌∙◌, arith}
-use Rattle.text_tokens.specs.Tokens.{is_letter}
-use Rattle.text_tokens.proofs.Runs.{run_ends, run_is_all}
+use Rattle.text_tokens.proofs.Common.{sym, ◌∙◌, arith, is_letter}
+use Rattle.text_tokens.proofs.Lemmas.{run_ends, run_is_all}
 use Rattle.text_tokens.proofs.bytes.letters_len.Goals as goal
 
 pub returns-then-not-is_letter : goal.returns-then-not-is_letter

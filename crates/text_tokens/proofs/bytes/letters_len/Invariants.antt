@@ -1,5 +1,4 @@
-use Rattle.std.proofs.Common.{◌≡◌, ℕ, ◌<◌, true, get_or}
-use Rattle.text_tokens.specs.Tokens.{is_letter}
+use Rattle.text_tokens.proofs.Common.{◌≡◌, ℕ, ◌<◌, true, get_or, is_letter}
 use Rattle.text_tokens.proofs.bytes.letters_len.Given as goal
 
 abbrev pub invariant-loop-i : goal.invariant-loop-i

@@ -1,5 +1,4 @@
-use Rattle.std.proofs.Common.{◌≡◌, ℕ, ◌<◌, true, get_or}
-use Rattle.text_tokens.specs.Numbers.{is_number_byte}
+use Rattle.text_tokens.proofs.Common.{◌≡◌, ℕ, ◌<◌, true, get_or, is_number_byte}
 use Rattle.text_tokens.proofs.bytes.number_len.Given as goal
 
 abbrev pub invariant-loop-i : goal.invariant-loop-i

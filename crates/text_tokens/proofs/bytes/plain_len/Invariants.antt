@@ -1,5 +1,4 @@
-use Rattle.std.proofs.Common.{◌≡◌, ℕ, ◌<◌, true, get_or}
-use Rattle.text_tokens.specs.Plain.{is_plain}
+use Rattle.text_tokens.proofs.Common.{◌≡◌, ℕ, ◌<◌, true, get_or, is_plain}
 use Rattle.text_tokens.proofs.bytes.plain_len.Given as goal
 
 abbrev pub invariant-loop-i : goal.invariant-loop-i

@@ -1,6 +1,5 @@
-use Rattle.std.proofs.Common.{◌∙◌, sym, arith}
-use Rattle.std.proofs.lemmas.Bool.Decides.{nat_tests}
-use Rattle.text_tokens.proofs.NumberParts.{all_digits}
+use Rattle.text_tokens.proofs.Common.{◌∙◌, sym, arith, nat_tests}
+use Rattle.text_tokens.proofs.Lemmas.{all_digits}
 use Rattle.text_tokens.proofs.number.are_digits.Goals as goal
 
 pub returns-then-not-is_empty-clause-digits : goal.returns-then-not-is_empty-clause-digits

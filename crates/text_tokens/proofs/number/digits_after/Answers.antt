@@ -1,5 +1,5 @@
-use Rattle.std.proofs.Common.{◌^◌, ◌≤◌, ℕ, sym, subst, ◌∙◌, arith}
-use Rattle.text_tokens.proofs.Digits.{digit_at, value_step, one_more_is_large, no_more}
+use Rattle.text_tokens.proofs.Common.{◌^◌, ◌≤◌, ℕ, sym, subst, ◌∙◌, arith}
+use Rattle.text_tokens.proofs.Lemmas.{digit_at, value_step, one_more_is_large, no_more}
 use Rattle.text_tokens.proofs.number.digits_after.Goals as goal
 
 pub overflow_sub-n : goal.overflow_sub-n

@@ -1,5 +1,4 @@
-use Rattle.std.proofs.Common.{◌≡◌, ◌^◌, ◌<◌, drop}
-use Rattle.text_tokens.specs.Numbers.{value_from}
+use Rattle.text_tokens.proofs.Common.{◌≡◌, ◌^◌, ◌<◌, drop, value_from}
 use Rattle.text_tokens.proofs.number.digits_after.Given as goal
 
 abbrev pub invariant-loop-b : goal.invariant-loop-b

@@ -1,9 +1,5 @@
-use Rattle.std.proofs.Common.{◌≡◌, ℕ, true, length, get_or, take, sym, ap, subst, ◌∙◌, arith, inl, inr}
-use Rattle.std.proofs.lemmas.Bool.{cases_lt}
-use Rattle.text_tokens.specs.Numbers.{is_digit, value_from, front}
-use Rattle.text_tokens.proofs.Runs.{run_ends, run_is_all}
-use Rattle.text_tokens.proofs.Digits.{digit_range}
-use Rattle.text_tokens.proofs.ShortNumbers.{value_takes}
+use Rattle.text_tokens.proofs.Common.{◌≡◌, ℕ, true, length, get_or, take, sym, ap, subst, ◌∙◌, arith, inl, inr, cases_lt, is_digit, value_from, front}
+use Rattle.text_tokens.proofs.Lemmas.{run_ends, run_is_all, digit_range, value_takes}
 use Rattle.text_tokens.proofs.number.digits_ahead.Goals as goal
 
 pub returns-then-not-is_digit-clause-len : goal.returns-then-not-is_digit-clause-len

@@ -1,5 +1,4 @@
-use Rattle.std.proofs.Common.{◌≡◌, ℕ, ◌<◌, ◌^◌, true, get_or, take}
-use Rattle.text_tokens.specs.Numbers.{is_digit, value_from}
+use Rattle.text_tokens.proofs.Common.{◌≡◌, ℕ, ◌<◌, ◌^◌, true, get_or, take, is_digit, value_from}
 use Rattle.text_tokens.proofs.number.digits_ahead.Given as goal
 
 abbrev pub invariant-loop-i : goal.invariant-loop-i

@@ -1,7 +1,6 @@
-use Rattle.std.proofs.Common.{◌≤◌, ◌^◌, ℕ, subst, ap, ◌∙◌, arith, rules, FitsSigned, w32}
+use Rattle.text_tokens.proofs.Common.{◌≤◌, ◌^◌, ℕ, subst, ap, ◌∙◌, arith, rules, FitsSigned, w32, value_from}
 use Rattle.std.proofs.lemmas.Int.{to_z-of_z}
-use Rattle.text_tokens.specs.Numbers.{value_from}
-use Rattle.text_tokens.proofs.NumberParts.{too_many, too_far, short_enough, exponent_is, grown}
+use Rattle.text_tokens.proofs.Lemmas.{too_many, too_far, short_enough, exponent_is, grown}
 use Rattle.text_tokens.proofs.number.number_token.Goals as goal
 
 pub returns-in_default : goal.returns-in_default

@@ -1,10 +1,5 @@
-use Rattle.std.proofs.Common.{◌≡◌, ◌+◌, ℕ, List, Bool, false, true, take, drop, sym, ap, subst, ◌∙◌, arith, pos, ℤ}
-use Rattle.std.specs.List.{prefix_len}
-use Rattle.text_tokens.specs.Scalars.{number}
-use Rattle.text_tokens.specs.Grammar.{word}
-use Rattle.text_tokens.specs.Tokens.{Read}
-use Rattle.text_tokens.specs.Numbers.{is_digit, is_number_byte, value_from, front, begins_with, is_whole_part}
-use Rattle.text_tokens.proofs.ShortNumbers.{whole_number, fraction_number, first_digit}
+use Rattle.text_tokens.proofs.Common.{◌≡◌, ◌+◌, ℕ, List, Bool, false, true, take, drop, sym, ap, subst, ◌∙◌, arith, pos, ℤ, prefix_len, number, word, Read, is_digit, is_number_byte, value_from, front, begins_with, is_whole_part}
+use Rattle.text_tokens.proofs.Lemmas.{whole_number, fraction_number, first_digit}
 use Rattle.text_tokens.proofs.number.short_number.Goals as goal
 
 front_at : (bs : List ℕ) (n : ℕ) → n ≡ prefix_len is_digit bs → is_whole_part (take n bs) ≡ true → is_whole_part (front bs) ≡ true

@@ -1,7 +1,5 @@
-use Rattle.std.proofs.Common.{ℕ, take, drop, ap, sym, subst, ◌∙◌, arith}
-use Rattle.text_tokens.specs.Numbers.{AreDigits, is_digit, front, behind}
-use Rattle.text_tokens.proofs.NumberParts.{digits_in_front}
-use Rattle.text_tokens.proofs.Runs.{run_within}
+use Rattle.text_tokens.proofs.Common.{ℕ, take, drop, ap, sym, subst, ◌∙◌, arith, AreDigits, is_digit, front, behind}
+use Rattle.text_tokens.proofs.Lemmas.{digits_in_front, run_within}
 use Rattle.text_tokens.proofs.number.split_digits.Goals as goal
 
 pub rest_from-requires : goal.rest_from-requires

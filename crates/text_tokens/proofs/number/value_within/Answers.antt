@@ -1,6 +1,5 @@
-use Rattle.std.proofs.Common.{◌+◌, ◌*◌, ◌-◌, get_or, drop, sym, ◌∙◌}
-use Rattle.text_tokens.specs.Numbers.{value}
-use Rattle.text_tokens.proofs.Digits.{digit_at, value_step, goes_above}
+use Rattle.text_tokens.proofs.Common.{◌+◌, ◌*◌, ◌-◌, get_or, drop, sym, ◌∙◌, value}
+use Rattle.text_tokens.proofs.Lemmas.{digit_at, value_step, goes_above}
 use Rattle.text_tokens.proofs.number.value_within.Goals as goal
 
 pub overflow_sub-n : goal.overflow_sub-n

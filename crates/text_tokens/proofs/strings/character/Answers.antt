@@ -1,7 +1,5 @@
-use Rattle.std.proofs.Common.{ℕ, subst, sym}
-use Rattle.std.specs.Char.{IsScalar}
-use Rattle.std.proofs.lemmas.Str.{IsUtf8-encode}
-use Rattle.text_tokens.proofs.Escapes.{at_most_four}
+use Rattle.text_tokens.proofs.Common.{ℕ, subst, sym, IsScalar, IsUtf8-encode}
+use Rattle.text_tokens.proofs.Lemmas.{at_most_four}
 use Rattle.text_tokens.proofs.strings.character.Goals as goal
 
 pub returns-clause-utf8 : goal.returns-clause-utf8

@@ -1,9 +1,5 @@
-use Rattle.std.proofs.Common.{◌≡◌, ℕ, ◌+◌, ◌++◌, List, drop, take, sym, ap, subst, ◌∙◌, arith, Vec, Global}
-use Rattle.std.specs.Prelude.{option_map, IsUtf8}
-use Rattle.text_tokens.specs.Strings.{string_from, string_of, after_piece, len_or}
-use Rattle.text_tokens.specs.Pieces.{piece_of}
-use Rattle.text_tokens.proofs.Texts.{ends, closes, goes_on, is_none, said_goes_on, nothing_said, raw_utf8, said_is, never}
-use Rattle.text_tokens.proofs.Escapes.{piece_keeps, reaches, all_read}
+use Rattle.text_tokens.proofs.Common.{◌≡◌, ℕ, ◌+◌, ◌++◌, List, drop, take, sym, ap, subst, ◌∙◌, arith, Vec, Global, option_map, IsUtf8, string_from, string_of, after_piece, len_or, piece_of}
+use Rattle.text_tokens.proofs.Lemmas.{ends, closes, goes_on, is_none, said_goes_on, nothing_said, raw_utf8, said_is, never, piece_keeps, reaches, all_read}
 use Rattle.text_tokens.proofs.strings.joined.Goals as goal
 use Rattle.text_tokens.proofs.strings.joined.Goals.{then-pieces-test+else-bytes-at-ne34, else-pieces-test}
 

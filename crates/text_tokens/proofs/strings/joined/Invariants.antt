@@ -1,6 +1,4 @@
-use Rattle.std.proofs.Common.{◌≡◌, ◌+◌, ◌-◌, ◌++◌, ◌≤◌, length, drop, take}
-use Rattle.std.specs.Prelude.{option_map, IsUtf8}
-use Rattle.text_tokens.specs.Strings.{string_from, string_of, after_piece, len_or}
+use Rattle.text_tokens.proofs.Common.{◌≡◌, ◌+◌, ◌-◌, ◌++◌, ◌≤◌, length, drop, take, option_map, IsUtf8, string_from, string_of, after_piece, len_or}
 use Rattle.text_tokens.proofs.strings.joined.Given as goal
 
 abbrev pub invariant-pieces : goal.invariant-pieces

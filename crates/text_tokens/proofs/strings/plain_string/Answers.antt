@@ -1,6 +1,5 @@
-use Rattle.std.proofs.Common.{◌≡◌, ◌<◌, ℕ, Some, take, get_or, length, sym, ap, subst, ◌∙◌}
-use Rattle.text_tokens.specs.Strings.{string_from}
-use Rattle.text_tokens.proofs.PlainStrings.{plain_is}
+use Rattle.text_tokens.proofs.Common.{◌≡◌, ◌<◌, ℕ, Some, take, get_or, length, sym, ap, subst, ◌∙◌, string_from}
+use Rattle.text_tokens.proofs.Lemmas.{plain_is}
 use Rattle.text_tokens.proofs.strings.plain_string.Goals as goal
 
 pub returns-then-bytes-len-eq34-clause-is : goal.returns-then-bytes-len-eq34-clause-is

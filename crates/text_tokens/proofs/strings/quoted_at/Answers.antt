@@ -1,7 +1,5 @@
-use Rattle.std.proofs.Common.{◌≡◌, ap, arith}
-use Rattle.std.proofs.lemmas.Str.{is_utf8-from_IsUtf8}
-use Rattle.text_tokens.specs.Strings.{string_of, len_or}
-use Rattle.text_tokens.proofs.Texts.{no_string, not_utf8, string_of_len, closed, not_utf8_test}
+use Rattle.text_tokens.proofs.Common.{◌≡◌, ap, arith, is_utf8-from_IsUtf8, string_of, len_or}
+use Rattle.text_tokens.proofs.Lemmas.{no_string, not_utf8, string_of_len, closed, not_utf8_test}
 use Rattle.text_tokens.proofs.strings.quoted_at.Goals as goal
 
 pub returns-in_err-len-clause-none : goal.returns-in_err-len-clause-none

@@ -1,8 +1,5 @@
-use Rattle.std.proofs.Common.{◌+◌, Option, drop, sym, ap, ◌∙◌, arith}
-use Rattle.std.specs.Prelude.{option_map}
-use Rattle.text_tokens.specs.Strings.{Piece, string_from}
-use Rattle.text_tokens.specs.Pieces.{piece_of}
-use Rattle.text_tokens.proofs.Texts.{ends, closes, goes_on, is_none, len_goes_on, quote_len}
+use Rattle.text_tokens.proofs.Common.{◌+◌, Option, drop, sym, ap, ◌∙◌, arith, option_map, Piece, string_from, piece_of}
+use Rattle.text_tokens.proofs.Lemmas.{ends, closes, goes_on, is_none, len_goes_on, quote_len}
 use Rattle.text_tokens.proofs.strings.string_len.Goals as goal
 
 pub returns-then-bytes-at-eq34-clause-is : goal.returns-then-bytes-at-eq34-clause-is

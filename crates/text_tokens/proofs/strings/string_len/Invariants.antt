@@ -1,6 +1,4 @@
-use Rattle.std.proofs.Common.{◌≡◌, ◌+◌, ◌-◌, ◌≤◌, length, drop}
-use Rattle.std.specs.Prelude.{option_map}
-use Rattle.text_tokens.specs.Strings.{string_from}
+use Rattle.text_tokens.proofs.Common.{◌≡◌, ◌+◌, ◌-◌, ◌≤◌, length, drop, option_map, string_from}
 use Rattle.text_tokens.proofs.strings.string_len.Given as goal
 
 abbrev pub invariant-pieces : goal.invariant-pieces

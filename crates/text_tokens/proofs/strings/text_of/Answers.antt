@@ -1,6 +1,5 @@
-use Rattle.std.proofs.Common.{◌≡◌, ℕ, List, subst, ◌∙◌, string_bytes}
-use Rattle.std.specs.Prelude.{IfOk}
-use Rattle.text_tokens.proofs.PlainStrings.{plain_said, plain_utf8}
+use Rattle.text_tokens.proofs.Common.{◌≡◌, ℕ, List, subst, ◌∙◌, string_bytes, IfOk}
+use Rattle.text_tokens.proofs.Lemmas.{plain_said, plain_utf8}
 use Rattle.text_tokens.proofs.strings.text_of.Goals as goal
 
 pub unreachable-requires : goal.unreachable-requires

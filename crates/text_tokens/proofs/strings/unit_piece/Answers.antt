@@ -1,6 +1,5 @@
-use Rattle.std.proofs.Common.{ap, sym, ◌∙◌}
-use Rattle.text_tokens.specs.Pieces.{seen_piece}
-use Rattle.text_tokens.proofs.Escapes.{no_second}
+use Rattle.text_tokens.proofs.Common.{ap, sym, ◌∙◌, seen_piece}
+use Rattle.text_tokens.proofs.Lemmas.{no_second}
 use Rattle.text_tokens.proofs.strings.unit_piece.Goals as goal
 
 pub returns-in_err-low-clause-is : goal.returns-in_err-low-clause-is

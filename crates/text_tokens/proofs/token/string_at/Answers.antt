@@ -1,5 +1,4 @@
-use Rattle.std.proofs.Common.{sym, ap}
-use Rattle.text_tokens.specs.Strings.{string_at, string_token}
+use Rattle.text_tokens.proofs.Common.{sym, ap, string_at, string_token}
 use Rattle.text_tokens.proofs.token.string_at.Goals as goal
 
 pub returns-in-Some-clause-is : goal.returns-in-Some-clause-is

@@ -1,5 +1,4 @@
-use Rattle.std.proofs.Common.{ℕ, ◌<◌, ◌≤◌, false}
-use Rattle.std.specs.Prelude.{IsFalse, slice_index_or}
+use Rattle.tiny_units.proofs.Common.{ℕ, ◌<◌, ◌≤◌, false, IsFalse, slice_index_or}
 use Rattle.tiny_units.proofs.commitment.stays_off.Given as goal
 
 abbrev pub invariant-loop-later : goal.invariant-loop-later

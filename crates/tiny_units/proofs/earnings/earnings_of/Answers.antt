@@ -1,10 +1,4 @@
-use Rattle.std.proofs.Common.{rules, arith, ◌≡◌, ◌+◌, ℕ, ℤ, ◌+ℤ◌, length, ap, ◌∙◌, add-one}
-use Rattle.std.proofs.lemmas.Int.{ints, to_z-of_z}
-use Rattle.std.specs.Int.{w128, cast_signed}
-use Rattle.std.specs.Prelude.{FitsSigned}
-use Rattle.uc_model.specs.PlainUnits.{thermal_of, schedule_of, prices_of}
-use Rattle.uc_model.specs.Sums.{sum_below}
-use Rattle.tiny_units.specs.Money.{net_in}
+use Rattle.tiny_units.proofs.Common.{rules, arith, ◌≡◌, ◌+◌, ℕ, ℤ, ◌+ℤ◌, length, ap, ◌∙◌, add-one, ints, to_z-of_z, w128, cast_signed, FitsSigned, thermal_of, schedule_of, prices_of, sum_below, net_in}
 use Rattle.tiny_units.proofs.EarningsLaws.{earnings-net}
 use Rattle.tiny_units.proofs.earnings.earnings_of.Goals as goal
 

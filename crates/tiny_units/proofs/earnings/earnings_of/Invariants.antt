@@ -1,8 +1,4 @@
-use Rattle.std.proofs.Common.{◌≡◌, ◌*◌, pos, neg_ℤ}
-use Rattle.uc_model.specs.Limits.{IsFrom}
-use Rattle.uc_model.specs.PlainUnits.{thermal_of, schedule_of, prices_of}
-use Rattle.uc_model.specs.Sums.{sum_below}
-use Rattle.tiny_units.specs.Money.{net_in}
+use Rattle.tiny_units.proofs.Common.{◌≡◌, ◌*◌, pos, neg_ℤ, IsFrom, thermal_of, schedule_of, prices_of, sum_below, net_in}
 use Rattle.tiny_units.proofs.earnings.earnings_of.Given as goal
 
 abbrev pub invariant-loop-place : goal.invariant-loop-place

@@ -1,10 +1,4 @@
-use Rattle.std.proofs.Common.{rules, arith}
-use Rattle.std.proofs.lemmas.Int.{to_z-of_z}
-use Rattle.std.specs.Int.{w64, w128}
-use Rattle.std.specs.Prelude.{FitsSigned}
-use Rattle.uc_model.proofs.SignedLaws.{fits_within}
-use Rattle.uc_model.specs.Data.{Thermal}
-use Rattle.uc_model.specs.PlainUnits.{thermal_of, schedule_of, prices_of}
+use Rattle.tiny_units.proofs.Common.{rules, arith, to_z-of_z, w64, w128, FitsSigned, fits_within, Thermal, thermal_of, schedule_of, prices_of}
 use Rattle.tiny_units.proofs.earnings.feasible_earnings.Goals as goal
 
 fits : (c : goal.After-earnings_of) → FitsSigned w64 c.earnings_of.result

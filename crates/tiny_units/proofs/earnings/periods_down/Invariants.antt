@@ -1,6 +1,4 @@
-use Rattle.std.proofs.Common.{◌≡◌, ◌+◌, ◌≤◌}
-use Rattle.uc_model.specs.PlainUnits.{thermal_of, schedule_of}
-use Rattle.uc_model.specs.Schedules.{time_down}
+use Rattle.tiny_units.proofs.Common.{◌≡◌, ◌+◌, ◌≤◌, thermal_of, schedule_of, time_down}
 use Rattle.tiny_units.proofs.earnings.periods_down.Given as goal
 
 abbrev pub invariant-loop-earlier : goal.invariant-loop-earlier

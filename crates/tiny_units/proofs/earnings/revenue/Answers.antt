@@ -1,5 +1,4 @@
-use Rattle.std.proofs.Common.{arith}
-use Rattle.std.proofs.lemmas.Int.{ints}
+use Rattle.tiny_units.proofs.Common.{arith, ints}
 use Rattle.tiny_units.proofs.earnings.revenue.Goals as goal
 
 pub plus-requires-clause-a : goal.plus-requires-clause-a

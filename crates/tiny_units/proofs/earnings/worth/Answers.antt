@@ -1,10 +1,5 @@
-use Rattle.std.proofs.Common.{rules, arith, pos, neg_ℤ, ◌*ℤ◌}
-use Rattle.std.proofs.lemmas.Int.{ints, to_z-of_z}
-use Rattle.std.specs.Int.{w128}
-use Rattle.std.specs.Prelude.{FitsSigned}
-use Rattle.uc_model.specs.Limits.{IsFrom}
-use Rattle.uc_model.proofs.SignedLaws.{fits_within}
-use Rattle.tiny_units.proofs.BoundLaws.{product_bound}
+use Rattle.tiny_units.proofs.Common.{rules, arith, pos, neg_ℤ, ◌*ℤ◌, ints, to_z-of_z, w128, FitsSigned, IsFrom, fits_within}
+use Rattle.tiny_units.proofs.Lemmas.{product_bound}
 use Rattle.tiny_units.proofs.earnings.worth.Goals as goal
 
 pub returns-clause-bound : goal.returns-clause-bound

@@ -1,9 +1,5 @@
-use Rattle.std.proofs.Common.{rules, arith, ◌≡◌, suc, ◌-◌, ◌^◌, ℤ, pos, neg_ℤ, ◌+ℤ◌, ◌-ℤ◌, ◌≤ℤ◌, subst, sym, ◌∙◌}
-use Rattle.std.proofs.lemmas.Int.{ints, to_z-of_z}
-use Rattle.std.specs.Int.{w128}
-use Rattle.std.specs.Prelude.{FitsSigned}
-use Rattle.uc_model.specs.Envelope.{rises_after}
-use Rattle.tiny_units.proofs.EnvelopeSteps.{halves, half_within}
+use Rattle.tiny_units.proofs.Common.{rules, arith, ◌≡◌, suc, ◌-◌, ◌^◌, ℤ, pos, neg_ℤ, ◌+ℤ◌, ◌-ℤ◌, ◌≤ℤ◌, subst, sym, ◌∙◌, ints, to_z-of_z, w128, FitsSigned, rises_after}
+use Rattle.tiny_units.proofs.Lemmas.{halves, half_within}
 use Rattle.tiny_units.proofs.envelope.+price_from.Goals as goal
 
 pub half-next-requires-clause-high : goal.half-next-requires-clause-high

@@ -1,8 +1,5 @@
-use Rattle.std.proofs.Common.{rules, pos, ◌∙◌}
-use Rattle.std.proofs.lemmas.Int.{to_z-of_z}
-use Rattle.std.specs.Int.{w128}
-use Rattle.std.specs.Prelude.{FitsSigned}
-use Rattle.tiny_units.proofs.EnvelopeSteps.{envelope-found}
+use Rattle.tiny_units.proofs.Common.{rules, pos, ◌∙◌, to_z-of_z, w128, FitsSigned}
+use Rattle.tiny_units.proofs.Lemmas.{envelope-found}
 use Rattle.tiny_units.proofs.envelope.cost_of_power.Goals as goal
 
 pub returns-clause-cost : goal.returns-clause-cost

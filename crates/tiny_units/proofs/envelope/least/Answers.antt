@@ -1,11 +1,5 @@
-use Rattle.std.proofs.Common.{rules, ◌≡◌, ℤ, pos, ap, ◌∙◌}
-use Rattle.std.proofs.lemmas.Int.{to_z-of_z}
-use Rattle.std.specs.Int.{w128, int_min, cast_signed, cast_unsigned}
-use Rattle.std.specs.List.{fold}
-use Rattle.std.specs.Prelude.{FitsSigned}
-use Rattle.uc_model.specs.declared.units.Point.{Point}
-use Rattle.uc_model.specs.Envelope.{line_at, least_line}
-use Rattle.tiny_units.proofs.EnvelopeSteps.{least_line-fold}
+use Rattle.tiny_units.proofs.Common.{rules, ◌≡◌, ℤ, pos, ap, ◌∙◌, to_z-of_z, w128, int_min, cast_signed, cast_unsigned, fold, FitsSigned, Point, line_at, least_line}
+use Rattle.tiny_units.proofs.Lemmas.{least_line-fold}
 use Rattle.tiny_units.proofs.envelope.least.Goals as goal
 
 pub returns-clause-value : goal.returns-clause-value

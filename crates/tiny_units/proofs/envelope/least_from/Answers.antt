@@ -1,12 +1,6 @@
-use Rattle.std.proofs.Common.{rules, arith, ◌≡◌, ℕ, ℤ, pos, ap, sym, ◌∙◌, take, length}
+use Rattle.tiny_units.proofs.Common.{rules, arith, ◌≡◌, ℕ, ℤ, pos, ap, sym, ◌∙◌, take, length, ints, clamps, to_z-of_z, w128, int_min, cast_signed, cast_unsigned, fold, FitsSigned, Point, line_at}
 use Rattle.std.proofs.Math.Seq.{take-length}
-use Rattle.std.proofs.lemmas.Int.{ints, clamps, to_z-of_z}
 use Rattle.std.proofs.lemmas.List.Sums.{fold_more}
-use Rattle.std.specs.Int.{w128, int_min, cast_signed, cast_unsigned}
-use Rattle.std.specs.List.{fold}
-use Rattle.std.specs.Prelude.{FitsSigned}
-use Rattle.uc_model.specs.declared.units.Point.{Point}
-use Rattle.uc_model.specs.Envelope.{line_at}
 use Rattle.tiny_units.proofs.envelope.least_from.Goals as goal
 
 -- one step of the fold at a price

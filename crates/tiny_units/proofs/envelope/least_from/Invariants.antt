@@ -1,8 +1,4 @@
-use Rattle.std.proofs.Common.{◌≡◌, pos, neg_ℤ, take}
-use Rattle.std.specs.List.{fold}
-use Rattle.std.specs.Int.{int_min}
-use Rattle.uc_model.specs.Envelope.{line_at}
-use Rattle.uc_model.specs.Limits.{IsFrom}
+use Rattle.tiny_units.proofs.Common.{◌≡◌, pos, neg_ℤ, take, fold, int_min, line_at, IsFrom}
 use Rattle.tiny_units.proofs.envelope.least_from.Given as goal
 
 abbrev pub invariant-loop-point : goal.invariant-loop-point

@@ -1,10 +1,4 @@
-use Rattle.std.proofs.Common.{rules, arith, ◌≡◌, pos, neg_ℤ, ◌+ℤ◌}
-use Rattle.std.proofs.lemmas.Int.{ints, to_z-of_z}
-use Rattle.std.specs.Int.{w64, w128}
-use Rattle.std.specs.Prelude.{FitsSigned}
-use Rattle.uc_model.specs.Limits.{IsFrom}
-use Rattle.uc_model.specs.Envelope.{line_at}
-use Rattle.uc_model.proofs.SignedLaws.{fits_within}
+use Rattle.tiny_units.proofs.Common.{rules, arith, ◌≡◌, pos, neg_ℤ, ◌+ℤ◌, ints, to_z-of_z, w64, w128, FitsSigned, IsFrom, line_at, fits_within}
 use Rattle.tiny_units.proofs.envelope.line.Goals as goal
 
 within : (c : goal.After-product) → IsFrom (neg_ℤ (pos 2417851639229258349412352)) (pos 2417851639229258349412352) (c.from.result +ℤ c.product.result)

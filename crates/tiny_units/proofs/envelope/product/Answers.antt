@@ -1,7 +1,5 @@
-use Rattle.std.proofs.Common.{arith}
-use Rattle.std.proofs.lemmas.Int.{to_z-of_z}
-use Rattle.std.specs.Int.{w128}
-use Rattle.tiny_units.proofs.BoundLaws.{product_bound, product_fits}
+use Rattle.tiny_units.proofs.Common.{arith, to_z-of_z, w128}
+use Rattle.tiny_units.proofs.Lemmas.{product_bound, product_fits}
 use Rattle.tiny_units.proofs.envelope.product.Goals as goal
 
 pub overflow_mul-result : goal.overflow_mul-result

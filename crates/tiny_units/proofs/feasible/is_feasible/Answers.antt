@@ -1,5 +1,4 @@
-use Rattle.std.proofs.Common.{length}
-use Rattle.uc_model.specs.PlainUnits.{thermal_of, schedule_of}
+use Rattle.tiny_units.proofs.Common.{length, thermal_of, schedule_of}
 use Rattle.tiny_units.proofs.FeasibleLaws.{feasible_by_places, places_keep_rules}
 use Rattle.tiny_units.proofs.feasible.is_feasible.Goals as goal
 

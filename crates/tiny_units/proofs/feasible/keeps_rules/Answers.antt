@@ -1,4 +1,4 @@
-use Rattle.std.proofs.Common.{rules, ◌≡◌, true, below_more}
+use Rattle.tiny_units.proofs.Common.{rules, ◌≡◌, true, below_more}
 use Rattle.tiny_units.proofs.feasible.keeps_rules.Goals as goal
 
 pub loop-place-preserved : goal.loop-place-preserved

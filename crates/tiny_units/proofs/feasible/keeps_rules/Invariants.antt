@@ -1,6 +1,4 @@
-use Rattle.std.proofs.Common.{ℕ, ◌<◌}
-use Rattle.uc_model.specs.PlainUnits.{thermal_of, schedule_of}
-use Rattle.tiny_units.specs.Rules.{KeepsRulesAt}
+use Rattle.tiny_units.proofs.Common.{ℕ, ◌<◌, thermal_of, schedule_of, KeepsRulesAt}
 use Rattle.tiny_units.proofs.feasible.keeps_rules.Given as goal
 
 abbrev pub invariant-loop-place : goal.invariant-loop-place

@@ -1,8 +1,5 @@
-use Rattle.std.proofs.Common.{arith, ◌≡◌, suc, ◌+◌, ◌<◌, ◌≤◌, Bool, true, false, List, length, map, sym, ap, ◌∙◌, subst, drop}
-use Rattle.std.proofs.lemmas.List.{length-set}
-use Rattle.std.specs.Prelude.{slice_index_or}
-use Rattle.tiny_units.specs.Counts.{after_of, flag}
-use Rattle.tiny_units.proofs.StepLaws.{IsTurned, new_set, old_split, turned_more, turned_all, flags-one_more, flags-lasts}
+use Rattle.tiny_units.proofs.Common.{arith, ◌≡◌, suc, ◌+◌, ◌<◌, ◌≤◌, Bool, true, false, List, length, map, sym, ap, ◌∙◌, subst, drop, length-set, slice_index_or, after_of, flag}
+use Rattle.tiny_units.proofs.Lemmas.{IsTurned, new_set, old_split, turned_more, turned_all, flags-one_more, flags-lasts}
 use Rattle.tiny_units.proofs.order.next_flags.Goals as goal
 
 pub loop-place-preserved : goal.loop-place-preserved

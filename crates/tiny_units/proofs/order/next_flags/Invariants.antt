@@ -1,5 +1,5 @@
-use Rattle.std.proofs.Common.{◌≡◌, false, true, length}
-use Rattle.tiny_units.proofs.StepLaws.{IsTurned}
+use Rattle.tiny_units.proofs.Common.{◌≡◌, false, true, length}
+use Rattle.tiny_units.proofs.Lemmas.{IsTurned}
 use Rattle.tiny_units.proofs.order.next_flags.Given as goal
 
 abbrev pub invariant-loop-place : goal.invariant-loop-place

@@ -1,10 +1,6 @@
-use Rattle.std.proofs.Common.{arith, ◌≡◌, ℕ, suc, ◌+◌, ◌<◌, ◌≤◌, List, ◌∷◌, ◌++◌, length, drop, replicate, sym, ap, ◌∙◌, subst, add-one}
-use Rattle.std.proofs.lemmas.List.{length-set}
+use Rattle.tiny_units.proofs.Common.{arith, ◌≡◌, ℕ, suc, ◌+◌, ◌<◌, ◌≤◌, List, ◌∷◌, ◌++◌, length, drop, replicate, sym, ap, ◌∙◌, subst, add-one, length-set, All, slice_index_or, after_of, list_count}
 use Rattle.std.proofs.lemmas.List.Elements.{All-set}
-use Rattle.std.specs.List.{All}
-use Rattle.std.specs.Prelude.{slice_index_or}
-use Rattle.tiny_units.specs.Counts.{after_of, list_count}
-use Rattle.tiny_units.proofs.StepLaws.{IsTurned, new_set, old_split, turned_more, turned_all, after-one_more, after-lasts, after-firsts}
+use Rattle.tiny_units.proofs.Lemmas.{IsTurned, new_set, old_split, turned_more, turned_all, after-one_more, after-lasts, after-firsts}
 use Rattle.tiny_units.proofs.order.next_numbers.Goals as goal
 
 pub loop-place-preserved : goal.loop-place-preserved

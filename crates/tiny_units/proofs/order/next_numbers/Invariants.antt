@@ -1,6 +1,5 @@
-use Rattle.std.proofs.Common.{◌≡◌, ◌≤◌, length}
-use Rattle.std.specs.List.{All}
-use Rattle.tiny_units.proofs.StepLaws.{IsTurned}
+use Rattle.tiny_units.proofs.Common.{◌≡◌, ◌≤◌, length, All}
+use Rattle.tiny_units.proofs.Lemmas.{IsTurned}
 use Rattle.tiny_units.proofs.order.next_numbers.Given as goal
 
 abbrev pub invariant-loop-place : goal.invariant-loop-place

@@ -1,6 +1,5 @@
-use Rattle.std.proofs.Common.{ℕ, suc, ◌+◌, ◌*◌, length, ap, ◌∙◌, map}
-use Rattle.tiny_units.specs.Counts.{after_of, list_count, flag}
-use Rattle.tiny_units.proofs.StepLaws.{carry_power, carry_flags}
+use Rattle.tiny_units.proofs.Common.{ℕ, suc, ◌+◌, ◌*◌, length, ap, ◌∙◌, map, after_of, list_count, flag}
+use Rattle.tiny_units.proofs.Lemmas.{carry_power, carry_flags}
 use Rattle.tiny_units.proofs.order.next_schedule.Goals as goal
 
 pub returns-then-next_numbers-2-clause-next : goal.returns-then-next_numbers-2-clause-next

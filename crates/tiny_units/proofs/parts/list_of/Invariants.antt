@@ -1,4 +1,4 @@
-use Rattle.std.proofs.Common.{◌≡◌, ◌+◌, ◌≤◌, take, length}
+use Rattle.tiny_units.proofs.Common.{◌≡◌, ◌+◌, ◌≤◌, take, length}
 use Rattle.tiny_units.proofs.parts.list_of.Given as goal
 
 abbrev pub invariant-loop-item : goal.invariant-loop-item

@@ -1,5 +1,4 @@
-use Rattle.std.proofs.Common.{◌≡◌, ℕ, ◌<◌, pos, length, get_or}
-use Rattle.uc_model.specs.Sums.{int_at}
+use Rattle.tiny_units.proofs.Common.{◌≡◌, ℕ, ◌<◌, pos, length, get_or, int_at}
 use Rattle.tiny_units.proofs.parts.small_prices.Given as goal
 
 abbrev pub invariant-loop-place : goal.invariant-loop-place

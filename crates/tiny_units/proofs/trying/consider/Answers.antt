@@ -1,15 +1,7 @@
-use Rattle.std.proofs.Common.{rules, arith, ◌≡◌, ℕ, ℤ, length, true, sym, subst, ◌∙◌}
-use Rattle.std.proofs.lemmas.Int.{ints, to_z-of_z}
-use Rattle.std.specs.Int.{w64, cast_signed, cast_unsigned}
-use Rattle.std.specs.Prelude.{FitsSigned, IsTrue, ◌<ℤ◌}
-use Rattle.uc_model.specs.Data.{Schedule}
-use Rattle.uc_model.specs.PlainUnits.{thermal_of, schedule_of, prices_of}
-use Rattle.uc_model.specs.Schedules.{IsThermalFeasible}
+use Rattle.tiny_units.proofs.Common.{rules, arith, ◌≡◌, ℕ, ℤ, length, true, sym, subst, ◌∙◌, ints, to_z-of_z, w64, cast_signed, cast_unsigned, FitsSigned, IsTrue, ◌<ℤ◌, Schedule, thermal_of, schedule_of, prices_of, IsThermalFeasible, schedules_after, IsWithin, IsKept}
 use Rattle.uc_model.specs.declared.units.Response.{Response}
-use Rattle.tiny_units.specs.Counts.{schedules_after, IsWithin}
-use Rattle.tiny_units.specs.Tries.{IsKept}
 use Rattle.tiny_units.proofs.CountLaws.{IsCounted}
-use Rattle.tiny_units.proofs.TryLaws.{keeps_infeasible, keeps_better, takes}
+use Rattle.tiny_units.proofs.Lemmas.{keeps_infeasible, keeps_better, takes}
 use Rattle.tiny_units.proofs.trying.consider.Goals as goal
 use Rattle.tiny_units.proofs.trying.consider.Goals.{else-found-via-then-found+else-earned-kept, else-found-via-else-found}
 

@@ -1,10 +1,6 @@
-use Rattle.std.proofs.Common.{rules, arith, ◌≡◌, ℕ, pos, false, replicate, ap, ◌∙◌}
-use Rattle.std.proofs.lemmas.Int.{ints, to_z-of_z}
-use Rattle.std.specs.Int.{w64, cast_signed, cast_unsigned}
-use Rattle.std.specs.Prelude.{FitsSigned, unsigned_abs}
+use Rattle.tiny_units.proofs.Common.{rules, arith, ◌≡◌, ℕ, pos, false, replicate, ap, ◌∙◌, ints, to_z-of_z, w64, cast_signed, cast_unsigned, FitsSigned, unsigned_abs, thermal_of, schedule_of, prices_of}
 use Rattle.uc_model.specs.declared.units.Unit.{Unit}
-use Rattle.uc_model.specs.PlainUnits.{thermal_of, schedule_of, prices_of}
-use Rattle.tiny_units.proofs.TryLaws.{begins, kept_is_least, size_of}
+use Rattle.tiny_units.proofs.Lemmas.{begins, kept_is_least, size_of}
 use Rattle.tiny_units.proofs.trying.least_by_trying.Goals as goal
 
 most_is : (u : Unit) → FitsSigned w64 u.max_power → pos (unsigned_abs (cast_signed w64 (cast_unsigned w64 u.max_power))) ≡ u.max_power

@@ -1,7 +1,4 @@
-use Rattle.std.proofs.Common.{◌≡◌, suc, length}
-use Rattle.uc_model.specs.PlainUnits.{thermal_of, schedule_of, prices_of}
-use Rattle.tiny_units.specs.Counts.{schedules_after, IsWithin}
-use Rattle.tiny_units.specs.Tries.{IsKept}
+use Rattle.tiny_units.proofs.Common.{◌≡◌, suc, length, thermal_of, schedule_of, prices_of, schedules_after, IsWithin, IsKept}
 use Rattle.tiny_units.proofs.trying.try_from.Given as goal
 
 abbrev pub invariant-tries : goal.invariant-tries

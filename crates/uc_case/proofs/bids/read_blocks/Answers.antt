@@ -1,10 +1,5 @@
-use Rattle.std.proofs.Common.{[], arith}
-use Rattle.std.proofs.lemmas.Result.{err_from_is_err_and}
-use Rattle.uc_text.specs.View.{view, views}
-use Rattle.uc_case.specs.Words.{each}
-use Rattle.uc_case.specs.Tables.{block}
-use Rattle.uc_case.specs.EachLaws.{counted, goes_on, ends, is_done}
-use Rattle.uc_case.proofs.Ordered.{blocks_push}
+use Rattle.uc_case.proofs.Common.{[], arith, err_from_is_err_and, view, views, each, block, counted, goes_on, ends, is_done}
+use Rattle.uc_case.proofs.Lemmas.{blocks_push}
 use Rattle.uc_case.proofs.bids.read_blocks.Goals as goal
 
 pub returns-in_err-block-clause-value : goal.returns-in_err-block-clause-value

@@ -1,8 +1,4 @@
-use Rattle.std.proofs.Common.{◌≡◌, ◌+◌, ◌≤◌, [], length, drop}
-use Rattle.uc_text.specs.View.{views}
-use Rattle.uc_case.specs.Kept.{AreBlocks}
-use Rattle.uc_case.specs.Words.{each}
-use Rattle.uc_case.specs.Tables.{block}
+use Rattle.uc_case.proofs.Common.{◌≡◌, ◌+◌, ◌≤◌, [], length, drop, views, AreBlocks, each, block}
 use Rattle.uc_case.proofs.bids.read_blocks.Given as goal
 
 abbrev pub invariant-loop-tree : goal.invariant-loop-tree

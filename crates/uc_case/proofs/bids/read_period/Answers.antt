@@ -1,9 +1,5 @@
-use Rattle.std.proofs.Common.{arith, w64, rules}
-use Rattle.std.specs.Prelude.{FitsSigned}
-use Rattle.std.proofs.lemmas.Int.{to_z-of_z}
-use Rattle.std.proofs.lemmas.List.{length-map}
-use Rattle.uc_text.specs.View.{view, views}
-use Rattle.uc_case.proofs.Limited.{period_read, period_refused}
+use Rattle.uc_case.proofs.Common.{arith, w64, rules, FitsSigned, to_z-of_z, length-map, view, views}
+use Rattle.uc_case.proofs.Lemmas.{period_read, period_refused}
 use Rattle.uc_case.proofs.bids.read_period.Goals as goal
 
 pub returns-then-total_width-gt-POWER_LIMIT-clause-value : goal.returns-then-total_width-gt-POWER_LIMIT-clause-value

@@ -1,16 +1,5 @@
-use Rattle.std.proofs.Common.{map, arith}
-use Rattle.std.proofs.lemmas.List.{map_push}
-use Rattle.std.proofs.lemmas.Result.{err_from_is_err_and}
-use Rattle.uc_model.specs.Limits.{IsBlockList}
-use Rattle.uc_model.specs.Reserved.{items_in}
-use Rattle.uc_text.specs.View.{view, views}
-use Rattle.uc_case.specs.Places.{item_at}
-use Rattle.uc_case.specs.Words.{position}
-use Rattle.uc_case.specs.Forms.{items}
-use Rattle.uc_case.specs.Tables.{period_blocks}
-use Rattle.uc_case.specs.EachLaws.{counted, is_done}
-use Rattle.uc_case.proofs.Loops.{period_goes_on, period_ends}
-use Rattle.std.proofs.lemmas.List.Elements.{All-push}
+use Rattle.uc_case.proofs.Common.{map, arith, map_push, err_from_is_err_and, IsBlockList, items_in, view, views, item_at, position, items, period_blocks, counted, is_done, All-push}
+use Rattle.uc_case.proofs.Lemmas.{period_goes_on, period_ends}
 use Rattle.uc_case.proofs.bids.read_periods.Goals as goal
 
 pub returns-in_err-blocks-clause-value : goal.returns-in_err-blocks-clause-value

@@ -1,12 +1,4 @@
-use Rattle.std.proofs.Common.{◌≡◌, ◌+◌, ◌≤◌, length, drop, map}
-use Rattle.std.specs.List.{All}
-use Rattle.uc_model.specs.Limits.{IsBlockList}
-use Rattle.uc_model.specs.Reserved.{items_in}
-use Rattle.uc_text.specs.View.{views}
-use Rattle.uc_case.specs.Places.{item_at}
-use Rattle.uc_case.specs.Words.{each, position}
-use Rattle.uc_case.specs.Forms.{items}
-use Rattle.uc_case.specs.Tables.{period_blocks}
+use Rattle.uc_case.proofs.Common.{◌≡◌, ◌+◌, ◌≤◌, length, drop, map, All, IsBlockList, items_in, views, item_at, each, position, items, period_blocks}
 use Rattle.uc_case.proofs.bids.read_periods.Given as goal
 
 abbrev pub invariant-loop-tree : goal.invariant-loop-tree

@@ -1,11 +1,4 @@
-use Rattle.std.proofs.Common.{◌≡◌, ◌+◌, ◌≤◌, length, drop, map}
-use Rattle.std.specs.List.{All}
-use Rattle.uc_model.specs.PlainUnits.{named_bid_of}
-use Rattle.uc_text.specs.View.{member_views}
-use Rattle.uc_case.specs.Kept.{IsBidOf}
-use Rattle.uc_case.specs.Places.{place}
-use Rattle.uc_case.specs.Words.{each, position}
-use Rattle.uc_case.specs.Cases.{each_member, bid}
+use Rattle.uc_case.proofs.Common.{◌≡◌, ◌+◌, ◌≤◌, length, drop, map, All, named_bid_of, member_views, IsBidOf, place, each, position, each_member, bid}
 use Rattle.uc_case.specs.declared.fault.Field.TheVariants as fields
 use Rattle.uc_model.specs.declared.kinds.Kind.TheVariants as kinds
 use Rattle.uc_case.proofs.cases.read_bids.Given as goal

@@ -1,17 +1,7 @@
-use Rattle.std.proofs.Common.{arith, map}
-use Rattle.std.proofs.lemmas.List.{map_push}
-use Rattle.std.proofs.lemmas.Result.{err_from_is_err_and}
-use Rattle.uc_model.specs.PlainUnits.{named_renewable_of}
-use Rattle.uc_text.specs.View.{member_view, member_views}
-use Rattle.uc_case.specs.Kept.{IsRenewableOf}
-use Rattle.uc_case.specs.Places.{place}
-use Rattle.uc_case.specs.Words.{position}
-use Rattle.uc_case.specs.Cases.{each_member, renewable}
+use Rattle.uc_case.proofs.Common.{arith, map, map_push, err_from_is_err_and, named_renewable_of, member_view, member_views, IsRenewableOf, place, position, each_member, renewable, counted, is_done, All-push}
 use Rattle.uc_case.specs.declared.fault.Field.TheVariants as fields
 use Rattle.uc_model.specs.declared.kinds.Kind.TheVariants as kinds
-use Rattle.uc_case.specs.EachLaws.{counted, is_done}
-use Rattle.uc_case.proofs.Loops.{member_goes_on, member_ends}
-use Rattle.std.proofs.lemmas.List.Elements.{All-push}
+use Rattle.uc_case.proofs.Lemmas.{member_goes_on, member_ends}
 use Rattle.uc_case.proofs.cases.read_flat.Goals as goal
 
 pub returns-in_err-unit-clause-value : goal.returns-in_err-unit-clause-value

@@ -1,11 +1,4 @@
-use Rattle.std.proofs.Common.{◌≡◌, ◌+◌, ◌≤◌, length, drop, map}
-use Rattle.std.specs.List.{All}
-use Rattle.uc_model.specs.PlainUnits.{named_renewable_of}
-use Rattle.uc_text.specs.View.{member_views}
-use Rattle.uc_case.specs.Kept.{IsRenewableOf}
-use Rattle.uc_case.specs.Places.{place}
-use Rattle.uc_case.specs.Words.{each, position}
-use Rattle.uc_case.specs.Cases.{each_member, renewable}
+use Rattle.uc_case.proofs.Common.{◌≡◌, ◌+◌, ◌≤◌, length, drop, map, All, named_renewable_of, member_views, IsRenewableOf, place, each, position, each_member, renewable}
 use Rattle.uc_case.specs.declared.fault.Field.TheVariants as fields
 use Rattle.uc_model.specs.declared.kinds.Kind.TheVariants as kinds
 use Rattle.uc_case.proofs.cases.read_flat.Given as goal

@@ -1,11 +1,4 @@
-use Rattle.std.proofs.Common.{◌≡◌, ◌+◌, ◌≤◌, length, drop, map}
-use Rattle.std.specs.List.{All}
-use Rattle.uc_model.specs.PlainUnits.{named_thermal_of}
-use Rattle.uc_text.specs.View.{member_views}
-use Rattle.uc_case.specs.Kept.{IsThermalOf}
-use Rattle.uc_case.specs.Places.{place}
-use Rattle.uc_case.specs.Words.{each, position}
-use Rattle.uc_case.specs.Cases.{each_member, thermal}
+use Rattle.uc_case.proofs.Common.{◌≡◌, ◌+◌, ◌≤◌, length, drop, map, All, named_thermal_of, member_views, IsThermalOf, place, each, position, each_member, thermal}
 use Rattle.uc_case.specs.declared.fault.Field.TheVariants as fields
 use Rattle.uc_model.specs.declared.kinds.Kind.TheVariants as kinds
 use Rattle.uc_case.proofs.cases.read_thermal.Given as goal

@@ -1,4 +1,4 @@
-use Rattle.uc_case.proofs.Views.{list_in-List}
+use Rattle.uc_case.proofs.Lemmas.{list_in-List}
 use Rattle.uc_case.proofs.inside.as_list.Goals as goal
 
 pub returns-in-List : goal.returns-in-List

@@ -1,4 +1,4 @@
-use Rattle.uc_case.proofs.Views.{object_in-Object}
+use Rattle.uc_case.proofs.Lemmas.{object_in-Object}
 use Rattle.uc_case.proofs.inside.as_object.Goals as goal
 
 pub returns-in-Object : goal.returns-in-Object

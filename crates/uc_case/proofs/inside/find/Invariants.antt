@@ -1,6 +1,4 @@
-use Rattle.std.proofs.Common.{◌≡◌, drop}
-use Rattle.uc_text.specs.View.{member_views}
-use Rattle.uc_case.specs.Inside.{value_of}
+use Rattle.uc_case.proofs.Common.{◌≡◌, drop, member_views, value_of}
 use Rattle.uc_case.proofs.inside.find.Given as goal
 
 abbrev pub invariant-loop-member : goal.invariant-loop-member

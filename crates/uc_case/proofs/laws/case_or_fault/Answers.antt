@@ -1,6 +1,4 @@
-use Rattle.std.proofs.Common.{refl}
-use Rattle.uc_case.specs.Files.{reading_of}
-use Rattle.uc_case.specs.Cases.{case_of}
+use Rattle.uc_case.proofs.Common.{refl, reading_of, case_of}
 use Rattle.uc_case.proofs.laws.case_or_fault.Goals as goal
 
 pub returns : goal.returns

@@ -1,6 +1,4 @@
-use Rattle.std.proofs.Common.{sym, ap, ◌∙◌}
-use Rattle.uc_case.specs.Files.{reading_of}
-use Rattle.uc_case.specs.Cases.{case_of}
+use Rattle.uc_case.proofs.Common.{sym, ap, ◌∙◌, reading_of, case_of}
 use Rattle.uc_case.proofs.laws.one_case.Goals as goal
 
 pub returns : goal.returns

@@ -1,13 +1,5 @@
-use Rattle.std.proofs.Common.{arith}
-use Rattle.std.proofs.lemmas.Result.{err_from_is_err_and}
-use Rattle.uc_case.proofs.Ordered.{lags_push}
-use Rattle.uc_text.specs.View.{view, views}
-use Rattle.uc_case.specs.Words.{position}
-use Rattle.uc_case.specs.Places.{item_at}
-use Rattle.uc_case.specs.Forms.{items}
-use Rattle.uc_case.specs.Tables.{lag}
-use Rattle.uc_case.specs.EachLaws.{counted, is_done}
-use Rattle.uc_case.proofs.Loops.{item_goes_on, item_ends}
+use Rattle.uc_case.proofs.Common.{arith, err_from_is_err_and, view, views, position, item_at, items, lag, counted, is_done}
+use Rattle.uc_case.proofs.Lemmas.{lags_push, item_goes_on, item_ends}
 use Rattle.uc_case.proofs.lists.read_lags.Goals as goal
 
 pub returns-in_err-lag-clause-value : goal.returns-in_err-lag-clause-value

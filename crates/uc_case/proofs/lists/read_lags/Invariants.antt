@@ -1,10 +1,4 @@
-use Rattle.std.proofs.Common.{◌≡◌, ◌+◌, ◌≤◌, length, drop}
-use Rattle.uc_case.specs.Kept.{AreLags}
-use Rattle.uc_text.specs.View.{views}
-use Rattle.uc_case.specs.Words.{each, position}
-use Rattle.uc_case.specs.Places.{item_at}
-use Rattle.uc_case.specs.Forms.{items}
-use Rattle.uc_case.specs.Tables.{lag}
+use Rattle.uc_case.proofs.Common.{◌≡◌, ◌+◌, ◌≤◌, length, drop, AreLags, views, each, position, item_at, items, lag}
 use Rattle.uc_case.proofs.lists.read_lags.Given as goal
 
 abbrev pub invariant-loop-tree : goal.invariant-loop-tree

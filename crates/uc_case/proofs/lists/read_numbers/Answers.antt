@@ -1,16 +1,5 @@
-use Rattle.std.proofs.Common.{◌≡◌, ◌++◌, ◌∷◌, [], arith, refl, rules, w64}
-use Rattle.std.specs.Prelude.{FitsSigned}
-use Rattle.std.proofs.lemmas.Int.{to_z-of_z}
-use Rattle.std.proofs.lemmas.Result.{err_from_is_err_and}
-use Rattle.uc_model.specs.Limits.{IsPower}
-use Rattle.std.proofs.lemmas.List.Elements.{All-push}
-use Rattle.uc_text.specs.View.{view, views}
-use Rattle.uc_case.specs.Words.{position}
-use Rattle.uc_case.specs.Places.{item_at}
-use Rattle.uc_case.specs.Forms.{items}
-use Rattle.uc_case.specs.Tables.{one_power}
-use Rattle.uc_case.specs.EachLaws.{counted, is_done}
-use Rattle.uc_case.proofs.Loops.{item_goes_on, item_ends}
+use Rattle.uc_case.proofs.Common.{◌≡◌, ◌++◌, ◌∷◌, [], arith, refl, rules, w64, FitsSigned, to_z-of_z, err_from_is_err_and, IsPower, All-push, view, views, position, item_at, items, one_power, counted, is_done}
+use Rattle.uc_case.proofs.Lemmas.{item_goes_on, item_ends}
 use Rattle.uc_case.proofs.lists.read_numbers.Goals as goal
 
 pub returns-in_err-number-clause-value : goal.returns-in_err-number-clause-value

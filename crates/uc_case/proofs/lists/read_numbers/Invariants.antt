@@ -1,11 +1,4 @@
-use Rattle.std.proofs.Common.{◌≡◌, ◌+◌, ◌≤◌, length, drop}
-use Rattle.std.specs.List.{All}
-use Rattle.uc_model.specs.Limits.{IsPower}
-use Rattle.uc_text.specs.View.{views}
-use Rattle.uc_case.specs.Words.{each, position}
-use Rattle.uc_case.specs.Places.{item_at}
-use Rattle.uc_case.specs.Forms.{items}
-use Rattle.uc_case.specs.Tables.{one_power}
+use Rattle.uc_case.proofs.Common.{◌≡◌, ◌+◌, ◌≤◌, length, drop, All, IsPower, views, each, position, item_at, items, one_power}
 use Rattle.uc_case.proofs.lists.read_numbers.Given as goal
 
 abbrev pub invariant-loop-tree : goal.invariant-loop-tree

@@ -1,7 +1,5 @@
-use Rattle.std.proofs.Common.{sym, w64, rules}
-use Rattle.std.specs.Prelude.{FitsSigned}
-use Rattle.std.proofs.lemmas.Int.{to_z-of_z}
-use Rattle.uc_case.proofs.Ordered.{spans}
+use Rattle.uc_case.proofs.Common.{sym, w64, rules, FitsSigned, to_z-of_z}
+use Rattle.uc_case.proofs.Lemmas.{spans}
 use Rattle.uc_case.proofs.lists.read_piecewise.Goals as goal
 
 pub returns-clause-span : goal.returns-clause-span

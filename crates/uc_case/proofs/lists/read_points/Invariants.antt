@@ -1,10 +1,4 @@
-use Rattle.std.proofs.Common.{◌≡◌, ◌+◌, ◌≤◌, length, drop}
-use Rattle.uc_case.specs.Kept.{ArePoints}
-use Rattle.uc_text.specs.View.{views}
-use Rattle.uc_case.specs.Words.{each, position}
-use Rattle.uc_case.specs.Places.{item_at}
-use Rattle.uc_case.specs.Forms.{items}
-use Rattle.uc_case.specs.Tables.{point}
+use Rattle.uc_case.proofs.Common.{◌≡◌, ◌+◌, ◌≤◌, length, drop, ArePoints, views, each, position, item_at, items, point}
 use Rattle.uc_case.proofs.lists.read_points.Given as goal
 
 abbrev pub invariant-loop-tree : goal.invariant-loop-tree

@@ -1,8 +1,4 @@
-use Rattle.std.proofs.Common.{◌≡◌, Ok, Err, ap, rules}
-use Rattle.uc_text.specs.Texts.{IsFirstFault}
-use Rattle.uc_text.specs.View.{view}
-use Rattle.uc_case.specs.Cases.{case_of}
-use Rattle.uc_case.specs.Files.{of_value}
+use Rattle.uc_case.proofs.Common.{◌≡◌, Ok, Err, ap, rules, IsFirstFault, view, case_of, of_value}
 use Rattle.uc_case.proofs.read.read_file.Goals as goal
 
 pub returns-in-Err-Fault : goal.returns-in-Err-Fault

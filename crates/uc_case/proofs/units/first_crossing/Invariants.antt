@@ -1,5 +1,4 @@
-use Rattle.std.proofs.Common.{◌≡◌, ◌+◌, drop}
-use Rattle.uc_case.specs.Tables.{first_crossed}
+use Rattle.uc_case.proofs.Common.{◌≡◌, ◌+◌, drop, first_crossed}
 use Rattle.uc_case.proofs.units.first_crossing.Given as goal
 
 abbrev pub invariant-loop-low : goal.invariant-loop-low

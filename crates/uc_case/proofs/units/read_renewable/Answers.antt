@@ -1,6 +1,5 @@
-use Rattle.std.proofs.Common.{◌≡◌}
-use Rattle.uc_case.specs.Tables.{first_crossed}
-use Rattle.uc_case.proofs.Limited.{renewable_fits}
+use Rattle.uc_case.proofs.Common.{◌≡◌, first_crossed}
+use Rattle.uc_case.proofs.Lemmas.{renewable_fits}
 use Rattle.uc_case.proofs.units.read_renewable.Goals as goal
 
 pub invariant_of-result : goal.invariant_of-result

@@ -1,4 +1,4 @@
-use Rattle.uc_case.proofs.Limited.{power_stored, output_stored, thermal_fits}
+use Rattle.uc_case.proofs.Lemmas.{power_stored, output_stored, thermal_fits}
 use Rattle.uc_case.proofs.units.read_unit.Goals as goal
 
 pub invariant_of-result : goal.invariant_of-result

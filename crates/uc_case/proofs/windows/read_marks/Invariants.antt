@@ -1,9 +1,4 @@
-use Rattle.std.proofs.Common.{◌≡◌, ◌+◌, ◌≤◌, length, drop}
-use Rattle.uc_text.specs.View.{views}
-use Rattle.uc_case.specs.Words.{each, position}
-use Rattle.uc_case.specs.Places.{item_at}
-use Rattle.uc_case.specs.Forms.{items}
-use Rattle.uc_case.specs.Tables.{mark}
+use Rattle.uc_case.proofs.Common.{◌≡◌, ◌+◌, ◌≤◌, length, drop, views, each, position, item_at, items, mark}
 use Rattle.uc_case.proofs.windows.read_marks.Given as goal
 
 abbrev pub invariant-loop-tree : goal.invariant-loop-tree

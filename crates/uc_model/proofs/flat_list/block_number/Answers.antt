@@ -1,11 +1,5 @@
-use Rattle.std.proofs.Common.{rules, arith, ◌≡◌, ◌+◌, ◌/◌, ◌%◌, ℤ, sym, ap, ◌∙◌, inl, inr}
-use Rattle.std.proofs.lemmas.Bool.{cases_lt}
-use Rattle.std.proofs.lemmas.Int.{to_z-of_z}
-use Rattle.std.specs.Int.{w64}
-use Rattle.std.specs.Option.{option_map}
-use Rattle.std.specs.Prelude.{FitsSigned}
-use Rattle.uc_model.specs.declared.units.Block.{Block}
-use Rattle.uc_model.proofs.Places.{get_first_of_two, get_second_of_two}
+use Rattle.uc_model.proofs.Common.{rules, arith, ◌≡◌, ◌+◌, ◌/◌, ◌%◌, ℤ, sym, ap, ◌∙◌, inl, inr, cases_lt, to_z-of_z, w64, option_map, FitsSigned, Block}
+use Rattle.uc_model.proofs.Lemmas.{get_first_of_two, get_second_of_two}
 use Rattle.uc_model.proofs.flat_list.block_number.Goals as goal
 
 abbrev first : Block → ℤ

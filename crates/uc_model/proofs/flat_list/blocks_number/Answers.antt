@@ -1,8 +1,5 @@
-use Rattle.std.proofs.Common.{◌≡◌, ◌+◌, ◌<◌, ◌*◌, ◌-◌, List, length, drop, slice_get, sym, ap, ◌∙◌, arith}
-use Rattle.std.specs.Prelude.{slice_index_or}
-use Rattle.uc_model.specs.declared.units.Block.{Block}
-use Rattle.uc_model.specs.TaskLists.{period_numbers}
-use Rattle.uc_model.proofs.Places.{period_lists, within_period, behind_period}
+use Rattle.uc_model.proofs.Common.{◌≡◌, ◌+◌, ◌<◌, ◌*◌, ◌-◌, List, length, drop, slice_get, sym, ap, ◌∙◌, arith, slice_index_or, Block, period_numbers}
+use Rattle.uc_model.proofs.Lemmas.{period_lists, within_period, behind_period}
 use Rattle.uc_model.proofs.flat_list.blocks_number.Goals as goal
 
 pub returns-then-left-size : goal.returns-then-left-size

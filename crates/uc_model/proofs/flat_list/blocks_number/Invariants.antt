@@ -1,7 +1,4 @@
-use Rattle.std.proofs.Common.{◌≡◌, map, drop, slice_get}
-use Rattle.std.specs.List.{flat_map}
-use Rattle.uc_model.specs.Reserved.{items_in}
-use Rattle.uc_model.specs.TaskLists.{period_numbers}
+use Rattle.uc_model.proofs.Common.{◌≡◌, map, drop, slice_get, flat_map, items_in, period_numbers}
 use Rattle.uc_model.proofs.flat_list.blocks_number.Given as goal
 
 abbrev pub invariant-loop-period : goal.invariant-loop-period

@@ -1,4 +1,4 @@
-use Rattle.uc_model.proofs.Bounds.{costs_within}
+use Rattle.uc_model.proofs.Lemmas.{costs_within}
 use Rattle.uc_model.proofs.laws.costs_are_within.Goals as goal
 
 pub returns : goal.returns

@@ -1,4 +1,4 @@
-use Rattle.uc_model.proofs.Bounds.{earnings_within}
+use Rattle.uc_model.proofs.Lemmas.{earnings_within}
 use Rattle.uc_model.proofs.laws.earnings_are_within.Goals as goal
 
 pub returns : goal.returns

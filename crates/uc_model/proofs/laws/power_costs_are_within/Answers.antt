@@ -1,4 +1,4 @@
-use Rattle.uc_model.proofs.Bounds.{power_costs_within}
+use Rattle.uc_model.proofs.Lemmas.{power_costs_within}
 use Rattle.uc_model.proofs.laws.power_costs_are_within.Goals as goal
 
 pub returns : goal.returns

@@ -1,4 +1,4 @@
-use Rattle.uc_model.proofs.TotalBounds.{totals_within}
+use Rattle.uc_model.proofs.Lemmas.{totals_within}
 use Rattle.uc_model.proofs.laws.totals_are_within.Goals as goal
 
 pub returns : goal.returns

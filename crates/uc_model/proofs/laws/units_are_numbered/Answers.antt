@@ -1,4 +1,4 @@
-use Rattle.uc_model.proofs.PlanShapes.{units_numbered}
+use Rattle.uc_model.proofs.Lemmas.{units_numbered}
 use Rattle.uc_model.proofs.laws.units_are_numbered.Goals as goal
 
 pub returns : goal.returns

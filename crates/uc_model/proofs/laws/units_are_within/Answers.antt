@@ -1,4 +1,4 @@
-use Rattle.uc_model.proofs.TotalBounds.{units_within}
+use Rattle.uc_model.proofs.Lemmas.{units_within}
 use Rattle.uc_model.proofs.laws.units_are_within.Goals as goal
 
 pub returns : goal.returns

@@ -1,5 +1,4 @@
-use Rattle.std.proofs.Common.{rules, subst, sym}
-use Rattle.uc_model.specs.Limits.{IsFrom, price_limit}
+use Rattle.uc_model.proofs.Common.{rules, subst, sym, IsFrom, price_limit}
 use Rattle.uc_model.proofs.SignedLaws.{clamped_from}
 use Rattle.uc_model.proofs.money.price_near.Goals as goal
 

@@ -1,9 +1,5 @@
-use Rattle.std.proofs.Common.{pos, get_or, take, arith, ap, ◌∙◌}
-use Rattle.std.proofs.lemmas.Int.{ints}
-use Rattle.std.proofs.lemmas.List.{take_more}
-use Rattle.uc_model.specs.declared.units.Block.{Block}
-use Rattle.uc_model.specs.Schedules.{width_of}
-use Rattle.uc_model.proofs.Bounds.{width-append}
+use Rattle.uc_model.proofs.Common.{pos, get_or, take, arith, ap, ◌∙◌, ints, take_more, Block, width_of}
+use Rattle.uc_model.proofs.Lemmas.{width-append}
 use Rattle.uc_model.proofs.money.total_width.Goals as goal
 
 pub loop-block-preserved : goal.loop-block-preserved

@@ -1,5 +1,4 @@
-use Rattle.std.proofs.Common.{◌≡◌, ◌*◌, pos, ◌≤ℤ◌, take}
-use Rattle.uc_model.specs.Schedules.{width_of}
+use Rattle.uc_model.proofs.Common.{◌≡◌, ◌*◌, pos, ◌≤ℤ◌, take, width_of}
 use Rattle.uc_model.proofs.money.total_width.Given as goal
 
 abbrev pub invariant-loop-block : goal.invariant-loop-block

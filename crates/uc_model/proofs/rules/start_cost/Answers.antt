@@ -1,6 +1,5 @@
-use Rattle.std.proofs.Common.{rules, subst, sym}
-use Rattle.uc_model.specs.Limits.{IsStartCost}
-use Rattle.uc_model.proofs.Bounds.{start_costs_within}
+use Rattle.uc_model.proofs.Common.{rules, subst, sym, IsStartCost}
+use Rattle.uc_model.proofs.Lemmas.{start_costs_within}
 use Rattle.uc_model.proofs.rules.start_cost.Goals as goal
 
 pub returns-in-Some-clause-value : goal.returns-in-Some-clause-value

@@ -1,6 +1,4 @@
-use Rattle.std.proofs.Common.{◌≡◌, ◌+◌, ◌≤◌, [], map, replicate}
-use Rattle.std.specs.List.{All}
-use Rattle.uc_model.specs.Reserved.{items_in}
+use Rattle.uc_model.proofs.Common.{◌≡◌, ◌+◌, ◌≤◌, [], map, replicate, All, items_in}
 use Rattle.uc_model.specs.TaskRoom.{room_of}
 use Rattle.uc_model.proofs.tasks.empty_blocks.Given as goal
 

@@ -1,4 +1,4 @@
-use Rattle.uc_num.proofs.Nearest.{rounded_is, rounded_only}
+use Rattle.uc_num.proofs.Lemmas.{rounded_is, rounded_only}
 use Rattle.uc_num.proofs.laws.rounds_to_nearest.Goals as goal
 
 pub returns : goal.returns

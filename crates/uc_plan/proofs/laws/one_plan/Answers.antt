@@ -1,6 +1,4 @@
-use Rattle.std.proofs.Common.{sym, ap, ◌∙◌}
-use Rattle.uc_case.specs.Files.{reading_of}
-use Rattle.uc_plan.specs.Plans.{plan_of}
+use Rattle.uc_plan.proofs.Common.{sym, ap, ◌∙◌, reading_of, plan_of}
 use Rattle.uc_plan.proofs.laws.one_plan.Goals as goal
 
 pub returns : goal.returns

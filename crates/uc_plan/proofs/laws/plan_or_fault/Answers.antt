@@ -1,6 +1,4 @@
-use Rattle.std.proofs.Common.{refl}
-use Rattle.uc_case.specs.Files.{reading_of}
-use Rattle.uc_plan.specs.Plans.{plan_of}
+use Rattle.uc_plan.proofs.Common.{refl, reading_of, plan_of}
 use Rattle.uc_plan.proofs.laws.plan_or_fault.Goals as goal
 
 pub returns : goal.returns

@@ -1,5 +1,5 @@
-use Rattle.std.proofs.Common.{ℕ, List, Bor, rules}
-use Rattle.uc_plan.proofs.Lookups.{none_yet, put_member}
+use Rattle.uc_plan.proofs.Common.{ℕ, List, Bor, rules}
+use Rattle.uc_plan.proofs.Lemmas.{none_yet, put_member}
 use Rattle.uc_plan.proofs.lookup.by_key.Goals as goal
 
 pub loop-done-init : goal.loop-done-init

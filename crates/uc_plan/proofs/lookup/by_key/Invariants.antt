@@ -1,8 +1,5 @@
-use Rattle.std.proofs.Common.{◌≡◌, ℕ, ◌-◌, List, length, drop, bytes_eq}
-use Rattle.std.specs.Option.{option_map}
+use Rattle.uc_plan.proofs.Common.{◌≡◌, ℕ, ◌-◌, List, length, drop, bytes_eq, option_map, view, member_views, value_of}
 use Rattle.indexmap.specs.IndexMap.{get_by}
-use Rattle.uc_text.specs.View.{view, member_views}
-use Rattle.uc_case.specs.Inside.{value_of}
 use Rattle.uc_plan.proofs.lookup.by_key.Given as goal
 
 abbrev pub invariant-loop-done : goal.invariant-loop-done

@@ -1,7 +1,5 @@
-use Rattle.std.proofs.Common.{◌≡◌, ◌+◌, true, false, sym, ◌∙◌, ap}
-use Rattle.uc_plan.specs.Plans.{is_among}
-use Rattle.uc_text.specs.View.{member_view}
-use Rattle.uc_plan.proofs.Lookups.{unknown_here, unknown_later, unknown_none}
+use Rattle.uc_plan.proofs.Common.{◌≡◌, ◌+◌, true, false, sym, ◌∙◌, ap, is_among, member_view}
+use Rattle.uc_plan.proofs.Lemmas.{unknown_here, unknown_later, unknown_none}
 use Rattle.uc_plan.proofs.lookup.first_stranger.Goals as goal
 
 pub returns-then-not-contains : goal.returns-then-not-contains

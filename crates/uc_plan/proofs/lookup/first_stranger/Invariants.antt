@@ -1,7 +1,4 @@
-use Rattle.std.proofs.Common.{◌≡◌, ℕ, ◌+◌, List, drop, bytes_eq}
-use Rattle.indexmap.specs.IndexSet.{contains_by}
-use Rattle.uc_text.specs.View.{member_views}
-use Rattle.uc_plan.specs.Plans.{is_among, first_unknown}
+use Rattle.uc_plan.proofs.Common.{◌≡◌, ℕ, ◌+◌, List, drop, bytes_eq, contains_by, member_views, is_among, first_unknown}
 use Rattle.uc_plan.proofs.lookup.first_stranger.Given as goal
 
 abbrev pub invariant-loop-member : goal.invariant-loop-member

@@ -1,5 +1,5 @@
-use Rattle.std.proofs.Common.{ℕ, List, Bor, rules}
-use Rattle.uc_plan.proofs.Lookups.{no_name, put_name}
+use Rattle.uc_plan.proofs.Common.{ℕ, List, Bor, rules}
+use Rattle.uc_plan.proofs.Lemmas.{no_name, put_name}
 use Rattle.uc_plan.proofs.lookup.names_of.Goals as goal
 
 pub loop-done-init : goal.loop-done-init

@@ -1,6 +1,4 @@
-use Rattle.std.proofs.Common.{◌≡◌, ℕ, ◌-◌, List, length, drop, map, bytes_eq}
-use Rattle.indexmap.specs.IndexSet.{contains_by}
-use Rattle.uc_plan.specs.Plans.{is_among}
+use Rattle.uc_plan.proofs.Common.{◌≡◌, ℕ, ◌-◌, List, length, drop, map, bytes_eq, contains_by, is_among}
 use Rattle.uc_plan.proofs.lookup.names_of.Given as goal
 
 abbrev pub invariant-loop-done : goal.invariant-loop-done

@@ -1,7 +1,5 @@
-use Rattle.std.proofs.Common.{sym, arith}
-use Rattle.uc_case.specs.EachLaws.{counted}
-use Rattle.uc_plan.specs.Plans.{flag_in}
-use Rattle.uc_plan.proofs.Loops.{number_goes_on, number_ends, numbers_done, numbers_begin}
+use Rattle.uc_plan.proofs.Common.{sym, arith, counted, flag_in}
+use Rattle.uc_plan.proofs.Lemmas.{number_goes_on, number_ends, numbers_done, numbers_begin}
 use Rattle.uc_plan.proofs.numbers.read_flags.Goals as goal
 
 pub loop-tree-init : goal.loop-tree-init

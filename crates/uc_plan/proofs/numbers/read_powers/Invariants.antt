@@ -1,8 +1,5 @@
-use Rattle.std.proofs.Common.{◌≡◌, ◌+◌, ◌≤◌, length, drop}
-use Rattle.uc_text.specs.View.{views}
-use Rattle.uc_case.specs.Words.{each}
-use Rattle.uc_plan.specs.Plans.{numbers, kilowatts_in}
-use Rattle.uc_plan.proofs.Loops.{one_number}
+use Rattle.uc_plan.proofs.Common.{◌≡◌, ◌+◌, ◌≤◌, length, drop, views, each, numbers, kilowatts_in}
+use Rattle.uc_plan.proofs.Lemmas.{one_number}
 use Rattle.uc_plan.proofs.numbers.read_powers.Given as goal
 
 abbrev pub invariant-loop-tree : goal.invariant-loop-tree

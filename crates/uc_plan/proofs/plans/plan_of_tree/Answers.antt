@@ -1,10 +1,4 @@
-use Rattle.std.proofs.Common.{◌++◌, map, sym, ap, subst}
-use Rattle.std.proofs.lemmas.List.{length-map}
-use Rattle.std.proofs.lemmas.Result.{err_from_is_err_and}
-use Rattle.uc_model.specs.Laws.{HasPlanShape}
-use Rattle.uc_model.specs.PlainCases.{market_of}
-use Rattle.uc_model.specs.PlainUnits.{named_thermal_of, named_renewable_of, named_bid_of, schedule_of}
-use Rattle.uc_text.specs.View.{view}
+use Rattle.uc_plan.proofs.Common.{◌++◌, map, sym, ap, subst, length-map, err_from_is_err_and, HasPlanShape, market_of, named_thermal_of, named_renewable_of, named_bid_of, schedule_of, view}
 use Rattle.uc_plan.specs.Views.{groups_of}
 use Rattle.uc_plan.proofs.Joined.{thermal_named, renewable_named, bids_named, thermal_unknown, renewable_unknown, bid_unknown, thermal_fails, renewable_fails, bids_fail, plan_read, plan_is, joined, joined_shape}
 use Rattle.uc_plan.proofs.plans.plan_of_tree.Goals as goal

@@ -1,8 +1,5 @@
-use Rattle.std.proofs.Common.{◌+◌, refl, ap, arith}
-use Rattle.std.proofs.lemmas.Result.{err_from_is_err_and}
-use Rattle.uc_text.specs.View.{member_views}
-use Rattle.uc_plan.specs.Plans.{seat}
-use Rattle.uc_plan.proofs.Schedules.{front_begin, front_more, front_fails, front_done}
+use Rattle.uc_plan.proofs.Common.{◌+◌, refl, ap, arith, err_from_is_err_and, member_views, seat}
+use Rattle.uc_plan.proofs.Lemmas.{front_begin, front_more, front_fails, front_done}
 use Rattle.uc_plan.proofs.plans.read_schedules.Goals as goal
 
 pub loop-named-init : goal.loop-named-init

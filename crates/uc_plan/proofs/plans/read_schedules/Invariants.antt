@@ -1,6 +1,5 @@
-use Rattle.std.proofs.Common.{◌≡◌, ◌+◌}
-use Rattle.uc_text.specs.View.{member_views}
-use Rattle.uc_plan.proofs.Schedules.{Front}
+use Rattle.uc_plan.proofs.Common.{◌≡◌, ◌+◌, member_views}
+use Rattle.uc_plan.proofs.Lemmas.{Front}
 use Rattle.uc_plan.proofs.plans.read_schedules.Given as goal
 
 abbrev pub invariant-loop-named : goal.invariant-loop-named

@@ -1,9 +1,5 @@
-use Rattle.std.proofs.Common.{◌≡◌, Ok, Err, ap, rules}
+use Rattle.uc_plan.proofs.Common.{◌≡◌, Ok, Err, ap, rules, view, market_of, of_value, plan_of}
 use Rattle.uc_text.specs.Texts.{IsFirstFault}
-use Rattle.uc_text.specs.View.{view}
-use Rattle.uc_model.specs.PlainCases.{market_of}
-use Rattle.uc_case.specs.Files.{of_value}
-use Rattle.uc_plan.specs.Plans.{plan_of}
 use Rattle.uc_plan.proofs.read.read_file.Goals as goal
 
 pub returns-in-Err-Fault-clause-answer : goal.returns-in-Err-Fault-clause-answer

@@ -1,4 +1,4 @@
-use Rattle.uc_model.specs.PlainCases.{market_of}
+use Rattle.uc_plan.proofs.Common.{market_of}
 use Rattle.uc_plan.proofs.Answered.{is_only}
 use Rattle.uc_plan.proofs.read.read_plan.Goals as goal
 

@@ -1,4 +1,4 @@
-use Rattle.uc_text.proofs.Uniqueness.{text_or_fault}
+use Rattle.uc_text.proofs.Lemmas.{text_or_fault}
 use Rattle.uc_text.proofs.laws.never_both.Goals as goal
 
 pub returns : goal.returns

@@ -1,4 +1,4 @@
-use Rattle.uc_text.proofs.Uniqueness.{one_fault}
+use Rattle.uc_text.proofs.Lemmas.{one_fault}
 use Rattle.uc_text.proofs.laws.one_fault.Goals as goal
 
 pub returns : goal.returns

@@ -1,4 +1,4 @@
-use Rattle.uc_text.proofs.Uniqueness.{one_value}
+use Rattle.uc_text.proofs.Lemmas.{one_value}
 use Rattle.uc_text.proofs.laws.one_value.Goals as goal
 
 pub returns : goal.returns

@@ -1,9 +1,5 @@
-use Rattle.std.proofs.Common.{◌≡◌, [], ℕ, ◌<◌, length, sym, ap, subst, ◌∙◌, arith, false, bytes_eq, get_or, inl, inr}
-use Rattle.std.proofs.lemmas.Bool.{cases_lt}
-use Rattle.uc_text.specs.Parts.{names}
-use Rattle.uc_text.specs.View.{member_views}
-use Rattle.uc_text.proofs.Known.{there_at, there_nowhere}
-use Rattle.uc_text.proofs.Views.{name_at, names_len}
+use Rattle.uc_text.proofs.Common.{◌≡◌, [], ℕ, ◌<◌, length, sym, ap, subst, ◌∙◌, arith, false, bytes_eq, get_or, inl, inr, cases_lt, names, member_views}
+use Rattle.uc_text.proofs.Lemmas.{there_at, there_nowhere, name_at, names_len}
 use Rattle.uc_text.proofs.names.is_among.Goals as goal
 
 pub returns-then-eq : goal.returns-then-eq

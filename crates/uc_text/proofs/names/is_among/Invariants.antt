@@ -1,6 +1,4 @@
-use Rattle.std.proofs.Common.{◌≡◌, ℕ, [], ◌<◌, false, bytes_eq, get_or}
-use Rattle.uc_text.specs.Parts.{names}
-use Rattle.uc_text.specs.View.{member_views}
+use Rattle.uc_text.proofs.Common.{◌≡◌, ℕ, [], ◌<◌, false, bytes_eq, get_or, names, member_views}
 use Rattle.uc_text.proofs.names.is_among.Given as goal
 
 abbrev pub invariant-loop-member : goal.invariant-loop-member

@@ -1,10 +1,5 @@
-use Rattle.std.proofs.Common.{◌<◌, ◌+◌, [], take, length, sym, ap, subst, ◌∙◌, arith, get_or}
-use Rattle.std.proofs.lemmas.List.{take_more, take_all}
-use Rattle.uc_text.specs.Known.{Knows}
-use Rattle.uc_text.specs.Parts.{names}
-use Rattle.uc_text.specs.View.{member_views}
-use Rattle.uc_text.proofs.Known.{knows_more}
-use Rattle.uc_text.proofs.Views.{name_at, names_len}
+use Rattle.uc_text.proofs.Common.{◌<◌, ◌+◌, [], take, length, sym, ap, subst, ◌∙◌, arith, get_or, take_more, take_all, Knows, names, member_views}
+use Rattle.uc_text.proofs.Lemmas.{knows_more, name_at, names_len}
 use Rattle.uc_text.proofs.names.set_of.Goals as goal
 
 pub loop-member-preserved : goal.loop-member-preserved

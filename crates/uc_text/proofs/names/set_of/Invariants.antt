@@ -1,7 +1,4 @@
-use Rattle.std.proofs.Common.{take}
-use Rattle.uc_text.specs.Known.{Knows}
-use Rattle.uc_text.specs.Parts.{names}
-use Rattle.uc_text.specs.View.{member_views}
+use Rattle.uc_text.proofs.Common.{take, Knows, names, member_views}
 use Rattle.uc_text.proofs.names.set_of.Given as goal
 
 abbrev pub invariant-loop-member : goal.invariant-loop-member

@@ -1,28 +1,8 @@
-use Rattle.std.proofs.Common.{Vec, Global, length, ◌<◌, ◌≡◌, ℕ, ◌++◌, ◌∷◌, [], List, refl, sym, ap, subst, ◌∙◌, arith}
-use Rattle.std.proofs.lemmas.Result.{err_from_is_err_and}
-use Rattle.std.proofs.lemmas.List.{map_push, length-map}
-use Rattle.std.specs.Prelude.{vec_len}
-use Rattle.uc_text.specs.declared.tree.Tree.{Tree}
-use Rattle.uc_text.specs.Values.{Value, text}
-use Rattle.text_tokens.specs.Strings.{said}
-use Rattle.uc_text.specs.Grammar.{Token, open_list, open_object}
-use Rattle.uc_text.specs.Parts.{Pair, names, IsStuck}
-use Rattle.uc_text.specs.Faults.{levels}
-use Rattle.text_tokens.specs.Tokens.{Placed}
-use Rattle.uc_text.specs.declared.fault.TextCode.TheVariants.{NotJson, TooDeep}
-use Rattle.uc_text.specs.Places.{AtItem, NextIs, seen, Reads, ReadsItems, ReadsMembers, StuckAt, FaultIs}
-use Rattle.text_tokens.specs.Ahead.{rest}
-use Rattle.text_tokens.specs.Seen.{token_of, scalar_of}
+use Rattle.uc_text.proofs.Common.{Vec, Global, length, ◌<◌, ◌≡◌, ℕ, ◌++◌, ◌∷◌, [], List, refl, sym, ap, subst, ◌∙◌, arith, err_from_is_err_and, map_push, length-map, vec_len, Tree, Value, text, said, Token, open_list, open_object, Pair, names, IsStuck, levels, Placed, NotJson, TooDeep, AtItem, NextIs, seen, Reads, ReadsItems, ReadsMembers, StuckAt, FaultIs, rest, token_of, scalar_of, view, views, member_views, TextError}
 use Rattle.uc_text.proofs.Words.{word_read, word_stops}
-use Rattle.uc_text.specs.View.{view, views, member_views}
-use Rattle.uc_text.specs.declared.fault.TextError.{TextError}
-use Rattle.uc_text.proofs.OtherTokens.{not_close_list, not_close_object, not_comma, not_colon, not_text, not_start, passes_on}
-use Rattle.uc_text.proofs.Steps.{InItems, items_begin, items_empty, at_next, read_first, items_end, items_stop, items_stop_behind}
-use Rattle.uc_text.proofs.Known.{known_name, new_name, knows_next}
+use Rattle.uc_text.proofs.Lemmas.{not_close_list, not_close_object, not_comma, not_colon, not_text, not_start, passes_on, InItems, items_begin, items_empty, at_next, read_first, items_end, items_stop, items_stop_behind, known_name, new_name, knows_next, InMembers, members_begin, members_empty, members_go_on, members_end, name_stops, double_stops, colon_stops, value_stops, member_stops_behind, members_pushed}
 use Rattle.uc_text.proofs.Objects.{of_member, names_push}
-use Rattle.uc_text.proofs.MemberSteps.{InMembers, members_begin, members_empty, members_go_on, members_end, name_stops, double_stops, colon_stops, value_stops, member_stops_behind}
 use Rattle.uc_text.proofs.ValueSteps as first
-use Rattle.uc_text.proofs.Views.{members_pushed}
 use Rattle.uc_text.proofs.parse.+read.Goals as goal
 
 -- ---- items

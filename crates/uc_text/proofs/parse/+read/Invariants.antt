@@ -1,12 +1,5 @@
-use Rattle.std.proofs.Common.{◌+◌, ◌*◌, ◌<◌, ◌≤◌}
-use Rattle.uc_text.specs.Places.{seen}
-use Rattle.text_tokens.specs.Ahead.{rest, ahead}
-use Rattle.uc_text.specs.View.{views, member_views}
-use Rattle.uc_text.proofs.Steps.{InItems}
-use Rattle.uc_text.specs.Parts.{names}
-use Rattle.std.specs.Prelude.{vec_len}
-use Rattle.uc_text.specs.Known.{Knows}
-use Rattle.uc_text.proofs.MemberSteps.{InMembers}
+use Rattle.uc_text.proofs.Common.{◌+◌, ◌*◌, ◌<◌, ◌≤◌, seen, rest, ahead, views, member_views, names, vec_len, Knows}
+use Rattle.uc_text.proofs.Lemmas.{InItems, InMembers}
 use Rattle.uc_text.proofs.parse.+read.Given as goal
 
 abbrev pub decreases-items : goal.decreases-items

@@ -1,13 +1,5 @@
-use Rattle.std.proofs.Common.{◌≡◌, ◌++◌, ◌∷◌, [], List, sym, ap, subst, ◌∙◌, arith}
-use Rattle.std.proofs.lemmas.List.{map_push}
-use Rattle.text_tokens.specs.Ahead.{rest}
-use Rattle.uc_text.specs.Places.{AtItem}
-use Rattle.text_tokens.specs.Small.{decimal_of}
-use Rattle.uc_text.specs.Values.{Value, scalar, number}
-use Rattle.uc_text.specs.View.{view, views}
-use Rattle.uc_text.specs.declared.tree.Tree.{Number}
-use Rattle.uc_text.proofs.Steps.{one_more}
-use Rattle.uc_text.proofs.Views.{view-Number}
+use Rattle.uc_text.proofs.Common.{◌≡◌, ◌++◌, ◌∷◌, [], List, sym, ap, subst, ◌∙◌, arith, map_push, rest, AtItem, decimal_of, Value, scalar, number, view, views, Number}
+use Rattle.uc_text.proofs.Lemmas.{one_more, view-Number}
 use Rattle.uc_text.proofs.parse.pass_numbers.Goals as goal
 
 pub numbers-preserved : goal.numbers-preserved

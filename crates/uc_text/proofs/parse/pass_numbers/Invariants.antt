@@ -1,9 +1,4 @@
-use Rattle.std.proofs.Common.{ℕ, ◌≤◌, List}
-use Rattle.std.specs.Prelude.{vec_len}
-use Rattle.text_tokens.specs.Ahead.{rest, ahead}
-use Rattle.uc_text.specs.Places.{AtItem}
-use Rattle.text_tokens.specs.Tokens.{Placed}
-use Rattle.uc_text.specs.View.{views}
+use Rattle.uc_text.proofs.Common.{ℕ, ◌≤◌, List, vec_len, rest, ahead, AtItem, Placed, views}
 use Rattle.uc_text.proofs.parse.pass_numbers.Given as goal
 
 abbrev pub invariant-numbers : goal.invariant-numbers

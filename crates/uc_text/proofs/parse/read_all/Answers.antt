@@ -1,13 +1,5 @@
-use Rattle.std.proofs.Common.{refl, sym, ap, subst}
-use Rattle.std.proofs.lemmas.Result.{err_from_is_err_and}
-use Rattle.text_tokens.specs.Tokens.{tokens}
-use Rattle.uc_text.specs.Places.{seen, FaultIs}
-use Rattle.text_tokens.specs.Ahead.{rest}
-use Rattle.text_tokens.specs.Seen.{token_of}
-use Rattle.uc_text.specs.Texts.{IsFirstFault}
-use Rattle.uc_text.specs.View.{view}
-use Rattle.uc_text.specs.declared.fault.TextError.{TextError}
-use Rattle.uc_text.proofs.OtherTokens.{not_end, passes_on}
+use Rattle.uc_text.proofs.Common.{refl, sym, ap, subst, err_from_is_err_and, tokens, seen, FaultIs, rest, token_of, IsFirstFault, view, TextError}
+use Rattle.uc_text.proofs.Lemmas.{not_end, passes_on}
 use Rattle.uc_text.proofs.ValueSteps.{text_stops, text_stops_behind, text_read}
 use Rattle.uc_text.proofs.parse.read_all.Goals as goal
 

@@ -1,7 +1,5 @@
-use Rattle.std.proofs.Common.{◌≡◌, ◌<◌, ◌≤◌, length, ◌∙◌, arith}
-use Rattle.std.proofs.lemmas.Result.{on_ok_weaker}
-use Rattle.uc_model.specs.PlainUnits.{thermal_of, prices_of, schedule_of}
-use Rattle.unit_program.proofs.BackLaws.{back_off, row_back}
+use Rattle.unit_program.proofs.Common.{◌≡◌, ◌<◌, ◌≤◌, length, ◌∙◌, arith, on_ok_weaker, thermal_of, prices_of, schedule_of}
+use Rattle.unit_program.proofs.Lemmas.{back_off, row_back}
 use Rattle.unit_program.proofs.answer.+write_back.Goals as goal
 
 pub returns-then-is_all_off-clause-written : goal.returns-then-is_all_off-clause-written

@@ -1,9 +1,5 @@
-use Rattle.std.proofs.Common.{◌≡◌, ℕ, Some, None, ℤ, length, refl}
-use Rattle.std.specs.Prelude.{IfNone}
-use Rattle.uc_model.specs.PlainUnits.{thermal_of, prices_of}
-use Rattle.period_table.specs.Rows.{cost_at}
-use Rattle.period_table.specs.Spells.{IsOffRun}
-use Rattle.unit_program.proofs.BestLaws.{none_right}
+use Rattle.unit_program.proofs.Common.{◌≡◌, ℕ, Some, None, ℤ, length, refl, IfNone, thermal_of, prices_of, cost_at, IsOffRun}
+use Rattle.unit_program.proofs.Lemmas.{none_right}
 use Rattle.unit_program.proofs.answer.best_response.Goals as goal
 
 pub returns-in_default-clause-none : goal.returns-in_default-clause-none

@@ -1,4 +1,4 @@
-use Rattle.std.proofs.Common.{◌≡◌, ℕ, ◌<◌, length, get_or, false}
+use Rattle.unit_program.proofs.Common.{◌≡◌, ℕ, ◌<◌, length, get_or, false}
 use Rattle.unit_program.proofs.answer.clear.Given as goal
 
 abbrev pub invariant-loop-place : goal.invariant-loop-place

@@ -1,12 +1,5 @@
-use Rattle.std.proofs.Common.{◌≡◌, ℕ, ◌≤◌, ◌⊎◌, Some, None, ℤ, refl, sym, ◌∙◌, arith}
-use Rattle.std.specs.Prelude.{IfSome, IfNone}
-use Rattle.uc_model.specs.PlainUnits.{thermal_of}
-use Rattle.period_table.specs.Spells.{IsOffRun}
-use Rattle.period_table.specs.Tables.{IsLeastEnd}
-use Rattle.period_table.specs.declared.table.Entry.{Entry}
-use Rattle.period_table.specs.Rows.{cost_at}
-use Rattle.unit_program.proofs.EndLaws.{IsEnd, least_end_of_all, no_end_of_all}
-use Rattle.unit_program.proofs.EntryLaws.{if_some, one_more}
+use Rattle.unit_program.proofs.Common.{◌≡◌, ℕ, ◌≤◌, ◌⊎◌, Some, None, ℤ, refl, sym, ◌∙◌, arith, IfSome, IfNone, thermal_of, IsOffRun, IsLeastEnd, Entry, cost_at}
+use Rattle.unit_program.proofs.Lemmas.{IsEnd, least_end_of_all, no_end_of_all, if_some, one_more}
 use Rattle.unit_program.proofs.answer.least_end.Goals as goal
 
 pub loop-last-init : goal.loop-last-init

@@ -1,6 +1,5 @@
-use Rattle.std.proofs.Common.{length}
-use Rattle.uc_model.specs.PlainUnits.{thermal_of, prices_of, schedule_of}
-use Rattle.unit_program.proofs.BackLaws.{written_none, written_answer}
+use Rattle.unit_program.proofs.Common.{length, thermal_of, prices_of, schedule_of}
+use Rattle.unit_program.proofs.Lemmas.{written_none, written_answer}
 use Rattle.unit_program.proofs.answer.write_spell.Goals as goal
 
 pub returns-then-last-eq0-clause-written : goal.returns-then-last-eq0-clause-written

@@ -1,15 +1,6 @@
-use Rattle.std.proofs.Common.{rules, ◌+◌, ◌-◌, ◌*◌, ◌≤◌, List, length, sym, ap, ◌∙◌, subst}
-use Rattle.std.proofs.lemmas.List.{with_items_is}
-use Rattle.std.proofs.lemmas.Int.{to_z-of_z}
-use Rattle.std.specs.Prelude.{FitsSigned}
-use Rattle.std.specs.Int.{w64}
+use Rattle.unit_program.proofs.Common.{rules, ◌+◌, ◌-◌, ◌*◌, ◌≤◌, List, length, sym, ap, ◌∙◌, subst, with_items_is, to_z-of_z, FitsSigned, w64, thermal_of, prices_of, Runner, HaveRoom, left_at, cost_at, first_at, HaveWays}
 use Rattle.std.specs.Vec.{with_items}
-use Rattle.uc_model.specs.PlainUnits.{thermal_of, prices_of}
-use Rattle.period_table.specs.declared.runner.Runner.{Runner}
-use Rattle.period_table.specs.Live.{HaveRoom, left_at}
-use Rattle.period_table.specs.Rows.{cost_at, first_at}
-use Rattle.period_table.specs.Runners.{HaveWays}
-use Rattle.unit_program.proofs.BenchLaws.{room_less, charge_less, bench_kept}
+use Rattle.unit_program.proofs.Lemmas.{room_less, charge_less, bench_kept}
 use Rattle.unit_program.proofs.bench.fill_bench.Goals as goal
 
 pub fill_by_periods-requires-clause-room : goal.fill_by_periods-requires-clause-room

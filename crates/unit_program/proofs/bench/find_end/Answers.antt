@@ -1,10 +1,5 @@
-use Rattle.std.proofs.Common.{pos, length, arith}
-use Rattle.std.proofs.lemmas.Int.{ints}
-use Rattle.uc_model.specs.Data.{Schedule}
-use Rattle.uc_model.specs.PlainUnits.{thermal_of, prices_of}
-use Rattle.uc_model.specs.Schedules.{IsThermalFeasible}
-use Rattle.period_table.specs.Limits.{EachCostsMore}
-use Rattle.unit_program.proofs.LimitLaws.{if_none_more, none_feasible}
+use Rattle.unit_program.proofs.Common.{pos, length, arith, ints, Schedule, thermal_of, prices_of, IsThermalFeasible, EachCostsMore}
+use Rattle.unit_program.proofs.Lemmas.{if_none_more, none_feasible}
 use Rattle.unit_program.proofs.bench.find_end.Goals as goal
 
 pub find_within-requires-2-clause-bench : goal.find_within-requires-2-clause-bench

@@ -1,9 +1,5 @@
-use Rattle.std.proofs.Common.{rules, length, ap, arith}
-use Rattle.std.specs.Prelude.{FitsSigned}
-use Rattle.std.specs.Int.{w64}
-use Rattle.std.proofs.lemmas.Int.{to_z-of_z}
-use Rattle.uc_model.specs.PlainUnits.{thermal_of, prices_of}
-use Rattle.unit_program.proofs.LimitLaws.{found_within, none_found}
+use Rattle.unit_program.proofs.Common.{rules, length, ap, arith, FitsSigned, w64, to_z-of_z, thermal_of, prices_of}
+use Rattle.unit_program.proofs.Lemmas.{found_within, none_found}
 use Rattle.unit_program.proofs.bench.find_within.Goals as goal
 
 pub least_end-requires-clause-room : goal.least_end-requires-clause-room

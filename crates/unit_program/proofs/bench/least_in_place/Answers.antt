@@ -1,10 +1,4 @@
-use Rattle.std.proofs.Common.{List, Option, length, sym, ap, subst, arith}
-use Rattle.uc_model.specs.PlainUnits.{thermal_of, prices_of}
-use Rattle.period_table.specs.declared.runner.Runner.{Runner}
-use Rattle.period_table.specs.declared.table.Ended.{Ended}
-use Rattle.period_table.specs.Live.{left_at}
-use Rattle.period_table.specs.Runners.{HaveWays}
-use Rattle.period_table.specs.Rows.{cost_at, first_at}
+use Rattle.unit_program.proofs.Common.{List, Option, length, sym, ap, subst, arith, thermal_of, prices_of, Runner, Ended, left_at, HaveWays, cost_at, first_at}
 use Rattle.unit_program.proofs.bench.least_in_place.Goals as goal
 
 pub write_noted-requires-clause-ways : goal.write_noted-requires-clause-ways

@@ -1,6 +1,5 @@
-use Rattle.std.proofs.Common.{length, ap, arith, length-append}
-use Rattle.slope_list.specs.Slopes.{room_of}
-use Rattle.unit_program.proofs.BenchLaws.{room_more}
+use Rattle.unit_program.proofs.Common.{length, ap, arith, length-append, room_of}
+use Rattle.unit_program.proofs.Lemmas.{room_more}
 use Rattle.unit_program.proofs.bench.make_runners.Goals as goal
 
 pub loop-preserved : goal.loop-preserved

@@ -1,6 +1,4 @@
-use Rattle.std.proofs.Common.{◌≡◌, ◌≤◌, length, vec_capacity}
-use Rattle.slope_list.specs.Slopes.{room_of}
-use Rattle.period_table.specs.Live.{HaveRoom}
+use Rattle.unit_program.proofs.Common.{◌≡◌, ◌≤◌, length, vec_capacity, room_of, HaveRoom}
 use Rattle.unit_program.proofs.bench.make_runners.Given as goal
 
 abbrev pub invariant-loop : goal.invariant-loop

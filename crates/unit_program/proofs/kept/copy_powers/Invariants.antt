@@ -1,4 +1,4 @@
-use Rattle.std.proofs.Common.{◌≡◌, length}
+use Rattle.unit_program.proofs.Common.{◌≡◌, length}
 use Rattle.unit_program.proofs.kept.copy_powers.Given as goal
 
 abbrev pub invariant-loop-place : goal.invariant-loop-place

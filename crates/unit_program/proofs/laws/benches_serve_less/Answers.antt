@@ -1,5 +1,4 @@
-use Rattle.std.proofs.Common.{◌+◌, ◌*◌, ◌≤◌, arith}
-use Rattle.std.proofs.Math.Nat.{mul-le-mul_left, mul-le-mul_right}
+use Rattle.unit_program.proofs.Common.{◌+◌, ◌*◌, ◌≤◌, arith, mul-le-mul_left, mul-le-mul_right}
 use Rattle.unit_program.proofs.laws.benches_serve_less.Goals as goal
 
 pub returns : goal.returns

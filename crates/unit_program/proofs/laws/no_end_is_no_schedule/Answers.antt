@@ -1,4 +1,4 @@
-use Rattle.unit_program.proofs.BestLaws.{none_right}
+use Rattle.unit_program.proofs.Lemmas.{none_right}
 use Rattle.unit_program.proofs.laws.no_end_is_no_schedule.Goals as goal
 
 pub returns : goal.returns

@@ -1,10 +1,5 @@
-use Rattle.std.proofs.Common.{rules, ◌≡◌, ℕ, ◌+◌, ◌-◌, ◌<◌, ℤ, ◌-ℤ◌, List, length, refl, ap, ◌∙◌, subst, arith, to_z, of_z, length-set}
-use Rattle.std.specs.Prelude.{FitsSigned}
-use Rattle.std.specs.Int.{w64}
-use Rattle.std.proofs.lemmas.Int.{ints, to_z-of_z}
-use Rattle.uc_model.specs.PlainUnits.{thermal_of, prices_of}
-use Rattle.uc_model.proofs.SignedLaws.{stored_is}
-use Rattle.unit_program.proofs.LimitListLaws.{AreLimitsFrom, period_net, limit_here, limits_next, limits_whole}
+use Rattle.unit_program.proofs.Common.{rules, ◌≡◌, ℕ, ◌+◌, ◌-◌, ◌<◌, ℤ, ◌-ℤ◌, List, length, refl, ap, ◌∙◌, subst, arith, to_z, of_z, length-set, FitsSigned, w64, ints, to_z-of_z, thermal_of, prices_of, stored_is}
+use Rattle.unit_program.proofs.Lemmas.{AreLimitsFrom, period_net, limit_here, limits_next, limits_whole}
 use Rattle.unit_program.proofs.limits.fill_limits.Goals as goal
 
 pub loop-back-preserved : goal.loop-back-preserved

@@ -1,8 +1,5 @@
-use Rattle.std.proofs.Common.{◌≡◌, ◌+◌, ◌-◌, ◌*◌, pos, neg_ℤ, length}
-use Rattle.uc_model.specs.Limits.{IsFrom}
-use Rattle.uc_model.specs.PlainUnits.{thermal_of, prices_of}
-use Rattle.uc_model.specs.Sums.{int_at}
-use Rattle.unit_program.proofs.LimitListLaws.{AreLimitsFrom}
+use Rattle.unit_program.proofs.Common.{◌≡◌, ◌+◌, ◌-◌, ◌*◌, pos, neg_ℤ, length, IsFrom, thermal_of, prices_of, int_at}
+use Rattle.unit_program.proofs.Lemmas.{AreLimitsFrom}
 use Rattle.unit_program.proofs.limits.fill_limits.Given as goal
 
 abbrev pub invariant-loop-back : goal.invariant-loop-back

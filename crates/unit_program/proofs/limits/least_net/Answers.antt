@@ -1,9 +1,5 @@
-use Rattle.std.proofs.Common.{rules, ◌≡◌, pos, ◌-ℤ◌, ◌*ℤ◌, get_or, ◌∙◌, arith, to_z, of_z}
-use Rattle.std.specs.Prelude.{FitsSigned}
-use Rattle.std.specs.Int.{w64, int_min}
-use Rattle.std.proofs.lemmas.Int.{ints, clamps, to_z-of_z}
-use Rattle.uc_model.specs.declared.units.Point.{Point}
-use Rattle.unit_program.proofs.LimitListLaws.{net_beside}
+use Rattle.unit_program.proofs.Common.{rules, ◌≡◌, pos, ◌-ℤ◌, ◌*ℤ◌, get_or, ◌∙◌, arith, to_z, of_z, FitsSigned, w64, int_min, ints, clamps, to_z-of_z, Point}
+use Rattle.unit_program.proofs.Lemmas.{net_beside}
 use Rattle.unit_program.proofs.limits.least_net.Goals as goal
 
 pub loop-point-preserved : goal.loop-point-preserved

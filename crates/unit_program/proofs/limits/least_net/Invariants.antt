@@ -1,7 +1,4 @@
-use Rattle.std.proofs.Common.{ℕ, ◌<◌, pos, neg_ℤ, ◌-ℤ◌, ◌*ℤ◌, ◌≤ℤ◌}
-use Rattle.std.specs.Prelude.{slice_index_or}
-use Rattle.uc_model.specs.declared.units.Point.{Point}
-use Rattle.uc_model.specs.Limits.{IsFrom}
+use Rattle.unit_program.proofs.Common.{ℕ, ◌<◌, pos, neg_ℤ, ◌-ℤ◌, ◌*ℤ◌, ◌≤ℤ◌, slice_index_or, Point, IsFrom}
 use Rattle.unit_program.proofs.limits.least_net.Given as goal
 
 abbrev pub invariant-loop-point : goal.invariant-loop-point

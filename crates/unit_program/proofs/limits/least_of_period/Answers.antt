@@ -1,12 +1,5 @@
-use Rattle.std.proofs.Common.{rules, ℤ, pos, neg_ℤ, ◌-ℤ◌, ◌*ℤ◌, ◌≤ℤ◌, sym, ◌∙◌, subst, to_z, of_z}
-use Rattle.std.specs.Prelude.{FitsSigned}
-use Rattle.std.specs.List.{All}
-use Rattle.std.specs.Int.{w64}
-use Rattle.std.proofs.lemmas.Int.{to_z-of_z}
-use Rattle.uc_model.specs.declared.units.Point.{Point}
-use Rattle.uc_model.specs.Limits.{IsFrom}
-use Rattle.uc_model.specs.PlainUnits.{thermal_of}
-use Rattle.unit_program.proofs.LimitListLaws.{product_fits, less_fits, less_is, less_within, price_stored, min_bound, min_low, period_low}
+use Rattle.unit_program.proofs.Common.{rules, ℤ, pos, neg_ℤ, ◌-ℤ◌, ◌*ℤ◌, ◌≤ℤ◌, sym, ◌∙◌, subst, to_z, of_z, FitsSigned, All, w64, to_z-of_z, Point, IsFrom, thermal_of}
+use Rattle.unit_program.proofs.Lemmas.{product_fits, less_fits, less_is, less_within, price_stored, min_bound, min_low, period_low}
 use Rattle.unit_program.proofs.limits.least_of_period.Goals as goal
 
 pub overflow_mul-reserve : goal.overflow_mul-reserve

@@ -1,4 +1,4 @@
-use Rattle.unit_program.proofs.LimitListLaws.{net_stored, net_bound}
+use Rattle.unit_program.proofs.Lemmas.{net_stored, net_bound}
 use Rattle.unit_program.proofs.limits.net_of.Goals as goal
 
 pub returns-clause-value : goal.returns-clause-value

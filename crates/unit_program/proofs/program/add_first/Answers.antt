@@ -1,7 +1,5 @@
-use Rattle.std.proofs.Common.{◌≡◌, suc, ◌-◌, arith}
-use Rattle.std.proofs.lemmas.Result.{on_ok_weaker}
-use Rattle.uc_model.specs.PlainUnits.{thermal_of, prices_of}
-use Rattle.unit_program.proofs.FillLaws.{filled_skip, filled_more}
+use Rattle.unit_program.proofs.Common.{◌≡◌, suc, ◌-◌, arith, on_ok_weaker, thermal_of, prices_of}
+use Rattle.unit_program.proofs.Lemmas.{filled_skip, filled_more}
 use Rattle.unit_program.proofs.program.add_first.Goals as goal
 
 pub returns-in-Some-clause-filled : goal.returns-in-Some-clause-filled

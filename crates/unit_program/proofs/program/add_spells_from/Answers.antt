@@ -1,7 +1,5 @@
-use Rattle.std.proofs.Common.{length, refl, sym, arith}
-use Rattle.uc_model.specs.PlainUnits.{thermal_of, prices_of}
-use Rattle.period_table.specs.Rows.{net_at}
-use Rattle.unit_program.proofs.SpanLaws.{no_spell_after, none_long_enough, added_none, answers_at}
+use Rattle.unit_program.proofs.Common.{length, refl, sym, arith, thermal_of, prices_of, net_at}
+use Rattle.unit_program.proofs.Lemmas.{no_spell_after, none_long_enough, added_none, answers_at}
 use Rattle.unit_program.proofs.program.add_spells_from.Goals as goal
 
 pub returns-then-until-max-clause-added : goal.returns-then-until-max-clause-added

@@ -1,6 +1,5 @@
-use Rattle.std.proofs.lemmas.Result.{on_ok_weaker}
-use Rattle.uc_model.specs.PlainUnits.{thermal_of, prices_of}
-use Rattle.unit_program.proofs.FillLaws.{filled_off, filled_on}
+use Rattle.unit_program.proofs.Common.{on_ok_weaker, thermal_of, prices_of}
+use Rattle.unit_program.proofs.Lemmas.{filled_off, filled_on}
 use Rattle.unit_program.proofs.program.begin.Goals as goal
 
 pub returns-then-not-unit-clause-filled : goal.returns-then-not-unit-clause-filled

@@ -1,6 +1,4 @@
-use Rattle.std.proofs.Common.{◌≡◌, ℕ, suc, length, subst, arith}
-use Rattle.uc_model.specs.PlainUnits.{thermal_of, prices_of}
-use Rattle.period_table.specs.Rows.{IsFilled}
+use Rattle.unit_program.proofs.Common.{◌≡◌, ℕ, suc, length, subst, arith, thermal_of, prices_of, IsFilled}
 use Rattle.unit_program.proofs.program.fill.Goals as goal
 
 pub returns-clause-filled : goal.returns-clause-filled

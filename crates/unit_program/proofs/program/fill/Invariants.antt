@@ -1,7 +1,5 @@
-use Rattle.std.proofs.Common.{◌≡◌, [], length, true}
+use Rattle.unit_program.proofs.Common.{◌≡◌, [], length, true, thermal_of, prices_of, IsFilled}
 use Rattle.shape_law.specs.Cell.{Frame}
-use Rattle.uc_model.specs.PlainUnits.{thermal_of, prices_of}
-use Rattle.period_table.specs.Rows.{IsFilled}
 use Rattle.unit_program.proofs.program.fill.Given as goal
 
 abbrev pub invariant-loop-first : goal.invariant-loop-first

@@ -1,11 +1,5 @@
-use Rattle.std.proofs.Common.{rules, ◌≡◌, ◌+◌, ◌*◌, ◌≤◌, ◌+ℤ◌, refl, ◌∙◌, arith, to_z, of_z}
-use Rattle.std.proofs.lemmas.Int.{ints, to_z-of_z}
-use Rattle.std.specs.Prelude.{FitsSigned}
-use Rattle.std.specs.Int.{w64}
-use Rattle.uc_model.specs.PlainUnits.{thermal_of}
-use Rattle.period_table.specs.Rows.{net_at, IsWithinTimes}
-use Rattle.unit_program.proofs.UpdateLaws.{update_skip, update_more, update_all}
-use Rattle.unit_program.proofs.SpanLaws.{spell_within, no_spell_after}
+use Rattle.unit_program.proofs.Common.{rules, ◌≡◌, ◌+◌, ◌*◌, ◌≤◌, ◌+ℤ◌, refl, ◌∙◌, arith, to_z, of_z, ints, to_z-of_z, FitsSigned, w64, thermal_of, net_at, IsWithinTimes}
+use Rattle.unit_program.proofs.Lemmas.{update_skip, update_more, update_all, spell_within, no_spell_after}
 use Rattle.unit_program.proofs.spells.add_spells.Goals as goal
 use Rattle.unit_program.proofs.spells.add_spells.Goals.{in-Some, in_default}
 

@@ -1,7 +1,5 @@
-use Rattle.std.proofs.Common.{◌≡◌, length}
-use Rattle.uc_model.specs.PlainUnits.{thermal_of}
-use Rattle.period_table.specs.Rows.{net_at}
-use Rattle.unit_program.proofs.UpdateLaws.{IsUpdateSoFar}
+use Rattle.unit_program.proofs.Common.{◌≡◌, length, thermal_of, net_at}
+use Rattle.unit_program.proofs.Lemmas.{IsUpdateSoFar}
 use Rattle.unit_program.proofs.spells.add_spells.Given as goal
 
 abbrev pub invariant-loop-last : goal.invariant-loop-last

@@ -1,6 +1,4 @@
-use Rattle.std.proofs.Common.{◌≡◌, ℕ, suc, ◌<◌, ◌≤◌}
-use Rattle.uc_model.specs.declared.units.Mark.TheVariants.{MustOff}
-use Rattle.uc_model.specs.Schedules.{mark_in}
+use Rattle.unit_program.proofs.Common.{◌≡◌, ℕ, suc, ◌<◌, ◌≤◌, MustOff, mark_in}
 use Rattle.unit_program.proofs.spells.before_must_off.Given as goal
 
 abbrev pub invariant-loop-place : goal.invariant-loop-place

@@ -1,9 +1,5 @@
-use Rattle.std.proofs.Common.{rules, ◌≡◌, ◌+◌, ◌*◌, ◌+ℤ◌, arith}
-use Rattle.std.specs.Prelude.{FitsSigned}
-use Rattle.std.specs.Int.{w64}
-use Rattle.std.proofs.lemmas.Int.{ints, to_z-of_z}
-use Rattle.period_table.specs.Rows.{IsWithinTimes}
-use Rattle.unit_program.proofs.RowLaws.{cost-is}
+use Rattle.unit_program.proofs.Common.{rules, ◌≡◌, ◌+◌, ◌*◌, ◌+ℤ◌, arith, FitsSigned, w64, ints, to_z-of_z, IsWithinTimes}
+use Rattle.unit_program.proofs.Lemmas.{cost-is}
 use Rattle.unit_program.proofs.spells.entry_after.Goals as goal
 
 pub sum_of-requires-clause-a : goal.sum_of-requires-clause-a

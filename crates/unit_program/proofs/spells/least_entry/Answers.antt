@@ -1,11 +1,5 @@
-use Rattle.std.proofs.Common.{◌≡◌, suc, ◌+◌, ◌*◌, ◌⊎◌, Some, None, ℤ, refl, arith}
-use Rattle.std.specs.Prelude.{IfSome, IfNone}
-use Rattle.std.proofs.lemmas.Int.{ints}
-use Rattle.uc_model.specs.PlainUnits.{thermal_of}
-use Rattle.period_table.specs.Tables.{IsLeastEntry, IsEntry}
-use Rattle.period_table.specs.declared.table.Entry.{Entry}
-use Rattle.period_table.specs.Rows.{cost_at, IsWithinTimes}
-use Rattle.unit_program.proofs.EntryLaws.{one_more_way, least_of_all, none_of_all, if_some}
+use Rattle.unit_program.proofs.Common.{◌≡◌, suc, ◌+◌, ◌*◌, ◌⊎◌, Some, None, ℤ, refl, arith, IfSome, IfNone, ints, thermal_of, IsLeastEntry, IsEntry, Entry, cost_at, IsWithinTimes}
+use Rattle.unit_program.proofs.Lemmas.{one_more_way, least_of_all, none_of_all, if_some}
 use Rattle.unit_program.proofs.spells.least_entry.Goals as goal
 
 pub loop-last-init : goal.loop-last-init

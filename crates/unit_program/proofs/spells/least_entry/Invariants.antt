@@ -1,6 +1,5 @@
-use Rattle.uc_model.specs.PlainUnits.{thermal_of}
-use Rattle.period_table.specs.Rows.{cost_at}
-use Rattle.unit_program.proofs.EntryLaws.{IsLeastSoFar}
+use Rattle.unit_program.proofs.Common.{thermal_of, cost_at}
+use Rattle.unit_program.proofs.Lemmas.{IsLeastSoFar}
 use Rattle.unit_program.proofs.spells.least_entry.Given as goal
 
 abbrev pub invariant-loop-last : goal.invariant-loop-last

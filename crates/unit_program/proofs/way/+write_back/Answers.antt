@@ -1,9 +1,6 @@
-use Rattle.std.proofs.Common.{ℕ, subst, ◌≡◌, ◌<◌, ◌≤◌, length, ◌∙◌, arith}
-use Rattle.uc_model.specs.PlainUnits.{thermal_of, prices_of, schedule_of}
-use Rattle.spell_run.specs.Notes.{IsSpellNoted}
-use Rattle.period_table.specs.Live.{left_at}
+use Rattle.unit_program.proofs.Common.{ℕ, subst, ◌≡◌, ◌<◌, ◌≤◌, length, ◌∙◌, arith, thermal_of, prices_of, schedule_of, IsSpellNoted, left_at}
 use Rattle.unit_program.proofs.LimitBackLaws.{back_off_within, row_back_within, before_within}
-use Rattle.unit_program.proofs.RowLaws.{cost-is, first-is}
+use Rattle.unit_program.proofs.Lemmas.{cost-is, first-is}
 use Rattle.unit_program.proofs.way.+write_back.Goals as goal
 
 pub returns-then-is_all_off-clause-written : goal.returns-then-is_all_off-clause-written

@@ -1,10 +1,5 @@
-use Rattle.std.proofs.Common.{◌-◌, ◌≤◌, List, length, sym, ap, ◌∙◌, subst, arith}
-use Rattle.std.proofs.lemmas.Option.{slice_get-get_or}
-use Rattle.spell_run.specs.declared.way.Passed.{Passed}
-use Rattle.spell_run.specs.Notes.{IsSpellNoted, passed_at}
-use Rattle.period_table.specs.Live.{left_of}
-use Rattle.uc_model.specs.PlainUnits.{thermal_of, prices_of, schedule_of}
-use Rattle.unit_program.proofs.BackLaws.{written_none, written_first}
+use Rattle.unit_program.proofs.Common.{◌-◌, ◌≤◌, List, length, sym, ap, ◌∙◌, subst, arith, slice_get-get_or, Passed, IsSpellNoted, passed_at, left_of, thermal_of, prices_of, schedule_of}
+use Rattle.unit_program.proofs.Lemmas.{written_none, written_first}
 use Rattle.unit_program.proofs.NoteLaws.{end_within}
 use Rattle.unit_program.proofs.way.write_left.Goals as goal
 

@@ -1,12 +1,5 @@
-use Rattle.std.proofs.Common.{rules, ◌≡◌, length, refl, sym, ◌∙◌, arith}
-use Rattle.std.proofs.lemmas.Int.{ints, to_z-of_z}
-use Rattle.std.specs.Prelude.{FitsSigned}
-use Rattle.std.specs.Int.{w64}
-use Rattle.uc_model.specs.PlainUnits.{thermal_of, prices_of, schedule_of}
-use Rattle.period_table.specs.Limits.{capped}
-use Rattle.period_table.specs.Rows.{cost_at, IsWithinTimes}
-use Rattle.unit_program.proofs.BestLaws.{best_of, least_of, cleared_idle, cleared_zero}
-use Rattle.unit_program.proofs.LimitLaws.{end_capped, end_earliest, end_low}
+use Rattle.unit_program.proofs.Common.{rules, ◌≡◌, length, refl, sym, ◌∙◌, arith, ints, to_z-of_z, FitsSigned, w64, thermal_of, prices_of, schedule_of, capped, cost_at, IsWithinTimes}
+use Rattle.unit_program.proofs.Lemmas.{best_of, least_of, cleared_idle, cleared_zero, end_capped, end_earliest, end_low}
 use Rattle.unit_program.proofs.way.write_noted.Goals as goal
 
 pub negated-into-requires : goal.negated-into-requires

@@ -1,14 +1,5 @@
-use Rattle.std.proofs.Common.{rules, ◌≡◌, ◌+◌, ℕ, Some, length, sym, ap, ◌∙◌, FitsSigned, arith}
-use Rattle.std.proofs.lemmas.Int.{to_z-of_z}
-use Rattle.std.specs.Int.{w128}
-use Rattle.std.proofs.lemmas.List.{length-map}
-use Rattle.std.specs.Prelude.{slice_get}
-use Rattle.uc_model.specs.Data.{Bid, NamedBidUnit}
-use Rattle.uc_model.specs.Limits.{IsBidUnit}
-use Rattle.uc_model.specs.PlainCases.{market_of, schedules_of}
-use Rattle.uc_model.specs.PlainUnits.{bid_of, schedule_of, prices_of, named_bid_of}
-use Rattle.uc_model.proofs.ListLaws.{item_of, map_item}
-use Rattle.uplift_settle.proofs.Units.{earned_item, HasLengths}
+use Rattle.uplift_settle.proofs.Common.{rules, ◌≡◌, ◌+◌, ℕ, Some, length, sym, ap, ◌∙◌, FitsSigned, arith, to_z-of_z, w128, length-map, slice_get, Bid, NamedBidUnit, IsBidUnit, market_of, schedules_of, bid_of, schedule_of, prices_of, named_bid_of, item_of, map_item}
+use Rattle.uplift_settle.proofs.Lemmas.{earned_item, HasLengths}
 use Rattle.uplift_settle.proofs.earned.bid_earned.Goals as goal
 
 pub get-response-requires : goal.get-response-requires

@@ -1,7 +1,5 @@
-use Rattle.std.proofs.Common.{arith}
-use Rattle.std.proofs.lemmas.Int.{ints}
-use Rattle.uc_model.specs.PlainUnits.{bid_of, schedule_of, prices_of}
-use Rattle.uplift_settle.proofs.Paid.{bid_paid}
+use Rattle.uplift_settle.proofs.Common.{arith, ints, bid_of, schedule_of, prices_of}
+use Rattle.uplift_settle.proofs.Lemmas.{bid_paid}
 use Rattle.uplift_settle.proofs.earned.bid_earnings.Goals as goal
 
 pub returns : goal.returns

@@ -1,5 +1,4 @@
-use Rattle.std.proofs.Common.{arith}
-use Rattle.uc_model.specs.PlainCases.{market_of, schedules_of}
+use Rattle.uplift_settle.proofs.Common.{arith, market_of, schedules_of}
 use Rattle.uplift_settle.proofs.earned.earned_at.Goals as goal
 
 pub bid_earned-requires-clause-place : goal.bid_earned-requires-clause-place

@@ -1,14 +1,6 @@
-use Rattle.std.proofs.Common.{rules, sym, subst, FitsSigned, arith}
-use Rattle.std.proofs.lemmas.Int.{to_z-of_z}
-use Rattle.std.specs.Int.{w64, w128}
-use Rattle.std.specs.List.{AllZip}
-use Rattle.uc_model.specs.Data.{units}
-use Rattle.uc_model.specs.Limits.{IsEarned}
-use Rattle.uc_model.specs.PlainCases.{market_of, schedules_of}
-use Rattle.uc_model.specs.PlainUnits.{prices_of}
-use Rattle.uc_model.specs.Schedules.{IsFeasible}
-use Rattle.uc_model.proofs.SignedLaws.{fits_within}
-use Rattle.uplift_settle.proofs.Bounds.{scheduled_within}
+use Rattle.uplift_settle.proofs.Common.{rules, sym, subst, FitsSigned, arith, to_z-of_z, w128, AllZip, units, IsEarned, market_of, schedules_of, prices_of, IsFeasible, fits_within}
+use Rattle.std.specs.Int.{w64}
+use Rattle.uplift_settle.proofs.Lemmas.{scheduled_within}
 use Rattle.uplift_settle.proofs.earned.earned_by.Goals as goal
 
 within : (c : goal.After-earned_at) → IsEarned c.earned_at.result

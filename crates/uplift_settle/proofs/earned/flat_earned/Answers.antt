@@ -1,12 +1,5 @@
-use Rattle.std.proofs.Common.{rules, sym, ◌∙◌, FitsSigned, arith}
-use Rattle.std.proofs.lemmas.Int.{to_z-of_z}
-use Rattle.std.specs.Int.{w128}
-use Rattle.std.proofs.lemmas.List.{length-map}
-use Rattle.uc_model.specs.Data.{Flat}
-use Rattle.uc_model.specs.PlainCases.{market_of, schedules_of}
-use Rattle.uc_model.specs.PlainUnits.{schedule_of, prices_of}
-use Rattle.uc_model.proofs.ListLaws.{item_of, map_item}
-use Rattle.uplift_settle.proofs.Units.{flat_number, earned_item, HasLengths}
+use Rattle.uplift_settle.proofs.Common.{rules, sym, ◌∙◌, FitsSigned, arith, to_z-of_z, w128, length-map, Flat, market_of, schedules_of, schedule_of, prices_of, item_of, map_item}
+use Rattle.uplift_settle.proofs.Lemmas.{flat_number, earned_item, HasLengths}
 use Rattle.uplift_settle.proofs.earned.flat_earned.Goals as goal
 
 pub get-response-requires : goal.get-response-requires

@@ -1,7 +1,5 @@
-use Rattle.std.proofs.Common.{arith}
-use Rattle.std.proofs.lemmas.Int.{ints}
-use Rattle.uc_model.specs.PlainUnits.{schedule_of, prices_of}
-use Rattle.uplift_settle.proofs.Paid.{flat_paid}
+use Rattle.uplift_settle.proofs.Common.{arith, ints, schedule_of, prices_of}
+use Rattle.uplift_settle.proofs.Lemmas.{flat_paid}
 use Rattle.uplift_settle.proofs.earned.flat_earnings.Goals as goal
 
 pub returns : goal.returns

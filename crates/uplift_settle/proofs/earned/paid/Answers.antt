@@ -1,11 +1,4 @@
-use Rattle.std.proofs.Common.{rules, ◌≡◌, ℤ, pos, neg_ℤ, ◌*ℤ◌, sym, ap, ◌∙◌, w64, Fits, w32, FitsSigned, arith}
-use Rattle.std.proofs.lemmas.Int.{ints, to_z-of_z}
-use Rattle.std.proofs.lemmas.Option.{get_or_from_slice_get}
-use Rattle.std.specs.Prelude.{slice_index}
-use Rattle.uc_model.specs.Limits.{IsFrom, price_limit}
-use Rattle.uc_model.specs.Sums.{int_at}
-use Rattle.uc_model.proofs.ListLaws.{sum_more, item_of}
-use Rattle.uc_model.proofs.SignedLaws.{product_within}
+use Rattle.uplift_settle.proofs.Common.{rules, ◌≡◌, ℤ, pos, neg_ℤ, ◌*ℤ◌, sym, ap, ◌∙◌, w64, Fits, w32, FitsSigned, arith, ints, to_z-of_z, get_or_from_slice_get, slice_index, IsFrom, price_limit, int_at, sum_more, item_of, product_within}
 use Rattle.uplift_settle.proofs.earned.paid.Goals as goal
 
 pub loop-place-preserved : goal.loop-place-preserved

@@ -1,7 +1,4 @@
-use Rattle.std.proofs.Common.{◌≡◌, ◌*◌, pos, neg_ℤ, ◌*ℤ◌}
-use Rattle.std.specs.Prelude.{slice_index}
-use Rattle.uc_model.specs.Limits.{IsFrom}
-use Rattle.uc_model.specs.Sums.{int_at, sum_below}
+use Rattle.uplift_settle.proofs.Common.{◌≡◌, ◌*◌, pos, neg_ℤ, ◌*ℤ◌, slice_index, IsFrom, int_at, sum_below}
 use Rattle.uplift_settle.proofs.earned.paid.Given as goal
 
 abbrev pub invariant-loop-place : goal.invariant-loop-place

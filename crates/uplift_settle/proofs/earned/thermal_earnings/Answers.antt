@@ -1,7 +1,5 @@
-use Rattle.std.proofs.Common.{arith}
-use Rattle.std.proofs.lemmas.Int.{ints}
-use Rattle.uc_model.specs.PlainUnits.{thermal_of, schedule_of, prices_of}
-use Rattle.uplift_settle.proofs.Paid.{thermal_paid}
+use Rattle.uplift_settle.proofs.Common.{arith, ints, thermal_of, schedule_of, prices_of}
+use Rattle.uplift_settle.proofs.Lemmas.{thermal_paid}
 use Rattle.uplift_settle.proofs.earned.thermal_earnings.Goals as goal
 
 pub returns : goal.returns

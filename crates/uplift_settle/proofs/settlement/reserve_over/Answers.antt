@@ -1,6 +1,4 @@
-use Rattle.uc_model.specs.PlainCases.{market_of, schedules_of}
-use Rattle.std.proofs.Common.{arith}
-use Rattle.std.proofs.lemmas.Int.{ints}
+use Rattle.uplift_settle.proofs.Common.{market_of, schedules_of, arith, ints}
 use Rattle.uplift_settle.proofs.settlement.reserve_over.Goals as goal
 
 pub reserves_in-reserves-requires-clause-shape : goal.reserves_in-reserves-requires-clause-shape

@@ -1,18 +1,5 @@
-use Rattle.std.proofs.Common.{rules, ◌≡◌, refl, ◌<◌, ℤ, pos, ◌-ℤ◌, List, [], ◌∷◌, ◌++◌, length, take, sym, ap, ◌∙◌, w64, FitsSigned, arith, length-append}
-use Rattle.std.proofs.lemmas.Int.{ints, to_z-of_z}
-use Rattle.std.proofs.lemmas.List.{take_more, take_all}
-use Rattle.std.proofs.lemmas.Option.{get_or_from_slice_get}
-use Rattle.std.specs.Int.{w128}
-use Rattle.std.specs.Prelude.{slice_get}
-use Rattle.uc_model.specs.Data.{AnyUnit, units, unit_count}
-use Rattle.uc_model.specs.Earnings.{IsTop}
-use Rattle.uc_model.specs.PlainCases.{market_of, schedules_of}
-use Rattle.uc_model.specs.PlainUnits.{prices_of}
-use Rattle.uc_model.specs.Sums.{total, zip_with}
-use Rattle.uc_model.proofs.ListLaws.{length_same, zip_with-push, total-push}
-use Rattle.uplift_settle.specs.Earned.{earned_in}
-use Rattle.uplift_settle.proofs.Bounds.{best_within}
-use Rattle.uplift_settle.proofs.Units.{earned_length}
+use Rattle.uplift_settle.proofs.Common.{rules, ◌≡◌, refl, ◌<◌, ℤ, pos, ◌-ℤ◌, List, [], ◌∷◌, ◌++◌, length, take, sym, ap, ◌∙◌, w64, FitsSigned, arith, length-append, ints, to_z-of_z, take_more, take_all, get_or_from_slice_get, w128, slice_get, AnyUnit, units, unit_count, IsTop, market_of, schedules_of, prices_of, total, zip_with, length_same, zip_with-push, total-push, earned_in}
+use Rattle.uplift_settle.proofs.Lemmas.{best_within, earned_length}
 use Rattle.uplift_settle.proofs.settlement.settle.Goals as goal
 use Rattle.uplift_settle.proofs.settlement.settle.Goals.{After-units_are_numbered}
 

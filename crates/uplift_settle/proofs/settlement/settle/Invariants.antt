@@ -1,10 +1,4 @@
-use Rattle.std.proofs.Common.{◌≡◌, ◌+◌, ◌*◌, ℤ, pos, neg_ℤ, ◌-ℤ◌, length, take}
-use Rattle.uc_model.specs.Data.{unit_count}
-use Rattle.uc_model.specs.Limits.{IsFrom}
-use Rattle.uc_model.specs.PlainCases.{market_of, schedules_of}
-use Rattle.uc_model.specs.PlainUnits.{prices_of}
-use Rattle.uc_model.specs.Sums.{total, zip_with}
-use Rattle.uplift_settle.specs.Earned.{earned_in}
+use Rattle.uplift_settle.proofs.Common.{◌≡◌, ◌+◌, ◌*◌, ℤ, pos, neg_ℤ, ◌-ℤ◌, length, take, unit_count, IsFrom, market_of, schedules_of, prices_of, total, zip_with, earned_in}
 use Rattle.uplift_settle.proofs.settlement.settle.Given as goal
 
 abbrev pub invariant-loop-number : goal.invariant-loop-number

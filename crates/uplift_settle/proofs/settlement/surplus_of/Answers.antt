@@ -1,13 +1,4 @@
-use Rattle.std.proofs.Common.{rules, ◌≡◌, ℤ, pos, ◌*ℤ◌, ◌+◌, ◌*◌, sym, ap, ◌∙◌, subst, w64, FitsSigned, arith}
-use Rattle.std.specs.Int.{w128}
-use Rattle.std.proofs.lemmas.Int.{ints, to_z-of_z}
-use Rattle.std.proofs.lemmas.Option.{get_or_from_slice_get}
-use Rattle.uc_model.specs.Limits.{IsFrom, price_limit}
-use Rattle.uc_model.specs.PlainCases.{market_of, schedules_of}
-use Rattle.uc_model.specs.Sums.{int_at}
-use Rattle.uc_model.proofs.ListLaws.{item_of, sum_more}
-use Rattle.uc_model.proofs.SignedLaws.{IsWithin, sum_within, signed_product_within, fits_within}
-use Rattle.uplift_settle.specs.Earned.{surplus_at}
+use Rattle.uplift_settle.proofs.Common.{rules, ◌≡◌, ℤ, pos, ◌*ℤ◌, ◌+◌, ◌*◌, sym, ap, ◌∙◌, subst, w64, FitsSigned, arith, w128, ints, to_z-of_z, get_or_from_slice_get, IsFrom, price_limit, market_of, schedules_of, int_at, item_of, sum_more, IsWithin, sum_within, signed_product_within, fits_within, surplus_at}
 use Rattle.uplift_settle.proofs.settlement.surplus_of.Goals as goal
 
 -- what the reserve of a period is worth is far from the limits of its type

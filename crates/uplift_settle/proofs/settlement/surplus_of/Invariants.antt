@@ -1,8 +1,4 @@
-use Rattle.std.proofs.Common.{◌≡◌, ◌*◌, pos, neg_ℤ, ◌*ℤ◌}
-use Rattle.uc_model.specs.Limits.{IsFrom}
-use Rattle.uc_model.specs.PlainCases.{market_of, schedules_of}
-use Rattle.uc_model.specs.Sums.{int_at, sum_below}
-use Rattle.uplift_settle.specs.Earned.{surplus_at}
+use Rattle.uplift_settle.proofs.Common.{◌≡◌, ◌*◌, pos, neg_ℤ, ◌*ℤ◌, IsFrom, market_of, schedules_of, int_at, sum_below, surplus_at}
 use Rattle.uplift_settle.proofs.settlement.surplus_of.Given as goal
 
 abbrev pub invariant-loop-place : goal.invariant-loop-place

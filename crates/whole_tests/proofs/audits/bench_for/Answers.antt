@@ -1,4 +1,4 @@
-use Rattle.uc_model.specs.PlainCases.{market_of}
+use Rattle.whole_tests.proofs.Common.{market_of}
 use Rattle.whole_tests.proofs.audits.bench_for.Goals as goal
 
 pub returns : goal.returns

@@ -1,7 +1,4 @@
-use Rattle.std.proofs.Common.{◌≡◌, ◌≤◌, length}
-use Rattle.std.specs.List.{All}
-use Rattle.uc_model.specs.PlainCases.{market_of}
-use Rattle.dealt_run.specs.Benches.{IsBenchOver}
+use Rattle.whole_tests.proofs.Common.{◌≡◌, ◌≤◌, length, All, market_of, IsBenchOver}
 use Rattle.whole_tests.proofs.audits.benches_for.Given as goal
 
 abbrev pub invariant-loop : goal.invariant-loop

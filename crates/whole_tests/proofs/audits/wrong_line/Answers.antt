@@ -1,4 +1,4 @@
-use Rattle.std.proofs.Common.{rules}
+use Rattle.whole_tests.proofs.Common.{rules}
 use Rattle.whole_tests.proofs.audits.wrong_line.Goals as goal
 
 pub check_report-requires-clause-feasible : goal.check_report-requires-clause-feasible

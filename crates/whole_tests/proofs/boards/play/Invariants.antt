@@ -1,5 +1,4 @@
-use Rattle.std.proofs.Common.{◌≡◌, ◌≤◌}
-use Rattle.uc_model.specs.TaskRoom.{IsTaskFor}
+use Rattle.whole_tests.proofs.Common.{◌≡◌, ◌≤◌, IsTaskFor}
 use Rattle.whole_tests.proofs.boards.play.Given as goal
 
 abbrev pub invariant-loop-step : goal.invariant-loop-step

@@ -1,4 +1,4 @@
-use Rattle.uc_model.specs.PlainCases.{market_of}
+use Rattle.whole_tests.proofs.Common.{market_of}
 use Rattle.whole_tests.proofs.dealt_rows.job_for.Goals as goal
 
 pub make-requires-2-clause-bench : goal.make-requires-2-clause-bench

@@ -1,8 +1,5 @@
-use Rattle.std.proofs.Common.{◌≡◌, List, [], ◌∷◌, ◌++◌, length, length-append, sym, ap, ◌∙◌, subst, arith}
-use Rattle.std.proofs.lemmas.List.Elements.{All-push}
-use Rattle.uc_model.specs.PlainCases.{market_of}
+use Rattle.whole_tests.proofs.Common.{◌≡◌, List, [], ◌∷◌, ◌++◌, length, length-append, sym, ap, ◌∙◌, subst, arith, All-push, market_of, AreFor}
 use Rattle.dealt_run.specs.declared.answerer.Answerer.{Answerer}
-use Rattle.dealt_run.specs.Jobs.{AreFor}
 use Rattle.whole_tests.proofs.dealt_rows.jobs_for.Goals as goal
 
 pub loop-preserved : goal.loop-preserved

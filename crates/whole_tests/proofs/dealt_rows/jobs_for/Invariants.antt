@@ -1,6 +1,4 @@
-use Rattle.std.proofs.Common.{◌≡◌, ◌≤◌, length}
-use Rattle.uc_model.specs.PlainCases.{market_of}
-use Rattle.dealt_run.specs.Jobs.{AreFor}
+use Rattle.whole_tests.proofs.Common.{◌≡◌, ◌≤◌, length, market_of, AreFor}
 use Rattle.whole_tests.proofs.dealt_rows.jobs_for.Given as goal
 
 abbrev pub invariant-loop : goal.invariant-loop

@@ -1,5 +1,4 @@
-use Rattle.std.proofs.Common.{rules}
-use Rattle.uc_model.specs.PlainCases.{schedules_of}
+use Rattle.whole_tests.proofs.Common.{rules, schedules_of}
 use Rattle.whole_tests.proofs.dealt_rows.two_rows.Goals as goal
 
 pub jobs_for-requires : goal.jobs_for-requires

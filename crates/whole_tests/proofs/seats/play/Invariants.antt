@@ -1,7 +1,4 @@
-use Rattle.std.proofs.Common.{◌≡◌, ◌≤◌}
-use Rattle.board_share.specs.Seats.{view_of, IsSameBoard}
-use Rattle.board_share.specs.Tells.{KeepsRest}
-use Rattle.uc_model.specs.TaskRoom.{IsTaskFor}
+use Rattle.whole_tests.proofs.Common.{◌≡◌, ◌≤◌, view_of, IsSameBoard, KeepsRest, IsTaskFor}
 use Rattle.whole_tests.proofs.seats.play.Given as goal
 
 abbrev pub invariant-loop-step : goal.invariant-loop-step

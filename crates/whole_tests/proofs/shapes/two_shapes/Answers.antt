@@ -1,4 +1,4 @@
-use Rattle.std.proofs.Common.{[]}
+use Rattle.whole_tests.proofs.Common.{[]}
 use Rattle.whole_tests.proofs.shapes.two_shapes.Goals as goal
 use Rattle.whole_tests.proofs.shapes.two_shapes.Goals.{After-window, After-window-2, After-give_back}
 

@@ -1,8 +1,4 @@
-use Rattle.std.proofs.Common.{◌≡◌, List, length, refl, subst, arith, to_z, of_z}
-use Rattle.std.specs.Int.{w64}
-use Rattle.std.proofs.lemmas.Int.{ints, to_z-of_z}
-use Rattle.uc_model.specs.declared.units.Block.{Block}
-use Rattle.whole_tests.specs.Small.{AreFair}
+use Rattle.whole_tests.proofs.Common.{◌≡◌, List, length, refl, subst, arith, to_z, of_z, w64, ints, to_z-of_z, Block, AreFair}
 use Rattle.whole_tests.proofs.SmallLaws.{end_bounds, IsLimitedCurve-fair, CanAddCurve-fair}
 use Rattle.whole_tests.proofs.steps.add_curve.Goals as goal
 

@@ -1,6 +1,4 @@
-use Rattle.std.proofs.Common.{◌≡◌, refl, to_z, of_z}
-use Rattle.std.specs.Int.{w64}
-use Rattle.std.proofs.lemmas.Int.{to_z-of_z}
+use Rattle.whole_tests.proofs.Common.{◌≡◌, refl, to_z, of_z, w64, to_z-of_z}
 use Rattle.whole_tests.proofs.SmallLaws.{CanAdd-line}
 use Rattle.whole_tests.proofs.steps.add_line.Goals as goal
 

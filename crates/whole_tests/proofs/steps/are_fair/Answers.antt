@@ -1,8 +1,4 @@
-use Rattle.std.proofs.Common.{◌≡◌, ◌<◌, length, get_or, ◌∙◌, arith, rules, to_z, of_z}
-use Rattle.std.specs.Prelude.{pos, FitsSigned}
-use Rattle.std.specs.Int.{w64}
-use Rattle.std.proofs.lemmas.Int.{ints, to_z-of_z}
-use Rattle.uc_model.specs.declared.units.Block.{Block}
+use Rattle.whole_tests.proofs.Common.{◌≡◌, ◌<◌, length, get_or, ◌∙◌, arith, rules, to_z, of_z, pos, FitsSigned, w64, ints, to_z-of_z, Block}
 use Rattle.whole_tests.proofs.SmallLaws.{AreFair-more, last-more}
 use Rattle.whole_tests.proofs.steps.are_fair.Goals as goal
 

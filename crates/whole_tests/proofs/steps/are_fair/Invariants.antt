@@ -1,7 +1,4 @@
-use Rattle.std.proofs.Common.{◌≡◌, ℕ, suc, get_or}
-use Rattle.std.specs.Prelude.{pos, neg_ℤ, ◌≤ℤ◌}
-use Rattle.uc_model.specs.declared.units.Block.{Block}
-use Rattle.whole_tests.specs.Small.{AreFair}
+use Rattle.whole_tests.proofs.Common.{◌≡◌, ℕ, suc, get_or, pos, neg_ℤ, ◌≤ℤ◌, Block, AreFair}
 use Rattle.whole_tests.proofs.steps.are_fair.Given as goal
 
 abbrev pub invariant-loop-block : goal.invariant-loop-block

@@ -1,4 +1,4 @@
-use Rattle.std.proofs.Common.{◌≡◌, ◌+◌, ◌≤◌, length, take}
+use Rattle.whole_tests.proofs.Common.{◌≡◌, ◌+◌, ◌≤◌, length, take}
 use Rattle.whole_tests.proofs.steps.curve_of.Given as goal
 
 abbrev pub invariant-loop-block : goal.invariant-loop-block

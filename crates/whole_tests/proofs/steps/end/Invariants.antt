@@ -1,6 +1,4 @@
-use Rattle.std.proofs.Common.{◌≡◌, ◌*◌, drop}
-use Rattle.std.specs.Prelude.{pos, neg_ℤ, ◌+ℤ◌, ◌≤ℤ◌}
-use Rattle.shape_law.specs.Curve.{end_of}
+use Rattle.whole_tests.proofs.Common.{◌≡◌, ◌*◌, drop, pos, neg_ℤ, ◌+ℤ◌, ◌≤ℤ◌, end_of}
 use Rattle.whole_tests.proofs.steps.end.Given as goal
 
 abbrev pub invariant-loop-block : goal.invariant-loop-block

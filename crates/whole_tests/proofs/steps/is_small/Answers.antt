@@ -1,8 +1,4 @@
-use Rattle.std.proofs.Common.{refl, subst, arith, inl, inr}
-use Rattle.std.specs.Prelude.{ℤ, pos, ◌-ℤ◌}
-use Rattle.std.proofs.lemmas.Int.{ints}
-use Rattle.std.proofs.lemmas.Bool.{cases_lt}
-use Rattle.whole_tests.specs.Small.{IsModestAt}
+use Rattle.whole_tests.proofs.Common.{refl, subst, arith, inl, inr, ℤ, pos, ◌-ℤ◌, ints, cases_lt, IsModestAt}
 use Rattle.whole_tests.proofs.SmallLaws.{IsSmall-from}
 use Rattle.whole_tests.proofs.steps.is_small.Goals as goal
 

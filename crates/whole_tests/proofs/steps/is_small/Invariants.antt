@@ -1,6 +1,4 @@
-use Rattle.std.proofs.Common.{ℕ, ◌<◌}
-use Rattle.std.specs.Prelude.{pos, ◌-ℤ◌}
-use Rattle.whole_tests.specs.Small.{IsModestAt}
+use Rattle.whole_tests.proofs.Common.{ℕ, ◌<◌, pos, ◌-ℤ◌, IsModestAt}
 use Rattle.whole_tests.proofs.steps.is_small.Given as goal
 
 abbrev pub invariant-loop-k : goal.invariant-loop-k

@@ -1,6 +1,4 @@
-use Rattle.board_share.specs.Seats.{view_of, IsSameBoard}
-use Rattle.board_share.specs.Tells.{KeepsRest}
-use Rattle.uc_model.specs.TaskRoom.{IsTaskFor}
+use Rattle.whole_tests.proofs.Common.{view_of, IsSameBoard, KeepsRest, IsTaskFor}
 use Rattle.whole_tests.proofs.threads.play_on.Given as goal
 
 abbrev pub invariant-loop : goal.invariant-loop

@@ -1,4 +1,4 @@
-use Rattle.std.proofs.Common.{◌≡◌}
+use Rattle.whole_tests.proofs.Common.{◌≡◌}
 use Rattle.whole_tests.proofs.threads.replays.Given as goal
 
 abbrev pub invariant-loop-entry : goal.invariant-loop-entry

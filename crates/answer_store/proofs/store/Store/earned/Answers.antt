@@ -1,7 +1,4 @@
-use Rattle.std.proofs.Common.{rules, pos, get_or, sym, ap, ◌∙◌, arith, w64, FitsSigned}
-use Rattle.std.proofs.lemmas.Int.{to_z-of_z}
-use Rattle.std.proofs.lemmas.List.{get_or_read}
-use Rattle.answer_store.specs.Answers.{Kept, Answers, nothing}
+use Rattle.answer_store.proofs.Common.{rules, pos, get_or, sym, ap, ◌∙◌, arith, w64, FitsSigned, to_z-of_z, get_or_read, Kept, Answers, nothing}
 use Rattle.answer_store.proofs.Answers.{place_of, answer_at_place}
 use Rattle.answer_store.proofs.store.Store.earned.Goals as goal
 

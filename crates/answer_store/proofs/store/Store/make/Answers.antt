@@ -1,6 +1,4 @@
-use Rattle.std.proofs.Common.{ℤ, List, length, ap, ◌∙◌}
-use Rattle.std.proofs.lemmas.List.{length-replicate}
-use Rattle.std.specs.Prelude.{pos}
+use Rattle.answer_store.proofs.Common.{ℤ, List, length, ap, ◌∙◌, length-replicate, pos}
 use Rattle.answer_store.proofs.Answers.{length-answers_in}
 use Rattle.answer_store.proofs.store.Store.make.Goals as goal
 

@@ -1,11 +1,6 @@
-use Rattle.std.proofs.Common.{rules, ℕ, ◌*◌, ℤ, Bool, List, length, sym, ap, ◌∙◌, arith, w64, FitsSigned}
-use Rattle.std.proofs.Math.ListN.{set, length-set}
-use Rattle.std.proofs.lemmas.Int.{to_z-of_z}
-use Rattle.std.specs.Int.{cast_signed, cast_unsigned}
-use Rattle.answer_store.specs.Answers.{Answers, kept_of, answers_in}
-use Rattle.answer_store.specs.Parts.{with_part}
+use Rattle.answer_store.proofs.Common.{rules, ℕ, ◌*◌, ℤ, Bool, List, length, sym, ap, ◌∙◌, arith, w64, FitsSigned, set, length-set, to_z-of_z, cast_signed, cast_unsigned, Answers, kept_of, answers_in, with_part}
 use Rattle.answer_store.proofs.Answers.{place_of, put_answer}
-use Rattle.answer_store.proofs.Parts.{inside, length-with_part}
+use Rattle.answer_store.proofs.Lemmas.{inside, length-with_part}
 use Rattle.answer_store.proofs.store.Store.put.Goals as goal
 
 pub put_part-requires-clause-inside : goal.put_part-requires-clause-inside

@@ -1,12 +1,6 @@
-use Rattle.std.proofs.Common.{rules, ◌≡◌, pos, Bool, List, [], length, get_or, sym, ap, ◌∙◌, arith, w64, FitsSigned}
-use Rattle.std.proofs.lemmas.Int.{to_z-of_z}
-use Rattle.std.proofs.lemmas.List.{get_or_read}
-use Rattle.std.specs.Int.{cast_signed, cast_unsigned}
-use Rattle.uc_model.specs.Sums.{int_at}
-use Rattle.answer_store.specs.Answers.{Answers, nothing}
-use Rattle.answer_store.specs.Parts.{part}
+use Rattle.answer_store.proofs.Common.{rules, ◌≡◌, pos, Bool, List, [], length, get_or, sym, ap, ◌∙◌, arith, w64, FitsSigned, to_z-of_z, get_or_read, cast_signed, cast_unsigned, int_at, Answers, nothing, part}
 use Rattle.answer_store.proofs.Answers.{place_of, answer_at_place, same_answer}
-use Rattle.answer_store.proofs.Parts.{inside, length-part}
+use Rattle.answer_store.proofs.Lemmas.{inside, length-part}
 use Rattle.answer_store.proofs.store.Store.take.Goals as goal
 
 pub take_part-requires-clause-inside : goal.take_part-requires-clause-inside

@@ -1,6 +1,5 @@
-use Rattle.std.proofs.Common.{ℕ, List, map, ap, ◌∙◌}
-use Rattle.answer_store.specs.Tables.{row_at}
-use Rattle.answer_store.proofs.Tables.{map_replicate}
+use Rattle.answer_store.proofs.Common.{ℕ, List, map, ap, ◌∙◌, row_at}
+use Rattle.answer_store.proofs.Lemmas.{map_replicate}
 use Rattle.answer_store.proofs.table.Table.make.Goals as goal
 
 pub returns-clause-rows : goal.returns-clause-rows

@@ -1,10 +1,5 @@
-use Rattle.std.proofs.Common.{◌≡◌, ℕ, suc, ◌+◌, ◌-◌, ◌<◌, ◌≤◌, List, length, ◌++◌, get_or, sym, refl, ap, ◌∙◌, subst, arith, vec_capacity}
-use Rattle.std.proofs.Math.ListN.{set}
-use Rattle.std.proofs.lemmas.List.{get_or_read}
-use Rattle.std.specs.Prelude.{replicate, slice_index_or}
-use Rattle.answer_store.specs.Parts.{with_part}
-use Rattle.answer_store.specs.Tables.{Rows, rows_in, IsTable}
-use Rattle.answer_store.proofs.Tables.{row_of, place_inside, within_used, room_for_numbers, table_written, rows_written, rows_kept, zeros, table_more, rows_more}
+use Rattle.answer_store.proofs.Common.{◌≡◌, ℕ, suc, ◌+◌, ◌-◌, ◌<◌, ◌≤◌, List, length, ◌++◌, get_or, sym, refl, ap, ◌∙◌, subst, arith, vec_capacity, set, get_or_read, replicate, slice_index_or, with_part, Rows, rows_in, IsTable}
+use Rattle.answer_store.proofs.Lemmas.{row_of, place_inside, within_used, room_for_numbers, table_written, rows_written, rows_kept, zeros, table_more, rows_more}
 use Rattle.answer_store.proofs.table.Table.put.Goals as goal
 use Rattle.answer_store.proofs.table.Table.put.Goals.{After-self}
 

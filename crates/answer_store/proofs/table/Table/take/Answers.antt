@@ -1,5 +1,5 @@
-use Rattle.std.proofs.Common.{arith}
-use Rattle.answer_store.proofs.Tables.{row_of}
+use Rattle.answer_store.proofs.Common.{arith}
+use Rattle.answer_store.proofs.Lemmas.{row_of}
 use Rattle.answer_store.proofs.table.Table.take.Goals as goal
 
 pub index-requires : goal.index-requires

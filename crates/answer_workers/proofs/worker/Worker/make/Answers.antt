@@ -1,9 +1,5 @@
-use Rattle.std.proofs.Common.{ℕ, length, sym, ap, ◌∙◌, subst}
-use Rattle.std.proofs.lemmas.List.{length-replicate}
-use Rattle.slope_list.specs.Slopes.{room_of}
-use Rattle.uc_model.specs.TaskRoom.{IsTaskFor}
-use Rattle.unit_program.specs.Benches.{IsBenchFor}
-use Rattle.answer_workers.proofs.BenchLaws.{bench_of_case}
+use Rattle.answer_workers.proofs.Common.{ℕ, length, sym, ap, ◌∙◌, subst, length-replicate, room_of, IsTaskFor, IsBenchFor}
+use Rattle.answer_workers.proofs.Lemmas.{bench_of_case}
 use Rattle.answer_workers.proofs.worker.Worker.make.Goals as goal
 
 pub returns-clause-parts : goal.returns-clause-parts

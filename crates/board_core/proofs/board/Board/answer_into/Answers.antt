@@ -1,13 +1,5 @@
-use Rattle.std.proofs.Common.{◌≤◌, ◌<◌, ℕ, length, get_or, sym, ap, ◌∙◌, subst}
-use Rattle.uc_model.specs.Data.{unit_count}
-use Rattle.board_history.specs.Board.{Content, no_answer}
-use Rattle.board_history.specs.Calls.{own_rows}
-use Rattle.board_core.specs.Boards.{kept_answer}
-use Rattle.board_core.specs.Events.{place, events_of}
-use Rattle.board_core.specs.Setups.{setup_of}
-use Rattle.board_core.specs.Stored.{answer_kept, answers_kept}
-use Rattle.board_core.proofs.Fronts.{kept_inside, kept_is}
-use Rattle.board_core.proofs.Kept.{is_inside, kept_at}
+use Rattle.board_core.proofs.Common.{◌≤◌, ◌<◌, ℕ, length, get_or, sym, ap, ◌∙◌, subst, unit_count, Content, no_answer, own_rows, kept_answer, place, events_of, setup_of, answer_kept, answers_kept}
+use Rattle.board_core.proofs.Lemmas.{kept_inside, kept_is, is_inside, kept_at}
 use Rattle.board_core.proofs.board.Board.answer_into.Goals as goal
 
 pub take-requires-clause-place : goal.take-requires-clause-place

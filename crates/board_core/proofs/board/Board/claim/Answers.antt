@@ -1,30 +1,10 @@
-use Rattle.std.proofs.Common.{◌≡◌, ◌+◌, ◌/◌, ◌%◌, ◌<◌, ◌++◌, ◌∷◌, [], ℕ, List, length, get_or, refl, subst, sym, ap, ◌∙◌, arith, length-append}
-use Rattle.std.specs.Prelude.{slice_get}
-use Rattle.board_history.specs.Board.{Answer, Content}
-use Rattle.board_history.specs.Calls.{claim_answer, after_claim}
-use Rattle.board_history.specs.Entries.{entry_of}
-use Rattle.board_history.specs.Rounds.{Event, Given, ClaimReply, with_claim}
+use Rattle.board_core.proofs.Common.{◌≡◌, ◌+◌, ◌/◌, ◌%◌, ◌<◌, ◌++◌, ◌∷◌, [], ℕ, List, length, get_or, refl, subst, sym, ap, ◌∙◌, arith, length-append, slice_get, Answer, Content, claim_answer, after_claim, entry_of, Event, Given, ClaimReply, with_claim, Entry, PriceLists, AnyUnit, Schedule, units_of, unit_count, task_unit, IsFeasible, event_of, events_of, blank, Lists, IsBoard, task_count, claim_of, ◌≤◌, Setup, NotYet, Halted, Finished, GivenTask, Task, LedgerValue}
 use Rattle.board_history.specs.declared.entries.Call.TheVariants as calls
-use Rattle.board_history.specs.declared.entries.Entry.{Entry}
 use Rattle.board_history.specs.declared.entries.Reply.TheVariants as replies
-use Rattle.uc_model.specs.Data.{PriceLists, AnyUnit, Schedule, units as units_of, unit_count}
-use Rattle.uc_model.specs.PlainCases.{task_unit}
-use Rattle.uc_model.specs.Schedules.{IsFeasible}
-use Rattle.board_core.specs.Events.{event_of, events_of}
-use Rattle.board_core.specs.Ledgers.{blank}
-use Rattle.board_core.specs.Parts.{Lists, IsBoard, task_count}
-use Rattle.board_core.specs.Replies.{claim_of}
 use Rattle.board_core.specs.Tasks.{LeavesTask, IsOwnTask}
 use Rattle.board_core.proofs.Claims.{claim_finished, claim_halted, claim_not_yet, claim_given, price_is, count_within, claimed}
-use Rattle.board_core.proofs.Entries.{content, events_more, entries_more}
-use Rattle.board_core.proofs.Lists.{partner}
+use Rattle.board_core.proofs.Lemmas.{content, events_more, entries_more, partner, setup_in, events_in, lists_in}
 use Rattle.board_core.proofs.board.Board.claim.Goals as goal
-use Rattle.std.proofs.Common.{◌≤◌}
-use Rattle.board_history.specs.Board.{Setup}
-use Rattle.board_history.specs.Rounds.{NotYet, Halted, Finished, GivenTask}
-use Rattle.uc_model.specs.declared.cases.Task.{Task}
-use Rattle.board_core.specs.Ledgers.{LedgerValue}
-use Rattle.board_core.proofs.Inner.{setup_in, events_in, lists_in}
 use Rattle.board_core.proofs.board.Board.claim.Goals.{Then-open-closed, Then-self, After-units-units}
 
 -- what a claim says of the board's content, read off the reply to it

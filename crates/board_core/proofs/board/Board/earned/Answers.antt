@@ -1,14 +1,5 @@
-use Rattle.std.proofs.Common.{rules, ◌≤◌, ◌<◌, ℕ, length, get_or, sym, ap, ◌∙◌, subst, w64, FitsSigned}
-use Rattle.std.proofs.lemmas.Int.{to_z-of_z}
-use Rattle.uc_model.specs.Data.{unit_count}
-use Rattle.board_history.specs.Board.{Answer, Content, no_answer}
-use Rattle.board_history.specs.Calls.{own_rows}
-use Rattle.board_core.specs.Boards.{kept_answer}
-use Rattle.board_core.specs.Events.{place, events_of}
-use Rattle.board_core.specs.Setups.{setup_of}
-use Rattle.board_core.specs.Stored.{answers_kept}
-use Rattle.board_core.proofs.Fronts.{kept_inside, kept_is}
-use Rattle.board_core.proofs.Kept.{is_inside, kept_at}
+use Rattle.board_core.proofs.Common.{rules, ◌≤◌, ◌<◌, ℕ, length, get_or, sym, ap, ◌∙◌, subst, w64, FitsSigned, to_z-of_z, unit_count, Answer, Content, no_answer, own_rows, kept_answer, place, events_of, setup_of, answers_kept}
+use Rattle.board_core.proofs.Lemmas.{kept_inside, kept_is, is_inside, kept_at}
 use Rattle.board_core.proofs.board.Board.earned.Goals as goal
 
 pub earned-requires : goal.earned-requires

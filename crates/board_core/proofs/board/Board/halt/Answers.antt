@@ -1,20 +1,8 @@
-use Rattle.std.proofs.Common.{◌≡◌, ◌<◌, ◌++◌, ◌∷◌, [], List, length, get_or, subst, sym, ap, ◌∙◌, arith, Bool, true, false, cond, length-append}
-use Rattle.std.proofs.lemmas.List.{get_or_default}
-use Rattle.std.specs.List.{list_any}
-use Rattle.board_history.specs.Board.{Answer, Content}
-use Rattle.board_history.specs.Calls.{after_halt}
-use Rattle.board_history.specs.Rounds.{Event, Stopped, is_halt_of}
+use Rattle.board_core.proofs.Common.{◌≡◌, ◌<◌, ◌++◌, ◌∷◌, [], List, length, get_or, subst, sym, ap, ◌∙◌, arith, Bool, true, false, cond, length-append, get_or_default, list_any, Answer, Content, after_halt, Event, Stopped, is_halt_of, Entry, unit_count, events_of, Lists, IsBoard, Setup}
 use Rattle.board_history.specs.declared.entries.Call.TheVariants as calls
-use Rattle.board_history.specs.declared.entries.Entry.{Entry}
 use Rattle.board_history.specs.declared.entries.Reply.TheVariants as replies
-use Rattle.uc_model.specs.Data.{unit_count}
-use Rattle.board_core.specs.Events.{events_of}
-use Rattle.board_core.specs.Parts.{Lists, IsBoard}
-use Rattle.board_core.proofs.Entries.{content, events_more, entries_more}
-use Rattle.board_core.proofs.Halts.{stopped, not_yet, one_less, halted_lists}
+use Rattle.board_core.proofs.Lemmas.{content, events_more, entries_more, stopped, not_yet, one_less, halted_lists, setup_in, events_in, lists_in}
 use Rattle.board_core.proofs.board.Board.halt.Goals as goal
-use Rattle.board_history.specs.Board.{Setup}
-use Rattle.board_core.proofs.Inner.{setup_in, events_in, lists_in}
 use Rattle.board_core.proofs.board.Board.halt.Goals.{After-index}
 
 module _ (c : After-index) where

@@ -1,13 +1,5 @@
-use Rattle.std.proofs.Common.{ℕ, ap, ◌∙◌}
-use Rattle.std.specs.Prelude.{nat_le}
-use Rattle.uc_model.specs.Data.{unit_count}
-use Rattle.board_history.specs.Board.{rules_of}
-use Rattle.board_history.specs.Calls.{has_finished}
-use Rattle.board_history.specs.Rounds.{posts, opened}
-use Rattle.board_core.specs.Events.{events_of}
-use Rattle.board_core.specs.Setups.{setup_of}
-use Rattle.board_core.specs.Stored.{answers_kept}
-use Rattle.board_core.proofs.Fronts.{closed_is, opened_is}
+use Rattle.board_core.proofs.Common.{ℕ, ap, ◌∙◌, nat_le, unit_count, rules_of, has_finished, posts, opened, events_of, setup_of, answers_kept}
+use Rattle.board_core.proofs.Lemmas.{closed_is, opened_is}
 use Rattle.board_core.proofs.board.Board.is_finished.Goals as goal
 
 pub returns : goal.returns

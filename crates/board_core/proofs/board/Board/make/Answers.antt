@@ -1,22 +1,5 @@
-use Rattle.std.proofs.Common.{rules, ◌≡◌, ℕ, ◌*◌, ℤ, pos, Bool, false, List, [], length, min, sym, ap, ◌∙◌, subst, arith, FitsSigned}
-use Rattle.std.proofs.lemmas.Int.{to_z-of_z}
-use Rattle.std.proofs.lemmas.List.{length-replicate}
-use Rattle.std.proofs.lemmas.List.FromFn.{length-map-range_with_len}
-use Rattle.std.specs.Int.{w128}
-use Rattle.std.specs.Prelude.{replicate}
-use Rattle.board_history.specs.Board.{Answer}
-use Rattle.board_history.specs.Entries.{entries_of}
-use Rattle.board_history.specs.Rounds.{Event}
-use Rattle.board_history.specs.declared.entries.Entry.{Entry}
-use Rattle.uc_model.specs.Data.{unit_count}
-use Rattle.uc_model.specs.PriceRule.{start_prices}
-use Rattle.board_core.specs.Boards.{setup_for}
-use Rattle.board_core.specs.Events.{events_of}
-use Rattle.board_core.specs.Openings.{blank_ledger, with_openings}
-use Rattle.board_core.specs.Parts.{Lists, unset, task_count, IsBoard}
-use Rattle.board_core.specs.Stored.{answers_kept}
-use Rattle.board_core.proofs.Kept.{as_many}
-use Rattle.board_core.proofs.Opened.{IsOpened, opened}
+use Rattle.board_core.proofs.Common.{rules, ◌≡◌, ℕ, ◌*◌, ℤ, pos, Bool, false, List, [], length, min, sym, ap, ◌∙◌, subst, arith, FitsSigned, to_z-of_z, length-replicate, length-map-range_with_len, w128, replicate, Answer, entries_of, Event, Entry, unit_count, start_prices, setup_for, events_of, blank_ledger, with_openings, Lists, unset, task_count, IsBoard, answers_kept}
+use Rattle.board_core.proofs.Lemmas.{as_many, IsOpened, opened}
 use Rattle.board_core.proofs.Starts.{starts, all_unset}
 use Rattle.board_core.proofs.board.Board.make.Goals as goal
 

@@ -1,49 +1,13 @@
-use Rattle.std.proofs.Common.{◌≡◌, ℕ, suc, ◌+◌, ◌-◌, ◌<◌, ◌==◌, ℤ, Bool, true, false, Option, List, [], ◌∷◌, ◌++◌, length, get_or, refl, subst, sym, ap, ◌∙◌, arith, length-append}
-use Rattle.std.proofs.Math.ListN.{set}
-use Rattle.std.specs.List.{All}
-use Rattle.answer_store.specs.Answers.{kept_of}
-use Rattle.board_history.specs.Board.{Answer, Content, rules_of}
-use Rattle.board_history.specs.Bounds.{IsTotal, IsSum}
-use Rattle.board_history.specs.Calls.{post_answer, after_post}
-use Rattle.board_history.specs.Entries.{entry_of}
-use Rattle.board_history.specs.Rounds.{Event, posts, with_post, is_closed, post_event, with_answer}
+use Rattle.board_core.proofs.Common.{◌≡◌, ℕ, suc, ◌+◌, ◌-◌, ◌<◌, ◌==◌, ℤ, Bool, true, false, Option, List, [], ◌∷◌, ◌++◌, length, get_or, refl, subst, sym, ap, ◌∙◌, arith, length-append, set, All, kept_of, Answer, Content, rules_of, IsTotal, IsSum, post_answer, after_post, entry_of, Event, posts, with_post, is_closed, post_event, with_answer, Entry, unit_count, task_unit, prices_of, place, events_of, blank, Lists, unset, sums_of, fronts_of, AreTallies, IsBoard, refusal_of, reply_of, posted_of, closed_if, Sums, Fronts, is_full, IsRound, answer_of, answers_kept, Posts, PostReply, Setup, IsLegalHistory, Difference, AnyUnit, PriceLists, Proposal, int_at, LedgerValue, IsLedger, ◌≤◌}
 use Rattle.board_history.specs.declared.entries.Call.TheVariants as calls
-use Rattle.board_history.specs.declared.entries.Entry.{Entry}
-use Rattle.uc_model.specs.Data.{unit_count}
-use Rattle.uc_model.specs.PlainCases.{task_unit}
-use Rattle.uc_model.specs.PlainUnits.{prices_of}
 use Rattle.board_core.specs.declared.replies.Posted.TheVariants as replies_of
-use Rattle.board_core.specs.Events.{place, events_of}
-use Rattle.board_core.specs.Ledgers.{blank}
-use Rattle.board_core.specs.Parts.{Lists, unset, sums_of, fronts_of, AreTallies, IsBoard}
-use Rattle.board_core.specs.Refusals.{refusal_of, reply_of}
-use Rattle.board_core.specs.Replies.{posted_of, closed_of as closed_if}
-use Rattle.board_core.specs.Rounds.{Sums, Fronts, is_full, IsRound}
-use Rattle.board_core.specs.Stored.{answer_of, answers_kept}
-use Rattle.board_core.proofs.Entries.{content, entries_more}
-use Rattle.board_core.proofs.FlatLists.{is_task}
-use Rattle.board_core.proofs.Halts.{one_less}
-use Rattle.board_core.proofs.Kept.{is_inside, put_kept}
-use Rattle.board_core.proofs.Lists.{place_before}
+use Rattle.board_core.proofs.Lemmas.{content, entries_more, is_task, one_less, is_inside, put_kept, place_before, refusal_is, refused_says, taken_here, supply_small, reserve_small, units_few, entry_is, setup_in, events_in, lists_in, IsTakenHere}
 use Rattle.board_core.proofs.PostEvents.{events_posted}
 use Rattle.board_core.proofs.PostLists.{mark_inside, kept_inside, free, count_few, closes_is}
 use Rattle.board_core.proofs.PostRounds.{rounds_in, sums_small, rows_below, legal_post, posts_are, extends, full_was_open, posted}
 use Rattle.board_core.proofs.PostSums.{IsCounted, place_, supply_was, reserve_was, earned_was, tallies_more, fronts_same, counted_ledger}
-use Rattle.board_core.proofs.Refused.{refusal_is, refused_says}
-use Rattle.board_core.proofs.Takes.{taken_here, supply_small, reserve_small, units_few, entry_is}
 use Rattle.board_core.proofs.board.Board.post.Goals as goal
-use Rattle.board_core.proofs.Inner.{setup_in, events_in, lists_in}
 use Rattle.board_core.proofs.board.Board.post.Goals.{In-Some, In_default, After-place-at, After-put, After-add, After-deref-3}
-use Rattle.board_history.specs.Rounds.{Posts, PostReply}
-use Rattle.board_history.specs.Board.{Setup, IsLegalHistory}
-use Rattle.board_history.specs.Tasks.{Difference}
-use Rattle.uc_model.specs.Data.{AnyUnit, PriceLists}
-use Rattle.uc_model.specs.PriceRule.{Proposal}
-use Rattle.uc_model.specs.Sums.{int_at}
-use Rattle.board_core.specs.Ledgers.{LedgerValue}
-use Rattle.board_core.specs.Parts.{IsLedger}
-use Rattle.board_core.proofs.Takes.{IsTakenHere}
-use Rattle.std.proofs.Common.{◌≤◌}
 
 place_is : (c : After-place-at) → c.place-at.result ≡ place (unit_count (setup_in c.self.inside).market) c.args.task.now.proposal c.args.task.now.unit
 place_is c = c.place-at.ensures ∙ ap (λ (m : ℕ). place m c.args.task.now.proposal c.args.task.now.unit) c.units-units.ensures

@@ -1,13 +1,5 @@
-use Rattle.std.proofs.Common.{List, length, ap, ◌∙◌, arith}
-use Rattle.std.proofs.lemmas.List.{length-map}
-use Rattle.uc_model.specs.Data.{unit_count}
-use Rattle.uc_model.specs.PlainCases.{proposal_of}
-use Rattle.uc_model.specs.PriceRule.{Proposal}
-use Rattle.board_history.specs.Calls.{own_rows}
-use Rattle.board_core.specs.Events.{events_of}
-use Rattle.board_core.specs.Setups.{setup_of}
-use Rattle.board_core.specs.Stored.{answers_kept}
-use Rattle.board_core.proofs.Fronts.{rows_few}
+use Rattle.board_core.proofs.Common.{List, length, ap, ◌∙◌, arith, length-map, unit_count, proposal_of, Proposal, own_rows, events_of, setup_of, answers_kept}
+use Rattle.board_core.proofs.Lemmas.{rows_few}
 use Rattle.board_core.proofs.board.Board.rows.Goals as goal
 
 pub returns-clause-rows : goal.returns-clause-rows

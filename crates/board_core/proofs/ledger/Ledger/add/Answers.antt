@@ -1,15 +1,5 @@
-use Rattle.std.proofs.Common.{◌≡◌, ◌<◌, length, map, sym, ap, ◌∙◌, subst, refl}
-use Rattle.std.specs.List.{All}
-use Rattle.std.specs.Prelude.{slice_index_or, slice_set}
-use Rattle.dual_value.specs.Totals.{IsTotal}
-use Rattle.uc_model.specs.PlainCases.{proposal_of, task_unit}
-use Rattle.uc_model.specs.PlainUnits.{schedule_of}
-use Rattle.uc_model.specs.PriceRule.{Proposal}
-use Rattle.board_core.specs.Ledgers.{LedgerValue, with_schedule}
-use Rattle.board_core.proofs.Rows.{at_mapped, set_mapped}
-use Rattle.price_move.specs.Firsts.{IsFirstUpTo}
-use Rattle.price_move.specs.Moves.{values_of}
-use Rattle.board_core.proofs.Bests.{same_values}
+use Rattle.board_core.proofs.Common.{◌≡◌, ◌<◌, length, map, sym, ap, ◌∙◌, subst, refl, All, slice_index_or, slice_set, IsTotal, proposal_of, task_unit, schedule_of, Proposal, LedgerValue, with_schedule, IsFirstUpTo, values_of}
+use Rattle.board_core.proofs.Lemmas.{at_mapped, set_mapped, same_values}
 use Rattle.board_core.proofs.ledger.Ledger.add.Goals as goal
 
 pub add_answer-requires-clause-horizon : goal.add_answer-requires-clause-horizon

@@ -1,9 +1,5 @@
-use Rattle.std.proofs.Common.{◌≤◌, map, take, sym, subst, arith}
-use Rattle.price_move.specs.Firsts.{IsFirstUpTo}
-use Rattle.price_move.specs.Moves.{values_of}
-use Rattle.uc_model.specs.PlainCases.{proposal_of}
-use Rattle.board_core.specs.Ledgers.{LedgerValue}
-use Rattle.board_core.proofs.Bests.{first_of_taken}
+use Rattle.board_core.proofs.Common.{◌≤◌, map, take, sym, subst, arith, IsFirstUpTo, values_of, proposal_of, LedgerValue}
+use Rattle.board_core.proofs.Lemmas.{first_of_taken}
 use Rattle.board_core.proofs.ledger.Ledger.best.Goals as goal
 
 pub returns : goal.returns

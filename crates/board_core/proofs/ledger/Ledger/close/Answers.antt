@@ -1,15 +1,5 @@
-use Rattle.std.proofs.Common.{rules, ◌≡◌, ◌<◌, List, length, map, sym, ap, subst, ◌∙◌, FitsSigned}
-use Rattle.std.proofs.lemmas.Int.{to_z-of_z}
-use Rattle.std.specs.Int.{w128}
-use Rattle.std.specs.Prelude.{slice_index_or, slice_set}
-use Rattle.uc_model.specs.PlainCases.{proposal_of}
-use Rattle.uc_model.specs.PriceRule.{Proposal}
-use Rattle.uc_model.specs.declared.cases.Row.{Row}
-use Rattle.board_core.specs.Ledgers.{LedgerValue, with_value}
-use Rattle.board_core.proofs.Rows.{set_mapped}
-use Rattle.price_move.specs.Firsts.{IsFirstUpTo}
-use Rattle.price_move.specs.Moves.{values_of}
-use Rattle.board_core.proofs.Bests.{kept_first}
+use Rattle.board_core.proofs.Common.{rules, ◌≡◌, ◌<◌, List, length, map, sym, ap, subst, ◌∙◌, FitsSigned, to_z-of_z, w128, slice_index_or, slice_set, proposal_of, Proposal, Row, LedgerValue, with_value, IsFirstUpTo, values_of}
+use Rattle.board_core.proofs.Lemmas.{set_mapped, kept_first}
 use Rattle.board_core.proofs.ledger.Ledger.close.Goals as goal
 
 pub returns-clause-proposals : goal.returns-clause-proposals

@@ -1,13 +1,5 @@
-use Rattle.std.proofs.Common.{◌≡◌, ◌<◌, length, map, sym, ap, ◌∙◌, subst, refl}
-use Rattle.std.specs.Prelude.{slice_index_or, slice_set}
-use Rattle.uc_model.specs.PlainCases.{proposal_of}
-use Rattle.uc_model.specs.PlainUnits.{prices_of}
-use Rattle.uc_model.specs.PriceRule.{Proposal}
-use Rattle.board_core.specs.Ledgers.{LedgerValue, with_prices}
-use Rattle.board_core.proofs.Rows.{at_mapped, set_mapped}
-use Rattle.price_move.specs.Firsts.{IsFirstUpTo}
-use Rattle.price_move.specs.Moves.{values_of}
-use Rattle.board_core.proofs.Bests.{same_values}
+use Rattle.board_core.proofs.Common.{◌≡◌, ◌<◌, length, map, sym, ap, ◌∙◌, subst, refl, slice_index_or, slice_set, proposal_of, prices_of, Proposal, LedgerValue, with_prices, IsFirstUpTo, values_of}
+use Rattle.board_core.proofs.Lemmas.{at_mapped, set_mapped, same_values}
 use Rattle.board_core.proofs.ledger.Ledger.open.Goals as goal
 
 pub set_prices-requires : goal.set_prices-requires

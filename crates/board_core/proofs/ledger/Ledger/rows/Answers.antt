@@ -1,8 +1,4 @@
-use Rattle.std.proofs.Common.{◌≡◌, List, map, take, sym, ap, ◌∙◌}
-use Rattle.std.proofs.lemmas.List.{take-map}
-use Rattle.uc_model.specs.PlainCases.{proposal_of}
-use Rattle.uc_model.specs.declared.cases.Row.{Row}
-use Rattle.board_core.specs.Ledgers.{LedgerValue}
+use Rattle.board_core.proofs.Common.{◌≡◌, List, map, take, sym, ap, ◌∙◌, take-map, proposal_of, Row, LedgerValue}
 use Rattle.board_core.proofs.ledger.Ledger.rows.Goals as goal
 
 pub returns : goal.returns

@@ -1,4 +1,4 @@
-use Rattle.board_share.proofs.Unmoved.{claim_seen}
+use Rattle.board_share.proofs.Lemmas.{claim_seen}
 use Rattle.board_share.proofs.shared.SharedBoard.claim.Goals as goal
 
 pub returns-clause-unchanged : goal.returns-clause-unchanged

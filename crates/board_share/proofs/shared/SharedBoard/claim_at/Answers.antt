@@ -1,10 +1,5 @@
-use Rattle.std.proofs.Common.{◌≡◌, refl, ap, subst, ◌∙◌}
-use Rattle.board_history.specs.Board.{Content}
-use Rattle.board_history.specs.Calls.{claim_answer, after_claim}
-use Rattle.board_core.specs.Replies.{claim_of}
-use Rattle.board_core.specs.Tasks.{LeavesTask}
-use Rattle.board_share.specs.Views.{View}
-use Rattle.board_share.proofs.WholeCalls.{calls, same_hand, handed, claim_goes_on}
+use Rattle.board_share.proofs.Common.{◌≡◌, refl, ap, subst, ◌∙◌, Content, claim_answer, after_claim, claim_of, LeavesTask, View}
+use Rattle.board_share.proofs.Lemmas.{calls, same_hand, handed, claim_goes_on}
 use Rattle.board_share.proofs.shared.SharedBoard.claim_at.Goals as goal
 
 pub finish-requires-clause-turn : goal.finish-requires-clause-turn

@@ -1,7 +1,4 @@
-use Rattle.std.proofs.Common.{◌≡◌, length, sym, ap, ◌∙◌}
-use mathlib.Core.Option.{some-injective}
-use Rattle.board_share.specs.Seats.{SeatValue}
-use Rattle.board_share.specs.Views.{content}
+use Rattle.board_share.proofs.Common.{◌≡◌, length, sym, ap, ◌∙◌, some-injective, SeatValue, content}
 use Rattle.board_share.proofs.Ends.{ends_with}
 use Rattle.board_share.proofs.shared.SharedBoard.close.Goals as goal
 

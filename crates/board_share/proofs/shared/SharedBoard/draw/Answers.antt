@@ -1,5 +1,5 @@
-use Rattle.std.proofs.Common.{rules}
-use Rattle.board_share.proofs.Steps.{draws}
+use Rattle.board_share.proofs.Common.{rules}
+use Rattle.board_share.proofs.Lemmas.{draws}
 use Rattle.board_share.proofs.shared.SharedBoard.draw.Goals as goal
 
 pub fetch_add-requires : goal.fetch_add-requires

@@ -1,5 +1,5 @@
-use Rattle.std.proofs.Common.{rules, []}
-use Rattle.board_share.proofs.Steps.{passes}
+use Rattle.board_share.proofs.Common.{rules, []}
+use Rattle.board_share.proofs.Lemmas.{passes}
 use Rattle.board_share.proofs.shared.SharedBoard.finish.Goals as goal
 
 pub fetch_add-requires : goal.fetch_add-requires

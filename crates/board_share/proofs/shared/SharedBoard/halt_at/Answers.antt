@@ -1,7 +1,5 @@
-use Rattle.std.proofs.Common.{ap, ◌∙◌}
-use Rattle.board_history.specs.Board.{Content}
-use Rattle.board_history.specs.Calls.{after_halt}
-use Rattle.board_share.proofs.WholeCalls.{calls, same_hand}
+use Rattle.board_share.proofs.Common.{ap, ◌∙◌, Content, after_halt}
+use Rattle.board_share.proofs.Lemmas.{calls, same_hand}
 use Rattle.board_share.proofs.shared.SharedBoard.halt_at.Goals as goal
 
 pub returns-clause-called : goal.returns-clause-called

@@ -1,8 +1,5 @@
-use Rattle.std.proofs.Common.{ap, subst}
-use Rattle.board_share.specs.Seats.{SeatValue}
-use Rattle.board_share.specs.Tells.{HasJoined}
-use Rattle.board_share.specs.Views.{View}
-use Rattle.board_share.proofs.Joins.{has_joined}
+use Rattle.board_share.proofs.Common.{ap, subst, SeatValue, HasJoined, View}
+use Rattle.board_share.proofs.Lemmas.{has_joined}
 use Rattle.board_share.proofs.shared.SharedBoard.join.Goals as goal
 
 pub returns-clause-joined : goal.returns-clause-joined

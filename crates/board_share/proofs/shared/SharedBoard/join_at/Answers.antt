@@ -1,5 +1,5 @@
-use Rattle.std.proofs.Common.{rules, ap}
-use Rattle.board_share.proofs.Joins.{joins, tells}
+use Rattle.board_share.proofs.Common.{rules, ap}
+use Rattle.board_share.proofs.Lemmas.{joins, tells}
 use Rattle.board_share.proofs.shared.SharedBoard.join_at.Goals as goal
 
 pub join_seat-requires : goal.join_seat-requires

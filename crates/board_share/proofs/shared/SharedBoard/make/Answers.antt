@@ -1,11 +1,6 @@
-use Rattle.std.proofs.Common.{◌≡◌, ℕ, List, [], ◌∷◌, ◌++◌, length, sym, ap, subst, ◌∙◌}
-use Rattle.atomic_table.specs.Table.{opening}
-use Rattle.board_history.specs.Board.{Content}
-use Rattle.board_history.specs.declared.entries.Entry.{Entry}
-use Rattle.board_share.specs.Views.{first_view}
-use Rattle.board_share.specs.Rule.{Shared}
+use Rattle.board_share.proofs.Common.{◌≡◌, ℕ, List, [], ◌∷◌, ◌++◌, length, sym, ap, subst, ◌∙◌, opening, Content, Entry, first_view, Shared}
 use Rattle.board_share.proofs.Begins.{starts}
-use Rattle.board_share.proofs.WholeCalls.{length-entries}
+use Rattle.board_share.proofs.Lemmas.{length-entries}
 use Rattle.board_share.proofs.shared.SharedBoard.make.Goals as goal
 
 pub new-requires : goal.new-requires

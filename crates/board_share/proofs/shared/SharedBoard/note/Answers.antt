@@ -1,5 +1,5 @@
-use Rattle.std.proofs.Common.{rules, []}
-use Rattle.board_share.proofs.Steps.{grows, grown_by}
+use Rattle.board_share.proofs.Common.{rules, []}
+use Rattle.board_share.proofs.Lemmas.{grows, grown_by}
 use Rattle.board_share.proofs.shared.SharedBoard.note.Goals as goal
 
 pub store-requires : goal.store-requires

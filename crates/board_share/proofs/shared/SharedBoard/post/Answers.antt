@@ -1,15 +1,5 @@
-use Rattle.std.proofs.Common.{◌≡◌, ℕ, subst, sym, ap, ◌∙◌}
-use Rattle.board_history.specs.Board.{Content}
-use Rattle.board_history.specs.Calls.{post_answer, after_post}
-use Rattle.uc_model.specs.PlainCases.{task_unit}
-use Rattle.uc_model.specs.PlainUnits.{prices_of}
-use Rattle.board_core.specs.Replies.{posted_of}
-use Rattle.board_core.specs.Stored.{answer_of}
-use Rattle.board_share.specs.Seats.{SeatValue}
-use Rattle.board_share.specs.Tells.{Called}
-use Rattle.board_share.specs.Unchanged.{UnlessTaken}
-use Rattle.board_share.specs.Views.{View, content}
-use Rattle.board_share.proofs.Unmoved.{post_seen}
+use Rattle.board_share.proofs.Common.{◌≡◌, ℕ, subst, sym, ap, ◌∙◌, Content, post_answer, after_post, task_unit, prices_of, posted_of, answer_of, SeatValue, Called, UnlessTaken, View, content}
+use Rattle.board_share.proofs.Lemmas.{post_seen}
 use Rattle.board_share.proofs.shared.SharedBoard.post.Goals as goal
 
 pub returns-clause-call : goal.returns-clause-call

@@ -1,12 +1,5 @@
-use Rattle.std.proofs.Common.{◌≡◌, refl, ap, subst, ◌∙◌}
-use Rattle.board_history.specs.Board.{Content}
-use Rattle.board_history.specs.Calls.{post_answer, after_post}
-use Rattle.uc_model.specs.PlainCases.{task_unit}
-use Rattle.uc_model.specs.PlainUnits.{prices_of}
-use Rattle.board_core.specs.Replies.{posted_of}
-use Rattle.board_core.specs.Stored.{answer_of}
-use Rattle.board_share.specs.Views.{View}
-use Rattle.board_share.proofs.WholeCalls.{calls, same_hand, handed, post_goes_on}
+use Rattle.board_share.proofs.Common.{◌≡◌, refl, ap, subst, ◌∙◌, Content, post_answer, after_post, task_unit, prices_of, posted_of, answer_of, View}
+use Rattle.board_share.proofs.Lemmas.{calls, same_hand, handed, post_goes_on}
 use Rattle.board_share.proofs.shared.SharedBoard.post_at.Goals as goal
 
 pub finish-requires-clause-turn : goal.finish-requires-clause-turn

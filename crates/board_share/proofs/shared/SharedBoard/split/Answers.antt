@@ -1,5 +1,4 @@
-use Rattle.std.proofs.Common.{rules, ◌≡◌, sym, ap, ◌∙◌, arith}
-use Rattle.board_share.specs.Seats.{SeatValue}
+use Rattle.board_share.proofs.Common.{rules, ◌≡◌, sym, ap, ◌∙◌, arith, SeatValue}
 use Rattle.board_share.proofs.Splits.{splits}
 use Rattle.board_share.proofs.shared.SharedBoard.split.Goals as goal
 

@@ -1,8 +1,5 @@
-use Rattle.std.proofs.Common.{refl, rules, ◌∷◌, ap, ◌∙◌}
-use mathlib.Core.Option.{none}
-use Rattle.atomic_table.specs.Table.{step}
-use Rattle.board_share.proofs.Steps.{looks, took_from}
-use Rattle.board_share.specs.Views.{content}
+use Rattle.board_share.proofs.Common.{refl, rules, ◌∷◌, ap, ◌∙◌, none, step, content}
+use Rattle.board_share.proofs.Lemmas.{looks, took_from}
 use Rattle.board_share.proofs.shared.SharedBoard.take_turn.Goals as goal
 
 pub load-requires : goal.load-requires

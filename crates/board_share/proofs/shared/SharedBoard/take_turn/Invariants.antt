@@ -1,4 +1,4 @@
-use Rattle.std.proofs.Common.{◌≡◌}
+use Rattle.board_share.proofs.Common.{◌≡◌}
 use Rattle.board_share.proofs.shared.SharedBoard.take_turn.Given as goal
 
 abbrev pub invariant-loop : goal.invariant-loop

@@ -1,5 +1,5 @@
-use Rattle.std.proofs.Common.{arith}
-use Rattle.case_make.proofs.Bounds.{has_range}
+use Rattle.case_make.proofs.Common.{arith}
+use Rattle.case_make.proofs.Lemmas.{has_range}
 use Rattle.case_make.proofs.draws.UnitDraws.high.Goals as goal
 
 pub overflow_add-result : goal.overflow_add-result

@@ -1,6 +1,5 @@
-use Rattle.std.proofs.Common.{arith}
-use Rattle.std.proofs.lemmas.Nat.{mul-le}
-use Rattle.case_make.proofs.Bounds.{max_range}
+use Rattle.case_make.proofs.Common.{arith, mul-le}
+use Rattle.case_make.proofs.Lemmas.{max_range}
 use Rattle.case_make.proofs.draws.UnitDraws.min_power.Goals as goal
 
 pub overflow_mul-result : goal.overflow_mul-result

@@ -1,5 +1,5 @@
-use Rattle.std.proofs.Common.{arith}
-use Rattle.case_make.proofs.Bounds.{has_range}
+use Rattle.case_make.proofs.Common.{arith}
+use Rattle.case_make.proofs.Lemmas.{has_range}
 use Rattle.case_make.proofs.draws.UnitDraws.reserve.Goals as goal
 
 pub overflow_sub-above : goal.overflow_sub-above

@@ -1,6 +1,5 @@
-use Rattle.std.proofs.Common.{ap, map}
-use Rattle.uc_model.specs.PlainUnits.{schedule_of}
-use Rattle.case_make.proofs.SumLaws.{no_sums}
+use Rattle.case_make.proofs.Common.{ap, map, schedule_of}
+use Rattle.case_make.proofs.Lemmas.{no_sums}
 use Rattle.case_make.proofs.growing.Growing.make.Goals as goal
 
 pub returns-clause-summed : goal.returns-clause-summed

@@ -1,6 +1,5 @@
-use Rattle.std.proofs.Common.{length, arith}
-use Rattle.uc_model.specs.PlainCases.{market_of}
-use Rattle.dealt_run.proofs.Keeping.{starts, starts_within}
+use Rattle.dealt_run.proofs.Common.{length, arith, market_of}
+use Rattle.dealt_run.proofs.Lemmas.{starts, starts_within}
 use Rattle.dealt_run.proofs.answerer.Answerer.begin.Goals as goal
 
 pub invariant_of-self-3-clause-kept : goal.invariant_of-self-3-clause-kept

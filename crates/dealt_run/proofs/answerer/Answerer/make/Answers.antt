@@ -1,8 +1,6 @@
-use Rattle.std.proofs.Common.{refl}
+use Rattle.dealt_run.proofs.Common.{refl, market_of, prices_of}
 use Rattle.slope_list.specs.Slopes.{room_of}
-use Rattle.uc_model.specs.PlainCases.{market_of}
-use Rattle.uc_model.specs.PlainUnits.{prices_of}
-use Rattle.dealt_run.proofs.Keeping.{starts, starts_within}
+use Rattle.dealt_run.proofs.Lemmas.{starts, starts_within}
 use Rattle.dealt_run.proofs.answerer.Answerer.make.Goals as goal
 
 pub invariant_of-result-clause-some : goal.invariant_of-result-clause-some

@@ -1,10 +1,5 @@
-use Rattle.std.proofs.Common.{◌≡◌, ℕ, ◌+◌, sym, subst, length, arith}
-use Rattle.uc_model.specs.PlainCases.{market_of}
-use Rattle.uc_model.specs.PlainUnits.{prices_of}
-use Rattle.dealt_run.specs.Sums.{AreWithin}
-use Rattle.dealt_run.proofs.Keeping.{keeps_more, few_units}
-use Rattle.dealt_run.proofs.RunLaws.{one_longer}
-use Rattle.dealt_run.proofs.Small.{within_wider}
+use Rattle.dealt_run.proofs.Common.{◌≡◌, ℕ, ◌+◌, sym, subst, length, arith, market_of, prices_of, AreWithin}
+use Rattle.dealt_run.proofs.Lemmas.{keeps_more, few_units, one_longer, within_wider}
 use Rattle.dealt_run.proofs.answerer.AnswererJob.run.Goals as goal
 
 pub count_at-requires-clause-within : goal.count_at-requires-clause-within

@@ -1,7 +1,5 @@
-use Rattle.std.proofs.Common.{refl, inl}
-use Rattle.uc_model.specs.PlainUnits.{thermal_of}
-use Rattle.period_table.specs.Rows.{cost_at}
-use Rattle.period_table.proofs.OriginLaws.{begun_right, begun_ripe}
+use Rattle.period_table.proofs.Common.{refl, inl, thermal_of, cost_at}
+use Rattle.period_table.proofs.Lemmas.{begun_right, begun_ripe}
 use Rattle.period_table.proofs.origins.Origins.begin.Goals as goal
 
 pub take_ripe-requires-clause-right : goal.take_ripe-requires-clause-right

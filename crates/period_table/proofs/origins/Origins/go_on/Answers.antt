@@ -1,10 +1,5 @@
-use Rattle.std.proofs.Common.{◌≡◌, ◌+◌, ◌<◌, ◌⊎◌, ℕ, suc, Some, refl, subst, arith}
-use Rattle.std.specs.Prelude.{slice_get}
-use Rattle.uc_model.specs.PlainUnits.{thermal_of}
-use Rattle.period_table.specs.declared.origins.Origin.{Origin}
-use Rattle.period_table.specs.Origins.{IsRipe, IsOrigin, HasOrigin, AreRight}
-use Rattle.period_table.specs.Rows.{cost_at}
-use Rattle.period_table.proofs.OriginLaws.{right_more, ripe_later, ripe_or_there, cleared}
+use Rattle.period_table.proofs.Common.{◌≡◌, ◌+◌, ◌<◌, ◌⊎◌, ℕ, suc, Some, refl, subst, arith, slice_get, thermal_of, Origin, IsRipe, IsOrigin, HasOrigin, AreRight, cost_at}
+use Rattle.period_table.proofs.Lemmas.{right_more, ripe_later, ripe_or_there, cleared}
 use Rattle.period_table.proofs.origins.Origins.go_on.Goals as goal
 
 pub returns-then-must_be_on-clause-origins : goal.returns-then-must_be_on-clause-origins

@@ -1,15 +1,5 @@
-use Rattle.std.proofs.Common.{rules, ◌≡◌, ◌⊎◌, inl, inr, ℕ, suc, ◌+◌, ◌*◌, ◌+ℤ◌, Option, Some, None, ℤ, refl, ap, ◌∙◌, subst, arith}
-use Rattle.std.specs.Prelude.{FitsSigned, IfSome, IfNone}
-use Rattle.std.specs.Int.{w64}
-use Rattle.std.proofs.lemmas.Int.{ints, to_z-of_z}
-use Rattle.uc_model.specs.PlainUnits.{thermal_of}
-use Rattle.period_table.specs.declared.table.Entry.{Entry}
-use Rattle.period_table.specs.Origins.{AreOrigins}
-use Rattle.period_table.specs.Rows.{HasEntryAtMost, IsWithinTimes}
-use Rattle.period_table.specs.Spells.{start_cost_after}
-use Rattle.period_table.specs.Tables.{IsEntry, IsLeastEntry}
-use Rattle.period_table.proofs.LiveLaws.{if_some}
-use Rattle.period_table.proofs.OriginLaws.{IsLeastUpTo, one_more, least_of_origins, none_of_origins}
+use Rattle.period_table.proofs.Common.{rules, ◌≡◌, ◌⊎◌, inl, inr, ℕ, suc, ◌+◌, ◌*◌, ◌+ℤ◌, Option, Some, None, ℤ, refl, ap, ◌∙◌, subst, arith, FitsSigned, IfSome, IfNone, w64, ints, to_z-of_z, thermal_of, Entry, AreOrigins, HasEntryAtMost, IsWithinTimes, start_cost_after, IsEntry, IsLeastEntry}
+use Rattle.period_table.proofs.Lemmas.{if_some, IsLeastUpTo, one_more, least_of_origins, none_of_origins}
 use Rattle.period_table.proofs.origins.Origins.least.Goals as goal
 
 pub sum_of-cost-requires-clause-a : goal.sum_of-cost-requires-clause-a

@@ -1,5 +1,5 @@
-use Rattle.uc_model.specs.PlainUnits.{thermal_of}
-use Rattle.period_table.proofs.OriginLaws.{IsLeastUpTo}
+use Rattle.period_table.proofs.Common.{thermal_of}
+use Rattle.period_table.proofs.Lemmas.{IsLeastUpTo}
 use Rattle.period_table.proofs.origins.Origins.least.Given as goal
 
 abbrev pub invariant-loop-place : goal.invariant-loop-place

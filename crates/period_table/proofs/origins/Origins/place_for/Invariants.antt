@@ -1,6 +1,4 @@
-use Rattle.std.proofs.Common.{◌≡◌, ℕ, ◌-◌, ◌<◌, ◌≤◌, Some, pos, ◌+ℤ◌, ◌≤ℤ◌}
-use Rattle.std.specs.Prelude.{slice_get}
-use Rattle.period_table.specs.declared.origins.Origin.{Origin}
+use Rattle.period_table.proofs.Common.{◌≡◌, ℕ, ◌-◌, ◌<◌, ◌≤◌, Some, pos, ◌+ℤ◌, ◌≤ℤ◌, slice_get, Origin}
 use Rattle.period_table.proofs.origins.Origins.place_for.Given as goal
 
 abbrev pub invariant-loop-back : goal.invariant-loop-back

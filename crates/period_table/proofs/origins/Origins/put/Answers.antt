@@ -1,9 +1,5 @@
-use Rattle.std.proofs.Common.{rules, ◌≡◌, ℕ, suc, ◌<◌, ◌≤◌, Some, pos, ◌+ℤ◌, ◌≤ℤ◌, List, refl, ap, ◌∙◌, arith}
-use Rattle.std.specs.Prelude.{FitsSigned, IsTrue, slice_get}
-use Rattle.std.specs.Int.{w64}
-use Rattle.std.proofs.lemmas.Int.{to_z-of_z}
-use Rattle.period_table.specs.declared.origins.Origin.{Origin}
-use Rattle.period_table.proofs.LiveLaws.{get_set_same, get_set_other}
+use Rattle.period_table.proofs.Common.{rules, ◌≡◌, ℕ, suc, ◌<◌, ◌≤◌, Some, pos, ◌+ℤ◌, ◌≤ℤ◌, List, refl, ap, ◌∙◌, arith, FitsSigned, IsTrue, slice_get, w64, to_z-of_z, Origin}
+use Rattle.period_table.proofs.Lemmas.{get_set_same, get_set_other}
 use Rattle.period_table.proofs.origins.Origins.put.Goals as goal
 
 pub returns-clause-put : goal.returns-clause-put

@@ -1,14 +1,5 @@
-use Rattle.std.proofs.Common.{rules, ◌≡◌, sym, ap, ◌∙◌, arith}
-use Rattle.std.specs.Prelude.{FitsSigned}
-use Rattle.std.specs.Int.{w64}
-use Rattle.std.proofs.lemmas.Int.{to_z-of_z}
-use Rattle.uc_model.specs.PlainUnits.{thermal_of}
-use Rattle.period_table.specs.declared.origins.Origin.{Origin}
-use Rattle.period_table.specs.Origins.{IsRipe, IsOrigin, IsOriginPut}
-use Rattle.period_table.specs.Rows.{cost_at}
-use Rattle.period_table.proofs.LiveLaws.{if_some}
-use Rattle.period_table.proofs.OriginLaws.{none_ripe, put_ripe}
-use Rattle.period_table.proofs.RowLaws.{cost-is, cost_from}
+use Rattle.period_table.proofs.Common.{rules, ◌≡◌, sym, ap, ◌∙◌, arith, FitsSigned, w64, to_z-of_z, thermal_of, Origin, IsRipe, IsOrigin, IsOriginPut, cost_at}
+use Rattle.period_table.proofs.Lemmas.{if_some, none_ripe, put_ripe, cost-is, cost_from}
 use Rattle.period_table.proofs.origins.Origins.take_ripe.Goals as goal
 
 pub returns-in_default-clause-origins : goal.returns-in_default-clause-origins

@@ -1,7 +1,5 @@
-use Rattle.std.proofs.Common.{◌≡◌, ℕ, ◌<◌, false, List, length, refl, ap, ◌∙◌, arith, length-set}
-use Rattle.period_table.specs.Live.{live_at}
-use Rattle.period_table.proofs.RosterLaws.{none_kept, one_kept, one_off, all_kept, first_inside}
-use Rattle.period_table.proofs.RunAllLaws.{item_same, item_off}
+use Rattle.period_table.proofs.Common.{◌≡◌, ℕ, ◌<◌, false, List, length, refl, ap, ◌∙◌, arith, length-set, live_at}
+use Rattle.period_table.proofs.Lemmas.{none_kept, one_kept, one_off, all_kept, first_inside, item_same, item_off}
 use Rattle.period_table.proofs.roster.Roster.keep.Goals as goal
 use Rattle.period_table.proofs.roster.Roster.keep.Goals.{then-runners-first, else-runners-first}
 

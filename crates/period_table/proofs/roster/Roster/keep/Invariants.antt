@@ -1,7 +1,5 @@
-use Rattle.std.proofs.Common.{◌≡◌, ℕ, ◌≤◌, length}
-use Rattle.period_table.specs.Live.{live_at}
-use Rattle.period_table.specs.Rosters.{IsRoster}
-use Rattle.period_table.proofs.RosterLaws.{IsKeptTo}
+use Rattle.period_table.proofs.Common.{◌≡◌, ℕ, ◌≤◌, length, live_at, IsRoster}
+use Rattle.period_table.proofs.Lemmas.{IsKeptTo}
 use Rattle.period_table.proofs.roster.Roster.keep.Given as goal
 
 abbrev pub invariant-loop-place : goal.invariant-loop-place

@@ -1,6 +1,4 @@
-use Rattle.std.proofs.Common.{◌≡◌, to_z, of_z}
-use Rattle.std.specs.Int.{w64}
-use Rattle.std.proofs.lemmas.Int.{to_z-of_z}
+use Rattle.point_list.proofs.Common.{◌≡◌, to_z, of_z, w64, to_z-of_z}
 use Rattle.point_list.proofs.breaks.BreaksShape.add_curve.Goals as goal
 
 pub add_curve-requires-clause-fits : goal.add_curve-requires-clause-fits

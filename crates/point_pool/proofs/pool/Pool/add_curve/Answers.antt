@@ -1,8 +1,5 @@
-use Rattle.std.proofs.Common.{◌≡◌, ◌≤◌, length, ◌∙◌, arith, to_z, of_z}
-use Rattle.shape_law.specs.Curve.{curve_value}
-use Rattle.std.specs.Int.{w64}
-use Rattle.std.proofs.lemmas.Int.{to_z-of_z}
-use Rattle.point_pool.proofs.ListLaws.{written, breaks, can_add_curve, left_list, curve_sum}
+use Rattle.point_pool.proofs.Common.{◌≡◌, ◌≤◌, length, ◌∙◌, arith, to_z, of_z, curve_value, w64, to_z-of_z}
+use Rattle.point_pool.proofs.Lemmas.{written, breaks, can_add_curve, left_list, curve_sum}
 use Rattle.point_pool.proofs.pool.Pool.add_curve.Goals as goal
 
 pub curve_step-requires-clause-breaks : goal.curve_step-requires-clause-breaks

@@ -1,8 +1,5 @@
-use Rattle.std.proofs.Common.{◌≡◌, ◌≤◌, length, ◌∙◌, arith, to_z, of_z}
-use Rattle.std.specs.Prelude.{ℤ, ◌*ℤ◌}
-use Rattle.std.specs.Int.{w64}
-use Rattle.std.proofs.lemmas.Int.{to_z-of_z}
-use Rattle.point_pool.proofs.ListLaws.{written, breaks, can_add, left_list, sum}
+use Rattle.point_pool.proofs.Common.{◌≡◌, ◌≤◌, length, ◌∙◌, arith, to_z, of_z, ℤ, ◌*ℤ◌, w64, to_z-of_z}
+use Rattle.point_pool.proofs.Lemmas.{written, breaks, can_add, left_list, sum}
 use Rattle.point_pool.proofs.pool.Pool.add_line.Goals as goal
 
 pub line_step-requires-clause-breaks : goal.line_step-requires-clause-breaks

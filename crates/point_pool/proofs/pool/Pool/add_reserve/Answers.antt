@@ -1,8 +1,5 @@
-use Rattle.std.proofs.Common.{◌≡◌, ◌≤◌, length, ◌∙◌, arith, to_z, of_z}
-use Rattle.shape_law.specs.Curve.{reserve_term}
-use Rattle.std.specs.Int.{w64}
-use Rattle.std.proofs.lemmas.Int.{to_z-of_z}
-use Rattle.point_pool.proofs.ListLaws.{written, breaks, can_add, left_list, sum}
+use Rattle.point_pool.proofs.Common.{◌≡◌, ◌≤◌, length, ◌∙◌, arith, to_z, of_z, reserve_term, w64, to_z-of_z}
+use Rattle.point_pool.proofs.Lemmas.{written, breaks, can_add, left_list, sum}
 use Rattle.point_pool.proofs.pool.Pool.add_reserve.Goals as goal
 
 pub kink_step-requires-clause-breaks : goal.kink_step-requires-clause-breaks

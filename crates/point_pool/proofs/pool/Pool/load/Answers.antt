@@ -1,9 +1,5 @@
-use Rattle.std.proofs.Common.{◌≡◌, ℕ, ◌+◌, ◌-◌, ◌<◌, ◌≤◌, length, arith, ap, ◌∙◌, sym, refl, List, [], ◌∷◌, ◌++◌, take, inl, inr, append_assoc}
-use Rattle.std.proofs.lemmas.List.{get_or_read, take_more_set}
-use Rattle.point_pool.specs.Walk.{walk, slot_at, knots_at, no_slot, AreUsed}
-use Rattle.point_pool.specs.declared.slot.Slot.{Slot}
-use Rattle.point_pool.specs.CellLaws.{inside_if_used, length-walk}
-use Rattle.point_pool.proofs.WalkLaws.{walk_more, length_if_used, lists_fit}
+use Rattle.point_pool.proofs.Common.{◌≡◌, ℕ, ◌+◌, ◌-◌, ◌<◌, ◌≤◌, length, arith, ap, ◌∙◌, sym, refl, List, [], ◌∷◌, ◌++◌, take, inl, inr, append_assoc, get_or_read, take_more_set, walk, slot_at, knots_at, no_slot, AreUsed, Slot, inside_if_used, length-walk}
+use Rattle.point_pool.proofs.Lemmas.{walk_more, length_if_used, lists_fit}
 use Rattle.point_pool.proofs.pool.Pool.load.Goals as goal
 
 -- a list of used slots is no longer than the slots

@@ -1,5 +1,4 @@
-use Rattle.std.proofs.Common.{◌≡◌, ◌-◌, ◌++◌, take}
-use Rattle.point_pool.specs.Walk.{walk, knots_at, AreUsed}
+use Rattle.point_pool.proofs.Common.{◌≡◌, ◌-◌, ◌++◌, take, walk, knots_at, AreUsed}
 use Rattle.point_pool.proofs.pool.Pool.load.Given as goal
 
 abbrev pub invariant-loop-k : goal.invariant-loop-k

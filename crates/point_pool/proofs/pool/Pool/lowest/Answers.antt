@@ -1,12 +1,5 @@
-use Rattle.std.proofs.Common.{rules, ◌≡◌, ◌+◌, ◌-◌, sym, ap, ◌∙◌, subst, arith, to_z, of_z}
-use Rattle.std.specs.Prelude.{◌≤ℤ◌, ◌<ℤ◌, FitsSigned}
-use Rattle.std.specs.Int.{w64}
-use Rattle.std.proofs.lemmas.Int.{ints, to_z-of_z}
-use Rattle.std.proofs.lemmas.List.{get_or_read}
-use Rattle.ramp_step.specs.declared.breakpoint.Knot.{Knot}
-use Rattle.ramp_step.specs.Knots.{knot, height}
-use Rattle.point_pool.specs.Walk.{no_slot, slot_at, walk, knots_at}
-use Rattle.point_pool.proofs.ReadLaws.{IsCellAt, IsCellAt-first, IsCellAt-next, IsAtTurn-here}
+use Rattle.point_pool.proofs.Common.{rules, ◌≡◌, ◌+◌, ◌-◌, sym, ap, ◌∙◌, subst, arith, to_z, of_z, ◌≤ℤ◌, ◌<ℤ◌, FitsSigned, w64, ints, to_z-of_z, get_or_read, Knot, knot, height, no_slot, slot_at, walk, knots_at}
+use Rattle.point_pool.proofs.Lemmas.{IsCellAt, IsCellAt-first, IsCellAt-next, IsAtTurn-here}
 use Rattle.point_pool.proofs.pool.Pool.lowest.Goals as goal
 
 pub index-slot-requires : goal.index-slot-requires

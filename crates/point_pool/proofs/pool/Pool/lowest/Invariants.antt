@@ -1,8 +1,5 @@
-use Rattle.std.proofs.Common.{◌-◌, ◌<◌}
-use Rattle.std.specs.Prelude.{◌<ℤ◌}
-use Rattle.ramp_step.specs.Knots.{height}
-use Rattle.point_pool.specs.Walk.{walk, knots_at}
-use Rattle.point_pool.proofs.ReadLaws.{IsCellAt}
+use Rattle.point_pool.proofs.Common.{◌-◌, ◌<◌, ◌<ℤ◌, height, walk, knots_at}
+use Rattle.point_pool.proofs.Lemmas.{IsCellAt}
 use Rattle.point_pool.proofs.pool.Pool.lowest.Given as goal
 
 abbrev pub invariant-loop-done : goal.invariant-loop-done

@@ -1,5 +1,4 @@
-use Rattle.std.proofs.Common.{arith}
-use Rattle.point_pool.specs.CellLaws.{slot_if_used, differ, inside_if_used}
+use Rattle.point_pool.proofs.Common.{arith, slot_if_used, differ, inside_if_used}
 use Rattle.point_pool.proofs.pool.Pool.make.Goals as goal
 
 pub returns-clause-free : goal.returns-clause-free

@@ -1,5 +1,4 @@
-use Rattle.std.proofs.Common.{◌≡◌, ℕ, ◌<◌, ◌≤◌, true, false, length}
-use Rattle.point_pool.specs.Walk.{slot_at}
+use Rattle.point_pool.proofs.Common.{◌≡◌, ℕ, ◌<◌, ◌≤◌, true, false, length, slot_at}
 use Rattle.point_pool.proofs.pool.Pool.make.Given as goal
 
 abbrev pub invariant-loop-number : goal.invariant-loop-number

@@ -1,10 +1,5 @@
-use Rattle.std.proofs.Common.{◌≡◌, ℕ, ◌+◌, ◌<◌, ◌≤◌, false, length, arith, ◌∙◌, sym, subst, refl, ◌^◌, List, set}
-use Rattle.std.specs.Prelude.{pos}
-use Rattle.std.proofs.lemmas.List.{length-set}
-use Rattle.point_pool.specs.Walk.{walk}
-use Rattle.point_pool.specs.declared.slot.Slot.{Slot}
-use Rattle.point_pool.specs.CellLaws.{length-walk}
-use Rattle.point_pool.proofs.WalkLaws.{free_cons, length_if_free}
+use Rattle.point_pool.proofs.Common.{◌≡◌, ℕ, ◌+◌, ◌<◌, ◌≤◌, false, length, arith, ◌∙◌, sym, subst, refl, ◌^◌, List, set, pos, length-set, walk, Slot, length-walk}
+use Rattle.point_pool.proofs.Lemmas.{free_cons, length_if_free}
 use Rattle.point_pool.proofs.pool.Pool.put.Goals as goal
 
 pub overflow_add-self : goal.overflow_add-self

@@ -1,9 +1,5 @@
-use Rattle.std.proofs.Common.{◌≡◌, ℕ, ◌+◌, ◌-◌, ◌<◌, arith, ap, ◌∙◌, refl, List, ◌∷◌, inl}
-use Rattle.std.proofs.lemmas.List.{get_or_read}
-use Rattle.point_pool.specs.Walk.{walk, slot_at, no_slot}
-use Rattle.point_pool.specs.declared.slot.Slot.{Slot}
-use Rattle.point_pool.specs.CellLaws.{inside_if_used}
-use Rattle.point_pool.proofs.WalkLaws.{Releasing, releasing_more, walk_more}
+use Rattle.point_pool.proofs.Common.{◌≡◌, ℕ, ◌+◌, ◌-◌, ◌<◌, arith, ap, ◌∙◌, refl, List, ◌∷◌, inl, get_or_read, walk, slot_at, no_slot, Slot, inside_if_used}
+use Rattle.point_pool.proofs.Lemmas.{Releasing, releasing_more, walk_more}
 use Rattle.point_pool.proofs.pool.Pool.release.Goals as goal
 
 -- the slots still to be given back begin with the next one

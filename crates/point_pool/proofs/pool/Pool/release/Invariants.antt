@@ -1,6 +1,5 @@
-use Rattle.std.proofs.Common.{◌≡◌, ◌+◌, ◌-◌}
-use Rattle.point_pool.specs.Walk.{walk}
-use Rattle.point_pool.proofs.WalkLaws.{Releasing}
+use Rattle.point_pool.proofs.Common.{◌≡◌, ◌+◌, ◌-◌, walk}
+use Rattle.point_pool.proofs.Lemmas.{Releasing}
 use Rattle.point_pool.proofs.pool.Pool.release.Given as goal
 
 abbrev pub invariant-loop-done : goal.invariant-loop-done

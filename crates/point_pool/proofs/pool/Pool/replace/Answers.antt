@@ -1,4 +1,4 @@
-use Rattle.point_pool.proofs.WalkLaws.{replaced_by}
+use Rattle.point_pool.proofs.Lemmas.{replaced_by}
 use Rattle.point_pool.proofs.pool.Pool.replace.Goals as goal
 
 pub returns-clause-replaced : goal.returns-clause-replaced

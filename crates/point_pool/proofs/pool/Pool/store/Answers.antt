@@ -1,11 +1,5 @@
-use Rattle.std.proofs.Common.{◌≡◌, ℕ, ◌+◌, ◌-◌, ◌<◌, ◌≤◌, length, arith, ap, ◌∙◌, refl, List, ◌∷◌, take, drop, get_or, get_or-take, length-take}
-use Rattle.std.specs.Prelude.{pos}
-use Rattle.ramp_step.specs.declared.breakpoint.Knot.{Knot}
-use Rattle.std.proofs.lemmas.List.{get_or_read, drop_more}
-use Rattle.point_pool.specs.Walk.{walk, AreFree}
-use Rattle.point_pool.specs.declared.slot.Slot.{Slot}
-use Rattle.point_pool.specs.CellLaws.{length-walk}
-use Rattle.point_pool.proofs.WalkLaws.{stored_more, length_if_free}
+use Rattle.point_pool.proofs.Common.{◌≡◌, ℕ, ◌+◌, ◌-◌, ◌<◌, ◌≤◌, length, arith, ap, ◌∙◌, refl, List, ◌∷◌, take, drop, get_or, get_or-take, length-take, pos, Knot, get_or_read, drop_more, walk, AreFree, Slot, length-walk}
+use Rattle.point_pool.proofs.Lemmas.{stored_more, length_if_free}
 use Rattle.point_pool.proofs.pool.Pool.store.Goals as goal
 
 nothing : Knot

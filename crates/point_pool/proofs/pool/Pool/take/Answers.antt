@@ -1,8 +1,5 @@
-use Rattle.std.proofs.Common.{◌≡◌, ℕ, ◌-◌, ◌<◌, arith, ap, ◌∙◌, sym, subst, inl, refl, ◌^◌, ◌∷◌, List}
-use Rattle.point_pool.specs.Walk.{walk, slot_at, AreFree, no_slot}
-use Rattle.point_pool.specs.declared.slot.Slot.{Slot}
-use Rattle.std.proofs.lemmas.List.{get_or_read, length-set}
-use Rattle.point_pool.proofs.WalkLaws.{walk_more, free_tail}
+use Rattle.point_pool.proofs.Common.{◌≡◌, ℕ, ◌-◌, ◌<◌, arith, ap, ◌∙◌, sym, subst, inl, refl, ◌^◌, ◌∷◌, List, walk, slot_at, AreFree, no_slot, Slot, get_or_read, length-set}
+use Rattle.point_pool.proofs.Lemmas.{walk_more, free_tail}
 use Rattle.point_pool.proofs.pool.Pool.take.Goals as goal
 
 -- the free list begins with its head

@@ -1,12 +1,5 @@
-use Rattle.std.proofs.Common.{rules, ◌≡◌, ◌<◌, ◌+◌, ◌-◌, sym, ap, ◌∙◌, subst, arith, to_z, of_z}
-use Rattle.std.specs.Prelude.{◌≤ℤ◌, FitsSigned}
-use Rattle.std.specs.Int.{w64}
-use Rattle.std.proofs.lemmas.Int.{ints, to_z-of_z}
-use Rattle.std.proofs.lemmas.List.{get_or_read}
-use Rattle.ramp_step.specs.declared.breakpoint.Knot.{Knot}
-use Rattle.ramp_step.specs.Knots.{knot, place}
-use Rattle.point_pool.specs.Walk.{no_slot, walk, knots_at}
-use Rattle.point_pool.proofs.ReadLaws.{IsCellAt, IsCellAt-first, next_read, AreNeighbours, neighbours_read, length-knots, IsRun-pair, IsRun-last}
+use Rattle.point_pool.proofs.Common.{rules, ◌≡◌, ◌<◌, ◌+◌, ◌-◌, sym, ap, ◌∙◌, subst, arith, to_z, of_z, ◌≤ℤ◌, FitsSigned, w64, ints, to_z-of_z, get_or_read, Knot, knot, place, no_slot, walk, knots_at}
+use Rattle.point_pool.proofs.Lemmas.{IsCellAt, IsCellAt-first, next_read, AreNeighbours, neighbours_read, length-knots, IsRun-pair, IsRun-last}
 use Rattle.point_pool.proofs.pool.Pool.value_in.Goals as goal
 use Rattle.point_pool.proofs.pool.Pool.value_in.Goals.{After-index-slot, After-index-next, After-index}
 

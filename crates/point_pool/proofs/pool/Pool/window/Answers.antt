@@ -1,7 +1,5 @@
-use Rattle.std.proofs.Common.{◌≡◌, ◌≤◌, length, ◌∙◌, arith, to_z, of_z}
-use Rattle.std.specs.Int.{w64}
-use Rattle.std.proofs.lemmas.Int.{to_z-of_z}
-use Rattle.point_pool.proofs.ListLaws.{written, breaks, left_list, moved}
+use Rattle.point_pool.proofs.Common.{◌≡◌, ◌≤◌, length, ◌∙◌, arith, to_z, of_z, w64, to_z-of_z}
+use Rattle.point_pool.proofs.Lemmas.{written, breaks, left_list, moved}
 use Rattle.point_pool.proofs.pool.Pool.window.Goals as goal
 
 pub window_step-requires-clause-breaks : goal.window_step-requires-clause-breaks

@@ -1,11 +1,5 @@
-use Rattle.std.proofs.Common.{◌≡◌, List, sym, subst, to_z, of_z}
-use Rattle.std.specs.Int.{w64}
-use Rattle.std.proofs.lemmas.Int.{to_z-of_z}
-use Rattle.shape_law.specs.Curve.{curve_value}
-use Rattle.shape_law.specs.Effect.{CanAddCurve}
-use Rattle.ramp_step.specs.declared.breakpoint.Knot.{Knot}
-use Rattle.ramp_step.specs.Tables.{function_of}
-use Rattle.point_pool.proofs.FrameLaws.{Frame-changes}
+use Rattle.point_pool.proofs.Common.{◌≡◌, List, sym, subst, to_z, of_z, w64, to_z-of_z, curve_value, CanAddCurve, Knot, function_of}
+use Rattle.point_pool.proofs.Lemmas.{Frame-changes}
 use Rattle.point_pool.proofs.pooled.PooledShape.add_curve.Goals as goal
 
 pub add_curve-left-requires-clause-fits : goal.add_curve-left-requires-clause-fits

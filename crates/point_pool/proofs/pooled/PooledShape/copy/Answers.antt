@@ -1,5 +1,4 @@
-use Rattle.point_pool.proofs.FrameLaws.{Frame-changes}
-use Rattle.point_pool.proofs.WalkLaws.{changes_stored}
+use Rattle.point_pool.proofs.Lemmas.{Frame-changes, changes_stored}
 use Rattle.point_pool.proofs.pooled.PooledShape.copy.Goals as goal
 
 pub returns-clause-frame : goal.returns-clause-frame

@@ -1,6 +1,5 @@
-use Rattle.point_pool.specs.CellLaws.{differ, slot_if_used}
-use Rattle.point_pool.proofs.FrameLaws.{Frame-changes}
-use Rattle.point_pool.proofs.WalkLaws.{changes_released}
+use Rattle.point_pool.proofs.Common.{differ, slot_if_used}
+use Rattle.point_pool.proofs.Lemmas.{Frame-changes, changes_released}
 use Rattle.point_pool.proofs.pooled.PooledShape.give_back.Goals as goal
 
 pub returns-clause-frame : goal.returns-clause-frame

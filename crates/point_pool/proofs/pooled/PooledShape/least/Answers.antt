@@ -1,9 +1,5 @@
-use Rattle.std.proofs.Common.{rules, ◌≡◌, to_z, of_z}
-use Rattle.std.specs.Prelude.{FitsSigned}
-use Rattle.std.specs.Int.{w64}
-use Rattle.std.proofs.lemmas.Int.{to_z-of_z}
-use Rattle.point_pool.specs.Seen.{knots_of}
-use Rattle.point_pool.proofs.ReadLaws.{length-knots, IsLeast-turn}
+use Rattle.point_pool.proofs.Common.{rules, ◌≡◌, to_z, of_z, FitsSigned, w64, to_z-of_z, knots_of}
+use Rattle.point_pool.proofs.Lemmas.{length-knots, IsLeast-turn}
 use Rattle.point_pool.proofs.pooled.PooledShape.least.Goals as goal
 
 pub returns : goal.returns

@@ -1,10 +1,5 @@
-use Rattle.std.proofs.Common.{rules, ◌≡◌, Some, None, ◌∙◌, arith, to_z, of_z}
-use Rattle.std.specs.Prelude.{FitsSigned}
-use Rattle.std.specs.Int.{w64, int_min, int_max}
-use Rattle.std.proofs.lemmas.Int.{ints, to_z-of_z}
-use Rattle.shape_law.specs.Table.{value_of}
-use Rattle.point_pool.specs.Seen.{knots_of, shown}
-use Rattle.point_pool.proofs.ReadLaws.{length-knots, nearest}
+use Rattle.point_pool.proofs.Common.{rules, ◌≡◌, Some, None, ◌∙◌, arith, to_z, of_z, FitsSigned, w64, int_min, int_max, ints, to_z-of_z, value_of, knots_of, shown}
+use Rattle.point_pool.proofs.Lemmas.{length-knots, nearest}
 use Rattle.point_pool.proofs.pooled.PooledShape.least_in.Goals as goal
 
 pub returns-in-Some : goal.returns-in-Some

@@ -1,12 +1,5 @@
-use Rattle.std.proofs.Common.{◌≡◌, true, List, [], ◌∷◌, refl, sym, subst, to_z, of_z}
-use Rattle.std.specs.Int.{w64}
-use Rattle.std.proofs.lemmas.Int.{to_z-of_z}
-use Rattle.shape_law.specs.Effect.{IsPoint}
-use Rattle.ramp_step.specs.declared.breakpoint.Knot.{Knot}
-use Rattle.ramp_step.specs.Tables.{function_of, IsBreakList}
-use Rattle.point_pool.specs.Walk.{Stored}
-use Rattle.point_pool.proofs.FrameLaws.{Frame-changes}
-use Rattle.point_pool.proofs.WalkLaws.{changes_stored, stored_none, stored_more}
+use Rattle.point_pool.proofs.Common.{◌≡◌, true, List, [], ◌∷◌, refl, sym, subst, to_z, of_z, w64, to_z-of_z, IsPoint, Knot, function_of, IsBreakList, Stored}
+use Rattle.point_pool.proofs.Lemmas.{Frame-changes, changes_stored, stored_none, stored_more}
 use Rattle.point_pool.proofs.pooled.PooledShape.point.Goals as goal
 use Rattle.point_pool.proofs.pooled.PooledShape.point.Goals.{After-take-head}
 

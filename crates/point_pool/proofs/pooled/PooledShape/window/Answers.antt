@@ -1,4 +1,4 @@
-use Rattle.point_pool.proofs.FrameLaws.{Frame-changes}
+use Rattle.point_pool.proofs.Lemmas.{Frame-changes}
 use Rattle.point_pool.proofs.pooled.PooledShape.window.Goals as goal
 
 pub returns-clause-frame : goal.returns-clause-frame

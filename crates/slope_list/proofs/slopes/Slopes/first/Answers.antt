@@ -1,10 +1,4 @@
-use Rattle.std.proofs.Common.{take, sym, ap, subst, rules}
-use Rattle.std.specs.Prelude.{FitsSigned}
-use Rattle.std.specs.Int.{w64}
-use Rattle.std.proofs.lemmas.Int.{to_z-of_z}
-use Rattle.shape_law.specs.Table.{Table}
-use Rattle.slope_step.specs.Drawn.{table_after}
-use Rattle.slope_step.specs.Turn.{IsFirst}
+use Rattle.slope_list.proofs.Common.{take, sym, ap, subst, rules, FitsSigned, w64, to_z-of_z, Table, table_after, IsFirst}
 use Rattle.slope_list.proofs.slopes.Slopes.first.Goals as goal
 
 pub returns-in-Some : goal.returns-in-Some

@@ -1,11 +1,4 @@
-use Rattle.std.proofs.Common.{take, sym, ap, subst}
-use Rattle.std.specs.Bool.{OnTrue}
-use Rattle.std.specs.Int.{w64}
-use Rattle.std.proofs.lemmas.Int.{to_z-of_z}
-use Rattle.shape_law.specs.Table.{Table}
-use Rattle.slope_step.specs.Pieces.{table_of}
-use Rattle.slope_step.specs.Below.{IsAbove}
-use Rattle.slope_step.specs.Drawn.{table_after}
+use Rattle.slope_list.proofs.Common.{take, sym, ap, subst, OnTrue, w64, to_z-of_z, Table, table_of, IsAbove, table_after}
 use Rattle.slope_list.proofs.slopes.Slopes.is_above.Goals as goal
 
 pub returns-in-Some : goal.returns-in-Some

@@ -1,6 +1,4 @@
-use Rattle.std.proofs.Common.{take, ap, subst}
-use Rattle.shape_law.specs.Table.{Table, IsEmpty}
-use Rattle.slope_step.specs.Drawn.{table_after}
+use Rattle.slope_list.proofs.Common.{take, ap, subst, Table, IsEmpty, table_after}
 use Rattle.slope_list.proofs.ShownLaws.{never}
 use Rattle.slope_list.proofs.slopes.Slopes.is_empty.Goals as goal
 

@@ -1,11 +1,4 @@
-use Rattle.std.proofs.Common.{◌≡◌, take, sym, ap, ◌∙◌, subst, rules}
-use Rattle.std.specs.Prelude.{ℤ, FitsSigned}
-use Rattle.std.specs.Int.{w64}
-use Rattle.std.proofs.lemmas.Int.{to_z-of_z}
-use Rattle.shape_law.specs.Table.{Table}
-use Rattle.slope_step.specs.Pieces.{last_place}
-use Rattle.slope_step.specs.Drawn.{table_after}
-use Rattle.slope_step.specs.Turn.{IsLast}
+use Rattle.slope_list.proofs.Common.{◌≡◌, take, sym, ap, ◌∙◌, subst, rules, ℤ, FitsSigned, w64, to_z-of_z, Table, last_place, table_after, IsLast}
 use Rattle.slope_list.proofs.slopes.Slopes.last.Goals as goal
 
 pub returns-in-Some : goal.returns-in-Some

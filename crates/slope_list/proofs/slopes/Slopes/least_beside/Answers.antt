@@ -1,12 +1,5 @@
-use Rattle.std.proofs.Common.{List, MatchOption, None, take, sym, ap, ◌∙◌, subst, rules}
-use Rattle.std.proofs.lemmas.List.{with_items_is, places}
-use Rattle.shape_law.specs.Steps.{IsStepped, IsSmall}
-use Rattle.shape_law.specs.Effect.{IsLeast}
-use Rattle.shape_law.specs.Table.{Table, IsEmpty}
+use Rattle.slope_list.proofs.Common.{List, MatchOption, None, take, sym, ap, ◌∙◌, subst, rules, with_items_is, places, IsStepped, IsSmall, IsLeast, Table, IsEmpty, table_of, table_after, IsTurn}
 use Rattle.slope_step.specs.declared.piece.Piece.{Piece}
-use Rattle.slope_step.specs.Pieces.{table_of}
-use Rattle.slope_step.specs.Drawn.{table_after}
-use Rattle.slope_step.specs.Turn.{IsTurn}
 use Rattle.slope_list.proofs.ShownLaws.{none_at, stepped_nothing, lowest_turned}
 use Rattle.slope_list.proofs.slopes.Slopes.least_beside.Goals as goal
 

@@ -1,12 +1,4 @@
-use Rattle.std.proofs.Common.{take, sym, ap, subst, rules}
-use Rattle.std.specs.Prelude.{ℤ, FitsSigned}
-use Rattle.std.specs.Int.{w64}
-use Rattle.std.proofs.lemmas.Int.{to_z-of_z}
-use Rattle.shape_law.specs.Steps.{IsStepped, IsSmall}
-use Rattle.shape_law.specs.Table.{Table}
-use Rattle.slope_step.specs.Pieces.{table_of}
-use Rattle.slope_step.specs.Drawn.{table_after}
-use Rattle.slope_step.specs.Turn.{IsTurn}
+use Rattle.slope_list.proofs.Common.{take, sym, ap, subst, rules, ℤ, FitsSigned, w64, to_z-of_z, IsStepped, IsSmall, Table, table_of, table_after, IsTurn}
 use Rattle.slope_list.proofs.ShownLaws.{stepped_nothing}
 use Rattle.slope_list.proofs.slopes.Slopes.step.Goals as goal
 

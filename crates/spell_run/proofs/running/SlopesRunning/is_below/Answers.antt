@@ -1,7 +1,5 @@
-use Rattle.std.proofs.Common.{rules}
-use Rattle.std.proofs.lemmas.Int.{to_z-of_z}
+use Rattle.spell_run.proofs.Common.{rules, to_z-of_z, FitsSigned}
 use Rattle.std.specs.Int.{w64}
-use Rattle.std.specs.Prelude.{FitsSigned}
 use Rattle.spell_run.proofs.running.SlopesRunning.is_below.Goals as goal
 
 pub returns : goal.returns

@@ -1,6 +1,5 @@
-use Rattle.std.proofs.Common.{◌+◌, refl}
-use Rattle.text_tokens.specs.Places.{rest_at}
-use Rattle.text_tokens.proofs.Ahead.{comma_step}
+use Rattle.text_tokens.proofs.Common.{◌+◌, refl, rest_at}
+use Rattle.text_tokens.proofs.Lemmas.{comma_step}
 use Rattle.text_tokens.proofs.reader.Reader.next.Goals as goal
 
 pub returns-then-self-place-eq44-clause-next : goal.returns-then-self-place-eq44-clause-next

@@ -1,8 +1,6 @@
-use Rattle.std.proofs.Common.{◌≡◌, ◌<◌, false, length, ◌+◌, [], refl, get_or, sym, ◌∙◌, arith}
-use Rattle.text_tokens.specs.Tokens.{is_blank}
-use Rattle.text_tokens.specs.Places.{rest_at}
+use Rattle.text_tokens.proofs.Common.{◌≡◌, ◌<◌, false, length, ◌+◌, [], refl, get_or, sym, ◌∙◌, arith, is_blank, rest_at}
 use Rattle.text_tokens.specs.Seen.{token_of}
-use Rattle.text_tokens.proofs.Ahead.{blank_step, end_step, next_token}
+use Rattle.text_tokens.proofs.Lemmas.{blank_step, end_step, next_token}
 use Rattle.text_tokens.proofs.reader.Reader.next_of_all.Goals as goal
 use Rattle.text_tokens.proofs.reader.Reader.next_of_all.Goals.{then-blanks-test+else-is_blank, else-blanks-test}
 

@@ -1,5 +1,4 @@
-use Rattle.std.proofs.Common.{◌≡◌, ◌≤◌, ◌-◌, length}
-use Rattle.text_tokens.specs.Places.{rest_at}
+use Rattle.text_tokens.proofs.Common.{◌≡◌, ◌≤◌, ◌-◌, length, rest_at}
 use Rattle.text_tokens.proofs.reader.Reader.next_of_all.Given as goal
 
 abbrev pub invariant-blanks : goal.invariant-blanks

@@ -1,7 +1,6 @@
-use Rattle.text_tokens.specs.Grammar.{word}
+use Rattle.text_tokens.proofs.Common.{word, number}
 use Rattle.text_tokens.specs.Small.{decimal_of}
-use Rattle.text_tokens.specs.Scalars.{number}
-use Rattle.text_tokens.proofs.Ahead.{number_and_comma_step}
+use Rattle.text_tokens.proofs.Lemmas.{number_and_comma_step}
 use Rattle.text_tokens.proofs.reader.Reader.number_and_comma.Goals as goal
 
 pub returns-then-rest-len-eq44-clause-some : goal.returns-then-rest-len-eq44-clause-some

@@ -1,6 +1,5 @@
-use Rattle.std.proofs.Common.{ap, arith, length, length-append}
+use Rattle.uc_model.proofs.Common.{ap, arith, length, length-append, chars_rest}
 use Rattle.std.specs.Char.{encode_utf8}
-use Rattle.std.specs.Str.Iter.{chars_rest}
 use Rattle.uc_model.proofs.lists.Name.copied.Goals as goal
 
 pub push-requires : goal.push-requires

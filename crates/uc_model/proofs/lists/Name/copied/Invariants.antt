@@ -1,5 +1,4 @@
-use Rattle.std.proofs.Common.{◌≡◌, ◌++◌, ◌≤◌, length}
-use Rattle.std.specs.Str.Iter.{chars_rest}
+use Rattle.uc_model.proofs.Common.{◌≡◌, ◌++◌, ◌≤◌, length, chars_rest}
 use Rattle.uc_model.proofs.lists.Name.copied.Given as goal
 
 abbrev pub invariant-loop-c : goal.invariant-loop-c

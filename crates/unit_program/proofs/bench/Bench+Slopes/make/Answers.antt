@@ -1,5 +1,4 @@
-use Rattle.std.proofs.Common.{length, ap, arith}
-use Rattle.std.proofs.lemmas.List.{length-replicate}
+use Rattle.unit_program.proofs.Common.{length, ap, arith, length-replicate}
 use Rattle.unit_program.proofs.bench.Bench+Slopes.make.Goals as goal
 
 pub returns : goal.returns

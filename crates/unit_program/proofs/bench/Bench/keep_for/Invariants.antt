@@ -1,4 +1,4 @@
-use Rattle.std.proofs.Common.{◌≡◌, ◌≤◌, length, vec_capacity}
+use Rattle.unit_program.proofs.Common.{◌≡◌, ◌≤◌, length, vec_capacity}
 use Rattle.unit_program.proofs.bench.Bench.keep_for.Given as goal
 
 abbrev pub invariant-loop : goal.invariant-loop

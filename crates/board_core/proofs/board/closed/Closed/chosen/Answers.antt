@@ -1,4 +1,4 @@
-use Rattle.std.proofs.Common.{arith}
+use Rattle.board_core.proofs.Common.{arith}
 use Rattle.board_core.proofs.board.closed.Closed.chosen.Goals as goal
 
 pub overflow_cast-result : goal.overflow_cast-result

@@ -1,0 +1,28 @@
+-- The names that the proofs of this crate take from its specs and from other crates, passed on from one place.
+pub use Rattle.std.proofs.Common.{◌≡◌, ℕ, suc, ◌+◌, ◌*◌, ◌<◌, ◌≤◌, ◌⊎◌, inl, inr, Bool, true, false, cond, Some, List, [], ◌∷◌, ◌++◌, map, length, refl, sym, ap, ◌∙◌, subst, arith, append_assoc, Less, Equal, Greater, ◌≢◌, append-nil, get_or, set}
+pub use Rattle.std.proofs.lemmas.List.{get_or-set_same, get_or-set_other, get_or_default, length-set, length-replicate}
+pub use Rattle.std.proofs.lemmas.List.Elements.{All-nil, All-cons, All-append, All-weaker, All-head, All-tail}
+pub use Rattle.std.proofs.lemmas.Option.{slice_get_within, get_or_from_slice_get, slice_get_read}
+pub use Rattle.std.specs.List.{All, Contains}
+pub use Rattle.answer_workers.specs.Answers.{HasSchedule, IsResponse, Suffices, IsBenchOf}
+pub use Rattle.answer_workers.specs.Workers.{Came, GoesOn, IsWorkerOf, HasWorked, HaveWorked, HasFinished, HasParts, market_at, IsTold, IsReady}
+pub use Rattle.answer_workers.specs.declared.worker.Worker.{Worker}
+pub use Rattle.board_history.specs.Board.{Answer, Content, rules_of, Setup}
+pub use Rattle.board_history.specs.Calls.{differs_from, after_claim, after_post, claim_answer}
+pub use Rattle.board_history.specs.Rounds.{Given, Taken, Closing, Stopped, ClaimReply, Finished, Halted, GivenTask, NotYet, PostReply, OtherProposal, OtherUnit, OtherContent, Doubled, OtherHolder, TakenPost, claim_reply, post_reply, post_event, posts, with_post, is_closed, with_claim, with_answer}
+pub use Rattle.board_share.specs.Seats.{SeatValue, view_of, IsSameBoard}
+pub use Rattle.board_share.specs.Tells.{Called}
+pub use Rattle.board_share.specs.Views.{BoardEvent, View, caller_of, content}
+pub use Rattle.board_share.specs.declared.shared.SharedBoard.{SharedBoard}
+pub use Rattle.slope_list.specs.Slopes.{room_of}
+pub use Rattle.slope_list.specs.declared.slopes.Slopes.{Slopes}
+pub use Rattle.uc_model.specs.Data.{AnyUnit, Thermal, Flat, Bid, Market, NamedThermalUnit, NamedRenewableUnit, NamedBidUnit, PriceLists, Schedule, ThermalUnit, units}
+pub use Rattle.uc_model.specs.PlainCases.{task_unit}
+pub use Rattle.uc_model.specs.PlainUnits.{named_thermal_of, schedule_of, prices_of, thermal_of}
+pub use Rattle.uc_model.specs.Schedules.{IsThermalFeasible, IsFeasible}
+pub use Rattle.uc_model.specs.TaskRoom.{IsTaskFor}
+pub use Rattle.uc_model.specs.declared.cases.Task.{Task}
+pub use Rattle.uc_model.specs.declared.units.Answered.{Answered}
+pub use Rattle.uc_model.specs.declared.units.NamedUnit.{NamedUnit}
+pub use Rattle.unit_program.specs.Benches.{IsBenchFor}
+pub use Rattle.unit_program.specs.declared.bench.Bench.{Bench}

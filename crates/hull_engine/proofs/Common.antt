@@ -1,0 +1,33 @@
+-- The names that the proofs of this crate take from its specs and from other crates, passed on from one place.
+pub use Rattle.std.proofs.Common.{◌≡◌, ℕ, ℤ, List, subst, sym, ap, ◌∙◌, inl, inr, Option, Some, Result, Ok, Err, refl, ◌≤◌, zero, suc, ◌<◌, false, [], ◌∷◌, ◌++◌, length, map, drop, slice_index_or, slice_index, arith, append_assoc, length-append, ◌+◌, Bool, true, replicate, None, pos, ◌&&◌, cond, leb, option_map, unwrap_or, unsigned_abs, rules}
+pub use Rattle.std.proofs.lemmas.Bool.{le-ltb, lt-ltb, leb-true}
+pub use Rattle.std.proofs.lemmas.Int.{ints, to_z-of_z}
+pub use Rattle.std.proofs.lemmas.List.{length-map, length-replicate}
+pub use Rattle.std.proofs.lemmas.List.Elements.{All-from_get_or, All-push}
+pub use Rattle.std.proofs.lemmas.Result.{err_from_is_err_and}
+pub use Rattle.std.specs.Int.{w64, w128}
+pub use Rattle.std.specs.List.{All, AllZip}
+pub use Rattle.std.specs.Prelude.{IsTrue, IfSome, nat_lt, if◌then◌else◌, option_and_then, OnOk, OnErr}
+pub use Rattle.board_run.specs.Inputs.{planned_in, planned_of, PlannedCase}
+pub use Rattle.board_run.specs.Rounds.{setup_of, IsEnded}
+pub use Rattle.board_run.specs.declared.input.RunInput.{RunInput}
+pub use Rattle.board_run.specs.declared.input.RunSize.{RunSize}
+pub use Rattle.dealt_run.specs.Benches.{IsBenchOver}
+pub use Rattle.hull_engine.specs.Answers.{IsRunText, IsFaultOf, IsCommandAnswer, IsEndOf, HasRead, IsAnswer}
+pub use Rattle.hull_engine.specs.Outcome.{IsReportText, IsBoundText, IsFixedText, Command, command_for, Ends, IsReadOf, case_and_schedule, with_report, AreReads, HasStatus, no_files}
+pub use Rattle.hull_engine.specs.Steps.{Then, Reads, IsInput, IsWithinWork, IsReportFile, IsJudged, IsAudit, bytes_of, IsBytes, IsMade, IsPlanFile, IsChecked, IsCaseFile, IsReportIn, IsCase, IsPlan}
+pub use Rattle.hull_io.specs.Edge.{Gains, FallsShort, Rose}
+pub use Rattle.hull_report.specs.FixedText.{told_of, fixed_text}
+pub use Rattle.hull_report.specs.TryText.{try_text}
+pub use Rattle.hull_report.specs.declared.fault.FileKind.TheVariants.{ReportFile, CaseFile, ScheduleFile}
+pub use Rattle.hull_report.specs.declared.fault.TopFault.{TopFault}
+pub use Rattle.hull_report.specs.declared.fault.TopFault.TheVariants.{Words, TooBig}
+pub use Rattle.hull_words.specs.Asked.{Asked, Found, CheckAsked, PriceAsked, price, check, try, bound, fixed, audit, with_both, names_from, asked_from, asked}
+pub use Rattle.hull_words.specs.Words.{first_fault, backwards, or_fault, or_missing, asked_of, later_words, texts}
+unfoldable pub use Rattle.hull_words.specs.Words.{found_in, words_of}
+pub use Rattle.hull_words.specs.declared.fault.WordFault.{WordFault}
+pub use Rattle.report_form.specs.ReportText.{Report, report_text}
+unfoldable pub use Rattle.report_read.specs.Plain.{report_of}
+pub use Rattle.uc_case.specs.Files.{text, value}
+pub use Rattle.uc_model.specs.Data.{unit_count, AnyUnit, Thermal, Flat, Bid, NamedThermalUnit, NamedRenewableUnit, NamedBidUnit, Schedule, Market, units}
+pub use Rattle.uc_model.specs.PlainCases.{market_of, proposal_of, schedules_of}

@@ -1,0 +1,38 @@
+-- The names that the proofs of this crate take from its specs and from other crates, passed on from one place.
+pub use Rattle.std.proofs.Common.{◌≡◌, ℕ, List, Result, Ok, Err, ◌⊎◌, inl, inr, ap, suc, ◌+◌, ◌<◌, ◌∷◌, length, get_or, drop, Some, cond, bytes_eq, refl, sym, ◌∙◌, drop-cons, add-one, ◌≤◌, false, arith, true≢false, zero, Bool, true, [], map, if◌then◌else◌, w64, to_z, of_z, ◌++◌, subst, ◌-◌, ◌||◌, Vec, Global, Box, string_bytes, rules}
+pub use Rattle.std.proofs.lemmas.Bool.{ltb-false}
+pub use Rattle.std.proofs.lemmas.Int.{ints, to_z-of_z}
+pub use Rattle.std.proofs.lemmas.List.{length-map, map_push}
+pub use Rattle.std.proofs.lemmas.List.Elements.{All-nil, All-push}
+pub use Rattle.std.proofs.lemmas.Result.{err_from_is_err_and}
+pub use Rattle.std.specs.List.{All}
+pub use Rattle.std.specs.Prelude.{ℤ, pos, negsuc, neg_ℤ, unsigned_abs, nat_lt, int_lt, ◌≤ℤ◌, slice_get, codes, FitsSigned}
+pub use Rattle.uc_case.specs.Cases.{each_member, bid, thermal}
+unfoldable pub use Rattle.uc_case.specs.Cases.{units, renewable, bids, case_of}
+pub use Rattle.uc_case.specs.EachLaws.{goes_on, ends, counted, is_done}
+pub use Rattle.uc_case.specs.Files.{FileFault, text, value, IsFile, reading_of, of_value}
+pub use Rattle.uc_case.specs.Forms.{Read, items}
+unfoldable pub use Rattle.uc_case.specs.Forms.{amount, time_within}
+pub use Rattle.uc_case.specs.Inside.{values, pairs, list_in, object_in}
+unfoldable pub use Rattle.uc_case.specs.Inside.{value_of}
+pub use Rattle.uc_case.specs.Kept.{IsRange, AreRamps, IsPast, AreLags, ArePoints, AreBlocks, IsRenewableOf, IsBidOf, IsThermalOf}
+pub use Rattle.uc_case.specs.Laws.{OneCase, SomeFile, OneFile}
+pub use Rattle.uc_case.specs.Places.{fault, place, item_at}
+pub use Rattle.uc_case.specs.Tables.{first_crossed, block, ends_miss, point, lag, one_power, mark}
+unfoldable pub use Rattle.uc_case.specs.Tables.{period_blocks, powers, renewable_unit}
+pub use Rattle.uc_case.specs.Words.{position, last_is}
+unfoldable pub use Rattle.uc_case.specs.Words.{each}
+pub use Rattle.uc_case.specs.declared.fault.FieldFault.{FieldFault}
+pub use Rattle.uc_case.specs.declared.fault.Place.{Place}
+pub use Rattle.uc_model.specs.Limits.{IsFrom, IsPower, IsOutput, IsThermalUnit, IsRenewableUnit, Spans, IsLag, IsPoint, IsBlock, IsBlockList}
+pub use Rattle.uc_model.specs.PlainUnits.{named_renewable_of, named_bid_of, named_thermal_of}
+pub use Rattle.uc_model.specs.Reserved.{Reserved, items_in}
+pub use Rattle.uc_model.specs.declared.units.Block.{Block}
+pub use Rattle.uc_model.specs.declared.units.Lag.{Lag}
+pub use Rattle.uc_model.specs.declared.units.Point.{Point}
+pub use Rattle.uc_text.specs.Parts.{Pair, items_of, members_of}
+pub use Rattle.uc_text.specs.Texts.{IsText, IsFirstFault}
+pub use Rattle.uc_text.specs.Values.{Value, list, object, scalar, number}
+pub use Rattle.uc_text.specs.View.{member_view, member_views, view, views}
+pub use Rattle.uc_text.specs.declared.tree.Member.{Member, out-Member, the_lemmas as member_lemmas}
+pub use Rattle.uc_text.specs.declared.tree.Tree.{Tree, List as ListOf, Object, the_lemmas}
