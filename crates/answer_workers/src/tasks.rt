@@ -4,6 +4,7 @@ ghost use Rattle.slope_list.specs.Slopes.{room_of};
 ghost use Rattle.uc_model.specs.Data.{AnyUnit, NamedThermalUnit, Thermal};
 ghost use Rattle.uc_model.specs.PlainCases.{market_of, task_unit};
 ghost use Rattle.uc_model.specs.PlainUnits.{thermal_of, prices_of, schedule_of};
+ghost use Rattle.uc_model.specs.declared.limits.TheConstants.{MOST_POINTS};
 ghost use Rattle.std.specs.List.{All};
 ghost use Rattle.unit_program.specs.Benches.{IsBenchFor};
 ghost use Rattle.answer_workers.specs.Answers.{HasSchedule, IsResponse, Suffices};
@@ -17,7 +18,7 @@ use unit_program::Bench;
 
 /// The most cost points of a thermal unit of the case; 1 where it has none.
 pub fn most_points(case: &Case) -> u32
-    ensures limit { result ≤ 32 }
+    ensures limit { result ≤ MOST_POINTS }
     ensures each { All (λ (n : NamedThermalUnit). length n.unit.points ≤ result)
         (market_of case.now).thermal }
 {

@@ -2,6 +2,7 @@
 ghost use Rattle.std.specs.Prelude.{◌≡◌, ◌≤◌, length, IfOk};
 ghost use Rattle.std.specs.List.{All};
 ghost use Rattle.uc_model.specs.Data.{Market, NamedThermalUnit};
+ghost use Rattle.uc_model.specs.declared.limits.TheConstants.{MOST_PERIODS, MOST_POINTS};
 ghost use Rattle.answer_workers.specs.Workers.{HasParts};
 
 use board_share::Seat;
@@ -43,8 +44,8 @@ impl Worker {
         points: u32,
     ) -> Result<Worker, AllocError>
         requires some { 1 ≤ periods }
-        requires periods { periods ≤ 168 }
-        requires points { points ≤ 32 }
+        requires periods { periods ≤ MOST_PERIODS }
+        requires points { points ≤ MOST_POINTS }
         ensures seat { IfOk result (λ w. w.seat ≡ seat) }
         ensures parts { IfOk result (λ w. (m : Market) → m.periods ≡ periods
             → All (λ (n : NamedThermalUnit). length n.unit.points ≤ points) m.thermal

@@ -2,6 +2,7 @@
 use Rattle.std.specs.Prelude.{◌≡◌, ◌*◌, ◌≤◌}
 use Rattle.board_history.specs.Board.{Setup}
 use Rattle.uc_model.specs.Data.{unit_count}
+use Rattle.uc_model.specs.declared.limits.TheConstants.{MOST_PROPOSALS, MOST_WORK}
 use Rattle.uc_model.specs.Limits.{IsMarket}
 use Rattle.uc_model.specs.PlainCases.{market_of, schedules_of}
 use Rattle.uc_model.specs.Systems.{IsFeasiblePlan, plan_cost}
@@ -13,12 +14,12 @@ pub record IsSetup (b : Setup) : Type 0 where
   pub feasible : IsFeasiblePlan b.market b.plan
   pub cost : b.cost ≡ plan_cost b.market b.plan
   pub some_budget : 1 ≤ b.budget
-  pub budget : b.budget ≤ 10000
+  pub budget : b.budget ≤ MOST_PROPOSALS
   pub some_ahead : 1 ≤ b.ahead
   pub ahead : b.ahead ≤ 16
   pub some_caller : 1 ≤ b.callers
   pub callers : b.callers ≤ 33
-  pub size : b.budget * unit_count b.market * b.market.periods ≤ 50000000
+  pub size : b.budget * unit_count b.market * b.market.periods ≤ MOST_WORK
 
 abbrev pub setup_of : Terms → Setup
 setup_of t = record {

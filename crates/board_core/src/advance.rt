@@ -12,6 +12,7 @@ ghost use Rattle.uc_model.specs.PlainCases.{proposal_of};
 ghost use Rattle.uc_model.specs.PlainUnits.{prices_of};
 ghost use Rattle.uc_model.specs.PriceRule.{next_prices as prices_after};
 ghost use Rattle.uc_model.specs.Sums.{int_at};
+ghost use Rattle.uc_model.specs.declared.limits.TheConstants.{MOST_PROPOSALS};
 ghost use Rattle.board_core.specs.Parts.{IsLedger, sums_of, fronts_of};
 ghost use Rattle.board_core.specs.Rounds.{IsRound, row_in, is_full, with_row, with_opened};
 ghost use Rattle.board_core.specs.Rounds.{is_due as is_due_at};
@@ -31,7 +32,7 @@ use uc_model::units::Prices;
 fn propose(terms: &Terms, rows: &[Row], best: usize, into: &mut Prices) -> bool
     requires setup { IsSetup (setup_of terms.now) }
     requires best { IsFirstUpTo (values_of (map proposal_of rows.now)) (length rows.now) best }
-    requires count { length rows.now ≤ 10000 }
+    requires count { length rows.now ≤ MOST_PROPOSALS }
     requires rows { All (IsRowBelow (setup_of terms.now).market (setup_of terms.now).cost)
         (map proposal_of rows.now) }
     requires horizon { length (prices_of into.old).energy ≡ (setup_of terms.now).market.periods }
@@ -51,8 +52,8 @@ fn propose(terms: &Terms, rows: &[Row], best: usize, into: &mut Prices) -> bool
 // Whether one more proposal is to be opened with the last row, if that isn't settled.
 fn is_due(terms: &Terms, ledger: &Ledger) -> bool
     requires setup { IsSetup (setup_of terms.now) }
-    requires opened { ledger.now.opened ≤ 10000 }
-    requires closed { ledger.now.closed ≤ 10000 }
+    requires opened { ledger.now.opened ≤ MOST_PROPOSALS }
+    requires closed { ledger.now.closed ≤ MOST_PROPOSALS }
     ensures { result ≡ is_due_at (setup_of terms.now) ledger.now.closed ledger.now.opened }
 {
     ledger.opened() + 1 == ledger.closed() + terms.ahead as usize

@@ -13,6 +13,7 @@ ghost use Rattle.uc_model.specs.PriceRule.{chosen_number, start_prices as start_
 ghost use Rattle.uc_model.specs.PriceRule.{opening_prices_of};
 ghost use Rattle.uc_model.specs.Runs.{Fits};
 ghost use Rattle.uc_model.specs.TaskRoom.{IsTaskFor};
+ghost use Rattle.uc_model.specs.declared.limits.TheConstants.{MOST_PROPOSALS};
 ghost use Rattle.board_core.specs.Boards.{setup_for, empty_board, kept_answer};
 ghost use Rattle.board_core.specs.Replies.{claim_of, posted_of};
 ghost use Rattle.board_core.specs.Setups.{IsSetup, setup_of};
@@ -316,7 +317,7 @@ impl Board {
     // The closed proposals from 1 up to the first that isn't.
     fn rows(&self) -> &[Row]
         ensures rows { map proposal_of result.now ≡ own_rows self.now }
-        ensures count { length result.now ≤ 10000 }
+        ensures count { length result.now ≤ MOST_PROPOSALS }
     {
         self.ledger.rows()
     }

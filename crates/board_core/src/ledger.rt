@@ -11,6 +11,7 @@ ghost use Rattle.uc_model.specs.PlainUnits.{prices_of, schedule_of};
 ghost use Rattle.uc_model.specs.PriceRule.{Proposal};
 ghost use Rattle.uc_model.specs.Schedules.{IsFeasible};
 ghost use Rattle.uc_model.specs.Sums.{int_at};
+ghost use Rattle.uc_model.specs.declared.limits.TheConstants.{MOST_PERIODS};
 ghost use Rattle.board_core.specs.Ledgers.{blank, with_prices, with_value, with_schedule};
 
 use board_task::tasks::copy_prices;
@@ -57,7 +58,7 @@ impl Model for Ledger {
 
 fn blank_row(alloc: Global, periods: u32) -> Result<Row, AllocError>
     requires some { 1 ≤ periods }
-    requires limit { periods ≤ 168 }
+    requires limit { periods ≤ MOST_PERIODS }
     ensures { IfOk result (λ row. proposal_of row ≡ blank periods) }
 {
     let prices = Prices::make(alloc, periods)?;
@@ -73,7 +74,7 @@ fn blank_row(alloc: Global, periods: u32) -> Result<Row, AllocError>
 
 fn blank_rows(alloc: Global, periods: u32, count: u32) -> Result<Vec<Row>, AllocError>
     requires some { 1 ≤ periods }
-    requires limit { periods ≤ 168 }
+    requires limit { periods ≤ MOST_PERIODS }
     ensures { IfOk result (λ rows. map proposal_of rows.items ≡ replicate count (blank periods)) }
 {
     let mut rows = Vec::with_capacity(alloc, count as usize)?;
@@ -132,7 +133,7 @@ impl Ledger {
     /// As many blank proposals as there may be, none of them open.
     pub fn make(alloc: Global, periods: u32, budget: u32) -> Result<Ledger, AllocError>
         requires some { 1 ≤ periods }
-        requires limit { periods ≤ 168 }
+        requires limit { periods ≤ MOST_PERIODS }
         ensures proposals { IfOk result (λ l. l.proposals ≡ replicate budget (blank periods)) }
         ensures earned { IfOk result (λ l. l.earned ≡ replicate budget (pos 0)) }
         ensures closed { IfOk result (λ l. l.closed ≡ 0) }

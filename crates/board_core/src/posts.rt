@@ -10,6 +10,7 @@ ghost use Rattle.uc_model.specs.PlainUnits.{prices_of};
 ghost use Rattle.uc_model.specs.PriceRule.{Proposal};
 ghost use Rattle.uc_model.specs.TaskLists.{task_numbers};
 ghost use Rattle.uc_model.specs.TaskRoom.{IsTaskFor};
+ghost use Rattle.uc_model.specs.declared.limits.TheConstants.{MOST_PROPOSALS, MOST_UNITS};
 ghost use Rattle.board_core.specs.Events.{place as place_of};
 ghost use Rattle.board_core.specs.Refusals.{held_refusal, differs_of, own_prices_in, refusal_of};
 ghost use Rattle.board_core.specs.Refusals.{reply_of};
@@ -115,7 +116,7 @@ pub fn refusal(
 ) -> Option<Posted>
     requires setup { IsSetup (setup_of terms.now) }
     requires opened { ledger.now.opened ≤ length ledger.now.proposals }
-    requires few { ledger.now.opened ≤ 10000 }
+    requires few { ledger.now.opened ≤ MOST_PROPOSALS }
     requires horizon { (k : ℕ) (d : Proposal) → k < ledger.now.opened
         → length (slice_index_or ledger.now.proposals k d).prices.energy
         ≡ (setup_of terms.now).market.periods }
@@ -152,7 +153,7 @@ pub fn refusal(
 /// Counts one more answer at a place, and says how many there are then.
 pub fn count_up(counts: &mut Vec<u32>, place: usize) -> u32
     requires place { place < length counts.old.items }
-    requires count { slice_index counts.old.items place ≤ 12288 }
+    requires count { slice_index counts.old.items place ≤ MOST_UNITS }
     ensures counts { counts.new.items ≡ slice_set counts.old.items place
         (slice_index counts.old.items place + 1) }
     ensures count { result ≡ slice_index counts.old.items place + 1 }

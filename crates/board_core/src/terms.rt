@@ -1,6 +1,7 @@
 //! What a board is made for.
 ghost use Rattle.std.specs.Prelude.{◌≡◌, ◌+◌, ◌-◌, ◌*◌, ◌<◌, ◌≤◌, length};
 ghost use Rattle.uc_model.specs.Data.{unit_count};
+ghost use Rattle.uc_model.specs.declared.limits.TheConstants.{MOST_PROPOSALS, MOST_UNITS};
 ghost use Rattle.board_core.specs.Events.{place};
 ghost use Rattle.board_core.specs.Setups.{setup_of};
 
@@ -30,8 +31,8 @@ impl Terms {
 /// The number of a task among all: by proposal, which counts from 1, and then by unit.
 pub fn place(units: u32, proposal: u32, unit: u32) -> usize
     requires first { 1 ≤ proposal }
-    requires proposals { proposal ≤ 10000 }
-    requires units { units ≤ 12288 }
+    requires proposals { proposal ≤ MOST_PROPOSALS }
+    requires units { units ≤ MOST_UNITS }
     requires inside { unit < units }
     ensures { result ≡ place units proposal unit }
 {

@@ -7,6 +7,7 @@ ghost use Rattle.board_core.specs.Boards.{empty_board};
 ghost use Rattle.board_share.specs.Seats.{view_of, IsSeatOf};
 ghost use Rattle.board_share.specs.Views.{first_view};
 ghost use Rattle.uc_model.specs.Data.{NamedThermalUnit};
+ghost use Rattle.uc_model.specs.declared.limits.TheConstants.{MOST_PERIODS, MOST_POINTS};
 ghost use Rattle.answer_workers.specs.Answers.{IsBenchOf};
 ghost use Rattle.board_run.specs.Crews.{named_by, IsCrew, AreOut};
 
@@ -37,8 +38,8 @@ pub fn hire(
     requires count { (view_of owner).setup.callers ≡ count }
     requires horizon { (view_of owner).setup.market.periods ≡ periods }
     requires some_period { 1 ≤ periods }
-    requires most_periods { periods ≤ 168 }
-    requires most_points { points ≤ 32 }
+    requires most_periods { periods ≤ MOST_PERIODS }
+    requires most_points { points ≤ MOST_POINTS }
     requires points { All (λ (n : NamedThermalUnit). length n.unit.points ≤ points) (view_of owner).setup.market.thermal }
     ensures crew { IfOk result (λ ws. IsCrew (view_of owner).setup board.now ws.items) }
 {

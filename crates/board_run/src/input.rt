@@ -2,6 +2,7 @@
 ghost use Rattle.std.specs.Prelude.{◌≡◌, ◌≤◌};
 ghost use Rattle.uc_model.specs.Data.{unit_count as units_in};
 ghost use Rattle.uc_model.specs.PlainCases.{market_of};
+ghost use Rattle.uc_model.specs.declared.limits.TheConstants.{MOST_UNITS};
 
 use uc_model::cases::{Case, Plan};
 
@@ -32,7 +33,7 @@ pub struct RunInput {
 /// How many units a case has, with the bids.
 pub fn unit_count(case: &Case) -> u32
     ensures value { result ≡ units_in (market_of case.now) }
-    ensures limit { result ≤ 12288 }
+    ensures limit { result ≤ MOST_UNITS }
 {
     (case.thermal.len() + case.flat.len() + case.bids.len()) as u32
 }

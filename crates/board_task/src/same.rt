@@ -7,6 +7,7 @@ ghost use Rattle.uc_model.specs.PlainCases.{market_of, task_unit};
 ghost use Rattle.uc_model.specs.PlainUnits.{prices_of, thermal_of, renewable_of, bid_of};
 ghost use Rattle.uc_model.specs.Reserved.{items_in};
 ghost use Rattle.uc_model.specs.TaskLists.{period_numbers, task_numbers};
+ghost use Rattle.uc_model.specs.declared.limits.TheConstants.{MOST_BLOCKS, MOST_PERIODS};
 ghost use Rattle.board_task.specs.Same.{HaveSamePowers, HaveSameTimes, AreSame};
 
 use uc_model::cases::{Case, Task};
@@ -109,8 +110,8 @@ fn same_periods(a: &BlockLists, b: &BlockLists) -> bool
 // How many numbers the flat lists of two bids' blocks begin with alike, up to the first period with
 // other blocks.
 fn alike_periods(a: &BlockLists, b: &BlockLists) -> u32
-    requires few { length a.now.items ≤ 168 }
-    requires counts { All (λ bs. length bs.items ≤ 8) a.now.items }
+    requires few { length a.now.items ≤ MOST_PERIODS }
+    requires counts { All (λ bs. length bs.items ≤ MOST_BLOCKS) a.now.items }
     ensures { AreSame (flat_map period_numbers (map items_in a.now.items))
         (flat_map period_numbers (map items_in b.now.items)) result }
 {

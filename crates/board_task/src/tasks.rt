@@ -6,6 +6,7 @@ ghost use Rattle.uc_model.specs.PlainCases.{market_of, task_unit};
 ghost use Rattle.uc_model.specs.PlainUnits.{prices_of, thermal_of, renewable_of, bid_of};
 ghost use Rattle.uc_model.specs.Reserved.{items_in};
 ghost use Rattle.uc_model.specs.TaskRoom.{room_of, IsTaskFor};
+ghost use Rattle.uc_model.specs.declared.limits.TheConstants.{MOST_BLOCKS};
 
 use uc_model::cases::{Case, Task};
 use uc_model::copies::{copy_list, copy_unit};
@@ -30,10 +31,10 @@ fn copy_renewable(from: &Renewable, into: &mut Renewable)
 
 fn copy_blocks(from: &BlockLists, into: &mut BlockLists)
     requires lengths { length from.now.items ≡ length into.old.items }
-    requires counts { All (λ bs. length bs.items ≤ 8) from.now.items }
-    requires room { All (λ bs. 8 ≤ room_of bs) into.old.items }
+    requires counts { All (λ bs. length bs.items ≤ MOST_BLOCKS) from.now.items }
+    requires room { All (λ bs. MOST_BLOCKS ≤ room_of bs) into.old.items }
     ensures blocks { map items_in into.new.items ≡ map items_in from.now.items }
-    ensures room { All (λ bs. 8 ≤ room_of bs) into.new.items }
+    ensures room { All (λ bs. MOST_BLOCKS ≤ room_of bs) into.new.items }
 {
     for k in 0..from.len() {
         copy_list(from.get(k), into.get_mut(k));
@@ -42,9 +43,9 @@ fn copy_blocks(from: &BlockLists, into: &mut BlockLists)
 
 fn copy_bid(from: &Bid, into: &mut Bid)
     requires lengths { length (bid_of from.now).blocks ≡ length (bid_of into.old).blocks }
-    requires room { All (λ bs. 8 ≤ room_of bs) into.old.blocks.items }
+    requires room { All (λ bs. MOST_BLOCKS ≤ room_of bs) into.old.blocks.items }
     ensures bid { bid_of into.new ≡ bid_of from.now }
-    ensures room { All (λ bs. 8 ≤ room_of bs) into.new.blocks.items }
+    ensures room { All (λ bs. MOST_BLOCKS ≤ room_of bs) into.new.blocks.items }
 {
     copy_blocks(&from.blocks, &mut into.blocks);
 }

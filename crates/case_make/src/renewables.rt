@@ -1,6 +1,7 @@
 //! Generated renewable units, which give their greatest power.
 ghost use Rattle.std.specs.Prelude.{◌≡◌, ◌≤◌, IfOk, OnOk, pos, map, length};
 ghost use Rattle.uc_model.specs.PlainUnits.{renewable_of as renewable_unit_of, schedule_of};
+ghost use Rattle.uc_model.specs.declared.limits.TheConstants.{MOST_PERIODS};
 ghost use Rattle.case_make.specs.Drawn.{most_powers, renewable_of, full};
 ghost use Rattle.case_make.specs.Sizes.{ArePowers};
 ghost use Rattle.case_make.specs.Words.{moved_on};
@@ -28,7 +29,7 @@ pub fn draw_powers(alloc: Global, random: &mut Pcg32) -> Result<Powers, AllocErr
 }
 
 fn numbers(alloc: Global, powers: &Powers) -> Result<Numbers, AllocError>
-    requires { length powers.now.items ≤ 168 }
+    requires { length powers.now.items ≤ MOST_PERIODS }
     ensures { IfOk result (λ numbers. numbers.items ≡ map pos powers.now.items) }
 {
     let mut numbers = Numbers::make(alloc, powers.len() as u32)?;

@@ -1,6 +1,7 @@
 //! Copies of what a case has, in memory of their own.
 ghost use Rattle.std.specs.Prelude.{◌≡◌, ◌<◌, ◌≤◌, length, map, IfOk};
 ghost use Rattle.uc_model.specs.PlainUnits.{renewable_of, bid_of, thermal_of, schedule_of};
+ghost use Rattle.uc_model.specs.declared.limits.TheConstants.{MOST_PERIODS, MOST_UNITS};
 ghost use Rattle.fixed_price.specs.FixedCase.{held_mark, held_unit};
 
 use std::alloc::{AllocError, Global};
@@ -13,7 +14,7 @@ pub fn copied<T: Copy + Drop>(
     alloc: Global,
     from: &ReservedList<T>,
 ) -> Result<ReservedList<T>, AllocError>
-    requires { length from.now.items ≤ 12288 }
+    requires { length from.now.items ≤ MOST_UNITS }
     ensures { IfOk result (λ list. list.items ≡ from.now.items) }
 {
     let mut into = ReservedList::make(alloc, from.len() as u32)?;
@@ -50,7 +51,7 @@ fn mark_of(on: bool) -> Mark
 
 // The window that holds these flags.
 fn held_window(alloc: Global, on: &Flags) -> Result<Marks, AllocError>
-    requires { length on.now.items ≤ 168 }
+    requires { length on.now.items ≤ MOST_PERIODS }
     ensures { IfOk result (λ window. window.items ≡ map held_mark on.now.items) }
 {
     let mut window = Marks::make(alloc, on.len() as u32)?;

@@ -5,6 +5,7 @@ ghost use Rattle.uc_model.specs.PlainUnits.{named_thermal_of, named_renewable_of
 ghost use Rattle.uc_model.specs.PlainUnits.{thermal_of, schedule_of};
 ghost use Rattle.uc_model.specs.Sums.{zip_with};
 ghost use Rattle.uc_model.specs.Systems.{IsFeasiblePlan};
+ghost use Rattle.uc_model.specs.declared.limits.TheConstants.{MOST_OF_A_KIND};
 ghost use Rattle.fixed_price.specs.FixedCase.{held_named, fixed_market};
 
 use crate::copies::{copied, copied_bid, copied_flat, held};
@@ -53,7 +54,7 @@ fn copied_named_flat(alloc: Global, named: &NamedFlat) -> Result<NamedFlat, Allo
 
 // The renewable units.
 fn copied_flats(alloc: Global, from: &FlatList) -> Result<FlatList, AllocError>
-    requires { length from.now.items ≤ 4096 }
+    requires { length from.now.items ≤ MOST_OF_A_KIND }
     ensures { IfOk result (λ list. map named_renewable_of list.items
         ≡ map named_renewable_of from.now.items) }
 {
@@ -75,7 +76,7 @@ fn copied_named_bid(alloc: Global, named: &NamedBid) -> Result<NamedBid, AllocEr
 
 // The bids.
 fn copied_bids(alloc: Global, from: &BidList) -> Result<BidList, AllocError>
-    requires { length from.now.items ≤ 4096 }
+    requires { length from.now.items ≤ MOST_OF_A_KIND }
     ensures { IfOk result (λ list. map named_bid_of list.items ≡ map named_bid_of from.now.items) }
 {
     let mut bids = BidList::make(alloc, from.len() as u32)?;

@@ -2,6 +2,7 @@
 ghost use Rattle.std.specs.Prelude.{◌≡◌, ◌<◌, ◌≤◌, ◌*◌, length, map, Some, slice_get};
 ghost use Rattle.std.specs.List.{All};
 ghost use Rattle.uc_model.specs.PlainCases.{market_of, proposal_of};
+ghost use Rattle.uc_model.specs.declared.limits.TheConstants.{MOST_PROPOSALS};
 ghost use Rattle.gap_proof.specs.Candidates.{prices_of_row};
 ghost use Rattle.gap_proof.specs.CertifiedBound.{certified_bound};
 ghost use Rattle.gap_proof.specs.Laws.{AreWeights};
@@ -35,7 +36,7 @@ pub fn bound_of(
     radius: i64,
     work: &mut Amounts,
 ) -> i128
-    requires count { length rows.now ≤ 10000 }
+    requires count { length rows.now ≤ MOST_PROPOSALS }
     requires rows { All (IsRowWithin (market_of case.now)) (map proposal_of rows.now) }
     requires weights { AreWeights (map proposal_of rows.now) weights.now.items }
     requires weight_sizes { All IsWeight weights.now.items }

@@ -3,6 +3,7 @@ ghost use Rattle.std.specs.Prelude.{◌≡◌, ℕ, ◌<◌, ◌≤◌, ◌*◌,
 ghost use Rattle.std.specs.List.{All};
 ghost use Rattle.uc_model.specs.PlainCases.{market_of, proposal_of};
 ghost use Rattle.uc_model.specs.PlainUnits.{prices_of};
+ghost use Rattle.uc_model.specs.declared.limits.TheConstants.{MOST_PROPOSALS};
 ghost use Rattle.gap_proof.specs.Candidates.{prices_of_row, range_bound, IsFirstLeast};
 ghost use Rattle.gap_proof.specs.Sums.{IsRowWithin, IsRadius, AreSums, most_bound};
 
@@ -89,7 +90,7 @@ fn trailing(
     work: &mut Amounts,
 ) -> Certified
     requires some { 1 ≤ length rows.now }
-    requires count { length rows.now ≤ 10000 }
+    requires count { length rows.now ≤ MOST_PROPOSALS }
     requires rows { All (IsRowWithin (market_of case.now)) (map proposal_of rows.now) }
     requires horizon { length (prices_of centre.now).energy ≡ (market_of case.now).periods }
     requires radius { IsRadius radius }
@@ -137,7 +138,7 @@ pub fn best_range(
     radius: i64,
     work: &mut Amounts,
 ) -> Certified
-    requires count { length rows.now ≤ 10000 }
+    requires count { length rows.now ≤ MOST_PROPOSALS }
     requires rows { All (IsRowWithin (market_of case.now)) (map proposal_of rows.now) }
     requires from_one { 1 ≤ centre }
     requires to_last { centre ≤ length rows.now }

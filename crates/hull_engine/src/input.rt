@@ -1,5 +1,6 @@
 //! The limit of work of a run.
 ghost use Rattle.std.specs.Prelude.{◌≡◌, ◌≤◌, ◌*◌, ℕ, Ok, IfOk};
+ghost use Rattle.uc_model.specs.declared.limits.TheConstants.{MOST_PERIODS, MOST_UNITS};
 ghost use Rattle.board_run.specs.Inputs.{planned_of, IsPlanned, IsRunInput};
 ghost use Rattle.board_run.specs.Sizes.{IsRunSize};
 ghost use Rattle.hull_engine.specs.Steps.{IsWithinWork};
@@ -11,8 +12,8 @@ use uc_model::limits::MOST_WORK;
 
 /// So many proposals, units and periods multiplied.
 fn work_of(proposals: u32, units: u32, periods: u32) -> u64
-    requires units { units ≤ 12288 }
-    requires periods { periods ≤ 168 }
+    requires units { units ≤ MOST_UNITS }
+    requires periods { periods ≤ MOST_PERIODS }
     ensures { result ≡ proposals * units * periods }
 {
     u64::from(proposals) * u64::from(units) * u64::from(periods)

@@ -5,6 +5,7 @@ ghost use Rattle.board_history.specs.Calls.{own_rows, has_finished};
 ghost use Rattle.hull_io.specs.Edge.{Writes};
 ghost use Rattle.uc_model.specs.Data.{unit_count};
 ghost use Rattle.uc_model.specs.PlainUnits.{schedule_of};
+ghost use Rattle.uc_model.specs.declared.limits.TheConstants.{MOST_PROPOSALS};
 ghost use Rattle.report_form.specs.ReportText.{rows_text, head_text, chosen_text, thermal_text};
 ghost use Rattle.report_form.specs.ReportText.{renewable_text, bid_text, report_text};
 ghost use Rattle.hull_report.specs.RecordReport.{line_of, lines_from, thermal_names};
@@ -39,7 +40,7 @@ pub(crate) struct Choice {
 pub(crate) fn choice_of(closed: &Closed) -> Choice
     requires { has_finished closed.now ≡ true }
     ensures proposals { result.proposals ≡ length (own_rows closed.now) }
-    ensures most { result.proposals ≤ 10000 }
+    ensures most { result.proposals ≤ MOST_PROPOSALS }
     ensures chosen { result.chosen ≡ chosen_of closed.now }
     ensures first { 1 ≤ result.chosen }
     ensures last { result.chosen ≤ length (own_rows closed.now) }
@@ -86,7 +87,7 @@ fn head_of(closed: &Closed, proposals: u32) -> Head
 // Writes the lines up to the chosen value.
 fn write_proposals<S: Sink>(closed: &Closed, choice: Choice, out: &mut S) -> Result<(), WriteFailed>
     requires proposals { choice.proposals ≡ length (own_rows closed.now) }
-    requires most { choice.proposals ≤ 10000 }
+    requires most { choice.proposals ≤ MOST_PROPOSALS }
     ensures { Writes S.held S.faults S.last out.old out.new result (
         head_text closed.now.setup.market.periods (unit_count closed.now.setup.market) closed.now.setup.budget closed.now.setup.ahead closed.now.setup.cost choice.proposals
         ++ rows_text 1 (own_rows closed.now)

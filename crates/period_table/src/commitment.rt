@@ -4,6 +4,7 @@ ghost use Rattle.std.specs.Prelude.{◌≡◌, ℕ, ◌+◌, ◌<◌, ◌≤◌,
 ghost use Rattle.std.specs.Prelude.{length, suc};
 ghost use Rattle.uc_model.specs.PlainUnits.{thermal_of};
 ghost use Rattle.uc_model.specs.Schedules.{mark_in};
+ghost use Rattle.uc_model.specs.declared.limits.TheConstants.{MOST_PERIODS};
 ghost use Rattle.period_table.specs.Origins.{IsRipe};
 ghost use Rattle.period_table.specs.Spells.{off_time, on_time, IsOffRun, StopsAtOnce};
 
@@ -80,7 +81,7 @@ pub fn time_off(unit: &Unit, last: u32, period: u32) -> u64
 /// The last on period since which the unit has been off for long enough at the end of a period, and
 /// a period before it hadn't been.
 pub fn ripened(unit: &Unit, period: u32) -> Option<u32>
-    requires { period ≤ 168 }
+    requires { period ≤ MOST_PERIODS }
     ensures some { IfSome result (IsRipe (thermal_of unit.now) period) }
     ensures only { (last : ℕ) → IsRipe (thermal_of unit.now) period last → result ≡ Some last }
 {

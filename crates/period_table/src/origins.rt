@@ -6,6 +6,7 @@
 ghost use Rattle.std.specs.Prelude.{◌≡◌, ◌⊎◌, ℕ, suc, ◌+◌, ◌*◌, ◌<◌, ◌≤◌, length, slice_get};
 ghost use Rattle.std.specs.Prelude.{ℤ, pos, ◌+ℤ◌, ◌≤ℤ◌, IsTrue, IfOk, IfSome, IfNone, Option, Some};
 ghost use Rattle.uc_model.specs.PlainUnits.{thermal_of};
+ghost use Rattle.uc_model.specs.declared.limits.TheConstants.{MOST_PERIODS};
 ghost use Rattle.period_table.specs.Origins.{IsRising, IsRipe, IsOrigin, HasOrigin, IsOriginPut};
 ghost use Rattle.period_table.specs.Origins.{AreRight, AreInOrder, AreOrigins, AreOriginsWithin};
 ghost use Rattle.period_table.specs.Rows.{cost_at, IsWithinTimes};
@@ -54,7 +55,7 @@ fn are_rising(lags: &[Lag]) -> bool
 impl Origins {
     /// Origins over so many periods, none of them yet.
     pub fn make(alloc: Global, periods: u32) -> Result<Origins, AllocError>
-        requires { periods ≤ 168 }
+        requires { periods ≤ MOST_PERIODS }
         ensures { IfOk result (λ o. periods < length o.list.items) }
     {
         let none = Origin { last: 0, cost: 0 };
@@ -91,7 +92,7 @@ impl Origins {
 
     // Puts an end behind those that it doesn't dominate.
     fn put(&mut self, origin: Origin)
-        requires small { self.old.count ≤ 168 }
+        requires small { self.old.count ≤ MOST_PERIODS }
         requires room { self.old.count < length self.old.list.items }
         ensures put { IsOriginPut origin self.old self.new }
         ensures length { length self.new.list.items ≡ length self.old.list.items }
@@ -164,7 +165,7 @@ impl Origins {
     /// The least cost of all before a start in the period after `period`, with the start; of equal
     /// ones that with the earliest on period before it.
     pub fn least(&self, unit: &Unit, period: u32) -> Option<Entry>
-        requires small { period < 168 }
+        requires small { period < MOST_PERIODS }
         requires within { AreOriginsWithin period self.now }
         requires order { AreInOrder self.now }
         ensures some { IfSome result (λ e. (ends : ℕ → Option ℤ) →

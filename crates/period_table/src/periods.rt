@@ -10,6 +10,7 @@ ghost use Rattle.cost_curve.specs.CostCurve.{IsCostCurve};
 ghost use Rattle.uc_model.specs.Data.{PriceLists};
 ghost use Rattle.uc_model.specs.PlainUnits.{thermal_of, prices_of};
 ghost use Rattle.uc_model.specs.Sums.{int_at};
+ghost use Rattle.uc_model.specs.declared.limits.TheConstants.{MOST_PERIODS};
 ghost use Rattle.period_table.specs.Limits.{AreLimits, IsFilledWithin};
 ghost use Rattle.period_table.specs.Live.{live_at, left_at, AreRoomy, AreSmall, HaveRoom};
 ghost use Rattle.period_table.specs.Live.{IsFilledTo};
@@ -42,7 +43,7 @@ fn start_after<R: Running>(
     roster: &mut Roster,
     runners: &mut [Runner<R>],
 )
-    requires small_place { place < 168 }
+    requires small_place { place < MOST_PERIODS }
     requires runners { suc place < length runners.old }
     requires list { suc place < length roster.old.firsts.items }
     requires roster { IsRoster (live_at R.function runners.old) (suc place) roster.old }
@@ -83,7 +84,7 @@ fn start<R: Running>(
     roster: &mut Roster,
     runners: &mut [Runner<R>],
 )
-    requires small_place { place < 168 }
+    requires small_place { place < MOST_PERIODS }
     requires list { suc place < length roster.old.firsts.items }
     requires roster { IsRoster (live_at R.function runners.old) (suc place) roster.old }
     requires within { AreOriginsWithin place origins.now }

@@ -1,5 +1,6 @@
 //! Which runners are on: so that no loop goes over those that aren't.
 ghost use Rattle.std.specs.Prelude.{◌≡◌, ℕ, suc, ◌<◌, ◌≤◌, IfOk, length, slice_set};
+ghost use Rattle.uc_model.specs.declared.limits.TheConstants.{MOST_PERIODS};
 ghost use Rattle.period_table.specs.Live.{live_at};
 ghost use Rattle.period_table.specs.Rosters.{IsRoster};
 
@@ -19,7 +20,7 @@ pub struct Roster {
 impl Roster {
     /// Room for the first periods 0 to so many, none of them yet.
     pub fn make(alloc: Global, periods: u32) -> Result<Roster, AllocError>
-        requires { periods ≤ 168 }
+        requires { periods ≤ MOST_PERIODS }
         ensures { IfOk result (λ r. periods < length r.firsts.items) }
     {
         let firsts = ReservedList::filled(alloc, periods + 1, 0)?;
@@ -36,7 +37,7 @@ impl Roster {
 
     /// Puts a first period behind the others.
     pub fn add(&mut self, first: u32)
-        requires small { self.old.count ≤ 168 }
+        requires small { self.old.count ≤ MOST_PERIODS }
         requires room { self.old.count < length self.old.firsts.items }
         ensures count { self.new.count ≡ suc self.old.count }
         ensures firsts { self.new.firsts.items ≡ slice_set self.old.firsts.items self.old.count

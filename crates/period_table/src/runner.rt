@@ -12,6 +12,7 @@ ghost use Rattle.uc_model.specs.declared.units.Mark.TheVariants.{MustOff};
 ghost use Rattle.uc_model.specs.Data.{ThermalUnit, PriceLists};
 ghost use Rattle.uc_model.specs.PlainUnits.{thermal_of, prices_of};
 ghost use Rattle.uc_model.specs.Schedules.{mark_in};
+ghost use Rattle.uc_model.specs.declared.limits.TheConstants.{MOST_PERIODS};
 ghost use Rattle.period_table.specs.Live.{going_of, live_at, left_at, places_of, IsRoomy, AreRoomy};
 ghost use Rattle.period_table.specs.Live.{AreSmall, IsUnder, IsBeyond, IsBelow, HaveRoom};
 ghost use Rattle.period_table.specs.Rosters.{IsRoster};
@@ -428,7 +429,7 @@ fn goes<R: Running>(
     late: &Runner<R>,
     early: &Runner<R>,
 ) -> bool
-    requires small { period ≤ 168 }
+    requires small { period ≤ MOST_PERIODS }
     requires order { first ≤ period }
     requires late { IsWithinTimes 400 late.now.cost }
     requires early { IsWithinTimes 400 early.now.cost }
@@ -452,7 +453,7 @@ fn prune_one<R: Running>(
     late: Option<u32>,
     runners: &mut [Runner<R>],
 ) -> Option<u32>
-    requires periods { period ≤ 168 }
+    requires periods { period ≤ MOST_PERIODS }
     requires early { early ≤ period }
     requires end { period < length runners.old }
     requires late { IfSome late (λ l. (early < l) × (l ≤ period)
@@ -494,7 +495,7 @@ fn prune_one<R: Running>(
 /// Stops each runner that a later one stands for at the end of a period. The roster has all that
 /// are on.
 pub fn prune<R: Running>(unit: &Unit, period: u32, roster: &Roster, runners: &mut [Runner<R>])
-    requires periods { period ≤ 168 }
+    requires periods { period ≤ MOST_PERIODS }
     requires end { period < length runners.old }
     requires small { AreSmall (live_at R.function runners.old) }
     requires roster { IsRoster (live_at R.function runners.old) (suc period) roster.now }

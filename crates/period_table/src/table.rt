@@ -1,6 +1,7 @@
 //! The table of least costs by the last on period.
 ghost use Rattle.std.specs.Prelude.{◌≡◌, ◌≢◌, ℕ, ◌+◌, ◌-◌, ◌*◌, ◌<◌, ◌≤◌, ℤ, pos, ◌+ℤ◌, ◌≤ℤ◌, ◌⊎◌, IsTrue, IsFalse, IfSome, IfNone, length, suc, Some, None};
 ghost use Rattle.uc_model.specs.PlainUnits.{thermal_of};
+ghost use Rattle.uc_model.specs.declared.limits.TheConstants.{MOST_PERIODS};
 ghost use Rattle.period_table.specs.Rows.{row_at, cost_at, IsWithinTimes, AreWithin, IsPut, HasEntryAtMost, IsFirstRow};
 ghost use Rattle.period_table.specs.Spells.{start_cost_after};
 ghost use Rattle.period_table.specs.Tables.{HasAtMost};
@@ -106,7 +107,7 @@ pub fn put(table: &mut Table, last: u32, ended: Ended)
 pub fn put_end(table: &mut Table, last: u32, first: u32, entry: &Entry, net: Option<i64>)
     requires room { last < length table.old.items }
     requires order { first ≤ last }
-    requires small { last ≤ 168 }
+    requires small { last ≤ MOST_PERIODS }
     requires within { AreWithin table.old.items }
     requires bound { IsWithinTimes (2 * first + 1) entry.now.cost }
     requires net_bound { IfSome net (IsWithinTimes (suc last - first)) }

@@ -9,6 +9,7 @@ ghost use Rattle.uc_model.specs.Refusals.{told, renewable_broken, bid_broken, ba
 ghost use Rattle.uc_model.specs.Refusals.{reserve_broken, thermal_refusals, all_thermal};
 ghost use Rattle.uc_model.specs.Refusals.{all_renewable, all_bids, refusals};
 ghost use Rattle.uc_model.specs.Systems.{plan_cost, IsFeasiblePlan};
+ghost use Rattle.uc_model.specs.declared.limits.TheConstants.{MOST_PERIODS};
 ghost use Rattle.plan_check.specs.Checks.{refusal_of, Finds};
 ghost use Rattle.plan_check.specs.States.{sides_of, thermal_broken, told_shift, rule_refusals};
 
@@ -59,7 +60,7 @@ fn fault(code: RuleCode, kind: Kind, unit: u32, period: u32, sides: Sides) -> Ru
 // What breaks a thermal rule at a place.
 fn thermal_sides(rule: RuleCode, unit: &Unit, response: &Response, place: usize) -> Option<Sides>
     requires within { place < length (schedule_of response.now).on }
-    requires horizon { length (schedule_of response.now).on ≤ 168 }
+    requires horizon { length (schedule_of response.now).on ≤ MOST_PERIODS }
     requires window { length (thermal_of unit.now).window ≡ length (schedule_of response.now).on }
     ensures { sides_of result ≡ thermal_broken rule (thermal_of unit.now) (schedule_of response.now)
         place }
@@ -99,7 +100,7 @@ fn check_rule(
     response: &Response,
     number: u32,
 ) -> Result<(), RuleFault>
-    requires horizon { length (schedule_of response.now).on ≤ 168 }
+    requires horizon { length (schedule_of response.now).on ≤ MOST_PERIODS }
     requires window { length (thermal_of unit.now).window ≡ length (schedule_of response.now).on }
     ensures { Finds (rule_refusals (length (schedule_of response.now).on) number
         (thermal_of unit.now) (schedule_of response.now) rule) result }
@@ -120,7 +121,7 @@ fn check_rules(
     response: &Response,
     number: u32,
 ) -> Result<(), RuleFault>
-    requires horizon { length (schedule_of response.now).on ≤ 168 }
+    requires horizon { length (schedule_of response.now).on ≤ MOST_PERIODS }
     requires window { length (thermal_of unit.now).window ≡ length (schedule_of response.now).on }
     ensures { Finds
         (flat_map (rule_refusals (length (schedule_of response.now).on) number (thermal_of unit.now)
@@ -134,7 +135,7 @@ fn check_rules(
 
 // The first rule that a thermal unit breaks.
 fn check_thermal(unit: &Unit, response: &Response, number: u32) -> Result<(), RuleFault>
-    requires horizon { length (schedule_of response.now).on ≤ 168 }
+    requires horizon { length (schedule_of response.now).on ≤ MOST_PERIODS }
     requires window { length (thermal_of unit.now).window ≡ length (schedule_of response.now).on }
     ensures { Finds (thermal_refusals (length (schedule_of response.now).on) number
         (thermal_of unit.now) (schedule_of response.now)) result }
@@ -171,7 +172,7 @@ fn renewable_sides(flat: &Renewable, response: &Response, place: usize) -> Optio
 
 // The first period in which a renewable unit is outside its range.
 fn check_renewable(flat: &Renewable, response: &Response, number: u32) -> Result<(), RuleFault>
-    requires horizon { length (schedule_of response.now).on ≤ 168 }
+    requires horizon { length (schedule_of response.now).on ≤ MOST_PERIODS }
     requires range { length (renewable_of flat.now).least ≡ length (schedule_of response.now).on }
     ensures { Finds (told RuleCode.RenewableRange Kind.Renewable number
         (length (schedule_of response.now).on) 1
@@ -220,7 +221,7 @@ fn bid_sides(bid: &Bid, response: &Response, place: usize) -> Option<Sides>
 
 // The first period in which a bid buys more than its blocks.
 fn check_bid(bid: &Bid, response: &Response, number: u32) -> Result<(), RuleFault>
-    requires horizon { length (schedule_of response.now).on ≤ 168 }
+    requires horizon { length (schedule_of response.now).on ≤ MOST_PERIODS }
     requires blocks { length (bid_of bid.now).blocks ≡ length (schedule_of response.now).on }
     ensures { Finds (told RuleCode.BidRange Kind.Bid number (length (schedule_of response.now).on) 1
         (bid_broken (bid_of bid.now) (schedule_of response.now))) result }

@@ -11,6 +11,7 @@ ghost use Rattle.uc_model.specs.Refusals.{changed_in, or_else, must_run_broken, 
 ghost use Rattle.uc_model.specs.Refusals.{min_up_broken, min_down_broken, range_broken};
 ghost use Rattle.uc_model.specs.Refusals.{start_broken, stop_broken, ramp_up_broken};
 ghost use Rattle.uc_model.specs.Refusals.{ramp_down_broken, window_broken};
+ghost use Rattle.uc_model.specs.declared.limits.TheConstants.{MOST_PERIODS};
 ghost use Rattle.plan_check.specs.States.{sides_of, run_broken, IsStateIn};
 
 use crate::states::{Sides, State};
@@ -160,7 +161,7 @@ fn run_sides(since: Option<usize>, end: usize, minimum: u32) -> Option<Sides>
 /// A unit that started in the horizon stops only after its minimum time up.
 pub fn min_up_sides(unit: &Unit, response: &Response, place: usize) -> Option<Sides>
     requires within { place < length (schedule_of response.now).on }
-    requires horizon { length (schedule_of response.now).on ≤ 168 }
+    requires horizon { length (schedule_of response.now).on ≤ MOST_PERIODS }
     ensures { sides_of result ≡ min_up_broken (thermal_of unit.now) (schedule_of response.now)
         place }
 {
@@ -176,7 +177,7 @@ pub fn min_up_sides(unit: &Unit, response: &Response, place: usize) -> Option<Si
 /// A unit that stopped in the horizon starts only after its minimum time down.
 pub fn min_down_sides(unit: &Unit, response: &Response, place: usize) -> Option<Sides>
     requires within { place < length (schedule_of response.now).on }
-    requires horizon { length (schedule_of response.now).on ≤ 168 }
+    requires horizon { length (schedule_of response.now).on ≤ MOST_PERIODS }
     ensures { sides_of result ≡ min_down_broken (thermal_of unit.now) (schedule_of response.now)
         place }
 {

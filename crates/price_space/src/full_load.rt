@@ -4,6 +4,7 @@ ghost use Rattle.uc_model.specs.Limits.{IsFrom, IsCost, IsOutput};
 ghost use Rattle.uc_model.specs.PlainUnits.{thermal_of};
 ghost use Rattle.uc_model.specs.PriceRule.{full_load_price as full_load_price_of};
 ghost use Rattle.uc_model.specs.Sums.{ceil_div};
+ghost use Rattle.uc_model.specs.declared.limits.TheConstants.{OUTPUT_LIMIT};
 
 use cost_curve::costs::envelope_at;
 use uc_model::units::Unit;
@@ -11,7 +12,7 @@ use uc_model::units::Unit;
 // A cost for each kilowatt, rounded up.
 fn cost_per_kilowatt(cost: i64, power: i64) -> i64
     requires cost { IsCost cost }
-    requires power { IsFrom (pos 1) (pos 10000000) power }
+    requires power { IsFrom (pos 1) OUTPUT_LIMIT power }
     ensures { result ≡ ceil_div cost (unsigned_abs power) }
 {
     -(-cost).div_euclid(power)

@@ -9,6 +9,7 @@ ghost use Rattle.uc_model.specs.PlainUnits.{thermal_of, named_renewable_of};
 ghost use Rattle.uc_model.specs.PriceRule.{start_price as start_price_of_market};
 ghost use Rattle.uc_model.specs.PriceRule.{start_prices as start_prices_of};
 ghost use Rattle.uc_model.specs.Sums.{int_at};
+ghost use Rattle.uc_model.specs.declared.limits.TheConstants.{MOST_OF_A_KIND};
 ghost use Rattle.price_space.specs.Starts.{priced_of, renewable_power_of, AreRisingUnits, IsRising};
 ghost use Rattle.price_space.specs.Starts.{IsStartPrice};
 
@@ -69,7 +70,7 @@ fn last_price(units: &[Priced]) -> i64
 fn first_reaching(units: &[Priced], short: i64) -> i64
     requires rising { IsRising units.now }
     requires powers { All (λ u. IsOutput u.power) units.now }
-    requires count { length units.now ≤ 4096 }
+    requires count { length units.now ≤ MOST_OF_A_KIND }
     ensures { IsStartPrice units.now short result }
 {
     let mut power: u64 = 0;

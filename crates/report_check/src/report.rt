@@ -8,6 +8,7 @@ ghost use Rattle.uc_model.specs.PlainCases.{market_of, schedules_of, proposal_of
 ghost use Rattle.uc_model.specs.PlainUnits.{prices_of};
 ghost use Rattle.uc_model.specs.Runs.{IsRun, Fits};
 ghost use Rattle.uc_model.specs.Systems.{IsFeasiblePlan, plan_cost};
+ghost use Rattle.uc_model.specs.declared.limits.TheConstants.{MOST_PROPOSALS, MOST_UNITS};
 ghost use Rattle.case_answers.specs.Tops.{HasSchedules};
 ghost use Rattle.hull_report.specs.RightReport.{IsRightReport};
 ghost use Rattle.report_read.specs.Bounds.{IsReport, AreInOrder};
@@ -46,12 +47,12 @@ fn report_same(
     requires some { HasSchedules (market_of case.now) }
     requires desk { IsDeskFor (market_of case.now) desk.old }
     requires earned { length desk.old.earned.items ≡ unit_count (market_of case.now) }
-    requires rows { length rows.now ≤ 10000 }
-    requires chosen { chosen ≤ 10000 }
+    requires rows { length rows.now ≤ MOST_PROPOSALS }
+    requires chosen { chosen ≤ MOST_PROPOSALS }
     requires horizon { length (prices_of row.now.prices).energy ≡ (market_of case.now).periods }
     requires cost { IsWorth cost }
     requires value { IsWorth row.now.value }
-    requires units { report.now.units ≤ 12288 }
+    requires units { report.now.units ≤ MOST_UNITS }
     requires lines { length report.now.lines.items ≡ report.now.units }
     ensures { (responses : List Schedule)
         → AllZip (λ u s. Fits u (prices_of row.now.prices) s) (units (market_of case.now)) responses

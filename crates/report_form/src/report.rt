@@ -3,6 +3,7 @@ ghost use Rattle.std.specs.Prelude.{◌≤◌, length, map};
 ghost use Rattle.hull_io.specs.Edge.{Writes};
 ghost use Rattle.uc_model.specs.PlainUnits.{schedule_of};
 ghost use Rattle.uc_model.specs.PlainCases.{proposal_of};
+ghost use Rattle.uc_model.specs.declared.limits.TheConstants.{MOST_PROPOSALS};
 ghost use Rattle.report_form.specs.ReportText.{head_text, row_text, rows_text, chosen_text};
 ghost use Rattle.report_form.specs.ReportText.{thermal_text, flat_text, renewable_text, bid_text};
 ghost use Rattle.report_form.specs.ReportText.{foot_text};
@@ -91,7 +92,7 @@ pub fn write_row<S: Sink>(number: u32, row: &Row, out: &mut S) -> Result<(), Wri
 
 /// Writes the proposals, numbered from 1.
 pub fn write_rows<S: Sink>(rows: &[Row], out: &mut S) -> Result<(), WriteFailed>
-    requires { length rows.now ≤ 10000 }
+    requires { length rows.now ≤ MOST_PROPOSALS }
     ensures { Writes S.held S.faults S.last out.old out.new result
         (rows_text 1 (map proposal_of rows.now)) }
 {

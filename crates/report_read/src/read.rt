@@ -1,5 +1,6 @@
 //! A report of its text, or the first line in fault.
 ghost use Rattle.std.specs.Prelude.{◌≡◌, ◌≤◌, ◌-◌, suc, length, map, take, IfOk};
+ghost use Rattle.uc_model.specs.declared.limits.TheConstants.{MOST_BYTES};
 ghost use Rattle.report_form.specs.ReportText.{Report as PlainReport, report_text};
 ghost use Rattle.report_read.specs.Plain.{report_of, told_of};
 ghost use Rattle.report_read.specs.Bounds.{IsReport, AreInOrder};
@@ -17,7 +18,7 @@ use std::alloc::Global;
 /// A report at the front of the bytes.
 #[tactic(auto, unfolding(crate::specs::Lines::report_at, crate::specs::Plain::report_of))]
 fn report_in_front(alloc: Global, bytes: &[u8]) -> Result<(Report, &[u8]), Stop>
-    requires { length bytes.now ≤ 67108864 }
+    requires { length bytes.now ≤ MOST_BYTES }
     ensures exact { Gives (λ x. (report_of x.0, x.1.now)) result (report_at bytes.now) }
     ensures order { IfOk result (λ x. AreInOrder 0 (map told_of x.0.lines.items)) }
 {
@@ -45,7 +46,7 @@ fn report_in_front(alloc: Global, bytes: &[u8]) -> Result<(Report, &[u8]), Stop>
 
 #[tactic(auto, unfolding(crate::specs::Lines::all_of))]
 fn whole_report(alloc: Global, bytes: &[u8]) -> Result<Report, Stop>
-    requires { length bytes.now ≤ 67108864 }
+    requires { length bytes.now ≤ MOST_BYTES }
     ensures exact { Gives report_of result (all_of bytes.now) }
     ensures order { IfOk result (λ r. AreInOrder 0 (map told_of r.lines.items)) }
 {
@@ -58,7 +59,7 @@ fn whole_report(alloc: Global, bytes: &[u8]) -> Result<Report, Stop>
 
 /// The number from 1 of the line that begins where so many bytes are left.
 fn line_number(bytes: &[u8], left: usize) -> u32
-    requires few { length bytes.now ≤ 67108864 }
+    requires few { length bytes.now ≤ MOST_BYTES }
     requires within { left ≤ length bytes.now }
     ensures { result ≡ suc (line_feeds (take (length bytes.now - left) bytes.now)) }
 {
@@ -80,7 +81,7 @@ fn line_number(bytes: &[u8], left: usize) -> u32
 /// text ends in is one too. Takes time in proportion to the bytes, and at most some eight times
 /// their memory.
 pub fn read_report(alloc: Global, bytes: &[u8]) -> Result<Report, ReportError>
-    requires { length bytes.now ≤ 67108864 }
+    requires { length bytes.now ≤ MOST_BYTES }
     // What is read is within the bounds, and its text is the bytes.
     ensures bounds { IfOk result (λ r. IsReport (report_of r)) }
     ensures found { IfOk result (λ r. bytes.now ≡ report_text (report_of r)) }

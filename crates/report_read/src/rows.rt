@@ -1,6 +1,7 @@
 //! The proposals of a report.
 ghost use Rattle.std.specs.Prelude.{◌≡◌, ◌+◌, ◌<◌, ◌≤◌, ◌^◌, length, map, IfOk};
 ghost use Rattle.uc_model.specs.PlainCases.{proposal_of};
+ghost use Rattle.uc_model.specs.declared.limits.TheConstants.{MOST_BYTES, MOST_PERIODS};
 ghost use Rattle.report_read.specs.Lines.{Gives, row_at, rows_at};
 ghost use Rattle.report_read.specs.declared.rows.TheConstants.{LEAST_BYTES};
 
@@ -19,7 +20,7 @@ const LEAST_BYTES: usize = 50;
 #[tactic(auto, unfolding(crate::specs::Lines::row_at))]
 fn read_row(alloc: Global, periods: u32, number: u32, bytes: &[u8]) -> Result<(Row, &[u8]), Stop>
     requires some { 1 ≤ periods }
-    requires limit { periods ≤ 168 }
+    requires limit { periods ≤ MOST_PERIODS }
     ensures { Gives (λ x. (proposal_of x.0, x.1.now)) result (row_at periods number bytes.now) }
 {
     let (valued, rest) = value_line(b"proposal ", number, number, bytes)?;
@@ -44,8 +45,8 @@ pub fn read_rows(
     bytes: &[u8],
 ) -> Result<(RowList, &[u8]), Stop>
     requires some { 1 ≤ periods }
-    requires limit { periods ≤ 168 }
-    requires few { length bytes.now ≤ 67108864 }
+    requires limit { periods ≤ MOST_PERIODS }
+    requires few { length bytes.now ≤ MOST_BYTES }
     requires numbers { count < 2 ^ 32 }
     ensures { Gives (λ x. (map proposal_of x.0.items, x.1.now)) result
         (rows_at periods 1 count bytes.now) }

@@ -10,6 +10,7 @@ ghost use Rattle.unit_program.specs.Benches.{IsBenchFor};
 ghost use Rattle.slope_list.specs.Slopes.{room_of};
 ghost use Rattle.period_table.specs.Live.{left_at, HaveRoom};
 ghost use Rattle.uc_model.specs.Limits.{IsFrom};
+ghost use Rattle.uc_model.specs.declared.limits.TheConstants.{MOST_PERIODS, MOST_POINTS};
 ghost use Rattle.period_table.specs.Limits.{IsFilledWithin, IsEndWithin, EachCostsMore};
 ghost use Rattle.period_table.specs.Rows.{cost_at, first_at};
 ghost use Rattle.period_table.specs.Runners.{HaveWays};
@@ -79,8 +80,8 @@ fn make_runners(alloc: Global, count: u32, pieces: usize) -> Result<Vec<Runner<S
 impl Bench<Slopes> {
     /// A bench for so many periods and cost points.
     pub fn make(alloc: Global, periods: u32, points: u32) -> Result<Bench<Slopes>, AllocError>
-        requires periods { periods ≤ 168 }
-        requires points { points ≤ 32 }
+        requires periods { periods ≤ MOST_PERIODS }
+        requires points { points ≤ MOST_POINTS }
         ensures { IfOk result (IsBenchFor room_of periods points) }
     {
         let pieces = periods * (2 * points + 3);

@@ -10,6 +10,7 @@ ghost use Rattle.uc_model.specs.Envelope.{envelope};
 ghost use Rattle.uc_model.specs.Limits.{IsFrom, IsPoint};
 ghost use Rattle.uc_model.specs.PlainUnits.{thermal_of, prices_of};
 ghost use Rattle.uc_model.specs.Sums.{int_at};
+ghost use Rattle.uc_model.specs.declared.limits.TheConstants.{PRICE_LIMIT};
 ghost use Rattle.period_table.specs.Limits.{AreLimits};
 
 use cost_curve::laws::envelope_earns_as_points;
@@ -43,8 +44,8 @@ fn least_net(points: &[Point], price: i64) -> i64
 // At most 0, and at most what a period at those prices costs where the unit is on, whatever its
 // power and reserve.
 fn least_of_period(unit: &Unit, energy: i64, reserve: i64) -> i64
-    requires energy { IsFrom (neg_ℤ (pos 10000000)) (pos 10000000) energy }
-    requires reserve { IsFrom (pos 0) (pos 10000000) reserve }
+    requires energy { IsFrom (neg_ℤ PRICE_LIMIT) PRICE_LIMIT energy }
+    requires reserve { IsFrom (pos 0) PRICE_LIMIT reserve }
     ensures bound { IsFrom (neg_ℤ (pos 20110000000000000)) (pos 0) result }
     ensures least { (p r : ℤ) → unit.now.min_power ≤ℤ p → (p +ℤ r) ≤ℤ unit.now.max_power
         → pos 0 ≤ℤ r →

@@ -3,6 +3,7 @@ ghost use Rattle.std.specs.Prelude.{◌≡◌, ℕ, ◌+◌, ◌-◌, ◌*◌, �
 ghost use Rattle.std.specs.Prelude.{IfNone, length, suc, Some};
 ghost use Rattle.uc_model.specs.PlainUnits.{thermal_of};
 ghost use Rattle.uc_model.specs.Schedules.{mark_in};
+ghost use Rattle.uc_model.specs.declared.limits.TheConstants.{MOST_PERIODS};
 ghost use Rattle.period_table.specs.Rows.{cost_at, first_at, before_at, net_at, IsWithinTimes};
 ghost use Rattle.period_table.specs.Rows.{AreWithin, IsOpenUntil};
 ghost use Rattle.period_table.specs.Spells.{IsOffRun, IsGap, on_time, start_cost_after};
@@ -16,7 +17,7 @@ use uc_model::units::{Mark, Unit};
 // How many of the marks from a place on come before the first `MustOff`, and the place where they
 // end.
 fn before_must_off(marks: &[Mark], from: u32) -> u32
-    requires small { length marks.now ≤ 168 }
+    requires small { length marks.now ≤ MOST_PERIODS }
     requires start { from ≤ length marks.now }
     ensures from { from ≤ result }
     ensures end { result ≤ length marks.now }
@@ -47,7 +48,7 @@ pub fn open_until(unit: &Unit, first: u32) -> u32
 fn entry_after(unit: &Unit, rows: &[Option<Ended>], last: u32, before: u32) -> Option<i64>
     requires off { IsOffRun (thermal_of unit.now) last before }
     requires room { last < length rows.now }
-    requires small { before < 168 }
+    requires small { before < MOST_PERIODS }
     requires within { AreWithin rows.now }
     ensures some { IfSome result (λ e. (v : ℤ) × (cost_at rows.now last ≡ Some v)
         × IsGap (thermal_of unit.now) last before
