@@ -2,7 +2,9 @@
 ghost use Rattle.std.specs.Prelude.{◌≡◌, ◌<◌, ◌^◌, length, true};
 ghost use Rattle.text_tokens.specs.Decimals.{decimal_in, is_number};
 ghost use Rattle.text_tokens.specs.Numbers.{number_of};
+ghost use Rattle.text_tokens.specs.Tokens.{number_at};
 
+use crate::bytes::number_len;
 use crate::number::{Numeral, numeral_in};
 use uc_num::Decimal;
 
@@ -23,5 +25,21 @@ impl<'a> Run<'a> {
             Numeral::Number(number) => number,
             _ => unreachable!(),
         }
+    }
+}
+
+/// The number in front, and 0 where none stands there.
+pub fn decimal_at(bytes: &[u8]) -> Decimal
+    requires { length bytes.now < 2 ^ 30 }
+    ensures { result ≡ decimal_in (number_at bytes.now).0 }
+{
+    let len = number_len(bytes);
+    match numeral_in(&bytes[..len]) {
+        Numeral::Number(number) => number,
+        _ => Decimal {
+            negative: false,
+            digits: 0,
+            exponent: 0,
+        },
     }
 }

@@ -259,6 +259,19 @@ pub fn quoted_at(bytes: &[u8]) -> Option<(Quoted<'_>, usize)>
     }
 }
 
+/// The string behind an opening quote, and the empty string where none is closed there.
+pub fn quoted_or_empty(bytes: &[u8]) -> Quoted<'_>
+    requires { length bytes.now < 2 ^ 32 }
+    ensures { said result.bytes.now ≡ said bytes.now }
+{
+    match quoted_at(bytes) {
+        Some((quoted, _)) => quoted,
+        None => Quoted {
+            bytes: b"\"".as_slice(),
+        },
+    }
+}
+
 fn push_said(text: &mut Vec<u8>, said: Said) -> Result<(), AllocError>
     ensures { OnOk result (text.new.items ≡ text.old.items ++ said_by said) }
 {

@@ -1,0 +1,100 @@
+//! One value within a tree.
+ghost use Rattle.std.specs.Prelude.{◌≡◌, ◌<◌, ◌^◌, length};
+ghost use Rattle.std.specs.Option.{option_map};
+ghost use Rattle.text_tokens.specs.Strings.{said};
+ghost use Rattle.text_tree.specs.Nodes.{value_of, values, text_in};
+ghost use Rattle.text_tree.specs.Inside.{number_in, list_in, object_in, is_null as null_spec};
+ghost use Rattle.text_tree.specs.View.{view, items_in, members_in};
+
+use crate::list::ListBranch;
+use crate::node::Node;
+use crate::object::ObjectBranch;
+use crate::tokens::{number_from, string_from};
+use text_tokens::{Quoted, quoted_or_empty};
+use uc_num::Decimal;
+
+/// One value within a tree: the first of these nodes with what is inside it, and null where there
+/// is none.
+#[derive(Clone, Copy)]
+pub struct Branch<'a> {
+    pub bytes: &'a [u8],
+    pub nodes: &'a [Node],
+    ghost few: { length bytes.now < 2 ^ 30 },
+}
+
+impl<'a> Branch<'a> {
+    /// The first node, and those behind it.
+    fn split(self) -> (Node, &'a [Node])
+        ensures { view self.entry
+            ≡ value_of self.entry.bytes.now result.0 (values self.entry.bytes.now result.1.now) }
+    {
+        match self.nodes {
+            [node, behind @ ..] => (*node, behind),
+            [] => (Node::Null, self.nodes),
+        }
+    }
+
+    /// Whether it is null.
+    pub fn is_null(self) -> bool
+        ensures { result ≡ null_spec (view self.entry) }
+    {
+        let (node, _) = self.split();
+        match node {
+            Node::Null => true,
+            _ => false,
+        }
+    }
+
+    /// The number, where the value is one.
+    pub fn number(self) -> Option<Decimal>
+        ensures { result ≡ number_in (view self.entry) }
+    {
+        let (node, _) = self.split();
+        match node {
+            Node::Number(small) => Some(small.decimal()),
+            Node::LargeNumber(place) => Some(number_from(self.bytes, place)),
+            _ => None,
+        }
+    }
+
+    /// The string, where the value is one, and the empty one for any other value.
+    pub fn text(self) -> Quoted<'a>
+        ensures { said result.bytes.now ≡ text_in (view self.entry) }
+    {
+        let (node, _) = self.split();
+        match node {
+            Node::Text(place) => string_from(self.bytes, place),
+            _ => quoted_or_empty(&self.bytes[..0]),
+        }
+    }
+
+    /// The list, where the value is one. Takes no memory and no time.
+    pub fn list(self) -> Option<ListBranch<'a>>
+        ensures { option_map items_in result ≡ list_in (view self.entry) }
+    {
+        let (node, behind) = self.split();
+        match node {
+            Node::List(count) => Some(ListBranch {
+                bytes: self.bytes,
+                nodes: behind,
+                count,
+            }),
+            _ => None,
+        }
+    }
+
+    /// The object, where the value is one. Takes no memory and no time.
+    pub fn object(self) -> Option<ObjectBranch<'a>>
+        ensures { option_map members_in result ≡ object_in (view self.entry) }
+    {
+        let (node, behind) = self.split();
+        match node {
+            Node::Object(count) => Some(ObjectBranch {
+                bytes: self.bytes,
+                nodes: behind,
+                count,
+            }),
+            _ => None,
+        }
+    }
+}

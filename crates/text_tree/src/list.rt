@@ -1,0 +1,43 @@
+//! The items of a list.
+ghost use Rattle.std.specs.Prelude.{◌≡◌, ◌<◌, ◌^◌, length, IfOk};
+ghost use Rattle.text_tree.specs.View.{items_in, views};
+
+use crate::branch::Branch;
+use crate::node::{Node, skip};
+use std::alloc::{AllocError, Global};
+
+/// A list within a tree: its items are the first of these nodes.
+#[derive(Clone, Copy)]
+pub struct ListBranch<'a> {
+    pub bytes: &'a [u8],
+    pub nodes: &'a [Node],
+    pub count: u32,
+    ghost few: { length bytes.now < 2 ^ 30 },
+}
+
+impl<'a> ListBranch<'a> {
+    /// How many items it has.
+    pub fn len(self) -> usize
+        ensures { result ≡ length (items_in self.entry) }
+    {
+        self.count as usize
+    }
+
+    /// The items in order.
+    ///
+    /// Takes 32 bytes for each, and time in proportion to the nodes of the list.
+    pub fn items(self, alloc: Global) -> Result<Vec<Branch<'a>>, AllocError>
+        ensures { IfOk result (λ items. views items.items ≡ items_in self.entry) }
+    {
+        let mut items = Vec::with_capacity(alloc, self.count as usize)?;
+        let mut rest = self.nodes;
+        for _ in 0..self.count {
+            items.push(Branch {
+                bytes: self.bytes,
+                nodes: rest,
+            })?;
+            rest = skip(rest);
+        }
+        Ok(items)
+    }
+}
