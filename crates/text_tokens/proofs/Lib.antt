@@ -8,5 +8,6 @@ pub mod Texts
 pub mod Escapes
 pub mod ShortNumbers
 pub mod PlainStrings
+pub mod Shortest
 -- The lemmas that answers cite.
 pub mod Lemmas

@@ -10,3 +10,15 @@ pub struct Quoted<'a> {
     ghost few: { length bytes.now < 2 ^ 32 },
     ghost within: { len_or (string_of bytes.now) ≤ length bytes.now },
 }
+
+impl Quoted<'_> {
+    ghost use Rattle.std.specs.Prelude.{[]};
+    ghost use Rattle.text_tokens.specs.Strings.{said};
+
+    /// The string with nothing in it.
+    pub fn empty() -> Quoted<'static>
+        ensures { said result.bytes.now ≡ [] }
+    {
+        Quoted { bytes: b"\"" }
+    }
+}

@@ -264,12 +264,10 @@ pub fn quoted_or_empty(bytes: &[u8]) -> Quoted<'_>
     requires { length bytes.now < 2 ^ 32 }
     ensures { said result.bytes.now ≡ said bytes.now }
 {
-    match quoted_at(bytes) {
-        Some((quoted, _)) => quoted,
-        None => Quoted {
-            bytes: b"\"".as_slice(),
-        },
-    }
+    let Some((quoted, _)) = quoted_at(bytes) else {
+        return Quoted::empty();
+    };
+    quoted
 }
 
 fn push_said(text: &mut Vec<u8>, said: Said) -> Result<(), AllocError>
