@@ -1,16 +1,11 @@
 //! One value within a tree.
 ghost use Rattle.std.specs.Prelude.{◌≡◌, ◌<◌, ◌^◌, length};
-ghost use Rattle.std.specs.Option.{option_map};
-ghost use Rattle.text_tokens.specs.Strings.{said};
-ghost use Rattle.text_tree.specs.Nodes.{value_of, values, text_in};
-ghost use Rattle.text_tree.specs.Inside.{number_in, list_in, object_in, is_null as null_spec};
-ghost use Rattle.text_tree.specs.View.{view, items_in, members_in};
 
 use crate::list::ListBranch;
 use crate::node::Node;
 use crate::object::ObjectBranch;
 use crate::tokens::{number_from, string_from};
-use text_tokens::{Quoted, quoted_or_empty};
+use text_tokens::Quoted;
 use uc_num::Decimal;
 
 /// One value within a tree: the first of these nodes with what is inside it, and null where there
@@ -23,6 +18,12 @@ pub struct Branch<'a> {
 }
 
 impl<'a> Branch<'a> {
+    ghost use Rattle.std.specs.Option.{option_map};
+    ghost use Rattle.text_tokens.specs.Strings.{said};
+    ghost use Rattle.text_tree.specs.Nodes.{value_of, values, text_in};
+    ghost use Rattle.text_tree.specs.Inside.{number_in, list_in, object_in, is_null as null_spec};
+    ghost use Rattle.text_tree.specs.View.{view, items_in, members_in};
+
     /// The first node, and those behind it.
     fn split(self) -> (Node, &'a [Node])
         ensures { view self.entry
@@ -64,7 +65,7 @@ impl<'a> Branch<'a> {
         let (node, _) = self.split();
         match node {
             Node::Text(place) => string_from(self.bytes, place),
-            _ => quoted_or_empty(&self.bytes[..0]),
+            _ => Quoted::empty(),
         }
     }
 

@@ -1,6 +1,5 @@
 //! The items of a list.
 ghost use Rattle.std.specs.Prelude.{◌≡◌, ◌<◌, ◌^◌, length, IfOk};
-ghost use Rattle.text_tree.specs.View.{items_in, views};
 
 use crate::branch::Branch;
 use crate::node::{Node, skip};
@@ -16,7 +15,10 @@ pub struct ListBranch<'a> {
 }
 
 impl<'a> ListBranch<'a> {
+    ghost use Rattle.text_tree.specs.View.{items_in, views};
+
     /// How many items it has.
+    #[tactic(auto, using(crate::proofs::Taken::firsts_len))]
     pub fn len(self) -> usize
         ensures { result ≡ length (items_in self.entry) }
     {

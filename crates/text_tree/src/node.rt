@@ -39,14 +39,13 @@ fn parts(node: Node) -> usize
 pub fn skip(nodes: &[Node]) -> &[Node]
     ensures { (bytes : List ℕ) → values bytes result.now ≡ drop 1 (values bytes nodes.now) }
 {
-    let mut rest = nodes;
+    let end = nodes.len();
     let mut pending: usize = 1;
-    'nodes: while pending > 0 {
-        let [node, behind @ ..] = rest else {
-            return rest;
-        };
+    for (place, node) in nodes.iter().enumerate() {
+        if pending == 0 {
+            return &nodes[place..];
+        }
         pending = (pending - 1).saturating_add(parts(*node));
-        rest = behind;
     }
-    rest
+    &nodes[end..]
 }

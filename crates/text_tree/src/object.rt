@@ -1,6 +1,5 @@
 //! The members of an object.
 ghost use Rattle.std.specs.Prelude.{◌≡◌, ◌<◌, ◌^◌, length, IfOk};
-ghost use Rattle.text_tree.specs.View.{members_in, member_views};
 
 use crate::branch::Branch;
 use crate::node::{Node, skip};
@@ -24,7 +23,10 @@ pub struct Member<'a> {
 }
 
 impl<'a> ObjectBranch<'a> {
+    ghost use Rattle.text_tree.specs.View.{members_in, member_views};
+
     /// How many members it has.
+    #[tactic(auto, using(crate::proofs::Taken::pairs_len))]
     pub fn len(self) -> usize
         ensures { result ≡ length (members_in self.entry) }
     {

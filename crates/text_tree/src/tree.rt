@@ -1,7 +1,5 @@
 //! What a text says, as a whole.
 ghost use Rattle.std.specs.Prelude.{◌≡◌, ◌<◌, ◌^◌, length};
-ghost use Rattle.text_tree.specs.View.{view};
-ghost use Rattle.text_tree.specs.Nodes.{first, values};
 
 use crate::branch::Branch;
 use crate::node::Node;
@@ -15,6 +13,9 @@ pub struct Tree<'a> {
 }
 
 impl<'a> Tree<'a> {
+    ghost use Rattle.text_tree.specs.View.{view};
+    ghost use Rattle.text_tree.specs.Nodes.{first, values};
+
     /// The first value, which is the text's.
     pub fn root(&self) -> Branch<'_>
         ensures { view result ≡ first (values self.now.bytes.now self.now.nodes.items) }
