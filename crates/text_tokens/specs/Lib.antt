@@ -12,3 +12,4 @@ pub mod Small
 pub mod Decimals
 pub mod Numerals
 pub mod Plain
+pub mod Stands

@@ -6,6 +6,7 @@ mod number;
 mod quoted;
 mod reader;
 mod run;
+mod said;
 pub mod small;
 mod strings;
 mod token;

@@ -24,6 +24,7 @@ impl<'a> Reader<'a> {
     ghost use Rattle.text_tokens.specs.Small.{decimal_of};
     ghost use Rattle.text_tokens.specs.Scalars.{number};
     ghost use Rattle.text_tokens.specs.Seen.{token_of};
+    ghost use Rattle.text_tokens.specs.Stands.{StandsAt};
 
     /// The next token, or the end.
     pub fn next(&mut self) -> Lexeme<'a>
@@ -31,6 +32,8 @@ impl<'a> Reader<'a> {
         ensures last { token_of result.token ≡ end → rest self.old ≡ seen result ∷ [] }
         ensures ahead { ahead self.new ≤ ahead self.old }
         ensures less { (token_of result.token ≡ end → ⊥) → ahead self.new < ahead self.old }
+        ensures stands { StandsAt self.old.bytes.now result.place result.token }
+        ensures same { self.new.bytes.now ≡ self.old.bytes.now }
     {
         let place = self.at;
         if place < self.bytes.len() && self.bytes[place] == b',' {
@@ -50,6 +53,7 @@ impl<'a> Reader<'a> {
         ensures none { IfNone result (rest self.new ≡ rest self.old) }
         ensures ahead { ahead self.new ≤ ahead self.old }
         ensures less { OnSome result (ahead self.new < ahead self.old) }
+        ensures same { self.new.bytes.now ≡ self.old.bytes.now }
     {
         let rest = rest_from(self.bytes, self.at);
         let (small, len) = short_number(rest)?;
@@ -67,6 +71,8 @@ impl<'a> Reader<'a> {
         ensures last { token_of result.token ≡ end → rest self.old ≡ seen result ∷ [] }
         ensures ahead { ahead self.new ≤ ahead self.old }
         ensures less { (token_of result.token ≡ end → ⊥) → ahead self.new < ahead self.old }
+        ensures stands { StandsAt self.old.bytes.now result.place result.token }
+        ensures same { self.new.bytes.now ≡ self.old.bytes.now }
     {
         'blanks: while self.at < self.bytes.len() && is_blank(self.bytes[self.at]) {
             self.at += 1;

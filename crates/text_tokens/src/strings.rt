@@ -17,16 +17,16 @@ use std::alloc::{AllocError, Global};
 
 /// A byte that stands for itself, or a character.
 #[derive(Clone, Copy)]
-enum Said {
+pub enum Said {
     Byte(u8),
     Character(char),
 }
 
 /// What some bytes of a string say, and how many they are.
 #[derive(Clone, Copy)]
-struct Piece {
-    said: Said,
-    len: usize,
+pub struct Piece {
+    pub said: Said,
+    pub len: usize,
 }
 
 #[tactic(auto, unfolding(crate::specs::Strings::hex_of))]
@@ -179,7 +179,7 @@ fn escape_at(bytes: &[u8]) -> Option<Piece>
 
 /// The piece in front.
 #[tactic(auto, unfolding(crate::specs::Strings::piece_at))]
-fn piece_at(bytes: &[u8]) -> Option<Piece>
+pub fn piece_at(bytes: &[u8]) -> Option<Piece>
     requires { 0 < length bytes.now }
     ensures is { seen_piece result ≡ piece_spec (slice_index bytes.now 0) bytes.now }
     ensures len { IfSome result (λ p. (0 < p.len) × (p.len ≤ 12)) }
@@ -204,7 +204,7 @@ fn piece_at(bytes: &[u8]) -> Option<Piece>
 }
 
 /// How many bytes stand before the closing quote, where each stands for itself.
-fn plain_string(bytes: &[u8]) -> Option<usize>
+pub fn plain_string(bytes: &[u8]) -> Option<usize>
     ensures is { IfSome result (λ n. string_from 0 bytes.now ≡ Some (take n bytes.now, n)) }
     ensures within { IfSome result (λ n. n < length bytes.now) }
 {
@@ -251,6 +251,7 @@ pub fn quoted_at(bytes: &[u8]) -> Option<(Quoted<'_>, usize)>
     ensures some { IfSome result (λ q. string_of bytes.now ≡ Some (said q.0.bytes.now, q.1)) }
     ensures none { IfNone result (string_of bytes.now ≡ None) }
     ensures within { IfSome result (λ q. q.1 < length bytes.now) }
+    ensures bytes { IfSome result (λ q. q.0.bytes.now ≡ bytes.now) }
 {
     let len = closed_len(bytes)?;
     match std::str::from_utf8(&bytes[..len]) {

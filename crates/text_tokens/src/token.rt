@@ -1,5 +1,6 @@
 //! The tokens of a text.
 ghost use Rattle.std.specs.Prelude.{◌≡◌, ◌<◌, ◌≤◌, ◌^◌, ◌+◌, ◌||◌, ◌==◌, true, length, slice_index};
+ghost use Rattle.std.specs.Prelude.{ℕ, List, drop};
 ghost use Rattle.std.specs.List.{prefix_len};
 ghost use Rattle.text_tokens.specs.Numbers.{is_digit as digit, is_number_byte as number_byte};
 ghost use Rattle.text_tokens.specs.Numbers.{number_of};
@@ -9,6 +10,7 @@ ghost use Rattle.text_tokens.specs.Tokens.{number_at as number_spec, word_at as 
 ghost use Rattle.text_tokens.specs.Tokens.{token_at as token_spec};
 ghost use Rattle.text_tokens.specs.Seen.{token_of};
 ghost use Rattle.text_tokens.specs.Goes.{goes};
+ghost use Rattle.text_tokens.specs.Stands.{RefersTo, number_run};
 
 use crate::bytes::{letters_len, number_len, rest_from};
 use crate::number::{Numeral, numeral_in, short_number};
@@ -61,6 +63,7 @@ fn number_in(run: &[u8]) -> Token<'_>
     requires { length run.now < 2 ^ 30 }
     ensures is { token_of result ≡ number_of run.now }
     ensures goes { goes (token_of result) ≡ true }
+    ensures refers { (behind : List ℕ) → RefersTo result behind run.now }
 {
     match numeral_in(run) {
         Numeral::Number(number) => match SmallNumber::of(number) {
@@ -80,6 +83,7 @@ fn number_at(bytes: &[u8]) -> (Token<'_>, usize)
     ensures goes { goes (token_of result.0) ≡ true }
     ensures some { 0 < result.1 }
     ensures within { result.1 ≤ length bytes.now }
+    ensures refers { (behind : List ℕ) → RefersTo result.0 behind (number_run bytes.now) }
 {
     if let Some((small, len)) = short_number(bytes) {
         return (Token::Word(Word::Number(small)), len);
@@ -94,6 +98,7 @@ fn word_at(bytes: &[u8]) -> (Token<'_>, usize)
     ensures is { (token_of result.0, result.1) ≡ word_spec bytes.now }
     ensures some { 0 < result.1 }
     ensures within { result.1 ≤ length bytes.now }
+    ensures refers { (behind run : List ℕ) → RefersTo result.0 behind run }
 {
     let len = letters_len(bytes);
     let run = &bytes[..len];
@@ -114,6 +119,7 @@ fn string_at(bytes: &[u8]) -> (Token<'_>, usize)
     ensures goes { goes (token_of result.0) ≡ true }
     ensures some { 0 < result.1 }
     ensures within { result.1 ≤ 1 + length bytes.now }
+    ensures refers { (run : List ℕ) → RefersTo result.0 bytes.now run }
 {
     match quoted_at(bytes) {
         Some((quoted, len)) => (Token::Text(quoted), len + 2),
@@ -129,6 +135,7 @@ pub fn token_at(bytes: &[u8]) -> (Token<'_>, usize)
     ensures some { 0 < result.1 }
     ensures within { result.1 ≤ length bytes.now }
     ensures goes { goes (token_of result.0) ≡ true }
+    ensures refers { RefersTo result.0 (drop 1 bytes.now) (number_run bytes.now) }
 {
     match bytes[0] {
         b'{' => (Token::OpenObject, 1),

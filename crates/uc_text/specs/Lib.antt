@@ -9,3 +9,4 @@ pub mod Codes
 pub mod Parts
 pub mod Places
 pub mod Known
+pub mod Adds

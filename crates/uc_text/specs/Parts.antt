@@ -1,20 +1,9 @@
 -- What the reader's own functions say of the tokens that they pass: parts of a value.
 use Rattle.std.specs.Prelude.{◌≡◌, ◌≢◌, ◌<◌, ℕ, List, [], ◌∷◌, ◌++◌, length, slice_index_or}
-use Rattle.uc_text.specs.Values.{Value, Items, no_items, item, Members, no_members, member}
+use Rattle.uc_text.specs.Values.{Value}
 use Rattle.uc_text.specs.Grammar.{Token, open_list, open_object, comma, colon, key, spell}
 use Rattle.uc_text.specs.Faults.{Test, grammar, length_of_numbers, levels, double_keys, Passes}
-
-pub record Pair : Type 0 where
-  pub name : List ℕ
-  pub value : Value
-
-abbrev pub items_of : List Value → Items
-items_of [] = no_items
-items_of (v ∷ vs) = item v (items_of vs)
-
-abbrev pub members_of : List Pair → Members
-members_of [] = no_members
-members_of (p ∷ ps) = member p.name p.value (members_of ps)
+pub use Rattle.text_tree.specs.Parts.{Pair, items_of, members_of}
 
 -- values that were passed, each with the comma behind it
 abbrev pub passed_items : List Value → List Token

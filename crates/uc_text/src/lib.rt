@@ -4,11 +4,9 @@
 mod fault;
 pub mod laws;
 mod names;
-mod nodes;
 mod parse;
-mod tree;
 
 pub use fault::{TextCode, TextError, TextFault};
 pub use parse::read_tree;
 pub use text_tokens::small;
-pub use tree::{Member, MemberList, Tree, TreeList};
+pub use text_tree::{Branch, Member, Tree};

@@ -1,92 +1,121 @@
 //! Whether a name was met before, in time proportional to the number of names.
-ghost use Rattle.std.specs.Prelude.{◌≡◌, ◌∷◌, ◌++◌, [], not, IfOk, OnOk, bytes_eq, ℕ, List};
-ghost use Rattle.std.specs.Prelude.{if◌then◌else◌, true, OnErr, ◌<◌, ◌≤◌, ◌^◌, length, vec_len};
+ghost use Rattle.std.specs.Prelude.{◌≡◌, ◌∷◌, ◌++◌, [], not, IfOk, OnOk, OnErr, bytes_eq, ℕ};
+ghost use Rattle.std.specs.Prelude.{if◌then◌else◌, true, ◌==◌, ◌<◌, ◌≤◌, length};
 ghost use Rattle.std.specs.HashSet.{contains_by, IsUnchanged};
-ghost use Rattle.std.specs.Global.{Vec};
-ghost use Rattle.uc_text.specs.Known.{is_there, Knows};
-ghost use Rattle.uc_text.specs.Parts.{names};
-ghost use Rattle.uc_text.specs.View.{member_views};
+ghost use Rattle.text_tokens.specs.Strings.{said};
+ghost use Rattle.uc_text.specs.Known.{is_there, all_said, hash_of as hash_spec, Knows};
 
-use crate::tree::MemberList;
 use std::alloc::{AllocError, AllocFailed, Global};
 use std::collections::HashSet;
+use std::hash::{DefaultHasher, Hasher};
+use text_tokens::{Quoted, text_of};
 
 /// So many names are compared one after the other: most objects have no more, and need no set.
 const FEW: usize = 16;
 
-/// Adds a name, and says whether it is new.
-fn add(seen: &mut HashSet<Vec<u8>>, name: Vec<u8>) -> Result<bool, AllocFailed<Vec<u8>>>
-    ensures new { IfOk result
-        (λ new. new ≡ not (contains_by (λ k. bytes_eq name.items k.items) seen.old)) }
-    // The set has this name and those that it had.
-    ensures keys { OnOk result ((q : Vec ℕ)
-        → contains_by (λ k. bytes_eq q.items k.items) seen.new
-        ≡ (if bytes_eq name.items q.items then true else contains_by (λ k. bytes_eq q.items k.items)
-        seen.old)) }
-    ensures err { OnErr result (IsUnchanged seen.old seen.new) }
+#[tactic(auto, unfolding(crate::specs::Known::hash_of))]
+fn hash_of(bytes: &[u8]) -> u64
+    ensures { result ≡ hash_spec bytes.now }
 {
-    seen.insert(name)
+    let mut hasher = DefaultHasher::new();
+    hasher.write(bytes);
+    hasher.finish()
 }
 
-/// Whether a member has this name.
-fn is_among(found: &MemberList, name: &[u8]) -> bool
-    ensures { result ≡ is_there name.now (names (member_views found.now.items)) }
+/// The hash of what a name says.
+fn name_hash(alloc: Global, name: Quoted<'_>) -> Result<u64, AllocError>
+    ensures { IfOk result (λ hash. hash ≡ hash_spec (said name.entry.bytes.now)) }
 {
-    for member in found {
-        if name == member.name.as_bytes() {
+    if let Some(text) = name.plain() {
+        return Ok(hash_of(text));
+    }
+    let text = text_of(alloc, name)?;
+    Ok(hash_of(text.as_bytes()))
+}
+
+/// Adds a hash, and says whether it is new.
+fn add(seen: &mut HashSet<u64>, hash: u64) -> Result<bool, AllocFailed<u64>>
+    ensures new { IfOk result (λ new. new ≡ not (contains_by (λ k. hash == k) seen.old)) }
+    // The set has this hash and those that it had.
+    ensures hashes { OnOk result ((q : ℕ) → contains_by (λ k. q == k) seen.new
+        ≡ (if hash == q then true else contains_by (λ k. q == k) seen.old)) }
+    ensures err { OnErr result (IsUnchanged seen.old seen.new) }
+{
+    seen.insert(hash)
+}
+
+/// The set of the names' hashes.
+fn set_of(alloc: Global, names: &[Quoted<'_>]) -> Result<HashSet<u64>, AllocError>
+    ensures { IfOk result (λ seen. Knows seen (all_said names.now)) }
+{
+    let mut seen: HashSet<u64> = HashSet::new(alloc);
+    for name in names {
+        let hash = name_hash(alloc, *name)?;
+        add(&mut seen, hash)?;
+    }
+    Ok(seen)
+}
+
+/// Whether one of the names says this text.
+fn is_said(names: &[Quoted<'_>], text: &[u8]) -> bool
+    ensures { result ≡ is_there text.now (all_said names.now) }
+{
+    for name in names {
+        if name.says_bytes(text) {
             return true;
         }
     }
     false
 }
 
-/// The set of the members' names.
-fn set_of(alloc: Global, found: &MemberList) -> Result<HashSet<Vec<u8>>, AllocError>
-    ensures { IfOk result (λ seen. Knows seen (names (member_views found.now.items))) }
+/// Whether one of the names says the same as this one.
+fn is_among(alloc: Global, names: &[Quoted<'_>], name: Quoted<'_>) -> Result<bool, AllocError>
+    ensures { IfOk result
+        (λ among. among ≡ is_there (said name.entry.bytes.now) (all_said names.now)) }
 {
-    let mut seen: HashSet<Vec<u8>> = HashSet::new(alloc);
-    for member in found {
-        let name = Vec::from_slice(alloc, member.name.as_bytes())?;
-        add(&mut seen, name)?;
+    if let Some(text) = name.plain() {
+        return Ok(is_said(names, text));
     }
-    Ok(seen)
+    let text = text_of(alloc, name)?;
+    Ok(is_said(names, text.as_bytes()))
 }
 
-/// Makes the set where the members' names are now too many to be compared one after the other.
+/// Makes the set where the names are now too many to be compared one after the other.
 fn make_set(
     alloc: Global,
-    found: &MemberList,
-    seen: &mut HashSet<Vec<u8>>,
+    names: &[Quoted<'_>],
+    seen: &mut HashSet<u64>,
 ) -> Result<(), AllocError>
-    requires many { FEW ≤ vec_len found.now }
-    requires known { FEW < vec_len found.now
-        → Knows seen.old (names (member_views found.now.items)) }
-    ensures { OnOk result (Knows seen.new (names (member_views found.now.items))) }
+    requires many { FEW ≤ length names.now }
+    requires known { FEW < length names.now → Knows seen.old (all_said names.now) }
+    ensures { OnOk result (Knows seen.new (all_said names.now)) }
 {
-    if found.len() == FEW {
-        *seen = set_of(alloc, found)?;
+    if names.len() == FEW {
+        *seen = set_of(alloc, names)?;
     }
     Ok(())
 }
 
-/// Whether no member has this name. The set has the members' names, where they are many, and then
-/// gets this one.
+/// Whether none of the names says the same as this one. The set has their hashes, where they are
+/// many, and then gets that of this one.
 pub fn is_new(
     alloc: Global,
-    found: &MemberList,
-    seen: &mut HashSet<Vec<u8>>,
-    name: &[u8],
+    names: &[Quoted<'_>],
+    seen: &mut HashSet<u64>,
+    name: Quoted<'_>,
 ) -> Result<bool, AllocError>
-    requires { 16 < vec_len found.now → Knows seen.old (names (member_views found.now.items)) }
+    requires { FEW < length names.now → Knows seen.old (all_said names.now) }
     ensures new { IfOk result
-        (λ new. new ≡ not (is_there name.now (names (member_views found.now.items)))) }
-    ensures knows { OnOk result (16 ≤ vec_len found.now
-        → Knows seen.new (names (member_views found.now.items) ++ name.now ∷ [])) }
+        (λ new. new ≡ not (is_there (said name.entry.bytes.now) (all_said names.now))) }
+    ensures knows { OnOk result (FEW ≤ length names.now
+        → Knows seen.new (all_said names.now ++ said name.entry.bytes.now ∷ [])) }
 {
-    if found.len() < FEW {
-        return Ok(!is_among(found, name));
+    if FEW <= names.len() {
+        make_set(alloc, names, seen)?;
+        let hash = name_hash(alloc, name)?;
+        if add(seen, hash)? {
+            return Ok(true);
+        }
     }
-    make_set(alloc, found, seen)?;
-    let copy = Vec::from_slice(alloc, name)?;
-    Ok(add(seen, copy)?)
+    Ok(!is_among(alloc, names, name)?)
 }

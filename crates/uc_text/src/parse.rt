@@ -1,30 +1,38 @@
 //! From tokens to a tree.
-ghost use Rattle.std.specs.Prelude.{◌≡◌, ◌<◌, ◌≤◌, ◌^◌, ◌∷◌, [], List, length, IfOk, OnOk};
-ghost use Rattle.std.specs.Prelude.{Contains, IsTrue, false, ℕ, vec_len};
+ghost use Rattle.std.specs.Prelude.{◌≡◌, ◌<◌, ◌≤◌, ◌+◌, ◌∷◌, ◌++◌, [], ℕ, List, length, IfOk, OnOk};
 ghost use Rattle.uc_text.specs.Grammar.{open_list, open_object};
-ghost use Rattle.uc_text.specs.Parts.{names, IsNewName};
-ghost use Rattle.text_tokens.specs.Tokens.{Placed, tokens};
+ghost use Rattle.uc_text.specs.Parts.{Pair};
+ghost use Rattle.uc_text.specs.Adds.{Adds, IsOne, in_turn};
+ghost use Rattle.text_tokens.specs.Tokens.{Placed};
 ghost use Rattle.uc_text.specs.Places.{NextIs, seen, Reads, ReadsItems, ReadsMembers, StuckAt};
 ghost use Rattle.uc_text.specs.Places.{AtItem, IfFault};
 ghost use Rattle.text_tokens.specs.Ahead.{rest, ahead};
+ghost use Rattle.text_tokens.specs.Stands.{StandsAt};
 ghost use Rattle.uc_text.specs.Texts.{IsText, IsFirstFault};
 ghost use Rattle.uc_text.specs.Answers.{GivesTree, GivesFault};
 ghost use Rattle.uc_text.specs.Values.{Value, scalar, long_number};
 ghost use Rattle.uc_text.specs.Faults.{IsShort};
 ghost use Rattle.text_tokens.specs.Seen.{scalar_of};
 ghost use Rattle.uc_text.specs.declared.fault.TextFault.{TextFault};
-ghost use Rattle.uc_text.specs.View.{view, views, member_views};
+ghost use Rattle.uc_text.specs.View.{tree_view};
 
 use crate::fault::{TextCode, TextError, TextFault};
 use crate::names::is_new;
-use crate::nodes;
-use crate::tree::{Member, MemberList, Tree, TreeList};
 use std::alloc::{AllocError, Global};
 use std::collections::HashSet;
-use text_tokens::{Lexeme, Reader, Token, Word, text_of};
+use text_tokens::{Lexeme, Quoted, Reader, Token, Word};
+use text_tree::{Node, Tree};
 
 /// How many lists and objects may stand within one another.
 const LEVELS: u32 = 32;
+
+/// What was read so far.
+#[derive(Drop)]
+struct Found<'a> {
+    nodes: Vec<Node>,
+    /// The names of the objects that are still open, the innermost's last.
+    names: Vec<Quoted<'a>>,
+}
 
 fn fault(code: TextCode, place: u32) -> TextError
     ensures { result ≡ TextError.Fault (record { code = code; place = place }) }
@@ -32,142 +40,181 @@ fn fault(code: TextCode, place: u32) -> TextError
     TextError::Fault(TextFault { code, place })
 }
 
-/// A value of one token, unless it's a number that is too long.
-fn word_tree(alloc: Global, word: Word<'_>, place: u32) -> Result<Tree, TextError>
-    ensures ok { IfOk result (λ tree. (view tree ≡ scalar (scalar_of word.entry))
-        × IsShort (scalar_of word.entry)) }
+/// The node of a value of one token, unless it's a number that is too long.
+fn word_node(word: Word<'_>, place: u32) -> Result<Node, TextError>
+    ensures ok { IfOk result (λ node. (bytes : List ℕ)
+        → StandsAt bytes place (Token.Word word.entry)
+        → IsOne bytes node (scalar (scalar_of word.entry))) }
+    ensures short { OnOk result (IsShort (scalar_of word.entry)) }
     ensures fault { IfFault result (λ f. (scalar_of word.entry ≡ long_number)
         × (f ≡ record { code = TextCode.NumberTooLong; place = place })) }
 {
     match word {
-        Word::Null => Ok(Tree::Null),
-        Word::Flag(flag) => Ok(Tree::Flag(flag)),
-        Word::Number(small) => Ok(Tree::Number(small)),
-        Word::LargeNumber(run) => Ok(nodes::large_number(alloc, run)?),
+        Word::Null => Ok(Node::Null),
+        Word::Flag(flag) => Ok(Node::Flag(flag)),
+        Word::Number(small) => Ok(Node::Number(small)),
+        Word::LargeNumber(_) => Ok(Node::LargeNumber(place)),
         Word::LongNumber => Err(fault(TextCode::NumberTooLong, place)),
     }
 }
 
 /// The value that begins with a token, where so many levels are left.
 #[cycle(read)]
-fn value(
+fn value<'a>(
     alloc: Global,
-    reader: &mut Reader<'_>,
-    first: Lexeme<'_>,
+    reader: &mut Reader<'a>,
+    first: Lexeme<'a>,
     left: u32,
-) -> Result<Tree, TextError>
-    ensures ok { IfOk result (λ v. (ts : List Placed)
+    found: &mut Found<'a>,
+) -> Result<(), TextError>
+    requires { StandsAt reader.old.bytes.now first.place first.token }
+    ensures ok { OnOk result ((ts : List Placed)
         → NextIs ts (seen first.entry) (rest reader.old)
-        → Reads left ts (view v) (rest reader.new)) }
+        → (v : Value) × Reads left ts v (rest reader.new)
+        × Adds reader.old.bytes.now found.old.nodes.items found.new.nodes.items (v ∷ [])) }
     ensures fault { IfFault result (λ f. (ts : List Placed)
         → NextIs ts (seen first.entry) (rest reader.old)
         → StuckAt left [] ts f) }
     ensures ahead { OnOk result (ahead reader.new ≤ ahead reader.old) }
+    ensures same { OnOk result (reader.new.bytes.now ≡ reader.old.bytes.now) }
+    ensures names { OnOk result (found.new.names.items ≡ found.old.names.items) }
 {
     match first.token {
-        Token::Word(word) => word_tree(alloc, word, first.place),
-        Token::Text(quoted) => Ok(nodes::text(alloc, quoted)?),
+        Token::Word(word) => {
+            found.nodes.push(word_node(word, first.place)?)?;
+        }
+        Token::Text(_) => {
+            found.nodes.push(Node::Text(first.place))?;
+        }
         Token::OpenList => {
             if left == 0 {
                 return Err(fault(TextCode::TooDeep, first.place));
             }
-            let found = items(alloc, reader, left)?;
-            Ok(nodes::list(alloc, found)?)
+            let at = found.nodes.len();
+            found.nodes.push(Node::List(0))?;
+            let count = items(alloc, reader, left, found)?;
+            found.nodes[at] = Node::List(count);
         }
         Token::OpenObject => {
             if left == 0 {
                 return Err(fault(TextCode::TooDeep, first.place));
             }
-            let found = members(alloc, reader, left)?;
-            Ok(nodes::object(alloc, found)?)
+            let at = found.nodes.len();
+            found.nodes.push(Node::Object(0))?;
+            let count = members(alloc, reader, left, found)?;
+            found.nodes[at] = Node::Object(count);
         }
-        _ => Err(fault(TextCode::NotJson, first.place)),
+        _ => return Err(fault(TextCode::NotJson, first.place)),
     }
+    Ok(())
 }
 
-/// Numbers of few digits with a comma behind each, as long as they come.
-fn pass_numbers(reader: &mut Reader<'_>, found: &mut TreeList) -> Result<(), AllocError>
-    ensures passed { OnOk result ((m : ℕ) (all : List Placed)
-        → AtItem m all (views found.old.items) (rest reader.old)
-        → AtItem m all (views found.new.items) (rest reader.new)) }
-    ensures more { vec_len found.old ≤ vec_len found.new }
-    ensures ahead { ahead reader.new ≤ ahead reader.old }
+/// Numbers of few digits with a comma behind each, as long as they come: how many.
+fn pass_numbers(reader: &mut Reader<'_>, nodes: &mut Vec<Node>) -> Result<u32, AllocError>
+    ensures passed { IfOk result (λ count. (us : List Value) × (count ≡ length us)
+        × Adds reader.old.bytes.now nodes.old.items nodes.new.items us
+        × ((m : ℕ) (all : List Placed) (vs : List Value) → AtItem m all vs (rest reader.old)
+        → AtItem m all (vs ++ us) (rest reader.new))) }
+    ensures few { IfOk result (λ count. count + ahead reader.new ≤ ahead reader.old) }
+    ensures same { reader.new.bytes.now ≡ reader.old.bytes.now }
 {
+    let mut count = 0;
     'numbers: loop {
         let Some(small) = reader.number_and_comma() else {
-            return Ok(());
+            return Ok(count);
         };
-        found.push(Tree::Number(small))?;
+        nodes.push(Node::Number(small))?;
+        count += 1;
     }
 }
 
-/// The items behind an opening bracket, and the closing bracket.
+/// The items behind an opening bracket, and the closing bracket: how many items.
 #[cycle(read)]
-fn items(alloc: Global, reader: &mut Reader<'_>, left: u32) -> Result<TreeList, TextError>
+fn items<'a>(
+    alloc: Global,
+    reader: &mut Reader<'a>,
+    left: u32,
+    found: &mut Found<'a>,
+) -> Result<u32, TextError>
     requires { 0 < left }
-    ensures ok { IfOk result (λ v. ReadsItems left (rest reader.old) (views v.items)
-        (rest reader.new)) }
+    ensures ok { IfOk result (λ count. (vs : List Value) × (count ≡ length vs)
+        × ReadsItems left (rest reader.old) vs (rest reader.new)
+        × Adds reader.old.bytes.now found.old.nodes.items found.new.nodes.items vs) }
     ensures fault { IfFault result (λ f. StuckAt left (open_list ∷ []) (rest reader.old) f) }
     ensures ahead { OnOk result (ahead reader.new ≤ ahead reader.old) }
+    ensures same { OnOk result (reader.new.bytes.now ≡ reader.old.bytes.now) }
+    ensures names { OnOk result (found.new.names.items ≡ found.old.names.items) }
 {
-    let mut found = Vec::with_capacity(alloc, 1)?;
+    let mut count = 0;
     let mut first = reader.next();
     if let Token::CloseList = first.token {
-        return Ok(found);
+        return Ok(count);
     }
     'items: loop {
-        let item = value(alloc, reader, first, left - 1)?;
-        found.push(item)?;
+        value(alloc, reader, first, left - 1, found)?;
+        count += 1;
         let behind = reader.next();
         match behind.token {
             Token::Comma => {
-                pass_numbers(reader, &mut found)?;
+                count += pass_numbers(reader, &mut found.nodes)?;
                 first = reader.next();
             }
-            Token::CloseList => return Ok(found),
+            Token::CloseList => return Ok(count),
             _ => return Err(fault(TextCode::NotJson, behind.place)),
         }
     }
 }
 
-/// The members behind an opening brace, and the closing brace.
+/// The members behind an opening brace, and the closing brace: how many members.
 #[cycle(read)]
-fn members(alloc: Global, reader: &mut Reader<'_>, left: u32) -> Result<MemberList, TextError>
+fn members<'a>(
+    alloc: Global,
+    reader: &mut Reader<'a>,
+    left: u32,
+    found: &mut Found<'a>,
+) -> Result<u32, TextError>
     requires { 0 < left }
-    ensures ok { IfOk result (λ v. ReadsMembers left (rest reader.old) (member_views v.items)
-        (rest reader.new)) }
+    ensures ok { IfOk result (λ count. (ps : List Pair) × (count ≡ length ps)
+        × ReadsMembers left (rest reader.old) ps (rest reader.new)
+        × Adds reader.old.bytes.now found.old.nodes.items found.new.nodes.items (in_turn ps)) }
     ensures fault { IfFault result (λ f. StuckAt left (open_object ∷ []) (rest reader.old) f) }
     ensures ahead { OnOk result (ahead reader.new ≤ ahead reader.old) }
+    ensures same { OnOk result (reader.new.bytes.now ≡ reader.old.bytes.now) }
+    ensures names { OnOk result (found.new.names.items ≡ found.old.names.items) }
 {
-    let mut found = Vec::with_capacity(alloc, 1)?;
-    let mut seen: HashSet<Vec<u8>> = HashSet::new(alloc);
+    let outer = found.names.len();
+    let mut seen: HashSet<u64> = HashSet::new(alloc);
+    let mut count = 0;
     let mut first = reader.next();
     if let Token::CloseObject = first.token {
-        return Ok(found);
+        return Ok(count);
     }
     'members: loop {
-        let Token::Text(quoted) = first.token else {
+        let Token::Text(name) = first.token else {
             return Err(fault(TextCode::NotJson, first.place));
         };
-        let name = text_of(alloc, quoted)?;
-        let new = is_new(alloc, &found, &mut seen, name.as_bytes())?;
+        let new = is_new(alloc, &found.names[outer..], &mut seen, name)?;
         if !new {
             return Err(fault(TextCode::DoubleKey, first.place));
         }
+        found.names.push(name)?;
+        found.nodes.push(Node::Text(first.place))?;
         let between = reader.next();
         let Token::Colon = between.token else {
             return Err(fault(TextCode::NotJson, between.place));
         };
         let start = reader.next();
-        let inner = value(alloc, reader, start, left - 1)?;
-        found.push(Member { name, value: inner })?;
+        value(alloc, reader, start, left - 1, found)?;
+        count += 1;
         let behind = reader.next();
         match behind.token {
             Token::Comma => first = reader.next(),
-            Token::CloseObject => return Ok(found),
+            Token::CloseObject => break,
             _ => return Err(fault(TextCode::NotJson, behind.place)),
         }
     }
+    found.names.truncate(outer);
+    Ok(count)
 }
 
 /// The tree of a JSON text of RFC 8259, or its first fault.
@@ -177,10 +224,10 @@ fn members(alloc: Global, reader: &mut Reader<'_>, left: u32) -> Result<MemberLi
 /// tried in that order. Where the text ends too early the fault stands at its length, or where the
 /// token that it cuts off begins. Takes time in proportion to the bytes, and recursion no deeper
 /// than 32 levels. `laws` says that bytes are a text or have a first fault, and never both.
-pub fn read_tree(alloc: Global, bytes: &[u8]) -> Result<Tree, TextError>
+pub fn read_tree(alloc: Global, bytes: &[u8]) -> Result<Tree<'_>, TextError>
     requires { length bytes.now ≤ 67108864 }
     // A tree is the text's.
-    ensures found { IfOk result (λ v. IsText 32 bytes.now (view v)) }
+    ensures found { IfOk result (λ v. IsText 32 bytes.now (tree_view v)) }
     // A fault is the first of the text.
     ensures fault { IfFault result (λ f. IsFirstFault 32 bytes.now f) }
     // The text of a value is read.
@@ -191,17 +238,24 @@ pub fn read_tree(alloc: Global, bytes: &[u8]) -> Result<Tree, TextError>
     read_all(alloc, bytes)
 }
 
-fn read_all(alloc: Global, bytes: &[u8]) -> Result<Tree, TextError>
+fn read_all(alloc: Global, bytes: &[u8]) -> Result<Tree<'_>, TextError>
     requires { length bytes.now ≤ 67108864 }
-    ensures found { IfOk result (λ v. IsText 32 bytes.now (view v)) }
+    ensures found { IfOk result (λ v. IsText 32 bytes.now (tree_view v)) }
     ensures fault { IfFault result (λ f. IsFirstFault 32 bytes.now f) }
 {
     let mut reader = Reader { bytes, at: 0 };
+    let mut found = Found {
+        nodes: Vec::new(alloc),
+        names: Vec::new(alloc),
+    };
     let first = reader.next();
-    let tree = value(alloc, &mut reader, first, LEVELS)?;
+    value(alloc, &mut reader, first, LEVELS, &mut found)?;
     let behind = reader.next();
     match behind.token {
-        Token::End => Ok(tree),
+        Token::End => Ok(Tree {
+            bytes,
+            nodes: found.nodes,
+        }),
         _ => Err(fault(TextCode::NotJson, behind.place)),
     }
 }

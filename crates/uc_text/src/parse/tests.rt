@@ -90,28 +90,53 @@ fn a_file_cut_at_each_length(rt: HostRuntime) -> Result<(), Fail> {
 #[test]
 fn values(rt: HostRuntime) -> Result<(), Fail> {
     let bytes: &[u8] = b"{\"k\\u00e9\":[-12.50e3,true,12345678901]}";
-    let Ok(Tree::Object(members)) = read_tree(rt.alloc(), bytes) else {
+    let tree = read_tree(rt.alloc(), bytes)?;
+    let Some(object) = tree.root().object() else {
         panic!(rt; "no object");
     };
+    let members = object.members(rt.alloc())?;
     assert_eq!(rt; members.len(), 1);
-    assert_eq!(rt; members[0].name.as_str(), "k\u{e9}");
-    let Tree::List(items) = &members[0].value else {
+    assert!(rt; members[0].name.says("k\u{e9}"));
+    let Some(list) = members[0].value.list() else {
         panic!(rt; "no list");
     };
+    let items = list.items(rt.alloc())?;
     assert_eq!(rt; items.len(), 3);
-    let Tree::Number(small) = &items[0] else {
-        panic!(rt; "no number");
-    };
-    let right = Decimal {
+    let small = Decimal {
         negative: true,
         digits: 1250,
         exponent: 1,
     };
-    assert_eq!(rt; small.decimal(), right);
-    assert!(rt; matches!(items[1], Tree::Flag(true)));
-    let Tree::LargeNumber(large) = &items[2] else {
-        panic!(rt; "no large number");
+    assert_eq!(rt; items[0].number(), Some(small));
+    assert_eq!(rt; items[1].number(), None);
+    let large = Decimal {
+        negative: false,
+        digits: 12345678901,
+        exponent: 0,
     };
-    assert_eq!(rt; large.digits, 12345678901);
+    assert_eq!(rt; items[2].number(), Some(large));
+    Ok(())
+}
+
+/// An object of so many distinct names, and then this one.
+fn names_and(alloc: Global, count: u32, last: &str) -> Result<String, AllocError> {
+    let mut text = String::from_str(alloc, "{")?;
+    for i in 0..count {
+        text.push_str(&format!(in alloc; "\"name{i}\":{i},")?)?;
+    }
+    text.push_str(&format!(in alloc; "\"{last}\":0}}")?)?;
+    Ok(text)
+}
+
+#[test]
+fn a_name_among_many(rt: HostRuntime) -> Result<(), Fail> {
+    for count in [1, 15, 16, 17, 18, 40] {
+        for last in ["name0", "n\\u0061me0", "other", "oth\\u0065r"] {
+            let text = names_and(rt.alloc(), count, last)?;
+            let found = answer_of(rt.alloc(), text.as_bytes());
+            let double = if last.ends_with("0") { 13 } else { 0 };
+            assert_eq!(rt; found.0, double, "{text}");
+        }
+    }
     Ok(())
 }

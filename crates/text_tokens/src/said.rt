@@ -1,0 +1,65 @@
+//! What a string says, where nothing is kept of it.
+ghost use Rattle.std.specs.Prelude.{◌≡◌, ◌++◌, ℕ, List, IfSome, IfNone};
+ghost use Rattle.text_tokens.specs.Pieces.{said_by};
+
+use crate::bytes::{begins_with, rest_from};
+use crate::quoted::Quoted;
+use crate::strings::{Said, piece_at, plain_string};
+
+/// The bytes behind what a piece says, where they begin with that.
+fn behind_said(bytes: &[u8], said: Said) -> Option<&[u8]>
+    ensures some { IfSome result (λ others. bytes.now ≡ said_by said ++ others.now) }
+    ensures none { IfNone result ((more : List ℕ) → bytes.now ≡ said_by said ++ more → ⊥) }
+{
+    match said {
+        Said::Byte(byte) => if begins_with(byte, bytes) {
+            Some(rest_from(bytes, 1))
+        } else {
+            None
+        },
+        Said::Character(c) => {
+            let mut room = [0u8; 4];
+            bytes.strip_prefix(c.encode_utf8(&mut room).as_bytes())
+        }
+    }
+}
+
+impl<'a> Quoted<'a> {
+    ghost use Rattle.std.specs.Prelude.{bytes_eq};
+    ghost use Rattle.text_tokens.specs.Strings.{said};
+
+    /// What it says, where each of its bytes stands for itself.
+    pub fn plain(self) -> Option<&'a [u8]>
+        ensures { IfSome result (λ text. text.now ≡ said self.entry.bytes.now) }
+    {
+        let len = plain_string(self.bytes)?;
+        Some(&self.bytes[..len])
+    }
+
+    /// Whether it says this text. Takes no memory, and ends at the first difference.
+    pub fn says(self, text: &str) -> bool
+        ensures { result ≡ bytes_eq (said self.entry.bytes.now) text.now }
+    {
+        self.says_bytes(text.as_bytes())
+    }
+
+    /// The same of the bytes of a text.
+    pub fn says_bytes(self, text: &[u8]) -> bool
+        ensures { result ≡ bytes_eq (said self.entry.bytes.now) text.now }
+    {
+        let bytes = self.bytes;
+        let mut wanted = text;
+        let mut at = 0;
+        'pieces: while at < bytes.len() && bytes[at] != b'"' {
+            let Some(piece) = piece_at(rest_from(bytes, at)) else {
+                unreachable!();
+            };
+            let Some(others) = behind_said(wanted, piece.said) else {
+                return false;
+            };
+            wanted = others;
+            at += piece.len;
+        }
+        wanted.is_empty()
+    }
+}
