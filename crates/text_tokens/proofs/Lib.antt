@@ -9,5 +9,6 @@ pub mod Escapes
 pub mod ShortNumbers
 pub mod PlainStrings
 pub mod Shortest
+pub mod SaidTexts
 -- The lemmas that answers cite.
 pub mod Lemmas

@@ -1,9 +1,16 @@
--- A set that has the names of the members so far.
-use Rattle.uc_text.proofs.Common.{◌≡◌, ℕ, zero, suc, Bool, true, false, true≢false, not, cond, ◌||◌, ◌⊎◌, List, [], ◌∷◌, ◌++◌, bytes_eq, length, get_or, ◌<◌, refl, sym, ap, ap₂, subst, ◌∙◌, arith, inl, inr, Contains, is_there, Knows, IsNewName}
+-- Names that were met before, and a set of their hashes.
+use Rattle.uc_text.proofs.Common.{◌≡◌, ℕ, zero, suc, Bool, true, false, true≢false, not, cond, ◌||◌, ◌⊎◌, List, [], ◌∷◌, ◌++◌, bytes_eq, length, get_or, ◌<◌, refl, sym, ap, ap₂, subst, ◌∙◌, arith, inl, inr, Contains, is_there, hash_of, Knows, IsNewName}
 use Rattle.std.specs.List.{list_any}
-use Rattle.std.specs.Global.{Vec}
 use Rattle.std.specs.HashSet.{HashSet, contains_by}
-use Rattle.uc_text.proofs.Views.{equal_bytes, unequal_bytes}
+use Rattle.std.specs.Prelude.{nat_eq}
+use Rattle.std.proofs.lemmas.Bool.Decides.{nat_tests}
+use Rattle.std.proofs.lemmas.Slice.Eq.{bytes_eq-Decides}
+
+equal_bytes : (xs ys : List ℕ) → bytes_eq xs ys ≡ true → xs ≡ ys
+equal_bytes xs ys e = (bytes_eq-Decides xs ys).0 e
+
+unequal_bytes : (xs ys : List ℕ) → bytes_eq xs ys ≡ false → xs ≡ ys → ⊥
+unequal_bytes xs ys e same = true≢false (sym ((bytes_eq-Decides xs ys).1 same) ∙ e)
 
 or_true : (a b : Bool) → (a || b) ≡ true → (a ≡ true) ⊎ (b ≡ true)
 or_true true b e = inl refl
@@ -72,13 +79,35 @@ known_name ks name k new is e off = subst (λ (j : List ℕ). Contains ks j) is 
 pub new_name : (ks : List (List ℕ)) (name k : List ℕ) (new : Bool) → name ≡ k → new ≡ not (is_there name ks) → new ≡ true → IsNewName ks k
 new_name ks name k new is e on = subst (λ (j : List ℕ). IsNewName ks j) is (there_new name ks (not_true _ (sym e ∙ on)))
 
-pub knows_more : {S : Type 0} (s t : HashSet (Vec ℕ) S) (ks js : List (List ℕ)) (key : Vec ℕ) (k : List ℕ) → Knows s ks → key.items ≡ k
-    → ((q : Vec ℕ) → contains_by (λ j. bytes_eq q.items j.items) t ≡ cond (bytes_eq key.items q.items) true (contains_by (λ j. bytes_eq q.items j.items) s)) → js ≡ ks ++ k ∷ [] → Knows t js
-knows_more s t ks js key k h is more same q =
-    more q ∙ ap (λ (b : Bool). cond (bytes_eq key.items q.items) true b) (h q) ∙ ap (λ (j : List ℕ). cond (bytes_eq j q.items) true (is_there q.items ks)) is ∙ sym (there_push q.items ks k) ∙ ap (is_there q.items) (sym same)
+-- ---- the set of hashes
 
-pub knows_none : {S : Type 0} (s : HashSet (Vec ℕ) S) (ks : List (List ℕ)) → s.keys ≡ [] → ks ≡ [] → Knows s ks
-knows_none s ks e f q = ap (λ (vs : List (Vec ℕ)). list_any (λ k. bytes_eq q.items k.items) vs) e ∙ ap (is_there q.items) (sym f)
+cond_true : (b c : Bool) → c ≡ true → cond b true c ≡ true
+cond_true true c e = refl
+cond_true false c e = e
 
-pub knows_next : {S : Type 0} (s : HashSet (Vec ℕ) S) (ks js : List (List ℕ)) (name k : List ℕ) → Knows s (ks ++ name ∷ []) → name ≡ k → js ≡ ks ++ k ∷ [] → Knows s js
-knows_next s ks js name k h is same = subst (Knows s) (ap (λ (j : List ℕ). ks ++ j ∷ []) is ∙ sym same) h
+hash_same : (j k : List ℕ) (h : ℕ) → h ≡ hash_of j → j ≡ k → nat_eq h (hash_of k) ≡ true
+hash_same j k h is same = let e : h ≡ hash_of k = is ∙ ap hash_of same in grind (arith, nat_tests, e)
+
+pub knows_more : {S : Type 0} (s t : HashSet ℕ S) (ks js : List (List ℕ)) (h : ℕ) (k : List ℕ) → Knows s ks → h ≡ hash_of k
+    → ((q : ℕ) → contains_by (λ j. nat_eq q j) t ≡ cond (nat_eq h q) true (contains_by (λ j. nat_eq q j) s)) → js ≡ ks ++ k ∷ [] → Knows t js
+knows_more s t ks js h k old is more same q e = by_test (bytes_eq k q) refl
+  where
+    by_test : (b : Bool) → bytes_eq k q ≡ b → contains_by (λ j. nat_eq (hash_of q) j) t ≡ true
+    by_test true f = more (hash_of q) ∙ ap (λ (b : Bool). cond b true (contains_by (λ j. nat_eq (hash_of q) j) s)) (hash_same k q h is (equal_bytes k q f))
+    by_test false f =
+        let there : is_there q ks ≡ true = sym (ap (λ (b : Bool). cond b true (is_there q ks)) f) ∙ sym (there_push q ks k) ∙ ap (is_there q) (sym same) ∙ e in
+        more (hash_of q) ∙ cond_true (nat_eq h (hash_of q)) (contains_by (λ j. nat_eq (hash_of q) j) s) (old q there)
+
+pub knows_none : {S : Type 0} (s : HashSet ℕ S) → Knows s []
+knows_none s q e = absurd (true≢false (sym e))
+
+-- a hash that isn't there is of a new name
+pub not_there : {S : Type 0} (s : HashSet ℕ S) (ks : List (List ℕ)) (q : List ℕ) (h : ℕ) → Knows s ks → h ≡ hash_of q → contains_by (λ j. nat_eq h j) s ≡ false → is_there q ks ≡ false
+not_there s ks q h known is off = by_test (is_there q ks) refl
+  where
+    by_test : (b : Bool) → is_there q ks ≡ b → is_there q ks ≡ false
+    by_test true e = absurd (true≢false (sym (known q e) ∙ ap (λ (n : ℕ). contains_by (λ j. nat_eq n j) s) (sym is) ∙ off))
+    by_test false e = e
+
+pub knows_same : {S : Type 0} (s : HashSet ℕ S) (ks js : List (List ℕ)) → Knows s ks → js ≡ ks → Knows s js
+knows_same s ks js h same = subst (Knows s) (sym same) h

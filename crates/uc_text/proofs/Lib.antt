@@ -9,7 +9,7 @@ pub mod ValueSteps
 pub mod Uniqueness
 pub mod Answered
 pub mod Known
-pub mod Views
+pub mod Nodes
 pub mod OtherTokens
 pub mod Words
 pub mod Decided

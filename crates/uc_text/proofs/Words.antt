@@ -1,17 +1,12 @@
--- The answers for a value of one token.
-use Rattle.uc_text.proofs.Common.{◌≡◌, ℕ, List, [], Result, Ok, Err, sym, ap, subst, ◌∙◌, IfOk, Scalar, long_number, Value, scalar, Token, word, IsShort, length_of_numbers, IsStuck, Placed, NextIs, Reads, StuckAt, IfFault, view, NumberTooLong, TextFault, TextError, Tree}
-use Rattle.uc_text.specs.declared.fault.TextError.TheVariants as errors
-use Rattle.uc_text.proofs.ValueSteps.{reads_scalar, value_stops, stuck_long}
+-- The node of a value of one token.
+use Rattle.uc_text.proofs.Common.{◌≡◌, ℕ, List, Result, Ok, Err, refl, sym, ap, subst, ◌∙◌, IfOk, Scalar, long_number, scalar, number, values, drop, Token, word, IsShort, length_of_numbers, IsStuck, Placed, NextIs, StuckAt, NumberTooLong, TextFault, number_run, IsOne, decimal_in, number_of}
+use Rattle.uc_text.proofs.ValueSteps.{value_stops, stuck_long}
+use Rattle.text_tree.specs.declared.node.Node.TheVariants.{LargeNumber}
 
-pub word_read : (left : ℕ) (first : Placed) (others : List Placed) (r : Result Tree TextError) (s : Scalar) → first.token ≡ word s → IfOk r (λ tree. (view tree ≡ scalar s) × IsShort s)
-    → IfOk r (λ tree. (ts : List Placed) → NextIs ts first others → Reads left ts (view tree) others)
-word_read left first others (Ok tree) s is h = λ ts n. subst (λ (v : Value). Reads left ts v others) (sym h.0) (reads_scalar left ts first others s n is h.1)
-word_read left first others (Err e) s is h = tt
+pub large_number : (bytes run : List ℕ) (place : ℕ) → run ≡ number_run (drop place bytes) → IsOne bytes (LargeNumber place) (scalar (number (decimal_in (number_of run))))
+large_number bytes run place is more = ap (λ (r : List ℕ). scalar (number (decimal_in (number_of r))) ∷ values bytes more) (sym is)
 
-pub word_stops : (left : ℕ) (first : Placed) (others : List Placed) (r : Result Tree TextError) (s : Scalar) → first.token ≡ word s
-    → IfFault r (λ f. (s ≡ long_number) × (f ≡ record { code = NumberTooLong; place = first.place })) → IfFault r (λ f. (ts : List Placed) → NextIs ts first others → StuckAt left [] ts f)
-word_stops left first others (Ok tree) s is h = tt
-word_stops left first others (Err errors.Memory) s is h = tt
-word_stops left first others (Err (errors.Fault f)) s is h = λ ts n.
-    value_stops left ts first others f NumberTooLong n (ap (λ (g : TextFault). g.place) h.1) (ap (λ (g : TextFault). g.code) h.1)
-    (subst (λ (t : Token). IsStuck left [] t length_of_numbers) (sym (is ∙ ap word h.0)) (stuck_long left))
+pub word_stops : (left : ℕ) (first : Placed) (others ts : List Placed) (s : Scalar) (f : TextFault) → first.token ≡ word s → s ≡ long_number → f ≡ record { code = NumberTooLong; place = first.place } → NextIs ts first others → StuckAt left [] ts f
+word_stops left first others ts s f is long at n =
+    value_stops left ts first others f NumberTooLong n (ap (λ (g : TextFault). g.place) at) (ap (λ (g : TextFault). g.code) at)
+    (subst (λ (t : Token). IsStuck left [] t length_of_numbers) (sym (is ∙ ap word long)) (stuck_long left))

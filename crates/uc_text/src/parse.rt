@@ -81,11 +81,10 @@ fn value<'a>(
 {
     match first.token {
         Token::Word(word) => {
-            found.nodes.push(word_node(word, first.place)?)?;
+            let node = word_node(word, first.place)?;
+            Ok(found.nodes.push(node)?)
         }
-        Token::Text(_) => {
-            found.nodes.push(Node::Text(first.place))?;
-        }
+        Token::Text(_) => Ok(found.nodes.push(Node::Text(first.place))?),
         Token::OpenList => {
             if left == 0 {
                 return Err(fault(TextCode::TooDeep, first.place));
@@ -94,6 +93,7 @@ fn value<'a>(
             found.nodes.push(Node::List(0))?;
             let count = items(alloc, reader, left, found)?;
             found.nodes[at] = Node::List(count);
+            Ok(())
         }
         Token::OpenObject => {
             if left == 0 {
@@ -103,10 +103,10 @@ fn value<'a>(
             found.nodes.push(Node::Object(0))?;
             let count = members(alloc, reader, left, found)?;
             found.nodes[at] = Node::Object(count);
+            Ok(())
         }
-        _ => return Err(fault(TextCode::NotJson, first.place)),
+        _ => Err(fault(TextCode::NotJson, first.place)),
     }
-    Ok(())
 }
 
 /// Numbers of few digits with a comma behind each, as long as they come: how many.
@@ -209,12 +209,13 @@ fn members<'a>(
         let behind = reader.next();
         match behind.token {
             Token::Comma => first = reader.next(),
-            Token::CloseObject => break,
+            Token::CloseObject => {
+                found.names.truncate(outer);
+                return Ok(count);
+            }
             _ => return Err(fault(TextCode::NotJson, behind.place)),
         }
     }
-    found.names.truncate(outer);
-    Ok(count)
 }
 
 /// The tree of a JSON text of RFC 8259, or its first fault.

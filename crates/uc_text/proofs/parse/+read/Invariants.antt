@@ -1,4 +1,4 @@
-use Rattle.uc_text.proofs.Common.{◌+◌, ◌*◌, ◌<◌, ◌≤◌, seen, rest, ahead, views, member_views, names, vec_len, Knows}
+use Rattle.uc_text.proofs.Common.{◌≡◌, ◌+◌, ◌*◌, ◌<◌, ◌≤◌, ◌++◌, List, length, seen, rest, ahead, names, Knows, all_said, Adds, in_turn, Value, Pair, StandsAt, Quoted}
 use Rattle.uc_text.proofs.Lemmas.{InItems, InMembers}
 use Rattle.uc_text.proofs.parse.+read.Given as goal
 
@@ -13,8 +13,11 @@ decreases-value l = 2 * l.left + 1
 
 abbrev pub invariant-items-items : goal.invariant-items-items
 invariant-items-items l = record {
-  inside : InItems l.left (rest l.fn.reader) (views l.found.items) (seen l.first) (rest l.reader);
-  on : ahead l.reader ≤ ahead l.fn.reader;
+  inside : (vs : List Value) × InItems l.left (rest l.fn.reader) vs (seen l.first) (rest l.reader) × (l.count ≡ length vs) × Adds l.fn.reader.bytes.now l.fn.found.nodes.items l.found.nodes.items vs;
+  stands : StandsAt l.reader.bytes.now l.first.place l.first.token;
+  same : l.reader.bytes.now ≡ l.fn.reader.bytes.now;
+  names : l.found.names.items ≡ l.fn.found.names.items;
+  few : l.count + ahead l.reader ≤ ahead l.fn.reader;
   room : 0 < l.left;
 }
 
@@ -23,10 +26,13 @@ decreases-items-items l = ahead l.reader
 
 abbrev pub invariant-members-members : goal.invariant-members-members
 invariant-members-members l = record {
-  inside : InMembers l.left (rest l.fn.reader) (member_views l.found.items) (seen l.first) (rest l.reader);
-  on : ahead l.reader ≤ ahead l.fn.reader;
+  inside : (ps : List Pair) × InMembers l.left (rest l.fn.reader) ps (seen l.first) (rest l.reader) × (l.count ≡ length ps) × Adds l.fn.reader.bytes.now l.fn.found.nodes.items l.found.nodes.items (in_turn ps)
+      × (qs : List Quoted) × (l.found.names.items ≡ l.fn.found.names.items ++ qs) × (all_said qs ≡ names ps) × (16 < length qs → Knows l.seen (all_said qs));
+  outer : l.outer ≡ length l.fn.found.names.items;
+  stands : StandsAt l.reader.bytes.now l.first.place l.first.token;
+  same : l.reader.bytes.now ≡ l.fn.reader.bytes.now;
+  few : l.count + ahead l.reader ≤ ahead l.fn.reader;
   room : 0 < l.left;
-  known : 16 < vec_len l.found → Knows l.seen (names (member_views l.found.items));
 }
 
 abbrev pub decreases-members-members : goal.decreases-members-members

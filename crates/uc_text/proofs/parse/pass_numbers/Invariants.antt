@@ -1,11 +1,12 @@
-use Rattle.uc_text.proofs.Common.{ℕ, ◌≤◌, List, vec_len, rest, ahead, AtItem, Placed, views}
+use Rattle.uc_text.proofs.Common.{◌≡◌, ◌++◌, ℕ, ◌+◌, ◌≤◌, List, length, rest, ahead, AtItem, Placed, Value, Adds}
 use Rattle.uc_text.proofs.parse.pass_numbers.Given as goal
 
 abbrev pub invariant-numbers : goal.invariant-numbers
 invariant-numbers l = record {
-  passed : (m : ℕ) (all : List Placed) → AtItem m all (views l.fn.found.items) (rest l.fn.reader) → AtItem m all (views l.found.items) (rest l.reader);
-  more : vec_len l.fn.found ≤ vec_len l.found;
-  on : ahead l.reader ≤ ahead l.fn.reader;
+  passed : (us : List Value) × (l.count ≡ length us) × Adds l.fn.reader.bytes.now l.fn.nodes.items l.nodes.items us
+      × ((m : ℕ) (all : List Placed) (vs : List Value) → AtItem m all vs (rest l.fn.reader) → AtItem m all (vs ++ us) (rest l.reader));
+  few : l.count + ahead l.reader ≤ ahead l.fn.reader;
+  same : l.reader.bytes.now ≡ l.fn.reader.bytes.now;
 }
 
 abbrev pub decreases-numbers : goal.decreases-numbers

@@ -1,0 +1,43 @@
+-- Whether a string says a text, piece by piece.
+use Rattle.text_tokens.proofs.Common.{◌≡◌, ℕ, ◌+◌, Bool, true, false, true≢false, List, [], ◌∷◌, ◌++◌, length, drop, suc, nat_eq, nat_tests, arith, refl, sym, ap, ◌∙◌, append_assoc, append-nil, Option, Some, None, option_map, is_some, Piece, after_piece, string_from, string_of, said, text_or}
+use Rattle.std.specs.Prelude.{bytes_eq}
+use Rattle.std.proofs.lemmas.Slice.Eq.{bytes_eq-Decides}
+use Rattle.text_tokens.proofs.Texts.{whole_string, never}
+
+-- ---- a text that begins as the string does
+
+same_behind : (front a b : List ℕ) → front ++ a ≡ front ++ b → a ≡ b
+same_behind [] a b e = e
+same_behind (x ∷ front) a b e = same_behind front a b (ap (drop 1) e)
+
+differs : (xs ys : List ℕ) → (xs ≡ ys → ⊥) → bytes_eq xs ys ≡ false
+differs xs ys n = by_test (bytes_eq xs ys) refl
+  where
+    by_test : (t : Bool) → bytes_eq xs ys ≡ t → bytes_eq xs ys ≡ false
+    by_test true e = absurd (n ((bytes_eq-Decides xs ys).0 e))
+    by_test false e = e
+
+says_on : (bs front : List ℕ) (at : ℕ) (r : Piece) → is_some (string_of bs) ≡ true → string_from 0 bs ≡ option_map (after_piece (front, at)) (Some r) → said bs ≡ front ++ r.0
+unfolding said
+says_on bs front at r e i = ap text_or (whole_string bs e ∙ i)
+
+-- the string says a piece that the text hasn't there
+pub says_other : (bs text front wanted : List ℕ) (at : ℕ) (p : Piece) (rest : Option Piece) → is_some (string_of bs) ≡ true → string_from 0 bs ≡ option_map (after_piece (front ++ p.0, at + p.1)) rest
+    → text ≡ front ++ wanted → ((more : List ℕ) → wanted ≡ p.0 ++ more → ⊥) → bytes_eq (said bs) text ≡ false
+says_other bs text front wanted at p None e i is none = absurd (never bs (front ++ p.0) (at + p.1) None e i refl)
+says_other bs text front wanted at p (Some r) e i is none =
+    differs (said bs) text (λ same. none r.0 (same_behind front wanted (p.0 ++ r.0) (sym is ∙ sym same ∙ says_on bs (front ++ p.0) (at + p.1) r e i ∙ append_assoc front p.0 r.0)))
+
+-- the string ends where this much of the text is left
+says_all : (bs text front wanted : List ℕ) → front ≡ said bs → text ≡ front ++ wanted → wanted ≡ [] → bytes_eq (said bs) text ≡ true
+says_all bs text front wanted whole is none = (bytes_eq-Decides (said bs) text).1 (sym whole ∙ sym (append-nil front) ∙ ap (λ (r : List ℕ). front ++ r) (sym none) ∙ sym is)
+
+says_less : (bs text front wanted : List ℕ) → front ≡ said bs → text ≡ front ++ wanted → (wanted ≡ [] → ⊥) → bytes_eq (said bs) text ≡ false
+says_less bs text front wanted whole is some = differs (said bs) text (λ same. some (same_behind front wanted [] (sym is ∙ sym same ∙ sym whole ∙ sym (append-nil front))))
+
+some_left : (n : ℕ) → nat_eq (suc n) 0 ≡ false
+some_left n = grind (arith, nat_tests)
+
+pub says_rest : (bs text front wanted : List ℕ) (none : Bool) → front ≡ said bs → text ≡ front ++ wanted → none ≡ nat_eq (length wanted) 0 → none ≡ bytes_eq (said bs) text
+says_rest bs text front [] none whole is e = e ∙ sym (says_all bs text front [] whole is refl)
+says_rest bs text front (x ∷ wanted) none whole is e = e ∙ some_left (length wanted) ∙ sym (says_less bs text front (x ∷ wanted) whole is (λ same. cc))
