@@ -4,6 +4,7 @@ pub use Rattle.std.proofs.lemmas.Bool.{cases_lt}
 pub use Rattle.std.proofs.lemmas.List.{append-nil, length-append, get_or_append_left, map_push, take_more, take_all, length-map}
 pub use Rattle.std.proofs.lemmas.Result.{err_from_is_err_and}
 pub use Rattle.std.specs.Prelude.{IfOk, Contains, AllPairs, vec_len}
+pub use Rattle.std.specs.HashSet.{HashSet}
 pub use Rattle.text_tokens.specs.Ahead.{rest, ahead}
 pub use Rattle.text_tokens.specs.Goes.{goes}
 pub use Rattle.text_tokens.specs.Seen.{token_of, scalar_of}

@@ -1,8 +1,9 @@
 -- Names that were met before, and a set of their hashes.
-use Rattle.uc_text.proofs.Common.{◌≡◌, ℕ, zero, suc, Bool, true, false, true≢false, not, cond, ◌||◌, ◌⊎◌, List, [], ◌∷◌, ◌++◌, bytes_eq, length, get_or, ◌<◌, refl, sym, ap, ap₂, subst, ◌∙◌, arith, inl, inr, Contains, is_there, hash_of, Knows, IsNewName}
+use Rattle.uc_text.proofs.Common.{◌≡◌, ℕ, zero, suc, Bool, true, false, true≢false, not, cond, ◌||◌, ◌⊎◌, List, [], ◌∷◌, ◌++◌, bytes_eq, length, get_or, ◌<◌, refl, sym, ap, ap₂, subst, ◌∙◌, arith, inl, inr, Contains, ◌+◌, ◌-◌, take, drop, take_all, length-append, append_assoc, is_there, all_said, said, Quoted, hash_of, Knows, IsNewName}
 use Rattle.std.specs.List.{list_any}
 use Rattle.std.specs.HashSet.{HashSet, contains_by}
 use Rattle.std.specs.Prelude.{nat_eq}
+use Rattle.std.proofs.lemmas.List.{take_at, drop_at}
 use Rattle.std.proofs.lemmas.Bool.Decides.{nat_tests}
 use Rattle.std.proofs.lemmas.Slice.Eq.{bytes_eq-Decides}
 
@@ -73,11 +74,49 @@ not_true : (b : Bool) → not b ≡ true → b ≡ false
 not_true true e = absurd (true≢false (sym e))
 not_true false e = refl
 
-pub known_name : (ks : List (List ℕ)) (name k : List ℕ) (new : Bool) → name ≡ k → new ≡ not (is_there name ks) → new ≡ false → Contains ks k
-known_name ks name k new is e off = subst (λ (j : List ℕ). Contains ks j) is (there_has name ks (not_false _ (sym e ∙ off)))
+pub known_name : (ks : List (List ℕ)) (k : List ℕ) (new : Bool) → new ≡ not (is_there k ks) → new ≡ false → Contains ks k
+known_name ks k new e off = there_has k ks (not_false _ (sym e ∙ off))
 
-pub new_name : (ks : List (List ℕ)) (name k : List ℕ) (new : Bool) → name ≡ k → new ≡ not (is_there name ks) → new ≡ true → IsNewName ks k
-new_name ks name k new is e on = subst (λ (j : List ℕ). IsNewName ks j) is (there_new name ks (not_true _ (sym e ∙ on)))
+pub new_name : (ks : List (List ℕ)) (k : List ℕ) (new : Bool) → new ≡ not (is_there k ks) → new ≡ true → IsNewName ks k
+new_name ks k new e on = there_new k ks (not_true _ (sym e ∙ on))
+
+-- ---- what strings say
+
+said_at : (qs : List Quoted) (k : ℕ) (d : Quoted) → k < length qs → get_or (all_said qs) k [] ≡ said (get_or qs k d).bytes.now
+said_at [] k d lt = absurd (omega arith)
+said_at (q ∷ qs) zero d lt = refl
+said_at (q ∷ qs) (suc k) d lt = said_at qs k d (omega arith)
+
+pub name_at : (qs : List Quoted) (k : ℕ) (q : Quoted) → k < length qs → q ≡ get_or qs k q → get_or (all_said qs) k [] ≡ said q.bytes.now
+name_at qs k q lt is = said_at qs k q lt ∙ ap (λ (p : Quoted). said p.bytes.now) (sym is)
+
+pub names_len : (qs : List Quoted) → length (all_said qs) ≡ length qs
+names_len [] = refl
+names_len (q ∷ qs) = ap suc (names_len qs)
+
+pub all_said-append : (ps qs : List Quoted) → all_said (ps ++ qs) ≡ all_said ps ++ all_said qs
+all_said-append [] qs = refl
+all_said-append (p ∷ ps) qs = ap (λ (ks : List (List ℕ)). said p.bytes.now ∷ ks) (all_said-append ps qs)
+
+pub bytes_eq-turned : (xs ys : List ℕ) → bytes_eq xs ys ≡ bytes_eq ys xs
+bytes_eq-turned xs ys = same_test xs ys (bytes_eq xs ys) (bytes_eq ys xs) refl refl
+
+-- ---- the names of one object among those of all that are open
+
+-- from the object's first name on
+pub names_from : (all base qs : List Quoted) (outer : ℕ) → all ≡ base ++ qs → outer ≡ length base → take (length all - outer) (drop outer all) ≡ qs
+names_from all base qs outer is at =
+    let len : length all ≡ length base + length qs = ap length is ∙ length-append base qs in
+    ap (λ (ps : List Quoted). take (length all - outer) (drop outer ps)) is ∙ ap (take (length all - outer)) (drop_at base qs outer (sym at)) ∙ take_all (length all - outer) qs (omega arith)
+
+pub names_before : (all base qs : List Quoted) (outer : ℕ) → all ≡ base ++ qs → outer ≡ length base → take outer all ≡ base
+names_before all base qs outer is at = ap (take outer) is ∙ take_at base qs outer (sym at)
+
+pub names_more : (all more base qs : List Quoted) (q : Quoted) → all ≡ base ++ qs → more ≡ all ++ q ∷ [] → more ≡ base ++ (qs ++ q ∷ [])
+names_more all more base qs q is pushed = pushed ∙ ap (λ (ps : List Quoted). ps ++ q ∷ []) is ∙ append_assoc base qs (q ∷ [])
+
+pub is_told : (ks : List (List ℕ)) (part qs : List Quoted) (k : List ℕ) (new : Bool) → part ≡ qs → all_said qs ≡ ks → new ≡ not (is_there k (all_said part)) → new ≡ not (is_there k ks)
+is_told ks part qs k new same said_is e = e ∙ ap (λ (js : List (List ℕ)). not (is_there k js)) (ap all_said same ∙ said_is)
 
 -- ---- the set of hashes
 

@@ -27,6 +27,10 @@ pub not_end : (t : Token) → (t ≡ End → ⊥) → token_of t ≢ grammar.end
 not_end End n e = n refl
 not_end t n e = cc
 
+pub not_end_comma : (t : Token) → t ≡ Comma → token_of t ≢ grammar.end
+not_end_comma Comma e f = cc
+not_end_comma t e f = cc
+
 -- what holds at the fault goes on
 pub passes_on : (e : TextError) (P Q : TextFault → Type 0) → ((f : TextFault) → P f → Q f) → FaultIs e P → FaultIs e Q
 passes_on errors.Memory P Q g h = tt

@@ -1,191 +1,324 @@
-use Rattle.uc_text.proofs.Common.{Vec, Global, length, ◌<◌, ◌≡◌, ℕ, ◌++◌, ◌∷◌, [], List, refl, sym, ap, subst, ◌∙◌, arith, err_from_is_err_and, map_push, length-map, vec_len, Tree, Value, text, said, Token, open_list, open_object, Pair, names, IsStuck, levels, Placed, NotJson, TooDeep, AtItem, NextIs, seen, Reads, ReadsItems, ReadsMembers, StuckAt, FaultIs, rest, token_of, scalar_of, view, views, member_views, TextError}
-use Rattle.uc_text.proofs.Words.{word_read, word_stops}
-use Rattle.uc_text.proofs.Lemmas.{not_close_list, not_close_object, not_comma, not_colon, not_text, not_start, passes_on, InItems, items_begin, items_empty, at_next, read_first, items_end, items_stop, items_stop_behind, known_name, new_name, knows_next, InMembers, members_begin, members_empty, members_go_on, members_end, name_stops, double_stops, colon_stops, value_stops, member_stops_behind, members_pushed}
+use Rattle.uc_text.proofs.Common.{length, ◌<◌, ◌≡◌, ℕ, ◌++◌, ◌∷◌, [], List, refl, sym, ap, subst, ◌∙◌, arith, err_from_is_err_and, length-append, Value, scalar, text, list, object, said, all_said, Quoted, Token, open_list, open_object, items_of, members_of, Pair, names, append-nil, Adds, IsStuck, levels, Placed, NotJson, TooDeep, AtItem, NextIs, seen, Reads, ReadsItems, ReadsMembers, StuckAt, FaultIs, rest, token_of, scalar_of, TextError, StandsAt, in_turn, ListNode, ObjectNode, TextNode}
+use Rattle.uc_text.proofs.Words.{word_stops, text_node}
+use Rattle.uc_text.proofs.Lemmas.{not_close_list, not_close_object, not_comma, not_colon, not_text, not_start, passes_on, InItems, items_begin, items_empty, at_next, read_first, items_end, items_stop, items_stop_behind, known_name, new_name, InMembers, members_begin, members_empty, members_go_on, members_end, name_stops, double_stops, colon_stops, value_stops, member_stops_behind, adds_none, adds_one, adds_then, adds_anew, says_list, says_object, adds_member, not_end_comma, knows_same, all_said-append, names_from, names_before, names_more, is_told}
 use Rattle.uc_text.proofs.Objects.{of_member, names_push}
 use Rattle.uc_text.proofs.ValueSteps as first
 use Rattle.uc_text.proofs.parse.+read.Goals as goal
 
--- ---- items
+some_items : (vs : List Value) (v : Value) (us : List Value) → (vs ++ v ∷ []) ++ us ≡ [] → ⊥
+some_items [] v us e = cc
+some_items (w ∷ vs) v us e = cc
 
-some_left : (v : Vec Tree Global) → 0 < vec_len v → views v.items ≡ [] → ⊥
-some_left v lt none = omega (arith, lt, v.ok.0, length-map v.items view, ap length none)
+-- ---- items
 
 pub items-returns-in-CloseList-clause-ok : goal.items-returns-in-CloseList-clause-ok
 items-returns-in-CloseList-clause-ok t c =
-    let vs : views c.in_ok-found.found.items ≡ [] = ap views c.in_ok-found.ensures.items in
-    subst (λ (us : List Value). ReadsItems c.args.left (rest c.args.reader.now) us (rest c.next-first.new.self)) (sym vs) (items_empty c.args.left (rest c.args.reader.now) (seen c.next-first.result) (rest c.next-first.new.self) c.next-first.ensures.next (ap token_of c.in-CloseList.is))
+    ([], refl, items_empty c.args.left (rest c.args.reader.now) (seen c.next-first.result) (rest c.next-first.new.self) c.next-first.ensures.next (ap token_of c.in-CloseList.is), adds_none c.args.reader.now.bytes.now c.args.found.now.nodes.items)
 
 pub items-items-init : goal.items-items-init
-items-items-init t c =
-    let vs : views c.in_ok-found.found.items ≡ [] = ap views c.in_ok-found.ensures.items in
-    record {
-      inside = subst (λ (us : List Value). InItems c.args.left (rest c.args.reader.now) us (seen c.next-first.result) (rest c.next-first.new.self)) (sym vs) (items_begin c.args.left (rest c.args.reader.now) (seen c.next-first.result) (rest c.next-first.new.self) c.next-first.ensures.next (not_close_list c.next-first.result.token c.in_default.not-CloseList));
-      on = c.next-first.ensures.ahead;
-      room = omega arith;
-    }
+items-items-init t c = record {
+  inside = ([], items_begin c.args.left (rest c.args.reader.now) (seen c.next-first.result) (rest c.next-first.new.self) c.next-first.ensures.next (not_close_list c.next-first.result.token c.in_default.not-CloseList), refl, adds_none c.args.reader.now.bytes.now c.args.found.now.nodes.items);
+  stands = subst (λ (bytes : List ℕ). StandsAt bytes c.next-first.result.place c.next-first.result.token) (sym c.next-first.ensures.same) c.next-first.ensures.stands;
+  same = c.next-first.ensures.same;
+  names = refl;
+  few = omega (arith, c.next-first.ensures.ahead);
+  room = omega arith;
+}
 
-pub items-returns-in_err-item : goal.items-returns-in_err-item
-items-returns-in_err-item t c =
-    let p = err_from_is_err_and c.from_residual-in_err-item.result c.from_residual-in_err-item.ensures.1 in
+pub items-returns-in_err-value : goal.items-returns-in_err-value
+items-returns-in_err-value t c =
+    let p = err_from_is_err_and c.from_residual.result c.from_residual.ensures.1 in
     let i = c.items.invariant.inside in
     rw (p.1, p.2) (record {
       ok = tt;
-      fault = passes_on c.in_err-item.field-0.0 _ _ (λ f s. items_stop c.args.left (rest c.args.reader.now) (views c.items.found.items) (seen c.items.first) (rest c.items.reader) f c.items.invariant.room i (s i.ahead i.next)) c.in_err-item.ensures.fault;
+      fault = passes_on c.in_err-value.field-0.0 _ _ (λ f s. items_stop c.args.left (rest c.args.reader.now) i.0 (seen c.items.first) (rest c.items.reader) f c.items.invariant.room i.1 (s i.1.ahead i.1.next)) c.in_err-value.ensures.fault;
       ahead = tt;
+      same = tt;
+      names = tt;
     })
 
 pub items-items-preserved : goal.items-items-preserved
 items-items-preserved t c =
     let i = c.items.invariant.inside in
-    let v = c.in_ok-item.item in
-    let r = c.in_ok-item.ensures.ok i.ahead i.next in
-    let vs : views c.push.new.self.items ≡ views c.items.found.items ++ view v ∷ [] = ap views c.in_ok-push.ensures.items ∙ map_push _ c.items.found.items v in
-    let at : AtItem c.args.left (rest c.args.reader.now) (views c.push.new.self.items) (rest c.next-behind.new.self) =
-    subst (λ (us : List Value). AtItem c.args.left (rest c.args.reader.now) us (rest c.next-behind.new.self)) (sym vs)
-    (at_next c.args.left (rest c.args.reader.now) (views c.items.found.items) (seen c.items.first) (rest c.items.reader) (view v) (rest c.value.new.reader) (seen c.next-behind.result) (rest c.next-behind.new.self)
-    i r.takes r.pass c.next-behind.ensures.next (ap token_of c.in-Comma.is)) in
+    let r = c.in_ok-value.ensures.ok i.1.ahead i.1.next in
+    let vs = i.0 ++ r.0 ∷ [] in
+    let at : AtItem c.args.left (rest c.args.reader.now) vs (rest c.next-behind.new.self) =
+    at_next c.args.left (rest c.args.reader.now) i.0 (seen c.items.first) (rest c.items.reader) r.0 (rest c.value.new.reader) (seen c.next-behind.result) (rest c.next-behind.new.self) i.1 r.1.takes r.1.pass c.next-behind.ensures.next (ap token_of c.in-Comma.is) in
+    let more = c.in_ok-count-in-Comma.ensures.passed in
+    let bytes = c.args.reader.now.bytes.now in
+    let here = c.next-behind.ensures.same ∙ c.in_ok-value.ensures.same ∙ c.items.invariant.same in
+    let one = subst (λ (bs : List ℕ). Adds bs c.items.found.nodes.items c.value.new.found.nodes.items (r.0 ∷ [])) c.items.invariant.same r.2 in
+    let others = subst (λ (bs : List ℕ). Adds bs c.value.new.found.nodes.items c.pass_numbers.new.nodes.items more.0) here more.2 in
     record {
-      inside = read_first c.args.left (rest c.args.reader.now) (views c.pass_numbers.new.found.items) (rest c.pass_numbers.new.reader) (seen c.next-first-in-Comma.result) (rest c.next-first-in-Comma.new.self)
-          (c.in_ok-pass_numbers-in-Comma.ensures.passed c.args.left (rest c.args.reader.now) at) c.next-first-in-Comma.ensures.next
-          (λ none. some_left c.pass_numbers.new.found (omega (arith, c.in_ok-pass_numbers-in-Comma.ensures.more, c.in_ok-push.ensures.len)) none);
-      on = omega (arith, c.next-first-in-Comma.ensures.ahead, c.in_ok-pass_numbers-in-Comma.ensures.ahead, c.next-behind.ensures.ahead, c.in_ok-item.ensures.ahead, c.items.invariant.on);
+      inside = (
+        vs ++ more.0,
+        read_first c.args.left (rest c.args.reader.now) (vs ++ more.0) (rest c.pass_numbers.new.reader) (seen c.next-first-in-Comma.result) (rest c.next-first-in-Comma.new.self)
+            (more.3 c.args.left (rest c.args.reader.now) vs at) c.next-first-in-Comma.ensures.next (some_items i.0 r.0 more.0),
+        omega (arith, i.2, more.1, length-append i.0 (r.0 ∷ []), length-append vs more.0),
+        adds_then bytes c.args.found.now.nodes.items c.value.new.found.nodes.items c.pass_numbers.new.nodes.items vs more.0 (adds_then bytes c.args.found.now.nodes.items c.items.found.nodes.items c.value.new.found.nodes.items i.0 (r.0 ∷ []) i.3 one) others,
+      );
+      stands = subst (λ (bs : List ℕ). StandsAt bs c.next-first-in-Comma.result.place c.next-first-in-Comma.result.token) (sym c.next-first-in-Comma.ensures.same) c.next-first-in-Comma.ensures.stands;
+      same = c.next-first-in-Comma.ensures.same ∙ c.in_ok-count-in-Comma.ensures.same ∙ here;
+      names = c.in_ok-value.ensures.names ∙ c.items.invariant.names;
+      few = omega (arith, c.items.invariant.few, c.in_ok-value.ensures.ahead, c.next-behind.ensures.less (λ e. not_end_comma c.next-behind.result.token c.in-Comma.is e), c.in_ok-count-in-Comma.ensures.few, c.next-first-in-Comma.ensures.ahead);
       room = c.items.invariant.room;
     }
 
 pub items-returns-in-CloseList-token : goal.items-returns-in-CloseList-token
 items-returns-in-CloseList-token t c =
     let i = c.items.invariant.inside in
-    let v = c.in_ok-item.item in
-    let r = c.in_ok-item.ensures.ok i.ahead i.next in
-    let vs : views c.push.new.self.items ≡ views c.items.found.items ++ view v ∷ [] = ap views c.in_ok-push.ensures.items ∙ map_push _ c.items.found.items v in
+    let r = c.in_ok-value.ensures.ok i.1.ahead i.1.next in
+    let bytes = c.args.reader.now.bytes.now in
+    let one = subst (λ (bs : List ℕ). Adds bs c.items.found.nodes.items c.value.new.found.nodes.items (r.0 ∷ [])) c.items.invariant.same r.2 in
     record {
-      ok = subst (λ (us : List Value). ReadsItems c.args.left (rest c.args.reader.now) us (rest c.next-behind.new.self)) (sym vs)
-          (items_end c.args.left (rest c.args.reader.now) (views c.items.found.items) (seen c.items.first) (rest c.items.reader) (view v) (rest c.value.new.reader) (seen c.next-behind.result) (rest c.next-behind.new.self)
-          i r.takes r.pass c.next-behind.ensures.next (ap token_of c.in-CloseList-token.is));
+      ok = (
+        i.0 ++ r.0 ∷ [],
+        omega (arith, i.2, length-append i.0 (r.0 ∷ [])),
+        items_end c.args.left (rest c.args.reader.now) i.0 (seen c.items.first) (rest c.items.reader) r.0 (rest c.value.new.reader) (seen c.next-behind.result) (rest c.next-behind.new.self)
+            i.1 r.1.takes r.1.pass c.next-behind.ensures.next (ap token_of c.in-CloseList-token.is),
+        adds_then bytes c.args.found.now.nodes.items c.items.found.nodes.items c.value.new.found.nodes.items i.0 (r.0 ∷ []) i.3 one,
+      );
       fault = tt;
-      ahead = omega (arith, c.next-behind.ensures.ahead, c.in_ok-item.ensures.ahead, c.items.invariant.on);
+      ahead = omega (arith, c.next-behind.ensures.ahead, c.in_ok-value.ensures.ahead, c.items.invariant.few);
+      same = c.next-behind.ensures.same ∙ c.in_ok-value.ensures.same ∙ c.items.invariant.same;
+      names = c.in_ok-value.ensures.names ∙ c.items.invariant.names;
     }
 
 pub items-returns-in_default-token : goal.items-returns-in_default-token
 items-returns-in_default-token t c =
     let i = c.items.invariant.inside in
-    let v = c.in_ok-item.item in
-    let r = c.in_ok-item.ensures.ok i.ahead i.next in
+    let r = c.in_ok-value.ensures.ok i.1.ahead i.1.next in
     record {
       ok = tt;
       fault = subst (λ (e : TextError). FaultIs e (λ f. StuckAt c.args.left (open_list ∷ []) (rest c.args.reader.now) f)) (sym c.fault.ensures)
-          (items_stop_behind c.args.left (rest c.args.reader.now) (views c.items.found.items) (seen c.items.first) (rest c.items.reader) (view v) (rest c.value.new.reader) (seen c.next-behind.result) (rest c.next-behind.new.self) _
-          c.items.invariant.room i r.takes r.pass c.next-behind.ensures.next (not_comma c.next-behind.result.token c.in_default-token.not-Comma) (not_close_list c.next-behind.result.token c.in_default-token.not-CloseList) refl refl);
+          (items_stop_behind c.args.left (rest c.args.reader.now) i.0 (seen c.items.first) (rest c.items.reader) r.0 (rest c.value.new.reader) (seen c.next-behind.result) (rest c.next-behind.new.self) _
+          c.items.invariant.room i.1 r.1.takes r.1.pass c.next-behind.ensures.next (not_comma c.next-behind.result.token c.in_default-token.not-Comma) (not_close_list c.next-behind.result.token c.in_default-token.not-CloseList) refl refl);
       ahead = tt;
+      same = tt;
+      names = tt;
     }
 
 -- ---- members
 
 pub members-returns-in-CloseObject-clause-ok : goal.members-returns-in-CloseObject-clause-ok
 members-returns-in-CloseObject-clause-ok t c =
-    let ps : member_views c.in_ok-found.found.items ≡ [] = ap member_views c.in_ok-found.ensures.items in
-    subst (λ (us : List Pair). ReadsMembers c.args.left (rest c.args.reader.now) us (rest c.next-first.new.self)) (sym ps) (members_empty c.args.left (rest c.args.reader.now) (seen c.next-first.result) (rest c.next-first.new.self) c.next-first.ensures.next (ap token_of c.in-CloseObject.is))
+    ([], refl, members_empty c.args.left (rest c.args.reader.now) (seen c.next-first.result) (rest c.next-first.new.self) c.next-first.ensures.next (ap token_of c.in-CloseObject.is), adds_none c.args.reader.now.bytes.now c.args.found.now.nodes.items)
 
 pub members-members-init : goal.members-members-init
-members-members-init t c =
-    let ps : member_views c.in_ok-found.found.items ≡ [] = ap member_views c.in_ok-found.ensures.items in
-    record {
-      inside = subst (λ (us : List Pair). InMembers c.args.left (rest c.args.reader.now) us (seen c.next-first.result) (rest c.next-first.new.self)) (sym ps) (members_begin c.args.left (rest c.args.reader.now) (seen c.next-first.result) (rest c.next-first.new.self) c.next-first.ensures.next (not_close_object c.next-first.result.token c.in_default.not-CloseObject));
-      on = c.next-first.ensures.ahead;
-      room = omega arith;
-      known = λ lt. absurd (omega (arith, lt, c.in_ok-found.ensures.len));
-    }
+members-members-init t c = record {
+  inside = (
+    [],
+    members_begin c.args.left (rest c.args.reader.now) (seen c.next-first.result) (rest c.next-first.new.self) c.next-first.ensures.next (not_close_object c.next-first.result.token c.in_default.not-CloseObject),
+    refl,
+    adds_none c.args.reader.now.bytes.now c.args.found.now.nodes.items,
+    [],
+    sym (append-nil c.args.found.now.names.items),
+    refl,
+    λ lt. absurd (omega (arith, lt)),
+  );
+  outer = omega (arith, c.len-outer.ensures, c.args.found.now.names.ok.0);
+  stands = subst (λ (bs : List ℕ). StandsAt bs c.next-first.result.place c.next-first.result.token) (sym c.next-first.ensures.same) c.next-first.ensures.stands;
+  same = c.next-first.ensures.same;
+  few = omega (arith, c.next-first.ensures.ahead);
+  room = omega arith;
+}
 
 pub members-returns-in_default-token : goal.members-returns-in_default-token
 members-returns-in_default-token t c =
+    let i = c.members.invariant.inside in
     record {
       ok = tt;
       fault = subst (λ (e : TextError). FaultIs e (λ f. StuckAt c.args.left (open_object ∷ []) (rest c.args.reader.now) f)) (sym c.fault.ensures)
-          (name_stops c.args.left (rest c.args.reader.now) (member_views c.members.found.items) (seen c.members.first) (rest c.members.reader) _ c.members.invariant.room c.members.invariant.inside (not_text c.members.first.token c.in_default-token.not-Text) refl refl);
+          (name_stops c.args.left (rest c.args.reader.now) i.0 (seen c.members.first) (rest c.members.reader) _ c.members.invariant.room i.1 (not_text c.members.first.token c.in_default-token.not-Text) refl refl);
       ahead = tt;
+      same = tt;
+      names = tt;
     }
 
 pub members-returns-then-not-new : goal.members-returns-then-not-new
 members-returns-then-not-new t c =
+    let i = c.members.invariant.inside in
+    let k = said c.in-Text.name.bytes.now in
+    let part = names_from c.deref.result.now c.args.found.now.names.items i.4 c.len-outer.result (c.deref.ensures.value ∙ i.5) c.members.invariant.outer in
+    let told = is_told (names i.0) _ i.4 k c.in_ok-new.new part i.6 c.in_ok-new.ensures.new in
     record {
       ok = tt;
       fault = subst (λ (e : TextError). FaultIs e (λ f. StuckAt c.args.left (open_object ∷ []) (rest c.args.reader.now) f)) (sym c.fault-then-not-new.ensures)
-          (double_stops c.args.left (rest c.args.reader.now) (member_views c.members.found.items) (seen c.members.first) (rest c.members.reader) (said c.in-Text.quoted.bytes.now) _ c.members.invariant.room c.members.invariant.inside (ap token_of c.in-Text.is) (known_name (names (member_views c.members.found.items)) c.as_bytes.result.now (said c.in-Text.quoted.bytes.now) c.in_ok-new.new (c.as_bytes.ensures.value ∙ c.in_ok-name.ensures) c.in_ok-new.ensures.new c.if-not-new.true) refl refl);
+          (double_stops c.args.left (rest c.args.reader.now) i.0 (seen c.members.first) (rest c.members.reader) k _ c.members.invariant.room i.1 (ap token_of c.in-Text.is) (known_name (names i.0) k c.in_ok-new.new told c.if-not-new.true) refl refl);
       ahead = tt;
+      same = tt;
+      names = tt;
     }
 
 pub members-returns-in_default-token-2 : goal.members-returns-in_default-token-2
 members-returns-in_default-token-2 t c =
-    let new = new_name (names (member_views c.members.found.items)) c.as_bytes.result.now (said c.in-Text.quoted.bytes.now) c.in_ok-new.new (c.as_bytes.ensures.value ∙ c.in_ok-name.ensures) c.in_ok-new.ensures.new c.if-not-new.false in
+    let i = c.members.invariant.inside in
+    let k = said c.in-Text.name.bytes.now in
+    let part = names_from c.deref.result.now c.args.found.now.names.items i.4 c.len-outer.result (c.deref.ensures.value ∙ i.5) c.members.invariant.outer in
+    let told = is_told (names i.0) _ i.4 k c.in_ok-new.new part i.6 c.in_ok-new.ensures.new in
+    let new = new_name (names i.0) k c.in_ok-new.new told c.if-not-new.false in
     record {
       ok = tt;
       fault = subst (λ (e : TextError). FaultIs e (λ f. StuckAt c.args.left (open_object ∷ []) (rest c.args.reader.now) f)) (sym c.fault-in_default-token-2.ensures)
-          (colon_stops c.args.left (rest c.args.reader.now) (member_views c.members.found.items) (seen c.members.first) (rest c.members.reader) (said c.in-Text.quoted.bytes.now) (seen c.next-between.result) (rest c.next-between.new.self) _
-          c.members.invariant.room c.members.invariant.inside (ap token_of c.in-Text.is) new c.next-between.ensures.next (not_colon c.next-between.result.token c.in_default-token-2.not-Colon) refl refl);
+          (colon_stops c.args.left (rest c.args.reader.now) i.0 (seen c.members.first) (rest c.members.reader) k (seen c.next-between.result) (rest c.next-between.new.self) _
+          c.members.invariant.room i.1 (ap token_of c.in-Text.is) new c.next-between.ensures.next (not_colon c.next-between.result.token c.in_default-token-2.not-Colon) refl refl);
       ahead = tt;
+      same = tt;
+      names = tt;
     }
 
-pub members-returns-in_err-inner : goal.members-returns-in_err-inner
-members-returns-in_err-inner t c =
-    let p = err_from_is_err_and c.from_residual-in_err-inner.result c.from_residual-in_err-inner.ensures.1 in
-    let new = new_name (names (member_views c.members.found.items)) c.as_bytes.result.now (said c.in-Text.quoted.bytes.now) c.in_ok-new.new (c.as_bytes.ensures.value ∙ c.in_ok-name.ensures) c.in_ok-new.ensures.new c.if-not-new.false in
-    rw (p.1, p.2) (record {
+pub members-returns-in_err-value : goal.members-returns-in_err-value
+members-returns-in_err-value t c =
+    let q = err_from_is_err_and c.from_residual-in_err-value.result c.from_residual-in_err-value.ensures.1 in
+    let i = c.members.invariant.inside in
+    let k = said c.in-Text.name.bytes.now in
+    let part = names_from c.deref.result.now c.args.found.now.names.items i.4 c.len-outer.result (c.deref.ensures.value ∙ i.5) c.members.invariant.outer in
+    let told = is_told (names i.0) _ i.4 k c.in_ok-new.new part i.6 c.in_ok-new.ensures.new in
+    let new = new_name (names i.0) k c.in_ok-new.new told c.if-not-new.false in
+    rw (q.1, q.2) (record {
       ok = tt;
-      fault = passes_on c.in_err-inner.field-0.0 _ _ (λ f s. value_stops c.args.left (rest c.args.reader.now) (member_views c.members.found.items) (seen c.members.first) (rest c.members.reader) (said c.in-Text.quoted.bytes.now) (seen c.next-between.result) (rest c.next-between.new.self) f c.members.invariant.room c.members.invariant.inside (ap token_of c.in-Text.is) new c.next-between.ensures.next (ap token_of c.in-Colon.is) (s (rest c.next-between.new.self) c.next-start.ensures.next)) c.in_err-inner.ensures.fault;
+      fault = passes_on c.in_err-value.field-0.0 _ _ (λ f s. value_stops c.args.left (rest c.args.reader.now) i.0 (seen c.members.first) (rest c.members.reader) k (seen c.next-between.result) (rest c.next-between.new.self) f c.members.invariant.room i.1 (ap token_of c.in-Text.is) new c.next-between.ensures.next (ap token_of c.in-Colon.is) (s (rest c.next-between.new.self) c.next-start.ensures.next)) c.in_err-value.ensures.fault;
       ahead = tt;
+      same = tt;
+      names = tt;
     })
 
 pub members-members-preserved : goal.members-members-preserved
 members-members-preserved t c =
-    let new = new_name (names (member_views c.members.found.items)) c.as_bytes.result.now (said c.in-Text.quoted.bytes.now) c.in_ok-new.new (c.as_bytes.ensures.value ∙ c.in_ok-name.ensures) c.in_ok-new.ensures.new c.if-not-new.false in
-    let r = c.in_ok-inner.ensures.ok (rest c.next-between.new.self) c.next-start.ensures.next in
-    let ps = members_pushed c.members.found.items c.push.new.self.items c.in_ok-name.name c.in_ok-inner.inner (said c.in-Text.quoted.bytes.now) c.in_ok-push.ensures.items c.in_ok-name.ensures in
+    let i = c.members.invariant.inside in
+    let k = said c.in-Text.name.bytes.now in
+    let part = names_from c.deref.result.now c.args.found.now.names.items i.4 c.len-outer.result (c.deref.ensures.value ∙ i.5) c.members.invariant.outer in
+    let told = is_told (names i.0) _ i.4 k c.in_ok-new.new part i.6 c.in_ok-new.ensures.new in
+    let new = new_name (names i.0) k c.in_ok-new.new told c.if-not-new.false in
+    let r = c.in_ok-value.ensures.ok (rest c.next-between.new.self) c.next-start.ensures.next in
+    let bytes = c.args.reader.now.bytes.now in
+    let p = of_member k r.0 in
+    let stands = subst (StandsAt bytes c.members.first.place) c.in-Text.is (subst (λ (bs : List ℕ). StandsAt bs c.members.first.place c.members.first.token) c.members.invariant.same c.members.invariant.stands) in
+    let named = adds_one bytes c.members.found.nodes.items c.push-in-members.new.self.items (TextNode c.members.first.place) (scalar (text k)) c.in_ok-push-2.ensures.items (text_node bytes c.in-Text.name.bytes.now c.members.first.place stands) in
+    let start = c.next-start.ensures.same ∙ c.next-between.ensures.same ∙ c.members.invariant.same in
+    let valued = subst (λ (bs : List ℕ). Adds bs c.push-in-members.new.self.items c.value.new.found.nodes.items (r.0 ∷ [])) start r.2 in
+    let added = adds_member bytes c.args.found.now.nodes.items c.members.found.nodes.items c.push-in-members.new.self.items c.value.new.found.nodes.items i.0 p i.3 named valued in
+    let behind = c.next-behind.ensures.same ∙ c.in_ok-value.ensures.same ∙ start in
+    let stack = c.in_ok-value.ensures.names ∙ names_more c.members.found.names.items c.push.new.self.items c.args.found.now.names.items i.4 c.in-Text.name i.5 c.in_ok-push.ensures.items in
     record {
-      inside = subst (λ (us : List Pair). InMembers c.args.left (rest c.args.reader.now) us (seen c.next-first-in-Comma.result) (rest c.next-first-in-Comma.new.self)) (sym ps)
-          (members_go_on c.args.left (rest c.args.reader.now) (member_views c.members.found.items) (seen c.members.first) (rest c.members.reader) (said c.in-Text.quoted.bytes.now) (seen c.next-between.result) (rest c.next-between.new.self) (view c.in_ok-inner.inner) (rest c.value.new.reader) (seen c.next-behind.result) (rest c.next-behind.new.self) (seen c.next-first-in-Comma.result) (rest c.next-first-in-Comma.new.self)
-          c.members.invariant.inside (ap token_of c.in-Text.is) new c.next-between.ensures.next (ap token_of c.in-Colon.is) r.takes r.pass c.next-behind.ensures.next (ap token_of c.in-Comma.is) c.next-first-in-Comma.ensures.next);
-      on = omega (arith, c.next-first-in-Comma.ensures.ahead, c.next-behind.ensures.ahead, c.in_ok-inner.ensures.ahead, c.next-start.ensures.ahead, c.next-between.ensures.ahead, c.members.invariant.on);
+      inside = (
+        i.0 ++ p ∷ [],
+        members_go_on c.args.left (rest c.args.reader.now) i.0 (seen c.members.first) (rest c.members.reader) k (seen c.next-between.result) (rest c.next-between.new.self) r.0 (rest c.value.new.reader) (seen c.next-behind.result) (rest c.next-behind.new.self) (seen c.next-first-in-Comma.result) (rest c.next-first-in-Comma.new.self)
+            i.1 (ap token_of c.in-Text.is) new c.next-between.ensures.next (ap token_of c.in-Colon.is) r.1.takes r.1.pass c.next-behind.ensures.next (ap token_of c.in-Comma.is) c.next-first-in-Comma.ensures.next,
+        omega (arith, i.2, length-append i.0 (p ∷ [])),
+        added,
+        i.4 ++ c.in-Text.name ∷ [],
+        stack,
+        all_said-append i.4 (c.in-Text.name ∷ []) ∙ ap (λ (ks : List (List ℕ)). ks ++ k ∷ []) i.6 ∙ sym (names_push i.0 p),
+        λ lt. knows_same c.is_new.new.seen _ (all_said (i.4 ++ c.in-Text.name ∷ [])) (c.in_ok-new.ensures.knows (omega (arith, lt, length-append i.4 (c.in-Text.name ∷ []), ap length part)))
+            (all_said-append i.4 (c.in-Text.name ∷ []) ∙ ap (λ (qs : List Quoted). all_said qs ++ k ∷ []) (sym part)),
+      );
+      outer = c.members.invariant.outer;
+      stands = subst (λ (bs : List ℕ). StandsAt bs c.next-first-in-Comma.result.place c.next-first-in-Comma.result.token) (sym c.next-first-in-Comma.ensures.same) c.next-first-in-Comma.ensures.stands;
+      same = c.next-first-in-Comma.ensures.same ∙ behind;
+      few = omega (arith, c.members.invariant.few, c.next-between.ensures.ahead, c.next-start.ensures.ahead, c.in_ok-value.ensures.ahead, c.next-behind.ensures.less (λ e. not_end_comma c.next-behind.result.token c.in-Comma.is e), c.next-first-in-Comma.ensures.ahead);
       room = c.members.invariant.room;
-      known = λ lt. knows_next c.is_new.new.seen (names (member_views c.members.found.items)) _ c.as_bytes.result.now (said c.in-Text.quoted.bytes.now) (c.in_ok-new.ensures.knows (omega (arith, lt, c.in_ok-push.ensures.len))) (c.as_bytes.ensures.value ∙ c.in_ok-name.ensures) (ap names ps ∙ names_push (member_views c.members.found.items) (of_member (said c.in-Text.quoted.bytes.now) (view c.in_ok-inner.inner)));
     }
 
 pub members-returns-in-CloseObject-token : goal.members-returns-in-CloseObject-token
 members-returns-in-CloseObject-token t c =
-    let new = new_name (names (member_views c.members.found.items)) c.as_bytes.result.now (said c.in-Text.quoted.bytes.now) c.in_ok-new.new (c.as_bytes.ensures.value ∙ c.in_ok-name.ensures) c.in_ok-new.ensures.new c.if-not-new.false in
-    let r = c.in_ok-inner.ensures.ok (rest c.next-between.new.self) c.next-start.ensures.next in
-    let ps = members_pushed c.members.found.items c.push.new.self.items c.in_ok-name.name c.in_ok-inner.inner (said c.in-Text.quoted.bytes.now) c.in_ok-push.ensures.items c.in_ok-name.ensures in
+    let i = c.members.invariant.inside in
+    let k = said c.in-Text.name.bytes.now in
+    let part = names_from c.deref.result.now c.args.found.now.names.items i.4 c.len-outer.result (c.deref.ensures.value ∙ i.5) c.members.invariant.outer in
+    let told = is_told (names i.0) _ i.4 k c.in_ok-new.new part i.6 c.in_ok-new.ensures.new in
+    let new = new_name (names i.0) k c.in_ok-new.new told c.if-not-new.false in
+    let r = c.in_ok-value.ensures.ok (rest c.next-between.new.self) c.next-start.ensures.next in
+    let bytes = c.args.reader.now.bytes.now in
+    let p = of_member k r.0 in
+    let stands = subst (StandsAt bytes c.members.first.place) c.in-Text.is (subst (λ (bs : List ℕ). StandsAt bs c.members.first.place c.members.first.token) c.members.invariant.same c.members.invariant.stands) in
+    let named = adds_one bytes c.members.found.nodes.items c.push-in-members.new.self.items (TextNode c.members.first.place) (scalar (text k)) c.in_ok-push-2.ensures.items (text_node bytes c.in-Text.name.bytes.now c.members.first.place stands) in
+    let start = c.next-start.ensures.same ∙ c.next-between.ensures.same ∙ c.members.invariant.same in
+    let valued = subst (λ (bs : List ℕ). Adds bs c.push-in-members.new.self.items c.value.new.found.nodes.items (r.0 ∷ [])) start r.2 in
+    let added = adds_member bytes c.args.found.now.nodes.items c.members.found.nodes.items c.push-in-members.new.self.items c.value.new.found.nodes.items i.0 p i.3 named valued in
+    let behind = c.next-behind.ensures.same ∙ c.in_ok-value.ensures.same ∙ start in
+    let stack = c.in_ok-value.ensures.names ∙ names_more c.members.found.names.items c.push.new.self.items c.args.found.now.names.items i.4 c.in-Text.name i.5 c.in_ok-push.ensures.items in
     record {
-      ok = subst (λ (us : List Pair). ReadsMembers c.args.left (rest c.args.reader.now) us (rest c.next-behind.new.self)) (sym ps)
-          (members_end c.args.left (rest c.args.reader.now) (member_views c.members.found.items) (seen c.members.first) (rest c.members.reader) (said c.in-Text.quoted.bytes.now) (seen c.next-between.result) (rest c.next-between.new.self) (view c.in_ok-inner.inner) (rest c.value.new.reader) (seen c.next-behind.result) (rest c.next-behind.new.self)
-          c.members.invariant.inside (ap token_of c.in-Text.is) new c.next-between.ensures.next (ap token_of c.in-Colon.is) r.takes r.pass c.next-behind.ensures.next (ap token_of c.in-CloseObject-token.is));
+      ok = (
+        i.0 ++ p ∷ [],
+        omega (arith, i.2, length-append i.0 (p ∷ [])),
+        members_end c.args.left (rest c.args.reader.now) i.0 (seen c.members.first) (rest c.members.reader) k (seen c.next-between.result) (rest c.next-between.new.self) r.0 (rest c.value.new.reader) (seen c.next-behind.result) (rest c.next-behind.new.self)
+            i.1 (ap token_of c.in-Text.is) new c.next-between.ensures.next (ap token_of c.in-Colon.is) r.1.takes r.1.pass c.next-behind.ensures.next (ap token_of c.in-CloseObject-token.is),
+        added,
+      );
       fault = tt;
-      ahead = omega (arith, c.next-behind.ensures.ahead, c.in_ok-inner.ensures.ahead, c.next-start.ensures.ahead, c.next-between.ensures.ahead, c.members.invariant.on);
+      ahead = omega (arith, c.members.invariant.few, c.next-between.ensures.ahead, c.next-start.ensures.ahead, c.in_ok-value.ensures.ahead, c.next-behind.ensures.ahead);
+      same = behind;
+      names = c.truncate.ensures.items ∙ names_before c.value.new.found.names.items c.args.found.now.names.items (i.4 ++ c.in-Text.name ∷ []) c.len-outer.result stack c.members.invariant.outer;
     }
 
 pub members-returns-in_default-token-3 : goal.members-returns-in_default-token-3
 members-returns-in_default-token-3 t c =
-    let new = new_name (names (member_views c.members.found.items)) c.as_bytes.result.now (said c.in-Text.quoted.bytes.now) c.in_ok-new.new (c.as_bytes.ensures.value ∙ c.in_ok-name.ensures) c.in_ok-new.ensures.new c.if-not-new.false in
-    let r = c.in_ok-inner.ensures.ok (rest c.next-between.new.self) c.next-start.ensures.next in
+    let i = c.members.invariant.inside in
+    let k = said c.in-Text.name.bytes.now in
+    let part = names_from c.deref.result.now c.args.found.now.names.items i.4 c.len-outer.result (c.deref.ensures.value ∙ i.5) c.members.invariant.outer in
+    let told = is_told (names i.0) _ i.4 k c.in_ok-new.new part i.6 c.in_ok-new.ensures.new in
+    let new = new_name (names i.0) k c.in_ok-new.new told c.if-not-new.false in
+    let r = c.in_ok-value.ensures.ok (rest c.next-between.new.self) c.next-start.ensures.next in
     record {
       ok = tt;
       fault = subst (λ (e : TextError). FaultIs e (λ f. StuckAt c.args.left (open_object ∷ []) (rest c.args.reader.now) f)) (sym c.fault-in_default-token-3.ensures)
-          (member_stops_behind c.args.left (rest c.args.reader.now) (member_views c.members.found.items) (seen c.members.first) (rest c.members.reader) (said c.in-Text.quoted.bytes.now) (seen c.next-between.result) (rest c.next-between.new.self) (view c.in_ok-inner.inner) (rest c.value.new.reader) (seen c.next-behind.result) (rest c.next-behind.new.self) _
-          c.members.invariant.room c.members.invariant.inside (ap token_of c.in-Text.is) new c.next-between.ensures.next (ap token_of c.in-Colon.is) r.takes r.pass c.next-behind.ensures.next (not_comma c.next-behind.result.token c.in_default-token-3.not-Comma) (not_close_object c.next-behind.result.token c.in_default-token-3.not-CloseObject) refl refl);
+          (member_stops_behind c.args.left (rest c.args.reader.now) i.0 (seen c.members.first) (rest c.members.reader) k (seen c.next-between.result) (rest c.next-between.new.self) r.0 (rest c.value.new.reader) (seen c.next-behind.result) (rest c.next-behind.new.self) _
+          c.members.invariant.room i.1 (ap token_of c.in-Text.is) new c.next-between.ensures.next (ap token_of c.in-Colon.is) r.1.takes r.1.pass c.next-behind.ensures.next (not_comma c.next-behind.result.token c.in_default-token-3.not-Comma) (not_close_object c.next-behind.result.token c.in_default-token-3.not-CloseObject) refl refl);
       ahead = tt;
+      same = tt;
+      names = tt;
     }
 
 -- ---- a value
 
-pub value-returns-in-Word-clause-ok : goal.value-returns-in-Word-clause-ok
-value-returns-in-Word-clause-ok t c = word_read c.args.left (seen c.args.first) (rest c.args.reader.now) c.word_tree.result (scalar_of c.in-Word.word) (ap token_of c.in-Word.is) c.word_tree.ensures.ok
+pub value-returns-in_err-node-in-Word-clause-fault : goal.value-returns-in_err-node-in-Word-clause-fault
+value-returns-in_err-node-in-Word-clause-fault t c =
+    let p = err_from_is_err_and c.from_residual.result c.from_residual.ensures.1 in
+    rw (p.1, p.2) (passes_on c.in_err-node-in-Word.field-0.0 _ _ (λ f s ts n. word_stops c.args.left (seen c.args.first) (rest c.args.reader.now) ts (scalar_of c.in-Word.word) f (ap token_of c.in-Word.is) s.0 s.1 n) c.in_err-node-in-Word.ensures.fault)
 
-pub value-returns-in-Word-clause-fault : goal.value-returns-in-Word-clause-fault
-value-returns-in-Word-clause-fault t c = word_stops c.args.left (seen c.args.first) (rest c.args.reader.now) c.word_tree.result (scalar_of c.in-Word.word) (ap token_of c.in-Word.is) c.word_tree.ensures.fault
+pub value-returns-in_ok-push-in-Word-clause-ok : goal.value-returns-in_ok-push-in-Word-clause-ok
+value-returns-in_ok-push-in-Word-clause-ok t c = λ ts n.
+    let bytes = c.args.reader.now.bytes.now in
+    let s = scalar_of c.in-Word.word in
+    let stands = subst (StandsAt bytes c.args.first.place) c.in-Word.is c.requires in
+    (
+      scalar s,
+      first.reads_scalar c.args.left ts (seen c.args.first) (rest c.args.reader.now) s n (ap token_of c.in-Word.is) c.in_ok-node-in-Word.ensures.short,
+      adds_one bytes c.args.found.now.nodes.items c.push.new.self.items c.in_ok-node-in-Word.node (scalar s) c.in_ok-push-in-Word.ensures.items (c.in_ok-node-in-Word.ensures.ok bytes stands),
+    )
 
-pub value-returns-in_ok-text-in-Text-clause-ok : goal.value-returns-in_ok-text-in-Text-clause-ok
-value-returns-in_ok-text-in-Text-clause-ok t c = λ ts n.
-    subst (λ (v : Value). Reads c.args.left ts v (rest c.args.reader.now)) (sym c.in_ok-text-in-Text.ensures)
-    (first.reads_scalar c.args.left ts (seen c.args.first) (rest c.args.reader.now) (text (said c.in-Text.quoted.bytes.now)) n (ap token_of c.in-Text.is) tt)
+pub value-returns-in_ok-push-in-Text-clause-ok : goal.value-returns-in_ok-push-in-Text-clause-ok
+value-returns-in_ok-push-in-Text-clause-ok t c = λ ts n.
+    let bytes = c.args.reader.now.bytes.now in
+    let k = said c.in-Text.field-0.bytes.now in
+    let stands = subst (StandsAt bytes c.args.first.place) c.in-Text.is c.requires in
+    (
+      scalar (text k),
+      first.reads_scalar c.args.left ts (seen c.args.first) (rest c.args.reader.now) (text k) n (ap token_of c.in-Text.is) tt,
+      adds_one bytes c.args.found.now.nodes.items c.push-in-Text.new.self.items (TextNode c.args.first.place) (scalar (text k)) c.in_ok-push-in-Text.ensures.items (text_node bytes c.in-Text.field-0.bytes.now c.args.first.place stands),
+    )
+
+pub value-returns-in_ok-count-in-OpenList-clause-ok : goal.value-returns-in_ok-count-in-OpenList-clause-ok
+value-returns-in_ok-count-in-OpenList-clause-ok t c = λ ts n.
+    let bytes = c.args.reader.now.bytes.now in
+    let r = c.in_ok-count-in-OpenList.ensures.ok in
+    let count = c.in_ok-count-in-OpenList.count in
+    (
+      list (items_of r.0),
+      first.reads_list c.args.left ts (seen c.args.first) (rest c.args.reader.now) r.0 (rest c.items.new.reader) (omega (arith, c.if-left-eq0.false)) n (ap token_of c.in-OpenList.is) r.2,
+      adds_anew bytes c.args.found.now.nodes.items c.push-in-OpenList.new.self.items c.items.new.found.nodes.items _ (ListNode 0) (ListNode count) r.0 (list (items_of r.0)) c.len-at.result c.in_ok-push-in-OpenList.ensures.items (omega (arith, c.len-at.ensures, c.args.found.now.nodes.ok.0)) refl (says_list bytes count r.0 r.1) r.3,
+    )
+
+pub value-returns-in_ok-count-in-OpenObject-clause-ok : goal.value-returns-in_ok-count-in-OpenObject-clause-ok
+value-returns-in_ok-count-in-OpenObject-clause-ok t c = λ ts n.
+    let bytes = c.args.reader.now.bytes.now in
+    let r = c.in_ok-count-in-OpenObject.ensures.ok in
+    let count = c.in_ok-count-in-OpenObject.count in
+    (
+      object (members_of r.0),
+      first.reads_object c.args.left ts (seen c.args.first) (rest c.args.reader.now) r.0 (rest c.members.new.reader) (omega (arith, c.if-left-eq0-2.false)) n (ap token_of c.in-OpenObject.is) r.2,
+      adds_anew bytes c.args.found.now.nodes.items c.push-in-OpenObject.new.self.items c.members.new.found.nodes.items _ (ObjectNode 0) (ObjectNode count) (in_turn r.0) (object (members_of r.0)) c.len-at-in-OpenObject.result c.in_ok-push-in-OpenObject.ensures.items (omega (arith, c.len-at-in-OpenObject.ensures, c.args.found.now.nodes.ok.0)) refl (says_object bytes count r.0 r.1) r.3,
+    )
 
 pub value-returns-then-left-eq0-clause-fault : goal.value-returns-then-left-eq0-clause-fault
 value-returns-then-left-eq0-clause-fault t c =
@@ -201,25 +334,15 @@ value-returns-then-left-eq0-2-clause-fault t c =
     (λ ts n. first.value_stops c.args.left ts (seen c.args.first) (rest c.args.reader.now) _ TooDeep n refl refl
     (subst (λ (k : Token). IsStuck c.args.left [] k levels) (sym (ap token_of c.in-OpenObject.is)) (subst (λ (m : ℕ). IsStuck m [] open_object levels) (sym zero_left) first.stuck_deep_object)))
 
-pub value-returns-in_err-found-in-OpenList-clause-fault : goal.value-returns-in_err-found-in-OpenList-clause-fault
-value-returns-in_err-found-in-OpenList-clause-fault t c =
-    let p = err_from_is_err_and c.from_residual-in_err-found-in-OpenList.result c.from_residual-in_err-found-in-OpenList.ensures.1 in
-    rw (p.1, p.2) (passes_on c.in_err-found-in-OpenList.field-0.0 _ _ (λ f s ts n. first.container_stops c.args.left ts (seen c.args.first) (rest c.args.reader.now) open_list f n (ap token_of c.in-OpenList.is) refl s) c.in_err-found-in-OpenList.ensures.fault)
+pub value-returns-in_err-count-in-OpenList-clause-fault : goal.value-returns-in_err-count-in-OpenList-clause-fault
+value-returns-in_err-count-in-OpenList-clause-fault t c =
+    let p = err_from_is_err_and c.from_residual-in_err-count-in-OpenList.result c.from_residual-in_err-count-in-OpenList.ensures.1 in
+    rw (p.1, p.2) (passes_on c.in_err-count-in-OpenList.field-0.0 _ _ (λ f s ts n. first.container_stops c.args.left ts (seen c.args.first) (rest c.args.reader.now) open_list f n (ap token_of c.in-OpenList.is) refl s) c.in_err-count-in-OpenList.ensures.fault)
 
-pub value-returns-in_err-found-in-OpenObject-clause-fault : goal.value-returns-in_err-found-in-OpenObject-clause-fault
-value-returns-in_err-found-in-OpenObject-clause-fault t c =
-    let p = err_from_is_err_and c.from_residual-in_err-found-in-OpenObject.result c.from_residual-in_err-found-in-OpenObject.ensures.1 in
-    rw (p.1, p.2) (passes_on c.in_err-found-in-OpenObject.field-0.0 _ _ (λ f s ts n. first.container_stops c.args.left ts (seen c.args.first) (rest c.args.reader.now) open_object f n (ap token_of c.in-OpenObject.is) refl s) c.in_err-found-in-OpenObject.ensures.fault)
-
-pub value-returns-in_ok-list-in-OpenList-clause-ok : goal.value-returns-in_ok-list-in-OpenList-clause-ok
-value-returns-in_ok-list-in-OpenList-clause-ok t c = λ ts n.
-    subst (λ (u : Value). Reads c.args.left ts u (rest c.items.new.reader)) (sym c.in_ok-list-in-OpenList.ensures)
-    (first.reads_list c.args.left ts (seen c.args.first) (rest c.args.reader.now) (views c.in_ok-found-in-OpenList.found.items) (rest c.items.new.reader) (omega (arith, c.if-left-eq0.false)) n (ap token_of c.in-OpenList.is) c.in_ok-found-in-OpenList.ensures.ok)
-
-pub value-returns-in_ok-object-in-OpenObject-clause-ok : goal.value-returns-in_ok-object-in-OpenObject-clause-ok
-value-returns-in_ok-object-in-OpenObject-clause-ok t c = λ ts n.
-    subst (λ (u : Value). Reads c.args.left ts u (rest c.members.new.reader)) (sym c.in_ok-object-in-OpenObject.ensures)
-    (first.reads_object c.args.left ts (seen c.args.first) (rest c.args.reader.now) (member_views c.in_ok-found-in-OpenObject.found.items) (rest c.members.new.reader) (omega (arith, c.if-left-eq0-2.false)) n (ap token_of c.in-OpenObject.is) c.in_ok-found-in-OpenObject.ensures.ok)
+pub value-returns-in_err-count-in-OpenObject-clause-fault : goal.value-returns-in_err-count-in-OpenObject-clause-fault
+value-returns-in_err-count-in-OpenObject-clause-fault t c =
+    let p = err_from_is_err_and c.from_residual-in_err-count-in-OpenObject.result c.from_residual-in_err-count-in-OpenObject.ensures.1 in
+    rw (p.1, p.2) (passes_on c.in_err-count-in-OpenObject.field-0.0 _ _ (λ f s ts n. first.container_stops c.args.left ts (seen c.args.first) (rest c.args.reader.now) open_object f n (ap token_of c.in-OpenObject.is) refl s) c.in_err-count-in-OpenObject.ensures.fault)
 
 pub value-returns-in_default : goal.value-returns-in_default
 value-returns-in_default t c = record {
@@ -228,4 +351,6 @@ value-returns-in_default t c = record {
       (λ ts n. first.value_stops c.args.left ts (seen c.args.first) (rest c.args.reader.now) _ NotJson n refl refl
       (first.stuck_not_start c.args.left (token_of c.args.first.token) (not_start c.args.first.token c.in_default.not-OpenList c.in_default.not-OpenObject c.in_default.not-Word c.in_default.not-Text)));
   ahead = tt;
+  same = tt;
+  names = tt;
 }

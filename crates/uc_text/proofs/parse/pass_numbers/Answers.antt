@@ -1,19 +1,34 @@
-use Rattle.uc_text.proofs.Common.{◌≡◌, ◌++◌, ◌∷◌, [], List, sym, ap, subst, ◌∙◌, arith, map_push, rest, AtItem, decimal_of, Value, scalar, number, view, views, Number}
-use Rattle.uc_text.proofs.Lemmas.{one_more, view-Number}
+use Rattle.uc_text.proofs.Common.{◌≡◌, ◌++◌, ◌∷◌, [], ℕ, List, length, refl, sym, ap, subst, ◌∙◌, arith, append_assoc, append-nil, length-append, rest, AtItem, Placed, decimal_of, Value, scalar, number, NumberNode}
+use Rattle.uc_text.proofs.Lemmas.{one_more, adds_none, adds_one, adds_then}
 use Rattle.uc_text.proofs.parse.pass_numbers.Goals as goal
+
+pub numbers-init : goal.numbers-init
+numbers-init c = record {
+  passed = ([], refl, adds_none c.args.reader.now.bytes.now c.args.nodes.now.items, λ m all vs i. subst (λ (us : List Value). AtItem m all us (rest c.args.reader.now)) (sym (append-nil vs)) i);
+  few = omega arith;
+  same = refl;
+}
 
 pub numbers-preserved : goal.numbers-preserved
 numbers-preserved c =
     let small = c.in-Some.small in
     let v : Value = scalar (number (decimal_of small)) in
-    let vs : views c.push.new.self.items ≡ views c.numbers.found.items ++ v ∷ [] =
-    ap views c.in_ok-push.ensures.items ∙ map_push view c.numbers.found.items (Number small) ∙ ap (λ (u : Value). views c.numbers.found.items ++ u ∷ []) (view-Number small) in
+    let bytes = c.args.reader.now.bytes.now in
+    let i = c.numbers.invariant.passed in
+    let us = i.0 in
     record {
-      passed = λ m all i. subst (λ (us : List Value). AtItem m all us (rest c.number_and_comma.new.self)) (sym vs)
-          (one_more m all (views c.numbers.found.items) (rest c.numbers.reader) v (rest c.number_and_comma.new.self) (c.numbers.invariant.passed m all i) c.in-Some.ensures.some tt);
-      more = omega (arith, c.numbers.invariant.more, c.in_ok-push.ensures.len);
-      on = omega (arith, c.numbers.invariant.on, c.in-Some.ensures.ahead);
+      passed = (
+        us ++ v ∷ [],
+        omega (arith, i.1, length-append us (v ∷ [])),
+        adds_then bytes c.args.nodes.now.items c.numbers.nodes.items c.push.new.self.items us (v ∷ []) i.2 (adds_one bytes c.numbers.nodes.items c.push.new.self.items (NumberNode small) v c.in_ok-push.ensures.items (λ more. refl)),
+        λ m all vs at. subst (λ (ws : List Value). AtItem m all ws (rest c.number_and_comma.new.self)) (append_assoc vs us (v ∷ []))
+            (one_more m all (vs ++ us) (rest c.numbers.reader) v (rest c.number_and_comma.new.self) (i.3 m all vs at) c.in-Some.ensures.some tt),
+      );
+      few = omega (arith, c.numbers.invariant.few, c.in-Some.ensures.less);
+      same = c.in-Some.ensures.same ∙ c.numbers.invariant.same;
     }
 
 pub returns-in_default-clause-passed : goal.returns-in_default-clause-passed
-returns-in_default-clause-passed c = λ m all i. subst (AtItem m all (views c.numbers.found.items)) (sym c.in_default.ensures.none) (c.numbers.invariant.passed m all i)
+returns-in_default-clause-passed c =
+    let i = c.numbers.invariant.passed in
+    (i.0, i.1, i.2, λ m all vs at. subst (AtItem m all (vs ++ i.0)) (sym c.in_default.ensures.none) (i.3 m all vs at))
