@@ -1,6 +1,5 @@
 -- Names that were met before, and a set of their hashes.
 use Rattle.uc_text.proofs.Common.{◌≡◌, ℕ, zero, suc, Bool, true, false, true≢false, not, cond, ◌||◌, ◌⊎◌, List, [], ◌∷◌, ◌++◌, bytes_eq, length, get_or, ◌<◌, refl, sym, ap, ap₂, subst, ◌∙◌, arith, inl, inr, Contains, ◌+◌, ◌-◌, take, drop, take_all, length-append, append_assoc, is_there, all_said, said, Quoted, hash_of, Knows, IsNewName}
-use Rattle.std.specs.List.{list_any}
 use Rattle.std.specs.HashSet.{HashSet, contains_by}
 use Rattle.std.specs.Prelude.{nat_eq}
 use Rattle.std.proofs.lemmas.List.{take_at, drop_at}

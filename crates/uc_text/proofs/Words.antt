@@ -1,5 +1,5 @@
 -- The node of a value of one token.
-use Rattle.uc_text.proofs.Common.{◌≡◌, ℕ, List, [], ◌∷◌, sym, ap, subst, ◌∙◌, Scalar, long_number, scalar, number, values, drop, ◌+◌, text, said, TextNode, Token, word, IsShort, length_of_numbers, IsStuck, Placed, NextIs, StuckAt, NumberTooLong, TextFault, number_run, IsOne, decimal_in, number_of}
+use Rattle.uc_text.proofs.Common.{◌≡◌, ℕ, List, [], ◌∷◌, sym, ap, subst, ◌∙◌, Scalar, long_number, scalar, number, values, drop, ◌+◌, text, said, TextNode, Token, word, length_of_numbers, IsStuck, Placed, NextIs, StuckAt, NumberTooLong, TextFault, number_run, IsOne, decimal_in, number_of}
 use Rattle.uc_text.proofs.ValueSteps.{value_stops, stuck_long}
 use Rattle.text_tree.specs.declared.node.Node.TheVariants.{LargeNumber}
 

@@ -81,11 +81,7 @@ fn is_among(alloc: Global, names: &[Quoted<'_>], name: Quoted<'_>) -> Result<boo
 }
 
 /// Makes the set where the names are now too many to be compared one after the other.
-fn make_set(
-    alloc: Global,
-    names: &[Quoted<'_>],
-    seen: &mut HashSet<u64>,
-) -> Result<(), AllocError>
+fn make_set(alloc: Global, names: &[Quoted<'_>], seen: &mut HashSet<u64>) -> Result<(), AllocError>
     requires many { FEW ≤ length names.now }
     requires known { FEW < length names.now → Knows seen.old (all_said names.now) }
     ensures { OnOk result (Knows seen.new (all_said names.now)) }

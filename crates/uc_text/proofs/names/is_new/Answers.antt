@@ -1,4 +1,4 @@
-use Rattle.uc_text.proofs.Common.{List, ℕ, [], ◌∷◌, ◌++◌, refl, arith, HashSet, subst, sym, Knows, said, all_said}
+use Rattle.uc_text.proofs.Common.{ℕ, [], ◌∷◌, ◌++◌, refl, arith, HashSet, subst, sym, Knows, said, all_said}
 use Rattle.uc_text.proofs.Lemmas.{knows_more}
 use Rattle.uc_text.proofs.names.is_new.Goals as goal
 use Rattle.uc_text.proofs.names.is_new.Goals.{then-names-ge-FEW+in_ok-make_set+in_ok-hash+in_ok-add+else-branch, else-names-ge-FEW}

@@ -1,4 +1,4 @@
-use Rattle.uc_text.proofs.Common.{◌≡◌, [], ℕ, ◌<◌, length, sym, ap, subst, ◌∙◌, arith, false, bytes_eq, get_or, inl, inr, cases_lt, said, all_said}
+use Rattle.uc_text.proofs.Common.{◌≡◌, [], ℕ, sym, ap, subst, ◌∙◌, arith, false, bytes_eq, get_or, inl, inr, cases_lt, said, all_said}
 use Rattle.uc_text.proofs.Lemmas.{there_at, there_nowhere, name_at, names_len, bytes_eq-turned}
 use Rattle.uc_text.proofs.names.is_said.Goals as goal
 

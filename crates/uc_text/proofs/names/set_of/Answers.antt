@@ -1,4 +1,4 @@
-use Rattle.uc_text.proofs.Common.{◌+◌, [], take, length, ap, subst, ◌∙◌, sym, arith, get_or, take_more, take_all, Knows, hash_of, all_said}
+use Rattle.uc_text.proofs.Common.{◌+◌, [], take, ap, subst, ◌∙◌, sym, arith, get_or, take_more, take_all, Knows, hash_of, all_said}
 use Rattle.uc_text.proofs.Lemmas.{knows_more, name_at, names_len}
 use Rattle.uc_text.proofs.names.set_of.Goals as goal
 

@@ -1,6 +1,6 @@
-use Rattle.uc_text.proofs.Common.{length, ◌<◌, ◌≡◌, ℕ, ◌++◌, ◌∷◌, [], List, refl, sym, ap, subst, ◌∙◌, arith, err_from_is_err_and, length-append, Value, scalar, text, list, object, said, all_said, Quoted, Token, open_list, open_object, items_of, members_of, Pair, names, append-nil, Adds, IsStuck, levels, Placed, NotJson, TooDeep, AtItem, NextIs, seen, Reads, ReadsItems, ReadsMembers, StuckAt, FaultIs, rest, token_of, scalar_of, TextError, StandsAt, in_turn, ListNode, ObjectNode, TextNode}
+use Rattle.uc_text.proofs.Common.{length, ◌≡◌, ℕ, ◌++◌, ◌∷◌, [], List, refl, sym, ap, subst, ◌∙◌, arith, err_from_is_err_and, length-append, Value, scalar, text, list, object, said, all_said, Quoted, Token, open_list, open_object, items_of, members_of, names, append-nil, Adds, IsStuck, levels, Placed, NotJson, TooDeep, AtItem, NextIs, seen, StuckAt, FaultIs, rest, token_of, scalar_of, TextError, StandsAt, in_turn, ListNode, ObjectNode, TextNode}
 use Rattle.uc_text.proofs.Words.{word_stops, text_node}
-use Rattle.uc_text.proofs.Lemmas.{not_close_list, not_close_object, not_comma, not_colon, not_text, not_start, passes_on, InItems, items_begin, items_empty, at_next, read_first, items_end, items_stop, items_stop_behind, known_name, new_name, InMembers, members_begin, members_empty, members_go_on, members_end, name_stops, double_stops, colon_stops, value_stops, member_stops_behind, adds_none, adds_one, adds_then, adds_anew, says_list, says_object, adds_member, not_end_comma, knows_same, all_said-append, names_from, names_before, names_more, is_told}
+use Rattle.uc_text.proofs.Lemmas.{not_close_list, not_close_object, not_comma, not_colon, not_text, not_start, passes_on, items_begin, items_empty, at_next, read_first, items_end, items_stop, items_stop_behind, known_name, new_name, members_begin, members_empty, members_go_on, members_end, name_stops, double_stops, colon_stops, value_stops, member_stops_behind, adds_none, adds_one, adds_then, adds_anew, says_list, says_object, adds_member, not_end_comma, knows_same, all_said-append, names_from, names_before, names_more, is_told}
 use Rattle.uc_text.proofs.Objects.{of_member, names_push}
 use Rattle.uc_text.proofs.ValueSteps as first
 use Rattle.uc_text.proofs.parse.+read.Goals as goal
@@ -280,8 +280,7 @@ pub value-returns-in_ok-push-in-Word-clause-ok : goal.value-returns-in_ok-push-i
 value-returns-in_ok-push-in-Word-clause-ok t c = λ ts n.
     let bytes = c.args.reader.now.bytes.now in
     let s = scalar_of c.in-Word.word in
-    let stands = subst (StandsAt bytes c.args.first.place) c.in-Word.is c.requires in
-    (
+    let stands = subst (StandsAt bytes c.args.first.place) c.in-Word.is c.requires in (
       scalar s,
       first.reads_scalar c.args.left ts (seen c.args.first) (rest c.args.reader.now) s n (ap token_of c.in-Word.is) c.in_ok-node-in-Word.ensures.short,
       adds_one bytes c.args.found.now.nodes.items c.push.new.self.items c.in_ok-node-in-Word.node (scalar s) c.in_ok-push-in-Word.ensures.items (c.in_ok-node-in-Word.ensures.ok bytes stands),
@@ -291,8 +290,7 @@ pub value-returns-in_ok-push-in-Text-clause-ok : goal.value-returns-in_ok-push-i
 value-returns-in_ok-push-in-Text-clause-ok t c = λ ts n.
     let bytes = c.args.reader.now.bytes.now in
     let k = said c.in-Text.field-0.bytes.now in
-    let stands = subst (StandsAt bytes c.args.first.place) c.in-Text.is c.requires in
-    (
+    let stands = subst (StandsAt bytes c.args.first.place) c.in-Text.is c.requires in (
       scalar (text k),
       first.reads_scalar c.args.left ts (seen c.args.first) (rest c.args.reader.now) (text k) n (ap token_of c.in-Text.is) tt,
       adds_one bytes c.args.found.now.nodes.items c.push-in-Text.new.self.items (TextNode c.args.first.place) (scalar (text k)) c.in_ok-push-in-Text.ensures.items (text_node bytes c.in-Text.field-0.bytes.now c.args.first.place stands),
@@ -302,8 +300,7 @@ pub value-returns-in_ok-count-in-OpenList-clause-ok : goal.value-returns-in_ok-c
 value-returns-in_ok-count-in-OpenList-clause-ok t c = λ ts n.
     let bytes = c.args.reader.now.bytes.now in
     let r = c.in_ok-count-in-OpenList.ensures.ok in
-    let count = c.in_ok-count-in-OpenList.count in
-    (
+    let count = c.in_ok-count-in-OpenList.count in (
       list (items_of r.0),
       first.reads_list c.args.left ts (seen c.args.first) (rest c.args.reader.now) r.0 (rest c.items.new.reader) (omega (arith, c.if-left-eq0.false)) n (ap token_of c.in-OpenList.is) r.2,
       adds_anew bytes c.args.found.now.nodes.items c.push-in-OpenList.new.self.items c.items.new.found.nodes.items _ (ListNode 0) (ListNode count) r.0 (list (items_of r.0)) c.len-at.result c.in_ok-push-in-OpenList.ensures.items (omega (arith, c.len-at.ensures, c.args.found.now.nodes.ok.0)) refl (says_list bytes count r.0 r.1) r.3,
@@ -313,8 +310,7 @@ pub value-returns-in_ok-count-in-OpenObject-clause-ok : goal.value-returns-in_ok
 value-returns-in_ok-count-in-OpenObject-clause-ok t c = λ ts n.
     let bytes = c.args.reader.now.bytes.now in
     let r = c.in_ok-count-in-OpenObject.ensures.ok in
-    let count = c.in_ok-count-in-OpenObject.count in
-    (
+    let count = c.in_ok-count-in-OpenObject.count in (
       object (members_of r.0),
       first.reads_object c.args.left ts (seen c.args.first) (rest c.args.reader.now) r.0 (rest c.members.new.reader) (omega (arith, c.if-left-eq0-2.false)) n (ap token_of c.in-OpenObject.is) r.2,
       adds_anew bytes c.args.found.now.nodes.items c.push-in-OpenObject.new.self.items c.members.new.found.nodes.items _ (ObjectNode 0) (ObjectNode count) (in_turn r.0) (object (members_of r.0)) c.len-at-in-OpenObject.result c.in_ok-push-in-OpenObject.ensures.items (omega (arith, c.len-at-in-OpenObject.ensures, c.args.found.now.nodes.ok.0)) refl (says_object bytes count r.0 r.1) r.3,

@@ -1,4 +1,4 @@
-use Rattle.uc_text.proofs.Common.{◌≡◌, ◌++◌, ◌∷◌, [], ℕ, List, length, refl, sym, ap, subst, ◌∙◌, arith, append_assoc, append-nil, length-append, rest, AtItem, Placed, decimal_of, Value, scalar, number, NumberNode}
+use Rattle.uc_text.proofs.Common.{◌++◌, ◌∷◌, [], List, refl, sym, subst, ◌∙◌, arith, append_assoc, append-nil, length-append, rest, AtItem, decimal_of, Value, scalar, number, NumberNode}
 use Rattle.uc_text.proofs.Lemmas.{one_more, adds_none, adds_one, adds_then}
 use Rattle.uc_text.proofs.parse.pass_numbers.Goals as goal
 

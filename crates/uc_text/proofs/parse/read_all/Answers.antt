@@ -1,4 +1,4 @@
-use Rattle.uc_text.proofs.Common.{ℕ, List, [], ◌∷◌, refl, sym, ap, subst, ◌∙◌, err_from_is_err_and, tokens, seen, FaultIs, rest, token_of, IsText, IsFirstFault, TextError, Value, Adds, Node}
+use Rattle.uc_text.proofs.Common.{ℕ, List, [], ◌∷◌, refl, sym, ap, subst, err_from_is_err_and, tokens, seen, FaultIs, rest, token_of, IsText, IsFirstFault, TextError, Value, Adds, Node}
 use Rattle.uc_text.proofs.Lemmas.{not_end, passes_on, says_whole}
 use Rattle.uc_text.proofs.ValueSteps.{text_stops, text_stops_behind, text_read}
 use Rattle.uc_text.proofs.parse.read_all.Goals as goal
