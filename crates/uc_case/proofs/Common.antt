@@ -13,7 +13,6 @@ pub use Rattle.uc_case.specs.EachLaws.{goes_on, ends, counted, is_done}
 pub use Rattle.uc_case.specs.Files.{FileFault, text, value, IsFile, reading_of, of_value}
 pub use Rattle.uc_case.specs.Forms.{Read, items}
 unfoldable pub use Rattle.uc_case.specs.Forms.{amount, time_within}
-pub use Rattle.uc_case.specs.Inside.{values, pairs, list_in, object_in}
 unfoldable pub use Rattle.uc_case.specs.Inside.{value_of}
 pub use Rattle.uc_case.specs.Kept.{IsRange, AreRamps, IsPast, AreLags, ArePoints, AreBlocks, IsRenewableOf, IsBidOf, IsThermalOf}
 pub use Rattle.uc_case.specs.Laws.{OneCase, SomeFile, OneFile}
@@ -30,9 +29,9 @@ pub use Rattle.uc_model.specs.Reserved.{Reserved, items_in}
 pub use Rattle.uc_model.specs.declared.units.Block.{Block}
 pub use Rattle.uc_model.specs.declared.units.Lag.{Lag}
 pub use Rattle.uc_model.specs.declared.units.Point.{Point}
-pub use Rattle.uc_text.specs.Parts.{Pair, items_of, members_of}
+pub use Rattle.text_tree.specs.Parts.{Pair, items_of, members_of}
 pub use Rattle.uc_text.specs.Texts.{IsText, IsFirstFault}
-pub use Rattle.uc_text.specs.Values.{Value, list, object, scalar, number}
-pub use Rattle.uc_text.specs.View.{member_view, member_views, view, views}
-pub use Rattle.uc_text.specs.declared.tree.Member.{Member, out-Member, the_lemmas as member_lemmas}
-pub use Rattle.uc_text.specs.declared.tree.Tree.{Tree, List as ListOf, Object, the_lemmas}
+pub use Rattle.text_tree.specs.Values.{Value, list, object, scalar, number}
+pub use Rattle.text_tree.specs.View.{member_view, member_views, view, views}
+pub use Rattle.text_tree.specs.declared.branch.Branch.{Branch}
+pub use Rattle.text_tree.specs.declared.object.Member.{Member}

@@ -1,7 +1,7 @@
 -- The names from elsewhere that the proofs here cite.
 pub mod Common
 pub mod FileLaws
-pub mod Views
+pub mod Marks
 pub mod Fits
 pub mod Finds
 pub mod Loops

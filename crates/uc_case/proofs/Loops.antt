@@ -1,5 +1,5 @@
 -- The items of a list, read one after the other as a loop does.
-use Rattle.uc_case.proofs.Common.{◌≡◌, ℕ, ◌+◌, ◌<◌, List, [], ◌∷◌, ◌++◌, length, map, get_or, drop, Ok, refl, sym, subst, ◌∙◌, length-map, map_push, Reserved, items_in, Block, period_blocks, Value, Pair, view, views, member_view, member_views, Tree, Member, goes_on, ends, place, item_at, each, position, Read, Place, FieldFault}
+use Rattle.uc_case.proofs.Common.{◌≡◌, ℕ, ◌+◌, ◌<◌, List, [], ◌∷◌, ◌++◌, length, map, get_or, drop, Ok, refl, sym, subst, ◌∙◌, length-map, map_push, Reserved, items_in, Block, period_blocks, Value, Pair, view, views, member_view, member_views, Branch, Member, goes_on, ends, place, item_at, each, position, Read, Place, FieldFault}
 use Rattle.uc_model.specs.declared.kinds.Kind.{Kind}
 use Rattle.uc_case.specs.Given.{Fails}
 use Rattle.uc_case.specs.declared.fault.Field.{Field}
@@ -11,13 +11,13 @@ use Rattle.uc_case.specs.declared.stop.Stop.{Stop}
 here : {A : Type 0} (read : Place → List A → Value → Read A) (at p : Place) (front l : List A) (n : ℕ) (v : Value) → p ≡ item_at at (n + 1) → n ≡ length front → l ≡ front → read p l v ≡ read (item_at at (position front)) front v
 here read at p front l n v p-is n-is l-is = rw (p-is, n-is, l-is) refl
 
-pub item_goes_on : {A : Type 0} (read : Place → List A → Value → Read A) (at p : Place) (ts : List Tree) (i : ℕ) (t : Tree) (front l : List A) (n : ℕ) (x : A) (total : Read (List A)) → i < length ts → t ≡ get_or ts i t
+pub item_goes_on : {A : Type 0} (read : Place → List A → Value → Read A) (at p : Place) (ts : List Branch) (i : ℕ) (t : Branch) (front l : List A) (n : ℕ) (x : A) (total : Read (List A)) → i < length ts → t ≡ get_or ts i t
     → p ≡ item_at at (n + 1) → n ≡ length front → l ≡ front → read p l (view t) ≡ Ok x
     → each (λ before. read (item_at at (position before)) before) front (views (drop i ts)) ≡ total → each (λ before. read (item_at at (position before)) before) (front ++ x ∷ []) (views (drop (i + 1) ts)) ≡ total
 item_goes_on read at p ts i t front l n x total lt is p-is n-is l-is h so_far =
     goes_on (λ before. read (item_at at (position before)) before) view ts i t front x total lt is (sym (here read at p front l n (view t) p-is n-is l-is) ∙ h) so_far
 
-pub item_ends : {A : Type 0} (e : Stop FieldFault) (read : Place → List A → Value → Read A) (at p : Place) (ts : List Tree) (i : ℕ) (t : Tree) (front l : List A) (n : ℕ) (total : Read (List A)) → i < length ts → t ≡ get_or ts i t
+pub item_ends : {A : Type 0} (e : Stop FieldFault) (read : Place → List A → Value → Read A) (at p : Place) (ts : List Branch) (i : ℕ) (t : Branch) (front l : List A) (n : ℕ) (total : Read (List A)) → i < length ts → t ≡ get_or ts i t
     → p ≡ item_at at (n + 1) → n ≡ length front → l ≡ front → Fails e (read p l (view t))
     → each (λ before. read (item_at at (position before)) before) front (views (drop i ts)) ≡ total → Fails e total
 item_ends {A = A} e read at p ts i t front l n total lt is p-is n-is l-is h so_far =
@@ -49,13 +49,13 @@ period_here : (at p : Place) (front : List (Reserved Block)) (n : ℕ) (v : Valu
 unfolding period_blocks
 period_here at p front n v p-is n-is = rw (p-is, n-is, length-map front items_in) refl
 
-pub period_goes_on : (at p : Place) (ts : List Tree) (i : ℕ) (t : Tree) (front : List (Reserved Block)) (n : ℕ) (x : Reserved Block) (total : Read (List (List Block))) → i < length ts → t ≡ get_or ts i t
+pub period_goes_on : (at p : Place) (ts : List Branch) (i : ℕ) (t : Branch) (front : List (Reserved Block)) (n : ℕ) (x : Reserved Block) (total : Read (List (List Block))) → i < length ts → t ≡ get_or ts i t
     → p ≡ item_at at (n + 1) → n ≡ length front → period_blocks p [] (view t) ≡ Ok x.items
     → each (read_period at) (map items_in front) (views (drop i ts)) ≡ total → each (read_period at) (map items_in (front ++ x ∷ [])) (views (drop (i + 1) ts)) ≡ total
 period_goes_on at p ts i t front n x total lt is p-is n-is h so_far =
     rw (map_push items_in front x) (goes_on (read_period at) view ts i t (map items_in front) x.items total lt is (sym (period_here at p front n (view t) p-is n-is) ∙ h) so_far)
 
-pub period_ends : (e : Stop FieldFault) (at p : Place) (ts : List Tree) (i : ℕ) (t : Tree) (front : List (Reserved Block)) (n : ℕ) (total : Read (List (List Block))) → i < length ts → t ≡ get_or ts i t
+pub period_ends : (e : Stop FieldFault) (at p : Place) (ts : List Branch) (i : ℕ) (t : Branch) (front : List (Reserved Block)) (n : ℕ) (total : Read (List (List Block))) → i < length ts → t ≡ get_or ts i t
     → p ≡ item_at at (n + 1) → n ≡ length front → Fails e (period_blocks p [] (view t))
     → each (read_period at) (map items_in front) (views (drop i ts)) ≡ total → Fails e total
 period_ends e at p ts i t front n total lt is p-is n-is h so_far =

@@ -4,8 +4,8 @@ use Rattle.std.specs.Prelude.{ℕ, ◌&&◌, ◌==◌, nat_lt, List, [], length,
 use Rattle.uc_model.specs.declared.kinds.Kind.{Kind}
 use Rattle.uc_model.specs.declared.kinds.Kind.TheVariants.{Case, Thermal, Renewable, Bid}
 use Rattle.uc_model.specs.Data.{NamedThermalUnit, NamedRenewableUnit, NamedBidUnit, Market}
-use Rattle.uc_text.specs.Values.{Value}
-use Rattle.uc_text.specs.Parts.{Pair}
+use Rattle.text_tree.specs.Values.{Value}
+use Rattle.text_tree.specs.Parts.{Pair}
 use Rattle.uc_case.specs.Places.{fault, field_at, place}
 use Rattle.uc_case.specs.Words.{◌>>=◌, ◌>>◌, refuse, each, position}
 use Rattle.uc_case.specs.Forms.{Read, keys, key, key_or_none, object, time_within}

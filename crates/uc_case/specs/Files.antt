@@ -1,6 +1,6 @@
 -- What a file is, by what its value is read as.
 use Rattle.std.specs.Prelude.{◌≡◌, ℕ, List, Result, Ok, Err}
-use Rattle.uc_text.specs.Values.{Value}
+use Rattle.text_tree.specs.Values.{Value}
 use Rattle.uc_text.specs.Texts.{IsText, IsFirstFault}
 use Rattle.uc_text.specs.declared.fault.TextFault.{TextFault}
 

@@ -2,8 +2,8 @@
 use Rattle.std.specs.Prelude.{ℕ, Bool, List, [], Option, Result, Ok, ℤ, pos, nat_abs, unsigned_abs, nat_lt, int_lt, not}
 use Rattle.uc_num.specs.declared.Decimal.{Decimal}
 use Rattle.uc_num.specs.Rounding.{rounded}
-use Rattle.uc_text.specs.Values.{Value}
-use Rattle.uc_text.specs.Parts.{Pair}
+use Rattle.text_tree.specs.Values.{Value}
+use Rattle.text_tree.specs.Parts.{Pair}
 use Rattle.uc_case.specs.Inside.{number_in, list_in, object_in, value_of, is_whole, bit_of}
 use Rattle.uc_case.specs.Places.{fault, field_at, item_at, key_of}
 use Rattle.uc_case.specs.Words.{◌>>=◌, ◌>>◌, refuse, need, each, position}

@@ -2,29 +2,9 @@
 use Rattle.std.specs.Prelude.{◌==◌, ℕ, Bool, true, false, List, [], ◌∷◌, Option, Some, None, ℤ, pos, negsuc, if◌then◌else◌, bytes_eq}
 use Rattle.uc_num.specs.declared.Decimal.{Decimal}
 use Rattle.uc_num.specs.Rounding.{rounded, is_whole_value}
-use Rattle.uc_text.specs.Values.{number, Value, scalar, list, object, Items, no_items, item, Members, no_members, member}
-use Rattle.uc_text.specs.Parts.{Pair}
-
-abbrev pub values : Items → List Value
-values no_items = []
-values (item v vs) = v ∷ values vs
-
-abbrev pub pairs : Members → List Pair
-pairs no_members = []
-pairs (member n v ms) = record { name = n; value = v } ∷ pairs ms
-
--- the parts of a value of that kind
-abbrev pub number_in : Value → Option Decimal
-number_in (scalar (number d)) = Some d
-number_in _ = None
-
-abbrev pub list_in : Value → Option (List Value)
-list_in (list vs) = Some (values vs)
-list_in _ = None
-
-abbrev pub object_in : Value → Option (List Pair)
-object_in (object ms) = Some (pairs ms)
-object_in _ = None
+use Rattle.text_tree.specs.Values.{Value}
+use Rattle.text_tree.specs.Parts.{Pair}
+pub use Rattle.text_tree.specs.Inside.{number_in, list_in, object_in}
 
 -- the value under a key of an object
 unfoldable pub value_of : List ℕ → List Pair → Option Value

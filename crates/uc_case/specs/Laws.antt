@@ -1,7 +1,7 @@
 -- A file is one case, or has one first fault. Each law is the clause of a public function.
 use Rattle.std.specs.Prelude.{◌≡◌, ℕ, List, Result}
 use Rattle.uc_model.specs.Data.{Market}
-use Rattle.uc_text.specs.Values.{Value}
+use Rattle.text_tree.specs.Values.{Value}
 use Rattle.uc_text.specs.declared.fault.TextFault.{TextFault}
 use Rattle.uc_case.specs.CaseFiles.{IsCaseOf}
 use Rattle.uc_case.specs.Files.{FileFault, IsFile}

@@ -9,7 +9,7 @@ use Rattle.uc_model.specs.declared.units.Mark.{Mark}
 use Rattle.uc_model.specs.declared.units.Mark.TheVariants.{Free, MustOff, MustOn}
 use Rattle.uc_model.specs.Data.{ThermalUnit, RenewableUnit, BidUnit}
 use Rattle.uc_model.specs.Sums.{total}
-use Rattle.uc_text.specs.Values.{Value, scalar, null, number}
+use Rattle.text_tree.specs.Values.{Value, scalar, null, number}
 use Rattle.uc_case.specs.Inside.{list_in, bit_of}
 use Rattle.uc_case.specs.Places.{fault, field_at, item_at}
 use Rattle.uc_case.specs.Words.{◌>>=◌, ◌>>◌, refuse, need, each, last_is}

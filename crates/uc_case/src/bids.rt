@@ -6,7 +6,7 @@ ghost use Rattle.uc_model.specs.PlainUnits.{bid_of};
 ghost use Rattle.uc_model.specs.Reserved.{items_in};
 ghost use Rattle.uc_model.specs.Sums.{total};
 ghost use Rattle.uc_model.specs.declared.units.Block.{Block as PlainBlock};
-ghost use Rattle.uc_text.specs.View.{view, views, member_views};
+ghost use Rattle.text_tree.specs.View.{view, views, member_views};
 ghost use Rattle.uc_case.specs.Given.{Gives};
 ghost use Rattle.uc_case.specs.Kept.{AreBlocks};
 ghost use Rattle.uc_case.specs.Words.{each, last_is};
@@ -14,26 +14,31 @@ ghost use Rattle.uc_case.specs.Forms.{key, keys, items};
 ghost use Rattle.uc_case.specs.Tables.{block, period_blocks, blocks, bid_unit};
 
 use crate::fault::{CaseCode, Field, Place};
-use crate::forms::{FieldStop, list_of, object_of, read_amount, read_power, value_under};
+use crate::forms::{FieldStop, list_of, members_of, read_amount, read_power, value_under};
 use crate::keys::Keys;
 use std::alloc::Global;
+use text_tree::Branch;
 use uc_model::limits::{MOST_BLOCKS, POWER_LIMIT};
 use uc_model::money::total_width;
 use uc_model::units::{Bid, Block, BlockLists, Blocks};
-use uc_text::Tree;
 
 const BLOCKS: usize = MOST_BLOCKS as usize;
 
 #[tactic(auto, unfolding(crate::specs::Tables::block))]
-fn read_block(at: Place, before: &[Block], tree: &Tree) -> Result<Block, FieldStop>
+fn read_block(
+    alloc: Global,
+    at: Place,
+    before: &[Block],
+    branch: Branch<'_>,
+) -> Result<Block, FieldStop>
     ensures fits { IfOk result (λ b. IsBlock b) }
     ensures order { IfOk result (λ b. last_is (λ (a : PlainBlock). int_lt a.price b.price)
         before.now ≡ false) }
-    ensures value { Gives (λ b. b) result (block at before.now (view tree.now)) }
+    ensures value { Gives (λ b. b) result (block at before.now (view branch.entry)) }
 {
-    let members = object_of(at, tree)?;
-    let width = read_power(at, value_under(at, members, "mw")?, 1_000_000_000)?;
-    let price = read_amount(at, value_under(at, members, "price")?, 3, 10_000_000)?;
+    let members = members_of(alloc, at, branch)?;
+    let width = read_power(at, value_under(at, &members, "mw")?, 1_000_000_000)?;
+    let price = read_amount(at, value_under(at, &members, "price")?, 3, 10_000_000)?;
     if let Some(last) = before.last() {
         if last.price < price {
             return Err(at.stop(CaseCode::BlockOrder));
@@ -42,47 +47,48 @@ fn read_block(at: Place, before: &[Block], tree: &Tree) -> Result<Block, FieldSt
     Ok(Block { width, price })
 }
 
-fn read_blocks(alloc: Global, at: Place, trees: &[Tree]) -> Result<Blocks, FieldStop>
-    requires { length trees.now ≤ 8 }
-    ensures count { IfOk result (λ bs. length bs.items ≡ length trees.now) }
+fn read_blocks(alloc: Global, at: Place, branches: &[Branch<'_>]) -> Result<Blocks, FieldStop>
+    requires { length branches.now ≤ 8 }
+    ensures count { IfOk result (λ bs. length bs.items ≡ length branches.now) }
     ensures fits { IfOk result (λ bs. AreBlocks bs.items) }
-    ensures value { Gives (λ bs. bs.items) result (each (block at) [] (views trees.now)) }
+    ensures value { Gives (λ bs. bs.items) result (each (block at) [] (views branches.now)) }
 {
-    let mut blocks = Blocks::make(alloc, trees.len() as u32)?;
-    for tree in trees {
-        let block = read_block(at, blocks.as_slice(), tree)?;
+    let mut blocks = Blocks::make(alloc, branches.len() as u32)?;
+    for branch in branches {
+        let block = read_block(alloc, at, blocks.as_slice(), *branch)?;
         blocks.push(block);
     }
     Ok(blocks)
 }
 
 #[tactic(auto, unfolding(crate::specs::Tables::period_blocks))]
-fn read_period(alloc: Global, at: Place, tree: &Tree) -> Result<Blocks, FieldStop>
+fn read_period(alloc: Global, at: Place, branch: Branch<'_>) -> Result<Blocks, FieldStop>
     ensures fits { IfOk result (λ bs. IsBlockList bs.items) }
-    ensures value { Gives (λ bs. bs.items) result (period_blocks at [] (view tree.now)) }
+    ensures value { Gives (λ bs. bs.items) result (period_blocks at [] (view branch.entry)) }
 {
-    let trees = list_of(at, tree)?;
-    if trees.len() > BLOCKS {
+    let list = list_of(at, branch)?;
+    if list.len() > BLOCKS {
         return Err(at.stop(CaseCode::TooLarge));
     }
-    let blocks = read_blocks(alloc, at, trees)?;
+    let branches = list.items(alloc)?;
+    let blocks = read_blocks(alloc, at, &branches)?;
     if total_width(blocks.as_slice()) > POWER_LIMIT {
         return Err(at.stop(CaseCode::TooLarge));
     }
     Ok(blocks)
 }
 
-fn read_periods(alloc: Global, at: Place, trees: &[Tree]) -> Result<BlockLists, FieldStop>
-    requires { length trees.now ≤ 4096 }
-    ensures count { IfOk result (λ ls. length ls.items ≡ length trees.now) }
+fn read_periods(alloc: Global, at: Place, branches: &[Branch<'_>]) -> Result<BlockLists, FieldStop>
+    requires { length branches.now ≤ 4096 }
+    ensures count { IfOk result (λ ls. length ls.items ≡ length branches.now) }
     ensures fits { IfOk result (λ ls. All (λ bs. IsBlockList bs) (map items_in ls.items)) }
     ensures value { Gives (λ ls. map items_in ls.items) result
-        (items period_blocks at (views trees.now)) }
+        (items period_blocks at (views branches.now)) }
 {
-    let mut lists = BlockLists::make(alloc, trees.len() as u32)?;
-    for tree in trees {
+    let mut lists = BlockLists::make(alloc, branches.len() as u32)?;
+    for branch in branches {
         let place = at.item(lists.len() as u32 + 1);
-        let blocks = read_period(alloc, place, tree)?;
+        let blocks = read_period(alloc, place, *branch)?;
         lists.push(blocks);
     }
     Ok(lists)
@@ -94,27 +100,28 @@ fn read_block_lists(alloc: Global, u: &Keys, periods: u32) -> Result<BlockLists,
     ensures count { IfOk result (λ ls. length ls.items ≡ periods) }
     ensures fits { IfOk result (λ ls. All (λ bs. IsBlockList bs) (map items_in ls.items)) }
     ensures value { Gives (λ ls. map items_in ls.items) result
-        (key (keys u.now.at (member_views u.now.members.now)) Field.Blocks (blocks periods)) }
+        (key (keys u.now.at (member_views u.now.members.items)) Field.Blocks (blocks periods)) }
 {
     let at = u.at.field(Field::Blocks);
-    let trees = list_of(at, u.value(Field::Blocks)?)?;
-    if trees.len() != periods as usize {
+    let list = list_of(at, u.value(Field::Blocks)?)?;
+    if list.len() != periods as usize {
         return Err(at.stop(CaseCode::WrongLength));
     }
-    read_periods(alloc, at, trees)
+    let branches = list.items(alloc)?;
+    read_periods(alloc, at, &branches)
 }
 
 #[tactic(auto, unfolding(crate::specs::Tables::bid_unit))]
-pub fn read_bid(alloc: Global, at: Place, tree: &Tree, periods: u32) -> Result<Bid, FieldStop>
+pub fn read_bid(alloc: Global, at: Place, branch: Branch<'_>, periods: u32) -> Result<Bid, FieldStop>
     requires some { 1 ≤ periods }
     requires horizon { periods ≤ 168 }
     ensures fits { IfOk result (λ b. IsBidUnit (bid_of b)) }
     ensures count { IfOk result (λ b. length b.blocks.items ≡ periods) }
-    ensures value { Gives bid_of result (bid_unit periods at (view tree.now)) }
+    ensures value { Gives bid_of result (bid_unit periods at (view branch.entry)) }
 {
     let u = Keys {
         at,
-        members: object_of(at, tree)?,
+        members: members_of(alloc, at, branch)?,
     };
     let blocks = read_block_lists(alloc, &u, periods)?;
     Ok(Bid { blocks })

@@ -3,7 +3,7 @@ ghost use Rattle.std.specs.Prelude.{◌≡◌, ◌≤◌, IfOk, length, map};
 ghost use Rattle.std.specs.List.{All};
 ghost use Rattle.uc_model.specs.PlainCases.{market_of};
 ghost use Rattle.uc_model.specs.PlainUnits.{named_thermal_of, named_renewable_of, named_bid_of};
-ghost use Rattle.uc_text.specs.View.{view, member_view, member_views};
+ghost use Rattle.text_tree.specs.View.{view, member_view, member_views};
 ghost use Rattle.uc_case.specs.Given.{Gives};
 ghost use Rattle.uc_case.specs.Kept.{IsThermalOf, IsRenewableOf, IsBidOf};
 ghost use Rattle.uc_case.specs.Forms.{keys, key, key_or_none};
@@ -12,17 +12,17 @@ ghost use Rattle.uc_case.specs.Cases.{thermal, renewable, bid, each_member, unit
 
 use crate::bids::read_bid;
 use crate::fault::{CaseCode, Field, Kind, Place};
-use crate::forms::{FieldStop, object_of};
-use crate::inside::{member_value, name_of};
+use crate::forms::{FieldStop, members_of, object_of};
 use crate::keys::Keys;
 use crate::lists::read_powers;
 use crate::units::{read_renewable, read_unit};
-use std::alloc::Global;
+use std::alloc::{AllocError, Global};
+use text_tokens::text_of;
+use text_tree::{Branch, Member};
 use uc_model::cases::Case;
 use uc_model::limits::{MOST_OF_A_KIND, MOST_PERIODS};
 use uc_model::lists::Name;
 use uc_model::units::{BidList, FlatList, NamedBid, NamedFlat, NamedUnit, ThermalList};
-use uc_text::{Member, Tree};
 
 const MOST_UNITS: usize = MOST_OF_A_KIND as usize;
 
@@ -39,11 +39,19 @@ fn unit_place(field: Field, kind: Kind, unit: u32) -> Place
     }
 }
 
+/// The key of a member as the name of a unit.
+fn name_of(alloc: Global, member: &Member<'_>) -> Result<Name, AllocError>
+    ensures { IfOk result (λ name. name.items ≡ (member_view member.now).name) }
+{
+    let text = text_of(alloc, member.name)?;
+    Name::copied(alloc, text.as_str())
+}
+
 #[tactic(auto, unfolding(crate::specs::Cases::thermal))]
 fn read_named_unit(
     alloc: Global,
     at: Place,
-    member: &Member,
+    member: &Member<'_>,
     periods: u32,
 ) -> Result<NamedUnit, FieldStop>
     requires some { 1 ≤ periods }
@@ -51,12 +59,12 @@ fn read_named_unit(
     ensures fits { IfOk result (λ n. IsThermalOf periods (named_thermal_of n)) }
     ensures value { Gives named_thermal_of result (thermal periods at (member_view member.now)) }
 {
-    let unit = read_unit(alloc, at, member_value(member), periods)?;
-    let name = Name::copied(alloc, name_of(member))?;
+    let unit = read_unit(alloc, at, member.value, periods)?;
+    let name = name_of(alloc, member)?;
     Ok(NamedUnit { name, unit })
 }
 
-fn read_thermal(alloc: Global, members: &[Member], periods: u32) -> Result<ThermalList, FieldStop>
+fn read_thermal(alloc: Global, members: &[Member<'_>], periods: u32) -> Result<ThermalList, FieldStop>
     requires few { length members.now ≤ 4096 }
     requires some { 1 ≤ periods }
     requires horizon { periods ≤ 168 }
@@ -84,7 +92,7 @@ fn read_thermal(alloc: Global, members: &[Member], periods: u32) -> Result<Therm
 fn read_thermal_units(
     alloc: Global,
     at: Place,
-    tree: &Tree,
+    branch: Branch<'_>,
     periods: u32,
 ) -> Result<ThermalList, FieldStop>
     requires some { 1 ≤ periods }
@@ -93,20 +101,21 @@ fn read_thermal_units(
     ensures fits { IfOk result (λ l. All (λ n. IsThermalOf periods n)
         (map named_thermal_of l.items)) }
     ensures value { Gives (λ l. map named_thermal_of l.items) result
-        (units Field.ThermalGenerators Kind.Thermal (thermal periods) at (view tree.now)) }
+        (units Field.ThermalGenerators Kind.Thermal (thermal periods) at (view branch.entry)) }
 {
-    let members = object_of(at, tree)?;
-    if members.len() > MOST_UNITS {
+    let object = object_of(at, branch)?;
+    if object.len() > MOST_UNITS {
         return Err(at.stop(CaseCode::TooLarge));
     }
-    read_thermal(alloc, members, periods)
+    let members = object.members(alloc)?;
+    read_thermal(alloc, &members, periods)
 }
 
 #[tactic(auto, unfolding(crate::specs::Cases::renewable))]
 fn read_named_flat(
     alloc: Global,
     at: Place,
-    member: &Member,
+    member: &Member<'_>,
     periods: u32,
 ) -> Result<NamedFlat, FieldStop>
     requires some { 1 ≤ periods }
@@ -115,12 +124,12 @@ fn read_named_flat(
     ensures value { Gives named_renewable_of result
         (renewable periods at (member_view member.now)) }
 {
-    let flat = read_renewable(alloc, at, member_value(member), periods)?;
-    let name = Name::copied(alloc, name_of(member))?;
+    let flat = read_renewable(alloc, at, member.value, periods)?;
+    let name = name_of(alloc, member)?;
     Ok(NamedFlat { name, flat })
 }
 
-fn read_flat(alloc: Global, members: &[Member], periods: u32) -> Result<FlatList, FieldStop>
+fn read_flat(alloc: Global, members: &[Member<'_>], periods: u32) -> Result<FlatList, FieldStop>
     requires few { length members.now ≤ 4096 }
     requires some { 1 ≤ periods }
     requires horizon { periods ≤ 168 }
@@ -148,7 +157,7 @@ fn read_flat(alloc: Global, members: &[Member], periods: u32) -> Result<FlatList
 fn read_flat_units(
     alloc: Global,
     at: Place,
-    tree: &Tree,
+    branch: Branch<'_>,
     periods: u32,
 ) -> Result<FlatList, FieldStop>
     requires some { 1 ≤ periods }
@@ -157,20 +166,21 @@ fn read_flat_units(
     ensures fits { IfOk result (λ l. All (λ n. IsRenewableOf periods n)
         (map named_renewable_of l.items)) }
     ensures value { Gives (λ l. map named_renewable_of l.items) result
-        (units Field.RenewableGenerators Kind.Renewable (renewable periods) at (view tree.now)) }
+        (units Field.RenewableGenerators Kind.Renewable (renewable periods) at (view branch.entry)) }
 {
-    let members = object_of(at, tree)?;
-    if members.len() > MOST_UNITS {
+    let object = object_of(at, branch)?;
+    if object.len() > MOST_UNITS {
         return Err(at.stop(CaseCode::TooLarge));
     }
-    read_flat(alloc, members, periods)
+    let members = object.members(alloc)?;
+    read_flat(alloc, &members, periods)
 }
 
 #[tactic(auto, unfolding(crate::specs::Cases::bid))]
 fn read_named_bid(
     alloc: Global,
     at: Place,
-    member: &Member,
+    member: &Member<'_>,
     periods: u32,
 ) -> Result<NamedBid, FieldStop>
     requires some { 1 ≤ periods }
@@ -178,12 +188,12 @@ fn read_named_bid(
     ensures fits { IfOk result (λ n. IsBidOf periods (named_bid_of n)) }
     ensures value { Gives named_bid_of result (bid periods at (member_view member.now)) }
 {
-    let bid = read_bid(alloc, at, member_value(member), periods)?;
-    let name = Name::copied(alloc, name_of(member))?;
+    let bid = read_bid(alloc, at, member.value, periods)?;
+    let name = name_of(alloc, member)?;
     Ok(NamedBid { name, bid })
 }
 
-fn read_bids(alloc: Global, members: &[Member], periods: u32) -> Result<BidList, FieldStop>
+fn read_bids(alloc: Global, members: &[Member<'_>], periods: u32) -> Result<BidList, FieldStop>
     requires few { length members.now ≤ 4096 }
     requires some { 1 ≤ periods }
     requires horizon { periods ≤ 168 }
@@ -202,19 +212,20 @@ fn read_bids(alloc: Global, members: &[Member], periods: u32) -> Result<BidList,
 }
 
 #[tactic(auto, unfolding(crate::specs::Cases::units))]
-fn read_bid_units(alloc: Global, at: Place, tree: &Tree, periods: u32) -> Result<BidList, FieldStop>
+fn read_bid_units(alloc: Global, at: Place, branch: Branch<'_>, periods: u32) -> Result<BidList, FieldStop>
     requires some { 1 ≤ periods }
     requires horizon { periods ≤ 168 }
     ensures count { IfOk result (λ l. length l.items ≤ 4096) }
     ensures fits { IfOk result (λ l. All (λ n. IsBidOf periods n) (map named_bid_of l.items)) }
     ensures value { Gives (λ l. map named_bid_of l.items) result
-        (units Field.DemandBids Kind.Bid (bid periods) at (view tree.now)) }
+        (units Field.DemandBids Kind.Bid (bid periods) at (view branch.entry)) }
 {
-    let members = object_of(at, tree)?;
-    if members.len() > MOST_UNITS {
+    let object = object_of(at, branch)?;
+    if object.len() > MOST_UNITS {
         return Err(at.stop(CaseCode::TooLarge));
     }
-    read_bids(alloc, members, periods)
+    let members = object.members(alloc)?;
+    read_bids(alloc, &members, periods)
 }
 
 #[tactic(auto, unfolding(crate::specs::Cases::bids))]
@@ -224,24 +235,24 @@ fn read_demand_bids(alloc: Global, c: &Keys, periods: u32) -> Result<BidList, Fi
     ensures count { IfOk result (λ l. length l.items ≤ 4096) }
     ensures fits { IfOk result (λ l. All (λ n. IsBidOf periods n) (map named_bid_of l.items)) }
     ensures value { Gives (λ l. map named_bid_of l.items) result
-        (key_or_none (keys c.now.at (member_views c.now.members.now)) Field.DemandBids
+        (key_or_none (keys c.now.at (member_views c.now.members.items)) Field.DemandBids
         (bids periods)) }
 {
-    let Some(tree) = c.find(Field::DemandBids) else {
+    let Some(branch) = c.find(Field::DemandBids) else {
         return Ok(BidList::make(alloc, 0)?);
     };
-    read_bid_units(alloc, c.at.field(Field::DemandBids), tree, periods)
+    read_bid_units(alloc, c.at.field(Field::DemandBids), branch, periods)
 }
 
-/// The case of a tree, or the fault of the first test that fails.
+/// The case of a tree's root, or the fault of the first test that fails.
 #[tactic(auto, unfolding(crate::specs::Cases::case_of))]
-pub fn case_of_tree(alloc: Global, tree: &Tree) -> Result<Case, FieldStop>
-    ensures { Gives market_of result (case_of (view tree.now)) }
+pub fn case_of_tree(alloc: Global, root: Branch<'_>) -> Result<Case, FieldStop>
+    ensures { Gives market_of result (case_of (view root.entry)) }
 {
     let at = unit_place(Field::Whole, Kind::Case, 0);
     let c = Keys {
         at,
-        members: object_of(at, tree)?,
+        members: members_of(alloc, at, root)?,
     };
     let periods = c.time(Field::TimePeriods, PERIODS)?;
     if periods == 0 {

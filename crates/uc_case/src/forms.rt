@@ -1,7 +1,7 @@
 //! The forms of fields: each reads one value, and its faults are at the place.
 ghost use Rattle.std.specs.Prelude.{◌≡◌, ◌≤◌, ◌^◌, IfOk, pos, neg_ℤ};
 ghost use Rattle.uc_model.specs.Limits.{IsFrom};
-ghost use Rattle.uc_text.specs.View.{view, views, member_views};
+ghost use Rattle.text_tree.specs.View.{view, items_in, members_in, member_views};
 ghost use Rattle.uc_case.specs.Given.{Gives};
 ghost use Rattle.uc_case.specs.Places.{fault};
 ghost use Rattle.uc_case.specs.Forms.{decimal, list, object, amount, power, cost, start_cost};
@@ -9,11 +9,11 @@ ghost use Rattle.uc_case.specs.Forms.{time_within, flag, under};
 ghost use Rattle.uc_case.specs.declared.stop.Stop.TheVariants as stops;
 
 use crate::fault::{CaseCode, FieldFault, Place};
-use crate::inside::{as_list, as_number, as_object, bit, find};
+use crate::inside::{bit, find};
 use crate::stop::Stop;
-use uc_model::limits::COST_LIMIT;
+use std::alloc::Global;
+use text_tree::{Branch, ListBranch, Member, ObjectBranch};
 use uc_num::{Decimal, is_whole, whole};
-use uc_text::{Member, Tree};
 
 /// Why the reading of a case stops.
 pub type FieldStop = Stop<FieldFault>;
@@ -29,42 +29,53 @@ impl Place {
     }
 }
 
-pub fn number_of(at: Place, tree: &Tree) -> Result<Decimal, FieldStop>
-    ensures { Gives (λ d. d) result (decimal at (view tree.now)) }
+pub fn number_of(at: Place, branch: Branch<'_>) -> Result<Decimal, FieldStop>
+    ensures { Gives (λ d. d) result (decimal at (view branch.entry)) }
 {
-    match as_number(tree) {
+    match branch.number() {
         Some(d) => Ok(d),
         None => Err(at.stop(CaseCode::WrongKind)),
     }
 }
 
-pub fn list_of(at: Place, tree: &Tree) -> Result<&[Tree], FieldStop>
-    ensures { Gives (λ ts. views ts.now) result (list at (view tree.now)) }
+pub fn list_of(at: Place, branch: Branch<'_>) -> Result<ListBranch<'_>, FieldStop>
+    ensures { Gives items_in result (list at (view branch.entry)) }
 {
-    match as_list(tree) {
-        Some(items) => Ok(items),
+    match branch.list() {
+        Some(list) => Ok(list),
         None => Err(at.stop(CaseCode::WrongKind)),
     }
 }
 
-pub fn object_of(at: Place, tree: &Tree) -> Result<&[Member], FieldStop>
-    ensures { Gives (λ ms. member_views ms.now) result (object at (view tree.now)) }
+pub fn object_of(at: Place, branch: Branch<'_>) -> Result<ObjectBranch<'_>, FieldStop>
+    ensures { Gives members_in result (object at (view branch.entry)) }
 {
-    match as_object(tree) {
-        Some(members) => Ok(members),
+    match branch.object() {
+        Some(object) => Ok(object),
         None => Err(at.stop(CaseCode::WrongKind)),
     }
+}
+
+/// The members of an object, in file order.
+pub fn members_of<'a>(
+    alloc: Global,
+    at: Place,
+    branch: Branch<'a>,
+) -> Result<Vec<Member<'a>>, FieldStop>
+    ensures { Gives (λ ms. member_views ms.items) result (object at (view branch.entry)) }
+{
+    Ok(object_of(at, branch)?.members(alloc)?)
 }
 
 /// A number at a scale, from 0 to the limit.
 #[tactic(auto, unfolding(crate::specs::Forms::amount), using(crate::proofs::Fits::not_above))]
-pub fn read_amount(at: Place, tree: &Tree, scale: u32, limit: u64) -> Result<i64, FieldStop>
+pub fn read_amount(at: Place, branch: Branch<'_>, scale: u32, limit: u64) -> Result<i64, FieldStop>
     requires scale { scale ≤ 6 }
     requires limit { limit ≤ 10 ^ 18 }
     ensures bound { IfOk result (λ n. IsFrom (pos 0) (pos limit) n) }
-    ensures value { Gives (λ n. n) result (amount scale limit at (view tree.now)) }
+    ensures value { Gives (λ n. n) result (amount scale limit at (view branch.entry)) }
 {
-    let d = number_of(at, tree)?;
+    let d = number_of(at, branch)?;
     let Ok(amount) = whole(d, scale, limit) else {
         return Err(at.stop(CaseCode::TooLarge));
     };
@@ -75,21 +86,21 @@ pub fn read_amount(at: Place, tree: &Tree, scale: u32, limit: u64) -> Result<i64
 }
 
 /// Kilowatts, from megawatts.
-pub fn read_power(at: Place, tree: &Tree, limit: u64) -> Result<i64, FieldStop>
+pub fn read_power(at: Place, branch: Branch<'_>, limit: u64) -> Result<i64, FieldStop>
     requires { limit ≤ 10 ^ 18 }
     ensures bound { IfOk result (λ n. IsFrom (pos 0) (pos limit) n) }
-    ensures value { Gives (λ n. n) result (power limit at (view tree.now)) }
+    ensures value { Gives (λ n. n) result (power limit at (view branch.entry)) }
 {
-    read_amount(at, tree, 3, limit)
+    read_amount(at, branch, 3, limit)
 }
 
 /// Money of a point of a curve, which may be below 0.
 #[tactic(auto, unfolding(crate::specs::Forms::cost), using(crate::proofs::Fits::within))]
-pub fn read_cost(at: Place, tree: &Tree) -> Result<i64, FieldStop>
+pub fn read_cost(at: Place, branch: Branch<'_>) -> Result<i64, FieldStop>
     ensures bound { IfOk result (λ n. IsFrom (neg_ℤ (pos 10000000000000)) (pos 10000000000000) n) }
-    ensures value { Gives (λ n. n) result (cost at (view tree.now)) }
+    ensures value { Gives (λ n. n) result (cost at (view branch.entry)) }
 {
-    let d = number_of(at, tree)?;
+    let d = number_of(at, branch)?;
     match whole(d, 6, COST) {
         Ok(cost) => Ok(cost),
         Err(_) => Err(at.stop(CaseCode::TooLarge)),
@@ -97,21 +108,21 @@ pub fn read_cost(at: Place, tree: &Tree) -> Result<i64, FieldStop>
 }
 
 /// Money of a start, which isn't below 0.
-pub fn read_start_cost(at: Place, tree: &Tree) -> Result<i64, FieldStop>
+pub fn read_start_cost(at: Place, branch: Branch<'_>) -> Result<i64, FieldStop>
     ensures bound { IfOk result (λ n. IsFrom (pos 0) (pos 10000000000000) n) }
-    ensures value { Gives (λ n. n) result (start_cost at (view tree.now)) }
+    ensures value { Gives (λ n. n) result (start_cost at (view branch.entry)) }
 {
-    read_amount(at, tree, 6, COST)
+    read_amount(at, branch, 6, COST)
 }
 
 /// A number of periods.
 #[tactic(auto, unfolding(crate::specs::Forms::time_within))]
-pub fn read_time(at: Place, tree: &Tree, limit: u64) -> Result<u32, FieldStop>
+pub fn read_time(at: Place, branch: Branch<'_>, limit: u64) -> Result<u32, FieldStop>
     requires { limit ≤ 1000000 }
     ensures bound { IfOk result (λ n. n ≤ limit) }
-    ensures value { Gives (λ n. n) result (time_within limit at (view tree.now)) }
+    ensures value { Gives (λ n. n) result (time_within limit at (view branch.entry)) }
 {
-    let d = number_of(at, tree)?;
+    let d = number_of(at, branch)?;
     if !is_whole(d) {
         return Err(at.stop(CaseCode::NotWhole));
     }
@@ -126,10 +137,10 @@ pub fn read_time(at: Place, tree: &Tree, limit: u64) -> Result<u32, FieldStop>
 
 /// A flag, 0 or 1.
 #[tactic(auto, unfolding(crate::specs::Forms::flag))]
-pub fn read_flag(at: Place, tree: &Tree) -> Result<bool, FieldStop>
-    ensures { Gives (λ b. b) result (flag at (view tree.now)) }
+pub fn read_flag(at: Place, branch: Branch<'_>) -> Result<bool, FieldStop>
+    ensures { Gives (λ b. b) result (flag at (view branch.entry)) }
 {
-    let d = number_of(at, tree)?;
+    let d = number_of(at, branch)?;
     if !is_whole(d) {
         return Err(at.stop(CaseCode::NotWhole));
     }
@@ -140,8 +151,12 @@ pub fn read_flag(at: Place, tree: &Tree) -> Result<bool, FieldStop>
 }
 
 /// The value under a key that must be there.
-pub fn value_under<'a>(at: Place, members: &'a [Member], key: &str) -> Result<&'a Tree, FieldStop>
-    ensures { Gives (λ t. view t.now) result (under at key.now (member_views members.now)) }
+pub fn value_under<'a>(
+    at: Place,
+    members: &[Member<'a>],
+    key: &str,
+) -> Result<Branch<'a>, FieldStop>
+    ensures { Gives view result (under at key.now (member_views members.now)) }
 {
     match find(members, key) {
         Some(value) => Ok(value),

@@ -1,8 +1,8 @@
 //! The keys of a unit or of the case.
 ghost use Rattle.std.specs.Prelude.{◌≡◌, ◌≤◌, ◌^◌, IfOk, pos};
-ghost use Rattle.std.specs.Option.{option_map, option_copied};
+ghost use Rattle.std.specs.Option.{option_map};
 ghost use Rattle.uc_model.specs.Limits.{IsFrom};
-ghost use Rattle.uc_text.specs.View.{view, member_views};
+ghost use Rattle.text_tree.specs.View.{view, member_views};
 ghost use Rattle.uc_case.specs.Given.{Gives};
 ghost use Rattle.uc_case.specs.Inside.{value_of};
 ghost use Rattle.uc_case.specs.Places.{key_of, field_at};
@@ -11,34 +11,34 @@ ghost use Rattle.uc_case.specs.Forms.{keys, key, under, flag, power, time_within
 use crate::fault::{Field, Place};
 use crate::forms::{FieldStop, read_flag, read_power, read_time, value_under};
 use crate::inside::find;
-use uc_text::{Member, Tree};
+use text_tree::{Branch, Member};
 
 /// A unit or the case: the place of its faults but for the field, and its members.
-#[derive(Clone, Copy)]
+#[derive(Drop)]
 pub struct Keys<'a> {
     pub at: Place,
-    pub members: &'a [Member],
+    pub members: Vec<Member<'a>>,
 }
 
 impl<'a> Keys<'a> {
-    pub fn value(&self, field: Field) -> Result<&'a Tree, FieldStop>
-        ensures { Gives (λ t. view t.now) result
+    pub fn value(&self, field: Field) -> Result<Branch<'a>, FieldStop>
+        ensures { Gives view result
             (under (field_at self.now.at field) (key_of field)
-            (member_views self.now.members.now)) }
+            (member_views self.now.members.items)) }
     {
-        value_under(self.at.field(field), self.members, field.key())
+        value_under(self.at.field(field), &self.members, field.key())
     }
 
-    pub fn find(&self, field: Field) -> Option<&'a Tree>
-        ensures { option_map view (option_copied result)
-            ≡ value_of (key_of field) (member_views self.now.members.now) }
+    pub fn find(&self, field: Field) -> Option<Branch<'a>>
+        ensures { option_map view result
+            ≡ value_of (key_of field) (member_views self.now.members.items) }
     {
-        find(self.members, field.key())
+        find(&self.members, field.key())
     }
 
     pub fn flag(&self, field: Field) -> Result<bool, FieldStop>
         ensures { Gives (λ b. b) result
-            (key (keys self.now.at (member_views self.now.members.now)) field flag) }
+            (key (keys self.now.at (member_views self.now.members.items)) field flag) }
     {
         read_flag(self.at.field(field), self.value(field)?)
     }
@@ -47,7 +47,7 @@ impl<'a> Keys<'a> {
         requires { limit ≤ 10 ^ 18 }
         ensures bound { IfOk result (λ n. IsFrom (pos 0) (pos limit) n) }
         ensures value { Gives (λ n. n) result
-            (key (keys self.now.at (member_views self.now.members.now)) field (power limit)) }
+            (key (keys self.now.at (member_views self.now.members.items)) field (power limit)) }
     {
         read_power(self.at.field(field), self.value(field)?, limit)
     }
@@ -56,7 +56,7 @@ impl<'a> Keys<'a> {
         requires { limit ≤ 1000000 }
         ensures bound { IfOk result (λ n. n ≤ limit) }
         ensures value { Gives (λ n. n) result
-            (key (keys self.now.at (member_views self.now.members.now)) field (time_within limit)) }
+            (key (keys self.now.at (member_views self.now.members.items)) field (time_within limit)) }
     {
         read_time(self.at.field(field), self.value(field)?, limit)
     }

@@ -4,7 +4,7 @@ ghost use Rattle.std.specs.List.{All};
 ghost use Rattle.uc_model.specs.Limits.{IsLag, IsPoint, IsPower, Spans};
 ghost use Rattle.uc_model.specs.declared.units.Lag.{Lag as PlainLag};
 ghost use Rattle.uc_model.specs.declared.units.Point.{Point as PlainPoint};
-ghost use Rattle.uc_text.specs.View.{view, views, member_views};
+ghost use Rattle.text_tree.specs.View.{view, views, member_views};
 ghost use Rattle.uc_case.specs.Given.{Gives};
 ghost use Rattle.uc_case.specs.Kept.{AreLags, ArePoints};
 ghost use Rattle.uc_case.specs.Words.{last_is};
@@ -14,24 +14,29 @@ ghost use Rattle.uc_case.specs.Tables.{ends_miss};
 
 use crate::fault::{CaseCode, Field, Place};
 use crate::forms::{
-    FieldStop, list_of, object_of, read_cost, read_power, read_start_cost, read_time, value_under,
+    FieldStop, list_of, members_of, read_cost, read_power, read_start_cost, read_time, value_under,
 };
 use crate::keys::Keys;
 use std::alloc::Global;
+use text_tree::Branch;
 use uc_model::lists::Numbers;
 use uc_model::units::{Lag, Lags, Point, Points};
-use uc_text::Tree;
 
 #[tactic(auto, unfolding(crate::specs::Tables::lag))]
-fn read_lag(at: Place, before: &[Lag], tree: &Tree) -> Result<Lag, FieldStop>
+fn read_lag(
+    alloc: Global,
+    at: Place,
+    before: &[Lag],
+    branch: Branch<'_>,
+) -> Result<Lag, FieldStop>
     ensures fits { IfOk result (λ l. IsLag l) }
     ensures order { IfOk result (λ l. last_is (λ (b : PlainLag). nat_lt l.lag b.lag) before.now
         ≡ false) }
-    ensures value { Gives (λ l. l) result (lag at before.now (view tree.now)) }
+    ensures value { Gives (λ l. l) result (lag at before.now (view branch.entry)) }
 {
-    let members = object_of(at, tree)?;
-    let lag = read_time(at, value_under(at, members, "lag")?, 1_000_000)?;
-    let cost = read_start_cost(at, value_under(at, members, "cost")?)?;
+    let members = members_of(alloc, at, branch)?;
+    let lag = read_time(at, value_under(at, &members, "lag")?, 1_000_000)?;
+    let cost = read_start_cost(at, value_under(at, &members, "cost")?)?;
     if let Some(last) = before.last() {
         if lag < last.lag {
             return Err(at.stop(CaseCode::LagOrder));
@@ -40,16 +45,16 @@ fn read_lag(at: Place, before: &[Lag], tree: &Tree) -> Result<Lag, FieldStop>
     Ok(Lag { lag, cost })
 }
 
-fn read_lags(alloc: Global, at: Place, trees: &[Tree]) -> Result<Lags, FieldStop>
-    requires { length trees.now ≤ 4096 }
-    ensures count { IfOk result (λ ls. length ls.items ≡ length trees.now) }
+fn read_lags(alloc: Global, at: Place, branches: &[Branch<'_>]) -> Result<Lags, FieldStop>
+    requires { length branches.now ≤ 4096 }
+    ensures count { IfOk result (λ ls. length ls.items ≡ length branches.now) }
     ensures fits { IfOk result (λ ls. AreLags ls.items) }
-    ensures value { Gives (λ ls. ls.items) result (items lag at (views trees.now)) }
+    ensures value { Gives (λ ls. ls.items) result (items lag at (views branches.now)) }
 {
-    let mut lags = Lags::make(alloc, trees.len() as u32)?;
-    for tree in trees {
+    let mut lags = Lags::make(alloc, branches.len() as u32)?;
+    for branch in branches {
         let place = at.item(lags.len() as u32 + 1);
-        let lag = read_lag(place, lags.as_slice(), tree)?;
+        let lag = read_lag(alloc, place, lags.as_slice(), *branch)?;
         lags.push(lag);
     }
     Ok(lags)
@@ -60,26 +65,32 @@ pub fn read_startup(alloc: Global, u: &Keys) -> Result<Lags, FieldStop>
     ensures count { IfOk result (λ ls. length ls.items ≤ 32) }
     ensures fits { IfOk result (λ ls. AreLags ls.items) }
     ensures value { Gives (λ ls. ls.items) result
-        (key (keys u.now.at (member_views u.now.members.now)) Field.Startup startup) }
+        (key (keys u.now.at (member_views u.now.members.items)) Field.Startup startup) }
 {
     let at = u.at.field(Field::Startup);
-    let trees = list_of(at, u.value(Field::Startup)?)?;
-    if trees.len() > 32 {
+    let list = list_of(at, u.value(Field::Startup)?)?;
+    if list.len() > 32 {
         return Err(at.stop(CaseCode::TooLarge));
     }
-    read_lags(alloc, at, trees)
+    let branches = list.items(alloc)?;
+    read_lags(alloc, at, &branches)
 }
 
 #[tactic(auto, unfolding(crate::specs::Tables::point))]
-fn read_point(at: Place, before: &[Point], tree: &Tree) -> Result<Point, FieldStop>
+fn read_point(
+    alloc: Global,
+    at: Place,
+    before: &[Point],
+    branch: Branch<'_>,
+) -> Result<Point, FieldStop>
     ensures fits { IfOk result (λ p. IsPoint p) }
     ensures order { IfOk result (λ p. last_is (λ (b : PlainPoint). int_lt p.at b.at) before.now
         ≡ false) }
-    ensures value { Gives (λ p. p) result (point at before.now (view tree.now)) }
+    ensures value { Gives (λ p. p) result (point at before.now (view branch.entry)) }
 {
-    let members = object_of(at, tree)?;
-    let mw = read_power(at, value_under(at, members, "mw")?, 1_000_000_000)?;
-    let cost = read_cost(at, value_under(at, members, "cost")?)?;
+    let members = members_of(alloc, at, branch)?;
+    let mw = read_power(at, value_under(at, &members, "mw")?, 1_000_000_000)?;
+    let cost = read_cost(at, value_under(at, &members, "cost")?)?;
     if let Some(last) = before.last() {
         if mw < last.at {
             return Err(at.stop(CaseCode::CurveOrder));
@@ -88,16 +99,16 @@ fn read_point(at: Place, before: &[Point], tree: &Tree) -> Result<Point, FieldSt
     Ok(Point { at: mw, cost })
 }
 
-fn read_points(alloc: Global, at: Place, trees: &[Tree]) -> Result<Points, FieldStop>
-    requires { length trees.now ≤ 4096 }
-    ensures count { IfOk result (λ ps. length ps.items ≡ length trees.now) }
+fn read_points(alloc: Global, at: Place, branches: &[Branch<'_>]) -> Result<Points, FieldStop>
+    requires { length branches.now ≤ 4096 }
+    ensures count { IfOk result (λ ps. length ps.items ≡ length branches.now) }
     ensures fits { IfOk result (λ ps. ArePoints ps.items) }
-    ensures value { Gives (λ ps. ps.items) result (items point at (views trees.now)) }
+    ensures value { Gives (λ ps. ps.items) result (items point at (views branches.now)) }
 {
-    let mut points = Points::make(alloc, trees.len() as u32)?;
-    for tree in trees {
+    let mut points = Points::make(alloc, branches.len() as u32)?;
+    for branch in branches {
         let place = at.item(points.len() as u32 + 1);
-        let point = read_point(place, points.as_slice(), tree)?;
+        let point = read_point(alloc, place, points.as_slice(), *branch)?;
         points.push(point);
     }
     Ok(points)
@@ -125,31 +136,32 @@ pub fn read_piecewise(alloc: Global, u: &Keys, low: i64, high: i64) -> Result<Po
     ensures fits { IfOk result (λ ps. ArePoints ps.items) }
     ensures span { IfOk result (λ ps. Spans ps.items low high) }
     ensures value { Gives (λ ps. ps.items) result
-        (key (keys u.now.at (member_views u.now.members.now)) Field.PiecewiseProduction
+        (key (keys u.now.at (member_views u.now.members.items)) Field.PiecewiseProduction
         (piecewise low high)) }
 {
     let at = u.at.field(Field::PiecewiseProduction);
-    let trees = list_of(at, u.value(Field::PiecewiseProduction)?)?;
-    if trees.len() > 32 {
+    let list = list_of(at, u.value(Field::PiecewiseProduction)?)?;
+    if list.len() > 32 {
         return Err(at.stop(CaseCode::TooLarge));
     }
-    let points = read_points(alloc, at, trees)?;
+    let branches = list.items(alloc)?;
+    let points = read_points(alloc, at, &branches)?;
     if misses_ends(low, high, points.as_slice()) {
         return Err(at.stop(CaseCode::CurveEnds));
     }
     Ok(points)
 }
 
-fn read_numbers(alloc: Global, at: Place, trees: &[Tree]) -> Result<Numbers, FieldStop>
-    requires { length trees.now ≤ 4096 }
-    ensures count { IfOk result (λ ns. length ns.items ≡ length trees.now) }
+fn read_numbers(alloc: Global, at: Place, branches: &[Branch<'_>]) -> Result<Numbers, FieldStop>
+    requires { length branches.now ≤ 4096 }
+    ensures count { IfOk result (λ ns. length ns.items ≡ length branches.now) }
     ensures fits { IfOk result (λ ns. All (λ n. IsPower n) ns.items) }
-    ensures value { Gives (λ ns. ns.items) result (items one_power at (views trees.now)) }
+    ensures value { Gives (λ ns. ns.items) result (items one_power at (views branches.now)) }
 {
-    let mut numbers = Numbers::make(alloc, trees.len() as u32)?;
-    for tree in trees {
+    let mut numbers = Numbers::make(alloc, branches.len() as u32)?;
+    for branch in branches {
         let place = at.item(numbers.len() as u32 + 1);
-        let number = read_power(place, tree, 1_000_000_000)?;
+        let number = read_power(place, *branch, 1_000_000_000)?;
         numbers.push(number);
     }
     Ok(numbers)
@@ -166,12 +178,13 @@ pub fn read_powers(
     ensures count { IfOk result (λ ns. length ns.items ≡ periods) }
     ensures fits { IfOk result (λ ns. All (λ n. IsPower n) ns.items) }
     ensures value { Gives (λ ns. ns.items) result
-        (key (keys u.now.at (member_views u.now.members.now)) field (powers periods)) }
+        (key (keys u.now.at (member_views u.now.members.items)) field (powers periods)) }
 {
     let at = u.at.field(field);
-    let trees = list_of(at, u.value(field)?)?;
-    if trees.len() != periods as usize {
+    let list = list_of(at, u.value(field)?)?;
+    if list.len() != periods as usize {
         return Err(at.stop(CaseCode::WrongLength));
     }
-    read_numbers(alloc, at, trees)
+    let branches = list.items(alloc)?;
+    read_numbers(alloc, at, &branches)
 }

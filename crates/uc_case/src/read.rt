@@ -42,7 +42,7 @@ fn read_file(alloc: Global, bytes: &[u8]) -> Result<Case, CaseFault>
         Err(TextError::Fault(fault)) => return Err(CaseFault::Text(fault)),
         Err(TextError::Memory) => return Err(CaseFault::Memory),
     };
-    match case_of_tree(alloc, &tree) {
+    match case_of_tree(alloc, tree.root()) {
         Ok(case) => Ok(case),
         Err(Stop::Fault(fault)) => Err(CaseFault::Field(fault)),
         Err(Stop::Memory) => Err(CaseFault::Memory),

@@ -1,4 +1,4 @@
-//! Why a reader of a tree stops.
+//! Why a reader of a file's value stops.
 ghost use Rattle.std.specs.Prelude.{◌≡◌};
 ghost use Rattle.uc_case.specs.declared.stop.Stop.TheVariants.{Memory};
 

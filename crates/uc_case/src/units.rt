@@ -2,7 +2,7 @@
 ghost use Rattle.std.specs.Prelude.{◌≡◌, ◌≤◌, IfOk, length};
 ghost use Rattle.uc_model.specs.PlainUnits.{thermal_of, renewable_of};
 ghost use Rattle.uc_model.specs.Limits.{IsThermalUnit, IsRenewableUnit};
-ghost use Rattle.uc_text.specs.View.{view, member_views};
+ghost use Rattle.text_tree.specs.View.{view, member_views};
 ghost use Rattle.uc_case.specs.Given.{Gives};
 ghost use Rattle.uc_case.specs.Kept.{IsRange, AreRamps, IsPast};
 ghost use Rattle.uc_case.specs.Forms.{keys};
@@ -10,15 +10,15 @@ ghost use Rattle.uc_case.specs.Tables.{thermal_unit, renewable_unit, first_cross
 ghost use Rattle.uc_case.specs.Tables.{output, ramps, past};
 
 use crate::fault::{CaseCode, Field, Place};
-use crate::forms::{FieldStop, object_of};
+use crate::forms::{FieldStop, members_of};
 use crate::keys::Keys;
 use crate::lists::{read_piecewise, read_powers, read_startup};
 use crate::parts::{Output, Past, Ramps};
 use crate::windows::read_commitment;
 use std::alloc::Global;
+use text_tree::Branch;
 use uc_model::limits::{MOST_TIME, OUTPUT_LIMIT, POWER_LIMIT};
 use uc_model::units::{Renewable, Unit};
-use uc_text::Tree;
 
 const POWER: u64 = POWER_LIMIT as u64;
 
@@ -36,7 +36,7 @@ fn raised_to_one(time: u32) -> u32
 fn read_output(u: &Keys) -> Result<Output, FieldStop>
     ensures fits { IfOk result (λ o. IsRange o) }
     ensures value { Gives (λ o. o) result
-        (output (keys u.now.at (member_views u.now.members.now))) }
+        (output (keys u.now.at (member_views u.now.members.items))) }
 {
     let must_run = u.flag(Field::MustRun)?;
     let least = u.power(Field::PowerOutputMinimum, POWER)?;
@@ -57,7 +57,7 @@ fn read_output(u: &Keys) -> Result<Output, FieldStop>
 #[tactic(auto, unfolding(crate::specs::Tables::ramps))]
 fn read_ramps(u: &Keys) -> Result<Ramps, FieldStop>
     ensures fits { IfOk result (λ r. AreRamps r) }
-    ensures value { Gives (λ r. r) result (ramps (keys u.now.at (member_views u.now.members.now))) }
+    ensures value { Gives (λ r. r) result (ramps (keys u.now.at (member_views u.now.members.items))) }
 {
     let up = u.power(Field::RampUpLimit, POWER)?;
     let down = u.power(Field::RampDownLimit, POWER)?;
@@ -74,7 +74,7 @@ fn read_ramps(u: &Keys) -> Result<Ramps, FieldStop>
 #[tactic(auto, unfolding(crate::specs::Tables::past))]
 fn read_past(u: &Keys) -> Result<Past, FieldStop>
     ensures fits { IfOk result (λ p. IsPast p) }
-    ensures value { Gives (λ p. p) result (past (keys u.now.at (member_views u.now.members.now))) }
+    ensures value { Gives (λ p. p) result (past (keys u.now.at (member_views u.now.members.items))) }
 {
     let min_up = raised_to_one(u.time(Field::TimeUpMinimum, TIME)?);
     let min_down = raised_to_one(u.time(Field::TimeDownMinimum, TIME)?);
@@ -93,16 +93,16 @@ fn read_past(u: &Keys) -> Result<Past, FieldStop>
 }
 
 #[tactic(auto, unfolding(crate::specs::Tables::thermal_unit))]
-pub fn read_unit(alloc: Global, at: Place, tree: &Tree, periods: u32) -> Result<Unit, FieldStop>
+pub fn read_unit(alloc: Global, at: Place, branch: Branch<'_>, periods: u32) -> Result<Unit, FieldStop>
     requires some { 1 ≤ periods }
     requires horizon { periods ≤ 168 }
     ensures fits { IfOk result (λ u. IsThermalUnit (thermal_of u)) }
     ensures count { IfOk result (λ u. length u.window.items ≡ periods) }
-    ensures value { Gives thermal_of result (thermal_unit periods at (view tree.now)) }
+    ensures value { Gives thermal_of result (thermal_unit periods at (view branch.entry)) }
 {
     let u = Keys {
         at,
-        members: object_of(at, tree)?,
+        members: members_of(alloc, at, branch)?,
     };
     let output = read_output(&u)?;
     let ramps = read_ramps(&u)?;
@@ -151,18 +151,18 @@ fn first_crossing(least: &[i64], most: &[i64]) -> u32
 pub fn read_renewable(
     alloc: Global,
     at: Place,
-    tree: &Tree,
+    branch: Branch<'_>,
     periods: u32,
 ) -> Result<Renewable, FieldStop>
     requires some { 1 ≤ periods }
     requires horizon { periods ≤ 168 }
     ensures fits { IfOk result (λ r. IsRenewableUnit (renewable_of r)) }
     ensures count { IfOk result (λ r. length r.least.items ≡ periods) }
-    ensures value { Gives renewable_of result (renewable_unit periods at (view tree.now)) }
+    ensures value { Gives renewable_of result (renewable_unit periods at (view branch.entry)) }
 {
     let u = Keys {
         at,
-        members: object_of(at, tree)?,
+        members: members_of(alloc, at, branch)?,
     };
     let least = read_powers(alloc, &u, Field::PowerOutputMinimum, periods)?;
     let most = read_powers(alloc, &u, Field::PowerOutputMaximum, periods)?;

@@ -1,19 +1,19 @@
 //! The commitment window of a unit.
 ghost use Rattle.std.specs.Prelude.{◌≡◌, ◌≤◌, [], length, IfOk};
 ghost use Rattle.uc_text.specs.Values.{scalar, number as number_spec};
-ghost use Rattle.uc_text.specs.View.{view, views, member_views};
+ghost use Rattle.text_tree.specs.View.{view, views, member_views};
 ghost use Rattle.uc_case.specs.Given.{Gives};
 ghost use Rattle.uc_case.specs.Forms.{keys, key_or_none, items};
 ghost use Rattle.uc_case.specs.Tables.{mark, mark_in, commitment};
 
 use crate::fault::{CaseCode, Field, Place};
 use crate::forms::FieldStop;
-use crate::inside::{as_list, bit};
+use crate::inside::bit;
 use crate::keys::Keys;
 use std::alloc::Global;
+use text_tree::Branch;
 use uc_model::units::{Mark, Marks};
 use uc_num::Decimal;
-use uc_text::Tree;
 
 /// The mark of a period that the number 1 keeps on and the number 0 off.
 fn mark_set(number: Decimal) -> Option<Mark>
@@ -26,35 +26,33 @@ fn mark_set(number: Decimal) -> Option<Mark>
     }
 }
 
-fn mark_of(tree: &Tree) -> Option<Mark>
-    ensures { result ≡ mark_in (view tree.now) }
+fn mark_of(branch: Branch<'_>) -> Option<Mark>
+    ensures { result ≡ mark_in (view branch.entry) }
 {
-    match tree {
-        Tree::Null => Some(Mark::Free),
-        Tree::Number(small) => mark_set(small.decimal()),
-        Tree::LargeNumber(number) => mark_set(**number),
-        _ => None,
+    if branch.is_null() {
+        return Some(Mark::Free);
     }
+    mark_set(branch.number()?)
 }
 
-fn read_mark(at: Place, tree: &Tree) -> Result<Mark, FieldStop>
-    ensures { Gives (λ m. m) result (mark at [] (view tree.now)) }
+fn read_mark(at: Place, branch: Branch<'_>) -> Result<Mark, FieldStop>
+    ensures { Gives (λ m. m) result (mark at [] (view branch.entry)) }
 {
-    match mark_of(tree) {
+    match mark_of(branch) {
         Some(mark) => Ok(mark),
         None => Err(at.stop(CaseCode::WindowShape)),
     }
 }
 
-fn read_marks(alloc: Global, at: Place, trees: &[Tree]) -> Result<Marks, FieldStop>
-    requires { length trees.now ≤ 4096 }
-    ensures count { IfOk result (λ ms. length ms.items ≡ length trees.now) }
-    ensures value { Gives (λ ms. ms.items) result (items mark at (views trees.now)) }
+fn read_marks(alloc: Global, at: Place, branches: &[Branch<'_>]) -> Result<Marks, FieldStop>
+    requires { length branches.now ≤ 4096 }
+    ensures count { IfOk result (λ ms. length ms.items ≡ length branches.now) }
+    ensures value { Gives (λ ms. ms.items) result (items mark at (views branches.now)) }
 {
-    let mut marks = Marks::make(alloc, trees.len() as u32)?;
-    for tree in trees {
+    let mut marks = Marks::make(alloc, branches.len() as u32)?;
+    for branch in branches {
         let place = at.item(marks.len() as u32 + 1);
-        let mark = read_mark(place, tree)?;
+        let mark = read_mark(place, *branch)?;
         marks.push(mark);
     }
     Ok(marks)
@@ -65,18 +63,19 @@ pub fn read_commitment(alloc: Global, u: &Keys, periods: u32) -> Result<Marks, F
     requires { periods ≤ 168 }
     ensures count { IfOk result (λ ms. length ms.items ≡ periods) }
     ensures value { Gives (λ ms. ms.items) result
-        (key_or_none (keys u.now.at (member_views u.now.members.now)) Field.Commitment
+        (key_or_none (keys u.now.at (member_views u.now.members.items)) Field.Commitment
         (commitment periods)) }
 {
     let at = u.at.field(Field::Commitment);
-    let Some(tree) = u.find(Field::Commitment) else {
+    let Some(branch) = u.find(Field::Commitment) else {
         return Ok(Marks::filled(alloc, periods, Mark::Free)?);
     };
-    let Some(trees) = as_list(tree) else {
+    let Some(list) = branch.list() else {
         return Err(at.stop(CaseCode::WindowShape));
     };
-    if trees.len() != periods as usize {
+    if list.len() != periods as usize {
         return Err(at.stop(CaseCode::WindowShape));
     }
-    read_marks(alloc, at, trees)
+    let branches = list.items(alloc)?;
+    read_marks(alloc, at, &branches)
 }

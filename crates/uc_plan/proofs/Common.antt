@@ -22,7 +22,8 @@ pub use Rattle.uc_plan.specs.Plans.{Groups, Read, is_among, first_unknown, seat,
 unfoldable pub use Rattle.uc_plan.specs.Plans.{groups, all_known, schedules, plan_of, numbers, named, flat_schedule, schedule}
 pub use Rattle.uc_plan.specs.declared.fault.Seat.{Seat}
 pub use Rattle.uc_plan.specs.declared.fault.ShapeFault.{ShapeFault}
-pub use Rattle.uc_text.specs.Parts.{Pair, items_of, members_of}
-pub use Rattle.uc_text.specs.Values.{Value, scalar, number, list, object}
-pub use Rattle.uc_text.specs.View.{view, member_view, member_views, views}
-pub use Rattle.uc_text.specs.declared.tree.Tree.{Tree}
+pub use Rattle.text_tree.specs.Parts.{Pair, items_of, members_of}
+pub use Rattle.text_tree.specs.Values.{Value, scalar, number, list, object}
+pub use Rattle.text_tree.specs.View.{view, member_view, member_views, members_in, views}
+pub use Rattle.text_tree.specs.declared.branch.Branch.{Branch}
+pub use Rattle.text_tree.specs.declared.object.Member.{Member}

@@ -1,6 +1,5 @@
 -- Look-ups by name, while a map or a set of names is filled from the last one on.
-use Rattle.uc_plan.proofs.Common.{◌≡◌, ℕ, suc, ◌+◌, ◌-◌, ◌<◌, ◌≤◌, Bool, true, false, cond, List, [], length, map, get_or, drop, Option, Some, None, bytes_eq, refl, sym, ap, ◌∙◌, if◌then◌else◌, drop-cons, add-one, arith, Bor, option_map, nil_from_length, length-drop, Value, view, member_view, member_views, Tree, value_of, is_among, first_unknown}
-use Rattle.uc_text.specs.declared.tree.Member.{Member}
+use Rattle.uc_plan.proofs.Common.{◌≡◌, ℕ, suc, ◌+◌, ◌-◌, ◌<◌, ◌≤◌, Bool, true, false, cond, List, [], length, map, get_or, drop, Option, Some, None, bytes_eq, refl, sym, ap, ◌∙◌, if◌then◌else◌, drop-cons, add-one, arith, option_map, nil_from_length, length-drop, Value, view, member_view, member_views, Branch, Member, value_of, is_among, first_unknown}
 
 -- nothing is left behind the last one
 all_dropped : {A : Type 0} (xs : List A) (n : ℕ) → length xs ≤ n → drop n xs ≡ []
@@ -11,10 +10,7 @@ pub none_yet : (q : List ℕ) (ms : List Member) → value_of q (member_views (d
 unfolding value_of
 none_yet q ms = ap (λ rest. value_of q (member_views rest)) (all_dropped ms (length ms - 0) (omega arith))
 
-abbrev seen : Bor Tree → Value
-seen t = view t.now
-
-seen_cond : (b : Bool) (t : Bor Tree) (old : Option (Bor Tree)) → option_map seen (cond b (Some t) old) ≡ cond b (Some (seen t)) (option_map seen old)
+seen_cond : (b : Bool) (t : Branch) (old : Option Branch) → option_map view (cond b (Some t) old) ≡ cond b (Some (view t)) (option_map view old)
 seen_cond true t old = refl
 seen_cond false t old = refl
 
@@ -24,9 +20,9 @@ unfolding value_of
 value_split q ms i m lt is = rw (drop-cons ms i m lt, ← is, add-one i) refl
 
 -- one member more, before those that are in the map
-pub put_member : (q name : List ℕ) (ms : List Member) (done : ℕ) (m : Member) (t : Bor Tree) (old new : Option (Bor Tree)) → done < length ms → m ≡ get_or ms (length ms - 1 - done) m
-    → name ≡ (member_view m).name → view t.now ≡ (member_view m).value → new ≡ cond (bytes_eq name q) (Some t) old
-    → option_map seen old ≡ value_of q (member_views (drop (length ms - done) ms)) → option_map seen new ≡ value_of q (member_views (drop (length ms - (done + 1)) ms))
+pub put_member : (q name : List ℕ) (ms : List Member) (done : ℕ) (m : Member) (t : Branch) (old new : Option Branch) → done < length ms → m ≡ get_or ms (length ms - 1 - done) m
+    → name ≡ (member_view m).name → view t ≡ (member_view m).value → new ≡ cond (bytes_eq name q) (Some t) old
+    → option_map view old ≡ value_of q (member_views (drop (length ms - done) ms)) → option_map view new ≡ value_of q (member_views (drop (length ms - (done + 1)) ms))
 put_member q name ms done m t old new lt is name_is value_is put before =
     let i = length ms - 1 - done in
     let here : length ms - (done + 1) ≡ length ms - 1 - done = omega (arith, lt) in

@@ -1,17 +1,17 @@
 //! The numbers of a schedule.
 ghost use Rattle.std.specs.Prelude.{◌≡◌, ◌≤◌, IfOk, length};
 ghost use Rattle.uc_num.specs.Rounding.{rounded};
-ghost use Rattle.uc_text.specs.View.{view, views};
+ghost use Rattle.text_tree.specs.View.{view, views};
 ghost use Rattle.uc_case.specs.Given.{Gives};
 ghost use Rattle.uc_plan.specs.Plans.{kilowatts_of, kilowatts_in, flag_in, numbers};
 
 use crate::fault::{Seat, ShapeCode, ShapeStop};
 use std::alloc::Global;
-use uc_case::inside::{as_number, bit};
+use text_tree::Branch;
+use uc_case::inside::bit;
 use uc_model::limits::POWER_LIMIT;
 use uc_model::lists::{Flags, Powers};
 use uc_num::{Decimal, is_whole, whole};
-use uc_text::Tree;
 
 const MOST: u64 = POWER_LIMIT as u64;
 
@@ -31,32 +31,32 @@ fn kilowatts(d: Decimal) -> Option<u32>
     Some(number as u32)
 }
 
-fn kilowatts_at(tree: &Tree) -> Option<u32>
-    ensures { result ≡ kilowatts_in (view tree.now) }
+fn kilowatts_at(branch: Branch<'_>) -> Option<u32>
+    ensures { result ≡ kilowatts_in (view branch.entry) }
 {
-    match as_number(tree) {
+    match branch.number() {
         Some(d) => kilowatts(d),
         None => None,
     }
 }
 
-fn flag_at(tree: &Tree) -> Option<bool>
-    ensures { result ≡ flag_in (view tree.now) }
+fn flag_at(branch: Branch<'_>) -> Option<bool>
+    ensures { result ≡ flag_in (view branch.entry) }
 {
-    match as_number(tree) {
+    match branch.number() {
         Some(d) => bit(d),
         None => None,
     }
 }
 
-pub fn read_powers(alloc: Global, at: Seat, trees: &[Tree]) -> Result<Powers, ShapeStop>
-    requires { length trees.now ≤ 168 }
-    ensures count { IfOk result (λ ns. length ns.items ≡ length trees.now) }
-    ensures value { Gives (λ ns. ns.items) result (numbers kilowatts_in at (views trees.now)) }
+pub fn read_powers(alloc: Global, at: Seat, branches: &[Branch<'_>]) -> Result<Powers, ShapeStop>
+    requires { length branches.now ≤ 168 }
+    ensures count { IfOk result (λ ns. length ns.items ≡ length branches.now) }
+    ensures value { Gives (λ ns. ns.items) result (numbers kilowatts_in at (views branches.now)) }
 {
-    let mut powers = Powers::make(alloc, trees.len() as u32)?;
-    for tree in trees {
-        let Some(power) = kilowatts_at(tree) else {
+    let mut powers = Powers::make(alloc, branches.len() as u32)?;
+    for branch in branches {
+        let Some(power) = kilowatts_at(*branch) else {
             return Err(at.stop(powers.len() as u32 + 1, ShapeCode::PlanNumber));
         };
         powers.push(power);
@@ -64,14 +64,14 @@ pub fn read_powers(alloc: Global, at: Seat, trees: &[Tree]) -> Result<Powers, Sh
     Ok(powers)
 }
 
-pub fn read_flags(alloc: Global, at: Seat, trees: &[Tree]) -> Result<Flags, ShapeStop>
-    requires { length trees.now ≤ 168 }
-    ensures count { IfOk result (λ ns. length ns.items ≡ length trees.now) }
-    ensures value { Gives (λ ns. ns.items) result (numbers flag_in at (views trees.now)) }
+pub fn read_flags(alloc: Global, at: Seat, branches: &[Branch<'_>]) -> Result<Flags, ShapeStop>
+    requires { length branches.now ≤ 168 }
+    ensures count { IfOk result (λ ns. length ns.items ≡ length branches.now) }
+    ensures value { Gives (λ ns. ns.items) result (numbers flag_in at (views branches.now)) }
 {
-    let mut flags = Flags::make(alloc, trees.len() as u32)?;
-    for tree in trees {
-        let Some(flag) = flag_at(tree) else {
+    let mut flags = Flags::make(alloc, branches.len() as u32)?;
+    for branch in branches {
+        let Some(flag) = flag_at(*branch) else {
             return Err(at.stop(flags.len() as u32 + 1, ShapeCode::PlanNumber));
         };
         flags.push(flag);

@@ -1,12 +1,12 @@
 //! The schedules of all units of a case.
-ghost use Rattle.std.specs.Prelude.{◌≡◌, ◌≤◌, ◌+◌, ℕ, List, IfOk, OnOk, length, map, bytes_eq};
+ghost use Rattle.std.specs.Prelude.{◌≡◌, ◌≤◌, ◌+◌, ℕ, List, IfOk, OnOk, length, map};
 ghost use Rattle.std.specs.Option.{option_map};
-ghost use Rattle.indexmap.specs.IndexMap.{get_by};
+ghost use Rattle.indexmap.specs.IndexMap.{get_by_text};
 ghost use Rattle.uc_model.specs.Laws.{HasPlanShape};
 ghost use Rattle.uc_model.specs.PlainCases.{market_of, schedules_of};
 ghost use Rattle.uc_model.specs.PlainUnits.{schedule_of};
-ghost use Rattle.uc_text.specs.Parts.{Pair};
-ghost use Rattle.uc_text.specs.View.{view, member_views};
+ghost use Rattle.text_tree.specs.Parts.{Pair};
+ghost use Rattle.text_tree.specs.View.{view, members_in};
 ghost use Rattle.uc_case.specs.Given.{Gives};
 ghost use Rattle.uc_case.specs.Inside.{value_of};
 ghost use Rattle.uc_plan.specs.Added.{Adds, IsShaped};
@@ -19,25 +19,26 @@ use crate::shapes::read_groups;
 use crate::units::read_schedule;
 use indexmap::IndexMap;
 use std::alloc::Global;
+use text_tree::{Branch, ObjectBranch};
 use uc_case::fault::Kind;
 use uc_case::stop::Stop;
 use uc_model::cases::{Case, Plan};
 use uc_model::units::{Response, ResponseList};
-use uc_text::{Member, Tree};
 
 /// Refuses the first member whose name isn't that of a unit.
 #[tactic(auto, unfolding(crate::specs::Plans::all_known))]
 fn check_names<N: Named>(
     alloc: Global,
     kind: Kind,
-    members: &[Member],
+    object: ObjectBranch<'_>,
     units: &[N],
 ) -> Result<(), ShapeStop>
     ensures { Gives (λ _. tt) result
-        (all_known kind (map N.name_of units.now) (member_views members.now)) }
+        (all_known kind (map N.name_of units.now) (members_in object.entry)) }
 {
     let names = names_of(alloc, units)?;
-    let position = first_stranger(&names, members);
+    let members = object.members(alloc)?;
+    let position = first_stranger(alloc, &names, &members)?;
     if position > 0 {
         // There is no room for an object of so many members.
         let Ok(unit) = u32::try_from(position) else {
@@ -51,7 +52,7 @@ fn check_names<N: Named>(
 #[tactic(auto, unfolding(crate::specs::Plans::named))]
 fn read_named(
     alloc: Global,
-    values: &IndexMap<&str, &Tree>,
+    values: &IndexMap<String, Branch<'_>>,
     at: Seat,
     name: &str,
     periods: u32,
@@ -59,11 +60,11 @@ fn read_named(
     requires { periods ≤ 168 }
     ensures shape { IfOk result (λ r. IsShaped at.kind periods (schedule_of r)) }
     ensures value { (ms : List Pair)
-        → ((q : List ℕ) → option_map (λ t. view t.now) (get_by (λ k. bytes_eq q k.now) values.now)
-        ≡ value_of q ms) → Gives schedule_of result (named periods ms at name.now) }
+        → ((q : List ℕ) → option_map view (get_by_text values.now q) ≡ value_of q ms)
+        → Gives schedule_of result (named periods ms at name.now) }
 {
     match values.get(name) {
-        Some(tree) => read_schedule(alloc, at, tree, periods),
+        Some(branch) => read_schedule(alloc, at, *branch, periods),
         None => Err(at.stop(0, ShapeCode::MissingUnit)),
     }
 }
@@ -72,7 +73,7 @@ fn read_named(
 fn read_schedules<N: Named>(
     alloc: Global,
     kind: Kind,
-    members: &[Member],
+    object: ObjectBranch<'_>,
     units: &[N],
     periods: u32,
     plan: &mut ResponseList,
@@ -83,9 +84,10 @@ fn read_schedules<N: Named>(
     ensures spare { OnOk result (plan.new.spare + length units.now ≡ plan.old.spare) }
     ensures value { Adds (λ s. IsShaped kind periods s) (length units.now)
         (map schedule_of plan.old.items) (map schedule_of plan.new.items) result
-        (schedules periods kind (member_views members.now) (map N.name_of units.now)) }
+        (schedules periods kind (members_in object.entry) (map N.name_of units.now)) }
 {
-    let values = by_key(alloc, members)?;
+    let members = object.members(alloc)?;
+    let values = by_key(alloc, &members)?;
     let mut unit = 0;
     for named in units {
         unit += 1;
@@ -95,16 +97,16 @@ fn read_schedules<N: Named>(
     Ok(())
 }
 
-/// The plan of a tree, or the fault of the first test that fails.
+/// The plan of a tree's root, or the fault of the first test that fails.
 #[tactic(auto, unfolding(crate::specs::Plans::plan_of))]
-pub fn plan_of_tree(alloc: Global, case: &Case, tree: &Tree) -> Result<Plan, ShapeStop>
+pub fn plan_of_tree(alloc: Global, case: &Case, root: Branch<'_>) -> Result<Plan, ShapeStop>
     ensures shape { IfOk result (λ p. HasPlanShape (market_of case.now) (schedules_of p)) }
-    ensures value { Gives schedules_of result (plan_of (market_of case.now) (view tree.now)) }
+    ensures value { Gives schedules_of result (plan_of (market_of case.now) (view root.entry)) }
 {
     let thermal = case.thermal.as_slice();
     let flat = case.flat.as_slice();
     let bids = case.bids.as_slice();
-    let groups = read_groups(tree, bids.len())?;
+    let groups = read_groups(alloc, root, bids.len())?;
     check_names(alloc, Kind::Thermal, groups.thermal, thermal)?;
     check_names(alloc, Kind::Renewable, groups.renewable, flat)?;
     check_names(alloc, Kind::Bid, groups.bids, bids)?;

@@ -46,7 +46,7 @@ fn read_file(alloc: Global, case: &Case, bytes: &[u8]) -> Result<Plan, PlanFault
         Err(TextError::Fault(fault)) => return Err(PlanFault::Text(fault)),
         Err(TextError::Memory) => return Err(PlanFault::Memory),
     };
-    match plan_of_tree(alloc, case, &tree) {
+    match plan_of_tree(alloc, case, tree.root()) {
         Ok(plan) => Ok(plan),
         Err(Stop::Fault(fault)) => Err(PlanFault::Shape(fault)),
         Err(Stop::Memory) => Err(PlanFault::Memory),

@@ -1,82 +1,101 @@
 //! The objects and lists of a schedule.
-ghost use Rattle.std.specs.Prelude.{◌≡◌, IfSome, length, codes};
+ghost use Rattle.std.specs.Prelude.{◌≡◌, IfSome, [], length, codes};
 ghost use Rattle.std.specs.Option.{option_map};
-ghost use Rattle.uc_text.specs.View.{view, views, member_views};
+ghost use Rattle.text_tree.specs.View.{view, items_in, member_views, members_in};
 ghost use Rattle.uc_case.specs.Given.{Gives};
 ghost use Rattle.uc_case.specs.Inside.{value_of};
-ghost use Rattle.uc_plan.specs.Plans.{full_list, list_under, object_under, bids_in, groups};
+ghost use Rattle.uc_plan.specs.Plans.{full_list as full_list_spec, bids_in, groups};
+ghost use Rattle.uc_plan.specs.Plans.{list_under as list_under_spec};
+ghost use Rattle.uc_plan.specs.Plans.{object_under as object_under_spec};
 ghost use Rattle.uc_plan.specs.Views.{groups_of};
 
 use crate::fault::{Seat, ShapeCode, ShapeStop};
+use std::alloc::Global;
+use text_tree::{Branch, ListBranch, Member, ObjectBranch};
 use uc_case::fault::Kind;
-use uc_case::inside::{as_list, as_object, find};
-use uc_text::{Member, Tree};
+use uc_case::inside::find;
 
-/// The items of a list of an item for each period.
-pub fn full_items(tree: &Tree, periods: u32) -> Option<&[Tree]>
-    ensures count { IfSome result (λ s. length s.now ≡ periods) }
-    ensures value { option_map (λ s. views s.now) result ≡ full_list periods (view tree.now) }
+/// A list of an item for each period.
+pub fn full_list<'a>(branch: Branch<'a>, periods: u32) -> Option<ListBranch<'a>>
+    ensures count { IfSome result (λ l. length (items_in l) ≡ periods) }
+    ensures value { option_map items_in result ≡ full_list_spec periods (view branch.entry) }
 {
-    let items = as_list(tree)?;
-    if items.len() == periods as usize {
-        Some(items)
+    let list = branch.list()?;
+    if list.len() == periods as usize {
+        Some(list)
     } else {
         None
     }
 }
 
 /// Such a list under a key.
-pub fn items_under<'a>(members: &'a [Member], key: &str, periods: u32) -> Option<&'a [Tree]>
-    ensures count { IfSome result (λ s. length s.now ≡ periods) }
-    ensures value { option_map (λ s. views s.now) result
-        ≡ list_under periods key.now (member_views members.now) }
+pub fn list_under<'a>(members: &[Member<'a>], key: &str, periods: u32) -> Option<ListBranch<'a>>
+    ensures count { IfSome result (λ l. length (items_in l) ≡ periods) }
+    ensures value { option_map items_in result
+        ≡ list_under_spec periods key.now (member_views members.now) }
 {
-    full_items(find(members, key)?, periods)
+    full_list(find(members, key)?, periods)
 }
 
-fn members_under<'a>(members: &'a [Member], key: &str) -> Option<&'a [Member]>
-    ensures { option_map (λ s. member_views s.now) result
-        ≡ object_under key.now (member_views members.now) }
+fn object_under<'a>(members: &[Member<'a>], key: &str) -> Option<ObjectBranch<'a>>
+    ensures { option_map members_in result
+        ≡ object_under_spec key.now (member_views members.now) }
 {
-    as_object(find(members, key)?)
+    find(members, key)?.object()
 }
 
 /// The objects of a schedule, by unit name.
 #[derive(Clone, Copy)]
 pub struct Groups<'a> {
-    pub thermal: &'a [Member],
-    pub renewable: &'a [Member],
-    pub bids: &'a [Member],
+    pub thermal: ObjectBranch<'a>,
+    pub renewable: ObjectBranch<'a>,
+    pub bids: ObjectBranch<'a>,
 }
 
-fn bid_members<'a>(members: &'a [Member], bids: usize) -> Option<&'a [Member]>
-    ensures { option_map (λ s. member_views s.now) result
+/// An object without members.
+fn no_members<'a>() -> ObjectBranch<'a>
+    ensures { members_in result ≡ [] }
+{
+    ObjectBranch {
+        bytes: &[],
+        nodes: &[],
+        count: 0,
+    }
+}
+
+fn bids_object<'a>(members: &[Member<'a>], bids: usize) -> Option<ObjectBranch<'a>>
+    ensures { option_map members_in result
         ≡ bids_in bids (value_of (codes "bids") (member_views members.now)) }
 {
     match find(members, "bids") {
-        Some(tree) => as_object(tree),
-        None => { if bids == 0 { Some(&[]) } else { None } }
+        Some(branch) => branch.object(),
+        None => { if bids == 0 { Some(no_members()) } else { None } }
     }
 }
 
 #[tactic(auto, unfolding(crate::specs::Plans::groups))]
-pub fn read_groups<'a>(tree: &'a Tree, bids: usize) -> Result<Groups<'a>, ShapeStop>
-    ensures { Gives groups_of result (groups bids (view tree.now)) }
+pub fn read_groups<'a>(
+    alloc: Global,
+    root: Branch<'a>,
+    bids: usize,
+) -> Result<Groups<'a>, ShapeStop>
+    ensures { Gives groups_of result (groups bids (view root.entry)) }
 {
     let whole = Seat {
         kind: Kind::Case,
         unit: 0,
     };
-    let Some(members) = as_object(tree) else {
+    let Some(object) = root.object() else {
         return Err(whole.stop(0, ShapeCode::PlanShape));
     };
-    let Some(thermal) = members_under(members, "thermal") else {
+    let members = object.members(alloc)?;
+    let Some(thermal) = object_under(&members, "thermal") else {
         return Err(whole.stop(0, ShapeCode::PlanShape));
     };
-    let Some(renewable) = members_under(members, "renewable") else {
+    let Some(renewable) = object_under(&members, "renewable") else {
         return Err(whole.stop(0, ShapeCode::PlanShape));
     };
-    let Some(bids) = bid_members(members, bids) else {
+    let Some(bids) = bids_object(&members, bids) else {
         return Err(whole.stop(0, ShapeCode::PlanShape));
     };
     Ok(Groups {

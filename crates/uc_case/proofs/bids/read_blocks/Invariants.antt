@@ -1,10 +1,10 @@
 use Rattle.uc_case.proofs.Common.{◌≡◌, ◌+◌, ◌≤◌, [], length, drop, views, AreBlocks, each, block}
 use Rattle.uc_case.proofs.bids.read_blocks.Given as goal
 
-abbrev pub invariant-loop-tree : goal.invariant-loop-tree
-invariant-loop-tree l = record {
-  count : length l.blocks.items ≡ l.tree-index;
-  room : length l.trees ≤ l.blocks.spare + l.tree-index;
+abbrev pub invariant-loop-branch : goal.invariant-loop-branch
+invariant-loop-branch l = record {
+  count : length l.blocks.items ≡ l.branch-index;
+  room : length l.branches ≤ l.blocks.spare + l.branch-index;
   fits : AreBlocks l.blocks.items;
-  so_far : each (block l.at) l.blocks.items (views (drop l.tree-index l.trees)) ≡ each (block l.at) [] (views l.trees);
+  so_far : each (block l.at) l.blocks.items (views (drop l.branch-index l.branches)) ≡ each (block l.at) [] (views l.branches);
 }

@@ -1,6 +1,6 @@
-use Rattle.uc_plan.proofs.Common.{◌≡◌, ℕ, ◌-◌, List, length, drop, bytes_eq, option_map, view, member_views, value_of}
-use Rattle.indexmap.specs.IndexMap.{get_by}
+use Rattle.uc_plan.proofs.Common.{◌≡◌, ℕ, ◌-◌, List, length, drop, option_map, view, member_views, value_of}
+use Rattle.indexmap.specs.IndexMap.{get_by_text}
 use Rattle.uc_plan.proofs.lookup.by_key.Given as goal
 
 abbrev pub invariant-loop-done : goal.invariant-loop-done
-invariant-loop-done l = (q : List ℕ) → option_map (λ t. view t.now) (get_by (λ k. bytes_eq q k.now) l.values) ≡ value_of q (member_views (drop (length l.members - l.done) l.members))
+invariant-loop-done l = (q : List ℕ) → option_map view (get_by_text l.values q) ≡ value_of q (member_views (drop (length l.members - l.done) l.members))

@@ -2,23 +2,23 @@ use Rattle.uc_plan.proofs.Common.{sym, arith, counted, kilowatts_in}
 use Rattle.uc_plan.proofs.Lemmas.{number_goes_on, number_ends, numbers_done, numbers_begin}
 use Rattle.uc_plan.proofs.numbers.read_powers.Goals as goal
 
-pub loop-tree-init : goal.loop-tree-init
-loop-tree-init c = record {
+pub loop-branch-init : goal.loop-branch-init
+loop-branch-init c = record {
   count = rw c.in_ok-powers.ensures.empty (omega arith);
   room = omega (arith, c.in_ok-powers.ensures.room);
-  so_far = rw c.in_ok-powers.ensures.empty (numbers_begin kilowatts_in c.args.at c.args.trees.now);
+  so_far = rw c.in_ok-powers.ensures.empty (numbers_begin kilowatts_in c.args.at c.args.branches.now);
 }
 
 pub returns-in_default-clause-value : goal.returns-in_default-clause-value
 returns-in_default-clause-value c =
-    number_ends c.stop.result kilowatts_in c.args.at c.args.trees.now c.loop-tree.tree-index c.tree-item.result c.loop-tree.powers.items c.len.result c.loop-tree-test.true c.tree-item.is (sym c.in_default.ensures) c.len.ensures c.stop.ensures c.loop-tree.invariant.so_far
+    number_ends c.stop.result kilowatts_in c.args.at c.args.branches.now c.loop-branch.branch-index c.branch-item.result c.loop-branch.powers.items c.len.result c.loop-branch-test.true c.branch-item.is (sym c.in_default.ensures) c.len.ensures c.stop.ensures c.loop-branch.invariant.so_far
 
-pub loop-tree-preserved : goal.loop-tree-preserved
-loop-tree-preserved c = record {
-  count = counted c.loop-tree.powers.items c.push.new.self.items c.in-Some.power c.loop-tree.tree-index c.push.ensures.items c.loop-tree.invariant.count;
-  room = omega (arith, c.push.ensures.spare, c.loop-tree.invariant.room);
-  so_far = rw c.push.ensures.items (number_goes_on kilowatts_in c.args.at c.args.trees.now c.loop-tree.tree-index c.tree-item.result c.loop-tree.powers.items c.in-Some.power c.loop-tree-test.true c.tree-item.is (sym c.in-Some.ensures) c.loop-tree.invariant.so_far);
+pub loop-branch-preserved : goal.loop-branch-preserved
+loop-branch-preserved c = record {
+  count = counted c.loop-branch.powers.items c.push.new.self.items c.in-Some.power c.loop-branch.branch-index c.push.ensures.items c.loop-branch.invariant.count;
+  room = omega (arith, c.push.ensures.spare, c.loop-branch.invariant.room);
+  so_far = rw c.push.ensures.items (number_goes_on kilowatts_in c.args.at c.args.branches.now c.loop-branch.branch-index c.branch-item.result c.loop-branch.powers.items c.in-Some.power c.loop-branch-test.true c.branch-item.is (sym c.in-Some.ensures) c.loop-branch.invariant.so_far);
 }
 
 pub returns-clause-value : goal.returns-clause-value
-returns-clause-value c = numbers_done kilowatts_in c.args.at c.args.trees.now c.loop-tree.tree-index c.loop-tree.powers.items c.loop-tree-test.false c.loop-tree.invariant.so_far
+returns-clause-value c = numbers_done kilowatts_in c.args.at c.args.branches.now c.loop-branch.branch-index c.loop-branch.powers.items c.loop-branch-test.false c.loop-branch.invariant.so_far

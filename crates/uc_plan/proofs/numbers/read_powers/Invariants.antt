@@ -2,9 +2,9 @@ use Rattle.uc_plan.proofs.Common.{◌≡◌, ◌+◌, ◌≤◌, length, drop, v
 use Rattle.uc_plan.proofs.Lemmas.{one_number}
 use Rattle.uc_plan.proofs.numbers.read_powers.Given as goal
 
-abbrev pub invariant-loop-tree : goal.invariant-loop-tree
-invariant-loop-tree l = record {
-  count : length l.powers.items ≡ l.tree-index;
-  room : length l.trees ≤ l.powers.spare + l.tree-index;
-  so_far : each (one_number kilowatts_in l.at) l.powers.items (views (drop l.tree-index l.trees)) ≡ numbers kilowatts_in l.at (views l.trees);
+abbrev pub invariant-loop-branch : goal.invariant-loop-branch
+invariant-loop-branch l = record {
+  count : length l.powers.items ≡ l.branch-index;
+  room : length l.branches ≤ l.powers.spare + l.branch-index;
+  so_far : each (one_number kilowatts_in l.at) l.powers.items (views (drop l.branch-index l.branches)) ≡ numbers kilowatts_in l.at (views l.branches);
 }

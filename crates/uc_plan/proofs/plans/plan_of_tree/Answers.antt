@@ -6,7 +6,7 @@ use Rattle.uc_plan.proofs.plans.plan_of_tree.Goals as goal
 pub returns-in_err-check_names-clause-value : goal.returns-in_err-check_names-clause-value
 returns-in_err-check_names-clause-value c =
     let m = market_of c.args.case.now in
-    let v = view c.args.tree.now in
+    let v = view c.args.root in
     let g = groups_of c.in_ok-groups.groups in
     let found = rw (c.as_slice-bids.ensures, ← length-map c.args.case.now.bids.items named_bid_of) at c.in_ok-groups.ensures in
     let fails = rw (c.as_slice-thermal.ensures, ← thermal_named c.args.case.now.thermal.items) at c.in_err-check_names.ensures in
@@ -16,7 +16,7 @@ returns-in_err-check_names-clause-value c =
 pub returns-in_err-check_names-2-clause-value : goal.returns-in_err-check_names-2-clause-value
 returns-in_err-check_names-2-clause-value c =
     let m = market_of c.args.case.now in
-    let v = view c.args.tree.now in
+    let v = view c.args.root in
     let g = groups_of c.in_ok-groups.groups in
     let found = rw (c.as_slice-bids.ensures, ← length-map c.args.case.now.bids.items named_bid_of) at c.in_ok-groups.ensures in
     let t_known = rw (c.as_slice-thermal.ensures, ← thermal_named c.args.case.now.thermal.items) at c.in_ok-check_names.ensures in
@@ -27,7 +27,7 @@ returns-in_err-check_names-2-clause-value c =
 pub returns-in_err-check_names-3-clause-value : goal.returns-in_err-check_names-3-clause-value
 returns-in_err-check_names-3-clause-value c =
     let m = market_of c.args.case.now in
-    let v = view c.args.tree.now in
+    let v = view c.args.root in
     let g = groups_of c.in_ok-groups.groups in
     let found = rw (c.as_slice-bids.ensures, ← length-map c.args.case.now.bids.items named_bid_of) at c.in_ok-groups.ensures in
     let t_known = rw (c.as_slice-thermal.ensures, ← thermal_named c.args.case.now.thermal.items) at c.in_ok-check_names.ensures in
@@ -39,7 +39,7 @@ returns-in_err-check_names-3-clause-value c =
 pub returns-in_err-read_schedules-clause-value : goal.returns-in_err-read_schedules-clause-value
 returns-in_err-read_schedules-clause-value c =
     let m = market_of c.args.case.now in
-    let v = view c.args.tree.now in
+    let v = view c.args.root in
     let g = groups_of c.in_ok-groups.groups in
     let found = rw (c.as_slice-bids.ensures, ← length-map c.args.case.now.bids.items named_bid_of) at c.in_ok-groups.ensures in
     let t_known = rw (c.as_slice-thermal.ensures, ← thermal_named c.args.case.now.thermal.items) at c.in_ok-check_names.ensures in
@@ -52,7 +52,7 @@ returns-in_err-read_schedules-clause-value c =
 pub returns-in_err-read_schedules-2-clause-value : goal.returns-in_err-read_schedules-2-clause-value
 returns-in_err-read_schedules-2-clause-value c =
     let m = market_of c.args.case.now in
-    let v = view c.args.tree.now in
+    let v = view c.args.root in
     let g = groups_of c.in_ok-groups.groups in
     let found = rw (c.as_slice-bids.ensures, ← length-map c.args.case.now.bids.items named_bid_of) at c.in_ok-groups.ensures in
     let t_known = rw (c.as_slice-thermal.ensures, ← thermal_named c.args.case.now.thermal.items) at c.in_ok-check_names.ensures in
@@ -67,7 +67,7 @@ returns-in_err-read_schedules-2-clause-value c =
 pub returns-in_err-read_schedules-3-clause-value : goal.returns-in_err-read_schedules-3-clause-value
 returns-in_err-read_schedules-3-clause-value c =
     let m = market_of c.args.case.now in
-    let v = view c.args.tree.now in
+    let v = view c.args.root in
     let g = groups_of c.in_ok-groups.groups in
     let found = rw (c.as_slice-bids.ensures, ← length-map c.args.case.now.bids.items named_bid_of) at c.in_ok-groups.ensures in
     let t_known = rw (c.as_slice-thermal.ensures, ← thermal_named c.args.case.now.thermal.items) at c.in_ok-check_names.ensures in
@@ -84,7 +84,7 @@ returns-in_err-read_schedules-3-clause-value c =
 pub returns-clause-value : goal.returns-clause-value
 returns-clause-value c =
     let m = market_of c.args.case.now in
-    let v = view c.args.tree.now in
+    let v = view c.args.root in
     let g = groups_of c.in_ok-groups.groups in
     let found = rw (c.as_slice-bids.ensures, ← length-map c.args.case.now.bids.items named_bid_of) at c.in_ok-groups.ensures in
     let t_known = rw (c.as_slice-thermal.ensures, ← thermal_named c.args.case.now.thermal.items) at c.in_ok-check_names.ensures in
