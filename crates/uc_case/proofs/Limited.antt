@@ -2,6 +2,7 @@
 use Rattle.uc_case.proofs.Common.{◌≡◌, ℕ, zero, suc, ◌<◌, ◌≤◌, Bool, true, false, List, [], ◌∷◌, length, map, get_or, Ok, Err, refl, sym, ◌∙◌, if◌then◌else◌, arith, w64, to_z, of_z, ℤ, pos, ◌≤ℤ◌, int_lt, nat_lt, All, ints, to_z-of_z, Lag, Point, Block, IsPower, IsOutput, IsThermalUnit, IsRenewableUnit, Spans, Value, IsRange, AreRamps, IsPast, AreLags, ArePoints, fault, each, first_crossed, block, period_blocks, Place}
 use Rattle.uc_model.specs.declared.units.Mark.{Mark}
 use Rattle.uc_model.specs.Sums.{total}
+use Rattle.uc_model.specs.declared.limits.TheConstants.{MOST_PERIODS, MOST_LAGS, MOST_POINTS, MOST_BLOCKS, POWER_LIMIT}
 use Rattle.uc_case.specs.Forms.{list}
 use Rattle.uc_case.specs.declared.fault.CaseCode.TheVariants as codes
 use Rattle.uc_case.specs.declared.parts.Output.{Output}
@@ -17,8 +18,8 @@ pub output_stored : (n : ℤ) → IsOutput n → to_z w64 (of_z w64 n) ≡ n
 output_stored n is = to_z-of_z w64 n (omega (arith, ints, is.at_least, is.at_most))
 
 pub thermal_fits : (o : Output) (r : Ramps) (p : Past) (lags : List Lag) (points : List Point) (window : List Mark) (periods : ℕ)
-    → IsRange o → AreRamps r → IsPast p → length lags ≤ 32 → AreLags lags → length points ≤ 32 → 1 ≤ length points → ArePoints points → Spans points o.least o.most
-    → length window ≡ periods → 1 ≤ periods → periods ≤ 168
+    → IsRange o → AreRamps r → IsPast p → length lags ≤ MOST_LAGS → AreLags lags → length points ≤ MOST_POINTS → 1 ≤ length points → ArePoints points → Spans points o.least o.most
+    → length window ≡ periods → 1 ≤ periods → periods ≤ MOST_PERIODS
     → IsThermalUnit (record {
       must_run = o.must_run;
       min_power = o.least;
@@ -75,7 +76,7 @@ uncrossed j (l ∷ ls) (m ∷ ms) some none same zero lt = int_not_below m l (fi
 uncrossed j (l ∷ ls) (m ∷ ms) some none same (suc k) lt =
     uncrossed (suc j) ls ms (omega (arith, some)) (first_fails (int_lt m l) j (first_crossed (suc j) ls ms) some none).1 (omega (arith, same)) k (omega (arith, lt))
 
-pub renewable_fits : (least most : List ℤ) (periods crossed : ℕ) → length least ≡ periods → length most ≡ periods → 1 ≤ periods → periods ≤ 168 → All (λ n. IsPower n) least → All (λ n. IsPower n) most
+pub renewable_fits : (least most : List ℤ) (periods crossed : ℕ) → length least ≡ periods → length most ≡ periods → 1 ≤ periods → periods ≤ MOST_PERIODS → All (λ n. IsPower n) least → All (λ n. IsPower n) most
     → crossed ≡ first_crossed 1 least most → crossed ≤ 0 → IsRenewableUnit (record { least = least; most = most })
 renewable_fits least most periods crossed count count_most some horizon least_fits most_fits crossed_is none =
     let same : length least ≡ length most = count ∙ sym count_most in
@@ -90,13 +91,13 @@ renewable_fits least most periods crossed count count_most some horizon least_fi
 
 -- ---- the blocks of a period
 
-few : (n : ℕ) → n ≤ 8 → nat_lt 8 n ≡ false
+few : (n : ℕ) → n ≤ MOST_BLOCKS → nat_lt MOST_BLOCKS n ≡ false
 few n le = grind (arith, le)
 
-pub period_read : (at : Place) (v : Value) (vs : List Value) (bs : List Block) → list at v ≡ Ok vs → length vs ≤ 8 → each (block at) [] vs ≡ Ok bs → int_lt (pos 1000000000) (total (map (λ (b : Block). b.width) bs)) ≡ false → period_blocks at [] v ≡ Ok bs
+pub period_read : (at : Place) (v : Value) (vs : List Value) (bs : List Block) → list at v ≡ Ok vs → length vs ≤ MOST_BLOCKS → each (block at) [] vs ≡ Ok bs → int_lt POWER_LIMIT (total (map (λ (b : Block). b.width) bs)) ≡ false → period_blocks at [] v ≡ Ok bs
 unfolding period_blocks
 period_read at v vs bs listed count read fits = rw (listed, few (length vs) count, read, fits) refl
 
-pub period_refused : (at : Place) (v : Value) (vs : List Value) (bs : List Block) → list at v ≡ Ok vs → length vs ≤ 8 → each (block at) [] vs ≡ Ok bs → int_lt (pos 1000000000) (total (map (λ (b : Block). b.width) bs)) ≡ true → period_blocks at [] v ≡ Err (fault at codes.TooLarge)
+pub period_refused : (at : Place) (v : Value) (vs : List Value) (bs : List Block) → list at v ≡ Ok vs → length vs ≤ MOST_BLOCKS → each (block at) [] vs ≡ Ok bs → int_lt POWER_LIMIT (total (map (λ (b : Block). b.width) bs)) ≡ true → period_blocks at [] v ≡ Err (fault at codes.TooLarge)
 unfolding period_blocks
 period_refused at v vs bs listed count read wide = rw (listed, few (length vs) count, read, wide) refl

@@ -3,6 +3,7 @@
 use Rattle.std.specs.Prelude.{ℕ, ◌&&◌, ◌==◌, nat_lt, List, [], length, Option, Some, None, Ok}
 use Rattle.uc_model.specs.declared.kinds.Kind.{Kind}
 use Rattle.uc_model.specs.declared.kinds.Kind.TheVariants.{Case, Thermal, Renewable, Bid}
+use Rattle.uc_model.specs.declared.limits.TheConstants.{MOST_PERIODS, MOST_OF_A_KIND}
 use Rattle.uc_model.specs.Data.{NamedThermalUnit, NamedRenewableUnit, NamedBidUnit, Market}
 use Rattle.text_tree.specs.Values.{Value}
 use Rattle.text_tree.specs.Parts.{Pair}
@@ -38,7 +39,7 @@ each_member field kind read ms = each (λ before. read (place field kind (positi
 unfoldable pub units : {A : Type 0} → Field → Kind → (Place → Pair → Read A) → Place → Value → Read (List A)
 units field kind read at v = do
   ms ← object at v
-  refuse (fault at TooLarge) (nat_lt 4096 (length ms))
+  refuse (fault at TooLarge) (nat_lt MOST_OF_A_KIND (length ms))
   each_member field kind read ms
 
 -- an absent one is an empty one
@@ -53,7 +54,7 @@ unfoldable pub case_of : Value → Read Market
 case_of v = do
   ms ← object whole v
   let c = keys whole ms
-  periods ← key c TimePeriods (time_within 168)
+  periods ← key c TimePeriods (time_within MOST_PERIODS)
   refuse (fault (field_at whole TimePeriods) NoPeriods) (periods == 0)
   demand ← key c Demand (powers periods)
   reserves ← key c Reserves (powers periods)

@@ -1,11 +1,13 @@
 -- The forms of a case file's fields: each reads one value at a place, with its tests in order.
 use Rattle.std.specs.Prelude.{ℕ, Bool, List, [], Option, Result, Ok, ℤ, pos, nat_abs, unsigned_abs, nat_lt, int_lt, not}
+use Rattle.uc_model.specs.declared.limits.TheConstants.{MOST_TIME}
 use Rattle.uc_num.specs.declared.Decimal.{Decimal}
 use Rattle.uc_num.specs.Rounding.{rounded}
 use Rattle.text_tree.specs.Values.{Value}
 use Rattle.text_tree.specs.Parts.{Pair}
 use Rattle.uc_case.specs.Inside.{number_in, list_in, object_in, value_of, is_whole, bit_of}
 use Rattle.uc_case.specs.Places.{fault, field_at, item_at, key_of}
+use Rattle.uc_case.specs.Magnitudes.{most_cost}
 use Rattle.uc_case.specs.Words.{◌>>=◌, ◌>>◌, refuse, need, each, position}
 use Rattle.uc_case.specs.declared.fault.CaseCode.TheVariants.{Missing, WrongKind, NotWhole, Negative, TooLarge, NotFlag}
 use Rattle.uc_case.specs.declared.fault.Field.{Field}
@@ -41,11 +43,11 @@ power = amount 3
 unfoldable pub cost : Place → Value → Read ℤ
 cost at v = do
   d ← decimal at v
-  refuse (fault at TooLarge) (nat_lt 10000000000000 (unsigned_abs (rounded d 6)))
+  refuse (fault at TooLarge) (nat_lt most_cost (unsigned_abs (rounded d 6)))
   Ok (rounded d 6)
 
 abbrev pub start_cost : Place → Value → Read ℤ
-start_cost = amount 6 10000000000000
+start_cost = amount 6 most_cost
 
 unfoldable pub time_within : ℕ → Place → Value → Read ℕ
 time_within limit at v = do
@@ -56,7 +58,7 @@ time_within limit at v = do
   Ok (nat_abs (rounded d 0))
 
 abbrev pub time : Place → Value → Read ℕ
-time = time_within 1000000
+time = time_within MOST_TIME
 
 unfoldable pub flag : Place → Value → Read Bool
 flag at v = do

@@ -1,6 +1,7 @@
 pub mod Places
 pub mod Inside
 pub mod Words
+pub mod Magnitudes
 pub mod Forms
 pub mod Tables
 pub mod Cases

@@ -7,10 +7,12 @@ use Rattle.uc_model.specs.declared.units.Point.{Point}
 use Rattle.uc_model.specs.declared.units.Block.{Block}
 use Rattle.uc_model.specs.declared.units.Mark.{Mark}
 use Rattle.uc_model.specs.declared.units.Mark.TheVariants.{Free, MustOff, MustOn}
+use Rattle.uc_model.specs.declared.limits.TheConstants.{MOST_LAGS, MOST_POINTS, MOST_BLOCKS, POWER_LIMIT}
 use Rattle.uc_model.specs.Data.{ThermalUnit, RenewableUnit, BidUnit}
 use Rattle.uc_model.specs.Sums.{total}
 use Rattle.text_tree.specs.Values.{Value, scalar, null, number}
 use Rattle.uc_case.specs.Inside.{list_in, bit_of}
+use Rattle.uc_case.specs.Magnitudes.{most_power, most_output, most_price}
 use Rattle.uc_case.specs.Places.{fault, field_at, item_at}
 use Rattle.uc_case.specs.Words.{◌>>=◌, ◌>>◌, refuse, need, each, last_is}
 use Rattle.uc_case.specs.Forms.{Read, Keys, keys, key, key_or_none, part, items, list, object, amount, power, cost, start_cost, time, flag}
@@ -34,7 +36,7 @@ lag at before v = do
 unfoldable pub startup : Place → Value → Read (List Lag)
 startup at v = do
   vs ← list at v
-  refuse (fault at TooLarge) (nat_lt 32 (length vs))
+  refuse (fault at TooLarge) (nat_lt MOST_LAGS (length vs))
   items lag at vs
 
 -- ---- piecewise_production
@@ -42,7 +44,7 @@ startup at v = do
 unfoldable pub point : Place → List Point → Value → Read Point
 point at before v = do
   o ← object at v
-  mw ← part at (codes "mw") (power 1000000000) o
+  mw ← part at (codes "mw") (power most_power) o
   cost ← part at (codes "cost") cost o
   refuse (fault at CurveOrder) (last_is (λ (b : Point). int_lt mw b.at) before)
   Ok (record { at = mw; cost = cost })
@@ -55,7 +57,7 @@ ends_miss low high ps =
 unfoldable pub piecewise : ℤ → ℤ → Place → Value → Read (List Point)
 piecewise low high at v = do
   vs ← list at v
-  refuse (fault at TooLarge) (nat_lt 32 (length vs))
+  refuse (fault at TooLarge) (nat_lt MOST_POINTS (length vs))
   ps ← items point at vs
   refuse (fault at CurveEnds) (ends_miss low high ps)
   Ok ps
@@ -87,24 +89,24 @@ at_least_one n = if n == 0 then 1 else n
 unfoldable pub output : Keys → Read Output
 output u = do
   must_run ← key u MustRun flag
-  least ← key u PowerOutputMinimum (power 1000000000)
-  most ← key u PowerOutputMaximum (power 10000000)
+  least ← key u PowerOutputMinimum (power most_power)
+  most ← key u PowerOutputMaximum (power most_output)
   refuse (fault (field_at u.at PowerOutputMinimum) RangeOrder) (int_lt most least)
   Ok (record { must_run = must_run; least = least; most = most })
 
 unfoldable pub ramps : Keys → Read Ramps
 ramps u = do
-  up ← key u RampUpLimit (power 1000000000)
-  down ← key u RampDownLimit (power 1000000000)
-  start ← key u RampStartupLimit (power 1000000000)
-  stop ← key u RampShutdownLimit (power 1000000000)
+  up ← key u RampUpLimit (power most_power)
+  down ← key u RampDownLimit (power most_power)
+  start ← key u RampStartupLimit (power most_power)
+  stop ← key u RampShutdownLimit (power most_power)
   Ok (record { up = up; down = down; start = start; stop = stop })
 
 unfoldable pub past : Keys → Read Past
 past u = do
   min_up ← key u TimeUpMinimum time
   min_down ← key u TimeDownMinimum time
-  power ← key u PowerOutputT0 (power 10000000)
+  power ← key u PowerOutputT0 (power most_output)
   on ← key u UnitOnT0 flag
   up ← key u TimeUpT0 time
   down ← key u TimeDownT0 time
@@ -143,7 +145,7 @@ thermal_unit periods at v = do
 
 -- a power of a list, whatever stands before it
 abbrev pub one_power : Place → List ℤ → Value → Read ℤ
-one_power at before = power 1000000000 at
+one_power at before = power most_power at
 
 unfoldable pub powers : ℕ → Place → Value → Read (List ℤ)
 powers periods at v = do
@@ -170,12 +172,12 @@ renewable_unit periods at v = do
 
 -- in money for a kilowatt and period
 abbrev pub price : Place → Value → Read ℤ
-price = amount 3 10000000
+price = amount 3 most_price
 
 unfoldable pub block : Place → List Block → Value → Read Block
 block at before v = do
   o ← object at v
-  mw ← part at (codes "mw") (power 1000000000) o
+  mw ← part at (codes "mw") (power most_power) o
   price ← part at (codes "price") price o
   refuse (fault at BlockOrder) (last_is (λ (b : Block). int_lt b.price price) before)
   Ok (record { width = mw; price = price })
@@ -184,9 +186,9 @@ block at before v = do
 unfoldable pub period_blocks : Place → List (List Block) → Value → Read (List Block)
 period_blocks at before v = do
   vs ← list at v
-  refuse (fault at TooLarge) (nat_lt 8 (length vs))
+  refuse (fault at TooLarge) (nat_lt MOST_BLOCKS (length vs))
   bs ← each (block at) [] vs
-  refuse (fault at TooLarge) (int_lt (pos 1000000000) (total (map (λ (b : Block). b.width) bs)))
+  refuse (fault at TooLarge) (int_lt POWER_LIMIT (total (map (λ (b : Block). b.width) bs)))
   Ok bs
 
 unfoldable pub blocks : ℕ → Place → Value → Read (List (List Block))

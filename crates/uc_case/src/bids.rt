@@ -6,6 +6,7 @@ ghost use Rattle.uc_model.specs.PlainUnits.{bid_of};
 ghost use Rattle.uc_model.specs.Reserved.{items_in};
 ghost use Rattle.uc_model.specs.Sums.{total};
 ghost use Rattle.uc_model.specs.declared.units.Block.{Block as PlainBlock};
+ghost use Rattle.uc_model.specs.declared.limits.TheConstants.{MOST_BLOCKS, MOST_OF_A_KIND, MOST_PERIODS};
 ghost use Rattle.text_tree.specs.View.{view, views, member_views};
 ghost use Rattle.uc_case.specs.Given.{Gives};
 ghost use Rattle.uc_case.specs.Kept.{AreBlocks};
@@ -16,13 +17,12 @@ ghost use Rattle.uc_case.specs.Tables.{block, period_blocks, blocks, bid_unit};
 use crate::fault::{CaseCode, Field, Place};
 use crate::forms::{FieldStop, list_of, members_of, read_amount, read_power, value_under};
 use crate::keys::Keys;
+use crate::limits::{BLOCKS, POWER, PRICE};
 use std::alloc::Global;
 use text_tree::Branch;
-use uc_model::limits::{MOST_BLOCKS, POWER_LIMIT};
+use uc_model::limits::POWER_LIMIT;
 use uc_model::money::total_width;
 use uc_model::units::{Bid, Block, BlockLists, Blocks};
-
-const BLOCKS: usize = MOST_BLOCKS as usize;
 
 #[tactic(auto, unfolding(crate::specs::Tables::block))]
 fn read_block(
@@ -37,8 +37,8 @@ fn read_block(
     ensures value { Gives (λ b. b) result (block at before.now (view branch.entry)) }
 {
     let members = members_of(alloc, at, branch)?;
-    let width = read_power(at, value_under(at, &members, "mw")?, 1_000_000_000)?;
-    let price = read_amount(at, value_under(at, &members, "price")?, 3, 10_000_000)?;
+    let width = read_power(at, value_under(at, &members, "mw")?, POWER)?;
+    let price = read_amount(at, value_under(at, &members, "price")?, 3, PRICE)?;
     if let Some(last) = before.last() {
         if last.price < price {
             return Err(at.stop(CaseCode::BlockOrder));
@@ -48,7 +48,7 @@ fn read_block(
 }
 
 fn read_blocks(alloc: Global, at: Place, branches: &[Branch<'_>]) -> Result<Blocks, FieldStop>
-    requires { length branches.now ≤ 8 }
+    requires { length branches.now ≤ MOST_BLOCKS }
     ensures count { IfOk result (λ bs. length bs.items ≡ length branches.now) }
     ensures fits { IfOk result (λ bs. AreBlocks bs.items) }
     ensures value { Gives (λ bs. bs.items) result (each (block at) [] (views branches.now)) }
@@ -79,7 +79,7 @@ fn read_period(alloc: Global, at: Place, branch: Branch<'_>) -> Result<Blocks, F
 }
 
 fn read_periods(alloc: Global, at: Place, branches: &[Branch<'_>]) -> Result<BlockLists, FieldStop>
-    requires { length branches.now ≤ 4096 }
+    requires { length branches.now ≤ MOST_OF_A_KIND }
     ensures count { IfOk result (λ ls. length ls.items ≡ length branches.now) }
     ensures fits { IfOk result (λ ls. All (λ bs. IsBlockList bs) (map items_in ls.items)) }
     ensures value { Gives (λ ls. map items_in ls.items) result
@@ -96,7 +96,7 @@ fn read_periods(alloc: Global, at: Place, branches: &[Branch<'_>]) -> Result<Blo
 
 #[tactic(auto, unfolding(crate::specs::Tables::blocks))]
 fn read_block_lists(alloc: Global, u: &Keys, periods: u32) -> Result<BlockLists, FieldStop>
-    requires { periods ≤ 168 }
+    requires { periods ≤ MOST_PERIODS }
     ensures count { IfOk result (λ ls. length ls.items ≡ periods) }
     ensures fits { IfOk result (λ ls. All (λ bs. IsBlockList bs) (map items_in ls.items)) }
     ensures value { Gives (λ ls. map items_in ls.items) result
@@ -112,9 +112,14 @@ fn read_block_lists(alloc: Global, u: &Keys, periods: u32) -> Result<BlockLists,
 }
 
 #[tactic(auto, unfolding(crate::specs::Tables::bid_unit))]
-pub fn read_bid(alloc: Global, at: Place, branch: Branch<'_>, periods: u32) -> Result<Bid, FieldStop>
+pub fn read_bid(
+    alloc: Global,
+    at: Place,
+    branch: Branch<'_>,
+    periods: u32,
+) -> Result<Bid, FieldStop>
     requires some { 1 ≤ periods }
-    requires horizon { periods ≤ 168 }
+    requires horizon { periods ≤ MOST_PERIODS }
     ensures fits { IfOk result (λ b. IsBidUnit (bid_of b)) }
     ensures count { IfOk result (λ b. length b.blocks.items ≡ periods) }
     ensures value { Gives bid_of result (bid_unit periods at (view branch.entry)) }

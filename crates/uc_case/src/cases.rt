@@ -3,6 +3,7 @@ ghost use Rattle.std.specs.Prelude.{◌≡◌, ◌≤◌, IfOk, length, map};
 ghost use Rattle.std.specs.List.{All};
 ghost use Rattle.uc_model.specs.PlainCases.{market_of};
 ghost use Rattle.uc_model.specs.PlainUnits.{named_thermal_of, named_renewable_of, named_bid_of};
+ghost use Rattle.uc_model.specs.declared.limits.TheConstants.{MOST_OF_A_KIND, MOST_PERIODS};
 ghost use Rattle.text_tree.specs.View.{view, member_view, member_views};
 ghost use Rattle.uc_case.specs.Given.{Gives};
 ghost use Rattle.uc_case.specs.Kept.{IsThermalOf, IsRenewableOf, IsBidOf};
@@ -14,19 +15,15 @@ use crate::bids::read_bid;
 use crate::fault::{CaseCode, Field, Kind, Place};
 use crate::forms::{FieldStop, members_of, object_of};
 use crate::keys::Keys;
+use crate::limits::{PERIODS, UNITS};
 use crate::lists::read_powers;
 use crate::units::{read_renewable, read_unit};
 use std::alloc::{AllocError, Global};
 use text_tokens::text_of;
 use text_tree::{Branch, Member};
 use uc_model::cases::Case;
-use uc_model::limits::{MOST_OF_A_KIND, MOST_PERIODS};
 use uc_model::lists::Name;
 use uc_model::units::{BidList, FlatList, NamedBid, NamedFlat, NamedUnit, ThermalList};
-
-const MOST_UNITS: usize = MOST_OF_A_KIND as usize;
-
-const PERIODS: u64 = MOST_PERIODS as u64;
 
 fn unit_place(field: Field, kind: Kind, unit: u32) -> Place
     ensures { result ≡ place field kind unit }
@@ -55,7 +52,7 @@ fn read_named_unit(
     periods: u32,
 ) -> Result<NamedUnit, FieldStop>
     requires some { 1 ≤ periods }
-    requires horizon { periods ≤ 168 }
+    requires horizon { periods ≤ MOST_PERIODS }
     ensures fits { IfOk result (λ n. IsThermalOf periods (named_thermal_of n)) }
     ensures value { Gives named_thermal_of result (thermal periods at (member_view member.now)) }
 {
@@ -64,10 +61,14 @@ fn read_named_unit(
     Ok(NamedUnit { name, unit })
 }
 
-fn read_thermal(alloc: Global, members: &[Member<'_>], periods: u32) -> Result<ThermalList, FieldStop>
-    requires few { length members.now ≤ 4096 }
+fn read_thermal(
+    alloc: Global,
+    members: &[Member<'_>],
+    periods: u32,
+) -> Result<ThermalList, FieldStop>
+    requires few { length members.now ≤ MOST_OF_A_KIND }
     requires some { 1 ≤ periods }
-    requires horizon { periods ≤ 168 }
+    requires horizon { periods ≤ MOST_PERIODS }
     ensures count { IfOk result (λ l. length l.items ≡ length members.now) }
     ensures fits { IfOk result (λ l. All (λ n. IsThermalOf periods n)
         (map named_thermal_of l.items)) }
@@ -96,15 +97,15 @@ fn read_thermal_units(
     periods: u32,
 ) -> Result<ThermalList, FieldStop>
     requires some { 1 ≤ periods }
-    requires horizon { periods ≤ 168 }
-    ensures count { IfOk result (λ l. length l.items ≤ 4096) }
+    requires horizon { periods ≤ MOST_PERIODS }
+    ensures count { IfOk result (λ l. length l.items ≤ MOST_OF_A_KIND) }
     ensures fits { IfOk result (λ l. All (λ n. IsThermalOf periods n)
         (map named_thermal_of l.items)) }
     ensures value { Gives (λ l. map named_thermal_of l.items) result
         (units Field.ThermalGenerators Kind.Thermal (thermal periods) at (view branch.entry)) }
 {
     let object = object_of(at, branch)?;
-    if object.len() > MOST_UNITS {
+    if object.len() > UNITS {
         return Err(at.stop(CaseCode::TooLarge));
     }
     let members = object.members(alloc)?;
@@ -119,7 +120,7 @@ fn read_named_flat(
     periods: u32,
 ) -> Result<NamedFlat, FieldStop>
     requires some { 1 ≤ periods }
-    requires horizon { periods ≤ 168 }
+    requires horizon { periods ≤ MOST_PERIODS }
     ensures fits { IfOk result (λ n. IsRenewableOf periods (named_renewable_of n)) }
     ensures value { Gives named_renewable_of result
         (renewable periods at (member_view member.now)) }
@@ -130,9 +131,9 @@ fn read_named_flat(
 }
 
 fn read_flat(alloc: Global, members: &[Member<'_>], periods: u32) -> Result<FlatList, FieldStop>
-    requires few { length members.now ≤ 4096 }
+    requires few { length members.now ≤ MOST_OF_A_KIND }
     requires some { 1 ≤ periods }
-    requires horizon { periods ≤ 168 }
+    requires horizon { periods ≤ MOST_PERIODS }
     ensures count { IfOk result (λ l. length l.items ≡ length members.now) }
     ensures fits { IfOk result (λ l. All (λ n. IsRenewableOf periods n)
         (map named_renewable_of l.items)) }
@@ -161,15 +162,15 @@ fn read_flat_units(
     periods: u32,
 ) -> Result<FlatList, FieldStop>
     requires some { 1 ≤ periods }
-    requires horizon { periods ≤ 168 }
-    ensures count { IfOk result (λ l. length l.items ≤ 4096) }
+    requires horizon { periods ≤ MOST_PERIODS }
+    ensures count { IfOk result (λ l. length l.items ≤ MOST_OF_A_KIND) }
     ensures fits { IfOk result (λ l. All (λ n. IsRenewableOf periods n)
         (map named_renewable_of l.items)) }
     ensures value { Gives (λ l. map named_renewable_of l.items) result
         (units Field.RenewableGenerators Kind.Renewable (renewable periods) at (view branch.entry)) }
 {
     let object = object_of(at, branch)?;
-    if object.len() > MOST_UNITS {
+    if object.len() > UNITS {
         return Err(at.stop(CaseCode::TooLarge));
     }
     let members = object.members(alloc)?;
@@ -184,7 +185,7 @@ fn read_named_bid(
     periods: u32,
 ) -> Result<NamedBid, FieldStop>
     requires some { 1 ≤ periods }
-    requires horizon { periods ≤ 168 }
+    requires horizon { periods ≤ MOST_PERIODS }
     ensures fits { IfOk result (λ n. IsBidOf periods (named_bid_of n)) }
     ensures value { Gives named_bid_of result (bid periods at (member_view member.now)) }
 {
@@ -194,9 +195,9 @@ fn read_named_bid(
 }
 
 fn read_bids(alloc: Global, members: &[Member<'_>], periods: u32) -> Result<BidList, FieldStop>
-    requires few { length members.now ≤ 4096 }
+    requires few { length members.now ≤ MOST_OF_A_KIND }
     requires some { 1 ≤ periods }
-    requires horizon { periods ≤ 168 }
+    requires horizon { periods ≤ MOST_PERIODS }
     ensures count { IfOk result (λ l. length l.items ≡ length members.now) }
     ensures fits { IfOk result (λ l. All (λ n. IsBidOf periods n) (map named_bid_of l.items)) }
     ensures value { Gives (λ l. map named_bid_of l.items) result
@@ -212,16 +213,21 @@ fn read_bids(alloc: Global, members: &[Member<'_>], periods: u32) -> Result<BidL
 }
 
 #[tactic(auto, unfolding(crate::specs::Cases::units))]
-fn read_bid_units(alloc: Global, at: Place, branch: Branch<'_>, periods: u32) -> Result<BidList, FieldStop>
+fn read_bid_units(
+    alloc: Global,
+    at: Place,
+    branch: Branch<'_>,
+    periods: u32,
+) -> Result<BidList, FieldStop>
     requires some { 1 ≤ periods }
-    requires horizon { periods ≤ 168 }
-    ensures count { IfOk result (λ l. length l.items ≤ 4096) }
+    requires horizon { periods ≤ MOST_PERIODS }
+    ensures count { IfOk result (λ l. length l.items ≤ MOST_OF_A_KIND) }
     ensures fits { IfOk result (λ l. All (λ n. IsBidOf periods n) (map named_bid_of l.items)) }
     ensures value { Gives (λ l. map named_bid_of l.items) result
         (units Field.DemandBids Kind.Bid (bid periods) at (view branch.entry)) }
 {
     let object = object_of(at, branch)?;
-    if object.len() > MOST_UNITS {
+    if object.len() > UNITS {
         return Err(at.stop(CaseCode::TooLarge));
     }
     let members = object.members(alloc)?;
@@ -231,8 +237,8 @@ fn read_bid_units(alloc: Global, at: Place, branch: Branch<'_>, periods: u32) ->
 #[tactic(auto, unfolding(crate::specs::Cases::bids))]
 fn read_demand_bids(alloc: Global, c: &Keys, periods: u32) -> Result<BidList, FieldStop>
     requires some { 1 ≤ periods }
-    requires horizon { periods ≤ 168 }
-    ensures count { IfOk result (λ l. length l.items ≤ 4096) }
+    requires horizon { periods ≤ MOST_PERIODS }
+    ensures count { IfOk result (λ l. length l.items ≤ MOST_OF_A_KIND) }
     ensures fits { IfOk result (λ l. All (λ n. IsBidOf periods n) (map named_bid_of l.items)) }
     ensures value { Gives (λ l. map named_bid_of l.items) result
         (key_or_none (keys c.now.at (member_views c.now.members.items)) Field.DemandBids

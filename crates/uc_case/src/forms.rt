@@ -1,6 +1,7 @@
 //! The forms of fields: each reads one value, and its faults are at the place.
-ghost use Rattle.std.specs.Prelude.{◌≡◌, ◌≤◌, ◌^◌, IfOk, pos, neg_ℤ};
-ghost use Rattle.uc_model.specs.Limits.{IsFrom};
+ghost use Rattle.std.specs.Prelude.{◌≡◌, ◌≤◌, ◌^◌, IfOk, pos};
+ghost use Rattle.uc_model.specs.Limits.{IsCost, IsFrom, IsStartCost};
+ghost use Rattle.uc_model.specs.declared.limits.TheConstants.{MOST_TIME};
 ghost use Rattle.text_tree.specs.View.{view, items_in, members_in, member_views};
 ghost use Rattle.uc_case.specs.Given.{Gives};
 ghost use Rattle.uc_case.specs.Places.{fault};
@@ -10,6 +11,7 @@ ghost use Rattle.uc_case.specs.declared.stop.Stop.TheVariants as stops;
 
 use crate::fault::{CaseCode, FieldFault, Place};
 use crate::inside::{bit, find};
+use crate::limits::COST;
 use crate::stop::Stop;
 use std::alloc::Global;
 use text_tree::{Branch, ListBranch, Member, ObjectBranch};
@@ -17,8 +19,6 @@ use uc_num::{Decimal, is_whole, whole};
 
 /// Why the reading of a case stops.
 pub type FieldStop = Stop<FieldFault>;
-
-const COST: u64 = COST_LIMIT as u64;
 
 impl Place {
     /// The stop at a test that failed here.
@@ -97,7 +97,7 @@ pub fn read_power(at: Place, branch: Branch<'_>, limit: u64) -> Result<i64, Fiel
 /// Money of a point of a curve, which may be below 0.
 #[tactic(auto, unfolding(crate::specs::Forms::cost), using(crate::proofs::Fits::within))]
 pub fn read_cost(at: Place, branch: Branch<'_>) -> Result<i64, FieldStop>
-    ensures bound { IfOk result (λ n. IsFrom (neg_ℤ (pos 10000000000000)) (pos 10000000000000) n) }
+    ensures bound { IfOk result (λ n. IsCost n) }
     ensures value { Gives (λ n. n) result (cost at (view branch.entry)) }
 {
     let d = number_of(at, branch)?;
@@ -109,7 +109,7 @@ pub fn read_cost(at: Place, branch: Branch<'_>) -> Result<i64, FieldStop>
 
 /// Money of a start, which isn't below 0.
 pub fn read_start_cost(at: Place, branch: Branch<'_>) -> Result<i64, FieldStop>
-    ensures bound { IfOk result (λ n. IsFrom (pos 0) (pos 10000000000000) n) }
+    ensures bound { IfOk result (λ n. IsStartCost n) }
     ensures value { Gives (λ n. n) result (start_cost at (view branch.entry)) }
 {
     read_amount(at, branch, 6, COST)
@@ -118,7 +118,7 @@ pub fn read_start_cost(at: Place, branch: Branch<'_>) -> Result<i64, FieldStop>
 /// A number of periods.
 #[tactic(auto, unfolding(crate::specs::Forms::time_within))]
 pub fn read_time(at: Place, branch: Branch<'_>, limit: u64) -> Result<u32, FieldStop>
-    requires { limit ≤ 1000000 }
+    requires { limit ≤ MOST_TIME }
     ensures bound { IfOk result (λ n. n ≤ limit) }
     ensures value { Gives (λ n. n) result (time_within limit at (view branch.entry)) }
 {

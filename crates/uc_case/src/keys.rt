@@ -2,6 +2,7 @@
 ghost use Rattle.std.specs.Prelude.{◌≡◌, ◌≤◌, ◌^◌, IfOk, pos};
 ghost use Rattle.std.specs.Option.{option_map};
 ghost use Rattle.uc_model.specs.Limits.{IsFrom};
+ghost use Rattle.uc_model.specs.declared.limits.TheConstants.{MOST_TIME};
 ghost use Rattle.text_tree.specs.View.{view, member_views};
 ghost use Rattle.uc_case.specs.Given.{Gives};
 ghost use Rattle.uc_case.specs.Inside.{value_of};
@@ -53,7 +54,7 @@ impl<'a> Keys<'a> {
     }
 
     pub fn time(&self, field: Field, limit: u64) -> Result<u32, FieldStop>
-        requires { limit ≤ 1000000 }
+        requires { limit ≤ MOST_TIME }
         ensures bound { IfOk result (λ n. n ≤ limit) }
         ensures value { Gives (λ n. n) result
             (key (keys self.now.at (member_views self.now.members.items)) field (time_within limit)) }

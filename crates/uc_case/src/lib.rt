@@ -9,6 +9,7 @@ mod forms;
 pub mod inside;
 mod keys;
 pub mod laws;
+mod limits;
 mod lists;
 mod parts;
 mod read;

@@ -4,6 +4,8 @@ ghost use Rattle.std.specs.List.{All};
 ghost use Rattle.uc_model.specs.Limits.{IsLag, IsPoint, IsPower, Spans};
 ghost use Rattle.uc_model.specs.declared.units.Lag.{Lag as PlainLag};
 ghost use Rattle.uc_model.specs.declared.units.Point.{Point as PlainPoint};
+ghost use Rattle.uc_model.specs.declared.limits.TheConstants.{MOST_OF_A_KIND, MOST_PERIODS};
+ghost use Rattle.uc_model.specs.declared.limits.TheConstants.{MOST_LAGS, MOST_POINTS};
 ghost use Rattle.text_tree.specs.View.{view, views, member_views};
 ghost use Rattle.uc_case.specs.Given.{Gives};
 ghost use Rattle.uc_case.specs.Kept.{AreLags, ArePoints};
@@ -17,25 +19,21 @@ use crate::forms::{
     FieldStop, list_of, members_of, read_cost, read_power, read_start_cost, read_time, value_under,
 };
 use crate::keys::Keys;
+use crate::limits::{LAGS, POINTS, POWER, TIME};
 use std::alloc::Global;
 use text_tree::Branch;
 use uc_model::lists::Numbers;
 use uc_model::units::{Lag, Lags, Point, Points};
 
 #[tactic(auto, unfolding(crate::specs::Tables::lag))]
-fn read_lag(
-    alloc: Global,
-    at: Place,
-    before: &[Lag],
-    branch: Branch<'_>,
-) -> Result<Lag, FieldStop>
+fn read_lag(alloc: Global, at: Place, before: &[Lag], branch: Branch<'_>) -> Result<Lag, FieldStop>
     ensures fits { IfOk result (λ l. IsLag l) }
     ensures order { IfOk result (λ l. last_is (λ (b : PlainLag). nat_lt l.lag b.lag) before.now
         ≡ false) }
     ensures value { Gives (λ l. l) result (lag at before.now (view branch.entry)) }
 {
     let members = members_of(alloc, at, branch)?;
-    let lag = read_time(at, value_under(at, &members, "lag")?, 1_000_000)?;
+    let lag = read_time(at, value_under(at, &members, "lag")?, TIME)?;
     let cost = read_start_cost(at, value_under(at, &members, "cost")?)?;
     if let Some(last) = before.last() {
         if lag < last.lag {
@@ -46,7 +44,7 @@ fn read_lag(
 }
 
 fn read_lags(alloc: Global, at: Place, branches: &[Branch<'_>]) -> Result<Lags, FieldStop>
-    requires { length branches.now ≤ 4096 }
+    requires { length branches.now ≤ MOST_OF_A_KIND }
     ensures count { IfOk result (λ ls. length ls.items ≡ length branches.now) }
     ensures fits { IfOk result (λ ls. AreLags ls.items) }
     ensures value { Gives (λ ls. ls.items) result (items lag at (views branches.now)) }
@@ -62,14 +60,14 @@ fn read_lags(alloc: Global, at: Place, branches: &[Branch<'_>]) -> Result<Lags, 
 
 #[tactic(auto, unfolding(crate::specs::Tables::startup))]
 pub fn read_startup(alloc: Global, u: &Keys) -> Result<Lags, FieldStop>
-    ensures count { IfOk result (λ ls. length ls.items ≤ 32) }
+    ensures count { IfOk result (λ ls. length ls.items ≤ MOST_LAGS) }
     ensures fits { IfOk result (λ ls. AreLags ls.items) }
     ensures value { Gives (λ ls. ls.items) result
         (key (keys u.now.at (member_views u.now.members.items)) Field.Startup startup) }
 {
     let at = u.at.field(Field::Startup);
     let list = list_of(at, u.value(Field::Startup)?)?;
-    if list.len() > 32 {
+    if list.len() > LAGS {
         return Err(at.stop(CaseCode::TooLarge));
     }
     let branches = list.items(alloc)?;
@@ -89,7 +87,7 @@ fn read_point(
     ensures value { Gives (λ p. p) result (point at before.now (view branch.entry)) }
 {
     let members = members_of(alloc, at, branch)?;
-    let mw = read_power(at, value_under(at, &members, "mw")?, 1_000_000_000)?;
+    let mw = read_power(at, value_under(at, &members, "mw")?, POWER)?;
     let cost = read_cost(at, value_under(at, &members, "cost")?)?;
     if let Some(last) = before.last() {
         if mw < last.at {
@@ -100,7 +98,7 @@ fn read_point(
 }
 
 fn read_points(alloc: Global, at: Place, branches: &[Branch<'_>]) -> Result<Points, FieldStop>
-    requires { length branches.now ≤ 4096 }
+    requires { length branches.now ≤ MOST_OF_A_KIND }
     ensures count { IfOk result (λ ps. length ps.items ≡ length branches.now) }
     ensures fits { IfOk result (λ ps. ArePoints ps.items) }
     ensures value { Gives (λ ps. ps.items) result (items point at (views branches.now)) }
@@ -131,7 +129,7 @@ fn misses_ends(low: i64, high: i64, points: &[Point]) -> bool
 
 #[tactic(auto, using(crate::proofs::Ordered::spans), unfolding(crate::specs::Tables::piecewise))]
 pub fn read_piecewise(alloc: Global, u: &Keys, low: i64, high: i64) -> Result<Points, FieldStop>
-    ensures count { IfOk result (λ ps. length ps.items ≤ 32) }
+    ensures count { IfOk result (λ ps. length ps.items ≤ MOST_POINTS) }
     ensures some { IfOk result (λ ps. 1 ≤ length ps.items) }
     ensures fits { IfOk result (λ ps. ArePoints ps.items) }
     ensures span { IfOk result (λ ps. Spans ps.items low high) }
@@ -141,7 +139,7 @@ pub fn read_piecewise(alloc: Global, u: &Keys, low: i64, high: i64) -> Result<Po
 {
     let at = u.at.field(Field::PiecewiseProduction);
     let list = list_of(at, u.value(Field::PiecewiseProduction)?)?;
-    if list.len() > 32 {
+    if list.len() > POINTS {
         return Err(at.stop(CaseCode::TooLarge));
     }
     let branches = list.items(alloc)?;
@@ -153,7 +151,7 @@ pub fn read_piecewise(alloc: Global, u: &Keys, low: i64, high: i64) -> Result<Po
 }
 
 fn read_numbers(alloc: Global, at: Place, branches: &[Branch<'_>]) -> Result<Numbers, FieldStop>
-    requires { length branches.now ≤ 4096 }
+    requires { length branches.now ≤ MOST_OF_A_KIND }
     ensures count { IfOk result (λ ns. length ns.items ≡ length branches.now) }
     ensures fits { IfOk result (λ ns. All (λ n. IsPower n) ns.items) }
     ensures value { Gives (λ ns. ns.items) result (items one_power at (views branches.now)) }
@@ -161,7 +159,7 @@ fn read_numbers(alloc: Global, at: Place, branches: &[Branch<'_>]) -> Result<Num
     let mut numbers = Numbers::make(alloc, branches.len() as u32)?;
     for branch in branches {
         let place = at.item(numbers.len() as u32 + 1);
-        let number = read_power(place, *branch, 1_000_000_000)?;
+        let number = read_power(place, *branch, POWER)?;
         numbers.push(number);
     }
     Ok(numbers)
@@ -174,7 +172,7 @@ pub fn read_powers(
     field: Field,
     periods: u32,
 ) -> Result<Numbers, FieldStop>
-    requires { periods ≤ 168 }
+    requires { periods ≤ MOST_PERIODS }
     ensures count { IfOk result (λ ns. length ns.items ≡ periods) }
     ensures fits { IfOk result (λ ns. All (λ n. IsPower n) ns.items) }
     ensures value { Gives (λ ns. ns.items) result

@@ -2,6 +2,7 @@
 ghost use Rattle.std.specs.Prelude.{◌≡◌, ◌≤◌, Result, length};
 ghost use Rattle.uc_model.specs.Data.{Market};
 ghost use Rattle.uc_model.specs.PlainCases.{market_of};
+ghost use Rattle.uc_model.specs.declared.limits.TheConstants.{MOST_BYTES};
 ghost use Rattle.uc_case.specs.CaseFiles.{IsCaseOf, IfRead};
 ghost use Rattle.uc_case.specs.Files.{FileFault};
 ghost use Rattle.uc_case.specs.declared.fault.FieldFault.{FieldFault as PlainFault};
@@ -22,7 +23,7 @@ use uc_text::{TextError, read_tree};
 /// first test that fails, in the order of the tables: the keys of the case, the thermal units in
 /// file order, the renewable ones, the bids, and last that there is a unit.
 pub fn read_case(alloc: Global, bytes: &[u8]) -> Result<Case, CaseFault>
-    requires { length bytes.now ≤ 67108864 }
+    requires { length bytes.now ≤ MOST_BYTES }
     // The answer is what the file is.
     ensures answer { IfRead market_of result (λ r. IsCaseOf bytes.now r) }
     // What the file is, is answered.
@@ -34,7 +35,7 @@ pub fn read_case(alloc: Global, bytes: &[u8]) -> Result<Case, CaseFault>
 }
 
 fn read_file(alloc: Global, bytes: &[u8]) -> Result<Case, CaseFault>
-    requires { length bytes.now ≤ 67108864 }
+    requires { length bytes.now ≤ MOST_BYTES }
     ensures { IfRead market_of result (λ r. IsCaseOf bytes.now r) }
 {
     let tree = match read_tree(alloc, bytes) {

@@ -2,6 +2,7 @@
 ghost use Rattle.std.specs.Prelude.{◌≡◌, ◌≤◌, IfOk, length};
 ghost use Rattle.uc_model.specs.PlainUnits.{thermal_of, renewable_of};
 ghost use Rattle.uc_model.specs.Limits.{IsThermalUnit, IsRenewableUnit};
+ghost use Rattle.uc_model.specs.declared.limits.TheConstants.{MOST_PERIODS};
 ghost use Rattle.text_tree.specs.View.{view, member_views};
 ghost use Rattle.uc_case.specs.Given.{Gives};
 ghost use Rattle.uc_case.specs.Kept.{IsRange, AreRamps, IsPast};
@@ -12,19 +13,13 @@ ghost use Rattle.uc_case.specs.Tables.{output, ramps, past};
 use crate::fault::{CaseCode, Field, Place};
 use crate::forms::{FieldStop, members_of};
 use crate::keys::Keys;
+use crate::limits::{OUTPUT, POWER, TIME};
 use crate::lists::{read_piecewise, read_powers, read_startup};
 use crate::parts::{Output, Past, Ramps};
 use crate::windows::read_commitment;
 use std::alloc::Global;
 use text_tree::Branch;
-use uc_model::limits::{MOST_TIME, OUTPUT_LIMIT, POWER_LIMIT};
 use uc_model::units::{Renewable, Unit};
-
-const POWER: u64 = POWER_LIMIT as u64;
-
-const OUTPUT: u64 = OUTPUT_LIMIT as u64;
-
-const TIME: u64 = MOST_TIME as u64;
 
 fn raised_to_one(time: u32) -> u32
     ensures { result ≡ at_least_one time }
@@ -93,9 +88,14 @@ fn read_past(u: &Keys) -> Result<Past, FieldStop>
 }
 
 #[tactic(auto, unfolding(crate::specs::Tables::thermal_unit))]
-pub fn read_unit(alloc: Global, at: Place, branch: Branch<'_>, periods: u32) -> Result<Unit, FieldStop>
+pub fn read_unit(
+    alloc: Global,
+    at: Place,
+    branch: Branch<'_>,
+    periods: u32,
+) -> Result<Unit, FieldStop>
     requires some { 1 ≤ periods }
-    requires horizon { periods ≤ 168 }
+    requires horizon { periods ≤ MOST_PERIODS }
     ensures fits { IfOk result (λ u. IsThermalUnit (thermal_of u)) }
     ensures count { IfOk result (λ u. length u.window.items ≡ periods) }
     ensures value { Gives thermal_of result (thermal_unit periods at (view branch.entry)) }
@@ -132,7 +132,7 @@ pub fn read_unit(alloc: Global, at: Place, branch: Branch<'_>, periods: u32) -> 
 
 /// The position of the first least power above its greatest, or 0.
 fn first_crossing(least: &[i64], most: &[i64]) -> u32
-    requires one { length least.now ≤ 168 }
+    requires one { length least.now ≤ MOST_PERIODS }
     requires same { length most.now ≡ length least.now }
     ensures { result ≡ first_crossed 1 least.now most.now }
 {
@@ -155,7 +155,7 @@ pub fn read_renewable(
     periods: u32,
 ) -> Result<Renewable, FieldStop>
     requires some { 1 ≤ periods }
-    requires horizon { periods ≤ 168 }
+    requires horizon { periods ≤ MOST_PERIODS }
     ensures fits { IfOk result (λ r. IsRenewableUnit (renewable_of r)) }
     ensures count { IfOk result (λ r. length r.least.items ≡ periods) }
     ensures value { Gives renewable_of result (renewable_unit periods at (view branch.entry)) }

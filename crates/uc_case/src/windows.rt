@@ -1,5 +1,6 @@
 //! The commitment window of a unit.
 ghost use Rattle.std.specs.Prelude.{◌≡◌, ◌≤◌, [], length, IfOk};
+ghost use Rattle.uc_model.specs.declared.limits.TheConstants.{MOST_OF_A_KIND, MOST_PERIODS};
 ghost use Rattle.uc_text.specs.Values.{scalar, number as number_spec};
 ghost use Rattle.text_tree.specs.View.{view, views, member_views};
 ghost use Rattle.uc_case.specs.Given.{Gives};
@@ -45,7 +46,7 @@ fn read_mark(at: Place, branch: Branch<'_>) -> Result<Mark, FieldStop>
 }
 
 fn read_marks(alloc: Global, at: Place, branches: &[Branch<'_>]) -> Result<Marks, FieldStop>
-    requires { length branches.now ≤ 4096 }
+    requires { length branches.now ≤ MOST_OF_A_KIND }
     ensures count { IfOk result (λ ms. length ms.items ≡ length branches.now) }
     ensures value { Gives (λ ms. ms.items) result (items mark at (views branches.now)) }
 {
@@ -60,7 +61,7 @@ fn read_marks(alloc: Global, at: Place, branches: &[Branch<'_>]) -> Result<Marks
 
 #[tactic(auto, unfolding(crate::specs::Tables::commitment))]
 pub fn read_commitment(alloc: Global, u: &Keys, periods: u32) -> Result<Marks, FieldStop>
-    requires { periods ≤ 168 }
+    requires { periods ≤ MOST_PERIODS }
     ensures count { IfOk result (λ ms. length ms.items ≡ periods) }
     ensures value { Gives (λ ms. ms.items) result
         (key_or_none (keys u.now.at (member_views u.now.members.items)) Field.Commitment

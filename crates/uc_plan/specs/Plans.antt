@@ -10,6 +10,7 @@ use Rattle.uc_num.specs.Rounding.{rounded}
 use Rattle.text_tree.specs.Values.{Value}
 use Rattle.text_tree.specs.Parts.{Pair}
 use Rattle.uc_case.specs.Inside.{number_in, list_in, object_in, value_of, is_whole, bit_of}
+use Rattle.uc_case.specs.Magnitudes.{most_power}
 use Rattle.uc_case.specs.Words.{◌>>=◌, ◌>>◌, refuse, need, each, position}
 use Rattle.uc_plan.specs.Shapes.{fault}
 use Rattle.uc_plan.specs.declared.fault.Seat.{Seat}
@@ -29,7 +30,7 @@ seat kind unit = record { kind = kind; unit = unit }
 abbrev pub kilowatts_of : Decimal → Option ℕ
 kilowatts_of d =
     if not (is_whole d) then None
-    else if nat_lt 1000000000 (unsigned_abs (rounded d 0)) then None
+    else if nat_lt most_power (unsigned_abs (rounded d 0)) then None
     else if int_lt (rounded d 0) (pos 0) then None
     else Some (nat_abs (rounded d 0))
 

@@ -1,5 +1,6 @@
 //! The numbers of a schedule.
 ghost use Rattle.std.specs.Prelude.{◌≡◌, ◌≤◌, IfOk, length};
+ghost use Rattle.uc_model.specs.declared.limits.TheConstants.{MOST_PERIODS};
 ghost use Rattle.uc_num.specs.Rounding.{rounded};
 ghost use Rattle.text_tree.specs.View.{view, views};
 ghost use Rattle.uc_case.specs.Given.{Gives};
@@ -50,7 +51,7 @@ fn flag_at(branch: Branch<'_>) -> Option<bool>
 }
 
 pub fn read_powers(alloc: Global, at: Seat, branches: &[Branch<'_>]) -> Result<Powers, ShapeStop>
-    requires { length branches.now ≤ 168 }
+    requires { length branches.now ≤ MOST_PERIODS }
     ensures count { IfOk result (λ ns. length ns.items ≡ length branches.now) }
     ensures value { Gives (λ ns. ns.items) result (numbers kilowatts_in at (views branches.now)) }
 {
@@ -65,7 +66,7 @@ pub fn read_powers(alloc: Global, at: Seat, branches: &[Branch<'_>]) -> Result<P
 }
 
 pub fn read_flags(alloc: Global, at: Seat, branches: &[Branch<'_>]) -> Result<Flags, ShapeStop>
-    requires { length branches.now ≤ 168 }
+    requires { length branches.now ≤ MOST_PERIODS }
     ensures count { IfOk result (λ ns. length ns.items ≡ length branches.now) }
     ensures value { Gives (λ ns. ns.items) result (numbers flag_in at (views branches.now)) }
 {

@@ -5,6 +5,7 @@ ghost use Rattle.indexmap.specs.IndexMap.{get_by_text};
 ghost use Rattle.uc_model.specs.Laws.{HasPlanShape};
 ghost use Rattle.uc_model.specs.PlainCases.{market_of, schedules_of};
 ghost use Rattle.uc_model.specs.PlainUnits.{schedule_of};
+ghost use Rattle.uc_model.specs.declared.limits.TheConstants.{MOST_OF_A_KIND, MOST_PERIODS};
 ghost use Rattle.text_tree.specs.Parts.{Pair};
 ghost use Rattle.text_tree.specs.View.{view, members_in};
 ghost use Rattle.uc_case.specs.Given.{Gives};
@@ -57,7 +58,7 @@ fn read_named(
     name: &str,
     periods: u32,
 ) -> Result<Response, ShapeStop>
-    requires { periods ≤ 168 }
+    requires { periods ≤ MOST_PERIODS }
     ensures shape { IfOk result (λ r. IsShaped at.kind periods (schedule_of r)) }
     ensures value { (ms : List Pair)
         → ((q : List ℕ) → option_map view (get_by_text values.now q) ≡ value_of q ms)
@@ -78,8 +79,8 @@ fn read_schedules<N: Named>(
     periods: u32,
     plan: &mut ResponseList,
 ) -> Result<(), ShapeStop>
-    requires few { length units.now ≤ 4096 }
-    requires horizon { periods ≤ 168 }
+    requires few { length units.now ≤ MOST_OF_A_KIND }
+    requires horizon { periods ≤ MOST_PERIODS }
     requires room { length units.now ≤ plan.old.spare }
     ensures spare { OnOk result (plan.new.spare + length units.now ≡ plan.old.spare) }
     ensures value { Adds (λ s. IsShaped kind periods s) (length units.now)

@@ -3,6 +3,7 @@ ghost use Rattle.std.specs.Prelude.{◌≡◌, ◌≤◌, List, Result, IfOk, le
 ghost use Rattle.uc_model.specs.Data.{Schedule};
 ghost use Rattle.uc_model.specs.Laws.{HasPlanShape};
 ghost use Rattle.uc_model.specs.PlainCases.{market_of, schedules_of};
+ghost use Rattle.uc_model.specs.declared.limits.TheConstants.{MOST_BYTES};
 ghost use Rattle.uc_case.specs.Files.{FileFault};
 ghost use Rattle.uc_plan.specs.PlanFiles.{IsPlanOf, IfRead};
 ghost use Rattle.uc_plan.specs.declared.fault.ShapeFault.{ShapeFault as PlainFault};
@@ -22,7 +23,7 @@ use uc_text::{TextError, read_tree};
 /// first test that fails: the outer objects, names that aren't in the case, and then each unit and
 /// bid in the order of the case.
 pub fn read_plan(alloc: Global, case: &Case, bytes: &[u8]) -> Result<Plan, PlanFault>
-    requires { length bytes.now ≤ 67108864 }
+    requires { length bytes.now ≤ MOST_BYTES }
     // A plan has a schedule over the horizon for each unit, and a renewable unit's and a bid's is
     // on with reserve 0.
     ensures shape { IfOk result (λ p. HasPlanShape (market_of case.now) (schedules_of p)) }
@@ -37,7 +38,7 @@ pub fn read_plan(alloc: Global, case: &Case, bytes: &[u8]) -> Result<Plan, PlanF
 }
 
 fn read_file(alloc: Global, case: &Case, bytes: &[u8]) -> Result<Plan, PlanFault>
-    requires { length bytes.now ≤ 67108864 }
+    requires { length bytes.now ≤ MOST_BYTES }
     ensures shape { IfOk result (λ p. HasPlanShape (market_of case.now) (schedules_of p)) }
     ensures answer { IfRead schedules_of result (λ r. IsPlanOf (market_of case.now) bytes.now r) }
 {

@@ -1,6 +1,7 @@
 //! The schedules of units and bids.
 ghost use Rattle.std.specs.Prelude.{◌≡◌, ◌≤◌, IfOk, length};
 ghost use Rattle.uc_model.specs.PlainUnits.{schedule_of};
+ghost use Rattle.uc_model.specs.declared.limits.TheConstants.{MOST_PERIODS};
 ghost use Rattle.text_tree.specs.View.{view};
 ghost use Rattle.uc_case.specs.Given.{Gives};
 ghost use Rattle.uc_plan.specs.Added.{HasLengths, IsFlat, IsShaped};
@@ -16,8 +17,13 @@ use uc_model::lists::{Flags, Powers};
 use uc_model::units::Response;
 
 #[tactic(auto, unfolding(crate::specs::Plans::thermal_schedule))]
-fn read_thermal(alloc: Global, at: Seat, branch: Branch<'_>, periods: u32) -> Result<Response, ShapeStop>
-    requires { periods ≤ 168 }
+fn read_thermal(
+    alloc: Global,
+    at: Seat,
+    branch: Branch<'_>,
+    periods: u32,
+) -> Result<Response, ShapeStop>
+    requires { periods ≤ MOST_PERIODS }
     ensures lengths { IfOk result (λ r. HasLengths periods (schedule_of r)) }
     ensures value { Gives schedule_of result (thermal_schedule periods at (view branch.entry)) }
 {
@@ -41,8 +47,13 @@ fn read_thermal(alloc: Global, at: Seat, branch: Branch<'_>, periods: u32) -> Re
 }
 
 #[tactic(auto, unfolding(crate::specs::Plans::flat_schedule))]
-fn read_flat(alloc: Global, at: Seat, branch: Branch<'_>, periods: u32) -> Result<Response, ShapeStop>
-    requires { periods ≤ 168 }
+fn read_flat(
+    alloc: Global,
+    at: Seat,
+    branch: Branch<'_>,
+    periods: u32,
+) -> Result<Response, ShapeStop>
+    requires { periods ≤ MOST_PERIODS }
     ensures lengths { IfOk result (λ r. HasLengths periods (schedule_of r)) }
     ensures flat { IfOk result (λ r. IsFlat (schedule_of r)) }
     ensures value { Gives schedule_of result (flat_schedule periods at (view branch.entry)) }
@@ -63,7 +74,7 @@ pub fn read_schedule(
     branch: Branch<'_>,
     periods: u32,
 ) -> Result<Response, ShapeStop>
-    requires { periods ≤ 168 }
+    requires { periods ≤ MOST_PERIODS }
     ensures shape { IfOk result (λ r. IsShaped at.kind periods (schedule_of r)) }
     ensures value { Gives schedule_of result (schedule periods at (view branch.entry)) }
 {
