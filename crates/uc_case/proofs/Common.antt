@@ -31,6 +31,7 @@ pub use Rattle.uc_model.specs.declared.units.Lag.{Lag}
 pub use Rattle.uc_model.specs.declared.units.Point.{Point}
 pub use Rattle.text_tree.specs.Parts.{Pair, items_of, members_of}
 pub use Rattle.uc_text.specs.Texts.{IsText, IsFirstFault}
+pub use Rattle.uc_text.specs.View.{tree_view}
 pub use Rattle.text_tree.specs.Values.{Value, list, object, scalar, number}
 pub use Rattle.text_tree.specs.View.{member_view, member_views, view, views}
 pub use Rattle.text_tree.specs.declared.branch.Branch.{Branch}

@@ -7,6 +7,7 @@ pub mod Finds
 pub mod Loops
 pub mod Ordered
 pub mod Limited
+pub mod Stops
 pub mod Answered
 pub mod Worked
 -- The lemmas that answers cite.

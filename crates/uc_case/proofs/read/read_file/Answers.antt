@@ -1,4 +1,4 @@
-use Rattle.uc_case.proofs.Common.{◌≡◌, Ok, Err, ap, rules, IsFirstFault, view, case_of, of_value}
+use Rattle.uc_case.proofs.Common.{◌≡◌, Ok, Err, ap, rules, IsFirstFault, view, tree_view, case_of, of_value}
 use Rattle.uc_case.proofs.read.read_file.Goals as goal
 
 pub returns-in-Err-Fault : goal.returns-in-Err-Fault
@@ -7,9 +7,9 @@ returns-in-Err-Fault c =
     (Err c.in-Err-Fault.fault, first, search rules)
 
 pub returns-in-Ok-case_of_tree : goal.returns-in-Ok-case_of_tree
-returns-in-Ok-case_of_tree c = (Ok (view c.in-Ok.tree), c.in-Ok.ensures.found, ap of_value c.in-Ok-case_of_tree.ensures)
+returns-in-Ok-case_of_tree c = (Ok (tree_view c.in-Ok.tree), c.in-Ok.ensures.found, ap of_value (rw c.root.ensures at c.in-Ok-case_of_tree.ensures))
 
 pub returns-in-Err-Fault-case_of_tree : goal.returns-in-Err-Fault-case_of_tree
 returns-in-Err-Fault-case_of_tree c =
-    let refused : case_of (view c.in-Ok.tree) ≡ Err c.in-Err-Fault-case_of_tree.fault = search rules in
-    (Ok (view c.in-Ok.tree), c.in-Ok.ensures.found, ap of_value refused)
+    let refused : case_of (view c.root.result) ≡ Err c.in-Err-Fault-case_of_tree.fault = search rules in
+    (Ok (tree_view c.in-Ok.tree), c.in-Ok.ensures.found, ap of_value (rw c.root.ensures at refused))
