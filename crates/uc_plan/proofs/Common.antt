@@ -1,5 +1,5 @@
 -- The names that the proofs of this crate take from its specs and from other crates, passed on from one place.
-pub use Rattle.std.proofs.Common.{◌≡◌, ℕ, List, Result, Ok, Err, [], ◌∷◌, ◌++◌, length, map, refl, sym, ap, ◌∙◌, arith, length-append, subst, suc, ◌+◌, ◌-◌, ◌<◌, ◌≤◌, Bool, true, false, cond, get_or, drop, Option, Some, None, bytes_eq, if◌then◌else◌, drop-cons, add-one, Bor, rules}
+pub use Rattle.std.proofs.Common.{◌≡◌, ℕ, List, Result, Ok, Err, [], ◌∷◌, ◌++◌, length, map, refl, sym, ap, ◌∙◌, arith, length-append, subst, suc, ◌+◌, ◌-◌, ◌<◌, ◌≤◌, Bool, true, false, cond, get_or, drop, Option, Some, None, bytes_eq, if◌then◌else◌, drop-cons, add-one, Bor, rules, string_bytes}
 pub use Rattle.std.proofs.lemmas.List.{append_assoc, nil_from_length, length-drop, map_push, append-nil, length-map}
 pub use Rattle.std.proofs.lemmas.List.Elements.{All-append, All-nil, All-push}
 pub use Rattle.std.proofs.lemmas.Result.{err_from_is_err_and}
@@ -25,5 +25,6 @@ pub use Rattle.uc_plan.specs.declared.fault.ShapeFault.{ShapeFault}
 pub use Rattle.text_tree.specs.Parts.{Pair, items_of, members_of}
 pub use Rattle.text_tree.specs.Values.{Value, scalar, number, list, object}
 pub use Rattle.text_tree.specs.View.{view, member_view, member_views, members_in, views}
+pub use Rattle.uc_text.specs.View.{tree_view}
 pub use Rattle.text_tree.specs.declared.branch.Branch.{Branch}
 pub use Rattle.text_tree.specs.declared.object.Member.{Member}
