@@ -1,5 +1,5 @@
 -- The last test of a thermal unit that fails, after the others passed.
-use Rattle.uc_case.proofs.Common.{◌≡◌, ℕ, List, Result, Ok, Err, refl, Lag, Point, Value, Pair, Place, FieldFault}
+use Rattle.uc_case.proofs.Common.{◌≡◌, ℕ, List, Result, Ok, refl, Lag, Point, Value, Pair, Place, FieldFault}
 use Rattle.uc_case.specs.Forms.{object, keys, key, key_or_none}
 use Rattle.uc_case.specs.Given.{Fails}
 use Rattle.uc_case.specs.Tables.{startup, piecewise, commitment, output, ramps, past}

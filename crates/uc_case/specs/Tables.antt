@@ -1,6 +1,6 @@
 -- The tables of a unit in a case file: each test in order, with its fault (pglib-uc; windows, bids and limits are this
 -- project's profile).
-use Rattle.std.specs.Prelude.{ℕ, ◌-◌, suc, Bool, true, not, ◌||◌, ◌==◌, nat_lt, int_lt, List, [], ◌∷◌, length, map, if◌then◌else◌, codes, Option, Some, None, replicate, Ok, slice_get, ℤ, pos}
+use Rattle.std.specs.Prelude.{ℕ, ◌-◌, suc, Bool, true, not, ◌||◌, ◌==◌, nat_lt, int_lt, List, [], ◌∷◌, length, map, if◌then◌else◌, codes, Option, Some, None, replicate, Ok, slice_get, ℤ}
 use Rattle.std.specs.Option.{option_map, option_map_or}
 use Rattle.uc_model.specs.declared.units.Lag.{Lag}
 use Rattle.uc_model.specs.declared.units.Point.{Point}
