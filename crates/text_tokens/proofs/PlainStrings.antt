@@ -2,7 +2,7 @@
 use Rattle.text_tokens.proofs.Common.{◌≡◌, ◌≢◌, ℕ, suc, ◌+◌, ◌<◌, Bool, true, false, cond, List, [], ◌∷◌, length, get_or, take, refl, sym, ap, subst, ◌∙◌, arith, Some, option_map, nat_eq, nat_lt, is_some, IsUtf8, prefix_len, nat_tests, is_plain, after_piece, piece_at, string_from, string_of, said, text_or, len_or}
 use Rattle.text_tokens.proofs.Texts.{opened, is_quote, is_no_quote, whole_string, raw_utf8}
 
-no_quote : (b : ℕ) → is_plain b ≡ true → b ≢ 34
+pub no_quote : (b : ℕ) → is_plain b ≡ true → b ≢ 34
 no_quote b e = λ is. grind (arith, nat_tests, e, is)
 
 no_escape : (b : ℕ) → is_plain b ≡ true → nat_eq b 92 ≡ false
@@ -11,7 +11,7 @@ no_escape b e = grind (arith, nat_tests, e)
 no_control : (b : ℕ) → is_plain b ≡ true → nat_lt b 32 ≡ false
 no_control b e = grind (arith, nat_tests, e)
 
-plain_piece : (b : ℕ) (bs : List ℕ) → is_plain b ≡ true → piece_at b bs ≡ Some (b ∷ [], 1)
+pub plain_piece : (b : ℕ) (bs : List ℕ) → is_plain b ≡ true → piece_at b bs ≡ Some (b ∷ [], 1)
 unfolding piece_at
 plain_piece b bs e = rw (no_escape b e, no_control b e) refl
 

@@ -1,8 +1,9 @@
 -- Whether a string says a text, piece by piece.
-use Rattle.text_tokens.proofs.Common.{◌≡◌, ℕ, ◌+◌, Bool, true, false, true≢false, List, [], ◌∷◌, ◌++◌, length, drop, suc, nat_eq, nat_tests, arith, refl, sym, ap, ◌∙◌, append_assoc, append-nil, Option, Some, None, option_map, is_some, Piece, after_piece, string_from, string_of, said, text_or}
+use Rattle.text_tokens.proofs.Common.{◌≡◌, ℕ, ◌+◌, Bool, true, false, List, [], ◌∷◌, ◌++◌, length, drop, suc, nat_eq, nat_tests, arith, refl, sym, ap, ap₂, ◌∙◌, ◌<◌, get_or, take, take_more, is_plain, piece_at, append_assoc, append-nil, Option, Some, None, option_map, is_some, Piece, after_piece, string_from, string_of, said, text_or}
 use Rattle.std.specs.Prelude.{bytes_eq}
 use Rattle.std.proofs.lemmas.Slice.Eq.{bytes_eq-Decides}
-use Rattle.text_tokens.proofs.Texts.{whole_string, never}
+use Rattle.text_tokens.proofs.Texts.{whole_string, never, in_front, goes_on, said_goes_on, nothing_said}
+use Rattle.text_tokens.proofs.PlainStrings.{plain_piece, no_quote}
 
 -- ---- a text that begins as the string does
 
@@ -41,3 +42,25 @@ some_left n = grind (arith, nat_tests)
 pub says_rest : (bs text front wanted : List ℕ) (none : Bool) → front ≡ said bs → text ≡ front ++ wanted → none ≡ nat_eq (length wanted) 0 → none ≡ bytes_eq (said bs) text
 says_rest bs text front [] none whole is e = e ∙ sym (says_all bs text front [] whole is refl)
 says_rest bs text front (x ∷ wanted) none whole is e = e ∙ some_left (length wanted) ∙ sym (says_less bs text front (x ∷ wanted) whole is (λ same. cc))
+
+-- ---- the bytes in front that stand for themselves
+
+-- so many bytes of the string are passed, and each says itself
+abbrev pub PassesPlain : List ℕ → ℕ → Type 0
+PassesPlain bs n = string_from 0 bs ≡ option_map (after_piece (take n bs, n)) (string_from 0 (drop n bs))
+
+pub passes_none : (bs : List ℕ) → PassesPlain bs 0
+passes_none bs = nothing_said (string_from 0 bs)
+
+pub passes_one : (bs : List ℕ) (n : ℕ) → n < length bs → is_plain (get_or bs n 0) ≡ true → PassesPlain bs n → PassesPlain bs (n + 1)
+passes_one bs n lt e h =
+    let b = get_or bs n 0 in
+    let p : Piece = (b ∷ [], 1) in
+    let here : get_or (drop n bs) 0 0 ≡ b = in_front bs (drop n bs) n refl in
+    let found : Some p ≡ piece_at (get_or (drop n bs) 0 0) (drop n bs) = sym (ap (λ (c : ℕ). piece_at c (drop n bs)) here ∙ plain_piece b (drop n bs) e) in
+    let rest = string_from 0 (drop (n + 1) bs) in
+    h ∙ ap (option_map (after_piece (take n bs, n))) (goes_on bs (drop n bs) n p lt (no_quote b e) refl found (omega arith)) ∙ said_goes_on (take n bs) n p rest
+    ∙ ap (λ (front : List ℕ). option_map (after_piece (front, n + 1)) rest) (sym (take_more bs n 0 lt))
+
+pub same_one : (xs ys : List ℕ) (n : ℕ) → n < length xs → n < length ys → get_or xs n 0 ≡ get_or ys n 0 → take n xs ≡ take n ys → take (n + 1) xs ≡ take (n + 1) ys
+same_one xs ys n lt within e h = take_more xs n 0 lt ∙ ap₂ (λ (front : List ℕ) (b : ℕ). front ++ b ∷ []) h e ∙ sym (take_more ys n 0 within)

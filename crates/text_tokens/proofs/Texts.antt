@@ -31,7 +31,7 @@ closes bs at lt e =
     ap (string_from 0) (drop-cons bs at 0 lt) ∙ opened (get_or bs at 0) (drop (suc at) bs) true (piece_at (get_or bs at 0) (get_or bs at 0 ∷ drop (suc at) bs)) (is_quote _ e) refl
 
 -- the byte in front of the rest
-in_front : (bs rest : List ℕ) (at : ℕ) → rest ≡ drop at bs → get_or rest 0 0 ≡ get_or bs at 0
+pub in_front : (bs rest : List ℕ) (at : ℕ) → rest ≡ drop at bs → get_or rest 0 0 ≡ get_or bs at 0
 in_front bs rest at e = ap (λ (r : List ℕ). get_or r 0 0) e ∙ get_or-drop at bs 0 0 ∙ ap (λ (n : ℕ). get_or bs n 0) (omega arith)
 
 piece_here : (bs rest : List ℕ) (at : ℕ) (p : Option Piece) → rest ≡ drop at bs → p ≡ piece_at (get_or rest 0 0) rest → p ≡ piece_at (get_or bs at 0) (drop at bs)

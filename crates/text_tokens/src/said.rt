@@ -1,8 +1,10 @@
 //! What a string says, where nothing is kept of it.
-ghost use Rattle.std.specs.Prelude.{◌≡◌, ◌++◌, ℕ, List, IfSome, IfNone};
+ghost use Rattle.std.specs.Prelude.{◌≡◌, ◌≤◌, ◌++◌, ℕ, List, IfSome, IfNone, length, take, drop};
+ghost use Rattle.std.specs.Prelude.{option_map};
 ghost use Rattle.text_tokens.specs.Pieces.{said_by};
+ghost use Rattle.text_tokens.specs.Strings.{string_from, after_piece};
 
-use crate::bytes::{begins_with, rest_from};
+use crate::bytes::{begins_with, is_plain, rest_from};
 use crate::quoted::Quoted;
 use crate::strings::{Said, piece_at, plain_string};
 
@@ -22,6 +24,23 @@ fn behind_said(bytes: &[u8], said: Said) -> Option<&[u8]>
             bytes.strip_prefix(c.encode_utf8(&mut room).as_bytes())
         }
     }
+}
+
+/// How many bytes in front are the same in a string and a text, and stand for themselves.
+fn same_len(bytes: &[u8], text: &[u8]) -> usize
+    ensures within { result ≤ length text.now }
+    ensures same { take result text.now ≡ take result bytes.now }
+    ensures front { string_from 0 bytes.now
+        ≡ option_map (after_piece (take result bytes.now, result))
+        (string_from 0 (drop result bytes.now)) }
+    ensures near { result ≤ length bytes.now }
+{
+    for (i, b) in text.iter().enumerate() {
+        if bytes.len() <= i || bytes[i] != *b || !is_plain(*b) {
+            return i;
+        }
+    }
+    text.len()
 }
 
 impl<'a> Quoted<'a> {
@@ -48,8 +67,8 @@ impl<'a> Quoted<'a> {
         ensures { result ≡ bytes_eq (said self.entry.bytes.now) text.now }
     {
         let bytes = self.bytes;
-        let mut wanted = text;
-        let mut at = 0;
+        let mut at = same_len(bytes, text);
+        let mut wanted = rest_from(text, at);
         'pieces: while at < bytes.len() && bytes[at] != b'"' {
             let Some(piece) = piece_at(rest_from(bytes, at)) else {
                 unreachable!();

@@ -1,10 +1,18 @@
-use Rattle.text_tokens.proofs.Common.{◌≡◌, ℕ, ◌+◌, ◌++◌, List, [], drop, refl, sym, ap, ◌∙◌, append_assoc, arith, option_map, string_from, after_piece, piece_of}
-use Rattle.text_tokens.proofs.Lemmas.{ends, closes, goes_on, is_none, said_goes_on, nothing_said, said_is, never, says_other, says_rest}
+use Rattle.text_tokens.proofs.Common.{ℕ, ◌+◌, ◌++◌, List, drop, take, ap₂, sym, ap, ◌∙◌, append_assoc, arith, option_map, string_from, after_piece, piece_of}
+use Rattle.text_tokens.proofs.Lemmas.{ends, closes, goes_on, is_none, said_goes_on, said_is, never, says_other, says_rest}
+use Rattle.std.proofs.lemmas.List.{take-append-drop}
 use Rattle.text_tokens.proofs.quoted.Quoted.says_bytes.Goals as goal
 use Rattle.text_tokens.proofs.quoted.Quoted.says_bytes.Goals.{then-pieces-test+else-bytes-at-ne34, else-pieces-test}
 
 pub pieces-init : goal.pieces-init
-pieces-init c = record { front = ([], refl, nothing_said (string_from 0 c.args.self.bytes.now)); near = omega arith }
+pieces-init c =
+    let text = c.args.text.now in
+    let n = c.same_len-at.result in
+    let known = c.same_len-at.ensures in
+    record {
+      front = (take n c.args.self.bytes.now, sym (take-append-drop n text) ∙ ap₂ (λ (front rest : List ℕ). front ++ rest) known.same (sym c.rest_from-wanted.ensures), known.front);
+      near = omega (arith, known.near);
+    }
 
 pub unreachable-requires : goal.unreachable-requires
 unreachable-requires c =
