@@ -1,4 +1,5 @@
 -- The lemmas that answers cite, passed on from one place.
+pub use Rattle.uc_text.proofs.Ascending.{above_is_new, up_to_more, up_to_none}
 pub use Rattle.uc_text.proofs.Known.{there_at, there_nowhere, knows_more, knows_none, not_there, known_name, new_name, knows_same, name_at, names_len, all_said-append, bytes_eq-turned, names_from, names_before, names_more, is_told}
 pub use Rattle.uc_text.proofs.MemberSteps.{InMembers, members_begin, members_empty, members_go_on, members_end, name_stops, double_stops, colon_stops, value_stops, member_stops_behind}
 pub use Rattle.uc_text.proofs.OtherTokens.{not_end, not_end_comma, passes_on, not_close_list, not_close_object, not_comma, not_colon, not_text, not_start}

@@ -9,6 +9,7 @@ pub mod ValueSteps
 pub mod Uniqueness
 pub mod Answered
 pub mod Known
+pub mod Ascending
 pub mod Nodes
 pub mod OtherTokens
 pub mod Words

@@ -1,11 +1,16 @@
 //! Whether a name was met before, in time proportional to the number of names.
 ghost use Rattle.std.specs.Prelude.{◌≡◌, ◌∷◌, ◌++◌, [], not, IfOk, OnOk, OnErr, bytes_eq, ℕ};
-ghost use Rattle.std.specs.Prelude.{if◌then◌else◌, true, ◌==◌, ◌<◌, ◌≤◌, length};
+ghost use Rattle.std.specs.Prelude.{if◌then◌else◌, true, ◌==◌, ◌<◌, ◌≤◌, length, IfSome};
 ghost use Rattle.std.specs.HashSet.{contains_by, IsUnchanged};
 ghost use Rattle.text_tokens.specs.Strings.{said};
 ghost use Rattle.uc_text.specs.Known.{is_there, all_said, hash_of as hash_spec, Knows};
+ghost use Rattle.uc_text.specs.Met.{IsMet};
+ghost use Rattle.std.specs.Ordering.{nat_cmp};
+ghost use Rattle.std.specs.declared.cmp.Ordering.TheVariants.{Less};
+ghost use Rattle.std.specs.Cmp.Lexicographic.{slice_cmp};
 
 use std::alloc::{AllocError, AllocFailed, Global};
+use std::cmp::Ordering;
 use std::collections::HashSet;
 use std::hash::{DefaultHasher, Hasher};
 use text_tokens::{Quoted, text_of};
@@ -80,38 +85,93 @@ fn is_among(alloc: Global, names: &[Quoted<'_>], name: Quoted<'_>) -> Result<boo
     Ok(is_said(names, text.as_bytes()))
 }
 
-/// Makes the set where the names are now too many to be compared one after the other.
-fn make_set(alloc: Global, names: &[Quoted<'_>], seen: &mut HashSet<u64>) -> Result<(), AllocError>
-    requires many { FEW ≤ length names.now }
-    requires known { FEW < length names.now → Knows seen.old (all_said names.now) }
-    ensures { OnOk result (Knows seen.new (all_said names.now)) }
-{
-    if names.len() == FEW {
-        *seen = set_of(alloc, names)?;
-    }
-    Ok(())
-}
-
-/// Whether none of the names says the same as this one. The set has their hashes, where they are
-/// many, and then gets that of this one.
-pub fn is_new(
+/// Whether a name is new, and adds its hash to those of the names before it.
+fn is_new_hash(
     alloc: Global,
     names: &[Quoted<'_>],
-    seen: &mut HashSet<u64>,
+    hashes: &mut HashSet<u64>,
     name: Quoted<'_>,
 ) -> Result<bool, AllocError>
-    requires { FEW < length names.now → Knows seen.old (all_said names.now) }
+    requires { Knows hashes.old (all_said names.now) }
     ensures new { IfOk result
         (λ new. new ≡ not (is_there (said name.entry.bytes.now) (all_said names.now))) }
-    ensures knows { OnOk result (FEW ≤ length names.now
-        → Knows seen.new (all_said names.now ++ said name.entry.bytes.now ∷ [])) }
+    ensures knows { OnOk result
+        (Knows hashes.new (all_said names.now ++ said name.entry.bytes.now ∷ [])) }
 {
-    if FEW <= names.len() {
-        make_set(alloc, names, seen)?;
-        let hash = name_hash(alloc, name)?;
-        if add(seen, hash)? {
-            return Ok(true);
-        }
+    let hash = name_hash(alloc, name)?;
+    if add(hashes, hash)? {
+        return Ok(true);
     }
     Ok(!is_among(alloc, names, name)?)
+}
+
+/// What a name says, where no byte of it is an escape and it's above the last one.
+fn above<'a>(last: &[u8], name: Quoted<'a>) -> Option<&'a [u8]>
+    ensures says { IfSome result (λ text. text.now ≡ said name.entry.bytes.now) }
+    ensures above { IfSome result (λ text. slice_cmp nat_cmp last.now text.now ≡ Less) }
+{
+    let text = name.plain()?;
+    match last.cmp(text) {
+        Ordering::Less => Some(text),
+        _ => None,
+    }
+}
+
+/// What is known of an object's names, to tell whether the next one is new.
+#[derive(Drop)]
+pub enum Met<'a> {
+    /// None of them is above this one.
+    UpTo(&'a [u8]),
+    /// Nothing: they are few.
+    Few,
+    /// Their hashes.
+    Hashes(HashSet<u64>),
+}
+
+/// Whether a name is new among names in no order.
+fn is_new_unordered<'a>(
+    alloc: Global,
+    names: &[Quoted<'a>],
+    met: &mut Met<'a>,
+    name: Quoted<'a>,
+) -> Result<bool, AllocError>
+    ensures new { IfOk result
+        (λ new. new ≡ not (is_there (said name.entry.bytes.now) (all_said names.now))) }
+    ensures met { OnOk result
+        (IsMet met.new (all_said names.now ++ said name.entry.bytes.now ∷ [])) }
+{
+    if names.len() < FEW {
+        *met = Met::Few;
+        return Ok(!is_among(alloc, names, name)?);
+    }
+    let mut hashes = set_of(alloc, names)?;
+    let new = is_new_hash(alloc, names, &mut hashes, name)?;
+    *met = Met::Hashes(hashes);
+    Ok(new)
+}
+
+/// Whether none of an object's names says the same as this one, and what is known with this one.
+pub fn is_new<'a>(
+    alloc: Global,
+    names: &[Quoted<'a>],
+    met: &mut Met<'a>,
+    name: Quoted<'a>,
+) -> Result<bool, AllocError>
+    requires { IsMet met.old (all_said names.now) }
+    ensures new { IfOk result
+        (λ new. new ≡ not (is_there (said name.entry.bytes.now) (all_said names.now))) }
+    ensures met { OnOk result
+        (IsMet met.new (all_said names.now ++ said name.entry.bytes.now ∷ [])) }
+{
+    match met {
+        Met::UpTo(last) => match above(last, name) {
+            Some(text) => {
+                *met = Met::UpTo(text);
+                Ok(true)
+            }
+            None => is_new_unordered(alloc, names, met, name),
+        },
+        Met::Few => is_new_unordered(alloc, names, met, name),
+        Met::Hashes(hashes) => is_new_hash(alloc, names, hashes, name),
+    }
 }

@@ -17,9 +17,8 @@ ghost use Rattle.uc_text.specs.declared.fault.TextFault.{TextFault};
 ghost use Rattle.uc_text.specs.View.{tree_view};
 
 use crate::fault::{TextCode, TextError, TextFault};
-use crate::names::is_new;
+use crate::names::{Met, is_new};
 use std::alloc::{AllocError, Global};
-use std::collections::HashSet;
 use text_tokens::{Lexeme, Quoted, Reader, Token, Word};
 use text_tree::{Node, Tree};
 
@@ -183,7 +182,7 @@ fn members<'a>(
     ensures names { OnOk result (found.new.names.items ≡ found.old.names.items) }
 {
     let outer = found.names.len();
-    let mut seen: HashSet<u64> = HashSet::new(alloc);
+    let mut met = Met::UpTo(b"");
     let mut count = 0;
     let mut first = reader.next();
     if let Token::CloseObject = first.token {
@@ -193,7 +192,7 @@ fn members<'a>(
         let Token::Text(name) = first.token else {
             return Err(fault(TextCode::NotJson, first.place));
         };
-        let new = is_new(alloc, &found.names[outer..], &mut seen, name)?;
+        let new = is_new(alloc, &found.names[outer..], &mut met, name)?;
         if !new {
             return Err(fault(TextCode::DoubleKey, first.place));
         }

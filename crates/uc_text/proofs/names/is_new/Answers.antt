@@ -1,21 +1,19 @@
-use Rattle.uc_text.proofs.Common.{ℕ, [], ◌∷◌, ◌++◌, refl, arith, HashSet, subst, sym, Knows, said, all_said}
-use Rattle.uc_text.proofs.Lemmas.{knows_more}
+use Rattle.uc_text.proofs.Common.{ℕ, List, [], ◌∷◌, ◌++◌, not, sym, ap, subst, ◌∙◌, all_said, is_there}
+use Rattle.uc_text.specs.Met.{IsMet, AreUpTo}
+use Rattle.uc_text.specs.declared.names.Met.{Met}
+use Rattle.uc_text.proofs.Lemmas.{above_is_new, up_to_more}
 use Rattle.uc_text.proofs.names.is_new.Goals as goal
-use Rattle.uc_text.proofs.names.is_new.Goals.{then-names-ge-FEW+in_ok-make_set+in_ok-hash+in_ok-add+else-branch, else-names-ge-FEW}
 
-pub returns-then-branch-clause-knows : goal.returns-then-branch-clause-knows
-returns-then-branch-clause-knows c = λ many.
+pub returns-in-Some-clause-new : goal.returns-in-Some-clause-new
+returns-in-Some-clause-new c =
     let ks = all_said c.args.names.now in
-    let k = said c.args.name.bytes.now in
-    knows_more c.make_set.new.seen c.add.new.seen ks (ks ++ k ∷ []) c.in_ok-hash.hash k c.in_ok-make_set.ensures c.in_ok-hash.ensures c.in_ok-add.ensures.hashes refl
+    let text = c.in-Some.text.now in
+    let known : AreUpTo ks c.in-UpTo.last.now = subst (λ (m : Met). IsMet m ks) c.in-UpTo.is c.requires in
+    sym (ap (λ k. not (is_there k ks)) (sym c.in-Some.ensures.says) ∙ ap not (above_is_new ks c.in-UpTo.last.now text known c.in-Some.ensures.above))
 
-pub returns-clause-knows : goal.returns-clause-knows
-returns-clause-knows c = λ many.
+pub returns-in-Some-clause-met : goal.returns-in-Some-clause-met
+returns-in-Some-clause-met c =
     let ks = all_said c.args.names.now in
-    let k = said c.args.name.bytes.now in
-    elim c.if-names-ge-FEW.branch [
-      | then-names-ge-FEW+in_ok-make_set+in_ok-hash+in_ok-add+else-branch w ↦
-          subst (λ (s : HashSet ℕ _). Knows s (ks ++ k ∷ [])) (sym w.seen-is)
-          (knows_more w.make_set.new.seen w.add.new.seen ks (ks ++ k ∷ []) w.in_ok-hash.hash k w.in_ok-make_set.ensures w.in_ok-hash.ensures w.in_ok-add.ensures.hashes refl)
-      | else-names-ge-FEW w ↦ absurd (omega (arith, many, w.if-names-ge-FEW.false))
-    ]
+    let text = c.in-Some.text.now in
+    let known : AreUpTo ks c.in-UpTo.last.now = subst (λ (m : Met). IsMet m ks) c.in-UpTo.is c.requires in
+    subst (λ (k : List ℕ). AreUpTo (ks ++ k ∷ []) text) c.in-Some.ensures.says (up_to_more ks c.in-UpTo.last.now text known c.in-Some.ensures.above)

@@ -1,6 +1,7 @@
-use Rattle.uc_text.proofs.Common.{length, ◌≡◌, ℕ, ◌++◌, ◌∷◌, [], List, refl, sym, ap, subst, ◌∙◌, arith, err_from_is_err_and, length-append, Value, scalar, text, list, object, said, all_said, Quoted, Token, open_list, open_object, items_of, members_of, names, append-nil, Adds, IsStuck, levels, Placed, NotJson, TooDeep, AtItem, NextIs, seen, StuckAt, FaultIs, rest, token_of, scalar_of, TextError, StandsAt, in_turn, ListNode, ObjectNode, TextNode}
+use Rattle.uc_text.proofs.Common.{◌≡◌, ℕ, ◌++◌, ◌∷◌, [], List, refl, sym, ap, subst, ◌∙◌, arith, err_from_is_err_and, length-append, Value, scalar, text, list, object, said, all_said, Quoted, Token, open_list, open_object, items_of, members_of, names, append-nil, Adds, IsStuck, levels, Placed, NotJson, TooDeep, AtItem, NextIs, seen, StuckAt, FaultIs, rest, token_of, scalar_of, TextError, StandsAt, in_turn, ListNode, ObjectNode, TextNode}
 use Rattle.uc_text.proofs.Words.{word_stops, text_node}
-use Rattle.uc_text.proofs.Lemmas.{not_close_list, not_close_object, not_comma, not_colon, not_text, not_start, passes_on, items_begin, items_empty, at_next, read_first, items_end, items_stop, items_stop_behind, known_name, new_name, members_begin, members_empty, members_go_on, members_end, name_stops, double_stops, colon_stops, value_stops, member_stops_behind, adds_none, adds_one, adds_then, adds_anew, says_list, says_object, adds_member, not_end_comma, knows_same, all_said-append, names_from, names_before, names_more, is_told}
+use Rattle.uc_text.proofs.Lemmas.{not_close_list, not_close_object, not_comma, not_colon, not_text, not_start, passes_on, items_begin, items_empty, at_next, read_first, items_end, items_stop, items_stop_behind, known_name, new_name, members_begin, members_empty, members_go_on, members_end, name_stops, double_stops, colon_stops, value_stops, member_stops_behind, adds_none, adds_one, adds_then, adds_anew, says_list, says_object, adds_member, not_end_comma, up_to_none, all_said-append, names_from, names_before, names_more, is_told}
+use Rattle.uc_text.specs.Met.{IsMet}
 use Rattle.uc_text.proofs.Objects.{of_member, names_push}
 use Rattle.uc_text.proofs.ValueSteps as first
 use Rattle.uc_text.proofs.parse.+read.Goals as goal
@@ -114,7 +115,7 @@ members-members-init t c = record {
     [],
     sym (append-nil c.args.found.now.names.items),
     refl,
-    λ lt. absurd (omega (arith, lt)),
+    up_to_none [],
   );
   outer = omega (arith, c.len-outer.ensures, c.args.found.now.names.ok.0);
   stands = subst (λ (bs : List ℕ). StandsAt bs c.next-first.result.place c.next-first.result.token) (sym c.next-first.ensures.same) c.next-first.ensures.stands;
@@ -210,8 +211,7 @@ members-members-preserved t c =
         i.4 ++ c.in-Text.name ∷ [],
         stack,
         all_said-append i.4 (c.in-Text.name ∷ []) ∙ ap (λ (ks : List (List ℕ)). ks ++ k ∷ []) i.6 ∙ sym (names_push i.0 p),
-        λ lt. knows_same c.is_new.new.seen _ (all_said (i.4 ++ c.in-Text.name ∷ [])) (c.in_ok-new.ensures.knows (omega (arith, lt, length-append i.4 (c.in-Text.name ∷ []), ap length part)))
-            (all_said-append i.4 (c.in-Text.name ∷ []) ∙ ap (λ (qs : List Quoted). all_said qs ++ k ∷ []) (sym part)),
+        subst (IsMet c.is_new.new.met) (ap (λ (qs : List Quoted). all_said qs ++ k ∷ []) part ∙ sym (all_said-append i.4 (c.in-Text.name ∷ []))) c.in_ok-new.ensures.met,
       );
       outer = c.members.invariant.outer;
       stands = subst (λ (bs : List ℕ). StandsAt bs c.next-first-in-Comma.result.place c.next-first-in-Comma.result.token) (sym c.next-first-in-Comma.ensures.same) c.next-first-in-Comma.ensures.stands;

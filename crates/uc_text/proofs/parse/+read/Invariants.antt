@@ -1,4 +1,5 @@
-use Rattle.uc_text.proofs.Common.{◌≡◌, ◌+◌, ◌*◌, ◌<◌, ◌≤◌, ◌++◌, List, length, seen, rest, ahead, names, Knows, all_said, Adds, in_turn, Value, Pair, StandsAt, Quoted}
+use Rattle.uc_text.proofs.Common.{◌≡◌, ◌+◌, ◌*◌, ◌<◌, ◌≤◌, ◌++◌, List, length, seen, rest, ahead, names, all_said, Adds, in_turn, Value, Pair, StandsAt, Quoted}
+use Rattle.uc_text.specs.Met.{IsMet}
 use Rattle.uc_text.proofs.Lemmas.{InItems, InMembers}
 use Rattle.uc_text.proofs.parse.+read.Given as goal
 
@@ -27,7 +28,7 @@ decreases-items-items l = ahead l.reader
 abbrev pub invariant-members-members : goal.invariant-members-members
 invariant-members-members l = record {
   inside : (ps : List Pair) × InMembers l.left (rest l.fn.reader) ps (seen l.first) (rest l.reader) × (l.count ≡ length ps) × Adds l.fn.reader.bytes.now l.fn.found.nodes.items l.found.nodes.items (in_turn ps)
-      × (qs : List Quoted) × (l.found.names.items ≡ l.fn.found.names.items ++ qs) × (all_said qs ≡ names ps) × (16 < length qs → Knows l.seen (all_said qs));
+      × (qs : List Quoted) × (l.found.names.items ≡ l.fn.found.names.items ++ qs) × (all_said qs ≡ names ps) × IsMet l.met (all_said qs);
   outer : l.outer ≡ length l.fn.found.names.items;
   stands : StandsAt l.reader.bytes.now l.first.place l.first.token;
   same : l.reader.bytes.now ≡ l.fn.reader.bytes.now;
