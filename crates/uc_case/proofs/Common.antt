@@ -1,5 +1,5 @@
 -- The names that the proofs of this crate take from its specs and from other crates, passed on from one place.
-pub use Rattle.std.proofs.Common.{◌≡◌, ℕ, List, Result, Ok, Err, ◌⊎◌, inl, inr, ap, suc, ◌+◌, ◌<◌, ◌∷◌, length, get_or, drop, Some, cond, bytes_eq, refl, sym, ◌∙◌, drop-cons, add-one, ◌≤◌, false, arith, true≢false, zero, Bool, true, [], map, if◌then◌else◌, w64, to_z, of_z, ◌++◌, subst, ◌-◌, ◌||◌, Vec, Global, Box, string_bytes, rules}
+pub use Rattle.std.proofs.Common.{◌≡◌, ℕ, List, Result, Ok, Err, ◌⊎◌, inl, inr, ap, suc, ◌+◌, ◌<◌, ◌∷◌, length, get_or, drop, Some, cond, bytes_eq, refl, sym, ◌∙◌, drop-cons, add-one, ◌≤◌, false, arith, true≢false, zero, Bool, true, [], map, if◌then◌else◌, w64, to_z, of_z, ◌++◌, subst, ◌-◌, ◌||◌, rules}
 pub use Rattle.std.proofs.lemmas.Bool.{ltb-false}
 pub use Rattle.std.proofs.lemmas.Int.{ints, to_z-of_z}
 pub use Rattle.std.proofs.lemmas.List.{length-map, map_push}
@@ -7,14 +7,14 @@ pub use Rattle.std.proofs.lemmas.List.Elements.{All-nil, All-push}
 pub use Rattle.std.proofs.lemmas.Result.{err_from_is_err_and}
 pub use Rattle.std.specs.List.{All}
 pub use Rattle.std.specs.Prelude.{ℤ, pos, negsuc, neg_ℤ, unsigned_abs, nat_lt, int_lt, ◌≤ℤ◌, slice_get, codes, FitsSigned}
-pub use Rattle.uc_case.specs.Cases.{each_member, bid, thermal}
+pub use Rattle.uc_case.specs.Cases.{each_member}
 unfoldable pub use Rattle.uc_case.specs.Cases.{units, renewable, bids, case_of}
 pub use Rattle.uc_case.specs.EachLaws.{goes_on, ends, counted, is_done}
 pub use Rattle.uc_case.specs.Files.{FileFault, text, value, IsFile, reading_of, of_value}
 pub use Rattle.uc_case.specs.Forms.{Read, items}
 unfoldable pub use Rattle.uc_case.specs.Forms.{amount, time_within}
 unfoldable pub use Rattle.uc_case.specs.Inside.{value_of}
-pub use Rattle.uc_case.specs.Kept.{IsRange, AreRamps, IsPast, AreLags, ArePoints, AreBlocks, IsRenewableOf, IsBidOf, IsThermalOf}
+pub use Rattle.uc_case.specs.Kept.{IsRange, AreRamps, IsPast, AreLags, ArePoints, AreBlocks}
 pub use Rattle.uc_case.specs.Laws.{OneCase, SomeFile, OneFile}
 pub use Rattle.uc_case.specs.Places.{fault, place, item_at}
 pub use Rattle.uc_case.specs.Tables.{first_crossed, block, ends_miss, point, lag, one_power, mark}
@@ -24,7 +24,6 @@ unfoldable pub use Rattle.uc_case.specs.Words.{each}
 pub use Rattle.uc_case.specs.declared.fault.FieldFault.{FieldFault}
 pub use Rattle.uc_case.specs.declared.fault.Place.{Place}
 pub use Rattle.uc_model.specs.Limits.{IsFrom, IsPower, IsOutput, IsThermalUnit, IsRenewableUnit, Spans, IsLag, IsPoint, IsBlock, IsBlockList}
-pub use Rattle.uc_model.specs.PlainUnits.{named_renewable_of, named_bid_of, named_thermal_of}
 pub use Rattle.uc_model.specs.Reserved.{Reserved, items_in}
 pub use Rattle.uc_model.specs.declared.units.Block.{Block}
 pub use Rattle.uc_model.specs.declared.units.Lag.{Lag}

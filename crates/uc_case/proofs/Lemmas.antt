@@ -3,4 +3,3 @@ pub use Rattle.uc_case.proofs.Limited.{renewable_fits, power_stored, output_stor
 pub use Rattle.uc_case.proofs.Loops.{member_goes_on, member_ends, item_goes_on, item_ends, period_goes_on, period_ends}
 pub use Rattle.uc_case.proofs.Ordered.{points_push, spans, lags_push, blocks_push}
 pub use Rattle.uc_case.proofs.Stops.{window_fails}
-pub use Rattle.uc_case.proofs.Marks.{mark_null, mark_of_number}

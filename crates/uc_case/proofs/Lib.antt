@@ -1,7 +1,6 @@
 -- The names from elsewhere that the proofs here cite.
 pub mod Common
 pub mod FileLaws
-pub mod Marks
 pub mod Fits
 pub mod Finds
 pub mod Loops

@@ -10,6 +10,7 @@ pub mod inside;
 mod keys;
 pub mod laws;
 mod limits;
+mod listed;
 mod lists;
 mod parts;
 mod read;
