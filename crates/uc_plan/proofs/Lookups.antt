@@ -1,5 +1,5 @@
 -- Look-ups by name, while a map or a set of names is filled from the last one on.
-use Rattle.uc_plan.proofs.Common.{◌≡◌, ℕ, suc, ◌+◌, ◌-◌, ◌<◌, ◌≤◌, Bool, true, false, cond, List, [], length, map, get_or, drop, Option, Some, None, bytes_eq, refl, sym, ap, ◌∙◌, if◌then◌else◌, drop-cons, add-one, arith, option_map, nil_from_length, length-drop, Value, view, member_view, member_views, Branch, Member, value_of, is_among, first_unknown}
+use Rattle.uc_plan.proofs.Common.{◌≡◌, ℕ, suc, ◌+◌, ◌-◌, ◌<◌, ◌≤◌, Bool, true, false, cond, List, [], length, map, get_or, drop, Option, Some, None, bytes_eq, refl, sym, ap, ◌∙◌, if◌then◌else◌, drop-cons, add-one, arith, option_map, nil_from_length, length-drop, view, member_view, member_views, Branch, Member, value_of, is_among, first_unknown}
 
 -- nothing is left behind the last one
 all_dropped : {A : Type 0} (xs : List A) (n : ℕ) → length xs ≤ n → drop n xs ≡ []
