@@ -63,11 +63,15 @@ number_read b s e =
     let r = digit_range b e in
     rw (no_such b 123 (λ is. omega (arith, r.0, r.1, is)), no_such b 125 (λ is. omega (arith, r.0, r.1, is)), no_such b 91 (λ is. omega (arith, r.0, r.1, is)), no_such b 93 (λ is. omega (arith, r.0, r.1, is)), no_such b 44 (λ is. omega (arith, r.0, r.1, is)), no_such b 58 (λ is. omega (arith, r.0, r.1, is)), no_such b 34 (λ is. omega (arith, r.0, r.1, is)), no_such b 45 (λ is. omega (arith, r.0, r.1, is)), e) refl
 
-pub comma_step : (bytes : List ℕ) (at : ℕ) → at < length bytes → get_or bytes at 0 ≡ 44 → rest_at bytes at ≡ placed comma at ∷ rest_at bytes (at + 1)
-comma_step bytes at lt is =
+-- a token of one byte, whatever stands behind
+pub mark_step : (bytes : List ℕ) (at : ℕ) (t : Token) → at < length bytes → is_blank (get_or bytes at 0) ≡ false → ((s : List ℕ) → ◌≡◌ {A = Read} (t, 1) (token_at (get_or bytes at 0) s)) → rest_at bytes at ≡ placed t at ∷ rest_at bytes (at + 1)
+mark_step bytes at t lt shown is =
     let s = drop at bytes in
-    let here : get_or s 0 0 ≡ 44 = get_or-drop at bytes 0 0 ∙ ap (λ (n : ℕ). get_or bytes n 0) (omega arith) ∙ is in
-    next_token bytes s at comma 1 lt (no_blank_comma (get_or bytes at 0) is) refl (comma_read (get_or s 0 0) s here) (omega arith) (omega (arith, length-drop at bytes))
+    let here : get_or s 0 0 ≡ get_or bytes at 0 = get_or-drop at bytes 0 0 ∙ ap (λ (n : ℕ). get_or bytes n 0) (omega arith) in
+    next_token bytes s at t 1 lt shown refl (is s ∙ ap (λ (b : ℕ). token_at b s) (sym here)) (omega arith) (omega (arith, length-drop at bytes))
+
+pub comma_step : (bytes : List ℕ) (at : ℕ) → at < length bytes → get_or bytes at 0 ≡ 44 → rest_at bytes at ≡ placed comma at ∷ rest_at bytes (at + 1)
+comma_step bytes at lt is = mark_step bytes at comma lt (no_blank_comma (get_or bytes at 0) is) (λ s. comma_read (get_or bytes at 0) s is)
 
 pub number_step : (bytes s : List ℕ) (at : ℕ) (t : Token) (len : ℕ) → at < length bytes → s ≡ drop at bytes → ◌≡◌ {A = Read} (t, len) (number_at s) → is_digit (get_or s 0 0) ≡ true → 0 < len → len ≤ length s
     → rest_at bytes at ≡ placed t at ∷ rest_at bytes (at + len)

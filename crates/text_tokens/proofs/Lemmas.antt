@@ -1,5 +1,5 @@
 -- The lemmas that answers cite, passed on from one place.
-pub use Rattle.text_tokens.proofs.Ahead.{blank_step, end_step, next_token, number_and_comma_step, comma_step}
+pub use Rattle.text_tokens.proofs.Ahead.{blank_step, end_step, next_token, number_and_comma_step, mark_step}
 pub use Rattle.text_tokens.proofs.Digits.{digit_range, digit_at, value_step, goes_above, one_more_is_large, no_more}
 pub use Rattle.text_tokens.proofs.Escapes.{no_second, ascii_is_utf8, piece_keeps, reaches, all_read, at_most_four}
 pub use Rattle.text_tokens.proofs.NumberParts.{digits_in_front, short_enough, all_digits, too_many, too_far, exponent_is, grown}

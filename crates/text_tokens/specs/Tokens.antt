@@ -14,6 +14,10 @@ is_blank b = b == 32 || b == 9 || b == 10 || b == 13
 abbrev pub is_letter : ℕ → Bool
 is_letter b = nat_le 97 b && nat_le b 122
 
+-- a token by itself
+abbrev pub is_mark : ℕ → Bool
+is_mark b = b == 44 || b == 91 || b == 93 || b == 123 || b == 125 || b == 58
+
 abbrev pub word_of : List ℕ → Token
 word_of run =
     if bytes_eq run (codes "null") then word null

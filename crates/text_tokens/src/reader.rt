@@ -5,7 +5,7 @@ ghost use Rattle.text_tokens.specs.Grammar.{end};
 use crate::bytes::rest_from;
 use crate::number::short_number;
 use crate::small::SmallNumber;
-use crate::token::{Lexeme, Token, is_blank, token_at};
+use crate::token::{Lexeme, Token, is_blank, mark, token_at};
 
 /// A text, and the place behind the last token that was read.
 #[derive(Drop)]
@@ -36,12 +36,12 @@ impl<'a> Reader<'a> {
         ensures same { self.new.bytes.now ≡ self.old.bytes.now }
     {
         let place = self.at;
-        if place < self.bytes.len() && self.bytes[place] == b',' {
-            self.at = place + 1;
-            return Lexeme {
-                token: Token::Comma,
-                place: place as u32,
-            };
+        if place < self.bytes.len() {
+            if let Some(token) = mark(self.bytes[place]) {
+                self.at = place + 1;
+                let place = place as u32;
+                return Lexeme { token, place };
+            }
         }
         self.next_of_all()
     }

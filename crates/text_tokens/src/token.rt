@@ -1,11 +1,11 @@
 //! The tokens of a text.
 ghost use Rattle.std.specs.Prelude.{◌≡◌, ◌<◌, ◌≤◌, ◌^◌, ◌+◌, ◌||◌, ◌==◌, true, length, slice_index};
-ghost use Rattle.std.specs.Prelude.{ℕ, List, drop};
+ghost use Rattle.std.specs.Prelude.{ℕ, List, drop, IfSome, IfNone, false};
 ghost use Rattle.std.specs.List.{prefix_len};
 ghost use Rattle.text_tokens.specs.Numbers.{is_digit as digit, is_number_byte as number_byte};
 ghost use Rattle.text_tokens.specs.Numbers.{number_of};
 ghost use Rattle.text_tokens.specs.Strings.{string_at as string_spec};
-ghost use Rattle.text_tokens.specs.Tokens.{is_blank as blank, is_letter as letter};
+ghost use Rattle.text_tokens.specs.Tokens.{is_blank as blank, is_letter as letter, is_mark};
 ghost use Rattle.text_tokens.specs.Tokens.{number_at as number_spec, word_at as word_spec};
 ghost use Rattle.text_tokens.specs.Tokens.{token_at as token_spec};
 ghost use Rattle.text_tokens.specs.Seen.{token_of};
@@ -127,6 +127,27 @@ fn string_at(bytes: &[u8]) -> (Token<'_>, usize)
     }
 }
 
+/// The token of a byte that is one by itself.
+#[tactic(auto, unfolding(crate::specs::Tokens::token_at))]
+pub fn mark(byte: u8) -> Option<Token<'static>>
+    ensures is { IfSome result
+        (λ t. (bytes : List ℕ) → (token_of t, 1) ≡ token_spec byte bytes) }
+    ensures shown { IfSome result (λ t. blank byte ≡ false) }
+    ensures goes { IfSome result (λ t. goes (token_of t) ≡ true) }
+    ensures refers { IfSome result (λ t. (behind run : List ℕ) → RefersTo t behind run) }
+    ensures none { IfNone result (is_mark byte ≡ false) }
+{
+    match byte {
+        b',' => Some(Token::Comma),
+        b'[' => Some(Token::OpenList),
+        b']' => Some(Token::CloseList),
+        b'{' => Some(Token::OpenObject),
+        b'}' => Some(Token::CloseObject),
+        b':' => Some(Token::Colon),
+        _ => None,
+    }
+}
+
 #[tactic(auto, unfolding(crate::specs::Tokens::token_at))]
 pub fn token_at(bytes: &[u8]) -> (Token<'_>, usize)
     requires some { 0 < length bytes.now }
@@ -137,13 +158,10 @@ pub fn token_at(bytes: &[u8]) -> (Token<'_>, usize)
     ensures goes { goes (token_of result.0) ≡ true }
     ensures refers { RefersTo result.0 (drop 1 bytes.now) (number_run bytes.now) }
 {
+    if let Some(token) = mark(bytes[0]) {
+        return (token, 1);
+    }
     match bytes[0] {
-        b'{' => (Token::OpenObject, 1),
-        b'}' => (Token::CloseObject, 1),
-        b'[' => (Token::OpenList, 1),
-        b']' => (Token::CloseList, 1),
-        b',' => (Token::Comma, 1),
-        b':' => (Token::Colon, 1),
         b'"' => string_at(rest_from(bytes, 1)),
         b'-' | b'0'..=b'9' => number_at(bytes),
         b'a'..=b'z' => word_at(bytes),

@@ -1,7 +1,10 @@
 use Rattle.text_tokens.proofs.Common.{◌+◌, refl, rest_at}
-use Rattle.text_tokens.proofs.Lemmas.{comma_step}
+use Rattle.text_tokens.specs.Seen.{token_of}
+use Rattle.text_tokens.proofs.Lemmas.{mark_step}
 use Rattle.text_tokens.proofs.reader.Reader.next.Goals as goal
 
-pub returns-then-self-place-eq44-clause-next : goal.returns-then-self-place-eq44-clause-next
-returns-then-self-place-eq44-clause-next c =
-    (rest_at c.args.self.now.bytes.now (c.args.self.now.at + 1), comma_step c.args.self.now.bytes.now c.args.self.now.at c.if-place-self.true c.if-self-place-eq44.true, λ h. refl)
+pub returns-in-Some-clause-next : goal.returns-in-Some-clause-next
+returns-in-Some-clause-next c =
+    let bytes = c.args.self.now.bytes.now in
+    let at = c.args.self.now.at in
+    (rest_at bytes (at + 1), mark_step bytes at (token_of c.in-Some.token) c.if-place-self.true c.in-Some.ensures.shown c.in-Some.ensures.is, λ h. refl)
