@@ -15,6 +15,7 @@ ghost use Rattle.uc_text.specs.Faults.{IsShort};
 ghost use Rattle.text_tokens.specs.Seen.{scalar_of};
 ghost use Rattle.uc_text.specs.declared.fault.TextFault.{TextFault};
 ghost use Rattle.uc_text.specs.View.{tree_view};
+ghost use Rattle.uc_model.specs.declared.limits.TheConstants.{MOST_BYTES};
 
 use crate::fault::{TextCode, TextError, TextFault};
 use crate::names::{Met, is_new};
@@ -225,7 +226,7 @@ fn members<'a>(
 /// token that it cuts off begins. Takes time in proportion to the bytes, and recursion no deeper
 /// than 32 levels. `laws` says that bytes are a text or have a first fault, and never both.
 pub fn read_tree(alloc: Global, bytes: &[u8]) -> Result<Tree<'_>, TextError>
-    requires { length bytes.now ≤ 67108864 }
+    requires { length bytes.now ≤ MOST_BYTES }
     // A tree is the text's.
     ensures found { IfOk result (λ v. IsText 32 bytes.now (tree_view v)) }
     // A fault is the first of the text.
@@ -239,7 +240,7 @@ pub fn read_tree(alloc: Global, bytes: &[u8]) -> Result<Tree<'_>, TextError>
 }
 
 fn read_all(alloc: Global, bytes: &[u8]) -> Result<Tree<'_>, TextError>
-    requires { length bytes.now ≤ 67108864 }
+    requires { length bytes.now ≤ MOST_BYTES }
     ensures found { IfOk result (λ v. IsText 32 bytes.now (tree_view v)) }
     ensures fault { IfFault result (λ f. IsFirstFault 32 bytes.now f) }
 {
