@@ -16,7 +16,7 @@ use uc_num::{Decimal, is_whole, whole};
 
 const MOST: u64 = POWER_LIMIT as u64;
 
-/// A whole number from 0 to 1,000,000,000.
+/// A whole number from 0 to `POWER_LIMIT`.
 fn kilowatts(d: Decimal) -> Option<u32>
     ensures { result ≡ kilowatts_of d }
 {
