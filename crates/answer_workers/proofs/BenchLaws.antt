@@ -1,5 +1,5 @@
 -- A bench for the most cost points of a case suffices for each of its units.
-use Rattle.answer_workers.proofs.Common.{◌≡◌, ℕ, suc, ◌+◌, ◌*◌, ◌<◌, ◌≤◌, ◌⊎◌, inl, inr, Bool, true, false, cond, Some, List, [], ◌∷◌, ◌++◌, map, length, refl, sym, ap, ◌∙◌, subst, arith, append_assoc, Less, Equal, Greater, All, slice_get_within, get_or_from_slice_get, room_of, Slopes, AnyUnit, Thermal, Flat, Bid, Market, NamedThermalUnit, NamedRenewableUnit, NamedBidUnit, PriceLists, Schedule, ThermalUnit, units, named_thermal_of, schedule_of, IsThermalFeasible, Answered, NamedUnit, IsBenchFor, Bench, HasSchedule, IsResponse, Suffices, IsBenchOf, All-nil, All-cons}
+use Rattle.answer_workers.proofs.Common.{◌≡◌, ℕ, suc, ◌+◌, ◌*◌, ◌<◌, ◌≤◌, ◌⊎◌, inl, inr, Bool, true, false, cond, Some, List, [], ◌∷◌, ◌++◌, map, length, refl, sym, ap, ◌∙◌, subst, arith, append_assoc, Less, Equal, Greater, All, Contains, slice_get_within, room_of, Slopes, AnyUnit, Thermal, Flat, Bid, Market, NamedThermalUnit, NamedRenewableUnit, NamedBidUnit, PriceLists, Schedule, ThermalUnit, units, named_thermal_of, schedule_of, IsThermalFeasible, Answered, NamedUnit, IsBenchFor, Bench, HasSchedule, IsResponse, Suffices, IsBenchOf, All-nil, All-cons}
 use Rattle.std.specs.Prelude.{IsTrue, IsFalse, slice_get}
 use Rattle.std.specs.Cmp.{nat_cmp_is}
 use Rattle.std.specs.Ordering.{nat_cmp, ord_max, is_lt}
@@ -104,10 +104,9 @@ bench_of_case m points b made few =
     subst (λ (us : List AnyUnit). All (λ (u : AnyUnit). Suffices m.periods u b) us) (sym (append_assoc ts fs bs))
     (thermals m.periods b points m.thermal (fs ++ bs) made few (flats m.periods b m.flat bs (bids m.periods b m.bids)))
 
--- it suffices for the unit of a number
-pub serves_at : (m : Market) (b : Bench Slopes) (i : ℕ) (u : AnyUnit) → IsBenchOf m b → slice_get (units m) i ≡ Some u → Suffices m.periods u b
-serves_at m b i u served there =
-    subst (λ (x : AnyUnit). Suffices m.periods x b) (get_or_from_slice_get (units m) i u u there) (served i u (slice_get_within (units m) i u there))
+-- it suffices for each of them
+pub serves_in : (m : Market) (b : Bench Slopes) (u : AnyUnit) → IsBenchOf m b → Contains (units m) u → Suffices m.periods u b
+serves_in m b u served (i, inside, there) = subst (λ (x : AnyUnit). Suffices m.periods x b) there (served i u inside)
 
 -- ---- what an answer leaves
 

@@ -1,12 +1,16 @@
 -- The names that the proofs of this crate take from its specs and from other crates, passed on from one place.
 pub use Rattle.std.proofs.Common.{◌≡◌, ℕ, suc, ◌+◌, ◌*◌, ◌<◌, ◌≤◌, ◌⊎◌, inl, inr, Bool, true, false, cond, Some, List, [], ◌∷◌, ◌++◌, map, length, refl, sym, ap, ◌∙◌, subst, arith, append_assoc, Less, Equal, Greater, ◌≢◌, append-nil, get_or, set}
-pub use Rattle.std.proofs.lemmas.List.{get_or-set_same, get_or-set_other, get_or_default, length-set, length-replicate}
-pub use Rattle.std.proofs.lemmas.List.Elements.{All-nil, All-cons, All-append, All-weaker, All-head, All-tail}
+pub use Rattle.std.proofs.lemmas.List.{get_or-set_same, get_or-set_other, get_or_default, length-set, length-replicate, length-append}
+pub use Rattle.std.proofs.lemmas.List.Elements.{All-nil, All-cons, All-append, All-weaker, All-head, All-tail, All-set, All-push, AllWithin-set, AllWithin-more_set}
 pub use Rattle.std.proofs.lemmas.Option.{slice_get_within, get_or_from_slice_get, slice_get_read}
-pub use Rattle.std.specs.List.{All, Contains}
+pub use Rattle.std.specs.List.{All, AllWithin, Contains}
+pub use Rattle.std.specs.Prelude.{vec_capacity}
+pub use Rattle.std.specs.Vec.{with_item}
 pub use Rattle.answer_workers.specs.Answers.{HasSchedule, IsResponse, Suffices, IsBenchOf}
-pub use Rattle.answer_workers.specs.Workers.{Came, GoesOn, IsWorkerOf, HasWorked, HaveWorked, HasFinished, HasParts, market_at, IsTold, IsReady}
+pub use Rattle.answer_workers.specs.Workers.{Came, GoesOn, IsWorkerOf, HasWorked, HaveWorked, HasFinished, HasParts, market_at, IsTold, IsEnd, IsAnswerable, IsAnswered, AreGiven, AreAnswered, IsHeldFor}
 pub use Rattle.answer_workers.specs.declared.worker.Worker.{Worker}
+pub use Rattle.answer_workers.specs.declared.worker.Held.{Held}
+pub use Rattle.answer_workers.specs.declared.worker.TheConstants.{MOST_HELD}
 pub use Rattle.board_history.specs.Board.{Answer, Content, rules_of, Setup}
 pub use Rattle.board_history.specs.Calls.{differs_from, after_claim, after_post, claim_answer}
 pub use Rattle.board_history.specs.Rounds.{Given, Taken, Closing, Stopped, ClaimReply, Finished, Halted, GivenTask, NotYet, PostReply, OtherProposal, OtherUnit, OtherContent, Doubled, OtherHolder, TakenPost, claim_reply, post_reply, post_event, posts, with_post, is_closed, with_claim, with_answer}

@@ -1,12 +1,11 @@
 -- What the answer of a claim tells.
-use Rattle.answer_workers.proofs.Common.{◌≡◌, ℕ, refl, sym, ap, ◌∙◌, subst, Content, claim_answer, ClaimReply, Finished, Halted, GivenTask, NotYet, view_of, Called, View, content, Market, task_unit, IsFeasible, Task, Suffices, IsBenchOf, IsTold, IsReady, market_at, Worker}
+use Rattle.answer_workers.proofs.Common.{◌≡◌, ℕ, refl, sym, ap, ◌∙◌, subst, Content, claim_answer, ClaimReply, Finished, Halted, GivenTask, NotYet, view_of, Called, View, content, Market, units, task_unit, IsFeasible, Task, Contains, slice_get_within, get_or_from_slice_get, IsTold, IsAnswerable, market_at, Worker}
 use Rattle.board_history.specs.Laws.{ClaimsMean}
 use Rattle.board_core.specs.Replies.{claim_of}
 use Rattle.board_core.specs.Tasks.{IsOwnTask, LeavesTask}
 use Rattle.board_core.specs.declared.replies.Claim.{Claim}
 use Rattle.board_core.specs.declared.replies.Claim.TheVariants as claim
 use Rattle.board_share.specs.Unchanged.{UnlessGiven}
-use Rattle.answer_workers.proofs.BenchLaws.{serves_at}
 
 -- ---- which reply it was
 
@@ -34,21 +33,26 @@ given_task b NotYet before task e leaves = absurd cc
 abbrev Tells : Claim → Task → Task → Content → Type 0
 Tells r before task b = (r ≡ claim_of (claim_answer b)) × LeavesTask b (claim_answer b) before task
 
-ready : (r : Claim) (before : Task) (after : Content → Content) (v : View) (w : Worker) → Called (Tells r before w.task) after v (view_of w.seat) → r ≡ claim.Given → IsBenchOf (market_at w.seat) w.bench → IsReady w
-ready r before after v w c given served =
-    let b : Content = content v.setup c.before in
-    let m : market_at w.seat ≡ v.setup.market = ap (λ (x : View). x.setup.market) c.seen in
-    let own = given_task b (claim_answer b) before w.task (sym given ∙ c.answered.0) c.answered.1 in
-    record {
-      some = (own.2.some_schedule, subst (λ (n : Market). IsFeasible (task_unit w.task) n.periods own.2.some_schedule) (sym m) own.2.feasible);
-      bench = subst (λ (n : Market). Suffices n.periods (task_unit w.task) w.bench) (sym m) (serves_at v.setup.market w.bench own.1 (task_unit w.task) (subst (λ (n : Market). IsBenchOf n w.bench) m served) own.2.unit);
+-- a board's own task has an answer in each market that is the board's
+answerable : (m : Market) (b : Content) (n u : ℕ) (t : Task) → b.setup.market ≡ m → IsOwnTask b n u t → IsAnswerable m t
+answerable m b n u t same own =
+    let us = units b.setup.market in
+    let x = task_unit t in record {
+      unit = subst (λ (k : Market). Contains (units k) x) same (u, slice_get_within us u x own.unit, get_or_from_slice_get us u x x own.unit);
+      some = (own.some_schedule, subst (λ (k : Market). IsFeasible x k.periods own.some_schedule) same own.feasible);
     }
 
+ready : (r : Claim) (before : Task) (after : Content → Content) (v : View) (w : Worker) → Called (Tells r before w.task) after v (view_of w.seat) → r ≡ claim.Given → IsAnswerable (market_at w.seat) w.task
+ready r before after v w c given =
+    let b : Content = content v.setup c.before in
+    let own = given_task b (claim_answer b) before w.task (sym given ∙ c.answered.0) c.answered.1 in
+    answerable (market_at w.seat) b own.0 own.1 w.task (sym (ap (λ (x : View). x.setup.market) c.seen)) own.2
+
 pub told : ClaimsMean → (r : Claim) (before : Task) (after : Content → Content) (v : View) (w : Worker) → Called (Tells r before w.task) after v (view_of w.seat)
-    → UnlessGiven r (r ≡ claim_of (claim_answer (content (view_of w.seat).setup (view_of w.seat).seen))) → IsBenchOf (market_at w.seat) w.bench → IsTold r w
-told mean claim.Finished before after v w c at served =
+    → UnlessGiven r (r ≡ claim_of (claim_answer (content (view_of w.seat).setup (view_of w.seat).seen))) → IsTold r w
+told mean claim.Finished before after v w c at =
     (mean (view_of w.seat).setup (view_of w.seat).seen).finished.0 (finished_is (claim_answer (content (view_of w.seat).setup (view_of w.seat).seen)) at)
-told mean claim.Halted before after v w c at served =
+told mean claim.Halted before after v w c at =
     ((mean (view_of w.seat).setup (view_of w.seat).seen).halted.0 (halted_is (claim_answer (content (view_of w.seat).setup (view_of w.seat).seen)) at)).1
-told mean claim.Given before after v w c at served = ready claim.Given before after v w c refl served
-told mean claim.NotYet before after v w c at served = tt
+told mean claim.Given before after v w c at = ready claim.Given before after v w c refl
+told mean claim.NotYet before after v w c at = tt

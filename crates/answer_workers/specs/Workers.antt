@@ -1,6 +1,6 @@
 -- Workers at a shared board, and what their work does (this project's profile).
-use Rattle.std.specs.Prelude.{◌≡◌, ◌≢◌, ◌⊎◌, ⊤, true, List, ◌++◌, length}
-use Rattle.std.specs.List.{All, AllZip, Contains, list_any}
+use Rattle.std.specs.Prelude.{◌≡◌, ◌≢◌, ◌⊎◌, ⊤, ℕ, ◌≤◌, true, List, ◌++◌, length}
+use Rattle.std.specs.List.{All, AllWithin, AllZip, Contains, list_any}
 use Rattle.board_history.specs.Calls.{has_finished}
 use Rattle.board_history.specs.Rounds.{Stopped, is_halt}
 use Rattle.board_core.specs.declared.replies.Claim.{Claim}
@@ -8,22 +8,32 @@ use Rattle.board_core.specs.declared.replies.Claim.TheVariants as claim
 use Rattle.board_share.specs.Seats.{SeatValue, view_of, IsSeatOf, IsSameBoard}
 use Rattle.board_share.specs.Views.{BoardEvent, View, caller_of, content}
 use Rattle.board_share.specs.declared.shared.SharedBoard.{SharedBoard}
-use Rattle.uc_model.specs.Data.{Market}
+use Rattle.uc_model.specs.Data.{Market, units}
 use Rattle.uc_model.specs.PlainCases.{task_unit}
-use Rattle.uc_model.specs.PlainUnits.{schedule_of}
+use Rattle.uc_model.specs.PlainUnits.{prices_of, schedule_of}
 use Rattle.uc_model.specs.TaskRoom.{IsTaskFor}
-use Rattle.answer_workers.specs.Answers.{HasSchedule, Suffices, IsBenchOf}
+use Rattle.uc_model.specs.declared.cases.Task.{Task}
+use Rattle.answer_workers.specs.Answers.{HasSchedule, IsResponse, IsBenchOf}
 use Rattle.answer_workers.specs.declared.worker.Worker.{Worker}
+use Rattle.answer_workers.specs.declared.worker.Held.{Held}
+use Rattle.answer_workers.specs.declared.worker.TheConstants.{MOST_HELD}
 use Rattle.answer_workers.specs.declared.worker.Ended.{Ended}
 use Rattle.answer_workers.specs.declared.worker.Ended.TheVariants.{Finished, Halted}
 
 -- ---- a worker
 
--- its bench, its task and its answer fit the case
+-- a task that is held and its answer fit the case
+pub record IsHeldFor (m : Market) (h : Held) : Type 0 where
+  pub task : IsTaskFor m.periods h.task
+  pub answer : length (schedule_of h.answer.response).on ≡ m.periods
+
+-- its bench, its tasks and its answers fit the case, and it has room for the most tasks
 pub record HasParts (m : Market) (w : Worker) : Type 0 where
   pub bench : IsBenchOf m w.bench
   pub task : IsTaskFor m.periods w.task
   pub answer : length (schedule_of w.answer.response).on ≡ m.periods
+  pub count : length w.held.items ≡ MOST_HELD
+  pub held : All (IsHeldFor m) w.held.items
 
 abbrev pub market_at : SeatValue → Market
 market_at s = (view_of s).setup.market
@@ -33,10 +43,25 @@ pub record IsWorkerOf (b : SharedBoard) (w : Worker) : Type 0 where
   pub seat : IsSeatOf b w.seat
   pub parts : HasParts (market_at w.seat) w
 
--- it was given a task that it can answer
-pub record IsReady (w : Worker) : Type 0 where
-  pub some : HasSchedule (task_unit w.task) (market_at w.seat).periods
-  pub bench : Suffices (market_at w.seat).periods (task_unit w.task) w.bench
+-- a task of the case that has an answer: its unit is one of the case's, and some schedule of that
+-- is feasible
+pub record IsAnswerable (m : Market) (t : Task) : Type 0 where
+  pub unit : Contains (units m) (task_unit t)
+  pub some : HasSchedule (task_unit t) m.periods
+
+-- the first so many of the tasks that it holds are such
+abbrev pub AreGiven : ℕ → Worker → Type 0
+AreGiven k w =
+    (k ≤ MOST_HELD)
+    × AllWithin (λ (h : Held). IsAnswerable (market_at w.seat) h.task) w.held.items 0 k
+
+-- it is answered
+abbrev pub IsAnswered : Held → Type 0
+IsAnswered h = IsResponse (task_unit h.task) (prices_of h.task.prices) h.answer
+
+-- and the first so many of them are answered
+abbrev pub AreAnswered : ℕ → Worker → Type 0
+AreAnswered k w = (k ≤ MOST_HELD) × AllWithin IsAnswered w.held.items 0 k
 
 -- ---- what work does
 
@@ -71,11 +96,18 @@ HasFinished w = has_finished (content (view_of w.seat).setup (view_of w.seat).se
 abbrev pub HasSeenHalt : Worker → Type 0
 HasSeenHalt w = list_any is_halt (view_of w.seat).seen ≡ true
 
--- what the answer of its last claim tells
+-- what the answer of its last claim tells of the board
+abbrev pub IsEnd : Claim → Worker → Type 0
+IsEnd claim.Finished w = HasFinished w
+IsEnd claim.Halted w = HasSeenHalt w
+IsEnd claim.Given w = ⊤
+IsEnd claim.NotYet w = ⊤
+
+-- and of the task that it gave
 abbrev pub IsTold : Claim → Worker → Type 0
 IsTold claim.Finished w = HasFinished w
 IsTold claim.Halted w = HasSeenHalt w
-IsTold claim.Given w = IsReady w
+IsTold claim.Given w = IsAnswerable (market_at w.seat) w.task
 IsTold claim.NotYet w = ⊤
 
 abbrev pub HasEnded : Ended → Worker → Type 0

@@ -4,7 +4,7 @@ ghost use Rattle.std.specs.List.{All};
 ghost use Rattle.answer_workers.specs.Workers.{IsWorkerOf, HasWorked, HaveWorked, HaveEnded};
 
 use crate::gate::Gate;
-use crate::waiting::{Call, Locks, Lookout};
+use crate::visit::{Call, Crew, Lookout};
 use crate::work::work;
 use crate::worker::{Ended, Worker};
 use board_share::SharedBoard;
@@ -15,21 +15,21 @@ use std::thread::Threads;
 fn work_one<R: Wait, G: Gate>(
     rt: &R,
     board: &SharedBoard,
-    locks: &Locks,
+    crew: &Crew,
     worker: &mut Worker,
     gate: &G,
 )
     requires { IsWorkerOf board.now worker.old }
     ensures { HasWorked worker.old worker.new }
 {
-    let _ = work(rt, board, locks, worker, gate);
+    let _ = work(rt, board, crew, worker, gate);
 }
 
 // Lets each worker work, in a thread of its own where one can be started.
 fn work_each<R: Threads + Wait + Sync, G: Gate>(
     rt: &R,
     board: &SharedBoard,
-    locks: &Locks,
+    crew: &Crew,
     workers: &mut [Worker],
     gate: &G,
 )
@@ -44,7 +44,7 @@ fn work_each<R: Threads + Wait + Sync, G: Gate>(
     let one = |_: usize, worker: &mut Worker|
         requires { IsWorkerOf board.now worker.now }
         ensures { HasWorked worker.entry.now worker.exit.now }
-    { work_one(rt, board, locks, worker, gate) };
+    { work_one(rt, board, crew, worker, gate) };
     thread::for_each_mut(rt, workers, count, &one);
 }
 
@@ -52,7 +52,7 @@ fn work_each<R: Threads + Wait + Sync, G: Gate>(
 fn end_all<R: Wait, G: Gate>(
     rt: &R,
     board: &SharedBoard,
-    locks: &Locks,
+    crew: &Crew,
     workers: &mut [Worker],
     gate: &G,
 ) -> Ended
@@ -62,7 +62,7 @@ fn end_all<R: Wait, G: Gate>(
     ensures ended { HaveEnded result workers.new }
 {
     for k in 0..workers.len() {
-        match work(rt, board, locks, &mut workers[k], gate) {
+        match work(rt, board, crew, &mut workers[k], gate) {
             Ended::Finished => {}
             Ended::Halted => return Ended::Halted,
         }
@@ -70,9 +70,9 @@ fn end_all<R: Wait, G: Gate>(
     Ended::Finished
 }
 
-/// Answers the tasks of a board: each worker, in a thread of its own, claims a task, answers it by
-/// the least best response of its unit, and posts that, until its claim finds the board finished or
-/// halted. Where a thread can't be started, the work is done on this one. `Finished` comes only
+/// Answers the tasks of a board: each worker, in a thread of its own, claims a few tasks, answers
+/// each by the least best response of its unit, and posts that, until its claim finds the board
+/// finished or halted. Where a thread can't be started, the work is done on this one. `Finished` comes only
 /// where each worker's seat has seen a finished history, and `Halted` only where one has seen a
 /// halt. No worker halts, and all memory is the workers' own.
 ///
@@ -91,11 +91,12 @@ pub fn answer_all<R: Threads + Wait + Sync, G: Gate>(
     ensures worked { HaveWorked workers.old workers.new }
     ensures ended { HaveEnded result workers.new }
 {
-    let locks = Locks {
+    let crew = Crew {
         call: Mutex::new(Call),
         lookout: Mutex::new(Lookout),
+        workers: workers.len(),
     };
-    work_each(rt, board, &locks, workers, gate);
+    work_each(rt, board, &crew, workers, gate);
     // The threads hand back no answers, so each worker is asked once more: nothing is left to do.
-    end_all(rt, board, &locks, workers, gate)
+    end_all(rt, board, &crew, workers, gate)
 }

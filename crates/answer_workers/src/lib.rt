@@ -1,12 +1,15 @@
 //! Workers that answer the tasks of one shared board, each in a thread of its own.
 //!
-//! A worker claims a task, answers it on its own bench and posts the answer, until a claim finds
-//! the board finished or halted. It holds neither a turn at the board nor a lock while it answers.
+//! A worker claims a few tasks, answers each on its own bench and posts the answers, until a claim
+//! finds the board finished or halted. It posts and claims in one visit to the board, and it holds
+//! neither a turn at the board nor a lock while it answers.
 #![tactic(auto)]
 
 mod all;
 mod gate;
+mod pace;
 mod tasks;
+mod visit;
 mod waiting;
 mod work;
 mod worker;
@@ -14,4 +17,4 @@ mod worker;
 pub use all::answer_all;
 pub use gate::{Gate, NoGate};
 pub use tasks::{answer_task, most_points};
-pub use worker::{Ended, Worker};
+pub use worker::{Ended, Held, MOST_HELD, Worker};

@@ -1,68 +1,73 @@
 //! What a worker does while no task is open.
-ghost use Rattle.board_share.specs.Seats.{IsSeatOf};
-ghost use Rattle.answer_workers.specs.Workers.{IsWorkerOf, HasWorked, IsTold};
+ghost use Rattle.std.specs.Prelude.{◌≤◌, length};
+ghost use Rattle.answer_workers.specs.Workers.{IsWorkerOf, HasWorked, AreGiven, AreAnswered, IsEnd};
 
+use crate::gate::Gate;
+use crate::pace::Pace;
+use crate::visit::{Crew, Outcome, visit};
 use crate::worker::Worker;
 use board_core::Claim;
-use board_history::laws::claims_mean;
 use board_share::SharedBoard;
-use std::sync::{Mutex, Wait};
+use std::sync::Wait;
 use std::thread;
 
-/// Held while a call is made at the board.
-#[derive(Drop)]
-pub struct Call;
-
-/// Held by the one worker that looks for a task while none is open.
-#[derive(Drop)]
-pub struct Lookout;
-
-/// What workers wait for asleep. The board's turns go round in order, and the worker whose turn has
-/// come may not be running; so each call is made under a lock, which any running worker may take.
-#[derive(Drop)]
-pub struct Locks {
-    pub call: Mutex<Call>,
-    pub lookout: Mutex<Lookout>,
-}
-
-// One claim, and what it tells.
-pub fn claim<R: Wait>(rt: &R, board: &SharedBoard, locks: &Locks, worker: &mut Worker) -> Claim
+// Visits the board until something is given, or all has ended. Only the worker that holds the
+// lookout visits it again and again, and it yields its core in between; the others sleep until it
+// has its tasks.
+fn look_out<R: Wait>(
+    rt: &R,
+    board: &SharedBoard,
+    crew: &Crew,
+    worker: &mut Worker,
+    pace: &mut Pace,
+) -> Outcome
     requires { IsWorkerOf board.now worker.old }
     ensures worked { HasWorked worker.old worker.new }
-    ensures told { IsTold result worker.new }
+    ensures given { AreGiven result.given worker.new }
+    ensures told { IsEnd result.end worker.new }
 {
-    claims_mean();
-    let _held = locks.call.lock(rt);
-    board.claim(rt, &mut worker.seat, &mut worker.task)
-}
-
-// Claims until the answer isn't `NotYet`. Only the worker that holds the lookout claims again and
-// again, and it yields its core in between; the others sleep until it has its answer.
-fn look_out<R: Wait>(rt: &R, board: &SharedBoard, locks: &Locks, worker: &mut Worker) -> Claim
-    requires { IsWorkerOf board.now worker.old }
-    ensures worked { HasWorked worker.old worker.new }
-    ensures told { IsTold result worker.new }
-{
-    let _held = locks.lookout.lock(rt);
+    let _lookout = crew.lookout.lock(rt);
     for _ in rt.forever() {
-        let answer = claim(rt, board, locks, worker);
-        if answer != Claim::NotYet {
-            return answer;
+        let outcome = visit(rt, board, crew, worker, 0, pace);
+        if outcome.given > 0 || outcome.end != Claim::NotYet {
+            return outcome;
         }
         thread::yield_now();
     }
     unreachable!()
 }
 
-// Claims, and waits where there is no task yet.
-pub fn next_claim<R: Wait>(rt: &R, board: &SharedBoard, locks: &Locks, worker: &mut Worker) -> Claim
-    requires { IsWorkerOf board.now worker.old }
-    ensures worked { HasWorked worker.old worker.new }
-    ensures told { IsTold result worker.new }
+// Tells the gate of the answers that were posted.
+fn tell_each<G: Gate>(worker: &Worker, answered: usize, gate: &G)
+    requires { answered ≤ length worker.now.held.items }
 {
-    let answer = claim(rt, board, locks, worker);
-    if answer != Claim::NotYet {
-        return answer;
+    let caller = worker.seat.caller();
+    for k in 0..answered {
+        let held = &worker.held[k];
+        gate.after(caller, held.proposal, held.unit);
     }
-    look_out(rt, board, locks, worker)
+}
+
+// Posts the answers and claims, and waits where there is no task yet.
+pub fn next_visit<R: Wait, G: Gate>(
+    rt: &R,
+    board: &SharedBoard,
+    crew: &Crew,
+    worker: &mut Worker,
+    answered: usize,
+    pace: &mut Pace,
+    gate: &G,
+) -> Outcome
+    requires own { IsWorkerOf board.now worker.old }
+    requires answered { AreAnswered answered worker.old }
+    ensures worked { HasWorked worker.old worker.new }
+    ensures given { AreGiven result.given worker.new }
+    ensures told { IsEnd result.end worker.new }
+{
+    let outcome = visit(rt, board, crew, worker, answered, pace);
+    tell_each(worker, answered, gate);
+    if outcome.given > 0 || outcome.end != Claim::NotYet {
+        return outcome;
+    }
+    look_out(rt, board, crew, worker, pace)
 }

@@ -1,43 +1,43 @@
 //! The work of one worker.
-ghost use Rattle.answer_workers.specs.Workers.{IsWorkerOf, IsReady, HasWorked, HasEnded};
+ghost use Rattle.std.specs.Prelude.{◌≡◌};
+ghost use Rattle.answer_workers.specs.Workers.{IsWorkerOf, HasWorked, HasEnded, HasParts};
+ghost use Rattle.answer_workers.specs.Workers.{market_at, AreGiven, AreAnswered};
 
 use crate::gate::Gate;
+use crate::pace::Pace;
 use crate::tasks::answer_task;
-use crate::waiting::{Locks, next_claim};
+use crate::visit::Crew;
+use crate::waiting::next_visit;
 use crate::worker::{Ended, Worker};
 use board_core::Claim;
 use board_share::SharedBoard;
+use std::mem::swap;
 use std::sync::Wait;
 
-// Answers the task that was given, and posts the answer.
-fn answer_given<R: Wait, G: Gate>(
-    rt: &R,
-    board: &SharedBoard,
-    locks: &Locks,
-    worker: &mut Worker,
-    gate: &G,
-)
-    requires own { IsWorkerOf board.now worker.old }
-    requires ready { IsReady worker.old }
-    ensures { HasWorked worker.old worker.new }
+// Answers the first tasks that the worker holds.
+fn answer_each<G: Gate>(worker: &mut Worker, given: usize, gate: &G)
+    requires parts { HasParts (market_at worker.old.seat) worker.old }
+    requires given { AreGiven given worker.old }
+    ensures seat { worker.new.seat ≡ worker.old.seat }
+    ensures parts { HasParts (market_at worker.new.seat) worker.new }
+    ensures answered { AreAnswered given worker.new }
 {
     let caller = worker.seat.caller();
-    let proposal = worker.task.proposal;
-    let unit = worker.task.unit;
-    gate.between(caller, proposal, unit);
-    answer_task(&mut worker.bench, &worker.task, &mut worker.answer);
-    let held = locks.call.lock(rt);
-    // It is taken: the task was given to this caller, who posts it once.
-    let _ = board.post(rt, &mut worker.seat, &worker.task, &worker.answer);
-    drop(held);
-    gate.after(caller, proposal, unit);
+    for k in 0..given {
+        let held = &mut worker.held[k];
+        held.proposal = held.task.proposal;
+        held.unit = held.task.unit;
+        gate.between(caller, held.proposal, held.unit);
+        answer_task(&mut worker.bench, &held.task, &mut worker.answer);
+        swap(&mut worker.answer, &mut held.answer);
+    }
 }
 
 // Claims, answers and posts until a claim finds the board finished or halted.
 pub fn work<R: Wait, G: Gate>(
     rt: &R,
     board: &SharedBoard,
-    locks: &Locks,
+    crew: &Crew,
     worker: &mut Worker,
     gate: &G,
 ) -> Ended
@@ -45,13 +45,22 @@ pub fn work<R: Wait, G: Gate>(
     ensures worked { HasWorked worker.old worker.new }
     ensures ended { HasEnded result worker.new }
 {
+    let mut pace = Pace {
+        workers: crew.workers,
+        last: 0,
+    };
+    let mut answered = 0;
     for _ in rt.forever() {
-        match next_claim(rt, board, locks, worker) {
-            Claim::Finished => return Ended::Finished,
-            Claim::Halted => return Ended::Halted,
-            Claim::Given => answer_given(rt, board, locks, worker, gate),
-            Claim::NotYet => {}
+        let outcome = next_visit(rt, board, crew, worker, answered, &mut pace, gate);
+        if outcome.given == 0 {
+            match outcome.end {
+                Claim::Finished => return Ended::Finished,
+                Claim::Halted => return Ended::Halted,
+                Claim::Given | Claim::NotYet => {}
+            }
         }
+        answer_each(worker, outcome.given, gate);
+        answered = outcome.given;
     }
     unreachable!()
 }

@@ -3,7 +3,8 @@ ghost use Rattle.std.specs.Prelude.{◌≡◌, ◌≤◌, length, IfOk};
 ghost use Rattle.std.specs.List.{All};
 ghost use Rattle.uc_model.specs.Data.{Market, NamedThermalUnit};
 ghost use Rattle.uc_model.specs.declared.limits.TheConstants.{MOST_PERIODS, MOST_POINTS};
-ghost use Rattle.answer_workers.specs.Workers.{HasParts};
+ghost use Rattle.answer_workers.specs.Workers.{HasParts, IsHeldFor};
+ghost use Rattle.answer_workers.specs.declared.worker.TheConstants.{MOST_HELD};
 
 use board_share::Seat;
 use slope_list::Slopes;
@@ -12,15 +13,31 @@ use uc_model::cases::Task;
 use uc_model::units::Answered;
 use unit_program::Bench;
 
+/// The most tasks that a worker holds at once.
+pub const MOST_HELD: usize = 8;
+
+/// A task that a worker holds, and the answer to it.
+#[derive(Drop)]
+pub struct Held {
+    pub task: Task,
+    pub answer: Answered,
+    /// The proposal of the task that the answer is to.
+    pub proposal: u32,
+    /// The unit of that task.
+    pub unit: u32,
+}
+
 /// A seat at a shared board, and all the memory that its answers take.
 #[derive(Drop)]
 pub struct Worker {
     pub seat: Seat,
     pub bench: Bench<Slopes>,
-    /// The task that it was given last.
+    /// Where it is given a task.
     pub task: Task,
-    /// What it answered last.
+    /// Where it answers one.
     pub answer: Answered,
+    /// The tasks that it was given at its last visit to the board, and their answers.
+    pub held: Vec<Held>,
 }
 
 /// How the work at a board ended.
@@ -30,6 +47,38 @@ pub enum Ended {
     Finished,
     /// Some caller halted before that.
     Halted,
+}
+
+impl Held {
+    fn make(alloc: Global, periods: u32) -> Result<Held, AllocError>
+        requires some { 1 ≤ periods }
+        requires periods { periods ≤ MOST_PERIODS }
+        ensures { IfOk result (λ h. (m : Market) → m.periods ≡ periods → IsHeldFor m h) }
+    {
+        let task = Task::make(alloc, periods)?;
+        let answer = Answered::make(alloc, periods)?;
+        Ok(Held {
+            task,
+            answer,
+            proposal: 0,
+            unit: 0,
+        })
+    }
+}
+
+// Room for as many tasks as a worker holds.
+fn make_held(alloc: Global, periods: u32) -> Result<Vec<Held>, AllocError>
+    requires some { 1 ≤ periods }
+    requires periods { periods ≤ MOST_PERIODS }
+    ensures count { IfOk result (λ hs. length hs.items ≡ MOST_HELD) }
+    ensures fits { IfOk result (λ hs. (m : Market) → m.periods ≡ periods
+        → All (IsHeldFor m) hs.items) }
+{
+    let mut held = Vec::with_capacity(alloc, MOST_HELD)?;
+    for _ in 0..MOST_HELD {
+        held.push_reserved(Held::make(alloc, periods)?);
+    }
+    Ok(held)
 }
 
 impl Worker {
@@ -55,11 +104,13 @@ impl Worker {
         bench.keep_for(alloc, units, periods)?;
         let task = Task::make(alloc, periods)?;
         let answer = Answered::make(alloc, periods)?;
+        let held = make_held(alloc, periods)?;
         Ok(Worker {
             seat,
             bench,
             task,
             answer,
+            held,
         })
     }
 }

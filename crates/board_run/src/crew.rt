@@ -66,6 +66,7 @@ fn join_all(board: &SharedBoard, owner: &mut Seat, workers: &mut Vec<Worker>)
             bench: _,
             task: _,
             answer: _,
+            held: _,
         } = worker;
         board.join(owner, seat);
     }
@@ -106,6 +107,7 @@ pub fn answer_board<R: Threads + Wait + Sync, G: Gate>(
         bench,
         task: _,
         answer: _,
+        held: _,
     } = owner;
     (close_board(board, seat, workers), bench)
 }

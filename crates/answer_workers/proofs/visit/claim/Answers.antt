@@ -1,7 +1,7 @@
 use Rattle.answer_workers.proofs.Common.{view_of}
 use Rattle.answer_workers.proofs.Lemmas.{claim_goes, parts_after}
 use Rattle.answer_workers.proofs.Told.{told}
-use Rattle.answer_workers.proofs.waiting.claim.Goals as goal
+use Rattle.answer_workers.proofs.visit.claim.Goals as goal
 
 pub returns-clause-worked : goal.returns-clause-worked
 returns-clause-worked g c = record {
@@ -12,6 +12,4 @@ returns-clause-worked g c = record {
 
 pub returns-clause-told : goal.returns-clause-told
 returns-clause-told g c =
-    let after = parts_after c.args.worker.now c.claim.new.seat c.claim.new.into c.claim.ensures.board c.requires.parts c.claim.ensures.room in
-    told c.claims_mean.ensures c.claim.result c.args.worker.now.task _ (view_of c.args.worker.now.seat) (record c.args.worker.now { seat = c.claim.new.seat; task = c.claim.new.into })
-    c.claim.ensures.call c.claim.ensures.unchanged after.bench
+    told c.claims_mean.ensures c.claim.result c.args.worker.now.task _ (view_of c.args.worker.now.seat) (record c.args.worker.now { seat = c.claim.new.seat; task = c.claim.new.into }) c.claim.ensures.call c.claim.ensures.unchanged

@@ -1,0 +1,22 @@
+//! How many tasks a worker takes at once.
+ghost use Rattle.std.specs.Prelude.{◌<◌};
+
+/// How many tasks a worker takes at a visit: the fewer, the fewer the proposal has left, so that
+/// the other workers get some too.
+#[derive(Clone, Copy)]
+pub struct Pace {
+    pub workers: usize,
+    /// The greatest unit number of the tasks so far.
+    pub last: u32,
+    ghost some: { 0 < workers },
+}
+
+impl Pace {
+    // Whether a worker has its share that holds so many tasks, the last of them of that unit: one
+    // task where there is no other worker, since it then waits for none.
+    pub fn is_share(&mut self, held: usize, unit: u32) -> bool {
+        self.last = self.last.max(unit);
+        let left = self.last - unit;
+        self.workers < 2 || held >= left as usize / self.workers / 2
+    }
+}

@@ -1,0 +1,126 @@
+//! One visit of a worker to the board: it posts what it has answered, and claims further tasks.
+ghost use Rattle.std.specs.Prelude.{◌≡◌, ◌<◌};
+ghost use Rattle.answer_workers.specs.Workers.{IsWorkerOf, HasWorked, AreGiven, AreAnswered};
+ghost use Rattle.answer_workers.specs.Workers.{IsTold, IsEnd};
+
+use crate::pace::Pace;
+use crate::worker::{MOST_HELD, Worker};
+use board_core::Claim;
+use board_history::laws::claims_mean;
+use board_share::SharedBoard;
+use std::mem::swap;
+use std::sync::{Mutex, MutexGuard, Wait};
+use std::thread;
+
+// How often a worker looks whether no other visits the board, before it sleeps until that is so.
+const MOST_LOOKS: u32 = 64;
+
+/// Held during a visit.
+#[derive(Drop)]
+pub struct Call;
+
+/// Held by the one worker that looks for a task while none is open.
+#[derive(Drop)]
+pub struct Lookout;
+
+/// How many workers there are, and what they wait for asleep. The board's turns go round in order,
+/// and the worker whose turn has come may not be running; so each visit is made under a lock, which
+/// any running worker may take.
+#[derive(Drop)]
+pub struct Crew {
+    pub call: Mutex<Call>,
+    pub lookout: Mutex<Lookout>,
+    pub workers: usize,
+    ghost some: { 0 < workers },
+}
+
+/// What came of a visit: how many tasks were given, and the answer of its last claim.
+#[derive(Clone, Copy)]
+pub struct Outcome {
+    pub given: usize,
+    pub end: Claim,
+}
+
+// Posts the answers to the first tasks that the worker holds.
+fn post_each<R: Wait>(rt: &R, board: &SharedBoard, worker: &mut Worker, answered: usize)
+    requires own { IsWorkerOf board.now worker.old }
+    requires answered { AreAnswered answered worker.old }
+    ensures { HasWorked worker.old worker.new }
+{
+    for k in 0..answered {
+        let held = &worker.held[k];
+        // It is taken: the task was given to this caller, who posts it once.
+        let _ = board.post(rt, &mut worker.seat, &held.task, &held.answer);
+    }
+}
+
+// One claim, and what it tells.
+fn claim<R: Wait>(rt: &R, board: &SharedBoard, worker: &mut Worker) -> Claim
+    requires { IsWorkerOf board.now worker.old }
+    ensures worked { HasWorked worker.old worker.new }
+    ensures held { worker.new.held.items ≡ worker.old.held.items }
+    ensures told { IsTold result worker.new }
+{
+    claims_mean();
+    board.claim(rt, &mut worker.seat, &mut worker.task)
+}
+
+// Claims until the worker has its share, or a claim gives nothing.
+fn claim_share<R: Wait>(
+    rt: &R,
+    board: &SharedBoard,
+    worker: &mut Worker,
+    pace: &mut Pace,
+) -> Outcome
+    requires { IsWorkerOf board.now worker.old }
+    ensures worked { HasWorked worker.old worker.new }
+    ensures given { AreGiven result.given worker.new }
+    ensures told { IsEnd result.end worker.new }
+{
+    for k in 0..MOST_HELD {
+        let end = claim(rt, board, worker);
+        let Claim::Given = end else {
+            return Outcome { given: k, end };
+        };
+        let is_share = pace.is_share(k + 1, worker.task.unit);
+        swap(&mut worker.task, &mut worker.held[k].task);
+        if is_share {
+            return Outcome { given: k + 1, end };
+        }
+    }
+    Outcome {
+        given: MOST_HELD,
+        end: Claim::Given,
+    }
+}
+
+// Takes the lock of the calls. A visit is short, so it looks for a while before it sleeps.
+fn take_call<'a, R: Wait>(rt: &R, crew: &'a Crew) -> MutexGuard<'a, Call> {
+    for _ in 0..MOST_LOOKS {
+        if let Some(call) = crew.call.try_lock() {
+            return call;
+        }
+        thread::yield_now();
+    }
+    crew.call.lock(rt)
+}
+
+// Posts the answers to the first tasks that the worker holds, and claims others in their place.
+pub fn visit<R: Wait>(
+    rt: &R,
+    board: &SharedBoard,
+    crew: &Crew,
+    worker: &mut Worker,
+    answered: usize,
+    pace: &mut Pace,
+) -> Outcome
+    requires own { IsWorkerOf board.now worker.old }
+    requires answered { AreAnswered answered worker.old }
+    ensures worked { HasWorked worker.old worker.new }
+    ensures given { AreGiven result.given worker.new }
+    ensures told { IsEnd result.end worker.new }
+{
+    let _call = take_call(rt, crew);
+    post_each(rt, board, worker, answered);
+    claim_share(rt, board, worker, pace)
+}
