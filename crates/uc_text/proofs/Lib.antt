@@ -1,19 +1,28 @@
 -- The names from elsewhere that the proofs here cite.
 pub mod Common
+-- No value's tokens begin another's.
 pub mod Spellings
+-- A fault within a list, and within an object.
 pub mod Lists
 pub mod Objects
+-- The reader's steps over a list's tokens, an object's, and those of a value and the whole text.
 pub mod Steps
 pub mod MemberSteps
 pub mod ValueSteps
+-- A text has one value or one first fault, and an answer is the only one.
 pub mod Uniqueness
 pub mod Answered
+-- Whether a name was met before: the set of hashes, and names that ascend.
 pub mod Known
 pub mod Ascending
+-- What nodes say that were put behind others.
 pub mod Nodes
+-- Which token it isn't, and the node of a value of one token.
 pub mod OtherTokens
 pub mod Words
+-- Each text has a value or a first fault.
 pub mod Decided
+-- No bytes are the token at the end.
 pub mod Ending
 -- The lemmas that answers cite.
 pub mod Lemmas

@@ -82,7 +82,7 @@ items-returns-in-CloseList-token t c =
       fault = tt;
       ahead = omega (arith, c.next-behind.ensures.ahead, c.in_ok-value.ensures.ahead, c.items.invariant.few);
       same = c.next-behind.ensures.same ∙ c.in_ok-value.ensures.same ∙ c.items.invariant.same;
-      names = c.in_ok-value.ensures.names ∙ c.items.invariant.names;
+      names = ◌∙◌ {A = List Quoted} c.in_ok-value.ensures.names c.items.invariant.names;
     }
 
 pub items-returns-in_default-token : goal.items-returns-in_default-token
