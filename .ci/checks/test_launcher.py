@@ -1,6 +1,6 @@
 """The launcher: it takes the program that is built, answers `help` alone, and proves what the program needs where it must.
 
-Proving is tried on a small repository with a stand-in for `rt`, which notes what it was asked and proves nothing.
+Proving is tried on a small repository with a stand-in for the kit, which notes what it was asked and proves nothing.
 """
 import os
 import shutil
@@ -13,19 +13,42 @@ from built import EXAMPLES, LAUNCHER, ROOT, run
 
 WITHOUT_RT = {"PATH": "/usr/bin:/bin", "HOME": "/"}
 CRATES = "# a comment\nlow: arrayvec\nfor_tests: low\nhigh: low\nhull_cli: high low\n"
-STAND_IN = """#!/usr/bin/env bash
-crate=$(basename "$PWD")
-echo "$1 $crate" >> "$ASKED"
-case "$1 $crate $FAILS" in
-    "lib high high") exit 1 ;;
-    "lib high killed") [ "$(grep -c 'lib high' "$ASKED")" -gt 1 ] || exit 137 ;;
-    "run hull_cli compile") exit 1 ;;
-    run*)
-        printf '#!/bin/sh\\n[ "$#" -gt 0 ] && { echo "given $*"; exit 0; }\\necho fault 1 words 1 0\\nexit 1\\n' > out/hull_cli
-        chmod +x out/hull_cli; ./out/hull_cli ;;
+PROVER = """#!/usr/bin/env bash
+while [ "$1" != --crate-name ]; do shift; done
+crate=$2
+case "$*" in *"--jobs "[0-9]*) ;; *) exit 2 ;; esac
+case "$crate $* " in
+    hull_cli*" src/main.rt "*" --backend llvm "*) what=program ;;
+    hull_cli*) exit 2 ;;
+    *" src/lib.rt "*" --statements "*) what=library ;;
+    *) exit 2 ;;
+esac
+echo "$what $crate" >> "$ASKED"
+case "$crate $FAILS" in
+    "high high") exit 1 ;;
+    "high killed") [ "$(grep -c 'library high' "$ASKED")" -gt 1 ] || exit 137 ;;
+    "hull_cli compile") exit 1 ;;
+esac
+while [ "$1" != -o ]; do
+    case "$1" in
+        *=*.rlib) [ -e "${1#*=}" ] || { echo "no ${1#*=}"; exit 2; } ;;
+    esac
+    shift
+done
+mkdir -p "$2"
+"""
+LINKER = """#!/usr/bin/env bash
+while [ "$1" != -o ]; do shift; done
+printf '#!/bin/sh\\n[ "$#" -gt 0 ] && { echo "given $*"; exit 0; }\\necho fault 1 words 1 0\\nexit 1\\n' > "$2"
+chmod +x "$2"
+"""
+RT = """#!/usr/bin/env bash
+case "$1" in
+    version) echo "${KIT:-a kit}" ;;
+    doc) echo "$(dirname "$(dirname "$0")")/START-HERE.md" ;;
 esac
 """
-BUILT = ["lib low", "lib high", "run hull_cli"]
+BUILT = ["library low", "library high", "program hull_cli"]
 
 
 class Launcher(unittest.TestCase):
@@ -37,10 +60,13 @@ class Launcher(unittest.TestCase):
         self.write("HANDLES", "Handles allowed: none.\n")
         for crate in ("low", "for_tests", "high", "hull_cli"):
             self.write(f"crates/{crate}/src/lib.rt", "")
-        self.write("bin/rt", STAND_IN)
-        os.chmod(f"{self.room}/bin/rt", 0o755)
+        for name, text in (("rt", RT), ("rattle", PROVER), ("rattle-link", LINKER)):
+            self.write(f"a kit/bin/{name}", text)
+            os.chmod(f"{self.room}/a kit/bin/{name}", 0o755)
+        for name in ("std", "arrayvec"):
+            self.write(f"a kit/rlibs/{name}.rlib/format", "")
         self.env = {
-            "PATH": f"{self.room}/bin:/usr/bin:/bin",
+            "PATH": f"{self.room}/a kit/bin:/usr/bin:/bin",
             "ASKED": f"{self.room}/asked",
             "FAILS": "",
             "HOME": "/",
@@ -93,7 +119,25 @@ class Launcher(unittest.TestCase):
         self.assertEqual(self.asked(), BUILT)
         os.utime(f"{self.room}/crates/high/src/lib.rt", (later, later))
         self.hull("check")
+        self.assertEqual(self.asked(), [*BUILT, *BUILT[1:]])
+
+    def test_what_stands_on_a_crate_that_changed_is_proved_again(self):
+        self.hull("check")
+        later = time.time() + 1
+        os.utime(f"{self.room}/crates/low/src/lib.rt", (later, later))
+        time.sleep(1.1)
+        self.hull("check")
         self.assertEqual(self.asked(), [*BUILT, *BUILT])
+
+    def test_what_was_proved_with_another_kit_is_proved_again(self):
+        self.hull("check", FAILS="compile")
+        self.hull("check", KIT="another kit")
+        self.assertEqual(self.asked(), [*BUILT, BUILT[-1], *BUILT])
+
+    def test_what_was_proved_before_a_run_was_ended_is_not_proved_again(self):
+        self.hull("check", FAILS="high")
+        self.hull("check")
+        self.assertEqual(self.asked(), [*BUILT[:2], *BUILT[1:2], *BUILT[1:]])
 
     def test_a_crate_that_fails_is_named_in_one_clear_line(self):
         status, output, said = self.hull("check", FAILS="high")
@@ -101,12 +145,12 @@ class Launcher(unittest.TestCase):
         lines = said.decode().splitlines()
         self.assertEqual(lines[2], "hull: high ended badly, and is tried once more at the end")
         self.assertRegex(lines[-1], r"^hull: no program: high failed; .*/crates/hull_cli/out/logs/high says why$")
-        self.assertEqual(self.asked(), ["lib low", "lib high", "lib high"])
+        self.assertEqual(self.asked(), ["library low", "library high", "library high"])
 
     def test_a_crate_that_was_killed_is_tried_again_with_nothing_beside_it(self):
         status, output, said = self.hull("check", FAILS="killed")
         self.assertEqual((status, output), (0, b"given check\n"))
-        self.assertEqual(self.asked(), [*BUILT[:1], "lib high", *BUILT[1:]])
+        self.assertEqual(self.asked(), [*BUILT[:1], "library high", *BUILT[1:]])
         self.assertIn("hull: high is proved, 0 of 2 are left", said.decode())
 
     def test_crates_that_do_not_stand_on_each_other_are_proved_side_by_side(self):
@@ -115,7 +159,7 @@ class Launcher(unittest.TestCase):
         self.hull("check")
         self.assertEqual(
             (sorted(self.asked()[:2]), self.asked()[2:]),
-            (["lib beside", "lib low"], BUILT[1:]),
+            (["library beside", "library low"], BUILT[1:]),
         )
 
     def test_of_the_repositorys_crates_those_of_the_program_are_proved_each_after_those_below_it(self):
@@ -132,12 +176,14 @@ class Launcher(unittest.TestCase):
         self.write("crates.txt", text)
         for name in below:
             self.write(f"crates/{name}/src/lib.rt", "")
+        for name in {it for _, stands_on in lines for it in stands_on.split()} - set(below):
+            self.write(f"a kit/rlibs/{name}.rlib/format", "")
         self.assertEqual(self.hull("check")[0], 0)
         proved = set()
         for what, name in (it.split() for it in self.asked()):
             self.assertIn(name, due)
             self.assertLessEqual(set(below[name]), proved)
-            if what == "lib":
+            if what == "library":
                 proved.add(name)
         self.assertEqual(proved, due - {"hull_cli"})
         self.assertNotIn("whole_tests", due)
@@ -147,7 +193,7 @@ class Launcher(unittest.TestCase):
         status, output, said = self.hull("check", FAILS="compile")
         self.assertEqual((status, output), (127, b""))
         self.assertTrue(said.decode().splitlines()[-1].endswith("crates/hull_cli/out/build.log says why"))
-        self.assertEqual(self.asked(), [*BUILT, "run hull_cli"])
+        self.assertEqual(self.asked(), [*BUILT, BUILT[-1]])
 
     def test_without_rt_it_says_so(self):
         status, output, said = run(["check"], program=f"{self.room}/hull", env=WITHOUT_RT)
