@@ -27,12 +27,14 @@ class Docs(unittest.TestCase):
 
     def test_tables_are_whole(self):
         for page in PAGES:
-            cells = None
+            cells, behind_head = None, False
             for number, line in enumerate(self.read(page).split("\n"), 1):
+                at = f"{os.path.relpath(page, ROOT)}, line {number}"
                 now = len(re.findall(r"(?<!\\)\|", line)) if line.startswith("|") else None
-                self.assertTrue(
-                    None in (cells, now) or cells == now, f"{os.path.relpath(page, ROOT)}, line {number}"
-                )
+                self.assertTrue(None in (cells, now) or cells == now, at)
+                # A table begins with a head and a rule, also where a blank line stands within it by mistake.
+                self.assertTrue(not behind_head or re.fullmatch(r"\|([ :]*-+[ :]*\|)+", line), at)
+                behind_head = cells is None and now is not None
                 cells = now
 
     def test_lines_that_report_explains_are_printed_by_examples(self):
