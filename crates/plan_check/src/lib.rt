@@ -1,8 +1,6 @@
 //! Whether a schedule of all units keeps the rules, and what it costs.
 #![tactic(auto)]
 
-use uc_model::kinds::{Kind, RuleCode};
-
 mod check;
 pub mod costs;
 pub mod laws;
@@ -13,6 +11,7 @@ mod tests;
 pub mod totals;
 
 pub use check::check_plan;
+pub use uc_model::kinds::{Kind, RuleCode};
 
 /// Why a schedule isn't feasible: the first rule that it breaks.
 #[derive(Clone, Copy, PartialEq, Eq)]
