@@ -55,7 +55,8 @@ fn choice_in(bid: &Bid, prices: &Prices, place: usize) -> Choice
     requires prices { length (prices_of prices.now).energy ≡ length (bid_of bid.now).blocks }
     requires place { place < length (bid_of bid.now).blocks }
     ensures { IsLeastChoice (IsWithinBlocks (blocks_at (bid_of bid.now) place))
-        (bought_at (blocks_at (bid_of bid.now) place) (int_at (prices_of prices.now).energy place)) result.power result.earned }
+        (bought_at (blocks_at (bid_of bid.now) place) (int_at (prices_of prices.now).energy place))
+        result.power result.earned }
 {
     let blocks = bid.blocks.get(place).as_slice();
     choice_of(blocks, *prices.energy.get(place))

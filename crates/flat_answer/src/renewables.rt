@@ -30,7 +30,8 @@ fn choice_in(flat: &Renewable, prices: &Prices, place: usize) -> Choice
     requires prices { length (prices_of prices.now).energy ≡ length (renewable_of flat.now).least }
     requires place { place < length (renewable_of flat.now).least }
     ensures { IsLeastChoice
-        (IsBetween (int_at (renewable_of flat.now).least place) (int_at (renewable_of flat.now).most place))
+        (IsBetween (int_at (renewable_of flat.now).least place)
+        (int_at (renewable_of flat.now).most place))
         (sold_at (int_at (prices_of prices.now).energy place)) result.power result.earned }
 {
     let least = *flat.least.get(place);

@@ -1,18 +1,32 @@
 -- The names from elsewhere that the proofs here cite.
 pub mod Common
-pub mod BackSums
-pub mod BestLaws
+-- planes.rt, sums.rt: products and sums within bounds
 pub mod Bounds
-pub mod Box
-pub mod FirstLeast
-pub mod Least
-pub mod Mean
-pub mod RangeLaws
-pub mod RowLists
-pub mod RunRows
+-- planes.rt: sums in a list, as they run while a number is added at each place
 pub mod Running
-pub mod Subgradients
-pub mod Sizes
+-- sums.rt, ranges.rt, bound.rt: weighted sums of planes, as they run while a row is added in front
 pub mod SumLaws
+-- bound.rt, ranges.rt: the rows and weights from a place on
+pub mod RowLists
+-- ranges.rt: the sums of the rows from a place to the last, each once
+pub mod BackSums
+-- ranges.rt: the least of some numbers, the first of them in a tie, found from the last one back
+pub mod Least
+-- ranges.rt: the bound by a range of rows is the bound by those rows alone
+pub mod RangeLaws
+-- ranges.rt: the first of the candidates with the least bound
+pub mod FirstLeast
+-- laws.rt: a row's plane is nowhere below the dual
+pub mod Subgradients
+-- laws.rt: a weighted mean of planes bounds the dual over a box
+pub mod Mean
+-- laws.rt: the centre stands in its box
+pub mod Box
+-- laws.rt: what the bound of the best range says
+pub mod BestLaws
+-- laws.rt: the rows of a run are answered, and their prices are within the limits
+pub mod RunRows
+-- laws.rt: answered rows are far from the limits of their types
+pub mod Sizes
 -- The lemmas that answers cite.
 pub mod Lemmas

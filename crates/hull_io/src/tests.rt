@@ -102,7 +102,8 @@ fn largest_file(rt: HostRuntime) -> Result<(), Fail> {
     Ok(())
 }
 
-// A path at which this user can make a file: here, or where all can. There another's run may have left its own.
+// A path at which this user can make a file: here, or where all can. There another's run may have
+// left its own.
 fn scratch(rt: HostRuntime, name: &str) -> Result<String, Fail> {
     let alloc = rt.alloc();
     for folder in [".", "/tmp", "/var/tmp", "/dev/shm"] {

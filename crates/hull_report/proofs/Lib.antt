@@ -2,15 +2,21 @@
 pub mod Common
 -- record.rt, fixed.rt, fault.rt: texts one after another
 mod RecordTexts
--- record.rt: the lines of a record's units, its rows, and the whole text
-mod ChosenRow
+-- record.rt, laws.rt: lists of lines that are made of names and numbers
 mod UnitLines
-mod Records
+-- record.rt, fixed.rt: the lines of a record's units
 mod RecordLines
+-- record.rt: the text of a record's report, part by part
 mod WholeReports
--- laws.rt: that at most one report is right
+-- laws.rt: where there is a row, one is chosen
+mod ChosenRow
+-- laws.rt: what the record of a finished board tells of its chosen row
+mod Records
+-- laws.rt: a right report has the form of a report
 mod RightForm
+-- laws.rt: at most one list of rows is a run
 mod OneRun
+-- laws.rt: at most one report is right
 mod OneReport
 -- bound.rt: the chosen value is told
 mod BoundLaws

@@ -89,7 +89,8 @@ fn write_proposals<S: Sink>(closed: &Closed, choice: Choice, out: &mut S) -> Res
     requires proposals { choice.proposals ≡ length (own_rows closed.now) }
     requires most { choice.proposals ≤ MOST_PROPOSALS }
     ensures { Writes S.held S.faults S.last out.old out.new result (
-        head_text closed.now.setup.market.periods (unit_count closed.now.setup.market) closed.now.setup.budget closed.now.setup.ahead closed.now.setup.cost choice.proposals
+        head_text closed.now.setup.market.periods (unit_count closed.now.setup.market)
+        closed.now.setup.budget closed.now.setup.ahead closed.now.setup.cost choice.proposals
         ++ rows_text 1 (own_rows closed.now)
         ++ chosen_text choice.chosen choice.value
         ) }
@@ -224,7 +225,8 @@ fn write_unit_lines<S: Sink>(
     requires horizon { length (schedule_of buffer.old.response).on
         ≡ closed.now.setup.market.periods }
     ensures text { Writes S.held S.faults S.last out.old out.new result (
-        flat_map thermal_text (lines_from (line_of closed.now settlement.now proposal) 0 (thermal_names closed.now.setup.market))
+        flat_map thermal_text (lines_from (line_of closed.now settlement.now proposal)
+        0 (thermal_names closed.now.setup.market))
         ++ flat_map renewable_text (lines_from (line_of closed.now settlement.now proposal)
         (length closed.now.setup.market.thermal) (renewable_names closed.now.setup.market))
         ++ flat_map bid_text (lines_from (line_of closed.now settlement.now proposal)

@@ -1,9 +1,14 @@
 -- The names from elsewhere that the proofs here cite.
 pub mod Common
+-- text.rt: what std says of a text's parts, in the words of this crate
 pub mod TextLemmas
+-- reading.rt: how many values are set, and what one step of the reader adds
 pub mod Counts
+-- reading.rt: one step of the reader is the rules at that place
 pub mod Steps
+-- reading.rt: the reader's pass gives what the rules give
 pub mod Exact
+-- reading.rt: the pass over the words, place by place, as the reader's loop makes it
 pub mod Places
 -- The lemmas that answers cite.
 pub mod Lemmas

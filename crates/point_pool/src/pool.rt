@@ -18,7 +18,8 @@ pub struct Pool {
     pub(crate) work: Vec<Knot>,
     pub(crate) free: u32,
     pub(crate) spare: u32,
-    ghost free_list: { AreFree slots.items (walk slots.items free spare) } by { Prim.hlevel (AreDistinct-prop, props) },
+    ghost free_list: { AreFree slots.items
+        (walk slots.items free spare) } by { Prim.hlevel (AreDistinct-prop, props) },
     ghost room: { length work.items ≡ length slots.items },
     ghost few: { length slots.items < 2 ^ 32 },
 }

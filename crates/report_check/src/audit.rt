@@ -175,7 +175,8 @@ fn rows_right<R: Threads + Wait + Sync>(
         ↔ IsRightReport (market_of case.now) (schedules_of plan.now)
         (report_of report.now).budget (report_of report.now).ahead (report_of report.now)) }
     ensures wrong { IfOk result (λ audit. IfWrong audit (λ line.
-        DiffersFromRight (market_of case.now) (schedules_of plan.now) (report_of report.now) line)) }
+        DiffersFromRight (market_of case.now) (schedules_of plan.now)
+        (report_of report.now) line)) }
 {
     let mut jobs = jobs_for(alloc, case, benches)?;
     let most = enough_rows(report);
@@ -218,7 +219,8 @@ pub fn check_report<R: Threads + Wait + Sync>(
         ↔ IsRightReport (market_of case.now) (schedules_of plan.now)
         (report_of report.now).budget (report_of report.now).ahead (report_of report.now)) }
     ensures wrong { IfOk result (λ audit. IfWrong audit (λ line.
-        DiffersFromRight (market_of case.now) (schedules_of plan.now) (report_of report.now) line)) }
+        DiffersFromRight (market_of case.now) (schedules_of plan.now)
+        (report_of report.now) line)) }
 {
     match opening_right(case, plan, cost, report) {
         Ok(_) => rows_right(rt, alloc, case, plan, cost, report, benches),

@@ -71,3 +71,9 @@ module _ {S : Type 0} {held : S → Option (List ℕ)} {faults : S → ℕ} wher
   -- the exit of a `?` in a loop over such a list
   pub exit_in_list : {X E : Type 0} {last : Option ℕ} {old mid new : S} (f : X → List ℕ) (xs : List X) (i : ℕ) (d : X) (r : Result (Unit {0}) E) → IsErr r → i < length xs → FallsShort held faults last mid new (f (get_or xs i d)) → Gains held faults old mid (flat_map f (take i xs)) → Writes held faults last old new r (flat_map f xs)
   exit_in_list f xs i d r e h q p = writes_exit _ r e (short_in_list f xs i d h q p)
+
+-- for a function that writes one text and then another
+pub ruleset two_texts = (gains_then, short_then, short_more, writes_then)
+
+-- for a loop that writes the texts of a list
+pub ruleset list_of_texts = (gains_then, short_then, short_more, gains_in_list, short_in_list)

@@ -1,17 +1,20 @@
 -- The names from elsewhere that the proofs here cite.
 pub mod Common
--- parts.rt, laws.rt: how what a sink holds grows
+-- parts.rt, pieces.rt, laws.rt: how what a sink holds grows
 mod GrownLemmas
 -- pieces.rt: texts that are written in pieces
 mod PieceLemmas
--- parts.rt: names, and numbers in digits
+-- parts.rt: how the bytes of a name are escaped
 mod NameLemmas
+-- parts.rt, pieces.rt: numbers in digits
 mod NumeralLaws
 -- report.rt: the rows, one after another
 mod RowTexts
--- laws.rt: a text read back
+-- laws.rt: a text read back from the left
 mod ReadBack
+-- laws.rt: the blocks of a report, read back
 mod ReadLines
+-- laws.rt: a report, read back block by block
 mod ReadReport
 -- The lemmas that answers cite.
 pub mod Lemmas

@@ -43,3 +43,9 @@ module _ {S : Type 0} {held : S → Option (List ℕ)} {faults : S → ℕ} wher
       → Writes held faults last mid new r waiting → Pends held faults old mid waiting (flat_map f (take i xs)) → Writes held faults last old new r (flat_map f xs)
   pends_end {last = last} {old = old} {new = new} f xs i past waiting r q p =
       subst (Writes held faults last old new r) (sym p.joins ∙ ap (flat_map f) (take_all i xs past)) (writes_then p.front waiting r q p.gained)
+
+-- for a piece that is written where it has no room
+pub ruleset room_made = (pends_all, pends_none)
+
+-- for one more text in a piece
+pub ruleset one_more = (pends_more, pends_all)

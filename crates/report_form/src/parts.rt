@@ -52,7 +52,7 @@ fn write_amount<S: Sink>(out: &mut S, x: i128) -> Result<(), WriteFailed>
     write_number(out, x)
 }
 
-#[tactic(auto, using(crate::proofs::GrownLemmas::gains_then, crate::proofs::GrownLemmas::short_then, crate::proofs::GrownLemmas::short_more, crate::proofs::GrownLemmas::writes_then))]
+#[tactic(auto, using(crate::proofs::GrownLemmas::two_texts))]
 fn write_behind<S: Sink>(out: &mut S, word: &[u8], n: u64) -> Result<(), WriteFailed>
     ensures { Writes S.held S.faults S.last out.old out.new result (word.now ++ numeral n) }
 {
@@ -106,7 +106,7 @@ fn write_escaped<S: Sink>(out: &mut S, byte: u8) -> Result<(), WriteFailed>
     }
 }
 
-#[tactic(auto, using(crate::proofs::GrownLemmas::gains_then, crate::proofs::GrownLemmas::short_then, crate::proofs::GrownLemmas::short_more, crate::proofs::GrownLemmas::gains_in_list, crate::proofs::GrownLemmas::short_in_list))]
+#[tactic(auto, using(crate::proofs::GrownLemmas::list_of_texts))]
 fn write_bytes<S: Sink>(out: &mut S, bytes: &[u8]) -> Result<(), WriteFailed>
     ensures { Writes S.held S.faults S.last out.old out.new result (flat_map escaped bytes.now) }
 {
@@ -133,7 +133,7 @@ fn write_inside<S: Sink>(out: &mut S, name: &[u8]) -> Result<(), WriteFailed>
     }
 }
 
-#[tactic(auto, using(crate::proofs::GrownLemmas::gains_then, crate::proofs::GrownLemmas::short_then, crate::proofs::GrownLemmas::short_more, crate::proofs::GrownLemmas::writes_then))]
+#[tactic(auto, using(crate::proofs::GrownLemmas::two_texts))]
 fn write_closed<S: Sink>(out: &mut S, name: &[u8]) -> Result<(), WriteFailed>
     ensures { Writes S.held S.faults S.last out.old out.new result (closed name.now) }
 {
@@ -141,7 +141,7 @@ fn write_closed<S: Sink>(out: &mut S, name: &[u8]) -> Result<(), WriteFailed>
     write_whole(out, b"\"")
 }
 
-#[tactic(auto, using(crate::proofs::GrownLemmas::gains_then, crate::proofs::GrownLemmas::short_then, crate::proofs::GrownLemmas::short_more, crate::proofs::GrownLemmas::writes_then))]
+#[tactic(auto, using(crate::proofs::GrownLemmas::two_texts))]
 fn write_quoted<S: Sink>(out: &mut S, name: &[u8]) -> Result<(), WriteFailed>
     ensures { Writes S.held S.faults S.last out.old out.new result (quoted name.now) }
 {
@@ -166,7 +166,7 @@ fn write_part<S: Sink>(out: &mut S, part: &Part<'_>) -> Result<(), WriteFailed>
 }
 
 /// Writes the parts, one after another.
-#[tactic(auto, using(crate::proofs::GrownLemmas::gains_then, crate::proofs::GrownLemmas::short_then, crate::proofs::GrownLemmas::short_more, crate::proofs::GrownLemmas::gains_in_list, crate::proofs::GrownLemmas::short_in_list))]
+#[tactic(auto, using(crate::proofs::GrownLemmas::list_of_texts))]
 pub fn write_parts<S: Sink>(out: &mut S, parts: &[Part<'_>]) -> Result<(), WriteFailed>
     ensures { Writes S.held S.faults S.last out.old out.new result (flat_map part_text parts.now) }
 {

@@ -16,7 +16,7 @@ const MOST: usize = 4096;
 const LONGEST: usize = 41;
 
 /// Where there is no room for a number, writes the piece and empties it.
-#[tactic(auto, using(crate::proofs::PieceLemmas::pends_all, crate::proofs::PieceLemmas::pends_none))]
+#[tactic(auto, using(crate::proofs::PieceLemmas::room_made))]
 fn make_room<S: Sink>(out: &mut S, piece: &mut ArrayString<MOST>) -> Result<(), WriteFailed>
     ensures ok { OnOk result (Pends S.held S.faults out.old out.new piece.new.bytes
         piece.old.bytes) }
@@ -31,7 +31,7 @@ fn make_room<S: Sink>(out: &mut S, piece: &mut ArrayString<MOST>) -> Result<(), 
 }
 
 /// Adds a number behind a space to the piece.
-#[tactic(auto, using(crate::proofs::PieceLemmas::pends_more, crate::proofs::PieceLemmas::pends_all))]
+#[tactic(auto, using(crate::proofs::PieceLemmas::one_more))]
 fn add_number<S: Sink, I: Integer>(
     out: &mut S,
     piece: &mut ArrayString<MOST>,
@@ -55,7 +55,7 @@ fn flag_str(flag: bool) -> &'static str
     if flag { " 1" } else { " 0" }
 }
 
-#[tactic(auto, using(crate::proofs::PieceLemmas::pends_more, crate::proofs::PieceLemmas::pends_all))]
+#[tactic(auto, using(crate::proofs::PieceLemmas::one_more))]
 fn add_flag<S: Sink>(
     out: &mut S,
     piece: &mut ArrayString<MOST>,

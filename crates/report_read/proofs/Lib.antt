@@ -8,11 +8,13 @@ pub mod Loops
 pub mod LineLoops
 -- numbers.rt: narrower limits, and numbers with a sign
 pub mod Narrow
--- parts of a line are read from their text alone: words and lists, numbers, names
+-- rows.rt, units.rt, read.rt: words and lists are read from their text alone
 pub mod Parts
+-- rows.rt, units.rt, read.rt: so are numbers
 pub mod Numerals
+-- names.rt, units.rt: so are names
 pub mod NameParts
--- lines one after the other are so too, and stop at the first line in fault
+-- rows.rt, units.rt, read.rt: lines one after the other are so too, and stop at the first line in fault
 pub mod Forms
 -- rows.rt, head.rt: the first lines, proposals and the last lines
 pub mod RowForms

@@ -24,6 +24,9 @@ pub behind_done : (word bytes : List ℕ) (i : ℕ) → length word ≤ i → be
 unfolding behind
 behind_done word bytes i p = rw (drop_of_length-le word p) refl
 
+-- for a loop that goes along a word
+pub ruleset behind_loop = (behind_step, behind_short, behind_other, behind_done)
+
 -- ---- digits
 
 pub digits_step : (n : ℕ) (bytes : List ℕ) (i : ℕ) → i < length bytes → is_digit (get_or bytes i 0) ≡ true

@@ -1,5 +1,6 @@
 -- The forms of a report's lines, each read to its end.
-use Rattle.std.specs.Prelude.{ℕ, nat_le, if◌then◌else◌, ℤ, pos, neg_ℤ, List, [], ◌∷◌, codes, Some, None}
+use Rattle.std.specs.Prelude.{ℕ, nat_le, if◌then◌else◌, ℤ, pos, neg_ℤ}
+use Rattle.std.specs.Prelude.{List, [], ◌∷◌, codes, Some, None}
 use Rattle.uc_model.specs.declared.kinds.Kind.{Kind}
 use Rattle.report_read.specs.declared.units.Title.{Title as KeptTitle}
 use Rattle.report_read.specs.Plain.{rank}

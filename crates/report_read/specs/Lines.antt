@@ -1,9 +1,11 @@
 -- The lines of a report, read one after the other: what they tell and the bytes behind them, or how
 -- many bytes are left where the first line in fault begins.
-use Rattle.std.specs.Prelude.{◌≡◌, ℕ, zero, suc, Bool, true, ℤ, pos, neg_ℤ, List, [], ◌∷◌, length, replicate, codes, Some, None, Result, Ok, Err}
+use Rattle.std.specs.Prelude.{◌≡◌, ℕ, zero, suc, Bool, true, ℤ, pos, neg_ℤ, List, []}
+use Rattle.std.specs.Prelude.{◌∷◌, length, replicate, codes, Some, None, Result, Ok, Err}
 use Rattle.uc_model.specs.declared.kinds.Kind.{Kind}
 use Rattle.uc_model.specs.declared.kinds.Kind.TheVariants as kinds
-use Rattle.uc_model.specs.declared.limits.TheConstants.{MOST_PERIODS, MOST_UNITS, MOST_PROPOSALS, PRICE_LIMIT}
+use Rattle.uc_model.specs.declared.limits.TheConstants.{MOST_PERIODS, MOST_UNITS}
+use Rattle.uc_model.specs.declared.limits.TheConstants.{MOST_PROPOSALS, PRICE_LIMIT}
 use Rattle.uc_model.specs.Data.{Schedule}
 use Rattle.uc_model.specs.PriceRule.{Proposal}
 use Rattle.report_form.specs.declared.report.Head.{Head}
@@ -13,7 +15,8 @@ use Rattle.report_read.specs.declared.stop.Stop.{Stop}
 use Rattle.report_read.specs.declared.stop.Stop.TheVariants as stops
 use Rattle.report_read.specs.Plain.{Told, rank, lines_of}
 use Rattle.report_read.specs.Words.{Found, count_at, integer_at, flag_at, spaced, items_at}
-use Rattle.report_read.specs.LineForms.{amount_at, word_line, plain_line, value_line, Title, title_line}
+use Rattle.report_read.specs.LineForms.{amount_at, word_line, plain_line}
+use Rattle.report_read.specs.LineForms.{value_line, Title, title_line}
 
 -- what lines tell, and the bytes behind them; or the bytes left where the line in fault begins
 abbrev pub Read : Type 0 → Type 0

@@ -11,7 +11,7 @@ pub fn rest_from(bytes: &[u8], place: usize) -> &[u8]
 }
 
 /// The bytes behind a word, where it stands in front.
-#[tactic(auto, using(crate::proofs::Steps::behind_step, crate::proofs::Steps::behind_short, crate::proofs::Steps::behind_other, crate::proofs::Steps::behind_done))]
+#[tactic(auto, using(crate::proofs::Steps::behind_loop))]
 pub fn behind<'a>(word: &[u8], bytes: &'a [u8]) -> Option<&'a [u8]>
     ensures { Finds (λ rest. rest.now) result (behind_spec word.now bytes.now) }
 {

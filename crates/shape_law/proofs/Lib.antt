@@ -1,10 +1,17 @@
 -- The names from elsewhere that the proofs here cite.
 pub mod Common
-pub mod ChainLaws
+-- ---- src/laws.rt
+-- each effect keeps convexity, whatever the representation
 pub mod ConvexLaws
+-- the sum of a convex function and a curve is convex
 pub mod CurveLaws
-pub mod EffectLaws
-pub mod FrameLaws
+-- each effect keeps places and values within the limits
 pub mod LimitLaws
+-- each effect fixes the new function, and is that of any function with the same values
+pub mod EffectLaws
+-- a call on one shape leaves the shapes that are apart from it
+pub mod FrameLaws
+-- the cells of a chain of calls
+pub mod ChainLaws
 -- The lemmas that answers cite.
 pub mod Lemmas

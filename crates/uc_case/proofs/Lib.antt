@@ -1,13 +1,22 @@
 -- The names from elsewhere that the proofs here cite.
 pub mod Common
+-- laws.rt: a file is one value, or has one first fault
 pub mod FileLaws
+-- forms.rt: numbers that passed their tests are within their limits
 pub mod Fits
+-- inside.rt: a key looked for, member by member
 pub mod Finds
+-- lists.rt, listed.rt, windows.rt, bids.rt: the items of a list, read one after the other as a loop does
 pub mod Loops
+-- lists.rt, bids.rt: lists whose items keep an order, one item more at the end
 pub mod Ordered
+-- units.rt, bids.rt: what was read for a unit is within the limits of its type
 pub mod Limited
+-- units.rt: the last test of a thermal unit that fails, after the others passed
 pub mod Stops
+-- read.rt: the answer of the reader is the only one
 pub mod Answered
+-- the definition of a case, on trees that were worked by hand
 pub mod Worked
 -- The lemmas that answers cite.
 pub mod Lemmas

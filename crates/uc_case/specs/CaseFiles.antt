@@ -12,7 +12,8 @@ abbrev pub IsCaseOf : List ℕ → Result Market (FileFault FieldFault) → Type
 IsCaseOf = IsReading case_of
 
 -- P of the answer; nothing where memory ran out
-abbrev pub IfRead : {X A : Type 0} → (X → A) → Result X CaseFault → (Result A (FileFault FieldFault) → Type 0) → Type 0
+abbrev pub IfRead : {X A : Type 0} → (X → A) → Result X CaseFault
+    → (Result A (FileFault FieldFault) → Type 0) → Type 0
 IfRead view (Ok x) P = P (Ok (view x))
 IfRead view (Err (faults.Text f)) P = P (Err (text f))
 IfRead view (Err (faults.Field f)) P = P (Err (value f))

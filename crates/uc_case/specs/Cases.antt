@@ -1,5 +1,5 @@
--- The table of a case file: the case of a value, or the fault of the first test that fails (pglib-uc; bids and limits
--- are this project's profile). Keys that no table names are skipped.
+-- The table of a case file: the case of a value, or the fault of the first test that fails
+-- (pglib-uc; bids and limits are this project's profile). Keys that no table names are skipped.
 use Rattle.std.specs.Prelude.{ℕ, ◌&&◌, ◌==◌, nat_lt, List, [], length, Option, Some, None, Ok}
 use Rattle.uc_model.specs.declared.kinds.Kind.{Kind}
 use Rattle.uc_model.specs.declared.kinds.Kind.TheVariants.{Case, Thermal, Renewable, Bid}
@@ -13,7 +13,9 @@ use Rattle.uc_case.specs.Forms.{Read, keys, key, key_or_none, object, time_withi
 use Rattle.uc_case.specs.Tables.{thermal_unit, renewable_unit, bid_unit, powers}
 use Rattle.uc_case.specs.declared.fault.CaseCode.TheVariants.{TooLarge, NoUnits, NoPeriods}
 use Rattle.uc_case.specs.declared.fault.Field.{Field}
-use Rattle.uc_case.specs.declared.fault.Field.TheVariants.{Whole, TimePeriods, Demand, Reserves, ThermalGenerators, RenewableGenerators, DemandBids}
+use Rattle.uc_case.specs.declared.fault.Field.TheVariants.{Whole, TimePeriods, Demand}
+use Rattle.uc_case.specs.declared.fault.Field.TheVariants.{Reserves, ThermalGenerators}
+use Rattle.uc_case.specs.declared.fault.Field.TheVariants.{RenewableGenerators, DemandBids}
 use Rattle.uc_case.specs.declared.fault.Place.{Place}
 
 unfoldable pub thermal : ℕ → Place → Pair → Read NamedThermalUnit
@@ -32,11 +34,13 @@ bid periods at m = do
   Ok (record { name = m.name; unit = u })
 
 -- members in file order, each at the place of its position
-abbrev pub each_member : {A : Type 0} → Field → Kind → (Place → Pair → Read A) → List Pair → Read (List A)
+abbrev pub each_member : {A : Type 0} → Field → Kind → (Place → Pair → Read A)
+    → List Pair → Read (List A)
 each_member field kind read ms = each (λ before. read (place field kind (position before))) [] ms
 
 -- an object by name
-unfoldable pub units : {A : Type 0} → Field → Kind → (Place → Pair → Read A) → Place → Value → Read (List A)
+unfoldable pub units : {A : Type 0} → Field → Kind → (Place → Pair → Read A)
+    → Place → Value → Read (List A)
 units field kind read at v = do
   ms ← object at v
   refuse (fault at TooLarge) (nat_lt MOST_OF_A_KIND (length ms))
@@ -61,5 +65,13 @@ case_of v = do
   thermal ← key c ThermalGenerators (units ThermalGenerators Thermal (thermal periods))
   flat ← key c RenewableGenerators (units RenewableGenerators Renewable (renewable periods))
   bids ← key_or_none c DemandBids (bids periods)
-  refuse (fault (field_at whole RenewableGenerators) NoUnits) (length thermal == 0 && length flat == 0)
-  Ok (record { periods = periods; demand = demand; reserves = reserves; thermal = thermal; flat = flat; bids = bids })
+  refuse (fault (field_at whole RenewableGenerators) NoUnits)
+      (length thermal == 0 && length flat == 0)
+  Ok (record {
+    periods = periods;
+    demand = demand;
+    reserves = reserves;
+    thermal = thermal;
+    flat = flat;
+    bids = bids;
+  })

@@ -19,10 +19,13 @@ of_value (Ok x) = Ok x
 of_value (Err f) = Err (value f)
 
 -- what is read of them, by the reading of a value
-abbrev pub reading_of : {A F : Type 0} → (Value → Result A F) → Result Value TextFault → Result A (FileFault F)
+abbrev pub reading_of : {A F : Type 0} → (Value → Result A F) → Result Value TextFault
+    → Result A (FileFault F)
 reading_of read (Ok v) = of_value (read v)
 reading_of read (Err f) = Err (text f)
 
 -- the file's reading; there is one (Laws.antt)
-abbrev pub IsReading : {A F : Type 0} → (Value → Result A F) → List ℕ → Result A (FileFault F) → Type 0
-IsReading read bytes r = (found : Result Value TextFault) × IsFile bytes found × (reading_of read found ≡ r)
+abbrev pub IsReading : {A F : Type 0} → (Value → Result A F) → List ℕ
+    → Result A (FileFault F) → Type 0
+IsReading read bytes r =
+    (found : Result Value TextFault) × IsFile bytes found × (reading_of read found ≡ r)

@@ -1,5 +1,6 @@
 -- The forms of a case file's fields: each reads one value at a place, with its tests in order.
-use Rattle.std.specs.Prelude.{ℕ, Bool, List, [], Option, Result, Ok, ℤ, pos, nat_abs, unsigned_abs, nat_lt, int_lt, not}
+use Rattle.std.specs.Prelude.{ℕ, Bool, List, [], Option, Result, Ok, ℤ, pos}
+use Rattle.std.specs.Prelude.{nat_abs, unsigned_abs, nat_lt, int_lt, not}
 use Rattle.uc_model.specs.declared.limits.TheConstants.{MOST_TIME}
 use Rattle.uc_num.specs.declared.Decimal.{Decimal}
 use Rattle.uc_num.specs.Rounding.{rounded}
@@ -9,7 +10,8 @@ use Rattle.uc_case.specs.Inside.{number_in, list_in, object_in, value_of, is_who
 use Rattle.uc_case.specs.Places.{fault, field_at, item_at, key_of}
 use Rattle.uc_case.specs.Magnitudes.{most_cost}
 use Rattle.uc_case.specs.Words.{◌>>=◌, ◌>>◌, refuse, need, each, position}
-use Rattle.uc_case.specs.declared.fault.CaseCode.TheVariants.{Missing, WrongKind, NotWhole, Negative, TooLarge, NotFlag}
+use Rattle.uc_case.specs.declared.fault.CaseCode.TheVariants.{Missing, WrongKind, NotWhole}
+use Rattle.uc_case.specs.declared.fault.CaseCode.TheVariants.{Negative, TooLarge, NotFlag}
 use Rattle.uc_case.specs.declared.fault.Field.{Field}
 use Rattle.uc_case.specs.declared.fault.FieldFault.{FieldFault}
 use Rattle.uc_case.specs.declared.fault.Place.{Place}
@@ -97,5 +99,6 @@ abbrev pub key_or_none : {A : Type 0} → Keys → Field → (Place → Option V
 key_or_none o f form = form (field_at o.at f) (value_of (key_of f) o.members)
 
 -- the items of a list, each at the place of its position
-abbrev pub items : {A : Type 0} → (Place → List A → Value → Read A) → Place → List Value → Read (List A)
+abbrev pub items : {A : Type 0} → (Place → List A → Value → Read A)
+    → Place → List Value → Read (List A)
 items read at vs = each (λ before. read (item_at at (position before)) before) [] vs

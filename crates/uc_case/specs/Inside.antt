@@ -1,5 +1,6 @@
 -- The parts of a value that tests look at.
-use Rattle.std.specs.Prelude.{◌==◌, ℕ, Bool, true, false, List, [], ◌∷◌, Option, Some, None, ℤ, pos, negsuc, if◌then◌else◌, bytes_eq}
+use Rattle.std.specs.Prelude.{◌==◌, ℕ, Bool, true, false, List, [], ◌∷◌, Option}
+use Rattle.std.specs.Prelude.{Some, None, ℤ, pos, negsuc, if◌then◌else◌, bytes_eq}
 use Rattle.uc_num.specs.declared.Decimal.{Decimal}
 use Rattle.uc_num.specs.Rounding.{rounded, is_whole_value}
 use Rattle.text_tree.specs.Values.{Value}

@@ -4,7 +4,9 @@ use Rattle.std.specs.List.{All}
 use Rattle.uc_model.specs.declared.units.Lag.{Lag}
 use Rattle.uc_model.specs.declared.units.Point.{Point}
 use Rattle.uc_model.specs.declared.units.Block.{Block}
-use Rattle.uc_model.specs.Limits.{IsLag, AreLagsOrdered, IsPoint, ArePointsOrdered, IsBlock, IsPower, IsOutput, IsTime, IsThermalUnit, IsRenewableUnit, IsBidUnit}
+use Rattle.uc_model.specs.Limits.{IsLag, AreLagsOrdered, IsPoint, ArePointsOrdered}
+use Rattle.uc_model.specs.Limits.{IsBlock, IsPower, IsOutput, IsTime}
+use Rattle.uc_model.specs.Limits.{IsThermalUnit, IsRenewableUnit, IsBidUnit}
 use Rattle.uc_model.specs.Data.{NamedThermalUnit, NamedRenewableUnit, NamedBidUnit}
 use Rattle.uc_case.specs.declared.parts.Output.{Output}
 use Rattle.uc_case.specs.declared.parts.Ramps.{Ramps}
@@ -21,7 +23,8 @@ pub record ArePoints (ps : List Point) : Type 0 where
 -- no price is above the one before it
 pub record AreBlocks (bs : List Block) : Type 0 where
   pub blocks : All IsBlock bs
-  pub falling : (k : ℕ) (d : Block) → suc k < length bs → (slice_index_or bs (suc k) d).price ≤ℤ (slice_index_or bs k d).price
+  pub falling : (k : ℕ) (d : Block) → suc k < length bs
+      → (slice_index_or bs (suc k) d).price ≤ℤ (slice_index_or bs k d).price
 
 pub record IsRange (o : Output) : Type 0 where
   pub least : IsPower o.least

@@ -11,10 +11,12 @@ abbrev pub SomeFile : Type 0
 SomeFile = (bytes : List ℕ) → (found : Result Value TextFault) × IsFile bytes found
 
 abbrev pub OneFile : Type 0
-OneFile = (bytes : List ℕ) (found other : Result Value TextFault) → IsFile bytes found → IsFile bytes other → found ≡ other
+OneFile = (bytes : List ℕ) (found other : Result Value TextFault)
+    → IsFile bytes found → IsFile bytes other → found ≡ other
 
 abbrev pub SomeCase : Type 0
 SomeCase = (bytes : List ℕ) → (r : Result Market (FileFault FieldFault)) × IsCaseOf bytes r
 
 abbrev pub OneCase : Type 0
-OneCase = (bytes : List ℕ) (r s : Result Market (FileFault FieldFault)) → IsCaseOf bytes r → IsCaseOf bytes s → r ≡ s
+OneCase = (bytes : List ℕ) (r s : Result Market (FileFault FieldFault))
+    → IsCaseOf bytes r → IsCaseOf bytes s → r ≡ s

@@ -1,6 +1,7 @@
 -- The limits of the model as numbers that tests of a magnitude take.
 use Rattle.std.specs.Prelude.{ℕ, nat_abs}
-use Rattle.uc_model.specs.declared.limits.TheConstants.{POWER_LIMIT, OUTPUT_LIMIT, COST_LIMIT, PRICE_LIMIT}
+use Rattle.uc_model.specs.declared.limits.TheConstants.{POWER_LIMIT, OUTPUT_LIMIT}
+use Rattle.uc_model.specs.declared.limits.TheConstants.{COST_LIMIT, PRICE_LIMIT}
 
 abbrev pub most_power : ℕ
 most_power = nat_abs POWER_LIMIT

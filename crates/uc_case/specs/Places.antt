@@ -2,11 +2,23 @@
 use Rattle.std.specs.Prelude.{ℕ, List, codes}
 use Rattle.uc_model.specs.declared.kinds.Kind.{Kind}
 use Rattle.uc_case.specs.declared.fault.CaseCode.{CaseCode}
-use Rattle.uc_case.specs.declared.fault.CaseCode.TheVariants.{Missing, WrongKind, NotWhole, Negative, TooLarge, WrongLength, CurveOrder, CurveEnds, LagOrder, NotFlag, RangeOrder, NoUnits, WindowShape, NoPeriods, BlockOrder}
+use Rattle.uc_case.specs.declared.fault.CaseCode.TheVariants.{Missing, WrongKind, NotWhole}
+use Rattle.uc_case.specs.declared.fault.CaseCode.TheVariants.{Negative, TooLarge, WrongLength}
+use Rattle.uc_case.specs.declared.fault.CaseCode.TheVariants.{CurveOrder, CurveEnds, LagOrder}
+use Rattle.uc_case.specs.declared.fault.CaseCode.TheVariants.{NotFlag, RangeOrder, NoUnits}
+use Rattle.uc_case.specs.declared.fault.CaseCode.TheVariants.{WindowShape, NoPeriods, BlockOrder}
 use Rattle.uc_case.specs.declared.fault.Place.{Place}
 use Rattle.uc_case.specs.declared.fault.FieldFault.{FieldFault}
 use Rattle.uc_case.specs.declared.fault.Field.{Field}
-use Rattle.uc_case.specs.declared.fault.Field.TheVariants.{Whole, TimePeriods, Demand, Reserves, ThermalGenerators, RenewableGenerators, DemandBids, MustRun, PowerOutputMinimum, PowerOutputMaximum, RampUpLimit, RampDownLimit, RampStartupLimit, RampShutdownLimit, TimeUpMinimum, TimeDownMinimum, PowerOutputT0, UnitOnT0, TimeUpT0, TimeDownT0, Startup, PiecewiseProduction, Commitment, Blocks}
+use Rattle.uc_case.specs.declared.fault.Field.TheVariants.{Whole, TimePeriods, Demand, Reserves}
+use Rattle.uc_case.specs.declared.fault.Field.TheVariants.{ThermalGenerators, RenewableGenerators}
+use Rattle.uc_case.specs.declared.fault.Field.TheVariants.{DemandBids, MustRun, PowerOutputMinimum}
+use Rattle.uc_case.specs.declared.fault.Field.TheVariants.{PowerOutputMaximum, RampUpLimit}
+use Rattle.uc_case.specs.declared.fault.Field.TheVariants.{RampDownLimit, RampStartupLimit}
+use Rattle.uc_case.specs.declared.fault.Field.TheVariants.{RampShutdownLimit, TimeUpMinimum}
+use Rattle.uc_case.specs.declared.fault.Field.TheVariants.{TimeDownMinimum, PowerOutputT0}
+use Rattle.uc_case.specs.declared.fault.Field.TheVariants.{UnitOnT0, TimeUpT0, TimeDownT0, Startup}
+use Rattle.uc_case.specs.declared.fault.Field.TheVariants.{PiecewiseProduction, Commitment, Blocks}
 
 -- the number under which a fault is printed (this project's profile)
 abbrev pub code_number : CaseCode → ℕ
@@ -63,4 +75,10 @@ abbrev pub item_at : Place → ℕ → Place
 item_at at k = record at { item = k }
 
 abbrev pub fault : Place → CaseCode → FieldFault
-fault at code = record { code = code; field = at.field; kind = at.kind; unit = at.unit; item = at.item }
+fault at code = record {
+  code = code;
+  field = at.field;
+  kind = at.kind;
+  unit = at.unit;
+  item = at.item;
+}

@@ -1,13 +1,16 @@
--- The tables of a unit in a case file: each test in order, with its fault (pglib-uc; windows, bids and limits are this
--- project's profile).
-use Rattle.std.specs.Prelude.{ℕ, ◌-◌, suc, Bool, true, not, ◌||◌, ◌==◌, nat_lt, int_lt, List, [], ◌∷◌, length, map, if◌then◌else◌, codes, Option, Some, None, replicate, Ok, slice_get, ℤ}
+-- The tables of a unit in a case file: each test in order, with its fault (pglib-uc; windows, bids
+-- and limits are this project's profile).
+use Rattle.std.specs.Prelude.{ℕ, ◌-◌, suc, Bool, true, not, ◌||◌, ◌==◌, nat_lt}
+use Rattle.std.specs.Prelude.{int_lt, List, [], ◌∷◌, length, map, if◌then◌else◌}
+use Rattle.std.specs.Prelude.{codes, Option, Some, None, replicate, Ok, slice_get, ℤ}
 use Rattle.std.specs.Option.{option_map, option_map_or}
 use Rattle.uc_model.specs.declared.units.Lag.{Lag}
 use Rattle.uc_model.specs.declared.units.Point.{Point}
 use Rattle.uc_model.specs.declared.units.Block.{Block}
 use Rattle.uc_model.specs.declared.units.Mark.{Mark}
 use Rattle.uc_model.specs.declared.units.Mark.TheVariants.{Free, MustOff, MustOn}
-use Rattle.uc_model.specs.declared.limits.TheConstants.{MOST_LAGS, MOST_POINTS, MOST_BLOCKS, POWER_LIMIT}
+use Rattle.uc_model.specs.declared.limits.TheConstants.{MOST_LAGS, MOST_POINTS}
+use Rattle.uc_model.specs.declared.limits.TheConstants.{MOST_BLOCKS, POWER_LIMIT}
 use Rattle.uc_model.specs.Data.{ThermalUnit, RenewableUnit, BidUnit}
 use Rattle.uc_model.specs.Sums.{total}
 use Rattle.text_tree.specs.Values.{Value, scalar, null, number}
@@ -15,9 +18,18 @@ use Rattle.uc_case.specs.Inside.{list_in, bit_of}
 use Rattle.uc_case.specs.Magnitudes.{most_power, most_output, most_price}
 use Rattle.uc_case.specs.Places.{fault, field_at, item_at}
 use Rattle.uc_case.specs.Words.{◌>>=◌, ◌>>◌, refuse, need, each, last_is}
-use Rattle.uc_case.specs.Forms.{Read, Keys, keys, key, key_or_none, part, items, list, object, amount, power, cost, start_cost, time, flag}
-use Rattle.uc_case.specs.declared.fault.CaseCode.TheVariants.{TooLarge, WrongLength, CurveOrder, CurveEnds, LagOrder, RangeOrder, WindowShape, BlockOrder}
-use Rattle.uc_case.specs.declared.fault.Field.TheVariants.{MustRun, PowerOutputMinimum, PowerOutputMaximum, RampUpLimit, RampDownLimit, RampStartupLimit, RampShutdownLimit, TimeUpMinimum, TimeDownMinimum, PowerOutputT0, UnitOnT0, TimeUpT0, TimeDownT0, Startup, PiecewiseProduction, Commitment, Blocks}
+use Rattle.uc_case.specs.Forms.{Read, Keys, keys, key, key_or_none, part, items, list}
+use Rattle.uc_case.specs.Forms.{object, amount, power, cost, start_cost, time, flag}
+use Rattle.uc_case.specs.declared.fault.CaseCode.TheVariants.{TooLarge, WrongLength, CurveOrder}
+use Rattle.uc_case.specs.declared.fault.CaseCode.TheVariants.{CurveEnds, LagOrder, RangeOrder}
+use Rattle.uc_case.specs.declared.fault.CaseCode.TheVariants.{WindowShape, BlockOrder}
+use Rattle.uc_case.specs.declared.fault.Field.TheVariants.{MustRun, PowerOutputMinimum}
+use Rattle.uc_case.specs.declared.fault.Field.TheVariants.{PowerOutputMaximum, RampUpLimit}
+use Rattle.uc_case.specs.declared.fault.Field.TheVariants.{RampDownLimit, RampStartupLimit}
+use Rattle.uc_case.specs.declared.fault.Field.TheVariants.{RampShutdownLimit, TimeUpMinimum}
+use Rattle.uc_case.specs.declared.fault.Field.TheVariants.{TimeDownMinimum, PowerOutputT0}
+use Rattle.uc_case.specs.declared.fault.Field.TheVariants.{UnitOnT0, TimeUpT0, TimeDownT0, Startup}
+use Rattle.uc_case.specs.declared.fault.Field.TheVariants.{PiecewiseProduction, Commitment, Blocks}
 use Rattle.uc_case.specs.declared.fault.Place.{Place}
 use Rattle.uc_case.specs.declared.parts.Output.{Output}
 use Rattle.uc_case.specs.declared.parts.Ramps.{Ramps}
@@ -52,7 +64,8 @@ point at before v = do
 -- there is no first point at most at low, or no last point at least at high
 abbrev pub ends_miss : ℤ → ℤ → List Point → Bool
 ends_miss low high ps =
-    option_map_or (λ (p : Point). int_lt low p.at) (slice_get ps 0) true || option_map_or (λ (p : Point). int_lt p.at high) (slice_get ps (length ps - 1)) true
+    option_map_or (λ (p : Point). int_lt low p.at) (slice_get ps 0) true
+    || option_map_or (λ (p : Point). int_lt p.at high) (slice_get ps (length ps - 1)) true
 
 unfoldable pub piecewise : ℤ → ℤ → Place → Value → Read (List Point)
 piecewise low high at v = do
@@ -110,7 +123,14 @@ past u = do
   on ← key u UnitOnT0 flag
   up ← key u TimeUpT0 time
   down ← key u TimeDownT0 time
-  Ok (record { min_up = at_least_one min_up; min_down = at_least_one min_down; power = power; on = on; up = up; down = down })
+  Ok (record {
+    min_up = at_least_one min_up;
+    min_down = at_least_one min_down;
+    power = power;
+    on = on;
+    up = up;
+    down = down;
+  })
 
 unfoldable pub thermal_unit : ℕ → Place → Value → Read ThermalUnit
 thermal_unit periods at v = do
@@ -155,7 +175,8 @@ powers periods at v = do
 
 -- the position of the first item where the least is above the most, or 0
 abbrev pub first_crossed : ℕ → List ℤ → List ℤ → ℕ
-first_crossed k (least ∷ ls) (most ∷ ms) = if int_lt most least then k else first_crossed (suc k) ls ms
+first_crossed k (least ∷ ls) (most ∷ ms) =
+    if int_lt most least then k else first_crossed (suc k) ls ms
 first_crossed k _ _ = 0
 
 unfoldable pub renewable_unit : ℕ → Place → Value → Read RenewableUnit

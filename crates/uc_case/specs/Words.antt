@@ -1,5 +1,6 @@
 -- The words of the tables: tests, one after the other, and the items of a list.
-use Rattle.std.specs.Prelude.{ℕ, ◌+◌, ◌-◌, Bool, false, List, [], ◌∷◌, ◌++◌, length, Option, Some, None, Result, Ok, Err, slice_get, if◌then◌else◌}
+use Rattle.std.specs.Prelude.{ℕ, ◌+◌, ◌-◌, Bool, false, List, [], ◌∷◌, ◌++◌, length, Option}
+use Rattle.std.specs.Prelude.{Some, None, Result, Ok, Err, slice_get, if◌then◌else◌}
 use Rattle.std.specs.Option.{option_map_or}
 
 -- What comes next, where nothing has failed.
@@ -23,7 +24,8 @@ need fault (Some x) = Ok x
 need fault None = Err fault
 
 -- Each in order, read after those before it: the first fault among them.
-unfoldable pub each : {A B F : Type 0} → (List A → B → Result A F) → List A → List B → Result (List A) F
+unfoldable pub each : {A B F : Type 0} → (List A → B → Result A F) → List A → List B
+    → Result (List A) F
 each read before [] = Ok before
 each read before (v ∷ vs) = do
   x ← read before v

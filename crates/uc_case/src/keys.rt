@@ -57,7 +57,8 @@ impl<'a> Keys<'a> {
         requires { limit ≤ MOST_TIME }
         ensures bound { IfOk result (λ n. n ≤ limit) }
         ensures value { Gives (λ n. n) result
-            (key (keys self.now.at (member_views self.now.members.items)) field (time_within limit)) }
+            (key (keys self.now.at (member_views self.now.members.items)) field
+            (time_within limit)) }
     {
         read_time(self.at.field(field), self.value(field)?, limit)
     }

@@ -52,7 +52,8 @@ fn read_output(u: &Keys) -> Result<Output, FieldStop>
 #[tactic(auto, unfolding(crate::specs::Tables::ramps))]
 fn read_ramps(u: &Keys) -> Result<Ramps, FieldStop>
     ensures fits { IfOk result (λ r. AreRamps r) }
-    ensures value { Gives (λ r. r) result (ramps (keys u.now.at (member_views u.now.members.items))) }
+    ensures value { Gives (λ r. r) result
+        (ramps (keys u.now.at (member_views u.now.members.items))) }
 {
     let up = u.power(Field::RampUpLimit, POWER)?;
     let down = u.power(Field::RampDownLimit, POWER)?;
@@ -69,7 +70,8 @@ fn read_ramps(u: &Keys) -> Result<Ramps, FieldStop>
 #[tactic(auto, unfolding(crate::specs::Tables::past))]
 fn read_past(u: &Keys) -> Result<Past, FieldStop>
     ensures fits { IfOk result (λ p. IsPast p) }
-    ensures value { Gives (λ p. p) result (past (keys u.now.at (member_views u.now.members.items))) }
+    ensures value { Gives (λ p. p) result
+        (past (keys u.now.at (member_views u.now.members.items))) }
 {
     let min_up = raised_to_one(u.time(Field::TimeUpMinimum, TIME)?);
     let min_down = raised_to_one(u.time(Field::TimeDownMinimum, TIME)?);

@@ -8,13 +8,16 @@ use Rattle.uc_case.specs.Given.{Fails}
 use Rattle.uc_case.specs.declared.stop.Stop.{Stop}
 
 -- the list has in addition what the tests give, so many and each with P, unless memory ran out
-abbrev pub Adds : {A F U : Type 0} → (A → Type 0) → ℕ → List A → List A → Result U (Stop F) → Result (List A) F → Type 0
-Adds {A = A} P count old new (Ok u) read = (xs : List A) × (read ≡ Ok xs) × (new ≡ old ++ xs) × (length xs ≡ count) × All P xs
+abbrev pub Adds : {A F U : Type 0} → (A → Type 0) → ℕ → List A → List A → Result U (Stop F)
+    → Result (List A) F → Type 0
+Adds {A = A} P count old new (Ok u) read =
+    (xs : List A) × (read ≡ Ok xs) × (new ≡ old ++ xs) × (length xs ≡ count) × All P xs
 Adds P count old new (Err e) read = Fails e read
 
 -- a schedule over the horizon
 abbrev pub HasLengths : ℕ → Schedule → Type 0
-HasLengths periods s = (length s.on ≡ periods) × (length s.power ≡ periods) × (length s.reserve ≡ periods)
+HasLengths periods s =
+    (length s.on ≡ periods) × (length s.power ≡ periods) × (length s.reserve ≡ periods)
 
 -- on in every period, with reserve 0
 abbrev pub IsFlat : Schedule → Type 0

@@ -6,7 +6,9 @@ use Rattle.uc_plan.specs.PlanFiles.{IsPlanOf}
 use Rattle.uc_plan.specs.declared.fault.ShapeFault.{ShapeFault}
 
 abbrev pub SomePlan : Type 0
-SomePlan = (m : Market) (bytes : List ℕ) → (r : Result (List Schedule) (FileFault ShapeFault)) × IsPlanOf m bytes r
+SomePlan = (m : Market) (bytes : List ℕ)
+    → (r : Result (List Schedule) (FileFault ShapeFault)) × IsPlanOf m bytes r
 
 abbrev pub OnePlan : Type 0
-OnePlan = (m : Market) (bytes : List ℕ) (r s : Result (List Schedule) (FileFault ShapeFault)) → IsPlanOf m bytes r → IsPlanOf m bytes s → r ≡ s
+OnePlan = (m : Market) (bytes : List ℕ) (r s : Result (List Schedule) (FileFault ShapeFault))
+    → IsPlanOf m bytes r → IsPlanOf m bytes s → r ≡ s

@@ -12,7 +12,8 @@ abbrev pub IsPlanOf : Market → List ℕ → Result (List Schedule) (FileFault 
 IsPlanOf m = IsReading (plan_of m)
 
 -- P of the answer; nothing where memory ran out
-abbrev pub IfRead : {X A : Type 0} → (X → A) → Result X PlanFault → (Result A (FileFault ShapeFault) → Type 0) → Type 0
+abbrev pub IfRead : {X A : Type 0} → (X → A) → Result X PlanFault
+    → (Result A (FileFault ShapeFault) → Type 0) → Type 0
 IfRead view (Ok x) P = P (Ok (view x))
 IfRead view (Err (faults.Text f)) P = P (Err (text f))
 IfRead view (Err (faults.Shape f)) P = P (Err (value f))

@@ -1,6 +1,8 @@
--- The tables of a schedule file: the schedules of a value for a case, or the fault of the first test that fails (this
--- project's profile). Keys that no table names are skipped.
-use Rattle.std.specs.Prelude.{ℕ, suc, Bool, true, false, not, ◌==◌, nat_lt, int_lt, List, [], ◌∷◌, ◌++◌, length, replicate, if◌then◌else◌, codes, Option, Some, None, Result, Ok, bytes_eq, pos, nat_abs, unsigned_abs}
+-- The tables of a schedule file: the schedules of a value for a case, or the fault of the first
+-- test that fails (this project's profile). Keys that no table names are skipped.
+use Rattle.std.specs.Prelude.{ℕ, suc, Bool, true, false, not, ◌==◌, nat_lt, int_lt, List, []}
+use Rattle.std.specs.Prelude.{◌∷◌, ◌++◌, length, replicate, if◌then◌else◌, codes, Option}
+use Rattle.std.specs.Prelude.{Some, None, Result, Ok, bytes_eq, pos, nat_abs, unsigned_abs}
 use Rattle.std.specs.Option.{option_and_then}
 use Rattle.uc_model.specs.Data.{Schedule, Market, thermal_names, renewable_names, bid_names}
 use Rattle.uc_model.specs.declared.kinds.Kind.{Kind}
@@ -14,7 +16,8 @@ use Rattle.uc_case.specs.Magnitudes.{most_power}
 use Rattle.uc_case.specs.Words.{◌>>=◌, ◌>>◌, refuse, need, each, position}
 use Rattle.uc_plan.specs.Shapes.{fault}
 use Rattle.uc_plan.specs.declared.fault.Seat.{Seat}
-use Rattle.uc_plan.specs.declared.fault.ShapeCode.TheVariants.{UnknownUnit, MissingUnit, PlanShape, PlanNumber}
+use Rattle.uc_plan.specs.declared.fault.ShapeCode.TheVariants.{UnknownUnit, MissingUnit}
+use Rattle.uc_plan.specs.declared.fault.ShapeCode.TheVariants.{PlanShape, PlanNumber}
 use Rattle.uc_plan.specs.declared.fault.ShapeFault.{ShapeFault}
 
 -- What tests of a schedule give: a value, or the fault of the first test that failed.
@@ -42,13 +45,15 @@ flag_in v = option_and_then bit_of (number_in v)
 
 -- the items of a list, each a number of that kind
 unfoldable pub numbers : {A : Type 0} → (Value → Option A) → Seat → List Value → Read (List A)
-numbers number at vs = each (λ before v. need (fault at (position before) PlanNumber) (number v)) [] vs
+numbers number at vs =
+    each (λ before v. need (fault at (position before) PlanNumber) (number v)) [] vs
 
 -- ---- shapes
 
 -- a list of an item for each period
 abbrev pub full_list : ℕ → Value → Option (List Value)
-full_list periods v = option_and_then (λ (vs : List Value). if length vs == periods then Some vs else None) (list_in v)
+full_list periods v =
+    option_and_then (λ (vs : List Value). if length vs == periods then Some vs else None) (list_in v)
 
 abbrev pub list_under : ℕ → List ℕ → List Pair → Option (List Value)
 list_under periods key ms = option_and_then (full_list periods) (value_of key ms)
@@ -98,11 +103,13 @@ first_unknown names k (m ∷ ms) = if is_among m.name names then first_unknown n
 
 unfoldable pub all_known : Kind → List (List ℕ) → List Pair → Read (Unit {0})
 all_known kind names ms =
-    refuse (fault (seat kind (first_unknown names 1 ms)) 0 UnknownUnit) (nat_lt 0 (first_unknown names 1 ms))
+    refuse (fault (seat kind (first_unknown names 1 ms)) 0 UnknownUnit)
+    (nat_lt 0 (first_unknown names 1 ms))
 
 -- the schedule of each unit in the order of the case
 unfoldable pub schedules : ℕ → Kind → List Pair → List (List ℕ) → Read (List Schedule)
-schedules periods kind members names = each (λ before. named periods members (seat kind (position before))) [] names
+schedules periods kind members names =
+    each (λ before. named periods members (seat kind (position before))) [] names
 
 -- ---- the plan
 

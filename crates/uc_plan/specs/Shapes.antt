@@ -1,7 +1,8 @@
 -- The faults of a schedule file.
 use Rattle.std.specs.Prelude.{ℕ}
 use Rattle.uc_plan.specs.declared.fault.ShapeCode.{ShapeCode}
-use Rattle.uc_plan.specs.declared.fault.ShapeCode.TheVariants.{UnknownUnit, MissingUnit, PlanShape, PlanNumber}
+use Rattle.uc_plan.specs.declared.fault.ShapeCode.TheVariants.{UnknownUnit, MissingUnit}
+use Rattle.uc_plan.specs.declared.fault.ShapeCode.TheVariants.{PlanShape, PlanNumber}
 use Rattle.uc_plan.specs.declared.fault.Seat.{Seat}
 use Rattle.uc_plan.specs.declared.fault.ShapeFault.{ShapeFault}
 

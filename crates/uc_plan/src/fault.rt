@@ -18,7 +18,8 @@ pub enum ShapeCode {
     MissingUnit,
     /// A value isn't the object or the list that stands there in a schedule.
     PlanShape,
-    /// An item of a list isn't a whole number from 0 to `POWER_LIMIT`, or a flag is neither 0 nor 1.
+    /// An item of a list isn't a whole number from 0 to `POWER_LIMIT`, or a flag is neither 0
+    /// nor 1.
     PlanNumber,
 }
 
