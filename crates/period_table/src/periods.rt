@@ -108,6 +108,9 @@ fn start<R: Running>(
     ensures roster { IsRoster (live_at R.function runners.new) (suc (suc place)) roster.new }
     ensures list { length roster.new.firsts.items ≡ length roster.old.firsts.items }
 {
+    if !origins.is_within(limit) {
+        return;
+    }
     match origins.least(unit, place) {
         Some(entry) => start_after(unit, place, &entry, limit, roster, runners),
         None => {}
