@@ -1,6 +1,8 @@
 -- The ends that the next start may follow, a period later, and the cheapest start.
-use Rattle.period_table.proofs.Common.{◌≡◌, ℕ, zero, suc, ◌+◌, ◌-◌, ◌*◌, ◌<◌, ◌≤◌, ◌⊎◌, inl, inr, true, false, cond, Option, Some, None, ℤ, pos, ◌+ℤ◌, ◌≤ℤ◌, List, [], ◌∷◌, length, refl, sym, ap, ◌∙◌, subst, arith, IsTrue, IsFalse, slice_get, ints, cases_lt, cases_eq, MustOn, ThermalUnit, IsThermalUnit, mark_in, Origin, Ended, Entry, IsRising, IsRipe, IsOrigin, HasOrigin, AreInOrder, AreRight, AreOrigins, AreOriginsWithin, IsOriginPut, cost_at, HasEntryAtMost, IsWithinTimes, AreWithin, IsOffRun, IsGap, off_time, start_cost_after, IsStarted, IsEntry, IsLeastEntry}
+use Rattle.period_table.proofs.Common.{◌≡◌, ℕ, zero, suc, ◌+◌, ◌-◌, ◌*◌, ◌<◌, ◌≤◌, ◌⊎◌, inl, inr, true, false, cond, Option, Some, None, ℤ, pos, ◌+ℤ◌, ◌≤ℤ◌, List, [], ◌∷◌, length, refl, sym, ap, ◌∙◌, subst, arith, IsTrue, IsFalse, slice_get, ints, cases_lt, cases_eq, MustOn, ThermalUnit, IsThermalUnit, mark_in, Origin, Ended, Entry, IsRising, IsRipe, IsOrigin, HasOrigin, AreInOrder, AreRight, AreOrigins, AreOriginsWithin, IsOriginPut, cost_at, HasEntryAtMost, IsWithinTimes, AreWithin, IsOffRun, IsGap, off_time, start_cost_after, IsStarted, IsEntry, IsLeastEntry, IsLag}
+use Rattle.std.specs.List.{All}
 use Rattle.period_table.proofs.RipeLaws.{off_next}
+use Rattle.period_table.proofs.StartCosts.{start_cost-within}
 use Rattle.period_table.specs.declared.origins.Origins.{Origins}
 
 -- ---- time off
@@ -474,6 +476,32 @@ module _ (g : ThermalUnit) (k : ℕ) (os : Origins) where
           let some = low.1 in
           cc
     ]
+
+-- where each of the list is above a limit, so is each entry
+pub entry_beyond : (g : ThermalUnit) (ends : ℕ → Option ℤ) (k : ℕ) (os : Origins) → AreOrigins g ends k os → All IsLag g.lags → (limit : ℤ) →
+    ((i : ℕ) (o : Origin) → i < os.count → slice_get os.list.items i ≡ Some o → (limit +ℤ pos 1) ≤ℤ o.cost) → (e : ℤ) → IsEntry g ends (suc k) e → (limit +ℤ pos 1) ≤ℤ e
+entry_beyond g ends k os now lags limit beyond e entry = elim (entry.1) [
+  | inl none ↦ let z = none.0 in absurd (omega (arith, z))
+  | inr h ↦
+      let first = h.first in
+      let z : h.before ≡ k = omega (arith, first) in
+      let o : Origin = record { last = entry.0; cost = h.value } in
+      let is_origin : IsOrigin g ends k o = record { ended = h.ended; gap = subst (λ (b : ℕ). IsGap g entry.0 b) z h.gap } in
+      let has = now.all o is_origin in
+      let a = now.right.each has.place has.origin has.low has.is in
+      let high = beyond has.place has.origin has.low has.is in
+      let start = (start_cost-within g.lags (off_time g entry.0 h.before) lags).at_least in
+      let is_cost = h.cost in
+      elim (has.best) [
+        | inl same ↦
+            let e = a.ended in
+            let f = is_origin.ended in
+            let g = ap ends same in
+            let cost : has.origin.cost ≡ o.cost = (cc) in
+            omega (arith, ints, high, cost, start, is_cost)
+        | inr more ↦ let cheap = more.2 in omega (arith, ints, high, cheap, start, is_cost)
+      ]
+]
 
 -- ---- within bounds
 

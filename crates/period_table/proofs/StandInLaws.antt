@@ -132,21 +132,25 @@ module _ (g : ThermalUnit) (π : PriceLists) (limits : ℕ → ℤ) (ends : ℕ 
       ];
     }
 
-    -- or the least entry is above the limit
-    pub start_beyond : (last : ℕ) (e : ℤ) → IsLeastEntry g ends (suc t) last e → (limits t +ℤ pos 1) ≤ℤ e → AreRunners g π limits ends live t (suc (suc t))
-    start_beyond last e least beyond = record {
+    -- or each entry is above the limit
+    pub starts_beyond : ((e : ℤ) → IsEntry g ends (suc t) e → (limits t +ℤ pos 1) ≤ℤ e) → AreRunners g π limits ends live t (suc (suc t))
+    starts_beyond beyond = record {
       right = λ f r is. (let h = now.right f r is in let low = h.0 in (omega (arith, low), h.1));
-      all = λ f e' d low may entry run under. elim (cases_lt f (suc t)) [
-        | inl less ↦ now.all f e' d less may entry run under
+      all = λ f e d low may entry run under. elim (cases_lt f (suc t)) [
+        | inl less ↦ now.all f e d less may entry run under
         | inr most ↦
             let z : suc t ≡ f = omega (arith, most, low) in
-            subst (λ (f : ℕ). IsEntry g ends f e' → (e' +ℤ spell_cost g π f t d) ≤ℤ limits t → HasStandIn g π live t f e' d) z
+            subst (λ (f : ℕ). IsEntry g ends f e → (e +ℤ spell_cost g π f t d) ≤ℤ limits t → HasStandIn g π live t f e d) z
             (λ entry under. (
-            let bound = least.least e' entry in
+            let above = beyond e entry in
             let nothing : spell_cost g π (suc t) t d ≡ pos 0 = sum_from_to-none (net_cost g π d) t in
-            absurd (omega (arith, ints, beyond, bound, nothing, under)))) entry under
+            absurd (omega (arith, ints, above, nothing, under)))) entry under
       ];
     }
+
+    -- as they are where the least one is
+    pub start_beyond : (last : ℕ) (e : ℤ) → IsLeastEntry g ends (suc t) last e → (limits t +ℤ pos 1) ≤ℤ e → AreRunners g π limits ends live t (suc (suc t))
+    start_beyond last e least beyond = starts_beyond (λ e' entry. (let bound = least.least e' entry in omega (arith, ints, beyond, bound)))
 
   -- ---- a runner goes
 

@@ -5,6 +5,7 @@
 //! through stays short.
 ghost use Rattle.std.specs.Prelude.{◌≡◌, ◌⊎◌, ℕ, suc, ◌+◌, ◌*◌, ◌<◌, ◌≤◌, length, slice_get};
 ghost use Rattle.std.specs.Prelude.{ℤ, pos, ◌+ℤ◌, ◌≤ℤ◌, IsTrue, IfOk, IfSome, IfNone, Option, Some};
+ghost use Rattle.std.specs.Prelude.{IsFalse};
 ghost use Rattle.uc_model.specs.PlainUnits.{thermal_of};
 ghost use Rattle.uc_model.specs.declared.limits.TheConstants.{MOST_PERIODS};
 ghost use Rattle.period_table.specs.Origins.{IsRising, IsRipe, IsOrigin, HasOrigin, IsOriginPut};
@@ -160,6 +161,20 @@ impl Origins {
             return;
         }
         self.take_ripe(unit, place + 1, rows);
+    }
+
+    /// Whether one of the ends costs no more than a limit. A start after any other one costs more.
+    pub(crate) fn is_within(&self, limit: i64) -> bool
+        requires { self.now.count ≤ length self.now.list.items }
+        ensures { IsFalse result → (i : ℕ) (o : Origin) → i < self.now.count →
+            slice_get self.now.list.items i ≡ Some o → (limit +ℤ pos 1) ≤ℤ o.cost }
+    {
+        for place in 0..self.count {
+            if self.list.get(place as usize).cost <= limit {
+                return true;
+            }
+        }
+        false
     }
 
     /// The least cost of all before a start in the period after `period`, with the start; of equal

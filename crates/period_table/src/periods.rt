@@ -54,7 +54,8 @@ fn start_after<R: Running>(
         IsLeastEntry (thermal_of unit.now) ends (suc place) entry.now.last entry.now.cost →
         AreRunners (thermal_of unit.now) π limits ends (live_at R.function runners.old) place
         (suc place) →
-        AreRunners (thermal_of unit.now) π limits ends (live_at R.function runners.new) place (suc (suc place)) }
+        AreRunners (thermal_of unit.now) π limits ends (live_at R.function runners.new) place
+        (suc (suc place)) }
     ensures left { (first k : ℕ) → left_at runners.new first k ≡ left_at runners.old first k }
     ensures room { (periods charge : ℕ) → AreRoomy R.count R.room periods place charge runners.old
         → AreRoomy R.count R.room periods place charge runners.new }
@@ -96,7 +97,8 @@ fn start<R: Running>(
         AreOrigins (thermal_of unit.now) ends place origins.now →
         AreRunners (thermal_of unit.now) π limits ends (live_at R.function runners.old) place
         (suc place) →
-        AreRunners (thermal_of unit.now) π limits ends (live_at R.function runners.new) place (suc (suc place)) }
+        AreRunners (thermal_of unit.now) π limits ends (live_at R.function runners.new) place
+        (suc (suc place)) }
     ensures left { (first k : ℕ) → left_at runners.new first k ≡ left_at runners.old first k }
     ensures room { (periods charge : ℕ) → AreRoomy R.count R.room periods place charge runners.old
         → AreRoomy R.count R.room periods place charge runners.new }
@@ -106,6 +108,9 @@ fn start<R: Running>(
     ensures roster { IsRoster (live_at R.function runners.new) (suc (suc place)) roster.new }
     ensures list { length roster.new.firsts.items ≡ length roster.old.firsts.items }
 {
+    if !origins.is_within(limit) {
+        return;
+    }
     match origins.least(unit, place) {
         Some(entry) => start_after(unit, place, &entry, limit, roster, runners),
         None => {}

@@ -386,16 +386,20 @@ pub fn run_all<R: Running>(
     ensures row { IsRowOf (thermal_of unit.now) (prices_of prices.now)
         (length (prices_of prices.now).energy) (live_at R.function runners.old) (suc (suc place))
         (suc place)
-        (cost_at table.new.items (suc place)) (first_at table.new.items (suc place)) (before_at table.new.items (suc place)) }
+        (cost_at table.new.items (suc place)) (first_at table.new.items (suc place))
+        (before_at table.new.items (suc place)) }
     ensures others { (l : ℕ) → l ≢ suc place → row_at table.new.items l ≡ row_at table.old.items l }
     ensures within { AreWithin table.new.items }
     ensures length { length table.new.items ≡ length table.old.items }
     ensures goes { (first : ℕ) (r : Going) → live_at R.function runners.old first ≡ Some r →
-        IsGoneOn (thermal_of unit.now) (prices_of prices.now) place first r (live_at R.function runners.new first) }
+        IsGoneOn (thermal_of unit.now) (prices_of prices.now) place first r
+        (live_at R.function runners.new first) }
     ensures off { (first : ℕ) → live_at R.function runners.old first ≡ None
         → live_at R.function runners.new first ≡ None }
     ensures ends { (v : ℤ) → cost_at table.new.items (suc place) ≡ Some v →
-        IsEndLeft (thermal_of unit.now) (prices_of prices.now) (first_at table.new.items (suc place)) place (left_at runners.new (first_at table.new.items (suc place)) place) }
+        IsEndLeft (thermal_of unit.now) (prices_of prices.now)
+        (first_at table.new.items (suc place)) place
+        (left_at runners.new (first_at table.new.items (suc place)) place) }
     ensures left { (first k : ℕ) → k ≢ place
         → left_at runners.new first k ≡ left_at runners.old first k }
     ensures room { AreRoomy R.count R.room (length (prices_of prices.now).energy) (suc place)

@@ -1,8 +1,10 @@
 //! The table of least costs by the last on period.
-ghost use Rattle.std.specs.Prelude.{◌≡◌, ◌≢◌, ℕ, ◌+◌, ◌-◌, ◌*◌, ◌<◌, ◌≤◌, ℤ, pos, ◌+ℤ◌, ◌≤ℤ◌, ◌⊎◌, IsTrue, IsFalse, IfSome, IfNone, length, suc, Some, None};
+ghost use Rattle.std.specs.Prelude.{◌≡◌, ◌≢◌, ℕ, ◌+◌, ◌-◌, ◌*◌, ◌<◌, ◌≤◌, ℤ, pos, ◌+ℤ◌, ◌≤ℤ◌, ◌⊎◌};
+ghost use Rattle.std.specs.Prelude.{IsTrue, IsFalse, IfSome, IfNone, length, suc, Some, None};
 ghost use Rattle.uc_model.specs.PlainUnits.{thermal_of};
 ghost use Rattle.uc_model.specs.declared.limits.TheConstants.{MOST_PERIODS};
-ghost use Rattle.period_table.specs.Rows.{row_at, cost_at, IsWithinTimes, AreWithin, IsPut, HasEntryAtMost, IsFirstRow};
+ghost use Rattle.period_table.specs.Rows.{row_at, cost_at, IsWithinTimes, AreWithin, IsPut};
+ghost use Rattle.period_table.specs.Rows.{HasEntryAtMost, IsFirstRow};
 ghost use Rattle.period_table.specs.Spells.{start_cost_after};
 ghost use Rattle.period_table.specs.Tables.{HasAtMost};
 ghost use Rattle.period_table.specs.declared.table.Ended.{Ended};
@@ -13,9 +15,9 @@ use uc_model::lists::ReservedList;
 use uc_model::rules::start_cost;
 use uc_model::units::Unit;
 
-/// The least cost of all up to a last on period, in money: net costs of spells and costs of starts. `first` is where the
-/// spell that ends there begins, and `before` the on period before that spell. Both are 0 where it goes on from before
-/// the horizon, or the unit is off since then.
+/// The least cost of all up to a last on period, in money: net costs of spells and costs of starts.
+/// `first` is where the spell that ends there begins, and `before` the on period before that spell.
+/// Both are 0 where it goes on from before the horizon, or the unit is off since then.
 #[derive(Clone, Copy)]
 pub struct Ended {
     pub cost: i64,
@@ -53,10 +55,12 @@ pub fn sum_of(a: i64, b: i64) -> i64
 
 /// The lesser of two, and the first where they are equal.
 pub fn lesser(least: Option<Entry>, cost: Option<i64>, last: u32) -> Option<Entry>
-    ensures from { IfSome result (λ r. (least ≡ Some r) ⊎ ((cost ≡ Some r.cost) × (r.last ≡ last))) }
+    ensures from { IfSome result
+        (λ r. (least ≡ Some r) ⊎ ((cost ≡ Some r.cost) × (r.last ≡ last))) }
     ensures old { (r : Entry) → least ≡ Some r → HasEntryAtMost result r.cost }
     ensures added { (v : ℤ) → cost ≡ Some v → HasEntryAtMost result v }
-    ensures kept { (r u : Entry) → least ≡ Some r → result ≡ Some u → (u.last ≡ r.last) ⊎ ((u.cost +ℤ pos 1) ≤ℤ r.cost) }
+    ensures kept { (r u : Entry) → least ≡ Some r → result ≡ Some u
+        → (u.last ≡ r.last) ⊎ ((u.cost +ℤ pos 1) ≤ℤ r.cost) }
 {
     match cost {
         None => least,
@@ -73,7 +77,8 @@ pub fn lesser(least: Option<Entry>, cost: Option<i64>, last: u32) -> Option<Entr
     }
 }
 
-// Whether the cost is at most that in the table, or none is there: of equal ones the later first period is taken.
+// Whether the cost is at most that in the table, or none is there: of equal ones the later first
+// period is taken.
 fn is_taken(row: Option<Ended>, cost: i64) -> bool
     ensures yes { IsTrue result → (r : Ended) → row ≡ Some r → cost ≤ℤ r.cost }
     ensures no { IsFalse result → (r : Ended) × (row ≡ Some r) × ((r.cost +ℤ pos 1) ≤ℤ cost) }
@@ -90,10 +95,13 @@ pub fn put(table: &mut Table, last: u32, ended: Ended)
     requires within { AreWithin table.old.items }
     requires bound { IsWithinTimes (2 * last + 2) ended.cost }
     ensures others { (l : ℕ) → l ≢ last → row_at table.new.items l ≡ row_at table.old.items l }
-    ensures here { (row_at table.new.items last ≡ row_at table.old.items last) ⊎ (row_at table.new.items last ≡ Some ended) }
-    ensures old { (v : ℤ) → cost_at table.old.items last ≡ Some v → HasAtMost (cost_at table.new.items last) v }
+    ensures here { (row_at table.new.items last ≡ row_at table.old.items last)
+        ⊎ (row_at table.new.items last ≡ Some ended) }
+    ensures old { (v : ℤ) → cost_at table.old.items last ≡ Some v
+        → HasAtMost (cost_at table.new.items last) v }
     ensures added { HasAtMost (cost_at table.new.items last) ended.cost }
-    ensures latest { cost_at table.new.items last ≡ Some ended.cost → row_at table.new.items last ≡ Some ended }
+    ensures latest { cost_at table.new.items last ≡ Some ended.cost
+        → row_at table.new.items last ≡ Some ended }
     ensures within { AreWithin table.new.items }
     ensures length { length table.new.items ≡ length table.old.items }
 {
@@ -102,8 +110,8 @@ pub fn put(table: &mut Table, last: u32, ended: Ended)
     }
 }
 
-/// Puts a spell to period `last`, entered at a cost, into the table, if there is one: the lesser cost stays, and of equal
-/// ones the later.
+/// Puts a spell to period `last`, entered at a cost, into the table, if there is one: the lesser
+/// cost stays, and of equal ones the later.
 pub fn put_end(table: &mut Table, last: u32, first: u32, entry: &Entry, net: Option<i64>)
     requires room { last < length table.old.items }
     requires order { first ≤ last }
@@ -112,7 +120,9 @@ pub fn put_end(table: &mut Table, last: u32, first: u32, entry: &Entry, net: Opt
     requires bound { IsWithinTimes (2 * first + 1) entry.now.cost }
     requires net_bound { IfSome net (IsWithinTimes (suc last - first)) }
     ensures none { IfNone net (table.new.items ≡ table.old.items) }
-    ensures some { IfSome net (λ c. IsPut last (record { cost = entry.now.cost +ℤ c; first = first; before = entry.now.last }) table.old.items table.new.items) }
+    ensures some { IfSome net (λ c. IsPut last
+        (record { cost = entry.now.cost +ℤ c; first = first; before = entry.now.last })
+        table.old.items table.new.items) }
     ensures others { (l : ℕ) → l ≢ last → row_at table.new.items l ≡ row_at table.old.items l }
     ensures within { AreWithin table.new.items }
     ensures length { length table.new.items ≡ length table.old.items }
@@ -137,7 +147,8 @@ fn clear_rows(table: &mut Table)
     }
 }
 
-// What ends before period 1: a unit that is off since before the horizon, or a spell that doesn't go on.
+// What ends before period 1: a unit that is off since before the horizon, or a spell that doesn't
+// go on.
 fn first_row(unit: &Unit) -> Option<Ended>
     ensures { IsFirstRow (thermal_of unit.now) result }
 {

@@ -309,11 +309,13 @@ pub fn spell_best<S: Shape>(
         (spell_first spell.now.started spell.now.first) spell.now.last)
         (λ cost. IsBestDispatch (thermal_of unit.now) (prices_of prices.now)
         (length (prices_of prices.now).energy)
-        (spell_first spell.now.started spell.now.first) spell.now.last (schedule_of into.new.response) cost)) }
+        (spell_first spell.now.started spell.now.first) spell.now.last
+        (schedule_of into.new.response) cost)) }
     ensures first { IfOk result
         (λ best. IfSome best (IsFirstDispatch (thermal_of unit.now) (prices_of prices.now)
         (length (prices_of prices.now).energy)
-        (spell_first spell.now.started spell.now.first) spell.now.last (schedule_of into.new.response))) }
+        (spell_first spell.now.started spell.now.first) spell.now.last
+        (schedule_of into.new.response))) }
     ensures within { IfOk result
         (λ best. IfSome best (IsSpellWithin (spell_first spell.now.started spell.now.first)
         spell.now.last)) }

@@ -301,7 +301,8 @@ pub fn spell_costs<S: Shape>(
         (entry_of into.new.entries.items last)) }
     ensures within { OnOk result ((last : ℕ) → first ≤ last
         → last ≤ length (prices_of prices.now).energy →
-        IfSome (entry_of into.new.entries.items last) (IsSpellWithin (spell_first started first) last)) }
+        IfSome (entry_of into.new.entries.items last)
+        (IsSpellWithin (spell_first started first) last)) }
     ensures before { OnOk result ((last : ℕ) → 1 ≤ last → last < first
         → entry_of into.new.entries.items last ≡ None) }
     ensures length { length into.new.entries.items ≡ length into.old.entries.items }

@@ -222,6 +222,7 @@ fn interval_of<R: Running>(running: &R) -> Interval
 /// Takes a spell over the period at a place, as far as no stop follows, and answers what the step
 /// leaves for the way back, which is open where no place is left. `first` 0 stands for a spell that
 /// goes on from before period 1. `curve` is the curve of the unit's points.
+#[inline(always)]
 pub fn run_over<R: Running>(
     unit: &Unit,
     curve: &Curve,
@@ -239,7 +240,8 @@ pub fn run_over<R: Running>(
     ensures frontier { IsFrontier (thermal_of unit.now) (prices_of prices.now) first (suc place)
         (R.function running.new) }
     ensures noted { (x v : ℤ) → value_of (R.function running.old) x ≡ Some v →
-        IsNoted (thermal_of unit.now) (prices_of prices.now) first place false result (R.function running.new) }
+        IsNoted (thermal_of unit.now) (prices_of prices.now) first place false result
+        (R.function running.new) }
     ensures count { R.count running.new ≤ R.count running.old + length curve.now.blocks.items + 3 }
     ensures room { R.room running.new ≡ R.room running.old }
 {
@@ -299,7 +301,8 @@ pub fn end_and_run<R: Running>(
     ensures frontier { IsFrontier (thermal_of unit.now) (prices_of prices.now) first (suc place)
         (R.function running.new) }
     ensures noted { (x v : ℤ) → value_of (R.function running.old) x ≡ Some v →
-        IsNoted (thermal_of unit.now) (prices_of prices.now) first place false result.note (R.function running.new) }
+        IsNoted (thermal_of unit.now) (prices_of prices.now) first place false result.note
+        (R.function running.new) }
     ensures count { R.count running.new ≤ R.count running.old + length curve.now.blocks.items + 3 }
     ensures room { R.room running.new ≡ R.room running.old }
 {

@@ -76,7 +76,10 @@ fn write_period(
     ensures chosen { (after : Table) (v : ℤ)
         (n : IsNoted (thermal_of unit.now) (prices_of prices.now) first place stops note after)
         → value_of after power ≡ Some v →
-        IsChosen (step_at (thermal_of unit.now) (prices_of prices.now) place (first == suc place) stops) n.before place power result (schedule_of into.old.response) (schedule_of into.new.response) }
+        IsChosen
+        (step_at (thermal_of unit.now) (prices_of prices.now) place (first == suc place) stops)
+        n.before place power result (schedule_of into.old.response)
+        (schedule_of into.new.response) }
     ensures earned { into.new.earned ≡ into.old.earned }
 {
     let step = step_of(unit, prices, place, starts_in(first, place), stops);

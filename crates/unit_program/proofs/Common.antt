@@ -41,5 +41,6 @@ pub use Rattle.uc_model.specs.declared.units.Mark.TheVariants.{MustOff, MustOn}
 pub use Rattle.uc_model.specs.declared.units.Point.{Point}
 pub use Rattle.unit_program.specs.Backs.{IsSameIn, IsZeroOff, IsWritten, IsWrittenBack}
 pub use Rattle.unit_program.specs.Builds.{IsUpTo, IsIdle, IsDispatchStep, MayStop}
+pub use Rattle.unit_program.specs.Nets.{HasLeastNet, AreKnown}
 pub use Rattle.unit_program.specs.Steps.{IsStep, time_up, held}
 pub use Rattle.unit_program.specs.Ties.{IsFirstUpTo, IsRival, HasSameFlags, HasSamePowers, IsFirstBeside}

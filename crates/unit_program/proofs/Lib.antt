@@ -28,6 +28,8 @@ pub mod LimitLaws
 pub mod LimitListLaws
 -- every feasible schedule is a list of spells: from the last period back, by the run or the time off that a period is in
 pub mod ListLaws
+-- the prices at which an end of the points has the least net cost
+pub mod NetLaws
 -- a place of a list that a spell left
 pub mod NoteLaws
 -- what is read off rows of the table

@@ -5,3 +5,4 @@ pub mod Lists
 pub mod Steps
 pub mod Ties
 pub mod NoEnds
+pub mod Nets

@@ -1,6 +1,9 @@
 use Rattle.unit_program.proofs.Common.{rules, ◌≡◌, ℕ, ◌+◌, ◌-◌, ◌<◌, ℤ, ◌-ℤ◌, List, length, refl, ap, ◌∙◌, subst, arith, to_z, of_z, length-set, FitsSigned, w64, ints, to_z-of_z, thermal_of, prices_of, stored_is}
-use Rattle.unit_program.proofs.Lemmas.{AreLimitsFrom, period_net, limit_here, limits_next, limits_whole}
+use Rattle.unit_program.proofs.Lemmas.{AreLimitsFrom, period_net, limit_here, limits_next, limits_whole, none_known}
 use Rattle.unit_program.proofs.limits.fill_limits.Goals as goal
+
+pub loop-back-init : goal.loop-back-init
+loop-back-init c = record { here = search rules; right = search rules; bound = search rules; same = search rules; known = none_known c.args.unit.now.points.items }
 
 pub loop-back-preserved : goal.loop-back-preserved
 loop-back-preserved c =
@@ -28,6 +31,7 @@ loop-back-preserved c =
       right = limits_next g π _ back (T - (back + 1)) _ c.loop-back.limits.items c.set-in-loop-back.new.self.items limit least _ low place_is refl (omega (arith, same)) items v_is inv.here
           b (period_net g π (T - (back + 1)) _ place_is c.get-energy.result.now c.get.result.now least c.get-energy.ensures.item c.get.ensures.item told) inv.right;
       bound = record { at_least = omega (arith, ints, v_is, b); at_most = omega (arith, ints, v_is) };
+      known = c.least_of_period-limit.ensures.known;
       same = ap (λ (xs : List ℤ). length xs) items ∙ length-set c.loop-back.limits.items _ _ ∙ same;
     }
 
