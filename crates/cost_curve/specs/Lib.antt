@@ -1,3 +1,4 @@
 pub mod Building
 pub mod CostCurve
 pub mod Edges
+pub mod Legs

@@ -1,11 +1,12 @@
 //! The envelope at one power.
 ghost use Rattle.std.specs.Prelude.{◌≡◌, ◌+◌, ◌<◌, ◌≤◌, ℤ, pos, neg_ℤ, ◌+ℤ◌, ◌-ℤ◌, ◌*ℤ◌, ◌<ℤ◌};
-ghost use Rattle.std.specs.Prelude.{◌≤ℤ◌, length};
+ghost use Rattle.std.specs.Prelude.{◌≤ℤ◌, length, IsTrue};
 ghost use Rattle.uc_model.specs.Envelope.{envelope, line_at};
 ghost use Rattle.uc_model.specs.Limits.{IsCost, IsFrom, IsPoint, IsPower, Spans};
 ghost use Rattle.cost_curve.specs.CostCurve.{AreCostPoints};
+ghost use Rattle.cost_curve.specs.Legs.{IsLeg, IsNear, IsOn};
 
-use crate::edges::Slope;
+use crate::edges::{Edge, Slope};
 use crate::walk::{first_place, way_on};
 use uc_model::laws::{envelope_is_greatest, power_costs_are_within};
 use uc_model::units::Point;
@@ -31,6 +32,65 @@ fn edge_cost(from: &Point, slope: Slope, x: i64) -> i64
     cost + (over - slope.width)
 }
 
+/// Where on the envelope a power is: a point of the envelope at or below it, and the way on from
+/// that point, if there is one.
+#[derive(Clone, Copy)]
+pub struct Leg {
+    from: usize,
+    way: Option<Edge>,
+}
+
+// The leg that a power is on.
+fn leg_at(points: &[Point], x: i64) -> Leg
+    requires points { AreCostPoints points.now }
+    requires within { Spans points.now x x }
+    ensures leg { IsLeg points.now result }
+    ensures on { IsOn points.now x result }
+{
+    let mut from = first_place(points);
+    'walk: while let Some(edge) = way_on(points, from) {
+        if x <= points[edge.place].at {
+            return Leg {
+                from,
+                way: Some(edge),
+            };
+        }
+        from = edge.place;
+    }
+    Leg { from, way: None }
+}
+
+// Whether a power is on a leg.
+fn is_on(points: &[Point], x: i64, leg: Leg) -> bool
+    requires { IsLeg points.now leg }
+    ensures { IsTrue result → IsOn points.now x leg }
+{
+    if x < points[leg.from].at {
+        return false;
+    }
+    match leg.way {
+        Some(edge) => x <= points[edge.place].at,
+        None => true,
+    }
+}
+
+// The cost of a power that is on a leg.
+fn cost_on(points: &[Point], x: i64, leg: Leg) -> i64
+    requires points { AreCostPoints points.now }
+    requires within { Spans points.now x x }
+    requires leg { IsLeg points.now leg }
+    requires on { IsOn points.now x leg }
+    ensures value { result ≡ envelope points.now x }
+    ensures limit { IsCost result }
+{
+    envelope_is_greatest();
+    power_costs_are_within();
+    match leg.way {
+        Some(edge) => edge_cost(&points[leg.from], edge.slope, x),
+        None => points[leg.from].cost,
+    }
+}
+
 /// The cost of a power in money for one period: the whole-price envelope of the points at `x`
 /// kilowatts. `points` are those of a unit, and `x` is from the first to the last point's power.
 /// Takes no memory.
@@ -40,14 +100,25 @@ pub fn envelope_at(points: &[Point], x: i64) -> i64
     ensures value { result ≡ envelope points.now x }
     ensures limit { IsCost result }
 {
-    envelope_is_greatest();
-    power_costs_are_within();
-    let mut from = first_place(points);
-    'walk: while let Some(edge) = way_on(points, from) {
-        if x <= points[edge.place].at {
-            return edge_cost(&points[from], edge.slope, x);
+    cost_on(points, x, leg_at(points, x))
+}
+
+/// The same cost, found sooner where the power is on the leg in `near`, which is one of the same
+/// points: the one that the call before left there. Takes no memory.
+pub fn envelope_near(points: &[Point], x: i64, near: &mut Option<Leg>) -> i64
+    requires points { AreCostPoints points.now }
+    requires within { Spans points.now x x }
+    requires near { IsNear points.now near.old }
+    ensures value { result ≡ envelope points.now x }
+    ensures limit { IsCost result }
+    ensures near { IsNear points.now near.new }
+{
+    if let Some(leg) = *near {
+        if is_on(points, x, leg) {
+            return cost_on(points, x, leg);
         }
-        from = edge.place;
     }
-    points[from].cost
+    let leg = leg_at(points, x);
+    *near = Some(leg);
+    cost_on(points, x, leg)
 }

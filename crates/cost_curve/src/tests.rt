@@ -2,13 +2,13 @@
 ghost use Rattle.uc_model.specs.Limits.{Spans};
 ghost use Rattle.cost_curve.specs.CostCurve.{AreCostPoints, IsCostCurve, CanEvaluate};
 
-use crate::costs::envelope_at;
+use crate::costs::{envelope_at, envelope_near};
 use crate::curves::{curve_at, curve_into, curve_of};
 use std::process::Abort;
 use std::test::Fail;
 use uc_model::units::{Blocks, Curve, Point};
 
-// The cost at a place, by the points and by a curve of them.
+// The cost at a place, by the points, by the leg that it is on, and by a curve of them.
 fn has_cost(rt: &impl Abort, points: &[Point], curve: &Curve, x: i64, cost: i64)
     requires points { AreCostPoints points.now }
     requires place { Spans points.now x x }
@@ -16,6 +16,9 @@ fn has_cost(rt: &impl Abort, points: &[Point], curve: &Curve, x: i64, cost: i64)
     requires evaluates { CanEvaluate curve.now }
 {
     assert_eq!(rt; envelope_at(points, x), cost, "at {x}");
+    let mut near = None;
+    assert_eq!(rt; envelope_near(points, x, &mut near), cost, "at {x}");
+    assert_eq!(rt; envelope_near(points, x, &mut near), cost, "at {x} again");
     assert_eq!(rt; curve_at(curve, x), cost, "at {x}");
 }
 

@@ -11,27 +11,30 @@ ghost use Rattle.uc_model.specs.PlainCases.{market_of, schedules_of};
 ghost use Rattle.uc_model.specs.PlainUnits.{thermal_of, bid_of, schedule_of};
 ghost use Rattle.uc_model.specs.Schedules.{time_down, IsThermalFeasible};
 ghost use Rattle.uc_model.specs.Systems.{plan_cost, IsFeasiblePlan};
+ghost use Rattle.cost_curve.specs.Legs.{IsNear};
 ghost use Rattle.plan_check.specs.Costs.{sum_over, thermal_units, bid_units, production_at};
 ghost use Rattle.plan_check.specs.Costs.{start_cost_at, worth_at};
 
 use crate::rules;
-use cost_curve::costs::envelope_at;
+use cost_curve::costs::{Leg, envelope_near};
 use uc_model::cases::{Case, Plan};
 use uc_model::rules::start_cost;
 use uc_model::units::{Bid, Block, Response, Unit};
 
-// What the power at a place costs.
-fn power_cost(unit: &Unit, response: &Response, place: usize) -> i64
+// What the power at a place costs. `near` has the leg of the power before it.
+fn power_cost(unit: &Unit, response: &Response, place: usize, near: &mut Option<Leg>) -> i64
+    requires near { IsNear (thermal_of unit.now).points near.old }
     requires within { place < length (schedule_of response.now).on }
     requires feasible { IsThermalFeasible (thermal_of unit.now)
         (length (schedule_of response.now).on) (schedule_of response.now) }
     ensures value { result ≡ production_at (thermal_of unit.now) (schedule_of response.now) place }
     ensures limit { IsCost result }
+    ensures near { IsNear (thermal_of unit.now).points near.new }
 {
     if !response.is_on(place) {
         return 0;
     }
-    envelope_at(unit.points.as_slice(), response.power_at(place))
+    envelope_near(unit.points.as_slice(), response.power_at(place), near)
 }
 
 /// What the powers of a schedule cost.
@@ -42,9 +45,10 @@ pub fn power_costs(unit: &Unit, response: &Response) -> i64
     ensures value { result ≡ production_cost (thermal_of unit.now) (schedule_of response.now) }
     ensures limit { IsFrom (neg_ℤ (pos 2000000000000000)) (pos 2000000000000000) result }
 {
+    let mut near = None;
     let mut sum = 0;
     for place in 0..response.on.len() {
-        sum += power_cost(unit, response, place);
+        sum += power_cost(unit, response, place, &mut near);
     }
     sum
 }

@@ -3,8 +3,8 @@ use Rattle.uc_model.specs.declared.units.Point.{Point}
 use Rattle.plan_check.proofs.Lemmas.{power_spans}
 use Rattle.plan_check.proofs.costs.power_cost.Goals as goal
 
-pub envelope_at-requires-clause-within : goal.envelope_at-requires-clause-within
-envelope_at-requires-clause-within c =
+pub envelope_near-requires-clause-within : goal.envelope_near-requires-clause-within
+envelope_near-requires-clause-within c =
     let g = thermal_of c.args.unit.now in
     let s = schedule_of c.args.response.now in
     let on : on_in (thermal_of c.args.unit.now) (schedule_of c.args.response.now) (suc c.args.place) ≡ true = search rules in

@@ -1,4 +1,4 @@
-use Rattle.plan_check.proofs.Common.{arith, ints, thermal_of, schedule_of, sum_more, production_at}
+use Rattle.plan_check.proofs.Common.{rules, arith, ints, thermal_of, schedule_of, sum_more, production_at}
 use Rattle.plan_check.proofs.costs.power_costs.Goals as goal
 
 pub loop-place-preserved : goal.loop-place-preserved
@@ -7,4 +7,5 @@ loop-place-preserved c =
     record {
       is = omega (arith, ints, more);
       limit = record { at_least = omega (arith, ints); at_most = omega (arith, ints) };
+      near = search rules;
     }

@@ -1,5 +1,5 @@
 use Rattle.cost_curve.proofs.Common.{◌-◌, ◌<◌, ℤ, ◌≤ℤ◌, length, point_at, IsVertex}
-use Rattle.cost_curve.proofs.costs.envelope_at.Given as goal
+use Rattle.cost_curve.proofs.costs.leg_at.Given as goal
 
 abbrev pub invariant-walk : goal.invariant-walk
 invariant-walk l = record {
