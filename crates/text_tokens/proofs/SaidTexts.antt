@@ -1,6 +1,7 @@
 -- Whether a string says a text, piece by piece.
-use Rattle.text_tokens.proofs.Common.{◌≡◌, ℕ, ◌+◌, Bool, true, false, List, [], ◌∷◌, ◌++◌, length, drop, suc, nat_eq, nat_tests, arith, refl, sym, ap, ap₂, ◌∙◌, ◌<◌, get_or, take, take_more, is_plain, piece_at, append_assoc, append-nil, Option, Some, None, option_map, is_some, Piece, after_piece, string_from, string_of, said, text_or}
+use Rattle.text_tokens.proofs.Common.{◌≡◌, ℕ, ◌+◌, ◌-◌, Bool, true, false, List, [], ◌∷◌, ◌++◌, length, drop, suc, nat_eq, nat_tests, arith, refl, sym, ap, ap₂, ◌∙◌, ◌<◌, get_or, take, take_more, is_plain, piece_at, append_assoc, append-nil, Option, Some, None, option_map, is_some, Piece, after_piece, string_from, string_of, said, text_or}
 use Rattle.std.specs.Prelude.{bytes_eq}
+use Rattle.std.proofs.lemmas.List.{take-append-drop, length-drop}
 use Rattle.std.proofs.lemmas.Slice.Eq.{bytes_eq-Decides}
 use Rattle.text_tokens.proofs.Texts.{whole_string, never, in_front, goes_on, said_goes_on, nothing_said}
 use Rattle.text_tokens.proofs.PlainStrings.{plain_piece, no_quote}
@@ -64,3 +65,15 @@ passes_one bs n lt e h =
 
 pub same_one : (xs ys : List ℕ) (n : ℕ) → n < length xs → n < length ys → get_or xs n 0 ≡ get_or ys n 0 → take n xs ≡ take n ys → take (n + 1) xs ≡ take (n + 1) ys
 same_one xs ys n lt within e h = take_more xs n 0 lt ∙ ap₂ (λ (front : List ℕ) (b : ℕ). front ++ b ∷ []) h e ∙ sym (take_more ys n 0 within)
+
+-- behind what is the same the string has another byte, or one more
+pub says_plain_other : (bs text : List ℕ) (n : ℕ) → is_some (string_of bs) ≡ true → n < length bs → is_plain (get_or bs n 0) ≡ true → PassesPlain bs n → take n text ≡ take n bs
+    → (n < length text → get_or text n 0 ≡ get_or bs n 0 → ⊥) → bytes_eq (said bs) text ≡ false
+says_plain_other bs text n closed lt plain h same ends =
+    let b = get_or bs n 0 in
+    says_other bs text (take n bs) (drop n text) n (b ∷ [], 1) (string_from 0 (drop (n + 1) bs)) closed
+    (passes_one bs n lt plain h ∙ ap (λ (front : List ℕ). option_map (after_piece (front, n + 1)) (string_from 0 (drop (n + 1) bs))) (take_more bs n 0 lt))
+    (sym (take-append-drop n text) ∙ ap (λ (front : List ℕ). front ++ drop n text) same)
+    (λ more e.
+    let count : length text - n ≡ suc (length more) = sym (length-drop n text) ∙ ap length e in
+    ends (omega (arith, count)) (sym (in_front text (drop n text) n refl) ∙ ap (λ (r : List ℕ). get_or r 0 0) e))

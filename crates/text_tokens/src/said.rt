@@ -1,6 +1,7 @@
 //! What a string says, where nothing is kept of it.
 ghost use Rattle.std.specs.Prelude.{◌≡◌, ◌≤◌, ◌++◌, ℕ, List, IfSome, IfNone, length, take, drop};
-ghost use Rattle.std.specs.Prelude.{option_map};
+ghost use Rattle.std.specs.Prelude.{option_map, true, slice_index, ◌<◌};
+ghost use Rattle.text_tokens.specs.Plain.{is_plain as plain};
 ghost use Rattle.text_tokens.specs.Pieces.{said_by};
 ghost use Rattle.text_tokens.specs.Strings.{string_from, after_piece};
 
@@ -34,6 +35,9 @@ fn same_len(bytes: &[u8], text: &[u8]) -> usize
         ≡ option_map (after_piece (take result bytes.now, result))
         (string_from 0 (drop result bytes.now)) }
     ensures near { result ≤ length bytes.now }
+    ensures ends { result < length bytes.now → plain (slice_index bytes.now result) ≡ true
+        → result < length text.now
+        → slice_index text.now result ≡ slice_index bytes.now result → ⊥ }
 {
     for (i, b) in text.iter().enumerate() {
         if bytes.len() <= i || bytes[i] != *b || !is_plain(*b) {
@@ -68,6 +72,9 @@ impl<'a> Quoted<'a> {
     {
         let bytes = self.bytes;
         let mut at = same_len(bytes, text);
+        if at < bytes.len() && is_plain(bytes[at]) {
+            return false;
+        }
         let mut wanted = rest_from(text, at);
         'pieces: while at < bytes.len() && bytes[at] != b'"' {
             let Some(piece) = piece_at(rest_from(bytes, at)) else {

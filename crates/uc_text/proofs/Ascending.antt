@@ -4,8 +4,11 @@ use Rattle.std.specs.Ordering.{nat_cmp, ordering_reverse}
 use Rattle.std.specs.declared.cmp.Ordering.TheVariants.{Less}
 use Rattle.std.specs.Cmp.Lexicographic.{slice_cmp}
 use Rattle.std.proofs.lemmas.Cmp.{nat_list_cmp_total}
-use Rattle.uc_text.specs.Met.{AreUpTo}
 use Rattle.uc_text.proofs.Known.{equal_bytes, there_push}
+
+-- none of the names is above this one
+abbrev pub AreUpTo : List (List ℕ) → List ℕ → Type 0
+AreUpTo ks last = (q : List ℕ) → is_there q ks ≡ true → (slice_cmp nat_cmp q last ≡ Less) ⊎ (q ≡ last)
 
 not_below_itself : (q : List ℕ) → slice_cmp nat_cmp q q ≡ Less → ⊥
 not_below_itself q e =

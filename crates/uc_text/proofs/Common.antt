@@ -4,7 +4,6 @@ pub use Rattle.std.proofs.lemmas.Bool.{cases_lt}
 pub use Rattle.std.proofs.lemmas.List.{append-nil, length-append, get_or_append_left, map_push, take_more, take_all, length-map}
 pub use Rattle.std.proofs.lemmas.Result.{err_from_is_err_and}
 pub use Rattle.std.specs.Prelude.{IfOk, Contains, AllPairs, vec_len}
-pub use Rattle.std.specs.HashSet.{HashSet}
 pub use Rattle.text_tokens.specs.Ahead.{rest, ahead}
 pub use Rattle.text_tokens.specs.Goes.{goes}
 pub use Rattle.text_tokens.specs.Seen.{token_of, scalar_of}
@@ -16,7 +15,9 @@ unfoldable pub use Rattle.text_tokens.specs.Tokens.{token_at, tokens_from}
 pub use Rattle.uc_text.specs.Faults.{length_of_numbers, levels, Test, grammar, double_keys, ScalarPasses, LevelPasses, KeysPass, Passes, ItemsPass, MembersPass, Begins, IsFault, IsShort, PassesBefore}
 pub use Rattle.uc_text.specs.Grammar.{Token, open_list, close_list, open_object, close_object, comma, colon, word, key, end, spell, spell_items, spell_more_items, spell_members, spell_more_members}
 pub use Rattle.uc_text.specs.Adds.{Adds, IsOne, in_turn}
-pub use Rattle.uc_text.specs.Known.{is_there, all_said, Knows}
+pub use Rattle.uc_text.specs.Known.{is_there, names_said, AreDifferent, IsFirst}
+pub use Rattle.uc_text.specs.Later.{DoublesStop}
+pub use Rattle.uc_text.specs.declared.names.Name.{Name}
 unfoldable pub use Rattle.uc_text.specs.Known.{hash_of}
 pub use Rattle.uc_text.specs.Parts.{Pair, names, items_of, members_of, IsNewName, IsStuck, passed_items, opened, Starts, StartsBefore, passed_members, opened_object}
 pub use Rattle.uc_text.specs.Places.{IfFault, NextIs, StuckAt, Reads, ReadsItems, ReadsMembers, test_of, Takes, FaultIs, AtItem, seen}

@@ -12,9 +12,11 @@ pub mod ValueSteps
 -- A text has one value or one first fault, and an answer is the only one.
 pub mod Uniqueness
 pub mod Answered
--- Whether a name was met before: the set of hashes, and names that ascend.
+-- Names that were met before, that ascend, that are compared later, and the first double one.
 pub mod Known
 pub mod Ascending
+pub mod Later
+pub mod FirstDoubles
 -- What nodes say that were put behind others.
 pub mod Nodes
 -- Which token it isn't, and the node of a value of one token.

@@ -1,6 +1,6 @@
 -- The steps of the reader over an object's tokens.
-use Rattle.uc_text.proofs.Common.{◌≡◌, ◌≢◌, ℕ, ◌-◌, ◌<◌, true, List, [], ◌∷◌, ◌++◌, refl, sym, subst, append_assoc, Contains, arith, append-nil, Value, Token, open_object, close_object, comma, colon, key, spell, double_keys, Passes, MembersPass, Pair, members_of, names, IsNewName, passed_members, opened_object, IsStuck, Placed, kinds, goes, test_of, NextIs, Takes, StuckAt, ReadsMembers, TextCode, NotJson, DoubleKey, TextFault}
-use Rattle.uc_text.proofs.Objects.{AreDifferent, of_member, new_name_passes, names_push, members_push, passed_members_push, members_pass_push, stuck_at_name, stuck_at_double, stuck_at_colon, stuck_in_member, stuck_behind_member}
+use Rattle.uc_text.proofs.Common.{AreDifferent, ◌≡◌, ◌≢◌, ℕ, ◌-◌, ◌<◌, true, List, [], ◌∷◌, ◌++◌, refl, sym, subst, append_assoc, Contains, arith, append-nil, Value, Token, open_object, close_object, comma, colon, key, spell, double_keys, Passes, MembersPass, Pair, members_of, names, IsNewName, passed_members, opened_object, IsStuck, Placed, kinds, goes, test_of, NextIs, Takes, StuckAt, ReadsMembers, TextCode, NotJson, DoubleKey, TextFault}
+use Rattle.uc_text.proofs.Objects.{of_member, new_name_passes, names_push, members_push, passed_members_push, members_pass_push, stuck_at_name, stuck_at_double, stuck_at_colon, stuck_in_member, stuck_behind_member}
 use Rattle.uc_text.proofs.Steps.{Takes-then, takes_next, stuck_behind, stuck_here, push_is_some}
 
 -- Behind the opening brace, where these members and a comma behind each were read, and then the token first.

@@ -1,5 +1,5 @@
 -- A fault within an object.
-use Rattle.uc_text.proofs.Common.{◌≡◌, ◌≢◌, ℕ, zero, suc, ◌-◌, ◌<◌, List, [], ◌∷◌, ◌++◌, length, get_or, refl, sym, ap, subst, ◌∙◌, append_assoc, arith, Contains, AllPairs, append-nil, length-append, get_or_append_left, null, Value, scalar, list, object, Members, no_members, member, keys, Token, open_object, close_object, comma, colon, word, key, spell, spell_members, spell_more_members, Test, grammar, length_of_numbers, levels, double_keys, ScalarPasses, KeysPass, Passes, MembersPass, Pair, members_of, names, IsNewName, passed_members, opened_object, Starts, IsStuck}
+use Rattle.uc_text.proofs.Common.{AreDifferent, ◌≡◌, ◌≢◌, ℕ, zero, suc, ◌-◌, ◌<◌, List, [], ◌∷◌, ◌++◌, length, get_or, refl, sym, ap, subst, ◌∙◌, append_assoc, arith, Contains, append-nil, length-append, get_or_append_left, null, Value, scalar, list, object, Members, no_members, member, keys, Token, open_object, close_object, comma, colon, word, key, spell, spell_members, spell_more_members, Test, grammar, length_of_numbers, levels, double_keys, ScalarPasses, KeysPass, Passes, MembersPass, Pair, members_of, names, IsNewName, passed_members, opened_object, Starts, IsStuck}
 use Rattle.std.proofs.Math.Seq.{get_or-append_seam}
 use Rattle.std.proofs.lemmas.List.Quantifiers.{all_pairs_push}
 use Rattle.uc_text.proofs.Spellings.{heads, tails, one_spelling}
@@ -40,9 +40,6 @@ names_push (q ∷ ps) p = ap (λ (ks : List (List ℕ)). q.name ∷ ks) (names_p
 pub keys-members_of : (ps : List Pair) → keys (members_of ps) ≡ names ps
 keys-members_of [] = refl
 keys-members_of (q ∷ ps) = ap (λ (ks : List (List ℕ)). q.name ∷ ks) (keys-members_of ps)
-
-abbrev pub AreDifferent : List (List ℕ) → Type 0
-AreDifferent ks = AllPairs (λ a b. a ≢ b) ks
 
 pub new_name_passes : (ks : List (List ℕ)) (k : List ℕ) → AreDifferent ks → IsNewName ks k → AreDifferent (ks ++ k ∷ [])
 new_name_passes ks k h new = all_pairs_push (λ a b. a ≢ b) ks k h new

@@ -1,5 +1,5 @@
 -- Which token it isn't.
-use Rattle.uc_text.proofs.Common.{◌≡◌, ◌≢◌, ℕ, List, false, refl, FaultIs, token_of, TextFault, TextError}
+use Rattle.uc_text.proofs.Common.{◌≡◌, ◌≢◌, ℕ, List, false, refl, Result, Ok, Err, IfFault, FaultIs, token_of, TextFault, TextError}
 use Rattle.uc_text.specs.Grammar as grammar
 use Rattle.uc_text.proofs.Spellings.{is_start}
 use Rattle.uc_text.specs.declared.fault.TextError.TheVariants as errors
@@ -35,6 +35,10 @@ not_end_comma t e f = cc
 pub passes_on : (e : TextError) (P Q : TextFault → Type 0) → ((f : TextFault) → P f → Q f) → FaultIs e P → FaultIs e Q
 passes_on errors.Memory P Q g h = tt
 passes_on (errors.Fault f) P Q g h = g f h
+
+pub if_fault_then : {X : Type 0} (r : Result X TextError) (P Q : TextFault → Type 0) → ((f : TextFault) → P f → Q f) → IfFault r P → IfFault r Q
+if_fault_then (Ok x) P Q g h = tt
+if_fault_then (Err e) P Q g h = passes_on e P Q g h
 
 pub not_text : (t : Token) → ((s : _) → t ≡ Text s → ⊥) → (k : List ℕ) → token_of t ≢ grammar.key k
 not_text (Text s) n k e = n s refl

@@ -1,7 +1,7 @@
 -- The steps of the reader at the first token of a value, and at the end of the text.
-use Rattle.uc_text.proofs.Common.{◌≡◌, ◌≢◌, ℕ, ◌<◌, true, false, List, [], ◌∷◌, ◌++◌, refl, sym, ap, subst, ◌∙◌, append_assoc, true≢false, arith, Scalar, null, flag, number, long_number, text, Value, scalar, list, object, no_items, no_members, Token, open_list, close_list, open_object, close_object, word, end, spell, spell_items, spell_members, Test, IsShort, grammar, length_of_numbers, levels, double_keys, Passes, Begins, PassesBefore, IsFault, Pair, items_of, members_of, Starts, StartsBefore, IsStuck, Placed, kinds, tokens, goes, test_of, NextIs, StuckAt, Reads, ReadsItems, ReadsMembers, IsText, IsFirstFault, TextCode, NotJson, TextFault}
+use Rattle.uc_text.proofs.Common.{AreDifferent, ◌≡◌, ◌≢◌, ℕ, ◌<◌, true, false, List, [], ◌∷◌, ◌++◌, refl, sym, ap, subst, ◌∙◌, append_assoc, true≢false, arith, Scalar, null, flag, number, long_number, text, Value, scalar, list, object, no_items, no_members, Token, open_list, close_list, open_object, close_object, word, end, spell, spell_items, spell_members, Test, IsShort, grammar, length_of_numbers, levels, double_keys, Passes, Begins, PassesBefore, IsFault, Pair, items_of, members_of, Starts, StartsBefore, IsStuck, Placed, kinds, tokens, goes, test_of, NextIs, StuckAt, Reads, ReadsItems, ReadsMembers, IsText, IsFirstFault, TextCode, NotJson, TextFault}
 use Rattle.uc_text.proofs.Spellings.{heads, starts, is_start, one_spelling}
-use Rattle.uc_text.proofs.Objects.{AreDifferent, keys-members_of}
+use Rattle.uc_text.proofs.Objects.{keys-members_of}
 use Rattle.uc_text.proofs.Steps.{Takes-then, takes_next, stuck_here, stuck_behind, kinds_append}
 use Rattle.uc_text.proofs.MemberSteps.{at_code}
 

@@ -10,4 +10,4 @@ pub mod Parts
 pub mod Places
 pub mod Known
 pub mod Adds
-pub mod Met
+pub mod Later

@@ -1,6 +1,7 @@
 //! JSON texts of RFC 8259 in this project's profile: a tree, or the first fault and its place.
 #![tactic(auto)]
 
+mod doubles;
 mod fault;
 pub mod laws;
 mod names;

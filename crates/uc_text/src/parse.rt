@@ -1,7 +1,9 @@
 //! From tokens to a tree.
 ghost use Rattle.std.specs.Prelude.{◌≡◌, ◌<◌, ◌≤◌, ◌+◌, ◌∷◌, ◌++◌, [], ℕ, List, length, IfOk, OnOk};
+ghost use Rattle.uc_text.specs.Known.{names_said, AreDifferent};
+ghost use Rattle.uc_text.specs.Later.{DoublesStop};
 ghost use Rattle.uc_text.specs.Grammar.{open_list, open_object};
-ghost use Rattle.uc_text.specs.Parts.{Pair};
+ghost use Rattle.uc_text.specs.Parts.{Pair, names as names_of};
 ghost use Rattle.uc_text.specs.Adds.{Adds, IsOne, in_turn};
 ghost use Rattle.text_tokens.specs.Tokens.{Placed};
 ghost use Rattle.uc_text.specs.Places.{NextIs, seen, Reads, ReadsItems, ReadsMembers, StuckAt};
@@ -17,22 +19,15 @@ ghost use Rattle.uc_text.specs.declared.fault.TextFault.{TextFault};
 ghost use Rattle.uc_text.specs.View.{tree_view};
 ghost use Rattle.uc_model.specs.declared.limits.TheConstants.{MOST_BYTES};
 
+use crate::doubles::first_double;
 use crate::fault::{TextCode, TextError, TextFault};
-use crate::names::{Met, is_new};
+use crate::names::Name;
 use std::alloc::{AllocError, Global};
-use text_tokens::{Lexeme, Quoted, Reader, Token, Word};
+use text_tokens::{Lexeme, Reader, Token, Word};
 use text_tree::{Node, Tree};
 
 /// How many lists and objects may stand within one another.
 const LEVELS: u32 = 32;
-
-/// What was read so far.
-#[derive(Drop)]
-struct Found<'a> {
-    nodes: Vec<Node>,
-    /// The names of the objects that are still open, the innermost's last.
-    names: Vec<Quoted<'a>>,
-}
 
 fn fault(code: TextCode, place: u32) -> TextError
     ensures { result ≡ TextError.Fault (record { code = code; place = place }) }
@@ -65,44 +60,43 @@ fn value<'a>(
     reader: &mut Reader<'a>,
     first: Lexeme<'a>,
     left: u32,
-    found: &mut Found<'a>,
+    nodes: &mut Vec<Node>,
 ) -> Result<(), TextError>
     requires { StandsAt reader.old.bytes.now first.place first.token }
     ensures ok { OnOk result ((ts : List Placed)
         → NextIs ts (seen first.entry) (rest reader.old)
         → (v : Value) × Reads left ts v (rest reader.new)
-        × Adds reader.old.bytes.now found.old.nodes.items found.new.nodes.items (v ∷ [])) }
+        × Adds reader.old.bytes.now nodes.old.items nodes.new.items (v ∷ [])) }
     ensures fault { IfFault result (λ f. (ts : List Placed)
         → NextIs ts (seen first.entry) (rest reader.old)
         → StuckAt left [] ts f) }
     ensures ahead { OnOk result (ahead reader.new ≤ ahead reader.old) }
     ensures same { OnOk result (reader.new.bytes.now ≡ reader.old.bytes.now) }
-    ensures names { OnOk result (found.new.names.items ≡ found.old.names.items) }
 {
     match first.token {
         Token::Word(word) => {
             let node = word_node(word, first.place)?;
-            Ok(found.nodes.push(node)?)
+            Ok(nodes.push(node)?)
         }
-        Token::Text(_) => Ok(found.nodes.push(Node::Text(first.place))?),
+        Token::Text(_) => Ok(nodes.push(Node::Text(first.place))?),
         Token::OpenList => {
             if left == 0 {
                 return Err(fault(TextCode::TooDeep, first.place));
             }
-            let at = found.nodes.len();
-            found.nodes.push(Node::List(0))?;
-            let count = items(alloc, reader, left, found)?;
-            found.nodes[at] = Node::List(count);
+            let at = nodes.len();
+            nodes.push(Node::List(0))?;
+            let count = items(alloc, reader, left, nodes)?;
+            nodes[at] = Node::List(count);
             Ok(())
         }
         Token::OpenObject => {
             if left == 0 {
                 return Err(fault(TextCode::TooDeep, first.place));
             }
-            let at = found.nodes.len();
-            found.nodes.push(Node::Object(0))?;
-            let count = members(alloc, reader, left, found)?;
-            found.nodes[at] = Node::Object(count);
+            let at = nodes.len();
+            nodes.push(Node::Object(0))?;
+            let count = members(alloc, reader, left, nodes)?;
+            nodes[at] = Node::Object(count);
             Ok(())
         }
         _ => Err(fault(TextCode::NotJson, first.place)),
@@ -134,16 +128,15 @@ fn items<'a>(
     alloc: Global,
     reader: &mut Reader<'a>,
     left: u32,
-    found: &mut Found<'a>,
+    nodes: &mut Vec<Node>,
 ) -> Result<u32, TextError>
     requires { 0 < left }
     ensures ok { IfOk result (λ count. (vs : List Value) × (count ≡ length vs)
         × ReadsItems left (rest reader.old) vs (rest reader.new)
-        × Adds reader.old.bytes.now found.old.nodes.items found.new.nodes.items vs) }
+        × Adds reader.old.bytes.now nodes.old.items nodes.new.items vs) }
     ensures fault { IfFault result (λ f. StuckAt left (open_list ∷ []) (rest reader.old) f) }
     ensures ahead { OnOk result (ahead reader.new ≤ ahead reader.old) }
     ensures same { OnOk result (reader.new.bytes.now ≡ reader.old.bytes.now) }
-    ensures names { OnOk result (found.new.names.items ≡ found.old.names.items) }
 {
     let mut count = 0;
     let mut first = reader.next();
@@ -151,12 +144,12 @@ fn items<'a>(
         return Ok(count);
     }
     'items: loop {
-        value(alloc, reader, first, left - 1, found)?;
+        value(alloc, reader, first, left - 1, nodes)?;
         count += 1;
         let behind = reader.next();
         match behind.token {
             Token::Comma => {
-                count += pass_numbers(reader, &mut found.nodes)?;
+                count += pass_numbers(reader, nodes)?;
                 first = reader.next();
             }
             Token::CloseList => return Ok(count),
@@ -166,53 +159,77 @@ fn items<'a>(
 }
 
 /// The members behind an opening brace, and the closing brace: how many members.
+///
+/// Which name is the first double one is asked once the object ends or has a fault: a double name
+/// stands before any fault that was met, and so goes first.
 #[cycle(read)]
 fn members<'a>(
     alloc: Global,
     reader: &mut Reader<'a>,
     left: u32,
-    found: &mut Found<'a>,
+    nodes: &mut Vec<Node>,
 ) -> Result<u32, TextError>
     requires { 0 < left }
     ensures ok { IfOk result (λ count. (ps : List Pair) × (count ≡ length ps)
         × ReadsMembers left (rest reader.old) ps (rest reader.new)
-        × Adds reader.old.bytes.now found.old.nodes.items found.new.nodes.items (in_turn ps)) }
+        × Adds reader.old.bytes.now nodes.old.items nodes.new.items (in_turn ps)) }
     ensures fault { IfFault result (λ f. StuckAt left (open_object ∷ []) (rest reader.old) f) }
     ensures ahead { OnOk result (ahead reader.new ≤ ahead reader.old) }
     ensures same { OnOk result (reader.new.bytes.now ≡ reader.old.bytes.now) }
-    ensures names { OnOk result (found.new.names.items ≡ found.old.names.items) }
 {
-    let outer = found.names.len();
-    let mut met = Met::UpTo(b"");
+    let mut names = Vec::new(alloc);
+    let read = noted_members(alloc, reader, left, nodes, &mut names);
+    let double = first_double(alloc, &names)?;
+    if double < names.len() {
+        return Err(fault(TextCode::DoubleKey, names[double].place));
+    }
+    read
+}
+
+/// The same whether or not names are different, with a note of each name.
+#[cycle(read)]
+fn noted_members<'a>(
+    alloc: Global,
+    reader: &mut Reader<'a>,
+    left: u32,
+    nodes: &mut Vec<Node>,
+    names: &mut Vec<Name<'a>>,
+) -> Result<u32, TextError>
+    requires left { 0 < left }
+    requires none { names.old.items ≡ [] }
+    ensures ok { IfOk result (λ count. (ps : List Pair) × (count ≡ length ps)
+        × (names_said names.new.items ≡ names_of ps)
+        × (AreDifferent (names_of ps) → ReadsMembers left (rest reader.old) ps (rest reader.new))
+        × Adds reader.old.bytes.now nodes.old.items nodes.new.items (in_turn ps)) }
+    ensures fault { IfFault result (λ f. AreDifferent (names_said names.new.items)
+        → StuckAt left (open_object ∷ []) (rest reader.old) f) }
+    ensures doubles { DoublesStop left (rest reader.old) names.new.items }
+    ensures ahead { OnOk result (ahead reader.new ≤ ahead reader.old) }
+    ensures same { OnOk result (reader.new.bytes.now ≡ reader.old.bytes.now) }
+{
     let mut count = 0;
     let mut first = reader.next();
     if let Token::CloseObject = first.token {
         return Ok(count);
     }
     'members: loop {
-        let Token::Text(name) = first.token else {
+        let Token::Text(quoted) = first.token else {
             return Err(fault(TextCode::NotJson, first.place));
         };
-        let new = is_new(alloc, &found.names[outer..], &mut met, name)?;
-        if !new {
-            return Err(fault(TextCode::DoubleKey, first.place));
-        }
-        found.names.push(name)?;
-        found.nodes.push(Node::Text(first.place))?;
+        let place = first.place;
+        names.push(Name { quoted, place })?;
+        nodes.push(Node::Text(place))?;
         let between = reader.next();
         let Token::Colon = between.token else {
             return Err(fault(TextCode::NotJson, between.place));
         };
         let start = reader.next();
-        value(alloc, reader, start, left - 1, found)?;
+        value(alloc, reader, start, left - 1, nodes)?;
         count += 1;
         let behind = reader.next();
         match behind.token {
             Token::Comma => first = reader.next(),
-            Token::CloseObject => {
-                found.names.truncate(outer);
-                return Ok(count);
-            }
+            Token::CloseObject => return Ok(count),
             _ => return Err(fault(TextCode::NotJson, behind.place)),
         }
     }
@@ -223,8 +240,9 @@ fn members<'a>(
 /// Tokens are taken in order. The first one that the grammar doesn't allow, or that is a number
 /// too long, a bracket too deep or a key for the second time, is the fault; at one token they are
 /// tried in that order. Where the text ends too early the fault stands at its length, or where the
-/// token that it cuts off begins. Takes time in proportion to the bytes, and recursion no deeper
-/// than 32 levels. `laws` says that bytes are a text or have a first fault, and never both.
+/// token that it cuts off begins. Takes time in proportion to the bytes, times the logarithm of the
+/// number of an object's names where they are in no order, and recursion no deeper than 32 levels.
+/// `laws` says that bytes are a text or have a first fault, and never both.
 pub fn read_tree(alloc: Global, bytes: &[u8]) -> Result<Tree<'_>, TextError>
     requires { length bytes.now ≤ MOST_BYTES }
     // A tree is the text's.
@@ -245,18 +263,12 @@ fn read_all(alloc: Global, bytes: &[u8]) -> Result<Tree<'_>, TextError>
     ensures fault { IfFault result (λ f. IsFirstFault 32 bytes.now f) }
 {
     let mut reader = Reader { bytes, at: 0 };
-    let mut found = Found {
-        nodes: Vec::new(alloc),
-        names: Vec::new(alloc),
-    };
+    let mut nodes = Vec::new(alloc);
     let first = reader.next();
-    value(alloc, &mut reader, first, LEVELS, &mut found)?;
+    value(alloc, &mut reader, first, LEVELS, &mut nodes)?;
     let behind = reader.next();
     match behind.token {
-        Token::End => Ok(Tree {
-            bytes,
-            nodes: found.nodes,
-        }),
+        Token::End => Ok(Tree { bytes, nodes }),
         _ => Err(fault(TextCode::NotJson, behind.place)),
     }
 }

@@ -1,7 +1,6 @@
-use Rattle.uc_text.proofs.Common.{◌≡◌, ℕ, ◌++◌, ◌∷◌, [], List, refl, sym, ap, subst, ◌∙◌, arith, err_from_is_err_and, length-append, Value, scalar, text, list, object, said, all_said, Quoted, Token, open_list, open_object, items_of, members_of, names, append-nil, Adds, IsStuck, levels, Placed, NotJson, TooDeep, AtItem, NextIs, seen, StuckAt, FaultIs, rest, token_of, scalar_of, TextError, StandsAt, in_turn, ListNode, ObjectNode, TextNode}
+use Rattle.uc_text.proofs.Common.{◌≡◌, ℕ, ◌++◌, ◌∷◌, [], List, refl, sym, ap, subst, ◌∙◌, arith, err_from_is_err_and, length-append, Value, scalar, text, list, object, said, names_said, AreDifferent, IsFirst, Name, Token, open_list, open_object, items_of, members_of, names, DoublesStop, Adds, IsStuck, levels, Placed, NotJson, TooDeep, AtItem, NextIs, seen, StuckAt, FaultIs, rest, token_of, scalar_of, TextError, StandsAt, in_turn, ListNode, ObjectNode, TextNode}
 use Rattle.uc_text.proofs.Words.{word_stops, text_node}
-use Rattle.uc_text.proofs.Lemmas.{not_close_list, not_close_object, not_comma, not_colon, not_text, not_start, passes_on, items_begin, items_empty, at_next, read_first, items_end, items_stop, items_stop_behind, known_name, new_name, members_begin, members_empty, members_go_on, members_end, name_stops, double_stops, colon_stops, value_stops, member_stops_behind, adds_none, adds_one, adds_then, adds_anew, says_list, says_object, adds_member, not_end_comma, up_to_none, all_said-append, names_from, names_before, names_more, is_told}
-use Rattle.uc_text.specs.Met.{IsMet}
+use Rattle.uc_text.proofs.Lemmas.{not_close_list, not_close_object, not_comma, not_colon, not_text, not_start, passes_on, if_fault_then, items_begin, items_empty, at_next, read_first, items_end, items_stop, items_stop_behind, members_begin, members_empty, members_go_on, members_end, name_stops, colon_stops, value_stops, member_stops_behind, adds_none, adds_one, adds_then, adds_anew, says_list, says_object, adds_member, not_end_comma, split_pushed, after_push, doubles_none, doubles_push, all_different}
 use Rattle.uc_text.proofs.Objects.{of_member, names_push}
 use Rattle.uc_text.proofs.ValueSteps as first
 use Rattle.uc_text.proofs.parse.+read.Goals as goal
@@ -14,14 +13,13 @@ some_items (w ∷ vs) v us e = cc
 
 pub items-returns-in-CloseList-clause-ok : goal.items-returns-in-CloseList-clause-ok
 items-returns-in-CloseList-clause-ok t c =
-    ([], refl, items_empty c.args.left (rest c.args.reader.now) (seen c.next-first.result) (rest c.next-first.new.self) c.next-first.ensures.next (ap token_of c.in-CloseList.is), adds_none c.args.reader.now.bytes.now c.args.found.now.nodes.items)
+    ([], refl, items_empty c.args.left (rest c.args.reader.now) (seen c.next-first.result) (rest c.next-first.new.self) c.next-first.ensures.next (ap token_of c.in-CloseList.is), adds_none c.args.reader.now.bytes.now c.args.nodes.now.items)
 
 pub items-items-init : goal.items-items-init
 items-items-init t c = record {
-  inside = ([], items_begin c.args.left (rest c.args.reader.now) (seen c.next-first.result) (rest c.next-first.new.self) c.next-first.ensures.next (not_close_list c.next-first.result.token c.in_default.not-CloseList), refl, adds_none c.args.reader.now.bytes.now c.args.found.now.nodes.items);
+  inside = ([], items_begin c.args.left (rest c.args.reader.now) (seen c.next-first.result) (rest c.next-first.new.self) c.next-first.ensures.next (not_close_list c.next-first.result.token c.in_default.not-CloseList), refl, adds_none c.args.reader.now.bytes.now c.args.nodes.now.items);
   stands = subst (λ (bytes : List ℕ). StandsAt bytes c.next-first.result.place c.next-first.result.token) (sym c.next-first.ensures.same) c.next-first.ensures.stands;
   same = c.next-first.ensures.same;
-  names = refl;
   few = omega (arith, c.next-first.ensures.ahead);
   room = omega arith;
 }
@@ -35,7 +33,6 @@ items-returns-in_err-value t c =
       fault = passes_on c.in_err-value.field-0.0 _ _ (λ f s. items_stop c.args.left (rest c.args.reader.now) i.0 (seen c.items.first) (rest c.items.reader) f c.items.invariant.room i.1 (s i.1.ahead i.1.next)) c.in_err-value.ensures.fault;
       ahead = tt;
       same = tt;
-      names = tt;
     })
 
 pub items-items-preserved : goal.items-items-preserved
@@ -48,19 +45,18 @@ items-items-preserved t c =
     let more = c.in_ok-count-in-Comma.ensures.passed in
     let bytes = c.args.reader.now.bytes.now in
     let here = c.next-behind.ensures.same ∙ c.in_ok-value.ensures.same ∙ c.items.invariant.same in
-    let one = subst (λ (bs : List ℕ). Adds bs c.items.found.nodes.items c.value.new.found.nodes.items (r.0 ∷ [])) c.items.invariant.same r.2 in
-    let others = subst (λ (bs : List ℕ). Adds bs c.value.new.found.nodes.items c.pass_numbers.new.nodes.items more.0) here more.2 in
+    let one = subst (λ (bs : List ℕ). Adds bs c.items.nodes.items c.value.new.nodes.items (r.0 ∷ [])) c.items.invariant.same r.2 in
+    let others = subst (λ (bs : List ℕ). Adds bs c.value.new.nodes.items c.pass_numbers.new.nodes.items more.0) here more.2 in
     record {
       inside = (
         vs ++ more.0,
         read_first c.args.left (rest c.args.reader.now) (vs ++ more.0) (rest c.pass_numbers.new.reader) (seen c.next-first-in-Comma.result) (rest c.next-first-in-Comma.new.self)
             (more.3 c.args.left (rest c.args.reader.now) vs at) c.next-first-in-Comma.ensures.next (some_items i.0 r.0 more.0),
         omega (arith, i.2, more.1, length-append i.0 (r.0 ∷ []), length-append vs more.0),
-        adds_then bytes c.args.found.now.nodes.items c.value.new.found.nodes.items c.pass_numbers.new.nodes.items vs more.0 (adds_then bytes c.args.found.now.nodes.items c.items.found.nodes.items c.value.new.found.nodes.items i.0 (r.0 ∷ []) i.3 one) others,
+        adds_then bytes c.args.nodes.now.items c.value.new.nodes.items c.pass_numbers.new.nodes.items vs more.0 (adds_then bytes c.args.nodes.now.items c.items.nodes.items c.value.new.nodes.items i.0 (r.0 ∷ []) i.3 one) others,
       );
       stands = subst (λ (bs : List ℕ). StandsAt bs c.next-first-in-Comma.result.place c.next-first-in-Comma.result.token) (sym c.next-first-in-Comma.ensures.same) c.next-first-in-Comma.ensures.stands;
       same = c.next-first-in-Comma.ensures.same ∙ c.in_ok-count-in-Comma.ensures.same ∙ here;
-      names = c.in_ok-value.ensures.names ∙ c.items.invariant.names;
       few = omega (arith, c.items.invariant.few, c.in_ok-value.ensures.ahead, c.next-behind.ensures.less (λ e. not_end_comma c.next-behind.result.token c.in-Comma.is e), c.in_ok-count-in-Comma.ensures.few, c.next-first-in-Comma.ensures.ahead);
       room = c.items.invariant.room;
     }
@@ -70,19 +66,18 @@ items-returns-in-CloseList-token t c =
     let i = c.items.invariant.inside in
     let r = c.in_ok-value.ensures.ok i.1.ahead i.1.next in
     let bytes = c.args.reader.now.bytes.now in
-    let one = subst (λ (bs : List ℕ). Adds bs c.items.found.nodes.items c.value.new.found.nodes.items (r.0 ∷ [])) c.items.invariant.same r.2 in
+    let one = subst (λ (bs : List ℕ). Adds bs c.items.nodes.items c.value.new.nodes.items (r.0 ∷ [])) c.items.invariant.same r.2 in
     record {
       ok = (
         i.0 ++ r.0 ∷ [],
         omega (arith, i.2, length-append i.0 (r.0 ∷ [])),
         items_end c.args.left (rest c.args.reader.now) i.0 (seen c.items.first) (rest c.items.reader) r.0 (rest c.value.new.reader) (seen c.next-behind.result) (rest c.next-behind.new.self)
             i.1 r.1.takes r.1.pass c.next-behind.ensures.next (ap token_of c.in-CloseList-token.is),
-        adds_then bytes c.args.found.now.nodes.items c.items.found.nodes.items c.value.new.found.nodes.items i.0 (r.0 ∷ []) i.3 one,
+        adds_then bytes c.args.nodes.now.items c.items.nodes.items c.value.new.nodes.items i.0 (r.0 ∷ []) i.3 one,
       );
       fault = tt;
       ahead = omega (arith, c.next-behind.ensures.ahead, c.in_ok-value.ensures.ahead, c.items.invariant.few);
       same = c.next-behind.ensures.same ∙ c.in_ok-value.ensures.same ∙ c.items.invariant.same;
-      names = ◌∙◌ {A = List Quoted} c.in_ok-value.ensures.names c.items.invariant.names;
     }
 
 pub items-returns-in_default-token : goal.items-returns-in_default-token
@@ -96,178 +91,177 @@ items-returns-in_default-token t c =
           c.items.invariant.room i.1 r.1.takes r.1.pass c.next-behind.ensures.next (not_comma c.next-behind.result.token c.in_default-token.not-Comma) (not_close_list c.next-behind.result.token c.in_default-token.not-CloseList) refl refl);
       ahead = tt;
       same = tt;
-      names = tt;
     }
 
 -- ---- members
 
-pub members-returns-in-CloseObject-clause-ok : goal.members-returns-in-CloseObject-clause-ok
-members-returns-in-CloseObject-clause-ok t c =
-    ([], refl, members_empty c.args.left (rest c.args.reader.now) (seen c.next-first.result) (rest c.next-first.new.self) c.next-first.ensures.next (ap token_of c.in-CloseObject.is), adds_none c.args.reader.now.bytes.now c.args.found.now.nodes.items)
+pub noted_members-returns-in-CloseObject-clause-ok : goal.noted_members-returns-in-CloseObject-clause-ok
+noted_members-returns-in-CloseObject-clause-ok t c = (
+  [],
+  refl,
+  ap names_said c.requires.none,
+  λ _. members_empty c.args.left (rest c.args.reader.now) (seen c.next-first.result) (rest c.next-first.new.self) c.next-first.ensures.next (ap token_of c.in-CloseObject.is),
+  adds_none c.args.reader.now.bytes.now c.args.nodes.now.items,
+)
 
-pub members-members-init : goal.members-members-init
-members-members-init t c = record {
+pub noted_members-returns-in-CloseObject-clause-doubles : goal.noted_members-returns-in-CloseObject-clause-doubles
+noted_members-returns-in-CloseObject-clause-doubles t c =
+    subst (DoublesStop c.args.left (rest c.args.reader.now)) (sym c.requires.none) (doubles_none c.args.left (rest c.args.reader.now))
+
+pub noted_members-members-init : goal.noted_members-members-init
+noted_members-members-init t c = record {
   inside = (
     [],
-    members_begin c.args.left (rest c.args.reader.now) (seen c.next-first.result) (rest c.next-first.new.self) c.next-first.ensures.next (not_close_object c.next-first.result.token c.in_default.not-CloseObject),
+    λ _. members_begin c.args.left (rest c.args.reader.now) (seen c.next-first.result) (rest c.next-first.new.self) c.next-first.ensures.next (not_close_object c.next-first.result.token c.in_default.not-CloseObject),
     refl,
-    adds_none c.args.reader.now.bytes.now c.args.found.now.nodes.items,
-    [],
-    sym (append-nil c.args.found.now.names.items),
-    refl,
-    up_to_none [],
+    adds_none c.args.reader.now.bytes.now c.args.nodes.now.items,
+    ap names_said c.requires.none,
   );
-  outer = omega (arith, c.len-outer.ensures, c.args.found.now.names.ok.0);
+  doubles = subst (DoublesStop c.args.left (rest c.args.reader.now)) (sym c.requires.none) (doubles_none c.args.left (rest c.args.reader.now));
   stands = subst (λ (bs : List ℕ). StandsAt bs c.next-first.result.place c.next-first.result.token) (sym c.next-first.ensures.same) c.next-first.ensures.stands;
   same = c.next-first.ensures.same;
   few = omega (arith, c.next-first.ensures.ahead);
-  room = omega arith;
+  room = c.requires.left;
 }
 
-pub members-returns-in_default-token : goal.members-returns-in_default-token
-members-returns-in_default-token t c =
+pub noted_members-returns-in_default-token : goal.noted_members-returns-in_default-token
+noted_members-returns-in_default-token t c =
     let i = c.members.invariant.inside in
     record {
       ok = tt;
-      fault = subst (λ (e : TextError). FaultIs e (λ f. StuckAt c.args.left (open_object ∷ []) (rest c.args.reader.now) f)) (sym c.fault.ensures)
-          (name_stops c.args.left (rest c.args.reader.now) i.0 (seen c.members.first) (rest c.members.reader) _ c.members.invariant.room i.1 (not_text c.members.first.token c.in_default-token.not-Text) refl refl);
+      fault = subst (λ (e : TextError). FaultIs e (λ f. AreDifferent (names_said c.members.names.items) → StuckAt c.args.left (open_object ∷ []) (rest c.args.reader.now) f)) (sym c.fault.ensures)
+          (λ d. name_stops c.args.left (rest c.args.reader.now) i.0 (seen c.members.first) (rest c.members.reader) _ c.members.invariant.room (i.1 (subst AreDifferent i.4 d)) (not_text c.members.first.token c.in_default-token.not-Text) refl refl);
+      doubles = c.members.invariant.doubles;
       ahead = tt;
       same = tt;
-      names = tt;
     }
 
-pub members-returns-then-not-new : goal.members-returns-then-not-new
-members-returns-then-not-new t c =
+pub noted_members-returns-in_err-push-2-clause-doubles : goal.noted_members-returns-in_err-push-2-clause-doubles
+noted_members-returns-in_err-push-2-clause-doubles t c =
     let i = c.members.invariant.inside in
-    let k = said c.in-Text.name.bytes.now in
-    let part = names_from c.deref.result.now c.args.found.now.names.items i.4 c.len-outer.result (c.deref.ensures.value ∙ i.5) c.members.invariant.outer in
-    let told = is_told (names i.0) _ i.4 k c.in_ok-new.new part i.6 c.in_ok-new.ensures.new in
+    let k = said c.in-Text.quoted.bytes.now in
+    doubles_push c.args.left (rest c.args.reader.now) c.members.names.items c.push.new.self.items _ i.0 (seen c.members.first) (rest c.members.reader) k c.in_ok-push.ensures.items c.members.invariant.room c.members.invariant.doubles i.4 i.1 (ap token_of c.in-Text.is) refl refl
+
+pub noted_members-returns-in_default-token-2 : goal.noted_members-returns-in_default-token-2
+noted_members-returns-in_default-token-2 t c =
+    let i = c.members.invariant.inside in
+    let k = said c.in-Text.quoted.bytes.now in
+    let pushed = after_push c.members.names.items c.push.new.self.items _ i.0 k c.in_ok-push.ensures.items i.4 refl in
     record {
       ok = tt;
-      fault = subst (λ (e : TextError). FaultIs e (λ f. StuckAt c.args.left (open_object ∷ []) (rest c.args.reader.now) f)) (sym c.fault-then-not-new.ensures)
-          (double_stops c.args.left (rest c.args.reader.now) i.0 (seen c.members.first) (rest c.members.reader) k _ c.members.invariant.room i.1 (ap token_of c.in-Text.is) (known_name (names i.0) k c.in_ok-new.new told c.if-not-new.true) refl refl);
+      fault = subst (λ (e : TextError). FaultIs e (λ f. AreDifferent (names_said c.push.new.self.items) → StuckAt c.args.left (open_object ∷ []) (rest c.args.reader.now) f)) (sym c.fault-in_default-token-2.ensures)
+          (λ d. let s = split_pushed (names i.0) _ k pushed d in
+          colon_stops c.args.left (rest c.args.reader.now) i.0 (seen c.members.first) (rest c.members.reader) k (seen c.next-between.result) (rest c.next-between.new.self) _
+          c.members.invariant.room (i.1 s.0) (ap token_of c.in-Text.is) s.1 c.next-between.ensures.next (not_colon c.next-between.result.token c.in_default-token-2.not-Colon) refl refl);
+      doubles = doubles_push c.args.left (rest c.args.reader.now) c.members.names.items c.push.new.self.items _ i.0 (seen c.members.first) (rest c.members.reader) k c.in_ok-push.ensures.items c.members.invariant.room c.members.invariant.doubles i.4 i.1 (ap token_of c.in-Text.is) refl refl;
       ahead = tt;
       same = tt;
-      names = tt;
     }
 
-pub members-returns-in_default-token-2 : goal.members-returns-in_default-token-2
-members-returns-in_default-token-2 t c =
-    let i = c.members.invariant.inside in
-    let k = said c.in-Text.name.bytes.now in
-    let part = names_from c.deref.result.now c.args.found.now.names.items i.4 c.len-outer.result (c.deref.ensures.value ∙ i.5) c.members.invariant.outer in
-    let told = is_told (names i.0) _ i.4 k c.in_ok-new.new part i.6 c.in_ok-new.ensures.new in
-    let new = new_name (names i.0) k c.in_ok-new.new told c.if-not-new.false in
-    record {
-      ok = tt;
-      fault = subst (λ (e : TextError). FaultIs e (λ f. StuckAt c.args.left (open_object ∷ []) (rest c.args.reader.now) f)) (sym c.fault-in_default-token-2.ensures)
-          (colon_stops c.args.left (rest c.args.reader.now) i.0 (seen c.members.first) (rest c.members.reader) k (seen c.next-between.result) (rest c.next-between.new.self) _
-          c.members.invariant.room i.1 (ap token_of c.in-Text.is) new c.next-between.ensures.next (not_colon c.next-between.result.token c.in_default-token-2.not-Colon) refl refl);
-      ahead = tt;
-      same = tt;
-      names = tt;
-    }
-
-pub members-returns-in_err-value : goal.members-returns-in_err-value
-members-returns-in_err-value t c =
+pub noted_members-returns-in_err-value : goal.noted_members-returns-in_err-value
+noted_members-returns-in_err-value t c =
     let q = err_from_is_err_and c.from_residual-in_err-value.result c.from_residual-in_err-value.ensures.1 in
     let i = c.members.invariant.inside in
-    let k = said c.in-Text.name.bytes.now in
-    let part = names_from c.deref.result.now c.args.found.now.names.items i.4 c.len-outer.result (c.deref.ensures.value ∙ i.5) c.members.invariant.outer in
-    let told = is_told (names i.0) _ i.4 k c.in_ok-new.new part i.6 c.in_ok-new.ensures.new in
-    let new = new_name (names i.0) k c.in_ok-new.new told c.if-not-new.false in
+    let k = said c.in-Text.quoted.bytes.now in
+    let pushed = after_push c.members.names.items c.push.new.self.items _ i.0 k c.in_ok-push.ensures.items i.4 refl in
     rw (q.1, q.2) (record {
       ok = tt;
-      fault = passes_on c.in_err-value.field-0.0 _ _ (λ f s. value_stops c.args.left (rest c.args.reader.now) i.0 (seen c.members.first) (rest c.members.reader) k (seen c.next-between.result) (rest c.next-between.new.self) f c.members.invariant.room i.1 (ap token_of c.in-Text.is) new c.next-between.ensures.next (ap token_of c.in-Colon.is) (s (rest c.next-between.new.self) c.next-start.ensures.next)) c.in_err-value.ensures.fault;
+      fault = passes_on c.in_err-value.field-0.0 _ _ (λ f s d.
+          let p = split_pushed (names i.0) _ k pushed d in
+          value_stops c.args.left (rest c.args.reader.now) i.0 (seen c.members.first) (rest c.members.reader) k (seen c.next-between.result) (rest c.next-between.new.self) f c.members.invariant.room (i.1 p.0) (ap token_of c.in-Text.is) p.1 c.next-between.ensures.next (ap token_of c.in-Colon.is) (s (rest c.next-between.new.self) c.next-start.ensures.next)) c.in_err-value.ensures.fault;
+      doubles = doubles_push c.args.left (rest c.args.reader.now) c.members.names.items c.push.new.self.items _ i.0 (seen c.members.first) (rest c.members.reader) k c.in_ok-push.ensures.items c.members.invariant.room c.members.invariant.doubles i.4 i.1 (ap token_of c.in-Text.is) refl refl;
       ahead = tt;
       same = tt;
-      names = tt;
     })
 
-pub members-members-preserved : goal.members-members-preserved
-members-members-preserved t c =
+pub noted_members-members-preserved : goal.noted_members-members-preserved
+noted_members-members-preserved t c =
     let i = c.members.invariant.inside in
-    let k = said c.in-Text.name.bytes.now in
-    let part = names_from c.deref.result.now c.args.found.now.names.items i.4 c.len-outer.result (c.deref.ensures.value ∙ i.5) c.members.invariant.outer in
-    let told = is_told (names i.0) _ i.4 k c.in_ok-new.new part i.6 c.in_ok-new.ensures.new in
-    let new = new_name (names i.0) k c.in_ok-new.new told c.if-not-new.false in
+    let k = said c.in-Text.quoted.bytes.now in
+    let pushed = after_push c.members.names.items c.push.new.self.items _ i.0 k c.in_ok-push.ensures.items i.4 refl in
     let r = c.in_ok-value.ensures.ok (rest c.next-between.new.self) c.next-start.ensures.next in
     let bytes = c.args.reader.now.bytes.now in
     let p = of_member k r.0 in
     let stands = subst (StandsAt bytes c.members.first.place) c.in-Text.is (subst (λ (bs : List ℕ). StandsAt bs c.members.first.place c.members.first.token) c.members.invariant.same c.members.invariant.stands) in
-    let named = adds_one bytes c.members.found.nodes.items c.push-in-members.new.self.items (TextNode c.members.first.place) (scalar (text k)) c.in_ok-push-2.ensures.items (text_node bytes c.in-Text.name.bytes.now c.members.first.place stands) in
+    let named = adds_one bytes c.members.nodes.items c.push-in-members.new.self.items (TextNode c.members.first.place) (scalar (text k)) c.in_ok-push-2.ensures.items (text_node bytes c.in-Text.quoted.bytes.now c.members.first.place stands) in
     let start = c.next-start.ensures.same ∙ c.next-between.ensures.same ∙ c.members.invariant.same in
-    let valued = subst (λ (bs : List ℕ). Adds bs c.push-in-members.new.self.items c.value.new.found.nodes.items (r.0 ∷ [])) start r.2 in
-    let added = adds_member bytes c.args.found.now.nodes.items c.members.found.nodes.items c.push-in-members.new.self.items c.value.new.found.nodes.items i.0 p i.3 named valued in
+    let valued = subst (λ (bs : List ℕ). Adds bs c.push-in-members.new.self.items c.value.new.nodes.items (r.0 ∷ [])) start r.2 in
+    let added = adds_member bytes c.args.nodes.now.items c.members.nodes.items c.push-in-members.new.self.items c.value.new.nodes.items i.0 p i.3 named valued in
     let behind = c.next-behind.ensures.same ∙ c.in_ok-value.ensures.same ∙ start in
-    let stack = c.in_ok-value.ensures.names ∙ names_more c.members.found.names.items c.push.new.self.items c.args.found.now.names.items i.4 c.in-Text.name i.5 c.in_ok-push.ensures.items in
     record {
       inside = (
         i.0 ++ p ∷ [],
-        members_go_on c.args.left (rest c.args.reader.now) i.0 (seen c.members.first) (rest c.members.reader) k (seen c.next-between.result) (rest c.next-between.new.self) r.0 (rest c.value.new.reader) (seen c.next-behind.result) (rest c.next-behind.new.self) (seen c.next-first-in-Comma.result) (rest c.next-first-in-Comma.new.self)
-            i.1 (ap token_of c.in-Text.is) new c.next-between.ensures.next (ap token_of c.in-Colon.is) r.1.takes r.1.pass c.next-behind.ensures.next (ap token_of c.in-Comma.is) c.next-first-in-Comma.ensures.next,
+        λ d.
+            let s = split_pushed (names i.0) _ k (names_push i.0 p) d in
+            members_go_on c.args.left (rest c.args.reader.now) i.0 (seen c.members.first) (rest c.members.reader) k (seen c.next-between.result) (rest c.next-between.new.self) r.0 (rest c.value.new.reader) (seen c.next-behind.result) (rest c.next-behind.new.self) (seen c.next-first-in-Comma.result) (rest c.next-first-in-Comma.new.self)
+            (i.1 s.0) (ap token_of c.in-Text.is) s.1 c.next-between.ensures.next (ap token_of c.in-Colon.is) r.1.takes r.1.pass c.next-behind.ensures.next (ap token_of c.in-Comma.is) c.next-first-in-Comma.ensures.next,
         omega (arith, i.2, length-append i.0 (p ∷ [])),
         added,
-        i.4 ++ c.in-Text.name ∷ [],
-        stack,
-        all_said-append i.4 (c.in-Text.name ∷ []) ∙ ap (λ (ks : List (List ℕ)). ks ++ k ∷ []) i.6 ∙ sym (names_push i.0 p),
-        subst (IsMet c.is_new.new.met) (ap (λ (qs : List Quoted). all_said qs ++ k ∷ []) part ∙ sym (all_said-append i.4 (c.in-Text.name ∷ []))) c.in_ok-new.ensures.met,
+        pushed ∙ sym (names_push i.0 p),
       );
-      outer = c.members.invariant.outer;
+      doubles = doubles_push c.args.left (rest c.args.reader.now) c.members.names.items c.push.new.self.items _ i.0 (seen c.members.first) (rest c.members.reader) k c.in_ok-push.ensures.items c.members.invariant.room c.members.invariant.doubles i.4 i.1 (ap token_of c.in-Text.is) refl refl;
       stands = subst (λ (bs : List ℕ). StandsAt bs c.next-first-in-Comma.result.place c.next-first-in-Comma.result.token) (sym c.next-first-in-Comma.ensures.same) c.next-first-in-Comma.ensures.stands;
       same = c.next-first-in-Comma.ensures.same ∙ behind;
       few = omega (arith, c.members.invariant.few, c.next-between.ensures.ahead, c.next-start.ensures.ahead, c.in_ok-value.ensures.ahead, c.next-behind.ensures.less (λ e. not_end_comma c.next-behind.result.token c.in-Comma.is e), c.next-first-in-Comma.ensures.ahead);
       room = c.members.invariant.room;
     }
 
-pub members-returns-in-CloseObject-token : goal.members-returns-in-CloseObject-token
-members-returns-in-CloseObject-token t c =
+pub noted_members-returns-in-CloseObject-token : goal.noted_members-returns-in-CloseObject-token
+noted_members-returns-in-CloseObject-token t c =
     let i = c.members.invariant.inside in
-    let k = said c.in-Text.name.bytes.now in
-    let part = names_from c.deref.result.now c.args.found.now.names.items i.4 c.len-outer.result (c.deref.ensures.value ∙ i.5) c.members.invariant.outer in
-    let told = is_told (names i.0) _ i.4 k c.in_ok-new.new part i.6 c.in_ok-new.ensures.new in
-    let new = new_name (names i.0) k c.in_ok-new.new told c.if-not-new.false in
+    let k = said c.in-Text.quoted.bytes.now in
+    let pushed = after_push c.members.names.items c.push.new.self.items _ i.0 k c.in_ok-push.ensures.items i.4 refl in
     let r = c.in_ok-value.ensures.ok (rest c.next-between.new.self) c.next-start.ensures.next in
     let bytes = c.args.reader.now.bytes.now in
     let p = of_member k r.0 in
     let stands = subst (StandsAt bytes c.members.first.place) c.in-Text.is (subst (λ (bs : List ℕ). StandsAt bs c.members.first.place c.members.first.token) c.members.invariant.same c.members.invariant.stands) in
-    let named = adds_one bytes c.members.found.nodes.items c.push-in-members.new.self.items (TextNode c.members.first.place) (scalar (text k)) c.in_ok-push-2.ensures.items (text_node bytes c.in-Text.name.bytes.now c.members.first.place stands) in
+    let named = adds_one bytes c.members.nodes.items c.push-in-members.new.self.items (TextNode c.members.first.place) (scalar (text k)) c.in_ok-push-2.ensures.items (text_node bytes c.in-Text.quoted.bytes.now c.members.first.place stands) in
     let start = c.next-start.ensures.same ∙ c.next-between.ensures.same ∙ c.members.invariant.same in
-    let valued = subst (λ (bs : List ℕ). Adds bs c.push-in-members.new.self.items c.value.new.found.nodes.items (r.0 ∷ [])) start r.2 in
-    let added = adds_member bytes c.args.found.now.nodes.items c.members.found.nodes.items c.push-in-members.new.self.items c.value.new.found.nodes.items i.0 p i.3 named valued in
+    let valued = subst (λ (bs : List ℕ). Adds bs c.push-in-members.new.self.items c.value.new.nodes.items (r.0 ∷ [])) start r.2 in
+    let added = adds_member bytes c.args.nodes.now.items c.members.nodes.items c.push-in-members.new.self.items c.value.new.nodes.items i.0 p i.3 named valued in
     let behind = c.next-behind.ensures.same ∙ c.in_ok-value.ensures.same ∙ start in
-    let stack = c.in_ok-value.ensures.names ∙ names_more c.members.found.names.items c.push.new.self.items c.args.found.now.names.items i.4 c.in-Text.name i.5 c.in_ok-push.ensures.items in
     record {
       ok = (
         i.0 ++ p ∷ [],
         omega (arith, i.2, length-append i.0 (p ∷ [])),
-        members_end c.args.left (rest c.args.reader.now) i.0 (seen c.members.first) (rest c.members.reader) k (seen c.next-between.result) (rest c.next-between.new.self) r.0 (rest c.value.new.reader) (seen c.next-behind.result) (rest c.next-behind.new.self)
-            i.1 (ap token_of c.in-Text.is) new c.next-between.ensures.next (ap token_of c.in-Colon.is) r.1.takes r.1.pass c.next-behind.ensures.next (ap token_of c.in-CloseObject-token.is),
+        pushed ∙ sym (names_push i.0 p),
+        λ d.
+            let s = split_pushed (names i.0) _ k (names_push i.0 p) d in
+            members_end c.args.left (rest c.args.reader.now) i.0 (seen c.members.first) (rest c.members.reader) k (seen c.next-between.result) (rest c.next-between.new.self) r.0 (rest c.value.new.reader) (seen c.next-behind.result) (rest c.next-behind.new.self)
+            (i.1 s.0) (ap token_of c.in-Text.is) s.1 c.next-between.ensures.next (ap token_of c.in-Colon.is) r.1.takes r.1.pass c.next-behind.ensures.next (ap token_of c.in-CloseObject-token.is),
         added,
       );
       fault = tt;
+      doubles = doubles_push c.args.left (rest c.args.reader.now) c.members.names.items c.push.new.self.items _ i.0 (seen c.members.first) (rest c.members.reader) k c.in_ok-push.ensures.items c.members.invariant.room c.members.invariant.doubles i.4 i.1 (ap token_of c.in-Text.is) refl refl;
       ahead = omega (arith, c.members.invariant.few, c.next-between.ensures.ahead, c.next-start.ensures.ahead, c.in_ok-value.ensures.ahead, c.next-behind.ensures.ahead);
       same = behind;
-      names = c.truncate.ensures.items ∙ names_before c.value.new.found.names.items c.args.found.now.names.items (i.4 ++ c.in-Text.name ∷ []) c.len-outer.result stack c.members.invariant.outer;
     }
 
-pub members-returns-in_default-token-3 : goal.members-returns-in_default-token-3
-members-returns-in_default-token-3 t c =
+pub noted_members-returns-in_default-token-3 : goal.noted_members-returns-in_default-token-3
+noted_members-returns-in_default-token-3 t c =
     let i = c.members.invariant.inside in
-    let k = said c.in-Text.name.bytes.now in
-    let part = names_from c.deref.result.now c.args.found.now.names.items i.4 c.len-outer.result (c.deref.ensures.value ∙ i.5) c.members.invariant.outer in
-    let told = is_told (names i.0) _ i.4 k c.in_ok-new.new part i.6 c.in_ok-new.ensures.new in
-    let new = new_name (names i.0) k c.in_ok-new.new told c.if-not-new.false in
+    let k = said c.in-Text.quoted.bytes.now in
+    let pushed = after_push c.members.names.items c.push.new.self.items _ i.0 k c.in_ok-push.ensures.items i.4 refl in
     let r = c.in_ok-value.ensures.ok (rest c.next-between.new.self) c.next-start.ensures.next in
     record {
       ok = tt;
-      fault = subst (λ (e : TextError). FaultIs e (λ f. StuckAt c.args.left (open_object ∷ []) (rest c.args.reader.now) f)) (sym c.fault-in_default-token-3.ensures)
-          (member_stops_behind c.args.left (rest c.args.reader.now) i.0 (seen c.members.first) (rest c.members.reader) k (seen c.next-between.result) (rest c.next-between.new.self) r.0 (rest c.value.new.reader) (seen c.next-behind.result) (rest c.next-behind.new.self) _
-          c.members.invariant.room i.1 (ap token_of c.in-Text.is) new c.next-between.ensures.next (ap token_of c.in-Colon.is) r.1.takes r.1.pass c.next-behind.ensures.next (not_comma c.next-behind.result.token c.in_default-token-3.not-Comma) (not_close_object c.next-behind.result.token c.in_default-token-3.not-CloseObject) refl refl);
+      fault = subst (λ (e : TextError). FaultIs e (λ f. AreDifferent (names_said c.push.new.self.items) → StuckAt c.args.left (open_object ∷ []) (rest c.args.reader.now) f)) (sym c.fault-in_default-token-3.ensures)
+          (λ d. let s = split_pushed (names i.0) _ k pushed d in
+          member_stops_behind c.args.left (rest c.args.reader.now) i.0 (seen c.members.first) (rest c.members.reader) k (seen c.next-between.result) (rest c.next-between.new.self) r.0 (rest c.value.new.reader) (seen c.next-behind.result) (rest c.next-behind.new.self) _
+          c.members.invariant.room (i.1 s.0) (ap token_of c.in-Text.is) s.1 c.next-between.ensures.next (ap token_of c.in-Colon.is) r.1.takes r.1.pass c.next-behind.ensures.next (not_comma c.next-behind.result.token c.in_default-token-3.not-Comma) (not_close_object c.next-behind.result.token c.in_default-token-3.not-CloseObject) refl refl);
+      doubles = doubles_push c.args.left (rest c.args.reader.now) c.members.names.items c.push.new.self.items _ i.0 (seen c.members.first) (rest c.members.reader) k c.in_ok-push.ensures.items c.members.invariant.room c.members.invariant.doubles i.4 i.1 (ap token_of c.in-Text.is) refl refl;
       ahead = tt;
       same = tt;
-      names = tt;
     }
+
+pub members-returns-clause-fault : goal.members-returns-clause-fault
+members-returns-clause-fault t c =
+    let ns = c.noted_members-read.new.names.items in
+    let double = c.in_ok-double.double in
+    let told : IsFirst (names_said c.deref.result.now) double = c.in_ok-double.ensures in
+    let first : IsFirst (names_said ns) double = subst (λ (ms : List Name). IsFirst (names_said ms) double) c.deref.ensures.value told in
+    let different = all_different ns (names_said ns) double refl (omega (arith, c.if-double-len.false, c.len.ensures, c.noted_members-read.new.names.ok.0)) first in
+    if_fault_then c.noted_members-read.result _ _ (λ f s. s different) c.noted_members-read.ensures.fault
 
 -- ---- a value
 
@@ -283,7 +277,7 @@ value-returns-in_ok-push-in-Word-clause-ok t c = λ ts n.
     let stands = subst (StandsAt bytes c.args.first.place) c.in-Word.is c.requires in (
       scalar s,
       first.reads_scalar c.args.left ts (seen c.args.first) (rest c.args.reader.now) s n (ap token_of c.in-Word.is) c.in_ok-node-in-Word.ensures.short,
-      adds_one bytes c.args.found.now.nodes.items c.push.new.self.items c.in_ok-node-in-Word.node (scalar s) c.in_ok-push-in-Word.ensures.items (c.in_ok-node-in-Word.ensures.ok bytes stands),
+      adds_one bytes c.args.nodes.now.items c.push.new.self.items c.in_ok-node-in-Word.node (scalar s) c.in_ok-push-in-Word.ensures.items (c.in_ok-node-in-Word.ensures.ok bytes stands),
     )
 
 pub value-returns-in_ok-push-in-Text-clause-ok : goal.value-returns-in_ok-push-in-Text-clause-ok
@@ -293,7 +287,7 @@ value-returns-in_ok-push-in-Text-clause-ok t c = λ ts n.
     let stands = subst (StandsAt bytes c.args.first.place) c.in-Text.is c.requires in (
       scalar (text k),
       first.reads_scalar c.args.left ts (seen c.args.first) (rest c.args.reader.now) (text k) n (ap token_of c.in-Text.is) tt,
-      adds_one bytes c.args.found.now.nodes.items c.push-in-Text.new.self.items (TextNode c.args.first.place) (scalar (text k)) c.in_ok-push-in-Text.ensures.items (text_node bytes c.in-Text.field-0.bytes.now c.args.first.place stands),
+      adds_one bytes c.args.nodes.now.items c.push-in-Text.new.self.items (TextNode c.args.first.place) (scalar (text k)) c.in_ok-push-in-Text.ensures.items (text_node bytes c.in-Text.field-0.bytes.now c.args.first.place stands),
     )
 
 pub value-returns-in_ok-count-in-OpenList-clause-ok : goal.value-returns-in_ok-count-in-OpenList-clause-ok
@@ -303,7 +297,7 @@ value-returns-in_ok-count-in-OpenList-clause-ok t c = λ ts n.
     let count = c.in_ok-count-in-OpenList.count in (
       list (items_of r.0),
       first.reads_list c.args.left ts (seen c.args.first) (rest c.args.reader.now) r.0 (rest c.items.new.reader) (omega (arith, c.if-left-eq0.false)) n (ap token_of c.in-OpenList.is) r.2,
-      adds_anew bytes c.args.found.now.nodes.items c.push-in-OpenList.new.self.items c.items.new.found.nodes.items _ (ListNode 0) (ListNode count) r.0 (list (items_of r.0)) c.len-at.result c.in_ok-push-in-OpenList.ensures.items (omega (arith, c.len-at.ensures, c.args.found.now.nodes.ok.0)) refl (says_list bytes count r.0 r.1) r.3,
+      adds_anew bytes c.args.nodes.now.items c.push-in-OpenList.new.self.items c.items.new.nodes.items _ (ListNode 0) (ListNode count) r.0 (list (items_of r.0)) c.len-at.result c.in_ok-push-in-OpenList.ensures.items (omega (arith, c.len-at.ensures, c.args.nodes.now.ok.0)) refl (says_list bytes count r.0 r.1) r.3,
     )
 
 pub value-returns-in_ok-count-in-OpenObject-clause-ok : goal.value-returns-in_ok-count-in-OpenObject-clause-ok
@@ -313,7 +307,7 @@ value-returns-in_ok-count-in-OpenObject-clause-ok t c = λ ts n.
     let count = c.in_ok-count-in-OpenObject.count in (
       object (members_of r.0),
       first.reads_object c.args.left ts (seen c.args.first) (rest c.args.reader.now) r.0 (rest c.members.new.reader) (omega (arith, c.if-left-eq0-2.false)) n (ap token_of c.in-OpenObject.is) r.2,
-      adds_anew bytes c.args.found.now.nodes.items c.push-in-OpenObject.new.self.items c.members.new.found.nodes.items _ (ObjectNode 0) (ObjectNode count) (in_turn r.0) (object (members_of r.0)) c.len-at-in-OpenObject.result c.in_ok-push-in-OpenObject.ensures.items (omega (arith, c.len-at-in-OpenObject.ensures, c.args.found.now.nodes.ok.0)) refl (says_object bytes count r.0 r.1) r.3,
+      adds_anew bytes c.args.nodes.now.items c.push-in-OpenObject.new.self.items c.members.new.nodes.items _ (ObjectNode 0) (ObjectNode count) (in_turn r.0) (object (members_of r.0)) c.len-at-in-OpenObject.result c.in_ok-push-in-OpenObject.ensures.items (omega (arith, c.len-at-in-OpenObject.ensures, c.args.nodes.now.ok.0)) refl (says_object bytes count r.0 r.1) r.3,
     )
 
 pub value-returns-then-left-eq0-clause-fault : goal.value-returns-then-left-eq0-clause-fault
@@ -348,5 +342,4 @@ value-returns-in_default t c = record {
       (first.stuck_not_start c.args.left (token_of c.args.first.token) (not_start c.args.first.token c.in_default.not-OpenList c.in_default.not-OpenObject c.in_default.not-Word c.in_default.not-Text)));
   ahead = tt;
   same = tt;
-  names = tt;
 }

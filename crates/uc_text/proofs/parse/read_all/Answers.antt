@@ -12,8 +12,8 @@ pub returns-in-End-clause-found : goal.returns-in-End-clause-found
 returns-in-End-clause-found c =
     let bytes = c.args.bytes.now in
     let read = c.in_ok-value.ensures.ok (tokens bytes) c.next-first.ensures.next in
-    let ns = c.value.new.found.nodes.items in
-    let none = subst (λ (old : List Node). Adds c.next-first.new.self.bytes.now old ns (read.0 ∷ [])) c.new.ensures.items read.2 in
+    let ns = c.value.new.nodes.items in
+    let none = subst (λ (old : List Node). Adds c.next-first.new.self.bytes.now old ns (read.0 ∷ [])) c.new-nodes.ensures.items read.2 in
     let whole = says_whole bytes ns read.0 (subst (λ (bs : List ℕ). Adds bs [] ns (read.0 ∷ [])) c.next-first.ensures.same none) in
     subst (λ (v : Value). IsText 32 bytes v) (sym whole)
     (text_read 32 bytes read.0 (rest c.value.new.reader) (seen c.next-behind.result) read.1 (c.next-behind.ensures.last (ap token_of c.in-End.is)) (ap token_of c.in-End.is))

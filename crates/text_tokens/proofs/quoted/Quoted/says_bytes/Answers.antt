@@ -1,5 +1,5 @@
-use Rattle.text_tokens.proofs.Common.{ℕ, ◌+◌, ◌++◌, List, drop, take, ap₂, sym, ap, ◌∙◌, append_assoc, arith, option_map, string_from, after_piece, piece_of}
-use Rattle.text_tokens.proofs.Lemmas.{ends, closes, goes_on, is_none, said_goes_on, said_is, never, says_other, says_rest}
+use Rattle.text_tokens.proofs.Common.{◌≡◌, true, get_or, is_plain, ℕ, ◌+◌, ◌++◌, List, drop, take, ap₂, sym, ap, ◌∙◌, append_assoc, arith, option_map, string_from, after_piece, piece_of}
+use Rattle.text_tokens.proofs.Lemmas.{ends, closes, goes_on, is_none, said_goes_on, said_is, never, says_other, says_rest, says_plain_other}
 use Rattle.std.proofs.lemmas.List.{take-append-drop}
 use Rattle.text_tokens.proofs.quoted.Quoted.says_bytes.Goals as goal
 use Rattle.text_tokens.proofs.quoted.Quoted.says_bytes.Goals.{then-pieces-test+else-bytes-at-ne34, else-pieces-test}
@@ -56,3 +56,9 @@ returns c =
           says_rest bs c.args.text.now i.0 c.pieces.wanted.now c.is_empty.result (said_is bs i.0 c.pieces.at rest c.args.self.closed i.2 (closes bs c.pieces.at w.pieces-test.true w.if-bytes-at-ne34.false)) i.1 c.is_empty.ensures
       | else-pieces-test w ↦ absurd (never bs i.0 c.pieces.at rest c.args.self.closed i.2 (ends bs c.pieces.at w.pieces-test.false))
     ]
+
+pub returns-then-is_plain : goal.returns-then-is_plain
+returns-then-is_plain c =
+    let known = c.same_len-at.ensures in
+    let plain : is_plain (get_or c.args.self.bytes.now c.same_len-at.result 0) ≡ true = sym c.is_plain.ensures ∙ c.if-is_plain.true in
+    sym (says_plain_other c.args.self.bytes.now c.args.text.now c.same_len-at.result c.args.self.closed c.if-at-bytes.true plain known.front known.same (known.ends c.if-at-bytes.true plain))
