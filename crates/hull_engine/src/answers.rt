@@ -16,6 +16,7 @@ ghost use Rattle.hull_engine.specs.Sizes.{HasSizes};
 use crate::audit::right_proposals;
 use crate::files::{read_input, read_report_file};
 use crate::input::within_work;
+use crate::workers::useful_workers;
 use answer_workers::Gate;
 use board_run::{
     Bounded, Done, Input, RunInput, RunSize, Sides, bounded_run, compared_runs, open, run_board,
@@ -97,14 +98,15 @@ fn answer_check<F: Shelf>(
 }
 
 /// How large a run of `hull price` is, and of `hull fixed`.
-fn price_size(words: &PriceWords) -> RunSize
+fn price_size<R: Threads>(rt: &R, words: &PriceWords) -> RunSize
+    requires { IsWorkers words.now.workers }
     ensures proposals { result.proposals ≡ words.now.proposals }
-    ensures workers { result.workers ≡ words.now.workers }
+    ensures workers { IsWorkers result.workers }
     ensures ahead { result.ahead ≡ words.now.ahead }
 {
     RunSize {
         proposals: words.proposals,
-        workers: words.workers,
+        workers: useful_workers(rt, words.workers),
         ahead: words.ahead,
     }
 }
@@ -126,7 +128,7 @@ fn answer_price<R: Threads + Wait + Sync, F: Shelf, G: Gate>(
     let case_name = words.case_name.as_str();
     let schedule_name = words.schedule_name.as_str();
     let input = read_input(alloc, shelf, case_name, schedule_name)?;
-    let run = within_work(input, price_size(words))?;
+    let run = within_work(input, price_size(rt, words))?;
     Ok(Answer::Price(ended_run(rt, alloc, run, gate)?))
 }
 
@@ -148,7 +150,7 @@ fn answer_bound<R: Threads + Wait + Sync, F: Shelf, G: Gate>(
     let case_name = words.run.case_name.as_str();
     let schedule_name = words.run.schedule_name.as_str();
     let input = read_input(alloc, shelf, case_name, schedule_name)?;
-    let run = within_work(input, price_size(&words.run))?;
+    let run = within_work(input, price_size(rt, &words.run))?;
     Ok(Answer::Bound(bounded_run(rt, alloc, run, words.radius, gate)?))
 }
 
@@ -169,7 +171,7 @@ fn answer_fixed<R: Threads + Wait + Sync, F: Shelf, G: Gate>(
     let case_name = words.case_name.as_str();
     let schedule_name = words.schedule_name.as_str();
     let input = read_input(alloc, shelf, case_name, schedule_name)?;
-    let run = within_work(input, price_size(words))?;
+    let run = within_work(input, price_size(rt, words))?;
     Ok(Answer::Fixed(compared_runs(rt, alloc, run, gate)?))
 }
 
@@ -200,7 +202,7 @@ fn answer_try<R: Threads + Wait + Sync, G: Gate>(
     };
     let size = RunSize {
         proposals: words.proposals,
-        workers: words.workers,
+        workers: useful_workers(rt, words.workers),
         ahead: words.ahead,
     };
     let run = within_work(input, size)?;
@@ -227,7 +229,7 @@ fn answer_audit<R: Threads + Wait + Sync, F: Shelf>(
     let report = read_report_file(alloc, shelf, report_name)?;
     let size = RunSize {
         proposals: report.budget,
-        workers: words.workers,
+        workers: useful_workers(rt, words.workers),
         ahead: report.ahead,
     };
     let run = within_work(input, size)?;

@@ -15,6 +15,7 @@ mod end;
 mod files;
 mod input;
 pub mod laws;
+mod workers;
 
 use answer_workers::Gate;
 use answers::answer_run;

@@ -9,7 +9,7 @@ within_work-requires-clause-size g c =
     let r = c.in_ok-report.ensures.bounds in
     record {
       budget_in = record { at_least = r.budget_at_least; at_most = r.budget_at_most };
-      workers_in = c.requires;
+      workers_in = c.useful_workers.ensures.some;
       ahead_in = record { at_least = r.ahead_at_least; at_most = r.ahead_at_most };
     }
 

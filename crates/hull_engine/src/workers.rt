@@ -1,0 +1,35 @@
+//! How many workers a run has.
+ghost use Rattle.std.specs.Prelude.{◌≤◌};
+ghost use Rattle.board_run.specs.Sizes.{IsWorkers};
+
+use std::thread;
+use std::thread::Threads;
+
+/// So many workers are never too many, however few processors there are: a gate may let a few tasks
+/// wait for one another.
+const FEW_WORKERS: u32 = 4;
+
+/// The most workers that words ask for.
+const MOST_WORKERS: usize = 32;
+
+/// How many processors there are, as far as it matters; as many as matter where that isn't known.
+fn processors<R: Threads>(rt: &R) -> u32 {
+    match thread::available_parallelism(rt) {
+        Ok(count) => count.get().min(MOST_WORKERS) as u32,
+        Err(_) => MOST_WORKERS as u32,
+    }
+}
+
+/// How many of the workers that are asked for a run has: a few, or as many as there are processors
+/// where that is more. Each takes memory that is made before the first begins, and one more than
+/// there are processors only waits for the others.
+pub fn useful_workers<R: Threads>(rt: &R, asked: u32) -> u32
+    requires { IsWorkers asked }
+    ensures some { IsWorkers result }
+    ensures most { result ≤ asked }
+{
+    if asked <= FEW_WORKERS {
+        return asked;
+    }
+    asked.min(processors(rt).max(FEW_WORKERS))
+}
