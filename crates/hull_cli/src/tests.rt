@@ -27,26 +27,29 @@ unit renewable \"W\" earned 0 scheduled 0 payment 0\npower 0\nsurplus 0\npayment
 // A from 0 to 100 kW at 10 for each, B of exactly 100 kW for 3,000, and a demand of 150 kW.
 const TWO_UNITS: &str =
     "{\"time_periods\":1,\"demand\":[0.15],\"reserves\":[0],\"thermal_generators\":{\
-\"A\":{\"must_run\":0,\"power_output_minimum\":0,\"power_output_maximum\":0.1,\"ramp_up_limit\":1,\"ramp_down_limit\":1,\
-\"ramp_startup_limit\":1,\"ramp_shutdown_limit\":1,\"time_up_minimum\":1,\"time_down_minimum\":1,\"power_output_t0\":0,\
-\"unit_on_t0\":0,\"time_up_t0\":0,\"time_down_t0\":1,\"startup\":[],\"piecewise_production\":[{\"mw\":0,\"cost\":0},{\"mw\":0.1,\"cost\":0.001}]},\
-\"B\":{\"must_run\":0,\"power_output_minimum\":0.1,\"power_output_maximum\":0.1,\"ramp_up_limit\":1,\"ramp_down_limit\":1,\
-\"ramp_startup_limit\":1,\"ramp_shutdown_limit\":1,\"time_up_minimum\":1,\"time_down_minimum\":1,\"power_output_t0\":0,\
-\"unit_on_t0\":0,\"time_up_t0\":0,\"time_down_t0\":1,\"startup\":[],\"piecewise_production\":[{\"mw\":0.1,\"cost\":0.003}]}},\
+\"A\":{\"must_run\":0,\"power_output_minimum\":0,\"power_output_maximum\":0.1,\"ramp_up_limit\":1,\
+\"ramp_down_limit\":1,\"ramp_startup_limit\":1,\"ramp_shutdown_limit\":1,\"time_up_minimum\":1,\
+\"time_down_minimum\":1,\"power_output_t0\":0,\"unit_on_t0\":0,\"time_up_t0\":0,\"time_down_t0\":1,\
+\"startup\":[],\"piecewise_production\":[{\"mw\":0,\"cost\":0},{\"mw\":0.1,\"cost\":0.001}]},\
+\"B\":{\"must_run\":0,\"power_output_minimum\":0.1,\"power_output_maximum\":0.1,\
+\"ramp_up_limit\":1,\"ramp_down_limit\":1,\"ramp_startup_limit\":1,\"ramp_shutdown_limit\":1,\
+\"time_up_minimum\":1,\"time_down_minimum\":1,\"power_output_t0\":0,\"unit_on_t0\":0,\
+\"time_up_t0\":0,\"time_down_t0\":1,\"startup\":[],\
+\"piecewise_production\":[{\"mw\":0.1,\"cost\":0.003}]}},\
 \"renewable_generators\":{}}";
 
-const TWO_UNITS_SCHEDULE: &str =
-    "{\"thermal\":{\"A\":{\"on\":[1],\"power\":[50],\"reserve\":[0]},\"B\":{\"on\":[1],\"power\":[100],\"reserve\":[0]}},\"renewable\":{}}";
+const TWO_UNITS_SCHEDULE: &str = "{\"thermal\":{\"A\":{\"on\":[1],\"power\":[50],\"reserve\":[0]},\
+\"B\":{\"on\":[1],\"power\":[100],\"reserve\":[0]}},\"renewable\":{}}";
 
 const TWO_UNITS_CHECK: &[u8] =
     b"hull-check 1\nperiods 1 thermal 2 renewable 0\ncost 3500\nfeasible\n";
 
 const TWO_UNITS_REPORT: &[u8] = b"\
-hull-report 1\nperiods 1\nunits 2\nbudget 1\nahead 1\ncost 3500\nproposals 1\nproposal 1 value 2500\n\
-energy 30\nreserve 0\nsupplied 100\nreserved 0\nchosen 1 value 2500\n\
+hull-report 1\nperiods 1\nunits 2\nbudget 1\nahead 1\ncost 3500\nproposals 1\n\
+proposal 1 value 2500\nenergy 30\nreserve 0\nsupplied 100\nreserved 0\nchosen 1 value 2500\n\
 unit thermal \"A\" earned 2000 scheduled 1000 payment 1000\non 1\npower 100\nreserve 0\n\
-unit thermal \"B\" earned 0 scheduled 0 payment 0\non 0\npower 0\nreserve 0\nsurplus 0\npayments 1000\n\
-gap 1000\nend\n";
+unit thermal \"B\" earned 0 scheduled 0 payment 0\non 0\npower 0\nreserve 0\nsurplus 0\n\
+payments 1000\ngap 1000\nend\n";
 
 // The first row alone gives 3,000, the mean of both rows 2,500.
 const TWO_PROPOSALS_BOUND: &[u8] = b"\
@@ -68,26 +71,28 @@ unit thermal \"A\" hull 1000 fixed 0\nunit thermal \"B\" hull 0 fixed 2000\n\
 payments hull 1000 fixed 2000\nsurplus hull 0 fixed 0\ncost 3500\nend\n";
 
 const TWO_PROPOSALS: &[u8] = b"\
-hull-report 1\nperiods 1\nunits 2\nbudget 2\nahead 1\ncost 3500\nproposals 2\nproposal 1 value 2500\n\
-energy 30\nreserve 0\nsupplied 100\nreserved 0\nproposal 2 value 1500\nenergy 50\nreserve 0\n\
-supplied 200\nreserved 0\nchosen 1 value 2500\n\
+hull-report 1\nperiods 1\nunits 2\nbudget 2\nahead 1\ncost 3500\nproposals 2\n\
+proposal 1 value 2500\nenergy 30\nreserve 0\nsupplied 100\nreserved 0\n\
+proposal 2 value 1500\nenergy 50\nreserve 0\nsupplied 200\nreserved 0\nchosen 1 value 2500\n\
 unit thermal \"A\" earned 2000 scheduled 1000 payment 1000\non 1\npower 100\nreserve 0\n\
-unit thermal \"B\" earned 0 scheduled 0 payment 0\non 0\npower 0\nreserve 0\nsurplus 0\npayments 1000\n\
-gap 1000\nend\n";
+unit thermal \"B\" earned 0 scheduled 0 payment 0\non 0\npower 0\nreserve 0\nsurplus 0\n\
+payments 1000\ngap 1000\nend\n";
 
 // A unit of 8 to 20 MW with a start cost, and one wind unit.
 const USUAL: &str = "\
-{\"time_periods\":1,\"demand\":[10.0],\"reserves\":[2.0],\"thermal_generators\":{\"G1\":{\"must_run\":0,\
-\"power_output_minimum\":8.0,\"power_output_maximum\":20.0,\"ramp_up_limit\":20.0,\
-\"ramp_down_limit\":20.0,\"ramp_startup_limit\":20.0,\"ramp_shutdown_limit\":20.0,\"time_up_minimum\":1,\
-\"time_down_minimum\":1,\"power_output_t0\":0.0,\"unit_on_t0\":0,\"time_up_t0\":0,\"time_down_t0\":8,\
-\"startup\":[{\"lag\":1,\"cost\":50.0}],\"piecewise_production\":[{\"mw\":8.0,\"cost\":800.0},\
-{\"mw\":12.0,\"cost\":1160.0},{\"mw\":20.0,\"cost\":1960.0}],\"name\":\"G1\"}},\
+{\"time_periods\":1,\"demand\":[10.0],\"reserves\":[2.0],\"thermal_generators\":{\
+\"G1\":{\"must_run\":0,\"power_output_minimum\":8.0,\"power_output_maximum\":20.0,\
+\"ramp_up_limit\":20.0,\"ramp_down_limit\":20.0,\"ramp_startup_limit\":20.0,\
+\"ramp_shutdown_limit\":20.0,\"time_up_minimum\":1,\"time_down_minimum\":1,\"power_output_t0\":0.0,\
+\"unit_on_t0\":0,\"time_up_t0\":0,\"time_down_t0\":8,\"startup\":[{\"lag\":1,\"cost\":50.0}],\
+\"piecewise_production\":[{\"mw\":8.0,\"cost\":800.0},{\"mw\":12.0,\"cost\":1160.0},\
+{\"mw\":20.0,\"cost\":1960.0}],\"name\":\"G1\"}},\
 \"renewable_generators\":{\"W1\":{\"power_output_minimum\":[0.0],\"power_output_maximum\":[3.0],\
 \"name\":\"W1\"}}}";
 
 const USUAL_SCHEDULE: &str = "\
-{\"thermal\":{\"G1\":{\"on\":[1],\"power\":[8000],\"reserve\":[2000]}},\"renewable\":{\"W1\":[2000]}}";
+{\"thermal\":{\"G1\":{\"on\":[1],\"power\":[8000],\"reserve\":[2000]}},\
+\"renewable\":{\"W1\":[2000]}}";
 
 const USUAL_REPORT: &[u8] = b"\
 hull-report 1\nperiods 1\nunits 2\nbudget 1\nahead 1\ncost 850000000\nproposals 1\n\
@@ -97,22 +102,29 @@ power 0\nreserve 0\nunit renewable \"W1\" earned 294000000 scheduled 196000000 p
 power 3000\nsurplus 0\npayments 164000000\ngap 164000000\nend\n";
 
 const NO_UNITS: &str =
-    "{\"time_periods\":1,\"demand\":[100],\"reserves\":[0],\"thermal_generators\":{},\"renewable_generators\":{}}";
+    "{\"time_periods\":1,\"demand\":[100],\"reserves\":[0],\"thermal_generators\":{},\
+\"renewable_generators\":{}}";
 
 const TWO_PERIODS: &str =
     "{\"time_periods\":2,\"demand\":[0.1,0.1],\"reserves\":[0,0],\"thermal_generators\":{},\
-\"renewable_generators\":{\"W\":{\"power_output_minimum\":[0,0],\"power_output_maximum\":[100,100]}}}";
+\"renewable_generators\":{\"W\":{\"power_output_minimum\":[0,0],\
+\"power_output_maximum\":[100,100]}}}";
 
 const ONE_BID: &str =
     "{\"time_periods\":1,\"demand\":[0],\"reserves\":[0],\"thermal_generators\":{},\
 \"renewable_generators\":{\"W\":{\"power_output_minimum\":[0],\"power_output_maximum\":[100]}},\
 \"demand_bids\":{\"D\":{\"blocks\":[[{\"mw\":0.1,\"price\":7}]]}}}";
 
+const ONE_BID_CHECK: &[u8] =
+    b"hull-check 1\nperiods 1 thermal 0 renewable 1 bid 1\ncost -700000\nfeasible\n";
+
 // Two periods, two bids and more blocks than one.
 const TWO_BIDS: &str = "\
 {\"time_periods\":2,\"demand\":[0,-0.000001],\"reserves\":[0,0],\"thermal_generators\":{},\
-\"renewable_generators\":{\"W\":{\"power_output_minimum\":[0,0],\"power_output_maximum\":[0,0.001]}},\
-\"demand_bids\":{\"A\":{\"blocks\":[[{\"mw\":0.000501,\"price\":0.007501}],[{\"mw\":0,\"price\":0.004}]]},\
+\"renewable_generators\":{\"W\":{\"power_output_minimum\":[0,0],\
+\"power_output_maximum\":[0,0.001]}},\
+\"demand_bids\":{\"A\":{\"blocks\":[[{\"mw\":0.000501,\"price\":0.007501}],\
+[{\"mw\":0,\"price\":0.004}]]},\
 \"B\":{\"blocks\":[[{\"mw\":0.003,\"price\":0}],[{\"mw\":0.003,\"price\":0.014},\
 {\"mw\":0,\"price\":0.013501},{\"mw\":0.003,\"price\":0.013},{\"mw\":0.002499,\"price\":0.01025},\
 {\"mw\":0.002001,\"price\":0.007999},{\"mw\":0.002,\"price\":0.007},{\"mw\":0.003,\"price\":0.006},\
@@ -134,19 +146,24 @@ surplus 0\npayments 39\ngap 39\nend\n";
 
 // Four periods; the window of A has it on in the second and off in the third.
 const WINDOW: &str = "\
-{\"time_periods\":4,\"demand\":[0.004,0.003,0.004,0.003],\"reserves\":[0.003,0,0,0.000499],\"thermal_generators\":{\
-\"A\":{\"must_run\":0,\"power_output_minimum\":0,\"power_output_maximum\":0.005,\"ramp_up_limit\":0.002,\
-\"ramp_down_limit\":1000000,\"ramp_startup_limit\":0.005,\"ramp_shutdown_limit\":0,\"time_up_minimum\":1000000,\
-\"time_down_minimum\":1000000,\"power_output_t0\":0.004,\"unit_on_t0\":1,\"time_up_t0\":1000000,\"time_down_t0\":0,\
-\"startup\":[{\"lag\":0,\"cost\":0.000053001}],\"piecewise_production\":[{\"mw\":0,\"cost\":0.000012},\
-{\"mw\":0.001001,\"cost\":0.000006},{\"mw\":0.004499,\"cost\":0.000006},{\"mw\":0.005,\"cost\":0.000009}],\
+{\"time_periods\":4,\"demand\":[0.004,0.003,0.004,0.003],\"reserves\":[0.003,0,0,0.000499],\
+\"thermal_generators\":{\
+\"A\":{\"must_run\":0,\"power_output_minimum\":0,\"power_output_maximum\":0.005,\
+\"ramp_up_limit\":0.002,\"ramp_down_limit\":1000000,\"ramp_startup_limit\":0.005,\
+\"ramp_shutdown_limit\":0,\"time_up_minimum\":1000000,\"time_down_minimum\":1000000,\
+\"power_output_t0\":0.004,\"unit_on_t0\":1,\"time_up_t0\":1000000,\"time_down_t0\":0,\
+\"startup\":[{\"lag\":0,\"cost\":0.000053001}],\
+\"piecewise_production\":[{\"mw\":0,\"cost\":0.000012},{\"mw\":0.001001,\"cost\":0.000006},\
+{\"mw\":0.004499,\"cost\":0.000006},{\"mw\":0.005,\"cost\":0.000009}],\
 \"commitment\":[null,1,0,null]},\
-\"B\":{\"must_run\":0,\"power_output_minimum\":0.001,\"power_output_maximum\":0.004499,\"ramp_up_limit\":0.005,\
-\"ramp_down_limit\":0.005,\"ramp_startup_limit\":0.004,\"ramp_shutdown_limit\":0.004,\"time_up_minimum\":1,\
-\"time_down_minimum\":1,\"power_output_t0\":0.004,\"unit_on_t0\":1,\"time_up_t0\":2,\"time_down_t0\":0,\"startup\":[],\
+\"B\":{\"must_run\":0,\"power_output_minimum\":0.001,\"power_output_maximum\":0.004499,\
+\"ramp_up_limit\":0.005,\"ramp_down_limit\":0.005,\"ramp_startup_limit\":0.004,\
+\"ramp_shutdown_limit\":0.004,\"time_up_minimum\":1,\"time_down_minimum\":1,\
+\"power_output_t0\":0.004,\"unit_on_t0\":1,\"time_up_t0\":2,\"time_down_t0\":0,\"startup\":[],\
 \"piecewise_production\":[{\"mw\":0.001,\"cost\":0.000024},{\"mw\":0.001,\"cost\":0.0000225},\
-{\"mw\":0.002,\"cost\":0.00004025},{\"mw\":0.0035,\"cost\":0.000079},{\"mw\":0.004,\"cost\":0.0000775}],\
-\"commitment\":[null,null,null,null]}},\"renewable_generators\":{}}";
+{\"mw\":0.002,\"cost\":0.00004025},{\"mw\":0.0035,\"cost\":0.000079},\
+{\"mw\":0.004,\"cost\":0.0000775}],\"commitment\":[null,null,null,null]}},\
+\"renewable_generators\":{}}";
 
 const WINDOW_SCHEDULE: &str = "\
 {\"thermal\":{\"A\":{\"on\":[1,1,0,0],\"power\":[2,0,0,0],\"reserve\":[3,0,0,0]},\
@@ -158,18 +175,21 @@ proposal 1 value 38\nenergy 2 2 2 2\nreserve 0 0 0 0\nsupplied 4 0 0 0\nreserved
 proposal 2 value 38\nenergy 2 2 2 2\nreserve 0 0 0 0\nsupplied 4 0 0 0\nreserved 0 0 0 0\n\
 proposal 3 value 38\nenergy 2 2 2 2\nreserve 0 0 0 0\nsupplied 4 0 0 0\nreserved 0 0 0 0\n\
 proposal 4 value 38\nenergy 2 2 2 2\nreserve 0 0 0 0\nsupplied 4 0 0 0\nreserved 0 0 0 0\n\
-chosen 1 value 38\nunit thermal \"A\" earned -10 scheduled -14 payment 4\non 1 1 0 0\npower 4 0 0 0\n\
-reserve 0 0 0 0\nunit thermal \"B\" earned 0 scheduled -212 payment 212\non 0 0 0 0\npower 0 0 0 0\n\
+chosen 1 value 38\n\
+unit thermal \"A\" earned -10 scheduled -14 payment 4\non 1 1 0 0\npower 4 0 0 0\nreserve 0 0 0 0\n\
+unit thermal \"B\" earned 0 scheduled -212 payment 212\non 0 0 0 0\npower 0 0 0 0\n\
 reserve 0 0 0 0\nsurplus 0\npayments 216\ngap 216\nend\n";
 
 const TRY: &[u8] = b"\
-hull-try 1\nnumber 7\nperiods 48 thermal 73 renewable 81\nproposals 12\nchosen 1 value 13991626824349\n\
-cost 17876574967200\npayments 3884948142851\nsurplus 0\ngap 3884948142851\n";
+hull-try 1\nnumber 7\nperiods 48 thermal 73 renewable 81\nproposals 12\n\
+chosen 1 value 13991626824349\ncost 17876574967200\npayments 3884948142851\nsurplus 0\n\
+gap 3884948142851\n";
 
 // The first proposal is the best of those twelve, so a run that stops at it prints the same sums.
 const TRY_FIRST: &[u8] = b"\
-hull-try 1\nnumber 7\nperiods 48 thermal 73 renewable 81\nproposals 1\nchosen 1 value 13991626824349\n\
-cost 17876574967200\npayments 3884948142851\nsurplus 0\ngap 3884948142851\n";
+hull-try 1\nnumber 7\nperiods 48 thermal 73 renewable 81\nproposals 1\n\
+chosen 1 value 13991626824349\ncost 17876574967200\npayments 3884948142851\nsurplus 0\n\
+gap 3884948142851\n";
 
 const CHECK: [&str; 5] = ["check", "--case", "c", "--schedule", "s"];
 
@@ -457,7 +477,7 @@ fn runs_answer_as_worked(rt: HostRuntime) -> Result<(), Fail> {
             ONE_BID,
             "{\"thermal\":{},\"renewable\":{\"W\":[100]},\"bids\":{\"D\":[100]}}",
             0,
-            b"hull-check 1\nperiods 1 thermal 0 renewable 1 bid 1\ncost -700000\nfeasible\n".as_slice(),
+            ONE_BID_CHECK,
         ),
     ] {
         let (status, bytes) = run(
@@ -517,7 +537,8 @@ fn wrong_read<R: Threads + Wait + Sync>(
     Ok(if right { None } else { Some(number) })
 }
 
-// The reads of a file that give so many bytes each, the last of them none, and the line of its fault.
+// The reads of a file that give so many bytes each, the last of them none, and the line of its
+// fault.
 fn parts(gives: u64) -> [(u64, &'static [u8]); 3] {
     [
         (TWO_UNITS.len() as u64, b"fault 2 read case\n".as_slice()),
@@ -732,7 +753,8 @@ fn runs_answer_as_other_programs_do(rt: HostRuntime) -> Result<(), Fail> {
 }
 
 const FOUR_IDLE: &str = "\
-{\"time_periods\":1,\"demand\":[0],\"reserves\":[0],\"thermal_generators\":{},\"renewable_generators\":{\
+{\"time_periods\":1,\"demand\":[0],\"reserves\":[0],\"thermal_generators\":{},\
+\"renewable_generators\":{\
 \"A\":{\"power_output_minimum\":[0],\"power_output_maximum\":[0]},\
 \"B\":{\"power_output_minimum\":[0],\"power_output_maximum\":[0]},\
 \"C\":{\"power_output_minimum\":[0],\"power_output_maximum\":[0]},\

@@ -1,12 +1,14 @@
 //! What a command answers: its files, its input and its run, up to the first refusal.
 ghost use Rattle.std.specs.Prelude.{◌≡◌, ℕ, List, Ok, Err, None, IfOk, IfErr};
 ghost use Rattle.gap_proof.specs.Sums.{IsRadius};
-ghost use Rattle.hull_words.specs.Asked.{asked, check, price, try, bound, fixed, audit, check_asked, price_asked};
+ghost use Rattle.hull_words.specs.Asked.{asked, check, price, try, bound, fixed};
+ghost use Rattle.hull_words.specs.Asked.{audit, check_asked, price_asked};
 ghost use Rattle.hull_words.specs.Words.{texts, words_of};
 ghost use Rattle.hull_report.specs.declared.fault.FileKind.{FileKind};
 ghost use Rattle.hull_engine.specs.Steps.{Reads, made_case};
 ghost use Rattle.hull_engine.specs.Outcome.{command_for};
-ghost use Rattle.hull_engine.specs.Answers.{IsFaultOf, IsLaterShelf, HasAnswer, IsAnswered, IsCommandAnswer};
+ghost use Rattle.hull_engine.specs.Answers.{IsFaultOf, IsLaterShelf, HasAnswer};
+ghost use Rattle.hull_engine.specs.Answers.{IsAnswered, IsCommandAnswer};
 ghost use Rattle.board_run.specs.Inputs.{planned_of, IsPlanned, IsRunInput};
 ghost use Rattle.hull_engine.specs.Inputs.{try_asked, bound_asked, audit_asked};
 ghost use Rattle.board_run.specs.Rounds.{setup_of, IsEnded};
@@ -249,7 +251,8 @@ fn answer_command<R: Threads + Wait + Sync, F: Shelf, G: Gate>(
         (Ok (asked command.now)) result }
     ensures answered { IfOk result (λ answer. IsAnswered answer) }
     ensures shelf { IsLaterShelf F.told F.faults shelf.old shelf.new }
-    ensures unread { ((file : FileKind) → (command_for (Ok (asked command.now))).name_of file ≡ None)
+    ensures unread { ((file : FileKind)
+        → (command_for (Ok (asked command.now))).name_of file ≡ None)
         → shelf.new ≡ shelf.old }
 {
     match command {
@@ -274,7 +277,8 @@ pub fn answer_run<R: Threads + Wait + Sync, F: Shelf, G: Gate>(
         (words_of (texts words.now)) result }
     ensures answered { IfOk result (λ answer. IsAnswered answer) }
     ensures shelf { IsLaterShelf F.told F.faults shelf.old shelf.new }
-    ensures unread { ((file : FileKind) → (command_for (words_of (texts words.now))).name_of file ≡ None)
+    ensures unread { ((file : FileKind)
+        → (command_for (words_of (texts words.now))).name_of file ≡ None)
         → shelf.new ≡ shelf.old }
 {
     let command = command_of(alloc, words)?;

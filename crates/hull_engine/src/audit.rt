@@ -42,7 +42,8 @@ fn job_count(case: &Case, workers: u32) -> u32
 /// So many benches, each of which suffices for every thermal unit of the case.
 fn benches_for(alloc: Global, case: &Case, count: u32) -> Result<Vec<Bench<Slopes>>, AllocError>
     ensures count { IfOk result (λ benches. length benches.items ≡ count) }
-    ensures benches { IfOk result (λ benches. All (IsBenchOver (market_of case.now)) benches.items) }
+    ensures benches { IfOk result (λ benches.
+        All (IsBenchOver (market_of case.now)) benches.items) }
 {
     benches_serve_all();
     let points = most_points(case);

@@ -51,10 +51,12 @@ impl End {
 /// answer. It takes no memory, and fails only where the sink does.
 fn write_done<S: Sink>(done: &mut Done, out: &mut S) -> Result<(), WriteFailed>
     requires { IsEnded done.old.closed.setup done.old }
-    ensures text { Writes S.held S.faults S.last out.old out.new result (report_text (report_of done.old.closed done.old.settlement)) }
+    ensures text { Writes S.held S.faults S.last out.old out.new result
+        (report_text (report_of done.old.closed done.old.settlement)) }
     ensures closed { done.new.closed ≡ done.old.closed }
     ensures settlement { done.new.settlement ≡ done.old.settlement }
-    ensures horizon { length (schedule_of done.new.buffer.response).on ≡ done.old.closed.setup.market.periods }
+    ensures horizon { length (schedule_of done.new.buffer.response).on
+        ≡ done.old.closed.setup.market.periods }
 {
     settlements_are_of_all_units();
     write_report(&done.closed, &done.settlement, &mut done.buffer, out)
@@ -81,7 +83,8 @@ pub fn finish_run<R: Threads + Wait + Sync, S: Sink, G: Gate>(
 ) -> (u8, Closed)
     ensures setup { result.1.setup ≡ run }
     ensures report { (s : Settlement) × (row : Proposal) × IsSettledRecord result.1 s row
-        × HasStatus result.0 (Gains S.held S.faults out.old out.new (report_text (report_of result.1 s)))
+        × HasStatus result.0
+        (Gains S.held S.faults out.old out.new (report_text (report_of result.1 s)))
         (FallsShort S.held S.faults S.last out.old out.new (report_text (report_of result.1 s))) }
 {
     let mut done = run_board(rt, run, gate);

@@ -1,13 +1,15 @@
 //! The files of a command: the case and its schedule, read and judged in the order of their
 //! refusals, and a report.
-ghost use Rattle.std.specs.Prelude.{◌≡◌, ◌≤◌, ℕ, true, List, Option, Vec, length, vec_len, map, IfOk};
+ghost use Rattle.std.specs.Prelude.{◌≡◌, ◌≤◌, ℕ, true, List, Option};
+ghost use Rattle.std.specs.Prelude.{Vec, length, vec_len, map, IfOk};
 ghost use Rattle.std.specs.Global.{Global};
 ghost use Rattle.uc_model.specs.Laws.{HasPlanShape};
 ghost use Rattle.uc_model.specs.PlainCases.{market_of, schedules_of};
 ghost use Rattle.hull_io.specs.Edge.{Rose};
 ghost use Rattle.report_read.specs.Bounds.{IsReport, AreInOrder};
 ghost use Rattle.report_read.specs.Plain.{report_of, told_of};
-ghost use Rattle.hull_engine.specs.Steps.{Then, IsBytes, IsCase, IsCaseFile, IsPlan, IsPlanFile, IsChecked, IsInput, IsReportIn, IsReportFile};
+ghost use Rattle.hull_engine.specs.Steps.{Then, IsBytes, IsCase, IsCaseFile, IsPlan, IsPlanFile};
+ghost use Rattle.hull_engine.specs.Steps.{IsChecked, IsInput, IsReportIn, IsReportFile};
 ghost use Rattle.hull_engine.specs.Outcome.{case_and_schedule};
 ghost use Rattle.hull_engine.specs.Answers.{IsAnswer, IsLaterShelf, HasRead, HasReads};
 ghost use Rattle.board_run.specs.Inputs.{planned_of, IsPlanned};

@@ -53,7 +53,8 @@ pub fn hull_run<R: Threads + Wait + Sync, F: Shelf, S: Sink, G: Gate>(
     // is left as it was.
     ensures shelf { IsLaterShelf F.told F.faults shelf.old shelf.new }
     ensures sink { S.faults out.old ≤ S.faults out.new }
-    ensures unread { ((file : FileKind) → (command_for (words_of (texts words.now))).name_of file ≡ None)
+    ensures unread { ((file : FileKind)
+        → (command_for (words_of (texts words.now))).name_of file ≡ None)
         → shelf.new ≡ shelf.old }
 {
     let answer = answer_run(rt, alloc, words, shelf, gate);

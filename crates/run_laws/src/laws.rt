@@ -1,7 +1,8 @@
 //! Laws over runs: each is the contract of a function that answers nothing. They follow from
 //! `IsOutcome`, which `hull_engine::hull_run` ensures of its run.
-ghost use Rattle.run_laws.specs.Laws.{OneDue, OneText, AcceptedIsFeasible, EachStatusHasItsCause, WhatWasReadDecides, WordsFollow, ReportsAreRight, BoundsHold, BothGapsAreMadeUp, AuditsHold};
-ghost use Rattle.run_laws.specs.Laws.{WorkersAreFree};
+ghost use Rattle.run_laws.specs.Laws.{OneDue, OneText, AcceptedIsFeasible, EachStatusHasItsCause};
+ghost use Rattle.run_laws.specs.Laws.{WhatWasReadDecides, WordsFollow, ReportsAreRight};
+ghost use Rattle.run_laws.specs.Laws.{BoundsHold, BothGapsAreMadeUp, AuditsHold, WorkersAreFree};
 
 use gap_proof::laws::run_bounds_hold;
 use hull_engine::laws::{bytes_are_those_read, report_bytes_are_its_text, words_have_sizes};

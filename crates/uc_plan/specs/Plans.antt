@@ -53,7 +53,8 @@ numbers number at vs =
 -- a list of an item for each period
 abbrev pub full_list : ℕ → Value → Option (List Value)
 full_list periods v =
-    option_and_then (λ (vs : List Value). if length vs == periods then Some vs else None) (list_in v)
+    option_and_then (λ (vs : List Value). if length vs == periods then Some vs else None)
+    (list_in v)
 
 abbrev pub list_under : ℕ → List ℕ → List Pair → Option (List Value)
 list_under periods key ms = option_and_then (full_list periods) (value_of key ms)

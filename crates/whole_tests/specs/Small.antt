@@ -11,14 +11,18 @@ IsNear x = IsFrom (neg_ℤ (pos 1000)) (pos 1000) x
 -- and each value within 10^12
 pub record IsSmall (f : Table) : Type 0 where
   pub places : (x v : ℤ) → value_of f x ≡ Some v → IsNear x
-  pub values : (x v : ℤ) → value_of f x ≡ Some v → IsFrom (neg_ℤ (pos 1000000000000)) (pos 1000000000000) v
+  pub values : (x v : ℤ) → value_of f x ≡ Some v
+      → IsFrom (neg_ℤ (pos 1000000000000)) (pos 1000000000000) v
 
 -- the value at x is within 10^12, if there is one
 pub record IsModestAt (f : Table) (x : ℤ) : Type 0 where
-  pub most : (v : ℤ) → value_of f x ≡ Some v → IsFrom (neg_ℤ (pos 1000000000000)) (pos 1000000000000) v
+  pub most : (v : ℤ) → value_of f x ≡ Some v
+      → IsFrom (neg_ℤ (pos 1000000000000)) (pos 1000000000000) v
 
 -- the first k blocks are short, and their prices small and not below the one before
 pub record AreFair (bs : List Block) (k : ℕ) : Type 0 where
   pub widths : (i : ℕ) (d : Block) → i < k → IsFrom (pos 0) (pos 1000) (slice_index_or bs i d).width
-  pub prices : (i : ℕ) (d : Block) → i < k → IsFrom (neg_ℤ (pos 1000000)) (pos 1000000) (slice_index_or bs i d).price
-  pub rising : (i : ℕ) (d : Block) → suc i < k → (slice_index_or bs i d).price ≤ℤ (slice_index_or bs (suc i) d).price
+  pub prices : (i : ℕ) (d : Block) → i < k
+      → IsFrom (neg_ℤ (pos 1000000)) (pos 1000000) (slice_index_or bs i d).price
+  pub rising : (i : ℕ) (d : Block) → suc i < k
+      → (slice_index_or bs i d).price ≤ℤ (slice_index_or bs (suc i) d).price

@@ -62,7 +62,8 @@ fn bench_for(alloc: Global, case: &Case) -> Result<Bench<Slopes>, Fail>
 
 fn benches_for(alloc: Global, case: &Case, count: u32) -> Result<Vec<Bench<Slopes>>, Fail>
     ensures count { IfOk result (λ benches. length benches.items ≡ count) }
-    ensures benches { IfOk result (λ benches. All (IsBenchOver (market_of case.now)) benches.items) }
+    ensures benches { IfOk result (λ benches.
+        All (IsBenchOver (market_of case.now)) benches.items) }
 {
     let mut benches = Vec::new(alloc);
     for _ in 0..count {

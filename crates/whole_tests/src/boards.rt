@@ -19,14 +19,36 @@ use uc_model::units::{Answered, UnitKind};
 use uc_plan::read_plan;
 
 pub(crate) const CASE: &[u8] =
-    b"{\"time_periods\":1,\"demand\":[0.15],\"reserves\":[0],\"thermal_generators\":{\"A\":{\"must_run\":0,\"power_output_minimum\":0,\"power_output_maximum\":0.1,\"ramp_up_limit\":1,\"ramp_down_limit\":1,\"ramp_startup_limit\":1,\"ramp_shutdown_limit\":1,\"time_up_minimum\":1,\"time_down_minimum\":1,\"power_output_t0\":0,\"unit_on_t0\":0,\"time_up_t0\":0,\"time_down_t0\":1,\"startup\":[],\"piecewise_production\":[{\"mw\":0,\"cost\":0},{\"mw\":0.1,\"cost\":0.001}]},\"B\":{\"must_run\":0,\"power_output_minimum\":0.1,\"power_output_maximum\":0.1,\"ramp_up_limit\":1,\"ramp_down_limit\":1,\"ramp_startup_limit\":1,\"ramp_shutdown_limit\":1,\"time_up_minimum\":1,\"time_down_minimum\":1,\"power_output_t0\":0,\"unit_on_t0\":0,\"time_up_t0\":0,\"time_down_t0\":1,\"startup\":[],\"piecewise_production\":[{\"mw\":0.1,\"cost\":0.003}]}},\"renewable_generators\":{}}";
+    b"{\"time_periods\":1,\"demand\":[0.15],\"reserves\":[0],\"thermal_generators\":{\
+    \"A\":{\"must_run\":0,\"power_output_minimum\":0,\"power_output_maximum\":0.1,\
+    \"ramp_up_limit\":1,\"ramp_down_limit\":1,\"ramp_startup_limit\":1,\"ramp_shutdown_limit\":1,\
+    \"time_up_minimum\":1,\"time_down_minimum\":1,\"power_output_t0\":0,\"unit_on_t0\":0,\
+    \"time_up_t0\":0,\"time_down_t0\":1,\"startup\":[],\
+    \"piecewise_production\":[{\"mw\":0,\"cost\":0},{\"mw\":0.1,\"cost\":0.001}]},\
+    \"B\":{\"must_run\":0,\"power_output_minimum\":0.1,\"power_output_maximum\":0.1,\
+    \"ramp_up_limit\":1,\"ramp_down_limit\":1,\"ramp_startup_limit\":1,\"ramp_shutdown_limit\":1,\
+    \"time_up_minimum\":1,\"time_down_minimum\":1,\"power_output_t0\":0,\"unit_on_t0\":0,\
+    \"time_up_t0\":0,\"time_down_t0\":1,\"startup\":[],\
+    \"piecewise_production\":[{\"mw\":0.1,\"cost\":0.003}]}},\
+    \"renewable_generators\":{}}";
 
 // The two units, where B gives its power for 3,100, so that the first price is 31.
 const DEARER: &[u8] =
-    b"{\"time_periods\":1,\"demand\":[0.15],\"reserves\":[0],\"thermal_generators\":{\"A\":{\"must_run\":0,\"power_output_minimum\":0,\"power_output_maximum\":0.1,\"ramp_up_limit\":1,\"ramp_down_limit\":1,\"ramp_startup_limit\":1,\"ramp_shutdown_limit\":1,\"time_up_minimum\":1,\"time_down_minimum\":1,\"power_output_t0\":0,\"unit_on_t0\":0,\"time_up_t0\":0,\"time_down_t0\":1,\"startup\":[],\"piecewise_production\":[{\"mw\":0,\"cost\":0},{\"mw\":0.1,\"cost\":0.001}]},\"B\":{\"must_run\":0,\"power_output_minimum\":0.1,\"power_output_maximum\":0.1,\"ramp_up_limit\":1,\"ramp_down_limit\":1,\"ramp_startup_limit\":1,\"ramp_shutdown_limit\":1,\"time_up_minimum\":1,\"time_down_minimum\":1,\"power_output_t0\":0,\"unit_on_t0\":0,\"time_up_t0\":0,\"time_down_t0\":1,\"startup\":[],\"piecewise_production\":[{\"mw\":0.1,\"cost\":0.0031}]}},\"renewable_generators\":{}}";
+    b"{\"time_periods\":1,\"demand\":[0.15],\"reserves\":[0],\"thermal_generators\":{\
+    \"A\":{\"must_run\":0,\"power_output_minimum\":0,\"power_output_maximum\":0.1,\
+    \"ramp_up_limit\":1,\"ramp_down_limit\":1,\"ramp_startup_limit\":1,\"ramp_shutdown_limit\":1,\
+    \"time_up_minimum\":1,\"time_down_minimum\":1,\"power_output_t0\":0,\"unit_on_t0\":0,\
+    \"time_up_t0\":0,\"time_down_t0\":1,\"startup\":[],\
+    \"piecewise_production\":[{\"mw\":0,\"cost\":0},{\"mw\":0.1,\"cost\":0.001}]},\
+    \"B\":{\"must_run\":0,\"power_output_minimum\":0.1,\"power_output_maximum\":0.1,\
+    \"ramp_up_limit\":1,\"ramp_down_limit\":1,\"ramp_startup_limit\":1,\"ramp_shutdown_limit\":1,\
+    \"time_up_minimum\":1,\"time_down_minimum\":1,\"power_output_t0\":0,\"unit_on_t0\":0,\
+    \"time_up_t0\":0,\"time_down_t0\":1,\"startup\":[],\
+    \"piecewise_production\":[{\"mw\":0.1,\"cost\":0.0031}]}},\
+    \"renewable_generators\":{}}";
 
-pub(crate) const PLAN: &[u8] =
-    b"{\"thermal\":{\"A\":{\"on\":[1],\"power\":[50],\"reserve\":[0]},\"B\":{\"on\":[1],\"power\":[100],\"reserve\":[0]}},\"renewable\":{}}";
+pub(crate) const PLAN: &[u8] = b"{\"thermal\":{\"A\":{\"on\":[1],\"power\":[50],\"reserve\":[0]},\
+    \"B\":{\"on\":[1],\"power\":[100],\"reserve\":[0]}},\"renewable\":{}}";
 
 // What a board is made for beside its case and plan.
 #[derive(Clone, Copy)]
@@ -82,8 +104,11 @@ fn two_units(alloc: Global, budget: u32) -> Result<Board, Fail>
 
 // The least best response of the task's unit and what it earns, if there is one; none for a bid.
 pub(crate) fn least_answer(alloc: Global, task: &Task) -> Result<Option<Answered>, AllocError>
-    ensures fit { IfOk result (λ o. IfSome o (λ a. Fits (task_unit task.now) (prices_of task.now.prices) (schedule_of a.response))) }
-    ensures earned { IfOk result (λ o. IfSome o (λ a. earnings (task_unit task.now) (prices_of task.now.prices) (schedule_of a.response) ≡ a.earned)) }
+    ensures fit { IfOk result (λ o. IfSome o (λ a.
+        Fits (task_unit task.now) (prices_of task.now.prices) (schedule_of a.response))) }
+    ensures earned { IfOk result (λ o. IfSome o (λ a.
+        earnings (task_unit task.now) (prices_of task.now.prices) (schedule_of a.response)
+        ≡ a.earned)) }
 {
     match task.kind {
         UnitKind::Thermal => least_by_trying(alloc, &task.thermal, &task.prices),

@@ -27,8 +27,11 @@ fn fault_of(alloc: Global, bytes: &[u8]) -> Option<CaseFault> {
     }
 }
 
-const SMALLEST: &[u8] =
-    b"{\"time_periods\":1,\"demand\":[100],\"reserves\":[0],\"thermal_generators\":{},\"renewable_generators\":{\"W\":{\"power_output_minimum\":[0],\"power_output_maximum\":[100]}}}";
+// One renewable unit that gives up to 100,000 kW, where just that is wanted.
+pub(crate) const SMALLEST: &[u8] =
+    b"{\"time_periods\":1,\"demand\":[100],\"reserves\":[0],\"thermal_generators\":{},\
+    \"renewable_generators\":{\"W\":{\"power_output_minimum\":[0],\
+    \"power_output_maximum\":[100]}}}";
 
 #[test]
 fn reads_the_smallest_case(rt: HostRuntime) -> Result<(), Fail> {
@@ -83,7 +86,8 @@ fn faults_of_small_files(rt: HostRuntime) -> Result<(), Fail> {
             fault(CaseCode::Missing, Field::TimePeriods, Kind::Case, 0, 0),
         ),
         (
-            b"{\"time_periods\":1,\"demand\":[0],\"reserves\":[0],\"thermal_generators\":{},\"renewable_generators\":{}}",
+            b"{\"time_periods\":1,\"demand\":[0],\"reserves\":[0],\"thermal_generators\":{},\
+            \"renewable_generators\":{}}",
             fault(
                 CaseCode::NoUnits,
                 Field::RenewableGenerators,
@@ -93,27 +97,34 @@ fn faults_of_small_files(rt: HostRuntime) -> Result<(), Fail> {
             ),
         ),
         (
-            b"{\"time_periods\":1,\"demand\":[0],\"reserves\":[0],\"thermal_generators\":{},\"renewable_generators\":{},\"demand_bids\":null}",
+            b"{\"time_periods\":1,\"demand\":[0],\"reserves\":[0],\"thermal_generators\":{},\
+            \"renewable_generators\":{},\"demand_bids\":null}",
             fault(CaseCode::WrongKind, Field::DemandBids, Kind::Case, 0, 0),
         ),
         (
-            b"{\"time_periods\":1,\"demand\":[0],\"reserves\":[0],\"thermal_generators\":{},\"renewable_generators\":{},\"demand_bids\":{\"X\":{}}}",
+            b"{\"time_periods\":1,\"demand\":[0],\"reserves\":[0],\"thermal_generators\":{},\
+            \"renewable_generators\":{},\"demand_bids\":{\"X\":{}}}",
             fault(CaseCode::Missing, Field::Blocks, Kind::Bid, 1, 0),
         ),
         (
-            b"{\"time_periods\":1,\"demand\":[0],\"reserves\":[0],\"thermal_generators\":{},\"renewable_generators\":{},\"demand_bids\":{\"X\":null}}",
+            b"{\"time_periods\":1,\"demand\":[0],\"reserves\":[0],\"thermal_generators\":{},\
+            \"renewable_generators\":{},\"demand_bids\":{\"X\":null}}",
             fault(CaseCode::WrongKind, Field::DemandBids, Kind::Bid, 1, 0),
         ),
         (
-            b"{\"time_periods\":1,\"demand\":[0],\"reserves\":[0],\"thermal_generators\":{},\"renewable_generators\":{},\"demand_bids\":{\"X\":{\"blocks\":{}}}}",
+            b"{\"time_periods\":1,\"demand\":[0],\"reserves\":[0],\"thermal_generators\":{},\
+            \"renewable_generators\":{},\"demand_bids\":{\"X\":{\"blocks\":{}}}}",
             fault(CaseCode::WrongKind, Field::Blocks, Kind::Bid, 1, 0),
         ),
         (
-            b"{\"time_periods\":1,\"demand\":[0],\"reserves\":[0],\"thermal_generators\":{},\"renewable_generators\":{},\"demand_bids\":{\"X\":{\"blocks\":[]}}}",
+            b"{\"time_periods\":1,\"demand\":[0],\"reserves\":[0],\"thermal_generators\":{},\
+            \"renewable_generators\":{},\"demand_bids\":{\"X\":{\"blocks\":[]}}}",
             fault(CaseCode::WrongLength, Field::Blocks, Kind::Bid, 1, 0),
         ),
         (
-            b"{\"time_periods\":1,\"demand\":[100],\"reserves\":[0],\"thermal_generators\":{},\"renewable_generators\":{\"W\":{\"power_output_minimu\":[0],\"power_output_maximum\":[100]}}}",
+            b"{\"time_periods\":1,\"demand\":[100],\"reserves\":[0],\"thermal_generators\":{},\
+            \"renewable_generators\":{\"W\":{\"power_output_minimu\":[0],\
+            \"power_output_maximum\":[100]}}}",
             fault(
                 CaseCode::Missing,
                 Field::PowerOutputMinimum,
@@ -123,7 +134,9 @@ fn faults_of_small_files(rt: HostRuntime) -> Result<(), Fail> {
             ),
         ),
         (
-            b"{\"time_periods\":1,\"demand\":[100],\"reserves\":[0],\"tehermal_generators\":{},\"renwable_generators\":{\"W\":{\"power_output_minimum\":[0],\"power_output_maximum\":[100]}}}",
+            b"{\"time_periods\":1,\"demand\":[100],\"reserves\":[0],\"tehermal_generators\":{},\
+            \"renwable_generators\":{\"W\":{\"power_output_minimum\":[0],\
+            \"power_output_maximum\":[100]}}}",
             fault(
                 CaseCode::Missing,
                 Field::ThermalGenerators,
@@ -133,27 +146,39 @@ fn faults_of_small_files(rt: HostRuntime) -> Result<(), Fail> {
             ),
         ),
         (
-            b"{\"time_periods\":1,\"demand\":[100],\"reherves\":[0],\"tsermal_generators\":{},\"renewable_generators\":{\"W\":{\"power_output_minimum\":[0],\"power_output_maximum\":[100]}}}",
+            b"{\"time_periods\":1,\"demand\":[100],\"reherves\":[0],\"tsermal_generators\":{},\
+            \"renewable_generators\":{\"W\":{\"power_output_minimum\":[0],\
+            \"power_output_maximum\":[100]}}}",
             fault(CaseCode::Missing, Field::Reserves, Kind::Case, 0, 0),
         ),
         (
-            b"{\"time_periods\":0,\"demand\":[100],\"reserves\":[0],\"thermal_generators\":{},\"renewable_generators\":{\"W\":{\"power_output_minimum\":[0],\"power_output_maximum\":[100]}}}",
+            b"{\"time_periods\":0,\"demand\":[100],\"reserves\":[0],\"thermal_generators\":{},\
+            \"renewable_generators\":{\"W\":{\"power_output_minimum\":[0],\
+            \"power_output_maximum\":[100]}}}",
             fault(CaseCode::NoPeriods, Field::TimePeriods, Kind::Case, 0, 0),
         ),
         (
-            b"{\"time_periods\":1,\"demand\":[1e400],\"reserves\":[0],\"thermal_generators\":{},\"renewable_generators\":{\"W\":{\"power_output_minimum\":[0],\"power_output_maximum\":[100]}}}",
+            b"{\"time_periods\":1,\"demand\":[1e400],\"reserves\":[0],\"thermal_generators\":{},\
+            \"renewable_generators\":{\"W\":{\"power_output_minimum\":[0],\
+            \"power_output_maximum\":[100]}}}",
             fault(CaseCode::TooLarge, Field::Demand, Kind::Case, 0, 1),
         ),
         (
-            b"{\"time_periods\":1e400,\"demand\":[100],\"reserves\":[0],\"thermal_generators\":{},\"renewable_generators\":{\"W\":{\"power_output_minimum\":[0],\"power_output_maximum\":[100]}}}",
+            b"{\"time_periods\":1e400,\"demand\":[100],\"reserves\":[0],\"thermal_generators\":{},\
+            \"renewable_generators\":{\"W\":{\"power_output_minimum\":[0],\
+            \"power_output_maximum\":[100]}}}",
             fault(CaseCode::TooLarge, Field::TimePeriods, Kind::Case, 0, 0),
         ),
         (
-            b"{\"time_periods\":1e-400,\"demand\":[100],\"reserves\":[0],\"thermal_generators\":{},\"renewable_generators\":{\"W\":{\"power_output_minimum\":[0],\"power_output_maximum\":[100]}}}",
+            b"{\"time_periods\":1e-400,\"demand\":[100],\"reserves\":[0],\"thermal_generators\":{},\
+            \"renewable_generators\":{\"W\":{\"power_output_minimum\":[0],\
+            \"power_output_maximum\":[100]}}}",
             fault(CaseCode::NotWhole, Field::TimePeriods, Kind::Case, 0, 0),
         ),
         (
-            b"{\"time_periods\":1,\"demand\":[100],\"reserves\":[0],\"thermal_generators\":{},\"renewable_generators\":{\"W\":{\"power_output_minimum\":[0],\"power_output_mInfinityximum\":[100]}}}",
+            b"{\"time_periods\":1,\"demand\":[100],\"reserves\":[0],\"thermal_generators\":{},\
+            \"renewable_generators\":{\"W\":{\"power_output_minimum\":[0],\
+            \"power_output_mInfinityximum\":[100]}}}",
             fault(
                 CaseCode::Missing,
                 Field::PowerOutputMaximum,
@@ -186,16 +211,21 @@ const POINTS: &str = "[{\"mw\":0,\"cost\":0},{\"mw\":0.1,\"cost\":0.001}]";
 /// Two units A and B, with some values of A, further keys of B, and further keys of the case.
 fn two_units(alloc: Global, parts: [&str; 7]) -> Result<String, Fail> {
     let [least, time_up, on, startup, points, keys, tail] = parts;
-    let limits =
-        "\"ramp_up_limit\":1,\"ramp_down_limit\":1,\"ramp_startup_limit\":1,\"ramp_shutdown_limit\":1,\"time_down_minimum\":1,\"power_output_t0\":0,\"time_up_t0\":0,\"time_down_t0\":1,\"must_run\":0,\"power_output_maximum\":0.1";
+    let limits = "\"ramp_up_limit\":1,\"ramp_down_limit\":1,\"ramp_startup_limit\":1,\
+        \"ramp_shutdown_limit\":1,\"time_down_minimum\":1,\"power_output_t0\":0,\"time_up_t0\":0,\
+        \"time_down_t0\":1,\"must_run\":0,\"power_output_maximum\":0.1";
     let a = format!(in alloc;
-        "\"power_output_minimum\":{least},\"time_up_minimum\":{time_up},\"unit_on_t0\":{on},\"startup\":{startup},\"piecewise_production\":{points},{limits}"
+        "\"power_output_minimum\":{least},\"time_up_minimum\":{time_up},\"unit_on_t0\":{on},\
+        \"startup\":{startup},\"piecewise_production\":{points},{limits}"
     )?;
     let b = format!(in alloc;
-        "\"power_output_minimum\":0.1,\"time_up_minimum\":1,\"unit_on_t0\":0,\"startup\":[],\"piecewise_production\":[{{\"mw\":0.1,\"cost\":0.003}}],{limits}{keys}"
+        "\"power_output_minimum\":0.1,\"time_up_minimum\":1,\"unit_on_t0\":0,\"startup\":[],\
+        \"piecewise_production\":[{{\"mw\":0.1,\"cost\":0.003}}],{limits}{keys}"
     )?;
     Ok(format!(in alloc;
-        "{{\"time_periods\":1,\"demand\":[0.15],\"reserves\":[0],\"thermal_generators\":{{\"A\":{{{a}}},\"B\":{{{b}}}}},\"renewable_generators\":{{}}{tail}}}"
+        "{{\"time_periods\":1,\"demand\":[0.15],\"reserves\":[0],\
+        \"thermal_generators\":{{\"A\":{{{a}}},\"B\":{{{b}}}}},\
+        \"renewable_generators\":{{}}{tail}}}"
     )?)
 }
 
@@ -336,7 +366,8 @@ fn faults_of_two_units(rt: HostRuntime) -> Result<(), Fail> {
                 "[]",
                 POINTS,
                 "",
-                ",\"demand_bids\":{\"X\":{\"blocks\":[[{\"mw\":0.05,\"price\":0.04},{\"mw\":0.05,\"price\":0.041}]]}}",
+                ",\"demand_bids\":{\"X\":{\"blocks\":[[{\"mw\":0.05,\"price\":0.04},\
+                {\"mw\":0.05,\"price\":0.041}]]}}",
             ],
             fault(CaseCode::BlockOrder, Field::Blocks, Kind::Bid, 1, 1),
         ),
@@ -348,7 +379,8 @@ fn faults_of_two_units(rt: HostRuntime) -> Result<(), Fail> {
                 "[]",
                 POINTS,
                 "",
-                ",\"demand_bids\":{\"X\":{\"blocks\":[[{\"mw\":600000,\"price\":2},{\"mw\":600000,\"price\":1}]]}}",
+                ",\"demand_bids\":{\"X\":{\"blocks\":[[{\"mw\":600000,\"price\":2},\
+                {\"mw\":600000,\"price\":1}]]}}",
             ],
             fault(CaseCode::TooLarge, Field::Blocks, Kind::Bid, 1, 1),
         ),

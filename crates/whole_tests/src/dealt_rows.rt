@@ -1,12 +1,13 @@
 //! The rows of a run without a board, on two units over one period with a demand of 150 kW: A gives
-//! up to 100 kW at 10 for each, and B gives exactly 100 kW for 3,000. The numbers expected are worked
-//! by hand.
+//! up to 100 kW at 10 for each, and B gives exactly 100 kW for 3,000. The numbers expected are
+//! worked by hand.
 
 ghost use Rattle.std.specs.Prelude.{◌≡◌, ◌≤◌, length, IfOk};
 ghost use Rattle.uc_model.specs.PlainCases.{market_of};
 ghost use Rattle.dealt_run.specs.Benches.{HasSchedules};
 ghost use Rattle.dealt_run.specs.Jobs.{AreFor};
 
+use crate::boards::{CASE, PLAN};
 use case_answers::laws::benches_serve_all;
 use dealt_run::{Answerer, right_rows};
 use plan_check::check_plan;
@@ -20,12 +21,6 @@ use uc_model::limits::MOST_POINTS;
 use uc_model::lists::ReservedList;
 use uc_plan::read_plan;
 use unit_program::Bench;
-
-const CASE: &[u8] =
-    b"{\"time_periods\":1,\"demand\":[0.15],\"reserves\":[0],\"thermal_generators\":{\"A\":{\"must_run\":0,\"power_output_minimum\":0,\"power_output_maximum\":0.1,\"ramp_up_limit\":1,\"ramp_down_limit\":1,\"ramp_startup_limit\":1,\"ramp_shutdown_limit\":1,\"time_up_minimum\":1,\"time_down_minimum\":1,\"power_output_t0\":0,\"unit_on_t0\":0,\"time_up_t0\":0,\"time_down_t0\":1,\"startup\":[],\"piecewise_production\":[{\"mw\":0,\"cost\":0},{\"mw\":0.1,\"cost\":0.001}]},\"B\":{\"must_run\":0,\"power_output_minimum\":0.1,\"power_output_maximum\":0.1,\"ramp_up_limit\":1,\"ramp_down_limit\":1,\"ramp_startup_limit\":1,\"ramp_shutdown_limit\":1,\"time_up_minimum\":1,\"time_down_minimum\":1,\"power_output_t0\":0,\"unit_on_t0\":0,\"time_up_t0\":0,\"time_down_t0\":1,\"startup\":[],\"piecewise_production\":[{\"mw\":0.1,\"cost\":0.003}]}},\"renewable_generators\":{}}";
-
-const PLAN: &[u8] =
-    b"{\"thermal\":{\"A\":{\"on\":[1],\"power\":[50],\"reserve\":[0]},\"B\":{\"on\":[1],\"power\":[100],\"reserve\":[0]}},\"renewable\":{}}";
 
 // A job with a bench for any unit.
 fn job_for<'a>(alloc: Global, case: &'a Case) -> Result<Answerer<'a>, Fail>

@@ -1,5 +1,6 @@
 //! Schedule files of a case: what is read, and the first fault of a file.
 
+use crate::case_files::SMALLEST;
 use std::alloc::Global;
 use std::test::Fail;
 use uc_case::fault::Kind;
@@ -27,9 +28,6 @@ fn fault_of(alloc: Global, case: &Case, bytes: &[u8]) -> Option<PlanFault> {
         Err(fault) => Some(fault),
     }
 }
-
-const SMALLEST: &[u8] =
-    b"{\"time_periods\":1,\"demand\":[100],\"reserves\":[0],\"thermal_generators\":{},\"renewable_generators\":{\"W\":{\"power_output_minimum\":[0],\"power_output_maximum\":[100]}}}";
 
 #[test]
 fn schedules_of_the_smallest_case(rt: HostRuntime) -> Result<(), Fail> {
@@ -68,12 +66,25 @@ fn schedules_of_the_smallest_case(rt: HostRuntime) -> Result<(), Fail> {
 }
 
 const TWO_UNITS: &[u8] =
-    b"{\"time_periods\":1,\"demand\":[0.15],\"reserves\":[0],\"thermal_generators\":{\"A\":{\"must_run\":0,\"power_output_minimum\":0,\"power_output_maximum\":0.1,\"ramp_up_limit\":1,\"ramp_down_limit\":1,\"ramp_startup_limit\":1,\"ramp_shutdown_limit\":1,\"time_up_minimum\":1,\"time_down_minimum\":1,\"power_output_t0\":0,\"unit_on_t0\":0,\"time_up_t0\":0,\"time_down_t0\":1,\"startup\":[],\"piecewise_production\":[{\"mw\":0,\"cost\":0},{\"mw\":0.1,\"cost\":0.001}]},\"B\":{\"must_run\":0,\"power_output_minimum\":0.1,\"power_output_maximum\":0.1,\"ramp_up_limit\":1,\"ramp_down_limit\":1,\"ramp_startup_limit\":1,\"ramp_shutdown_limit\":1,\"time_up_minimum\":1,\"time_down_minimum\":1,\"power_output_t0\":0,\"unit_on_t0\":0,\"time_up_t0\":0,\"time_down_t0\":1,\"startup\":[],\"piecewise_production\":[{\"mw\":0.1,\"cost\":0.003}]}},\"renewable_generators\":{},\"demand_bids\":{\"X\":{\"blocks\":[[{\"mw\":0.05,\"price\":0.04}]]}}}";
+    b"{\"time_periods\":1,\"demand\":[0.15],\"reserves\":[0],\"thermal_generators\":{\
+    \"A\":{\"must_run\":0,\"power_output_minimum\":0,\"power_output_maximum\":0.1,\
+    \"ramp_up_limit\":1,\"ramp_down_limit\":1,\"ramp_startup_limit\":1,\"ramp_shutdown_limit\":1,\
+    \"time_up_minimum\":1,\"time_down_minimum\":1,\"power_output_t0\":0,\"unit_on_t0\":0,\
+    \"time_up_t0\":0,\"time_down_t0\":1,\"startup\":[],\
+    \"piecewise_production\":[{\"mw\":0,\"cost\":0},{\"mw\":0.1,\"cost\":0.001}]},\
+    \"B\":{\"must_run\":0,\"power_output_minimum\":0.1,\"power_output_maximum\":0.1,\
+    \"ramp_up_limit\":1,\"ramp_down_limit\":1,\"ramp_startup_limit\":1,\"ramp_shutdown_limit\":1,\
+    \"time_up_minimum\":1,\"time_down_minimum\":1,\"power_output_t0\":0,\"unit_on_t0\":0,\
+    \"time_up_t0\":0,\"time_down_t0\":1,\"startup\":[],\
+    \"piecewise_production\":[{\"mw\":0.1,\"cost\":0.003}]}},\
+    \"renewable_generators\":{},\
+    \"demand_bids\":{\"X\":{\"blocks\":[[{\"mw\":0.05,\"price\":0.04}]]}}}";
 
 /// A schedule of two units, with A's member and the rest of the file.
 fn schedule(alloc: Global, a: &str, others: &str) -> Result<String, Fail> {
     Ok(format!(in alloc;
-        "{{\"thermal\":{{\"B\":{{\"on\":[1],\"power\":[100],\"reserve\":[0]}}{a}}},\"renewable\":{{}}{others}}}"
+        "{{\"thermal\":{{\"B\":{{\"on\":[1],\"power\":[100],\"reserve\":[0]}}{a}}},\
+        \"renewable\":{{}}{others}}}"
     )?)
 }
 

@@ -1,10 +1,12 @@
-//! Callers on seats of one shared board, one after another. The numbers expected are worked by hand.
+//! Callers on seats of one shared board, one after another. The numbers expected are worked by
+//! hand.
 ghost use Rattle.std.specs.Prelude.{◌≡◌, ◌<◌, ◌≤◌, IfOk, [], length};
 ghost use Rattle.board_share.specs.Seats.{view_of, IsSeatOf, IsSameBoard, IsOwner};
 ghost use Rattle.board_share.specs.Tells.{KeepsRest};
 ghost use Rattle.uc_model.specs.TaskRoom.{IsTaskFor};
 
 use crate::boards::{CASE, Does, PLAN, Sizes, Step, board_of, by, dearer_task, least_answer};
+use crate::case_files::SMALLEST;
 use board_core::{Board, Claim, Closed, Differs, Posted};
 use board_history::entries::{Call, Entry, Reply};
 use board_share::{Seat, SharedBoard};
@@ -12,10 +14,6 @@ use std::alloc::Global;
 use std::sync::Wait;
 use std::test::Fail;
 use uc_model::cases::Task;
-
-// One renewable unit that gives up to 100,000 kW, where just that is wanted.
-const SMALLEST: &[u8] =
-    b"{\"time_periods\":1,\"demand\":[100],\"reserves\":[0],\"thermal_generators\":{},\"renewable_generators\":{\"W\":{\"power_output_minimum\":[0],\"power_output_maximum\":[100]}}}";
 
 const SMALLEST_PLAN: &[u8] = b"{\"thermal\":{},\"renewable\":{\"W\":[100000]}}";
 
@@ -100,7 +98,8 @@ fn holds<R: Wait>(
     }
 }
 
-// How many of the steps are answered as they say, up to the first that isn't. Caller 0 has the owner's seat.
+// How many of the steps are answered as they say, up to the first that isn't. Caller 0 has the
+// owner's seat.
 fn play<R: Wait>(
     rt: &R,
     alloc: Global,
@@ -112,10 +111,13 @@ fn play<R: Wait>(
 ) -> Result<usize, Fail>
     requires owner { IsSeatOf board.now owner.old }
     requires other { IsSeatOf board.now other.old }
-    requires periods { ((view_of owner.old).setup.market.periods ≡ 1) × ((view_of other.old).setup.market.periods ≡ 1) }
+    requires periods { ((view_of owner.old).setup.market.periods ≡ 1)
+        × ((view_of other.old).setup.market.periods ≡ 1) }
     requires task { IsTaskFor 1 task.old }
-    ensures owner { IsSameBoard owner.old owner.new × KeepsRest (view_of owner.old) (view_of owner.new) }
-    ensures other { IsSameBoard other.old other.new × KeepsRest (view_of other.old) (view_of other.new) }
+    ensures owner { IsSameBoard owner.old owner.new
+        × KeepsRest (view_of owner.old) (view_of owner.new) }
+    ensures other { IsSameBoard other.old other.new
+        × KeepsRest (view_of other.old) (view_of other.new) }
     ensures task { IsTaskFor 1 task.new }
 {
     let mut held = 0;
@@ -132,7 +134,8 @@ fn play<R: Wait>(
     Ok(held)
 }
 
-// The record of a board on which two seats took the steps, and how many of these were answered as they say.
+// The record of a board on which two seats took the steps, and how many of these were answered as
+// they say.
 fn played<R: Wait>(
     rt: &R,
     alloc: Global,

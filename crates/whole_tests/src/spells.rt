@@ -35,7 +35,8 @@ struct Figures<'a> {
 }
 
 fn is_start(numbers: &SmallUnit, periods: usize, spell: Spell) -> bool
-    ensures { IsTrue result → IsSpellStart (small_unit_of numbers.now (replicate periods Free)) periods
+    ensures { IsTrue result
+        → IsSpellStart (small_unit_of numbers.now (replicate periods Free)) periods
         spell.first spell.started }
 {
     if spell.first == 0 || spell.first as usize > periods {
@@ -48,7 +49,8 @@ fn is_start(numbers: &SmallUnit, periods: usize, spell: Spell) -> bool
 }
 
 fn is_spell(numbers: &SmallUnit, periods: usize, spell: Spell) -> bool
-    ensures { IsTrue result → IsSpellOf (small_unit_of numbers.now (replicate periods Free)) periods spell }
+    ensures { IsTrue result
+        → IsSpellOf (small_unit_of numbers.now (replicate periods Free)) periods spell }
 {
     if !is_start(numbers, periods, spell) {
         return false;

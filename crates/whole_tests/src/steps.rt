@@ -1,5 +1,6 @@
 //! Steps on shapes of small numbers: each is made where what it requires is seen to hold.
-ghost use Rattle.std.specs.Prelude.{◌≡◌, ℤ, ◌<◌, ◌≤◌, pos, neg_ℤ, ◌+ℤ◌, ◌≤ℤ◌, IsTrue, IfOk, OnOk, length};
+ghost use Rattle.std.specs.Prelude.{◌≡◌, ℤ, ◌<◌, ◌≤◌, pos, neg_ℤ, ◌+ℤ◌};
+ghost use Rattle.std.specs.Prelude.{◌≤ℤ◌, IsTrue, IfOk, OnOk, length};
 ghost use Rattle.uc_model.specs.Limits.{IsFrom};
 ghost use Rattle.shape_law.specs.Curve.{end_of};
 ghost use Rattle.shape_law.specs.Table.{HasNone};

@@ -18,10 +18,21 @@ use uc_model::cases::{Row, Task};
 
 // The two units, A with up to 4 kW for 10 each, B with just 4 kW for 120, and a demand of 6 kW.
 const CASE: &[u8] =
-    b"{\"time_periods\":1,\"demand\":[0.006],\"reserves\":[0],\"thermal_generators\":{\"A\":{\"must_run\":0,\"power_output_minimum\":0,\"power_output_maximum\":0.004,\"ramp_up_limit\":1,\"ramp_down_limit\":1,\"ramp_startup_limit\":1,\"ramp_shutdown_limit\":1,\"time_up_minimum\":1,\"time_down_minimum\":1,\"power_output_t0\":0,\"unit_on_t0\":0,\"time_up_t0\":0,\"time_down_t0\":1,\"startup\":[],\"piecewise_production\":[{\"mw\":0,\"cost\":0},{\"mw\":0.004,\"cost\":0.00004}]},\"B\":{\"must_run\":0,\"power_output_minimum\":0.004,\"power_output_maximum\":0.004,\"ramp_up_limit\":1,\"ramp_down_limit\":1,\"ramp_startup_limit\":1,\"ramp_shutdown_limit\":1,\"time_up_minimum\":1,\"time_down_minimum\":1,\"power_output_t0\":0,\"unit_on_t0\":0,\"time_up_t0\":0,\"time_down_t0\":1,\"startup\":[],\"piecewise_production\":[{\"mw\":0.004,\"cost\":0.00012}]}},\"renewable_generators\":{}}";
+    b"{\"time_periods\":1,\"demand\":[0.006],\"reserves\":[0],\"thermal_generators\":{\
+    \"A\":{\"must_run\":0,\"power_output_minimum\":0,\"power_output_maximum\":0.004,\
+    \"ramp_up_limit\":1,\"ramp_down_limit\":1,\"ramp_startup_limit\":1,\"ramp_shutdown_limit\":1,\
+    \"time_up_minimum\":1,\"time_down_minimum\":1,\"power_output_t0\":0,\"unit_on_t0\":0,\
+    \"time_up_t0\":0,\"time_down_t0\":1,\"startup\":[],\
+    \"piecewise_production\":[{\"mw\":0,\"cost\":0},{\"mw\":0.004,\"cost\":0.00004}]},\
+    \"B\":{\"must_run\":0,\"power_output_minimum\":0.004,\"power_output_maximum\":0.004,\
+    \"ramp_up_limit\":1,\"ramp_down_limit\":1,\"ramp_startup_limit\":1,\"ramp_shutdown_limit\":1,\
+    \"time_up_minimum\":1,\"time_down_minimum\":1,\"power_output_t0\":0,\"unit_on_t0\":0,\
+    \"time_up_t0\":0,\"time_down_t0\":1,\"startup\":[],\
+    \"piecewise_production\":[{\"mw\":0.004,\"cost\":0.00012}]}},\
+    \"renewable_generators\":{}}";
 
-const PLAN: &[u8] =
-    b"{\"thermal\":{\"A\":{\"on\":[1],\"power\":[2],\"reserve\":[0]},\"B\":{\"on\":[1],\"power\":[4],\"reserve\":[0]}},\"renewable\":{}}";
+const PLAN: &[u8] = b"{\"thermal\":{\"A\":{\"on\":[1],\"power\":[2],\"reserve\":[0]},\
+    \"B\":{\"on\":[1],\"power\":[4],\"reserve\":[0]}},\"renewable\":{}}";
 
 const SIZES: Sizes = Sizes {
     budget: 4,
@@ -136,7 +147,8 @@ fn work_all<R: Threads + Wait + Sync>(
     requires four { IsSeatOf board.now four.old × ((view_of four.old).setup.market.periods ≡ 1) }
     ensures one { IsSameBoard one.old one.new × KeepsRest (view_of one.old) (view_of one.new) }
     ensures two { IsSameBoard two.old two.new × KeepsRest (view_of two.old) (view_of two.new) }
-    ensures three { IsSameBoard three.old three.new × KeepsRest (view_of three.old) (view_of three.new) }
+    ensures three { IsSameBoard three.old three.new
+        × KeepsRest (view_of three.old) (view_of three.new) }
     ensures four { IsSameBoard four.old four.new × KeepsRest (view_of four.old) (view_of four.new) }
 {
     let later = word.wrapping_add(1_000);
@@ -144,13 +156,17 @@ fn work_all<R: Threads + Wait + Sync>(
         rt,
         &mut ||
             requires rt { IsSync R.row }
-            requires one { IsSeatOf board.now one.now × ((view_of one.now).setup.market.periods ≡ 1) }
-            requires two { IsSeatOf board.now two.now × ((view_of two.now).setup.market.periods ≡ 1) }
+            requires one { IsSeatOf board.now one.now
+                × ((view_of one.now).setup.market.periods ≡ 1) }
+            requires two { IsSeatOf board.now two.now
+                × ((view_of two.now).setup.market.periods ≡ 1) }
         { work_both(rt, alloc, board, one, two, word) },
         &mut ||
             requires rt { IsSync R.row }
-            requires three { IsSeatOf board.now three.now × ((view_of three.now).setup.market.periods ≡ 1) }
-            requires four { IsSeatOf board.now four.now × ((view_of four.now).setup.market.periods ≡ 1) }
+            requires three { IsSeatOf board.now three.now
+                × ((view_of three.now).setup.market.periods ≡ 1) }
+            requires four { IsSeatOf board.now four.now
+                × ((view_of four.now).setup.market.periods ≡ 1) }
         { work_both(rt, alloc, board, three, four, later) },
     );
 }
@@ -160,7 +176,8 @@ fn next_seat(board: &SharedBoard, owner: &mut Seat) -> Result<Seat, Fail>
     requires { IsSeatOf board.now owner.old × IsOwner owner.old }
     ensures owner { IsSameBoard owner.old owner.new × IsOwner owner.new }
     ensures seat { IfOk result (λ s. IsSameBoard owner.old s) }
-    ensures out { IfOk result (λ s. length (view_of owner.new).out ≡ length (view_of owner.old).out + 1) }
+    ensures out { IfOk result (λ s.
+        length (view_of owner.new).out ≡ length (view_of owner.old).out + 1) }
 {
     match board.split(owner) {
         Some(seat) => Ok(seat),
@@ -179,7 +196,8 @@ fn split_and_join<R: Threads + Wait + Sync>(
     requires own { IsSeatOf board.now owner.old × IsOwner owner.old }
     requires periods { (view_of owner.old).setup.market.periods ≡ 1 }
     ensures owner { IsSameBoard owner.old owner.new × IsOwner owner.new }
-    ensures out { IfOk result (λ s. length (view_of owner.new).out ≡ length (view_of owner.old).out) }
+    ensures out { IfOk result (λ s.
+        length (view_of owner.new).out ≡ length (view_of owner.old).out) }
 {
     let mut one = next_seat(board, owner)?;
     let mut two = next_seat(board, owner)?;
