@@ -63,7 +63,7 @@ class Tests:
             return "passed"
         said = run.stdout + run.stderr
         # A crate of tests over others has a module for each.
-        signs = [WANTING, *{OF_CRATE[it] for it in (self.name, test.partition("::")[0]) if it in OF_CRATE}]
+        signs = [WANTING, *{OF_CRATE[it] for it in (self.name, test.partition("::")[0].removesuffix("_tests")) if it in OF_CRATE}]
         if run.returncode > 0 and re.search(b"|".join(signs), said, re.M):
             return "wanting"
         return f"status {run.returncode}: {said[-300:].decode(errors='replace')}"

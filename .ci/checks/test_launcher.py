@@ -186,7 +186,7 @@ class Launcher(unittest.TestCase):
             if what == "library":
                 proved.add(name)
         self.assertEqual(proved, due - {"hull_cli"})
-        self.assertNotIn("whole_tests", due)
+        self.assertFalse({"whole_tests", "part_tests"} & due)
         self.assertLessEqual({"report_read", "report_check", "dealt_run", "task_deal"}, due)
 
     def test_a_build_that_fails_says_where_to_look(self):

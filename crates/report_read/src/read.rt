@@ -101,6 +101,3 @@ pub fn read_report(alloc: Global, bytes: &[u8]) -> Result<Report, ReportError>
         Err(Stop::Memory) => Err(ReportError::Memory),
     }
 }
-
-#[cfg(test)]
-mod tests;

@@ -1,4 +1,5 @@
-use super::*;
+use report_read::{ReportError, read_report};
+use std::alloc::Global;
 use std::string::String;
 use std::test::Fail;
 use uc_model::kinds::Kind;

@@ -1,0 +1,6 @@
+//! Tests of one crate each: a file for each crate that is tested, named after it. They stand above
+//! those crates, which so are proved without tests alone.
+#![tactic(auto)]
+
+#[cfg(test)]
+mod report_read_tests;
