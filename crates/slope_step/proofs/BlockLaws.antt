@@ -1,11 +1,7 @@
 -- The curve's values block by block.
-use Rattle.slope_step.proofs.Common.{◌≡◌, ℕ, zero, suc, ◌+◌, ◌-◌, ◌<◌, ◌≤◌, List, [], ◌∷◌, length, Option, Some, None, refl, sym, ap, ◌∙◌, inl, inr, arith, neg_ℤ, ℤ, pos, ◌+ℤ◌, ◌-ℤ◌, ◌*ℤ◌, ◌≤ℤ◌, ◌<ℤ◌, slice_index_or, option_map, ints, by_lt_z, cases_lt, Block, Curve, IsFrom, rise_at, curve_value, end_of, IsLimitedCurve, IsPlace, IsLine, width_to, IsInBlock, HasCosts, cost_at}
+use Rattle.slope_step.proofs.Common.{◌≡◌, ℕ, zero, suc, ◌+◌, ◌-◌, ◌<◌, ◌≤◌, List, [], ◌∷◌, length, Option, Some, None, refl, sym, ap, ◌∙◌, subst, inl, inr, arith, ℤ, pos, ◌+ℤ◌, ◌-ℤ◌, ◌*ℤ◌, ◌≤ℤ◌, ◌<ℤ◌, option_map, ints, by_lt_z, cases_lt, Block, Curve, rise_at, curve_value, end_of, IsLimitedCurve, IsPlace, IsLine, block, width_to, IsInBlock, IsPrice, HasCosts, Span, cost_at}
 use Rattle.slope_step.proofs.LineLaws.{lt_is, not_lt_is, times_none, times_split, line_step}
 use Rattle.slope_step.proofs.FunctionLaws.{cost_at_is}
-
--- the block at an index
-abbrev pub block : List Block → ℕ → Block
-block bs k = slice_index_or bs k (record { width = pos 0; price = pos 0 })
 
 -- what the first j blocks add
 abbrev pub rise_to : List Block → ℕ → ℤ
@@ -145,12 +141,17 @@ module _ (c : Curve) (w : AreWide c.blocks.items) (j : ℕ) (inside : j < length
             omega (arith, ints);
       }
 
+-- in a block the cost is a line
+pub cost_in : (c : Curve) → IsLimitedCurve c → (a b : ℤ) (span : Span) → a <ℤ b → IsInBlock c a span → b ≤ℤ span.end → IsLine (cost_at c) a b span.price
+cost_in c limited a b span rise i within =
+    let ends = i.ends in
+    subst (λ (z : ℤ). IsLine (cost_at c) a b z) (sym i.price) (cost_line c (wide_of c limited) span.index i.inside a b rise i.begun (omega (arith, ints)))
+
 -- the price of a block at a place of which the curve has costs
-pub price_within : (c : Curve) → IsLimitedCurve c → (a b : ℤ) (j : ℕ) (end : ℤ) → a <ℤ b → IsInBlock c a j end → b ≤ℤ end → HasCosts c a b
-    → IsFrom (neg_ℤ (pos 20000000000000)) (pos 20000000000000) (block c.blocks.items j).price
-price_within c limited a b j end rise in_block within costs =
-    let line = cost_line c (wide_of c limited) j in_block.inside a b rise in_block.begun (omega (arith, ints)) in
-    let step = line_step (cost_at c) a b (block c.blocks.items j).price a line (omega (arith, ints)) rise in
+pub price_within : (c : Curve) → IsLimitedCurve c → (a b : ℤ) (span : Span) → a <ℤ b → IsInBlock c a span → b ≤ℤ span.end → HasCosts c a b → IsPrice span.price
+price_within c limited a b span rise i within costs =
+    let line = cost_in c limited a b span rise i within in
+    let step = line_step (cost_at c) a b span.price a line (omega (arith, ints)) rise in
     let u = costs a (omega (arith, ints)) (omega (arith, ints)) in
     let v = costs (a +ℤ pos 1) (omega (arith, ints)) (omega (arith, ints)) in
     let eu = cost_at_is c a u.0 u.1 in
@@ -182,18 +183,19 @@ on_curve c x v w h = by_lt_z x c.at
     record { from = l; to = omega (arith, ints) })
 
 -- a block that ends within the curve isn't the last
-pub block_more : (c : Curve) (at : ℤ) (j : ℕ) (end x : ℤ) → IsInBlock c at j end → end <ℤ x → IsOnCurve c x → suc j < length c.blocks.items
-block_more c at j end x i l o =
-    elim (cases_lt (suc j) (length c.blocks.items)) [
+pub block_more : (c : Curve) (at : ℤ) (span : Span) (x : ℤ) → IsInBlock c at span → span.end <ℤ x → IsOnCurve c x → suc span.index < length c.blocks.items
+block_more c at span x i l o =
+    elim (cases_lt (suc span.index) (length c.blocks.items)) [
       | inl h ↦ h
-      | inr h ↦ absurd (let e = ap (width_to c.blocks.items) {x = suc j} {y = length c.blocks.items} (omega arith) in omega (arith, ints))
+      | inr h ↦ absurd (let e = ap (width_to c.blocks.items) {x = suc span.index} {y = length c.blocks.items} (omega arith) in omega (arith, ints))
     ]
 
-pub block_next : (c : Curve) (at : ℤ) (j : ℕ) (end end' : ℤ) → IsInBlock c at j end → end ≤ℤ at → suc j < length c.blocks.items → end' ≡ end +ℤ (block c.blocks.items (suc j)).width → IsInBlock c at (suc j) end'
-block_next c at j end end' i passed more is =
+pub block_next : (c : Curve) (at : ℤ) (span : Span) (end price : ℤ) → IsInBlock c at span → span.end ≤ℤ at → suc span.index < length c.blocks.items → end ≡ span.end +ℤ (block c.blocks.items (suc span.index)).width → price ≡ (block c.blocks.items (suc span.index)).price
+    → IsInBlock c at (record { index = suc span.index; end = end; price = price })
+block_next c at span end price i passed more is price_is =
     let ends = i.ends in
-    let next = width_to-next c.blocks.items (suc j) more in
-    record { inside = more; begun = omega (arith, ints); ends = omega (arith, ints) }
+    let next = width_to-next c.blocks.items (suc span.index) more in
+    record { inside = more; begun = omega (arith, ints); ends = omega (arith, ints); price = price_is }
 
 -- where a block ends is a place
 pub block_place : (c : Curve) → IsLimitedCurve c → (j : ℕ) → j ≤ length c.blocks.items → IsPlace (c.at +ℤ width_to c.blocks.items j)
@@ -205,11 +207,7 @@ block_place c limited j h =
     (omega (arith, ints), omega (arith, ints))
 
 -- a later place is past the block's start too
-pub in_block_at : (c : Curve) (at : ℤ) (j : ℕ) (end : ℤ) → IsInBlock c at j end → (at' : ℤ) (j' : ℕ) (end' : ℤ) → at ≤ℤ at' → j' ≡ j → end' ≡ end → IsInBlock c at' j' end'
-in_block_at c at j end i at' j' end' later ej ee =
+pub in_block_at : (c : Curve) (at : ℤ) (span : Span) → IsInBlock c at span → (at' : ℤ) → at ≤ℤ at' → IsInBlock c at' span
+in_block_at c at span i at' later =
     let begun = i.begun in
-    let ends = i.ends in
-    let inside = i.inside in
-    let s : width_to c.blocks.items j' ≡ width_to c.blocks.items j = ap (width_to c.blocks.items) ej in
-    let t : width_to c.blocks.items (suc j') ≡ width_to c.blocks.items (suc j) = ap (λ (k : ℕ). width_to c.blocks.items (suc k)) ej in
-    record { inside = omega arith; begun = omega (arith, ints); ends = omega (arith, ints) }
+    record { inside = i.inside; begun = omega (arith, ints); ends = i.ends; price = i.price }

@@ -1,6 +1,6 @@
 -- A walk over the blocks of a curve.
-use Rattle.slope_step.proofs.Common.{◌≡◌, ℕ, suc, ◌<◌, length, Some, sym, ap, ◌∙◌, arith, ℤ, ◌+ℤ◌, ◌-ℤ◌, ◌*ℤ◌, ◌≤ℤ◌, ◌<ℤ◌, FitsSigned, w64, ints, Curve, curve_value, end_of, IsLimitedCurve, width_to, CanGo, rise_at}
-use Rattle.slope_step.proofs.BlockLaws.{block, rise_to, wide_of, width_to-next, rise_to-next, value_in_block, block_place, end_of-width, rise_at_end, curve_value_is, width_to-positive}
+use Rattle.slope_step.proofs.Common.{◌≡◌, ℕ, suc, ◌<◌, length, Some, sym, ap, ◌∙◌, arith, ℤ, ◌+ℤ◌, ◌-ℤ◌, ◌*ℤ◌, ◌≤ℤ◌, ◌<ℤ◌, FitsSigned, w64, ints, Curve, curve_value, end_of, IsLimitedCurve, width_to, CanGo, rise_at, block}
+use Rattle.slope_step.proofs.BlockLaws.{rise_to, wide_of, width_to-next, rise_to-next, value_in_block, block_place, end_of-width, rise_at_end, curve_value_is, width_to-positive}
 use Rattle.slope_step.proofs.WrapLaws.{coded, IsNear, near_fits, coded_is}
 use Rattle.slope_step.proofs.LineLaws.{times_none}
 

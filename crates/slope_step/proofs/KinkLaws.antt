@@ -74,7 +74,10 @@ pub record IsLeft (s : Step) (at : ℤ) (p q : Piece) : Type 0 where
   pub rise : at <ℤ q.end
   pub within : q.end ≤ℤ p.end
   pub bent : q.end <ℤ p.end → (at <ℤ bend_of s) × (q.end ≡ bend_of s)
-  pub line : (f : ℤ → ℤ) → IsLine f at q.end p.slope → IsLine (λ x. f x +ℤ reserve_term s.reserve_price s.cap s.ramp_up x) at q.end q.slope
+  pub lines : (f : ℤ → ℤ) (a b t : ℤ) → at ≤ℤ a → b ≤ℤ q.end → IsLine f a b t → IsLine (λ x. f x +ℤ reserve_term s.reserve_price s.cap s.ramp_up x) a b (t +ℤ (q.slope -ℤ p.slope))
+
+line_sloped : (f : ℤ → ℤ) (a b t u : ℤ) → u ≡ t → IsLine f a b t → IsLine f a b u
+line_sloped f a b t u e l = subst (λ (z : ℤ). IsLine f a b z) (sym e) l
 
 module _ (s : Step) (fair : IsFairStep s) (at : ℤ) (p q : Piece) (to : at <ℤ p.end) (l : IsLowered s at p q) where
   left_below : pos 0 <ℤ s.reserve_price → at <ℤ bend_of s → IsLeft s at p q
@@ -85,27 +88,27 @@ module _ (s : Step) (fair : IsFairStep s) (at : ℤ) (p q : Piece) (to : at <ℤ
         rise = omega (arith, ints, clamps);
         within = omega (arith, ints, clamps);
         bent = λ h. (below, omega (arith, ints, clamps));
-        line = λ f line. subst (λ (z : ℤ). IsLine (λ x. f x +ℤ reserve_term s.reserve_price s.cap s.ramp_up x) at q.end z) (sym slope)
-            (line_below s.reserve_price s.cap s.ramp_up f at q.end p.slope line (omega (arith, ints, clamps)));
+        lines = λ f a b t from within line. line_sloped _ a b (t -ℤ s.reserve_price) _ (omega (arith, ints))
+            (line_below s.reserve_price s.cap s.ramp_up f a b t line (omega (arith, ints, clamps)));
       }
 
-  left_same : (q.end ≡ p.end) → (q.slope ≡ p.slope) → ((x : ℤ) → at ≤ℤ x → reserve_term s.reserve_price s.cap s.ramp_up x ≡ reserve_term s.reserve_price s.cap s.ramp_up at) → IsLeft s at p q
+  left_same : (q.end ≡ p.end) → (q.slope ≡ p.slope) → ((x a : ℤ) → at ≤ℤ a → a ≤ℤ x → reserve_term s.reserve_price s.cap s.ramp_up x ≡ reserve_term s.reserve_price s.cap s.ramp_up a) → IsLeft s at p q
   left_same end slope same = record {
     rise = omega (arith, ints);
     within = omega (arith, ints);
     bent = λ h. absurd (omega (arith, ints));
-    line = λ f line. subst (λ (z : ℤ). IsLine (λ x. f x +ℤ reserve_term s.reserve_price s.cap s.ramp_up x) at q.end z) (sym slope)
-        (line_level f (reserve_term s.reserve_price s.cap s.ramp_up) at q.end p.slope line (λ x from to. same x from));
+    lines = λ f a b t from within line. line_sloped _ a b t _ (omega (arith, ints))
+        (line_level f (reserve_term s.reserve_price s.cap s.ramp_up) a b t line (λ x low high. same x a from low));
   }
 
   pub left : IsLeft s at p q
   left = by_lt_z (pos 0) s.reserve_price
       (λ (paid : pos 0 <ℤ s.reserve_price). by_lt_z at (bend_of s)
       (λ (below : at <ℤ bend_of s). left_below paid below)
-      (λ (above : bend_of s ≤ℤ at). let r = l.above above in left_same r.0 r.1 (λ x from. term_above s.reserve_price s.cap s.ramp_up x at above from)))
+      (λ (above : bend_of s ≤ℤ at). let r = l.above above in left_same r.0 r.1 (λ x a low high. term_above s.reserve_price s.cap s.ramp_up x a (omega (arith, ints)) high)))
       (λ (free : s.reserve_price ≤ℤ pos 0).
       let r = l.free free in
-      left_same r.0 r.1 (λ x from. term_free s.reserve_price s.cap s.ramp_up x at (omega (arith, ints))))
+      left_same r.0 r.1 (λ x a low high. term_free s.reserve_price s.cap s.ramp_up x a (omega (arith, ints))))
 
   pub left_steep : IsGentle p.slope → IsSteep q.slope
   left_steep g =
@@ -121,7 +124,22 @@ pub part_line : (ps : List Piece) (s : Step) (place : Place) (q : Piece) → pla
 part_line ps s place q next l start slopes placed =
     let k = place.next in
     let whole = along_line start.first start.level ps slopes k next in
-    l.line (function_of start ps) (line_part (function_of start ps) (end_at start.first ps k) (end_at start.first ps (suc k)) (piece ps k).slope place.at q.end whole placed.from l.rise l.within)
+    line_sloped (kinked start ps s) place.at q.end _ q.slope (omega (arith, ints)) (l.lines (function_of start ps) place.at q.end (piece ps k).slope (omega (arith, ints)) (omega (arith, ints))
+    (line_part (function_of start ps) (end_at start.first ps k) (end_at start.first ps (suc k)) (piece ps k).slope place.at q.end whole placed.from l.rise l.within))
+
+-- the place where a piece ends
+pub placed_after : (first : ℤ) (ps : List Piece) (k : ℕ) (place : Place) → AreSlopes first ps → k < length ps → place.at ≡ (piece ps k).end → place.next ≡ suc k → IsPlaced first ps place
+placed_after first ps k place slopes inside at e =
+    let start : end_at first ps place.next ≡ end_at first ps (suc k) = ap (end_at first ps) {x = place.next} {y = suc k} e in
+    record {
+      some = omega arith;
+      from = omega (arith, ints);
+      to = λ i.
+          let r = slopes.rise (suc k) (omega arith) in
+          let stop : end_at first ps (suc place.next) ≡ end_at first ps (suc (suc k)) = ap (λ (j : ℕ). end_at first ps (suc j)) {x = place.next} {y = suc k} e in
+          omega (arith, ints);
+      last = λ i. let f : last_place first ps ≡ end_at first ps place.next = ap (end_at first ps) {x = length ps} {y = place.next} (omega arith) in omega (arith, ints);
+    }
 
 module _ (ps : List Piece) (s : Step) (place place' : Place) (q : Piece) (next : place.next < length ps)
     (l : IsLeft s place.at (piece ps place.next) q) (at : place'.at ≡ q.end)
@@ -136,17 +154,8 @@ module _ (ps : List Piece) (s : Step) (place place' : Place) (q : Piece) (next :
       let stop : end_at first ps (suc place'.next) ≡ end_at first ps (suc place.next) = ap (λ (k : ℕ). end_at first ps (suc k)) e in
       record { some = omega arith; from = omega (arith, ints); to = λ i. omega (arith, ints); last = λ i. absurd (omega arith) })
       (λ (h : (piece ps place.next).end ≤ℤ q.end).
-      let e = past h in
-      let start : end_at first ps place'.next ≡ end_at first ps (suc place.next) = ap (end_at first ps) {x = place'.next} {y = suc place.next} e in
-      record {
-        some = omega arith;
-        from = omega (arith, ints);
-        to = λ i.
-            let r = slopes.rise (suc place.next) (omega arith) in
-            let stop : end_at first ps (suc place'.next) ≡ end_at first ps (suc (suc place.next)) = ap (λ (k : ℕ). end_at first ps (suc k)) {x = place'.next} {y = suc place.next} e in
-            omega (arith, ints);
-        last = λ i. let f : last_place first ps ≡ end_at first ps place'.next = ap (end_at first ps) {x = length ps} {y = place'.next} (omega arith) in omega (arith, ints);
-      })
+      let ends = l.within in
+      placed_after first ps place.next place' slopes next (omega (arith, ints)) (past h))
 
   pub part_fewer : parts_from ps s place' + 1 ≤ parts_from ps s place
   part_fewer =

@@ -12,8 +12,10 @@ pub mod ValleyLaws
 pub mod BlockLaws
 -- the kink: the parts of the function less the worth of the reserve
 pub mod KinkLaws
--- the window's parts, and how many are left
+-- lines that move with the window, and how many runs are left
 pub mod WindowLaws
+-- the runs of a window
+pub mod RunLaws
 -- pieces that are written one after another
 pub mod DrawLaws
 -- the parts of a step together

@@ -1,80 +1,75 @@
 -- The parts of the window: the nearest place in reach goes along with each.
-use Rattle.slope_step.proofs.Common.{◌≡◌, ℕ, ◌+◌, ◌<◌, ◌≤◌, List, length, refl, sym, ap, ◌∙◌, arith, ℤ, pos, ◌+ℤ◌, ◌-ℤ◌, ◌*ℤ◌, ◌≤ℤ◌, ◌<ℤ◌, int_lt, if◌then◌else◌, negsuc, unsigned_abs, int_min, ints, clamps, by_lt_z, zero-*ℤ, Step, Piece, Place, IsLine, bend_of, parts_from, IsValley, nearest, moved_parts, IsFlat}
-use Rattle.slope_step.proofs.LineLaws.{lt_is, not_lt_is, line_step, line_moved, line_same, line_flat}
+use Rattle.slope_step.proofs.Common.{◌≡◌, ◌+◌, ◌<◌, ◌≤◌, refl, sym, ap, ◌∙◌, arith, ℤ, pos, ◌+ℤ◌, ◌-ℤ◌, ◌*ℤ◌, ◌≤ℤ◌, ◌<ℤ◌, negsuc, unsigned_abs, ints, clamps, by_lt_z, zero-*ℤ, Step, IsLine, bend_of, nearest, one_before, runs_from, IsFlat}
+use Rattle.slope_step.proofs.LineLaws.{lt_is, not_lt_is, line_moved, line_same, line_flat}
 
--- a part of the window from x to x'
-pub record IsPart (k : ℤ → ℤ) (up down m x x' y' slope : ℤ) : Type 0 where
-  pub line : IsLine (λ z. k (nearest up down m z)) x x' slope
-  pub near : y' ≡ nearest up down m x'
+-- ---- lines that move
 
-module _ (k : ℤ → ℤ) (a b m : ℤ) (v : IsValley k a b m) (up down : ℤ) (is_up : pos 0 ≤ℤ up) (is_down : pos 0 ≤ℤ down) (x y : ℤ) (near : y ≡ nearest up down m x) where
-  -- a part that falls ends at m at the latest
-  falls_before : (e s : ℤ) → a ≤ℤ y → y <ℤ m → e ≤ℤ b → IsLine k y e s → e ≤ℤ m
-  falls_before e s low below high line =
-      by_lt_z m e
-      (λ (past : m <ℤ e).
-      let rise = line.rise in
-      let first = line_step k y e s y line (omega (arith, ints)) rise in
-      let down = v.falls y low below in
-      let there = line_step k y e s m line (omega (arith, ints)) past in
-      let up = v.rises m (omega (arith, ints)) (omega (arith, ints)) in
-      absurd (omega (arith, ints)))
-      (λ (h : e ≤ℤ m). h)
+module _ (k : ℤ → ℤ) (m up down : ℤ) (is_up : pos 0 ≤ℤ up) (is_down : pos 0 ≤ℤ down) (a b t a' b' : ℤ) (line : IsLine k a b t) where
+  pub line_falling : b ≤ℤ m → a' +ℤ down ≡ a → b' +ℤ down ≡ b → IsLine (λ z. k (nearest up down m z)) a' b' t
+  line_falling high ea eb = line_same (λ z. k (z +ℤ down)) (λ z. k (nearest up down m z)) a' b' t (line_moved k a b t down a' b' line ea eb)
+      (λ z from to. ap k {x = nearest up down m z} {y = z +ℤ down} (omega (arith, ints, clamps)))
 
-  pub part_falling : (e s x' : ℤ) → a ≤ℤ y → y <ℤ m → e ≤ℤ b → IsLine k y e s → x' ≡ e -ℤ down → IsPart k up down m x x' e s
-  part_falling e s x' low below high line is =
-      let last = falls_before e s low below high line in
-      let at : x +ℤ down ≡ y = omega (arith, ints, clamps) in
-      record {
-        line = line_same (λ z. k (z +ℤ down)) (λ z. k (nearest up down m z)) x x' s
-            (line_moved k y e s down x x' line at (omega (arith, ints)))
-            (λ z from to. ap k {x = nearest up down m z} {y = z +ℤ down} (omega (arith, ints, clamps)));
-        near = omega (arith, ints, clamps);
-      }
+  pub line_rising : m ≤ℤ a → a' ≡ a +ℤ up → b' ≡ b +ℤ up → IsLine (λ z. k (nearest up down m z)) a' b' t
+  line_rising low ea eb = line_same (λ z. k (z +ℤ (pos 0 -ℤ up))) (λ z. k (nearest up down m z)) a' b' t (line_moved k a b t (pos 0 -ℤ up) a' b' line (omega (arith, ints)) (omega (arith, ints)))
+      (λ z from to. ap k {x = nearest up down m z} {y = z +ℤ (pos 0 -ℤ up)} (omega (arith, ints, clamps)))
 
-  pub part_flat : (e x' : ℤ) → y ≡ m → x <ℤ (y +ℤ up) → IsFlat k y e → x' ≡ e +ℤ up → IsPart k up down m x x' e (pos 0)
-  part_flat e x' turn short flat is =
-      let same : (z : ℤ) → x ≤ℤ z → z ≤ℤ x' → k (nearest up down m z) ≡ k y = λ z from to. flat.same (nearest up down m z) (omega (arith, ints, clamps)) (omega (arith, ints, clamps)) in
-      record {
-        line = line_flat (λ z. k (nearest up down m z)) x x' (omega (arith, ints)) (λ z from to. same z from to ∙ sym (same x (omega (arith, ints)) (omega (arith, ints))));
-        near = omega (arith, ints, clamps);
-      }
+-- the places that the least place is the nearest one to, and those up to e where the function is flat
+pub line_level_to : (k : ℤ → ℤ) (m up down x y e x' : ℤ) → pos 0 ≤ℤ up → pos 0 ≤ℤ down → y ≡ nearest up down m x → y ≡ m → IsFlat k y e → x <ℤ x' → x' ≤ℤ (e +ℤ up) → IsLine (λ z. k (nearest up down m z)) x x' (pos 0)
+line_level_to k m up down x y e x' is_up is_down near turn flat rise to =
+    let long = flat.from in
+    let same : (z : ℤ) → x ≤ℤ z → z ≤ℤ x' → k (nearest up down m z) ≡ k y = λ z from upto. flat.same (nearest up down m z) (omega (arith, ints, clamps)) (omega (arith, ints, clamps)) in
+    line_flat (λ z. k (nearest up down m z)) x x' rise (λ z from upto. same z from upto ∙ sym (same x (omega (arith, ints)) (omega (arith, ints))))
 
-  pub part_rising : (e s x' : ℤ) → m ≤ℤ y → (y +ℤ up) ≤ℤ x → IsLine k y e s → x' ≡ e +ℤ up → IsPart k up down m x x' e s
-  part_rising e s x' above long line is =
-      let at : x ≡ y +ℤ up = omega (arith, ints, clamps) in
-      record {
-        line = line_same (λ z. k (z +ℤ (pos 0 -ℤ up))) (λ z. k (nearest up down m z)) x x' s
-            (line_moved k y e s (pos 0 -ℤ up) x x' line (omega (arith, ints)) (omega (arith, ints)))
-            (λ z from to. ap k {x = nearest up down m z} {y = z +ℤ (pos 0 -ℤ up)} (omega (arith, ints, clamps)));
-        near = omega (arith, ints, clamps);
-      }
+-- ---- how many runs are left
 
--- ---- how many parts are left
+pub none_from : (m x : ℤ) → m ≤ℤ x → one_before m x ≡ 0
+none_from m x h = rw (not_lt_is x m h) refl
 
-module _ (ps : List Piece) (s : Step) (place place' : Place) (x x' : ℤ) where
-  fewer_same : (a b : ℕ) → a + 1 ≤ b → (int_lt x' (place'.at +ℤ s.ramp_up)) ≡ (int_lt x (place.at +ℤ s.ramp_up)) → (a + (if int_lt x' (place'.at +ℤ s.ramp_up) then 1 else 0)) + 1 ≤ b + (if int_lt x (place.at +ℤ s.ramp_up) then 1 else 0)
-  fewer_same a b h e = rw e (omega arith)
+pub one_to : (m x : ℤ) → x <ℤ m → one_before m x ≡ 1
+one_to m x h = rw (lt_is x m h) refl
 
-  -- both are before the flat part, or both after it
-  pub fewer_along : (d : ℤ) → x ≡ place.at +ℤ d → x' ≡ place'.at +ℤ d → parts_from ps s place' + 1 ≤ parts_from ps s place → moved_parts ps s place' x' + 1 ≤ moved_parts ps s place x
-  fewer_along d e e' h =
-      by_lt_z d s.ramp_up
-      (λ (l : d <ℤ s.ramp_up).
-      let p = lt_is x (place.at +ℤ s.ramp_up) (omega (arith, ints)) in
-      let q = lt_is x' (place'.at +ℤ s.ramp_up) (omega (arith, ints)) in
-      fewer_same (parts_from ps s place') (parts_from ps s place) h (q ∙ sym p))
-      (λ (l : s.ramp_up ≤ℤ d).
-      let p = not_lt_is x (place.at +ℤ s.ramp_up) (omega (arith, ints)) in
-      let q = not_lt_is x' (place'.at +ℤ s.ramp_up) (omega (arith, ints)) in
-      fewer_same (parts_from ps s place') (parts_from ps s place) h (q ∙ sym p))
+pub one_at_most : (m x : ℤ) → one_before m x ≤ 1
+one_at_most m x = by_lt_z x m (λ (l : x <ℤ m). let e = one_to m x l in omega arith) (λ (l : m ≤ℤ x). let e = none_from m x l in omega arith)
 
-  -- or the flat part is passed
-  pub fewer_flat : x <ℤ (place.at +ℤ s.ramp_up) → x' ≡ place'.at +ℤ s.ramp_up → parts_from ps s place' ≤ parts_from ps s place → moved_parts ps s place' x' + 1 ≤ moved_parts ps s place x
-  fewer_flat short e h =
-      let p = lt_is x (place.at +ℤ s.ramp_up) short in
-      let q = not_lt_is x' (place'.at +ℤ s.ramp_up) (omega (arith, ints)) in
-      rw (p, q) (omega arith)
+pub no_more : (m m' x y : ℤ) → (x <ℤ m → y <ℤ m') → one_before m x ≤ one_before m' y
+no_more m m' x y h = by_lt_z x m
+    (λ (l : x <ℤ m). let e = one_to m x l in let f = one_to m' y (h l) in omega arith)
+    (λ (l : m ≤ℤ x). let e = none_from m x l in omega arith)
+
+pub runs_most : (s : Step) (m y x : ℤ) → runs_from s m y x ≤ 3
+runs_most s m y x =
+    let a = one_at_most (bend_of s) y in
+    let b = one_at_most m y in
+    let c = one_at_most (y +ℤ s.ramp_up) x in
+    omega arith
+
+module _ (s : Step) (m y x y' x' : ℤ) (later : y ≤ℤ y') where
+  -- the flat part is passed
+  pub fewer_flat : x <ℤ (y +ℤ s.ramp_up) → x' ≡ y' +ℤ s.ramp_up → runs_from s m y' x' + 1 ≤ runs_from s m y x
+  fewer_flat short past =
+      let a = no_more (bend_of s) (bend_of s) y' y (λ h. omega (arith, ints)) in
+      let b = no_more m m y' y (λ h. omega (arith, ints)) in
+      let c = none_from (y' +ℤ s.ramp_up) x' (omega (arith, ints)) in
+      let d = one_to (y +ℤ s.ramp_up) x short in
+      omega arith
+
+  -- or the bend, or the turn
+  module _ (d : ℤ) (from : x ≡ y +ℤ d) (to : x' ≡ y' +ℤ d) where
+    pub fewer_bend : y <ℤ bend_of s → y' ≡ bend_of s → runs_from s m y' x' + 1 ≤ runs_from s m y x
+    fewer_bend before at =
+        let a = none_from (bend_of s) y' (omega (arith, ints)) in
+        let b = one_to (bend_of s) y before in
+        let c = no_more m m y' y (λ h. omega (arith, ints)) in
+        let e = no_more (y' +ℤ s.ramp_up) (y +ℤ s.ramp_up) x' x (λ h. omega (arith, ints)) in
+        omega arith
+
+    pub fewer_turn : y <ℤ m → y' ≡ m → runs_from s m y' x' + 1 ≤ runs_from s m y x
+    fewer_turn before at =
+        let a = none_from m y' (omega (arith, ints)) in
+        let b = one_to m y before in
+        let c = no_more (bend_of s) (bend_of s) y' y (λ h. omega (arith, ints)) in
+        let e = no_more (y' +ℤ s.ramp_up) (y +ℤ s.ramp_up) x' x (λ h. omega (arith, ints)) in
+        omega arith
 
 -- ---- flat parts
 
@@ -92,15 +87,6 @@ pub flat_here : (f : ℤ → ℤ) (a : ℤ) → IsFlat f a a
 flat_here f a = record { from = omega (arith, ints); same = λ x low high. ap f (omega (arith, ints)) }
 
 -- ---- bounds
-
-one_at_most : (b : ℤ) (c : ℤ) → (if int_lt b c then 1 else 0) ≤ 1
-one_at_most b c = by_lt_z b c (λ (l : b <ℤ c). rw (lt_is b c l) (omega arith)) (λ (l : c ≤ℤ b). rw (not_lt_is b c l) (omega arith))
-
-pub moved_parts_most : (ps : List Piece) (s : Step) (place : Place) (x : ℤ) → moved_parts ps s place x ≤ length ps + 2
-moved_parts_most ps s place x =
-    let a = one_at_most place.at (bend_of s) in
-    let b = one_at_most x (place.at +ℤ s.ramp_up) in
-    omega arith
 
 abs_of : (z : ℤ) → pos 0 ≤ℤ z → pos (unsigned_abs z) ≡ z
 abs_of (pos n) h = refl
@@ -125,33 +111,8 @@ module _ (up down m x y : ℤ) (is_up : pos 0 ≤ℤ up) (is_down : pos 0 ≤ℤ
   pub rising_at : (y +ℤ up) ≤ℤ x → x ≡ y +ℤ up
   rising_at h = omega (arith, ints, clamps)
 
-pub shifted_down : (x e down : ℤ) → x ≡ e -ℤ down → x ≡ e +ℤ (pos 0 -ℤ down)
-shifted_down x e down h = omega (arith, ints)
-
-pub before_last : (y m b : ℤ) → y <ℤ m → m ≤ℤ b → y <ℤ b
-before_last y m b h l = omega (arith, ints)
-
-pub before_end : (x y up b hi : ℤ) → (y +ℤ up) ≤ℤ x → x <ℤ hi → hi ≤ℤ (b +ℤ up) → y <ℤ b
-before_end x y up b hi l h k = omega (arith, ints)
-
-pub shifted_by : (x e y d : ℤ) → y ≡ e → x ≡ e +ℤ d → x ≡ y +ℤ d
-shifted_by x e y d h i = omega (arith, ints)
-
--- a place that is clipped
-pub record IsClipped (x e h n : ℤ) : Type 0 where
-  pub up : x <ℤ n
-  pub within : n ≤ℤ e
-  pub high : n ≤ℤ h
-  pub same : n <ℤ h → n ≡ e
-
-pub clipped : (x e h n : ℤ) → x <ℤ e → x <ℤ h → n ≡ int_min e h → IsClipped x e h n
-clipped x e h n a b is = record { up = omega (arith, ints, clamps); within = omega (arith, ints, clamps); high = omega (arith, ints, clamps); same = λ l. omega (arith, ints, clamps) }
-
 pub same_le : (x : ℤ) → x ≤ℤ x
 same_le x = omega (arith, ints)
-
-pub le_same : (x y : ℤ) → x ≡ y → x ≤ℤ y
-le_same x y h = omega (arith, ints)
 
 pub le_lt : (x y z : ℤ) → x ≤ℤ y → y <ℤ z → x ≤ℤ z
 le_lt x y z h l = omega (arith, ints)

@@ -3,6 +3,7 @@ pub mod Kink
 pub mod Window
 pub mod Blocks
 pub mod Drawn
+pub mod Way
 pub mod Totals
 pub mod Turn
 pub mod Laws

@@ -6,9 +6,8 @@ use Rattle.shape_law.specs.declared.step.Step.{Step}
 use Rattle.shape_law.specs.Steps.{IsFairStep}
 use Rattle.slope_step.specs.declared.piece.Piece.{Piece}
 use Rattle.slope_step.specs.declared.piece.Start.{Start}
-use Rattle.slope_step.specs.declared.kink.Place.{Place}
 use Rattle.slope_step.specs.Pieces.{last_place, AreSlopes}
-use Rattle.slope_step.specs.Kink.{kinked, parts_from, AreSmall, AreGentle, IsValley}
+use Rattle.slope_step.specs.Kink.{kinked, bend_of, AreSmall, AreGentle, IsValley}
 
 -- the place in reach of x that is nearest to m
 abbrev pub nearest : ℤ → ℤ → ℤ → ℤ → ℤ
@@ -27,10 +26,14 @@ pub record IsWindow (ps : List Piece) (start : Start) (s : Step) (m hi : ℤ) : 
   pub valley : IsValley (kinked start ps s) start.first (last_place start.first ps) m
   pub high : hi ≤ℤ (last_place start.first ps +ℤ s.ramp_up)
 
--- how many parts of the window there are at most from x on, where the place is the one nearest to m
-abbrev pub moved_parts : List Piece → Step → Place → ℤ → ℕ
-moved_parts ps s place x =
-    parts_from ps s place + (if int_lt x (place.at +ℤ s.ramp_up) then 1 else 0)
+-- one up to a place, and none from there on
+abbrev pub one_before : ℤ → ℤ → ℕ
+one_before m x = if int_lt x m then 1 else 0
+
+-- how many runs and flat parts there are at most from x on, but for the last run, where y is the
+-- place in reach of x that is nearest to m
+abbrev pub runs_from : Step → ℤ → ℤ → ℤ → ℕ
+runs_from s m y x = one_before (bend_of s) y + one_before m y + one_before (y +ℤ s.ramp_up) x
 
 -- f is the same from a to b
 pub record IsFlat (f : ℤ → ℤ) (a b : ℤ) : Type 0 where

@@ -6,12 +6,19 @@ ghost use Rattle.slope_step.specs.Blocks.{IsInBlock};
 use crate::piece::{Piece, along};
 use uc_model::units::Curve;
 
-/// The value at a place of the curve, the block that goes on there, and where that block ends.
+/// A block of the curve: its index, where it ends, and its price.
+#[derive(Clone, Copy)]
+pub(crate) struct Span {
+    pub index: usize,
+    pub end: i64,
+    pub price: i64,
+}
+
+/// The value at a place of the curve, and the block that goes on there.
 #[derive(Clone, Copy)]
 pub(crate) struct Found {
     pub value: i64,
-    pub block: usize,
-    pub end: i64,
+    pub span: Span,
 }
 
 /// Finds a place of the curve.
@@ -20,9 +27,9 @@ pub(crate) fn find(curve: &Curve, at: i64) -> Found
     requires from { curve.now.at ≤ℤ at }
     requires to { at ≤ℤ end_of curve.now.at curve.now.blocks.items }
     ensures value { curve_value curve.now at ≡ Some result.value }
-    ensures blocks { result.block ≤ length curve.now.blocks.items }
+    ensures blocks { result.span.index ≤ length curve.now.blocks.items }
     ensures block { at <ℤ end_of curve.now.at curve.now.blocks.items
-        → IsInBlock curve.now at result.block result.end }
+        → IsInBlock curve.now at result.span }
 {
     let mut from = curve.at;
     let mut value = curve.value;
@@ -34,8 +41,11 @@ pub(crate) fn find(curve: &Curve, at: i64) -> Found
         if at < piece.end {
             return Found {
                 value: along(value, piece, from, at),
-                block: index,
-                end: piece.end,
+                span: Span {
+                    index,
+                    end: piece.end,
+                    price: block.price,
+                },
             };
         }
         value = along(value, piece, from, piece.end);
@@ -43,7 +53,10 @@ pub(crate) fn find(curve: &Curve, at: i64) -> Found
     }
     Found {
         value,
-        block: 0,
-        end: from,
+        span: Span {
+            index: 0,
+            end: from,
+            price: 0,
+        },
     }
 }

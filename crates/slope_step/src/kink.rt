@@ -6,7 +6,7 @@ ghost use Rattle.slope_step.specs.Pieces.{piece, last_place, function_of, AreSlo
 ghost use Rattle.slope_step.specs.Kink.{kinked, bend_of, parts_from, IsPlaced, IsLowered};
 ghost use Rattle.slope_step.specs.Kink.{AreWithin, IsGentle, AreGentle, IsSteep, IsValley};
 
-use crate::piece::{Piece, Start, along};
+use crate::piece::{Piece, Start, along, end_at};
 use shape_law::step::Step;
 
 /// A place of the function, and the index of the piece that goes on there.
@@ -37,7 +37,7 @@ fn bend_for(step: Step) -> i64
 }
 
 /// What is left of a piece from a place on, after the worth of the reserve is taken off.
-fn lowered(piece: Piece, place: Place, step: Step) -> Piece
+pub(crate) fn lowered(piece: Piece, place: Place, step: Step) -> Piece
     requires fair { IsFairStep step }
     requires gentle { IsGentle piece.slope }
     ensures { IsLowered step place.at piece result }
@@ -64,6 +64,7 @@ pub(crate) fn part_at(pieces: &[Piece], place: Place, step: Step) -> Part
     ensures placed { (first : ℤ) → AreSlopes first pieces.now → IsPlaced first pieces.now place
         → IsPlaced first pieces.now result.then }
     ensures then { result.then.at ≡ result.end }
+    ensures later { place.next ≤ result.then.next }
     ensures fewer { parts_from pieces.now step result.then + 1 ≤ parts_from pieces.now step place }
     ensures steep { IsSteep result.slope }
 {
@@ -91,16 +92,13 @@ pub(crate) fn fall(pieces: &[Piece], start: Start) -> Place
     ensures valley { IsValley (function_of start pieces.now) start.first
         (last_place start.first pieces.now) result.at }
 {
-    let mut at = start.first;
-    for (next, piece) in pieces.iter().enumerate() {
-        if piece.slope >= 0 {
-            return Place { at, next };
-        }
-        at = piece.end;
+    let mut next = 0;
+    while next < pieces.len() && pieces[next].slope < 0 {
+        next += 1;
     }
     Place {
-        at,
-        next: pieces.len(),
+        at: end_at(pieces, start.first, next),
+        next,
     }
 }
 

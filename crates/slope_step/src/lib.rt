@@ -11,5 +11,7 @@ mod kink;
 pub mod laws;
 pub mod piece;
 pub mod read;
+mod run;
 pub mod step;
+mod way;
 mod window;

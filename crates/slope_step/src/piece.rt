@@ -1,5 +1,6 @@
 //! Pieces of one slope.
-ghost use Rattle.std.specs.Prelude.{◌≡◌, ◌+ℤ◌, ◌-ℤ◌, ◌*ℤ◌};
+ghost use Rattle.std.specs.Prelude.{◌≡◌, ◌≤◌, ◌+ℤ◌, ◌-ℤ◌, ◌*ℤ◌, length};
+ghost use Rattle.slope_step.specs.Pieces.{end_at};
 ghost use Rattle.slope_step.specs.Totals.{CanGo};
 
 /// A part of one slope: it begins where the piece before it ends, or at the first place.
@@ -26,4 +27,16 @@ pub(crate) fn along(level: i64, piece: Piece, from: i64, to: i64) -> i64
     ensures { result ≡ level +ℤ piece.slope *ℤ (to -ℤ from) }
 {
     level + piece.slope * (to - from)
+}
+
+/// Where as many of the first pieces end.
+pub(crate) fn end_at(pieces: &[Piece], first: i64, count: usize) -> i64
+    requires { count ≤ length pieces.now }
+    ensures { result ≡ end_at first pieces.now count }
+{
+    if count == 0 {
+        first
+    } else {
+        pieces[count - 1].end
+    }
 }

@@ -8,7 +8,7 @@ ghost use Rattle.slope_step.specs.Pieces.{last_place, function_of, table_of, Are
 ghost use Rattle.slope_step.specs.Kink.{AreWithin};
 
 use crate::kink::{fall, seek};
-use crate::piece::{Piece, Start, along};
+use crate::piece::{Piece, Start, along, end_at};
 
 /// A place and the value there.
 #[derive(Clone, Copy)]
@@ -21,11 +21,7 @@ pub struct Spot {
 pub fn last_place(pieces: &[Piece], first: i64) -> i64
     ensures { result ≡ last_place first pieces.now }
 {
-    if pieces.is_empty() {
-        first
-    } else {
-        pieces[pieces.len() - 1].end
-    }
+    end_at(pieces, first, pieces.len())
 }
 
 /// Whether a value with the shift is above a limit.

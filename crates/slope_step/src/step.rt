@@ -12,10 +12,11 @@ ghost use Rattle.slope_step.specs.Drawn.{stepped, table_after, ArePiecesAfter, A
 ghost use Rattle.slope_step.specs.Turn.{IsTurn};
 
 use crate::blocks::find;
-use crate::draw::{Pen, draw};
+use crate::draw::Pen;
 use crate::kink::{Place, seek, turn};
 use crate::piece::{Piece, Start};
 use crate::read::last_place;
+use crate::way::draw;
 use crate::window::Window;
 use shape_law::laws::{convexity_is_of_places, steps_keep_convexity};
 use shape_law::step::Step;
@@ -74,9 +75,9 @@ pub(crate) fn open(window: &Window<'_>, curve: &Curve, low: i64) -> Opening
         window.now.turn low }
     ensures placed { IsPlaced window.now.start.first window.now.pieces.now result.place }
     ensures pen { (result.pen.at ≡ low) × (result.pen.used ≡ 0)
-        × (result.pen.block ≤ length curve.now.blocks.items) }
+        × (result.pen.span.index ≤ length curve.now.blocks.items) }
     ensures block { low <ℤ window.now.high
-        → IsInBlock curve.now low result.pen.block result.pen.block_end }
+        → IsInBlock curve.now low result.pen.span }
     ensures level { result.level ≡ stepped window.now.start window.now.pieces.now window.now.step
         window.now.turn curve.now low }
 {
@@ -92,8 +93,7 @@ pub(crate) fn open(window: &Window<'_>, curve: &Curve, low: i64) -> Opening
         pen: Pen {
             at: low,
             used: 0,
-            block: found.block,
-            block_end: found.end,
+            span: found.span,
         },
         level: level_of(step, reached.value, near, low, found.value),
     }

@@ -1,10 +1,9 @@
-//! The least value in reach of the ramps, part by part.
-ghost use Rattle.std.specs.Prelude.{◌≡◌, ◌+◌, ◌≤◌, ◌+ℤ◌, ◌≤ℤ◌, ◌<ℤ◌};
-ghost use Rattle.slope_step.specs.Pieces.{IsLine};
-ghost use Rattle.slope_step.specs.Kink.{kinked, parts_from, IsPlaced, IsSteep};
-ghost use Rattle.slope_step.specs.Window.{nearest, moved, moved_parts, IsWindow, IsFlat};
+//! The least value in reach of the ramps, run by run.
+ghost use Rattle.std.specs.Prelude.{◌≡◌, ◌≤◌, ◌+ℤ◌, ◌≤ℤ◌, ◌<ℤ◌, IsTrue, IsFalse};
+ghost use Rattle.slope_step.specs.Kink.{kinked, IsPlaced};
+ghost use Rattle.slope_step.specs.Window.{IsWindow, IsFlat};
 
-use crate::kink::{Part, Place, part_at};
+use crate::kink::{Place, part_at};
 use crate::piece::{Piece, Start};
 use shape_law::step::Step;
 
@@ -22,14 +21,13 @@ pub(crate) struct Window<'a> {
 }
 
 /// The last place of the least value, as far as one piece goes.
-fn past_flat(window: &Window<'_>, place: Place) -> Place
+pub(crate) fn past_flat(window: &Window<'_>, place: Place) -> Place
     requires placed { IsPlaced window.now.start.first window.now.pieces.now place }
     requires turn { place.at ≡ window.now.turn }
     ensures flat { IsFlat (kinked window.now.start window.now.pieces.now window.now.step) place.at
         result.at }
     ensures placed { IsPlaced window.now.start.first window.now.pieces.now result }
-    ensures fewer { parts_from window.now.pieces.now window.now.step result
-        ≤ parts_from window.now.pieces.now window.now.step place }
+    ensures next { place.next ≤ result.next }
 {
     if place.next < window.pieces.len() {
         let part = part_at(window.pieces, place, window.step);
@@ -40,43 +38,13 @@ fn past_flat(window: &Window<'_>, place: Place) -> Place
     place
 }
 
-/// The part from a place on, which the nearest place in reach stands for.
-pub(crate) fn next_part(window: &Window<'_>, place: Place, at: i64) -> Part
+/// Whether a place, which is the nearest one in reach, stands for a flat part.
+pub(crate) fn is_flat(window: &Window<'_>, place: Place, at: i64) -> bool
     requires placed { IsPlaced window.now.start.first window.now.pieces.now place }
-    requires near { place.at ≡ nearest window.now.step.ramp_up window.now.step.ramp_down
-        window.now.turn at }
-    requires low { window.now.start.first ≤ℤ (at +ℤ window.now.step.ramp_down) }
-    requires high { at <ℤ window.now.high }
-    ensures line { IsLine (moved window.now.start window.now.pieces.now window.now.step
-        window.now.turn) at result.end result.slope }
-    ensures placed { IsPlaced window.now.start.first window.now.pieces.now result.then }
-    ensures near { result.then.at ≡ nearest window.now.step.ramp_up window.now.step.ramp_down
-        window.now.turn result.end }
-    ensures fewer { moved_parts window.now.pieces.now window.now.step result.then result.end + 1
-        ≤ moved_parts window.now.pieces.now window.now.step place at }
-    ensures steep { IsSteep result.slope }
+    ensures flat { IsTrue result → (window.now.turn ≤ℤ place.at)
+        × (at <ℤ (place.at +ℤ window.now.step.ramp_up)) }
+    ensures not_flat { IsFalse result → window.now.turn ≤ℤ place.at
+        → (place.at +ℤ window.now.step.ramp_up) ≤ℤ at }
 {
-    let step = window.step;
-    if place.at < window.turn {
-        let part = part_at(window.pieces, place, step);
-        return Part {
-            end: part.end - step.ramp_down,
-            slope: part.slope,
-            then: part.then,
-        };
-    }
-    if at < place.at + step.ramp_up {
-        let then = past_flat(window, place);
-        return Part {
-            end: then.at + step.ramp_up,
-            slope: 0,
-            then,
-        };
-    }
-    let part = part_at(window.pieces, place, step);
-    Part {
-        end: part.end + step.ramp_up,
-        slope: part.slope,
-        then: part.then,
-    }
+    window.turn <= place.at && at < place.at + window.step.ramp_up
 }

@@ -1,5 +1,5 @@
-use Rattle.slope_step.proofs.Common.{◌≡◌, ℕ, suc, ◌+◌, ◌<◌, List, length, Some, sym, ap, ◌∙◌, arith, rules, to_z, FitsSigned, ◌+ℤ◌, ◌-ℤ◌, ◌*ℤ◌, ◌≤ℤ◌, w64, ints, to_z-of_z, Block, width_to}
-use Rattle.slope_step.proofs.Lemmas.{block, rise_to, same_le, coded, test_true, test_false}
+use Rattle.slope_step.proofs.Common.{◌≡◌, ℕ, suc, ◌+◌, ◌<◌, List, length, Some, sym, ap, ◌∙◌, arith, rules, to_z, FitsSigned, ◌+ℤ◌, ◌-ℤ◌, ◌*ℤ◌, ◌≤ℤ◌, w64, ints, to_z-of_z, Block, block, width_to}
+use Rattle.slope_step.proofs.Lemmas.{rise_to, same_le, coded, test_true, test_false}
 use Rattle.slope_step.proofs.FindLaws.{fits_stop, coded_stop, value_to, may_go, block_rises, lt_le, rise_on, value_at_end, before_end_of}
 use Rattle.slope_step.proofs.blocks.find.Goals as goal
 use Rattle.slope_step.proofs.blocks.find.Goals.{In-loop-index}
@@ -64,7 +64,7 @@ returns-then-at-piece c =
     record {
       value = value_to cv c.requires.limited k inside _ _ was.from_is was.value_is c.args.at h.low (lt_le c.args.at _ below) ∙ ap Some (sym got ∙ sym (to_z-of_z w64 c.along.result fr));
       blocks = omega arith;
-      block = λ _. rw items (record { inside = inside; begun = rw was.from_is at h.low; ends = h.stop });
+      block = λ _. rw items (record { inside = inside; begun = rw was.from_is at h.low; ends = h.stop; price = price });
     }
 
 pub along-value-requires : goal.along-value-requires

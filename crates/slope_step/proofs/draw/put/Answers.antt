@@ -1,5 +1,5 @@
-use Rattle.slope_step.proofs.Common.{arith, w64, ints, clamps, to_z-of_z}
-use Rattle.slope_step.proofs.Lemmas.{line_part, wide_of, on_curve, block_more, in_block_at}
+use Rattle.slope_step.proofs.Common.{arith, ap, sym, subst, w64, ints, clamps, to_z-of_z, Span, IsInBlock, cost_at, with_cost}
+use Rattle.slope_step.proofs.Lemmas.{line_part, line_sum, wide_of, on_curve, block_more, in_block_at, cost_in, price_within}
 use Rattle.slope_step.proofs.draw.put.Goals as goal
 
 pub loop-pen-init : goal.loop-pen-init
@@ -27,13 +27,13 @@ pub end_block-pen-requires-clause-more : goal.end_block-pen-requires-clause-more
 end_block-pen-requires-clause-more c =
     let cv = c.args.curve.now in
     let k = c.requires.costs c.args.end (omega (arith, ints)) (omega (arith, ints)) in
-    block_more cv c.loop-pen.pen.at c.loop-pen.pen.block c.loop-pen.pen.block_end c.args.end c.loop-pen.invariant.block (omega (arith, ints)) (on_curve cv c.args.end k.0 (wide_of cv c.requires.limited) k.1)
+    block_more cv c.loop-pen.pen.at c.loop-pen.pen.span c.args.end c.loop-pen.invariant.block (omega (arith, ints)) (on_curve cv c.args.end k.0 (wide_of cv c.requires.limited) k.1)
 
 pub end_block-pen-requires-clause-room : goal.end_block-pen-requires-clause-room
 end_block-pen-requires-clause-room c =
     let cv = c.args.curve.now in
     let k = c.requires.costs c.args.end (omega (arith, ints)) (omega (arith, ints)) in
-    let m = block_more cv c.loop-pen.pen.at c.loop-pen.pen.block c.loop-pen.pen.block_end c.args.end c.loop-pen.invariant.block (omega (arith, ints)) (on_curve cv c.args.end k.0 (wide_of cv c.requires.limited) k.1) in
+    let m = block_more cv c.loop-pen.pen.at c.loop-pen.pen.span c.args.end c.loop-pen.invariant.block (omega (arith, ints)) (on_curve cv c.args.end k.0 (wide_of cv c.requires.limited) k.1) in
     omega arith
 
 pub loop-pen-smaller : goal.loop-pen-smaller
@@ -58,22 +58,13 @@ loop-pen-preserved c =
       used = omega arith;
     }
 
-pub write-requires-clause-rise : goal.write-requires-clause-rise
-write-requires-clause-rise c = let high = c.loop-pen.invariant.high in omega (arith, ints)
-
-pub write-requires-clause-block : goal.write-requires-clause-block
-write-requires-clause-block c = c.loop-pen.invariant.block
-
-pub write-requires-clause-within : goal.write-requires-clause-within
-write-requires-clause-within c = omega (arith, ints)
-
-pub write-requires-clause-costs : goal.write-requires-clause-costs
-write-requires-clause-costs c =
-    let ee = to_z-of_z w64 c.args.end c.ranges.end in
-    λ x from to. c.requires.costs x (omega (arith, ints)) (omega (arith, ints))
-
 pub write-requires-clause-total : goal.write-requires-clause-total
 write-requires-clause-total c = rw (to_z-of_z w64 c.args.slope c.ranges.slope) c.requires.total
+
+pub write-requires-clause-price : goal.write-requires-clause-price
+write-requires-clause-price c =
+    let was = c.loop-pen.invariant in
+    price_within c.args.curve.now c.requires.limited c.loop-pen.pen.at c.args.end c.loop-pen.pen.span (omega (arith, ints)) was.block (omega (arith, ints)) (λ x from to. c.requires.costs x (omega (arith, ints)) to)
 
 pub write-requires-clause-room : goal.write-requires-clause-room
 write-requires-clause-room c =
@@ -81,20 +72,25 @@ write-requires-clause-room c =
 
 pub returns-clause-drawn : goal.returns-clause-drawn
 returns-clause-drawn c = λ f lo line d.
+    let cv = c.args.curve.now in
+    let pen = c.loop-pen.pen in
     let was = c.loop-pen.invariant in
     let es = to_z-of_z w64 c.args.slope c.ranges.slope in
     let ee = to_z-of_z w64 c.args.end c.ranges.end in
-    let part = line_part f c.args.from.at c.args.end c.args.slope c.loop-pen.pen.at c.args.end line (omega (arith, ints)) (omega (arith, ints)) (omega (arith, ints)) in
-    (rw (es, ee) at c.write.ensures.drawn) f lo part ((rw (es, ee) at was.drawn) f lo line d)
+    let part = line_part f c.args.from.at c.args.end c.args.slope pen.at c.args.end line (omega (arith, ints)) (omega (arith, ints)) (omega (arith, ints)) in
+    let sum = line_sum f (cost_at cv) pen.at c.args.end c.args.slope pen.span.price part (cost_in cv c.requires.limited pen.at c.args.end pen.span (omega (arith, ints)) was.block (omega (arith, ints))) in
+    (rw (es, ee) at c.write.ensures.drawn) (with_cost f cv) lo sum ((rw (es, ee) at was.drawn) f lo line d)
 
 pub returns-clause-at : goal.returns-clause-at
 returns-clause-at c = let a = c.write.ensures.at in omega (arith, ints)
 
 pub returns-clause-block : goal.returns-clause-block
 returns-clause-block c =
+    let cv = c.args.curve.now in
     let was = c.loop-pen.invariant in
-    in_block_at c.args.curve.now c.loop-pen.pen.at c.loop-pen.pen.block c.loop-pen.pen.block_end was.block c.args.end c.write.result.block c.write.result.block_end (omega (arith, ints)) c.write.ensures.block.0 c.write.ensures.block.1
+    subst (λ (z : Span). IsInBlock cv c.args.end z) (sym c.write.ensures.span) (in_block_at cv c.loop-pen.pen.at c.loop-pen.pen.span was.block c.args.end (omega (arith, ints)))
 
 pub returns-clause-used : goal.returns-clause-used
 returns-clause-used c =
-    omega arith
+    let e = ap (λ (z : Span). z.index) c.write.ensures.span in
+    omega (arith, e)

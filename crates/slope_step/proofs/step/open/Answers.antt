@@ -81,7 +81,6 @@ returns c =
     let el = to_z-of_z w64 low c.ranges.low in
     let fv : FitsSigned w64 c.seek-reached.result.value = search rules in
     let fc : FitsSigned w64 c.find-found.result.value = search rules in
-    let fe : FitsSigned w64 c.find-found.result.end = search rules in
     let fl : FitsSigned w64 c.level_of.result = search rules in
     let value : c.seek-reached.result.value ≡ function_of w.start w.pieces.now c.max-near.result = rw n.coded at c.seek-reached.ensures.value in
     let cost = cost_at_is cv low c.find-found.result.value (rw el at c.find-found.ensures.value) in
@@ -92,7 +91,7 @@ returns c =
       near = n.coded ∙ n.is;
       placed = c.seek-reached.ensures.placed;
       pen = (el, refl, c.find-found.ensures.blocks);
-      block = λ h. rw (to_z-of_z w64 c.find-found.result.end fe) ((rw el at c.find-found.ensures.block) (rw (end_of-width cv.at cv.blocks.items) (lt_le_trans low w.high _ h high.to)));
+      block = λ h. (rw el at c.find-found.ensures.block) (rw (end_of-width cv.at cv.blocks.items) (lt_le_trans low w.high _ h high.to));
       level = to_z-of_z w64 c.level_of.result fl ∙ got
           ∙ level_joined (function_of w.start w.pieces.now) (reserve_term s.reserve_price s.cap s.ramp_up) c.max-near.result (nearest s.ramp_up s.ramp_down w.turn low) c.seek-reached.result.value (s.slope *ℤ low) c.find-found.result.value _ value n.is cost;
     }

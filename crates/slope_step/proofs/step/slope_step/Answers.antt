@@ -131,11 +131,9 @@ draw-used-requires c =
       limited = c.requires.curve.limited;
       placed = c.open-opening.ensures.placed;
       near = c.open-opening.ensures.near ∙ ap (nearest c.args.step.ramp_up c.args.step.ramp_down _) (sym pen.0);
-      low = rw (pen.0 ∙ r.low) r.at_low.0;
       high = rw (pen.0 ∙ r.low, r.high) (order t r c.if-low-high.false);
       costs = rw (pen.0 ∙ r.low, r.high) (costs t);
       block = rw pen.0 c.open-opening.ensures.block;
-      blocks = pen.2;
       begins = pen.1;
       room = c.requires.room;
     }

@@ -1,0 +1,179 @@
+-- The runs of a window.
+use Rattle.slope_step.proofs.Common.{◌≡◌, ℕ, suc, ◌+◌, ◌<◌, ◌≤◌, List, length, ◌∙◌, sym, ap, subst, refl, arith, ℤ, neg_ℤ, pos, ◌+ℤ◌, ◌-ℤ◌, ◌*ℤ◌, ◌≤ℤ◌, ◌<ℤ◌, int_min, ints, clamps, by_lt_z, Curve, Piece, Place, Pen, Run, Way, Window, piece, end_at, IsPlace, IsInBlock, IsDrawn, IsFurther, stepped, IsFrom, IsLine, IsLowered, IsGentle, IsPlaced, kinked, last_place, function_of, moved, nearest, paid, runs_from, IsRun, FitsSigned, w64}
+use Rattle.slope_step.proofs.LineLaws.{line_part, line_sum, line_product}
+use Rattle.slope_step.proofs.PieceLaws.{along_line}
+use Rattle.slope_step.proofs.KinkLaws.{IsLeft, left, left_steep, IsEnd, end_within, end_of_valley}
+use Rattle.slope_step.proofs.WrapLaws.{coded, coded_is, output_near, coded_add, up_coded, fits_sum}
+use Rattle.slope_step.proofs.WindowLaws.{line_falling, line_rising, fewer_bend, fewer_turn}
+
+pub gentle_slope : (w : Window) → IsGentle w.step.slope
+gentle_slope w =
+    let s = w.valid.fair.slope in
+    let a = s.at_least in
+    let b = s.at_most in
+    record { at_least = omega (arith, ints); at_most = omega (arith, ints) }
+
+module _ (w : Window) (y until : ℤ) (run : Run) (l : IsLowered w.step y (record { end = until; slope = w.step.slope }) (record { end = run.until; slope = run.slope })) (before : y <ℤ until) where
+  here : IsLeft w.step y (record { end = until; slope = w.step.slope }) (record { end = run.until; slope = run.slope })
+  here = left w.step w.valid.fair y (record { end = until; slope = w.step.slope }) (record { end = run.until; slope = run.slope }) before l
+
+  lines_on : ((a b t : ℤ) → y ≤ℤ a → b ≤ℤ until → IsLine (kinked w.start w.pieces.now w.step) a b t → IsLine (moved w.start w.pieces.now w.step w.turn) (a +ℤ run.shift) (b +ℤ run.shift) t)
+      → (a b t : ℤ) → y ≤ℤ a → b ≤ℤ run.until → IsLine (function_of w.start w.pieces.now) a b t → IsLine (paid w.start w.pieces.now w.step w.turn) (a +ℤ run.shift) (b +ℤ run.shift) (t +ℤ run.slope)
+  lines_on move a b t from to line =
+      let within = here.within in
+      let bent = here.lines (function_of w.start w.pieces.now) a b t from to line in
+      let on = move a b (t +ℤ (run.slope -ℤ w.step.slope)) from (omega (arith, ints)) bent in
+      let rise = on.rise in
+      subst (λ (z : ℤ). IsLine (paid w.start w.pieces.now w.step w.turn) (a +ℤ run.shift) (b +ℤ run.shift) z) (omega (arith, ints))
+      (line_sum (moved w.start w.pieces.now w.step w.turn) (λ x. w.step.slope *ℤ x) (a +ℤ run.shift) (b +ℤ run.shift) (t +ℤ (run.slope -ℤ w.step.slope)) w.step.slope on (line_product w.step.slope (a +ℤ run.shift) (b +ℤ run.shift) rise))
+
+  pub run_falls : y <ℤ w.turn → until ≡ int_min (w.high +ℤ w.step.ramp_down) w.turn → run.shift ≡ neg_ℤ w.step.ramp_down → IsRun w y run
+  run_falls falls is shift =
+      let up = w.valid.fair.ramp_up.at_least in
+      let down = w.valid.fair.ramp_down.at_least in
+      let most = w.valid.fair.ramp_down.at_most in
+      let rise = here.rise in
+      let within = here.within in
+      let last = w.valid.valley.to in
+      record {
+        rise = rise;
+        last = omega (arith, ints, clamps);
+        high = omega (arith, ints, clamps);
+        near = omega (arith, ints, clamps);
+        shift = record { at_least = omega (arith, ints); at_most = omega (arith, ints) };
+        steep = left_steep w.step w.valid.fair y (record { end = until; slope = w.step.slope }) (record { end = run.until; slope = run.slope }) before l (gentle_slope w);
+        lines = lines_on (λ a b t from to line. line_falling (kinked w.start w.pieces.now w.step) w.turn w.step.ramp_up w.step.ramp_down up down a b t (a +ℤ run.shift) (b +ℤ run.shift) line (omega (arith, ints, clamps)) (omega (arith, ints)) (omega (arith, ints)));
+        fewer = λ short. by_lt_z run.until until
+            (λ (h : run.until <ℤ until). let b = here.bent h in fewer_bend w.step w.turn y (y +ℤ run.shift) run.until (run.until +ℤ run.shift) (omega (arith, ints)) run.shift refl refl b.0 b.1)
+            (λ (h : until ≤ℤ run.until). fewer_turn w.step w.turn y (y +ℤ run.shift) run.until (run.until +ℤ run.shift) (omega (arith, ints)) run.shift refl refl falls (omega (arith, ints, clamps)));
+      }
+
+  pub run_rises : w.turn ≤ℤ y → until ≡ w.high -ℤ w.step.ramp_up → run.shift ≡ w.step.ramp_up → IsRun w y run
+  run_rises rises is shift =
+      let up = w.valid.fair.ramp_up.at_least in
+      let down = w.valid.fair.ramp_down.at_least in
+      let most = w.valid.fair.ramp_up.at_most in
+      let rise = here.rise in
+      let within = here.within in
+      let last = w.valid.high in
+      record {
+        rise = rise;
+        last = omega (arith, ints);
+        high = omega (arith, ints);
+        near = omega (arith, ints, clamps);
+        shift = record { at_least = omega (arith, ints); at_most = omega (arith, ints) };
+        steep = left_steep w.step w.valid.fair y (record { end = until; slope = w.step.slope }) (record { end = run.until; slope = run.slope }) before l (gentle_slope w);
+        lines = lines_on (λ a b t from to line. line_rising (kinked w.start w.pieces.now w.step) w.turn w.step.ramp_up w.step.ramp_down up down a b t (a +ℤ run.shift) (b +ℤ run.shift) line (omega (arith, ints)) (omega (arith, ints)) (omega (arith, ints)));
+        fewer = λ short. by_lt_z run.until until
+            (λ (h : run.until <ℤ until). let b = here.bent h in fewer_bend w.step w.turn y (y +ℤ run.shift) run.until (run.until +ℤ run.shift) (omega (arith, ints)) run.shift refl refl b.0 b.1)
+            (λ (h : until ≤ℤ run.until). absurd (omega (arith, ints)));
+      }
+
+-- ---- a place of the window's function, as the code has it
+
+-- a number that may be added to a power
+abbrev pub IsHigh : ℤ → Type 0
+IsHigh z = IsFrom (neg_ℤ (pos 4000000000)) (pos 4000000000) z
+
+module _ (w : Window) (place : Place) (placed : IsPlaced w.start.first w.pieces.now place) where
+  pub place_in : IsEnd w.start.first (last_place w.start.first w.pieces.now) place.at
+  place_in = end_within w.start w.pieces.now w.valid.slopes w.valid.small place placed place.at refl
+
+  pub place_coded : coded place.at ≡ place.at
+  place_coded = coded_is place.at (output_near place.at place_in.out)
+
+  pub turn_coded : coded w.turn ≡ w.turn
+  turn_coded = coded_is w.turn (output_near w.turn (end_of_valley w.start w.pieces.now w.valid.small w.step w.turn w.valid.valley))
+
+  pub reach_coded : coded (coded place.at +ℤ coded w.step.ramp_up) ≡ place.at +ℤ w.step.ramp_up
+  reach_coded = up_coded place.at w.step.ramp_up place_in.out w.valid.fair.ramp_up
+
+  pub reach_fits : FitsSigned w64 (coded place.at +ℤ coded w.step.ramp_up)
+  reach_fits = fits_sum place.at w.step.ramp_up place_in.out w.valid.fair.ramp_up
+
+  -- the last place that is asked for, where it is past a place
+  pub high_near : (place.at -ℤ w.step.ramp_down) ≤ℤ w.high → IsHigh w.high
+  high_near low =
+      let o = place_in.out.at_least in
+      let d = w.valid.fair.ramp_down.at_most in
+      let u = w.valid.fair.ramp_up.at_most in
+      let h = w.valid.high in
+      let from = place_in.from in
+      let to = place_in.to in
+      let last = (w.valid.small (last_place w.start.first w.pieces.now) (omega (arith, ints)) (omega (arith, ints))).0.at_most in
+      record { at_least = omega (arith, ints); at_most = omega (arith, ints) }
+
+  pub last_coded : (place.at -ℤ w.step.ramp_down) ≤ℤ w.high → coded (coded w.high +ℤ coded w.step.ramp_down) ≡ w.high +ℤ w.step.ramp_down
+  last_coded low =
+      let h = high_near low in
+      let least = w.valid.fair.ramp_down.at_least in
+      let most = w.valid.fair.ramp_down.at_most in
+      coded_add w.high w.step.ramp_down (record { at_least = omega (arith, ints); at_most = omega (arith, ints) }) (record { at_least = omega (arith, ints); at_most = omega (arith, ints) }) (record { at_least = omega (arith, ints); at_most = omega (arith, ints) })
+
+pub before_both : (y a b u : ℤ) → y <ℤ a → y <ℤ b → u ≡ int_min a b → y <ℤ u
+before_both y a b u h i is = omega (arith, ints, clamps)
+
+pub before_moved : (x y u d : ℤ) → x ≡ y +ℤ d → x <ℤ (u +ℤ d) → y <ℤ u
+before_moved x y u d is h = omega (arith, ints)
+
+-- ---- along a run
+
+module _ (w : Window) (from : ℤ) (run : Run) (r : IsRun w from run) (place : Place) (placed : IsPlaced w.start.first w.pieces.now place) (low : from ≤ℤ place.at) where
+  pub run_place : (e : ℤ) → place.at ≤ℤ e → e ≤ℤ run.until → IsPlace (e +ℤ run.shift)
+  run_place e at upto =
+      let o = place_in w place placed in
+      let least = o.out.at_least in
+      let last = r.last in
+      let from_first = o.from in
+      let most = (w.valid.small (last_place w.start.first w.pieces.now) (omega (arith, ints)) (omega (arith, ints))).0.at_most in
+      let a = r.shift.at_least in
+      let b = r.shift.at_most in
+      (omega (arith, ints), omega (arith, ints))
+
+  pub run_line : (e : ℤ) → place.next < length w.pieces.now → place.at <ℤ e → e ≤ℤ (piece w.pieces.now place.next).end → e ≤ℤ run.until
+      → IsLine (paid w.start w.pieces.now w.step w.turn) (place.at +ℤ run.shift) (e +ℤ run.shift) ((piece w.pieces.now place.next).slope +ℤ run.slope)
+  run_line e inside rise within upto =
+      let k = place.next in
+      let ps = w.pieces.now in
+      r.lines place.at e (piece ps k).slope low upto
+      (line_part (function_of w.start ps) (end_at w.start.first ps k) (end_at w.start.first ps (suc k)) (piece ps k).slope place.at e (along_line w.start.first w.start.level ps w.valid.slopes k inside) placed.from rise within)
+
+  -- where it ends
+  pub run_placed : (until : ℤ) → until ≡ run.until → place.at ≤ℤ run.until → (place.next < length w.pieces.now → run.until <ℤ (piece w.pieces.now place.next).end) → IsPlaced w.start.first w.pieces.now (record { at = until; next = place.next })
+  run_placed until is upto short =
+      let begun = placed.from in
+      let last = r.last in
+      record {
+        some = placed.some;
+        from = omega (arith, ints);
+        to = λ h. let s = short h in omega (arith, ints);
+        last = λ h. let e = placed.last h in omega (arith, ints);
+      }
+
+-- the pen where the run ends
+pub record IsEnded (w : Window) (c : Curve) (run : Run) (from : Way) (next : ℕ) (old new : List Piece) (pen : Pen) : Type 0 where
+  pub at : pen.at ≡ run.until +ℤ run.shift
+  pub block : IsInBlock c pen.at pen.span
+  pub drawn : (lo : ℤ) → IsDrawn (stepped w.start w.pieces.now w.step w.turn c) lo old from.pen → IsDrawn (stepped w.start w.pieces.now w.step w.turn c) lo new pen
+  pub used : pen.used + from.pen.span.index + from.place.next ≤ from.pen.used + pen.span.index + next + 1
+
+pub run_ended : (w : Window) (c : Curve) (run : Run) (from : Way) (place : Place) (old new : List Piece) (pen : Pen) → IsRun w from.place.at run → from.pen.at ≡ from.place.at +ℤ run.shift
+    → IsPlaced w.start.first w.pieces.now place → place.at ≡ run.until → IsEnded w c run from place.next old new pen → IsFurther w c old new from (record { place = place; pen = pen })
+run_ended w c run from place old new pen r at placed is e =
+    let rise = r.rise in
+    let high = r.high in
+    let ended = e.at in
+    record {
+      drawn = e.drawn;
+      placed = placed;
+      near = λ h. is ∙ r.near ∙ ap (nearest w.step.ramp_up w.step.ramp_down w.turn) (sym ended);
+      rise = omega (arith, ints);
+      high = omega (arith, ints);
+      block = e.block;
+      used = e.used;
+      fewer = λ h.
+          let f = r.fewer (omega (arith, ints)) in
+          let a : runs_from w.step w.turn place.at pen.at ≡ runs_from w.step w.turn run.until (run.until +ℤ run.shift) = ap (λ (y : ℤ). runs_from w.step w.turn y pen.at) is ∙ ap (runs_from w.step w.turn run.until) ended in
+          let b : runs_from w.step w.turn from.place.at from.pen.at ≡ runs_from w.step w.turn from.place.at (from.place.at +ℤ run.shift) = ap (runs_from w.step w.turn from.place.at) at in
+          omega arith;
+    }

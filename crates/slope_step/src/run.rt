@@ -1,0 +1,71 @@
+//! Runs of pieces that go into the function after a step alike.
+ghost use Rattle.std.specs.Prelude.{◌≡◌, neg_ℤ, ◌+ℤ◌, ◌≤ℤ◌, ◌<ℤ◌};
+ghost use Rattle.shape_law.specs.Steps.{IsFairStep};
+ghost use Rattle.slope_step.specs.Kink.{IsPlaced, IsGentle, IsLowered};
+ghost use Rattle.slope_step.specs.Way.{IsRun};
+
+use crate::kink::{Place, lowered};
+use crate::piece::Piece;
+use crate::window::Window;
+use shape_law::step::Step;
+
+/// Pieces that go into the function after a step alike, up to a place before it.
+#[derive(Clone, Copy)]
+pub(crate) struct Run {
+    pub until: i64,
+    /// How far they move.
+    pub shift: i64,
+    /// What is added to their slopes.
+    pub slope: i64,
+}
+
+/// What is left of a run from a place on, after the worth of the reserve is taken off.
+fn bent(run: Run, place: Place, step: Step) -> Run
+    requires fair { IsFairStep step }
+    requires gentle { IsGentle run.slope }
+    ensures lowered { IsLowered step place.at (record { end = run.until; slope = run.slope })
+        (record { end = result.until; slope = result.slope }) }
+    ensures shift { result.shift ≡ run.shift }
+{
+    let whole = Piece {
+        end: run.until,
+        slope: run.slope,
+    };
+    let left = lowered(whole, place, step);
+    Run {
+        until: left.end,
+        shift: run.shift,
+        slope: left.slope,
+    }
+}
+
+/// The falling or rising run from a place on: up to the turn, the bend or the last place that is
+/// asked for.
+pub(crate) fn next_run(window: &Window<'_>, place: Place) -> Run
+    requires placed { IsPlaced window.now.start.first window.now.pieces.now place }
+    requires falls { place.at <ℤ window.now.turn
+        → place.at <ℤ (window.now.high +ℤ window.now.step.ramp_down) }
+    requires rises { window.now.turn ≤ℤ place.at
+        → (place.at +ℤ window.now.step.ramp_up) <ℤ window.now.high }
+    ensures run { IsRun window.now place.at result }
+    ensures down { place.at <ℤ window.now.turn
+        → result.shift ≡ neg_ℤ window.now.step.ramp_down }
+    ensures up { window.now.turn ≤ℤ place.at → result.shift ≡ window.now.step.ramp_up }
+{
+    let step = window.step;
+    if place.at < window.turn {
+        let last = window.high + step.ramp_down;
+        let falling = Run {
+            until: last.min(window.turn),
+            shift: -step.ramp_down,
+            slope: step.slope,
+        };
+        return bent(falling, place, step);
+    }
+    let rising = Run {
+        until: window.high - step.ramp_up,
+        shift: step.ramp_up,
+        slope: step.slope,
+    };
+    bent(rising, place, step)
+}
