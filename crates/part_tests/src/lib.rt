@@ -3,4 +3,8 @@
 #![tactic(auto)]
 
 #[cfg(test)]
+mod hull_io_tests;
+#[cfg(test)]
 mod report_read_tests;
+#[cfg(test)]
+mod uc_num_tests;

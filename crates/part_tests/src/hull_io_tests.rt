@@ -1,5 +1,5 @@
 // What no clause says: that calls succeed, and what real files and outputs do.
-use crate::{
+use hull_io::{
     File, FileShelf, MOST_BYTES, MemoryShelf, MemorySink, ReadFailed, ReadFault, Shelf, Sink,
     StdSink, SureShelf, SureSink, WriteFailed, read_whole, write_whole,
 };
@@ -102,7 +102,8 @@ fn largest_file(rt: HostRuntime) -> Result<(), Fail> {
     Ok(())
 }
 
-// A path at which this user can make a file: here, or where all can. There another's run may have left its own.
+// A path at which this user can make a file: here, or where all can. There another's run may have
+// left its own.
 fn scratch(rt: HostRuntime, name: &str) -> Result<String, Fail> {
     let alloc = rt.alloc();
     for folder in [".", "/tmp", "/var/tmp", "/dev/shm"] {
