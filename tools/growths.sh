@@ -27,9 +27,9 @@ signs() {
     local signs='AllocError|AllocFailed|OutOfMemory|want of memory|error: Memory$|left: 7$'
     case $1 in
         hull_cli) signs="$signs|left: [[]102, 97(, 117, 108, 116, 32, 55, |[]]$)" ;; # 'fault 7 ', or cut to 'fa'
-        hull_words) signs="$signs|left: [(]0, 0[)]$" ;;
         part_tests)
             signs="$signs|left: Err[(]Memory[)]$" # of hull_io
+            signs="$signs|left: [(]0, 0[)]$" # of hull_words
             signs="$signs|left: None$|assertion failed: false$" # of report_read
             ;;
         uc_text) signs="$signs|left: [(]1, 0[)]$|^ *no object$" ;;
