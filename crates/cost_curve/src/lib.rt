@@ -6,6 +6,4 @@ pub mod costs;
 pub mod curves;
 mod edges;
 pub mod laws;
-#[cfg(test)]
-mod tests;
 mod walk;

@@ -87,6 +87,3 @@ pub fn write_whole<S: Sink>(out: &mut S, piece: &[u8]) -> Result<(), WriteFailed
     }
     Ok(())
 }
-
-#[cfg(test)]
-mod tests;

@@ -11,6 +11,3 @@ mod text;
 pub use command::{AuditWords, BoundWords, CheckWords, Command, PriceWords, TryWords};
 pub use fault::{WordCode, WordError, WordFault};
 pub use reading::read_words;
-
-#[cfg(test)]
-mod tests;

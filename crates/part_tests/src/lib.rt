@@ -3,4 +3,12 @@
 #![tactic(auto)]
 
 #[cfg(test)]
+mod cost_curve_tests;
+#[cfg(test)]
+mod hull_io_tests;
+#[cfg(test)]
+mod hull_words_tests;
+#[cfg(test)]
 mod report_read_tests;
+#[cfg(test)]
+mod uc_num_tests;

@@ -1,5 +1,5 @@
 // What no clause says: that calls succeed, and what real files and outputs do.
-use crate::{
+use hull_io::{
     File, FileShelf, MOST_BYTES, MemoryShelf, MemorySink, ReadFailed, ReadFault, Shelf, Sink,
     StdSink, SureShelf, SureSink, WriteFailed, read_whole, write_whole,
 };

@@ -2,8 +2,8 @@
 ghost use Rattle.uc_model.specs.Limits.{Spans};
 ghost use Rattle.cost_curve.specs.CostCurve.{AreCostPoints, IsCostCurve, CanEvaluate};
 
-use crate::costs::{envelope_at, envelope_near};
-use crate::curves::{curve_at, curve_into, curve_of};
+use cost_curve::costs::{envelope_at, envelope_near};
+use cost_curve::curves::{curve_at, curve_into, curve_of};
 use std::process::Abort;
 use std::test::Fail;
 use uc_model::units::{Blocks, Curve, Point};

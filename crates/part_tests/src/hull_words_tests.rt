@@ -1,4 +1,4 @@
-use super::*;
+use hull_words::{Command, PriceWords, TryWords, WordError, read_words};
 use std::alloc::{AllocError, Global};
 use std::test::Fail;
 
