@@ -98,8 +98,8 @@ impl<'a, R: Files> Shelf for FileShelf<'a, R> {
     }
 }
 
-/// A real output. `W` may keep bytes back, to write many pieces at once; it then keeps back their
-/// failures too, so who made the sink flushes it before the run's status is told.
+/// A real output. `W` writes at once, as standard output by `std::io::writer` does: a writer that
+/// kept bytes back would keep back their failures too.
 #[derive(Drop)]
 pub struct StdSink<W: Write + Drop> {
     out: W,
@@ -112,17 +112,6 @@ impl<W: Write + Drop> StdSink<W> {
         ensures { result.faults ≡ 0 }
     {
         StdSink { out, faults: 0 }
-    }
-
-    /// Writes what was kept back.
-    pub fn flush(&mut self) -> Result<(), WriteFailed> {
-        match self.out.flush() {
-            Ok(()) => Ok(()),
-            Err(_) => {
-                self.faults = self.faults.saturating_add(1);
-                Err(WriteFailed)
-            }
-        }
     }
 }
 

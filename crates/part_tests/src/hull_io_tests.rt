@@ -157,8 +157,6 @@ fn real_stream(rt: HostRuntime) -> Result<(), Fail> {
         let mut full = StdSink::new(full);
         assert_eq!(rt; write_whole(&mut full, b"no room"), Err(WriteFailed));
     }
-    let mut out = StdSink::new(io::writer(&rt));
-    assert_eq!(rt; out.write(b"a test\n"), Ok(7));
-    assert_eq!(rt; out.flush(), Ok(()));
+    assert_eq!(rt; StdSink::new(io::writer(&rt)).write(b"a test\n"), Ok(7));
     Ok(())
 }
