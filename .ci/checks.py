@@ -1,7 +1,7 @@
 #!/usr/bin/env python3
 """Runs the repository's own checks over the built program: the launcher, the examples, the edges, and the tools.
 
-`.ci/run` calls this after the gate, which leaves the program in crates/hull_cli/out. By itself it takes less than a minute:
+`.ci/run` calls this after the gate, which leaves the program in crates/hull_cli/out. By itself it takes a minute or two:
 it proves nothing. The last line is 'N passed, M failed'; a check that needs what this machine hasn't is named, and
 counts for neither.
 """
