@@ -2,6 +2,7 @@
 use Rattle.std.specs.Prelude.{◌≡◌, ℕ, zero, suc, ◌+◌, ◌*◌, ◌<◌, ◌≤◌, List, length, map, sum_by}
 use Rattle.std.specs.Prelude.{replicate, slice_index}
 use Rattle.answer_store.specs.Parts.{part}
+use Rattle.uc_model.specs.declared.limits.TheConstants.{MOST_TASKS}
 
 -- what a contract sees of a table
 pub record Rows : Type 0 where
@@ -32,5 +33,5 @@ pub record IsTable (long : ℕ) (places : List ℕ) (used : ℕ) (numbers : List
   pub apart : (j k : ℕ) → 0 < slice_index places j → slice_index places j ≡ slice_index places k →
       j ≡ k
   pub few : used + blanks places ≤ length places
-  pub count : length places ≤ 200000000
+  pub count : length places ≤ MOST_TASKS
   pub fits : length places * long ≤ room

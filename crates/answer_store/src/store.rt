@@ -2,7 +2,7 @@
 ghost use Rattle.std.specs.Prelude.{◌≡◌, ◌*◌, ◌<◌, ◌≤◌, length, IfOk, slice_index_or, slice_set};
 ghost use Rattle.std.specs.Prelude.{replicate, pos, false};
 ghost use Rattle.uc_model.specs.PlainUnits.{schedule_of};
-ghost use Rattle.uc_model.specs.declared.limits.TheConstants.{MOST_WORK};
+ghost use Rattle.uc_model.specs.declared.limits.TheConstants.{MOST_TASKS, MOST_WORK};
 ghost use Rattle.answer_store.specs.Answers.{nothing, kept_of};
 
 use crate::table::{Table, put_part, take_part};
@@ -51,7 +51,7 @@ impl Store {
     /// Room for so many answers over so many periods: at most 200,000,000 answers, and 50,000,000
     /// for answers times periods. All memory that it ever needs is taken here.
     pub fn make(alloc: Global, count: usize, periods: u32) -> Result<Store, AllocError>
-        requires few { count ≤ 200000000 }
+        requires few { count ≤ MOST_TASKS }
         requires size { count * periods ≤ MOST_WORK }
         ensures count { IfOk result (λ s. length s.answers ≡ count) }
         ensures periods { IfOk result (λ s. s.periods ≡ periods) }

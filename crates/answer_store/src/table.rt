@@ -2,7 +2,7 @@
 ghost use Rattle.std.specs.Prelude.{◌≡◌, ◌+◌, ◌*◌, ◌<◌, ◌≤◌, ◌↔◌, IsTrue, [], ◌++◌, length, IfOk};
 ghost use Rattle.std.specs.Prelude.{EachIndex, replicate, slice_index, slice_index_or, slice_set};
 ghost use Rattle.std.specs.Prelude.{vec_len, vec_capacity};
-ghost use Rattle.uc_model.specs.declared.limits.TheConstants.{MOST_WORK};
+ghost use Rattle.uc_model.specs.declared.limits.TheConstants.{MOST_TASKS, MOST_WORK};
 ghost use Rattle.answer_store.specs.Parts.{part, with_part};
 
 use std::alloc::{AllocError, Global};
@@ -99,7 +99,7 @@ fn append(numbers: &mut Vec<u32>, list: &[u32])
 impl Table {
     /// So many rows of so many zeros.
     pub fn make(alloc: Global, count: usize, long: usize) -> Result<Table, AllocError>
-        requires few { count ≤ 200000000 }
+        requires few { count ≤ MOST_TASKS }
         requires size { count * long ≤ MOST_WORK }
         ensures rows { IfOk result (λ t. t.rows ≡ replicate count (replicate long 0)) }
         ensures long { IfOk result (λ t. t.long ≡ long) }

@@ -2,7 +2,8 @@
 use Rattle.std.specs.Prelude.{◌≡◌, ◌*◌, ◌≤◌}
 use Rattle.board_history.specs.Board.{Setup}
 use Rattle.uc_model.specs.Data.{unit_count}
-use Rattle.uc_model.specs.declared.limits.TheConstants.{MOST_PROPOSALS, MOST_WORK}
+use Rattle.uc_model.specs.declared.limits.TheConstants.{MOST_PROPOSALS, MOST_AHEAD}
+use Rattle.uc_model.specs.declared.limits.TheConstants.{MOST_CALLERS, MOST_WORK}
 use Rattle.uc_model.specs.Limits.{IsMarket}
 use Rattle.uc_model.specs.PlainCases.{market_of, schedules_of}
 use Rattle.uc_model.specs.Systems.{IsFeasiblePlan, plan_cost}
@@ -16,9 +17,9 @@ pub record IsSetup (b : Setup) : Type 0 where
   pub some_budget : 1 ≤ b.budget
   pub budget : b.budget ≤ MOST_PROPOSALS
   pub some_ahead : 1 ≤ b.ahead
-  pub ahead : b.ahead ≤ 16
+  pub ahead : b.ahead ≤ MOST_AHEAD
   pub some_caller : 1 ≤ b.callers
-  pub callers : b.callers ≤ 33
+  pub callers : b.callers ≤ MOST_CALLERS
   pub size : b.budget * unit_count b.market * b.market.periods ≤ MOST_WORK
 
 abbrev pub setup_of : Terms → Setup

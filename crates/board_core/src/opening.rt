@@ -2,6 +2,8 @@
 ghost use Rattle.std.specs.Prelude.{◌≡◌, ◌+◌, ◌*◌, ◌≤◌, [], false, IfOk, length, min, replicate};
 ghost use Rattle.std.specs.Prelude.{vec_capacity};
 ghost use Rattle.uc_model.specs.PlainCases.{market_of};
+ghost use Rattle.uc_model.specs.declared.limits.TheConstants.{MOST_AHEAD, MOST_CALLERS};
+ghost use Rattle.uc_model.specs.declared.limits.TheConstants.{MOST_TASKS};
 ghost use Rattle.uc_model.specs.PlainUnits.{prices_of};
 ghost use Rattle.uc_model.specs.PriceRule.{start_prices as start_prices_of};
 ghost use Rattle.board_core.specs.Openings.{blank_ledger, with_openings};
@@ -45,8 +47,8 @@ pub fn no_events(
     budget: usize,
     callers: usize,
 ) -> Result<EventLists, AllocError>
-    requires tasks { tasks ≤ 200000000 }
-    requires callers { callers ≤ 33 }
+    requires tasks { tasks ≤ MOST_TASKS }
+    requires callers { callers ≤ MOST_CALLERS }
     ensures history { IfOk result (λ x. x.history.items ≡ []) }
     ensures room { IfOk result (λ x. vec_capacity x.history ≡ 2 * tasks + callers) }
     ensures takers { IfOk result (λ x. x.takers.items ≡ []) }
@@ -71,7 +73,7 @@ pub fn no_events(
 
 // Opens so many proposals at the opening prices.
 fn open_first(start: &Numbers, count: u32, ledger: &mut Ledger, next: &mut Prices)
-    requires count { count ≤ 16 }
+    requires count { count ≤ MOST_AHEAD }
     requires start { length start.now.items ≡ length (prices_of next.old).energy }
     requires blank { ledger.old ≡ blank_ledger (length start.now.items)
         (length ledger.old.proposals) }
@@ -94,7 +96,7 @@ pub fn open_ledger(
     ahead: u32,
     next: &mut Prices,
 ) -> Result<Ledger, AllocError>
-    requires ahead { ahead ≤ 16 }
+    requires ahead { ahead ≤ MOST_AHEAD }
     requires horizon { length (prices_of next.old).energy ≡ (market_of case.now).periods }
     ensures ledger { IfOk result (λ l. l ≡ with_openings (start_prices_of (market_of case.now))
         (blank_ledger (market_of case.now).periods budget) (min budget ahead)) }

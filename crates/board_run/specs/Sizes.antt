@@ -1,5 +1,6 @@
 -- How large a run may be (this project's profile).
 use Rattle.std.specs.Prelude.{ℕ, ◌≤◌}
+use Rattle.uc_model.specs.declared.limits.TheConstants.{MOST_PROPOSALS, MOST_WORKERS, MOST_AHEAD}
 
 -- the number is from low to high
 pub record IsWithin (low high n : ℕ) : Type 0 where
@@ -7,13 +8,13 @@ pub record IsWithin (low high n : ℕ) : Type 0 where
   pub at_most : n ≤ high
 
 abbrev pub IsBudget : ℕ → Type 0
-IsBudget n = IsWithin 1 10000 n
+IsBudget n = IsWithin 1 MOST_PROPOSALS n
 
 abbrev pub IsWorkers : ℕ → Type 0
-IsWorkers n = IsWithin 1 32 n
+IsWorkers n = IsWithin 1 MOST_WORKERS n
 
 abbrev pub IsAhead : ℕ → Type 0
-IsAhead n = IsWithin 1 16 n
+IsAhead n = IsWithin 1 MOST_AHEAD n
 
 -- the numbers of a run
 pub record IsRunSize (budget workers ahead : ℕ) : Type 0 where

@@ -2,6 +2,7 @@
 use Rattle.std.specs.Prelude.{◌≡◌, ℕ, suc, ◌-◌, ◌*◌, ◌≤◌, ℤ, pos, neg_ℤ, ◌≤ℤ◌, List, length}
 use Rattle.std.specs.Prelude.{slice_index_or, Some, IsSome}
 use Rattle.std.specs.List.{All}
+use Rattle.uc_model.specs.declared.limits.TheConstants.{MOST_POINTS}
 use Rattle.uc_model.specs.declared.units.Block.{Block}
 use Rattle.uc_model.specs.declared.units.Curve.{Curve}
 use Rattle.uc_model.specs.declared.units.Point.{Point}
@@ -12,7 +13,7 @@ use Rattle.uc_model.specs.Limits.{IsCost, IsFrom, IsCurve, IsPoint, ArePointsOrd
 -- the cost points of a unit
 pub record AreCostPoints (ps : List Point) : Type 0 where
   pub some : 1 ≤ length ps
-  pub count : length ps ≤ 32
+  pub count : length ps ≤ MOST_POINTS
   pub points : All IsPoint ps
   pub ordered : ArePointsOrdered ps
 

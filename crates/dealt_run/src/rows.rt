@@ -5,7 +5,7 @@ ghost use Rattle.std.specs.List.{All};
 ghost use Rattle.price_move.specs.Moves.{is_last_settled};
 ghost use Rattle.price_move.specs.Sizes.{IsRowBelow};
 ghost use Rattle.task_deal.specs.declared.deal.TheConstants.{MOST_JOBS};
-ghost use Rattle.uc_model.specs.declared.limits.TheConstants.{MOST_PROPOSALS};
+ghost use Rattle.uc_model.specs.declared.limits.TheConstants.{MOST_PROPOSALS, MOST_AHEAD};
 ghost use Rattle.uc_model.specs.Limits.{IsWorth};
 ghost use Rattle.uc_model.specs.PlainCases.{market_of, proposal_of};
 ghost use Rattle.uc_model.specs.PlainUnits.{prices_of};
@@ -66,7 +66,7 @@ fn next_into(
 ) -> bool
     requires start { start.now.items ≡ start_prices_of (market_of case.now) }
     requires some { 1 ≤ ahead }
-    requires most { ahead ≤ 16 }
+    requires most { ahead ≤ MOST_AHEAD }
     requires count { length rows.now < MOST_PROPOSALS }
     requires rows { All (IsRowBelow (market_of case.now) cost) (map proposal_of rows.now) }
     requires cost { IsWorth cost }
@@ -110,7 +110,7 @@ pub fn right_rows<R: Threads + Wait + Sync>(
 ) -> Result<ReservedList<Row>, AllocError>
     requires cost { IsCostOfPlan (market_of case.now) cost }
     requires budget { (1 ≤ budget) × (budget ≤ MOST_PROPOSALS) }
-    requires ahead { (1 ≤ ahead) × (ahead ≤ 16) }
+    requires ahead { (1 ≤ ahead) × (ahead ≤ MOST_AHEAD) }
     requires count { (1 ≤ length jobs.old.items) × (length jobs.old.items ≤ MOST_JOBS) }
     requires jobs { AreFor (market_of case.now) jobs.old.items }
     ensures run { IfOk result (λ rows. IsRun Fits (market_of case.now) cost budget ahead

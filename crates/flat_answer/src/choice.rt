@@ -2,6 +2,7 @@
 ghost use Rattle.std.specs.Prelude.{◌≡◌, ◌<◌, pos, neg_ℤ, ◌+ℤ◌, ◌*ℤ◌, length};
 ghost use Rattle.uc_model.specs.Limits.{IsFrom, IsPower, price_limit};
 ghost use Rattle.uc_model.specs.PlainUnits.{schedule_of};
+ghost use Rattle.uc_model.specs.declared.limits.TheConstants.{GAIN_LIMIT};
 ghost use Rattle.flat_answer.specs.Choices.{with_power};
 
 use uc_model::units::Answered;
@@ -15,7 +16,7 @@ pub struct Choice {
 
 /// What so many kilowatts earn at so much for each: within 2 * 10^16 in magnitude.
 pub fn earned_at(gain: i64, power: i64) -> i64
-    requires gain { IsFrom (neg_ℤ (pos 20000000)) (pos 20000000) gain }
+    requires gain { IsFrom (neg_ℤ GAIN_LIMIT) GAIN_LIMIT gain }
     requires power { IsPower power }
     ensures value { result ≡ gain *ℤ power }
     ensures bound { IsFrom (neg_ℤ (pos 20000000000000000)) (pos 20000000000000000) result }

@@ -1,6 +1,7 @@
 -- Sizes, and sums as they run while rows are added (this project's profile).
 use Rattle.std.specs.Prelude.{◌≡◌, ℕ, ◌*◌, ◌<◌, ℤ, pos, neg_ℤ, List, length}
 use Rattle.uc_model.specs.Data.{Market}
+use Rattle.uc_model.specs.declared.limits.TheConstants.{MOST_RADIUS}
 use Rattle.uc_model.specs.Limits.{IsFrom, IsWorth}
 use Rattle.uc_model.specs.PriceRule.{Proposal}
 use Rattle.uc_model.specs.Sums.{int_at, total}
@@ -22,7 +23,7 @@ IsWeight w = IsFrom (pos 0) (pos 1000000) w
 
 -- how far prices may be from the centre
 abbrev pub IsRadius : ℤ → Type 0
-IsRadius q = IsFrom (pos 0) (pos 20000000) q
+IsRadius q = IsFrom (pos 0) (pos MOST_RADIUS) q
 
 -- the height of a plane, that height a weight's times, and a weighted sum of heights
 abbrev pub IsHeight : ℤ → Type 0

@@ -4,19 +4,17 @@ ghost use Rattle.board_run.specs.Sizes.{IsWorkers};
 
 use std::thread;
 use std::thread::Threads;
+use uc_model::limits::MOST_WORKERS;
 
 /// So many workers are never too many, however few processors there are: a gate may let a few tasks
 /// wait for one another.
 const FEW_WORKERS: u32 = 4;
 
-/// The most workers that words ask for.
-const MOST_WORKERS: usize = 32;
-
 /// How many processors there are, as far as it matters; as many as matter where that isn't known.
 fn processors<R: Threads>(rt: &R) -> u32 {
     match thread::available_parallelism(rt) {
-        Ok(count) => count.get().min(MOST_WORKERS) as u32,
-        Err(_) => MOST_WORKERS as u32,
+        Ok(count) => count.get().min(MOST_WORKERS as usize) as u32,
+        Err(_) => MOST_WORKERS,
     }
 }
 

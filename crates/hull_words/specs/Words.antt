@@ -26,6 +26,8 @@ use Rattle.hull_words.specs.Spelling.{command_named, options, spelling}
 use Rattle.hull_words.specs.Texts.{is_option, option_name, own_value, takes_next, can_be_value}
 use Rattle.hull_words.specs.Texts.{number_in}
 use Rattle.hull_words.specs.Asked.{Asked, Found, asked_from}
+use Rattle.uc_model.specs.declared.limits.TheConstants.{MOST_PROPOSALS, MOST_WORKERS}
+use Rattle.uc_model.specs.declared.limits.TheConstants.{MOST_AHEAD, MOST_RADIUS}
 
 -- ---- one option
 
@@ -50,10 +52,10 @@ value_at word next = or_else (own_value word) next
 
 -- the number of an option that has one, where the text is such a number within its range
 abbrev pub setting : OptionKind → List ℕ → Option ℕ
-setting Proposals text = number_in 1 10_000 text
-setting Workers text = number_in 1 32 text
-setting Ahead text = number_in 1 16 text
-setting Radius text = number_in 0 20_000_000 text
+setting Proposals text = number_in 1 MOST_PROPOSALS text
+setting Workers text = number_in 1 MOST_WORKERS text
+setting Ahead text = number_in 1 MOST_AHEAD text
+setting Radius text = number_in 0 MOST_RADIUS text
 setting _ text = None
 
 abbrev pub fits : OptionKind → List ℕ → Bool

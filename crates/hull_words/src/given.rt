@@ -7,6 +7,7 @@ ghost use Rattle.hull_words.specs.Reading.{found_so_far, nothing, is_set, set_to
 use crate::fault::WordCode;
 use crate::kinds::OptionKind;
 use crate::text::number;
+use uc_model::limits::{MOST_AHEAD, MOST_PROPOSALS, MOST_RADIUS, MOST_WORKERS};
 
 /// The values that the words gave so far, each where it was given.
 #[derive(Clone, Copy)]
@@ -72,10 +73,10 @@ impl<'a> Given<'a> {
             OptionKind::Case => given.case_name = Some(text),
             OptionKind::Schedule => given.schedule_name = Some(text),
             OptionKind::Report => given.report_name = Some(text),
-            OptionKind::Proposals => given.proposals = Some(small_number(text, 1, 10_000)?),
-            OptionKind::Workers => given.workers = Some(small_number(text, 1, 32)?),
-            OptionKind::Ahead => given.ahead = Some(small_number(text, 1, 16)?),
-            OptionKind::Radius => given.radius = Some(small_number(text, 0, 20_000_000)?),
+            OptionKind::Proposals => given.proposals = Some(small_number(text, 1, MOST_PROPOSALS)?),
+            OptionKind::Workers => given.workers = Some(small_number(text, 1, MOST_WORKERS)?),
+            OptionKind::Ahead => given.ahead = Some(small_number(text, 1, MOST_AHEAD)?),
+            OptionKind::Radius => given.radius = Some(small_number(text, 0, MOST_RADIUS)?),
         }
         Ok(given)
     }

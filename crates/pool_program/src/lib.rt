@@ -5,6 +5,7 @@
 ghost use Rattle.std.specs.Prelude.{◌≡◌, ℕ, ◌≤◌, length, suc, IsTrue, IsFalse, IfOk};
 ghost use Rattle.uc_model.specs.Data.{Schedule, Thermal};
 ghost use Rattle.uc_model.specs.Earnings.{earnings, IsBest};
+ghost use Rattle.uc_model.specs.declared.limits.TheConstants.{MOST_PERIODS, MOST_POINTS};
 ghost use Rattle.uc_model.specs.PlainUnits.{thermal_of, prices_of, schedule_of};
 ghost use Rattle.uc_model.specs.Schedules.{IsThermalFeasible};
 ghost use Rattle.uc_model.specs.Ties.{IsLeast};
@@ -34,8 +35,8 @@ pub struct PoolBench {
 impl PoolBench {
     /// A bench for so many periods and cost points.
     pub fn make(alloc: Global, periods: u32, points: u32) -> Result<PoolBench, AllocError>
-        requires periods { periods ≤ 168 }
-        requires points { points ≤ 32 }
+        requires periods { periods ≤ MOST_PERIODS }
+        requires points { points ≤ MOST_POINTS }
         ensures { IfOk result (IsPoolBenchFor periods points) }
     {
         let pool = Pool::make(alloc, (periods + 2) * (1 + periods * (2 * points + 3)))?;

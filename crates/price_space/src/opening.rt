@@ -2,6 +2,7 @@
 ghost use Rattle.std.specs.Prelude.{◌≡◌, ◌+◌, ◌≤◌, ℤ, pos, neg_ℤ, ◌*ℤ◌, length, map, replicate};
 ghost use Rattle.std.specs.List.{All};
 ghost use Rattle.uc_model.specs.Limits.{IsFrom, price_limit};
+ghost use Rattle.uc_model.specs.declared.limits.TheConstants.{MOST_AHEAD};
 ghost use Rattle.uc_model.specs.PlainUnits.{prices_of};
 ghost use Rattle.uc_model.specs.PriceRule.{opening_prices_of};
 ghost use Rattle.uc_model.specs.Sums.{floor_div};
@@ -14,21 +15,21 @@ use uc_model::units::Prices;
 
 // (7 + n) / 8 of a start price, rounded down. A start price may be any number.
 fn share_of(start: i64, n: u32) -> i128
-    requires { n ≤ 16 }
+    requires { n ≤ MOST_AHEAD }
     ensures { result ≡ floor_div (start *ℤ pos (7 + n)) 8 }
 {
     (i128::from(start) * i128::from(7 + n)).div_euclid(8)
 }
 
 fn opening_price(start: i64, n: u32) -> i64
-    requires { n ≤ 16 }
+    requires { n ≤ MOST_AHEAD }
     ensures { result ≡ opened n start }
 {
     price_near(-PRICE_LIMIT, share_of(start, n))
 }
 
 fn open_energy(start: &Numbers, n: u32, into: &mut Numbers)
-    requires n { n ≤ 16 }
+    requires n { n ≤ MOST_AHEAD }
     requires lengths { length into.old.items ≡ length start.now.items }
     ensures prices { into.new.items ≡ map (opened n) start.now.items }
     ensures limits { All (IsFrom (neg_ℤ price_limit) price_limit) into.new.items }
@@ -54,7 +55,7 @@ fn write_zeros(into: &mut Numbers)
 /// price is 0. The lists are over the same periods. Takes no memory.
 pub fn opening_prices(start: &Numbers, n: u32, into: &mut Prices)
     requires least { 1 ≤ n }
-    requires most { n ≤ 16 }
+    requires most { n ≤ MOST_AHEAD }
     requires lengths { length (prices_of into.old).energy ≡ length start.now.items }
     ensures { prices_of into.new ≡ opening_prices_of start.now.items n }
 {

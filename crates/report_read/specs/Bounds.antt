@@ -4,7 +4,8 @@ use Rattle.std.specs.Prelude.{length}
 use Rattle.std.specs.List.{AllByRecursion}
 use Rattle.uc_model.specs.Limits.{IsFrom, IsHorizon}
 use Rattle.uc_model.specs.PriceRule.{Proposal}
-use Rattle.uc_model.specs.declared.limits.TheConstants.{MOST_UNITS, MOST_PROPOSALS, PRICE_LIMIT}
+use Rattle.uc_model.specs.declared.limits.TheConstants.{MOST_UNITS, MOST_PROPOSALS, MOST_AHEAD}
+use Rattle.uc_model.specs.declared.limits.TheConstants.{PRICE_LIMIT}
 use Rattle.report_form.specs.ReportText.{UnitLine, Report}
 use Rattle.report_form.specs.Laws.{IsFlatLine}
 use Rattle.report_read.specs.Plain.{Told, rank}
@@ -69,7 +70,7 @@ pub record IsReport (r : Report) : Type 0 where
   pub budget_at_least : 1 ≤ r.budget
   pub budget_at_most : r.budget ≤ MOST_PROPOSALS
   pub ahead_at_least : 1 ≤ r.ahead
-  pub ahead_at_most : r.ahead ≤ 16
+  pub ahead_at_most : r.ahead ≤ MOST_AHEAD
   pub cost : IsAmount r.cost
   pub rows_at_least : 1 ≤ length r.rows
   pub rows_at_most : IsCount (length r.rows)

@@ -5,7 +5,7 @@ use Rattle.std.specs.Prelude.{◌∷◌, length, replicate, codes, Some, None, R
 use Rattle.uc_model.specs.declared.kinds.Kind.{Kind}
 use Rattle.uc_model.specs.declared.kinds.Kind.TheVariants as kinds
 use Rattle.uc_model.specs.declared.limits.TheConstants.{MOST_PERIODS, MOST_UNITS}
-use Rattle.uc_model.specs.declared.limits.TheConstants.{MOST_PROPOSALS, PRICE_LIMIT}
+use Rattle.uc_model.specs.declared.limits.TheConstants.{MOST_PROPOSALS, MOST_AHEAD, PRICE_LIMIT}
 use Rattle.uc_model.specs.Data.{Schedule}
 use Rattle.uc_model.specs.PriceRule.{Proposal}
 use Rattle.report_form.specs.declared.report.Head.{Head}
@@ -82,7 +82,7 @@ head_at =
     then_lines (count_line (codes "periods ") 1 MOST_PERIODS) (λ _.
     then_lines (count_line (codes "units ") 1 MOST_UNITS) (λ _.
     then_lines (count_line (codes "budget ") 1 MOST_PROPOSALS) (λ _.
-    then_lines (count_line (codes "ahead ") 1 16) (λ _.
+    then_lines (count_line (codes "ahead ") 1 MOST_AHEAD) (λ _.
     then_lines (amount_line (codes "cost ")) (λ _.
     count_line (codes "proposals ") 1 4294967295)))))))
 

@@ -4,7 +4,7 @@ ghost use Rattle.report_read.specs.Lines.{Gives, head_at, foot_at};
 use crate::lines::{amount_line, count_line, word_line};
 use crate::stop::Stop;
 use report_form::report::Head;
-use uc_model::limits::{MOST_PERIODS, MOST_PROPOSALS, MOST_UNITS};
+use uc_model::limits::{MOST_AHEAD, MOST_PERIODS, MOST_PROPOSALS, MOST_UNITS};
 
 /// What stands behind the units, in money.
 #[derive(Clone, Copy)]
@@ -23,7 +23,7 @@ pub fn read_head(bytes: &[u8]) -> Result<(Head, &[u8]), Stop>
     let (periods, rest) = count_line(b"periods ", 1, MOST_PERIODS, rest)?;
     let (units, rest) = count_line(b"units ", 1, MOST_UNITS, rest)?;
     let (budget, rest) = count_line(b"budget ", 1, MOST_PROPOSALS, rest)?;
-    let (ahead, rest) = count_line(b"ahead ", 1, 16, rest)?;
+    let (ahead, rest) = count_line(b"ahead ", 1, MOST_AHEAD, rest)?;
     let (cost, rest) = amount_line(b"cost ", rest)?;
     let (proposals, rest) = count_line(b"proposals ", 1, u32::MAX, rest)?;
     let head = Head {

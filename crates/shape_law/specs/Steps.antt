@@ -1,6 +1,7 @@
 -- One period of a spell as a step on functions of the power: the dispatch rules of pglib-uc, taken
 -- one period at a time.
 use Rattle.std.specs.Prelude.{◌≡◌, ℤ, pos, neg_ℤ, ◌*ℤ◌, ◌≤ℤ◌, Some}
+use Rattle.uc_model.specs.declared.limits.TheConstants.{GAIN_LIMIT, SPELL_LIMIT}
 use Rattle.uc_model.specs.declared.units.Curve.{Curve}
 use Rattle.uc_model.specs.Limits.{IsFrom, IsPower, IsOutput, IsCost, price_limit}
 use Rattle.shape_law.specs.declared.step.Step.{Step}
@@ -16,7 +17,7 @@ pub record IsFairStep (s : Step) : Type 0 where
   pub ramp_up : IsPower s.ramp_up
   pub ramp_down : IsPower s.ramp_down
   pub reserve_price : IsFrom (pos 0) price_limit s.reserve_price
-  pub slope : IsFrom (neg_ℤ price_limit) (pos 20000000) s.slope
+  pub slope : IsFrom (neg_ℤ price_limit) GAIN_LIMIT s.slope
 
 -- the curve may be added to a shape, and has a cost at each power of the step
 pub record IsCostOf (s : Step) (c : Curve) : Type 0 where
@@ -41,4 +42,4 @@ pub record IsStepped (s : Step) (c : Curve) (f h : Table) : Type 0 where
 abbrev pub IsSmall : Table → Type 0
 IsSmall f =
     (x v : ℤ) → value_of f x ≡ Some v → IsOutput x
-    × IsFrom (neg_ℤ (pos 500000000000000000)) (pos 500000000000000000) v
+    × IsFrom (neg_ℤ SPELL_LIMIT) SPELL_LIMIT v

@@ -4,6 +4,7 @@ use Rattle.std.specs.Prelude.{◌≡◌, ℕ, suc, ◌+◌, ◌-◌, ◌<◌, �
 use Rattle.std.specs.Prelude.{◌<ℤ◌, int_lt, if◌then◌else◌, List, length}
 use Rattle.std.specs.Int.{int_min}
 use Rattle.uc_model.specs.Limits.{IsFrom, IsOutput}
+use Rattle.uc_model.specs.declared.limits.TheConstants.{SPELL_LIMIT}
 use Rattle.shape_law.specs.declared.step.Step.{Step}
 use Rattle.shape_law.specs.Curve.{reserve_term}
 use Rattle.shape_law.specs.Table.{IsPlace, IsAmount}
@@ -51,7 +52,7 @@ AreGentle ps = (k : ℕ) → k < length ps → IsGentle (piece ps k).slope
 abbrev pub AreSmall : Start → List Piece → Type 0
 AreSmall start ps =
     (x : ℤ) → start.first ≤ℤ x → x ≤ℤ last_place start.first ps
-    → IsOutput x × IsFrom (neg_ℤ (pos 500000000000000000)) (pos 500000000000000000)
+    → IsOutput x × IsFrom (neg_ℤ SPELL_LIMIT) SPELL_LIMIT
     (function_of start ps x)
 
 -- places and values are within the limits

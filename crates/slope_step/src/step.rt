@@ -2,6 +2,7 @@
 ghost use Rattle.std.specs.Prelude.{◌≡◌, ◌+◌, ◌≤◌, pos, neg_ℤ, ◌+ℤ◌, ◌*ℤ◌, ◌≤ℤ◌, ◌<ℤ◌, length};
 ghost use Rattle.std.specs.Option.{IfSome};
 ghost use Rattle.uc_model.specs.Limits.{IsFrom, IsOutput, IsCost};
+ghost use Rattle.uc_model.specs.declared.limits.TheConstants.{SPELL_LIMIT};
 ghost use Rattle.shape_law.specs.Curve.{reserve_term, IsLimitedCurve};
 ghost use Rattle.shape_law.specs.Steps.{IsFairStep, IsCostOf, IsStepped, IsSmall};
 ghost use Rattle.slope_step.specs.Pieces.{table_of, AreSlopes};
@@ -51,7 +52,7 @@ pub(crate) struct Opening {
 /// the cost of the place.
 fn level_of(step: Step, value: i64, near: i64, at: i64, cost: i64) -> i64
     requires fair { IsFairStep step }
-    requires value { IsFrom (neg_ℤ (pos 500000000000000000)) (pos 500000000000000000) value }
+    requires value { IsFrom (neg_ℤ SPELL_LIMIT) SPELL_LIMIT value }
     requires near { IsOutput near }
     requires at { IsOutput at }
     requires cost { IsCost cost }

@@ -24,6 +24,18 @@ pub const MOST_BLOCKS: u32 = 8;
 /// Proposals of a run.
 pub const MOST_PROPOSALS: u32 = 10_000;
 
+/// Proposals that may be open ahead of the last answered one.
+pub const MOST_AHEAD: u32 = 16;
+
+/// Workers of a run.
+pub const MOST_WORKERS: u32 = 32;
+
+/// Callers of a board: a worker each, and one more.
+pub const MOST_CALLERS: u32 = 33;
+
+/// Tasks of a run: one for each unit and proposal.
+pub const MOST_TASKS: u32 = 122_880_000;
+
 /// Units times periods times proposals of a run.
 pub const MOST_WORK: u64 = 50_000_000;
 
@@ -41,3 +53,12 @@ pub const COST_LIMIT: i64 = 10_000_000_000_000;
 
 /// The greatest price in magnitude, in money for a kilowatt and period.
 pub const PRICE_LIMIT: i64 = 10_000_000;
+
+/// The greatest magnitude of what a kilowatt of a period gains: a price, or one less another.
+pub const GAIN_LIMIT: i64 = 20_000_000;
+
+/// The greatest distance of a price from a chosen one, in money for a kilowatt and period.
+pub const MOST_RADIUS: u32 = 20_000_000;
+
+/// The greatest magnitude of what a spell costs up to a period, less what prices pay for it.
+pub const SPELL_LIMIT: i64 = 500_000_000_000_000_000;

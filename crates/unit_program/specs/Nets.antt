@@ -3,6 +3,7 @@
 use Rattle.std.specs.Prelude.{◌≡◌, ℕ, suc, ◌<◌, ℤ, pos, neg_ℤ, ◌-ℤ◌, ◌*ℤ◌, ◌≤ℤ◌, List, length}
 use Rattle.std.specs.Prelude.{slice_index_or}
 use Rattle.uc_model.specs.declared.units.Point.{Point}
+use Rattle.uc_model.specs.declared.limits.TheConstants.{GAIN_LIMIT}
 
 -- the point at place k costs no more than any of the list, less what they are worth at a price
 abbrev pub HasLeastNet : List Point → ℕ → ℤ → Type 0
@@ -13,7 +14,7 @@ HasLeastNet ps k price =
 
 -- the first point does at each price up to one of them, and the last at each from another one on
 pub record AreKnown (ps : List Point) (first_to last_from : ℤ) : Type 0 where
-  pub first : (price : ℤ) → neg_ℤ (pos 20000000) ≤ℤ price → price ≤ℤ first_to →
+  pub first : (price : ℤ) → neg_ℤ GAIN_LIMIT ≤ℤ price → price ≤ℤ first_to →
       HasLeastNet ps 0 price
   pub last : (n : ℕ) (price : ℤ) → suc n ≡ length ps → last_from ≤ℤ price →
-      price ≤ℤ pos 20000000 → HasLeastNet ps n price
+      price ≤ℤ GAIN_LIMIT → HasLeastNet ps n price

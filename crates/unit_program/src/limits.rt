@@ -10,7 +10,7 @@ ghost use Rattle.uc_model.specs.Envelope.{envelope};
 ghost use Rattle.uc_model.specs.Limits.{IsFrom, IsPoint, ArePointsOrdered};
 ghost use Rattle.uc_model.specs.PlainUnits.{thermal_of, prices_of};
 ghost use Rattle.uc_model.specs.Sums.{int_at};
-ghost use Rattle.uc_model.specs.declared.limits.TheConstants.{PRICE_LIMIT};
+ghost use Rattle.uc_model.specs.declared.limits.TheConstants.{GAIN_LIMIT, PRICE_LIMIT};
 ghost use Rattle.period_table.specs.Limits.{AreLimits};
 ghost use Rattle.unit_program.specs.Nets.{AreKnown};
 
@@ -21,7 +21,7 @@ use uc_model::units::{Point, Prices, Unit};
 // What a point costs less what its power is worth at a price.
 fn net_of(point: &Point, price: i64) -> i64
     requires point { IsPoint point.now }
-    requires price { IsFrom (neg_ℤ (pos 20000000)) (pos 20000000) price }
+    requires price { IsFrom (neg_ℤ GAIN_LIMIT) GAIN_LIMIT price }
     ensures value { result ≡ point.now.cost -ℤ (price *ℤ point.now.at) }
     ensures bound { IsFrom (neg_ℤ (pos 20010000000000000)) (pos 20010000000000000) result }
 {
@@ -31,7 +31,7 @@ fn net_of(point: &Point, price: i64) -> i64
 // At most what any of the points costs less what its power is worth at a price.
 fn least_net(points: &[Point], price: i64) -> i64
     requires points { All IsPoint points.now }
-    requires price { IsFrom (neg_ℤ (pos 20000000)) (pos 20000000) price }
+    requires price { IsFrom (neg_ℤ GAIN_LIMIT) GAIN_LIMIT price }
     ensures least { All (λ (p : Point). result ≤ℤ (p.cost -ℤ (price *ℤ p.at))) points.now }
     ensures bound { IsFrom (neg_ℤ (pos 20010000000000000)) (pos 20010000000000000) result }
 {
@@ -65,7 +65,7 @@ fn known_net(points: &[Point], price: i64, known: &mut Known) -> i64
     requires some { 1 ≤ length points.now }
     requires points { All IsPoint points.now }
     requires ordered { ArePointsOrdered points.now }
-    requires price { IsFrom (neg_ℤ (pos 20000000)) (pos 20000000) price }
+    requires price { IsFrom (neg_ℤ GAIN_LIMIT) GAIN_LIMIT price }
     requires known { AreKnown points.now known.old.first_to known.old.last_from }
     ensures least { All (λ (p : Point). result ≤ℤ (p.cost -ℤ (price *ℤ p.at))) points.now }
     ensures bound { IsFrom (neg_ℤ (pos 20010000000000000)) (pos 20010000000000000) result }
