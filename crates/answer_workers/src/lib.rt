@@ -7,6 +7,7 @@
 
 mod all;
 mod gate;
+mod last;
 mod pace;
 mod tasks;
 mod visit;
@@ -16,5 +17,6 @@ mod worker;
 
 pub use all::answer_all;
 pub use gate::{Gate, NoGate};
+pub use last::LastAnswers;
 pub use tasks::{answer_task, most_points};
 pub use worker::{Ended, Held, MOST_HELD, Worker};

@@ -9,6 +9,7 @@ ghost use Rattle.std.specs.List.{All};
 ghost use Rattle.unit_program.specs.Benches.{IsBenchFor};
 ghost use Rattle.answer_workers.specs.Answers.{HasSchedule, IsResponse, Suffices};
 
+use crate::last::LastAnswers;
 use flat_answer::{best_bid, best_flat};
 use slope_list::Slopes;
 use uc_model::cases::{Case, Task};
@@ -29,14 +30,8 @@ pub fn most_points(case: &Case) -> u32
     most
 }
 
-// Answers the thermal unit of a number, which has a schedule.
-fn answer_thermal(
-    bench: &mut Bench<Slopes>,
-    number: u32,
-    unit: &Unit,
-    prices: &Prices,
-    into: &mut Answered,
-)
+// Answers a thermal unit, which has a schedule.
+fn answer_thermal(bench: &mut Bench<Slopes>, unit: &Unit, prices: &Prices, into: &mut Answered)
     requires horizon { length (thermal_of unit.now).window ≡ length (prices_of prices.now).energy }
     requires some { HasSchedule (Thermal (thermal_of unit.now))
         (length (prices_of prices.now).energy) }
@@ -48,7 +43,6 @@ fn answer_thermal(
     ensures bench { (periods : ℕ) (u : AnyUnit) → Suffices periods u bench.old
         → Suffices periods u bench.new }
 {
-    bench.ask_for(number);
     // It is found, since some schedule is feasible.
     let _ = least_on_bench(bench, unit, prices, into);
 }
@@ -67,8 +61,24 @@ pub fn answer_task(bench: &mut Bench<Slopes>, task: &Task, into: &mut Answered)
         → Suffices periods u bench.new }
 {
     match task.kind {
-        UnitKind::Thermal => { answer_thermal(bench, task.unit, &task.thermal, &task.prices, into) }
+        UnitKind::Thermal => { answer_thermal(bench, &task.thermal, &task.prices, into) }
         UnitKind::Flat => best_flat(&task.flat, &task.prices, into),
         UnitKind::Bid => best_bid(&task.bid, &task.prices, into),
     }
+}
+
+/// As `answer_task`, begun with what the unit answered last, and leaves there what it answers.
+pub fn answer_again(last: &LastAnswers, bench: &mut Bench<Slopes>, task: &Task, into: &mut Answered)
+    requires some { HasSchedule (task_unit task.now) (length (prices_of task.now.prices).energy) }
+    requires bench { Suffices (length (prices_of task.now.prices).energy) (task_unit task.now)
+        bench.old }
+    requires horizon { length (schedule_of into.old.response).on
+        ≡ length (prices_of task.now.prices).energy }
+    ensures response { IsResponse (task_unit task.now) (prices_of task.now.prices) into.new }
+    ensures bench { (periods : ℕ) (u : AnyUnit) → Suffices periods u bench.old
+        → Suffices periods u bench.new }
+{
+    last.exchange(task.unit, bench);
+    answer_task(bench, task, into);
+    last.exchange(task.unit, bench);
 }

@@ -5,7 +5,7 @@ ghost use Rattle.answer_workers.specs.Workers.{market_at, AreGiven, AreAnswered}
 
 use crate::gate::Gate;
 use crate::pace::Pace;
-use crate::tasks::answer_task;
+use crate::tasks::answer_again;
 use crate::visit::Crew;
 use crate::waiting::next_visit;
 use crate::worker::{Ended, Worker};
@@ -28,7 +28,8 @@ fn answer_each<G: Gate>(worker: &mut Worker, given: usize, gate: &G)
         held.proposal = held.task.proposal;
         held.unit = held.task.unit;
         gate.between(caller, held.proposal, held.unit);
-        answer_task(&mut worker.bench, &held.task, &mut worker.answer);
+        let last = &worker.last;
+        answer_again(last, &mut worker.bench, &held.task, &mut worker.answer);
         swap(&mut worker.answer, &mut held.answer);
     }
 }

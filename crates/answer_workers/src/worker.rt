@@ -6,9 +6,11 @@ ghost use Rattle.uc_model.specs.declared.limits.TheConstants.{MOST_PERIODS, MOST
 ghost use Rattle.answer_workers.specs.Workers.{HasParts, IsHeldFor};
 ghost use Rattle.answer_workers.specs.declared.worker.TheConstants.{MOST_HELD};
 
+use crate::last::LastAnswers;
 use board_share::Seat;
 use slope_list::Slopes;
 use std::alloc::{AllocError, Global};
+use std::sync::Arc;
 use uc_model::cases::Task;
 use uc_model::units::Answered;
 use unit_program::Bench;
@@ -38,6 +40,8 @@ pub struct Worker {
     pub answer: Answered,
     /// The tasks that it was given at its last visit to the board, and their answers.
     pub held: Vec<Held>,
+    /// What units answered last, shared by all workers.
+    pub last: Arc<LastAnswers, Global>,
 }
 
 /// How the work at a board ended.
@@ -83,12 +87,11 @@ fn make_held(alloc: Global, periods: u32) -> Result<Vec<Held>, AllocError>
 
 impl Worker {
     /// A worker for a case of so many periods, whose thermal units have at most so many cost
-    /// points; their last answers are kept, so many of them. `AllocError` is want of memory; the
-    /// seat is then dropped.
+    /// points. `AllocError` is want of memory; the seat is then dropped.
     pub fn make(
         alloc: Global,
         seat: Seat,
-        units: u32,
+        last: Arc<LastAnswers, Global>,
         periods: u32,
         points: u32,
     ) -> Result<Worker, AllocError>
@@ -101,7 +104,7 @@ impl Worker {
             → HasParts m w) }
     {
         let mut bench = Bench::make(alloc, periods, points)?;
-        bench.keep_for(alloc, units, periods)?;
+        bench.keep_for(alloc, 1, periods)?;
         let task = Task::make(alloc, periods)?;
         let answer = Answered::make(alloc, periods)?;
         let held = make_held(alloc, periods)?;
@@ -111,6 +114,7 @@ impl Worker {
             task,
             answer,
             held,
+            last,
         })
     }
 }

@@ -11,13 +11,13 @@ ghost use Rattle.uc_model.specs.declared.limits.TheConstants.{MOST_PERIODS, MOST
 ghost use Rattle.answer_workers.specs.Answers.{IsBenchOf};
 ghost use Rattle.board_run.specs.Crews.{named_by, IsCrew, AreOut};
 
-use answer_workers::{Gate, Worker, answer_all};
+use answer_workers::{Gate, LastAnswers, Worker, answer_all};
 use board_core::Closed;
 use board_history::laws::finished_stays_finished;
 use board_share::{Seat, SharedBoard};
 use slope_list::Slopes;
 use std::alloc::{AllocError, Global};
-use std::sync::Wait;
+use std::sync::{Arc, Wait};
 use std::thread::Threads;
 use unit_program::Bench;
 
@@ -43,14 +43,15 @@ pub fn hire(
     requires points { All (λ (n : NamedThermalUnit). length n.unit.points ≤ points) (view_of owner).setup.market.thermal }
     ensures crew { IfOk result (λ ws. IsCrew (view_of owner).setup board.now ws.items) }
 {
+    let last = LastAnswers::shared(alloc, units, periods)?;
     let mut workers = Vec::with_capacity(alloc, count as usize)?;
     for _ in 1..count {
         let Some(seat) = board.split(&mut owner) else {
             unreachable!()
         };
-        workers.push_reserved(Worker::make(alloc, seat, units, periods, points)?);
+        workers.push_reserved(Worker::make(alloc, seat, Arc::try_clone(&last)?, periods, points)?);
     }
-    workers.push_reserved(Worker::make(alloc, owner, units, periods, points)?);
+    workers.push_reserved(Worker::make(alloc, owner, last, periods, points)?);
     Ok(workers)
 }
 
@@ -67,6 +68,7 @@ fn join_all(board: &SharedBoard, owner: &mut Seat, workers: &mut Vec<Worker>)
             task: _,
             answer: _,
             held: _,
+            last: _,
         } = worker;
         board.join(owner, seat);
     }
@@ -108,6 +110,7 @@ pub fn answer_board<R: Threads + Wait + Sync, G: Gate>(
         task: _,
         answer: _,
         held: _,
+        last: _,
     } = owner;
     (close_board(board, seat, workers), bench)
 }

@@ -29,6 +29,7 @@ use period_table::table::{Entry, Table};
 use slope_list::Slopes;
 use spell_run::Running;
 use std::alloc::{AllocError, Global};
+use std::mem::swap;
 use uc_model::laws::earnings_are_within;
 use uc_model::lists::{Numbers, ReservedList};
 use uc_model::units::{Answered, Blocks, Curve, Prices, Unit};
@@ -124,6 +125,17 @@ impl<R> Bench<R> {
         }
         self.kept = kept;
         Ok(())
+    }
+
+    /// Swaps the last answer of the unit that is asked next with another, if one is kept. The answer
+    /// is the same whatever it is.
+    pub fn swap_kept(&mut self, other: &mut Kept)
+        ensures bench { (room : R → ℕ) (periods points : ℕ)
+            → IsBenchFor room periods points self.old → IsBenchFor room periods points self.new }
+    {
+        if let Some(kept) = self.kept.get_mut(self.number as usize) {
+            swap(kept, other);
+        }
     }
 
     /// Says the number of the unit that is asked next. The answer is the same whatever it is.

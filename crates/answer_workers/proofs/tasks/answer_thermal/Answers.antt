@@ -1,4 +1,4 @@
-use Rattle.answer_workers.proofs.Common.{length, room_of, thermal_of, prices_of}
+use Rattle.answer_workers.proofs.Common.{thermal_of, prices_of}
 use Rattle.answer_workers.proofs.Lemmas.{found, kept}
 use Rattle.answer_workers.proofs.tasks.answer_thermal.Goals as goal
 
@@ -8,7 +8,4 @@ returns-clause-response c =
     found (thermal_of c.args.unit.now) (prices_of c.args.prices.now) c.least_on_bench.new.into c.least_on_bench.result c.requires.some e.least e.earned e.none
 
 pub returns-clause-bench : goal.returns-clause-bench
-returns-clause-bench c = kept c.args.bench.now c.least_on_bench.new.bench (λ periods points b. c.least_on_bench.ensures.bench periods points (c.ask_for.ensures.bench room_of periods points b))
-
-pub least_on_bench-requires-clause-bench : goal.least_on_bench-requires-clause-bench
-least_on_bench-requires-clause-bench c = c.ask_for.ensures.bench room_of (length c.args.prices.now.energy.items) (length c.args.unit.now.points.items) c.requires.bench
+returns-clause-bench c = kept c.args.bench.now c.least_on_bench.new.bench (λ periods points b. c.least_on_bench.ensures.bench periods points b)
