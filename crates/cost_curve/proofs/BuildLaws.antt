@@ -160,10 +160,10 @@ module _ (greatest : EnvelopeIsGreatest) (costs : PowerCostsAreWithin) (ps : Lis
         let start = envelope_before w least (omega (arith, ints)) in
         let go = envelope_after (w +ℤ d) (omega (arith, ints, low)) (omega (arith, ints, high)) in
         let there : (point_at ps i).at +ℤ (w +ℤ d) ≡ ((point_at ps i).at +ℤ w) +ℤ d = omega (arith, ints) in
-        let same_place = ap (envelope ps) there in
+        let same_power = ap (envelope ps) there in
         let split = mul-add (t -ℤ pos 1) w d in
         let one = before_times t d in
-        omega (arith, ints, start, go, same_place, split, one)) in
+        omega (arith, ints, start, go, same_power, split, one)) in
         let end : ((point_at ps i).at +ℤ w) +ℤ (run -ℤ w) ≡ (point_at ps j).at = omega (arith, ints) in
         subst (λ (z : ℤ). IsBuilt ps at value (extended (extended bs (record { width = w; price = t -ℤ pos 1 })) (record { width = run -ℤ w; price = t })) z t) end second
 
@@ -227,8 +227,8 @@ module _ (greatest : EnvelopeIsGreatest) (costs : PowerCostsAreWithin) (ps : Lis
       let f = last.at.at_most in
       record {
         widths = curve.blocks.widths;
-        first_place = record { at_least = omega (arith, ints, starts, a); at_most = omega (arith, ints, starts, b) };
-        last_place = record { at_least = omega (arith, ints, ends, d); at_most = omega (arith, ints, ends, f) };
+        first_power = record { at_least = omega (arith, ints, starts, a); at_most = omega (arith, ints, starts, b) };
+        last_power = record { at_least = omega (arith, ints, ends, d); at_most = omega (arith, ints, ends, f) };
         values = λ x v is.
             let span = curve.inside x (is_some_of (curve_value c x) v is) in
             let limit = costs ps x are.some are.points span in

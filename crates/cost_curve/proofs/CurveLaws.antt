@@ -26,7 +26,7 @@ pub rise-append : (bs : List Block) (b : Block) → rise_of (bs ++ b ∷ []) ≡
 rise-append [] b = omega (arith, ints)
 rise-append (a ∷ bs) b = omega (arith, ints, rise-append bs b)
 
--- ---- the two cases of a place
+-- ---- the two cases of a power
 
 pub rise_in : (b : Block) (bs : List Block) (x : ℤ) → x ≤ℤ b.width → rise_at (b ∷ bs) x ≡ Some (b.price *ℤ x)
 rise_in b bs x h =

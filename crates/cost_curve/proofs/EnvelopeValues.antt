@@ -118,7 +118,7 @@ module _ (ps : List Point) (i j : ℕ) (i_in : i < length ps) (j_in : j < length
         greatest = λ z. elim (under z) [ inl h ↦ omega (arith, ints, h, d, far) | inr h ↦ h ];
       })
 
--- a place between two points' powers
+-- a power between those of two points
 pub Spans-ordered : (ps : List Point) → ArePointsOrdered ps → (i j : ℕ) (x : ℤ) → i < length ps → j < length ps → (point_at ps i).at ≤ℤ x → x ≤ℤ (point_at ps j).at → Spans ps x x
 Spans-ordered ps ordered i j x i_in j_in low high = record {
   first = λ d. let o = ordered_powers ps ordered 0 i (omega arith) i_in in let e = get_or_default ps 0 (record { at = pos 0; cost = pos 0 }) d (omega arith) in let f = ap (λ (p : Point). p.at) e in omega (arith, ints, o, low, f);

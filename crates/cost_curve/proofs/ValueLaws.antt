@@ -1,4 +1,4 @@
--- The value of a curve at a place, found block by block.
+-- The value of a curve at a power, found block by block.
 use Rattle.cost_curve.proofs.Common.{◌≡◌, inl, inr, ℤ, pos, ◌+ℤ◌, ◌-ℤ◌, ◌*ℤ◌, ◌≤ℤ◌, ◌<ℤ◌, Bool, true, false, cond, Option, Some, None, IsSome, List, [], ◌∷◌, refl, sym, ap, ◌∙◌, subst, arith, ints, *ℤ-zero, int_lt, is_some, option_map, Block, Curve, rise_at, curve_value, IsFrom, width_of, IsAmount, CanEvaluate}
 use Rattle.cost_curve.proofs.CurveLaws.{AreWide, head_wide, tail_wide, width_least, end_is, rise_in, rise_past, in_or_past}
 
@@ -67,8 +67,8 @@ module _ (c : Curve) (x : ℤ) (inside : IsSome (curve_value c x)) where
       let known = value_at x low in
       let end = end_is c.at c.blocks.items in
       let reach = before_last can.widths in
-      let first = can.first_place.at_least in
-      let last = can.last_place.at_most in
+      let first = can.first_power.at_least in
+      let last = can.last_power.at_most in
       record {
         least = omega (arith, ints, low);
         most = omega (arith, ints, reach, end, first, last);
@@ -88,7 +88,7 @@ module _ (found : Option ℤ) (b : Block) (bs : List Block) (value rest : ℤ) (
       let e : value +ℤ pos 0 ≡ value = omega (arith, ints) in
       subst IsAmount e h
 
-  -- the place lies in the block
+  -- the power lies in the block
   pub near_amount : rest ≤ℤ b.width → IsAmount (value +ℤ (b.price *ℤ rest))
   near_amount near = known.amounts rest (b.price *ℤ rest) known.least (rise_in b bs rest near)
 

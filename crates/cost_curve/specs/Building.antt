@@ -18,7 +18,7 @@ abbrev pub rise_of : List Block → ℤ
 rise_of [] = pos 0
 rise_of (b ∷ bs) = (b.price *ℤ b.width) +ℤ rise_of bs
 
--- blocks from a place and a value on are the envelope up to another place; no block is dearer than
+-- blocks from a power and a value on are the envelope up to another power; no block is dearer than
 -- the price
 pub record IsBuilt (ps : List Point) (at value : ℤ) (bs : List Block) (end price : ℤ) : Type 0 where
   pub ends : at +ℤ width_of bs ≡ end

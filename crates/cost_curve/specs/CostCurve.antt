@@ -1,4 +1,4 @@
--- The curve of a unit's cost points: its envelope at every place (this project's profile).
+-- The curve of a unit's cost points: its envelope at every power (this project's profile).
 use Rattle.std.specs.Prelude.{◌≡◌, ℕ, suc, ◌-◌, ◌*◌, ◌≤◌, ℤ, pos, neg_ℤ, ◌≤ℤ◌, List, length}
 use Rattle.std.specs.Prelude.{slice_index_or, Some, IsSome}
 use Rattle.std.specs.List.{All}
@@ -17,7 +17,7 @@ pub record AreCostPoints (ps : List Point) : Type 0 where
   pub points : All IsPoint ps
   pub ordered : ArePointsOrdered ps
 
--- the curve goes from the first to the last point's power, is the envelope at every place there,
+-- the curve goes from the first to the last point's power, is the envelope at every power there,
 -- and is nowhere else
 pub record IsCostCurve (ps : List Point) (c : Curve) : Type 0 where
   pub starts : (d : Point) → c.at ≡ (slice_index_or ps 0 d).at
@@ -33,17 +33,17 @@ abbrev pub EnvelopeIsCost : Type 0
 EnvelopeIsCost =
     (ps : List Point) (x : ℤ) → AreCostPoints ps → Spans ps x x → IsCost (envelope ps x)
 
--- a place within 4 * 10^9, and a value within 10^18
-abbrev pub IsPlace : ℤ → Type 0
-IsPlace x = IsFrom (neg_ℤ (pos 4000000000)) (pos 4000000000) x
+-- a power within 4 * 10^9, and a value within 10^18
+abbrev pub IsCurvePower : ℤ → Type 0
+IsCurvePower x = IsFrom (neg_ℤ (pos 4000000000)) (pos 4000000000) x
 
 abbrev pub IsAmount : ℤ → Type 0
 IsAmount v = IsFrom (neg_ℤ (pos 1000000000000000000)) (pos 1000000000000000000) v
 
--- a curve whose values can be computed: no width is negative, and its places and values are within
+-- a curve whose values can be computed: no width is negative, and its powers and values are within
 -- these limits
 pub record CanEvaluate (c : Curve) : Type 0 where
   pub widths : All (λ (b : Block). pos 0 ≤ℤ b.width) c.blocks.items
-  pub first_place : IsPlace c.at
-  pub last_place : IsPlace (end_of c.at c.blocks.items)
+  pub first_power : IsCurvePower c.at
+  pub last_power : IsCurvePower (end_of c.at c.blocks.items)
   pub values : (x v : ℤ) → curve_value c x ≡ Some v → IsAmount v

@@ -94,7 +94,7 @@ pub fn curve_of(alloc: Global, points: &[Point]) -> Result<Curve, AllocError>
     Ok(curve)
 }
 
-// A value of a curve, and how many kilowatts further the place lies.
+// A value of a curve, and how many kilowatts further the power lies.
 #[derive(Clone, Copy)]
 struct Reached {
     value: i64,
@@ -125,7 +125,7 @@ fn after_block(reached: Reached, block: &Block) -> Reached
     }
 }
 
-/// The curve's value at a place in it. No width is negative, the places are within 4 * 10^9
+/// The curve's value at a power in it. No width is negative, the powers are within 4 * 10^9
 /// kilowatts, and the values within 10^18 money.
 pub fn curve_at(c: &Curve, x: i64) -> i64
     requires curve { CanEvaluate c.now }

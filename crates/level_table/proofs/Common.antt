@@ -8,5 +8,5 @@ pub use Rattle.std.specs.Prelude.{ℤ, pos, ◌+ℤ◌, ◌≤ℤ◌, ◌<ℤ◌
 pub use Rattle.level_table.specs.Values.{table, IsLeastOf, AreWithin, within_limits}
 pub use Rattle.shape_law.specs.Curve.{curve_value, reserve_term}
 pub use Rattle.shape_law.specs.Effect.{IsLeast, IsLeastIn, IsSum, IsWindow, Reaches, IsCurveSum}
-pub use Rattle.shape_law.specs.Lookup.{IsAt-from_value, value-from_is_at, value_of-at, value_of-below, place_split, slice_get_past, same_some, value-from_index, slice_get_in}
+pub use Rattle.shape_law.specs.Lookup.{IsAt-from_value, value-from_is_at, value_of-at, value_of-below, power_split, slice_get_past, same_some, value-from_index, slice_get_in}
 pub use Rattle.shape_law.specs.Table.{value_of, HasNone, IsWithinLimits, IsPlace}

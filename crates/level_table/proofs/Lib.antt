@@ -1,11 +1,11 @@
 -- The names from elsewhere that the proofs here cite.
 pub mod Common
 -- ---- src/lib.rt
--- the values and the function, index by index and place by place
+-- the values and the function, index by index and power by power
 pub mod ValueLaws
 -- the least of the values is the least of the function
 pub mod LeastLaws
--- the least values in reach of the places between the two ends are the window
+-- the least values in reach of the powers between the two ends are the window
 pub mod WindowLaws
 -- The lemmas that answers cite.
 pub mod Lemmas

@@ -1,22 +1,22 @@
--- The values and the function, index by index and place by place.
-use Rattle.level_table.proofs.Common.{◌≡◌, ℕ, ◌<◌, List, length, get_or, Option, Some, None, refl, sym, subst, ap, ◌∙◌, arith, inl, inr, ℤ, pos, ◌+ℤ◌, ◌<ℤ◌, ◌⊎◌, slice_get, MatchOption, cases_lt, value_of, IsWithinLimits, IsSum, same_some, value-from_index, value_of-at, value_of-below, place_split, slice_get_in, slice_get_past, table, AreWithin}
+-- The values and the function, index by index and power by power.
+use Rattle.level_table.proofs.Common.{◌≡◌, ℕ, ◌<◌, List, length, get_or, Option, Some, None, refl, sym, subst, ap, ◌∙◌, arith, inl, inr, ℤ, pos, ◌+ℤ◌, ◌<ℤ◌, ◌⊎◌, slice_get, MatchOption, cases_lt, value_of, IsWithinLimits, IsSum, same_some, value-from_index, value_of-at, value_of-below, power_split, slice_get_in, slice_get_past, table, AreWithin}
 use Rattle.std.specs.Option.{option_map}
 
 pub AreWithin-from_limits : (lo : ℤ) (values : List ℤ) → IsWithinLimits (table lo values) → AreWithin lo values
 AreWithin-from_limits lo values h = record {
-  places = λ k inside. (h (lo +ℤ pos k) (get_or values k (pos 0)) (value-from_index (table lo values) k inside)).0;
+  powers = λ k inside. (h (lo +ℤ pos k) (get_or values k (pos 0)) (value-from_index (table lo values) k inside)).0;
   amounts = λ k inside. (h (lo +ℤ pos k) (get_or values k (pos 0)) (value-from_index (table lo values) k inside)).1;
 }
 
--- values that differ by what is known to be added at each place
+-- values that differ by what is known to be added at each power
 module _ (added : ℤ → Option ℤ) (lo : ℤ) (xs ys : List ℤ) (len : length ys ≡ length xs)
     (each : (k : ℕ) → k < length xs → (t : ℤ) × (added (lo +ℤ pos k) ≡ Some t) × (get_or ys k (pos 0) ≡ get_or xs k (pos 0) +ℤ t)) where
   abbrev IsAdded : ℤ → Option ℤ → Type 0
   IsAdded x o = MatchOption o (value_of (table lo ys) x ≡ None) (λ v. (t : ℤ) × (added x ≡ Some t) × (value_of (table lo ys) x ≡ Some (v +ℤ t)))
 
-  at_place : (x : ℤ) → ((k : ℕ) × (x ≡ lo +ℤ pos k)) ⊎ (x <ℤ lo) → IsAdded x (value_of (table lo xs) x)
-  at_place x (inr below) = subst (IsAdded x) (sym (value_of-below (table lo xs) x below)) (value_of-below (table lo ys) x below)
-  at_place x (inl p) =
+  at_power : (x : ℤ) → ((k : ℕ) × (x ≡ lo +ℤ pos k)) ⊎ (x <ℤ lo) → IsAdded x (value_of (table lo xs) x)
+  at_power x (inr below) = subst (IsAdded x) (sym (value_of-below (table lo xs) x below)) (value_of-below (table lo ys) x below)
+  at_power x (inl p) =
       let k = p.0 in
       let at_new : value_of (table lo ys) x ≡ slice_get ys k = ap (value_of (table lo ys)) p.1 ∙ value_of-at (table lo ys) k in
       let at_old : value_of (table lo xs) x ≡ slice_get xs k = ap (value_of (table lo xs)) p.1 ∙ value_of-at (table lo xs) k in
@@ -30,7 +30,7 @@ module _ (added : ℤ → Option ℤ) (lo : ℤ) (xs ys : List ℤ) (len : lengt
       ]
 
   pub added_at : (x : ℤ) → IsAdded x (value_of (table lo xs) x)
-  added_at x = at_place x (place_split lo x)
+  added_at x = at_power x (power_split lo x)
 
 -- a term that is known everywhere
 sum_by : (t : ℤ) (o p : Option ℤ) → MatchOption o (p ≡ None) (λ v. (u : ℤ) × (Some t ≡ Some u) × (p ≡ Some (v +ℤ u))) → p ≡ option_map (λ v. v +ℤ t) o

@@ -1,4 +1,4 @@
--- The values of a function, which stand from its first place on.
+-- The values of a function, which stand from its first power on.
 use Rattle.std.specs.Prelude.{◌≡◌, ℕ, ◌<◌, ℤ, pos, ◌+ℤ◌, ◌≤ℤ◌, ◌<ℤ◌, List, length, slice_index_or}
 use Rattle.shape_law.specs.Table.{Table, IsPlace, IsAmount, IsWithinLimits}
 use Rattle.shape_law.specs.Lookup.{IsAt-from_value}
@@ -7,9 +7,9 @@ use Rattle.std.proofs.Common.{subst, sym}
 abbrev pub table : ℤ → List ℤ → Table
 table lo values = record { lo = lo; values = values }
 
--- places and values are within the limits, index by index
+-- powers and values are within the limits, index by index
 pub record AreWithin (lo : ℤ) (values : List ℤ) : Type 0 where
-  pub places : (k : ℕ) → k < length values → IsPlace (lo +ℤ pos k)
+  pub powers : (k : ℕ) → k < length values → IsPlace (lo +ℤ pos k)
   pub amounts : (k : ℕ) → k < length values → IsAmount (slice_index_or values k (pos 0))
 
 -- v is the least of the values, first at index i
@@ -19,12 +19,12 @@ pub record IsLeastOf (values : List ℤ) (v : ℤ) (i : ℕ) : Type 0 where
   pub least : (k : ℕ) → k < length values → v ≤ℤ slice_index_or values k (pos 0)
   pub first : (k : ℕ) → k < i → v <ℤ slice_index_or values k (pos 0)
 
--- the law that a shape's places and values are within the limits
+-- the law that a shape's powers and values are within the limits
 pub within_limits : (lo : ℤ) (values : List ℤ) → AreWithin lo values →
     IsWithinLimits (table lo values)
 within_limits lo values h x v e =
     let a = IsAt-from_value (table lo values) x v e in (
-      subst IsPlace (sym a.place) (h.places a.offset a.inside),
+      subst IsPlace (sym a.power) (h.powers a.offset a.inside),
       subst IsAmount a.there
           (h.amounts a.offset a.inside),
     )

@@ -17,7 +17,7 @@ use shape_law::{Cells, Heap, Shape};
 use std::alloc::{AllocError, Global};
 use uc_model::units::Curve;
 
-/// A convex function by its values, one for each place from `lo` on.
+/// A convex function by its values, one for each power from `lo` on.
 #[derive(Drop)]
 pub struct Levels {
     lo: i64,
@@ -26,7 +26,7 @@ pub struct Levels {
     ghost within: { AreWithin lo values.items },
 }
 
-/// How many of the `len` places from `lo` on are below x.
+/// How many of the `len` powers from `lo` on are below x.
 fn count_below(lo: i64, len: usize, x: i64) -> usize
     ensures within { result ≤ len }
     ensures below { (k : ℕ) → k < result → (lo +ℤ pos k) <ℤ x }
@@ -39,7 +39,7 @@ fn count_below(lo: i64, len: usize, x: i64) -> usize
     }
 }
 
-/// How many of the `len` places from `lo` on are at most x.
+/// How many of the `len` powers from `lo` on are at most x.
 fn count_up_to(lo: i64, len: usize, x: i64) -> usize
     ensures within { result ≤ len }
     ensures up_to { (k : ℕ) → k < result → (lo +ℤ pos k) ≤ℤ x }
@@ -68,7 +68,7 @@ fn least_of(values: &[i64]) -> Option<(i64, usize)>
     Some((best, at))
 }
 
-/// The least value at the places from `from` to `to` and its least place.
+/// The least value at the powers from `from` to `to` and its least power.
 fn least_between(values: &[i64], lo: i64, from: i64, to: i64) -> Option<(i64, i64)>
     requires { AreWithin lo values.now }
     ensures { MatchOption result (HasNone from to (table lo values.now))
@@ -83,7 +83,7 @@ fn least_between(values: &[i64], lo: i64, from: i64, to: i64) -> Option<(i64, i6
     Some((value, lo + (start + at) as i64))
 }
 
-/// The least value at the places from `x - up` to `x + down`.
+/// The least value at the powers from `x - up` to `x + down`.
 fn least_in_reach(values: &[i64], lo: i64, up: i64, down: i64, x: i64) -> i64
     requires within { AreWithin lo values.now }
     requires up { IsPlace up }
@@ -98,7 +98,7 @@ fn least_in_reach(values: &[i64], lo: i64, up: i64, down: i64, x: i64) -> i64
     }
 }
 
-/// The least values in reach of `count` places from `from` on.
+/// The least values in reach of `count` powers from `from` on.
 fn windowed(
     alloc: Global,
     s: &Levels,
@@ -109,7 +109,7 @@ fn windowed(
 ) -> Result<Vec<i64>, AllocError>
     requires up { IsPlace up }
     requires down { IsPlace down }
-    requires places { (k : ℕ) → k < count → IsPlace (from +ℤ pos k) }
+    requires powers { (k : ℕ) → k < count → IsPlace (from +ℤ pos k) }
     requires some { (k : ℕ) → k < count → (y w : ℤ)
         × (value_of (table s.now.lo s.now.values.items) y ≡ Some w)
         × Reaches up down (from +ℤ pos k) y }
@@ -179,15 +179,15 @@ fn along(value: i64, slope: i64, x: i64) -> i64
     value + slope * x
 }
 
-/// What is added to the value at each place.
+/// What is added to the value at each power.
 trait Term {
-    /// What it adds at a place, if it is known there.
+    /// What it adds at a power, if it is known there.
     ghost added: { Self → ℤ → Option ℤ };
 
     /// Its numbers are within the limits.
     ghost limited: { Self → Type 0 };
 
-    /// The value at a place with the term added.
+    /// The value at a power with the term added.
     fn plus(&self, value: i64, x: i64) -> i64
         requires limited { limited self.now }
         requires x { IsPlace x }
@@ -248,7 +248,7 @@ impl Term for Moved<'_> {
     }
 }
 
-/// Adds a term to the value at each place.
+/// Adds a term to the value at each power.
 fn add_term<T: Term>(values: &mut [i64], lo: i64, term: &T)
     requires limited { T.limited term.now }
     requires within { AreWithin lo values.old }
@@ -263,7 +263,7 @@ fn add_term<T: Term>(values: &mut [i64], lo: i64, term: &T)
     }
 }
 
-/// The value at a place.
+/// The value at a power.
 fn value_in(values: &[i64], lo: i64, x: i64) -> Option<i64>
     ensures { result ≡ value_of (table lo values.now) x }
 {

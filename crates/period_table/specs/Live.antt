@@ -67,7 +67,7 @@ IsUnder power cost r =
 abbrev pub IsBeyond : ℤ → ℤ → Table → Type 0
 IsBeyond limit cost f = (x v : ℤ) → value_of f x ≡ Some v → (limit +ℤ pos 1) ≤ℤ (cost +ℤ v)
 
--- f, after cost e, is nowhere above f', after cost e', and has all its places
+-- f, after cost e, is nowhere above f', after cost e', and has all its powers
 abbrev pub IsBelow : Table → ℤ → Table → ℤ → Type 0
 IsBelow f e f' e' =
     (x v : ℤ) → value_of f' x ≡ Some v → (u : ℤ) × (value_of f x ≡ Some u) × ((e +ℤ u) ≤ℤ (e' +ℤ v))

@@ -87,7 +87,7 @@ pub fn stop_all<R: Running>(runners: &mut [Runner<R>])
     }
 }
 
-// The value at a power, where that is the first place.
+// The value at a power, where that is the first power.
 fn value_at_first<R: Running>(running: &R, power: i64) -> Option<i64>
     ensures { IfSome result (λ v. value_of (R.function running.now) power ≡ Some v) }
 {

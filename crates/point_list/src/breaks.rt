@@ -61,7 +61,7 @@ impl Shape for Breaks {
     ghost always_in = { λ h s _. tt };
 
     fn point(home: &mut Heap, at: i64, value: i64) -> Result<Breaks, AllocError>
-        requires place { IsPlace at }
+        requires power { IsPlace at }
         requires amount { IsAmount value }
         ensures ok { IfOk result (λ s. IsPoint at value (shown s)) }
         ensures charge { IfOk result (λ s. count_of s ≡ 1) }

@@ -39,7 +39,7 @@ fn make_room(knots: &mut Vec<Knot>, cells: usize) -> Result<u32, AllocError>
     Ok(used as u32)
 }
 
-/// Adds `slope * x` at each place x.
+/// Adds `slope * x` at each power x.
 pub(crate) fn add_line(knots: &mut Vec<Knot>, slope: i64)
     requires breaks { IsCountedList knots.old.items }
     requires fits { CanAdd (λ x. slope *ℤ x) (function_of knots.old.items) }
@@ -54,7 +54,7 @@ pub(crate) fn add_line(knots: &mut Vec<Knot>, slope: i64)
     line_step(knots, used, slope);
 }
 
-/// Subtracts `mu * min(cap, up + x)` at each place x.
+/// Subtracts `mu * min(cap, up + x)` at each power x.
 pub(crate) fn add_reserve(
     knots: &mut Vec<Knot>,
     mu: i64,
@@ -80,7 +80,7 @@ pub(crate) fn add_reserve(
     Ok(())
 }
 
-/// Adds the curve's value at `x + shift` at each place x.
+/// Adds the curve's value at `x + shift` at each power x.
 pub(crate) fn add_curve(knots: &mut Vec<Knot>, curve: &Curve, shift: i64) -> Result<(), AllocError>
     requires breaks { IsCountedList knots.old.items }
     requires limited { IsLimitedCurve curve.now }
@@ -104,7 +104,7 @@ pub(crate) fn add_curve(knots: &mut Vec<Knot>, curve: &Curve, shift: i64) -> Res
     Ok(())
 }
 
-/// The least values at the places from `x - up` to `x + down`, at the places x from `lo` to `hi`.
+/// The least values at the powers from `x - up` to `x + down`, at the powers x from `lo` to `hi`.
 pub(crate) fn window(
     knots: &mut Vec<Knot>,
     up: i64,
@@ -135,7 +135,7 @@ pub(crate) fn window(
 
 /// One breakpoint.
 pub(crate) fn point(alloc: Global, at: i64, value: i64) -> Result<Vec<Knot>, AllocError>
-    requires place { IsPlace at }
+    requires power { IsPlace at }
     requires amount { IsAmount value }
     ensures ok { IfOk result (λ knots. IsPoint at value (function_of knots.items)) }
     ensures breaks { IfOk result (λ knots. IsCountedList knots.items) }
@@ -147,7 +147,7 @@ pub(crate) fn point(alloc: Global, at: i64, value: i64) -> Result<Vec<Knot>, All
     Ok(knots)
 }
 
-/// The least value and its least place.
+/// The least value and its least power.
 pub(crate) fn least(knots: &[Knot]) -> Option<(i64, i64)>
     requires { IsCountedList knots.now }
     ensures { MatchOption result (IsEmpty (function_of knots.now))
@@ -159,7 +159,7 @@ pub(crate) fn least(knots: &[Knot]) -> Option<(i64, i64)>
     }
 }
 
-/// The least value at the places from `lo` to `hi` and its least place.
+/// The least value at the powers from `lo` to `hi` and its least power.
 pub(crate) fn least_in(knots: &[Knot], lo: i64, hi: i64) -> Option<(i64, i64)>
     requires { IsCountedList knots.now }
     ensures { MatchOption result (HasNone lo hi (function_of knots.now))
@@ -171,7 +171,7 @@ pub(crate) fn least_in(knots: &[Knot], lo: i64, hi: i64) -> Option<(i64, i64)>
     }
 }
 
-/// The value at a place.
+/// The value at a power.
 pub(crate) fn value_at(knots: &[Knot], x: i64) -> Option<i64>
     requires { IsCountedList knots.now }
     ensures { result ≡ value_of (function_of knots.now) x }

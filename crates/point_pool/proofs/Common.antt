@@ -8,7 +8,7 @@ pub use Rattle.point_pool.specs.CellLaws.{same_by_slots, same_cell, slot_if_used
 pub use Rattle.point_pool.specs.Seen.{cells_of, numbers_of, IsIn, knots_of, shown}
 pub use Rattle.point_pool.specs.Walk.{slot_at, AreUsed, Changes, walk, knots_at, no_slot, AreFree, Stored, Released, Replaced}
 pub use Rattle.point_pool.specs.declared.slot.Slot.{Slot}
-pub use Rattle.ramp_step.specs.Knots.{knot, height, place}
+pub use Rattle.ramp_step.specs.Knots.{knot, height, power}
 pub use Rattle.ramp_step.specs.Laws.{SameKnotsAreSame, IsRun, TurnIsLeast, NearestIsLeast}
 pub use Rattle.ramp_step.specs.Tables.{IsBreakList, table_of, function_of, AreBreaks}
 pub use Rattle.ramp_step.specs.declared.breakpoint.Knot.{Knot}

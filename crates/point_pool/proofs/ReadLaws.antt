@@ -114,7 +114,7 @@ module _ (ks : List Knot) (n : ℕ) (len : length ks ≡ n) (b : IsBreakList ks)
   pub IsLeast-turn : TurnIsLeast → IsLeast (function_of ks) q.value q.at
   IsLeast-turn law = subst (λ (p : Knot). IsLeast (function_of ks) p.value p.at) (sym a.there) (law ks (length ks) a.turn b turns)
 
-  -- what the value at the nearest place to it from lo to hi says
+  -- what the value at the nearest power to it from lo to hi says
   pub nearest : NearestIsLeast → (lo hi : ℤ) → lo ≤ℤ hi → (o : Option ℤ) → o ≡ value_of (function_of ks) (int_max lo (int_min hi q.at))
       → MatchOption o (HasNone lo hi (function_of ks)) (λ v. IsLeastIn lo hi (function_of ks) v (int_max lo (int_min hi q.at)))
   nearest law lo hi order o h =

@@ -30,7 +30,7 @@ impl Pool {
         self.slots[at as usize].knot
     }
 
-    /// The value at a place.
+    /// The value at a power.
     pub(crate) fn value_in(&self, head: u32, count: u32, x: i64) -> Option<i64>
         requires used { AreUsed self.now.slots.items (walk self.now.slots.items head count) }
         requires breaks { IsBreakList

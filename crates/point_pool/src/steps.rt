@@ -15,7 +15,7 @@ use shape_law::laws::effects_are_of_values;
 use uc_model::units::Curve;
 
 impl Pool {
-    /// Adds `slope * x` at each place x.
+    /// Adds `slope * x` at each power x.
     pub(crate) fn add_line(&mut self, used: u32, slope: i64)
         requires room { used ≤ length self.old.work.items }
         requires breaks { IsBreakList (take used self.old.work.items) }
@@ -31,7 +31,7 @@ impl Pool {
         line_step(&mut self.work, used, slope);
     }
 
-    /// Subtracts `mu * min(cap, up + x)` at each place x, and answers how many breakpoints there
+    /// Subtracts `mu * min(cap, up + x)` at each power x, and answers how many breakpoints there
     /// are.
     pub(crate) fn add_reserve(&mut self, used: u32, mu: i64, cap: i64, up: i64) -> u32
         requires room { used + 1 ≤ length self.old.work.items }
@@ -53,7 +53,7 @@ impl Pool {
         kink_step(&mut self.work, used, mu, cap, up)
     }
 
-    /// Adds the curve's value at `x + shift` at each place x, and answers how many breakpoints
+    /// Adds the curve's value at `x + shift` at each power x, and answers how many breakpoints
     /// there are.
     pub(crate) fn add_curve(&mut self, used: u32, curve: &Curve, shift: i64) -> u32
         requires some { 0 < used }
@@ -75,7 +75,7 @@ impl Pool {
         curve_step(&mut self.work, used, curve, shift)
     }
 
-    /// Takes the least values at the places from `x - up` to `x + down`, at the places x from `lo`
+    /// Takes the least values at the powers from `x - up` to `x + down`, at the powers x from `lo`
     /// to `hi`, and answers how many breakpoints there are.
     pub(crate) fn window(&mut self, used: u32, up: i64, down: i64, lo: i64, hi: i64) -> u32
         requires room { used + 4 ≤ length self.old.work.items }

@@ -7,5 +7,5 @@ use Rattle.pool_program.specs.declared.PoolBench.{PoolBench}
 pub record IsPoolBenchFor (periods points : ℕ) (b : PoolBench) : Type 0 where
   pub cells : cells_for periods points ≤ b.pool.spare
   pub blocks : 2 * points ≤ length b.curve.blocks.items + b.curve.blocks.spare
-  pub costs : periods ≤ length b.costs.entries.items
+  pub costs : periods ≤ length b.costs.items
   pub rows : periods < length b.table.items

@@ -9,10 +9,10 @@ pub use Rattle.std.specs.Option.{option_map}
 pub use Rattle.std.specs.Prelude.{ℤ, pos, ◌+ℤ◌, ◌-ℤ◌, ◌*ℤ◌, ◌≤ℤ◌, ◌<ℤ◌, int_lt, ◌⊎◌, negsuc, int_div, int_rem, unsigned_abs, slice_set, MatchOption, FitsSigned}
 pub use Rattle.ramp_step.specs.Curve.{rise_over, curve_term, block_end, AreBlocks, EndsOutside, IsRefined, AreLimitedBlocks, IsOver}
 pub use Rattle.ramp_step.specs.Cut.{IsSplit, IsOnLine, IsBetween, AreWithin, IsLimited, AreBelow, IsCut, AreDropped, IsInserted, IsPart}
-pub use Rattle.ramp_step.specs.Knots.{knot, place, height, IsStraight, IsConvex, StandFor, IsWide, IsShape, IsInside, CanAdd, HaveSameEnds, IsFar, AreRaised}
+pub use Rattle.ramp_step.specs.Knots.{knot, power, height, IsStraight, IsConvex, StandFor, IsWide, IsShape, IsInside, CanAdd, HaveSameEnds, IsFar, AreRaised}
 pub use Rattle.ramp_step.specs.Laws.{IsRun, MovesParts, RunsStandBetween, SameKnotsAreSame, OneKnotIsPoint, TurnIsLeast, NearestIsLeast}
 pub use Rattle.ramp_step.specs.Raise.{line_from, CanRaise, AreRaisedUpto, AreRaisedSoFar}
-pub use Rattle.ramp_step.specs.Read.{IsLowest, HasNoPlace, IsInsideWithin, IsValueAt}
+pub use Rattle.ramp_step.specs.Read.{IsLowest, HasNoPower, IsInsideWithin, IsValueAt}
 pub use Rattle.ramp_step.specs.Spaced.{spaced, AreMovedBack, IsMovedOn}
 pub use Rattle.ramp_step.specs.Tables.{table_of, AreWithinLimits, AreBreaks}
 pub use Rattle.ramp_step.specs.Values.{line_at, value_upto, values_of, values_from}

@@ -155,7 +155,7 @@ rise_in p (b ∷ bs) s (suc j) d x are h low high =
     let rest = rise_in b.price bs (s +ℤ b.width) j d x are.2 (omega arith) low high in
     omega (arith, ints)
 
--- the curve's value at a place of block j
+-- the curve's value at a power of block j
 pub record IsOnBlock (v : ℤ) (bs : List Block) (s : ℤ) (j : ℕ) (d : Block) (x : ℤ) : Type 0 where
   pub is : curve_term v bs s (block_end bs s j) +ℤ (get_or bs j d).price *ℤ (x -ℤ block_end bs s j) ≡ curve_term v bs s x
   pub amount : IsAmount (curve_term v bs s x)

@@ -1,5 +1,5 @@
 -- A curve of blocks is the term that the step on knots adds.
-use Rattle.ramp_step.proofs.Common.{◌≡◌, ℕ, zero, suc, ◌<◌, ◌≤◌, List, [], ◌∷◌, length, Option, Some, None, true, false, refl, sym, ap, ◌∙◌, subst, arith, ℤ, pos, ◌+ℤ◌, ◌-ℤ◌, ◌*ℤ◌, ◌≤ℤ◌, ◌<ℤ◌, int_lt, option_map, ints, by_lt_z, Block, Curve, rise_at, curve_value, end_of, CanAddCurve, IsWithinLimits, IsAmount, Knot, place, StandFor, IsShape, IsInside, CanAdd, rise_over, curve_term, block_end, AreBlocks, AreLimitedBlocks, IsOver, table_of}
+use Rattle.ramp_step.proofs.Common.{◌≡◌, ℕ, zero, suc, ◌<◌, ◌≤◌, List, [], ◌∷◌, length, Option, Some, None, true, false, refl, sym, ap, ◌∙◌, subst, arith, ℤ, pos, ◌+ℤ◌, ◌-ℤ◌, ◌*ℤ◌, ◌≤ℤ◌, ◌<ℤ◌, int_lt, option_map, ints, by_lt_z, Block, Curve, rise_at, curve_value, end_of, CanAddCurve, IsWithinLimits, IsAmount, Knot, power, StandFor, IsShape, IsInside, CanAdd, rise_over, curve_term, block_end, AreBlocks, AreLimitedBlocks, IsOver, table_of}
 use Rattle.uc_model.specs.Limits.{IsCurve}
 use Rattle.shape_law.specs.Curve as curves
 use Rattle.ramp_step.proofs.KnotLaws.{is_inside}
@@ -83,7 +83,7 @@ up_to_last p bs s zero are h = block_end_far p bs s (length bs) are
 up_to_last p [] s (suc j) are h = absurd (omega arith)
 up_to_last p (b ∷ bs) s (suc j) are h = up_to_last b.price bs (s +ℤ b.width) j are.2 (omega arith)
 
--- ---- the curve at a place that is moved by the shift
+-- ---- the curve at a power that is moved by the shift
 
 moved : (x shift at : ℤ) → (x +ℤ shift) -ℤ at ≡ x -ℤ (at -ℤ shift)
 moved x shift at = omega (arith, ints)
@@ -97,7 +97,7 @@ curve_value_is c shift p x are low high =
     let r = ap (rise_at bs) (moved x shift c.at) ∙ rise_at_is p bs s x are low high in
     e ∙ ap (option_map (λ v. v +ℤ c.value)) r ∙ ap Some (omega (arith, ints))
 
--- a place where the curve has a value is on its blocks
+-- a power where the curve has a value is on its blocks
 on_blocks : (c : Curve) (shift p x v : ℤ) → AreBlocks p c.blocks.items → curve_value c (x +ℤ shift) ≡ Some v
     → ((c.at -ℤ shift) ≤ℤ x) × (x ≤ℤ block_end c.blocks.items (c.at -ℤ shift) (length c.blocks.items))
 on_blocks c shift p x v are h =
@@ -139,8 +139,8 @@ module _ (c : Curve) (shift : ℤ) (ks : List Knot) (n : ℕ) (some : 0 < n) (sh
       let p = lowest.0 in
       let are = lowest.1 in
       let first = is_inside ks n shape.0 0 shape.1 some in
-      let o = IsOver-curve (place ks 0) first in
-      let near = (within (place ks 0) (shape.0 (place ks 0)) (value_inside ks n shape.0 shape.1 (place ks 0) first)).0 in
+      let o = IsOver-curve (power ks 0) first in
+      let near = (within (power ks 0) (shape.0 (power ks 0)) (value_inside ks n shape.0 shape.1 (power ks 0) first)).0 in
       let end = end_shifted bs c.at shift in
       let last = end_is bs c.at in
       record {

@@ -1,8 +1,8 @@
--- Laws of knots, over the places p and the heights v by index.
-use Rattle.ramp_step.proofs.Common.{◌≡◌, ◌≢◌, length, get_or-set_same, get_or-set_other, ℕ, zero, suc, ◌+◌, ◌-◌, ◌<◌, List, refl, sym, ap, ◌∙◌, arith, inl, inr, slice_set, ℤ, pos, ◌+ℤ◌, ◌-ℤ◌, ◌*ℤ◌, ◌≤ℤ◌, ◌<ℤ◌, ints, cases_lt, Knot, knot, place, IsStraight, IsConvex, StandFor, IsInside, HaveSameEnds, AreRaised, IsRun}
+-- Laws of knots, over the powers p and the heights v by index.
+use Rattle.ramp_step.proofs.Common.{◌≡◌, ◌≢◌, length, get_or-set_same, get_or-set_other, ℕ, zero, suc, ◌+◌, ◌-◌, ◌<◌, List, refl, sym, ap, ◌∙◌, arith, inl, inr, slice_set, ℤ, pos, ◌+ℤ◌, ◌-ℤ◌, ◌*ℤ◌, ◌≤ℤ◌, ◌<ℤ◌, ints, cases_lt, Knot, knot, power, IsStraight, IsConvex, StandFor, IsInside, HaveSameEnds, AreRaised, IsRun}
 use Rattle.ramp_step.proofs.TimesLaws.{times_next, times_prev}
 
--- the places rise from each knot to each later one
+-- the powers rise from each knot to each later one
 pub rises : (n : ℕ) (p : ℕ → ℤ) → ((k : ℕ) → k + 1 < n → p k <ℤ p (k + 1)) → (d i j : ℕ) → j ≡ i + d → j < n → p i ≤ℤ p j
 rises n p rise zero i j e h = let same : p j ≡ p i = ap p (omega arith) in omega (arith, ints)
 rises n p rise (suc d) i j e h =
@@ -12,40 +12,40 @@ rises n p rise (suc d) i j e h =
     omega (arith, ints)
 
 -- a knot is in the interval
-pub is_inside : (ks : List Knot) (n : ℕ) (f : ℤ → ℤ) (k : ℕ) → StandFor ks n f → k < n → IsInside ks n (place ks k)
+pub is_inside : (ks : List Knot) (n : ℕ) (f : ℤ → ℤ) (k : ℕ) → StandFor ks n f → k < n → IsInside ks n (power ks k)
 is_inside ks n f k s h = record {
   some = omega arith;
-  from_first = rises n (place ks) s.rise k 0 k (omega arith) h;
-  to_last = rises n (place ks) s.rise ((n - 1) - k) k (n - 1) (omega arith) (omega arith);
+  from_first = rises n (power ks) s.rise k 0 k (omega arith) h;
+  to_last = rises n (power ks) s.rise ((n - 1) - k) k (n - 1) (omega arith) (omega arith);
 }
 
 -- a term that is straight between neighbours, and convex, is added
 pub StandFor-raised : (term : ℤ → ℤ) (n : ℕ) (ks ks' : List Knot) (f : ℤ → ℤ) → StandFor ks n f → AreRaised term n ks ks'
-    → ((k : ℕ) → k + 1 < n → IsStraight (place ks k) (place ks (k + 1)) term) → IsConvex (place ks 0) (place ks (n - 1)) term
+    → ((k : ℕ) → k + 1 < n → IsStraight (power ks k) (power ks (k + 1)) term) → IsConvex (power ks 0) (power ks (n - 1)) term
     → StandFor ks' n (λ x. f x +ℤ term x)
 StandFor-raised term n ks ks' f s r straight convex = record {
-  rise = λ k h. let a = r.places k (omega arith) in let b = r.places (k + 1) h in let up = s.rise k h in omega (arith, ints);
+  rise = λ k h. let a = r.powers k (omega arith) in let b = r.powers (k + 1) h in let up = s.rise k h in omega (arith, ints);
   meet = λ k h.
       let a = r.heights k h in
       let m = s.meet k h in
-      let ef : f (place ks' k) ≡ f (place ks k) = ap f (r.places k h) in
-      let et : term (place ks' k) ≡ term (place ks k) = ap term (r.places k h) in
+      let ef : f (power ks' k) ≡ f (power ks k) = ap f (r.powers k h) in
+      let et : term (power ks' k) ≡ term (power ks k) = ap term (r.powers k h) in
       omega (arith, ints);
   straight = λ k h x from to.
-      let a = r.places k (omega arith) in
-      let b = r.places (k + 1) h in
+      let a = r.powers k (omega arith) in
+      let b = r.powers (k + 1) h in
       let g = s.straight k h x (omega (arith, ints)) (omega (arith, ints)) in
       let t = straight k h x (omega (arith, ints)) (omega (arith, ints)) in
       omega (arith, ints);
   convex = λ x from to.
       elim (cases_lt 0 n) [
         | inl some ↦
-            let a = r.places 0 some in
-            let b = r.places (n - 1) (omega arith) in
+            let a = r.powers 0 some in
+            let b = r.powers (n - 1) (omega arith) in
             let g = s.convex x (omega (arith, ints)) (omega (arith, ints)) in
             let t = convex x (omega (arith, ints)) (omega (arith, ints)) in
             omega (arith, ints)
-        | inr none ↦ absurd (let e : place ks' (n - 1) ≡ place ks' 0 = ap (place ks') (omega arith) in omega (arith, ints))
+        | inr none ↦ absurd (let e : power ks' (n - 1) ≡ power ks' 0 = ap (power ks') (omega arith) in omega (arith, ints))
       ];
 }
 
@@ -53,8 +53,8 @@ pub HaveSameEnds-raised : (term : ℤ → ℤ) (n : ℕ) (ks ks' : List Knot) �
 HaveSameEnds-raised term n ks ks' r = record {
   some = λ h. h;
   none = λ h. h;
-  first = λ h. r.places 0 h;
-  last = λ h. r.places (n - 1) (omega arith);
+  first = λ h. r.powers 0 h;
+  last = λ h. r.powers (n - 1) (omega arith);
 }
 
 -- a line is straight everywhere
@@ -106,42 +106,42 @@ HaveSameEnds-back ks ks' n n' e = elim (cases_lt 0 n) [
 -- ---- knots of another list, one after another
 
 module _ (ks ks' : List Knot) (n from n' : ℕ) (run : IsRun ks n from ks' n') (f : ℤ → ℤ) (s : StandFor ks n f) where
-  pub place_at : (k : ℕ) → k < n' → place ks' k ≡ place ks (from + k)
-  place_at k h = ap (λ (q : Knot). q.at) (run.knots k h)
+  pub power_at : (k : ℕ) → k < n' → power ks' k ≡ power ks (from + k)
+  power_at k h = ap (λ (q : Knot). q.at) (run.knots k h)
 
-  pub first_at : place ks' 0 ≡ place ks from
-  first_at = place_at 0 run.some ∙ ap (place ks) (omega arith)
+  pub first_at : power ks' 0 ≡ power ks from
+  first_at = power_at 0 run.some ∙ ap (power ks) (omega arith)
 
   -- the first and the last of them are between the ends of all
-  order : (i j : ℕ) → i + j < n → place ks i ≤ℤ place ks (i + j)
-  order i j h = rises n (place ks) s.rise j i (i + j) refl h
+  order : (i j : ℕ) → i + j < n → power ks i ≤ℤ power ks (i + j)
+  order i j h = rises n (power ks) s.rise j i (i + j) refl h
 
-  pub first_place : place ks 0 ≤ℤ place ks' 0
-  first_place = let inside = run.inside in let some = run.some in let o = order 0 from (omega arith) in let e : place ks (0 + from) ≡ place ks from = ap (place ks) (omega arith) in let a = first_at in omega (arith, ints)
+  pub first_power : power ks 0 ≤ℤ power ks' 0
+  first_power = let inside = run.inside in let some = run.some in let o = order 0 from (omega arith) in let e : power ks (0 + from) ≡ power ks from = ap (power ks) (omega arith) in let a = first_at in omega (arith, ints)
 
-  pub last_place : place ks' (n' - 1) ≤ℤ place ks (n - 1)
-  last_place =
-      let at = place_at (n' - 1) (omega arith) in
-      let o = rises n (place ks) s.rise ((n - 1) - (from + (n' - 1))) (from + (n' - 1)) (n - 1) (omega arith) (omega arith) in
+  pub last_power : power ks' (n' - 1) ≤ℤ power ks (n - 1)
+  last_power =
+      let at = power_at (n' - 1) (omega arith) in
+      let o = rises n (power ks) s.rise ((n - 1) - (from + (n' - 1))) (from + (n' - 1)) (n - 1) (omega arith) (omega arith) in
       omega (arith, ints)
 
   pub StandFor-run : StandFor ks' n' f
   StandFor-run = record {
     rise = λ k h.
-        let a = place_at k (omega arith) in
-        let b = place_at (k + 1) h in
+        let a = power_at k (omega arith) in
+        let b = power_at (k + 1) h in
         let inside = run.inside in
         let r = s.rise (from + k) (omega arith) in
-        let e : place ks (from + (k + 1)) ≡ place ks ((from + k) + 1) = ap (place ks) (omega arith) in
+        let e : power ks (from + (k + 1)) ≡ power ks ((from + k) + 1) = ap (power ks) (omega arith) in
         omega (arith, ints);
-    meet = λ k h. let inside = run.inside in ap (λ (q : Knot). q.value) (run.knots k h) ∙ s.meet (from + k) (omega arith) ∙ ap f (sym (place_at k h));
+    meet = λ k h. let inside = run.inside in ap (λ (q : Knot). q.value) (run.knots k h) ∙ s.meet (from + k) (omega arith) ∙ ap f (sym (power_at k h));
     straight = λ k h x low high.
-        let a = place_at k (omega arith) in
-        let b = place_at (k + 1) h in
-        let e : place ks (from + (k + 1)) ≡ place ks ((from + k) + 1) = ap (place ks) (omega arith) in
+        let a = power_at k (omega arith) in
+        let b = power_at (k + 1) h in
+        let e : power ks (from + (k + 1)) ≡ power ks ((from + k) + 1) = ap (power ks) (omega arith) in
         s.straight (from + k) (omega arith) x (omega (arith, ints)) (omega (arith, ints));
     convex = λ x low high.
-        let a = first_place in
-        let b = last_place in
+        let a = first_power in
+        let b = last_power in
         s.convex x (omega (arith, ints)) (omega (arith, ints));
   }

@@ -1,18 +1,18 @@
 -- Where a convex function is least.
-use Rattle.ramp_step.proofs.Common.{◌≡◌, ℕ, ◌-◌, List, sym, ap, subst, arith, ℤ, pos, ◌+ℤ◌, ◌-ℤ◌, ◌≤ℤ◌, ◌<ℤ◌, int_min, int_max, ints, clamps, by_lt_z, Knot, knot, place, IsConvex, StandFor, IsInside, nearest, IsLeastInReach, IsTurn, IsLowest, HasNoPlace, IsInsideWithin, MovesParts}
+use Rattle.ramp_step.proofs.Common.{◌≡◌, ℕ, ◌-◌, List, sym, ap, subst, arith, ℤ, pos, ◌+ℤ◌, ◌-ℤ◌, ◌≤ℤ◌, ◌<ℤ◌, int_min, int_max, ints, clamps, by_lt_z, Knot, knot, power, IsConvex, StandFor, IsInside, nearest, IsLeastInReach, IsTurn, IsLowest, HasNoPower, IsInsideWithin, MovesParts}
 use Rattle.ramp_step.proofs.WindowLaws.{slopes, falls_to, rises_to, window_law}
 use Rattle.ramp_step.proofs.SpreadLaws.{turn_falls_strictly, turn_falls, turn_rises, turn_from_first, turn_to_last}
 
 module _ (ks : List Knot) (n j : ℕ) (f : ℤ → ℤ) (s : StandFor ks n f) (t : IsTurn ks n j) where
-  -- the value falls from each place to each later one up to the turn
-  falls_below : (x y : ℤ) → place ks 0 ≤ℤ x → x <ℤ y → y ≤ℤ place ks j → f y <ℤ f x
+  -- the value falls from each power to each later one up to the turn
+  falls_below : (x y : ℤ) → power ks 0 ≤ℤ x → x <ℤ y → y ≤ℤ power ks j → f y <ℤ f x
   falls_below x y low order high =
       let step = turn_falls_strictly ks n j f s t x low (omega (arith, ints)) in
-      let rest = falls_to f (place ks 0) (place ks (n - 1)) (place ks j) (turn_falls ks n j f s t) (turn_rises ks n j f s t) (x +ℤ pos 1) y (omega (arith, ints)) (omega (arith, ints)) high in
+      let rest = falls_to f (power ks 0) (power ks (n - 1)) (power ks j) (turn_falls ks n j f s t) (turn_rises ks n j f s t) (x +ℤ pos 1) y (omega (arith, ints)) (omega (arith, ints)) high in
       omega (arith, ints)
 
-  rises_after : (x y : ℤ) → place ks j ≤ℤ x → x ≤ℤ y → y ≤ℤ place ks (n - 1) → f x ≤ℤ f y
-  rises_after = rises_to f (place ks 0) (place ks (n - 1)) (place ks j) (turn_falls ks n j f s t) (turn_rises ks n j f s t)
+  rises_after : (x y : ℤ) → power ks j ≤ℤ x → x ≤ℤ y → y ≤ℤ power ks (n - 1) → f x ≤ℤ f y
+  rises_after = rises_to f (power ks 0) (power ks (n - 1)) (power ks j) (turn_falls ks n j f s t) (turn_rises ks n j f s t)
 
   -- the knot at the turn is the lowest
   pub IsLowest-turn : IsLowest (IsInside ks n) f (knot ks j)
@@ -25,26 +25,26 @@ module _ (ks : List Knot) (n j : ℕ) (f : ℤ → ℤ) (s : StandFor ks n f) (t
         least = λ y h.
             let low = h.from_first in
             let high = h.to_last in
-            by_lt_z y (place ks j)
-            (λ before. let d = falls_below y (place ks j) low before (omega (arith, ints)) in omega (arith, ints))
-            (λ after. let r = rises_after (place ks j) y (omega (arith, ints)) after high in omega (arith, ints));
+            by_lt_z y (power ks j)
+            (λ before. let d = falls_below y (power ks j) low before (omega (arith, ints)) in omega (arith, ints))
+            (λ after. let r = rises_after (power ks j) y (omega (arith, ints)) after high in omega (arith, ints));
         first = λ y h e.
             let low = h.from_first in
-            by_lt_z y (place ks j)
-            (λ before. let d = falls_below y (place ks j) low before (omega (arith, ints)) in absurd (omega (arith, ints)))
+            by_lt_z y (power ks j)
+            (λ before. let d = falls_below y (power ks j) low before (omega (arith, ints)) in absurd (omega (arith, ints)))
             (λ after. after);
       }
 
-  -- where the turn is cut off, the nearest place to it that is left is the lowest
-  pub IsLowest-within : (lo hi v : ℤ) → lo ≤ℤ hi → IsInside ks n (int_max lo (int_min hi (place ks j))) → v ≡ f (int_max lo (int_min hi (place ks j)))
-      → IsLowest (IsInsideWithin lo hi ks n) f (record { at = int_max lo (int_min hi (place ks j)); value = v })
+  -- where the turn is cut off, the nearest power to it that is left is the lowest
+  pub IsLowest-within : (lo hi v : ℤ) → lo ≤ℤ hi → IsInside ks n (int_max lo (int_min hi (power ks j))) → v ≡ f (int_max lo (int_min hi (power ks j)))
+      → IsLowest (IsInsideWithin lo hi ks n) f (record { at = int_max lo (int_min hi (power ks j)); value = v })
   IsLowest-within lo hi v order inside is = record {
     inside = record { inside = inside; from = omega (arith, ints, clamps); to = omega (arith, ints, clamps) };
     there = sym is;
     least = λ y h.
         let low = h.inside.from_first in
         let high = h.inside.to_last in
-        let x = int_max lo (int_min hi (place ks j)) in
+        let x = int_max lo (int_min hi (power ks j)) in
         by_lt_z y x
         (λ before. let d = falls_below y x low before (omega (arith, ints, clamps)) in omega (arith, ints))
         (λ after. by_lt_z x y
@@ -52,15 +52,15 @@ module _ (ks : List Knot) (n j : ℕ) (f : ℤ → ℤ) (s : StandFor ks n f) (t
         (λ upto. let e : f y ≡ f x = ap f (omega (arith, ints)) in omega (arith, ints)));
     first = λ y h e.
         let low = h.inside.from_first in
-        let x = int_max lo (int_min hi (place ks j)) in
+        let x = int_max lo (int_min hi (power ks j)) in
         by_lt_z y x
         (λ before. let d = falls_below y x low before (omega (arith, ints, clamps)) in absurd (omega (arith, ints)))
         (λ after. after);
   }
 
-  -- where there is a place left, that place is in the interval
-  pub HasNoPlace-within : (lo hi : ℤ) → (IsInside ks n (int_max lo (int_min hi (place ks j))) → ⊥) → HasNoPlace (IsInsideWithin lo hi ks n)
-  HasNoPlace-within lo hi outside y h =
+  -- where there is a power left, that power is in the interval
+  pub HasNoPower-within : (lo hi : ℤ) → (IsInside ks n (int_max lo (int_min hi (power ks j))) → ⊥) → HasNoPower (IsInsideWithin lo hi ks n)
+  HasNoPower-within lo hi outside y h =
       let a = turn_from_first ks n j f s t in
       let b = turn_to_last ks n j f s t in
       outside (record { some = h.inside.some; from_first = omega (arith, ints, clamps); to_last = omega (arith, ints, clamps) })

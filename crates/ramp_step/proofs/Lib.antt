@@ -1,7 +1,7 @@
 -- The names from elsewhere that the proofs here cite.
 pub mod Common
 -- ---- src/breakpoint.rt and every step
--- laws of knots, over the places p and the heights v by index
+-- laws of knots, over the powers p and the heights v by index
 pub mod KnotLaws
 -- products with the next number, the one before, and with 1 and -1
 pub mod TimesLaws
@@ -32,7 +32,7 @@ pub mod WindowLaws
 -- ---- src/read.rt
 -- where a convex function is least
 pub mod LeastLaws
--- the list of values over all places is the list of the function's values
+-- the list of values over all powers is the list of the function's values
 pub mod ValueLaws
 -- ---- what the steps say of tables
 -- between knots within the limits every value is within them
@@ -43,7 +43,7 @@ pub mod ShapeLaws
 pub mod RunLaws
 -- a term that is added to the function of some knots
 pub mod StepLaws
--- a convex function is least at its turn, and between two places nearest to it
+-- a convex function is least at its turn, and between two powers nearest to it
 pub mod TurnLaws
 -- The lemmas that answers cite.
 pub mod Lemmas

@@ -1,7 +1,7 @@
 -- Knots of another list, one after another, stand for the same function.
-use Rattle.ramp_step.proofs.Common.{◌≡◌, ℕ, ◌+◌, ◌-◌, ◌<◌, List, sym, ap, ◌∙◌, subst, inl, inr, arith, ℤ, ◌≤ℤ◌, Some, None, cases_lt, ints, by_lt_z, IsSame, value_of, IsWithinLimits, Knot, knot, place, height, StandFor, IsShape, IsInside, IsRun, RunsStandBetween, SameKnotsAreSame, OneKnotIsPoint, table_of, AreBreaks, AreWithinLimits}
+use Rattle.ramp_step.proofs.Common.{◌≡◌, ℕ, ◌+◌, ◌-◌, ◌<◌, List, sym, ap, ◌∙◌, subst, inl, inr, arith, ℤ, ◌≤ℤ◌, Some, None, cases_lt, ints, by_lt_z, IsSame, value_of, IsWithinLimits, Knot, knot, power, height, StandFor, IsShape, IsInside, IsRun, RunsStandBetween, SameKnotsAreSame, OneKnotIsPoint, table_of, AreBreaks, AreWithinLimits}
 use Rattle.ramp_step.proofs.BreakpointLaws.{IsShape-breakpoints, AreBreakpoints-shape}
-use Rattle.ramp_step.proofs.KnotLaws.{place_at, first_at, first_place, last_place, StandFor-run}
+use Rattle.ramp_step.proofs.KnotLaws.{power_at, first_at, first_power, last_power, StandFor-run}
 use Rattle.ramp_step.proofs.LimitLaws.{IsWithinLimits-from_knots}
 use Rattle.ramp_step.proofs.ShapeLaws.{value_inside, inside_value, none_outside, IsConvexList-from_knots, IsPoint-from_knots, StandFor-one}
 use Rattle.ramp_step.proofs.SpacedLaws.{StandFor-same}
@@ -17,34 +17,34 @@ module _ (ks ks' : List Knot) (n from n' : ℕ) (run : IsRun ks n from ks' n') (
   inside_all x h =
       let from_first = h.from_first in
       let to_last = h.to_last in
-      let a = first_place ks ks' n from n' run f s in
-      let b = last_place ks ks' n from n' run f s in
+      let a = first_power ks ks' n from n' run f s in
+      let b = last_power ks ks' n from n' run f s in
       let some = run.some in
       record { some = omega arith; from_first = omega (arith, ints); to_last = omega (arith, ints) }
 
-  module _ (x : ℤ) (low : 0 < from → place ks from ≤ℤ x) (high : from + n' < n → x ≤ℤ place ks' (n' - 1)) where
-    from_first_of : IsInside ks n x → place ks' 0 ≤ℤ x
+  module _ (x : ℤ) (low : 0 < from → power ks from ≤ℤ x) (high : from + n' < n → x ≤ℤ power ks' (n' - 1)) where
+    from_first_of : IsInside ks n x → power ks' 0 ≤ℤ x
     from_first_of h =
         let a = first_at ks ks' n from n' run f s in
         elim (cases_lt 0 from) [
           | inl later ↦ let l = low later in omega (arith, ints)
-          | inr now ↦ let e : place ks from ≡ place ks 0 = ap (place ks) (omega arith) in omega (arith, ints)
+          | inr now ↦ let e : power ks from ≡ power ks 0 = ap (power ks) (omega arith) in omega (arith, ints)
         ]
 
-    to_last_of : IsInside ks n x → x ≤ℤ place ks' (n' - 1)
+    to_last_of : IsInside ks n x → x ≤ℤ power ks' (n' - 1)
     to_last_of h =
         elim (cases_lt (from + n') n) [
           | inl more ↦ high more
-          | inr all ↦ let e : place ks (n - 1) ≡ place ks (from + (n' - 1)) = ap (place ks) (omega arith) in let a = place_at ks ks' n from n' run f s (n' - 1) (omega arith) in omega (arith, ints)
+          | inr all ↦ let e : power ks (n - 1) ≡ power ks (from + (n' - 1)) = ap (power ks) (omega arith) in let a = power_at ks ks' n from n' run f s (n' - 1) (omega arith) in omega (arith, ints)
         ]
 
     -- inside both have the function's value, outside none
     value_same : value_of (table_of ks' n') x ≡ value_of (table_of ks n) x
     value_same =
-        by_lt_z x (place ks' 0)
+        by_lt_z x (power ks' 0)
         (λ below. outside (λ h. let a = from_first_of h in omega (arith, ints)))
         (λ from_first.
-        by_lt_z (place ks' (n' - 1)) x
+        by_lt_z (power ks' (n' - 1)) x
         (λ above. outside (λ h. let a = to_last_of h in omega (arith, ints)))
         (λ to_last.
         let h : IsInside ks' n' x = record { some = run.some; from_first = from_first; to_last = to_last } in
@@ -93,7 +93,7 @@ pub one_knot_is_point : OneKnotIsPoint
 one_knot_is_point ks at amount =
     let shape : IsShape ks 1 = (λ x. height ks 0, StandFor-one ks) in
     let within : AreWithinLimits ks 1 = record {
-      places = λ k h. let e : k ≡ 0 = omega arith in rw e at;
+      powers = λ k h. let e : k ≡ 0 = omega arith in rw e at;
       amounts = λ k h. let e : k ≡ 0 = omega arith in rw e amount;
     } in
     (AreBreaks-from ks 1 shape (IsWithinLimits-from_knots ks 1 shape within), IsPoint-from_knots ks)

@@ -1,5 +1,5 @@
 -- A step on knots is the step on the table that they stand for.
-use Rattle.ramp_step.proofs.Common.{◌≡◌, ℕ, ◌+◌, ◌-◌, List, Option, Some, None, refl, sym, ap, ◌∙◌, subst, arith, inl, inr, ℤ, pos, ◌+ℤ◌, ◌-ℤ◌, ◌⊎◌, MatchOption, option_map, ints, Table, value_of, IsConvexList, IsEmpty, HasNone, IsWithinLimits, IsPlace, IsAmount, IsPoint, IsSum, IsCurveSum, CanAddCurve, IsLeast, IsLeastIn, Knot, place, height, StandFor, IsShape, IsInside, HaveSameEnds, CanAdd, IsWindow, IsLowest, HasNoPlace, IsInsideWithin, IsValueAt, values_of, table_of, AreWithinLimits}
+use Rattle.ramp_step.proofs.Common.{◌≡◌, ℕ, ◌+◌, ◌-◌, List, Option, Some, None, refl, sym, ap, ◌∙◌, subst, arith, inl, inr, ℤ, pos, ◌+ℤ◌, ◌-ℤ◌, ◌⊎◌, MatchOption, option_map, ints, Table, value_of, IsConvexList, IsEmpty, HasNone, IsWithinLimits, IsPlace, IsAmount, IsPoint, IsSum, IsCurveSum, CanAddCurve, IsLeast, IsLeastIn, Knot, power, height, StandFor, IsShape, IsInside, HaveSameEnds, CanAdd, IsWindow, IsLowest, HasNoPower, IsInsideWithin, IsValueAt, values_of, table_of, AreWithinLimits}
 use Rattle.shape_law.specs.Table as tables
 use Rattle.shape_law.specs.Effect as effects
 use Rattle.shape_law.specs.Lookup.{IsAt-from_value, value-from_is_at}
@@ -11,7 +11,7 @@ pub value_inside : (ks : List Knot) (n : ℕ) (f : ℤ → ℤ) → StandFor ks 
 value_inside ks n f s x h =
     let v = values_of_is ks n f s in
     let b = v.back x h in
-    value-from_is_at (table_of ks n) x (f x) (record { offset = b.0; place = b.2; inside = b.1; there = v.each b.0 b.1 ∙ ap f (sym b.2) })
+    value-from_is_at (table_of ks n) x (f x) (record { offset = b.0; power = b.2; inside = b.1; there = v.each b.0 b.1 ∙ ap f (sym b.2) })
 
 pub record IsValue (ks : List Knot) (n : ℕ) (f : ℤ → ℤ) (x v : ℤ) : Type 0 where
   pub inside : IsInside ks n x
@@ -23,8 +23,8 @@ inside_value ks n f s x v h =
     let values = values_of_is ks n f s in
     let a = IsAt-from_value (table_of ks n) x v h in
     record {
-      inside = subst (λ z. IsInside ks n z) (sym a.place) (values.inside a.offset a.inside);
-      is = ap f a.place ∙ sym (values.each a.offset a.inside) ∙ a.there;
+      inside = subst (λ z. IsInside ks n z) (sym a.power) (values.inside a.offset a.inside);
+      is = ap f a.power ∙ sym (values.each a.offset a.inside) ∙ a.there;
     }
 
 pub option_cases : (o : Option ℤ) → (o ≡ None) ⊎ ((v : ℤ) × (o ≡ Some v))
@@ -103,7 +103,7 @@ IsWindow-from_knots ks ks' n n' up down lo hi shape w =
           (least.at, old ∙ ap Some (least.there ∙ new.is), (r.0, r.1), least.reached);
       least = λ x y v h within reach.
           let old = inside_value ks n f s y v h in
-          let inside = w.places x y old.inside reach.0 reach.1 within.0 within.1 in
+          let inside = w.powers x y old.inside reach.0 reach.1 within.0 within.1 in
           let r = g.2 x inside in
           let low = old.inside.from_first in
           let high = old.inside.to_last in
@@ -120,7 +120,7 @@ IsLeast-from_knots ks n q shape l = record {
   first = λ y h. let v = inside_value ks n shape.0 shape.1 y q.value h in l.first y v.inside v.is;
 }
 
-pub HasNone-from_knots : (ks : List Knot) (n : ℕ) (lo hi : ℤ) → IsShape ks n → HasNoPlace (IsInsideWithin lo hi ks n) → HasNone lo hi (table_of ks n)
+pub HasNone-from_knots : (ks : List Knot) (n : ℕ) (lo hi : ℤ) → IsShape ks n → HasNoPower (IsInsideWithin lo hi ks n) → HasNone lo hi (table_of ks n)
 HasNone-from_knots ks n lo hi shape none x from to = none_outside ks n shape.0 shape.1 x (λ i. none x (record { inside = i; from = from; to = to }))
 
 pub IsLeastIn-from_knots : (ks : List Knot) (n : ℕ) (lo hi : ℤ) (q : Knot) → (shape : IsShape ks n) → IsLowest (IsInsideWithin lo hi ks n) shape.0 q → IsLeastIn lo hi (table_of ks n) q.value q.at
@@ -147,7 +147,7 @@ IsConvexList-from_knots ks n shape k h =
     let f = shape.0 in
     let s = shape.1 in
     let v = values_of_is ks n f s in
-    let lo = place ks 0 in
+    let lo = power ks 0 in
     let a = v.each k (omega arith) in
     let b = v.each (k + 1) (omega arith) in
     let c = v.each (k + 2) h in
@@ -165,8 +165,8 @@ AreWithinLimits-from_table ks n shape within =
     let f = shape.0 in
     let s = shape.1 in
     record {
-      places = λ k h. (within (place ks k) (f (place ks k)) (value_inside ks n f s (place ks k) (is_inside ks n f k s h))).0;
-      amounts = λ k h. subst IsAmount (sym (s.meet k h)) ((within (place ks k) (f (place ks k)) (value_inside ks n f s (place ks k) (is_inside ks n f k s h))).1);
+      powers = λ k h. (within (power ks k) (f (power ks k)) (value_inside ks n f s (power ks k) (is_inside ks n f k s h))).0;
+      amounts = λ k h. subst IsAmount (sym (s.meet k h)) ((within (power ks k) (f (power ks k)) (value_inside ks n f s (power ks k) (is_inside ks n f k s h))).1);
     }
 
 -- one knot
@@ -175,14 +175,14 @@ StandFor-one ks = record {
   rise = λ k h. absurd (omega arith);
   meet = λ k h. ap (height ks) (omega arith);
   straight = λ k h. absurd (omega arith);
-  convex = λ x from to. let e : place ks (1 - 1) ≡ place ks 0 = ap (place ks) (omega arith) in absurd (omega (arith, ints));
+  convex = λ x from to. let e : power ks (1 - 1) ≡ power ks 0 = ap (power ks) (omega arith) in absurd (omega (arith, ints));
 }
 
-pub IsPoint-from_knots : (ks : List Knot) → IsPoint (place ks 0) (height ks 0) (table_of ks 1)
+pub IsPoint-from_knots : (ks : List Knot) → IsPoint (power ks 0) (height ks 0) (table_of ks 1)
 IsPoint-from_knots ks = record {
-  there = value_inside ks 1 (λ x. height ks 0) (StandFor-one ks) (place ks 0) (record { some = omega arith; from_first = omega (arith, ints); to_last = let e : place ks (1 - 1) ≡ place ks 0 = ap (place ks) (omega arith) in omega (arith, ints) });
+  there = value_inside ks 1 (λ x. height ks 0) (StandFor-one ks) (power ks 0) (record { some = omega arith; from_first = omega (arith, ints); to_last = let e : power ks (1 - 1) ≡ power ks 0 = ap (power ks) (omega arith) in omega (arith, ints) });
   only = λ x v h.
       let i = (inside_value ks 1 (λ z. height ks 0) (StandFor-one ks) x v h).inside in
-      let e : place ks (1 - 1) ≡ place ks 0 = ap (place ks) (omega arith) in
+      let e : power ks (1 - 1) ≡ power ks 0 = ap (power ks) (omega arith) in
       omega (arith, ints);
 }

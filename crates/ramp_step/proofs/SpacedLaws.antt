@@ -1,5 +1,5 @@
 -- Knots with free cells between them.
-use Rattle.ramp_step.proofs.Common.{◌≡◌, ◌≢◌, ℕ, ◌+◌, ◌-◌, ◌<◌, ◌≤◌, List, length, take, drop, get_or, sym, ap, ◌∙◌, subst, arith, inl, inr, ℤ, pos, ◌≤ℤ◌, ◌<ℤ◌, slice_set, ints, cases_lt, Knot, Block, knot, place, StandFor, IsFar, IsAmount, IsLimited, IsInserted, AreBelow, AreDropped, IsRefined, spaced, AreMovedBack, IsMovedOn}
+use Rattle.ramp_step.proofs.Common.{◌≡◌, ◌≢◌, ℕ, ◌+◌, ◌-◌, ◌<◌, ◌≤◌, List, length, take, drop, get_or, sym, ap, ◌∙◌, subst, arith, inl, inr, ℤ, pos, ◌≤ℤ◌, ◌<ℤ◌, slice_set, ints, cases_lt, Knot, Block, knot, power, StandFor, IsFar, IsAmount, IsLimited, IsInserted, AreBelow, AreDropped, IsRefined, spaced, AreMovedBack, IsMovedOn}
 use Rattle.std.proofs.lemmas.List.{length-set, length-take-le, get_or-take, get_or-drop, get_or-append_right, get_or_append_left}
 use Rattle.ramp_step.proofs.KnotLaws.{knot_same, knot_other}
 
@@ -23,29 +23,29 @@ spaced_after ks front room k fits h =
 -- ---- the same knots
 
 module _ (ks ks' : List Knot) (n : ℕ) (same : (k : ℕ) → k < n → knot ks' k ≡ knot ks k) where
-  pub same_place : (k : ℕ) → k < n → place ks' k ≡ place ks k
-  same_place k h = ap (λ (q : Knot). q.at) (same k h)
+  pub same_power : (k : ℕ) → k < n → power ks' k ≡ power ks k
+  same_power k h = ap (λ (q : Knot). q.at) (same k h)
 
   pub StandFor-same : (f : ℤ → ℤ) → StandFor ks n f → StandFor ks' n f
   StandFor-same f s = record {
-    rise = λ k h. let a = same_place k (omega arith) in let b = same_place (k + 1) h in let r = s.rise k h in omega (arith, ints);
+    rise = λ k h. let a = same_power k (omega arith) in let b = same_power (k + 1) h in let r = s.rise k h in omega (arith, ints);
     meet = λ k h. subst (λ (q : Knot). q.value ≡ f q.at) (sym (same k h)) (s.meet k h);
     straight = λ k h x from to.
-        let a = same_place k (omega arith) in
-        let b = same_place (k + 1) h in
+        let a = same_power k (omega arith) in
+        let b = same_power (k + 1) h in
         s.straight k h x (omega (arith, ints)) (omega (arith, ints));
     convex = λ x from to. elim (cases_lt 0 n) [
       | inl some ↦
-          let a = same_place 0 some in
-          let b = same_place (n - 1) (omega arith) in
+          let a = same_power 0 some in
+          let b = same_power (n - 1) (omega arith) in
           s.convex x (omega (arith, ints)) (omega (arith, ints))
-      | inr none ↦ absurd (let e : place ks' (n - 1) ≡ place ks' 0 = ap (place ks') (omega arith) in omega (arith, ints))
+      | inr none ↦ absurd (let e : power ks' (n - 1) ≡ power ks' 0 = ap (power ks') (omega arith) in omega (arith, ints))
     ];
   }
 
   pub IsLimited-same : IsLimited ks n → IsLimited ks' n
   IsLimited-same l = record {
-    places = λ k h. subst IsFar (sym (same_place k h)) (l.places k h);
+    powers = λ k h. subst IsFar (sym (same_power k h)) (l.powers k h);
     amounts = λ k h. subst (λ (q : Knot). IsAmount q.value) (sym (same k h)) (l.amounts k h);
   }
 
@@ -53,14 +53,14 @@ module _ (ks ks' : List Knot) (n : ℕ) (same : (k : ℕ) → k < n → knot ks'
   IsRefined-same bs s j ks0 n0 r = record {
     function = λ f st. StandFor-same f (r.function f st);
     apart = λ k h i l.
-        let a = same_place k (omega arith) in
-        let b = same_place (k + 1) h in
+        let a = same_power k (omega arith) in
+        let b = same_power (k + 1) h in
         elim (r.apart k h i l) [ inl high ↦ inl (omega (arith, ints)) | inr low ↦ inr (omega (arith, ints)) ];
     ends = record {
       some = r.ends.some;
       none = r.ends.none;
-      first = λ h. same_place 0 (r.ends.some h) ∙ r.ends.first h;
-      last = λ h. let some = r.ends.some h in same_place (n - 1) (omega arith) ∙ r.ends.last h;
+      first = λ h. same_power 0 (r.ends.some h) ∙ r.ends.first h;
+      last = λ h. let some = r.ends.some h in same_power (n - 1) (omega arith) ∙ r.ends.last h;
     };
   }
 
@@ -84,8 +84,8 @@ pub IsMovedOn-stop : (ks ks' : List Knot) (front room i n : ℕ) (x : ℤ) → f
     → ((k : ℕ) → k < front → knot ks' k ≡ knot ks k)
     → ((k : ℕ) → front ≤ k → k < i → knot ks' k ≡ knot ks (k + room))
     → ((k : ℕ) → i + room ≤ k → knot ks' k ≡ knot ks k)
-    → ((k : ℕ) → front ≤ k → k < i → place ks (k + room) <ℤ x)
-    → (i < n → x ≤ℤ place ks (i + room))
+    → ((k : ℕ) → front ≤ k → k < i → power ks (k + room) <ℤ x)
+    → (i < n → x ≤ℤ power ks (i + room))
     → IsMovedOn x n room front i ks ks'
 IsMovedOn-stop ks ks' front room i n x from to fits fits' before moved rest below after = record {
   from = from;
@@ -136,7 +136,7 @@ module _ (ks : List Knot) (front room n : ℕ) (q : Knot) (some : 0 < room) (fit
 
 -- after the free cells are moved on, the knots before them are those below x
 pub AreBelow-moved : (ks ks' : List Knot) (front front' room n : ℕ) (x : ℤ) → IsMovedOn x n room front front' ks ks'
-    → ((k : ℕ) → k < front → place (spaced ks front room) k <ℤ x) → AreBelow (spaced ks' front' room) n x front'
+    → ((k : ℕ) → k < front → power (spaced ks front room) k <ℤ x) → AreBelow (spaced ks' front' room) n x front'
 AreBelow-moved ks ks' front front' room n x m below =
     let to = m.to in
     record {

@@ -1,13 +1,13 @@
 -- Knots whose falling part is moved by -down, and whose rising part by up, stand for the window.
-use Rattle.ramp_step.proofs.Common.{◌≡◌, ℕ, zero, suc, ◌+◌, ◌-◌, ◌<◌, List, refl, sym, ap, ◌∙◌, subst, arith, inl, inr, ℤ, pos, ◌+ℤ◌, ◌-ℤ◌, ◌≤ℤ◌, ◌<ℤ◌, ints, clamps, by_lt_z, cases_lt, Knot, place, height, IsStraight, IsConvex, StandFor, IsPlace, IsAmount, nearest, IsLeastInReach, IsTurn, AreSpread, AreWindow, IsWindow, IsLimited, IsCut}
+use Rattle.ramp_step.proofs.Common.{◌≡◌, ℕ, zero, suc, ◌+◌, ◌-◌, ◌<◌, List, refl, sym, ap, ◌∙◌, subst, arith, inl, inr, ℤ, pos, ◌+ℤ◌, ◌-ℤ◌, ◌≤ℤ◌, ◌<ℤ◌, ints, clamps, by_lt_z, cases_lt, Knot, power, height, IsStraight, IsConvex, StandFor, IsPlace, IsAmount, nearest, IsLeastInReach, IsTurn, AreSpread, AreWindow, IsWindow, IsLimited, IsCut}
 use Rattle.ramp_step.proofs.KnotLaws.{rises}
 use Rattle.ramp_step.proofs.WindowLaws.{slopes, straight_slope, strict_slope, rising_slope, falls_to, rises_to, window_law}
 
 -- ---- a convex function falls up to the turn, and rises from it
 
-falls_by : (ks : List Knot) (n j : ℕ) (f : ℤ → ℤ) → StandFor ks n f → IsTurn ks n j → (i : ℕ) → i + 1 ≡ j → (x : ℤ) → place ks 0 ≤ℤ x → x <ℤ place ks j → f (x +ℤ pos 1) <ℤ f x
+falls_by : (ks : List Knot) (n j : ℕ) (f : ℤ → ℤ) → StandFor ks n f → IsTurn ks n j → (i : ℕ) → i + 1 ≡ j → (x : ℤ) → power ks 0 ≤ℤ x → x <ℤ power ks j → f (x +ℤ pos 1) <ℤ f x
 falls_by ks n j f s t i e x low high =
-    let p = place ks in
+    let p = power ks in
     let inside = t.inside in
     let same : p (i + 1) ≡ p j = ap p e in
     let step = s.rise i (omega arith) in
@@ -21,19 +21,19 @@ falls_by ks n j f s t i e x low high =
     let order = slopes f (p 0) (p (n - 1)) s.convex x (p j -ℤ pos 1) low (omega (arith, ints)) (omega (arith, ints)) in
     omega (arith, ints)
 
-falls_from : (ks : List Knot) (n j : ℕ) (f : ℤ → ℤ) → StandFor ks n f → IsTurn ks n j → (k : ℕ) → k ≡ j → (x : ℤ) → place ks 0 ≤ℤ x → x <ℤ place ks j → f (x +ℤ pos 1) <ℤ f x
-falls_from ks n j f s t zero e x low high = let same : place ks 0 ≡ place ks j = ap (place ks) e in absurd (omega (arith, ints))
+falls_from : (ks : List Knot) (n j : ℕ) (f : ℤ → ℤ) → StandFor ks n f → IsTurn ks n j → (k : ℕ) → k ≡ j → (x : ℤ) → power ks 0 ≤ℤ x → x <ℤ power ks j → f (x +ℤ pos 1) <ℤ f x
+falls_from ks n j f s t zero e x low high = let same : power ks 0 ≡ power ks j = ap (power ks) e in absurd (omega (arith, ints))
 falls_from ks n j f s t (suc i) e x low high = falls_by ks n j f s t i (omega arith) x low high
 
-pub turn_falls_strictly : (ks : List Knot) (n j : ℕ) (f : ℤ → ℤ) → StandFor ks n f → IsTurn ks n j → (x : ℤ) → place ks 0 ≤ℤ x → x <ℤ place ks j → f (x +ℤ pos 1) <ℤ f x
+pub turn_falls_strictly : (ks : List Knot) (n j : ℕ) (f : ℤ → ℤ) → StandFor ks n f → IsTurn ks n j → (x : ℤ) → power ks 0 ≤ℤ x → x <ℤ power ks j → f (x +ℤ pos 1) <ℤ f x
 turn_falls_strictly ks n j f s t = falls_from ks n j f s t j refl
 
-pub turn_falls : (ks : List Knot) (n j : ℕ) (f : ℤ → ℤ) → StandFor ks n f → IsTurn ks n j → (x : ℤ) → place ks 0 ≤ℤ x → x <ℤ place ks j → f (x +ℤ pos 1) ≤ℤ f x
+pub turn_falls : (ks : List Knot) (n j : ℕ) (f : ℤ → ℤ) → StandFor ks n f → IsTurn ks n j → (x : ℤ) → power ks 0 ≤ℤ x → x <ℤ power ks j → f (x +ℤ pos 1) ≤ℤ f x
 turn_falls ks n j f s t x low high = let h = turn_falls_strictly ks n j f s t x low high in omega (arith, ints)
 
-rises_by : (ks : List Knot) (n j : ℕ) (f : ℤ → ℤ) → StandFor ks n f → IsTurn ks n j → j + 1 < n → (x : ℤ) → place ks j ≤ℤ x → x <ℤ place ks (n - 1) → f x ≤ℤ f (x +ℤ pos 1)
+rises_by : (ks : List Knot) (n j : ℕ) (f : ℤ → ℤ) → StandFor ks n f → IsTurn ks n j → j + 1 < n → (x : ℤ) → power ks j ≤ℤ x → x <ℤ power ks (n - 1) → f x ≤ℤ f (x +ℤ pos 1)
 rises_by ks n j f s t more x low high =
-    let p = place ks in
+    let p = power ks in
     let step = s.rise j more in
     let meet_j = s.meet j (omega arith) in
     let meet_k = s.meet (j + 1) more in
@@ -43,57 +43,57 @@ rises_by ks n j f s t more x low high =
     let order = slopes f (p 0) (p (n - 1)) s.convex (p j) x (omega (arith, ints)) low high in
     omega (arith, ints)
 
-pub turn_rises : (ks : List Knot) (n j : ℕ) (f : ℤ → ℤ) → StandFor ks n f → IsTurn ks n j → (x : ℤ) → place ks j ≤ℤ x → x <ℤ place ks (n - 1) → f x ≤ℤ f (x +ℤ pos 1)
+pub turn_rises : (ks : List Knot) (n j : ℕ) (f : ℤ → ℤ) → StandFor ks n f → IsTurn ks n j → (x : ℤ) → power ks j ≤ℤ x → x <ℤ power ks (n - 1) → f x ≤ℤ f (x +ℤ pos 1)
 turn_rises ks n j f s t x low high =
     elim (cases_lt (j + 1) n) [
       | inl more ↦ rises_by ks n j f s t more x low high
-      | inr last ↦ let same : place ks j ≡ place ks (n - 1) = ap (place ks) (omega arith) in absurd (omega (arith, ints))
+      | inr last ↦ let same : power ks j ≡ power ks (n - 1) = ap (power ks) (omega arith) in absurd (omega (arith, ints))
     ]
 
 module _ (ks : List Knot) (n j : ℕ) (f : ℤ → ℤ) (s : StandFor ks n f) (t : IsTurn ks n j) where
-  pub turn_from_first : place ks 0 ≤ℤ place ks j
-  turn_from_first = let inside = t.inside in rises n (place ks) s.rise j 0 j (omega arith) inside
+  pub turn_from_first : power ks 0 ≤ℤ power ks j
+  turn_from_first = let inside = t.inside in rises n (power ks) s.rise j 0 j (omega arith) inside
 
-  pub turn_to_last : place ks j ≤ℤ place ks (n - 1)
-  turn_to_last = let inside = t.inside in rises n (place ks) s.rise ((n - 1) - j) j (n - 1) (omega arith) (omega arith)
+  pub turn_to_last : power ks j ≤ℤ power ks (n - 1)
+  turn_to_last = let inside = t.inside in rises n (power ks) s.rise ((n - 1) - j) j (n - 1) (omega arith) (omega arith)
 
 -- ---- the law of the window over knots
 
 module _ (ks : List Knot) (n j : ℕ) (f : ℤ → ℤ) (up down : ℤ) (s : StandFor ks n f) (t : IsTurn ks n j) (is_up : pos 0 ≤ℤ up) (is_down : pos 0 ≤ℤ down) where
-  pub window_of_knots : (x : ℤ) → (place ks 0 -ℤ down) ≤ℤ x → x ≤ℤ (place ks (n - 1) +ℤ up)
-      → IsLeastInReach f (place ks 0) (place ks (n - 1)) up down x (f (nearest up down (place ks j) x))
+  pub window_of_knots : (x : ℤ) → (power ks 0 -ℤ down) ≤ℤ x → x ≤ℤ (power ks (n - 1) +ℤ up)
+      → IsLeastInReach f (power ks 0) (power ks (n - 1)) up down x (f (nearest up down (power ks j) x))
   window_of_knots x low high =
-      window_law f (place ks 0) (place ks (n - 1)) (place ks j) (turn_falls ks n j f s t) (turn_rises ks n j f s t)
+      window_law f (power ks 0) (power ks (n - 1)) (power ks j) (turn_falls ks n j f s t) (turn_rises ks n j f s t)
       up down x (turn_from_first ks n j f s t) (turn_to_last ks n j f s t) is_up is_down (omega (arith, ints)) (omega (arith, ints))
 
-  least_at : (y : ℤ) → place ks 0 ≤ℤ y → y ≤ℤ place ks (n - 1) → f (place ks j) ≤ℤ f y
-  least_at y low high = by_lt_z y (place ks j)
-      (λ before. falls_to f (place ks 0) (place ks (n - 1)) (place ks j) (turn_falls ks n j f s t) (turn_rises ks n j f s t) y (place ks j) low (omega (arith, ints)) (omega (arith, ints)))
-      (λ after. rises_to f (place ks 0) (place ks (n - 1)) (place ks j) (turn_falls ks n j f s t) (turn_rises ks n j f s t) (place ks j) y (omega (arith, ints)) after high)
+  least_at : (y : ℤ) → power ks 0 ≤ℤ y → y ≤ℤ power ks (n - 1) → f (power ks j) ≤ℤ f y
+  least_at y low high = by_lt_z y (power ks j)
+      (λ before. falls_to f (power ks 0) (power ks (n - 1)) (power ks j) (turn_falls ks n j f s t) (turn_rises ks n j f s t) y (power ks j) low (omega (arith, ints)) (omega (arith, ints)))
+      (λ after. rises_to f (power ks 0) (power ks (n - 1)) (power ks j) (turn_falls ks n j f s t) (turn_rises ks n j f s t) (power ks j) y (omega (arith, ints)) after high)
 
-  -- where the nearest place is
-  near_left : (x y : ℤ) → (x +ℤ down) ≤ℤ place ks j → y ≡ x +ℤ down → f (nearest up down (place ks j) x) ≡ f y
-  near_left x y h is = let e : nearest up down (place ks j) x ≡ y = omega (arith, ints, clamps) in ap f e
+  -- where the nearest power is
+  near_left : (x y : ℤ) → (x +ℤ down) ≤ℤ power ks j → y ≡ x +ℤ down → f (nearest up down (power ks j) x) ≡ f y
+  near_left x y h is = let e : nearest up down (power ks j) x ≡ y = omega (arith, ints, clamps) in ap f e
 
-  near_right : (x y : ℤ) → place ks j ≤ℤ (x -ℤ up) → y ≡ x -ℤ up → f (nearest up down (place ks j) x) ≡ f y
-  near_right x y h is = let e : nearest up down (place ks j) x ≡ y = omega (arith, ints, clamps) in ap f e
+  near_right : (x y : ℤ) → power ks j ≤ℤ (x -ℤ up) → y ≡ x -ℤ up → f (nearest up down (power ks j) x) ≡ f y
+  near_right x y h is = let e : nearest up down (power ks j) x ≡ y = omega (arith, ints, clamps) in ap f e
 
-  near_flat : (x : ℤ) → place ks j ≤ℤ (x +ℤ down) → (x -ℤ up) ≤ℤ place ks j → f (nearest up down (place ks j) x) ≡ f (place ks j)
-  near_flat x h i = let e : nearest up down (place ks j) x ≡ place ks j = omega (arith, ints, clamps) in ap f e
+  near_flat : (x : ℤ) → power ks j ≤ℤ (x +ℤ down) → (x -ℤ up) ≤ℤ power ks j → f (nearest up down (power ks j) x) ≡ f (power ks j)
+  near_flat x h i = let e : nearest up down (power ks j) x ≡ power ks j = omega (arith, ints, clamps) in ap f e
 
   -- the window is convex
-  window_convex : IsConvex (place ks 0 -ℤ down) (place ks (n - 1) +ℤ up) (λ x. f (nearest up down (place ks j) x))
+  window_convex : IsConvex (power ks 0 -ℤ down) (power ks (n - 1) +ℤ up) (λ x. f (nearest up down (power ks j) x))
   window_convex x low high =
       let a = turn_from_first ks n j f s t in
       let b = turn_to_last ks n j f s t in
-      by_lt_z (x +ℤ down) (place ks j)
+      by_lt_z (x +ℤ down) (power ks j)
       (λ left.
       let c = s.convex (x +ℤ down) (omega (arith, ints)) (omega (arith, ints)) in
       let e = near_left x (x +ℤ down) (omega (arith, ints)) (omega (arith, ints)) in
       let e0 = near_left (x -ℤ pos 1) ((x +ℤ down) -ℤ pos 1) (omega (arith, ints)) (omega (arith, ints)) in
       let e1 = near_left (x +ℤ pos 1) ((x +ℤ down) +ℤ pos 1) (omega (arith, ints)) (omega (arith, ints)) in
       omega (arith, ints))
-      (λ past. by_lt_z (place ks j) (x -ℤ up)
+      (λ past. by_lt_z (power ks j) (x -ℤ up)
       (λ right.
       let c = s.convex (x -ℤ up) (omega (arith, ints)) (omega (arith, ints)) in
       let e = near_right x (x -ℤ up) (omega (arith, ints)) (omega (arith, ints)) in
@@ -102,12 +102,12 @@ module _ (ks : List Knot) (n j : ℕ) (f : ℤ → ℤ) (up down : ℤ) (s : Sta
       omega (arith, ints))
       (λ flat.
       let e = near_flat x past flat in
-      let l0 = least_at (nearest up down (place ks j) (x -ℤ pos 1)) (omega (arith, ints, clamps)) (omega (arith, ints, clamps)) in
-      let l1 = least_at (nearest up down (place ks j) (x +ℤ pos 1)) (omega (arith, ints, clamps)) (omega (arith, ints, clamps)) in
+      let l0 = least_at (nearest up down (power ks j) (x -ℤ pos 1)) (omega (arith, ints, clamps)) (omega (arith, ints, clamps)) in
+      let l1 = least_at (nearest up down (power ks j) (x +ℤ pos 1)) (omega (arith, ints, clamps)) (omega (arith, ints, clamps)) in
       omega (arith, ints)))
 
   module _ (ks' : List Knot) (r : AreSpread up down n j ks ks') (some : pos 0 <ℤ (up +ℤ down)) where
-    spread_rise : (k : ℕ) → k + 1 < n + 1 → place ks' k <ℤ place ks' (k + 1)
+    spread_rise : (k : ℕ) → k + 1 < n + 1 → power ks' k <ℤ power ks' (k + 1)
     spread_rise k h =
         elim (cases_lt k j) [
           | inl before ↦
@@ -120,8 +120,8 @@ module _ (ks : List Knot) (n j : ℕ) (f : ℤ → ℤ) (up down : ℤ) (s : Sta
                 let a = (r.rising (k - 1) (omega arith) (omega arith)).0 in
                 let b = (r.rising k (omega arith) (omega arith)).0 in
                 let step = s.rise (k - 1) (omega arith) in
-                let e : place ks' ((k - 1) + 1) ≡ place ks' k = ap (place ks') (omega arith) in
-                let e' : place ks ((k - 1) + 1) ≡ place ks k = ap (place ks) (omega arith) in
+                let e : power ks' ((k - 1) + 1) ≡ power ks' k = ap (power ks') (omega arith) in
+                let e' : power ks ((k - 1) + 1) ≡ power ks k = ap (power ks) (omega arith) in
                 omega (arith, ints)
             | inr same ↦
                 let a = (r.falling k (omega arith)).0 in
@@ -130,36 +130,36 @@ module _ (ks : List Knot) (n j : ℕ) (f : ℤ → ℤ) (up down : ℤ) (s : Sta
           ]
         ]
 
-    spread_meet : (k : ℕ) → k < n + 1 → height ks' k ≡ f (nearest up down (place ks j) (place ks' k))
+    spread_meet : (k : ℕ) → k < n + 1 → height ks' k ≡ f (nearest up down (power ks j) (power ks' k))
     spread_meet k h =
         elim (cases_lt j k) [
           | inl after ↦
               let a = r.rising (k - 1) (omega arith) (omega arith) in
               let m = s.meet (k - 1) (omega arith) in
-              let e : place ks' ((k - 1) + 1) ≡ place ks' k = ap (place ks') (omega arith) in
+              let e : power ks' ((k - 1) + 1) ≡ power ks' k = ap (power ks') (omega arith) in
               let e' : height ks' ((k - 1) + 1) ≡ height ks' k = ap (height ks') (omega arith) in
-              let order = rises n (place ks) s.rise ((k - 1) - j) j (k - 1) (omega arith) (omega arith) in
+              let order = rises n (power ks) s.rise ((k - 1) - j) j (k - 1) (omega arith) (omega arith) in
               let a1 = a.1 in
-              let near = near_right (place ks' k) (place ks (k - 1)) (omega (arith, ints)) (omega (arith, ints)) in
+              let near = near_right (power ks' k) (power ks (k - 1)) (omega (arith, ints)) (omega (arith, ints)) in
               sym e' ∙ a1 ∙ m ∙ sym near
           | inr upto ↦
               let a = r.falling k (omega arith) in
               let inside = t.inside in
               let m = s.meet k (omega arith) in
-              let order = rises n (place ks) s.rise (j - k) k j (omega arith) inside in
+              let order = rises n (power ks) s.rise (j - k) k j (omega arith) inside in
               let a1 = a.1 in
-              let near = near_left (place ks' k) (place ks k) (omega (arith, ints)) (omega (arith, ints)) in
+              let near = near_left (power ks' k) (power ks k) (omega (arith, ints)) (omega (arith, ints)) in
               a1 ∙ m ∙ sym near
         ]
 
-    spread_straight : (k : ℕ) → k + 1 < n + 1 → IsStraight (place ks' k) (place ks' (k + 1)) (λ x. f (nearest up down (place ks j) x))
+    spread_straight : (k : ℕ) → k + 1 < n + 1 → IsStraight (power ks' k) (power ks' (k + 1)) (λ x. f (nearest up down (power ks j) x))
     spread_straight k h x low high =
         let inside = t.inside in
         elim (cases_lt k j) [
           | inl before ↦
               let a = (r.falling k (omega arith)).0 in
               let b = (r.falling (k + 1) (omega arith)).0 in
-              let order = rises n (place ks) s.rise (j - (k + 1)) (k + 1) j (omega arith) inside in
+              let order = rises n (power ks) s.rise (j - (k + 1)) (k + 1) j (omega arith) inside in
               let c = s.straight k (omega arith) (x +ℤ down) (omega (arith, ints)) (omega (arith, ints)) in
               let e = near_left x (x +ℤ down) (omega (arith, ints)) (omega (arith, ints)) in
               let e0 = near_left (x -ℤ pos 1) ((x +ℤ down) -ℤ pos 1) (omega (arith, ints)) (omega (arith, ints)) in
@@ -169,16 +169,16 @@ module _ (ks : List Knot) (n j : ℕ) (f : ℤ → ℤ) (up down : ℤ) (s : Sta
             | inl after ↦
                 let a = (r.rising (k - 1) (omega arith) (omega arith)).0 in
                 let b = (r.rising k (omega arith) (omega arith)).0 in
-                let q : place ks' ((k - 1) + 1) ≡ place ks' k = ap (place ks') (omega arith) in
-                let q' : place ks ((k - 1) + 1) ≡ place ks k = ap (place ks) (omega arith) in
-                let order = rises n (place ks) s.rise ((k - 1) - j) j (k - 1) (omega arith) (omega arith) in
+                let q : power ks' ((k - 1) + 1) ≡ power ks' k = ap (power ks') (omega arith) in
+                let q' : power ks ((k - 1) + 1) ≡ power ks k = ap (power ks) (omega arith) in
+                let order = rises n (power ks) s.rise ((k - 1) - j) j (k - 1) (omega arith) (omega arith) in
                 let c = s.straight (k - 1) (omega arith) (x -ℤ up) (omega (arith, ints)) (omega (arith, ints)) in
                 let e = near_right x (x -ℤ up) (omega (arith, ints)) (omega (arith, ints)) in
                 let e0 = near_right (x -ℤ pos 1) ((x -ℤ up) -ℤ pos 1) (omega (arith, ints)) (omega (arith, ints)) in
                 let e1 = near_right (x +ℤ pos 1) ((x -ℤ up) +ℤ pos 1) (omega (arith, ints)) (omega (arith, ints)) in
                 omega (arith, ints)
             | inr same ↦
-                let q : place ks k ≡ place ks j = ap (place ks) (omega arith) in
+                let q : power ks k ≡ power ks j = ap (power ks) (omega arith) in
                 let a = (r.falling k (omega arith)).0 in
                 let b = (r.rising k (omega arith) (omega arith)).0 in
                 let e = near_flat x (omega (arith, ints)) (omega (arith, ints)) in
@@ -188,7 +188,7 @@ module _ (ks : List Knot) (n j : ℕ) (f : ℤ → ℤ) (up down : ℤ) (s : Sta
           ]
         ]
 
-    pub StandFor-spread : StandFor ks' (n + 1) (λ x. f (nearest up down (place ks j) x))
+    pub StandFor-spread : StandFor ks' (n + 1) (λ x. f (nearest up down (power ks j) x))
     StandFor-spread = record {
       rise = spread_rise;
       meet = spread_meet;
@@ -196,7 +196,7 @@ module _ (ks : List Knot) (n j : ℕ) (f : ℤ → ℤ) (up down : ℤ) (s : Sta
       convex = λ x low high.
           let a = (r.falling 0 (omega arith)).0 in
           let b = (r.rising (n - 1) (omega arith) (omega arith)).0 in
-          let e : place ks' ((n + 1) - 1) ≡ place ks' ((n - 1) + 1) = ap (place ks') (omega arith) in
+          let e : power ks' ((n + 1) - 1) ≡ power ks' ((n - 1) + 1) = ap (power ks') (omega arith) in
           window_convex x (omega (arith, ints)) (omega (arith, ints));
     }
 
@@ -224,10 +224,10 @@ AreWindow-spread ks ks' n j up down is_up is_down some t r = record {
   some = omega arith;
   first = let inside = t.inside in (r.falling 0 (omega arith)).0;
   last =
-      let e : place ks' ((n + 1) - 1) ≡ place ks' ((n - 1) + 1) = ap (place ks') (omega arith) in
+      let e : power ks' ((n + 1) - 1) ≡ power ks' ((n - 1) + 1) = ap (power ks') (omega arith) in
       e ∙ (r.rising (n - 1) (omega arith) (omega arith)).0;
   function = λ f s. (
-    λ x. f (nearest up down (place ks j) x),
+    λ x. f (nearest up down (power ks j) x),
     StandFor-spread ks n j f up down s t is_up is_down ks' r some,
     λ x low high. window_of_knots ks n j f up down s t is_up is_down x low high,
   );
@@ -235,27 +235,27 @@ AreWindow-spread ks ks' n j up down is_up is_down some t r = record {
 
 -- ---- limits
 
-pub IsLimited-still : (ks : List Knot) (n : ℕ) → ((k : ℕ) → k < n → IsPlace (place ks k)) → ((k : ℕ) → k < n → IsAmount (height ks k)) → IsLimited ks n
-IsLimited-still ks n places amounts = record {
-  places = λ k h. let a = (places k h).0 in let b = (places k h).1 in (omega (arith, ints), omega (arith, ints));
+pub IsLimited-still : (ks : List Knot) (n : ℕ) → ((k : ℕ) → k < n → IsPlace (power ks k)) → ((k : ℕ) → k < n → IsAmount (height ks k)) → IsLimited ks n
+IsLimited-still ks n powers amounts = record {
+  powers = λ k h. let a = (powers k h).0 in let b = (powers k h).1 in (omega (arith, ints), omega (arith, ints));
   amounts = amounts;
 }
 
-pub IsLimited-spread : (ks ks' : List Knot) (n j : ℕ) (up down : ℤ) → ((k : ℕ) → k < n → IsPlace (place ks k)) → ((k : ℕ) → k < n → IsAmount (height ks k))
+pub IsLimited-spread : (ks ks' : List Knot) (n j : ℕ) (up down : ℤ) → ((k : ℕ) → k < n → IsPlace (power ks k)) → ((k : ℕ) → k < n → IsAmount (height ks k))
     → IsPlace up → IsPlace down → j < n → AreSpread up down n j ks ks' → IsLimited ks' (n + 1)
-IsLimited-spread ks ks' n j up down places amounts fits_up fits_down inside r =
+IsLimited-spread ks ks' n j up down powers amounts fits_up fits_down inside r =
     record {
-      places = λ k h. elim (cases_lt j k) [
+      powers = λ k h. elim (cases_lt j k) [
         | inl after ↦
-            let e : place ks' ((k - 1) + 1) ≡ place ks' k = ap (place ks') (omega arith) in
+            let e : power ks' ((k - 1) + 1) ≡ power ks' k = ap (power ks') (omega arith) in
             let m = (r.rising (k - 1) (omega arith) (omega arith)).0 in
-            let a = (places (k - 1) (omega arith)).0 in
-            let b = (places (k - 1) (omega arith)).1 in
+            let a = (powers (k - 1) (omega arith)).0 in
+            let b = (powers (k - 1) (omega arith)).1 in
             (omega (arith, ints), omega (arith, ints))
         | inr upto ↦
             let m = (r.falling k upto).0 in
-            let a = (places k (omega arith)).0 in
-            let b = (places k (omega arith)).1 in
+            let a = (powers k (omega arith)).0 in
+            let b = (powers k (omega arith)).1 in
             (omega (arith, ints), omega (arith, ints))
       ];
       amounts = λ k h. elim (cases_lt j k) [
@@ -283,6 +283,6 @@ IsWindow-cut ks k1 k2 k3 n n1 n2 n3 up down lo hi w above below some = record {
             let to = i1.0.to_last in
             (i2.1, i1.1, g.2 x (omega (arith, ints)) (omega (arith, ints))),
       );
-  places = λ x y h low high from to.
+  powers = λ x y h low high from to.
       below.back x (above.back x (record { some = w.some; from_first = omega (arith, ints); to_last = omega (arith, ints) }) to) from;
 }

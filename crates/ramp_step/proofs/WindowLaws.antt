@@ -4,7 +4,7 @@ use Rattle.ramp_step.proofs.TimesLaws.{times_next, times_minus}
 
 -- ---- slopes
 
--- y is d places after x
+-- y is d powers after x
 steps_by : (x y d : ℤ) → y -ℤ x ≡ d → x ≤ℤ y → (k : ℕ) × (y ≡ x +ℤ pos k)
 steps_by x y (pos k) e h = (k, omega (arith, ints))
 steps_by x y (negsuc k) e h = absurd (omega (arith, ints))
@@ -12,7 +12,7 @@ steps_by x y (negsuc k) e h = absurd (omega (arith, ints))
 pub steps : (x y : ℤ) → x ≤ℤ y → (k : ℕ) × (y ≡ x +ℤ pos k)
 steps x y h = steps_by x y (y -ℤ x) refl h
 
--- the slope of a convex function at x is no greater than the slope d places on
+-- the slope of a convex function at x is no greater than the slope d powers on
 slopes_steps : (f : ℤ → ℤ) (a b : ℤ) → IsConvex a b f → (x : ℤ) (d : ℕ) → a ≤ℤ x → (x +ℤ pos d) <ℤ b
     → (f (x +ℤ pos 1) -ℤ f x) ≤ℤ (f ((x +ℤ pos d) +ℤ pos 1) -ℤ f (x +ℤ pos d))
 slopes_steps f a b convex x zero low high =
@@ -79,7 +79,7 @@ straight_slope f a b straight x low high =
     let e' : f (x +ℤ pos 1) ≡ f ((a +ℤ pos s.0) +ℤ pos 1) = ap (λ z. f (z +ℤ pos 1)) s.1 in
     omega (arith, ints)
 
--- a straight part that ends lower falls at each place, and one that doesn't end lower has no slope below 0
+-- a straight part that ends lower falls at each power, and one that doesn't end lower has no slope below 0
 pub strict_slope : (f : ℤ → ℤ) (a b : ℤ) → IsStraight a b f → a <ℤ b → f b <ℤ f a → (f (a +ℤ pos 1) -ℤ f a) <ℤ pos 0
 strict_slope f a b straight order low =
     let s = f (a +ℤ pos 1) -ℤ f a in
@@ -144,7 +144,7 @@ module _ (f : ℤ → ℤ) (a b m : ℤ)
   nearer z y low high (inl p) = falls_to y z low p.0 p.1
   nearer z y low high (inr p) = rises_to z y p.0 p.1 high
 
-  -- with a place in reach and m inside, the least value in reach is at the place that is nearest to m
+  -- with a power in reach and m inside, the least value in reach is at the power that is nearest to m
   pub window_law : (up down x : ℤ) → a ≤ℤ m → m ≤ℤ b → pos 0 ≤ℤ up → pos 0 ≤ℤ down → a ≤ℤ (x +ℤ down) → (x -ℤ up) ≤ℤ b
       → IsLeastInReach f a b up down x (f (nearest up down m x))
   window_law up down x first last is_up is_down low high = record {

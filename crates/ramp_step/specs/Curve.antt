@@ -1,20 +1,20 @@
--- A curve of blocks, each with a width and a price, as a function on all places (this project's
+-- A curve of blocks, each with a width and a price, as a function on all powers (this project's
 -- profile).
 use Rattle.std.specs.Prelude.{ℕ, zero, suc, ◌+◌, ◌<◌, ◌≤◌, ℤ, pos, ◌+ℤ◌, ◌-ℤ◌, ◌*ℤ◌, ◌≤ℤ◌, ◌⊎◌}
 use Rattle.std.specs.Prelude.{List, [], ◌∷◌, length}
 use Rattle.std.specs.Int.{int_min, int_max}
 use Rattle.ramp_step.specs.declared.breakpoint.Knot.{Knot}
 use Rattle.uc_model.specs.declared.units.Block.{Block}
-use Rattle.ramp_step.specs.Knots.{place, StandFor, IsInside, HaveSameEnds, IsWide}
+use Rattle.ramp_step.specs.Knots.{power, StandFor, IsInside, HaveSameEnds, IsWide}
 use Rattle.shape_law.specs.Table.{IsAmount}
 
--- the rise from place s to place x over blocks that begin at s
+-- the rise from power s to power x over blocks that begin at s
 abbrev pub rise_over : List Block → ℤ → ℤ → ℤ
 rise_over [] s x = pos 0
 rise_over (b ∷ bs) s x =
     b.price *ℤ int_min (x -ℤ s) b.width +ℤ rise_over bs (s +ℤ b.width) (int_max x (s +ℤ b.width))
 
--- the value at x of a curve that begins at place s with a value
+-- the value at x of a curve that begins at power s with a value
 abbrev pub curve_term : ℤ → List Block → ℤ → ℤ → ℤ
 curve_term v bs s x = v +ℤ rise_over bs s x
 
@@ -38,7 +38,7 @@ EndsOutside bs s j lo hi =
 pub record IsRefined (bs : List Block) (s : ℤ) (j : ℕ) (ks : List Knot) (n : ℕ) (ks' : List Knot)
     (n' : ℕ) : Type 0 where
   pub function : (f : ℤ → ℤ) → StandFor ks n f → StandFor ks' n' f
-  pub apart : (k : ℕ) → k + 1 < n' → EndsOutside bs s j (place ks' k) (place ks' (k + 1))
+  pub apart : (k : ℕ) → k + 1 < n' → EndsOutside bs s j (power ks' k) (power ks' (k + 1))
   pub ends : HaveSameEnds ks n ks' n'
 
 -- widths aren't negative, prices don't fall, and the block ends and the values there are within the
@@ -49,6 +49,6 @@ pub record AreLimitedBlocks (v : ℤ) (bs : List Block) (s : ℤ) : Type 0 where
   pub ends : (j : ℕ) → j ≤ length bs → IsWide (block_end bs s j)
   pub values : (j : ℕ) → j ≤ length bs → IsAmount (curve_term v bs s (block_end bs s j))
 
--- each place of the interval is on the blocks
+-- each power of the interval is on the blocks
 abbrev pub IsOver : List Block → ℤ → List Knot → ℕ → Type 0
 IsOver bs s ks n = (x : ℤ) → IsInside ks n x → (s ≤ℤ x) × (x ≤ℤ block_end bs s (length bs))

@@ -6,7 +6,7 @@ use Rattle.std.specs.Int.{int_min, int_max}
 use Rattle.shape_law.specs.Effect.{IsPoint, IsSame, IsLeast, IsLeastIn}
 use Rattle.shape_law.specs.Table.{value_of, HasNone, IsPlace, IsAmount}
 use Rattle.ramp_step.specs.declared.breakpoint.Knot.{Knot}
-use Rattle.ramp_step.specs.Knots.{IsConvex, knot, place, height}
+use Rattle.ramp_step.specs.Knots.{IsConvex, knot, power, height}
 use Rattle.ramp_step.specs.Tables.{table_of, AreBreaks}
 use Rattle.ramp_step.specs.Window.{IsLeastInReach, IsTurn, AreSpread, AreWindow}
 
@@ -37,8 +37,8 @@ WindowMovesKnots =
 -- one knot within the limits is a point
 abbrev pub OneKnotIsPoint : Type 0
 OneKnotIsPoint =
-    (ks : List Knot) → IsPlace (place ks 0) → IsAmount (height ks 0) → AreBreaks ks 1
-    × IsPoint (place ks 0) (height ks 0) (table_of ks 1)
+    (ks : List Knot) → IsPlace (power ks 0) → IsAmount (height ks 0) → AreBreaks ks 1
+    × IsPoint (power ks 0) (height ks 0) (table_of ks 1)
 
 -- lists that begin with the same knots stand for the same function
 abbrev pub SameKnotsAreSame : Type 0
@@ -57,20 +57,20 @@ pub record IsRun (ks : List Knot) (n from : ℕ) (ks' : List Knot) (n' : ℕ) : 
 abbrev pub RunsStandBetween : Type 0
 RunsStandBetween =
     (ks ks' : List Knot) (n from n' : ℕ) → IsRun ks n from ks' n' → AreBreaks ks n
-    → AreBreaks ks' n' × ((x : ℤ) → (0 < from → place ks from ≤ℤ x) →
-    (from + n' < n → x ≤ℤ place ks' (n' - 1)) →
+    → AreBreaks ks' n' × ((x : ℤ) → (0 < from → power ks from ≤ℤ x) →
+    (from + n' < n → x ≤ℤ power ks' (n' - 1)) →
     value_of (table_of ks' n') x ≡ value_of (table_of ks n) x)
 
--- the first height that the next one isn't below is the least value, at its least place
+-- the first height that the next one isn't below is the least value, at its least power
 abbrev pub TurnIsLeast : Type 0
 TurnIsLeast =
     (ks : List Knot) (n turn : ℕ) → AreBreaks ks n → IsTurn ks n turn →
-    IsLeast (table_of ks n) (height ks turn) (place ks turn)
+    IsLeast (table_of ks n) (height ks turn) (power ks turn)
 
--- and the least value of the places from lo to hi is at the place nearest to it
+-- and the least value of the powers from lo to hi is at the power nearest to it
 abbrev pub NearestIsLeast : Type 0
 NearestIsLeast =
     (ks : List Knot) (n turn : ℕ) (lo hi : ℤ) → AreBreaks ks n → IsTurn ks n turn → lo ≤ℤ hi
-    → MatchOption (value_of (table_of ks n) (int_max lo (int_min hi (place ks turn))))
+    → MatchOption (value_of (table_of ks n) (int_max lo (int_min hi (power ks turn))))
     (HasNone lo hi (table_of ks n))
-    (λ v. IsLeastIn lo hi (table_of ks n) v (int_max lo (int_min hi (place ks turn))))
+    (λ v. IsLeastIn lo hi (table_of ks n) v (int_max lo (int_min hi (power ks turn))))

@@ -3,18 +3,18 @@ use Rattle.std.specs.Prelude.{◌≡◌, ℕ, ℤ, ◌≤ℤ◌, List}
 use Rattle.ramp_step.specs.declared.breakpoint.Knot.{Knot}
 use Rattle.ramp_step.specs.Knots.{IsInside}
 
--- q is the least value of f at the places that keep P, at its least place
+-- q is the least value of f at the powers that keep P, at its least power
 pub record IsLowest (P : ℤ → Type 0) (f : ℤ → ℤ) (q : Knot) : Type 0 where
   pub inside : P q.at
   pub there : f q.at ≡ q.value
   pub least : (y : ℤ) → P y → q.value ≤ℤ f y
   pub first : (y : ℤ) → P y → f y ≡ q.value → q.at ≤ℤ y
 
--- no place keeps P
-abbrev pub HasNoPlace : (ℤ → Type 0) → Type 0
-HasNoPlace P = (x : ℤ) → P x → ⊥
+-- no power keeps P
+abbrev pub HasNoPower : (ℤ → Type 0) → Type 0
+HasNoPower P = (x : ℤ) → P x → ⊥
 
--- x is a place of the interval from lo to hi
+-- x is a power of the interval from lo to hi
 pub record IsInsideWithin (lo hi : ℤ) (ks : List Knot) (n : ℕ) (x : ℤ) : Type 0 where
   pub inside : IsInside ks n x
   pub from : lo ≤ℤ x

@@ -1,7 +1,7 @@
 -- Knots with free cells between them (this project's profile).
 use Rattle.std.specs.Prelude.{◌≡◌, ℕ, ◌+◌, ◌<◌, ◌≤◌, ℤ, ◌≤ℤ◌, ◌<ℤ◌, List, ◌++◌, take, drop}
 use Rattle.ramp_step.specs.declared.breakpoint.Knot.{Knot}
-use Rattle.ramp_step.specs.Knots.{knot, place}
+use Rattle.ramp_step.specs.Knots.{knot, power}
 
 -- the knots without the free cells from index `front` on
 abbrev pub spaced : List Knot → ℕ → ℕ → List Knot
@@ -16,5 +16,5 @@ pub record IsMovedOn (x : ℤ) (n room front front' : ℕ) (ks ks' : List Knot) 
   pub from : front ≤ front'
   pub to : front' ≤ n
   pub same : (k : ℕ) → k < n → knot (spaced ks' front' room) k ≡ knot (spaced ks front room) k
-  pub below : (k : ℕ) → front ≤ k → k < front' → place (spaced ks front room) k <ℤ x
-  pub after : front' < n → x ≤ℤ place (spaced ks front room) front'
+  pub below : (k : ℕ) → front ≤ k → k < front' → power (spaced ks front room) k <ℤ x
+  pub after : front' < n → x ≤ℤ power (spaced ks front room) front'

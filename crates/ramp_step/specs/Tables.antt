@@ -3,12 +3,12 @@ use Rattle.std.specs.Prelude.{ℕ, ◌<◌, List, length}
 use Rattle.shape_law.specs.Table.{Table, IsConvex, IsPlace, IsAmount, IsWithinLimits}
 use Rattle.ramp_step.specs.declared.breakpoint.Knot.{Knot}
 use Rattle.ramp_step.specs.Breakpoints.{AreBreakpoints}
-use Rattle.ramp_step.specs.Knots.{place, height}
+use Rattle.ramp_step.specs.Knots.{power, height}
 use Rattle.ramp_step.specs.Values.{values_of}
 
--- the first place, and the values at all places up to the last
+-- the first power, and the values at all powers up to the last
 abbrev pub table_of : List Knot → ℕ → Table
-table_of ks n = record { lo = place ks 0; values = values_of ks n }
+table_of ks n = record { lo = power ks 0; values = values_of ks n }
 
 -- the function of a whole list
 abbrev pub function_of : List Knot → Table
@@ -25,7 +25,7 @@ pub record AreBreaks (ks : List Knot) (n : ℕ) : Type 0 where
 abbrev pub IsBreakList : List Knot → Type 0
 IsBreakList ks = AreBreaks ks (length ks)
 
--- places and values of the first n knots are within the limits
+-- powers and values of the first n knots are within the limits
 pub record AreWithinLimits (ks : List Knot) (n : ℕ) : Type 0 where
-  pub places : (k : ℕ) → k < n → IsPlace (place ks k)
+  pub powers : (k : ℕ) → k < n → IsPlace (power ks k)
   pub amounts : (k : ℕ) → k < n → IsAmount (height ks k)

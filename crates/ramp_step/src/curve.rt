@@ -1,7 +1,7 @@
 //! A curve is added.
 ghost use Rattle.std.specs.Prelude.{◌≡◌, ℕ, ℤ, ◌+◌, ◌^◌, ◌-◌, ◌<◌, ◌≤◌, ◌+ℤ◌, ◌-ℤ◌, ◌*ℤ◌, ◌≤ℤ◌};
 ghost use Rattle.std.specs.Prelude.{◌<ℤ◌, length};
-ghost use Rattle.ramp_step.specs.Knots.{place, height, StandFor, IsShape, IsInside, HaveSameEnds};
+ghost use Rattle.ramp_step.specs.Knots.{power, height, StandFor, IsShape, IsInside, HaveSameEnds};
 ghost use Rattle.ramp_step.specs.Knots.{IsFar, CanAdd, AreRaised, knot, IsWide};
 ghost use Rattle.ramp_step.specs.Tables.{table_of, AreBreaks};
 ghost use Rattle.shape_law.specs.Curve.{curve_value, IsLimitedCurve};
@@ -25,7 +25,7 @@ fn split_all(knots: &mut [Knot], used: usize, from: i64, blocks: &[Block]) -> us
     requires stand { IsShape knots.old used }
     requires limits { IsLimited knots.old used }
     requires ascending { (lowest : ℤ) × AreBlocks lowest blocks.now }
-    requires places { (j : ℕ) → j ≤ length blocks.now → IsWide (block_end blocks.now from j) }
+    requires powers { (j : ℕ) → j ≤ length blocks.now → IsWide (block_end blocks.now from j) }
     ensures refined { IsRefined blocks.now from (length blocks.now) knots.old used knots.new
         result }
     ensures limits { IsLimited knots.new result }
@@ -61,7 +61,7 @@ fn on_block(knot: Knot, start: i64, level: i64, price: i64) -> Knot
 }
 
 /// Adds the line of a block, which has this level at `start`, to the knots from index `first` on up
-/// to the place `end`, and answers the index of the first knot beyond it.
+/// to the power `end`, and answers the index of the first knot beyond it.
 fn raise_block(
     knots: &mut [Knot],
     first: usize,
@@ -75,7 +75,7 @@ fn raise_block(
     requires room { used ≤ length knots.old }
     requires start { IsWide start }
     requires level { IsAmount level }
-    requires fits { (k : ℕ) → first ≤ k → k < used → place knots.old k ≤ℤ end
+    requires fits { (k : ℕ) → first ≤ k → k < used → power knots.old k ≤ℤ end
         → CanRaise start level price (knot knots.old k) }
     ensures { AreRaisedUpto (line_from start level price) end used first result knots.old
         knots.new }
@@ -94,13 +94,13 @@ fn raise_block(
 fn raise_curve(knots: &mut [Knot], used: usize, value: i64, blocks: &[Block], from: i64)
     requires room { used ≤ length knots.old }
     requires curve { AreLimitedBlocks value blocks.now from }
-    requires rise { (k : ℕ) → k + 1 < used → place knots.old k <ℤ place knots.old (k + 1) }
-    requires low { (k : ℕ) → k < used → from ≤ℤ place knots.old k }
-    requires high { (k : ℕ) → k < used → place knots.old k
+    requires rise { (k : ℕ) → k + 1 < used → power knots.old k <ℤ power knots.old (k + 1) }
+    requires low { (k : ℕ) → k < used → from ≤ℤ power knots.old k }
+    requires high { (k : ℕ) → k < used → power knots.old k
         ≤ℤ block_end blocks.now from (length blocks.now) }
     requires before { (k : ℕ) → k < used → IsAmount (height knots.old k) }
     requires after { (k : ℕ) → k < used
-        → IsAmount (height knots.old k +ℤ curve_term value blocks.now from (place knots.old k)) }
+        → IsAmount (height knots.old k +ℤ curve_term value blocks.now from (power knots.old k)) }
     ensures { AreRaised (curve_term value blocks.now from) used knots.old knots.new }
 {
     let mut done = raise_block(knots, 0, used, from, value, 0, from);
@@ -114,7 +114,7 @@ fn raise_curve(knots: &mut [Knot], used: usize, value: i64, blocks: &[Block], fr
     }
 }
 
-/// Adds the blocks' value to the value at each place.
+/// Adds the blocks' value to the value at each power.
 fn add_blocks(knots: &mut [Knot], used: usize, value: i64, blocks: &[Block], from: i64) -> usize
     requires room { used + length blocks.now ≤ length knots.old }
     requires stand { IsShape knots.old used }
@@ -132,7 +132,7 @@ fn add_blocks(knots: &mut [Knot], used: usize, value: i64, blocks: &[Block], fro
     n
 }
 
-/// Adds the curve's value at `x + shift` to the value at each place x, which has to be in the
+/// Adds the curve's value at `x + shift` to the value at each power x, which has to be in the
 /// curve. Its charge is the number of the curve's blocks, for a knot where a block ends.
 pub fn curve_step(knots: &mut [Knot], used: u32, curve: &Curve, shift: i64) -> u32
     requires some { 0 < used }

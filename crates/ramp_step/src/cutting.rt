@@ -17,7 +17,7 @@ pub(crate) fn drop_from(knots: &mut [Knot], from: usize, used: usize, by: usize)
     }
 }
 
-/// Keeps the places up to `hi`.
+/// Keeps the powers up to `hi`.
 pub(crate) fn cut_above(knots: &mut [Knot], used: usize, hi: i64) -> usize
     requires room { used < length knots.old }
     requires stand { IsShape knots.old used }
@@ -37,7 +37,7 @@ pub(crate) fn cut_above(knots: &mut [Knot], used: usize, hi: i64) -> usize
     m
 }
 
-/// Keeps the places from `lo` on.
+/// Keeps the powers from `lo` on.
 pub(crate) fn cut_below(knots: &mut [Knot], used: usize, lo: i64) -> usize
     requires room { used < length knots.old }
     requires stand { IsShape knots.old used }

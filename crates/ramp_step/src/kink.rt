@@ -1,6 +1,6 @@
 //! The worth of the reserve is taken off.
 ghost use Rattle.std.specs.Prelude.{◌≡◌, ℕ, ℤ, ◌+◌, ◌^◌, ◌-◌, ◌<◌, ◌≤◌, pos, ◌+ℤ◌, ◌≤ℤ◌, length};
-ghost use Rattle.ramp_step.specs.Knots.{place, height, IsFar, AreRaised, knot};
+ghost use Rattle.ramp_step.specs.Knots.{power, height, IsFar, AreRaised, knot};
 ghost use Rattle.ramp_step.specs.Tables.{table_of, AreBreaks};
 ghost use Rattle.shape_law.specs.Curve.{reserve_term};
 ghost use Rattle.shape_law.specs.Effect.{IsSum};
@@ -32,10 +32,10 @@ fn lower(knots: &mut [Knot], used: usize, mu: i64, cap: i64, up: i64)
     requires room { used ≤ length knots.old }
     requires cap { IsPlace cap }
     requires up { IsPlace up }
-    requires places { (k : ℕ) → k < used → IsFar (place knots.old k) }
+    requires powers { (k : ℕ) → k < used → IsFar (power knots.old k) }
     requires before { (k : ℕ) → k < used → IsAmount (height knots.old k) }
     requires after { (k : ℕ) → k < used
-        → IsAmount (height knots.old k +ℤ reserve_term mu cap up (place knots.old k)) }
+        → IsAmount (height knots.old k +ℤ reserve_term mu cap up (power knots.old k)) }
     ensures { AreRaised (reserve_term mu cap up) used knots.old knots.new }
 {
     for i in 0..used {
@@ -43,7 +43,7 @@ fn lower(knots: &mut [Knot], used: usize, mu: i64, cap: i64, up: i64)
     }
 }
 
-/// Subtracts `mu * min(cap, up + x)` from the value at each place x. Its charge is 1, for a knot at
+/// Subtracts `mu * min(cap, up + x)` from the value at each power x. Its charge is 1, for a knot at
 /// `cap - up`.
 pub fn kink_step(knots: &mut [Knot], used: u32, mu: i64, cap: i64, up: i64) -> u32
     requires count { used + 1 < 2 ^ 32 }

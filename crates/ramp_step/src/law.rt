@@ -11,14 +11,14 @@ pub fn window_moves_parts()
     ensures knots { WindowMovesKnots }
 {}
 
-/// Knots stand for a convex function with whole values exactly where their places rise, the slopes
+/// Knots stand for a convex function with whole values exactly where their powers rise, the slopes
 /// between neighbours are whole, and no slope is below the one before it.
 pub fn breakpoints_are_shapes()
     ensures shapes { BreakpointsAreShapes }
     ensures breakpoints { ShapesAreBreakpoints }
 {}
 
-/// One knot within the limits is a shape of one place. Lists that begin with the same knots stand
+/// One knot within the limits is a shape of one power. Lists that begin with the same knots stand
 /// for the same function, and knots of a list one after another stand for it between their ends.
 pub fn knots_decide()
     ensures point { OneKnotIsPoint }
@@ -26,8 +26,8 @@ pub fn knots_decide()
     ensures runs { RunsStandBetween }
 {}
 
-/// The first height that the next one isn't below is the least value, at its least place; the least
-/// value of the places from `lo` to `hi` is at the one nearest to it.
+/// The first height that the next one isn't below is the least value, at its least power; the least
+/// value of the powers from `lo` to `hi` is at the one nearest to it.
 pub fn turn_is_least()
     ensures least { TurnIsLeast }
     ensures nearest { NearestIsLeast }

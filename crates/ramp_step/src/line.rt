@@ -1,6 +1,6 @@
 //! A line is added.
 ghost use Rattle.std.specs.Prelude.{◌≡◌, ℕ, ℤ, ◌+◌, ◌<◌, ◌≤◌, ◌+ℤ◌, ◌*ℤ◌, length};
-ghost use Rattle.ramp_step.specs.Knots.{place, height, AreRaised, knot};
+ghost use Rattle.ramp_step.specs.Knots.{power, height, AreRaised, knot};
 ghost use Rattle.ramp_step.specs.Tables.{table_of, AreBreaks};
 ghost use Rattle.shape_law.specs.Effect.{IsSum};
 ghost use Rattle.shape_law.specs.Table.{IsPlace, IsAmount, CanAdd};
@@ -25,10 +25,10 @@ fn on_line(knot: Knot, slope: i64) -> Knot
 /// Adds a line to each of the first heights.
 fn raise_line(knots: &mut [Knot], used: usize, slope: i64)
     requires room { used ≤ length knots.old }
-    requires places { (k : ℕ) → k < used → IsPlace (place knots.old k) }
+    requires powers { (k : ℕ) → k < used → IsPlace (power knots.old k) }
     requires before { (k : ℕ) → k < used → IsAmount (height knots.old k) }
     requires after { (k : ℕ) → k < used
-        → IsAmount (height knots.old k +ℤ slope *ℤ place knots.old k) }
+        → IsAmount (height knots.old k +ℤ slope *ℤ power knots.old k) }
     ensures { AreRaised (λ x. slope *ℤ x) used knots.old knots.new }
 {
     for i in 0..used {
@@ -36,7 +36,7 @@ fn raise_line(knots: &mut [Knot], used: usize, slope: i64)
     }
 }
 
-/// Adds `slope * x` to the value at each place x. It takes no knot.
+/// Adds `slope * x` to the value at each power x. It takes no knot.
 pub fn line_step(knots: &mut [Knot], used: u32, slope: i64)
     requires room { used ≤ length knots.old }
     requires breaks { AreBreaks knots.old used }

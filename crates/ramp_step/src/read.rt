@@ -8,7 +8,7 @@ use crate::breakpoint::Knot;
 use crate::splitting::{below, between};
 use crate::window::turn;
 
-/// The value at a place; None exactly outside the interval.
+/// The value at a power; None exactly outside the interval.
 pub fn value_at(knots: &[Knot], used: u32, x: i64) -> Option<i64>
     requires room { used ≤ length knots.now }
     requires breaks { AreBreaks knots.now used }
@@ -28,7 +28,7 @@ pub fn value_at(knots: &[Knot], used: u32, x: i64) -> Option<i64>
     Some(knot.value)
 }
 
-/// The least value, with the least place where it is; None exactly on an empty interval.
+/// The least value, with the least power where it is; None exactly on an empty interval.
 pub fn least(knots: &[Knot], used: u32) -> Option<Knot>
     requires room { used ≤ length knots.now }
     requires breaks { AreBreaks knots.now used }
@@ -42,8 +42,8 @@ pub fn least(knots: &[Knot], used: u32) -> Option<Knot>
     Some(knots[j])
 }
 
-/// The least value at the places from `lo` to `hi`, with the least place where it is; None exactly
-/// where there is no such place.
+/// The least value at the powers from `lo` to `hi`, with the least power where it is; None exactly
+/// where there is no such power.
 pub fn least_in(knots: &[Knot], used: u32, lo: i64, hi: i64) -> Option<Knot>
     requires room { used ≤ length knots.now }
     requires breaks { AreBreaks knots.now used }

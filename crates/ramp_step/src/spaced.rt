@@ -36,7 +36,7 @@ pub(crate) fn advance(knots: &mut [Knot], front: usize, room: usize, total: usiz
     total - room
 }
 
-/// Puts a knot in at `x` at the end of the free cells, where that place is between two knots, and
+/// Puts a knot in at `x` at the end of the free cells, where that power is between two knots, and
 /// answers how many cells are free then.
 pub(crate) fn fill(knots: &mut [Knot], front: usize, room: usize, total: usize, x: i64) -> usize
     requires some { 0 < room }

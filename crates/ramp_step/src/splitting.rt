@@ -1,7 +1,7 @@
 //! A breakpoint is put in between two others.
 ghost use Rattle.std.specs.Prelude.{◌≡◌, ℤ, ◌+◌, ◌-◌, ◌<◌, ◌≤◌, pos, ◌+ℤ◌, ◌*ℤ◌, ◌≤ℤ◌, ◌<ℤ◌};
 ghost use Rattle.std.specs.Prelude.{length};
-ghost use Rattle.ramp_step.specs.Knots.{place, IsShape, knot};
+ghost use Rattle.ramp_step.specs.Knots.{power, IsShape, knot};
 ghost use Rattle.shape_law.specs.Table.{IsAmount};
 ghost use Rattle.ramp_step.specs.Cut.{IsOnLine, IsBetween, AreWithin, IsInserted, IsSplit};
 ghost use Rattle.ramp_step.specs.Cut.{IsLimited, AreBelow};
@@ -26,7 +26,7 @@ pub(crate) fn along(value: i64, slope: i64, x: i64) -> i64
     value + slope * x
 }
 
-/// The knot at a place on the line from one knot to another.
+/// The knot at a power on the line from one knot to another.
 pub(crate) fn between(a: Knot, b: Knot, x: i64) -> Knot
     requires line { IsOnLine a b x }
     requires within { AreWithin a b }
@@ -37,7 +37,7 @@ pub(crate) fn between(a: Knot, b: Knot, x: i64) -> Knot
     Knot { at: x, value }
 }
 
-/// How many of the first knots are below a place.
+/// How many of the first knots are below a power.
 pub(crate) fn below(knots: &[Knot], used: usize, x: i64) -> usize
     requires room { used ≤ length knots.now }
     ensures { AreBelow knots.now used x result }
@@ -64,7 +64,7 @@ fn insert(knots: &mut [Knot], used: usize, m: usize, knot: Knot)
     knots[m] = knot;
 }
 
-/// Puts a knot in at `x`, where that place is between two knots.
+/// Puts a knot in at `x`, where that power is between two knots.
 pub(crate) fn split(knots: &mut [Knot], used: usize, x: i64) -> usize
     requires room { used < length knots.old }
     requires stand { IsShape knots.old used }

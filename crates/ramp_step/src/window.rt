@@ -1,7 +1,7 @@
 //! The least value in reach.
 ghost use Rattle.std.specs.Prelude.{◌≡◌, ℕ, ℤ, ◌+◌, ◌^◌, ◌-◌, ◌<◌, ◌≤◌, pos, ◌+ℤ◌, ◌-ℤ◌, ◌≤ℤ◌};
 ghost use Rattle.std.specs.Prelude.{length};
-ghost use Rattle.ramp_step.specs.Knots.{place, height, IsShape, knot};
+ghost use Rattle.ramp_step.specs.Knots.{power, height, IsShape, knot};
 ghost use Rattle.ramp_step.specs.Tables.{table_of, AreBreaks};
 ghost use Rattle.shape_law.specs.Effect.{IsWindow};
 ghost use Rattle.shape_law.specs.Table.{IsPlace, IsAmount};
@@ -56,7 +56,7 @@ pub(crate) fn turn(knots: &[Knot], used: usize) -> usize
 fn spread(knots: &mut [Knot], used: usize, turn: usize, up: i64, down: i64)
     requires inside { turn < used }
     requires room { used < length knots.old }
-    requires places { (k : ℕ) → k < used → IsPlace (place knots.old k) }
+    requires powers { (k : ℕ) → k < used → IsPlace (power knots.old k) }
     requires up { IsPlace up }
     requires down { IsPlace down }
     ensures { AreSpread up down used turn knots.old knots.new }
@@ -76,7 +76,7 @@ fn shift(knots: &mut [Knot], used: usize, up: i64, down: i64) -> usize
     requires some { 0 < used }
     requires room { used < length knots.old }
     requires stand { IsShape knots.old used }
-    requires places { (k : ℕ) → k < used → IsPlace (place knots.old k) }
+    requires powers { (k : ℕ) → k < used → IsPlace (power knots.old k) }
     requires amounts { (k : ℕ) → k < used → IsAmount (height knots.old k) }
     requires up { pos 0 ≤ℤ up }
     requires up_fits { IsPlace up }
@@ -95,8 +95,8 @@ fn shift(knots: &mut [Knot], used: usize, up: i64, down: i64) -> usize
     used + 1
 }
 
-/// The new value at x is the least old value at the places from `x - up` to `x + down`; the new
-/// interval is the places from `lo` to `hi` where there is one. Its charge is 4: one knot for the
+/// The new value at x is the least old value at the powers from `x - up` to `x + down`; the new
+/// interval is the powers from `lo` to `hi` where there is one. Its charge is 4: one knot for the
 /// flat part, and one at each cut.
 pub fn window_step(knots: &mut [Knot], used: u32, up: i64, down: i64, lo: i64, hi: i64) -> u32
     requires count { used + 4 < 2 ^ 32 }

@@ -22,7 +22,7 @@ module _ {H S : Type 0} (function : H → S → Table) (charged : ℕ → H → 
       omega arith
 
   pub bounded_by : CellsAreBounded function charged cells
-  bounded_by points count calls place value h h' s s' some of few is one made =
+  bounded_by points count calls power value h h' s s' some of few is one made =
       let all = charged_by calls h h' s s' made in
       let sum = charges_bounded points calls of in
       let curves = mul-le-mul_right (2 * (points - 1)) few.curves in

@@ -6,7 +6,7 @@ use Rattle.shape_law.specs.Lookup.{IsAt, IsAt-from_value, value-from_index, valu
 pub use Rattle.shape_law.specs.Lookup.{same_some}
 
 module _ (v : ℕ → ℤ) (n : ℕ) (convex : (k : ℕ) → k + 2 < n → (v (k + 1) +ℤ v (k + 1)) ≤ℤ (v k +ℤ v (k + 2))) where
-  -- the slope at i is no greater than the slope at j, d places on
+  -- the slope at i is no greater than the slope at j, d powers on
   pub slopes : (d i j : ℕ) → j ≡ i + d → j + 1 < n → (v (i + 1) +ℤ v j) ≤ℤ (v i +ℤ v (j + 1))
   slopes zero i j e h =
       let same : v j ≡ v i = ap v (omega arith) in
@@ -19,7 +19,7 @@ module _ (v : ℕ → ℤ) (n : ℕ) (convex : (k : ℕ) → k + 2 < n → (v (k
       let next : v (j + 1) ≡ v ((i + d) + 2) = ap v (omega arith) in
       omega (arith, ints)
 
--- the same at places of a table, y below z
+-- the same at powers of a table, y below z
 pub record Between (f : Table) (y z a b : ℤ) : Type 0 where
   pub up : ℤ
   pub down : ℤ
@@ -32,7 +32,7 @@ between_by f h y z a b p q l =
     let v : ℕ → ℤ = λ k. get_or f.values k (pos 0) in
     let i = p.offset in
     let j = q.offset - 1 in
-    let order : i < q.offset = omega (arith, ints, p.place, q.place) in
+    let order : i < q.offset = omega (arith, ints, p.power, q.power) in
     let next : j + 1 ≡ q.offset = omega arith in
     let inside : q.offset < length f.values = q.inside in
     let s : (v (i + 1) +ℤ v j) ≤ℤ (v i +ℤ v (j + 1)) = slopes v (length f.values) h (j - i) i j (omega arith) (omega arith) in
@@ -41,8 +41,8 @@ between_by f h y z a b p q l =
     record {
       up = v (i + 1);
       down = v j;
-      up_is = value-from_is_at f (y +ℤ pos 1) (v (i + 1)) (record { offset = i + 1; place = omega (arith, ints, p.place); inside = omega arith; there = refl });
-      down_is = value-from_is_at f (z -ℤ pos 1) (v j) (record { offset = j; place = omega (arith, ints, q.place); inside = omega arith; there = refl });
+      up_is = value-from_is_at f (y +ℤ pos 1) (v (i + 1)) (record { offset = i + 1; power = omega (arith, ints, p.power); inside = omega arith; there = refl });
+      down_is = value-from_is_at f (z -ℤ pos 1) (v j) (record { offset = j; power = omega (arith, ints, q.power); inside = omega arith; there = refl });
       convex = omega (arith, ints);
     }
 
@@ -51,7 +51,7 @@ between f h y z a b p q l = between_by f h y z a b (IsAt-from_value f y a p) (Is
 
 -- a window keeps convexity, whatever the representation
 module _ (up down lo hi : ℤ) (f g : Table) (w : IsWindow up down lo hi f g) (h : IsConvex f) where
-  -- the value at the middle place is no greater than any old value in its reach
+  -- the value at the middle power is no greater than any old value in its reach
   middle : (x v y b : ℤ) → value_of g x ≡ Some v → value_of f y ≡ Some b → ((lo ≤ℤ x) × (x ≤ℤ hi)) → (((x -ℤ up) ≤ℤ y) × (y ≤ℤ (x +ℤ down))) → v ≤ℤ b
   middle x v y b p q inside reach =
       let r = w.least x y b q inside reach in
@@ -75,15 +75,15 @@ module _ (up down lo hi : ℤ) (f g : Table) (w : IsWindow up down lo hi f g) (h
       let b : v1 ≤ℤ v2 = middle (x +ℤ pos 1) v1 r2.0 v2 p1 r2.1 (omega (arith, ints), omega (arith, ints)) (omega (arith, ints), omega (arith, ints)) in
       omega (arith, ints))
 
--- ---- convexity by places, and sums
+-- ---- convexity by powers, and sums
 
--- at three places side by side
+-- at three powers side by side
 pub convex_at : (f : Table) → IsConvex f → (x a b c : ℤ) → value_of f x ≡ Some a → value_of f (x +ℤ pos 1) ≡ Some b → value_of f (x +ℤ pos 2) ≡ Some c → (b +ℤ b) ≤ℤ (a +ℤ c)
 convex_at f h x a b c p q r =
     let s = between f h x (x +ℤ pos 2) a c p r (omega (arith, ints)) in
-    let place : (x +ℤ pos 2) -ℤ pos 1 ≡ x +ℤ pos 1 = omega (arith, ints) in
+    let power : (x +ℤ pos 2) -ℤ pos 1 ≡ x +ℤ pos 1 = omega (arith, ints) in
     let up : s.up ≡ b = same_some (value_of f (x +ℤ pos 1)) s.up_is q in
-    let down : s.down ≡ b = same_some (value_of f (x +ℤ pos 1)) (ap (value_of f) (sym place) ∙ s.down_is) q in
+    let down : s.down ≡ b = same_some (value_of f (x +ℤ pos 1)) (ap (value_of f) (sym power) ∙ s.down_is) q in
     let l = s.convex in
     omega (arith, ints)
 
@@ -92,11 +92,11 @@ pub IsConvex-from_places : (g : Table) → ((x a b c : ℤ) → value_of g x ≡
 IsConvex-from_places g h k l =
     let v : ℕ → ℤ = λ k. get_or g.values k (pos 0) in
     let p0 : value_of g (g.lo +ℤ pos k) ≡ Some (v k) = value-from_index g k (omega arith) in
-    let p1 : value_of g ((g.lo +ℤ pos k) +ℤ pos 1) ≡ Some (v (k + 1)) = value-from_is_at g _ _ (record { offset = k + 1; place = omega (arith, ints); inside = omega arith; there = refl }) in
-    let p2 : value_of g ((g.lo +ℤ pos k) +ℤ pos 2) ≡ Some (v (k + 2)) = value-from_is_at g _ _ (record { offset = k + 2; place = omega (arith, ints); inside = omega arith; there = refl }) in
+    let p1 : value_of g ((g.lo +ℤ pos k) +ℤ pos 1) ≡ Some (v (k + 1)) = value-from_is_at g _ _ (record { offset = k + 1; power = omega (arith, ints); inside = omega arith; there = refl }) in
+    let p2 : value_of g ((g.lo +ℤ pos k) +ℤ pos 2) ≡ Some (v (k + 2)) = value-from_is_at g _ _ (record { offset = k + 2; power = omega (arith, ints); inside = omega arith; there = refl }) in
     h (g.lo +ℤ pos k) (v k) (v (k + 1)) (v (k + 2)) p0 p1 p2
 
--- what was added at a place with a value
+-- what was added at a power with a value
 pub added : (term : ℤ → ℤ) (x v : ℤ) (o o' : Option ℤ) → o' ≡ option_map (λ v. v +ℤ term x) o → o' ≡ Some v → (u : ℤ) × (o ≡ Some u) × (v ≡ u +ℤ term x)
 added term x v None o' e h = let n : o' ≡ None = e in cc
 added term x v (Some u) o' e h = let s : o' ≡ Some (u +ℤ term x) = e in (u, refl, (cc))
@@ -141,7 +141,7 @@ pub IsConvex-reserve : ReserveKeepsConvexity
 IsConvex-reserve mu cap up f g is_whole sum h = IsConvex-sum (reserve_term mu cap up) f g sum (λ x. reserve_convex mu cap up x is_whole) h
 
 pub IsConvex-point : PointIsConvex
-IsConvex-point place value f is = IsConvex-from_places f (λ x a b c p q r.
+IsConvex-point power value f is = IsConvex-from_places f (λ x a b c p q r.
     let e = is.only x a p in
     let d = is.only (x +ℤ pos 1) b q in
     absurd (omega (arith, ints)))

@@ -6,7 +6,7 @@ use Rattle.uc_model.specs.declared.units.Curve.{Curve}
 use Rattle.uc_model.specs.Limits as limits
 use Rattle.shape_law.proofs.ConvexLaws.{convex_at, IsConvex-from_places, times_next, same_some}
 
--- ---- what a test on places chooses
+-- ---- what a test on powers chooses
 lt_is : (a b : ℤ) → a <ℤ b → int_lt a b ≡ true
 lt_is a b h = grind (arith, ints)
 
@@ -183,7 +183,7 @@ up_to_end (b ∷ bs) from x v widths h =
     let e = end_after_start bs (from +ℤ b.width) (later b bs widths) in
     omega (arith, ints))
 
--- a place in a curve within the limits is one
+-- a power in a curve within the limits is one
 pub IsPlace-on_curve : CurvePlacesAreLimited
 IsPlace-on_curve c is x v h =
     let a = IsOnCurve-from_value c x v h in
@@ -209,7 +209,7 @@ curve_value-there c is x low high =
     let e : curve_value c x ≡ option_map (λ u. u +ℤ c.value) (rise_at c.blocks.items (x -ℤ c.at)) = rw (not_lt_is x c.at low) in
     (r.0 +ℤ c.value, e ∙ ap (option_map (λ u. u +ℤ c.value)) r.1)
 
--- what the curve added at a place with a value
+-- what the curve added at a power with a value
 pub record IsRaised (curve : ℤ → Option ℤ) (y : ℤ) (o : Option ℤ) (v : ℤ) : Type 0 where
   pub old : ℤ
   pub rise : ℤ

@@ -9,12 +9,12 @@ same_by None (Some v) there back = sym (back v refl)
 same_by (Some v) p there back = there v refl
 
 pub point_is_exact : PointIsExact
-point_is_exact place value g g' is is' x = same_by (value_of g x) (value_of g' x) (at g g' is is') (at g' g is' is)
+point_is_exact power value g g' is is' x = same_by (value_of g x) (value_of g' x) (at g g' is is') (at g' g is' is)
   where
-    at : (h h' : Table) → IsPoint place value h → IsPoint place value h' → (v : ℤ) → value_of h x ≡ Some v → value_of h' x ≡ Some v
+    at : (h h' : Table) → IsPoint power value h → IsPoint power value h' → (v : ℤ) → value_of h x ≡ Some v → value_of h' x ≡ Some v
     at h h' a a' v p =
         let e = a.only x v p in
-        let s : v ≡ value = same_some (value_of h place) (ap (value_of h) (sym e) ∙ p) a.there in
+        let s : v ≡ value = same_some (value_of h power) (ap (value_of h) (sym e) ∙ p) a.there in
         ap (value_of h') e ∙ a'.there ∙ ap Some (sym s)
 
 pub sum_is_exact : SumIsExact

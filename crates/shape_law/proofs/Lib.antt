@@ -5,7 +5,7 @@ pub mod Common
 pub mod ConvexLaws
 -- the sum of a convex function and a curve is convex
 pub mod CurveLaws
--- each effect keeps places and values within the limits
+-- each effect keeps powers and values within the limits
 pub mod LimitLaws
 -- each effect fixes the new function, and is that of any function with the same values
 pub mod EffectLaws

@@ -1,12 +1,12 @@
--- Each effect keeps places and values within the limits.
+-- Each effect keeps powers and values within the limits.
 use Rattle.shape_law.proofs.Common.{◌≡◌, sym, ap, ◌∙◌, subst, arith, ◌+ℤ◌, ints, value_of, IsPlace, IsAmount, PointIsWithinLimits, CopyIsWithinLimits, SumIsWithinLimits, CurveSumIsWithinLimits, WindowIsWithinLimits}
 use Rattle.shape_law.proofs.ConvexLaws.{same_some, added}
 use Rattle.shape_law.proofs.CurveLaws.{raised_by}
 
 pub IsWithinLimits-point : PointIsWithinLimits
-IsWithinLimits-point place value g at amount is x v h =
+IsWithinLimits-point power value g at amount is x v h =
     let e = is.only x v h in
-    let s : v ≡ value = same_some (value_of g place) (ap (value_of g) (sym e) ∙ h) is.there in
+    let s : v ≡ value = same_some (value_of g power) (ap (value_of g) (sym e) ∙ h) is.there in
     (subst IsPlace (sym e) at, subst IsAmount (sym s) amount)
 
 pub IsWithinLimits-same : CopyIsWithinLimits

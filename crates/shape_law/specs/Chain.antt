@@ -96,7 +96,7 @@ module _ {H S : Type 0} (function : H → S → Table) (charged : ℕ → H → 
   -- a window, a shape that began as a point has at most 1 + most * (2 * points + 3) cells
   abbrev pub CellsAreBounded : Type 0
   CellsAreBounded =
-      (points most : ℕ) (calls : List Call) (place value : ℤ) (h h' : H) (s s' : S)
+      (points most : ℕ) (calls : List Call) (power value : ℤ) (h h' : H) (s s' : S)
       → 1 ≤ points → AreCurvesOf points calls → AreFew most calls
-      → IsPoint place value (function h s) → cells s ≡ 1
+      → IsPoint power value (function h s) → cells s ≡ 1
       → AreMade calls h s h' s' → cells s' ≤ 1 + most * (2 * points + 3)

@@ -15,6 +15,6 @@ pub record IsLimitedCurve (c : Curve) : Type 0 where
   pub last_place : IsPlace (end_of c.at c.blocks.items)
   pub values : (x v : ℤ) → curve_value c x ≡ Some v → IsAmount v
 
--- what a reserve price takes off at a place: the most reserve there is min (cap, up + x)
+-- what a reserve price takes off at a power: the most reserve there is min (cap, up + x)
 abbrev pub reserve_term : ℤ → ℤ → ℤ → ℤ → ℤ
 reserve_term mu cap up x = neg_ℤ (mu *ℤ int_min cap (up +ℤ x))

@@ -38,9 +38,9 @@ module _ {H S : Type 0} (cell_list : H → List Cell) (is_in : H → S → Type 
       (own own' : List ℕ) (h h' h'' : H) → Frame cell_list is_in numbers [] [] h h' →
       Frame cell_list is_in numbers own own' h' h'' → Frame cell_list is_in numbers own own' h h''
 
--- one place alone is convex
+-- one power alone is convex
 abbrev pub PointIsConvex : Type 0
-PointIsConvex = (place value : ℤ) (f : Table) → IsPoint place value f → IsConvex f
+PointIsConvex = (power value : ℤ) (f : Table) → IsPoint power value f → IsConvex f
 
 abbrev pub CopyIsConvex : Type 0
 CopyIsConvex = (f g : Table) → IsSame f g → IsConvex f → IsConvex g
@@ -69,7 +69,7 @@ StepKeepsConvexity =
     (s : Step) (c : Curve) (f g : Table) → IsFairStep s → IsCostOf s c → IsStepped s c f g →
     IsConvex f → IsConvex g
 
--- at three places side by side the middle value is no greater than half the sum of the others
+-- at three powers side by side the middle value is no greater than half the sum of the others
 abbrev pub IsConvexByPlaces : Table → Type 0
 IsConvexByPlaces f =
     (x a b c : ℤ) → value_of f x ≡ Some a → value_of f (x +ℤ pos 1) ≡ Some b →
@@ -79,10 +79,10 @@ IsConvexByPlaces f =
 abbrev pub ConvexityIsOfPlaces : Type 0
 ConvexityIsOfPlaces = (f : Table) → IsConvex f ↔ IsConvexByPlaces f
 
--- each effect fixes the new function at every place
+-- each effect fixes the new function at every power
 abbrev pub PointIsExact : Type 0
 PointIsExact =
-    (place value : ℤ) (g g' : Table) → IsPoint place value g → IsPoint place value g' → IsSame g g'
+    (power value : ℤ) (g g' : Table) → IsPoint power value g → IsPoint power value g' → IsSame g g'
 
 abbrev pub SumIsExact : Type 0
 SumIsExact = (term : ℤ → ℤ) (f g g' : Table) → IsSum term f g → IsSum term f g' → IsSame g g'
@@ -97,10 +97,10 @@ WindowIsExact =
     (up down lo hi : ℤ) (f g g' : Table) → IsWindow up down lo hi f g →
     IsWindow up down lo hi f g' → IsSame g g'
 
--- and keeps places and values within the limits
+-- and keeps powers and values within the limits
 abbrev pub PointIsWithinLimits : Type 0
 PointIsWithinLimits =
-    (place value : ℤ) (g : Table) → IsPlace place → IsAmount value → IsPoint place value g →
+    (power value : ℤ) (g : Table) → IsPlace power → IsAmount value → IsPoint power value g →
     IsWithinLimits g
 
 abbrev pub CopyIsWithinLimits : Type 0
@@ -138,12 +138,12 @@ WindowIsOfValues =
     (up down lo hi : ℤ) (f f' g g' : Table) → IsSame f f' → IsSame g g' →
     IsWindow up down lo hi f g → IsWindow up down lo hi f' g'
 
--- a curve within the limits has values at places within them alone
+-- a curve within the limits has values at powers within them alone
 abbrev pub CurvePlacesAreLimited : Type 0
 CurvePlacesAreLimited =
     (c : Curve) → IsLimitedCurve c → (x v : ℤ) → curve_value c x ≡ Some v → IsPlace x
 
--- and it has one at each place from its first to its last
+-- and it has one at each power from its first to its last
 abbrev pub CurvesHaveValues : Type 0
 CurvesHaveValues =
     (c : Curve) → IsLimitedCurve c → (x : ℤ) → c.at ≤ℤ x → x ≤ℤ end_of c.at c.blocks.items → (v : ℤ)

@@ -1,4 +1,4 @@
--- The look-up, by the offset from the first place. (Not among the proofs: shapes that keep tables
+-- The look-up, by the offset from the first power. (Not among the proofs: shapes that keep tables
 -- are built on it.)
 use Rattle.std.proofs.Common.{◌≡◌, ℕ, zero, suc, ◌<◌, ◌≤◌, List, [], ◌∷◌, length, get_or, Option}
 use Rattle.std.proofs.Common.{Some, None, refl, sym, ap, ◌∙◌, inl, inr, arith}
@@ -6,15 +6,15 @@ use Rattle.std.specs.Prelude.{ℤ, pos, negsuc, ◌+ℤ◌, ◌-ℤ◌, ◌<ℤ�
 use Rattle.std.proofs.lemmas.Int.{ints}
 use Rattle.shape_law.specs.Table.{Table, value_of, offset_value}
 
--- ---- places
+-- ---- powers
 
 split_by : (lo x d : ℤ) → x -ℤ lo ≡ d → ((k : ℕ) × (x ≡ lo +ℤ pos k)) ⊎ (x <ℤ lo)
 split_by lo x (pos k) e = inl (k, omega (arith, ints))
 split_by lo x (negsuc k) e = inr (omega (arith, ints))
 
--- a place is at an offset from `lo`, or below it
-pub place_split : (lo x : ℤ) → ((k : ℕ) × (x ≡ lo +ℤ pos k)) ⊎ (x <ℤ lo)
-place_split lo x = split_by lo x (x -ℤ lo) refl
+-- a power is at an offset from `lo`, or below it
+pub power_split : (lo x : ℤ) → ((k : ℕ) × (x ≡ lo +ℤ pos k)) ⊎ (x <ℤ lo)
+power_split lo x = split_by lo x (x -ℤ lo) refl
 
 offset_is : (lo : ℤ) (k : ℕ) → (lo +ℤ pos k) -ℤ lo ≡ pos k
 offset_is lo k = omega (arith, ints)
@@ -51,7 +51,7 @@ slice_get_past (x ∷ xs) (suc k) h = slice_get_past xs k (omega arith)
 -- the table has this value at an offset
 pub record IsAt (f : Table) (x v : ℤ) : Type 0 where
   pub offset : ℕ
-  pub place : x ≡ f.lo +ℤ pos offset
+  pub power : x ≡ f.lo +ℤ pos offset
   pub inside : offset < length f.values
   pub there : get_or f.values offset (pos 0) ≡ v
 
@@ -61,11 +61,11 @@ at_by f x v h (inl p) =
     let e : slice_get f.values p.0 ≡ Some v =
     sym (value_of-at f p.0) ∙ ap (value_of f) (sym p.1) ∙ h in
     let r = slice_get_some f.values p.0 v e in
-    record { offset = p.0; place = p.1; inside = r.0; there = r.1 }
+    record { offset = p.0; power = p.1; inside = r.0; there = r.1 }
 at_by f x v h (inr b) = let n : value_of f x ≡ None = value_of-below f x b in cc
 
 pub IsAt-from_value : (f : Table) (x v : ℤ) → value_of f x ≡ Some v → IsAt f x v
-IsAt-from_value f x v h = at_by f x v h (place_split f.lo x)
+IsAt-from_value f x v h = at_by f x v h (power_split f.lo x)
 
 pub value-from_index : (f : Table) (k : ℕ) → k < length f.values →
     value_of f (f.lo +ℤ pos k) ≡ Some (get_or f.values k (pos 0))
@@ -73,7 +73,7 @@ value-from_index f k h = value_of-at f k ∙ slice_get_in f.values k h
 
 pub value-from_is_at : (f : Table) (x v : ℤ) → IsAt f x v → value_of f x ≡ Some v
 value-from_is_at f x v a =
-    ap (value_of f) a.place ∙ value-from_index f a.offset a.inside ∙ ap Some a.there
+    ap (value_of f) a.power ∙ value-from_index f a.offset a.inside ∙ ap Some a.there
 
 pub same_some : {a b : ℤ} → (o : Option ℤ) → o ≡ Some a → o ≡ Some b → a ≡ b
 same_some o p q = cc

@@ -38,7 +38,7 @@ pub record IsStepped (s : Step) (c : Curve) (f h : Table) : Type 0 where
   pub is_line : IsSum (λ x. s.slope *ℤ x) window line
   pub is_curve : IsCurveSum (curve_value c) (pos 0) line h
 
--- places are outputs of a unit, and values far within the limits of a shape
+-- powers are outputs of a unit, and values far within the limits of a shape
 abbrev pub IsSmall : Table → Type 0
 IsSmall f =
     (x v : ℤ) → value_of f x ≡ Some v → IsOutput x

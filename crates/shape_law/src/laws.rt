@@ -47,13 +47,13 @@ pub fn steps_keep_convexity()
     ensures { StepKeepsConvexity }
 {}
 
-/// Convexity is said of the look-up alone: at three places side by side the middle value is no
+/// Convexity is said of the look-up alone: at three powers side by side the middle value is no
 /// greater than half the sum of the others.
 pub fn convexity_is_of_places()
     ensures { ConvexityIsOfPlaces }
 {}
 
-/// Each call's effect fixes the new function at every place.
+/// Each call's effect fixes the new function at every power.
 pub fn effects_are_exact()
     ensures point { PointIsExact }
     ensures sum { SumIsExact }
@@ -68,17 +68,17 @@ pub fn effects_are_of_values()
     ensures window { WindowIsOfValues }
 {}
 
-/// A curve within the limits has values at places within them alone.
+/// A curve within the limits has values at powers within them alone.
 pub fn curve_places_are_limited()
     ensures { CurvePlacesAreLimited }
 {}
 
-/// And it has a value at each place from its first to its last.
+/// And it has a value at each power from its first to its last.
 pub fn curves_have_values()
     ensures { CurvesHaveValues }
 {}
 
-/// Each call's effect keeps places and values within the limits, under the call's conditions.
+/// Each call's effect keeps powers and values within the limits, under the call's conditions.
 pub fn effects_keep_limits()
     ensures point { PointIsWithinLimits }
     ensures copy { CopyIsWithinLimits }

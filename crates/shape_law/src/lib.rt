@@ -45,7 +45,7 @@ impl Cells for Heap {
 
 /// A convex function on a whole interval, which may be empty.
 ///
-/// Places are kilowatts within 4 * 10^9, and values are millionths of the currency within 10^18.
+/// Powers are kilowatts within 4 * 10^9, and values are millionths of the currency within 10^18.
 /// Each call on a shape is made with the home that the shape is in. A refused call leaves the
 /// shape and the home unchanged. In a home that counts, a call with a charge answers Ok where the
 /// home's `sure` is at least the charge.
@@ -64,9 +64,9 @@ pub trait Shape: Sized {
     /// How many cells it has.
     ghost cells: { Self → ℕ };
 
-    /// A shape of one place. Its charge is 1.
+    /// A shape of one power. Its charge is 1.
     fn point(home: &mut Self::Home, at: i64, value: i64) -> Result<Self, AllocError>
-        requires place { IsPlace at }
+        requires power { IsPlace at }
         requires amount { IsAmount value }
         ensures ok { IfOk result (λ s. IsPoint at value (function home.new s)) }
         ensures here { IfOk result (λ s. is_in home.new s) }
@@ -92,7 +92,7 @@ pub trait Shape: Sized {
             × (Self.Home.sure home.new + cells s ≡ Self.Home.sure home.old)) }
         ensures err { OnErr result (home.new ≡ home.old) };
 
-    /// Adds the curve's value at `x + shift` to the value at each place x. Its charge is the
+    /// Adds the curve's value at `x + shift` to the value at each power x. Its charge is the
     /// number of the curve's blocks.
     fn add_curve(
         &mut self,
@@ -115,7 +115,7 @@ pub trait Shape: Sized {
         ensures err { OnErr result (IsUnchanged function numbers cells home.old self.old home.new
             self.new) };
 
-    /// Adds `slope * x` to the value at each place x. It takes no cell.
+    /// Adds `slope * x` to the value at each power x. It takes no cell.
     fn add_line(&mut self, home: &mut Self::Home, slope: i64)
         requires here { is_in home.old self.old }
         requires fits { CanAdd (λ x. slope *ℤ x) (function home.old self.old) }
@@ -127,7 +127,7 @@ pub trait Shape: Sized {
         ensures balance { Balance Self.Home.counts 0 (Self.Home.sure home.old) (cells self.old)
             (Self.Home.sure home.new) (cells self.new) };
 
-    /// Subtracts `mu * min(cap, up + x)` from the value at each place x. Its charge is 1.
+    /// Subtracts `mu * min(cap, up + x)` from the value at each power x. Its charge is 1.
     fn add_reserve(
         &mut self,
         home: &mut Self::Home,
@@ -151,8 +151,8 @@ pub trait Shape: Sized {
         ensures err { OnErr result (IsUnchanged function numbers cells home.old self.old home.new
             self.new) };
 
-    /// The new value at x is the least old value at the places from `x - up` to `x + down`. The
-    /// new interval is the places from `lo` to `hi` where there is one. Its charge is 4.
+    /// The new value at x is the least old value at the powers from `x - up` to `x + down`. The
+    /// new interval is the powers from `lo` to `hi` where there is one. Its charge is 4.
     fn window(
         &mut self,
         home: &mut Self::Home,
@@ -179,20 +179,20 @@ pub trait Shape: Sized {
         ensures err { OnErr result (IsUnchanged function numbers cells home.old self.old home.new
             self.new) };
 
-    /// The least value and its least place, or None on an empty interval.
+    /// The least value and its least power, or None on an empty interval.
     fn least(&self, home: &Self::Home) -> Option<(i64, i64)>
         requires { is_in home.now self.now }
         ensures { MatchOption result (IsEmpty (function home.now self.now))
             (λ r. IsLeast (function home.now self.now) r.0 r.1) };
 
-    /// The least value at the places from `lo` to `hi` and its least place, or None where none of
+    /// The least value at the powers from `lo` to `hi` and its least power, or None where none of
     /// them is in the interval.
     fn least_in(&self, home: &Self::Home, lo: i64, hi: i64) -> Option<(i64, i64)>
         requires { is_in home.now self.now }
         ensures { MatchOption result (HasNone lo hi (function home.now self.now))
             (λ r. IsLeastIn lo hi (function home.now self.now) r.0 r.1) };
 
-    /// The value at a place, or None outside the interval.
+    /// The value at a power, or None outside the interval.
     fn value_at(&self, home: &Self::Home, x: i64) -> Option<i64>
         requires { is_in home.now self.now }
         ensures { result ≡ value_of (function home.now self.now) x };
@@ -215,7 +215,7 @@ pub trait Shape: Sized {
     /// Its function is convex.
     ghost convex: { (h : Self.Home) (s : Self) → is_in h s → IsConvex (function h s) };
 
-    /// Its places and values are within the limits.
+    /// Its powers and values are within the limits.
     ghost within: { (h : Self.Home) (s : Self) → is_in h s → IsWithinLimits (function h s) };
 
     /// Its cells are in use, and differ.

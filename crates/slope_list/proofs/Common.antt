@@ -10,6 +10,6 @@ pub use Rattle.shape_law.specs.Steps.{IsStepped, IsSmall}
 pub use Rattle.shape_law.specs.Table.{Table, value_of, offset_value, IsEmpty}
 pub use Rattle.slope_step.specs.Below.{IsNowhereAbove, IsAbove}
 pub use Rattle.slope_step.specs.Drawn.{table_after}
-pub use Rattle.slope_step.specs.Pieces.{table_of, last_place}
+pub use Rattle.slope_step.specs.Pieces.{table_of, last_power}
 pub use Rattle.slope_step.specs.Turn.{IsTurn, IsFirst, IsLast}
 pub use Rattle.slope_step.specs.declared.step.Made.{Made}

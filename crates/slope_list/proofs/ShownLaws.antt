@@ -6,7 +6,7 @@ use Rattle.shape_law.specs.declared.step.Step.{Step}
 use Rattle.shape_law.specs.Curve.{curve_value, reserve_term}
 use Rattle.slope_list.specs.declared.slopes.Lowest.{Lowest}
 
--- ---- no place
+-- ---- an empty interval
 
 none_in : (d : ℤ) → offset_value [] d ≡ None
 none_in (pos k) = refl

@@ -43,7 +43,7 @@ fn lengthen(pieces: &mut Vec<Piece>, count: usize)
     }
 }
 
-/// The least value of what a step made, its least place, and the turn of the step.
+/// The least value of what a step made, its least power, and the turn of the step.
 #[derive(Clone, Copy)]
 pub struct Lowest {
     pub value: i64,
@@ -85,7 +85,7 @@ impl Slopes {
     ghost use Rattle.slope_step.specs.Turn.{IsTurn, IsFirst, IsLast};
     ghost use Rattle.slope_list.specs.Slopes.{shown, room_of, count_of, turn_of};
 
-    /// A function with no place, and room for so many pieces.
+    /// A function on an empty interval, and room for so many pieces.
     pub fn make(alloc: Global, room: usize) -> Result<Slopes, AllocError>
         ensures empty { IfOk result (λ s. IsEmpty (shown s)) }
         ensures count { IfOk result (λ s. count_of s ≡ 0) }
@@ -102,9 +102,9 @@ impl Slopes {
         })
     }
 
-    /// Begins anew at one place.
+    /// Begins anew at one power.
     pub fn restart(&mut self, at: i64, value: i64)
-        requires place { IsPlace at }
+        requires power { IsPlace at }
         requires amount { IsAmount value }
         ensures point { IsPoint at value (shown self.new) }
         ensures count { count_of self.new ≡ 0 }
@@ -166,7 +166,7 @@ impl Slopes {
         lowest_of(&self.spare, stepped)
     }
 
-    /// The least value and its least place, or None on an empty interval.
+    /// The least value and its least power, or None on an empty interval.
     pub fn least(&self) -> Option<Spot>
         ensures { MatchOption result (IsEmpty (shown self.now))
             (λ r. IsLeast (shown self.now) r.value r.at) }
@@ -177,7 +177,7 @@ impl Slopes {
         }
     }
 
-    /// Whether it has a place, and with the shift is above a limit at each.
+    /// Whether it has a power, and with the shift is above a limit at each.
     pub fn is_above(&self, shift: i64, limit: i64) -> bool
         requires { IsShift shift }
         ensures { OnTrue result (IsAbove (shown self.now) shift limit) }
@@ -188,7 +188,7 @@ impl Slopes {
         }
     }
 
-    /// The least value at the places from `lo` to `hi` and its least place, or None where none of
+    /// The least value at the powers from `lo` to `hi` and its least power, or None where none of
     /// them is in the interval.
     pub fn least_in(&self, lo: i64, hi: i64) -> Option<Spot>
         ensures { MatchOption result (HasNone lo hi (shown self.now))
@@ -200,7 +200,7 @@ impl Slopes {
         }
     }
 
-    /// The first place and the value there, or None on an empty interval.
+    /// The first power and the value there, or None on an empty interval.
     pub fn first(&self) -> Option<Spot>
         ensures { MatchOption result (IsEmpty (shown self.now))
             (λ r. IsFirst (shown self.now) r.at r.value) }
@@ -215,13 +215,13 @@ impl Slopes {
         }
     }
 
-    /// The last place, or None on an empty interval.
+    /// The last power, or None on an empty interval.
     pub fn last(&self) -> Option<i64>
         ensures { MatchOption result (IsEmpty (shown self.now)) (IsLast (shown self.now)) }
     {
         pieces_begin_and_end();
         match self.made {
-            Some(made) => Some(read::last_place(&self.pieces[..made.used], made.start.first)),
+            Some(made) => Some(read::last_power(&self.pieces[..made.used], made.start.first)),
             None => None,
         }
     }
@@ -258,7 +258,7 @@ impl Slopes {
         }
     }
 
-    /// The least place of the least value before the last step, less the worth of its reserve.
+    /// The least power of the least value before the last step, less the worth of its reserve.
     pub fn turn(&self) -> i64
         ensures { result ≡ turn_of self.now }
     {

@@ -1,5 +1,5 @@
 -- One function below another one, piece by piece.
-use Rattle.slope_step.proofs.Common.{◌≡◌, ℕ, suc, ◌+◌, ◌-◌, ◌<◌, ◌≤◌, ◌⊎◌, List, length, sym, ap, ◌∙◌, subst, inl, inr, arith, ℤ, pos, ◌+ℤ◌, ◌-ℤ◌, ◌*ℤ◌, ◌≤ℤ◌, ◌<ℤ◌, int_min, ints, clamps, by_lt_z, IsAmount, *ℤ-zero, mul-mono_of, Piece, Start, CanGo, piece, end_at, last_place, function_of, table_of, AreSlopes, IsLine, AreWithin, IsPlaced, IsReached, IsUnder, IsUnderTo, IsNowhereAbove}
+use Rattle.slope_step.proofs.Common.{◌≡◌, ℕ, suc, ◌+◌, ◌-◌, ◌<◌, ◌≤◌, ◌⊎◌, List, length, sym, ap, ◌∙◌, subst, inl, inr, arith, ℤ, pos, ◌+ℤ◌, ◌-ℤ◌, ◌*ℤ◌, ◌≤ℤ◌, ◌<ℤ◌, int_min, ints, clamps, by_lt_z, IsAmount, *ℤ-zero, mul-mono_of, Piece, Start, CanGo, piece, end_at, last_power, function_of, table_of, AreSlopes, IsLine, AreWithin, IsPlaced, IsReached, IsUnder, IsUnderTo, IsNowhereAbove}
 use Rattle.slope_step.specs.declared.kink.Reached.{Reached}
 use Rattle.slope_step.proofs.LineLaws.{add-mul, line_part}
 use Rattle.slope_step.proofs.PieceLaws.{ends_rise_to, along_line}
@@ -46,7 +46,7 @@ under_on start ps other qs shift at end s q l m from under there x low high =
     (λ (before : x <ℤ at). under x low (omega (arith, ints)))
     (λ (past : at ≤ℤ x). between (function_of start ps) (function_of other qs) at end s q shift l m (under at from (omega (arith, ints))) there x past high)
 
--- ---- to another place of one piece
+-- ---- to another power of one piece
 
 module _ (start : Start) (ps : List Piece) (slopes : AreSlopes start.first ps) (within : AreWithin start ps) (at : ℤ) (r : Reached) (reached : IsReached start ps at r) (inside : r.next < length ps)
     (end : ℤ) (rise : at <ℤ end) (to : end ≤ℤ (piece ps r.next).end) where
@@ -65,8 +65,8 @@ module _ (start : Start) (ps : List Piece) (slopes : AreSlopes start.first ps) (
       let b = within end (omega (arith, ints)) (omega (arith, ints)) in
       let e = part_value in
       record {
-        from_place = a.0;
-        to_place = b.0;
+        from_power = a.0;
+        to_power = b.0;
         product = record { at_least = omega (arith, ints); at_most = omega (arith, ints) };
         sum = record { at_least = omega (arith, ints); at_most = omega (arith, ints) };
       }
@@ -96,11 +96,11 @@ module _ (start : Start) (ps : List Piece) (slopes : AreSlopes start.first ps) (
             let up = slopes.rise next h in
             omega (arith, ints);
         last = λ h.
-            let last : end_at start.first ps next ≡ last_place start.first ps = ap (end_at start.first ps) h in
+            let last : end_at start.first ps next ≡ last_power start.first ps = ap (end_at start.first ps) h in
             omega (arith, ints);
       })
 
--- ---- two functions at one place
+-- ---- two functions at one power
 
 pub reached_amount : (start : Start) (ps : List Piece) → AreSlopes start.first ps → AreWithin start ps → (at : ℤ) (r : Reached) → IsReached start ps at r → IsAmount r.value
 reached_amount start ps slopes within at r reached =
@@ -108,7 +108,7 @@ reached_amount start ps slopes within at r reached =
     subst IsAmount (sym reached.value) (within at w.0 w.1).1
 
 -- where a piece of the other function goes on, so does one of this one
-module _ (start : Start) (ps : List Piece) (other : Start) (qs : List Piece) (slopes : AreSlopes other.first qs) (last : last_place other.first qs ≤ℤ last_place start.first ps)
+module _ (start : Start) (ps : List Piece) (other : Start) (qs : List Piece) (slopes : AreSlopes other.first qs) (last : last_power other.first qs ≤ℤ last_power start.first ps)
     (at : ℤ) (r : Reached) (reached : IsReached start ps at r) (t : Reached) (there : IsReached other qs at t) (inside : t.next < length qs) where
   pub goes_on : r.next < length ps
   goes_on =
@@ -136,6 +136,6 @@ fewer n m h h' t t' a b c d e f (inr k) = omega arith
 -- as the tables show it
 pub shown_under : (start : Start) (ps : List Piece) (other : Start) (qs : List Piece) (shift : ℤ) → IsUnder start ps other qs shift → IsNowhereAbove (table_of start ps) (table_of other qs) shift
 shown_under start ps other qs shift under x v h =
-    let o = on_back (function_of other qs) other.first (last_place other.first qs) x v h in
+    let o = on_back (function_of other qs) other.first (last_power other.first qs) x v h in
     let u = under x o.from o.to in
-    (function_of start ps x, on_inside (function_of start ps) start.first (last_place start.first ps) x u.0 u.1, omega (arith, ints))
+    (function_of start ps x, on_inside (function_of start ps) start.first (last_power start.first ps) x u.0 u.1, omega (arith, ints))

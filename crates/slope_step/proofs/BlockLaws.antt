@@ -110,14 +110,14 @@ width_to-rises bs w (suc d) i j e h =
 pub width_to-rises_to : (bs : List Block) → AreWide bs → (i j : ℕ) → i ≤ j → j ≤ length bs → width_to bs i ≤ℤ width_to bs j
 width_to-rises_to bs w i j l h = width_to-rises bs w (j - i) i j (omega arith) h
 
--- a value at a place of the curve
+-- a value at a power of the curve
 pub curve_value_is : (c : Curve) (x v : ℤ) → c.at ≤ℤ x → rise_at c.blocks.items (x -ℤ c.at) ≡ Some v → curve_value c x ≡ Some (v +ℤ c.value)
 curve_value_is c x v low h =
     let e : curve_value c x ≡ option_map (λ (u : ℤ). u +ℤ c.value) (rise_at c.blocks.items (x -ℤ c.at)) = rw (not_lt_is x c.at low) in
     e ∙ mapped_some c.value (rise_at c.blocks.items (x -ℤ c.at)) v h
 
 module _ (c : Curve) (w : AreWide c.blocks.items) (j : ℕ) (inside : j < length c.blocks.items) where
-  -- at a place of the block
+  -- at a power of the block
   pub value_in_block : (x : ℤ) → (c.at +ℤ width_to c.blocks.items j) ≤ℤ x → x ≤ℤ (c.at +ℤ width_to c.blocks.items (suc j))
       → curve_value c x ≡ Some ((rise_to c.blocks.items j +ℤ ((block c.blocks.items j).price *ℤ (x -ℤ (c.at +ℤ width_to c.blocks.items j)))) +ℤ c.value)
   value_in_block x low high =
@@ -147,7 +147,7 @@ cost_in c limited a b span rise i within =
     let ends = i.ends in
     subst (λ (z : ℤ). IsLine (cost_at c) a b z) (sym i.price) (cost_line c (wide_of c limited) span.index i.inside a b rise i.begun (omega (arith, ints)))
 
--- the price of a block at a place of which the curve has costs
+-- the price of a block at a power of which the curve has costs
 pub price_within : (c : Curve) → IsLimitedCurve c → (a b : ℤ) (span : Span) → a <ℤ b → IsInBlock c a span → b ≤ℤ span.end → HasCosts c a b → IsPrice span.price
 price_within c limited a b span rise i within costs =
     let line = cost_in c limited a b span rise i within in
@@ -158,7 +158,7 @@ price_within c limited a b span rise i within costs =
     let ev = cost_at_is c (a +ℤ pos 1) v.0 v.1 in
     record { at_least = omega (arith, ints); at_most = omega (arith, ints) }
 
--- a place of the curve
+-- a power of the curve
 up_to_width : (bs : List Block) (x v : ℤ) → AreWide bs → rise_at bs x ≡ Some v → x ≤ℤ width_to bs (length bs)
 up_to_width [] x v w h = by_lt_z (pos 0) x (λ (l : pos 0 <ℤ x). let n : rise_at [] x ≡ None = rw (lt_is (pos 0) x l) in cc) (λ (l : x ≤ℤ pos 0). l)
 up_to_width (b ∷ bs) x v w h =
@@ -197,16 +197,16 @@ block_next c at span end price i passed more is price_is =
     let next = width_to-next c.blocks.items (suc span.index) more in
     record { inside = more; begun = omega (arith, ints); ends = omega (arith, ints); price = price_is }
 
--- where a block ends is a place
-pub block_place : (c : Curve) → IsLimitedCurve c → (j : ℕ) → j ≤ length c.blocks.items → IsPlace (c.at +ℤ width_to c.blocks.items j)
-block_place c limited j h =
+-- where a block ends is a power
+pub block_power : (c : Curve) → IsLimitedCurve c → (j : ℕ) → j ≤ length c.blocks.items → IsPlace (c.at +ℤ width_to c.blocks.items j)
+block_power c limited j h =
     let w = wide_of c limited in
     let low = width_to-positive c.blocks.items w j h in
     let high = width_to-rises_to c.blocks.items w j (length c.blocks.items) h (omega arith) in
     let e = end_of-width c.at c.blocks.items in
     (omega (arith, ints), omega (arith, ints))
 
--- a later place is past the block's start too
+-- a later power is past the block's start too
 pub in_block_at : (c : Curve) (at : ℤ) (span : Span) → IsInBlock c at span → (at' : ℤ) → at ≤ℤ at' → IsInBlock c at' span
 in_block_at c at span i at' later =
     let begun = i.begun in

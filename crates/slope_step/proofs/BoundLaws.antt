@@ -20,7 +20,7 @@ module _ (s : Step) (fair : IsFairStep s) (x : ℤ) (out : IsOutput x) where
       let slope : IsWithin 20000000 s.slope = (let a = fair.slope.at_least in let b = fair.slope.at_most in record { at_least = omega (arith, ints, a); at_most = b }) in
       product_within 20000000 10000000 s.slope x slope out
 
--- the value of a step at a place
+-- the value of a step at a power
 pub level_within : (s : Step) → IsFairStep s → (value near x cost : ℤ) → IsFrom (neg_ℤ (pos 500000000000000000)) (pos 500000000000000000) value → IsOutput near → IsOutput x → IsCost cost
     → IsWithin 1000000000000000000 (((value +ℤ neg_ℤ (s.reserve_price *ℤ int_min s.cap (s.ramp_up +ℤ near))) +ℤ s.slope *ℤ x) +ℤ cost)
 level_within s fair value near x cost v n o c =

@@ -17,14 +17,14 @@ pub use Rattle.slope_step.specs.Below.{IsReached, IsUnder, IsUnderTo, IsNowhereA
 pub use Rattle.slope_step.specs.Blocks.{block, width_to, IsInBlock, IsPrice, HasCosts}
 pub use Rattle.slope_step.specs.Drawn.{cost_at, IsDrawn, with_cost, paid, stepped}
 pub use Rattle.slope_step.specs.Kink.{AreWithin, IsPlaced, kinked, bend_of, IsLowered, AreSmall, IsGentle, IsSteep, IsValley, parts_from, AreGentle}
-pub use Rattle.slope_step.specs.Pieces.{piece, end_at, last_place, function_of, table_of, AreSlopes, IsLine, values_from, places_to, table_on, Curves, value_along, Stand}
+pub use Rattle.slope_step.specs.Pieces.{piece, end_at, last_power, function_of, table_of, AreSlopes, IsLine, values_from, powers_to, table_on, Curves, value_along, Stand}
 pub use Rattle.slope_step.specs.Totals.{CanGo}
 pub use Rattle.slope_step.specs.Turn.{IsTurn, IsBottom}
 pub use Rattle.slope_step.specs.Window.{nearest, moved, one_before, runs_from, IsFlat}
 pub use Rattle.slope_step.specs.Way.{IsNear, IsRun, IsFurther}
 pub use Rattle.slope_step.specs.declared.blocks.Span.{Span}
 pub use Rattle.slope_step.specs.declared.draw.Pen.{Pen}
-pub use Rattle.slope_step.specs.declared.kink.Place.{Place}
+pub use Rattle.slope_step.specs.declared.kink.Cursor.{Cursor}
 pub use Rattle.slope_step.specs.declared.piece.Piece.{Piece}
 pub use Rattle.slope_step.specs.declared.piece.Start.{Start}
 pub use Rattle.slope_step.specs.declared.way.Way.{Way}

@@ -42,7 +42,7 @@ drawn_more h lo out pen pen' q room d line used at =
           ap (end_at lo new) {x = pen'.used} {y = suc i} (omega arith) ∙ ap (λ (p : Piece). p.end) e ∙ sym at;
     }
 
--- the same pieces, where the pen is at the same place
+-- the same pieces, where the pen is at the same power
 pub drawn_same : (h : ℤ → ℤ) (lo : ℤ) (out : List Piece) (pen pen' : Pen) → IsDrawn h lo out pen → pen'.used ≡ pen.used → pen'.at ≡ pen.at → IsDrawn h lo out pen'
 drawn_same h lo out pen pen' d used at = record {
   pieces = λ k below. d.pieces k (omega arith);

@@ -1,6 +1,6 @@
 -- A walk over the blocks of a curve.
 use Rattle.slope_step.proofs.Common.{◌≡◌, ℕ, suc, ◌<◌, length, Some, sym, ap, ◌∙◌, arith, ℤ, ◌+ℤ◌, ◌-ℤ◌, ◌*ℤ◌, ◌≤ℤ◌, ◌<ℤ◌, FitsSigned, w64, ints, Curve, curve_value, end_of, IsLimitedCurve, width_to, CanGo, rise_at, block}
-use Rattle.slope_step.proofs.BlockLaws.{rise_to, wide_of, width_to-next, rise_to-next, value_in_block, block_place, end_of-width, rise_at_end, curve_value_is, width_to-positive}
+use Rattle.slope_step.proofs.BlockLaws.{rise_to, wide_of, width_to-next, rise_to-next, value_in_block, block_power, end_of-width, rise_at_end, curve_value_is, width_to-positive}
 use Rattle.slope_step.proofs.WrapLaws.{coded, IsNear, near_fits, coded_is}
 use Rattle.slope_step.proofs.LineLaws.{times_none}
 
@@ -11,15 +11,15 @@ module _ (c : Curve) (limited : IsLimitedCurve c) (k : ℕ) (inside : k < length
 
   width_near : IsNear (block c.blocks.items k).width
   width_near =
-      let p = block_place c limited k (omega arith) in
-      let q = block_place c limited (suc k) inside in
+      let p = block_power c limited k (omega arith) in
+      let q = block_power c limited (suc k) inside in
       let n = width_to-next c.blocks.items k inside in
       let pa = p.0 in let pb = p.1 in let qa = q.0 in let qb = q.1 in
       record { at_least = omega (arith, ints); at_most = omega (arith, ints) }
 
   stop_near : IsNear (from +ℤ (block c.blocks.items k).width)
   stop_near =
-      let q = block_place c limited (suc k) inside in
+      let q = block_power c limited (suc k) inside in
       let s = stop_is in
       let qa = q.0 in let qb = q.1 in
       record { at_least = omega (arith, ints); at_most = omega (arith, ints) }
@@ -54,8 +54,8 @@ module _ (c : Curve) (limited : IsLimitedCurve c) (k : ℕ) (inside : k < length
     may_go =
         let w = width_to-next c.blocks.items k inside in
         let wide = wide_of c limited k inside in
-        let p = block_place c limited k (omega arith) in
-        let q = block_place c limited (suc k) inside in
+        let p = block_power c limited k (omega arith) in
+        let q = block_power c limited (suc k) inside in
         let pa = p.0 in let pb = p.1 in let qa = q.0 in let qb = q.1 in
         let here = limited.values x (value +ℤ (block c.blocks.items k).price *ℤ (x -ℤ from)) value_to in
         let v = value_in_block c (wide_of c limited) k inside from (omega (arith, ints)) (omega (arith, ints)) in
@@ -63,13 +63,13 @@ module _ (c : Curve) (limited : IsLimitedCurve c) (k : ℕ) (inside : k < length
         let none = times_none (block c.blocks.items k).price (from -ℤ (c.at +ℤ width_to c.blocks.items k)) (omega (arith, ints)) in
         let ha = here.0 in let hb = here.1 in let fa = first.0 in let fb = first.1 in
         record {
-          from_place = (omega (arith, ints), omega (arith, ints));
-          to_place = (omega (arith, ints), omega (arith, ints));
+          from_power = (omega (arith, ints), omega (arith, ints));
+          to_power = (omega (arith, ints), omega (arith, ints));
           product = record { at_least = omega (arith, ints); at_most = omega (arith, ints) };
           sum = record { at_least = omega (arith, ints); at_most = omega (arith, ints) };
         }
 
--- the last place of a curve
+-- the last power of a curve
 pub value_at_end : (c : Curve) → IsLimitedCurve c → (n : ℕ) → n ≡ length c.blocks.items → (from value x : ℤ) → from ≡ c.at +ℤ width_to c.blocks.items n → value ≡ rise_to c.blocks.items n +ℤ c.value
     → from ≤ℤ x → x ≤ℤ end_of c.at c.blocks.items → curve_value c x ≡ Some value
 value_at_end c limited n is from value x from_is value_is low high =

@@ -1,5 +1,5 @@
--- A function at the places from a to b as a table, and back.
-use Rattle.slope_step.proofs.Common.{◌≡◌, ℕ, zero, suc, ◌<◌, ◌≤◌, Option, Some, None, refl, sym, ap, ◌∙◌, subst, arith, ℤ, pos, negsuc, ◌+ℤ◌, ◌-ℤ◌, ◌≤ℤ◌, ◌<ℤ◌, slice_get, MatchOption, option_map, ints, by_lt_z, value_of, offset_value, IsConvex, IsSum, IsCurveSum, curve_value, ConvexityIsOfPlaces, Curve, HasCosts, cost_at, with_cost, values_from, places_to, table_on, Curves}
+-- A function at the powers from a to b as a table, and back.
+use Rattle.slope_step.proofs.Common.{◌≡◌, ℕ, zero, suc, ◌<◌, ◌≤◌, Option, Some, None, refl, sym, ap, ◌∙◌, subst, arith, ℤ, pos, negsuc, ◌+ℤ◌, ◌-ℤ◌, ◌≤ℤ◌, ◌<ℤ◌, slice_get, MatchOption, option_map, ints, by_lt_z, value_of, offset_value, IsConvex, IsSum, IsCurveSum, curve_value, ConvexityIsOfPlaces, Curve, HasCosts, cost_at, with_cost, values_from, powers_to, table_on, Curves}
 
 get_values : (f : ℤ → ℤ) (x : ℤ) (n k : ℕ) → k < n → slice_get (values_from f x n) k ≡ Some (f (x +ℤ pos k))
 get_values f x zero k h = absurd (omega arith)
@@ -11,7 +11,7 @@ past_values f x zero k h = refl
 past_values f x (suc n) zero h = absurd (omega arith)
 past_values f x (suc n) (suc k) h = past_values f (x +ℤ pos 1) n k (omega arith)
 
-inside_by : (f : ℤ → ℤ) (a b x d e : ℤ) → a ≤ℤ x → x ≤ℤ b → x -ℤ a ≡ d → b -ℤ a ≡ e → offset_value (values_from f a (places_to e)) d ≡ Some (f x)
+inside_by : (f : ℤ → ℤ) (a b x d e : ℤ) → a ≤ℤ x → x ≤ℤ b → x -ℤ a ≡ d → b -ℤ a ≡ e → offset_value (values_from f a (powers_to e)) d ≡ Some (f x)
 inside_by f a b x (pos k) (pos m) low high p q = get_values f a (suc m) k (omega (arith, ints)) ∙ ap (λ (z : ℤ). Some (f z)) (omega (arith, ints))
 inside_by f a b x (pos k) (negsuc m) low high p q = absurd (omega (arith, ints))
 inside_by f a b x (negsuc k) e low high p q = absurd (omega (arith, ints))
@@ -20,7 +20,7 @@ below_by : (f : ℤ → ℤ) (a x d : ℤ) (n : ℕ) → x <ℤ a → x -ℤ a �
 below_by f a x (pos k) n h p = absurd (omega (arith, ints))
 below_by f a x (negsuc k) n h p = refl
 
-above_by : (f : ℤ → ℤ) (a b x d e : ℤ) → b <ℤ x → x -ℤ a ≡ d → b -ℤ a ≡ e → offset_value (values_from f a (places_to e)) d ≡ None
+above_by : (f : ℤ → ℤ) (a b x d e : ℤ) → b <ℤ x → x -ℤ a ≡ d → b -ℤ a ≡ e → offset_value (values_from f a (powers_to e)) d ≡ None
 above_by f a b x (pos k) (pos m) h p q = past_values f a (suc m) k (omega (arith, ints))
 above_by f a b x (pos k) (negsuc m) h p q = refl
 above_by f a b x (negsuc k) e h p q = refl
@@ -29,14 +29,14 @@ pub on_inside : (f : ℤ → ℤ) (a b x : ℤ) → a ≤ℤ x → x ≤ℤ b �
 on_inside f a b x low high = inside_by f a b x (x -ℤ a) (b -ℤ a) low high refl refl
 
 pub on_below : (f : ℤ → ℤ) (a b x : ℤ) → x <ℤ a → value_of (table_on f a b) x ≡ None
-on_below f a b x h = below_by f a x (x -ℤ a) (places_to (b -ℤ a)) h refl
+on_below f a b x h = below_by f a x (x -ℤ a) (powers_to (b -ℤ a)) h refl
 
 pub on_above : (f : ℤ → ℤ) (a b x : ℤ) → b <ℤ x → value_of (table_on f a b) x ≡ None
 on_above f a b x h = above_by f a b x (x -ℤ a) (b -ℤ a) h refl refl
 
--- a place is inside, or every function on these places has no value there
-pub by_place : {P : Type 0} (a b x : ℤ) → (a ≤ℤ x → x ≤ℤ b → P) → (((g : ℤ → ℤ) → value_of (table_on g a b) x ≡ None) → P) → P
-by_place a b x inside outside =
+-- a power is inside, or every function on these powers has no value there
+pub by_power : {P : Type 0} (a b x : ℤ) → (a ≤ℤ x → x ≤ℤ b → P) → (((g : ℤ → ℤ) → value_of (table_on g a b) x ≡ None) → P) → P
+by_power a b x inside outside =
     by_lt_z x a
     (λ (l : x <ℤ a). outside (λ g. on_below g a b x l))
     (λ (l : a ≤ℤ x).
@@ -56,13 +56,13 @@ not_some : {P : Type 0} {v : ℤ} → (o : Option ℤ) → o ≡ None → o ≡ 
 not_some o p q = cc
 
 pub on_back : (f : ℤ → ℤ) (a b x v : ℤ) → value_of (table_on f a b) x ≡ Some v → IsOn f a b x v
-on_back f a b x v h = by_place a b x
+on_back f a b x v h = by_power a b x
     (λ (low : a ≤ℤ x) (high : x ≤ℤ b). record { from = low; to = high; value = same_some (value_of (table_on f a b) x) (on_inside f a b x low high) h })
     (λ none. not_some (value_of (table_on f a b) x) (none f) h)
 
 -- equal functions have equal tables
 pub on_same : (f g : ℤ → ℤ) (a b : ℤ) → ((x : ℤ) → a ≤ℤ x → x ≤ℤ b → g x ≡ f x) → (x : ℤ) → value_of (table_on g a b) x ≡ value_of (table_on f a b) x
-on_same f g a b same x = by_place a b x
+on_same f g a b same x = by_power a b x
     (λ (low : a ≤ℤ x) (high : x ≤ℤ b). on_inside g a b x low high ∙ ap Some (same x low high) ∙ sym (on_inside f a b x low high))
     (λ none. none g ∙ sym (none f))
 
@@ -94,7 +94,7 @@ mapped_none : (t : ℤ) (o : Option ℤ) → o ≡ None → option_map (λ (u : 
 mapped_none t o h = ap (option_map (λ (u : ℤ). u +ℤ t)) h
 
 pub IsSum-on : (term f : ℤ → ℤ) (a b : ℤ) → IsSum term (table_on f a b) (table_on (λ x. f x +ℤ term x) a b)
-IsSum-on term f a b x = by_place a b x
+IsSum-on term f a b x = by_power a b x
     (λ (low : a ≤ℤ x) (high : x ≤ℤ b).
     on_inside (λ z. f z +ℤ term z) a b x low high ∙ sym (mapped_some (term x) (value_of (table_on f a b) x) (f x) (on_inside f a b x low high)))
     (λ none. none (λ z. f z +ℤ term z) ∙ sym (mapped_none (term x) (value_of (table_on f a b) x) (none f)))
@@ -109,7 +109,7 @@ pub cost_at_is : (c : Curve) (x v : ℤ) → curve_value c x ≡ Some v → cost
 cost_at_is c x v h = rw h
 
 pub IsCurveSum-on : (c : Curve) (f : ℤ → ℤ) (a b : ℤ) → HasCosts c a b → IsCurveSum (curve_value c) (pos 0) (table_on f a b) (table_on (with_cost f c) a b)
-IsCurveSum-on c f a b costs x = by_place a b x
+IsCurveSum-on c f a b costs x = by_power a b x
     (λ (low : a ≤ℤ x) (high : x ≤ℤ b).
     let k = costs x low high in
     let e = cost_at_is c x k.0 k.1 in

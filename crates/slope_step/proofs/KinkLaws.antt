@@ -1,5 +1,5 @@
 -- The function less the worth of the reserve, part by part.
-use Rattle.slope_step.proofs.Common.{◌≡◌, ℕ, suc, ◌+◌, ◌<◌, ◌≤◌, List, length, sym, ap, ◌∙◌, subst, inl, inr, arith, neg_ℤ, ℤ, pos, ◌+ℤ◌, ◌-ℤ◌, ◌*ℤ◌, ◌≤ℤ◌, ◌<ℤ◌, int_min, ints, clamps, by_lt_z, cases_lt, zero-*ℤ, *ℤ_comm, mul-add, mul-sub, mul-mono_of, Step, IsFairStep, reserve_term, Piece, Start, Place, piece, end_at, last_place, function_of, AreSlopes, IsLine, Curves, kinked, bend_of, IsLowered, IsPlaced, AreSmall, AreWithin, IsGentle, IsSteep, IsValley, parts_from, CanGo, IsOutput}
+use Rattle.slope_step.proofs.Common.{◌≡◌, ℕ, suc, ◌+◌, ◌<◌, ◌≤◌, List, length, sym, ap, ◌∙◌, subst, inl, inr, arith, neg_ℤ, ℤ, pos, ◌+ℤ◌, ◌-ℤ◌, ◌*ℤ◌, ◌≤ℤ◌, ◌<ℤ◌, int_min, ints, clamps, by_lt_z, cases_lt, zero-*ℤ, *ℤ_comm, mul-add, mul-sub, mul-mono_of, Step, IsFairStep, reserve_term, Piece, Start, Cursor, piece, end_at, last_power, function_of, AreSlopes, IsLine, Curves, kinked, bend_of, IsLowered, IsPlaced, AreSmall, AreWithin, IsGentle, IsSteep, IsValley, parts_from, CanGo, IsOutput}
 use Rattle.slope_step.proofs.LineLaws.{lt_is, not_lt_is, times_split, line_step, line_part}
 use Rattle.slope_step.proofs.PieceLaws.{ends_rise_to, along_line, along_curves}
 
@@ -64,10 +64,10 @@ kinked_falls start ps s fair x falls =
     let l = mul-mono_of s.reserve_price m0 m1 fair.reserve_price.at_least (omega (arith, ints, clamps)) in
     omega (arith, ints)
 
-pub kinked_curves : (start : Start) (ps : List Piece) (s : Step) → IsFairStep s → AreSlopes start.first ps → Curves (kinked start ps s) start.first (last_place start.first ps)
-kinked_curves start ps s fair slopes = term_curves s.reserve_price s.cap s.ramp_up fair.reserve_price.at_least (function_of start ps) start.first (last_place start.first ps) (along_curves start.first start.level ps slopes)
+pub kinked_curves : (start : Start) (ps : List Piece) (s : Step) → IsFairStep s → AreSlopes start.first ps → Curves (kinked start ps s) start.first (last_power start.first ps)
+kinked_curves start ps s fair slopes = term_curves s.reserve_price s.cap s.ramp_up fair.reserve_price.at_least (function_of start ps) start.first (last_power start.first ps) (along_curves start.first start.level ps slopes)
 
--- ---- the part from a place on
+-- ---- the part from a power on
 
 -- what is left of a piece is lower, or as it was
 pub record IsLeft (s : Step) (at : ℤ) (p q : Piece) : Type 0 where
@@ -119,114 +119,114 @@ module _ (s : Step) (fair : IsFairStep s) (at : ℤ) (p q : Piece) (to : at <ℤ
       (λ (free : s.reserve_price ≤ℤ pos 0). let e = (l.free free).1 in record { at_least = omega (arith, ints); at_most = omega (arith, ints) })
 
 -- its line
-pub part_line : (ps : List Piece) (s : Step) (place : Place) (q : Piece) → place.next < length ps → IsLeft s place.at (piece ps place.next) q
-    → (start : Start) → AreSlopes start.first ps → IsPlaced start.first ps place → IsLine (kinked start ps s) place.at q.end q.slope
-part_line ps s place q next l start slopes placed =
-    let k = place.next in
+pub part_line : (ps : List Piece) (s : Step) (cursor : Cursor) (q : Piece) → cursor.next < length ps → IsLeft s cursor.at (piece ps cursor.next) q
+    → (start : Start) → AreSlopes start.first ps → IsPlaced start.first ps cursor → IsLine (kinked start ps s) cursor.at q.end q.slope
+part_line ps s cursor q next l start slopes placed =
+    let k = cursor.next in
     let whole = along_line start.first start.level ps slopes k next in
-    line_sloped (kinked start ps s) place.at q.end _ q.slope (omega (arith, ints)) (l.lines (function_of start ps) place.at q.end (piece ps k).slope (omega (arith, ints)) (omega (arith, ints))
-    (line_part (function_of start ps) (end_at start.first ps k) (end_at start.first ps (suc k)) (piece ps k).slope place.at q.end whole placed.from l.rise l.within))
+    line_sloped (kinked start ps s) cursor.at q.end _ q.slope (omega (arith, ints)) (l.lines (function_of start ps) cursor.at q.end (piece ps k).slope (omega (arith, ints)) (omega (arith, ints))
+    (line_part (function_of start ps) (end_at start.first ps k) (end_at start.first ps (suc k)) (piece ps k).slope cursor.at q.end whole placed.from l.rise l.within))
 
--- the place where a piece ends
-pub placed_after : (first : ℤ) (ps : List Piece) (k : ℕ) (place : Place) → AreSlopes first ps → k < length ps → place.at ≡ (piece ps k).end → place.next ≡ suc k → IsPlaced first ps place
-placed_after first ps k place slopes inside at e =
-    let start : end_at first ps place.next ≡ end_at first ps (suc k) = ap (end_at first ps) {x = place.next} {y = suc k} e in
+-- the power where a piece ends
+pub placed_after : (first : ℤ) (ps : List Piece) (k : ℕ) (cursor : Cursor) → AreSlopes first ps → k < length ps → cursor.at ≡ (piece ps k).end → cursor.next ≡ suc k → IsPlaced first ps cursor
+placed_after first ps k cursor slopes inside at e =
+    let start : end_at first ps cursor.next ≡ end_at first ps (suc k) = ap (end_at first ps) {x = cursor.next} {y = suc k} e in
     record {
       some = omega arith;
       from = omega (arith, ints);
       to = λ i.
           let r = slopes.rise (suc k) (omega arith) in
-          let stop : end_at first ps (suc place.next) ≡ end_at first ps (suc (suc k)) = ap (λ (j : ℕ). end_at first ps (suc j)) {x = place.next} {y = suc k} e in
+          let stop : end_at first ps (suc cursor.next) ≡ end_at first ps (suc (suc k)) = ap (λ (j : ℕ). end_at first ps (suc j)) {x = cursor.next} {y = suc k} e in
           omega (arith, ints);
-      last = λ i. let f : last_place first ps ≡ end_at first ps place.next = ap (end_at first ps) {x = length ps} {y = place.next} (omega arith) in omega (arith, ints);
+      last = λ i. let f : last_power first ps ≡ end_at first ps cursor.next = ap (end_at first ps) {x = length ps} {y = cursor.next} (omega arith) in omega (arith, ints);
     }
 
-module _ (ps : List Piece) (s : Step) (place place' : Place) (q : Piece) (next : place.next < length ps)
-    (l : IsLeft s place.at (piece ps place.next) q) (at : place'.at ≡ q.end)
-    (within : q.end <ℤ (piece ps place.next).end → place'.next ≡ place.next) (past : (piece ps place.next).end ≤ℤ q.end → place'.next ≡ suc place.next) where
-  pub part_placed : (first : ℤ) → AreSlopes first ps → IsPlaced first ps place → IsPlaced first ps place'
+module _ (ps : List Piece) (s : Step) (cursor cursor' : Cursor) (q : Piece) (next : cursor.next < length ps)
+    (l : IsLeft s cursor.at (piece ps cursor.next) q) (at : cursor'.at ≡ q.end)
+    (within : q.end <ℤ (piece ps cursor.next).end → cursor'.next ≡ cursor.next) (past : (piece ps cursor.next).end ≤ℤ q.end → cursor'.next ≡ suc cursor.next) where
+  pub part_placed : (first : ℤ) → AreSlopes first ps → IsPlaced first ps cursor → IsPlaced first ps cursor'
   part_placed first slopes placed =
-      by_lt_z q.end (piece ps place.next).end
-      (λ (h : q.end <ℤ (piece ps place.next).end).
+      by_lt_z q.end (piece ps cursor.next).end
+      (λ (h : q.end <ℤ (piece ps cursor.next).end).
       let e = within h in
       let from = placed.from in
-      let start : end_at first ps place'.next ≡ end_at first ps place.next = ap (end_at first ps) e in
-      let stop : end_at first ps (suc place'.next) ≡ end_at first ps (suc place.next) = ap (λ (k : ℕ). end_at first ps (suc k)) e in
+      let start : end_at first ps cursor'.next ≡ end_at first ps cursor.next = ap (end_at first ps) e in
+      let stop : end_at first ps (suc cursor'.next) ≡ end_at first ps (suc cursor.next) = ap (λ (k : ℕ). end_at first ps (suc k)) e in
       record { some = omega arith; from = omega (arith, ints); to = λ i. omega (arith, ints); last = λ i. absurd (omega arith) })
-      (λ (h : (piece ps place.next).end ≤ℤ q.end).
+      (λ (h : (piece ps cursor.next).end ≤ℤ q.end).
       let ends = l.within in
-      placed_after first ps place.next place' slopes next (omega (arith, ints)) (past h))
+      placed_after first ps cursor.next cursor' slopes next (omega (arith, ints)) (past h))
 
-  pub part_fewer : parts_from ps s place' + 1 ≤ parts_from ps s place
+  pub part_fewer : parts_from ps s cursor' + 1 ≤ parts_from ps s cursor
   part_fewer =
-      by_lt_z q.end (piece ps place.next).end
-      (λ (h : q.end <ℤ (piece ps place.next).end).
+      by_lt_z q.end (piece ps cursor.next).end
+      (λ (h : q.end <ℤ (piece ps cursor.next).end).
       let e = within h in
       let b = l.bent h in
-      let was = lt_is place.at (bend_of s) b.0 in
-      let is = not_lt_is place'.at (bend_of s) (let f = b.1 in omega (arith, ints)) in
+      let was = lt_is cursor.at (bend_of s) b.0 in
+      let is = not_lt_is cursor'.at (bend_of s) (let f = b.1 in omega (arith, ints)) in
       rw (was, is) (omega arith))
-      (λ (h : (piece ps place.next).end ≤ℤ q.end).
+      (λ (h : (piece ps cursor.next).end ≤ℤ q.end).
       let e = past h in
-      by_lt_z place'.at (bend_of s)
-      (λ (g : place'.at <ℤ bend_of s).
-      let is = lt_is place'.at (bend_of s) g in
-      let was = lt_is place.at (bend_of s) (omega (arith, ints)) in
+      by_lt_z cursor'.at (bend_of s)
+      (λ (g : cursor'.at <ℤ bend_of s).
+      let is = lt_is cursor'.at (bend_of s) g in
+      let was = lt_is cursor.at (bend_of s) (omega (arith, ints)) in
       rw (was, is) (omega arith))
-      (λ (g : bend_of s ≤ℤ place'.at).
-      let is = not_lt_is place'.at (bend_of s) g in
+      (λ (g : bend_of s ≤ℤ cursor'.at).
+      let is = not_lt_is cursor'.at (bend_of s) g in
       rw is (omega arith)))
 
 -- ---- the valley
 
--- a place is in the interval
-pub placed_within : (first : ℤ) (ps : List Piece) (place : Place) → AreSlopes first ps → IsPlaced first ps place → (first ≤ℤ place.at) × (place.at ≤ℤ last_place first ps)
-placed_within first ps place slopes placed =
+-- a power is in the interval
+pub placed_within : (first : ℤ) (ps : List Piece) (cursor : Cursor) → AreSlopes first ps → IsPlaced first ps cursor → (first ≤ℤ cursor.at) × (cursor.at ≤ℤ last_power first ps)
+placed_within first ps cursor slopes placed =
     let some = placed.some in
-    let low = ends_rise_to first ps slopes 0 place.next (omega arith) some in
-    elim (cases_lt place.next (length ps)) [
+    let low = ends_rise_to first ps slopes 0 cursor.next (omega arith) some in
+    elim (cases_lt cursor.next (length ps)) [
       | inl inside ↦
           let to = placed.to inside in
-          let high = ends_rise_to first ps slopes (suc place.next) (length ps) (omega arith) (omega arith) in
+          let high = ends_rise_to first ps slopes (suc cursor.next) (length ps) (omega arith) (omega arith) in
           (omega (arith, ints), omega (arith, ints))
       | inr past ↦
           let e = placed.last (omega arith) in
           (omega (arith, ints), omega (arith, ints))
     ]
 
--- before the last place a piece goes on
-pub placed_inside : (first : ℤ) (ps : List Piece) (place : Place) → IsPlaced first ps place → place.at <ℤ last_place first ps → place.next < length ps
-placed_inside first ps place placed h = elim (cases_lt place.next (length ps)) [
+-- before the last power a piece goes on
+pub placed_inside : (first : ℤ) (ps : List Piece) (cursor : Cursor) → IsPlaced first ps cursor → cursor.at <ℤ last_power first ps → cursor.next < length ps
+placed_inside first ps cursor placed h = elim (cases_lt cursor.next (length ps)) [
   | inl inside ↦ inside
   | inr past ↦ absurd (let some = placed.some in let e = placed.last (omega arith) in omega (arith, ints))
 ]
 
-module _ (start : Start) (ps : List Piece) (s : Step) (fair : IsFairStep s) (slopes : AreSlopes start.first ps) (place : Place) (placed : IsPlaced start.first ps place)
-    (falls : (x : ℤ) → start.first ≤ℤ x → x <ℤ place.at → kinked start ps s (x +ℤ pos 1) <ℤ kinked start ps s x) where
-  pub valley_here : (e slope : ℤ) → IsLine (kinked start ps s) place.at e slope → e ≤ℤ last_place start.first ps → pos 0 ≤ℤ slope → IsValley (kinked start ps s) start.first (last_place start.first ps) place.at
+module _ (start : Start) (ps : List Piece) (s : Step) (fair : IsFairStep s) (slopes : AreSlopes start.first ps) (cursor : Cursor) (placed : IsPlaced start.first ps cursor)
+    (falls : (x : ℤ) → start.first ≤ℤ x → x <ℤ cursor.at → kinked start ps s (x +ℤ pos 1) <ℤ kinked start ps s x) where
+  pub valley_here : (e slope : ℤ) → IsLine (kinked start ps s) cursor.at e slope → e ≤ℤ last_power start.first ps → pos 0 ≤ℤ slope → IsValley (kinked start ps s) start.first (last_power start.first ps) cursor.at
   valley_here e slope line end up =
-      let w = placed_within start.first ps place slopes placed in
+      let w = placed_within start.first ps cursor slopes placed in
       let rise = line.rise in
       record {
         from = w.0;
         to = w.1;
         falls = falls;
         rises = λ x low high.
-            let c = kinked_curves start ps s fair slopes place.at x w.0 low high in
-            let l = line_step (kinked start ps s) place.at e slope place.at line (omega (arith, ints)) rise in
+            let c = kinked_curves start ps s fair slopes cursor.at x w.0 low high in
+            let l = line_step (kinked start ps s) cursor.at e slope cursor.at line (omega (arith, ints)) rise in
             omega (arith, ints);
       }
 
-  pub valley_end : length ps ≤ place.next → IsValley (kinked start ps s) start.first (last_place start.first ps) place.at
+  pub valley_end : length ps ≤ cursor.next → IsValley (kinked start ps s) start.first (last_power start.first ps) cursor.at
   valley_end past =
-      let w = placed_within start.first ps place slopes placed in
+      let w = placed_within start.first ps cursor slopes placed in
       let e = placed.last (omega arith) in
       record { from = w.0; to = w.1; falls = falls; rises = λ x low high. absurd (omega (arith, ints)) }
 
-  pub falls_on : (e slope : ℤ) → IsLine (kinked start ps s) place.at e slope → slope <ℤ pos 0 → (x : ℤ) → start.first ≤ℤ x → x <ℤ e → kinked start ps s (x +ℤ pos 1) <ℤ kinked start ps s x
-  falls_on e slope line down x low high = by_lt_z x place.at
-      (λ (l : x <ℤ place.at). falls x low l)
-      (λ (l : place.at ≤ℤ x). let h = line_step (kinked start ps s) place.at e slope x line l high in omega (arith, ints))
+  pub falls_on : (e slope : ℤ) → IsLine (kinked start ps s) cursor.at e slope → slope <ℤ pos 0 → (x : ℤ) → start.first ≤ℤ x → x <ℤ e → kinked start ps s (x +ℤ pos 1) <ℤ kinked start ps s x
+  falls_on e slope line down x low high = by_lt_z x cursor.at
+      (λ (l : x <ℤ cursor.at). falls x low l)
+      (λ (l : cursor.at ≤ℤ x). let h = line_step (kinked start ps s) cursor.at e slope x line l high in omega (arith, ints))
 
 -- ---- levels along the pieces
 
@@ -254,8 +254,8 @@ module _ (start : Start) (ps : List Piece) (slopes : AreSlopes start.first ps) (
       let b = within x (omega (arith, ints)) (omega (arith, ints)) in
       let e = level_from level from from_is level_is in
       record {
-        from_place = a.0;
-        to_place = b.0;
+        from_power = a.0;
+        to_power = b.0;
         product = record { at_least = omega (arith, ints); at_most = omega (arith, ints) };
         sum = record { at_least = omega (arith, ints); at_most = omega (arith, ints) };
       }
@@ -266,11 +266,11 @@ pub record IsEnd (first last e : ℤ) : Type 0 where
   pub to : e ≤ℤ last
   pub out : IsOutput e
 
-pub end_within : (start : Start) (ps : List Piece) → AreSlopes start.first ps → AreSmall start ps → (place : Place) → IsPlaced start.first ps place → (e : ℤ) → place.at ≡ e → IsEnd start.first (last_place start.first ps) e
-end_within start ps slopes small place placed e is =
-    let w = placed_within start.first ps place slopes placed in
-    let o = small place.at w.0 w.1 in
-    subst (λ (z : ℤ). IsEnd start.first (last_place start.first ps) z) is (record { from = w.0; to = w.1; out = o.0 })
+pub end_within : (start : Start) (ps : List Piece) → AreSlopes start.first ps → AreSmall start ps → (cursor : Cursor) → IsPlaced start.first ps cursor → (e : ℤ) → cursor.at ≡ e → IsEnd start.first (last_power start.first ps) e
+end_within start ps slopes small cursor placed e is =
+    let w = placed_within start.first ps cursor slopes placed in
+    let o = small cursor.at w.0 w.1 in
+    subst (λ (z : ℤ). IsEnd start.first (last_power start.first ps) z) is (record { from = w.0; to = w.1; out = o.0 })
 
-pub end_of_valley : (start : Start) (ps : List Piece) → AreSmall start ps → (s : Step) (m : ℤ) → IsValley (kinked start ps s) start.first (last_place start.first ps) m → IsOutput m
+pub end_of_valley : (start : Start) (ps : List Piece) → AreSmall start ps → (s : Step) (m : ℤ) → IsValley (kinked start ps s) start.first (last_power start.first ps) m → IsOutput m
 end_of_valley start ps small s m v = (small m v.from v.to).0

@@ -1,4 +1,4 @@
--- The value of a step at a place, as the code computes it.
+-- The value of a step at a power, as the code computes it.
 use Rattle.slope_step.proofs.Common.{◌≡◌, ap, ◌∙◌, arith, neg_ℤ, ℤ, pos, ◌+ℤ◌, ◌-ℤ◌, ◌*ℤ◌, FitsSigned, w64, int_min, ints, IsFrom, IsOutput, IsCost, Step, IsFairStep}
 use Rattle.slope_step.proofs.BoundLaws.{reserve_within, slope_within}
 use Rattle.slope_step.proofs.WrapLaws.{coded, IsNear, near_fits, coded_is, output_near, price_near, slope_near, most_near}

@@ -28,7 +28,7 @@ pub mod BelowLaws
 pub mod ReadLaws
 -- numbers that fit 64 bits
 pub mod WrapLaws
--- the value of a step at a place
+-- the value of a step at a power
 pub mod LevelLaws
 -- a walk over the blocks of a curve
 pub mod FindLaws

@@ -1,4 +1,4 @@
--- Lines: functions of one slope from one place to another.
+-- Lines: functions of one slope from one power to another.
 use Rattle.slope_step.proofs.Common.{◌≡◌, ap, ◌∙◌, arith, true, false, ℤ, pos, ◌+ℤ◌, ◌-ℤ◌, ◌*ℤ◌, ◌≤ℤ◌, ◌<ℤ◌, int_lt, ints, one, *ℤ-one, *ℤ-zero, zero-*ℤ, *ℤ_comm, mul-add, mul-sub, IsLine}
 
 pub lt_is : (a b : ℤ) → a <ℤ b → int_lt a b ≡ true

@@ -1,5 +1,5 @@
 -- Pieces, and the function that they stand for.
-use Rattle.slope_step.proofs.Common.{◌≡◌, ℕ, zero, suc, ◌+◌, ◌-◌, ◌<◌, ◌≤◌, List, [], ◌∷◌, length, take, refl, sym, ap, ◌∙◌, subst, inl, inr, arith, ℤ, pos, ◌+ℤ◌, ◌-ℤ◌, ◌*ℤ◌, ◌≤ℤ◌, ◌<ℤ◌, ints, by_lt_z, cases_lt, Piece, piece, end_at, value_along, last_place, AreSlopes, IsLine, Stand, Curves}
+use Rattle.slope_step.proofs.Common.{◌≡◌, ℕ, zero, suc, ◌+◌, ◌-◌, ◌<◌, ◌≤◌, List, [], ◌∷◌, length, take, refl, sym, ap, ◌∙◌, subst, inl, inr, arith, ℤ, pos, ◌+ℤ◌, ◌-ℤ◌, ◌*ℤ◌, ◌≤ℤ◌, ◌<ℤ◌, ints, by_lt_z, cases_lt, Piece, piece, end_at, value_along, last_power, AreSlopes, IsLine, Stand, Curves}
 use Rattle.std.proofs.lemmas.List.{get_or-take, length-take-le}
 use Rattle.slope_step.proofs.LineLaws.{lt_is, not_lt_is, times_none, line_step, line_same}
 
@@ -85,7 +85,7 @@ along_line first level (p ∷ ps) s (suc k) h =
     (subst (λ (z : ℤ). IsLine (value_along p.end l ps) z (piece ps k).end (piece ps k).slope) (sym e) i)
     (λ x from to. along_tail first level p ps s x (omega (arith, ints)))
 
--- ---- the piece that holds a place
+-- ---- the piece that holds a power
 
 pub record IsHeld (first : ℤ) (ps : List Piece) (x : ℤ) : Type 0 where
   pub index : ℕ
@@ -100,11 +100,11 @@ held_below first ps x low (suc n) h high =
     (λ (l : x <ℤ end_at first ps n). held_below first ps x low n (omega arith) l)
     (λ (l : end_at first ps n ≤ℤ x). record { index = n; inside = omega arith; from = l; to = high })
 
-pub held : (first : ℤ) (ps : List Piece) (x : ℤ) → first ≤ℤ x → x <ℤ last_place first ps → IsHeld first ps x
+pub held : (first : ℤ) (ps : List Piece) (x : ℤ) → first ≤ℤ x → x <ℤ last_power first ps → IsHeld first ps x
 held first ps x low high = held_below first ps x low (length ps) (omega arith) high
 
 -- no step is below the one before it
-pub along_curves : (first level : ℤ) (ps : List Piece) → AreSlopes first ps → Curves (value_along first level ps) first (last_place first ps)
+pub along_curves : (first level : ℤ) (ps : List Piece) → AreSlopes first ps → Curves (value_along first level ps) first (last_power first ps)
 along_curves first level ps s x y low order high =
     let p = held first ps x low (omega (arith, ints)) in
     let q = held first ps y (omega (arith, ints)) high in
@@ -125,7 +125,7 @@ along_curves first level ps s x y low order high =
 stand_tail : (h : ℤ → ℤ) (lo : ℤ) (p : Piece) (ps : List Piece) (n : ℕ) → Stand h lo (p ∷ ps) (suc n) → Stand h p.end ps n
 stand_tail h lo p ps n s k i = subst (λ (z : ℤ). IsLine h z (piece ps k).end (piece ps k).slope) (end_at-tail lo p ps k) (s (suc k) (omega arith))
 
-pub along_from_stand : (h : ℤ → ℤ) (lo level : ℤ) (ps : List Piece) → Stand h lo ps (length ps) → h lo ≡ level → (x : ℤ) → lo ≤ℤ x → x ≤ℤ last_place lo ps
+pub along_from_stand : (h : ℤ → ℤ) (lo level : ℤ) (ps : List Piece) → Stand h lo ps (length ps) → h lo ≡ level → (x : ℤ) → lo ≤ℤ x → x ≤ℤ last_power lo ps
     → value_along lo level ps x ≡ h x
 along_from_stand h lo level [] s e x low high = let same : h x ≡ h lo = ap h (omega (arith, ints)) in sym e ∙ sym same
 along_from_stand h lo level (p ∷ ps) s e x low high =
@@ -149,8 +149,8 @@ pub end_at-take : (lo : ℤ) (n : ℕ) (ps : List Piece) (k : ℕ) → k ≤ n �
 end_at-take lo n ps zero h = refl
 end_at-take lo n ps (suc k) h = ap (λ (p : Piece). p.end) (piece-take n ps k (omega arith))
 
-pub last_place-take : (lo : ℤ) (n : ℕ) (ps : List Piece) → n ≤ length ps → last_place lo (take n ps) ≡ end_at lo ps n
-last_place-take lo n ps h = ap (end_at lo (take n ps)) (length-take-le n ps h) ∙ end_at-take lo n ps n (omega arith)
+pub last_power-take : (lo : ℤ) (n : ℕ) (ps : List Piece) → n ≤ length ps → last_power lo (take n ps) ≡ end_at lo ps n
+last_power-take lo n ps h = ap (end_at lo (take n ps)) (length-take-le n ps h) ∙ end_at-take lo n ps n (omega arith)
 
 pub stand-take : (h : ℤ → ℤ) (lo : ℤ) (n : ℕ) (ps : List Piece) → n ≤ length ps → Stand h lo ps n → Stand h lo (take n ps) (length (take n ps))
 stand-take h lo n ps len s k i =

@@ -1,15 +1,15 @@
 -- What is read off pieces.
-use Rattle.slope_step.proofs.Common.{◌≡◌, ℕ, suc, ◌+◌, ◌-◌, ◌<◌, ◌≤◌, List, length, refl, sym, ap, ◌∙◌, subst, below_more, inl, inr, arith, Some, ℤ, pos, ◌+ℤ◌, ◌-ℤ◌, ◌*ℤ◌, ◌≤ℤ◌, ◌<ℤ◌, int_min, int_max, ints, clamps, by_lt_z, cases_lt, IsLeastIn, HasNone, IsAmount, Piece, Start, piece, end_at, last_place, function_of, table_on, AreSlopes, AreWithin, IsValley, IsAbove, CanGo}
+use Rattle.slope_step.proofs.Common.{◌≡◌, ℕ, suc, ◌+◌, ◌-◌, ◌<◌, ◌≤◌, List, length, refl, sym, ap, ◌∙◌, subst, below_more, inl, inr, arith, Some, ℤ, pos, ◌+ℤ◌, ◌-ℤ◌, ◌*ℤ◌, ◌≤ℤ◌, ◌<ℤ◌, int_min, int_max, ints, clamps, by_lt_z, cases_lt, IsLeastIn, HasNone, IsAmount, Piece, Start, piece, end_at, last_power, function_of, table_on, AreSlopes, AreWithin, IsValley, IsAbove, CanGo}
 use Rattle.slope_step.specs.Laws.{PiecesBegin, PiecesEnd}
 use Rattle.slope_step.proofs.LineLaws.{line_step}
 use Rattle.slope_step.proofs.PieceLaws.{ends_rise_to, slopes_rise, along_first, along_line, held}
 use Rattle.slope_step.proofs.KinkLaws.{level_from, can_go}
-use Rattle.slope_step.proofs.FunctionLaws.{on_inside, on_back, by_place}
+use Rattle.slope_step.proofs.FunctionLaws.{on_inside, on_back, by_power}
 use Rattle.slope_step.proofs.ValleyLaws.{falls_to, rises_to, valley_least}
 
 -- where the slopes before an end are below 0, and the one after it isn't
 pub valley_at : (start : Start) (ps : List Piece) → AreSlopes start.first ps → (k : ℕ) → k ≤ length ps → ((j : ℕ) → j < k → (piece ps j).slope <ℤ pos 0) → (k < length ps → pos 0 ≤ℤ (piece ps k).slope)
-    → IsValley (function_of start ps) start.first (last_place start.first ps) (end_at start.first ps k)
+    → IsValley (function_of start ps) start.first (last_power start.first ps) (end_at start.first ps k)
 valley_at start ps slopes k inside falls rises =
     let f = function_of start ps in
     let e = end_at start.first ps in
@@ -42,7 +42,7 @@ valley_at start ps slopes k inside falls rises =
           omega (arith, ints);
     }
 
--- a walk over the pieces that fall, with the level at the place that it has come to
+-- a walk over the pieces that fall, with the level at the power that it has come to
 pub record HasFallen (start : Start) (ps : List Piece) (k : ℕ) (at value : ℤ) : Type 0 where
   pub at_is : at ≡ end_at start.first ps k
   pub value_is : value ≡ function_of start ps at
@@ -73,17 +73,17 @@ module _ (start : Start) (ps : List Piece) (slopes : AreSlopes start.first ps) w
         let e = w.at_is in
         subst IsAmount (sym w.value_is) (within at (omega (arith, ints)) (omega (arith, ints))).1
 
-    pub fallen_valley : k ≤ length ps → (k < length ps → pos 0 ≤ℤ (piece ps k).slope) → IsValley (function_of start ps) start.first (last_place start.first ps) at
-    fallen_valley upto rises = subst (IsValley (function_of start ps) start.first (last_place start.first ps)) (sym w.at_is) (valley_at start ps slopes k upto w.falls rises)
+    pub fallen_valley : k ≤ length ps → (k < length ps → pos 0 ≤ℤ (piece ps k).slope) → IsValley (function_of start ps) start.first (last_power start.first ps) at
+    fallen_valley upto rises = subst (IsValley (function_of start ps) start.first (last_power start.first ps)) (sym w.at_is) (valley_at start ps slopes k upto w.falls rises)
 
--- above a limit at the least place, above it everywhere
+-- above a limit at the least power, above it everywhere
 pub above_all : (f : ℤ → ℤ) (a b m : ℤ) → IsValley f a b m → (shift limit : ℤ) → limit <ℤ (f m +ℤ shift) → IsAbove (table_on f a b) shift limit
 above_all f a b m v shift limit h x w there =
     let o = on_back f a b x w there in
     let l = valley_least f a b m v x o.from o.to in
     omega (arith, ints)
 
--- the least value of some places is at the one nearest to the least place
+-- the least value of some powers is at the one nearest to the least power
 module _ (f : ℤ → ℤ) (a b m : ℤ) (v : IsValley f a b m) (lo hi low high at : ℤ) (low_is : low ≡ int_max lo a) (high_is : high ≡ int_min hi b) (some : low ≤ℤ high) (at_is : at ≡ int_max low (int_min high m)) where
   pub at_inside : (a ≤ℤ at) × (at ≤ℤ b) × (lo ≤ℤ at) × (at ≤ℤ hi)
   at_inside = let p = v.from in let q = v.to in (omega (arith, ints, clamps), omega (arith, ints, clamps), omega (arith, ints, clamps), omega (arith, ints, clamps))
@@ -117,25 +117,25 @@ module _ (f : ℤ → ℤ) (a b m : ℤ) (v : IsValley f a b m) (lo hi low high 
         first = λ y h l r. let o = on_back f a b y value h in first_at y o.from o.to l (sym o.value ∙ is);
       }
 
--- no place is asked for
+-- no power is asked for
 pub HasNone-on : (f : ℤ → ℤ) (a b lo hi : ℤ) → int_min hi b <ℤ int_max lo a → HasNone lo hi (table_on f a b)
-HasNone-on f a b lo hi h x low high = by_place a b x (λ (l : a ≤ℤ x) (r : x ≤ℤ b). absurd (omega (arith, ints, clamps))) (λ none. none f)
+HasNone-on f a b lo hi h x low high = by_power a b x (λ (l : a ≤ℤ x) (r : x ≤ℤ b). absurd (omega (arith, ints, clamps))) (λ none. none f)
 
--- ---- the first and the last place
+-- ---- the first and the last power
 
-in_order : (start : Start) (ps : List Piece) → AreSlopes start.first ps → start.first ≤ℤ last_place start.first ps
+in_order : (start : Start) (ps : List Piece) → AreSlopes start.first ps → start.first ≤ℤ last_power start.first ps
 in_order start ps slopes = ends_rise_to start.first ps slopes 0 (length ps) (omega arith) (omega arith)
 
 pub pieces_begin : PiecesBegin
 pieces_begin start ps slopes = record {
-  there = on_inside (function_of start ps) start.first (last_place start.first ps) start.first (omega (arith, ints)) (in_order start ps slopes)
+  there = on_inside (function_of start ps) start.first (last_power start.first ps) start.first (omega (arith, ints)) (in_order start ps slopes)
       ∙ ap Some (along_first start.first start.level ps slopes);
-  first = λ y w h. (on_back (function_of start ps) start.first (last_place start.first ps) y w h).from;
+  first = λ y w h. (on_back (function_of start ps) start.first (last_power start.first ps) y w h).from;
 }
 
 pub pieces_end : PiecesEnd
 pieces_end start ps slopes = record {
-  value = function_of start ps (last_place start.first ps);
-  there = on_inside (function_of start ps) start.first (last_place start.first ps) (last_place start.first ps) (in_order start ps slopes) (omega (arith, ints));
-  last = λ y w h. (on_back (function_of start ps) start.first (last_place start.first ps) y w h).to;
+  value = function_of start ps (last_power start.first ps);
+  there = on_inside (function_of start ps) start.first (last_power start.first ps) (last_power start.first ps) (in_order start ps slopes) (omega (arith, ints));
+  last = λ y w h. (on_back (function_of start ps) start.first (last_power start.first ps) y w h).to;
 }

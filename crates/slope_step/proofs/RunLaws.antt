@@ -1,5 +1,5 @@
 -- The runs of a window.
-use Rattle.slope_step.proofs.Common.{◌≡◌, ℕ, suc, ◌+◌, ◌<◌, ◌≤◌, List, length, ◌∙◌, sym, ap, subst, refl, arith, ℤ, neg_ℤ, pos, ◌+ℤ◌, ◌-ℤ◌, ◌*ℤ◌, ◌≤ℤ◌, ◌<ℤ◌, int_min, ints, clamps, by_lt_z, Curve, Piece, Place, Pen, Run, Way, Window, piece, end_at, IsPlace, IsInBlock, IsDrawn, IsFurther, stepped, IsFrom, IsLine, IsLowered, IsGentle, IsPlaced, kinked, last_place, function_of, moved, nearest, paid, runs_from, IsRun, FitsSigned, w64}
+use Rattle.slope_step.proofs.Common.{◌≡◌, ℕ, suc, ◌+◌, ◌<◌, ◌≤◌, List, length, ◌∙◌, sym, ap, subst, refl, arith, ℤ, neg_ℤ, pos, ◌+ℤ◌, ◌-ℤ◌, ◌*ℤ◌, ◌≤ℤ◌, ◌<ℤ◌, int_min, ints, clamps, by_lt_z, Curve, Piece, Cursor, Pen, Run, Way, Window, piece, end_at, IsPlace, IsInBlock, IsDrawn, IsFurther, stepped, IsFrom, IsLine, IsLowered, IsGentle, IsPlaced, kinked, last_power, function_of, moved, nearest, paid, runs_from, IsRun, FitsSigned, w64}
 use Rattle.slope_step.proofs.LineLaws.{line_part, line_sum, line_product}
 use Rattle.slope_step.proofs.PieceLaws.{along_line}
 use Rattle.slope_step.proofs.KinkLaws.{IsLeft, left, left_steep, IsEnd, end_within, end_of_valley}
@@ -69,41 +69,41 @@ module _ (w : Window) (y until : ℤ) (run : Run) (l : IsLowered w.step y (recor
             (λ (h : until ≤ℤ run.until). absurd (omega (arith, ints)));
       }
 
--- ---- a place of the window's function, as the code has it
+-- ---- a power of the window's function, as the code has it
 
 -- a number that may be added to a power
 abbrev pub IsHigh : ℤ → Type 0
 IsHigh z = IsFrom (neg_ℤ (pos 4000000000)) (pos 4000000000) z
 
-module _ (w : Window) (place : Place) (placed : IsPlaced w.start.first w.pieces.now place) where
-  pub place_in : IsEnd w.start.first (last_place w.start.first w.pieces.now) place.at
-  place_in = end_within w.start w.pieces.now w.valid.slopes w.valid.small place placed place.at refl
+module _ (w : Window) (cursor : Cursor) (placed : IsPlaced w.start.first w.pieces.now cursor) where
+  pub cursor_in : IsEnd w.start.first (last_power w.start.first w.pieces.now) cursor.at
+  cursor_in = end_within w.start w.pieces.now w.valid.slopes w.valid.small cursor placed cursor.at refl
 
-  pub place_coded : coded place.at ≡ place.at
-  place_coded = coded_is place.at (output_near place.at place_in.out)
+  pub cursor_coded : coded cursor.at ≡ cursor.at
+  cursor_coded = coded_is cursor.at (output_near cursor.at cursor_in.out)
 
   pub turn_coded : coded w.turn ≡ w.turn
   turn_coded = coded_is w.turn (output_near w.turn (end_of_valley w.start w.pieces.now w.valid.small w.step w.turn w.valid.valley))
 
-  pub reach_coded : coded (coded place.at +ℤ coded w.step.ramp_up) ≡ place.at +ℤ w.step.ramp_up
-  reach_coded = up_coded place.at w.step.ramp_up place_in.out w.valid.fair.ramp_up
+  pub reach_coded : coded (coded cursor.at +ℤ coded w.step.ramp_up) ≡ cursor.at +ℤ w.step.ramp_up
+  reach_coded = up_coded cursor.at w.step.ramp_up cursor_in.out w.valid.fair.ramp_up
 
-  pub reach_fits : FitsSigned w64 (coded place.at +ℤ coded w.step.ramp_up)
-  reach_fits = fits_sum place.at w.step.ramp_up place_in.out w.valid.fair.ramp_up
+  pub reach_fits : FitsSigned w64 (coded cursor.at +ℤ coded w.step.ramp_up)
+  reach_fits = fits_sum cursor.at w.step.ramp_up cursor_in.out w.valid.fair.ramp_up
 
-  -- the last place that is asked for, where it is past a place
-  pub high_near : (place.at -ℤ w.step.ramp_down) ≤ℤ w.high → IsHigh w.high
+  -- the last power that is asked for, where it is past a power
+  pub high_near : (cursor.at -ℤ w.step.ramp_down) ≤ℤ w.high → IsHigh w.high
   high_near low =
-      let o = place_in.out.at_least in
+      let o = cursor_in.out.at_least in
       let d = w.valid.fair.ramp_down.at_most in
       let u = w.valid.fair.ramp_up.at_most in
       let h = w.valid.high in
-      let from = place_in.from in
-      let to = place_in.to in
-      let last = (w.valid.small (last_place w.start.first w.pieces.now) (omega (arith, ints)) (omega (arith, ints))).0.at_most in
+      let from = cursor_in.from in
+      let to = cursor_in.to in
+      let last = (w.valid.small (last_power w.start.first w.pieces.now) (omega (arith, ints)) (omega (arith, ints))).0.at_most in
       record { at_least = omega (arith, ints); at_most = omega (arith, ints) }
 
-  pub last_coded : (place.at -ℤ w.step.ramp_down) ≤ℤ w.high → coded (coded w.high +ℤ coded w.step.ramp_down) ≡ w.high +ℤ w.step.ramp_down
+  pub last_coded : (cursor.at -ℤ w.step.ramp_down) ≤ℤ w.high → coded (coded w.high +ℤ coded w.step.ramp_down) ≡ w.high +ℤ w.step.ramp_down
   last_coded low =
       let h = high_near low in
       let least = w.valid.fair.ramp_down.at_least in
@@ -118,28 +118,28 @@ before_moved x y u d is h = omega (arith, ints)
 
 -- ---- along a run
 
-module _ (w : Window) (from : ℤ) (run : Run) (r : IsRun w from run) (place : Place) (placed : IsPlaced w.start.first w.pieces.now place) (low : from ≤ℤ place.at) where
-  pub run_place : (e : ℤ) → place.at ≤ℤ e → e ≤ℤ run.until → IsPlace (e +ℤ run.shift)
-  run_place e at upto =
-      let o = place_in w place placed in
+module _ (w : Window) (from : ℤ) (run : Run) (r : IsRun w from run) (cursor : Cursor) (placed : IsPlaced w.start.first w.pieces.now cursor) (low : from ≤ℤ cursor.at) where
+  pub run_power : (e : ℤ) → cursor.at ≤ℤ e → e ≤ℤ run.until → IsPlace (e +ℤ run.shift)
+  run_power e at upto =
+      let o = cursor_in w cursor placed in
       let least = o.out.at_least in
       let last = r.last in
       let from_first = o.from in
-      let most = (w.valid.small (last_place w.start.first w.pieces.now) (omega (arith, ints)) (omega (arith, ints))).0.at_most in
+      let most = (w.valid.small (last_power w.start.first w.pieces.now) (omega (arith, ints)) (omega (arith, ints))).0.at_most in
       let a = r.shift.at_least in
       let b = r.shift.at_most in
       (omega (arith, ints), omega (arith, ints))
 
-  pub run_line : (e : ℤ) → place.next < length w.pieces.now → place.at <ℤ e → e ≤ℤ (piece w.pieces.now place.next).end → e ≤ℤ run.until
-      → IsLine (paid w.start w.pieces.now w.step w.turn) (place.at +ℤ run.shift) (e +ℤ run.shift) ((piece w.pieces.now place.next).slope +ℤ run.slope)
+  pub run_line : (e : ℤ) → cursor.next < length w.pieces.now → cursor.at <ℤ e → e ≤ℤ (piece w.pieces.now cursor.next).end → e ≤ℤ run.until
+      → IsLine (paid w.start w.pieces.now w.step w.turn) (cursor.at +ℤ run.shift) (e +ℤ run.shift) ((piece w.pieces.now cursor.next).slope +ℤ run.slope)
   run_line e inside rise within upto =
-      let k = place.next in
+      let k = cursor.next in
       let ps = w.pieces.now in
-      r.lines place.at e (piece ps k).slope low upto
-      (line_part (function_of w.start ps) (end_at w.start.first ps k) (end_at w.start.first ps (suc k)) (piece ps k).slope place.at e (along_line w.start.first w.start.level ps w.valid.slopes k inside) placed.from rise within)
+      r.lines cursor.at e (piece ps k).slope low upto
+      (line_part (function_of w.start ps) (end_at w.start.first ps k) (end_at w.start.first ps (suc k)) (piece ps k).slope cursor.at e (along_line w.start.first w.start.level ps w.valid.slopes k inside) placed.from rise within)
 
   -- where it ends
-  pub run_placed : (until : ℤ) → until ≡ run.until → place.at ≤ℤ run.until → (place.next < length w.pieces.now → run.until <ℤ (piece w.pieces.now place.next).end) → IsPlaced w.start.first w.pieces.now (record { at = until; next = place.next })
+  pub run_placed : (until : ℤ) → until ≡ run.until → cursor.at ≤ℤ run.until → (cursor.next < length w.pieces.now → run.until <ℤ (piece w.pieces.now cursor.next).end) → IsPlaced w.start.first w.pieces.now (record { at = until; next = cursor.next })
   run_placed until is upto short =
       let begun = placed.from in
       let last = r.last in
@@ -155,11 +155,11 @@ pub record IsEnded (w : Window) (c : Curve) (run : Run) (from : Way) (next : ℕ
   pub at : pen.at ≡ run.until +ℤ run.shift
   pub block : IsInBlock c pen.at pen.span
   pub drawn : (lo : ℤ) → IsDrawn (stepped w.start w.pieces.now w.step w.turn c) lo old from.pen → IsDrawn (stepped w.start w.pieces.now w.step w.turn c) lo new pen
-  pub used : pen.used + from.pen.span.index + from.place.next ≤ from.pen.used + pen.span.index + next + 1
+  pub used : pen.used + from.pen.span.index + from.cursor.next ≤ from.pen.used + pen.span.index + next + 1
 
-pub run_ended : (w : Window) (c : Curve) (run : Run) (from : Way) (place : Place) (old new : List Piece) (pen : Pen) → IsRun w from.place.at run → from.pen.at ≡ from.place.at +ℤ run.shift
-    → IsPlaced w.start.first w.pieces.now place → place.at ≡ run.until → IsEnded w c run from place.next old new pen → IsFurther w c old new from (record { place = place; pen = pen })
-run_ended w c run from place old new pen r at placed is e =
+pub run_ended : (w : Window) (c : Curve) (run : Run) (from : Way) (cursor : Cursor) (old new : List Piece) (pen : Pen) → IsRun w from.cursor.at run → from.pen.at ≡ from.cursor.at +ℤ run.shift
+    → IsPlaced w.start.first w.pieces.now cursor → cursor.at ≡ run.until → IsEnded w c run from cursor.next old new pen → IsFurther w c old new from (record { cursor = cursor; pen = pen })
+run_ended w c run from cursor old new pen r at placed is e =
     let rise = r.rise in
     let high = r.high in
     let ended = e.at in
@@ -173,7 +173,7 @@ run_ended w c run from place old new pen r at placed is e =
       used = e.used;
       fewer = λ h.
           let f = r.fewer (omega (arith, ints)) in
-          let a : runs_from w.step w.turn place.at pen.at ≡ runs_from w.step w.turn run.until (run.until +ℤ run.shift) = ap (λ (y : ℤ). runs_from w.step w.turn y pen.at) is ∙ ap (runs_from w.step w.turn run.until) ended in
-          let b : runs_from w.step w.turn from.place.at from.pen.at ≡ runs_from w.step w.turn from.place.at (from.place.at +ℤ run.shift) = ap (runs_from w.step w.turn from.place.at) at in
+          let a : runs_from w.step w.turn cursor.at pen.at ≡ runs_from w.step w.turn run.until (run.until +ℤ run.shift) = ap (λ (y : ℤ). runs_from w.step w.turn y pen.at) is ∙ ap (runs_from w.step w.turn run.until) ended in
+          let b : runs_from w.step w.turn from.cursor.at from.pen.at ≡ runs_from w.step w.turn from.cursor.at (from.cursor.at +ℤ run.shift) = ap (runs_from w.step w.turn from.cursor.at) at in
           omega arith;
     }

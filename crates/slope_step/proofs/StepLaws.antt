@@ -1,8 +1,8 @@
 -- The parts of a step together.
-use Rattle.slope_step.proofs.Common.{◌≡◌, ℕ, zero, suc, ◌+◌, ◌-◌, ◌≤◌, List, [], length, take, Option, Some, None, refl, sym, ap, ◌∙◌, subst, arith, ℤ, pos, negsuc, ◌+ℤ◌, ◌-ℤ◌, ◌*ℤ◌, ◌≤ℤ◌, ◌<ℤ◌, MatchOption, int_min, int_max, ints, clamps, Curve, IsOutput, IsCost, Step, curve_value, reserve_term, StepKeepsConvexity, ConvexityIsOfPlaces, IsFairStep, IsCostOf, IsStepped, IsSmall, Table, value_of, offset_value, IsConvex, IsPlace, IsAmount, Piece, Start, piece, end_at, last_place, function_of, table_on, table_of, AreSlopes, Stand, kinked, AreSmall, AreWithin, AreGentle, IsValley, nearest, moved, HasCosts, cost_at, paid, stepped, IsTurn}
+use Rattle.slope_step.proofs.Common.{◌≡◌, ℕ, zero, suc, ◌+◌, ◌-◌, ◌≤◌, List, [], length, take, Option, Some, None, refl, sym, ap, ◌∙◌, subst, arith, ℤ, pos, negsuc, ◌+ℤ◌, ◌-ℤ◌, ◌*ℤ◌, ◌≤ℤ◌, ◌<ℤ◌, MatchOption, int_min, int_max, ints, clamps, Curve, IsOutput, IsCost, Step, curve_value, reserve_term, StepKeepsConvexity, ConvexityIsOfPlaces, IsFairStep, IsCostOf, IsStepped, IsSmall, Table, value_of, offset_value, IsConvex, IsPlace, IsAmount, Piece, Start, piece, end_at, last_power, function_of, table_on, table_of, AreSlopes, Stand, kinked, AreSmall, AreWithin, AreGentle, IsValley, nearest, moved, HasCosts, cost_at, paid, stepped, IsTurn}
 use Rattle.slope_step.proofs.LineLaws.{line_step}
-use Rattle.slope_step.proofs.PieceLaws.{ends_rise_to, along_line, along_curves, along_from_stand, last_place-take, stand-take}
-use Rattle.slope_step.proofs.FunctionLaws.{on_inside, by_place, on_same, IsConvex-from_curves, convex_steps, IsSum-on, IsCurveSum-on, cost_at_is}
+use Rattle.slope_step.proofs.PieceLaws.{ends_rise_to, along_line, along_curves, along_from_stand, last_power-take, stand-take}
+use Rattle.slope_step.proofs.FunctionLaws.{on_inside, by_power, on_same, IsConvex-from_curves, convex_steps, IsSum-on, IsCurveSum-on, cost_at_is}
 use Rattle.slope_step.proofs.ValleyLaws.{IsBottom-valley, IsWindow-valley}
 use Rattle.slope_step.proofs.WindowLaws.{nearest_inside}
 use Rattle.slope_step.proofs.BoundLaws.{level_within}
@@ -17,7 +17,7 @@ stand_rises h lo ps n s (suc d) i j e l =
     let same : end_at lo ps j ≡ end_at lo ps (suc (i + d)) = ap (end_at lo ps) {x = j} {y = suc (i + d)} (omega arith) in
     omega (arith, ints)
 
-pub slopes_from_stand : ConvexityIsOfPlaces → (h : ℤ → ℤ) (lo : ℤ) (ps : List Piece) → Stand h lo ps (length ps) → IsConvex (table_on h lo (last_place lo ps)) → AreSlopes lo ps
+pub slopes_from_stand : ConvexityIsOfPlaces → (h : ℤ → ℤ) (lo : ℤ) (ps : List Piece) → Stand h lo ps (length ps) → IsConvex (table_on h lo (last_power lo ps)) → AreSlopes lo ps
 slopes_from_stand law h lo ps s convex = record {
   rise = λ k i. (s k i).rise;
   order = λ k i.
@@ -26,10 +26,10 @@ slopes_from_stand law h lo ps s convex = record {
       let e = end_at lo ps (suc k) in
       let on = b.rise in
       let low = stand_rises h lo ps (length ps) s k 0 k (omega arith) (omega arith) in
-      let high : end_at lo ps (suc (suc k)) ≤ℤ last_place lo ps = stand_rises h lo ps (length ps) s (length ps - suc (suc k)) (suc (suc k)) (length ps) (omega arith) (omega arith) in
+      let high : end_at lo ps (suc (suc k)) ≤ℤ last_power lo ps = stand_rises h lo ps (length ps) s (length ps - suc (suc k)) (suc (suc k)) (length ps) (omega arith) (omega arith) in
       let p = line_step h (end_at lo ps k) e (piece ps k).slope (e -ℤ pos 1) a (omega (arith, ints)) (omega (arith, ints)) in
       let q = line_step h e (end_at lo ps (suc (suc k))) (piece ps (suc k)).slope e b (omega (arith, ints)) on in
-      let c = convex_steps law h lo (last_place lo ps) (e -ℤ pos 1) convex (omega (arith, ints)) (omega (arith, ints)) in
+      let c = convex_steps law h lo (last_power lo ps) (e -ℤ pos 1) convex (omega (arith, ints)) (omega (arith, ints)) in
       let x : h ((e -ℤ pos 1) +ℤ pos 1) ≡ h e = ap h (omega (arith, ints)) in
       let y : h ((e -ℤ pos 1) +ℤ pos 2) ≡ h (e +ℤ pos 1) = ap h (omega (arith, ints)) in
       omega (arith, ints);
@@ -38,7 +38,7 @@ slopes_from_stand law h lo ps s convex = record {
 -- ---- small values
 
 pub small_from_table : (start : Start) (ps : List Piece) → IsSmall (table_of start ps) → AreSmall start ps
-small_from_table start ps small x low high = small x (function_of start ps x) (on_inside (function_of start ps) start.first (last_place start.first ps) x low high)
+small_from_table start ps small x low high = small x (function_of start ps x) (on_inside (function_of start ps) start.first (last_power start.first ps) x low high)
 
 pub gentle_from_small : (start : Start) (ps : List Piece) → AreSlopes start.first ps → AreSmall start ps → AreGentle ps
 gentle_from_small start ps slopes small k inside =
@@ -59,25 +59,25 @@ none_in (pos k) = refl
 none_in (negsuc k) = refl
 
 module _ (start : Start) (ps : List Piece) (s : Step) (c : Curve) (m lo hi : ℤ) (slopes : AreSlopes start.first ps) (fair : IsFairStep s) (cost : IsCostOf s c)
-    (valley : IsValley (kinked start ps s) start.first (last_place start.first ps) m)
-    (lo_is : lo ≡ int_max s.least (start.first -ℤ s.ramp_down)) (hi_is : hi ≡ int_min s.most (last_place start.first ps +ℤ s.ramp_up)) where
+    (valley : IsValley (kinked start ps s) start.first (last_power start.first ps) m)
+    (lo_is : lo ≡ int_max s.least (start.first -ℤ s.ramp_down)) (hi_is : hi ≡ int_min s.most (last_power start.first ps +ℤ s.ramp_up)) where
   pub costs_on : HasCosts c lo hi
   costs_on x low high = cost.costs x (omega (arith, ints, clamps)) (omega (arith, ints, clamps))
 
   pub stepped_on : IsStepped s c (table_of start ps) (table_on (stepped start ps s m c) lo hi)
   stepped_on = record {
-    kinked = table_on (kinked start ps s) start.first (last_place start.first ps);
+    kinked = table_on (kinked start ps s) start.first (last_power start.first ps);
     window = table_on (moved start ps s m) lo hi;
     line = table_on (paid start ps s m) lo hi;
-    is_kinked = IsSum-on (reserve_term s.reserve_price s.cap s.ramp_up) (function_of start ps) start.first (last_place start.first ps);
-    is_window = IsWindow-valley (kinked start ps s) start.first (last_place start.first ps) m valley s.ramp_up s.ramp_down lo hi s.least s.most fair.ramp_up.at_least fair.ramp_down.at_least lo_is hi_is;
+    is_kinked = IsSum-on (reserve_term s.reserve_price s.cap s.ramp_up) (function_of start ps) start.first (last_power start.first ps);
+    is_window = IsWindow-valley (kinked start ps s) start.first (last_power start.first ps) m valley s.ramp_up s.ramp_down lo hi s.least s.most fair.ramp_up.at_least fair.ramp_down.at_least lo_is hi_is;
     is_line = IsSum-on (λ x. s.slope *ℤ x) (moved start ps s m) lo hi;
     is_curve = IsCurveSum-on c (paid start ps s m) lo hi costs_on;
   }
 
   pub stepped_convex : StepKeepsConvexity → ConvexityIsOfPlaces → IsConvex (table_on (stepped start ps s m c) lo hi)
   stepped_convex steps places =
-      let before = IsConvex-from_curves places (function_of start ps) start.first (last_place start.first ps) (along_curves start.first start.level ps slopes) in
+      let before = IsConvex-from_curves places (function_of start ps) start.first (last_power start.first ps) (along_curves start.first start.level ps slopes) in
       steps s c (table_of start ps) (table_on (stepped start ps s m c) lo hi) fair cost stepped_on before
 
   -- so does any table with the same values
@@ -96,13 +96,13 @@ module _ (start : Start) (ps : List Piece) (s : Step) (c : Curve) (m lo hi : ℤ
 
   pub stepped_none : hi <ℤ lo → IsStepped s c (table_of start ps) (record { lo = pos 0; values = [] })
   stepped_none h = stepped_to (record { lo = pos 0; values = [] })
-      (λ x. none_in (x -ℤ pos 0) ∙ by_place lo hi x (λ (low : lo ≤ℤ x) (high : x ≤ℤ hi). absurd (omega (arith, ints))) (λ none. sym (none (stepped start ps s m c))))
+      (λ x. none_in (x -ℤ pos 0) ∙ by_power lo hi x (λ (low : lo ≤ℤ x) (high : x ≤ℤ hi). absurd (omega (arith, ints))) (λ none. sym (none (stepped start ps s m c))))
 
   pub turn_on : IsTurn s (table_of start ps) m
   turn_on = (
-    table_on (kinked start ps s) start.first (last_place start.first ps),
-    IsSum-on (reserve_term s.reserve_price s.cap s.ramp_up) (function_of start ps) start.first (last_place start.first ps),
-    IsBottom-valley (kinked start ps s) start.first (last_place start.first ps) m valley,
+    table_on (kinked start ps s) start.first (last_power start.first ps),
+    IsSum-on (reserve_term s.reserve_price s.cap s.ramp_up) (function_of start ps) start.first (last_power start.first ps),
+    IsBottom-valley (kinked start ps s) start.first (last_power start.first ps) m valley,
   )
 
   -- the pieces that are written
@@ -111,7 +111,7 @@ module _ (start : Start) (ps : List Piece) (s : Step) (c : Curve) (m lo hi : ℤ
     pub written : IsStepped s c (table_of start ps) (table_of (record { first = lo; level = level }) (take used out))
     written =
         let f = function_of (record { first = lo; level = level }) (take used out) in
-        let e = last_place-take lo used out room ∙ ends in
+        let e = last_power-take lo used out room ∙ ends in
         stepped_to (table_of (record { first = lo; level = level }) (take used out))
         (λ x.
         ap (λ (z : ℤ). value_of (table_on f lo z) x) e
@@ -121,11 +121,11 @@ module _ (start : Start) (ps : List Piece) (s : Step) (c : Curve) (m lo hi : ℤ
 
     pub written_slopes : StepKeepsConvexity → ConvexityIsOfPlaces → AreSlopes lo (take used out)
     written_slopes steps places =
-        let e = last_place-take lo used out room ∙ ends in
+        let e = last_power-take lo used out room ∙ ends in
         slopes_from_stand places (stepped start ps s m c) lo (take used out) (stand-take (stepped start ps s m c) lo used out room drawn)
         (subst (λ (z : ℤ). IsConvex (table_on (stepped start ps s m c) lo z)) (sym e) (stepped_convex steps places))
 
--- ---- the first and the last place
+-- ---- the first and the last power
 
 pub step_low : (lo least a down : ℤ) → lo ≡ int_max least (a -ℤ down) → (a ≤ℤ (lo +ℤ down)) × (least ≤ℤ lo)
 step_low lo least a down h = (omega (arith, ints, clamps), omega (arith, ints, clamps))
@@ -140,14 +140,14 @@ step_output least lo hi most a b p q r =
 -- ---- the values after a step
 
 module _ (start : Start) (ps : List Piece) (s : Step) (c : Curve) (m lo hi : ℤ) (slopes : AreSlopes start.first ps) (fair : IsFairStep s) (cost : IsCostOf s c) (small : AreSmall start ps)
-    (valley : IsValley (kinked start ps s) start.first (last_place start.first ps) m)
-    (lo_is : lo ≡ int_max s.least (start.first -ℤ s.ramp_down)) (hi_is : hi ≡ int_min s.most (last_place start.first ps +ℤ s.ramp_up)) where
+    (valley : IsValley (kinked start ps s) start.first (last_power start.first ps) m)
+    (lo_is : lo ≡ int_max s.least (start.first -ℤ s.ramp_down)) (hi_is : hi ≡ int_min s.most (last_power start.first ps +ℤ s.ramp_up)) where
   pub stepped_within : (x : ℤ) → lo ≤ℤ x → x ≤ℤ hi → IsPlace x × IsAmount (stepped start ps s m c x)
   stepped_within x low high =
       let l = step_low lo s.least start.first s.ramp_down lo_is in
-      let h = step_high hi s.most (last_place start.first ps) s.ramp_up hi_is in
+      let h = step_high hi s.most (last_power start.first ps) s.ramp_up hi_is in
       let out = step_output s.least x x s.most fair.least fair.most (omega (arith, ints)) (omega (arith, ints)) (omega (arith, ints)) in
-      let n = nearest_inside start.first (last_place start.first ps) m s.ramp_up s.ramp_down x valley.from valley.to (omega (arith, ints)) (omega (arith, ints)) fair.ramp_up.at_least fair.ramp_down.at_least in
+      let n = nearest_inside start.first (last_power start.first ps) m s.ramp_up s.ramp_down x valley.from valley.to (omega (arith, ints)) (omega (arith, ints)) fair.ramp_up.at_least fair.ramp_down.at_least in
       let near = nearest s.ramp_up s.ramp_down m x in
       let v = small near n.0 n.1 in
       let k = cost.costs x (omega (arith, ints)) (omega (arith, ints)) in
@@ -162,7 +162,7 @@ module _ (start : Start) (ps : List Piece) (s : Step) (c : Curve) (m lo hi : ℤ
   pub written_within : (level : ℤ) (out : List Piece) (used : ℕ) → used ≤ length out → Stand (stepped start ps s m c) lo out used → end_at lo out used ≡ hi → level ≡ stepped start ps s m c lo
       → AreWithin (record { first = lo; level = level }) (take used out)
   written_within level out used room drawn ends level_is x low high =
-      let e = last_place-take lo used out room ∙ ends in
+      let e = last_power-take lo used out room ∙ ends in
       let v = along_from_stand (stepped start ps s m c) lo level (take used out) (stand-take (stepped start ps s m c) lo used out room drawn) (sym level_is) x low high in
       let w = stepped_within x low (omega (arith, ints)) in
       (w.0, subst (λ (z : ℤ). IsAmount z) (sym v) w.1)

@@ -40,7 +40,7 @@ module _ (f : ℤ → ℤ) (a b m : ℤ) (v : IsValley f a b m) where
       let e : f y ≡ f (x +ℤ pos s.0) = ap f s.1 in
       omega (arith, ints)
 
-  -- m is the least place of the least value
+  -- m is the least power of the least value
   pub valley_least : (y : ℤ) → a ≤ℤ y → y ≤ℤ b → f m ≤ℤ f y
   valley_least y low high = by_lt_z y m
       (λ (l : y <ℤ m). falls_to y m low (omega (arith, ints)) (omega (arith, ints)))

@@ -1,4 +1,4 @@
--- The parts of the window: the nearest place in reach goes along with each.
+-- The parts of the window: the nearest power in reach goes along with each.
 use Rattle.slope_step.proofs.Common.{◌≡◌, ◌+◌, ◌<◌, ◌≤◌, refl, sym, ap, ◌∙◌, arith, ℤ, pos, ◌+ℤ◌, ◌-ℤ◌, ◌*ℤ◌, ◌≤ℤ◌, ◌<ℤ◌, negsuc, unsigned_abs, ints, clamps, by_lt_z, zero-*ℤ, Step, IsLine, bend_of, nearest, one_before, runs_from, IsFlat}
 use Rattle.slope_step.proofs.LineLaws.{lt_is, not_lt_is, line_moved, line_same, line_flat}
 
@@ -13,7 +13,7 @@ module _ (k : ℤ → ℤ) (m up down : ℤ) (is_up : pos 0 ≤ℤ up) (is_down 
   line_rising low ea eb = line_same (λ z. k (z +ℤ (pos 0 -ℤ up))) (λ z. k (nearest up down m z)) a' b' t (line_moved k a b t (pos 0 -ℤ up) a' b' line (omega (arith, ints)) (omega (arith, ints)))
       (λ z from to. ap k {x = nearest up down m z} {y = z +ℤ (pos 0 -ℤ up)} (omega (arith, ints, clamps)))
 
--- the places that the least place is the nearest one to, and those up to e where the function is flat
+-- the powers that the least power is the nearest one to, and those up to e where the function is flat
 pub line_level_to : (k : ℤ → ℤ) (m up down x y e x' : ℤ) → pos 0 ≤ℤ up → pos 0 ≤ℤ down → y ≡ nearest up down m x → y ≡ m → IsFlat k y e → x <ℤ x' → x' ≤ℤ (e +ℤ up) → IsLine (λ z. k (nearest up down m z)) x x' (pos 0)
 line_level_to k m up down x y e x' is_up is_down near turn flat rise to =
     let long = flat.from in
@@ -99,7 +99,7 @@ nearer x y z l h =
     let b = abs_of (z -ℤ x) (omega (arith, ints)) in
     omega (arith, ints)
 
--- ---- where the place is
+-- ---- where the power is
 
 module _ (up down m x y : ℤ) (is_up : pos 0 ≤ℤ up) (is_down : pos 0 ≤ℤ down) (near : y ≡ nearest up down m x) where
   pub falling_at : y <ℤ m → x ≡ y +ℤ (pos 0 -ℤ down)

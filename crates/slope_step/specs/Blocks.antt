@@ -17,7 +17,7 @@ width_to bs zero = pos 0
 width_to [] (suc j) = pos 0
 width_to (b ∷ bs) (suc j) = b.width +ℤ width_to bs j
 
--- the place is in the block, from its start on, and the block ends there and has that price
+-- the power is in the block, from its start on, and the block ends there and has that price
 pub record IsInBlock (c : Curve) (at : ℤ) (span : Span) : Type 0 where
   pub inside : span.index < length c.blocks.items
   pub begun : (c.at +ℤ width_to c.blocks.items span.index) ≤ℤ at
@@ -28,6 +28,6 @@ pub record IsInBlock (c : Curve) (at : ℤ) (span : Span) : Type 0 where
 abbrev pub IsPrice : ℤ → Type 0
 IsPrice z = IsFrom (neg_ℤ (pos 20000000000000)) (pos 20000000000000) z
 
--- the curve has a cost at each place from a to b
+-- the curve has a cost at each power from a to b
 abbrev pub HasCosts : Curve → ℤ → ℤ → Type 0
 HasCosts c a b = (x : ℤ) → a ≤ℤ x → x ≤ℤ b → (v : ℤ) × (curve_value c x ≡ Some v) × IsCost v

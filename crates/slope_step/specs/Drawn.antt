@@ -13,7 +13,7 @@ use Rattle.slope_step.specs.Pieces.{end_at, Stand, table_of, AreSlopes}
 use Rattle.slope_step.specs.Kink.{AreWithin}
 use Rattle.slope_step.specs.Window.{moved}
 
--- what the curve costs at a place
+-- what the curve costs at a power
 abbrev pub cost_at : Curve → ℤ → ℤ
 cost_at c x = unwrap_or (curve_value c x) (pos 0)
 
@@ -34,7 +34,7 @@ pub record IsDrawn (h : ℤ → ℤ) (lo : ℤ) (out : List Piece) (pen : Pen) :
   pub pieces : Stand h lo out pen.used
   pub meets : end_at lo out pen.used ≡ pen.at
 
--- the function that a step has made, or one with no place
+-- the function that a step has made, or one on an empty interval
 abbrev pub table_after : List Piece → Option Made → Table
 table_after out None = record { lo = pos 0; values = [] }
 table_after out (Some d) = table_of d.start (take d.used out)

@@ -10,8 +10,8 @@ use Rattle.shape_law.specs.Curve.{reserve_term}
 use Rattle.shape_law.specs.Table.{IsPlace, IsAmount}
 use Rattle.slope_step.specs.declared.piece.Piece.{Piece}
 use Rattle.slope_step.specs.declared.piece.Start.{Start}
-use Rattle.slope_step.specs.declared.kink.Place.{Place}
-use Rattle.slope_step.specs.Pieces.{piece, end_at, last_place, function_of}
+use Rattle.slope_step.specs.declared.kink.Cursor.{Cursor}
+use Rattle.slope_step.specs.Pieces.{piece, end_at, last_power, function_of}
 
 -- the value less the worth of the best reserve
 abbrev pub kinked : Start → List Piece → Step → ℤ → ℤ
@@ -21,25 +21,25 @@ kinked start ps s x = function_of start ps x +ℤ reserve_term s.reserve_price s
 abbrev pub bend_of : Step → ℤ
 bend_of s = s.cap -ℤ s.ramp_up
 
--- the index is that of the piece which goes on at the place, or past the last piece at the last
--- place
-pub record IsPlaced (first : ℤ) (ps : List Piece) (place : Place) : Type 0 where
-  pub some : place.next ≤ length ps
-  pub from : end_at first ps place.next ≤ℤ place.at
-  pub to : place.next < length ps → place.at <ℤ end_at first ps (suc place.next)
-  pub last : place.next ≡ length ps → place.at ≡ last_place first ps
+-- the index is that of the piece which goes on at the power, or past the last piece at the last
+-- power
+pub record IsPlaced (first : ℤ) (ps : List Piece) (cursor : Cursor) : Type 0 where
+  pub some : cursor.next ≤ length ps
+  pub from : end_at first ps cursor.next ≤ℤ cursor.at
+  pub to : cursor.next < length ps → cursor.at <ℤ end_at first ps (suc cursor.next)
+  pub last : cursor.next ≡ length ps → cursor.at ≡ last_power first ps
 
--- q is what is left of piece p from a place on: up to the bend it is lower by the price
+-- q is what is left of piece p from a power on: up to the bend it is lower by the price
 pub record IsLowered (s : Step) (at : ℤ) (p q : Piece) : Type 0 where
   pub below : pos 0 <ℤ s.reserve_price → at <ℤ bend_of s → (q.end ≡ int_min p.end (bend_of s))
       × (q.slope ≡ p.slope -ℤ s.reserve_price)
   pub above : bend_of s ≤ℤ at → (q.end ≡ p.end) × (q.slope ≡ p.slope)
   pub free : s.reserve_price ≤ℤ pos 0 → (q.end ≡ p.end) × (q.slope ≡ p.slope)
 
--- how many parts there are at most from a place on: one for each piece that is left, and one for
+-- how many parts there are at most from a power on: one for each piece that is left, and one for
 -- the bend
-abbrev pub parts_from : List Piece → Step → Place → ℕ
-parts_from ps s place = (length ps - place.next) + (if int_lt place.at (bend_of s) then 1 else 0)
+abbrev pub parts_from : List Piece → Step → Cursor → ℕ
+parts_from ps s cursor = (length ps - cursor.next) + (if int_lt cursor.at (bend_of s) then 1 else 0)
 
 -- a slope of values that are within the limits
 abbrev pub IsGentle : ℤ → Type 0
@@ -48,17 +48,17 @@ IsGentle slope = IsFrom (neg_ℤ (pos 1000000000000000000)) (pos 100000000000000
 abbrev pub AreGentle : List Piece → Type 0
 AreGentle ps = (k : ℕ) → k < length ps → IsGentle (piece ps k).slope
 
--- places are outputs of a unit, and values far within the limits
+-- powers are outputs of a unit, and values far within the limits
 abbrev pub AreSmall : Start → List Piece → Type 0
 AreSmall start ps =
-    (x : ℤ) → start.first ≤ℤ x → x ≤ℤ last_place start.first ps
+    (x : ℤ) → start.first ≤ℤ x → x ≤ℤ last_power start.first ps
     → IsOutput x × IsFrom (neg_ℤ SPELL_LIMIT) SPELL_LIMIT
     (function_of start ps x)
 
--- places and values are within the limits
+-- powers and values are within the limits
 abbrev pub AreWithin : Start → List Piece → Type 0
 AreWithin start ps =
-    (x : ℤ) → start.first ≤ℤ x → x ≤ℤ last_place start.first ps → IsPlace x
+    (x : ℤ) → start.first ≤ℤ x → x ≤ℤ last_power start.first ps → IsPlace x
     × IsAmount (function_of start ps x)
 
 -- and less a price

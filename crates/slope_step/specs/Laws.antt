@@ -2,10 +2,10 @@
 use Rattle.std.specs.Prelude.{List}
 use Rattle.slope_step.specs.declared.piece.Piece.{Piece}
 use Rattle.slope_step.specs.declared.piece.Start.{Start}
-use Rattle.slope_step.specs.Pieces.{last_place, table_of, AreSlopes}
+use Rattle.slope_step.specs.Pieces.{last_power, table_of, AreSlopes}
 use Rattle.slope_step.specs.Turn.{IsFirst, IsLast}
 
--- their function begins at their first place, with the level there
+-- their function begins at their first power, with the level there
 abbrev pub PiecesBegin : Type 0
 PiecesBegin =
     (start : Start) (ps : List Piece) → AreSlopes start.first ps →
@@ -15,4 +15,4 @@ PiecesBegin =
 abbrev pub PiecesEnd : Type 0
 PiecesEnd =
     (start : Start) (ps : List Piece) → AreSlopes start.first ps →
-    IsLast (table_of start ps) (last_place start.first ps)
+    IsLast (table_of start ps) (last_power start.first ps)

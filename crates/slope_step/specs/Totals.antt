@@ -7,9 +7,9 @@ use Rattle.shape_law.specs.Table.{IsPlace}
 abbrev pub IsTotal : ℤ → Type 0
 IsTotal z = IsFrom (neg_ℤ (pos 8000000000000000000)) (pos 8000000000000000000) z
 
--- a level may go along a slope from one place to another
+-- a level may go along a slope from one power to another
 pub record CanGo (level slope from to : ℤ) : Type 0 where
-  pub from_place : IsPlace from
-  pub to_place : IsPlace to
+  pub from_power : IsPlace from
+  pub to_power : IsPlace to
   pub product : IsTotal (slope *ℤ (to -ℤ from))
   pub sum : IsTotal (level +ℤ slope *ℤ (to -ℤ from))

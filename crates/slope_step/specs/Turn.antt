@@ -4,7 +4,7 @@ use Rattle.shape_law.specs.declared.step.Step.{Step}
 use Rattle.shape_law.specs.Steps.{IsKinked}
 use Rattle.shape_law.specs.Table.{Table, value_of}
 
--- f falls up to its place x, and doesn't fall after it: x is the least place of the least value
+-- f falls up to its power x, and doesn't fall after it: x is the least power of the least value
 pub record IsBottom (f : Table) (x : ℤ) : Type 0 where
   pub value : ℤ
   pub there : value_of f x ≡ Some value
@@ -13,16 +13,16 @@ pub record IsBottom (f : Table) (x : ℤ) : Type 0 where
   pub rises : (y z v w : ℤ) → value_of f y ≡ Some v → value_of f z ≡ Some w → x ≤ℤ y → y ≤ℤ z →
       v ≤ℤ w
 
--- x is the least place of the least value of f less the worth of the best reserve, which is convex
+-- x is the least power of the least value of f less the worth of the best reserve, which is convex
 abbrev pub IsTurn : Step → Table → ℤ → Type 0
 IsTurn s f x = (kinked : Table) × IsKinked s f kinked × IsBottom kinked x
 
--- x is the first place of f, and v is the value there
+-- x is the first power of f, and v is the value there
 pub record IsFirst (f : Table) (x v : ℤ) : Type 0 where
   pub there : value_of f x ≡ Some v
   pub first : (y w : ℤ) → value_of f y ≡ Some w → x ≤ℤ y
 
--- x is the last place of f
+-- x is the last power of f
 pub record IsLast (f : Table) (x : ℤ) : Type 0 where
   pub value : ℤ
   pub there : value_of f x ≡ Some value

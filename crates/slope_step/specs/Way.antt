@@ -8,21 +8,21 @@ use Rattle.slope_step.specs.declared.piece.Piece.{Piece}
 use Rattle.slope_step.specs.declared.run.Run.{Run}
 use Rattle.slope_step.specs.declared.window.Window.{Window}
 use Rattle.slope_step.specs.declared.way.Way.{Way}
-use Rattle.slope_step.specs.Pieces.{last_place, function_of, IsLine}
+use Rattle.slope_step.specs.Pieces.{last_power, function_of, IsLine}
 use Rattle.slope_step.specs.Kink.{IsPlaced, IsSteep}
 use Rattle.slope_step.specs.Window.{nearest, runs_from}
 use Rattle.slope_step.specs.Blocks.{IsInBlock}
 use Rattle.slope_step.specs.Drawn.{paid, stepped, IsDrawn}
 
--- the place before the step is the one in reach that is nearest to the turn
+-- the power before the step is the one in reach that is nearest to the turn
 abbrev pub IsNear : Window → ℤ → ℤ → Type 0
 IsNear w y x = y ≡ nearest w.step.ramp_up w.step.ramp_down w.turn x
 
--- from a place on, lines of the function before the step are lines of the one after it, without the
+-- from a power on, lines of the function before the step are lines of the one after it, without the
 -- curve's cost, moved and with a slope added
 pub record IsRun (w : Window) (from : ℤ) (run : Run) : Type 0 where
   pub rise : from <ℤ run.until
-  pub last : run.until ≤ℤ last_place w.start.first w.pieces.now
+  pub last : run.until ≤ℤ last_power w.start.first w.pieces.now
   pub high : (run.until +ℤ run.shift) ≤ℤ w.high
   pub near : IsNear w run.until (run.until +ℤ run.shift)
   pub shift : IsFrom (neg_ℤ POWER_LIMIT) POWER_LIMIT run.shift
@@ -35,16 +35,16 @@ pub record IsRun (w : Window) (from : ℤ) (run : Run) : Type 0 where
       runs_from w.step w.turn run.until (run.until +ℤ run.shift) + 1
       ≤ runs_from w.step w.turn from (from +ℤ run.shift)
 
--- the way went on from one place to a later one, and what lies between them is written
+-- the way went on from one power to a later one, and what lies between them is written
 pub record IsFurther (w : Window) (c : Curve) (old new : List Piece) (from to : Way) : Type 0 where
   pub drawn : (lo : ℤ) → IsDrawn (stepped w.start w.pieces.now w.step w.turn c) lo old from.pen
       → IsDrawn (stepped w.start w.pieces.now w.step w.turn c) lo new to.pen
-  pub placed : IsPlaced w.start.first w.pieces.now to.place
-  pub near : to.pen.at <ℤ w.high → IsNear w to.place.at to.pen.at
+  pub placed : IsPlaced w.start.first w.pieces.now to.cursor
+  pub near : to.pen.at <ℤ w.high → IsNear w to.cursor.at to.pen.at
   pub rise : from.pen.at <ℤ to.pen.at
   pub high : to.pen.at ≤ℤ w.high
   pub block : IsInBlock c to.pen.at to.pen.span
-  pub used : to.pen.used + from.pen.span.index + from.place.next
-      ≤ from.pen.used + to.pen.span.index + to.place.next + 1
-  pub fewer : to.pen.at <ℤ w.high → runs_from w.step w.turn to.place.at to.pen.at + 1
-      ≤ runs_from w.step w.turn from.place.at from.pen.at
+  pub used : to.pen.used + from.pen.span.index + from.cursor.next
+      ≤ from.pen.used + to.pen.span.index + to.cursor.next + 1
+  pub fewer : to.pen.at <ℤ w.high → runs_from w.step w.turn to.cursor.at to.pen.at + 1
+      ≤ runs_from w.step w.turn from.cursor.at from.pen.at

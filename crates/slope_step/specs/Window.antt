@@ -6,14 +6,14 @@ use Rattle.shape_law.specs.declared.step.Step.{Step}
 use Rattle.shape_law.specs.Steps.{IsFairStep}
 use Rattle.slope_step.specs.declared.piece.Piece.{Piece}
 use Rattle.slope_step.specs.declared.piece.Start.{Start}
-use Rattle.slope_step.specs.Pieces.{last_place, AreSlopes}
+use Rattle.slope_step.specs.Pieces.{last_power, AreSlopes}
 use Rattle.slope_step.specs.Kink.{kinked, bend_of, AreSmall, AreGentle, IsValley}
 
--- the place in reach of x that is nearest to m
+-- the power in reach of x that is nearest to m
 abbrev pub nearest : ℤ → ℤ → ℤ → ℤ → ℤ
 nearest up down m x = int_max (x -ℤ up) (int_min (x +ℤ down) m)
 
--- the least value in reach of x, where m is the least place of the least value
+-- the least value in reach of x, where m is the least power of the least value
 abbrev pub moved : Start → List Piece → Step → ℤ → ℤ → ℤ
 moved start ps s m x = kinked start ps s (nearest s.ramp_up s.ramp_down m x)
 
@@ -23,15 +23,15 @@ pub record IsWindow (ps : List Piece) (start : Start) (s : Step) (m hi : ℤ) : 
   pub small : AreSmall start ps
   pub gentle : AreGentle ps
   pub fair : IsFairStep s
-  pub valley : IsValley (kinked start ps s) start.first (last_place start.first ps) m
-  pub high : hi ≤ℤ (last_place start.first ps +ℤ s.ramp_up)
+  pub valley : IsValley (kinked start ps s) start.first (last_power start.first ps) m
+  pub high : hi ≤ℤ (last_power start.first ps +ℤ s.ramp_up)
 
--- one up to a place, and none from there on
+-- one up to a power, and none from there on
 abbrev pub one_before : ℤ → ℤ → ℕ
 one_before m x = if int_lt x m then 1 else 0
 
 -- how many runs and flat parts there are at most from x on, but for the last run, where y is the
--- place in reach of x that is nearest to m
+-- power in reach of x that is nearest to m
 abbrev pub runs_from : Step → ℤ → ℤ → ℤ → ℕ
 runs_from s m y x = one_before (bend_of s) y + one_before m y + one_before (y +ℤ s.ramp_up) x
 

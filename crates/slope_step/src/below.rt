@@ -2,14 +2,14 @@
 ghost use Rattle.std.specs.Prelude.{◌≡◌, suc, ◌<◌, ◌≤◌, ◌+ℤ◌, ◌≤ℤ◌, ◌<ℤ◌, IsFalse, length};
 ghost use Rattle.std.specs.Bool.{OnTrue};
 ghost use Rattle.shape_law.specs.Table.{IsAmount};
-ghost use Rattle.slope_step.specs.Pieces.{piece, last_place, function_of, table_of, AreSlopes};
+ghost use Rattle.slope_step.specs.Pieces.{piece, last_power, function_of, table_of, AreSlopes};
 ghost use Rattle.slope_step.specs.Pieces.{IsLine};
 ghost use Rattle.slope_step.specs.Kink.{AreWithin};
 ghost use Rattle.slope_step.specs.Below.{IsReached, IsNowhereAbove, IsShift};
 
 use crate::kink::{Reached, seek};
 use crate::piece::{Piece, Start, along};
-use crate::read::last_place;
+use crate::read::last_power;
 
 /// Whether a value with the shift is above another one.
 fn is_over(value: i64, shift: i64, other: i64) -> bool
@@ -20,7 +20,7 @@ fn is_over(value: i64, shift: i64, other: i64) -> bool
     value + shift > other
 }
 
-/// Goes on to another place of the same piece.
+/// Goes on to another power of the same piece.
 fn go_on(pieces: &[Piece], start: Start, at: i64, from: Reached, end: i64) -> Reached
     requires slopes { AreSlopes start.first pieces.now }
     requires within { AreWithin start pieces.now }
@@ -48,10 +48,10 @@ fn go_on(pieces: &[Piece], start: Start, at: i64, from: Reached, end: i64) -> Re
 /// Whether a function is wherever another one is.
 fn covers(pieces: &[Piece], start: Start, others: &[Piece], other: Start) -> bool
     ensures first { OnTrue result (start.first ≤ℤ other.first) }
-    ensures last { OnTrue result (last_place other.first others.now
-        ≤ℤ last_place start.first pieces.now) }
+    ensures last { OnTrue result (last_power other.first others.now
+        ≤ℤ last_power start.first pieces.now) }
 {
-    start.first <= other.first && last_place(others, other.first) <= last_place(pieces, start.first)
+    start.first <= other.first && last_power(others, other.first) <= last_power(pieces, start.first)
 }
 
 /// Whether a function is wherever another one is, and with the shift is nowhere above it there.

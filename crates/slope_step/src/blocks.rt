@@ -14,14 +14,14 @@ pub(crate) struct Span {
     pub price: i64,
 }
 
-/// The value at a place of the curve, and the block that goes on there.
+/// The value at a power of the curve, and the block that goes on there.
 #[derive(Clone, Copy)]
 pub(crate) struct Found {
     pub value: i64,
     pub span: Span,
 }
 
-/// Finds a place of the curve.
+/// Finds a power of the curve.
 pub(crate) fn find(curve: &Curve, at: i64) -> Found
     requires limited { IsLimitedCurve curve.now }
     requires from { curve.now.at ≤ℤ at }

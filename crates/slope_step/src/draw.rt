@@ -11,7 +11,8 @@ use crate::blocks::Span;
 use crate::piece::Piece;
 use uc_model::units::Curve;
 
-/// Where the next piece goes: its place and index, and the block of the curve that goes on there.
+/// Where the next piece goes: its first power, its index, and the block of the curve that goes on
+/// there.
 #[derive(Clone, Copy)]
 pub(crate) struct Pen {
     pub at: i64,
@@ -19,7 +20,7 @@ pub(crate) struct Pen {
     pub span: Span,
 }
 
-/// Writes a piece up to a place in the pen's block.
+/// Writes a piece up to a power in the pen's block.
 fn write(slope: i64, end: i64, pen: Pen, out: &mut [Piece]) -> Pen
     requires total { IsTotal slope }
     requires price { IsPrice pen.span.price }
@@ -88,7 +89,7 @@ fn end_block(curve: &Curve, slope: i64, pen: Pen, out: &mut [Piece]) -> Pen
     next_block(curve, pen)
 }
 
-/// Writes the pieces of a part of one slope and the curve, up to a place.
+/// Writes the pieces of a part of one slope and the curve, up to a power.
 pub(crate) fn put(curve: &Curve, slope: i64, end: i64, from: Pen, out: &mut [Piece]) -> Pen
     requires limited { IsLimitedCurve curve.now }
     requires rise { from.at <ℤ end }

@@ -2,29 +2,29 @@
 ghost use Rattle.std.specs.Prelude.{◌≡◌, ℕ, ℤ, ◌+◌, ◌<◌, ◌≤◌, pos, negsuc, ◌+ℤ◌, ◌-ℤ◌, ◌≤ℤ◌};
 ghost use Rattle.std.specs.Prelude.{◌<ℤ◌, length};
 ghost use Rattle.shape_law.specs.Steps.{IsFairStep};
-ghost use Rattle.slope_step.specs.Pieces.{piece, last_place, function_of, AreSlopes, IsLine};
+ghost use Rattle.slope_step.specs.Pieces.{piece, last_power, function_of, AreSlopes, IsLine};
 ghost use Rattle.slope_step.specs.Kink.{kinked, bend_of, parts_from, IsPlaced, IsLowered};
 ghost use Rattle.slope_step.specs.Kink.{AreWithin, IsGentle, AreGentle, IsSteep, IsValley};
 
 use crate::piece::{Piece, Start, along, end_at};
 use shape_law::step::Step;
 
-/// A place of the function, and the index of the piece that goes on there.
+/// A power of the function, and the index of the piece that goes on there.
 #[derive(Clone, Copy)]
-pub(crate) struct Place {
+pub(crate) struct Cursor {
     pub at: i64,
     pub next: usize,
 }
 
-/// A part of one slope, and the place where it ends.
+/// A part of one slope, and the power where it ends.
 #[derive(Clone, Copy)]
 pub(crate) struct Part {
     pub end: i64,
     pub slope: i64,
-    pub then: Place,
+    pub then: Cursor,
 }
 
-/// Where the reserve meets its cap, or before all places where reserve isn't paid for.
+/// Where the reserve meets its cap, or before all powers where reserve isn't paid for.
 fn bend_for(step: Step) -> i64
     requires fair { IsFairStep step }
     ensures paid { pos 0 <ℤ step.reserve_price → result ≡ bend_of step }
@@ -36,14 +36,14 @@ fn bend_for(step: Step) -> i64
     step.cap - step.ramp_up
 }
 
-/// What is left of a piece from a place on, after the worth of the reserve is taken off.
-pub(crate) fn lowered(piece: Piece, place: Place, step: Step) -> Piece
+/// What is left of a piece from a power on, after the worth of the reserve is taken off.
+pub(crate) fn lowered(piece: Piece, cursor: Cursor, step: Step) -> Piece
     requires fair { IsFairStep step }
     requires gentle { IsGentle piece.slope }
-    ensures { IsLowered step place.at piece result }
+    ensures { IsLowered step cursor.at piece result }
 {
     let bend = bend_for(step);
-    if place.at >= bend {
+    if cursor.at >= bend {
         return piece;
     }
     Piece {
@@ -52,88 +52,88 @@ pub(crate) fn lowered(piece: Piece, place: Place, step: Step) -> Piece
     }
 }
 
-/// The part from a place on, after the worth of the reserve is taken off.
-pub(crate) fn part_at(pieces: &[Piece], place: Place, step: Step) -> Part
-    requires next { place.next < length pieces.now }
-    requires to { place.at <ℤ (piece pieces.now place.next).end }
+/// The part from a power on, after the worth of the reserve is taken off.
+pub(crate) fn part_at(pieces: &[Piece], cursor: Cursor, step: Step) -> Part
+    requires next { cursor.next < length pieces.now }
+    requires to { cursor.at <ℤ (piece pieces.now cursor.next).end }
     requires fair { IsFairStep step }
     requires gentle { AreGentle pieces.now }
     ensures line { (start : Start) → AreSlopes start.first pieces.now
-        → IsPlaced start.first pieces.now place
-        → IsLine (kinked start pieces.now step) place.at result.end result.slope }
-    ensures placed { (first : ℤ) → AreSlopes first pieces.now → IsPlaced first pieces.now place
+        → IsPlaced start.first pieces.now cursor
+        → IsLine (kinked start pieces.now step) cursor.at result.end result.slope }
+    ensures placed { (first : ℤ) → AreSlopes first pieces.now → IsPlaced first pieces.now cursor
         → IsPlaced first pieces.now result.then }
     ensures then { result.then.at ≡ result.end }
-    ensures later { place.next ≤ result.then.next }
-    ensures fewer { parts_from pieces.now step result.then + 1 ≤ parts_from pieces.now step place }
+    ensures later { cursor.next ≤ result.then.next }
+    ensures fewer { parts_from pieces.now step result.then + 1 ≤ parts_from pieces.now step cursor }
     ensures steep { IsSteep result.slope }
 {
-    let whole = pieces[place.next];
-    let piece = lowered(whole, place, step);
+    let whole = pieces[cursor.next];
+    let piece = lowered(whole, cursor, step);
     let next = if piece.end < whole.end {
-        place.next
+        cursor.next
     } else {
-        place.next + 1
+        cursor.next + 1
     };
     Part {
         end: piece.end,
         slope: piece.slope,
-        then: Place {
+        then: Cursor {
             at: piece.end,
             next,
         },
     }
 }
 
-/// The place from which the function doesn't fall, with the index of the piece that goes on there.
-pub(crate) fn fall(pieces: &[Piece], start: Start) -> Place
+/// The power from which the function doesn't fall, with the index of the piece that goes on there.
+pub(crate) fn fall(pieces: &[Piece], start: Start) -> Cursor
     requires slopes { AreSlopes start.first pieces.now }
     ensures placed { IsPlaced start.first pieces.now result }
     ensures valley { IsValley (function_of start pieces.now) start.first
-        (last_place start.first pieces.now) result.at }
+        (last_power start.first pieces.now) result.at }
 {
     let mut next = 0;
     while next < pieces.len() && pieces[next].slope < 0 {
         next += 1;
     }
-    Place {
+    Cursor {
         at: end_at(pieces, start.first, next),
         next,
     }
 }
 
-/// The least place of the least value, less the worth of the best reserve. Where the function
+/// The least power of the least value, less the worth of the best reserve. Where the function
 /// itself falls, it falls all the more less that worth, so the parts before that are passed by.
 pub(crate) fn turn(pieces: &[Piece], start: Start, step: Step) -> i64
     requires slopes { AreSlopes start.first pieces.now }
     requires fair { IsFairStep step }
     requires gentle { AreGentle pieces.now }
     ensures { IsValley (kinked start pieces.now step) start.first
-        (last_place start.first pieces.now) result }
+        (last_power start.first pieces.now) result }
 {
-    let mut place = fall(pieces, start);
-    while place.next < pieces.len() {
-        let part = part_at(pieces, place, step);
+    let mut cursor = fall(pieces, start);
+    while cursor.next < pieces.len() {
+        let part = part_at(pieces, cursor, step);
         if part.slope >= 0 {
-            return place.at;
+            return cursor.at;
         }
-        place = part.then;
+        cursor = part.then;
     }
-    place.at
+    cursor.at
 }
 
-/// The index of the piece that goes on at a place, and the value there.
+/// The index of the piece that goes on at a power, and the value there.
 #[derive(Clone, Copy)]
 pub(crate) struct Reached {
     pub next: usize,
     pub value: i64,
 }
 
-/// Finds a place of the interval.
+/// Finds a power of the interval.
 pub(crate) fn seek(pieces: &[Piece], start: Start, at: i64) -> Reached
     requires slopes { AreSlopes start.first pieces.now }
     requires from { start.first ≤ℤ at }
-    requires to { at ≤ℤ last_place start.first pieces.now }
+    requires to { at ≤ℤ last_power start.first pieces.now }
     requires within { AreWithin start pieces.now }
     ensures value { result.value ≡ function_of start pieces.now at }
     ensures placed { IsPlaced start.first pieces.now (record { at = at; next = result.next }) }

@@ -3,7 +3,7 @@ ghost use Rattle.std.specs.Prelude.{◌≡◌, ◌≤◌, ◌+ℤ◌, ◌-ℤ◌
 ghost use Rattle.slope_step.specs.Pieces.{end_at};
 ghost use Rattle.slope_step.specs.Totals.{CanGo};
 
-/// A part of one slope: it begins where the piece before it ends, or at the first place.
+/// A part of one slope: it begins where the piece before it ends, or at the first power.
 #[derive(Clone, Copy)]
 pub struct Piece {
     /// Where it ends, in kilowatts.
@@ -15,13 +15,13 @@ pub struct Piece {
 /// Where a function begins.
 #[derive(Clone, Copy)]
 pub struct Start {
-    /// Its first place, in kilowatts.
+    /// Its first power, in kilowatts.
     pub first: i64,
     /// Its value there, in millionths of the currency.
     pub level: i64,
 }
 
-/// The level at a place, where it was known at another place of the same piece.
+/// The level at a power, where it was known at another power of the same piece.
 pub(crate) fn along(level: i64, piece: Piece, from: i64, to: i64) -> i64
     requires { CanGo level piece.slope from to }
     ensures { result ≡ level +ℤ piece.slope *ℤ (to -ℤ from) }

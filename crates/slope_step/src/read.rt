@@ -4,22 +4,22 @@ ghost use Rattle.std.specs.Bool.{OnTrue};
 ghost use Rattle.shape_law.specs.Effect.{IsLeast, IsLeastIn};
 ghost use Rattle.shape_law.specs.Table.{HasNone, IsAmount};
 ghost use Rattle.slope_step.specs.Below.{IsAbove, IsShift};
-ghost use Rattle.slope_step.specs.Pieces.{last_place, function_of, table_of, AreSlopes};
+ghost use Rattle.slope_step.specs.Pieces.{last_power, function_of, table_of, AreSlopes};
 ghost use Rattle.slope_step.specs.Kink.{AreWithin};
 
 use crate::kink::{fall, seek};
 use crate::piece::{Piece, Start, along, end_at};
 
-/// A place and the value there.
+/// A power and the value there.
 #[derive(Clone, Copy)]
 pub struct Spot {
     pub at: i64,
     pub value: i64,
 }
 
-/// The last place of pieces that begin at a first place.
-pub fn last_place(pieces: &[Piece], first: i64) -> i64
-    ensures { result ≡ last_place first pieces.now }
+/// The last power of pieces that begin at a first power.
+pub fn last_power(pieces: &[Piece], first: i64) -> i64
+    ensures { result ≡ last_power first pieces.now }
 {
     end_at(pieces, first, pieces.len())
 }
@@ -33,7 +33,7 @@ fn exceeds(value: i64, shift: i64, limit: i64) -> bool
     value + shift > limit
 }
 
-/// Whether the function with the shift is above a limit at each place. It falls at first, so only
+/// Whether the function with the shift is above a limit at each power. It falls at first, so only
 /// its falling pieces are looked at, and only as long as they are above.
 pub fn is_above(pieces: &[Piece], start: Start, shift: i64, limit: i64) -> bool
     requires slopes { AreSlopes start.first pieces.now }
@@ -56,11 +56,11 @@ pub fn is_above(pieces: &[Piece], start: Start, shift: i64, limit: i64) -> bool
     exceeds(value, shift, limit)
 }
 
-/// The value at a place of the interval.
+/// The value at a power of the interval.
 fn spot_at(pieces: &[Piece], start: Start, at: i64) -> Spot
     requires slopes { AreSlopes start.first pieces.now }
     requires from { start.first ≤ℤ at }
-    requires to { at ≤ℤ last_place start.first pieces.now }
+    requires to { at ≤ℤ last_power start.first pieces.now }
     requires within { AreWithin start pieces.now }
     ensures at { result.at ≡ at }
     ensures value { result.value ≡ function_of start pieces.now at }
@@ -72,7 +72,7 @@ fn spot_at(pieces: &[Piece], start: Start, at: i64) -> Spot
     }
 }
 
-/// The least value, at its least place.
+/// The least value, at its least power.
 pub fn least(pieces: &[Piece], start: Start) -> Spot
     requires slopes { AreSlopes start.first pieces.now }
     requires within { AreWithin start pieces.now }
@@ -90,7 +90,7 @@ pub fn least(pieces: &[Piece], start: Start) -> Spot
     Spot { at, value }
 }
 
-/// The least value of the places from `lo` to `hi`, at its least place; None exactly where none of
+/// The least value of the powers from `lo` to `hi`, at its least power; None exactly where none of
 /// them is in the interval.
 pub fn least_in(pieces: &[Piece], start: Start, lo: i64, hi: i64) -> Option<Spot>
     requires slopes { AreSlopes start.first pieces.now }
@@ -99,7 +99,7 @@ pub fn least_in(pieces: &[Piece], start: Start, lo: i64, hi: i64) -> Option<Spot
         (λ r. IsLeastIn lo hi (table_of start pieces.now) r.value r.at) }
 {
     let low = lo.max(start.first);
-    let high = hi.min(last_place(pieces, start.first));
+    let high = hi.min(last_power(pieces, start.first));
     if low > high {
         return None;
     }

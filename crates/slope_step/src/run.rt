@@ -4,12 +4,12 @@ ghost use Rattle.shape_law.specs.Steps.{IsFairStep};
 ghost use Rattle.slope_step.specs.Kink.{IsPlaced, IsGentle, IsLowered};
 ghost use Rattle.slope_step.specs.Way.{IsRun};
 
-use crate::kink::{Place, lowered};
+use crate::kink::{Cursor, lowered};
 use crate::piece::Piece;
 use crate::window::Window;
 use shape_law::step::Step;
 
-/// Pieces that go into the function after a step alike, up to a place before it.
+/// Pieces that go into the function after a step alike, up to a power before it.
 #[derive(Clone, Copy)]
 pub(crate) struct Run {
     pub until: i64,
@@ -19,11 +19,11 @@ pub(crate) struct Run {
     pub slope: i64,
 }
 
-/// What is left of a run from a place on, after the worth of the reserve is taken off.
-fn bent(run: Run, place: Place, step: Step) -> Run
+/// What is left of a run from a power on, after the worth of the reserve is taken off.
+fn bent(run: Run, cursor: Cursor, step: Step) -> Run
     requires fair { IsFairStep step }
     requires gentle { IsGentle run.slope }
-    ensures lowered { IsLowered step place.at (record { end = run.until; slope = run.slope })
+    ensures lowered { IsLowered step cursor.at (record { end = run.until; slope = run.slope })
         (record { end = result.until; slope = result.slope }) }
     ensures shift { result.shift ≡ run.shift }
 {
@@ -31,7 +31,7 @@ fn bent(run: Run, place: Place, step: Step) -> Run
         end: run.until,
         slope: run.slope,
     };
-    let left = lowered(whole, place, step);
+    let left = lowered(whole, cursor, step);
     Run {
         until: left.end,
         shift: run.shift,
@@ -39,33 +39,33 @@ fn bent(run: Run, place: Place, step: Step) -> Run
     }
 }
 
-/// The falling or rising run from a place on: up to the turn, the bend or the last place that is
+/// The falling or rising run from a power on: up to the turn, the bend or the last power that is
 /// asked for.
-pub(crate) fn next_run(window: &Window<'_>, place: Place) -> Run
-    requires placed { IsPlaced window.now.start.first window.now.pieces.now place }
-    requires falls { place.at <ℤ window.now.turn
-        → place.at <ℤ (window.now.high +ℤ window.now.step.ramp_down) }
-    requires rises { window.now.turn ≤ℤ place.at
-        → (place.at +ℤ window.now.step.ramp_up) <ℤ window.now.high }
-    ensures run { IsRun window.now place.at result }
-    ensures down { place.at <ℤ window.now.turn
+pub(crate) fn next_run(window: &Window<'_>, cursor: Cursor) -> Run
+    requires placed { IsPlaced window.now.start.first window.now.pieces.now cursor }
+    requires falls { cursor.at <ℤ window.now.turn
+        → cursor.at <ℤ (window.now.high +ℤ window.now.step.ramp_down) }
+    requires rises { window.now.turn ≤ℤ cursor.at
+        → (cursor.at +ℤ window.now.step.ramp_up) <ℤ window.now.high }
+    ensures run { IsRun window.now cursor.at result }
+    ensures down { cursor.at <ℤ window.now.turn
         → result.shift ≡ neg_ℤ window.now.step.ramp_down }
-    ensures up { window.now.turn ≤ℤ place.at → result.shift ≡ window.now.step.ramp_up }
+    ensures up { window.now.turn ≤ℤ cursor.at → result.shift ≡ window.now.step.ramp_up }
 {
     let step = window.step;
-    if place.at < window.turn {
+    if cursor.at < window.turn {
         let last = window.high + step.ramp_down;
         let falling = Run {
             until: last.min(window.turn),
             shift: -step.ramp_down,
             slope: step.slope,
         };
-        return bent(falling, place, step);
+        return bent(falling, cursor, step);
     }
     let rising = Run {
         until: window.high - step.ramp_up,
         shift: step.ramp_up,
         slope: step.slope,
     };
-    bent(rising, place, step)
+    bent(rising, cursor, step)
 }

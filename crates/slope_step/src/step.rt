@@ -14,9 +14,9 @@ ghost use Rattle.slope_step.specs.Turn.{IsTurn};
 
 use crate::blocks::find;
 use crate::draw::Pen;
-use crate::kink::{Place, seek, turn};
+use crate::kink::{Cursor, seek, turn};
 use crate::piece::{Piece, Start};
-use crate::read::last_place;
+use crate::read::last_power;
 use crate::way::draw;
 use crate::window::Window;
 use shape_law::laws::{convexity_is_of_places, steps_keep_convexity};
@@ -33,23 +33,23 @@ pub struct Made {
 /// What a step answers.
 #[derive(Clone, Copy)]
 pub struct Stepped {
-    /// None means that no place is left.
+    /// None means that no power is left.
     pub made: Option<Made>,
-    /// The least place of the least value before the step, less the worth of the best reserve.
+    /// The least power of the least value before the step, less the worth of the best reserve.
     pub turn: i64,
 }
 
-/// Where the way through a step begins: the first place after it, and the place before it that is
+/// Where the way through a step begins: the first power after it, and the power before it that is
 /// nearest to the least value.
 #[derive(Clone, Copy)]
 pub(crate) struct Opening {
-    pub place: Place,
+    pub cursor: Cursor,
     pub pen: Pen,
     pub level: i64,
 }
 
-/// The value after a step at a place, where the value before it at the nearest place is known, and
-/// the cost of the place.
+/// The value after a step at a power, where the value before it at the nearest power is known, and
+/// the cost of the power.
 fn level_of(step: Step, value: i64, near: i64, at: i64, cost: i64) -> i64
     requires fair { IsFairStep step }
     requires value { IsFrom (neg_ℤ SPELL_LIMIT) SPELL_LIMIT value }
@@ -65,16 +65,16 @@ fn level_of(step: Step, value: i64, near: i64, at: i64, cost: i64) -> i64
     paid + cost
 }
 
-/// Finds the first place after a step, and the value there.
+/// Finds the first power after a step, and the value there.
 pub(crate) fn open(window: &Window<'_>, curve: &Curve, low: i64) -> Opening
     requires limited { IsLimitedCurve curve.now }
     requires from { window.now.start.first ≤ℤ (low +ℤ window.now.step.ramp_down) }
     requires to { low ≤ℤ window.now.high }
     requires at { IsOutput low }
     requires costs { HasCosts curve.now low window.now.high }
-    ensures near { result.place.at ≡ nearest window.now.step.ramp_up window.now.step.ramp_down
+    ensures near { result.cursor.at ≡ nearest window.now.step.ramp_up window.now.step.ramp_down
         window.now.turn low }
-    ensures placed { IsPlaced window.now.start.first window.now.pieces.now result.place }
+    ensures placed { IsPlaced window.now.start.first window.now.pieces.now result.cursor }
     ensures pen { (result.pen.at ≡ low) × (result.pen.used ≡ 0)
         × (result.pen.span.index ≤ length curve.now.blocks.items) }
     ensures block { low <ℤ window.now.high
@@ -87,7 +87,7 @@ pub(crate) fn open(window: &Window<'_>, curve: &Curve, low: i64) -> Opening
     let reached = seek(window.pieces, window.start, near);
     let found = find(curve, low);
     Opening {
-        place: Place {
+        cursor: Cursor {
             at: near,
             next: reached.next,
         },
@@ -125,7 +125,7 @@ pub fn slope_step(
     let low = step.least.max(start.first - step.ramp_down);
     let high = step
         .most
-        .min(last_place(pieces, start.first) + step.ramp_up);
+        .min(last_power(pieces, start.first) + step.ramp_up);
     let turn = turn(pieces, start, step);
     if low > high {
         return Stepped { made: None, turn };
@@ -140,7 +140,7 @@ pub fn slope_step(
         high,
     };
     let opening = open(&window, curve, low);
-    let used = draw(&window, curve, opening.place, opening.pen, out);
+    let used = draw(&window, curve, opening.cursor, opening.pen, out);
     Stepped {
         made: Some(Made {
             start: Start {

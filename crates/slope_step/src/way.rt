@@ -9,16 +9,16 @@ ghost use Rattle.slope_step.specs.Drawn.{with_cost, stepped, IsDrawn};
 ghost use Rattle.slope_step.specs.Way.{IsNear, IsRun, IsFurther};
 
 use crate::draw::{Pen, put};
-use crate::kink::Place;
+use crate::kink::Cursor;
 use crate::piece::Piece;
 use crate::run::{Run, next_run};
 use crate::window::{Window, is_flat, past_flat};
 use uc_model::units::Curve;
 
-/// Where a way through a step is: the place before the step, and the pen after it.
+/// Where a way through a step is: the cursor before the step, and the pen after it.
 #[derive(Clone, Copy)]
 pub(crate) struct Way {
-    pub place: Place,
+    pub cursor: Cursor,
     pub pen: Pen,
 }
 
@@ -28,7 +28,7 @@ fn put_piece(curve: &Curve, run: Run, piece: Piece, pen: Pen, out: &mut [Piece])
     requires rise { pen.at <ℤ (piece.end +ℤ run.shift) }
     requires block { IsInBlock curve.now pen.at pen.span }
     requires costs { HasCosts curve.now pen.at (piece.end +ℤ run.shift) }
-    requires place { IsPlace (piece.end +ℤ run.shift) }
+    requires power { IsPlace (piece.end +ℤ run.shift) }
     requires gentle { IsGentle piece.slope }
     requires steep { IsSteep run.slope }
     requires room { pen.used + length curve.now.blocks.items ≤ length out.old + pen.span.index }
@@ -54,35 +54,35 @@ fn draw_run(window: &Window<'_>, curve: &Curve, run: Run, from: Way, out: &mut [
     requires limited { IsLimitedCurve curve.now }
     requires costs { HasCosts curve.now from.pen.at window.now.high }
     requires block { IsInBlock curve.now from.pen.at from.pen.span }
-    requires placed { IsPlaced window.now.start.first window.now.pieces.now from.place }
-    requires run { IsRun window.now from.place.at run }
-    requires at { from.pen.at ≡ from.place.at +ℤ run.shift }
+    requires placed { IsPlaced window.now.start.first window.now.pieces.now from.cursor }
+    requires run { IsRun window.now from.cursor.at run }
+    requires at { from.pen.at ≡ from.cursor.at +ℤ run.shift }
     requires room { from.pen.used + length window.now.pieces.now + length curve.now.blocks.items
-        ≤ length out.old + from.pen.span.index + from.place.next }
+        ≤ length out.old + from.pen.span.index + from.cursor.next }
     ensures { IsFurther window.now curve.now out.old out.new from result }
 {
     let pieces = window.pieces;
-    let mut place = from.place;
+    let mut cursor = from.cursor;
     let mut pen = from.pen;
-    while place.next < pieces.len() && pieces[place.next].end <= run.until {
-        let piece = pieces[place.next];
+    while cursor.next < pieces.len() && pieces[cursor.next].end <= run.until {
+        let piece = pieces[cursor.next];
         pen = put_piece(curve, run, piece, pen, out);
-        place = Place {
+        cursor = Cursor {
             at: piece.end,
-            next: place.next + 1,
+            next: cursor.next + 1,
         };
     }
     if pen.at < run.until + run.shift {
         let rest = Piece {
             end: run.until,
-            slope: pieces[place.next].slope,
+            slope: pieces[cursor.next].slope,
         };
         pen = put_piece(curve, run, rest, pen, out);
     }
     Way {
-        place: Place {
+        cursor: Cursor {
             at: run.until,
-            next: place.next,
+            next: cursor.next,
         },
         pen,
     }
@@ -93,19 +93,19 @@ fn draw_flat(window: &Window<'_>, curve: &Curve, from: Way, out: &mut [Piece]) -
     requires limited { IsLimitedCurve curve.now }
     requires costs { HasCosts curve.now from.pen.at window.now.high }
     requires block { IsInBlock curve.now from.pen.at from.pen.span }
-    requires placed { IsPlaced window.now.start.first window.now.pieces.now from.place }
-    requires near { IsNear window.now from.place.at from.pen.at }
+    requires placed { IsPlaced window.now.start.first window.now.pieces.now from.cursor }
+    requires near { IsNear window.now from.cursor.at from.pen.at }
     requires high { from.pen.at <ℤ window.now.high }
-    requires turn { window.now.turn ≤ℤ from.place.at }
-    requires short { from.pen.at <ℤ (from.place.at +ℤ window.now.step.ramp_up) }
+    requires turn { window.now.turn ≤ℤ from.cursor.at }
+    requires short { from.pen.at <ℤ (from.cursor.at +ℤ window.now.step.ramp_up) }
     requires room { from.pen.used + length curve.now.blocks.items
         ≤ length out.old + from.pen.span.index }
     ensures { IsFurther window.now curve.now out.old out.new from result }
 {
-    let place = past_flat(window, from.place);
-    let end = (place.at + window.step.ramp_up).min(window.high);
+    let cursor = past_flat(window, from.cursor);
+    let end = (cursor.at + window.step.ramp_up).min(window.high);
     Way {
-        place,
+        cursor,
         pen: put(curve, window.step.slope, end, from.pen, out),
     }
 }
@@ -115,17 +115,17 @@ fn advance(window: &Window<'_>, curve: &Curve, way: Way, out: &mut [Piece]) -> W
     requires limited { IsLimitedCurve curve.now }
     requires costs { HasCosts curve.now way.pen.at window.now.high }
     requires block { IsInBlock curve.now way.pen.at way.pen.span }
-    requires placed { IsPlaced window.now.start.first window.now.pieces.now way.place }
-    requires near { IsNear window.now way.place.at way.pen.at }
+    requires placed { IsPlaced window.now.start.first window.now.pieces.now way.cursor }
+    requires near { IsNear window.now way.cursor.at way.pen.at }
     requires high { way.pen.at <ℤ window.now.high }
     requires room { way.pen.used + length window.now.pieces.now + length curve.now.blocks.items
-        ≤ length out.old + way.pen.span.index + way.place.next }
+        ≤ length out.old + way.pen.span.index + way.cursor.next }
     ensures { IsFurther window.now curve.now out.old out.new way result }
 {
-    if is_flat(window, way.place, way.pen.at) {
+    if is_flat(window, way.cursor, way.pen.at) {
         return draw_flat(window, curve, way, out);
     }
-    let run = next_run(window, way.place);
+    let run = next_run(window, way.cursor);
     draw_run(window, curve, run, way, out)
 }
 
@@ -133,7 +133,7 @@ fn advance(window: &Window<'_>, curve: &Curve, way: Way, out: &mut [Piece]) -> W
 pub(crate) fn draw(
     window: &Window<'_>,
     curve: &Curve,
-    near: Place,
+    near: Cursor,
     from: Pen,
     out: &mut [Piece],
 ) -> usize
@@ -152,7 +152,7 @@ pub(crate) fn draw(
     ensures used { result ≤ length window.now.pieces.now + length curve.now.blocks.items + 3 }
 {
     let mut way = Way {
-        place: near,
+        cursor: near,
         pen: from,
     };
     while way.pen.at < window.high {

@@ -2,7 +2,7 @@
 use Rattle.spell_run.proofs.Common.{◌≡◌, ℕ, ◌+◌, ◌≤◌, ℤ, pos, neg_ℤ, ◌+ℤ◌, ◌*ℤ◌, Option, Some, None, refl, ap, ◌∙◌, subst, arith, option_map, int_min, ints, clamps, zero-*ℤ, curve_value, reserve_term, IsSum, IsWindow, CanAddCurve, Table, value_of, CanAdd, Curve, IsFrom, IsOutput, IsWithin, product_within, Step, IsFairStep, IsCostOf, IsKinked, IsSmall}
 use Rattle.spell_run.proofs.SumLaws.{added}
 
--- places are outputs, and values at most n in magnitude
+-- powers are outputs, and values at most n in magnitude
 abbrev pub IsBounded : ℕ → Table → Type 0
 IsBounded n f = (x v : ℤ) → value_of f x ≡ Some v → IsOutput x × IsWithin n v
 

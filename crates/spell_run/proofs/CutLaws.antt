@@ -1,9 +1,9 @@
--- A function cut above a place, and a step before a stop that only cuts.
+-- A function cut above a power, and a step before a stop that only cuts.
 use Rattle.spell_run.proofs.Common.{◌≡◌, ℕ, zero, suc, ◌<◌, ◌≤◌, ◌⊎◌, inl, inr, ℤ, pos, negsuc, ◌+ℤ◌, ◌-ℤ◌, ◌*ℤ◌, ◌≤ℤ◌, ◌<ℤ◌, Bool, true, false, List, [], ◌∷◌, take, Option, Some, None, refl, sym, ap, ◌∙◌, subst, arith, slice_get, MatchOption, option_map, ints, by_lt_z, IsCostCurve, curve_value, reserve_term, IsLeast, IsLeastIn, IsSum, IsCurveSum, Table, value_of, offset_value, IsTurn, Curve, ThermalUnit, PriceLists, IsThermalUnit, int_at, cap_at, step_at, IsKinked, IsStepped}
-use Rattle.slope_step.specs.Pieces.{places_to}
+use Rattle.slope_step.specs.Pieces.{powers_to}
 use Rattle.spell_run.proofs.StepLaws.{under_cap, cap_over, under_most, step_sound}
 
--- ---- places of a table
+-- ---- powers of a table
 
 get_before : (xs : List ℤ) (j k : ℕ) (w : ℤ) → slice_get xs j ≡ Some w → k ≤ j → (v : ℤ) × (slice_get xs k ≡ Some v)
 get_before [] j k w h low = cc
@@ -17,14 +17,14 @@ between_by values (pos i) (pos j) (negsuc k) u w p q low high = absurd (omega (a
 between_by values (pos i) (negsuc j) z u w p q low high = cc
 between_by values (negsuc i) e z u w p q low high = cc
 
--- between two places of a function there are others
-pub between_places : (f : Table) (a b x u w : ℤ) → value_of f a ≡ Some u → value_of f b ≡ Some w → a ≤ℤ x → x ≤ℤ b → (v : ℤ) × (value_of f x ≡ Some v)
-between_places f a b x u w p q low high = between_by f.values (a -ℤ f.lo) (b -ℤ f.lo) (x -ℤ f.lo) u w p q (omega (arith, ints, low)) (omega (arith, ints, high))
+-- between two powers of a function there are others
+pub between_powers : (f : Table) (a b x u w : ℤ) → value_of f a ≡ Some u → value_of f b ≡ Some w → a ≤ℤ x → x ≤ℤ b → (v : ℤ) × (value_of f x ≡ Some v)
+between_powers f a b x u w p q low high = between_by f.values (a -ℤ f.lo) (b -ℤ f.lo) (x -ℤ f.lo) u w p q (omega (arith, ints, low)) (omega (arith, ints, high))
 
--- ---- the places up to one
+-- ---- the powers up to one
 
 pub cut : Table → ℤ → Table
-cut f hi = record { lo = f.lo; values = take (places_to (hi -ℤ f.lo)) f.values }
+cut f hi = record { lo = f.lo; values = take (powers_to (hi -ℤ f.lo)) f.values }
 
 take_inside : (n : ℕ) (xs : List ℤ) (k : ℕ) → k < n → slice_get (take n xs) k ≡ slice_get xs k
 take_inside zero xs k h = absurd (omega (arith, h))
@@ -38,12 +38,12 @@ take_past (suc n) [] k h = refl
 take_past (suc n) (x ∷ xs) zero h = absurd (omega (arith, h))
 take_past (suc n) (x ∷ xs) (suc k) h = take_past n xs k (omega (arith, h))
 
-inside_by : (values : List ℤ) (d e : ℤ) → d ≤ℤ e → offset_value (take (places_to e) values) d ≡ offset_value values d
+inside_by : (values : List ℤ) (d e : ℤ) → d ≤ℤ e → offset_value (take (powers_to e) values) d ≡ offset_value values d
 inside_by values (pos k) (pos m) h = take_inside (suc m) values k (omega (arith, ints, h))
 inside_by values (pos k) (negsuc m) h = absurd (omega (arith, ints, h))
 inside_by values (negsuc k) e h = refl
 
-past_by : (values : List ℤ) (d e : ℤ) → e <ℤ d → offset_value (take (places_to e) values) d ≡ None
+past_by : (values : List ℤ) (d e : ℤ) → e <ℤ d → offset_value (take (powers_to e) values) d ≡ None
 past_by values (pos k) (pos m) h = take_past (suc m) values k (omega (arith, ints, h))
 past_by values (pos k) (negsuc m) h = take_past 0 values k (omega arith)
 past_by values (negsuc k) e h = refl

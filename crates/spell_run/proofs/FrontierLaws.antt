@@ -25,7 +25,7 @@ small_frontier g π first t f few front x v h =
     let count : suc t - first ≤ 169 = omega (arith, few) in
     let a = b.at_least in
     let c = b.at_most in
-    (front.places x v h, record { at_least = omega (arith, ints, a, count); at_most = omega (arith, ints, c, count) })
+    (front.powers x v h, record { at_least = omega (arith, ints, a, count); at_most = omega (arith, ints, c, count) })
 
 -- ---- the beginning
 
@@ -46,7 +46,7 @@ module _ (g : ThermalUnit) (π : PriceLists) (first t : ℕ) (x : ℤ) (f : Tabl
           idle = λ k is free. blank_reserve (length π.energy) k;
         };
     complete = λ d run. (pos 0, ap (value_of f) (here d) ∙ point.there, let e = cost d in omega (arith, ints, e));
-    places = λ y v h. (let e = point.only y v h in subst IsOutput (sym e) out);
+    powers = λ y v h. (let e = point.only y v h in subst IsOutput (sym e) out);
     values = λ y v h.
         let e = point.only y v h in
         let z : v ≡ pos 0 = same_some (value_of f x) (ap (value_of f) (sym e) ∙ h) point.there in
@@ -180,8 +180,8 @@ module _ (g : ThermalUnit) (π : PriceLists) (first k : ℕ) (c : Curve) (unit :
         let least = s.2 in
         (s.0, ap (value_of h) (level_power g first d k from) ∙ s.1, omega (arith, ints, more, low, least))
 
-    more_places : (x v : ℤ) → value_of h x ≡ Some v → IsOutput x
-    more_places x v is =
+    more_powers : (x v : ℤ) → value_of h x ≡ Some v → IsOutput x
+    more_powers x v is =
         let m = moved x v is in
         let u = (under_cap g starts false (x +ℤ m.reserve) m.move.greatest).most in
         let low = m.move.least in
@@ -199,7 +199,7 @@ module _ (g : ThermalUnit) (π : PriceLists) (first k : ℕ) (c : Curve) (unit :
         subst (λ (z : ℤ). IsSpellWithin first (suc k) z) (sym m.cost) (within_more (suc k - first) (suc (suc k) - first) m.old (net_cost_at g π k x m.reserve) count old net)
 
     pub frontier_more : IsFrontier g π first (suc k) h
-    frontier_more = record { sound = more_sound; complete = more_complete; places = more_places; values = more_values }
+    frontier_more = record { sound = more_sound; complete = more_complete; powers = more_powers; values = more_values }
 
   -- ---- the costs of the spells that end with the period
 

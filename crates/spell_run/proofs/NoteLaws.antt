@@ -1,9 +1,9 @@
--- The way back by what the steps noted: the place nearest to the turn is the cheapest power before, and the periods that
+-- The way back by what the steps noted: the power nearest to the turn is the cheapest power before, and the periods that
 -- are written for it are a way on.
 use Rattle.spell_run.proofs.Common.{◌≡◌, ℕ, zero, suc, ◌-◌, ◌<◌, ◌≤◌, ltb, eqb, ◌⊎◌, inl, inr, ℤ, pos, ◌+ℤ◌, ◌-ℤ◌, ◌≤ℤ◌, ◌<ℤ◌, Bool, true, false, length, Some, refl, sym, ap, ◌∙◌, subst, arith, option_map, int_min, int_max, ints, clamps, by_lt_z, EnvelopeIsCost, reserve_term, IsPoint, IsLeast, IsLeastIn, Reaches, same_some, Table, value_of, Step, IsBottom, IsTurn, IsFirst, IsLast, ThermalUnit, PriceLists, Schedule, IsOutput, IsThermalUnit, ArePrices, int_at, Lowest, Note, IsSpellStart, IsOnFromTo, IsSameOutside, IsFrontier, IsWritten, IsChosen, IsWayFrom, best_reserve, IsNoted, IsEndNoted, IsSpellNoted, IsCheapest, spell_first, IsBestDispatch, IsFirstDispatch, spell_cost, cap_at, step_at, level, IsStepped}
 use Rattle.spell_run.specs.declared.way.Passed.{Passed}
 use Rattle.spell_run.proofs.ChoiceLaws.{stored, output_stored}
-use Rattle.spell_run.proofs.CutLaws.{between_places}
+use Rattle.spell_run.proofs.CutLaws.{between_powers}
 use Rattle.spell_run.proofs.FairLaws.{cap_out}
 use Rattle.spell_run.proofs.FrontierLaws.{frontier_more}
 use Rattle.spell_run.proofs.PeriodLaws.{on_last, on_more}
@@ -13,7 +13,7 @@ use Rattle.spell_run.proofs.SumLaws.{added}
 use Rattle.spell_run.proofs.TieLaws.{of_way}
 use Rattle.spell_run.proofs.WayLaws.{stops_before, stops_last, onward_end, onward_more, way_of_choice}
 
--- ---- the place nearest to the turn
+-- ---- the power nearest to the turn
 
 module _ (k : Table) (m a b va vb : ℤ) (bottom : IsBottom k m) (first : value_of k a ≡ Some va) (last : value_of k b ≡ Some vb)
     (from : (y w : ℤ) → value_of k y ≡ Some w → a ≤ℤ y) (to : (y w : ℤ) → value_of k y ≡ Some w → y ≤ℤ b)
@@ -32,7 +32,7 @@ module _ (k : Table) (m a b va vb : ℤ) (bottom : IsBottom k m) (first : value_
       omega (arith, ints, clamps, p, q, r, low, high)
 
   pub near_value : (v : ℤ) × (value_of k near ≡ Some v)
-  near_value = between_places k a b near va vb first last near_from near_to
+  near_value = between_powers k a b near va vb first last near_from near_to
 
   pub near_least : IsLeastIn lo hi k near_value.0 near
   near_least =
@@ -146,7 +146,7 @@ module _ (g : ThermalUnit) (π : PriceLists) (first k : ℕ) (unit : IsThermalUn
       before_out =
           let c = cheapest_noted in
           let u = added (reserve_term (int_at π.reserve k) (cap_at g starts stops) g.ramp_up) y c.value (value_of noted.before y) (value_of c.kinked y) (c.is_kinked y) c.least.there in
-          noted.frontier.places y u.0 u.1
+          noted.frontier.powers y u.0 u.1
 
       pub before_rise : (x -ℤ y) ≤ℤ s.ramp_up
       before_rise =
@@ -209,7 +209,7 @@ module _ (g : ThermalUnit) (π : PriceLists) (first k : ℕ) (unit : IsThermalUn
 
 module _ (g : ThermalUnit) (π : PriceLists) (first b : ℕ) (base : ℤ) (f : Table) (front : IsFrontier g π first b f) (none : (k : ℕ) → first ≤ suc k → suc k ≤ b → ⊥)
     (at : (d : Schedule) → level g first d b ≡ base) (free : (d : Schedule) → spell_cost g π first b d ≡ pos 0) (some : Schedule) where
-  -- before a spell its frontier is one place
+  -- before a spell its frontier is one power
   pub point_from_frontier : IsPoint base (pos 0) f
   point_from_frontier =
       let c = front.complete some (λ k from until. absurd (none k from until)) in
@@ -329,13 +329,13 @@ module _ (g : ThermalUnit) (π : PriceLists) (first k : ℕ) (stops : Bool) (n :
   turn_out =
       let t = noted.turn in
       let u = added (reserve_term (int_at π.reserve k) (cap_at g (eqb first (suc k)) stops) g.ramp_up) n.turn t.2.value (value_of noted.before n.turn) (value_of t.0 n.turn) (t.1 n.turn) t.2.there in
-      noted.frontier.places n.turn u.0 u.1
+      noted.frontier.powers n.turn u.0 u.1
 
   pub noted_stored : IsNoted g π first k stops (record { turn = stored n.turn; first = stored n.first; last = stored n.last }) after
   noted_stored =
       let a = output_stored n.turn turn_out in
-      let b = output_stored n.first (noted.frontier.places n.first noted.value noted.begins.there) in
-      let c = output_stored n.last (noted.frontier.places n.last noted.ends.value noted.ends.there) in
+      let b = output_stored n.first (noted.frontier.powers n.first noted.value noted.begins.there) in
+      let c = output_stored n.last (noted.frontier.powers n.last noted.ends.value noted.ends.there) in
       subst (λ (z : ℤ). IsNoted g π first k stops (record { turn = z; first = stored n.first; last = stored n.last }) after) (sym a)
       (subst (λ (z : ℤ). IsNoted g π first k stops (record { turn = n.turn; first = z; last = stored n.last }) after) (sym b)
       (subst (λ (z : ℤ). IsNoted g π first k stops (record { turn = n.turn; first = n.first; last = z }) after) (sym c) noted))

@@ -30,7 +30,7 @@ pub record IsFrontier (g : ThermalUnit) (π : PriceLists) (first t : ℕ) (f : T
   pub sound : (x v : ℤ) → value_of f x ≡ Some v → IsReached g π first t x v
   pub complete : (d : Schedule) → IsRun g first t d → (v : ℤ)
       × (value_of f (level g first d t) ≡ Some v) × (v ≤ℤ spell_cost g π first t d)
-  pub places : (x v : ℤ) → value_of f x ≡ Some v → IsOutput x
+  pub powers : (x v : ℤ) → value_of f x ≡ Some v → IsOutput x
   pub values : (x v : ℤ) → value_of f x ≡ Some v → IsSpellWithin first t v
 
 -- period suc k of d' is on with power p and reserve r, and every other period is that of d

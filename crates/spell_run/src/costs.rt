@@ -224,21 +224,21 @@ fn fill<S: Shape>(
     requires curve { IsCostCurve (thermal_of unit.now).points curve.now }
     requires start { IsSpellStart (thermal_of unit.now) (length (prices_of prices.now).energy) first
         started }
-    requires room { length (prices_of prices.now).energy ≤ length into.old.entries.items }
+    requires room { length (prices_of prices.now).energy ≤ length into.old.items }
     requires frontier { IsFrontier (thermal_of unit.now) (prices_of prices.now)
         (spell_first started first) (first - 1) (S.function home.old running.old) }
     ensures answers { OnOk result ((place : ℕ) → first ≤ suc place
         → place < length (prices_of prices.now).energy →
         IsSpellAnswer (thermal_of unit.now) (prices_of prices.now)
         (length (prices_of prices.now).energy) (spell_first started first) (suc place)
-        (slice_index_or into.new.entries.items place None)
-        × IfSome (slice_index_or into.new.entries.items place None)
+        (slice_index_or into.new.items place None)
+        × IfSome (slice_index_or into.new.items place None)
         (IsSpellWithin (spell_first started first) (suc place))) }
-    ensures length { length into.new.entries.items ≡ length into.old.entries.items }
+    ensures length { length into.new.items ≡ length into.old.items }
     ensures others { (place : ℕ) → (suc place < first)
         ⊎ (length (prices_of prices.now).energy ≤ place) →
-        slice_index_or into.new.entries.items place None
-        ≡ slice_index_or into.old.entries.items place None }
+        slice_index_or into.new.items place None
+        ≡ slice_index_or into.old.items place None }
     ensures here { S.is_in home.new running.new }
     ensures frame { Frame S.Home.cell_list S.is_in S.numbers (S.numbers home.old running.old)
         (S.numbers home.new running.new) home.old home.new }
@@ -251,7 +251,7 @@ fn fill<S: Shape>(
     frames_join::<S>();
     for place in first as usize - 1..prices.energy.len() {
         let cost = pass(home, unit, curve, prices, first, started, place, running)?;
-        into.entries.set(place, cost);
+        into.set(place, cost);
     }
     Ok(())
 }
@@ -259,16 +259,16 @@ fn fill<S: Shape>(
 /// No spell ends before the first period.
 fn clear_before(first: u32, into: &mut SpellCosts)
     requires some { 1 ≤ first }
-    requires room { first ≤ length into.old.entries.items + 1 }
+    requires room { first ≤ length into.old.items + 1 }
     ensures before { (place : ℕ) → suc place < first
-        → slice_index_or into.new.entries.items place None ≡ None }
+        → slice_index_or into.new.items place None ≡ None }
     ensures others { (place : ℕ) → first ≤ suc place →
-        slice_index_or into.new.entries.items place None
-        ≡ slice_index_or into.old.entries.items place None }
-    ensures length { length into.new.entries.items ≡ length into.old.entries.items }
+        slice_index_or into.new.items place None
+        ≡ slice_index_or into.old.items place None }
+    ensures length { length into.new.items ≡ length into.old.items }
 {
     for place in 0..first as usize - 1 {
-        into.entries.set(place, None);
+        into.set(place, None);
     }
 }
 
@@ -293,21 +293,21 @@ pub fn spell_costs<S: Shape>(
     requires curve { IsCostCurve (thermal_of unit.now).points curve.now }
     requires start { IsSpellStart (thermal_of unit.now) (length (prices_of prices.now).energy) first
         started }
-    requires room { length (prices_of prices.now).energy ≤ length into.old.entries.items }
+    requires room { length (prices_of prices.now).energy ≤ length into.old.items }
     ensures least { OnOk result ((last : ℕ) → first ≤ last
         → last ≤ length (prices_of prices.now).energy →
         IsSpellAnswer (thermal_of unit.now) (prices_of prices.now)
         (length (prices_of prices.now).energy) (spell_first started first) last
-        (entry_of into.new.entries.items last)) }
+        (entry_of into.new.items last)) }
     ensures within { OnOk result ((last : ℕ) → first ≤ last
         → last ≤ length (prices_of prices.now).energy →
-        IfSome (entry_of into.new.entries.items last)
+        IfSome (entry_of into.new.items last)
         (IsSpellWithin (spell_first started first) last)) }
     ensures before { OnOk result ((last : ℕ) → 1 ≤ last → last < first
-        → entry_of into.new.entries.items last ≡ None) }
-    ensures length { length into.new.entries.items ≡ length into.old.entries.items }
+        → entry_of into.new.items last ≡ None) }
+    ensures length { length into.new.items ≡ length into.old.items }
     ensures past { (last : ℕ) → length (prices_of prices.now).energy < last →
-        entry_of into.new.entries.items last ≡ entry_of into.old.entries.items last }
+        entry_of into.new.items last ≡ entry_of into.old.items last }
     ensures frame { Frame S.Home.cell_list S.is_in S.numbers [] [] home.old home.new }
     ensures sure { S.Home.counts ≡ true → S.Home.sure home.new ≡ S.Home.sure home.old }
     ensures enough { S.Home.counts ≡ true →

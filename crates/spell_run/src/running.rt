@@ -38,9 +38,9 @@ pub trait Running: Sized {
     /// The turn of the last step.
     ghost turned: { Self → ℤ };
 
-    /// Begins anew at one place.
+    /// Begins anew at one power.
     fn restart(&mut self, at: i64, value: i64)
-        requires place { IsPlace at }
+        requires power { IsPlace at }
         requires amount { IsAmount value }
         ensures point { IsPoint at value (function self.new) }
         ensures count { count self.new ≡ 0 }
@@ -73,29 +73,29 @@ pub trait Running: Sized {
         ensures turn { turned self.new ≡ turned self.old }
         ensures room { room self.new ≡ room self.old };
 
-    /// The least value and its least place, or None on an empty interval.
+    /// The least value and its least power, or None on an empty interval.
     fn least(&self) -> Option<Spot>
         ensures { MatchOption result (IsEmpty (function self.now))
             (λ r. IsLeast (function self.now) r.value r.at) };
 
-    /// Whether it has a place, and with the shift is above a limit at each.
+    /// Whether it has a power, and with the shift is above a limit at each.
     fn is_above(&self, shift: i64, limit: i64) -> bool
         requires { IsFrom (neg_ℤ (pos 4000000000000000000)) (pos 4000000000000000000) shift }
         ensures { OnTrue result ((x v : ℤ) → value_of (function self.now) x ≡ Some v →
             limit <ℤ (v +ℤ shift)) };
 
-    /// The least value at the places from `lo` to `hi` and its least place, or None where none of
+    /// The least value at the powers from `lo` to `hi` and its least power, or None where none of
     /// them is in the interval.
     fn least_in(&self, lo: i64, hi: i64) -> Option<Spot>
         ensures { MatchOption result (HasNone lo hi (function self.now))
             (λ r. IsLeastIn lo hi (function self.now) r.value r.at) };
 
-    /// The first place, or None on an empty interval.
+    /// The first power, or None on an empty interval.
     fn first(&self) -> Option<Spot>
         ensures { MatchOption result (IsEmpty (function self.now))
             (λ r. IsFirst (function self.now) r.at r.value) };
 
-    /// The last place, or None on an empty interval.
+    /// The last power, or None on an empty interval.
     fn last(&self) -> Option<i64>
         ensures { MatchOption result (IsEmpty (function self.now)) (IsLast (function self.now)) };
 
@@ -107,7 +107,7 @@ pub trait Running: Sized {
     fn turn(&self) -> i64
         ensures { result ≡ turned self.now };
 
-    /// Whether it is nowhere above another function, less the shift, and has all its places. It may
+    /// Whether it is nowhere above another function, less the shift, and has all its powers. It may
     /// answer false all the same.
     fn is_below(&self, other: &Self, shift: i64) -> bool
         requires { IsFrom (neg_ℤ (pos 4000000000000000000)) (pos 4000000000000000000) shift }
@@ -171,7 +171,7 @@ impl Running for Slopes {
     }
 }
 
-/// The first and the last place of a function.
+/// The first and the last power of a function.
 #[derive(Clone, Copy)]
 struct Interval {
     first: i64,
@@ -201,7 +201,7 @@ pub fn begin<R: Running>(unit: &Unit, first: u32, running: &mut R)
     running.restart(power_before(unit, first), 0);
 }
 
-/// The first and the last place of a function; both are 0 on an empty interval.
+/// The first and the last power of a function; both are 0 on an empty interval.
 fn interval_of<R: Running>(running: &R) -> Interval
     ensures first { (x v : ℤ) → value_of (R.function running.now) x ≡ Some v → (w : ℤ)
         × IsFirst (R.function running.now) result.first w }
@@ -220,7 +220,7 @@ fn interval_of<R: Running>(running: &R) -> Interval
 }
 
 /// Takes a spell over the period at a place, as far as no stop follows, and answers what the step
-/// leaves for the way back, which is open where no place is left. `first` 0 stands for a spell that
+/// leaves for the way back, which is open where no power is left. `first` 0 stands for a spell that
 /// goes on from before period 1. `curve` is the curve of the unit's points.
 #[inline(always)]
 pub fn run_over<R: Running>(

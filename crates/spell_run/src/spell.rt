@@ -1,7 +1,9 @@
 //! A spell, and costs of spells.
-ghost use Rattle.std.specs.Prelude.{◌≡◌, IfOk, None, replicate};
+ghost use Rattle.std.specs.Prelude.{◌≡◌, ◌+◌, ◌<◌, ◌≤◌, [], ◌∷◌, ◌++◌, length, IfOk, None, Some};
+ghost use Rattle.std.specs.Prelude.{replicate, slice_get, slice_index_or, slice_set};
 
 use std::alloc::{AllocError, Global};
+use std::marker::Model;
 use uc_model::lists::ReservedList;
 
 /// A run of on periods, counted from 1. `started` says that a start is at `first`; otherwise the
@@ -15,19 +17,81 @@ pub struct Spell {
     pub stops: bool,
 }
 
-/// Net costs of spells by last period, in money: the entry for last period `l` is at place `l - 1`.
-/// None says that no dispatch is there.
+/// Net costs of spells by last period, in money: the cost for last period `l` is at place `l - 1`.
+/// None says that no dispatch is there. A contract sees them as a list, beside the number of
+/// further costs that it can take without memory.
 #[derive(Drop)]
 pub struct SpellCosts {
-    pub entries: ReservedList<Option<i64>>,
+    costs: ReservedList<Option<i64>>,
+}
+
+impl Model for SpellCosts {
+    ghost use Rattle.std.specs.Prelude.{ℤ, Option};
+    ghost use Rattle.std.specs.Coded.{coded_ℤ, coded_option};
+    ghost use Rattle.uc_model.specs.Reserved.{Reserved, reserved_code};
+
+    ghost Value = { Reserved (Option ℤ) };
+
+    ghost coded = { reserved_code (coded_option coded_ℤ) };
+
+    ghost view = { λ c. c.costs };
 }
 
 impl SpellCosts {
-    /// So many entries, all None.
+    /// So many costs, all None.
     pub fn make(alloc: Global, periods: u32) -> Result<SpellCosts, AllocError>
-        ensures { IfOk result (λ costs. costs.entries.items ≡ replicate periods None) }
+        ensures { IfOk result (λ costs. costs.items ≡ replicate periods None) }
     {
-        let entries = ReservedList::filled(alloc, periods, None)?;
-        Ok(SpellCosts { entries })
+        let costs = ReservedList::filled(alloc, periods, None)?;
+        Ok(SpellCosts { costs })
+    }
+
+    /// The number of costs.
+    pub fn len(&self) -> usize
+        ensures { result ≡ length self.now.items }
+    {
+        self.costs.len()
+    }
+
+    /// The cost at a place below the length.
+    pub fn get(&self, place: usize) -> &Option<i64>
+        requires { place < length self.now.items }
+        ensures item { slice_get self.now.items place ≡ Some result.now }
+        ensures value { slice_index_or self.now.items place result.now ≡ result.now }
+    {
+        self.costs.get(place)
+    }
+
+    /// Writes the cost at a place below the length.
+    pub fn set(&mut self, place: usize, cost: Option<i64>)
+        requires { place < length self.old.items }
+        ensures items { self.new.items ≡ slice_set self.old.items place cost }
+        ensures spare { self.new.spare ≡ self.old.spare }
+    {
+        self.costs.set(place, cost);
+    }
+
+    /// Adds a cost at the end, where there is room for it.
+    pub fn push(&mut self, cost: Option<i64>)
+        requires { 1 ≤ self.old.spare }
+        ensures items { self.new.items ≡ self.old.items ++ cost ∷ [] }
+        ensures spare { self.new.spare + 1 ≡ self.old.spare }
+    {
+        self.costs.push(cost);
+    }
+
+    /// Takes all costs away; their room stays.
+    pub fn clear(&mut self)
+        ensures items { self.new.items ≡ [] }
+        ensures spare { self.new.spare ≡ length self.old.items + self.old.spare }
+    {
+        self.costs.clear();
+    }
+
+    /// Lends the costs.
+    pub fn as_slice(&self) -> &[Option<i64>]
+        ensures { result.now ≡ self.now.items }
+    {
+        self.costs.as_slice()
     }
 }

@@ -1,6 +1,6 @@
 //! The way back over a spell, by what its steps noted on the way forward.
 //!
-//! A convex function whose least place is `turn` is least, at the places in reach of a power, at
+//! A convex function whose least power is `turn` is least, at the powers in reach of a power, at
 //! the one that is nearest to the turn. So three numbers of a step suffice to find the cheapest
 //! power before it.
 ghost use Rattle.std.specs.Prelude.{◌≡◌, ℤ, suc, ◌==◌, ◌<◌, ◌≤◌, length, Some};
@@ -24,11 +24,11 @@ use uc_model::units::{Answered, Prices, Unit};
 /// What a step leaves for the way back, in kilowatts.
 #[derive(Clone, Copy)]
 pub struct Note {
-    /// The least place of the least value before the step, less the worth of its reserve.
+    /// The least power of the least value before the step, less the worth of its reserve.
     pub turn: i64,
-    /// The first place before the step.
+    /// The first power before the step.
     pub first: i64,
-    /// The last place before the step.
+    /// The last power before the step.
     pub last: i64,
 }
 

@@ -33,13 +33,13 @@ fn add_spells_from<S: Shape>(
     requires first { first ≤ length (prices_of prices.now).energy }
     requires goes_on { first ≡ 0 → IsTrue unit.now.on0 }
     requires starts { first ≡ 1 → IsFalse unit.now.on0 }
-    requires costs { length (prices_of prices.now).energy ≤ length costs.old.entries.items }
+    requires costs { length (prices_of prices.now).energy ≤ length costs.old.items }
     requires room { length (prices_of prices.now).energy < length table.old.items }
     requires within { AreWithin table.old.items }
     requires bound { IsWithinTimes (2 * first + 1) entry.now.cost }
     ensures added { OnOk result (IsAdded (thermal_of unit.now) (prices_of prices.now) first
         entry.now.last entry.now.cost table.old.items table.new.items) }
-    ensures costs { length costs.new.entries.items ≡ length costs.old.entries.items }
+    ensures costs { length costs.new.items ≡ length costs.old.items }
     ensures length { length table.new.items ≡ length table.old.items }
     ensures frame { Frame S.Home.cell_list S.is_in S.numbers [] [] home.old home.new }
     ensures sure { S.Home.counts ≡ true → S.Home.sure home.new ≡ S.Home.sure home.old }
@@ -57,15 +57,7 @@ fn add_spells_from<S: Shape>(
         return Ok(());
     }
     spell_costs::<S>(home, unit, curve, prices, first.max(1), first > 0, costs)?;
-    add_spells(
-        unit,
-        periods,
-        first,
-        until,
-        entry,
-        costs.entries.as_slice(),
-        table,
-    );
+    add_spells(unit, periods, first, until, entry, costs.as_slice(), table);
     Ok(())
 }
 
@@ -83,12 +75,12 @@ fn add_first<S: Shape>(
     requires curve { IsCostCurve (thermal_of unit.now).points curve.now }
     requires one { 1 ≤ first }
     requires first { first ≤ length (prices_of prices.now).energy }
-    requires costs { length (prices_of prices.now).energy ≤ length costs.old.entries.items }
+    requires costs { length (prices_of prices.now).energy ≤ length costs.old.items }
     requires room { length (prices_of prices.now).energy < length table.old.items }
     requires filled { IsFilled (thermal_of unit.now) (prices_of prices.now) first table.old.items }
     ensures filled { OnOk result (IsFilled (thermal_of unit.now) (prices_of prices.now) (suc first)
         table.new.items) }
-    ensures costs { length costs.new.entries.items ≡ length costs.old.entries.items }
+    ensures costs { length costs.new.items ≡ length costs.old.items }
     ensures length { length table.new.items ≡ length table.old.items }
     ensures frame { Frame S.Home.cell_list S.is_in S.numbers [] [] home.old home.new }
     ensures sure { S.Home.counts ≡ true → S.Home.sure home.new ≡ S.Home.sure home.old }
@@ -113,11 +105,11 @@ fn begin<S: Shape>(
 ) -> Result<(), AllocError>
     requires horizon { length (thermal_of unit.now).window ≡ length (prices_of prices.now).energy }
     requires curve { IsCostCurve (thermal_of unit.now).points curve.now }
-    requires costs { length (prices_of prices.now).energy ≤ length costs.old.entries.items }
+    requires costs { length (prices_of prices.now).energy ≤ length costs.old.items }
     requires room { length (prices_of prices.now).energy < length table.old.items }
     ensures filled { OnOk result (IsFilled (thermal_of unit.now) (prices_of prices.now) 1
         table.new.items) }
-    ensures costs { length costs.new.entries.items ≡ length costs.old.entries.items }
+    ensures costs { length costs.new.items ≡ length costs.old.items }
     ensures length { length table.new.items ≡ length table.old.items }
     ensures frame { Frame S.Home.cell_list S.is_in S.numbers [] [] home.old home.new }
     ensures sure { S.Home.counts ≡ true → S.Home.sure home.new ≡ S.Home.sure home.old }
@@ -148,11 +140,11 @@ pub fn fill<S: Shape>(
 ) -> Result<(), AllocError>
     requires horizon { length (thermal_of unit.now).window ≡ length (prices_of prices.now).energy }
     requires curve { IsCostCurve (thermal_of unit.now).points curve.now }
-    requires costs { length (prices_of prices.now).energy ≤ length costs.old.entries.items }
+    requires costs { length (prices_of prices.now).energy ≤ length costs.old.items }
     requires room { length (prices_of prices.now).energy < length table.old.items }
     ensures filled { OnOk result (IsFilled (thermal_of unit.now) (prices_of prices.now)
         (suc (length (prices_of prices.now).energy)) table.new.items) }
-    ensures costs { length costs.new.entries.items ≡ length costs.old.entries.items }
+    ensures costs { length costs.new.items ≡ length costs.old.items }
     ensures length { length table.new.items ≡ length table.old.items }
     ensures frame { Frame S.Home.cell_list S.is_in S.numbers [] [] home.old home.new }
     ensures sure { S.Home.counts ≡ true → S.Home.sure home.new ≡ S.Home.sure home.old }

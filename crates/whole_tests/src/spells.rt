@@ -100,7 +100,7 @@ fn expect_on<S: Shape>(
         spell.started,
         &mut costs,
     )?;
-    let entry = *costs.entries.get(spell.last as usize - 1);
+    let entry = *costs.get(spell.last as usize - 1);
     let mut answer = Answered::make(alloc, periods as u32)?;
     let best = spell_best::<S>(home, &unit, &curve, &prices, &spell, &mut answer)?;
     assert_eq!(rt; entry, best);
@@ -170,4 +170,18 @@ fn power_makes_room_for_reserve(rt: HostRuntime) -> Result<(), Fail> {
         reserve: &[20, 100],
     };
     expect(&rt, rt.alloc(), row, Some(want))
+}
+
+#[test]
+fn costs_are_a_list(rt: HostRuntime) -> Result<(), Fail> {
+    let mut costs = SpellCosts::make(rt.alloc(), 2)?;
+    assert_eq!(rt; costs.as_slice(), &[None, None]);
+    costs.set(1, Some(-7));
+    assert_eq!(rt; costs.as_slice(), &[None, Some(-7)]);
+    costs.clear();
+    assert_eq!(rt; costs.len(), 0);
+    costs.push(Some(40));
+    assert_eq!(rt; costs.len(), 1);
+    assert_eq!(rt; *costs.get(0), Some(40));
+    Ok(())
 }

@@ -7,14 +7,14 @@ loop-k-preserved g c =
     let inside : k < length c.loop-k.values = omega arith in
     let now = get_or c.loop-k.values k (pos 0) in
     let was = get_or c.args.values.now k (pos 0) in
-    let limit = c.requires.within.places k c.loop-k-test.true in
+    let limit = c.requires.within.powers k c.loop-k-test.true in
     let low = limit.0 in
     let high = limit.1 in
     let same : now ≡ was = c.loop-k.invariant.rest k (omega arith) in
     let fits : FitsSigned w64 now = search rules in
     let value : to_z w64 (of_z w64 now) ≡ was = to_z-of_z w64 _ fits ∙ same in
-    let place : to_z w64 (of_z w64 (to_z w64 (of_z w64 c.args.lo) +ℤ to_z w64 k)) ≡ to_z w64 (of_z w64 c.args.lo) +ℤ pos k = omega (arith, ints) in
-    let is = rw (place, value) at c.plus.ensures in
+    let power : to_z w64 (of_z w64 (to_z w64 (of_z w64 c.args.lo) +ℤ to_z w64 k)) ≡ to_z w64 (of_z w64 c.args.lo) +ℤ pos k = omega (arith, ints) in
+    let is = rw (power, value) at c.plus.ensures in
     let result : to_z w64 (of_z w64 c.plus.result) ≡ c.plus.result = to_z-of_z w64 _ (record { sfits = c.plus.type_inv }) in
     record {
       below = below_more _ _ (λ j h. let ne : j ≢ k = omega arith in rw get_or-set_other (c.loop-k.invariant.below j h)) (rw get_or-set_same (rw result is));
@@ -23,7 +23,7 @@ loop-k-preserved g c =
 
 pub plus-requires-clause-x : goal.plus-requires-clause-x
 plus-requires-clause-x g c =
-    let limit = c.requires.within.places c.loop-k.k c.loop-k-test.true in
+    let limit = c.requires.within.powers c.loop-k.k c.loop-k-test.true in
     let low = limit.0 in
     let high = limit.1 in
     (omega (arith, ints), omega (arith, ints))
@@ -43,14 +43,14 @@ plus-requires-clause-fits g c =
     let k = c.loop-k.k in
     let now = get_or c.loop-k.values k (pos 0) in
     let was = get_or c.args.values.now k (pos 0) in
-    let limit = c.requires.within.places k c.loop-k-test.true in
+    let limit = c.requires.within.powers k c.loop-k-test.true in
     let low = limit.0 in
     let high = limit.1 in
     let same : now ≡ was = c.loop-k.invariant.rest k (omega arith) in
     let fits : FitsSigned w64 now = search rules in
     let value : to_z w64 (of_z w64 now) ≡ was = to_z-of_z w64 _ fits ∙ same in
-    let place : to_z w64 (of_z w64 (to_z w64 (of_z w64 c.args.lo) +ℤ to_z w64 k)) ≡ c.args.lo +ℤ pos k = omega (arith, ints) in
-    rw (place, value) (c.requires.fits k c.loop-k-test.true)
+    let power : to_z w64 (of_z w64 (to_z w64 (of_z w64 c.args.lo) +ℤ to_z w64 k)) ≡ c.args.lo +ℤ pos k = omega (arith, ints) in
+    rw (power, value) (c.requires.fits k c.loop-k-test.true)
 
 pub returns : goal.returns
 returns g c = λ k h.

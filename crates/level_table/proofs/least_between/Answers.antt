@@ -26,11 +26,11 @@ returns c =
     let within = c.count_up_to-end.ensures.within in
     let at = c.count_below-start.result + c.in_ok-value.at in
     let index : at < length c.args.values.now = omega (arith, length-take {A = ℤ}, length-drop {A = ℤ}) in
-    let limit = c.requires.places at index in
+    let limit = c.requires.powers at index in
     let low = limit.0 in
     let high = limit.1 in
     let value : to_z w64 (of_z w64 c.in_ok-value.value) ≡ c.in_ok-value.value = to_z-of_z w64 _ value_fits in
-    let place : to_z w64 (of_z w64 (to_z w64 (of_z w64 c.args.lo) +ℤ to_z w64 at)) ≡ c.args.lo +ℤ pos at = omega (arith, ints) in
-    rw (value, place)
+    let power : to_z w64 (of_z w64 (to_z w64 (of_z w64 c.args.lo) +ℤ to_z w64 at)) ≡ c.args.lo +ℤ pos at = omega (arith, ints) in
+    rw (value, power)
     (least_between_is c.args.values.now c.args.lo c.args.from c.args.to c.count_below-start.result c.count_up_to-end.result below above
     c.in_ok-value.value c.in_ok-value.at (omega arith) within first last is)

@@ -1,6 +1,6 @@
 use Rattle.level_table.proofs.Common.{◌≡◌, ℕ, ◌-◌, ◌<◌, length, arith, to_z, of_z, vec_len, ℤ, pos, ◌+ℤ◌, ◌-ℤ◌, w64, int_max, int_min, ints, clamps, to_z-of_z, IsWindow, IsPlace, table, within_limits}
 use Rattle.level_table.proofs.Lemmas.{AreWithin-from_limits}
-use Rattle.level_table.proofs.WindowLaws.{ends_are_places, place_inside, some_in_reach, window_is}
+use Rattle.level_table.proofs.WindowLaws.{ends_are_powers, power_inside, some_in_reach, window_is}
 use Rattle.level_table.proofs.window_of.Goals as goal
 use Rattle.level_table.proofs.window_of.Goals.{After-min-to, After-count_between-count, In_ok-values}
 
@@ -8,7 +8,7 @@ pub overflow_add-last-2 : goal.overflow_add-last-2
 overflow_add-last-2 c =
     let len : vec_len c.args.s.now.values ≡ length c.args.s.now.values.items = c.args.s.now.values.ok.0 in
     let some : 0 < length c.args.s.now.values.items = omega arith in
-    let old = ends_are_places c.args.s.now.lo c.args.s.now.values.items c.args.s.now.within some in
+    let old = ends_are_powers c.args.s.now.lo c.args.s.now.values.items c.args.s.now.within some in
     let first = old.0.0 in
     let last = old.1.1 in
     let least = old.1.0 in
@@ -20,14 +20,14 @@ record Ends (own up down lo hi : ℤ) (n : ℕ) (from to : ℤ) : Type 0 where
   some : 0 < n
   from_is : from ≡ int_max lo (own -ℤ down)
   to_is : to ≡ int_min hi (((own +ℤ pos n) -ℤ pos 1) +ℤ up)
-  from_place : IsPlace from
-  to_place : IsPlace to
+  from_power : IsPlace from
+  to_power : IsPlace to
 
 ends : (c : After-min-to) → Ends c.args.s.now.lo c.args.up c.args.down c.args.lo c.args.hi (length c.args.s.now.values.items) c.max-from.result c.min-to.result
 ends c =
     let len : vec_len c.args.s.now.values ≡ length c.args.s.now.values.items = c.args.s.now.values.ok.0 in
     let some : 0 < length c.args.s.now.values.items = omega arith in
-    let old = ends_are_places c.args.s.now.lo c.args.s.now.values.items c.args.s.now.within some in
+    let old = ends_are_powers c.args.s.now.lo c.args.s.now.values.items c.args.s.now.within some in
     let first = old.0.0 in
     let last = old.1.1 in
     let least = old.1.0 in
@@ -42,19 +42,19 @@ ends c =
       some = some;
       from_is = from_is;
       to_is = to_is;
-      from_place = (omega (arith, ints, clamps), omega (arith, ints, clamps));
-      to_place = (omega (arith, ints, clamps), omega (arith, ints, clamps));
+      from_power = (omega (arith, ints, clamps), omega (arith, ints, clamps));
+      to_power = (omega (arith, ints, clamps), omega (arith, ints, clamps));
     }
 
 pub count_between-count-requires-clause-from : goal.count_between-count-requires-clause-from
 count_between-count-requires-clause-from c =
     let from : to_z w64 (of_z w64 c.max-from.result) ≡ c.max-from.result = to_z-of_z w64 _ (record { sfits = c.max-from.type_inv }) in
-    rw from (ends (goal.at.count_between-count-requires-clause-from c).After-min-to).from_place
+    rw from (ends (goal.at.count_between-count-requires-clause-from c).After-min-to).from_power
 
 pub count_between-count-requires-clause-to : goal.count_between-count-requires-clause-to
 count_between-count-requires-clause-to c =
     let to : to_z w64 (of_z w64 c.min-to.result) ≡ c.min-to.result = to_z-of_z w64 _ (record { sfits = c.min-to.type_inv }) in
-    rw to (ends (goal.at.count_between-count-requires-clause-to c).After-min-to).to_place
+    rw to (ends (goal.at.count_between-count-requires-clause-to c).After-min-to).to_power
 
 count_is : (c : After-count_between-count) → pos c.count_between-count.result ≡ int_max (pos 0) ((c.min-to.result +ℤ pos 1) -ℤ c.max-from.result)
 count_is c =
@@ -62,12 +62,12 @@ count_is c =
     let to : to_z w64 (of_z w64 c.min-to.result) ≡ c.min-to.result = to_z-of_z w64 _ (record { sfits = c.min-to.type_inv }) in
     rw (from, to) at c.count_between-count.ensures
 
-pub windowed-requires-clause-places : goal.windowed-requires-clause-places
-windowed-requires-clause-places c = λ k h.
-    let e = ends (goal.at.windowed-requires-clause-places c).After-min-to in
-    let n = count_is (goal.at.windowed-requires-clause-places c).After-count_between-count in
+pub windowed-requires-clause-powers : goal.windowed-requires-clause-powers
+windowed-requires-clause-powers c = λ k h.
+    let e = ends (goal.at.windowed-requires-clause-powers c).After-min-to in
+    let n = count_is (goal.at.windowed-requires-clause-powers c).After-count_between-count in
     let from : to_z w64 (of_z w64 c.max-from.result) ≡ c.max-from.result = to_z-of_z w64 _ (record { sfits = c.max-from.type_inv }) in
-    let inside = place_inside c.args.s.now.values.items c.args.s.now.lo _ c.args.up c.args.down c.args.lo c.args.hi c.max-from.result c.min-to.result c.count_between-count.result e.some c.requires.up c.requires.down (omega (arith, ints)) e.from_is e.to_is n k h in
+    let inside = power_inside c.args.s.now.values.items c.args.s.now.lo _ c.args.up c.args.down c.args.lo c.args.hi c.max-from.result c.min-to.result c.count_between-count.result e.some c.requires.up c.requires.down (omega (arith, ints)) e.from_is e.to_is n k h in
     let low = inside.0 in
     let high = inside.1 in
     let first = c.requires.lo.0 in

@@ -9,10 +9,10 @@ returns c =
     let items = c.deref.ensures.value in
     let is = rw items at c.in_ok-value.ensures in
     let inside = is.inside in
-    let limit = c.args.self.now.within.places c.in_ok-value.at inside in
+    let limit = c.args.self.now.within.powers c.in_ok-value.at inside in
     let low = limit.0 in
     let high = limit.1 in
     let len : vec_len c.args.self.now.values ≡ length c.args.self.now.values.items = c.args.self.now.values.ok.0 in
     let value : to_z w64 (of_z w64 c.in_ok-value.value) ≡ c.in_ok-value.value = to_z-of_z w64 _ value_fits in
-    let place : to_z w64 (of_z w64 (to_z w64 (of_z w64 c.args.self.now.lo) +ℤ to_z w64 c.in_ok-value.at)) ≡ c.args.self.now.lo +ℤ pos c.in_ok-value.at = omega (arith, ints) in
-    rw (value, place) (IsLeast-from_list c.args.self.now.lo c.args.self.now.values.items c.in_ok-value.value c.in_ok-value.at is)
+    let power : to_z w64 (of_z w64 (to_z w64 (of_z w64 c.args.self.now.lo) +ℤ to_z w64 c.in_ok-value.at)) ≡ c.args.self.now.lo +ℤ pos c.in_ok-value.at = omega (arith, ints) in
+    rw (value, power) (IsLeast-from_list c.args.self.now.lo c.args.self.now.values.items c.in_ok-value.value c.in_ok-value.at is)

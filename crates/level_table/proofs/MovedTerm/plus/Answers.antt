@@ -5,9 +5,9 @@ use Rattle.level_table.proofs.MovedTerm.plus.Goals.{After-curve_at}
 pub overflow_add-x : goal.overflow_add-x
 overflow_add-x c =
     let fit = c.requires.fits in
-    let place = c.curve_places_are_limited.ensures c.args.self.now.curve.now c.requires.limited (c.args.x +ℤ c.args.self.now.shift) fit.0 fit.1 in
-    let low = place.0 in
-    let high = place.1 in
+    let power = c.curve_places_are_limited.ensures c.args.self.now.curve.now c.requires.limited (c.args.x +ℤ c.args.self.now.shift) fit.0 fit.1 in
+    let low = power.0 in
+    let high = power.1 in
     omega (arith, ints)
 
 pub curve_at-requires-clause-curve : goal.curve_at-requires-clause-curve
@@ -19,26 +19,26 @@ curve_at-requires-clause-curve c =
     let last_most = known.last_place.1 in
     record {
       widths = known.blocks.widths;
-      first_place = record { at_least = omega (arith, ints, first); at_most = first_most };
-      last_place = record { at_least = omega (arith, ints, last); at_most = last_most };
+      first_power = record { at_least = omega (arith, ints, first); at_most = first_most };
+      last_power = record { at_least = omega (arith, ints, last); at_most = last_most };
       values = λ x v e. let a = (known.values x v e).0 in record { at_least = omega (arith, ints, a); at_most = (known.values x v e).1 };
     }
 
 pub curve_at-requires-clause-inside : goal.curve_at-requires-clause-inside
 curve_at-requires-clause-inside c =
     let fit = c.requires.fits in
-    let place = c.curve_places_are_limited.ensures c.args.self.now.curve.now c.requires.limited (c.args.x +ℤ c.args.self.now.shift) fit.0 fit.1 in
-    let low = place.0 in
-    let high = place.1 in
+    let power = c.curve_places_are_limited.ensures c.args.self.now.curve.now c.requires.limited (c.args.x +ℤ c.args.self.now.shift) fit.0 fit.1 in
+    let low = power.0 in
+    let high = power.1 in
     let sum : to_z w64 (of_z w64 (to_z w64 (of_z w64 c.args.x) +ℤ to_z w64 (of_z w64 c.args.self.now.shift))) ≡ c.args.x +ℤ c.args.self.now.shift = omega (arith, ints) in
     rw (sum, fit.1) refl
 
 rise_is : (c : After-curve_at) → curve_value c.args.self.now.curve.now (c.args.x +ℤ c.args.self.now.shift) ≡ Some c.curve_at.result
 rise_is c =
     let fit = c.requires.fits in
-    let place = c.curve_places_are_limited.ensures c.args.self.now.curve.now c.requires.limited (c.args.x +ℤ c.args.self.now.shift) fit.0 fit.1 in
-    let low = place.0 in
-    let high = place.1 in
+    let power = c.curve_places_are_limited.ensures c.args.self.now.curve.now c.requires.limited (c.args.x +ℤ c.args.self.now.shift) fit.0 fit.1 in
+    let low = power.0 in
+    let high = power.1 in
     let sum : to_z w64 (of_z w64 (to_z w64 (of_z w64 c.args.x) +ℤ to_z w64 (of_z w64 c.args.self.now.shift))) ≡ c.args.x +ℤ c.args.self.now.shift = omega (arith, ints) in
     rw sum at c.curve_at.ensures
 

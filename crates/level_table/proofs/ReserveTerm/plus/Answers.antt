@@ -5,10 +5,10 @@ use Rattle.level_table.proofs.ReserveTerm.plus.Goals.{After-min}
 -- the most reserve at plain numbers
 most_is : (c : After-min) → to_z w64 (of_z w64 c.min.result) ≡ int_min c.args.self.now.cap (c.args.self.now.up +ℤ c.args.x)
 most_is c =
-    let cap_place = c.requires.limited.0 in
-    let up_place = c.requires.limited.1 in
-    let low = up_place.0 in
-    let high = up_place.1 in
+    let cap_power = c.requires.limited.0 in
+    let up_power = c.requires.limited.1 in
+    let low = up_power.0 in
+    let high = up_power.1 in
     let cap_fits : FitsSigned w64 c.args.self.now.cap = search rules in
     let cap : to_z w64 (of_z w64 c.args.self.now.cap) ≡ c.args.self.now.cap = to_z-of_z w64 _ cap_fits in
     let sum : to_z w64 (of_z w64 (to_z w64 (of_z w64 c.args.self.now.up) +ℤ to_z w64 (of_z w64 c.args.x))) ≡ c.args.self.now.up +ℤ c.args.x = omega (arith, ints) in

@@ -7,4 +7,4 @@ returns-clause-breaks c =
     let e-value : to_z w64 (of_z w64 c.args.value) ≡ c.args.value = to_z-of_z w64 _ c.ranges.value in
     let one : List Knot = record { at = c.args.at; value = c.args.value } ∷ [] in
     let items : c.push.new.self.items ≡ one = search rules in
-    subst IsCountedList (sym items) (record { breaks = (c.knots_decide.ensures.point one c.requires.place c.requires.amount).0; count = omega arith })
+    subst IsCountedList (sym items) (record { breaks = (c.knots_decide.ensures.point one c.requires.power c.requires.amount).0; count = omega arith })

@@ -1,4 +1,4 @@
-use Rattle.ramp_step.proofs.Common.{◌≡◌, ◌≢◌, ℕ, ◌<◌, length, ap, sym, ◌∙◌, subst, arith, inl, inr, to_z, of_z, slice_set, ◌+ℤ◌, w64, ints, to_z-of_z, cases_lt, Knot, knot, place, height, line_from}
+use Rattle.ramp_step.proofs.Common.{◌≡◌, ◌≢◌, ℕ, ◌<◌, length, ap, sym, ◌∙◌, subst, arith, inl, inr, to_z, of_z, slice_set, ◌+ℤ◌, w64, ints, to_z-of_z, cases_lt, Knot, knot, power, height, line_from}
 use Rattle.ramp_step.proofs.Lemmas.{knot_same, knot_other}
 use Rattle.ramp_step.proofs.curve.raise_block.Goals as goal
 
@@ -23,25 +23,25 @@ loop-i-preserved c =
     let line = line_from (to_z w64 (of_z w64 c.args.start)) (to_z w64 (of_z w64 c.args.level)) (to_z w64 (of_z w64 c.args.price)) in
     record {
       before = λ k h. other k (omega arith) ∙ was.before k h;
-      places = λ k h l. elim (cases_lt k i) [
-        | inl passed ↦ ap (λ (p : Knot). p.at) (other k (omega arith)) ∙ was.places k h passed
+      powers = λ k h l. elim (cases_lt k i) [
+        | inl passed ↦ ap (λ (p : Knot). p.at) (other k (omega arith)) ∙ was.powers k h passed
         | inr now ↦
             let e : k ≡ i = omega arith in
-            subst (λ (z : ℕ). place (slice_set ks i q) z ≡ place c.args.knots.now z) (sym e)
+            subst (λ (z : ℕ). power (slice_set ks i q) z ≡ power c.args.knots.now z) (sym e)
             (ap (λ (p : Knot). p.at) here ∙ c.on_block.ensures.at ∙ ap (λ (p : Knot). p.at) same)
       ];
       heights = λ k h l. elim (cases_lt k i) [
         | inl passed ↦ ap (λ (p : Knot). p.value) (other k (omega arith)) ∙ was.heights k h passed
         | inr now ↦
             let e : k ≡ i = omega arith in
-            subst (λ (z : ℕ). height (slice_set ks i q) z ≡ height c.args.knots.now z +ℤ line (place c.args.knots.now z)) (sym e)
+            subst (λ (z : ℕ). height (slice_set ks i q) z ≡ height c.args.knots.now z +ℤ line (power c.args.knots.now z)) (sym e)
             (ap (λ (p : Knot). p.value) here ∙ c.on_block.ensures.value
             ∙ ap (λ (p : Knot). p.value +ℤ line p.at) same)
       ];
       upto = λ k h l. elim (cases_lt k i) [
         | inl passed ↦ was.upto k h passed
         | inr now ↦
-            let e = ap (λ (z : ℕ). place c.args.knots.now z) {x = k} {y = i} (omega arith) in
+            let e = ap (λ (z : ℕ). power c.args.knots.now z) {x = k} {y = i} (omega arith) in
             let at = ap (λ (p : Knot). p.at) same in
             omega (arith, ints)
       ];
@@ -56,7 +56,7 @@ returns-then-knot-end c =
       from = omega arith;
       to = omega arith;
       before = was.before;
-      places = was.places;
+      powers = was.powers;
       heights = rw (to_z-of_z w64 c.args.start c.ranges.start, to_z-of_z w64 c.args.level c.ranges.level, to_z-of_z w64 c.args.price c.ranges.price) at was.heights;
       upto = λ k h l. let u = was.upto k h l in omega (arith, ints);
       after = was.rest;
@@ -71,7 +71,7 @@ returns c =
       from = omega arith;
       to = omega arith;
       before = was.before;
-      places = λ k h l. was.places k h (omega arith);
+      powers = λ k h l. was.powers k h (omega arith);
       heights = λ k h l. heights k h (omega arith);
       upto = λ k h l. let u = was.upto k h (omega arith) in omega (arith, ints);
       after = λ k h. was.rest k (omega arith);

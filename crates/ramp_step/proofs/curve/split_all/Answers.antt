@@ -15,7 +15,7 @@ here c =
     record {
       from = from;
       at = rw from at c.loop-block.invariant.end;
-      end = next_end c.requires.ascending.0 c.args.blocks.now c.args.from c.loop-block.block-index (record { width = pos 0; price = pos 0 }) c.requires.ascending.1 c.requires.places (omega arith);
+      end = next_end c.requires.ascending.0 c.args.blocks.now c.args.from c.loop-block.block-index (record { width = pos 0; price = pos 0 }) c.requires.ascending.1 c.requires.powers (omega arith);
     }
 
 pub loop-block-init : goal.loop-block-init

@@ -1,4 +1,4 @@
-use Rattle.ramp_step.proofs.Common.{◌≡◌, ℕ, ◌+◌, ◌-◌, ◌<◌, ◌≤◌, length, ◌<ℤ◌, place, IsLimited, block_end, IsRefined, spaced}
+use Rattle.ramp_step.proofs.Common.{◌≡◌, ℕ, ◌+◌, ◌-◌, ◌<◌, ◌≤◌, length, ◌<ℤ◌, power, IsLimited, block_end, IsRefined, spaced}
 use Rattle.ramp_step.proofs.curve.split_all.Given as goal
 
 abbrev pub invariant-loop-block : goal.invariant-loop-block
@@ -8,5 +8,5 @@ invariant-loop-block l = record {
   order : l.front + l.room ≤ l.total;
   cells : length l.blocks ≤ l.room + l.block-index;
   end : l.end ≡ block_end l.blocks l.from l.block-index;
-  below : (k : ℕ) → k < l.front → place (spaced l.knots l.front l.room) k <ℤ l.end;
+  below : (k : ℕ) → k < l.front → power (spaced l.knots l.front l.room) k <ℤ l.end;
 }

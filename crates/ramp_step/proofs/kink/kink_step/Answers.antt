@@ -1,4 +1,4 @@
-use Rattle.ramp_step.proofs.Common.{◌≡◌, ◌+◌, ◌-◌, arith, to_z, of_z, ℤ, ◌+ℤ◌, ◌-ℤ◌, w64, ints, to_z-of_z, place, StandFor, HaveSameEnds, reserve_term}
+use Rattle.ramp_step.proofs.Common.{◌≡◌, ◌+◌, ◌-◌, arith, to_z, of_z, ℤ, ◌+ℤ◌, ◌-ℤ◌, w64, ints, to_z-of_z, power, StandFor, HaveSameEnds, reserve_term}
 use Rattle.ramp_step.proofs.Lemmas.{is_inside, inside_same, StandFor-raised, HaveSameEnds-raised, HaveSameEnds-then, IsLimited-within, shape_of, within_of, can_add, sum, sum_breaks}
 use Rattle.ramp_step.proofs.KinkLaws.{kink_straight, kink_convex}
 use Rattle.ramp_step.proofs.kink.kink_step.Goals as goal
@@ -19,7 +19,7 @@ lower-requires-clause-after c = λ k h.
     let s1 = c.split-n.ensures.split.function shape.0 shape.1 in
     let fits = can_add ks n c.requires.breaks (reserve_term c.args.mu c.args.cap c.args.up) c.requires.fits shape.0 shape.1 in
     rw (s1.meet k h, to_z-of_z w64 c.args.mu c.ranges.mu, to_z-of_z w64 c.args.cap c.ranges.cap, to_z-of_z w64 c.args.up c.ranges.up)
-    ((fits (place k1 k) (inside_same ks k1 n c.split-n.result (place k1 k) c.split-n.ensures.split.ends (is_inside k1 c.split-n.result shape.0 k s1 h))).2)
+    ((fits (power k1 k) (inside_same ks k1 n c.split-n.result (power k1 k) c.split-n.ensures.split.ends (is_inside k1 c.split-n.result shape.0 k s1 h))).2)
 
 step : (c : After-lower) → (f : ℤ → ℤ) → StandFor c.args.knots.now c.args.used f → StandFor c.lower.new.knots c.split-n.result (λ x. f x +ℤ reserve_term c.args.mu c.args.cap c.args.up x)
 step c f s =
@@ -31,8 +31,8 @@ step c f s =
     let split = rw e-kink at c.split-n.ensures.split in
     let raised = rw (to_z-of_z w64 c.args.mu c.ranges.mu, to_z-of_z w64 c.args.cap c.ranges.cap, to_z-of_z w64 c.args.up c.ranges.up) at c.lower.ensures in
     StandFor-raised (reserve_term mu cap up) c.split-n.result k1 c.lower.new.knots f (split.function f s) raised
-    (λ k h. kink_straight mu cap up (place k1 k) (place k1 (k + 1)) (split.apart k h))
-    (kink_convex mu cap up (place k1 0) (place k1 (c.split-n.result - 1)) c.requires.mu)
+    (λ k h. kink_straight mu cap up (power k1 k) (power k1 (k + 1)) (split.apart k h))
+    (kink_convex mu cap up (power k1 0) (power k1 (c.split-n.result - 1)) c.requires.mu)
 
 ends : (c : After-lower) → HaveSameEnds c.args.knots.now c.args.used c.lower.new.knots c.split-n.result
 ends c =

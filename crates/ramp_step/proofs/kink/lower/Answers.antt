@@ -10,7 +10,7 @@ loop-i-preserved c =
     let lt : i < length ks = omega arith in
     let was : knot ks i ≡ knot c.args.knots.now i = c.loop-i.invariant.rest i (omega arith) in
     record {
-      places = below_more _ _ (λ j below. ap (λ (k : Knot). k.at) (knot_other ks i j q (omega arith)) ∙ c.loop-i.invariant.places j below)
+      powers = below_more _ _ (λ j below. ap (λ (k : Knot). k.at) (knot_other ks i j q (omega arith)) ∙ c.loop-i.invariant.powers j below)
           (ap (λ (k : Knot). k.at) (knot_same ks i q lt) ∙ c.lowered.ensures.at ∙ ap (λ (k : Knot). k.at) was);
       heights = below_more _ _ (λ j below. ap (λ (k : Knot). k.value) (knot_other ks i j q (omega arith)) ∙ c.loop-i.invariant.heights j below)
           (ap (λ (k : Knot). k.value) (knot_same ks i q lt) ∙ c.lowered.ensures.value
@@ -28,6 +28,6 @@ pub returns : goal.returns
 returns c =
     let heights = rw (to_z-of_z w64 c.args.mu c.ranges.mu, to_z-of_z w64 c.args.cap c.ranges.cap, to_z-of_z w64 c.args.up c.ranges.up) at c.loop-i.invariant.heights in
     record {
-      places = λ k h. c.loop-i.invariant.places k (omega arith);
+      powers = λ k h. c.loop-i.invariant.powers k (omega arith);
       heights = λ k h. heights k (omega arith);
     }

@@ -1,4 +1,4 @@
-use Rattle.ramp_step.proofs.Common.{ℤ, ◌+ℤ◌, ◌*ℤ◌, w64, to_z-of_z, place, StandFor}
+use Rattle.ramp_step.proofs.Common.{ℤ, ◌+ℤ◌, ◌*ℤ◌, w64, to_z-of_z, power, StandFor}
 use Rattle.ramp_step.proofs.Lemmas.{is_inside, StandFor-raised, HaveSameEnds-raised, line_straight, straight_convex, shape_of, within_of, can_add, sum, sum_breaks}
 use Rattle.ramp_step.proofs.line.line_step.Goals as goal
 
@@ -13,9 +13,9 @@ raise_line-requires c =
     let within = within_of ks n b in
     record {
       room = c.requires.room;
-      places = within.places;
+      powers = within.powers;
       before = within.amounts;
-      after = λ k h. rw (s.meet k h, to_z-of_z w64 c.args.slope c.ranges.slope) ((fits (place ks k) (is_inside ks n shape.0 k s h)).2);
+      after = λ k h. rw (s.meet k h, to_z-of_z w64 c.args.slope c.ranges.slope) ((fits (power ks k) (is_inside ks n shape.0 k s h)).2);
     }
 
 pub returns : goal.returns

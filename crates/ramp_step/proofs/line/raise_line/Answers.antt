@@ -7,7 +7,7 @@ on_line-requires c =
     let i = c.loop-i.i in
     let was : knot c.loop-i.knots i ≡ knot c.args.knots.now i = c.loop-i.invariant.rest i (omega arith) in
     record {
-      at = rw was (c.requires.places i (omega arith));
+      at = rw was (c.requires.powers i (omega arith));
       before = rw was (c.requires.before i (omega arith));
       after = rw (was, to_z-of_z w64 c.args.slope c.ranges.slope) (c.requires.after i (omega arith));
     }
@@ -20,7 +20,7 @@ loop-i-preserved c =
     let lt : i < length ks = omega arith in
     let was : knot ks i ≡ knot c.args.knots.now i = c.loop-i.invariant.rest i (omega arith) in
     record {
-      places = below_more _ _ (λ j below. ap (λ (k : Knot). k.at) (knot_other ks i j q (omega arith)) ∙ c.loop-i.invariant.places j below)
+      powers = below_more _ _ (λ j below. ap (λ (k : Knot). k.at) (knot_other ks i j q (omega arith)) ∙ c.loop-i.invariant.powers j below)
           (ap (λ (k : Knot). k.at) (knot_same ks i q lt) ∙ c.on_line.ensures.at ∙ ap (λ (k : Knot). k.at) was);
       heights = below_more _ _ (λ j below. ap (λ (k : Knot). k.value) (knot_other ks i j q (omega arith)) ∙ c.loop-i.invariant.heights j below)
           (ap (λ (k : Knot). k.value) (knot_same ks i q lt) ∙ c.on_line.ensures.value ∙ ap (λ (k : Knot). k.value +ℤ to_z w64 (of_z w64 c.args.slope) *ℤ k.at) was);

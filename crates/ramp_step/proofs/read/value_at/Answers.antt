@@ -1,4 +1,4 @@
-use Rattle.ramp_step.proofs.Common.{◌≡◌, ◌-◌, None, ap, ◌∙◌, arith, to_z, of_z, w64, ints, to_z-of_z, knot, place, height}
+use Rattle.ramp_step.proofs.Common.{◌≡◌, ◌-◌, None, ap, ◌∙◌, arith, to_z, of_z, w64, ints, to_z-of_z, knot, power, height}
 use Rattle.ramp_step.proofs.Lemmas.{is_inside, rises, on_line_between, within_between, value_between, IsLimited-within, shape_of, value_of-from_knots, within_of}
 use Rattle.ramp_step.proofs.read.value_at.Goals as goal
 
@@ -16,7 +16,7 @@ returns-then-knots-m c =
     let f = shape.0 in
     let s = shape.1 in
     let limits = within_of ks c.args.used c.requires.breaks in
-    let there : place ks m ≡ c.args.x = omega (arith, ints) in
+    let there : power ks m ≡ c.args.x = omega (arith, ints) in
     let i = is_inside ks c.args.used f m s (omega arith) in
     let a0 = (limits.amounts m (omega arith)).0 in
     let e : to_z w64 (of_z w64 (knot ks m).value) ≡ height ks m = omega (arith, ints) in
@@ -53,8 +53,8 @@ returns c =
     let high = b.after (omega arith) in
     let is = rw e at c.between-knot.ensures in
     let fits : to_z w64 (of_z w64 c.between-knot.result.value) ≡ c.between-knot.result.value = omega (arith, ints) in
-    let first = rises n (place ks) s.rise (m - 1) 0 (m - 1) (omega arith) (omega arith) in
-    let last = rises n (place ks) s.rise ((n - 1) - m) m (n - 1) (omega arith) (omega arith) in
+    let first = rises n (power ks) s.rise (m - 1) 0 (m - 1) (omega arith) (omega arith) in
+    let last = rises n (power ks) s.rise ((n - 1) - m) m (n - 1) (omega arith) (omega arith) in
     value_of-from_knots ks n c.args.x _ shape (record {
       inside = record { some = omega arith; from_first = omega (arith, ints); to_last = omega (arith, ints) };
       value = fits ∙ value_between ks n m f s (omega arith) (omega arith) c.args.x c.between-knot.result (omega (arith, ints)) high is;

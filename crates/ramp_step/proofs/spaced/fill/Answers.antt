@@ -50,8 +50,8 @@ returns c =
     let at = ap (λ (p : Knot). p.at) right in
     let low = c.requires.below.before (front - 1) (omega arith) in
     let high = c.requires.below.after (omega arith) in
-    let p0 = (c.requires.limits.places (front - 1) (omega arith)).0 in
-    let q1 = (c.requires.limits.places front (omega arith)).1 in
+    let p0 = (c.requires.limits.powers (front - 1) (omega arith)).0 in
+    let q1 = (c.requires.limits.powers front (omega arith)).1 in
     record {
       split = subst (λ (m : ℕ). IsSplit x (spaced ks front room) n (spaced new front (room - 1)) m) (omega arith)
           (IsSplit-inserted (spaced ks front room) (spaced new front (room - 1)) n front x q c.requires.stand c.requires.below (omega arith) (omega arith) (λ same. omega (arith, ints)) between put);

@@ -35,8 +35,8 @@ returns c =
     let m = c.below-m.result in
     let low = b.before (m - 1) (omega arith) in
     let high = b.after (omega arith) in
-    let p = c.requires.limits.places (m - 1) (omega arith) in
-    let q = c.requires.limits.places m (omega arith) in
+    let p = c.requires.limits.powers (m - 1) (omega arith) in
+    let q = c.requires.limits.powers m (omega arith) in
     record {
       split = IsSplit-inserted c.args.knots.now c.insert.new.knots c.args.used m c.args.x c.between-knot.result c.requires.stand b
           (omega arith) (omega arith) (λ same. omega (arith, ints)) is c.insert.ensures;

@@ -7,7 +7,7 @@ returns-then-reach-eq0-clause-window c =
     AreWindow-still c.args.knots.now c.args.used c.args.up c.args.down c.requires.some (omega (arith, ints)) (omega (arith, ints))
 
 pub returns-then-reach-eq0-clause-limits : goal.returns-then-reach-eq0-clause-limits
-returns-then-reach-eq0-clause-limits c = IsLimited-still c.args.knots.now c.args.used c.requires.places c.requires.amounts
+returns-then-reach-eq0-clause-limits c = IsLimited-still c.args.knots.now c.args.used c.requires.powers c.requires.amounts
 
 pub returns : goal.returns
 returns c =
@@ -15,6 +15,6 @@ returns c =
     record {
       window = AreWindow-spread c.args.knots.now c.spread.new.knots c.args.used c.turn-j.result c.args.up c.args.down c.requires.up c.requires.down (omega (arith, ints)) c.turn-j.ensures spread;
       limits = IsLimited-spread c.args.knots.now c.spread.new.knots c.args.used c.turn-j.result c.args.up c.args.down
-          c.requires.places c.requires.amounts c.requires.up_fits c.requires.down_fits c.turn-j.ensures.inside spread;
+          c.requires.powers c.requires.amounts c.requires.up_fits c.requires.down_fits c.turn-j.ensures.inside spread;
       charge = omega arith;
     }

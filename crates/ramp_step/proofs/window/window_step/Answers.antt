@@ -6,8 +6,8 @@ use Rattle.ramp_step.proofs.window.window_step.Goals.{After-cut_below-left}
 pub shift-moved-requires-clause-stand : goal.shift-moved-requires-clause-stand
 shift-moved-requires-clause-stand c = shape_of c.args.knots.now c.args.used c.requires.breaks
 
-pub shift-moved-requires-clause-places : goal.shift-moved-requires-clause-places
-shift-moved-requires-clause-places c = (within_of c.args.knots.now c.args.used c.requires.breaks).places
+pub shift-moved-requires-clause-powers : goal.shift-moved-requires-clause-powers
+shift-moved-requires-clause-powers c = (within_of c.args.knots.now c.args.used c.requires.breaks).powers
 
 pub shift-moved-requires-clause-amounts : goal.shift-moved-requires-clause-amounts
 shift-moved-requires-clause-amounts c = (within_of c.args.knots.now c.args.used c.requires.breaks).amounts

@@ -1,5 +1,5 @@
 use Rattle.slope_step.proofs.Common.{◌≡◌, ◌∙◌, ℕ, suc, ◌+◌, List, length, ap, subst, arith, rules, to_z, of_z, FitsSigned, ◌+ℤ◌, w64, ints, to_z-of_z, Block, block, IsInBlock}
-use Rattle.slope_step.proofs.Lemmas.{block_next, block_place, width_to-next}
+use Rattle.slope_step.proofs.Lemmas.{block_next, block_power, width_to-next}
 use Rattle.slope_step.proofs.draw.next_block.Goals as goal
 
 pub bounds-blocks-index : goal.bounds-blocks-index
@@ -14,7 +14,7 @@ overflow_add-result c =
     let j = c.args.pen.span.index in
     let e = ap (λ (bs : List Block). (block bs (j + 1)).width) c.as_slice-blocks.ensures in
     let s = ap (λ (k : ℕ). (block cv.blocks.items k).width) {x = j + 1} {y = suc j} (omega arith) in
-    let p = block_place cv c.requires.limited (suc (suc j)) (let i = c.requires.more in omega arith) in
+    let p = block_power cv c.requires.limited (suc (suc j)) (let i = c.requires.more in omega arith) in
     let pa = p.0 in
     let pb = p.1 in
     let n = width_to-next cv.blocks.items (suc j) c.requires.more in
@@ -27,7 +27,7 @@ returns-clause-block c =
     let j = c.args.pen.span.index in
     let e = ap (λ (bs : List Block). (block bs (j + 1)).width) c.as_slice-blocks.ensures in
     let s = ap (λ (k : ℕ). (block cv.blocks.items k).width) {x = j + 1} {y = suc j} (omega arith) in
-    let p = block_place cv c.requires.limited (suc (suc j)) (let i = c.requires.more in omega arith) in
+    let p = block_power cv c.requires.limited (suc (suc j)) (let i = c.requires.more in omega arith) in
     let pa = p.0 in
     let pb = p.1 in
     let n = width_to-next cv.blocks.items (suc j) c.requires.more in

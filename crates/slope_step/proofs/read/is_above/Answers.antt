@@ -1,4 +1,4 @@
-use Rattle.slope_step.proofs.Common.{arith, rules, to_z, FitsSigned, ◌+ℤ◌, ◌<ℤ◌, w64, OnTrue_from, ints, to_z-of_z, IsAbove, piece, last_place, function_of, table_of}
+use Rattle.slope_step.proofs.Common.{arith, rules, to_z, FitsSigned, ◌+ℤ◌, ◌<ℤ◌, w64, OnTrue_from, ints, to_z-of_z, IsAbove, piece, last_power, function_of, table_of}
 use Rattle.slope_step.proofs.Lemmas.{fallen_none, fallen_goes, fallen_on, fallen_amount, fallen_valley, above_all}
 use Rattle.slope_step.proofs.read.is_above.Goals as goal
 
@@ -33,7 +33,7 @@ pub returns-then-piece-ge0 : goal.returns-then-piece-ge0
 returns-then-piece-ge0 c =
     let v = fallen_valley c.args.start c.args.pieces.now c.requires.slopes c.loop-piece.piece-index _ _ c.loop-piece.invariant (omega arith) (λ h. omega (arith, ints)) in
     let over : c.args.limit <ℤ (to_z w64 c.loop-piece.value-bits +ℤ c.args.shift) = rw (to_z-of_z w64 c.args.shift c.ranges.shift, to_z-of_z w64 c.args.limit c.ranges.limit) at (c.exceeds.ensures (search rules)) in
-    above_all (function_of c.args.start c.args.pieces.now) c.args.start.first (last_place c.args.start.first c.args.pieces.now) (to_z w64 c.loop-piece.at-bits) v c.args.shift c.args.limit (omega (arith, ints))
+    above_all (function_of c.args.start c.args.pieces.now) c.args.start.first (last_power c.args.start.first c.args.pieces.now) (to_z w64 c.loop-piece.at-bits) v c.args.shift c.args.limit (omega (arith, ints))
 
 pub returns : goal.returns
 returns c =
@@ -41,4 +41,4 @@ returns c =
     OnTrue_from c.exceeds-2.result (IsAbove (table_of c.args.start c.args.pieces.now) c.args.shift c.args.limit)
     (λ t.
     let over : c.args.limit <ℤ (to_z w64 c.loop-piece.value-bits +ℤ c.args.shift) = rw (to_z-of_z w64 c.args.shift c.ranges.shift, to_z-of_z w64 c.args.limit c.ranges.limit) at (c.exceeds-2.ensures t) in
-    above_all (function_of c.args.start c.args.pieces.now) c.args.start.first (last_place c.args.start.first c.args.pieces.now) (to_z w64 c.loop-piece.at-bits) v c.args.shift c.args.limit (omega (arith, ints)))
+    above_all (function_of c.args.start c.args.pieces.now) c.args.start.first (last_power c.args.start.first c.args.pieces.now) (to_z w64 c.loop-piece.at-bits) v c.args.shift c.args.limit (omega (arith, ints)))

@@ -1,4 +1,4 @@
-use Rattle.slope_step.proofs.Common.{sym, subst, arith, rules, to_z, ℤ, FitsSigned, w64, ints, to_z-of_z, IsLeast, piece, last_place, function_of, table_of}
+use Rattle.slope_step.proofs.Common.{sym, subst, arith, rules, to_z, ℤ, FitsSigned, w64, ints, to_z-of_z, IsLeast, piece, last_power, function_of, table_of}
 use Rattle.slope_step.proofs.Lemmas.{fallen_none, fallen_goes, fallen_on, fallen_valley}
 use Rattle.slope_step.proofs.ValleyLaws.{IsLeast-valley}
 use Rattle.slope_step.proofs.read.least.Goals as goal
@@ -28,10 +28,10 @@ pub returns-then-piece-ge0 : goal.returns-then-piece-ge0
 returns-then-piece-ge0 c =
     let v = fallen_valley c.args.start c.args.pieces.now c.requires.slopes c.loop-piece.piece-index _ _ c.loop-piece.invariant (omega arith) (λ h. omega (arith, ints)) in
     subst (λ (z : ℤ). IsLeast (table_of c.args.start c.args.pieces.now) z (to_z w64 c.loop-piece.at-bits)) (sym c.loop-piece.invariant.value_is)
-    (IsLeast-valley (function_of c.args.start c.args.pieces.now) c.args.start.first (last_place c.args.start.first c.args.pieces.now) (to_z w64 c.loop-piece.at-bits) v)
+    (IsLeast-valley (function_of c.args.start c.args.pieces.now) c.args.start.first (last_power c.args.start.first c.args.pieces.now) (to_z w64 c.loop-piece.at-bits) v)
 
 pub returns : goal.returns
 returns c =
     let v = fallen_valley c.args.start c.args.pieces.now c.requires.slopes c.loop-piece.piece-index _ _ c.loop-piece.invariant (omega arith) (λ h. absurd (omega arith)) in
     subst (λ (z : ℤ). IsLeast (table_of c.args.start c.args.pieces.now) z (to_z w64 c.loop-piece.at-bits)) (sym c.loop-piece.invariant.value_is)
-    (IsLeast-valley (function_of c.args.start c.args.pieces.now) c.args.start.first (last_place c.args.start.first c.args.pieces.now) (to_z w64 c.loop-piece.at-bits) v)
+    (IsLeast-valley (function_of c.args.start c.args.pieces.now) c.args.start.first (last_power c.args.start.first c.args.pieces.now) (to_z w64 c.loop-piece.at-bits) v)

@@ -1,22 +1,22 @@
-use Rattle.slope_step.proofs.Common.{to_z, of_z, ◌≡◌, ap, sym, ◌∙◌, subst, refl, rules, ℤ, FitsSigned, ◌+ℤ◌, ◌-ℤ◌, ◌*ℤ◌, ◌≤ℤ◌, w64, int_min, int_max, to_z-of_z, IsCost, reserve_term, last_place, function_of, nearest}
+use Rattle.slope_step.proofs.Common.{to_z, of_z, ◌≡◌, ap, sym, ◌∙◌, subst, refl, rules, ℤ, FitsSigned, ◌+ℤ◌, ◌-ℤ◌, ◌*ℤ◌, ◌≤ℤ◌, w64, int_min, int_max, to_z-of_z, IsCost, reserve_term, last_power, function_of, nearest}
 use Rattle.slope_step.proofs.Lemmas.{wide_of, on_curve, end_of-width, end_of_valley, within_from_small, nearest_inside, le_trans, lt_le_trans, same_le, level_joined, coded_is, output_near, up_coded, down_coded, fits_sum, fits_less}
 use Rattle.slope_step.proofs.FunctionLaws.{cost_at_is}
 use Rattle.slope_step.proofs.step.open.Goals as goal
 use Rattle.slope_step.proofs.step.open.Goals.{After-max-near}
 
--- the place nearest to the turn, which is one of the function before the step
+-- the power nearest to the turn, which is one of the function before the step
 record Near (c : After-max-near) : Type 0 where
   is : c.max-near.result ≡ nearest c.args.window.now.step.ramp_up c.args.window.now.step.ramp_down c.args.window.now.turn c.args.low
   coded : to_z w64 (of_z w64 c.max-near.result) ≡ c.max-near.result
   from : c.args.window.now.start.first ≤ℤ c.max-near.result
-  to : c.max-near.result ≤ℤ last_place c.args.window.now.start.first c.args.window.now.pieces.now
+  to : c.max-near.result ≤ℤ last_power c.args.window.now.start.first c.args.window.now.pieces.now
 
 near : (c : After-max-near) → Near c
 near c =
     let w = c.args.window.now in
     let s = w.step in
     let low = c.args.low in
-    let last = last_place w.start.first w.pieces.now in
+    let last = last_power w.start.first w.pieces.now in
     let fair = w.valid.fair in
     let turn = end_of_valley w.start w.pieces.now w.valid.small s w.turn w.valid.valley in
     let fm : FitsSigned w64 c.min.result = search rules in

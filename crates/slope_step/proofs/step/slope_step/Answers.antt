@@ -1,4 +1,4 @@
-use Rattle.slope_step.proofs.Common.{to_z, of_z, ◌≡◌, ◌≤◌, false, List, length, ap, sym, ◌∙◌, subst, arith, rules, FitsSigned, ◌+ℤ◌, ◌-ℤ◌, ◌≤ℤ◌, w64, int_min, int_max, to_z-of_z, IsSmall, IsOutput, Piece, Start, HasCosts, AreSmall, last_place, table_of, AreSlopes, nearest, stepped, IsTurn, lt_z}
+use Rattle.slope_step.proofs.Common.{to_z, of_z, ◌≡◌, ◌≤◌, false, List, length, ap, sym, ◌∙◌, subst, arith, rules, FitsSigned, ◌+ℤ◌, ◌-ℤ◌, ◌≤ℤ◌, w64, int_min, int_max, to_z-of_z, IsSmall, IsOutput, Piece, Start, HasCosts, AreSmall, last_power, table_of, AreSlopes, nearest, stepped, IsTurn, lt_z}
 use Rattle.slope_step.proofs.Lemmas.{ends_rise_to, same_le, coded_is, output_near, up_coded, down_coded, fits_sum, fits_less, test_true, test_false}
 use Rattle.slope_step.proofs.StepLaws.{small_from_table, gentle_from_small, costs_on, stepped_none, turn_on, written, written_slopes, written_within, step_low, step_high, step_output}
 use Rattle.slope_step.proofs.step.slope_step.Goals as goal
@@ -8,7 +8,7 @@ use Rattle.slope_step.proofs.step.slope_step.Goals.{After-turn-turn}
 record Ends (start : Start) (ps : List Piece) : Type 0 where
   small : AreSmall start ps
   first : IsOutput start.first
-  last : IsOutput (last_place start.first ps)
+  last : IsOutput (last_power start.first ps)
 
 ends : (start : Start) (ps : List Piece) → AreSlopes start.first ps → IsSmall (table_of start ps) → Ends start ps
 ends start ps slopes small =
@@ -17,19 +17,19 @@ ends start ps slopes small =
     record {
       small = near;
       first = (near start.first (same_le start.first) order).0;
-      last = (near (last_place start.first ps) order (same_le (last_place start.first ps))).0;
+      last = (near (last_power start.first ps) order (same_le (last_power start.first ps))).0;
     }
 
 -- the ends of the function after the step, and its turn
 record Range (c : After-turn-turn) : Type 0 where
   ends : Ends c.args.start c.args.pieces.now
   low_is : c.max-low.result ≡ int_max c.args.step.least (c.args.start.first -ℤ c.args.step.ramp_down)
-  high_is : c.min-high.result ≡ int_min c.args.step.most (last_place c.args.start.first c.args.pieces.now +ℤ c.args.step.ramp_up)
+  high_is : c.min-high.result ≡ int_min c.args.step.most (last_power c.args.start.first c.args.pieces.now +ℤ c.args.step.ramp_up)
   low : to_z w64 (of_z w64 c.max-low.result) ≡ c.max-low.result
   high : to_z w64 (of_z w64 c.min-high.result) ≡ c.min-high.result
   turn : to_z w64 (of_z w64 c.turn-turn.result) ≡ c.turn-turn.result
   at_low : (c.args.start.first ≤ℤ (c.max-low.result +ℤ c.args.step.ramp_down)) × (c.args.step.least ≤ℤ c.max-low.result)
-  at_high : (c.min-high.result ≤ℤ (last_place c.args.start.first c.args.pieces.now +ℤ c.args.step.ramp_up)) × (c.min-high.result ≤ℤ c.args.step.most)
+  at_high : (c.min-high.result ≤ℤ (last_power c.args.start.first c.args.pieces.now +ℤ c.args.step.ramp_up)) × (c.min-high.result ≤ℤ c.args.step.most)
 
 range : (c : After-turn-turn) → Range c
 range c =
@@ -38,9 +38,9 @@ range c =
     let start = c.args.start in
     let fair = c.requires.step in
     let e = ends start ps c.requires.slopes c.requires.small in
-    let last : c.last_place.result ≡ last_place start.first ps = rw (coded_is start.first (output_near start.first e.first)) at c.last_place.ensures in
+    let last : c.last_power.result ≡ last_power start.first ps = rw (coded_is start.first (output_near start.first e.first)) at c.last_power.ensures in
     let low_is : c.max-low.result ≡ int_max s.least (start.first -ℤ s.ramp_down) = rw (coded_is s.least (output_near s.least fair.least), down_coded start.first s.ramp_down e.first fair.ramp_down) at c.max-low.ensures.value in
-    let high_is : c.min-high.result ≡ int_min s.most (last_place start.first ps +ℤ s.ramp_up) = rw (coded_is s.most (output_near s.most fair.most), last, up_coded (last_place start.first ps) s.ramp_up e.last fair.ramp_up) at c.min-high.ensures.value in
+    let high_is : c.min-high.result ≡ int_min s.most (last_power start.first ps +ℤ s.ramp_up) = rw (coded_is s.most (output_near s.most fair.most), last, up_coded (last_power start.first ps) s.ramp_up e.last fair.ramp_up) at c.min-high.ensures.value in
     let gl : FitsSigned w64 c.max-low.result = search rules in
     let gh : FitsSigned w64 c.min-high.result = search rules in
     let gt : FitsSigned w64 c.turn-turn.result = search rules in
@@ -52,7 +52,7 @@ range c =
       high = to_z-of_z w64 c.min-high.result gh;
       turn = to_z-of_z w64 c.turn-turn.result gt;
       at_low = step_low c.max-low.result s.least start.first s.ramp_down low_is;
-      at_high = step_high c.min-high.result s.most (last_place start.first ps) s.ramp_up high_is;
+      at_high = step_high c.min-high.result s.most (last_power start.first ps) s.ramp_up high_is;
     }
 
 costs : (c : After-turn-turn) → HasCosts c.args.curve.now c.max-low.result c.min-high.result
@@ -66,7 +66,7 @@ turned c =
     subst (IsTurn c.args.step (table_of c.args.start c.args.pieces.now)) (sym r.turn)
     (turn_on c.args.start c.args.pieces.now c.args.step c.args.curve.now c.turn-turn.result c.max-low.result c.min-high.result c.requires.slopes c.requires.step c.requires.curve c.turn-turn.ensures r.low_is r.high_is)
 
--- there is a place
+-- there is a power
 order : (c : After-turn-turn) → Range c → lt_z (to_z w64 (of_z w64 c.min-high.result)) (to_z w64 (of_z w64 c.max-low.result)) ≡ false → c.max-low.result ≤ℤ c.min-high.result
 order c r = test_false c.min-high.result c.max-low.result _ _ r.high r.low
 
@@ -75,11 +75,11 @@ overflow_sub-start c =
     let e = ends c.args.start c.args.pieces.now c.requires.slopes c.requires.small in
     fits_less c.args.start.first c.args.step.ramp_down e.first c.requires.step.ramp_down
 
-pub overflow_add-last_place : goal.overflow_add-last_place
-overflow_add-last_place c =
+pub overflow_add-last_power : goal.overflow_add-last_power
+overflow_add-last_power c =
     let e = ends c.args.start c.args.pieces.now c.requires.slopes c.requires.small in
-    let last : c.last_place.result ≡ last_place c.args.start.first c.args.pieces.now = rw (coded_is c.args.start.first (output_near c.args.start.first e.first)) at c.last_place.ensures in
-    rw last (fits_sum (last_place c.args.start.first c.args.pieces.now) c.args.step.ramp_up e.last c.requires.step.ramp_up)
+    let last : c.last_power.result ≡ last_power c.args.start.first c.args.pieces.now = rw (coded_is c.args.start.first (output_near c.args.start.first e.first)) at c.last_power.ensures in
+    rw last (fits_sum (last_power c.args.start.first c.args.pieces.now) c.args.step.ramp_up e.last c.requires.step.ramp_up)
 
 pub turn-turn-requires-clause-gentle : goal.turn-turn-requires-clause-gentle
 turn-turn-requires-clause-gentle c =

@@ -8,7 +8,7 @@ returns-then-part-eq0-clause-flat c =
     let k = kinked w.start w.pieces.now w.step in
     let line = c.part_at-part.ensures.line w.start w.valid.slopes c.requires.placed in
     let none : c.part_at-part.result.slope ≡ pos 0 = omega (arith, ints) in
-    subst (λ (z : ℤ). IsFlat k c.args.place.at z) (sym c.part_at-part.ensures.then) (flat_from_line k c.args.place.at c.part_at-part.result.end c.part_at-part.result.slope line none)
+    subst (λ (z : ℤ). IsFlat k c.args.cursor.at z) (sym c.part_at-part.ensures.then) (flat_from_line k c.args.cursor.at c.part_at-part.result.end c.part_at-part.result.slope line none)
 
 pub returns-then-part-eq0-clause-placed : goal.returns-then-part-eq0-clause-placed
 returns-then-part-eq0-clause-placed c =
@@ -18,9 +18,9 @@ returns-then-part-eq0-clause-placed c =
 pub returns-else-part-eq0-clause-flat : goal.returns-else-part-eq0-clause-flat
 returns-else-part-eq0-clause-flat c =
     let w = c.args.window.now in
-    flat_here (kinked w.start w.pieces.now w.step) c.args.place.at
+    flat_here (kinked w.start w.pieces.now w.step) c.args.cursor.at
 
-pub returns-else-place-window-clause-flat : goal.returns-else-place-window-clause-flat
-returns-else-place-window-clause-flat c =
+pub returns-else-cursor-window-clause-flat : goal.returns-else-cursor-window-clause-flat
+returns-else-cursor-window-clause-flat c =
     let w = c.args.window.now in
-    flat_here (kinked w.start w.pieces.now w.step) c.args.place.at
+    flat_here (kinked w.start w.pieces.now w.step) c.args.cursor.at

@@ -12,7 +12,7 @@ returns-clause-least g c =
     let prices = prices_of c.args.prices.now in
     let first = spell_first c.args.started c.args.first in
     let periods = length c.args.prices.now.energy.items in
-    let entries = c.fill-filled.new.into.entries.items in
+    let entries = c.fill-filled.new.into.items in
     on_ok_weaker {Q = (last : ℕ) → c.args.first ≤ last → last ≤ periods → IsSpellAnswer unit prices periods first last (entry_of entries last)} _
     (λ each. entries_by_last (λ (last : ℕ) (e : Option ℤ). IsSpellAnswer unit prices periods first last e) c.args.first periods entries c.requires.start.from_one (λ k from until. (each k from until).0))
     c.fill-filled.ensures.answers
@@ -21,7 +21,7 @@ pub returns-clause-within : goal.returns-clause-within
 returns-clause-within g c =
     let first = spell_first c.args.started c.args.first in
     let periods = length c.args.prices.now.energy.items in
-    let entries = c.fill-filled.new.into.entries.items in
+    let entries = c.fill-filled.new.into.items in
     on_ok_weaker {Q = (last : ℕ) → c.args.first ≤ last → last ≤ periods → IfSome (entry_of entries last) (IsSpellWithin first last)} _
     (λ each. entries_by_last (λ (last : ℕ) (e : Option ℤ). IfSome e (IsSpellWithin first last)) c.args.first periods entries c.requires.start.from_one (λ k from until. (each k from until).1))
     c.fill-filled.ensures.answers
@@ -54,13 +54,13 @@ returns-clause-enough g c = λ counts enough.
 
 pub returns-clause-before : goal.returns-clause-before
 returns-clause-before g c =
-    let entries = c.fill-filled.new.into.entries.items in
+    let entries = c.fill-filled.new.into.items in
     on_ok_weaker {Q = (last : ℕ) → 1 ≤ last → last < c.args.first → entry_of entries last ≡ None} _
-    (λ each. entries_before c.args.first c.clear_before.new.into.entries.items entries (λ k low. c.fill-filled.ensures.others k (inl low)) c.clear_before.ensures.before)
+    (λ each. entries_before c.args.first c.clear_before.new.into.items entries (λ k low. c.fill-filled.ensures.others k (inl low)) c.clear_before.ensures.before)
     c.fill-filled.ensures.answers
 
 pub returns-clause-past : goal.returns-clause-past
 returns-clause-past g c =
     let first = c.requires.start.within in
-    entries_past (length c.args.prices.now.energy.items) c.args.into.now.entries.items c.fill-filled.new.into.entries.items
+    entries_past (length c.args.prices.now.energy.items) c.args.into.now.items c.fill-filled.new.into.items
     (λ k past. c.fill-filled.ensures.others k (inr past) ∙ c.clear_before.ensures.others k (omega (arith, past, first)))

@@ -20,7 +20,7 @@ returns-then-not-may_end-clause-added g c =
 
 pub returns-clause-added : goal.returns-clause-added
 returns-clause-added g c =
-    let costs = c.spell_costs.new.into.entries.items in
+    let costs = c.spell_costs.new.into.items in
     record {
       nets = net_at costs;
       none = refl;

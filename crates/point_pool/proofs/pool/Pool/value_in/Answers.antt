@@ -1,4 +1,4 @@
-use Rattle.point_pool.proofs.Common.{rules, ◌≡◌, ◌<◌, ◌+◌, ◌-◌, sym, ap, ◌∙◌, subst, arith, to_z, of_z, ◌≤ℤ◌, FitsSigned, w64, ints, to_z-of_z, get_or_read, Knot, knot, place, no_slot, walk, knots_at}
+use Rattle.point_pool.proofs.Common.{rules, ◌≡◌, ◌<◌, ◌+◌, ◌-◌, sym, ap, ◌∙◌, subst, arith, to_z, of_z, ◌≤ℤ◌, FitsSigned, w64, ints, to_z-of_z, get_or_read, Knot, knot, power, no_slot, walk, knots_at}
 use Rattle.point_pool.proofs.Lemmas.{IsCellAt, IsCellAt-first, next_read, AreNeighbours, neighbours_read, length-knots, IsRun-pair, IsRun-last}
 use Rattle.point_pool.proofs.pool.Pool.value_in.Goals as goal
 use Rattle.point_pool.proofs.pool.Pool.value_in.Goals.{After-index-slot, After-index-next, After-index}
@@ -59,7 +59,7 @@ returns-then-x-next c =
     let ks = knots_at slots (walk slots c.args.head n) in
     let t = two (goal.at.returns-then-x-next c).After-index-next in
     let e-x : to_z w64 (of_z w64 c.args.x) ≡ c.args.x = to_z-of_z w64 _ c.ranges.x in
-    let passed : 0 < k → place ks k ≤ℤ c.args.x = λ h. let p = c.loop-done.invariant.passed (omega arith) in omega (arith, ints) in
+    let passed : 0 < k → power ks k ≤ℤ c.args.x = λ h. let p = c.loop-done.invariant.passed (omega arith) in omega (arith, ints) in
     let fits : FitsSigned w64 c.index-next.result.now.knot.at = search rules in
     let e-at : to_z w64 (of_z w64 c.index-next.result.now.knot.at) ≡ c.index-next.result.now.knot.at = to_z-of_z w64 _ fits in
     let test = c.if-x-next.true in
@@ -77,7 +77,7 @@ loop-done-preserved c =
     let fits : FitsSigned w64 c.index-next.result.now.knot.at = search rules in
     let e-at : to_z w64 (of_z w64 c.index-next.result.now.knot.at) ≡ c.index-next.result.now.knot.at = to_z-of_z w64 _ fits in
     let e3 : (done - 1) + 1 ≡ (done + 1) - 1 = omega (arith, c.loop-done.auto.done) in
-    let b : c.index-next.result.now.knot.at ≡ place ks ((done + 1) - 1) = ap (λ (q : Knot). q.at) t.second ∙ ap (place ks) e3 in
+    let b : c.index-next.result.now.knot.at ≡ power ks ((done + 1) - 1) = ap (λ (q : Knot). q.at) t.second ∙ ap (power ks) e3 in
     let test = c.if-x-next.false in
     let e1 : (done + 1) - 1 ≡ done = omega arith in
     record {
@@ -106,7 +106,7 @@ returns c =
     let ks = knots_at slots (walk slots c.args.head n) in
     let len = length-knots slots c.args.head n in
     let e-x : to_z w64 (of_z w64 c.args.x) ≡ c.args.x = to_z-of_z w64 _ c.ranges.x in
-    let passed : 0 < k → place ks k ≤ℤ c.args.x = λ h. let p = c.loop-done.invariant.passed (omega arith) in omega (arith, ints) in
+    let passed : 0 < k → power ks k ≤ℤ c.args.x = λ h. let p = c.loop-done.invariant.passed (omega arith) in omega (arith, ints) in
     let run = IsRun-last ks n k _ len (is_last at) (last at) in
     let end = is_last at in
     (rw e-x at c.value_at-2.ensures) ∙ (c.knots_decide.ensures.runs ks _ _ k 1 run c.requires.breaks).1 c.args.x passed (λ h. absurd (omega (arith, end, len)))

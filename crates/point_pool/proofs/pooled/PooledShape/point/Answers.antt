@@ -16,14 +16,14 @@ stored c =
 pub returns-clause-ok : goal.returns-clause-ok
 returns-clause-ok c =
     let s = stored (goal.at.returns-clause-ok c).After-take-head in
-    subst (λ (ks : List Knot). IsPoint c.args.at c.args.value (function_of ks)) (sym s.holds) (c.knots_decide.ensures.point (record { at = c.args.at; value = c.args.value } ∷ []) c.requires.place c.requires.amount).1
+    subst (λ (ks : List Knot). IsPoint c.args.at c.args.value (function_of ks)) (sym s.holds) (c.knots_decide.ensures.point (record { at = c.args.at; value = c.args.value } ∷ []) c.requires.power c.requires.amount).1
 
 pub returns-clause-here : goal.returns-clause-here
 returns-clause-here c =
     let s = stored (goal.at.returns-clause-here c).After-take-head in
     record {
       used = s.used;
-      breaks = subst IsBreakList (sym s.holds) (c.knots_decide.ensures.point (record { at = c.args.at; value = c.args.value } ∷ []) c.requires.place c.requires.amount).0;
+      breaks = subst IsBreakList (sym s.holds) (c.knots_decide.ensures.point (record { at = c.args.at; value = c.args.value } ∷ []) c.requires.power c.requires.amount).0;
     }
 
 pub returns-clause-frame : goal.returns-clause-frame
