@@ -44,23 +44,23 @@ blank_here ps i lt e =
     let f : blank (get_or ps i 0) ≡ 1 = ap blank e in
     omega (arith, s, f)
 
-module _ (long : ℕ) (places : List ℕ) (used : ℕ) (numbers : List ℕ) (room : ℕ) (T : IsTable long places used numbers room) (i : ℕ) (lt : i < length places) where
-  -- ---- the row at a place
+module _ (long : ℕ) (ordinals : List ℕ) (used : ℕ) (numbers : List ℕ) (room : ℕ) (T : IsTable long ordinals used numbers room) (i : ℕ) (lt : i < length ordinals) where
+  -- ---- the row of an ordinal
 
-  -- the numbers of a row with a place are within
-  pub place_inside : (p : ℕ) → p < used → p * long + long ≤ length numbers
-  place_inside p h = inside p used long (length numbers) h T.size
+  -- the numbers of the rows that have some are within
+  pub part_inside : (p : ℕ) → p < used → p * long + long ≤ length numbers
+  part_inside p h = inside p used long (length numbers) h T.size
 
-  pub within_used : (p : ℕ) → get_or places i 0 ≡ suc p → p < used
+  pub within_used : (p : ℕ) → get_or ordinals i 0 ≡ suc p → p < used
   within_used p e = let w = T.within i in omega (arith, e, w)
 
   -- one more row may have numbers
-  pub room_for_one : get_or places i 0 ≡ 0 → suc used ≤ length places
-  room_for_one e = let b = blank_here places i lt e in let f = T.few in omega (arith, b, f)
+  pub room_for_one : get_or ordinals i 0 ≡ 0 → suc used ≤ length ordinals
+  room_for_one e = let b = blank_here ordinals i lt e in let f = T.few in omega (arith, b, f)
 
-  pub room_for_numbers : get_or places i 0 ≡ 0 → length numbers + long ≤ room
+  pub room_for_numbers : get_or ordinals i 0 ≡ 0 → length numbers + long ≤ room
   room_for_numbers e =
-      let m = inside used (length places) long (length places * long) (room_for_one e) refl in
+      let m = inside used (length ordinals) long (length ordinals * long) (room_for_one e) refl in
       let s = T.size in
       let r = T.fits in
       omega (arith, m, s, r)
@@ -68,13 +68,13 @@ module _ (long : ℕ) (places : List ℕ) (used : ℕ) (numbers : List ℕ) (roo
   module _ (row : List ℕ) (size : length row ≡ long) where
     -- ---- a row that has numbers
 
-    module _ (p : ℕ) (is : get_or places i 0 ≡ suc p) where
+    module _ (p : ℕ) (is : get_or ordinals i 0 ≡ suc p) where
       abbrev numbers2 : List ℕ
       numbers2 = with_part numbers long p row
 
-      pub table_written : IsTable long places used numbers2 room
+      pub table_written : IsTable long ordinals used numbers2 room
       table_written = record {
-        size = length-with_part numbers row long p (place_inside p (within_used p is)) size ∙ T.size;
+        size = length-with_part numbers row long p (part_inside p (within_used p is)) size ∙ T.size;
         within = T.within;
         apart = T.apart;
         few = T.few;
@@ -82,53 +82,53 @@ module _ (long : ℕ) (places : List ℕ) (used : ℕ) (numbers : List ℕ) (roo
         fits = T.fits;
       }
 
-      other_row : (k : ℕ) → (k ≡ i → ⊥) → (q : ℕ) → get_or places k 0 ≡ q → row_at long numbers2 q ≡ row_at long numbers q
+      other_row : (k : ℕ) → (k ≡ i → ⊥) → (q : ℕ) → get_or ordinals k 0 ≡ q → row_at long numbers2 q ≡ row_at long numbers q
       other_row k ne zero at = refl
-      other_row k ne (suc q) at = others_stay numbers row long p q (place_inside p (within_used p is)) size
+      other_row k ne (suc q) at = others_stay numbers row long p q (part_inside p (within_used p is)) size
           (λ (same : q ≡ p). ne (sym (T.apart i k (omega (arith, is)) (is ∙ ap suc (sym same) ∙ sym at))))
 
-      pub rows_written : rows_in long numbers2 places ≡ set (rows_in long numbers places) i row
+      pub rows_written : rows_in long numbers2 ordinals ≡ set (rows_in long numbers ordinals) i row
       rows_written =
-          one_changed (row_at long numbers) (row_at long numbers2) places places i row refl lt
-          (ap (row_at long numbers2) is ∙ stands numbers row long p (place_inside p (within_used p is)) size)
-          (λ k ne. other_row k ne (get_or places k 0) refl)
+          one_changed (row_at long numbers) (row_at long numbers2) ordinals ordinals i row refl lt
+          (ap (row_at long numbers2) is ∙ stands numbers row long p (part_inside p (within_used p is)) size)
+          (λ k ne. other_row k ne (get_or ordinals k 0) refl)
 
     -- ---- a row of zeros stays one
 
-    pub rows_kept : get_or places i 0 ≡ 0 → row ≡ replicate long 0 → rows_in long numbers places ≡ set (rows_in long numbers places) i row
-    rows_kept is zero_row = one_changed (row_at long numbers) (row_at long numbers) places places i row refl lt (ap (row_at long numbers) is ∙ sym zero_row) (λ k ne. refl)
+    pub rows_kept : get_or ordinals i 0 ≡ 0 → row ≡ replicate long 0 → rows_in long numbers ordinals ≡ set (rows_in long numbers ordinals) i row
+    rows_kept is zero_row = one_changed (row_at long numbers) (row_at long numbers) ordinals ordinals i row refl lt (ap (row_at long numbers) is ∙ sym zero_row) (λ k ne. refl)
 
     -- ---- a row of zeros becomes another
 
-    module _ (is : get_or places i 0 ≡ 0) (next : ℕ) (next_is : next ≡ suc used) where
-      abbrev places2 : List ℕ
-      places2 = set places i next
+    module _ (is : get_or ordinals i 0 ≡ 0) (next : ℕ) (next_is : next ≡ suc used) where
+      abbrev ordinals2 : List ℕ
+      ordinals2 = set ordinals i next
 
-      here : get_or places2 i 0 ≡ next
-      here = get_or-set_same places i next 0 lt
+      here : get_or ordinals2 i 0 ≡ next
+      here = get_or-set_same ordinals i next 0 lt
 
-      there : (k : ℕ) → (k ≡ i → ⊥) → get_or places2 k 0 ≡ get_or places k 0
-      there k ne = get_or-set_other places i k next 0 ne
+      there : (k : ℕ) → (k ≡ i → ⊥) → get_or ordinals2 k 0 ≡ get_or ordinals k 0
+      there k ne = get_or-set_other ordinals i k next 0 ne
 
-      within2 : (k : ℕ) → get_or places2 k 0 ≤ next
+      within2 : (k : ℕ) → get_or ordinals2 k 0 ≤ next
       within2 k = elim (same_or k i) [
-        | inl e ↦ let f : get_or places2 k 0 ≡ next = ap (λ (j : ℕ). get_or places2 j 0) e ∙ here in omega (arith, f)
+        | inl e ↦ let f : get_or ordinals2 k 0 ≡ next = ap (λ (j : ℕ). get_or ordinals2 j 0) e ∙ here in omega (arith, f)
         | inr ne ↦ let f = there k ne in let w = T.within k in omega (arith, f, w, next_is)
       ]
 
-      apart2 : (j k : ℕ) → 0 < get_or places2 j 0 → get_or places2 j 0 ≡ get_or places2 k 0 → j ≡ k
+      apart2 : (j k : ℕ) → 0 < get_or ordinals2 j 0 → get_or ordinals2 j 0 ≡ get_or ordinals2 k 0 → j ≡ k
       apart2 j k some same = elim (same_or j i) [
         | inl e ↦ elim (same_or k i) [
           | inl f ↦ e ∙ sym f
           | inr nf ↦
-              let x : get_or places2 j 0 ≡ next = ap (λ (m : ℕ). get_or places2 m 0) e ∙ here in
+              let x : get_or ordinals2 j 0 ≡ next = ap (λ (m : ℕ). get_or ordinals2 m 0) e ∙ here in
               let y = there k nf in
               let w = T.within k in
               absurd (omega (arith, x, y, w, same, next_is))
         ]
         | inr ne ↦ elim (same_or k i) [
           | inl f ↦
-              let x : get_or places2 k 0 ≡ next = ap (λ (m : ℕ). get_or places2 m 0) f ∙ here in
+              let x : get_or ordinals2 k 0 ≡ next = ap (λ (m : ℕ). get_or ordinals2 m 0) f ∙ here in
               let y = there j ne in
               let w = T.within j in
               absurd (omega (arith, x, y, w, same, next_is))
@@ -139,46 +139,46 @@ module _ (long : ℕ) (places : List ℕ) (used : ℕ) (numbers : List ℕ) (roo
         ]
       ]
 
-      few2 : next + blanks places2 ≤ length places2
+      few2 : next + blanks ordinals2 ≤ length ordinals2
       few2 =
-          let e = sum_by-set blank places i next 0 lt in
-          let f : blank (get_or places i 0) ≡ 1 = ap blank is in
+          let e = sum_by-set blank ordinals i next 0 lt in
+          let f : blank (get_or ordinals i 0) ≡ 1 = ap blank is in
           let g : blank next ≡ 0 = ap blank next_is in
-          let l = length-set places i next in
+          let l = length-set ordinals i next in
           let h = T.few in
           omega (arith, e, f, g, l, h, next_is)
 
-      pub table_more : IsTable long places2 next (numbers ++ row) room
+      pub table_more : IsTable long ordinals2 next (numbers ++ row) room
       table_more = record {
         size = let e = ap (λ (n : ℕ). n * long) next_is in let s = T.size in let l = length-append numbers row in omega (arith, e, s, l, size);
         within = within2;
         apart = apart2;
         few = few2;
-        count = let l = length-set places i next in let c = T.count in omega (arith, l, c);
-        fits = let e = ap (λ (n : ℕ). n * long) (length-set places i next) in let r = T.fits in omega (arith, e, r);
+        count = let l = length-set ordinals i next in let c = T.count in omega (arith, l, c);
+        fits = let e = ap (λ (n : ℕ). n * long) (length-set ordinals i next) in let r = T.fits in omega (arith, e, r);
       }
 
       other_more : (q : ℕ) → q ≤ used → row_at long (numbers ++ row) q ≡ row_at long numbers q
       other_more zero le = refl
-      other_more (suc q) le = others_stay_more numbers row long q (place_inside q (omega (arith, le)))
+      other_more (suc q) le = others_stay_more numbers row long q (part_inside q (omega (arith, le)))
 
-      pub rows_more : rows_in long (numbers ++ row) places2 ≡ set (rows_in long numbers places) i row
+      pub rows_more : rows_in long (numbers ++ row) ordinals2 ≡ set (rows_in long numbers ordinals) i row
       rows_more =
-          one_changed (row_at long numbers) (row_at long (numbers ++ row)) places places2 i row (length-set places i next) lt
+          one_changed (row_at long numbers) (row_at long (numbers ++ row)) ordinals ordinals2 i row (length-set ordinals i next) lt
           (ap (row_at long (numbers ++ row)) (here ∙ next_is) ∙ stands_last numbers row long used T.size size)
-          (λ k ne. ap (row_at long (numbers ++ row)) (there k ne) ∙ other_more (get_or places k 0) (T.within k))
+          (λ k ne. ap (row_at long (numbers ++ row)) (there k ne) ∙ other_more (get_or ordinals k 0) (T.within k))
 
 -- ---- a row is read
 
--- a row of the table is one of its places
-pub row_of : (v : Rows) (long : ℕ) (numbers places : List ℕ) (row : ℕ) → (let w : Rows = record { long = long; rows = rows_in long numbers places } in w ≡ v) → row < length v.rows → row < length places
-row_of v long numbers places row is lt =
-    let e : length (rows_in long numbers places) ≡ length v.rows = ap (λ (w : Rows). length w.rows) is in
-    omega (arith, e, lt, length-map places (row_at long numbers))
+-- a row of the table has one of its ordinals
+pub row_of : (v : Rows) (long : ℕ) (numbers ordinals : List ℕ) (row : ℕ) → (let w : Rows = record { long = long; rows = rows_in long numbers ordinals } in w ≡ v) → row < length v.rows → row < length ordinals
+row_of v long numbers ordinals row is lt =
+    let e : length (rows_in long numbers ordinals) ≡ length v.rows = ap (λ (w : Rows). length w.rows) is in
+    omega (arith, e, lt, length-map ordinals (row_at long numbers))
 
-pub part_long : (long : ℕ) (places : List ℕ) (used : ℕ) (numbers : List ℕ) (room : ℕ) → IsTable long places used numbers room → (i p : ℕ) → get_or places i 0 ≡ suc p → p * long + long ≤ length numbers
-part_long long places used numbers room T i p e = inside p used long (length numbers) (let w = T.within i in omega (arith, e, w)) T.size
+pub part_long : (long : ℕ) (ordinals : List ℕ) (used : ℕ) (numbers : List ℕ) (room : ℕ) → IsTable long ordinals used numbers room → (i p : ℕ) → get_or ordinals i 0 ≡ suc p → p * long + long ≤ length numbers
+part_long long ordinals used numbers room T i p e = inside p used long (length numbers) (let w = T.within i in omega (arith, e, w)) T.size
 
-pub row_long : (long : ℕ) (places : List ℕ) (used : ℕ) (numbers : List ℕ) (room : ℕ) → IsTable long places used numbers room → (i p : ℕ) → get_or places i 0 ≡ p → length (row_at long numbers p) ≡ long
-row_long long places used numbers room T i zero e = length-replicate {A = ℕ} long 0
-row_long long places used numbers room T i (suc p) e = length-part numbers long p (part_long long places used numbers room T i p e)
+pub row_long : (long : ℕ) (ordinals : List ℕ) (used : ℕ) (numbers : List ℕ) (room : ℕ) → IsTable long ordinals used numbers room → (i p : ℕ) → get_or ordinals i 0 ≡ p → length (row_at long numbers p) ≡ long
+row_long long ordinals used numbers room T i zero e = length-replicate {A = ℕ} long 0
+row_long long ordinals used numbers room T i (suc p) e = length-part numbers long p (part_long long ordinals used numbers room T i p e)

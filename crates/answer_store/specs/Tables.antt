@@ -9,29 +9,29 @@ pub record Rows : Type 0 where
   pub long : ℕ
   pub rows : List (List ℕ)
 
--- the row at a place, which counts from 1 the rows with numbers; a row of zeros has the place 0
+-- the row of an ordinal, which counts from 1 the rows with numbers; a row of zeros has ordinal 0
 abbrev pub row_at : ℕ → List ℕ → ℕ → List ℕ
 row_at long numbers zero = replicate long 0
 row_at long numbers (suc p) = part numbers long p
 
 abbrev pub rows_in : ℕ → List ℕ → List ℕ → List (List ℕ)
-rows_in long numbers places = map (row_at long numbers) places
+rows_in long numbers ordinals = map (row_at long numbers) ordinals
 
--- how many rows have no place
+-- how many rows have ordinal 0
 abbrev pub blank : ℕ → ℕ
 blank zero = 1
 blank (suc p) = 0
 
 abbrev pub blanks : List ℕ → ℕ
-blanks places = sum_by blank places
+blanks ordinals = sum_by blank ordinals
 
--- so many rows have numbers, each at a place of its own, and there is room for those of all rows
-pub record IsTable (long : ℕ) (places : List ℕ) (used : ℕ) (numbers : List ℕ) (room : ℕ) : Type
+-- so many rows have numbers, each with an ordinal of its own, and there is room for those of all rows
+pub record IsTable (long : ℕ) (ordinals : List ℕ) (used : ℕ) (numbers : List ℕ) (room : ℕ) : Type
     0 where
   pub size : length numbers ≡ used * long
-  pub within : (k : ℕ) → slice_index places k ≤ used
-  pub apart : (j k : ℕ) → 0 < slice_index places j → slice_index places j ≡ slice_index places k →
+  pub within : (k : ℕ) → slice_index ordinals k ≤ used
+  pub apart : (j k : ℕ) → 0 < slice_index ordinals j → slice_index ordinals j ≡ slice_index ordinals k →
       j ≡ k
-  pub few : used + blanks places ≤ length places
-  pub count : length places ≤ MOST_TASKS
-  pub fits : length places * long ≤ room
+  pub few : used + blanks ordinals ≤ length ordinals
+  pub count : length ordinals ≤ MOST_TASKS
+  pub fits : length ordinals * long ≤ room

@@ -15,7 +15,7 @@ use uc_model::lists::{Powers, ReservedList};
 pub struct Table {
     long: usize,
     // for each row 0, or which of the rows with numbers it is, counted from 1
-    places: Vec<u32>,
+    ordinals: Vec<u32>,
     // how many rows have numbers
     used: usize,
     numbers: Vec<u32>,
@@ -30,10 +30,10 @@ impl Model for Table {
     ghost view = { λ t. record {
       long = t.long;
       rows =
-          rows_in t.long t.numbers.items t.places.items;
+          rows_in t.long t.numbers.items t.ordinals.items;
     } };
 
-    ghost invariant = { λ t. IsTable t.long t.places.items t.used t.numbers.items
+    ghost invariant = { λ t. IsTable t.long t.ordinals.items t.used t.numbers.items
         (vec_capacity t.numbers) };
 }
 
@@ -62,7 +62,7 @@ pub fn take_part<T: Copy + Drop>(store: &[T], long: usize, place: usize, into: &
     }
 }
 
-fn no_places(alloc: Global, count: usize) -> Result<Vec<u32>, AllocError>
+fn no_ordinals(alloc: Global, count: usize) -> Result<Vec<u32>, AllocError>
     ensures { IfOk result (λ v. v.items ≡ replicate count 0) }
 {
     vec![in alloc; 0; count]
@@ -104,11 +104,11 @@ impl Table {
         ensures rows { IfOk result (λ t. t.rows ≡ replicate count (replicate long 0)) }
         ensures long { IfOk result (λ t. t.long ≡ long) }
     {
-        let places = no_places(alloc, count)?;
+        let ordinals = no_ordinals(alloc, count)?;
         let numbers = Vec::with_capacity(alloc, count * long)?;
         Ok(Table {
             long,
-            places,
+            ordinals,
             used: 0,
             numbers,
         })
@@ -121,16 +121,16 @@ impl Table {
         ensures rows { self.new.rows ≡ slice_set self.old.rows row list.now }
         ensures long { self.new.long ≡ self.old.long }
     {
-        let place = self.places[row] as usize;
-        if place > 0 {
-            put_part(&mut self.numbers, self.long, place - 1, list);
+        let ordinal = self.ordinals[row] as usize;
+        if ordinal > 0 {
+            put_part(&mut self.numbers, self.long, ordinal - 1, list);
             return;
         }
         if are_zero(list) {
             return;
         }
         self.used += 1;
-        self.places[row] = self.used as u32;
+        self.ordinals[row] = self.used as u32;
         append(&mut self.numbers, list);
     }
 
@@ -141,9 +141,9 @@ impl Table {
         ensures row { into.new.items ≡ slice_index_or self.now.rows row [] }
         ensures long { length into.new.items ≡ self.now.long }
     {
-        let place = self.places[row] as usize;
-        if place > 0 {
-            take_part(&self.numbers, self.long, place - 1, into);
+        let ordinal = self.ordinals[row] as usize;
+        if ordinal > 0 {
+            take_part(&self.numbers, self.long, ordinal - 1, into);
         } else {
             take_zeros(self.long, into);
         }

@@ -1,5 +1,5 @@
 -- What a claim answers, and that the lists go on with it.
-use Rattle.board_core.proofs.Common.{◌≡◌, ℕ, zero, suc, ◌+◌, ◌-◌, ◌*◌, ◌/◌, ◌%◌, ◌<◌, ◌≤◌, ◌⊎◌, Bool, true, false, cond, ◌&&◌, ◌==◌, inl, inr, Option, Some, None, List, [], ◌∷◌, ◌++◌, length, map, get_or, refl, sym, ap, ◌∙◌, subst, arith, eq-eqb, length-append, le-leb, lt-leb, nat_tests, get_or-map, get_or-take, get_or-map-range_with_len, list_any-append, slice_get_past, slice_get-get_or, list_any, slice_get, slice_index_or, Setup, Answer, no_answer, rules_of, BoardLaws, Rules, Event, Given, sooner, only_at, posts, holders, closed_front, opened, is_finished, prices_at, is_halt, is_halt_of, Holders, Finished, Halted, GivenTask, NotYet, claim_reply, PriceLists, unit_count, Proposal, no_prices, place, LedgerValue, Lists, task_count, sums_of, fronts_of, AreTakers, mark, AreMarks, AreTallies, AreRounds, IsBoard, IsSetup}
+use Rattle.board_core.proofs.Common.{◌≡◌, ℕ, zero, suc, ◌+◌, ◌-◌, ◌*◌, ◌/◌, ◌%◌, ◌<◌, ◌≤◌, ◌⊎◌, Bool, true, false, cond, ◌&&◌, ◌==◌, inl, inr, Option, Some, None, List, [], ◌∷◌, ◌++◌, length, map, get_or, refl, sym, ap, ◌∙◌, subst, arith, eq-eqb, length-append, le-leb, lt-leb, nat_tests, get_or-map, get_or-take, get_or-map-range_with_len, list_any-append, slice_get_past, slice_get-get_or, list_any, slice_get, slice_index_or, Setup, Answer, no_answer, rules_of, BoardLaws, Rules, Event, Given, sooner, only_at, posts, holders, closed_front, opened, is_finished, prices_at, is_halt, is_halt_of, Holders, Finished, Halted, GivenTask, NotYet, claim_reply, PriceLists, unit_count, Proposal, no_prices, task_number, LedgerValue, Lists, task_count, sums_of, fronts_of, AreTakers, mark, AreMarks, AreTallies, AreRounds, IsBoard, IsSetup}
 use Rattle.board_history.specs.Words.{IsHeld, IsGoing, ClaimSays}
 use Rattle.board_core.proofs.Fronts.{closed_is, opened_is}
 use Rattle.board_core.proofs.Halts.{or_false}
@@ -15,17 +15,17 @@ slice_get-snoc {X} (y ∷ ys) x (suc i) =
     let e : (i == length ys) ≡ (suc i == suc (length ys)) = grind (arith, nat_tests) in
     slice_get-snoc ys x i ∙ ap (λ (b : Bool). sooner (slice_get ys i) (cond b (Some x) None)) e
 
-same_test : (units n u m v : ℕ) → 0 < n → 0 < m → u < units → v < units → (n == m && u == v) ≡ (place units m v == place units n u)
+same_test : (units n u m v : ℕ) → 0 < n → 0 < m → u < units → v < units → (n == m && u == v) ≡ (task_number units m v == task_number units n u)
 same_test units n u m v a b i j =
-    elim (cases_same (place units m v) (place units n u)) [
+    elim (cases_same (task_number units m v) (task_number units n u)) [
       | inl e ↦
           let s = place_same units m v n u b a j i e in
           let s0 = s.0 in let s1 = s.1 in
           let l : (n == m && u == v) ≡ true = grind (arith, nat_tests) in
-          l ∙ sym (eq-eqb (place units m v) (place units n u) e)
+          l ∙ sym (eq-eqb (task_number units m v) (task_number units n u) e)
       | inr f ↦
-          let l : (n == m && u == v) ≡ false = not_both n m u v (λ x y. f (ap (λ (k : ℕ). place units k v) (sym x) ∙ ap (λ (k : ℕ). place units n k) (sym y))) in
-          let r : (place units m v == place units n u) ≡ false = grind (arith, nat_tests, f) in
+          let l : (n == m && u == v) ≡ false = not_both n m u v (λ x y. f (ap (λ (k : ℕ). task_number units k v) (sym x) ∙ ap (λ (k : ℕ). task_number units n k) (sym y))) in
+          let r : (task_number units m v == task_number units n u) ≡ false = grind (arith, nat_tests, f) in
           l ∙ sym r
     ]
   where
@@ -86,7 +86,7 @@ module _ (b : Setup) (h : List (Event Answer)) (x : Lists) (l : LedgerValue) (I 
     held_before : (m v k : ℕ) → 0 < m → m ≤ b.budget → v < units → m ≤ k → k * units ≤ count → IsHeld g (holders h) m v
     held_before m v k low high i within before =
         let p = place_before units k m v low within i in
-        (get_or x.takers (place units m v) 0, I.takers_are.each m v low high i ∙ slice_get-get_or x.takers (place units m v) 0 (omega (arith, p, before)))
+        (get_or x.takers (task_number units m v) 0, I.takers_are.each m v low high i ∙ slice_get-get_or x.takers (task_number units m v) 0 (omega (arith, p, before)))
 
     abbrev before : ℕ
     before = count / units
@@ -100,8 +100,8 @@ module _ (b : Setup) (h : List (Event Answer)) (x : Lists) (l : LedgerValue) (I 
     pub unit_within : unit < units
     unit_within = let u = some_units b I.setup in omega (arith, u)
 
-    place_is : place units (before + 1) unit ≡ count
-    place_is =
+    number_is : task_number units (before + 1) unit ≡ count
+    number_is =
         let e : before + 1 - 1 ≡ before = omega arith in
         ap (λ (k : ℕ). k * units + unit) e ∙ split
 
@@ -123,17 +123,17 @@ module _ (b : Setup) (h : List (Event Answer)) (x : Lists) (l : LedgerValue) (I 
       task_free : holders h (before + 1) unit ≡ None
       task_free =
           I.takers_are.each (before + 1) unit (omega arith) (in_budget (before + 1) (omega (arith, more))) unit_within
-          ∙ ap (λ (k : ℕ). slice_get x.takers k) place_is ∙ slice_get_past x.takers count (omega arith)
+          ∙ ap (λ (k : ℕ). slice_get x.takers k) number_is ∙ slice_get_past x.takers count (omega arith)
 
       here_held : (v : ℕ) → v < unit → IsHeld g (holders h) (before + 1) v
       here_held v j =
           let w = unit_within in
           let e : before + 1 - 1 ≡ before = omega arith in
-          let q : place units (before + 1) v ≡ before * units + v = ap (λ (k : ℕ). k * units + v) e in
+          let q : task_number units (before + 1) v ≡ before * units + v = ap (λ (k : ℕ). k * units + v) e in
           let s = split in (
-            get_or x.takers (place units (before + 1) v) 0,
+            get_or x.takers (task_number units (before + 1) v) 0,
             I.takers_are.each (before + 1) v (omega arith) (in_budget (before + 1) (omega (arith, more))) (omega (arith, w, j))
-                ∙ slice_get-get_or x.takers (place units (before + 1) v) 0 (omega (arith, q, s, j)),
+                ∙ slice_get-get_or x.takers (task_number units (before + 1) v) 0 (omega (arith, q, s, j)),
           )
 
       pub claim_given : l.closed < l.opened → x.any_halt ≡ false → claim_reply g h ≡ GivenTask (before + 1) unit
@@ -154,7 +154,7 @@ module _ (b : Setup) (h : List (Event Answer)) (x : Lists) (l : LedgerValue) (I 
       pub count_within : count < task_count b
       count_within =
           let p = place_before units b.budget (before + 1) unit (omega arith) (in_budget (before + 1) (omega (arith, more))) unit_within in
-          let s = place_is in
+          let s = number_is in
           omega (arith, p, s)
 
       takers_more : (c : ℕ) → AreTakers b (x.takers ++ c ∷ []) (holders (h ++ Given c (before + 1) unit ∷ []))
@@ -163,9 +163,9 @@ module _ (b : Setup) (h : List (Event Answer)) (x : Lists) (l : LedgerValue) (I 
         each = λ m v low high i.
             ap (λ (held : Holders). held m v) (laws.one_event h (Given c (before + 1) unit)).holders_are
             ∙ ap (λ (o : Option ℕ). sooner o (only_at (before + 1) unit c m v)) (I.takers_are.each m v low high i)
-            ∙ ap (λ (t : Bool). sooner (slice_get x.takers (place units m v)) (cond t (Some c) None))
-            (same_test units (before + 1) unit m v (omega arith) low unit_within i ∙ ap (λ (k : ℕ). place units m v == k) place_is)
-            ∙ sym (slice_get-snoc x.takers c (place units m v));
+            ∙ ap (λ (t : Bool). sooner (slice_get x.takers (task_number units m v)) (cond t (Some c) None))
+            (same_test units (before + 1) unit m v (omega arith) low unit_within i ∙ ap (λ (k : ℕ). task_number units m v == k) number_is)
+            ∙ sym (slice_get-snoc x.takers c (task_number units m v));
       }
 
       get_or-longer : (xs : List ℕ) (y i : ℕ) → i < length xs → get_or (xs ++ y ∷ []) i 0 ≡ get_or xs i 0
@@ -185,7 +185,7 @@ module _ (b : Setup) (h : List (Event Answer)) (x : Lists) (l : LedgerValue) (I 
       marks_more c = record {
         marks_count = I.marks_are.marks_count;
         kept_count = I.marks_are.kept_count;
-        each = λ n u low high i. I.marks_are.each n u low high i ∙ sym (mark_more c (place units n u));
+        each = λ n u low high i. I.marks_are.each n u low high i ∙ sym (mark_more c (task_number units n u));
         claimed = λ i e. let j = I.marks_are.claimed i e in omega (arith, j, length-append x.takers (c ∷ []));
       }
 

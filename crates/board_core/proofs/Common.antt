@@ -14,7 +14,7 @@ pub use Rattle.std.specs.Option.{option_map_or}
 pub use Rattle.std.specs.Prelude.{not, nat_lt, nat_le, slice_get, slice_index, slice_index_or, is_some, replicate, slice_set}
 pub use Rattle.answer_store.specs.Answers.{Kept, Answers, nothing, kept_of}
 pub use Rattle.board_core.specs.Boards.{kept_answer, setup_for}
-pub use Rattle.board_core.specs.Events.{place, event_of, events_of, event_by}
+pub use Rattle.board_core.specs.Events.{task_number, event_of, events_of, event_by}
 pub use Rattle.board_core.specs.Ledgers.{LedgerValue, with_prices, with_value, blank, raised_by, with_schedule}
 pub use Rattle.board_core.specs.Openings.{blank_ledger, with_openings, with_opening}
 pub use Rattle.board_core.specs.Parts.{Lists, task_count, sums_of, fronts_of, AreTakers, mark, AreMarks, AreTallies, AreRounds, IsBoard, IsLedger, bit, unset, AreHalts, sum_up, answered, supply_to, reserve_to}

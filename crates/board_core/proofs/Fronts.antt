@@ -1,5 +1,5 @@
 -- How many proposals are closed and how many are open, and the answers of those that are closed.
-use Rattle.board_core.proofs.Common.{◌≡◌, ℕ, suc, ◌-◌, ◌<◌, ◌≤◌, Bool, true, false, cond, Option, Some, None, List, length, map, get_or, sym, ap, ◌∙◌, subst, arith, length-map, length-take-le, length-map-range_with_len, option_map_or, slice_index, Setup, Answer, no_answer, rules_of, RoundLaws, Rules, Event, Posts, posts, is_closed, answer_at, row_by, closed_front, rows_of, opened, prices_at, PriceLists, unit_count, Proposal, place, LedgerValue, Lists, fronts_of, IsLedger, AreRounds, IsBoard}
+use Rattle.board_core.proofs.Common.{◌≡◌, ℕ, suc, ◌-◌, ◌<◌, ◌≤◌, Bool, true, false, cond, Option, Some, None, List, length, map, get_or, sym, ap, ◌∙◌, subst, arith, length-map, length-take-le, length-map-range_with_len, option_map_or, slice_index, Setup, Answer, no_answer, rules_of, RoundLaws, Rules, Event, Posts, posts, is_closed, answer_at, row_by, closed_front, rows_of, opened, prices_at, PriceLists, unit_count, Proposal, task_number, LedgerValue, Lists, fronts_of, IsLedger, AreRounds, IsBoard}
 use Rattle.board_core.proofs.Lists.{place_before}
 
 -- the answer of a mark
@@ -37,16 +37,16 @@ module _ (b : Setup) (h : List (Event Answer)) (x : Lists) (l : LedgerValue) (I 
     in_budget : n ≤ b.budget
     in_budget = let e = closed_is b l I.ledger (posts h) I.rounds laws in let m = I.ledger.closed in omega (arith, low, e, m)
 
-    pub kept_inside : place (unit_count b.market) n u < length x.kept
+    pub kept_inside : task_number (unit_count b.market) n u < length x.kept
     kept_inside = let p = place_before (unit_count b.market) b.budget n u one in_budget inside in let c = I.marks_are.kept_count in omega (arith, p, c)
 
-    pub kept_is : get_or x.kept (place (unit_count b.market) n u) no_answer ≡ answer_at g (posts h) n u
+    pub kept_is : get_or x.kept (task_number (unit_count b.market) n u) no_answer ≡ answer_at g (posts h) n u
     kept_is =
         let k = n - 1 in
         let e : suc k ≡ n = omega (arith, one) in
         let closed = subst (λ (j : ℕ). is_closed g (posts h) j ≡ true) e ((laws.front (posts h)).closed k (omega (arith, low, one))) in
         let post = laws.posted (posts h) n u closed inside in
-        let i = place (unit_count b.market) n u in
+        let i = task_number (unit_count b.market) n u in
         let m = sym (I.marks_are.each n u one in_budget inside) ∙ post.1 in
         marked (get_or x.marks i false) (slice_index x.takers i) (get_or x.kept i no_answer) post.0 m
         ∙ sym (ap (λ (o : Option (ℕ × Answer)). option_map_or (λ (y : ℕ × Answer). y.1) o no_answer) post.1)

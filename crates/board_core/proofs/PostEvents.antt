@@ -1,5 +1,5 @@
 -- The events of a board whose store has one more answer.
-use Rattle.board_core.proofs.Common.{◌≡◌, ℕ, ◌+◌, ◌-◌, Bool, true, false, cond, ◌==◌, Option, Some, None, List, [], ◌∷◌, ◌++◌, get_or, refl, sym, ap, ◌∙◌, subst, set, get_or-set_same, get_or-set_other, map-append, is_some, Setup, Answer, no_answer, rules_of, Event, Taken, Closing, sooner, only_at, posts, post_event, Entry, unit_count, place, event_by, event_of, events_of, LedgerValue, Lists, IsBoard, reply_of}
+use Rattle.board_core.proofs.Common.{◌≡◌, ℕ, ◌+◌, ◌-◌, Bool, true, false, cond, ◌==◌, Option, Some, None, List, [], ◌∷◌, ◌++◌, get_or, refl, sym, ap, ◌∙◌, subst, set, get_or-set_same, get_or-set_other, map-append, is_some, Setup, Answer, no_answer, rules_of, Event, Taken, Closing, sooner, only_at, posts, post_event, Entry, unit_count, task_number, event_by, event_of, events_of, LedgerValue, Lists, IsBoard, reply_of}
 use Rattle.board_history.specs.Laws.{AnswersFit}
 use Rattle.board_history.specs.declared.entries.Call.TheVariants as calls
 use Rattle.board_history.specs.declared.entries.Reply.{Reply}
@@ -16,16 +16,16 @@ sooner_first a b x e = ap (λ o. is_some (sooner o b)) e
 
 -- no entry's answer is at that place
 abbrev Elsewhere : ℕ → List Answer → ℕ → List Entry → Type 0
-Elsewhere units kept i es = (m v : ℕ) → is_some (posts (events_of units kept es) m v) ≡ true → place units m v ≡ i → ⊥
+Elsewhere units kept i es = (m v : ℕ) → is_some (posts (events_of units kept es) m v) ≡ true → task_number units m v ≡ i → ⊥
 
 event_kept : (units : ℕ) (kept : List Answer) (i : ℕ) (a : Answer) (t : Reply) (c m v : ℕ) (es : List Entry) →
-    ((w : Answer) → is_some (posts (event_by t c m v w ∷ events_of units kept es) m v) ≡ true → place units m v ≡ i → ⊥) →
-    event_by t c m v (get_or (set kept i a) (place units m v) no_answer) ≡ event_by t c m v (get_or kept (place units m v) no_answer)
+    ((w : Answer) → is_some (posts (event_by t c m v w ∷ events_of units kept es) m v) ≡ true → task_number units m v ≡ i → ⊥) →
+    event_by t c m v (get_or (set kept i a) (task_number units m v) no_answer) ≡ event_by t c m v (get_or kept (task_number units m v) no_answer)
 event_kept units kept i a replies.Given c m v es f = refl
 event_kept units kept i a replies.Taken c m v es f =
-    ap (Taken c m v) (get_or-set_other kept i (place units m v) a no_answer (f no_answer (sooner_first (only_at m v (c, no_answer) m v) (posts (events_of units kept es) m v) (c, no_answer) (only_here m v (c, no_answer)))))
+    ap (Taken c m v) (get_or-set_other kept i (task_number units m v) a no_answer (f no_answer (sooner_first (only_at m v (c, no_answer) m v) (posts (events_of units kept es) m v) (c, no_answer) (only_here m v (c, no_answer)))))
 event_kept units kept i a replies.Closing c m v es f =
-    ap (Closing c m v) (get_or-set_other kept i (place units m v) a no_answer (f no_answer (sooner_first (only_at m v (c, no_answer) m v) (posts (events_of units kept es) m v) (c, no_answer) (only_here m v (c, no_answer)))))
+    ap (Closing c m v) (get_or-set_other kept i (task_number units m v) a no_answer (f no_answer (sooner_first (only_at m v (c, no_answer) m v) (posts (events_of units kept es) m v) (c, no_answer) (only_here m v (c, no_answer)))))
 event_kept units kept i a replies.Stopped c m v es f = refl
 
 events_kept : (units : ℕ) (kept : List Answer) (i : ℕ) (a : Answer) (es : List Entry) → Elsewhere units kept i es → events_of units (set kept i a) es ≡ events_of units kept es
@@ -39,12 +39,12 @@ events_kept units kept i a (e ∷ es) f =
     later_post x xs m v s = some_sooner _ (posts xs m v) s
 
     other_answer : (units : ℕ) (kept : List Answer) (t : Reply) (c m v : ℕ) (es : List Entry) (w : Answer) → is_some (posts (event_by t c m v w ∷ events_of units kept es) m v) ≡ true →
-        is_some (posts (event_by t c m v (get_or kept (place units m v) no_answer) ∷ events_of units kept es) m v) ≡ true
+        is_some (posts (event_by t c m v (get_or kept (task_number units m v) no_answer) ∷ events_of units kept es) m v) ≡ true
     other_answer units kept replies.Given c m v es w s = s
     other_answer units kept replies.Taken c m v es w s =
-        sooner_first (only_at m v (c, get_or kept (place units m v) no_answer) m v) (posts (events_of units kept es) m v) (c, get_or kept (place units m v) no_answer) (only_here m v (c, get_or kept (place units m v) no_answer))
+        sooner_first (only_at m v (c, get_or kept (task_number units m v) no_answer) m v) (posts (events_of units kept es) m v) (c, get_or kept (task_number units m v) no_answer) (only_here m v (c, get_or kept (task_number units m v) no_answer))
     other_answer units kept replies.Closing c m v es w s =
-        sooner_first (only_at m v (c, get_or kept (place units m v) no_answer) m v) (posts (events_of units kept es) m v) (c, get_or kept (place units m v) no_answer) (only_here m v (c, get_or kept (place units m v) no_answer))
+        sooner_first (only_at m v (c, get_or kept (task_number units m v) no_answer) m v) (posts (events_of units kept es) m v) (c, get_or kept (task_number units m v) no_answer) (only_here m v (c, get_or kept (task_number units m v) no_answer))
     other_answer units kept replies.Stopped c m v es w s = s
 
 event_is : (t : Bool) (c n u : ℕ) (a : Answer) → event_by (reply_of t) c n u a ≡ cond t (Closing c n u a) (Taken c n u a)
@@ -57,7 +57,7 @@ module _ (answered : AnswersFit) (b : Setup) (h : List (Event Answer)) (x : List
   units = unit_count b.market
 
   abbrev i : ℕ
-  i = place units n u
+  i = task_number units n u
 
   fresh : Elsewhere units x.kept i entries
   fresh m v some_ same =

@@ -1,5 +1,5 @@
 -- The lists of a board with one more post.
-use Rattle.board_core.proofs.Common.{◌≡◌, ℕ, zero, suc, ◌+◌, ◌-◌, ◌*◌, ◌<◌, ◌≤◌, ◌⊎◌, Bool, true, false, cond, ◌&&◌, ◌==◌, inl, inr, Option, Some, None, List, length, map, get_or, refl, sym, ap, ◌∙◌, subst, arith, eq-eqb, set, length-set, cases_lt, nat_tests, get_or-set_same, get_or-set_other, slice_get_within, get_or_from_slice_get, list_all, range_with_len, is_some, slice_get, slice_index, Setup, Answer, no_answer, rules_of, Event, sooner, only_at, Posts, posts, holders, with_post, is_closed, unit_count, place, LedgerValue, Lists, task_count, bit, sum_up, answered, mark, AreMarks, IsBoard}
+use Rattle.board_core.proofs.Common.{◌≡◌, ℕ, zero, suc, ◌+◌, ◌-◌, ◌*◌, ◌<◌, ◌≤◌, ◌⊎◌, Bool, true, false, cond, ◌&&◌, ◌==◌, inl, inr, Option, Some, None, List, length, map, get_or, refl, sym, ap, ◌∙◌, subst, arith, eq-eqb, set, length-set, cases_lt, nat_tests, get_or-set_same, get_or-set_other, slice_get_within, get_or_from_slice_get, list_all, range_with_len, is_some, slice_get, slice_index, Setup, Answer, no_answer, rules_of, Event, sooner, only_at, Posts, posts, holders, with_post, is_closed, unit_count, task_number, LedgerValue, Lists, task_count, bit, sum_up, answered, mark, AreMarks, IsBoard}
 use Rattle.board_core.proofs.Lists.{sooner_none, map_range_same, place_before, place_same}
 
 pub same_or : (x y : ℕ) → (x ≡ y) ⊎ (x ≡ y → ⊥)
@@ -100,7 +100,7 @@ module _ (b : Setup) (h : List (Event Answer)) (x : Lists) (l : LedgerValue) (I 
   units = unit_count b.market
 
   abbrev i : ℕ
-  i = place units n u
+  i = task_number units n u
 
   pub in_budget : n ≤ b.budget
   in_budget = let o = I.ledger.opened in let w = H.within in omega (arith, w, o)
@@ -141,14 +141,14 @@ module _ (b : Setup) (h : List (Event Answer)) (x : Lists) (l : LedgerValue) (I 
   marks_more = record {
     marks_count = length-set x.marks i true ∙ I.marks_are.marks_count;
     kept_count = length-set x.kept i a ∙ I.marks_are.kept_count;
-    each = λ m v low high j. elim (same_or (place units m v) i) [
+    each = λ m v low high j. elim (same_or (task_number units m v) i) [
       | inl e ↦
           let s = place_same units m v n u low H.one j H.inside e in
           ap (λ (k : ℕ). q k v) s.0 ∙ ap (λ (k : ℕ). q n k) s.1 ∙ q_here ∙ sym marked_here
           ∙ ap (mark (set x.marks i true) x.takers (set x.kept i a)) (sym e)
       | inr e ↦
-          q_other m v (λ y z. e (ap (λ (k : ℕ). place units k v) (sym y) ∙ ap (λ (k : ℕ). place units n k) (sym z)))
-          ∙ I.marks_are.each m v low high j ∙ sym (marked (place units m v) e)
+          q_other m v (λ y z. e (ap (λ (k : ℕ). task_number units k v) (sym y) ∙ ap (λ (k : ℕ). task_number units n k) (sym z)))
+          ∙ I.marks_are.each m v low high j ∙ sym (marked (task_number units m v) e)
     ];
     claimed = λ j e. elim (same_or j i) [
       | inl s ↦ let w = slice_get_within x.takers i c taker_is in omega (arith, w, s)

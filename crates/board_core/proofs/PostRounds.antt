@@ -1,5 +1,5 @@
 -- The rounds of a board with one more post.
-use Rattle.board_core.proofs.Common.{◌≡◌, ℕ, suc, ◌+◌, ◌-◌, ◌<◌, ◌≤◌, ℤ, ◌-ℤ◌, Bool, true, false, cond, ◌==◌, inl, inr, List, [], ◌∷◌, ◌++◌, length, map, take, get_or, refl, sym, ap, ◌∙◌, subst, arith, set, get_or-take, length-take-le, list_any-append, All, list_any, range_with_len, slice_index, Setup, Answer, IsRight, IsLegalHistory, rules_of, earned_in, Extends, RoundLaws, BoardLaws, IsSum, Rules, Event, Taken, Closing, Posts, posts, holders, with_post, is_closed, answers, row_by, rows_by, rows_to, prices_by, prices_at, closed_front, rows_of, opened, opened_in, is_halt, is_halt_of, IsPost, IsNext, post_event, IsRowBelow, PriceLists, unit_count, Proposal, Fits, int_at, total, worth_of_demand, place, LedgerValue, Lists, supply_to, reserve_to, sums_of, fronts_of, AreTakers, AreMarks, AreTallies, AreRounds, AreHalts, IsLedger, IsBoard, Sums, Fronts, is_full, row_in, IsRound, IsSetup}
+use Rattle.board_core.proofs.Common.{◌≡◌, ℕ, suc, ◌+◌, ◌-◌, ◌<◌, ◌≤◌, ℤ, ◌-ℤ◌, Bool, true, false, cond, ◌==◌, inl, inr, List, [], ◌∷◌, ◌++◌, length, map, take, get_or, refl, sym, ap, ◌∙◌, subst, arith, set, get_or-take, length-take-le, list_any-append, All, list_any, range_with_len, slice_index, Setup, Answer, IsRight, IsLegalHistory, rules_of, earned_in, Extends, RoundLaws, BoardLaws, IsSum, Rules, Event, Taken, Closing, Posts, posts, holders, with_post, is_closed, answers, row_by, rows_by, rows_to, prices_by, prices_at, closed_front, rows_of, opened, opened_in, is_halt, is_halt_of, IsPost, IsNext, post_event, IsRowBelow, PriceLists, unit_count, Proposal, Fits, int_at, total, worth_of_demand, task_number, LedgerValue, Lists, supply_to, reserve_to, sums_of, fronts_of, AreTakers, AreMarks, AreTallies, AreRounds, AreHalts, IsLedger, IsBoard, Sums, Fronts, is_full, row_in, IsRound, IsSetup}
 use Rattle.board_core.proofs.Claims.{some_units}
 use Rattle.board_core.proofs.Fronts.{opened_is, rows_count}
 use Rattle.board_core.proofs.Halts.{or_false}
@@ -189,8 +189,8 @@ module _ (laws : BoardLaws) (b : Setup) (h : List (Event Answer)) (x : Lists) (l
 
   abbrev posted_lists : Lists
   posted_lists = record x {
-    marks = set x.marks (place (unit_count b.market) n u) true;
-    kept = set x.kept (place (unit_count b.market) n u) a;
+    marks = set x.marks (task_number (unit_count b.market) n u) true;
+    kept = set x.kept (task_number (unit_count b.market) n u) a;
     counts = set x.counts (n - 1) (get_or x.counts (n - 1) 0 + 1);
   }
 

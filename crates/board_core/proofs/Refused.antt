@@ -1,5 +1,5 @@
 -- Why a post is refused, and what holds where it isn't.
-use Rattle.board_core.proofs.Common.{◌≡◌, ℕ, ◌+◌, ◌-◌, ◌<◌, ◌≤◌, Bool, true, false, cond, ◌||◌, ◌==◌, Option, Some, None, List, get_or, refl, sym, ap, ◌∙◌, arith, nat_tests, option_map_or, nat_lt, nat_le, slice_get, slice_index, Setup, Answer, no_answer, rules_of, differs_from, post_answer, Rules, Event, posts, holders, opened, prices_at, is_closed, with_post, PostReply, OtherProposal, OtherUnit, OtherContent, Doubled, OtherHolder, TakenPost, is_holder, with_answer, Difference, AnyUnit, PriceLists, unit_count, Proposal, place, LedgerValue, blank, Lists, mark, IsBoard, differs_of, own_prices_in, held_refusal, refusal_of, posted_of}
+use Rattle.board_core.proofs.Common.{◌≡◌, ℕ, ◌+◌, ◌-◌, ◌<◌, ◌≤◌, Bool, true, false, cond, ◌||◌, ◌==◌, Option, Some, None, List, get_or, refl, sym, ap, ◌∙◌, arith, nat_tests, option_map_or, nat_lt, nat_le, slice_get, slice_index, Setup, Answer, no_answer, rules_of, differs_from, post_answer, Rules, Event, posts, holders, opened, prices_at, is_closed, with_post, PostReply, OtherProposal, OtherUnit, OtherContent, Doubled, OtherHolder, TakenPost, is_holder, with_answer, Difference, AnyUnit, PriceLists, unit_count, Proposal, task_number, LedgerValue, blank, Lists, mark, IsBoard, differs_of, own_prices_in, held_refusal, refusal_of, posted_of}
 use Rattle.board_core.specs.declared.replies.Differs.{Differs}
 use Rattle.board_core.specs.declared.replies.Differs.TheVariants as differs
 use Rattle.board_core.specs.declared.replies.Posted.{Posted}
@@ -65,9 +65,9 @@ not_differing (Some y) rest e = (cc)
 
 pub past_tests : (b : Setup) (l : LedgerValue) (marks : List Bool) (takers : List ℕ) (k n u : ℕ) (ρ : PriceLists) (v : AnyUnit) → 0 < n → n ≤ l.opened → u < unit_count b.market →
     refusal_of b l marks takers k n u ρ v
-    ≡ option_map_or (λ (y : Difference). Some (posted.Stranger (differs.Content y.place y.board y.task))) (differs_from b u ρ v (own_prices_in l n)) (held_refusal marks takers (place (unit_count b.market) n u) k)
+    ≡ option_map_or (λ (y : Difference). Some (posted.Stranger (differs.Content y.place y.board y.task))) (differs_from b u ρ v (own_prices_in l n)) (held_refusal marks takers (task_number (unit_count b.market) n u) k)
 past_tests b l marks takers k n u ρ v one within inside =
-    let third = option_map_or (λ (y : Difference). Some (posted.Stranger (differs.Content y.place y.board y.task))) (differs_from b u ρ v (own_prices_in l n)) (held_refusal marks takers (place (unit_count b.market) n u) k) in
+    let third = option_map_or (λ (y : Difference). Some (posted.Stranger (differs.Content y.place y.board y.task))) (differs_from b u ρ v (own_prices_in l n)) (held_refusal marks takers (task_number (unit_count b.market) n u) k) in
     let second = cond (nat_le (unit_count b.market) u) (Some (posted.Stranger (differs.Unit u (unit_count b.market)))) third in
     choose_false ((n == 0) || nat_lt l.opened n) (Some (posted.Stranger (differs.Proposal n l.opened))) second (open_ n l.opened one within)
     ∙ choose_false (nat_le (unit_count b.market) u) (Some (posted.Stranger (differs.Unit u (unit_count b.market)))) third (in_ (unit_count b.market) u inside)
@@ -86,7 +86,7 @@ module _ (b : Setup) (h : List (Event Answer)) (x : Lists) (l : LedgerValue) (I 
   m = unit_count b.market
 
   abbrev i : ℕ
-  i = place m n u
+  i = task_number m n u
 
   abbrev closed : Option ℕ
   closed = cond (is_closed g (with_post (posts h) k n u a) n) (Some n) None

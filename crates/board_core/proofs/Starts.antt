@@ -1,5 +1,5 @@
 -- A board without events.
-use Rattle.board_core.proofs.Common.{◌≡◌, ℕ, zero, suc, ◌+◌, ◌-◌, ◌<◌, ◌≤◌, ℤ, pos, Bool, true, false, cond, Option, Some, None, List, [], ◌∷◌, length, map, take, get_or, refl, sym, ap, ◌∙◌, arith, false≢true, nat_tests, ints, ext_get_or, get_or-map, get_or-replicate, get_or-take, length-map, length-replicate, length-take-le, sum_by-replicate, fill_by_all, length-map-range_with_len, get_or-map-range_with_len, list_all, range_with_len, is_some, min, not, nat_le, replicate, slice_index, Setup, Answer, no_answer, rules_of, schedules_in, earned_in, RoundLaws, Rules, Posts, posts, is_closed, answers, closed_front, rows_of, rows_to, opened_of, opened_in, prices_at, AnyUnit, Thermal, Flat, Bid, PriceLists, Schedule, units, unit_count, supply_in, Proposal, start_prices, opening_prices_of, next_prices, no_prices, reserve_in, int_at, total, zip_with, total_power, total_reserve, place, LedgerValue, blank, task_count, bit, sum_up, unset, supply_to, reserve_to, sums_of, fronts_of, IsLedger, IsBoard, IsSetup}
+use Rattle.board_core.proofs.Common.{◌≡◌, ℕ, zero, suc, ◌+◌, ◌-◌, ◌<◌, ◌≤◌, ℤ, pos, Bool, true, false, cond, Option, Some, None, List, [], ◌∷◌, length, map, take, get_or, refl, sym, ap, ◌∙◌, arith, false≢true, nat_tests, ints, ext_get_or, get_or-map, get_or-replicate, get_or-take, length-map, length-replicate, length-take-le, sum_by-replicate, fill_by_all, length-map-range_with_len, get_or-map-range_with_len, list_all, range_with_len, is_some, min, not, nat_le, replicate, slice_index, Setup, Answer, no_answer, rules_of, schedules_in, earned_in, RoundLaws, Rules, Posts, posts, is_closed, answers, closed_front, rows_of, rows_to, opened_of, opened_in, prices_at, AnyUnit, Thermal, Flat, Bid, PriceLists, Schedule, units, unit_count, supply_in, Proposal, start_prices, opening_prices_of, next_prices, no_prices, reserve_in, int_at, total, zip_with, total_power, total_reserve, task_number, LedgerValue, blank, task_count, bit, sum_up, unset, supply_to, reserve_to, sums_of, fronts_of, IsLedger, IsBoard, IsSetup}
 use Rattle.board_core.proofs.Advances.{choose_true}
 use Rattle.board_core.proofs.Claims.{some_units}
 use Rattle.board_core.proofs.Opened.{IsOpened}
@@ -133,7 +133,7 @@ module _ (b : Setup) (laws : RoundLaws b) (S : IsSetup b) (l : LedgerValue) (O :
       marks_count = length-replicate (task_count b) false;
       kept_count = size;
       each = λ n u low high i.
-          let j = place (unit_count b.market) n u in
+          let j = task_number (unit_count b.market) n u in
           sym (ap (λ (t : Bool). cond {A = Option (ℕ × Answer)} t (Some (slice_index [] j, get_or kept j no_answer)) None) (all_false (task_count b) j));
       claimed = λ i e. absurd (false≢true (sym (all_false (task_count b) i) ∙ e));
     };

@@ -13,7 +13,7 @@ use Rattle.uc_model.specs.Data.{units, unit_count}
 use Rattle.uc_model.specs.PriceRule.{Proposal}
 use Rattle.uc_model.specs.Sums.{int_at, total}
 use Rattle.uc_model.specs.Systems.{total_power, total_reserve}
-use Rattle.board_core.specs.Events.{place}
+use Rattle.board_core.specs.Events.{task_number}
 use Rattle.board_core.specs.Ledgers.{LedgerValue}
 use Rattle.board_core.specs.Rounds.{Sums, Fronts}
 use Rattle.board_core.specs.Setups.{IsSetup}
@@ -26,7 +26,7 @@ task_count b = b.budget * unit_count b.market
 pub record AreTakers (b : Setup) (takers : List ℕ) (held : Holders) : Type 0 where
   pub count : length takers ≤ task_count b
   pub each : (n u : ℕ) → 0 < n → n ≤ b.budget → u < unit_count b.market →
-      held n u ≡ slice_get takers (place (unit_count b.market) n u)
+      held n u ≡ slice_get takers (task_number (unit_count b.market) n u)
 
 -- the post of a task, read off the lists
 abbrev pub mark : List Bool → List ℕ → List Answer → ℕ → Option (ℕ × Answer)
@@ -39,7 +39,7 @@ pub record AreMarks (b : Setup) (marks : List Bool) (takers : List ℕ) (kept : 
   pub marks_count : length marks ≡ task_count b
   pub kept_count : length kept ≡ task_count b
   pub each : (n u : ℕ) → 0 < n → n ≤ b.budget → u < unit_count b.market →
-      p n u ≡ mark marks takers kept (place (unit_count b.market) n u)
+      p n u ≡ mark marks takers kept (task_number (unit_count b.market) n u)
   pub claimed : (i : ℕ) → slice_index_or marks i false ≡ true → i < length takers
 
 abbrev pub bit : Bool → ℕ

@@ -13,7 +13,7 @@ use Rattle.board_core.specs.declared.replies.Differs.{Differs}
 use Rattle.board_core.specs.declared.replies.Differs.TheVariants as differs
 use Rattle.board_core.specs.declared.replies.Posted.{Posted}
 use Rattle.board_core.specs.declared.replies.Posted.TheVariants as posted
-use Rattle.board_core.specs.Events.{place}
+use Rattle.board_core.specs.Events.{task_number}
 use Rattle.board_core.specs.Ledgers.{LedgerValue, blank}
 
 abbrev pub differs_of : Option Difference → Option Differs
@@ -23,7 +23,7 @@ differs_of o = option_map (λ (d : Difference). differs.Content d.place d.board 
 abbrev pub own_prices_in : LedgerValue → ℕ → PriceLists
 own_prices_in l n = (slice_index_or l.proposals (n - 1) (blank 0)).prices
 
-abbrev pub held_refusal : List Bool → List ℕ → (place caller : ℕ) → Option Posted
+abbrev pub held_refusal : List Bool → List ℕ → (number caller : ℕ) → Option Posted
 held_refusal marks takers i k =
     if slice_index_or marks i false then Some (posted.Doubled (slice_index takers i))
     else if is_holder (slice_get takers i) k then None
@@ -38,7 +38,7 @@ refusal_of b l marks takers k n u ρ x =
     else option_map_or (λ (d : Difference). Some
     (posted.Stranger (differs.Content d.place d.board d.task)))
     (differs_from b u ρ x (own_prices_in l n))
-    (held_refusal marks takers (place (unit_count b.market) n u) k)
+    (held_refusal marks takers (task_number (unit_count b.market) n u) k)
 
 abbrev pub reply_of : Bool → Reply
 reply_of closes = if closes then replies.Closing else replies.Taken

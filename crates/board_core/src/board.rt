@@ -25,7 +25,7 @@ use crate::ledger::Ledger;
 use crate::opening::{no_events, open_ledger};
 use crate::posts::{closed_of, count_up, post_entry, refusal};
 use crate::replies::{Claim, Posted};
-use crate::terms::{Terms, place};
+use crate::terms::{Terms, task_number};
 use answer_store::Store;
 use board_history::entries::{Call, Entry, Reply};
 use board_history::laws::board_laws;
@@ -40,8 +40,8 @@ mod closed;
 pub use closed::Closed;
 
 /// A board that one thread uses: callers claim tasks and post answers. Contracts see it as what it
-/// was made for and the list of its events. Its history is legal, and its plan feasible
-/// (`Board::is_legal`).
+/// was made for and the list of its events. Its history is legal (`Board::history`), and its plan
+/// feasible (`Board::callers`).
 pub struct Board {
     terms: Terms,
     history: Vec<Entry>,
@@ -80,12 +80,27 @@ impl Model for Board {
     } };
 
     ghost invariant = { λ b.
-        IsBoard (setup_of b.terms) (events_of (unit_count (setup_of b.terms).market) (answers_kept b.store) b.history.items)
-        (record { takers = b.takers.items; marks = b.marks.items; kept = answers_kept b.store; counts = b.counts.items; halted = b.halted.items; any_halt = b.any_halt }) b.ledger
+        IsBoard (setup_of b.terms)
+        (events_of (unit_count (setup_of b.terms).market) (answers_kept b.store) b.history.items)
+        (record {
+          takers = b.takers.items;
+          marks = b.marks.items;
+          kept = answers_kept b.store;
+          counts = b.counts.items;
+          halted = b.halted.items;
+          any_halt = b.any_halt;
+        }) b.ledger
         × IsKept (setup_of b.terms)
         (events_of (unit_count (setup_of b.terms).market) (answers_kept b.store) b.history.items)
         b.history.items
-        (record { takers = b.takers.items; marks = b.marks.items; kept = answers_kept b.store; counts = b.counts.items; halted = b.halted.items; any_halt = b.any_halt })
+        (record {
+          takers = b.takers.items;
+          marks = b.marks.items;
+          kept = answers_kept b.store;
+          counts = b.counts.items;
+          halted = b.halted.items;
+          any_halt = b.any_halt;
+        })
         (vec_capacity b.history) (vec_capacity b.takers) b.store.periods
         (length (prices_of b.next).energy)
         × IsTaskFor (setup_of b.terms).market.periods b.own };
@@ -238,7 +253,7 @@ impl Board {
         }
         let units = self.terms.units();
         let before = task.proposal as usize - 1;
-        let at = place(units, task.proposal, task.unit);
+        let at = task_number(units, task.proposal, task.unit);
         self.marks[at] = true;
         self.store.put(at, answer);
         self.ledger.add(before, task, answer);
@@ -272,27 +287,22 @@ impl Board {
         });
     }
 
-    /// The entries of its history. Takes no memory.
+    /// The entries of its history, which is legal: each of its events may follow those before it,
+    /// and each answer that was taken fits its task. Takes no memory.
     pub fn history(&self) -> &[Entry]
-        ensures { result.now ≡ entries_of self.now.events }
+        ensures entries { result.now ≡ entries_of self.now.events }
+        ensures legal { IsLegalHistory self.now.setup self.now.events }
     {
         self.history.as_slice()
     }
 
-    /// How many callers it was made for.
+    /// How many callers it was made for. Like all that a board is made for, they are within the
+    /// limits, and its plan is feasible at its cost.
     pub fn callers(&self) -> u32
-        ensures { result ≡ self.now.setup.callers }
-    {
-        self.terms.callers
-    }
-
-    /// What holds of every board: its history is what its calls made, each answer that was taken
-    /// fits its task, the plan is feasible at its cost, and the numbers are within their limits.
-    pub fn is_legal(&self)
-        ensures legal { IsLegalHistory self.now.setup self.now.events }
+        ensures callers { result ≡ self.now.setup.callers }
         ensures setup { IsSetup self.now.setup }
     {
-        let _terms = &self.terms;
+        self.terms.callers
     }
 
     fn into_terms(self) -> Terms
@@ -314,10 +324,13 @@ impl Board {
         terms
     }
 
-    // The closed proposals from 1 up to the first that isn't.
+    // The closed proposals from 1 up to the first that isn't. The history is legal, and what the
+    // board was made for is within the limits.
     fn rows(&self) -> &[Row]
         ensures rows { map proposal_of result.now ≡ own_rows self.now }
         ensures count { length result.now ≤ MOST_PROPOSALS }
+        ensures legal { IsLegalHistory self.now.setup self.now.events }
+        ensures setup { IsSetup self.now.setup }
     {
         self.ledger.rows()
     }
@@ -336,7 +349,7 @@ impl Board {
         ensures { result ≡ (kept_answer self.now proposal unit).earned }
     {
         board_laws();
-        self.store.earned(place(self.terms.units(), proposal, unit))
+        self.store.earned(task_number(self.terms.units(), proposal, unit))
     }
 
     fn answer_into(&self, proposal: u32, unit: u32, into: &mut Answered)
@@ -351,6 +364,6 @@ impl Board {
     {
         board_laws();
         self.store
-            .take(place(self.terms.units(), proposal, unit), into);
+            .take(task_number(self.terms.units(), proposal, unit), into);
     }
 }

@@ -11,7 +11,7 @@ ghost use Rattle.uc_model.specs.PriceRule.{Proposal};
 ghost use Rattle.uc_model.specs.TaskLists.{task_numbers};
 ghost use Rattle.uc_model.specs.TaskRoom.{IsTaskFor};
 ghost use Rattle.uc_model.specs.declared.limits.TheConstants.{MOST_PROPOSALS, MOST_UNITS};
-ghost use Rattle.board_core.specs.Events.{place as place_of};
+ghost use Rattle.board_core.specs.Events.{task_number as number_of};
 ghost use Rattle.board_core.specs.Refusals.{held_refusal, differs_of, own_prices_in, refusal_of};
 ghost use Rattle.board_core.specs.Refusals.{reply_of};
 ghost use Rattle.board_core.specs.Replies.{closed_of as closed_if};
@@ -19,7 +19,7 @@ ghost use Rattle.board_core.specs.Setups.{IsSetup, setup_of};
 
 use crate::ledger::Ledger;
 use crate::replies::{Differs, Posted};
-use crate::terms::{Terms, place};
+use crate::terms::{Terms, task_number};
 use board_history::entries::{Call, Entry, Reply};
 use board_history::laws::differences_mean;
 use board_task::same::{alike, is_unit_of, same_prices};
@@ -87,7 +87,7 @@ fn is_holder(holder: Option<u32>, caller: u32) -> bool
     }
 }
 
-// Why a post for the task at a place is refused, where it is the board's own.
+// Why a post for the task of a number is refused, where it is the board's own.
 fn refusal_at(marks: &[bool], takers: &[u32], at: usize, caller: u32) -> Option<Posted>
     requires marks { at < length marks.now }
     requires claimed { slice_index_or marks.now at false ≡ true → at < length takers.now }
@@ -123,7 +123,7 @@ pub fn refusal(
     requires room { IsTaskFor (setup_of terms.now).market.periods own.old }
     requires marks { (n u : ℕ) → 0 < n → n ≤ ledger.now.opened
         → u < unit_count (setup_of terms.now).market
-        → place_of (unit_count (setup_of terms.now).market) n u < length marks.now }
+        → number_of (unit_count (setup_of terms.now).market) n u < length marks.now }
     requires takers { (i : ℕ) → slice_index_or marks.now i false ≡ true → i < length takers.now }
     ensures refused { result ≡ refusal_of (setup_of terms.now) ledger.now marks.now takers.now
         caller task.now.proposal task.now.unit (prices_of task.now.prices) (task_unit task.now) }
@@ -146,7 +146,7 @@ pub fn refusal(
     if let Some(differs) = content(terms, ledger, own, task) {
         return Some(Posted::Stranger(differs));
     }
-    let at = place(units, task.proposal, task.unit);
+    let at = task_number(units, task.proposal, task.unit);
     refusal_at(marks, takers, at, caller)
 }
 

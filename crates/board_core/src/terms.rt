@@ -2,7 +2,7 @@
 ghost use Rattle.std.specs.Prelude.{◌≡◌, ◌+◌, ◌-◌, ◌*◌, ◌<◌, ◌≤◌, length};
 ghost use Rattle.uc_model.specs.Data.{unit_count};
 ghost use Rattle.uc_model.specs.declared.limits.TheConstants.{MOST_PROPOSALS, MOST_UNITS};
-ghost use Rattle.board_core.specs.Events.{place};
+ghost use Rattle.board_core.specs.Events.{task_number};
 ghost use Rattle.board_core.specs.Setups.{setup_of};
 
 use uc_model::cases::{Case, Plan};
@@ -29,12 +29,12 @@ impl Terms {
 }
 
 /// The number of a task among all: by proposal, which counts from 1, and then by unit.
-pub fn place(units: u32, proposal: u32, unit: u32) -> usize
+pub fn task_number(units: u32, proposal: u32, unit: u32) -> usize
     requires first { 1 ≤ proposal }
     requires proposals { proposal ≤ MOST_PROPOSALS }
     requires units { units ≤ MOST_UNITS }
     requires inside { unit < units }
-    ensures { result ≡ place units proposal unit }
+    ensures { result ≡ task_number units proposal unit }
 {
     (proposal as usize - 1) * units as usize + unit as usize
 }

@@ -9,7 +9,7 @@ pub use Rattle.atomic_table.specs.Table.{opening, State, Final, Seen, Joins, All
 pub use Rattle.board_core.specs.Replies.{claim_of, posted_of}
 pub use Rattle.board_core.specs.Stored.{answer_of}
 pub use Rattle.board_core.specs.Tasks.{LeavesTask}
-pub use Rattle.board_history.specs.Board.{Content, Setup, Answer, rules_of}
+pub use Rattle.board_history.specs.Board.{Content, Setup, Answer, rules_of, IsLegalHistory}
 pub use Rattle.board_history.specs.Calls.{differs_from, claim_answer, after_claim, post_answer, after_post, after_halt}
 pub use Rattle.board_history.specs.Rounds.{ClaimReply, Finished, Halted, GivenTask, NotYet, PostReply, OtherProposal, OtherUnit, OtherContent, Doubled, OtherHolder, TakenPost, claim_reply, post_reply, post_event, posts, with_claim, with_answer, Given, Taken, Closing, Stopped, is_halt_of, with_post, is_closed}
 pub use Rattle.board_history.specs.declared.entries.Entry.{Entry}

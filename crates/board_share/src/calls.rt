@@ -29,20 +29,14 @@ use uc_model::cases::Task;
 use uc_model::units::Answered;
 
 impl Seat {
-    /// The number of its caller.
+    /// The number of its caller, which is below the number of callers. At any time a seat has seen a
+    /// legal history.
     pub fn caller(&self) -> u32
-        ensures { result ≡ (view_of self.now).caller }
+        ensures number { result ≡ (view_of self.now).caller }
+        ensures caller { (view_of self.now).caller < (view_of self.now).setup.callers }
+        ensures legal { IsLegalHistory (view_of self.now).setup (view_of self.now).seen }
     {
         self.caller
-    }
-
-    /// What holds of every seat at any time: it has seen a legal history, and its caller number is
-    /// below the number of callers.
-    pub fn is_legal(&self)
-        ensures legal { IsLegalHistory (view_of self.now).setup (view_of self.now).seen }
-        ensures caller { (view_of self.now).caller < (view_of self.now).setup.callers }
-    {
-        let _place = &self.place;
     }
 }
 
@@ -57,7 +51,6 @@ impl SharedBoard {
         ensures view { IfOk result (λ t. view_of t.1 ≡ first_view board) }
     {
         let about = Snapshot::of(&board);
-        board.is_legal();
         let callers = board.callers();
         let words = [board.history().len() as u64, 0, 0];
         let mut slots = Vec::with_capacity(alloc, 1)?;
@@ -77,11 +70,12 @@ impl SharedBoard {
     }
 
     /// The board's record, once every other seat was joined to the owner's: its history is what the
-    /// owner has seen.
+    /// owner has seen, which is legal.
     pub fn close(self, seat: Seat) -> Closed
         requires own { IsSeatOf self seat × IsOwner seat }
         requires alone { length (view_of seat).out ≡ 1 }
-        ensures { result ≡ content (view_of seat).setup (view_of seat).seen }
+        ensures content { result ≡ content (view_of seat).setup (view_of seat).seen }
+        ensures legal { IsLegalHistory result.setup result.events }
     {
         let SharedBoard { table, callers: _ } = self;
         let Seat {

@@ -125,7 +125,6 @@ impl SharedBoard {
         let before = board.history().len();
         let answer = board.claim(caller, into);
         let after = board.history().len();
-        board.is_legal();
         self.finish(place, before, after);
         answer
     }
@@ -161,7 +160,6 @@ impl SharedBoard {
         let before = board.history().len();
         let posted = board.post(caller, task, answer);
         let after = board.history().len();
-        board.is_legal();
         self.finish(place, before, after);
         posted
     }
@@ -183,7 +181,6 @@ impl SharedBoard {
         let before = board.history().len();
         board.halt(caller);
         let after = board.history().len();
-        board.is_legal();
         self.finish(place, before, after);
     }
 

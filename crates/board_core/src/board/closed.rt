@@ -49,16 +49,19 @@ impl Closed {
         &self.board.terms.case
     }
 
-    /// The plan, which is feasible for the case.
+    /// The plan, which is feasible for the case. What the board was made for is within the limits.
     pub fn plan(&self) -> &Plan
-        ensures { schedules_of result.now ≡ self.now.setup.plan }
+        ensures plan { schedules_of result.now ≡ self.now.setup.plan }
+        ensures setup { IsSetup self.now.setup }
     {
         &self.board.terms.plan
     }
 
-    /// What the plan costs, in money.
+    /// What the plan costs, in money: the cost that the board was made for is that of its plan. What
+    /// it was made for is within the limits.
     pub fn cost(&self) -> i128
-        ensures { result ≡ self.now.setup.cost }
+        ensures cost { result ≡ self.now.setup.cost }
+        ensures setup { IsSetup self.now.setup }
     {
         self.board.terms.cost
     }
@@ -77,9 +80,13 @@ impl Closed {
         self.board.terms.ahead
     }
 
-    /// The rows of the closed proposals from 1 up to the first that isn't closed.
+    /// The rows of the closed proposals from 1 up to the first that isn't closed. They are those of
+    /// a legal history, in which each answer fits its task, and of a board that was made for a
+    /// feasible plan at its cost and for numbers within the limits.
     pub fn rows(&self) -> &[Row]
-        ensures { map proposal_of result.now ≡ own_rows self.now }
+        ensures rows { map proposal_of result.now ≡ own_rows self.now }
+        ensures legal { IsLegalHistory self.now.setup self.now.events }
+        ensures setup { IsSetup self.now.setup }
     {
         self.board.rows()
     }
@@ -130,15 +137,6 @@ impl Closed {
             ≡ self.now.setup.market.periods }
     {
         self.board.answer_into(proposal, unit, into);
-    }
-
-    /// What holds of every record: its history is legal, its plan is feasible at its cost, and its
-    /// numbers are within their limits.
-    pub fn is_legal(&self)
-        ensures legal { IsLegalHistory self.now.setup self.now.events }
-        ensures setup { IsSetup self.now.setup }
-    {
-        self.board.is_legal();
     }
 
     /// Gives back the case and the plan.

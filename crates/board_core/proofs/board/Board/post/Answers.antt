@@ -1,4 +1,4 @@
-use Rattle.board_core.proofs.Common.{◌≡◌, ℕ, suc, ◌+◌, ◌-◌, ◌<◌, ◌==◌, ℤ, Bool, true, false, Option, List, [], ◌∷◌, ◌++◌, length, get_or, refl, subst, sym, ap, ◌∙◌, arith, length-append, set, All, kept_of, Answer, Content, rules_of, IsTotal, IsSum, post_answer, after_post, entry_of, Event, posts, with_post, is_closed, post_event, with_answer, Entry, unit_count, task_unit, prices_of, place, events_of, blank, Lists, unset, sums_of, fronts_of, AreTallies, IsBoard, refusal_of, reply_of, posted_of, closed_if, Sums, Fronts, is_full, IsRound, answer_of, answers_kept, Posts, PostReply, Setup, IsLegalHistory, Difference, AnyUnit, PriceLists, Proposal, int_at, LedgerValue, IsLedger, ◌≤◌}
+use Rattle.board_core.proofs.Common.{◌≡◌, ℕ, suc, ◌+◌, ◌-◌, ◌<◌, ◌==◌, ℤ, Bool, true, false, Option, List, [], ◌∷◌, ◌++◌, length, get_or, refl, subst, sym, ap, ◌∙◌, arith, length-append, set, All, kept_of, Answer, Content, rules_of, IsTotal, IsSum, post_answer, after_post, entry_of, Event, posts, with_post, is_closed, post_event, with_answer, Entry, unit_count, task_unit, prices_of, task_number, events_of, blank, Lists, unset, sums_of, fronts_of, AreTallies, IsBoard, refusal_of, reply_of, posted_of, closed_if, Sums, Fronts, is_full, IsRound, answer_of, answers_kept, Posts, PostReply, Setup, IsLegalHistory, Difference, AnyUnit, PriceLists, Proposal, int_at, LedgerValue, IsLedger, ◌≤◌}
 use Rattle.board_history.specs.declared.entries.Call.TheVariants as calls
 use Rattle.board_core.specs.declared.replies.Posted.TheVariants as replies_of
 use Rattle.board_core.proofs.Lemmas.{content, entries_more, is_task, one_less, is_inside, put_kept, place_before, refusal_is, refused_says, taken_here, supply_small, reserve_small, units_few, entry_is, setup_in, events_in, lists_in, IsTakenHere}
@@ -7,13 +7,13 @@ use Rattle.board_core.proofs.PostLists.{mark_inside, kept_inside, free, count_fe
 use Rattle.board_core.proofs.PostRounds.{rounds_in, sums_small, rows_below, legal_post, posts_are, extends, full_was_open, posted}
 use Rattle.board_core.proofs.PostSums.{IsCounted, place_, supply_was, reserve_was, earned_was, tallies_more, fronts_same, counted_ledger}
 use Rattle.board_core.proofs.board.Board.post.Goals as goal
-use Rattle.board_core.proofs.board.Board.post.Goals.{In-Some, In_default, After-place-at, After-put, After-add, After-deref-3}
+use Rattle.board_core.proofs.board.Board.post.Goals.{In-Some, In_default, After-task_number-at, After-put, After-add, After-deref-3}
 
-place_is : (c : After-place-at) → c.place-at.result ≡ place (unit_count (setup_in c.self.inside).market) c.args.task.now.proposal c.args.task.now.unit
-place_is c = c.place-at.ensures ∙ ap (λ (m : ℕ). place m c.args.task.now.proposal c.args.task.now.unit) c.units-units.ensures
+number_is : (c : After-task_number-at) → c.task_number-at.result ≡ task_number (unit_count (setup_in c.self.inside).market) c.args.task.now.proposal c.args.task.now.unit
+number_is c = c.task_number-at.ensures ∙ ap (λ (m : ℕ). task_number m c.args.task.now.proposal c.args.task.now.unit) c.units-units.ensures
 
-kept_is : (c : After-put) (i : ℕ) → c.place-at.result ≡ i → answers_kept c.put.new.self ≡ set (answers_kept c.self.inside.store) i (answer_of c.args.answer.now)
-kept_is c i at_ = put_kept c.self.inside.store c.put.new.self c.place-at.result (kept_of c.args.answer.now) c.put.ensures.answers ∙ ap (λ (j : ℕ). set (answers_kept c.self.inside.store) j (answer_of c.args.answer.now)) at_
+kept_is : (c : After-put) (i : ℕ) → c.task_number-at.result ≡ i → answers_kept c.put.new.self ≡ set (answers_kept c.self.inside.store) i (answer_of c.args.answer.now)
+kept_is c i at_ = put_kept c.self.inside.store c.put.new.self c.task_number-at.result (kept_of c.args.answer.now) c.put.ensures.answers ∙ ap (λ (j : ℕ). set (answers_kept c.self.inside.store) j (answer_of c.args.answer.now)) at_
 
 counted : (c : After-add) → IsCounted c.self.inside.ledger c.add.new.self (c.args.task.now.proposal - 1) (task_unit c.args.task.now) (answer_of c.args.answer.now) (blank 0)
 counted c = record { proposals = c.add.ensures.proposals (blank 0); earned = c.add.ensures.earned; closed = c.add.ensures.closed; opened = c.add.ensures.opened }
@@ -78,7 +78,7 @@ module _ (c : In_default) where
       taken_here c.board_laws.ensures.taken_tells b h x l I k n u ρ v a (is_task c.args.task.now) c.requires.fit c.requires.earned (sym asked ∙ c.in_default.is)
 
   abbrev i : ℕ
-  i = place units n u
+  i = task_number units n u
 
   mark_in : i < length x.marks
   mark_in = mark_inside b h x l I k n u a ok.held
@@ -179,14 +179,14 @@ returns-in-Some-clause-after c =
 pub index_mut-requires : goal.index_mut-requires
 index_mut-requires c =
     let e = mark_in (goal.at.index_mut-requires c).In_default in
-    let at_ = place_is (goal.at.index_mut-requires c).After-place-at in
+    let at_ = number_is (goal.at.index_mut-requires c).After-task_number-at in
     omega (arith, e, at_)
 
 pub put-requires-clause-place : goal.put-requires-clause-place
 put-requires-clause-place c =
     let e = kept_in (goal.at.put-requires-clause-place c).In_default in
-    let at_ = place_is (goal.at.put-requires-clause-place c).After-place-at in
-    is_inside c.self.inside.store c.place-at.result (omega (arith, e, at_))
+    let at_ = number_is (goal.at.put-requires-clause-place c).After-task_number-at in
+    is_inside c.self.inside.store c.task_number-at.result (omega (arith, e, at_))
 
 pub put-requires-clause-horizon : goal.put-requires-clause-horizon
 put-requires-clause-horizon c = (ok (goal.at.put-requires-clause-horizon c).In_default).long ∙ sym c.self.invariant.1.store
@@ -254,12 +254,12 @@ invariant_of-self-2 c =
     let s = c.self.inside in
     let K = c.self.invariant.1 in
     let x = lists_in s in
-    let at_ = place_is (goal.at.invariant_of-self-2 c).After-place-at in
+    let at_ = number_is (goal.at.invariant_of-self-2 c).After-task_number-at in
     let cs = counts_are (goal.at.invariant_of-self-2 c).After-deref-3 in
     let T = tallies d c.add.new.self (counted (goal.at.invariant_of-self-2 c).After-add) in
     let l3 = c.advance.new.ledger in
     let kept : answers_kept c.put.new.self ≡ set (answers_kept s.store) (i d) (a d) = kept_is (goal.at.invariant_of-self-2 c).After-put (i d) at_ in
-    let marks_is : set s.marks.items c.place-at.result true ≡ set s.marks.items (i d) true = ap (λ (j : ℕ). set s.marks.items j true) at_ in
+    let marks_is : set s.marks.items c.task_number-at.result true ≡ set s.marks.items (i d) true = ap (λ (j : ℕ). set s.marks.items j true) at_ in
     let events = events_so d c.count_up.result c.units-units.result c.count_up.ensures.count c.units-units.ensures c.post_entry.result c.push_reserved.new.self.items (answers_kept c.put.new.self) c.post_entry.ensures c.push_reserved.ensures.items kept in
     let T3 = subst (λ (z : Sums). AreTallies (b d) (counts2 d) z (q d)) (sym c.advance.ensures.sums) T in
     let R3 = subst (λ (xs : List ℕ). IsRound (b d) (units d) xs (sums_of l3) (fronts_of l3)) cs c.advance.ensures.round in
@@ -269,7 +269,7 @@ invariant_of-self-2 c =
     let n1 = subst (λ (xs : List ℕ). IsBoard (b d) (h2 d) (lists (set s.marks.items (i d) true) (set (answers_kept s.store) (i d) (a d)) xs) l3) (sym c.count_up.ensures.counts) new in
     let n2 = subst (λ (xs : List Answer). IsBoard (b d) (h2 d) (lists (set s.marks.items (i d) true) xs c.count_up.new.counts.items) l3) (sym kept) n1 in
     let n3 = subst (λ (xs : List Bool). IsBoard (b d) (h2 d) (lists xs (answers_kept c.put.new.self) c.count_up.new.counts.items) l3) (sym marks_is) n2 in
-    let n4 = subst (λ (z : List (Event Answer)). IsBoard (b d) z (lists (set s.marks.items c.place-at.result true) (answers_kept c.put.new.self) c.count_up.new.counts.items) l3) (sym events) n3 in
+    let n4 = subst (λ (z : List (Event Answer)). IsBoard (b d) z (lists (set s.marks.items c.task_number-at.result true) (answers_kept c.put.new.self) c.count_up.new.counts.items) l3) (sym events) n3 in
     let fewer = less d in
     let unset_at = ap unset marks_is in
     let room = K.room in
@@ -296,6 +296,6 @@ returns-clause-answer c =
 pub returns-clause-after : goal.returns-clause-after
 returns-clause-after c =
     let d = (goal.at.returns-clause-after c).In_default in
-    let kept = kept_is (goal.at.returns-clause-after c).After-put (i d) (place_is (goal.at.returns-clause-after c).After-place-at) in
+    let kept = kept_is (goal.at.returns-clause-after c).After-put (i d) (number_is (goal.at.returns-clause-after c).After-task_number-at) in
     let events = events_so d c.count_up.result c.units-units.result c.count_up.ensures.count c.units-units.ensures c.post_entry.result c.push_reserved.new.self.items (answers_kept c.put.new.self) c.post_entry.ensures c.push_reserved.ensures.items kept in
     ap (content (b d)) events ∙ sym (ap (λ r. content (b d) (with_answer (h d) (event d) r)) (ok d).reply) ∙ ap (λ (z : Content). after_post z (k d) (n d) (u d) (ρ d) (v d) (a d)) c.self.view_is

@@ -10,7 +10,7 @@ finish-requires-clause-hand g c =
     let d = c.draw-ticket.ensures.drawn in
     let t = c.take_turn.ensures.taken in
     handed c.args.place.now.me c.draw-ticket.new.place.me c.take_turn.new.place.me _ d.0 c.args.caller t.0 c.slot_mut-board.result.now c.claim-answer.new.self (λ b. after_claim b c.args.caller) c.history-after.result.now
-    c.requires.ready.2 d.2 t.1 c.slot_mut-board.ensures.value c.claim-answer.ensures.after (claim_goes_on c.slot_mut-board.result.now c.args.caller) refl c.history-after.ensures
+    c.requires.ready.2 d.2 t.1 c.slot_mut-board.ensures.value c.claim-answer.ensures.after (claim_goes_on c.slot_mut-board.result.now c.args.caller) refl c.history-after.ensures.entries
 
 pub returns-clause-called : goal.returns-clause-called
 returns-clause-called g c = let d = c.draw-ticket.ensures.drawn in let t = c.take_turn.ensures.taken in
