@@ -12,10 +12,10 @@ pub use Rattle.text_tokens.specs.Grammar.{Token, end, comma, word}
 pub use Rattle.text_tokens.specs.Numbers.{is_digit, AreDigits, value_from, value, significant, begins_with, is_whole_part, is_number_byte}
 unfoldable pub use Rattle.text_tokens.specs.Numbers.{exponent_of, number_token, front, behind, behind_fraction, behind_whole, unsigned, number_of}
 pub use Rattle.text_tokens.specs.Pieces.{seen_piece, piece_of}
-pub use Rattle.text_tokens.specs.Places.{rest_at, Takes}
+pub use Rattle.text_tokens.specs.Offsets.{rest_at, Takes}
 pub use Rattle.text_tokens.specs.Plain.{is_plain}
 pub use Rattle.text_tokens.specs.Scalars.{number, long_number}
 pub use Rattle.text_tokens.specs.Strings.{is_high, is_low, second_at, Piece, after_piece, len_or, text_or, string_token}
 unfoldable pub use Rattle.text_tokens.specs.Strings.{pair, unit_piece, string_from, string_of, piece_at, said, string_at}
-pub use Rattle.text_tokens.specs.Tokens.{Placed, placed, is_blank, Read, number_at, is_letter}
+pub use Rattle.text_tokens.specs.Tokens.{Lexed, lexed, is_blank, Read, number_at, is_letter}
 unfoldable pub use Rattle.text_tokens.specs.Tokens.{token_at, tokens_from}

@@ -5,7 +5,7 @@ pub mod Strings
 pub mod Tokens
 pub mod Seen
 pub mod Pieces
-pub mod Places
+pub mod Offsets
 pub mod Ahead
 pub mod Goes
 pub mod Small

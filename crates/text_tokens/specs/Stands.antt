@@ -16,6 +16,6 @@ RefersTo (tokens.Text q) behind run = q.bytes.now ≡ behind
 RefersTo (tokens.Word (LargeNumber r)) behind run = r.bytes.now ≡ run
 RefersTo t behind run = Unit {0}
 
--- the token's first byte is at this place of the text
+-- the token's first byte is at this offset of the text
 abbrev pub StandsAt : List ℕ → ℕ → Token → Type 0
-StandsAt bytes place t = RefersTo t (drop (place + 1) bytes) (number_run (drop place bytes))
+StandsAt bytes offset t = RefersTo t (drop (offset + 1) bytes) (number_run (drop offset bytes))

@@ -1,4 +1,4 @@
--- The tokens of a list of bytes, each with the place of its first byte.
+-- The tokens of a list of bytes, each with the offset of its first byte.
 use Rattle.std.specs.Prelude.{ℕ, zero, suc, ◌-◌, ◌==◌, ◌&&◌, ◌||◌, Bool, true, false, nat_le}
 use Rattle.std.specs.Prelude.{if◌then◌else◌, List, [], ◌∷◌, take, drop, codes, bytes_eq}
 use Rattle.std.specs.List.{prefix_len}
@@ -51,25 +51,26 @@ token_at b bytes =
     else if is_letter b then word_at bytes
     else (bad, 1)
 
-pub record Placed : Type 0 where
+-- A token, and the offset of its first byte.
+pub record Lexed : Type 0 where
   pub token : Token
-  pub place : ℕ
+  pub offset : ℕ
 
-abbrev pub placed : Token → ℕ → Placed
-placed t at = record { token = t; place = at }
+abbrev pub lexed : Token → ℕ → Lexed
+lexed t at = record { token = t; offset = at }
 
--- The tokens from a place on, where so many bytes of the last token are still to be passed.
-unfoldable pub tokens_from : ℕ → ℕ → List ℕ → List Placed
-tokens_from at passing [] = placed end at ∷ []
+-- The tokens from an offset on, where so many bytes of the last token are still to be passed.
+unfoldable pub tokens_from : ℕ → ℕ → List ℕ → List Lexed
+tokens_from at passing [] = lexed end at ∷ []
 tokens_from at (suc passing) (b ∷ bytes) = tokens_from (suc at) passing bytes
 tokens_from at zero (b ∷ bytes) =
     if is_blank b then tokens_from (suc at) 0 bytes
-    else placed (token_at b (b ∷ bytes)).0 at ∷ tokens_from (suc at)
+    else lexed (token_at b (b ∷ bytes)).0 at ∷ tokens_from (suc at)
     ((token_at b (b ∷ bytes)).1 - 1) bytes
 
-abbrev pub tokens : List ℕ → List Placed
+abbrev pub tokens : List ℕ → List Lexed
 tokens bytes = tokens_from 0 0 bytes
 
-abbrev pub kinds : List Placed → List Token
+abbrev pub kinds : List Lexed → List Token
 kinds [] = []
 kinds (p ∷ ps) = p.token ∷ kinds ps

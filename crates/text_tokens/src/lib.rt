@@ -1,4 +1,4 @@
-//! The tokens of JSON texts of RFC 8259, one after the other, each with its place.
+//! The tokens of JSON texts of RFC 8259, one after the other, each with its offset.
 #![tactic(auto)]
 
 mod bytes;

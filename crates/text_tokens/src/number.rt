@@ -89,14 +89,14 @@ fn are_digits(bytes: &[u8]) -> bool
 }
 
 /// The power of ten of a number with a written exponent, and digits behind the point.
-fn exponent(lowers: bool, power: u32, places: usize) -> i32
+fn exponent(lowers: bool, power: u32, fraction_len: usize) -> i32
     requires power { power ≤ 400 }
-    requires places { places < 2 ^ 30 }
-    ensures { result ≡ (if lowers then neg_ℤ (pos power) else pos power) -ℤ pos places }
+    requires fraction_len { fraction_len < 2 ^ 30 }
+    ensures { result ≡ (if lowers then neg_ℤ (pos power) else pos power) -ℤ pos fraction_len }
 {
     let written = power as i32;
     let written = if lowers { -written } else { written };
-    written - places as i32
+    written - fraction_len as i32
 }
 
 fn number_token(
@@ -258,11 +258,11 @@ fn ends_number(bytes: &[u8]) -> bool
 }
 
 /// The power of ten of a number without a written exponent.
-fn places_exponent(places: usize) -> i16
-    requires { places ≤ 9999 }
-    ensures { result ≡ pos 0 -ℤ pos places }
+fn unwritten_exponent(fraction_len: usize) -> i16
+    requires { fraction_len ≤ 9999 }
+    ensures { result ≡ pos 0 -ℤ pos fraction_len }
 {
-    0 - places as i16
+    0 - fraction_len as i16
 }
 
 /// A whole number of few digits and then a fraction, behind the point: the number, and how many
@@ -277,19 +277,19 @@ fn short_fraction(whole: u32, bytes: &[u8]) -> Option<(SmallNumber, usize)>
         (λ r. (r.0.exponent ≡ pos 0 -ℤ pos r.1) × (r.0.negative ≡ false)) }
     ensures within { IfSome result (λ r. r.1 ≤ length bytes.now) }
 {
-    let (digits, places) = digits_ahead(whole, bytes)?;
-    if places == 0 || 9999 < places {
+    let (digits, fraction_len) = digits_ahead(whole, bytes)?;
+    if fraction_len == 0 || 9999 < fraction_len {
         return None;
     }
-    if !ends_number(rest_from(bytes, places)) {
+    if !ends_number(rest_from(bytes, fraction_len)) {
         return None;
     }
     let small = SmallNumber {
         digits,
-        exponent: places_exponent(places),
+        exponent: unwritten_exponent(fraction_len),
         negative: false,
     };
-    Some((small, places))
+    Some((small, fraction_len))
 }
 
 /// A number of few digits and without a sign or an exponent, as most are, in one pass; and how many
@@ -307,8 +307,8 @@ pub fn short_number(bytes: &[u8]) -> Option<(SmallNumber, usize)>
     }
     let others = rest_from(bytes, len);
     if begins_with(b'.', others) {
-        let (small, places) = short_fraction(digits, rest_from(others, 1))?;
-        return Some((small, len + 1 + places));
+        let (small, fraction_len) = short_fraction(digits, rest_from(others, 1))?;
+        return Some((small, len + 1 + fraction_len));
     }
     if !ends_number(others) {
         return None;

@@ -7,7 +7,7 @@ use crate::number::short_number;
 use crate::small::SmallNumber;
 use crate::token::{Lexeme, Token, is_blank, mark, token_at};
 
-/// A text, and the place behind the last token that was read.
+/// A text, and the offset behind the last token that was read.
 #[derive(Drop)]
 pub struct Reader<'a> {
     pub bytes: &'a [u8],
@@ -20,7 +20,7 @@ impl<'a> Reader<'a> {
     ghost use Rattle.text_tokens.specs.Ahead.{rest, ahead};
     ghost use Rattle.std.specs.Prelude.{IfSome, IfNone, OnSome};
     ghost use Rattle.text_tokens.specs.Grammar.{word, comma};
-    ghost use Rattle.text_tokens.specs.Places.{NextIs, Takes, seen};
+    ghost use Rattle.text_tokens.specs.Offsets.{NextIs, Takes, seen};
     ghost use Rattle.text_tokens.specs.Small.{decimal_of};
     ghost use Rattle.text_tokens.specs.Scalars.{number};
     ghost use Rattle.text_tokens.specs.Seen.{token_of};
@@ -32,15 +32,15 @@ impl<'a> Reader<'a> {
         ensures last { token_of result.token ≡ end → rest self.old ≡ seen result ∷ [] }
         ensures ahead { ahead self.new ≤ ahead self.old }
         ensures less { (token_of result.token ≡ end → ⊥) → ahead self.new < ahead self.old }
-        ensures stands { StandsAt self.old.bytes.now result.place result.token }
+        ensures stands { StandsAt self.old.bytes.now result.offset result.token }
         ensures same { self.new.bytes.now ≡ self.old.bytes.now }
     {
-        let place = self.at;
-        if place < self.bytes.len() {
-            if let Some(token) = mark(self.bytes[place]) {
-                self.at = place + 1;
-                let place = place as u32;
-                return Lexeme { token, place };
+        let offset = self.at;
+        if offset < self.bytes.len() {
+            if let Some(token) = mark(self.bytes[offset]) {
+                self.at = offset + 1;
+                let offset = offset as u32;
+                return Lexeme { token, offset };
             }
         }
         self.next_of_all()
@@ -71,22 +71,22 @@ impl<'a> Reader<'a> {
         ensures last { token_of result.token ≡ end → rest self.old ≡ seen result ∷ [] }
         ensures ahead { ahead self.new ≤ ahead self.old }
         ensures less { (token_of result.token ≡ end → ⊥) → ahead self.new < ahead self.old }
-        ensures stands { StandsAt self.old.bytes.now result.place result.token }
+        ensures stands { StandsAt self.old.bytes.now result.offset result.token }
         ensures same { self.new.bytes.now ≡ self.old.bytes.now }
     {
         'blanks: while self.at < self.bytes.len() && is_blank(self.bytes[self.at]) {
             self.at += 1;
         }
-        let place = self.at;
-        if place == self.bytes.len() {
+        let offset = self.at;
+        if offset == self.bytes.len() {
             return Lexeme {
                 token: Token::End,
-                place: place as u32,
+                offset: offset as u32,
             };
         }
-        let (token, len) = token_at(rest_from(self.bytes, place));
+        let (token, len) = token_at(rest_from(self.bytes, offset));
         self.at += len;
-        let place = place as u32;
-        Lexeme { token, place }
+        let offset = offset as u32;
+        Lexeme { token, offset }
     }
 }

@@ -45,13 +45,14 @@ pub enum Token<'a> {
     End,
 }
 
-/// A token, and the place of its first byte.
+/// A token, and the offset of its first byte.
 #[derive(Clone, Copy)]
 pub struct Lexeme<'a> {
     pub token: Token<'a>,
-    pub place: u32,
+    pub offset: u32,
 }
 
+/// Whether a byte is white space between tokens.
 pub fn is_blank(b: u8) -> bool
     ensures { result ≡ blank b }
 {
@@ -148,6 +149,7 @@ pub fn mark(byte: u8) -> Option<Token<'static>>
     }
 }
 
+/// The token in front, and how many bytes it takes.
 #[tactic(auto, unfolding(crate::specs::Tokens::token_at))]
 pub fn token_at(bytes: &[u8]) -> (Token<'_>, usize)
     requires some { 0 < length bytes.now }

@@ -53,7 +53,7 @@ impl<'a> Branch<'a> {
         let (node, _) = self.split();
         match node {
             Node::Number(small) => Some(small.decimal()),
-            Node::LargeNumber(place) => Some(number_from(self.bytes, place)),
+            Node::LargeNumber(offset) => Some(number_from(self.bytes, offset)),
             _ => None,
         }
     }
@@ -64,7 +64,7 @@ impl<'a> Branch<'a> {
     {
         let (node, _) = self.split();
         match node {
-            Node::Text(place) => string_from(self.bytes, place),
+            Node::Text(offset) => string_from(self.bytes, offset),
             _ => Quoted::empty(),
         }
     }

@@ -16,13 +16,13 @@ unfoldable pub use Rattle.uc_case.specs.Forms.{amount, time_within}
 unfoldable pub use Rattle.uc_case.specs.Inside.{value_of}
 pub use Rattle.uc_case.specs.Kept.{IsRange, AreRamps, IsPast, AreLags, ArePoints, AreBlocks}
 pub use Rattle.uc_case.specs.Laws.{OneCase, SomeFile, OneFile}
-pub use Rattle.uc_case.specs.Places.{fault, place, item_at}
+pub use Rattle.uc_case.specs.Sites.{fault, site, item_at}
 pub use Rattle.uc_case.specs.Tables.{first_crossed, block, ends_miss, point, lag, one_power, mark}
 unfoldable pub use Rattle.uc_case.specs.Tables.{period_blocks, powers, renewable_unit}
 pub use Rattle.uc_case.specs.Words.{position, last_is}
 unfoldable pub use Rattle.uc_case.specs.Words.{each}
 pub use Rattle.uc_case.specs.declared.fault.FieldFault.{FieldFault}
-pub use Rattle.uc_case.specs.declared.fault.Place.{Place}
+pub use Rattle.uc_case.specs.declared.fault.Site.{Site}
 pub use Rattle.uc_model.specs.Limits.{IsFrom, IsPower, IsOutput, IsThermalUnit, IsRenewableUnit, Spans, IsLag, IsPoint, IsBlock, IsBlockList}
 pub use Rattle.uc_model.specs.Reserved.{Reserved, items_in}
 pub use Rattle.uc_model.specs.declared.units.Block.{Block}

@@ -1,5 +1,5 @@
 -- What was read for a unit is within the limits of its type.
-use Rattle.uc_case.proofs.Common.{◌≡◌, ℕ, zero, suc, ◌<◌, ◌≤◌, Bool, true, false, List, [], ◌∷◌, length, map, get_or, Ok, Err, refl, sym, ◌∙◌, if◌then◌else◌, arith, w64, to_z, of_z, ℤ, pos, ◌≤ℤ◌, int_lt, nat_lt, All, ints, to_z-of_z, Lag, Point, Block, IsPower, IsOutput, IsThermalUnit, IsRenewableUnit, Spans, Value, IsRange, AreRamps, IsPast, AreLags, ArePoints, fault, each, first_crossed, block, period_blocks, Place}
+use Rattle.uc_case.proofs.Common.{◌≡◌, ℕ, zero, suc, ◌<◌, ◌≤◌, Bool, true, false, List, [], ◌∷◌, length, map, get_or, Ok, Err, refl, sym, ◌∙◌, if◌then◌else◌, arith, w64, to_z, of_z, ℤ, pos, ◌≤ℤ◌, int_lt, nat_lt, All, ints, to_z-of_z, Lag, Point, Block, IsPower, IsOutput, IsThermalUnit, IsRenewableUnit, Spans, Value, IsRange, AreRamps, IsPast, AreLags, ArePoints, fault, each, first_crossed, block, period_blocks, Site}
 use Rattle.uc_model.specs.declared.units.Mark.{Mark}
 use Rattle.uc_model.specs.Sums.{total}
 use Rattle.uc_model.specs.declared.limits.TheConstants.{MOST_PERIODS, MOST_LAGS, MOST_POINTS, MOST_BLOCKS, POWER_LIMIT}
@@ -94,10 +94,10 @@ renewable_fits least most periods crossed count count_most some horizon least_fi
 few : (n : ℕ) → n ≤ MOST_BLOCKS → nat_lt MOST_BLOCKS n ≡ false
 few n le = grind (arith, le)
 
-pub period_read : (at : Place) (v : Value) (vs : List Value) (bs : List Block) → list at v ≡ Ok vs → length vs ≤ MOST_BLOCKS → each (block at) [] vs ≡ Ok bs → int_lt POWER_LIMIT (total (map (λ (b : Block). b.width) bs)) ≡ false → period_blocks at [] v ≡ Ok bs
+pub period_read : (at : Site) (v : Value) (vs : List Value) (bs : List Block) → list at v ≡ Ok vs → length vs ≤ MOST_BLOCKS → each (block at) [] vs ≡ Ok bs → int_lt POWER_LIMIT (total (map (λ (b : Block). b.width) bs)) ≡ false → period_blocks at [] v ≡ Ok bs
 unfolding period_blocks
 period_read at v vs bs listed count read fits = rw (listed, few (length vs) count, read, fits) refl
 
-pub period_refused : (at : Place) (v : Value) (vs : List Value) (bs : List Block) → list at v ≡ Ok vs → length vs ≤ MOST_BLOCKS → each (block at) [] vs ≡ Ok bs → int_lt POWER_LIMIT (total (map (λ (b : Block). b.width) bs)) ≡ true → period_blocks at [] v ≡ Err (fault at codes.TooLarge)
+pub period_refused : (at : Site) (v : Value) (vs : List Value) (bs : List Block) → list at v ≡ Ok vs → length vs ≤ MOST_BLOCKS → each (block at) [] vs ≡ Ok bs → int_lt POWER_LIMIT (total (map (λ (b : Block). b.width) bs)) ≡ true → period_blocks at [] v ≡ Err (fault at codes.TooLarge)
 unfolding period_blocks
 period_refused at v vs bs listed count read wide = rw (listed, few (length vs) count, read, wide) refl

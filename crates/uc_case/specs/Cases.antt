@@ -7,7 +7,7 @@ use Rattle.uc_model.specs.declared.limits.TheConstants.{MOST_PERIODS, MOST_OF_A_
 use Rattle.uc_model.specs.Data.{NamedThermalUnit, NamedRenewableUnit, NamedBidUnit, Market}
 use Rattle.text_tree.specs.Values.{Value}
 use Rattle.text_tree.specs.Parts.{Pair}
-use Rattle.uc_case.specs.Places.{fault, field_at, place}
+use Rattle.uc_case.specs.Sites.{fault, field_at, site}
 use Rattle.uc_case.specs.Words.{◌>>=◌, ◌>>◌, refuse, each, position}
 use Rattle.uc_case.specs.Forms.{Read, keys, key, key_or_none, object, time_within}
 use Rattle.uc_case.specs.Tables.{thermal_unit, renewable_unit, bid_unit, powers}
@@ -16,43 +16,43 @@ use Rattle.uc_case.specs.declared.fault.Field.{Field}
 use Rattle.uc_case.specs.declared.fault.Field.TheVariants.{Whole, TimePeriods, Demand}
 use Rattle.uc_case.specs.declared.fault.Field.TheVariants.{Reserves, ThermalGenerators}
 use Rattle.uc_case.specs.declared.fault.Field.TheVariants.{RenewableGenerators, DemandBids}
-use Rattle.uc_case.specs.declared.fault.Place.{Place}
+use Rattle.uc_case.specs.declared.fault.Site.{Site}
 
-unfoldable pub thermal : ℕ → Place → Pair → Read NamedThermalUnit
+unfoldable pub thermal : ℕ → Site → Pair → Read NamedThermalUnit
 thermal periods at m = do
   u ← thermal_unit periods at m.value
   Ok (record { name = m.name; unit = u })
 
-unfoldable pub renewable : ℕ → Place → Pair → Read NamedRenewableUnit
+unfoldable pub renewable : ℕ → Site → Pair → Read NamedRenewableUnit
 renewable periods at m = do
   u ← renewable_unit periods at m.value
   Ok (record { name = m.name; unit = u })
 
-unfoldable pub bid : ℕ → Place → Pair → Read NamedBidUnit
+unfoldable pub bid : ℕ → Site → Pair → Read NamedBidUnit
 bid periods at m = do
   u ← bid_unit periods at m.value
   Ok (record { name = m.name; unit = u })
 
--- members in file order, each at the place of its position
-abbrev pub each_member : {A : Type 0} → Field → Kind → (Place → Pair → Read A)
+-- members in file order, each at the site of its position
+abbrev pub each_member : {A : Type 0} → Field → Kind → (Site → Pair → Read A)
     → List Pair → Read (List A)
-each_member field kind read ms = each (λ before. read (place field kind (position before))) [] ms
+each_member field kind read ms = each (λ before. read (site field kind (position before))) [] ms
 
 -- an object by name
-unfoldable pub units : {A : Type 0} → Field → Kind → (Place → Pair → Read A)
-    → Place → Value → Read (List A)
+unfoldable pub units : {A : Type 0} → Field → Kind → (Site → Pair → Read A)
+    → Site → Value → Read (List A)
 units field kind read at v = do
   ms ← object at v
   refuse (fault at TooLarge) (nat_lt MOST_OF_A_KIND (length ms))
   each_member field kind read ms
 
 -- an absent one is an empty one
-unfoldable pub bids : ℕ → Place → Option Value → Read (List NamedBidUnit)
+unfoldable pub bids : ℕ → Site → Option Value → Read (List NamedBidUnit)
 bids periods at None = Ok []
 bids periods at (Some v) = units DemandBids Bid (bid periods) at v
 
-abbrev pub whole : Place
-whole = place Whole Case 0
+abbrev pub whole : Site
+whole = site Whole Case 0
 
 unfoldable pub case_of : Value → Read Market
 case_of v = do

@@ -1,4 +1,4 @@
--- The forms of a case file's fields: each reads one value at a place, with its tests in order.
+-- The forms of a case file's fields: each reads one value at a site, with its tests in order.
 use Rattle.std.specs.Prelude.{ℕ, Bool, List, [], Option, Result, Ok, ℤ, pos}
 use Rattle.std.specs.Prelude.{nat_abs, unsigned_abs, nat_lt, int_lt, not}
 use Rattle.uc_model.specs.declared.limits.TheConstants.{MOST_TIME}
@@ -7,30 +7,30 @@ use Rattle.uc_num.specs.Rounding.{rounded}
 use Rattle.text_tree.specs.Values.{Value}
 use Rattle.text_tree.specs.Parts.{Pair}
 use Rattle.uc_case.specs.Inside.{number_in, list_in, object_in, value_of, is_whole, bit_of}
-use Rattle.uc_case.specs.Places.{fault, field_at, item_at, key_of}
+use Rattle.uc_case.specs.Sites.{fault, field_at, item_at, key_of}
 use Rattle.uc_case.specs.Magnitudes.{most_cost}
 use Rattle.uc_case.specs.Words.{◌>>=◌, ◌>>◌, refuse, need, each, position}
 use Rattle.uc_case.specs.declared.fault.CaseCode.TheVariants.{Missing, WrongKind, NotWhole}
 use Rattle.uc_case.specs.declared.fault.CaseCode.TheVariants.{Negative, TooLarge, NotFlag}
 use Rattle.uc_case.specs.declared.fault.Field.{Field}
 use Rattle.uc_case.specs.declared.fault.FieldFault.{FieldFault}
-use Rattle.uc_case.specs.declared.fault.Place.{Place}
+use Rattle.uc_case.specs.declared.fault.Site.{Site}
 
 -- What tests of a case give: a value, or the fault of the first test that failed.
 abbrev pub Read : Type 0 → Type 0
 Read A = Result A FieldFault
 
-abbrev pub decimal : Place → Value → Read Decimal
+abbrev pub decimal : Site → Value → Read Decimal
 decimal at v = need (fault at WrongKind) (number_in v)
 
-abbrev pub list : Place → Value → Read (List Value)
+abbrev pub list : Site → Value → Read (List Value)
 list at v = need (fault at WrongKind) (list_in v)
 
-abbrev pub object : Place → Value → Read (List Pair)
+abbrev pub object : Site → Value → Read (List Pair)
 object at v = need (fault at WrongKind) (object_in v)
 
 -- a number at a scale, from 0 to a limit
-unfoldable pub amount : ℕ → ℕ → Place → Value → Read ℤ
+unfoldable pub amount : ℕ → ℕ → Site → Value → Read ℤ
 amount scale limit at v = do
   d ← decimal at v
   refuse (fault at TooLarge) (nat_lt limit (unsigned_abs (rounded d scale)))
@@ -38,20 +38,20 @@ amount scale limit at v = do
   Ok (rounded d scale)
 
 -- in thousandths: kilowatts of megawatts
-abbrev pub power : ℕ → Place → Value → Read ℤ
+abbrev pub power : ℕ → Site → Value → Read ℤ
 power = amount 3
 
 -- in millionths of the currency
-unfoldable pub cost : Place → Value → Read ℤ
+unfoldable pub cost : Site → Value → Read ℤ
 cost at v = do
   d ← decimal at v
   refuse (fault at TooLarge) (nat_lt most_cost (unsigned_abs (rounded d 6)))
   Ok (rounded d 6)
 
-abbrev pub start_cost : Place → Value → Read ℤ
+abbrev pub start_cost : Site → Value → Read ℤ
 start_cost = amount 6 most_cost
 
-unfoldable pub time_within : ℕ → Place → Value → Read ℕ
+unfoldable pub time_within : ℕ → Site → Value → Read ℕ
 time_within limit at v = do
   d ← decimal at v
   refuse (fault at NotWhole) (not (is_whole d))
@@ -59,10 +59,10 @@ time_within limit at v = do
   refuse (fault at Negative) (int_lt (rounded d 0) (pos 0))
   Ok (nat_abs (rounded d 0))
 
-abbrev pub time : Place → Value → Read ℕ
+abbrev pub time : Site → Value → Read ℕ
 time = time_within MOST_TIME
 
-unfoldable pub flag : Place → Value → Read Bool
+unfoldable pub flag : Site → Value → Read Bool
 flag at v = do
   d ← decimal at v
   refuse (fault at NotWhole) (not (is_whole d))
@@ -71,34 +71,34 @@ flag at v = do
 -- ---- keys of an object
 
 -- the value under a key that must be there
-abbrev pub under : Place → List ℕ → List Pair → Read Value
+abbrev pub under : Site → List ℕ → List Pair → Read Value
 under at key members = need (fault at Missing) (value_of key members)
 
--- a key of an item, whose faults are those of the item's place
-abbrev pub part : {A : Type 0} → Place → List ℕ → (Place → Value → Read A) → List Pair → Read A
+-- a key of an item, whose faults are those of the item's site
+abbrev pub part : {A : Type 0} → Site → List ℕ → (Site → Value → Read A) → List Pair → Read A
 part at name form members = do
   v ← under at name members
   form at v
 
--- A unit or the case: the place of its faults but for the field, and its members.
+-- A unit or the case: the site of its faults but for the field, and its members.
 pub record Keys : Type 0 where
-  pub at : Place
+  pub at : Site
   pub members : List Pair
 
-abbrev pub keys : Place → List Pair → Keys
+abbrev pub keys : Site → List Pair → Keys
 keys at members = record { at = at; members = members }
 
 -- a key of a unit or of the case, whose faults name its field
-abbrev pub key : {A : Type 0} → Keys → Field → (Place → Value → Read A) → Read A
+abbrev pub key : {A : Type 0} → Keys → Field → (Site → Value → Read A) → Read A
 key o f form = do
   v ← under (field_at o.at f) (key_of f) o.members
   form (field_at o.at f) v
 
 -- a key that may be absent
-abbrev pub key_or_none : {A : Type 0} → Keys → Field → (Place → Option Value → Read A) → Read A
+abbrev pub key_or_none : {A : Type 0} → Keys → Field → (Site → Option Value → Read A) → Read A
 key_or_none o f form = form (field_at o.at f) (value_of (key_of f) o.members)
 
--- the items of a list, each at the place of its position
-abbrev pub items : {A : Type 0} → (Place → List A → Value → Read A)
-    → Place → List Value → Read (List A)
+-- the items of a list, each at the site of its position
+abbrev pub items : {A : Type 0} → (Site → List A → Value → Read A)
+    → Site → List Value → Read (List A)
 items read at vs = each (λ before. read (item_at at (position before)) before) [] vs

@@ -1,4 +1,4 @@
-pub mod Places
+pub mod Sites
 pub mod Inside
 pub mod Words
 pub mod Magnitudes

@@ -16,7 +16,7 @@ use Rattle.uc_model.specs.Sums.{total}
 use Rattle.text_tree.specs.Values.{Value, scalar, null, number}
 use Rattle.uc_case.specs.Inside.{list_in, bit_of}
 use Rattle.uc_case.specs.Magnitudes.{most_power, most_output, most_price}
-use Rattle.uc_case.specs.Places.{fault, field_at, item_at}
+use Rattle.uc_case.specs.Sites.{fault, field_at, item_at}
 use Rattle.uc_case.specs.Words.{◌>>=◌, ◌>>◌, refuse, need, each, last_is}
 use Rattle.uc_case.specs.Forms.{Read, Keys, keys, key, key_or_none, part, items, list}
 use Rattle.uc_case.specs.Forms.{object, amount, power, cost, start_cost, time, flag}
@@ -30,14 +30,14 @@ use Rattle.uc_case.specs.declared.fault.Field.TheVariants.{RampShutdownLimit, Ti
 use Rattle.uc_case.specs.declared.fault.Field.TheVariants.{TimeDownMinimum, PowerOutputT0}
 use Rattle.uc_case.specs.declared.fault.Field.TheVariants.{UnitOnT0, TimeUpT0, TimeDownT0, Startup}
 use Rattle.uc_case.specs.declared.fault.Field.TheVariants.{PiecewiseProduction, Commitment, Blocks}
-use Rattle.uc_case.specs.declared.fault.Place.{Place}
+use Rattle.uc_case.specs.declared.fault.Site.{Site}
 use Rattle.uc_case.specs.declared.parts.Output.{Output}
 use Rattle.uc_case.specs.declared.parts.Ramps.{Ramps}
 use Rattle.uc_case.specs.declared.parts.Past.{Past}
 
 -- ---- startup
 
-unfoldable pub lag : Place → List Lag → Value → Read Lag
+unfoldable pub lag : Site → List Lag → Value → Read Lag
 lag at before v = do
   o ← object at v
   lag ← part at (codes "lag") time o
@@ -45,7 +45,7 @@ lag at before v = do
   refuse (fault at LagOrder) (last_is (λ (b : Lag). nat_lt lag b.lag) before)
   Ok (record { lag = lag; cost = cost })
 
-unfoldable pub startup : Place → Value → Read (List Lag)
+unfoldable pub startup : Site → Value → Read (List Lag)
 startup at v = do
   vs ← list at v
   refuse (fault at TooLarge) (nat_lt MOST_LAGS (length vs))
@@ -53,7 +53,7 @@ startup at v = do
 
 -- ---- piecewise_production
 
-unfoldable pub point : Place → List Point → Value → Read Point
+unfoldable pub point : Site → List Point → Value → Read Point
 point at before v = do
   o ← object at v
   mw ← part at (codes "mw") (power most_power) o
@@ -67,7 +67,7 @@ ends_miss low high ps =
     option_map_or (λ (p : Point). int_lt low p.at) (slice_get ps 0) true
     || option_map_or (λ (p : Point). int_lt p.at high) (slice_get ps (length ps - 1)) true
 
-unfoldable pub piecewise : ℤ → ℤ → Place → Value → Read (List Point)
+unfoldable pub piecewise : ℤ → ℤ → Site → Value → Read (List Point)
 piecewise low high at v = do
   vs ← list at v
   refuse (fault at TooLarge) (nat_lt MOST_POINTS (length vs))
@@ -82,11 +82,11 @@ mark_in (scalar null) = Some Free
 mark_in (scalar (number d)) = option_map (λ on. if on then MustOn else MustOff) (bit_of d)
 mark_in _ = None
 
-abbrev pub mark : Place → List Mark → Value → Read Mark
+abbrev pub mark : Site → List Mark → Value → Read Mark
 mark at before v = need (fault at WindowShape) (mark_in v)
 
 -- an absent one leaves every period free
-unfoldable pub commitment : ℕ → Place → Option Value → Read (List Mark)
+unfoldable pub commitment : ℕ → Site → Option Value → Read (List Mark)
 commitment periods at None = Ok (replicate periods Free)
 commitment periods at (Some v) = do
   vs ← need (fault at WindowShape) (list_in v)
@@ -132,7 +132,7 @@ past u = do
     down = down;
   })
 
-unfoldable pub thermal_unit : ℕ → Place → Value → Read ThermalUnit
+unfoldable pub thermal_unit : ℕ → Site → Value → Read ThermalUnit
 thermal_unit periods at v = do
   ms ← object at v
   let u = keys at ms
@@ -164,10 +164,10 @@ thermal_unit periods at v = do
 -- ---- a renewable unit, and the lists of the case
 
 -- a power of a list, whatever stands before it
-abbrev pub one_power : Place → List ℤ → Value → Read ℤ
+abbrev pub one_power : Site → List ℤ → Value → Read ℤ
 one_power at before = power most_power at
 
-unfoldable pub powers : ℕ → Place → Value → Read (List ℤ)
+unfoldable pub powers : ℕ → Site → Value → Read (List ℤ)
 powers periods at v = do
   vs ← list at v
   refuse (fault at WrongLength) (not (length vs == periods))
@@ -179,7 +179,7 @@ first_crossed k (least ∷ ls) (most ∷ ms) =
     if int_lt most least then k else first_crossed (suc k) ls ms
 first_crossed k _ _ = 0
 
-unfoldable pub renewable_unit : ℕ → Place → Value → Read RenewableUnit
+unfoldable pub renewable_unit : ℕ → Site → Value → Read RenewableUnit
 renewable_unit periods at v = do
   ms ← object at v
   let u = keys at ms
@@ -192,10 +192,10 @@ renewable_unit periods at v = do
 -- ---- a bid
 
 -- in money for a kilowatt and period
-abbrev pub price : Place → Value → Read ℤ
+abbrev pub price : Site → Value → Read ℤ
 price = amount 3 most_price
 
-unfoldable pub block : Place → List Block → Value → Read Block
+unfoldable pub block : Site → List Block → Value → Read Block
 block at before v = do
   o ← object at v
   mw ← part at (codes "mw") (power most_power) o
@@ -203,8 +203,8 @@ block at before v = do
   refuse (fault at BlockOrder) (last_is (λ (b : Block). int_lt b.price price) before)
   Ok (record { width = mw; price = price })
 
--- the blocks of one period: all their faults are at the period's place
-unfoldable pub period_blocks : Place → List (List Block) → Value → Read (List Block)
+-- the blocks of one period: all their faults are at the period's site
+unfoldable pub period_blocks : Site → List (List Block) → Value → Read (List Block)
 period_blocks at before v = do
   vs ← list at v
   refuse (fault at TooLarge) (nat_lt MOST_BLOCKS (length vs))
@@ -212,13 +212,13 @@ period_blocks at before v = do
   refuse (fault at TooLarge) (int_lt POWER_LIMIT (total (map (λ (b : Block). b.width) bs)))
   Ok bs
 
-unfoldable pub blocks : ℕ → Place → Value → Read (List (List Block))
+unfoldable pub blocks : ℕ → Site → Value → Read (List (List Block))
 blocks periods at v = do
   vs ← list at v
   refuse (fault at WrongLength) (not (length vs == periods))
   items period_blocks at vs
 
-unfoldable pub bid_unit : ℕ → Place → Value → Read BidUnit
+unfoldable pub bid_unit : ℕ → Site → Value → Read BidUnit
 bid_unit periods at v = do
   ms ← object at v
   bs ← key (keys at ms) Blocks (blocks periods)

@@ -15,7 +15,7 @@ ghost use Rattle.uc_case.specs.Words.{each, last_is};
 ghost use Rattle.uc_case.specs.Forms.{key, keys, items};
 ghost use Rattle.uc_case.specs.Tables.{block, period_blocks, blocks, bid_unit};
 
-use crate::fault::{CaseCode, Field, Place};
+use crate::fault::{CaseCode, Field, Site};
 use crate::forms::{FieldStop, list_of, members_of, read_amount, read_power, value_under};
 use crate::keys::Keys;
 use crate::limits::{BLOCKS, POWER, PRICE};
@@ -28,7 +28,7 @@ use uc_model::units::{Bid, Block, BlockLists, Blocks};
 #[tactic(auto, unfolding(crate::specs::Tables::block))]
 fn read_block(
     alloc: Global,
-    at: Place,
+    at: Site,
     before: &[Block],
     branch: Branch<'_>,
 ) -> Result<Block, FieldStop>
@@ -48,7 +48,7 @@ fn read_block(
     Ok(Block { width, price })
 }
 
-fn read_blocks(alloc: Global, at: Place, branches: &[Branch<'_>]) -> Result<Blocks, FieldStop>
+fn read_blocks(alloc: Global, at: Site, branches: &[Branch<'_>]) -> Result<Blocks, FieldStop>
     requires { length branches.now ≤ MOST_BLOCKS }
     ensures count { IfOk result (λ bs. length bs.items ≡ length branches.now) }
     ensures fits { IfOk result (λ bs. AreBlocks bs.items) }
@@ -63,7 +63,7 @@ fn read_blocks(alloc: Global, at: Place, branches: &[Branch<'_>]) -> Result<Bloc
 }
 
 #[tactic(auto, unfolding(crate::specs::Tables::period_blocks))]
-fn read_period(alloc: Global, at: Place, branch: Branch<'_>) -> Result<Blocks, FieldStop>
+fn read_period(alloc: Global, at: Site, branch: Branch<'_>) -> Result<Blocks, FieldStop>
     ensures fits { IfOk result (λ bs. IsBlockList bs.items) }
     ensures value { Gives (λ bs. bs.items) result (period_blocks at [] (view branch.entry)) }
 {
@@ -79,7 +79,7 @@ fn read_period(alloc: Global, at: Place, branch: Branch<'_>) -> Result<Blocks, F
     Ok(blocks)
 }
 
-fn read_periods(alloc: Global, at: Place, branches: &[Branch<'_>]) -> Result<BlockLists, FieldStop>
+fn read_periods(alloc: Global, at: Site, branches: &[Branch<'_>]) -> Result<BlockLists, FieldStop>
     requires { length branches.now ≤ MOST_OF_A_KIND }
     ensures count { IfOk result (λ ls. length ls.items ≡ length branches.now) }
     ensures fits { IfOk result (λ ls. All (λ bs. IsBlockList bs) (map items_in ls.items)) }
@@ -88,8 +88,8 @@ fn read_periods(alloc: Global, at: Place, branches: &[Branch<'_>]) -> Result<Blo
 {
     let mut lists = BlockLists::make(alloc, branches.len() as u32)?;
     for branch in branches {
-        let place = at.item(lists.len() as u32 + 1);
-        let blocks = read_period(alloc, place, *branch)?;
+        let site = at.item(lists.len() as u32 + 1);
+        let blocks = read_period(alloc, site, *branch)?;
         lists.push(blocks);
     }
     Ok(lists)
@@ -112,13 +112,9 @@ fn read_block_lists(alloc: Global, u: &Keys, periods: u32) -> Result<BlockLists,
     read_periods(alloc, at, &branches)
 }
 
+/// A bid, or the first of its faults; those of a block are at its period.
 #[tactic(auto, unfolding(crate::specs::Tables::bid_unit))]
-pub fn read_bid(
-    alloc: Global,
-    at: Place,
-    branch: Branch<'_>,
-    periods: u32,
-) -> Result<Bid, FieldStop>
+pub fn read_bid(alloc: Global, at: Site, branch: Branch<'_>, periods: u32) -> Result<Bid, FieldStop>
     requires some { 1 ≤ periods }
     requires horizon { periods ≤ MOST_PERIODS }
     ensures fits { IfOk result (λ b. IsBidUnit (bid_of b)) }

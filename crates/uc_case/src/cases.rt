@@ -14,7 +14,7 @@ use crate::fault::{CaseCode, Field, Kind};
 use crate::forms::{FieldStop, members_of};
 use crate::keys::Keys;
 use crate::limits::PERIODS;
-use crate::listed::{read_units, unit_place};
+use crate::listed::{read_units, unit_site};
 use crate::lists::read_powers;
 use std::alloc::Global;
 use text_tree::Branch;
@@ -43,7 +43,7 @@ fn read_demand_bids(alloc: Global, c: &Keys, periods: u32) -> Result<BidList, Fi
 pub fn case_of_tree(alloc: Global, root: Branch<'_>) -> Result<Case, FieldStop>
     ensures { Gives market_of result (case_of (view root.entry)) }
 {
-    let at = unit_place(Field::Whole, Kind::Case, 0);
+    let at = unit_site(Field::Whole, Kind::Case, 0);
     let c = Keys {
         at,
         members: members_of(alloc, at, root)?,

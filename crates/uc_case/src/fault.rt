@@ -1,6 +1,6 @@
 //! Why a file is no case, and where.
 ghost use Rattle.std.specs.Prelude.{◌≡◌};
-ghost use Rattle.uc_case.specs.Places.{fault, key_of, code_number};
+ghost use Rattle.uc_case.specs.Sites.{fault, key_of, code_number};
 
 use std::alloc::{AllocError, AllocFailed};
 use std::fmt;
@@ -135,14 +135,14 @@ impl Field {
 /// within its kind. `item` is the position within a list, from 1, and the period in `blocks`; it is
 /// 0 outside of lists.
 #[derive(Clone, Copy)]
-pub struct Place {
+pub struct Site {
     pub field: Field,
     pub kind: Kind,
     pub unit: u32,
     pub item: u32,
 }
 
-/// A test that failed, and where: the parts of a `Place`.
+/// A test that failed, and where: the parts of a `Site`.
 #[derive(Clone, Copy, PartialEq, Eq)]
 pub struct FieldFault {
     pub code: CaseCode,
@@ -182,21 +182,21 @@ pub enum CaseFault {
     Memory,
 }
 
-impl Place {
-    ghost use Rattle.uc_case.specs.Places.{field_at, item_at};
+impl Site {
+    ghost use Rattle.uc_case.specs.Sites.{field_at, item_at};
 
-    /// The place of another field.
-    pub fn field(self, field: Field) -> Place
+    /// The site of another field.
+    pub fn field(self, field: Field) -> Site
         ensures { result ≡ field_at self field }
     {
-        Place { field, ..self }
+        Site { field, ..self }
     }
 
-    /// The place of an item.
-    pub fn item(self, item: u32) -> Place
+    /// The site of an item.
+    pub fn item(self, item: u32) -> Site
         ensures { result ≡ item_at self item }
     {
-        Place { item, ..self }
+        Site { item, ..self }
     }
 
     /// The fault of a test here.

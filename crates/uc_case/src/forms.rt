@@ -1,15 +1,15 @@
-//! The forms of fields: each reads one value, and its faults are at the place.
+//! The forms of fields: each reads one value, and its faults are at the site.
 ghost use Rattle.std.specs.Prelude.{◌≡◌, ◌≤◌, ◌^◌, IfOk, pos};
 ghost use Rattle.uc_model.specs.Limits.{IsCost, IsFrom, IsStartCost};
 ghost use Rattle.uc_model.specs.declared.limits.TheConstants.{MOST_TIME};
 ghost use Rattle.text_tree.specs.View.{view, items_in, members_in, member_views};
 ghost use Rattle.uc_case.specs.Given.{Gives};
-ghost use Rattle.uc_case.specs.Places.{fault};
+ghost use Rattle.uc_case.specs.Sites.{fault};
 ghost use Rattle.uc_case.specs.Forms.{decimal, list, object, amount, power, cost, start_cost};
 ghost use Rattle.uc_case.specs.Forms.{time_within, flag, under};
 ghost use Rattle.uc_case.specs.declared.stop.Stop.TheVariants as stops;
 
-use crate::fault::{CaseCode, FieldFault, Place};
+use crate::fault::{CaseCode, FieldFault, Site};
 use crate::inside::{bit, find};
 use crate::limits::COST;
 use crate::stop::Stop;
@@ -20,7 +20,7 @@ use uc_num::{Decimal, is_whole, whole};
 /// Why the reading of a case stops.
 pub type FieldStop = Stop<FieldFault>;
 
-impl Place {
+impl Site {
     /// The stop at a test that failed here.
     pub fn stop(self, code: CaseCode) -> FieldStop
         ensures { result ≡ stops.Fault (fault self code) }
@@ -29,7 +29,8 @@ impl Place {
     }
 }
 
-pub fn number_of(at: Place, branch: Branch<'_>) -> Result<Decimal, FieldStop>
+/// The number that a value is; `WrongKind` where it is none.
+pub fn number_of(at: Site, branch: Branch<'_>) -> Result<Decimal, FieldStop>
     ensures { Gives (λ d. d) result (decimal at (view branch.entry)) }
 {
     match branch.number() {
@@ -38,7 +39,8 @@ pub fn number_of(at: Place, branch: Branch<'_>) -> Result<Decimal, FieldStop>
     }
 }
 
-pub fn list_of(at: Place, branch: Branch<'_>) -> Result<ListBranch<'_>, FieldStop>
+/// The list that a value is; `WrongKind` where it is none. It takes no memory.
+pub fn list_of(at: Site, branch: Branch<'_>) -> Result<ListBranch<'_>, FieldStop>
     ensures { Gives items_in result (list at (view branch.entry)) }
 {
     match branch.list() {
@@ -47,7 +49,8 @@ pub fn list_of(at: Place, branch: Branch<'_>) -> Result<ListBranch<'_>, FieldSto
     }
 }
 
-pub fn object_of(at: Place, branch: Branch<'_>) -> Result<ObjectBranch<'_>, FieldStop>
+/// The object that a value is; `WrongKind` where it is none. It takes no memory.
+pub fn object_of(at: Site, branch: Branch<'_>) -> Result<ObjectBranch<'_>, FieldStop>
     ensures { Gives members_in result (object at (view branch.entry)) }
 {
     match branch.object() {
@@ -56,10 +59,10 @@ pub fn object_of(at: Place, branch: Branch<'_>) -> Result<ObjectBranch<'_>, Fiel
     }
 }
 
-/// The members of an object, in file order.
+/// The members of an object, in file order; `WrongKind` where the value is none.
 pub fn members_of<'a>(
     alloc: Global,
-    at: Place,
+    at: Site,
     branch: Branch<'a>,
 ) -> Result<Vec<Member<'a>>, FieldStop>
     ensures { Gives (λ ms. member_views ms.items) result (object at (view branch.entry)) }
@@ -67,9 +70,10 @@ pub fn members_of<'a>(
     Ok(object_of(at, branch)?.members(alloc)?)
 }
 
-/// A number at a scale, from 0 to the limit.
+/// A number at a scale, from 0 to the limit. It is tried in the order `WrongKind`, `TooLarge` in
+/// magnitude, `Negative`.
 #[tactic(auto, unfolding(crate::specs::Forms::amount), using(crate::proofs::Fits::not_above))]
-pub fn read_amount(at: Place, branch: Branch<'_>, scale: u32, limit: u64) -> Result<i64, FieldStop>
+pub fn read_amount(at: Site, branch: Branch<'_>, scale: u32, limit: u64) -> Result<i64, FieldStop>
     requires scale { scale ≤ 6 }
     requires limit { limit ≤ 10 ^ 18 }
     ensures bound { IfOk result (λ n. IsFrom (pos 0) (pos limit) n) }
@@ -85,8 +89,8 @@ pub fn read_amount(at: Place, branch: Branch<'_>, scale: u32, limit: u64) -> Res
     Ok(amount)
 }
 
-/// Kilowatts, from megawatts.
-pub fn read_power(at: Place, branch: Branch<'_>, limit: u64) -> Result<i64, FieldStop>
+/// Kilowatts, from megawatts: from 0 to the limit, tried as `read_amount` does.
+pub fn read_power(at: Site, branch: Branch<'_>, limit: u64) -> Result<i64, FieldStop>
     requires { limit ≤ 10 ^ 18 }
     ensures bound { IfOk result (λ n. IsFrom (pos 0) (pos limit) n) }
     ensures value { Gives (λ n. n) result (power limit at (view branch.entry)) }
@@ -94,9 +98,10 @@ pub fn read_power(at: Place, branch: Branch<'_>, limit: u64) -> Result<i64, Fiel
     read_amount(at, branch, 3, limit)
 }
 
-/// Money of a point of a curve, which may be below 0.
+/// Money of a point of a curve, in millionths of the currency, which may be below 0. It is tried in
+/// the order `WrongKind`, `TooLarge`.
 #[tactic(auto, unfolding(crate::specs::Forms::cost), using(crate::proofs::Fits::within))]
-pub fn read_cost(at: Place, branch: Branch<'_>) -> Result<i64, FieldStop>
+pub fn read_cost(at: Site, branch: Branch<'_>) -> Result<i64, FieldStop>
     ensures bound { IfOk result (λ n. IsCost n) }
     ensures value { Gives (λ n. n) result (cost at (view branch.entry)) }
 {
@@ -107,17 +112,18 @@ pub fn read_cost(at: Place, branch: Branch<'_>) -> Result<i64, FieldStop>
     }
 }
 
-/// Money of a start, which isn't below 0.
-pub fn read_start_cost(at: Place, branch: Branch<'_>) -> Result<i64, FieldStop>
+/// Money of a start, in millionths of the currency, from 0 to `COST`.
+pub fn read_start_cost(at: Site, branch: Branch<'_>) -> Result<i64, FieldStop>
     ensures bound { IfOk result (λ n. IsStartCost n) }
     ensures value { Gives (λ n. n) result (start_cost at (view branch.entry)) }
 {
     read_amount(at, branch, 6, COST)
 }
 
-/// A number of periods.
+/// A number of periods, from 0 to the limit. It is tried in the order `WrongKind`, `NotWhole`,
+/// `TooLarge` in magnitude, `Negative`.
 #[tactic(auto, unfolding(crate::specs::Forms::time_within))]
-pub fn read_time(at: Place, branch: Branch<'_>, limit: u64) -> Result<u32, FieldStop>
+pub fn read_time(at: Site, branch: Branch<'_>, limit: u64) -> Result<u32, FieldStop>
     requires { limit ≤ MOST_TIME }
     ensures bound { IfOk result (λ n. n ≤ limit) }
     ensures value { Gives (λ n. n) result (time_within limit at (view branch.entry)) }
@@ -135,9 +141,9 @@ pub fn read_time(at: Place, branch: Branch<'_>, limit: u64) -> Result<u32, Field
     Ok(time as u32)
 }
 
-/// A flag, 0 or 1.
+/// A flag, 0 or 1. It is tried in the order `WrongKind`, `NotWhole`, `NotFlag`.
 #[tactic(auto, unfolding(crate::specs::Forms::flag))]
-pub fn read_flag(at: Place, branch: Branch<'_>) -> Result<bool, FieldStop>
+pub fn read_flag(at: Site, branch: Branch<'_>) -> Result<bool, FieldStop>
     ensures { Gives (λ b. b) result (flag at (view branch.entry)) }
 {
     let d = number_of(at, branch)?;
@@ -150,12 +156,8 @@ pub fn read_flag(at: Place, branch: Branch<'_>) -> Result<bool, FieldStop>
     }
 }
 
-/// The value under a key that must be there.
-pub fn value_under<'a>(
-    at: Place,
-    members: &[Member<'a>],
-    key: &str,
-) -> Result<Branch<'a>, FieldStop>
+/// The value under a key; `Missing` where it isn't there.
+pub fn value_under<'a>(at: Site, members: &[Member<'a>], key: &str) -> Result<Branch<'a>, FieldStop>
     ensures { Gives view result (under at key.now (member_views members.now)) }
 {
     match find(members, key) {

@@ -6,22 +6,23 @@ ghost use Rattle.uc_model.specs.declared.limits.TheConstants.{MOST_TIME};
 ghost use Rattle.text_tree.specs.View.{view, member_views};
 ghost use Rattle.uc_case.specs.Given.{Gives};
 ghost use Rattle.uc_case.specs.Inside.{value_of};
-ghost use Rattle.uc_case.specs.Places.{key_of, field_at};
+ghost use Rattle.uc_case.specs.Sites.{key_of, field_at};
 ghost use Rattle.uc_case.specs.Forms.{keys, key, under, flag, power, time_within};
 
-use crate::fault::{Field, Place};
+use crate::fault::{Field, Site};
 use crate::forms::{FieldStop, read_flag, read_power, read_time, value_under};
 use crate::inside::find;
 use text_tree::{Branch, Member};
 
-/// A unit or the case: the place of its faults but for the field, and its members.
+/// A unit or the case: the site of its faults but for the field, and its members.
 #[derive(Drop)]
 pub struct Keys<'a> {
-    pub at: Place,
+    pub at: Site,
     pub members: Vec<Member<'a>>,
 }
 
 impl<'a> Keys<'a> {
+    /// The value under the key of a field; `Missing` where it isn't there.
     pub fn value(&self, field: Field) -> Result<Branch<'a>, FieldStop>
         ensures { Gives view result
             (under (field_at self.now.at field) (key_of field)
@@ -30,6 +31,7 @@ impl<'a> Keys<'a> {
         value_under(self.at.field(field), &self.members, field.key())
     }
 
+    /// The value under the key of a field, if it is there.
     pub fn find(&self, field: Field) -> Option<Branch<'a>>
         ensures { option_map view result
             ≡ value_of (key_of field) (member_views self.now.members.items) }
@@ -37,6 +39,7 @@ impl<'a> Keys<'a> {
         find(&self.members, field.key())
     }
 
+    /// The flag of a field, which must be there.
     pub fn flag(&self, field: Field) -> Result<bool, FieldStop>
         ensures { Gives (λ b. b) result
             (key (keys self.now.at (member_views self.now.members.items)) field flag) }
@@ -44,6 +47,7 @@ impl<'a> Keys<'a> {
         read_flag(self.at.field(field), self.value(field)?)
     }
 
+    /// The kilowatts of a field, from 0 to the limit, which must be there.
     pub fn power(&self, field: Field, limit: u64) -> Result<i64, FieldStop>
         requires { limit ≤ 10 ^ 18 }
         ensures bound { IfOk result (λ n. IsFrom (pos 0) (pos limit) n) }
@@ -53,6 +57,7 @@ impl<'a> Keys<'a> {
         read_power(self.at.field(field), self.value(field)?, limit)
     }
 
+    /// The periods of a field, from 0 to the limit, which must be there.
     pub fn time(&self, field: Field, limit: u64) -> Result<u32, FieldStop>
         requires { limit ≤ MOST_TIME }
         ensures bound { IfOk result (λ n. n ≤ limit) }

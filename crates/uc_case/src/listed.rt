@@ -9,12 +9,12 @@ ghost use Rattle.text_tree.specs.View.{view, member_view, member_views};
 ghost use Rattle.uc_case.specs.Given.{Gives};
 ghost use Rattle.uc_case.specs.Kept.{IsThermalOf, IsRenewableOf, IsBidOf};
 ghost use Rattle.uc_case.specs.Forms.{Read};
-ghost use Rattle.uc_case.specs.Places.{place};
+ghost use Rattle.uc_case.specs.Sites.{site};
 ghost use Rattle.uc_case.specs.Cases.{thermal, renewable, bid, each_member, units};
-ghost use Rattle.uc_case.specs.declared.fault.Place.{Place as PlainPlace};
+ghost use Rattle.uc_case.specs.declared.fault.Site.{Site as PlainSite};
 
 use crate::bids::read_bid;
-use crate::fault::{CaseCode, Field, Kind, Place};
+use crate::fault::{CaseCode, Field, Kind, Site};
 use crate::forms::{FieldStop, object_of};
 use crate::limits::UNITS;
 use crate::units::{read_renewable, read_unit};
@@ -32,24 +32,24 @@ pub trait Listed: Sized {
     ghost plain_of: { Self → Plain };
 
     // What the tests of a member give.
-    ghost reading: { ℕ → PlainPlace → Pair → Read Plain };
+    ghost reading: { ℕ → PlainSite → Pair → Read Plain };
 
     // What it keeps, over so many periods.
     ghost Keeps: { ℕ → Plain → Type 0 };
 
-    /// Reads a member, whose faults are at the place.
-    fn read(alloc: Global, at: Place, member: &Member<'_>, periods: u32) -> Result<Self, FieldStop>
+    /// Reads a member, whose faults are at the site.
+    fn read(alloc: Global, at: Site, member: &Member<'_>, periods: u32) -> Result<Self, FieldStop>
         requires some { 1 ≤ periods }
         requires horizon { periods ≤ MOST_PERIODS }
         ensures fits { IfOk result (λ n. Keeps periods (plain_of n)) }
         ensures value { Gives plain_of result (reading periods at (member_view member.now)) };
 }
 
-/// The place of a field of a unit or of the case, outside of its lists.
-pub fn unit_place(field: Field, kind: Kind, unit: u32) -> Place
-    ensures { result ≡ place field kind unit }
+/// The site of a field of a unit or of the case, outside of its lists.
+pub fn unit_site(field: Field, kind: Kind, unit: u32) -> Site
+    ensures { result ≡ site field kind unit }
 {
-    Place {
+    Site {
         field,
         kind,
         unit,
@@ -77,7 +77,7 @@ impl Listed for NamedUnit {
     #[tactic(auto, unfolding(crate::specs::Cases::thermal))]
     fn read(
         alloc: Global,
-        at: Place,
+        at: Site,
         member: &Member<'_>,
         periods: u32,
     ) -> Result<NamedUnit, FieldStop> {
@@ -99,7 +99,7 @@ impl Listed for NamedFlat {
     #[tactic(auto, unfolding(crate::specs::Cases::renewable))]
     fn read(
         alloc: Global,
-        at: Place,
+        at: Site,
         member: &Member<'_>,
         periods: u32,
     ) -> Result<NamedFlat, FieldStop> {
@@ -121,7 +121,7 @@ impl Listed for NamedBid {
     #[tactic(auto, unfolding(crate::specs::Cases::bid))]
     fn read(
         alloc: Global,
-        at: Place,
+        at: Site,
         member: &Member<'_>,
         periods: u32,
     ) -> Result<NamedBid, FieldStop> {
@@ -148,19 +148,19 @@ fn read_members<N: Listed + Drop>(
 {
     let mut list: ReservedList<N> = ReservedList::make(alloc, members.len() as u32)?;
     for member in members {
-        let at = unit_place(field, kind, list.len() as u32 + 1);
+        let at = unit_site(field, kind, list.len() as u32 + 1);
         let unit = N::read(alloc, at, member, periods)?;
         list.push(unit);
     }
     Ok(list)
 }
 
-/// The units or bids of an object in file order. The faults of the object itself are at the place,
+/// The units or bids of an object in file order. The faults of the object itself are at the site,
 /// whose field is theirs too.
 #[tactic(auto, unfolding(crate::specs::Cases::units))]
 pub fn read_units<N: Listed + Drop>(
     alloc: Global,
-    at: Place,
+    at: Site,
     kind: Kind,
     branch: Branch<'_>,
     periods: u32,

@@ -14,7 +14,7 @@ ghost use Rattle.uc_case.specs.Forms.{key, keys, items, part, power, cost, start
 ghost use Rattle.uc_case.specs.Tables.{lag, startup, point, piecewise, powers, one_power};
 ghost use Rattle.uc_case.specs.Tables.{ends_miss};
 
-use crate::fault::{CaseCode, Field, Place};
+use crate::fault::{CaseCode, Field, Site};
 use crate::forms::{
     FieldStop, list_of, members_of, read_cost, read_power, read_start_cost, read_time, value_under,
 };
@@ -26,7 +26,7 @@ use uc_model::lists::Numbers;
 use uc_model::units::{Lag, Lags, Point, Points};
 
 #[tactic(auto, unfolding(crate::specs::Tables::lag))]
-fn read_lag(alloc: Global, at: Place, before: &[Lag], branch: Branch<'_>) -> Result<Lag, FieldStop>
+fn read_lag(alloc: Global, at: Site, before: &[Lag], branch: Branch<'_>) -> Result<Lag, FieldStop>
     ensures fits { IfOk result (λ l. IsLag l) }
     ensures order { IfOk result (λ l. last_is (λ (b : PlainLag). nat_lt l.lag b.lag) before.now
         ≡ false) }
@@ -43,7 +43,7 @@ fn read_lag(alloc: Global, at: Place, before: &[Lag], branch: Branch<'_>) -> Res
     Ok(Lag { lag, cost })
 }
 
-fn read_lags(alloc: Global, at: Place, branches: &[Branch<'_>]) -> Result<Lags, FieldStop>
+fn read_lags(alloc: Global, at: Site, branches: &[Branch<'_>]) -> Result<Lags, FieldStop>
     requires { length branches.now ≤ MOST_OF_A_KIND }
     ensures count { IfOk result (λ ls. length ls.items ≡ length branches.now) }
     ensures fits { IfOk result (λ ls. AreLags ls.items) }
@@ -51,13 +51,15 @@ fn read_lags(alloc: Global, at: Place, branches: &[Branch<'_>]) -> Result<Lags, 
 {
     let mut lags = Lags::make(alloc, branches.len() as u32)?;
     for branch in branches {
-        let place = at.item(lags.len() as u32 + 1);
-        let lag = read_lag(alloc, place, lags.as_slice(), *branch)?;
+        let site = at.item(lags.len() as u32 + 1);
+        let lag = read_lag(alloc, site, lags.as_slice(), *branch)?;
         lags.push(lag);
     }
     Ok(lags)
 }
 
+/// The lags of a thermal unit and their costs, at most `LAGS`. `LagOrder` where a lag is below the
+/// one before it.
 #[tactic(auto, unfolding(crate::specs::Tables::startup))]
 pub fn read_startup(alloc: Global, u: &Keys) -> Result<Lags, FieldStop>
     ensures count { IfOk result (λ ls. length ls.items ≤ MOST_LAGS) }
@@ -77,7 +79,7 @@ pub fn read_startup(alloc: Global, u: &Keys) -> Result<Lags, FieldStop>
 #[tactic(auto, unfolding(crate::specs::Tables::point))]
 fn read_point(
     alloc: Global,
-    at: Place,
+    at: Site,
     before: &[Point],
     branch: Branch<'_>,
 ) -> Result<Point, FieldStop>
@@ -97,7 +99,7 @@ fn read_point(
     Ok(Point { at: mw, cost })
 }
 
-fn read_points(alloc: Global, at: Place, branches: &[Branch<'_>]) -> Result<Points, FieldStop>
+fn read_points(alloc: Global, at: Site, branches: &[Branch<'_>]) -> Result<Points, FieldStop>
     requires { length branches.now ≤ MOST_OF_A_KIND }
     ensures count { IfOk result (λ ps. length ps.items ≡ length branches.now) }
     ensures fits { IfOk result (λ ps. ArePoints ps.items) }
@@ -105,8 +107,8 @@ fn read_points(alloc: Global, at: Place, branches: &[Branch<'_>]) -> Result<Poin
 {
     let mut points = Points::make(alloc, branches.len() as u32)?;
     for branch in branches {
-        let place = at.item(points.len() as u32 + 1);
-        let point = read_point(alloc, place, points.as_slice(), *branch)?;
+        let site = at.item(points.len() as u32 + 1);
+        let point = read_point(alloc, site, points.as_slice(), *branch)?;
         points.push(point);
     }
     Ok(points)
@@ -127,6 +129,9 @@ fn misses_ends(low: i64, high: i64, points: &[Point]) -> bool
     first_misses || last_misses
 }
 
+/// The points of a thermal unit's cost, at most `POINTS`, where `low` and `high` are its least and
+/// its greatest kilowatts. `CurveOrder` where a point is below the one before it, and `CurveEnds`
+/// where the points don't reach from one to the other.
 #[tactic(auto, using(crate::proofs::Ordered::spans), unfolding(crate::specs::Tables::piecewise))]
 pub fn read_piecewise(alloc: Global, u: &Keys, low: i64, high: i64) -> Result<Points, FieldStop>
     ensures count { IfOk result (λ ps. length ps.items ≤ MOST_POINTS) }
@@ -150,7 +155,7 @@ pub fn read_piecewise(alloc: Global, u: &Keys, low: i64, high: i64) -> Result<Po
     Ok(points)
 }
 
-fn read_numbers(alloc: Global, at: Place, branches: &[Branch<'_>]) -> Result<Numbers, FieldStop>
+fn read_numbers(alloc: Global, at: Site, branches: &[Branch<'_>]) -> Result<Numbers, FieldStop>
     requires { length branches.now ≤ MOST_OF_A_KIND }
     ensures count { IfOk result (λ ns. length ns.items ≡ length branches.now) }
     ensures fits { IfOk result (λ ns. All (λ n. IsPower n) ns.items) }
@@ -158,13 +163,14 @@ fn read_numbers(alloc: Global, at: Place, branches: &[Branch<'_>]) -> Result<Num
 {
     let mut numbers = Numbers::make(alloc, branches.len() as u32)?;
     for branch in branches {
-        let place = at.item(numbers.len() as u32 + 1);
-        let number = read_power(place, *branch, POWER)?;
+        let site = at.item(numbers.len() as u32 + 1);
+        let number = read_power(site, *branch, POWER)?;
         numbers.push(number);
     }
     Ok(numbers)
 }
 
+/// A list of kilowatts, one for each period; `WrongLength` where it has more or fewer.
 #[tactic(auto, unfolding(crate::specs::Tables::powers))]
 pub fn read_powers(
     alloc: Global,

@@ -10,7 +10,7 @@ ghost use Rattle.uc_case.specs.Forms.{keys};
 ghost use Rattle.uc_case.specs.Tables.{thermal_unit, renewable_unit, first_crossed, at_least_one};
 ghost use Rattle.uc_case.specs.Tables.{output, ramps, past};
 
-use crate::fault::{CaseCode, Field, Place};
+use crate::fault::{CaseCode, Field, Site};
 use crate::forms::{FieldStop, members_of};
 use crate::keys::Keys;
 use crate::limits::{OUTPUT, POWER, TIME};
@@ -89,10 +89,11 @@ fn read_past(u: &Keys) -> Result<Past, FieldStop>
     })
 }
 
+/// A thermal unit, or the first of its faults in the order of its fields.
 #[tactic(auto, unfolding(crate::specs::Tables::thermal_unit))]
 pub fn read_unit(
     alloc: Global,
-    at: Place,
+    at: Site,
     branch: Branch<'_>,
     periods: u32,
 ) -> Result<Unit, FieldStop>
@@ -149,10 +150,12 @@ fn first_crossing(least: &[i64], most: &[i64]) -> u32
     0
 }
 
+/// A renewable unit, or the first of its faults in the order of its fields; then `RangeOrder` at the
+/// first period whose least power is above its greatest.
 #[tactic(auto, unfolding(crate::specs::Tables::renewable_unit))]
 pub fn read_renewable(
     alloc: Global,
-    at: Place,
+    at: Site,
     branch: Branch<'_>,
     periods: u32,
 ) -> Result<Renewable, FieldStop>

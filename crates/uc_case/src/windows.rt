@@ -7,7 +7,7 @@ ghost use Rattle.uc_case.specs.Given.{Gives};
 ghost use Rattle.uc_case.specs.Forms.{keys, key_or_none, items};
 ghost use Rattle.uc_case.specs.Tables.{mark, mark_in, commitment};
 
-use crate::fault::{CaseCode, Field, Place};
+use crate::fault::{CaseCode, Field, Site};
 use crate::forms::FieldStop;
 use crate::inside::bit;
 use crate::keys::Keys;
@@ -36,7 +36,7 @@ fn mark_of(branch: Branch<'_>) -> Option<Mark>
     mark_set(branch.number()?)
 }
 
-fn read_mark(at: Place, branch: Branch<'_>) -> Result<Mark, FieldStop>
+fn read_mark(at: Site, branch: Branch<'_>) -> Result<Mark, FieldStop>
     ensures { Gives (λ m. m) result (mark at [] (view branch.entry)) }
 {
     match mark_of(branch) {
@@ -45,20 +45,22 @@ fn read_mark(at: Place, branch: Branch<'_>) -> Result<Mark, FieldStop>
     }
 }
 
-fn read_marks(alloc: Global, at: Place, branches: &[Branch<'_>]) -> Result<Marks, FieldStop>
+fn read_marks(alloc: Global, at: Site, branches: &[Branch<'_>]) -> Result<Marks, FieldStop>
     requires { length branches.now ≤ MOST_OF_A_KIND }
     ensures count { IfOk result (λ ms. length ms.items ≡ length branches.now) }
     ensures value { Gives (λ ms. ms.items) result (items mark at (views branches.now)) }
 {
     let mut marks = Marks::make(alloc, branches.len() as u32)?;
     for branch in branches {
-        let place = at.item(marks.len() as u32 + 1);
-        let mark = read_mark(place, *branch)?;
+        let site = at.item(marks.len() as u32 + 1);
+        let mark = read_mark(site, *branch)?;
         marks.push(mark);
     }
     Ok(marks)
 }
 
+/// The commitment window of a unit, a mark for each period, and all of them free where it has none.
+/// `WindowShape` for anything but a list of null, 0 and 1 for the periods.
 #[tactic(auto, unfolding(crate::specs::Tables::commitment))]
 pub fn read_commitment(alloc: Global, u: &Keys, periods: u32) -> Result<Marks, FieldStop>
     requires { periods ≤ MOST_PERIODS }

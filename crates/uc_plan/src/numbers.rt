@@ -50,6 +50,8 @@ fn flag_at(branch: Branch<'_>) -> Option<bool>
     }
 }
 
+/// The kilowatts of a list, one for each item. `PlanNumber` at the first item that isn't a whole
+/// number from 0 to `POWER_LIMIT`.
 pub fn read_powers(alloc: Global, at: Seat, branches: &[Branch<'_>]) -> Result<Powers, ShapeStop>
     requires { length branches.now ≤ MOST_PERIODS }
     ensures count { IfOk result (λ ns. length ns.items ≡ length branches.now) }
@@ -65,6 +67,7 @@ pub fn read_powers(alloc: Global, at: Seat, branches: &[Branch<'_>]) -> Result<P
     Ok(powers)
 }
 
+/// The flags of a list, one for each item. `PlanNumber` at the first item that is neither 0 nor 1.
 pub fn read_flags(alloc: Global, at: Seat, branches: &[Branch<'_>]) -> Result<Flags, ShapeStop>
     requires { length branches.now ≤ MOST_PERIODS }
     ensures count { IfOk result (λ ns. length ns.items ≡ length branches.now) }

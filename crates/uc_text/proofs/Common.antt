@@ -10,7 +10,7 @@ pub use Rattle.text_tokens.specs.Seen.{token_of, scalar_of}
 pub use Rattle.text_tokens.specs.Small.{decimal_of}
 pub use Rattle.text_tokens.specs.Strings.{Piece, string_of, string_token, said}
 unfoldable pub use Rattle.text_tokens.specs.Strings.{string_at}
-pub use Rattle.text_tokens.specs.Tokens.{Placed, placed, is_blank, tokens, Read, word_of, kinds}
+pub use Rattle.text_tokens.specs.Tokens.{Lexed, lexed, is_blank, tokens, Read, word_of, kinds}
 unfoldable pub use Rattle.text_tokens.specs.Tokens.{token_at, tokens_from}
 pub use Rattle.uc_text.specs.Faults.{length_of_numbers, levels, Test, grammar, double_keys, ScalarPasses, LevelPasses, KeysPass, Passes, ItemsPass, MembersPass, Begins, IsFault, IsShort, PassesBefore}
 pub use Rattle.uc_text.specs.Grammar.{Token, open_list, close_list, open_object, close_object, comma, colon, word, key, end, spell, spell_items, spell_more_items, spell_members, spell_more_members}
@@ -20,7 +20,7 @@ pub use Rattle.uc_text.specs.Later.{DoublesStop}
 pub use Rattle.uc_text.specs.declared.names.Name.{Name}
 unfoldable pub use Rattle.uc_text.specs.Known.{hash_of}
 pub use Rattle.uc_text.specs.Parts.{Pair, names, items_of, members_of, IsNewName, IsStuck, passed_items, opened, Starts, StartsBefore, passed_members, opened_object}
-pub use Rattle.uc_text.specs.Places.{IfFault, NextIs, StuckAt, Reads, ReadsItems, ReadsMembers, test_of, Takes, FaultIs, AtItem, seen}
+pub use Rattle.uc_text.specs.Offsets.{IfFault, NextIs, StuckAt, Reads, ReadsItems, ReadsMembers, test_of, Takes, FaultIs, AtItem, seen}
 pub use Rattle.uc_text.specs.Texts.{IsText, IsFirstFault}
 pub use Rattle.uc_text.specs.Values.{Value, Scalar, long_number, text, scalar, list, object, Items, no_items, item, Members, no_members, member, keys, null, flag, number}
 pub use Rattle.uc_text.specs.View.{tree_view}

@@ -47,7 +47,7 @@ there_new q [] e i d lt same = absurd (omega arith)
 there_new q (k ∷ ks) e zero d lt same = unequal_bytes q k (or_false (bytes_eq q k) (is_there q ks) e).0 (sym same)
 there_new q (k ∷ ks) e (suc i) d lt same = there_new q ks (or_false (bytes_eq q k) (is_there q ks) e).1 i d (omega arith) same
 
--- by the place of a name
+-- by the index of a name
 pub there_at : (q : List ℕ) (ks : List (List ℕ)) (k : ℕ) → k < length ks → bytes_eq q (get_or ks k []) ≡ true → is_there q ks ≡ true
 there_at q [] k lt e = absurd (omega arith)
 there_at q (j ∷ ks) zero lt e = ap (λ (b : Bool). b || is_there q ks) e

@@ -1,5 +1,5 @@
 -- A text has one tree or one first fault.
-use Rattle.uc_text.proofs.Common.{◌≡◌, ℕ, ◌-◌, ◌<◌, ◌≤◌, inl, inr, List, [], ◌∷◌, ◌++◌, refl, sym, ap, ap₂, subst, ◌∙◌, append_assoc, arith, cases_lt, Scalar, Value, scalar, list, object, Items, no_items, item, Members, no_members, member, keys, Token, end, Test, grammar, length_of_numbers, levels, double_keys, ScalarPasses, LevelPasses, KeysPass, Passes, ItemsPass, MembersPass, Begins, IsFault, Placed, tokens, kinds, test_of, IsText, IsFirstFault, TextCode, NotJson, NumberTooLong, TooDeep, DoubleKey, TextFault}
+use Rattle.uc_text.proofs.Common.{◌≡◌, ℕ, ◌-◌, ◌<◌, ◌≤◌, inl, inr, List, [], ◌∷◌, ◌++◌, refl, sym, ap, ap₂, subst, ◌∙◌, append_assoc, arith, cases_lt, Scalar, Value, scalar, list, object, Items, no_items, item, Members, no_members, member, keys, Token, end, Test, grammar, length_of_numbers, levels, double_keys, ScalarPasses, LevelPasses, KeysPass, Passes, ItemsPass, MembersPass, Begins, IsFault, Lexed, tokens, kinds, test_of, IsText, IsFirstFault, TextCode, NotJson, NumberTooLong, TooDeep, DoubleKey, TextFault}
 use Rattle.uc_text.proofs.Spellings.{one_spelling}
 use Rattle.uc_text.proofs.Lists.{passes_less}
 use Rattle.uc_text.proofs.Steps.{kinds_append, first_of_two}
@@ -8,7 +8,7 @@ pub one_value : (limit : ℕ) (bytes : List ℕ) (v w : Value) → IsText limit 
 one_value limit bytes v w h k = (one_spelling v w (end ∷ []) (end ∷ []) (sym h.0 ∙ k.0)).0
 
 -- the tokens up to one, and the others
-split_at : (bytes : List ℕ) (before : List Placed) (at : Placed) (after : List Placed) → tokens bytes ≡ before ++ at ∷ after → kinds (tokens bytes) ≡ (kinds before ++ at.token ∷ []) ++ kinds after
+split_at : (bytes : List ℕ) (before : List Lexed) (at : Lexed) (after : List Lexed) → tokens bytes ≡ before ++ at ∷ after → kinds (tokens bytes) ≡ (kinds before ++ at.token ∷ []) ++ kinds after
 split_at bytes before at after e = ap kinds e ∙ kinds_append before (at ∷ after) ∙ sym (append_assoc (kinds before) (at.token ∷ []) (kinds after))
 
 pub text_or_fault : (limit : ℕ) (bytes : List ℕ) (v : Value) (f : TextFault) → IsText limit bytes v → IsFirstFault limit bytes f → ⊥
@@ -17,32 +17,32 @@ text_or_fault limit bytes v f h k = k.fails.fails (v, kinds k.after, passes_less
 -- ---- one fault
 
 -- which of two places in a list comes first
-data Order (a : List Placed) (p : Placed) (cs : List Placed) (b : List Placed) (q : Placed) (bs : List Placed) : Type 0 where
+data Order (a : List Lexed) (p : Lexed) (cs : List Lexed) (b : List Lexed) (q : Lexed) (bs : List Lexed) : Type 0 where
   same : a ≡ b → p ≡ q → Order a p cs b q bs
-  sooner : (more : List Placed) → b ≡ a ++ p ∷ more → Order a p cs b q bs
-  later : (more : List Placed) → a ≡ b ++ q ∷ more → Order a p cs b q bs
+  sooner : (more : List Lexed) → b ≡ a ++ p ∷ more → Order a p cs b q bs
+  later : (more : List Lexed) → a ≡ b ++ q ∷ more → Order a p cs b q bs
 
-abbrev rest_of : List Placed → List Placed
+abbrev rest_of : List Lexed → List Lexed
 rest_of [] = []
 rest_of (p ∷ ps) = ps
 
-behind_of_two : (p q : Placed) (a b : List Placed) → p ∷ a ≡ q ∷ b → a ≡ b
+behind_of_two : (p q : Lexed) (a b : List Lexed) → p ∷ a ≡ q ∷ b → a ≡ b
 behind_of_two p q a b e = ap rest_of e
 
-order : (a : List Placed) (p : Placed) (cs : List Placed) (b : List Placed) (q : Placed) (bs : List Placed) → a ++ p ∷ cs ≡ b ++ q ∷ bs → Order a p cs b q bs
+order : (a : List Lexed) (p : Lexed) (cs : List Lexed) (b : List Lexed) (q : Lexed) (bs : List Lexed) → a ++ p ∷ cs ≡ b ++ q ∷ bs → Order a p cs b q bs
 order [] p cs [] q bs e = same refl (first_of_two p q cs bs e)
-order [] p cs (y ∷ b) q bs e = sooner b (ap (λ (x : Placed). x ∷ b) (sym (first_of_two p y cs (b ++ q ∷ bs) e)))
-order (x ∷ a) p cs [] q bs e = later a (ap (λ (y : Placed). y ∷ a) (first_of_two x q (a ++ p ∷ cs) bs e))
+order [] p cs (y ∷ b) q bs e = sooner b (ap (λ (x : Lexed). x ∷ b) (sym (first_of_two p y cs (b ++ q ∷ bs) e)))
+order (x ∷ a) p cs [] q bs e = later a (ap (λ (y : Lexed). y ∷ a) (first_of_two x q (a ++ p ∷ cs) bs e))
 order (x ∷ a) p cs (y ∷ b) q bs e =
     let h = first_of_two x y (a ++ p ∷ cs) (b ++ q ∷ bs) e in
     elim (order a p cs b q bs (behind_of_two x y (a ++ p ∷ cs) (b ++ q ∷ bs) e)) [
-      | same s t ↦ same (ap₂ (λ (z : Placed) (zs : List Placed). z ∷ zs) h s) t
-      | sooner more s ↦ sooner more (ap₂ (λ (z : Placed) (zs : List Placed). z ∷ zs) (sym h) s)
-      | later more s ↦ later more (ap₂ (λ (z : Placed) (zs : List Placed). z ∷ zs) h s)
+      | same s t ↦ same (ap₂ (λ (z : Lexed) (zs : List Lexed). z ∷ zs) h s) t
+      | sooner more s ↦ sooner more (ap₂ (λ (z : Lexed) (zs : List Lexed). z ∷ zs) (sym h) s)
+      | later more s ↦ later more (ap₂ (λ (z : Lexed) (zs : List Lexed). z ∷ zs) h s)
     ]
 
 -- a fault's token is past no other fault's
-begins_sooner : (limit : ℕ) (t : Test) (before : List Placed) (at : Placed) (more : List Placed) → Begins double_keys limit (kinds (before ++ at ∷ more)) → Begins t limit (kinds before ++ at.token ∷ [])
+begins_sooner : (limit : ℕ) (t : Test) (before : List Lexed) (at : Lexed) (more : List Lexed) → Begins double_keys limit (kinds (before ++ at ∷ more)) → Begins t limit (kinds before ++ at.token ∷ [])
 begins_sooner limit t before at more b =
     (b.0, kinds more ++ b.1, passes_less t limit b.0 b.2, b.3 ∙ ap (λ (ts : List Token). ts ++ b.1) (kinds_append before (at ∷ more) ∙ sym (append_assoc (kinds before) (at.token ∷ []) (kinds more))) ∙ append_assoc (kinds before ++ at.token ∷ []) (kinds more) b.1)
 
@@ -132,8 +132,8 @@ one_fault limit bytes f g h k =
     elim (order h.before h.at h.after k.before k.at k.after (sym h.parts ∙ k.parts)) [
       | same s t ↦
           let other : IsFault limit (kinds h.before) h.at.token (test_of g.code) =
-          subst (λ (ps : List Placed). IsFault limit (kinds ps) h.at.token (test_of g.code)) (sym s) (subst (λ (p : Placed). IsFault limit (kinds k.before) p.token (test_of g.code)) (sym t) k.fails) in
-          same_fault f g (code_of_rank f.code g.code (same_test limit (kinds h.before) h.at.token (test_of f.code) (test_of g.code) h.fails other)) (h.place ∙ ap (λ (p : Placed). p.place) t ∙ sym k.place)
-      | sooner more s ↦ absurd (h.fails.fails (begins_sooner limit (test_of f.code) h.before h.at more (subst (λ (ps : List Placed). Begins double_keys limit (kinds ps)) s k.fails.passed)))
-      | later more s ↦ absurd (k.fails.fails (begins_sooner limit (test_of g.code) k.before k.at more (subst (λ (ps : List Placed). Begins double_keys limit (kinds ps)) s h.fails.passed)))
+          subst (λ (ps : List Lexed). IsFault limit (kinds ps) h.at.token (test_of g.code)) (sym s) (subst (λ (p : Lexed). IsFault limit (kinds k.before) p.token (test_of g.code)) (sym t) k.fails) in
+          same_fault f g (code_of_rank f.code g.code (same_test limit (kinds h.before) h.at.token (test_of f.code) (test_of g.code) h.fails other)) (h.offset ∙ ap (λ (p : Lexed). p.offset) t ∙ sym k.offset)
+      | sooner more s ↦ absurd (h.fails.fails (begins_sooner limit (test_of f.code) h.before h.at more (subst (λ (ps : List Lexed). Begins double_keys limit (kinds ps)) s k.fails.passed)))
+      | later more s ↦ absurd (k.fails.fails (begins_sooner limit (test_of g.code) k.before k.at more (subst (λ (ps : List Lexed). Begins double_keys limit (kinds ps)) s h.fails.passed)))
     ]

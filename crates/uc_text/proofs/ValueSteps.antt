@@ -1,5 +1,5 @@
 -- The steps of the reader at the first token of a value, and at the end of the text.
-use Rattle.uc_text.proofs.Common.{AreDifferent, ◌≡◌, ◌≢◌, ℕ, ◌<◌, true, false, List, [], ◌∷◌, ◌++◌, refl, sym, ap, subst, ◌∙◌, append_assoc, true≢false, arith, Scalar, null, flag, number, long_number, text, Value, scalar, list, object, no_items, no_members, Token, open_list, close_list, open_object, close_object, word, end, spell, spell_items, spell_members, Test, IsShort, grammar, length_of_numbers, levels, double_keys, Passes, Begins, PassesBefore, IsFault, Pair, items_of, members_of, Starts, StartsBefore, IsStuck, Placed, kinds, tokens, goes, test_of, NextIs, StuckAt, Reads, ReadsItems, ReadsMembers, IsText, IsFirstFault, TextCode, NotJson, TextFault}
+use Rattle.uc_text.proofs.Common.{AreDifferent, ◌≡◌, ◌≢◌, ℕ, ◌<◌, true, false, List, [], ◌∷◌, ◌++◌, refl, sym, ap, subst, ◌∙◌, append_assoc, true≢false, arith, Scalar, null, flag, number, long_number, text, Value, scalar, list, object, no_items, no_members, Token, open_list, close_list, open_object, close_object, word, end, spell, spell_items, spell_members, Test, IsShort, grammar, length_of_numbers, levels, double_keys, Passes, Begins, PassesBefore, IsFault, Pair, items_of, members_of, Starts, StartsBefore, IsStuck, Lexed, kinds, tokens, goes, test_of, NextIs, StuckAt, Reads, ReadsItems, ReadsMembers, IsText, IsFirstFault, TextCode, NotJson, TextFault}
 use Rattle.uc_text.proofs.Spellings.{heads, starts, is_start, one_spelling}
 use Rattle.uc_text.proofs.Objects.{keys-members_of}
 use Rattle.uc_text.proofs.Steps.{Takes-then, takes_next, stuck_here, stuck_behind, kinds_append}
@@ -7,14 +7,14 @@ use Rattle.uc_text.proofs.MemberSteps.{at_code}
 
 -- ---- a value that was read
 
-pub reads_scalar : (left : ℕ) (ts : List Placed) (first : Placed) (others : List Placed) (s : Scalar) → NextIs ts first others → first.token ≡ word s → IsShort s → Reads left ts (scalar s) others
+pub reads_scalar : (left : ℕ) (ts : List Lexed) (first : Lexed) (others : List Lexed) (s : Scalar) → NextIs ts first others → first.token ≡ word s → IsShort s → Reads left ts (scalar s) others
 reads_scalar left ts first others s n is short = record { takes = takes_next ts first others (word s) n is refl; pass = short }
 
-pub reads_list : (left : ℕ) (ts : List Placed) (first : Placed) (others : List Placed) (vs : List Value) (rest : List Placed) → 0 < left → NextIs ts first others → first.token ≡ open_list
+pub reads_list : (left : ℕ) (ts : List Lexed) (first : Lexed) (others : List Lexed) (vs : List Value) (rest : List Lexed) → 0 < left → NextIs ts first others → first.token ≡ open_list
     → ReadsItems left others vs rest → Reads left ts (list (items_of vs)) rest
 reads_list left ts first others vs rest lt n is t = record { takes = Takes-then ts others rest (open_list ∷ []) (spell_items (items_of vs)) (takes_next ts first others open_list n is refl) t.takes; pass = (lt, t.pass) }
 
-pub reads_object : (left : ℕ) (ts : List Placed) (first : Placed) (others : List Placed) (ps : List Pair) (rest : List Placed) → 0 < left → NextIs ts first others → first.token ≡ open_object
+pub reads_object : (left : ℕ) (ts : List Lexed) (first : Lexed) (others : List Lexed) (ps : List Pair) (rest : List Lexed) → 0 < left → NextIs ts first others → first.token ≡ open_object
     → ReadsMembers left others ps rest → Reads left ts (object (members_of ps)) rest
 reads_object left ts first others ps rest lt n is w = record {
   takes = Takes-then ts others rest (open_object ∷ []) (spell_members (members_of ps)) (takes_next ts first others open_object n is refl) w.takes;
@@ -57,11 +57,11 @@ stuck_deep_object = record { passed = nothing_read 0; tried = (object no_members
     deep_object_fails (list vs) after more p e = absurd cc
     deep_object_fails (object ms) after more p e = let lt : 0 < 0 = p.0 in absurd (omega arith)
 
-pub value_stops : (left : ℕ) (ts : List Placed) (first : Placed) (others : List Placed) (f : TextFault) (code : TextCode) → NextIs ts first others → f.place ≡ first.place → f.code ≡ code → IsStuck left [] first.token (test_of code) → StuckAt left [] ts f
-value_stops left ts first others f code n place is s = stuck_here left [] ts first others f n place (at_code left [] first.token code f is s)
+pub value_stops : (left : ℕ) (ts : List Lexed) (first : Lexed) (others : List Lexed) (f : TextFault) (code : TextCode) → NextIs ts first others → f.place ≡ first.offset → f.code ≡ code → IsStuck left [] first.token (test_of code) → StuckAt left [] ts f
+value_stops left ts first others f code n offset is s = stuck_here left [] ts first others f n offset (at_code left [] first.token code f is s)
 
 -- a fault behind the opening bracket is one of the value
-pub container_stops : (left : ℕ) (ts : List Placed) (first : Placed) (others : List Placed) (t : Token) (f : TextFault) → NextIs ts first others → first.token ≡ t → goes t ≡ true → StuckAt left (t ∷ []) others f → StuckAt left [] ts f
+pub container_stops : (left : ℕ) (ts : List Lexed) (first : Lexed) (others : List Lexed) (t : Token) (f : TextFault) → NextIs ts first others → first.token ≡ t → goes t ≡ true → StuckAt left (t ∷ []) others f → StuckAt left [] ts f
 container_stops left ts first others t f n is g s = stuck_behind left [] (t ∷ []) ts others f (takes_next ts first others t n is g) s
 
 -- ---- the whole text
@@ -90,23 +90,23 @@ fault_behind limit v at p not_end = record {
 }
 
 pub text_stops : (limit : ℕ) (bytes : List ℕ) (f : TextFault) → StuckAt limit [] (tokens bytes) f → IsFirstFault limit bytes f
-text_stops limit bytes f s = record { before = s.before; at = s.at; after = s.after; parts = s.parts; place = s.place; fails = fault_within limit (kinds s.before) s.at.token (test_of f.code) s.stuck }
+text_stops limit bytes f s = record { before = s.before; at = s.at; after = s.after; parts = s.parts; offset = s.offset; fails = fault_within limit (kinds s.before) s.at.token (test_of f.code) s.stuck }
 
-pub text_stops_behind : (limit : ℕ) (bytes : List ℕ) (v : Value) (r0 : List Placed) (behind : Placed) (r1 : List Placed) (f : TextFault) → Reads limit (tokens bytes) v r0 → NextIs r0 behind r1 → behind.token ≢ end
-    → f.place ≡ behind.place → f.code ≡ NotJson → IsFirstFault limit bytes f
-text_stops_behind limit bytes v r0 behind r1 f r n not_end place code = record {
+pub text_stops_behind : (limit : ℕ) (bytes : List ℕ) (v : Value) (r0 : List Lexed) (behind : Lexed) (r1 : List Lexed) (f : TextFault) → Reads limit (tokens bytes) v r0 → NextIs r0 behind r1 → behind.token ≢ end
+    → f.place ≡ behind.offset → f.code ≡ NotJson → IsFirstFault limit bytes f
+text_stops_behind limit bytes v r0 behind r1 f r n not_end offset code = record {
   before = r.takes.part;
   at = behind;
   after = n.0;
-  parts = r.takes.parts ∙ ap (λ (ps : List Placed). r.takes.part ++ ps) n.1;
-  place = place;
+  parts = r.takes.parts ∙ ap (λ (ps : List Lexed). r.takes.part ++ ps) n.1;
+  offset = offset;
   fails = subst (λ (k : TextCode). IsFault limit (kinds r.takes.part) behind.token (test_of k)) (sym code) (subst (λ (ts : List Token). IsFault limit ts behind.token grammar) (sym r.takes.kinds_are) (fault_behind limit v behind.token r.pass not_end));
 }
 
 -- the token at the end is the last
-pub record IsLast (ts : List Placed) (p : Placed) : Type 0 where
+pub record IsLast (ts : List Lexed) (p : Lexed) : Type 0 where
   pub alone : ts ≡ p ∷ []
 
-pub text_read : (limit : ℕ) (bytes : List ℕ) (v : Value) (r0 : List Placed) (behind : Placed) → Reads limit (tokens bytes) v r0 → r0 ≡ behind ∷ [] → behind.token ≡ end → IsText limit bytes v
+pub text_read : (limit : ℕ) (bytes : List ℕ) (v : Value) (r0 : List Lexed) (behind : Lexed) → Reads limit (tokens bytes) v r0 → r0 ≡ behind ∷ [] → behind.token ≡ end → IsText limit bytes v
 text_read limit bytes v r0 behind r last is =
-    (ap kinds r.takes.parts ∙ kinds_append r.takes.part r0 ∙ ap (λ (ts : List Token). ts ++ kinds r0) r.takes.kinds_are ∙ ap (λ (ps : List Placed). spell v ++ kinds ps) last ∙ ap (λ (t : Token). spell v ++ t ∷ []) is, r.pass)
+    (ap kinds r.takes.parts ∙ kinds_append r.takes.part r0 ∙ ap (λ (ts : List Token). ts ++ kinds r0) r.takes.kinds_are ∙ ap (λ (ps : List Lexed). spell v ++ kinds ps) last ∙ ap (λ (t : Token). spell v ++ t ∷ []) is, r.pass)

@@ -7,7 +7,7 @@ pub mod View
 pub mod Answers
 pub mod Codes
 pub mod Parts
-pub mod Places
+pub mod Offsets
 pub mod Known
 pub mod Adds
 pub mod Later

@@ -39,6 +39,8 @@ pub struct TextFault {
     pub place: u32,
 }
 
+/// Why there is no tree: the first fault of the text, or want of memory, which may come wherever
+/// memory is taken.
 #[derive(Clone, Copy, Debug, PartialEq, Eq, Drop, Error)]
 pub enum TextError {
     #[error("not a JSON text of this profile at byte {}", .0.place)]

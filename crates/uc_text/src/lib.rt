@@ -1,4 +1,4 @@
-//! JSON texts of RFC 8259 in this project's profile: a tree, or the first fault and its place.
+//! JSON texts of RFC 8259 in this project's profile: a tree, or the first fault and its offset.
 #![tactic(auto)]
 
 mod doubles;

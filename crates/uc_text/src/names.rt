@@ -11,11 +11,11 @@ use std::cmp::Ordering;
 use std::hash::{DefaultHasher, Hasher};
 use text_tokens::{Quoted, text_of};
 
-/// A name of an object, and the place of its first byte.
+/// A name of an object, and the offset of its first byte.
 #[derive(Clone, Copy)]
 pub struct Name<'a> {
     pub quoted: Quoted<'a>,
-    pub place: u32,
+    pub offset: u32,
 }
 
 #[tactic(auto, unfolding(crate::specs::Known::hash_of))]

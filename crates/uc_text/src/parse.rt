@@ -5,9 +5,9 @@ ghost use Rattle.uc_text.specs.Later.{DoublesStop};
 ghost use Rattle.uc_text.specs.Grammar.{open_list, open_object};
 ghost use Rattle.uc_text.specs.Parts.{Pair, names as names_of};
 ghost use Rattle.uc_text.specs.Adds.{Adds, IsOne, in_turn};
-ghost use Rattle.text_tokens.specs.Tokens.{Placed};
-ghost use Rattle.uc_text.specs.Places.{NextIs, seen, Reads, ReadsItems, ReadsMembers, StuckAt};
-ghost use Rattle.uc_text.specs.Places.{AtItem, IfFault};
+ghost use Rattle.text_tokens.specs.Tokens.{Lexed};
+ghost use Rattle.uc_text.specs.Offsets.{NextIs, seen, Reads, ReadsItems, ReadsMembers, StuckAt};
+ghost use Rattle.uc_text.specs.Offsets.{AtItem, IfFault};
 ghost use Rattle.text_tokens.specs.Ahead.{rest, ahead};
 ghost use Rattle.text_tokens.specs.Stands.{StandsAt};
 ghost use Rattle.uc_text.specs.Texts.{IsText, IsFirstFault};
@@ -29,27 +29,30 @@ use text_tree::{Node, Tree};
 /// How many lists and objects may stand within one another.
 const LEVELS: u32 = 32;
 
-fn fault(code: TextCode, place: u32) -> TextError
-    ensures { result ≡ TextError.Fault (record { code = code; place = place }) }
+fn fault(code: TextCode, offset: u32) -> TextError
+    ensures { result ≡ TextError.Fault (record { code = code; place = offset }) }
 {
-    TextError::Fault(TextFault { code, place })
+    TextError::Fault(TextFault {
+        code,
+        place: offset,
+    })
 }
 
 /// The node of a value of one token, unless it's a number that is too long.
-fn word_node(word: Word<'_>, place: u32) -> Result<Node, TextError>
+fn word_node(word: Word<'_>, offset: u32) -> Result<Node, TextError>
     ensures ok { IfOk result (λ node. (bytes : List ℕ)
-        → StandsAt bytes place (Token.Word word.entry)
+        → StandsAt bytes offset (Token.Word word.entry)
         → IsOne bytes node (scalar (scalar_of word.entry))) }
     ensures short { OnOk result (IsShort (scalar_of word.entry)) }
     ensures fault { IfFault result (λ f. (scalar_of word.entry ≡ long_number)
-        × (f ≡ record { code = TextCode.NumberTooLong; place = place })) }
+        × (f ≡ record { code = TextCode.NumberTooLong; place = offset })) }
 {
     match word {
         Word::Null => Ok(Node::Null),
         Word::Flag(flag) => Ok(Node::Flag(flag)),
         Word::Number(small) => Ok(Node::Number(small)),
-        Word::LargeNumber(_) => Ok(Node::LargeNumber(place)),
-        Word::LongNumber => Err(fault(TextCode::NumberTooLong, place)),
+        Word::LargeNumber(_) => Ok(Node::LargeNumber(offset)),
+        Word::LongNumber => Err(fault(TextCode::NumberTooLong, offset)),
     }
 }
 
@@ -62,12 +65,12 @@ fn value<'a>(
     left: u32,
     nodes: &mut Vec<Node>,
 ) -> Result<(), TextError>
-    requires { StandsAt reader.old.bytes.now first.place first.token }
-    ensures ok { OnOk result ((ts : List Placed)
+    requires { StandsAt reader.old.bytes.now first.offset first.token }
+    ensures ok { OnOk result ((ts : List Lexed)
         → NextIs ts (seen first.entry) (rest reader.old)
         → (v : Value) × Reads left ts v (rest reader.new)
         × Adds reader.old.bytes.now nodes.old.items nodes.new.items (v ∷ [])) }
-    ensures fault { IfFault result (λ f. (ts : List Placed)
+    ensures fault { IfFault result (λ f. (ts : List Lexed)
         → NextIs ts (seen first.entry) (rest reader.old)
         → StuckAt left [] ts f) }
     ensures ahead { OnOk result (ahead reader.new ≤ ahead reader.old) }
@@ -75,13 +78,13 @@ fn value<'a>(
 {
     match first.token {
         Token::Word(word) => {
-            let node = word_node(word, first.place)?;
+            let node = word_node(word, first.offset)?;
             Ok(nodes.push(node)?)
         }
-        Token::Text(_) => Ok(nodes.push(Node::Text(first.place))?),
+        Token::Text(_) => Ok(nodes.push(Node::Text(first.offset))?),
         Token::OpenList => {
             if left == 0 {
-                return Err(fault(TextCode::TooDeep, first.place));
+                return Err(fault(TextCode::TooDeep, first.offset));
             }
             let at = nodes.len();
             nodes.push(Node::List(0))?;
@@ -91,7 +94,7 @@ fn value<'a>(
         }
         Token::OpenObject => {
             if left == 0 {
-                return Err(fault(TextCode::TooDeep, first.place));
+                return Err(fault(TextCode::TooDeep, first.offset));
             }
             let at = nodes.len();
             nodes.push(Node::Object(0))?;
@@ -99,7 +102,7 @@ fn value<'a>(
             nodes[at] = Node::Object(count);
             Ok(())
         }
-        _ => Err(fault(TextCode::NotJson, first.place)),
+        _ => Err(fault(TextCode::NotJson, first.offset)),
     }
 }
 
@@ -107,7 +110,7 @@ fn value<'a>(
 fn pass_numbers(reader: &mut Reader<'_>, nodes: &mut Vec<Node>) -> Result<u32, AllocError>
     ensures passed { IfOk result (λ count. (us : List Value) × (count ≡ length us)
         × Adds reader.old.bytes.now nodes.old.items nodes.new.items us
-        × ((m : ℕ) (all : List Placed) (vs : List Value) → AtItem m all vs (rest reader.old)
+        × ((m : ℕ) (all : List Lexed) (vs : List Value) → AtItem m all vs (rest reader.old)
         → AtItem m all (vs ++ us) (rest reader.new))) }
     ensures few { IfOk result (λ count. count + ahead reader.new ≤ ahead reader.old) }
     ensures same { reader.new.bytes.now ≡ reader.old.bytes.now }
@@ -153,7 +156,7 @@ fn items<'a>(
                 first = reader.next();
             }
             Token::CloseList => return Ok(count),
-            _ => return Err(fault(TextCode::NotJson, behind.place)),
+            _ => return Err(fault(TextCode::NotJson, behind.offset)),
         }
     }
 }
@@ -181,7 +184,7 @@ fn members<'a>(
     let read = noted_members(alloc, reader, left, nodes, &mut names);
     let double = first_double(alloc, &names)?;
     if double < names.len() {
-        return Err(fault(TextCode::DoubleKey, names[double].place));
+        return Err(fault(TextCode::DoubleKey, names[double].offset));
     }
     read
 }
@@ -214,14 +217,14 @@ fn noted_members<'a>(
     }
     'members: loop {
         let Token::Text(quoted) = first.token else {
-            return Err(fault(TextCode::NotJson, first.place));
+            return Err(fault(TextCode::NotJson, first.offset));
         };
-        let place = first.place;
-        names.push(Name { quoted, place })?;
-        nodes.push(Node::Text(place))?;
+        let offset = first.offset;
+        names.push(Name { quoted, offset })?;
+        nodes.push(Node::Text(offset))?;
         let between = reader.next();
         let Token::Colon = between.token else {
-            return Err(fault(TextCode::NotJson, between.place));
+            return Err(fault(TextCode::NotJson, between.offset));
         };
         let start = reader.next();
         value(alloc, reader, start, left - 1, nodes)?;
@@ -230,7 +233,7 @@ fn noted_members<'a>(
         match behind.token {
             Token::Comma => first = reader.next(),
             Token::CloseObject => return Ok(count),
-            _ => return Err(fault(TextCode::NotJson, behind.place)),
+            _ => return Err(fault(TextCode::NotJson, behind.offset)),
         }
     }
 }
@@ -269,7 +272,7 @@ fn read_all(alloc: Global, bytes: &[u8]) -> Result<Tree<'_>, TextError>
     let behind = reader.next();
     match behind.token {
         Token::End => Ok(Tree { bytes, nodes }),
-        _ => Err(fault(TextCode::NotJson, behind.place)),
+        _ => Err(fault(TextCode::NotJson, behind.offset)),
     }
 }
 

@@ -2,7 +2,7 @@ use super::*;
 use std::test::Fail;
 use uc_num::Decimal;
 
-/// The code and the place of the fault of a text, or zeros where it has none.
+/// The code and the offset of the fault of a text, or zeros where it has none.
 fn answer_of(alloc: Global, bytes: &[u8]) -> (u32, u32) {
     if bytes.len() > 1000 {
         return (32, 0);
@@ -50,8 +50,8 @@ fn faults(rt: HostRuntime) -> Result<(), Fail> {
         (b"{\"a\":1,}", 10, 7),
         (b"{\"a\":{\"a\":1},\"b\":[{\"a\":2}]}", 0, 0),
     ];
-    for (bytes, code, place) in rows {
-        assert_eq!(rt; answer_of(rt.alloc(), bytes), (code, place), "{bytes:?}");
+    for (bytes, code, offset) in rows {
+        assert_eq!(rt; answer_of(rt.alloc(), bytes), (code, offset), "{bytes:?}");
     }
     Ok(())
 }
@@ -73,15 +73,15 @@ fn a_file_cut_at_each_length(rt: HostRuntime) -> Result<(), Fail> {
         (128, 150),
     ];
     for len in 0..file.len() {
-        let mut place = len as u32;
+        let mut offset = len as u32;
         for (open, behind) in strings {
-            if open < place && place < behind {
-                place = open;
+            if open < offset && offset < behind {
+                offset = open;
             }
         }
         assert_eq!(rt;
             answer_of(rt.alloc(), &file[..len]),
-            (10, place),
+            (10, offset),
             "cut to {len}"
         );
     }

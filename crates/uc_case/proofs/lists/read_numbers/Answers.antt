@@ -5,7 +5,7 @@ use Rattle.uc_case.proofs.lists.read_numbers.Goals as goal
 pub returns-in_err-number-clause-value : goal.returns-in_err-number-clause-value
 returns-in_err-number-clause-value c =
     let p = err_from_is_err_and c.from_residual-in_err-number.result c.from_residual-in_err-number.ensures.1 in
-    rw (p.1, p.2) (item_ends c.in_err-number.field-0.0 one_power c.args.at c.item-place.result c.args.branches.now c.loop-branch.branch-index c.branch-item.result c.loop-branch.numbers.items c.loop-branch.numbers.items c.len.result (items one_power c.args.at (views c.args.branches.now)) c.loop-branch-test.true c.branch-item.is c.item-place.ensures c.len.ensures refl c.in_err-number.ensures.value c.loop-branch.invariant.so_far)
+    rw (p.1, p.2) (item_ends c.in_err-number.field-0.0 one_power c.args.at c.item-site.result c.args.branches.now c.loop-branch.branch-index c.branch-item.result c.loop-branch.numbers.items c.loop-branch.numbers.items c.len.result (items one_power c.args.at (views c.args.branches.now)) c.loop-branch-test.true c.branch-item.is c.item-site.ensures c.len.ensures refl c.in_err-number.ensures.value c.loop-branch.invariant.so_far)
 
 pub loop-branch-preserved : goal.loop-branch-preserved
 loop-branch-preserved c =
@@ -15,7 +15,7 @@ loop-branch-preserved c =
       count = counted c.loop-branch.numbers.items c.push.new.self.items c.in_ok-number.number c.loop-branch.branch-index pushed c.loop-branch.invariant.count;
       room = omega (arith, c.push.ensures.spare, c.loop-branch.invariant.room);
       fits = rw pushed (All-push (λ n. IsPower n) c.loop-branch.numbers.items c.in_ok-number.number c.loop-branch.invariant.fits c.in_ok-number.ensures.bound);
-      so_far = rw pushed (item_goes_on one_power c.args.at c.item-place.result c.args.branches.now c.loop-branch.branch-index c.branch-item.result c.loop-branch.numbers.items c.loop-branch.numbers.items c.len.result c.in_ok-number.number (items one_power c.args.at (views c.args.branches.now)) c.loop-branch-test.true c.branch-item.is c.item-place.ensures c.len.ensures refl c.in_ok-number.ensures.value c.loop-branch.invariant.so_far);
+      so_far = rw pushed (item_goes_on one_power c.args.at c.item-site.result c.args.branches.now c.loop-branch.branch-index c.branch-item.result c.loop-branch.numbers.items c.loop-branch.numbers.items c.len.result c.in_ok-number.number (items one_power c.args.at (views c.args.branches.now)) c.loop-branch-test.true c.branch-item.is c.item-site.ensures c.len.ensures refl c.in_ok-number.ensures.value c.loop-branch.invariant.so_far);
     }
 
 pub returns-clause-value : goal.returns-clause-value

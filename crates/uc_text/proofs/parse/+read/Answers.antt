@@ -1,4 +1,4 @@
-use Rattle.uc_text.proofs.Common.{◌≡◌, ℕ, ◌++◌, ◌∷◌, [], List, refl, sym, ap, subst, ◌∙◌, arith, err_from_is_err_and, length-append, Value, scalar, text, list, object, said, names_said, AreDifferent, IsFirst, Name, Token, open_list, open_object, items_of, members_of, names, DoublesStop, Adds, IsStuck, levels, Placed, NotJson, TooDeep, AtItem, NextIs, seen, StuckAt, FaultIs, rest, token_of, scalar_of, TextError, StandsAt, in_turn, ListNode, ObjectNode, TextNode}
+use Rattle.uc_text.proofs.Common.{◌≡◌, ℕ, ◌++◌, ◌∷◌, [], List, refl, sym, ap, subst, ◌∙◌, arith, err_from_is_err_and, length-append, Value, scalar, text, list, object, said, names_said, AreDifferent, IsFirst, Name, Token, open_list, open_object, items_of, members_of, names, DoublesStop, Adds, IsStuck, levels, Lexed, NotJson, TooDeep, AtItem, NextIs, seen, StuckAt, FaultIs, rest, token_of, scalar_of, TextError, StandsAt, in_turn, ListNode, ObjectNode, TextNode}
 use Rattle.uc_text.proofs.Words.{word_stops, text_node}
 use Rattle.uc_text.proofs.Lemmas.{not_close_list, not_close_object, not_comma, not_colon, not_text, not_start, passes_on, if_fault_then, items_begin, items_empty, at_next, read_first, items_end, items_stop, items_stop_behind, members_begin, members_empty, members_go_on, members_end, name_stops, colon_stops, value_stops, member_stops_behind, adds_none, adds_one, adds_then, adds_anew, says_list, says_object, adds_member, not_end_comma, split_pushed, after_push, doubles_none, doubles_push, all_different}
 use Rattle.uc_text.proofs.Objects.{of_member, names_push}
@@ -18,7 +18,7 @@ items-returns-in-CloseList-clause-ok t c =
 pub items-items-init : goal.items-items-init
 items-items-init t c = record {
   inside = ([], items_begin c.args.left (rest c.args.reader.now) (seen c.next-first.result) (rest c.next-first.new.self) c.next-first.ensures.next (not_close_list c.next-first.result.token c.in_default.not-CloseList), refl, adds_none c.args.reader.now.bytes.now c.args.nodes.now.items);
-  stands = subst (λ (bytes : List ℕ). StandsAt bytes c.next-first.result.place c.next-first.result.token) (sym c.next-first.ensures.same) c.next-first.ensures.stands;
+  stands = subst (λ (bytes : List ℕ). StandsAt bytes c.next-first.result.offset c.next-first.result.token) (sym c.next-first.ensures.same) c.next-first.ensures.stands;
   same = c.next-first.ensures.same;
   few = omega (arith, c.next-first.ensures.ahead);
   room = omega arith;
@@ -55,7 +55,7 @@ items-items-preserved t c =
         omega (arith, i.2, more.1, length-append i.0 (r.0 ∷ []), length-append vs more.0),
         adds_then bytes c.args.nodes.now.items c.value.new.nodes.items c.pass_numbers.new.nodes.items vs more.0 (adds_then bytes c.args.nodes.now.items c.items.nodes.items c.value.new.nodes.items i.0 (r.0 ∷ []) i.3 one) others,
       );
-      stands = subst (λ (bs : List ℕ). StandsAt bs c.next-first-in-Comma.result.place c.next-first-in-Comma.result.token) (sym c.next-first-in-Comma.ensures.same) c.next-first-in-Comma.ensures.stands;
+      stands = subst (λ (bs : List ℕ). StandsAt bs c.next-first-in-Comma.result.offset c.next-first-in-Comma.result.token) (sym c.next-first-in-Comma.ensures.same) c.next-first-in-Comma.ensures.stands;
       same = c.next-first-in-Comma.ensures.same ∙ c.in_ok-count-in-Comma.ensures.same ∙ here;
       few = omega (arith, c.items.invariant.few, c.in_ok-value.ensures.ahead, c.next-behind.ensures.less (λ e. not_end_comma c.next-behind.result.token c.in-Comma.is e), c.in_ok-count-in-Comma.ensures.few, c.next-first-in-Comma.ensures.ahead);
       room = c.items.invariant.room;
@@ -118,7 +118,7 @@ noted_members-members-init t c = record {
     ap names_said c.requires.none,
   );
   doubles = subst (DoublesStop c.args.left (rest c.args.reader.now)) (sym c.requires.none) (doubles_none c.args.left (rest c.args.reader.now));
-  stands = subst (λ (bs : List ℕ). StandsAt bs c.next-first.result.place c.next-first.result.token) (sym c.next-first.ensures.same) c.next-first.ensures.stands;
+  stands = subst (λ (bs : List ℕ). StandsAt bs c.next-first.result.offset c.next-first.result.token) (sym c.next-first.ensures.same) c.next-first.ensures.stands;
   same = c.next-first.ensures.same;
   few = omega (arith, c.next-first.ensures.ahead);
   room = c.requires.left;
@@ -182,8 +182,8 @@ noted_members-members-preserved t c =
     let r = c.in_ok-value.ensures.ok (rest c.next-between.new.self) c.next-start.ensures.next in
     let bytes = c.args.reader.now.bytes.now in
     let p = of_member k r.0 in
-    let stands = subst (StandsAt bytes c.members.first.place) c.in-Text.is (subst (λ (bs : List ℕ). StandsAt bs c.members.first.place c.members.first.token) c.members.invariant.same c.members.invariant.stands) in
-    let named = adds_one bytes c.members.nodes.items c.push-in-members.new.self.items (TextNode c.members.first.place) (scalar (text k)) c.in_ok-push-2.ensures.items (text_node bytes c.in-Text.quoted.bytes.now c.members.first.place stands) in
+    let stands = subst (StandsAt bytes c.members.first.offset) c.in-Text.is (subst (λ (bs : List ℕ). StandsAt bs c.members.first.offset c.members.first.token) c.members.invariant.same c.members.invariant.stands) in
+    let named = adds_one bytes c.members.nodes.items c.push-in-members.new.self.items (TextNode c.members.first.offset) (scalar (text k)) c.in_ok-push-2.ensures.items (text_node bytes c.in-Text.quoted.bytes.now c.members.first.offset stands) in
     let start = c.next-start.ensures.same ∙ c.next-between.ensures.same ∙ c.members.invariant.same in
     let valued = subst (λ (bs : List ℕ). Adds bs c.push-in-members.new.self.items c.value.new.nodes.items (r.0 ∷ [])) start r.2 in
     let added = adds_member bytes c.args.nodes.now.items c.members.nodes.items c.push-in-members.new.self.items c.value.new.nodes.items i.0 p i.3 named valued in
@@ -200,7 +200,7 @@ noted_members-members-preserved t c =
         pushed ∙ sym (names_push i.0 p),
       );
       doubles = doubles_push c.args.left (rest c.args.reader.now) c.members.names.items c.push.new.self.items _ i.0 (seen c.members.first) (rest c.members.reader) k c.in_ok-push.ensures.items c.members.invariant.room c.members.invariant.doubles i.4 i.1 (ap token_of c.in-Text.is) refl refl;
-      stands = subst (λ (bs : List ℕ). StandsAt bs c.next-first-in-Comma.result.place c.next-first-in-Comma.result.token) (sym c.next-first-in-Comma.ensures.same) c.next-first-in-Comma.ensures.stands;
+      stands = subst (λ (bs : List ℕ). StandsAt bs c.next-first-in-Comma.result.offset c.next-first-in-Comma.result.token) (sym c.next-first-in-Comma.ensures.same) c.next-first-in-Comma.ensures.stands;
       same = c.next-first-in-Comma.ensures.same ∙ behind;
       few = omega (arith, c.members.invariant.few, c.next-between.ensures.ahead, c.next-start.ensures.ahead, c.in_ok-value.ensures.ahead, c.next-behind.ensures.less (λ e. not_end_comma c.next-behind.result.token c.in-Comma.is e), c.next-first-in-Comma.ensures.ahead);
       room = c.members.invariant.room;
@@ -214,8 +214,8 @@ noted_members-returns-in-CloseObject-token t c =
     let r = c.in_ok-value.ensures.ok (rest c.next-between.new.self) c.next-start.ensures.next in
     let bytes = c.args.reader.now.bytes.now in
     let p = of_member k r.0 in
-    let stands = subst (StandsAt bytes c.members.first.place) c.in-Text.is (subst (λ (bs : List ℕ). StandsAt bs c.members.first.place c.members.first.token) c.members.invariant.same c.members.invariant.stands) in
-    let named = adds_one bytes c.members.nodes.items c.push-in-members.new.self.items (TextNode c.members.first.place) (scalar (text k)) c.in_ok-push-2.ensures.items (text_node bytes c.in-Text.quoted.bytes.now c.members.first.place stands) in
+    let stands = subst (StandsAt bytes c.members.first.offset) c.in-Text.is (subst (λ (bs : List ℕ). StandsAt bs c.members.first.offset c.members.first.token) c.members.invariant.same c.members.invariant.stands) in
+    let named = adds_one bytes c.members.nodes.items c.push-in-members.new.self.items (TextNode c.members.first.offset) (scalar (text k)) c.in_ok-push-2.ensures.items (text_node bytes c.in-Text.quoted.bytes.now c.members.first.offset stands) in
     let start = c.next-start.ensures.same ∙ c.next-between.ensures.same ∙ c.members.invariant.same in
     let valued = subst (λ (bs : List ℕ). Adds bs c.push-in-members.new.self.items c.value.new.nodes.items (r.0 ∷ [])) start r.2 in
     let added = adds_member bytes c.args.nodes.now.items c.members.nodes.items c.push-in-members.new.self.items c.value.new.nodes.items i.0 p i.3 named valued in
@@ -274,7 +274,7 @@ pub value-returns-in_ok-push-in-Word-clause-ok : goal.value-returns-in_ok-push-i
 value-returns-in_ok-push-in-Word-clause-ok t c = λ ts n.
     let bytes = c.args.reader.now.bytes.now in
     let s = scalar_of c.in-Word.word in
-    let stands = subst (StandsAt bytes c.args.first.place) c.in-Word.is c.requires in (
+    let stands = subst (StandsAt bytes c.args.first.offset) c.in-Word.is c.requires in (
       scalar s,
       first.reads_scalar c.args.left ts (seen c.args.first) (rest c.args.reader.now) s n (ap token_of c.in-Word.is) c.in_ok-node-in-Word.ensures.short,
       adds_one bytes c.args.nodes.now.items c.push.new.self.items c.in_ok-node-in-Word.node (scalar s) c.in_ok-push-in-Word.ensures.items (c.in_ok-node-in-Word.ensures.ok bytes stands),
@@ -284,10 +284,10 @@ pub value-returns-in_ok-push-in-Text-clause-ok : goal.value-returns-in_ok-push-i
 value-returns-in_ok-push-in-Text-clause-ok t c = λ ts n.
     let bytes = c.args.reader.now.bytes.now in
     let k = said c.in-Text.field-0.bytes.now in
-    let stands = subst (StandsAt bytes c.args.first.place) c.in-Text.is c.requires in (
+    let stands = subst (StandsAt bytes c.args.first.offset) c.in-Text.is c.requires in (
       scalar (text k),
       first.reads_scalar c.args.left ts (seen c.args.first) (rest c.args.reader.now) (text k) n (ap token_of c.in-Text.is) tt,
-      adds_one bytes c.args.nodes.now.items c.push-in-Text.new.self.items (TextNode c.args.first.place) (scalar (text k)) c.in_ok-push-in-Text.ensures.items (text_node bytes c.in-Text.field-0.bytes.now c.args.first.place stands),
+      adds_one bytes c.args.nodes.now.items c.push-in-Text.new.self.items (TextNode c.args.first.offset) (scalar (text k)) c.in_ok-push-in-Text.ensures.items (text_node bytes c.in-Text.field-0.bytes.now c.args.first.offset stands),
     )
 
 pub value-returns-in_ok-count-in-OpenList-clause-ok : goal.value-returns-in_ok-count-in-OpenList-clause-ok
@@ -313,14 +313,14 @@ value-returns-in_ok-count-in-OpenObject-clause-ok t c = λ ts n.
 pub value-returns-then-left-eq0-clause-fault : goal.value-returns-then-left-eq0-clause-fault
 value-returns-then-left-eq0-clause-fault t c =
     let zero_left : c.args.left ≡ 0 = c.if-left-eq0.true in
-    subst (λ (e : TextError). FaultIs e (λ f. (ts : List Placed) → NextIs ts (seen c.args.first) (rest c.args.reader.now) → StuckAt c.args.left [] ts f)) (sym c.fault.ensures)
+    subst (λ (e : TextError). FaultIs e (λ f. (ts : List Lexed) → NextIs ts (seen c.args.first) (rest c.args.reader.now) → StuckAt c.args.left [] ts f)) (sym c.fault.ensures)
     (λ ts n. first.value_stops c.args.left ts (seen c.args.first) (rest c.args.reader.now) _ TooDeep n refl refl
     (subst (λ (k : Token). IsStuck c.args.left [] k levels) (sym (ap token_of c.in-OpenList.is)) (subst (λ (m : ℕ). IsStuck m [] open_list levels) (sym zero_left) first.stuck_deep_list)))
 
 pub value-returns-then-left-eq0-2-clause-fault : goal.value-returns-then-left-eq0-2-clause-fault
 value-returns-then-left-eq0-2-clause-fault t c =
     let zero_left : c.args.left ≡ 0 = c.if-left-eq0-2.true in
-    subst (λ (e : TextError). FaultIs e (λ f. (ts : List Placed) → NextIs ts (seen c.args.first) (rest c.args.reader.now) → StuckAt c.args.left [] ts f)) (sym c.fault-then-left-eq0-2.ensures)
+    subst (λ (e : TextError). FaultIs e (λ f. (ts : List Lexed) → NextIs ts (seen c.args.first) (rest c.args.reader.now) → StuckAt c.args.left [] ts f)) (sym c.fault-then-left-eq0-2.ensures)
     (λ ts n. first.value_stops c.args.left ts (seen c.args.first) (rest c.args.reader.now) _ TooDeep n refl refl
     (subst (λ (k : Token). IsStuck c.args.left [] k levels) (sym (ap token_of c.in-OpenObject.is)) (subst (λ (m : ℕ). IsStuck m [] open_object levels) (sym zero_left) first.stuck_deep_object)))
 
@@ -337,7 +337,7 @@ value-returns-in_err-count-in-OpenObject-clause-fault t c =
 pub value-returns-in_default : goal.value-returns-in_default
 value-returns-in_default t c = record {
   ok = tt;
-  fault = subst (λ (e : TextError). FaultIs e (λ f. (ts : List Placed) → NextIs ts (seen c.args.first) (rest c.args.reader.now) → StuckAt c.args.left [] ts f)) (sym c.fault-in_default.ensures)
+  fault = subst (λ (e : TextError). FaultIs e (λ f. (ts : List Lexed) → NextIs ts (seen c.args.first) (rest c.args.reader.now) → StuckAt c.args.left [] ts f)) (sym c.fault-in_default.ensures)
       (λ ts n. first.value_stops c.args.left ts (seen c.args.first) (rest c.args.reader.now) _ NotJson n refl refl
       (first.stuck_not_start c.args.left (token_of c.args.first.token) (not_start c.args.first.token c.in_default.not-OpenList c.in_default.not-OpenObject c.in_default.not-Word c.in_default.not-Text)));
   ahead = tt;

@@ -17,7 +17,7 @@ decreases-value l = 3 * l.left + 2
 abbrev pub invariant-items-items : goal.invariant-items-items
 invariant-items-items l = record {
   inside : (vs : List Value) × InItems l.left (rest l.fn.reader) vs (seen l.first) (rest l.reader) × (l.count ≡ length vs) × Adds l.fn.reader.bytes.now l.fn.nodes.items l.nodes.items vs;
-  stands : StandsAt l.reader.bytes.now l.first.place l.first.token;
+  stands : StandsAt l.reader.bytes.now l.first.offset l.first.token;
   same : l.reader.bytes.now ≡ l.fn.reader.bytes.now;
   few : l.count + ahead l.reader ≤ ahead l.fn.reader;
   room : 0 < l.left;
@@ -31,7 +31,7 @@ invariant-noted_members-members l = record {
   inside : (ps : List Pair) × (AreDifferent (names ps) → InMembers l.left (rest l.fn.reader) ps (seen l.first) (rest l.reader)) × (l.count ≡ length ps)
       × Adds l.fn.reader.bytes.now l.fn.nodes.items l.nodes.items (in_turn ps) × (names_said l.names.items ≡ names ps);
   doubles : DoublesStop l.left (rest l.fn.reader) l.names.items;
-  stands : StandsAt l.reader.bytes.now l.first.place l.first.token;
+  stands : StandsAt l.reader.bytes.now l.first.offset l.first.token;
   same : l.reader.bytes.now ≡ l.fn.reader.bytes.now;
   few : l.count + ahead l.reader ≤ ahead l.fn.reader;
   room : 0 < l.left;

@@ -1,4 +1,4 @@
--- What the reader's functions say of the tokens with their places.
+-- What the reader's functions say of the tokens with their offsets.
 use Rattle.std.specs.Prelude.{◌≡◌, ◌≢◌, ℕ, ◌-◌, List, ◌∷◌, ◌++◌, AllPairs, Result, Ok, Err}
 use Rattle.uc_text.specs.Values.{Value}
 use Rattle.uc_text.specs.Grammar as grammar
@@ -6,8 +6,8 @@ use Rattle.uc_text.specs.Grammar.{spell, spell_items, spell_members}
 use Rattle.uc_text.specs.Faults.{Test, length_of_numbers, levels, double_keys, Passes, ItemsPass}
 use Rattle.uc_text.specs.Faults.{MembersPass}
 use Rattle.uc_text.specs.Parts.{Pair, IsStuck, items_of, members_of, names, passed_items}
-use Rattle.text_tokens.specs.Tokens.{Placed, kinds}
-pub use Rattle.text_tokens.specs.Places.{seen, NextIs, Takes}
+use Rattle.text_tokens.specs.Tokens.{Lexed, kinds}
+pub use Rattle.text_tokens.specs.Offsets.{seen, NextIs, Takes}
 use Rattle.uc_text.specs.declared.fault.TextCode.{TextCode}
 use Rattle.uc_text.specs.declared.fault.TextCode.TheVariants.{NotJson, NumberTooLong, TooDeep}
 use Rattle.uc_text.specs.declared.fault.TextCode.TheVariants.{DoubleKey}
@@ -22,13 +22,13 @@ test_of TooDeep = levels
 test_of DoubleKey = double_keys
 
 -- Behind what was opened these tokens come, and the fault is at one of them.
-pub record StuckAt (left : ℕ) (front : List grammar.Token) (ts : List Placed) (f : TextFault) : Type
+pub record StuckAt (left : ℕ) (front : List grammar.Token) (ts : List Lexed) (f : TextFault) : Type
     0 where
-  pub before : List Placed
-  pub at : Placed
-  pub after : List Placed
+  pub before : List Lexed
+  pub at : Lexed
+  pub after : List Lexed
   pub parts : ts ≡ before ++ at ∷ after
-  pub place : f.place ≡ at.place
+  pub offset : f.place ≡ at.offset
   pub stuck : IsStuck left (front ++ kinds before) at.token (test_of f.code)
 
 abbrev pub FaultIs : TextError → (TextFault → Type 0) → Type 0
@@ -41,23 +41,23 @@ IfFault (Ok x) P = Unit {0}
 IfFault (Err e) P = FaultIs e P
 
 -- A value was read from the front of these tokens, and it passes every test.
-pub record Reads (left : ℕ) (ts : List Placed) (v : Value) (others : List Placed) : Type 0 where
+pub record Reads (left : ℕ) (ts : List Lexed) (v : Value) (others : List Lexed) : Type 0 where
   pub takes : Takes ts (spell v) others
   pub pass : Passes double_keys left v
 
 -- Behind the opening bracket, where these items and a comma behind each were passed.
-pub record AtItem (left : ℕ) (all : List Placed) (vs : List Value) (ahead : List Placed) : Type 0
+pub record AtItem (left : ℕ) (all : List Lexed) (vs : List Value) (ahead : List Lexed) : Type 0
   where
     pub passed : Takes all (passed_items vs) ahead
     pub pass : ItemsPass double_keys (left - 1) (items_of vs)
 
 -- the same of the items behind an opening bracket, and of the members behind an opening brace
-pub record ReadsItems (left : ℕ) (ts : List Placed) (vs : List Value) (others : List Placed) : Type
+pub record ReadsItems (left : ℕ) (ts : List Lexed) (vs : List Value) (others : List Lexed) : Type
     0 where
   pub takes : Takes ts (spell_items (items_of vs)) others
   pub pass : ItemsPass double_keys (left - 1) (items_of vs)
 
-pub record ReadsMembers (left : ℕ) (ts : List Placed) (ps : List Pair) (others : List Placed) : Type
+pub record ReadsMembers (left : ℕ) (ts : List Lexed) (ps : List Pair) (others : List Lexed) : Type
     0 where
   pub takes : Takes ts (spell_members (members_of ps)) others
   pub pass : MembersPass double_keys (left - 1) (members_of ps)

@@ -1,4 +1,4 @@
--- The keys of a case file, and the fault of a test at a place.
+-- The keys of a case file, and the fault of a test at a site.
 use Rattle.std.specs.Prelude.{ℕ, List, codes}
 use Rattle.uc_model.specs.declared.kinds.Kind.{Kind}
 use Rattle.uc_case.specs.declared.fault.CaseCode.{CaseCode}
@@ -7,7 +7,7 @@ use Rattle.uc_case.specs.declared.fault.CaseCode.TheVariants.{Negative, TooLarge
 use Rattle.uc_case.specs.declared.fault.CaseCode.TheVariants.{CurveOrder, CurveEnds, LagOrder}
 use Rattle.uc_case.specs.declared.fault.CaseCode.TheVariants.{NotFlag, RangeOrder, NoUnits}
 use Rattle.uc_case.specs.declared.fault.CaseCode.TheVariants.{WindowShape, NoPeriods, BlockOrder}
-use Rattle.uc_case.specs.declared.fault.Place.{Place}
+use Rattle.uc_case.specs.declared.fault.Site.{Site}
 use Rattle.uc_case.specs.declared.fault.FieldFault.{FieldFault}
 use Rattle.uc_case.specs.declared.fault.Field.{Field}
 use Rattle.uc_case.specs.declared.fault.Field.TheVariants.{Whole, TimePeriods, Demand, Reserves}
@@ -65,16 +65,16 @@ key_of PiecewiseProduction = codes "piecewise_production"
 key_of Commitment = codes "commitment"
 key_of Blocks = codes "blocks"
 
-abbrev pub place : Field → Kind → ℕ → Place
-place field kind unit = record { field = field; kind = kind; unit = unit; item = 0 }
+abbrev pub site : Field → Kind → ℕ → Site
+site field kind unit = record { field = field; kind = kind; unit = unit; item = 0 }
 
-abbrev pub field_at : Place → Field → Place
+abbrev pub field_at : Site → Field → Site
 field_at at f = record at { field = f }
 
-abbrev pub item_at : Place → ℕ → Place
+abbrev pub item_at : Site → ℕ → Site
 item_at at k = record at { item = k }
 
-abbrev pub fault : Place → CaseCode → FieldFault
+abbrev pub fault : Site → CaseCode → FieldFault
 fault at code = record {
   code = code;
   field = at.field;
