@@ -1,5 +1,5 @@
 -- How what a sink holds grows, one text after another.
-use Rattle.report_form.proofs.Common.{◌≡◌, ℕ, ◌+◌, ◌<◌, ◌≤◌, List, [], ◌++◌, length, take, drop, get_or, Option, None, Some, Result, Ok, Err, IsErr, refl, sym, ap, subst, ◌∙◌, inl, inr, arith, append_assoc, append-nil, flat_map, flat_map_at, flat_map_up_to, Rose, grown, Gains, FallsShort, Writes}
+use Rattle.report_form.proofs.Common.{◌≡◌, ℕ, ◌≤◌, List, [], ◌++◌, Option, None, Some, Result, Ok, Err, IsErr, refl, sym, ap, ◌∙◌, inl, inr, arith, append_assoc, append-nil, Rose, grown, Gains, FallsShort, Writes}
 
 grown_nothing : (o : Option (List ℕ)) → grown o [] ≡ o
 grown_nothing None = refl
@@ -58,22 +58,3 @@ module _ {S : Type 0} {held : S → Option (List ℕ)} {faults : S → ℕ} wher
   pub writes_exit : {E : Type 0} {last : Option ℕ} {old new : S} (text : List ℕ) (r : Result (Unit {0}) E) → IsErr r → FallsShort held faults last old new text → Writes held faults last old new r text
   writes_exit text (Ok u) e h = cc
   writes_exit text (Err d) e h = record { ok = tt; err = h }
-
-  -- the texts of a list, one after another
-  pub gains_in_list : {X : Type 0} {old mid new : S} (f : X → List ℕ) (xs : List X) (i : ℕ) (d : X) → i < length xs → Gains held faults mid new (f (get_or xs i d)) → Gains held faults old mid (flat_map f (take i xs)) → Gains held faults old new (flat_map f (take (i + 1) xs))
-  gains_in_list {old = old} {new = new} f xs i d h q p =
-      subst (Gains held faults old new) (sym (flat_map_up_to f xs i d h)) (gains_then _ _ q p)
-
-  pub short_in_list : {X : Type 0} {last : Option ℕ} {old mid new : S} (f : X → List ℕ) (xs : List X) (i : ℕ) (d : X) → i < length xs → FallsShort held faults last mid new (f (get_or xs i d)) → Gains held faults old mid (flat_map f (take i xs)) → FallsShort held faults last old new (flat_map f xs)
-  short_in_list {last = last} {old = old} {new = new} f xs i d h q p =
-      subst (FallsShort held faults last old new) (sym (flat_map_at f xs i d h)) (short_more _ (flat_map f (drop (i + 1) xs)) (short_then _ _ q p))
-
-  -- the exit of a `?` in a loop over such a list
-  pub exit_in_list : {X E : Type 0} {last : Option ℕ} {old mid new : S} (f : X → List ℕ) (xs : List X) (i : ℕ) (d : X) (r : Result (Unit {0}) E) → IsErr r → i < length xs → FallsShort held faults last mid new (f (get_or xs i d)) → Gains held faults old mid (flat_map f (take i xs)) → Writes held faults last old new r (flat_map f xs)
-  exit_in_list f xs i d r e h q p = writes_exit _ r e (short_in_list f xs i d h q p)
-
--- for a function that writes one text and then another
-pub ruleset two_texts = (gains_then, short_then, short_more, writes_then)
-
--- for a loop that writes the texts of a list
-pub ruleset list_of_texts = (gains_then, short_then, short_more, gains_in_list, short_in_list)

@@ -2,13 +2,13 @@
 ghost use Rattle.std.specs.Prelude.{◌≡◌, ◌<◌, ◌++◌};
 ghost use Rattle.std.specs.List.{flat_map, list_all};
 ghost use Rattle.hull_io.specs.Edge.{Writes};
-ghost use Rattle.report_form.specs.Numerals.{numeral, signed_numeral};
-ghost use Rattle.report_form.specs.Parts.{part_text, hex_of, stands_as_is, escaped, closed, quoted};
-ghost use Rattle.report_form.specs.Parts.{tally};
+ghost use Rattle.report_form.specs.Parts.{part_text, hex_of, stands_as_is, escaped, quoted, tally};
+ghost use Rattle.report_form.specs.Pending.{Adds};
 
-use crate::pieces::{write_amounts, write_counts, write_flags, write_numbers};
+use crate::pieces::{
+    Piece, add_amounts, add_bytes, add_counts, add_flags, add_number, add_numbers,
+};
 use hull_io::{Sink, WriteFailed, write_whole};
-use itoa::Buffer;
 
 /// A part of a text.
 #[derive(Clone, Copy)]
@@ -33,41 +33,21 @@ pub enum Part<'a> {
     Name(&'a [u8]),
 }
 
-fn write_number<S: Sink, I: itoa::Integer>(out: &mut S, n: I) -> Result<(), WriteFailed>
-    ensures { Writes S.held S.faults S.last out.old out.new result (I.text n) }
-{
-    let mut buffer = Buffer::new();
-    write_whole(out, buffer.format(n).as_bytes())
-}
-
-fn write_count<S: Sink>(out: &mut S, n: u64) -> Result<(), WriteFailed>
-    ensures { Writes S.held S.faults S.last out.old out.new result (numeral n) }
-{
-    write_number(out, n)
-}
-
-fn write_amount<S: Sink>(out: &mut S, x: i128) -> Result<(), WriteFailed>
-    ensures { Writes S.held S.faults S.last out.old out.new result (signed_numeral x) }
-{
-    write_number(out, x)
-}
-
-#[tactic(auto, using(crate::proofs::GrownLemmas::two_texts))]
-fn write_behind<S: Sink>(out: &mut S, word: &[u8], n: u64) -> Result<(), WriteFailed>
-    ensures { Writes S.held S.faults S.last out.old out.new result (word.now ++ numeral n) }
-{
-    write_whole(out, word)?;
-    write_count(out, n)
-}
-
-fn write_tally<S: Sink>(out: &mut S, word: &[u8], n: u64) -> Result<(), WriteFailed>
-    ensures { Writes S.held S.faults S.last out.old out.new result (tally word.now n) }
+#[tactic(auto, using(crate::proofs::PieceLemmas::adds_nothing))]
+fn add_tally<S: Sink>(
+    out: &mut S,
+    piece: &mut Piece,
+    word: &[u8],
+    n: u64,
+) -> Result<(), WriteFailed>
+    ensures { Adds S.held S.faults S.last out.old out.new result piece.old.items piece.new.items
+        (tally word.now n) }
 {
     if n == 0 {
-        write_whole(out, b"")
-    } else {
-        write_behind(out, word, n)
+        return Ok(());
     }
+    add_bytes(out, piece, word)?;
+    add_number(out, piece, n)
 }
 
 /// A hexadecimal digit, in lower case.
@@ -84,14 +64,16 @@ fn is_plain(byte: u8) -> bool
     byte >= 32 && byte != b'"' && byte != b'\\'
 }
 
-fn write_escaped<S: Sink>(out: &mut S, byte: u8) -> Result<(), WriteFailed>
-    ensures { Writes S.held S.faults S.last out.old out.new result (escaped byte) }
+fn add_escaped<S: Sink>(out: &mut S, piece: &mut Piece, byte: u8) -> Result<(), WriteFailed>
+    ensures { Adds S.held S.faults S.last out.old out.new result piece.old.items piece.new.items
+        (escaped byte) }
 {
     if is_plain(byte) {
-        write_whole(out, &[byte])
+        add_bytes(out, piece, &[byte])
     } else if byte < 32 {
-        write_whole(
+        add_bytes(
             out,
+            piece,
             &[
                 b'\\',
                 b'u',
@@ -102,16 +84,20 @@ fn write_escaped<S: Sink>(out: &mut S, byte: u8) -> Result<(), WriteFailed>
             ],
         )
     } else {
-        write_whole(out, &[b'\\', byte])
+        add_bytes(out, piece, &[b'\\', byte])
     }
 }
 
-#[tactic(auto, using(crate::proofs::GrownLemmas::list_of_texts))]
-fn write_bytes<S: Sink>(out: &mut S, bytes: &[u8]) -> Result<(), WriteFailed>
-    ensures { Writes S.held S.faults S.last out.old out.new result (flat_map escaped bytes.now) }
+fn add_each_escaped<S: Sink>(
+    out: &mut S,
+    piece: &mut Piece,
+    bytes: &[u8],
+) -> Result<(), WriteFailed>
+    ensures { Adds S.held S.faults S.last out.old out.new result piece.old.items piece.new.items
+        (flat_map escaped bytes.now) }
 {
     for byte in bytes {
-        write_escaped(out, *byte)?;
+        add_escaped(out, piece, *byte)?;
     }
     Ok(())
 }
@@ -122,56 +108,52 @@ fn is_all_plain(name: &[u8]) -> bool
     name.iter().all(|byte| is_plain(*byte))
 }
 
-/// Most names need no escape and are written in one piece.
-fn write_inside<S: Sink>(out: &mut S, name: &[u8]) -> Result<(), WriteFailed>
-    ensures { Writes S.held S.faults S.last out.old out.new result (flat_map escaped name.now) }
+/// Most names need no escape and are added at once.
+fn add_inside<S: Sink>(out: &mut S, piece: &mut Piece, name: &[u8]) -> Result<(), WriteFailed>
+    ensures { Adds S.held S.faults S.last out.old out.new result piece.old.items piece.new.items
+        (flat_map escaped name.now) }
 {
     if is_all_plain(name) {
-        write_whole(out, name)
+        add_bytes(out, piece, name)
     } else {
-        write_bytes(out, name)
+        add_each_escaped(out, piece, name)
     }
 }
 
-#[tactic(auto, using(crate::proofs::GrownLemmas::two_texts))]
-fn write_closed<S: Sink>(out: &mut S, name: &[u8]) -> Result<(), WriteFailed>
-    ensures { Writes S.held S.faults S.last out.old out.new result (closed name.now) }
+fn add_name<S: Sink>(out: &mut S, piece: &mut Piece, name: &[u8]) -> Result<(), WriteFailed>
+    ensures { Adds S.held S.faults S.last out.old out.new result piece.old.items piece.new.items
+        (quoted name.now) }
 {
-    write_inside(out, name)?;
-    write_whole(out, b"\"")
+    add_bytes(out, piece, b"\"")?;
+    add_inside(out, piece, name)?;
+    add_bytes(out, piece, b"\"")
 }
 
-#[tactic(auto, using(crate::proofs::GrownLemmas::two_texts))]
-fn write_quoted<S: Sink>(out: &mut S, name: &[u8]) -> Result<(), WriteFailed>
-    ensures { Writes S.held S.faults S.last out.old out.new result (quoted name.now) }
-{
-    write_whole(out, b"\"")?;
-    write_closed(out, name)
-}
-
-fn write_part<S: Sink>(out: &mut S, part: &Part<'_>) -> Result<(), WriteFailed>
-    ensures { Writes S.held S.faults S.last out.old out.new result (part_text part.now) }
+fn add_part<S: Sink>(out: &mut S, piece: &mut Piece, part: &Part<'_>) -> Result<(), WriteFailed>
+    ensures { Adds S.held S.faults S.last out.old out.new result piece.old.items piece.new.items
+        (part_text part.now) }
 {
     match *part {
-        Part::Text(piece) => write_whole(out, piece),
-        Part::Count(n) => write_count(out, n),
-        Part::Amount(x) => write_amount(out, x),
-        Part::Counts(ns) => write_counts(out, ns),
-        Part::Numbers(xs) => write_numbers(out, xs),
-        Part::Amounts(xs) => write_amounts(out, xs),
-        Part::Flags(flags) => write_flags(out, flags),
-        Part::Tally(word, n) => write_tally(out, word, n),
-        Part::Name(name) => write_quoted(out, name),
+        Part::Text(bytes) => add_bytes(out, piece, bytes),
+        Part::Count(n) => add_number(out, piece, n),
+        Part::Amount(x) => add_number(out, piece, x),
+        Part::Counts(ns) => add_counts(out, piece, ns),
+        Part::Numbers(xs) => add_numbers(out, piece, xs),
+        Part::Amounts(xs) => add_amounts(out, piece, xs),
+        Part::Flags(flags) => add_flags(out, piece, flags),
+        Part::Tally(word, n) => add_tally(out, piece, word, n),
+        Part::Name(name) => add_name(out, piece, name),
     }
 }
 
-/// Writes the parts, one after another.
-#[tactic(auto, using(crate::proofs::GrownLemmas::list_of_texts))]
+/// Writes the parts, one after another, in pieces of some KiB. The last piece is written here and
+/// not kept for the parts of a later call: it would keep back its failure too.
 pub fn write_parts<S: Sink>(out: &mut S, parts: &[Part<'_>]) -> Result<(), WriteFailed>
     ensures { Writes S.held S.faults S.last out.old out.new result (flat_map part_text parts.now) }
 {
+    let mut piece = Piece::new();
     for part in parts {
-        write_part(out, part)?;
+        add_part(out, &mut piece, part)?;
     }
-    Ok(())
+    write_whole(out, piece.as_slice())
 }

@@ -1,115 +1,104 @@
-//! Numbers in a row, joined into pieces of some KiB before they are written.
-ghost use Rattle.std.specs.Prelude.{◌≡◌, ◌+◌, ◌≤◌, ◌∷◌, ◌++◌, length, OnOk, OnErr};
-ghost use Rattle.arrayvec.specs.ArrayString.{array_string_len};
-ghost use Rattle.hull_io.specs.Edge.{FallsShort, Writes};
+//! A text that gathers in a piece of some KiB before it is written: each write to a file or a
+//! terminal is a system call, and most parts of a text are a few bytes.
+ghost use Rattle.std.specs.Prelude.{◌≡◌, ◌∷◌};
 ghost use Rattle.report_form.specs.Parts.{spaced, spaced_counts, flag_text, spaced_flags};
-ghost use Rattle.report_form.specs.Pending.{Pends};
+ghost use Rattle.report_form.specs.Pending.{Adds};
 
-use arrayvec::ArrayString;
+use arrayvec::ArrayVec;
 use hull_io::{Sink, WriteFailed, write_whole};
 use itoa::{Buffer, Integer};
 
 /// The most bytes of a piece.
 const MOST: usize = 4096;
 
-/// The most bytes of a number of 128 bits behind a space.
-const LONGEST: usize = 41;
+/// What waits to be written.
+pub type Piece = ArrayVec<u8, MOST>;
 
-/// Where there is no room for a number, writes the piece and empties it.
-#[tactic(auto, using(crate::proofs::PieceLemmas::room_made))]
-fn make_room<S: Sink>(out: &mut S, piece: &mut ArrayString<MOST>) -> Result<(), WriteFailed>
-    ensures ok { OnOk result (Pends S.held S.faults out.old out.new piece.new.bytes
-        piece.old.bytes) }
-    ensures room { OnOk result (array_string_len piece.new + LONGEST ≤ MOST) }
-    ensures err { OnErr result (FallsShort S.held S.faults S.last out.old out.new piece.old.bytes) }
+/// Adds bytes to the piece. Where they don't fit it is written and emptied first; where they are
+/// longer than any piece they are then written at once.
+#[tactic(auto, using(crate::proofs::PieceLemmas::bytes_added))]
+pub fn add_bytes<S: Sink>(out: &mut S, piece: &mut Piece, bytes: &[u8]) -> Result<(), WriteFailed>
+    ensures { Adds S.held S.faults S.last out.old out.new result piece.old.items piece.new.items
+        bytes.now }
 {
-    if piece.remaining_capacity() < LONGEST {
-        write_whole(out, piece.as_str().as_bytes())?;
-        piece.clear();
+    if piece.try_extend_from_slice(bytes).is_ok() {
+        return Ok(());
     }
-    Ok(())
+    write_whole(out, piece.as_slice())?;
+    piece.clear();
+    if piece.try_extend_from_slice(bytes).is_ok() {
+        return Ok(());
+    }
+    write_whole(out, bytes)
 }
 
-/// Adds a number behind a space to the piece.
-#[tactic(auto, using(crate::proofs::PieceLemmas::one_more))]
-fn add_number<S: Sink, I: Integer>(
+/// Adds a number in decimal digits.
+pub fn add_number<S: Sink, I: Integer>(
     out: &mut S,
-    piece: &mut ArrayString<MOST>,
+    piece: &mut Piece,
     n: I,
 ) -> Result<(), WriteFailed>
-    ensures ok { OnOk result (Pends S.held S.faults out.old out.new piece.new.bytes
-        (piece.old.bytes ++ 32 ∷ I.text n)) }
-    ensures err { OnErr result (FallsShort S.held S.faults S.last out.old out.new piece.old.bytes) }
+    ensures { Adds S.held S.faults S.last out.old out.new result piece.old.items piece.new.items
+        (I.text n) }
 {
-    make_room(out, piece)?;
     let mut buffer = Buffer::new();
-    piece.push_str(" ");
-    piece.push_str(buffer.format(n));
-    Ok(())
+    add_bytes(out, piece, buffer.format(n).as_bytes())
 }
 
-fn flag_str(flag: bool) -> &'static str
-    ensures text { result.now ≡ flag_text flag }
-    ensures short { length result.now ≤ LONGEST }
+fn add_spaced<S: Sink, I: Integer>(out: &mut S, piece: &mut Piece, n: I) -> Result<(), WriteFailed>
+    ensures { Adds S.held S.faults S.last out.old out.new result piece.old.items piece.new.items
+        (32 ∷ I.text n) }
 {
-    if flag { " 1" } else { " 0" }
+    add_bytes(out, piece, b" ")?;
+    add_number(out, piece, n)
 }
 
-#[tactic(auto, using(crate::proofs::PieceLemmas::one_more))]
-fn add_flag<S: Sink>(
-    out: &mut S,
-    piece: &mut ArrayString<MOST>,
-    flag: bool,
-) -> Result<(), WriteFailed>
-    ensures ok { OnOk result (Pends S.held S.faults out.old out.new piece.new.bytes
-        (piece.old.bytes ++ flag_text flag)) }
-    ensures err { OnErr result (FallsShort S.held S.faults S.last out.old out.new piece.old.bytes) }
+/// Adds numbers, each behind a space.
+pub fn add_counts<S: Sink>(out: &mut S, piece: &mut Piece, ns: &[u32]) -> Result<(), WriteFailed>
+    ensures { Adds S.held S.faults S.last out.old out.new result piece.old.items piece.new.items
+        (spaced_counts ns.now) }
 {
-    make_room(out, piece)?;
-    piece.push_str(flag_str(flag));
-    Ok(())
-}
-
-/// Writes numbers, each behind a space.
-pub fn write_numbers<S: Sink>(out: &mut S, xs: &[i64]) -> Result<(), WriteFailed>
-    ensures { Writes S.held S.faults S.last out.old out.new result (spaced xs.now) }
-{
-    let mut piece = ArrayString::new();
-    for x in xs {
-        add_number(out, &mut piece, *x)?;
-    }
-    write_whole(out, piece.as_str().as_bytes())
-}
-
-/// Writes numbers, each behind a space.
-pub fn write_amounts<S: Sink>(out: &mut S, xs: &[i128]) -> Result<(), WriteFailed>
-    ensures { Writes S.held S.faults S.last out.old out.new result (spaced xs.now) }
-{
-    let mut piece = ArrayString::new();
-    for x in xs {
-        add_number(out, &mut piece, *x)?;
-    }
-    write_whole(out, piece.as_str().as_bytes())
-}
-
-/// Writes numbers, each behind a space.
-pub fn write_counts<S: Sink>(out: &mut S, ns: &[u32]) -> Result<(), WriteFailed>
-    ensures { Writes S.held S.faults S.last out.old out.new result (spaced_counts ns.now) }
-{
-    let mut piece = ArrayString::new();
     for n in ns {
-        add_number(out, &mut piece, *n)?;
+        add_spaced(out, piece, *n)?;
     }
-    write_whole(out, piece.as_str().as_bytes())
+    Ok(())
 }
 
-/// Writes 1 for true and 0 for false, each behind a space.
-pub fn write_flags<S: Sink>(out: &mut S, flags: &[bool]) -> Result<(), WriteFailed>
-    ensures { Writes S.held S.faults S.last out.old out.new result (spaced_flags flags.now) }
+/// Adds numbers, each behind a space.
+pub fn add_numbers<S: Sink>(out: &mut S, piece: &mut Piece, xs: &[i64]) -> Result<(), WriteFailed>
+    ensures { Adds S.held S.faults S.last out.old out.new result piece.old.items piece.new.items
+        (spaced xs.now) }
 {
-    let mut piece = ArrayString::new();
-    for flag in flags {
-        add_flag(out, &mut piece, *flag)?;
+    for x in xs {
+        add_spaced(out, piece, *x)?;
     }
-    write_whole(out, piece.as_str().as_bytes())
+    Ok(())
+}
+
+/// Adds numbers, each behind a space.
+pub fn add_amounts<S: Sink>(out: &mut S, piece: &mut Piece, xs: &[i128]) -> Result<(), WriteFailed>
+    ensures { Adds S.held S.faults S.last out.old out.new result piece.old.items piece.new.items
+        (spaced xs.now) }
+{
+    for x in xs {
+        add_spaced(out, piece, *x)?;
+    }
+    Ok(())
+}
+
+fn flag_bytes(flag: bool) -> &'static [u8]
+    ensures { result.now ≡ flag_text flag }
+{
+    if flag { b" 1" } else { b" 0" }
+}
+
+/// Adds 1 for true and 0 for false, each behind a space.
+pub fn add_flags<S: Sink>(out: &mut S, piece: &mut Piece, flags: &[bool]) -> Result<(), WriteFailed>
+    ensures { Adds S.held S.faults S.last out.old out.new result piece.old.items piece.new.items
+        (spaced_flags flags.now) }
+{
+    for flag in flags {
+        add_bytes(out, piece, flag_bytes(*flag))?;
+    }
+    Ok(())
 }
