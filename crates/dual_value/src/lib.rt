@@ -11,6 +11,3 @@ mod value;
 
 pub use totals::{add_response, take_bid};
 pub use value::dual_value;
-
-#[cfg(test)]
-mod tests;

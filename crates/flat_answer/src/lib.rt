@@ -11,6 +11,3 @@ mod renewables;
 
 pub use bids::best_bid;
 pub use renewables::best_flat;
-
-#[cfg(test)]
-mod tests;

@@ -16,6 +16,3 @@ mod sums;
 
 pub use bound::bound_of;
 pub use ranges::{Certified, best_range};
-
-#[cfg(test)]
-mod tests;

@@ -1,14 +1,35 @@
-//! Tests of one crate each: a file for each crate that is tested, named after it. They stand above
-//! those crates, which so are proved without tests alone.
+//! Tests of one crate each: a file for each crate that is tested, named after it, and `small_cases`
+//! for what several of them begin from. They stand above those crates, which so are proved without
+//! tests alone.
 #![tactic(auto)]
 
 #[cfg(test)]
 mod cost_curve_tests;
 #[cfg(test)]
+mod dual_value_tests;
+#[cfg(test)]
+mod flat_answer_tests;
+#[cfg(test)]
+mod gap_proof_tests;
+#[cfg(test)]
 mod hull_io_tests;
 #[cfg(test)]
 mod hull_words_tests;
 #[cfg(test)]
+mod plan_check_tests;
+#[cfg(test)]
+mod price_move_tests;
+#[cfg(test)]
+mod price_space_tests;
+#[cfg(test)]
 mod report_read_tests;
 #[cfg(test)]
+mod small_cases;
+#[cfg(test)]
+mod task_deal_tests;
+#[cfg(test)]
+mod text_tree_tests;
+#[cfg(test)]
 mod uc_num_tests;
+#[cfg(test)]
+mod uc_text_tests;

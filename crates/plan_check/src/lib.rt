@@ -6,8 +6,6 @@ pub mod costs;
 pub mod laws;
 mod rules;
 mod states;
-#[cfg(test)]
-mod tests;
 pub mod totals;
 
 pub use check::check_plan;

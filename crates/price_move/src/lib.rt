@@ -15,6 +15,3 @@ mod step;
 pub use best_row::{greatest, greatest_with};
 pub use entries::direction;
 pub use next::{Moved, next_prices, next_prices_from};
-
-#[cfg(test)]
-mod tests;

@@ -11,6 +11,3 @@ mod start;
 
 pub use opening::opening_prices;
 pub use start::start_prices;
-
-#[cfg(test)]
-mod tests;

@@ -21,8 +21,6 @@ mod pour;
 mod rule;
 mod seat;
 mod settle;
-#[cfg(test)]
-mod tests;
 
 pub use deal::{MOST_JOBS, deal_all};
 pub use job::Job;

@@ -16,6 +16,3 @@ pub use list::ListBranch;
 pub use node::{Node, skip};
 pub use object::{Member, ObjectBranch};
 pub use tree::Tree;
-
-#[cfg(test)]
-mod tests;

@@ -275,6 +275,3 @@ fn read_all(alloc: Global, bytes: &[u8]) -> Result<Tree<'_>, TextError>
         _ => Err(fault(TextCode::NotJson, behind.offset)),
     }
 }
-
-#[cfg(test)]
-mod tests;

@@ -1,7 +1,7 @@
-use super::*;
 use std::test::Fail;
 use text_tokens::small::SmallNumber;
 use text_tokens::text_of;
+use text_tree::{Node, Tree};
 use uc_num::Decimal;
 
 #[test]

@@ -1,6 +1,7 @@
-use super::*;
+use std::alloc::{AllocError, Global};
 use std::test::Fail;
 use uc_num::Decimal;
+use uc_text::{TextError, read_tree};
 
 /// The code and the offset of the fault of a text, or zeros where it has none.
 fn answer_of(alloc: Global, bytes: &[u8]) -> (u32, u32) {

@@ -1,16 +1,20 @@
-use crate::full_load::full_load_price;
-use crate::{opening_prices, start_prices};
+ghost use Rattle.std.specs.Prelude.{◌≡◌, length, IfOk};
+ghost use Rattle.uc_model.specs.PlainUnits.{thermal_of};
+
+use crate::small_cases::one_period;
+use price_space::{opening_prices, start_prices};
 use std::alloc::{AllocError, Global};
 use std::test::Fail;
 use uc_model::cases::Case;
 use uc_model::lists::{Name, Numbers};
 use uc_model::units::{
-    BidList, FlatList, Lags, Mark, Marks, NamedFlat, Point, Points, Prices, Renewable, ThermalList,
-    Unit,
+    BidList, FlatList, Lags, Mark, Marks, NamedUnit, Point, Points, Prices, ThermalList, Unit,
 };
 
 // A unit of exactly 100 kW for 3,000, over one period.
-fn fixed_unit(alloc: Global) -> Result<Unit, AllocError> {
+fn fixed_unit(alloc: Global) -> Result<Unit, AllocError>
+    ensures { IfOk result (λ u. length (thermal_of u).window ≡ 1) }
+{
     let lags = Lags::make(alloc, 0)?;
     let mut points = Points::make(alloc, 1)?;
     points.push(Point {
@@ -38,19 +42,15 @@ fn fixed_unit(alloc: Global) -> Result<Unit, AllocError> {
     })
 }
 
-// One period with a demand of 150 kW and no thermal unit.
-fn renewable_case(alloc: Global) -> Result<Case, AllocError> {
-    let least = Numbers::filled(alloc, 1, 0)?;
-    let most = Numbers::filled(alloc, 1, 40)?;
+// One period with a demand of 150 kW, and that unit.
+fn thermal_case(alloc: Global) -> Result<Case, AllocError> {
+    let unit = fixed_unit(alloc)?;
     let name = Name::make(alloc, 0)?;
-    let mut flat = FlatList::make(alloc, 1)?;
-    flat.push(NamedFlat {
-        name,
-        flat: Renewable { least, most },
-    });
+    let mut thermal = ThermalList::make(alloc, 1)?;
+    thermal.push(NamedUnit { name, unit });
     let demand = Numbers::filled(alloc, 1, 150)?;
     let reserves = Numbers::filled(alloc, 1, 0)?;
-    let thermal = ThermalList::make(alloc, 0)?;
+    let flat = FlatList::make(alloc, 0)?;
     let bids = BidList::make(alloc, 0)?;
     Ok(Case {
         periods: 1,
@@ -64,14 +64,15 @@ fn renewable_case(alloc: Global) -> Result<Case, AllocError> {
 
 #[test]
 fn full_load_price_of_a_unit(rt: HostRuntime) -> Result<(), Fail> {
-    let unit = fixed_unit(rt.alloc())?;
-    assert_eq!(rt; full_load_price(&unit), 30);
+    let case = thermal_case(rt.alloc())?;
+    let prices = start_prices(rt.alloc(), &case)?;
+    assert_eq!(rt; prices.as_slice(), [30].as_slice());
     Ok(())
 }
 
 #[test]
 fn start_price_without_thermal_units(rt: HostRuntime) -> Result<(), Fail> {
-    let case = renewable_case(rt.alloc())?;
+    let case = one_period(rt.alloc(), 150, 0, 40)?;
     let prices = start_prices(rt.alloc(), &case)?;
     assert_eq!(rt; prices.as_slice(), [0].as_slice());
     Ok(())

@@ -1,12 +1,12 @@
 //! Jobs that keep a list of what they ran.
 ghost use Rattle.std.specs.Prelude.{◌≡◌, ◌≤◌, length, All, IfOk};
-ghost use Rattle.task_deal.specs.declared.tests.Keeper.{Keeper};
+ghost use Rattle.part_tests.specs.declared.task_deal_tests.Keeper.{Keeper};
 
-use crate::{Job, deal_all};
 use std::alloc::{AllocError, Global};
 use std::sync::atomic::AtomicUsize;
 use std::sync::atomic::Ordering::SeqCst;
 use std::thread;
+use task_deal::{Job, deal_all};
 use uc_model::lists::ReservedList;
 
 /// Keeps the numbers that it ran.

@@ -1,64 +1,13 @@
-ghost use Rattle.std.specs.Prelude.{◌≡◌, neg_ℤ, length, IfOk};
-ghost use Rattle.std.specs.List.{All};
-ghost use Rattle.uc_model.specs.Limits.{IsFrom, IsPower, IsTotal, IsWorth, price_limit};
+ghost use Rattle.std.specs.Prelude.{◌≡◌, length};
 ghost use Rattle.uc_model.specs.PlainCases.{market_of, proposal_of};
 ghost use Rattle.gap_proof.specs.Sums.{IsRowWithin, IsRadius};
 
-use crate::{Certified, best_range, bound_of};
+use crate::small_cases::{one_period, one_row};
+use gap_proof::{Certified, best_range, bound_of};
 use std::alloc::{AllocError, Global};
 use std::test::Fail;
 use uc_model::cases::{Case, Row};
-use uc_model::lists::{Amounts, Name, Numbers};
-use uc_model::units::{BidList, FlatList, NamedFlat, Prices, Renewable, ThermalList};
-
-// One period with that demand and no required reserve; the renewable unit only makes it a case.
-fn one_period(alloc: Global, demand: i64) -> Result<Case, AllocError>
-    requires { IsPower demand }
-    ensures { IfOk result (λ case. (market_of case).periods ≡ 1) }
-{
-    let least = Numbers::filled(alloc, 1, 0)?;
-    let most = Numbers::filled(alloc, 1, 0)?;
-    let name = Name::make(alloc, 0)?;
-    let mut flat = FlatList::make(alloc, 1)?;
-    flat.push(NamedFlat {
-        name,
-        flat: Renewable { least, most },
-    });
-    let demand = Numbers::filled(alloc, 1, demand)?;
-    let reserves = Numbers::filled(alloc, 1, 0)?;
-    let thermal = ThermalList::make(alloc, 0)?;
-    let bids = BidList::make(alloc, 0)?;
-    Ok(Case {
-        periods: 1,
-        demand,
-        reserves,
-        thermal,
-        flat,
-        bids,
-    })
-}
-
-// A row over one period with no reserve.
-fn one_row(alloc: Global, energy: i64, value: i128, supply: i128) -> Result<Row, AllocError>
-    requires energy { IsFrom (neg_ℤ price_limit) price_limit energy }
-    requires value { IsWorth value }
-    requires supply { IsTotal supply }
-    ensures horizon { IfOk result (λ row. length (proposal_of row).prices.energy ≡ 1) }
-    ensures supply { IfOk result (λ row. All IsTotal (proposal_of row).supply) }
-    ensures reserve { IfOk result (λ row. All IsTotal (proposal_of row).reserve) }
-    ensures value { IfOk result (λ row. (proposal_of row).value ≡ value) }
-{
-    let energy = Numbers::filled(alloc, 1, energy)?;
-    let reserve = Numbers::filled(alloc, 1, 0)?;
-    let supply = Amounts::filled(alloc, 1, supply)?;
-    let no_reserve = Amounts::filled(alloc, 1, 0)?;
-    Ok(Row {
-        prices: Prices { energy, reserve },
-        value,
-        supply,
-        reserve: no_reserve,
-    })
-}
+use uc_model::lists::{Amounts, Numbers};
 
 // The best range of one row.
 fn best_of_one(case: &Case, row: Row, radius: i64, work: &mut Amounts) -> Certified
@@ -85,7 +34,7 @@ fn best_of_two(case: &Case, first: Row, second: Row, radius: i64, work: &mut Amo
 
 #[test]
 fn a_row_alone(rt: HostRuntime) -> Result<(), Fail> {
-    let case = one_period(rt.alloc(), 150)?;
+    let case = one_period(rt.alloc(), 150, 0, 0)?;
     let mut work = Amounts::filled(rt.alloc(), 2, 7)?;
     let row = one_row(rt.alloc(), 30, 2_500, 100)?;
     let ten = best_of_one(&case, row, 10, &mut work);
@@ -105,7 +54,7 @@ fn a_row_alone(rt: HostRuntime) -> Result<(), Fail> {
 
 #[test]
 fn two_rows_are_better(rt: HostRuntime) -> Result<(), Fail> {
-    let case = one_period(rt.alloc(), 150)?;
+    let case = one_period(rt.alloc(), 150, 0, 0)?;
     let mut work = Amounts::filled(rt.alloc(), 2, 7)?;
     let first = one_row(rt.alloc(), 30, 2_500, 100)?;
     let second = one_row(rt.alloc(), 50, 1_500, 200)?;
@@ -143,7 +92,7 @@ fn three_to_one(
 
 #[test]
 fn weights_count(rt: HostRuntime) -> Result<(), Fail> {
-    let case = one_period(rt.alloc(), 150)?;
+    let case = one_period(rt.alloc(), 150, 0, 0)?;
     let mut work = Amounts::filled(rt.alloc(), 2, 7)?;
     let first = one_row(rt.alloc(), 30, 2_500, 100)?;
     let second = one_row(rt.alloc(), 50, 1_500, 200)?;

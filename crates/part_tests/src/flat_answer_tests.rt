@@ -1,32 +1,12 @@
-ghost use Rattle.std.specs.Prelude.{◌≡◌, ◌≤ℤ◌, pos, neg_ℤ, length, IfOk};
-ghost use Rattle.uc_model.specs.Limits.{IsFrom, IsPower, IsBlock, price_limit};
-ghost use Rattle.uc_model.specs.PlainUnits.{renewable_of, bid_of, prices_of, schedule_of};
+ghost use Rattle.std.specs.Prelude.{◌≡◌, neg_ℤ, length, IfOk};
+ghost use Rattle.uc_model.specs.Limits.{IsFrom, IsBlock, price_limit};
+ghost use Rattle.uc_model.specs.PlainUnits.{renewable_of, bid_of, schedule_of};
 
-use crate::{best_bid, best_flat};
+use crate::small_cases::{one_price, one_range};
+use flat_answer::{best_bid, best_flat};
 use std::alloc::{AllocError, Global};
 use std::test::Fail;
-use uc_model::lists::Numbers;
-use uc_model::units::{Answered, Bid, Block, BlockLists, Blocks, Prices, Renewable};
-
-fn one_price(alloc: Global, energy: i64) -> Result<Prices, AllocError>
-    requires { IsFrom (neg_ℤ price_limit) price_limit energy }
-    ensures { IfOk result (λ p. length (prices_of p).energy ≡ 1) }
-{
-    let energy = Numbers::filled(alloc, 1, energy)?;
-    let reserve = Numbers::filled(alloc, 1, 0)?;
-    Ok(Prices { energy, reserve })
-}
-
-fn one_range(alloc: Global, least: i64, most: i64) -> Result<Renewable, AllocError>
-    requires least { IsPower least }
-    requires most { IsPower most }
-    requires range { least ≤ℤ most }
-    ensures { IfOk result (λ r. length (renewable_of r).least ≡ 1) }
-{
-    let least = Numbers::filled(alloc, 1, least)?;
-    let most = Numbers::filled(alloc, 1, most)?;
-    Ok(Renewable { least, most })
-}
+use uc_model::units::{Answered, Bid, Block, BlockLists, Blocks, Renewable};
 
 fn one_block(alloc: Global, block: Block) -> Result<Bid, AllocError>
     requires { IsBlock block }
@@ -49,7 +29,7 @@ fn sold(alloc: Global, flat: &Renewable, price: i64) -> Result<Answered, AllocEr
     requires price { IsFrom (neg_ℤ price_limit) price_limit price }
     requires horizon { length (renewable_of flat.now).least ≡ 1 }
 {
-    let prices = one_price(alloc, price)?;
+    let prices = one_price(alloc, price, 0)?;
     let mut into = answered(alloc)?;
     best_flat(flat, &prices, &mut into);
     Ok(into)
@@ -59,7 +39,7 @@ fn bought(alloc: Global, bid: &Bid, price: i64) -> Result<Answered, AllocError>
     requires price { IsFrom (neg_ℤ price_limit) price_limit price }
     requires horizon { length (bid_of bid.now).blocks ≡ 1 }
 {
-    let prices = one_price(alloc, price)?;
+    let prices = one_price(alloc, price, 0)?;
     let mut into = answered(alloc)?;
     best_bid(bid, &prices, &mut into);
     Ok(into)

@@ -1,6 +1,11 @@
-use Rattle.plan_check.proofs.Common.{◌≡◌, ℕ, IsTrue, true, [], ◌∷◌, length, drop, refl, sym, subst, arith, All, slice_index_or, Schedule, Market, HasPlanShape, market_of}
-use Rattle.plan_check.proofs.Lemmas.{HasLengths, IsSteady}
-use Rattle.plan_check.proofs.tests.checked.Goals as goal
+use Rattle.part_tests.proofs.Common.{◌≡◌, ℕ, IsTrue, true, [], ◌∷◌, length, drop, refl, sym, subst, arith, All, slice_index_or, Schedule, Market, HasPlanShape, market_of}
+use Rattle.part_tests.proofs.plan_check_tests.checked.Goals as goal
+
+abbrev HasLengths : ℕ → Schedule → Type 0
+HasLengths periods s = (length s.on ≡ periods) × (length s.power ≡ periods) × (length s.reserve ≡ periods)
+
+abbrev IsSteady : Schedule → Type 0
+IsSteady s = All IsTrue s.on × All (λ (r : ℕ). r ≡ 0) s.reserve
 
 All-one : {X : Type 0} → (P : X → Type 0) (x : X) → P x → All P (x ∷ [])
 All-one P x h = λ k d lt. let e : k ≡ 0 = omega (arith, lt) in subst (λ j. P (slice_index_or (x ∷ []) j d)) (sym e) h

@@ -1,0 +1,11 @@
+-- The names that the proofs of this crate take from other crates, passed on from one place.
+pub use Rattle.std.proofs.Common.{◌≡◌, ℕ, ◌≤◌, ℤ, ◌≤ℤ◌, IsTrue, true, List, [], ◌∷◌, ◌++◌, length, map, drop, refl, sym, ap, ◌∙◌, subst, arith, length-append, rules}
+pub use Rattle.std.proofs.lemmas.List.Elements.{All-map, All-push, All-same}
+pub use Rattle.std.specs.List.{All}
+pub use Rattle.std.specs.Prelude.{slice_index_or}
+pub use Rattle.price_move.specs.Sizes.{IsRowBelow}
+pub use Rattle.uc_model.specs.Data.{Market, Schedule}
+pub use Rattle.uc_model.specs.Laws.{HasPlanShape}
+pub use Rattle.uc_model.specs.Limits.{IsWorth}
+pub use Rattle.uc_model.specs.PlainCases.{market_of, proposal_of}
+pub use Rattle.uc_model.specs.declared.cases.Row.{Row}

@@ -1,0 +1,2 @@
+-- The names from elsewhere that the proofs here cite.
+pub mod Common

@@ -1,0 +1,96 @@
+//! Cases, prices, rows and schedules over one period, from which the tests of several crates begin.
+ghost use Rattle.std.specs.Prelude.{◌≡◌, ◌≤ℤ◌, ◌∷◌, [], pos, neg_ℤ, true, length, IfOk};
+ghost use Rattle.std.specs.List.{All};
+ghost use Rattle.uc_model.specs.Limits.{IsFrom, IsPower, IsTotal, price_limit};
+ghost use Rattle.uc_model.specs.PlainCases.{market_of, proposal_of};
+ghost use Rattle.uc_model.specs.PlainUnits.{prices_of, renewable_of, schedule_of};
+
+use std::alloc::{AllocError, Global};
+use uc_model::cases::{Case, Row};
+use uc_model::lists::{Amounts, Flags, Name, Numbers, Powers};
+use uc_model::units::{BidList, FlatList, NamedFlat, Prices, Renewable, Response, ThermalList};
+
+/// A renewable unit.
+pub fn one_range(alloc: Global, least: i64, most: i64) -> Result<Renewable, AllocError>
+    requires least { IsPower least }
+    requires most { IsPower most }
+    requires range { least ≤ℤ most }
+    ensures { IfOk result (λ r. length (renewable_of r).least ≡ 1) }
+{
+    let least = Numbers::filled(alloc, 1, least)?;
+    let most = Numbers::filled(alloc, 1, most)?;
+    Ok(Renewable { least, most })
+}
+
+/// One period with that demand, that required reserve and a renewable unit of 0 to `most`.
+pub fn one_period(alloc: Global, demand: i64, reserve: i64, most: i64) -> Result<Case, AllocError>
+    requires demand { IsPower demand }
+    requires reserve { IsPower reserve }
+    requires most { IsPower most }
+    ensures periods { IfOk result (λ case. (market_of case).periods ≡ 1) }
+    ensures thermal { IfOk result (λ case. length (market_of case).thermal ≡ 0) }
+    ensures flat { IfOk result (λ case. length (market_of case).flat ≡ 1) }
+    ensures bids { IfOk result (λ case. length (market_of case).bids ≡ 0) }
+{
+    let unit = one_range(alloc, 0, most)?;
+    let name = Name::make(alloc, 0)?;
+    let mut flat = FlatList::make(alloc, 1)?;
+    flat.push(NamedFlat { name, flat: unit });
+    let demand = Numbers::filled(alloc, 1, demand)?;
+    let reserves = Numbers::filled(alloc, 1, reserve)?;
+    let thermal = ThermalList::make(alloc, 0)?;
+    let bids = BidList::make(alloc, 0)?;
+    Ok(Case {
+        periods: 1,
+        demand,
+        reserves,
+        thermal,
+        flat,
+        bids,
+    })
+}
+
+pub fn one_price(alloc: Global, energy: i64, reserve: i64) -> Result<Prices, AllocError>
+    requires energy { IsFrom (neg_ℤ price_limit) price_limit energy }
+    requires reserve { IsFrom (pos 0) price_limit reserve }
+    ensures { IfOk result (λ p. length (prices_of p).energy ≡ 1) }
+{
+    let energy = Numbers::filled(alloc, 1, energy)?;
+    let reserve = Numbers::filled(alloc, 1, reserve)?;
+    Ok(Prices { energy, reserve })
+}
+
+/// A row with no reserve, at a reserve price of 0.
+pub fn one_row(alloc: Global, energy: i64, value: i128, supply: i128) -> Result<Row, AllocError>
+    requires energy { IsFrom (neg_ℤ price_limit) price_limit energy }
+    requires supply { IsTotal supply }
+    ensures horizon { IfOk result (λ row. length (proposal_of row).prices.energy ≡ 1) }
+    ensures supply { IfOk result (λ row. All IsTotal (proposal_of row).supply) }
+    ensures reserve { IfOk result (λ row. All IsTotal (proposal_of row).reserve) }
+    ensures value { IfOk result (λ row. (proposal_of row).value ≡ value) }
+{
+    let prices = one_price(alloc, energy, 0)?;
+    let supply = Amounts::filled(alloc, 1, supply)?;
+    let reserve = Amounts::filled(alloc, 1, 0)?;
+    Ok(Row {
+        prices,
+        value,
+        supply,
+        reserve,
+    })
+}
+
+/// The schedule of a unit that is on.
+pub fn one_response(alloc: Global, power: u32, reserve: u32) -> Result<Response, AllocError>
+    ensures horizon { IfOk result (λ r. length (schedule_of r).on ≡ 1) }
+    ensures schedule { IfOk result (λ r. schedule_of r ≡ record {
+      on = true ∷ [];
+      power = power ∷ [];
+      reserve = reserve ∷ [];
+    }) }
+{
+    let on = Flags::filled(alloc, 1, true)?;
+    let power = Powers::filled(alloc, 1, power)?;
+    let reserve = Powers::filled(alloc, 1, reserve)?;
+    Ok(Response { on, power, reserve })
+}
