@@ -175,9 +175,9 @@ fn power_makes_room_for_reserve(rt: HostRuntime) -> Result<(), Fail> {
 #[test]
 fn costs_are_a_list(rt: HostRuntime) -> Result<(), Fail> {
     let mut costs = SpellCosts::make(rt.alloc(), 2)?;
-    assert_eq!(rt; costs.as_slice(), &[None, None]);
+    assert_eq!(rt; costs.as_slice(), [None, None].as_slice());
     costs.set(1, Some(-7));
-    assert_eq!(rt; costs.as_slice(), &[None, Some(-7)]);
+    assert_eq!(rt; costs.as_slice(), [None, Some(-7)].as_slice());
     costs.clear();
     assert_eq!(rt; costs.len(), 0);
     costs.push(Some(40));
