@@ -349,7 +349,8 @@ impl Board {
         ensures { result ≡ (kept_answer self.now proposal unit).earned }
     {
         board_laws();
-        self.store.earned(task_number(self.terms.units(), proposal, unit))
+        self.store
+            .earned(task_number(self.terms.units(), proposal, unit))
     }
 
     fn answer_into(&self, proposal: u32, unit: u32, into: &mut Answered)
