@@ -72,9 +72,9 @@ fn end_all<R: Wait, G: Gate>(
 
 /// Answers the tasks of a board: each worker, in a thread of its own, claims a few tasks, answers
 /// each by the least best response of its unit, and posts that, until its claim finds the board
-/// finished or halted. Where a thread can't be started, the work is done on this one. `Finished` comes only
-/// where each worker's seat has seen a finished history, and `Halted` only where one has seen a
-/// halt. No worker halts, and all memory is the workers' own.
+/// finished or halted. Where a thread can't be started, the work is done on this one. `Finished`
+/// comes only where each worker's seat has seen a finished history, and `Halted` only where one has
+/// seen a halt. No worker halts, and all memory is the workers' own.
 ///
 /// There is a worker at least, each has a seat of this board and parts that fit its case, and so it
 /// is afterwards. A seat keeps its caller and what it names, the owner's also how many seats were

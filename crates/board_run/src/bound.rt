@@ -47,7 +47,6 @@ fn certify(closed: &Closed, radius: i64, work: &mut Amounts) -> Certified
     rows_are_within();
     one_row_is_chosen();
     run_bounds_hold();
-    closed.is_legal();
     best_range(closed.case(), closed.rows(), closed.chosen(), radius, work)
 }
 

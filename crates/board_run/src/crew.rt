@@ -40,7 +40,8 @@ pub fn hire(
     requires some_period { 1 ≤ periods }
     requires most_periods { periods ≤ MOST_PERIODS }
     requires most_points { points ≤ MOST_POINTS }
-    requires points { All (λ (n : NamedThermalUnit). length n.unit.points ≤ points) (view_of owner).setup.market.thermal }
+    requires points { All (λ (n : NamedThermalUnit). length n.unit.points ≤ points)
+        (view_of owner).setup.market.thermal }
     ensures crew { IfOk result (λ ws. IsCrew (view_of owner).setup board.now ws.items) }
 {
     let last = LastAnswers::shared(alloc, units, periods)?;
@@ -82,9 +83,7 @@ fn close_board(board: SharedBoard, mut owner: Seat, mut others: Vec<Worker>) -> 
 {
     finished_stays_finished();
     join_all(&board, &mut owner, &mut others);
-    let closed = board.close(owner);
-    closed.is_legal();
-    closed
+    board.close(owner)
 }
 
 /// Lets the workers answer every task of a new board, and gives its record and the owner's bench.

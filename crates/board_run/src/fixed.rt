@@ -8,7 +8,8 @@ ghost use Rattle.uc_model.specs.Systems.{IsFeasiblePlan};
 ghost use Rattle.fixed_price.specs.FixedCase.{fixed_market};
 ghost use Rattle.hull_report.specs.FixedText.{told_of};
 ghost use Rattle.hull_report.specs.RightSide.{IsRightSide};
-ghost use Rattle.board_run.specs.Compared.{IsHullSide, IsHeldInput, IsHeldRun, IsFixedSide, AreSides};
+ghost use Rattle.board_run.specs.Compared.{IsHullSide, IsHeldInput, IsHeldRun, IsFixedSide};
+ghost use Rattle.board_run.specs.Compared.{AreSides};
 ghost use Rattle.board_run.specs.Inputs.{planned_in, planned_of, IsPlanned, IsRunInput};
 ghost use Rattle.board_run.specs.Rounds.{IsEnded};
 
@@ -58,7 +59,6 @@ fn own_side(done: Done, room: Prices) -> (Side, Input)
     } = done;
     settled_sides_are_right();
     settlements_are_of_all_units();
-    closed.is_legal();
     let side = chosen_side(&closed, room, settlement);
     let cost = closed.cost();
     let (case, plan) = closed.into_parts();
@@ -106,7 +106,6 @@ fn settled_side(given: &Case, done: Done, room: Prices, earned: Numbers) -> Side
     settled_sides_are_right();
     settlements_are_of_all_units();
     commitments_are_fixed();
-    closed.is_legal();
     let mut side = chosen_side(&closed, room, settlement);
     earn_all(&mut bench, given, &side.prices, &mut buffer, &mut earned);
     settle(

@@ -1,5 +1,5 @@
-//! One run of the price rule: a shared board whose tasks are answered by workers, and the settlement
-//! at the prices that it chooses.
+//! One run of the price rule: a shared board whose tasks are answered by workers, and the
+//! settlement at the prices that it chooses.
 ghost use Rattle.std.specs.Prelude.{◌≡◌, ◌+◌, ◌<◌, ◌≤◌, ℕ, true, length, IfOk};
 ghost use Rattle.board_history.specs.Calls.{own_rows, has_finished};
 ghost use Rattle.board_core.specs.Boards.{setup_for, kept_answer};
@@ -133,7 +133,8 @@ fn earn_at(closed: &Closed, row: u32, earned: &mut Numbers)
     requires last { row ≤ length (own_rows closed.now) }
     requires room { units_in closed.now.setup.market ≤ length earned.old.items + earned.old.spare }
     ensures count { length earned.new.items ≡ units_in closed.now.setup.market }
-    ensures each { (u : ℕ) → u < units_in closed.now.setup.market → int_at earned.new.items u ≡ (kept_answer closed.now row u).earned }
+    ensures each { (u : ℕ) → u < units_in closed.now.setup.market
+        → int_at earned.new.items u ≡ (kept_answer closed.now row u).earned }
 {
     earned.clear();
     for unit in 0..unit_count(closed.case()) {
@@ -153,10 +154,10 @@ fn settle_chosen(closed: &Closed, earned: &mut Numbers, settlement: &mut Settlem
     rows_are_within();
     one_row_is_chosen();
     answers_are_tops();
-    closed.is_legal();
+    let rows = closed.rows();
     let chosen = closed.chosen();
     earn_at(closed, chosen, earned);
-    let row = &closed.rows()[chosen as usize - 1];
+    let row = &rows[chosen as usize - 1];
     settle(
         closed.case(),
         closed.plan(),

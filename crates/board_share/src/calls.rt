@@ -29,8 +29,8 @@ use uc_model::cases::Task;
 use uc_model::units::Answered;
 
 impl Seat {
-    /// The number of its caller, which is below the number of callers. At any time a seat has seen a
-    /// legal history.
+    /// The number of its caller, which is below the number of callers. At any time a seat has seen
+    /// a legal history.
     pub fn caller(&self) -> u32
         ensures number { result ≡ (view_of self.now).caller }
         ensures caller { (view_of self.now).caller < (view_of self.now).setup.callers }

@@ -8,8 +8,6 @@ pub mod ReadLaws
 pub mod AnswerLaws
 -- answers.rt: the numbers of a run that words give are within their limits
 pub mod WordSizes
--- answers.rt: a feasible plan has the shape that its cost is taken of
-pub mod PlanShapes
 -- answers.rt, laws.rt: the audit of a report
 pub mod AuditLaws
 -- end.rt: what is written of a run that has ended is the text of a right report

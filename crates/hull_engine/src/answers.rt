@@ -33,6 +33,7 @@ use plan_check::costs::cost_of_plan;
 use std::alloc::{AllocError, Global};
 use std::sync::Wait;
 use std::thread::Threads;
+use uc_model::laws::feasible_plans_have_shape;
 
 /// What a command is to print.
 #[derive(Drop)]
@@ -182,6 +183,7 @@ fn made_input(alloc: Global, number: u64) -> Result<Input, AllocError>
     ensures made { IfOk result (λ input. planned_of input ≡ made_case number) }
     ensures planned { IfOk result (λ input. IsPlanned input) }
 {
+    feasible_plans_have_shape();
     let (case, plan) = make_case(alloc, number)?;
     let cost = cost_of_plan(&case, &plan);
     Ok(Input { case, plan, cost })

@@ -7,7 +7,6 @@ ghost use Rattle.hull_report.specs.RecordReport.{chosen_of, value_of};
 
 use crate::record::choice_of;
 use board_core::Closed;
-use board_history::laws::rows_are_within;
 use gap_proof::Certified;
 use hull_io::{Sink, WriteFailed};
 use report_form::{Part, write_parts};
@@ -88,8 +87,6 @@ pub fn write_bound<S: Sink>(
         (bound_text (length (own_rows closed.now)) (chosen_of closed.now) (value_of closed.now)
         (unsigned_abs radius) certified.now.first certified.now.last certified.now.bound) }
 {
-    closed.is_legal();
-    rows_are_within();
     let choice = choice_of(closed);
     let lines = BoundLines {
         proposals: choice.proposals,

@@ -52,7 +52,6 @@ pub fn chosen_side(closed: &Closed, room: Prices, settlement: Settlement) -> Sid
     ensures horizon { length (prices_of result.prices).energy ≡ closed.now.setup.market.periods }
     ensures settlement { result.settlement ≡ settlement }
 {
-    closed.is_legal();
     rows_are_within();
     let choice = choice_of(closed);
     let row = &closed.rows()[choice.chosen as usize - 1];

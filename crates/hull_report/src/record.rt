@@ -8,6 +8,7 @@ ghost use Rattle.uc_model.specs.PlainUnits.{schedule_of};
 ghost use Rattle.uc_model.specs.declared.limits.TheConstants.{MOST_PROPOSALS};
 ghost use Rattle.report_form.specs.ReportText.{rows_text, head_text, chosen_text, thermal_text};
 ghost use Rattle.report_form.specs.ReportText.{renewable_text, bid_text, report_text};
+ghost use Rattle.hull_report.specs.BoundText.{IsTold};
 ghost use Rattle.hull_report.specs.RecordReport.{line_of, lines_from, thermal_names};
 ghost use Rattle.hull_report.specs.RecordReport.{renewable_names, bid_names, chosen_of, value_of};
 ghost use Rattle.hull_report.specs.RecordReport.{report_of, HasNumbers};
@@ -36,7 +37,7 @@ pub(crate) struct Choice {
     pub(crate) gap: i128,
 }
 
-// What the record of a finished board chooses.
+// What the record of a finished board chooses. The value is at most 10^35 in magnitude.
 pub(crate) fn choice_of(closed: &Closed) -> Choice
     requires { has_finished closed.now ≡ true }
     ensures proposals { result.proposals ≡ length (own_rows closed.now) }
@@ -45,9 +46,9 @@ pub(crate) fn choice_of(closed: &Closed) -> Choice
     ensures first { 1 ≤ result.chosen }
     ensures last { result.chosen ≤ length (own_rows closed.now) }
     ensures value { result.value ≡ value_of closed.now }
+    ensures told { IsTold result.value }
     ensures gap { result.gap ≡ closed.now.setup.cost -ℤ value_of closed.now }
 {
-    closed.is_legal();
     finished_has_row();
     finished_is_run();
     rows_are_within();

@@ -4,7 +4,7 @@ use Rattle.board_run.proofs.crew.close_board.Goals as goal
 
 pub returns-clause-finished : goal.returns-clause-finished
 returns-clause-finished c =
-    let same = c.close-closed.ensures in
+    let same = c.close.ensures.content in
     subst (λ (x : Content). has_finished x ≡ true) (sym same)
     (all_finished c.finished_stays_finished.ensures c.args.board c.join_all.new.owner c.join_all.ensures.out
-    (subst (λ (x : Content). IsLegalHistory x.setup x.events) same c.is_legal.ensures.legal))
+    (subst (λ (x : Content). IsLegalHistory x.setup x.events) same c.close.ensures.legal))

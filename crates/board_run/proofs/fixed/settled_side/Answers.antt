@@ -24,9 +24,9 @@ settle-requires-clause-payments c =
 pub returns-clause-right : goal.returns-clause-right
 returns-clause-right c =
     (held_side c.settled_sides_are_right.ensures c.settlements_are_of_all_units.ensures (market_of c.args.given.now) (schedules_of c.plan.result.now) c.args.done c.chosen_side-side.result c.settle.new.into
-    c.requires.feasible c.requires.ended c.is_legal.ensures.setup c.chosen_side-side.ensures.choice c.plan.ensures c.settle.ensures.settled).0
+    c.requires.feasible c.requires.ended c.plan.ensures.setup c.chosen_side-side.ensures.choice c.plan.ensures.plan c.settle.ensures.settled).0
 
 pub returns-clause-count : goal.returns-clause-count
 returns-clause-count c =
     (held_side c.settled_sides_are_right.ensures c.settlements_are_of_all_units.ensures (market_of c.args.given.now) (schedules_of c.plan.result.now) c.args.done c.chosen_side-side.result c.settle.new.into
-    c.requires.feasible c.requires.ended c.is_legal.ensures.setup c.chosen_side-side.ensures.choice c.plan.ensures c.settle.ensures.settled).1
+    c.requires.feasible c.requires.ended c.plan.ensures.setup c.chosen_side-side.ensures.choice c.plan.ensures.plan c.settle.ensures.settled).1

@@ -1,5 +1,4 @@
-use Rattle.hull_engine.proofs.PlanShapes.{feasible_has_shape}
 use Rattle.hull_engine.proofs.answers.made_input.Goals as goal
 
 pub cost_of_plan-cost-requires-clause-shape : goal.cost_of_plan-cost-requires-clause-shape
-cost_of_plan-cost-requires-clause-shape c = feasible_has_shape _ _ c.in_ok-case.ensures.feasible
+cost_of_plan-cost-requires-clause-shape c = c.feasible_plans_have_shape.ensures _ _ c.in_ok-case.ensures.feasible

@@ -5,15 +5,15 @@ use Rattle.hull_report.proofs.fixed.chosen_side.Goals as goal
 pub copy_prices-requires : goal.copy_prices-requires
 copy_prices-requires c =
     let e = c.choice_of-choice.ensures in
-    (chosen_row_at c.rows_are_within.ensures c.args.closed.now c.rows.result.now c.choice_of-choice.result.chosen c.index-rows-choice.result c.is_legal.ensures.setup c.is_legal.ensures.legal
-    c.rows.ensures e.chosen e.first e.last c.index-rows-choice.is).horizon ∙ sym c.requires.horizon
+    (chosen_row_at c.rows_are_within.ensures c.args.closed.now c.rows.result.now c.choice_of-choice.result.chosen c.index-rows-choice.result c.rows.ensures.setup c.rows.ensures.legal
+    c.rows.ensures.rows e.chosen e.first e.last c.index-rows-choice.is).horizon ∙ sym c.requires.horizon
 
 pub returns-clause-choice : goal.returns-clause-choice
 returns-clause-choice c =
     let e = c.choice_of-choice.ensures in
     let row = c.index-rows-choice.result in
-    let at = chosen_row_at c.rows_are_within.ensures c.args.closed.now c.rows.result.now c.choice_of-choice.result.chosen row c.is_legal.ensures.setup c.is_legal.ensures.legal
-    c.rows.ensures e.chosen e.first e.last c.index-rows-choice.is in
+    let at = chosen_row_at c.rows_are_within.ensures c.args.closed.now c.rows.result.now c.choice_of-choice.result.chosen row c.rows.ensures.setup c.rows.ensures.legal
+    c.rows.ensures.rows e.chosen e.first e.last c.index-rows-choice.is in
     record {
       proposals = e.proposals;
       chosen = e.chosen;
@@ -27,5 +27,5 @@ pub returns-clause-horizon : goal.returns-clause-horizon
 returns-clause-horizon c =
     let e = c.choice_of-choice.ensures in
     ap (λ (π : PriceLists). length π.energy) c.copy_prices.ensures
-    ∙ (chosen_row_at c.rows_are_within.ensures c.args.closed.now c.rows.result.now c.choice_of-choice.result.chosen c.index-rows-choice.result c.is_legal.ensures.setup c.is_legal.ensures.legal
-    c.rows.ensures e.chosen e.first e.last c.index-rows-choice.is).horizon
+    ∙ (chosen_row_at c.rows_are_within.ensures c.args.closed.now c.rows.result.now c.choice_of-choice.result.chosen c.index-rows-choice.result c.rows.ensures.setup c.rows.ensures.legal
+    c.rows.ensures.rows e.chosen e.first e.last c.index-rows-choice.is).horizon

@@ -15,7 +15,7 @@ returns-in_err-write_head g c =
 
 pub write_rows-requires : goal.write_rows-requires
 write_rows-requires g c =
-    let long = ap length c.rows.ensures in
+    let long = ap length c.rows.ensures.rows in
     omega (arith, c.requires.proposals, c.requires.most, long, length-map c.rows.result.now proposal_of)
 
 pub returns-in_err-write_rows : goal.returns-in_err-write_rows
@@ -26,7 +26,7 @@ returns-in_err-write_rows g c =
     let rows = rows_text 1 (own_rows c0) in
     let chosen = chosen_text c.args.choice.chosen c.args.choice.value in
     second_of_three c.texts_add_up.ensures head rows chosen _ c.from_residual-in_err-write_rows.ensures.0
-    (subst (FallsShort g.S.Sink.held g.S.Sink.faults g.S.Sink.last c.write_head.new.out c.write_rows.new.out) (ap (rows_text 1) c.rows.ensures) c.in_err-write_rows.ensures.err)
+    (subst (FallsShort g.S.Sink.held g.S.Sink.faults g.S.Sink.last c.write_head.new.out c.write_rows.new.out) (ap (rows_text 1) c.rows.ensures.rows) c.in_err-write_rows.ensures.err)
     (subst (Gains g.S.Sink.held g.S.Sink.faults c.args.out.now c.write_head.new.out)
     (λ i. head_text (e.periods i) (e.units i) (e.budget i) (e.ahead i) (e.cost i) (e.proposals i)) c.in_ok-write_head.ensures.ok)
 
@@ -38,6 +38,6 @@ returns g c =
     let rows = rows_text 1 (own_rows c0) in
     let chosen = chosen_text c.args.choice.chosen c.args.choice.value in
     last_of_three c.texts_add_up.ensures head rows chosen _ (rw (to_z-of_z w128 c.args.choice.value (search rules)) at c.write_chosen.ensures)
-    (subst (Gains g.S.Sink.held g.S.Sink.faults c.write_head.new.out c.write_rows.new.out) (ap (rows_text 1) c.rows.ensures) c.in_ok-write_rows.ensures.ok)
+    (subst (Gains g.S.Sink.held g.S.Sink.faults c.write_head.new.out c.write_rows.new.out) (ap (rows_text 1) c.rows.ensures.rows) c.in_ok-write_rows.ensures.ok)
     (subst (Gains g.S.Sink.held g.S.Sink.faults c.args.out.now c.write_head.new.out)
     (λ i. head_text (e.periods i) (e.units i) (e.budget i) (e.ahead i) (e.cost i) (e.proposals i)) c.in_ok-write_head.ensures.ok)
