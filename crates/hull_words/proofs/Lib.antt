@@ -4,11 +4,11 @@ pub mod Common
 pub mod TextLemmas
 -- reading.rt: how many values are set, and what one step of the reader adds
 pub mod Counts
--- reading.rt: one step of the reader is the rules at that place
+-- reading.rt: one step of the reader is the rules of that word
 pub mod Steps
 -- reading.rt: the reader's pass gives what the rules give
 pub mod Exact
--- reading.rt: the pass over the words, place by place, as the reader's loop makes it
-pub mod Places
+-- reading.rt: the pass over the words, word by word, as the reader's loop makes it
+pub mod Pass
 -- The lemmas that answers cite.
 pub mod Lemmas

@@ -1,4 +1,4 @@
--- One step of the reader is the rules at that place.
+-- One step of the reader is the rules of that word.
 use Rattle.hull_words.proofs.Common.{◌≡◌, ℕ, Bool, true, false, ◌||◌, cond, List, [], ◌∷◌, Option, Some, None, is_some, Result, Ok, Err, refl, sym, ap, subst, ◌∙◌, find, bytes_eq-Decides, same_Some, CommandKind, Price, Check, Try, Bound, Fixed, Audit, OptionKind, Case, Schedule, Report, Proposals, Workers, Ahead, Radius, WordCode, RepeatedOption, NoValue, BadNumber, options, spelling, is_option, option_name, own_value, takes_next, can_be_value, Found, option_in, is_named, is_given, or_else, value_at, setting, fits, option_fault, is_value_after, plain_words, try_number, plain_fault, fault_at, first_of, value_of, found_in, is_set, with_number, set_to, value_step, option_step, plain_step, word_step}
 use Rattle.std.specs.Str.{bytes_eq}
 use Rattle.hull_words.proofs.Counts.{ok_is, number_ok}
@@ -145,12 +145,12 @@ agrees-set Radius text earlier grown found after a g e =
 
 -- ---- one step
 
--- what a step leaves for the next place: the values so far, and whether the next word is a value
+-- what a step leaves for the next word: the values so far, and whether the next word is a value
 abbrev pub Goes : Bool → List (List ℕ) → List (List ℕ) → Found → Type 0
 Goes false earlier later found = Agrees earlier found
 Goes true earlier later found = (value : List ℕ) × (first_of later ≡ Some value) × (is_option value ≡ false) × Agrees (value ∷ earlier) found
 
--- what a step answers is the rules at that place
+-- what a step answers is the rules of that word
 abbrev pub Follows : CommandKind → List (List ℕ) → List ℕ → List (List ℕ) → Result Found WordCode → Type 0
 Follows command earlier word later (Err code) = fault_at command earlier word (first_of later) ≡ Some code
 Follows command earlier word later (Ok after) = (fault_at command earlier word (first_of later) ≡ None) × Goes (takes_next word) (word ∷ earlier) later after

@@ -102,20 +102,21 @@ word_step command word next found =
     if is_option word then option_step (option_in command (option_name word)) (value_at word next)
     found else plain_step command word found
 
--- a step that failed is a fault at its place, and the others go on
+-- a step that failed is a fault at its position, and the others go on
 abbrev pub then_on : Result Found WordCode → ℕ → (Found → Result Found WordFault) →
     Result Found WordFault
-then_on (Err code) place go = Err (fault code place)
-then_on (Ok found) place go = go found
+then_on (Err code) position go = Err (fault code position)
+then_on (Ok found) position go = go found
 
--- the words from a place on, where the first of them is the value of the option before, or not
+-- the words from a position on, where the first of them is the value of the option before, or not
 unfoldable pub read_from : CommandKind → ℕ → Bool → List (List ℕ) → Found → Result Found WordFault
-read_from command place true [] found = Ok found
-read_from command place false [] found = Ok found
-read_from command place true (word ∷ later) found = read_from command (place + 1) false later found
-read_from command place false (word ∷ later) found =
-    then_on (word_step command word (first_of later) found) place
-    (λ found. read_from command (place + 1) (takes_next word) later found)
+read_from command position true [] found = Ok found
+read_from command position false [] found = Ok found
+read_from command position true (word ∷ later) found =
+    read_from command (position + 1) false later found
+read_from command position false (word ∷ later) found =
+    then_on (word_step command word (first_of later) found) position
+    (λ found. read_from command (position + 1) (takes_next word) later found)
 
 -- what a function returned, its value seen by view
 abbrev pub seen : {X Y E : Type 0} → (X → Y) → Result X E → Result Y E

@@ -1,5 +1,6 @@
--- The command that a list of words gives, or its first fault (this project's profile). A rule at a
--- place looks at that word, the next one and the words before it, here from the nearest on.
+-- The command that a list of words gives, or its first fault (this project's profile). The rule of
+-- a word looks at it, the next one and the words before it, here from the nearest on. Positions
+-- count words from 1, the command being the first.
 use Rattle.std.specs.Prelude.{◌≡◌, ℕ, ◌+◌, Bool, true, false, ◌&&◌, ◌||◌, List, [], ◌∷◌, length}
 use Rattle.std.specs.Prelude.{Option, Some, None, is_some, option_and_then, map, Result, Ok, Err}
 use Rattle.std.specs.Prelude.{if◌then◌else◌}
@@ -96,7 +97,7 @@ abbrev pub plain_fault : CommandKind → List (List ℕ) → List ℕ → Option
 plain_fault Try [] word = if is_some (try_number word) then None else Some BadNumber
 plain_fault _ _ word = Some StrayWord
 
--- ---- one place after the command
+-- ---- one word after the command
 
 unfoldable pub fault_at : CommandKind → List (List ℕ) → List ℕ → Option (List ℕ) → Option WordCode
 fault_at command earlier word next =
@@ -111,17 +112,17 @@ abbrev pub first_of : List (List ℕ) → Option (List ℕ)
 first_of [] = None
 first_of (word ∷ words) = Some word
 
--- the fault of a code at a place
+-- the fault of a code at a position
 abbrev pub fault : WordCode → ℕ → WordFault
-fault code place = record { code = code; place = place }
+fault code position = record { code = code; place = position }
 
--- the fault at a place, or else that of the places after it
+-- the fault at a position, or else that of the words after it
 abbrev pub or_later : Option WordCode → ℕ → Option WordFault → Option WordFault
-or_later None place later = later
-or_later (Some code) place later = Some (fault code place)
+or_later None position later = later
+or_later (Some code) position later = Some (fault code position)
 
--- the fault of the first place that has one, where earlier stands before the words; the command is
--- at place 1
+-- the fault of the first word that has one, where earlier stands before the words; the command is
+-- at position 1
 unfoldable pub first_fault : CommandKind → List (List ℕ) → List (List ℕ) → Option WordFault
 first_fault command earlier [] = None
 first_fault command earlier (word ∷ later) =

@@ -41,8 +41,8 @@ impl WordCode {
 #[derive(Clone, Copy, Debug, PartialEq, Eq, Drop)]
 pub struct WordFault {
     pub code: WordCode,
-    /// The word in fault, from 1; 0 where there is no word, and the number of words where something
-    /// is missing.
+    /// The position of the word in fault, from 1; 0 where there is no word, and the number of words
+    /// where something is missing.
     pub place: u32,
 }
 

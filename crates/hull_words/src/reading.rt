@@ -93,7 +93,7 @@ fn word_at(words: &[String], index: usize) -> Option<&str>
 }
 
 /// Goes past one word, and says whether the next one is its value.
-fn read_place<'a>(
+fn pass_word<'a>(
     command: CommandKind,
     words: &'a [String],
     index: usize,
@@ -132,7 +132,7 @@ fn read_later<'a>(command: CommandKind, words: &'a [String]) -> Result<Given<'a>
     let mut given = Given::nothing();
     let mut is_value = false;
     for index in 0..words.len() {
-        let (read, takes_next) = read_place(command, words, index, is_value, given)?;
+        let (read, takes_next) = pass_word(command, words, index, is_value, given)?;
         given = read;
         is_value = takes_next;
     }

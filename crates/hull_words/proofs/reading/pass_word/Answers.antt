@@ -2,7 +2,7 @@ use Rattle.hull_words.proofs.Common.{sym, drop, ◌+◌, string_bytes, texts, fo
 use Rattle.std.specs.Option.{option_copied}
 use Rattle.hull_words.proofs.Counts.{word_step-count}
 use Rattle.hull_words.proofs.Lemmas.{texts-drop, past_value, past_word, at_fault, few_more}
-use Rattle.hull_words.proofs.reading.read_place.Goals as goal
+use Rattle.hull_words.proofs.reading.pass_word.Goals as goal
 
 pub returns-then-is_value-clause-ok : goal.returns-then-is_value-clause-ok
 returns-then-is_value-clause-ok c = rw c.if-is_value.true (past_value c.args.command c.args.words.now c.args.index (found_so_far c.args.given) c.requires.within)

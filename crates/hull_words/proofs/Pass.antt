@@ -1,4 +1,4 @@
--- The pass over the words, place by place, as the reader's loop makes it.
+-- The pass over the words, word by word, as the reader's loop makes it.
 use Rattle.hull_words.proofs.Common.{◌≡◌, ℕ, ◌+◌, ◌*◌, ◌<◌, ◌≤◌, Bool, true, false, List, [], ◌∷◌, length, drop, get_or, Option, Some, None, Result, Ok, Err, refl, sym, ap, ◌∙◌, arith, add-one, String, string_bytes, CommandKind, WordCode, NoCommand, UnknownCommand, WordFault, command_named, takes_next, Found, asked_from, first_of, fault, texts, words_of, values_of, asked_of, or_missing, flag, nothing, word_step, read_from}
 use Rattle.std.specs.Global.{Global}
 use Rattle.std.proofs.Math.Seq.{drop-cons}
@@ -22,18 +22,18 @@ pub past_value : (command : CommandKind) (words : List (String Global)) (i : ℕ
 unfolding read_from
 past_value command words i found lt =
     let within : i < length (texts words) = omega (arith, length-map words string_bytes) in
-    let place : i + 2 + 1 ≡ i + 3 = omega arith in
-    rw (drop-cons (texts words) i [] within, ← add-one i) (ap (λ (p : ℕ). read_from command p false (drop (i + 1) (texts words)) found) place)
+    let position : i + 2 + 1 ≡ i + 3 = omega arith in
+    rw (drop-cons (texts words) i [] within, ← add-one i) (ap (λ (p : ℕ). read_from command p false (drop (i + 1) (texts words)) found) position)
 
 -- past an option or a number
 pub past_word : (command : CommandKind) (texts later : List (List ℕ)) (word text : List ℕ) (next : Option (List ℕ)) (i : ℕ) (b : Bool) (found after : Found) → texts ≡ word ∷ later → text ≡ word → next ≡ first_of later
     → Ok after ≡ word_step command text next found → b ≡ takes_next text → read_from command (i + 2) false texts found ≡ read_from command (i + 3) b later after
 unfolding read_from
 past_word command texts later word text next i b found after e t n step takes =
-    let place : i + 2 + 1 ≡ i + 3 = omega arith in
+    let position : i + 2 + 1 ≡ i + 3 = omega arith in
     let step_here : word_step command word (first_of later) found ≡ Ok after = sym (step ∙ ap (λ (x : List ℕ). word_step command x next found) t ∙ ap (λ (y : Option (List ℕ)). word_step command word y found) n) in
     let takes_here : takes_next word ≡ b = sym (takes ∙ ap (λ (x : List ℕ). takes_next x) t) in
-    rw (e, step_here, takes_here) (ap (λ (p : ℕ). read_from command p b later after) place)
+    rw (e, step_here, takes_here) (ap (λ (p : ℕ). read_from command p b later after) position)
 
 -- a fault ends the pass
 pub at_fault : (command : CommandKind) (texts later : List (List ℕ)) (word text : List ℕ) (next : Option (List ℕ)) (i : ℕ) (found : Found) (code : WordCode) → texts ≡ word ∷ later → text ≡ word → next ≡ first_of later
@@ -43,18 +43,18 @@ at_fault command texts later word text next i found code e t n step =
     let step_here : word_step command word (first_of later) found ≡ Err code = sym (step ∙ ap (λ (x : List ℕ). word_step command x next found) t ∙ ap (λ (y : Option (List ℕ)). word_step command word y found) n) in
     rw (e, step_here) refl
 
-past_all : (command : CommandKind) (place : ℕ) (b : Bool) (found : Found) → read_from command place b [] found ≡ Ok found
+past_all : (command : CommandKind) (position : ℕ) (b : Bool) (found : Found) → read_from command position b [] found ≡ Ok found
 unfolding read_from
-past_all command place true found = refl
-past_all command place false found = refl
+past_all command position true found = refl
+past_all command position false found = refl
 
 -- the end of the words
-pub at_end : (command : CommandKind) (words : List (String Global)) (i place : ℕ) (b : Bool) (found : Found) → length words ≤ i → read_from command place b (drop i (texts words)) found ≡ Ok found
-at_end command words i place b found le =
+pub at_end : (command : CommandKind) (words : List (String Global)) (i position : ℕ) (b : Bool) (found : Found) → length words ≤ i → read_from command position b (drop i (texts words)) found ≡ Ok found
+at_end command words i position b found le =
     let past : length (texts words) ≤ i = omega (arith, length-map words string_bytes) in
-    rw (drop_of_length-le (texts words) past) (past_all command place b found)
+    rw (drop_of_length-le (texts words) past) (past_all command position b found)
 
--- the values set bound the places
+-- the values set bound the positions
 pub few_more : (i before after : ℕ) (was b : Bool) → was ≡ false → i + flag was ≤ 2 * before → after ≡ before + 1 → i + 1 + flag b ≤ 2 * after
 few_more i before after was b unset few more = omega (arith, flag_bound b, ap flag unset)
 
