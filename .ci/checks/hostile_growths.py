@@ -1,100 +1,174 @@
 #!/usr/bin/env python3
 """Refuses each allocation of each crate's tests in turn: a test then ends as it does with all memory, or says that memory is wanting.
 
-It runs the tests that the gate, or `rt test` in a crate, has built.
+It runs the tests that the gate, or `rt test` in a crate, has built, side by side, and prints tables in Markdown.
 
-usage: hostile_growths.py [--most N] [--jobs JOBS] [NAME..]
+usage: hostile_growths.py [--minutes M] [--most N] [--jobs JOBS] [--seed SEED] [--test WORD] [--at NUMBER] [NAME..]
 
-NAME is a crate whose tests are built, and each of them where none is named. With --most only N allocations of a test are refused, one as far
-from the next as can be. Prints how many allocations each crate's tests make, how many of them were refused, and how the tests ended; the
-status is 1 where one ended otherwise.
+NAME is a crate whose tests are built, and each of them where none is named; with --test only the tests whose names have the word. The start of
+a thread counts as an allocation. For M minutes each test gets as much time as any other, until all of its allocations are refused: of a test
+that needs more, those that the seed tells come first. With --most only N of a test are refused. --at refuses one allocation of each test, and
+prints all that it then says. The status is 1 where a test ended otherwise, or didn't end.
 """
 import argparse
 import collections
 import glob
 import os
+import random
 import re
+import resource
 import shutil
 import signal
+import struct
 import subprocess
 import sys
 import tempfile
+import threading
+import time
 from concurrent.futures import ThreadPoolExecutor
 
 from built import ROOT
-from hostile_memory import least_that, refuser_in
+from hostile_memory import refuser_in
 
-# What a test says that ended for want of memory: the error, status 7 of the program that it runs, or what stands for it in the
-# answers that the tests of this crate compare.
-WANTING = rb"AllocError|AllocFailed|OutOfMemory|want of memory|error: Memory$|left: 7$"
-OF_CRATE = {
-    # 'fault 7 ', or cut to 'fa', or which of the failing calls the run wasn't as due at
-    "hull_cli": rb"left: \[102, 97(, 117, 108, 116, 32, 55, |\]$)|left: Some\(\d+\)$",
-    "hull_io": rb"left: Err\(Memory\)$",
+# What a test says that hands on the error of what it calls, or compares it with what is due.
+WANTING = {101: rb"^[Ee]rror: .*\b(AllocError|AllocFailed|Memory|OutOfMemory)\b", -signal.SIGABRT: rb"^ *left: (Err|Some)\(Memory\)$"}
+# What stands for want of memory in what other tests compare, by the crate that they are of, or the module of tests that is named after it.
+STANDS_FOR_WANTING = {
+    # 'fault 7 memory', or status 7, or which of the runs that fail wasn't as due, whose end is not told
+    "hull_cli": rb"left: (7|\[102, 97, 117, 108, 116, 32, 55, 32, 109, 101, 109, 111, 114, 121, 10\]|Some\(\d+\))$",
     "hull_words": rb"left: \(0, 0\)$",
     "report_read": rb"left: None$|assertion failed: false$",
-    # a thread that can't be started: the caller does its work
-    "task_deal": rb"failed: !job.in_vain$|left: 2$",
-    "uc_text": rb"left: \(1, 0\)$|left: 1$|^ *no object$",
-    "whole_tests": rb"left: Some\(Memory\)$|failed: closed.finished\(\)$",  # a thread halted
+    # the code that this test gives it
+    "uc_text": rb"left: (1|\(1, 0\))$",
+    # one of four threads has halted the others
+    "threads": rb"assertion failed: closed\.finished\(\)$",
 }
-MOST = 1 << 24
-SECONDS = 120
+# What tests of several threads at once say, by their names, where one of them couldn't be started, and another did its work.
+STANDS_FOR_ALONE = {
+    "two_workers_answer_at_once": rb"left: 1$",
+    "four_workers_answer_at_once": rb"left: [123]$",
+    "two_jobs_run_on_two_threads": rb"left: 2$|assertion failed: !job\.in_vain$",
+    "both_jobs_go_on_after_their_first_number": rb"assertion failed: !job\.in_vain$",
+}
+ENDS = SAME, MEMORY, ALONE, OTHERWISE = "as with all memory", "want of memory", "a thread too few", "otherwise"
+# A run that takes longer than so many seconds, and than so many times what the test takes with all memory, hangs; with all memory it has longer.
+SECONDS, TIMES, SECONDS_WHOLE = 10, 10, 120
+# So many wrong ends of one test are enough.
+ENOUGH = 10
+NOTES = struct.Struct("4q")
 
 
-class Tests:
-    """The built tests of a crate."""
+class Ended:
+    """How a run ended: the status, or None where it was stopped, what it said, and the notes of the library that refuses."""
 
-    def __init__(self, name, library, room):
-        self.name, self.library, self.room = name, library, room
-        self.program = f"{ROOT}/crates/{name}/out/{name}_tests"
-        listed = subprocess.run([self.program, "--list"], capture_output=True, check=True).stdout.decode()
-        self.tests = re.findall(r"^(\S+): test$", listed, re.M)
+    def __init__(self, status, said, notes, seconds):
+        self.status, self.said, self.seconds = status, said[-4000:], seconds
+        self.made, self.refused, self.size, self.started = notes
 
-    def ended(self, test, refused=None):
-        """'passed', 'wanting', or what the test said that ended otherwise; with the allocation of that number refused, or with a minus sign it and
-        all later ones."""
-        env = dict(os.environ)
-        if refused is not None:
-            env.update(LD_PRELOAD=self.library, REFUSED=str(refused))
-        how = {"cwd": self.room, "env": env, "stdin": subprocess.DEVNULL, "capture_output": True, "timeout": SECONDS}
-        try:
-            run = subprocess.run([self.program, test], check=False, **how)
-        except subprocess.TimeoutExpired:
-            return "no end"
-        if run.returncode == 0:
-            return "passed"
-        said = run.stdout + run.stderr
-        # A crate of tests over others has a module for each.
-        signs = [WANTING, *{OF_CRATE[it] for it in (self.name, test.partition("::")[0].removesuffix("_tests")) if it in OF_CRATE}]
-        # An assertion that doesn't hold aborts the test.
-        if (run.returncode > 0 or run.returncode == -signal.SIGABRT) and re.search(b"|".join(signs), said, re.M):
-            return "wanting"
-        return f"status {run.returncode}: {said[-300:].decode(errors='replace')}"
+    def lines(self):
+        """How it ended, and the last lines of what it said."""
+        how = f"status {self.status}" if self.status is not None else "hangs"
+        how = signal.Signals(-self.status).name if self.status and self.status < 0 else how
+        said = [it.strip()[:150] for it in self.said.decode(errors="replace").splitlines()]
+        return [how, *[it for it in said if it][-5:]]
 
-    def allocations(self, test):
-        """How many allocations the test makes."""
-        return least_that(lambda number: self.ended(test, -number - 1) == "passed", 0, MOST, 1)
+    def kind(self):
+        """Its lines without what differs from one run to the next: the error, or the condition or the left side that was compared."""
+        how, *said = self.lines()
+        told = [it[:60] for it in said if re.match(r"[Ee]rror: |left: |assertion failed: ", it)]
+        return re.sub(r"Some\(\d+\)", "Some(..)", ", ".join([how, *told]))
 
 
-def refuse(tests, test, most):
-    """How many allocations the test makes, and how it ended with each of them refused, or so many of them."""
-    if tests.ended(test) != "passed":
-        return 0, [(test, 0, tests.ended(test))]
-    made = tests.allocations(test)
-    numbers = range(1, made + 1, max(1, -(-made // most)))
-    return made, [(test, number, tests.ended(test, number)) for number in numbers]
+class Test:
+    """One test of a crate, and what came of its runs."""
+
+    def __init__(self, crate, program, name):
+        self.crate, self.program, self.name = crate, program, name
+        self.of = [crate, *(it.removesuffix("_tests") for it in name.split("::"))]
+        self.made, self.started, self.seconds = 0, 0, 0.0
+        self.todo, self.spent = [], 0.0
+        self.tried, self.ends, self.kinds, self.wrong = 0, collections.Counter(), collections.Counter(), []
+
+    def says(self, ended, table):
+        return any(re.search(table[it], ended.said, re.M) for it in self.of if it in table)
+
+    def end(self, ended):
+        """Which end it is. A test whose result is an error ends in 101, and an assertion that doesn't hold aborts it."""
+        if ended.status == 0:
+            return SAME
+        if ended.refused and ended.status in WANTING and re.search(WANTING[ended.status], ended.said, re.M):
+            return MEMORY
+        if ended.refused and ended.status == -signal.SIGABRT:
+            if self.says(ended, STANDS_FOR_WANTING):
+                return MEMORY
+            if ended.started < self.started and self.says(ended, STANDS_FOR_ALONE):
+                return ALONE
+        return OTHERWISE
+
+    def note(self, number, ended):
+        self.spent += ended.seconds - self.seconds
+        # With threads a run may make fewer allocations than another, and then none is refused.
+        if ended.refused or ended.status != 0:
+            end = self.end(ended)
+            self.tried += 1
+            self.ends[end] += 1
+            self.kinds[end, ended.kind()] += 1
+            self.wrong += [(number, ended)] * (end == OTHERWISE)
 
 
-def refuse_all(tests, most, jobs):
-    """How many allocations the tests of the crate make, how often they ended each way, and those that ended otherwise."""
-    made, ends, wrong = 0, collections.Counter(), []
-    with ThreadPoolExecutor(jobs) as pool:
-        for count, runs in pool.map(lambda test: refuse(tests, test, most), tests.tests):
-            made += count
-            ends.update(how if how in ("passed", "wanting") else "otherwise" for _, _, how in runs)
-            wrong += [it for it in runs if it[2] not in ("passed", "wanting")]
-    return made, ends, wrong
+class Runner:
+    """Runs tests side by side, each in a folder of its own."""
+
+    def __init__(self, room, library, jobs):
+        self.room, self.library, self.jobs, self.lock = room, library, jobs, threading.Lock()
+
+    def run(self, test, number, folder):
+        """The test's end, with the allocation of that number refused; 0 refuses none."""
+        notes = f"{folder}.notes"
+        with open(notes, "wb") as it:
+            it.write(bytes(NOTES.size))
+        env = {**os.environ, "LD_PRELOAD": self.library, "NOTES": notes, "REFUSED": str(number or 1 << 60)}
+        how = {"cwd": folder, "env": env, "stdin": subprocess.DEVNULL, "stdout": subprocess.PIPE, "stderr": subprocess.STDOUT}
+        limit = max(SECONDS, TIMES * test.seconds) if number else SECONDS_WHOLE
+        began = time.monotonic()
+        with subprocess.Popen([test.program, test.name], **how) as run:
+            try:
+                said, _ = run.communicate(timeout=limit)
+                status = run.returncode
+            except subprocess.TimeoutExpired:
+                run.kill()
+                status, (said, _) = None, run.communicate()
+        with open(notes, "rb") as it:
+            return Ended(status, said, NOTES.unpack(it.read()), time.monotonic() - began)
+
+    def run_all(self, next_run, note):
+        """Makes the runs that are told, a test and a number each, until none is, and notes their ends."""
+
+        def one_after_another():
+            folder = tempfile.mkdtemp(dir=self.room)
+            while True:
+                with self.lock:
+                    told = next_run()
+                if told is None:
+                    return
+                ended = self.run(*told, folder)
+                with self.lock:
+                    note(*told, ended)
+
+        with ThreadPoolExecutor(self.jobs) as pool:
+            for it in [pool.submit(one_after_another) for _ in range(self.jobs)]:
+                it.result()
+
+    def run_each(self, tests, number, note):
+        """Runs each test once."""
+        runs = iter([(it, number) for it in tests])
+        self.run_all(lambda: next(runs, None), note)
+
+
+def tests_of(crate, word):
+    program = f"{ROOT}/crates/{crate}/out/{crate}_tests"
+    listed = subprocess.run([program, "--list"], capture_output=True, check=True).stdout.decode()
+    return [Test(crate, program, it) for it in re.findall(r"^(\S+): test$", listed, re.M) if word in it]
 
 
 def crates_with_tests():
@@ -103,30 +177,104 @@ def crates_with_tests():
     return [it for it in found if os.access(f"{ROOT}/crates/{it}/out/{it}_tests", os.X_OK)]
 
 
+def note_whole(test, _number, ended):
+    """Notes what a run with all memory tells: how many allocations the test makes, how many threads it starts, and how long it takes."""
+    test.made, test.started, test.seconds = ended.made, ended.started, ended.seconds
+    if ended.status != 0:
+        test.made, test.wrong = 0, [(0, ended)]
+
+
+def refuse(runner, tests, given):
+    """Refuses allocations of the tests for so many minutes, each time of the test that has had the least time."""
+    until = time.monotonic() + 60 * given.minutes
+    runner.run_each(tests, 0, note_whole)
+    chance = random.Random(given.seed)
+    for it in tests:
+        it.todo = chance.sample(range(1, it.made + 1), min(it.made, given.most))
+
+    def next_run():
+        left = [it for it in tests if it.todo and len(it.wrong) < ENOUGH] if time.monotonic() < until else []
+        if not left:
+            return None
+        test = min(left, key=lambda it: it.spent)
+        # as long as it may take; `note` puts in what it took
+        test.spent += test.seconds
+        return test, test.todo.pop()
+
+    runner.run_all(next_run, Test.note)
+
+
+def tell(test, number, ended):
+    print(f"{test.crate} {test.name}: allocation {number}, of {ended.size} bytes:", *ended.lines()[:1], sep="\n")
+    print(ended.said.decode(errors="replace"))
+
+
+def row(cells):
+    return f"| {' | '.join(str(it) for it in cells)} |"
+
+
+def table_of(groups):
+    """The table of named groups of tests."""
+    lines = [row(["of", "tests", "allocations", "refused", *ENDS]), row(["---", *["---:"] * (3 + len(ENDS))])]
+    for name, tests in groups:
+        made, tried = sum(it.made for it in tests), sum(it.tried for it in tests)
+        lines.append(row([name, len(tests), made, tried, *(sum(it.ends[end] for it in tests) for end in ENDS)]))
+    return "\n".join(lines)
+
+
+def table_of_kinds(tests):
+    """The table of what the runs of each crate said at their end."""
+    kinds = collections.Counter()
+    for test in tests:
+        for (end, kind), count in test.kinds.items():
+            kinds[test.crate, ENDS.index(end), kind] += count
+    lines = [row(["of", "ended", "saying", "runs"]), row(["---", "---", "---", "---:"])]
+    return "\n".join([*lines, *(row([crate, ENDS[end], f"`{kind}`", count]) for (crate, end, kind), count in sorted(kinds.items()))])
+
+
+def report(tests, given):
+    print(f"Seed {given.seed}, {given.minutes:g} minutes, {given.jobs} runs at a time. The seed chose those refused of more.\n")
+    crates = list(dict.fromkeys(it.crate for it in tests))
+    print(table_of([*((name, [it for it in tests if it.crate == name]) for name in crates), ("all", tests)]), end="\n\n")
+    print(table_of([(f"{it.crate} {it.name}", [it]) for it in tests]), end="\n\n")
+    print(table_of_kinds(tests))
+    for test in tests:
+        for number, ended in test.wrong:
+            what = f"allocation {number}, of {ended.size} bytes" if number else "no allocation refused"
+            print(f"\n{test.crate} {test.name}: {what}:", *ended.lines(), sep="\n    ")
+    return 1 if any(it.wrong for it in tests) else 0
+
+
 def main():
     ask = argparse.ArgumentParser(description="Refuses each allocation of each crate's tests in turn.")
     ask.add_argument("names", nargs="*", metavar="NAME")
-    ask.add_argument("--most", type=int, default=MOST)
+    ask.add_argument("--minutes", type=float, default=12)
+    ask.add_argument("--most", type=int, default=1 << 40)
     ask.add_argument("--jobs", type=int, default=os.cpu_count())
+    ask.add_argument("--seed", type=int, default=1)
+    ask.add_argument("--test", default="", metavar="WORD")
+    ask.add_argument("--at", type=int, metavar="NUMBER")
     given = ask.parse_args()
-    room, otherwise = tempfile.mkdtemp(prefix="hull-growths-"), []
+    # A test that aborts leaves no file of its memory.
+    resource.setrlimit(resource.RLIMIT_CORE, (0, 0))
+    tests = [it for name in given.names or crates_with_tests() for it in tests_of(name, given.test)]
+    if not tests:
+        sys.exit("no tests are built: `rt ci` builds them, or `rt test` in a crate")
+    room = tempfile.mkdtemp(prefix="hull-growths-")
     try:
         library = refuser_in(room)
         if library is None:
             sys.exit("there is no C compiler")
-        print(f"{'crate':14} {'tests':>5} {'allocations':>11} {'refused':>8} {'passed':>7} {'wanting':>7} {'otherwise':>9}")
-        for name in given.names or crates_with_tests():
-            tests = Tests(name, library, room)
-            made, ends, wrong = refuse_all(tests, given.most, given.jobs)
-            counts = f"{sum(ends.values()):8} {ends['passed']:7} {ends['wanting']:7} {ends['otherwise']:9}"
-            print(f"{name:14} {len(tests.tests):5} {made:11} {counts}", flush=True)
-            otherwise += [(name, *it) for it in wrong]
+        runner = Runner(room, library, given.jobs)
+        if given.at:
+            runner.run_each(tests, given.at, tell)
+            return 0
+        refuse(runner, tests, given)
+        return report(tests, given)
     finally:
         shutil.rmtree(room)
-    for name, test, number, how in otherwise:
-        print(f"{name}: {test}: allocation {number}: {how}")
-    return 1 if otherwise else 0
 
 
 if __name__ == "__main__":
+    sys.dont_write_bytecode = True
     sys.exit(main())

@@ -43,37 +43,74 @@ def commands(example, room, program):
     }
 
 
-
-# Refuses the allocation whose number stands in the environment, and with a minus sign that one and all later ones.
+# Refuses the allocation whose number stands in the environment, and with a minus sign that one and all later ones. The start of a thread counts
+# as one, since it takes memory for the stack. Where the environment names a file for notes, it says there how many were asked for, which one was
+# refused last and of what size, and how many threads were started. Two seconds after a refusal nearly all yields return at once: who then still
+# looks, a given number of times, for what a thread does that wasn't started, as a test of two threads may, is to be done with it soon.
 REFUSER = """
 #define _GNU_SOURCE
 #include <dlfcn.h>
 #include <errno.h>
+#include <fcntl.h>
+#include <pthread.h>
 #include <stdatomic.h>
 #include <stdlib.h>
 #include <string.h>
+#include <sys/mman.h>
+#include <sys/syscall.h>
+#include <time.h>
 #include <unistd.h>
-static _Atomic long made;
+struct notes { _Atomic long made, refused, size, started; };
+static struct notes own, *notes = &own;
+static _Atomic long known;
+static _Atomic long refused_at;
+static __thread unsigned hurried __attribute__((tls_model("initial-exec")));
 static long refused_number(void) {
-    static _Atomic long known;
     if (!known) { const char *word = getenv("REFUSED"); known = word ? atol(word) : 1L << 60; }
     return known;
 }
-static int is_refused(void) {
-    long number = ++made, at = refused_number();
-    return at < 0 ? number >= -at : number == at;
+// The loader runs this before the program's main; what was asked for earlier counts too.
+__attribute__((constructor)) static void take_notes(void) {
+    const char *name = getenv("NOTES");
+    int file = name ? open(name, O_RDWR | O_CLOEXEC) : -1;
+    if (file < 0) return;
+    void *page = mmap(NULL, sizeof own, PROT_READ | PROT_WRITE, MAP_SHARED, file, 0);
+    close(file);
+    if (page == MAP_FAILED) return;
+    memcpy(page, &own, sizeof own);
+    notes = page;
+}
+static int is_refused(size_t size) {
+    long number = ++notes->made, at = refused_number();
+    if (at < 0 ? number < -at : number != at) return 0;
+    notes->refused = number;
+    notes->size = size;
+    refused_at = time(NULL);
+    errno = ENOMEM;
+    return 1;
 }
 extern void *__libc_malloc(size_t), *__libc_calloc(size_t, size_t), *__libc_realloc(void *, size_t);
 extern void *__libc_memalign(size_t, size_t);
-void *malloc(size_t size) { return is_refused() ? (errno = ENOMEM, NULL) : __libc_malloc(size); }
-void *calloc(size_t count, size_t size) { return is_refused() ? (errno = ENOMEM, NULL) : __libc_calloc(count, size); }
-void *realloc(void *old, size_t size) { return is_refused() ? (errno = ENOMEM, NULL) : __libc_realloc(old, size); }
-void *aligned_alloc(size_t align, size_t size) { return is_refused() ? (errno = ENOMEM, NULL) : __libc_memalign(align, size); }
+void *malloc(size_t size) { return is_refused(size) ? NULL : __libc_malloc(size); }
+void *calloc(size_t count, size_t size) { return is_refused(count * size) ? NULL : __libc_calloc(count, size); }
+void *realloc(void *old, size_t size) { return is_refused(size) ? NULL : __libc_realloc(old, size); }
+void *aligned_alloc(size_t align, size_t size) { return is_refused(size) ? NULL : __libc_memalign(align, size); }
 int posix_memalign(void **into, size_t align, size_t size) {
-    void *given = is_refused() ? NULL : __libc_memalign(align, size);
+    void *given = is_refused(size) ? NULL : __libc_memalign(align, size);
     if (!given) return ENOMEM;
     *into = given;
     return 0;
+}
+typedef int start(pthread_t *, const pthread_attr_t *, void *(*)(void *), void *);
+int pthread_create(pthread_t *into, const pthread_attr_t *how, void *(*runs)(void *), void *given) {
+    start *real = (start *)dlsym(RTLD_NEXT, "pthread_create");
+    int failed = is_refused(0) ? EAGAIN : real(into, how, runs, given);
+    notes->started += !failed;
+    return failed;
+}
+int sched_yield(void) {
+    if (!hurried && refused_at) hurried = time(NULL) - refused_at > 1;
+    return hurried && ++hurried % (1 << 22) ? 0 : (int)syscall(SYS_sched_yield);
 }
 """
 
