@@ -36,8 +36,6 @@ WANTING = {101: rb"^[Ee]rror: .*\b(AllocError|AllocFailed|Memory|OutOfMemory)\b"
 STANDS_FOR_WANTING = {
     # 'fault 7 memory', or status 7, or which of the runs that fail wasn't as due, whose end is not told
     "hull_cli": rb"left: (7|\[102, 97, 117, 108, 116, 32, 55, 32, 109, 101, 109, 111, 114, 121, 10\]|Some\(\d+\))$",
-    "hull_words": rb"left: \(0, 0\)$",
-    "report_read": rb"left: None$|assertion failed: false$",
     # the code that this test gives it
     "uc_text": rb"left: (1|\(1, 0\))$",
     # one of four threads has halted the others

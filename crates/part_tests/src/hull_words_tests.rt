@@ -12,10 +12,11 @@ fn words_of(alloc: Global, line: &str) -> Result<Vec<String>, AllocError> {
 }
 
 /// The code and the place of the fault that the words have, or two zeros.
-fn fault_of(alloc: Global, words: &[String]) -> (u32, u32) {
+fn fault_of(alloc: Global, words: &[String]) -> Result<(u32, u32), AllocError> {
     match read_words(alloc, words) {
-        Err(WordError::Fault(fault)) => (fault.code.number(), fault.place),
-        _ => (0, 0),
+        Err(WordError::Fault(fault)) => Ok((fault.code.number(), fault.place)),
+        Err(WordError::Memory) => Err(AllocError),
+        Ok(_) => Ok((0, 0)),
     }
 }
 
@@ -151,10 +152,10 @@ const FAULTS: &[(&str, u32, u32)] = &[
 #[test]
 fn faults(rt: HostRuntime) -> Result<(), Fail> {
     let alloc = rt.alloc();
-    assert_eq!(rt; fault_of(alloc, &[]), (1, 0));
+    assert_eq!(rt; fault_of(alloc, &[])?, (1, 0));
     for (line, code, place) in FAULTS {
         let words = words_of(alloc, line)?;
-        assert_eq!(rt; fault_of(alloc, &words), (*code, *place), "{line}");
+        assert_eq!(rt; fault_of(alloc, &words)?, (*code, *place), "{line}");
     }
     Ok(())
 }

@@ -1,5 +1,5 @@
 use report_read::{ReportError, read_report};
-use std::alloc::Global;
+use std::alloc::{AllocError, Global};
 use std::string::String;
 use std::test::Fail;
 use uc_model::kinds::Kind;
@@ -19,14 +19,14 @@ const FIRST_UNIT: &str = "unit thermal \"A\" earned 2000 scheduled 1000 payment 
     on 1\npower 100\nreserve 0\n";
 
 /// The line in fault, and 0 where there is none.
-fn line_of(alloc: Global, bytes: &[u8]) -> Option<u32> {
+fn line_of(alloc: Global, bytes: &[u8]) -> Result<u32, Fail> {
     if bytes.len() > 10_000 {
-        return None;
+        return Err(Fail::new("the text is too long"));
     }
     match read_report(alloc, bytes) {
-        Ok(_) => Some(0),
-        Err(ReportError::Fault { line }) => Some(line),
-        Err(ReportError::Memory) => None,
+        Ok(_) => Ok(0),
+        Err(ReportError::Fault { line }) => Ok(line),
+        Err(ReportError::Memory) => Err(Fail::from(AllocError)),
     }
 }
 
@@ -92,17 +92,14 @@ fn lines_out_of_form(rt: HostRuntime) -> Result<(), Fail> {
     ];
     for (old, new, line) in rows {
         let text = changed(rt.alloc(), old, new)?;
-        assert_eq!(rt; line_of(rt.alloc(), text.as_bytes()), Some(line), "{new}");
+        assert_eq!(rt; line_of(rt.alloc(), text.as_bytes())?, line, "{new}");
     }
     Ok(())
 }
 
 #[test]
 fn what_a_report_tells(rt: HostRuntime) -> Result<(), Fail> {
-    let Ok(report) = read_report(rt.alloc(), TWO_UNITS.as_bytes()) else {
-        assert!(rt; false);
-        return Ok(());
-    };
+    let report = read_report(rt.alloc(), TWO_UNITS.as_bytes())?;
     assert_eq!(rt; report.cost, 3500);
     assert_eq!(rt; report.rows.len(), 1);
     assert_eq!(rt; report.chosen_value, 2500);
