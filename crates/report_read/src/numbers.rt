@@ -29,9 +29,9 @@ fn digits_from(first: u128, bytes: &[u8]) -> Option<(u128, &[u8])>
         (count_between 0 MOST (digits_spec first bytes.now)) }
 {
     let mut number = first;
-    for (place, byte) in bytes.iter().enumerate() {
+    for (offset, byte) in bytes.iter().enumerate() {
         if !is_digit(*byte) {
-            return within(number, rest_from(bytes, place));
+            return within(number, rest_from(bytes, offset));
         }
         if number > MOST_BEFORE_LAST {
             return None;

@@ -7,8 +7,10 @@ use uc_model::kinds::Kind;
 use uc_model::lists::{Name, ReservedList};
 use uc_model::units::Response;
 
+/// The rows of a report, in the order of their proposals.
 pub type RowList = ReservedList<Row>;
 
+/// What a report tells of each unit and bid, in unit order.
 pub type UnitLines = ReservedList<UnitLine>;
 
 /// A unit or a bid at the chosen prices: what it earns at best and in the plan, what it is owed, in

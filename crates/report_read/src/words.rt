@@ -2,12 +2,12 @@
 ghost use Rattle.std.specs.Prelude.{◌≡◌, ◌≤◌, length, drop};
 ghost use Rattle.report_read.specs.Words.{Finds, behind as behind_spec, is_digit as digit};
 
-/// The bytes from a place on.
-pub fn rest_from(bytes: &[u8], place: usize) -> &[u8]
-    requires { place ≤ length bytes.now }
-    ensures { result.now ≡ drop place bytes.now }
+/// The bytes from an offset on.
+pub fn rest_from(bytes: &[u8], offset: usize) -> &[u8]
+    requires { offset ≤ length bytes.now }
+    ensures { result.now ≡ drop offset bytes.now }
 {
-    &bytes[place..]
+    &bytes[offset..]
 }
 
 /// The bytes behind a word, where it stands in front.
@@ -15,14 +15,15 @@ pub fn rest_from(bytes: &[u8], place: usize) -> &[u8]
 pub fn behind<'a>(word: &[u8], bytes: &'a [u8]) -> Option<&'a [u8]>
     ensures { Finds (λ rest. rest.now) result (behind_spec word.now bytes.now) }
 {
-    for (place, byte) in word.iter().enumerate() {
-        if bytes.len() <= place || bytes[place] != *byte {
+    for (offset, byte) in word.iter().enumerate() {
+        if bytes.len() <= offset || bytes[offset] != *byte {
             return None;
         }
     }
     Some(rest_from(bytes, word.len()))
 }
 
+/// Whether a byte is one of `0` to `9`.
 pub fn is_digit(byte: u8) -> bool
     ensures { result ≡ digit byte }
 {
