@@ -6,24 +6,14 @@ It runs the tests that the gate, or `rt test` in a crate, has built, side by sid
 usage: hostile_growths.py [--minutes M] [--most N] [--jobs JOBS] [--seed SEED] [--test WORD] [--at NUMBER] [NAME..]
 
 NAME is a crate whose tests are built, and each of them where none is named; with --test only the tests whose names have the word. The start of
-<<<<<<< HEAD
-a thread counts as an allocation. Where it would take more than M minutes to refuse all of them, the tests that need most are sampled: one
-allocation of each of equal stretches, chosen by the seed. --most N does so with each test that makes more than N. --at refuses one allocation
-of each test, and prints all that it then says. The status is 1 where a test ended otherwise, or didn't end.
-=======
 a thread counts as an allocation. For M minutes each test gets as much time as any other, until all of its allocations are refused: of a test
 that needs more, those that the seed tells come first. With --most only N of a test are refused. --at refuses one allocation of each test, and
 prints all that it then says. The status is 1 where a test ended otherwise, or didn't end.
->>>>>>> 91145b62d10de20dffa0e7d99cb044bd14d675a2
 """
 import argparse
 import collections
 import glob
 import os
-<<<<<<< HEAD
-import queue
-=======
->>>>>>> 91145b62d10de20dffa0e7d99cb044bd14d675a2
 import random
 import re
 import resource
@@ -51,30 +41,18 @@ STANDS_FOR_WANTING = {
     # one of four threads has halted the others
     "threads": rb"assertion failed: closed\.finished\(\)$",
 }
-<<<<<<< HEAD
-# What a test of several threads at once says where one of them couldn't be started, and another did its work.
-STANDS_FOR_ALONE = {
-    "hull_cli": rb"left: [123]$",
-    "task_deal": rb"assertion failed: !job\.in_vain$|left: 2$",
-=======
 # What tests of several threads at once say, by their names, where one of them couldn't be started, and another did its work.
 STANDS_FOR_ALONE = {
     "two_workers_answer_at_once": rb"left: 1$",
     "four_workers_answer_at_once": rb"left: [123]$",
     "two_jobs_run_on_two_threads": rb"left: 2$|assertion failed: !job\.in_vain$",
     "both_jobs_go_on_after_their_first_number": rb"assertion failed: !job\.in_vain$",
->>>>>>> 91145b62d10de20dffa0e7d99cb044bd14d675a2
 }
 ENDS = SAME, MEMORY, ALONE, OTHERWISE = "as with all memory", "want of memory", "a thread too few", "otherwise"
 # A run that takes longer than so many seconds, and than so many times what the test takes with all memory, hangs; with all memory it has longer.
 SECONDS, TIMES, SECONDS_WHOLE = 10, 10, 120
-<<<<<<< HEAD
-# What a run takes besides the test, in seconds; and how many wrong ends of one test are enough.
-BESIDES, ENOUGH = 0.01, 10
-=======
 # So many wrong ends of one test are enough.
 ENOUGH = 10
->>>>>>> 91145b62d10de20dffa0e7d99cb044bd14d675a2
 NOTES = struct.Struct("4q")
 
 
@@ -104,14 +82,9 @@ class Test:
 
     def __init__(self, crate, program, name):
         self.crate, self.program, self.name = crate, program, name
-<<<<<<< HEAD
-        self.of = [crate, *(it.removesuffix("_tests") for it in name.split("::")[:-1])]
-        self.made, self.started, self.seconds = 0, 0, 0.0
-=======
         self.of = [crate, *(it.removesuffix("_tests") for it in name.split("::"))]
         self.made, self.started, self.seconds = 0, 0, 0.0
         self.todo, self.spent = [], 0.0
->>>>>>> 91145b62d10de20dffa0e7d99cb044bd14d675a2
         self.tried, self.ends, self.kinds, self.wrong = 0, collections.Counter(), collections.Counter(), []
 
     def says(self, ended, table):
@@ -131,10 +104,7 @@ class Test:
         return OTHERWISE
 
     def note(self, number, ended):
-<<<<<<< HEAD
-=======
         self.spent += ended.seconds - self.seconds
->>>>>>> 91145b62d10de20dffa0e7d99cb044bd14d675a2
         # With threads a run may make fewer allocations than another, and then none is refused.
         if ended.refused or ended.status != 0:
             end = self.end(ended)
@@ -169,25 +139,6 @@ class Runner:
         with open(notes, "rb") as it:
             return Ended(status, said, NOTES.unpack(it.read()), time.monotonic() - began)
 
-<<<<<<< HEAD
-    def run_all(self, runs, note, until=None):
-        """Makes the runs, a test and a number each, as far as there is time and too many haven't ended wrong, and notes their ends."""
-        todo = queue.SimpleQueue()
-        for it in runs:
-            todo.put(it)
-
-        def one_after_another():
-            folder = tempfile.mkdtemp(dir=self.room)
-            while until is None or time.monotonic() < until:
-                try:
-                    test, number = todo.get_nowait()
-                except queue.Empty:
-                    return
-                if len(test.wrong) < ENOUGH:
-                    ended = self.run(test, number, folder)
-                    with self.lock:
-                        note(test, number, ended)
-=======
     def run_all(self, next_run, note):
         """Makes the runs that are told, a test and a number each, until none is, and notes their ends."""
 
@@ -201,20 +152,16 @@ class Runner:
                 ended = self.run(*told, folder)
                 with self.lock:
                     note(*told, ended)
->>>>>>> 91145b62d10de20dffa0e7d99cb044bd14d675a2
 
         with ThreadPoolExecutor(self.jobs) as pool:
             for it in [pool.submit(one_after_another) for _ in range(self.jobs)]:
                 it.result()
 
-<<<<<<< HEAD
-=======
     def run_each(self, tests, number, note):
         """Runs each test once."""
         runs = iter([(it, number) for it in tests])
         self.run_all(lambda: next(runs, None), note)
 
->>>>>>> 91145b62d10de20dffa0e7d99cb044bd14d675a2
 
 def tests_of(crate, word):
     program = f"{ROOT}/crates/{crate}/out/{crate}_tests"
@@ -235,36 +182,6 @@ def note_whole(test, _number, ended):
         test.made, test.wrong = 0, [(0, ended)]
 
 
-<<<<<<< HEAD
-def share_of(tests, seconds):
-    """How many seconds each test gets, where those that need less leave the rest to the others."""
-    needs = sorted((BESIDES + it.seconds) * it.made for it in tests)
-    for place, need in enumerate(needs):
-        share = seconds / (len(needs) - place)
-        if need > share:
-            return share
-        seconds -= need
-    return needs[-1] + 1
-
-
-def numbers_of(test, share, most, chance):
-    """The allocations of a test to be refused: all, or one of each of as many equal stretches as there is time for."""
-    count = min(test.made, most, max(1, int(share / (BESIDES + test.seconds))))
-    edges = [test.made * it // count for it in range(count + 1)] if count else []
-    return [chance.randint(low + 1, high) for low, high in zip(edges, edges[1:])]
-
-
-def refuse(runner, tests, given):
-    """Refuses allocations of the tests for so many minutes."""
-    until = time.monotonic() + 60 * given.minutes
-    runner.run_all([(it, 0) for it in tests], note_whole)
-    chance = random.Random(given.seed)
-    share = share_of(tests, max(1, until - time.monotonic()) * runner.jobs)
-    runs = [(it, number) for it in tests for number in numbers_of(it, share, given.most, chance)]
-    # Out of order, so that what there is no time for is missing everywhere alike.
-    chance.shuffle(runs)
-    runner.run_all(runs, Test.note, until)
-=======
 def refuse(runner, tests, given):
     """Refuses allocations of the tests for so many minutes, each time of the test that has had the least time."""
     until = time.monotonic() + 60 * given.minutes
@@ -288,7 +205,6 @@ def refuse(runner, tests, given):
 def tell(test, number, ended):
     print(f"{test.crate} {test.name}: allocation {number}, of {ended.size} bytes:", *ended.lines()[:1], sep="\n")
     print(ended.said.decode(errors="replace"))
->>>>>>> 91145b62d10de20dffa0e7d99cb044bd14d675a2
 
 
 def row(cells):
@@ -314,12 +230,8 @@ def table_of_kinds(tests):
     return "\n".join([*lines, *(row([crate, ENDS[end], f"`{kind}`", count]) for (crate, end, kind), count in sorted(kinds.items()))])
 
 
-<<<<<<< HEAD
-def report(tests):
-=======
 def report(tests, given):
     print(f"Seed {given.seed}, {given.minutes:g} minutes, {given.jobs} runs at a time. The seed chose those refused of more.\n")
->>>>>>> 91145b62d10de20dffa0e7d99cb044bd14d675a2
     crates = list(dict.fromkeys(it.crate for it in tests))
     print(table_of([*((name, [it for it in tests if it.crate == name]) for name in crates), ("all", tests)]), end="\n\n")
     print(table_of([(f"{it.crate} {it.name}", [it]) for it in tests]), end="\n\n")
@@ -353,18 +265,10 @@ def main():
             sys.exit("there is no C compiler")
         runner = Runner(room, library, given.jobs)
         if given.at:
-<<<<<<< HEAD
-            told = lambda test, _, ended: print(f"{test.crate} {test.name}:", *ended.lines()[:1], ended.said.decode(errors="replace"), sep="\n")
-            runner.run_all([(it, given.at) for it in tests], told)
-            return 0
-        refuse(runner, tests, given)
-        return report(tests)
-=======
             runner.run_each(tests, given.at, tell)
             return 0
         refuse(runner, tests, given)
         return report(tests, given)
->>>>>>> 91145b62d10de20dffa0e7d99cb044bd14d675a2
     finally:
         shutil.rmtree(room)
 
