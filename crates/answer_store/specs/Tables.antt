@@ -25,13 +25,14 @@ blank (suc p) = 0
 abbrev pub blanks : List ℕ → ℕ
 blanks ordinals = sum_by blank ordinals
 
--- so many rows have numbers, each with an ordinal of its own, and there is room for those of all rows
+-- so many rows have numbers, each with an ordinal of its own, and there is room for those of all
+-- rows
 pub record IsTable (long : ℕ) (ordinals : List ℕ) (used : ℕ) (numbers : List ℕ) (room : ℕ) : Type
     0 where
   pub size : length numbers ≡ used * long
   pub within : (k : ℕ) → slice_index ordinals k ≤ used
-  pub apart : (j k : ℕ) → 0 < slice_index ordinals j → slice_index ordinals j ≡ slice_index ordinals k →
-      j ≡ k
+  pub apart : (j k : ℕ) → 0 < slice_index ordinals j →
+      slice_index ordinals j ≡ slice_index ordinals k → j ≡ k
   pub few : used + blanks ordinals ≤ length ordinals
   pub count : length ordinals ≤ MOST_TASKS
   pub fits : length ordinals * long ≤ room

@@ -102,8 +102,8 @@ fn after_rows_alike(
     Ok(into)
 }
 
-// The gap is 1,000 or 7. The direction is 50, -50, or -1 beside 1 for the reserve, and so the sum of
-// its squares 2,500 or 2. The last row comes 10, 25 and 0 rows after the first of the greatest
+// The gap is 1,000 or 7. The direction is 50, -50, or -1 beside 1 for the reserve, and so the sum
+// of its squares 2,500 or 2. The last row comes 10, 25 and 0 rows after the first of the greatest
 // value, which halves a move once, twice and never.
 #[test]
 fn moves(rt: HostRuntime) -> Result<(), Fail> {

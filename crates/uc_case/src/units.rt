@@ -150,8 +150,8 @@ fn first_crossing(least: &[i64], most: &[i64]) -> u32
     0
 }
 
-/// A renewable unit, or the first of its faults in the order of its fields; then `RangeOrder` at the
-/// first period whose least power is above its greatest.
+/// A renewable unit, or the first of its faults in the order of its fields; then `RangeOrder` at
+/// the first period whose least power is above its greatest.
 #[tactic(auto, unfolding(crate::specs::Tables::renewable_unit))]
 pub fn read_renewable(
     alloc: Global,

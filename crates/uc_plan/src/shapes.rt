@@ -73,8 +73,8 @@ fn bids_object<'a>(members: &[Member<'a>], bids: usize) -> Option<ObjectBranch<'
     }
 }
 
-/// The objects of a schedule for a case with so many bids. `PlanShape`, at the file as a whole, where
-/// it isn't an object that has them; without bids their object may be absent.
+/// The objects of a schedule for a case with so many bids. `PlanShape`, at the file as a whole,
+/// where it isn't an object that has them; without bids their object may be absent.
 #[tactic(auto, unfolding(crate::specs::Plans::groups))]
 pub fn read_groups<'a>(
     alloc: Global,

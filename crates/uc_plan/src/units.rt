@@ -67,8 +67,8 @@ fn read_flat(
     Ok(Response { on, power, reserve })
 }
 
-/// The schedule of a unit or bid over so many periods, in kilowatts. `PlanShape` where the value isn't
-/// the object or the list that is due, and then `PlanNumber` at its first wrong item.
+/// The schedule of a unit or bid over so many periods, in kilowatts. `PlanShape` where the value
+/// isn't the object or the list that is due, and then `PlanNumber` at its first wrong item.
 #[tactic(auto, unfolding(crate::specs::Plans::schedule))]
 pub fn read_schedule(
     alloc: Global,

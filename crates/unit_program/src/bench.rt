@@ -127,8 +127,8 @@ impl<R> Bench<R> {
         Ok(())
     }
 
-    /// Swaps the last answer of the unit that is asked next with another, if one is kept. The answer
-    /// is the same whatever it is.
+    /// Swaps the last answer of the unit that is asked next with another, if one is kept. The
+    /// answer is the same whatever it is.
     pub fn swap_kept(&mut self, other: &mut Kept)
         ensures bench { (room : R → ℕ) (periods points : ℕ)
             → IsBenchFor room periods points self.old → IsBenchFor room periods points self.new }

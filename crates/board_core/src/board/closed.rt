@@ -57,8 +57,8 @@ impl Closed {
         &self.board.terms.plan
     }
 
-    /// What the plan costs, in money. What the board was made for is within the limits, and its cost
-    /// is that of its plan.
+    /// What the plan costs, in money. What the board was made for is within the limits, and its
+    /// cost is that of its plan.
     pub fn cost(&self) -> i128
         ensures cost { result ≡ self.now.setup.cost }
         ensures setup { IsSetup self.now.setup }
