@@ -8,7 +8,7 @@ use Rattle.uc_model.proofs.IntLaws.{mul-sub}
 use Rattle.uc_model.proofs.SignedLaws.{IsWithin, product_within}
 use Rattle.shape_law.specs.Effect.{CanAddCurve}
 use Rattle.shape_law.specs.Laws.{CurvesHaveValues}
-use Rattle.shape_law.specs.Lookup.{place_split}
+use Rattle.shape_law.specs.Lookup.{power_split}
 use Rattle.shape_law.specs.Table.{Table, value_of, IsWithinLimits, HasNone, CanAdd}
 
 near : (f : Table) → IsWithinLimits f → HasNone (neg_ℤ (pos 4000000000)) (neg_ℤ (pos 1001)) f → HasNone (pos 1001) (pos 4000000000) f → (x v : ℤ) → value_of f x ≡ Some v → IsNear x
@@ -30,7 +30,7 @@ IsSmall-from f within before after modest = record {
       let n = near f within before after x v h in
       let low = n.at_least in
       let high = n.at_most in
-      elim (place_split (neg_ℤ (pos 1000)) x) [
+      elim (power_split (neg_ℤ (pos 1000)) x) [
         | inl k ↦
             let is = k.1 in
             let here : x ≡ pos k.0 -ℤ pos 1000 = omega (arith, ints) in
