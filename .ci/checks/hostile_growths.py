@@ -34,8 +34,6 @@ from hostile_memory import refuser_in
 WANTING = {101: rb"^[Ee]rror: .*\b(AllocError|AllocFailed|Memory|OutOfMemory)\b", -signal.SIGABRT: rb"^ *left: (Err|Some)\(Memory\)$"}
 # What stands for want of memory in what other tests compare, by the crate that they are of, or the module of tests that is named after it.
 STANDS_FOR_WANTING = {
-    # 'fault 7 memory', or status 7, or which of the runs that fail wasn't as due, whose end is not told
-    "hull_cli": rb"left: (7|\[102, 97, 117, 108, 116, 32, 55, 32, 109, 101, 109, 111, 114, 121, 10\]|Some\(\d+\))$",
     # the code that this test gives it
     "uc_text": rb"left: (1|\(1, 0\))$",
     # one of four threads has halted the others

@@ -301,7 +301,8 @@ fn words_in(alloc: Global, words: &[&str]) -> Result<Vec<String>, AllocError> {
     Ok(list)
 }
 
-// The status of a run, and what its sink holds.
+// The status of a run, and what its sink holds. No run here is due to end in want of memory: that
+// ends the test.
 fn run<R: Threads + Wait + Sync, G: Gate>(
     rt: &R,
     gate: &G,
@@ -324,6 +325,9 @@ fn run<R: Threads + Wait + Sync, G: Gate>(
     let mut out = MemorySink::make(alloc, 4096, edges.takes.max(1), edges.writes, edges.empty)?;
     let words = words_in(alloc, words)?;
     let status = hull_run(rt, alloc, words.as_slice(), &mut shelf, &mut out, gate);
+    if status == 7 && b"fault 7 memory\n".starts_with(out.bytes()) {
+        return Err(AllocError);
+    }
     Ok((status, Vec::from_slice(alloc, out.bytes())?))
 }
 
