@@ -29,7 +29,7 @@ impl LastAnswers {
             let kept = Kept::make(alloc, periods)?;
             last.push_reserved(Mutex::new(kept));
         }
-        Arc::new(alloc, LastAnswers { units: last })
+        Ok(Arc::new(alloc, LastAnswers { units: last })?)
     }
 
     // Swaps the last answer of a unit with the one that the bench keeps, unless another worker is
