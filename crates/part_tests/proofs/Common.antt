@@ -1,6 +1,8 @@
 -- The names that the proofs of this crate take from other crates, passed on from one place.
-pub use Rattle.std.proofs.Common.{◌≡◌, ℕ, ◌≤◌, ℤ, ◌≤ℤ◌, IsTrue, true, List, [], ◌∷◌, ◌++◌, length, map, drop, refl, sym, ap, ◌∙◌, subst, arith, length-append, rules}
-pub use Rattle.std.proofs.lemmas.List.Elements.{All-map, All-push, All-same}
+pub use Rattle.std.proofs.Common.{◌≡◌, ℕ, ◌≤◌, ℤ, pos, ◌≤ℤ◌, IsTrue, true, List, [], ◌∷◌, ◌++◌, length, map, drop, refl, sym, ap, ◌∙◌, subst, arith, length-append, rules, FitsSigned}
+pub use Rattle.std.proofs.lemmas.List.Elements.{All-map, All-push, All-same, All-weaker}
+pub use Rattle.std.proofs.lemmas.Int.{ints, to_z-of_z}
+pub use Rattle.std.specs.Int.{w128}
 pub use Rattle.std.specs.List.{All}
 pub use Rattle.std.specs.Prelude.{slice_index_or}
 pub use Rattle.price_move.specs.Sizes.{IsRowBelow}

@@ -60,19 +60,12 @@ fn directions(rt: HostRuntime) -> Result<(), Fail> {
 }
 
 // Rows with a value of 0 at a price of 0, all alike.
-fn rows_alike(
-    alloc: Global,
-    case: &Case,
-    supply: i128,
-    cost: i128,
-    count: u32,
-) -> Result<Vec<Row>, AllocError>
+fn rows_alike(alloc: Global, case: &Case, supply: i128, count: u32) -> Result<Vec<Row>, AllocError>
     requires case { (market_of case.now).periods ≡ 1 }
     requires supply { IsTotal supply }
-    requires at_most { pos 0 ≤ℤ cost }
     ensures count { IfOk result (λ rows. length rows.items ≡ count) }
     ensures rows { IfOk result (λ rows.
-        All (λ row. IsRowBelow (market_of case.now) cost (proposal_of row)) rows.items) }
+        All (λ row. IsRowBelow (market_of case.now) (pos 0) (proposal_of row)) rows.items) }
 {
     let mut rows = Vec::new(alloc);
     for _ in 0..count {
@@ -96,7 +89,7 @@ fn after_rows_alike(
     requires some { 1 ≤ count }
     requires few { count ≤ 100 }
 {
-    let rows = rows_alike(alloc, case, supply, gap, count)?;
+    let rows = rows_alike(alloc, case, supply, count)?;
     let mut into = one_price(alloc, 7, 0)?;
     next_prices(case, rows.as_slice(), 1, gap, &mut into);
     Ok(into)
