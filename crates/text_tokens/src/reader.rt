@@ -1,6 +1,7 @@
 //! The tokens of a text, one after the other.
-ghost use Rattle.std.specs.Prelude.{◌≡◌, ◌<◌, ◌≤◌, ◌^◌, ◌-◌, ◌∷◌, length, []};
+ghost use Rattle.std.specs.Prelude.{◌≡◌, ◌<◌, ◌≤◌, ◌^◌, ◌-◌, ◌∷◌, length, [], slice_index, false};
 ghost use Rattle.text_tokens.specs.Grammar.{end};
+ghost use Rattle.text_tokens.specs.Tokens.{is_blank as blank};
 
 use crate::bytes::rest_from;
 use crate::number::short_number;
@@ -46,7 +47,20 @@ impl<'a> Reader<'a> {
         self.next_of_all()
     }
 
-    /// A number of few digits and the comma behind it, where they come next and without blanks.
+    /// Passes over the blanks that come next.
+    fn pass_blanks(&mut self)
+        ensures rest { rest self.new ≡ rest self.old }
+        ensures passed { self.new.at < length self.new.bytes.now
+            → blank (slice_index self.new.bytes.now self.new.at) ≡ false }
+        ensures ahead { ahead self.new ≤ ahead self.old }
+        ensures same { self.new.bytes.now ≡ self.old.bytes.now }
+    {
+        'blanks: while self.at < self.bytes.len() && is_blank(self.bytes[self.at]) {
+            self.at += 1;
+        }
+    }
+
+    /// A number of few digits and the comma behind it at once, where they come next.
     pub fn number_and_comma(&mut self) -> Option<SmallNumber>
         ensures some { IfSome result (λ small. Takes (rest self.old)
             (word (number (decimal_of small)) ∷ comma ∷ []) (rest self.new)) }
@@ -55,6 +69,7 @@ impl<'a> Reader<'a> {
         ensures less { OnSome result (ahead self.new < ahead self.old) }
         ensures same { self.new.bytes.now ≡ self.old.bytes.now }
     {
+        self.pass_blanks();
         let rest = rest_from(self.bytes, self.at);
         let (small, len) = short_number(rest)?;
         if len < rest.len() && rest[len] == b',' {
@@ -74,9 +89,7 @@ impl<'a> Reader<'a> {
         ensures stands { StandsAt self.old.bytes.now result.offset result.token }
         ensures same { self.new.bytes.now ≡ self.old.bytes.now }
     {
-        'blanks: while self.at < self.bytes.len() && is_blank(self.bytes[self.at]) {
-            self.at += 1;
-        }
+        self.pass_blanks();
         let offset = self.at;
         if offset == self.bytes.len() {
             return Lexeme {
