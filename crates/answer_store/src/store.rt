@@ -12,13 +12,25 @@ use uc_model::units::Answered;
 
 /// So many answers over so many periods, each what a unit does and what that earns. Contracts see
 /// it as their list.
-#[derive(Drop)]
 pub struct Store {
     periods: usize,
     on: Vec<bool>,
     power: Table,
     reserve: Table,
     earned: Vec<i64>,
+}
+
+// Written out, so that a drop of it is a call, and not one for each list.
+impl Drop for Store {
+    fn drop(self) {
+        let Store {
+            periods: _,
+            on: _,
+            power: _,
+            reserve: _,
+            earned: _,
+        } = self;
+    }
 }
 
 impl Model for Store {

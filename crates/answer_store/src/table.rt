@@ -11,7 +11,6 @@ use uc_model::lists::{Powers, ReservedList};
 
 /// Rows of one length, at first of zeros. A row of zeros has no numbers until another row is
 /// written there.
-#[derive(Drop)]
 pub struct Table {
     long: usize,
     // for each row 0, or which of the rows with numbers it is, counted from 1
@@ -19,6 +18,18 @@ pub struct Table {
     // how many rows have numbers
     used: usize,
     numbers: Vec<u32>,
+}
+
+// Written out, so that a drop of it is a call, and not one for each list.
+impl Drop for Table {
+    fn drop(self) {
+        let Table {
+            long: _,
+            ordinals: _,
+            used: _,
+            numbers: _,
+        } = self;
+    }
 }
 
 impl Model for Table {

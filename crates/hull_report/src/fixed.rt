@@ -25,13 +25,25 @@ use uplift_settle::Settlement;
 /// What the text tells of one run: how many proposals it has, the number from 1 of the chosen one,
 /// its dual value in money and its prices in money for a kilowatt and period, and the settlement of
 /// the schedule at these prices.
-#[derive(Drop)]
 pub struct Side {
     pub proposals: u32,
     pub chosen: u32,
     pub value: i128,
     pub prices: Prices,
     pub settlement: Settlement,
+}
+
+// Written out, so that a drop of it is a call, and not one for each list.
+impl Drop for Side {
+    fn drop(self) {
+        let Side {
+            proposals: _,
+            chosen: _,
+            value: _,
+            prices: _,
+            settlement: _,
+        } = self;
+    }
 }
 
 // Leaves prices in others over as many periods.

@@ -15,7 +15,6 @@ pub type UnitLines = ReservedList<UnitLine>;
 
 /// A unit or a bid at the chosen prices: what it earns at best and in the plan, what it is owed, in
 /// money, and its response. A renewable unit or a bid is on in every period, with reserve 0.
-#[derive(Drop)]
 pub struct UnitLine {
     pub kind: Kind,
     pub name: Name,
@@ -25,10 +24,23 @@ pub struct UnitLine {
     pub response: Response,
 }
 
+// Written out, so that a drop of it is a call, and not one for each list.
+impl Drop for UnitLine {
+    fn drop(self) {
+        let UnitLine {
+            kind: _,
+            name: _,
+            earned: _,
+            scheduled: _,
+            payment: _,
+            response: _,
+        } = self;
+    }
+}
+
 /// What a report tells. Proposals count from 1; `chosen` is the number of one of them and
 /// `chosen_value` its dual value. The units stand in the order thermal, renewable, bids. Values,
 /// costs and payments are in money.
-#[derive(Drop)]
 pub struct Report {
     pub periods: u32,
     pub units: u32,
@@ -42,6 +54,26 @@ pub struct Report {
     pub surplus: i128,
     pub payments: i128,
     pub gap: i128,
+}
+
+// Written out, so that a drop of it is a call, and not one for each list.
+impl Drop for Report {
+    fn drop(self) {
+        let Report {
+            periods: _,
+            units: _,
+            budget: _,
+            ahead: _,
+            cost: _,
+            rows: _,
+            chosen: _,
+            chosen_value: _,
+            lines: _,
+            surplus: _,
+            payments: _,
+            gap: _,
+        } = self;
+    }
 }
 
 /// Why a report wasn't read.

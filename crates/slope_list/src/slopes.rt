@@ -18,7 +18,6 @@ use uc_model::units::Curve;
 /// A convex function on a whole interval, which may be empty, as pieces of one slope. Its room is
 /// reserved once: no call but `make` takes memory or fails. A step writes to no more of it than its
 /// pieces may need, so room that no step needs stays untouched.
-#[derive(Drop)]
 pub struct Slopes {
     made: Option<Made>,
     turn: i64,
@@ -29,6 +28,19 @@ pub struct Slopes {
     ghost valid: { AreKept made pieces.items },
     ghost pieces_room: { room ≤ vec_capacity pieces },
     ghost spare_room: { room ≤ vec_capacity spare },
+}
+
+// Written out, so that a drop of it is a call, and not one for each list.
+impl Drop for Slopes {
+    fn drop(self) {
+        let Slopes {
+            made: _,
+            turn: _,
+            room: _,
+            pieces: _,
+            spare: _,
+        } = self;
+    }
 }
 
 /// Lengthens a list within its memory to so many pieces, where it is shorter. What it then holds is

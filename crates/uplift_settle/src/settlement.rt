@@ -23,7 +23,6 @@ use uc_model::units::Prices;
 
 /// What the units of a case earn in a plan and are paid beside the prices, in money. A list has one
 /// number for each thermal unit, renewable unit and bid, in the order of the units' numbers.
-#[derive(Drop)]
 pub struct Settlement {
     /// What each schedule of the plan earns at the prices.
     pub scheduled: Numbers,
@@ -33,6 +32,18 @@ pub struct Settlement {
     pub surplus: i128,
     /// The sum of the payments.
     pub total: i128,
+}
+
+// Written out, so that a drop of it is a call, and not one for each list.
+impl Drop for Settlement {
+    fn drop(self) {
+        let Settlement {
+            scheduled: _,
+            payments: _,
+            surplus: _,
+            total: _,
+        } = self;
+    }
 }
 
 impl Settlement {
