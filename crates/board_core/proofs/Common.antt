@@ -1,10 +1,11 @@
 -- The names that the proofs of this crate take from its specs and from other crates, passed on from one place.
 pub use Rattle.std.proofs.Common.{eq-eqb, ◌≡◌, ℕ, suc, ◌+◌, ◌-◌, ◌<◌, ◌≤◌, ℤ, Bool, true, false, cond, ◌&&◌, ◌==◌, Option, Some, inl, inr, List, [], ◌∷◌, ◌++◌, length, map, get_or, refl, sym, ap, ◌∙◌, subst, arith, length-append, ◌≢◌, zero, pos, take, ◌*◌, ◌/◌, ◌%◌, ◌⊎◌, None, ◌||◌, ◌-ℤ◌, ◌+ℤ◌, min, rules, FitsSigned, w64, vec_capacity}
 pub use Rattle.std.proofs.Math.ListN.{set, length-set}
+pub use Rattle.std.proofs.Math.Nat.{le-mul_of_pos_right, le_trans}
 pub use Rattle.std.proofs.lemmas.Bool.{false≢true, cases_lt, le-leb, lt-leb}
 pub use Rattle.std.proofs.lemmas.Bool.Decides.{nat_tests}
 pub use Rattle.std.proofs.lemmas.Int.{ints, to_z-of_z}
-pub use Rattle.std.proofs.lemmas.List.{map-set, get_or-set_other, get_or-map, get_or-take, map-append, length-map, length-take-le, get_or-set_same, set-get_or, take-set-le, take_more_set, get_or-replicate, length-replicate, ext_get_or, get_or_default, take-map, length-take}
+pub use Rattle.std.proofs.lemmas.List.{map-set, get_or-set_other, get_or-map, get_or-take, map-append, length-map, length-take-le, get_or-set_same, set-get_or, take-set-le, take_more_set, get_or-replicate, length-replicate, ext_get_or, get_or_default, take-map, length-take, replicate-append-replicate}
 pub use Rattle.std.proofs.lemmas.List.Folds.{list_any-append, sum_by-replicate}
 pub use Rattle.std.proofs.lemmas.List.FromFn.{length-map-range_with_len, get_or-map-range_with_len, map-range_with_len_more, fill_by_all}
 pub use Rattle.std.proofs.lemmas.Option.{slice_get-get_or, slice_get_past, get_or_from_slice_get, slice_get_within}
@@ -36,6 +37,7 @@ pub use Rattle.dual_value.specs.Totals.{IsRaised}
 pub use Rattle.price_move.specs.Firsts.{IsFirstUpTo}
 pub use Rattle.price_move.specs.Moves.{is_last_settled, values_of}
 pub use Rattle.price_move.specs.Sizes.{IsRowBelow}
+pub use Rattle.uc_model.specs.declared.limits.TheConstants.{MOST_TASKS, MOST_UNITS, MOST_WORK}
 pub use Rattle.uc_model.specs.Data.{Market, PriceLists, unit_count, AnyUnit, Thermal, Flat, Bid, units, Schedule, units as units_of}
 pub use Rattle.uc_model.specs.Earnings.{supply_in, earnings}
 pub use Rattle.uc_model.specs.PlainCases.{chosen_unit, task_unit, proposal_of, market_of}

@@ -22,7 +22,7 @@ ghost use Rattle.board_core.specs.Tasks.{LeavesTask};
 
 use crate::advance::advance;
 use crate::ledger::Ledger;
-use crate::opening::{no_events, open_ledger};
+use crate::opening::{EventLists, Room, no_events, open_ledger};
 use crate::posts::{closed_of, count_up, post_entry, refusal};
 use crate::replies::{Claim, Posted};
 use crate::terms::{Terms, task_number};
@@ -33,7 +33,7 @@ use board_task::tasks::copy_task;
 use std::alloc::{AllocError, Global};
 use std::marker::Model;
 use uc_model::cases::{Case, Plan, Row, Task};
-use uc_model::units::{Answered, Prices};
+use uc_model::units::Answered;
 
 mod closed;
 
@@ -44,19 +44,11 @@ pub use closed::Closed;
 /// feasible (`Board::callers`).
 pub struct Board {
     terms: Terms,
-    history: Vec<Entry>,
-    // the callers to whom the tasks were given, in the order of the tasks
-    takers: Vec<u32>,
-    // for each task whether it has an answer, and the answer
-    marks: Vec<bool>,
+    lists: EventLists,
+    // the answers, one for each task
     store: Store,
-    // for each proposal how many answers it has
-    counts: Vec<u32>,
     ledger: Ledger,
-    // room for the prices that follow the rows, and for the board's own task
-    next: Prices,
-    own: Task,
-    halted: Vec<bool>,
+    room: Room,
     any_halt: bool,
 }
 
@@ -76,34 +68,37 @@ impl Model for Board {
     ghost view = { λ b. record {
       setup = setup_of b.terms;
       events =
-          events_of (unit_count (setup_of b.terms).market) (answers_kept b.store) b.history.items;
+          events_of (unit_count (setup_of b.terms).market) (answers_kept b.store)
+          b.lists.history.items;
     } };
 
     ghost invariant = { λ b.
         IsBoard (setup_of b.terms)
-        (events_of (unit_count (setup_of b.terms).market) (answers_kept b.store) b.history.items)
+        (events_of (unit_count (setup_of b.terms).market) (answers_kept b.store)
+        b.lists.history.items)
         (record {
-          takers = b.takers.items;
-          marks = b.marks.items;
+          takers = b.lists.takers.items;
+          marks = b.lists.marks.items;
           kept = answers_kept b.store;
-          counts = b.counts.items;
-          halted = b.halted.items;
+          counts = b.lists.counts.items;
+          halted = b.lists.halted.items;
           any_halt = b.any_halt;
         }) b.ledger
         × IsKept (setup_of b.terms)
-        (events_of (unit_count (setup_of b.terms).market) (answers_kept b.store) b.history.items)
-        b.history.items
+        (events_of (unit_count (setup_of b.terms).market) (answers_kept b.store)
+        b.lists.history.items)
+        b.lists.history.items
         (record {
-          takers = b.takers.items;
-          marks = b.marks.items;
+          takers = b.lists.takers.items;
+          marks = b.lists.marks.items;
           kept = answers_kept b.store;
-          counts = b.counts.items;
-          halted = b.halted.items;
+          counts = b.lists.counts.items;
+          halted = b.lists.halted.items;
           any_halt = b.any_halt;
         })
-        (vec_capacity b.history) (vec_capacity b.takers) b.store.periods
-        (length (prices_of b.next).energy)
-        × IsTaskFor (setup_of b.terms).market.periods b.own };
+        (vec_capacity b.lists.history) (vec_capacity b.lists.takers) b.store.periods
+        (length (prices_of b.room.next).energy)
+        × IsTaskFor (setup_of b.terms).market.periods b.room.own };
 }
 
 // Written out, so that a caller's drop of a board is a call, and not one for each part.
@@ -111,15 +106,10 @@ impl Drop for Board {
     fn drop(self) {
         let Board {
             terms: _,
-            history: _,
-            takers: _,
-            marks: _,
+            lists: _,
             store: _,
-            counts: _,
             ledger: _,
-            next: _,
-            own: _,
-            halted: _,
+            room: _,
             any_halt: _,
         } = self;
     }
@@ -157,21 +147,15 @@ impl Board {
         let periods = terms.case.periods;
         let tasks = budget as usize * terms.units() as usize;
         let lists = no_events(alloc, tasks, budget as usize, callers as usize)?;
+        let mut room = Room::make(alloc, periods)?;
+        let ledger = open_ledger(alloc, &terms.case, budget, ahead, &mut room.next)?;
         let store = Store::make(alloc, tasks, periods)?;
-        let mut next = Prices::make(alloc, periods)?;
-        let ledger = open_ledger(alloc, &terms.case, budget, ahead, &mut next)?;
-        let own = Task::make(alloc, periods)?;
         Ok(Board {
             terms,
-            history: lists.history,
-            takers: lists.takers,
-            marks: lists.marks,
+            lists,
             store,
-            counts: lists.counts,
             ledger,
-            next,
-            own,
-            halted: lists.halted,
+            room,
             any_halt: false,
         })
     }
@@ -198,7 +182,7 @@ impl Board {
         if self.any_halt {
             return Claim::Halted;
         }
-        let number = self.takers.len();
+        let number = self.lists.takers.len();
         let units = self.terms.units() as usize;
         let before = number / units;
         if open <= before {
@@ -208,8 +192,8 @@ impl Board {
         let unit = (number % units) as u32;
         let prices = self.ledger.prices(before);
         copy_task(&self.terms.case, prices, proposal, unit, into);
-        self.takers.push_reserved(caller);
-        self.history.push_reserved(Entry {
+        self.lists.takers.push_reserved(caller);
+        self.lists.history.push_reserved(Entry {
             caller,
             call: Call::Claim,
             proposal,
@@ -242,9 +226,9 @@ impl Board {
         let refused = refusal(
             &self.terms,
             &self.ledger,
-            &self.marks,
-            &self.takers,
-            &mut self.own,
+            &self.lists.marks,
+            &self.lists.takers,
+            &mut self.room.own,
             caller,
             task,
         );
@@ -254,12 +238,19 @@ impl Board {
         let units = self.terms.units();
         let before = task.proposal as usize - 1;
         let at = task_number(units, task.proposal, task.unit);
-        self.marks[at] = true;
+        self.lists.marks[at] = true;
         self.store.put(at, answer);
         self.ledger.add(before, task, answer);
-        let closes = count_up(&mut self.counts, before) == units;
-        self.history.push_reserved(post_entry(caller, task, closes));
-        advance(&self.terms, &self.counts, &mut self.ledger, &mut self.next);
+        let closes = count_up(&mut self.lists.counts, before) == units;
+        self.lists
+            .history
+            .push_reserved(post_entry(caller, task, closes));
+        advance(
+            &self.terms,
+            &self.lists.counts,
+            &mut self.ledger,
+            &mut self.room.next,
+        );
         Posted::Taken {
             closed: closed_of(closes, task.proposal),
         }
@@ -273,12 +264,12 @@ impl Board {
     {
         board_laws();
         let at = caller as usize;
-        if self.halted[at] {
+        if self.lists.halted[at] {
             return;
         }
-        self.halted[at] = true;
+        self.lists.halted[at] = true;
         self.any_halt = true;
-        self.history.push_reserved(Entry {
+        self.lists.history.push_reserved(Entry {
             caller,
             call: Call::Halt,
             proposal: 0,
@@ -293,7 +284,7 @@ impl Board {
         ensures entries { result.now ≡ entries_of self.now.events }
         ensures legal { IsLegalHistory self.now.setup self.now.events }
     {
-        self.history.as_slice()
+        self.lists.history.as_slice()
     }
 
     /// How many callers it was made for. Like all that a board is made for, they are within the
@@ -310,15 +301,10 @@ impl Board {
     {
         let Board {
             terms,
-            history: _,
-            takers: _,
-            marks: _,
+            lists: _,
             store: _,
-            counts: _,
             ledger: _,
-            next: _,
-            own: _,
-            halted: _,
+            room: _,
             any_halt: _,
         } = self;
         terms

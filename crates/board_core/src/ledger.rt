@@ -24,7 +24,6 @@ use uc_model::lists::Amounts;
 use uc_model::units::{Answered, Prices, UnitKind};
 
 /// All proposals of a board: the first so many are closed, and the first so many are open.
-#[derive(Drop)]
 pub struct Ledger {
     proposals: Vec<Row>,
     // what the answers of each earn
@@ -54,6 +53,19 @@ impl Model for Ledger {
 
     ghost invariant = { λ l. 0 < l.closed
         → IsFirstUpTo (values_of (map proposal_of l.proposals.items)) l.closed l.best };
+}
+
+// Written out, so that a drop of it is a call, and not one for each list.
+impl Drop for Ledger {
+    fn drop(self) {
+        let Ledger {
+            proposals: _,
+            earned: _,
+            closed: _,
+            opened: _,
+            best: _,
+        } = self;
+    }
 }
 
 fn blank_row(alloc: Global, periods: u32) -> Result<Row, AllocError>

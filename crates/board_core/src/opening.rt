@@ -3,7 +3,8 @@ ghost use Rattle.std.specs.Prelude.{◌≡◌, ◌+◌, ◌*◌, ◌≤◌, [], 
 ghost use Rattle.std.specs.Prelude.{vec_capacity};
 ghost use Rattle.uc_model.specs.PlainCases.{market_of};
 ghost use Rattle.uc_model.specs.declared.limits.TheConstants.{MOST_AHEAD, MOST_CALLERS};
-ghost use Rattle.uc_model.specs.declared.limits.TheConstants.{MOST_TASKS};
+ghost use Rattle.uc_model.specs.declared.limits.TheConstants.{MOST_TASKS, MOST_PERIODS};
+ghost use Rattle.uc_model.specs.TaskRoom.{IsTaskFor};
 ghost use Rattle.uc_model.specs.PlainUnits.{prices_of};
 ghost use Rattle.uc_model.specs.PriceRule.{start_prices as start_prices_of};
 ghost use Rattle.board_core.specs.Openings.{blank_ledger, with_openings};
@@ -12,18 +13,61 @@ use crate::ledger::Ledger;
 use board_history::entries::Entry;
 use price_space::{opening_prices, start_prices};
 use std::alloc::{AllocError, Global};
-use uc_model::cases::Case;
+use uc_model::cases::{Case, Task};
 use uc_model::lists::Numbers;
 use uc_model::units::Prices;
 
 /// The lists of a board that events are kept in.
-#[derive(Drop)]
 pub struct EventLists {
     pub history: Vec<Entry>,
+    // the callers to whom the tasks were given, in the order of the tasks
     pub takers: Vec<u32>,
+    // for each task whether it has an answer
     pub marks: Vec<bool>,
+    // for each proposal how many answers it has
     pub counts: Vec<u32>,
+    // for each caller whether it has halted
     pub halted: Vec<bool>,
+}
+
+// Written out, so that a drop of them is a call, and not one for each list.
+impl Drop for EventLists {
+    fn drop(self) {
+        let EventLists {
+            history: _,
+            takers: _,
+            marks: _,
+            counts: _,
+            halted: _,
+        } = self;
+    }
+}
+
+/// Room for the prices that follow the rows, and for the board's own task.
+pub struct Room {
+    pub next: Prices,
+    pub own: Task,
+}
+
+// Written out, so that a drop of it is a call, and not one for each list in it.
+impl Drop for Room {
+    fn drop(self) {
+        let Room { next: _, own: _ } = self;
+    }
+}
+
+impl Room {
+    /// Room for prices and a task over so many periods.
+    pub fn make(alloc: Global, periods: u32) -> Result<Room, AllocError>
+        requires some { 1 ≤ periods }
+        requires limit { periods ≤ MOST_PERIODS }
+        ensures next { IfOk result (λ r. length (prices_of r.next).energy ≡ periods) }
+        ensures own { IfOk result (λ r. IsTaskFor periods r.own) }
+    {
+        let next = Prices::make(alloc, periods)?;
+        let own = Task::make(alloc, periods)?;
+        Ok(Room { next, own })
+    }
 }
 
 // So many flags that are off.

@@ -1,6 +1,7 @@
 //! What a board is made for.
 ghost use Rattle.std.specs.Prelude.{◌≡◌, ◌+◌, ◌-◌, ◌*◌, ◌<◌, ◌≤◌, length};
 ghost use Rattle.uc_model.specs.Data.{unit_count};
+ghost use Rattle.uc_model.specs.PlainCases.{market_of, schedules_of};
 ghost use Rattle.uc_model.specs.declared.limits.TheConstants.{MOST_PROPOSALS, MOST_UNITS};
 ghost use Rattle.board_core.specs.Events.{task_number};
 ghost use Rattle.board_core.specs.Setups.{setup_of};
@@ -9,7 +10,6 @@ use uc_model::cases::{Case, Plan};
 
 /// A case with a feasible plan and its cost in money; how many proposals there may be, how many are
 /// open ahead of the closed ones, and the number of callers.
-#[derive(Drop)]
 pub struct Terms {
     pub case: Case,
     pub plan: Plan,
@@ -19,12 +19,42 @@ pub struct Terms {
     pub callers: u32,
 }
 
+// Written out, so that a drop of them is a call, and not one for each list of the case.
+impl Drop for Terms {
+    fn drop(self) {
+        let Terms {
+            case: _,
+            plan: _,
+            cost: _,
+            budget: _,
+            ahead: _,
+            callers: _,
+        } = self;
+    }
+}
+
 impl Terms {
     /// The number of units, bids among them.
     pub fn units(&self) -> u32
         ensures { result ≡ unit_count (setup_of self.now).market }
     {
         (self.case.thermal.len() + self.case.flat.len() + self.case.bids.len()) as u32
+    }
+
+    /// The case and the plan.
+    pub fn into_parts(self) -> (Case, Plan)
+        ensures case { market_of result.0 ≡ (setup_of self).market }
+        ensures plan { schedules_of result.1 ≡ (setup_of self).plan }
+    {
+        let Terms {
+            case,
+            plan,
+            cost: _,
+            budget: _,
+            ahead: _,
+            callers: _,
+        } = self;
+        (case, plan)
     }
 }
 

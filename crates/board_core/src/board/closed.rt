@@ -144,7 +144,6 @@ impl Closed {
         ensures case { market_of result.0 ≡ self.setup.market }
         ensures plan { schedules_of result.1 ≡ self.setup.plan }
     {
-        let terms = self.board.into_terms();
-        (terms.case, terms.plan)
+        self.board.into_terms().into_parts()
     }
 }

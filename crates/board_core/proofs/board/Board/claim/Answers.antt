@@ -91,8 +91,8 @@ module _ (c : After-units-units) where
   event_is : event_of units x.kept entry ≡ event
   event_is = ap (λ (i : ℕ). Given c.args.caller (i + 1) (c.len-number.result % c.units-units.result)) before_is ∙ ap (Given c.args.caller (before + 1)) unit_is
 
-  events_are : (entries : List Entry) → entries ≡ c.self.inside.history.items ++ entry ∷ [] → events_of units x.kept entries ≡ h ++ event ∷ []
-  events_are entries longer = events_more units x.kept c.self.inside.history.items entries entry longer ∙ ap (λ (e : Event Answer). h ++ e ∷ []) event_is
+  events_are : (entries : List Entry) → entries ≡ c.self.inside.lists.history.items ++ entry ∷ [] → events_of units x.kept entries ≡ h ++ event ∷ []
+  events_are entries longer = events_more units x.kept c.self.inside.lists.history.items entries entry longer ∙ ap (λ (e : Event Answer). h ++ e ∷ []) event_is
 
 pub returns-then-open-closed-clause-answer : goal.returns-then-open-closed-clause-answer
 returns-then-open-closed-clause-answer c = answered c.self.view_is (finished (goal.at.returns-then-open-closed-clause-answer c).Then-open-closed)
@@ -163,9 +163,9 @@ invariant_of-self c =
       subst (λ (z : List (Event Answer)). IsBoard (b d) z (lists c.push_reserved.new.self.items) (l d)) (sym events)
           (subst (λ (xs : List ℕ). IsBoard (b d) (h d ++ event d ∷ []) (lists xs) (l d)) (sym takers) new),
       record {
-        room = omega (arith, w, room, lengths, lengths2, length-append s.takers.items (k ∷ []), length-append s.history.items (entry d ∷ []), c.push_reserved-2.ensures.capacity);
+        room = omega (arith, w, room, lengths, lengths2, length-append s.lists.takers.items (k ∷ []), length-append s.lists.history.items (entry d ∷ []), c.push_reserved-2.ensures.capacity);
         takers_room = omega (arith, takers_room, c.push_reserved.ensures.capacity);
-        entries_are = entries_more (h d) (events_of (units d) (x d).kept c.push_reserved-2.new.self.items) (event d) s.history.items c.push_reserved-2.new.self.items events (history ∙ ap (λ (e : Event Answer). s.history.items ++ entry_of e ∷ []) (event_is d)) K.entries_are;
+        entries_are = entries_more (h d) (events_of (units d) (x d).kept c.push_reserved-2.new.self.items) (event d) s.lists.history.items c.push_reserved-2.new.self.items events (history ∙ ap (λ (e : Event Answer). s.lists.history.items ++ entry_of e ∷ []) (event_is d)) K.entries_are;
         store = K.store;
         next = K.next;
       },

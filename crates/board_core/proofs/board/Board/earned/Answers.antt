@@ -6,7 +6,7 @@ pub earned-requires : goal.earned-requires
 earned-requires c =
     let s = c.self.inside in
     let b = setup_of s.terms in
-    let h = events_of (unit_count b.market) (answers_kept s.store) s.history.items in
+    let h = events_of (unit_count b.market) (answers_kept s.store) s.lists.history.items in
     let last = subst (λ (v : Content). c.args.proposal ≤ length (own_rows v)) (sym c.self.view_is) c.requires.last in
     let unit = subst (λ (v : Content). c.args.unit < unit_count v.setup.market) (sym c.self.view_is) c.requires.unit in
     let i = c.task_number.ensures ∙ ap (λ (m : ℕ). task_number m c.args.proposal c.args.unit) c.units.ensures in
@@ -16,7 +16,7 @@ pub returns : goal.returns
 returns c =
     let s = c.self.inside in
     let b = setup_of s.terms in
-    let h = events_of (unit_count b.market) (answers_kept s.store) s.history.items in
+    let h = events_of (unit_count b.market) (answers_kept s.store) s.lists.history.items in
     let last = subst (λ (v : Content). c.args.proposal ≤ length (own_rows v)) (sym c.self.view_is) c.requires.last in
     let unit = subst (λ (v : Content). c.args.unit < unit_count v.setup.market) (sym c.self.view_is) c.requires.unit in
     let i = c.task_number.ensures ∙ ap (λ (m : ℕ). task_number m c.args.proposal c.args.unit) c.units.ensures in

@@ -27,8 +27,8 @@ module _ (c : After-index) where
   abbrev entry : Entry
   entry = record { caller = c.args.caller; call = calls.Halt; proposal = 0; unit = 0; reply = replies.Stopped }
 
-  events_are : (entries : List Entry) → entries ≡ c.self.inside.history.items ++ entry ∷ [] → events_of (unit_count b.market) x.kept entries ≡ h ++ Stopped c.args.caller ∷ []
-  events_are entries longer = events_more (unit_count b.market) x.kept c.self.inside.history.items entries entry longer
+  events_are : (entries : List Entry) → entries ≡ c.self.inside.lists.history.items ++ entry ∷ [] → events_of (unit_count b.market) x.kept entries ≡ h ++ Stopped c.args.caller ∷ []
+  events_are entries longer = events_more (unit_count b.market) x.kept c.self.inside.lists.history.items entries entry longer
 
   followed : (t : Bool) → list_any (is_halt_of c.args.caller) h ≡ t → content b (cond t h (h ++ Stopped c.args.caller ∷ [])) ≡ after_halt c.args.self.now c.args.caller
   followed t e = sym (ap (λ (z : Bool). content b (cond z h (h ++ Stopped c.args.caller ∷ []))) e) ∙ ap (λ (v : Content). after_halt v c.args.caller) c.self.view_is
@@ -47,14 +47,14 @@ invariant_of-self c =
     let first = was d ∙ c.if-index.false in
     let history = c.push_reserved.ensures.items in
     let events = events_are d c.push_reserved.new.self.items history in
-    let less = one_less s.halted.items k (place d) first in
+    let less = one_less s.lists.halted.items k (place d) first in
     let room = K.room in
     let long = ap (λ (xs : List Entry). length xs) history in (
       subst (λ (z : List (Event Answer)). IsBoard (b d) z (halted_lists (x d) k) s.ledger) (sym events) (stopped (b d) (h d) (x d) s.ledger c.self.invariant.0 k (caller d) first c.board_laws.ensures),
       record {
-        room = omega (arith, room, less, long, length-append s.history.items (entry d ∷ []), c.push_reserved.ensures.capacity);
+        room = omega (arith, room, less, long, length-append s.lists.history.items (entry d ∷ []), c.push_reserved.ensures.capacity);
         takers_room = K.takers_room;
-        entries_are = entries_more (h d) (events_of (unit_count (b d).market) (x d).kept c.push_reserved.new.self.items) (Stopped k) s.history.items c.push_reserved.new.self.items events history K.entries_are;
+        entries_are = entries_more (h d) (events_of (unit_count (b d).market) (x d).kept c.push_reserved.new.self.items) (Stopped k) s.lists.history.items c.push_reserved.new.self.items events history K.entries_are;
         store = K.store;
         next = K.next;
       },

@@ -6,7 +6,7 @@ pub returns : goal.returns
 returns c =
     let s = c.self.inside in
     let b = setup_of s.terms in
-    let h = events_of (unit_count b.market) (answers_kept s.store) s.history.items in
+    let h = events_of (unit_count b.market) (answers_kept s.store) s.lists.history.items in
     let I = c.self.invariant.0 in
     let o = c.opened.ensures ∙ opened_is b s.ledger I.ledger (posts h) I.rounds in
     let k = c.closed.ensures ∙ closed_is b s.ledger I.ledger (posts h) I.rounds (c.board_laws.ensures.of b) in

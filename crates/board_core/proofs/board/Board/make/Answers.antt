@@ -1,12 +1,26 @@
-use Rattle.board_core.proofs.Common.{rules, ◌≡◌, ℕ, ◌*◌, ℤ, pos, Bool, false, List, [], length, min, sym, ap, ◌∙◌, subst, arith, FitsSigned, to_z-of_z, length-replicate, length-map-range_with_len, w128, replicate, Answer, entries_of, Event, Entry, unit_count, start_prices, setup_for, events_of, blank_ledger, with_openings, Lists, unset, task_count, IsBoard, answers_kept}
+use Rattle.board_core.proofs.Common.{rules, ◌≡◌, ◌≤◌, ℕ, ◌*◌, ℤ, Bool, false, List, [], length, min, sym, ap, ◌∙◌, subst, arith, FitsSigned, to_z-of_z, le-mul_of_pos_right, MOST_TASKS, MOST_WORK, Setup, IsSetup, length-map-range_with_len, w128, replicate, Answer, entries_of, Event, Entry, unit_count, start_prices, setup_for, events_of, blank_ledger, with_openings, Lists, unset, task_count, IsBoard, answers_kept}
 use Rattle.board_core.proofs.Lemmas.{as_many, IsOpened, opened}
 use Rattle.board_core.proofs.Starts.{starts, all_unset}
 use Rattle.board_core.proofs.board.Board.make.Goals as goal
 
+-- so many tasks, where their work is within its limit
+within : (tasks periods : ℕ) → 1 ≤ periods → tasks * periods ≤ MOST_WORK → tasks ≤ MOST_TASKS
+within tasks periods some size = let more = le-mul_of_pos_right tasks some in omega arith
+
+few : (b : Setup) (S : IsSetup b) (units : ℕ) → units ≡ unit_count b.market → b.budget * units ≤ MOST_TASKS
+few b S units is = rw is (within (b.budget * unit_count b.market) b.market.periods S.market.horizon.at_least S.size)
+
+pub no_events-requires-clause-tasks : goal.no_events-requires-clause-tasks
+no_events-requires-clause-tasks c = few (setup_for c.args.case c.args.plan c.args.cost c.args.budget c.args.ahead c.args.callers) c.requires c.units.result c.units.ensures
+
+pub make-requires-2-clause-few : goal.make-requires-2-clause-few
+make-requires-2-clause-few c = few (setup_for c.args.case c.args.plan c.args.cost c.args.budget c.args.ahead c.args.callers) c.requires c.units.result c.units.ensures
+
+pub make-requires-2-clause-size : goal.make-requires-2-clause-size
+make-requires-2-clause-size c = rw c.units.ensures c.requires.size
+
 pub open_ledger-requires-clause-horizon : goal.open_ledger-requires-clause-horizon
-open_ledger-requires-clause-horizon c =
-    let b = setup_for c.args.case c.args.plan c.args.cost c.args.budget c.args.ahead c.args.callers in
-    ap (λ (xs : List ℤ). length xs) c.in_ok-next.ensures.energy ∙ length-replicate b.market.periods (pos 0)
+open_ledger-requires-clause-horizon c = c.in_ok-room.ensures.next
 
 pub invariant_of-result : goal.invariant_of-result
 invariant_of-result c =
@@ -50,5 +64,5 @@ invariant_of-result c =
         store = c.in_ok-store.ensures.periods;
         next = c.open_ledger.ensures.horizon;
       },
-      c.in_ok-own.ensures.room,
+      c.in_ok-room.ensures.own,
     )

@@ -1,9 +1,9 @@
-use Rattle.board_core.proofs.Common.{◌≡◌, ℕ, suc, ◌+◌, ◌-◌, ◌<◌, ◌==◌, ℤ, Bool, true, false, Option, List, [], ◌∷◌, ◌++◌, length, get_or, refl, subst, sym, ap, ◌∙◌, arith, length-append, set, All, kept_of, Answer, Content, rules_of, IsTotal, IsSum, post_answer, after_post, entry_of, Event, posts, with_post, is_closed, post_event, with_answer, Entry, unit_count, task_unit, prices_of, task_number, events_of, blank, Lists, unset, sums_of, fronts_of, AreTallies, IsBoard, refusal_of, reply_of, posted_of, closed_if, Sums, Fronts, is_full, IsRound, answer_of, answers_kept, Posts, PostReply, Setup, IsLegalHistory, Difference, AnyUnit, PriceLists, Proposal, int_at, LedgerValue, IsLedger, ◌≤◌}
+use Rattle.board_core.proofs.Common.{◌≡◌, ℕ, suc, ◌+◌, ◌-◌, ◌<◌, ◌==◌, ℤ, Bool, true, false, Option, List, [], ◌∷◌, ◌++◌, length, get_or, slice_index_or, refl, subst, sym, ap, ◌∙◌, arith, length-append, set, All, kept_of, Answer, Content, rules_of, IsTotal, IsSum, post_answer, after_post, entry_of, Event, posts, with_post, is_closed, post_event, with_answer, Entry, unit_count, task_unit, prices_of, task_number, events_of, blank, Lists, unset, sums_of, fronts_of, AreTallies, IsBoard, refusal_of, reply_of, posted_of, closed_if, Sums, Fronts, is_full, IsRound, answer_of, answers_kept, Posts, PostReply, Setup, IsLegalHistory, Difference, AnyUnit, PriceLists, Proposal, int_at, LedgerValue, IsLedger, ◌≤◌, le_trans, MOST_UNITS}
 use Rattle.board_history.specs.declared.entries.Call.TheVariants as calls
 use Rattle.board_core.specs.declared.replies.Posted.TheVariants as replies_of
 use Rattle.board_core.proofs.Lemmas.{content, entries_more, is_task, one_less, is_inside, put_kept, place_before, refusal_is, refused_says, taken_here, supply_small, reserve_small, units_few, entry_is, setup_in, events_in, lists_in, IsTakenHere}
 use Rattle.board_core.proofs.PostEvents.{events_posted}
-use Rattle.board_core.proofs.PostLists.{mark_inside, kept_inside, free, count_few, closes_is}
+use Rattle.board_core.proofs.PostLists.{k_inside, mark_inside, kept_inside, free, count_few, closes_is}
 use Rattle.board_core.proofs.PostRounds.{rounds_in, sums_small, rows_below, legal_post, posts_are, extends, full_was_open, posted}
 use Rattle.board_core.proofs.PostSums.{IsCounted, place_, supply_was, reserve_was, earned_was, tallies_more, fronts_same, counted_ledger}
 use Rattle.board_core.proofs.board.Board.post.Goals as goal
@@ -18,7 +18,7 @@ kept_is c i at_ = put_kept c.self.inside.store c.put.new.self c.task_number-at.r
 counted : (c : After-add) → IsCounted c.self.inside.ledger c.add.new.self (c.args.task.now.proposal - 1) (task_unit c.args.task.now) (answer_of c.args.answer.now) (blank 0)
 counted c = record { proposals = c.add.ensures.proposals (blank 0); earned = c.add.ensures.earned; closed = c.add.ensures.closed; opened = c.add.ensures.opened }
 
-counts_are : (c : After-deref-3) → c.deref-3.result.now ≡ set c.self.inside.counts.items (c.args.task.now.proposal - 1) (get_or c.self.inside.counts.items (c.args.task.now.proposal - 1) 0 + 1)
+counts_are : (c : After-deref-3) → c.deref-3.result.now ≡ set c.self.inside.lists.counts.items (c.args.task.now.proposal - 1) (get_or c.self.inside.lists.counts.items (c.args.task.now.proposal - 1) 0 + 1)
 counts_are c = c.deref-3.ensures.value ∙ c.count_up.ensures.counts
 
 -- a post that is refused
@@ -149,10 +149,25 @@ module _ (c : In_default) where
     closes_so = tested ∙ sym (closes_is b h x l I k n u a ok.held)
 
     events_so : (entry : Entry) (entries : List Entry) (kept : List Answer) → entry ≡ record { caller = k; call = calls.Post; proposal = n; unit = u; reply = reply_of (count == m) } →
-        entries ≡ c.self.inside.history.items ++ entry ∷ [] → kept ≡ set x.kept i a → events_of units kept entries ≡ h2
+        entries ≡ c.self.inside.lists.history.items ++ entry ∷ [] → kept ≡ set x.kept i a → events_of units kept entries ≡ h2
     events_so entry entries kept entry_as longer more =
         ap (λ (xs : List Answer). events_of units xs entries) more ∙ ap (events_of units (set x.kept i a)) longer
-        ∙ events_posted c.board_laws.ensures.answers_fit b h x l I k n u a ok.held c.self.inside.history.items refl (count == m) tested entry entry_as
+        ∙ events_posted c.board_laws.ensures.answers_fit b h x l I k n u a ok.held c.self.inside.lists.history.items refl (count == m) tested entry entry_as
+
+pub refusal-refused-requires-clause-setup : goal.refusal-refused-requires-clause-setup
+refusal-refused-requires-clause-setup c = c.self.invariant.0.setup
+
+pub refusal-refused-requires-clause-opened : goal.refusal-refused-requires-clause-opened
+refusal-refused-requires-clause-opened c = let L = c.self.invariant.0.ledger in subst (λ (m : ℕ). c.self.inside.ledger.opened ≤ m) (sym L.count) L.opened
+
+pub refusal-refused-requires-clause-few : goal.refusal-refused-requires-clause-few
+refusal-refused-requires-clause-few c = le_trans c.self.invariant.0.ledger.opened c.self.invariant.0.setup.budget
+
+pub refusal-refused-requires-clause-horizon : goal.refusal-refused-requires-clause-horizon
+refusal-refused-requires-clause-horizon c = λ k d lt. let L = c.self.invariant.0.ledger in L.horizon k d (le_trans lt (subst (λ (m : ℕ). c.self.inside.ledger.opened ≤ m) (sym L.count) L.opened))
+
+pub refusal-refused-requires-clause-room : goal.refusal-refused-requires-clause-room
+refusal-refused-requires-clause-room c = c.self.invariant.2
 
 pub refusal-refused-requires-clause-marks : goal.refusal-refused-requires-clause-marks
 refusal-refused-requires-clause-marks c =
@@ -165,6 +180,11 @@ refusal-refused-requires-clause-marks c =
     let size = I.marks_are.marks_count in
     omega (arith, e, f, size)
 
+pub refusal-refused-requires-clause-takers : goal.refusal-refused-requires-clause-takers
+refusal-refused-requires-clause-takers c = λ i marked.
+    subst (λ (xs : List ℕ). i < length xs) (sym c.deref-2.ensures.value)
+    (c.self.invariant.0.marks_are.claimed i (subst (λ (xs : List Bool). slice_index_or xs i false ≡ true) c.deref.ensures.value marked))
+
 pub returns-in-Some-clause-answer : goal.returns-in-Some-clause-answer
 returns-in-Some-clause-answer c =
     sym (says (goal.at.returns-in-Some-clause-answer c).In-Some).0 ∙ ap (λ (z : Content). posted_of (post_answer z c.args.caller c.args.task.now.proposal c.args.task.now.unit (prices_of c.args.task.now.prices) (task_unit c.args.task.now) (answer_of c.args.answer.now))) c.self.view_is
@@ -175,6 +195,26 @@ returns-in-Some-clause-after c =
     let h = events_in c.self.inside in
     sym (ap (content b) ((says (goal.at.returns-in-Some-clause-after c).In-Some).1 h (post_event (rules_of b) (posts h) c.args.caller c.args.task.now.proposal c.args.task.now.unit (answer_of c.args.answer.now))))
     ∙ ap (λ (z : Content). after_post z c.args.caller c.args.task.now.proposal c.args.task.now.unit (prices_of c.args.task.now.prices) (task_unit c.args.task.now) (answer_of c.args.answer.now)) c.self.view_is
+
+pub task_number-at-requires-clause-first : goal.task_number-at-requires-clause-first
+task_number-at-requires-clause-first c =
+    let d = (goal.at.task_number-at-requires-clause-first c).In_default in
+    (ok d).held.one
+
+pub task_number-at-requires-clause-proposals : goal.task_number-at-requires-clause-proposals
+task_number-at-requires-clause-proposals c =
+    let d = (goal.at.task_number-at-requires-clause-proposals c).In_default in
+    le_trans (ok d).held.within (le_trans (I d).ledger.opened (I d).setup.budget)
+
+pub task_number-at-requires-clause-units : goal.task_number-at-requires-clause-units
+task_number-at-requires-clause-units c =
+    let d = (goal.at.task_number-at-requires-clause-units c).In_default in
+    subst (λ (m : ℕ). m ≤ MOST_UNITS) (sym c.units-units.ensures) (units_few (b d) (I d).setup)
+
+pub task_number-at-requires-clause-inside : goal.task_number-at-requires-clause-inside
+task_number-at-requires-clause-inside c =
+    let d = (goal.at.task_number-at-requires-clause-inside c).In_default in
+    subst (λ (m : ℕ). u d < m) (sym c.units-units.ensures) (ok d).held.inside
 
 pub index_mut-requires : goal.index_mut-requires
 index_mut-requires c =
@@ -191,6 +231,21 @@ put-requires-clause-place c =
 pub put-requires-clause-horizon : goal.put-requires-clause-horizon
 put-requires-clause-horizon c = (ok (goal.at.put-requires-clause-horizon c).In_default).long ∙ sym c.self.invariant.1.store
 
+pub add-requires-clause-place : goal.add-requires-clause-place
+add-requires-clause-place c =
+    let d = (goal.at.add-requires-clause-place c).In_default in
+    place_inside d
+
+pub add-requires-clause-earned_place : goal.add-requires-clause-earned_place
+add-requires-clause-earned_place c =
+    let d = (goal.at.add-requires-clause-earned_place c).In_default in
+    subst (λ (m : ℕ). n d - 1 < m) (sym (I d).tallies.earned_count) (k_inside (b d) (h d) (x d) (l d) (I d) (k d) (n d) (u d) (a d) (ok d).held)
+
+pub add-requires-clause-feasible : goal.add-requires-clause-feasible
+add-requires-clause-feasible c =
+    let d = (goal.at.add-requires-clause-feasible c).In_default in
+    (ok d).feasible
+
 pub add-requires-clause-horizon : goal.add-requires-clause-horizon
 add-requires-clause-horizon c =
     let d = (goal.at.add-requires-clause-horizon c).In_default in
@@ -205,6 +260,11 @@ add-requires-clause-reserve c = reserve (goal.at.add-requires-clause-reserve c).
 pub add-requires-clause-earned : goal.add-requires-clause-earned
 add-requires-clause-earned c = earned (goal.at.add-requires-clause-earned c).In_default
 
+pub count_up-requires-clause-place : goal.count_up-requires-clause-place
+count_up-requires-clause-place c =
+    let d = (goal.at.count_up-requires-clause-place c).In_default in
+    subst (λ (m : ℕ). n d - 1 < m) (sym (I d).tallies.counts_count) (k_inside (b d) (h d) (x d) (l d) (I d) (k d) (n d) (u d) (a d) (ok d).held)
+
 pub count_up-requires-clause-count : goal.count_up-requires-clause-count
 count_up-requires-clause-count c =
     let d = (goal.at.count_up-requires-clause-count c).In_default in
@@ -216,6 +276,22 @@ push_reserved-requires c =
     let e = less (goal.at.push_reserved-requires c).In_default in
     let room = c.self.invariant.1.room in
     omega (arith, e, room)
+
+pub advance-requires-clause-setup : goal.advance-requires-clause-setup
+advance-requires-clause-setup c = c.self.invariant.0.setup
+
+pub advance-requires-clause-counts : goal.advance-requires-clause-counts
+advance-requires-clause-counts c =
+    let d = (goal.at.advance-requires-clause-counts c).In_default in
+    ap (λ (xs : List ℕ). length xs) (counts_are (goal.at.advance-requires-clause-counts c).After-deref-3) ∙ (tallies d c.add.new.self (counted (goal.at.advance-requires-clause-counts c).After-add)).counts_count
+
+pub advance-requires-clause-earned_count : goal.advance-requires-clause-earned_count
+advance-requires-clause-earned_count c =
+    let d = (goal.at.advance-requires-clause-earned_count c).In_default in
+    (tallies d c.add.new.self (counted (goal.at.advance-requires-clause-earned_count c).After-add)).earned_count
+
+pub advance-requires-clause-horizon : goal.advance-requires-clause-horizon
+advance-requires-clause-horizon c = c.self.invariant.1.next
 
 pub advance-requires-clause-ledger : goal.advance-requires-clause-ledger
 advance-requires-clause-ledger c = ledger (goal.at.advance-requires-clause-ledger c).In_default c.add.new.self (counted (goal.at.advance-requires-clause-ledger c).After-add)
@@ -259,17 +335,17 @@ invariant_of-self-2 c =
     let T = tallies d c.add.new.self (counted (goal.at.invariant_of-self-2 c).After-add) in
     let l3 = c.advance.new.ledger in
     let kept : answers_kept c.put.new.self ≡ set (answers_kept s.store) (i d) (a d) = kept_is (goal.at.invariant_of-self-2 c).After-put (i d) at_ in
-    let marks_is : set s.marks.items c.task_number-at.result true ≡ set s.marks.items (i d) true = ap (λ (j : ℕ). set s.marks.items j true) at_ in
+    let marks_is : set s.lists.marks.items c.task_number-at.result true ≡ set s.lists.marks.items (i d) true = ap (λ (j : ℕ). set s.lists.marks.items j true) at_ in
     let events = events_so d c.count_up.result c.units-units.result c.count_up.ensures.count c.units-units.ensures c.post_entry.result c.push_reserved.new.self.items (answers_kept c.put.new.self) c.post_entry.ensures c.push_reserved.ensures.items kept in
     let T3 = subst (λ (z : Sums). AreTallies (b d) (counts2 d) z (q d)) (sym c.advance.ensures.sums) T in
     let R3 = subst (λ (xs : List ℕ). IsRound (b d) (units d) xs (sums_of l3) (fronts_of l3)) cs c.advance.ensures.round in
     let done : l3.closed < (b d).budget → is_full (units d) (counts2 d) (suc l3.closed) ≡ false = λ lt. subst (λ (xs : List ℕ). is_full (units d) xs (suc l3.closed) ≡ false) cs (c.advance.ensures.done lt) in
     let new = posted c.board_laws.ensures (b d) (h d) x (l d) (I d) (k d) (n d) (u d) (a d) (ok d).held (caller d) (ok d).right l3 c.advance.ensures.ledger T3 R3 done in
     let lists : (marks : List Bool) (kept : List Answer) (counts : List ℕ) → Lists = λ marks kept counts. record x { marks = marks; kept = kept; counts = counts } in
-    let n1 = subst (λ (xs : List ℕ). IsBoard (b d) (h2 d) (lists (set s.marks.items (i d) true) (set (answers_kept s.store) (i d) (a d)) xs) l3) (sym c.count_up.ensures.counts) new in
-    let n2 = subst (λ (xs : List Answer). IsBoard (b d) (h2 d) (lists (set s.marks.items (i d) true) xs c.count_up.new.counts.items) l3) (sym kept) n1 in
+    let n1 = subst (λ (xs : List ℕ). IsBoard (b d) (h2 d) (lists (set s.lists.marks.items (i d) true) (set (answers_kept s.store) (i d) (a d)) xs) l3) (sym c.count_up.ensures.counts) new in
+    let n2 = subst (λ (xs : List Answer). IsBoard (b d) (h2 d) (lists (set s.lists.marks.items (i d) true) xs c.count_up.new.counts.items) l3) (sym kept) n1 in
     let n3 = subst (λ (xs : List Bool). IsBoard (b d) (h2 d) (lists xs (answers_kept c.put.new.self) c.count_up.new.counts.items) l3) (sym marks_is) n2 in
-    let n4 = subst (λ (z : List (Event Answer)). IsBoard (b d) z (lists (set s.marks.items c.task_number-at.result true) (answers_kept c.put.new.self) c.count_up.new.counts.items) l3) (sym events) n3 in
+    let n4 = subst (λ (z : List (Event Answer)). IsBoard (b d) z (lists (set s.lists.marks.items c.task_number-at.result true) (answers_kept c.put.new.self) c.count_up.new.counts.items) l3) (sym events) n3 in
     let fewer = less d in
     let unset_at = ap unset marks_is in
     let room = K.room in
@@ -278,9 +354,9 @@ invariant_of-self-2 c =
     c.post_entry.ensures ∙ ap (λ (y : Bool). record { caller = k d; call = calls.Post; proposal = n d; unit = u d; reply = reply_of y }) (closes_so d c.count_up.result c.units-units.result c.count_up.ensures.count c.units-units.ensures) ∙ sym (entry_is (is_closed (rules_of (b d)) (q d) (n d)) (k d) (n d) (u d) (a d)) in (
       n4,
       record {
-        room = omega (arith, room, fewer, longer, unset_at, length-append s.history.items (c.post_entry.result ∷ []), c.push_reserved.ensures.capacity);
+        room = omega (arith, room, fewer, longer, unset_at, length-append s.lists.history.items (c.post_entry.result ∷ []), c.push_reserved.ensures.capacity);
         takers_room = K.takers_room;
-        entries_are = entries_more (h d) (events_of (units d) (answers_kept c.put.new.self) c.push_reserved.new.self.items) (event d) s.history.items c.push_reserved.new.self.items events (c.push_reserved.ensures.items ∙ ap (λ (y : Entry). s.history.items ++ y ∷ []) entry_same) K.entries_are;
+        entries_are = entries_more (h d) (events_of (units d) (answers_kept c.put.new.self) c.push_reserved.new.self.items) (event d) s.lists.history.items c.push_reserved.new.self.items events (c.push_reserved.ensures.items ∙ ap (λ (y : Entry). s.lists.history.items ++ y ∷ []) entry_same) K.entries_are;
         store = c.put.ensures.periods ∙ K.store;
         next = c.advance.ensures.horizon;
       },

@@ -9,7 +9,7 @@ pub returns-clause-count : goal.returns-clause-count
 returns-clause-count c =
     let s = c.self.inside in
     let b = setup_of s.terms in
-    let h = events_of (unit_count b.market) (answers_kept s.store) s.history.items in
+    let h = events_of (unit_count b.market) (answers_kept s.store) s.lists.history.items in
     let few = rows_few b h _ s.ledger c.self.invariant.0 in
     let e = ap (λ (xs : List Proposal). length xs) c.rows.ensures in
     omega (arith, few, e, length-map c.rows.result.now proposal_of)
