@@ -3,6 +3,8 @@ ghost use Rattle.std.specs.Prelude.{◌≡◌, ◌≤◌, length, IfOk};
 ghost use Rattle.std.specs.List.{All};
 ghost use Rattle.uc_model.specs.Data.{Market, NamedThermalUnit};
 ghost use Rattle.uc_model.specs.declared.limits.TheConstants.{MOST_PERIODS, MOST_POINTS};
+ghost use Rattle.slope_list.specs.Slopes.{room_of};
+ghost use Rattle.unit_program.specs.Benches.{IsBenchFor};
 ghost use Rattle.answer_workers.specs.Workers.{HasParts, IsHeldFor};
 ghost use Rattle.answer_workers.specs.declared.worker.TheConstants.{MOST_HELD};
 
@@ -19,7 +21,6 @@ use unit_program::Bench;
 pub const MOST_HELD: usize = 8;
 
 /// A task that a worker holds, and the answer to it.
-#[derive(Drop)]
 pub struct Held {
     pub task: Task,
     pub answer: Answered,
@@ -27,6 +28,18 @@ pub struct Held {
     pub proposal: u32,
     /// The unit of that task.
     pub unit: u32,
+}
+
+// Written out, so that a drop of it is a call, and not one for each list.
+impl Drop for Held {
+    fn drop(self) {
+        let Held {
+            task: _,
+            answer: _,
+            proposal: _,
+            unit: _,
+        } = self;
+    }
 }
 
 /// A seat at a shared board, and all the memory that its answers take.
@@ -85,6 +98,17 @@ fn make_held(alloc: Global, periods: u32) -> Result<Vec<Held>, AllocError>
     Ok(held)
 }
 
+// A bench that keeps the last answer of the unit that it is asked about.
+fn make_bench(alloc: Global, periods: u32, points: u32) -> Result<Bench<Slopes>, AllocError>
+    requires periods { periods ≤ MOST_PERIODS }
+    requires points { points ≤ MOST_POINTS }
+    ensures { IfOk result (IsBenchFor room_of periods points) }
+{
+    let mut bench = Bench::make(alloc, periods, points)?;
+    bench.keep_for(alloc, 1, periods)?;
+    Ok(bench)
+}
+
 impl Worker {
     /// A worker for a case of so many periods, whose thermal units have at most so many cost
     /// points. `AllocError` is want of memory; the seat is then dropped.
@@ -103,11 +127,10 @@ impl Worker {
             → All (λ (n : NamedThermalUnit). length n.unit.points ≤ points) m.thermal
             → HasParts m w) }
     {
-        let mut bench = Bench::make(alloc, periods, points)?;
-        bench.keep_for(alloc, 1, periods)?;
-        let task = Task::make(alloc, periods)?;
         let answer = Answered::make(alloc, periods)?;
         let held = make_held(alloc, periods)?;
+        let task = Task::make(alloc, periods)?;
+        let bench = make_bench(alloc, periods, points)?;
         Ok(Worker {
             seat,
             bench,

@@ -193,6 +193,12 @@ module _ {R : Type 0} (function : R → Table) (runners runners' : List (Runner 
     | inr other ↦ small f r (sym (live_other function runners runners' i a room set f other) ∙ is)
   ]
 
+  pub off_stopped : (f : ℕ) → live_at function runners f ≡ None → live_at function runners' f ≡ None
+  off_stopped f none = elim (cases_eq f i) [
+    | inl z ↦ ap (live_at function runners') z ∙ live_here function runners runners' i a room set ∙ going_off function a off
+    | inr other ↦ live_other function runners runners' i a room set f other ∙ none
+  ]
+
 pub roomy_stopped : {R : Type 0} (function : R → Table) (count room : R → ℕ) (periods t charge : ℕ) (runners runners' : List (Runner R)) (i : ℕ) (a : Runner R) → i < length runners → runners' ≡ slice_set runners i a →
     a.is_on ≡ false → (old : Runner R) → slice_get runners i ≡ Some old → a.running ≡ old.running → a.passed ≡ old.passed → AreRoomy count room periods t charge runners → AreRoomy count room periods t charge runners'
 roomy_stopped function count room periods t charge runners runners' i a low set off old was same passed roomy =

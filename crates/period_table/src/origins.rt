@@ -30,7 +30,6 @@ pub struct Origin {
 
 /// The ends that a start in the next period may follow, the earliest first, but for those that a
 /// later one dominates.
-#[derive(Drop)]
 pub struct Origins {
     /// The first `count` are meant.
     pub list: ReservedList<Origin>,
@@ -39,6 +38,18 @@ pub struct Origins {
     pub off_from: u32,
     /// Whether a start never costs less after a longer time off.
     pub is_rising: bool,
+}
+
+// Written out, so that a drop of it is a call, and not one for each list.
+impl Drop for Origins {
+    fn drop(self) {
+        let Origins {
+            list: _,
+            count: _,
+            off_from: _,
+            is_rising: _,
+        } = self;
+    }
 }
 
 // Whether a start never costs less after a longer time off: no lag costs less than the one before.

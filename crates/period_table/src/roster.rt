@@ -10,11 +10,20 @@ use std::alloc::{AllocError, Global};
 use uc_model::lists::ReservedList;
 
 /// First periods of runners, rising: those of all that are on, and maybe of others.
-#[derive(Drop)]
 pub struct Roster {
     /// The first `count` are meant.
     pub firsts: ReservedList<u32>,
     pub count: u32,
+}
+
+// Written out, so that a drop of it is a call, and not one for each list.
+impl Drop for Roster {
+    fn drop(self) {
+        let Roster {
+            firsts: _,
+            count: _,
+        } = self;
+    }
 }
 
 impl Roster {

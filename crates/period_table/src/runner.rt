@@ -33,7 +33,6 @@ use uc_model::units::{Curve, Prices, Unit};
 
 /// The spells that begin with one period; its place in a list of runners is that period, and 0
 /// stands for spells that go on from before the horizon. Where it isn't on, the rest is open.
-#[derive(Drop)]
 pub struct Runner<R> {
     pub is_on: bool,
     /// The cost of all before the spell and its start, in money.
@@ -44,6 +43,19 @@ pub struct Runner<R> {
     pub running: R,
     /// What each period that it was taken over left for the way back, by place.
     pub passed: ReservedList<Passed>,
+}
+
+// Written out, so that a drop of it is a call, and not one for each list.
+impl<R: Drop> Drop for Runner<R> {
+    fn drop(self) {
+        let Runner {
+            is_on: _,
+            cost: _,
+            before: _,
+            running: _,
+            passed: _,
+        } = self;
+    }
 }
 
 /// Begins a runner after an entry.

@@ -4,7 +4,7 @@ pub use Rattle.std.proofs.Math.IntN.{zero-*ℤ, *ℤ-one, *ℤ_comm}
 pub use Rattle.std.proofs.lemmas.Bool.{lt-ltb, le-ltb, cases_lt, eqb-true, ltb-true, eq-eqb, false≢true, ne_eqb, and_right}
 pub use Rattle.std.proofs.lemmas.Int.{ints, clamps, to_z-of_z, by_lt_z}
 pub use Rattle.std.proofs.lemmas.List.{length-replicate, get_or-replicate, get_or_past}
-pub use Rattle.std.proofs.lemmas.Option.{get_or_from_slice_get, IfSome_then, MatchOption-at_some}
+pub use Rattle.std.proofs.lemmas.Option.{get_or_from_slice_get, IfSome_then, MatchOption-at_some, MatchOption-at_none}
 pub use Rattle.std.proofs.lemmas.Result.{IfOk-weaker, on_ok_weaker}
 pub use Rattle.std.specs.Int.{int_min, int_max}
 pub use Rattle.std.specs.Option.{option_map}

@@ -265,7 +265,7 @@ pub record IsWrittenFrom (g : ThermalUnit) (π : PriceLists) (first k last : ℕ
   pub on : IsOnFromTo (suc k) last d
   pub outside : IsSameOutside (suc k) last old d
 
-outside_more : (k last : ℕ) (old d d' : Schedule) → suc k ≤ last → IsSameOutside (suc k) (suc k) d d' → IsSameOutside (suc (suc k)) last old d → IsSameOutside (suc k) last old d'
+pub outside_more : (k last : ℕ) (old d d' : Schedule) → suc k ≤ last → IsSameOutside (suc k) (suc k) d d' → IsSameOutside (suc (suc k)) last old d → IsSameOutside (suc k) last old d'
 outside_more k last old d d' low here rest = record {
   on_length = here.on_length ∙ rest.on_length;
   power_length = here.power_length ∙ rest.power_length;

@@ -1,5 +1,5 @@
 -- One period of the way back, as its function has it.
-use Rattle.spell_run.proofs.Common.{◌≡◌, ℕ, suc, ◌<◌, ◌≤◌, inl, inr, ℤ, pos, ◌+ℤ◌, ◌≤ℤ◌, Bool, false, eqb, ltb, length, get_or, Option, Some, None, Result, Ok, Err, IfOk, IfSome, MatchOption, sym, ap, ◌∙◌, subst, arith, IsTrue, option_map, ints, cases_lt, IsCostCurve, EnvelopeIsCost, reserve_term, IsLeast, Table, value_of, IsEmpty, Curve, ThermalUnit, PriceLists, Schedule, IsFrom, IsThermalUnit, ArePrices, int_at, Found, Step, IsOnFromTo, IsFrontier, IsWritten, IsChosen, IsUnreached, IsWayFrom, stops_at, HasNoDispatch, IsSpellAnswer, IsSpellWithin, cap_at, step_at, IsStepped, IsSmall, IsLeastCost}
+use Rattle.spell_run.proofs.Common.{◌≡◌, ℕ, suc, ◌<◌, ◌≤◌, ◌⊎◌, inl, inr, ℤ, pos, ◌+ℤ◌, ◌≤ℤ◌, Bool, false, eqb, ltb, length, get_or, Option, Some, None, Result, Ok, Err, IfOk, IfSome, MatchOption, sym, ap, ◌∙◌, subst, arith, IsTrue, option_map, ints, cases_lt, IsCostCurve, EnvelopeIsCost, reserve_term, IsLeast, Table, value_of, IsEmpty, Curve, ThermalUnit, PriceLists, Schedule, IsFrom, IsThermalUnit, ArePrices, int_at, Found, Step, IsOnFromTo, IsSameOutside, IsFrontier, IsWritten, IsChosen, IsUnreached, IsWayFrom, stops_at, HasNoDispatch, IsSpellAnswer, IsSpellWithin, cap_at, step_at, IsStepped, IsSmall, IsLeastCost}
 use Rattle.spell_run.proofs.FairLaws.{IsStep}
 use Rattle.spell_run.proofs.FrontierLaws.{small_frontier, frontier_more, answer_of_step}
 use Rattle.spell_run.proofs.StepLaws.{IsFromMove, step_sound}
@@ -16,6 +16,21 @@ pub on_last : (k last : ℕ) (p r : ℤ) (d d' : Schedule) → suc k ≡ last �
 on_last k last p r d d' is written j from until =
     let z : k ≡ j = omega (arith, is, from, until) in
     subst (λ (i : ℕ). IsTrue (get_or d'.on i false)) z written.on
+
+-- what stays outside the periods from k on stays outside those from k - 1 on
+pub outside_wider : (k last : ℕ) (d d' : Schedule) → IsSameOutside (suc (suc k)) last d d' → IsSameOutside (suc k) last d d'
+outside_wider k last d d' same = record {
+  on_length = same.on_length;
+  power_length = same.power_length;
+  reserve_length = same.reserve_length;
+  on = λ j out. same.on j (apart j out);
+  power = λ j out. same.power j (apart j out);
+  reserve = λ j out. same.reserve j (apart j out);
+}
+  where
+    apart : (j : ℕ) → (suc j < suc k) ⊎ (last < suc j) → (suc j < suc (suc k)) ⊎ (last < suc j)
+    apart j (inl h) = inl (omega (arith, h))
+    apart j (inr h) = inr h
 
 -- a period of a spell, and the step over it
 pub record IsPeriod (g : ThermalUnit) (π : PriceLists) (first k last : ℕ) (c : Curve) (s : Step) (f h : Table) : Type 0 where
@@ -107,21 +122,13 @@ module _ {g : ThermalUnit} {π : PriceLists} {first k last : ℕ} {c : Curve} {s
     abbrev Choice : Option Found → Type 0
     Choice best = MatchOption best (IsUnreached s f' x) (λ (found : Found). IsChosen s f' k x found.power d d')
 
+    -- a way from the choice, within the bounds and on in its periods; where none was found nothing was written
     pub way_chosen : {E : Type 0} → (r : Result (Option Found) E) → IfOk r Choice → IfOk r (λ (best : Option Found). IfSome best (λ (found : Found). found.cost ≡ cost)) →
-        IfOk r (λ (best : Option Found). MatchOption best (HasNoDispatch g (length π.energy) first last) (λ (found : Found). IsWayFrom g π first k last f d' found.power found.cost))
-    way_chosen (Err e) chosen is = tt
-    way_chosen (Ok None) unreached is = absurd (is_reached unreached)
-    way_chosen (Ok (Some found)) chosen is =
+        (P : Type 0) → IsSpellWithin first last cost → ((q : ℤ) → IsWritten k x q d d' → IsOnFromTo (suc k) last d') →
+        IfOk r (λ (best : Option Found). MatchOption best (HasNoDispatch g (length π.energy) first last × P) (λ (found : Found). IsWayFrom g π first k last f d' found.power found.cost × IsSpellWithin first last found.cost × IsOnFromTo (suc k) last d'))
+    way_chosen (Err e) chosen is P within on = tt
+    way_chosen (Ok None) unreached is P within on = absurd (is_reached unreached)
+    way_chosen (Ok (Some found)) chosen is P within on =
         let there = subst (λ (s : Step). IsChosen s f k x found.power d d') p.step_is (subst (λ (f : Table). IsChosen s f k x found.power d d') same chosen) in
         let way = way_of_choice g π first k c p.unit p.prices p.curve p.within p.from last low f h p.frontier taken d d' x found.power cost onward there in
-        subst (λ (z : ℤ). IsWayFrom g π first k last f d' found.power z) (sym is) way
-
-    pub on_chosen : {E : Type 0} → (r : Result (Option Found) E) → IfOk r Choice → ((q : ℤ) → IsWritten k x q d d' → IsOnFromTo (suc k) last d') → IfOk r (λ (best : Option Found). IfSome best (λ (found : Found). IsOnFromTo (suc k) last d'))
-    on_chosen (Err e) chosen on = tt
-    on_chosen (Ok None) chosen on = tt
-    on_chosen (Ok (Some found)) chosen on = on _ chosen.written
-
-    pub none_chosen : {E : Type 0} → (r : Result (Option Found) E) (P : Type 0) → IfOk r Choice → IfOk r (λ (best : Option Found). best ≡ None → P)
-    none_chosen (Err e) P chosen = tt
-    none_chosen (Ok None) P unreached = λ e. absurd (is_reached unreached)
-    none_chosen (Ok (Some found)) P chosen = λ e. cc
+        (subst (λ (z : ℤ). IsWayFrom g π first k last f d' found.power z) (sym is) way, subst (λ (z : ℤ). IsSpellWithin first last z) (sym is) within, on _ chosen.written)

@@ -172,18 +172,13 @@ fn last_period<S: Shape>(
         (spell_first spell.now.started spell.now.first) place (S.function home.old before.old) }
     ensures way { IfOk result (λ best. MatchOption best
         (HasNoDispatch (thermal_of unit.now) (length (prices_of prices.now).energy)
-        (spell_first spell.now.started spell.now.first) spell.now.last)
+        (spell_first spell.now.started spell.now.first) spell.now.last
+        × (schedule_of into.new.response ≡ schedule_of into.old.response))
         (λ found. IsWayFrom (thermal_of unit.now) (prices_of prices.now)
         (spell_first spell.now.started spell.now.first) place spell.now.last
-        (S.function home.old before.old) (schedule_of into.new.response) found.power found.cost)) }
-    ensures within { IfOk result
-        (λ best. IfSome best (λ found. IsSpellWithin (spell_first spell.now.started spell.now.first)
-        spell.now.last found.cost)) }
-    ensures on { IfOk result
-        (λ best. IfSome best (λ _. IsOnFromTo (suc place) spell.now.last
-        (schedule_of into.new.response))) }
-    ensures none { IfOk result (λ best. best ≡ None
-        → schedule_of into.new.response ≡ schedule_of into.old.response) }
+        (S.function home.old before.old) (schedule_of into.new.response) found.power found.cost
+        × IsSpellWithin (spell_first spell.now.started spell.now.first) spell.now.last found.cost
+        × IsOnFromTo (suc place) spell.now.last (schedule_of into.new.response))) }
     ensures outside { IsSameOutside (suc place) spell.now.last (schedule_of into.old.response)
         (schedule_of into.new.response) }
     ensures earned { into.new.earned ≡ into.old.earned }
@@ -232,18 +227,13 @@ fn way_from<S: Shape>(
         (spell_first spell.now.started spell.now.first) place (S.function home.old before.old) }
     ensures way { IfOk result (λ best. MatchOption best
         (HasNoDispatch (thermal_of unit.now) (length (prices_of prices.now).energy)
-        (spell_first spell.now.started spell.now.first) spell.now.last)
+        (spell_first spell.now.started spell.now.first) spell.now.last
+        × (schedule_of into.new.response ≡ schedule_of into.old.response))
         (λ found. IsWayFrom (thermal_of unit.now) (prices_of prices.now)
         (spell_first spell.now.started spell.now.first) place spell.now.last
-        (S.function home.old before.old) (schedule_of into.new.response) found.power found.cost)) }
-    ensures within { IfOk result
-        (λ best. IfSome best (λ found. IsSpellWithin (spell_first spell.now.started spell.now.first)
-        spell.now.last found.cost)) }
-    ensures on { IfOk result
-        (λ best. IfSome best (λ _. IsOnFromTo (suc place) spell.now.last
-        (schedule_of into.new.response))) }
-    ensures none { IfOk result (λ best. best ≡ None
-        → schedule_of into.new.response ≡ schedule_of into.old.response) }
+        (S.function home.old before.old) (schedule_of into.new.response) found.power found.cost
+        × IsSpellWithin (spell_first spell.now.started spell.now.first) spell.now.last found.cost
+        × IsOnFromTo (suc place) spell.now.last (schedule_of into.new.response))) }
     ensures outside { IsSameOutside (suc place) spell.now.last (schedule_of into.old.response)
         (schedule_of into.new.response) }
     ensures earned { into.new.earned ≡ into.old.earned }

@@ -220,6 +220,67 @@ pub fn write_best<S: Shape>(
     Ok(())
 }
 
+// The filled table of a unit at prices.
+fn filled_table<S: Shape>(
+    alloc: Global,
+    home: &mut S::Home,
+    unit: &Unit,
+    curve: &Curve,
+    prices: &Prices,
+) -> Result<Table, AllocError>
+    requires horizon { length (thermal_of unit.now).window ≡ length (prices_of prices.now).energy }
+    requires curve { IsCostCurve (thermal_of unit.now).points curve.now }
+    ensures filled { IfOk result (λ table. IsFilled (thermal_of unit.now) (prices_of prices.now)
+        (suc (length (prices_of prices.now).energy)) table.items) }
+    ensures room { IfOk result (λ table. length (prices_of prices.now).energy
+        < length table.items) }
+    ensures sure { S.Home.counts ≡ true → S.Home.sure home.new ≡ S.Home.sure home.old }
+    ensures frame { Frame S.Home.cell_list S.is_in S.numbers [] [] home.old home.new }
+{
+    let periods = prices.energy.len() as u32;
+    let mut costs = SpellCosts::make(alloc, periods)?;
+    let mut table = Table::filled(alloc, periods + 1, None)?;
+    fill::<S>(home, unit, curve, prices, &mut costs, &mut table)?;
+    Ok(table)
+}
+
+// The least best response that filled rows name, with what it earns; None where they name none.
+fn named_answer<S: Shape>(
+    alloc: Global,
+    home: &mut S::Home,
+    unit: &Unit,
+    curve: &Curve,
+    prices: &Prices,
+    rows: &[Option<Ended>],
+) -> Result<Option<Answered>, AllocError>
+    requires horizon { length (thermal_of unit.now).window ≡ length (prices_of prices.now).energy }
+    requires curve { IsCostCurve (thermal_of unit.now).points curve.now }
+    requires filled { IsFilled (thermal_of unit.now) (prices_of prices.now)
+        (suc (length (prices_of prices.now).energy)) rows.now }
+    requires room { length (prices_of prices.now).energy < length rows.now }
+    ensures best { IfOk result
+        (λ o. IfSome o (λ a. IsBest (Thermal (thermal_of unit.now)) (prices_of prices.now)
+        (schedule_of a.response))) }
+    ensures least { IfOk result
+        (λ o. IfSome o (λ a. IsLeast (Thermal (thermal_of unit.now)) (prices_of prices.now)
+        (schedule_of a.response))) }
+    ensures earned { IfOk result
+        (λ o. IfSome o (λ a. a.earned ≡ earnings (Thermal (thermal_of unit.now))
+        (prices_of prices.now) (schedule_of a.response))) }
+    ensures none { IfOk result (λ o. IfNone o ((s : Schedule)
+        → IsThermalFeasible (thermal_of unit.now) (length (prices_of prices.now).energy) s → ⊥)) }
+    ensures sure { S.Home.counts ≡ true → S.Home.sure home.new ≡ S.Home.sure home.old }
+    ensures frame { Frame S.Home.cell_list S.is_in S.numbers [] [] home.old home.new }
+{
+    let periods = prices.energy.len() as u32;
+    let Some(end) = least_end(unit, periods, rows) else {
+        return Ok(None);
+    };
+    let mut into = Answered::make(alloc, periods)?;
+    write_best::<S>(home, unit, curve, prices, rows, &end, &mut into)?;
+    Ok(Some(into))
+}
+
 /// The least best response of a thermal unit to prices over its horizon, with what it earns in
 /// money; None exactly where no schedule of the unit is feasible. Its powers and reserves are in
 /// kilowatts, its lists have an entry for each period.
@@ -251,23 +312,7 @@ pub fn best_response<S: Shape>(
     ensures sure { S.Home.counts ≡ true → S.Home.sure home.new ≡ S.Home.sure home.old }
     ensures frame { Frame S.Home.cell_list S.is_in S.numbers [] [] home.old home.new }
 {
-    let periods = prices.energy.len() as u32;
     let curve = curve_of(alloc, unit.points.as_slice())?;
-    let mut costs = SpellCosts::make(alloc, periods)?;
-    let mut table = Table::filled(alloc, periods + 1, None)?;
-    fill::<S>(home, unit, &curve, prices, &mut costs, &mut table)?;
-    let Some(end) = least_end(unit, periods, table.as_slice()) else {
-        return Ok(None);
-    };
-    let mut into = Answered::make(alloc, periods)?;
-    write_best::<S>(
-        home,
-        unit,
-        &curve,
-        prices,
-        table.as_slice(),
-        &end,
-        &mut into,
-    )?;
-    Ok(Some(into))
+    let table = filled_table::<S>(alloc, home, unit, &curve, prices)?;
+    named_answer::<S>(alloc, home, unit, &curve, prices, table.as_slice())
 }

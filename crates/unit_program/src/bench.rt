@@ -36,7 +36,6 @@ use uc_model::units::{Answered, Blocks, Curve, Prices, Unit};
 
 /// Memory for the answers of units over so many periods, with so many cost points. What it holds
 /// between two calls is open.
-#[derive(Drop)]
 pub struct Bench<R> {
     pub curve: Curve,
     /// The spells that go forward together.
@@ -52,6 +51,22 @@ pub struct Bench<R> {
     pub kept: Vec<Kept>,
     /// The number of the unit that is asked next.
     pub number: u32,
+}
+
+// Written out, so that a drop of it is a call, and not one for each list.
+impl<R: Drop> Drop for Bench<R> {
+    fn drop(self) {
+        let Bench {
+            curve: _,
+            runners: _,
+            origins: _,
+            roster: _,
+            table: _,
+            limits: _,
+            kept: _,
+            number: _,
+        } = self;
+    }
 }
 
 /// The bench of the program: functions are kept in pieces of one slope.
@@ -86,26 +101,26 @@ impl Bench<Slopes> {
         ensures { IfOk result (IsBenchFor room_of periods points) }
     {
         let pieces = periods * (2 * points + 3);
-        let blocks = Blocks::make(alloc, 2 * points)?;
-        let curve = Curve {
-            at: 0,
-            value: 0,
-            blocks,
-        };
-        let runners = make_runners(alloc, periods + 1, pieces as usize)?;
+        let rows = periods + 1;
+        let table = Table::filled(alloc, rows, None)?;
+        let limits = Numbers::filled(alloc, rows, 0)?;
         let origins = Origins::make(alloc, periods)?;
         let roster = Roster::make(alloc, periods)?;
-        let table = Table::filled(alloc, periods + 1, None)?;
-        let limits = Numbers::filled(alloc, periods + 1, 0)?;
-        let kept = Vec::new(alloc);
+        let blocks = Blocks::make(alloc, 2 * points)?;
+        // The runners come last, so that no early return has to drop them.
+        let runners = make_runners(alloc, rows, pieces as usize)?;
         Ok(Bench {
-            curve,
+            curve: Curve {
+                at: 0,
+                value: 0,
+                blocks,
+            },
             runners,
             origins,
             roster,
             table,
             limits,
-            kept,
+            kept: Vec::new(alloc),
             number: 0,
         })
     }

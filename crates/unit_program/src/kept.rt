@@ -14,7 +14,6 @@ use uc_model::units::{Answered, Prices};
 pub const NO_BOUND: i64 = 4_000_000_000_000_000_000;
 
 /// An answer of a unit, if it has one yet.
-#[derive(Drop)]
 pub struct Kept {
     pub is_some: bool,
     /// What it costs, without what the prices pay, in money.
@@ -22,6 +21,18 @@ pub struct Kept {
     /// Its power and reserve of each period, in kilowatts.
     pub power: Powers,
     pub reserve: Powers,
+}
+
+// Written out, so that a drop of it is a call, and not one for each list.
+impl Drop for Kept {
+    fn drop(self) {
+        let Kept {
+            is_some: _,
+            cost: _,
+            power: _,
+            reserve: _,
+        } = self;
+    }
 }
 
 // What prices pay for a power and a reserve in the periods that all have.

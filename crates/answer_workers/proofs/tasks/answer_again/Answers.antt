@@ -1,4 +1,3 @@
-use Rattle.answer_workers.proofs.Common.{length, prices_of, task_unit}
 use Rattle.answer_workers.proofs.Lemmas.{kept}
 use Rattle.answer_workers.proofs.tasks.answer_again.Goals as goal
 

@@ -1,5 +1,5 @@
-use Rattle.period_table.proofs.Common.{◌+◌, rules, inl, inr, true, get_or, length, refl, ap, ◌∙◌, arith, FitsSigned, w64, OnTrue_at, cases_eq, ints, to_z-of_z, live_at, IsBeyond}
-use Rattle.period_table.proofs.Lemmas.{live_here, live_other, going_off, small_stopped, roomy_stopped, written_keeps, written_left, item_at, item_same, item_live, beyond_goes}
+use Rattle.period_table.proofs.Common.{◌+◌, rules, true, get_or, length, refl, ap, ◌∙◌, arith, FitsSigned, w64, OnTrue_at, ints, to_z-of_z, live_at, IsBeyond}
+use Rattle.period_table.proofs.Lemmas.{live_here, live_other, going_off, small_stopped, off_stopped, roomy_stopped, written_keeps, written_left, item_at, item_same, item_live, beyond_goes}
 use Rattle.period_table.proofs.runner.drop_at.Goals as goal
 
 pub is_beyond-requires-clause-bound : goal.is_beyond-requires-clause-bound
@@ -30,11 +30,7 @@ pub returns-then-is_beyond-clause-small : goal.returns-then-is_beyond-clause-sma
 returns-then-is_beyond-clause-small g c = small_stopped g.R.Running.function c.args.runners.now _ c.args.first c.stop.new.runner c.requires.end refl c.stop.ensures.off c.requires.small
 
 pub returns-then-is_beyond-clause-off : goal.returns-then-is_beyond-clause-off
-returns-then-is_beyond-clause-off g c = λ f none. elim (cases_eq f c.args.first) [
-  | inl z ↦
-      ap (live_at g.R.Running.function _) z ∙ live_here g.R.Running.function c.args.runners.now _ c.args.first c.stop.new.runner c.requires.end refl ∙ going_off g.R.Running.function c.stop.new.runner c.stop.ensures.off
-  | inr other ↦ live_other g.R.Running.function c.args.runners.now _ c.args.first c.stop.new.runner c.requires.end refl f other ∙ none
-]
+returns-then-is_beyond-clause-off g c = off_stopped g.R.Running.function c.args.runners.now _ c.args.first c.stop.new.runner c.requires.end refl c.stop.ensures.off
 
 pub returns-then-is_beyond-clause-room : goal.returns-then-is_beyond-clause-room
 returns-then-is_beyond-clause-room g c = λ periods t charge roomy.

@@ -1,5 +1,5 @@
 use Rattle.period_table.proofs.Common.{◌+◌, ◌≡◌, ◌<◌, ◌≤◌, true, get_or, Some, length, refl, ap, ◌∙◌, arith, OnTrue_at, thermal_of, live_at, Going}
-use Rattle.period_table.proofs.Lemmas.{if_some, live_here, live_other, going_off, small_stopped, roomy_stopped, written_keeps, written_left, item_at, item_same, item_live, read_live, read_on, on_of, early_goes}
+use Rattle.period_table.proofs.Lemmas.{if_some, live_here, live_other, going_off, small_stopped, off_stopped, roomy_stopped, written_keeps, written_left, item_at, item_same, item_live, read_live, read_on, on_of, early_goes}
 use Rattle.period_table.proofs.runner.prune_one.Goals as goal
 
 pub goes-requires-clause-late : goal.goes-requires-clause-late
@@ -56,6 +56,13 @@ returns-then-goes-clause-small g c =
     let under = c.requires.early in
     let low : c.args.early < length c.args.runners.now = omega (arith, under, end) in
     small_stopped g.R.Running.function c.args.runners.now _ c.args.early c.stop.new.runner low refl c.stop.ensures.off c.requires.small
+
+pub returns-then-goes-clause-off : goal.returns-then-goes-clause-off
+returns-then-goes-clause-off g c =
+    let end = c.requires.end in
+    let under = c.requires.early in
+    let low : c.args.early < length c.args.runners.now = omega (arith, under, end) in
+    off_stopped g.R.Running.function c.args.runners.now _ c.args.early c.stop.new.runner low refl c.stop.ensures.off
 
 pub returns-then-goes-clause-room : goal.returns-then-goes-clause-room
 returns-then-goes-clause-room g c = λ periods t charge roomy.

@@ -1,5 +1,5 @@
-use Rattle.spell_run.proofs.Common.{rules, ◌≡◌, ℕ, suc, ◌+◌, ◌-◌, ◌*◌, ◌<◌, ◌≤◌, length, [], sym, subst, arith, MatchOption-at_some, StaysAs, Table, thermal_of, prices_of, schedule_of, Found, IsOnFromTo, IsFrontier, IsWayFrom, spell_first, HasNoDispatch, IsSmall}
-use Rattle.spell_run.proofs.Lemmas.{first_from, cost_is, stays, kept, small_frontier, IsPeriod, on_more, found_range, small_period, frontier_next, onward_next, way_chosen, on_chosen, none_chosen, never_both, next_fits, one_fits, rest_room, rest_enough}
+use Rattle.spell_run.proofs.Common.{rules, ◌≡◌, ℕ, suc, ◌+◌, ◌-◌, ◌*◌, ◌<◌, ◌≤◌, length, [], sym, subst, arith, MatchOption-at_some, StaysAs, Table, thermal_of, prices_of, schedule_of, Found, IsOnFromTo, IsSameOutside, IsFrontier, IsWayFrom, spell_first, HasNoDispatch, IsSpellWithin, IsSmall}
+use Rattle.spell_run.proofs.Lemmas.{first_from, outside_more, outside_wider, cost_is, stays, kept, small_frontier, IsPeriod, on_more, found_range, small_period, frontier_next, onward_next, way_chosen, never_both, next_fits, one_fits, rest_room, rest_enough}
 use Rattle.spell_run.proofs.best.+way_from.Given.{Over}
 use Rattle.spell_run.proofs.best.+way_from.Goals as goal
 use Rattle.spell_run.proofs.best.+way_from.Goals.{In_ok-after, After-give_back, In-Some}
@@ -30,10 +30,12 @@ same g t c =
     let frame = join _ _ _ _ _ _ c.in_ok-after.ensures.frame (join _ _ _ _ _ _ c.way_from-found.ensures.frame c.give_back.ensures.frame) in
     stays c.others_stay.ensures c.args.home.now c.give_back.new.home c.args.before.now frame c.requires.here
 
--- the way on from the next place
+-- the way on from the next place, within the bounds and on in its periods
 later : (g : Over) (t : ℕ) (c : In-Some g t) →
     IsWayFrom (thermal_of c.args.unit.now) (prices_of c.args.prices.now) (spell_first c.args.spell.now.started c.args.spell.now.first) (suc c.args.place) c.args.spell.now.last (g.S.Shape.function c.stepped.new.home c.in_ok-after.after)
     (schedule_of c.way_from-found.new.into.response) c.in-Some.found.power c.in-Some.found.cost
+    × IsSpellWithin (spell_first c.args.spell.now.started c.args.spell.now.first) c.args.spell.now.last c.in-Some.found.cost
+    × IsOnFromTo (suc (suc c.args.place)) c.args.spell.now.last (schedule_of c.way_from-found.new.into.response)
 later g t c =
     let unit = thermal_of c.args.unit.now in
     let prices = prices_of c.args.prices.now in
@@ -42,8 +44,14 @@ later g t c =
     let after = g.S.Shape.function c.stepped.new.home c.in_ok-after.after in
     let d = schedule_of c.way_from-found.new.into.response in
     let next : c.args.place + 1 ≡ suc c.args.place = omega arith in
-    subst (λ (t : ℕ). IsWayFrom unit prices first t last after d c.in-Some.found.power c.in-Some.found.cost) next
-    (MatchOption-at_some (HasNoDispatch unit (length prices.energy) first last) (λ (found : Found). IsWayFrom unit prices first (c.args.place + 1) last after d found.power found.cost) c.in-Some.found c.in-Some.is c.in_ok-found.ensures.way)
+    subst (λ (t : ℕ). IsWayFrom unit prices first t last after d c.in-Some.found.power c.in-Some.found.cost × IsSpellWithin first last c.in-Some.found.cost × IsOnFromTo (suc t) last d) next
+    (MatchOption-at_some (HasNoDispatch unit (length prices.energy) first last × (d ≡ schedule_of c.args.into.now.response)) (λ (found : Found). IsWayFrom unit prices first (c.args.place + 1) last after d found.power found.cost × IsSpellWithin first last found.cost × IsOnFromTo (suc (c.args.place + 1)) last d) c.in-Some.found c.in-Some.is c.in_ok-found.ensures.way)
+
+-- what the way from the next place leaves as it was
+outside : (g : Over) (t : ℕ) (c : After-give_back g t) → IsSameOutside (suc (suc c.args.place)) c.args.spell.now.last (schedule_of c.args.into.now.response) (schedule_of c.way_from-found.new.into.response)
+outside g t c =
+    let next : c.args.place + 1 ≡ suc c.args.place = omega arith in
+    subst (λ (k : ℕ). IsSameOutside (suc k) c.args.spell.now.last (schedule_of c.args.into.now.response) (schedule_of c.way_from-found.new.into.response)) next c.way_from-found.ensures.outside
 
 pub stepped-requires-clause-curve : goal.stepped-requires-clause-curve
 stepped-requires-clause-curve g t c =
@@ -79,6 +87,10 @@ returns-in_err-found-clause-frame g t c =
     let frame = join _ _ _ _ _ _ c.in_ok-after.ensures.frame (join _ _ _ _ _ _ c.way_from-found.ensures.frame c.give_back.ensures.frame) in
     kept c.others_stay.ensures c.args.home.now c.give_back.new.home c.args.before.now frame c.requires.here
 
+pub returns-in_err-found-clause-outside : goal.returns-in_err-found-clause-outside
+returns-in_err-found-clause-outside g t c =
+    outside_wider c.args.place c.args.spell.now.last _ _ (outside g t (goal.at.returns-in_err-found-clause-outside g t c).After-give_back)
+
 pub choose-requires-clause-here : goal.choose-requires-clause-here
 choose-requires-clause-here g t c = (same g t (goal.at.choose-requires-clause-here g t c).After-give_back).here
 
@@ -90,7 +102,7 @@ choose-requires-clause-small g t c =
 pub choose-requires-clause-found : goal.choose-requires-clause-found
 choose-requires-clause-found g t c =
     let at = goal.at.choose-requires-clause-found g t c in
-    let way = later g t at.In-Some in
+    let way = (later g t at.In-Some).0 in
     found_range (period g t at.In_ok-after) c.in-Some.found.power way.before way.there
 
 pub returns-in-Some-clause-way : goal.returns-in-Some-clause-way
@@ -100,31 +112,14 @@ returns-in-Some-clause-way g t c =
     let below : suc c.args.place < c.args.spell.now.last = omega arith in
     let d = schedule_of c.way_from-found.new.into.response in
     let d' = schedule_of c.choose.new.into.response in
-    let onward = onward_next p below d c.in-Some.found.power c.in-Some.found.cost (later g t at.In-Some) in
-    way_chosen p c.requires.until d' onward (same g t at.After-give_back).function_same c.choose.result c.choose.ensures.chosen c.choose.ensures.cost
+    let way = later g t at.In-Some in
+    let onward = onward_next p below d c.in-Some.found.power c.in-Some.found.cost way.0 in
+    way_chosen p c.requires.until d' onward (same g t at.After-give_back).function_same c.choose.result c.choose.ensures.chosen c.choose.ensures.cost (d' ≡ schedule_of c.args.into.now.response) way.1
+    (λ q written. on_more c.args.place c.args.spell.now.last c.in-Some.found.power q d d' written way.2)
 
-pub returns-in-Some-clause-on : goal.returns-in-Some-clause-on
-returns-in-Some-clause-on g t c =
-    let at = goal.at.returns-in-Some-clause-on g t c in
-    let p = period g t at.In_ok-after in
-    let below : suc c.args.place < c.args.spell.now.last = omega arith in
-    let d = schedule_of c.way_from-found.new.into.response in
-    let d' = schedule_of c.choose.new.into.response in
-    let onward = onward_next p below d c.in-Some.found.power c.in-Some.found.cost (later g t at.In-Some) in
-    let next : c.args.place + 1 ≡ suc c.args.place = omega arith in
-    let last = c.args.spell.now.last in
-    let on = subst (λ (t : ℕ). IsOnFromTo (suc t) last d) next (MatchOption-at_some (Unit {0}) (λ (found : Found). IsOnFromTo (suc (c.args.place + 1)) last d) c.in-Some.found c.in-Some.is c.in_ok-found.ensures.on) in
-    on_chosen p c.requires.until d' onward (same g t at.After-give_back).function_same c.choose.result c.choose.ensures.chosen (λ q written. on_more c.args.place last c.in-Some.found.power q d d' written on)
-
-pub returns-in-Some-clause-none : goal.returns-in-Some-clause-none
-returns-in-Some-clause-none g t c =
-    let at = goal.at.returns-in-Some-clause-none g t c in
-    let p = period g t at.In_ok-after in
-    let below : suc c.args.place < c.args.spell.now.last = omega arith in
-    let d = schedule_of c.way_from-found.new.into.response in
-    let d' = schedule_of c.choose.new.into.response in
-    let onward = onward_next p below d c.in-Some.found.power c.in-Some.found.cost (later g t at.In-Some) in
-    none_chosen p c.requires.until d' onward (same g t at.After-give_back).function_same c.choose.result (d' ≡ schedule_of c.args.into.now.response) c.choose.ensures.chosen
+pub returns-in-Some-clause-outside : goal.returns-in-Some-clause-outside
+returns-in-Some-clause-outside g t c =
+    outside_more c.args.place c.args.spell.now.last _ _ _ c.requires.until c.choose.ensures.outside (outside g t (goal.at.returns-in-Some-clause-outside g t c).After-give_back)
 
 pub returns-in-Some-clause-frame : goal.returns-in-Some-clause-frame
 returns-in-Some-clause-frame g t c =
@@ -135,6 +130,10 @@ returns-in-Some-clause-frame g t c =
 
 pub returns-in-None-clause-here : goal.returns-in-None-clause-here
 returns-in-None-clause-here g t c = (same g t (goal.at.returns-in-None-clause-here g t c).After-give_back).here
+
+pub returns-in-None-clause-outside : goal.returns-in-None-clause-outside
+returns-in-None-clause-outside g t c =
+    outside_wider c.args.place c.args.spell.now.last _ _ (outside g t (goal.at.returns-in-None-clause-outside g t c).After-give_back)
 
 pub returns-in-None-clause-frame : goal.returns-in-None-clause-frame
 returns-in-None-clause-frame g t c =

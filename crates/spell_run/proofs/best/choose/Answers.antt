@@ -1,5 +1,5 @@
 use Rattle.spell_run.proofs.Common.{sym, subst, arith, ints, IsOutput}
-use Rattle.spell_run.proofs.Lemmas.{least_stored, none_stored, found_out, kinked_out, output_stored, chosen_stored}
+use Rattle.spell_run.proofs.Lemmas.{never_both, least_stored, none_stored, found_out, kinked_out, output_stored, chosen_stored}
 use Rattle.spell_run.proofs.best.choose.Goals as goal
 
 pub write_best-requires-clause-before : goal.write_best-requires-clause-before
@@ -37,3 +37,6 @@ returns-in-None-clause-chosen g c =
       is_kinked = c.in_ok-add_kink.ensures.ok;
       none = none_stored c.args.step c.requires.step c.args.found.power out _ c.in-None.ensures;
     }
+
+pub returns-in_err-add_kink-clause-sure : goal.returns-in_err-add_kink-clause-sure
+returns-in_err-add_kink-clause-sure g c = λ counts enough. absurd (never_both c.add_kink.result _ c.in_err-add_kink.was (c.add_kink.ensures.sure counts enough))

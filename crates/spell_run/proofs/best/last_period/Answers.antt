@@ -1,5 +1,5 @@
-use Rattle.spell_run.proofs.Common.{◌≡◌, [], Option, IfSome, ℤ, sym, subst, arith, IfSome_then, IfOk-weaker, StaysAs, Table, thermal_of, prices_of, schedule_of, Found, spell_first, IsSpellWithin, IsSmall}
-use Rattle.spell_run.proofs.Lemmas.{first_from, cost_is, stays, kept, small_frontier, IsPeriod, on_last, found_range, small_period, onward_last, none_last, within_last, way_chosen, on_chosen, none_chosen, never_both}
+use Rattle.spell_run.proofs.Common.{◌≡◌, [], refl, sym, subst, arith, StaysAs, Table, thermal_of, prices_of, schedule_of, spell_first, IsSmall}
+use Rattle.spell_run.proofs.Lemmas.{first_from, cost_is, stays, kept, small_frontier, IsPeriod, on_last, found_range, small_period, onward_last, none_last, within_last, way_chosen, never_both}
 use Rattle.spell_run.proofs.best.last_period.Given.{Over}
 use Rattle.spell_run.proofs.best.last_period.Goals as goal
 use Rattle.spell_run.proofs.best.last_period.Goals.{In_ok-after, In-Some}
@@ -64,37 +64,11 @@ returns-in-Some-clause-way g c =
     let p = period g at.In_ok-after in
     let until = c.requires.until in
     let d' = schedule_of c.choose.new.into.response in
-    let onward = onward_last p until (schedule_of c.args.into.now.response) c.in-Some.found.power c.in-Some.found.cost c.in-Some.ensures in
-    way_chosen p (omega (arith, until)) d' onward (same g at.In-Some).function_same c.choose.result c.choose.ensures.chosen c.choose.ensures.cost
-
-pub returns-in-Some-clause-within : goal.returns-in-Some-clause-within
-returns-in-Some-clause-within g c =
-    let at = goal.at.returns-in-Some-clause-within g c in
-    let within = within_last (period g at.In_ok-after) c.requires.until c.in-Some.found.power c.in-Some.found.cost c.in-Some.ensures in
-    let first = spell_first c.args.spell.now.started c.args.spell.now.first in
-    let last = c.args.spell.now.last in
-    IfOk-weaker c.choose.result (λ (best : Option Found). IfSome best (λ (found : Found). found.cost ≡ c.in-Some.found.cost)) (λ (best : Option Found). IfSome best (λ (found : Found). IsSpellWithin first last found.cost))
-    (λ best e. IfSome_then best e (λ found is. subst (λ (z : ℤ). IsSpellWithin first last z) (sym is) within))
-    c.choose.ensures.cost
-
-pub returns-in-Some-clause-on : goal.returns-in-Some-clause-on
-returns-in-Some-clause-on g c =
-    let at = goal.at.returns-in-Some-clause-on g c in
-    let p = period g at.In_ok-after in
-    let until = c.requires.until in
-    let d' = schedule_of c.choose.new.into.response in
-    let onward = onward_last p until (schedule_of c.args.into.now.response) c.in-Some.found.power c.in-Some.found.cost c.in-Some.ensures in
-    on_chosen p (omega (arith, until)) d' onward (same g at.In-Some).function_same c.choose.result c.choose.ensures.chosen
-    (λ q written. on_last c.args.place c.args.spell.now.last c.in-Some.found.power q (schedule_of c.args.into.now.response) d' until written)
-
-pub returns-in-Some-clause-none : goal.returns-in-Some-clause-none
-returns-in-Some-clause-none g c =
-    let at = goal.at.returns-in-Some-clause-none g c in
-    let p = period g at.In_ok-after in
-    let until = c.requires.until in
-    let d' = schedule_of c.choose.new.into.response in
-    let onward = onward_last p until (schedule_of c.args.into.now.response) c.in-Some.found.power c.in-Some.found.cost c.in-Some.ensures in
-    none_chosen p (omega (arith, until)) d' onward (same g at.In-Some).function_same c.choose.result (d' ≡ schedule_of c.args.into.now.response) c.choose.ensures.chosen
+    let d = schedule_of c.args.into.now.response in
+    let onward = onward_last p until d c.in-Some.found.power c.in-Some.found.cost c.in-Some.ensures in
+    way_chosen p (omega (arith, until)) d' onward (same g at.In-Some).function_same c.choose.result c.choose.ensures.chosen c.choose.ensures.cost (d' ≡ d)
+    (within_last p until c.in-Some.found.power c.in-Some.found.cost c.in-Some.ensures)
+    (λ q written. on_last c.args.place c.args.spell.now.last c.in-Some.found.power q d d' until written)
 
 pub returns-in-Some-clause-frame : goal.returns-in-Some-clause-frame
 returns-in-Some-clause-frame g c =
@@ -103,7 +77,7 @@ returns-in-Some-clause-frame g c =
     c.frames_join.ensures _ _ _ _ _ _ rest c.choose.ensures.frame
 
 pub returns-in-None-clause-way : goal.returns-in-None-clause-way
-returns-in-None-clause-way g c = none_last (period g (goal.at.returns-in-None-clause-way g c).In_ok-after) c.requires.until c.in-None.ensures
+returns-in-None-clause-way g c = (none_last (period g (goal.at.returns-in-None-clause-way g c).In_ok-after) c.requires.until c.in-None.ensures, refl)
 
 pub returns-in-None-clause-here : goal.returns-in-None-clause-here
 returns-in-None-clause-here g c =

@@ -1,5 +1,5 @@
 use Rattle.spell_run.proofs.Common.{IfSome, ◌≡◌, suc, eqb, ◌<◌, length, sym, subst, arith, Table, thermal_of, prices_of, IsFrontier, spell_first, IsSpellAnswer, IsSpellWithin}
-use Rattle.spell_run.proofs.Lemmas.{alike_of, range_of, stays, kept, answer_at_end, answer_alike}
+use Rattle.spell_run.proofs.Lemmas.{never_both, alike_of, range_of, stays, kept, answer_at_end, answer_alike}
 use Rattle.spell_run.proofs.costs.pass.Given.{Over}
 use Rattle.spell_run.proofs.costs.pass.Goals as goal
 use Rattle.spell_run.proofs.costs.pass.Goals.{After-least_cost, After-least_cost_in}
@@ -55,3 +55,27 @@ pub returns-clause-frame : goal.returns-clause-frame
 returns-clause-frame g c =
     let rest = kept c.others_stay.ensures c.args.home.now c.cost_to_stop.new.home c.args.running.now c.cost_to_stop.ensures.frame c.requires.here in
     c.frames_join.ensures _ _ _ _ _ _ rest c.run_on-2.ensures.frame
+
+pub returns-in_err-run_on-clause-sure : goal.returns-in_err-run_on-clause-sure
+returns-in_err-run_on-clause-sure g c = λ counts enough. absurd (never_both c.run_on.result _ c.in_err-run_on.was (c.run_on.ensures.sure counts (omega (arith, enough))))
+
+pub returns-in_err-run_on-2-clause-sure : goal.returns-in_err-run_on-2-clause-sure
+returns-in_err-run_on-2-clause-sure g c = λ counts enough. absurd (never_both c.run_on-then-is_alike.result _ c.in_err-run_on-2.was (c.run_on-then-is_alike.ensures.sure counts (omega (arith, enough))))
+
+pub returns-in_err-cost-clause-sure : goal.returns-in_err-cost-clause-sure
+returns-in_err-cost-clause-sure g c = λ counts enough. absurd (never_both c.cost_to_stop.result _ c.in_err-cost.was (c.cost_to_stop.ensures.sure counts enough))
+
+pub returns-in_err-run_on-3-clause-sure : goal.returns-in_err-run_on-3-clause-sure
+returns-in_err-run_on-3-clause-sure g c = λ counts enough. absurd (never_both c.run_on-2.result _ c.in_err-run_on-3.was (c.run_on-2.ensures.sure counts (omega (arith, enough, c.cost_to_stop.ensures.balance counts))))
+
+pub returns-in_err-run_on-3-clause-balance : goal.returns-in_err-run_on-3-clause-balance
+returns-in_err-run_on-3-clause-balance g c = record {
+  most = c.run_on-2.ensures.balance.most;
+  sum = λ counts. omega (arith, c.run_on-2.ensures.balance.sum counts, c.cost_to_stop.ensures.balance counts);
+}
+
+pub returns-clause-balance : goal.returns-clause-balance
+returns-clause-balance g c = record {
+  most = c.run_on-2.ensures.balance.most;
+  sum = λ counts. omega (arith, c.run_on-2.ensures.balance.sum counts, c.cost_to_stop.ensures.balance counts);
+}

@@ -1,4 +1,4 @@
-use Rattle.task_deal.proofs.Common.{◌≡◌, ◌≤◌, ◌∙◌, ◌++◌, ℕ, List, length, take, drop, All, ap, sym, subst, arith, injector_view, Member, Account, Shared, HasPart, source_taken, IsSeatOf, Each, Stands, sum_of}
+use Rattle.task_deal.proofs.Common.{◌≡◌, ◌<◌, ◌≤◌, ◌∙◌, ◌++◌, ℕ, List, length, take, drop, All, ap, sym, subst, arith, vec_capacity, injector_view, Member, Account, Shared, HasPart, source_taken, IsSeatOf, Each, Stands, sum_of}
 use Rattle.task_deal.proofs.Together.{AreOf, ready, worked, whole, made_of, members_count, parts_left, owns_stand, purses_left, ledger_begins}
 use Rattle.task_deal.proofs.deal.deal_all.Goals as goal
 use Rattle.task_deal.proofs.deal.deal_all.Given.{Over}
@@ -27,6 +27,30 @@ module _ (g : Over) (c : After-work_all g) where
   were : (length c.args.jobs.now.items ≡ length ss) × (length c.fill_all.new.owns.items ≡ length ss) × (length c.in_ok-purses.purses.items ≡ length ss)
   were = members_count ss c.args.jobs.now.items c.fill_all.new.owns.items c.in_ok-purses.purses.items first
 
+pub fill_all-requires-clause-count : goal.fill_all-requires-clause-count
+fill_all-requires-clause-count g c = sym c.in_ok-owns.ensures.1.count
+
+pub fill_all-requires-clause-owns : goal.fill_all-requires-clause-owns
+fill_all-requires-clause-owns g c = subst (λ k. Each (Stands c.in_ok-owns.thieves.items 0) 0 k c.in_ok-owns.owns.items) (sym c.in_ok-owns.ensures.1.count) c.in_ok-owns.ensures.1.stands
+
+pub put_together-requires-clause-owner : goal.put_together-requires-clause-owner
+put_together-requires-clause-owner g c = (c.in_ok-source.ensures.0, c.in_ok-source.ensures.1, ap (λ (v : Account). v.parts) c.in_ok-source.ensures.2)
+
+pub put_together-requires-clause-owns : goal.put_together-requires-clause-owns
+put_together-requires-clause-owns g c = c.in_ok-purses.ensures.count ∙ (c.in_ok-owns.ensures.1.count ∙ (c.in_ok-owns.ensures.0 ∙ (c.len-count.ensures ∙ c.args.jobs.now.ok.0)))
+
+pub put_together-requires-clause-purses : goal.put_together-requires-clause-purses
+put_together-requires-clause-purses g c = c.in_ok-purses.ensures.purses.0 ∙ (c.len-count.ensures ∙ c.args.jobs.now.ok.0)
+
+pub put_together-requires-clause-room : goal.put_together-requires-clause-room
+put_together-requires-clause-room g c = subst (λ k. k ≤ vec_capacity c.in_ok-members.members) (c.len-count.ensures ∙ c.args.jobs.now.ok.0) c.in_ok-members.ensures.capacity
+
+pub work_all-requires-clause-some : goal.work_all-requires-clause-some
+work_all-requires-clause-some g c κs within =
+    let ss = c.put_together.new.members.items in
+    let are : AreOf ss c.args.jobs.now.items c.fill_all.new.owns.items c.in_ok-purses.purses.items = record { jobs_are = c.put_together.ensures.jobs; owns_are = c.put_together.ensures.owns; purses_are = c.put_together.ensures.purses } in
+    subst (λ k. 0 < k) ((members_count ss c.args.jobs.now.items c.fill_all.new.owns.items c.in_ok-purses.purses.items are).0 ∙ sym (ap length c.deref_mut.ensures.value)) c.requires.jobs.0
+
 pub work_all-requires-clause-ready : goal.work_all-requires-clause-ready
 work_all-requires-clause-ready g c κs within =
     let shared : Shared = record { source = c.in_ok-source.source; thieves = c.in_ok-owns.thieves } in
@@ -34,6 +58,12 @@ work_all-requires-clause-ready g c κs within =
     let are : AreOf ss c.args.jobs.now.items c.fill_all.new.owns.items c.in_ok-purses.purses.items = record { jobs_are = c.put_together.ensures.jobs; owns_are = c.put_together.ensures.owns; purses_are = c.put_together.ensures.purses } in
     let begin = ready shared g.J.Job.work g.J.Job.runs g.J.Job.spare c.args.tasks c.len-count.result (length shared.thieves.items) ss c.args.jobs.now.items c.fill_all.new.owns.items c.in_ok-purses.purses.items are c.put_together.ensures.members.0 c.requires.spare c.in_ok-purses.ensures.count c.in_ok-purses.ensures.owns c.in_ok-purses.ensures.purses.1 in
     subst (All (λ (m : Member g.row.J.Denot). IsSeatOf shared m.seat × (c.args.tasks ≤ g.J.Job.spare m.job))) (sym c.deref_mut.ensures.value) begin
+
+pub take_apart-requires-clause-owner : goal.take_apart-requires-clause-owner
+take_apart-requires-clause-owner g c =
+    let d = (goal.at.take_apart-requires-clause-owner g c).After-work_all in
+    let o = c.put_together.ensures.owner in
+    (o.0, o.1, ap (λ (v : Account). v.parts) o.2 ∙ sym (ap length (all g d) ∙ count g d))
 
 pub take_apart-requires-clause-members : goal.take_apart-requires-clause-members
 take_apart-requires-clause-members g c =
@@ -79,6 +109,9 @@ settle-requires-clause-owns g c =
     let out : c.len-count.result ≡ length c.take_apart.new.purses.items = omega (arith, are.2, count g d, (were g d).2, c.in_ok-purses.ensures.purses.0) in
     subst (λ k. Each (Stands (shared g d).thieves.items k) 0 (length (shared g d).thieves.items) c.take_apart.new.owns.items) out
     (owns_stand (shared g d) g.J.Job.work g.J.Job.runs g.J.Job.spare (ss g d) (ts g d) c.args.jobs.now.items c.take_apart.new.jobs.items c.fill_all.new.owns.items c.take_apart.new.owns.items c.in_ok-purses.purses.items c.take_apart.new.purses.items (first g d) then zip c.len-count.result (length (shared g d).thieves.items) c.in_ok-purses.ensures.count c.in_ok-purses.ensures.owns)
+
+pub check_all-requires : goal.check_all-requires
+check_all-requires g c = record { stands = subst (λ k. Each (Stands c.in_ok-owns.thieves.items 0) 0 k c.settle.new.owns.items) (sym c.settle.ensures.count) c.settle.ensures.owns }
 
 pub drain_all-requires-clause-some : goal.drain_all-requires-clause-some
 drain_all-requires-clause-some g c =

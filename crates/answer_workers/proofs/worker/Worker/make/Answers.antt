@@ -4,7 +4,7 @@ use Rattle.answer_workers.proofs.worker.Worker.make.Goals as goal
 
 pub returns-clause-parts : goal.returns-clause-parts
 returns-clause-parts c m same few = record {
-  bench = bench_of_case m c.args.points c.keep_for.new.self (subst (λ (n : ℕ). IsBenchFor room_of n c.args.points c.keep_for.new.self) (sym same) (c.keep_for.ensures.bench room_of _ _ c.in_ok-bench.ensures)) few;
+  bench = bench_of_case m c.args.points c.in_ok-bench.bench (subst (λ (n : ℕ). IsBenchFor room_of n c.args.points c.in_ok-bench.bench) (sym same) c.in_ok-bench.ensures) few;
   task = subst (λ (n : ℕ). IsTaskFor n c.in_ok-task.task) (sym same) c.in_ok-task.ensures.room;
   answer = ap length c.in_ok-answer.ensures.on ∙ (length-replicate _ _ ∙ sym same);
   count = c.in_ok-held.ensures.count;

@@ -1,16 +1,16 @@
 use Rattle.unit_program.proofs.Common.{◌≡◌, ℕ, Some, None, ℤ, length, refl, IfNone, thermal_of, prices_of, cost_at, IsOffRun}
 use Rattle.unit_program.proofs.Lemmas.{none_right}
-use Rattle.unit_program.proofs.answer.best_response.Goals as goal
+use Rattle.unit_program.proofs.answer.named_answer.Goals as goal
 
 pub returns-in_default-clause-none : goal.returns-in_default-clause-none
 returns-in_default-clause-none g c =
     let u = c.args.unit.now in
-    let rows = c.fill.new.table.items in
+    let rows = c.args.rows.now in
     let T = length c.args.prices.now.energy.items in
-    let told = rw (c.len-periods.ensures, c.as_slice-2.ensures) at c.least_end.ensures.none in
+    let told = rw c.len-periods.ensures at c.least_end.ensures.none in
     let none : (l : ℕ) (v : ℤ) → cost_at rows l ≡ Some v → IsOffRun (thermal_of u) l T → ⊥ =
     elim (c.least_end.result) as (λ o. c.least_end.result ≡ o → IfNone o ((l : ℕ) (v : ℤ) → cost_at rows l ≡ Some v → IsOffRun (thermal_of u) l T → ⊥) → (l : ℕ) (v : ℤ) → cost_at rows l ≡ Some v → IsOffRun (thermal_of u) l T → ⊥) [
       | None ↦ λ is h. h
       | Some x ↦ λ is h. absurd (c.in_default.not-Some x is)
     ] refl told in
-    none_right (thermal_of u) (prices_of c.args.prices.now) T refl (cost_at rows) u.valid.ramp_up.at_least u.valid.ramp_down.at_least c.in_ok-fill.ensures.filled.table.complete none
+    none_right (thermal_of u) (prices_of c.args.prices.now) T refl (cost_at rows) u.valid.ramp_up.at_least u.valid.ramp_down.at_least c.requires.filled.table.complete none
