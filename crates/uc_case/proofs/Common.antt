@@ -8,7 +8,7 @@ pub use Rattle.std.proofs.lemmas.Result.{err_from_is_err_and}
 pub use Rattle.std.specs.List.{All}
 pub use Rattle.std.specs.Prelude.{ℤ, pos, negsuc, neg_ℤ, unsigned_abs, nat_lt, int_lt, ◌≤ℤ◌, slice_get, codes, FitsSigned}
 pub use Rattle.uc_case.specs.Cases.{each_member}
-unfoldable pub use Rattle.uc_case.specs.Cases.{units, renewable, bids, case_of}
+unfoldable pub use Rattle.uc_case.specs.Cases.{units, renewable, bids, with_units, case_of}
 pub use Rattle.uc_case.specs.EachLaws.{goes_on, ends, counted, is_done}
 pub use Rattle.uc_case.specs.Files.{FileFault, text, value, IsFile, reading_of, of_value}
 pub use Rattle.uc_case.specs.Forms.{Read, items}

@@ -1,5 +1,5 @@
 -- Worked trees: the definition computes.
-use Rattle.uc_case.proofs.Common.{◌≡◌, [], ◌∷◌, Ok, Err, ℕ, List, true, false, refl, pos, negsuc, codes, Value, scalar, number, list, object, Pair, items_of, members_of, value_of, each, amount, time_within, powers, renewable_unit, units, renewable, bids, case_of}
+use Rattle.uc_case.proofs.Common.{◌≡◌, [], ◌∷◌, Ok, Err, ℕ, List, true, false, refl, pos, negsuc, codes, Value, scalar, number, list, object, Pair, items_of, members_of, value_of, each, amount, time_within, powers, renewable_unit, units, renewable, bids, with_units, case_of}
 use Rattle.uc_num.specs.Rounding.{rounded, rounded_size}
 use Rattle.uc_case.specs.declared.fault.CaseCode.TheVariants as codes_of
 use Rattle.uc_case.specs.declared.fault.Field.TheVariants as fields
@@ -48,5 +48,5 @@ pub smallest_case : case_of smallest ≡ Ok (record {
   flat = record { name = codes "W"; unit = record { least = pos 0 ∷ []; most = pos 100000 ∷ [] } } ∷ [];
   bids = [];
 })
-unfolding case_of value_of powers amount time_within each rounded rounded_size units renewable renewable_unit bids
+unfolding case_of with_units value_of powers amount time_within each rounded rounded_size units renewable renewable_unit bids
 smallest_case = refl

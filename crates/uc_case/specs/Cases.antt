@@ -1,6 +1,6 @@
 -- The table of a case file: the case of a value, or the fault of the first test that fails
 -- (pglib-uc; bids and limits are this project's profile). Keys that no table names are skipped.
-use Rattle.std.specs.Prelude.{ℕ, ◌&&◌, ◌==◌, nat_lt, List, [], length, Option, Some, None, Ok}
+use Rattle.std.specs.Prelude.{ℕ, ℤ, ◌&&◌, ◌==◌, nat_lt, List, [], length, Option, Some, None, Ok}
 use Rattle.uc_model.specs.declared.kinds.Kind.{Kind}
 use Rattle.uc_model.specs.declared.kinds.Kind.TheVariants.{Case, Thermal, Renewable, Bid}
 use Rattle.uc_model.specs.declared.limits.TheConstants.{MOST_PERIODS, MOST_OF_A_KIND}
@@ -9,7 +9,7 @@ use Rattle.text_tree.specs.Values.{Value}
 use Rattle.text_tree.specs.Parts.{Pair}
 use Rattle.uc_case.specs.Sites.{fault, field_at, site}
 use Rattle.uc_case.specs.Words.{◌>>=◌, ◌>>◌, refuse, each, position}
-use Rattle.uc_case.specs.Forms.{Read, keys, key, key_or_none, object, time_within}
+use Rattle.uc_case.specs.Forms.{Read, Keys, keys, key, key_or_none, object, time_within}
 use Rattle.uc_case.specs.Tables.{thermal_unit, renewable_unit, bid_unit, powers}
 use Rattle.uc_case.specs.declared.fault.CaseCode.TheVariants.{TooLarge, NoUnits, NoPeriods}
 use Rattle.uc_case.specs.declared.fault.Field.{Field}
@@ -54,14 +54,9 @@ bids periods at (Some v) = units DemandBids Bid (bid periods) at v
 abbrev pub whole : Site
 whole = site Whole Case 0
 
-unfoldable pub case_of : Value → Read Market
-case_of v = do
-  ms ← object whole v
-  let c = keys whole ms
-  periods ← key c TimePeriods (time_within MOST_PERIODS)
-  refuse (fault (field_at whole TimePeriods) NoPeriods) (periods == 0)
-  demand ← key c Demand (powers periods)
-  reserves ← key c Reserves (powers periods)
+-- the units and bids, behind the horizon's lists
+unfoldable pub with_units : Keys → ℕ → List ℤ → List ℤ → Read Market
+with_units c periods demand reserves = do
   thermal ← key c ThermalGenerators (units ThermalGenerators Thermal (thermal periods))
   flat ← key c RenewableGenerators (units RenewableGenerators Renewable (renewable periods))
   bids ← key_or_none c DemandBids (bids periods)
@@ -75,3 +70,13 @@ case_of v = do
     flat = flat;
     bids = bids;
   })
+
+unfoldable pub case_of : Value → Read Market
+case_of v = do
+  ms ← object whole v
+  let c = keys whole ms
+  periods ← key c TimePeriods (time_within MOST_PERIODS)
+  refuse (fault (field_at whole TimePeriods) NoPeriods) (periods == 0)
+  demand ← key c Demand (powers periods)
+  reserves ← key c Reserves (powers periods)
+  with_units c periods demand reserves

@@ -2,13 +2,14 @@
 ghost use Rattle.std.specs.Prelude.{◌≡◌, ◌≤◌, IfOk, length, map};
 ghost use Rattle.std.specs.List.{All};
 ghost use Rattle.uc_model.specs.PlainCases.{market_of};
-ghost use Rattle.uc_model.specs.PlainUnits.{named_bid_of};
+ghost use Rattle.uc_model.specs.PlainUnits.{named_thermal_of, named_renewable_of, named_bid_of};
+ghost use Rattle.uc_model.specs.Limits.{IsPower};
 ghost use Rattle.uc_model.specs.declared.limits.TheConstants.{MOST_OF_A_KIND, MOST_PERIODS};
 ghost use Rattle.text_tree.specs.View.{view, member_views};
 ghost use Rattle.uc_case.specs.Given.{Gives};
-ghost use Rattle.uc_case.specs.Kept.{IsBidOf};
-ghost use Rattle.uc_case.specs.Forms.{keys, key_or_none};
-ghost use Rattle.uc_case.specs.Cases.{bids, case_of};
+ghost use Rattle.uc_case.specs.Kept.{IsThermalOf, IsRenewableOf, IsBidOf};
+ghost use Rattle.uc_case.specs.Forms.{keys, key, key_or_none};
+ghost use Rattle.uc_case.specs.Cases.{thermal, renewable, units, bids, whole, with_units, case_of};
 
 use crate::fault::{CaseCode, Field, Kind};
 use crate::forms::{FieldStop, members_of};
@@ -19,7 +20,40 @@ use crate::lists::read_powers;
 use std::alloc::Global;
 use text_tree::Branch;
 use uc_model::cases::Case;
-use uc_model::units::{BidList, NamedBid, NamedFlat, NamedUnit};
+use uc_model::lists::Numbers;
+use uc_model::units::{BidList, FlatList, NamedBid, NamedFlat, NamedUnit, ThermalList};
+
+/// The thermal units, in file order.
+fn read_thermal_units(alloc: Global, c: &Keys, periods: u32) -> Result<ThermalList, FieldStop>
+    requires some { 1 ≤ periods }
+    requires horizon { periods ≤ MOST_PERIODS }
+    ensures count { IfOk result (λ l. length l.items ≤ MOST_OF_A_KIND) }
+    ensures fits { IfOk result (λ l. All (λ n. IsThermalOf periods n)
+        (map named_thermal_of l.items)) }
+    ensures value { Gives (λ l. map named_thermal_of l.items) result
+        (key (keys c.now.at (member_views c.now.members.items)) Field.ThermalGenerators
+        (units Field.ThermalGenerators Kind.Thermal (thermal periods))) }
+{
+    let branch = c.value(Field::ThermalGenerators)?;
+    let at = c.at.field(Field::ThermalGenerators);
+    read_units::<NamedUnit>(alloc, at, Kind::Thermal, branch, periods)
+}
+
+/// The renewable units, in file order.
+fn read_renewable_units(alloc: Global, c: &Keys, periods: u32) -> Result<FlatList, FieldStop>
+    requires some { 1 ≤ periods }
+    requires horizon { periods ≤ MOST_PERIODS }
+    ensures count { IfOk result (λ l. length l.items ≤ MOST_OF_A_KIND) }
+    ensures fits { IfOk result (λ l. All (λ n. IsRenewableOf periods n)
+        (map named_renewable_of l.items)) }
+    ensures value { Gives (λ l. map named_renewable_of l.items) result
+        (key (keys c.now.at (member_views c.now.members.items)) Field.RenewableGenerators
+        (units Field.RenewableGenerators Kind.Renewable (renewable periods))) }
+{
+    let branch = c.value(Field::RenewableGenerators)?;
+    let at = c.at.field(Field::RenewableGenerators);
+    read_units::<NamedFlat>(alloc, at, Kind::Renewable, branch, periods)
+}
 
 #[tactic(auto, unfolding(crate::specs::Cases::bids))]
 fn read_demand_bids(alloc: Global, c: &Keys, periods: u32) -> Result<BidList, FieldStop>
@@ -38,6 +72,44 @@ fn read_demand_bids(alloc: Global, c: &Keys, periods: u32) -> Result<BidList, Fi
     read_units::<NamedBid>(alloc, at, Kind::Bid, branch, periods)
 }
 
+/// The case with these lists over its horizon: its units and bids are read last.
+#[tactic(auto, unfolding(crate::specs::Cases::with_units))]
+fn read_with_units(
+    alloc: Global,
+    c: &Keys,
+    periods: u32,
+    demand: Numbers,
+    reserves: Numbers,
+) -> Result<Case, FieldStop>
+    requires at { c.now.at ≡ whole }
+    requires some { 1 ≤ periods }
+    requires horizon { periods ≤ MOST_PERIODS }
+    requires demand_count { length demand.items ≡ periods }
+    requires demand_fits { All (λ n. IsPower n) demand.items }
+    requires reserves_count { length reserves.items ≡ periods }
+    requires reserves_fits { All (λ n. IsPower n) reserves.items }
+    ensures { Gives market_of result (with_units
+        (keys c.now.at (member_views c.now.members.items)) periods demand.items reserves.items) }
+{
+    let thermal = read_thermal_units(alloc, c, periods)?;
+    let flat = read_renewable_units(alloc, c, periods)?;
+    let bids = read_demand_bids(alloc, c, periods)?;
+    if thermal.len() == 0 && flat.len() == 0 {
+        return Err(
+            c.at.field(Field::RenewableGenerators)
+                .stop(CaseCode::NoUnits),
+        );
+    }
+    Ok(Case {
+        periods,
+        demand,
+        reserves,
+        thermal,
+        flat,
+        bids,
+    })
+}
+
 /// The case of a tree's root, or the fault of the first test that fails.
 #[tactic(auto, unfolding(crate::specs::Cases::case_of))]
 pub fn case_of_tree(alloc: Global, root: Branch<'_>) -> Result<Case, FieldStop>
@@ -54,30 +126,5 @@ pub fn case_of_tree(alloc: Global, root: Branch<'_>) -> Result<Case, FieldStop>
     }
     let demand = read_powers(alloc, &c, Field::Demand, periods)?;
     let reserves = read_powers(alloc, &c, Field::Reserves, periods)?;
-    let thermal = read_units::<NamedUnit>(
-        alloc,
-        at.field(Field::ThermalGenerators),
-        Kind::Thermal,
-        c.value(Field::ThermalGenerators)?,
-        periods,
-    )?;
-    let flat = read_units::<NamedFlat>(
-        alloc,
-        at.field(Field::RenewableGenerators),
-        Kind::Renewable,
-        c.value(Field::RenewableGenerators)?,
-        periods,
-    )?;
-    let bids = read_demand_bids(alloc, &c, periods)?;
-    if thermal.len() == 0 && flat.len() == 0 {
-        return Err(at.field(Field::RenewableGenerators).stop(CaseCode::NoUnits));
-    }
-    Ok(Case {
-        periods,
-        demand,
-        reserves,
-        thermal,
-        flat,
-        bids,
-    })
+    read_with_units(alloc, &c, periods, demand, reserves)
 }

@@ -132,7 +132,7 @@ fn misses_ends(low: i64, high: i64, points: &[Point]) -> bool
 /// The points of a thermal unit's cost, at most `POINTS`, where `low` and `high` are its least and
 /// its greatest kilowatts. `CurveOrder` where a point is below the one before it, and `CurveEnds`
 /// where the points don't reach from one to the other.
-#[tactic(auto, using(crate::proofs::Ordered::spans), unfolding(crate::specs::Tables::piecewise))]
+#[tactic(auto, unfolding(crate::specs::Tables::piecewise))]
 pub fn read_piecewise(alloc: Global, u: &Keys, low: i64, high: i64) -> Result<Points, FieldStop>
     ensures count { IfOk result (λ ps. length ps.items ≤ MOST_POINTS) }
     ensures some { IfOk result (λ ps. 1 ≤ length ps.items) }

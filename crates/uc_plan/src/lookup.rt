@@ -3,7 +3,7 @@ ghost use Rattle.std.specs.Prelude.{◌≡◌, ℕ, List, IfOk, map, bytes_eq, l
 ghost use Rattle.std.specs.Option.{option_map};
 ghost use Rattle.indexmap.specs.IndexMap.{get_by_text};
 ghost use Rattle.indexmap.specs.IndexSet.{contains_by};
-ghost use Rattle.text_tree.specs.View.{view, member_views};
+ghost use Rattle.text_tree.specs.View.{view, member_views, members_in};
 ghost use Rattle.uc_case.specs.Inside.{value_of};
 ghost use Rattle.uc_plan.specs.Plans.{is_among, first_unknown};
 
@@ -11,11 +11,11 @@ use crate::named::Named;
 use indexmap::{IndexMap, IndexSet};
 use std::alloc::{AllocError, Global};
 use text_tokens::text_of;
-use text_tree::{Branch, Member};
+use text_tree::{Branch, Member, ObjectBranch};
 
 /// The members of an object by their keys. It is filled from the last member on, so that the first
 /// of equal keys stays.
-pub fn by_key<'a>(
+fn by_key<'a>(
     alloc: Global,
     members: &[Member<'a>],
 ) -> Result<IndexMap<String, Branch<'a>>, AllocError>
@@ -32,10 +32,7 @@ pub fn by_key<'a>(
 }
 
 /// The names of units.
-pub fn names_of<'a, N: Named>(
-    alloc: Global,
-    units: &'a [N],
-) -> Result<IndexSet<&'a str>, AllocError>
+fn names_of<'a, N: Named>(alloc: Global, units: &'a [N]) -> Result<IndexSet<&'a str>, AllocError>
     ensures { IfOk result (λ s. (q : List ℕ)
         → contains_by (λ k. bytes_eq q k.now) s ≡ is_among q (map N.name_of units.now)) }
 {
@@ -48,7 +45,7 @@ pub fn names_of<'a, N: Named>(
 }
 
 /// The position of the first member whose key isn't one of the names, or 0.
-pub fn first_stranger(
+fn first_stranger(
     alloc: Global,
     names: &IndexSet<&str>,
     known: &[Member<'_>],
@@ -66,4 +63,30 @@ pub fn first_stranger(
         }
     }
     Ok(0)
+}
+
+/// The position of the first member of an object whose key isn't the name of a unit, or 0.
+pub fn stranger_in<N: Named>(
+    alloc: Global,
+    object: ObjectBranch<'_>,
+    units: &[N],
+) -> Result<usize, AllocError>
+    ensures { IfOk result
+        (λ k. k ≡ first_unknown (map N.name_of units.now) 1 (members_in object.entry)) }
+{
+    let names = names_of(alloc, units)?;
+    let members = object.members(alloc)?;
+    first_stranger(alloc, &names, &members)
+}
+
+/// The values of an object by key: of two with one key the first.
+pub fn values_of<'a>(
+    alloc: Global,
+    object: ObjectBranch<'a>,
+) -> Result<IndexMap<String, Branch<'a>>, AllocError>
+    ensures { IfOk result (λ m. (q : List ℕ)
+        → option_map view (get_by_text m q) ≡ value_of q (members_in object.entry)) }
+{
+    let members = object.members(alloc)?;
+    by_key(alloc, &members)
 }

@@ -2,13 +2,13 @@
 ghost use Rattle.std.specs.Prelude.{◌≡◌, ◌≤◌, IfOk, length};
 ghost use Rattle.uc_model.specs.declared.limits.TheConstants.{MOST_PERIODS};
 ghost use Rattle.uc_num.specs.Rounding.{rounded};
-ghost use Rattle.text_tree.specs.View.{view, views};
+ghost use Rattle.text_tree.specs.View.{view, views, items_in};
 ghost use Rattle.uc_case.specs.Given.{Gives};
 ghost use Rattle.uc_plan.specs.Plans.{kilowatts_of, kilowatts_in, flag_in, numbers};
 
 use crate::fault::{Seat, ShapeCode, ShapeStop};
 use std::alloc::Global;
-use text_tree::Branch;
+use text_tree::{Branch, ListBranch};
 use uc_case::inside::bit;
 use uc_model::limits::POWER_LIMIT;
 use uc_model::lists::{Flags, Powers};
@@ -50,9 +50,8 @@ fn flag_at(branch: Branch<'_>) -> Option<bool>
     }
 }
 
-/// The kilowatts of a list, one for each item. `PlanNumber` at the first item that isn't a whole
-/// number from 0 to `POWER_LIMIT`.
-pub fn read_powers(alloc: Global, at: Seat, branches: &[Branch<'_>]) -> Result<Powers, ShapeStop>
+/// The kilowatts of items.
+fn powers_of(alloc: Global, at: Seat, branches: &[Branch<'_>]) -> Result<Powers, ShapeStop>
     requires { length branches.now ≤ MOST_PERIODS }
     ensures count { IfOk result (λ ns. length ns.items ≡ length branches.now) }
     ensures value { Gives (λ ns. ns.items) result (numbers kilowatts_in at (views branches.now)) }
@@ -67,8 +66,8 @@ pub fn read_powers(alloc: Global, at: Seat, branches: &[Branch<'_>]) -> Result<P
     Ok(powers)
 }
 
-/// The flags of a list, one for each item. `PlanNumber` at the first item that is neither 0 nor 1.
-pub fn read_flags(alloc: Global, at: Seat, branches: &[Branch<'_>]) -> Result<Flags, ShapeStop>
+/// The flags of items.
+fn flags_of(alloc: Global, at: Seat, branches: &[Branch<'_>]) -> Result<Flags, ShapeStop>
     requires { length branches.now ≤ MOST_PERIODS }
     ensures count { IfOk result (λ ns. length ns.items ≡ length branches.now) }
     ensures value { Gives (λ ns. ns.items) result (numbers flag_in at (views branches.now)) }
@@ -81,4 +80,26 @@ pub fn read_flags(alloc: Global, at: Seat, branches: &[Branch<'_>]) -> Result<Fl
         flags.push(flag);
     }
     Ok(flags)
+}
+
+/// The kilowatts of a list, one for each item. `PlanNumber` at the first item that isn't a whole
+/// number from 0 to `POWER_LIMIT`.
+pub fn read_powers(alloc: Global, at: Seat, list: ListBranch<'_>) -> Result<Powers, ShapeStop>
+    requires { length (items_in list) ≤ MOST_PERIODS }
+    ensures count { IfOk result (λ ns. length ns.items ≡ length (items_in list.entry)) }
+    ensures value { Gives (λ ns. ns.items) result
+        (numbers kilowatts_in at (items_in list.entry)) }
+{
+    let items = list.items(alloc)?;
+    powers_of(alloc, at, &items)
+}
+
+/// The flags of a list, one for each item. `PlanNumber` at the first item that is neither 0 nor 1.
+pub fn read_flags(alloc: Global, at: Seat, list: ListBranch<'_>) -> Result<Flags, ShapeStop>
+    requires { length (items_in list) ≤ MOST_PERIODS }
+    ensures count { IfOk result (λ ns. length ns.items ≡ length (items_in list.entry)) }
+    ensures value { Gives (λ ns. ns.items) result (numbers flag_in at (items_in list.entry)) }
+{
+    let items = list.items(alloc)?;
+    flags_of(alloc, at, &items)
 }

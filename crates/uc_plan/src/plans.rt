@@ -14,7 +14,7 @@ ghost use Rattle.uc_plan.specs.Added.{Adds, IsShaped};
 ghost use Rattle.uc_plan.specs.Plans.{named, schedules, all_known, plan_of};
 
 use crate::fault::{Seat, ShapeCode, ShapeStop};
-use crate::lookup::{by_key, first_stranger, names_of};
+use crate::lookup::{stranger_in, values_of};
 use crate::named::Named;
 use crate::shapes::read_groups;
 use crate::units::read_schedule;
@@ -37,9 +37,7 @@ fn check_names<N: Named>(
     ensures { Gives (λ _. tt) result
         (all_known kind (map N.name_of units.now) (members_in object.entry)) }
 {
-    let names = names_of(alloc, units)?;
-    let members = object.members(alloc)?;
-    let position = first_stranger(alloc, &names, &members)?;
+    let position = stranger_in(alloc, object, units)?;
     if position > 0 {
         // There is no room for an object of so many members.
         let Ok(unit) = u32::try_from(position) else {
@@ -87,8 +85,7 @@ fn read_schedules<N: Named>(
         (map schedule_of plan.old.items) (map schedule_of plan.new.items) result
         (schedules periods kind (members_in object.entry) (map N.name_of units.now)) }
 {
-    let members = object.members(alloc)?;
-    let values = by_key(alloc, &members)?;
+    let values = values_of(alloc, object)?;
     let mut unit = 0;
     for named in units {
         unit += 1;

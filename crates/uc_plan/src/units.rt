@@ -40,9 +40,9 @@ fn read_thermal(
     let Some(reserves) = list_under(&members, "reserve", periods) else {
         return Err(at.stop(0, ShapeCode::PlanShape));
     };
-    let on = read_flags(alloc, at, &ons.items(alloc)?)?;
-    let power = read_powers(alloc, at, &powers.items(alloc)?)?;
-    let reserve = read_powers(alloc, at, &reserves.items(alloc)?)?;
+    let on = read_flags(alloc, at, ons)?;
+    let power = read_powers(alloc, at, powers)?;
+    let reserve = read_powers(alloc, at, reserves)?;
     Ok(Response { on, power, reserve })
 }
 
@@ -61,7 +61,7 @@ fn read_flat(
     let Some(list) = full_list(branch, periods) else {
         return Err(at.stop(0, ShapeCode::PlanShape));
     };
-    let power = read_powers(alloc, at, &list.items(alloc)?)?;
+    let power = read_powers(alloc, at, list)?;
     let on = Flags::filled(alloc, periods, true)?;
     let reserve = Powers::filled(alloc, periods, 0)?;
     Ok(Response { on, power, reserve })

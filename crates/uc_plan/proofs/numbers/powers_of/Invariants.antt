@@ -1,6 +1,6 @@
 use Rattle.uc_plan.proofs.Common.{◌≡◌, ◌+◌, ◌≤◌, length, drop, views, each, numbers, kilowatts_in}
 use Rattle.uc_plan.proofs.Lemmas.{one_number}
-use Rattle.uc_plan.proofs.numbers.read_powers.Given as goal
+use Rattle.uc_plan.proofs.numbers.powers_of.Given as goal
 
 abbrev pub invariant-loop-branch : goal.invariant-loop-branch
 invariant-loop-branch l = record {

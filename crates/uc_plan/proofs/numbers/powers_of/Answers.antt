@@ -1,6 +1,6 @@
 use Rattle.uc_plan.proofs.Common.{sym, arith, counted, kilowatts_in}
 use Rattle.uc_plan.proofs.Lemmas.{number_goes_on, number_ends, numbers_done, numbers_begin}
-use Rattle.uc_plan.proofs.numbers.read_powers.Goals as goal
+use Rattle.uc_plan.proofs.numbers.powers_of.Goals as goal
 
 pub loop-branch-init : goal.loop-branch-init
 loop-branch-init c = record {
