@@ -1,43 +1,66 @@
-ghost use Rattle.std.specs.Prelude.{◌≡◌, length};
-ghost use Rattle.uc_model.specs.PlainCases.{market_of, proposal_of};
-ghost use Rattle.gap_proof.specs.Sums.{IsRowWithin, IsRadius};
+ghost use Rattle.std.specs.Prelude.{◌≡◌, ◌∷◌, [], pos, length, IfOk};
+ghost use Rattle.uc_model.specs.PlainCases.{market_of};
+ghost use Rattle.gap_proof.specs.Sums.{IsRadius};
 
 use crate::small_cases::{one_period, one_row};
 use gap_proof::{Certified, best_range, bound_of};
 use std::alloc::{AllocError, Global};
 use std::test::Fail;
-use uc_model::cases::{Case, Row};
+use uc_model::cases::Case;
 use uc_model::lists::{Amounts, Numbers};
 
-// The best range of one row.
-fn best_of_one(case: &Case, row: Row, radius: i64, work: &mut Amounts) -> Certified
-    requires case { (market_of case.now).periods ≡ 1 }
-    requires row { IsRowWithin (market_of case.now) (proposal_of row) }
-    requires radius { IsRadius radius }
-    requires work { length work.old.items ≡ 2 }
-    ensures { length work.new.items ≡ 2 }
+// A demand of 150 kW.
+fn small_case(alloc: Global) -> Result<Case, AllocError>
+    ensures { IfOk result (λ case. (market_of case).periods ≡ 1) }
 {
-    best_range(case, &[row], 1, radius, work)
+    one_period(alloc, 150, 0, 0)
 }
 
-// The best range of two rows round the first.
-fn best_of_two(case: &Case, first: Row, second: Row, radius: i64, work: &mut Amounts) -> Certified
+fn small_work(alloc: Global) -> Result<Amounts, AllocError>
+    ensures { IfOk result (λ work. length work.items ≡ 2) }
+{
+    Amounts::filled(alloc, 2, 7)
+}
+
+// The best range of one row.
+fn best_of_one(
+    alloc: Global,
+    case: &Case,
+    radius: i64,
+    work: &mut Amounts,
+) -> Result<Certified, AllocError>
     requires case { (market_of case.now).periods ≡ 1 }
-    requires first { IsRowWithin (market_of case.now) (proposal_of first) }
-    requires second { IsRowWithin (market_of case.now) (proposal_of second) }
     requires radius { IsRadius radius }
     requires work { length work.old.items ≡ 2 }
     ensures { length work.new.items ≡ 2 }
 {
-    best_range(case, &[first, second], 1, radius, work)
+    let row = one_row(alloc, 30, 2_500, 100)?;
+    Ok(best_range(case, &[row], 1, radius, work))
+}
+
+// The best ranges of one row, by a radius of 10 and by one of 0.
+fn best_by_radius(
+    alloc: Global,
+    case: &Case,
+    work: &mut Amounts,
+) -> Result<(Certified, Certified), AllocError>
+    requires case { (market_of case.now).periods ≡ 1 }
+    requires work { length work.old.items ≡ 2 }
+{
+    let ten = best_of_one(alloc, case, 10, work)?;
+    let none = best_of_one(alloc, case, 0, work)?;
+    Ok((ten, none))
+}
+
+fn best_by_radius_alone(alloc: Global) -> Result<(Certified, Certified), AllocError> {
+    let mut work = small_work(alloc)?;
+    let case = small_case(alloc)?;
+    best_by_radius(alloc, &case, &mut work)
 }
 
 #[test]
 fn a_row_alone(rt: HostRuntime) -> Result<(), Fail> {
-    let case = one_period(rt.alloc(), 150, 0, 0)?;
-    let mut work = Amounts::filled(rt.alloc(), 2, 7)?;
-    let row = one_row(rt.alloc(), 30, 2_500, 100)?;
-    let ten = best_of_one(&case, row, 10, &mut work);
+    let (ten, none) = best_by_radius_alone(rt.alloc())?;
     assert_eq!(rt;
         ten,
         Certified {
@@ -46,19 +69,29 @@ fn a_row_alone(rt: HostRuntime) -> Result<(), Fail> {
             bound: 3_000
         }
     );
-    let row = one_row(rt.alloc(), 30, 2_500, 100)?;
-    let none = best_of_one(&case, row, 0, &mut work);
     assert_eq!(rt; none.bound, 2_500);
     Ok(())
 }
 
+// The best range of two rows round the first.
+fn best_of_two(alloc: Global, case: &Case, work: &mut Amounts) -> Result<Certified, AllocError>
+    requires case { (market_of case.now).periods ≡ 1 }
+    requires work { length work.old.items ≡ 2 }
+{
+    let first = one_row(alloc, 30, 2_500, 100)?;
+    let second = one_row(alloc, 50, 1_500, 200)?;
+    Ok(best_range(case, &[first, second], 1, 10, work))
+}
+
+fn best_of_two_alone(alloc: Global) -> Result<Certified, AllocError> {
+    let mut work = small_work(alloc)?;
+    let case = small_case(alloc)?;
+    best_of_two(alloc, &case, &mut work)
+}
+
 #[test]
 fn two_rows_are_better(rt: HostRuntime) -> Result<(), Fail> {
-    let case = one_period(rt.alloc(), 150, 0, 0)?;
-    let mut work = Amounts::filled(rt.alloc(), 2, 7)?;
-    let first = one_row(rt.alloc(), 30, 2_500, 100)?;
-    let second = one_row(rt.alloc(), 50, 1_500, 200)?;
-    let best = best_of_two(&case, first, second, 10, &mut work);
+    let best = best_of_two_alone(rt.alloc())?;
     assert_eq!(rt;
         best,
         Certified {
@@ -70,41 +103,68 @@ fn two_rows_are_better(rt: HostRuntime) -> Result<(), Fail> {
     Ok(())
 }
 
-// The bound by two rows with weights 3 and 1.
-fn three_to_one(
-    alloc: Global,
-    case: &Case,
-    first: Row,
-    second: Row,
-    work: &mut Amounts,
-) -> Result<i128, AllocError>
-    requires case { (market_of case.now).periods ≡ 1 }
-    requires first { IsRowWithin (market_of case.now) (proposal_of first) }
-    requires second { IsRowWithin (market_of case.now) (proposal_of second) }
-    requires work { length work.old.items ≡ 2 }
-    ensures { length work.new.items ≡ 2 }
+fn three_and_one(alloc: Global) -> Result<Numbers, AllocError>
+    ensures { IfOk result (λ weights. weights.items ≡ pos 3 ∷ pos 1 ∷ []) }
 {
     let mut weights = Numbers::make(alloc, 2)?;
     weights.push(3);
     weights.push(1);
-    Ok(bound_of(case, &[first, second], &weights, 1, 10, work))
+    Ok(weights)
+}
+
+// The bound by the rows of the test above with those weights.
+fn bound_of_usual(
+    alloc: Global,
+    case: &Case,
+    weights: &Numbers,
+    work: &mut Amounts,
+) -> Result<i128, AllocError>
+    requires case { (market_of case.now).periods ≡ 1 }
+    requires weights { weights.now.items ≡ pos 3 ∷ pos 1 ∷ [] }
+    requires work { length work.old.items ≡ 2 }
+    ensures { length work.new.items ≡ 2 }
+{
+    let first = one_row(alloc, 30, 2_500, 100)?;
+    let second = one_row(alloc, 50, 1_500, 200)?;
+    Ok(bound_of(case, &[first, second], weights, 1, 10, work))
+}
+
+// The bound by two rows that supply the demand.
+fn bound_of_level(
+    alloc: Global,
+    case: &Case,
+    weights: &Numbers,
+    work: &mut Amounts,
+) -> Result<i128, AllocError>
+    requires case { (market_of case.now).periods ≡ 1 }
+    requires weights { weights.now.items ≡ pos 3 ∷ pos 1 ∷ [] }
+    requires work { length work.old.items ≡ 2 }
+{
+    let first = one_row(alloc, 30, -7, 150)?;
+    let second = one_row(alloc, 50, -8, 150)?;
+    Ok(bound_of(case, &[first, second], weights, 1, 10, work))
+}
+
+fn two_bounds(alloc: Global, case: &Case, work: &mut Amounts) -> Result<(i128, i128), AllocError>
+    requires case { (market_of case.now).periods ≡ 1 }
+    requires work { length work.old.items ≡ 2 }
+{
+    let weights = three_and_one(alloc)?;
+    let usual = bound_of_usual(alloc, case, &weights, work)?;
+    let level = bound_of_level(alloc, case, &weights, work)?;
+    Ok((usual, level))
+}
+
+fn two_bounds_alone(alloc: Global) -> Result<(i128, i128), AllocError> {
+    let mut work = small_work(alloc)?;
+    let case = small_case(alloc)?;
+    two_bounds(alloc, &case, &mut work)
 }
 
 #[test]
 fn weights_count(rt: HostRuntime) -> Result<(), Fail> {
-    let case = one_period(rt.alloc(), 150, 0, 0)?;
-    let mut work = Amounts::filled(rt.alloc(), 2, 7)?;
-    let first = one_row(rt.alloc(), 30, 2_500, 100)?;
-    let second = one_row(rt.alloc(), 50, 1_500, 200)?;
-    assert_eq!(rt;
-        three_to_one(rt.alloc(), &case, first, second, &mut work)?,
-        2_750
-    );
-    let first = one_row(rt.alloc(), 30, -7, 150)?;
-    let second = one_row(rt.alloc(), 50, -8, 150)?;
-    assert_eq!(rt;
-        three_to_one(rt.alloc(), &case, first, second, &mut work)?,
-        -8
-    );
+    let (usual, level) = two_bounds_alone(rt.alloc())?;
+    assert_eq!(rt; usual, 2_750);
+    assert_eq!(rt; level, -8);
     Ok(())
 }

@@ -11,13 +11,18 @@ fn words_of(alloc: Global, line: &str) -> Result<Vec<String>, AllocError> {
     Ok(words)
 }
 
-/// The code and the place of the fault that the words have, or two zeros.
+/// The code and the place of the fault that words have, or two zeros.
 fn fault_of(alloc: Global, words: &[String]) -> Result<(u32, u32), AllocError> {
     match read_words(alloc, words) {
         Err(WordError::Fault(fault)) => Ok((fault.code.number(), fault.place)),
         Err(WordError::Memory) => Err(AllocError),
         Ok(_) => Ok((0, 0)),
     }
+}
+
+fn fault_of_line(alloc: Global, line: &str) -> Result<(u32, u32), AllocError> {
+    let words = words_of(alloc, line)?;
+    fault_of(alloc, &words)
 }
 
 fn price_text(alloc: Global, words: &PriceWords) -> Result<String, AllocError> {
@@ -154,8 +159,7 @@ fn faults(rt: HostRuntime) -> Result<(), Fail> {
     let alloc = rt.alloc();
     assert_eq!(rt; fault_of(alloc, &[])?, (1, 0));
     for (line, code, place) in FAULTS {
-        let words = words_of(alloc, line)?;
-        assert_eq!(rt; fault_of(alloc, &words)?, (*code, *place), "{line}");
+        assert_eq!(rt; fault_of_line(alloc, line)?, (*code, *place), "{line}");
     }
     Ok(())
 }
@@ -189,13 +193,21 @@ const COMMANDS: &[(&str, &str)] = &[
     ),
 ];
 
+fn command_of_line(alloc: Global, line: &str) -> Result<Command, WordError> {
+    let words = words_of(alloc, line)?;
+    read_words(alloc, &words)
+}
+
+fn text_of_line(alloc: Global, line: &str) -> Result<Result<String, AllocError>, WordError> {
+    let command = command_of_line(alloc, line)?;
+    Ok(command_text(alloc, &command))
+}
+
 #[test]
 fn commands(rt: HostRuntime) -> Result<(), Fail> {
     let alloc = rt.alloc();
     for (line, want) in COMMANDS {
-        let words = words_of(alloc, line)?;
-        let command = read_words(alloc, &words)?;
-        let text = command_text(alloc, &command)?;
+        let text = text_of_line(alloc, line)??;
         assert_eq!(rt; text.as_str(), *want);
     }
     Ok(())

@@ -1,61 +1,81 @@
-ghost use Rattle.std.specs.Prelude.{◌≡◌, ◌≤◌, ◌≤ℤ◌, pos, length, IfOk};
+ghost use Rattle.std.specs.Prelude.{◌≡◌, ◌≤◌, ◌≤ℤ◌, pos, neg_ℤ, length, IfOk};
 ghost use Rattle.std.specs.List.{All};
-ghost use Rattle.uc_model.specs.Limits.{IsFrom, IsTotal, IsWorth};
+ghost use Rattle.uc_model.specs.Limits.{IsFrom, IsTotal, IsWorth, price_limit};
 ghost use Rattle.uc_model.specs.PlainCases.{market_of, proposal_of};
-ghost use Rattle.uc_model.specs.PlainUnits.{prices_of};
 ghost use Rattle.price_move.specs.Sizes.{IsRowBelow, IsRowOver};
 
 use crate::small_cases::{one_period, one_price, one_row};
 use price_move::{Moved, direction, next_prices};
 use std::alloc::{AllocError, Global};
+use std::process::Abort;
 use std::test::Fail;
 use uc_model::cases::{Case, Row};
 use uc_model::money::price_near;
 use uc_model::units::Prices;
 
-// The prices that follow one row.
-fn after_one(case: &Case, row: Row, cost: i128, into: &mut Prices) -> Moved
+// Whether prices follow one row, and the prices after that.
+fn after_one(
+    alloc: Global,
+    case: &Case,
+    row: Row,
+    cost: i128,
+) -> Result<(Moved, Prices), AllocError>
     requires case { (market_of case.now).periods ≡ 1 }
     requires row { IsRowOver (market_of case.now) (proposal_of row) }
     requires value { IsWorth (proposal_of row).value }
     requires cost { IsWorth cost }
     requires at_most { (proposal_of row).value ≤ℤ cost }
-    requires into { length (prices_of into.old).energy ≡ 1 }
 {
-    next_prices(case, &[row], 1, cost, into)
+    let mut into = one_price(alloc, 7, 0)?;
+    let moved = next_prices(case, &[row], 1, cost, &mut into);
+    Ok((moved, into))
+}
+
+fn after_a_usual_row(alloc: Global) -> Result<(Moved, Prices), AllocError> {
+    let case = one_period(alloc, 10_000, 2_000, 0)?;
+    let row = one_row(alloc, 98_000, 686_000_000, 3_000)?;
+    after_one(alloc, &case, row, 850_000_000)
 }
 
 #[test]
 fn prices_follow_a_usual_row(rt: HostRuntime) -> Result<(), Fail> {
-    let case = one_period(rt.alloc(), 10_000, 2_000, 0)?;
-    let row = one_row(rt.alloc(), 98_000, 686_000_000, 3_000)?;
-    let mut into = one_price(rt.alloc(), 7, 0)?;
-    let moved = after_one(&case, row, 850_000_000, &mut into);
+    let (moved, into) = after_a_usual_row(rt.alloc())?;
     assert_eq!(rt; moved, Moved::Made);
     assert_eq!(rt; into.energy.as_slice(), [119_660].as_slice());
     assert_eq!(rt; into.reserve.as_slice(), [6_188].as_slice());
     Ok(())
 }
 
+fn after_a_settled_row(alloc: Global) -> Result<(Moved, Prices), AllocError> {
+    let case = one_period(alloc, 150, 0, 0)?;
+    let row = one_row(alloc, 30, 2_000, 50)?;
+    after_one(alloc, &case, row, 2_000)
+}
+
 #[test]
 fn no_prices_follow_a_settled_row(rt: HostRuntime) -> Result<(), Fail> {
-    let case = one_period(rt.alloc(), 150, 0, 0)?;
-    let row = one_row(rt.alloc(), 30, 2_000, 50)?;
-    let mut into = one_price(rt.alloc(), 7, 0)?;
-    let moved = after_one(&case, row, 2_000, &mut into);
+    let (moved, into) = after_a_settled_row(rt.alloc())?;
     assert_eq!(rt; moved, Moved::Settled);
     assert_eq!(rt; into.energy.as_slice(), [7].as_slice());
     Ok(())
 }
 
+// The directions of energy and reserve at a price for energy.
+fn directions_at(alloc: Global, energy: i64) -> Result<(i64, i64), AllocError>
+    requires { IsFrom (neg_ℤ price_limit) price_limit energy }
+{
+    let case = one_period(alloc, 10_000, 2_000, 0)?;
+    let row = one_row(alloc, energy, 0, 3_000)?;
+    Ok((direction(&case, &row, 0), direction(&case, &row, 1)))
+}
+
 #[test]
 fn directions(rt: HostRuntime) -> Result<(), Fail> {
-    let case = one_period(rt.alloc(), 10_000, 2_000, 0)?;
-    let row = one_row(rt.alloc(), 98_000, 0, 3_000)?;
-    assert_eq!(rt; direction(&case, &row, 0), 7_000);
-    assert_eq!(rt; direction(&case, &row, 1), 2_000);
-    let row = one_row(rt.alloc(), 10_000_000, 0, 3_000)?;
-    assert_eq!(rt; direction(&case, &row, 0), 0);
+    let (energy, reserve) = directions_at(rt.alloc(), 98_000)?;
+    assert_eq!(rt; energy, 7_000);
+    assert_eq!(rt; reserve, 2_000);
+    let (energy, _) = directions_at(rt.alloc(), 10_000_000)?;
+    assert_eq!(rt; energy, 0);
     Ok(())
 }
 
@@ -95,19 +115,35 @@ fn after_rows_alike(
     Ok(into)
 }
 
+fn energy_is(rt: &impl Abort, prices: Prices, energy: i64) {
+    assert_eq!(rt; prices.energy.as_slice(), [energy].as_slice());
+}
+
+// The prices that follow so many rows, at a demand of 50 and a gap of 1,000.
+fn after_rows(alloc: Global, supply: i128, count: u32) -> Result<Prices, AllocError>
+    requires supply { IsTotal supply }
+    requires some { 1 ≤ count }
+    requires few { count ≤ 100 }
+{
+    let case = one_period(alloc, 50, 0, 0)?;
+    after_rows_alike(alloc, &case, supply, 1_000, count)
+}
+
+// The prices that follow a row that lacks reserve, at a gap of 7.
+fn after_a_lack(alloc: Global) -> Result<Prices, AllocError> {
+    let case = one_period(alloc, 0, 1, 0)?;
+    after_rows_alike(alloc, &case, 1, 7, 1)
+}
+
 // The gap is 1,000 or 7. The direction is 50, -50, or -1 beside 1 for the reserve, and so the sum
 // of its squares 2,500 or 2. The last row comes 10, 25 and 0 rows after the first of the greatest
 // value, which halves a move once, twice and never.
 #[test]
 fn moves(rt: HostRuntime) -> Result<(), Fail> {
-    let case = one_period(rt.alloc(), 50, 0, 0)?;
-    let ten = after_rows_alike(rt.alloc(), &case, 0, 1_000, 11)?;
-    assert_eq!(rt; ten.energy.as_slice(), [10].as_slice());
-    let twenty = after_rows_alike(rt.alloc(), &case, 100, 1_000, 26)?;
-    assert_eq!(rt; twenty.energy.as_slice(), [-5].as_slice());
-    let case = one_period(rt.alloc(), 0, 1, 0)?;
-    let cut = after_rows_alike(rt.alloc(), &case, 1, 7, 1)?;
-    assert_eq!(rt; cut.energy.as_slice(), [-3].as_slice());
+    let alloc = rt.alloc();
+    energy_is(&rt, after_rows(alloc, 0, 11)?, 10);
+    energy_is(&rt, after_rows(alloc, 100, 26)?, -5);
+    energy_is(&rt, after_a_lack(alloc)?, -3);
     assert_eq!(rt; price_near(-10_000_000, 9_999_990 + 20), 10_000_000);
     Ok(())
 }

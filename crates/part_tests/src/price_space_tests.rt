@@ -1,5 +1,8 @@
-ghost use Rattle.std.specs.Prelude.{◌≡◌, length, IfOk};
-ghost use Rattle.uc_model.specs.PlainUnits.{thermal_of};
+ghost use Rattle.std.specs.Prelude.{◌≡◌, length, map, IfOk};
+ghost use Rattle.std.specs.List.{All};
+ghost use Rattle.uc_model.specs.Data.{NamedThermalUnit};
+ghost use Rattle.uc_model.specs.Limits.{IsThermalUnit};
+ghost use Rattle.uc_model.specs.PlainUnits.{named_thermal_of, thermal_of};
 
 use crate::small_cases::one_period;
 use price_space::{opening_prices, start_prices};
@@ -42,16 +45,26 @@ fn fixed_unit(alloc: Global) -> Result<Unit, AllocError>
     })
 }
 
+fn one_thermal(alloc: Global) -> Result<ThermalList, AllocError>
+    ensures count { IfOk result (λ list. length (map named_thermal_of list.items) ≡ 1) }
+    ensures units { IfOk result (λ list.
+        All (λ (n : NamedThermalUnit). IsThermalUnit n.unit × (length n.unit.window ≡ 1))
+        (map named_thermal_of list.items)) }
+{
+    let mut list = ThermalList::make(alloc, 1)?;
+    let name = Name::make(alloc, 0)?;
+    let unit = fixed_unit(alloc)?;
+    list.push(NamedUnit { name, unit });
+    Ok(list)
+}
+
 // One period with a demand of 150 kW, and that unit.
 fn thermal_case(alloc: Global) -> Result<Case, AllocError> {
-    let unit = fixed_unit(alloc)?;
-    let name = Name::make(alloc, 0)?;
-    let mut thermal = ThermalList::make(alloc, 1)?;
-    thermal.push(NamedUnit { name, unit });
-    let demand = Numbers::filled(alloc, 1, 150)?;
-    let reserves = Numbers::filled(alloc, 1, 0)?;
     let flat = FlatList::make(alloc, 0)?;
     let bids = BidList::make(alloc, 0)?;
+    let demand = Numbers::filled(alloc, 1, 150)?;
+    let reserves = Numbers::filled(alloc, 1, 0)?;
+    let thermal = one_thermal(alloc)?;
     Ok(Case {
         periods: 1,
         demand,
@@ -62,18 +75,26 @@ fn thermal_case(alloc: Global) -> Result<Case, AllocError> {
     })
 }
 
+fn start_of_a_unit(alloc: Global) -> Result<Numbers, AllocError> {
+    let case = thermal_case(alloc)?;
+    start_prices(alloc, &case)
+}
+
 #[test]
 fn full_load_price_of_a_unit(rt: HostRuntime) -> Result<(), Fail> {
-    let case = thermal_case(rt.alloc())?;
-    let prices = start_prices(rt.alloc(), &case)?;
+    let prices = start_of_a_unit(rt.alloc())?;
     assert_eq!(rt; prices.as_slice(), [30].as_slice());
     Ok(())
 }
 
+fn start_of_no_thermal_unit(alloc: Global) -> Result<Numbers, AllocError> {
+    let case = one_period(alloc, 150, 0, 40)?;
+    start_prices(alloc, &case)
+}
+
 #[test]
 fn start_price_without_thermal_units(rt: HostRuntime) -> Result<(), Fail> {
-    let case = one_period(rt.alloc(), 150, 0, 40)?;
-    let prices = start_prices(rt.alloc(), &case)?;
+    let prices = start_of_no_thermal_unit(rt.alloc())?;
     assert_eq!(rt; prices.as_slice(), [0].as_slice());
     Ok(())
 }
@@ -90,11 +111,16 @@ fn opening_proposals(rt: HostRuntime) -> Result<(), Fail> {
     Ok(())
 }
 
+fn second_below_0(alloc: Global) -> Result<Prices, AllocError> {
+    let start = Numbers::filled(alloc, 1, -30)?;
+    let mut prices = Prices::make(alloc, 1)?;
+    opening_prices(&start, 2, &mut prices);
+    Ok(prices)
+}
+
 #[test]
 fn opening_proposals_below_0(rt: HostRuntime) -> Result<(), Fail> {
-    let start = Numbers::filled(rt.alloc(), 1, -30)?;
-    let mut prices = Prices::make(rt.alloc(), 1)?;
-    opening_prices(&start, 2, &mut prices);
+    let prices = second_below_0(rt.alloc())?;
     assert_eq!(rt; prices.energy.as_slice(), [-34].as_slice());
     Ok(())
 }

@@ -44,55 +44,61 @@ fn changed(alloc: Global, old: &str, new: &str) -> Result<String, Fail> {
     Ok(text)
 }
 
+fn line_of_changed(alloc: Global, old: &str, new: &str) -> Result<u32, Fail> {
+    let text = changed(alloc, old, new)?;
+    line_of(alloc, text.as_bytes())
+}
+
+/// A part of the text, what stands in its place, and the line in fault.
+const CHANGES: &[(&str, &str, u32)] = &[
+    ("energy 30", "energy 030", 9),
+    ("end\n", "end", 25),
+    ("end\n", "end\n\n", 26),
+    ("end\n", "end\nx", 26),
+    ("proposals 1", "proposals 0", 7),
+    ("proposals 1", "proposals 4294967296", 7),
+    ("proposals 1", "proposals 2", 13),
+    ("reserve 0\nsupplied", "reserve -0\nsupplied", 10),
+    ("reserve 0\nsupplied", "reserve -1\nsupplied", 10),
+    ("energy 30", "energy 10000001", 9),
+    ("energy 30", "energy -10000000", 0),
+    ("energy 30", "energy 30 30", 9),
+    ("units 2", "units 3", 22),
+    ("units 2", "units 1", 18),
+    ("periods 1", "periods 169", 2),
+    ("budget 1", "budget 10001", 4),
+    ("ahead 1", "ahead 17", 5),
+    ("cost 3500\n", "cost 3500\r\n", 6),
+    ("chosen 1 ", "chosen 4294967295 ", 0),
+    ("on 1", "on 2", 15),
+    ("power 100", "power 4294967296", 16),
+    ("thermal \"B\"", "case \"B\"", 18),
+    ("\"A\"", "\"\\u0020\"", 14),
+    ("\"A\"", "\"\\u001F\"", 14),
+    ("\"A\"", "\"1\\u001f\\\\\\\"\"", 0),
+    ("earned 2000", "earned 9223372036854775808", 14),
+    (
+        "gap 1000",
+        "gap -170141183460469231731687303715884105728",
+        0,
+    ),
+    (
+        "gap 1000",
+        "gap 170141183460469231731687303715884105728",
+        24,
+    ),
+    (
+        FIRST_UNIT,
+        "unit bid \"A\" earned 2000 scheduled 1000 payment 1000\npower 100\n",
+        16,
+    ),
+    (TWO_UNITS, "", 1),
+];
+
 #[test]
 fn lines_out_of_form(rt: HostRuntime) -> Result<(), Fail> {
-    let rows = [
-        ("energy 30", "energy 030", 9),
-        ("end\n", "end", 25),
-        ("end\n", "end\n\n", 26),
-        ("end\n", "end\nx", 26),
-        ("proposals 1", "proposals 0", 7),
-        ("proposals 1", "proposals 4294967296", 7),
-        ("proposals 1", "proposals 2", 13),
-        ("reserve 0\nsupplied", "reserve -0\nsupplied", 10),
-        ("reserve 0\nsupplied", "reserve -1\nsupplied", 10),
-        ("energy 30", "energy 10000001", 9),
-        ("energy 30", "energy -10000000", 0),
-        ("energy 30", "energy 30 30", 9),
-        ("units 2", "units 3", 22),
-        ("units 2", "units 1", 18),
-        ("periods 1", "periods 169", 2),
-        ("budget 1", "budget 10001", 4),
-        ("ahead 1", "ahead 17", 5),
-        ("cost 3500\n", "cost 3500\r\n", 6),
-        ("chosen 1 ", "chosen 4294967295 ", 0),
-        ("on 1", "on 2", 15),
-        ("power 100", "power 4294967296", 16),
-        ("thermal \"B\"", "case \"B\"", 18),
-        ("\"A\"", "\"\\u0020\"", 14),
-        ("\"A\"", "\"\\u001F\"", 14),
-        ("\"A\"", "\"1\\u001f\\\\\\\"\"", 0),
-        ("earned 2000", "earned 9223372036854775808", 14),
-        (
-            "gap 1000",
-            "gap -170141183460469231731687303715884105728",
-            0,
-        ),
-        (
-            "gap 1000",
-            "gap 170141183460469231731687303715884105728",
-            24,
-        ),
-        (
-            FIRST_UNIT,
-            "unit bid \"A\" earned 2000 scheduled 1000 payment 1000\npower 100\n",
-            16,
-        ),
-        (TWO_UNITS, "", 1),
-    ];
-    for (old, new, line) in rows {
-        let text = changed(rt.alloc(), old, new)?;
-        assert_eq!(rt; line_of(rt.alloc(), text.as_bytes())?, line, "{new}");
+    for (old, new, line) in CHANGES {
+        assert_eq!(rt; line_of_changed(rt.alloc(), old, new)?, *line, "{new}");
     }
     Ok(())
 }

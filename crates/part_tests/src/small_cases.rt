@@ -1,9 +1,11 @@
 //! Cases, prices, rows and schedules over one period, from which the tests of several crates begin.
-ghost use Rattle.std.specs.Prelude.{◌≡◌, ◌≤ℤ◌, ◌∷◌, [], pos, neg_ℤ, true, length, IfOk};
+ghost use Rattle.std.specs.Prelude.{◌≡◌, ◌≤ℤ◌, ◌∷◌, [], pos, neg_ℤ, true, length, map, IfOk};
 ghost use Rattle.std.specs.List.{All};
-ghost use Rattle.uc_model.specs.Limits.{IsFrom, IsPower, IsTotal, price_limit};
+ghost use Rattle.uc_model.specs.Data.{NamedRenewableUnit};
+ghost use Rattle.uc_model.specs.Limits.{IsFrom, IsPower, IsRenewableUnit, IsTotal, price_limit};
 ghost use Rattle.uc_model.specs.PlainCases.{market_of, proposal_of};
-ghost use Rattle.uc_model.specs.PlainUnits.{prices_of, renewable_of, schedule_of};
+ghost use Rattle.uc_model.specs.PlainUnits.{named_renewable_of, prices_of, renewable_of};
+ghost use Rattle.uc_model.specs.PlainUnits.{schedule_of};
 
 use std::alloc::{AllocError, Global};
 use uc_model::cases::{Case, Row};
@@ -22,6 +24,21 @@ pub fn one_range(alloc: Global, least: i64, most: i64) -> Result<Renewable, Allo
     Ok(Renewable { least, most })
 }
 
+// A renewable unit of 0 to `most`.
+fn one_flat(alloc: Global, most: i64) -> Result<FlatList, AllocError>
+    requires most { IsPower most }
+    ensures count { IfOk result (λ list. length (map named_renewable_of list.items) ≡ 1) }
+    ensures units { IfOk result (λ list.
+        All (λ (n : NamedRenewableUnit). IsRenewableUnit n.unit × (length n.unit.least ≡ 1))
+        (map named_renewable_of list.items)) }
+{
+    let mut list = FlatList::make(alloc, 1)?;
+    let name = Name::make(alloc, 0)?;
+    let flat = one_range(alloc, 0, most)?;
+    list.push(NamedFlat { name, flat });
+    Ok(list)
+}
+
 /// One period with that demand, that required reserve and a renewable unit of 0 to `most`.
 pub fn one_period(alloc: Global, demand: i64, reserve: i64, most: i64) -> Result<Case, AllocError>
     requires demand { IsPower demand }
@@ -32,14 +49,11 @@ pub fn one_period(alloc: Global, demand: i64, reserve: i64, most: i64) -> Result
     ensures flat { IfOk result (λ case. length (market_of case).flat ≡ 1) }
     ensures bids { IfOk result (λ case. length (market_of case).bids ≡ 0) }
 {
-    let unit = one_range(alloc, 0, most)?;
-    let name = Name::make(alloc, 0)?;
-    let mut flat = FlatList::make(alloc, 1)?;
-    flat.push(NamedFlat { name, flat: unit });
-    let demand = Numbers::filled(alloc, 1, demand)?;
-    let reserves = Numbers::filled(alloc, 1, reserve)?;
     let thermal = ThermalList::make(alloc, 0)?;
     let bids = BidList::make(alloc, 0)?;
+    let demand = Numbers::filled(alloc, 1, demand)?;
+    let reserves = Numbers::filled(alloc, 1, reserve)?;
+    let flat = one_flat(alloc, most)?;
     Ok(Case {
         periods: 1,
         demand,

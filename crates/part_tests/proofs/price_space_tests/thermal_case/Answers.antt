@@ -13,7 +13,7 @@ invariant_of-result c = record {
     flat_count = search rules;
     bid_count = search rules;
     some_unit = search rules;
-    thermal = search rules;
+    thermal = c.in_ok-thermal.ensures.units;
     flat = search rules;
     bids = search rules;
   };

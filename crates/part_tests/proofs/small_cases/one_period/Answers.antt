@@ -14,7 +14,7 @@ invariant_of-result c = record {
     bid_count = search rules;
     some_unit = search rules;
     thermal = search rules;
-    flat = search rules;
+    flat = c.in_ok-flat.ensures.units;
     bids = search rules;
   };
 }
