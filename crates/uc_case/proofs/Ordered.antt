@@ -1,6 +1,7 @@
 -- Lists whose items keep an order, one item more at the end.
-use Rattle.uc_case.proofs.Common.{◌≡◌, ℕ, zero, suc, ◌-◌, ◌<◌, ◌≤◌, Bool, true, false, ◌||◌, List, [], ◌∷◌, ◌++◌, length, get_or, Some, refl, sym, ap, ◌∙◌, arith, true≢false, ℤ, ◌≤ℤ◌, nat_lt, int_lt, slice_get, ltb-false, ints, All-nil, All-push, Lag, Point, Block, IsLag, IsPoint, IsBlock, Spans, ends_miss, AreLags, ArePoints, AreBlocks, last_is}
+use Rattle.uc_case.proofs.Common.{◌≡◌, ℕ, zero, suc, ◌-◌, ◌<◌, ◌≤◌, Bool, true, false, ◌||◌, List, [], ◌∷◌, ◌++◌, length, get_or, Some, refl, sym, ap, ◌∙◌, arith, true≢false, ℤ, ◌≤ℤ◌, nat_lt, int_lt, slice_get, ltb-false, ints, All-nil, All-push, Lag, Point, Block, IsLag, IsPoint, IsBlock, Spans, ends_miss, AreLags, ArePoints, AreBlocks, IsCurve, last_is, length-map, Branch, Value, view, views}
 use Rattle.std.specs.Option.{option_map_or}
+use Rattle.uc_model.specs.declared.limits.TheConstants.{MOST_POINTS}
 use Rattle.std.proofs.lemmas.Option.{slice_get-get_or}
 
 -- each item but the first keeps R with the one before it
@@ -68,8 +69,12 @@ or_false : (a b : Bool) → a || b ≡ false → (a ≡ false) × (b ≡ false)
 or_false true b e = absurd (true≢false e)
 or_false false b e = (refl, e)
 
+some_point : (low high : ℤ) (ps : List Point) → ends_miss low high ps ≡ false → 1 ≤ length ps
+some_point low high [] e = absurd (true≢false e)
+some_point low high (p ∷ ps) e = omega arith
+
 -- points that don't miss the ends
-pub spans : (low high : ℤ) (ps : List Point) → ends_miss low high ps ≡ false → Spans ps low high
+spans : (low high : ℤ) (ps : List Point) → ends_miss low high ps ≡ false → Spans ps low high
 spans low high [] e = absurd (true≢false e)
 spans low high (p ∷ ps) e =
     let both = or_false _ _ e in
@@ -77,3 +82,12 @@ spans low high (p ∷ ps) e =
       first = λ d. int_not_below low p.at both.0;
       last = λ n d is. int_not_below (get_or (p ∷ ps) n d).at high (last_misses (λ (q : Point). int_lt q.at high) (p ∷ ps) both.1 n d is);
     }
+
+pub is_curve : (low high : ℤ) (ps : List Point) → length ps ≤ MOST_POINTS → ArePoints ps → ends_miss low high ps ≡ false → IsCurve ps low high
+is_curve low high ps count are reached = record { count = count; some = some_point low high ps reached; points = are; span = spans low high ps reached }
+
+-- a point for each item of a list
+pub points_few : (ps : List Point) (ts : List Branch) (vs : List Value) → length ps ≡ length ts → views ts ≡ vs → length vs ≤ MOST_POINTS → length ps ≤ MOST_POINTS
+points_few ps ts vs count says few =
+    let same : length ts ≡ length vs = sym (length-map ts view) ∙ ap length says in
+    omega (arith, count, same, few)

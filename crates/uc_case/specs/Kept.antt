@@ -1,11 +1,12 @@
 -- What the parts of a unit keep while they are read: limits and orders.
-use Rattle.std.specs.Prelude.{◌≡◌, ℕ, ◌<◌, ◌≤◌, suc, ◌≤ℤ◌, List, length, slice_index_or}
+use Rattle.std.specs.Prelude.{◌≡◌, ℕ, ◌<◌, ◌≤◌, suc, ◌≤ℤ◌, ℤ, List, length, slice_index_or}
 use Rattle.std.specs.List.{All}
 use Rattle.uc_model.specs.declared.units.Lag.{Lag}
 use Rattle.uc_model.specs.declared.units.Point.{Point}
 use Rattle.uc_model.specs.declared.units.Block.{Block}
+use Rattle.uc_model.specs.declared.limits.TheConstants.{MOST_POINTS}
 use Rattle.uc_model.specs.Limits.{IsLag, AreLagsOrdered, IsPoint, ArePointsOrdered}
-use Rattle.uc_model.specs.Limits.{IsBlock, IsPower, IsOutput, IsTime}
+use Rattle.uc_model.specs.Limits.{IsBlock, IsPower, IsOutput, IsTime, Spans}
 use Rattle.uc_model.specs.Limits.{IsThermalUnit, IsRenewableUnit, IsBidUnit}
 use Rattle.uc_model.specs.Data.{NamedThermalUnit, NamedRenewableUnit, NamedBidUnit}
 use Rattle.uc_case.specs.declared.parts.Output.{Output}
@@ -19,6 +20,13 @@ pub record AreLags (ls : List Lag) : Type 0 where
 pub record ArePoints (ps : List Point) : Type 0 where
   pub points : All IsPoint ps
   pub ordered : ArePointsOrdered ps
+
+-- the points of a cost from a least to a greatest power
+pub record IsCurve (ps : List Point) (low high : ℤ) : Type 0 where
+  pub count : length ps ≤ MOST_POINTS
+  pub some : 1 ≤ length ps
+  pub points : ArePoints ps
+  pub span : Spans ps low high
 
 -- no price is above the one before it
 pub record AreBlocks (bs : List Block) : Type 0 where

@@ -16,7 +16,7 @@ ghost use Rattle.uc_case.specs.Forms.{key, keys, items};
 ghost use Rattle.uc_case.specs.Tables.{block, period_blocks, blocks, bid_unit};
 
 use crate::fault::{CaseCode, Field, Site};
-use crate::forms::{FieldStop, list_of, members_of, read_amount, read_power, value_under};
+use crate::forms::{FieldStop, amount_under, list_of, members_of};
 use crate::keys::Keys;
 use crate::limits::{BLOCKS, POWER, PRICE};
 use std::alloc::Global;
@@ -24,6 +24,16 @@ use text_tree::Branch;
 use uc_model::limits::POWER_LIMIT;
 use uc_model::money::total_width;
 use uc_model::units::{Bid, Block, BlockLists, Blocks};
+
+/// Whether a price is above that of the last of these blocks.
+fn is_dearer(before: &[Block], price: i64) -> bool
+    ensures { result ≡ last_is (λ (a : PlainBlock). int_lt a.price price) before.now }
+{
+    match before.last() {
+        Some(last) => last.price < price,
+        None => false,
+    }
+}
 
 #[tactic(auto, unfolding(crate::specs::Tables::block))]
 fn read_block(
@@ -38,12 +48,10 @@ fn read_block(
     ensures value { Gives (λ b. b) result (block at before.now (view branch.entry)) }
 {
     let members = members_of(alloc, at, branch)?;
-    let width = read_power(at, value_under(at, &members, "mw")?, POWER)?;
-    let price = read_amount(at, value_under(at, &members, "price")?, 3, PRICE)?;
-    if let Some(last) = before.last() {
-        if last.price < price {
-            return Err(at.stop(CaseCode::BlockOrder));
-        }
+    let width = amount_under(at, &members, "mw", 3, POWER)?;
+    let price = amount_under(at, &members, "price", 3, PRICE)?;
+    if is_dearer(before, price) {
+        return Err(at.stop(CaseCode::BlockOrder));
     }
     Ok(Block { width, price })
 }

@@ -1,12 +1,12 @@
 //! The forms of fields: each reads one value, and its faults are at the site.
 ghost use Rattle.std.specs.Prelude.{◌≡◌, ◌≤◌, ◌^◌, IfOk, pos};
-ghost use Rattle.uc_model.specs.Limits.{IsCost, IsFrom, IsStartCost};
+ghost use Rattle.uc_model.specs.Limits.{IsCost, IsFrom};
 ghost use Rattle.uc_model.specs.declared.limits.TheConstants.{MOST_TIME};
 ghost use Rattle.text_tree.specs.View.{view, items_in, members_in, member_views};
 ghost use Rattle.uc_case.specs.Given.{Gives};
 ghost use Rattle.uc_case.specs.Sites.{fault};
-ghost use Rattle.uc_case.specs.Forms.{decimal, list, object, amount, power, cost, start_cost};
-ghost use Rattle.uc_case.specs.Forms.{time_within, flag, under};
+ghost use Rattle.uc_case.specs.Forms.{decimal, list, object, amount, power, cost};
+ghost use Rattle.uc_case.specs.Forms.{time_within, flag, under, part};
 ghost use Rattle.uc_case.specs.declared.stop.Stop.TheVariants as stops;
 
 use crate::fault::{CaseCode, FieldFault, Site};
@@ -112,14 +112,6 @@ pub fn read_cost(at: Site, branch: Branch<'_>) -> Result<i64, FieldStop>
     }
 }
 
-/// Money of a start, in millionths of the currency, from 0 to `COST`.
-pub fn read_start_cost(at: Site, branch: Branch<'_>) -> Result<i64, FieldStop>
-    ensures bound { IfOk result (λ n. IsStartCost n) }
-    ensures value { Gives (λ n. n) result (start_cost at (view branch.entry)) }
-{
-    read_amount(at, branch, 6, COST)
-}
-
 /// A number of periods, from 0 to the limit. It is tried in the order `WrongKind`, `NotWhole`,
 /// `TooLarge` in magnitude, `Negative`.
 #[tactic(auto, unfolding(crate::specs::Forms::time_within))]
@@ -164,4 +156,39 @@ pub fn value_under<'a>(at: Site, members: &[Member<'a>], key: &str) -> Result<Br
         Some(value) => Ok(value),
         None => Err(at.stop(CaseCode::Missing)),
     }
+}
+
+/// The number under a key, which must be there, read as `read_amount` does.
+pub fn amount_under(
+    at: Site,
+    members: &[Member<'_>],
+    key: &str,
+    scale: u32,
+    limit: u64,
+) -> Result<i64, FieldStop>
+    requires scale { scale ≤ 6 }
+    requires limit { limit ≤ 10 ^ 18 }
+    ensures bound { IfOk result (λ n. IsFrom (pos 0) (pos limit) n) }
+    ensures value { Gives (λ n. n) result
+        (part at key.now (amount scale limit) (member_views members.now)) }
+{
+    read_amount(at, value_under(at, members, key)?, scale, limit)
+}
+
+/// The periods under a key, which must be there, read as `read_time` does.
+pub fn time_under(at: Site, members: &[Member<'_>], key: &str, limit: u64) -> Result<u32, FieldStop>
+    requires { limit ≤ MOST_TIME }
+    ensures bound { IfOk result (λ n. n ≤ limit) }
+    ensures value { Gives (λ n. n) result
+        (part at key.now (time_within limit) (member_views members.now)) }
+{
+    read_time(at, value_under(at, members, key)?, limit)
+}
+
+/// The money under a key, which must be there, read as `read_cost` does.
+pub fn cost_under(at: Site, members: &[Member<'_>], key: &str) -> Result<i64, FieldStop>
+    ensures bound { IfOk result (λ n. IsCost n) }
+    ensures value { Gives (λ n. n) result (part at key.now cost (member_views members.now)) }
+{
+    read_cost(at, value_under(at, members, key)?)
 }

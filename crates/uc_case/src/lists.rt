@@ -1,14 +1,14 @@
 //! The lists of a unit.
 ghost use Rattle.std.specs.Prelude.{◌≡◌, ◌≤◌, IfOk, length, codes, false, nat_lt, int_lt};
 ghost use Rattle.std.specs.List.{All};
-ghost use Rattle.uc_model.specs.Limits.{IsLag, IsPoint, IsPower, Spans};
+ghost use Rattle.uc_model.specs.Limits.{IsLag, IsPoint, IsPower};
 ghost use Rattle.uc_model.specs.declared.units.Lag.{Lag as PlainLag};
 ghost use Rattle.uc_model.specs.declared.units.Point.{Point as PlainPoint};
 ghost use Rattle.uc_model.specs.declared.limits.TheConstants.{MOST_OF_A_KIND, MOST_PERIODS};
-ghost use Rattle.uc_model.specs.declared.limits.TheConstants.{MOST_LAGS, MOST_POINTS};
+ghost use Rattle.uc_model.specs.declared.limits.TheConstants.{MOST_LAGS};
 ghost use Rattle.text_tree.specs.View.{view, views, member_views};
 ghost use Rattle.uc_case.specs.Given.{Gives};
-ghost use Rattle.uc_case.specs.Kept.{AreLags, ArePoints};
+ghost use Rattle.uc_case.specs.Kept.{AreLags, ArePoints, IsCurve};
 ghost use Rattle.uc_case.specs.Words.{last_is};
 ghost use Rattle.uc_case.specs.Forms.{key, keys, items, part, power, cost, start_cost, time};
 ghost use Rattle.uc_case.specs.Tables.{lag, startup, point, piecewise, powers, one_power};
@@ -16,14 +16,24 @@ ghost use Rattle.uc_case.specs.Tables.{ends_miss};
 
 use crate::fault::{CaseCode, Field, Site};
 use crate::forms::{
-    FieldStop, list_of, members_of, read_cost, read_power, read_start_cost, read_time, value_under,
+    FieldStop, amount_under, cost_under, list_of, members_of, read_power, time_under,
 };
 use crate::keys::Keys;
-use crate::limits::{LAGS, POINTS, POWER, TIME};
+use crate::limits::{COST, LAGS, POINTS, POWER, TIME};
 use std::alloc::Global;
 use text_tree::Branch;
 use uc_model::lists::Numbers;
 use uc_model::units::{Lag, Lags, Point, Points};
+
+/// Whether a lag is below the last of these.
+fn is_sooner(before: &[Lag], lag: u32) -> bool
+    ensures { result ≡ last_is (λ (b : PlainLag). nat_lt lag b.lag) before.now }
+{
+    match before.last() {
+        Some(last) => lag < last.lag,
+        None => false,
+    }
+}
 
 #[tactic(auto, unfolding(crate::specs::Tables::lag))]
 fn read_lag(alloc: Global, at: Site, before: &[Lag], branch: Branch<'_>) -> Result<Lag, FieldStop>
@@ -33,12 +43,10 @@ fn read_lag(alloc: Global, at: Site, before: &[Lag], branch: Branch<'_>) -> Resu
     ensures value { Gives (λ l. l) result (lag at before.now (view branch.entry)) }
 {
     let members = members_of(alloc, at, branch)?;
-    let lag = read_time(at, value_under(at, &members, "lag")?, TIME)?;
-    let cost = read_start_cost(at, value_under(at, &members, "cost")?)?;
-    if let Some(last) = before.last() {
-        if lag < last.lag {
-            return Err(at.stop(CaseCode::LagOrder));
-        }
+    let lag = time_under(at, &members, "lag", TIME)?;
+    let cost = amount_under(at, &members, "cost", 6, COST)?;
+    if is_sooner(before, lag) {
+        return Err(at.stop(CaseCode::LagOrder));
     }
     Ok(Lag { lag, cost })
 }
@@ -76,6 +84,16 @@ pub fn read_startup(alloc: Global, u: &Keys) -> Result<Lags, FieldStop>
     read_lags(alloc, at, &branches)
 }
 
+/// Whether kilowatts are below those of the last of these points.
+fn is_lower(before: &[Point], mw: i64) -> bool
+    ensures { result ≡ last_is (λ (b : PlainPoint). int_lt mw b.at) before.now }
+{
+    match before.last() {
+        Some(last) => mw < last.at,
+        None => false,
+    }
+}
+
 #[tactic(auto, unfolding(crate::specs::Tables::point))]
 fn read_point(
     alloc: Global,
@@ -89,12 +107,10 @@ fn read_point(
     ensures value { Gives (λ p. p) result (point at before.now (view branch.entry)) }
 {
     let members = members_of(alloc, at, branch)?;
-    let mw = read_power(at, value_under(at, &members, "mw")?, POWER)?;
-    let cost = read_cost(at, value_under(at, &members, "cost")?)?;
-    if let Some(last) = before.last() {
-        if mw < last.at {
-            return Err(at.stop(CaseCode::CurveOrder));
-        }
+    let mw = amount_under(at, &members, "mw", 3, POWER)?;
+    let cost = cost_under(at, &members, "cost")?;
+    if is_lower(before, mw) {
+        return Err(at.stop(CaseCode::CurveOrder));
     }
     Ok(Point { at: mw, cost })
 }
@@ -134,10 +150,7 @@ fn misses_ends(low: i64, high: i64, points: &[Point]) -> bool
 /// where the points don't reach from one to the other.
 #[tactic(auto, unfolding(crate::specs::Tables::piecewise))]
 pub fn read_piecewise(alloc: Global, u: &Keys, low: i64, high: i64) -> Result<Points, FieldStop>
-    ensures count { IfOk result (λ ps. length ps.items ≤ MOST_POINTS) }
-    ensures some { IfOk result (λ ps. 1 ≤ length ps.items) }
-    ensures fits { IfOk result (λ ps. ArePoints ps.items) }
-    ensures span { IfOk result (λ ps. Spans ps.items low high) }
+    ensures fits { IfOk result (λ ps. IsCurve ps.items low high) }
     ensures value { Gives (λ ps. ps.items) result
         (key (keys u.now.at (member_views u.now.members.items)) Field.PiecewiseProduction
         (piecewise low high)) }
@@ -179,8 +192,8 @@ pub fn read_powers(
     periods: u32,
 ) -> Result<Numbers, FieldStop>
     requires { periods ≤ MOST_PERIODS }
-    ensures count { IfOk result (λ ns. length ns.items ≡ periods) }
-    ensures fits { IfOk result (λ ns. All (λ n. IsPower n) ns.items) }
+    ensures fits { IfOk result (λ ns. (length ns.items ≡ periods)
+        × All (λ n. IsPower n) ns.items) }
     ensures value { Gives (λ ns. ns.items) result
         (key (keys u.now.at (member_views u.now.members.items)) field (powers periods)) }
 {

@@ -99,8 +99,8 @@ pub fn read_unit(
 ) -> Result<Unit, FieldStop>
     requires some { 1 ≤ periods }
     requires horizon { periods ≤ MOST_PERIODS }
-    ensures fits { IfOk result (λ u. IsThermalUnit (thermal_of u)) }
-    ensures count { IfOk result (λ u. length u.window.items ≡ periods) }
+    ensures fits { IfOk result (λ u. IsThermalUnit (thermal_of u)
+        × (length u.window.items ≡ periods)) }
     ensures value { Gives thermal_of result (thermal_unit periods at (view branch.entry)) }
 {
     let u = Keys {
@@ -161,8 +161,8 @@ pub fn read_renewable(
 ) -> Result<Renewable, FieldStop>
     requires some { 1 ≤ periods }
     requires horizon { periods ≤ MOST_PERIODS }
-    ensures fits { IfOk result (λ r. IsRenewableUnit (renewable_of r)) }
-    ensures count { IfOk result (λ r. length r.least.items ≡ periods) }
+    ensures fits { IfOk result (λ r. IsRenewableUnit (renewable_of r)
+        × (length r.least.items ≡ periods)) }
     ensures value { Gives renewable_of result (renewable_unit periods at (view branch.entry)) }
 {
     let u = Keys {

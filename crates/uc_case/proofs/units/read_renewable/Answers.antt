@@ -8,5 +8,5 @@ invariant_of-result c =
     let most = c.in_ok-most in
     let crossed : c.first_crossing-crossed.result ≡ first_crossed 1 least.least.items most.most.items = rw (← c.as_slice.ensures, ← c.as_slice-2.ensures) c.first_crossing-crossed.ensures in
     record {
-      valid = renewable_fits least.least.items most.most.items c.args.periods c.first_crossing-crossed.result least.ensures.count most.ensures.count c.requires.some c.requires.horizon least.ensures.fits most.ensures.fits crossed c.if-crossed-gt0.false;
+      valid = renewable_fits least.least.items most.most.items c.args.periods c.first_crossing-crossed.result least.ensures.fits.0 most.ensures.fits.0 c.requires.some c.requires.horizon least.ensures.fits.1 most.ensures.fits.1 crossed c.if-crossed-gt0.false;
     }
