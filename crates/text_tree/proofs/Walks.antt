@@ -1,5 +1,5 @@
 -- How far a walk over nodes comes.
-use Rattle.text_tree.proofs.Common.{◌≡◌, ℕ, suc, ◌+◌, ◌-◌, ◌<◌, ◌≤◌, List, [], ◌∷◌, length, get_or, drop, drop-cons, add-one, sym, ap, ◌∙◌, arith, inl, inr, cases_lt, drop-drop, length-drop, drop_all, min, parts, values, Node}
+use Rattle.text_tree.proofs.Common.{◌≡◌, ℕ, suc, ◌+◌, ◌-◌, ◌<◌, ◌≤◌, List, [], ◌∷◌, length, get_or, drop, drop-cons, add-one, refl, sym, ap, ◌∙◌, arith, inl, inr, cases_lt, drop-drop, length-drop, drop_all, min, parts, values, Node}
 use Rattle.text_tree.specs.declared.node.Node.TheVariants.{Null}
 
 -- nodes say no more values than they are
@@ -37,3 +37,7 @@ pub next_node : (bytes : List ℕ) (ns : List Node) (place pending own next most
 next_node bytes ns place pending own next most lt some is to le =
     let first : drop place ns ≡ get_or ns place Null ∷ drop (place + 1) ns = rw add-one (drop-cons ns place Null lt) in
     past_node bytes (drop place ns) (drop (place + 1) ns) (get_or ns place Null) pending own next most first (omega arith) is to (omega (arith, length-drop (place + 1) ns))
+
+-- behind a node without values of its own is the next value
+pub leaf_passed : (bytes : List ℕ) (n : Node) (behind : List Node) (own : ℕ) → own ≡ parts n → own ≡ 0 → values bytes behind ≡ drop 1 (values bytes (n ∷ behind))
+leaf_passed bytes n behind own is none = let no : parts n ≡ 0 = sym is ∙ none in rw no refl

@@ -33,10 +33,8 @@ fn parts(node: Node) -> usize
     }
 }
 
-/// The nodes behind the first value, and none where there is none.
-///
-/// Takes time in proportion to the nodes that it passes.
-pub fn skip(nodes: &[Node]) -> &[Node]
+/// The nodes behind the first value, found by a walk over all of its own.
+fn walk_past(nodes: &[Node]) -> &[Node]
     ensures { (bytes : List ℕ) → values bytes result.now ≡ drop 1 (values bytes nodes.now) }
 {
     let end = nodes.len();
@@ -48,4 +46,23 @@ pub fn skip(nodes: &[Node]) -> &[Node]
         pending = (pending - 1).saturating_add(parts(*node));
     }
     &nodes[end..]
+}
+
+/// The nodes behind the first value, and none where there is none.
+///
+/// Takes time in proportion to the nodes that it passes.
+#[tactic(auto, using(crate::proofs::Walks::leaf_passed))]
+pub fn skip(nodes: &[Node]) -> &[Node]
+    ensures { (bytes : List ℕ) → values bytes result.now ≡ drop 1 (values bytes nodes.now) }
+{
+    match nodes {
+        [node, behind @ ..] => {
+            if parts(*node) == 0 {
+                behind
+            } else {
+                walk_past(nodes)
+            }
+        }
+        [] => nodes,
+    }
 }

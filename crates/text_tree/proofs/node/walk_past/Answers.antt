@@ -1,6 +1,6 @@
 use Rattle.text_tree.proofs.Common.{◌∙◌, arith}
 use Rattle.text_tree.proofs.Lemmas.{next_node}
-use Rattle.text_tree.proofs.node.skip.Goals as goal
+use Rattle.text_tree.proofs.node.walk_past.Goals as goal
 
 pub loop-place-preserved : goal.loop-place-preserved
 loop-place-preserved c = λ bytes.
