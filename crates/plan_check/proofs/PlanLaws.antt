@@ -1,9 +1,60 @@
 -- What is refused of a plan is what keeps it from being feasible.
-use Rattle.plan_check.proofs.Common.{◌≡◌, ℕ, suc, ◌+◌, ◌<◌, ◌≤◌, ℤ, ◌≤ℤ◌, false, ◌&&◌, None, IsTrue, List, [], ◌∷◌, ◌++◌, map, length, drop, refl, sym, ◌∙◌, subst, arith, append_assoc, length-drop, ints, drop-drop, All-drop, All, AllZip, int_le, slice_index_or, RenewableRange, BidRange, Balance, Reserve, AnyUnit, Thermal, Flat, Bid, NamedThermalUnit, NamedRenewableUnit, NamedBidUnit, RenewableUnit, BidUnit, Schedule, Market, units, HasPlanShape, RefusalsAreExact, unless, renewable_broken, bid_broken, balance_broken, reserve_broken, told, thermal_refusals, all_thermal, all_renewable, all_bids, refusals, power_in, IsFeasible, IsRenewableFeasible, IsBidFeasible, width_of, blocks_at, int_at, total_power, total_reserve, IsFeasiblePlan, head_of, tail_of}
+use Rattle.plan_check.proofs.Common.{◌≡◌, ℕ, suc, ◌+◌, ◌<◌, ◌≤◌, ℤ, ◌≤ℤ◌, false, ◌&&◌, Some, None, IsTrue, List, [], ◌∷◌, ◌++◌, map, length, drop, refl, sym, ◌∙◌, subst, arith, append_assoc, length-drop, ints, drop-drop, All-drop, All, AllZip, int_le, slice_get, slice_index_or, Refusal, RenewableRange, BidRange, Balance, Reserve, AnyUnit, Thermal, Flat, Bid, NamedThermalUnit, NamedRenewableUnit, NamedBidUnit, RenewableUnit, BidUnit, Schedule, Market, units, HasPlanShape, RefusalsAreExact, unless, renewable_broken, bid_broken, balance_broken, reserve_broken, told, thermal_refusals, all_thermal, all_renewable, all_bids, refusals, power_in, IsFeasible, IsRenewableFeasible, IsBidFeasible, width_of, blocks_at, int_at, total_power, total_reserve, IsFeasiblePlan, head_of, tail_of}
+use Rattle.std.specs.Prelude.{⊤, Result}
 use Rattle.uc_model.specs.declared.kinds.Kind.TheVariants as kinds
+use Rattle.plan_check.specs.Checks.{Finds}
+use Rattle.plan_check.specs.declared.RuleFault.{RuleFault}
 use Rattle.plan_check.proofs.RunLaws.{both_true, and_true, true_false}
 use Rattle.plan_check.proofs.ThermalLaws.{IsClear-none, none_clear, IsThermalFeasible-clear, IsClear-feasible, le_from_z, le_to_z}
-use Rattle.plan_check.proofs.ToldLaws.{append_nil_left, append_nil_right, append_nil, told_none, told_all, unless_none, unless_holds, or_else_none, or_else_holds}
+use Rattle.plan_check.proofs.ToldLaws.{append_nil_left, append_nil_right, append_nil, first_left, first_right, finds_right, told_none, told_all, unless_none, unless_holds, or_else_none, or_else_holds}
+
+-- ---- the first refusal, part by part
+
+module _ (m : Market) (plan : List Schedule) where
+  abbrev of_thermal : List Refusal
+  of_thermal = all_thermal m.periods 1 m.thermal plan
+
+  abbrev of_renewable : List Refusal
+  of_renewable = all_renewable m.periods 1 m.flat (drop (length m.thermal) plan)
+
+  abbrev of_bids : List Refusal
+  of_bids = all_bids m.periods 1 m.bids (drop (length m.thermal + length m.flat) plan)
+
+  abbrev of_balance : List Refusal
+  of_balance = told Balance kinds.Case 0 m.periods 1 (balance_broken m plan)
+
+  abbrev of_reserve : List Refusal
+  of_reserve = told Reserve kinds.Case 0 m.periods 1 (reserve_broken m plan)
+
+  abbrev of_producers : List Refusal
+  of_producers = of_thermal ++ of_renewable
+
+  abbrev of_units : List Refusal
+  of_units = of_producers ++ of_bids
+
+  -- what is first among the units is first of all
+  first_unit : (r : Refusal) → slice_get of_units 0 ≡ Some r → slice_get (refusals m plan) 0 ≡ Some r
+  first_unit r here = first_left (of_units ++ of_balance) of_reserve r (first_left of_units of_balance r here)
+
+  pub first_thermal : (r : Refusal) → slice_get of_thermal 0 ≡ Some r → slice_get (refusals m plan) 0 ≡ Some r
+  first_thermal r here = first_unit r (first_left of_producers of_bids r (first_left of_thermal of_renewable r here))
+
+  pub first_renewable : (r : Refusal) → of_thermal ≡ [] → slice_get of_renewable 0 ≡ Some r → slice_get (refusals m plan) 0 ≡ Some r
+  first_renewable r no_thermal here = first_unit r (first_left of_producers of_bids r (first_right of_thermal of_renewable r no_thermal here))
+
+  pub first_bid : (r : Refusal) → of_thermal ≡ [] → of_renewable ≡ [] → slice_get of_bids 0 ≡ Some r → slice_get (refusals m plan) 0 ≡ Some r
+  first_bid r no_thermal no_renewable here = first_unit r (first_right of_producers of_bids r (append_nil of_thermal of_renewable no_thermal no_renewable) here)
+
+  no_unit : of_thermal ≡ [] → of_renewable ≡ [] → of_bids ≡ [] → of_units ≡ []
+  no_unit no_thermal no_renewable no_bid = append_nil of_producers of_bids (append_nil of_thermal of_renewable no_thermal no_renewable) no_bid
+
+  pub first_balance : (r : Refusal) → of_thermal ≡ [] → of_renewable ≡ [] → of_bids ≡ [] → slice_get of_balance 0 ≡ Some r → slice_get (refusals m plan) 0 ≡ Some r
+  first_balance r no_thermal no_renewable no_bid here =
+      first_left (of_units ++ of_balance) of_reserve r (first_right of_units of_balance r (no_unit no_thermal no_renewable no_bid) here)
+
+  pub found_last : (found : Result ⊤ RuleFault) → of_thermal ≡ [] → of_renewable ≡ [] → of_bids ≡ [] → of_balance ≡ [] → Finds of_reserve found → Finds (refusals m plan) found
+  found_last found no_thermal no_renewable no_bid balanced here =
+      finds_right (of_units ++ of_balance) of_reserve found (append_nil of_units of_balance (no_unit no_thermal no_renewable no_bid) balanced) here
 
 -- ---- lists of schedules
 

@@ -1,5 +1,8 @@
 -- Lists of refusals: when one is empty, and what its first item is.
 use Rattle.plan_check.proofs.Common.{◌≡◌, ℕ, zero, suc, ◌+◌, ◌<◌, ◌≤◌, ◌⊎◌, inl, inr, ℤ, Bool, true, false, cond, Option, Some, None, List, [], ◌∷◌, ◌++◌, refl, sym, ap, ◌∙◌, arith, slice_get, filter_map, range_with_len, cons_option, option_map, Refusal, unless, or_else, told, none_some}
+use Rattle.std.specs.Prelude.{⊤, Result, Ok, Err}
+use Rattle.plan_check.specs.Checks.{Finds, refusal_of}
+use Rattle.plan_check.specs.declared.RuleFault.{RuleFault}
 use Rattle.uc_model.specs.declared.kinds.Kind.{Kind}
 use Rattle.uc_model.specs.declared.kinds.RuleCode.{RuleCode}
 
@@ -25,6 +28,11 @@ first_right xs ys r none e = ap (λ zs. slice_get (zs ++ ys) 0) none ∙ e
 
 pub some_first : {X : Type 0} → (xs : List X) (r : X) → slice_get xs 0 ≡ Some r → xs ≡ [] → ⊥
 some_first xs r e none = none_some r (sym (ap (λ zs. slice_get zs 0) none) ∙ e)
+
+-- a check finds the first of what its list has behind an empty one
+pub finds_right : (xs ys : List Refusal) (found : Result ⊤ RuleFault) → xs ≡ [] → Finds ys found → Finds (xs ++ ys) found
+finds_right xs ys (Ok u) none all = append_nil xs ys none all
+finds_right xs ys (Err f) none first = first_right xs ys (refusal_of f) none first
 
 -- ---- what is told over periods
 
