@@ -1,8 +1,8 @@
 //! The proposals of a report.
-ghost use Rattle.std.specs.Prelude.{◌≡◌, ◌+◌, ◌<◌, ◌≤◌, ◌^◌, length, map, IfOk};
+ghost use Rattle.std.specs.Prelude.{◌≡◌, ◌+◌, ◌<◌, ◌≤◌, ◌^◌, length, map, codes, IfOk};
 ghost use Rattle.uc_model.specs.PlainCases.{proposal_of};
 ghost use Rattle.uc_model.specs.declared.limits.TheConstants.{MOST_BYTES, MOST_PERIODS};
-ghost use Rattle.report_read.specs.Lines.{Gives, row_at, rows_at};
+ghost use Rattle.report_read.specs.Lines.{Gives, row_at, rows_at, then_lines, list_line, total_at};
 ghost use Rattle.report_read.specs.declared.rows.TheConstants.{LEAST_BYTES};
 
 use crate::lines::{prices_line, totals_line, value_line};
@@ -11,10 +11,31 @@ use crate::stop::Stop;
 use std::alloc::Global;
 use uc_model::cases::Row;
 use uc_model::limits::PRICE_LIMIT;
+use uc_model::lists::Amounts;
 use uc_model::units::Prices;
 
 /// A proposal has at least so many bytes.
 const LEAST_BYTES: usize = 50;
+
+/// The totals of a proposal over all periods, in kilowatts.
+#[derive(Drop)]
+struct Totals {
+    supply: Amounts,
+    reserve: Amounts,
+}
+
+/// The last two lines of a proposal over so many periods.
+fn read_totals(alloc: Global, periods: u32, bytes: &[u8]) -> Result<(Totals, &[u8]), Stop>
+    ensures lines { Gives (λ x. ((x.0.supply.items, x.0.reserve.items), x.1.now)) result
+        (then_lines (list_line (codes "supplied") total_at periods)
+        (λ _. list_line (codes "reserved") total_at periods) bytes.now) }
+    ensures supply { IfOk result (λ x. length x.0.supply.items ≡ periods) }
+    ensures reserve { IfOk result (λ x. length x.0.reserve.items ≡ periods) }
+{
+    let (supply, rest) = totals_line(alloc, b"supplied", periods, bytes)?;
+    let (reserve, rest) = totals_line(alloc, b"reserved", periods, rest)?;
+    Ok((Totals { supply, reserve }, rest))
+}
 
 /// The proposal of a number, over so many periods.
 #[tactic(auto, unfolding(crate::specs::Lines::row_at))]
@@ -26,13 +47,12 @@ fn read_row(alloc: Global, periods: u32, number: u32, bytes: &[u8]) -> Result<(R
     let (valued, rest) = value_line(b"proposal ", number, number, bytes)?;
     let (energy, rest) = prices_line(alloc, b"energy", periods, -PRICE_LIMIT, PRICE_LIMIT, rest)?;
     let (reserve, rest) = prices_line(alloc, b"reserve", periods, 0, PRICE_LIMIT, rest)?;
-    let (supplied, rest) = totals_line(alloc, b"supplied", periods, rest)?;
-    let (reserved, rest) = totals_line(alloc, b"reserved", periods, rest)?;
+    let (totals, rest) = read_totals(alloc, periods, rest)?;
     let row = Row {
         prices: Prices { energy, reserve },
         value: valued.value,
-        supply: supplied,
-        reserve: reserved,
+        supply: totals.supply,
+        reserve: totals.reserve,
     };
     Ok((row, rest))
 }

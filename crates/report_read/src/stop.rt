@@ -5,7 +5,7 @@ ghost use Rattle.report_read.specs.declared.stop.Stop.TheVariants.{Memory};
 use std::alloc::AllocError;
 
 /// The line in fault begins where so many bytes are left, or memory ran out.
-#[derive(Clone, Copy, Debug, Drop)]
+#[derive(Clone, Copy, Drop)]
 pub enum Stop {
     Fault { left: usize },
     Memory,

@@ -1,5 +1,5 @@
 use Rattle.report_read.proofs.Common.{sym, ◌∙◌, codes, refl, neg_ℤ, pos, PRICE_LIMIT}
-use Rattle.report_read.proofs.Lemmas.{prices_are, totals_are, prices_valid, energy_zero, reserve_zero}
+use Rattle.report_read.proofs.Lemmas.{prices_are, prices_valid, energy_zero, reserve_zero}
 use Rattle.report_read.proofs.rows.read_row.Goals as goal
 
 pub invariant_of-row : goal.invariant_of-row
@@ -11,6 +11,4 @@ invariant_of-row c =
 pub invariant_of-row-2 : goal.invariant_of-row-2
 invariant_of-row-2 c =
     let energy = prices_are (codes "energy") (neg_ℤ PRICE_LIMIT) PRICE_LIMIT c.args.periods c.in_ok-valued.rest.now c.in_ok-energy.energy.items c.in_ok-energy.rest.now refl energy_zero c.in_ok-energy.ensures in
-    let supplied = totals_are (codes "supplied") c.args.periods c.in_ok-reserve.rest.now c.in_ok-supplied.supplied.items c.in_ok-supplied.rest.now refl c.in_ok-supplied.ensures in
-    let reserved = totals_are (codes "reserved") c.args.periods c.in_ok-supplied.rest.now c.in_ok-reserved.reserved.items c.in_ok-reserved.rest.now refl c.in_ok-reserved.ensures in
-    record { supply_length = supplied.length_is ∙ sym energy.length_is; reserve_length = reserved.length_is ∙ sym energy.length_is }
+    record { supply_length = c.in_ok-totals.ensures.supply ∙ sym energy.length_is; reserve_length = c.in_ok-totals.ensures.reserve ∙ sym energy.length_is }
