@@ -5,7 +5,7 @@ ghost use Rattle.std.specs.Str.{bytes_eq};
 ghost use Rattle.hull_words.specs.Spelling.{command_named, options, spelling};
 
 /// A command without its words.
-#[derive(Clone, Copy, Debug, PartialEq, Eq)]
+#[derive(Clone, Copy)]
 pub enum CommandKind {
     Price,
     Check,
@@ -16,7 +16,7 @@ pub enum CommandKind {
 }
 
 /// An option without its value.
-#[derive(Clone, Copy, Debug, PartialEq, Eq)]
+#[derive(Clone, Copy)]
 pub enum OptionKind {
     Case,
     Schedule,

@@ -13,8 +13,9 @@ use crate::command::{AuditWords, BoundWords, CheckWords, Command, PriceWords, Tr
 use crate::fault::{WordCode, WordError, WordFault};
 use crate::given::Given;
 use crate::kinds::CommandKind;
-use crate::text::{is_value, name_of, number, option_parts};
+use crate::text::{is_value, number, option_parts};
 use std::alloc::Global;
+use uc_model::lists::Name;
 
 /// Takes an option with its value.
 fn read_option<'a>(
@@ -158,8 +159,8 @@ fn check_words(alloc: Global, given: &Given, count: u32) -> Result<CheckWords, W
     let case_name = required(given.case_name, count)?;
     let schedule_name = required(given.schedule_name, count)?;
     Ok(CheckWords {
-        case_name: name_of(alloc, case_name)?,
-        schedule_name: name_of(alloc, schedule_name)?,
+        case_name: Name::copied(alloc, case_name)?,
+        schedule_name: Name::copied(alloc, schedule_name)?,
     })
 }
 
@@ -176,6 +177,23 @@ fn price_words(alloc: Global, given: &Given, count: u32) -> Result<PriceWords, W
         proposals: given.proposals.unwrap_or(100),
         workers: given.workers.unwrap_or(4),
         ahead: given.ahead.unwrap_or(4),
+    })
+}
+
+fn audit_words(alloc: Global, given: &Given, count: u32) -> Result<AuditWords, WordError>
+    ensures { Gives (λ words. asked (Command.Audit words)) result
+        (or_missing (asked_from CommandKind.Audit (found_so_far given.now)) count) }
+{
+    let CheckWords {
+        case_name,
+        schedule_name,
+    } = check_words(alloc, given, count)?;
+    let report_name = required(given.report_name, count)?;
+    Ok(AuditWords {
+        case_name,
+        schedule_name,
+        report_name: Name::copied(alloc, report_name)?,
+        workers: given.workers.unwrap_or(4),
     })
 }
 
@@ -202,19 +220,7 @@ fn command_of(
             radius: i64::from(given.radius.unwrap_or(20_000_000)),
         })),
         CommandKind::Fixed => Ok(Command::Fixed(price_words(alloc, given, count)?)),
-        CommandKind::Audit => {
-            let CheckWords {
-                case_name,
-                schedule_name,
-            } = check_words(alloc, given, count)?;
-            let report_name = required(given.report_name, count)?;
-            Ok(Command::Audit(AuditWords {
-                case_name,
-                schedule_name,
-                report_name: name_of(alloc, report_name)?,
-                workers: given.workers.unwrap_or(4),
-            }))
-        }
+        CommandKind::Audit => Ok(Command::Audit(audit_words(alloc, given, count)?)),
     }
 }
 

@@ -1,13 +1,10 @@
 //! What one word says by itself.
-ghost use Rattle.std.specs.Prelude.{◌≡◌, ◌≤◌, IfSome, IfOk, is_some};
+ghost use Rattle.std.specs.Prelude.{◌≡◌, ◌≤◌, IfSome, is_some};
 ghost use Rattle.std.specs.Char.{is_ascii_digit};
 ghost use Rattle.std.specs.List.{list_all};
 ghost use Rattle.std.specs.Option.{option_copied};
 ghost use Rattle.hull_words.specs.Texts.{is_option, option_name, own_value, can_be_value};
 ghost use Rattle.hull_words.specs.Texts.{number_in};
-
-use std::alloc::{AllocError, Global};
-use uc_model::lists::Name;
 
 /// The name of an option, and what follows its `=`. None where the word is no option.
 pub fn option_parts(word: &str) -> Option<(&str, Option<&str>)>
@@ -52,16 +49,4 @@ pub fn number(text: &str, least: u64, most: u64) -> Option<u64>
         return None;
     }
     Some(value)
-}
-
-/// The text as a name of its own.
-pub fn name_of(alloc: Global, text: &str) -> Result<Name, AllocError>
-    ensures { IfOk result (λ name. name.items ≡ text.now) }
-{
-    let room = u32::try_from(text.len()).map_err(|_| AllocError)?;
-    let mut name = Name::make(alloc, room)?;
-    for letter in text.chars() {
-        name.push(letter);
-    }
-    Ok(name)
 }
