@@ -10,7 +10,6 @@ pub use Rattle.std.specs.Int.{int_min, w64, Width}
 pub use Rattle.std.specs.List.{All, find, AllZip, zip, fold, flat_map}
 pub use Rattle.std.specs.Option.{option_map_or, option_map}
 pub use Rattle.std.specs.Prelude.{nat_le, slice_get, slice_index, slice_index_or, FitsSigned, unsigned_abs, IsFalse}
-pub use Rattle.std.specs.Str.Iter.{chars_rest}
 pub use Rattle.uc_model.specs.BoundLaws.{GivesWithin, StartCostsAreWithin, PowerCostsAreWithin, OutputsAreWithin, CostsAreWithin, EarningsAreWithin, most_given, least_given, UnitsAreWithin, TotalsAreWithin, EarnedSumsAreWithin, PlanCostsAreWithin, DemandWorthIsWithin, DualValuesAreWithin}
 pub use Rattle.uc_model.specs.Data.{ThermalUnit, BidUnit, AnyUnit, Thermal, Flat, Bid, PriceLists, Schedule, Market, units, NamedThermalUnit, NamedRenewableUnit, NamedBidUnit, unit_count, RenewableUnit}
 pub use Rattle.uc_model.specs.Earnings.{start_cost_of, worth_of, supply_in, revenue, cost_of, earnings, IsTop, start_costs}
