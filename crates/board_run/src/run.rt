@@ -5,9 +5,12 @@ ghost use Rattle.board_history.specs.Calls.{own_rows, has_finished};
 ghost use Rattle.board_core.specs.Boards.{setup_for, kept_answer};
 ghost use Rattle.board_core.specs.Setups.{IsSetup};
 ghost use Rattle.uc_model.specs.Data.{unit_count as units_in};
+ghost use Rattle.uc_model.specs.PlainCases.{market_of};
+ghost use Rattle.uc_model.specs.PlainUnits.{schedule_of};
 ghost use Rattle.uc_model.specs.PriceRule.{Proposal};
 ghost use Rattle.uc_model.specs.Sums.{int_at};
 ghost use Rattle.hull_report.specs.RecordReport.{IsSettledRecord};
+ghost use Rattle.board_run.specs.Crews.{IsCrew};
 ghost use Rattle.board_run.specs.Rounds.{setup_of, IsEnded};
 
 use crate::crew::{answer_board, hire};
@@ -67,21 +70,35 @@ pub struct Done {
     pub bench: Bench<Slopes>,
 }
 
-/// Opens the run of an input: takes all memory that the run needs to its end. `AllocError` is want
-/// of memory; the input is then dropped.
-pub fn open(alloc: Global, run: RunInput) -> Result<Run, AllocError>
+/// Room for an answer over the horizon of a case, for a settlement of its units, and for what each
+/// of them earns.
+fn room(alloc: Global, case: &Case) -> Result<(Answered, Settlement, Numbers), AllocError>
+    ensures horizon { IfOk result (λ r. length (schedule_of r.0.response).on
+        ≡ (market_of case.now).periods) }
+    ensures scheduled { IfOk result (λ r. length r.1.scheduled.items
+        ≡ units_in (market_of case.now)) }
+    ensures payments { IfOk result (λ r. length r.1.payments.items
+        ≡ units_in (market_of case.now)) }
+    ensures numbers { IfOk result (λ r. units_in (market_of case.now)
+        ≤ length r.2.items + r.2.spare) }
+{
+    let units = unit_count(case);
+    let buffer = Answered::make(alloc, case.periods)?;
+    let settlement = Settlement::make(alloc, units)?;
+    let earned = Numbers::make(alloc, units)?;
+    Ok((buffer, settlement, earned))
+}
+
+/// The shared board of an input, with a worker for each of its seats.
+fn staff(alloc: Global, run: RunInput) -> Result<(SharedBoard, Vec<Worker>), AllocError>
     requires { IsSetup (setup_of run) }
-    ensures { IfOk result (λ opened. opened ≡ setup_of run) }
+    ensures { IfOk result (λ r. IsCrew (setup_of run) r.0 r.1.items) }
 {
     let RunInput { input, size } = run;
     let Input { case, plan, cost } = input;
-    let units = unit_count(&case);
     let periods = case.periods;
     let points = most_points(&case);
     let thermal = case.thermal.len() as u32;
-    let buffer = Answered::make(alloc, periods)?;
-    let settlement = Settlement::make(alloc, units)?;
-    let earned = Numbers::make(alloc, units)?;
     let board = Board::make(
         alloc,
         case,
@@ -93,6 +110,17 @@ pub fn open(alloc: Global, run: RunInput) -> Result<Run, AllocError>
     )?;
     let (board, owner) = SharedBoard::make(alloc, board)?;
     let workers = hire(alloc, &board, owner, size.workers, thermal, periods, points)?;
+    Ok((board, workers))
+}
+
+/// Opens the run of an input: takes all memory that the run needs to its end. `AllocError` is want
+/// of memory; the input is then dropped.
+pub fn open(alloc: Global, run: RunInput) -> Result<Run, AllocError>
+    requires { IsSetup (setup_of run) }
+    ensures { IfOk result (λ opened. opened ≡ setup_of run) }
+{
+    let (buffer, settlement, earned) = room(alloc, &run.input.case)?;
+    let (board, workers) = staff(alloc, run)?;
     Ok(Run {
         board,
         workers,
