@@ -2,6 +2,8 @@
 ghost use Rattle.std.specs.Prelude.{◌≡◌, ◌≤◌, length, IfOk};
 ghost use Rattle.std.specs.List.{All};
 ghost use Rattle.uc_model.specs.Data.{Market, NamedThermalUnit};
+ghost use Rattle.uc_model.specs.PlainUnits.{schedule_of};
+ghost use Rattle.uc_model.specs.TaskRoom.{IsTaskFor};
 ghost use Rattle.uc_model.specs.declared.limits.TheConstants.{MOST_PERIODS, MOST_POINTS};
 ghost use Rattle.slope_list.specs.Slopes.{room_of};
 ghost use Rattle.unit_program.specs.Benches.{IsBenchFor};
@@ -98,6 +100,22 @@ fn make_held(alloc: Global, periods: u32) -> Result<Vec<Held>, AllocError>
     Ok(held)
 }
 
+// Room for an answer, for the tasks that a worker holds, and for one that it is given.
+fn make_room(alloc: Global, periods: u32) -> Result<(Answered, Vec<Held>, Task), AllocError>
+    requires some { 1 ≤ periods }
+    requires periods { periods ≤ MOST_PERIODS }
+    ensures answer { IfOk result (λ r. length (schedule_of r.0.response).on ≡ periods) }
+    ensures count { IfOk result (λ r. length r.1.items ≡ MOST_HELD) }
+    ensures fits { IfOk result (λ r. (m : Market) → m.periods ≡ periods
+        → All (IsHeldFor m) r.1.items) }
+    ensures task { IfOk result (λ r. IsTaskFor periods r.2) }
+{
+    let answer = Answered::make(alloc, periods)?;
+    let held = make_held(alloc, periods)?;
+    let task = Task::make(alloc, periods)?;
+    Ok((answer, held, task))
+}
+
 // A bench that keeps the last answer of the unit that it is asked about.
 fn make_bench(alloc: Global, periods: u32, points: u32) -> Result<Bench<Slopes>, AllocError>
     requires periods { periods ≤ MOST_PERIODS }
@@ -127,10 +145,8 @@ impl Worker {
             → All (λ (n : NamedThermalUnit). length n.unit.points ≤ points) m.thermal
             → HasParts m w) }
     {
-        let answer = Answered::make(alloc, periods)?;
-        let held = make_held(alloc, periods)?;
-        let task = Task::make(alloc, periods)?;
         let bench = make_bench(alloc, periods, points)?;
+        let (answer, held, task) = make_room(alloc, periods)?;
         Ok(Worker {
             seat,
             bench,
