@@ -1,5 +1,5 @@
 -- One more round keeps what rounds are.
-use Rattle.board_core.proofs.Common.{eq-eqb, ◌≡◌, ℕ, suc, ◌+◌, ◌-◌, ◌<◌, ◌≤◌, ℤ, Bool, true, false, cond, ◌&&◌, ◌==◌, Option, Some, inl, inr, List, [], ◌∷◌, ◌++◌, length, map, get_or, refl, sym, ap, ◌∙◌, subst, arith, length-append, false≢true, cases_lt, nat_tests, length-map-range_with_len, get_or-map-range_with_len, map-range_with_len_more, slice_get-get_or, range_with_len, option_map_or, not, nat_lt, nat_le, slice_get, slice_index, Setup, Answer, rules_of, RoundLaws, Rules, rows_by, prices_by, opened_in, is_last_settled, Market, PriceLists, Proposal, age, stepped_prices, price_rule, next_prices, no_prices, opening_prices_of, start_prices, is_settled, Sums, Fronts, is_full, row_in, with_row, opens, with_round, IsRound}
+use Rattle.board_core.proofs.Common.{eq-eqb, ne_eqb, ◌≡◌, ℕ, suc, ◌+◌, ◌-◌, ◌<◌, ◌≤◌, ℤ, Bool, true, false, cond, ◌&&◌, ◌==◌, Option, Some, inl, inr, List, [], ◌∷◌, ◌++◌, length, map, get_or, refl, sym, ap, ◌∙◌, subst, arith, length-append, false≢true, cases_lt, nat_tests, length-map-range_with_len, get_or-map-range_with_len, map-range_with_len_more, slice_get-get_or, range_with_len, option_map_or, not, nat_lt, nat_le, slice_get, slice_index, Setup, Answer, rules_of, RoundLaws, Rules, rows_by, prices_by, opened_in, is_last_settled, Market, PriceLists, Proposal, age, stepped_prices, price_rule, next_prices, no_prices, opening_prices_of, start_prices, is_settled, Sums, Fronts, is_full, row_in, with_row, opens, with_round, IsRound}
 use Rattle.price_move.specs.declared.next.Moved.{Moved}
 use Rattle.price_move.specs.declared.next.Moved.TheVariants.{Made, Settled}
 
@@ -30,6 +30,11 @@ pub full_is : (units m : ℕ) (counts : List ℕ) → slice_index counts m ≡ u
 full_is units m counts h =
     let e : suc m - 1 ≡ m = omega arith in
     subst (λ (k : ℕ). (slice_index counts k == units) ≡ true) (sym e) (eq-eqb (slice_index counts m) units h)
+
+pub not_full : (units m : ℕ) (counts : List ℕ) → (slice_index counts m ≡ units → ⊥) → is_full units counts (suc m) ≡ false
+not_full units m counts h =
+    let e : suc m - 1 ≡ m = omega arith in
+    subst (λ (k : ℕ). (slice_index counts k == units) ≡ false) (sym e) (ne_eqb (slice_index counts m) units h)
 
 last_got : {X : Type 0} (xs : List X) (x : X) → slice_get (xs ++ x ∷ []) (length xs) ≡ Some x
 last_got [] x = refl

@@ -1,5 +1,5 @@
 -- The names that the proofs of this crate take from its specs and from other crates, passed on from one place.
-pub use Rattle.std.proofs.Common.{eq-eqb, ◌≡◌, ℕ, suc, ◌+◌, ◌-◌, ◌<◌, ◌≤◌, ℤ, Bool, true, false, cond, ◌&&◌, ◌==◌, Option, Some, inl, inr, List, [], ◌∷◌, ◌++◌, length, map, get_or, refl, sym, ap, ◌∙◌, subst, arith, length-append, ◌≢◌, zero, pos, take, ◌*◌, ◌/◌, ◌%◌, ◌⊎◌, None, ◌||◌, ◌-ℤ◌, ◌+ℤ◌, min, rules, FitsSigned, w64, vec_capacity}
+pub use Rattle.std.proofs.Common.{eq-eqb, ne_eqb, ◌≡◌, ℕ, suc, ◌+◌, ◌-◌, ◌<◌, ◌≤◌, ℤ, Bool, true, false, cond, ◌&&◌, ◌==◌, Option, Some, inl, inr, List, [], ◌∷◌, ◌++◌, length, map, get_or, refl, sym, ap, ◌∙◌, subst, arith, length-append, ◌≢◌, zero, pos, take, ◌*◌, ◌/◌, ◌%◌, ◌⊎◌, None, ◌||◌, ◌-ℤ◌, ◌+ℤ◌, min, rules, FitsSigned, w64, vec_capacity}
 pub use Rattle.std.proofs.Math.ListN.{set, length-set}
 pub use Rattle.std.proofs.Math.Nat.{le-mul_of_pos_right, le_trans}
 pub use Rattle.std.proofs.lemmas.Bool.{false≢true, cases_lt, le-leb, lt-leb}

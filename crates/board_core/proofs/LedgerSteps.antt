@@ -1,6 +1,6 @@
 -- What closing and opening a proposal leaves of a ledger.
-use Rattle.board_core.proofs.Common.{◌≡◌, ℕ, suc, ◌+◌, ◌-◌, ◌<◌, ◌≤◌, ◌⊎◌, ℤ, ◌-ℤ◌, Bool, true, ◌&&◌, inl, inr, List, [], ◌∷◌, ◌++◌, length, map, take, get_or, refl, sym, ap, ◌∙◌, subst, arith, set, length-set, length-map, get_or-map, map-set, set-get_or, get_or-set_same, get_or-set_other, get_or-take, take-set-le, take_more_set, nat_tests, All, not, Setup, is_last_settled, PriceLists, Proposal, next_prices, no_prices, int_at, worth_of_demand, LedgerValue, with_prices, with_value, sums_of, fronts_of, IsLedger, Sums, Fronts, row_in, with_row, is_due, opens, with_opened}
-use Rattle.board_core.proofs.Advances.{choose_true}
+use Rattle.board_core.proofs.Common.{◌≡◌, ℕ, suc, ◌+◌, ◌-◌, ◌<◌, ◌≤◌, ◌⊎◌, ℤ, ◌-ℤ◌, Bool, true, false, ◌&&◌, inl, inr, List, [], ◌∷◌, ◌++◌, length, map, take, get_or, refl, sym, ap, ◌∙◌, subst, arith, set, length-set, length-map, get_or-map, map-set, set-get_or, get_or-set_same, get_or-set_other, get_or-take, take-set-le, take_more_set, nat_tests, All, not, Setup, is_last_settled, PriceLists, Proposal, next_prices, no_prices, int_at, worth_of_demand, LedgerValue, with_prices, with_value, sums_of, fronts_of, IsLedger, Sums, Fronts, row_in, with_row, is_due, opens, with_opened}
+use Rattle.board_core.proofs.Advances.{choose_true, choose_false}
 use Rattle.board_core.proofs.Fronts.{rows_count, prices_count}
 use Rattle.board_core.proofs.Rows.{same_proposal}
 
@@ -136,14 +136,29 @@ module _ (b : Setup) (l l2 : LedgerValue) (L : IsLedger b l) (π : PriceLists) (
 pub due_says : (b : Setup) (closed opened : ℕ) → is_due b closed opened ≡ true → (opened + 1 ≡ closed + b.ahead) × (opened < b.budget)
 due_says b closed opened h = grind (arith, nat_tests)
 
--- the rows call for one more proposal
-pub opens_it : (b : Setup) (l : LedgerValue) (L : IsLedger b l) → is_due b l.closed l.opened ≡ true → not (is_last_settled b.market b.cost (fronts_of l).rows) ≡ true → opens b (fronts_of l) ≡ true
-opens_it b l L due free =
+-- whether one more proposal opens, by whether one is due
+opens_where_due : (b : Setup) (l : LedgerValue) (L : IsLedger b l) (due : Bool) → is_due b l.closed l.opened ≡ due → opens b (fronts_of l) ≡ (due && not (is_last_settled b.market b.cost (fronts_of l).rows))
+opens_where_due b l L due h =
     ap (λ (k : ℕ). is_due b k (length (fronts_of l).prices) && not (is_last_settled b.market b.cost (fronts_of l).rows)) (rows_count b l L)
     ∙ ap (λ (k : ℕ). is_due b l.closed k && not (is_last_settled b.market b.cost (fronts_of l).rows)) (prices_count b l L)
-    ∙ ap (λ (t : Bool). t && not (is_last_settled b.market b.cost (fronts_of l).rows)) due ∙ free
+    ∙ ap (λ (t : Bool). t && not (is_last_settled b.market b.cost (fronts_of l).rows)) h
+
+-- the rows call for one more proposal
+pub opens_it : (b : Setup) (l : LedgerValue) (L : IsLedger b l) → is_due b l.closed l.opened ≡ true → not (is_last_settled b.market b.cost (fronts_of l).rows) ≡ true → opens b (fronts_of l) ≡ true
+opens_it b l L due free = opens_where_due b l L true due ∙ free
+
+-- none is due
+pub is_early : (b : Setup) (l : LedgerValue) (L : IsLedger b l) → is_due b l.closed l.opened ≡ false → opens b (fronts_of l) ≡ false
+is_early b l L due = opens_where_due b l L false due
+
+-- or the last row is settled
+pub is_over : (b : Setup) (l : LedgerValue) (L : IsLedger b l) → is_due b l.closed l.opened ≡ true → not (is_last_settled b.market b.cost (fronts_of l).rows) ≡ false → opens b (fronts_of l) ≡ false
+is_over b l L due settled = opens_where_due b l L true due ∙ settled
 
 pub with_one : (b : Setup) (f : Fronts) (π : PriceLists) → opens b f ≡ true → π ≡ next_prices b.market b.cost f.rows → record { rows = f.rows; prices = f.prices ++ π ∷ [] } ≡ with_opened b f
 with_one b f π t e =
     same_fronts f.rows f.rows (f.prices ++ π ∷ []) (with_opened b f).prices refl
     (ap (λ (x : PriceLists). f.prices ++ x ∷ []) e ∙ sym (choose_true (opens b f) (f.prices ++ next_prices b.market b.cost f.rows ∷ []) f.prices t))
+
+pub with_none : (b : Setup) (f : Fronts) → opens b f ≡ false → f ≡ with_opened b f
+with_none b f t = same_fronts f.rows f.rows f.prices (with_opened b f).prices refl (sym (choose_false (opens b f) (f.prices ++ next_prices b.market b.cost f.rows ∷ []) f.prices t))

@@ -1,5 +1,5 @@
 -- Why a post is refused, and what holds where it isn't.
-use Rattle.board_core.proofs.Common.{◌≡◌, ℕ, ◌+◌, ◌-◌, ◌<◌, ◌≤◌, Bool, true, false, cond, ◌||◌, ◌==◌, Option, Some, None, List, get_or, refl, sym, ap, ◌∙◌, arith, nat_tests, option_map_or, nat_lt, nat_le, slice_get, slice_index, Setup, Answer, no_answer, rules_of, differs_from, post_answer, Rules, Event, posts, holders, opened, prices_at, is_closed, with_post, PostReply, OtherProposal, OtherUnit, OtherContent, Doubled, OtherHolder, TakenPost, is_holder, with_answer, Difference, AnyUnit, PriceLists, unit_count, Proposal, task_number, LedgerValue, blank, Lists, mark, IsBoard, differs_of, own_prices_in, held_refusal, refusal_of, posted_of}
+use Rattle.board_core.proofs.Common.{◌≡◌, ℕ, ◌+◌, ◌-◌, ◌<◌, ◌≤◌, ◌⊎◌, inl, inr, subst, Bool, true, false, cond, ◌||◌, ◌==◌, Option, Some, None, List, get_or, refl, sym, ap, ◌∙◌, arith, nat_tests, option_map_or, nat_lt, nat_le, slice_get, slice_index, Setup, Answer, no_answer, rules_of, differs_from, post_answer, Rules, Event, posts, holders, opened, prices_at, is_closed, with_post, PostReply, OtherProposal, OtherUnit, OtherContent, Doubled, OtherHolder, TakenPost, is_holder, with_answer, Difference, AnyUnit, PriceLists, unit_count, Proposal, task_number, LedgerValue, blank, Lists, mark, IsBoard, differs_of, own_prices_in, held_refusal, refusal_of, posted_of}
 use Rattle.board_core.specs.declared.replies.Differs.{Differs}
 use Rattle.board_core.specs.declared.replies.Differs.TheVariants as differs
 use Rattle.board_core.specs.declared.replies.Posted.{Posted}
@@ -62,6 +62,33 @@ differing (Some y) d rest e = let s : differs.Content y.place y.board y.task ≡
 pub not_differing : (o : Option Difference) (rest : Option Posted) → differs_of o ≡ None → option_map_or (λ (y : Difference). Some (posted.Stranger (differs.Content y.place y.board y.task))) o rest ≡ rest
 not_differing None rest e = refl
 not_differing (Some y) rest e = (cc)
+
+-- the proposal isn't open
+pub unopened : (b : Setup) (l : LedgerValue) (marks : List Bool) (takers : List ℕ) (k n u : ℕ) (ρ : PriceLists) (v : AnyUnit) (o : ℕ) → o ≡ l.opened → (n ≡ 0) ⊎ (o < n) → Some (posted.Stranger (differs.Proposal n o)) ≡ refusal_of b l marks takers k n u ρ v
+unopened b l marks takers k n u ρ v o e early =
+    let third = option_map_or (λ (y : Difference). Some (posted.Stranger (differs.Content y.place y.board y.task))) (differs_from b u ρ v (own_prices_in l n)) (held_refusal marks takers (task_number (unit_count b.market) n u) k) in
+    let second = cond (nat_le (unit_count b.market) u) (Some (posted.Stranger (differs.Unit u (unit_count b.market)))) third in
+    ap (λ (x : ℕ). Some (posted.Stranger (differs.Proposal n x))) e
+    ∙ sym (choose_true ((n == 0) || nat_lt l.opened n) (Some (posted.Stranger (differs.Proposal n l.opened))) second (shut n l.opened (subst (λ (x : ℕ). (n ≡ 0) ⊎ (x < n)) e early)))
+  where
+    shut : (n o : ℕ) → (n ≡ 0) ⊎ (o < n) → ((n == 0) || nat_lt o n) ≡ true
+    shut n o (inl h) = grind (arith, nat_tests)
+    shut n o (inr h) = grind (arith, nat_tests)
+
+-- there is no unit of that number
+pub no_unit : (b : Setup) (l : LedgerValue) (marks : List Bool) (takers : List ℕ) (k n u : ℕ) (ρ : PriceLists) (v : AnyUnit) (m : ℕ) → 0 < n → n ≤ l.opened → m ≡ unit_count b.market → m ≤ u → Some (posted.Stranger (differs.Unit u m)) ≡ refusal_of b l marks takers k n u ρ v
+no_unit b l marks takers k n u ρ v m one within e outside =
+    let third = option_map_or (λ (y : Difference). Some (posted.Stranger (differs.Content y.place y.board y.task))) (differs_from b u ρ v (own_prices_in l n)) (held_refusal marks takers (task_number (unit_count b.market) n u) k) in
+    let second = cond (nat_le (unit_count b.market) u) (Some (posted.Stranger (differs.Unit u (unit_count b.market)))) third in
+    ap (λ (x : ℕ). Some (posted.Stranger (differs.Unit u x))) e
+    ∙ sym (choose_false ((n == 0) || nat_lt l.opened n) (Some (posted.Stranger (differs.Proposal n l.opened))) second (is_open n l.opened one within)
+    ∙ choose_true (nat_le (unit_count b.market) u) (Some (posted.Stranger (differs.Unit u (unit_count b.market)))) third (is_past (unit_count b.market) u (subst (λ (x : ℕ). x ≤ u) e outside)))
+  where
+    is_open : (n o : ℕ) → 0 < n → n ≤ o → ((n == 0) || nat_lt o n) ≡ false
+    is_open n o h i = grind (arith, nat_tests)
+
+    is_past : (m u : ℕ) → m ≤ u → nat_le m u ≡ true
+    is_past m u h = grind (arith, nat_tests)
 
 pub past_tests : (b : Setup) (l : LedgerValue) (marks : List Bool) (takers : List ℕ) (k n u : ℕ) (ρ : PriceLists) (v : AnyUnit) → 0 < n → n ≤ l.opened → u < unit_count b.market →
     refusal_of b l marks takers k n u ρ v

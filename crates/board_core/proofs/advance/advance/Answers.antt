@@ -1,5 +1,5 @@
-use Rattle.board_core.proofs.Common.{◌≡◌, ℕ, suc, ◌<◌, true, List, length, get_or, sym, ap, ◌∙◌, subst, arith, All, rules_of, rows_by, IsRowBelow, unit_count, Proposal, sums_of, fronts_of, Sums, Fronts, IsRound, is_full, row_in, with_opened, with_round, setup_of}
-use Rattle.board_core.proofs.Lemmas.{full_is, rows_next, round_more, full_to, rows_count, prices_count}
+use Rattle.board_core.proofs.Common.{◌≡◌, ℕ, suc, ◌<◌, true, List, length, get_or, sym, ap, ◌∙◌, subst, arith, All, rules_of, rows_by, IsRowBelow, IsSum, int_at, unit_count, Proposal, sums_of, fronts_of, Sums, Fronts, IsRound, is_full, row_in, with_opened, with_round, setup_of}
+use Rattle.board_core.proofs.Lemmas.{full_is, not_full, rows_next, round_more, full_to, rows_count, prices_count}
 use Rattle.board_core.proofs.advance.advance.Goals as goal
 
 pub close_next-requires-clause-more : goal.close_next-requires-clause-more
@@ -18,6 +18,23 @@ close_next-requires-clause-more c =
     let longer = I.opened in
     let more : l.closed < l.opened = omega (arith, first, longer) in
     more
+
+pub close_next-requires-clause-earned_count : goal.close_next-requires-clause-earned_count
+close_next-requires-clause-earned_count c = ap (λ (z : Sums). length z.earned) c.loop-ledger.invariant.sums ∙ c.requires.earned_count
+
+pub close_next-requires-clause-earned : goal.close_next-requires-clause-earned
+close_next-requires-clause-earned c =
+    let l = c.loop-ledger.ledger in
+    let test = c.loop-ledger-test.true in
+    let now = c.closed.ensures in
+    subst (λ (z : Sums). IsSum (int_at z.earned l.closed)) (sym c.loop-ledger.invariant.sums) (c.requires.earned l.closed (omega (arith, test, now)))
+
+pub returns-else-counts-closed-clause-done : goal.returns-else-counts-closed-clause-done
+returns-else-counts-closed-clause-done c = λ _.
+    let units = unit_count (setup_of c.args.terms.now).market in
+    let counts = c.args.counts.now in
+    not_full units c.loop-ledger.ledger.closed counts
+    (λ e. c.if-counts-closed.false (subst (λ (k : ℕ). get_or counts k 0 ≡ units) (sym c.closed-in-loop-ledger.ensures) e ∙ sym c.units-units.ensures))
 
 pub open_next-requires-clause-rows : goal.open_next-requires-clause-rows
 open_next-requires-clause-rows c =

@@ -1,5 +1,5 @@
-use Rattle.board_core.proofs.Common.{◌≡◌, ◌≤◌, ℕ, List, true, get_or, length, map, take, sym, ap, subst, ◌∙◌, arith, length-map, length-take, not, IsFirstUpTo, is_last_settled, values_of, proposal_of, prices_of, Proposal, next_prices, blank, with_prices, fronts_of, is_due, setup_of}
-use Rattle.board_core.proofs.Lemmas.{IsWritten, due_says, opens_it, with_one, opened_fronts, opened_sums, opened_ledger}
+use Rattle.board_core.proofs.Common.{◌≡◌, ◌≤◌, ℕ, List, true, get_or, length, map, take, sym, ap, subst, ◌∙◌, arith, All, IsRowBelow, length-map, length-take, not, IsFirstUpTo, is_last_settled, values_of, proposal_of, prices_of, Proposal, next_prices, blank, with_prices, fronts_of, is_due, setup_of}
+use Rattle.board_core.proofs.Lemmas.{IsWritten, due_says, opens_it, is_early, is_over, with_one, with_none, opened_fronts, opened_sums, opened_ledger}
 use Rattle.board_core.proofs.advance.open_next.Goals as goal
 
 pub propose-requires-clause-best : goal.propose-requires-clause-best
@@ -11,6 +11,41 @@ propose-requires-clause-best c =
     let rows : length c.rows.result.now ≡ l.closed = omega (arith, taken, length-map c.rows.result.now proposal_of, length-take l.closed l.proposals, within, counted) in
     subst (λ (ps : List Proposal). IsFirstUpTo (values_of ps) (length c.rows.result.now) c.best.result) (sym c.rows.ensures)
     (subst (λ (n : ℕ). IsFirstUpTo (values_of (take l.closed l.proposals)) n c.best.result) (sym rows) c.best.ensures)
+
+pub returns-then-not-is_due-clause-fronts : goal.returns-then-not-is_due-clause-fronts
+returns-then-not-is_due-clause-fronts c =
+    let b = setup_of c.args.terms.now in
+    let l = c.args.ledger.now in
+    with_none b (fronts_of l) (is_early b l c.requires.ledger (sym c.is_due.ensures ∙ c.if-not-is_due.true))
+
+pub propose-requires-clause-rows : goal.propose-requires-clause-rows
+propose-requires-clause-rows c =
+    let b = setup_of c.args.terms.now in
+    subst (λ (ps : List Proposal). All (IsRowBelow b.market b.cost) ps) (sym c.rows.ensures) c.requires.rows
+
+pub returns-then-not-propose-clause-fronts : goal.returns-then-not-propose-clause-fronts
+returns-then-not-propose-clause-fronts c =
+    let b = setup_of c.args.terms.now in
+    let l = c.args.ledger.now in
+    let due : is_due b l.closed l.opened ≡ true = sym c.is_due.ensures ∙ c.if-not-is_due.false in
+    let settled = ap (λ (xs : List Proposal). not (is_last_settled b.market b.cost xs)) (sym c.rows.ensures) ∙ sym c.propose.ensures.settled ∙ c.if-not-propose.true in
+    with_none b (fronts_of l) (is_over b l c.requires.ledger due settled)
+
+pub open-requires-clause-place : goal.open-requires-clause-place
+open-requires-clause-place c =
+    let b = setup_of c.args.terms.now in
+    let l = c.args.ledger.now in
+    let due : is_due b l.closed l.opened ≡ true = sym c.is_due.ensures ∙ c.if-not-is_due.false in
+    let counted = c.requires.ledger.count in
+    omega (arith, (due_says b l.closed l.opened due).1, counted)
+
+pub open-requires-clause-horizon : goal.open-requires-clause-horizon
+open-requires-clause-horizon c = λ d.
+    let b = setup_of c.args.terms.now in
+    let l = c.args.ledger.now in
+    let due : is_due b l.closed l.opened ≡ true = sym c.is_due.ensures ∙ c.if-not-is_due.false in
+    let counted = c.requires.ledger.count in
+    c.propose.ensures.horizon ∙ sym (c.requires.ledger.horizon l.opened d (omega (arith, (due_says b l.closed l.opened due).1, counted)))
 
 pub returns : goal.returns
 returns c =

@@ -1,6 +1,7 @@
-use Rattle.board_core.proofs.Common.{ℕ, ◌<◌, ◌≤◌, length, sym, ap, ◌∙◌, subst, arith, differs_from, unit_count, task_unit, prices_of, task_number, own_prices_in, held_refusal, setup_of}
-use Rattle.board_core.proofs.Lemmas.{differing, not_differing, past_tests}
+use Rattle.board_core.proofs.Common.{◌≡◌, ◌⊎◌, inl, inr, ℕ, ◌-◌, ◌<◌, ◌≤◌, length, sym, ap, ◌∙◌, subst, arith, differs_from, unit_count, task_unit, prices_of, task_number, own_prices_in, held_refusal, setup_of}
+use Rattle.board_core.proofs.Lemmas.{differing, not_differing, unopened, no_unit, past_tests}
 use Rattle.board_core.proofs.posts.refusal.Goals as goal
+use Rattle.board_core.proofs.posts.refusal.Goals.{then-task-eq0-via-then-task-eq0, then-task-eq0-via-else-task-eq0+then-opened-task}
 
 pub returns-in-Some-clause-refused : goal.returns-in-Some-clause-refused
 returns-in-Some-clause-refused c =
@@ -54,3 +55,23 @@ returns-clause-refused c =
     c.refusal_at.ensures ∙ ap (λ (j : ℕ). held_refusal c.args.marks.now c.args.takers.now j c.args.caller) i
     ∙ sym (not_differing (differs_from b u ρ v (own_prices_in l n)) (held_refusal c.args.marks.now c.args.takers.now (task_number (unit_count b.market) n u) c.args.caller) (sym c.content.ensures.differs ∙ c.in_default.is))
     ∙ sym (past_tests b l c.args.marks.now c.args.takers.now c.args.caller n u ρ v one within inside)
+
+pub returns-then-task-eq0-clause-refused : goal.returns-then-task-eq0-clause-refused
+returns-then-task-eq0-clause-refused c =
+    let b = setup_of c.args.terms.now in
+    let t = c.args.task.now in
+    let early : (t.proposal ≡ 0) ⊎ (c.opened-opened.result < t.proposal) = elim c.then-task-eq0.branch [
+      | then-task-eq0-via-then-task-eq0 w ↦ inl w.if-task-eq0.true
+      | then-task-eq0-via-else-task-eq0+then-opened-task w ↦ inr w.if-opened-task.true
+    ] in
+    unopened b c.args.ledger.now c.args.marks.now c.args.takers.now c.args.caller t.proposal t.unit (prices_of t.prices) (task_unit t) c.opened-opened.result c.opened-opened.ensures early
+
+pub returns-then-units-task-clause-refused : goal.returns-then-units-task-clause-refused
+returns-then-units-task-clause-refused c =
+    let b = setup_of c.args.terms.now in
+    let t = c.args.task.now in
+    no_unit b c.args.ledger.now c.args.marks.now c.args.takers.now c.args.caller t.proposal t.unit (prices_of t.prices) (task_unit t) c.units-units.result
+    (omega (arith, c.if-task-eq0.false)) (omega (arith, c.if-opened-task.false, c.opened-opened.ensures)) c.units-units.ensures c.if-units-task.true
+
+pub content-requires-clause-horizon : goal.content-requires-clause-horizon
+content-requires-clause-horizon c = λ d. c.requires.horizon (c.args.task.now.proposal - 1) d (omega (arith, c.if-task-eq0.false, c.if-opened-task.false, c.opened-opened.ensures))
