@@ -1,5 +1,5 @@
 -- Lists the other way round.
-use Rattle.task_deal.proofs.Common.{◌≡◌, ℕ, List, [], ◌∷◌, ◌++◌, ap, ◌∙◌, sym, refl, append_assoc, arith, sum_of, backwards}
+use Rattle.task_deal.proofs.Common.{append-nil, ◌≡◌, ℕ, List, [], ◌∷◌, ◌++◌, ap, ◌∙◌, sym, refl, append_assoc, arith, sum_of, backwards}
 use Rattle.task_deal.proofs.Sums.{sum_of-append}
 
 pub backwards_last : {X Y : Type 0} (f : X → Y) (xs : List X) (x : X) → backwards f (xs ++ x ∷ []) ≡ f x ∷ backwards f xs
@@ -17,3 +17,7 @@ over f all rest x out out' target e is more = ap (λ l. l ++ backwards f rest) m
 -- one more comes over
 pub under : {X Y : Type 0} (f : X → Y) (done done' : List X) (x : X) (src rest target : List Y) → src ≡ rest ++ f x ∷ [] → done' ≡ done ++ x ∷ [] → src ++ backwards f done ≡ target → rest ++ backwards f done' ≡ target
 under f done done' x src rest target e more is = ap (λ l. rest ++ l) (ap (backwards f) more ∙ backwards_last f done x) ∙ (sym (append_assoc rest (f x ∷ []) (backwards f done)) ∙ (ap (λ l. l ++ backwards f done) (sym e) ∙ is))
+
+-- all came over
+pub over_all : {X Y : Type 0} (f : X → Y) (all : List X) (out target : List Y) → all ≡ [] → out ++ backwards f all ≡ target → out ≡ target
+over_all f all out target none is = sym (append-nil out) ∙ (ap (λ l. out ++ backwards f l) (sym none) ∙ is)

@@ -1,5 +1,5 @@
 -- The lemmas that answers cite, passed on from one place.
-pub use Rattle.task_deal.proofs.Backs.{over, under}
+pub use Rattle.task_deal.proofs.Backs.{over, over_all, under}
 pub use Rattle.task_deal.proofs.Draining.{books_on, may_run}
 pub use Rattle.task_deal.proofs.Gaining.{Deque, popped, stolen, took, fetched}
 pub use Rattle.task_deal.proofs.Ledgers.{room_own, ledger_own, room_source, ledger_source, check_stands, comes_out, even_sum}

@@ -1,5 +1,5 @@
-use Rattle.task_deal.proofs.Common.{◌≡◌, ◌+◌, ◌∙◌, ◌∷◌, [], ap, length, length-append, arith, injector_view, Account, sum_of, HasPart, source_taken}
-use Rattle.task_deal.proofs.Lemmas.{all_last, all_rest, sum_of_push, sum_of-append, over}
+use Rattle.task_deal.proofs.Common.{rules, ◌≡◌, ◌+◌, ◌∙◌, ◌∷◌, [], ap, length, length-append, arith, injector_view, Account, sum_of, HasPart, source_taken}
+use Rattle.task_deal.proofs.Lemmas.{all_last, all_rest, sum_of_push, sum_of-append, over, over_all}
 use Rattle.task_deal.proofs.apart.take_apart.Goals as goal
 
 pub loop-member-preserved : goal.loop-member-preserved
@@ -29,3 +29,21 @@ loop-member-preserved g c = let inv = c.loop-member.invariant in
           let a : sum_of h (injector_view c.absorb.new.owner).taken ≡ sum_of h (injector_view c.loop-member.owner).taken + sum_of h (injector_view m.seat.source).taken = ap (λ (u : Account). sum_of h u.taken) c.absorb.ensures.view ∙ sum_of-append h (injector_view c.loop-member.owner).taken (injector_view m.seat.source).taken in
           omega (arith, inv.6 h, t, a)),
     )
+
+pub absorb-requires-clause-owner : goal.absorb-requires-clause-owner
+absorb-requires-clause-owner g c = let inv = c.loop-member.invariant in (inv.0.0, inv.0.1)
+
+pub absorb-requires-clause-pass : goal.absorb-requires-clause-pass
+absorb-requires-clause-pass g c = (all_last (λ m. HasPart c.args.source.now m.seat) c.loop-member.members.items c.pop.new.self.items c.in-Some.member c.in-Some.ensures.items c.loop-member.invariant.1).0
+
+pub returns : goal.returns
+returns g c = let inv = c.loop-member.invariant in
+    let ms = c.loop-member.members.items in
+    let none : ms ≡ [] = search rules in
+    record {
+      jobs = over_all (λ m. m.job) ms _ _ none inv.3;
+      owns = over_all (λ m. m.seat.own) ms _ _ none inv.4;
+      purses = over_all (λ m. m.seat.purse) ms _ _ none inv.5;
+      owner = (inv.0.0, inv.0.1, inv.0.2 ∙ ap length none, inv.0.3);
+      books = λ h. omega (arith, inv.6 h, ap (sum_of (source_taken h)) none);
+    }
