@@ -1,6 +1,7 @@
-use Rattle.dealt_run.proofs.Common.{◌≡◌, ℕ, List, length, map, sym, ap, ◌∙◌, subst, subst₂, pos, [], length-replicate, All, concat, IsPermutation, below, Schedule, units, market_of, prices_of, int_at, Answerer, AreWithin, AreAdded}
+use Rattle.dealt_run.proofs.Common.{refl, arith, ◌≡◌, ℕ, List, length, map, sym, ap, ◌∙◌, subst, subst₂, pos, [], length-replicate, All, concat, IsPermutation, below, Schedule, units, market_of, prices_of, int_at, Answerer, AreWithin, AreAdded}
 use Rattle.dealt_run.proofs.Dealt.{all_runs, all_sums}
-use Rattle.dealt_run.proofs.Lemmas.{work_of, runs_of, spare_of, after, none_run, all_kept, all_within, all_for, zero_at}
+use Rattle.dealt_run.proofs.Lemmas.{work_of, runs_of, spare_of, after, none_run, all_kept, all_within, all_for, starts_within, zero_at}
+use Rattle.dealt_run.specs.Jobs.{AreFor}
 use Rattle.dealt_run.proofs.row.answered.Goals as goal
 
 pub gather-requires-clause-jobs : goal.gather-requires-clause-jobs
@@ -40,3 +41,20 @@ returns-clause-jobs g c =
     let m = market_of c.args.case.now in
     let at = after m (prices_of c.args.prices.now) c.begin_jobs.new.jobs.items c.deal_all.new.jobs.items c.begin_jobs.ensures.begun c.in_ok-deal_all.ensures.dealt.jobs in
     all_for m (prices_of c.args.prices.now) c.deal_all.new.jobs.items at
+
+pub deal_all-requires-clause-spare : goal.deal_all-requires-clause-spare
+deal_all-requires-clause-spare g c κs within = λ k d low. let left = (c.begin_jobs.ensures.begun k d low).left in let units = c.unit_count-units.ensures.value in omega (arith, left, units)
+
+pub returns-in_err-sums-clause-jobs : goal.returns-in_err-sums-clause-jobs
+returns-in_err-sums-clause-jobs g c = λ k d low. (c.begin_jobs.ensures.begun k d low).market
+
+pub returns-in_err-deal_all-clause-jobs : goal.returns-in_err-deal_all-clause-jobs
+returns-in_err-deal_all-clause-jobs g c = subst (AreFor (market_of c.args.case.now)) (sym c.in_err-deal_all.ensures.refused) (λ k d low. (c.begin_jobs.ensures.begun k d low).market)
+
+pub gather-requires-clause-none : goal.gather-requires-clause-none
+gather-requires-clause-none g c =
+    let periods = (market_of c.args.case.now).periods in
+    let s = c.in_ok-sums.sums in
+    let e = c.in_ok-sums.ensures in
+    let supply : periods ≡ length s.supply.items = sym (ap length e.supply ∙ length-replicate periods (pos 0)) in
+    starts_within (length s.supply.items) [] s periods periods refl supply supply e.earned e.supply e.reserve

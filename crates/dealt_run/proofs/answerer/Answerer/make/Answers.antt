@@ -1,4 +1,4 @@
-use Rattle.dealt_run.proofs.Common.{refl, market_of, prices_of}
+use Rattle.dealt_run.proofs.Common.{refl, ap, ◌∙◌, length, length-replicate, market_of, prices_of}
 use Rattle.slope_list.specs.Slopes.{room_of}
 use Rattle.dealt_run.proofs.Lemmas.{starts, starts_within}
 use Rattle.dealt_run.proofs.answerer.Answerer.make.Goals as goal
@@ -18,3 +18,9 @@ pub invariant_of-result-clause-within : goal.invariant_of-result-clause-within
 invariant_of-result-clause-within c =
     starts_within c.args.case.now.periods c.in_ok-numbers.numbers.items c.in_ok-sums.sums c.args.case.now.periods c.args.case.now.periods
     c.in_ok-numbers.ensures.empty refl refl c.in_ok-sums.ensures.earned c.in_ok-sums.ensures.supply c.in_ok-sums.ensures.reserve
+
+pub invariant_of-result-clause-horizon : goal.invariant_of-result-clause-horizon
+invariant_of-result-clause-horizon c = ap length c.in_ok-prices.ensures.energy ∙ length-replicate _ _
+
+pub invariant_of-result-clause-buffer : goal.invariant_of-result-clause-buffer
+invariant_of-result-clause-buffer c = ap length c.in_ok-answer.ensures.on ∙ length-replicate _ _
