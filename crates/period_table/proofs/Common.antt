@@ -1,4 +1,5 @@
 -- The names that the proofs of this crate take from its specs and from other crates, passed on from one place.
+pub use borrow.Author.Rules.{scaled_Fits}
 pub use Rattle.std.proofs.Common.{◌≡◌, ℕ, zero, suc, ◌<◌, ◌≤◌, inl, inr, Option, Some, None, ℤ, pos, ◌≤ℤ◌, List, [], length, refl, sym, ap, ◌∙◌, subst, get_or-set_same, get_or-set_other, arith, ◌+◌, ◌-◌, ◌⊎◌, Bool, true, false, cond, ◌+ℤ◌, ◌≢◌, ◌*◌, ◌-ℤ◌, ◌<ℤ◌, ◌∷◌, ◌++◌, set, length-set, get_or, ◌==◌, rules, to_z, of_z, length-append}
 pub use Rattle.std.proofs.lemmas.Bool.{cases_Bool, cases_eq, cases_lt, lt-ltb, OnTrue_at, OnTrue_from}
 pub use Rattle.std.proofs.lemmas.Int.{ints, clamps, to_z-of_z}

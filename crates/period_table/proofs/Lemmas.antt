@@ -1,6 +1,6 @@
 -- The lemmas that answers cite, passed on from one place.
 pub use Rattle.period_table.proofs.BeginLaws.{at_once_some, at_once_none, begun, within_first}
-pub use Rattle.period_table.proofs.LiveLaws.{get_set_same, get_set_other, going_on, live_other, going_off, live_here, none_stopped, stopped_more, stopped_off, stopped_roomy, stopped_keeps, stopped_left, IsStopped, below_of, small_stopped, off_stopped, roomy_stopped, written_keeps, written_left, if_some, if_some_more, under_of, beyond_of, small_of, have_room, roomy_begun}
+pub use Rattle.period_table.proofs.LiveLaws.{get_set_same, get_set_other, going_on, live_other, going_off, live_here, none_stopped, stopped_more, stopped_off, stopped_roomy, stopped_keeps, stopped_left, IsStopped, below_of, small_stopped, off_stopped, roomy_stopped, written_keeps, written_left, if_some, if_some_more, under_of, beyond_of, small_of, room_more, room_next, have_room, roomy_begun}
 pub use Rattle.period_table.proofs.NoteLaws.{passed_append, passed_here, passed_other}
 pub use Rattle.period_table.proofs.OriginLaws.{origins_to, origins_within, begun_right, begun_ripe, none_ripe, put_ripe, IsLeastUpTo, one_more, least_of_origins, none_of_origins, entry_beyond, right_more, ripe_later, ripe_or_there, cleared}
 pub use Rattle.period_table.proofs.PeriodLaws.{filled_whole, period_off, period_run, period_filled}

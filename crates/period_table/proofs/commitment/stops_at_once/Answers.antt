@@ -1,8 +1,11 @@
-use Rattle.period_table.proofs.Common.{rules, ◌≡◌, false, ℤ, ◌+ℤ◌, ◌<ℤ◌, ◌≤ℤ◌, arith, ints, to_z-of_z, FitsSigned, int_lt, int_le, IsTrue, w64}
+use Rattle.period_table.proofs.Common.{rules, ◌≡◌, true, false, ℤ, ◌+ℤ◌, ◌<ℤ◌, ◌≤ℤ◌, arith, ints, to_z-of_z, FitsSigned, int_lt, int_le, IsTrue, w64}
 use Rattle.period_table.proofs.commitment.stops_at_once.Goals as goal
 
 not_above : (a b : ℤ) → int_lt a b ≡ false → b ≤ℤ a
 not_above a b test = grind (arith, ints)
+
+is_above : (a b : ℤ) → int_lt a b ≡ true → a <ℤ b
+is_above a b test = grind (arith, ints)
 
 at_most : (a b : ℤ) → IsTrue (int_le a b) → a ≤ℤ b
 at_most a b test = grind (arith, ints)
@@ -14,8 +17,7 @@ returns-then-unit-clause-no c = λ is may.
     let fits_min : FitsSigned w64 u.min_power = search rules in
     let fits_ramp : FitsSigned w64 u.ramp_down = search rules in
     let fits : FitsSigned w64 (u.min_power +ℤ u.ramp_down) = search rules in
-    let test = simp to_z-of_z at c.if-unit.true in
-    let above : (u.min_power +ℤ u.ramp_down) <ℤ u.power0 = grind (arith, ints) in
+    let above = is_above (u.min_power +ℤ u.ramp_down) u.power0 (simp to_z-of_z at c.if-unit.true) in
     let down = may.down in
     omega (arith, ints, above, down)
 

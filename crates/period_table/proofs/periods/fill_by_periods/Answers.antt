@@ -57,3 +57,18 @@ returns-clause-ways g c =
     let until = c.loop-place.auto.place-end in
     let end : c.loop-place.place ≡ length c.args.prices.now.energy.items = omega (arith, periods, from, until) in
     subst (λ (t : ℕ). HaveWays (thermal_of c.args.unit.now) (prices_of c.args.prices.now) t (cost_at c.loop-place.table.items) (first_at c.loop-place.table.items) (left_at c.loop-place.runners)) end c.loop-place.invariant.ways
+
+pub begin_all-requires-clause-runners : goal.begin_all-requires-clause-runners
+begin_all-requires-clause-runners g c =
+    let end = c.requires.runners in
+    omega (arith, end)
+
+pub begin_all-requires-clause-list : goal.begin_all-requires-clause-list
+begin_all-requires-clause-list g c =
+    let end = c.requires.firsts in
+    omega (arith, end)
+
+pub begin_all-requires-clause-rows : goal.begin_all-requires-clause-rows
+begin_all-requires-clause-rows g c =
+    let end = c.requires.rows in
+    omega (arith, end)

@@ -26,3 +26,6 @@ returns-then-not-is_within-clause-stands g c = λ π limits ends here origins no
 pub returns-then-not-is_within-clause-roster : goal.returns-then-not-is_within-clause-roster
 returns-then-not-is_within-clause-roster g c =
     still_listed (live_at g.R.Running.function c.args.runners.now) (live_at g.R.Running.function c.args.runners.now) (suc c.args.place) (suc (suc c.args.place)) c.args.roster.now (omega arith) (λ f off. off) c.requires.roster
+
+pub start_after-requires-clause-runners : goal.start_after-requires-clause-runners
+start_after-requires-clause-runners g c = c.requires.runners

@@ -1,4 +1,4 @@
-use Rattle.period_table.proofs.Common.{rules, ◌≡◌, ℕ, suc, ◌+◌, ◌<◌, pos, ◌+ℤ◌, ◌≤ℤ◌, Some, List, length, refl, ap, ◌∙◌, arith, length-set, FitsSigned, w64, ints, to_z-of_z, thermal_of, live_at, IsUnder, Going}
+use Rattle.period_table.proofs.Common.{rules, ◌≡◌, ℕ, suc, ◌+◌, ◌<◌, pos, ◌+ℤ◌, ◌≤ℤ◌, Some, List, length, refl, ap, ◌∙◌, arith, length-set, FitsSigned, w64, ints, to_z-of_z, thermal_of, live_at, IsUnder, Going, scaled_Fits}
 use Rattle.period_table.proofs.Lemmas.{roomy_begun, written_keeps, written_left, still_listed, begun_listed, item_at, start_undercut, start_beyond, started}
 use Rattle.period_table.proofs.periods.start_after.Goals as goal
 
@@ -70,3 +70,8 @@ returns-then-is_less-clause-stands g c = λ π limits ends here least now.
 pub returns-then-is_less-clause-roster : goal.returns-then-is_less-clause-roster
 returns-then-is_less-clause-roster g c =
     still_listed (live_at g.R.Running.function c.args.runners.now) (live_at g.R.Running.function c.args.runners.now) (suc c.args.place) (suc (suc c.args.place)) c.args.roster.now (omega arith) (λ f off. off) c.requires.roster
+
+pub offset_bounds-runners-place : goal.offset_bounds-runners-place
+offset_bounds-runners-place g c =
+    let end = c.requires.runners in
+    scaled_Fits (c.args.place + 1) (length c.args.runners.now) _ (omega (arith, end)) (search rules)

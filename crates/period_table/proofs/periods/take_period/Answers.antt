@@ -151,3 +151,47 @@ run_all-requires-clause-now g c =
     let here : int_at c.args.limits.now.items c.args.place ≡ to_z w64 (of_z w64 c.get-limit.result.now) =
     get_or_from_slice_get c.args.limits.now.items c.args.place c.get-limit.result.now (pos 0) c.get-limit.ensures.item ∙ sym (to_z-of_z w64 c.get-limit.result.now fits_here) in
     (int_at c.args.limits.now.items, c.start.ensures.stands (prices_of c.args.prices.now) (int_at c.args.limits.now.items) (cost_at c.args.table.now.items) here c.requires.origins c.requires.filled.runners)
+
+pub get-limit-requires : goal.get-limit-requires
+get-limit-requires g c =
+    let low = c.requires.place in
+    let each = c.requires.each in
+    omega (arith, low, each)
+
+pub get-requires : goal.get-requires
+get-requires g c =
+    let low = c.requires.place in
+    let each = c.requires.each in
+    omega (arith, low, each)
+
+pub start-requires-clause-list : goal.start-requires-clause-list
+start-requires-clause-list g c =
+    let low = c.requires.place in
+    let firsts = c.requires.firsts in
+    omega (arith, low, firsts)
+
+pub start-requires-clause-runners : goal.start-requires-clause-runners
+start-requires-clause-runners g c =
+    let low = c.requires.place in
+    let end = c.requires.runners in
+    omega (arith, low, end)
+
+pub run_all-requires-clause-runners : goal.run_all-requires-clause-runners
+run_all-requires-clause-runners g c =
+    let end = c.requires.runners in
+    let same = c.start.ensures.length in
+    omega (arith, end, same)
+
+pub drop_beyond-requires-clause-end : goal.drop_beyond-requires-clause-end
+drop_beyond-requires-clause-end g c =
+    let low = c.requires.place in
+    let end = c.requires.runners in
+    let same = c.run_all.ensures.count ∙ c.start.ensures.length in
+    omega (arith, low, end, same)
+
+pub prune-requires-clause-end : goal.prune-requires-clause-end
+prune-requires-clause-end g c =
+    let low = c.requires.place in
+    let end = c.requires.runners in
+    let same = c.drop_beyond.ensures.length ∙ c.run_all.ensures.count ∙ c.start.ensures.length in
+    omega (arith, low, end, same)

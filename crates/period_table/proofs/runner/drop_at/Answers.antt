@@ -1,4 +1,4 @@
-use Rattle.period_table.proofs.Common.{◌+◌, rules, true, get_or, length, refl, ap, ◌∙◌, arith, FitsSigned, w64, OnTrue_at, ints, to_z-of_z, live_at, IsBeyond}
+use Rattle.period_table.proofs.Common.{◌+◌, rules, true, get_or, length, refl, ap, ◌∙◌, arith, FitsSigned, w64, OnTrue_at, ints, to_z-of_z, live_at, IsBeyond, scaled_Fits}
 use Rattle.period_table.proofs.Lemmas.{live_here, live_other, going_off, small_stopped, off_stopped, roomy_stopped, written_keeps, written_left, item_at, item_same, item_live, beyond_goes}
 use Rattle.period_table.proofs.runner.drop_at.Goals as goal
 
@@ -47,3 +47,12 @@ pub returns-then-is_beyond-clause-left : goal.returns-then-is_beyond-clause-left
 returns-then-is_beyond-clause-left g c =
     written_left g.R.Running.function c.args.runners.now _ c.args.first c.stop.new.runner c.requires.end refl
     _ (item_at g.R.Running.function c.args.runners.now c.args.first c.requires.end _) c.stop.ensures.passed
+
+pub offset_bounds-runners-first : goal.offset_bounds-runners-first
+offset_bounds-runners-first g c = scaled_Fits c.args.first (length c.args.runners.now) _ c.requires.end (search rules)
+
+pub offset_bounds-runners-first-2 : goal.offset_bounds-runners-first-2
+offset_bounds-runners-first-2 g c = scaled_Fits c.args.first (length c.args.runners.now) _ c.requires.end (search rules)
+
+pub offset_bounds-runners-first-then-is_beyond : goal.offset_bounds-runners-first-then-is_beyond
+offset_bounds-runners-first-then-is_beyond g c = scaled_Fits c.args.first (length c.args.runners.now) _ c.requires.end (search rules)

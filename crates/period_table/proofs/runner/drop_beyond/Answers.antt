@@ -19,3 +19,9 @@ loop-place-preserved g c = record {
   keeps = λ most periods have. c.drop_at.ensures.keeps most periods (c.loop-place.invariant.keeps most periods have);
   count_same = c.drop_at.ensures.length ∙ c.loop-place.invariant.count_same;
 }
+
+pub get-requires : goal.get-requires
+get-requires g c =
+    let low = c.loop-place-test.true in
+    let room = c.requires.roster.room in
+    omega (arith, low, room)

@@ -24,3 +24,9 @@ loop-back-preserved g c =
       keeps = λ most periods have. c.prune_one-late.ensures.keeps most periods (c.loop-back.invariant.keeps most periods have);
       count_same = c.prune_one-late.ensures.length ∙ c.loop-back.invariant.count_same;
     }
+
+pub get-first-requires : goal.get-first-requires
+get-first-requires g c =
+    let low = c.loop-back-test.true in
+    let room = c.requires.roster.room in
+    omega (arith, low, room)

@@ -1,4 +1,4 @@
-use Rattle.period_table.proofs.Common.{◌+◌, ◌≡◌, ◌<◌, ◌≤◌, true, get_or, Some, length, refl, ap, ◌∙◌, arith, OnTrue_at, thermal_of, live_at, Going}
+use Rattle.period_table.proofs.Common.{◌+◌, ◌≡◌, ◌<◌, ◌≤◌, true, get_or, Some, length, refl, ap, ◌∙◌, arith, OnTrue_at, thermal_of, live_at, Going, scaled_Fits, rules}
 use Rattle.period_table.proofs.Lemmas.{if_some, live_here, live_other, going_off, small_stopped, off_stopped, roomy_stopped, written_keeps, written_left, item_at, item_same, item_live, read_live, read_on, on_of, early_goes}
 use Rattle.period_table.proofs.runner.prune_one.Goals as goal
 
@@ -104,3 +104,28 @@ returns-then-goes-clause-left g c =
     let d = c.index-runners-early-then-goes.result in
     written_left g.R.Running.function c.args.runners.now _ c.args.early c.stop.new.runner low refl
     (get_or c.args.runners.now c.args.early d) (item_at g.R.Running.function c.args.runners.now c.args.early low d) c.stop.ensures.passed
+
+pub offset_bounds-runners-early : goal.offset_bounds-runners-early
+offset_bounds-runners-early g c =
+    let end = c.requires.end in
+    let under = c.requires.early in
+    scaled_Fits c.args.early (length c.args.runners.now) _ (omega (arith, under, end)) (search rules)
+
+pub offset_bounds-runners-first : goal.offset_bounds-runners-first
+offset_bounds-runners-first g c =
+    let h = if_some (λ l. (c.args.early < l) × (l ≤ c.args.period) × ((r : Going) × (live_at g.R.Running.function c.args.runners.now l ≡ Some r))) c.args.late c.in-Some.first c.in-Some.is c.requires.late in
+    let until = h.1 in
+    let end = c.requires.end in
+    scaled_Fits c.in-Some.first (length c.args.runners.now) _ (omega (arith, until, end)) (search rules)
+
+pub offset_bounds-runners-early-in-Some : goal.offset_bounds-runners-early-in-Some
+offset_bounds-runners-early-in-Some g c =
+    let end = c.requires.end in
+    let under = c.requires.early in
+    scaled_Fits c.args.early (length c.args.runners.now) _ (omega (arith, under, end)) (search rules)
+
+pub offset_bounds-runners-early-then-goes : goal.offset_bounds-runners-early-then-goes
+offset_bounds-runners-early-then-goes g c =
+    let end = c.requires.end in
+    let under = c.requires.early in
+    scaled_Fits c.args.early (length c.args.runners.now) _ (omega (arith, under, end)) (search rules)

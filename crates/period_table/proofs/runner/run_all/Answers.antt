@@ -79,3 +79,30 @@ returns-clause-ends g c = (run_whole g.R.Running.function g.R.Running.count g.R.
 
 pub returns-clause-left : goal.returns-clause-left
 returns-clause-left g c = (run_whole g.R.Running.function g.R.Running.count g.R.Running.room (thermal_of c.args.unit.now) (prices_of c.args.prices.now) c.args.place (length c.args.curve.now.blocks.items + 3) c.args.table.now.items c.args.runners.now c.requires.room c.args.roster.now (suc (suc c.args.place)) c.requires.roster c.loop-index.index c.loop-index.table.items c.loop-index.runners c.loop-index.invariant c.loop-index-test.false).left
+
+pub get-first-requires : goal.get-first-requires
+get-first-requires g c =
+    let low = c.loop-index-test.true in
+    let room = c.requires.roster.room in
+    omega (arith, low, room)
+
+pub run_at-requires-clause-order : goal.run_at-requires-clause-order
+run_at-requires-clause-order g c =
+    let low = c.loop-index-test.true in
+    let below = c.requires.roster.below c.loop-index.index c.get-first.result.now (omega (arith, low)) c.get-first.ensures.item in
+    omega (arith, below)
+
+pub run_at-requires-clause-runners : goal.run_at-requires-clause-runners
+run_at-requires-clause-runners g c =
+    let low = c.loop-index-test.true in
+    let below = c.requires.roster.below c.loop-index.index c.get-first.result.now (omega (arith, low)) c.get-first.ensures.item in
+    let place = c.requires.place in
+    let end = c.requires.runners in
+    let same = c.loop-index.invariant.run.count_same in
+    omega (arith, below, place, end, same)
+
+pub run_at-requires-clause-rows : goal.run_at-requires-clause-rows
+run_at-requires-clause-rows g c =
+    let end = c.requires.rows in
+    let same = c.loop-index.invariant.run.rows_length in
+    omega (arith, end, same)

@@ -1,4 +1,4 @@
-use Rattle.period_table.proofs.Common.{◌≡◌, suc, ◌+◌, inl, inr, true, false, get_or, length, refl, sym, ap, ◌∙◌, subst, thermal_of, prices_of, going_of, left_of, cost_at, first_at, before_at, IsEndLeft}
+use Rattle.period_table.proofs.Common.{◌≡◌, suc, ◌+◌, inl, inr, true, false, get_or, length, refl, sym, ap, ◌∙◌, subst, thermal_of, prices_of, going_of, left_of, cost_at, first_at, before_at, IsEndLeft, scaled_Fits, rules}
 use Rattle.period_table.proofs.Lemmas.{get_set_same, get_set_other, written_keeps, item_at, item_same, item_live, item_off, goes_written, on_of, room_of, row_skip}
 use Rattle.period_table.proofs.runner.run_at.Goals as goal
 
@@ -97,3 +97,9 @@ returns-then-runners-first-clause-left g c = λ k other.
     let here = get_set_same c.args.runners.now c.args.first c.take_runner.new.runner c.requires.runners in
     let at = item_at g.R.Running.function c.args.runners.now c.args.first c.requires.runners c.index-runners-first-then-runners-first.result in
     ap (λ o. left_of o k) here ∙ c.take_runner.ensures.left k other ∙ sym (ap (λ o. left_of o k) at)
+
+pub offset_bounds-runners-first : goal.offset_bounds-runners-first
+offset_bounds-runners-first g c = scaled_Fits c.args.first (length c.args.runners.now) _ c.requires.runners (search rules)
+
+pub offset_bounds-runners-first-then-runners-first : goal.offset_bounds-runners-first-then-runners-first
+offset_bounds-runners-first-then-runners-first g c = scaled_Fits c.args.first (length c.args.runners.now) _ c.requires.runners (search rules)

@@ -1,4 +1,4 @@
-use Rattle.period_table.proofs.Common.{refl, arith, length-set}
+use Rattle.period_table.proofs.Common.{refl, arith, length-set, scaled_Fits, rules, length}
 use Rattle.period_table.proofs.Lemmas.{none_stopped, stopped_more, stopped_off, stopped_roomy, stopped_keeps, stopped_left, item_at}
 use Rattle.period_table.proofs.runner.stop_all.Goals as goal
 
@@ -30,3 +30,9 @@ returns-clause-keeps g c = stopped_keeps g.R.Running.function g.R.Running.count 
 
 pub returns-clause-left : goal.returns-clause-left
 returns-clause-left g c = stopped_left g.R.Running.function g.R.Running.count g.R.Running.room c.args.runners.now c.loop-place.runners c.loop-place.place c.loop-place.invariant
+
+pub offset_bounds-runners-place : goal.offset_bounds-runners-place
+offset_bounds-runners-place g c =
+    let low = c.loop-place-test.true in
+    let same = c.loop-place.invariant.same_length in
+    scaled_Fits c.loop-place.place (length c.loop-place.runners) _ (omega (arith, low, same)) (search rules)

@@ -1,5 +1,5 @@
 use Rattle.period_table.proofs.Common.{rules, ◌≡◌, ℕ, suc, ◌+◌, ◌-◌, ◌<◌, ◌≤◌, ◌+ℤ◌, ℤ, inl, inr, Some, length, sym, ap, ◌∙◌, subst, arith, to_z, of_z, FitsSigned, IfSome, w64, to_z-of_z, thermal_of, prices_of, Lowest, passed_at, IsOnNoted, IsPut, IsWithinTimes, on_time}
-use Rattle.period_table.proofs.Lemmas.{going_on, row_end, end_some, end_left}
+use Rattle.period_table.proofs.Lemmas.{room_more, room_next, going_on, row_end, end_some, end_left}
 use Rattle.period_table.proofs.runner.take_runner.Goals as goal
 
 pub returns-clause-row : goal.returns-clause-row
@@ -48,4 +48,44 @@ returns-clause-goes g c =
         | inl on ↦ inl (on ∙ ran ∙ sym left)
         | inr gone ↦ inr gone
       ];
+    }
+
+pub run_one-passed-requires-clause-room : goal.run_one-passed-requires-clause-room
+run_one-passed-requires-clause-room g c =
+    room_more (g.R.Running.count c.args.runner.now.running) (length c.args.prices.now.energy.items) c.args.place (length c.args.curve.now.blocks.items + 3) (g.R.Running.room c.args.runner.now.running)
+    c.requires.place (c.requires.room.rest c.requires.on)
+
+pub leave_at-requires : goal.leave_at-requires
+leave_at-requires g c =
+    let low = c.requires.place in
+    let places = c.requires.room.places in
+    omega (arith, low, places)
+
+pub put_end-requires-clause-room : goal.put_end-requires-clause-room
+put_end-requires-clause-room g c =
+    let low = c.requires.place in
+    let rows = c.requires.rows in
+    omega (arith, low, rows)
+
+pub put_end-requires-clause-order : goal.put_end-requires-clause-order
+put_end-requires-clause-order g c =
+    let order = c.requires.order in
+    omega (arith, order)
+
+pub returns-clause-room : goal.returns-clause-room
+returns-clause-room g c =
+    let old = c.args.runner.now in
+    let charge = length c.args.curve.now.blocks.items + 3 in
+    let periods = length c.args.prices.now.energy.items in
+    let same = ap g.R.Running.room c.retire.ensures.running ∙ c.run_one-passed.ensures.room in
+    let count_same = ap g.R.Running.count c.retire.ensures.running in
+    let count = c.run_one-passed.ensures.count in
+    let whole = c.requires.room.whole in
+    let places = c.requires.room.places in
+    let places_same = ap (λ l. length l.items + l.spare) c.retire.ensures.passed ∙ c.leave_at.ensures.room in
+    let rest = room_next (g.R.Running.count old.running) (g.R.Running.count c.run_one-passed.new.running) periods c.args.place charge (g.R.Running.room old.running) c.requires.place (c.requires.room.rest c.requires.on) count in
+    record {
+      whole = omega (arith, whole, same);
+      places = omega (arith, places, places_same);
+      rest = λ on. omega (arith, rest, same, count_same);
     }

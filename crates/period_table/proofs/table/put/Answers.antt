@@ -1,4 +1,4 @@
-use Rattle.period_table.proofs.Common.{rules, ◌≡◌, ◌≤ℤ◌, Some, List, Option, ap, ◌∙◌, to_z, of_z, FitsSigned, w64, to_z-of_z, Ended, row_at}
+use Rattle.period_table.proofs.Common.{rules, ◌≡◌, ◌≤ℤ◌, Some, List, Option, ap, ◌∙◌, to_z, of_z, FitsSigned, w64, to_z-of_z, Ended, row_at, arith, length}
 use Rattle.period_table.proofs.Lemmas.{written_added, written_old}
 use Rattle.period_table.proofs.table.put.Goals as goal
 
@@ -13,3 +13,15 @@ returns-then-is_taken-clause-old c =
 pub returns-then-is_taken-clause-added : goal.returns-then-is_taken-clause-added
 returns-then-is_taken-clause-added c =
     written_added c.args.table.now.items c.set.new.self.items c.args.last c.args.ended c.requires.room c.set.ensures.items
+
+pub bounds-as_slice-last : goal.bounds-as_slice-last
+bounds-as_slice-last c =
+    let room = c.requires.room in
+    let same = ap (λ (xs : List (Option Ended)). length xs) c.as_slice.ensures in
+    omega (arith, room, same)
+
+pub offset_bounds-as_slice-last : goal.offset_bounds-as_slice-last
+offset_bounds-as_slice-last c =
+    let room = c.requires.room in
+    let same = ap (λ (xs : List (Option Ended)). length xs) c.as_slice.ensures in
+    omega (arith, room, same)
