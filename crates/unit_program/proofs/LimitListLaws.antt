@@ -10,21 +10,32 @@ module _ (p : Point) (price : ℤ) (point : IsPoint p) (limit : IsWithin 2000000
       let h = product_within 20000000 1000000000 price p.at limit point.at in
       record { at_least = omega (arith, ints); at_most = omega (arith, ints) }
 
-  worth_is : stored (stored price *ℤ stored p.at) ≡ price *ℤ p.at
-  worth_is =
+  worth_is_inside : stored price *ℤ stored p.at ≡ price *ℤ p.at
+  worth_is_inside =
       let at_is = stored_is p.at (record { at_least = omega (arith, ints); at_most = omega (arith, ints) }) in
       let price_is = stored_is price (record { at_least = omega (arith, ints); at_most = omega (arith, ints) }) in
-      ap stored (ap (λ (z : ℤ). z *ℤ stored p.at) price_is ∙ ap (λ (z : ℤ). price *ℤ z) at_is) ∙ stored_is (price *ℤ p.at) (record { at_least = omega (arith, ints, worth.at_least); at_most = omega (arith, ints, worth.at_most) })
+      ap (λ (z : ℤ). z *ℤ stored p.at) price_is ∙ ap (λ (z : ℤ). price *ℤ z) at_is
+
+  pub worth_fits : FitsSigned w64 (stored price *ℤ stored p.at)
+  worth_fits = subst (FitsSigned w64) (sym worth_is_inside) (fits64 (price *ℤ p.at) (omega (arith, ints, worth.at_least)) (omega (arith, ints, worth.at_most)))
+
+  worth_is : stored (stored price *ℤ stored p.at) ≡ price *ℤ p.at
+  worth_is = ap stored worth_is_inside ∙ stored_is (price *ℤ p.at) (record { at_least = omega (arith, ints, worth.at_least); at_most = omega (arith, ints, worth.at_most) })
 
   net_within : IsWithin 20010000000000000 (p.cost -ℤ (price *ℤ p.at))
   net_within =
       record { at_least = omega (arith, ints, worth.at_most); at_most = omega (arith, ints, worth.at_least) }
 
-  pub net_stored : stored (stored p.cost -ℤ stored (stored price *ℤ stored p.at)) ≡ p.cost -ℤ (price *ℤ p.at)
-  net_stored =
+  net_is_inside : stored p.cost -ℤ stored (stored price *ℤ stored p.at) ≡ p.cost -ℤ (price *ℤ p.at)
+  net_is_inside =
       let cost_is = stored_is p.cost (record { at_least = omega (arith, ints); at_most = omega (arith, ints) }) in
-      ap stored (ap (λ (z : ℤ). z -ℤ stored (stored price *ℤ stored p.at)) cost_is ∙ ap (λ (z : ℤ). p.cost -ℤ z) worth_is)
-      ∙ stored_is (p.cost -ℤ (price *ℤ p.at)) (record { at_least = omega (arith, ints, net_within.at_least); at_most = omega (arith, ints, net_within.at_most) })
+      ap (λ (z : ℤ). z -ℤ stored (stored price *ℤ stored p.at)) cost_is ∙ ap (λ (z : ℤ). p.cost -ℤ z) worth_is
+
+  pub net_fits : FitsSigned w64 (stored p.cost -ℤ stored (stored price *ℤ stored p.at))
+  net_fits = subst (FitsSigned w64) (sym net_is_inside) (fits64 (p.cost -ℤ (price *ℤ p.at)) (omega (arith, ints, net_within.at_least)) (omega (arith, ints, net_within.at_most)))
+
+  pub net_stored : stored (stored p.cost -ℤ stored (stored price *ℤ stored p.at)) ≡ p.cost -ℤ (price *ℤ p.at)
+  net_stored = ap stored net_is_inside ∙ stored_is (p.cost -ℤ (price *ℤ p.at)) (record { at_least = omega (arith, ints, net_within.at_least); at_most = omega (arith, ints, net_within.at_most) })
 
   pub net_bound : IsWithin 20010000000000000 (stored (stored p.cost -ℤ stored (stored price *ℤ stored p.at)))
   net_bound = subst (IsWithin 20010000000000000) (sym net_stored) net_within

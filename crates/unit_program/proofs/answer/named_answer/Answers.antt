@@ -1,4 +1,4 @@
-use Rattle.unit_program.proofs.Common.{◌≡◌, ℕ, Some, None, ℤ, length, refl, IfNone, thermal_of, prices_of, cost_at, IsOffRun}
+use Rattle.unit_program.proofs.Common.{◌≡◌, ℕ, Some, None, ℤ, length, refl, IfNone, thermal_of, prices_of, cost_at, IsOffRun, ◌∙◌, sym, arith}
 use Rattle.unit_program.proofs.Lemmas.{none_right}
 use Rattle.unit_program.proofs.answer.named_answer.Goals as goal
 
@@ -14,3 +14,18 @@ returns-in_default-clause-none g c =
       | Some x ↦ λ is h. absurd (c.in_default.not-Some x is)
     ] refl told in
     none_right (thermal_of u) (prices_of c.args.prices.now) T refl (cost_at rows) u.valid.ramp_up.at_least u.valid.ramp_down.at_least c.requires.filled.table.complete none
+
+pub write_best-requires-clause-end : goal.write_best-requires-clause-end
+write_best-requires-clause-end g c = rw c.len-periods.ensures at c.in-Some.ensures.some
+
+pub write_best-requires-clause-earliest : goal.write_best-requires-clause-earliest
+write_best-requires-clause-earliest g c = rw c.len-periods.ensures at c.in-Some.ensures.earliest
+
+pub least_end-requires-clause-periods : goal.least_end-requires-clause-periods
+least_end-requires-clause-periods g c = c.len-periods.ensures ∙ sym c.requires.horizon
+
+pub least_end-requires-clause-room : goal.least_end-requires-clause-room
+least_end-requires-clause-room g c =
+    let room = c.requires.room in
+    let periods = c.len-periods.ensures in
+    omega (arith, room, periods)

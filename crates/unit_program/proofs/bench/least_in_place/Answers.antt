@@ -1,4 +1,4 @@
-use Rattle.unit_program.proofs.Common.{List, Option, length, sym, ap, subst, arith, thermal_of, prices_of, Runner, Ended, left_at, HaveWays, cost_at, first_at}
+use Rattle.unit_program.proofs.Common.{List, Option, length, sym, ap, subst, arith, thermal_of, prices_of, Runner, Ended, left_at, HaveWays, cost_at, first_at, IsEndWithin}
 use Rattle.unit_program.proofs.bench.least_in_place.Goals as goal
 
 pub write_noted-requires-clause-ways : goal.write_noted-requires-clause-ways
@@ -33,3 +33,8 @@ returns-clause-bench g c = λ periods points b.
       roster = h.roster;
       limits = h.limits;
     })
+
+pub write_noted-requires-clause-end : goal.write_noted-requires-clause-end
+write_noted-requires-clause-end g c =
+    subst (λ (rows : List (Option Ended)). IsEndWithin (thermal_of c.args.unit.now) (prices_of c.args.prices.now) rows c.in-Some.end.last c.in-Some.end.cost) (sym c.as_slice.ensures)
+    c.in-Some.ensures.some

@@ -1,4 +1,4 @@
-use Rattle.unit_program.proofs.Common.{rules, ◌≡◌, inl, inr, ℕ, ◌-◌, pos, ◌-ℤ◌, ◌*ℤ◌, ◌≤ℤ◌, ℤ, length, sym, subst, arith, FitsSigned, w64, ints, to_z-of_z, Point, All, HasLeastNet}
+use Rattle.unit_program.proofs.Common.{rules, ◌≡◌, inl, inr, ℕ, ◌-◌, pos, ◌-ℤ◌, ◌*ℤ◌, ◌≤ℤ◌, ℤ, length, sym, subst, arith, FitsSigned, w64, ints, to_z-of_z, Point, All, HasLeastNet, IsFrom, neg_ℤ}
 use Rattle.unit_program.proofs.Lemmas.{known_least, has_least, known_more}
 use Rattle.unit_program.proofs.limits.known_net.Goals as goal
 
@@ -71,3 +71,36 @@ returns-clause-known c =
             subst (λ (k : ℕ). HasLeastNet ps k c.args.price) e (has_least ps none (length ps - 1) (omega (arith, some)) c.args.price c.net_of-last.result c.least_net-least.result last_is h.1 all)),
       )
     ]))
+
+pub bounds-points-0 : goal.bounds-points-0
+bounds-points-0 c = c.requires.some
+
+pub overflow_sub-points : goal.overflow_sub-points
+overflow_sub-points c = c.requires.some
+
+pub bounds-points-points : goal.bounds-points-points
+bounds-points-points c =
+    let some = c.requires.some in
+    omega (arith, some)
+
+pub offset_bounds-points-points : goal.offset_bounds-points-points
+offset_bounds-points-points c =
+    let some = c.requires.some in
+    omega (arith, some)
+
+pub net_of-first-requires-clause-point : goal.net_of-first-requires-clause-point
+net_of-first-requires-clause-point c =
+    let some = c.requires.some in
+    c.requires.points 0 none (omega (arith, some))
+
+pub returns-then-price-known-clause-bound : goal.returns-then-price-known-clause-bound
+returns-then-price-known-clause-bound c =
+    subst (IsFrom (neg_ℤ (pos 20010000000000000)) (pos 20010000000000000)) (sym (to_z-of_z w64 c.net_of-first.result (search rules))) c.net_of-first.ensures.bound
+
+pub returns-clause-bound : goal.returns-clause-bound
+returns-clause-bound c =
+    subst (IsFrom (neg_ℤ (pos 20010000000000000)) (pos 20010000000000000)) (sym (to_z-of_z w64 c.least_net-least.result (search rules))) c.least_net-least.ensures.bound
+
+pub returns-then-price-known-2-clause-bound : goal.returns-then-price-known-2-clause-bound
+returns-then-price-known-2-clause-bound c =
+    subst (IsFrom (neg_ℤ (pos 20010000000000000)) (pos 20010000000000000)) (sym (to_z-of_z w64 c.net_of-last.result (search rules))) c.net_of-last.ensures.bound

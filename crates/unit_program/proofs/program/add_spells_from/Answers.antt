@@ -1,4 +1,4 @@
-use Rattle.unit_program.proofs.Common.{length, refl, sym, arith, thermal_of, prices_of, net_at}
+use Rattle.unit_program.proofs.Common.{length, refl, sym, arith, thermal_of, prices_of, net_at, ◌∙◌, ap}
 use Rattle.unit_program.proofs.Lemmas.{no_spell_after, none_long_enough, added_none, answers_at}
 use Rattle.unit_program.proofs.program.add_spells_from.Goals as goal
 
@@ -28,3 +28,19 @@ returns-clause-added g c =
       update = rw (c.len-periods.ensures, c.as_slice.ensures) at c.add_spells.ensures.update;
       within = c.add_spells.ensures.within;
     }
+
+pub add_spells-requires-clause-periods : goal.add_spells-requires-clause-periods
+add_spells-requires-clause-periods g c = c.len-periods.ensures ∙ sym c.requires.horizon
+
+pub add_spells-requires-clause-costs : goal.add_spells-requires-clause-costs
+add_spells-requires-clause-costs g c =
+    let costs = c.requires.costs in
+    let periods = c.len-periods.ensures in
+    let same = ap length c.as_slice.ensures ∙ c.spell_costs.ensures.length in
+    omega (arith, costs, periods, same)
+
+pub add_spells-requires-clause-room : goal.add_spells-requires-clause-room
+add_spells-requires-clause-room g c =
+    let room = c.requires.room in
+    let periods = c.len-periods.ensures in
+    omega (arith, room, periods)

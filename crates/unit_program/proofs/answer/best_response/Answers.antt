@@ -1,0 +1,16 @@
+use Rattle.unit_program.proofs.Common.{suc, Option, List, length, sym, ap, subst, arith, Ended, thermal_of, prices_of, IsFilled}
+use Rattle.unit_program.proofs.answer.best_response.Goals as goal
+
+pub filled_table-requires-clause-curve : goal.filled_table-requires-clause-curve
+filled_table-requires-clause-curve g c = (rw c.as_slice.ensures at c.in_ok-curve.ensures).curve
+
+pub named_answer-requires-clause-filled : goal.named_answer-requires-clause-filled
+named_answer-requires-clause-filled g c =
+    subst (λ (rows : List (Option Ended)). IsFilled (thermal_of c.args.unit.now) (prices_of c.args.prices.now) (suc (length c.args.prices.now.energy.items)) rows) (sym c.as_slice-2.ensures)
+    c.in_ok-table.ensures.filled
+
+pub named_answer-requires-clause-room : goal.named_answer-requires-clause-room
+named_answer-requires-clause-room g c =
+    let same = ap length c.as_slice-2.ensures in
+    let room = c.in_ok-table.ensures.room in
+    omega (arith, same, room)
