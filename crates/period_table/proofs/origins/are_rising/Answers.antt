@@ -24,3 +24,6 @@ pub offset_bounds-lags-place-in-loop-place : goal.offset_bounds-lags-place-in-lo
 offset_bounds-lags-place-in-loop-place c =
     let low = c.loop-place-test.true in
     omega (arith, low)
+
+pub loop-place-init : goal.loop-place-init
+loop-place-init c = λ k d low. absurd (omega (arith, low))

@@ -1,4 +1,4 @@
-use Rattle.period_table.proofs.Common.{◌≡◌, ℕ, suc, ◌+◌, List, Option, length, sym, ◌∙◌, subst, arith, thermal_of, prices_of, Ended, int_at, live_at, left_at, AreRoomy, IsFilledTo, AreOrigins, IsRoster, cost_at, first_at, HaveWays}
+use Rattle.period_table.proofs.Common.{◌≡◌, ℕ, suc, ◌+◌, List, Option, length, sym, ◌∙◌, subst, arith, thermal_of, prices_of, Ended, int_at, live_at, left_at, AreRoomy, IsFilledTo, AreOrigins, IsRoster, cost_at, first_at, HaveWays, ap}
 use Rattle.period_table.proofs.Lemmas.{origins_to, filled_whole, cost-same}
 use Rattle.period_table.proofs.periods.fill_by_periods.Goals as goal
 
@@ -72,3 +72,49 @@ pub begin_all-requires-clause-rows : goal.begin_all-requires-clause-rows
 begin_all-requires-clause-rows g c =
     let end = c.requires.rows in
     omega (arith, end)
+
+pub begin-requires-clause-rows : goal.begin-requires-clause-rows
+begin-requires-clause-rows g c =
+    let rows = c.requires.rows in
+    let same = ap length c.as_slice.ensures ∙ c.begin_all.ensures.length in
+    omega (arith, rows, same)
+
+pub take_period-requires-clause-runners : goal.take_period-requires-clause-runners
+take_period-requires-clause-runners g c =
+    let end = c.requires.runners in
+    let same = c.loop-place.invariant.count_same in
+    omega (arith, end, same)
+
+pub take_period-requires-clause-rows : goal.take_period-requires-clause-rows
+take_period-requires-clause-rows g c =
+    let end = c.requires.rows in
+    let same = c.loop-place.invariant.rows_length in
+    omega (arith, end, same)
+
+pub take_period-requires-clause-list : goal.take_period-requires-clause-list
+take_period-requires-clause-list g c =
+    let end = c.requires.list in
+    let same = c.loop-place.invariant.list_same in
+    omega (arith, end, same)
+
+pub take_period-requires-clause-firsts : goal.take_period-requires-clause-firsts
+take_period-requires-clause-firsts g c =
+    let end = c.requires.firsts in
+    let same = c.loop-place.invariant.firsts_same in
+    omega (arith, end, same)
+
+pub go_on-requires-clause-rows : goal.go_on-requires-clause-rows
+go_on-requires-clause-rows g c =
+    let low = c.loop-place-test.true in
+    let periods = c.len-periods.ensures in
+    let rows = c.requires.rows in
+    let same = ap length c.as_slice-in-loop-place.ensures ∙ c.take_period.ensures.length ∙ c.loop-place.invariant.rows_length in
+    omega (arith, low, periods, rows, same)
+
+pub go_on-requires-clause-room : goal.go_on-requires-clause-room
+go_on-requires-clause-room g c =
+    let low = c.loop-place-test.true in
+    let periods = c.len-periods.ensures in
+    let list = c.requires.list in
+    let same = c.loop-place.invariant.list_same in
+    omega (arith, low, periods, list, same)

@@ -195,3 +195,21 @@ prune-requires-clause-end g c =
     let end = c.requires.runners in
     let same = c.drop_beyond.ensures.length ∙ c.run_all.ensures.count ∙ c.start.ensures.length in
     omega (arith, low, end, same)
+
+pub start-requires-clause-small_place : goal.start-requires-clause-small_place
+start-requires-clause-small_place g c =
+    let few = c.args.prices.now.valid.horizon.at_most in
+    let place = c.requires.place in
+    omega (arith, few, place)
+
+pub prune-requires-clause-periods : goal.prune-requires-clause-periods
+prune-requires-clause-periods g c =
+    let few = c.args.prices.now.valid.horizon.at_most in
+    let place = c.requires.place in
+    omega (arith, few, place)
+
+pub run_all-requires-clause-none : goal.run_all-requires-clause-none
+run_all-requires-clause-none g c = c.requires.filled.table.none (suc c.args.place) (omega arith)
+
+pub run_all-requires-clause-open : goal.run_all-requires-clause-open
+run_all-requires-clause-open g c = c.is_must_off.ensures.no c.if-is_must_off.false

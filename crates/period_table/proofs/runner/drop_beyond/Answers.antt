@@ -1,4 +1,4 @@
-use Rattle.period_table.proofs.Common.{◌∙◌, arith}
+use Rattle.period_table.proofs.Common.{◌∙◌, arith, refl, FitsSigned, w64, rules, sym, to_z-of_z}
 use Rattle.period_table.proofs.runner.drop_beyond.Goals as goal
 
 pub drop_at-requires-clause-end : goal.drop_at-requires-clause-end
@@ -25,3 +25,19 @@ get-requires g c =
     let low = c.loop-place-test.true in
     let room = c.requires.roster.room in
     omega (arith, low, room)
+
+pub loop-place-init : goal.loop-place-init
+loop-place-init g c = record {
+  off = λ f is. is;
+  small = c.requires.small;
+  stands = λ u π limits ends t n here now. now;
+  roomy = λ periods t charge roomy. roomy;
+  left = λ f k. refl;
+  keeps = λ most periods have. have;
+  count_same = refl;
+}
+
+pub returns-clause-stands : goal.returns-clause-stands
+returns-clause-stands g c = λ u π limits ends t n here now.
+    let fits : FitsSigned w64 c.args.limit = search rules in
+    c.loop-place.invariant.stands u π limits ends t n (here ∙ sym (to_z-of_z w64 c.args.limit fits)) now
