@@ -20,6 +20,8 @@ pub mod EndLaws
 pub mod EntryLaws
 -- the table before any start, and with one more first period
 pub mod FillLaws
+-- what two calls leave of the shapes that were there before
+pub mod FrameLaws
 -- one spell of the way back, where the rows are those of the table as far as they are within the limits
 pub mod LimitBackLaws
 -- the rows and the ends as far as they are within the limits

@@ -1,5 +1,5 @@
 use Rattle.unit_program.proofs.Common.{◌≡◌, ◌<◌, ◌≤◌, length, ◌∙◌, arith, on_ok_weaker, thermal_of, prices_of, schedule_of}
-use Rattle.unit_program.proofs.Lemmas.{back_off, row_back}
+use Rattle.unit_program.proofs.Lemmas.{back_off, row_back, still_left}
 use Rattle.unit_program.proofs.answer.+write_back.Goals as goal
 
 pub returns-then-is_all_off-clause-written : goal.returns-then-is_all_off-clause-written
@@ -54,3 +54,6 @@ returns-clause-written g t c =
     on_ok_weaker c.write_back.result
     (r.rest (schedule_of c.args.into.now.response) (schedule_of c.write_spell.new.into.response) (schedule_of c.write_back.new.into.response) (omega arith) c.requires.idle c.in_ok-write_spell.ensures.written)
     c.write_back.ensures.written
+
+pub returns-clause-frame : goal.returns-clause-frame
+returns-clause-frame g t c = still_left g.S.Home.Cells.cell_list g.S.Shape.is_in g.S.Shape.numbers c.args.home.now c.write_spell.new.home c.write_back.new.home c.write_spell.ensures.frame c.write_back.ensures.frame

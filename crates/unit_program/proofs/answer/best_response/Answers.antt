@@ -1,4 +1,5 @@
 use Rattle.unit_program.proofs.Common.{suc, Option, List, length, sym, ap, subst, arith, Ended, thermal_of, prices_of, IsFilled}
+use Rattle.unit_program.proofs.Lemmas.{still_left}
 use Rattle.unit_program.proofs.answer.best_response.Goals as goal
 
 pub filled_table-requires-clause-curve : goal.filled_table-requires-clause-curve
@@ -14,3 +15,6 @@ named_answer-requires-clause-room g c =
     let same = ap length c.as_slice-2.ensures in
     let room = c.in_ok-table.ensures.room in
     omega (arith, same, room)
+
+pub returns-clause-frame : goal.returns-clause-frame
+returns-clause-frame g c = still_left g.S.Home.Cells.cell_list g.S.Shape.is_in g.S.Shape.numbers c.args.home.now c.filled_table.new.home c.named_answer.new.home c.filled_table.ensures.frame c.named_answer.ensures.frame
