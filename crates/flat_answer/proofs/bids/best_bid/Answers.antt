@@ -1,4 +1,4 @@
-use Rattle.flat_answer.proofs.Common.{length, arith, Bid, bid_of, prices_of, schedule_of}
+use Rattle.flat_answer.proofs.Common.{length, arith, Bid, bid_of, prices_of, schedule_of, ints}
 use Rattle.flat_answer.proofs.Lemmas.{bid_can, bid_earns, bid_by_place, answered_next, answered_all}
 use Rattle.flat_answer.proofs.bids.best_bid.Goals as goal
 
@@ -20,3 +20,12 @@ returns-clause-earned c =
     (answered_all (Bid (bid_of c.args.bid.now)) (prices_of c.args.prices.now) (bid_can (bid_of c.args.bid.now)) (bid_earns (bid_of c.args.bid.now) (prices_of c.args.prices.now)) c.loop-k.k
     (schedule_of c.loop-k.into.response) c.loop-k.into.earned (bid_by_place (bid_of c.args.bid.now) (prices_of c.args.prices.now))
     (omega arith) c.loop-k.invariant).earned_is
+
+pub keep-requires-clause-so_far : goal.keep-requires-clause-so_far
+keep-requires-clause-so_far c =
+    let few = c.args.prices.now.valid.horizon.at_most in
+    let turn = c.loop-k-test.true in
+    let end = c.len-k-end.ensures in
+    let low = c.loop-k.invariant.bound.at_least in
+    let high = c.loop-k.invariant.bound.at_most in
+    record { at_least = omega (arith, ints, low, few, turn, end); at_most = omega (arith, ints, high, few, turn, end) }
