@@ -64,7 +64,6 @@ pub struct AuditWords {
 }
 
 /// A command with its words.
-#[derive(Drop)]
 pub enum Command {
     /// Runs the price rule and reports.
     Price(PriceWords),
@@ -78,4 +77,18 @@ pub enum Command {
     Fixed(PriceWords),
     /// Says whether a report is right.
     Audit(AuditWords),
+}
+
+// Written out, so that a drop of it is a call, and not one for each name of each command.
+impl Drop for Command {
+    fn drop(self) {
+        match self {
+            Command::Price(_words) => {}
+            Command::Check(_words) => {}
+            Command::Try(_words) => {}
+            Command::Bound(_words) => {}
+            Command::Fixed(_words) => {}
+            Command::Audit(_words) => {}
+        }
+    }
 }
