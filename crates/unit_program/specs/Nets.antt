@@ -1,6 +1,6 @@
 -- What a point costs less what its power is worth at a price: the higher the price, the less it is
 -- for a point of more power beside one of less (this project's profile).
-use Rattle.std.specs.Prelude.{◌≡◌, ℕ, suc, ◌<◌, ℤ, pos, neg_ℤ, ◌-ℤ◌, ◌*ℤ◌, ◌≤ℤ◌, List, length}
+use Rattle.std.specs.Prelude.{◌≡◌, ℕ, suc, ◌<◌, ℤ, neg_ℤ, ◌-ℤ◌, ◌*ℤ◌, ◌≤ℤ◌, List, length}
 use Rattle.std.specs.Prelude.{slice_index_or}
 use Rattle.uc_model.specs.declared.units.Point.{Point}
 use Rattle.uc_model.specs.declared.limits.TheConstants.{GAIN_LIMIT}
