@@ -2,6 +2,7 @@
 // The expected texts were worked by hand, or come from other programs.
 ghost use Rattle.std.specs.Prelude.{Some};
 
+use crate::same::{same, same_of};
 use answer_workers::{Gate, NoGate};
 use hull_engine::hull_run;
 use hull_io::{File, MemoryShelf, MemorySink, ReadFailed, Shelf};
@@ -492,8 +493,8 @@ fn runs_answer_as_worked(rt: HostRuntime) -> Result<(), Fail> {
             (case, schedule, b"".as_slice()),
             SHORT,
         )?;
-        assert_eq!(rt; bytes.as_slice(), text);
-        assert_eq!(rt; status, want);
+        same(&rt, bytes.as_slice(), text);
+        same(&rt, status, want);
     }
     Ok(())
 }
@@ -582,7 +583,7 @@ fn a_failing_read_ends_a_run(rt: HostRuntime) -> Result<(), Fail> {
             };
             let reads = &parts(gives)[..files];
             let wrong = wrong_read(&rt, rt.alloc(), words, reads, edges, text)?;
-            assert_eq!(rt; wrong, None, "{words:?}");
+            same_of(&rt, &words, wrong, None);
         }
     }
     Ok(())
@@ -659,7 +660,7 @@ fn a_failing_write_ends_a_run(rt: HostRuntime) -> Result<(), Fail> {
     ] {
         for way in ways {
             let wrong = wrong_write(&rt, rt.alloc(), words, TWO_UNITS_TEXTS, *way, (0, text))?;
-            assert_eq!(rt; wrong, None, "{words:?}");
+            same_of(&rt, &words, wrong, None);
         }
     }
     Ok(())
@@ -709,7 +710,7 @@ fn a_failing_write_leaves_a_refusal(rt: HostRuntime) -> Result<(), Fail> {
     ] {
         for way in ALL_WAYS {
             let wrong = wrong_write(&rt, rt.alloc(), words, texts, way, (status, text))?;
-            assert_eq!(rt; wrong, None, "{words:?}");
+            same_of(&rt, &words, wrong, None);
         }
     }
     Ok(())
@@ -750,8 +751,8 @@ fn runs_answer_as_other_programs_do(rt: HostRuntime) -> Result<(), Fail> {
             (case, schedule, b"".as_slice()),
             SHORT,
         )?;
-        assert_eq!(rt; bytes.as_slice(), text);
-        assert_eq!(rt; status, 0);
+        same(&rt, bytes.as_slice(), text);
+        same(&rt, status, 0);
     }
     Ok(())
 }
@@ -827,9 +828,9 @@ fn two_workers_answer_at_once(rt: HostRuntime) -> Result<(), Fail> {
         (TWO_UNITS, TWO_UNITS_SCHEDULE, b"".as_slice()),
         SHORT,
     )?;
-    assert_eq!(rt; gate.late.load(Ordering::SeqCst), 0);
-    assert_eq!(rt; bytes.as_slice(), TWO_UNITS_REPORT);
-    assert_eq!(rt; status, 0);
+    same(&rt, gate.late.load(Ordering::SeqCst), 0);
+    same(&rt, bytes.as_slice(), TWO_UNITS_REPORT);
+    same(&rt, status, 0);
     Ok(())
 }
 
@@ -852,8 +853,8 @@ fn four_workers_answer_at_once(rt: HostRuntime) -> Result<(), Fail> {
         (FOUR_IDLE, FOUR_IDLE_SCHEDULE, b"".as_slice()),
         SHORT,
     )?;
-    assert_eq!(rt; gate.late.load(Ordering::SeqCst), 0);
-    assert_eq!(rt; status, 0);
+    same(&rt, gate.late.load(Ordering::SeqCst), 0);
+    same(&rt, status, 0);
     let mut lines = bytes.as_slice().split(|byte| *byte == b'\n');
     assert!(rt; lines.any(|line| line == b"chosen 1 value 0".as_slice()));
     Ok(())
@@ -893,8 +894,8 @@ fn audits_answer_as_worked(rt: HostRuntime) -> Result<(), Fail> {
     ] {
         let texts = (TWO_UNITS, TWO_UNITS_SCHEDULE, report);
         let (status, bytes) = run(&rt, &NoGate, rt.alloc(), words, texts, SHORT)?;
-        assert_eq!(rt; bytes.as_slice(), text);
-        assert_eq!(rt; status, want);
+        same(&rt, bytes.as_slice(), text);
+        same(&rt, status, want);
     }
     Ok(())
 }

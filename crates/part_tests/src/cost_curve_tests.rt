@@ -2,6 +2,7 @@
 ghost use Rattle.uc_model.specs.Limits.{Spans};
 ghost use Rattle.cost_curve.specs.CostCurve.{AreCostPoints, IsCostCurve, CanEvaluate};
 
+use crate::same::{same, same_of};
 use cost_curve::costs::{envelope_at, envelope_near};
 use cost_curve::curves::{curve_at, curve_into, curve_of};
 use std::process::Abort;
@@ -15,18 +16,18 @@ fn has_cost(rt: &impl Abort, points: &[Point], curve: &Curve, x: i64, cost: i64)
     requires curve { IsCostCurve points.now curve.now }
     requires evaluates { CanEvaluate curve.now }
 {
-    assert_eq!(rt; envelope_at(points, x), cost, "at {x}");
+    same_of(rt, &x, envelope_at(points, x), cost);
     let mut near = None;
-    assert_eq!(rt; envelope_near(points, x, &mut near), cost, "at {x}");
-    assert_eq!(rt; envelope_near(points, x, &mut near), cost, "at {x} again");
-    assert_eq!(rt; curve_at(curve, x), cost, "at {x}");
+    same_of(rt, &x, envelope_near(points, x, &mut near), cost);
+    same_of(rt, &x, envelope_near(points, x, &mut near), cost);
+    same_of(rt, &x, curve_at(curve, x), cost);
 }
 
 fn block_is(rt: &impl Abort, curve: &Curve, place: usize, width: i64, price: i64) {
     assert!(rt; place < curve.blocks.len());
     let block = curve.blocks.get(place);
-    assert_eq!(rt; block.width, width);
-    assert_eq!(rt; block.price, price);
+    same(rt, block.width, width);
+    same(rt, block.price, price);
 }
 
 // A slope between whole prices: 2 kilowatts at 3, and then 1 at 4.
@@ -38,7 +39,7 @@ fn rounds_at_whole_prices(rt: HostRuntime) -> Result<(), Fail> {
     has_cost(&rt, &points, &curve, 1, 3);
     has_cost(&rt, &points, &curve, 2, 6);
     has_cost(&rt, &points, &curve, 3, 10);
-    assert_eq!(rt; curve.blocks.len(), 2);
+    same(&rt, curve.blocks.len(), 2);
     block_is(&rt, &curve, 0, 2, 3);
     block_is(&rt, &curve, 1, 1, 4);
     Ok(())
@@ -75,6 +76,6 @@ fn one_point_has_no_block(rt: HostRuntime) -> Result<(), Fail> {
     }];
     let curve = curve_of(rt.alloc(), &points)?;
     has_cost(&rt, &points, &curve, 100, 3000);
-    assert_eq!(rt; curve.blocks.len(), 0);
+    same(&rt, curve.blocks.len(), 0);
     Ok(())
 }

@@ -1,6 +1,7 @@
 ghost use Rattle.std.specs.Prelude.{pos, neg_ℤ};
 ghost use Rattle.uc_model.specs.Limits.{IsFrom, IsSum, price_limit};
 
+use crate::same::same;
 use crate::small_cases::{one_period, one_price, one_response, one_row};
 use dual_value::{add_response, dual_value, take_bid};
 use std::alloc::{AllocError, Global};
@@ -23,17 +24,18 @@ fn value_at(alloc: Global, energy: i64, reserve: i64, earned: i128) -> Result<i1
 #[test]
 fn values_of_a_usual_case(rt: HostRuntime) -> Result<(), Fail> {
     let alloc = rt.alloc();
-    assert_eq!(rt; value_at(alloc, 98_000, 0, 294_000_000)?, 686_000_000);
-    assert_eq!(rt;
+    same(&rt, value_at(alloc, 98_000, 0, 294_000_000)?, 686_000_000);
+    same(
+        &rt,
         value_at(alloc, 119_660, 6_188, 383_200_000 + 358_980_000)?,
-        466_796_000
+        466_796_000,
     );
     Ok(())
 }
 
 fn totals_are(rt: &impl Abort, row: &Row, supply: i128, reserve: i128) {
-    assert_eq!(rt; row.supply.as_slice(), [supply].as_slice());
-    assert_eq!(rt; row.reserve.as_slice(), [reserve].as_slice());
+    same(rt, row.supply.as_slice(), [supply].as_slice());
+    same(rt, row.reserve.as_slice(), [reserve].as_slice());
 }
 
 fn row_with_unit(alloc: Global) -> Result<Row, AllocError> {

@@ -2,6 +2,7 @@ ghost use Rattle.std.specs.Prelude.{◌≡◌, ◌≤ℤ◌, neg_ℤ, length, If
 ghost use Rattle.uc_model.specs.Limits.{IsBlock, IsFrom, IsPower, price_limit};
 ghost use Rattle.uc_model.specs.PlainUnits.{bid_of, schedule_of};
 
+use crate::same::{same, same_of};
 use crate::small_cases::{one_price, one_range};
 use flat_answer::{best_bid, best_flat};
 use std::alloc::{AllocError, Global};
@@ -53,15 +54,15 @@ fn bought(alloc: Global, block: Block, price: i64) -> Result<Answered, AllocErro
 }
 
 fn answer_is(rt: &impl Abort, answer: &Answered, power: u32, earned: i64) {
-    assert_eq!(rt; answer.response.power.as_slice(), [power].as_slice());
-    assert_eq!(rt; answer.earned, earned);
+    same(rt, answer.response.power.as_slice(), [power].as_slice());
+    same(rt, answer.earned, earned);
 }
 
 #[test]
 fn renewable_sells_where_it_is_paid(rt: HostRuntime) -> Result<(), Fail> {
     let answer = sold(rt.alloc(), 0, 3_000, 119_660)?;
-    assert_eq!(rt; answer.response.on.as_slice(), [true].as_slice());
-    assert_eq!(rt; answer.response.reserve.as_slice(), [0].as_slice());
+    same(&rt, answer.response.on.as_slice(), [true].as_slice());
+    same(&rt, answer.response.reserve.as_slice(), [0].as_slice());
     answer_is(&rt, &answer, 3_000, 358_980_000);
     Ok(())
 }
@@ -71,12 +72,13 @@ fn renewable_sells_its_least_otherwise(rt: HostRuntime) -> Result<(), Fail> {
     for (price, earned) in [(0, 0), (-5, -50)] {
         assert!(rt; price <= 0 && -5 <= price);
         let answer = sold(rt.alloc(), 10, 20, price)?;
-        assert_eq!(rt;
+        same_of(
+            &rt,
+            &price,
             answer.response.power.as_slice(),
             [10].as_slice(),
-            "at {price}"
         );
-        assert_eq!(rt; answer.earned, earned, "at {price}");
+        same_of(&rt, &price, answer.earned, earned);
     }
     Ok(())
 }

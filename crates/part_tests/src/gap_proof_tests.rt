@@ -2,6 +2,7 @@ ghost use Rattle.std.specs.Prelude.{◌≡◌, ◌∷◌, [], pos, length, IfOk}
 ghost use Rattle.uc_model.specs.PlainCases.{market_of};
 ghost use Rattle.gap_proof.specs.Sums.{IsRadius};
 
+use crate::same::same;
 use crate::small_cases::{one_period, one_row};
 use gap_proof::{Certified, best_range, bound_of};
 use std::alloc::{AllocError, Global};
@@ -61,15 +62,16 @@ fn best_by_radius_alone(alloc: Global) -> Result<(Certified, Certified), AllocEr
 #[test]
 fn a_row_alone(rt: HostRuntime) -> Result<(), Fail> {
     let (ten, none) = best_by_radius_alone(rt.alloc())?;
-    assert_eq!(rt;
+    same(
+        &rt,
         ten,
         Certified {
             first: 1,
             last: 1,
-            bound: 3_000
-        }
+            bound: 3_000,
+        },
     );
-    assert_eq!(rt; none.bound, 2_500);
+    same(&rt, none.bound, 2_500);
     Ok(())
 }
 
@@ -92,13 +94,14 @@ fn best_of_two_alone(alloc: Global) -> Result<Certified, AllocError> {
 #[test]
 fn two_rows_are_better(rt: HostRuntime) -> Result<(), Fail> {
     let best = best_of_two_alone(rt.alloc())?;
-    assert_eq!(rt;
+    same(
+        &rt,
         best,
         Certified {
             first: 1,
             last: 2,
-            bound: 2_500
-        }
+            bound: 2_500,
+        },
     );
     Ok(())
 }
@@ -164,7 +167,7 @@ fn two_bounds_alone(alloc: Global) -> Result<(i128, i128), AllocError> {
 #[test]
 fn weights_count(rt: HostRuntime) -> Result<(), Fail> {
     let (usual, level) = two_bounds_alone(rt.alloc())?;
-    assert_eq!(rt; usual, 2_750);
-    assert_eq!(rt; level, -8);
+    same(&rt, usual, 2_750);
+    same(&rt, level, -8);
     Ok(())
 }

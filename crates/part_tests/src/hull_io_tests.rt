@@ -1,4 +1,5 @@
 // What no clause says: that calls succeed, and what real files and outputs do.
+use crate::same::{same, same_of};
 use hull_io::{
     File, FileShelf, MOST_BYTES, MemoryShelf, MemorySink, ReadFailed, ReadFault, Shelf, Sink,
     StdSink, SureShelf, SureSink, WriteFailed, read_whole, write_whole,
@@ -31,14 +32,15 @@ fn numbered_reads_fail(rt: HostRuntime) -> Result<(), Fail> {
         ("a", u64::MAX, Ok(0)),
         ("a", 2, Ok(3)),
     ] {
-        assert_eq!(rt;
+        same_of(
+            &rt,
+            &(name, offset),
             shelf.read(name, offset, &mut into),
             want,
-            "{name} at {offset}"
         );
     }
-    assert_eq!(rt; into, *b"345");
-    assert_eq!(rt; shelf.read("a", 0, &mut []), Ok(0));
+    same(&rt, into, *b"345");
+    same(&rt, shelf.read("a", 0, &mut []), Ok(0));
     Ok(())
 }
 
@@ -59,9 +61,9 @@ fn numbered_writes_fail(rt: HostRuntime) -> Result<(), Fail> {
         (b"j".as_slice(), Err(WriteFailed)),
         (b"".as_slice(), Ok(0)),
     ] {
-        assert_eq!(rt; sink.write(piece), want, "of {piece:?}");
+        same_of(&rt, &piece, sink.write(piece), want);
     }
-    assert_eq!(rt; sink.bytes(), b"abcdefghi".as_slice());
+    same(&rt, sink.bytes(), b"abcdefghi".as_slice());
     Ok(())
 }
 
@@ -69,14 +71,15 @@ fn numbered_writes_fail(rt: HostRuntime) -> Result<(), Fail> {
 #[test]
 fn short_writes_go_on(rt: HostRuntime) -> Result<(), Fail> {
     let mut short = MemorySink::make(rt.alloc(), 100, 1, &[], &[3])?;
-    assert_eq!(rt;
+    same(
+        &rt,
         write_whole(&mut short, b"hull report 1\n"),
-        Err(WriteFailed)
+        Err(WriteFailed),
     );
-    assert_eq!(rt; short.bytes(), b"hu".as_slice());
-    assert_eq!(rt; write_whole(&mut short, b"ll"), Ok(()));
-    assert_eq!(rt; short.bytes(), b"hull".as_slice());
-    assert_eq!(rt; write_whole(&mut SureSink::make(), b"hull"), Ok(()));
+    same(&rt, short.bytes(), b"hu".as_slice());
+    same(&rt, write_whole(&mut short, b"ll"), Ok(()));
+    same(&rt, short.bytes(), b"hull".as_slice());
+    same(&rt, write_whole(&mut SureSink::make(), b"hull"), Ok(()));
     Ok(())
 }
 
@@ -89,16 +92,16 @@ fn largest_file(rt: HostRuntime) -> Result<(), Fail> {
         file.bytes = vec![in alloc; b' '; MOST_BYTES]?;
     }
     let mut shelf = SureShelf::make(alloc, files.as_slice())?;
-    assert_eq!(rt; read_whole(alloc, &mut shelf, "a")?.len(), MOST_BYTES);
-    assert_eq!(rt; read_whole(alloc, &mut shelf, "b")?.len(), 0);
+    same(&rt, read_whole(alloc, &mut shelf, "a")?.len(), MOST_BYTES);
+    same(&rt, read_whole(alloc, &mut shelf, "b")?.len(), 0);
     for file in files.iter_mut() {
         file.bytes.push(b' ')?;
     }
     let mut shelf = MemoryShelf::make(alloc, files.as_slice(), &[1027])?;
     let big = read_whole(alloc, &mut shelf, "a").map(|_| ());
-    assert_eq!(rt; big, Err(ReadFault::TooBig));
+    same(&rt, big, Err(ReadFault::TooBig));
     let failed = read_whole(alloc, &mut shelf, "a").map(|_| ());
-    assert_eq!(rt; failed, Err(ReadFault::Failed));
+    same(&rt, failed, Err(ReadFault::Failed));
     Ok(())
 }
 
@@ -129,15 +132,15 @@ fn real_file(rt: HostRuntime) -> Result<(), Fail> {
     let mut shelf = FileShelf::new(&rt);
     let whole = read_whole(alloc, &mut shelf, path)?;
     assert!(rt; whole.as_slice() == bytes.as_slice());
-    assert_eq!(rt; read_whole(alloc, &mut shelf, "/dev/null")?.len(), 0);
+    same(&rt, read_whole(alloc, &mut shelf, "/dev/null")?.len(), 0);
     let mut into = [0u8; 2];
-    assert_eq!(rt; shelf.read(path, 252, &mut into), Ok(2));
-    assert_eq!(rt; into, [1, 2]);
+    same(&rt, shelf.read(path, 252, &mut into), Ok(2));
+    same(&rt, into, [1, 2]);
     fs::remove_file(&rt, path)?;
-    assert_eq!(rt; shelf.read(path, 254, &mut into), Ok(2));
-    assert_eq!(rt; into, [3, 4]);
-    assert_eq!(rt; shelf.read(path, 0, &mut into), Err(ReadFailed));
-    assert_eq!(rt; shelf.read(path, 256, &mut into), Err(ReadFailed));
+    same(&rt, shelf.read(path, 254, &mut into), Ok(2));
+    same(&rt, into, [3, 4]);
+    same(&rt, shelf.read(path, 0, &mut into), Err(ReadFailed));
+    same(&rt, shelf.read(path, 256, &mut into), Err(ReadFailed));
     Ok(())
 }
 
@@ -147,16 +150,16 @@ fn real_stream(rt: HostRuntime) -> Result<(), Fail> {
     let scratch = scratch(rt, "real_stream")?;
     let path = scratch.as_str();
     let mut sink = StdSink::new(fs::create(&rt, path)?);
-    assert_eq!(rt; write_whole(&mut sink, b"fault 7 "), Ok(()));
-    assert_eq!(rt; write_whole(&mut sink, b"memory\n"), Ok(()));
+    same(&rt, write_whole(&mut sink, b"fault 7 "), Ok(()));
+    same(&rt, write_whole(&mut sink, b"memory\n"), Ok(()));
     let text = fs::read_to_string(&rt, path)?;
     fs::remove_file(&rt, path)?;
-    assert_eq!(rt; text.as_str(), "fault 7 memory\n");
+    same(&rt, text.as_str(), "fault 7 memory\n");
     // Not every system has it, or lets a program write to it.
     if let Ok(full) = fs::create(&rt, "/dev/full") {
         let mut full = StdSink::new(full);
-        assert_eq!(rt; write_whole(&mut full, b"no room"), Err(WriteFailed));
+        same(&rt, write_whole(&mut full, b"no room"), Err(WriteFailed));
     }
-    assert_eq!(rt; StdSink::new(io::writer(&rt)).write(b"a test\n"), Ok(7));
+    same(&rt, StdSink::new(io::writer(&rt)).write(b"a test\n"), Ok(7));
     Ok(())
 }

@@ -1,3 +1,4 @@
+use crate::same::{same, same_of};
 use hull_words::{Command, PriceWords, TryWords, WordError, read_words};
 use std::alloc::{AllocError, Global};
 use std::test::Fail;
@@ -157,9 +158,9 @@ const FAULTS: &[(&str, u32, u32)] = &[
 #[test]
 fn faults(rt: HostRuntime) -> Result<(), Fail> {
     let alloc = rt.alloc();
-    assert_eq!(rt; fault_of(alloc, &[])?, (1, 0));
+    same(&rt, fault_of(alloc, &[])?, (1, 0));
     for (line, code, place) in FAULTS {
-        assert_eq!(rt; fault_of_line(alloc, line)?, (*code, *place), "{line}");
+        same_of(&rt, &line, fault_of_line(alloc, line)?, (*code, *place));
     }
     Ok(())
 }
@@ -208,7 +209,7 @@ fn commands(rt: HostRuntime) -> Result<(), Fail> {
     let alloc = rt.alloc();
     for (line, want) in COMMANDS {
         let text = text_of_line(alloc, line)??;
-        assert_eq!(rt; text.as_str(), *want);
+        same(&rt, text.as_str(), *want);
     }
     Ok(())
 }

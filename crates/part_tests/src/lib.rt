@@ -24,6 +24,8 @@ mod price_space_tests;
 #[cfg(test)]
 mod report_read_tests;
 #[cfg(test)]
+mod same;
+#[cfg(test)]
 mod small_cases;
 #[cfg(test)]
 mod task_deal_tests;

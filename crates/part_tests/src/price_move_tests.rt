@@ -4,6 +4,7 @@ ghost use Rattle.uc_model.specs.Limits.{IsFrom, IsTotal, IsWorth, price_limit};
 ghost use Rattle.uc_model.specs.PlainCases.{market_of, proposal_of};
 ghost use Rattle.price_move.specs.Sizes.{IsRowBelow, IsRowOver};
 
+use crate::same::same;
 use crate::small_cases::{one_period, one_price, one_row};
 use price_move::{Moved, direction, next_prices};
 use std::alloc::{AllocError, Global};
@@ -40,9 +41,9 @@ fn after_a_usual_row(alloc: Global) -> Result<(Moved, Prices), AllocError> {
 #[test]
 fn prices_follow_a_usual_row(rt: HostRuntime) -> Result<(), Fail> {
     let (moved, into) = after_a_usual_row(rt.alloc())?;
-    assert_eq!(rt; moved, Moved::Made);
-    assert_eq!(rt; into.energy.as_slice(), [119_660].as_slice());
-    assert_eq!(rt; into.reserve.as_slice(), [6_188].as_slice());
+    same(&rt, moved, Moved::Made);
+    same(&rt, into.energy.as_slice(), [119_660].as_slice());
+    same(&rt, into.reserve.as_slice(), [6_188].as_slice());
     Ok(())
 }
 
@@ -55,8 +56,8 @@ fn after_a_settled_row(alloc: Global) -> Result<(Moved, Prices), AllocError> {
 #[test]
 fn no_prices_follow_a_settled_row(rt: HostRuntime) -> Result<(), Fail> {
     let (moved, into) = after_a_settled_row(rt.alloc())?;
-    assert_eq!(rt; moved, Moved::Settled);
-    assert_eq!(rt; into.energy.as_slice(), [7].as_slice());
+    same(&rt, moved, Moved::Settled);
+    same(&rt, into.energy.as_slice(), [7].as_slice());
     Ok(())
 }
 
@@ -72,10 +73,10 @@ fn directions_at(alloc: Global, energy: i64) -> Result<(i64, i64), AllocError>
 #[test]
 fn directions(rt: HostRuntime) -> Result<(), Fail> {
     let (energy, reserve) = directions_at(rt.alloc(), 98_000)?;
-    assert_eq!(rt; energy, 7_000);
-    assert_eq!(rt; reserve, 2_000);
+    same(&rt, energy, 7_000);
+    same(&rt, reserve, 2_000);
     let (energy, _) = directions_at(rt.alloc(), 10_000_000)?;
-    assert_eq!(rt; energy, 0);
+    same(&rt, energy, 0);
     Ok(())
 }
 
@@ -116,7 +117,7 @@ fn after_rows_alike(
 }
 
 fn energy_is(rt: &impl Abort, prices: Prices, energy: i64) {
-    assert_eq!(rt; prices.energy.as_slice(), [energy].as_slice());
+    same(rt, prices.energy.as_slice(), [energy].as_slice());
 }
 
 // The prices that follow so many rows, at a demand of 50 and a gap of 1,000.
@@ -144,6 +145,6 @@ fn moves(rt: HostRuntime) -> Result<(), Fail> {
     energy_is(&rt, after_rows(alloc, 0, 11)?, 10);
     energy_is(&rt, after_rows(alloc, 100, 26)?, -5);
     energy_is(&rt, after_a_lack(alloc)?, -3);
-    assert_eq!(rt; price_near(-10_000_000, 9_999_990 + 20), 10_000_000);
+    same(&rt, price_near(-10_000_000, 9_999_990 + 20), 10_000_000);
     Ok(())
 }

@@ -4,6 +4,7 @@ ghost use Rattle.uc_model.specs.Data.{NamedThermalUnit};
 ghost use Rattle.uc_model.specs.Limits.{IsThermalUnit};
 ghost use Rattle.uc_model.specs.PlainUnits.{named_thermal_of, thermal_of};
 
+use crate::same::same;
 use crate::small_cases::one_period;
 use price_space::{opening_prices, start_prices};
 use std::alloc::{AllocError, Global};
@@ -83,7 +84,7 @@ fn start_of_a_unit(alloc: Global) -> Result<Numbers, AllocError> {
 #[test]
 fn full_load_price_of_a_unit(rt: HostRuntime) -> Result<(), Fail> {
     let prices = start_of_a_unit(rt.alloc())?;
-    assert_eq!(rt; prices.as_slice(), [30].as_slice());
+    same(&rt, prices.as_slice(), [30].as_slice());
     Ok(())
 }
 
@@ -95,7 +96,7 @@ fn start_of_no_thermal_unit(alloc: Global) -> Result<Numbers, AllocError> {
 #[test]
 fn start_price_without_thermal_units(rt: HostRuntime) -> Result<(), Fail> {
     let prices = start_of_no_thermal_unit(rt.alloc())?;
-    assert_eq!(rt; prices.as_slice(), [0].as_slice());
+    same(&rt, prices.as_slice(), [0].as_slice());
     Ok(())
 }
 
@@ -104,10 +105,10 @@ fn opening_proposals(rt: HostRuntime) -> Result<(), Fail> {
     let start = Numbers::filled(rt.alloc(), 1, 30)?;
     let mut prices = Prices::make(rt.alloc(), 1)?;
     opening_prices(&start, 1, &mut prices);
-    assert_eq!(rt; prices.energy.as_slice(), [30].as_slice());
-    assert_eq!(rt; prices.reserve.as_slice(), [0].as_slice());
+    same(&rt, prices.energy.as_slice(), [30].as_slice());
+    same(&rt, prices.reserve.as_slice(), [0].as_slice());
     opening_prices(&start, 2, &mut prices);
-    assert_eq!(rt; prices.energy.as_slice(), [33].as_slice());
+    same(&rt, prices.energy.as_slice(), [33].as_slice());
     Ok(())
 }
 
@@ -121,6 +122,6 @@ fn second_below_0(alloc: Global) -> Result<Prices, AllocError> {
 #[test]
 fn opening_proposals_below_0(rt: HostRuntime) -> Result<(), Fail> {
     let prices = second_below_0(rt.alloc())?;
-    assert_eq!(rt; prices.energy.as_slice(), [-34].as_slice());
+    same(&rt, prices.energy.as_slice(), [-34].as_slice());
     Ok(())
 }

@@ -1,3 +1,4 @@
+use crate::same::{same, same_of};
 use report_read::{ReportError, read_report};
 use std::alloc::{AllocError, Global};
 use std::string::String;
@@ -98,7 +99,7 @@ const CHANGES: &[(&str, &str, u32)] = &[
 #[test]
 fn lines_out_of_form(rt: HostRuntime) -> Result<(), Fail> {
     for (old, new, line) in CHANGES {
-        assert_eq!(rt; line_of_changed(rt.alloc(), old, new)?, *line, "{new}");
+        same_of(&rt, &new, line_of_changed(rt.alloc(), old, new)?, *line);
     }
     Ok(())
 }
@@ -106,16 +107,16 @@ fn lines_out_of_form(rt: HostRuntime) -> Result<(), Fail> {
 #[test]
 fn what_a_report_tells(rt: HostRuntime) -> Result<(), Fail> {
     let report = read_report(rt.alloc(), TWO_UNITS.as_bytes())?;
-    assert_eq!(rt; report.cost, 3500);
-    assert_eq!(rt; report.rows.len(), 1);
-    assert_eq!(rt; report.chosen_value, 2500);
+    same(&rt, report.cost, 3500);
+    same(&rt, report.rows.len(), 1);
+    same(&rt, report.chosen_value, 2500);
     assert_eq!(rt; report.lines.len(), 2);
     let line = report.lines.get(0);
     assert!(rt; line.kind == Kind::Thermal);
-    assert_eq!(rt; line.name.as_str(), "A");
-    assert_eq!(rt; line.earned, 2000);
-    assert_eq!(rt; line.response.power.as_slice(), [100].as_slice());
-    assert_eq!(rt; report.payments, 1000);
-    assert_eq!(rt; report.gap, 1000);
+    same(&rt, line.name.as_str(), "A");
+    same(&rt, line.earned, 2000);
+    same(&rt, line.response.power.as_slice(), [100].as_slice());
+    same(&rt, report.payments, 1000);
+    same(&rt, report.gap, 1000);
     Ok(())
 }

@@ -2,6 +2,7 @@
 ghost use Rattle.std.specs.Prelude.{◌≡◌, ◌≤◌, length, All, IfOk};
 ghost use Rattle.part_tests.specs.declared.task_deal_tests.Keeper.{Keeper};
 
+use crate::same::same;
 use std::alloc::{AllocError, Global};
 use std::sync::atomic::AtomicUsize;
 use std::sync::atomic::Ordering::SeqCst;
@@ -62,9 +63,9 @@ fn one_job_runs_each_number_once(rt: HostRuntime) -> Result<(), AllocError> {
     let mut jobs = keepers(rt.alloc(), 1, 5)?;
     deal_all(&rt, rt.alloc(), 5, &mut jobs)?;
     for job in &jobs {
-        assert_eq!(rt; job.numbers.len(), 5);
+        same(&rt, job.numbers.len(), 5);
         for number in 0..5 {
-            assert_eq!(rt; times(job, number), 1);
+            same(&rt, times(job, number), 1);
         }
     }
     Ok(())
@@ -77,7 +78,7 @@ fn four_jobs_run_each_number_once(rt: HostRuntime) -> Result<(), AllocError> {
     for number in 0..200 {
         let once = jobs.iter().filter(|job| times(job, number) == 1).count();
         let never = jobs.iter().filter(|job| times(job, number) == 0).count();
-        assert_eq!(rt; (once, never), (1, 3));
+        same(&rt, (once, never), (1, 3));
     }
     Ok(())
 }
@@ -168,7 +169,7 @@ fn two_jobs_run_on_two_threads(rt: HostRuntime) -> Result<(), AllocError> {
     let mut jobs = watchers(rt.alloc(), 2, 1, &one, &two)?;
     deal_all(&rt, rt.alloc(), 2, &mut jobs)?;
     for job in &jobs {
-        assert_eq!(rt; job.numbers.len(), 1);
+        same(&rt, job.numbers.len(), 1);
         assert!(rt; !job.in_vain);
     }
     Ok(())

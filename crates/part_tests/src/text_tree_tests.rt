@@ -1,3 +1,4 @@
+use crate::same::same;
 use std::test::Fail;
 use text_tokens::small::SmallNumber;
 use text_tokens::text_of;
@@ -25,21 +26,21 @@ fn an_object_of_a_list_and_an_object(rt: HostRuntime) -> Result<(), Fail> {
     let tree = Tree { bytes, nodes };
     let object = tree.root().object().ok_or("an object")?;
     let members = object.members(rt.alloc())?;
-    assert_eq!(rt; (members.len(), object.len()), (2, 2));
+    same(&rt, (members.len(), object.len()), (2, 2));
     let name = text_of(rt.alloc(), members[0].name)?;
-    assert_eq!(rt; name.as_str(), "a");
+    same(&rt, name.as_str(), "a");
     let list = members[0].value.list().ok_or("a list")?;
     let items = list.items(rt.alloc())?;
-    assert_eq!(rt; (items.len(), list.len()), (3, 3));
-    assert_eq!(rt; items[0].number(), Some(seven.decimal()));
+    same(&rt, (items.len(), list.len()), (3, 3));
+    same(&rt, items[0].number(), Some(seven.decimal()));
     let large = Decimal {
         negative: false,
         digits: 12345678901,
         exponent: 0,
     };
-    assert_eq!(rt; items[1].number(), Some(large));
+    same(&rt, items[1].number(), Some(large));
     assert!(rt; items[2].is_null());
     let inner = members[1].value.object().ok_or("an object")?;
-    assert_eq!(rt; inner.len(), 0);
+    same(&rt, inner.len(), 0);
     Ok(())
 }

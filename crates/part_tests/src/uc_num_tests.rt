@@ -1,5 +1,6 @@
 ghost use Rattle.std.specs.Prelude.{◌≡◌};
 
+use crate::same::same;
 use std::test::Fail;
 use uc_num::{Decimal, NumFault, is_whole, whole};
 
@@ -16,15 +17,19 @@ fn decimal(negative: bool, digits: u128, exponent: i32) -> Decimal
 #[test]
 fn rounds(rt: HostRuntime) -> Result<(), Fail> {
     let kilowatts = 10_000_000;
-    assert_eq!(rt; whole(decimal(false, 5, -4), 3, kilowatts), Ok(1));
-    assert_eq!(rt; whole(decimal(false, 49, -5), 3, kilowatts), Ok(0));
-    assert_eq!(rt; whole(decimal(true, 4, -4), 3, kilowatts), Ok(0));
-    assert_eq!(rt; whole(decimal(true, 5, -4), 3, kilowatts), Ok(0));
-    assert_eq!(rt; whole(decimal(true, 51, -5), 3, kilowatts), Ok(-1));
-    assert_eq!(rt; whole(decimal(false, 1, -13), 3, kilowatts), Ok(0));
+    same(&rt, whole(decimal(false, 5, -4), 3, kilowatts), Ok(1));
+    same(&rt, whole(decimal(false, 49, -5), 3, kilowatts), Ok(0));
+    same(&rt, whole(decimal(true, 4, -4), 3, kilowatts), Ok(0));
+    same(&rt, whole(decimal(true, 5, -4), 3, kilowatts), Ok(0));
+    same(&rt, whole(decimal(true, 51, -5), 3, kilowatts), Ok(-1));
+    same(&rt, whole(decimal(false, 1, -13), 3, kilowatts), Ok(0));
     let large = Err(NumFault::TooLarge { limit: kilowatts });
-    assert_eq!(rt; whole(decimal(false, 100_000_005, -4), 3, kilowatts), large);
-    assert_eq!(rt; whole(decimal(false, 1, 400), 0, kilowatts), large);
+    same(
+        &rt,
+        whole(decimal(false, 100_000_005, -4), 3, kilowatts),
+        large,
+    );
+    same(&rt, whole(decimal(false, 1, 400), 0, kilowatts), large);
     Ok(())
 }
 

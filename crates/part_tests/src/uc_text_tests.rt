@@ -1,3 +1,4 @@
+use crate::same::{same, same_of};
 use std::alloc::{AllocError, Global};
 use std::test::Fail;
 use uc_num::Decimal;
@@ -52,7 +53,7 @@ fn faults(rt: HostRuntime) -> Result<(), Fail> {
         (b"{\"a\":{\"a\":1},\"b\":[{\"a\":2}]}", 0, 0),
     ];
     for (bytes, code, offset) in rows {
-        assert_eq!(rt; answer_of(rt.alloc(), bytes), (code, offset), "{bytes:?}");
+        same_of(&rt, &bytes, answer_of(rt.alloc(), bytes), (code, offset));
     }
     Ok(())
 }
@@ -80,13 +81,9 @@ fn a_file_cut_at_each_length(rt: HostRuntime) -> Result<(), Fail> {
                 offset = open;
             }
         }
-        assert_eq!(rt;
-            answer_of(rt.alloc(), &file[..len]),
-            (10, offset),
-            "cut to {len}"
-        );
+        same_of(&rt, &len, answer_of(rt.alloc(), &file[..len]), (10, offset));
     }
-    assert_eq!(rt; answer_of(rt.alloc(), file), (0, 0));
+    same(&rt, answer_of(rt.alloc(), file), (0, 0));
     Ok(())
 }
 
@@ -110,14 +107,14 @@ fn values(rt: HostRuntime) -> Result<(), Fail> {
         digits: 1250,
         exponent: 1,
     };
-    assert_eq!(rt; items[0].number(), Some(small));
-    assert_eq!(rt; items[1].number(), None);
+    same(&rt, items[0].number(), Some(small));
+    same(&rt, items[1].number(), None);
     let large = Decimal {
         negative: false,
         digits: 12345678901,
         exponent: 0,
     };
-    assert_eq!(rt; items[2].number(), Some(large));
+    same(&rt, items[2].number(), Some(large));
     Ok(())
 }
 
@@ -138,7 +135,7 @@ fn a_name_among_many(rt: HostRuntime) -> Result<(), Fail> {
             let text = names_and(rt.alloc(), count, last)?;
             let found = answer_of(rt.alloc(), text.as_bytes());
             let double = if last.ends_with("0") { 13 } else { 0 };
-            assert_eq!(rt; found.0, double, "{text}");
+            same_of(&rt, &text, found.0, double);
         }
     }
     Ok(())

@@ -7,6 +7,7 @@ ghost use Rattle.uc_model.specs.PlainUnits.{prices_of, schedule_of};
 ghost use Rattle.uc_model.specs.Runs.{Fits};
 ghost use Rattle.uc_model.specs.TaskRoom.{IsTaskFor};
 
+use crate::same::same;
 use board_core::{Board, Claim, Differs, Posted};
 use flat_answer::best_flat;
 use plan_check::check_plan;
@@ -271,18 +272,18 @@ fn claims_and_posts_of_two(rt: HostRuntime) -> Result<(), Fail> {
         by(0, Does::Claims(Claim::Finished)),
     ];
     let (board, held) = played(rt.alloc(), 1, &steps)?;
-    assert_eq!(rt; held, steps.len());
-    assert_eq!(rt; board.history().len(), 4);
+    same(&rt, held, steps.len());
+    same(&rt, board.history().len(), 4);
     let closed = board.close();
     assert!(rt; closed.finished());
     let rows = closed.rows();
-    assert_eq!(rt; rows.len(), 1);
+    same(&rt, rows.len(), 1);
     let Some(row) = rows.first() else {
         return Err(Fail::new("there is no row"));
     };
-    assert_eq!(rt; row.value, 2_500);
-    assert_eq!(rt; row.prices.energy.as_slice(), [30].as_slice());
-    assert_eq!(rt; row.supply.as_slice(), [100].as_slice());
+    same(&rt, row.value, 2_500);
+    same(&rt, row.prices.energy.as_slice(), [30].as_slice());
+    same(&rt, row.supply.as_slice(), [100].as_slice());
     Ok(())
 }
 
@@ -299,7 +300,7 @@ fn halts_of_two_callers(rt: HostRuntime) -> Result<(), Fail> {
         by(0, Does::Claims(Claim::Halted)),
     ];
     let (board, held) = played(rt.alloc(), 2, &steps)?;
-    assert_eq!(rt; held, steps.len());
-    assert_eq!(rt; board.history().len(), 4);
+    same(&rt, held, steps.len());
+    same(&rt, board.history().len(), 4);
     Ok(())
 }

@@ -1,5 +1,6 @@
 //! Case files: what is read, and the first fault of a file.
 
+use crate::same::{same, same_of};
 use std::alloc::Global;
 use std::test::Fail;
 use uc_case::fault::{CaseCode, CaseFault, Field, FieldFault, Kind};
@@ -36,16 +37,16 @@ pub(crate) const SMALLEST: &[u8] =
 #[test]
 fn reads_the_smallest_case(rt: HostRuntime) -> Result<(), Fail> {
     let case = read_case(rt.alloc(), SMALLEST)?;
-    assert_eq!(rt; case.periods, 1);
-    assert_eq!(rt; case.demand.as_slice(), [100_000].as_slice());
-    assert_eq!(rt; case.reserves.as_slice(), [0].as_slice());
-    assert_eq!(rt; case.thermal.len(), 0);
-    assert_eq!(rt; case.bids.len(), 0);
+    same(&rt, case.periods, 1);
+    same(&rt, case.demand.as_slice(), [100_000].as_slice());
+    same(&rt, case.reserves.as_slice(), [0].as_slice());
+    same(&rt, case.thermal.len(), 0);
+    same(&rt, case.bids.len(), 0);
     assert_eq!(rt; case.flat.len(), 1);
     let unit = case.flat.get(0);
-    assert_eq!(rt; unit.name.as_str(), "W");
-    assert_eq!(rt; unit.flat.least.as_slice(), [0].as_slice());
-    assert_eq!(rt; unit.flat.most.as_slice(), [100_000].as_slice());
+    same(&rt, unit.name.as_str(), "W");
+    same(&rt, unit.flat.least.as_slice(), [0].as_slice());
+    same(&rt, unit.flat.most.as_slice(), [100_000].as_slice());
     Ok(())
 }
 
@@ -65,10 +66,11 @@ fn a_cut_file(rt: HostRuntime) -> Result<(), Fail> {
             code: TextCode::NotJson,
             place,
         });
-        assert_eq!(rt;
+        same_of(
+            &rt,
+            &len,
             fault_of(rt.alloc(), &SMALLEST[..len]),
             Some(want),
-            "cut to {len}"
         );
     }
     Ok(())
@@ -201,7 +203,7 @@ fn faults_of_small_files(rt: HostRuntime) -> Result<(), Fail> {
         ),
     ];
     for (bytes, want) in rows {
-        assert_eq!(rt; fault_of(rt.alloc(), bytes), Some(want), "{bytes:?}");
+        same_of(&rt, &bytes, fault_of(rt.alloc(), bytes), Some(want));
     }
     Ok(())
 }
@@ -387,7 +389,12 @@ fn faults_of_two_units(rt: HostRuntime) -> Result<(), Fail> {
     ];
     for (parts, want) in rows {
         let text = two_units(rt.alloc(), parts)?;
-        assert_eq!(rt; fault_of(rt.alloc(), text.as_bytes()), Some(want), "{text}");
+        same_of(
+            &rt,
+            &text,
+            fault_of(rt.alloc(), text.as_bytes()),
+            Some(want),
+        );
     }
     Ok(())
 }
@@ -435,7 +442,7 @@ fn accepts_what_reads_within_the_limits(rt: HostRuntime) -> Result<(), Fail> {
     ];
     for parts in rows {
         let text = two_units(rt.alloc(), parts)?;
-        assert_eq!(rt; fault_of(rt.alloc(), text.as_bytes()), None, "{text}");
+        same_of(&rt, &text, fault_of(rt.alloc(), text.as_bytes()), None);
     }
     Ok(())
 }

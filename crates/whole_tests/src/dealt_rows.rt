@@ -8,6 +8,7 @@ ghost use Rattle.dealt_run.specs.Benches.{HasSchedules};
 ghost use Rattle.dealt_run.specs.Jobs.{AreFor};
 
 use crate::boards::{CASE, PLAN};
+use crate::same::same;
 use case_answers::laws::benches_serve_all;
 use dealt_run::{Answerer, right_rows};
 use plan_check::check_plan;
@@ -67,17 +68,17 @@ fn two_rows<R: Threads + Wait + Sync>(
 fn rows_of_two_units(rt: HostRuntime) -> Result<(), Fail> {
     for count in [1, 4, 32] {
         let rows = two_rows(&rt, rt.alloc(), count)?;
-        assert_eq!(rt; rows.len(), 2);
+        same(&rt, rows.len(), 2);
         if rows.len() != 2 {
             return Err(Fail::new("there aren't two rows"));
         }
         let (first, second) = (rows.get(0), rows.get(1));
-        assert_eq!(rt; (first.value, second.value), (2_500, 1_500));
-        assert_eq!(rt; first.prices.energy.as_slice(), [30].as_slice());
-        assert_eq!(rt; second.prices.energy.as_slice(), [50].as_slice());
-        assert_eq!(rt; first.supply.as_slice(), [100].as_slice());
-        assert_eq!(rt; second.supply.as_slice(), [200].as_slice());
-        assert_eq!(rt; second.reserve.as_slice(), [0].as_slice());
+        same(&rt, (first.value, second.value), (2_500, 1_500));
+        same(&rt, first.prices.energy.as_slice(), [30].as_slice());
+        same(&rt, second.prices.energy.as_slice(), [50].as_slice());
+        same(&rt, first.supply.as_slice(), [100].as_slice());
+        same(&rt, second.supply.as_slice(), [200].as_slice());
+        same(&rt, second.reserve.as_slice(), [0].as_slice());
     }
     Ok(())
 }

@@ -1,4 +1,5 @@
 //! A generated case.
+use crate::same::same;
 use case_make::make_case;
 use std::test::Fail;
 
@@ -8,22 +9,31 @@ use std::test::Fail;
 fn a_generated_case(rt: HostRuntime) -> Result<(), Fail> {
     let (case, plan) = make_case(rt.alloc(), 7)?;
     let named = case.thermal.as_slice().last().expect(&rt, "73 units");
-    assert_eq!(rt; named.name.as_str(), "T73");
+    same(&rt, named.name.as_str(), "T73");
     let unit = &named.unit;
-    assert_eq!(rt;
+    same(
+        &rt,
         (unit.min_power, unit.max_power, unit.ramp_up),
-        (70_140, 334_000, 66_800)
+        (70_140, 334_000, 66_800),
     );
-    assert_eq!(rt; (unit.min_up, unit.min_down, unit.power0), (8, 1, 204_708));
+    same(
+        &rt,
+        (unit.min_up, unit.min_down, unit.power0),
+        (8, 1, 204_708),
+    );
     let last = unit.lags.as_slice().last().expect(&rt, "3 lags");
-    assert_eq!(rt; (last.lag, last.cost), (13, 4_500_000_000));
+    same(&rt, (last.lag, last.cost), (13, 4_500_000_000));
     let last = unit.points.as_slice().last().expect(&rt, "4 points");
-    assert_eq!(rt; (last.at, last.cost), (334_000, 15_857_656_100));
+    same(&rt, (last.at, last.cost), (334_000, 15_857_656_100));
     let demand = case.demand.as_slice();
-    assert_eq!(rt; demand.first().copied(), Some(9_850_236));
-    assert_eq!(rt; demand.get(8).copied(), Some(11_301_721));
-    assert_eq!(rt; case.reserves.as_slice().last().copied(), Some(1_102_344));
+    same(&rt, demand.first().copied(), Some(9_850_236));
+    same(&rt, demand.get(8).copied(), Some(11_301_721));
+    same(
+        &rt,
+        case.reserves.as_slice().last().copied(),
+        Some(1_102_344),
+    );
     let last = plan.responses.as_slice().last().expect(&rt, "154 units");
-    assert_eq!(rt; last.power.as_slice().last().copied(), Some(6_270));
+    same(&rt, last.power.as_slice().last().copied(), Some(6_270));
     Ok(())
 }

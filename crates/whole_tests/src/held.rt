@@ -1,5 +1,6 @@
 //! The case of two units with its commitments held.
 use crate::boards::{CASE, PLAN};
+use crate::same::same;
 use fixed_price::fix_case;
 use plan_check::check_plan;
 use std::test::Fail;
@@ -15,10 +16,10 @@ fn two_units_are_held_on(rt: HostRuntime) -> Result<(), Fail> {
         return Err(Fail::new("the plan isn't feasible"));
     };
     let held = fix_case(rt.alloc(), &case, &plan)?;
-    assert_eq!(rt; held.demand.as_slice(), [150].as_slice());
-    assert_eq!(rt; held.thermal.len(), 2);
+    same(&rt, held.demand.as_slice(), [150].as_slice());
+    same(&rt, held.thermal.len(), 2);
     for (named, name) in held.thermal.as_slice().iter().zip(["A", "B"]) {
-        assert_eq!(rt; named.name.as_str(), name);
+        same(&rt, named.name.as_str(), name);
         assert!(rt; named.unit.window.as_slice() == [Mark::MustOn].as_slice());
     }
     Ok(())

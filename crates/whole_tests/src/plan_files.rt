@@ -1,6 +1,7 @@
 //! Schedule files of a case: what is read, and the first fault of a file.
 
 use crate::case_files::SMALLEST;
+use crate::same::{same, same_of};
 use std::alloc::Global;
 use std::test::Fail;
 use uc_case::fault::Kind;
@@ -50,18 +51,18 @@ fn schedules_of_the_smallest_case(rt: HostRuntime) -> Result<(), Fail> {
         ),
     ];
     for (bytes, want) in rows {
-        assert_eq!(rt; fault_of(rt.alloc(), &case, bytes), Some(want), "{bytes:?}");
+        same_of(&rt, &bytes, fault_of(rt.alloc(), &case, bytes), Some(want));
     }
     let plan = read_plan(
         rt.alloc(),
         &case,
         b"{\"thermal\":{},\"renewable\":{\"W\":[100000]}}",
     )?;
-    assert_eq!(rt; plan.responses.len(), 1);
+    same(&rt, plan.responses.len(), 1);
     let response = plan.responses.get(0);
-    assert_eq!(rt; response.on.as_slice(), [true].as_slice());
-    assert_eq!(rt; response.power.as_slice(), [100_000].as_slice());
-    assert_eq!(rt; response.reserve.as_slice(), [0].as_slice());
+    same(&rt, response.on.as_slice(), [true].as_slice());
+    same(&rt, response.power.as_slice(), [100_000].as_slice());
+    same(&rt, response.reserve.as_slice(), [0].as_slice());
     Ok(())
 }
 
@@ -144,26 +145,23 @@ fn schedules_of_two_units_and_a_bid(rt: HostRuntime) -> Result<(), Fail> {
     ];
     for (a, others, want) in rows {
         let text = schedule(rt.alloc(), a, others)?;
-        assert_eq!(rt;
+        same_of(
+            &rt,
+            &text,
             fault_of(rt.alloc(), &case, text.as_bytes()),
             Some(want),
-            "{text}"
         );
     }
     let text = schedule(rt.alloc(), a, bid)?;
     assert!(rt; text.len() < 1000);
     let plan = read_plan(rt.alloc(), &case, text.as_bytes())?;
-    assert_eq!(rt; plan.responses.len(), 3);
+    same(&rt, plan.responses.len(), 3);
     for (unit, power) in [(0, 50), (1, 100), (2, 50)] {
         assert!(rt; unit < plan.responses.len());
         let response = plan.responses.get(unit);
-        assert_eq!(rt; response.on.as_slice(), [true].as_slice());
-        assert_eq!(rt;
-            response.power.as_slice(),
-            [power].as_slice(),
-            "of unit {unit}"
-        );
-        assert_eq!(rt; response.reserve.as_slice(), [0].as_slice());
+        same(&rt, response.on.as_slice(), [true].as_slice());
+        same_of(&rt, &unit, response.power.as_slice(), [power].as_slice());
+        same(&rt, response.reserve.as_slice(), [0].as_slice());
     }
     Ok(())
 }

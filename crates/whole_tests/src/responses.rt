@@ -2,6 +2,7 @@
 //! representations of convex functions and on both benches.
 ghost use Rattle.std.specs.Prelude.{◌<◌, ◌≤◌};
 
+use crate::same::same;
 use crate::units::{BARRED, FALLING, KINKED, OFF};
 use level_table::Levels;
 use point_list::breaks::Breaks;
@@ -41,14 +42,14 @@ fn figures_of(answer: &Answered) -> Figures<'_> {
 
 // The answer is this one, or there is none.
 fn assert_answer(rt: &impl Abort, answer: &Option<Answered>, want: Option<Figures>) {
-    assert_eq!(rt; answer.is_some(), want.is_some());
+    same(rt, answer.is_some(), want.is_some());
     if let Some(answered) = answer {
         if let Some(want) = want {
             let figures = figures_of(answered);
-            assert_eq!(rt; figures.on, want.on);
-            assert_eq!(rt; figures.power, want.power);
-            assert_eq!(rt; figures.reserve, want.reserve);
-            assert_eq!(rt; figures.earned, want.earned);
+            same(rt, figures.on, want.on);
+            same(rt, figures.power, want.power);
+            same(rt, figures.reserve, want.reserve);
+            same(rt, figures.earned, want.earned);
         }
     }
 }
@@ -114,7 +115,7 @@ fn in_pool(rt: &impl Abort, alloc: Global, row: Row) -> Result<Option<Answered>,
     let mut into = Answered::make(alloc, periods as u32)?;
     let spare = bench.pool.spare();
     let is_there = best_on_bench(&mut bench, &unit, &prices, &mut into);
-    assert_eq!(rt; bench.pool.spare(), spare);
+    same(rt, bench.pool.spare(), spare);
     if is_there {
         return Ok(Some(into));
     }
@@ -146,9 +147,10 @@ fn expect_tried(rt: &impl Abort, alloc: Global, row: Row, want: Figures) -> Resu
     assert_answer(rt, &least, Some(want));
     if let Some(answer) = least {
         assert!(rt; is_feasible(&unit, &answer.response));
-        assert_eq!(rt;
+        same(
+            rt,
             earnings_of(&unit, &prices, &answer.response),
-            i128::from(want.earned)
+            i128::from(want.earned),
         );
     }
     expect(rt, alloc, row, Some(want))

@@ -7,6 +7,7 @@ ghost use Rattle.uc_model.specs.TaskRoom.{IsTaskFor};
 
 use crate::boards::{CASE, Does, PLAN, Sizes, Step, board_of, by, dearer_task, least_answer};
 use crate::case_files::SMALLEST;
+use crate::same::same;
 use board_core::{Board, Claim, Closed, Differs, Posted};
 use board_history::entries::{Call, Entry, Reply};
 use board_share::{Seat, SharedBoard};
@@ -192,14 +193,14 @@ fn claims_and_posts_of_two_seats(rt: HostRuntime) -> Result<(), Fail> {
     ];
     let board = board_of(alloc, CASE, PLAN, TWO)?;
     let (closed, held) = played(&rt, alloc, board, &steps)?;
-    assert_eq!(rt; held, steps.len());
+    same(&rt, held, steps.len());
     let entries = [
         entry(0, Call::Claim, 0, Reply::Given),
         entry(0, Call::Post, 0, Reply::Taken),
         entry(1, Call::Claim, 1, Reply::Given),
         entry(1, Call::Post, 1, Reply::Closing),
     ];
-    assert_eq!(rt; closed.history(), entries.as_slice());
+    same(&rt, closed.history(), entries.as_slice());
     Ok(())
 }
 
@@ -215,7 +216,7 @@ fn not_yet_and_finished(rt: HostRuntime) -> Result<(), Fail> {
     ];
     let board = board_of(alloc, SMALLEST, SMALLEST_PLAN, TWO)?;
     let (closed, held) = played(&rt, alloc, board, &steps)?;
-    assert_eq!(rt; held, steps.len());
+    same(&rt, held, steps.len());
     assert!(rt; closed.finished());
     Ok(())
 }
@@ -234,8 +235,8 @@ fn a_halt_before_the_last_post(rt: HostRuntime) -> Result<(), Fail> {
     ];
     let board = board_of(alloc, SMALLEST, SMALLEST_PLAN, TWO)?;
     let (closed, held) = played(&rt, alloc, board, &steps)?;
-    assert_eq!(rt; held, steps.len());
-    assert_eq!(rt; closed.history().len(), 3);
+    same(&rt, held, steps.len());
+    same(&rt, closed.history().len(), 3);
     Ok(())
 }
 
@@ -262,8 +263,8 @@ fn no_claim_after_a_halt(rt: HostRuntime) -> Result<(), Fail> {
         by(1, Does::Claims(Claim::Halted)),
     ];
     let (closed, held) = played(&rt, alloc, two_proposals(alloc)?, &steps)?;
-    assert_eq!(rt; held, steps.len());
-    assert_eq!(rt; closed.history().len(), 2);
+    same(&rt, held, steps.len());
+    same(&rt, closed.history().len(), 2);
     Ok(())
 }
 
@@ -287,7 +288,7 @@ fn a_task_posted_again(rt: HostRuntime) -> Result<(), Fail> {
         by(1, Does::Posts(Posted::Doubled { by: 0 })),
     ];
     let (_closed, held) = played(&rt, alloc, two_proposals(alloc)?, &steps)?;
-    assert_eq!(rt; held, steps.len());
+    same(&rt, held, steps.len());
     Ok(())
 }
 
@@ -300,6 +301,6 @@ fn a_unit_that_is_not_there(rt: HostRuntime) -> Result<(), Fail> {
         by(1, Does::PostsAs(1, 2, unit)),
     ];
     let (_closed, held) = played(&rt, alloc, two_proposals(alloc)?, &steps)?;
-    assert_eq!(rt; held, steps.len());
+    same(&rt, held, steps.len());
     Ok(())
 }

@@ -3,6 +3,7 @@
 ghost use Rattle.std.specs.Prelude.{◌<◌, length, IfOk};
 ghost use Rattle.whole_tests.specs.Small.{IsNear};
 
+use crate::same::same;
 use crate::steps::{Step, curve_of, make, stepped, walked};
 use level_table::Levels;
 use point_list::breaks::Breaks;
@@ -36,11 +37,11 @@ fn has_values<S: Shape>(rt: &impl Abort, s: &S, home: &S::Home, from: i64, value
     requires from { IsNear from }
     requires few { length values.now < 100 }
 {
-    assert_eq!(rt; s.value_at(home, from - 1), None);
+    same(rt, s.value_at(home, from - 1), None);
     for (k, value) in values.iter().enumerate() {
-        assert_eq!(rt; s.value_at(home, from + k as i64), Some(*value));
+        same(rt, s.value_at(home, from + k as i64), Some(*value));
     }
-    assert_eq!(rt; s.value_at(home, from + values.len() as i64), None);
+    same(rt, s.value_at(home, from + values.len() as i64), None);
 }
 
 /// The worked rows of windows and reserves.
@@ -54,12 +55,12 @@ fn rows<S: Shape>(rt: &impl Abort, home: &mut S::Home) -> Result<(), Fail> {
     ];
     let s = walked(S::point(home, 0, 4)?, home, &bent)?;
     has_values(rt, &s, home, 0, &[4, 1, 0, 2, 5]);
-    assert_eq!(rt; s.least(home), Some((0, 2)));
-    assert_eq!(rt; s.least_in(home, 3, 9), Some((2, 3)));
+    same(rt, s.least(home), Some((0, 2)));
+    same(rt, s.least_in(home, 3, 9), Some((2, 3)));
     let wide = stepped(s, home, window(2, 0, 9))?;
     has_values(rt, &wide, home, 0, &[4, 1, 0, 0, 0, 2, 5]);
     let empty = stepped(wide, home, window(0, 7, 9))?;
-    assert_eq!(rt; empty.least(home), None);
+    same(rt, empty.least(home), None);
     empty.give_back(home);
     let zeros = [window(4, 0, 4), reserve(10, 3, 1)];
     let kinked = walked(S::point(home, 0, 0)?, home, &zeros)?;
@@ -75,7 +76,7 @@ fn rows_on_each_shape(rt: HostRuntime) -> Result<(), Fail> {
     rows::<Breaks>(&rt, &mut heap)?;
     let mut pool = Pool::make(rt.alloc(), 20)?;
     rows::<Pooled>(&rt, &mut pool)?;
-    assert_eq!(rt; pool.spare(), 20);
+    same(&rt, pool.spare(), 20);
     Ok(())
 }
 
@@ -137,7 +138,7 @@ fn few_cells_after_48_steps(rt: HostRuntime) -> Result<(), Fail> {
     let mut pool = Pool::make(rt.alloc(), 529)?;
     let pooled = after_48_steps::<Pooled>(&mut pool, &curve)?;
     pooled.give_back(&mut pool);
-    assert_eq!(rt; pool.spare(), 529);
+    same(&rt, pool.spare(), 529);
     Ok(())
 }
 
@@ -180,11 +181,11 @@ fn agree<A: Shape, B: Shape<Home = A::Home>>(rt: &impl Abort, a: &A, b: &B, home
     requires first { A.is_in home.now a.now }
     requires second { B.is_in home.now b.now }
 {
-    assert_eq!(rt; a.least(home), b.least(home));
+    same(rt, a.least(home), b.least(home));
     for k in 0..600u32 {
         let x = i64::from(k) - 300;
-        assert_eq!(rt; a.value_at(home, x), b.value_at(home, x));
-        assert_eq!(rt; a.least_in(home, x, x + 7), b.least_in(home, x, x + 7));
+        same(rt, a.value_at(home, x), b.value_at(home, x));
+        same(rt, a.least_in(home, x, x + 7), b.least_in(home, x, x + 7));
     }
 }
 
@@ -200,7 +201,7 @@ fn compare(
     for _ in 0..12u32 {
         let step = random_step(random, curve);
         let made = make(&mut breaks, home, step)?;
-        assert_eq!(rt; made, make(&mut levels, home, step)?);
+        same(rt, made, make(&mut levels, home, step)?);
         agree(rt, &breaks, &levels, home);
     }
     Ok(())
@@ -235,7 +236,7 @@ fn two_shapes<S: Shape>(rt: &impl Abort, home: &mut S::Home) {
 fn two_shapes_in_a_pool(rt: HostRuntime) -> Result<(), Fail> {
     let mut pool = Pool::make(rt.alloc(), 20)?;
     two_shapes::<Pooled>(&rt, &mut pool);
-    assert_eq!(rt; pool.spare(), 20);
+    same(&rt, pool.spare(), 20);
     Ok(())
 }
 
@@ -254,18 +255,18 @@ fn is_refused<S: Shape>(home: &mut S::Home) -> bool {
 fn spare_cells(rt: HostRuntime) -> Result<(), Fail> {
     let mut none = Pool::make(rt.alloc(), 0)?;
     assert!(rt; is_refused::<Pooled>(&mut none));
-    assert_eq!(rt; none.spare(), 0);
+    same(&rt, none.spare(), 0);
     let mut eight = Pool::make(rt.alloc(), 8)?;
-    assert_eq!(rt; eight.spare(), 8);
+    same(&rt, eight.spare(), 8);
     let point = Pooled::point(&mut eight, 0, 0).expect(&rt, "a cell");
-    assert_eq!(rt; eight.spare(), 7);
+    same(&rt, eight.spare(), 7);
     point.give_back(&mut eight);
-    assert_eq!(rt; eight.spare(), 8);
+    same(&rt, eight.spare(), 8);
     let mut five = Pool::make(rt.alloc(), 5)?;
     let mut s = Pooled::point(&mut five, 5, 7).expect(&rt, "a cell");
     s.window(&mut five, 4, 4, 2, 8).expect(&rt, "four cells");
     has_values(&rt, &s, &five, 2, &[7, 7, 7, 7, 7, 7, 7]);
     s.give_back(&mut five);
-    assert_eq!(rt; five.spare(), 5);
+    same(&rt, five.spare(), 5);
     Ok(())
 }

@@ -4,6 +4,7 @@ ghost use Rattle.spell_run.specs.Entries.{IsSpellOf, IsSpellStart};
 ghost use Rattle.tiny_units.specs.Small.{small_unit_of};
 ghost use Rattle.uc_model.specs.declared.units.Mark.TheVariants.{Free};
 
+use crate::same::same;
 use crate::units::{KINKED, OFF, TOO_HIGH};
 use cost_curve::curves::curve_of;
 use level_table::Levels;
@@ -62,11 +63,11 @@ fn is_spell(numbers: &SmallUnit, periods: usize, spell: Spell) -> bool
 }
 
 fn assert_answer(rt: &impl Abort, best: Option<i64>, answer: &Answered, want: Option<Figures>) {
-    assert_eq!(rt; best.is_some(), want.is_some());
+    same(rt, best.is_some(), want.is_some());
     if let Some(want) = want {
-        assert_eq!(rt; best, Some(want.cost));
-        assert_eq!(rt; answer.response.power.as_slice(), want.power);
-        assert_eq!(rt; answer.response.reserve.as_slice(), want.reserve);
+        same(rt, best, Some(want.cost));
+        same(rt, answer.response.power.as_slice(), want.power);
+        same(rt, answer.response.reserve.as_slice(), want.reserve);
     }
 }
 
@@ -103,7 +104,7 @@ fn expect_on<S: Shape>(
     let entry = *costs.get(spell.last as usize - 1);
     let mut answer = Answered::make(alloc, periods as u32)?;
     let best = spell_best::<S>(home, &unit, &curve, &prices, &spell, &mut answer)?;
-    assert_eq!(rt; entry, best);
+    same(rt, entry, best);
     assert_answer(rt, best, &answer, want);
     Ok(())
 }
@@ -175,13 +176,13 @@ fn power_makes_room_for_reserve(rt: HostRuntime) -> Result<(), Fail> {
 #[test]
 fn costs_are_a_list(rt: HostRuntime) -> Result<(), Fail> {
     let mut costs = SpellCosts::make(rt.alloc(), 2)?;
-    assert_eq!(rt; costs.as_slice(), [None, None].as_slice());
+    same(&rt, costs.as_slice(), [None, None].as_slice());
     costs.set(1, Some(-7));
-    assert_eq!(rt; costs.as_slice(), [None, Some(-7)].as_slice());
+    same(&rt, costs.as_slice(), [None, Some(-7)].as_slice());
     costs.clear();
-    assert_eq!(rt; costs.len(), 0);
+    same(&rt, costs.len(), 0);
     costs.push(Some(40));
-    assert_eq!(rt; costs.len(), 1);
-    assert_eq!(rt; *costs.get(0), Some(40));
+    same(&rt, costs.len(), 1);
+    same(&rt, *costs.get(0), Some(40));
     Ok(())
 }

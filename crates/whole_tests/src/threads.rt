@@ -6,6 +6,7 @@ ghost use Rattle.board_share.specs.Tells.{KeepsRest};
 ghost use Rattle.uc_model.specs.TaskRoom.{IsTaskFor};
 
 use crate::boards::{Sizes, board_of, least_answer};
+use crate::same::same;
 use board_core::{Board, Claim, Closed};
 use board_history::entries::{Call, Entry};
 use board_share::{Seat, SharedBoard};
@@ -278,7 +279,7 @@ fn four_threads_on_one_board(rt: HostRuntime) -> Result<(), Fail> {
         let closed = worked(&rt, rt.alloc(), round)?;
         assert!(rt; closed.finished());
         let rows = closed.rows();
-        assert_eq!(rt; rows.len(), ROWS.len());
+        same(&rt, rows.len(), ROWS.len());
         assert!(rt; rows.iter().zip(ROWS).all(|(row, want)| is_row(row, want)));
         assert!(rt; replays(rt.alloc(), closed.history())?);
     }

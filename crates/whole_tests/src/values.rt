@@ -2,6 +2,7 @@
 //! hand.
 ghost use Rattle.std.specs.Prelude.{◌≤◌, length};
 
+use crate::same::{same, same_of};
 use std::alloc::{AllocError, Global};
 use std::process::Abort;
 use std::test::Fail;
@@ -42,15 +43,15 @@ fn lists_take_and_give(rt: HostRuntime) -> Result<(), Fail> {
     assert!(rt; list.is_empty());
     list.push(4);
     list.push(5);
-    assert_eq!(rt; list.len(), 2);
-    assert_eq!(rt; *list.get(1), 5);
+    same(&rt, list.len(), 2);
+    same(&rt, *list.get(1), 5);
     list.set(0, 7);
     *list.get_mut(1) = 9;
-    assert_eq!(rt; list.as_slice(), [7, 9].as_slice());
+    same(&rt, list.as_slice(), [7, 9].as_slice());
     list.clear();
     assert!(rt; list.is_empty());
     let filled = Powers::filled(rt.alloc(), 2, 6)?;
-    assert_eq!(rt; filled.as_slice(), [6, 6].as_slice());
+    same(&rt, filled.as_slice(), [6, 6].as_slice());
     Ok(())
 }
 
@@ -59,28 +60,32 @@ fn names_take_and_give(rt: HostRuntime) -> Result<(), Fail> {
     let mut name = Name::make(rt.alloc(), 8)?;
     name.push('G');
     name.push('1');
-    assert_eq!(rt; name.len(), 2);
-    assert_eq!(rt; name.as_str(), "G1");
+    same(&rt, name.len(), 2);
+    same(&rt, name.as_str(), "G1");
     name.clear();
-    assert_eq!(rt; name.len(), 0);
+    same(&rt, name.len(), 0);
     Ok(())
 }
 
 #[test]
 fn answers_begin_off(rt: HostRuntime) -> Result<(), Fail> {
     let answer = Answered::make(rt.alloc(), 2)?;
-    assert_eq!(rt; answer.response.on.as_slice(), [false, false].as_slice());
-    assert_eq!(rt; answer.response.power.as_slice(), [0, 0].as_slice());
-    assert_eq!(rt; answer.response.reserve.as_slice(), [0, 0].as_slice());
-    assert_eq!(rt; answer.earned, 0);
+    same(
+        &rt,
+        answer.response.on.as_slice(),
+        [false, false].as_slice(),
+    );
+    same(&rt, answer.response.power.as_slice(), [0, 0].as_slice());
+    same(&rt, answer.response.reserve.as_slice(), [0, 0].as_slice());
+    same(&rt, answer.earned, 0);
     Ok(())
 }
 
 #[test]
 fn prices_begin_at_zero(rt: HostRuntime) -> Result<(), Fail> {
     let prices = Prices::make(rt.alloc(), 2)?;
-    assert_eq!(rt; prices.energy.as_slice(), [0, 0].as_slice());
-    assert_eq!(rt; prices.reserve.as_slice(), [0, 0].as_slice());
+    same(&rt, prices.energy.as_slice(), [0, 0].as_slice());
+    same(&rt, prices.reserve.as_slice(), [0, 0].as_slice());
     Ok(())
 }
 
@@ -88,8 +93,8 @@ fn prices_begin_at_zero(rt: HostRuntime) -> Result<(), Fail> {
 #[test]
 fn tasks_begin_idle(rt: HostRuntime) -> Result<(), Fail> {
     let task = Task::make(rt.alloc(), 2)?;
-    assert_eq!(rt; task.flat.most.as_slice(), [0, 0].as_slice());
-    assert_eq!(rt; start_cost(&task.thermal, 4), 0);
+    same(&rt, task.flat.most.as_slice(), [0, 0].as_slice());
+    same(&rt, start_cost(&task.thermal, 4), 0);
     Ok(())
 }
 
@@ -97,7 +102,7 @@ fn tasks_begin_idle(rt: HostRuntime) -> Result<(), Fail> {
 fn starts_cost_by_the_lag_reached(rt: HostRuntime) -> Result<(), Fail> {
     let unit = unit(rt.alloc(), &VARIED, &[Mark::Free])?;
     for (down, cost) in [(5, 300), (4, 100), (1, 100)] {
-        assert_eq!(rt; start_cost(&unit, down), cost, "after {down}");
+        same_of(&rt, &down, start_cost(&unit, down), cost);
     }
     Ok(())
 }
@@ -111,7 +116,7 @@ fn caps_take_the_least_limit(rt: HostRuntime) -> Result<(), Fail> {
         (false, true, 4),
         (true, true, 3),
     ] {
-        assert_eq!(rt; cap(&unit, first, last), most);
+        same(&rt, cap(&unit, first, last), most);
     }
     Ok(())
 }
@@ -129,13 +134,14 @@ fn assert_flat(rt: &impl Abort, task: &Task, numbers: &[i64])
     requires { length numbers.now ≤ 100 }
 {
     for place in 0..numbers.len() {
-        assert_eq!(rt;
+        same_of(
+            &rt,
+            &place,
             flat_number(task, place as u32),
             Some(numbers[place]),
-            "at {place}"
         );
     }
-    assert_eq!(rt; flat_number(task, numbers.len() as u32), None);
+    same(rt, flat_number(task, numbers.len() as u32), None);
 }
 
 #[test]
