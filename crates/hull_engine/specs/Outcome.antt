@@ -9,7 +9,8 @@
 -- is that there are bytes that fit, and that they are those on the disk is trusted; but the
 -- function is one for all shelves, and over one that tells its bytes it can do nothing else.
 -- `gained text` is that the sink has got the whole text, `short text` that it has a front of it and
--- its count rose. `(x : T) × P` is read 'there is an x with P', `⊎` 'or', `⊥` 'never'.
+-- its count of failed writes rose, or stood at its last value, where it can't rise. A sink that
+-- tells nothing of what it holds, as standard output, has got any text. `(x : T) × P` is read 'there is an x with P', `⊎` 'or', `⊥` 'never'.
 --
 -- The steps of the commands are in Steps; a case with its schedule is in board_run's Inputs; the
 -- text of a report in report_form's ReportText; the other texts, and what makes them right, in
@@ -153,7 +154,8 @@ abbrev pub IsReadOf : (told : Option (List ℕ)) (rose : Type 0) → Option (Lis
 IsReadOf told rose (Some bytes) = IfSome told (λ all. bytes ≡ all)
 IsReadOf told rose None = rose
 
--- each file that has a name was read
+-- Each file that has a name has such bytes, or such a failure, also one that the run never came to:
+-- where the case is refused, the schedule isn't opened.
 abbrev pub AreReads : (told : List ℕ → Option (List ℕ)) (rose : List ℕ → Type 0) →
     (FileKind → Option (List ℕ)) → Reads → Type 0
 AreReads told rose name_of reads =
@@ -162,7 +164,7 @@ AreReads told rose name_of reads =
 
 -- ---- how a run ends
 
--- its status: 0 and 6, or that of its fault
+-- its status: 0 for a text written whole, 6 for one cut short, or that of its fault
 abbrev pub status_at : End → ℕ
 status_at Done = 0
 status_at Cut = 6
@@ -177,8 +179,8 @@ abbrev pub HasText : Command → Reads → (List ℕ → Type 0) → Type 0
 HasText c reads P =
     (i : PlannedCase) × c.IsDue reads (Ok i) × (text : List ℕ) × c.IsText reads i text × P text
 
--- `gained` says of a text that the sink has it whole, and `short` that the sink has a front of it
--- and its count rose.
+-- `gained` says of a text that the sink has it whole, and `short` that the sink has a front of it,
+-- which may be all of it, and its count rose or stood at its last value.
 --   0: the text of an accepted input was gained
 --   6: it fell short
 --   else: the line of the first refusal was written, as far as the sink took it. A failed read is
