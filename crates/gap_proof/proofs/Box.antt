@@ -1,14 +1,7 @@
 -- The centre stands in its box.
-use Rattle.gap_proof.proofs.Common.{◌≡◌, ℕ, ◌-◌, ◌*◌, ◌<◌, Bool, inl, inr, if◌then◌else◌, ℤ, pos, neg_ℤ, ◌≤ℤ◌, List, length, sym, subst, ◌∙◌, arith, ints, clamps, cases_lt, All, PriceLists, Market, IsFrom, ArePrices, price_limit, Proposal, int_at, price_at, lowest_price, certified_bound, IsAnswered, AreWeights, IsInBox}
+use Rattle.gap_proof.proofs.Common.{◌≡◌, ℕ, ◌-◌, ◌*◌, ◌<◌, Bool, inl, inr, if◌then◌else◌, ℤ, pos, neg_ℤ, ◌≤ℤ◌, List, length, sym, subst, ◌∙◌, arith, ints, clamps, cases_lt, All, PriceLists, Market, IsFrom, ArePrices, price_limit, Proposal, int_at, price_at, lowest_price, certified_bound, IsAnswered, ArePriced, AreWeights, IsInBox}
 use Rattle.gap_proof.proofs.Mean.{bound_above}
 use Rattle.gap_proof.proofs.Subgradients.{lt_true, lt_false}
-
--- prices over the horizon, each within its limits
-pub record ArePriced (m : Market) (π : PriceLists) : Type 0 where
-  pub horizon : length π.energy ≡ m.periods
-  pub reserve_horizon : length π.reserve ≡ m.periods
-  pub energy : All (IsFrom (neg_ℤ price_limit) price_limit) π.energy
-  pub reserve : All (IsFrom (pos 0) price_limit) π.reserve
 
 pub priced_of : (m : Market) (π : PriceLists) → length π.energy ≡ m.periods → ArePrices π → ArePriced m π
 priced_of m π horizon prices = record {

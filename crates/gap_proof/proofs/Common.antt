@@ -16,7 +16,7 @@ pub use Rattle.std.specs.Prelude.{slice_get}
 pub use Rattle.gap_proof.specs.Candidates.{RowRange, range_weights, candidates, prices_of_row, IsFirstLeast, range_bound}
 pub use Rattle.gap_proof.specs.CertifiedBound.{slope_at, height_of, most_over, price_at, lowest_price, weighted, low_end, high_end}
 unfoldable pub use Rattle.gap_proof.specs.CertifiedBound.{certified_bound}
-pub use Rattle.gap_proof.specs.Laws.{IsAnswered, AreWeights, IsInBox, RunBoundsHold, AnsweredRowsAreWithin}
+pub use Rattle.gap_proof.specs.Laws.{IsAnswered, ArePriced, AreWeights, IsInBox, RunBoundsHold, RunPricesAreWithin, AnsweredRowsAreWithin}
 pub use Rattle.gap_proof.specs.Sums.{IsSlopeSum, IsHeightSum, AreSums, IsWeight, IsRowWithin}
 pub use Rattle.price_move.specs.Sizes.{IsRowOver}
 pub use Rattle.uc_model.proofs.IntLaws.{mul-sub, mul-add, mul-mono_of, sum_below-le, sum_below-same, sum_below-add, sum_below-zero, sum_below-sub, total-sum_below, total-mul}

@@ -1,7 +1,7 @@
 -- The rows of a run are answered, and their prices are within the limits.
-use Rattle.gap_proof.proofs.Common.{◌≡◌, ℕ, suc, ◌+◌, ◌-◌, ◌<◌, ◌≤◌, Bool, true, false, cond, Option, ℤ, pos, neg_ℤ, ◌+ℤ◌, ◌-ℤ◌, ◌*ℤ◌, ◌≤ℤ◌, List, [], ◌∷◌, length, take, get_or, refl, sym, ◌∙◌, subst, arith, nat_tests, ints, length-map, length-replicate, length-take, All-map, All-replicate, length-range_with_len, slice_get_within, slice_get-get_or, All, range_with_len, option_map_or, nat_le, PriceLists, Market, IsFrom, price_limit, Proposal, start_price, start_prices, opening_prices_of, stepped_prices, move_of, squared_length, energy_direction, reserve_direction, age, no_prices, next_prices, price_rule, Fits, IsNextRow, int_at, floor_div, clamped, IsDualValue, clamped_from, IsAnswered, IsInBox, RunBoundsHold}
+use Rattle.gap_proof.proofs.Common.{◌≡◌, ℕ, suc, ◌+◌, ◌-◌, ◌<◌, ◌≤◌, Bool, true, false, cond, Option, ℤ, pos, neg_ℤ, ◌+ℤ◌, ◌-ℤ◌, ◌*ℤ◌, ◌≤ℤ◌, List, [], ◌∷◌, length, take, get_or, refl, sym, ◌∙◌, subst, arith, nat_tests, ints, length-map, length-replicate, length-take, All-map, All-replicate, length-range_with_len, slice_get_within, slice_get-get_or, All, range_with_len, option_map_or, nat_le, PriceLists, Market, IsFrom, price_limit, Proposal, start_price, start_prices, opening_prices_of, stepped_prices, move_of, squared_length, energy_direction, reserve_direction, age, no_prices, next_prices, price_rule, Fits, IsNextRow, int_at, floor_div, clamped, IsDualValue, clamped_from, IsAnswered, ArePriced, IsInBox, RunBoundsHold, RunPricesAreWithin}
 use Rattle.gap_proof.proofs.BestLaws.{best_holds}
-use Rattle.gap_proof.proofs.Box.{ArePriced, priced_in_box}
+use Rattle.gap_proof.proofs.Box.{priced_in_box}
 use Rattle.gap_proof.proofs.RowLists.{item_of, row_prices}
 
 -- ---- the prices of the rule
@@ -71,6 +71,12 @@ next_row_answered m cost ahead before r some h = record {
   answers = h.answers;
   totals = h.totals;
 }
+
+pub run_prices_within : RunPricesAreWithin
+run_prices_within m cost budget ahead rows k row some run at =
+    let within = slice_get_within rows k row at in
+    let priced : All (λ (r : Proposal). ArePriced m r.prices) rows = λ j d lt. next_row_priced m cost ahead (take j rows) (get_or rows j d) some (run.right.each j d lt) in
+    item_of (λ (r : Proposal). ArePriced m r.prices) rows k row priced within at
 
 pub run_bounds_hold : RunBoundsHold
 run_bounds_hold m cost budget ahead rows centre row radius range bound some wide run low at best =

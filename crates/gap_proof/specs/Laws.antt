@@ -1,10 +1,10 @@
 -- What a certified bound says of all prices in its box. Each law is the clause of a public
 -- function of its name.
-use Rattle.std.specs.Prelude.{◌≡◌, ℕ, ◌-◌, ◌*◌, ◌<◌, ◌≤◌, ℤ, pos, ◌≤ℤ◌, ◌<ℤ◌, Some, List, length}
-use Rattle.std.specs.Prelude.{slice_get}
+use Rattle.std.specs.Prelude.{◌≡◌, ℕ, ◌-◌, ◌*◌, ◌<◌, ◌≤◌, ℤ, pos, neg_ℤ, ◌≤ℤ◌, ◌<ℤ◌, Some, List}
+use Rattle.std.specs.Prelude.{length, slice_get}
 use Rattle.std.specs.List.{All, AllZip}
 use Rattle.uc_model.specs.Data.{PriceLists, Schedule, Market, units}
-use Rattle.uc_model.specs.Limits.{IsFrom, ArePrices, IsMarket}
+use Rattle.uc_model.specs.Limits.{IsFrom, ArePrices, IsMarket, price_limit}
 use Rattle.uc_model.specs.PriceRule.{Proposal}
 use Rattle.uc_model.specs.Runs.{HasTotals, Fits, IsRun}
 use Rattle.uc_model.specs.Sums.{total}
@@ -21,6 +21,13 @@ pub record IsAnswered (m : Market) (r : Proposal) : Type 0 where
   pub schedules : List Schedule
   pub answers : AllZip (λ u s. Fits u r.prices s) (units m) schedules
   pub totals : HasTotals m schedules r
+
+-- prices over the horizon, each within its limits: none below 0 for reserve
+pub record ArePriced (m : Market) (π : PriceLists) : Type 0 where
+  pub horizon : length π.energy ≡ m.periods
+  pub reserve_horizon : length π.reserve ≡ m.periods
+  pub energy : All (IsFrom (neg_ℤ price_limit) price_limit) π.energy
+  pub reserve : All (IsFrom (pos 0) price_limit) π.reserve
 
 -- one weight per row, none below 0, with a sum above 0
 pub record AreWeights (rows : List Proposal) (weights : List ℤ) : Type 0 where
@@ -84,6 +91,13 @@ RunBoundsHold =
     1 ≤ ahead → pos 0 ≤ℤ radius → IsRun Fits m cost budget ahead rows →
     1 ≤ centre → slice_get rows (centre - 1) ≡ Some row →
     IsFirstLeast m rows centre radius range bound → IsBoundRound m row radius bound
+
+-- the prices of each row of a run are such prices
+abbrev pub RunPricesAreWithin : Type 0
+RunPricesAreWithin =
+    (m : Market) (cost : ℤ) (budget ahead : ℕ) (rows : List Proposal) (k : ℕ) (row : Proposal) →
+    1 ≤ ahead → IsRun Fits m cost budget ahead rows → slice_get rows k ≡ Some row →
+    ArePriced m row.prices
 
 -- answered rows are of the sizes that the calls ask for
 abbrev pub AnsweredRowsAreWithin : Type 0

@@ -1,5 +1,5 @@
 -- What follows from the outcome of a run.
-use Rattle.run_laws.proofs.Common.{◌≡◌, ℕ, ◌*◌, ◌≤◌, ◌⊎◌, inl, inr, Bool, true, false, List, Option, None, Some, Result, Ok, Err, refl, sym, ap, ◌∙◌, subst, arith, IsTrue, IfSome, IsSome, if◌then◌else◌, nat_lt, Market, Schedule, unit_count, IsFeasiblePlan, plan_cost, MOST_BYTES, Asked, CheckAsked, PriceAsked, AuditAsked, price, check, try, bound, fixed, audit, WordFault, status_of, fault_line, ReportPaymentsMakeUpTheGap, CaseFile, ScheduleFile, ReportFile, TopFault, Words, Read, CaseText, CaseField, PlanText, PlanShape, PlanRule, TooBig, Work, Memory, report_fault, End, Done, Cut, Refused, Reads, bytes_of, IsCase, IsCaseFile, IsPlan, IsPlanFile, IsChecked, IsInput, IsWithinWork, IsReportFile, IsAudit, PlannedCase, command_for, case_and_schedule, IsReadOf, AreReads, HasText, Ends, status_at, is_refusal, IsWritten, IsUnread, HasCause, IsQuiet, IsDecided, word_fault, FollowsFromWords, IsPromised, BytesAreThoseRead}
+use Rattle.run_laws.proofs.Common.{◌≡◌, ℕ, ◌*◌, ◌≤◌, ◌⊎◌, inl, inr, Bool, true, false, List, Option, None, Some, Result, Ok, Err, refl, sym, ap, ◌∙◌, subst, arith, ◌-◌, ◌<◌, length, ℤ, pos, ◌≤ℤ◌, All, length-map, get_or-map, IsTrue, IfSome, IsSome, if◌then◌else◌, nat_lt, Market, Schedule, unit_count, IsFeasiblePlan, plan_cost, int_at, NothingIsPaidBack, RunPricesAreWithin, UnitLine, Report, unit_lines, IsRightReport, words_of, WordsHaveSizes, MOST_BYTES, Asked, CheckAsked, PriceAsked, AuditAsked, price, check, try, bound, fixed, audit, WordFault, status_of, fault_line, ReportPaymentsMakeUpTheGap, CaseFile, ScheduleFile, ReportFile, TopFault, Words, Read, CaseText, CaseField, PlanText, PlanShape, PlanRule, TooBig, Work, Memory, report_fault, End, Done, Cut, Refused, Reads, bytes_of, IsCase, IsCaseFile, IsPlan, IsPlanFile, IsChecked, IsInput, IsWithinWork, IsReportFile, IsAudit, PlannedCase, command_for, case_and_schedule, IsReadOf, AreReads, HasText, Ends, status_at, is_refusal, IsWritten, IsUnread, HasCause, IsQuiet, IsDecided, word_fault, FollowsFromWords, IsPromised, BytesAreThoseRead}
 use Rattle.uc_case.specs.Files.{text, value}
 use Rattle.uc_case.specs.CaseFiles.{IsCaseOf}
 use Rattle.uc_plan.specs.PlanFiles.{IsPlanOf}
@@ -412,11 +412,31 @@ price_parts : BytesAreThoseRead → (a : PriceAsked) (reads : Reads) (i : Planne
 price_parts got a reads i (Ok c, input, work) = subst (InputParts reads) (same_input a.proposals c i work) (input_parts got reads c input)
 price_parts got a reads i (Err g, input, e) = absurd cc
 
-module _ (got : BytesAreThoseRead) (gap : ReportPaymentsMakeUpTheGap) (a : PriceAsked) (told : List ℕ → Option (List ℕ)) (rose gained short : List ℕ → Type 0) where
-  promised : (reads : Reads) → AreReads told rose (case_and_schedule a.case_name a.schedule_name) reads → HasText (command_for (Ok (price a))) reads gained → IsPromised a told gained
-  promised reads are (i, due, shown, (r, right, is), printed) =
+-- what each unit of a right report is paid, and what the surplus is worth
+record PaysNoneBack (r : Report) : Type 0 where
+  pub payments : All (λ (l : UnitLine). pos 0 ≤ℤ l.payment) (unit_lines r)
+  pub surplus : pos 0 ≤ℤ r.surplus
+
+pays_none_back : RunPricesAreWithin → NothingIsPaidBack → (m : Market) (plan : List Schedule) (budget ahead : ℕ) (r : Report) → 1 ≤ ahead → IsFeasiblePlan m plan → IsRightReport m plan budget ahead r → PaysNoneBack r
+pays_none_back priced nothing m plan budget ahead r some feasible right =
+    let prices = priced m (plan_cost m plan) budget ahead r.rows (r.chosen - 1) right.row some right.run right.is_chosen in
+    let length = prices.reserve_horizon in
+    let low : (k : ℕ) → k < m.periods → pos 0 ≤ℤ int_at right.row.prices.reserve k = λ k lt. (prices.reserve k (pos 0) (omega (arith, lt, length))).at_least in
+    let paid = nothing m plan right.row.prices _ _ r.surplus r.payments feasible prices.horizon low right.settled in
+    let payment : UnitLine → ℤ = λ l. l.payment in
+    record {
+      payments = λ k l lt.
+          subst (λ (x : ℤ). pos 0 ≤ℤ x) (get_or-map payment (unit_lines r) k l (payment l) lt)
+          (paid.0 k (payment l) (let count = length-map (unit_lines r) payment in omega (arith, lt, count)));
+      surplus = paid.1;
+    }
+
+module _ (words_have_sizes : WordsHaveSizes) (got : BytesAreThoseRead) (gap : ReportPaymentsMakeUpTheGap) (priced : RunPricesAreWithin) (nothing : NothingIsPaidBack) (a : PriceAsked) (told : List ℕ → Option (List ℕ)) (rose gained short : List ℕ → Type 0) where
+  promised : (reads : Reads) → 1 ≤ a.ahead → AreReads told rose (case_and_schedule a.case_name a.schedule_name) reads → HasText (command_for (Ok (price a))) reads gained → IsPromised a told gained
+  promised reads some are (i, due, shown, (r, right, is), printed) =
       let parts = price_parts got a reads i due in
       let made_up = gap i.market i.plan a.proposals a.ahead r parts.feasible right in
+      let paid = pays_none_back priced nothing i.market i.plan a.proposals a.ahead r some parts.feasible right in
       record {
         case_bytes = parts.case_bytes;
         case_told = subst (IsReadOf (told a.case_name) (rose a.case_name)) parts.case_read (are CaseFile);
@@ -431,11 +451,13 @@ module _ (got : BytesAreThoseRead) (gap : ReportPaymentsMakeUpTheGap) (a : Price
         right = right;
         printed = subst gained is printed;
         made_up = rw right.cost_is at made_up;
+        payments_from_0 = paid.payments;
+        surplus_from_0 = paid.surplus;
       }
 
-  pub promised_at_0 : (w : Result Asked WordFault) (n : ℕ) (reads : Reads) (e : End) → AreReads told rose (command_for w).name_of reads → Ends (command_for w) reads gained short e → n ≡ status_at e
-      → w ≡ Ok (price a) → n ≡ 0 → IsPromised a told gained
-  promised_at_0 w n reads Done are ends is same z =
-      promised reads (subst (λ (v : Result Asked WordFault). AreReads told rose (command_for v).name_of reads) same are) (subst (λ (v : Result Asked WordFault). HasText (command_for v) reads gained) same ends)
-  promised_at_0 w n reads Cut are ends is same z = absurd (omega (arith, is, z))
-  promised_at_0 w n reads (Refused f) are ends is same z = absurd (omega (arith, is, z, (status_within f).0))
+  pub promised_at_0 : (words : List (List ℕ)) (n : ℕ) (reads : Reads) (e : End) → AreReads told rose (command_for (words_of words)).name_of reads → Ends (command_for (words_of words)) reads gained short e → n ≡ status_at e
+      → words_of words ≡ Ok (price a) → n ≡ 0 → IsPromised a told gained
+  promised_at_0 words n reads Done are ends is same z =
+      promised reads (words_have_sizes words (price a) same).ahead_in.at_least (subst (λ (v : Result Asked WordFault). AreReads told rose (command_for v).name_of reads) same are) (subst (λ (v : Result Asked WordFault). HasText (command_for v) reads gained) same ends)
+  promised_at_0 words n reads Cut are ends is same z = absurd (omega (arith, is, z))
+  promised_at_0 words n reads (Refused f) are ends is same z = absurd (omega (arith, is, z, (status_within f).0))

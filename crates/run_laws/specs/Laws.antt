@@ -2,9 +2,10 @@
 -- hull_run's clause `outcome` holds: `told` is what the shelf tells, `rose` that the count of a
 -- name rose, `gained` that the sink has a text whole, and `short` that it has a front of it and its
 -- count rose. IsOutcome and the commands are in the Outcome of hull_engine.
+use Rattle.std.specs.List.{All}
 use Rattle.std.specs.Prelude.{◌≡◌, ◌≢◌, ◌⊎◌, ℕ, ◌<◌, ◌≤◌, ◌==◌, ◌||◌, Bool, ◌+ℤ◌, ◌-ℤ◌, List}
 use Rattle.std.specs.Prelude.{Option, None, Some, Result, Ok, Err, IsTrue, IfSome, IsSome, ℤ, ◌-◌}
-use Rattle.std.specs.Prelude.{length, slice_get, unsigned_abs}
+use Rattle.std.specs.Prelude.{pos, ◌≤ℤ◌, length, slice_get, unsigned_abs}
 use Rattle.uc_model.specs.Data.{Market, Schedule}
 use Rattle.uc_model.specs.PriceRule.{Proposal}
 use Rattle.uc_model.specs.Systems.{IsFeasiblePlan, plan_cost}
@@ -23,8 +24,8 @@ use Rattle.hull_report.specs.AuditText.{audit_text}
 use Rattle.hull_report.specs.BoundText.{bound_text}
 use Rattle.hull_report.specs.FaultLines.{status_of, fault_line}
 use Rattle.hull_report.specs.FixedText.{ToldSide, fixed_text}
-use Rattle.report_form.specs.ReportText.{Report, report_text}
-use Rattle.hull_report.specs.RightReport.{IsRightReport}
+use Rattle.report_form.specs.ReportText.{UnitLine, Report, report_text}
+use Rattle.hull_report.specs.RightReport.{IsRightReport, unit_lines}
 use Rattle.hull_report.specs.RightSide.{IsRightSide, IsMadeUp}
 use Rattle.hull_report.specs.declared.fault.FileKind.{FileKind}
 use Rattle.hull_report.specs.declared.fault.FileKind.TheVariants.{ReportFile}
@@ -126,7 +127,8 @@ pub record FollowsFromWords (words : Result Asked WordFault) (gained short : Lis
 -- THE PROMISE of `hull price`, where it answers 0: there are bytes of the case and of the schedule,
 -- those that are told where any are; they are a case and a feasible schedule of it; and what was
 -- printed is the text of a right report, whose payments and surplus make up what the chosen value
--- lacks of the cost.
+-- lacks of the cost. No unit or bid pays for following the schedule, and the surplus is worth
+-- something or nothing.
 pub record IsPromised (a : PriceAsked) (told : List ℕ → Option (List ℕ))
     (gained : List ℕ → Type 0) : Type 0 where
   pub case_bytes : List ℕ
@@ -142,6 +144,8 @@ pub record IsPromised (a : PriceAsked) (told : List ℕ → Option (List ℕ))
   pub right : IsRightReport market plan a.proposals a.ahead report
   pub printed : gained (report_text report)
   pub made_up : report.payments +ℤ report.surplus ≡ plan_cost market plan -ℤ report.value
+  pub payments_from_0 : All (λ (l : UnitLine). pos 0 ≤ℤ l.payment) (unit_lines report)
+  pub surplus_from_0 : pos 0 ≤ℤ report.surplus
 
 -- THE PROMISE of `hull bound`, where it answers 0, over an accepted input: what was printed is the
 -- text of a bound round the chosen row of a right report. No whole prices within the radius of that

@@ -4,7 +4,7 @@ ghost use Rattle.run_laws.specs.Laws.{OneDue, OneText, AcceptedIsFeasible, EachS
 ghost use Rattle.run_laws.specs.Laws.{WhatWasReadDecides, WordsFollow, ReportsAreRight};
 ghost use Rattle.run_laws.specs.Laws.{BoundsHold, BothGapsAreMadeUp, AuditsHold, WorkersAreFree};
 
-use gap_proof::laws::run_bounds_hold;
+use gap_proof::laws::{run_bounds_hold, run_prices_are_within};
 use hull_engine::laws::{bytes_are_those_read, report_bytes_are_its_text, words_have_sizes};
 use hull_io::{Shelf, Sink};
 use hull_report::laws::{
@@ -14,6 +14,7 @@ use hull_report::laws::{
 use report_form::laws::text_determines_the_report;
 use report_read::laws::{one_line_differs, one_line_is_in_fault, one_report_has_a_text};
 use uc_case::laws::one_case;
+use uc_model::laws::nothing_is_paid_back;
 use uc_plan::laws::one_plan;
 
 /// Over what was read, at most one input is accepted or one refusal is due. So
@@ -72,8 +73,11 @@ pub fn words_follow<F: Shelf, S: Sink>()
 pub fn reports_are_right<F: Shelf, S: Sink>()
     ensures { ReportsAreRight F.told F.faults F.last S.held S.faults S.last }
 {
+    words_have_sizes();
     bytes_are_those_read();
     report_payments_make_up_the_gap();
+    run_prices_are_within();
+    nothing_is_paid_back();
 }
 
 /// What `hull bound` promises where it answers 0: no whole prices within the radius of the chosen

@@ -5,7 +5,7 @@ pub use Rattle.std.proofs.Math.Nat.{two-pow-succ, mul-le-mul_left}
 pub use Rattle.std.proofs.lemmas.Bool.{cases_lt, false≢true}
 pub use Rattle.std.proofs.lemmas.Int.{ints, clamps, fits_signed_from_abs, to_z-of_z, to_z_pos}
 pub use Rattle.std.proofs.lemmas.List.{length-reverse, get_or-reverse, get_or_past, reverse-reverse, append-nil, take-append-drop, take_more, drop_more, at_drop_more, length-map, get_or_default}
-pub use Rattle.std.proofs.lemmas.List.Elements.{All-append, All-map}
+pub use Rattle.std.proofs.lemmas.List.Elements.{All-nil, All-cons, All-append, All-map}
 pub use Rattle.std.specs.Int.{int_min, w64, Width}
 pub use Rattle.std.specs.List.{All, find, AllZip, zip, fold, flat_map}
 pub use Rattle.std.specs.Option.{option_map_or, option_map}
