@@ -1,5 +1,5 @@
 -- The tasks that a worker holds, of which one after another is given or answered.
-use Rattle.answer_workers.proofs.Common.{◌≡◌, ℕ, ◌+◌, ◌<◌, List, length, get_or, set, sym, ap, ◌∙◌, subst, arith, length-set, AllWithin, All-set, AllWithin-more_set, with_item, AnyUnit, Thermal, Flat, Bid, PriceLists, Market, Slopes, task_unit, prices_of, schedule_of, IsTaskFor, Task, Answered, Bench, HasSchedule, IsResponse, Suffices, HasParts, HasWorked, IsHeldFor, IsAnswerable, IsAnswered, AreGiven, market_at, MOST_HELD, Held, Worker}
+use Rattle.answer_workers.proofs.Common.{◌≡◌, ℕ, ◌+◌, ◌<◌, List, length, get_or, set, sym, ap, ◌∙◌, subst, arith, length-set, AllWithin, All-set, AllWithin-more_set, with_item, AnyUnit, Thermal, Flat, Bid, PriceLists, Market, Slopes, task_unit, prices_of, schedule_of, IsTaskFor, Task, Answered, Bench, HasSchedule, IsResponse, Suffices, HasParts, HasWorked, IsHeldFor, IsAnswerable, IsAnswered, AreGiven, AreAnswered, market_at, MOST_HELD, Held, Worker}
 use Rattle.answer_workers.proofs.BenchLaws.{all_kept, serves_in}
 use Rattle.answer_workers.proofs.Steady.{same_market}
 
@@ -70,3 +70,9 @@ given_more m w k h y below parts is_y told given =
     let count = parts.count in
     let within : k < length w.held.items = omega (arith, below, count) in
     AllWithin-more_set w.held.items k (record h { task = y }) within (Opens m) given (subst (IsAnswerable m) (sym is_y) told)
+
+-- ---- one of those that were answered
+
+pub answered_at : (old : Worker) (n : ℕ) (hs : List Held) (k : ℕ) (h : Held) → AreAnswered n old → hs ≡ old.held.items → k < n → h ≡ get_or hs k h → IsAnswered h
+answered_at old n hs k h answered same below at =
+    subst IsAnswered (sym (at ∙ ap (λ (xs : List Held). get_or xs k h) same)) (answered.1 k h (omega arith) below)

@@ -1,7 +1,8 @@
 //! The work of one worker.
-ghost use Rattle.std.specs.Prelude.{◌≡◌};
-ghost use Rattle.answer_workers.specs.Workers.{IsWorkerOf, HasWorked, HasEnded, HasParts};
+ghost use Rattle.std.specs.Prelude.{◌≡◌, IfSome};
+ghost use Rattle.answer_workers.specs.Workers.{IsWorkerOf, HasWorked, IsEnd, HasEnded, HasParts};
 ghost use Rattle.answer_workers.specs.Workers.{market_at, AreGiven, AreAnswered};
+ghost use Rattle.answer_workers.specs.declared.worker.Worker.{Worker};
 
 use crate::gate::Gate;
 use crate::pace::Pace;
@@ -34,6 +35,17 @@ fn answer_each<G: Gate>(worker: &mut Worker, given: usize, gate: &G)
     }
 }
 
+// How the work has ended, if the last claim tells so.
+fn ended_by(end: Claim) -> Option<Ended>
+    ensures { IfSome result (λ e. (w : Worker) → IsEnd end w → HasEnded e w) }
+{
+    match end {
+        Claim::Finished => Some(Ended::Finished),
+        Claim::Halted => Some(Ended::Halted),
+        Claim::Given | Claim::NotYet => None,
+    }
+}
+
 // Claims, answers and posts until a claim finds the board finished or halted.
 pub fn work<R: Wait, G: Gate>(
     rt: &R,
@@ -54,10 +66,8 @@ pub fn work<R: Wait, G: Gate>(
     for _ in rt.forever() {
         let outcome = next_visit(rt, board, crew, worker, answered, &mut pace, gate);
         if outcome.given == 0 {
-            match outcome.end {
-                Claim::Finished => return Ended::Finished,
-                Claim::Halted => return Ended::Halted,
-                Claim::Given | Claim::NotYet => {}
+            if let Some(ended) = ended_by(outcome.end) {
+                return ended;
             }
         }
         answer_each(worker, outcome.given, gate);

@@ -44,3 +44,6 @@ returns-clause-worked g c = zip_worked c.args.workers.now c.loop-k.workers c.loo
 
 pub returns-clause-own : goal.returns-clause-own
 returns-clause-own g c = still_all_of c.args.board.now c.args.workers.now c.loop-k.workers c.loop-k.invariant.count c.requires c.loop-k.invariant.worked
+
+pub returns-clause-ended : goal.returns-clause-ended
+returns-clause-ended g c = let past = c.loop-k-test.false in λ i d inside. c.loop-k.invariant.finished i d (omega (arith, past, inside))

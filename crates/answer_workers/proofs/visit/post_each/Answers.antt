@@ -1,7 +1,19 @@
-use Rattle.answer_workers.proofs.Common.{task_unit, prices_of, view_of, HasWorked}
+use Rattle.answer_workers.proofs.Common.{◌≡◌, task_unit, prices_of, view_of, HasWorked}
 use Rattle.board_core.specs.Stored.{answer_of}
-use Rattle.answer_workers.proofs.Lemmas.{post_goes, parts_posted, works_on, still_of}
+use Rattle.answer_workers.proofs.Lemmas.{answered_at, post_goes, parts_posted, works_on, still_of}
 use Rattle.answer_workers.proofs.visit.post_each.Goals as goal
+
+pub post-requires-clause-fit : goal.post-requires-clause-fit
+post-requires-clause-fit g c =
+    let held = c.index-held.result.now in
+    let same : c.loop-k.worker.held.items ≡ c.args.worker.now.held.items = rw c.loop-k.invariant.held in
+    (answered_at c.args.worker.now c.args.answered c.loop-k.worker.held.items c.loop-k.k held c.requires.answered same c.loop-k-test.true c.index-held.ensures).fit
+
+pub post-requires-clause-earned : goal.post-requires-clause-earned
+post-requires-clause-earned g c =
+    let held = c.index-held.result.now in
+    let same : c.loop-k.worker.held.items ≡ c.args.worker.now.held.items = rw c.loop-k.invariant.held in
+    (answered_at c.args.worker.now c.args.answered c.loop-k.worker.held.items c.loop-k.k held c.requires.answered same c.loop-k-test.true c.index-held.ensures).earned
 
 pub loop-k-preserved : goal.loop-k-preserved
 loop-k-preserved g c =

@@ -10,7 +10,7 @@ answer_again-requires-clause-some g c =
     let at = c.index_mut-held.ensures.value in
     let test = c.loop-k-test.true in
     let most = l.invariant.given.0 in
-    some_schedule m h.task (fits_at m l.worker l.k h (omega (arith, test, most)) at l.invariant.parts).task (subst (Opens m) (sym at) (l.invariant.given.1 l.k h (omega arith) test))
+    some_schedule m h.task (fits_at m l.worker l.k h (omega (arith, test, most)) at l.invariant.parts).task (subst (Opens m) (sym at) (l.invariant.given.1 l.k h (omega arith) (omega (arith, test))))
 
 pub answer_again-requires-clause-bench : goal.answer_again-requires-clause-bench
 answer_again-requires-clause-bench g c =
@@ -20,7 +20,7 @@ answer_again-requires-clause-bench g c =
     let at = c.index_mut-held.ensures.value in
     let test = c.loop-k-test.true in
     let most = l.invariant.given.0 in
-    bench_serves m h.task (fits_at m l.worker l.k h (omega (arith, test, most)) at l.invariant.parts).task (subst (Opens m) (sym at) (l.invariant.given.1 l.k h (omega arith) test)) l.worker l.invariant.parts
+    bench_serves m h.task (fits_at m l.worker l.k h (omega (arith, test, most)) at l.invariant.parts).task (subst (Opens m) (sym at) (l.invariant.given.1 l.k h (omega arith) (omega (arith, test)))) l.worker l.invariant.parts
 
 pub loop-k-preserved : goal.loop-k-preserved
 loop-k-preserved g c =
@@ -33,9 +33,15 @@ loop-k-preserved g c =
     let count = l.invariant.parts.count in
     let y : Held = record { task = h.task; answer = c.swap.new.y; proposal = h.task.proposal; unit = h.task.unit } in
     let answered : IsAnswered y = subst (IsResponse (task_unit h.task) (prices_of h.task.prices)) (sym c.swap.ensures.y_after) c.answer_again.ensures.response in
-    let opens : Opens m y = subst (Opens m) (sym at) (l.invariant.given.1 l.k h (omega arith) test) in record {
+    let opens : Opens m y = subst (Opens m) (sym at) (l.invariant.given.1 l.k h (omega arith) (omega (arith, test))) in record {
       seat = l.invariant.seat;
       parts = parts_answered m l.worker l.k h (omega (arith, test, most)) at l.invariant.parts c.answer_again.new.bench c.swap.new.x y c.answer_again.ensures.bench c.swap.ensures.x_after refl answered;
       given = (most, AllWithin-set (Opens m) l.worker.held.items 0 c.args.given l.k y (omega (arith, test, most, count)) opens l.invariant.given.1);
       answered = (omega (arith, test, most), AllWithin-more_set l.worker.held.items l.k y (omega (arith, test, most, count)) IsAnswered l.invariant.answered.1 answered);
     }
+
+pub returns-clause-answered : goal.returns-clause-answered
+returns-clause-answered g c =
+    let l = c.loop-k in
+    let past = c.loop-k-test.false in
+    (l.invariant.given.0, λ i d low below. l.invariant.answered.1 i d low (omega (arith, past, below)))

@@ -5,11 +5,11 @@ use Rattle.answer_workers.proofs.work.work.Goals as goal
 pub loop-init : goal.loop-init
 loop-init g c = (tt, tt, c.requires, rests c.args.worker.now c.requires.parts, (omega arith, λ k d low high. absurd (omega (arith, high))))
 
-pub returns-in-Finished-clause-worked : goal.returns-in-Finished-clause-worked
-returns-in-Finished-clause-worked g c = works_on c.args.worker.now c.loop.worker c.next_visit-outcome.new.worker c.loop.invariant.3 c.next_visit-outcome.ensures.worked
+pub returns-in-Some-ended_by-clause-worked : goal.returns-in-Some-ended_by-clause-worked
+returns-in-Some-ended_by-clause-worked g c = works_on c.args.worker.now c.loop.worker c.next_visit-outcome.new.worker c.loop.invariant.3 c.next_visit-outcome.ensures.worked
 
-pub returns-in-Halted-clause-worked : goal.returns-in-Halted-clause-worked
-returns-in-Halted-clause-worked g c = works_on c.args.worker.now c.loop.worker c.next_visit-outcome.new.worker c.loop.invariant.3 c.next_visit-outcome.ensures.worked
+pub returns-in-Some-ended_by-clause-ended : goal.returns-in-Some-ended_by-clause-ended
+returns-in-Some-ended_by-clause-ended g c = c.in-Some-ended_by.ensures c.next_visit-outcome.new.worker c.next_visit-outcome.ensures.told
 
 pub loop-preserved : goal.loop-preserved
 loop-preserved g c =
