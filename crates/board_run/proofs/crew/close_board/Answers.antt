@@ -2,6 +2,9 @@ use Rattle.board_run.proofs.Common.{◌≡◌, true, sym, subst, Content, IsLega
 use Rattle.board_run.proofs.Lemmas.{all_finished}
 use Rattle.board_run.proofs.crew.close_board.Goals as goal
 
+pub join_all-requires : goal.join_all-requires
+join_all-requires c = c.requires
+
 pub returns-clause-finished : goal.returns-clause-finished
 returns-clause-finished c =
     let same = c.close.ensures.content in

@@ -2,6 +2,12 @@ use Rattle.board_run.proofs.Common.{ℤ, List, subst, sym, market_of, schedules_
 use Rattle.board_run.proofs.Lemmas.{bench_over_given, held_lengths, held_side}
 use Rattle.board_run.proofs.fixed.settled_side.Goals as goal
 
+pub earn_all-requires-clause-some : goal.earn_all-requires-clause-some
+earn_all-requires-clause-some c = (c.args.done.closed.setup.plan, c.requires.feasible.feasible)
+
+pub earn_all-requires-clause-room : goal.earn_all-requires-clause-room
+earn_all-requires-clause-room c = c.requires.count
+
 pub earn_all-requires-clause-bench : goal.earn_all-requires-clause-bench
 earn_all-requires-clause-bench c =
     let b = c.args.done.closed.setup in
