@@ -6,12 +6,14 @@ ghost use Rattle.uc_model.specs.PlainCases.{market_of};
 ghost use Rattle.dealt_run.specs.Benches.{IsBenchOver};
 
 use crate::boards::{CASE, PLAN};
+use crate::texts::{Change, changed};
 use case_answers::laws::benches_serve_all;
 use plan_check::check_plan;
 use report_check::{Audit, check_report};
 use report_read::read_report;
 use slope_list::Slopes;
 use std::alloc::Global;
+use std::process::Abort;
 use std::string::String;
 use std::sync::Wait;
 use std::test::Fail;
@@ -31,25 +33,6 @@ const RIGHT: &str = "hull-report 1\n\
     unit thermal \"B\" earned 0 scheduled 0 payment 0\n\
     on 0\npower 0\nreserve 0\n\
     surplus 0\npayments 1000\ngap 1000\nend\n";
-
-// A part of a text, and what is to stand in its place.
-type Change<'a> = (&'a str, &'a str);
-
-const NONE: Change<'static> = ("end\n", "end\n");
-
-// The text with that change.
-fn changed(alloc: Global, from: &str, (old, new): Change<'_>) -> Result<String, Fail> {
-    let mut text = String::new(alloc);
-    match from.split_once(old) {
-        Some((front, back)) => {
-            text.push_str(front)?;
-            text.push_str(new)?;
-            text.push_str(back)?;
-        }
-        None => return Err(Fail::new("the report has no such part")),
-    }
-    Ok(text)
-}
 
 // A bench for any unit.
 fn bench_for(alloc: Global, case: &Case) -> Result<Bench<Slopes>, Fail>
@@ -115,29 +98,43 @@ fn goes_wrong_at<R: Threads + Wait + Sync>(
     Ok(true)
 }
 
-#[test]
-fn reports_of_two_units(rt: HostRuntime) -> Result<(), Fail> {
-    let rows = [
-        (NONE, NONE, None),
-        // Payments to the wrong unit.
-        (
+// Changes of the right report, and the line at which it then goes wrong.
+const REPORTS: [(&[Change], Option<u32>); 4] = [
+    (&[], None),
+    // Payments to the wrong unit.
+    (
+        &[
             ("payment 1000", "payment 0"),
             ("scheduled 0 payment 0", "scheduled 0 payment 1000"),
-            Some(14),
-        ),
-        // B is on, which is as good and isn't least.
-        (
+        ],
+        Some(14),
+    ),
+    // B is on, which is as good and isn't least.
+    (
+        &[
             ("supplied 100", "supplied 200"),
             ("on 0\npower 0", "on 1\npower 100"),
-            Some(11),
-        ),
-        // Two proposals are called for.
-        (("budget 1", "budget 2"), NONE, Some(7)),
-    ];
-    for (first, second, line) in rows {
-        let once = changed(rt.alloc(), RIGHT, first)?;
-        let text = changed(rt.alloc(), once.as_str(), second)?;
-        assert!(rt; goes_wrong_at(&rt, rt.alloc(), &text, line)?, "{line:?}");
+        ],
+        Some(11),
+    ),
+    // Two proposals are called for.
+    (&[("budget 1", "budget 2")], Some(7)),
+];
+
+// With its changes each report goes wrong there.
+fn go_wrong<R: Threads + Wait + Sync + Abort>(
+    rt: &R,
+    alloc: Global,
+    rows: &[(&[Change], Option<u32>)],
+) -> Result<(), Fail> {
+    for (changes, line) in rows {
+        let text = changed(alloc, RIGHT, changes)?;
+        assert!(rt; goes_wrong_at(rt, alloc, &text, *line)?, "{line:?}");
     }
     Ok(())
+}
+
+#[test]
+fn reports_of_two_units(rt: HostRuntime) -> Result<(), Fail> {
+    go_wrong(&rt, rt.alloc(), &REPORTS)
 }

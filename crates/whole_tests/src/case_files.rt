@@ -1,7 +1,9 @@
 //! Case files: what is read, and the first fault of a file.
 
 use crate::same::{same, same_of};
+use crate::texts::{Change, changed, changed_once};
 use std::alloc::Global;
+use std::process::Abort;
 use std::test::Fail;
 use uc_case::fault::{CaseCode, CaseFault, Field, FieldFault, Kind};
 use uc_case::read_case;
@@ -76,373 +78,405 @@ fn a_cut_file(rt: HostRuntime) -> Result<(), Fail> {
     Ok(())
 }
 
-#[test]
-fn faults_of_small_files(rt: HostRuntime) -> Result<(), Fail> {
-    let rows: [(&[u8], CaseFault); 19] = [
-        (
-            b"[]",
-            fault(CaseCode::WrongKind, Field::Whole, Kind::Case, 0, 0),
-        ),
-        (
-            b"{}",
-            fault(CaseCode::Missing, Field::TimePeriods, Kind::Case, 0, 0),
-        ),
-        (
-            b"{\"time_periods\":1,\"demand\":[0],\"reserves\":[0],\"thermal_generators\":{},\
+/// A file, and its fault: what is wrong, at which key, of which kind of thing, and the numbers of
+/// the unit and the item.
+type Faulty = (&'static [u8], CaseCode, Field, Kind, u32, u32);
+
+const SMALL_FILES: [Faulty; 19] = [
+    (b"[]", CaseCode::WrongKind, Field::Whole, Kind::Case, 0, 0),
+    (
+        b"{}",
+        CaseCode::Missing,
+        Field::TimePeriods,
+        Kind::Case,
+        0,
+        0,
+    ),
+    (
+        b"{\"time_periods\":1,\"demand\":[0],\"reserves\":[0],\"thermal_generators\":{},\
             \"renewable_generators\":{}}",
-            fault(
-                CaseCode::NoUnits,
-                Field::RenewableGenerators,
-                Kind::Case,
-                0,
-                0,
-            ),
-        ),
-        (
-            b"{\"time_periods\":1,\"demand\":[0],\"reserves\":[0],\"thermal_generators\":{},\
+        CaseCode::NoUnits,
+        Field::RenewableGenerators,
+        Kind::Case,
+        0,
+        0,
+    ),
+    (
+        b"{\"time_periods\":1,\"demand\":[0],\"reserves\":[0],\"thermal_generators\":{},\
             \"renewable_generators\":{},\"demand_bids\":null}",
-            fault(CaseCode::WrongKind, Field::DemandBids, Kind::Case, 0, 0),
-        ),
-        (
-            b"{\"time_periods\":1,\"demand\":[0],\"reserves\":[0],\"thermal_generators\":{},\
+        CaseCode::WrongKind,
+        Field::DemandBids,
+        Kind::Case,
+        0,
+        0,
+    ),
+    (
+        b"{\"time_periods\":1,\"demand\":[0],\"reserves\":[0],\"thermal_generators\":{},\
             \"renewable_generators\":{},\"demand_bids\":{\"X\":{}}}",
-            fault(CaseCode::Missing, Field::Blocks, Kind::Bid, 1, 0),
-        ),
-        (
-            b"{\"time_periods\":1,\"demand\":[0],\"reserves\":[0],\"thermal_generators\":{},\
+        CaseCode::Missing,
+        Field::Blocks,
+        Kind::Bid,
+        1,
+        0,
+    ),
+    (
+        b"{\"time_periods\":1,\"demand\":[0],\"reserves\":[0],\"thermal_generators\":{},\
             \"renewable_generators\":{},\"demand_bids\":{\"X\":null}}",
-            fault(CaseCode::WrongKind, Field::DemandBids, Kind::Bid, 1, 0),
-        ),
-        (
-            b"{\"time_periods\":1,\"demand\":[0],\"reserves\":[0],\"thermal_generators\":{},\
+        CaseCode::WrongKind,
+        Field::DemandBids,
+        Kind::Bid,
+        1,
+        0,
+    ),
+    (
+        b"{\"time_periods\":1,\"demand\":[0],\"reserves\":[0],\"thermal_generators\":{},\
             \"renewable_generators\":{},\"demand_bids\":{\"X\":{\"blocks\":{}}}}",
-            fault(CaseCode::WrongKind, Field::Blocks, Kind::Bid, 1, 0),
-        ),
-        (
-            b"{\"time_periods\":1,\"demand\":[0],\"reserves\":[0],\"thermal_generators\":{},\
+        CaseCode::WrongKind,
+        Field::Blocks,
+        Kind::Bid,
+        1,
+        0,
+    ),
+    (
+        b"{\"time_periods\":1,\"demand\":[0],\"reserves\":[0],\"thermal_generators\":{},\
             \"renewable_generators\":{},\"demand_bids\":{\"X\":{\"blocks\":[]}}}",
-            fault(CaseCode::WrongLength, Field::Blocks, Kind::Bid, 1, 0),
-        ),
-        (
-            b"{\"time_periods\":1,\"demand\":[100],\"reserves\":[0],\"thermal_generators\":{},\
+        CaseCode::WrongLength,
+        Field::Blocks,
+        Kind::Bid,
+        1,
+        0,
+    ),
+    (
+        b"{\"time_periods\":1,\"demand\":[100],\"reserves\":[0],\"thermal_generators\":{},\
             \"renewable_generators\":{\"W\":{\"power_output_minimu\":[0],\
             \"power_output_maximum\":[100]}}}",
-            fault(
-                CaseCode::Missing,
-                Field::PowerOutputMinimum,
-                Kind::Renewable,
-                1,
-                0,
-            ),
-        ),
-        (
-            b"{\"time_periods\":1,\"demand\":[100],\"reserves\":[0],\"tehermal_generators\":{},\
+        CaseCode::Missing,
+        Field::PowerOutputMinimum,
+        Kind::Renewable,
+        1,
+        0,
+    ),
+    (
+        b"{\"time_periods\":1,\"demand\":[100],\"reserves\":[0],\"tehermal_generators\":{},\
             \"renwable_generators\":{\"W\":{\"power_output_minimum\":[0],\
             \"power_output_maximum\":[100]}}}",
-            fault(
-                CaseCode::Missing,
-                Field::ThermalGenerators,
-                Kind::Case,
-                0,
-                0,
-            ),
-        ),
-        (
-            b"{\"time_periods\":1,\"demand\":[100],\"reherves\":[0],\"tsermal_generators\":{},\
+        CaseCode::Missing,
+        Field::ThermalGenerators,
+        Kind::Case,
+        0,
+        0,
+    ),
+    (
+        b"{\"time_periods\":1,\"demand\":[100],\"reherves\":[0],\"tsermal_generators\":{},\
             \"renewable_generators\":{\"W\":{\"power_output_minimum\":[0],\
             \"power_output_maximum\":[100]}}}",
-            fault(CaseCode::Missing, Field::Reserves, Kind::Case, 0, 0),
-        ),
-        (
-            b"{\"time_periods\":0,\"demand\":[100],\"reserves\":[0],\"thermal_generators\":{},\
+        CaseCode::Missing,
+        Field::Reserves,
+        Kind::Case,
+        0,
+        0,
+    ),
+    (
+        b"{\"time_periods\":0,\"demand\":[100],\"reserves\":[0],\"thermal_generators\":{},\
             \"renewable_generators\":{\"W\":{\"power_output_minimum\":[0],\
             \"power_output_maximum\":[100]}}}",
-            fault(CaseCode::NoPeriods, Field::TimePeriods, Kind::Case, 0, 0),
-        ),
-        (
-            b"{\"time_periods\":1,\"demand\":[1e400],\"reserves\":[0],\"thermal_generators\":{},\
+        CaseCode::NoPeriods,
+        Field::TimePeriods,
+        Kind::Case,
+        0,
+        0,
+    ),
+    (
+        b"{\"time_periods\":1,\"demand\":[1e400],\"reserves\":[0],\"thermal_generators\":{},\
             \"renewable_generators\":{\"W\":{\"power_output_minimum\":[0],\
             \"power_output_maximum\":[100]}}}",
-            fault(CaseCode::TooLarge, Field::Demand, Kind::Case, 0, 1),
-        ),
-        (
-            b"{\"time_periods\":1e400,\"demand\":[100],\"reserves\":[0],\"thermal_generators\":{},\
+        CaseCode::TooLarge,
+        Field::Demand,
+        Kind::Case,
+        0,
+        1,
+    ),
+    (
+        b"{\"time_periods\":1e400,\"demand\":[100],\"reserves\":[0],\"thermal_generators\":{},\
             \"renewable_generators\":{\"W\":{\"power_output_minimum\":[0],\
             \"power_output_maximum\":[100]}}}",
-            fault(CaseCode::TooLarge, Field::TimePeriods, Kind::Case, 0, 0),
-        ),
-        (
-            b"{\"time_periods\":1e-400,\"demand\":[100],\"reserves\":[0],\"thermal_generators\":{},\
+        CaseCode::TooLarge,
+        Field::TimePeriods,
+        Kind::Case,
+        0,
+        0,
+    ),
+    (
+        b"{\"time_periods\":1e-400,\"demand\":[100],\"reserves\":[0],\"thermal_generators\":{},\
             \"renewable_generators\":{\"W\":{\"power_output_minimum\":[0],\
             \"power_output_maximum\":[100]}}}",
-            fault(CaseCode::NotWhole, Field::TimePeriods, Kind::Case, 0, 0),
-        ),
-        (
-            b"{\"time_periods\":1,\"demand\":[100],\"reserves\":[0],\"thermal_generators\":{},\
+        CaseCode::NotWhole,
+        Field::TimePeriods,
+        Kind::Case,
+        0,
+        0,
+    ),
+    (
+        b"{\"time_periods\":1,\"demand\":[100],\"reserves\":[0],\"thermal_generators\":{},\
             \"renewable_generators\":{\"W\":{\"power_output_minimum\":[0],\
             \"power_output_mInfinityximum\":[100]}}}",
-            fault(
-                CaseCode::Missing,
-                Field::PowerOutputMaximum,
-                Kind::Renewable,
-                1,
-                0,
-            ),
-        ),
+        CaseCode::Missing,
+        Field::PowerOutputMaximum,
+        Kind::Renewable,
+        1,
+        0,
+    ),
+    (
+        b"{\"time_periods\":-169}",
+        CaseCode::TooLarge,
+        Field::TimePeriods,
+        Kind::Case,
+        0,
+        0,
+    ),
+    (
+        b"{\"time_periods\":-5}",
+        CaseCode::Negative,
+        Field::TimePeriods,
+        Kind::Case,
+        0,
+        0,
+    ),
+    (
+        b"{\"time_periods\":1.5}",
+        CaseCode::NotWhole,
+        Field::TimePeriods,
+        Kind::Case,
+        0,
+        0,
+    ),
+];
+
+/// Each file has its fault.
+fn have_faults(rt: &impl Abort, alloc: Global, rows: &[Faulty]) {
+    for (bytes, code, field, kind, unit, item) in rows {
+        let want = fault(*code, *field, *kind, *unit, *item);
+        same_of(rt, bytes, fault_of(alloc, bytes), Some(want));
+    }
+}
+
+#[test]
+fn faults_of_small_files(rt: HostRuntime) {
+    have_faults(&rt, rt.alloc(), &SMALL_FILES);
+}
+
+/// Two units, A from 0 to 100 kW and B at just 100 kW.
+const TWO_UNITS: &str =
+    "{\"time_periods\":1,\"demand\":[0.15],\"reserves\":[0],\"thermal_generators\":{\
+    \"A\":{\"must_run\":0,\"power_output_minimum\":0,\"power_output_maximum\":0.1,\
+    \"ramp_up_limit\":1,\"ramp_down_limit\":1,\"ramp_startup_limit\":1,\"ramp_shutdown_limit\":1,\
+    \"time_up_minimum\":1,\"time_down_minimum\":1,\"power_output_t0\":0,\"unit_on_t0\":0,\
+    \"time_up_t0\":0,\"time_down_t0\":1,\"startup\":[],\
+    \"piecewise_production\":[{\"mw\":0,\"cost\":0},{\"mw\":0.1,\"cost\":0.001}]},\
+    \"B\":{\"must_run\":0,\"power_output_minimum\":0.1,\"power_output_maximum\":0.1,\
+    \"ramp_up_limit\":1,\"ramp_down_limit\":1,\"ramp_startup_limit\":1,\"ramp_shutdown_limit\":1,\
+    \"time_up_minimum\":1,\"time_down_minimum\":1,\"power_output_t0\":0,\"unit_on_t0\":0,\
+    \"time_up_t0\":0,\"time_down_t0\":1,\"startup\":[],\
+    \"piecewise_production\":[{\"mw\":0.1,\"cost\":0.003}]}},\
+    \"renewable_generators\":{}}";
+
+/// A change of the two units, at A where both have the part, and the fault as above.
+type FaultyUnits = (Change, CaseCode, Field, Kind, u32, u32);
+
+const FAULTY_UNITS: [FaultyUnits; 9] = [
+    (
+        ("power_output_minimum\":0", "power_output_minimum\":0.2"),
+        CaseCode::RangeOrder,
+        Field::PowerOutputMinimum,
+        Kind::Thermal,
+        1,
+        0,
+    ),
+    (
+        ("{\"mw\":0.1,", "{\"mw\":0.09,"),
+        CaseCode::CurveEnds,
+        Field::PiecewiseProduction,
+        Kind::Thermal,
+        1,
+        0,
+    ),
+    (
+        ("time_up_minimum\":1", "time_up_minimum\":1.5"),
+        CaseCode::NotWhole,
+        Field::TimeUpMinimum,
+        Kind::Thermal,
+        1,
+        0,
+    ),
+    (
+        ("time_up_minimum\":1", "time_up_minimum\":1e-400"),
+        CaseCode::NotWhole,
+        Field::TimeUpMinimum,
+        Kind::Thermal,
+        1,
+        0,
+    ),
+    (
+        ("time_up_minimum\":1", "time_up_minimum\":1e400"),
+        CaseCode::TooLarge,
+        Field::TimeUpMinimum,
+        Kind::Thermal,
+        1,
+        0,
+    ),
+    (
+        ("unit_on_t0\":0", "unit_on_t0\":2"),
+        CaseCode::NotFlag,
+        Field::UnitOnT0,
+        Kind::Thermal,
+        1,
+        0,
+    ),
+    (
+        ("unit_on_t0\":0", "unit_on_t0\":true"),
+        CaseCode::WrongKind,
+        Field::UnitOnT0,
+        Kind::Thermal,
+        1,
+        0,
+    ),
+    (
         (
-            b"{\"time_periods\":-169}",
-            fault(CaseCode::TooLarge, Field::TimePeriods, Kind::Case, 0, 0),
+            "startup\":[]",
+            "startup\":[{\"lag\":3,\"cost\":1},{\"lag\":2,\"cost\":1}]",
         ),
+        CaseCode::LagOrder,
+        Field::Startup,
+        Kind::Thermal,
+        1,
+        2,
+    ),
+    (
+        ("\"cost\":0.001", "\"cost\":10000000.000001"),
+        CaseCode::TooLarge,
+        Field::PiecewiseProduction,
+        Kind::Thermal,
+        1,
+        2,
+    ),
+];
+
+const FAULTY_OTHERS: [FaultyUnits; 5] = [
+    (
+        ("0.003}]", "0.003}],\"commitment\":[1,1]"),
+        CaseCode::WindowShape,
+        Field::Commitment,
+        Kind::Thermal,
+        2,
+        0,
+    ),
+    (
+        ("0.003}]", "0.003}],\"commitment\":[2]"),
+        CaseCode::WindowShape,
+        Field::Commitment,
+        Kind::Thermal,
+        2,
+        1,
+    ),
+    (
+        ("0.003}]", "0.003}],\"commitment\":null"),
+        CaseCode::WindowShape,
+        Field::Commitment,
+        Kind::Thermal,
+        2,
+        0,
+    ),
+    (
         (
-            b"{\"time_periods\":-5}",
-            fault(CaseCode::Negative, Field::TimePeriods, Kind::Case, 0, 0),
+            "\"renewable_generators\":{}",
+            "\"renewable_generators\":{},\
+            \"demand_bids\":{\"X\":{\"blocks\":[[{\"mw\":0.05,\"price\":0.04},\
+            {\"mw\":0.05,\"price\":0.041}]]}}",
         ),
+        CaseCode::BlockOrder,
+        Field::Blocks,
+        Kind::Bid,
+        1,
+        1,
+    ),
+    (
         (
-            b"{\"time_periods\":1.5}",
-            fault(CaseCode::NotWhole, Field::TimePeriods, Kind::Case, 0, 0),
+            "\"renewable_generators\":{}",
+            "\"renewable_generators\":{},\
+            \"demand_bids\":{\"X\":{\"blocks\":[[{\"mw\":600000,\"price\":2},\
+            {\"mw\":600000,\"price\":1}]]}}",
         ),
-    ];
-    for (bytes, want) in rows {
-        same_of(&rt, &bytes, fault_of(rt.alloc(), bytes), Some(want));
+        CaseCode::TooLarge,
+        Field::Blocks,
+        Kind::Bid,
+        1,
+        1,
+    ),
+];
+
+/// With each change the two units have its fault.
+fn make_faults(rt: &impl Abort, alloc: Global, rows: &[FaultyUnits]) -> Result<(), Fail> {
+    for (change, code, field, kind, unit, item) in rows {
+        let text = changed_once(alloc, TWO_UNITS, change)?;
+        let want = fault(*code, *field, *kind, *unit, *item);
+        same_of(rt, &text, fault_of(alloc, text.as_bytes()), Some(want));
     }
     Ok(())
 }
 
-const POINTS: &str = "[{\"mw\":0,\"cost\":0},{\"mw\":0.1,\"cost\":0.001}]";
-
-/// Two units A and B, with some values of A, further keys of B, and further keys of the case.
-fn two_units(alloc: Global, parts: [&str; 7]) -> Result<String, Fail> {
-    let [least, time_up, on, startup, points, keys, tail] = parts;
-    let limits = "\"ramp_up_limit\":1,\"ramp_down_limit\":1,\"ramp_startup_limit\":1,\
-        \"ramp_shutdown_limit\":1,\"time_down_minimum\":1,\"power_output_t0\":0,\"time_up_t0\":0,\
-        \"time_down_t0\":1,\"must_run\":0,\"power_output_maximum\":0.1";
-    let a = format!(in alloc;
-        "\"power_output_minimum\":{least},\"time_up_minimum\":{time_up},\"unit_on_t0\":{on},\
-        \"startup\":{startup},\"piecewise_production\":{points},{limits}"
-    )?;
-    let b = format!(in alloc;
-        "\"power_output_minimum\":0.1,\"time_up_minimum\":1,\"unit_on_t0\":0,\"startup\":[],\
-        \"piecewise_production\":[{{\"mw\":0.1,\"cost\":0.003}}],{limits}{keys}"
-    )?;
-    Ok(format!(in alloc;
-        "{{\"time_periods\":1,\"demand\":[0.15],\"reserves\":[0],\
-        \"thermal_generators\":{{\"A\":{{{a}}},\"B\":{{{b}}}}},\
-        \"renewable_generators\":{{}}{tail}}}"
-    )?)
+#[test]
+fn faults_of_two_units(rt: HostRuntime) -> Result<(), Fail> {
+    make_faults(&rt, rt.alloc(), &FAULTY_UNITS)
 }
 
 #[test]
-fn faults_of_two_units(rt: HostRuntime) -> Result<(), Fail> {
-    let rows: [([&str; 7], CaseFault); 14] = [
+fn faults_of_windows_and_bids(rt: HostRuntime) -> Result<(), Fail> {
+    make_faults(&rt, rt.alloc(), &FAULTY_OTHERS)
+}
+
+/// Changes with which the two units are read.
+const RIGHT_UNITS: [&[Change]; 5] = [
+    &[
+        ("power_output_minimum\":0", "power_output_minimum\":-0.0004"),
+        ("time_up_minimum\":1", "time_up_minimum\":1.0"),
+        ("0.003}]", "0.003}],\"commitment\":[1.0]"),
+    ],
+    &[
+        ("time_up_minimum\":1", "time_up_minimum\":0"),
+        ("0.003}]", "0.003}],\"commitment\":[10e-1]"),
+    ],
+    &[
+        ("0.003}]", "0.003}],\"commitment\":[-0]"),
         (
-            ["0.2", "1", "0", "[]", POINTS, "", ""],
-            fault(
-                CaseCode::RangeOrder,
-                Field::PowerOutputMinimum,
-                Kind::Thermal,
-                1,
-                0,
-            ),
+            "\"renewable_generators\":{}",
+            "\"renewable_generators\":{},\
+            \"demand_bids\":{}",
         ),
+    ],
+    &[
         (
-            [
-                "0",
-                "1",
-                "0",
-                "[]",
-                "[{\"mw\":0,\"cost\":0},{\"mw\":0.09,\"cost\":0.001}]",
-                "",
-                "",
-            ],
-            fault(
-                CaseCode::CurveEnds,
-                Field::PiecewiseProduction,
-                Kind::Thermal,
-                1,
-                0,
-            ),
+            "startup\":[]",
+            "startup\":[{\"lag\":2,\"cost\":1},{\"lag\":2,\"cost\":1}]",
         ),
-        (
-            ["0", "1.5", "0", "[]", POINTS, "", ""],
-            fault(
-                CaseCode::NotWhole,
-                Field::TimeUpMinimum,
-                Kind::Thermal,
-                1,
-                0,
-            ),
-        ),
-        (
-            ["0", "1e-400", "0", "[]", POINTS, "", ""],
-            fault(
-                CaseCode::NotWhole,
-                Field::TimeUpMinimum,
-                Kind::Thermal,
-                1,
-                0,
-            ),
-        ),
-        (
-            ["0", "1e400", "0", "[]", POINTS, "", ""],
-            fault(
-                CaseCode::TooLarge,
-                Field::TimeUpMinimum,
-                Kind::Thermal,
-                1,
-                0,
-            ),
-        ),
-        (
-            ["0", "1", "2", "[]", POINTS, "", ""],
-            fault(CaseCode::NotFlag, Field::UnitOnT0, Kind::Thermal, 1, 0),
-        ),
-        (
-            ["0", "1", "true", "[]", POINTS, "", ""],
-            fault(CaseCode::WrongKind, Field::UnitOnT0, Kind::Thermal, 1, 0),
-        ),
-        (
-            [
-                "0",
-                "1",
-                "0",
-                "[{\"lag\":3,\"cost\":1},{\"lag\":2,\"cost\":1}]",
-                POINTS,
-                "",
-                "",
-            ],
-            fault(CaseCode::LagOrder, Field::Startup, Kind::Thermal, 1, 2),
-        ),
-        (
-            [
-                "0",
-                "1",
-                "0",
-                "[]",
-                "[{\"mw\":0,\"cost\":0},{\"mw\":0.1,\"cost\":10000000.000001}]",
-                "",
-                "",
-            ],
-            fault(
-                CaseCode::TooLarge,
-                Field::PiecewiseProduction,
-                Kind::Thermal,
-                1,
-                2,
-            ),
-        ),
-        (
-            ["0", "1", "0", "[]", POINTS, ",\"commitment\":[1,1]", ""],
-            fault(
-                CaseCode::WindowShape,
-                Field::Commitment,
-                Kind::Thermal,
-                2,
-                0,
-            ),
-        ),
-        (
-            ["0", "1", "0", "[]", POINTS, ",\"commitment\":[2]", ""],
-            fault(
-                CaseCode::WindowShape,
-                Field::Commitment,
-                Kind::Thermal,
-                2,
-                1,
-            ),
-        ),
-        (
-            ["0", "1", "0", "[]", POINTS, ",\"commitment\":null", ""],
-            fault(
-                CaseCode::WindowShape,
-                Field::Commitment,
-                Kind::Thermal,
-                2,
-                0,
-            ),
-        ),
-        (
-            [
-                "0",
-                "1",
-                "0",
-                "[]",
-                POINTS,
-                "",
-                ",\"demand_bids\":{\"X\":{\"blocks\":[[{\"mw\":0.05,\"price\":0.04},\
-                {\"mw\":0.05,\"price\":0.041}]]}}",
-            ],
-            fault(CaseCode::BlockOrder, Field::Blocks, Kind::Bid, 1, 1),
-        ),
-        (
-            [
-                "0",
-                "1",
-                "0",
-                "[]",
-                POINTS,
-                "",
-                ",\"demand_bids\":{\"X\":{\"blocks\":[[{\"mw\":600000,\"price\":2},\
-                {\"mw\":600000,\"price\":1}]]}}",
-            ],
-            fault(CaseCode::TooLarge, Field::Blocks, Kind::Bid, 1, 1),
-        ),
-    ];
-    for (parts, want) in rows {
-        let text = two_units(rt.alloc(), parts)?;
-        same_of(
-            &rt,
-            &text,
-            fault_of(rt.alloc(), text.as_bytes()),
-            Some(want),
-        );
+        ("0.003}]", "0.003}],\"commitment\":[null]"),
+    ],
+    &[(
+        "\"renewable_generators\":{}",
+        "\"renewable_generators\":{},\
+            \"demand_bids\":{\"X\":{\"blocks\":[[{\"mw\":0.05,\"price\":0.04}]]}}",
+    )],
+];
+
+/// With each of the changes the two units have no fault.
+fn make_none(rt: &impl Abort, alloc: Global, rows: &[&[Change]]) -> Result<(), Fail> {
+    for changes in rows {
+        let text = changed(alloc, TWO_UNITS, changes)?;
+        same_of(rt, &text, fault_of(alloc, text.as_bytes()), None);
     }
     Ok(())
 }
 
 #[test]
 fn accepts_what_reads_within_the_limits(rt: HostRuntime) -> Result<(), Fail> {
-    let rows: [[&str; 7]; 5] = [
-        [
-            "-0.0004",
-            "1.0",
-            "0",
-            "[]",
-            POINTS,
-            ",\"commitment\":[1.0]",
-            "",
-        ],
-        ["0", "0", "0", "[]", POINTS, ",\"commitment\":[10e-1]", ""],
-        [
-            "0",
-            "1",
-            "0",
-            "[]",
-            POINTS,
-            ",\"commitment\":[-0]",
-            ",\"demand_bids\":{}",
-        ],
-        [
-            "0",
-            "1",
-            "0",
-            "[{\"lag\":2,\"cost\":1},{\"lag\":2,\"cost\":1}]",
-            POINTS,
-            ",\"commitment\":[null]",
-            "",
-        ],
-        [
-            "0",
-            "1",
-            "0",
-            "[]",
-            POINTS,
-            "",
-            ",\"demand_bids\":{\"X\":{\"blocks\":[[{\"mw\":0.05,\"price\":0.04}]]}}",
-        ],
-    ];
-    for parts in rows {
-        let text = two_units(rt.alloc(), parts)?;
-        same_of(&rt, &text, fault_of(rt.alloc(), text.as_bytes()), None);
-    }
-    Ok(())
+    make_none(&rt, rt.alloc(), &RIGHT_UNITS)
 }

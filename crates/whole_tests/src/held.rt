@@ -3,19 +3,25 @@ use crate::boards::{CASE, PLAN};
 use crate::same::same;
 use fixed_price::fix_case;
 use plan_check::check_plan;
+use std::alloc::Global;
 use std::test::Fail;
 use uc_case::read_case;
+use uc_model::cases::Case;
 use uc_model::units::Mark;
 use uc_plan::read_plan;
 
-#[test]
-fn two_units_are_held_on(rt: HostRuntime) -> Result<(), Fail> {
-    let case = read_case(rt.alloc(), CASE)?;
-    let plan = read_plan(rt.alloc(), &case, PLAN)?;
+fn held_case(alloc: Global) -> Result<Case, Fail> {
+    let case = read_case(alloc, CASE)?;
+    let plan = read_plan(alloc, &case, PLAN)?;
     let Ok(_cost) = check_plan(&case, &plan) else {
         return Err(Fail::new("the plan isn't feasible"));
     };
-    let held = fix_case(rt.alloc(), &case, &plan)?;
+    Ok(fix_case(alloc, &case, &plan)?)
+}
+
+#[test]
+fn two_units_are_held_on(rt: HostRuntime) -> Result<(), Fail> {
+    let held = held_case(rt.alloc())?;
     same(&rt, held.demand.as_slice(), [150].as_slice());
     same(&rt, held.thermal.len(), 2);
     for (named, name) in held.thermal.as_slice().iter().zip(["A", "B"]) {
