@@ -12,10 +12,11 @@ use board_core::{Board, Claim, Differs, Posted};
 use flat_answer::best_flat;
 use plan_check::check_plan;
 use std::alloc::{AllocError, Global};
+use std::process::Abort;
 use std::test::Fail;
 use tiny_units::trying::least_by_trying;
 use uc_case::read_case;
-use uc_model::cases::Task;
+use uc_model::cases::{Row, Task};
 use uc_model::units::{Answered, UnitKind};
 use uc_plan::read_plan;
 
@@ -160,15 +161,27 @@ pub(crate) enum Does {
     Halts,
 }
 
-#[derive(Clone, Copy)]
-pub(crate) struct Step {
-    pub caller: u32,
-    pub does: Does,
-}
+// A caller, and what it does.
+pub(crate) type Step = (u32, Does);
 
-pub(crate) const fn by(caller: u32, does: Does) -> Step {
-    Step { caller, does }
-}
+// How a post of the second task of the first proposal is refused.
+pub(crate) const OTHER_HOLDER: Posted = Posted::Stranger(Differs::Holder {
+    caller: 0,
+    holder: Some(1),
+});
+
+pub(crate) const OTHER_PROPOSAL: Posted = Posted::Stranger(Differs::Proposal {
+    task: 0,
+    opened: 1,
+});
+
+pub(crate) const OTHER_UNIT: Posted = Posted::Stranger(Differs::Unit { task: 2, units: 2 });
+
+pub(crate) const OTHER_CONTENT: Posted = Posted::Stranger(Differs::Content {
+    place: 1,
+    board: 30,
+    task: 31,
+});
 
 // Posts as post_least does, with other numbers of the task, which then has its own again.
 fn post_as(
@@ -199,11 +212,11 @@ fn holds(alloc: Global, board: &mut Board, task: &mut Task, step: Step) -> Resul
     ensures setup { board.new.setup ≡ board.old.setup }
     ensures task { IsTaskFor board.old.setup.market.periods task.new }
 {
-    let caller = step.caller;
+    let (caller, does) = step;
     if board.callers() <= caller {
         return Err(Fail::new("no such caller"));
     }
-    match step.does {
+    match does {
         Does::Claims(want) => Ok(board.claim(caller, task) == want),
         Does::Posts(want) => Ok(post_least(alloc, board, caller, task)? == want),
         Does::PostsAs(proposal, unit, want) => {
@@ -234,45 +247,42 @@ fn play(alloc: Global, board: &mut Board, task: &mut Task, steps: &[Step]) -> Re
     Ok(held)
 }
 
-// A board on which the steps were taken, and how many of them were answered as they say.
-fn played(alloc: Global, budget: u32, steps: &[Step]) -> Result<(Board, usize), Fail>
+// A board on which the steps were taken, each of them answered as it says.
+fn played(rt: &impl Abort, alloc: Global, budget: u32, steps: &[Step]) -> Result<Board, Fail>
     requires some { 1 ≤ budget }
     requires few { budget ≤ 10 }
 {
     let mut board = two_units(alloc, budget)?;
     let mut task = Task::make(alloc, 1)?;
     let held = play(alloc, &mut board, &mut task, steps)?;
-    Ok((board, held))
+    same(rt, held, steps.len());
+    Ok(board)
 }
+
+// The row has one period with these numbers.
+pub(crate) fn same_row(rt: &impl Abort, row: &Row, price: i64, value: i128, supply: i128) {
+    same(rt, row.prices.energy.as_slice(), [price].as_slice());
+    same(rt, row.value, value);
+    same(rt, row.supply.as_slice(), [supply].as_slice());
+}
+
+const OF_TWO: [Step; 11] = [
+    (0, Does::Claims(Claim::Given)),
+    (0, Does::Posts(Posted::Taken { closed: None })),
+    (1, Does::Posts(Posted::Doubled { by: 0 })),
+    (1, Does::Claims(Claim::Given)),
+    (2, Does::Claims(Claim::NotYet)),
+    (0, Does::Posts(OTHER_HOLDER)),
+    (1, Does::PostsDearer(OTHER_CONTENT)),
+    (1, Does::PostsAs(0, 0, OTHER_PROPOSAL)),
+    (1, Does::PostsAs(1, 2, OTHER_UNIT)),
+    (1, Does::Posts(Posted::Taken { closed: Some(1) })),
+    (0, Does::Claims(Claim::Finished)),
+];
 
 #[test]
 fn claims_and_posts_of_two(rt: HostRuntime) -> Result<(), Fail> {
-    let holder = Posted::Stranger(Differs::Holder {
-        caller: 0,
-        holder: Some(1),
-    });
-    let proposal = Posted::Stranger(Differs::Proposal { task: 0, opened: 1 });
-    let unit = Posted::Stranger(Differs::Unit { task: 2, units: 2 });
-    let content = Posted::Stranger(Differs::Content {
-        place: 1,
-        board: 30,
-        task: 31,
-    });
-    let steps = [
-        by(0, Does::Claims(Claim::Given)),
-        by(0, Does::Posts(Posted::Taken { closed: None })),
-        by(1, Does::Posts(Posted::Doubled { by: 0 })),
-        by(1, Does::Claims(Claim::Given)),
-        by(2, Does::Claims(Claim::NotYet)),
-        by(0, Does::Posts(holder)),
-        by(1, Does::PostsDearer(content)),
-        by(1, Does::PostsAs(0, 0, proposal)),
-        by(1, Does::PostsAs(1, 2, unit)),
-        by(1, Does::Posts(Posted::Taken { closed: Some(1) })),
-        by(0, Does::Claims(Claim::Finished)),
-    ];
-    let (board, held) = played(rt.alloc(), 1, &steps)?;
-    same(&rt, held, steps.len());
+    let board = played(&rt, rt.alloc(), 1, &OF_TWO)?;
     same(&rt, board.history().len(), 4);
     let closed = board.close();
     assert!(rt; closed.finished());
@@ -281,26 +291,24 @@ fn claims_and_posts_of_two(rt: HostRuntime) -> Result<(), Fail> {
     let Some(row) = rows.first() else {
         return Err(Fail::new("there is no row"));
     };
-    same(&rt, row.value, 2_500);
-    same(&rt, row.prices.energy.as_slice(), [30].as_slice());
-    same(&rt, row.supply.as_slice(), [100].as_slice());
+    same_row(&rt, row, 30, 2_500, 100);
     Ok(())
 }
 
+const HALTS: [Step; 8] = [
+    (0, Does::Claims(Claim::Given)),
+    (1, Does::Halts),
+    (2, Does::Halts),
+    (1, Does::Halts),
+    (0, Does::Posts(Posted::Taken { closed: None })),
+    (0, Does::Posts(Posted::Doubled { by: 0 })),
+    (1, Does::Posts(Posted::Doubled { by: 0 })),
+    (0, Does::Claims(Claim::Halted)),
+];
+
 #[test]
 fn halts_of_two_callers(rt: HostRuntime) -> Result<(), Fail> {
-    let steps = [
-        by(0, Does::Claims(Claim::Given)),
-        by(1, Does::Halts),
-        by(2, Does::Halts),
-        by(1, Does::Halts),
-        by(0, Does::Posts(Posted::Taken { closed: None })),
-        by(0, Does::Posts(Posted::Doubled { by: 0 })),
-        by(1, Does::Posts(Posted::Doubled { by: 0 })),
-        by(0, Does::Claims(Claim::Halted)),
-    ];
-    let (board, held) = played(rt.alloc(), 2, &steps)?;
-    same(&rt, held, steps.len());
+    let board = played(&rt, rt.alloc(), 2, &HALTS)?;
     same(&rt, board.history().len(), 4);
     Ok(())
 }

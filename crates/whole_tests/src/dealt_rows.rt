@@ -7,7 +7,7 @@ ghost use Rattle.uc_model.specs.PlainCases.{market_of};
 ghost use Rattle.dealt_run.specs.Benches.{HasSchedules};
 ghost use Rattle.dealt_run.specs.Jobs.{AreFor};
 
-use crate::boards::{CASE, PLAN};
+use crate::boards::{CASE, PLAN, same_row};
 use crate::same::same;
 use case_answers::laws::benches_serve_all;
 use dealt_run::{Answerer, right_rows};
@@ -72,13 +72,9 @@ fn rows_of_two_units(rt: HostRuntime) -> Result<(), Fail> {
         if rows.len() != 2 {
             return Err(Fail::new("there aren't two rows"));
         }
-        let (first, second) = (rows.get(0), rows.get(1));
-        same(&rt, (first.value, second.value), (2_500, 1_500));
-        same(&rt, first.prices.energy.as_slice(), [30].as_slice());
-        same(&rt, second.prices.energy.as_slice(), [50].as_slice());
-        same(&rt, first.supply.as_slice(), [100].as_slice());
-        same(&rt, second.supply.as_slice(), [200].as_slice());
-        same(&rt, second.reserve.as_slice(), [0].as_slice());
+        same_row(&rt, rows.get(0), 30, 2_500, 100);
+        same_row(&rt, rows.get(1), 50, 1_500, 200);
+        same(&rt, rows.get(1).reserve.as_slice(), [0].as_slice());
     }
     Ok(())
 }

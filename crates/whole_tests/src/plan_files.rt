@@ -39,8 +39,8 @@ fn gives(rt: &impl Abort, response: &Response, power: u32) {
     same(rt, response.reserve.as_slice(), [0].as_slice());
 }
 
-/// A file, and its fault: what is wrong, of which kind of thing, and the numbers of the unit and the
-/// item.
+/// A file, and its fault: what is wrong, of which kind of thing, and the numbers of the unit and
+/// the item.
 type Faulty = (&'static [u8], ShapeCode, Kind, u32, u32);
 
 const SMALL_FILES: [Faulty; 6] = [

@@ -5,13 +5,17 @@ ghost use Rattle.board_share.specs.Seats.{view_of, IsSeatOf, IsSameBoard, IsOwne
 ghost use Rattle.board_share.specs.Tells.{KeepsRest};
 ghost use Rattle.uc_model.specs.TaskRoom.{IsTaskFor};
 
-use crate::boards::{CASE, Does, PLAN, Sizes, Step, board_of, by, dearer_task, least_answer};
+use crate::boards::{
+    CASE, Does, OTHER_CONTENT, OTHER_HOLDER, OTHER_PROPOSAL, OTHER_UNIT, PLAN, Sizes, Step,
+    board_of, dearer_task, least_answer,
+};
 use crate::case_files::SMALLEST;
 use crate::same::same;
-use board_core::{Board, Claim, Closed, Differs, Posted};
+use board_core::{Board, Claim, Closed, Posted};
 use board_history::entries::{Call, Entry, Reply};
 use board_share::{Seat, SharedBoard};
 use std::alloc::Global;
+use std::process::Abort;
 use std::sync::Wait;
 use std::test::Fail;
 use uc_model::cases::Task;
@@ -123,9 +127,10 @@ fn play<R: Wait>(
 {
     let mut held = 0;
     for step in steps {
-        let right = match step.caller {
-            0 => holds(rt, alloc, board, owner, task, step.does)?,
-            _ => holds(rt, alloc, board, other, task, step.does)?,
+        let (caller, does) = *step;
+        let right = match caller {
+            0 => holds(rt, alloc, board, owner, task, does)?,
+            _ => holds(rt, alloc, board, other, task, does)?,
         };
         if !right {
             return Ok(held);
@@ -135,14 +140,13 @@ fn play<R: Wait>(
     Ok(held)
 }
 
-// The record of a board on which two seats took the steps, and how many of these were answered as
-// they say.
-fn played<R: Wait>(
+// The record of a board on which two seats took the steps, each of them answered as it says.
+fn played<R: Wait + Abort>(
     rt: &R,
     alloc: Global,
     board: Board,
     steps: &[Step],
-) -> Result<(Closed, usize), Fail>
+) -> Result<Closed, Fail>
     requires periods { board.setup.market.periods ≡ 1 }
     requires empty { board.events ≡ [] }
 {
@@ -153,89 +157,95 @@ fn played<R: Wait>(
     let mut task = Task::make(alloc, 1)?;
     let held = play(rt, alloc, &board, &mut owner, &mut other, &mut task, steps)?;
     board.join(&mut owner, other);
-    Ok((board.close(owner), held))
+    same(rt, held, steps.len());
+    Ok(board.close(owner))
 }
 
-const fn entry(caller: u32, call: Call, unit: u32, reply: Reply) -> Entry {
+const OF_TWO: [Step; 10] = [
+    (0, Does::Claims(Claim::Given)),
+    (0, Does::Posts(Posted::Taken { closed: None })),
+    (1, Does::Posts(Posted::Doubled { by: 0 })),
+    (1, Does::Claims(Claim::Given)),
+    (0, Does::Posts(OTHER_HOLDER)),
+    (1, Does::PostsDearer(OTHER_CONTENT)),
+    (1, Does::PostsAs(0, 0, OTHER_PROPOSAL)),
+    (1, Does::Posts(Posted::Taken { closed: Some(1) })),
+    (0, Does::Claims(Claim::Finished)),
+    (1, Does::Claims(Claim::Finished)),
+];
+
+const ENTRIES: [Entry; 4] = [
     Entry {
-        caller,
-        call,
+        caller: 0,
+        call: Call::Claim,
         proposal: 1,
-        unit,
-        reply,
-    }
-}
+        unit: 0,
+        reply: Reply::Given,
+    },
+    Entry {
+        caller: 0,
+        call: Call::Post,
+        proposal: 1,
+        unit: 0,
+        reply: Reply::Taken,
+    },
+    Entry {
+        caller: 1,
+        call: Call::Claim,
+        proposal: 1,
+        unit: 1,
+        reply: Reply::Given,
+    },
+    Entry {
+        caller: 1,
+        call: Call::Post,
+        proposal: 1,
+        unit: 1,
+        reply: Reply::Closing,
+    },
+];
 
 #[test]
 fn claims_and_posts_of_two_seats(rt: HostRuntime) -> Result<(), Fail> {
     let alloc = rt.alloc();
-    let holder = Posted::Stranger(Differs::Holder {
-        caller: 0,
-        holder: Some(1),
-    });
-    let content = Posted::Stranger(Differs::Content {
-        place: 1,
-        board: 30,
-        task: 31,
-    });
-    let proposal = Posted::Stranger(Differs::Proposal { task: 0, opened: 1 });
-    let steps = [
-        by(0, Does::Claims(Claim::Given)),
-        by(0, Does::Posts(Posted::Taken { closed: None })),
-        by(1, Does::Posts(Posted::Doubled { by: 0 })),
-        by(1, Does::Claims(Claim::Given)),
-        by(0, Does::Posts(holder)),
-        by(1, Does::PostsDearer(content)),
-        by(1, Does::PostsAs(0, 0, proposal)),
-        by(1, Does::Posts(Posted::Taken { closed: Some(1) })),
-        by(0, Does::Claims(Claim::Finished)),
-        by(1, Does::Claims(Claim::Finished)),
-    ];
     let board = board_of(alloc, CASE, PLAN, TWO)?;
-    let (closed, held) = played(&rt, alloc, board, &steps)?;
-    same(&rt, held, steps.len());
-    let entries = [
-        entry(0, Call::Claim, 0, Reply::Given),
-        entry(0, Call::Post, 0, Reply::Taken),
-        entry(1, Call::Claim, 1, Reply::Given),
-        entry(1, Call::Post, 1, Reply::Closing),
-    ];
-    same(&rt, closed.history(), entries.as_slice());
+    let closed = played(&rt, alloc, board, &OF_TWO)?;
+    same(&rt, closed.history(), ENTRIES.as_slice());
     Ok(())
 }
+
+const NOT_YET: [Step; 5] = [
+    (0, Does::Claims(Claim::Given)),
+    (1, Does::Claims(Claim::NotYet)),
+    (1, Does::Claims(Claim::NotYet)),
+    (0, Does::Posts(Posted::Taken { closed: Some(1) })),
+    (1, Does::Claims(Claim::Finished)),
+];
 
 #[test]
 fn not_yet_and_finished(rt: HostRuntime) -> Result<(), Fail> {
     let alloc = rt.alloc();
-    let steps = [
-        by(0, Does::Claims(Claim::Given)),
-        by(1, Does::Claims(Claim::NotYet)),
-        by(1, Does::Claims(Claim::NotYet)),
-        by(0, Does::Posts(Posted::Taken { closed: Some(1) })),
-        by(1, Does::Claims(Claim::Finished)),
-    ];
     let board = board_of(alloc, SMALLEST, SMALLEST_PLAN, TWO)?;
-    let (closed, held) = played(&rt, alloc, board, &steps)?;
-    same(&rt, held, steps.len());
+    let closed = played(&rt, alloc, board, &NOT_YET)?;
     assert!(rt; closed.finished());
     Ok(())
 }
 
+const LATE_HALT: [Step; 7] = [
+    (0, Does::Claims(Claim::Given)),
+    (1, Does::Claims(Claim::NotYet)),
+    (1, Does::Halts),
+    (1, Does::Claims(Claim::Halted)),
+    (0, Does::Posts(Posted::Taken { closed: Some(1) })),
+    (0, Does::Claims(Claim::Finished)),
+    (1, Does::Claims(Claim::Finished)),
+];
+
 #[test]
 fn a_halt_before_the_last_post(rt: HostRuntime) -> Result<(), Fail> {
     let alloc = rt.alloc();
-    let steps = [
-        by(0, Does::Claims(Claim::Given)),
-        by(1, Does::Claims(Claim::NotYet)),
-        by(1, Does::Halts),
-        by(1, Does::Claims(Claim::Halted)),
-        by(0, Does::Posts(Posted::Taken { closed: Some(1) })),
-        by(0, Does::Claims(Claim::Finished)),
-        by(1, Does::Claims(Claim::Finished)),
-    ];
     let board = board_of(alloc, SMALLEST, SMALLEST_PLAN, TWO)?;
-    let (closed, held) = played(&rt, alloc, board, &steps)?;
-    same(&rt, held, steps.len());
+    let closed = played(&rt, alloc, board, &LATE_HALT)?;
     same(&rt, closed.history().len(), 3);
     Ok(())
 }
@@ -253,17 +263,17 @@ fn two_proposals(alloc: Global) -> Result<Board, Fail>
     board_of(alloc, CASE, PLAN, sizes)
 }
 
+const HALTED: [Step; 4] = [
+    (0, Does::Claims(Claim::Given)),
+    (1, Does::Halts),
+    (0, Does::Claims(Claim::Halted)),
+    (1, Does::Claims(Claim::Halted)),
+];
+
 #[test]
 fn no_claim_after_a_halt(rt: HostRuntime) -> Result<(), Fail> {
     let alloc = rt.alloc();
-    let steps = [
-        by(0, Does::Claims(Claim::Given)),
-        by(1, Does::Halts),
-        by(0, Does::Claims(Claim::Halted)),
-        by(1, Does::Claims(Claim::Halted)),
-    ];
-    let (closed, held) = played(&rt, alloc, two_proposals(alloc)?, &steps)?;
-    same(&rt, held, steps.len());
+    let closed = played(&rt, alloc, two_proposals(alloc)?, &HALTED)?;
     same(&rt, closed.history().len(), 2);
     Ok(())
 }
@@ -278,29 +288,28 @@ fn as_many_seats_as_callers(rt: HostRuntime) -> Result<(), Fail> {
     Ok(())
 }
 
+const AGAIN: [Step; 4] = [
+    (0, Does::Claims(Claim::Given)),
+    (0, Does::Posts(Posted::Taken { closed: None })),
+    (0, Does::Posts(Posted::Doubled { by: 0 })),
+    (1, Does::Posts(Posted::Doubled { by: 0 })),
+];
+
 #[test]
 fn a_task_posted_again(rt: HostRuntime) -> Result<(), Fail> {
     let alloc = rt.alloc();
-    let steps = [
-        by(0, Does::Claims(Claim::Given)),
-        by(0, Does::Posts(Posted::Taken { closed: None })),
-        by(0, Does::Posts(Posted::Doubled { by: 0 })),
-        by(1, Does::Posts(Posted::Doubled { by: 0 })),
-    ];
-    let (_closed, held) = played(&rt, alloc, two_proposals(alloc)?, &steps)?;
-    same(&rt, held, steps.len());
+    let _closed = played(&rt, alloc, two_proposals(alloc)?, &AGAIN)?;
     Ok(())
 }
+
+const NO_UNIT: [Step; 2] = [
+    (0, Does::Claims(Claim::Given)),
+    (1, Does::PostsAs(1, 2, OTHER_UNIT)),
+];
 
 #[test]
 fn a_unit_that_is_not_there(rt: HostRuntime) -> Result<(), Fail> {
     let alloc = rt.alloc();
-    let unit = Posted::Stranger(Differs::Unit { task: 2, units: 2 });
-    let steps = [
-        by(0, Does::Claims(Claim::Given)),
-        by(1, Does::PostsAs(1, 2, unit)),
-    ];
-    let (_closed, held) = played(&rt, alloc, two_proposals(alloc)?, &steps)?;
-    same(&rt, held, steps.len());
+    let _closed = played(&rt, alloc, two_proposals(alloc)?, &NO_UNIT)?;
     Ok(())
 }
