@@ -6,6 +6,7 @@ ghost use Rattle.uc_model.specs.PlainCases.{market_of};
 ghost use Rattle.dealt_run.specs.Benches.{IsBenchOver};
 
 use crate::boards::{CASE, PLAN};
+use crate::same::same_of;
 use crate::texts::{Change, changed};
 use case_answers::laws::benches_serve_all;
 use plan_check::check_plan;
@@ -129,7 +130,8 @@ fn go_wrong<R: Threads + Wait + Sync + Abort>(
 ) -> Result<(), Fail> {
     for (changes, line) in rows {
         let text = changed(alloc, RIGHT, changes)?;
-        assert!(rt; goes_wrong_at(rt, alloc, &text, *line)?, "{line:?}");
+        let right = goes_wrong_at(rt, alloc, &text, *line)?;
+        same_of(rt, line, right, true);
     }
     Ok(())
 }
