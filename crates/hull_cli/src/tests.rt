@@ -7,6 +7,7 @@ use answer_workers::{Gate, NoGate};
 use hull_engine::hull_run;
 use hull_io::{File, MemoryShelf, MemorySink, ReadFailed, Shelf};
 use std::alloc::{AllocError, Global};
+use std::process::Abort;
 use std::sync::Wait;
 use std::sync::atomic::{AtomicU64, Ordering};
 use std::test::Fail;
@@ -41,6 +42,8 @@ const TWO_UNITS: &str =
 
 const TWO_UNITS_SCHEDULE: &str = "{\"thermal\":{\"A\":{\"on\":[1],\"power\":[50],\"reserve\":[0]},\
 \"B\":{\"on\":[1],\"power\":[100],\"reserve\":[0]}},\"renewable\":{}}";
+
+const TWO_UNITS_FILES: Texts<'static> = (TWO_UNITS, TWO_UNITS_SCHEDULE, b"");
 
 const TWO_UNITS_CHECK: &[u8] =
     b"hull-check 1\nperiods 1 thermal 2 renewable 0\ncost 3500\nfeasible\n";
@@ -302,6 +305,34 @@ fn words_in(alloc: Global, words: &[&str]) -> Result<Vec<String>, AllocError> {
     Ok(list)
 }
 
+fn push_file(
+    alloc: Global,
+    files: &mut Vec<File>,
+    name: &str,
+    bytes: &[u8],
+) -> Result<(), AllocError> {
+    let file = file(alloc, name, bytes)?;
+    Ok(files.push(file)?)
+}
+
+fn files_of(alloc: Global, texts: Texts) -> Result<Vec<File>, AllocError> {
+    let (case, schedule, report) = texts;
+    let mut files = Vec::new(alloc);
+    push_file(alloc, &mut files, "c", case.as_bytes())?;
+    push_file(alloc, &mut files, "s", schedule.as_bytes())?;
+    push_file(alloc, &mut files, "r", report)?;
+    Ok(files)
+}
+
+fn shelf_of(alloc: Global, texts: Texts, edges: Edges) -> Result<ShortShelf, AllocError> {
+    let files = files_of(alloc, texts)?;
+    Ok(ShortShelf {
+        whole: MemoryShelf::make(alloc, files.as_slice(), edges.reads)?,
+        most: edges.gives as usize,
+        faults: 0,
+    })
+}
+
 // The status of a run, and what its sink holds. No run here is due to end in want of memory: that
 // ends the test.
 fn run<R: Threads + Wait + Sync, G: Gate>(
@@ -312,17 +343,7 @@ fn run<R: Threads + Wait + Sync, G: Gate>(
     texts: Texts,
     edges: Edges,
 ) -> Result<(u8, Vec<u8>), AllocError> {
-    let (case, schedule, report) = texts;
-    let files = vec![in alloc;
-        file(alloc, "c", case.as_bytes())?,
-        file(alloc, "s", schedule.as_bytes())?,
-        file(alloc, "r", report)?,
-    ]?;
-    let mut shelf = ShortShelf {
-        whole: MemoryShelf::make(alloc, files.as_slice(), edges.reads)?,
-        most: edges.gives as usize,
-        faults: 0,
-    };
+    let mut shelf = shelf_of(alloc, texts, edges)?;
     let mut out = MemorySink::make(alloc, 4096, edges.takes.max(1), edges.writes, edges.empty)?;
     let words = words_in(alloc, words)?;
     let status = hull_run(rt, alloc, words.as_slice(), &mut shelf, &mut out, gate);
@@ -332,176 +353,186 @@ fn run<R: Threads + Wait + Sync, G: Gate>(
     Ok((status, Vec::from_slice(alloc, out.bytes())?))
 }
 
-#[test]
-fn runs_answer_as_worked(rt: HostRuntime) -> Result<(), Fail> {
-    for (words, case, schedule, want, text) in [
-        (
-            PRICE.as_slice(),
-            SMALLEST,
-            SMALLEST_SCHEDULE,
-            0,
-            SMALLEST_REPORT,
-        ),
-        (
-            PRICE.as_slice(),
-            TWO_UNITS,
-            TWO_UNITS_SCHEDULE,
-            0,
-            TWO_UNITS_REPORT,
-        ),
-        (
-            [
-                "price",
-                "--case=c",
-                "--schedule=s",
-                "--proposals=2",
-                "--ahead=1",
-            ]
-            .as_slice(),
-            TWO_UNITS,
-            TWO_UNITS_SCHEDULE,
-            0,
-            TWO_PROPOSALS,
-        ),
-        (
-            BOUND.as_slice(),
-            TWO_UNITS,
-            TWO_UNITS_SCHEDULE,
-            0,
-            TWO_PROPOSALS_BOUND,
-        ),
-        (
-            [
-                "fixed",
-                "--case=c",
-                "--schedule=s",
-                "--proposals=1",
-                "--ahead=1",
-            ]
-            .as_slice(),
-            TWO_UNITS,
-            TWO_UNITS_SCHEDULE,
-            0,
-            TWO_UNITS_FIXED,
-        ),
-        (
-            FIXED.as_slice(),
-            TWO_UNITS,
-            TWO_UNITS_SCHEDULE,
-            0,
-            TWO_PROPOSALS_FIXED,
-        ),
-        (PRICE.as_slice(), USUAL, USUAL_SCHEDULE, 0, USUAL_REPORT),
-        (
-            CHECK.as_slice(),
-            TWO_UNITS,
-            TWO_UNITS_SCHEDULE,
-            0,
-            TWO_UNITS_CHECK,
-        ),
-        (
-            ["try", "7", "--proposals", "6765"].as_slice(),
-            "",
-            "",
-            5,
-            b"fault 5 work 6765 154 48\n".as_slice(),
-        ),
-        ([].as_slice(), "", "", 1, b"fault 1 words 1 0\n".as_slice()),
-        (
-            ["price", "--case", "a", "--case", "b"].as_slice(),
-            "",
-            "",
-            1,
-            b"fault 1 words 4 4\n".as_slice(),
-        ),
-        (
-            ["check", "--case", "c", "--schedule", "t"].as_slice(),
-            TWO_UNITS,
-            TWO_UNITS_SCHEDULE,
-            2,
-            b"fault 2 read schedule\n".as_slice(),
-        ),
-        (
-            CHECK.as_slice(),
-            NO_UNITS,
-            "{}",
-            3,
-            b"fault 3 case 31 field renewable_generators kind case unit 0 item 0\n".as_slice(),
-        ),
-        (
-            CHECK.as_slice(),
-            "{\"time_periods\":1",
-            "{}",
-            3,
-            b"fault 3 case 10 at 17\n".as_slice(),
-        ),
-        (
-            CHECK.as_slice(),
-            SMALLEST,
-            "[1,]",
-            4,
-            b"fault 4 schedule 10 at 3\n".as_slice(),
-        ),
-        (
-            CHECK.as_slice(),
-            SMALLEST,
-            "{}",
-            4,
-            b"fault 4 schedule 42 kind case unit 0 item 0\n".as_slice(),
-        ),
-        (
-            CHECK.as_slice(),
-            SMALLEST,
-            "{\"thermal\":{},\"renewable\":{\"W\":[0.5]}}",
-            4,
-            b"fault 4 schedule 43 kind renewable unit 1 item 1\n".as_slice(),
-        ),
-        (
-            CHECK.as_slice(),
-            SMALLEST,
-            "{\"thermal\":{},\"renewable\":{\"W\":[99999]}}",
-            4,
-            b"fault 4 schedule 54 kind case unit 0 period 1 left 99999 right 100000\n".as_slice(),
-        ),
-        (
-            CHECK.as_slice(),
-            TWO_PERIODS,
-            "{\"thermal\":{},\"renewable\":{\"W\":[100,99]}}",
-            4,
-            b"fault 4 schedule 54 kind case unit 0 period 2 left 99 right 100\n".as_slice(),
-        ),
-        (
-            CHECK.as_slice(),
-            SMALLEST,
-            "{\"thermal\":{},\"renewable\":{\"W\":[100000]}}",
-            0,
-            b"hull-check 1\nperiods 1 thermal 0 renewable 1\ncost 0\nfeasible\n".as_slice(),
-        ),
-        (
-            CHECK.as_slice(),
-            ONE_BID,
-            "{\"thermal\":{},\"renewable\":{\"W\":[100]},\"bids\":{\"D\":[100]}}",
-            0,
-            ONE_BID_CHECK,
-        ),
-    ] {
-        let (status, bytes) = run(
-            &rt,
-            &NoGate,
-            rt.alloc(),
-            words,
-            (case, schedule, b"".as_slice()),
-            SHORT,
-        )?;
-        same(&rt, bytes.as_slice(), text);
-        same(&rt, status, want);
+// A run: its words and files, and the status and the text that are due.
+type Run = (&'static [&'static str], Texts<'static>, (u8, &'static [u8]));
+
+fn run_ends<R: Threads + Wait + Sync + Abort>(
+    rt: &R,
+    alloc: Global,
+    due: &Run,
+) -> Result<(), AllocError> {
+    let (words, texts, want) = *due;
+    let (status, bytes) = run(rt, &NoGate, alloc, words, texts, SHORT)?;
+    same_of(rt, &words, (status, bytes.as_slice()), want);
+    Ok(())
+}
+
+// Each run ends with its status and its text.
+fn runs_end<R: Threads + Wait + Sync + Abort>(
+    rt: &R,
+    alloc: Global,
+    runs: &[Run],
+) -> Result<(), AllocError> {
+    for due in runs {
+        run_ends(rt, alloc, due)?;
     }
     Ok(())
+}
+
+const WORKED: &[Run] = &[
+    (
+        &PRICE,
+        (SMALLEST, SMALLEST_SCHEDULE, b""),
+        (0, SMALLEST_REPORT),
+    ),
+    (&PRICE, TWO_UNITS_FILES, (0, TWO_UNITS_REPORT)),
+    (
+        &[
+            "price",
+            "--case=c",
+            "--schedule=s",
+            "--proposals=2",
+            "--ahead=1",
+        ],
+        TWO_UNITS_FILES,
+        (0, TWO_PROPOSALS),
+    ),
+    (&BOUND, TWO_UNITS_FILES, (0, TWO_PROPOSALS_BOUND)),
+    (
+        &[
+            "fixed",
+            "--case=c",
+            "--schedule=s",
+            "--proposals=1",
+            "--ahead=1",
+        ],
+        TWO_UNITS_FILES,
+        (0, TWO_UNITS_FIXED),
+    ),
+    (&FIXED, TWO_UNITS_FILES, (0, TWO_PROPOSALS_FIXED)),
+    (&PRICE, (USUAL, USUAL_SCHEDULE, b""), (0, USUAL_REPORT)),
+    (&CHECK, TWO_UNITS_FILES, (0, TWO_UNITS_CHECK)),
+    (
+        &["try", "7", "--proposals", "6765"],
+        ("", "", b""),
+        (5, b"fault 5 work 6765 154 48\n"),
+    ),
+    (&[], ("", "", b""), (1, b"fault 1 words 1 0\n")),
+    (
+        &["price", "--case", "a", "--case", "b"],
+        ("", "", b""),
+        (1, b"fault 1 words 4 4\n"),
+    ),
+    (
+        &["check", "--case", "c", "--schedule", "t"],
+        TWO_UNITS_FILES,
+        (2, b"fault 2 read schedule\n"),
+    ),
+    (
+        &CHECK,
+        (NO_UNITS, "{}", b""),
+        (
+            3,
+            b"fault 3 case 31 field renewable_generators kind case unit 0 item 0\n",
+        ),
+    ),
+    (
+        &CHECK,
+        ("{\"time_periods\":1", "{}", b""),
+        (3, b"fault 3 case 10 at 17\n"),
+    ),
+    (
+        &CHECK,
+        (SMALLEST, "[1,]", b""),
+        (4, b"fault 4 schedule 10 at 3\n"),
+    ),
+    (
+        &CHECK,
+        (SMALLEST, "{}", b""),
+        (4, b"fault 4 schedule 42 kind case unit 0 item 0\n"),
+    ),
+    (
+        &CHECK,
+        (
+            SMALLEST,
+            "{\"thermal\":{},\"renewable\":{\"W\":[0.5]}}",
+            b"",
+        ),
+        (4, b"fault 4 schedule 43 kind renewable unit 1 item 1\n"),
+    ),
+    (
+        &CHECK,
+        (
+            SMALLEST,
+            "{\"thermal\":{},\"renewable\":{\"W\":[99999]}}",
+            b"",
+        ),
+        (
+            4,
+            b"fault 4 schedule 54 kind case unit 0 period 1 left 99999 right 100000\n",
+        ),
+    ),
+    (
+        &CHECK,
+        (
+            TWO_PERIODS,
+            "{\"thermal\":{},\"renewable\":{\"W\":[100,99]}}",
+            b"",
+        ),
+        (
+            4,
+            b"fault 4 schedule 54 kind case unit 0 period 2 left 99 right 100\n",
+        ),
+    ),
+    (
+        &CHECK,
+        (
+            SMALLEST,
+            "{\"thermal\":{},\"renewable\":{\"W\":[100000]}}",
+            b"",
+        ),
+        (
+            0,
+            b"hull-check 1\nperiods 1 thermal 0 renewable 1\ncost 0\nfeasible\n",
+        ),
+    ),
+    (
+        &CHECK,
+        (
+            ONE_BID,
+            "{\"thermal\":{},\"renewable\":{\"W\":[100]},\"bids\":{\"D\":[100]}}",
+            b"",
+        ),
+        (0, ONE_BID_CHECK),
+    ),
+];
+
+#[test]
+fn runs_answer_as_worked(rt: HostRuntime) -> Result<(), Fail> {
+    Ok(runs_end(&rt, rt.alloc(), WORKED)?)
 }
 
 const TWO_UNITS_TEXTS: Texts<'static> = (TWO_UNITS, TWO_UNITS_SCHEDULE, TWO_UNITS_REPORT);
 
 const RIGHT: &[u8] = b"hull-audit 1\nproposals 1\nright\n";
+
+// Whether a run whose read of that number fails has that status, and leaves that text.
+fn ends_by_read<R: Threads + Wait + Sync>(
+    rt: &R,
+    alloc: Global,
+    words: &[&str],
+    number: u64,
+    edges: Edges,
+    want: (u8, &[u8]),
+) -> Result<bool, AllocError> {
+    let reads = [number];
+    let failing = Edges {
+        reads: &reads,
+        ..edges
+    };
+    let (status, bytes) = run(rt, &NoGate, alloc, words, TWO_UNITS_TEXTS, failing)?;
+    Ok(status == want.0 && bytes.as_slice() == want.1)
+}
 
 // The first read of a run that fails in another way than it should, where there is one. It should
 // end the run with the line of its own file, or with none where that can't be written, and a run
@@ -510,83 +541,103 @@ fn wrong_read<R: Threads + Wait + Sync>(
     rt: &R,
     alloc: Global,
     words: &[&str],
-    reads: &[(u64, &[u8])],
+    parts: Parts,
     edges: Edges,
     text: &[u8],
 ) -> Result<Option<u64>, AllocError> {
     let refused = edges.writes.is_empty();
     let mut number = 1u64;
-    for (count, line) in reads {
-        for _ in 0..*count {
-            let failing = [number];
-            let failing = Edges {
-                reads: &failing,
-                ..edges
-            };
-            let (status, bytes) = run(rt, &NoGate, alloc, words, TWO_UNITS_TEXTS, failing)?;
-            let due = if refused { *line } else { b"".as_slice() };
-            if status != 2 || bytes.as_slice() != due {
+    for (bytes, line) in parts {
+        let line = if refused { *line } else { b"".as_slice() };
+        // The last read of a file gives none.
+        let count = bytes.div_ceil(edges.gives.max(1)).saturating_add(1);
+        for _ in 0..count {
+            if !ends_by_read(rt, alloc, words, number, edges, (2, line))? {
                 return Ok(Some(number));
             }
             number = number.saturating_add(1);
         }
     }
-    let failing = [number];
-    let failing = Edges {
-        reads: &failing,
+    let edges = Edges {
         writes: &[],
         ..edges
     };
-    let (status, bytes) = run(rt, &NoGate, alloc, words, TWO_UNITS_TEXTS, failing)?;
-    let right = status == 0 && bytes.as_slice() == text;
+    let right = ends_by_read(rt, alloc, words, number, edges, (0, text))?;
     Ok(if right { None } else { Some(number) })
 }
 
-// The reads of a file that give so many bytes each, the last of them none, and the line of its
-// fault.
-fn parts(gives: u64) -> [(u64, &'static [u8]); 3] {
-    [
-        (TWO_UNITS.len() as u64, b"fault 2 read case\n".as_slice()),
-        (
-            TWO_UNITS_SCHEDULE.len() as u64,
-            b"fault 2 read schedule\n".as_slice(),
-        ),
-        (
-            TWO_UNITS_REPORT.len() as u64,
-            b"fault 2 read report\n".as_slice(),
-        ),
-    ]
-    .map(|(bytes, line)| (bytes.div_ceil(gives.max(1)).saturating_add(1), line))
+// The files that a command reads, each by its bytes and the line of its fault.
+type Parts = &'static [(u64, &'static [u8])];
+
+const NO_PARTS: Parts = &[];
+
+const TWO_PARTS: Parts = &[
+    (TWO_UNITS.len() as u64, b"fault 2 read case\n"),
+    (TWO_UNITS_SCHEDULE.len() as u64, b"fault 2 read schedule\n"),
+];
+
+const THREE_PARTS: Parts = &[
+    (TWO_UNITS.len() as u64, b"fault 2 read case\n"),
+    (TWO_UNITS_SCHEDULE.len() as u64, b"fault 2 read schedule\n"),
+    (TWO_UNITS_REPORT.len() as u64, b"fault 2 read report\n"),
+];
+
+const ALL_READS: &[(&[&str], Parts, &[u8])] = &[
+    (&CHECK, TWO_PARTS, TWO_UNITS_CHECK),
+    (&PRICE, TWO_PARTS, TWO_UNITS_REPORT),
+    (&BOUND, TWO_PARTS, TWO_PROPOSALS_BOUND),
+    (&FIXED, TWO_PARTS, TWO_PROPOSALS_FIXED),
+    (&TRY_ONE, NO_PARTS, TRY_FIRST),
+    (&AUDIT, THREE_PARTS, RIGHT),
+];
+
+// The most bytes that a read gives, and the writes that fail beside it.
+const READ_WAYS: &[(u64, &[u64])] = &[(WHOLE, &[]), (WHOLE, &[1]), (64, &[])];
+
+fn reads_end<R: Threads + Wait + Sync + Abort>(
+    rt: &R,
+    alloc: Global,
+    due: &(&[&str], Parts, &[u8]),
+) -> Result<(), AllocError> {
+    let (words, parts, text) = *due;
+    for (gives, writes) in READ_WAYS {
+        let edges = Edges {
+            gives: *gives,
+            takes: WHOLE,
+            writes,
+            ..SHORT
+        };
+        let wrong = wrong_read(rt, alloc, words, parts, edges, text)?;
+        same_of(rt, &words, wrong, None);
+    }
+    Ok(())
 }
 
 // Each read of each command fails in turn.
 #[test]
 fn a_failing_read_ends_a_run(rt: HostRuntime) -> Result<(), Fail> {
-    for (words, files, text) in [
-        (CHECK.as_slice(), 2, TWO_UNITS_CHECK),
-        (PRICE.as_slice(), 2, TWO_UNITS_REPORT),
-        (BOUND.as_slice(), 2, TWO_PROPOSALS_BOUND),
-        (FIXED.as_slice(), 2, TWO_PROPOSALS_FIXED),
-        (TRY_ONE.as_slice(), 0, TRY_FIRST),
-        (AUDIT.as_slice(), 3, RIGHT),
-    ] {
-        for (gives, writes) in [
-            (WHOLE, [].as_slice()),
-            (WHOLE, [1u64].as_slice()),
-            (64, [].as_slice()),
-        ] {
-            let edges = Edges {
-                gives,
-                takes: WHOLE,
-                writes,
-                ..SHORT
-            };
-            let reads = &parts(gives)[..files];
-            let wrong = wrong_read(&rt, rt.alloc(), words, reads, edges, text)?;
-            same_of(&rt, &words, wrong, None);
-        }
+    for due in ALL_READS {
+        reads_end(&rt, rt.alloc(), due)?;
     }
     Ok(())
+}
+
+// The status of a run, and how many bytes it leaves, where they are a front of the text.
+fn front_left<R: Threads + Wait + Sync>(
+    rt: &R,
+    alloc: Global,
+    words: &[&str],
+    texts: Texts,
+    edges: Edges,
+    text: &[u8],
+) -> Result<Option<(u8, usize)>, AllocError> {
+    let (status, bytes) = run(rt, &NoGate, alloc, words, texts, edges)?;
+    let is_front = text.starts_with(bytes.as_slice());
+    Ok(if is_front {
+        Some((status, bytes.len()))
+    } else {
+        None
+    })
 }
 
 // The first write of a run that fails in another way than it should, where there is one, as the
@@ -617,19 +668,16 @@ fn wrong_write<R: Threads + Wait + Sync>(
             writes: if fails { &number } else { &[] },
             empty: if fails { &[] } else { &number },
         };
-        let (status, bytes) = run(rt, &NoGate, alloc, words, texts, edges)?;
-        let count = bytes.len();
+        let Some((status, count)) = front_left(rt, alloc, words, texts, edges, text)? else {
+            return Ok(Some(before));
+        };
         let goes_on = if before == 0 {
             count == 0
         } else {
             count > held
         };
         let due = if count == text.len() { status_due } else { cut };
-        if !goes_on
-            || takes == 1 && count != before
-            || !text.starts_with(bytes.as_slice())
-            || status != due
-        {
+        if !goes_on || takes == 1 && count != before || status != due {
             return Ok(Some(before));
         }
         held = count;
@@ -641,120 +689,131 @@ fn wrong_write<R: Threads + Wait + Sync>(
 }
 
 // The most bytes of a write, and whether the write fails or takes nothing.
-const ALL_WAYS: [(u64, bool); 4] = [(1, true), (1, false), (WHOLE, true), (WHOLE, false)];
+type Ways = &'static [(u64, bool)];
 
-const LONG_WAYS: [(u64, bool); 2] = [(1, true), (WHOLE, false)];
+const ALL_WAYS: Ways = &[(1, true), (1, false), (WHOLE, true), (WHOLE, false)];
 
-const SLOW_WAYS: [(u64, bool); 1] = [(WHOLE, true)];
+const LONG_WAYS: Ways = &[(1, true), (WHOLE, false)];
 
-// Each write of each command fails in turn, or takes nothing.
-#[test]
-fn a_failing_write_ends_a_run(rt: HostRuntime) -> Result<(), Fail> {
-    for (words, ways, text) in [
-        (CHECK.as_slice(), ALL_WAYS.as_slice(), TWO_UNITS_CHECK),
-        (PRICE.as_slice(), LONG_WAYS.as_slice(), TWO_UNITS_REPORT),
-        (BOUND.as_slice(), LONG_WAYS.as_slice(), TWO_PROPOSALS_BOUND),
-        (FIXED.as_slice(), LONG_WAYS.as_slice(), TWO_PROPOSALS_FIXED),
-        (TRY_ONE.as_slice(), SLOW_WAYS.as_slice(), TRY_FIRST),
-        (AUDIT.as_slice(), ALL_WAYS.as_slice(), RIGHT),
-    ] {
-        for way in ways {
-            let wrong = wrong_write(&rt, rt.alloc(), words, TWO_UNITS_TEXTS, *way, (0, text))?;
-            same_of(&rt, &words, wrong, None);
-        }
+const SLOW_WAYS: Ways = &[(WHOLE, true)];
+
+// The words of a run, its files, and the status and the text that are due, by the ways that are
+// tried.
+type Written = (
+    &'static [&'static str],
+    Ways,
+    Texts<'static>,
+    (u8, &'static [u8]),
+);
+
+fn writes_end<R: Threads + Wait + Sync + Abort>(
+    rt: &R,
+    alloc: Global,
+    due: &Written,
+) -> Result<(), AllocError> {
+    let (words, ways, texts, want) = *due;
+    for way in ways {
+        let wrong = wrong_write(rt, alloc, words, texts, *way, want)?;
+        same_of(rt, &words, wrong, None);
     }
     Ok(())
 }
 
+// Each write of each run fails in turn, or takes nothing.
+fn all_writes_end<R: Threads + Wait + Sync + Abort>(
+    rt: &R,
+    alloc: Global,
+    runs: &[Written],
+) -> Result<(), AllocError> {
+    for due in runs {
+        writes_end(rt, alloc, due)?;
+    }
+    Ok(())
+}
+
+const ALL_WRITES: &[Written] = &[
+    (&CHECK, ALL_WAYS, TWO_UNITS_TEXTS, (0, TWO_UNITS_CHECK)),
+    (&PRICE, LONG_WAYS, TWO_UNITS_TEXTS, (0, TWO_UNITS_REPORT)),
+    (&BOUND, LONG_WAYS, TWO_UNITS_TEXTS, (0, TWO_PROPOSALS_BOUND)),
+    (&FIXED, LONG_WAYS, TWO_UNITS_TEXTS, (0, TWO_PROPOSALS_FIXED)),
+    (&TRY_ONE, SLOW_WAYS, TWO_UNITS_TEXTS, (0, TRY_FIRST)),
+    (&AUDIT, ALL_WAYS, TWO_UNITS_TEXTS, (0, RIGHT)),
+];
+
+#[test]
+fn a_failing_write_ends_a_run(rt: HostRuntime) -> Result<(), Fail> {
+    Ok(all_writes_end(&rt, rt.alloc(), ALL_WRITES)?)
+}
+
+const CUT: Texts<'static> = ("{\"time_periods\":1", "{}", b"");
+
+const CUT_LINE: (u8, &[u8]) = (3, b"fault 3 case 10 at 17\n");
+
+const ALL_REFUSALS: &[Written] = &[
+    (&[], ALL_WAYS, TWO_UNITS_TEXTS, (1, b"fault 1 words 1 0\n")),
+    (
+        &["check", "--case", "c", "--schedule", "t"],
+        ALL_WAYS,
+        TWO_UNITS_TEXTS,
+        (2, b"fault 2 read schedule\n"),
+    ),
+    (&CHECK, ALL_WAYS, CUT, CUT_LINE),
+    (&PRICE, ALL_WAYS, CUT, CUT_LINE),
+    (&BOUND, ALL_WAYS, CUT, CUT_LINE),
+    (&FIXED, ALL_WAYS, CUT, CUT_LINE),
+    (&AUDIT, ALL_WAYS, CUT, CUT_LINE),
+    (
+        &CHECK,
+        ALL_WAYS,
+        (SMALLEST, "[1,]", b""),
+        (4, b"fault 4 schedule 10 at 3\n"),
+    ),
+    (
+        &["try", "7", "--proposals", "6765"],
+        ALL_WAYS,
+        TWO_UNITS_TEXTS,
+        (5, b"fault 5 work 6765 154 48\n"),
+    ),
+    (
+        &AUDIT,
+        ALL_WAYS,
+        (TWO_UNITS, TWO_UNITS_SCHEDULE, USUAL_REPORT),
+        (8, b"fault 8 report 61 at 6\n"),
+    ),
+];
+
 // Each write of the line of a refusal fails in turn, or takes nothing, and the status stays.
 #[test]
 fn a_failing_write_leaves_a_refusal(rt: HostRuntime) -> Result<(), Fail> {
-    let sound = TWO_UNITS_TEXTS;
-    let cut = ("{\"time_periods\":1", "{}", b"".as_slice());
-    let cut_line = b"fault 3 case 10 at 17\n".as_slice();
-    let no_plan = (SMALLEST, "[1,]", b"".as_slice());
-    let other = (TWO_UNITS, TWO_UNITS_SCHEDULE, USUAL_REPORT);
-    let no_schedule = ["check", "--case", "c", "--schedule", "t"];
-    let too_much = ["try", "7", "--proposals", "6765"];
-    for (words, texts, status, text) in [
-        ([].as_slice(), sound, 1, b"fault 1 words 1 0\n".as_slice()),
-        (
-            no_schedule.as_slice(),
-            sound,
-            2,
-            b"fault 2 read schedule\n".as_slice(),
-        ),
-        (CHECK.as_slice(), cut, 3, cut_line),
-        (PRICE.as_slice(), cut, 3, cut_line),
-        (BOUND.as_slice(), cut, 3, cut_line),
-        (FIXED.as_slice(), cut, 3, cut_line),
-        (AUDIT.as_slice(), cut, 3, cut_line),
-        (
-            CHECK.as_slice(),
-            no_plan,
-            4,
-            b"fault 4 schedule 10 at 3\n".as_slice(),
-        ),
-        (
-            too_much.as_slice(),
-            sound,
-            5,
-            b"fault 5 work 6765 154 48\n".as_slice(),
-        ),
-        (
-            AUDIT.as_slice(),
-            other,
-            8,
-            b"fault 8 report 61 at 6\n".as_slice(),
-        ),
-    ] {
-        for way in ALL_WAYS {
-            let wrong = wrong_write(&rt, rt.alloc(), words, texts, way, (status, text))?;
-            same_of(&rt, &words, wrong, None);
-        }
-    }
-    Ok(())
+    Ok(all_writes_end(&rt, rt.alloc(), ALL_REFUSALS)?)
 }
 
 // Want of memory is free, so only these tell a program that runs from one that gives up: more than
 // one period, a bid, a window, proposals ahead, and a generated case. The expected texts are those
 // of other programs.
+const ANSWERED: &[Run] = &[
+    (
+        &[
+            "price",
+            "--case=c",
+            "--schedule=s",
+            "--proposals=4",
+            "--ahead=2",
+        ],
+        (TWO_BIDS, TWO_BIDS_SCHEDULE, b""),
+        (0, TWO_BIDS_REPORT),
+    ),
+    (
+        &["price", "--case=c", "--schedule=s", "--proposals=4"],
+        (WINDOW, WINDOW_SCHEDULE, b""),
+        (0, WINDOW_REPORT),
+    ),
+    (&["try", "7", "--proposals", "12"], ("", "", b""), (0, TRY)),
+];
+
 #[test]
 fn runs_answer_as_other_programs_do(rt: HostRuntime) -> Result<(), Fail> {
-    for (words, case, schedule, text) in [
-        (
-            [
-                "price",
-                "--case=c",
-                "--schedule=s",
-                "--proposals=4",
-                "--ahead=2",
-            ]
-            .as_slice(),
-            TWO_BIDS,
-            TWO_BIDS_SCHEDULE,
-            TWO_BIDS_REPORT,
-        ),
-        (
-            ["price", "--case=c", "--schedule=s", "--proposals=4"].as_slice(),
-            WINDOW,
-            WINDOW_SCHEDULE,
-            WINDOW_REPORT,
-        ),
-        (["try", "7", "--proposals", "12"].as_slice(), "", "", TRY),
-    ] {
-        let (status, bytes) = run(
-            &rt,
-            &NoGate,
-            rt.alloc(),
-            words,
-            (case, schedule, b"".as_slice()),
-            SHORT,
-        )?;
-        same(&rt, bytes.as_slice(), text);
-        same(&rt, status, 0);
-    }
-    Ok(())
+    Ok(runs_end(&rt, rt.alloc(), ANSWERED)?)
 }
 
 const FOUR_IDLE: &str = "\
@@ -861,41 +920,34 @@ fn four_workers_answer_at_once(rt: HostRuntime) -> Result<(), Fail> {
 }
 
 // Two right reports, that of another case, one without its last line feed, and none.
+const AUDITED: &[Run] = &[
+    (
+        &AUDIT,
+        (TWO_UNITS, TWO_UNITS_SCHEDULE, TWO_UNITS_REPORT),
+        (0, RIGHT),
+    ),
+    (
+        &AUDIT,
+        (TWO_UNITS, TWO_UNITS_SCHEDULE, TWO_PROPOSALS),
+        (0, b"hull-audit 1\nproposals 2\nright\n"),
+    ),
+    (
+        &AUDIT,
+        (TWO_UNITS, TWO_UNITS_SCHEDULE, USUAL_REPORT),
+        (8, b"fault 8 report 61 at 6\n"),
+    ),
+    (
+        &["audit", "--case=c", "--schedule=s", "--report=t"],
+        (TWO_UNITS, TWO_UNITS_SCHEDULE, TWO_UNITS_REPORT),
+        (2, b"fault 2 read report\n"),
+    ),
+];
+
 #[test]
 fn audits_answer_as_worked(rt: HostRuntime) -> Result<(), Fail> {
-    let unended = TWO_UNITS_REPORT.len() - 1;
-    let missing = ["audit", "--case=c", "--schedule=s", "--report=t"];
-    for (words, report, want, text) in [
-        (AUDIT.as_slice(), TWO_UNITS_REPORT, 0, RIGHT),
-        (
-            AUDIT.as_slice(),
-            TWO_PROPOSALS,
-            0,
-            b"hull-audit 1\nproposals 2\nright\n".as_slice(),
-        ),
-        (
-            AUDIT.as_slice(),
-            USUAL_REPORT,
-            8,
-            b"fault 8 report 61 at 6\n".as_slice(),
-        ),
-        (
-            AUDIT.as_slice(),
-            &TWO_UNITS_REPORT[..unended],
-            8,
-            b"fault 8 report 60 at 25\n".as_slice(),
-        ),
-        (
-            missing.as_slice(),
-            TWO_UNITS_REPORT,
-            2,
-            b"fault 2 read report\n".as_slice(),
-        ),
-    ] {
-        let texts = (TWO_UNITS, TWO_UNITS_SCHEDULE, report);
-        let (status, bytes) = run(&rt, &NoGate, rt.alloc(), words, texts, SHORT)?;
-        same(&rt, bytes.as_slice(), text);
-        same(&rt, status, want);
-    }
-    Ok(())
+    let unended = &TWO_UNITS_REPORT[..TWO_UNITS_REPORT.len() - 1];
+    let texts = (TWO_UNITS, TWO_UNITS_SCHEDULE, unended);
+    let text = b"fault 8 report 60 at 25\n".as_slice();
+    runs_end(&rt, rt.alloc(), &[(&AUDIT, texts, (8, text))])?;
+    Ok(runs_end(&rt, rt.alloc(), AUDITED)?)
 }
