@@ -33,9 +33,10 @@ fn values_of_a_usual_case(rt: HostRuntime) -> Result<(), Fail> {
     Ok(())
 }
 
-fn totals_are(rt: &impl Abort, row: &Row, supply: i128, reserve: i128) {
-    same(rt, row.supply.as_slice(), [supply].as_slice());
-    same(rt, row.reserve.as_slice(), [reserve].as_slice());
+fn totals_are(rt: &impl Abort, row: Row, supply: i128, reserve: i128) {
+    let (supply, reserve) = ([supply], [reserve]);
+    let due = (supply.as_slice(), reserve.as_slice());
+    same(rt, (row.supply.as_slice(), row.reserve.as_slice()), due);
 }
 
 fn row_with_unit(alloc: Global) -> Result<Row, AllocError> {
@@ -47,7 +48,7 @@ fn row_with_unit(alloc: Global) -> Result<Row, AllocError> {
 
 #[test]
 fn unit_adds(rt: HostRuntime) -> Result<(), Fail> {
-    totals_are(&rt, &row_with_unit(rt.alloc())?, 100, 7);
+    totals_are(&rt, row_with_unit(rt.alloc())?, 100, 7);
     Ok(())
 }
 
@@ -60,6 +61,6 @@ fn row_with_bid(alloc: Global) -> Result<Row, AllocError> {
 
 #[test]
 fn bid_takes(rt: HostRuntime) -> Result<(), Fail> {
-    totals_are(&rt, &row_with_bid(rt.alloc())?, -50, 0);
+    totals_are(&rt, row_with_bid(rt.alloc())?, -50, 0);
     Ok(())
 }

@@ -6,6 +6,7 @@ use crate::same::{same, same_of};
 use crate::small_cases::{one_price, one_range};
 use flat_answer::{best_bid, best_flat};
 use std::alloc::{AllocError, Global};
+use std::fmt::Debug;
 use std::process::Abort;
 use std::test::Fail;
 use uc_model::units::{Answered, Bid, Block, BlockLists, Blocks};
@@ -53,34 +54,43 @@ fn bought(alloc: Global, block: Block, price: i64) -> Result<Answered, AllocErro
     Ok(into)
 }
 
-fn answer_is(rt: &impl Abort, answer: &Answered, power: u32, earned: i64) {
-    same(rt, answer.response.power.as_slice(), [power].as_slice());
-    same(rt, answer.earned, earned);
+// The answer of a unit that is on and gives no reserve.
+fn answer_is(rt: &impl Abort, of: &impl Debug, answer: Answered, power: u32, earned: i64) {
+    let Answered {
+        response,
+        earned: is,
+    } = &answer;
+    let on = response.on.as_slice();
+    let powers = response.power.as_slice();
+    let reserves = response.reserve.as_slice();
+    let (on_due, power_due, none) = ([true], [power], [0]);
+    let due = (
+        on_due.as_slice(),
+        power_due.as_slice(),
+        none.as_slice(),
+        earned,
+    );
+    same_of(rt, of, (on, powers, reserves, *is), due);
 }
 
 #[test]
 fn renewable_sells_where_it_is_paid(rt: HostRuntime) -> Result<(), Fail> {
     let answer = sold(rt.alloc(), 0, 3_000, 119_660)?;
-    same(&rt, answer.response.on.as_slice(), [true].as_slice());
-    same(&rt, answer.response.reserve.as_slice(), [0].as_slice());
-    answer_is(&rt, &answer, 3_000, 358_980_000);
+    answer_is(&rt, &119_660, answer, 3_000, 358_980_000);
     Ok(())
 }
 
 #[test]
 fn renewable_sells_its_least_otherwise(rt: HostRuntime) -> Result<(), Fail> {
-    for (price, earned) in [(0, 0), (-5, -50)] {
-        assert!(rt; price <= 0 && -5 <= price);
-        let answer = sold(rt.alloc(), 10, 20, price)?;
-        same_of(
-            &rt,
-            &price,
-            answer.response.power.as_slice(),
-            [10].as_slice(),
-        );
-        same_of(&rt, &price, answer.earned, earned);
-    }
+    answer_is(&rt, &0, sold(rt.alloc(), 10, 20, 0)?, 10, 0);
+    answer_is(&rt, &-5, sold(rt.alloc(), 10, 20, -5)?, 10, -50);
     Ok(())
+}
+
+fn purchase_is(rt: &impl Abort, answer: Answered, power: u32, earned: i64) {
+    let powers = answer.response.power.as_slice();
+    let due = [power];
+    same(rt, (powers, answer.earned), (due.as_slice(), earned));
 }
 
 #[test]
@@ -90,7 +100,7 @@ fn bid_buys_below_its_price(rt: HostRuntime) -> Result<(), Fail> {
         price: 40,
     };
     let answer = bought(rt.alloc(), block, 30)?;
-    answer_is(&rt, &answer, 50, 500);
+    purchase_is(&rt, answer, 50, 500);
     Ok(())
 }
 
@@ -101,6 +111,6 @@ fn bid_in_a_tie_buys_nothing(rt: HostRuntime) -> Result<(), Fail> {
         price: 30,
     };
     let answer = bought(rt.alloc(), block, 30)?;
-    answer_is(&rt, &answer, 0, 0);
+    purchase_is(&rt, answer, 0, 0);
     Ok(())
 }

@@ -1,6 +1,6 @@
-//! Tests of one crate each: a file for each crate that is tested, named after it, and `small_cases`
-//! for what several of them begin from. They stand above those crates, which so are proved without
-//! tests alone.
+//! Tests of one crate each: a file for each crate that is tested, named after it, `small_cases` for
+//! what several of them begin from, and `same` and `tree_values` for what they compare. They stand
+//! above those crates, which so are proved without tests alone.
 #![tactic(auto)]
 
 #[cfg(test)]
@@ -31,6 +31,8 @@ mod small_cases;
 mod task_deal_tests;
 #[cfg(test)]
 mod text_tree_tests;
+#[cfg(test)]
+mod tree_values;
 #[cfg(test)]
 mod uc_num_tests;
 #[cfg(test)]

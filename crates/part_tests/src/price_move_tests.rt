@@ -32,6 +32,20 @@ fn after_one(
     Ok((moved, into))
 }
 
+fn energy_is(rt: &impl Abort, prices: Prices, energy: i64) {
+    same(rt, prices.energy.as_slice(), [energy].as_slice());
+}
+
+fn prices_are(rt: &impl Abort, prices: Prices, energy: i64, reserve: i64) {
+    let (energy, reserve) = ([energy], [reserve]);
+    let due = (energy.as_slice(), reserve.as_slice());
+    same(
+        rt,
+        (prices.energy.as_slice(), prices.reserve.as_slice()),
+        due,
+    );
+}
+
 fn after_a_usual_row(alloc: Global) -> Result<(Moved, Prices), AllocError> {
     let case = one_period(alloc, 10_000, 2_000, 0)?;
     let row = one_row(alloc, 98_000, 686_000_000, 3_000)?;
@@ -42,8 +56,7 @@ fn after_a_usual_row(alloc: Global) -> Result<(Moved, Prices), AllocError> {
 fn prices_follow_a_usual_row(rt: HostRuntime) -> Result<(), Fail> {
     let (moved, into) = after_a_usual_row(rt.alloc())?;
     same(&rt, moved, Moved::Made);
-    same(&rt, into.energy.as_slice(), [119_660].as_slice());
-    same(&rt, into.reserve.as_slice(), [6_188].as_slice());
+    prices_are(&rt, into, 119_660, 6_188);
     Ok(())
 }
 
@@ -57,7 +70,7 @@ fn after_a_settled_row(alloc: Global) -> Result<(Moved, Prices), AllocError> {
 fn no_prices_follow_a_settled_row(rt: HostRuntime) -> Result<(), Fail> {
     let (moved, into) = after_a_settled_row(rt.alloc())?;
     same(&rt, moved, Moved::Settled);
-    same(&rt, into.energy.as_slice(), [7].as_slice());
+    energy_is(&rt, into, 7);
     Ok(())
 }
 
@@ -72,9 +85,7 @@ fn directions_at(alloc: Global, energy: i64) -> Result<(i64, i64), AllocError>
 
 #[test]
 fn directions(rt: HostRuntime) -> Result<(), Fail> {
-    let (energy, reserve) = directions_at(rt.alloc(), 98_000)?;
-    same(&rt, energy, 7_000);
-    same(&rt, reserve, 2_000);
+    same(&rt, directions_at(rt.alloc(), 98_000)?, (7_000, 2_000));
     let (energy, _) = directions_at(rt.alloc(), 10_000_000)?;
     same(&rt, energy, 0);
     Ok(())
@@ -114,10 +125,6 @@ fn after_rows_alike(
     let mut into = one_price(alloc, 7, 0)?;
     next_prices(case, rows.as_slice(), 1, gap, &mut into);
     Ok(into)
-}
-
-fn energy_is(rt: &impl Abort, prices: Prices, energy: i64) {
-    same(rt, prices.energy.as_slice(), [energy].as_slice());
 }
 
 // The prices that follow so many rows, at a demand of 50 and a gap of 1,000.

@@ -1,6 +1,7 @@
 use crate::same::{same, same_of};
-use report_read::{ReportError, read_report};
+use report_read::{Report, ReportError, UnitLine, read_report};
 use std::alloc::{AllocError, Global};
+use std::process::Abort;
 use std::string::String;
 use std::test::Fail;
 use uc_model::kinds::Kind;
@@ -104,19 +105,33 @@ fn lines_out_of_form(rt: HostRuntime) -> Result<(), Fail> {
     Ok(())
 }
 
+fn line_is(rt: &impl Abort, line: &UnitLine, name: &str, earned: i64, power: u32) {
+    assert!(rt; line.kind == Kind::Thermal);
+    let due = [power];
+    let is = (
+        line.name.as_str(),
+        line.earned,
+        line.response.power.as_slice(),
+    );
+    same(rt, is, (name, earned, due.as_slice()));
+}
+
+fn report_is_of_two(rt: &impl Abort, report: &Report) {
+    same(rt, (report.rows.len(), report.lines.len()), (1, 2));
+    let sums = (
+        report.cost,
+        report.chosen_value,
+        report.payments,
+        report.gap,
+    );
+    same(rt, sums, (3500, 2500, 1000, 1000));
+    assert!(rt; !report.lines.is_empty());
+    line_is(rt, report.lines.get(0), "A", 2000, 100);
+}
+
 #[test]
 fn what_a_report_tells(rt: HostRuntime) -> Result<(), Fail> {
     let report = read_report(rt.alloc(), TWO_UNITS.as_bytes())?;
-    same(&rt, report.cost, 3500);
-    same(&rt, report.rows.len(), 1);
-    same(&rt, report.chosen_value, 2500);
-    assert_eq!(rt; report.lines.len(), 2);
-    let line = report.lines.get(0);
-    assert!(rt; line.kind == Kind::Thermal);
-    same(&rt, line.name.as_str(), "A");
-    same(&rt, line.earned, 2000);
-    same(&rt, line.response.power.as_slice(), [100].as_slice());
-    same(&rt, report.payments, 1000);
-    same(&rt, report.gap, 1000);
+    report_is_of_two(&rt, &report);
     Ok(())
 }

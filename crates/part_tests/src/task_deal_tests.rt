@@ -1,12 +1,15 @@
 //! Jobs that keep a list of what they ran.
-ghost use Rattle.std.specs.Prelude.{◌≡◌, ◌≤◌, length, All, IfOk};
+ghost use Rattle.std.specs.Prelude.{◌≡◌, ◌<◌, ◌≤◌, length, All, IfOk};
 ghost use Rattle.part_tests.specs.declared.task_deal_tests.Keeper.{Keeper};
 
 use crate::same::same;
 use std::alloc::{AllocError, Global};
+use std::process::Abort;
+use std::sync::Wait;
 use std::sync::atomic::AtomicUsize;
 use std::sync::atomic::Ordering::SeqCst;
 use std::thread;
+use std::thread::Threads;
 use task_deal::{Job, deal_all};
 use uc_model::lists::ReservedList;
 
@@ -48,39 +51,56 @@ fn times(job: &Keeper, number: u32) -> usize {
     numbers.iter().filter(|ran| **ran == number).count()
 }
 
+// How many jobs ran a number so often.
+fn jobs_by(jobs: &[Keeper], number: u32, often: usize) -> usize {
+    jobs.iter()
+        .filter(|job| times(job, number) == often)
+        .count()
+}
+
+// Each number was run by one job, once, and nothing else was run.
+fn each_ran_once(rt: &impl Abort, jobs: &[Keeper], numbers: u32) {
+    let mut ran = 0usize;
+    for job in jobs {
+        ran = ran.saturating_add(job.numbers.len());
+    }
+    same(rt, ran, numbers as usize);
+    let others = jobs.len().saturating_sub(1);
+    for number in 0..numbers {
+        let by = (jobs_by(jobs, number, 1), jobs_by(jobs, number, 0));
+        same(rt, by, (1, others));
+    }
+}
+
+fn each_runs_once<R: Threads + Wait + Sync + Abort>(
+    rt: &R,
+    alloc: Global,
+    count: usize,
+    numbers: u32,
+) -> Result<(), AllocError>
+    requires some { 0 < count }
+    requires jobs { count ≤ 4 }
+    requires numbers { numbers ≤ 200 }
+{
+    let mut jobs = keepers(alloc, count, numbers)?;
+    deal_all(rt, alloc, numbers, &mut jobs)?;
+    each_ran_once(rt, &jobs, numbers);
+    Ok(())
+}
+
 #[test]
 fn no_number_changes_no_job(rt: HostRuntime) -> Result<(), AllocError> {
-    let mut jobs = keepers(rt.alloc(), 2, 0)?;
-    deal_all(&rt, rt.alloc(), 0, &mut jobs)?;
-    for job in &jobs {
-        assert!(rt; job.numbers.is_empty());
-    }
-    Ok(())
+    each_runs_once(&rt, rt.alloc(), 2, 0)
 }
 
 #[test]
 fn one_job_runs_each_number_once(rt: HostRuntime) -> Result<(), AllocError> {
-    let mut jobs = keepers(rt.alloc(), 1, 5)?;
-    deal_all(&rt, rt.alloc(), 5, &mut jobs)?;
-    for job in &jobs {
-        same(&rt, job.numbers.len(), 5);
-        for number in 0..5 {
-            same(&rt, times(job, number), 1);
-        }
-    }
-    Ok(())
+    each_runs_once(&rt, rt.alloc(), 1, 5)
 }
 
 #[test]
 fn four_jobs_run_each_number_once(rt: HostRuntime) -> Result<(), AllocError> {
-    let mut jobs = keepers(rt.alloc(), 4, 200)?;
-    deal_all(&rt, rt.alloc(), 200, &mut jobs)?;
-    for number in 0..200 {
-        let once = jobs.iter().filter(|job| times(job, number) == 1).count();
-        let never = jobs.iter().filter(|job| times(job, number) == 0).count();
-        same(&rt, (once, never), (1, 3));
-    }
-    Ok(())
+    each_runs_once(&rt, rt.alloc(), 4, 200)
 }
 
 // How often a job looks for the other.
@@ -163,28 +183,36 @@ fn watchers<'a>(
     Ok(jobs)
 }
 
-#[test]
-fn two_jobs_run_on_two_threads(rt: HostRuntime) -> Result<(), AllocError> {
+// So many numbers are dealt to two jobs that watch one another. Each runs from the
+// least to the most of `runs`, and never looks in vain.
+fn both_watch<R: Threads + Wait + Sync + Abort>(
+    rt: &R,
+    alloc: Global,
+    numbers: u32,
+    watched: usize,
+    runs: (usize, usize),
+) -> Result<(), AllocError>
+    requires { numbers ≤ 100 }
+{
+    let (least, most) = runs;
     let (one, two) = (AtomicUsize::new(0), AtomicUsize::new(0));
-    let mut jobs = watchers(rt.alloc(), 2, 1, &one, &two)?;
-    deal_all(&rt, rt.alloc(), 2, &mut jobs)?;
+    let mut jobs = watchers(alloc, numbers, watched, &one, &two)?;
+    deal_all(rt, alloc, numbers, &mut jobs)?;
     for job in &jobs {
-        same(&rt, job.numbers.len(), 1);
-        assert!(rt; !job.in_vain);
+        let ran = job.numbers.len();
+        assert!(rt; least <= ran && ran <= most && !job.in_vain);
     }
     Ok(())
+}
+
+#[test]
+fn two_jobs_run_on_two_threads(rt: HostRuntime) -> Result<(), AllocError> {
+    both_watch(&rt, rt.alloc(), 2, 1, (1, 1))
 }
 
 // While one job waits in its second run, at most 34 numbers have been taken for it: the first
 // alone, and the second with a batch of at most 32 more. So there are numbers left for the other.
 #[test]
 fn both_jobs_go_on_after_their_first_number(rt: HostRuntime) -> Result<(), AllocError> {
-    let (one, two) = (AtomicUsize::new(0), AtomicUsize::new(0));
-    let mut jobs = watchers(rt.alloc(), 100, 2, &one, &two)?;
-    deal_all(&rt, rt.alloc(), 100, &mut jobs)?;
-    for job in &jobs {
-        assert!(rt; job.numbers.len() >= 2);
-        assert!(rt; !job.in_vain);
-    }
-    Ok(())
+    both_watch(&rt, rt.alloc(), 100, 2, (2, 100))
 }

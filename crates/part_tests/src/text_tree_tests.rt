@@ -1,46 +1,71 @@
 use crate::same::same;
+use crate::tree_values::{list_in, numbers_are, object_in};
+use std::alloc::{AllocError, Global};
+use std::process::Abort;
 use std::test::Fail;
 use text_tokens::small::SmallNumber;
-use text_tokens::text_of;
-use text_tree::{Node, Tree};
+use text_tokens::{Quoted, text_of};
+use text_tree::{ListBranch, Member, Node, ObjectBranch, Tree};
 use uc_num::Decimal;
+
+const SEVEN: SmallNumber = SmallNumber {
+    digits: 7,
+    exponent: 0,
+    negative: false,
+};
+
+const LARGE: Decimal = Decimal {
+    negative: false,
+    digits: 12345678901,
+    exponent: 0,
+};
+
+fn name_is(rt: &impl Abort, alloc: Global, name: Quoted, due: &str) -> Result<(), AllocError> {
+    let name = text_of(alloc, name)?;
+    same(rt, name.as_str(), due);
+    Ok(())
+}
+
+fn two_members<'a>(
+    rt: &impl Abort,
+    alloc: Global,
+    object: ObjectBranch<'a>,
+) -> Result<(Member<'a>, Member<'a>), AllocError> {
+    let members = object.members(alloc)?;
+    assert!(rt; members.len() == 2 && object.len() == 2);
+    Ok((members[0], members[1]))
+}
+
+// A list of two numbers and a null.
+fn list_is(rt: &impl Abort, alloc: Global, list: ListBranch) -> Result<(), AllocError> {
+    let items = list.items(alloc)?;
+    numbers_are(rt, &items, &[Some(SEVEN.decimal()), Some(LARGE), None]);
+    assert!(rt; items.len() == 3 && list.len() == 3 && items[2].is_null());
+    Ok(())
+}
+
+fn tree_is(rt: &impl Abort, alloc: Global, tree: &Tree) -> Result<(), AllocError> {
+    let object = object_in(rt, tree.root());
+    let (first, second) = two_members(rt, alloc, object)?;
+    name_is(rt, alloc, first.name, "a")?;
+    list_is(rt, alloc, list_in(rt, first.value))?;
+    same(rt, object_in(rt, second.value).len(), 0);
+    Ok(())
+}
 
 #[test]
 fn an_object_of_a_list_and_an_object(rt: HostRuntime) -> Result<(), Fail> {
     let bytes: &[u8] = b"{\"\\u0061\":[7,12345678901,null],\"b\":{}}";
-    let seven = SmallNumber {
-        digits: 7,
-        exponent: 0,
-        negative: false,
-    };
     let nodes = vec![in rt.alloc();
         Node::Object(2),
         Node::Text(1),
         Node::List(3),
-        Node::Number(seven),
+        Node::Number(SEVEN),
         Node::LargeNumber(13),
         Node::Null,
         Node::Text(31),
         Node::Object(0),
     ]?;
-    let tree = Tree { bytes, nodes };
-    let object = tree.root().object().ok_or("an object")?;
-    let members = object.members(rt.alloc())?;
-    same(&rt, (members.len(), object.len()), (2, 2));
-    let name = text_of(rt.alloc(), members[0].name)?;
-    same(&rt, name.as_str(), "a");
-    let list = members[0].value.list().ok_or("a list")?;
-    let items = list.items(rt.alloc())?;
-    same(&rt, (items.len(), list.len()), (3, 3));
-    same(&rt, items[0].number(), Some(seven.decimal()));
-    let large = Decimal {
-        negative: false,
-        digits: 12345678901,
-        exponent: 0,
-    };
-    same(&rt, items[1].number(), Some(large));
-    assert!(rt; items[2].is_null());
-    let inner = members[1].value.object().ok_or("an object")?;
-    same(&rt, inner.len(), 0);
+    tree_is(&rt, rt.alloc(), &Tree { bytes, nodes })?;
     Ok(())
 }
