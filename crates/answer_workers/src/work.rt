@@ -1,5 +1,6 @@
 //! The work of one worker.
-ghost use Rattle.std.specs.Prelude.{◌≡◌, IfSome};
+ghost use Rattle.std.specs.Prelude.{◌≡◌, ◌⊎◌, None, IfSome};
+ghost use Rattle.board_core.specs.declared.replies.Claim.TheVariants.{Given, NotYet};
 ghost use Rattle.answer_workers.specs.Workers.{IsWorkerOf, HasWorked, IsEnd, HasEnded, HasParts};
 ghost use Rattle.answer_workers.specs.Workers.{market_at, AreGiven, AreAnswered};
 ghost use Rattle.answer_workers.specs.declared.worker.Worker.{Worker};
@@ -37,7 +38,8 @@ fn answer_each<G: Gate>(worker: &mut Worker, given: usize, gate: &G)
 
 // How the work has ended, if the last claim tells so.
 fn ended_by(end: Claim) -> Option<Ended>
-    ensures { IfSome result (λ e. (w : Worker) → IsEnd end w → HasEnded e w) }
+    ensures ended { IfSome result (λ e. (w : Worker) → IsEnd end w → HasEnded e w) }
+    ensures going { result ≡ None → (end ≡ Given) ⊎ (end ≡ NotYet) }
 {
     match end {
         Claim::Finished => Some(Ended::Finished),

@@ -227,8 +227,8 @@ module _ (b : Setup) (board : SharedBoard) where
         split = All-push Apart ws w h.split (λ owns. let none : k ≡ 0 = sym caller ∙ owns in absurd (omega (arith, none, old_count)));
       }
 
-  hired_all : (owner : SeatValue) (k : ℕ) (ws : List Worker) (w : Worker) → IsHired b board owner k ws → w.seat ≡ owner → HasParts b.market w → IsCrew b board (ws ++ w ∷ [])
-  hired_all owner k ws w h is parts =
+  hired_all : (owner : SeatValue) (k : ℕ) (ws : List Worker) (w : Worker) → b.callers ≡ k → IsHired b board owner k ws → w.seat ≡ owner → HasParts b.market w → IsCrew b board (ws ++ w ∷ [])
+  hired_all owner k ws w each h is parts =
       let view : view_of w.seat ≡ view_of owner = ap view_of is in
       let setup : (view_of w.seat).setup ≡ b = ap (λ (v : View). v.setup) view ∙ h.setup in
       let out = ap (λ (v : View). length v.out) view in
@@ -244,6 +244,7 @@ module _ (b : Setup) (board : SharedBoard) where
         others = ws;
         owner = w;
         all = refl;
+        callers = omega (arith, each, count, more);
         new = All-push (IsNew b board) ws w h.new last;
         is_owner = ap (λ (v : View). v.caller) view ∙ h.own.1;
         split = h.split;
@@ -259,8 +260,8 @@ module _ (b : Setup) (board : SharedBoard) where
       → w.seat ≡ s → HasParts b.market w → vs ≡ ws ++ w ∷ [] → IsHired b board later (k + 1) vs
   hired_again owner later s k ws vs w h same cut left is parts all = subst (IsHired b board later (k + 1)) (sym all) (hired_more owner later s k ws w h same cut left is parts)
 
-  pub crew_all : (owner : SeatValue) (k : ℕ) (ws vs : List Worker) (w : Worker) → IsHired b board owner k ws → w.seat ≡ owner → HasParts b.market w → vs ≡ ws ++ w ∷ [] → IsCrew b board vs
-  crew_all owner k ws vs w h is parts all = subst (IsCrew b board) (sym all) (hired_all owner k ws w h is parts)
+  pub crew_all : (owner : SeatValue) (k : ℕ) (ws vs : List Worker) (w : Worker) → b.callers ≡ k → IsHired b board owner k ws → w.seat ≡ owner → HasParts b.market w → vs ≡ ws ++ w ∷ [] → IsCrew b board vs
+  crew_all owner k ws vs w each h is parts all = subst (IsCrew b board) (sym all) (hired_all owner k ws w each h is parts)
 
 -- ---- a row of workers that was lent
 

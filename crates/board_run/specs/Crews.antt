@@ -23,12 +23,13 @@ pub record IsNew (b : Setup) (board : SharedBoard) (w : Worker) : Type 0 where
   pub setup : (view_of w.seat).setup ≡ b
   pub seen : (view_of w.seat).seen ≡ []
 
--- all of them: the last has the owner's seat, the others have those that were split from it, and no
--- other seat is out
+-- all of them, as many as the board has callers: the last has the owner's seat, the others have
+-- those that were split from it, and no other seat is out
 pub record IsCrew (b : Setup) (board : SharedBoard) (ws : List Worker) : Type 0 where
   pub others : List Worker
   pub owner : Worker
   pub all : ws ≡ others ++ owner ∷ []
+  pub callers : length ws ≡ b.callers
   pub new : All (IsNew b board) ws
   pub is_owner : IsOwner owner.seat
   pub split : All (λ (w : Worker). IsOwner w.seat → ⊥) others

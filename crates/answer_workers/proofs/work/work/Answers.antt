@@ -9,7 +9,7 @@ pub returns-in-Some-ended_by-clause-worked : goal.returns-in-Some-ended_by-claus
 returns-in-Some-ended_by-clause-worked g c = works_on c.args.worker.now c.loop.worker c.next_visit-outcome.new.worker c.loop.invariant.3 c.next_visit-outcome.ensures.worked
 
 pub returns-in-Some-ended_by-clause-ended : goal.returns-in-Some-ended_by-clause-ended
-returns-in-Some-ended_by-clause-ended g c = c.in-Some-ended_by.ensures c.next_visit-outcome.new.worker c.next_visit-outcome.ensures.told
+returns-in-Some-ended_by-clause-ended g c = c.in-Some-ended_by.ensures.ended c.next_visit-outcome.new.worker c.next_visit-outcome.ensures.told
 
 pub loop-preserved : goal.loop-preserved
 loop-preserved g c =

@@ -60,8 +60,10 @@ pub returns : goal.returns
 returns c =
     let b = (view_of c.args.owner).setup in
     let made = c.in_ok-make-2.ensures in
+    let callers = c.requires.count in
+    let last = c.loop.auto.counter-end c.requires.some in
     record {
       crew =
-          crew_all b c.args.board.now c.loop.owner c.loop.counter c.loop.workers.items _ c.in_ok-make-2.field-0 c.loop.invariant.hired made.seat (made.parts b.market c.requires.horizon c.requires.points)
+          crew_all b c.args.board.now c.loop.owner c.loop.counter c.loop.workers.items _ c.in_ok-make-2.field-0 (omega (arith, callers, last)) c.loop.invariant.hired made.seat (made.parts b.market c.requires.horizon c.requires.points)
           c.push_reserved-2.ensures.items;
     }
