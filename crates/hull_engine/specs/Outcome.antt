@@ -9,15 +9,18 @@
 -- is that there are bytes that fit, and that they are those on the disk is trusted; but the
 -- function is one for all shelves, and over one that tells its bytes it can do nothing else.
 -- `gained text` is that the sink has got the whole text, `short text` that it has a front of it and
--- its count of failed writes rose, or stood at its last value, where it can't rise. A sink that
--- tells nothing of what it holds, as standard output, has got any text. `(x : T) × P` is read 'there is an x with P', `⊎` 'or', `⊥` 'never'.
+-- its count of failed writes rose. A sink that tells nothing of what it holds, as standard output,
+-- has got any text. A count that stands at its last value can't rise, and is taken to have risen.
+-- `(x : T) × P` is read 'there is an x with P', `×` between two statements 'and', `⊎` 'or', `⊥`
+-- 'never'.
 --
 -- The steps of the commands are in Steps; a case with its schedule is in board_run's Inputs; the
 -- text of a report in report_form's ReportText; the other texts, and what makes them right, in
 -- hull_report: RightReport, CheckText, TryText, BoundText, FixedText and RightSide, AuditText,
 -- FaultLines; a case with its schedule's commitments held in fixed_price's FixedCase; which reports
 -- are read, and the first line in fault, in report_read's Bounds and Faults; the first line at
--- which a report differs from the right one in report_check's Right.
+-- which a report differs from the right one in report_check's Right; the bound round a row in
+-- gap_proof's Candidates.
 use Rattle.std.specs.Prelude.{◌≡◌, ◌⊎◌, ℕ, ℤ, List, length, unsigned_abs, Option, None, Some}
 use Rattle.std.specs.Prelude.{Result, Ok, Err, IfSome}
 use Rattle.fixed_price.specs.FixedCase.{fixed_market}
@@ -68,7 +71,8 @@ with_report case_name schedule_name report_name CaseFile = Some case_name
 with_report case_name schedule_name report_name ScheduleFile = Some schedule_name
 with_report case_name schedule_name report_name ReportFile = Some report_name
 
--- the text of a right report for the input, with that budget and number of proposals ahead
+-- what `text_of` writes of a right report for the input, with that budget and number of proposals
+-- ahead
 abbrev pub IsReportText : (Report → List ℕ) → (budget ahead : ℕ) → PlannedCase → List ℕ → Type 0
 IsReportText text_of budget ahead c text =
     (r : Report) × IsRightReport c.market c.plan budget ahead r × (text ≡ text_of r)
@@ -82,7 +86,7 @@ IsBoundText budget ahead radius c text =
     (unsigned_abs radius) range.first range.last limit)
 
 -- the text of the run of the case and of the run with the schedule's commitments held, each with
--- what the units are paid at its chosen prices: of a right side the first case is the one that is
+-- what the units are owed at its chosen prices: of a right side the first case is the one that is
 -- paid, as given in both, and the second the one that was run
 abbrev pub IsFixedText : (budget ahead : ℕ) → PlannedCase → List ℕ → Type 0
 IsFixedText budget ahead c text =
@@ -125,13 +129,14 @@ command_for (Ok (try a)) = record {
   IsDue = λ reads. Then (IsMade a.number) (IsWithinWork a.proposals);
   IsText = λ reads. IsReportText (try_text a.number) a.proposals a.ahead;
 }
--- how much better any other prices within a radius of those that a run chose could be
+-- how much better any other whole prices could be, within the limits and within a radius of those
+-- that a run chose
 command_for (Ok (bound a)) = record {
   name_of = case_and_schedule a.run.case_name a.run.schedule_name;
   IsDue = λ reads. Then (IsInput reads) (IsWithinWork a.run.proposals);
   IsText = λ reads. IsBoundText a.run.proposals a.run.ahead a.radius;
 }
--- what the units are paid at the prices of the case, and at those with the schedule's commitments
+-- what the units are owed at the prices of the case, and at those with the schedule's commitments
 -- held
 command_for (Ok (fixed a)) = record {
   name_of = case_and_schedule a.case_name a.schedule_name;
@@ -154,8 +159,7 @@ abbrev pub IsReadOf : (told : Option (List ℕ)) (rose : Type 0) → Option (Lis
 IsReadOf told rose (Some bytes) = IfSome told (λ all. bytes ≡ all)
 IsReadOf told rose None = rose
 
--- Each file that has a name has such bytes, or such a failure, also one that the run never came to:
--- where the case is refused, the schedule isn't opened.
+-- Each file that has a name has such bytes, or such a failure, also one that the run never came to.
 abbrev pub AreReads : (told : List ℕ → Option (List ℕ)) (rose : List ℕ → Type 0) →
     (FileKind → Option (List ℕ)) → Reads → Type 0
 AreReads told rose name_of reads =
@@ -180,7 +184,7 @@ HasText c reads P =
     (i : PlannedCase) × c.IsDue reads (Ok i) × (text : List ℕ) × c.IsText reads i text × P text
 
 -- `gained` says of a text that the sink has it whole, and `short` that the sink has a front of it,
--- which may be all of it, and its count rose or stood at its last value.
+-- which may be all of it, and its count rose.
 --   0: the text of an accepted input was gained
 --   6: it fell short
 --   else: the line of the first refusal was written, as far as the sink took it. A failed read is
@@ -191,9 +195,9 @@ Ends c reads gained short Cut = HasText c reads short
 Ends c reads gained short (Refused f) =
     (c.IsDue reads (Err f) ⊎ (f ≡ Memory)) × (gained (fault_line f) ⊎ short (fault_line f))
 
--- THE OUTCOME of a run of these words: there are bytes that were read of each file that the words
--- name, or reads that failed as a count tells, and the run ended as is due on them, with the status
--- of that end.
+-- THE OUTCOME of a run of these words: there are bytes of each file that the words name, or a read
+-- of it that failed as a count tells, and the run ended as is due on them, with the status of that
+-- end.
 pub record IsOutcome (words : List (List ℕ)) (told : List ℕ → Option (List ℕ))
     (rose gained short : List ℕ → Type 0) (status : ℕ) : Type 0 where
   pub reads : Reads

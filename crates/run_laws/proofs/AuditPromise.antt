@@ -1,12 +1,12 @@
 -- What is promised of an audit.
-use Rattle.run_laws.proofs.Common.{◌≡◌, ℕ, ◌<◌, ◌⊎◌, inl, inr, Bool, true, false, List, [], ◌∷◌, Option, None, Some, Result, Ok, Err, refl, sym, ap, ◌∙◌, subst, arith, length, nat_lt, if◌then◌else◌, ltb-true, MOST_BYTES, Asked, AuditAsked, audit, WordFault, status_of, fault_line, IsFlatLine, HasForm, TextDeterminesReport, RightReportHasForm, ReportPaymentsMakeUpTheGap, UnitLine, Report, report_text, CaseFile, ScheduleFile, ReportFile, TopFault, TooBig, Unfit, End, Done, Cut, Refused, Reads, bytes_of, IsInput, IsWithinWork, IsReportFile, IsAudit, PlannedCase, command_for, IsReadOf, AreReads, with_report, HasText, Ends, status_at, OverReads, IsAuditPromised, IsWrongAt, IsAuditRefused, BytesAreThoseRead, ReportBytesAreItsText}
+use Rattle.run_laws.proofs.Common.{◌≡◌, ℕ, ◌<◌, ◌⊎◌, inl, inr, Bool, true, false, List, [], ◌∷◌, Option, None, Some, Result, Ok, Err, refl, sym, ap, ◌∙◌, subst, arith, length, nat_lt, if◌then◌else◌, ltb-true, MOST_BYTES, Asked, AuditAsked, audit, WordFault, status_of, fault_line, IsFlatLine, HasForm, TextDeterminesReport, RightReportHasForm, ReportPaymentsMakeUpTheGap, RunPricesAreWithin, NothingIsPaidBack, UnitLine, Report, report_text, CaseFile, ScheduleFile, ReportFile, TopFault, TooBig, Unfit, End, Done, Cut, Refused, Reads, bytes_of, IsInput, IsWithinWork, IsReportFile, IsAudit, PlannedCase, command_for, IsReadOf, AreReads, with_report, HasText, Ends, status_at, OverReads, IsAuditPromised, IsWrongAt, IsAuditRefused, BytesAreThoseRead, ReportBytesAreItsText}
 use Rattle.std.specs.List.{AllByRecursion}
 use Rattle.std.proofs.lemmas.List.Elements.{All-from_recursion}
 use Rattle.hull_report.specs.RightReport.{IsRightReport}
 use Rattle.report_read.specs.Bounds.{IsOtherLine, IsReport}
 use Rattle.report_read.specs.Faults.{IsFault}
 use Rattle.report_check.specs.Right.{DiffersFromRight}
-use Rattle.run_laws.proofs.OutcomeLaws.{status_within, same_fault, bytes_fault, input_fault, work_fault, same_input, InputParts, input_parts}
+use Rattle.run_laws.proofs.OutcomeLaws.{pays_none_back, status_within, same_fault, bytes_fault, input_fault, work_fault, same_input, InputParts, input_parts}
 
 -- ---- a report within the bounds of reading
 
@@ -27,7 +27,7 @@ within_has_form r h = record {
 
 -- ---- the promise
 
-module _ (got : BytesAreThoseRead) (text_read : ReportBytesAreItsText) (gap : ReportPaymentsMakeUpTheGap) (determined : TextDeterminesReport) (has_form : RightReportHasForm) (a : AuditAsked) (told : List ℕ → Option (List ℕ)) (rose gained : List ℕ → Type 0) where
+module _ (got : BytesAreThoseRead) (text_read : ReportBytesAreItsText) (gap : ReportPaymentsMakeUpTheGap) (priced : RunPricesAreWithin) (nothing : NothingIsPaidBack) (determined : TextDeterminesReport) (has_form : RightReportHasForm) (a : AuditAsked) (told : List ℕ → Option (List ℕ)) (rose gained : List ℕ → Type 0) where
   audited_parts : (reads : Reads) (i : PlannedCase) → (command_for (Ok (audit a))).IsDue reads (Ok i) → InputParts reads i
   audited_parts reads i (Ok c, input, (Ok r, file, (Ok left, work, (right, same)))) =
       subst (InputParts reads) (same_input r.budget c left work ∙ sym same) (input_parts got reads c input)
@@ -51,6 +51,8 @@ module _ (got : BytesAreThoseRead) (text_read : ReportBytesAreItsText) (gap : Re
   audit_promised reads are (i, due, shown, (r, read, right, is), printed) =
       let parts = audited_parts reads i due in
       let made_up = gap i.market i.plan r.budget r.ahead r parts.feasible right in
+      let bounds = audited_within reads i r due read right in
+      let paid = pays_none_back priced nothing i.market i.plan r.budget r.ahead r bounds.ahead_at_least parts.feasible right in
       record {
         case_bytes = parts.case_bytes;
         case_told = subst (IsReadOf (told a.case_name) (rose a.case_name)) parts.case_read (are CaseFile);
@@ -64,10 +66,12 @@ module _ (got : BytesAreThoseRead) (text_read : ReportBytesAreItsText) (gap : Re
         is_plan = parts.is_plan;
         feasible = parts.feasible;
         report = r;
-        bounds = audited_within reads i r due read right;
+        bounds = bounds;
         is_report = refl;
         right = right;
         made_up = rw right.cost_is at made_up;
+        payments_from_0 = paid.payments;
+        surplus_from_0 = paid.surplus;
         printed = subst gained is printed;
       }
 
@@ -197,14 +201,14 @@ module _ (got : BytesAreThoseRead) (text_read : ReportBytesAreItsText) (determin
 
 -- ---- both
 
-module _ (got : BytesAreThoseRead) (text_read : ReportBytesAreItsText) (gap : ReportPaymentsMakeUpTheGap) (determined : TextDeterminesReport) (has_form : RightReportHasForm) (a : AuditAsked) (told : List ℕ → Option (List ℕ)) (rose gained short : List ℕ → Type 0) where
+module _ (got : BytesAreThoseRead) (text_read : ReportBytesAreItsText) (gap : ReportPaymentsMakeUpTheGap) (priced : RunPricesAreWithin) (nothing : NothingIsPaidBack) (determined : TextDeterminesReport) (has_form : RightReportHasForm) (a : AuditAsked) (told : List ℕ → Option (List ℕ)) (rose gained short : List ℕ → Type 0) where
   abbrev Promise : Result Asked WordFault → ℕ → Type 0
   Promise w n =
       (n ≡ 0 → IsAuditPromised a told gained)
       × (n ≡ 8 → OverReads (command_for w) told rose (λ reads. (i : PlannedCase) × IsAuditRefused (command_for w) gained short reads i))
 
   audited : (n : ℕ) (reads : Reads) (e : End) → AreReads told rose (command_for (Ok (audit a))).name_of reads → Ends (command_for (Ok (audit a))) reads gained short e → n ≡ status_at e → Promise (Ok (audit a)) n
-  audited n reads Done are ends is = (λ z. audit_promised got text_read gap determined has_form a told rose gained reads are ends, λ z. absurd (omega (arith, is, z)))
+  audited n reads Done are ends is = (λ z. audit_promised got text_read gap priced nothing determined has_form a told rose gained reads are ends, λ z. absurd (omega (arith, is, z)))
   audited n reads Cut are ends is = (λ z. absurd (omega (arith, is, z)), λ z. absurd (omega (arith, is, z)))
   audited n reads (Refused f) are (inl due, lines) is = (
     λ z. absurd (omega (arith, is, z, (status_within f).0)),

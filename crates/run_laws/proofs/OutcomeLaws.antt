@@ -413,11 +413,11 @@ price_parts got a reads i (Ok c, input, work) = subst (InputParts reads) (same_i
 price_parts got a reads i (Err g, input, e) = absurd cc
 
 -- what each unit of a right report is paid, and what the surplus is worth
-record PaysNoneBack (r : Report) : Type 0 where
+pub record PaysNoneBack (r : Report) : Type 0 where
   pub payments : All (λ (l : UnitLine). pos 0 ≤ℤ l.payment) (unit_lines r)
   pub surplus : pos 0 ≤ℤ r.surplus
 
-pays_none_back : RunPricesAreWithin → NothingIsPaidBack → (m : Market) (plan : List Schedule) (budget ahead : ℕ) (r : Report) → 1 ≤ ahead → IsFeasiblePlan m plan → IsRightReport m plan budget ahead r → PaysNoneBack r
+pub pays_none_back : RunPricesAreWithin → NothingIsPaidBack → (m : Market) (plan : List Schedule) (budget ahead : ℕ) (r : Report) → 1 ≤ ahead → IsFeasiblePlan m plan → IsRightReport m plan budget ahead r → PaysNoneBack r
 pays_none_back priced nothing m plan budget ahead r some feasible right =
     let prices = priced m (plan_cost m plan) budget ahead r.rows (r.chosen - 1) right.row some right.run right.is_chosen in
     let length = prices.reserve_horizon in
@@ -451,6 +451,7 @@ module _ (words_have_sizes : WordsHaveSizes) (got : BytesAreThoseRead) (gap : Re
         right = right;
         printed = subst gained is printed;
         made_up = rw right.cost_is at made_up;
+        gap = rw right.cost_is at right.gap_is;
         payments_from_0 = paid.payments;
         surplus_from_0 = paid.surplus;
       }

@@ -1,7 +1,8 @@
 -- What holds of every run. Each law is the clause of a public function. A run is one of which
 -- hull_run's clause `outcome` holds: `told` is what the shelf tells, `rose` that the count of a
--- name rose, `gained` that the sink has a text whole, and `short` that it has a front of it and its
--- count rose. IsOutcome and the commands are in the Outcome of hull_engine.
+-- name rose or stands at its last value, `gained` that the sink has a text whole, and `short` that
+-- it has a front of it and its count rose, or stands at its last value. IsOutcome and the commands
+-- are in the Outcome of hull_engine.
 use Rattle.std.specs.List.{All}
 use Rattle.std.specs.Prelude.{◌≡◌, ◌≢◌, ◌⊎◌, ℕ, ◌<◌, ◌≤◌, ◌==◌, ◌||◌, Bool, ◌+ℤ◌, ◌-ℤ◌, List}
 use Rattle.std.specs.Prelude.{Option, None, Some, Result, Ok, Err, IsTrue, IfSome, IsSome, ℤ, ◌-◌}
@@ -127,8 +128,8 @@ pub record FollowsFromWords (words : Result Asked WordFault) (gained short : Lis
 -- THE PROMISE of `hull price`, where it answers 0: there are bytes of the case and of the schedule,
 -- those that are told where any are; they are a case and a feasible schedule of it; and what was
 -- printed is the text of a right report, whose payments and surplus make up what the chosen value
--- lacks of the cost. No unit or bid pays for following the schedule, and the surplus is worth
--- something or nothing.
+-- lacks of the cost, which is the gap that it prints. No payment is below 0, and neither is the
+-- surplus.
 pub record IsPromised (a : PriceAsked) (told : List ℕ → Option (List ℕ))
     (gained : List ℕ → Type 0) : Type 0 where
   pub case_bytes : List ℕ
@@ -144,6 +145,7 @@ pub record IsPromised (a : PriceAsked) (told : List ℕ → Option (List ℕ))
   pub right : IsRightReport market plan a.proposals a.ahead report
   pub printed : gained (report_text report)
   pub made_up : report.payments +ℤ report.surplus ≡ plan_cost market plan -ℤ report.value
+  pub gap : report.gap ≡ plan_cost market plan -ℤ report.value
   pub payments_from_0 : All (λ (l : UnitLine). pos 0 ≤ℤ l.payment) (unit_lines report)
   pub surplus_from_0 : pos 0 ≤ℤ report.surplus
 
@@ -184,7 +186,8 @@ pub record IsFixedPromised (a : PriceAsked) (i : PlannedCase) (gained : List ℕ
 -- THE PROMISE of `hull audit`, where it answers 0: there are bytes of the case, of the schedule and
 -- of the report, those that are told where any are; the first two are a case and a feasible
 -- schedule of it; the third are the text of a report that is right for its own budget and number of
--- proposals ahead, whose payments and surplus make up what the chosen value lacks of the cost.
+-- proposals ahead, whose payments and surplus make up what the chosen value lacks of the cost, none
+-- of them below 0.
 pub record IsAuditPromised (a : AuditAsked) (told : List ℕ → Option (List ℕ))
     (gained : List ℕ → Type 0) : Type 0 where
   pub case_bytes : List ℕ
@@ -203,6 +206,8 @@ pub record IsAuditPromised (a : AuditAsked) (told : List ℕ → Option (List �
   pub is_report : report_bytes ≡ report_text report
   pub right : IsRightReport market plan report.budget report.ahead report
   pub made_up : report.payments +ℤ report.surplus ≡ plan_cost market plan -ℤ report.value
+  pub payments_from_0 : All (λ (l : UnitLine). pos 0 ≤ℤ l.payment) (unit_lines report)
+  pub surplus_from_0 : pos 0 ≤ℤ report.surplus
   pub printed : gained (audit_text (length report.rows))
 
 -- Bytes are the text of a report within the bounds of reading that isn't right for its own budget

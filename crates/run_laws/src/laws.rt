@@ -110,6 +110,8 @@ pub fn audits_hold<F: Shelf, S: Sink>()
     bytes_are_those_read();
     report_bytes_are_its_text();
     report_payments_make_up_the_gap();
+    run_prices_are_within();
+    nothing_is_paid_back();
     text_determines_the_report();
     right_report_has_form();
 }
