@@ -43,7 +43,7 @@ const TWO_UNITS: &str =
 const TWO_UNITS_SCHEDULE: &str = "{\"thermal\":{\"A\":{\"on\":[1],\"power\":[50],\"reserve\":[0]},\
 \"B\":{\"on\":[1],\"power\":[100],\"reserve\":[0]}},\"renewable\":{}}";
 
-const TWO_UNITS_FILES: Texts<'static> = (TWO_UNITS, TWO_UNITS_SCHEDULE, b"");
+const TWO_UNITS_PLANNED: Texts<'static> = (TWO_UNITS, TWO_UNITS_SCHEDULE, b"");
 
 const TWO_UNITS_CHECK: &[u8] =
     b"hull-check 1\nperiods 1 thermal 2 renewable 0\ncost 3500\nfeasible\n";
@@ -385,7 +385,7 @@ const WORKED: &[Run] = &[
         (SMALLEST, SMALLEST_SCHEDULE, b""),
         (0, SMALLEST_REPORT),
     ),
-    (&PRICE, TWO_UNITS_FILES, (0, TWO_UNITS_REPORT)),
+    (&PRICE, TWO_UNITS_PLANNED, (0, TWO_UNITS_REPORT)),
     (
         &[
             "price",
@@ -394,10 +394,10 @@ const WORKED: &[Run] = &[
             "--proposals=2",
             "--ahead=1",
         ],
-        TWO_UNITS_FILES,
+        TWO_UNITS_PLANNED,
         (0, TWO_PROPOSALS),
     ),
-    (&BOUND, TWO_UNITS_FILES, (0, TWO_PROPOSALS_BOUND)),
+    (&BOUND, TWO_UNITS_PLANNED, (0, TWO_PROPOSALS_BOUND)),
     (
         &[
             "fixed",
@@ -406,12 +406,12 @@ const WORKED: &[Run] = &[
             "--proposals=1",
             "--ahead=1",
         ],
-        TWO_UNITS_FILES,
+        TWO_UNITS_PLANNED,
         (0, TWO_UNITS_FIXED),
     ),
-    (&FIXED, TWO_UNITS_FILES, (0, TWO_PROPOSALS_FIXED)),
+    (&FIXED, TWO_UNITS_PLANNED, (0, TWO_PROPOSALS_FIXED)),
     (&PRICE, (USUAL, USUAL_SCHEDULE, b""), (0, USUAL_REPORT)),
-    (&CHECK, TWO_UNITS_FILES, (0, TWO_UNITS_CHECK)),
+    (&CHECK, TWO_UNITS_PLANNED, (0, TWO_UNITS_CHECK)),
     (
         &["try", "7", "--proposals", "6765"],
         ("", "", b""),
@@ -425,7 +425,7 @@ const WORKED: &[Run] = &[
     ),
     (
         &["check", "--case", "c", "--schedule", "t"],
-        TWO_UNITS_FILES,
+        TWO_UNITS_PLANNED,
         (2, b"fault 2 read schedule\n"),
     ),
     (
@@ -512,7 +512,7 @@ fn runs_answer_as_worked(rt: HostRuntime) -> Result<(), Fail> {
     Ok(runs_end(&rt, rt.alloc(), WORKED)?)
 }
 
-const TWO_UNITS_TEXTS: Texts<'static> = (TWO_UNITS, TWO_UNITS_SCHEDULE, TWO_UNITS_REPORT);
+const TWO_UNITS_REPORTED: Texts<'static> = (TWO_UNITS, TWO_UNITS_SCHEDULE, TWO_UNITS_REPORT);
 
 const RIGHT: &[u8] = b"hull-audit 1\nproposals 1\nright\n";
 
@@ -530,7 +530,7 @@ fn ends_by_read<R: Threads + Wait + Sync>(
         reads: &reads,
         ..edges
     };
-    let (status, bytes) = run(rt, &NoGate, alloc, words, TWO_UNITS_TEXTS, failing)?;
+    let (status, bytes) = run(rt, &NoGate, alloc, words, TWO_UNITS_REPORTED, failing)?;
     Ok(status == want.0 && bytes.as_slice() == want.1)
 }
 
@@ -545,10 +545,10 @@ fn wrong_read<R: Threads + Wait + Sync>(
     edges: Edges,
     text: &[u8],
 ) -> Result<Option<u64>, AllocError> {
-    let refused = edges.writes.is_empty();
+    let told = edges.writes.is_empty();
     let mut number = 1u64;
     for (bytes, line) in parts {
-        let line = if refused { *line } else { b"".as_slice() };
+        let line = if told { *line } else { b"".as_slice() };
         // The last read of a file gives none.
         let count = bytes.div_ceil(edges.gives.max(1)).saturating_add(1);
         for _ in 0..count {
@@ -640,10 +640,15 @@ fn front_left<R: Threads + Wait + Sync>(
     })
 }
 
+// Whether the write behind so many is tried: of the many writes of one byte that a long text takes,
+// every ninth.
+fn is_tried(takes: u64, long: usize, before: usize) -> bool {
+    takes != 1 || long <= 100 || before % 9 == 2 || before == long
+}
+
 // The first write of a run that fails in another way than it should, where there is one, as the
 // number of writes before it. It should leave the sink with what they wrote, a front of the text,
-// and end a run that isn't refused with 6. Of the many writes of one byte that a long text takes,
-// every ninth is tried.
+// and end a run that isn't refused with 6.
 fn wrong_write<R: Threads + Wait + Sync>(
     rt: &R,
     alloc: Global,
@@ -657,7 +662,7 @@ fn wrong_write<R: Threads + Wait + Sync>(
     let cut = if status_due == 0 { 6 } else { status_due };
     let mut held = 0usize;
     for before in 0..=text.len() {
-        if takes == 1 && text.len() > 100 && before % 9 != 2 && before != text.len() {
+        if !is_tried(takes, text.len(), before) {
             continue;
         }
         let number = [(before as u64).saturating_add(1)];
@@ -732,12 +737,22 @@ fn all_writes_end<R: Threads + Wait + Sync + Abort>(
 }
 
 const ALL_WRITES: &[Written] = &[
-    (&CHECK, ALL_WAYS, TWO_UNITS_TEXTS, (0, TWO_UNITS_CHECK)),
-    (&PRICE, LONG_WAYS, TWO_UNITS_TEXTS, (0, TWO_UNITS_REPORT)),
-    (&BOUND, LONG_WAYS, TWO_UNITS_TEXTS, (0, TWO_PROPOSALS_BOUND)),
-    (&FIXED, LONG_WAYS, TWO_UNITS_TEXTS, (0, TWO_PROPOSALS_FIXED)),
-    (&TRY_ONE, SLOW_WAYS, TWO_UNITS_TEXTS, (0, TRY_FIRST)),
-    (&AUDIT, ALL_WAYS, TWO_UNITS_TEXTS, (0, RIGHT)),
+    (&CHECK, ALL_WAYS, TWO_UNITS_REPORTED, (0, TWO_UNITS_CHECK)),
+    (&PRICE, LONG_WAYS, TWO_UNITS_REPORTED, (0, TWO_UNITS_REPORT)),
+    (
+        &BOUND,
+        LONG_WAYS,
+        TWO_UNITS_REPORTED,
+        (0, TWO_PROPOSALS_BOUND),
+    ),
+    (
+        &FIXED,
+        LONG_WAYS,
+        TWO_UNITS_REPORTED,
+        (0, TWO_PROPOSALS_FIXED),
+    ),
+    (&TRY_ONE, SLOW_WAYS, TWO_UNITS_REPORTED, (0, TRY_FIRST)),
+    (&AUDIT, ALL_WAYS, TWO_UNITS_REPORTED, (0, RIGHT)),
 ];
 
 #[test]
@@ -750,11 +765,16 @@ const CUT: Texts<'static> = ("{\"time_periods\":1", "{}", b"");
 const CUT_LINE: (u8, &[u8]) = (3, b"fault 3 case 10 at 17\n");
 
 const ALL_REFUSALS: &[Written] = &[
-    (&[], ALL_WAYS, TWO_UNITS_TEXTS, (1, b"fault 1 words 1 0\n")),
+    (
+        &[],
+        ALL_WAYS,
+        TWO_UNITS_REPORTED,
+        (1, b"fault 1 words 1 0\n"),
+    ),
     (
         &["check", "--case", "c", "--schedule", "t"],
         ALL_WAYS,
-        TWO_UNITS_TEXTS,
+        TWO_UNITS_REPORTED,
         (2, b"fault 2 read schedule\n"),
     ),
     (&CHECK, ALL_WAYS, CUT, CUT_LINE),
@@ -771,7 +791,7 @@ const ALL_REFUSALS: &[Written] = &[
     (
         &["try", "7", "--proposals", "6765"],
         ALL_WAYS,
-        TWO_UNITS_TEXTS,
+        TWO_UNITS_REPORTED,
         (5, b"fault 5 work 6765 154 48\n"),
     ),
     (
@@ -919,7 +939,7 @@ fn four_workers_answer_at_once(rt: HostRuntime) -> Result<(), Fail> {
     Ok(())
 }
 
-// Two right reports, that of another case, one without its last line feed, and none.
+// Two right reports, that of another case, and one that isn't there.
 const AUDITED: &[Run] = &[
     (
         &AUDIT,

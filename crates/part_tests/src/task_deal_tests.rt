@@ -84,6 +84,7 @@ fn each_runs_once<R: Threads + Wait + Sync + Abort>(
 {
     let mut jobs = keepers(alloc, count, numbers)?;
     deal_all(rt, alloc, numbers, &mut jobs)?;
+    same(rt, jobs.len(), count);
     each_ran_once(rt, &jobs, numbers);
     Ok(())
 }

@@ -164,7 +164,7 @@ pub(crate) enum Does {
 // A caller, and what it does.
 pub(crate) type Step = (u32, Does);
 
-// How a post of the second task of the first proposal is refused.
+// How a post of another task than the caller holds is refused, by the first thing that differs.
 pub(crate) const OTHER_HOLDER: Posted = Posted::Stranger(Differs::Holder {
     caller: 0,
     holder: Some(1),

@@ -265,14 +265,14 @@ fn faults_of_small_files(rt: HostRuntime) {
     have_faults(&rt, rt.alloc(), &SMALL_FILES);
 }
 
-/// Two units, A from 0 to 100 kW and B at just 100 kW.
+/// Two units, A from 0 to 100 kW and B at just 100 kW; A's fields stand in another order.
 const TWO_UNITS: &str =
     "{\"time_periods\":1,\"demand\":[0.15],\"reserves\":[0],\"thermal_generators\":{\
-    \"A\":{\"must_run\":0,\"power_output_minimum\":0,\"power_output_maximum\":0.1,\
+    \"A\":{\"power_output_minimum\":0,\"time_up_minimum\":1,\"unit_on_t0\":0,\"startup\":[],\
+    \"piecewise_production\":[{\"mw\":0,\"cost\":0},{\"mw\":0.1,\"cost\":0.001}],\
     \"ramp_up_limit\":1,\"ramp_down_limit\":1,\"ramp_startup_limit\":1,\"ramp_shutdown_limit\":1,\
-    \"time_up_minimum\":1,\"time_down_minimum\":1,\"power_output_t0\":0,\"unit_on_t0\":0,\
-    \"time_up_t0\":0,\"time_down_t0\":1,\"startup\":[],\
-    \"piecewise_production\":[{\"mw\":0,\"cost\":0},{\"mw\":0.1,\"cost\":0.001}]},\
+    \"time_down_minimum\":1,\"power_output_t0\":0,\"time_up_t0\":0,\"time_down_t0\":1,\
+    \"must_run\":0,\"power_output_maximum\":0.1},\
     \"B\":{\"must_run\":0,\"power_output_minimum\":0.1,\"power_output_maximum\":0.1,\
     \"ramp_up_limit\":1,\"ramp_down_limit\":1,\"ramp_startup_limit\":1,\"ramp_shutdown_limit\":1,\
     \"time_up_minimum\":1,\"time_down_minimum\":1,\"power_output_t0\":0,\"unit_on_t0\":0,\
