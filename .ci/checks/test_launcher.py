@@ -39,7 +39,7 @@ mkdir -p "$2"
 """
 LINKER = """#!/usr/bin/env bash
 while [ "$1" != -o ]; do shift; done
-printf '#!/bin/sh\\n[ "$#" -gt 0 ] && { echo "given $*"; exit 0; }\\necho fault 1 words 1 0\\nexit 1\\n' > "$2"
+printf '#!/bin/sh\\n[ "$*" = where ] && exec pwd\\n[ "$#" -gt 0 ] && { echo "given $*"; exit 0; }\\necho fault 1 words 1 0\\nexit 1\\n' > "$2"
 chmod +x "$2"
 """
 RT = """#!/usr/bin/env bash
@@ -103,6 +103,11 @@ class Launcher(unittest.TestCase):
             ],
         )
         self.assertEqual(self.asked(), BUILT)
+
+    def test_first_use_too_runs_the_program_from_where_it_was_called(self):
+        here = f"{os.path.realpath(self.room)}\n".encode()
+        self.assertEqual(self.hull("where")[:2], (0, here))
+        self.assertEqual(self.hull("where")[:2], (0, here))
 
     def test_second_use_asks_for_no_proof_and_is_quick(self):
         self.hull("check")
