@@ -31,6 +31,10 @@ pub map_replicate : {B : Type 0} (f : ℕ → B) (n : ℕ) (x : ℕ) → map f (
 map_replicate f zero x = refl
 map_replicate {B} f (suc n) x = ap (λ (zs : List B). f x ∷ zs) (map_replicate f n x)
 
+-- with more room a table is one still
+pub more_room : (long : ℕ) (ordinals : List ℕ) (used : ℕ) (numbers : List ℕ) (room more : ℕ) → room ≤ more → IsTable long ordinals used numbers room → IsTable long ordinals used numbers more
+more_room long ordinals used numbers room more le T = record { size = T.size; within = T.within; apart = T.apart; few = T.few; count = T.count; fits = omega (arith, T.fits, le) }
+
 -- a list of zeros
 pub zeros : (xs : List ℕ) → ((k : ℕ) → k < length xs → get_or xs k 0 ≡ 0) → xs ≡ replicate (length xs) 0
 zeros [] h = refl

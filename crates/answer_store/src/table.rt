@@ -1,13 +1,12 @@
 //! Rows of numbers, and lists of one length one after another.
-ghost use Rattle.std.specs.Prelude.{◌≡◌, ◌+◌, ◌*◌, ◌<◌, ◌≤◌, ◌↔◌, IsTrue, [], ◌++◌, length, IfOk};
-ghost use Rattle.std.specs.Prelude.{EachIndex, replicate, slice_index, slice_index_or, slice_set};
-ghost use Rattle.std.specs.Prelude.{vec_len, vec_capacity};
+ghost use Rattle.std.specs.Prelude.{◌≡◌, ◌+◌, ◌*◌, ◌<◌, ◌≤◌, [], ◌++◌, length, IfOk, replicate};
+ghost use Rattle.std.specs.Prelude.{slice_index_or, slice_set, vec_len, vec_capacity};
 ghost use Rattle.uc_model.specs.declared.limits.TheConstants.{MOST_TASKS, MOST_WORK};
 ghost use Rattle.answer_store.specs.Parts.{part, with_part};
 
 use std::alloc::{AllocError, Global};
 use std::marker::Model;
-use uc_model::lists::{Powers, ReservedList};
+use uc_model::lists::{Powers, ReservedList, are_zero};
 
 /// Rows of one length, at first of zeros. A row of zeros has no numbers until another row is
 /// written there.
@@ -66,11 +65,7 @@ pub fn take_part<T: Copy + Drop>(store: &[T], long: usize, place: usize, into: &
     ensures { into.new.items ≡ part store.now long place }
 {
     let from = place * long;
-    let list = &store[from..from + long];
-    into.clear();
-    for item in list {
-        into.push(*item);
-    }
+    into.copy_from(&store[from..from + long]);
 }
 
 fn no_ordinals(alloc: Global, count: usize) -> Result<Vec<u32>, AllocError>
@@ -90,21 +85,14 @@ fn take_zeros(count: usize, into: &mut Powers)
     }
 }
 
-fn are_zero(list: &[u32]) -> bool
-    ensures { IsTrue result ↔ EachIndex list.now (λ k. slice_index list.now k ≡ 0) }
-{
-    list.iter().all(|x| *x == 0)
-}
-
 // Adds a list at the end of another that has room for it.
 fn append(numbers: &mut Vec<u32>, list: &[u32])
     requires { vec_len numbers.old + length list.now ≤ vec_capacity numbers.old }
     ensures items { numbers.new.items ≡ numbers.old.items ++ list.now }
-    ensures capacity { vec_capacity numbers.new ≡ vec_capacity numbers.old }
+    ensures capacity { vec_capacity numbers.old ≤ vec_capacity numbers.new }
 {
-    for x in list {
-        numbers.push_reserved(*x);
-    }
+    // There is room, so it can't fail and takes no memory.
+    let _ = numbers.extend_from_slice(list);
 }
 
 impl Table {

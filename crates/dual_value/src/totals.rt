@@ -7,7 +7,7 @@ ghost use Rattle.uc_model.specs.Schedules.{power_in, reserve_in};
 ghost use Rattle.dual_value.specs.Totals.{IsTotal, IsRaised, amount_of};
 
 use uc_model::cases::Row;
-use uc_model::lists::{Amounts, Powers};
+use uc_model::lists::{Amounts, Powers, are_zero};
 use uc_model::units::Response;
 
 // Whether a power counts as given to the system or as taken from it.
@@ -28,6 +28,18 @@ fn total_with(total: i128, flow: Flow, power: u32) -> i128
     }
 }
 
+fn add_each(totals: &mut Amounts, flow: Flow, powers: &[u32])
+    requires lengths { length powers.now ≡ length totals.old.items }
+    requires bound { All IsTotal totals.old.items }
+    ensures raised { IsRaised totals.old.items totals.new.items
+        (λ k. amount_of flow (slice_index powers.now k)) }
+    ensures spare { totals.new.spare ≡ totals.old.spare }
+{
+    for k in 0..powers.len() {
+        totals.set(k, total_with(*totals.get(k), flow, powers[k]));
+    }
+}
+
 // Counts the power of each period into the total of that period.
 fn count_each(totals: &mut Amounts, flow: Flow, powers: &Powers)
     requires lengths { length powers.now.items ≡ length totals.old.items }
@@ -36,8 +48,10 @@ fn count_each(totals: &mut Amounts, flow: Flow, powers: &Powers)
         (λ k. amount_of flow (slice_index powers.now.items k)) }
     ensures spare { totals.new.spare ≡ totals.old.spare }
 {
-    for k in 0..totals.len() {
-        totals.set(k, total_with(*totals.get(k), flow, *powers.get(k)));
+    let powers = powers.as_slice();
+    // Most responses hold no reserve.
+    if !are_zero(powers) {
+        add_each(totals, flow, powers);
     }
 }
 

@@ -1,5 +1,5 @@
 use Rattle.answer_store.proofs.Common.{◌≡◌, ℕ, suc, ◌+◌, ◌-◌, ◌<◌, ◌≤◌, List, length, ◌++◌, get_or, sym, refl, ap, ◌∙◌, subst, arith, vec_capacity, set, get_or_read, replicate, slice_index_or, with_part, Rows, rows_in, IsTable}
-use Rattle.answer_store.proofs.Lemmas.{row_of, part_inside, within_used, room_for_numbers, table_written, rows_written, rows_kept, zeros, table_more, rows_more}
+use Rattle.answer_store.proofs.Lemmas.{row_of, part_inside, within_used, room_for_numbers, table_written, rows_written, rows_kept, zeros, more_room, table_more, rows_more}
 use Rattle.answer_store.proofs.table.Table.put.Goals as goal
 use Rattle.answer_store.proofs.table.Table.put.Goals.{After-self}
 
@@ -69,7 +69,7 @@ invariant_of-self-2 c =
     let d = (goal.at.invariant_of-self-2 c).After-self in
     let ordinals2 = set s.ordinals.items c.args.row (s.used + 1) in
     let t = table_more s.long s.ordinals.items s.used s.numbers.items (vec_capacity s.numbers) c.self.invariant c.args.row (inside d) c.args.list.now (long d) (none d c.index.result.now c.index.ensures c.if-ordinal-gt0.false) (s.used + 1) (omega arith) in
-    let u = subst (λ (n : ℕ). IsTable s.long ordinals2 (s.used + 1) (s.numbers.items ++ c.args.list.now) n) (sym c.append.ensures.capacity) t in
+    let u = more_room s.long ordinals2 (s.used + 1) (s.numbers.items ++ c.args.list.now) (vec_capacity s.numbers) (vec_capacity c.append.new.numbers) c.append.ensures.capacity t in
     subst (λ (ns : List ℕ). IsTable s.long ordinals2 (s.used + 1) ns (vec_capacity c.append.new.numbers)) (sym c.append.ensures.items) u
 
 pub returns-clause-rows : goal.returns-clause-rows

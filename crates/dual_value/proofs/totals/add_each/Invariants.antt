@@ -1,12 +1,12 @@
 use Rattle.std.proofs.Common.{◌≡◌, ℕ, ◌<◌, ◌≤◌, ◌+ℤ◌, length, slice_index}
 use Rattle.uc_model.specs.Sums.{int_at}
 use Rattle.dual_value.specs.Totals.{amount_of}
-use Rattle.dual_value.proofs.totals.count_each.Given as goal
+use Rattle.dual_value.proofs.totals.add_each.Given as goal
 
 abbrev pub invariant-loop-k : goal.invariant-loop-k
 invariant-loop-k l = record {
   same_length : length l.totals.items ≡ length l.initial.totals.items;
-  counted : (j : ℕ) → j < l.k → int_at l.totals.items j ≡ int_at l.initial.totals.items j +ℤ amount_of l.flow (slice_index l.powers.items j);
+  counted : (j : ℕ) → j < l.k → int_at l.totals.items j ≡ int_at l.initial.totals.items j +ℤ amount_of l.flow (slice_index l.powers j);
   waiting : (j : ℕ) → l.k ≤ j → int_at l.totals.items j ≡ int_at l.initial.totals.items j;
   spare : l.totals.spare ≡ l.initial.totals.spare;
 }
