@@ -11,6 +11,7 @@ use board_share::SharedBoard;
 use std::sync::{Mutex, Wait};
 use std::thread;
 use std::thread::Threads;
+use thread_start::make_way;
 
 fn work_one<R: Wait, G: Gate>(
     rt: &R,
@@ -22,6 +23,7 @@ fn work_one<R: Wait, G: Gate>(
     requires { IsWorkerOf board.now worker.old }
     ensures { HasWorked worker.old worker.new }
 {
+    make_way(rt, crew.workers);
     let _ = work(rt, board, crew, worker, gate);
 }
 

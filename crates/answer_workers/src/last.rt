@@ -32,6 +32,11 @@ impl LastAnswers {
         Ok(Arc::new(alloc, LastAnswers { units: last })?)
     }
 
+    // How many thermal units there are.
+    pub(crate) fn thermal_units(&self) -> usize {
+        self.units.len()
+    }
+
     // Swaps the last answer of a unit with the one that the bench keeps, unless another worker is
     // about it just now.
     pub(crate) fn exchange(&self, unit: u32, bench: &mut Bench<Slopes>)

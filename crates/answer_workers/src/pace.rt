@@ -6,8 +6,8 @@ ghost use Rattle.std.specs.Prelude.{◌<◌};
 #[derive(Clone, Copy)]
 pub struct Pace {
     pub workers: usize,
-    /// The greatest unit number of the tasks so far.
-    pub last: u32,
+    /// The greatest unit number of the tasks so far, and at least the number of thermal units.
+    pub last: usize,
     ghost some: { 0 < workers },
 }
 
@@ -15,8 +15,9 @@ impl Pace {
     // Whether a worker has its share that holds so many tasks, the last of them of that unit: one
     // task where there is no other worker, since it then waits for none.
     pub fn is_share(&mut self, held: usize, unit: u32) -> bool {
+        let unit = unit as usize;
         self.last = self.last.max(unit);
         let left = self.last - unit;
-        self.workers < 2 || held >= left as usize / self.workers / 2
+        self.workers < 2 || held >= left / self.workers / 2
     }
 }

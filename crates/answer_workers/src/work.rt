@@ -62,7 +62,7 @@ pub fn work<R: Wait, G: Gate>(
 {
     let mut pace = Pace {
         workers: crew.workers,
-        last: 0,
+        last: worker.last.thermal_units(),
     };
     let mut answered = 0;
     for _ in rt.forever() {

@@ -9,6 +9,7 @@ use crate::seat::{Seat, next_number};
 use std::sync::Wait;
 use std::thread;
 use std::thread::Threads;
+use thread_start::make_way;
 
 /// A job with the handles of its worker: what one thread gets.
 #[derive(Drop)]
@@ -18,11 +19,18 @@ pub struct Member<J> {
 }
 
 #[tactic(auto, using(crate::proofs::Working::works))]
-fn work<J: Job, R: Wait>(rt: &R, shared: &Shared, tasks: u32, member: &mut Member<J>)
+fn work<J: Job, R: Wait>(
+    rt: &R,
+    shared: &Shared,
+    members: usize,
+    tasks: u32,
+    member: &mut Member<J>,
+)
     requires seat { IsSeatOf shared.now member.old.seat }
     requires spare { tasks ≤ J.spare member.old.job }
     ensures { HasWorked shared.now J.work J.runs J.spare member.old member.new }
 {
+    make_way(rt, members);
     for done in 0..tasks {
         let Some(task) = next_number(rt, shared, &mut member.seat, done == 0) else {
             return;
@@ -50,6 +58,6 @@ pub(crate) fn work_all<J: Job + Send, R: Threads + Wait + Sync>(
         rt,
         members,
         count,
-        &|_, member| { work(rt, shared, tasks, member) },
+        &|_, member| { work(rt, shared, count, tasks, member) },
     );
 }
