@@ -102,6 +102,10 @@ module _ {F : Type 0} (told : F → List ℕ → Option (List ℕ)) (faults : F 
 
 -- ---- the end
 
+-- a text was written so: 0 where it was gained, and 6 where it fell short
+abbrev pub HasStatus : ℕ → (gained short : Type 0) → Type 0
+HasStatus n gained short = ((n ≡ 0) × gained) ⊎ ((n ≡ 6) × short)
+
 module _ (gained short : List ℕ → Type 0) where
   -- what the end of an answer says of the sink
   abbrev pub IsEndOf : Result Answer TopFault → End → Type 0

@@ -1,8 +1,8 @@
 -- WHAT A RUN OF `hull` DOES, to be read from top to bottom (this project's profile; dual value,
 -- best responses and payments are those of Gribik, Hogan and Pope 2007). `hull_run` ensures
 -- IsOutcome, the record at the foot; before it stand its words: the commands, what was read of
--- their files, and how a run ends. What follows from it in full words is in the Laws of run_laws:
--- IsPromised for `price`, for one.
+-- their files, and how a run ends. What follows from it in full words is in the Laws of run_laws,
+-- IsPromised for `price` and HasNoFeasibleSchedule for a schedule that is refused among them.
 --
 -- `told name` is what the shelf tells of a file's bytes, None where it tells none, and `rose name`
 -- that its count of faults under that name rose. A real file tells nothing: then all that is said
@@ -173,10 +173,6 @@ abbrev pub status_at : End → ℕ
 status_at Done = 0
 status_at Cut = 6
 status_at (Refused f) = status_of f
-
--- a text was written so: 0 where it was gained, and 6 where it fell short
-abbrev pub HasStatus : ℕ → (gained short : Type 0) → Type 0
-HasStatus n gained short = ((n ≡ 0) × gained) ⊎ ((n ≡ 6) × short)
 
 -- some text of an accepted input has P
 abbrev pub HasText : Command → Reads → (List ℕ → Type 0) → Type 0

@@ -7,7 +7,7 @@ use Rattle.std.specs.Result.{result_map_both}
 use Rattle.uc_model.specs.Data.{Market, Schedule, unit_count}
 use Rattle.uc_model.specs.Systems.{IsFeasiblePlan, plan_cost}
 use Rattle.uc_model.specs.Refusals.{refusals}
-use Rattle.uc_model.specs.declared.limits.TheConstants.{MOST_WORK}
+use Rattle.uc_model.specs.declared.limits.TheConstants.{MOST_BYTES, MOST_WORK}
 use Rattle.case_make.specs.Made.{made}
 use Rattle.uc_case.specs.Files.{FileFault, text, value}
 use Rattle.uc_case.specs.CaseFiles.{IsCaseOf}
@@ -17,7 +17,6 @@ use Rattle.uc_plan.specs.declared.fault.ShapeFault.{ShapeFault}
 use Rattle.board_run.specs.Inputs.{PlannedCase}
 use Rattle.plan_check.specs.Checks.{refusal_of}
 use Rattle.plan_check.specs.declared.RuleFault.{RuleFault}
-use Rattle.hull_io.specs.declared.read.TheConstants.{MOST_BYTES}
 use Rattle.hull_report.specs.declared.fault.FileKind.{FileKind}
 use Rattle.hull_report.specs.declared.fault.FileKind.TheVariants.{CaseFile, ScheduleFile}
 use Rattle.hull_report.specs.declared.fault.FileKind.TheVariants.{ReportFile}

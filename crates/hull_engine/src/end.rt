@@ -6,8 +6,8 @@ ghost use Rattle.report_form.specs.ReportText.{report_text};
 ghost use Rattle.hull_report.specs.RecordReport.{report_of, IsSettledRecord};
 ghost use Rattle.uc_model.specs.PriceRule.{Proposal};
 ghost use Rattle.uplift_settle.specs.declared.settlement.Settlement.{Settlement};
-ghost use Rattle.hull_engine.specs.Outcome.{status_at, HasStatus};
-ghost use Rattle.hull_engine.specs.Answers.{IsTextOf, IsAnswered, IsEndOf};
+ghost use Rattle.hull_engine.specs.Outcome.{status_at};
+ghost use Rattle.hull_engine.specs.Answers.{HasStatus, IsTextOf, IsAnswered, IsEndOf};
 ghost use Rattle.board_run.specs.Rounds.{IsEnded};
 
 use crate::answers::Answer;

@@ -12,7 +12,7 @@ pub mod real;
 pub mod sure;
 
 pub use memory::{File, MemoryShelf, MemorySink};
-pub use read::{MOST_BYTES, ReadFault, read_whole};
+pub use read::{ReadFault, read_whole};
 pub use real::{FileShelf, StdSink};
 pub use sure::{SureShelf, SureSink};
 

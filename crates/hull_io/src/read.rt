@@ -2,12 +2,11 @@
 ghost use Rattle.std.specs.Prelude.{◌≡◌, ℕ, ◌+◌, ◌<◌, ◌≤◌, List, length, IfOk, IfSome, IsErrOf};
 ghost use Rattle.std.specs.Prelude.{vec_len};
 ghost use Rattle.hull_io.specs.Edge.{Rose};
+ghost use Rattle.uc_model.specs.declared.limits.TheConstants.{MOST_BYTES};
 
 use crate::{ReadFailed, Shelf};
 use std::alloc::Global;
-
-/// The most bytes of a file.
-pub const MOST_BYTES: usize = 67_108_864;
+use uc_model::limits::MOST_BYTES;
 
 /// Why a file wasn't read.
 #[derive(Debug, Clone, Copy, PartialEq, Eq)]

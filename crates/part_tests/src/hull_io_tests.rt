@@ -1,12 +1,13 @@
 // What no clause says: that calls succeed, and what real files and outputs do.
 use crate::same::{same, same_of};
 use hull_io::{
-    File, FileShelf, MOST_BYTES, MemoryShelf, MemorySink, ReadFailed, ReadFault, Shelf, Sink,
-    StdSink, SureShelf, SureSink, WriteFailed, read_whole, write_whole,
+    File, FileShelf, MemoryShelf, MemorySink, ReadFailed, ReadFault, Shelf, Sink, StdSink,
+    SureShelf, SureSink, WriteFailed, read_whole, write_whole,
 };
 use std::alloc::{AllocError, Global};
 use std::test::Fail;
 use std::{fs, io};
+use uc_model::limits::MOST_BYTES;
 
 fn file(alloc: Global, name: &str, bytes: &[u8]) -> Result<File, AllocError> {
     Ok(File {
