@@ -14,7 +14,7 @@ pub use Rattle.uc_case.specs.Files.{FileFault, text, value, IsFile, reading_of, 
 pub use Rattle.uc_case.specs.Forms.{Read, items}
 unfoldable pub use Rattle.uc_case.specs.Forms.{amount, time_within}
 unfoldable pub use Rattle.uc_case.specs.Inside.{value_of}
-pub use Rattle.uc_case.specs.Kept.{IsRange, AreRamps, IsPast, AreLags, ArePoints, AreBlocks, IsCurve}
+pub use Rattle.uc_case.specs.Kept.{IsRange, AreRamps, IsPast, AreLags, ArePoints, AreBlocks, IsPointList}
 pub use Rattle.uc_case.specs.Laws.{OneCase, SomeFile, OneFile}
 pub use Rattle.uc_case.specs.Sites.{fault, site, item_at}
 pub use Rattle.uc_case.specs.Tables.{first_crossed, block, ends_miss, point, lag, one_power, mark}

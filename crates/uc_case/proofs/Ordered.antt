@@ -1,5 +1,5 @@
 -- Lists whose items keep an order, one item more at the end.
-use Rattle.uc_case.proofs.Common.{◌≡◌, ℕ, zero, suc, ◌-◌, ◌<◌, ◌≤◌, Bool, true, false, ◌||◌, List, [], ◌∷◌, ◌++◌, length, get_or, Some, refl, sym, ap, ◌∙◌, arith, true≢false, ℤ, ◌≤ℤ◌, nat_lt, int_lt, slice_get, ltb-false, ints, All-nil, All-push, Lag, Point, Block, IsLag, IsPoint, IsBlock, Spans, ends_miss, AreLags, ArePoints, AreBlocks, IsCurve, last_is, length-map, Branch, Value, view, views}
+use Rattle.uc_case.proofs.Common.{◌≡◌, ℕ, zero, suc, ◌-◌, ◌<◌, ◌≤◌, Bool, true, false, ◌||◌, List, [], ◌∷◌, ◌++◌, length, get_or, Some, refl, sym, ap, ◌∙◌, arith, true≢false, ℤ, ◌≤ℤ◌, nat_lt, int_lt, slice_get, ltb-false, ints, All-nil, All-push, Lag, Point, Block, IsLag, IsPoint, IsBlock, Spans, ends_miss, AreLags, ArePoints, AreBlocks, IsPointList, last_is, length-map, Branch, Value, view, views}
 use Rattle.std.specs.Option.{option_map_or}
 use Rattle.uc_model.specs.declared.limits.TheConstants.{MOST_POINTS}
 use Rattle.std.proofs.lemmas.Option.{slice_get-get_or}
@@ -83,8 +83,8 @@ spans low high (p ∷ ps) e =
       last = λ n d is. int_not_below (get_or (p ∷ ps) n d).at high (last_misses (λ (q : Point). int_lt q.at high) (p ∷ ps) both.1 n d is);
     }
 
-pub is_curve : (low high : ℤ) (ps : List Point) → length ps ≤ MOST_POINTS → ArePoints ps → ends_miss low high ps ≡ false → IsCurve ps low high
-is_curve low high ps count are reached = record { count = count; some = some_point low high ps reached; points = are; span = spans low high ps reached }
+pub is_point_list : (low high : ℤ) (ps : List Point) → length ps ≤ MOST_POINTS → ArePoints ps → ends_miss low high ps ≡ false → IsPointList ps low high
+is_point_list low high ps count are reached = record { count = count; some = some_point low high ps reached; points = are; span = spans low high ps reached }
 
 -- a point for each item of a list
 pub points_few : (ps : List Point) (ts : List Branch) (vs : List Value) → length ps ≡ length ts → views ts ≡ vs → length vs ≤ MOST_POINTS → length ps ≤ MOST_POINTS

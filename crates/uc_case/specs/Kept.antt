@@ -22,7 +22,7 @@ pub record ArePoints (ps : List Point) : Type 0 where
   pub ordered : ArePointsOrdered ps
 
 -- the points of a cost from a least to a greatest power
-pub record IsCurve (ps : List Point) (low high : ℤ) : Type 0 where
+pub record IsPointList (ps : List Point) (low high : ℤ) : Type 0 where
   pub count : length ps ≤ MOST_POINTS
   pub some : 1 ≤ length ps
   pub points : ArePoints ps

@@ -8,7 +8,7 @@ ghost use Rattle.uc_model.specs.declared.limits.TheConstants.{MOST_OF_A_KIND, MO
 ghost use Rattle.uc_model.specs.declared.limits.TheConstants.{MOST_LAGS};
 ghost use Rattle.text_tree.specs.View.{view, views, member_views};
 ghost use Rattle.uc_case.specs.Given.{Gives};
-ghost use Rattle.uc_case.specs.Kept.{AreLags, ArePoints, IsCurve};
+ghost use Rattle.uc_case.specs.Kept.{AreLags, ArePoints, IsPointList};
 ghost use Rattle.uc_case.specs.Words.{last_is};
 ghost use Rattle.uc_case.specs.Forms.{key, keys, items, part, power, cost, start_cost, time};
 ghost use Rattle.uc_case.specs.Tables.{lag, startup, point, piecewise, powers, one_power};
@@ -150,7 +150,7 @@ fn misses_ends(low: i64, high: i64, points: &[Point]) -> bool
 /// where the points don't reach from one to the other.
 #[tactic(auto, unfolding(crate::specs::Tables::piecewise))]
 pub fn read_piecewise(alloc: Global, u: &Keys, low: i64, high: i64) -> Result<Points, FieldStop>
-    ensures fits { IfOk result (λ ps. IsCurve ps.items low high) }
+    ensures fits { IfOk result (λ ps. IsPointList ps.items low high) }
     ensures value { Gives (λ ps. ps.items) result
         (key (keys u.now.at (member_views u.now.members.items)) Field.PiecewiseProduction
         (piecewise low high)) }
