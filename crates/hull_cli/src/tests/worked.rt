@@ -1,0 +1,205 @@
+//! Runs that end as worked by hand, or as other programs do.
+
+use crate::tests::runs::{Run, runs_end};
+use crate::tests::texts::{
+    AUDIT, BOUND, CHECK, FIXED, NO_UNITS, ONE_BID, ONE_BID_CHECK, PRICE, RIGHT, SMALLEST,
+    SMALLEST_REPORT, SMALLEST_SCHEDULE, TRY, TWO_BIDS, TWO_BIDS_REPORT, TWO_BIDS_SCHEDULE,
+    TWO_PERIODS, TWO_PROPOSALS, TWO_PROPOSALS_BOUND, TWO_PROPOSALS_FIXED, TWO_UNITS,
+    TWO_UNITS_CHECK, TWO_UNITS_FIXED, TWO_UNITS_PLANNED, TWO_UNITS_REPORT, TWO_UNITS_SCHEDULE,
+    USUAL, USUAL_REPORT, USUAL_SCHEDULE, WINDOW, WINDOW_REPORT, WINDOW_SCHEDULE,
+};
+use std::test::Fail;
+
+const WORKED: &[Run] = &[
+    (
+        &PRICE,
+        (SMALLEST, SMALLEST_SCHEDULE, b""),
+        (0, SMALLEST_REPORT),
+    ),
+    (&PRICE, TWO_UNITS_PLANNED, (0, TWO_UNITS_REPORT)),
+    (
+        &[
+            "price",
+            "--case=c",
+            "--schedule=s",
+            "--proposals=2",
+            "--ahead=1",
+        ],
+        TWO_UNITS_PLANNED,
+        (0, TWO_PROPOSALS),
+    ),
+    (&BOUND, TWO_UNITS_PLANNED, (0, TWO_PROPOSALS_BOUND)),
+    (
+        &[
+            "fixed",
+            "--case=c",
+            "--schedule=s",
+            "--proposals=1",
+            "--ahead=1",
+        ],
+        TWO_UNITS_PLANNED,
+        (0, TWO_UNITS_FIXED),
+    ),
+    (&FIXED, TWO_UNITS_PLANNED, (0, TWO_PROPOSALS_FIXED)),
+    (&PRICE, (USUAL, USUAL_SCHEDULE, b""), (0, USUAL_REPORT)),
+    (&CHECK, TWO_UNITS_PLANNED, (0, TWO_UNITS_CHECK)),
+    (
+        &["try", "7", "--proposals", "6765"],
+        ("", "", b""),
+        (5, b"fault 5 work 6765 154 48\n"),
+    ),
+    (&[], ("", "", b""), (1, b"fault 1 words 1 0\n")),
+    (
+        &["price", "--case", "a", "--case", "b"],
+        ("", "", b""),
+        (1, b"fault 1 words 4 4\n"),
+    ),
+    (
+        &["check", "--case", "c", "--schedule", "t"],
+        TWO_UNITS_PLANNED,
+        (2, b"fault 2 read schedule\n"),
+    ),
+    (
+        &CHECK,
+        (NO_UNITS, "{}", b""),
+        (
+            3,
+            b"fault 3 case 31 field renewable_generators kind case unit 0 item 0\n",
+        ),
+    ),
+    (
+        &CHECK,
+        ("{\"time_periods\":1", "{}", b""),
+        (3, b"fault 3 case 10 at 17\n"),
+    ),
+    (
+        &CHECK,
+        (SMALLEST, "[1,]", b""),
+        (4, b"fault 4 schedule 10 at 3\n"),
+    ),
+    (
+        &CHECK,
+        (SMALLEST, "{}", b""),
+        (4, b"fault 4 schedule 42 kind case unit 0 item 0\n"),
+    ),
+    (
+        &CHECK,
+        (
+            SMALLEST,
+            "{\"thermal\":{},\"renewable\":{\"W\":[0.5]}}",
+            b"",
+        ),
+        (4, b"fault 4 schedule 43 kind renewable unit 1 item 1\n"),
+    ),
+    (
+        &CHECK,
+        (
+            SMALLEST,
+            "{\"thermal\":{},\"renewable\":{\"W\":[99999]}}",
+            b"",
+        ),
+        (
+            4,
+            b"fault 4 schedule 54 kind case unit 0 period 1 left 99999 right 100000\n",
+        ),
+    ),
+    (
+        &CHECK,
+        (
+            TWO_PERIODS,
+            "{\"thermal\":{},\"renewable\":{\"W\":[100,99]}}",
+            b"",
+        ),
+        (
+            4,
+            b"fault 4 schedule 54 kind case unit 0 period 2 left 99 right 100\n",
+        ),
+    ),
+    (
+        &CHECK,
+        (
+            SMALLEST,
+            "{\"thermal\":{},\"renewable\":{\"W\":[100000]}}",
+            b"",
+        ),
+        (
+            0,
+            b"hull-check 1\nperiods 1 thermal 0 renewable 1\ncost 0\nfeasible\n",
+        ),
+    ),
+    (
+        &CHECK,
+        (
+            ONE_BID,
+            "{\"thermal\":{},\"renewable\":{\"W\":[100]},\"bids\":{\"D\":[100]}}",
+            b"",
+        ),
+        (0, ONE_BID_CHECK),
+    ),
+];
+
+#[test]
+fn runs_answer_as_worked(rt: HostRuntime) -> Result<(), Fail> {
+    Ok(runs_end(&rt, rt.alloc(), WORKED)?)
+}
+
+// Want of memory is free, so only these tell a program that runs from one that gives up: more than
+// one period, a bid, a window, proposals ahead, and a generated case. The expected texts are those
+// of other programs.
+const ANSWERED: &[Run] = &[
+    (
+        &[
+            "price",
+            "--case=c",
+            "--schedule=s",
+            "--proposals=4",
+            "--ahead=2",
+        ],
+        (TWO_BIDS, TWO_BIDS_SCHEDULE, b""),
+        (0, TWO_BIDS_REPORT),
+    ),
+    (
+        &["price", "--case=c", "--schedule=s", "--proposals=4"],
+        (WINDOW, WINDOW_SCHEDULE, b""),
+        (0, WINDOW_REPORT),
+    ),
+    (&["try", "7", "--proposals", "12"], ("", "", b""), (0, TRY)),
+];
+
+#[test]
+fn runs_answer_as_other_programs_do(rt: HostRuntime) -> Result<(), Fail> {
+    Ok(runs_end(&rt, rt.alloc(), ANSWERED)?)
+}
+
+// Two right reports, that of another case, and one that isn't there.
+const AUDITED: &[Run] = &[
+    (
+        &AUDIT,
+        (TWO_UNITS, TWO_UNITS_SCHEDULE, TWO_UNITS_REPORT),
+        (0, RIGHT),
+    ),
+    (
+        &AUDIT,
+        (TWO_UNITS, TWO_UNITS_SCHEDULE, TWO_PROPOSALS),
+        (0, b"hull-audit 1\nproposals 2\nright\n"),
+    ),
+    (
+        &AUDIT,
+        (TWO_UNITS, TWO_UNITS_SCHEDULE, USUAL_REPORT),
+        (8, b"fault 8 report 61 at 6\n"),
+    ),
+    (
+        &["audit", "--case=c", "--schedule=s", "--report=t"],
+        (TWO_UNITS, TWO_UNITS_SCHEDULE, TWO_UNITS_REPORT),
+        (2, b"fault 2 read report\n"),
+    ),
+];
+
+#[test]
+fn audits_answer_as_worked(rt: HostRuntime) -> Result<(), Fail> {
+    let unended = &TWO_UNITS_REPORT[..TWO_UNITS_REPORT.len() - 1];
+    let texts = (TWO_UNITS, TWO_UNITS_SCHEDULE, unended);
+    let text = b"fault 8 report 60 at 25\n".as_slice();
+    runs_end(&rt, rt.alloc(), &[(&AUDIT, texts, (8, text))])?;
+    Ok(runs_end(&rt, rt.alloc(), AUDITED)?)
+}

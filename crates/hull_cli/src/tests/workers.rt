@@ -1,0 +1,112 @@
+//! Workers that answer at once.
+
+use crate::same::same;
+use crate::tests::runs::{SHORT, run};
+use crate::tests::texts::{TWO_UNITS, TWO_UNITS_REPORT, TWO_UNITS_SCHEDULE};
+use answer_workers::Gate;
+use std::sync::atomic::{AtomicU64, Ordering};
+use std::test::Fail;
+use std::thread;
+
+const FOUR_IDLE: &str = "\
+{\"time_periods\":1,\"demand\":[0],\"reserves\":[0],\"thermal_generators\":{},\
+\"renewable_generators\":{\
+\"A\":{\"power_output_minimum\":[0],\"power_output_maximum\":[0]},\
+\"B\":{\"power_output_minimum\":[0],\"power_output_maximum\":[0]},\
+\"C\":{\"power_output_minimum\":[0],\"power_output_maximum\":[0]},\
+\"D\":{\"power_output_minimum\":[0],\"power_output_maximum\":[0]}}}";
+
+const FOUR_IDLE_SCHEDULE: &str =
+    "{\"thermal\":{},\"renewable\":{\"A\":[0],\"B\":[0],\"C\":[0],\"D\":[0]}}";
+
+const MOST_LOOKS: u32 = 100_000_000;
+
+// Holds the first proposal's units before the last one until that one's answer was posted, and
+// counts those that were held to the limit of looks: none where as many workers as units answer at
+// once, and no lock is held from a claim to its post.
+#[derive(Drop)]
+struct Held {
+    last: u32,
+    freed: AtomicU64,
+    late: AtomicU64,
+}
+
+impl Gate for Held {
+    fn between(&self, _caller: u32, proposal: u32, unit: u32) {
+        if proposal != 1 || unit >= self.last {
+            return;
+        }
+        for _ in 0..MOST_LOOKS {
+            if self.freed.load(Ordering::SeqCst) > 0 {
+                return;
+            }
+            thread::yield_now();
+        }
+        self.late.fetch_add(1, Ordering::SeqCst);
+    }
+
+    fn after(&self, _caller: u32, proposal: u32, unit: u32) {
+        if proposal == 1 && unit == self.last {
+            self.freed.store(1, Ordering::SeqCst);
+        }
+    }
+}
+
+fn held_up_to(last: u32) -> Held {
+    Held {
+        last,
+        freed: AtomicU64::new(0),
+        late: AtomicU64::new(0),
+    }
+}
+
+#[test]
+fn two_workers_answer_at_once(rt: HostRuntime) -> Result<(), Fail> {
+    let gate = held_up_to(1);
+    let words = [
+        "price",
+        "--case=c",
+        "--schedule=s",
+        "--proposals=1",
+        "--ahead=1",
+        "--workers=2",
+    ];
+    let (status, bytes) = run(
+        &rt,
+        &gate,
+        rt.alloc(),
+        &words,
+        (TWO_UNITS, TWO_UNITS_SCHEDULE, b"".as_slice()),
+        SHORT,
+    )?;
+    same(&rt, gate.late.load(Ordering::SeqCst), 0);
+    same(&rt, bytes.as_slice(), TWO_UNITS_REPORT);
+    same(&rt, status, 0);
+    Ok(())
+}
+
+#[test]
+fn four_workers_answer_at_once(rt: HostRuntime) -> Result<(), Fail> {
+    let gate = held_up_to(3);
+    let words = [
+        "price",
+        "--case=c",
+        "--schedule=s",
+        "--proposals=1",
+        "--ahead=1",
+        "--workers=4",
+    ];
+    let (status, bytes) = run(
+        &rt,
+        &gate,
+        rt.alloc(),
+        &words,
+        (FOUR_IDLE, FOUR_IDLE_SCHEDULE, b"".as_slice()),
+        SHORT,
+    )?;
+    same(&rt, gate.late.load(Ordering::SeqCst), 0);
+    same(&rt, status, 0);
+    let mut lines = bytes.as_slice().split(|byte| *byte == b'\n');
+    assert!(rt; lines.any(|line| line == b"chosen 1 value 0".as_slice()));
+    Ok(())
+}
