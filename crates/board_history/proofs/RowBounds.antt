@@ -186,7 +186,9 @@ rows_are_at_most_cost laws dual b h limits ahead legal plan cost k d inside =
     let within = rows_are_within laws b h limits ahead legal k d inside in
     let next = (rows_fit b h ahead legal).each k d inside in
     let r = get_or (rows_of (rules_of b) (posts h)) k d in
-    subst (λ (c : ℤ). r.value ≤ℤ c) (sym cost) (dual b.market b.plan r.prices r.value plan within.prices within.horizon next.value)
+    let low : (j : ℕ) → j < b.market.periods → pos 0 ≤ℤ int_at r.prices.reserve j = λ j i.
+    (within.prices.reserve j (pos 0) (let a = within.prices.lengths in let n = within.horizon in omega (arith, i, a, n))).at_least in
+    subst (λ (c : ℤ). r.value ≤ℤ c) (sym cost) (dual b.market b.plan r.prices r.value plan (record { horizon = within.horizon; reserve = low }) next.value)
 
 -- the lists of an answer are as long as those of its prices
 pub fit_lengths : (x : AnyUnit) (ρ : PriceLists) (s : Schedule) → Fits x ρ s → (length s.on ≡ length ρ.energy) × (length s.power ≡ length ρ.energy) × (length s.reserve ≡ length ρ.energy)

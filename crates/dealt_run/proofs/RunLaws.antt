@@ -1,5 +1,5 @@
 -- A run row by row.
-use Rattle.dealt_run.proofs.Common.{◌≡◌, ℕ, zero, suc, ◌+◌, ◌-◌, ◌<◌, ◌≤◌, inl, inr, ℤ, ◌≤ℤ◌, List, [], ◌∷◌, ◌++◌, take, length, refl, sym, ap, ◌∙◌, subst, arith, length-append, cases_lt, ints, All-map, All-push, All-nil, All, AllZip, range_with_len, slice_index_or, IsFalse, IsRowBelow, AnyUnit, PriceLists, Schedule, Market, units, GivesWithin, UnitsAreWithin, OutputsAreWithin, TotalsAreWithin, DualValuesAreWithin, PlanCostsAreWithin, DualIsAtMostCost, IsUnit, IsTotal, IsWorth, IsMarket, ArePrices, Proposal, is_settled, Fits, IsNextRow, IsRun, total_power, total_reserve, IsDualValue, head_of, tail_of, IsCostOfPlan, IsRowAt, IsRunSoFar, IsNextProposal, IsLast}
+use Rattle.dealt_run.proofs.Common.{◌≡◌, ℕ, zero, suc, ◌+◌, ◌-◌, ◌<◌, ◌≤◌, inl, inr, ℤ, pos, ◌≤ℤ◌, List, [], ◌∷◌, ◌++◌, take, length, refl, sym, ap, ◌∙◌, subst, arith, length-append, cases_lt, ints, All-map, All-push, All-nil, All, AllZip, range_with_len, slice_index_or, IsFalse, IsRowBelow, AnyUnit, PriceLists, Schedule, Market, units, GivesWithin, UnitsAreWithin, OutputsAreWithin, TotalsAreWithin, DualValuesAreWithin, PlanCostsAreWithin, DualIsAtMostCost, IsUnit, IsTotal, IsWorth, IsMarket, ArePrices, Proposal, is_settled, Fits, IsNextRow, IsRun, total_power, total_reserve, IsDualValue, head_of, tail_of, IsCostOfPlan, IsRowAt, IsRunSoFar, IsNextProposal, IsLast}
 
 take_front : {X : Type 0} → (k : ℕ) (xs ys : List X) → k ≤ length xs → take k (xs ++ ys) ≡ take k xs
 take_front zero xs ys h = refl
@@ -38,7 +38,7 @@ row_below limited outputs totals values at_most m cost π r limits are horizon p
         reserve = subst (All IsTotal) (sym row.totals.reserve) (All-map IsTotal (total_reserve (units m) row.schedules) (range_with_len 0 m.periods) (λ k d i. (within _).1));
       };
       value = values m π r.value limits are horizon row.value;
-      at_most = subst (λ (c : ℤ). r.value ≤ℤ c) plan.2 (at_most m plan.0 π r.value plan.1 are horizon row.value);
+      at_most = subst (λ (c : ℤ). r.value ≤ℤ c) plan.2 (at_most m plan.0 π r.value plan.1 (record { horizon = horizon; reserve = λ k i. (are.reserve k (pos 0) (let a = are.lengths in omega (arith, i, a, horizon))).at_least }) row.value);
     }
 
 -- ---- one more row

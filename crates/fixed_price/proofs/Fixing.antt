@@ -1,5 +1,6 @@
 -- The fixed case of a plan: within the limits, feasible at the same cost, with dual values between.
-use Rattle.fixed_price.proofs.Common.{◌≡◌, ℕ, suc, ◌+◌, ℤ, ◌≤ℤ◌, List, [], ◌∷◌, ◌++◌, map, length, refl, sym, ap, ◌∙◌, subst, append_assoc, Some, arith, ints, length-map, slice_get_within, get_or_from_slice_get, All, AllZip, slice_get, ThermalUnit, NamedThermalUnit, NamedRenewableUnit, NamedBidUnit, AnyUnit, Thermal, Flat, Bid, PriceLists, Schedule, Market, units, unit_count, IsFeasible, reserve_in, int_at, total, zip_with, held_mark, held_unit, held_named, fixed_market}
+use Rattle.fixed_price.proofs.Common.{◌≡◌, ℕ, suc, ◌+◌, ◌<◌, ℤ, ◌≤ℤ◌, List, [], ◌∷◌, ◌++◌, map, length, refl, sym, ap, ◌∙◌, subst, append_assoc, Some, arith, ints, length-map, slice_get_within, get_or_from_slice_get, All, AllZip, slice_get, ThermalUnit, NamedThermalUnit, NamedRenewableUnit, NamedBidUnit, AnyUnit, Thermal, Flat, Bid, PriceLists, Schedule, Market, units, unit_count, IsFeasible, reserve_in, int_at, total, zip_with, held_mark, held_unit, held_named, fixed_market}
+use Rattle.std.proofs.Common.{pos}
 use Rattle.std.proofs.lemmas.List.Elements.{All-head, All-tail, All-cons, All-nil}
 use Rattle.uc_model.specs.Earnings.{cost_of, earnings, supply_in, IsTop}
 use Rattle.uc_model.specs.Laws.{DualIsAtMostCost}
@@ -207,7 +208,8 @@ fixing law m plan h f =
       cost = cost_stays m plan;
       rises = λ π value fixed prices horizon dual held. dual_rises m plan π value fixed f horizon dual held;
       at_most = λ π fixed prices horizon held.
-          subst (λ (z : ℤ). fixed ≤ℤ z) (cost_stays m plan) (law (fixed_market m plan) plan π fixed (plan_stays m plan f) prices horizon held);
+          let low : (k : ℕ) → k < m.periods → pos 0 ≤ℤ int_at π.reserve k = λ k i. (prices.reserve k (pos 0) (let a = prices.lengths in omega (arith, i, a, horizon))).at_least in
+          subst (λ (z : ℤ). fixed ≤ℤ z) (cost_stays m plan) (law (fixed_market m plan) plan π fixed (plan_stays m plan f) (record { horizon = horizon; reserve = low }) held);
     }
 
 -- a thermal unit's window is over the horizon

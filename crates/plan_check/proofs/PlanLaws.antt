@@ -229,4 +229,4 @@ module _ (m : Market) (plan : List Schedule) (shape : HasPlanShape m plan) where
       unless_holds (int_le (int_at m.reserves k) (total_reserve (units m) plan k)) (int_at m.reserves k) (total_reserve (units m) plan k) (le_to_z (int_at m.reserves k) (total_reserve (units m) plan k) (f.reserve k lt))))
 
 pub refusals_are_exact : RefusalsAreExact
-refusals_are_exact = λ m plan market shape. (feasible_none m plan shape, none_feasible m plan shape)
+refusals_are_exact = λ m plan shape. (feasible_none m plan shape, none_feasible m plan shape)

@@ -1,7 +1,8 @@
 //! Laws over the definitions: each is the contract of a function that does nothing.
 ghost use Rattle.uc_model.specs.Laws.{RefusalsAreExact};
 
-/// A plan is feasible exactly where nothing is refused.
+/// A plan with a schedule over the horizon for each unit, where only thermal units are off or give
+/// reserve, is feasible exactly where nothing is refused.
 pub fn refusals_are_exact()
     ensures { RefusalsAreExact }
 {}

@@ -2,9 +2,9 @@
 //!
 //! Prices move along the direction in which the dual value rises (a step of the subgradient method
 //! with Polyak's step length, halved the longer no better value was found; the rule is this
-//! project's profile). No prices within the limits have a dual value above the cost of a feasible
-//! plan, `uc_model::laws::dual_is_at_most_cost`, so the gap that a step is taken from is never
-//! below 0.
+//! project's profile). No prices that ask nothing below 0 for reserve have a dual value above the
+//! cost of a feasible plan, `uc_model::laws::dual_is_at_most_cost`, so the gap that a step is taken
+//! from is never below 0.
 #![tactic(auto)]
 
 mod best_row;

@@ -4,6 +4,8 @@ pub mod Common
 pub mod OneDue
 -- what follows from an outcome
 pub mod OutcomeLaws
+-- what is promised of a refused schedule
+pub mod NoSchedule
 -- what is promised of a bound
 pub mod BoundPromise
 -- what is promised of the two runs of `hull fixed`

@@ -46,20 +46,22 @@ pub record AreOne : Type 0 where
   pub right : OneRightReport
   pub difference : OneDifference
 
-module _ (ones : AreOne) where
+-- at most one input is due
+module _ (case : OneCase) (plan : OnePlan) where
   one_case_in : (bytes : List ℕ) (a b : Result Market TopFault) → IsCase bytes a → IsCase bytes b → a ≡ b
-  one_case_in bytes a b (r, is_r, p) (s, is_s, q) = p ∙ ap (result_map_both (λ m. m) case_fault) (ones.case bytes r s is_r is_s) ∙ sym q
+  one_case_in bytes a b (r, is_r, p) (s, is_s, q) = p ∙ ap (result_map_both (λ m. m) case_fault) (case bytes r s is_r is_s) ∙ sym q
 
   one_plan_in : (m : Market) (bytes : List ℕ) (a b : Result (List Schedule) TopFault) → IsPlan m bytes a → IsPlan m bytes b → a ≡ b
-  one_plan_in m bytes a b (r, is_r, p) (s, is_s, q) = p ∙ ap (result_map_both (λ plan. plan) plan_fault) (ones.plan m bytes r s is_r is_s) ∙ sym q
+  one_plan_in m bytes a b (r, is_r, p) (s, is_s, q) = p ∙ ap (result_map_both (λ plan. plan) plan_fault) (plan m bytes r s is_r is_s) ∙ sym q
 
-  one_input : (reads : Reads) (a b : Result PlannedCase TopFault) → IsInput reads a → IsInput reads b → a ≡ b
+  pub one_input : (reads : Reads) (a b : Result PlannedCase TopFault) → IsInput reads a → IsInput reads b → a ≡ b
   one_input reads =
       one_then (IsCaseFile (reads CaseFile)) (λ m. Then (IsPlanFile m (reads ScheduleFile)) (IsChecked m))
       (one_then (IsBytes CaseFile (reads CaseFile)) IsCase (λ a b p q. p ∙ sym q) one_case_in)
       (λ m. one_then (IsPlanFile m (reads ScheduleFile)) (IsChecked m)
       (one_then (IsBytes ScheduleFile (reads ScheduleFile)) (IsPlan m) (λ a b p q. p ∙ sym q) (one_plan_in m)) (one_checked m))
 
+module _ (ones : AreOne) where
   one_made : (number : ℕ) (a b : Result PlannedCase TopFault) → IsMade number a → IsMade number b → a ≡ b
   one_made number (Ok x) (Ok y) p q = ap Ok (p.1 ∙ sym q.1)
   one_made number (Ok x) (Err g) p q = absurd q
@@ -87,16 +89,16 @@ module _ (ones : AreOne) where
       (λ r. one_then (IsWithinWork r.budget c) (IsJudged r) (λ a b p q. p ∙ sym q) (one_judged r))
 
   pub one_due : (w : Result Asked WordFault) (reads : Reads) (a b : Result PlannedCase TopFault) → (command_for w).IsDue reads a → (command_for w).IsDue reads b → a ≡ b
-  one_due (Ok (check x)) reads a b p q = one_input reads a b p q
+  one_due (Ok (check x)) reads a b p q = one_input ones.case ones.plan reads a b p q
   one_due (Ok (price x)) reads a b p q =
-      one_then (IsInput reads) (IsWithinWork x.proposals) (one_input reads) (λ c a b p q. p ∙ sym q) a b p q
+      one_then (IsInput reads) (IsWithinWork x.proposals) (one_input ones.case ones.plan reads) (λ c a b p q. p ∙ sym q) a b p q
   one_due (Ok (try x)) reads a b p q =
       one_then (IsMade x.number) (IsWithinWork x.proposals) (one_made x.number) (λ c a b p q. p ∙ sym q) a b p q
   one_due (Ok (bound x)) reads a b p q =
-      one_then (IsInput reads) (IsWithinWork x.run.proposals) (one_input reads) (λ c a b p q. p ∙ sym q) a b p q
+      one_then (IsInput reads) (IsWithinWork x.run.proposals) (one_input ones.case ones.plan reads) (λ c a b p q. p ∙ sym q) a b p q
   one_due (Ok (fixed x)) reads a b p q =
-      one_then (IsInput reads) (IsWithinWork x.proposals) (one_input reads) (λ c a b p q. p ∙ sym q) a b p q
-  one_due (Ok (audit x)) reads a b p q = one_then (IsInput reads) (IsAudit reads) (one_input reads) (one_audit reads) a b p q
+      one_then (IsInput reads) (IsWithinWork x.proposals) (one_input ones.case ones.plan reads) (λ c a b p q. p ∙ sym q) a b p q
+  one_due (Ok (audit x)) reads a b p q = one_then (IsInput reads) (IsAudit reads) (one_input ones.case ones.plan reads) (one_audit reads) a b p q
   one_due (Err f) reads a b p q = p ∙ sym q
 
 -- there is one first candidate with the least bound

@@ -1,5 +1,5 @@
 -- What follows from the outcome of a run.
-use Rattle.run_laws.proofs.Common.{◌≡◌, ℕ, ◌*◌, ◌≤◌, ◌⊎◌, inl, inr, Bool, true, false, List, Option, None, Some, Result, Ok, Err, refl, sym, ap, ◌∙◌, subst, arith, ◌-◌, ◌<◌, length, ℤ, pos, ◌≤ℤ◌, All, length-map, get_or-map, IsTrue, IfSome, IsSome, if◌then◌else◌, nat_lt, Market, Schedule, unit_count, IsFeasiblePlan, plan_cost, int_at, NothingIsPaidBack, RunPricesAreWithin, UnitLine, Report, unit_lines, IsRightReport, words_of, WordsHaveSizes, MOST_BYTES, Asked, CheckAsked, PriceAsked, AuditAsked, price, check, try, bound, fixed, audit, WordFault, status_of, fault_line, ReportPaymentsMakeUpTheGap, CaseFile, ScheduleFile, ReportFile, TopFault, Words, Read, CaseText, CaseField, PlanText, PlanShape, PlanRule, TooBig, Work, Memory, report_fault, End, Done, Cut, Refused, Reads, bytes_of, IsCase, IsCaseFile, IsPlan, IsPlanFile, IsChecked, IsInput, IsWithinWork, IsReportFile, IsAudit, PlannedCase, command_for, case_and_schedule, IsReadOf, AreReads, HasText, Ends, status_at, is_refusal, IsWritten, IsUnread, HasCause, IsQuiet, IsDecided, word_fault, FollowsFromWords, IsPromised, BytesAreThoseRead}
+use Rattle.run_laws.proofs.Common.{◌≡◌, ℕ, ◌*◌, ◌≤◌, ◌⊎◌, inl, inr, Bool, true, false, List, Option, None, Some, Result, Ok, Err, refl, sym, ap, ◌∙◌, subst, arith, ◌-◌, ◌<◌, ℤ, pos, ◌≤ℤ◌, All, length-map, get_or-map, IsTrue, IfSome, IsSome, if◌then◌else◌, nat_lt, Market, Schedule, unit_count, IsFeasiblePlan, plan_cost, int_at, NothingIsPaidBack, RunPricesAreWithin, UnitLine, Report, unit_lines, IsRightReport, words_of, WordsHaveSizes, MOST_BYTES, Asked, CheckAsked, PriceAsked, AuditAsked, price, check, try, bound, fixed, audit, WordFault, status_of, fault_line, ReportPaymentsMakeUpTheGap, CaseFile, ScheduleFile, ReportFile, TopFault, Words, Read, CaseText, CaseField, PlanText, PlanShape, PlanRule, TooBig, Work, Memory, report_fault, End, Done, Cut, Refused, Reads, bytes_of, IsCase, IsCaseFile, IsPlan, IsPlanFile, IsChecked, IsInput, IsWithinWork, IsReportFile, IsAudit, PlannedCase, command_for, case_and_schedule, IsReadOf, AreReads, HasText, Ends, status_at, is_refusal, IsWritten, IsUnread, HasCause, IsQuiet, IsDecided, word_fault, FollowsFromWords, IsPromised, BytesAreThoseRead}
 use Rattle.uc_case.specs.Files.{text, value}
 use Rattle.uc_case.specs.CaseFiles.{IsCaseOf}
 use Rattle.uc_plan.specs.PlanFiles.{IsPlanOf}
@@ -111,7 +111,7 @@ report_file_fault read f (Err g, is, e) =
     ]
 
 -- and that of an audit: or of the limit of work
-audit_fault : (reads : Reads) (c : PlannedCase) (f : TopFault) → IsAudit reads c (Err f) → ((f ≡ Read ReportFile) × (reads ReportFile ≡ None)) ⊎ ((status_of f ≡ 8) ⊎ (status_of f ≡ 5))
+pub audit_fault : (reads : Reads) (c : PlannedCase) (f : TopFault) → IsAudit reads c (Err f) → ((f ≡ Read ReportFile) × (reads ReportFile ≡ None)) ⊎ ((status_of f ≡ 8) ⊎ (status_of f ≡ 5))
 audit_fault reads c f (Ok r, report_is, (Ok left, work, (line, wrong, differs, e))) = inr (inl (ap status_of e))
 audit_fault reads c f (Ok r, report_is, (Err g, work, e)) =
     inr (inr (work_fault r.budget c f (subst (λ (h : TopFault). IsWithinWork r.budget c (Err h)) (sym (same_fault f g e)) work)))
@@ -422,7 +422,7 @@ pays_none_back priced nothing m plan budget ahead r some feasible right =
     let prices = priced m (plan_cost m plan) budget ahead r.rows (r.chosen - 1) right.row some right.run right.is_chosen in
     let length = prices.reserve_horizon in
     let low : (k : ℕ) → k < m.periods → pos 0 ≤ℤ int_at right.row.prices.reserve k = λ k lt. (prices.reserve k (pos 0) (omega (arith, lt, length))).at_least in
-    let paid = nothing m plan right.row.prices _ _ r.surplus r.payments feasible prices.horizon low right.settled in
+    let paid = nothing m plan right.row.prices _ _ r.surplus r.payments feasible (record { horizon = prices.horizon; reserve = low }) right.settled in
     let payment : UnitLine → ℤ = λ l. l.payment in
     record {
       payments = λ k l lt.

@@ -13,7 +13,7 @@ use Rattle.uc_model.specs.Systems.{IsFeasiblePlan, plan_cost}
 use Rattle.uc_case.specs.CaseFiles.{IsCaseOf}
 use Rattle.uc_plan.specs.PlanFiles.{IsPlanOf}
 use Rattle.hull_io.specs.Edge.{Rose, Gains, FallsShort}
-use Rattle.hull_io.specs.declared.read.TheConstants.{MOST_BYTES}
+use Rattle.uc_model.specs.declared.limits.TheConstants.{MOST_BYTES}
 use Rattle.hull_words.specs.Asked.{Asked, CheckAsked, PriceAsked, TryAsked, BoundAsked, AuditAsked}
 use Rattle.hull_words.specs.Asked.{check, price, try, bound, fixed, audit}
 use Rattle.hull_words.specs.Words.{words_of}
@@ -29,6 +29,7 @@ use Rattle.report_form.specs.ReportText.{UnitLine, Report, report_text}
 use Rattle.hull_report.specs.RightReport.{IsRightReport, unit_lines}
 use Rattle.hull_report.specs.RightSide.{IsRightSide, IsMadeUp}
 use Rattle.hull_report.specs.declared.fault.FileKind.{FileKind}
+use Rattle.hull_report.specs.declared.fault.FileKind.TheVariants.{CaseFile, ScheduleFile}
 use Rattle.hull_report.specs.declared.fault.FileKind.TheVariants.{ReportFile}
 use Rattle.hull_report.specs.declared.fault.TopFault.{TopFault}
 use Rattle.hull_report.specs.declared.fault.TopFault.TheVariants.{Words, Read, TooBig, Memory}
@@ -36,7 +37,7 @@ use Rattle.hull_report.specs.declared.fault.TopFault.TheVariants.{Report as Unfi
 use Rattle.report_read.specs.Bounds.{IsReport}
 use Rattle.report_read.specs.Faults.{IsFault}
 use Rattle.report_check.specs.Right.{DiffersFromRight}
-use Rattle.hull_engine.specs.Steps.{Reads, IsInput}
+use Rattle.hull_engine.specs.Steps.{Reads, IsInput, IsCaseFile}
 use Rattle.board_run.specs.Inputs.{PlannedCase}
 use Rattle.hull_engine.specs.Outcome.{Command, command_for, AreReads, HasText, IsOutcome}
 
@@ -123,6 +124,24 @@ pub record FollowsFromWords (words : Result Asked WordFault) (gained short : Lis
   pub check_at_5 : (a : CheckAsked) → words ≡ Ok (check a) → n ≢ 5
   pub at_8 : n ≡ 8 → (a : AuditAsked) × (words ≡ Ok (audit a))
 
+-- ---- what the status of a refused schedule promises
+
+-- THE PROMISE of 4: the line of a fault that is due was written, as far as the sink took it; the
+-- case's file is a case; and the schedule's file has more than 67,108,864 bytes, or no feasible
+-- schedule of the case is in it.
+pub record HasNoFeasibleSchedule (c : Command) (gained short : List ℕ → Type 0)
+    (reads : Reads) : Type 0 where
+  pub fault : TopFault
+  pub status : status_of fault ≡ 4
+  pub due : c.IsDue reads (Err fault)
+  pub written : gained (fault_line fault) ⊎ short (fault_line fault)
+  pub market : Market
+  pub is_case : IsCaseFile (reads CaseFile) (Ok market)
+  pub bytes : List ℕ
+  pub is_read : reads ScheduleFile ≡ Some bytes
+  pub none : length bytes ≤ MOST_BYTES → (plan : List Schedule) → IsPlanOf market bytes (Ok plan) →
+      IsFeasiblePlan market plan → ⊥
+
 -- ---- what a printed report promises
 
 -- THE PROMISE of `hull price`, where it answers 0: there are bytes of the case and of the schedule,
@@ -167,10 +186,15 @@ pub record IsBoundPromised (a : BoundAsked) (i : PlannedCase) (gained : List ℕ
   pub printed : gained (bound_text (length report.rows) report.chosen report.value
       (unsigned_abs a.radius) range.first range.last limit)
 
+-- no payment of a side is below 0, and neither is its surplus
+pub record PaysFrom0 (s : ToldSide) : Type 0 where
+  pub payments : All (λ (x : ℤ). pos 0 ≤ℤ x) s.payments
+  pub surplus : pos 0 ≤ℤ s.surplus
+
 -- THE PROMISE of `hull fixed`, where it answers 0, over an accepted input: what was printed is the
 -- text of a right side of the case's own run, and of one of the run with the schedule's commitments
 -- held. On each the payments and the surplus make up what the dual value of the case as given, at
--- that side's prices, lacks of the cost.
+-- that side's prices, lacks of the cost, and no payment and no surplus is below 0.
 pub record IsFixedPromised (a : PriceAsked) (i : PlannedCase) (gained : List ℕ → Type 0)
     : Type 0 where
   pub hull : ToldSide
@@ -180,6 +204,8 @@ pub record IsFixedPromised (a : PriceAsked) (i : PlannedCase) (gained : List ℕ
       held
   pub hull_made_up : IsMadeUp i.market i.plan hull
   pub held_made_up : IsMadeUp i.market i.plan held
+  pub hull_from_0 : PaysFrom0 hull
+  pub held_from_0 : PaysFrom0 held
   pub cost : i.cost ≡ plan_cost i.market i.plan
   pub printed : gained (fixed_text i.market i.cost hull held)
 
@@ -294,6 +320,11 @@ module _ {F S : Type 0} (told : F → List ℕ → Option (List ℕ)) (faults : 
   abbrev pub WordsFollow : Type 0
   WordsFollow = OnRuns (λ words told rose gained short n.
       FollowsFromWords (words_of words) gained short n)
+
+  abbrev pub RefusedSchedulesAreInfeasible : Type 0
+  RefusedSchedulesAreInfeasible = OnRuns (λ words told rose gained short n.
+      let c = command_for (words_of words) in
+      n ≡ 4 → OverReads c told rose (HasNoFeasibleSchedule c gained short))
 
   abbrev pub ReportsAreRight : Type 0
   ReportsAreRight = OnRuns (λ words told rose gained short n.

@@ -1,8 +1,10 @@
 //! Laws over runs: each is the contract of a function that answers nothing. They follow from
 //! `IsOutcome`, which `hull_engine::hull_run` ensures of its run.
 ghost use Rattle.run_laws.specs.Laws.{OneDue, OneText, AcceptedIsFeasible, EachStatusHasItsCause};
-ghost use Rattle.run_laws.specs.Laws.{WhatWasReadDecides, WordsFollow, ReportsAreRight};
-ghost use Rattle.run_laws.specs.Laws.{BoundsHold, BothGapsAreMadeUp, AuditsHold, WorkersAreFree};
+ghost use Rattle.run_laws.specs.Laws.{WhatWasReadDecides, WordsFollow};
+ghost use Rattle.run_laws.specs.Laws.{RefusedSchedulesAreInfeasible};
+ghost use Rattle.run_laws.specs.Laws.{ReportsAreRight, BoundsHold, BothGapsAreMadeUp, AuditsHold};
+ghost use Rattle.run_laws.specs.Laws.{WorkersAreFree};
 
 use gap_proof::laws::{run_bounds_hold, run_prices_are_within};
 use hull_engine::laws::{bytes_are_those_read, report_bytes_are_its_text, words_have_sizes};
@@ -11,10 +13,11 @@ use hull_report::laws::{
     one_report_is_right, one_row_is_chosen, one_side_is_right, report_payments_make_up_the_gap,
     right_report_has_form, side_payments_make_up_the_gap,
 };
+use plan_check::laws::refusals_are_exact;
 use report_form::laws::text_determines_the_report;
 use report_read::laws::{one_line_differs, one_line_is_in_fault, one_report_has_a_text};
 use uc_case::laws::one_case;
-use uc_model::laws::nothing_is_paid_back;
+use uc_model::laws::{feasible_plans_have_shape, nothing_is_paid_back};
 use uc_plan::laws::one_plan;
 
 /// Over what was read, at most one input is accepted or one refusal is due. So
@@ -69,6 +72,17 @@ pub fn words_follow<F: Shelf, S: Sink>()
     ensures { WordsFollow F.told F.faults F.last S.held S.faults S.last }
 {}
 
+/// What a command promises where it answers 4: the case's file is a case, and the schedule's has too
+/// many bytes, or no feasible schedule of the case is in it.
+pub fn refused_schedules_are_infeasible<F: Shelf, S: Sink>()
+    ensures { RefusedSchedulesAreInfeasible F.told F.faults F.last S.held S.faults S.last }
+{
+    one_case();
+    one_plan();
+    refusals_are_exact();
+    feasible_plans_have_shape();
+}
+
 /// What `hull price` promises where it answers 0.
 pub fn reports_are_right<F: Shelf, S: Sink>()
     ensures { ReportsAreRight F.told F.faults F.last S.held S.faults S.last }
@@ -93,11 +107,14 @@ pub fn bounds_hold<F: Shelf, S: Sink>()
 
 /// What `hull fixed` promises where it answers 0: both of its sides are right, and on each the
 /// payments and the surplus sum to the cost of the schedule less the dual value of the case as
-/// given at that side's prices.
+/// given at that side's prices, and no payment and no surplus is below 0.
 pub fn both_gaps_are_made_up<F: Shelf, S: Sink>()
     ensures { BothGapsAreMadeUp F.told F.faults F.last S.held S.faults S.last }
 {
+    words_have_sizes();
     side_payments_make_up_the_gap();
+    run_prices_are_within();
+    nothing_is_paid_back();
 }
 
 /// What `hull audit` promises: where it answers 0, the bytes of the report's file are the text of a

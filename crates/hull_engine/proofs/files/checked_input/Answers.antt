@@ -6,7 +6,7 @@ returns-in-Ok-clause-answers c =
     let m = market_of c.args.case in
     let plan = schedules_of c.args.plan in
     let feasible = c.in-Ok.ensures.feasible.0 refl in
-    let none = (c.refusals_are_exact.ensures m plan c.args.case.valid c.requires).1 feasible in
+    let none = (c.refusals_are_exact.ensures m plan c.requires).1 feasible in
     let at = λ (z : ℤ). let a : PlannedCase = record { market = m; plan = plan; cost = z } in a in
     rw (to_z-of_z w128 c.in-Ok.cost (search rules)) (feasible, none, ap at c.in-Ok.ensures.cost)
 
