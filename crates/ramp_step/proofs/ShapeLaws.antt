@@ -1,5 +1,5 @@
 -- A step on knots is the step on the table that they stand for.
-use Rattle.ramp_step.proofs.Common.{◌≡◌, ℕ, ◌+◌, ◌-◌, List, Option, Some, None, refl, sym, ap, ◌∙◌, subst, arith, inl, inr, ℤ, pos, ◌+ℤ◌, ◌-ℤ◌, ◌⊎◌, MatchOption, option_map, ints, Table, value_of, IsConvexList, IsEmpty, HasNone, IsWithinLimits, IsPlace, IsAmount, IsPoint, IsSum, IsCurveSum, CanAddCurve, IsLeast, IsLeastIn, Knot, power, height, StandFor, IsShape, IsInside, HaveSameEnds, CanAdd, IsWindow, IsLowest, HasNoPower, IsInsideWithin, IsValueAt, values_of, table_of, AreWithinLimits}
+use Rattle.ramp_step.proofs.Common.{◌≡◌, ℕ, ◌+◌, ◌-◌, List, Option, Some, None, refl, sym, ap, ◌∙◌, subst, arith, inl, inr, ℤ, pos, ◌+ℤ◌, ◌-ℤ◌, ◌⊎◌, MatchOption, option_map, ints, value_of, IsConvexList, HasNone, IsWithinLimits, IsAmount, IsPoint, IsSum, IsCurveSum, IsLeast, IsLeastIn, Knot, power, height, StandFor, IsShape, IsInside, HaveSameEnds, CanAdd, IsWindow, IsLowest, HasNoPower, IsInsideWithin, IsValueAt, values_of, table_of, AreWithinLimits}
 use Rattle.shape_law.specs.Table as tables
 use Rattle.shape_law.specs.Effect as effects
 use Rattle.shape_law.specs.Lookup.{IsAt-from_value, value-from_is_at}

@@ -1,7 +1,7 @@
 -- A way on from the power before a spell is a best dispatch, and the first of those of its cost.
-use Rattle.spell_run.proofs.Common.{◌≡◌, ℕ, zero, suc, ◌+◌, ◌-◌, ◌<◌, ◌≤◌, inl, inr, ℤ, pos, ◌+ℤ◌, ◌*ℤ◌, ◌≤ℤ◌, Bool, true, false, cond, eqb, length, refl, sym, ap, ◌∙◌, subst, arith, ints, cases_lt, IsPoint, same_some, Table, value_of, ThermalUnit, PriceLists, Schedule, IsThermalUnit, ArePrices, power_in, reserve_in, int_at, sum_below, IsSpellStart, stops_at, HasBestReserve, IsWayFrom, best_reserve, IsReserve, spell_first, IsDispatch, net_cost_at, net_cost, spell_cost, IsBestDispatch, IsFirstDispatch, cap_at, level}
+use Rattle.spell_run.proofs.Common.{◌≡◌, ℕ, zero, suc, ◌+◌, ◌-◌, ◌<◌, ◌≤◌, inl, inr, ℤ, pos, ◌+ℤ◌, ◌*ℤ◌, ◌≤ℤ◌, eqb, length, refl, sym, ap, ◌∙◌, subst, arith, ints, cases_lt, IsPoint, same_some, Table, value_of, ThermalUnit, PriceLists, Schedule, IsThermalUnit, ArePrices, power_in, reserve_in, int_at, sum_below, stops_at, HasBestReserve, IsWayFrom, best_reserve, IsReserve, IsDispatch, net_cost_at, net_cost, spell_cost, IsBestDispatch, IsFirstDispatch, cap_at, level}
 use Rattle.spell_run.proofs.ReserveLaws.{reserve_is_best}
-use Rattle.spell_run.proofs.RunLaws.{level_before, level_within, cost_none, cost_zero, move_same, reserve_not_negative}
+use Rattle.spell_run.proofs.RunLaws.{level_before, level_within, move_same, reserve_not_negative}
 use Rattle.spell_run.proofs.WayLaws.{move_of}
 
 -- where sums of terms that are no greater are equal, so are the terms

@@ -1,4 +1,4 @@
-use Rattle.text_tokens.proofs.Common.{◌≡◌, ◌<◌, false, length, ◌+◌, [], refl, get_or, sym, ◌∙◌, arith, is_blank, rest_at}
+use Rattle.text_tokens.proofs.Common.{◌<◌, length, ◌+◌, [], refl, sym, ◌∙◌, arith, rest_at}
 use Rattle.text_tokens.specs.Seen.{token_of}
 use Rattle.text_tokens.proofs.Lemmas.{end_step, next_token}
 use Rattle.text_tokens.proofs.reader.Reader.next_of_all.Goals as goal
