@@ -30,6 +30,8 @@ ROWS = [
     ("c73", "price", "100", "73 + 81 units, 48 periods, 100 proposals, more reserve"),
     ("c610", "price", "20", "610 + 200 units, 48 periods, 20 proposals"),
     ("c168", "price", "20", "73 + 81 units, 168 periods, 20 proposals"),
+    ("c610-100", "price", "100", "c610 with 100 proposals"),
+    ("c168-100", "price", "100", "c168 with 100 proposals"),
     ("day-audit", "audit", "100", "the audit of the report of day"),
     ("c610-audit", "audit", "20", "the audit of the report of c610"),
     ("c168-audit", "audit", "20", "the audit of the report of c168"),

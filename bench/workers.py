@@ -43,7 +43,7 @@ def seconds_at_once(words, number):
 def main():
     ask = argparse.ArgumentParser(description="Measures how much sooner several workers are done.")
     ask.add_argument("--runs", type=int, default=5)
-    ask.add_argument("--only", default="day,c610,c168,day-audit,c610-audit,c168-audit")
+    ask.add_argument("--only", default="day,c610,c168,c610-100,c168-100,day-audit,c610-audit,c168-audit")
     ask.add_argument("--program", default=f"{run.HOME}/crates/hull_cli/out/hull_cli")
     given = ask.parse_args()
     if not os.access(given.program, os.X_OK):
