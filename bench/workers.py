@@ -3,9 +3,10 @@
 
 usage: workers.py [--runs N] [--only NAME,..] [--program PROGRAM]
 
-Each figure is the least of N runs (5 if left out): seconds by the clock, and beside them the share of one worker's time at the
-same number ahead. The number of workers that can be at work at once is that of open proposals times units, so `--ahead` matters;
-an audit works at one proposal at a time.
+The runs go in turn, N rounds (15 if left out) of one run with each number of workers. Each figure is a median over the rounds: seconds
+by the clock, and beside them the share of one worker's time in the same round, since a machine's speed may change from one second to the
+next. The number of workers that can be at work at once is that of open proposals times units, so `--ahead` matters; an audit works at one
+proposal at a time.
 
 The last column is what the machine gives: four whole runs of one worker are started at once, and a quarter of the time until the last
 has ended is put beside the time of one alone. 0.25 means four processors of full speed; a share of four workers can't be less.
@@ -13,6 +14,7 @@ Run this on a quiet machine with four processors or more, and compare figures of
 """
 import argparse
 import os
+import statistics
 import subprocess
 import sys
 import tempfile
@@ -42,7 +44,7 @@ def seconds_at_once(words, number):
 
 def main():
     ask = argparse.ArgumentParser(description="Measures how much sooner several workers are done.")
-    ask.add_argument("--runs", type=int, default=5)
+    ask.add_argument("--runs", type=int, default=15)
     ask.add_argument("--only", default="day,c610,c168,c610-100,c168-100,day-audit,c610-audit,c168-audit")
     ask.add_argument("--program", default=f"{run.HOME}/crates/hull_cli/out/hull_cli")
     given = ask.parse_args()
@@ -59,13 +61,17 @@ def main():
                 continue
             for ahead in AHEAD:
                 words = [*run.words_of(row, room, given.program, "--ahead", str(ahead)), "--workers"]
-                runs = {it: [seconds([*words, str(it)]) for _ in range(max(1, given.runs))] for it in WORKERS}
-                if len({output for them in runs.values() for _, output in them}) != 1:
+                rounds = [
+                    ({it: seconds([*words, str(it)]) for it in WORKERS}, seconds_at_once([*words, "1"], 4))
+                    for _ in range(max(1, given.runs))
+                ]
+                if len({output for row, _ in rounds for _, output in row.values()}) != 1:
                     sys.exit(f"workers.py: {name}: the numbers of workers don't print the same bytes")
-                best = {it: min(took for took, _ in them) for it, them in runs.items()}
-                cells = [f"{best[it]:.3f} ({best[it] / best[1]:.2f})" for it in WORKERS]
-                four = min(seconds_at_once([*words, "1"], 4) for _ in range(max(1, given.runs)))
-                print(f"| {name} | {ahead} | " + " | ".join(cells) + f" | {four / 4 / best[1]:.2f} |", flush=True)
+                took = {it: statistics.median(row[it][0] for row, _ in rounds) for it in WORKERS}
+                share = {it: statistics.median(row[it][0] / row[1][0] for row, _ in rounds) for it in WORKERS}
+                cells = [f"{took[it]:.3f} ({share[it]:.2f})" for it in WORKERS]
+                four = statistics.median(at_once / 4 / row[1][0] for row, at_once in rounds)
+                print(f"| {name} | {ahead} | " + " | ".join(cells) + f" | {four:.2f} |", flush=True)
 
 
 if __name__ == "__main__":
