@@ -1,6 +1,6 @@
 #!/usr/bin/env bash
 # Holds the best response against trying every schedule, whole response by whole response, on many random tiny units: with
-# windows, reserves, must-run and start costs that fall as well as rise. The tests of crates/whole_tests do so for 460 of them.
+# windows, reserves, must-run and start costs that fall as well as rise. The tests of crates/test_whole do so for 460 of them.
 #
 #   tools/random_units.sh [-n TIMES] [-s SEED]
 #
@@ -19,7 +19,7 @@ done
 work=$(mktemp -d)
 trap 'rm -rf "$work"' EXIT
 tar -cf - --exclude=out crates.txt HANDLES crates | tar -C "$work" -xf - || exit 2
-file=$work/crates/whole_tests/src/responses.rt
+file=$work/crates/test_whole/src/responses.rt
 counts='[(1, 3, 200), (2, 3, 100), (3, 2, 60), (4, 1, 100)]'
 more="[(1, 3, $((200 * times))), (2, 3, $((100 * times))), (3, 2, $((60 * times))), (4, 1, $((100 * times)))]"
 python3 - "$file" "$counts" "$more" "$seed" "$((460 * times))" <<'END' || exit 2
@@ -32,6 +32,6 @@ for old, new in [(counts, more), ("Pcg32::new(2026, 54)", f"Pcg32::new(2026, {se
     text = text.replace(old, new)
 open(file, "w", encoding="utf-8").write(text)
 END
-cd "$work/crates/whole_tests" && rt try --test --steps 1 --seconds 3600 >"$work/said" 2>&1
+cd "$work/crates/test_whole" && rt try --test --steps 1 --seconds 3600 >"$work/said" 2>&1
 grep -A3 'random_units_as_by_trying' "$work/said" || { tail -5 "$work/said"; exit 1; }
 grep -q 'random_units_as_by_trying \.\.\. ok' "$work/said"

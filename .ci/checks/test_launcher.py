@@ -191,8 +191,8 @@ class Launcher(unittest.TestCase):
             if what == "library":
                 proved.add(name)
         self.assertEqual(proved, due - {"hull_cli"})
-        self.assertFalse({"whole_tests", "part_tests"} & due)
-        self.assertLessEqual({"report_read", "report_check", "dealt_run", "task_deal"}, due)
+        self.assertFalse({"test_whole", "test_parts"} & due)
+        self.assertLessEqual({"report_read", "audit_check", "audit_rows", "task_deal"}, due)
 
     def test_a_build_that_fails_says_where_to_look(self):
         status, output, said = self.hull("check", FAILS="compile")

@@ -12,7 +12,7 @@ pub use Rattle.board_run.specs.Inputs.{planned_in, planned_of, PlannedCase}
 pub use Rattle.board_run.specs.Rounds.{setup_of, IsEnded}
 pub use Rattle.board_run.specs.declared.input.RunInput.{RunInput}
 pub use Rattle.board_run.specs.declared.input.RunSize.{RunSize}
-pub use Rattle.dealt_run.specs.Benches.{IsBenchOver}
+pub use Rattle.audit_rows.specs.Benches.{IsBenchOver}
 pub use Rattle.hull_engine.specs.Answers.{HasStatus, IsRunText, IsFaultOf, IsCommandAnswer, IsEndOf, HasRead, IsAnswer}
 pub use Rattle.hull_engine.specs.Outcome.{IsReportText, IsBoundText, IsFixedText, Command, command_for, Ends, IsReadOf, case_and_schedule, with_report, AreReads, no_files}
 pub use Rattle.hull_engine.specs.Steps.{Then, Reads, IsInput, IsWithinWork, IsReportFile, IsJudged, IsAudit, bytes_of, IsBytes, IsMade, IsPlanFile, IsChecked, IsCaseFile, IsReportIn, IsCase, IsPlan}

@@ -1,7 +1,7 @@
 -- WHAT A RUN OF `hull` DOES, to be read from top to bottom (this project's profile; dual value,
 -- best responses and payments are those of Gribik, Hogan and Pope 2007). `hull_run` ensures
 -- IsOutcome, the record at the foot; before it stand its words: the commands, what was read of
--- their files, and how a run ends. What follows from it in full words is in the Laws of run_laws,
+-- their files, and how a run ends. What follows from it in full words is in the Laws of law_outcome,
 -- IsPromised for `price` and HasNoFeasibleSchedule for a schedule that is refused among them.
 --
 -- `told name` is what the shelf tells of a file's bytes, None where it tells none, and `rose name`
@@ -19,7 +19,7 @@
 -- hull_report: RightReport, CheckText, TryText, BoundText, FixedText and RightSide, AuditText,
 -- FaultLines; a case with its schedule's commitments held in fixed_price's FixedCase; which reports
 -- are read, and the first line in fault, in report_read's Bounds and Faults; the first line at
--- which a report differs from the right one in report_check's Right; the bound round a row in
+-- which a report differs from the right one in audit_check's Right; the bound round a row in
 -- gap_proof's Candidates.
 use Rattle.std.specs.Prelude.{◌≡◌, ◌⊎◌, ℕ, ℤ, List, length, unsigned_abs, Option, None, Some}
 use Rattle.std.specs.Prelude.{Result, Ok, Err, IfSome}

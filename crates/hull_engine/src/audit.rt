@@ -2,7 +2,7 @@
 ghost use Rattle.std.specs.Prelude.{◌≡◌, ℕ, ◌≤◌, length, map, IfOk};
 ghost use Rattle.std.specs.List.{All};
 ghost use Rattle.uc_model.specs.PlainCases.{market_of};
-ghost use Rattle.dealt_run.specs.Benches.{IsBenchOver};
+ghost use Rattle.audit_rows.specs.Benches.{IsBenchOver};
 ghost use Rattle.report_read.specs.Bounds.{IsReport, AreInOrder};
 ghost use Rattle.report_read.specs.Plain.{report_of, told_of};
 ghost use Rattle.hull_engine.specs.Answers.{IsAnswer};
@@ -10,10 +10,10 @@ ghost use Rattle.board_run.specs.Inputs.{planned_of, IsRunInput};
 ghost use Rattle.hull_engine.specs.Steps.{IsJudged};
 
 use answer_workers::most_points;
+use audit_check::{Audit, check_report};
 use board_run::{RunInput, unit_count};
 use case_answers::laws::benches_serve_all;
 use hull_report::TopFault;
-use report_check::{Audit, check_report};
 use report_read::Report;
 use slope_list::Slopes;
 use std::alloc::{AllocError, Global};

@@ -32,7 +32,7 @@ use std::thread::Threads;
 /// failed within the text.
 ///
 /// What that says of a run is one relation, `IsOutcome` in specs/Outcome.antt, to be read from top
-/// to bottom. The crate run_laws has what follows from it: the cause of each status, that at most
+/// to bottom. The crate law_outcome has what follows from it: the cause of each status, that at most
 /// one thing is due, that where no count rose what was read decides but for want of memory, and
 /// what a report that was printed promises. It names no workers: for every number of them, and
 /// every gate, the text of the same words over the same files is one and the same.

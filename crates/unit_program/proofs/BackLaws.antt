@@ -1,6 +1,6 @@
 -- One spell of the way back.
 use Rattle.unit_program.proofs.Common.{◌≡◌, ℕ, zero, suc, ◌+◌, ◌-◌, ◌<◌, ◌≤◌, ltb, ◌⊎◌, inl, inr, Option, Some, None, ℤ, pos, ◌+ℤ◌, ◌-ℤ◌, ◌*ℤ◌, ◌≤ℤ◌, List, length, refl, sym, ap, ◌∙◌, subst, arith, IsTrue, IsFalse, IfSome, MatchOption, max, ints, cases_lt, ThermalUnit, PriceLists, Schedule, envelope, on_in, power_in, reserve_in, int_at, sum_below-same, IsOnFromTo, IsSameOutside, spell_first, IsBestDispatch, IsFirstDispatch, HasNoDispatch, over_min, IsDispatch, IsLeastSpell, net_cost, spell_cost, IsSpell, start_cost_after, Ended, IsEnded, IsLatest, IsStarted, IsEntryAfter, IsComplete, row_at, cost_at, first_at, before_at, IsFilled, IsUpTo, IsIdle, IsFirstUpTo, IsSameIn, IsZeroOff, IsWritten, IsWrittenBack}
-use Rattle.period_table.specs.Tables.{IsFrom}
+use Rattle.unit_table.specs.Tables.{IsFrom}
 use Rattle.unit_program.proofs.BuildLaws.{up_to_idle, up_to_first, up_to_next}
 use Rattle.unit_program.proofs.SpanLaws.{spell_first-is}
 use Rattle.unit_program.proofs.TieLaws.{first_alone, first_after}

@@ -11,16 +11,16 @@ pub use Rattle.std.specs.Int.{int_max, int_min, w64}
 pub use Rattle.std.specs.List.{All, fold}
 pub use Rattle.std.specs.Option.{option_map, option_map_or}
 pub use Rattle.std.specs.Prelude.{IsTrue, IsFalse, IfSome, MatchOption, max, slice_index, slice_index_or, slice_get, OnOk, is_ok, IfNone, FitsSigned}
-pub use Rattle.period_table.specs.Laws.{StopsAtOnceCostNothing, CappedRowsAreRows, StartsAreWithinLimits, LimitsAreAboveTheAmount}
-pub use Rattle.period_table.specs.Limits.{capped, IsRowWithin, IsFilledWithin, IsEndWithin, EachCostsMore, IsInRange, AreLimits}
-pub use Rattle.period_table.specs.Live.{places_of, HaveRoom, left_of, left_at}
-pub use Rattle.period_table.specs.Rows.{row_at, cost_at, first_at, before_at, IsFilled, HasEntryAtMost, IsWithinTimes, AreWithin, IsAdded, IsFirstRow, net_at, IsOpenUntil}
-pub use Rattle.period_table.specs.Runners.{HaveWays}
-pub use Rattle.period_table.specs.Spells.{IsSpell, start_cost_after, IsOffRun, paid, on_time, off_time, IsGap, period_cost, StopsAtOnce}
-pub use Rattle.period_table.specs.Tables.{IsEnded, IsLatest, IsStarted, IsEntryAfter, IsComplete, IsLeastEnd, IsEntry, IsLeastEntry, HasAtMost, IsTable, IsUpdate}
-pub use Rattle.period_table.specs.declared.runner.Runner.{Runner}
-pub use Rattle.period_table.specs.declared.table.Ended.{Ended}
-pub use Rattle.period_table.specs.declared.table.Entry.{Entry}
+pub use Rattle.unit_table.specs.Laws.{StopsAtOnceCostNothing, CappedRowsAreRows, StartsAreWithinLimits, LimitsAreAboveTheAmount}
+pub use Rattle.unit_table.specs.Limits.{capped, IsRowWithin, IsFilledWithin, IsEndWithin, EachCostsMore, IsInRange, AreLimits}
+pub use Rattle.unit_table.specs.Live.{places_of, HaveRoom, left_of, left_at}
+pub use Rattle.unit_table.specs.Rows.{row_at, cost_at, first_at, before_at, IsFilled, HasEntryAtMost, IsWithinTimes, AreWithin, IsAdded, IsFirstRow, net_at, IsOpenUntil}
+pub use Rattle.unit_table.specs.Runners.{HaveWays}
+pub use Rattle.unit_table.specs.Spells.{IsSpell, start_cost_after, IsOffRun, paid, on_time, off_time, IsGap, period_cost, StopsAtOnce}
+pub use Rattle.unit_table.specs.Tables.{IsEnded, IsLatest, IsStarted, IsEntryAfter, IsComplete, IsLeastEnd, IsEntry, IsLeastEntry, HasAtMost, IsTable, IsUpdate}
+pub use Rattle.unit_table.specs.declared.runner.Runner.{Runner}
+pub use Rattle.unit_table.specs.declared.table.Ended.{Ended}
+pub use Rattle.unit_table.specs.declared.table.Entry.{Entry}
 pub use Rattle.slope_list.specs.Slopes.{room_of}
 pub use Rattle.spell_run.specs.Entries.{IsOnFromTo, IsSameOutside, entry_of}
 pub use Rattle.spell_run.specs.Notes.{passed_at, IsSpellNoted}

@@ -1,6 +1,6 @@
 -- One spell of the way back, where the rows are those of the table as far as they are within the limits.
 use Rattle.unit_program.proofs.Common.{◌≡◌, ℕ, suc, ◌≤◌, Option, Some, ℤ, ◌≤ℤ◌, List, length, arith, IsTrue, IsFalse, ints, StartCostsAreWithin, ThermalUnit, PriceLists, Schedule, IsThermalUnit, Ended, IsWrittenBack, CappedRowsAreRows, StartsAreWithinLimits, capped, IsRowWithin, row_at, cost_at, first_at, before_at, IsEnded, IsStarted}
-use Rattle.period_table.specs.Tables.{IsFrom}
+use Rattle.unit_table.specs.Tables.{IsFrom}
 use Rattle.unit_program.proofs.BackLaws.{IsRowBack, off_back, ended_of, back_of_row, started}
 use Rattle.unit_program.proofs.LimitLaws.{row_here, row_real}
 use Rattle.unit_program.proofs.RowLaws.{cost-is}

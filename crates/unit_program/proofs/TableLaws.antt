@@ -1,6 +1,6 @@
 -- One more first period in the table.
 use Rattle.unit_program.proofs.Common.{◌≡◌, ℕ, suc, ◌<◌, ◌≤◌, inl, inr, true, false, Option, Some, None, ℤ, pos, ◌+ℤ◌, ◌≤ℤ◌, refl, sym, ap, ◌∙◌, subst, arith, IsTrue, IsFalse, ints, cases_lt, ThermalUnit, PriceLists, Schedule, IsDispatch, IsSpellAnswer, spell_cost, IsSpell, HasAtMost, IsEntryAfter, IsEntry, IsLeastEntry, IsEnded, IsLatest, IsTable, IsUpdate}
-use Rattle.period_table.specs.Tables.{IsFrom}
+use Rattle.unit_table.specs.Tables.{IsFrom}
 
 pub at_most_more : (o : Option ℤ) (u v : ℤ) → HasAtMost o u → u ≤ℤ v → HasAtMost o v
 at_most_more o u v h low = (h.0, h.1, omega (arith, ints, low))

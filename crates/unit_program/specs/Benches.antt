@@ -3,7 +3,7 @@ use Rattle.std.specs.Prelude.{ℕ, ◌+◌, ◌*◌, ◌<◌, ◌≤◌, length}
 use Rattle.slope_list.specs.declared.slopes.Slopes.{Slopes}
 use Rattle.slope_list.specs.Slopes.{room_of}
 use Rattle.unit_program.specs.declared.bench.Bench.{Bench}
-use Rattle.period_table.specs.Live.{HaveRoom}
+use Rattle.unit_table.specs.Live.{HaveRoom}
 
 -- its parts suffice for the answers of a unit with so many cost points over so many periods
 pub record IsBenchFor {R : Type 0} (room_of : R → ℕ) (periods points : ℕ) (b : Bench R) : Type

@@ -2,8 +2,8 @@
 use Rattle.std.specs.Prelude.{◌≡◌, ℕ, suc, ℤ, pos, ◌≤ℤ◌, Option, Some, length}
 use Rattle.uc_model.specs.Data.{ThermalUnit, PriceLists, Schedule}
 use Rattle.uc_model.specs.Schedules.{IsThermalFeasible}
-use Rattle.period_table.specs.Spells.{IsOffRun}
-use Rattle.period_table.specs.Tables.{IsComplete}
+use Rattle.unit_table.specs.Spells.{IsOffRun}
+use Rattle.unit_table.specs.Tables.{IsComplete}
 
 -- a complete table has no last on period after which the unit may be off to the end
 abbrev pub NoEndIsNoSchedule : Type 0

@@ -13,18 +13,18 @@ ghost use Rattle.uc_model.specs.Schedules.{IsThermalFeasible};
 ghost use Rattle.uc_model.specs.Ties.{IsLeast};
 ghost use Rattle.unit_program.specs.Backs.{IsWritten, IsWrittenBack, IsZeroOff};
 ghost use Rattle.unit_program.specs.Builds.{IsIdle};
-ghost use Rattle.period_table.specs.Rows.{cost_at, IsWithinTimes, IsFilled};
-ghost use Rattle.period_table.specs.Spells.{IsOffRun};
-ghost use Rattle.period_table.specs.Tables.{IsLeastEnd};
+ghost use Rattle.unit_table.specs.Rows.{cost_at, IsWithinTimes, IsFilled};
+ghost use Rattle.unit_table.specs.Spells.{IsOffRun};
+ghost use Rattle.unit_table.specs.Tables.{IsLeastEnd};
 
 use crate::program::fill;
 use cost_curve::curves::curve_of;
-use period_table::commitment::off_from;
-use period_table::table::{Ended, Entry, Table, lesser};
 use shape_law::Shape;
 use spell_run::{Spell, SpellCosts, spell_best};
 use std::alloc::{AllocError, Global};
 use uc_model::units::{Answered, Curve, Prices, Unit};
+use unit_table::commitment::off_from;
+use unit_table::table::{Ended, Entry, Table, lesser};
 
 // The cost of all, where `last` is the last on period.
 fn end_at(rows: &[Option<Ended>], last: u32) -> Option<i64>

@@ -8,24 +8,18 @@ ghost use Rattle.uc_model.specs.Schedules.{IsThermalFeasible};
 ghost use Rattle.uc_model.specs.Ties.{IsLeast};
 ghost use Rattle.unit_program.specs.Benches.{IsBenchFor};
 ghost use Rattle.slope_list.specs.Slopes.{room_of};
-ghost use Rattle.period_table.specs.Live.{left_at, HaveRoom};
+ghost use Rattle.unit_table.specs.Live.{left_at, HaveRoom};
 ghost use Rattle.uc_model.specs.Limits.{IsFrom};
 ghost use Rattle.uc_model.specs.declared.limits.TheConstants.{MOST_PERIODS, MOST_POINTS};
-ghost use Rattle.period_table.specs.Limits.{IsFilledWithin, IsEndWithin, EachCostsMore};
-ghost use Rattle.period_table.specs.Rows.{cost_at, first_at};
-ghost use Rattle.period_table.specs.Runners.{HaveWays};
+ghost use Rattle.unit_table.specs.Limits.{IsFilledWithin, IsEndWithin, EachCostsMore};
+ghost use Rattle.unit_table.specs.Rows.{cost_at, first_at};
+ghost use Rattle.unit_table.specs.Runners.{HaveWays};
 
 use crate::answer::least_end;
 use crate::kept::{Kept, NO_BOUND, guess_of, keep_answer};
 use crate::limits::fill_limits;
 use crate::way::write_noted;
 use cost_curve::curves::curve_into;
-use period_table::laws::limits_keep_rows;
-use period_table::origins::Origins;
-use period_table::periods::fill_by_periods;
-use period_table::roster::Roster;
-use period_table::runner::Runner;
-use period_table::table::{Entry, Table};
 use slope_list::Slopes;
 use spell_run::Running;
 use std::alloc::{AllocError, Global};
@@ -33,6 +27,12 @@ use std::mem::swap;
 use uc_model::laws::earnings_are_within;
 use uc_model::lists::{Numbers, ReservedList};
 use uc_model::units::{Answered, Blocks, Curve, Prices, Unit};
+use unit_table::laws::limits_keep_rows;
+use unit_table::origins::Origins;
+use unit_table::periods::fill_by_periods;
+use unit_table::roster::Roster;
+use unit_table::runner::Runner;
+use unit_table::table::{Entry, Table};
 
 /// Memory for the answers of units over so many periods, with so many cost points. What it holds
 /// between two calls is open.

@@ -24,4 +24,4 @@ pub mod way;
 pub use answer::best_response;
 pub use bench::{Bench, SlopeBench, least_in_place};
 pub use kept::Kept;
-pub use period_table::{Runner, fill_by_periods};
+pub use unit_table::{Runner, fill_by_periods};

@@ -11,7 +11,7 @@ ghost use Rattle.uc_model.specs.Limits.{IsFrom, IsPoint, ArePointsOrdered};
 ghost use Rattle.uc_model.specs.PlainUnits.{thermal_of, prices_of};
 ghost use Rattle.uc_model.specs.Sums.{int_at};
 ghost use Rattle.uc_model.specs.declared.limits.TheConstants.{GAIN_LIMIT, PRICE_LIMIT};
-ghost use Rattle.period_table.specs.Limits.{AreLimits};
+ghost use Rattle.unit_table.specs.Limits.{AreLimits};
 ghost use Rattle.unit_program.specs.Nets.{AreKnown};
 
 use cost_curve::laws::envelope_earns_as_points;

@@ -5,16 +5,16 @@ ghost use Rattle.cost_curve.specs.CostCurve.{IsCostCurve};
 ghost use Rattle.shape_law.specs.Cell.{Frame};
 ghost use Rattle.spell_run.specs.Entries.{cells_for};
 ghost use Rattle.uc_model.specs.PlainUnits.{thermal_of, prices_of};
-ghost use Rattle.period_table.specs.Rows.{IsWithinTimes, AreWithin, IsAdded, IsFilled};
+ghost use Rattle.unit_table.specs.Rows.{IsWithinTimes, AreWithin, IsAdded, IsFilled};
 
 use crate::spells::{add_spells, least_entry, open_until};
-use period_table::commitment::may_end;
-use period_table::laws::stops_at_once_cost_nothing;
-use period_table::table::{Entry, Table, begin_table};
 use shape_law::Shape;
 use spell_run::{SpellCosts, spell_costs};
 use std::alloc::AllocError;
 use uc_model::units::{Curve, Prices, Unit};
+use unit_table::commitment::may_end;
+use unit_table::laws::stops_at_once_cost_nothing;
+use unit_table::table::{Entry, Table, begin_table};
 
 // Adds the spells that begin with period `first` after an entry, with one pass over the prices if
 // one may begin there.

@@ -4,15 +4,15 @@ ghost use Rattle.std.specs.Prelude.{IfNone, length, suc, Some};
 ghost use Rattle.uc_model.specs.PlainUnits.{thermal_of};
 ghost use Rattle.uc_model.specs.Schedules.{mark_in};
 ghost use Rattle.uc_model.specs.declared.limits.TheConstants.{MOST_PERIODS};
-ghost use Rattle.period_table.specs.Rows.{cost_at, first_at, before_at, net_at, IsWithinTimes};
-ghost use Rattle.period_table.specs.Rows.{AreWithin, IsOpenUntil};
-ghost use Rattle.period_table.specs.Spells.{IsOffRun, IsGap, on_time, start_cost_after};
-ghost use Rattle.period_table.specs.Tables.{IsUpdate, IsEntry, IsLeastEntry};
-ghost use Rattle.period_table.specs.declared.table.Entry.{Entry};
+ghost use Rattle.unit_table.specs.Rows.{cost_at, first_at, before_at, net_at, IsWithinTimes};
+ghost use Rattle.unit_table.specs.Rows.{AreWithin, IsOpenUntil};
+ghost use Rattle.unit_table.specs.Spells.{IsOffRun, IsGap, on_time, start_cost_after};
+ghost use Rattle.unit_table.specs.Tables.{IsUpdate, IsEntry, IsLeastEntry};
+ghost use Rattle.unit_table.specs.declared.table.Entry.{Entry};
 
-use period_table::commitment::{may_end, off_from, time_off};
-use period_table::table::{Ended, Entry, Table, lesser, put, start_after, sum_of};
 use uc_model::units::{Mark, Unit};
+use unit_table::commitment::{may_end, off_from, time_off};
+use unit_table::table::{Ended, Entry, Table, lesser, put, start_after, sum_of};
 
 // How many of the marks from a place on come before the first `MustOff`, and the place where they
 // end.

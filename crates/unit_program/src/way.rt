@@ -7,18 +7,18 @@ ghost use Rattle.uc_model.specs.PlainUnits.{thermal_of, prices_of, schedule_of};
 ghost use Rattle.uc_model.specs.Ties.{IsLeast};
 ghost use Rattle.unit_program.specs.Backs.{IsWritten, IsWrittenBack};
 ghost use Rattle.unit_program.specs.Builds.{IsIdle};
-ghost use Rattle.period_table.specs.Limits.{IsRowWithin, IsEndWithin};
-ghost use Rattle.period_table.specs.Live.{left_at};
-ghost use Rattle.period_table.specs.Rows.{cost_at, first_at};
-ghost use Rattle.period_table.specs.Runners.{HaveWays};
+ghost use Rattle.unit_table.specs.Limits.{IsRowWithin, IsEndWithin};
+ghost use Rattle.unit_table.specs.Live.{left_at};
+ghost use Rattle.unit_table.specs.Rows.{cost_at, first_at};
+ghost use Rattle.unit_table.specs.Runners.{HaveWays};
 
 use crate::answer::{clear, is_all_off, negated};
-use period_table::laws::limits_keep_rows;
-use period_table::runner::Runner;
-use period_table::table::{Ended, Entry};
 use spell_run::write_spell;
 use uc_model::laws::start_costs_are_within;
 use uc_model::units::{Answered, Prices, Unit};
+use unit_table::laws::limits_keep_rows;
+use unit_table::runner::Runner;
+use unit_table::table::{Ended, Entry};
 
 // Writes a dispatch of least net cost of the spell from `first` to `last`; nothing where it ends
 // before period 1.

@@ -1,0 +1,34 @@
+use Rattle.audit_check.proofs.Common.{ℕ, ◌+◌, sym, ap, ◌∙◌, arith, min, w128, to_z-of_z, length-map, market_of, schedules_of, proposal_of, report_of}
+use Rattle.audit_check.proofs.audit.rows_right.Goals as goal
+
+pub jobs_for-requires-clause-schedules : goal.jobs_for-requires-clause-schedules
+jobs_for-requires-clause-schedules g c = (schedules_of c.args.plan.now, c.requires.feasible.feasible)
+
+pub right_rows-requires-clause-cost : goal.right_rows-requires-clause-cost
+right_rows-requires-clause-cost g c = λ κs out. (schedules_of c.args.plan.now, c.requires.feasible, rw (to_z-of_z w128 c.args.cost c.ranges.cost) (sym c.requires.cost))
+
+pub right_rows-requires-clause-budget : goal.right_rows-requires-clause-budget
+unfolding report_of
+right_rows-requires-clause-budget g c = λ κs out.
+    let most = c.enough_rows-most.ensures in
+    let least = c.requires.bounds.budget_at_least in
+    let limit = c.requires.bounds.budget_at_most in
+    (omega (arith, most, least), omega (arith, most, limit))
+
+pub right_rows-requires-clause-ahead : goal.right_rows-requires-clause-ahead
+unfolding report_of
+right_rows-requires-clause-ahead g c = λ κs out. (c.requires.bounds.ahead_at_least, c.requires.bounds.ahead_at_most)
+
+pub make-requires : goal.make-requires
+make-requires g c = c.last_bench.ensures (market_of c.args.case.now) c.right_rows.ensures.jobs
+
+pub judged-audit-requires-clause-run : goal.judged-audit-requires-clause-run
+unfolding report_of
+judged-audit-requires-clause-run g c =
+    let r = c.args.report.now in
+    let wide = length-map r.rows.items proposal_of in
+    let most = c.enough_rows-most.ensures ∙ ap (λ (n : ℕ). min r.budget (n + 1)) (sym wide) in
+    rw (c.as_slice.ensures, sym most) c.in_ok-rows.ensures.run
+
+pub judged-audit-requires-clause-opening : goal.judged-audit-requires-clause-opening
+judged-audit-requires-clause-opening g c = rw (to_z-of_z w128 c.args.cost c.ranges.cost) c.requires.opening

@@ -1,0 +1,229 @@
+//! The audit of a report, from its case and plan alone.
+ghost use Rattle.std.specs.Prelude.{◌≡◌, ℕ, ◌+◌, ◌≤◌, ◌↔◌, min, length, map, IfOk, IfErr};
+ghost use Rattle.std.specs.List.{All};
+ghost use Rattle.task_deal.specs.declared.deal.TheConstants.{MOST_JOBS};
+ghost use Rattle.uc_model.specs.Data.{Market};
+ghost use Rattle.uc_model.specs.PlainCases.{market_of, schedules_of, proposal_of};
+ghost use Rattle.uc_model.specs.Runs.{IsRun, Fits};
+ghost use Rattle.uc_model.specs.Systems.{IsFeasiblePlan, plan_cost};
+ghost use Rattle.audit_rows.specs.Jobs.{AreFor};
+ghost use Rattle.case_answers.specs.Tops.{HasSchedules, IsBenchOver};
+ghost use Rattle.hull_report.specs.RightReport.{IsRightReport};
+ghost use Rattle.report_read.specs.Bounds.{IsReport, AreInOrder};
+ghost use Rattle.report_read.specs.Plain.{report_of, told_of};
+ghost use Rattle.audit_check.specs.Audits.{IfWrong};
+ghost use Rattle.audit_check.specs.Desks.{IsDeskFor};
+ghost use Rattle.audit_check.specs.Heads.{right_opening};
+ghost use Rattle.audit_check.specs.ReportLines.{opening_lines};
+ghost use Rattle.audit_check.specs.Right.{DiffersFromRight, IsWrongFrom};
+ghost use Rattle.audit_check.specs.declared.audit.Audit.TheVariants.{Right};
+
+use crate::desk::Desk;
+use crate::parts::opening_same;
+use crate::report::first_difference;
+use crate::wrong::WrongLine;
+use audit_rows::{Answerer, right_rows};
+use hull_report::laws::{one_list_is_the_run, one_report_is_right};
+use report_exists::laws::right_reports_exist;
+use report_form::laws::text_determines_the_report;
+use report_read::Report;
+use slope_list::Slopes;
+use std::alloc::{AllocError, Global};
+use std::sync::Wait;
+use std::thread::Threads;
+use uc_model::cases::{Case, Plan, Row};
+use unit_program::Bench;
+
+/// The line that says how many proposals there are.
+const NUMBER_LINE: u32 = 7;
+
+/// What an audit comes to.
+#[derive(Clone, Copy, Debug, Drop)]
+pub enum Audit {
+    /// The report is the right one.
+    Right,
+    /// It isn't: this is the first line, from 1, at which its text differs from the right one's.
+    Wrong { line: u32 },
+}
+
+// A job on each bench.
+fn jobs_for<'a>(
+    alloc: Global,
+    case: &'a Case,
+    mut benches: Vec<Bench<Slopes>>,
+) -> Result<Vec<Answerer<'a>>, AllocError>
+    requires schedules { HasSchedules (market_of case.now) }
+    requires benches { All (IsBenchOver (market_of case.now)) benches.items }
+    ensures count { IfOk result (λ jobs. length jobs.items ≡ length benches.items) }
+    ensures jobs { IfOk result (λ jobs. AreFor (market_of case.now) jobs.items) }
+{
+    let mut jobs = Vec::new(alloc);
+    while let Some(bench) = benches.pop() {
+        let job = Answerer::make(alloc, case, bench)?;
+        jobs.push(job)?;
+    }
+    Ok(jobs)
+}
+
+// The bench of the last job.
+fn last_bench(mut jobs: Vec<Answerer>) -> Bench<Slopes>
+    requires { 1 ≤ length jobs.items }
+    ensures { (m : Market) → AreFor m jobs.entry.items → IsBenchOver m result }
+{
+    let Some(job) = jobs.pop() else {
+        unreachable!()
+    };
+    let Answerer {
+        case: _,
+        bench,
+        prices: _,
+        answer: _,
+        numbers: _,
+        left: _,
+        sums: _,
+    } = job;
+    bench
+}
+
+// The first of the lines before the number of proposals that isn't right.
+fn opening_right(case: &Case, plan: &Plan, cost: i128, report: &Report) -> Result<u32, WrongLine>
+    requires feasible { IsFeasiblePlan (market_of case.now) (schedules_of plan.now) }
+    requires cost { cost ≡ plan_cost (market_of case.now) (schedules_of plan.now) }
+    requires bounds { IsReport (report_of report.now) }
+    ensures right { IfOk result (λ next. opening_lines (report_of report.now)
+        ≡ right_opening (market_of case.now) cost (report_of report.now)) }
+    ensures wrong { IfErr result (λ wrong. IsWrongFrom (market_of case.now)
+        (schedules_of plan.now) (report_of report.now) wrong.line) }
+{
+    text_determines_the_report();
+    one_report_is_right();
+    right_reports_exist();
+    opening_same(case, cost, report)
+}
+
+// As many proposals as tell whether the report has all of them and no other: one more than it has,
+// within its budget.
+fn enough_rows(report: &Report) -> u32
+    ensures { result ≡ min report.now.budget (length report.now.rows.items + 1) }
+{
+    let count = report.rows.len();
+    if count < report.budget as usize {
+        count as u32 + 1
+    } else {
+        report.budget
+    }
+}
+
+// What the rows tell of a report whose first six lines are right. They are the run, up to one row
+// more than the report has.
+fn judged(
+    case: &Case,
+    plan: &Plan,
+    cost: i128,
+    rows: &[Row],
+    report: &Report,
+    desk: &mut Desk,
+) -> Audit
+    requires feasible { IsFeasiblePlan (market_of case.now) (schedules_of plan.now) }
+    requires cost { cost ≡ plan_cost (market_of case.now) (schedules_of plan.now) }
+    requires opening { opening_lines (report_of report.now)
+        ≡ right_opening (market_of case.now) cost (report_of report.now) }
+    requires run { let r = report_of report.now in IsRun Fits (market_of case.now) cost
+        (min r.budget (length r.rows + 1)) r.ahead (map proposal_of rows.now) }
+    requires bounds { IsReport (report_of report.now) }
+    requires order { AreInOrder 0 (map told_of report.now.lines.items) }
+    requires desk { IsDeskFor (market_of case.now) desk.old }
+    ensures right { (result ≡ Right) ↔ IsRightReport (market_of case.now) (schedules_of plan.now)
+        (report_of report.now).budget (report_of report.now).ahead (report_of report.now) }
+    ensures wrong { IfWrong result (λ line. DiffersFromRight (market_of case.now)
+        (schedules_of plan.now) (report_of report.now) line) }
+{
+    text_determines_the_report();
+    one_report_is_right();
+    one_list_is_the_run();
+    right_reports_exist();
+    let right = rows.len();
+    let told = report.rows.len();
+    if right != told {
+        return Audit::Wrong { line: NUMBER_LINE };
+    }
+    match first_difference(case, plan, cost, rows, report, desk) {
+        None => Audit::Right,
+        Some(line) => Audit::Wrong { line },
+    }
+}
+
+// The audit of a report whose first six lines are right.
+fn rows_right<R: Threads + Wait + Sync>(
+    rt: &R,
+    alloc: Global,
+    case: &Case,
+    plan: &Plan,
+    cost: i128,
+    report: &Report,
+    benches: Vec<Bench<Slopes>>,
+) -> Result<Audit, AllocError>
+    requires feasible { IsFeasiblePlan (market_of case.now) (schedules_of plan.now) }
+    requires cost { cost ≡ plan_cost (market_of case.now) (schedules_of plan.now) }
+    requires opening { opening_lines (report_of report.now)
+        ≡ right_opening (market_of case.now) cost (report_of report.now) }
+    requires bounds { IsReport (report_of report.now) }
+    requires order { AreInOrder 0 (map told_of report.now.lines.items) }
+    requires count { (1 ≤ length benches.items) × (length benches.items ≤ MOST_JOBS) }
+    requires benches { All (IsBenchOver (market_of case.now)) benches.items }
+    ensures right { IfOk result (λ audit. (audit ≡ Right)
+        ↔ IsRightReport (market_of case.now) (schedules_of plan.now)
+        (report_of report.now).budget (report_of report.now).ahead (report_of report.now)) }
+    ensures wrong { IfOk result (λ audit. IfWrong audit (λ line.
+        DiffersFromRight (market_of case.now) (schedules_of plan.now)
+        (report_of report.now) line)) }
+{
+    let mut jobs = jobs_for(alloc, case, benches)?;
+    let most = enough_rows(report);
+    let rows = right_rows(rt, alloc, case, cost, most, report.ahead, &mut jobs)?;
+    let mut desk = Desk::make(alloc, case, last_bench(jobs))?;
+    let audit = judged(case, plan, cost, rows.as_slice(), report, &mut desk);
+    Ok(audit)
+}
+
+/// Whether a report within the bounds of `read_report` is the right one for its own budget and
+/// number of proposals ahead, and else where it first differs from that one. The report may be of
+/// another case.
+///
+/// The plan is feasible, and `cost` is what it costs, in money. There are 1 to `MOST_JOBS` benches,
+/// each of which suffices for each thermal unit: the units of a proposal are dealt to as many jobs,
+/// and each job has a bench of its own. Whatever the answer, the benches are dropped.
+///
+/// Works out no more than it needs: nothing where one of the first six lines is wrong, and one
+/// proposal more than the report has at most. Waits for the jobs' threads.
+///
+/// # Errors
+///
+/// `AllocError` for want of memory.
+pub fn check_report<R: Threads + Wait + Sync>(
+    rt: &R,
+    alloc: Global,
+    case: &Case,
+    plan: &Plan,
+    cost: i128,
+    report: &Report,
+    benches: Vec<Bench<Slopes>>,
+) -> Result<Audit, AllocError>
+    requires feasible { IsFeasiblePlan (market_of case.now) (schedules_of plan.now) }
+    requires cost { cost ≡ plan_cost (market_of case.now) (schedules_of plan.now) }
+    requires bounds { IsReport (report_of report.now) }
+    requires order { AreInOrder 0 (map told_of report.now.lines.items) }
+    requires count { (1 ≤ length benches.items) × (length benches.items ≤ MOST_JOBS) }
+    requires benches { All (IsBenchOver (market_of case.now)) benches.items }
+    ensures right { IfOk result (λ audit. (audit ≡ Right)
+        ↔ IsRightReport (market_of case.now) (schedules_of plan.now)
+        (report_of report.now).budget (report_of report.now).ahead (report_of report.now)) }
+    ensures wrong { IfOk result (λ audit. IfWrong audit (λ line.
+        DiffersFromRight (market_of case.now) (schedules_of plan.now)
+        (report_of report.now) line)) }
+{
+    match opening_right(case, plan, cost, report) {
+        Ok(_) => rows_right(rt, alloc, case, plan, cost, report, benches),
+        Err(wrong) => Ok(Audit::Wrong { line: wrong.line }),
+    }
+}

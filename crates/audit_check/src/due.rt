@@ -1,0 +1,41 @@
+//! What is due to a unit or bid in a right report.
+ghost use Rattle.std.specs.Prelude.{◌≡◌, ◌+◌, ◌<◌, ◌≤◌, Some, length, slice_get};
+ghost use Rattle.uc_model.specs.Data.{unit_count};
+ghost use Rattle.uc_model.specs.PlainCases.{market_of};
+ghost use Rattle.audit_check.specs.RightLines.{titles};
+
+use uc_model::cases::Case;
+use uc_model::kinds::Kind;
+
+/// A unit's or bid's kind and name.
+#[derive(Clone, Copy)]
+pub struct Title<'a> {
+    pub kind: Kind,
+    pub name: &'a str,
+}
+
+/// The title of the unit or bid of a number.
+pub fn title_at(case: &Case, number: usize) -> Title<'_>
+    requires { number < unit_count (market_of case.now) }
+    ensures { slice_get (titles (market_of case.now)) number
+        ≡ Some (record { kind = result.kind; name = result.name.now }) }
+{
+    let thermal = case.thermal.len();
+    let producers = case.producer_count();
+    if number < thermal {
+        return Title {
+            kind: Kind::Thermal,
+            name: case.thermal.get(number).name.as_str(),
+        };
+    }
+    if number < producers {
+        return Title {
+            kind: Kind::Renewable,
+            name: case.flat.get(number - thermal).name.as_str(),
+        };
+    }
+    Title {
+        kind: Kind::Bid,
+        name: case.bids.get(number - producers).name.as_str(),
+    }
+}

@@ -1,0 +1,121 @@
+//! The answers.
+ghost use Rattle.std.specs.Prelude.{◌≡◌, ◌*◌, ◌<◌, ◌≤◌, length, IfOk, slice_index_or, slice_set};
+ghost use Rattle.std.specs.Prelude.{replicate, pos, false};
+ghost use Rattle.uc_model.specs.PlainUnits.{schedule_of};
+ghost use Rattle.uc_model.specs.declared.limits.TheConstants.{MOST_TASKS, MOST_WORK};
+ghost use Rattle.board_store.specs.Answers.{nothing, kept_of};
+
+use crate::table::{Table, put_part, take_part};
+use std::alloc::{AllocError, Global};
+use std::marker::Model;
+use uc_model::units::Answered;
+
+/// So many answers over so many periods, each what a unit does and what that earns. Contracts see
+/// it as their list.
+pub struct Store {
+    periods: usize,
+    on: Vec<bool>,
+    power: Table,
+    reserve: Table,
+    earned: Vec<i64>,
+}
+
+// Written out, so that a drop of it is a call, and not one for each list.
+impl Drop for Store {
+    fn drop(self) {
+        let Store {
+            periods: _,
+            on: _,
+            power: _,
+            reserve: _,
+            earned: _,
+        } = self;
+    }
+}
+
+impl Model for Store {
+    ghost use Rattle.board_store.specs.Answers.{Answers, AreParts, answers_in};
+
+    ghost Value = { Answers };
+
+    ghost view = { λ s. record {
+      periods = s.periods;
+      answers =
+          answers_in s.periods s.on.items s.power.rows s.reserve.rows s.earned.items;
+    } };
+
+    ghost invariant = { λ s. AreParts s.periods s.on.items s.power s.reserve s.earned.items };
+}
+
+fn no_flags(alloc: Global, count: usize) -> Result<Vec<bool>, AllocError>
+    ensures { IfOk result (λ v. v.items ≡ replicate count false) }
+{
+    vec![in alloc; false; count]
+}
+
+fn no_earnings(alloc: Global, count: usize) -> Result<Vec<i64>, AllocError>
+    ensures { IfOk result (λ v. v.items ≡ replicate count (pos 0)) }
+{
+    vec![in alloc; 0; count]
+}
+
+impl Store {
+    /// Room for so many answers over so many periods: at most 200,000,000 answers, and 50,000,000
+    /// for answers times periods. All memory that it ever needs is taken here.
+    pub fn make(alloc: Global, count: usize, periods: u32) -> Result<Store, AllocError>
+        requires few { count ≤ MOST_TASKS }
+        requires size { count * periods ≤ MOST_WORK }
+        ensures count { IfOk result (λ s. length s.answers ≡ count) }
+        ensures periods { IfOk result (λ s. s.periods ≡ periods) }
+    {
+        let periods = periods as usize;
+        let on = no_flags(alloc, count * periods)?;
+        let power = Table::make(alloc, count, periods)?;
+        let reserve = Table::make(alloc, count, periods)?;
+        let earned = no_earnings(alloc, count)?;
+        Ok(Store {
+            periods,
+            on,
+            power,
+            reserve,
+            earned,
+        })
+    }
+
+    /// Writes the answer at a place. Takes no memory.
+    pub fn put(&mut self, place: usize, answer: &Answered)
+        requires place { place < length self.old.answers }
+        requires horizon { length (schedule_of answer.now.response).on ≡ self.old.periods }
+        ensures periods { self.new.periods ≡ self.old.periods }
+        ensures answers { self.new.answers ≡ slice_set self.old.answers place (kept_of answer.now) }
+    {
+        let response = &answer.response;
+        put_part(&mut self.on, self.periods, place, response.on.as_slice());
+        self.power.put(place, response.power.as_slice());
+        self.reserve.put(place, response.reserve.as_slice());
+        self.earned[place] = answer.earned;
+    }
+
+    /// What the answer at a place earns, in money.
+    pub fn earned(&self, place: usize) -> i64
+        requires { place < length self.now.answers }
+        ensures { result ≡ (slice_index_or self.now.answers place nothing).earned }
+    {
+        self.earned[place]
+    }
+
+    /// Leaves the answer at a place in another over as many periods, whose lists keep their
+    /// lengths. Takes no memory.
+    pub fn take(&self, place: usize, into: &mut Answered)
+        requires place { place < length self.now.answers }
+        requires horizon { length (schedule_of into.old.response).on ≡ self.now.periods }
+        ensures answer { kept_of into.new ≡ slice_index_or self.now.answers place nothing }
+        ensures horizon { length (schedule_of into.new.response).on ≡ self.now.periods }
+    {
+        let response = &mut into.response;
+        take_part(&self.on, self.periods, place, &mut response.on);
+        self.power.take(place, &mut response.power);
+        self.reserve.take(place, &mut response.reserve);
+        into.earned = self.earned[place];
+    }
+}

@@ -1,0 +1,34 @@
+-- The names that the proofs of this crate take from its specs and from other crates, passed on from one place.
+pub use Rattle.std.proofs.Common.{◌≡◌, ℕ, ◌<◌, ◌⊎◌, inl, inr, Bool, true, false, List, [], ◌∷◌, Option, None, Some, Result, Ok, Err, refl, sym, ap, ◌∙◌, subst, arith, length, ◌-◌, ◌≤◌, slice_get, ℤ, unsigned_abs, ◌*◌, pos}
+pub use Rattle.std.proofs.lemmas.Bool.{ltb-true, cases_lt}
+pub use Rattle.std.proofs.lemmas.List.{length-map, get_or-map}
+pub use Rattle.std.proofs.lemmas.Option.{slice_get_within, same_Some}
+pub use Rattle.std.specs.List.{All}
+pub use Rattle.std.specs.Prelude.{nat_lt, if◌then◌else◌, IsTrue, IfSome, IsSome, ◌≤ℤ◌}
+pub use Rattle.board_run.specs.Inputs.{PlannedCase}
+pub use Rattle.fixed_price.specs.FixedCase.{fixed_market}
+pub use Rattle.gap_proof.specs.Laws.{RunPricesAreWithin}
+pub use Rattle.hull_engine.specs.Laws.{BytesAreThoseRead, ReportBytesAreItsText, WordsHaveSizes}
+pub use Rattle.hull_engine.specs.Outcome.{command_for, IsReadOf, AreReads, with_report, HasText, Ends, status_at, IsBoundText, IsFixedText, IsReportText, IsAuditText, case_and_schedule, Command}
+pub use Rattle.hull_engine.specs.Steps.{Reads, bytes_of, IsInput, IsWithinWork, IsReportFile, IsAudit, Goes, Then, IsBytes, case_fault, plan_fault, IsCase, IsCaseFile, IsPlan, IsPlanFile, IsChecked, IsMade, IsReportIn, IsJudged}
+pub use Rattle.hull_engine.specs.declared.end.End.{End}
+pub use Rattle.hull_engine.specs.declared.end.End.TheVariants.{Done, Cut, Refused, Done as done_whole}
+pub use Rattle.uc_model.specs.declared.limits.TheConstants.{MOST_BYTES}
+pub use Rattle.hull_report.specs.FaultLines.{status_of, fault_line}
+pub use Rattle.hull_report.specs.Laws.{RightReportHasForm, ReportPaymentsMakeUpTheGap, OneIsChosen, OneRightReport}
+pub use Rattle.hull_report.specs.RightReport.{unit_lines, IsRightReport}
+pub use Rattle.hull_report.specs.RightSide.{SidePaymentsMakeUpTheGap, OneRightSide}
+pub use Rattle.hull_report.specs.declared.fault.FileKind.TheVariants.{CaseFile, ScheduleFile, ReportFile}
+pub use Rattle.hull_report.specs.declared.fault.TopFault.{TopFault}
+pub use Rattle.hull_report.specs.declared.fault.TopFault.TheVariants.{TooBig, Report as Unfit, PlanRule, Words, Read, CaseText, CaseField, PlanText, PlanShape, Work, Memory, Report as report_fault}
+pub use Rattle.hull_words.specs.Asked.{Asked, AuditAsked, audit, BoundAsked, bound, PriceAsked, fixed, price, check, try, CheckAsked}
+pub use Rattle.hull_words.specs.Words.{words_of}
+pub use Rattle.hull_words.specs.declared.fault.WordFault.{WordFault}
+pub use Rattle.report_form.specs.Laws.{IsFlatLine, HasForm, TextDeterminesReport}
+pub use Rattle.report_form.specs.ReportText.{UnitLine, Report, report_text}
+pub use Rattle.law_outcome.specs.Laws.{OverReads, IsAuditPromised, IsWrongAt, IsAuditRefused, IsBoundPromised, IsFixedPromised, is_refusal, IsWritten, IsUnread, HasCause, IsQuiet, IsDecided, word_fault, FollowsFromWords, IsPromised, AreAlike}
+pub use Rattle.uc_model.specs.Data.{Market, Schedule, unit_count}
+pub use Rattle.uc_model.specs.Laws.{NothingIsPaidBack}
+pub use Rattle.uc_model.specs.PriceRule.{Proposal, chosen_number}
+pub use Rattle.uc_model.specs.Sums.{int_at}
+pub use Rattle.uc_model.specs.Systems.{plan_cost, IsFeasiblePlan}

@@ -1,0 +1,140 @@
+//! Laws over runs: each is the contract of a function that answers nothing. They follow from
+//! `IsOutcome`, which `hull_engine::hull_run` ensures of its run.
+ghost use Rattle.law_outcome.specs.Laws.{OneDue, OneText, AcceptedIsFeasible, EachStatusHasItsCause};
+ghost use Rattle.law_outcome.specs.Laws.{WhatWasReadDecides, WordsFollow};
+ghost use Rattle.law_outcome.specs.Laws.{RefusedSchedulesAreInfeasible};
+ghost use Rattle.law_outcome.specs.Laws.{ReportsAreRight, BoundsHold, BothGapsAreMadeUp, AuditsHold};
+ghost use Rattle.law_outcome.specs.Laws.{WorkersAreFree};
+
+use gap_proof::laws::{run_bounds_hold, run_prices_are_within};
+use hull_engine::laws::{bytes_are_those_read, report_bytes_are_its_text, words_have_sizes};
+use hull_io::{Shelf, Sink};
+use hull_report::laws::{
+    one_report_is_right, one_row_is_chosen, one_side_is_right, report_payments_make_up_the_gap,
+    right_report_has_form, side_payments_make_up_the_gap,
+};
+use plan_check::laws::refusals_are_exact;
+use report_form::laws::text_determines_the_report;
+use report_read::laws::{one_line_differs, one_line_is_in_fault, one_report_has_a_text};
+use uc_case::laws::one_case;
+use uc_model::laws::{feasible_plans_have_shape, nothing_is_paid_back};
+use uc_plan::laws::one_plan;
+
+/// Over what was read, at most one input is accepted or one refusal is due. So
+/// `each_status_has_its_cause` also says that a status comes nowhere else.
+pub fn one_thing_is_due()
+    ensures { OneDue }
+{
+    one_case();
+    one_plan();
+    one_report_has_a_text();
+    one_line_is_in_fault();
+    one_report_is_right();
+    one_line_differs();
+}
+
+/// At most one text may be printed of an input: what `hull price` prints is a function of the case,
+/// the schedule, the budget and the number of proposals ahead.
+pub fn one_text_is_right()
+    ensures { OneText }
+{
+    one_report_is_right();
+    one_side_is_right();
+    text_determines_the_report();
+    right_report_has_form();
+}
+
+/// What a command accepts is a case with a feasible schedule and that schedule's cost.
+pub fn accepted_is_feasible()
+    ensures { AcceptedIsFeasible }
+{}
+
+/// The cause of each status, with what was written.
+pub fn each_status_has_its_cause<F: Shelf, S: Sink>()
+    ensures { EachStatusHasItsCause F.told F.faults F.last S.held S.faults S.last }
+{}
+
+/// Where no count rose, what was read decides: an accepted input ends in 0 and a refusal in its
+/// status, unless memory ran out.
+pub fn what_was_read_decides<F: Shelf, S: Sink>()
+    ensures { WhatWasReadDecides F.told F.faults F.last S.held S.faults S.last }
+{
+    one_case();
+    one_plan();
+    one_report_has_a_text();
+    one_line_is_in_fault();
+    one_report_is_right();
+    one_line_differs();
+}
+
+/// What the words alone say of the status, whatever is told of the files.
+pub fn words_follow<F: Shelf, S: Sink>()
+    ensures { WordsFollow F.told F.faults F.last S.held S.faults S.last }
+{}
+
+/// What a command promises where it answers 4: the case's file is a case, and the schedule's has too
+/// many bytes, or no feasible schedule of the case is in it.
+pub fn refused_schedules_are_infeasible<F: Shelf, S: Sink>()
+    ensures { RefusedSchedulesAreInfeasible F.told F.faults F.last S.held S.faults S.last }
+{
+    one_case();
+    one_plan();
+    refusals_are_exact();
+    feasible_plans_have_shape();
+}
+
+/// What `hull price` promises where it answers 0.
+pub fn reports_are_right<F: Shelf, S: Sink>()
+    ensures { ReportsAreRight F.told F.faults F.last S.held S.faults S.last }
+{
+    words_have_sizes();
+    bytes_are_those_read();
+    report_payments_make_up_the_gap();
+    run_prices_are_within();
+    nothing_is_paid_back();
+}
+
+/// What `hull bound` promises where it answers 0: no whole prices within the radius of the chosen
+/// ones, and within the limits, have a dual value above the printed bound, and the printed distance
+/// is at least 0.
+pub fn bounds_hold<F: Shelf, S: Sink>()
+    ensures { BoundsHold F.told F.faults F.last S.held S.faults S.last }
+{
+    words_have_sizes();
+    one_row_is_chosen();
+    run_bounds_hold();
+}
+
+/// What `hull fixed` promises where it answers 0: both of its sides are right, and on each the
+/// payments and the surplus sum to the cost of the schedule less the dual value of the case as
+/// given at that side's prices, and no payment and no surplus is below 0.
+pub fn both_gaps_are_made_up<F: Shelf, S: Sink>()
+    ensures { BothGapsAreMadeUp F.told F.faults F.last S.held S.faults S.last }
+{
+    words_have_sizes();
+    side_payments_make_up_the_gap();
+    run_prices_are_within();
+    nothing_is_paid_back();
+}
+
+/// What `hull audit` promises: where it answers 0, the bytes of the report's file are the text of a
+/// report that is right for its own budget and number of proposals ahead; where it answers 8, the
+/// file has too many bytes, or the line is the first that is out of form, or the first at which the
+/// report differs from the right one.
+pub fn audits_hold<F: Shelf, S: Sink>()
+    ensures { AuditsHold F.told F.faults F.last S.held S.faults S.last }
+{
+    bytes_are_those_read();
+    report_bytes_are_its_text();
+    report_payments_make_up_the_gap();
+    run_prices_are_within();
+    nothing_is_paid_back();
+    text_determines_the_report();
+    right_report_has_form();
+}
+
+/// The number of workers changes nothing that is due and nothing that may be printed, of any
+/// command.
+pub fn workers_are_free()
+    ensures { WorkersAreFree }
+{}

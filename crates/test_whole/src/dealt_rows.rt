@@ -1,0 +1,80 @@
+//! The rows of a run without a board, on two units over one period with a demand of 150 kW: A gives
+//! up to 100 kW at 10 for each, and B gives exactly 100 kW for 3,000. The numbers expected are
+//! worked by hand.
+
+ghost use Rattle.std.specs.Prelude.{◌≡◌, ◌≤◌, length, IfOk};
+ghost use Rattle.uc_model.specs.PlainCases.{market_of};
+ghost use Rattle.audit_rows.specs.Benches.{HasSchedules};
+ghost use Rattle.audit_rows.specs.Jobs.{AreFor};
+
+use crate::boards::{CASE, PLAN, same_row};
+use crate::same::same;
+use audit_rows::{Answerer, right_rows};
+use case_answers::laws::benches_serve_all;
+use plan_check::check_plan;
+use std::alloc::Global;
+use std::sync::Wait;
+use std::test::Fail;
+use std::thread::Threads;
+use uc_case::read_case;
+use uc_model::cases::{Case, Row};
+use uc_model::limits::MOST_POINTS;
+use uc_model::lists::ReservedList;
+use uc_plan::read_plan;
+use unit_program::Bench;
+
+// A job with a bench for any unit.
+fn job_for<'a>(alloc: Global, case: &'a Case) -> Result<Answerer<'a>, Fail>
+    requires { HasSchedules (market_of case.now) }
+    ensures { IfOk result (λ job. job.case.now ≡ case.now) }
+{
+    benches_serve_all();
+    let bench = Bench::make(alloc, case.periods, MOST_POINTS)?;
+    Ok(Answerer::make(alloc, case, bench)?)
+}
+
+fn jobs_for<'a>(alloc: Global, case: &'a Case, count: u32) -> Result<Vec<Answerer<'a>>, Fail>
+    requires { HasSchedules (market_of case.now) }
+    ensures count { IfOk result (λ jobs. length jobs.items ≡ count) }
+    ensures jobs { IfOk result (λ jobs. AreFor (market_of case.now) jobs.items) }
+{
+    let mut jobs = Vec::new(alloc);
+    for _ in 0..count {
+        let job = job_for(alloc, case)?;
+        jobs.push(job)?;
+    }
+    Ok(jobs)
+}
+
+// The rows of two proposals, each dealt to so many jobs.
+fn two_rows<R: Threads + Wait + Sync>(
+    rt: &R,
+    alloc: Global,
+    count: u32,
+) -> Result<ReservedList<Row>, Fail>
+    requires some { 1 ≤ count }
+    requires most { count ≤ 32 }
+{
+    let case = read_case(alloc, CASE)?;
+    let plan = read_plan(alloc, &case, PLAN)?;
+    let Ok(cost) = check_plan(&case, &plan) else {
+        return Err(Fail::new("the plan isn't feasible"));
+    };
+    let mut jobs = jobs_for(alloc, &case, count)?;
+    Ok(right_rows(rt, alloc, &case, cost, 2, 1, &mut jobs)?)
+}
+
+#[test]
+fn rows_of_two_units(rt: HostRuntime) -> Result<(), Fail> {
+    for count in [1, 4, 32] {
+        let rows = two_rows(&rt, rt.alloc(), count)?;
+        same(&rt, rows.len(), 2);
+        if rows.len() != 2 {
+            return Err(Fail::new("there aren't two rows"));
+        }
+        same_row(&rt, rows.get(0), 30, 2_500, 100);
+        same_row(&rt, rows.get(1), 50, 1_500, 200);
+        same(&rt, rows.get(1).reserve.as_slice(), [0].as_slice());
+    }
+    Ok(())
+}

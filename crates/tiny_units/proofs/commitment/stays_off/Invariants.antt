@@ -1,5 +1,0 @@
-use Rattle.tiny_units.proofs.Common.{ℕ, ◌<◌, ◌≤◌, false, IsFalse, slice_index_or}
-use Rattle.tiny_units.proofs.commitment.stays_off.Given as goal
-
-abbrev pub invariant-loop-later : goal.invariant-loop-later
-invariant-loop-later l = (j : ℕ) → l.place ≤ j → j < l.later → IsFalse (slice_index_or l.response.on.items j false)

@@ -1,7 +1,0 @@
-use Rattle.tiny_units.proofs.Common.{rules, ◌≡◌, true, below_more}
-use Rattle.tiny_units.proofs.feasible.keeps_rules.Goals as goal
-
-pub loop-place-preserved : goal.loop-place-preserved
-loop-place-preserved c =
-    let yes : c.keeps_rules_at.result ≡ true = search rules in
-    below_more _ _ c.loop-place.invariant (c.keeps_rules_at.ensures.0 yes)

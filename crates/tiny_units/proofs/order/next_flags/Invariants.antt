@@ -1,9 +1,0 @@
-use Rattle.tiny_units.proofs.Common.{◌≡◌, false, true, length}
-use Rattle.tiny_units.proofs.Lemmas.{IsTurned}
-use Rattle.tiny_units.proofs.order.next_flags.Given as goal
-
-abbrev pub invariant-loop-place : goal.invariant-loop-place
-invariant-loop-place l = record {
-  turned : IsTurned false true l.place l.initial.list.items l.list.items;
-  long : length l.list.items ≡ length l.initial.list.items;
-}

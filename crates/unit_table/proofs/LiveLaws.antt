@@ -1,0 +1,245 @@
+-- A list of runners, and one of them written.
+use Rattle.unit_table.proofs.Common.{◌≡◌, ◌≢◌, ℕ, zero, suc, ◌+◌, ◌-◌, ◌*◌, ◌<◌, ◌≤◌, inl, inr, Bool, true, false, cond, Option, Some, None, ℤ, pos, ◌+ℤ◌, ◌-ℤ◌, ◌≤ℤ◌, ◌<ℤ◌, List, [], ◌∷◌, length, refl, sym, ap, ◌∙◌, subst, arith, IfSome, slice_get, slice_set, ints, slice_get_within, cases_eq, Table, value_of, ThermalUnit, PriceLists, passed_at, Runner, Passed, going_of, live_at, left_of, left_at, places_of, IsRoomy, AreRoomy, AreSmall, IsUnder, IsBeyond, IsBelow, HaveRoom, Going, AreRunners}
+use Rattle.std.proofs.Math.Nat.{mul-le-mul_right}
+
+-- the runners are small
+pub small_of : (g : ThermalUnit) (π : PriceLists) (limits : ℕ → ℤ) (ends : ℕ → Option ℤ) (live : ℕ → Option Going) (t n : ℕ) → t ≤ 168 → n ≤ 170 → AreRunners g π limits ends live t n → AreSmall live
+small_of g π limits ends live t n few low now f r is =
+    let h = now.right f r is in
+    let below = h.0 in
+    let within = h.1.within in
+    let a = within.at_least in
+    let b = within.at_most in
+    record {
+      cost = record { at_least = omega (arith, ints, a, below, low); at_most = omega (arith, ints, b, below, low) };
+      values = λ x v there.
+          let w = h.1.frontier.values x v there in
+          let count : suc t - f ≤ 169 = omega (arith, few) in
+          let c = w.at_least in
+          let d = w.at_most in
+          record { at_least = omega (arith, ints, c, count); at_most = omega (arith, ints, d, count) };
+    }
+
+module _ {R : Type 0} (function : R → Table) where
+  -- a runner that is on is one of the list
+  pub on_some : (o : Option (Runner R)) (x : Going) → going_of function o ≡ Some x → (r : Runner R) × (o ≡ Some r) × (r.is_on ≡ true) × (x ≡ record { before = r.before; cost = r.cost; function = function r.running; left = passed_at r.passed.items })
+  on_some None x is = cc
+  on_some (Some r) x is = elim (r.is_on) as (λ b. r.is_on ≡ b → cond b (Some (record { before = r.before; cost = r.cost; function = function r.running; left = passed_at r.passed.items })) None ≡ Some x →
+      (s : Runner R) × (Some r ≡ Some s) × (s.is_on ≡ true) × (x ≡ record { before = s.before; cost = s.cost; function = function s.running; left = passed_at s.passed.items })) [
+        | true ↦ λ on is. (r, refl, on, (cc))
+        | false ↦ λ off is. cc
+      ] refl is
+
+  pub going_on : (r : Runner R) → r.is_on ≡ true → going_of function (Some r) ≡ Some (record { before = r.before; cost = r.cost; function = function r.running; left = passed_at r.passed.items })
+  going_on r on = ap (λ (b : Bool). cond b (Some (record { before = r.before; cost = r.cost; function = function r.running; left = passed_at r.passed.items })) None) on
+
+  pub going_off : (r : Runner R) → r.is_on ≡ false → going_of function (Some r) ≡ None
+  going_off r off = ap (λ (b : Bool). cond b (Some (record { before = r.before; cost = r.cost; function = function r.running; left = passed_at r.passed.items })) None) off
+
+-- ---- one above another
+
+pub below_of : (f f' : Table) (e e' shift : ℤ) → shift ≡ e -ℤ e' → ((x v : ℤ) → value_of f' x ≡ Some v → (u : ℤ) × (value_of f x ≡ Some u) × ((u +ℤ shift) ≤ℤ v)) → IsBelow f e f' e'
+below_of f f' e e' shift is below x v there = (let u = below x v there in let low = u.2 in (u.0, u.1, omega (arith, ints, low, is)))
+
+pub under_of : (f : Table) (e power cost v sum : ℤ) (before : ℕ) (left : ℕ → Passed) → value_of f power ≡ Some v → sum ≡ e +ℤ v → (sum +ℤ pos 1) ≤ℤ cost →
+    IsUnder power cost (record { before = before; cost = e; function = f; left = left })
+under_of f e power cost v sum before left there is less = (v, there, omega (arith, ints, is, less))
+
+pub beyond_of : (f : Table) (e limit : ℤ) → ((x v : ℤ) → value_of f x ≡ Some v → limit <ℤ (v +ℤ e)) → IsBeyond limit e f
+beyond_of f e limit above x v there = (let over = above x v there in omega (arith, ints, over))
+
+-- ---- one of the list written
+
+pub get_set_same : {X : Type 0} (xs : List X) (i : ℕ) (a : X) → i < length xs → slice_get (slice_set xs i a) i ≡ Some a
+get_set_same [] i a low = absurd (omega (arith, low))
+get_set_same (x ∷ xs) zero a low = refl
+get_set_same (x ∷ xs) (suc i) a low = get_set_same xs i a (omega (arith, low))
+
+pub get_set_other : {X : Type 0} (xs : List X) (i j : ℕ) (a : X) → j ≢ i → slice_get (slice_set xs i a) j ≡ slice_get xs j
+get_set_other [] i j a other = refl
+get_set_other (x ∷ xs) zero zero a other = absurd (other refl)
+get_set_other (x ∷ xs) zero (suc j) a other = refl
+get_set_other (x ∷ xs) (suc i) zero a other = refl
+get_set_other (x ∷ xs) (suc i) (suc j) a other = get_set_other xs i j a (λ z. other (ap suc z))
+
+module _ {R : Type 0} (function : R → Table) (runners runners' : List (Runner R)) (i : ℕ) (a : Runner R) (room : i < length runners) (set : runners' ≡ slice_set runners i a) where
+  pub written_here : slice_get runners' i ≡ Some a
+  written_here = ap (λ (xs : List (Runner R)). slice_get xs i) set ∙ get_set_same runners i a room
+
+  pub written_other : (j : ℕ) → j ≢ i → slice_get runners' j ≡ slice_get runners j
+  written_other j other = ap (λ (xs : List (Runner R)). slice_get xs j) set ∙ get_set_other runners i j a other
+
+  pub live_here : live_at function runners' i ≡ going_of function (Some a)
+  live_here = ap (going_of function) written_here
+
+  pub live_other : (j : ℕ) → j ≢ i → live_at function runners' j ≡ live_at function runners j
+  live_other j other = ap (going_of function) (written_other j other)
+
+  -- what holds of each runner
+  pub each_written : (P : Runner R → Type 0) → P a → ((j : ℕ) (r : Runner R) → slice_get runners j ≡ Some r → P r) → (j : ℕ) (r : Runner R) → slice_get runners' j ≡ Some r → P r
+  each_written P here all j r is = elim (cases_eq j i) [
+    | inl z ↦ (let same : a ≡ r = (let e = ap (λ (k : ℕ). slice_get runners' k) z in let w = written_here in cc) in subst P same here)
+    | inr other ↦ all j r (sym (written_other j other) ∙ is)
+  ]
+
+-- ---- room
+
+pub room_more : (count periods t charge room : ℕ) → t < periods → count + (periods - t) * charge ≤ room → count + charge ≤ room
+room_more count periods t charge room low fits =
+    let n : periods - t ≡ suc (periods - suc t) = omega (arith, low) in
+    let e : (periods - t) * charge ≡ charge + (periods - suc t) * charge = ap (λ (n : ℕ). n * charge) n ∙ (omega arith) in
+    omega (arith, e, fits)
+
+pub room_next : (count count' periods t charge room : ℕ) → t < periods → count + (periods - t) * charge ≤ room → count' ≤ count + charge → count' + (periods - suc t) * charge ≤ room
+room_next count count' periods t charge room low fits more =
+    let n : periods - t ≡ suc (periods - suc t) = omega (arith, low) in
+    let e : (periods - t) * charge ≡ charge + (periods - suc t) * charge = ap (λ (n : ℕ). n * charge) n ∙ (omega arith) in
+    omega (arith, e, fits, more)
+
+pub room_none : (periods t charge room : ℕ) → periods * charge ≤ room → (periods - t) * charge ≤ room
+room_none periods t charge room fits = let e : (periods - t) * charge ≤ periods * charge = mul-le-mul_right charge (omega arith) in omega (arith, e, fits)
+
+slice_get_past : {X : Type 0} (xs : List X) (f : ℕ) → length xs ≤ f → slice_get xs f ≡ None
+slice_get_past [] f h = refl
+slice_get_past (x ∷ xs) zero h = absurd (omega (arith, h))
+slice_get_past (x ∷ xs) (suc f) h = slice_get_past xs f (omega (arith, h))
+
+slice_get_none : {X : Type 0} (xs : List X) (f : ℕ) → slice_get xs f ≡ None → length xs ≤ f
+slice_get_none [] f h = omega arith
+slice_get_none (x ∷ xs) zero h = cc
+slice_get_none (x ∷ xs) (suc f) h = (let e = slice_get_none xs f h in omega (arith, e))
+
+-- ---- all stopped
+
+-- those before n are stopped, and all have the room that they had
+pub record IsStopped {R : Type 0} (room : R → ℕ) (old : List (Runner R)) (n : ℕ) (new : List (Runner R)) : Type 0 where
+  pub off : (f : ℕ) (r : Runner R) → f < n → slice_get new f ≡ Some r → r.is_on ≡ false
+  pub kept : (f : ℕ) (r : Runner R) → slice_get new f ≡ Some r → (o : Runner R) × (slice_get old f ≡ Some o) × (room r.running ≡ room o.running) × (r.passed ≡ o.passed)
+  pub same_length : length new ≡ length old
+
+pub none_stopped : {R : Type 0} (room : R → ℕ) (old : List (Runner R)) → IsStopped room old 0 old
+none_stopped room old = record {
+  off = λ f r low is. absurd (omega (arith, low));
+  kept = λ f r is. (r, is, refl, refl);
+  same_length = refl;
+}
+
+module _ {R : Type 0} (function : R → Table) (count room : R → ℕ) (old new : List (Runner R)) (n : ℕ) (all : IsStopped room old n new) where
+  pub stopped_more : (new' : List (Runner R)) (a b : Runner R) → n < length new → slice_get new n ≡ Some b → a.is_on ≡ false → a.running ≡ b.running → a.passed ≡ b.passed → new' ≡ slice_set new n a → length new' ≡ length new → IsStopped room old (n + 1) new'
+  stopped_more new' a b low was off same passed set count_same =
+      let here = written_here function new new' n a low set in
+      record {
+        off = λ f r less is. elim (cases_eq f n) [
+          | inl z ↦ (let e : r ≡ a = (let w = ap (λ (k : ℕ). slice_get new' k) z in cc) in ap (λ (r : Runner R). r.is_on) e ∙ off)
+          | inr other ↦ all.off f r (omega (arith, less, other)) (sym (written_other function new new' n a low set f other) ∙ is)
+        ];
+        kept = λ f r is. elim (cases_eq f n) [
+          | inl z ↦
+              let e : r ≡ a = (let w = ap (λ (k : ℕ). slice_get new' k) z in cc) in
+              let k = all.kept n b was in
+              (k.0, ap (slice_get old) z ∙ k.1, ap (λ (r : Runner R). room r.running) e ∙ ap room same ∙ k.2, ap (λ (r : Runner R). r.passed) e ∙ passed ∙ k.3)
+          | inr other ↦ all.kept f r (sym (written_other function new new' n a low set f other) ∙ is)
+        ];
+        same_length = count_same ∙ all.same_length;
+      }
+
+  pub stopped_off : length new ≤ n → (f : ℕ) → live_at function new f ≡ None
+  stopped_off end f = elim (slice_get new f) as (λ o. slice_get new f ≡ o → going_of function o ≡ None) [
+    | None ↦ λ is. refl
+    | Some r ↦ λ is. going_off function r (all.off f r (let low = slice_get_within new f r is in omega (arith, low, end)) is)
+  ] refl
+
+  pub stopped_roomy : length new ≤ n → (periods t charge : ℕ) → HaveRoom room (periods * charge) periods old → AreRoomy count room periods t charge new
+  stopped_roomy end periods t charge roomy f r is =
+      let k = all.kept f r is in
+      let whole = (roomy f k.0 k.1).0 in
+      let places = (roomy f k.0 k.1).1 in
+      let same = k.2 in
+      let length_same = ap (λ p. length p.items + p.spare) k.3 in
+      record {
+        whole = omega (arith, whole, same);
+        places = omega (arith, places, length_same);
+        rest = λ on. (let off = all.off f r (let low = slice_get_within new f r is in omega (arith, low, end)) is in cc);
+      }
+
+  pub stopped_keeps : (most periods : ℕ) → HaveRoom room most periods old → HaveRoom room most periods new
+  stopped_keeps most periods have f r is =
+      let k = all.kept f r is in
+      let there = (have f k.0 k.1).0 in
+      let places = (have f k.0 k.1).1 in
+      let same = k.2 in
+      let length_same = ap (λ p. length p.items + p.spare) k.3 in
+      (omega (arith, there, same), omega (arith, places, length_same))
+
+  pub stopped_left : (f k : ℕ) → left_at new f k ≡ left_at old f k
+  stopped_left f k = elim (slice_get new f) as (λ o. slice_get new f ≡ o → left_of o k ≡ left_at old f k) [
+    | None ↦ λ is. (
+        let past = all.same_length in
+        let end = slice_get_none new f is in
+        sym (ap (λ o. left_of o k) (slice_get_past old f (omega (arith, past, end)))))
+    | Some r ↦ λ is. (let o = all.kept f r is in ap (λ p. passed_at p.items k) o.3 ∙ sym (ap (λ o. left_of o k) o.1))
+  ] refl
+
+-- ---- one stopped
+
+pub if_some_more : {X : Type 0} (P Q : X → Type 0) → ((x : X) → P x → Q x) → (o : Option X) → IfSome o P → IfSome o Q
+if_some_more P Q more None h = tt
+if_some_more P Q more (Some x) h = more x h
+
+module _ {R : Type 0} (function : R → Table) (runners runners' : List (Runner R)) (i : ℕ) (a : Runner R) (room : i < length runners) (set : runners' ≡ slice_set runners i a) (off : a.is_on ≡ false) where
+  pub small_stopped : AreSmall (live_at function runners) → AreSmall (live_at function runners')
+  small_stopped small f r is = elim (cases_eq f i) [
+    | inl z ↦ (let none = live_here function runners runners' i a room set ∙ going_off function a off in let same = ap (live_at function runners') z in cc)
+    | inr other ↦ small f r (sym (live_other function runners runners' i a room set f other) ∙ is)
+  ]
+
+  pub off_stopped : (f : ℕ) → live_at function runners f ≡ None → live_at function runners' f ≡ None
+  off_stopped f none = elim (cases_eq f i) [
+    | inl z ↦ ap (live_at function runners') z ∙ live_here function runners runners' i a room set ∙ going_off function a off
+    | inr other ↦ live_other function runners runners' i a room set f other ∙ none
+  ]
+
+pub roomy_stopped : {R : Type 0} (function : R → Table) (count room : R → ℕ) (periods t charge : ℕ) (runners runners' : List (Runner R)) (i : ℕ) (a : Runner R) → i < length runners → runners' ≡ slice_set runners i a →
+    a.is_on ≡ false → (old : Runner R) → slice_get runners i ≡ Some old → a.running ≡ old.running → a.passed ≡ old.passed → AreRoomy count room periods t charge runners → AreRoomy count room periods t charge runners'
+roomy_stopped function count room periods t charge runners runners' i a low set off old was same passed roomy =
+    each_written function runners runners' i a low set (IsRoomy count room periods t charge)
+    (record {
+      whole = (let whole = (roomy i old was).whole in let e = ap room same in omega (arith, whole, e));
+      places = (let places = (roomy i old was).places in let e = ap (λ p. length p.items + p.spare) passed in omega (arith, places, e));
+      rest = λ on. cc;
+    }) roomy
+
+-- one begun
+pub roomy_begun : {R : Type 0} (function : R → Table) (count room : R → ℕ) (periods t charge : ℕ) (runners runners' : List (Runner R)) (i : ℕ) (a : Runner R) → i < length runners → runners' ≡ slice_set runners i a →
+    (old : Runner R) → slice_get runners i ≡ Some old → count a.running ≡ 0 → room a.running ≡ room old.running → a.passed ≡ old.passed → AreRoomy count room periods t charge runners → AreRoomy count room periods t charge runners'
+roomy_begun function count room periods t charge runners runners' i a low set old was none same passed roomy =
+    each_written function runners runners' i a low set (IsRoomy count room periods t charge)
+    (let whole = (roomy i old was).whole in
+    record {
+      whole = omega (arith, whole, same);
+      places = (let places = (roomy i old was).places in let e = ap (λ p. length p.items + p.spare) passed in omega (arith, places, e));
+      rest = λ on. (let rest = room_none periods t charge (room old.running) whole in omega (arith, none, same, rest));
+    }) roomy
+
+pub have_room : {R : Type 0} (count room : R → ℕ) (periods t charge : ℕ) (runners : List (Runner R)) → AreRoomy count room periods t charge runners → HaveRoom room (periods * charge) periods runners
+have_room count room periods t charge runners roomy f r is = ((roomy f r is).whole, (roomy f r is).places)
+
+-- one written keeps its room
+pub written_keeps : {R : Type 0} (function : R → Table) (room : R → ℕ) (runners runners' : List (Runner R)) (i : ℕ) (a : Runner R) → i < length runners → runners' ≡ slice_set runners i a →
+    (old : Runner R) → slice_get runners i ≡ Some old → room a.running ≡ room old.running → places_of a ≡ places_of old → (most periods : ℕ) → HaveRoom room most periods runners → HaveRoom room most periods runners'
+written_keeps function room runners runners' i a low set old was same places most periods have =
+    each_written function runners runners' i a low set (λ r. (most ≤ room r.running) × (periods ≤ places_of r))
+    (let there = have i old was in let fits = there.0 in let long = there.1 in (omega (arith, fits, same), omega (arith, long, places))) have
+
+-- what is left stays where one written left the same
+pub written_left : {R : Type 0} (function : R → Table) (runners runners' : List (Runner R)) (i : ℕ) (a : Runner R) → i < length runners → runners' ≡ slice_set runners i a →
+    (old : Runner R) → slice_get runners i ≡ Some old → a.passed ≡ old.passed → (f k : ℕ) → left_at runners' f k ≡ left_at runners f k
+written_left function runners runners' i a low set old was same f k = elim (cases_eq f i) [
+  | inl z ↦
+      ap (λ (j : ℕ). left_at runners' j k) z ∙ ap (λ o. left_of o k) (written_here function runners runners' i a low set) ∙ ap (λ p. passed_at p.items k) same
+      ∙ sym (ap (λ o. left_of o k) was) ∙ sym (ap (λ (j : ℕ). left_at runners j k) z)
+  | inr other ↦ ap (λ o. left_of o k) (written_other function runners runners' i a low set f other)
+]
+
+pub if_some : {X : Type 0} → (P : X → Type 0) (o : Option X) (x : X) → o ≡ Some x → IfSome o P → P x
+if_some P o x is h = subst (λ o. IfSome o P) is h

@@ -1,0 +1,104 @@
+use Rattle.unit_table.proofs.Common.{◌≡◌, ℕ, ◌<◌, false, List, length, refl, ap, ◌∙◌, arith, length-set, live_at}
+use Rattle.unit_table.proofs.Lemmas.{none_kept, one_kept, one_off, all_kept, first_inside, item_same, item_off}
+use Rattle.unit_table.proofs.roster.Roster.keep.Goals as goal
+use Rattle.unit_table.proofs.roster.Roster.keep.Goals.{then-runners-first, else-runners-first}
+
+pub loop-place-init : goal.loop-place-init
+loop-place-init g c = record {
+  kept = λ until list. none_kept (live_at g.R.Running.function c.args.runners.now) until c.args.self.now list;
+  low = omega arith;
+  same_length = refl;
+  count_same = refl;
+}
+
+pub get-first-requires : goal.get-first-requires
+get-first-requires g c =
+    let low = c.loop-place-test.true in
+    let room = c.requires.roster.2.room in
+    let count_same = c.loop-place.invariant.count_same in
+    let same = c.loop-place.invariant.same_length in
+    omega (arith, low, room, count_same, same)
+
+pub bounds-runners-first : goal.bounds-runners-first
+bounds-runners-first g c =
+    let list = c.requires.roster in
+    let low = c.loop-place-test.true in
+    let count_same = c.loop-place.invariant.count_same in
+    let below = first_inside (live_at g.R.Running.function c.args.runners.now) list.0 c.args.self.now list.2 c.loop-place.place c.loop-place.kept c.loop-place.self.firsts.items
+    (c.loop-place.invariant.kept list.0 list.2) (omega (arith, low, count_same)) c.get-first.result.now c.get-first.ensures.item in
+    let most = list.1 in
+    omega (arith, below, most)
+
+pub offset_bounds-runners-first : goal.offset_bounds-runners-first
+offset_bounds-runners-first g c =
+    let list = c.requires.roster in
+    let low = c.loop-place-test.true in
+    let count_same = c.loop-place.invariant.count_same in
+    let below = first_inside (live_at g.R.Running.function c.args.runners.now) list.0 c.args.self.now list.2 c.loop-place.place c.loop-place.kept c.loop-place.self.firsts.items
+    (c.loop-place.invariant.kept list.0 list.2) (omega (arith, low, count_same)) c.get-first.result.now c.get-first.ensures.item in
+    let most = list.1 in
+    omega (arith, below, most)
+
+pub bounds-runners-first-in-loop-place : goal.bounds-runners-first-in-loop-place
+bounds-runners-first-in-loop-place g c =
+    let list = c.requires.roster in
+    let low = c.loop-place-test.true in
+    let count_same = c.loop-place.invariant.count_same in
+    let below = first_inside (live_at g.R.Running.function c.args.runners.now) list.0 c.args.self.now list.2 c.loop-place.place c.loop-place.kept c.loop-place.self.firsts.items
+    (c.loop-place.invariant.kept list.0 list.2) (omega (arith, low, count_same)) c.get-first.result.now c.get-first.ensures.item in
+    let most = list.1 in
+    omega (arith, below, most)
+
+pub set-requires : goal.set-requires
+set-requires g c =
+    let low = c.loop-place-test.true in
+    let room = c.requires.roster.2.room in
+    let count_same = c.loop-place.invariant.count_same in
+    let same = c.loop-place.invariant.same_length in
+    let kept = c.loop-place.invariant.low in
+    omega (arith, low, room, count_same, same, kept)
+
+pub loop-place-preserved : goal.loop-place-preserved
+loop-place-preserved g c =
+    let live = live_at g.R.Running.function c.args.runners.now in
+    let old = c.args.self.now in
+    let p = c.loop-place.place in
+    let q = c.loop-place.kept in
+    let items = c.loop-place.self.firsts.items in
+    let first = c.get-first.result.now in
+    let low = c.loop-place-test.true in
+    let count_same = c.loop-place.invariant.count_same in
+    let kept = c.loop-place.invariant.low in
+    let same_length = c.loop-place.invariant.same_length in
+    let inside : p < old.count = omega (arith, low, count_same) in
+    let here : first < length c.args.runners.now =
+    (let list = c.requires.roster in
+    let below = first_inside live list.0 old list.2 p q items (c.loop-place.invariant.kept list.0 list.2) inside first c.get-first.ensures.item in
+    let most = list.1 in
+    omega (arith, below, most)) in
+    elim c.if-runners-first.branch [
+      | then-runners-first w ↦
+          let set = w.set.ensures.items in
+          let same : length w.set.new.self.items ≡ length items = ap (λ (xs : List ℕ). length xs) set ∙ length-set items q first in
+          rw w.self-is (rw w.kept-is (record {
+            kept = λ until list. one_kept live until old list p q items (c.loop-place.invariant.kept until list) inside first c.get-first.ensures.item w.set.new.self.items set same;
+            low = omega (arith, kept);
+            same_length = same ∙ same_length;
+            count_same = count_same;
+          }))
+      | else-runners-first w ↦
+          rw w.self-is (rw w.kept-is (record {
+            kept = λ until list. one_off live until old list p q items (c.loop-place.invariant.kept until list) inside first c.get-first.ensures.item
+                (item_off g.R.Running.function c.args.runners.now first here c.index-runners-first.result
+                (item_same g.R.Running.function c.args.runners.now first here c.index-runners-first.result c.index-runners-first.result false w.if-runners-first.false));
+            low = omega (arith, kept);
+            same_length = same_length;
+            count_same = count_same;
+          }))
+    ]
+
+pub returns-clause-roster : goal.returns-clause-roster
+returns-clause-roster g c = λ until list.
+    let same = c.loop-place.invariant.count_same in
+    let end = c.loop-place-test.false in
+    all_kept (live_at g.R.Running.function c.args.runners.now) until c.args.self.now list c.loop-place.place _ (omega (arith, same, end)) (omega (arith, same)) (c.loop-place.invariant.kept until list)

@@ -1,0 +1,283 @@
+//! The table filled period by period: the spells of all first periods go forward together.
+//!
+//! A spell that begins later goes on as an earlier one does from the same power, and of equal costs
+//! the later first period is the answer. So an earlier spell goes where a later one, which may stop
+//! as soon, is nowhere above it; and a start isn't made where a running spell is at the least power
+//! for less than it costs. Nor does one go on, or start, that costs more than a limit, since it
+//! can't come within the amount that the limits are for.
+ghost use Rattle.std.specs.Prelude.{◌≡◌, ◌≢◌, ℕ, suc, ◌+◌, ◌*◌, ◌<◌, ◌≤◌, ℤ, Option, None, length};
+ghost use Rattle.cost_curve.specs.CostCurve.{IsCostCurve};
+ghost use Rattle.uc_model.specs.Data.{PriceLists};
+ghost use Rattle.uc_model.specs.PlainUnits.{thermal_of, prices_of};
+ghost use Rattle.uc_model.specs.Sums.{int_at};
+ghost use Rattle.uc_model.specs.declared.limits.TheConstants.{MOST_PERIODS};
+ghost use Rattle.unit_table.specs.Limits.{AreLimits, IsFilledWithin};
+ghost use Rattle.unit_table.specs.Live.{live_at, left_at, AreRoomy, AreSmall, HaveRoom};
+ghost use Rattle.unit_table.specs.Live.{IsFilledTo};
+ghost use Rattle.unit_table.specs.Origins.{AreInOrder, AreOrigins, AreOriginsWithin};
+ghost use Rattle.unit_table.specs.Rosters.{IsRoster};
+ghost use Rattle.unit_table.specs.Rows.{row_at, cost_at, first_at, IsWithinTimes};
+ghost use Rattle.unit_table.specs.Runners.{AreRunners, HaveWays};
+ghost use Rattle.unit_table.specs.Tables.{IsLeastEntry};
+
+use crate::commitment::is_must_off;
+use crate::origins::Origins;
+use crate::roster::Roster;
+use crate::runner::{
+    Runner, begin_runner, drop_beyond, is_less, is_undercut, prune, run_all, stop_all,
+};
+use crate::table::{Entry, Table, begin_table};
+use spell_run::Running;
+use spell_run::laws::{dispatches_are_runs, dispatches_go_on, runs_go_on};
+use uc_model::laws::start_costs_are_within;
+use uc_model::lists::Numbers;
+use uc_model::units::{Curve, Prices, Unit};
+
+// Begins the runner of the period after the one at a place after its least entry, if that is within
+// the limit and no runner undercuts it.
+fn start_after<R: Running>(
+    unit: &Unit,
+    place: u32,
+    entry: &Entry,
+    limit: i64,
+    roster: &mut Roster,
+    runners: &mut [Runner<R>],
+)
+    requires small_place { place < MOST_PERIODS }
+    requires runners { suc place < length runners.old }
+    requires list { suc place < length roster.old.firsts.items }
+    requires roster { IsRoster (live_at R.function runners.old) (suc place) roster.old }
+    requires bound { IsWithinTimes (2 * place + 3) entry.now.cost }
+    requires small { AreSmall (live_at R.function runners.old) }
+    ensures stands { (π : PriceLists) (limits : ℕ → ℤ) (ends : ℕ → Option ℤ)
+        → limits place ≡ limit →
+        IsLeastEntry (thermal_of unit.now) ends (suc place) entry.now.last entry.now.cost →
+        AreRunners (thermal_of unit.now) π limits ends (live_at R.function runners.old) place
+        (suc place) →
+        AreRunners (thermal_of unit.now) π limits ends (live_at R.function runners.new) place
+        (suc (suc place)) }
+    ensures left { (first k : ℕ) → left_at runners.new first k ≡ left_at runners.old first k }
+    ensures room { (periods charge : ℕ) → AreRoomy R.count R.room periods place charge runners.old
+        → AreRoomy R.count R.room periods place charge runners.new }
+    ensures keeps { (most periods : ℕ) → HaveRoom R.room most periods runners.old
+        → HaveRoom R.room most periods runners.new }
+    ensures length { length runners.new ≡ length runners.old }
+    ensures roster { IsRoster (live_at R.function runners.new) (suc (suc place)) roster.new }
+    ensures list { length roster.new.firsts.items ≡ length roster.old.firsts.items }
+{
+    if is_less(limit, entry.cost) {
+        return;
+    }
+    if is_undercut(runners, roster, unit.min_power, entry.cost) {
+        return;
+    }
+    begin_runner(unit, place + 1, entry, &mut runners[place as usize + 1]);
+    roster.add(place + 1);
+}
+
+// Begins the runner of the period after the one at a place, if a spell may begin there within the
+// limit and no runner undercuts it.
+fn start<R: Running>(
+    unit: &Unit,
+    place: u32,
+    limit: i64,
+    origins: &Origins,
+    roster: &mut Roster,
+    runners: &mut [Runner<R>],
+)
+    requires small_place { place < MOST_PERIODS }
+    requires list { suc place < length roster.old.firsts.items }
+    requires roster { IsRoster (live_at R.function runners.old) (suc place) roster.old }
+    requires within { AreOriginsWithin place origins.now }
+    requires order { AreInOrder origins.now }
+    requires runners { suc place < length runners.old }
+    requires small { AreSmall (live_at R.function runners.old) }
+    ensures stands { (π : PriceLists) (limits : ℕ → ℤ) (ends : ℕ → Option ℤ)
+        → limits place ≡ limit →
+        AreOrigins (thermal_of unit.now) ends place origins.now →
+        AreRunners (thermal_of unit.now) π limits ends (live_at R.function runners.old) place
+        (suc place) →
+        AreRunners (thermal_of unit.now) π limits ends (live_at R.function runners.new) place
+        (suc (suc place)) }
+    ensures left { (first k : ℕ) → left_at runners.new first k ≡ left_at runners.old first k }
+    ensures room { (periods charge : ℕ) → AreRoomy R.count R.room periods place charge runners.old
+        → AreRoomy R.count R.room periods place charge runners.new }
+    ensures keeps { (most periods : ℕ) → HaveRoom R.room most periods runners.old
+        → HaveRoom R.room most periods runners.new }
+    ensures length { length runners.new ≡ length runners.old }
+    ensures roster { IsRoster (live_at R.function runners.new) (suc (suc place)) roster.new }
+    ensures list { length roster.new.firsts.items ≡ length roster.old.firsts.items }
+{
+    if !origins.is_within(limit) {
+        return;
+    }
+    match origins.least(unit, place) {
+        Some(entry) => start_after(unit, place, &entry, limit, roster, runners),
+        None => {}
+    }
+}
+
+// Fills the row of the period at a place.
+fn take_period<R: Running>(
+    unit: &Unit,
+    curve: &Curve,
+    prices: &Prices,
+    place: u32,
+    limits: &Numbers,
+    origins: &Origins,
+    roster: &mut Roster,
+    runners: &mut [Runner<R>],
+    table: &mut Table,
+)
+    requires horizon { length (thermal_of unit.now).window ≡ length (prices_of prices.now).energy }
+    requires curve { IsCostCurve (thermal_of unit.now).points curve.now }
+    requires place { place < length (prices_of prices.now).energy }
+    requires runners { length (prices_of prices.now).energy < length runners.old }
+    requires room { AreRoomy R.count R.room (length (prices_of prices.now).energy) place
+        (length curve.now.blocks.items + 3) runners.old }
+    requires rows { length (prices_of prices.now).energy < length table.old.items }
+    requires filled { IsFilledTo (thermal_of unit.now) (prices_of prices.now)
+        (int_at limits.now.items) place table.old.items (live_at R.function runners.old) }
+    requires limits { (most : ℤ)
+        × AreLimits (thermal_of unit.now) (prices_of prices.now) most (int_at limits.now.items) }
+    requires each { length (prices_of prices.now).energy < length limits.now.items }
+    requires ways { HaveWays (thermal_of unit.now) (prices_of prices.now) place
+        (cost_at table.old.items) (first_at table.old.items) (left_at runners.old) }
+    requires origins { AreOrigins (thermal_of unit.now) (cost_at table.old.items) place
+        origins.now }
+    requires list { length (prices_of prices.now).energy < length origins.now.list.items }
+    requires roster { IsRoster (live_at R.function runners.old) (suc place) roster.old }
+    requires firsts { length (prices_of prices.now).energy < length roster.old.firsts.items }
+    ensures filled { IsFilledTo (thermal_of unit.now) (prices_of prices.now)
+        (int_at limits.now.items) (suc place) table.new.items (live_at R.function runners.new) }
+    ensures ways { HaveWays (thermal_of unit.now) (prices_of prices.now) (suc place)
+        (cost_at table.new.items) (first_at table.new.items) (left_at runners.new) }
+    ensures others { (l : ℕ) → l ≢ suc place → row_at table.new.items l ≡ row_at table.old.items l }
+    ensures room { AreRoomy R.count R.room (length (prices_of prices.now).energy) (suc place)
+        (length curve.now.blocks.items + 3) runners.new }
+    ensures length { length table.new.items ≡ length table.old.items }
+    ensures keeps { (most periods : ℕ) → HaveRoom R.room most periods runners.old
+        → HaveRoom R.room most periods runners.new }
+    ensures count { length runners.new ≡ length runners.old }
+    ensures roster { IsRoster (live_at R.function runners.new) (suc (suc place)) roster.new }
+    ensures firsts { length roster.new.firsts.items ≡ length roster.old.firsts.items }
+{
+    if is_must_off(unit, place) {
+        stop_all(runners);
+        roster.clear();
+        return;
+    }
+    runs_go_on();
+    dispatches_go_on();
+    dispatches_are_runs();
+    let limit = *limits.get(place as usize);
+    start(unit, place, limit, origins, roster, runners);
+    run_all(unit, curve, prices, place, roster, runners, table);
+    drop_beyond(place + 1, *limits.get(place as usize + 1), roster, runners);
+    prune(unit, place + 1, roster, runners);
+    roster.keep(runners);
+}
+
+// Begins the runner of the spells that go on from before the horizon, where the unit is on then.
+fn go_on<R: Running>(unit: &Unit, roster: &mut Roster, runners: &mut [Runner<R>])
+    requires some { 1 ≤ length runners.old }
+    requires list { 1 ≤ length roster.old.firsts.items }
+    requires none { roster.old.count ≡ 0 }
+    requires off { (first : ℕ) → live_at R.function runners.old first ≡ None }
+    ensures stands { (π : PriceLists) (limits : ℕ → ℤ) (ends : ℕ → Option ℤ)
+        → AreRunners (thermal_of unit.now) π limits ends (live_at R.function runners.new) 0 1 }
+    ensures left { (first k : ℕ) → left_at runners.new first k ≡ left_at runners.old first k }
+    ensures room { (periods charge : ℕ) → AreRoomy R.count R.room periods 0 charge runners.old
+        → AreRoomy R.count R.room periods 0 charge runners.new }
+    ensures keeps { (most periods : ℕ) → HaveRoom R.room most periods runners.old
+        → HaveRoom R.room most periods runners.new }
+    ensures length { length runners.new ≡ length runners.old }
+    ensures roster { IsRoster (live_at R.function runners.new) 1 roster.new }
+    ensures list { length roster.new.firsts.items ≡ length roster.old.firsts.items }
+{
+    if unit.on0 {
+        let entry = Entry { cost: 0, last: 0 };
+        begin_runner(unit, 0, &entry, &mut runners[0]);
+        roster.add(0);
+    }
+}
+
+// The table and the runners before the first period.
+fn begin_all<R: Running>(
+    unit: &Unit,
+    roster: &mut Roster,
+    runners: &mut [Runner<R>],
+    table: &mut Table,
+)
+    requires runners { 1 ≤ length runners.old }
+    requires list { 1 ≤ length roster.old.firsts.items }
+    requires rows { 1 ≤ length table.old.items }
+    ensures filled { (π : PriceLists) (limits : ℕ → ℤ) → 1 ≤ length π.energy
+        → IsFilledTo (thermal_of unit.now) π limits 0 table.new.items
+        (live_at R.function runners.new) }
+    ensures room { (periods charge : ℕ) → HaveRoom R.room (periods * charge) periods runners.old
+        → AreRoomy R.count R.room periods 0 charge runners.new }
+    ensures length { length table.new.items ≡ length table.old.items }
+    ensures keeps { (most periods : ℕ) → HaveRoom R.room most periods runners.old
+        → HaveRoom R.room most periods runners.new }
+    ensures count { length runners.new ≡ length runners.old }
+    ensures roster { IsRoster (live_at R.function runners.new) 1 roster.new }
+    ensures firsts { length roster.new.firsts.items ≡ length roster.old.firsts.items }
+{
+    begin_table(unit, table);
+    stop_all(runners);
+    roster.clear();
+    go_on(unit, roster, runners);
+}
+
+/// Fills the table for a unit at prices over its horizon of T periods, as `program::fill` does, as
+/// far as its rows are within the limits of some amount; the other rows are open. `curve` is the
+/// curve of the unit's points. There are at least T + 1 runners, each with room for T (B + 3)
+/// pieces, where the curve has B blocks, and for T periods; `origins` and `roster` have room for T
+/// periods, and `table` has at least T + 1 rows. Leaves with the runners what the way back from
+/// each row needs. Takes no memory.
+pub fn fill_by_periods<R: Running>(
+    unit: &Unit,
+    curve: &Curve,
+    prices: &Prices,
+    limits: &Numbers,
+    origins: &mut Origins,
+    roster: &mut Roster,
+    runners: &mut [Runner<R>],
+    table: &mut Table,
+)
+    requires horizon { length (thermal_of unit.now).window ≡ length (prices_of prices.now).energy }
+    requires curve { IsCostCurve (thermal_of unit.now).points curve.now }
+    requires runners { length (prices_of prices.now).energy < length runners.old }
+    requires room { HaveRoom R.room (length (prices_of prices.now).energy
+        * (length curve.now.blocks.items + 3)) (length (prices_of prices.now).energy) runners.old }
+    requires limits { (most : ℤ)
+        × AreLimits (thermal_of unit.now) (prices_of prices.now) most (int_at limits.now.items) }
+    requires each { length (prices_of prices.now).energy < length limits.now.items }
+    requires list { length (prices_of prices.now).energy < length origins.old.list.items }
+    requires firsts { length (prices_of prices.now).energy < length roster.old.firsts.items }
+    requires rows { length (prices_of prices.now).energy < length table.old.items }
+    ensures filled { (most : ℤ)
+        → AreLimits (thermal_of unit.now) (prices_of prices.now) most (int_at limits.now.items)
+        → IsFilledWithin (thermal_of unit.now) (prices_of prices.now) most table.new.items }
+    ensures ways { HaveWays (thermal_of unit.now) (prices_of prices.now)
+        (length (prices_of prices.now).energy) (cost_at table.new.items) (first_at table.new.items)
+        (left_at runners.new) }
+    ensures length { length table.new.items ≡ length table.old.items }
+    ensures keeps { (most periods : ℕ) → HaveRoom R.room most periods runners.old
+        → HaveRoom R.room most periods runners.new }
+    ensures count { length runners.new ≡ length runners.old }
+    ensures list { length origins.new.list.items ≡ length origins.old.list.items }
+    ensures firsts { length roster.new.firsts.items ≡ length roster.old.firsts.items }
+{
+    start_costs_are_within();
+    begin_all(unit, roster, runners, table);
+    origins.begin(unit, table.as_slice());
+    let periods = prices.energy.len() as u32;
+    for place in 0..periods {
+        take_period(
+            unit, curve, prices, place, limits, origins, roster, runners, table,
+        );
+        origins.go_on(unit, place, table.as_slice());
+    }
+}

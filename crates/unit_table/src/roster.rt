@@ -1,0 +1,79 @@
+//! Which runners are on: so that no loop goes over those that aren't.
+ghost use Rattle.std.specs.Prelude.{◌≡◌, ℕ, suc, ◌<◌, ◌≤◌, IfOk, length, slice_set};
+ghost use Rattle.uc_model.specs.declared.limits.TheConstants.{MOST_PERIODS};
+ghost use Rattle.unit_table.specs.Live.{live_at};
+ghost use Rattle.unit_table.specs.Rosters.{IsRoster};
+
+use crate::runner::Runner;
+use spell_run::Running;
+use std::alloc::{AllocError, Global};
+use uc_model::lists::ReservedList;
+
+/// First periods of runners, rising: those of all that are on, and maybe of others.
+pub struct Roster {
+    /// The first `count` are meant.
+    pub firsts: ReservedList<u32>,
+    pub count: u32,
+}
+
+// Written out, so that a drop of it is a call, and not one for each list.
+impl Drop for Roster {
+    fn drop(self) {
+        let Roster {
+            firsts: _,
+            count: _,
+        } = self;
+    }
+}
+
+impl Roster {
+    /// Room for the first periods 0 to so many, none of them yet.
+    pub fn make(alloc: Global, periods: u32) -> Result<Roster, AllocError>
+        requires { periods ≤ MOST_PERIODS }
+        ensures { IfOk result (λ r. periods < length r.firsts.items) }
+    {
+        let firsts = ReservedList::filled(alloc, periods + 1, 0)?;
+        Ok(Roster { firsts, count: 0 })
+    }
+
+    /// Takes all away.
+    pub fn clear(&mut self)
+        ensures count { self.new.count ≡ 0 }
+        ensures firsts { self.new.firsts ≡ self.old.firsts }
+    {
+        self.count = 0;
+    }
+
+    /// Puts a first period behind the others.
+    pub fn add(&mut self, first: u32)
+        requires small { self.old.count ≤ MOST_PERIODS }
+        requires room { self.old.count < length self.old.firsts.items }
+        ensures count { self.new.count ≡ suc self.old.count }
+        ensures firsts { self.new.firsts.items ≡ slice_set self.old.firsts.items self.old.count
+            first }
+    {
+        self.firsts.set(self.count as usize, first);
+        self.count += 1;
+    }
+
+    /// Takes those away whose runners are off.
+    pub fn keep<R: Running>(&mut self, runners: &[Runner<R>])
+        requires small { self.old.count ≤ 169 }
+        requires roster { (until : ℕ) × (until ≤ length runners.now)
+            × IsRoster (live_at R.function runners.now) until self.old }
+        ensures roster { (until : ℕ) →
+            IsRoster (live_at R.function runners.now) until self.old →
+            IsRoster (live_at R.function runners.now) until self.new }
+        ensures length { length self.new.firsts.items ≡ length self.old.firsts.items }
+    {
+        let mut kept = 0;
+        for place in 0..self.count {
+            let first = *self.firsts.get(place as usize);
+            if runners[first as usize].is_on {
+                self.firsts.set(kept as usize, first);
+                kept += 1;
+            }
+        }
+        self.count = kept;
+    }
+}

@@ -1,7 +1,0 @@
-use Rattle.whole_tests.proofs.Common.{market_of}
-use Rattle.whole_tests.proofs.audits.bench_for.Goals as goal
-
-pub returns : goal.returns
-returns c =
-    c.benches_serve_all.ensures (market_of c.args.case.now) 32 c.in_ok-bench.bench
-    (λ k d less. (c.args.case.now.valid.thermal k d less).0.point_count) c.in_ok-bench.ensures

@@ -1,5 +1,0 @@
-use Rattle.whole_tests.proofs.Common.{rules}
-use Rattle.whole_tests.proofs.audits.wrong_line.Goals as goal
-
-pub check_report-requires-clause-feasible : goal.check_report-requires-clause-feasible
-check_report-requires-clause-feasible g c = λ κs out. c.in-Ok.ensures.feasible.0 (search rules)

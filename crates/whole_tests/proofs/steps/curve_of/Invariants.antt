@@ -1,8 +1,0 @@
-use Rattle.whole_tests.proofs.Common.{◌≡◌, ◌+◌, ◌≤◌, length, take}
-use Rattle.whole_tests.proofs.steps.curve_of.Given as goal
-
-abbrev pub invariant-loop-block : goal.invariant-loop-block
-invariant-loop-block l = record {
-  items : l.list.items ≡ take l.block-index l.blocks;
-  room : length l.blocks ≤ l.list.spare + l.block-index;
-}

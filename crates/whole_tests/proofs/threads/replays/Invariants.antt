@@ -1,5 +1,0 @@
-use Rattle.whole_tests.proofs.Common.{◌≡◌}
-use Rattle.whole_tests.proofs.threads.replays.Given as goal
-
-abbrev pub invariant-loop-entry : goal.invariant-loop-entry
-invariant-loop-entry l = l.board.setup.market.periods ≡ 1
