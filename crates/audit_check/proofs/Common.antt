@@ -35,7 +35,7 @@ pub use Rattle.report_read.specs.Differences.{DiffersAt}
 pub use Rattle.report_read.specs.Faults.{IsLine, AreLines, line_feeds}
 pub use Rattle.report_read.specs.Plain.{Told, rank, same_kind, lines_of, told_of}
 unfoldable pub use Rattle.report_read.specs.Plain.{report_of}
-pub use Rattle.uc_model.proofs.SignedLaws.{wider, fits_within}
+pub use Rattle.plain_lists.proofs.SignedLaws.{wider, fits_within}
 pub use Rattle.uc_model.specs.Data.{Schedule, Market, AnyUnit, Thermal, Flat, Bid, NamedThermalUnit, NamedRenewableUnit, NamedBidUnit, units, unit_count, thermal_names, renewable_names, bid_names}
 pub use Rattle.uc_model.specs.Earnings.{IsTop}
 pub use Rattle.uc_model.specs.Limits.{IsSum, IsWorth}

@@ -1,7 +1,7 @@
 -- The lines of a unit, and those of all units one after another.
 use Rattle.audit_check.proofs.Common.{◌≡◌, ℕ, suc, ◌+◌, ◌≤◌, Bool, ◌⊎◌, inl, inr, codes, Result, Ok, Err, Some, List, [], ◌∷◌, drop, length, refl, sym, ap, subst, arith, ℤ, slice_get, slice_index_or, flat_map, Decides, Kind, Schedule, Proposal, Told, Differ, Compares, wrong_from, kind_word, response_lines, unit_lines, told_lines, row_lines, rows_lines, Title, Answers, idle, line_at, told_from, WrongLine}
 use Rattle.uc_model.specs.declared.kinds.Kind.TheVariants as kinds
-use Rattle.uc_model.specs.Sums.{int_at}
+use Rattle.plain_lists.specs.Sums.{int_at}
 use Rattle.audit_check.proofs.Comparing.{behind, stops, judged_compare}
 use Rattle.audit_check.proofs.Judging.{kind_told, flags_judged, counts_judged}
 use Rattle.audit_check.proofs.OneLine.{Titled, title_text, title_told}

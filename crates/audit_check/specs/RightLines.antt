@@ -6,7 +6,7 @@ use Rattle.uc_model.specs.declared.kinds.Kind.TheVariants as kinds
 use Rattle.uc_model.specs.Data.{Schedule, Market, unit_count}
 use Rattle.uc_model.specs.Data.{thermal_names, renewable_names, bid_names}
 use Rattle.uc_model.specs.PriceRule.{Proposal}
-use Rattle.uc_model.specs.Sums.{int_at}
+use Rattle.plain_lists.specs.Sums.{int_at}
 use Rattle.uplift_settle.specs.declared.settlement.Settlement.{Settlement}
 use Rattle.report_form.specs.ReportText.{UnitLine, Report, chosen_text}
 use Rattle.hull_report.specs.RecordReport.{lines_from}

@@ -1,9 +1,9 @@
 //! The memory of a comparison.
 
+use plain_lists::lists::Numbers;
 use slope_list::Slopes;
 use std::alloc::{AllocError, Global};
 use uc_model::cases::Case;
-use uc_model::lists::Numbers;
 use uc_model::units::Answered;
 use unit_program::Bench;
 use uplift_settle::Settlement;

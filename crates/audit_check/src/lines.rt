@@ -2,7 +2,8 @@
 ghost use Rattle.std.specs.Prelude.{◌≡◌};
 ghost use Rattle.std.specs.Bool.{Decides};
 
-use uc_model::lists::{Amounts, Flags, Numbers, Powers};
+use plain_lists::lists::{Amounts, Flags, Numbers};
+use uc_model::units::Powers;
 
 /// Whether counts are the same.
 pub fn same_count(mine: u32, right: u32) -> bool

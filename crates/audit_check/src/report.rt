@@ -8,7 +8,7 @@ ghost use Rattle.uc_model.specs.PlainCases.{market_of, schedules_of, proposal_of
 ghost use Rattle.uc_model.specs.PlainUnits.{prices_of};
 ghost use Rattle.uc_model.specs.Runs.{IsRun, Fits};
 ghost use Rattle.uc_model.specs.Systems.{IsFeasiblePlan, plan_cost};
-ghost use Rattle.uc_model.specs.declared.limits.TheConstants.{MOST_PROPOSALS, MOST_UNITS};
+ghost use Rattle.plain_lists.specs.declared.limits.TheConstants.{MOST_PROPOSALS, MOST_UNITS};
 ghost use Rattle.case_answers.specs.Tops.{HasSchedules};
 ghost use Rattle.hull_report.specs.RightReport.{IsRightReport};
 ghost use Rattle.report_read.specs.Bounds.{IsReport, AreInOrder};

@@ -6,7 +6,7 @@ ghost use Rattle.uc_model.specs.Data.{Schedule, units, unit_count};
 ghost use Rattle.uc_model.specs.PlainCases.{market_of};
 ghost use Rattle.uc_model.specs.PlainUnits.{prices_of, schedule_of};
 ghost use Rattle.uc_model.specs.Runs.{Fits};
-ghost use Rattle.uc_model.specs.Sums.{int_at};
+ghost use Rattle.plain_lists.specs.Sums.{int_at};
 ghost use Rattle.case_answers.specs.Tops.{HasSchedules, IsBenchOver};
 ghost use Rattle.report_read.specs.Plain.{told_of};
 ghost use Rattle.audit_check.specs.Compared.{Compares};

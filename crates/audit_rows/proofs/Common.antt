@@ -21,7 +21,7 @@ pub use Rattle.audit_rows.specs.declared.sums.Sums.{Sums}
 pub use Rattle.dual_value.specs.Totals.{IsRaised}
 pub use Rattle.price_move.specs.Sizes.{IsRowBelow}
 pub use Rattle.task_deal.specs.Jobs.{below, added, all_added, HasRun}
-pub use Rattle.uc_model.proofs.ListLaws.{head_of, tail_of, zip_item, length_same, all_nil, all_cons, length-zip_with, none_some, same_item, item_of, at_place, map-append, total-push}
+pub use Rattle.plain_lists.proofs.ListLaws.{head_of, tail_of, zip_item, length_same, all_nil, all_cons, length-zip_with, none_some, same_item, item_of, at_place, map-append, total-push}
 pub use Rattle.uc_model.specs.BoundLaws.{EarningsAreWithin, EarnedSumsAreWithin, UnitsAreWithin, GivesWithin, most_given, least_given, OutputsAreWithin, TotalsAreWithin, DualValuesAreWithin, PlanCostsAreWithin}
 pub use Rattle.uc_model.specs.Data.{AnyUnit, PriceLists, Schedule, Market, units, Thermal, Flat, Bid, unit_count}
 pub use Rattle.uc_model.specs.Earnings.{earnings, supply_in, IsTop}
@@ -32,5 +32,5 @@ pub use Rattle.uc_model.specs.PlainUnits.{prices_of, schedule_of}
 pub use Rattle.uc_model.specs.PriceRule.{Proposal, no_prices, age, stepped_prices, next_prices, is_settled, opening_prices_of, start_prices, start_price}
 pub use Rattle.uc_model.specs.Runs.{Fits, IsNextRow, IsRun}
 pub use Rattle.uc_model.specs.Schedules.{reserve_in, IsFeasible}
-pub use Rattle.uc_model.specs.Sums.{int_at, total, sum_below, zip_with}
+pub use Rattle.plain_lists.specs.Sums.{int_at, total, sum_below, zip_with}
 pub use Rattle.uc_model.specs.Systems.{total_power, total_reserve, IsDualValue, worth_of_demand}

@@ -5,10 +5,10 @@ use Rattle.std.specs.List.{All, AllZip, range_with_len}
 use Rattle.std.specs.Option.{option_map_or}
 use Rattle.uc_model.specs.Data.{AnyUnit, PriceLists, Schedule, Market, units}
 use Rattle.uc_model.specs.Earnings.{earnings, supply_in}
-use Rattle.uc_model.specs.Limits.{IsFrom}
+use Rattle.plain_lists.specs.Ranges.{IsFrom}
 use Rattle.uc_model.specs.Runs.{Fits}
 use Rattle.uc_model.specs.Schedules.{reserve_in}
-use Rattle.uc_model.specs.Sums.{int_at, total, zip_with}
+use Rattle.plain_lists.specs.Sums.{int_at, total, zip_with}
 use Rattle.uc_model.specs.Systems.{total_power, total_reserve}
 use Rattle.audit_rows.specs.declared.sums.Sums.{Sums}
 

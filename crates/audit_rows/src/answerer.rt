@@ -9,12 +9,11 @@ ghost use Rattle.audit_rows.specs.Sums.{AreSumsOf, AreWithin};
 use crate::count::count_at;
 use crate::sums::Sums;
 use case_answers::laws::units_can_answer;
+use plain_lists::lists::{ReservedList, copy_list};
 use slope_list::Slopes;
 use std::alloc::{AllocError, Global};
 use task_deal::Job;
 use uc_model::cases::Case;
-use uc_model::copies::copy_list;
-use uc_model::lists::ReservedList;
 use uc_model::units::{Answered, Prices};
 use unit_program::Bench;
 

@@ -2,7 +2,7 @@
 ghost use Rattle.std.specs.Prelude.{◌≡◌, ℕ, ◌*◌, ◌<◌, ◌≤◌, [], length, IfOk, map};
 ghost use Rattle.std.specs.List.{All};
 ghost use Rattle.task_deal.specs.declared.deal.TheConstants.{MOST_JOBS};
-ghost use Rattle.uc_model.specs.declared.limits.TheConstants.{MOST_UNITS};
+ghost use Rattle.plain_lists.specs.declared.limits.TheConstants.{MOST_UNITS};
 ghost use Rattle.uc_model.specs.Data.{Market, PriceLists, unit_count};
 ghost use Rattle.uc_model.specs.PlainCases.{market_of, proposal_of};
 ghost use Rattle.uc_model.specs.PlainUnits.{prices_of};

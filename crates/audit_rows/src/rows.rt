@@ -5,7 +5,7 @@ ghost use Rattle.std.specs.List.{All};
 ghost use Rattle.price_move.specs.Moves.{is_last_settled};
 ghost use Rattle.price_move.specs.Sizes.{IsRowBelow};
 ghost use Rattle.task_deal.specs.declared.deal.TheConstants.{MOST_JOBS};
-ghost use Rattle.uc_model.specs.declared.limits.TheConstants.{MOST_PROPOSALS, MOST_AHEAD};
+ghost use Rattle.plain_lists.specs.declared.limits.TheConstants.{MOST_PROPOSALS, MOST_AHEAD};
 ghost use Rattle.uc_model.specs.Limits.{IsWorth};
 ghost use Rattle.uc_model.specs.PlainCases.{market_of, proposal_of};
 ghost use Rattle.uc_model.specs.PlainUnits.{prices_of};
@@ -17,6 +17,7 @@ ghost use Rattle.audit_rows.specs.Rows.{IsCostOfPlan, IsNextProposal, IsLast};
 
 use crate::answerer::Answerer;
 use crate::row::row_at;
+use plain_lists::lists::{Numbers, ReservedList};
 use price_move::{Moved, next_prices};
 use price_space::{opening_prices, start_prices};
 use std::alloc::{AllocError, Global};
@@ -27,7 +28,6 @@ use uc_model::laws::{
     dual_is_at_most_cost, dual_values_are_within, outputs_are_within, plan_costs_are_within,
     totals_are_within, units_are_within,
 };
-use uc_model::lists::{Numbers, ReservedList};
 use uc_model::units::Prices;
 
 // The first so many rows.

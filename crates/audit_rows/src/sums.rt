@@ -3,17 +3,17 @@ ghost use Rattle.std.specs.Prelude.{◌≡◌, suc, ◌*◌, pos, ◌+ℤ◌, le
 ghost use Rattle.std.specs.List.{All};
 ghost use Rattle.dual_value.specs.Totals.{IsRaised};
 ghost use Rattle.task_deal.specs.declared.deal.TheConstants.{MOST_JOBS};
-ghost use Rattle.uc_model.specs.declared.limits.TheConstants.{MOST_UNITS};
+ghost use Rattle.plain_lists.specs.declared.limits.TheConstants.{MOST_UNITS};
 ghost use Rattle.uc_model.specs.PlainUnits.{schedule_of};
 ghost use Rattle.uc_model.specs.Schedules.{reserve_in};
-ghost use Rattle.uc_model.specs.Sums.{int_at};
+ghost use Rattle.plain_lists.specs.Sums.{int_at};
 ghost use Rattle.case_answers.specs.Answers.{amount_of};
 ghost use Rattle.audit_rows.specs.Sums.{IsSmall, AreWithin};
 
 use case_answers::Flow;
+use plain_lists::lists::Amounts;
 use std::alloc::{AllocError, Global};
-use uc_model::lists::{Amounts, Powers};
-use uc_model::units::Answered;
+use uc_model::units::{Answered, Powers};
 
 /// What units earn in money, and in each period what they give to the system, less what bids take,
 /// and have in reserve, in kilowatts.

@@ -37,16 +37,16 @@ pub use Rattle.dual_value.specs.Totals.{IsRaised}
 pub use Rattle.price_move.specs.Firsts.{IsFirstUpTo}
 pub use Rattle.price_move.specs.Moves.{is_last_settled, values_of}
 pub use Rattle.price_move.specs.Sizes.{IsRowBelow}
-pub use Rattle.uc_model.specs.declared.limits.TheConstants.{MOST_TASKS, MOST_UNITS, MOST_WORK}
+pub use Rattle.plain_lists.specs.declared.limits.TheConstants.{MOST_TASKS, MOST_UNITS, MOST_WORK}
 pub use Rattle.uc_model.specs.Data.{Market, PriceLists, unit_count, AnyUnit, Thermal, Flat, Bid, units, Schedule, units as units_of}
 pub use Rattle.uc_model.specs.Earnings.{supply_in, earnings}
 pub use Rattle.uc_model.specs.PlainCases.{chosen_unit, task_unit, proposal_of, market_of}
 pub use Rattle.uc_model.specs.PlainUnits.{prices_of, schedule_of, thermal_of, renewable_of, bid_of}
 pub use Rattle.uc_model.specs.PriceRule.{Proposal, age, stepped_prices, price_rule, next_prices, no_prices, opening_prices_of, start_prices, is_settled}
-pub use Rattle.uc_model.specs.Reserved.{items_in}
+pub use Rattle.plain_lists.specs.Reserved.{items_in}
 pub use Rattle.uc_model.specs.Runs.{Fits}
 pub use Rattle.uc_model.specs.Schedules.{reserve_in, IsFeasible}
-pub use Rattle.uc_model.specs.Sums.{int_at, total, zip_with}
+pub use Rattle.plain_lists.specs.Sums.{int_at, total, zip_with}
 pub use Rattle.uc_model.specs.Systems.{worth_of_demand, total_power, total_reserve}
 pub use Rattle.uc_model.specs.TaskLists.{lag_numbers, point_numbers, block_numbers, period_numbers, mark_number, fixed_numbers, list_numbers, unit_numbers, task_numbers}
 pub use Rattle.uc_model.specs.declared.cases.Row.{Row}

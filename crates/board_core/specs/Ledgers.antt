@@ -5,7 +5,7 @@ use Rattle.uc_model.specs.Data.{AnyUnit, PriceLists, Schedule}
 use Rattle.uc_model.specs.Earnings.{supply_in}
 use Rattle.uc_model.specs.PriceRule.{Proposal}
 use Rattle.uc_model.specs.Schedules.{reserve_in}
-use Rattle.uc_model.specs.Sums.{int_at}
+use Rattle.plain_lists.specs.Sums.{int_at}
 
 -- the proposals in their order, each with its prices once it is open and its value once it is
 -- closed, and with the totals of the answers so far; the first so many are closed, and the first so

@@ -11,7 +11,7 @@ use Rattle.board_history.specs.Rounds.{rows_of, opened, is_halt_of, is_halt}
 use Rattle.board_history.specs.declared.entries.Entry.{Entry}
 use Rattle.uc_model.specs.Data.{units, unit_count}
 use Rattle.uc_model.specs.PriceRule.{Proposal}
-use Rattle.uc_model.specs.Sums.{int_at, total}
+use Rattle.plain_lists.specs.Sums.{int_at, total}
 use Rattle.uc_model.specs.Systems.{total_power, total_reserve}
 use Rattle.board_core.specs.Events.{task_number}
 use Rattle.board_core.specs.Ledgers.{LedgerValue}

@@ -8,7 +8,7 @@ use Rattle.board_history.specs.Rounds.{rows_by, prices_by, opened_in}
 use Rattle.uc_model.specs.Data.{Market, PriceLists}
 use Rattle.price_move.specs.Moves.{is_last_settled}
 use Rattle.uc_model.specs.PriceRule.{Proposal, next_prices, no_prices}
-use Rattle.uc_model.specs.Sums.{int_at}
+use Rattle.plain_lists.specs.Sums.{int_at}
 use Rattle.uc_model.specs.Systems.{worth_of_demand}
 
 -- every unit of proposal n has an answer

@@ -2,8 +2,8 @@
 use Rattle.std.specs.Prelude.{◌≡◌, ◌*◌, ◌≤◌}
 use Rattle.board_history.specs.Board.{Setup}
 use Rattle.uc_model.specs.Data.{unit_count}
-use Rattle.uc_model.specs.declared.limits.TheConstants.{MOST_PROPOSALS, MOST_AHEAD}
-use Rattle.uc_model.specs.declared.limits.TheConstants.{MOST_CALLERS, MOST_WORK}
+use Rattle.plain_lists.specs.declared.limits.TheConstants.{MOST_PROPOSALS, MOST_AHEAD}
+use Rattle.plain_lists.specs.declared.limits.TheConstants.{MOST_CALLERS, MOST_WORK}
 use Rattle.uc_model.specs.Limits.{IsMarket}
 use Rattle.uc_model.specs.PlainCases.{market_of, schedules_of}
 use Rattle.uc_model.specs.Systems.{IsFeasiblePlan, plan_cost}

@@ -13,7 +13,7 @@ ghost use Rattle.uc_model.specs.PriceRule.{chosen_number, start_prices as start_
 ghost use Rattle.uc_model.specs.PriceRule.{opening_prices_of};
 ghost use Rattle.uc_model.specs.Runs.{Fits};
 ghost use Rattle.uc_model.specs.TaskRoom.{IsTaskFor};
-ghost use Rattle.uc_model.specs.declared.limits.TheConstants.{MOST_PROPOSALS};
+ghost use Rattle.plain_lists.specs.declared.limits.TheConstants.{MOST_PROPOSALS};
 ghost use Rattle.board_core.specs.Boards.{setup_for, empty_board, kept_answer};
 ghost use Rattle.board_core.specs.Replies.{claim_of, posted_of};
 ghost use Rattle.board_core.specs.Setups.{IsSetup, setup_of};

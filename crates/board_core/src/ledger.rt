@@ -5,22 +5,22 @@ ghost use Rattle.std.specs.List.{All};
 ghost use Rattle.dual_value.specs.Totals.{IsTotal};
 ghost use Rattle.price_move.specs.Firsts.{IsFirstUpTo};
 ghost use Rattle.price_move.specs.Moves.{values_of};
-ghost use Rattle.uc_model.specs.Limits.{IsFrom};
+ghost use Rattle.plain_lists.specs.Ranges.{IsFrom};
 ghost use Rattle.uc_model.specs.PlainCases.{proposal_of, task_unit};
 ghost use Rattle.uc_model.specs.PlainUnits.{prices_of, schedule_of};
 ghost use Rattle.uc_model.specs.PriceRule.{Proposal};
 ghost use Rattle.uc_model.specs.Schedules.{IsFeasible};
-ghost use Rattle.uc_model.specs.Sums.{int_at};
+ghost use Rattle.plain_lists.specs.Sums.{int_at};
 ghost use Rattle.uc_model.specs.declared.limits.TheConstants.{MOST_PERIODS};
 ghost use Rattle.board_core.specs.Ledgers.{blank, with_prices, with_value, with_schedule};
 
 use board_task::tasks::copy_prices;
 use dual_value::{add_response, take_bid};
+use plain_lists::lists::Amounts;
 use price_move::greatest_with;
 use std::alloc::{AllocError, Global};
 use std::marker::Model;
 use uc_model::cases::{Row, Task};
-use uc_model::lists::Amounts;
 use uc_model::units::{Answered, Prices, UnitKind};
 
 /// All proposals of a board: the first so many are closed, and the first so many are open.

@@ -2,8 +2,9 @@
 ghost use Rattle.std.specs.Prelude.{◌≡◌, ◌+◌, ◌*◌, ◌≤◌, [], false, IfOk, length, min, replicate};
 ghost use Rattle.std.specs.Prelude.{vec_capacity};
 ghost use Rattle.uc_model.specs.PlainCases.{market_of};
-ghost use Rattle.uc_model.specs.declared.limits.TheConstants.{MOST_AHEAD, MOST_CALLERS};
-ghost use Rattle.uc_model.specs.declared.limits.TheConstants.{MOST_TASKS, MOST_PERIODS};
+ghost use Rattle.plain_lists.specs.declared.limits.TheConstants.{MOST_AHEAD, MOST_CALLERS};
+ghost use Rattle.plain_lists.specs.declared.limits.TheConstants.{MOST_TASKS};
+ghost use Rattle.uc_model.specs.declared.limits.TheConstants.{MOST_PERIODS};
 ghost use Rattle.uc_model.specs.TaskRoom.{IsTaskFor};
 ghost use Rattle.uc_model.specs.PlainUnits.{prices_of};
 ghost use Rattle.uc_model.specs.PriceRule.{start_prices as start_prices_of};
@@ -11,10 +12,10 @@ ghost use Rattle.board_core.specs.Openings.{blank_ledger, with_openings};
 
 use crate::ledger::Ledger;
 use board_history::entries::Entry;
+use plain_lists::lists::Numbers;
 use price_space::{opening_prices, start_prices};
 use std::alloc::{AllocError, Global};
 use uc_model::cases::{Case, Task};
-use uc_model::lists::Numbers;
 use uc_model::units::Prices;
 
 /// The lists of a board that events are kept in.

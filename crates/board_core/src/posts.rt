@@ -10,7 +10,7 @@ ghost use Rattle.uc_model.specs.PlainUnits.{prices_of};
 ghost use Rattle.uc_model.specs.PriceRule.{Proposal};
 ghost use Rattle.uc_model.specs.TaskLists.{task_numbers};
 ghost use Rattle.uc_model.specs.TaskRoom.{IsTaskFor};
-ghost use Rattle.uc_model.specs.declared.limits.TheConstants.{MOST_PROPOSALS, MOST_UNITS};
+ghost use Rattle.plain_lists.specs.declared.limits.TheConstants.{MOST_PROPOSALS, MOST_UNITS};
 ghost use Rattle.board_core.specs.Events.{task_number as number_of};
 ghost use Rattle.board_core.specs.Refusals.{held_refusal, differs_of, own_prices_in, refusal_of};
 ghost use Rattle.board_core.specs.Refusals.{reply_of};

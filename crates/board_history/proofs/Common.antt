@@ -22,15 +22,16 @@ pub use Rattle.board_history.specs.OneCaller.{IsBetween, ClaimsAreGiven, GivenIs
 pub use Rattle.board_history.specs.Rounds.{Rules, Event, Given, Taken, Closing, Stopped, sooner, first_some, only_at, given_by, posted_by, Holders, holders, Posts, posts, with_post, prices_at, opened, IsPost, IsNext, GoesOn, IsLegal, is_closed, is_halt, is_finished, ClaimReply, Finished, Halted, GivenTask, NotYet, next_task, claim_reply, claim_from, answer_at, answers, with_row, rows_by, prices_by, row_by, rows_to, closed_front, rows_of, free_front, is_halt_of, with_claim, events_after_claim, PostReply, OtherProposal, OtherUnit, OtherContent, Doubled, OtherHolder, TakenPost, is_holder, post_from, post_reply, post_event, with_answer, events_after_post, events_after_halt, free_in, opened_in}
 pub use Rattle.board_history.specs.Tasks.{Difference, difference, IsOver, IsTask, first_difference, SameTask}
 pub use Rattle.board_history.specs.Words.{IsOpenTask, IsHeld, IsFirstFree, ClaimSays, no_difference, IsMachineStep, PostSays, IsClosed, IsOpen, Means}
-pub use Rattle.uc_model.proofs.SignedLaws.{IsWithin, clamped_from, wider}
+pub use Rattle.plain_lists.proofs.SignedLaws.{IsWithin, clamped_from, wider}
 pub use Rattle.uc_model.specs.BoundLaws.{GivesWithin, OutputsAreWithin, EarningsAreWithin, UnitsAreWithin, TotalsAreWithin, DemandWorthIsWithin}
 pub use Rattle.uc_model.specs.Data.{PriceLists, units, unit_count, AnyUnit, Thermal, Flat, Bid, Schedule, Market, NamedThermalUnit, NamedRenewableUnit, NamedBidUnit, ThermalUnit}
 pub use Rattle.uc_model.specs.Earnings.{earnings, IsBest, IsTop, supply_in}
 pub use Rattle.uc_model.specs.Laws.{DualIsAtMostCost}
-pub use Rattle.uc_model.specs.Limits.{IsMarket, IsFrom, IsUnit, IsTotal, IsHorizon, ArePrices, price_limit}
+pub use Rattle.plain_lists.specs.Ranges.{IsFrom}
+pub use Rattle.uc_model.specs.Limits.{IsMarket, IsUnit, IsTotal, IsHorizon, ArePrices, price_limit}
 pub use Rattle.uc_model.specs.PriceRule.{Proposal, start_prices, opening_prices_of, stepped_prices, age, no_prices, next_prices, move_of, squared_length, energy_direction, reserve_direction, price_rule, is_settled}
 pub use Rattle.uc_model.specs.Runs.{Fits, IsNextRow, AreRightRows, IsRun}
 pub use Rattle.uc_model.specs.Schedules.{IsFeasible, reserve_in}
-pub use Rattle.uc_model.specs.Sums.{int_at, total, floor_div, clamped, zip_with}
+pub use Rattle.plain_lists.specs.Sums.{int_at, total, floor_div, clamped, zip_with}
 pub use Rattle.uc_model.specs.Systems.{IsFeasiblePlan, total_power, total_reserve}
 pub use Rattle.uc_model.specs.TaskLists.{task_numbers, flag_number, lag_numbers, point_numbers, mark_number, block_numbers, period_numbers, fixed_numbers, list_numbers, unit_numbers}

@@ -7,7 +7,7 @@ use Rattle.uc_model.specs.Data.{AnyUnit, PriceLists, Schedule, Market, units, un
 use Rattle.uc_model.specs.Earnings.{earnings}
 use Rattle.uc_model.specs.PriceRule.{Proposal, price_rule, is_settled}
 use Rattle.uc_model.specs.Runs.{Fits}
-use Rattle.uc_model.specs.Sums.{total}
+use Rattle.plain_lists.specs.Sums.{total}
 use Rattle.uc_model.specs.Systems.{total_power, total_reserve, worth_of_demand}
 
 -- what a board is made for: a case, a feasible plan and its cost, how many proposals there may be,

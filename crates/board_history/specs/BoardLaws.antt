@@ -20,7 +20,7 @@ use Rattle.uc_model.specs.Limits.{IsMarket}
 use Rattle.uc_model.specs.PriceRule.{Proposal, is_settled}
 use Rattle.uc_model.specs.Runs.{Fits}
 use Rattle.uc_model.specs.Schedules.{IsFeasible}
-use Rattle.uc_model.specs.Sums.{int_at}
+use Rattle.plain_lists.specs.Sums.{int_at}
 
 -- ---- rows, whoever makes them
 

@@ -9,7 +9,7 @@ use Rattle.uc_model.specs.Data.{Market, units}
 use Rattle.uc_model.specs.Limits.{IsMarket, ArePrices}
 pub use Rattle.uc_model.specs.Limits.{IsTotal, IsSum, IsWorth}
 use Rattle.uc_model.specs.PriceRule.{Proposal}
-use Rattle.uc_model.specs.Sums.{total}
+use Rattle.plain_lists.specs.Sums.{total}
 use Rattle.uc_model.specs.Systems.{IsFeasiblePlan, plan_cost, total_power, total_reserve}
 
 -- the totals of a proposal's answers, as many as there are

@@ -5,7 +5,7 @@ use Rattle.std.specs.List.{range_with_len}
 use Rattle.uc_model.specs.Data.{AnyUnit}
 use Rattle.uc_model.specs.Earnings.{supply_in}
 use Rattle.uc_model.specs.Schedules.{reserve_in}
-use Rattle.uc_model.specs.Sums.{total}
+use Rattle.plain_lists.specs.Sums.{total}
 use Rattle.uc_model.specs.Systems.{total_power, total_reserve}
 use Rattle.board_history.specs.Board.{Answer, no_answer, schedules_in, earned_in}
 

@@ -30,6 +30,6 @@ pub use Rattle.uc_model.specs.PlainCases.{market_of, schedules_of, proposal_of}
 pub use Rattle.uc_model.specs.PlainUnits.{prices_of, schedule_of}
 pub use Rattle.uc_model.specs.PriceRule.{Proposal, no_prices, chosen_number}
 pub use Rattle.uc_model.specs.Runs.{Fits}
-pub use Rattle.uc_model.specs.Sums.{int_at}
+pub use Rattle.plain_lists.specs.Sums.{int_at}
 pub use Rattle.uc_model.specs.Systems.{IsFeasiblePlan, plan_cost, IsSettled}
 pub use Rattle.uplift_settle.specs.declared.settlement.Settlement.{Settlement}

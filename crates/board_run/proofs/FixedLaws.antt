@@ -4,7 +4,7 @@ use Rattle.slope_list.specs.Slopes.{room_of}
 use Rattle.slope_list.specs.declared.slopes.Slopes.{Slopes}
 use Rattle.uc_model.specs.declared.cases.Case.{Case}
 use Rattle.uc_model.specs.declared.cases.Plan.{Plan}
-use Rattle.uc_model.specs.declared.limits.TheConstants.{MOST_WORK}
+use Rattle.plain_lists.specs.declared.limits.TheConstants.{MOST_WORK}
 use Rattle.uc_model.specs.declared.units.Point.{Point}
 use Rattle.unit_program.specs.Benches.{IsBenchFor}
 use Rattle.unit_program.specs.declared.bench.Bench.{Bench}

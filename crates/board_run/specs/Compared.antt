@@ -7,7 +7,7 @@ use Rattle.uc_model.specs.PlainCases.{market_of, schedules_of}
 use Rattle.uc_model.specs.Systems.{IsFeasiblePlan, plan_cost}
 use Rattle.uc_model.specs.declared.cases.Case.{Case}
 use Rattle.uc_model.specs.declared.cases.Plan.{Plan}
-use Rattle.uc_model.specs.declared.limits.TheConstants.{MOST_WORK}
+use Rattle.plain_lists.specs.declared.limits.TheConstants.{MOST_WORK}
 use Rattle.fixed_price.specs.FixedCase.{fixed_market}
 use Rattle.hull_report.specs.FixedText.{told_of}
 use Rattle.hull_report.specs.RightSide.{IsRightSide}

@@ -4,7 +4,7 @@ use Rattle.board_history.specs.Board.{Setup}
 use Rattle.uc_model.specs.Data.{Market, Schedule, unit_count}
 use Rattle.uc_model.specs.PlainCases.{market_of, schedules_of}
 use Rattle.uc_model.specs.Systems.{IsFeasiblePlan, plan_cost}
-use Rattle.uc_model.specs.declared.limits.TheConstants.{MOST_WORK}
+use Rattle.plain_lists.specs.declared.limits.TheConstants.{MOST_WORK}
 use Rattle.board_run.specs.declared.input.Input.{Input}
 use Rattle.board_run.specs.declared.input.RunInput.{RunInput}
 use Rattle.board_run.specs.Sizes.{IsRunSize}

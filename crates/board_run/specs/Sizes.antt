@@ -1,6 +1,6 @@
 -- How large a run may be (this project's profile).
 use Rattle.std.specs.Prelude.{ℕ, ◌≤◌}
-use Rattle.uc_model.specs.declared.limits.TheConstants.{MOST_PROPOSALS, MOST_WORKERS, MOST_AHEAD}
+use Rattle.plain_lists.specs.declared.limits.TheConstants.{MOST_PROPOSALS, MOST_WORKERS, MOST_AHEAD}
 
 -- the number is from low to high
 pub record IsWithin (low high n : ℕ) : Type 0 where

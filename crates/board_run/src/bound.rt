@@ -18,10 +18,10 @@ use gap_proof::laws::run_bounds_hold;
 use gap_proof::{Certified, best_range};
 use hull_report::TopFault;
 use hull_report::laws::one_row_is_chosen;
+use plain_lists::lists::Amounts;
 use std::alloc::{AllocError, Global};
 use std::sync::Wait;
 use std::thread::Threads;
-use uc_model::lists::Amounts;
 
 /// A run that has ended, and the best bound on the dual values of all prices that are each within
 /// the radius of its chosen ones, in money for a kilowatt and period.

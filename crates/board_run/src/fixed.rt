@@ -21,11 +21,11 @@ use fixed_price::fix_case;
 use fixed_price::laws::commitments_are_fixed;
 use hull_report::laws::{settled_sides_are_right, settlements_are_of_all_units};
 use hull_report::{Side, TopFault, chosen_side};
+use plain_lists::lists::Numbers;
 use std::alloc::{AllocError, Global};
 use std::sync::Wait;
 use std::thread::Threads;
 use uc_model::cases::{Case, Plan};
-use uc_model::lists::Numbers;
 use uc_model::units::Prices;
 use uplift_settle::settle;
 

@@ -2,7 +2,7 @@
 ghost use Rattle.std.specs.Prelude.{◌≡◌, ◌≤◌};
 ghost use Rattle.uc_model.specs.Data.{unit_count as units_in};
 ghost use Rattle.uc_model.specs.PlainCases.{market_of};
-ghost use Rattle.uc_model.specs.declared.limits.TheConstants.{MOST_UNITS};
+ghost use Rattle.plain_lists.specs.declared.limits.TheConstants.{MOST_UNITS};
 
 use uc_model::cases::{Case, Plan};
 

@@ -8,4 +8,4 @@ pub use Rattle.std.specs.Prelude.{replicate, slice_index_or}
 pub use Rattle.board_store.specs.Answers.{Kept, Answers, nothing, answer_in, answers_in, kept_of}
 pub use Rattle.board_store.specs.Parts.{part, with_part}
 pub use Rattle.board_store.specs.Tables.{Rows, row_at, rows_in, blank, blanks, IsTable}
-pub use Rattle.uc_model.specs.Sums.{int_at}
+pub use Rattle.plain_lists.specs.Sums.{int_at}

@@ -3,7 +3,7 @@ use Rattle.std.specs.Prelude.{◌≡◌, ℕ, ◌*◌, ℤ, pos, Bool, List, [],
 use Rattle.std.specs.List.{range_with_len}
 use Rattle.uc_model.specs.Data.{Schedule}
 use Rattle.uc_model.specs.PlainUnits.{schedule_of}
-use Rattle.uc_model.specs.Sums.{int_at}
+use Rattle.plain_lists.specs.Sums.{int_at}
 use Rattle.uc_model.specs.declared.units.Answered.{Answered}
 use Rattle.board_store.specs.Parts.{part}
 use Rattle.board_store.specs.Tables.{Rows}

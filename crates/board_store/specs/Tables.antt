@@ -2,7 +2,7 @@
 use Rattle.std.specs.Prelude.{◌≡◌, ℕ, zero, suc, ◌+◌, ◌*◌, ◌<◌, ◌≤◌, List, length, map, sum_by}
 use Rattle.std.specs.Prelude.{replicate, slice_index}
 use Rattle.board_store.specs.Parts.{part}
-use Rattle.uc_model.specs.declared.limits.TheConstants.{MOST_TASKS}
+use Rattle.plain_lists.specs.declared.limits.TheConstants.{MOST_TASKS}
 
 -- what a contract sees of a table
 pub record Rows : Type 0 where

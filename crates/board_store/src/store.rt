@@ -2,7 +2,7 @@
 ghost use Rattle.std.specs.Prelude.{◌≡◌, ◌*◌, ◌<◌, ◌≤◌, length, IfOk, slice_index_or, slice_set};
 ghost use Rattle.std.specs.Prelude.{replicate, pos, false};
 ghost use Rattle.uc_model.specs.PlainUnits.{schedule_of};
-ghost use Rattle.uc_model.specs.declared.limits.TheConstants.{MOST_TASKS, MOST_WORK};
+ghost use Rattle.plain_lists.specs.declared.limits.TheConstants.{MOST_TASKS, MOST_WORK};
 ghost use Rattle.board_store.specs.Answers.{nothing, kept_of};
 
 use crate::table::{Table, put_part, take_part};

@@ -1,12 +1,13 @@
 //! Rows of numbers, and lists of one length one after another.
 ghost use Rattle.std.specs.Prelude.{◌≡◌, ◌+◌, ◌*◌, ◌<◌, ◌≤◌, [], ◌++◌, length, IfOk, replicate};
 ghost use Rattle.std.specs.Prelude.{slice_index_or, slice_set, vec_len, vec_capacity};
-ghost use Rattle.uc_model.specs.declared.limits.TheConstants.{MOST_TASKS, MOST_WORK};
+ghost use Rattle.plain_lists.specs.declared.limits.TheConstants.{MOST_TASKS, MOST_WORK};
 ghost use Rattle.board_store.specs.Parts.{part, with_part};
 
+use plain_lists::lists::{ReservedList, are_zero};
 use std::alloc::{AllocError, Global};
 use std::marker::Model;
-use uc_model::lists::{Powers, ReservedList, are_zero};
+use uc_model::units::Powers;
 
 /// Rows of one length, at first of zeros. A row of zeros has no numbers until another row is
 /// written there.

@@ -1,6 +1,6 @@
 -- Flat lists that begin alike, and those of bids whose first periods have the same blocks.
 use Rattle.board_task.proofs.Common.{◌≡◌, ℕ, zero, suc, ◌+◌, ◌*◌, ◌<◌, ◌≤◌, ℤ, List, [], ◌∷◌, ◌++◌, length, map, get_or, refl, sym, subst, arith, flat_map, Reserved, items_in, period_numbers, Block, AreSame}
-use Rattle.uc_model.specs.Sums.{int_at}
+use Rattle.plain_lists.specs.Sums.{int_at}
 use Rattle.board_task.proofs.Numbers.{blocks_length, none_same}
 
 pub same_cons : (x : ℤ) (own given : List ℤ) (n : ℕ) → AreSame own given n → AreSame (x ∷ own) (x ∷ given) (suc n)

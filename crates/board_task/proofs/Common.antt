@@ -8,7 +8,7 @@ pub use Rattle.uc_model.specs.Data.{ThermalUnit, AnyUnit, Thermal, Flat, Bid, Na
 pub use Rattle.uc_model.specs.Limits.{IsThermalUnit, IsBidUnit, IsRenewableUnit}
 pub use Rattle.uc_model.specs.PlainCases.{chosen_unit, task_unit, market_of}
 pub use Rattle.uc_model.specs.PlainUnits.{named_thermal_of, named_bid_of, named_renewable_of, bid_of, prices_of}
-pub use Rattle.uc_model.specs.Reserved.{Reserved, items_in}
+pub use Rattle.plain_lists.specs.Reserved.{Reserved, items_in}
 pub use Rattle.uc_model.specs.TaskLists.{period_numbers, block_numbers, task_numbers}
 pub use Rattle.uc_model.specs.declared.units.Block.{Block}
 pub use Rattle.uc_model.specs.declared.units.UnitKind.{UnitKind}

@@ -2,7 +2,7 @@
 -- same.
 use Rattle.std.specs.Prelude.{◌≡◌, ℕ, ◌<◌, ◌≤◌, ℤ, List, length}
 use Rattle.uc_model.specs.Data.{ThermalUnit}
-use Rattle.uc_model.specs.Sums.{int_at}
+use Rattle.plain_lists.specs.Sums.{int_at}
 
 abbrev pub HaveSamePowers : ThermalUnit → ThermalUnit → Type 0
 HaveSamePowers a b =

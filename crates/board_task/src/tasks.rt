@@ -4,12 +4,14 @@ ghost use Rattle.std.specs.List.{All};
 ghost use Rattle.uc_model.specs.Data.{units, unit_count};
 ghost use Rattle.uc_model.specs.PlainCases.{market_of, task_unit};
 ghost use Rattle.uc_model.specs.PlainUnits.{prices_of, thermal_of, renewable_of, bid_of};
-ghost use Rattle.uc_model.specs.Reserved.{items_in};
-ghost use Rattle.uc_model.specs.TaskRoom.{room_of, IsTaskFor};
+ghost use Rattle.plain_lists.specs.Reserved.{items_in};
+ghost use Rattle.plain_lists.specs.Reserved.{room_of};
+ghost use Rattle.uc_model.specs.TaskRoom.{IsTaskFor};
 ghost use Rattle.uc_model.specs.declared.limits.TheConstants.{MOST_BLOCKS};
 
+use plain_lists::lists::copy_list;
 use uc_model::cases::{Case, Task};
-use uc_model::copies::{copy_list, copy_unit};
+use uc_model::copies::copy_unit;
 use uc_model::units::{Bid, BlockLists, Prices, Renewable, UnitKind};
 
 /// Leaves prices in others over as many periods.

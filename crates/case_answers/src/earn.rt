@@ -7,9 +7,9 @@ ghost use Rattle.case_answers.specs.Tops.{HasSchedules, IsBenchOver, AreTops};
 
 use crate::answer::answer_at;
 use crate::laws::units_can_answer;
+use plain_lists::lists::Numbers;
 use slope_list::Slopes;
 use uc_model::cases::Case;
-use uc_model::lists::Numbers;
 use uc_model::units::{Answered, Prices};
 use unit_program::Bench;
 

@@ -19,10 +19,11 @@ pub use Rattle.case_make.specs.declared.draws.UnitDraws.{UnitDraws}
 pub use Rattle.rand_pcg.specs.Lcg.{Lcg, next_state}
 unfoldable pub use Rattle.rand_pcg.specs.Lcg.{state_after}
 pub use Rattle.uc_model.specs.Data.{ThermalUnit, Schedule, NamedThermalUnit, NamedRenewableUnit, NamedBidUnit, Market, AnyUnit, Thermal, Flat, units, RenewableUnit}
-pub use Rattle.uc_model.specs.Limits.{IsPower, IsThermalUnit, IsRenewableUnit, IsBidUnit, IsMarket, IsFrom, IsLag, IsPoint, Spans, AreLagsOrdered, ArePointsOrdered}
+pub use Rattle.plain_lists.specs.Ranges.{IsFrom}
+pub use Rattle.uc_model.specs.Limits.{IsPower, IsThermalUnit, IsRenewableUnit, IsBidUnit, IsMarket, IsLag, IsPoint, Spans, AreLagsOrdered, ArePointsOrdered}
 pub use Rattle.uc_model.specs.PlainUnits.{schedule_of, named_thermal_of, named_renewable_of, named_bid_of}
 pub use Rattle.uc_model.specs.Schedules.{on_in, above_min, above_with_reserve, starts_in, stops_in, mark_in, cap_of, IsPeriod, KeepsCommitment, KeepsDispatch, IsThermalFeasible, reserve_in, IsFeasible, IsRenewableFeasible}
-pub use Rattle.uc_model.specs.Sums.{int_at, total, zip_with}
+pub use Rattle.plain_lists.specs.Sums.{int_at, total, zip_with}
 pub use Rattle.uc_model.specs.declared.units.Mark.{Mark}
 pub use Rattle.uc_model.specs.declared.units.Mark.TheVariants.{Free, MustOn, MustOff}
 pub use Rattle.uc_model.specs.declared.units.Point.{Point}

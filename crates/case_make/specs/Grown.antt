@@ -2,7 +2,7 @@
 use Rattle.std.specs.Prelude.{◌≡◌, ℕ, ◌<◌, ◌≤◌, ℤ, pos, List, map, length, slice_index}
 use Rattle.uc_model.specs.Data.{Schedule}
 use Rattle.uc_model.specs.PlainUnits.{schedule_of}
-use Rattle.uc_model.specs.Sums.{int_at}
+use Rattle.plain_lists.specs.Sums.{int_at}
 use Rattle.case_make.specs.declared.growing.Growing.{Growing}
 use Rattle.case_make.specs.Made.{power_sum, reserve_sum}
 

@@ -4,13 +4,13 @@ ghost use Rattle.std.specs.Prelude.{IfOk, map, length, replicate, slice_index};
 ghost use Rattle.std.specs.List.{All};
 ghost use Rattle.uc_model.specs.Limits.{IsPower};
 ghost use Rattle.uc_model.specs.PlainUnits.{schedule_of};
-ghost use Rattle.uc_model.specs.Sums.{int_at};
+ghost use Rattle.plain_lists.specs.Sums.{int_at};
 ghost use Rattle.case_make.specs.Grown.{plan_of, IsSummed, IsSmall, HasRoom, IsSteady};
 
 use crate::make::{PERIODS, UNITS};
+use plain_lists::lists::Numbers;
 use std::alloc::{AllocError, Global};
-use uc_model::lists::{Numbers, Powers};
-use uc_model::units::{Response, ResponseList};
+use uc_model::units::{Powers, Response, ResponseList};
 
 /// The schedules that are made so far, their power in each period, and their reserve, which is one
 /// number in all periods, in kilowatts.

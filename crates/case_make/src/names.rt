@@ -2,8 +2,8 @@
 ghost use Rattle.std.specs.Prelude.{◌≡◌, ◌<◌, IfOk};
 ghost use Rattle.case_make.specs.Made.{name_of};
 
+use plain_lists::lists::Name;
 use std::alloc::{AllocError, Global};
-use uc_model::lists::Name;
 
 /// An ASCII letter and a number in two digits.
 #[tactic(auto, unfolding(crate::specs::Made::name_of))]

@@ -8,10 +8,10 @@ ghost use Rattle.case_make.specs.Words.{moved_on};
 
 use crate::draws::draw;
 use crate::make::PERIODS;
+use plain_lists::lists::{Flags, Numbers};
 use rand_pcg::Pcg32;
 use std::alloc::{AllocError, Global};
-use uc_model::lists::{Flags, Numbers, Powers};
-use uc_model::units::{Renewable, Response};
+use uc_model::units::{Powers, Renewable, Response};
 
 /// Draws the greatest power of a renewable unit in each period, in kilowatts, by the generator's
 /// next 49 words.

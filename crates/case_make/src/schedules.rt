@@ -7,9 +7,9 @@ ghost use Rattle.case_make.specs.Sizes.{AreDrawn};
 
 use crate::draws::UnitDraws;
 use crate::make::PERIODS;
+use plain_lists::lists::Flags;
 use std::alloc::{AllocError, Global};
-use uc_model::lists::{Flags, Powers};
-use uc_model::units::{Answered, Response};
+use uc_model::units::{Answered, Powers, Response};
 
 // Whether a period is one of high power; its place counts from 0.
 #[tactic(auto, unfolding(crate::specs::Drawn::is_high))]

@@ -10,13 +10,14 @@ pub use Rattle.std.specs.Prelude.{int_lt, int_le, unwrap_or, is_some}
 pub use Rattle.cost_curve.specs.Building.{rise_of, extended, IsBuilt}
 pub use Rattle.cost_curve.specs.CostCurve.{AreCostPoints, IsCostCurve, CanEvaluate, IsAmount}
 pub use Rattle.cost_curve.specs.Edges.{point_at, IsEdge, IsLast, IsVertex, AllFirst, net_at, IsSlope, IsStart, LeadsOn, IsWayOn}
-pub use Rattle.uc_model.proofs.IntLaws.{mul-add, mul-sub, mul-mono_of}
-pub use Rattle.uc_model.proofs.SignedLaws.{fits64, stored, IsWithin}
+pub use Rattle.plain_lists.proofs.IntLaws.{mul-add, mul-sub, mul-mono_of}
+pub use Rattle.plain_lists.proofs.SignedLaws.{fits64, stored, IsWithin}
 pub use Rattle.uc_model.specs.BoundLaws.{PowerCostsAreWithin}
 pub use Rattle.uc_model.specs.Curves.{rise_at, curve_value, end_of}
 pub use Rattle.uc_model.specs.Envelope.{envelope, line_at, least_line, IsEnvelope}
 pub use Rattle.uc_model.specs.Laws.{EnvelopeIsGreatest, EnvelopeEarnsAsPoints}
-pub use Rattle.uc_model.specs.Limits.{IsCost, IsFrom, IsPoint, IsPower, Spans, ArePointsOrdered}
+pub use Rattle.plain_lists.specs.Ranges.{IsFrom}
+pub use Rattle.uc_model.specs.Limits.{IsCost, IsPoint, IsPower, Spans, ArePointsOrdered}
 pub use Rattle.uc_model.specs.Schedules.{width_of}
 pub use Rattle.uc_model.specs.declared.units.Block.{Block}
 pub use Rattle.uc_model.specs.declared.units.Curve.{Curve}

@@ -8,7 +8,8 @@ use Rattle.uc_model.specs.declared.units.Curve.{Curve}
 use Rattle.uc_model.specs.declared.units.Point.{Point}
 use Rattle.uc_model.specs.Curves.{curve_value, end_of}
 use Rattle.uc_model.specs.Envelope.{envelope}
-use Rattle.uc_model.specs.Limits.{IsCost, IsFrom, IsCurve, IsPoint, ArePointsOrdered, Spans}
+use Rattle.plain_lists.specs.Ranges.{IsFrom}
+use Rattle.uc_model.specs.Limits.{IsCost, IsCurve, IsPoint, ArePointsOrdered, Spans}
 
 -- the cost points of a unit
 pub record AreCostPoints (ps : List Point) : Type 0 where

@@ -2,7 +2,8 @@
 ghost use Rattle.std.specs.Prelude.{◌≡◌, ◌+◌, ◌<◌, ◌≤◌, ℤ, pos, neg_ℤ, ◌+ℤ◌, ◌-ℤ◌, ◌*ℤ◌, ◌<ℤ◌};
 ghost use Rattle.std.specs.Prelude.{◌≤ℤ◌, length, IsTrue};
 ghost use Rattle.uc_model.specs.Envelope.{envelope, line_at};
-ghost use Rattle.uc_model.specs.Limits.{IsCost, IsFrom, IsPoint, IsPower, Spans};
+ghost use Rattle.plain_lists.specs.Ranges.{IsFrom};
+ghost use Rattle.uc_model.specs.Limits.{IsCost, IsPoint, IsPower, Spans};
 ghost use Rattle.cost_curve.specs.CostCurve.{AreCostPoints};
 ghost use Rattle.cost_curve.specs.Legs.{IsLeg, IsNear, IsOn};
 

@@ -2,7 +2,8 @@
 ghost use Rattle.std.specs.Prelude.{◌≡◌, ◌+◌, ◌-◌, ◌*◌, ◌<◌, ◌≤◌, ℤ, pos, ◌+ℤ◌, ◌-ℤ◌, ◌*ℤ◌, ◌<ℤ◌};
 ghost use Rattle.std.specs.Prelude.{◌≤ℤ◌, [], ◌∷◌, ◌++◌, length, Some, IsSome, IfOk};
 ghost use Rattle.uc_model.specs.Curves.{curve_value};
-ghost use Rattle.uc_model.specs.Limits.{IsFrom, IsPoint};
+ghost use Rattle.plain_lists.specs.Ranges.{IsFrom};
+ghost use Rattle.uc_model.specs.Limits.{IsPoint};
 ghost use Rattle.cost_curve.specs.Building.{extended};
 ghost use Rattle.cost_curve.specs.CostCurve.{AreCostPoints, IsAmount, IsCostCurve, CanEvaluate};
 

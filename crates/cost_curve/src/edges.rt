@@ -1,7 +1,8 @@
 //! The envelope goes from point to point, and needs at most two whole prices between two of them.
 ghost use Rattle.std.specs.Prelude.{◌≡◌, ◌+◌, ◌<◌, ◌≤◌, ◌⊎◌, pos, neg_ℤ, ◌<ℤ◌, ◌≤ℤ◌, length};
 ghost use Rattle.std.specs.Bool.{OnTrue, OnFalse};
-ghost use Rattle.uc_model.specs.Limits.{IsFrom, IsPower, IsPoint};
+ghost use Rattle.plain_lists.specs.Ranges.{IsFrom};
+ghost use Rattle.uc_model.specs.Limits.{IsPower, IsPoint};
 ghost use Rattle.cost_curve.specs.CostCurve.{AreCostPoints};
 
 use uc_model::units::Point;

@@ -5,7 +5,7 @@ use Rattle.std.specs.Prelude.{◌≡◌, ℕ, ◌<◌, ℤ, pos, neg_ℤ, ◌+�
 use Rattle.dual_value.specs.declared.totals.Flow.{Flow}
 use Rattle.dual_value.specs.declared.totals.Flow.TheVariants.{Gives, Takes}
 pub use Rattle.uc_model.specs.Limits.{IsTotal}
-use Rattle.uc_model.specs.Sums.{int_at}
+use Rattle.plain_lists.specs.Sums.{int_at}
 
 -- what a power adds to a total
 abbrev pub amount_of : Flow → ℕ → ℤ

@@ -6,9 +6,9 @@ ghost use Rattle.uc_model.specs.PlainUnits.{schedule_of};
 ghost use Rattle.uc_model.specs.Schedules.{power_in, reserve_in};
 ghost use Rattle.dual_value.specs.Totals.{IsTotal, IsRaised, amount_of};
 
+use plain_lists::lists::{Amounts, are_zero};
 use uc_model::cases::Row;
-use uc_model::lists::{Amounts, Powers, are_zero};
-use uc_model::units::Response;
+use uc_model::units::{Powers, Response};
 
 // Whether a power counts as given to the system or as taken from it.
 #[derive(Clone, Copy)]

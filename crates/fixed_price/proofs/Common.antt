@@ -9,6 +9,6 @@ pub use Rattle.fixed_price.specs.FixedCase.{held_mark, held_unit, held_named, fi
 pub use Rattle.uc_model.specs.Data.{ThermalUnit, NamedThermalUnit, NamedRenewableUnit, NamedBidUnit, AnyUnit, Thermal, Flat, Bid, PriceLists, Schedule, Market, units, unit_count}
 pub use Rattle.uc_model.specs.PlainCases.{market_of, schedules_of}
 pub use Rattle.uc_model.specs.PlainUnits.{named_thermal_of, schedule_of, named_renewable_of, named_bid_of, thermal_of}
-pub use Rattle.uc_model.specs.Reserved.{items_in}
+pub use Rattle.plain_lists.specs.Reserved.{items_in}
 pub use Rattle.uc_model.specs.Schedules.{IsFeasible, reserve_in, on_in, mark_in, IsPeriod, IsThermalFeasible}
-pub use Rattle.uc_model.specs.Sums.{int_at, total, zip_with}
+pub use Rattle.plain_lists.specs.Sums.{int_at, total, zip_with}

@@ -3,7 +3,7 @@ use Rattle.std.specs.Prelude.{Bool, true, false, List, map}
 use Rattle.uc_model.specs.declared.units.Mark.{Mark}
 use Rattle.uc_model.specs.declared.units.Mark.TheVariants.{MustOff, MustOn}
 use Rattle.uc_model.specs.Data.{ThermalUnit, NamedThermalUnit, Schedule, Market}
-use Rattle.uc_model.specs.Sums.{zip_with}
+use Rattle.plain_lists.specs.Sums.{zip_with}
 
 -- on where the schedule is on, and off elsewhere
 abbrev pub held_mark : Bool → Mark

@@ -1,12 +1,12 @@
 //! Copies of what a case has, in memory of their own.
 ghost use Rattle.std.specs.Prelude.{◌≡◌, ◌<◌, ◌≤◌, length, map, IfOk};
 ghost use Rattle.uc_model.specs.PlainUnits.{renewable_of, bid_of, thermal_of, schedule_of};
-ghost use Rattle.uc_model.specs.declared.limits.TheConstants.{MOST_PERIODS, MOST_UNITS};
+ghost use Rattle.plain_lists.specs.declared.limits.TheConstants.{MOST_UNITS};
+ghost use Rattle.uc_model.specs.declared.limits.TheConstants.{MOST_PERIODS};
 ghost use Rattle.fixed_price.specs.FixedCase.{held_mark, held_unit};
 
+use plain_lists::lists::{Flags, ReservedList, copy_list};
 use std::alloc::{AllocError, Global};
-use uc_model::copies::copy_list;
-use uc_model::lists::{Flags, ReservedList};
 use uc_model::units::{Bid, BlockLists, Mark, Marks, Renewable, Response, Unit};
 
 /// A list of the same items.

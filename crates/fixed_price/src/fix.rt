@@ -3,15 +3,15 @@ ghost use Rattle.std.specs.Prelude.{◌≡◌, ◌≤◌, length, map, IfOk};
 ghost use Rattle.uc_model.specs.PlainCases.{market_of, schedules_of};
 ghost use Rattle.uc_model.specs.PlainUnits.{named_thermal_of, named_renewable_of, named_bid_of};
 ghost use Rattle.uc_model.specs.PlainUnits.{thermal_of, schedule_of};
-ghost use Rattle.uc_model.specs.Sums.{zip_with};
+ghost use Rattle.plain_lists.specs.Sums.{zip_with};
 ghost use Rattle.uc_model.specs.Systems.{IsFeasiblePlan};
 ghost use Rattle.uc_model.specs.declared.limits.TheConstants.{MOST_OF_A_KIND};
 ghost use Rattle.fixed_price.specs.FixedCase.{held_named, fixed_market};
 
 use crate::copies::{copied, copied_bid, copied_flat, held};
+use plain_lists::lists::Name;
 use std::alloc::{AllocError, Global};
 use uc_model::cases::{Case, Plan};
-use uc_model::lists::Name;
 use uc_model::units::{BidList, FlatList, NamedBid, NamedFlat, NamedUnit, Response, ThermalList};
 
 // The thermal unit under its name, held to the response's commitment.

@@ -5,13 +5,14 @@ pub use Rattle.std.proofs.lemmas.Int.{ints, clamps, by_lt_z, to_z-of_z}
 pub use Rattle.std.proofs.lemmas.List.{drop_more, drop_all, reverse-append, length-set, ext_get_or}
 pub use Rattle.std.specs.Int.{int_min, w64}
 pub use Rattle.flat_answer.specs.Choices.{IsLeastChoice, IsWithinBlocks, bought_at, added_power, added_gain, IsBetween, sold_at, IsLeastBest, with_power}
-pub use Rattle.uc_model.proofs.IntLaws.{mul-sub, mul-add, mul-mono_of, sum_below-same, sum_below-sub, sum_below-zero, sum_below-le}
-pub use Rattle.uc_model.proofs.SignedLaws.{IsWithin, sum_within, product_within, fits_within}
+pub use Rattle.plain_lists.proofs.IntLaws.{mul-sub, mul-add, mul-mono_of, sum_below-same, sum_below-sub, sum_below-zero, sum_below-le}
+pub use Rattle.plain_lists.proofs.SignedLaws.{IsWithin, sum_within, product_within, fits_within}
 pub use Rattle.uc_model.specs.Data.{RenewableUnit, BidUnit, Flat, Bid, PriceLists, Schedule, AnyUnit}
 pub use Rattle.uc_model.specs.Earnings.{worth_of, earnings, IsBest}
-pub use Rattle.uc_model.specs.Limits.{IsBlock, IsBlockList, IsFrom, price_limit}
+pub use Rattle.plain_lists.specs.Ranges.{IsFrom}
+pub use Rattle.uc_model.specs.Limits.{IsBlock, IsBlockList, price_limit}
 pub use Rattle.uc_model.specs.PlainUnits.{renewable_of, prices_of, schedule_of, bid_of}
 pub use Rattle.uc_model.specs.Schedules.{width_of, blocks_at, IsFeasible, IsSchedule}
-pub use Rattle.uc_model.specs.Sums.{int_at, sum_below}
+pub use Rattle.plain_lists.specs.Sums.{int_at, sum_below}
 pub use Rattle.uc_model.specs.Ties.{ComesBefore, tie_numbers, IsLeast}
 pub use Rattle.uc_model.specs.declared.units.Block.{Block}

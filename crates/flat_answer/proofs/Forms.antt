@@ -1,6 +1,6 @@
 -- Renewable units and bids earn place by place.
 use Rattle.flat_answer.proofs.Common.{◌≡◌, ℕ, zero, suc, ℤ, pos, neg_ℤ, ◌+ℤ◌, ◌-ℤ◌, ◌*ℤ◌, Some, List, [], ◌∷◌, map, length, slice_get, slice_index, slice_index_or, ap, ◌∙◌, arith, ints, *ℤ-zero, Block, RenewableUnit, BidUnit, Flat, Bid, PriceLists, worth_of, blocks_at, int_at, sum_below, mul-sub, sum_below-same, sum_below-sub, sum_below-zero, IsBetween, sold_at, IsWithinBlocks, bought_at}
-use Rattle.uc_model.specs.Reserved.{Reserved, items_in}
+use Rattle.plain_lists.specs.Reserved.{Reserved, items_in}
 use Rattle.flat_answer.proofs.Places.{IsByPlace}
 
 abbrev pub flat_can : RenewableUnit → ℕ → ℕ → Type 0

@@ -5,7 +5,7 @@ use Rattle.std.specs.Prelude.{List, slice_set, true}
 use Rattle.uc_model.specs.declared.units.Block.{Block}
 use Rattle.uc_model.specs.Data.{Schedule}
 use Rattle.uc_model.specs.Earnings.{worth_of}
-use Rattle.uc_model.specs.Limits.{IsFrom}
+use Rattle.plain_lists.specs.Ranges.{IsFrom}
 use Rattle.uc_model.specs.Schedules.{width_of}
 
 -- no power that is allowed earns more, and each that earns as much is at least this one

@@ -3,10 +3,11 @@ ghost use Rattle.std.specs.Prelude.{◌≡◌, ◌<◌, pos, neg_ℤ, ◌+ℤ◌
 ghost use Rattle.std.specs.Prelude.{length};
 ghost use Rattle.uc_model.specs.Data.{Bid as BidOf};
 ghost use Rattle.uc_model.specs.Earnings.{earnings};
-ghost use Rattle.uc_model.specs.Limits.{IsFrom, IsPower, IsBlock, IsBlockList, price_limit};
+ghost use Rattle.plain_lists.specs.Ranges.{IsFrom};
+ghost use Rattle.uc_model.specs.Limits.{IsPower, IsBlock, IsBlockList, price_limit};
 ghost use Rattle.uc_model.specs.PlainUnits.{bid_of, prices_of, schedule_of};
 ghost use Rattle.uc_model.specs.Schedules.{blocks_at};
-ghost use Rattle.uc_model.specs.Sums.{int_at};
+ghost use Rattle.plain_lists.specs.Sums.{int_at};
 ghost use Rattle.uc_model.specs.Ties.{IsLeast};
 ghost use Rattle.flat_answer.specs.Choices.{IsLeastChoice, IsWithinBlocks, bought_at, added_power};
 ghost use Rattle.flat_answer.specs.Choices.{added_gain};

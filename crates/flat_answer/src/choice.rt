@@ -1,6 +1,7 @@
 //! A power of one period, and how it is kept.
 ghost use Rattle.std.specs.Prelude.{◌≡◌, ◌<◌, pos, neg_ℤ, ◌+ℤ◌, ◌*ℤ◌, length};
-ghost use Rattle.uc_model.specs.Limits.{IsFrom, IsPower, price_limit};
+ghost use Rattle.plain_lists.specs.Ranges.{IsFrom};
+ghost use Rattle.uc_model.specs.Limits.{IsPower, price_limit};
 ghost use Rattle.uc_model.specs.PlainUnits.{schedule_of};
 ghost use Rattle.uc_model.specs.declared.limits.TheConstants.{GAIN_LIMIT};
 ghost use Rattle.flat_answer.specs.Choices.{with_power};

@@ -2,9 +2,10 @@
 ghost use Rattle.std.specs.Prelude.{◌≡◌, ◌<◌, ◌≤ℤ◌, pos, neg_ℤ, length};
 ghost use Rattle.uc_model.specs.Data.{Flat};
 ghost use Rattle.uc_model.specs.Earnings.{earnings};
-ghost use Rattle.uc_model.specs.Limits.{IsFrom, IsPower, price_limit};
+ghost use Rattle.plain_lists.specs.Ranges.{IsFrom};
+ghost use Rattle.uc_model.specs.Limits.{IsPower, price_limit};
 ghost use Rattle.uc_model.specs.PlainUnits.{renewable_of, prices_of, schedule_of};
-ghost use Rattle.uc_model.specs.Sums.{int_at};
+ghost use Rattle.plain_lists.specs.Sums.{int_at};
 ghost use Rattle.uc_model.specs.Ties.{IsLeast};
 ghost use Rattle.flat_answer.specs.Choices.{IsLeastChoice, IsBetween, sold_at};
 

@@ -19,13 +19,14 @@ unfoldable pub use Rattle.gap_proof.specs.CertifiedBound.{certified_bound}
 pub use Rattle.gap_proof.specs.Laws.{IsAnswered, ArePriced, AreWeights, IsInBox, RunBoundsHold, RunPricesAreWithin, AnsweredRowsAreWithin}
 pub use Rattle.gap_proof.specs.Sums.{IsSlopeSum, IsHeightSum, AreSums, IsWeight, IsRowWithin}
 pub use Rattle.price_move.specs.Sizes.{IsRowOver}
-pub use Rattle.uc_model.proofs.IntLaws.{mul-sub, mul-add, mul-mono_of, sum_below-le, sum_below-same, sum_below-add, sum_below-zero, sum_below-sub, total-sum_below, total-mul}
-pub use Rattle.uc_model.proofs.SignedLaws.{IsWithin, product_within, fits_within, clamped_from, sum_within}
+pub use Rattle.plain_lists.proofs.IntLaws.{mul-sub, mul-add, mul-mono_of, sum_below-le, sum_below-same, sum_below-add, sum_below-zero, sum_below-sub, total-sum_below, total-mul}
+pub use Rattle.plain_lists.proofs.SignedLaws.{IsWithin, product_within, fits_within, clamped_from, sum_within}
 pub use Rattle.uc_model.specs.Data.{PriceLists, Market, AnyUnit, Schedule, units, Thermal, Flat, Bid}
-pub use Rattle.uc_model.specs.Limits.{IsFrom, IsMarket, ArePrices, price_limit, IsUnit, IsTotal, IsPower}
+pub use Rattle.plain_lists.specs.Ranges.{IsFrom}
+pub use Rattle.uc_model.specs.Limits.{IsMarket, ArePrices, price_limit, IsUnit, IsTotal, IsPower}
 pub use Rattle.uc_model.specs.PlainCases.{market_of, proposal_of}
 pub use Rattle.uc_model.specs.PlainUnits.{prices_of}
 pub use Rattle.uc_model.specs.PriceRule.{Proposal, no_prices, start_price, start_prices, opening_prices_of, stepped_prices, move_of, squared_length, energy_direction, reserve_direction, age, next_prices, price_rule}
 pub use Rattle.uc_model.specs.Runs.{Fits, IsNextRow, HasTotals}
-pub use Rattle.uc_model.specs.Sums.{int_at, total, floor_div, sum_below, clamped, zip_with}
+pub use Rattle.plain_lists.specs.Sums.{int_at, total, floor_div, sum_below, clamped, zip_with}
 pub use Rattle.uc_model.specs.Systems.{IsDualValue, total_power, total_reserve, worth_of_demand}

@@ -12,7 +12,7 @@ use Rattle.std.specs.Int.{int_min, int_max}
 use Rattle.uc_model.specs.Data.{PriceLists, Market}
 use Rattle.uc_model.specs.Limits.{price_limit}
 use Rattle.uc_model.specs.PriceRule.{Proposal}
-use Rattle.uc_model.specs.Sums.{int_at, total, sum_below, floor_div, zip_with}
+use Rattle.plain_lists.specs.Sums.{int_at, total, sum_below, floor_div, zip_with}
 
 -- the price at a place, and the lowest that it may be; the highest is one for all
 abbrev pub price_at : Market → PriceLists → ℕ → ℤ

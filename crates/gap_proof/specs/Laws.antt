@@ -4,10 +4,11 @@ use Rattle.std.specs.Prelude.{◌≡◌, ℕ, ◌-◌, ◌*◌, ◌<◌, ◌≤�
 use Rattle.std.specs.Prelude.{length, slice_get}
 use Rattle.std.specs.List.{All, AllZip}
 use Rattle.uc_model.specs.Data.{PriceLists, Schedule, Market, units}
-use Rattle.uc_model.specs.Limits.{IsFrom, ArePrices, IsMarket, price_limit}
+use Rattle.plain_lists.specs.Ranges.{IsFrom}
+use Rattle.uc_model.specs.Limits.{ArePrices, IsMarket, price_limit}
 use Rattle.uc_model.specs.PriceRule.{Proposal}
 use Rattle.uc_model.specs.Runs.{HasTotals, Fits, IsRun}
-use Rattle.uc_model.specs.Sums.{total}
+use Rattle.plain_lists.specs.Sums.{total}
 use Rattle.uc_model.specs.Systems.{IsDualValue}
 use Rattle.gap_proof.specs.CertifiedBound.{price_at, low_end, high_end, certified_bound}
 use Rattle.gap_proof.specs.Candidates.{RowRange, IsFirstLeast, prices_of_row}

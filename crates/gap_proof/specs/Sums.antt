@@ -1,10 +1,11 @@
 -- Sizes, and sums as they run while rows are added (this project's profile).
 use Rattle.std.specs.Prelude.{◌≡◌, ℕ, ◌*◌, ◌<◌, ℤ, pos, neg_ℤ, List, length}
 use Rattle.uc_model.specs.Data.{Market}
-use Rattle.uc_model.specs.declared.limits.TheConstants.{MOST_RADIUS}
-use Rattle.uc_model.specs.Limits.{IsFrom, IsWorth}
+use Rattle.plain_lists.specs.declared.limits.TheConstants.{MOST_RADIUS}
+use Rattle.plain_lists.specs.Ranges.{IsFrom}
+use Rattle.uc_model.specs.Limits.{IsWorth}
 use Rattle.uc_model.specs.PriceRule.{Proposal}
-use Rattle.uc_model.specs.Sums.{int_at, total}
+use Rattle.plain_lists.specs.Sums.{int_at, total}
 use Rattle.price_move.specs.Sizes.{IsRowOver}
 use Rattle.gap_proof.specs.CertifiedBound.{slope_at, height_of, weighted}
 

@@ -2,15 +2,15 @@
 ghost use Rattle.std.specs.Prelude.{◌≡◌, ◌<◌, ◌≤◌, ◌*◌, length, map, Some, slice_get};
 ghost use Rattle.std.specs.List.{All};
 ghost use Rattle.uc_model.specs.PlainCases.{market_of, proposal_of};
-ghost use Rattle.uc_model.specs.declared.limits.TheConstants.{MOST_PROPOSALS};
+ghost use Rattle.plain_lists.specs.declared.limits.TheConstants.{MOST_PROPOSALS};
 ghost use Rattle.gap_proof.specs.Candidates.{prices_of_row};
 ghost use Rattle.gap_proof.specs.CertifiedBound.{certified_bound};
 ghost use Rattle.gap_proof.specs.Laws.{AreWeights};
 ghost use Rattle.gap_proof.specs.Sums.{IsRowWithin, IsWeight, IsRadius};
 
 use crate::sums::{Sums, add_row, bound_by, clear_slopes};
+use plain_lists::lists::{Amounts, Numbers};
 use uc_model::cases::{Case, Row};
-use uc_model::lists::{Amounts, Numbers};
 
 /// The row of a place.
 pub fn row_at(rows: &[Row], place: usize) -> &Row

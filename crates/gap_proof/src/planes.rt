@@ -1,16 +1,17 @@
 //! The plane of a row: what its totals lack, and where the plane stands at prices of 0.
 ghost use Rattle.std.specs.Prelude.{◌≡◌, ℕ, ◌<◌, ◌*◌, neg_ℤ, ◌+ℤ◌, ◌-ℤ◌, ◌*ℤ◌, length};
 ghost use Rattle.std.specs.List.{All};
-ghost use Rattle.uc_model.specs.Limits.{IsFrom, IsPower, IsTotal, price_limit};
+ghost use Rattle.plain_lists.specs.Ranges.{IsFrom};
+ghost use Rattle.uc_model.specs.Limits.{IsPower, IsTotal, price_limit};
 ghost use Rattle.uc_model.specs.PlainCases.{market_of, proposal_of};
 ghost use Rattle.uc_model.specs.PlainUnits.{prices_of};
-ghost use Rattle.uc_model.specs.Sums.{int_at};
+ghost use Rattle.plain_lists.specs.Sums.{int_at};
 ghost use Rattle.price_move.specs.Sizes.{IsEntry, IsRowOver};
 ghost use Rattle.gap_proof.specs.CertifiedBound.{price_at, slope_at, height_of};
 ghost use Rattle.gap_proof.specs.Sums.{IsRowWithin, IsUpTo, IsWeight, IsHeight, IsSlopeSum};
 
+use plain_lists::lists::Amounts;
 use uc_model::cases::{Case, Row};
-use uc_model::lists::Amounts;
 use uc_model::units::Prices;
 
 // What a total lacks of the power that is required.

@@ -3,14 +3,14 @@ ghost use Rattle.std.specs.Prelude.{◌≡◌, ℕ, ◌<◌, ◌≤◌, ◌*◌,
 ghost use Rattle.std.specs.List.{All};
 ghost use Rattle.uc_model.specs.PlainCases.{market_of, proposal_of};
 ghost use Rattle.uc_model.specs.PlainUnits.{prices_of};
-ghost use Rattle.uc_model.specs.declared.limits.TheConstants.{MOST_PROPOSALS};
+ghost use Rattle.plain_lists.specs.declared.limits.TheConstants.{MOST_PROPOSALS};
 ghost use Rattle.gap_proof.specs.Candidates.{prices_of_row, range_bound, IsFirstLeast};
 ghost use Rattle.gap_proof.specs.Sums.{IsRowWithin, IsRadius, AreSums, most_bound};
 
 use crate::bound::row_at;
 use crate::sums::{Sums, add_row, bound_by, clear_slopes};
+use plain_lists::lists::Amounts;
 use uc_model::cases::{Case, Row};
-use uc_model::lists::Amounts;
 use uc_model::units::Prices;
 
 /// A bound in money on the dual values of all prices in a box, and the rows from `first` to

@@ -3,10 +3,11 @@ ghost use Rattle.std.specs.Prelude.{◌≡◌, ℕ, ◌<◌, ◌*◌, pos, neg_�
 ghost use Rattle.std.specs.Prelude.{unsigned_abs, ◌≤ℤ◌};
 ghost use Rattle.std.specs.Int.{int_max};
 ghost use Rattle.std.specs.List.{All};
-ghost use Rattle.uc_model.specs.Limits.{IsFrom, price_limit};
+ghost use Rattle.plain_lists.specs.Ranges.{IsFrom};
+ghost use Rattle.uc_model.specs.Limits.{price_limit};
 ghost use Rattle.uc_model.specs.PlainCases.{market_of, proposal_of};
 ghost use Rattle.uc_model.specs.PlainUnits.{prices_of};
-ghost use Rattle.uc_model.specs.Sums.{int_at, floor_div};
+ghost use Rattle.plain_lists.specs.Sums.{int_at, floor_div};
 ghost use Rattle.gap_proof.specs.CertifiedBound.{slope_at, height_of, lowest_price};
 ghost use Rattle.gap_proof.specs.CertifiedBound.{low_end, high_end, most_over};
 ghost use Rattle.gap_proof.specs.Sums.{IsRowWithin, IsWeight, IsRadius, IsHeight};
@@ -14,9 +15,9 @@ ghost use Rattle.gap_proof.specs.Sums.{IsHeightStep, IsHeightSum, IsSlopeSum, Is
 ghost use Rattle.gap_proof.specs.Sums.{most_bound};
 
 use crate::planes::{add_slopes, height, price};
+use plain_lists::lists::Amounts;
 use uc_model::cases::{Case, Row};
 use uc_model::limits::PRICE_LIMIT;
-use uc_model::lists::Amounts;
 use uc_model::units::Prices;
 
 /// What weighted rows sum to, beside their slopes.

@@ -1,6 +1,6 @@
 -- What was read of a file, of the two files of an input, and of a report beside them.
 use Rattle.hull_engine.proofs.Common.{◌≡◌, ℕ, ◌+◌, ◌<◌, ◌≤◌, Bool, true, false, List, [], length, replicate, Option, None, Some, Ok, Err, refl, inl, inr, arith, IfSome, nat_lt, if◌then◌else◌, length-replicate, le-ltb, lt-ltb, Rose, CaseFile, ScheduleFile, ReportFile, TooBig, Reads, bytes_of, IsBytes, IsReadOf, case_and_schedule, with_report, AreReads, HasRead}
-use Rattle.uc_model.specs.declared.limits.TheConstants.{MOST_BYTES}
+use Rattle.plain_lists.specs.declared.limits.TheConstants.{MOST_BYTES}
 use Rattle.hull_report.specs.declared.fault.FileKind.{FileKind}
 
 -- ---- the bytes of one file

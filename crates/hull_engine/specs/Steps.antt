@@ -7,7 +7,7 @@ use Rattle.std.specs.Result.{result_map_both}
 use Rattle.uc_model.specs.Data.{Market, Schedule, unit_count}
 use Rattle.uc_model.specs.Systems.{IsFeasiblePlan, plan_cost}
 use Rattle.uc_model.specs.Refusals.{refusals}
-use Rattle.uc_model.specs.declared.limits.TheConstants.{MOST_BYTES, MOST_WORK}
+use Rattle.plain_lists.specs.declared.limits.TheConstants.{MOST_BYTES, MOST_WORK}
 use Rattle.case_make.specs.Made.{made}
 use Rattle.uc_case.specs.Files.{FileFault, text, value}
 use Rattle.uc_case.specs.CaseFiles.{IsCaseOf}

@@ -17,6 +17,7 @@ ghost use Rattle.board_run.specs.Inputs.{planned_of, IsPlanned};
 use board_run::Input;
 use hull_io::{ReadFault, Shelf, read_whole};
 use hull_report::{FileKind, TopFault};
+use plain_lists::limits::MOST_BYTES;
 use plan_check::check_plan;
 use plan_check::laws::refusals_are_exact;
 use report_read::{Report, ReportError, read_report};
@@ -24,7 +25,6 @@ use std::alloc::Global;
 use uc_case::fault::CaseFault;
 use uc_case::read_case;
 use uc_model::cases::{Case, Plan};
-use uc_model::limits::MOST_BYTES;
 use uc_plan::fault::PlanFault;
 use uc_plan::read_plan;
 

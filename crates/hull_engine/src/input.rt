@@ -1,6 +1,7 @@
 //! The limit of work of a run.
 ghost use Rattle.std.specs.Prelude.{◌≡◌, ◌≤◌, ◌*◌, ℕ, Ok, IfOk};
-ghost use Rattle.uc_model.specs.declared.limits.TheConstants.{MOST_PERIODS, MOST_UNITS};
+ghost use Rattle.plain_lists.specs.declared.limits.TheConstants.{MOST_UNITS};
+ghost use Rattle.uc_model.specs.declared.limits.TheConstants.{MOST_PERIODS};
 ghost use Rattle.board_run.specs.Inputs.{planned_of, IsPlanned, IsRunInput};
 ghost use Rattle.board_run.specs.Sizes.{IsRunSize};
 ghost use Rattle.hull_engine.specs.Steps.{IsWithinWork};
@@ -8,7 +9,7 @@ ghost use Rattle.hull_engine.specs.Answers.{IsAnswer};
 
 use board_run::{Input, RunInput, RunSize, unit_count};
 use hull_report::TopFault;
-use uc_model::limits::MOST_WORK;
+use plain_lists::limits::MOST_WORK;
 
 /// So many proposals, units and periods multiplied.
 fn work_of(proposals: u32, units: u32, periods: u32) -> u64

@@ -2,9 +2,9 @@
 ghost use Rattle.std.specs.Prelude.{◌≤◌};
 ghost use Rattle.board_run.specs.Sizes.{IsWorkers};
 
+use plain_lists::limits::MOST_WORKERS;
 use std::thread;
 use std::thread::Threads;
-use uc_model::limits::MOST_WORKERS;
 
 /// So many workers are never too many, however few processors there are: a gate may let a few tasks
 /// wait for one another.

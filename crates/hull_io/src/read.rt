@@ -2,11 +2,11 @@
 ghost use Rattle.std.specs.Prelude.{◌≡◌, ℕ, ◌+◌, ◌<◌, ◌≤◌, List, length, IfOk, IfSome, IsErrOf};
 ghost use Rattle.std.specs.Prelude.{vec_len};
 ghost use Rattle.hull_io.specs.Edge.{Rose};
-ghost use Rattle.uc_model.specs.declared.limits.TheConstants.{MOST_BYTES};
+ghost use Rattle.plain_lists.specs.declared.limits.TheConstants.{MOST_BYTES};
 
 use crate::{ReadFailed, Shelf};
+use plain_lists::limits::MOST_BYTES;
 use std::alloc::Global;
-use uc_model::limits::MOST_BYTES;
 
 /// Why a file wasn't read.
 #[derive(Debug, Clone, Copy, PartialEq, Eq)]

@@ -30,7 +30,7 @@ unfoldable pub use Rattle.hull_report.specs.TryText.{try_lines}
 pub use Rattle.report_form.specs.Laws.{GainsAddUp, IsFlatLine}
 pub use Rattle.report_form.specs.ReportText.{UnitLine, Report, head_text, rows_text, chosen_text, thermal_text, renewable_text, bid_text, foot_text}
 unfoldable pub use Rattle.report_form.specs.ReportText.{report_text}
-pub use Rattle.uc_model.proofs.ListLaws.{flat_map_at, flat_map_up_to, length_same, length-zip_with}
+pub use Rattle.plain_lists.proofs.ListLaws.{flat_map_at, flat_map_up_to, length_same, length-zip_with}
 pub use Rattle.uc_model.specs.Data.{PriceLists, Schedule, Market, units, AnyUnit, NamedThermalUnit, NamedRenewableUnit, NamedBidUnit, unit_count, Thermal, Flat, Bid}
 pub use Rattle.uc_model.specs.Earnings.{IsTop, earnings}
 pub use Rattle.uc_model.specs.Laws.{OneLeast, PaymentsMakeUpTheGap}
@@ -39,7 +39,7 @@ pub use Rattle.uc_model.specs.PlainUnits.{named_thermal_of, named_renewable_of, 
 pub use Rattle.uc_model.specs.PriceRule.{Proposal, no_prices, first_greatest, chosen_number, is_settled}
 pub use Rattle.uc_model.specs.Runs.{Fits, HasTotals, IsNextRow, AreRightRows, IsRun}
 pub use Rattle.uc_model.specs.Schedules.{IsFeasible, IsSchedule}
-pub use Rattle.uc_model.specs.Sums.{total, zip_with, int_at}
+pub use Rattle.plain_lists.specs.Sums.{total, zip_with, int_at}
 pub use Rattle.uc_model.specs.Systems.{plan_cost, IsDualValue, IsSettled, worth_of_demand}
 pub use Rattle.uc_model.specs.declared.cases.Row.{Row}
 pub use Rattle.uplift_settle.specs.declared.settlement.Settlement.{Settlement}

@@ -5,7 +5,7 @@ use Rattle.uc_model.specs.declared.cases.Case.{Case}
 use Rattle.uc_model.specs.declared.units.NamedUnit.{NamedUnit}
 use Rattle.uc_model.specs.declared.units.NamedFlat.{NamedFlat}
 use Rattle.uc_model.specs.declared.units.NamedBid.{NamedBid}
-use Rattle.uc_model.proofs.SignedLaws.{IsWithin, fits_within}
+use Rattle.plain_lists.proofs.SignedLaws.{IsWithin, fits_within}
 use Rattle.hull_report.proofs.Records.{chosen_is}
 use Rattle.hull_report.proofs.UnitLines.{length-lines, line_at}
 

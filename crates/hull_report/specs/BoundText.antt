@@ -1,7 +1,7 @@
 -- The text of `hull bound` (this project's profile).
 use Rattle.std.specs.Prelude.{ℕ, ℤ, pos, neg_ℤ, ◌-ℤ◌, List, [], ◌∷◌, codes}
 use Rattle.std.specs.List.{concat}
-use Rattle.uc_model.specs.Limits.{IsFrom}
+use Rattle.plain_lists.specs.Ranges.{IsFrom}
 use Rattle.report_form.specs.Numerals.{numeral, signed_numeral}
 
 -- a value or a bound, at most 10^35 in magnitude: any bound that is certified round a row

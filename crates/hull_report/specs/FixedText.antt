@@ -3,7 +3,7 @@ use Rattle.std.specs.Prelude.{ℕ, ◌+◌, ℤ, List, [], ◌∷◌, ◌++◌, 
 use Rattle.std.specs.List.{concat, flat_map}
 use Rattle.uc_model.specs.Data.{PriceLists, Market, thermal_names, renewable_names, bid_names}
 use Rattle.uc_model.specs.PlainUnits.{prices_of}
-use Rattle.uc_model.specs.Sums.{int_at}
+use Rattle.plain_lists.specs.Sums.{int_at}
 use Rattle.report_form.specs.Numerals.{numeral, signed_numeral}
 use Rattle.report_form.specs.Parts.{spaced, quoted}
 use Rattle.hull_report.specs.RecordReport.{lines_from}

@@ -15,10 +15,10 @@ use crate::record::choice_of;
 use board_core::Closed;
 use board_history::laws::rows_are_within;
 use hull_io::{Sink, WriteFailed};
+use plain_lists::lists::copy_list;
 use report_form::laws::texts_add_up;
 use report_form::{Part, write_parts};
 use uc_model::cases::Case;
-use uc_model::copies::copy_list;
 use uc_model::units::Prices;
 use uplift_settle::Settlement;
 

@@ -5,7 +5,7 @@ ghost use Rattle.board_history.specs.Calls.{own_rows, has_finished};
 ghost use Rattle.hull_io.specs.Edge.{Writes};
 ghost use Rattle.uc_model.specs.Data.{unit_count};
 ghost use Rattle.uc_model.specs.PlainUnits.{schedule_of};
-ghost use Rattle.uc_model.specs.declared.limits.TheConstants.{MOST_PROPOSALS};
+ghost use Rattle.plain_lists.specs.declared.limits.TheConstants.{MOST_PROPOSALS};
 ghost use Rattle.report_form.specs.ReportText.{rows_text, head_text, chosen_text, thermal_text};
 ghost use Rattle.report_form.specs.ReportText.{renewable_text, bid_text, report_text};
 ghost use Rattle.hull_report.specs.BoundText.{IsTold};

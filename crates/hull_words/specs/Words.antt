@@ -27,8 +27,8 @@ use Rattle.hull_words.specs.Spelling.{command_named, options, spelling}
 use Rattle.hull_words.specs.Texts.{is_option, option_name, own_value, takes_next, can_be_value}
 use Rattle.hull_words.specs.Texts.{number_in}
 use Rattle.hull_words.specs.Asked.{Asked, Found, asked_from}
-use Rattle.uc_model.specs.declared.limits.TheConstants.{MOST_PROPOSALS, MOST_WORKERS}
-use Rattle.uc_model.specs.declared.limits.TheConstants.{MOST_AHEAD, MOST_RADIUS}
+use Rattle.plain_lists.specs.declared.limits.TheConstants.{MOST_PROPOSALS, MOST_WORKERS}
+use Rattle.plain_lists.specs.declared.limits.TheConstants.{MOST_AHEAD, MOST_RADIUS}
 
 -- ---- one option
 

@@ -1,6 +1,6 @@
 //! The commands, with what their words give them.
 
-use uc_model::lists::Name;
+use plain_lists::lists::Name;
 
 /// The words of `hull price` and of `hull fixed`.
 #[derive(Drop)]

@@ -7,7 +7,7 @@ ghost use Rattle.hull_words.specs.Reading.{found_so_far, nothing, is_set, set_to
 use crate::fault::WordCode;
 use crate::kinds::OptionKind;
 use crate::text::number;
-use uc_model::limits::{MOST_AHEAD, MOST_PROPOSALS, MOST_RADIUS, MOST_WORKERS};
+use plain_lists::limits::{MOST_AHEAD, MOST_PROPOSALS, MOST_RADIUS, MOST_WORKERS};
 
 /// The values that the words gave so far, each where it was given.
 #[derive(Clone, Copy)]

@@ -14,8 +14,8 @@ use crate::fault::{WordCode, WordError, WordFault};
 use crate::given::Given;
 use crate::kinds::CommandKind;
 use crate::text::{is_value, number, option_parts};
+use plain_lists::lists::Name;
 use std::alloc::Global;
-use uc_model::lists::Name;
 
 /// Takes an option with its value.
 fn read_option<'a>(

@@ -13,7 +13,7 @@ pub use Rattle.hull_engine.specs.Outcome.{command_for, IsReadOf, AreReads, with_
 pub use Rattle.hull_engine.specs.Steps.{Reads, bytes_of, IsInput, IsWithinWork, IsReportFile, IsAudit, Goes, Then, IsBytes, case_fault, plan_fault, IsCase, IsCaseFile, IsPlan, IsPlanFile, IsChecked, IsMade, IsReportIn, IsJudged}
 pub use Rattle.hull_engine.specs.declared.end.End.{End}
 pub use Rattle.hull_engine.specs.declared.end.End.TheVariants.{Done, Cut, Refused, Done as done_whole}
-pub use Rattle.uc_model.specs.declared.limits.TheConstants.{MOST_BYTES}
+pub use Rattle.plain_lists.specs.declared.limits.TheConstants.{MOST_BYTES}
 pub use Rattle.hull_report.specs.FaultLines.{status_of, fault_line}
 pub use Rattle.hull_report.specs.Laws.{RightReportHasForm, ReportPaymentsMakeUpTheGap, OneIsChosen, OneRightReport}
 pub use Rattle.hull_report.specs.RightReport.{unit_lines, IsRightReport}
@@ -30,5 +30,5 @@ pub use Rattle.law_outcome.specs.Laws.{OverReads, IsAuditPromised, IsWrongAt, Is
 pub use Rattle.uc_model.specs.Data.{Market, Schedule, unit_count}
 pub use Rattle.uc_model.specs.Laws.{NothingIsPaidBack}
 pub use Rattle.uc_model.specs.PriceRule.{Proposal, chosen_number}
-pub use Rattle.uc_model.specs.Sums.{int_at}
+pub use Rattle.plain_lists.specs.Sums.{int_at}
 pub use Rattle.uc_model.specs.Systems.{plan_cost, IsFeasiblePlan}

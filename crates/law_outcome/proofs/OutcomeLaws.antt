@@ -5,7 +5,7 @@ use Rattle.uc_case.specs.CaseFiles.{IsCaseOf}
 use Rattle.uc_plan.specs.PlanFiles.{IsPlanOf}
 use Rattle.hull_report.specs.declared.fault.FileKind.{FileKind}
 use Rattle.law_outcome.proofs.OneDue.{AreOne, one_due}
-use Rattle.uc_model.specs.declared.limits.TheConstants.{MOST_WORK}
+use Rattle.plain_lists.specs.declared.limits.TheConstants.{MOST_WORK}
 
 -- ---- a fault by its status
 

@@ -13,7 +13,7 @@ use Rattle.uc_model.specs.Systems.{IsFeasiblePlan, plan_cost}
 use Rattle.uc_case.specs.CaseFiles.{IsCaseOf}
 use Rattle.uc_plan.specs.PlanFiles.{IsPlanOf}
 use Rattle.hull_io.specs.Edge.{Rose, Gains, FallsShort}
-use Rattle.uc_model.specs.declared.limits.TheConstants.{MOST_BYTES}
+use Rattle.plain_lists.specs.declared.limits.TheConstants.{MOST_BYTES}
 use Rattle.hull_words.specs.Asked.{Asked, CheckAsked, PriceAsked, TryAsked, BoundAsked, AuditAsked}
 use Rattle.hull_words.specs.Asked.{check, price, try, bound, fixed, audit}
 use Rattle.hull_words.specs.Words.{words_of}

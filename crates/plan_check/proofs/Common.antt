@@ -12,17 +12,18 @@ pub use Rattle.std.specs.Prelude.{slice_get, int_le, slice_index_or, nat_le, sli
 pub use Rattle.plan_check.specs.Costs.{sum_over, thermal_units, bid_units, worth_at, start_cost_at, production_at}
 pub use Rattle.plan_check.specs.States.{run_broken, rule_refusals, IsStateIn, thermal_broken, told_shift}
 pub use Rattle.plan_check.specs.Totals.{powers_at, reserves_at}
-pub use Rattle.uc_model.proofs.ListLaws.{none_some, same_item, head_of, tail_of, true_or_false, item_of, map_item, zip_item, front_item, sum_more, drop_item, drop-map}
+pub use Rattle.plain_lists.proofs.ListLaws.{none_some, same_item, head_of, tail_of, true_or_false, item_of, map_item, zip_item, front_item, sum_more, drop_item, drop-map}
 pub use Rattle.uc_model.specs.Data.{ThermalUnit, Schedule, NamedThermalUnit, NamedRenewableUnit, NamedBidUnit, AnyUnit, Thermal, Flat, Bid, RenewableUnit, BidUnit, Market, units, unit_count}
 pub use Rattle.uc_model.specs.Earnings.{supply_in, cost_of, worth_of}
 pub use Rattle.uc_model.specs.Laws.{HasPlanShape, RefusalsAreExact}
-pub use Rattle.uc_model.specs.Limits.{IsFrom, IsThermalUnit, Spans, IsBlockList, IsBidUnit, IsPower, IsRenewableUnit}
+pub use Rattle.plain_lists.specs.Ranges.{IsFrom}
+pub use Rattle.uc_model.specs.Limits.{IsThermalUnit, Spans, IsBlockList, IsBidUnit, IsPower, IsRenewableUnit}
 pub use Rattle.uc_model.specs.PlainCases.{market_of, schedules_of}
 pub use Rattle.uc_model.specs.PlainUnits.{schedule_of, thermal_of, named_thermal_of, bid_of, named_bid_of, renewable_of, named_renewable_of}
 pub use Rattle.uc_model.specs.Refusals.{same_flag, changed_in, min_up_broken, min_down_broken, Refusal, told, renewable_broken, bid_broken, thermal_refusals, all_thermal, all_renewable, all_bids, unless, balance_broken, reserve_broken, refusals, or_else, must_run_broken, initial_broken, range_broken, start_broken, output_in, stop_broken, ramp_up_broken, ramp_down_broken, mark_broken, window_broken}
-pub use Rattle.uc_model.specs.Reserved.{items_in}
+pub use Rattle.plain_lists.specs.Reserved.{items_in}
 pub use Rattle.uc_model.specs.Schedules.{on_in, power_in, IsPeriod, IsThermalFeasible, IsFeasible, IsRenewableFeasible, IsBidFeasible, width_of, blocks_at, starts_in, stops_in, reserve_in, above_min, above_with_reserve, mark_in, KeepsCommitment, cap_of, KeepsDispatch, time_down}
-pub use Rattle.uc_model.specs.Sums.{int_at, total, sum_below}
+pub use Rattle.plain_lists.specs.Sums.{int_at, total, sum_below}
 pub use Rattle.uc_model.specs.Systems.{total_power, total_reserve, IsFeasiblePlan, plan_cost}
 pub use Rattle.uc_model.specs.declared.kinds.RuleCode.TheVariants.{RenewableRange, BidRange, MustRun, Initial, MinUp, MinDown, Range, StartCap, StopCap, RampUp, RampDown, Window, Balance, Reserve}
 pub use Rattle.uc_model.specs.declared.units.Block.{Block}

@@ -1,8 +1,8 @@
 -- What a block is worth fits its type, and the power of an on period lies within the cost points.
 use Rattle.plan_check.proofs.Common.{◌≡◌, ℕ, suc, ◌<◌, ◌≤◌, ℤ, pos, ◌+ℤ◌, ◌-ℤ◌, ◌*ℤ◌, int_min, Bool, true, false, cond, length, ap, ◌∙◌, arith, w64, FitsSigned, ints, clamps, to_z-of_z, ThermalUnit, Schedule, IsFrom, IsThermalUnit, Spans, on_in, power_in, IsPeriod, IsThermalFeasible}
 use Rattle.std.proofs.Math.IntN.{*ℤ_comm, *ℤ-zero}
-use Rattle.uc_model.proofs.IntLaws.{mul-mono_of}
-use Rattle.uc_model.proofs.SignedLaws.{fits64, stored}
+use Rattle.plain_lists.proofs.IntLaws.{mul-mono_of}
+use Rattle.plain_lists.proofs.SignedLaws.{fits64, stored}
 use Rattle.plan_check.proofs.ThermalLaws.{above_on}
 
 pub cond_at_most : (b : Bool) (n : ℕ) → cond b 0 (suc n) ≤ suc n

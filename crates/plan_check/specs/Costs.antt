@@ -4,7 +4,7 @@ use Rattle.uc_model.specs.Data.{AnyUnit, Thermal, Bid, NamedThermalUnit, NamedBi
 use Rattle.uc_model.specs.Data.{BidUnit, Schedule, Market}
 use Rattle.uc_model.specs.Earnings.{start_cost_of, worth_of}
 use Rattle.uc_model.specs.Envelope.{envelope}
-use Rattle.uc_model.specs.Sums.{total, zip_with}
+use Rattle.plain_lists.specs.Sums.{total, zip_with}
 use Rattle.uc_model.specs.Schedules.{on_in, power_in, starts_in, time_down, blocks_at}
 
 abbrev pub production_at : ThermalUnit → Schedule → ℕ → ℤ

@@ -2,7 +2,7 @@
 use Rattle.std.specs.Prelude.{ℕ, suc, ℤ, List, map}
 use Rattle.uc_model.specs.Data.{Schedule}
 use Rattle.uc_model.specs.Schedules.{power_in, reserve_in}
-use Rattle.uc_model.specs.Sums.{total}
+use Rattle.plain_lists.specs.Sums.{total}
 
 -- the sum of the powers, and of the reserves, at a place
 abbrev pub powers_at : List Schedule → ℕ → ℤ

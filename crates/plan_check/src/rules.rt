@@ -3,7 +3,7 @@ ghost use Rattle.std.specs.Prelude.{◌≡◌, ◌≤◌, ◌<◌, ◌+◌, ◌-
 ghost use Rattle.std.specs.Prelude.{int_le, slice_index_or, false, pos};
 ghost use Rattle.std.specs.Int.{int_min};
 ghost use Rattle.uc_model.specs.Data.{Schedule};
-ghost use Rattle.uc_model.specs.Limits.{IsFrom};
+ghost use Rattle.plain_lists.specs.Ranges.{IsFrom};
 ghost use Rattle.uc_model.specs.PlainUnits.{thermal_of, schedule_of};
 ghost use Rattle.uc_model.specs.Schedules.{on_in, power_in, above_min, above_with_reserve};
 ghost use Rattle.uc_model.specs.Refusals as refusals;

@@ -10,10 +10,11 @@ pub use Rattle.std.specs.Option.{option_map, option_map_or}
 pub use Rattle.price_move.specs.Firsts.{IsFirstUpTo}
 pub use Rattle.price_move.specs.Moves.{values_of, low_of, prices_on, direction_on, is_last_settled}
 unfoldable pub use Rattle.price_move.specs.Moves.{price_after}
-pub use Rattle.uc_model.proofs.IntLaws.{mul-sub, mul-mono_of}
-pub use Rattle.uc_model.proofs.SignedLaws.{IsWithin, clamped_from, fits_within, product_within}
-pub use Rattle.uc_model.specs.Limits.{IsFrom, price_limit}
+pub use Rattle.plain_lists.proofs.IntLaws.{mul-sub, mul-mono_of}
+pub use Rattle.plain_lists.proofs.SignedLaws.{IsWithin, clamped_from, fits_within, product_within}
+pub use Rattle.plain_lists.specs.Ranges.{IsFrom}
+pub use Rattle.uc_model.specs.Limits.{price_limit}
 pub use Rattle.uc_model.specs.PlainCases.{proposal_of, market_of}
 pub use Rattle.uc_model.specs.PriceRule.{Proposal, first_greatest, chosen_number, squared_length, age, stepped_prices, next_prices, no_prices, is_settled, direction_at}
-pub use Rattle.uc_model.specs.Sums.{int_at, clamped, sum_below}
+pub use Rattle.plain_lists.specs.Sums.{int_at, clamped, sum_below}
 pub use Rattle.uc_model.specs.declared.cases.Row.{Row}

@@ -1,6 +1,6 @@
 -- The first greatest of a list of numbers, or of its beginning.
 use Rattle.std.specs.Prelude.{ℕ, ◌<◌, ℤ, ◌≤ℤ◌, ◌<ℤ◌, List}
-use Rattle.uc_model.specs.Sums.{int_at}
+use Rattle.plain_lists.specs.Sums.{int_at}
 
 -- among the first so many numbers the one at the place is the greatest, and those before it are
 -- smaller

@@ -7,7 +7,7 @@ use Rattle.price_move.specs.declared.entries.Side.TheVariants.{Energy, Reserve}
 use Rattle.uc_model.specs.Data.{Market}
 use Rattle.uc_model.specs.Limits.{price_limit}
 use Rattle.uc_model.specs.PriceRule.{Proposal, energy_direction, reserve_direction, is_settled}
-use Rattle.uc_model.specs.Sums.{int_at, clamped}
+use Rattle.plain_lists.specs.Sums.{int_at, clamped}
 
 -- the least price of a side; the greatest is one for both
 abbrev pub low_of : Side → ℤ

@@ -2,7 +2,8 @@
 use Rattle.std.specs.Prelude.{◌≡◌, ℤ, pos, neg_ℤ, ◌≤ℤ◌, length}
 use Rattle.std.specs.List.{All}
 use Rattle.uc_model.specs.Data.{Market}
-use Rattle.uc_model.specs.Limits.{IsFrom, IsTotal, IsWorth}
+use Rattle.plain_lists.specs.Ranges.{IsFrom}
+use Rattle.uc_model.specs.Limits.{IsTotal, IsWorth}
 use Rattle.uc_model.specs.PriceRule.{Proposal}
 
 -- an entry of a direction: a power less a total

@@ -2,7 +2,7 @@
 ghost use Rattle.std.specs.Prelude.{◌≡◌, ◌<◌, ◌+◌, int_lt, if◌then◌else◌, length, map, Some};
 ghost use Rattle.uc_model.specs.PlainCases.{proposal_of};
 ghost use Rattle.uc_model.specs.PriceRule.{first_greatest, chosen_number};
-ghost use Rattle.uc_model.specs.Sums.{int_at};
+ghost use Rattle.plain_lists.specs.Sums.{int_at};
 ghost use Rattle.price_move.specs.Firsts.{IsFirstUpTo};
 ghost use Rattle.price_move.specs.Moves.{values_of};
 

@@ -2,8 +2,9 @@
 ghost use Rattle.std.specs.Prelude.{◌≡◌, ◌<◌, ◌≤◌, ◌-◌, ◌↔◌, ◌-ℤ◌, ◌||◌, ◌==◌, unsigned_abs, pos};
 ghost use Rattle.std.specs.Prelude.{IsTrue, length, map, Some, slice_get};
 ghost use Rattle.std.specs.List.{All};
-ghost use Rattle.uc_model.specs.declared.limits.TheConstants.{MOST_PROPOSALS};
-ghost use Rattle.uc_model.specs.Limits.{IsFrom, IsWorth};
+ghost use Rattle.plain_lists.specs.declared.limits.TheConstants.{MOST_PROPOSALS};
+ghost use Rattle.plain_lists.specs.Ranges.{IsFrom};
+ghost use Rattle.uc_model.specs.Limits.{IsWorth};
 ghost use Rattle.uc_model.specs.PlainCases.{market_of, proposal_of};
 ghost use Rattle.uc_model.specs.PlainUnits.{prices_of};
 ghost use Rattle.uc_model.specs.PriceRule.{age, next_prices as prices_after};

@@ -2,17 +2,18 @@
 ghost use Rattle.std.specs.Prelude.{◌≡◌, ◌<◌, ◌≤◌, ◌*◌, ◌/◌, ◌^◌, min, ℕ, ℤ, pos, neg_ℤ, ◌+ℤ◌};
 ghost use Rattle.std.specs.Prelude.{◌*ℤ◌, ◌≤ℤ◌, int_div, length, map};
 ghost use Rattle.std.specs.List.{All, range_with_len};
-ghost use Rattle.uc_model.specs.Limits.{IsFrom, price_limit};
+ghost use Rattle.plain_lists.specs.Ranges.{IsFrom};
+ghost use Rattle.uc_model.specs.Limits.{price_limit};
 ghost use Rattle.uc_model.specs.PlainCases.{market_of, proposal_of};
 ghost use Rattle.uc_model.specs.PriceRule.{squared_length};
-ghost use Rattle.uc_model.specs.Sums.{int_at};
+ghost use Rattle.plain_lists.specs.Sums.{int_at};
 ghost use Rattle.price_move.specs.Moves.{low_of, prices_on, price_after as price_after_step};
 ghost use Rattle.price_move.specs.Sizes.{IsEntry, IsRowOver};
 
 use crate::entries::{Side, direction, entry_on};
+use plain_lists::lists::Numbers;
 use uc_model::cases::{Case, Row};
 use uc_model::limits::PRICE_LIMIT;
-use uc_model::lists::Numbers;
 use uc_model::money::price_near;
 
 /// A step moves a price by `gap` times its entry of the direction over `scale`.

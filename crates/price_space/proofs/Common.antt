@@ -10,11 +10,12 @@ pub use Rattle.std.specs.List.Sorted.{IsPermutation}
 unfoldable pub use Rattle.price_space.specs.Opening.{opened}
 pub use Rattle.price_space.specs.Starts.{priced_of, priced_units_of, AreRisingUnits, renewable_power_of, power_at, IsStartPrice, IsLeastReaching, IsGreatestShort, IsWithoutUnits, IsRising}
 pub use Rattle.price_space.specs.declared.start.Priced.{Priced}
-pub use Rattle.uc_model.proofs.SignedLaws.{clamped_from, fits_within, IsWithin}
+pub use Rattle.plain_lists.proofs.SignedLaws.{clamped_from, fits_within, IsWithin}
 pub use Rattle.uc_model.specs.Data.{NamedThermalUnit, NamedRenewableUnit, Market, PriceLists}
-pub use Rattle.uc_model.specs.Limits.{IsOutput, IsThermalUnit, IsRenewableUnit, IsMarket, IsFrom, price_limit}
+pub use Rattle.plain_lists.specs.Ranges.{IsFrom}
+pub use Rattle.uc_model.specs.Limits.{IsOutput, IsThermalUnit, IsRenewableUnit, IsMarket, price_limit}
 pub use Rattle.uc_model.specs.PlainCases.{market_of}
 pub use Rattle.uc_model.specs.PlainUnits.{thermal_of, named_thermal_of, named_renewable_of}
 pub use Rattle.uc_model.specs.PriceRule.{opening_prices_of, full_load_price, power_up_to, start_price}
-pub use Rattle.uc_model.specs.Sums.{int_at, total, floor_div, clamped}
+pub use Rattle.plain_lists.specs.Sums.{int_at, total, floor_div, clamped}
 pub use Rattle.uc_model.specs.declared.units.NamedFlat.{NamedFlat}

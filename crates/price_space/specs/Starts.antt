@@ -7,7 +7,7 @@ use Rattle.std.specs.List.Sorted.{IsPermutation}
 use Rattle.price_space.specs.declared.start.Priced.{Priced}
 use Rattle.uc_model.specs.Data.{ThermalUnit, NamedThermalUnit, NamedRenewableUnit, Market}
 use Rattle.uc_model.specs.PriceRule.{full_load_price}
-use Rattle.uc_model.specs.Sums.{int_at, total}
+use Rattle.plain_lists.specs.Sums.{int_at, total}
 
 abbrev pub priced_of : ThermalUnit → Priced
 priced_of g = record { price = full_load_price g; power = g.max_power }

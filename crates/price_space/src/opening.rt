@@ -1,15 +1,16 @@
 //! The opening proposals.
 ghost use Rattle.std.specs.Prelude.{◌≡◌, ◌+◌, ◌≤◌, ℤ, pos, neg_ℤ, ◌*ℤ◌, length, map, replicate};
 ghost use Rattle.std.specs.List.{All};
-ghost use Rattle.uc_model.specs.Limits.{IsFrom, price_limit};
-ghost use Rattle.uc_model.specs.declared.limits.TheConstants.{MOST_AHEAD};
+ghost use Rattle.plain_lists.specs.Ranges.{IsFrom};
+ghost use Rattle.uc_model.specs.Limits.{price_limit};
+ghost use Rattle.plain_lists.specs.declared.limits.TheConstants.{MOST_AHEAD};
 ghost use Rattle.uc_model.specs.PlainUnits.{prices_of};
 ghost use Rattle.uc_model.specs.PriceRule.{opening_prices_of};
-ghost use Rattle.uc_model.specs.Sums.{floor_div};
+ghost use Rattle.plain_lists.specs.Sums.{floor_div};
 ghost use Rattle.price_space.specs.Opening.{opened};
 
+use plain_lists::lists::Numbers;
 use uc_model::limits::PRICE_LIMIT;
-use uc_model::lists::Numbers;
 use uc_model::money::price_near;
 use uc_model::units::Prices;
 

@@ -3,20 +3,21 @@ ghost use Rattle.std.specs.Prelude.{◌≡◌, ◌≤◌, ◌<◌, ℤ, pos, neg
 ghost use Rattle.std.specs.Prelude.{map, slice_get};
 ghost use Rattle.std.specs.List.{All};
 ghost use Rattle.std.specs.Option.{option_map_or};
-ghost use Rattle.uc_model.specs.Limits.{IsFrom, IsOutput};
+ghost use Rattle.plain_lists.specs.Ranges.{IsFrom};
+ghost use Rattle.uc_model.specs.Limits.{IsOutput};
 ghost use Rattle.uc_model.specs.PlainCases.{market_of};
 ghost use Rattle.uc_model.specs.PlainUnits.{thermal_of, named_renewable_of};
 ghost use Rattle.uc_model.specs.PriceRule.{start_price as start_price_of_market};
 ghost use Rattle.uc_model.specs.PriceRule.{start_prices as start_prices_of};
-ghost use Rattle.uc_model.specs.Sums.{int_at};
+ghost use Rattle.plain_lists.specs.Sums.{int_at};
 ghost use Rattle.uc_model.specs.declared.limits.TheConstants.{MOST_OF_A_KIND};
 ghost use Rattle.price_space.specs.Starts.{priced_of, renewable_power_of, AreRisingUnits, IsRising};
 ghost use Rattle.price_space.specs.Starts.{IsStartPrice};
 
 use crate::full_load::full_load_price;
+use plain_lists::lists::Numbers;
 use std::alloc::{AllocError, Global};
 use uc_model::cases::Case;
-use uc_model::lists::Numbers;
 use uc_model::units::{NamedFlat, Unit};
 
 /// A unit's full-load price, and its greatest power in kilowatts.

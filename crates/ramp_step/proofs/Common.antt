@@ -21,6 +21,6 @@ pub use Rattle.ramp_step.specs.declared.breakpoint.Knot.{Knot}
 pub use Rattle.shape_law.specs.Curve.{rise_at, curve_value, end_of, reserve_term, IsLimitedCurve}
 pub use Rattle.shape_law.specs.Effect.{CanAddCurve, IsSame, IsPoint, IsSum, IsCurveSum, IsLeast, IsLeastIn}
 pub use Rattle.shape_law.specs.Table.{IsAmount, IsWithinLimits, value_of, Table, IsConvexList, IsEmpty, HasNone, IsPlace}
-pub use Rattle.uc_model.proofs.IntLaws.{mul-add, mul-mono_of, mul-sub}
+pub use Rattle.plain_lists.proofs.IntLaws.{mul-add, mul-mono_of, mul-sub}
 pub use Rattle.uc_model.specs.declared.units.Block.{Block}
 pub use Rattle.uc_model.specs.declared.units.Curve.{Curve}

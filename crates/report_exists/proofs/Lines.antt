@@ -4,7 +4,7 @@ use Rattle.std.specs.List.{AllZip}
 use Rattle.uc_model.specs.Data.{AnyUnit, PriceLists, Schedule}
 use Rattle.uc_model.specs.Earnings.{earnings, IsTop}
 use Rattle.uc_model.specs.Runs.{Fits}
-use Rattle.uc_model.specs.Sums.{zip_with}
+use Rattle.plain_lists.specs.Sums.{zip_with}
 use Rattle.report_form.specs.ReportText.{UnitLine}
 
 abbrev line_of : PriceLists → List ℕ → AnyUnit → Schedule → Schedule → UnitLine

@@ -8,9 +8,9 @@ use Rattle.uc_model.specs.Earnings.{IsTop}
 use Rattle.uc_model.specs.PriceRule.{Proposal, no_prices, chosen_number}
 use Rattle.uc_model.specs.Runs.{Fits, HasTotals, IsRun}
 use Rattle.uc_model.specs.Schedules.{IsFeasible}
-use Rattle.uc_model.specs.Sums.{total}
+use Rattle.plain_lists.specs.Sums.{total}
 use Rattle.uc_model.specs.Systems.{plan_cost, surplus_value, IsSettled}
-use Rattle.uc_model.proofs.ListLaws.{length_same}
+use Rattle.plain_lists.proofs.ListLaws.{length_same}
 use Rattle.hull_report.specs.Laws.{OneIsChosen}
 use Rattle.report_form.specs.ReportText.{UnitLine, Report}
 use Rattle.hull_report.specs.RightReport.{IsRightReport}

@@ -3,7 +3,7 @@ ghost use Rattle.std.specs.Prelude.{◌≤◌, length, map};
 ghost use Rattle.hull_io.specs.Edge.{Writes};
 ghost use Rattle.uc_model.specs.PlainUnits.{schedule_of};
 ghost use Rattle.uc_model.specs.PlainCases.{proposal_of};
-ghost use Rattle.uc_model.specs.declared.limits.TheConstants.{MOST_PROPOSALS};
+ghost use Rattle.plain_lists.specs.declared.limits.TheConstants.{MOST_PROPOSALS};
 ghost use Rattle.report_form.specs.ReportText.{head_text, row_text, rows_text, chosen_text};
 ghost use Rattle.report_form.specs.ReportText.{thermal_text, flat_text, renewable_text, bid_text};
 ghost use Rattle.report_form.specs.ReportText.{foot_text};

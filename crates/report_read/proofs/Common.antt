@@ -30,8 +30,10 @@ pub use Rattle.report_read.specs.Words.{Found, ◌>>=◌, is_digit, hex_value, t
 unfoldable pub use Rattle.report_read.specs.Words.{behind, items_at, escaped_at, closed_within, control_at, backslashed_at, name_at, numeral_at, count_at, signed_at, integer_at, digits_from, spaced, flag_at, kind_at}
 pub use Rattle.report_read.specs.declared.head.Foot.{Foot}
 pub use Rattle.report_read.specs.declared.numbers.TheConstants.{MOST}
-pub use Rattle.uc_model.specs.Limits.{IsFrom, ArePrices}
+pub use Rattle.plain_lists.specs.Ranges.{IsFrom}
+pub use Rattle.uc_model.specs.Limits.{ArePrices}
 pub use Rattle.uc_model.specs.PlainCases.{proposal_of}
 pub use Rattle.uc_model.specs.PriceRule.{Proposal}
 pub use Rattle.uc_model.specs.declared.kinds.Kind.{Kind}
-pub use Rattle.uc_model.specs.declared.limits.TheConstants.{MOST_PERIODS, MOST_UNITS, MOST_PROPOSALS, PRICE_LIMIT}
+pub use Rattle.plain_lists.specs.declared.limits.TheConstants.{MOST_UNITS, MOST_PROPOSALS}
+pub use Rattle.uc_model.specs.declared.limits.TheConstants.{MOST_PERIODS, PRICE_LIMIT}

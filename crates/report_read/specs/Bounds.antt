@@ -2,9 +2,10 @@
 use Rattle.std.specs.Prelude.{◌≡◌, ℕ, ◌+◌, ◌<◌, ◌≤◌, ◌^◌, ℤ, pos, neg_ℤ, IsUtf8, List, [], ◌∷◌}
 use Rattle.std.specs.Prelude.{length}
 use Rattle.std.specs.List.{AllByRecursion}
-use Rattle.uc_model.specs.Limits.{IsFrom, IsHorizon}
+use Rattle.plain_lists.specs.Ranges.{IsFrom}
+use Rattle.uc_model.specs.Limits.{IsHorizon}
 use Rattle.uc_model.specs.PriceRule.{Proposal}
-use Rattle.uc_model.specs.declared.limits.TheConstants.{MOST_UNITS, MOST_PROPOSALS, MOST_AHEAD}
+use Rattle.plain_lists.specs.declared.limits.TheConstants.{MOST_UNITS, MOST_PROPOSALS, MOST_AHEAD}
 use Rattle.uc_model.specs.declared.limits.TheConstants.{PRICE_LIMIT}
 use Rattle.report_form.specs.ReportText.{UnitLine, Report}
 use Rattle.report_form.specs.Laws.{IsFlatLine}

@@ -4,8 +4,10 @@ use Rattle.std.specs.Prelude.{◌≡◌, ℕ, zero, suc, Bool, true, ℤ, pos, n
 use Rattle.std.specs.Prelude.{◌∷◌, length, replicate, codes, Some, None, Result, Ok, Err}
 use Rattle.uc_model.specs.declared.kinds.Kind.{Kind}
 use Rattle.uc_model.specs.declared.kinds.Kind.TheVariants as kinds
-use Rattle.uc_model.specs.declared.limits.TheConstants.{MOST_PERIODS, MOST_UNITS}
-use Rattle.uc_model.specs.declared.limits.TheConstants.{MOST_PROPOSALS, MOST_AHEAD, PRICE_LIMIT}
+use Rattle.plain_lists.specs.declared.limits.TheConstants.{MOST_UNITS}
+use Rattle.uc_model.specs.declared.limits.TheConstants.{MOST_PERIODS}
+use Rattle.plain_lists.specs.declared.limits.TheConstants.{MOST_PROPOSALS, MOST_AHEAD}
+use Rattle.uc_model.specs.declared.limits.TheConstants.{PRICE_LIMIT}
 use Rattle.uc_model.specs.Data.{Schedule}
 use Rattle.uc_model.specs.PriceRule.{Proposal}
 use Rattle.report_form.specs.declared.report.Head.{Head}

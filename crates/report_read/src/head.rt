@@ -1,13 +1,14 @@
 //! The lines before the proposals and behind the units.
 ghost use Rattle.std.specs.Prelude.{codes};
-ghost use Rattle.uc_model.specs.declared.limits.TheConstants.{MOST_AHEAD, MOST_PROPOSALS};
+ghost use Rattle.plain_lists.specs.declared.limits.TheConstants.{MOST_AHEAD, MOST_PROPOSALS};
 ghost use Rattle.report_read.specs.Lines.{Gives, head_at, foot_at, then_lines};
 ghost use Rattle.report_read.specs.Lines.{count_line as count_spec, amount_line as amount_spec};
 
 use crate::lines::{amount_line, count_line, word_line};
 use crate::stop::Stop;
+use plain_lists::limits::{MOST_AHEAD, MOST_PROPOSALS, MOST_UNITS};
 use report_form::report::Head;
-use uc_model::limits::{MOST_AHEAD, MOST_PERIODS, MOST_PROPOSALS, MOST_UNITS};
+use uc_model::limits::MOST_PERIODS;
 
 /// What stands behind the units, in money.
 #[derive(Clone, Copy)]

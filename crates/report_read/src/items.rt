@@ -6,7 +6,8 @@ ghost use Rattle.report_read.specs.Lines.{power_at as power_spec};
 
 use crate::numbers::{amount_at, count_at, number_at};
 use crate::words::behind;
-use uc_model::lists::{Amounts, Flags, Numbers, Powers};
+use plain_lists::lists::{Amounts, Flags, Numbers};
+use uc_model::units::Powers;
 
 #[tactic(auto, unfolding(crate::specs::Words::spaced))]
 fn price_at(bytes: &[u8], least: i64, most: i64) -> Option<(i64, &[u8])>

@@ -13,8 +13,9 @@ use crate::items::{flags_at, powers_at, prices_at, totals_at};
 use crate::numbers::{amount_at, count_at};
 use crate::stop::Stop;
 use crate::words::behind;
+use plain_lists::lists::{Amounts, Flags, Numbers};
 use std::alloc::Global;
-use uc_model::lists::{Amounts, Flags, Numbers, Powers};
+use uc_model::units::Powers;
 
 #[tactic(auto, unfolding(crate::specs::LineForms::ended, crate::specs::LineForms::just))]
 fn word_in<'a>(word: &[u8], bytes: &'a [u8]) -> Option<&'a [u8]>

@@ -8,8 +8,8 @@ ghost use Rattle.report_read.specs.Words.{name_at as name_spec, FindsIfOk};
 ghost use Rattle.report_form.specs.Parts.{stands_as_is};
 
 use crate::words::behind;
+use plain_lists::lists::Name;
 use std::alloc::{AllocError, Global};
-use uc_model::lists::Name;
 
 /// The value of a hexadecimal digit in lower case.
 fn hex_value(byte: u8) -> Option<u8>

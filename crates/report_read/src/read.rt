@@ -1,6 +1,6 @@
 //! A report of its text, or the first line in fault.
 ghost use Rattle.std.specs.Prelude.{◌≡◌, ◌≤◌, ◌-◌, suc, length, map, take, codes, IfOk};
-ghost use Rattle.uc_model.specs.declared.limits.TheConstants.{MOST_BYTES};
+ghost use Rattle.plain_lists.specs.declared.limits.TheConstants.{MOST_BYTES};
 ghost use Rattle.report_form.specs.ReportText.{Report as PlainReport, report_text};
 ghost use Rattle.report_read.specs.Plain.{report_of, told_of};
 ghost use Rattle.report_read.specs.Bounds.{IsReport, AreInOrder};

@@ -1,10 +1,10 @@
 //! What a report tells, and why one isn't read.
 
+use plain_lists::lists::{Name, ReservedList};
 use std::alloc::Global;
 use thiserror::Error;
 use uc_model::cases::Row;
 use uc_model::kinds::Kind;
-use uc_model::lists::{Name, ReservedList};
 use uc_model::units::Response;
 
 /// The rows of a report, in the order of their proposals.

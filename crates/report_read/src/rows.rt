@@ -1,17 +1,18 @@
 //! The proposals of a report.
 ghost use Rattle.std.specs.Prelude.{◌≡◌, ◌+◌, ◌<◌, ◌≤◌, ◌^◌, length, map, codes, IfOk};
 ghost use Rattle.uc_model.specs.PlainCases.{proposal_of};
-ghost use Rattle.uc_model.specs.declared.limits.TheConstants.{MOST_BYTES, MOST_PERIODS};
+ghost use Rattle.plain_lists.specs.declared.limits.TheConstants.{MOST_BYTES};
+ghost use Rattle.uc_model.specs.declared.limits.TheConstants.{MOST_PERIODS};
 ghost use Rattle.report_read.specs.Lines.{Gives, row_at, rows_at, then_lines, list_line, total_at};
 ghost use Rattle.report_read.specs.declared.rows.TheConstants.{LEAST_BYTES};
 
 use crate::lines::{prices_line, totals_line, value_line};
 use crate::report::RowList;
 use crate::stop::Stop;
+use plain_lists::lists::Amounts;
 use std::alloc::Global;
 use uc_model::cases::Row;
 use uc_model::limits::PRICE_LIMIT;
-use uc_model::lists::Amounts;
 use uc_model::units::Prices;
 
 /// A proposal has at least so many bytes.

@@ -15,11 +15,11 @@ use crate::numbers::number_at;
 use crate::report::{UnitLine, UnitLines};
 use crate::stop::Stop;
 use crate::words::behind;
+use plain_lists::lists::{Flags, Name};
 use report_form::report::Owed;
 use std::alloc::{AllocError, Global};
 use uc_model::kinds::Kind;
-use uc_model::lists::{Flags, Name, Powers};
-use uc_model::units::Response;
+use uc_model::units::{Powers, Response};
 
 /// The first line of a unit or bid.
 #[derive(Drop)]

@@ -16,4 +16,4 @@ pub use Rattle.uc_model.specs.Earnings.{earnings, IsBest, IsTop}
 pub use Rattle.uc_model.specs.PriceRule.{Proposal, start_price, start_prices, opening_prices_of, stepped_prices, age, no_prices, next_prices, price_rule, is_settled}
 pub use Rattle.uc_model.specs.Runs.{Fits, IsNextRow, AreRightRows, IsRun}
 pub use Rattle.uc_model.specs.Schedules.{on_in, above_min, above_with_reserve, starts_in, stops_in, mark_in, cap_of, width_of, blocks_at, IsPeriod, KeepsCommitment, KeepsDispatch, IsSchedule, IsThermalFeasible, IsRenewableFeasible, IsBidFeasible, IsFeasible}
-pub use Rattle.uc_model.specs.Sums.{int_at, total}
+pub use Rattle.plain_lists.specs.Sums.{int_at, total}

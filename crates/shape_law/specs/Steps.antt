@@ -3,7 +3,8 @@
 use Rattle.std.specs.Prelude.{◌≡◌, ℤ, pos, neg_ℤ, ◌*ℤ◌, ◌≤ℤ◌, Some}
 use Rattle.uc_model.specs.declared.limits.TheConstants.{GAIN_LIMIT, SPELL_LIMIT}
 use Rattle.uc_model.specs.declared.units.Curve.{Curve}
-use Rattle.uc_model.specs.Limits.{IsFrom, IsPower, IsOutput, IsCost, price_limit}
+use Rattle.plain_lists.specs.Ranges.{IsFrom}
+use Rattle.uc_model.specs.Limits.{IsPower, IsOutput, IsCost, price_limit}
 use Rattle.shape_law.specs.declared.step.Step.{Step}
 use Rattle.shape_law.specs.Curve.{curve_value, reserve_term, IsLimitedCurve}
 use Rattle.shape_law.specs.Effect.{IsSum, IsCurveSum, IsWindow}

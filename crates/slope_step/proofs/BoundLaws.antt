@@ -1,6 +1,6 @@
 -- The values of a step are within the limits.
 use Rattle.slope_step.proofs.Common.{arith, neg_ℤ, ℤ, pos, ◌+ℤ◌, ◌*ℤ◌, int_min, ints, clamps, IsFrom, IsOutput, IsCost, Step, IsFairStep}
-use Rattle.uc_model.proofs.SignedLaws.{IsWithin, product_within}
+use Rattle.plain_lists.proofs.SignedLaws.{IsWithin, product_within}
 
 module _ (s : Step) (fair : IsFairStep s) (x : ℤ) (out : IsOutput x) where
   pub reserve_within : IsWithin 100000000000000 (s.reserve_price *ℤ int_min s.cap (s.ramp_up +ℤ x))

@@ -30,8 +30,9 @@ pub use Rattle.slope_step.specs.declared.piece.Start.{Start}
 pub use Rattle.slope_step.specs.declared.way.Way.{Way}
 pub use Rattle.slope_step.specs.declared.run.Run.{Run}
 pub use Rattle.slope_step.specs.declared.window.Window.{Window}
-pub use Rattle.uc_model.proofs.IntLaws.{mul-mono_of, mul-add, mul-sub}
-pub use Rattle.uc_model.specs.Limits.{IsFrom, IsOutput, IsCost, IsPower}
+pub use Rattle.plain_lists.proofs.IntLaws.{mul-mono_of, mul-add, mul-sub}
+pub use Rattle.plain_lists.specs.Ranges.{IsFrom}
+pub use Rattle.uc_model.specs.Limits.{IsOutput, IsCost, IsPower}
 pub use Rattle.uc_model.specs.declared.units.Block.{Block}
 pub use Rattle.uc_model.specs.declared.units.Curve.{Curve}
 pub use lib.Signed.{lt_z}

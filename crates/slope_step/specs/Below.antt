@@ -1,6 +1,6 @@
 -- One function below another one (this project's profile).
 use Rattle.std.specs.Prelude.{ℤ, ◌+ℤ◌, ◌≤ℤ◌, ◌<ℤ◌, ◌≡◌, pos, neg_ℤ, List, Some}
-use Rattle.uc_model.specs.Limits.{IsFrom}
+use Rattle.plain_lists.specs.Ranges.{IsFrom}
 use Rattle.shape_law.specs.Table.{Table, value_of}
 use Rattle.slope_step.specs.declared.piece.Piece.{Piece}
 use Rattle.slope_step.specs.declared.piece.Start.{Start}

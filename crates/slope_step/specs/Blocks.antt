@@ -3,7 +3,8 @@ use Rattle.std.specs.Prelude.{◌≡◌, ℕ, zero, suc, ◌<◌, ℤ, pos, neg_
 use Rattle.std.specs.Prelude.{length, Some, slice_index_or}
 use Rattle.uc_model.specs.declared.units.Block.{Block}
 use Rattle.uc_model.specs.declared.units.Curve.{Curve}
-use Rattle.uc_model.specs.Limits.{IsFrom, IsCost}
+use Rattle.plain_lists.specs.Ranges.{IsFrom}
+use Rattle.uc_model.specs.Limits.{IsCost}
 use Rattle.shape_law.specs.Curve.{curve_value}
 use Rattle.slope_step.specs.declared.blocks.Span.{Span}
 

@@ -3,7 +3,8 @@
 use Rattle.std.specs.Prelude.{◌≡◌, ℕ, suc, ◌+◌, ◌-◌, ◌<◌, ◌≤◌, ℤ, pos, neg_ℤ, ◌+ℤ◌, ◌-ℤ◌, ◌≤ℤ◌}
 use Rattle.std.specs.Prelude.{◌<ℤ◌, int_lt, if◌then◌else◌, List, length}
 use Rattle.std.specs.Int.{int_min}
-use Rattle.uc_model.specs.Limits.{IsFrom, IsOutput}
+use Rattle.plain_lists.specs.Ranges.{IsFrom}
+use Rattle.uc_model.specs.Limits.{IsOutput}
 use Rattle.uc_model.specs.declared.limits.TheConstants.{SPELL_LIMIT}
 use Rattle.shape_law.specs.declared.step.Step.{Step}
 use Rattle.shape_law.specs.Curve.{reserve_term}

@@ -1,6 +1,6 @@
 -- What fits 64 bits.
 use Rattle.std.specs.Prelude.{ℤ, pos, neg_ℤ, ◌+ℤ◌, ◌-ℤ◌, ◌*ℤ◌}
-use Rattle.uc_model.specs.Limits.{IsFrom}
+use Rattle.plain_lists.specs.Ranges.{IsFrom}
 use Rattle.shape_law.specs.Table.{IsPlace}
 
 -- a difference of two values, or its sum with a third

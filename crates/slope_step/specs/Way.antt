@@ -3,7 +3,7 @@
 use Rattle.std.specs.Prelude.{◌≡◌, ◌+◌, ◌≤◌, ℤ, neg_ℤ, ◌+ℤ◌, ◌≤ℤ◌, ◌<ℤ◌, List}
 use Rattle.uc_model.specs.declared.units.Curve.{Curve}
 use Rattle.uc_model.specs.declared.limits.TheConstants.{POWER_LIMIT}
-use Rattle.uc_model.specs.Limits.{IsFrom}
+use Rattle.plain_lists.specs.Ranges.{IsFrom}
 use Rattle.slope_step.specs.declared.piece.Piece.{Piece}
 use Rattle.slope_step.specs.declared.run.Run.{Run}
 use Rattle.slope_step.specs.declared.window.Window.{Window}

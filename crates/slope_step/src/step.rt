@@ -1,7 +1,8 @@
 //! The step itself.
 ghost use Rattle.std.specs.Prelude.{◌≡◌, ◌+◌, ◌≤◌, pos, neg_ℤ, ◌+ℤ◌, ◌*ℤ◌, ◌≤ℤ◌, ◌<ℤ◌, length};
 ghost use Rattle.std.specs.Option.{IfSome};
-ghost use Rattle.uc_model.specs.Limits.{IsFrom, IsOutput, IsCost};
+ghost use Rattle.plain_lists.specs.Ranges.{IsFrom};
+ghost use Rattle.uc_model.specs.Limits.{IsOutput, IsCost};
 ghost use Rattle.uc_model.specs.declared.limits.TheConstants.{SPELL_LIMIT};
 ghost use Rattle.shape_law.specs.Curve.{reserve_term, IsLimitedCurve};
 ghost use Rattle.shape_law.specs.Steps.{IsFairStep, IsCostOf, IsStepped, IsSmall};

@@ -28,12 +28,13 @@ pub use Rattle.spell_run.specs.Steps.{IsFairStep, IsCostOf, IsKinked, IsSmall, c
 unfoldable pub use Rattle.spell_run.specs.Steps.{level}
 pub use Rattle.spell_run.specs.declared.best.Found.{Found}
 pub use Rattle.spell_run.specs.declared.way.Note.{Note}
-pub use Rattle.uc_model.proofs.IntLaws.{mul-sub, mul-mono_of, sum_below-same}
-pub use Rattle.uc_model.proofs.SignedLaws.{IsWithin, product_within, fits_within}
+pub use Rattle.plain_lists.proofs.IntLaws.{mul-sub, mul-mono_of, sum_below-same}
+pub use Rattle.plain_lists.proofs.SignedLaws.{IsWithin, product_within, fits_within}
 pub use Rattle.uc_model.specs.Data.{Schedule, ThermalUnit, PriceLists}
 pub use Rattle.uc_model.specs.Envelope.{envelope}
-pub use Rattle.uc_model.specs.Limits.{IsFrom, IsOutput, IsThermalUnit, IsPower, IsCost, ArePrices, Spans}
+pub use Rattle.plain_lists.specs.Ranges.{IsFrom}
+pub use Rattle.uc_model.specs.Limits.{IsOutput, IsThermalUnit, IsPower, IsCost, ArePrices, Spans}
 pub use Rattle.uc_model.specs.PlainUnits.{thermal_of, prices_of, schedule_of}
 pub use Rattle.uc_model.specs.Schedules.{power_in, reserve_in, cap_of}
-pub use Rattle.uc_model.specs.Sums.{int_at, sum_below}
+pub use Rattle.plain_lists.specs.Sums.{int_at, sum_below}
 pub use Rattle.uc_model.specs.declared.units.Curve.{Curve}

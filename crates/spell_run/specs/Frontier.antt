@@ -7,7 +7,7 @@ use Rattle.shape_law.specs.Table.{Table, value_of, HasNone}
 use Rattle.uc_model.specs.Data.{ThermalUnit, PriceLists, Schedule}
 use Rattle.uc_model.specs.Limits.{IsOutput}
 use Rattle.uc_model.specs.Schedules.{power_in, reserve_in}
-use Rattle.uc_model.specs.Sums.{int_at}
+use Rattle.plain_lists.specs.Sums.{int_at}
 use Rattle.shape_law.specs.declared.step.Step.{Step}
 use Rattle.spell_run.specs.Entries.{IsSameOutside}
 use Rattle.spell_run.specs.Laws.{best_reserve}

@@ -7,9 +7,9 @@ use Rattle.std.specs.Prelude.{◌*ℤ◌, ◌≤ℤ◌, Bool, true, false, if◌
 use Rattle.std.specs.Int.{int_min}
 use Rattle.uc_model.specs.Data.{ThermalUnit, PriceLists, Schedule}
 use Rattle.uc_model.specs.Envelope.{envelope}
-use Rattle.uc_model.specs.Limits.{IsFrom}
+use Rattle.plain_lists.specs.Ranges.{IsFrom}
 use Rattle.uc_model.specs.Schedules.{power_in, reserve_in, cap_of}
-use Rattle.uc_model.specs.Sums.{int_at, sum_below}
+use Rattle.plain_lists.specs.Sums.{int_at, sum_below}
 
 -- the first period of a spell as these definitions count it: 0 where it goes on from before the
 -- horizon

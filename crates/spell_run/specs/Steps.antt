@@ -8,7 +8,7 @@ use Rattle.shape_law.specs.Effect.{IsLeast, IsLeastIn}
 use Rattle.shape_law.specs.Table.{Table, IsEmpty, HasNone}
 use Rattle.uc_model.specs.Data.{ThermalUnit, PriceLists, Schedule}
 use Rattle.uc_model.specs.Schedules.{power_in, reserve_in, cap_of}
-use Rattle.uc_model.specs.Sums.{int_at}
+use Rattle.plain_lists.specs.Sums.{int_at}
 use Rattle.shape_law.specs.declared.step.Step.{Step}
 use Rattle.spell_run.specs.Spells.{over_min}
 -- what a step does to a function is said beside the shapes

@@ -13,7 +13,8 @@ ghost use Rattle.spell_run.specs.Laws.{best_reserve};
 ghost use Rattle.spell_run.specs.Spells.{spell_first, IsBestDispatch, IsFirstDispatch};
 ghost use Rattle.spell_run.specs.Spells.{HasNoDispatch, IsSpellWithin};
 ghost use Rattle.spell_run.specs.Steps.{step_at, IsFairStep, IsSmall};
-ghost use Rattle.uc_model.specs.Limits.{IsFrom, IsOutput};
+ghost use Rattle.plain_lists.specs.Ranges.{IsFrom};
+ghost use Rattle.uc_model.specs.Limits.{IsOutput};
 ghost use Rattle.uc_model.specs.PlainUnits.{thermal_of, prices_of, schedule_of};
 
 use crate::spell::Spell;

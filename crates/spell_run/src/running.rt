@@ -13,7 +13,7 @@ ghost use Rattle.spell_run.specs.Steps.{step_at, IsFairStep, IsCostOf, IsStepped
 ghost use Rattle.spell_run.specs.Steps.{IsLeastCostIn, IsSmall};
 ghost use Rattle.slope_step.specs.Turn.{IsTurn, IsFirst, IsLast};
 ghost use Rattle.uc_model.specs.Data.{PriceLists};
-ghost use Rattle.uc_model.specs.Limits.{IsFrom};
+ghost use Rattle.plain_lists.specs.Ranges.{IsFrom};
 ghost use Rattle.uc_model.specs.PlainUnits.{thermal_of, prices_of};
 
 use crate::costs::is_alike;

@@ -2,9 +2,9 @@
 ghost use Rattle.std.specs.Prelude.{◌≡◌, ◌+◌, ◌<◌, ◌≤◌, [], ◌∷◌, ◌++◌, length, IfOk, None, Some};
 ghost use Rattle.std.specs.Prelude.{replicate, slice_get, slice_index_or, slice_set};
 
+use plain_lists::lists::ReservedList;
 use std::alloc::{AllocError, Global};
 use std::marker::Model;
-use uc_model::lists::ReservedList;
 
 /// A run of on periods, counted from 1. `started` says that a start is at `first`; otherwise the
 /// unit goes on from before period 1, and `first` is 1. `stops` says that a stop follows: exactly
@@ -28,7 +28,7 @@ pub struct SpellCosts {
 impl Model for SpellCosts {
     ghost use Rattle.std.specs.Prelude.{ℤ, Option};
     ghost use Rattle.std.specs.Coded.{coded_ℤ, coded_option};
-    ghost use Rattle.uc_model.specs.Reserved.{Reserved, reserved_code};
+    ghost use Rattle.plain_lists.specs.Reserved.{Reserved, reserved_code};
 
     ghost Value = { Reserved (Option ℤ) };
 

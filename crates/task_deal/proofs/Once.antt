@@ -2,8 +2,8 @@
 use Rattle.task_deal.proofs.Common.{◌≡◌, ℕ, zero, suc, ◌+◌, ◌<◌, ℤ, pos, negsuc, ◌+ℤ◌, List, [], ◌∷◌, map, sym, refl, ap, ◌∙◌, subst, ⊎_elim, arith, Contains, IsPermutation, sum_by, AllZip, concat, Contains-append_left, Contains-push, Contains-push_cases, Contains-permutation, IsPermutation-sym, sum_by-IsPermutation, below, added, all_added, HasRun, IsDealt, run_sum, sum_of}
 use Rattle.std.proofs.lemmas.Int.{ints}
 use Rattle.std.proofs.lemmas.List.Sums.{sum_by-cons}
-use Rattle.uc_model.specs.Sums.{total, sum_below}
-use Rattle.uc_model.proofs.ListLaws.{map-append, total-append}
+use Rattle.plain_lists.specs.Sums.{total, sum_below}
+use Rattle.plain_lists.proofs.ListLaws.{map-append, total-append}
 use Rattle.task_deal.specs.Laws.{SumsAreDealt, NumbersAreDealt}
 use Rattle.task_deal.proofs.Orders.{permutes}
 use Rattle.task_deal.proofs.Places.{split_le}

@@ -2,7 +2,7 @@
 use Rattle.std.specs.Prelude.{◌≡◌, ℕ, zero, suc, ◌+◌, List, [], ◌∷◌, ◌++◌, length, drop}
 use Rattle.std.specs.Prelude.{IsPermutation}
 use Rattle.std.specs.List.{AllZip, concat}
-use Rattle.uc_model.specs.Sums.{zip_with}
+use Rattle.plain_lists.specs.Sums.{zip_with}
 
 -- the numbers below n, upwards
 abbrev pub below : ℕ → List ℕ

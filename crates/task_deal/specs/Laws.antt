@@ -1,7 +1,7 @@
 -- What follows from a deal. Each law is the clause of a public function of its name.
 use Rattle.std.specs.Prelude.{◌≡◌, ◌<◌, ◌↔◌, ℕ, ℤ, ◌+ℤ◌, List, map, Contains, IsPermutation}
 use Rattle.std.specs.List.{AllZip, concat}
-use Rattle.uc_model.specs.Sums.{total, sum_below}
+use Rattle.plain_lists.specs.Sums.{total, sum_below}
 use Rattle.task_deal.specs.Jobs.{below, added, IsDealt}
 
 -- the sums of f over each job's numbers make up the sum of f over all numbers

@@ -1,6 +1,6 @@
 //! Numbers are dealt to jobs.
 ghost use Rattle.std.specs.Prelude.{◌≡◌, ◌<◌, ◌≤◌, length, All, OnOk, OnErr};
-ghost use Rattle.uc_model.specs.declared.limits.TheConstants.{MOST_UNITS};
+ghost use Rattle.plain_lists.specs.declared.limits.TheConstants.{MOST_UNITS};
 ghost use Rattle.task_deal.specs.Jobs.{IsDealt};
 
 use crate::apart::{put_together, take_apart};

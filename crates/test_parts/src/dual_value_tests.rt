@@ -1,5 +1,6 @@
 ghost use Rattle.std.specs.Prelude.{pos, neg_ℤ};
-ghost use Rattle.uc_model.specs.Limits.{IsFrom, IsSum, price_limit};
+ghost use Rattle.plain_lists.specs.Ranges.{IsFrom};
+ghost use Rattle.uc_model.specs.Limits.{IsSum, price_limit};
 
 use crate::same::same;
 use crate::small_cases::{one_period, one_price, one_response, one_row};

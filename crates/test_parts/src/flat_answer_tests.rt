@@ -1,5 +1,6 @@
 ghost use Rattle.std.specs.Prelude.{◌≡◌, ◌≤ℤ◌, neg_ℤ, length, IfOk};
-ghost use Rattle.uc_model.specs.Limits.{IsBlock, IsFrom, IsPower, price_limit};
+ghost use Rattle.plain_lists.specs.Ranges.{IsFrom};
+ghost use Rattle.uc_model.specs.Limits.{IsBlock, IsPower, price_limit};
 ghost use Rattle.uc_model.specs.PlainUnits.{bid_of, schedule_of};
 
 use crate::same::{same, same_of};

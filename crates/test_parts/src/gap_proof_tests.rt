@@ -5,10 +5,10 @@ ghost use Rattle.gap_proof.specs.Sums.{IsRadius};
 use crate::same::same;
 use crate::small_cases::{one_period, one_row};
 use gap_proof::{Certified, best_range, bound_of};
+use plain_lists::lists::{Amounts, Numbers};
 use std::alloc::{AllocError, Global};
 use std::test::Fail;
 use uc_model::cases::Case;
-use uc_model::lists::{Amounts, Numbers};
 
 // A demand of 150 kW.
 fn small_case(alloc: Global) -> Result<Case, AllocError>

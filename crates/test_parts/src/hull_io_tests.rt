@@ -4,10 +4,10 @@ use hull_io::{
     File, FileShelf, MemoryShelf, MemorySink, ReadFailed, ReadFault, Shelf, Sink, StdSink,
     SureShelf, SureSink, WriteFailed, read_whole, write_whole,
 };
+use plain_lists::limits::MOST_BYTES;
 use std::alloc::{AllocError, Global};
 use std::test::Fail;
 use std::{fs, io};
-use uc_model::limits::MOST_BYTES;
 
 fn file(alloc: Global, name: &str, bytes: &[u8]) -> Result<File, AllocError> {
     Ok(File {

@@ -6,11 +6,11 @@ ghost use Rattle.uc_model.specs.PlainUnits.{named_thermal_of, thermal_of};
 
 use crate::same::same;
 use crate::small_cases::one_period;
+use plain_lists::lists::{Name, Numbers};
 use price_space::{opening_prices, start_prices};
 use std::alloc::{AllocError, Global};
 use std::test::Fail;
 use uc_model::cases::Case;
-use uc_model::lists::{Name, Numbers};
 use uc_model::units::{
     BidList, FlatList, Lags, Mark, Marks, NamedUnit, Point, Points, Prices, ThermalList, Unit,
 };

@@ -2,15 +2,18 @@
 ghost use Rattle.std.specs.Prelude.{◌≡◌, ◌≤ℤ◌, ◌∷◌, [], pos, neg_ℤ, true, length, map, IfOk};
 ghost use Rattle.std.specs.List.{All};
 ghost use Rattle.uc_model.specs.Data.{NamedRenewableUnit};
-ghost use Rattle.uc_model.specs.Limits.{IsFrom, IsPower, IsRenewableUnit, IsTotal, price_limit};
+ghost use Rattle.plain_lists.specs.Ranges.{IsFrom};
+ghost use Rattle.uc_model.specs.Limits.{IsPower, IsRenewableUnit, IsTotal, price_limit};
 ghost use Rattle.uc_model.specs.PlainCases.{market_of, proposal_of};
 ghost use Rattle.uc_model.specs.PlainUnits.{named_renewable_of, prices_of, renewable_of};
 ghost use Rattle.uc_model.specs.PlainUnits.{schedule_of};
 
+use plain_lists::lists::{Amounts, Flags, Name, Numbers};
 use std::alloc::{AllocError, Global};
 use uc_model::cases::{Case, Row};
-use uc_model::lists::{Amounts, Flags, Name, Numbers, Powers};
-use uc_model::units::{BidList, FlatList, NamedFlat, Prices, Renewable, Response, ThermalList};
+use uc_model::units::{
+    BidList, FlatList, NamedFlat, Powers, Prices, Renewable, Response, ThermalList,
+};
 
 /// A renewable unit.
 pub fn one_range(alloc: Global, least: i64, most: i64) -> Result<Renewable, AllocError>

@@ -3,6 +3,7 @@ ghost use Rattle.std.specs.Prelude.{◌≡◌, ◌<◌, ◌≤◌, length, All, 
 ghost use Rattle.test_parts.specs.declared.task_deal_tests.Keeper.{Keeper};
 
 use crate::same::same;
+use plain_lists::lists::ReservedList;
 use std::alloc::{AllocError, Global};
 use std::process::Abort;
 use std::sync::Wait;
@@ -12,7 +13,6 @@ use std::thread;
 use std::thread::Threads;
 use task_deal::{Job, deal_all};
 use thread_start::make_way;
-use uc_model::lists::ReservedList;
 
 /// Keeps the numbers that it ran.
 #[derive(Drop)]

@@ -10,14 +10,15 @@ pub use Rattle.test_tiny.specs.Counts.{after_of, list_count, flag, flags_of, sch
 pub use Rattle.test_tiny.specs.Money.{revenue_in, production_in, start_in, net_in}
 pub use Rattle.test_tiny.specs.Rules.{KeepsRules, MayStopAtOnce, KeepsRulesAt}
 pub use Rattle.test_tiny.specs.Tries.{IsKept}
-pub use Rattle.uc_model.proofs.SignedLaws.{fits_within}
+pub use Rattle.plain_lists.proofs.SignedLaws.{fits_within}
 pub use Rattle.uc_model.specs.Data.{Schedule, ThermalUnit, Thermal, PriceLists}
 pub use Rattle.uc_model.specs.Earnings.{earnings}
 pub use Rattle.uc_model.specs.Envelope.{line_at, least_line, rises_after, best_price}
 unfoldable pub use Rattle.uc_model.specs.Envelope.{envelope}
-pub use Rattle.uc_model.specs.Limits.{IsFrom, IsThermalUnit, AreOneLength}
+pub use Rattle.plain_lists.specs.Ranges.{IsFrom}
+pub use Rattle.uc_model.specs.Limits.{IsThermalUnit, AreOneLength}
 pub use Rattle.uc_model.specs.PlainUnits.{thermal_of, schedule_of, prices_of}
 pub use Rattle.uc_model.specs.Schedules.{IsPeriod, IsThermalFeasible, on_in, starts_in, stops_in, mark_in, above_min, above_with_reserve, cap_of, time_down}
-pub use Rattle.uc_model.specs.Sums.{sum_below, int_at}
+pub use Rattle.plain_lists.specs.Sums.{sum_below, int_at}
 pub use Rattle.uc_model.specs.Ties.{tie_numbers, ComesBefore, IsLeast}
 pub use Rattle.uc_model.specs.declared.units.Point.{Point}

@@ -1,6 +1,6 @@
 -- Earnings are the sum of what each period earns, and a feasible schedule gives no more than the greatest power.
 use Rattle.test_tiny.proofs.Common.{◌≡◌, ℕ, suc, ◌<◌, Bool, true, false, cond, pos, ◌+ℤ◌, ◌-ℤ◌, ◌≤ℤ◌, length, refl, ap, arith, ints, clamps, slice_index, slice_index_or, ThermalUnit, Thermal, PriceLists, Schedule, earnings, IsThermalUnit, IsPeriod, IsThermalFeasible, sum_below, revenue_in, production_in, start_in, net_in}
-use Rattle.uc_model.proofs.IntLaws.{sum_below-add, sum_below-sub}
+use Rattle.plain_lists.proofs.IntLaws.{sum_below-add, sum_below-sub}
 
 -- ---- earnings as one sum
 

@@ -4,7 +4,7 @@ use Rattle.uc_model.specs.Data.{ThermalUnit, PriceLists, Schedule}
 use Rattle.uc_model.specs.Earnings.{start_cost_of}
 use Rattle.uc_model.specs.Envelope.{envelope}
 use Rattle.uc_model.specs.Schedules.{on_in, power_in, reserve_in, starts_in, time_down}
-use Rattle.uc_model.specs.Sums.{int_at}
+use Rattle.plain_lists.specs.Sums.{int_at}
 
 -- what the prices pay in the period at place k
 abbrev pub revenue_in : PriceLists → Schedule → ℕ → ℤ

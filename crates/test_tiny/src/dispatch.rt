@@ -3,7 +3,7 @@ ghost use Rattle.std.specs.Prelude.{◌≡◌, ◌<◌, ◌≤◌, suc, pos, neg
 ghost use Rattle.std.specs.Prelude.{length, slice_index, slice_index_or, IsTrue, IsFalse, ◌↔◌};
 ghost use Rattle.std.specs.Int.{int_min};
 ghost use Rattle.test_tiny.specs.Rules.{KeepsDispatchAt, MayStopAtOnce};
-ghost use Rattle.uc_model.specs.Limits.{IsFrom};
+ghost use Rattle.plain_lists.specs.Ranges.{IsFrom};
 ghost use Rattle.uc_model.specs.PlainUnits.{thermal_of, schedule_of};
 ghost use Rattle.uc_model.specs.Schedules.{on_in, starts_in, stops_in, above_min};
 ghost use Rattle.uc_model.specs.Schedules.{above_with_reserve, cap_of, IsPeriod};

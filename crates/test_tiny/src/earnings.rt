@@ -3,10 +3,11 @@ ghost use Rattle.std.specs.Prelude.{◌≡◌, ◌+◌, ◌<◌, ◌≤◌, ℤ,
 ghost use Rattle.test_tiny.specs.Money.{revenue_in, production_in, start_in, net_in};
 ghost use Rattle.uc_model.specs.Data.{Thermal};
 ghost use Rattle.uc_model.specs.Earnings.{earnings};
-ghost use Rattle.uc_model.specs.Limits.{IsFrom, price_limit};
+ghost use Rattle.plain_lists.specs.Ranges.{IsFrom};
+ghost use Rattle.uc_model.specs.Limits.{price_limit};
 ghost use Rattle.uc_model.specs.PlainUnits.{thermal_of, schedule_of, prices_of};
 ghost use Rattle.uc_model.specs.Schedules.{IsThermalFeasible, time_down};
-ghost use Rattle.uc_model.specs.Sums.{int_at};
+ghost use Rattle.plain_lists.specs.Sums.{int_at};
 
 use crate::envelope::cost_of_power;
 use crate::state::{is_on, power, reserve, starts};

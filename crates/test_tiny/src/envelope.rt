@@ -3,7 +3,8 @@ ghost use Rattle.std.specs.Prelude.{◌≡◌, ◌≤◌, ℤ, pos, neg_ℤ, ◌
 ghost use Rattle.std.specs.Prelude.{if◌then◌else◌, length};
 ghost use Rattle.std.specs.List.{All, fold};
 ghost use Rattle.std.specs.Int.{int_min};
-ghost use Rattle.uc_model.specs.Limits.{IsFrom, IsPoint};
+ghost use Rattle.plain_lists.specs.Ranges.{IsFrom};
+ghost use Rattle.uc_model.specs.Limits.{IsPoint};
 ghost use Rattle.uc_model.specs.Envelope.{line_at, least_line, rises_after, best_price, envelope};
 
 use uc_model::units::Point;

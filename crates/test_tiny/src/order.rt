@@ -4,8 +4,8 @@ ghost use Rattle.std.specs.List.{All};
 ghost use Rattle.test_tiny.specs.Counts.{after_of, list_count, flag, schedules_after, IsWithin};
 ghost use Rattle.uc_model.specs.PlainUnits.{schedule_of};
 
-use uc_model::lists::{Flags, Powers};
-use uc_model::units::Response;
+use plain_lists::lists::Flags;
+use uc_model::units::{Powers, Response};
 
 // Leaves the next list of numbers up to `most`, where the last number counts most; after the last
 // list, the first one.

@@ -10,16 +10,16 @@ ghost use Rattle.uc_model.specs.PlainCases.{chosen_unit};
 ghost use Rattle.uc_model.specs.PlainUnits.{thermal_of, renewable_of, bid_of, named_thermal_of};
 ghost use Rattle.uc_model.specs.PlainUnits.{named_renewable_of, named_bid_of, prices_of};
 ghost use Rattle.uc_model.specs.PlainUnits.{schedule_of};
-ghost use Rattle.uc_model.specs.Reserved.{items_in};
-ghost use Rattle.uc_model.specs.Sums.{int_at};
+ghost use Rattle.plain_lists.specs.Reserved.{items_in};
+ghost use Rattle.plain_lists.specs.Sums.{int_at};
 
 use crate::small::SmallUnit;
+use plain_lists::lists::{Amounts, Flags, Name, Numbers, ReservedList};
 use std::alloc::{AllocError, Global};
 use uc_model::cases::{Case, Plan, Row, Task};
-use uc_model::lists::{Amounts, Flags, Name, Numbers, Powers, ReservedList};
 use uc_model::units::{
     Bid, BidList, Block, BlockLists, FlatList, Lag, Mark, NamedBid, NamedFlat, NamedUnit, Point,
-    Prices, Renewable, Response, ResponseList, ThermalList, Unit, UnitKind,
+    Powers, Prices, Renewable, Response, ResponseList, ThermalList, Unit, UnitKind,
 };
 
 /// A list of these items, with no further room.

@@ -2,7 +2,7 @@
 //! place 0 is the state before the horizon.
 ghost use Rattle.std.specs.Prelude.{◌≡◌, ◌<◌, ◌≤◌, suc, pos, neg_ℤ, ◌-ℤ◌, if◌then◌else◌, length};
 ghost use Rattle.std.specs.Prelude.{slice_index_or, false};
-ghost use Rattle.uc_model.specs.Limits.{IsFrom};
+ghost use Rattle.plain_lists.specs.Ranges.{IsFrom};
 ghost use Rattle.uc_model.specs.PlainUnits.{thermal_of, schedule_of};
 ghost use Rattle.uc_model.specs.Schedules.{on_in, power_in, reserve_in, above_min};
 ghost use Rattle.uc_model.specs.Schedules.{above_with_reserve, starts_in, stops_in};

@@ -12,10 +12,9 @@ ghost use Rattle.uc_model.specs.Ties.{IsLeast};
 use crate::earnings::feasible_earnings;
 use crate::feasible::is_feasible;
 use crate::order::next_schedule;
+use plain_lists::lists::{Flags, copy_list};
 use std::alloc::{AllocError, Global};
-use uc_model::copies::copy_list;
-use uc_model::lists::{Flags, Powers};
-use uc_model::units::{Answered, Prices, Response, Unit};
+use uc_model::units::{Answered, Powers, Prices, Response, Unit};
 
 // Leaves a response in another of the same length.
 fn copy_response(from: &Response, into: &mut Response)

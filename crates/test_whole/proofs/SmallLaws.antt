@@ -3,9 +3,10 @@ use Rattle.test_whole.proofs.Common.{◌≡◌, ℕ, zero, suc, ◌+◌, ◌*◌
 use Rattle.std.specs.Option.{option_map}
 use Rattle.std.proofs.Math.IntN.{*ℤ_comm, *ℤ-zero}
 use Rattle.uc_model.specs.declared.units.Curve.{Curve}
-use Rattle.uc_model.specs.Limits.{IsFrom, IsCurve}
-use Rattle.uc_model.proofs.IntLaws.{mul-sub}
-use Rattle.uc_model.proofs.SignedLaws.{IsWithin, product_within}
+use Rattle.plain_lists.specs.Ranges.{IsFrom}
+use Rattle.uc_model.specs.Limits.{IsCurve}
+use Rattle.plain_lists.proofs.IntLaws.{mul-sub}
+use Rattle.plain_lists.proofs.SignedLaws.{IsWithin, product_within}
 use Rattle.shape_law.specs.Effect.{CanAddCurve}
 use Rattle.shape_law.specs.Laws.{CurvesHaveValues}
 use Rattle.shape_law.specs.Lookup.{power_split}

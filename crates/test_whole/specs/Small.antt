@@ -1,7 +1,7 @@
 -- What the tests check before they make a call.
 use Rattle.std.specs.Prelude.{◌≡◌, ℕ, suc, ◌<◌, ℤ, pos, neg_ℤ, ◌≤ℤ◌, List, slice_index_or, Some}
 use Rattle.uc_model.specs.declared.units.Block.{Block}
-use Rattle.uc_model.specs.Limits.{IsFrom}
+use Rattle.plain_lists.specs.Ranges.{IsFrom}
 use Rattle.shape_law.specs.Table.{Table, value_of}
 
 -- each place is within 1,000 of 0

@@ -11,6 +11,7 @@ use crate::boards::{CASE, PLAN, same_row};
 use crate::same::same;
 use audit_rows::{Answerer, right_rows};
 use case_answers::laws::benches_serve_all;
+use plain_lists::lists::ReservedList;
 use plan_check::check_plan;
 use std::alloc::Global;
 use std::sync::Wait;
@@ -19,7 +20,6 @@ use std::thread::Threads;
 use uc_case::read_case;
 use uc_model::cases::{Case, Row};
 use uc_model::limits::MOST_POINTS;
-use uc_model::lists::ReservedList;
 use uc_plan::read_plan;
 use unit_program::Bench;
 

@@ -3,6 +3,7 @@
 ghost use Rattle.std.specs.Prelude.{◌≤◌, length};
 
 use crate::same::{same, same_of};
+use plain_lists::lists::Name;
 use std::alloc::{AllocError, Global};
 use std::process::Abort;
 use std::test::Fail;
@@ -10,9 +11,8 @@ use test_tiny::parts::{small_bid, small_prices, small_renewable, task, unit};
 use test_tiny::small::SmallUnit;
 use uc_model::cases::Task;
 use uc_model::flat_list::flat_number;
-use uc_model::lists::{Name, Powers};
 use uc_model::rules::{cap, start_cost};
-use uc_model::units::{Answered, Mark, Prices, UnitKind};
+use uc_model::units::{Answered, Mark, Powers, Prices, UnitKind};
 
 // Each number is another one.
 const VARIED: SmallUnit = SmallUnit {

@@ -23,8 +23,9 @@ pub use Rattle.uc_case.specs.Words.{position, last_is}
 unfoldable pub use Rattle.uc_case.specs.Words.{each}
 pub use Rattle.uc_case.specs.declared.fault.FieldFault.{FieldFault}
 pub use Rattle.uc_case.specs.declared.fault.Site.{Site}
-pub use Rattle.uc_model.specs.Limits.{IsFrom, IsPower, IsOutput, IsThermalUnit, IsRenewableUnit, Spans, IsLag, IsPoint, IsBlock, IsBlockList}
-pub use Rattle.uc_model.specs.Reserved.{Reserved, items_in}
+pub use Rattle.plain_lists.specs.Ranges.{IsFrom}
+pub use Rattle.uc_model.specs.Limits.{IsPower, IsOutput, IsThermalUnit, IsRenewableUnit, Spans, IsLag, IsPoint, IsBlock, IsBlockList}
+pub use Rattle.plain_lists.specs.Reserved.{Reserved, items_in}
 pub use Rattle.uc_model.specs.declared.units.Block.{Block}
 pub use Rattle.uc_model.specs.declared.units.Lag.{Lag}
 pub use Rattle.uc_model.specs.declared.units.Point.{Point}

@@ -1,7 +1,7 @@
 -- What was read for a unit is within the limits of its type.
 use Rattle.uc_case.proofs.Common.{◌≡◌, ℕ, zero, suc, ◌<◌, ◌≤◌, Bool, true, false, List, [], ◌∷◌, length, map, get_or, Ok, Err, refl, sym, ◌∙◌, if◌then◌else◌, arith, w64, to_z, of_z, ℤ, pos, ◌≤ℤ◌, int_lt, nat_lt, All, ints, to_z-of_z, Lag, Point, Block, IsPower, IsOutput, IsThermalUnit, IsRenewableUnit, Spans, Value, IsRange, AreRamps, IsPast, AreLags, ArePoints, fault, each, first_crossed, block, period_blocks, Site}
 use Rattle.uc_model.specs.declared.units.Mark.{Mark}
-use Rattle.uc_model.specs.Sums.{total}
+use Rattle.plain_lists.specs.Sums.{total}
 use Rattle.uc_model.specs.declared.limits.TheConstants.{MOST_PERIODS, MOST_LAGS, MOST_POINTS, MOST_BLOCKS, POWER_LIMIT}
 use Rattle.uc_case.specs.Forms.{list}
 use Rattle.uc_case.specs.declared.fault.CaseCode.TheVariants as codes

@@ -12,7 +12,7 @@ use Rattle.uc_model.specs.declared.units.Mark.TheVariants.{Free, MustOff, MustOn
 use Rattle.uc_model.specs.declared.limits.TheConstants.{MOST_LAGS, MOST_POINTS}
 use Rattle.uc_model.specs.declared.limits.TheConstants.{MOST_BLOCKS, POWER_LIMIT}
 use Rattle.uc_model.specs.Data.{ThermalUnit, RenewableUnit, BidUnit}
-use Rattle.uc_model.specs.Sums.{total}
+use Rattle.plain_lists.specs.Sums.{total}
 use Rattle.text_tree.specs.Values.{Value, scalar, null, number}
 use Rattle.uc_case.specs.Inside.{list_in, bit_of}
 use Rattle.uc_case.specs.Magnitudes.{most_power, most_output, most_price}

@@ -3,8 +3,8 @@ ghost use Rattle.std.specs.Prelude.{◌≡◌, ◌≤◌, [], length, map, IfOk,
 ghost use Rattle.std.specs.List.{All};
 ghost use Rattle.uc_model.specs.Limits.{IsBlock, IsBlockList, IsBidUnit};
 ghost use Rattle.uc_model.specs.PlainUnits.{bid_of};
-ghost use Rattle.uc_model.specs.Reserved.{items_in};
-ghost use Rattle.uc_model.specs.Sums.{total};
+ghost use Rattle.plain_lists.specs.Reserved.{items_in};
+ghost use Rattle.plain_lists.specs.Sums.{total};
 ghost use Rattle.uc_model.specs.declared.units.Block.{Block as PlainBlock};
 ghost use Rattle.uc_model.specs.declared.limits.TheConstants.{MOST_BLOCKS, MOST_OF_A_KIND};
 ghost use Rattle.uc_model.specs.declared.limits.TheConstants.{MOST_PERIODS};

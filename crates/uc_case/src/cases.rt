@@ -17,10 +17,10 @@ use crate::keys::Keys;
 use crate::limits::PERIODS;
 use crate::listed::{read_units, unit_site};
 use crate::lists::read_powers;
+use plain_lists::lists::Numbers;
 use std::alloc::Global;
 use text_tree::Branch;
 use uc_model::cases::Case;
-use uc_model::lists::Numbers;
 use uc_model::units::{BidList, FlatList, NamedBid, NamedFlat, NamedUnit, ThermalList};
 
 /// The thermal units, in file order.

@@ -1,6 +1,7 @@
 //! The forms of fields: each reads one value, and its faults are at the site.
 ghost use Rattle.std.specs.Prelude.{◌≡◌, ◌≤◌, ◌^◌, IfOk, pos};
-ghost use Rattle.uc_model.specs.Limits.{IsCost, IsFrom};
+ghost use Rattle.plain_lists.specs.Ranges.{IsFrom};
+ghost use Rattle.uc_model.specs.Limits.{IsCost};
 ghost use Rattle.uc_model.specs.declared.limits.TheConstants.{MOST_TIME};
 ghost use Rattle.text_tree.specs.View.{view, items_in, members_in, member_views};
 ghost use Rattle.uc_case.specs.Given.{Gives};

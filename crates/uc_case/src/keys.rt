@@ -1,7 +1,7 @@
 //! The keys of a unit or of the case.
 ghost use Rattle.std.specs.Prelude.{◌≡◌, ◌≤◌, ◌^◌, IfOk, pos};
 ghost use Rattle.std.specs.Option.{option_map};
-ghost use Rattle.uc_model.specs.Limits.{IsFrom};
+ghost use Rattle.plain_lists.specs.Ranges.{IsFrom};
 ghost use Rattle.uc_model.specs.declared.limits.TheConstants.{MOST_TIME};
 ghost use Rattle.text_tree.specs.View.{view, member_views};
 ghost use Rattle.uc_case.specs.Given.{Gives};

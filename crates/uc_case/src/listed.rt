@@ -18,10 +18,10 @@ use crate::fault::{CaseCode, Field, Kind, Site};
 use crate::forms::{FieldStop, object_of};
 use crate::limits::UNITS;
 use crate::units::{read_renewable, read_unit};
+use plain_lists::lists::{Name, ReservedList};
 use std::alloc::{AllocError, Global};
 use text_tokens::text_of;
 use text_tree::{Branch, Member};
-use uc_model::lists::{Name, ReservedList};
 use uc_model::units::{NamedBid, NamedFlat, NamedUnit};
 
 /// A unit or bid under its name.

@@ -20,9 +20,9 @@ use crate::forms::{
 };
 use crate::keys::Keys;
 use crate::limits::{COST, LAGS, POINTS, POWER, TIME};
+use plain_lists::lists::Numbers;
 use std::alloc::Global;
 use text_tree::Branch;
-use uc_model::lists::Numbers;
 use uc_model::units::{Lag, Lags, Point, Points};
 
 /// Whether a lag is below the last of these.

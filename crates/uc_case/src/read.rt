@@ -2,7 +2,7 @@
 ghost use Rattle.std.specs.Prelude.{◌≡◌, ◌≤◌, Result, length};
 ghost use Rattle.uc_model.specs.Data.{Market};
 ghost use Rattle.uc_model.specs.PlainCases.{market_of};
-ghost use Rattle.uc_model.specs.declared.limits.TheConstants.{MOST_BYTES};
+ghost use Rattle.plain_lists.specs.declared.limits.TheConstants.{MOST_BYTES};
 ghost use Rattle.uc_case.specs.CaseFiles.{IsCaseOf, IfRead};
 ghost use Rattle.uc_case.specs.Files.{FileFault};
 ghost use Rattle.uc_case.specs.declared.fault.FieldFault.{FieldFault as PlainFault};

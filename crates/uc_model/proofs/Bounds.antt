@@ -1,10 +1,10 @@
 -- How large the powers, the cost and the earnings of one unit's feasible schedule can be.
 use Rattle.uc_model.proofs.Common.{◌≡◌, ℕ, suc, ◌-◌, ◌<◌, ◌≤◌, ◌⊎◌, inl, inr, Bool, true, false, cond, Some, None, ℤ, pos, ◌+ℤ◌, ◌-ℤ◌, ◌*ℤ◌, ◌≤ℤ◌, List, [], ◌∷◌, ◌++◌, map, length, refl, sym, ap, ◌∙◌, subst, arith, *ℤ_comm, *ℤ-zero, cases_lt, ints, clamps, length-reverse, get_or-reverse, get_or_past, int_min, All, find, option_map_or, reverse, nat_le, slice_get, slice_index, slice_index_or, Block, Lag, Point, GivesWithin, StartCostsAreWithin, PowerCostsAreWithin, OutputsAreWithin, CostsAreWithin, EarningsAreWithin, ThermalUnit, BidUnit, AnyUnit, Thermal, Flat, Bid, PriceLists, Schedule, start_cost_of, worth_of, supply_in, revenue, line_at, least_line, envelope, IsLag, IsStartCost, IsPoint, Spans, IsThermalUnit, IsBlock, IsBidUnit, IsUnit, ArePrices, power_in, reserve_in, starts_in, time_down, IsPeriod, blocks_at, width_of, IsFeasible, IsThermalFeasible, int_at, total}
 use Rattle.uc_model.proofs.EnvelopeLaws.{least_le, least_reached, item_is_in, All-is_in, some_last, envelope_is}
-use Rattle.uc_model.proofs.IntLaws.{mul-mono_of}
-use Rattle.uc_model.proofs.ListLaws.{none_some, same_item, head_of, tail_of, item_of, at_place, map-append, total-append}
+use Rattle.plain_lists.proofs.IntLaws.{mul-mono_of}
+use Rattle.plain_lists.proofs.ListLaws.{none_some, same_item, head_of, tail_of, item_of, at_place, map-append, total-append}
 use Rattle.uc_model.proofs.PlanShapes.{lengths_of}
-use Rattle.uc_model.proofs.SignedLaws.{IsWithin, sum_within, negated_within, signed_product_within, sum_at_most, wider}
+use Rattle.plain_lists.proofs.SignedLaws.{IsWithin, sum_within, negated_within, signed_product_within, sum_at_most, wider}
 
 none_within : (n : ℕ) → IsWithin n (pos 0)
 none_within n = record { at_least = omega (arith, ints); at_most = omega (arith, ints) }

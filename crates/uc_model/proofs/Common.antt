@@ -1,27 +1,28 @@
 -- The names that the proofs of this crate take from its specs and from other crates, passed on from one place.
-pub use Rattle.std.proofs.Common.{◌≡◌, ℕ, suc, ◌-◌, ◌<◌, ◌≤◌, ◌⊎◌, inl, inr, Bool, true, false, cond, Some, None, ℤ, pos, ◌+ℤ◌, ◌-ℤ◌, ◌*ℤ◌, ◌≤ℤ◌, List, [], ◌∷◌, ◌++◌, map, length, refl, sym, ap, ◌∙◌, subst, arith, reverse, neg_ℤ, zero, ◌+◌, ◌^◌, negsuc, take, drop, get_or, append_assoc, ◌*◌, length-append, IsTrue, to_z, of_z, lit<, rules, replicate, ◌/◌, ◌%◌}
-pub use Rattle.std.proofs.Math.IntN.{*ℤ_comm, *ℤ-zero, suc_ℤ-*ℤ, zero-*ℤ, +ℤ_one, +ℤ_idr, +ℤ_idl, pred_ℤ-*ℤ, -ℤ_one, ℤ_ind, pos-*ℤ-pos}
+pub use Rattle.std.proofs.Common.{◌≡◌, ℕ, suc, ◌-◌, ◌<◌, ◌≤◌, ◌⊎◌, inl, inr, Bool, true, false, cond, Some, None, ℤ, pos, ◌+ℤ◌, ◌-ℤ◌, ◌*ℤ◌, ◌≤ℤ◌, List, [], ◌∷◌, ◌++◌, map, length, refl, sym, ap, ◌∙◌, subst, arith, reverse, neg_ℤ, zero, ◌+◌, ◌^◌, negsuc, take, drop, get_or, append_assoc, ◌*◌, length-append, IsTrue, rules, replicate, ◌/◌, ◌%◌}
+pub use Rattle.std.proofs.Math.IntN.{*ℤ_comm, *ℤ-zero, suc_ℤ-*ℤ, zero-*ℤ, +ℤ_one, +ℤ_idr, +ℤ_idl}
 pub use Rattle.std.proofs.Math.Nat.{two-pow-succ, mul-le-mul_left}
 pub use Rattle.std.proofs.lemmas.Bool.{cases_lt, false≢true}
-pub use Rattle.std.proofs.lemmas.Int.{ints, clamps, fits_signed_from_abs, to_z-of_z, to_z_pos}
-pub use Rattle.std.proofs.lemmas.List.{length-reverse, get_or-reverse, get_or_past, reverse-reverse, append-nil, take-append-drop, take_more, drop_more, at_drop_more, length-map, get_or_default}
+pub use Rattle.std.proofs.lemmas.Int.{ints, clamps, to_z-of_z, to_z_pos}
+pub use Rattle.std.proofs.lemmas.List.{length-reverse, get_or-reverse, get_or_past, take_more, at_drop_more, length-map, get_or_default}
 pub use Rattle.std.proofs.lemmas.List.Elements.{All-nil, All-cons, All-append, All-map}
-pub use Rattle.std.specs.Int.{int_min, w64, Width}
+pub use Rattle.std.specs.Int.{int_min, w64}
 pub use Rattle.std.specs.List.{All, find, AllZip, zip, fold, flat_map}
 pub use Rattle.std.specs.Option.{option_map_or, option_map}
-pub use Rattle.std.specs.Prelude.{nat_le, slice_get, slice_index, slice_index_or, FitsSigned, unsigned_abs, IsFalse}
+pub use Rattle.std.specs.Prelude.{nat_le, slice_get, slice_index, slice_index_or, FitsSigned, IsFalse}
 pub use Rattle.uc_model.specs.BoundLaws.{GivesWithin, StartCostsAreWithin, PowerCostsAreWithin, OutputsAreWithin, CostsAreWithin, EarningsAreWithin, most_given, least_given, UnitsAreWithin, TotalsAreWithin, EarnedSumsAreWithin, PlanCostsAreWithin, DemandWorthIsWithin, DualValuesAreWithin}
 pub use Rattle.uc_model.specs.Data.{ThermalUnit, BidUnit, AnyUnit, Thermal, Flat, Bid, PriceLists, Schedule, Market, units, NamedThermalUnit, NamedRenewableUnit, NamedBidUnit, unit_count, RenewableUnit}
 pub use Rattle.uc_model.specs.Earnings.{start_cost_of, worth_of, supply_in, revenue, cost_of, earnings, IsTop, start_costs}
 pub use Rattle.uc_model.specs.Envelope.{line_at, least_line, IsEnvelope, rises_after, best_price}
 unfoldable pub use Rattle.uc_model.specs.Envelope.{envelope}
-pub use Rattle.uc_model.specs.Limits.{IsLag, IsStartCost, IsPoint, Spans, IsThermalUnit, IsBlock, IsBidUnit, IsUnit, ArePrices, IsFrom, IsMarket, IsUnitCost, IsEarned, price_limit}
+pub use Rattle.plain_lists.specs.Ranges.{IsFrom}
+pub use Rattle.uc_model.specs.Limits.{IsLag, IsStartCost, IsPoint, Spans, IsThermalUnit, IsBlock, IsBidUnit, IsUnit, ArePrices, IsMarket, IsUnitCost, IsEarned, price_limit}
 pub use Rattle.uc_model.specs.PlainUnits.{thermal_of}
 pub use Rattle.uc_model.specs.PriceRule.{start_prices, is_settled, Proposal, full_load_price, price_rule, move_of, chosen_number, squared_length}
 pub use Rattle.uc_model.specs.Refusals.{refusals, thermal_refusals}
-pub use Rattle.uc_model.specs.Reserved.{Reserved, items_in}
+pub use Rattle.plain_lists.specs.Reserved.{Reserved, items_in}
 pub use Rattle.uc_model.specs.Schedules.{power_in, reserve_in, starts_in, time_down, IsPeriod, blocks_at, width_of, IsFeasible, IsThermalFeasible, cap_of, IsSchedule, on_in, above_min, above_with_reserve, stops_in, mark_in}
-pub use Rattle.uc_model.specs.Sums.{int_at, total, sum_below, zip_with, clamped}
+pub use Rattle.plain_lists.specs.Sums.{int_at, total, sum_below, zip_with, clamped}
 pub use Rattle.uc_model.specs.Systems.{total_power, total_reserve, IsFeasiblePlan, plan_cost, worth_of_demand, IsDualValue, surplus_value, IsSettled}
 pub use Rattle.uc_model.specs.TaskLists.{lag_numbers, point_numbers, mark_number, period_numbers, fixed_numbers, list_numbers, unit_numbers, task_numbers}
 pub use Rattle.uc_model.specs.Ties.{tie_numbers, ComesBefore}

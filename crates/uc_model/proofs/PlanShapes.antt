@@ -1,7 +1,7 @@
 -- Units by their numbers, and the lists of a feasible plan.
 use Rattle.uc_model.proofs.Common.{◌≡◌, ℕ, suc, ◌+◌, ◌<◌, false, IsTrue, List, [], ◌∷◌, ◌++◌, map, length, drop, sym, ap, ◌∙◌, subst, arith, length-append, append_assoc, length-map, get_or_default, All-append, All-map, All, AllZip, slice_get, slice_index_or, AnyUnit, Thermal, Flat, Bid, NamedThermalUnit, NamedRenewableUnit, NamedBidUnit, Schedule, Market, units, unit_count, IsFeasible}
 use Rattle.uc_model.specs.PlanLaws.{UnitsAreNumbered, FeasiblePlansHaveShape}
-use Rattle.uc_model.proofs.ListLaws.{map_item, front_item, back_item, length_same, all_nil, all_cons}
+use Rattle.plain_lists.proofs.ListLaws.{map_item, front_item, back_item, length_same, all_nil, all_cons}
 
 module _ (m : Market) where
   abbrev thermal : List AnyUnit

@@ -1,9 +1,9 @@
 -- How large the totals, costs and earnings of all units together can be.
 use Rattle.uc_model.proofs.Common.{◌≡◌, ℕ, suc, ◌+◌, ◌*◌, ◌≤◌, ℤ, pos, neg_ℤ, ◌+ℤ◌, ◌*ℤ◌, ◌≤ℤ◌, List, [], ◌∷◌, ◌++◌, map, length, refl, ap, ◌∙◌, subst, arith, mul-le-mul_left, ints, All-append, All-map, All, AllZip, most_given, least_given, GivesWithin, UnitsAreWithin, TotalsAreWithin, EarnedSumsAreWithin, PlanCostsAreWithin, DemandWorthIsWithin, DualValuesAreWithin, AnyUnit, Thermal, Flat, Bid, PriceLists, Schedule, Market, NamedThermalUnit, NamedRenewableUnit, NamedBidUnit, units, cost_of, supply_in, IsTop, IsUnit, IsMarket, IsUnitCost, IsEarned, ArePrices, reserve_in, IsFeasible, int_at, total, zip_with, total_power, total_reserve, plan_cost, worth_of_demand}
 use Rattle.uc_model.proofs.Bounds.{costs_within, earnings_within}
-use Rattle.uc_model.proofs.ListLaws.{head_of, tail_of, map-append, map-map, total-append, length_same, all_nil, all_cons}
+use Rattle.plain_lists.proofs.ListLaws.{head_of, tail_of, map-append, map-map, total-append, length_same, all_nil, all_cons}
 use Rattle.uc_model.proofs.PlanShapes.{length-units}
-use Rattle.uc_model.proofs.SignedLaws.{IsWithin, sum_within, product_within, sum_at_most, wider}
+use Rattle.plain_lists.proofs.SignedLaws.{IsWithin, sum_within, product_within, sum_at_most, wider}
 
 -- ---- the units of a case
 

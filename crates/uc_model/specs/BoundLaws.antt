@@ -12,7 +12,7 @@ use Rattle.uc_model.specs.Envelope.{envelope}
 use Rattle.uc_model.specs.Limits.{IsLag, IsPoint, IsCost, Spans, IsUnit, IsMarket, ArePrices}
 use Rattle.uc_model.specs.Limits.{IsTotal, IsUnitCost, IsEarned, IsSum, IsWorth, IsStartCost}
 use Rattle.uc_model.specs.Schedules.{reserve_in, IsFeasible}
-use Rattle.uc_model.specs.Sums.{total}
+use Rattle.plain_lists.specs.Sums.{total}
 use Rattle.uc_model.specs.Systems.{total_power, total_reserve, IsFeasiblePlan, plan_cost}
 use Rattle.uc_model.specs.Systems.{IsDualValue, worth_of_demand}
 

@@ -1,4 +1,5 @@
-//! The limits of this project's profile: within them each sum over a case fits its type.
+//! The limits of a case in this project's profile: within them, and those of a run in
+//! [`plain_lists::limits`], each sum over a case fits its type.
 
 /// Periods of a horizon.
 pub const MOST_PERIODS: u32 = 168;
@@ -9,9 +10,6 @@ pub const MOST_TIME: u32 = 1_000_000;
 /// Units of one kind in a case: thermal units, renewable units, or bids.
 pub const MOST_OF_A_KIND: u32 = 4_096;
 
-/// Units of a case, bids among them.
-pub const MOST_UNITS: u32 = 12_288;
-
 /// Lags of a thermal unit's start costs.
 pub const MOST_LAGS: u32 = 32;
 
@@ -20,27 +18,6 @@ pub const MOST_POINTS: u32 = 32;
 
 /// Blocks of a bid in one period.
 pub const MOST_BLOCKS: u32 = 8;
-
-/// Proposals of a run.
-pub const MOST_PROPOSALS: u32 = 10_000;
-
-/// Proposals that may be open ahead of the last answered one.
-pub const MOST_AHEAD: u32 = 16;
-
-/// Workers of a run.
-pub const MOST_WORKERS: u32 = 32;
-
-/// Callers of a board: a worker each, and one more.
-pub const MOST_CALLERS: u32 = 33;
-
-/// Tasks of a run: one for each unit and proposal.
-pub const MOST_TASKS: u32 = 122_880_000;
-
-/// Units times periods times proposals of a run.
-pub const MOST_WORK: u64 = 50_000_000;
-
-/// Bytes of an input file.
-pub const MOST_BYTES: usize = 67_108_864;
 
 /// The greatest power, demand or reserve in kilowatts.
 pub const POWER_LIMIT: i64 = 1_000_000_000;
@@ -56,9 +33,6 @@ pub const PRICE_LIMIT: i64 = 10_000_000;
 
 /// The greatest magnitude of what a kilowatt of a period gains: a price, or one less another.
 pub const GAIN_LIMIT: i64 = 20_000_000;
-
-/// The greatest distance of a price from a chosen one, in money for a kilowatt and period.
-pub const MOST_RADIUS: u32 = 20_000_000;
 
 /// The greatest magnitude of what a spell costs up to a period, less what prices pay for it.
 pub const SPELL_LIMIT: i64 = 500_000_000_000_000_000;

@@ -2,9 +2,10 @@
 ghost use Rattle.std.specs.Prelude.{◌≡◌, ◌≤◌, neg_ℤ, ◌*ℤ◌, length};
 ghost use Rattle.std.specs.List.{All};
 ghost use Rattle.uc_model.specs.declared.limits.TheConstants.{MOST_BLOCKS};
-ghost use Rattle.uc_model.specs.Limits.{IsFrom, IsBlock, price_limit};
+ghost use Rattle.plain_lists.specs.Ranges.{IsFrom};
+ghost use Rattle.uc_model.specs.Limits.{IsBlock, price_limit};
 ghost use Rattle.uc_model.specs.Schedules.{width_of};
-ghost use Rattle.uc_model.specs.Sums.{clamped};
+ghost use Rattle.plain_lists.specs.Sums.{clamped};
 
 use crate::limits::PRICE_LIMIT;
 use crate::units::Block;

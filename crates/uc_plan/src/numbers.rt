@@ -7,11 +7,12 @@ ghost use Rattle.uc_case.specs.Given.{Gives};
 ghost use Rattle.uc_plan.specs.Plans.{kilowatts_of, kilowatts_in, flag_in, numbers};
 
 use crate::fault::{Seat, ShapeCode, ShapeStop};
+use plain_lists::lists::Flags;
 use std::alloc::Global;
 use text_tree::{Branch, ListBranch};
 use uc_case::inside::bit;
 use uc_model::limits::POWER_LIMIT;
-use uc_model::lists::{Flags, Powers};
+use uc_model::units::Powers;
 use uc_num::{Decimal, is_whole, whole};
 
 const MOST: u64 = POWER_LIMIT as u64;

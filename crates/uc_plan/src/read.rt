@@ -3,7 +3,7 @@ ghost use Rattle.std.specs.Prelude.{◌≡◌, ◌≤◌, List, Result, IfOk, le
 ghost use Rattle.uc_model.specs.Data.{Schedule};
 ghost use Rattle.uc_model.specs.Laws.{HasPlanShape};
 ghost use Rattle.uc_model.specs.PlainCases.{market_of, schedules_of};
-ghost use Rattle.uc_model.specs.declared.limits.TheConstants.{MOST_BYTES};
+ghost use Rattle.plain_lists.specs.declared.limits.TheConstants.{MOST_BYTES};
 ghost use Rattle.uc_case.specs.Files.{FileFault};
 ghost use Rattle.uc_plan.specs.PlanFiles.{IsPlanOf, IfRead};
 ghost use Rattle.uc_plan.specs.declared.fault.ShapeFault.{ShapeFault as PlainFault};

@@ -10,11 +10,11 @@ ghost use Rattle.uc_plan.specs.Plans.{thermal_schedule, flat_schedule, schedule}
 use crate::fault::{Seat, ShapeCode, ShapeStop};
 use crate::numbers::{read_flags, read_powers};
 use crate::shapes::{full_list, list_under};
+use plain_lists::lists::Flags;
 use std::alloc::Global;
 use text_tree::Branch;
 use uc_case::fault::Kind;
-use uc_model::lists::{Flags, Powers};
-use uc_model::units::Response;
+use uc_model::units::{Powers, Response};
 
 #[tactic(auto, unfolding(crate::specs::Plans::thermal_schedule))]
 fn read_thermal(

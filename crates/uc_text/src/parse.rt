@@ -17,7 +17,7 @@ ghost use Rattle.uc_text.specs.Faults.{IsShort};
 ghost use Rattle.text_tokens.specs.Seen.{scalar_of};
 ghost use Rattle.uc_text.specs.declared.fault.TextFault.{TextFault};
 ghost use Rattle.uc_text.specs.View.{tree_view};
-ghost use Rattle.uc_model.specs.declared.limits.TheConstants.{MOST_BYTES};
+ghost use Rattle.plain_lists.specs.declared.limits.TheConstants.{MOST_BYTES};
 
 use crate::doubles::first_double;
 use crate::fault::{TextCode, TextError, TextFault};

@@ -26,16 +26,17 @@ pub use Rattle.spell_run.specs.Entries.{IsOnFromTo, IsSameOutside, entry_of}
 pub use Rattle.spell_run.specs.Notes.{passed_at, IsSpellNoted}
 pub use Rattle.spell_run.specs.Spells.{spell_first, IsBestDispatch, IsFirstDispatch, HasNoDispatch, over_min, IsDispatch, IsLeastSpell, net_cost, spell_cost, sum_from_to, IsSpellAnswer}
 pub use Rattle.spell_run.specs.declared.way.Passed.{Passed}
-pub use Rattle.uc_model.proofs.IntLaws.{sum_below-same, sum_below-add, sum_below-sub, mul-mono_of, mul-add, mul-sub}
-pub use Rattle.uc_model.proofs.SignedLaws.{IsWithin, stored, stored_is, fits64, product_within}
+pub use Rattle.plain_lists.proofs.IntLaws.{sum_below-same, sum_below-add, sum_below-sub, mul-mono_of, mul-add, mul-sub}
+pub use Rattle.plain_lists.proofs.SignedLaws.{IsWithin, stored, stored_is, fits64, product_within}
 pub use Rattle.uc_model.specs.BoundLaws.{StartCostsAreWithin, EarningsAreWithin}
 pub use Rattle.uc_model.specs.Data.{ThermalUnit, PriceLists, Schedule, Thermal}
 pub use Rattle.uc_model.specs.Earnings.{earnings, IsBest, start_cost_of}
 pub use Rattle.uc_model.specs.Envelope.{envelope}
-pub use Rattle.uc_model.specs.Limits.{IsFrom, IsThermalUnit, ArePrices, IsOutput, IsPoint, ArePointsOrdered, Spans}
+pub use Rattle.plain_lists.specs.Ranges.{IsFrom}
+pub use Rattle.uc_model.specs.Limits.{IsThermalUnit, ArePrices, IsOutput, IsPoint, ArePointsOrdered, Spans}
 pub use Rattle.uc_model.specs.PlainUnits.{thermal_of, prices_of, schedule_of}
 pub use Rattle.uc_model.specs.Schedules.{on_in, power_in, reserve_in, IsSchedule, IsThermalFeasible, above_min, above_with_reserve, starts_in, time_down, cap_of, IsPeriod, KeepsDispatch, stops_in, KeepsCommitment, mark_in}
-pub use Rattle.uc_model.specs.Sums.{int_at, sum_below}
+pub use Rattle.plain_lists.specs.Sums.{int_at, sum_below}
 pub use Rattle.uc_model.specs.Ties.{ComesBefore, IsLeast}
 pub use Rattle.uc_model.specs.declared.units.Mark.TheVariants.{MustOff, MustOn}
 pub use Rattle.uc_model.specs.declared.units.Point.{Point}

@@ -4,11 +4,10 @@
 //! about as much as the best one there, if these aren't far. Nothing rests on what is kept: it may
 //! be any answer.
 ghost use Rattle.std.specs.Prelude.{pos, neg_ℤ};
-ghost use Rattle.uc_model.specs.Limits.{IsFrom};
+ghost use Rattle.plain_lists.specs.Ranges.{IsFrom};
 
 use std::alloc::{AllocError, Global};
-use uc_model::lists::Powers;
-use uc_model::units::{Answered, Prices};
+use uc_model::units::{Answered, Powers, Prices};
 
 /// An amount that nothing costs.
 pub const NO_BOUND: i64 = 4_000_000_000_000_000_000;

@@ -7,15 +7,16 @@ ghost use Rattle.std.specs.Prelude.{◌≡◌, ℕ, ◌<◌, ◌≤◌, ℤ, pos
 ghost use Rattle.std.specs.Prelude.{◌⊎◌, length};
 ghost use Rattle.std.specs.List.{All};
 ghost use Rattle.uc_model.specs.Envelope.{envelope};
-ghost use Rattle.uc_model.specs.Limits.{IsFrom, IsPoint, ArePointsOrdered};
+ghost use Rattle.plain_lists.specs.Ranges.{IsFrom};
+ghost use Rattle.uc_model.specs.Limits.{IsPoint, ArePointsOrdered};
 ghost use Rattle.uc_model.specs.PlainUnits.{thermal_of, prices_of};
-ghost use Rattle.uc_model.specs.Sums.{int_at};
+ghost use Rattle.plain_lists.specs.Sums.{int_at};
 ghost use Rattle.uc_model.specs.declared.limits.TheConstants.{GAIN_LIMIT, PRICE_LIMIT};
 ghost use Rattle.unit_table.specs.Limits.{AreLimits};
 ghost use Rattle.unit_program.specs.Nets.{AreKnown};
 
 use cost_curve::laws::envelope_earns_as_points;
-use uc_model::lists::Numbers;
+use plain_lists::lists::Numbers;
 use uc_model::units::{Point, Prices, Unit};
 
 // What a point costs less what its power is worth at a price.

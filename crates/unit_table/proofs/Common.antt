@@ -30,9 +30,10 @@ unfoldable pub use Rattle.spell_run.specs.Steps.{level}
 pub use Rattle.spell_run.specs.declared.way.Passed.{Passed}
 pub use Rattle.uc_model.specs.BoundLaws.{StartCostsAreWithin}
 pub use Rattle.uc_model.specs.Data.{ThermalUnit, PriceLists, Schedule}
-pub use Rattle.uc_model.specs.Limits.{IsThermalUnit, IsFrom, IsLag}
+pub use Rattle.plain_lists.specs.Ranges.{IsFrom}
+pub use Rattle.uc_model.specs.Limits.{IsThermalUnit, IsLag}
 pub use Rattle.uc_model.specs.PlainUnits.{thermal_of, prices_of}
 pub use Rattle.uc_model.specs.Schedules.{mark_in, cap_of, power_in, reserve_in}
-pub use Rattle.uc_model.specs.Sums.{sum_below, int_at}
+pub use Rattle.plain_lists.specs.Sums.{sum_below, int_at}
 pub use Rattle.uc_model.specs.declared.units.Lag.{Lag}
 pub use Rattle.uc_model.specs.declared.units.Mark.TheVariants.{MustOn, MustOff}

@@ -5,7 +5,7 @@ use Rattle.std.specs.Prelude.{IsTrue, MatchOption, List, length, slice_index_or,
 use Rattle.std.specs.Option.{option_map, option_map_or}
 use Rattle.uc_model.specs.declared.units.Mark.TheVariants.{MustOff}
 use Rattle.uc_model.specs.Data.{ThermalUnit, PriceLists}
-use Rattle.uc_model.specs.Limits.{IsFrom}
+use Rattle.plain_lists.specs.Ranges.{IsFrom}
 use Rattle.uc_model.specs.Schedules.{mark_in}
 use Rattle.spell_run.specs.Entries.{entry_of}
 use Rattle.spell_run.specs.Spells.{IsSpellAnswer}

@@ -9,7 +9,7 @@ use Rattle.uc_model.specs.declared.units.Mark.TheVariants.{MustOff, MustOn}
 use Rattle.uc_model.specs.Data.{ThermalUnit, PriceLists, Schedule}
 use Rattle.uc_model.specs.Schedules.{on_in, starts_in, time_down, mark_in}
 use Rattle.uc_model.specs.Earnings.{start_cost_of}
-use Rattle.uc_model.specs.Sums.{sum_below}
+use Rattle.plain_lists.specs.Sums.{sum_below}
 use Rattle.spell_run.specs.Spells.{net_cost}
 
 -- for how many periods the unit has been on at the end of a spell, those before the horizon counted

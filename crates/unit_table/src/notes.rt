@@ -3,8 +3,8 @@
 ghost use Rattle.std.specs.Prelude.{◌≡◌, ◌≢◌, ℕ, ◌+◌, ◌<◌, ◌≤◌, length};
 ghost use Rattle.spell_run.specs.Notes.{passed_at};
 
+use plain_lists::lists::ReservedList;
 use spell_run::{Note, Passed};
-use uc_model::lists::ReservedList;
 
 // Lengthens a list within its memory to so many places, where it is shorter, by places that say
 // nothing.

@@ -15,8 +15,8 @@ ghost use Rattle.unit_table.specs.Tables.{IsEntry, IsLeastEntry};
 
 use crate::commitment::{must_be_on, ripened};
 use crate::table::{Ended, Entry, lesser, start_after, sum_of};
+use plain_lists::lists::ReservedList;
 use std::alloc::{AllocError, Global};
-use uc_model::lists::ReservedList;
 use uc_model::units::{Lag, Unit};
 
 /// An end that a start may follow.

@@ -9,7 +9,7 @@ ghost use Rattle.std.specs.Prelude.{◌≡◌, ◌≢◌, ℕ, suc, ◌+◌, ◌
 ghost use Rattle.cost_curve.specs.CostCurve.{IsCostCurve};
 ghost use Rattle.uc_model.specs.Data.{PriceLists};
 ghost use Rattle.uc_model.specs.PlainUnits.{thermal_of, prices_of};
-ghost use Rattle.uc_model.specs.Sums.{int_at};
+ghost use Rattle.plain_lists.specs.Sums.{int_at};
 ghost use Rattle.uc_model.specs.declared.limits.TheConstants.{MOST_PERIODS};
 ghost use Rattle.unit_table.specs.Limits.{AreLimits, IsFilledWithin};
 ghost use Rattle.unit_table.specs.Live.{live_at, left_at, AreRoomy, AreSmall, HaveRoom};
@@ -27,10 +27,10 @@ use crate::runner::{
     Runner, begin_runner, drop_beyond, is_less, is_undercut, prune, run_all, stop_all,
 };
 use crate::table::{Entry, Table, begin_table};
+use plain_lists::lists::Numbers;
 use spell_run::Running;
 use spell_run::laws::{dispatches_are_runs, dispatches_go_on, runs_go_on};
 use uc_model::laws::start_costs_are_within;
-use uc_model::lists::Numbers;
 use uc_model::units::{Curve, Prices, Unit};
 
 // Begins the runner of the period after the one at a place after its least entry, if that is within

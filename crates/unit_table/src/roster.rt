@@ -5,9 +5,9 @@ ghost use Rattle.unit_table.specs.Live.{live_at};
 ghost use Rattle.unit_table.specs.Rosters.{IsRoster};
 
 use crate::runner::Runner;
+use plain_lists::lists::ReservedList;
 use spell_run::Running;
 use std::alloc::{AllocError, Global};
-use uc_model::lists::ReservedList;
 
 /// First periods of runners, rising: those of all that are on, and maybe of others.
 pub struct Roster {

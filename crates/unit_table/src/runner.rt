@@ -26,9 +26,9 @@ use crate::commitment::{is_long_enough, may_end};
 use crate::notes::leave_at;
 use crate::roster::Roster;
 use crate::table::{Entry, Table, put_end, sum_of};
+use plain_lists::lists::ReservedList;
 use slope_list::Lowest;
 use spell_run::{Passed, Running, begin, end_and_run, run_over};
-use uc_model::lists::ReservedList;
 use uc_model::units::{Curve, Prices, Unit};
 
 /// The spells that begin with one period; its place in a list of runners is that period, and 0

@@ -11,7 +11,7 @@ ghost use Rattle.unit_table.specs.declared.table.Ended.{Ended};
 ghost use Rattle.unit_table.specs.declared.table.Entry.{Entry};
 
 use crate::commitment::{stops_at_once, time_off};
-use uc_model::lists::ReservedList;
+use plain_lists::lists::ReservedList;
 use uc_model::rules::start_cost;
 use uc_model::units::Unit;
 

@@ -1,6 +1,6 @@
 -- What prices pay for the power and the reserve of a schedule.
 use Rattle.uplift_settle.proofs.Common.{◌≡◌, ℕ, suc, ℤ, neg_ℤ, ◌+ℤ◌, ◌-ℤ◌, ◌*ℤ◌, length, ap, arith, ints, ThermalUnit, RenewableUnit, BidUnit, Thermal, Flat, Bid, PriceLists, Schedule, revenue, AreOneLength, power_in, reserve_in, int_at, sum_below, mul-neg, paid_for}
-use Rattle.uc_model.proofs.IntLaws.{sum_below-same, sum_below-add, sum_below-sub}
+use Rattle.plain_lists.proofs.IntLaws.{sum_below-same, sum_below-add, sum_below-sub}
 
 module _ (π : PriceLists) (s : Schedule) (one : AreOneLength s) where
   abbrev energy : ℕ → ℤ

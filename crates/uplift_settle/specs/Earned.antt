@@ -3,7 +3,7 @@
 use Rattle.std.specs.Prelude.{ℕ, ℤ, pos, ◌-ℤ◌, ◌*ℤ◌, List, length, slice_index}
 use Rattle.uc_model.specs.Data.{AnyUnit, PriceLists, Schedule, Market, units}
 use Rattle.uc_model.specs.Earnings.{earnings}
-use Rattle.uc_model.specs.Sums.{int_at, sum_below, zip_with}
+use Rattle.plain_lists.specs.Sums.{int_at, sum_below, zip_with}
 use Rattle.uc_model.specs.Systems.{total_reserve}
 
 -- what prices pay for the amounts of all periods

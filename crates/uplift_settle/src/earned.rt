@@ -4,21 +4,22 @@ ghost use Rattle.std.specs.List.{All};
 ghost use Rattle.uc_model.specs.declared.limits.TheConstants.{MOST_PERIODS};
 ghost use Rattle.uc_model.specs.Data.{RenewableUnit, Thermal, Flat, Bid as BidOf};
 ghost use Rattle.uc_model.specs.Earnings.{earnings};
-ghost use Rattle.uc_model.specs.Limits.{IsFrom, IsEarned, price_limit};
+ghost use Rattle.plain_lists.specs.Ranges.{IsFrom};
+ghost use Rattle.uc_model.specs.Limits.{IsEarned, price_limit};
 ghost use Rattle.uc_model.specs.PlainCases.{market_of, schedules_of};
 ghost use Rattle.uc_model.specs.PlainUnits.{thermal_of, bid_of, prices_of, schedule_of};
 ghost use Rattle.uc_model.specs.Schedules.{IsThermalFeasible};
 ghost use Rattle.uc_model.specs.Systems.{IsFeasiblePlan};
 ghost use Rattle.uplift_settle.specs.Earned.{paid_for, earned_in};
 
+use plain_lists::lists::Numbers;
 use plan_check::costs::{costs_of_starts, power_costs, worth};
 use uc_model::cases::{Case, Plan};
 use uc_model::laws::{
     earnings_are_within, feasible_plans_have_shape, units_are_numbered, units_are_within,
 };
-use uc_model::lists::{Numbers, Powers};
 use uc_model::money;
-use uc_model::units::{Bid, Prices, Response, Unit};
+use uc_model::units::{Bid, Powers, Prices, Response, Unit};
 
 // What the prices of all periods pay for the amounts of all periods.
 fn paid(prices: &Numbers, amounts: &Powers) -> i128

@@ -4,20 +4,21 @@ ghost use Rattle.std.specs.Prelude.{◌++◌, length, map, Some, slice_get};
 ghost use Rattle.std.specs.List.{AllZip};
 ghost use Rattle.uc_model.specs.Data.{AnyUnit, units, unit_count};
 ghost use Rattle.uc_model.specs.Earnings.{IsTop};
-ghost use Rattle.uc_model.specs.Limits.{IsFrom, IsEarned, IsWorth};
+ghost use Rattle.plain_lists.specs.Ranges.{IsFrom};
+ghost use Rattle.uc_model.specs.Limits.{IsEarned, IsWorth};
 ghost use Rattle.uc_model.specs.PlainCases.{market_of, schedules_of};
 ghost use Rattle.uc_model.specs.PlainUnits.{prices_of};
 ghost use Rattle.uc_model.specs.Systems.{IsFeasiblePlan, IsSettled, surplus_value};
 ghost use Rattle.uplift_settle.specs.Earned.{surplus_at};
 
 use crate::earned::earned_by;
+use plain_lists::lists::Numbers;
 use plan_check::totals::reserves_in;
 use std::alloc::{AllocError, Global};
 use uc_model::cases::{Case, Plan};
 use uc_model::laws::{
     earnings_are_within, feasible_plans_have_shape, units_are_numbered, units_are_within,
 };
-use uc_model::lists::Numbers;
 use uc_model::money::worth;
 use uc_model::units::Prices;
 

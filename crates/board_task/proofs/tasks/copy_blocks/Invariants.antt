@@ -1,5 +1,5 @@
 use Rattle.board_task.proofs.Common.{◌≡◌, ◌≤◌, ◌<◌, ℕ, length, get_or, All, Reserved, items_in, Block}
-use Rattle.uc_model.specs.TaskRoom.{room_of}
+use Rattle.plain_lists.specs.Reserved.{room_of}
 use Rattle.board_task.proofs.tasks.copy_blocks.Given as goal
 
 abbrev pub invariant-loop-k : goal.invariant-loop-k

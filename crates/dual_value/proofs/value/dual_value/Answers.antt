@@ -3,8 +3,8 @@ use Rattle.std.proofs.lemmas.Int.{ints, to_z-of_z}
 use Rattle.std.proofs.lemmas.Option.{get_or_from_slice_get}
 use Rattle.std.specs.Int.{w64, w128, cast_signed, cast_unsigned}
 use Rattle.std.specs.Prelude.{FitsSigned}
-use Rattle.uc_model.specs.Sums.{int_at, sum_below}
-use Rattle.uc_model.proofs.SignedLaws.{sum_within, product_within, fits_within, IsWithin}
+use Rattle.plain_lists.specs.Sums.{int_at, sum_below}
+use Rattle.plain_lists.proofs.SignedLaws.{sum_within, product_within, fits_within, IsWithin}
 use Rattle.dual_value.proofs.value.dual_value.Goals as goal
 
 energy_is : (c : goal.After-worth-reserve) → c.worth-energy.result ≡ int_at c.args.prices.now.energy.items c.loop-k.k *ℤ int_at c.args.case.now.demand.items c.loop-k.k

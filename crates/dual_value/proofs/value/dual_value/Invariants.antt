@@ -1,6 +1,6 @@
 use Rattle.std.proofs.Common.{◌≡◌, ◌*◌, pos, neg_ℤ, ◌+ℤ◌, ◌*ℤ◌}
-use Rattle.uc_model.specs.Limits.{IsFrom}
-use Rattle.uc_model.specs.Sums.{int_at, sum_below}
+use Rattle.plain_lists.specs.Ranges.{IsFrom}
+use Rattle.plain_lists.specs.Sums.{int_at, sum_below}
 use Rattle.dual_value.proofs.value.dual_value.Given as goal
 
 abbrev pub invariant-loop-k : goal.invariant-loop-k

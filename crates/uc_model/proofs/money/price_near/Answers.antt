@@ -1,5 +1,5 @@
 use Rattle.uc_model.proofs.Common.{rules, subst, sym, IsFrom, price_limit}
-use Rattle.uc_model.proofs.SignedLaws.{clamped_from}
+use Rattle.plain_lists.proofs.SignedLaws.{clamped_from}
 use Rattle.uc_model.proofs.money.price_near.Goals as goal
 
 pub returns-clause-value : goal.returns-clause-value

@@ -1,5 +1,5 @@
 use Rattle.uc_model.proofs.Common.{◌≡◌, ◌+◌, ◌≤◌, [], map, replicate, All, items_in}
-use Rattle.uc_model.specs.TaskRoom.{room_of}
+use Rattle.plain_lists.specs.Reserved.{room_of}
 use Rattle.uc_model.proofs.tasks.empty_blocks.Given as goal
 
 abbrev pub invariant-loop : goal.invariant-loop

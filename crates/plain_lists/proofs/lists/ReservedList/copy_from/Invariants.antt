@@ -1,5 +1,5 @@
 use Rattle.std.proofs.Common.{◌≡◌, take, vec_capacity}
-use Rattle.uc_model.proofs.lists.ReservedList.copy_from.Given as goal
+use Rattle.plain_lists.proofs.lists.ReservedList.copy_from.Given as goal
 
 abbrev pub invariant-loop-item : goal.invariant-loop-item
 invariant-loop-item g l = record {

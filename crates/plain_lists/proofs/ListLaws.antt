@@ -1,5 +1,5 @@
 -- Lists, and sums over them, item by item.
-use Rattle.uc_model.proofs.Common.{◌≡◌, ℕ, zero, suc, ◌+◌, ◌<◌, ◌⊎◌, inl, inr, ℤ, ◌+ℤ◌, Bool, true, false, cond, Some, None, List, [], ◌∷◌, ◌++◌, map, length, reverse, take, drop, get_or, refl, sym, ap, ◌∙◌, subst, arith, append_assoc, ints, reverse-reverse, append-nil, take-append-drop, take_more, drop_more, slice_get, slice_index_or, All, AllZip, flat_map, option_map, total, sum_below, zip_with}
+use Rattle.plain_lists.proofs.Common.{◌≡◌, ℕ, zero, suc, ◌+◌, ◌<◌, ◌⊎◌, inl, inr, ℤ, ◌+ℤ◌, Bool, true, false, cond, Some, None, List, [], ◌∷◌, ◌++◌, map, length, reverse, take, drop, get_or, refl, sym, ap, ◌∙◌, subst, arith, append_assoc, ints, reverse-reverse, append-nil, take-append-drop, take_more, drop_more, slice_get, slice_index_or, All, AllZip, flat_map, option_map, total, sum_below, zip_with}
 use Rattle.std.proofs.lemmas.List.Concat.{flat_map-append}
 use Rattle.std.proofs.lemmas.Option.{slice_get-map}
 

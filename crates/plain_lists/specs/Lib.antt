@@ -1,0 +1,4 @@
+pub mod Lending
+pub mod Ranges
+pub mod Reserved
+pub mod Sums
