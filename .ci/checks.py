@@ -1,11 +1,13 @@
 #!/usr/bin/env python3
 """Runs the repository's own checks over the built program: the launcher, the examples, the edges, and the tools.
 
-`.ci/run` calls this after the gate, which leaves the program in crates/hull_cli/out. By itself it takes a minute or two:
-it proves nothing. The last line is 'N passed, M failed'; a check that needs what this machine hasn't is named, and
+`.ci/run` calls this after the gate, which leaves the program in crates/hull_cli/out. By itself it takes some minutes:
+it proves nothing, and where the program isn't made of the files that are there it checks nothing, since the first
+check to call ./hull would build it. The last line is 'N passed, M failed'; a check that needs what this machine hasn't is named, and
 counts for neither.
 """
 import os
+import subprocess
 import sys
 import unittest
 
@@ -15,8 +17,8 @@ PROGRAM = os.path.join(ROOT, "crates", "hull_cli", "out", "hull_cli")
 
 def main():
     sys.dont_write_bytecode = True
-    if not os.access(PROGRAM, os.X_OK):
-        print(f"{PROGRAM} isn't there: `rt ci`, or ./hull, builds it\n0 passed, 1 failed")
+    if subprocess.run(["bash", "-c", "home=$PWD; . tools/made_of.sh; is_current"], cwd=ROOT, check=False).returncode:
+        print(f"{PROGRAM} isn't there, or isn't made of the files that are: .ci/run, or ./hull, builds it\n0 passed, 1 failed")
         return 1
     suite = unittest.TestSuite()
     for folder, files in ((".ci/checks", "test*.py"), (".ci/checks", "hostile_*.py"), ("tools/tests", "test*.py")):
