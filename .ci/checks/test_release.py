@@ -1,0 +1,203 @@
+"""A release: made twice it is the same to the byte, and unpacked elsewhere it needs neither the repository nor the kit."""
+import os
+import re
+import shutil
+import subprocess
+import sys
+import tempfile
+import unittest
+
+from built import EXAMPLES, PROGRAM, ROOT, run
+
+BARE = {"PATH": "/usr/bin:/bin", "HOME": "/"}
+ALWAYS = {"GIT_AUTHOR_DATE": "2026-01-01T12:00:00Z", "GIT_COMMITTER_DATE": "2026-01-01T12:00:00Z", "GIT_CONFIG_GLOBAL": "/dev/null"}
+FILES = ("case", "schedule")
+
+
+def read(name):
+    with open(name, encoding="utf-8") as it:
+        return it.read()
+
+
+VERSION = re.search(r"^## (\d[\d.]*)", read(f"{ROOT}/CHANGELOG.md"), re.M)[1]
+KIT = re.search(r"`(rattle-kit-[^`]*)`", read(f"{ROOT}/README.md"))[1]
+NAME = f"hull-{VERSION}-linux-x86_64"
+ROOM = f"{os.path.realpath(tempfile.gettempdir())}/hull-release-{os.getpid()}"
+ONE = f"{ROOM}/one"
+ENV = {**BARE, **ALWAYS, "PATH": f"{ROOM}/bin:{BARE['PATH']}"}
+
+
+def call(folder, *words, **how):
+    done = subprocess.run(words, cwd=folder, env=ENV, capture_output=True, timeout=300, **how)
+    return done.returncode, done.stdout.decode(), done.stderr.decode()
+
+
+def place_program(folder):
+    """Puts the program into the repository, and notes that it was made of what is there."""
+    os.makedirs(f"{folder}/crates/hull_cli/out", exist_ok=True)
+    shutil.copy(PROGRAM, f"{folder}/crates/hull_cli/out")
+    note = 'home=$PWD; . tools/made_of.sh; taken=$(what_is_there); note_what_it_is_made_of "$taken"'
+    assert call(folder, "bash", "-c", note)[0] == 0
+
+
+def release(folder, *words):
+    return call(folder, "tools/release.sh", *words)
+
+
+def setUpModule():
+    """A repository `one` of the files of this one in a commit of its own, with its program and a stand-in for the kit's command."""
+    os.mkdir(ROOM)
+    unittest.addModuleCleanup(shutil.rmtree, ROOM)
+    os.mkdir(f"{ROOM}/bin")
+    with open(f"{ROOM}/bin/rt", "w", encoding="utf-8") as it:
+        it.write(f"#!/bin/sh\necho '{KIT}'\n")
+    os.chmod(f"{ROOM}/bin/rt", 0o755)
+    shutil.copytree(ROOT, ONE, ignore=shutil.ignore_patterns("out", ".git", "__pycache__", "*.pyc"))
+    for words in (["init", "-q"], ["add", "-A"], ["-c", "user.name=a", "-c", "user.email=a@b", "commit", "-qm", "One"]):
+        assert call(ONE, "git", *words)[0] == 0
+    place_program(ONE)
+
+
+class Making(unittest.TestCase):
+    def test_twice_in_two_folders_it_is_the_same(self):
+        other = f"{ROOM}/another folder"
+        before = os.umask(0o077)
+        try:
+            self.assertEqual(call(ROOM, "git", "clone", "-q", "one", other)[0], 0)
+            place_program(other)
+            made = [release(folder, VERSION, ROOM) for folder in (ONE, other)]
+        finally:
+            os.umask(before)
+        self.assertEqual(made[0][::2], (0, ""))
+        self.assertRegex(made[0][1], rf"\A[0-9a-f]{{64}}  {re.escape(NAME)}\.tar\.gz\n\Z")
+        self.assertEqual(made[0], made[1])
+        self.assertEqual(call(ROOM, "sha256sum", f"{NAME}.tar.gz")[1], made[0][1])
+
+    def test_what_cannot_be_released(self):
+        def refused(why, *words):
+            status, output, said = release(ONE, *words)
+            self.assertEqual((status, output), (1, ""))
+            self.assertRegex(said, rf"\Arelease\.sh: .*{why}.*\n\Z")
+
+        refused("usage")
+        refused("usage", "new", ROOM)
+        refused("has no heading", "0.0.77", ROOM)
+        program = f"{ONE}/crates/hull_cli/out/hull_cli"
+        with open(program, "ab") as it:
+            it.write(b"\0")
+        refused("isn't made of these files", VERSION, ROOM)
+        place_program(ONE)
+        os.remove(f"{program}.made_of")
+        refused("isn't made of these files", VERSION, ROOM)
+        place_program(ONE)
+        with open(f"{ONE}/README.md", "a", encoding="utf-8") as it:
+            it.write("\n")
+        refused("aren't those of a commit", VERSION, ROOM)
+        call(ONE, "git", "checkout", "-q", "README.md")
+        refused("can't be written", VERSION, f"{ROOM}/none")
+        made_of = read(f"{program}.made_of")
+        with open(f"{program}.made_of", "w", encoding="utf-8") as it:
+            it.write(re.sub("^kit .*", "kit another", made_of, flags=re.M))
+        os.rename(f"{ROOM}/bin/rt", f"{ROOM}/rt")
+        try:
+            refused("names another kit", VERSION, ROOM)
+        finally:
+            os.rename(f"{ROOM}/rt", f"{ROOM}/bin/rt")
+            place_program(ONE)
+
+    def test_the_notice_names_each_crate_of_the_kit_in_the_program(self):
+        lines = [it.split("#")[0].split(":") for it in read(f"{ROOT}/crates.txt").splitlines() if ":" in it.split("#")[0]]
+        below = {names.split()[0]: stands_on.split() for names, stands_on in lines}
+        found, due = ["hull_cli"], set()
+        while found:
+            new = set(below.get(found.pop(), ())) - due
+            due |= new
+            found.extend(new)
+        notice = read(f"{ROOT}/NOTICE").split()
+        self.assertEqual([it for it in sorted(due - set(below)) if it not in notice and f"{it}," not in notice], [])
+
+
+class Using(unittest.TestCase):
+    """The release, unpacked where nothing else is."""
+
+    def setUp(self):
+        above = tempfile.mkdtemp(prefix="hull-unpacked-")
+        self.addCleanup(shutil.rmtree, above)
+        self.assertEqual(release(ONE, VERSION, above)[0], 0)
+        self.assertEqual(call(above, "tar", "-xzf", f"{NAME}.tar.gz")[0], 0)
+        self.above, self.home = above, f"{above}/{NAME}"
+
+    def hull(self, *words, folder=None, **how):
+        return run(words, program=f"{self.home}/hull", folder=folder or self.home, env=BARE, **how)
+
+    def test_what_is_in_it(self):
+        names = {os.path.relpath(f"{at}/{it}", self.home) for at, _, files in os.walk(self.home) for it in files}
+        due = {"hull", "bin/hull", "VERSION", "README.md", "CHANGELOG.md", "LICENSE", "NOTICE", "SHA256SUMS"}
+        due |= {f"docs/{it}" for it in ("FORMATS.md", "REPORT.md", "FAULTS.md", "MANY.md", "hull.1", "help.txt")}
+        due |= {"tools/report.py", "tools/make_schedule.py", "tools/many.sh", "examples/day/case.json"}
+        self.assertEqual(due - names, set())
+        self.assertEqual([it for it in names if re.match(r"tools/(build|made_of|release|tests)|crates|bench|\.", it)], [])
+        self.assertEqual(call(self.home, "sha256sum", "--check", "--quiet", "--strict", "SHA256SUMS"), (0, "", ""))
+        listed = {it.split("  ", 1)[1] for it in read(f"{self.home}/SHA256SUMS").splitlines()}
+        self.assertEqual(listed, names - {"SHA256SUMS"})
+
+    def test_the_version_and_what_the_machine_must_have(self):
+        status, text, _ = self.hull("version")
+        self.assertEqual((status, text.decode()), (0, read(f"{self.home}/VERSION")))
+        commit = call(ONE, "git", "rev-parse", "HEAD")[1].strip()
+        first, last = text.decode().split("needs ")
+        self.assertEqual(first, f"hull {VERSION}\nkit {KIT}\ncommit {commit}\n")
+        self.assertRegex(last, r"\ALinux on x86-64-v\d with glibc 2\.\d+ or later\n\Z")
+
+    def test_the_examples_help_and_faults(self):
+        words = ["price", "--case", "case.json", "--schedule", "schedule.json", "--proposals", "1"]
+        due = read(f"{EXAMPLES}/usual/price-1.output").encode()
+        self.assertEqual(self.hull(*words, folder=f"{self.home}/examples/usual"), (0, due, b""))
+        self.assertEqual(self.hull("help"), (0, read(f"{ROOT}/docs/help.txt").encode(), b""))
+        self.assertEqual(self.hull("prise"), (1, b"fault 1 words 2 1\n", b""))
+        os.symlink(f"{self.home}/hull", f"{self.above}/link")
+        self.assertEqual(run([], program=f"{self.above}/link", env=BARE), (1, b"fault 1 words 1 0\n", b""))
+
+    def test_the_program_in_a_root_with_the_c_library_alone(self):
+        if os.geteuid() != 0:
+            self.skipTest("only root can change the root")
+        libraries = re.findall(r"(/\S+) \(0x", call("/", "ldd", f"{self.home}/bin/hull")[1])
+        self.assertTrue(libraries)
+        root = f"{self.above}/root"
+        for it in libraries:
+            os.makedirs(os.path.dirname(f"{root}{it}"), exist_ok=True)
+            shutil.copy(it, f"{root}{it}")
+        shutil.copy(f"{self.home}/bin/hull", root)
+        for it in FILES:
+            shutil.copy(f"{EXAMPLES}/first/{it}.json", root)
+
+        def enter():
+            os.chroot(root)
+            os.chdir("/")
+
+        due = read(f"{EXAMPLES}/first/price.output").encode()
+        words = read(f"{EXAMPLES}/first/price.words").split()
+        ended = subprocess.run(["/hull", *words], env={}, preexec_fn=enter, cwd=root, capture_output=True, timeout=120)
+        self.assertEqual((ended.returncode, ended.stdout, ended.stderr), (0, due, b""))
+
+    def test_the_tools(self):
+        report = f"{self.home}/examples/usual/price-1.output"
+        for words in (["csv", report, f"{self.above}/tables"], ["page", report, f"{self.above}/page.html"]):
+            os.makedirs(f"{self.above}/tables", exist_ok=True)
+            status, _, said = call("/", sys.executable, "-B", f"{self.home}/tools/report.py", *words)
+            self.assertEqual((status, said), (0, ""))
+        self.assertIn("<html", read(f"{self.above}/page.html"))
+        day = f"{self.above}/a day"
+        os.mkdir(day)
+        for it in FILES:
+            shutil.copy(f"{EXAMPLES}/usual/{it}.json", day)
+        for verb in ("price", "audit", "left"):
+            self.assertEqual(call(self.above, f"{self.home}/tools/many.sh", verb, "a day"), (0, "", ""))
+
+    def test_the_manual_page(self):
+        if not shutil.which("man"):
+            self.skipTest("there is no man here")
+        shown = call(self.home, "man", "--warnings", "-l", "docs/hull.1")
+        if shown[0] or "has been minimized" in shown[1] or not shown[1]:
+            self.skipTest(f"man can't show pages here: {shown[2].strip()[:100]}")
+        self.assertIn("hull price --case F --schedule F", " ".join(shown[1].split()))

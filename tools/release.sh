@@ -1,0 +1,70 @@
+#!/usr/bin/env bash
+# Makes the release hull-VERSION-linux-x86_64.tar.gz of the commit that is checked out: the program, which needs no kit to run, with its
+# documents, examples and tools.
+#
+#   tools/release.sh VERSION [FOLDER]
+#
+# VERSION has a heading in CHANGELOG.md. The file is written to FOLDER, or here. Nothing is built: the program has to be made of this commit
+# and of nothing else, as .ci/run leaves it. Made twice of one commit and one program, on one machine, the file is the same to the byte.
+set -u
+export LC_ALL=C
+unset CDPATH
+home=$(cd -- "$(dirname -- "$(readlink -f -- "${BASH_SOURCE[0]}")")/.." && pwd)
+# shellcheck source=tools/made_of.sh
+. "$home/tools/made_of.sh"
+
+# What the compiler is told of the processor (docs: 'x86-64-v2' has SSE4.2 and POPCNT, as every one since 2009 or so).
+processor=x86-64-v2
+# Of tools/ what works on the repository alone.
+own='tools/(build|made_of|release|random_units)\.sh|tools/tests/.*'
+
+fail() {
+    echo "release.sh: $1" >&2
+    exit 1
+}
+
+# Refuses what can't be released as this version.
+look() {
+    [[ $version =~ ^[0-9]+(\.[0-9]+)+$ ]] || fail "usage: tools/release.sh VERSION [FOLDER]"
+    grep -q "^## $version\b" "$home/CHANGELOG.md" || fail "CHANGELOG.md has no heading '## $version'"
+    commit=$(git -C "$home" rev-parse HEAD) || fail "$home is no git repository"
+    [ -z "$(git -C "$home" status --porcelain)" ] || fail "the files aren't those of a commit"
+    [ -s "$program" ] && [ -e "$made_of" ] && is_current || fail "the program isn't made of these files: .ci/run builds it"
+    kit=$(noted kit)
+    [ "$kit" = "$(kit_of_readme)" ] || fail "README.md names another kit than the program's, '$kit'"
+}
+
+# Puts all that belongs to the release into the folder $1.
+gather() {
+    local names glibc
+    mapfile -d '' -t names < <(git -C "$home" ls-files -z README.md CHANGELOG.md LICENSE NOTICE hull docs examples tools | grep -zvxE "$own")
+    git -C "$home" archive HEAD -- "${names[@]}" | tar -xm -C "$1" -f - || fail "the files can't be copied"
+    mkdir "$1/bin" && cp -- "$program" "$1/bin/hull" || fail "the program can't be copied"
+    glibc=$(grep -ao 'GLIBC_[0-9][0-9.]*' "$program" | sort -Vu | tail -n 1)
+    cat >"$1/VERSION" <<END
+hull $version
+kit $kit
+commit $commit
+needs Linux on $processor with glibc ${glibc#GLIBC_} or later
+END
+    (cd "$1" && find . -type f ! -name SHA256SUMS -print0 | sort -z | sed -z 's|^\./||' | xargs -0 sha256sum >SHA256SUMS) ||
+        fail "the sums can't be written"
+}
+
+main() {
+    local version=${1-} folder=${2-.} commit kit name room
+    look
+    name=hull-$version-linux-x86_64
+    room=$(mktemp -d) || fail "no folder can be made"
+    # shellcheck disable=SC2064 # the folder's name is known now
+    trap "rm -rf '$room'" EXIT
+    mkdir "$room/$name"
+    gather "$room/$name"
+    tar -C "$room" --format=gnu --sort=name --mtime="@$(git -C "$home" log -1 --format=%ct)" --owner=0 --group=0 --numeric-owner \
+        --mode=u=rwX,go=rX -cf "$room/tar" "$name" && gzip -n -9 "$room/tar" || fail "the archive can't be written"
+    cp -- "$room/tar.gz" "$folder/$name.tar.gz.part" 2>/dev/null && mv -f -- "$folder/$name.tar.gz.part" "$folder/$name.tar.gz" ||
+        fail "$folder can't be written"
+    (cd -- "$folder" && sha256sum "$name.tar.gz")
+}
+
+main "$@"
