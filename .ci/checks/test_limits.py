@@ -1,0 +1,92 @@
+"""What a run may not do, as docs/FAULTS.md tells it: a file that may not grow, outputs that fail late, and no standard input or output."""
+import os
+import resource
+import shutil
+import signal
+import subprocess
+import tempfile
+import unittest
+
+from built import EXAMPLES, PROGRAM, run
+
+FILES = ("case.json", "schedule.json", "report.txt")
+# A close of standard output, or a flush of it, that tells an error.
+LATE = """
+#define _GNU_SOURCE
+#include <errno.h>
+#include <sys/syscall.h>
+#include <unistd.h>
+int close(int file) { if (file == 1) { errno = EIO; return -1; } return (int)syscall(SYS_close, file); }
+int fsync(int file) { (void)file; errno = EIO; return -1; }
+"""
+
+
+class Limits(unittest.TestCase):
+    def setUp(self):
+        self.room = tempfile.mkdtemp(prefix="hull-limits-")
+        self.addCleanup(shutil.rmtree, self.room)
+        for name in FILES[:2]:
+            shutil.copy(f"{EXAMPLES}/usual/{name}", self.room)
+        self.words = ["price", "--case", "case.json", "--schedule", "schedule.json"]
+        status, self.due, _ = self.hull(*self.words)
+        self.assertEqual(status, 0)
+        with open(f"{self.room}/report.txt", "wb") as it:
+            it.write(self.due)
+        self.commands = {
+            "check": ["check", *self.words[1:]],
+            "price": self.words,
+            "bound": ["bound", *self.words[1:]],
+            "fixed": ["fixed", *self.words[1:]],
+            "audit": ["audit", *self.words[1:], "--report", "report.txt"],
+            "try": ["try", "7", "--proposals", "2"],
+        }
+
+    def hull(self, *words, **how):
+        return run(words, folder=self.room, **how)
+
+    def test_a_file_that_may_not_grow(self):
+        def limit(ignored):
+            resource.setrlimit(resource.RLIMIT_FSIZE, (1024, 1024))
+            resource.setrlimit(resource.RLIMIT_CORE, (0, 0))
+            signal.signal(signal.SIGXFSZ, signal.SIG_IGN if ignored else signal.SIG_DFL)
+
+        for ignored, due in ((False, -signal.SIGXFSZ), (True, 6)):
+            with open(f"{self.room}/output", "w+b") as it:
+                status, _, said = self.hull(*self.words, stdout=it, preexec_fn=lambda: limit(ignored))
+                it.seek(0)
+                self.assertEqual((status, said, it.read()), (due, b"", self.due[:1024]))
+        # (what ends before the limit is whole)
+        with open(f"{self.room}/output", "w+b") as it:
+            self.assertEqual(self.hull(*self.commands["check"], stdout=it, preexec_fn=lambda: limit(False))[0], 0)
+
+    def test_an_output_that_fails_when_it_is_closed(self):
+        compiler = shutil.which("cc") or shutil.which("gcc") or shutil.which("clang")
+        if compiler is None:
+            self.skipTest("there is no C compiler")
+        with open(f"{self.room}/late.c", "w", encoding="utf-8") as it:
+            it.write(LATE)
+        subprocess.run([compiler, "-shared", "-fPIC", "late.c", "-o", "late.so"], cwd=self.room, check=True)
+        status, output, _ = self.hull(*self.words, env={**os.environ, "LD_PRELOAD": f"{self.room}/late.so"})
+        self.assertEqual((status, output), (0, self.due))
+
+    def closed(self, words, which):
+        command = f'exec "$0" "$@" {which}'
+        ended = subprocess.run(["bash", "-c", command, PROGRAM, *words], cwd=self.room, capture_output=True, timeout=120)
+        return ended.returncode, ended.stdout
+
+    def test_no_standard_input_or_output(self):
+        before = {}
+        for name in FILES:
+            with open(f"{self.room}/{name}", "rb") as it:
+                before[name] = it.read()
+        for name, words in self.commands.items():
+            due = self.hull(*words)[:2]
+            self.assertEqual((name, *self.closed(words, "<&-")), (name, *due))
+            self.assertEqual((name, *self.closed(words, "<&- 2>&-")), (name, *due))
+            for which in (">&-", "<&- >&-", "<&- >&- 2>&-"):
+                self.assertEqual((name, which, *self.closed(words, which)), (name, which, 6, b""))
+        for which in (">&-", "<&- >&-"):
+            self.assertEqual(self.closed(["check", "--case", "none", "--schedule", "none"], which), (2, b""))
+        for name, text in before.items():
+            with open(f"{self.room}/{name}", "rb") as it:
+                self.assertEqual(it.read(), text)
