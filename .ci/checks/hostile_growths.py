@@ -25,6 +25,7 @@ import sys
 import tempfile
 import threading
 import time
+import unittest
 from concurrent.futures import ThreadPoolExecutor
 
 from built import ROOT
@@ -39,16 +40,19 @@ STANDS_FOR_WANTING = {
     # one of four threads has halted the others
     "threads": rb"assertion failed: closed\.finished\(\)$",
 }
+RAN_ALONE = rb"assertion failed: least <= ran && ran <= most && !job\.in_vain$"
 # What tests of several threads at once say, by their names, where one of them couldn't be started, and another did its work.
 STANDS_FOR_ALONE = {
     "two_workers_answer_at_once": rb"left: 1$",
     "four_workers_answer_at_once": rb"left: [123]$",
-    "two_jobs_run_on_two_threads": rb"left: 2$|assertion failed: !job\.in_vain$",
-    "both_jobs_go_on_after_their_first_number": rb"assertion failed: !job\.in_vain$",
+    "two_jobs_run_on_two_threads": RAN_ALONE,
+    "both_jobs_go_on_after_their_first_number": RAN_ALONE,
 }
 ENDS = SAME, MEMORY, ALONE, OTHERWISE = "as with all memory", "want of memory", "a thread too few", "otherwise"
 # A run that takes longer than so many seconds, and than so many times what the test takes with all memory, hangs; with all memory it has longer.
 SECONDS, TIMES, SECONDS_WHOLE = 10, 10, 120
+# Beside the gate the machine may be as busy as it likes.
+SECONDS_BESIDE = 120
 # So many wrong ends of one test are enough.
 ENOUGH = 10
 NOTES = struct.Struct("4q")
@@ -115,8 +119,8 @@ class Test:
 class Runner:
     """Runs tests side by side, each in a folder of its own."""
 
-    def __init__(self, room, library, jobs):
-        self.room, self.library, self.jobs, self.lock = room, library, jobs, threading.Lock()
+    def __init__(self, room, library, jobs, seconds=SECONDS):
+        self.room, self.library, self.jobs, self.seconds, self.lock = room, library, jobs, seconds, threading.Lock()
 
     def run(self, test, number, folder):
         """The test's end, with the allocation of that number refused; 0 refuses none."""
@@ -125,7 +129,7 @@ class Runner:
             it.write(bytes(NOTES.size))
         env = {**os.environ, "LD_PRELOAD": self.library, "NOTES": notes, "REFUSED": str(number or 1 << 60)}
         how = {"cwd": folder, "env": env, "stdin": subprocess.DEVNULL, "stdout": subprocess.PIPE, "stderr": subprocess.STDOUT}
-        limit = max(SECONDS, TIMES * test.seconds) if number else SECONDS_WHOLE
+        limit = max(self.seconds, TIMES * test.seconds) if number else max(self.seconds, SECONDS_WHOLE)
         began = time.monotonic()
         with subprocess.Popen([test.program, test.name], **how) as run:
             try:
@@ -239,6 +243,22 @@ def report(tests, given):
             what = f"allocation {number}, of {ended.size} bytes" if number else "no allocation refused"
             print(f"\n{test.crate} {test.name}: {what}:", *ended.lines(), sep="\n    ")
     return 1 if any(it.wrong for it in tests) else 0
+
+
+class Growths(unittest.TestCase):
+    def test_a_minute_of_refusals_over_what_the_gate_has_built(self):
+        tests = [it for name in crates_with_tests() for it in tests_of(name, "")]
+        if not tests:
+            self.skipTest("no tests are built")
+        resource.setrlimit(resource.RLIMIT_CORE, (0, resource.getrlimit(resource.RLIMIT_CORE)[1]))
+        room = tempfile.mkdtemp(prefix="hull-growths-")
+        self.addCleanup(shutil.rmtree, room)
+        library = refuser_in(room)
+        if library is None:
+            self.skipTest("there is no C compiler")
+        refuse(Runner(room, library, os.cpu_count(), SECONDS_BESIDE), tests, argparse.Namespace(minutes=1, seed=1, most=1 << 40))
+        self.assertEqual([(it.name, number, ended.lines()) for it in tests for number, ended in it.wrong], [])
+        self.assertGreater(sum(it.tried for it in tests), 0)
 
 
 def main():
