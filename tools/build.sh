@@ -23,6 +23,14 @@ need_tools() {
     [[ $kit == /* ]] && [ -x "$kit/bin/rattle" ] || fail "the program isn't built, and rt is on the path, but the kit isn't there behind it"
 }
 
+# Refuses a user who may not see what there is: it was built for another alone.
+look_about() {
+    local it
+    for it in "$out" "$program" "$made_of"; do
+        [ ! -e "$it" ] || [ -r "$it" ] || fail "$it may not be read by this user, for whom whoever built the program hasn't opened it"
+    done
+}
+
 # Ends with why there is no program, $1, or that the disk is full, where it is: a write fails now, or the log $2 says that one did.
 # Who waits for this build reads it too.
 end_badly() {
@@ -293,6 +301,7 @@ build_in_turn() {
     trap 'stop_all 130' INT
     trap 'stop_all 143' TERM
     trap 'stop_all 129' HUP
+    look_about
     need_tools
     open_lock
     take_lock

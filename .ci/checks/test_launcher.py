@@ -364,6 +364,14 @@ class Failing(Repository):
         self.assertRegex(ended[2].decode(), r"\Ahull: cannot write .*, so the program cannot be built: Permission denied\n\Z")
 
 
+    @unittest.skipIf(os.geteuid() != 0, "only root can be another user")
+    def test_a_program_that_was_built_for_another_alone(self):
+        self.assertEqual(run(["check"], program=f"{self.room}/hull", env=self.env, preexec_fn=lambda: os.umask(0o077))[0], 0)
+        ended = run(["check"], program=f"{self.room}/hull", env=self.env, **NOBODY)
+        self.assertEqual(ended[:2], (127, b""))
+        self.assertRegex(ended[2].decode(), r"\Ahull: .* may not be read by this user, .*\n\Z")
+
+
 class Home(Repository):
     def test_a_copy_elsewhere_writes_nothing(self):
         elsewhere = f"{self.room}/../elsewhere"
