@@ -1,15 +1,18 @@
 """What a run may not do, as docs/FAULTS.md tells it: a file that may not grow, outputs that fail late, and no standard input or output."""
+import fcntl
 import os
 import resource
 import shutil
 import signal
 import subprocess
 import tempfile
+import time
 import unittest
 
 from built import EXAMPLES, PROGRAM, run
 
 FILES = ("case.json", "schedule.json", "report.txt")
+SET_PIPE_SIZE = 1031  # (its name came with Python 3.10)
 # A close of standard output, or a flush of it, that tells an error.
 LATE = """
 #define _GNU_SOURCE
@@ -68,6 +71,36 @@ class Limits(unittest.TestCase):
         subprocess.run([compiler, "-shared", "-fPIC", "late.c", "-o", "late.so"], cwd=self.room, check=True)
         status, output, _ = self.hull(*self.words, env={**os.environ, "LD_PRELOAD": f"{self.room}/late.so"})
         self.assertEqual((status, output), (0, self.due))
+
+    def test_an_output_that_says_try_again(self):
+        # (a pipe that is full tells a writer so where it doesn't wait; its reader here is slower than the program)
+        for words in (self.words, self.commands["audit"], self.commands["try"]):
+            due = self.hull(*words)[:2]
+            reading, writing = os.pipe()
+            fcntl.fcntl(writing, SET_PIPE_SIZE, 4096)
+            os.set_blocking(writing, False)
+            with subprocess.Popen([PROGRAM, *words], cwd=self.room, stdout=writing, stdin=subprocess.DEVNULL) as started:
+                os.close(writing)
+                read = b""
+                while piece := os.read(reading, 997):
+                    read += piece
+                    time.sleep(0.002)
+                os.close(reading)
+            self.assertEqual((started.returncode, read), due)
+
+    def test_an_input_that_comes_slowly(self):
+        with open(f"{self.room}/case.json", "rb") as it:
+            case = it.read()
+        os.mkfifo(f"{self.room}/pipe")
+        started = subprocess.Popen(
+            [PROGRAM, "price", "--case", "pipe", "--schedule", "schedule.json"], cwd=self.room, stdout=subprocess.PIPE
+        )
+        with open(f"{self.room}/pipe", "wb", buffering=0) as it:
+            for byte in range(0, len(case), 50):
+                it.write(case[byte : byte + 50])
+                time.sleep(0.002)
+        output, _ = started.communicate(timeout=120)
+        self.assertEqual((started.returncode, output), (0, self.due))
 
     def closed(self, words, which):
         command = f'exec "$0" "$@" {which}'
