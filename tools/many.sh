@@ -164,8 +164,12 @@ deal() {
     for day; do
         if [ "${#places[@]}" = 0 ]; then
             wait -n -p ended "${!place_of[@]}"
-            places=("${place_of[$ended]}")
-            unset "place_of[$ended]"
+            # (where the shell can't say which one has ended, it waits for all)
+            [ -n "${ended-}" ] || { wait && ended=${!place_of[*]}; }
+            for ended in ${ended}; do
+                places+=("${place_of[$ended]}")
+                unset "place_of[$ended]"
+            done
         fi
         place=${places[0]}
         places=("${places[@]:1}")
