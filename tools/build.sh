@@ -281,7 +281,7 @@ build() {
         say "README.md names the kit '$line', and rt is of '$(rt version)': proofs may fail with it"
     { : >"$log"; } 2>/dev/null || end_badly "cannot write $log, so the program cannot be built"
     # The prover asks for the memory again that it gives back: some hundredths of its time.
-    export MIMALLOC_PURGE_DELAY=-1
+    local -x MIMALLOC_PURGE_DELAY=-1
     prove "$(most_processes)" || end_badly "no program: ${bad:-the prover} failed; $logs/$bad says why" "$logs/$bad"
     say "proving hull_cli and compiling the program"
     start compile
@@ -297,6 +297,8 @@ build() {
 # no descriptor of the caller's is touched.
 build_in_turn() {
     local kit lock
+    # (what a full disk is called is looked for)
+    local -x LC_ALL=C
     trap '' PIPE
     trap 'stop_all 130' INT
     trap 'stop_all 143' TERM

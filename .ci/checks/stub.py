@@ -53,6 +53,7 @@ case "\\$*" in
     where) exec pwd ;;
     src) echo '$(cat "$(dirname "$2")/libraries/low.rlib/text")' ;;
     nine) exec cat <&9 ;;
+    environment) env | sort ;;
     "") echo fault 1 words 1 0; exit 1 ;;
     *) echo "given \\$*" ;;
 esac

@@ -38,6 +38,9 @@ class FirstUse(Repository):
         self.assertEqual(self.hull("where")[:2], (0, here))
         self.assertEqual(self.hull("where")[:2], (0, here))
 
+    def test_the_callers_environment_is_the_programs(self):
+        self.assertEqual(self.hull("environment")[1], self.hull("environment")[1])
+
     def test_the_callers_descriptors_are_the_programs(self):
         self.write("nine", "of the caller\n")
         for _ in range(2):
