@@ -52,7 +52,7 @@ ENDS = SAME, MEMORY, ALONE, OTHERWISE = "as with all memory", "want of memory", 
 # A run that takes longer than so many seconds, and than so many times what the test takes with all memory, hangs; with all memory it has longer.
 SECONDS, TIMES, SECONDS_WHOLE = 10, 10, 120
 # Beside the gate the machine may be as busy as it likes.
-SECONDS_BESIDE = 120
+SECONDS_BESIDE = 300
 # So many wrong ends of one test are enough.
 ENOUGH = 10
 NOTES = struct.Struct("4q")
