@@ -5,8 +5,8 @@ ghost use Rattle.point_list.specs.Breaks.{IsCountedList};
 
 use crate::steps;
 use ramp_step::breakpoint::Knot;
-use shape_law::{Heap, Shape};
 use std::alloc::AllocError;
+use test_shapes::{Heap, Shape};
 use uc_model::units::Curve;
 
 /// A convex function on a whole interval, kept as its breakpoints: a straight line lies between

@@ -12,7 +12,7 @@ pub use Rattle.ramp_step.specs.Knots.{knot, height, power}
 pub use Rattle.ramp_step.specs.Laws.{SameKnotsAreSame, IsRun, TurnIsLeast, NearestIsLeast}
 pub use Rattle.ramp_step.specs.Tables.{IsBreakList, table_of, function_of, AreBreaks}
 pub use Rattle.ramp_step.specs.declared.breakpoint.Knot.{Knot}
-pub use Rattle.shape_law.specs.Cell.{IsAmong, Frame, AreDistinct}
+pub use Rattle.test_shapes.specs.Cell.{IsAmong, Frame, AreDistinct}
 pub use Rattle.shape_law.specs.Curve.{curve_value, reserve_term}
 pub use Rattle.shape_law.specs.Effect.{IsSame, IsSum, IsCurveSum, CanAddCurve, IsWindow, IsLeast, IsLeastIn, IsPoint}
 pub use Rattle.shape_law.specs.Table.{CanAdd, value_of, HasNone}

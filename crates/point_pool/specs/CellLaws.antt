@@ -5,7 +5,7 @@ use Rattle.std.specs.Prelude.{ℤ, pos, Bool, slice_get}
 use Rattle.std.specs.Option.{option_map}
 use Rattle.std.proofs.lemmas.Bool.{cases_lt}
 use Rattle.std.proofs.lemmas.List.{get_or_past}
-use Rattle.shape_law.specs.Cell.{Cell, IsUsed, IsAmong, AreSameAt, Owns, contents_at}
+use Rattle.test_shapes.specs.Cell.{Cell, IsUsed, IsAmong, AreSameAt, Owns, contents_at}
 use Rattle.point_pool.specs.declared.slot.Slot.{Slot}
 use Rattle.point_pool.specs.Walk.{no_slot, slot_at, walk, knots_at, cell_of, AreUsed}
 

@@ -1,6 +1,6 @@
 -- What is seen of a pool and of a shape in it.
 use Rattle.std.specs.Prelude.{◌≡◌, ℕ, List, map}
-use Rattle.shape_law.specs.Cell.{Cell, AreSameAt}
+use Rattle.test_shapes.specs.Cell.{Cell, AreSameAt}
 use Rattle.shape_law.specs.Table.{Table}
 use Rattle.ramp_step.specs.declared.breakpoint.Knot.{Knot}
 use Rattle.point_pool.specs.declared.pool.Pool.{Pool}

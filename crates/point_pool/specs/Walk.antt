@@ -3,7 +3,7 @@ use Rattle.std.specs.Prelude.{◌≡◌, ℕ, zero, suc, ◌<◌, pos, true, fal
 use Rattle.std.specs.Prelude.{slice_index_or}
 use Rattle.std.specs.Coded.{×_prop, Unit-prop}
 use mathlib.Core.HLevel.{¬_prop}
-use Rattle.shape_law.specs.Cell.{Cell, IsAmong, AreDistinct}
+use Rattle.test_shapes.specs.Cell.{Cell, IsAmong, AreDistinct}
 use Rattle.ramp_step.specs.declared.breakpoint.Knot.{Knot}
 use Rattle.point_pool.specs.declared.slot.Slot.{Slot}
 

@@ -2,7 +2,7 @@
 ghost use Rattle.std.specs.Prelude.{◌≡◌, ℕ, ◌+◌, ◌^◌, ◌<◌, ◌≤◌, true, false, length, map, take};
 ghost use Rattle.std.specs.Prelude.{slice_set, IfOk};
 ghost use Rattle.std.proofs.Props.{props};
-ghost use Rattle.shape_law.specs.Cell.{IsUsed};
+ghost use Rattle.test_shapes.specs.Cell.{IsUsed};
 ghost use Rattle.point_pool.specs.Walk.{AreDistinct-prop, slot_at, walk, knots_at, cell_of};
 ghost use Rattle.point_pool.specs.Walk.{AreFree, AreUsed, Stored, Released, Replaced};
 

@@ -4,8 +4,8 @@ ghost use Rattle.std.specs.Prelude.{true};
 use crate::pool::Pool;
 use ramp_step::breakpoint::Knot;
 use ramp_step::law::{knots_decide, turn_is_least};
-use shape_law::{Cells, Shape};
 use std::alloc::AllocError;
+use test_shapes::{Cells, Shape};
 use uc_model::units::Curve;
 
 impl Cells for Pool {

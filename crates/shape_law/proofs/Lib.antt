@@ -9,9 +9,5 @@ pub mod CurveLaws
 pub mod LimitLaws
 -- each effect fixes the new function, and is that of any function with the same values
 pub mod EffectLaws
--- a call on one shape leaves the shapes that are apart from it
-pub mod FrameLaws
--- the cells of a chain of calls
-pub mod ChainLaws
 -- The lemmas that answers cite.
 pub mod Lemmas

@@ -1,5 +1,3 @@
-pub mod Cell
-pub mod Chain
 pub mod Curve
 pub mod Effect
 pub mod Laws

@@ -1,5 +1,5 @@
-use Rattle.shape_law.proofs.Lemmas.{ended_shapes_leave_nothing}
-use Rattle.shape_law.proofs.laws.ended_shapes_leave_nothing.Goals as goal
+use Rattle.test_shapes.proofs.Lemmas.{ended_shapes_leave_nothing}
+use Rattle.test_shapes.proofs.laws.ended_shapes_leave_nothing.Goals as goal
 
 pub returns : goal.returns
 returns g c =

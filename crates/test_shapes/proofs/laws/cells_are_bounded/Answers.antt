@@ -1,5 +1,5 @@
-use Rattle.shape_law.proofs.Lemmas.{charged_by, bounded_by}
-use Rattle.shape_law.proofs.laws.cells_are_bounded.Goals as goal
+use Rattle.test_shapes.proofs.Lemmas.{charged_by, bounded_by}
+use Rattle.test_shapes.proofs.laws.cells_are_bounded.Goals as goal
 
 pub returns-clause-charged : goal.returns-clause-charged
 returns-clause-charged g c = charged_by g.S.Shape.function _ g.S.Shape.cells (λ charge h s h' s' most. most)

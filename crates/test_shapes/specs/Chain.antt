@@ -1,7 +1,7 @@
 -- Chains of calls on one shape, and the cells that they take (this project's profile).
 use Rattle.std.specs.Prelude.{◌≡◌, ℕ, ℤ, ◌+◌, ◌-◌, ◌*◌, ◌*ℤ◌, ◌≤◌, List, [], ◌∷◌, length, Bool}
 use Rattle.uc_model.specs.declared.units.Curve.{Curve}
-use Rattle.shape_law.specs.Cell.{Balance}
+use Rattle.test_shapes.specs.Cell.{Balance}
 use Rattle.shape_law.specs.Curve.{curve_value, reserve_term}
 use Rattle.shape_law.specs.Effect.{IsPoint, IsSum, IsCurveSum, IsWindow}
 use Rattle.shape_law.specs.Table.{Table}

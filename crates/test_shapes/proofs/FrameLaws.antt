@@ -1,7 +1,7 @@
 -- A call on one shape leaves the shapes that are apart from it.
-use Rattle.shape_law.proofs.Common.{◌≡◌, ℕ, List, [], ◌∷◌, ◌∙◌, ap, subst, inl, inr, ◌⊎◌, option_map, Table, OthersStay, FramesJoin, EndedShapesLeaveNothing}
+use Rattle.test_shapes.proofs.Common.{◌≡◌, ℕ, List, [], ◌∷◌, ◌∙◌, ap, subst, inl, inr, ◌⊎◌, option_map, Table, OthersStay, FramesJoin, EndedShapesLeaveNothing}
 use Rattle.std.proofs.lemmas.Bool.{cases_eq}
-use Rattle.shape_law.specs.Cell.{Cell, IsUsed, IsAmong, AreSameAt, Frame}
+use Rattle.test_shapes.specs.Cell.{Cell, IsUsed, IsAmong, AreSameAt, Frame}
 
 pub is_among : (n : ℕ) (xs : List ℕ) → IsAmong n xs ⊎ (IsAmong n xs → ⊥)
 is_among n [] = inr (λ h. h)

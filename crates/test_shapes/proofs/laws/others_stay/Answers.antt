@@ -1,5 +1,5 @@
-use Rattle.shape_law.proofs.Lemmas.{others_stay}
-use Rattle.shape_law.proofs.laws.others_stay.Goals as goal
+use Rattle.test_shapes.proofs.Lemmas.{others_stay}
+use Rattle.test_shapes.proofs.laws.others_stay.Goals as goal
 
 pub returns : goal.returns
 returns g c =

@@ -1,5 +1,5 @@
-use Rattle.shape_law.proofs.Lemmas.{frames_join}
-use Rattle.shape_law.proofs.laws.frames_join.Goals as goal
+use Rattle.test_shapes.proofs.Lemmas.{frames_join}
+use Rattle.test_shapes.proofs.laws.frames_join.Goals as goal
 
 pub returns : goal.returns
 returns g c =

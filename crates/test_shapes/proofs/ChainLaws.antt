@@ -1,7 +1,7 @@
 -- The cells of a chain of calls.
-use Rattle.shape_law.proofs.Common.{◌≡◌, ℕ, ◌+◌, ◌-◌, ◌*◌, ◌≤◌, List, [], ◌∷◌, ap, arith, Table}
+use Rattle.test_shapes.proofs.Common.{◌≡◌, ℕ, ◌+◌, ◌-◌, ◌*◌, ◌≤◌, List, [], ◌∷◌, ap, arith, Table}
 use Rattle.std.proofs.Math.Nat.{mul-le-mul_right}
-use Rattle.shape_law.specs.Chain.{Call, AddCurve, AddLine, AddReserve, Window, charge_of, charges_of, curves_in, kinks_in, windows_in, AreCurvesOf, CellsAreCharged, CellsAreBounded}
+use Rattle.test_shapes.specs.Chain.{Call, AddCurve, AddLine, AddReserve, Window, charge_of, charges_of, curves_in, kinks_in, windows_in, AreCurvesOf, CellsAreCharged, CellsAreBounded}
 
 -- the charges, where no curve has more than so many blocks
 charges_bounded : (points : ℕ) (calls : List Call) → AreCurvesOf points calls

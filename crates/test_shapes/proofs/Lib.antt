@@ -1,0 +1,9 @@
+-- The names from elsewhere that the proofs here cite.
+pub mod Common
+-- ---- src/laws.rt
+-- a call on one shape leaves the shapes that are apart from it
+pub mod FrameLaws
+-- the cells of a chain of calls
+pub mod ChainLaws
+-- The lemmas that answers cite.
+pub mod Lemmas
