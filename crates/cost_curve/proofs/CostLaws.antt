@@ -1,5 +1,5 @@
 -- The cost of a power on an edge, as the code computes it.
-use Rattle.cost_curve.proofs.Common.{◌≡◌, ℕ, ◌<◌, ◌⊎◌, inl, inr, ℤ, pos, neg_ℤ, ◌+ℤ◌, ◌-ℤ◌, ◌*ℤ◌, ◌≤ℤ◌, ◌<ℤ◌, List, length, sym, ap, ◌∙◌, subst, arith, w64, FitsSigned, true, false, int_le, ints, to_z-of_z, Point, envelope, line_at, PowerCostsAreWithin, EnvelopeIsGreatest, IsCost, IsFrom, IsPoint, IsPower, Spans, AreCostPoints, IsAmount, point_at, IsEdge, IsVertex, fits64, stored}
+use Rattle.cost_curve.proofs.Common.{◌≡◌, ℕ, ◌<◌, ◌⊎◌, inl, inr, ℤ, pos, neg_ℤ, ◌+ℤ◌, ◌-ℤ◌, ◌*ℤ◌, ◌≤ℤ◌, ◌<ℤ◌, List, length, sym, ap, ◌∙◌, subst, arith, w64, FitsSigned, true, false, int_le, ints, to_z-of_z, Point, envelope, line_at, PowerCostsAreWithin, EnvelopeIsGreatest, IsCost, IsFrom, IsPoint, IsPower, Spans, AreCostPoints, point_at, IsEdge, IsVertex, fits64, stored}
 use Rattle.cost_curve.proofs.EnvelopeValues.{Spans-ordered, envelope_value, IsEnvelope-before, IsEnvelope-after}
 
 le_from_test : (a b : ℤ) → int_le a b ≡ true → a ≤ℤ b
@@ -115,14 +115,3 @@ module _ (greatest : EnvelopeIsGreatest) (costs : PowerCostsAreWithin) (ps : Lis
 
   pub edge_limit : (r : ℤ) → r ≡ envelope ps x → IsCost r
   edge_limit r is = subst IsCost (sym is) (costs ps x are.some are.points span)
-
--- ---- on a block
-
-pub block_sum : (v p r : ℤ) → FitsSigned w64 p → FitsSigned w64 r → IsAmount v → IsAmount (v +ℤ (p *ℤ r)) → stored (stored v +ℤ stored (stored p *ℤ stored r)) ≡ v +ℤ (p *ℤ r)
-block_sum v p r fp fr hv hs =
-    let a = hv.at_least in let b = hv.at_most in let c = hs.at_least in let d = hs.at_most in
-    let e = ap (λ (z : ℤ). z *ℤ stored r) (to_z-of_z w64 p fp) ∙ ap (λ (z : ℤ). p *ℤ z) (to_z-of_z w64 r fr) in
-    let f = ap stored e ∙ to_z-of_z w64 (p *ℤ r) (fits64 (p *ℤ r) (omega (arith, ints, b, c)) (omega (arith, ints, a, d))) in
-    let g = to_z-of_z w64 v (fits64 v (omega (arith, ints, a)) (omega (arith, ints, b))) in
-    let s : stored v +ℤ stored (stored p *ℤ stored r) ≡ v +ℤ (p *ℤ r) = omega (arith, ints, f, g) in
-    ap stored s ∙ to_z-of_z w64 (v +ℤ (p *ℤ r)) (fits64 (v +ℤ (p *ℤ r)) (omega (arith, ints, c)) (omega (arith, ints, d)))

@@ -16,7 +16,7 @@ pub mod CostLaws
 -- ---- src/curves.rt
 -- what blocks add, one block after another
 pub mod CurveLaws
--- the value of a curve at a power, found block by block
+-- a curve has values at the powers from its first to its last
 pub mod ValueLaws
 -- a curve grows by the blocks of an edge, and is right once no edge leads on
 pub mod BuildLaws

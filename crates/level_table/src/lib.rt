@@ -11,10 +11,10 @@ ghost use Rattle.shape_law.specs.Curve.{curve_value, reserve_term, IsLimitedCurv
 ghost use Rattle.shape_law.specs.Effect.{IsWindow, IsLeastIn, Reaches};
 ghost use Rattle.shape_law.specs.Table.{value_of, IsConvexList, IsPlace, IsAmount, HasNone};
 
-use cost_curve::curves::curve_at;
 use shape_law::laws::{curve_places_are_limited, effects_keep_convexity, effects_keep_limits};
-use shape_law::{Cells, Heap, Shape};
 use std::alloc::{AllocError, Global};
+use test_curves::curve_at;
+use test_shapes::{Cells, Heap, Shape};
 use uc_model::units::Curve;
 
 /// A convex function by its values, one for each power from `lo` on.

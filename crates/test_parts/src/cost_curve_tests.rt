@@ -4,9 +4,10 @@ ghost use Rattle.cost_curve.specs.CostCurve.{AreCostPoints, IsCostCurve, CanEval
 
 use crate::same::{same, same_of};
 use cost_curve::costs::{envelope_at, envelope_near};
-use cost_curve::curves::{curve_at, curve_into, curve_of};
+use cost_curve::curves::curve_into;
 use std::process::Abort;
 use std::test::Fail;
+use test_curves::{curve_at, curve_of};
 use uc_model::units::{Blocks, Curve, Point};
 
 // The cost at a place, by the points, by the leg that it is on, and by a curve of them.

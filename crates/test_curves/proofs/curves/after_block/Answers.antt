@@ -1,6 +1,6 @@
-use Rattle.cost_curve.proofs.Common.{rules, w64, FitsSigned}
-use Rattle.cost_curve.proofs.Lemmas.{block_sum}
-use Rattle.cost_curve.proofs.curves.after_block.Goals as goal
+use Rattle.test_curves.proofs.Common.{rules, w64, FitsSigned}
+use Rattle.test_curves.proofs.Lemmas.{block_sum}
+use Rattle.test_curves.proofs.curves.after_block.Goals as goal
 
 pub returns-clause-value : goal.returns-clause-value
 returns-clause-value c =

@@ -1,6 +1,6 @@
-use Rattle.cost_curve.proofs.Common.{rules, ◌≡◌, ◌+◌, ℤ, pos, ◌+ℤ◌, ◌-ℤ◌, ◌*ℤ◌, ◌≤ℤ◌, ◌<ℤ◌, Some, ◌∷◌, get_or, drop, sym, ap, ◌∙◌, subst, w64, FitsSigned, to_z, of_z, arith, ints, to_z-of_z, drop_more, Block, curve_value, fits64}
-use Rattle.cost_curve.proofs.Lemmas.{IsReached, IsReached-start, value_amount, near_amount, near_value, width_power, far_amount, IsReached-past}
-use Rattle.cost_curve.proofs.curves.curve_at.Goals as goal
+use Rattle.test_curves.proofs.Common.{rules, ◌≡◌, ◌+◌, ℤ, pos, ◌+ℤ◌, ◌-ℤ◌, ◌*ℤ◌, ◌≤ℤ◌, ◌<ℤ◌, Some, ◌∷◌, get_or, drop, sym, ap, ◌∙◌, subst, w64, FitsSigned, to_z, of_z, arith, ints, to_z-of_z, drop_more, Block, curve_value, fits64}
+use Rattle.test_curves.proofs.Lemmas.{IsReached, IsReached-start, value_amount, near_amount, near_value, width_power, far_amount, IsReached-past}
+use Rattle.test_curves.proofs.curves.curve_at.Goals as goal
 
 abbrev no_block : Block
 no_block = record { width = pos 0; price = pos 0 }

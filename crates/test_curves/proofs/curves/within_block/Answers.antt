@@ -1,6 +1,6 @@
-use Rattle.cost_curve.proofs.Common.{rules, w64, FitsSigned}
-use Rattle.cost_curve.proofs.Lemmas.{block_sum}
-use Rattle.cost_curve.proofs.curves.within_block.Goals as goal
+use Rattle.test_curves.proofs.Common.{rules, w64, FitsSigned}
+use Rattle.test_curves.proofs.Lemmas.{block_sum}
+use Rattle.test_curves.proofs.curves.within_block.Goals as goal
 
 pub returns : goal.returns
 returns c =
