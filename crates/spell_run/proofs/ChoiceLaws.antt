@@ -1,12 +1,11 @@
--- The numbers of a choice as they are stored, and that they stay within limits.
-use Rattle.spell_run.proofs.Common.{◌≡◌, ℕ, ℤ, pos, nat_abs, ◌+ℤ◌, ◌-ℤ◌, ◌≤ℤ◌, ◌<ℤ◌, Some, sym, ap, ◌∙◌, subst, arith, w64, FitsSigned, to_z, of_z, int_min, ints, to_z-of_z, reserve_term, IsLeastIn, Table, value_of, HasNone, Schedule, IsFrom, IsOutput, IsWithin, fits_within, Step, IsWritten, IsChosen, best_reserve, IsFairStep, IsKinked, IsSmall}
+-- The powers and the reserve of a period as they are stored, and that they stay within limits.
+use Rattle.spell_run.proofs.Common.{◌≡◌, ℕ, ℤ, pos, nat_abs, ◌+ℤ◌, ◌-ℤ◌, ◌≤ℤ◌, ◌<ℤ◌, sym, ap, ◌∙◌, subst, arith, w64, FitsSigned, to_z, of_z, int_min, ints, to_z-of_z, Schedule, IsOutput, IsWithin, fits_within, Step, IsWritten, best_reserve, IsFairStep}
 use Rattle.spell_run.proofs.ReserveLaws.{best_where_paid, best_may}
-use Rattle.spell_run.proofs.SumLaws.{added}
 
 abbrev pub stored : ℤ → ℤ
 stored z = to_z w64 (of_z w64 z)
 
-stored_within : (z : ℤ) → IsWithin 3000000000 z → stored z ≡ z
+pub stored_within : (z : ℤ) → IsWithin 3000000000 z → stored z ≡ z
 stored_within z h = to_z-of_z w64 z (fits_within w64 3000000000 z h (omega arith))
 
 module _ (s : Step) (fair : IsFairStep s) (p : ℤ) (p_out : IsOutput p) where
@@ -16,13 +15,8 @@ module _ (s : Step) (fair : IsFairStep s) (p : ℤ) (p_out : IsOutput p) where
   up_stored : stored s.ramp_up ≡ s.ramp_up
   up_stored = stored_within s.ramp_up (let a = fair.ramp_up.at_least in let b = fair.ramp_up.at_most in record { at_least = omega (arith, ints, a); at_most = omega (arith, ints, b) })
 
-  down_stored : stored s.ramp_down ≡ s.ramp_down
-  down_stored = stored_within s.ramp_down (let a = fair.ramp_down.at_least in let b = fair.ramp_down.at_most in record { at_least = omega (arith, ints, a); at_most = omega (arith, ints, b) })
-
   cap_stored : stored s.cap ≡ s.cap
   cap_stored = stored_within s.cap (let a = fair.cap.at_least in let b = fair.cap.at_most in record { at_least = omega (arith, ints, a); at_most = omega (arith, ints, b) })
-
-  -- ---- the reserve
 
   module _ (q : ℤ) (q_out : IsOutput q) where
     q_stored : stored q ≡ q
@@ -78,53 +72,6 @@ module _ (s : Step) (fair : IsFairStep s) (p : ℤ) (p_out : IsOutput p) where
         let d = p_out.at_least in
         record { at_least = a; at_most = omega (arith, ints, b, c, d) }
 
-  -- ---- the powers that it is chosen from
-
-  low_stored : stored (stored p -ℤ stored s.ramp_up) ≡ p -ℤ s.ramp_up
-  low_stored =
-      ap (λ (x : ℤ). stored (x -ℤ stored s.ramp_up)) p_stored ∙ ap (λ (x : ℤ). stored (p -ℤ x)) up_stored
-      ∙ stored_within (p -ℤ s.ramp_up) (
-      let a = fair.ramp_up.at_least in
-      let b = fair.ramp_up.at_most in
-      let c = p_out.at_least in
-      let d = p_out.at_most in
-      record { at_least = omega (arith, ints, b, c); at_most = omega (arith, ints, a, d) }
-      )
-
-  high_stored : stored (stored p +ℤ stored s.ramp_down) ≡ p +ℤ s.ramp_down
-  high_stored =
-      ap (λ (x : ℤ). stored (x +ℤ stored s.ramp_down)) p_stored ∙ ap (λ (x : ℤ). stored (p +ℤ x)) down_stored
-      ∙ stored_within (p +ℤ s.ramp_down) (
-      let a = fair.ramp_down.at_least in
-      let b = fair.ramp_down.at_most in
-      let c = p_out.at_least in
-      let d = p_out.at_most in
-      record { at_least = omega (arith, ints, a, c); at_most = omega (arith, ints, b, d) }
-      )
-
-  pub least_stored : (f : Table) (v y : ℤ) → IsLeastIn (stored (stored p -ℤ stored s.ramp_up)) (stored (stored p +ℤ stored s.ramp_down)) f v y → IsLeastIn (p -ℤ s.ramp_up) (p +ℤ s.ramp_down) f v y
-  least_stored f v y h =
-      subst (λ (a : ℤ). IsLeastIn a (p +ℤ s.ramp_down) f v y) low_stored (subst (λ (b : ℤ). IsLeastIn (stored (stored p -ℤ stored s.ramp_up)) b f v y) high_stored h)
-
-  pub none_stored : (f : Table) → HasNone (stored (stored p -ℤ stored s.ramp_up)) (stored (stored p +ℤ stored s.ramp_down)) f → HasNone (p -ℤ s.ramp_up) (p +ℤ s.ramp_down) f
-  none_stored f h =
-      subst (λ (a : ℤ). HasNone a (p +ℤ s.ramp_down) f) low_stored (subst (λ (b : ℤ). HasNone (stored (stored p -ℤ stored s.ramp_up)) b f) high_stored h)
-
--- the power of a step is an output
-pub found_out : (s : Step) (p : ℤ) → IsFairStep s → IsFrom s.least s.cap p → IsOutput p
-found_out s p fair h =
-    let a = h.at_least in
-    let b = h.at_most in
-    let c = fair.least.at_least in
-    let d = fair.cap.at_most in
-    record { at_least = omega (arith, ints, a, c); at_most = omega (arith, ints, b, d) }
-
--- and so is a power before it
-pub kinked_out : (s : Step) (f g : Table) (y v : ℤ) → IsSmall f → IsKinked s f g → value_of g y ≡ Some v → IsOutput y
-kinked_out s f g y v small kinked h =
-    let a = added (reserve_term s.reserve_price s.cap s.ramp_up) y v (value_of f y) (value_of g y) (kinked y) h in
-    (small y a.0 a.1).0
-
 pub output_stored : (z : ℤ) → IsOutput z → stored z ≡ z
 output_stored z h = stored_within z (let a = h.at_least in let b = h.at_most in record { at_least = omega (arith, ints, a); at_most = omega (arith, ints, b) })
 
@@ -143,19 +90,3 @@ written_cast k p r b d d' p_out r_out is w =
 pub best_stored : (s : Step) (q p : ℤ) → IsOutput q → IsOutput p → best_reserve s.reserve_price s.cap s.ramp_up (stored q) (stored p) ≡ best_reserve s.reserve_price s.cap s.ramp_up q p
 best_stored s q p q_out p_out =
     ap (λ (x : ℤ). best_reserve s.reserve_price s.cap s.ramp_up x (stored p)) (output_stored q q_out) ∙ ap (λ (y : ℤ). best_reserve s.reserve_price s.cap s.ramp_up q y) (output_stored p p_out)
-
--- a choice as it is stored
-pub chosen_stored : (s : Step) (f g : Table) (k : ℕ) (x y v : ℤ) (d d' : Schedule) → IsFairStep s → IsSmall f → IsFrom s.least s.cap x → IsKinked s f g →
-    IsLeastIn (stored (stored x -ℤ stored s.ramp_up)) (stored (stored x +ℤ stored s.ramp_down)) g v y →
-    IsWritten k (stored x) (best_reserve s.reserve_price s.cap s.ramp_up (stored y) (stored x)) d d' → IsChosen s f k x (stored y) d d'
-chosen_stored s f g k x y v d d' fair small found kinked least written =
-    let out = found_out s x fair found in
-    let before = kinked_out s f g y v small kinked least.there in
-    let e = output_stored y before in
-    record {
-      kinked = g;
-      is_kinked = kinked;
-      value = v;
-      least = subst (λ (z : ℤ). IsLeastIn (x -ℤ s.ramp_up) (x +ℤ s.ramp_down) g v z) (sym e) (least_stored s fair x out g v y least);
-      written = subst (λ (z : ℤ). IsWritten k z (best_reserve s.reserve_price s.cap s.ramp_up (stored y) z) d d') (output_stored x out) written;
-    }

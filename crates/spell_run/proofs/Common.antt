@@ -1,32 +1,28 @@
 -- The names that the proofs of this crate take from its specs and from other crates, passed on from one place.
-pub use Rattle.std.proofs.Common.{◌≡◌, ℕ, ◌+◌, ◌≤◌, ℤ, pos, neg_ℤ, ◌+ℤ◌, ◌*ℤ◌, Option, Some, None, refl, ap, ◌∙◌, subst, arith, nat_abs, ◌-ℤ◌, ◌≤ℤ◌, ◌<ℤ◌, sym, w64, FitsSigned, to_z, of_z, zero, suc, ◌<◌, ◌⊎◌, inl, inr, negsuc, Bool, true, false, List, [], ◌∷◌, take, ltb, eqb, length, IfSome, ◌-◌, ◌≢◌, get_or, set, get_or-set_same, get_or-set_other, cond, IsSome, ◌*◌, length-set, Result, Ok, Err, IfOk, replicate, is_ok, IsOk, ◌&&◌, rules}
+pub use Rattle.std.proofs.Common.{◌≡◌, ℕ, ◌+◌, ◌≤◌, ℤ, pos, neg_ℤ, ◌+ℤ◌, ◌*ℤ◌, Option, Some, None, refl, ap, ◌∙◌, subst, arith, nat_abs, ◌-ℤ◌, ◌≤ℤ◌, ◌<ℤ◌, sym, w64, FitsSigned, to_z, of_z, zero, suc, ◌<◌, ◌⊎◌, inl, inr, negsuc, Bool, true, false, List, [], ◌∷◌, take, ltb, eqb, length, IfSome, ◌-◌, ◌≢◌, get_or, set, get_or-set_same, get_or-set_other, cond, IsSome, ◌*◌, length-set, replicate, ◌&&◌, rules}
 pub use Rattle.std.proofs.Math.IntN.{zero-*ℤ, *ℤ-one, *ℤ_comm}
-pub use Rattle.std.proofs.lemmas.Bool.{lt-ltb, le-ltb, cases_lt, eqb-true, ltb-true, eq-eqb, false≢true, ne_eqb, and_right}
+pub use Rattle.std.proofs.lemmas.Bool.{lt-ltb, le-ltb, cases_lt, eqb-true, ltb-true, eq-eqb, ne_eqb, and_right}
 pub use Rattle.std.proofs.lemmas.Int.{ints, clamps, to_z-of_z, by_lt_z}
 pub use Rattle.std.proofs.lemmas.List.{length-replicate, get_or-replicate, get_or_past}
-pub use Rattle.std.proofs.lemmas.Option.{get_or_from_slice_get, IfSome_then, MatchOption-at_some, MatchOption-at_none}
-pub use Rattle.std.proofs.lemmas.Result.{IfOk-weaker, on_ok_weaker}
+pub use Rattle.std.proofs.lemmas.Option.{get_or_from_slice_get}
 pub use Rattle.std.specs.Int.{int_min, int_max}
 pub use Rattle.std.specs.Option.{option_map}
 pub use Rattle.std.specs.Prelude.{slice_get, MatchOption, IfNone, IsTrue, int_lt}
 pub use Rattle.cost_curve.specs.CostCurve.{IsCostCurve, AreCostPoints, EnvelopeIsCost}
-pub use Rattle.shape_law.specs.Cell.{Cell, Frame}
 pub use Rattle.shape_law.specs.Curve.{curve_value, reserve_term, end_of, IsLimitedCurve}
-pub use Rattle.shape_law.specs.Effect.{IsSum, IsWindow, CanAddCurve, IsLeastIn, IsLeast, IsCurveSum, IsSame, IsPoint, Reaches}
-pub use Rattle.shape_law.specs.Laws.{StaysAs, OthersStay}
+pub use Rattle.shape_law.specs.Effect.{IsSum, IsLeastIn, IsLeast, IsCurveSum, IsPoint, Reaches}
 pub use Rattle.shape_law.specs.Lookup.{same_some}
-pub use Rattle.shape_law.specs.Table.{Table, value_of, CanAdd, HasNone, offset_value, IsEmpty, IsPlace, IsAmount}
+pub use Rattle.shape_law.specs.Table.{Table, value_of, HasNone, offset_value, IsEmpty, IsPlace, IsAmount}
 pub use Rattle.shape_law.specs.declared.step.Step.{Step}
 pub use Rattle.slope_list.specs.declared.slopes.Lowest.{Lowest}
 pub use Rattle.slope_step.specs.Turn.{IsTurn, IsBottom, IsFirst, IsLast}
-pub use Rattle.spell_run.specs.Entries.{entry_of, IsSpellStart, IsOnFromTo, IsSameOutside, cells_for}
-pub use Rattle.spell_run.specs.Frontier.{IsWritten, IsChosen, IsFrontier, IsReached, IsWayFrom, IsUnreached, stops_at, HasBestReserve, HasSamePowersAfter, IsSameAfter}
+pub use Rattle.spell_run.specs.Entries.{IsOnFromTo, IsSameOutside}
+pub use Rattle.spell_run.specs.Frontier.{IsWritten, IsChosen, IsFrontier, IsReached, IsWayFrom, stops_at, HasBestReserve, HasSamePowersAfter, IsSameAfter}
 pub use Rattle.spell_run.specs.Laws.{best_reserve, most_reserve, IsReserve, ReserveIsAKink, ReserveIsBest}
 pub use Rattle.spell_run.specs.Notes.{IsNoted, IsEndNoted, end_cost, IsSpellNoted, IsCheapest, passed_at}
-pub use Rattle.spell_run.specs.Spells.{IsSpellWithin, spell_first, IsDispatch, net_cost_at, net_cost, spell_cost, IsSpellAnswer, IsBestDispatch, IsFirstDispatch, HasNoDispatch, over_min}
+pub use Rattle.spell_run.specs.Spells.{IsSpellWithin, IsDispatch, net_cost_at, net_cost, spell_cost, IsSpellAnswer, IsBestDispatch, IsFirstDispatch, over_min}
 pub use Rattle.spell_run.specs.Steps.{IsFairStep, IsCostOf, IsKinked, IsSmall, cap_at, step_at, IsStepped, IsLeastCost, IsLeastCostIn, IsMove, IsRun}
 unfoldable pub use Rattle.spell_run.specs.Steps.{level}
-pub use Rattle.spell_run.specs.declared.best.Found.{Found}
 pub use Rattle.spell_run.specs.declared.way.Note.{Note}
 pub use Rattle.plain_lists.proofs.IntLaws.{mul-sub, mul-mono_of, sum_below-same}
 pub use Rattle.plain_lists.proofs.SignedLaws.{IsWithin, product_within, fits_within}

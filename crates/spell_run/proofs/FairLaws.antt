@@ -1,5 +1,5 @@
 -- The numbers of a unit's step are within limits, and the curve of its points is a cost of the step.
-use Rattle.spell_run.proofs.Common.{◌≡◌, ℕ, suc, ◌-◌, ◌<◌, ◌⊎◌, inl, inr, ℤ, pos, neg_ℤ, ◌+ℤ◌, ◌-ℤ◌, ◌≤ℤ◌, Bool, true, false, cond, List, length, Option, Some, IsSome, refl, sym, ap, ◌∙◌, subst, arith, w64, FitsSigned, to_z, of_z, slice_get, int_min, option_map, ints, clamps, to_z-of_z, get_or_from_slice_get, IsCostCurve, AreCostPoints, EnvelopeIsCost, curve_value, end_of, reserve_term, IsLimitedCurve, IsSame, same_some, Table, IsPlace, IsAmount, Curve, ThermalUnit, PriceLists, envelope, IsFrom, IsPower, IsOutput, IsCost, IsThermalUnit, ArePrices, int_at, fits_within, Step, cap_at, step_at, IsFairStep, IsCostOf, IsStepped, IsSmall, IsLeastCostIn}
+use Rattle.spell_run.proofs.Common.{◌≡◌, ℕ, suc, ◌-◌, ◌<◌, ◌⊎◌, inl, inr, ℤ, pos, neg_ℤ, ◌+ℤ◌, ◌-ℤ◌, ◌≤ℤ◌, Bool, true, false, cond, List, length, Option, Some, IsSome, refl, sym, ap, ◌∙◌, subst, arith, w64, FitsSigned, to_z, of_z, slice_get, int_min, ints, clamps, to_z-of_z, get_or_from_slice_get, IsCostCurve, AreCostPoints, EnvelopeIsCost, curve_value, end_of, IsLimitedCurve, same_some, Table, IsPlace, IsAmount, Curve, ThermalUnit, PriceLists, envelope, IsFrom, IsPower, IsOutput, IsCost, IsThermalUnit, ArePrices, int_at, fits_within, Step, cap_at, step_at, IsFairStep, IsCostOf, IsStepped}
 use Rattle.uc_model.specs.declared.units.Point.{Point}
 use Rattle.spell_run.proofs.StepLaws.{under_cap, under_most, cost_on}
 
@@ -225,26 +225,3 @@ module _ (g : ThermalUnit) (π : PriceLists) (k : ℕ) (starts starts' : Bool) (
       let high : stored last.most ≡ (step_at g π k starts' true).most =
       to_z-of_z w64 last.most (output_fits last.most fair.most) ∙ ap (λ (s : Step). s.most) last_is ∙ ap (λ (b : Bool). (step_at g π k b true).most) same in
       subst (λ (x : ℤ). P x (step_at g π k starts' true).most) low (subst (λ (y : ℤ). P (stored last.least) y) high here)
-
-  pub range_of : IsFairStep last → (h : Table) (o : Option ℤ) → IsLeastCostIn (stored last.least) (stored last.most) h o → IsLeastCostIn g.min_power (step_at g π k starts' true).most h o
-  range_of fair h o least =
-      let low : stored last.least ≡ g.min_power = to_z-of_z w64 last.least (output_fits last.least fair.least) ∙ ap (λ (s : Step). s.least) last_is in
-      let high : stored last.most ≡ (step_at g π k starts' true).most =
-      to_z-of_z w64 last.most (output_fits last.most fair.most) ∙ ap (λ (s : Step). s.most) last_is ∙ ap (λ (b : Bool). (step_at g π k b true).most) same in
-      subst (λ (x : ℤ). IsLeastCostIn x (step_at g π k starts' true).most h o) low (subst (λ (y : ℤ). IsLeastCostIn (stored last.least) y h o) high least)
-
--- ---- functions with the same values
-
-pub small_same : (f g : Table) → IsSame f g → IsSmall f → IsSmall g
-small_same f g same small x v h = small x v (sym (same x) ∙ h)
-
-pub stepped_same : (s : Step) (c : Curve) (f g h : Table) → IsSame f g → IsStepped s c g h → IsStepped s c f h
-stepped_same s c f g h same step = record {
-  kinked = step.kinked;
-  window = step.window;
-  line = step.line;
-  is_kinked = λ x. step.is_kinked x ∙ ap (option_map (λ v. v +ℤ reserve_term s.reserve_price s.cap s.ramp_up x)) (same x);
-  is_window = step.is_window;
-  is_line = step.is_line;
-  is_curve = step.is_curve;
-}

@@ -1,5 +1,5 @@
 -- The frontier of a spell's first periods: its beginning, one more period, and the least costs that are read off it.
-use Rattle.spell_run.proofs.Common.{◌≡◌, ℕ, zero, suc, ◌+◌, ◌-◌, ◌*◌, ◌<◌, ◌≤◌, ◌⊎◌, inl, inr, ℤ, pos, neg_ℤ, ◌+ℤ◌, ◌≤ℤ◌, Bool, true, false, cond, eqb, ltb, length, Option, Some, None, IfSome, refl, sym, ap, ◌∙◌, subst, arith, length-set, ints, lt-ltb, length-replicate, IsCostCurve, EnvelopeIsCost, IsPoint, same_some, Table, value_of, Curve, ThermalUnit, PriceLists, Schedule, IsFrom, IsOutput, IsThermalUnit, ArePrices, power_in, reserve_in, int_at, IsWithin, IsSpellStart, IsReached, IsFrontier, spell_first, IsDispatch, net_cost_at, net_cost, spell_cost, IsSpellAnswer, IsSpellWithin, cap_at, step_at, IsMove, level, IsRun, IsStepped, IsSmall, IsLeastCost, IsLeastCostIn}
+use Rattle.spell_run.proofs.Common.{◌≡◌, ℕ, zero, suc, ◌+◌, ◌-◌, ◌*◌, ◌<◌, ◌≤◌, ◌⊎◌, inl, inr, ℤ, pos, neg_ℤ, ◌+ℤ◌, ◌≤ℤ◌, Bool, true, false, eqb, ltb, length, Option, Some, None, IfSome, refl, sym, ap, ◌∙◌, subst, arith, length-set, ints, lt-ltb, length-replicate, IsCostCurve, EnvelopeIsCost, IsPoint, same_some, Table, value_of, Curve, ThermalUnit, PriceLists, Schedule, IsFrom, IsOutput, IsThermalUnit, ArePrices, power_in, reserve_in, int_at, IsWithin, IsReached, IsFrontier, IsDispatch, net_cost_at, net_cost, spell_cost, IsSpellAnswer, IsSpellWithin, cap_at, step_at, IsMove, level, IsRun, IsStepped, IsSmall, IsLeastCost, IsLeastCostIn}
 use Rattle.spell_run.proofs.RunLaws.{level_before, level_within, level_power, level_same, move_same, run_alike, run_more, run_less, cost_alike, cost_more, cost_none, cost_zero, with_period, written_power, written_reserve, written_alike, blank, blank_reserve, natural, reserve_not_negative, MayEnd, move_parts, move_whole, dispatch_from_run, run_from_dispatch, end_from_dispatch}
 use Rattle.spell_run.proofs.StepLaws.{under_cap, under_most, most_over, IsFromMove, step_sound, step_complete, net_within}
 
@@ -69,19 +69,11 @@ pub frontier_goes_on : (g : ThermalUnit) (π : PriceLists) (f : Table) → IsThe
 frontier_goes_on g π f unit point =
     begin_at g π 0 0 g.power0 f point unit.power0 (λ k from until. absurd (omega (arith, until))) (λ d. let e = level_within g 0 d 0 (omega arith) in omega (arith, ints, e)) (λ d. cost_zero g π d)
 
-begin_started : (g : ThermalUnit) (π : PriceLists) (first : ℕ) (f : Table) → IsThermalUnit g → 1 ≤ first → IsPoint g.min_power (pos 0) f → IsFrontier g π first (first - 1) f
+pub begin_started : (g : ThermalUnit) (π : PriceLists) (first : ℕ) (f : Table) → IsThermalUnit g → 1 ≤ first → IsPoint g.min_power (pos 0) f → IsFrontier g π first (first - 1) f
 begin_started g π zero f unit one point = absurd (omega (arith, one))
 begin_started g π (suc b) f unit one point =
     let z : b ≡ suc b - 1 = omega arith in
     subst (λ (t : ℕ). IsFrontier g π (suc b) t f) z (frontier_start g π b f unit point)
-
-pub frontier_begin : (g : ThermalUnit) (π : PriceLists) (periods first : ℕ) (started : Bool) (f : Table) → IsThermalUnit g → IsSpellStart g periods first started →
-    IsPoint (cond started g.min_power g.power0) (pos 0) f → IsFrontier g π (spell_first started first) (first - 1) f
-frontier_begin g π periods first true f unit start point = begin_started g π first f unit start.from_one point
-frontier_begin g π periods first false f unit start point =
-    let one = (start.goes_on refl).0 in
-    let z : 0 ≡ first - 1 = omega (arith, one) in
-    subst (λ (t : ℕ). IsFrontier g π 0 t f) z (frontier_goes_on g π f unit point)
 
 pub frontier_from : (g : ThermalUnit) (π : PriceLists) (first : ℕ) (power : ℤ) (f : Table) → IsThermalUnit g → (1 ≤ first → power ≡ g.min_power) → (first ≡ 0 → power ≡ g.power0) →
     IsPoint power (pos 0) f → IsFrontier g π first (first - 1) f

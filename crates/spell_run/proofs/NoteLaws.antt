@@ -1,12 +1,12 @@
 -- The way back by what the steps noted: the power nearest to the turn is the cheapest power before, and the periods that
 -- are written for it are a way on.
-use Rattle.spell_run.proofs.Common.{◌≡◌, ℕ, zero, suc, ◌-◌, ◌<◌, ◌≤◌, ltb, eqb, ◌⊎◌, inl, inr, ℤ, pos, ◌+ℤ◌, ◌-ℤ◌, ◌≤ℤ◌, ◌<ℤ◌, Bool, true, false, length, Some, refl, sym, ap, ◌∙◌, subst, arith, option_map, int_min, int_max, ints, clamps, by_lt_z, EnvelopeIsCost, reserve_term, IsPoint, IsLeast, IsLeastIn, Reaches, same_some, Table, value_of, Step, IsBottom, IsTurn, IsFirst, IsLast, ThermalUnit, PriceLists, Schedule, IsOutput, IsThermalUnit, ArePrices, int_at, Lowest, Note, IsSpellStart, IsOnFromTo, IsSameOutside, IsFrontier, IsWritten, IsChosen, IsWayFrom, best_reserve, IsNoted, IsEndNoted, IsSpellNoted, IsCheapest, spell_first, IsBestDispatch, IsFirstDispatch, spell_cost, cap_at, step_at, level, IsStepped}
+use Rattle.spell_run.proofs.Common.{◌≡◌, ℕ, zero, suc, ◌-◌, ◌<◌, ◌≤◌, ltb, eqb, ◌⊎◌, inl, inr, ℤ, pos, ◌+ℤ◌, ◌-ℤ◌, ◌≤ℤ◌, ◌<ℤ◌, Bool, false, length, Some, sym, ap, ◌∙◌, subst, arith, option_map, int_min, int_max, ints, clamps, by_lt_z, EnvelopeIsCost, reserve_term, IsPoint, IsLeast, IsLeastIn, Reaches, same_some, Table, value_of, Step, IsBottom, IsTurn, IsFirst, IsLast, ThermalUnit, PriceLists, Schedule, IsOutput, IsThermalUnit, ArePrices, int_at, Lowest, Note, IsOnFromTo, IsSameOutside, IsFrontier, IsWritten, IsChosen, IsWayFrom, best_reserve, IsNoted, IsEndNoted, IsSpellNoted, IsCheapest, IsBestDispatch, IsFirstDispatch, spell_cost, cap_at, step_at, level, IsStepped}
 use Rattle.spell_run.specs.declared.way.Passed.{Passed}
 use Rattle.spell_run.proofs.ChoiceLaws.{stored, output_stored}
 use Rattle.spell_run.proofs.CutLaws.{between_powers}
 use Rattle.spell_run.proofs.FairLaws.{cap_out}
 use Rattle.spell_run.proofs.FrontierLaws.{frontier_more}
-use Rattle.spell_run.proofs.PeriodLaws.{on_last, on_more}
+use Rattle.spell_run.proofs.OnLaws.{on_last, on_more}
 use Rattle.spell_run.proofs.RunLaws.{level_before, level_within, cost_none, cost_zero}
 use Rattle.spell_run.proofs.StepLaws.{step_sound}
 use Rattle.spell_run.proofs.SumLaws.{added}
@@ -244,15 +244,6 @@ module _ (g : ThermalUnit) (π : PriceLists) (last : ℕ) (f : Table) (d : Sched
       let point = point_from_frontier g π (suc b) b g.min_power f here none at free d in
       let starts : (k : ℕ) → suc b ≤ suc k → b ≤ k = λ k from. omega (arith, from) in
       of_way g π (suc b) b last g.min_power f d y c unit prices point none starts (at d) (free d) end on
-
-  -- the same by whether the unit starts
-  pub whole_of : (first : ℕ) (started : Bool) → IsSpellStart g (length π.energy) first started → IsFrontier g π (spell_first started first) (first - 1) f → IsWayFrom g π (spell_first started first) (first - 1) last f d y c →
-      IsBestDispatch g π (length π.energy) (spell_first started first) last d c × IsFirstDispatch g π (length π.energy) (spell_first started first) last d c
-  whole_of first true start front way = whole_way first front way
-  whole_of first false start front way =
-      let one = (start.goes_on refl).0 in
-      let z : first - 1 ≡ 0 - 1 = omega (arith, one) in
-      whole_way 0 (subst (λ (t : ℕ). IsFrontier g π 0 t f) z front) (subst (λ (t : ℕ). IsWayFrom g π 0 t last f d y c) z way)
 
 -- ---- period by period
 

@@ -3,7 +3,7 @@
 use Rattle.std.specs.Prelude.{◌≡◌, ℕ, suc, ◌<◌, ◌≤◌, ◌==◌, nat_lt, ℤ, pos, ◌+ℤ◌, ◌-ℤ◌, ◌≤ℤ◌, Bool}
 use Rattle.std.specs.Prelude.{false, ◌&&◌, IsTrue, Some, length, slice_index_or}
 use Rattle.shape_law.specs.Effect.{IsLeastIn}
-use Rattle.shape_law.specs.Table.{Table, value_of, HasNone}
+use Rattle.shape_law.specs.Table.{Table, value_of}
 use Rattle.uc_model.specs.Data.{ThermalUnit, PriceLists, Schedule}
 use Rattle.uc_model.specs.Limits.{IsOutput}
 use Rattle.uc_model.specs.Schedules.{power_in, reserve_in}
@@ -48,12 +48,6 @@ pub record IsChosen (s : Step) (f : Table) (k : ℕ) (x y : ℤ) (d d' : Schedul
   pub value : ℤ
   pub least : IsLeastIn (x -ℤ s.ramp_up) (x +ℤ s.ramp_down) kinked value y
   pub written : IsWritten k x (best_reserve s.reserve_price s.cap s.ramp_up y x) d d'
-
--- no power before a step leads to power x
-pub record IsUnreached (s : Step) (f : Table) (x : ℤ) : Type 0 where
-  pub kinked : Table
-  pub is_kinked : IsKinked s f kinked
-  pub none : HasNone (x -ℤ s.ramp_up) (x +ℤ s.ramp_down) kinked
 
 -- whether a stop follows the period at a place, where the spell's last period is before the end
 abbrev pub stops_at : ℕ → ℕ → ℕ → Bool

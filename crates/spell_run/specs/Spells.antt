@@ -11,11 +11,6 @@ use Rattle.plain_lists.specs.Ranges.{IsFrom}
 use Rattle.uc_model.specs.Schedules.{power_in, reserve_in, cap_of}
 use Rattle.plain_lists.specs.Sums.{int_at, sum_below}
 
--- the first period of a spell as these definitions count it: 0 where it goes on from before the
--- horizon
-abbrev pub spell_first : Bool → ℕ → ℕ
-spell_first started first = if started then first else 0
-
 -- the power above the least one in a period of a spell
 abbrev pub over_min : ThermalUnit → Schedule → ℕ → ℤ
 over_min g d zero = g.power0 -ℤ g.min_power

@@ -15,8 +15,8 @@ ghost use Rattle.spell_run.specs.Steps.{step_at, IsFairStep};
 ghost use Rattle.uc_model.specs.Limits.{IsOutput};
 ghost use Rattle.uc_model.specs.PlainUnits.{thermal_of, prices_of, schedule_of};
 
-use crate::best::write_best;
 use crate::step::{Step, starts_in, step_of};
+use crate::write::write_best;
 use cost_curve::laws::envelope_is_cost;
 use slope_list::Lowest;
 use uc_model::units::{Answered, Prices, Unit};

@@ -1,9 +1,0 @@
-use Rattle.spell_run.proofs.Common.{rules, to_z-of_z, FitsSigned}
-use Rattle.std.specs.Int.{w64}
-use Rattle.spell_run.proofs.running.SlopesRunning.is_above.Goals as goal
-
-pub returns : goal.returns
-returns c =
-    let fits : FitsSigned w64 c.args.shift = search rules in
-    let fits_limit : FitsSigned w64 c.args.limit = search rules in
-    simp to_z-of_z at c.is_above.ensures

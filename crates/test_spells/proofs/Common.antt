@@ -1,0 +1,31 @@
+-- The names that the proofs of this crate take from its specs and from other crates, passed on from one place.
+pub use Rattle.std.proofs.Common.{◌≡◌, ℕ, ◌+◌, ◌≤◌, ℤ, pos, neg_ℤ, ◌+ℤ◌, ◌*ℤ◌, Option, Some, None, refl, ap, ◌∙◌, subst, arith, ◌-ℤ◌, ◌≤ℤ◌, sym, w64, FitsSigned, zero, suc, ◌<◌, ◌⊎◌, inl, inr, Bool, true, false, List, [], ltb, eqb, length, IfSome, ◌-◌, ◌≢◌, get_or, set, get_or-set_same, get_or-set_other, cond, ◌*◌, length-set, Result, Ok, Err, IfOk, is_ok, IsOk, rules}
+pub use Rattle.std.proofs.Math.IntN.{zero-*ℤ}
+pub use Rattle.std.proofs.lemmas.Bool.{lt-ltb, cases_lt, false≢true}
+pub use Rattle.std.proofs.lemmas.Int.{ints, clamps, to_z-of_z}
+pub use Rattle.std.proofs.lemmas.Option.{MatchOption-at_some, MatchOption-at_none}
+pub use Rattle.std.proofs.lemmas.Result.{IfOk-weaker, on_ok_weaker}
+pub use Rattle.std.specs.Int.{int_min}
+pub use Rattle.std.specs.Option.{option_map}
+pub use Rattle.std.specs.Prelude.{MatchOption}
+pub use Rattle.cost_curve.specs.CostCurve.{IsCostCurve, EnvelopeIsCost}
+pub use Rattle.test_shapes.specs.Cell.{Cell, Frame}
+pub use Rattle.shape_law.specs.Curve.{curve_value, reserve_term}
+pub use Rattle.shape_law.specs.Effect.{IsSum, IsWindow, CanAddCurve, IsLeastIn, IsLeast, IsSame, IsPoint}
+pub use Rattle.test_shapes.specs.Laws.{StaysAs, OthersStay}
+pub use Rattle.shape_law.specs.Table.{Table, value_of, CanAdd, HasNone, IsEmpty}
+pub use Rattle.shape_law.specs.declared.step.Step.{Step}
+pub use Rattle.spell_run.specs.Entries.{IsOnFromTo, IsSameOutside}
+pub use Rattle.spell_run.specs.Frontier.{IsWritten, IsChosen, IsFrontier, IsWayFrom, stops_at}
+pub use Rattle.spell_run.specs.Laws.{best_reserve}
+pub use Rattle.spell_run.specs.Spells.{IsSpellWithin, IsSpellAnswer, IsBestDispatch, IsFirstDispatch, HasNoDispatch}
+pub use Rattle.spell_run.specs.Steps.{IsFairStep, IsCostOf, IsKinked, IsSmall, cap_at, step_at, IsStepped, IsLeastCost, IsLeastCostIn}
+pub use Rattle.test_spells.specs.declared.best.Found.{Found}
+pub use Rattle.plain_lists.proofs.SignedLaws.{IsWithin, product_within}
+pub use Rattle.uc_model.specs.Data.{Schedule, ThermalUnit, PriceLists}
+pub use Rattle.plain_lists.specs.Ranges.{IsFrom}
+pub use Rattle.uc_model.specs.Limits.{IsOutput, IsThermalUnit, ArePrices}
+pub use Rattle.uc_model.specs.PlainUnits.{thermal_of, prices_of, schedule_of}
+pub use Rattle.plain_lists.specs.Sums.{int_at}
+pub use Rattle.uc_model.specs.declared.units.Curve.{Curve}
+pub use Rattle.test_spells.specs.Entries.{entry_of, IsSpellStart, IsUnreached, spell_first, cells_for}
