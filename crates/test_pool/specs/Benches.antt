@@ -1,6 +1,6 @@
 -- What a bench for shapes in a pool is made for (this project's profile).
 use Rattle.std.specs.Prelude.{ℕ, ◌+◌, ◌*◌, ◌<◌, ◌≤◌, length}
-use Rattle.spell_run.specs.Entries.{cells_for}
+use Rattle.test_spells.specs.Entries.{cells_for}
 use Rattle.test_pool.specs.declared.PoolBench.{PoolBench}
 
 -- its parts suffice for the answers of a unit with so many cost points over so many periods

@@ -14,12 +14,13 @@ ghost use Rattle.test_pool.specs.Benches.{IsPoolBenchFor};
 use cost_curve::curves::curve_into;
 use point_pool::pool::Pool;
 use point_pool::pooled::Pooled;
-use spell_run::SpellCosts;
 use std::alloc::{AllocError, Global};
+use test_spells::SpellCosts;
+use test_units::answer::write_best;
+use test_units::laws::no_end_is_no_schedule;
+use test_units::program::fill;
 use uc_model::units::{Answered, Blocks, Curve, Prices, Unit};
-use unit_program::answer::{least_end, write_best};
-use unit_program::laws::no_end_is_no_schedule;
-use unit_program::program::fill;
+use unit_program::answer::least_end;
 use unit_table::table::Table;
 
 /// Memory for answers by shapes in a pool. What its curve, costs and table hold between two calls

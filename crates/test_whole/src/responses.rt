@@ -8,19 +8,20 @@ use level_table::Levels;
 use point_list::breaks::Breaks;
 use rand_core::utils::NextWord;
 use rand_pcg::Pcg32;
-use shape_law::{Heap, Shape};
 use std::alloc::Global;
 use std::process::Abort;
 use std::test::Fail;
 use test_pool::{PoolBench, best_on_bench};
+use test_shapes::{Heap, Shape};
 use test_tiny::earnings::earnings_of;
 use test_tiny::feasible::is_feasible;
 use test_tiny::parts::{small_prices, unit};
 use test_tiny::small::SmallUnit;
 use test_tiny::trying::least_by_trying;
+use test_units::best_response;
 use uc_model::units::{Answered, Mark};
 use unit_choice::least_on_bench;
-use unit_program::{Bench, best_response};
+use unit_program::Bench;
 
 // What a response does in each period, and what it earns.
 #[derive(Clone, Copy)]

@@ -11,10 +11,10 @@ use point_pool::pool::Pool;
 use point_pool::pooled::Pooled;
 use rand_core::utils::NextWord;
 use rand_pcg::Pcg32;
-use shape_law::laws::others_stay;
-use shape_law::{Heap, Shape};
 use std::process::Abort;
 use std::test::Fail;
+use test_shapes::laws::others_stay;
+use test_shapes::{Heap, Shape};
 use uc_model::units::{Block, Curve};
 
 /// A window with no ramp down.

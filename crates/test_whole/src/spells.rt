@@ -1,19 +1,19 @@
 //! Worked spells, over both representations of convex functions.
 ghost use Rattle.std.specs.Prelude.{IsTrue, replicate};
-ghost use Rattle.spell_run.specs.Entries.{IsSpellOf, IsSpellStart};
+ghost use Rattle.test_spells.specs.Entries.{IsSpellOf, IsSpellStart};
 ghost use Rattle.test_tiny.specs.Small.{small_unit_of};
 ghost use Rattle.uc_model.specs.declared.units.Mark.TheVariants.{Free};
 
 use crate::same::same;
 use crate::units::{KINKED, OFF, TOO_HIGH};
-use cost_curve::curves::curve_of;
 use level_table::Levels;
 use point_list::breaks::Breaks;
-use shape_law::{Heap, Shape};
-use spell_run::{Spell, SpellCosts, spell_best, spell_costs};
 use std::alloc::Global;
 use std::process::Abort;
 use std::test::Fail;
+use test_curves::curve_of;
+use test_shapes::{Heap, Shape};
+use test_spells::{Spell, SpellCosts, spell_best, spell_costs};
 use test_tiny::parts::{small_prices, unit};
 use test_tiny::small::SmallUnit;
 use uc_model::units::{Answered, Mark, Marks};

@@ -6,11 +6,11 @@ ghost use Rattle.shape_law.specs.Curve.{end_of};
 ghost use Rattle.shape_law.specs.Table.{HasNone};
 ghost use Rattle.test_whole.specs.Small.{IsSmall, IsModestAt, IsNear, AreFair};
 
-use shape_law::Shape;
 use shape_law::laws::curves_have_values;
 use std::alloc::{AllocError, Global};
 use std::process::Abort;
 use std::test::Fail;
+use test_shapes::Shape;
 use uc_model::units::{Block, Blocks, Curve};
 
 /// Whether no place from `lo` to `hi` is in the interval.

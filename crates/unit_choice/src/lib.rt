@@ -1,6 +1,6 @@
 //! The least best response of a thermal unit to prices, in memory that is taken once.
 //!
-//! It is `unit_program::least_in_place` over pieces of one slope.
+//! It goes back over the table of `unit_program` from its least end.
 #![tactic(auto)]
 
 ghost use Rattle.std.specs.Prelude.{◌≡◌, ℕ, length, IsTrue, IsFalse};
@@ -14,7 +14,10 @@ ghost use Rattle.unit_program.specs.Benches.{IsBenchFor};
 
 use slope_list::Slopes;
 use uc_model::units::{Answered, Prices, Unit};
-use unit_program::{Bench, least_in_place};
+use unit_program::Bench;
+use unit_program::bench::find_end;
+use unit_program::kept::keep_answer;
+use unit_program::way::write_noted;
 
 /// Leaves in `into` the least best response of a thermal unit to prices, in kilowatts, with what it
 /// earns in money, and answers true; or answers false exactly where no schedule of the unit is
@@ -50,5 +53,17 @@ pub fn least_on_bench(
     ensures bench { (periods points : ℕ) → IsBenchFor room_of periods points bench.old
         → IsBenchFor room_of periods points bench.new }
 {
-    least_in_place(bench, unit, prices, into)
+    let Some(end) = find_end(bench, unit, prices) else {
+        return false;
+    };
+    write_noted(
+        unit,
+        prices,
+        bench.table.as_slice(),
+        bench.runners.as_slice(),
+        &end,
+        into,
+    );
+    keep_answer(bench.kept.as_mut_slice(), bench.number, prices, into);
+    true
 }

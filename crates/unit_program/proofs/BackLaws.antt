@@ -1,10 +1,8 @@
 -- One spell of the way back.
-use Rattle.unit_program.proofs.Common.{◌≡◌, ℕ, zero, suc, ◌+◌, ◌-◌, ◌<◌, ◌≤◌, ltb, ◌⊎◌, inl, inr, Option, Some, None, ℤ, pos, ◌+ℤ◌, ◌-ℤ◌, ◌*ℤ◌, ◌≤ℤ◌, List, length, refl, sym, ap, ◌∙◌, subst, arith, IsTrue, IsFalse, IfSome, MatchOption, max, ints, cases_lt, ThermalUnit, PriceLists, Schedule, envelope, on_in, power_in, reserve_in, int_at, sum_below-same, IsOnFromTo, IsSameOutside, spell_first, IsBestDispatch, IsFirstDispatch, HasNoDispatch, over_min, IsDispatch, IsLeastSpell, net_cost, spell_cost, IsSpell, start_cost_after, Ended, IsEnded, IsLatest, IsStarted, IsEntryAfter, IsComplete, row_at, cost_at, first_at, before_at, IsFilled, IsUpTo, IsIdle, IsFirstUpTo, IsSameIn, IsZeroOff, IsWritten, IsWrittenBack}
+use Rattle.unit_program.proofs.Common.{◌≡◌, ℕ, zero, suc, ◌+◌, ◌-◌, ◌<◌, ◌≤◌, ◌⊎◌, inl, inr, Option, Some, ℤ, pos, ◌+ℤ◌, ◌-ℤ◌, ◌*ℤ◌, ◌≤ℤ◌, List, length, refl, sym, ap, ◌∙◌, subst, arith, IsTrue, IsFalse, ints, cases_lt, ThermalUnit, PriceLists, Schedule, envelope, on_in, power_in, reserve_in, int_at, sum_below-same, IsOnFromTo, IsSameOutside, IsBestDispatch, IsFirstDispatch, over_min, IsDispatch, IsLeastSpell, net_cost, spell_cost, IsSpell, start_cost_after, Ended, IsEnded, IsLatest, IsStarted, IsEntryAfter, IsComplete, row_at, cost_at, first_at, before_at, IsUpTo, IsIdle, IsFirstUpTo, IsSameIn, IsZeroOff, IsWritten, IsWrittenBack, Bool, true, false, cond, off_time}
 use Rattle.unit_table.specs.Tables.{IsFrom}
 use Rattle.unit_program.proofs.BuildLaws.{up_to_idle, up_to_first, up_to_next}
-use Rattle.unit_program.proofs.SpanLaws.{spell_first-is}
 use Rattle.unit_program.proofs.TieLaws.{first_alone, first_after}
-use Rattle.unit_program.proofs.FillLaws.{starts_off}
 use Rattle.unit_program.proofs.RowLaws.{cost-is, first-is, before-is}
 
 module _ (g : ThermalUnit) (π : PriceLists) (periods first last : ℕ) (order : first ≤ last) (d e : Schedule)
@@ -71,7 +69,7 @@ module _ (g : ThermalUnit) (π : PriceLists) (periods first last : ℕ) where
     others = λ t out. record { on = refl; power = refl; reserve = refl };
   }
 
-  written_by : (a b : Schedule) (c : ℤ) → IsBestDispatch g π periods first last b c → IsFirstDispatch g π periods first last b c
+  pub written_by : (a b : Schedule) (c : ℤ) → IsBestDispatch g π periods first last b c → IsFirstDispatch g π periods first last b c
       → ((k : ℕ) → first ≤ suc k → suc k ≤ last → IsTrue (on_in g b (suc k))) → ((k : ℕ) → (suc k < first) ⊎ (last < suc k) → IsSameIn g a b (suc k)) → IsWritten g π periods first last a b
   written_by a b c best first_of on outside =
       let cost_is : (net : ℤ) → IsLeastSpell g π periods first last net → c ≡ net = λ net least.
@@ -91,29 +89,10 @@ module _ (g : ThermalUnit) (π : PriceLists) (periods first last : ℕ) where
         ];
       }
 
-  pub written_best : (n : ℕ) (a b : Schedule) (c : ℤ) → n ≡ max first 1 → IsBestDispatch g π periods (spell_first (ltb 0 first) n) last b c
-      → IsFirstDispatch g π periods (spell_first (ltb 0 first) n) last b c → IsOnFromTo n last b → IsSameOutside n last a b
-      → IsWritten g π periods first last a b
-  written_best n a b c is best first_of on outside =
-      written_by a b c (subst (λ (f : ℕ). IsBestDispatch g π periods f last b c) (spell_first-is first n is) best)
-      (subst (λ (f : ℕ). IsFirstDispatch g π periods f last b c) (spell_first-is first n is) first_of) (λ k from until. on k (omega (arith, from, is)) until)
-      (λ k out.
-      let beyond : (suc k < n) ⊎ (last < suc k) = elim out [ inl h ↦ inl (omega (arith, h, is)) | inr h ↦ inr h ] in
-      record { on = outside.on k beyond; power = ap pos (outside.power k beyond); reserve = ap pos (outside.reserve k beyond) })
-
   -- the first dispatch of least cost
   pub written_first : (a b : Schedule) → (c : ℤ) × IsBestDispatch g π periods first last b c × IsFirstDispatch g π periods first last b c → IsOnFromTo first last b → IsSameOutside first last a b → IsWritten g π periods first last a b
   written_first a b best on outside =
       written_by a b best.0 best.1 best.2 on (λ k out. record { on = outside.on k out; power = ap pos (outside.power k out); reserve = ap pos (outside.reserve k out) })
-
-  -- there is a dispatch, so one is answered
-  pub written_answer : (n : ℕ) (a b : Schedule) (answer : Option ℤ) → n ≡ max first 1 → (net : ℤ) × IsLeastSpell g π periods first last net
-      → MatchOption answer (HasNoDispatch g periods (spell_first (ltb 0 first) n) last) (IsBestDispatch g π periods (spell_first (ltb 0 first) n) last b)
-      → IfSome answer (IsFirstDispatch g π periods (spell_first (ltb 0 first) n) last b)
-      → IfSome answer (λ _. IsOnFromTo n last b) → IsSameOutside n last a b → IsWritten g π periods first last a b
-  written_answer n a b None is least none first_of on outside =
-      absurd (none least.1.dispatch (subst (λ (f : ℕ). IsDispatch g periods f last least.1.dispatch) (sym (spell_first-is first n is)) least.1.keeps))
-  written_answer n a b (Some c) is least best first_of on outside = written_best n a b c is best first_of on outside
 
 -- ---- a spell after the rest
 
@@ -192,6 +171,21 @@ module _ (g : ThermalUnit) where
   }
 
 -- ---- a row of the table
+
+module _ (g : ThermalUnit) where
+  -- a start in period 1 is of a unit that is off before it
+  pub starts_off : (ends : ℕ → Option ℤ) (last : ℕ) (e : ℤ) → 1 ≤ g.min_down → IsEntryAfter g ends 1 last e → IsFalse g.on0
+  starts_off ends last e some entry = elim entry [
+    | inl h ↦ let none = h.0 in absurd (omega (arith, none))
+    | inr st ↦
+        let z : last ≡ 0 = omega arith in
+        let k : st.before ≡ 0 = omega arith in
+        let time : off_time g last st.before ≡ off_time g 0 0 = ap (λ (l : ℕ). off_time g l st.before) z ∙ ap (off_time g 0) k in
+        elim (g.on0) as (λ b. g.on0 ≡ b → IsFalse b) [
+          | false ↦ λ off. refl
+          | true ↦ λ on. (let none : off_time g 0 0 ≡ 0 = ap (λ (b : Bool). cond b 0 (g.down0 + 0)) on in absurd (omega (arith, none, time, some)))
+        ] refl
+  ]
 
 -- what the way back needs to know of a row that names a spell
 pub record IsRowBack (g : ThermalUnit) (π : PriceLists) (rows : List (Option Ended)) (l : ℕ) (e : Ended) : Type 0 where
@@ -287,14 +281,3 @@ module _ (g : ThermalUnit) (π : PriceLists) (rows : List (Option Ended)) (l : �
                 zero_off = λ h. back.zero_off (zero_off_written g π T e.first l a b written h);
               });
         }
-
--- ---- the same where the table is whole
-
-module _ (g : ThermalUnit) (π : PriceLists) (rows : List (Option Ended)) (l : ℕ)
-    (ramp_up : pos 0 ≤ℤ g.ramp_up) (ramp_down : pos 0 ≤ℤ g.ramp_down) (some_down : 1 ≤ g.min_down)
-    (filled : IsFilled g π (suc (length π.energy)) rows) where
-  pub back_off : (a : Schedule) → l ≡ 0 → IsFalse g.on0 → IsWrittenBack g π rows l a a
-  back_off = off_back g π rows l ramp_up ramp_down some_down (cost_at rows) filled.table.complete (λ v is. is) (filled.table.sound l)
-
-  pub row_back : (e : Ended) → row_at rows l ≡ Some e → (l ≡ 0 → IsTrue g.on0) → IsRowBack g π rows l e
-  row_back e row on0 = back_of_row g π rows l ramp_up ramp_down some_down (cost_at rows) filled.table.complete (λ v is. is) (filled.table.sound l) e row on0 (λ ended st. st.ended)

@@ -1,5 +1,5 @@
 -- What the way back has written from the least end is a best schedule.
-use Rattle.unit_program.proofs.Common.{Result, Ok, Err, true, ◌≡◌, ℕ, zero, suc, ◌<◌, ◌≤◌, false, refl, ap, Option, Some, ℤ, pos, neg_ℤ, ◌≤ℤ◌, length, sym, subst, ◌∙◌, arith, slice_index, slice_index_or, IsFalse, OnOk, is_ok, ints, ThermalUnit, Thermal, PriceLists, Schedule, IsSchedule, on_in, power_in, reserve_in, earnings, IsBest, IsThermalFeasible, IsLeast, IsOffRun, paid, IsComplete, IsLeastEnd, IsUpTo, IsIdle, IsSameIn, IsZeroOff, IsFirstUpTo}
+use Rattle.unit_program.proofs.Common.{◌≡◌, ℕ, zero, suc, ◌<◌, ◌≤◌, false, refl, ap, Option, Some, ℤ, pos, neg_ℤ, ◌≤ℤ◌, length, sym, subst, ◌∙◌, arith, slice_index, slice_index_or, IsFalse, ints, ThermalUnit, Thermal, PriceLists, Schedule, IsSchedule, on_in, power_in, reserve_in, earnings, IsBest, IsThermalFeasible, IsLeast, IsOffRun, paid, IsComplete, IsLeastEnd, IsUpTo, IsIdle, IsSameIn, IsZeroOff, IsFirstUpTo}
 use Rattle.unit_program.proofs.BuildLaws.{right_of}
 use Rattle.unit_program.proofs.ShapeLaws.{table_is_least}
 use Rattle.unit_program.proofs.BackwardOrder.{not_before}
@@ -74,14 +74,3 @@ module _ (g : ThermalUnit) (π : PriceLists) (periods : ℕ) (horizon : periods 
             (no_later_whole g π ends periods complete l v least.off.order earliest least.least b
             (λ t above until. (later t above).on ∙ cleared.off t (omega (arith, above)) until) zero_off first other right_other cost) before);
       }
-
-  -- no end, no schedule
-  pub none_right : ((l : ℕ) (v : ℤ) → ends l ≡ Some v → IsOffRun g l periods → ⊥) → (s : Schedule) → IsThermalFeasible g periods s → ⊥
-  none_right none s right =
-      let r = table_is_least g π ends periods s right complete in
-      none r.0 r.3.0 r.3.1 r.2
-
--- what holds of an answer that came
-pub ok_then : {X E : Type 0} (r : Result X E) (P : Type 0) → OnOk r P → is_ok r ≡ true → P
-ok_then (Ok x) P h is = h
-ok_then (Err e) P h is = cc

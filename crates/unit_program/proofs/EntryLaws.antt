@@ -1,5 +1,5 @@
--- The least entry among those after an ever later on period.
-use Rattle.unit_program.proofs.Common.{◌≡◌, ℕ, suc, ◌+◌, ◌*◌, ◌<◌, ◌⊎◌, inl, inr, ◌≤◌, Option, Some, None, ℤ, pos, ◌+ℤ◌, ◌≤ℤ◌, refl, sym, ap, ◌∙◌, subst, arith, IfSome, IfNone, ints, cases_lt, ThermalUnit, IsGap, start_cost_after, IsStarted, IsEntry, IsLeastEntry, Entry, HasEntryAtMost, IsWithinTimes}
+-- The least so far of what is at ever later places.
+use Rattle.unit_program.proofs.Common.{◌≡◌, ℕ, ◌+◌, ◌<◌, ◌⊎◌, inl, inr, ◌≤◌, Option, Some, None, ℤ, pos, ◌+ℤ◌, ◌≤ℤ◌, sym, subst, arith, IfSome, IfNone, ints, cases_lt, Entry, HasEntryAtMost}
 
 pub if_some : {X : Type 0} → (P : X → Type 0) (o : Option X) (x : X) → o ≡ Some x → IfSome o P → P x
 if_some P o x is h = subst (λ o. IfSome o P) is h
@@ -59,73 +59,3 @@ module _ (Is : ℕ → ℤ → Type 0) where
       ]
     ];
   }
-
--- ---- the least entry
-
-module _ (g : ThermalUnit) (ends : ℕ → Option ℤ) (before : ℕ) where
-  -- a start after `before`, where the last on period before it is `last`, costs e with all up to there
-  abbrev Way : ℕ → ℤ → Type 0
-  Way last e = (v : ℤ) × (ends last ≡ Some v) × IsGap g last before × (e ≡ v +ℤ start_cost_after g last before)
-
-  pub record IsLeastSoFar (last : ℕ) (least : Option Entry) : Type 0 where
-    pub of_ways : IsLeastOf Way last least
-    pub bound : (r : Entry) → least ≡ Some r → IsWithinTimes (2 * before + 3) r.cost
-
-  pub one_more_way : (last : ℕ) (least least' : Option Entry) (o : Option ℤ) → IsLeastSoFar last least
-      → IfSome o (Way last) → IfNone o ((v : ℤ) → ends last ≡ Some v → IsGap g last before → ⊥)
-      → ((e : ℤ) → o ≡ Some e → IsWithinTimes (2 * before + 3) e)
-      → ((r : Entry) → least' ≡ Some r → (least ≡ Some r) ⊎ ((o ≡ Some r.cost) × (r.last ≡ last)))
-      → ((r : Entry) → least ≡ Some r → HasEntryAtMost least' r.cost)
-      → ((v : ℤ) → o ≡ Some v → HasEntryAtMost least' v)
-      → ((r u : Entry) → least ≡ Some r → least' ≡ Some u → (u.last ≡ r.last) ⊎ ((u.cost +ℤ pos 1) ≤ℤ r.cost))
-      → IsLeastSoFar (last + 1) least'
-  one_more_way last least least' o so_far some none bound from old added kept =
-      let all_here : (e : ℤ) → Way last e → o ≡ Some e = λ e way. elim o as (λ p. o ≡ p → o ≡ Some e) [
-        | None ↦ λ is. absurd (if_none ((v : ℤ) → ends last ≡ Some v → IsGap g last before → ⊥) o is none way.0 way.1 way.2)
-        | Some x ↦ λ is.
-            let here = if_some (Way last) o x is some in
-            let same : here.0 ≡ way.0 = cc in
-            let z : x ≡ e = omega (arith, ints, same) in
-            is ∙ ap Some z
-      ] refl in
-      record {
-        of_ways = one_more Way last least least' o so_far.of_ways (λ e is. if_some (Way last) o e is some) all_here from old added kept;
-        bound = λ r is. elim (from r is) [ inl h ↦ so_far.bound r h | inr h ↦ bound r.cost h.0 ];
-      }
-
-  way_of : (k : ℕ) (e : ℤ) → IsStarted g ends (suc before) k e → Way k e
-  way_of k e h =
-      let z : h.before ≡ before = omega arith in
-      (h.value, h.ended, subst (λ (b : ℕ). IsGap g k b) z h.gap, h.cost ∙ ap (λ (b : ℕ). h.value +ℤ start_cost_after g k b) z)
-
-  pub least_of_all : (last : ℕ) (r : Entry) (least : Option Entry) → before < last → IsLeastSoFar last least → least ≡ Some r → IsLeastEntry g ends (suc before) r.last r.cost
-  least_of_all last r least all_ so_far is =
-      let ways = so_far.of_ways in
-      let way = ways.sound r is in
-      record {
-        entry = inr (record { before = before; first = refl; value = way.0; ended = way.1; gap = way.2; cost = way.3 });
-        least = λ d entry. elim (entry.1) [
-          | inl h ↦ absurd (omega arith)
-          | inr h ↦
-              let other = way_of entry.0 d h in
-              let s = ways.complete entry.0 d (omega (arith, all_)) other in
-              let same : s.0 ≡ r = cc in
-              let cost = ap (λ (r : Entry). r.cost) same in
-              omega (arith, ints, cost)
-        ];
-        earliest = λ k entry. elim entry [
-          | inl h ↦ absurd (omega arith)
-          | inr h ↦
-              let other = way_of k r.cost h in
-              ways.earliest r is k (omega (arith, all_)) other
-        ];
-      }
-
-  pub none_of_all : (last : ℕ) (least : Option Entry) → before < last → IsLeastSoFar last least → least ≡ None → (e : ℤ) → IsEntry g ends (suc before) e → ⊥
-  none_of_all last least all_ so_far is e entry = elim (entry.1) [
-    | inl h ↦ absurd (omega arith)
-    | inr h ↦
-        let way = way_of entry.0 e h in
-        let s = so_far.of_ways.complete entry.0 e (omega (arith, all_)) way in
-        cc
-  ]

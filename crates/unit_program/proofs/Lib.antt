@@ -16,12 +16,8 @@ pub mod CommitLaws
 pub mod CostLaws
 -- the least of the ends after which the unit may be off to the last period
 pub mod EndLaws
--- the least entry among those after an ever later on period
+-- the least so far of what is at ever later places
 pub mod EntryLaws
--- the table before any start, and with one more first period
-pub mod FillLaws
--- what two calls leave of the shapes that were there before
-pub mod FrameLaws
 -- one spell of the way back, where the rows are those of the table as far as they are within the limits
 pub mod LimitBackLaws
 -- the rows and the ends as far as they are within the limits
@@ -40,15 +36,9 @@ pub mod RowLaws
 pub mod RunLaws
 -- the run that a period of a schedule is in, and what the schedule costs up to it: no less than the tables say
 pub mod ShapeLaws
--- the spells from one first period on, as far as the window goes
-pub mod SpanLaws
 -- runs of on periods and times off of a schedule, by single steps: their dispatch, costs, times and marks
 pub mod SpellLaws
--- one more first period in the table
-pub mod TableLaws
 -- of all schedules that cost the same, what the way back writes is the first: the table names the earliest end, the latest
 pub mod TieLaws
--- the table after the spells from one first period to an ever later last one
-pub mod UpdateLaws
 -- The lemmas that answers cite.
 pub mod Lemmas

@@ -4,5 +4,4 @@ pub mod Builds
 pub mod Lists
 pub mod Steps
 pub mod Ties
-pub mod NoEnds
 pub mod Nets

@@ -1,32 +1,28 @@
 //! What answers need, taken once: with a bench an answer takes no memory.
-ghost use Rattle.std.specs.Prelude.{◌≡◌, ℕ, ◌≤◌, ℤ, pos, neg_ℤ, ◌+ℤ◌, ◌≤ℤ◌, length, IsTrue};
-ghost use Rattle.std.specs.Prelude.{IsFalse, IfOk, IfSome, IfNone, Some};
-ghost use Rattle.uc_model.specs.Data.{Schedule, Thermal};
-ghost use Rattle.uc_model.specs.Earnings.{earnings, IsBest};
-ghost use Rattle.uc_model.specs.PlainUnits.{thermal_of, prices_of, schedule_of};
-ghost use Rattle.uc_model.specs.Schedules.{IsThermalFeasible};
-ghost use Rattle.uc_model.specs.Ties.{IsLeast};
-ghost use Rattle.unit_program.specs.Benches.{IsBenchFor};
+ghost use Rattle.std.specs.Prelude.{◌≡◌, ℕ, ◌≤◌, ℤ, pos, neg_ℤ, ◌+ℤ◌, ◌≤ℤ◌, length, IfOk, IfSome};
+ghost use Rattle.std.specs.Prelude.{IfNone, Some};
 ghost use Rattle.slope_list.specs.Slopes.{room_of};
-ghost use Rattle.unit_table.specs.Live.{left_at, HaveRoom};
+ghost use Rattle.uc_model.specs.Data.{Schedule};
 ghost use Rattle.plain_lists.specs.Ranges.{IsFrom};
+ghost use Rattle.uc_model.specs.PlainUnits.{thermal_of, prices_of};
+ghost use Rattle.uc_model.specs.Schedules.{IsThermalFeasible};
 ghost use Rattle.uc_model.specs.declared.limits.TheConstants.{MOST_PERIODS, MOST_POINTS};
+ghost use Rattle.unit_program.specs.Benches.{IsBenchFor};
 ghost use Rattle.unit_table.specs.Limits.{IsFilledWithin, IsEndWithin, EachCostsMore};
+ghost use Rattle.unit_table.specs.Live.{left_at, HaveRoom};
 ghost use Rattle.unit_table.specs.Rows.{cost_at, first_at};
 ghost use Rattle.unit_table.specs.Runners.{HaveWays};
 
 use crate::answer::least_end;
-use crate::kept::{Kept, NO_BOUND, guess_of, keep_answer};
+use crate::kept::{Kept, NO_BOUND, guess_of};
 use crate::limits::fill_limits;
-use crate::way::write_noted;
 use cost_curve::curves::curve_into;
 use plain_lists::lists::{Numbers, ReservedList};
 use slope_list::Slopes;
-use spell_run::Running;
 use std::alloc::{AllocError, Global};
 use std::mem::swap;
 use uc_model::laws::earnings_are_within;
-use uc_model::units::{Answered, Blocks, Curve, Prices, Unit};
+use uc_model::units::{Blocks, Curve, Prices, Unit};
 use unit_table::laws::limits_keep_rows;
 use unit_table::origins::Origins;
 use unit_table::periods::fill_by_periods;
@@ -68,9 +64,6 @@ impl<R: Drop> Drop for Bench<R> {
         } = self;
     }
 }
-
-/// The bench of the program: functions are kept in pieces of one slope.
-pub type SlopeBench = Bench<Slopes>;
 
 // So many runners, none of them on, each with room for so many pieces and as many periods.
 fn make_runners(alloc: Global, count: u32, pieces: usize) -> Result<Vec<Runner<Slopes>>, AllocError>
@@ -163,18 +156,18 @@ impl<R> Bench<R> {
 }
 
 // Fills a bench's curve, its limits and its table.
-fn fill_bench<R: Running>(bench: &mut Bench<R>, unit: &Unit, prices: &Prices, most: i64)
+fn fill_bench(bench: &mut Bench<Slopes>, unit: &Unit, prices: &Prices, most: i64)
     requires horizon { length (thermal_of unit.now).window ≡ length (prices_of prices.now).energy }
     requires most { IsFrom (neg_ℤ (pos 4000000000000000000)) (pos 4000000000000000000) most }
-    requires bench { IsBenchFor R.room (length (prices_of prices.now).energy)
+    requires bench { IsBenchFor room_of (length (prices_of prices.now).energy)
         (length (thermal_of unit.now).points) bench.old }
     ensures filled { IsFilledWithin (thermal_of unit.now) (prices_of prices.now) most
         bench.new.table.items }
     ensures ways { HaveWays (thermal_of unit.now) (prices_of prices.now)
         (length (prices_of prices.now).energy) (cost_at bench.new.table.items)
         (first_at bench.new.table.items) (left_at bench.new.runners.items) }
-    ensures bench { (periods points : ℕ) → IsBenchFor R.room periods points bench.old
-        → IsBenchFor R.room periods points bench.new }
+    ensures bench { (periods points : ℕ) → IsBenchFor room_of periods points bench.old
+        → IsBenchFor room_of periods points bench.new }
 {
     curve_into(unit.points.as_slice(), &mut bench.curve);
     fill_limits(unit, prices, most, &mut bench.limits);
@@ -208,15 +201,10 @@ fn at_most(end: Option<Entry>, most: i64) -> Option<Entry>
 }
 
 // Fills a bench as far as some amount asks, and answers the least end, if it costs at most that.
-fn find_within<R: Running>(
-    bench: &mut Bench<R>,
-    unit: &Unit,
-    prices: &Prices,
-    most: i64,
-) -> Option<Entry>
+fn find_within(bench: &mut Bench<Slopes>, unit: &Unit, prices: &Prices, most: i64) -> Option<Entry>
     requires horizon { length (thermal_of unit.now).window ≡ length (prices_of prices.now).energy }
     requires most { IsFrom (neg_ℤ (pos 4000000000000000000)) (pos 4000000000000000000) most }
-    requires bench { IsBenchFor R.room (length (prices_of prices.now).energy)
+    requires bench { IsBenchFor room_of (length (prices_of prices.now).energy)
         (length (thermal_of unit.now).points) bench.old }
     ensures some { IfSome result (λ e. IsEndWithin (thermal_of unit.now) (prices_of prices.now)
         bench.new.table.items e.last e.cost) }
@@ -224,8 +212,8 @@ fn find_within<R: Running>(
     ensures ways { HaveWays (thermal_of unit.now) (prices_of prices.now)
         (length (prices_of prices.now).energy) (cost_at bench.new.table.items)
         (first_at bench.new.table.items) (left_at bench.new.runners.items) }
-    ensures bench { (periods points : ℕ) → IsBenchFor R.room periods points bench.old
-        → IsBenchFor R.room periods points bench.new }
+    ensures bench { (periods points : ℕ) → IsBenchFor room_of periods points bench.old
+        → IsBenchFor room_of periods points bench.new }
 {
     limits_keep_rows();
     fill_bench(bench, unit, prices, most);
@@ -233,11 +221,11 @@ fn find_within<R: Running>(
     at_most(least_end(unit, periods, bench.table.as_slice()), most)
 }
 
-// Fills a bench, and answers the least end: within what is guessed, or else within what any
-// schedule may cost.
-fn find_end<R: Running>(bench: &mut Bench<R>, unit: &Unit, prices: &Prices) -> Option<Entry>
+/// Fills a bench for a unit at prices over its horizon, and answers the least end: within what is
+/// guessed, or else within what any schedule may cost. None where no schedule is feasible.
+pub fn find_end(bench: &mut Bench<Slopes>, unit: &Unit, prices: &Prices) -> Option<Entry>
     requires horizon { length (thermal_of unit.now).window ≡ length (prices_of prices.now).energy }
-    requires bench { IsBenchFor R.room (length (prices_of prices.now).energy)
+    requires bench { IsBenchFor room_of (length (prices_of prices.now).energy)
         (length (thermal_of unit.now).points) bench.old }
     ensures some { IfSome result (λ e. IsEndWithin (thermal_of unit.now) (prices_of prices.now)
         bench.new.table.items e.last e.cost) }
@@ -246,8 +234,8 @@ fn find_end<R: Running>(bench: &mut Bench<R>, unit: &Unit, prices: &Prices) -> O
     ensures ways { HaveWays (thermal_of unit.now) (prices_of prices.now)
         (length (prices_of prices.now).energy) (cost_at bench.new.table.items)
         (first_at bench.new.table.items) (left_at bench.new.runners.items) }
-    ensures bench { (periods points : ℕ) → IsBenchFor R.room periods points bench.old
-        → IsBenchFor R.room periods points bench.new }
+    ensures bench { (periods points : ℕ) → IsBenchFor room_of periods points bench.old
+        → IsBenchFor room_of periods points bench.new }
 {
     earnings_are_within();
     let guess = guess_of(bench.kept.as_slice(), bench.number, prices);
@@ -255,50 +243,4 @@ fn find_end<R: Running>(bench: &mut Bench<R>, unit: &Unit, prices: &Prices) -> O
         return Some(end);
     }
     find_within(bench, unit, prices, NO_BOUND)
-}
-
-/// The least best response of a thermal unit to prices over its horizon, as `best_response` answers
-/// it: leaves it in `into`, with what it earns, and answers true; or answers false exactly where no
-/// schedule of the unit is feasible, and `into` is unchanged. The bench suffices for the prices'
-/// periods and the unit's cost points, and for all that it sufficed for afterwards. Takes no
-/// memory.
-pub fn least_in_place<R: Running>(
-    bench: &mut Bench<R>,
-    unit: &Unit,
-    prices: &Prices,
-    into: &mut Answered,
-) -> bool
-    requires horizon { length (thermal_of unit.now).window ≡ length (prices_of prices.now).energy }
-    requires bench { IsBenchFor R.room (length (prices_of prices.now).energy)
-        (length (thermal_of unit.now).points) bench.old }
-    requires into { length (schedule_of into.old.response).on
-        ≡ length (prices_of prices.now).energy }
-    ensures best { IsTrue result
-        → IsBest (Thermal (thermal_of unit.now)) (prices_of prices.now)
-        (schedule_of into.new.response) }
-    ensures least { IsTrue result
-        → IsLeast (Thermal (thermal_of unit.now)) (prices_of prices.now)
-        (schedule_of into.new.response) }
-    ensures earned { IsTrue result → into.new.earned
-        ≡ earnings (Thermal (thermal_of unit.now)) (prices_of prices.now)
-        (schedule_of into.new.response) }
-    ensures none { IsFalse result → (s : Schedule)
-        → IsThermalFeasible (thermal_of unit.now) (length (prices_of prices.now).energy) s → ⊥ }
-    ensures same { IsFalse result → into.new ≡ into.old }
-    ensures bench { (periods points : ℕ) → IsBenchFor R.room periods points bench.old
-        → IsBenchFor R.room periods points bench.new }
-{
-    let Some(end) = find_end(bench, unit, prices) else {
-        return false;
-    };
-    write_noted(
-        unit,
-        prices,
-        bench.table.as_slice(),
-        bench.runners.as_slice(),
-        &end,
-        into,
-    );
-    keep_answer(bench.kept.as_mut_slice(), bench.number, prices, into);
-    true
 }

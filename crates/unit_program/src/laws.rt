@@ -1,7 +1,6 @@
 //! Laws over the definitions: each is the contract of a function that does nothing.
 ghost use Rattle.unit_program.specs.Benches.{BenchesServeLess};
 ghost use Rattle.unit_program.specs.Lists.{SchedulesAreSpells};
-ghost use Rattle.unit_program.specs.NoEnds.{NoEndIsNoSchedule};
 
 /// Every feasible schedule is a list of spells with times off between them. A spell has no period
 /// marked `MustOff`, and a time off has none marked `MustOn`.
@@ -12,10 +11,4 @@ pub fn schedules_are_spells()
 /// A bench that suffices for so many periods and cost points suffices for fewer.
 pub fn benches_serve_less()
     ensures { BenchesServeLess }
-{}
-
-/// Where a complete table has no last on period after which the unit may be off to the end, the
-/// unit has no feasible schedule.
-pub fn no_end_is_no_schedule()
-    ensures { NoEndIsNoSchedule }
 {}

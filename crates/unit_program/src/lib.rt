@@ -17,11 +17,8 @@ pub mod bench;
 pub mod kept;
 pub mod laws;
 pub mod limits;
-pub mod program;
-pub mod spells;
 pub mod way;
 
-pub use answer::best_response;
-pub use bench::{Bench, SlopeBench, least_in_place};
+pub use bench::Bench;
 pub use kept::Kept;
 pub use unit_table::{Runner, fill_by_periods};

@@ -13,6 +13,7 @@ ghost use Rattle.unit_table.specs.Rows.{cost_at, first_at};
 ghost use Rattle.unit_table.specs.Runners.{HaveWays};
 
 use crate::answer::{clear, is_all_off, negated};
+use slope_list::Slopes;
 use spell_run::write_spell;
 use uc_model::laws::start_costs_are_within;
 use uc_model::units::{Answered, Prices, Unit};
@@ -22,10 +23,10 @@ use unit_table::table::{Ended, Entry};
 
 // Writes a dispatch of least net cost of the spell from `first` to `last`; nothing where it ends
 // before period 1.
-fn write_left<R>(
+fn write_left(
     unit: &Unit,
     prices: &Prices,
-    runners: &[Runner<R>],
+    runners: &[Runner<Slopes>],
     first: u32,
     last: u32,
     into: &mut Answered,
@@ -51,11 +52,11 @@ fn write_left<R>(
 }
 
 // Writes the spells that the table names, from the one that ends with period `last` back.
-fn write_back<R>(
+fn write_back(
     unit: &Unit,
     prices: &Prices,
     rows: &[Option<Ended>],
-    runners: &[Runner<R>],
+    runners: &[Runner<Slopes>],
     last: u32,
     into: &mut Answered,
 )
@@ -93,11 +94,11 @@ fn write_back<R>(
 /// ends, and what it earns. Unit, prices and `into` are over the same T periods, `end` is that end
 /// and within the limits of the rows, and the runners have left what the way back from each needs.
 /// Takes no memory.
-pub fn write_noted<R>(
+pub fn write_noted(
     unit: &Unit,
     prices: &Prices,
     rows: &[Option<Ended>],
-    runners: &[Runner<R>],
+    runners: &[Runner<Slopes>],
     end: &Entry,
     into: &mut Answered,
 )

@@ -6,7 +6,7 @@ pub use Rattle.unit_table.proofs.OriginLaws.{origins_to, origins_within, begun_r
 pub use Rattle.unit_table.proofs.PeriodLaws.{filled_whole, period_off, period_run, period_filled}
 pub use Rattle.unit_table.proofs.RosterLaws.{none_run, run_before, one_run, run_whole, IsListRun, still_listed, none_listed, begun_listed, none_kept, one_kept, one_off, all_kept, first_inside, IsKeptTo}
 pub use Rattle.unit_table.proofs.RowLaws.{cost_from, cost-same, first-same, cost-is, written_added, written_old}
-pub use Rattle.unit_table.proofs.RunAllLaws.{run_begins, all_go, all_off, all_roomy, item_at, item_same, item_live, read_live, read_on, on_of, item_off, goes_written, room_of}
+pub use Rattle.unit_table.proofs.RunAllLaws.{run_begins, all_go, all_off, all_roomy, item_at, item_same, item_live, read_live, read_on, on_of, item_off, goes_written, roomy_of}
 pub use Rattle.unit_table.proofs.RunnerRowLaws.{row_end, row_skip}
 pub use Rattle.unit_table.proofs.StandInLaws.{may_next, beyond_goes, early_goes, none_starts, start_undercut, starts_beyond, start_beyond}
 pub use Rattle.unit_table.proofs.StartCosts.{start_cost-rises, start_cost-within}

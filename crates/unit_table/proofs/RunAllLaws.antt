@@ -167,5 +167,5 @@ module _ {R : Type 0} (function : R → Table) (runners : List (Runner R)) (i : 
 pub on_of : {R : Type 0} (r x : Runner R) {b : Bool} → r ≡ x → x.is_on ≡ b → r.is_on ≡ b
 on_of r x same is = ap (λ r. r.is_on) same ∙ is
 
-pub room_of : {R : Type 0} (count room : R → ℕ) (periods t charge : ℕ) (b r : Runner R) → b ≡ r → IsRoomy count room periods t charge b → IsRoomy count room periods t charge r
-room_of count room periods t charge b r same roomy = subst (IsRoomy count room periods t charge) same roomy
+pub roomy_of : {R : Type 0} (count room : R → ℕ) (periods t charge : ℕ) (b r : Runner R) → b ≡ r → IsRoomy count room periods t charge b → IsRoomy count room periods t charge r
+roomy_of count room periods t charge b r same roomy = subst (IsRoomy count room periods t charge) same roomy

@@ -75,21 +75,6 @@ pub record IsTable (g : ThermalUnit) (π : PriceLists) (periods n : ℕ) (ends :
   pub complete : IsComplete g π periods n ends
   pub sound : (l : ℕ) (v : ℤ) → ends l ≡ Some v → IsFrom g π periods n ends firsts lasts l v
 
--- what the spells that begin with f, entered at cost e after last, change; nets l is the least net
--- cost of the spell to l
-pub record IsUpdate (g : ThermalUnit) (periods f last : ℕ) (e : ℤ) (nets old new : ℕ →
-    Option ℤ) (firsts firsts' lasts lasts' : ℕ → ℕ) : Type 0 where
-  pub same : (l : ℕ) → l < f → new l ≡ old l
-  pub keeps : (l : ℕ) (v : ℤ) → old l ≡ Some v → HasAtMost (new l) v
-  pub adds : (l : ℕ) (c : ℤ) → IsSpell g periods f l → nets l ≡ Some c → HasAtMost (new l) (e +ℤ c)
-  -- where several cost the same, the spell that begins with f is named
-  pub takes : (l : ℕ) (c : ℤ) → IsSpell g periods f l → nets l ≡ Some c → new l ≡ Some (e +ℤ c) →
-      firsts' l ≡ f
-  pub sound : (l : ℕ) (v : ℤ) → new l ≡ Some v →
-      ((old l ≡ Some v) × (firsts' l ≡ firsts l) × (lasts' l ≡ lasts l))
-      ⊎ ((firsts' l ≡ f) × (lasts' l ≡ last) × IsSpell g periods f l
-      × ((c : ℤ) × (nets l ≡ Some c) × (v ≡ e +ℤ c)))
-
 -- v is the least cost of all, at a last on period l after which the unit may be off to the end
 pub record IsLeastEnd (g : ThermalUnit) (periods : ℕ) (ends : ℕ →
     Option ℤ) (l : ℕ) (v : ℤ) : Type 0 where

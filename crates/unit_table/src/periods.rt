@@ -7,6 +7,7 @@
 //! can't come within the amount that the limits are for.
 ghost use Rattle.std.specs.Prelude.{◌≡◌, ◌≢◌, ℕ, suc, ◌+◌, ◌*◌, ◌<◌, ◌≤◌, ℤ, Option, None, length};
 ghost use Rattle.cost_curve.specs.CostCurve.{IsCostCurve};
+ghost use Rattle.slope_list.specs.Slopes.{shown, count_of, room_of};
 ghost use Rattle.uc_model.specs.Data.{PriceLists};
 ghost use Rattle.uc_model.specs.PlainUnits.{thermal_of, prices_of};
 ghost use Rattle.plain_lists.specs.Sums.{int_at};
@@ -28,41 +29,41 @@ use crate::runner::{
 };
 use crate::table::{Entry, Table, begin_table};
 use plain_lists::lists::Numbers;
-use spell_run::Running;
+use slope_list::Slopes;
 use spell_run::laws::{dispatches_are_runs, dispatches_go_on, runs_go_on};
 use uc_model::laws::start_costs_are_within;
 use uc_model::units::{Curve, Prices, Unit};
 
 // Begins the runner of the period after the one at a place after its least entry, if that is within
 // the limit and no runner undercuts it.
-fn start_after<R: Running>(
+fn start_after(
     unit: &Unit,
     place: u32,
     entry: &Entry,
     limit: i64,
     roster: &mut Roster,
-    runners: &mut [Runner<R>],
+    runners: &mut [Runner<Slopes>],
 )
     requires small_place { place < MOST_PERIODS }
     requires runners { suc place < length runners.old }
     requires list { suc place < length roster.old.firsts.items }
-    requires roster { IsRoster (live_at R.function runners.old) (suc place) roster.old }
+    requires roster { IsRoster (live_at shown runners.old) (suc place) roster.old }
     requires bound { IsWithinTimes (2 * place + 3) entry.now.cost }
-    requires small { AreSmall (live_at R.function runners.old) }
+    requires small { AreSmall (live_at shown runners.old) }
     ensures stands { (π : PriceLists) (limits : ℕ → ℤ) (ends : ℕ → Option ℤ)
         → limits place ≡ limit →
         IsLeastEntry (thermal_of unit.now) ends (suc place) entry.now.last entry.now.cost →
-        AreRunners (thermal_of unit.now) π limits ends (live_at R.function runners.old) place
+        AreRunners (thermal_of unit.now) π limits ends (live_at shown runners.old) place
         (suc place) →
-        AreRunners (thermal_of unit.now) π limits ends (live_at R.function runners.new) place
+        AreRunners (thermal_of unit.now) π limits ends (live_at shown runners.new) place
         (suc (suc place)) }
     ensures left { (first k : ℕ) → left_at runners.new first k ≡ left_at runners.old first k }
-    ensures room { (periods charge : ℕ) → AreRoomy R.count R.room periods place charge runners.old
-        → AreRoomy R.count R.room periods place charge runners.new }
-    ensures keeps { (most periods : ℕ) → HaveRoom R.room most periods runners.old
-        → HaveRoom R.room most periods runners.new }
+    ensures room { (periods charge : ℕ) → AreRoomy count_of room_of periods place charge runners.old
+        → AreRoomy count_of room_of periods place charge runners.new }
+    ensures keeps { (most periods : ℕ) → HaveRoom room_of most periods runners.old
+        → HaveRoom room_of most periods runners.new }
     ensures length { length runners.new ≡ length runners.old }
-    ensures roster { IsRoster (live_at R.function runners.new) (suc (suc place)) roster.new }
+    ensures roster { IsRoster (live_at shown runners.new) (suc (suc place)) roster.new }
     ensures list { length roster.new.firsts.items ≡ length roster.old.firsts.items }
 {
     if is_less(limit, entry.cost) {
@@ -77,35 +78,35 @@ fn start_after<R: Running>(
 
 // Begins the runner of the period after the one at a place, if a spell may begin there within the
 // limit and no runner undercuts it.
-fn start<R: Running>(
+fn start(
     unit: &Unit,
     place: u32,
     limit: i64,
     origins: &Origins,
     roster: &mut Roster,
-    runners: &mut [Runner<R>],
+    runners: &mut [Runner<Slopes>],
 )
     requires small_place { place < MOST_PERIODS }
     requires list { suc place < length roster.old.firsts.items }
-    requires roster { IsRoster (live_at R.function runners.old) (suc place) roster.old }
+    requires roster { IsRoster (live_at shown runners.old) (suc place) roster.old }
     requires within { AreOriginsWithin place origins.now }
     requires order { AreInOrder origins.now }
     requires runners { suc place < length runners.old }
-    requires small { AreSmall (live_at R.function runners.old) }
+    requires small { AreSmall (live_at shown runners.old) }
     ensures stands { (π : PriceLists) (limits : ℕ → ℤ) (ends : ℕ → Option ℤ)
         → limits place ≡ limit →
         AreOrigins (thermal_of unit.now) ends place origins.now →
-        AreRunners (thermal_of unit.now) π limits ends (live_at R.function runners.old) place
+        AreRunners (thermal_of unit.now) π limits ends (live_at shown runners.old) place
         (suc place) →
-        AreRunners (thermal_of unit.now) π limits ends (live_at R.function runners.new) place
+        AreRunners (thermal_of unit.now) π limits ends (live_at shown runners.new) place
         (suc (suc place)) }
     ensures left { (first k : ℕ) → left_at runners.new first k ≡ left_at runners.old first k }
-    ensures room { (periods charge : ℕ) → AreRoomy R.count R.room periods place charge runners.old
-        → AreRoomy R.count R.room periods place charge runners.new }
-    ensures keeps { (most periods : ℕ) → HaveRoom R.room most periods runners.old
-        → HaveRoom R.room most periods runners.new }
+    ensures room { (periods charge : ℕ) → AreRoomy count_of room_of periods place charge runners.old
+        → AreRoomy count_of room_of periods place charge runners.new }
+    ensures keeps { (most periods : ℕ) → HaveRoom room_of most periods runners.old
+        → HaveRoom room_of most periods runners.new }
     ensures length { length runners.new ≡ length runners.old }
-    ensures roster { IsRoster (live_at R.function runners.new) (suc (suc place)) roster.new }
+    ensures roster { IsRoster (live_at shown runners.new) (suc (suc place)) roster.new }
     ensures list { length roster.new.firsts.items ≡ length roster.old.firsts.items }
 {
     if !origins.is_within(limit) {
@@ -118,7 +119,7 @@ fn start<R: Running>(
 }
 
 // Fills the row of the period at a place.
-fn take_period<R: Running>(
+fn take_period(
     unit: &Unit,
     curve: &Curve,
     prices: &Prices,
@@ -126,18 +127,18 @@ fn take_period<R: Running>(
     limits: &Numbers,
     origins: &Origins,
     roster: &mut Roster,
-    runners: &mut [Runner<R>],
+    runners: &mut [Runner<Slopes>],
     table: &mut Table,
 )
     requires horizon { length (thermal_of unit.now).window ≡ length (prices_of prices.now).energy }
     requires curve { IsCostCurve (thermal_of unit.now).points curve.now }
     requires place { place < length (prices_of prices.now).energy }
     requires runners { length (prices_of prices.now).energy < length runners.old }
-    requires room { AreRoomy R.count R.room (length (prices_of prices.now).energy) place
+    requires room { AreRoomy count_of room_of (length (prices_of prices.now).energy) place
         (length curve.now.blocks.items + 3) runners.old }
     requires rows { length (prices_of prices.now).energy < length table.old.items }
     requires filled { IsFilledTo (thermal_of unit.now) (prices_of prices.now)
-        (int_at limits.now.items) place table.old.items (live_at R.function runners.old) }
+        (int_at limits.now.items) place table.old.items (live_at shown runners.old) }
     requires limits { (most : ℤ)
         × AreLimits (thermal_of unit.now) (prices_of prices.now) most (int_at limits.now.items) }
     requires each { length (prices_of prices.now).energy < length limits.now.items }
@@ -146,20 +147,20 @@ fn take_period<R: Running>(
     requires origins { AreOrigins (thermal_of unit.now) (cost_at table.old.items) place
         origins.now }
     requires list { length (prices_of prices.now).energy < length origins.now.list.items }
-    requires roster { IsRoster (live_at R.function runners.old) (suc place) roster.old }
+    requires roster { IsRoster (live_at shown runners.old) (suc place) roster.old }
     requires firsts { length (prices_of prices.now).energy < length roster.old.firsts.items }
     ensures filled { IsFilledTo (thermal_of unit.now) (prices_of prices.now)
-        (int_at limits.now.items) (suc place) table.new.items (live_at R.function runners.new) }
+        (int_at limits.now.items) (suc place) table.new.items (live_at shown runners.new) }
     ensures ways { HaveWays (thermal_of unit.now) (prices_of prices.now) (suc place)
         (cost_at table.new.items) (first_at table.new.items) (left_at runners.new) }
     ensures others { (l : ℕ) → l ≢ suc place → row_at table.new.items l ≡ row_at table.old.items l }
-    ensures room { AreRoomy R.count R.room (length (prices_of prices.now).energy) (suc place)
+    ensures room { AreRoomy count_of room_of (length (prices_of prices.now).energy) (suc place)
         (length curve.now.blocks.items + 3) runners.new }
     ensures length { length table.new.items ≡ length table.old.items }
-    ensures keeps { (most periods : ℕ) → HaveRoom R.room most periods runners.old
-        → HaveRoom R.room most periods runners.new }
+    ensures keeps { (most periods : ℕ) → HaveRoom room_of most periods runners.old
+        → HaveRoom room_of most periods runners.new }
     ensures count { length runners.new ≡ length runners.old }
-    ensures roster { IsRoster (live_at R.function runners.new) (suc (suc place)) roster.new }
+    ensures roster { IsRoster (live_at shown runners.new) (suc (suc place)) roster.new }
     ensures firsts { length roster.new.firsts.items ≡ length roster.old.firsts.items }
 {
     if is_must_off(unit, place) {
@@ -179,20 +180,20 @@ fn take_period<R: Running>(
 }
 
 // Begins the runner of the spells that go on from before the horizon, where the unit is on then.
-fn go_on<R: Running>(unit: &Unit, roster: &mut Roster, runners: &mut [Runner<R>])
+fn go_on(unit: &Unit, roster: &mut Roster, runners: &mut [Runner<Slopes>])
     requires some { 1 ≤ length runners.old }
     requires list { 1 ≤ length roster.old.firsts.items }
     requires none { roster.old.count ≡ 0 }
-    requires off { (first : ℕ) → live_at R.function runners.old first ≡ None }
+    requires off { (first : ℕ) → live_at shown runners.old first ≡ None }
     ensures stands { (π : PriceLists) (limits : ℕ → ℤ) (ends : ℕ → Option ℤ)
-        → AreRunners (thermal_of unit.now) π limits ends (live_at R.function runners.new) 0 1 }
+        → AreRunners (thermal_of unit.now) π limits ends (live_at shown runners.new) 0 1 }
     ensures left { (first k : ℕ) → left_at runners.new first k ≡ left_at runners.old first k }
-    ensures room { (periods charge : ℕ) → AreRoomy R.count R.room periods 0 charge runners.old
-        → AreRoomy R.count R.room periods 0 charge runners.new }
-    ensures keeps { (most periods : ℕ) → HaveRoom R.room most periods runners.old
-        → HaveRoom R.room most periods runners.new }
+    ensures room { (periods charge : ℕ) → AreRoomy count_of room_of periods 0 charge runners.old
+        → AreRoomy count_of room_of periods 0 charge runners.new }
+    ensures keeps { (most periods : ℕ) → HaveRoom room_of most periods runners.old
+        → HaveRoom room_of most periods runners.new }
     ensures length { length runners.new ≡ length runners.old }
-    ensures roster { IsRoster (live_at R.function runners.new) 1 roster.new }
+    ensures roster { IsRoster (live_at shown runners.new) 1 roster.new }
     ensures list { length roster.new.firsts.items ≡ length roster.old.firsts.items }
 {
     if unit.on0 {
@@ -203,25 +204,20 @@ fn go_on<R: Running>(unit: &Unit, roster: &mut Roster, runners: &mut [Runner<R>]
 }
 
 // The table and the runners before the first period.
-fn begin_all<R: Running>(
-    unit: &Unit,
-    roster: &mut Roster,
-    runners: &mut [Runner<R>],
-    table: &mut Table,
-)
+fn begin_all(unit: &Unit, roster: &mut Roster, runners: &mut [Runner<Slopes>], table: &mut Table)
     requires runners { 1 ≤ length runners.old }
     requires list { 1 ≤ length roster.old.firsts.items }
     requires rows { 1 ≤ length table.old.items }
     ensures filled { (π : PriceLists) (limits : ℕ → ℤ) → 1 ≤ length π.energy
         → IsFilledTo (thermal_of unit.now) π limits 0 table.new.items
-        (live_at R.function runners.new) }
-    ensures room { (periods charge : ℕ) → HaveRoom R.room (periods * charge) periods runners.old
-        → AreRoomy R.count R.room periods 0 charge runners.new }
+        (live_at shown runners.new) }
+    ensures room { (periods charge : ℕ) → HaveRoom room_of (periods * charge) periods runners.old
+        → AreRoomy count_of room_of periods 0 charge runners.new }
     ensures length { length table.new.items ≡ length table.old.items }
-    ensures keeps { (most periods : ℕ) → HaveRoom R.room most periods runners.old
-        → HaveRoom R.room most periods runners.new }
+    ensures keeps { (most periods : ℕ) → HaveRoom room_of most periods runners.old
+        → HaveRoom room_of most periods runners.new }
     ensures count { length runners.new ≡ length runners.old }
-    ensures roster { IsRoster (live_at R.function runners.new) 1 roster.new }
+    ensures roster { IsRoster (live_at shown runners.new) 1 roster.new }
     ensures firsts { length roster.new.firsts.items ≡ length roster.old.firsts.items }
 {
     begin_table(unit, table);
@@ -236,20 +232,20 @@ fn begin_all<R: Running>(
 /// pieces, where the curve has B blocks, and for T periods; `origins` and `roster` have room for T
 /// periods, and `table` has at least T + 1 rows. Leaves with the runners what the way back from
 /// each row needs. Takes no memory.
-pub fn fill_by_periods<R: Running>(
+pub fn fill_by_periods(
     unit: &Unit,
     curve: &Curve,
     prices: &Prices,
     limits: &Numbers,
     origins: &mut Origins,
     roster: &mut Roster,
-    runners: &mut [Runner<R>],
+    runners: &mut [Runner<Slopes>],
     table: &mut Table,
 )
     requires horizon { length (thermal_of unit.now).window ≡ length (prices_of prices.now).energy }
     requires curve { IsCostCurve (thermal_of unit.now).points curve.now }
     requires runners { length (prices_of prices.now).energy < length runners.old }
-    requires room { HaveRoom R.room (length (prices_of prices.now).energy
+    requires room { HaveRoom room_of (length (prices_of prices.now).energy
         * (length curve.now.blocks.items + 3)) (length (prices_of prices.now).energy) runners.old }
     requires limits { (most : ℤ)
         × AreLimits (thermal_of unit.now) (prices_of prices.now) most (int_at limits.now.items) }
@@ -264,8 +260,8 @@ pub fn fill_by_periods<R: Running>(
         (length (prices_of prices.now).energy) (cost_at table.new.items) (first_at table.new.items)
         (left_at runners.new) }
     ensures length { length table.new.items ≡ length table.old.items }
-    ensures keeps { (most periods : ℕ) → HaveRoom R.room most periods runners.old
-        → HaveRoom R.room most periods runners.new }
+    ensures keeps { (most periods : ℕ) → HaveRoom room_of most periods runners.old
+        → HaveRoom room_of most periods runners.new }
     ensures count { length runners.new ≡ length runners.old }
     ensures list { length origins.new.list.items ≡ length origins.old.list.items }
     ensures firsts { length roster.new.firsts.items ≡ length roster.old.firsts.items }

@@ -5,6 +5,7 @@ ghost use Rattle.std.specs.Prelude.{None, Option, slice_get};
 ghost use Rattle.std.specs.Bool.{OnTrue};
 ghost use Rattle.cost_curve.specs.CostCurve.{IsCostCurve};
 ghost use Rattle.shape_law.specs.Table.{Table, value_of, IsEmpty};
+ghost use Rattle.slope_list.specs.Slopes.{shown, count_of, room_of};
 ghost use Rattle.spell_run.specs.Frontier.{IsFrontier};
 ghost use Rattle.spell_run.specs.Notes.{IsOnNoted, IsEndNoted, passed_at, end_cost};
 ghost use Rattle.spell_run.specs.Spells.{IsSpellAnswer, IsSpellWithin};
@@ -27,8 +28,8 @@ use crate::notes::leave_at;
 use crate::roster::Roster;
 use crate::table::{Entry, Table, put_end, sum_of};
 use plain_lists::lists::ReservedList;
-use slope_list::Lowest;
-use spell_run::{Passed, Running, begin, end_and_run, run_over};
+use slope_list::{Lowest, Slopes};
+use spell_run::{Passed, begin, end_and_run, run_over};
 use uc_model::units::{Curve, Prices, Unit};
 
 /// The spells that begin with one period; its place in a list of runners is that period, and 0
@@ -59,14 +60,14 @@ impl<R: Drop> Drop for Runner<R> {
 }
 
 /// Begins a runner after an entry.
-pub fn begin_runner<R: Running>(unit: &Unit, first: u32, entry: &Entry, runner: &mut Runner<R>)
+pub fn begin_runner(unit: &Unit, first: u32, entry: &Entry, runner: &mut Runner<Slopes>)
     ensures on { runner.new.is_on ≡ true }
     ensures cost { runner.new.cost ≡ entry.now.cost }
     ensures before { runner.new.before ≡ entry.now.last }
     ensures frontier { (π : PriceLists)
-        → IsFrontier (thermal_of unit.now) π first (first - 1) (R.function runner.new.running) }
-    ensures count { R.count runner.new.running ≡ 0 }
-    ensures room { R.room runner.new.running ≡ R.room runner.old.running }
+        → IsFrontier (thermal_of unit.now) π first (first - 1) (shown runner.new.running) }
+    ensures count { count_of runner.new.running ≡ 0 }
+    ensures room { room_of runner.new.running ≡ room_of runner.old.running }
     ensures passed { runner.new.passed ≡ runner.old.passed }
 {
     runner.is_on = true;
@@ -76,7 +77,7 @@ pub fn begin_runner<R: Running>(unit: &Unit, first: u32, entry: &Entry, runner: 
 }
 
 /// Stops a runner.
-fn stop<R: Running>(runner: &mut Runner<R>)
+fn stop(runner: &mut Runner<Slopes>)
     ensures off { runner.new.is_on ≡ false }
     ensures running { runner.new.running ≡ runner.old.running }
     ensures passed { runner.new.passed ≡ runner.old.passed }
@@ -85,13 +86,13 @@ fn stop<R: Running>(runner: &mut Runner<R>)
 }
 
 /// Stops all runners.
-pub fn stop_all<R: Running>(runners: &mut [Runner<R>])
-    ensures off { (first : ℕ) → live_at R.function runners.new first ≡ None }
+pub fn stop_all(runners: &mut [Runner<Slopes>])
+    ensures off { (first : ℕ) → live_at shown runners.new first ≡ None }
     ensures left { (first k : ℕ) → left_at runners.new first k ≡ left_at runners.old first k }
-    ensures room { (periods t charge : ℕ) → HaveRoom R.room (periods * charge) periods runners.old
-        → AreRoomy R.count R.room periods t charge runners.new }
-    ensures keeps { (most periods : ℕ) → HaveRoom R.room most periods runners.old
-        → HaveRoom R.room most periods runners.new }
+    ensures room { (periods t charge : ℕ) → HaveRoom room_of (periods * charge) periods runners.old
+        → AreRoomy count_of room_of periods t charge runners.new }
+    ensures keeps { (most periods : ℕ) → HaveRoom room_of most periods runners.old
+        → HaveRoom room_of most periods runners.new }
     ensures length { length runners.new ≡ length runners.old }
 {
     for place in 0..runners.len() {
@@ -100,8 +101,8 @@ pub fn stop_all<R: Running>(runners: &mut [Runner<R>])
 }
 
 // The value at a power, where that is the first power.
-fn value_at_first<R: Running>(running: &R, power: i64) -> Option<i64>
-    ensures { IfSome result (λ v. value_of (R.function running.now) power ≡ Some v) }
+fn value_at_first(running: &Slopes, power: i64) -> Option<i64>
+    ensures { IfSome result (λ v. value_of (shown running.now) power ≡ Some v) }
 {
     match running.first() {
         Some(spot) => {
@@ -122,16 +123,16 @@ pub(crate) fn is_less(a: i64, b: i64) -> bool
 }
 
 // Whether a runner that is on is at a power, its first, for less than a cost.
-fn undercuts<R: Running>(runner: &Runner<R>, power: i64, cost: i64) -> bool
+fn undercuts(runner: &Runner<Slopes>, power: i64, cost: i64) -> bool
     requires bound { IsWithinTimes 400 runner.now.cost }
-    requires values { (x v : ℤ) → value_of (R.function runner.now.running) x ≡ Some v
+    requires values { (x v : ℤ) → value_of (shown runner.now.running) x ≡ Some v
         → IsWithinTimes 400 v }
     ensures { OnTrue result
         (IsUnder power cost (record {
           before = runner.now.before;
           cost = runner.now.cost;
           function =
-              R.function runner.now.running;
+              shown runner.now.running;
           left = passed_at runner.now.passed.items;
         })) }
 {
@@ -142,10 +143,10 @@ fn undercuts<R: Running>(runner: &Runner<R>, power: i64, cost: i64) -> bool
 }
 
 // Whether the runner that begins with a period is on, and undercuts a cost at a power.
-fn undercuts_from<R: Running>(runners: &[Runner<R>], first: u32, power: i64, cost: i64) -> bool
+fn undercuts_from(runners: &[Runner<Slopes>], first: u32, power: i64, cost: i64) -> bool
     requires room { first < length runners.now }
-    requires small { AreSmall (live_at R.function runners.now) }
-    ensures { OnTrue result ((r : Going) × (live_at R.function runners.now first ≡ Some r)
+    requires small { AreSmall (live_at shown runners.now) }
+    ensures { OnTrue result ((r : Going) × (live_at shown runners.now first ≡ Some r)
         × IsUnder power cost r) }
 {
     if !runners[first as usize].is_on {
@@ -155,16 +156,11 @@ fn undercuts_from<R: Running>(runners: &[Runner<R>], first: u32, power: i64, cos
 }
 
 /// Whether one of the runners of a roster is at a power, its first, for less than a cost.
-pub fn is_undercut<R: Running>(
-    runners: &[Runner<R>],
-    roster: &Roster,
-    power: i64,
-    cost: i64,
-) -> bool
-    requires roster { IsRoster (live_at R.function runners.now) (length runners.now) roster.now }
-    requires small { AreSmall (live_at R.function runners.now) }
+pub fn is_undercut(runners: &[Runner<Slopes>], roster: &Roster, power: i64, cost: i64) -> bool
+    requires roster { IsRoster (live_at shown runners.now) (length runners.now) roster.now }
+    requires small { AreSmall (live_at shown runners.now) }
     ensures { OnTrue result ((first : ℕ) × (r : Going)
-        × (live_at R.function runners.now first ≡ Some r) × IsUnder power cost r) }
+        × (live_at shown runners.now first ≡ Some r) × IsUnder power cost r) }
 {
     for place in 0..roster.count {
         if undercuts_from(runners, *roster.firsts.get(place as usize), power, cost) {
@@ -176,20 +172,20 @@ pub fn is_undercut<R: Running>(
 
 // Takes a runner over the period at a place, and answers what is left for the way back, with the
 // least net cost of the spells that end with the period, where the unit may stop after it.
-fn run_one<R: Running>(
+fn run_one(
     unit: &Unit,
     curve: &Curve,
     prices: &Prices,
     first: u32,
     place: u32,
-    running: &mut R,
+    running: &mut Slopes,
 ) -> Passed
     requires curve { IsCostCurve (thermal_of unit.now).points curve.now }
     requires place { place < length (prices_of prices.now).energy }
     requires order { first ≤ suc place }
     requires frontier { IsFrontier (thermal_of unit.now) (prices_of prices.now) first place
-        (R.function running.old) }
-    requires room { R.count running.old + (length curve.now.blocks.items + 3) ≤ R.room running.old }
+        (shown running.old) }
+    requires room { count_of running.old + (length curve.now.blocks.items + 3) ≤ room_of running.old }
     ensures answer { (suc place < length (prices_of prices.now).energy
         → (thermal_of unit.now).min_up ≤ on_time (thermal_of unit.now) first (suc place)) →
         IsSpellAnswer (thermal_of unit.now) (prices_of prices.now)
@@ -199,13 +195,13 @@ fn run_one<R: Running>(
     ensures within { IfSome result.end (λ e. IsSpellWithin first (suc place) e.value) }
     ensures ended { IfSome result.end
         (IsEndNoted (thermal_of unit.now) (prices_of prices.now) first place result.note) }
-    ensures noted { (x v : ℤ) → value_of (R.function running.old) x ≡ Some v
+    ensures noted { (x v : ℤ) → value_of (shown running.old) x ≡ Some v
         → IsOnNoted (thermal_of unit.now) (prices_of prices.now) first place result.note }
     ensures frontier { IsFrontier (thermal_of unit.now) (prices_of prices.now) first (suc place)
-        (R.function running.new) }
-    ensures count { R.count running.new ≤ R.count running.old
+        (shown running.new) }
+    ensures count { count_of running.new ≤ count_of running.old
         + (length curve.now.blocks.items + 3) }
-    ensures room { R.room running.new ≡ R.room running.old }
+    ensures room { room_of running.new ≡ room_of running.old }
 {
     if may_end(unit, prices.energy.len() as u32, first, place + 1) {
         end_and_run(unit, curve, prices, first, place as usize, running)
@@ -226,13 +222,13 @@ fn cost_of(end: Option<Lowest>) -> Option<i64>
 }
 
 // Stops a runner where no run is left.
-fn retire<R: Running>(runner: &mut Runner<R>)
+fn retire(runner: &mut Runner<Slopes>)
     requires { runner.old.is_on ≡ true }
     ensures running { runner.new.running ≡ runner.old.running }
     ensures passed { runner.new.passed ≡ runner.old.passed }
-    ensures next { (going_of R.function (Some runner.new) ≡ going_of R.function (Some runner.old))
-        ⊎ ((going_of R.function (Some runner.new) ≡ None)
-        × IsEmpty (R.function runner.old.running)) }
+    ensures next { (going_of shown (Some runner.new) ≡ going_of shown (Some runner.old))
+        ⊎ ((going_of shown (Some runner.new) ≡ None)
+        × IsEmpty (shown runner.old.running)) }
 {
     if runner.running.is_empty() {
         stop(runner);
@@ -241,13 +237,13 @@ fn retire<R: Running>(runner: &mut Runner<R>)
 
 // Takes a runner that is on over the period at a place, and puts the spells that end with it into
 // the table.
-fn take_runner<R: Running>(
+fn take_runner(
     unit: &Unit,
     curve: &Curve,
     prices: &Prices,
     first: u32,
     place: u32,
-    runner: &mut Runner<R>,
+    runner: &mut Runner<Slopes>,
     table: &mut Table,
 )
     requires horizon { length (thermal_of unit.now).window ≡ length (prices_of prices.now).energy }
@@ -256,14 +252,14 @@ fn take_runner<R: Running>(
     requires order { first ≤ suc place }
     requires on { runner.old.is_on ≡ true }
     requires frontier { IsFrontier (thermal_of unit.now) (prices_of prices.now) first place
-        (R.function runner.old.running) }
+        (shown runner.old.running) }
     requires may { MayBeOn (thermal_of unit.now) first (suc place) }
     requires bound { IsWithinTimes (2 * first + 1) runner.old.cost }
-    requires room { IsRoomy R.count R.room (length (prices_of prices.now).energy) place
+    requires room { IsRoomy count_of room_of (length (prices_of prices.now).energy) place
         (length curve.now.blocks.items + 3) runner.old }
     requires rows { length (prices_of prices.now).energy < length table.old.items }
     requires within { AreWithin table.old.items }
-    ensures row { (live : ℕ → Option Going) → live first ≡ going_of R.function (Some runner.old) →
+    ensures row { (live : ℕ → Option Going) → live first ≡ going_of shown (Some runner.old) →
         IsRowOf (thermal_of unit.now) (prices_of prices.now) (length (prices_of prices.now).energy)
         live first (suc place) (cost_at table.old.items (suc place))
         (first_at table.old.items (suc place)) (before_at table.old.items (suc place)) →
@@ -278,19 +274,19 @@ fn take_runner<R: Running>(
           before = runner.old.before;
           cost = runner.old.cost;
           function =
-              R.function runner.old.running;
+              shown runner.old.running;
           left = passed_at runner.old.passed.items;
         })
-        (going_of R.function (Some runner.new)) }
+        (going_of shown (Some runner.new)) }
     ensures ends { (row_at table.new.items (suc place) ≡ row_at table.old.items (suc place)) ⊎
         ((first_at table.new.items (suc place) ≡ first)
         × IsEndLeft (thermal_of unit.now) (prices_of prices.now) first place
         (passed_at runner.new.passed.items place)) }
     ensures left { (k : ℕ) → k ≢ place → passed_at runner.new.passed.items k
         ≡ passed_at runner.old.passed.items k }
-    ensures room { IsRoomy R.count R.room (length (prices_of prices.now).energy) (suc place)
+    ensures room { IsRoomy count_of room_of (length (prices_of prices.now).energy) (suc place)
         (length curve.now.blocks.items + 3) runner.new }
-    ensures keeps { R.room runner.new.running ≡ R.room runner.old.running }
+    ensures keeps { room_of runner.new.running ≡ room_of runner.old.running }
     ensures places { places_of runner.new ≡ places_of runner.old }
 {
     let entry = Entry {
@@ -304,13 +300,13 @@ fn take_runner<R: Running>(
 }
 
 // Takes the runner that begins with a period over the period at a place, if it is on.
-fn run_at<R: Running>(
+fn run_at(
     unit: &Unit,
     curve: &Curve,
     prices: &Prices,
     place: u32,
     first: u32,
-    runners: &mut [Runner<R>],
+    runners: &mut [Runner<Slopes>],
     table: &mut Table,
 )
     requires horizon { length (thermal_of unit.now).window ≡ length (prices_of prices.now).energy }
@@ -318,18 +314,18 @@ fn run_at<R: Running>(
     requires place { place < length (prices_of prices.now).energy }
     requires order { first ≤ suc place }
     requires runners { first < length runners.old }
-    requires frontier { (r : Going) → live_at R.function runners.old first ≡ Some r
+    requires frontier { (r : Going) → live_at shown runners.old first ≡ Some r
         → IsFrontier (thermal_of unit.now) (prices_of prices.now) first place r.function }
-    requires may { (r : Going) → live_at R.function runners.old first ≡ Some r
+    requires may { (r : Going) → live_at shown runners.old first ≡ Some r
         → MayBeOn (thermal_of unit.now) first (suc place) }
-    requires bound { (r : Going) → live_at R.function runners.old first ≡ Some r
+    requires bound { (r : Going) → live_at shown runners.old first ≡ Some r
         → IsWithinTimes (2 * first + 1) r.cost }
-    requires room { (r : Runner R) → slice_get runners.old first ≡ Some r
-        → IsRoomy R.count R.room (length (prices_of prices.now).energy) place
+    requires room { (r : Runner Slopes) → slice_get runners.old first ≡ Some r
+        → IsRoomy count_of room_of (length (prices_of prices.now).energy) place
         (length curve.now.blocks.items + 3) r }
     requires rows { length (prices_of prices.now).energy < length table.old.items }
     requires within { AreWithin table.old.items }
-    ensures row { (live : ℕ → Option Going) → live first ≡ live_at R.function runners.old first →
+    ensures row { (live : ℕ → Option Going) → live first ≡ live_at shown runners.old first →
         IsRowOf (thermal_of unit.now) (prices_of prices.now) (length (prices_of prices.now).energy)
         live first (suc place) (cost_at table.old.items (suc place))
         (first_at table.old.items (suc place)) (before_at table.old.items (suc place)) →
@@ -339,22 +335,22 @@ fn run_at<R: Running>(
     ensures others { (l : ℕ) → l ≢ suc place → row_at table.new.items l ≡ row_at table.old.items l }
     ensures within { AreWithin table.new.items }
     ensures length { length table.new.items ≡ length table.old.items }
-    ensures goes { (r : Going) → live_at R.function runners.old first ≡ Some r
+    ensures goes { (r : Going) → live_at shown runners.old first ≡ Some r
         → IsGoneOn (thermal_of unit.now) (prices_of prices.now) place first r
-        (live_at R.function runners.new first) }
-    ensures off { live_at R.function runners.old first ≡ None
-        → live_at R.function runners.new first ≡ None }
+        (live_at shown runners.new first) }
+    ensures off { live_at shown runners.old first ≡ None
+        → live_at shown runners.new first ≡ None }
     ensures ends { (row_at table.new.items (suc place) ≡ row_at table.old.items (suc place)) ⊎
         ((first_at table.new.items (suc place) ≡ first)
         × IsEndLeft (thermal_of unit.now) (prices_of prices.now) first place
         (left_at runners.new first place)) }
     ensures left { (k : ℕ) → k ≢ place → left_at runners.new first k ≡ left_at runners.old first k }
     ensures rest { (f : ℕ) → f ≢ first → slice_get runners.new f ≡ slice_get runners.old f }
-    ensures room { (r : Runner R) → slice_get runners.new first ≡ Some r
-        → IsRoomy R.count R.room (length (prices_of prices.now).energy) (suc place)
+    ensures room { (r : Runner Slopes) → slice_get runners.new first ≡ Some r
+        → IsRoomy count_of room_of (length (prices_of prices.now).energy) (suc place)
         (length curve.now.blocks.items + 3) r }
-    ensures keeps { (most periods : ℕ) → HaveRoom R.room most periods runners.old
-        → HaveRoom R.room most periods runners.new }
+    ensures keeps { (most periods : ℕ) → HaveRoom room_of most periods runners.old
+        → HaveRoom room_of most periods runners.new }
     ensures count { length runners.new ≡ length runners.old }
 {
     if runners[first as usize].is_on {
@@ -372,13 +368,13 @@ fn run_at<R: Running>(
 
 /// Takes all runners that begin up to the period at a place over it, and fills its row. The roster
 /// has all that are on.
-pub fn run_all<R: Running>(
+pub fn run_all(
     unit: &Unit,
     curve: &Curve,
     prices: &Prices,
     place: u32,
     roster: &Roster,
-    runners: &mut [Runner<R>],
+    runners: &mut [Runner<Slopes>],
     table: &mut Table,
 )
     requires horizon { length (thermal_of unit.now).window ≡ length (prices_of prices.now).energy }
@@ -388,36 +384,36 @@ pub fn run_all<R: Running>(
     requires runners { length (prices_of prices.now).energy < length runners.old }
     requires now { (limits : ℕ → ℤ)
         × AreRunners (thermal_of unit.now) (prices_of prices.now) limits (cost_at table.old.items)
-        (live_at R.function runners.old) place (suc (suc place)) }
-    requires roster { IsRoster (live_at R.function runners.old) (suc (suc place)) roster.now }
-    requires room { AreRoomy R.count R.room (length (prices_of prices.now).energy) place
+        (live_at shown runners.old) place (suc (suc place)) }
+    requires roster { IsRoster (live_at shown runners.old) (suc (suc place)) roster.now }
+    requires room { AreRoomy count_of room_of (length (prices_of prices.now).energy) place
         (length curve.now.blocks.items + 3) runners.old }
     requires rows { length (prices_of prices.now).energy < length table.old.items }
     requires within { AreWithin table.old.items }
     requires none { cost_at table.old.items (suc place) ≡ None }
     ensures row { IsRowOf (thermal_of unit.now) (prices_of prices.now)
-        (length (prices_of prices.now).energy) (live_at R.function runners.old) (suc (suc place))
+        (length (prices_of prices.now).energy) (live_at shown runners.old) (suc (suc place))
         (suc place)
         (cost_at table.new.items (suc place)) (first_at table.new.items (suc place))
         (before_at table.new.items (suc place)) }
     ensures others { (l : ℕ) → l ≢ suc place → row_at table.new.items l ≡ row_at table.old.items l }
     ensures within { AreWithin table.new.items }
     ensures length { length table.new.items ≡ length table.old.items }
-    ensures goes { (first : ℕ) (r : Going) → live_at R.function runners.old first ≡ Some r →
+    ensures goes { (first : ℕ) (r : Going) → live_at shown runners.old first ≡ Some r →
         IsGoneOn (thermal_of unit.now) (prices_of prices.now) place first r
-        (live_at R.function runners.new first) }
-    ensures off { (first : ℕ) → live_at R.function runners.old first ≡ None
-        → live_at R.function runners.new first ≡ None }
+        (live_at shown runners.new first) }
+    ensures off { (first : ℕ) → live_at shown runners.old first ≡ None
+        → live_at shown runners.new first ≡ None }
     ensures ends { (v : ℤ) → cost_at table.new.items (suc place) ≡ Some v →
         IsEndLeft (thermal_of unit.now) (prices_of prices.now)
         (first_at table.new.items (suc place)) place
         (left_at runners.new (first_at table.new.items (suc place)) place) }
     ensures left { (first k : ℕ) → k ≢ place
         → left_at runners.new first k ≡ left_at runners.old first k }
-    ensures room { AreRoomy R.count R.room (length (prices_of prices.now).energy) (suc place)
+    ensures room { AreRoomy count_of room_of (length (prices_of prices.now).energy) (suc place)
         (length curve.now.blocks.items + 3) runners.new }
-    ensures keeps { (most periods : ℕ) → HaveRoom R.room most periods runners.old
-        → HaveRoom R.room most periods runners.new }
+    ensures keeps { (most periods : ℕ) → HaveRoom room_of most periods runners.old
+        → HaveRoom room_of most periods runners.new }
     ensures count { length runners.new ≡ length runners.old }
 {
     for index in 0..roster.count {
@@ -438,13 +434,7 @@ fn difference(a: i64, b: i64) -> i64
 
 // Whether a later runner may stop in each period after the next as an earlier one may, and is
 // nowhere above it.
-fn goes<R: Running>(
-    unit: &Unit,
-    period: u32,
-    first: u32,
-    late: &Runner<R>,
-    early: &Runner<R>,
-) -> bool
+fn goes(unit: &Unit, period: u32, first: u32, late: &Runner<Slopes>, early: &Runner<Slopes>) -> bool
     requires small { period ≤ MOST_PERIODS }
     requires order { first ≤ period }
     requires late { IsWithinTimes 400 late.now.cost }
@@ -452,7 +442,7 @@ fn goes<R: Running>(
     ensures long { OnTrue result ((thermal_of unit.now).min_up
         ≤ on_time (thermal_of unit.now) first (suc period)) }
     ensures below { OnTrue result
-        (IsBelow (R.function late.now.running) late.now.cost (R.function early.now.running)
+        (IsBelow (shown late.now.running) late.now.cost (shown early.now.running)
         early.now.cost) }
 {
     is_long_enough(unit, first, period + 1)
@@ -462,32 +452,32 @@ fn goes<R: Running>(
 }
 
 // Stops a runner where a later one stands for it, and answers the earliest one that is on then.
-fn prune_one<R: Running>(
+fn prune_one(
     unit: &Unit,
     period: u32,
     early: u32,
     late: Option<u32>,
-    runners: &mut [Runner<R>],
+    runners: &mut [Runner<Slopes>],
 ) -> Option<u32>
     requires periods { period ≤ MOST_PERIODS }
     requires early { early ≤ period }
     requires end { period < length runners.old }
     requires late { IfSome late (λ l. (early < l) × (l ≤ period)
-        × ((r : Going) × (live_at R.function runners.old l ≡ Some r))) }
-    requires small { AreSmall (live_at R.function runners.old) }
+        × ((r : Going) × (live_at shown runners.old l ≡ Some r))) }
+    requires small { AreSmall (live_at shown runners.old) }
     ensures late { IfSome result (λ l. (early ≤ l) × (l ≤ period)
-        × ((r : Going) × (live_at R.function runners.new l ≡ Some r))) }
+        × ((r : Going) × (live_at shown runners.new l ≡ Some r))) }
     ensures stands { (π : PriceLists) (limits : ℕ → ℤ) (ends : ℕ → Option ℤ) (n : ℕ) →
-        AreRunners (thermal_of unit.now) π limits ends (live_at R.function runners.old) period n →
-        AreRunners (thermal_of unit.now) π limits ends (live_at R.function runners.new) period n }
-    ensures small { AreSmall (live_at R.function runners.new) }
+        AreRunners (thermal_of unit.now) π limits ends (live_at shown runners.old) period n →
+        AreRunners (thermal_of unit.now) π limits ends (live_at shown runners.new) period n }
+    ensures small { AreSmall (live_at shown runners.new) }
     ensures left { (first k : ℕ) → left_at runners.new first k ≡ left_at runners.old first k }
-    ensures off { (first : ℕ) → live_at R.function runners.old first ≡ None
-        → live_at R.function runners.new first ≡ None }
-    ensures room { (periods t charge : ℕ) → AreRoomy R.count R.room periods t charge runners.old
-        → AreRoomy R.count R.room periods t charge runners.new }
-    ensures keeps { (most periods : ℕ) → HaveRoom R.room most periods runners.old
-        → HaveRoom R.room most periods runners.new }
+    ensures off { (first : ℕ) → live_at shown runners.old first ≡ None
+        → live_at shown runners.new first ≡ None }
+    ensures room { (periods t charge : ℕ) → AreRoomy count_of room_of periods t charge runners.old
+        → AreRoomy count_of room_of periods t charge runners.new }
+    ensures keeps { (most periods : ℕ) → HaveRoom room_of most periods runners.old
+        → HaveRoom room_of most periods runners.new }
     ensures length { length runners.new ≡ length runners.old }
 {
     if !runners[early as usize].is_on {
@@ -510,21 +500,21 @@ fn prune_one<R: Running>(
 
 /// Stops each runner that a later one stands for at the end of a period. The roster has all that
 /// are on.
-pub fn prune<R: Running>(unit: &Unit, period: u32, roster: &Roster, runners: &mut [Runner<R>])
+pub fn prune(unit: &Unit, period: u32, roster: &Roster, runners: &mut [Runner<Slopes>])
     requires periods { period ≤ MOST_PERIODS }
     requires end { period < length runners.old }
-    requires small { AreSmall (live_at R.function runners.old) }
-    requires roster { IsRoster (live_at R.function runners.old) (suc period) roster.now }
+    requires small { AreSmall (live_at shown runners.old) }
+    requires roster { IsRoster (live_at shown runners.old) (suc period) roster.now }
     ensures stands { (π : PriceLists) (limits : ℕ → ℤ) (ends : ℕ → Option ℤ) (n : ℕ) →
-        AreRunners (thermal_of unit.now) π limits ends (live_at R.function runners.old) period n →
-        AreRunners (thermal_of unit.now) π limits ends (live_at R.function runners.new) period n }
+        AreRunners (thermal_of unit.now) π limits ends (live_at shown runners.old) period n →
+        AreRunners (thermal_of unit.now) π limits ends (live_at shown runners.new) period n }
     ensures left { (first k : ℕ) → left_at runners.new first k ≡ left_at runners.old first k }
-    ensures off { (first : ℕ) → live_at R.function runners.old first ≡ None
-        → live_at R.function runners.new first ≡ None }
-    ensures room { (periods t charge : ℕ) → AreRoomy R.count R.room periods t charge runners.old
-        → AreRoomy R.count R.room periods t charge runners.new }
-    ensures keeps { (most periods : ℕ) → HaveRoom R.room most periods runners.old
-        → HaveRoom R.room most periods runners.new }
+    ensures off { (first : ℕ) → live_at shown runners.old first ≡ None
+        → live_at shown runners.new first ≡ None }
+    ensures room { (periods t charge : ℕ) → AreRoomy count_of room_of periods t charge runners.old
+        → AreRoomy count_of room_of periods t charge runners.new }
+    ensures keeps { (most periods : ℕ) → HaveRoom room_of most periods runners.old
+        → HaveRoom room_of most periods runners.new }
     ensures length { length runners.new ≡ length runners.old }
 {
     let mut late = None;
@@ -535,31 +525,31 @@ pub fn prune<R: Running>(unit: &Unit, period: u32, roster: &Roster, runners: &mu
 }
 
 // Whether a runner is above a cost at each power.
-fn is_beyond<R: Running>(runner: &Runner<R>, limit: i64) -> bool
+fn is_beyond(runner: &Runner<Slopes>, limit: i64) -> bool
     requires bound { IsWithinTimes 400 runner.now.cost }
-    requires values { (x v : ℤ) → value_of (R.function runner.now.running) x ≡ Some v
+    requires values { (x v : ℤ) → value_of (shown runner.now.running) x ≡ Some v
         → IsWithinTimes 400 v }
-    ensures { OnTrue result (IsBeyond limit runner.now.cost (R.function runner.now.running)) }
+    ensures { OnTrue result (IsBeyond limit runner.now.cost (shown runner.now.running)) }
 {
     runner.running.is_above(runner.cost, limit)
 }
 
 // Stops the runner that begins with a period, if it is above the limit at each power.
-fn drop_at<R: Running>(limit: i64, first: u32, runners: &mut [Runner<R>])
+fn drop_at(limit: i64, first: u32, runners: &mut [Runner<Slopes>])
     requires end { first < length runners.old }
-    requires small { AreSmall (live_at R.function runners.old) }
+    requires small { AreSmall (live_at shown runners.old) }
     ensures stands { (g : ThermalUnit) (π : PriceLists) (limits : ℕ → ℤ) (ends : ℕ
         → Option ℤ) (t n : ℕ) → limits t ≡ limit →
-        AreRunners g π limits ends (live_at R.function runners.old) t n →
-        AreRunners g π limits ends (live_at R.function runners.new) t n }
-    ensures small { AreSmall (live_at R.function runners.new) }
+        AreRunners g π limits ends (live_at shown runners.old) t n →
+        AreRunners g π limits ends (live_at shown runners.new) t n }
+    ensures small { AreSmall (live_at shown runners.new) }
     ensures left { (first k : ℕ) → left_at runners.new first k ≡ left_at runners.old first k }
-    ensures off { (first : ℕ) → live_at R.function runners.old first ≡ None
-        → live_at R.function runners.new first ≡ None }
-    ensures room { (periods t charge : ℕ) → AreRoomy R.count R.room periods t charge runners.old
-        → AreRoomy R.count R.room periods t charge runners.new }
-    ensures keeps { (most periods : ℕ) → HaveRoom R.room most periods runners.old
-        → HaveRoom R.room most periods runners.new }
+    ensures off { (first : ℕ) → live_at shown runners.old first ≡ None
+        → live_at shown runners.new first ≡ None }
+    ensures room { (periods t charge : ℕ) → AreRoomy count_of room_of periods t charge runners.old
+        → AreRoomy count_of room_of periods t charge runners.new }
+    ensures keeps { (most periods : ℕ) → HaveRoom room_of most periods runners.old
+        → HaveRoom room_of most periods runners.new }
     ensures length { length runners.new ≡ length runners.old }
 {
     if !runners[first as usize].is_on {
@@ -572,22 +562,22 @@ fn drop_at<R: Running>(limit: i64, first: u32, runners: &mut [Runner<R>])
 
 /// Stops each runner that is above the limit of a period at each power. The roster has all that are
 /// on.
-pub fn drop_beyond<R: Running>(period: u32, limit: i64, roster: &Roster, runners: &mut [Runner<R>])
+pub fn drop_beyond(period: u32, limit: i64, roster: &Roster, runners: &mut [Runner<Slopes>])
     requires end { period < length runners.old }
-    requires small { AreSmall (live_at R.function runners.old) }
-    requires roster { IsRoster (live_at R.function runners.old) (suc period) roster.now }
+    requires small { AreSmall (live_at shown runners.old) }
+    requires roster { IsRoster (live_at shown runners.old) (suc period) roster.now }
     ensures stands { (g : ThermalUnit) (π : PriceLists) (limits : ℕ → ℤ) (ends : ℕ
         → Option ℤ) (t n : ℕ) → limits t ≡ limit →
-        AreRunners g π limits ends (live_at R.function runners.old) t n →
-        AreRunners g π limits ends (live_at R.function runners.new) t n }
-    ensures small { AreSmall (live_at R.function runners.new) }
+        AreRunners g π limits ends (live_at shown runners.old) t n →
+        AreRunners g π limits ends (live_at shown runners.new) t n }
+    ensures small { AreSmall (live_at shown runners.new) }
     ensures left { (first k : ℕ) → left_at runners.new first k ≡ left_at runners.old first k }
-    ensures off { (first : ℕ) → live_at R.function runners.old first ≡ None
-        → live_at R.function runners.new first ≡ None }
-    ensures room { (periods t charge : ℕ) → AreRoomy R.count R.room periods t charge runners.old
-        → AreRoomy R.count R.room periods t charge runners.new }
-    ensures keeps { (most periods : ℕ) → HaveRoom R.room most periods runners.old
-        → HaveRoom R.room most periods runners.new }
+    ensures off { (first : ℕ) → live_at shown runners.old first ≡ None
+        → live_at shown runners.new first ≡ None }
+    ensures room { (periods t charge : ℕ) → AreRoomy count_of room_of periods t charge runners.old
+        → AreRoomy count_of room_of periods t charge runners.new }
+    ensures keeps { (most periods : ℕ) → HaveRoom room_of most periods runners.old
+        → HaveRoom room_of most periods runners.new }
     ensures length { length runners.new ≡ length runners.old }
 {
     for place in 0..roster.count {

@@ -3,10 +3,10 @@ use Rattle.unit_program.proofs.Lemmas.{if_none_more, none_feasible}
 use Rattle.unit_program.proofs.bench.find_end.Goals as goal
 
 pub find_within-requires-2-clause-bench : goal.find_within-requires-2-clause-bench
-find_within-requires-2-clause-bench g c = c.find_within.ensures.bench (length c.args.prices.now.energy.items) (length c.args.unit.now.points.items) c.requires.bench
+find_within-requires-2-clause-bench c = c.find_within.ensures.bench (length c.args.prices.now.energy.items) (length c.args.unit.now.points.items) c.requires.bench
 
 pub returns-clause-none : goal.returns-clause-none
-returns-clause-none g c =
+returns-clause-none c =
     let u = thermal_of c.args.unit.now in
     let π = prices_of c.args.prices.now in
     if_none_more (EachCostsMore u π (pos 4000000000000000000)) ((s : Schedule) → IsThermalFeasible u (length c.args.prices.now.energy.items) s → ⊥)
@@ -14,4 +14,4 @@ returns-clause-none g c =
     c.find_within-2.result c.find_within-2.ensures.none
 
 pub returns-clause-bench : goal.returns-clause-bench
-returns-clause-bench g c = λ periods points b. c.find_within-2.ensures.bench periods points (c.find_within.ensures.bench periods points b)
+returns-clause-bench c = λ periods points b. c.find_within-2.ensures.bench periods points (c.find_within.ensures.bench periods points b)

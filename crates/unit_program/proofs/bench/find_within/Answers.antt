@@ -3,13 +3,13 @@ use Rattle.unit_program.proofs.Lemmas.{found_within, none_found}
 use Rattle.unit_program.proofs.bench.find_within.Goals as goal
 
 pub least_end-requires-clause-room : goal.least_end-requires-clause-room
-least_end-requires-clause-room g c =
+least_end-requires-clause-room c =
     let kept = c.fill_bench.ensures.bench (length c.args.prices.now.energy.items) (length c.args.unit.now.points.items) c.requires.bench in
     let same = ap length c.as_slice.ensures in
     omega (arith, same)
 
 pub returns-clause-some : goal.returns-clause-some
-returns-clause-some g c =
+returns-clause-some c =
     let fits : FitsSigned w64 c.args.most = search rules in
     let filled = rw (to_z-of_z w64 c.args.most fits) at c.fill_bench.ensures.filled in
     let taken = rw (to_z-of_z w64 c.args.most fits) at c.at_most.ensures in
@@ -18,7 +18,7 @@ returns-clause-some g c =
     told.some told.earliest told.none taken.some taken.none
 
 pub returns-clause-none : goal.returns-clause-none
-returns-clause-none g c =
+returns-clause-none c =
     let fits : FitsSigned w64 c.args.most = search rules in
     let filled = rw (to_z-of_z w64 c.args.most fits) at c.fill_bench.ensures.filled in
     let taken = rw (to_z-of_z w64 c.args.most fits) at c.at_most.ensures in

@@ -3,14 +3,14 @@ use Rattle.unit_program.proofs.Lemmas.{best_of, least_of, cleared_idle, cleared_
 use Rattle.unit_program.proofs.way.write_noted.Goals as goal
 
 pub negated-into-requires : goal.negated-into-requires
-negated-into-requires g c =
+negated-into-requires c =
     let fits : FitsSigned w64 c.args.end.now.cost = search rules in
     let within = c.requires.end.filled.within c.args.end.now.last c.args.end.now.cost c.requires.end.least.ended in
     let r : IsWithinTimes 400 c.args.end.now.cost = record { at_least = omega (arith, ints); at_most = omega (arith, ints) } in
     simp to_z-of_z r
 
 pub returns-clause-least : goal.returns-clause-least
-returns-clause-least g c =
+returns-clause-least c =
     let u = c.args.unit.now in
     let at = c.requires.end in
     let a = schedule_of c.clear.new.into.response in
@@ -28,10 +28,10 @@ returns-clause-least g c =
     (back.zero_off (cleared_zero (thermal_of u) a c.clear.ensures.off c.clear.ensures.power c.clear.ensures.reserve)) on (valid.power ∙ on) (valid.reserve ∙ on)
 
 pub returns-clause-best : goal.returns-clause-best
-returns-clause-best g c = (returns-clause-least g c).best
+returns-clause-best c = (returns-clause-least c).best
 
 pub returns-clause-earned : goal.returns-clause-earned
-returns-clause-earned g c =
+returns-clause-earned c =
     let u = c.args.unit.now in
     let at = c.requires.end in
     let a = schedule_of c.clear.new.into.response in
@@ -52,7 +52,7 @@ returns-clause-earned g c =
     to_z-of_z w64 _ fits ∙ negated ∙ sym earned
 
 pub write_back-requires-clause-within : goal.write_back-requires-clause-within
-write_back-requires-clause-within g c =
+write_back-requires-clause-within c =
     let at = c.requires.end in
     record {
       most = at.most;
@@ -63,4 +63,4 @@ write_back-requires-clause-within g c =
     }
 
 pub write_back-requires-clause-idle : goal.write_back-requires-clause-idle
-write_back-requires-clause-idle g c = cleared_idle (thermal_of c.args.unit.now) (schedule_of c.clear.new.into.response) c.clear.ensures.off c.clear.ensures.power c.clear.ensures.reserve c.args.end.now.last
+write_back-requires-clause-idle c = cleared_idle (thermal_of c.args.unit.now) (schedule_of c.clear.new.into.response) c.clear.ensures.off c.clear.ensures.power c.clear.ensures.reserve c.args.end.now.last

@@ -3,7 +3,7 @@ use Rattle.unit_table.proofs.RowByRowLaws.{table_begun}
 use Rattle.unit_table.proofs.periods.begin_all.Goals as goal
 
 pub returns-clause-filled : goal.returns-clause-filled
-returns-clause-filled g c = λ π limits some.
+returns-clause-filled c = λ π limits some.
     let begun = c.begin_table.ensures in
     record {
       table = table_begun (thermal_of c.args.unit.now) π some c.begin_table.new.table.items begun.first begun.rest limits;
@@ -12,7 +12,7 @@ returns-clause-filled g c = λ π limits some.
     }
 
 pub returns-clause-room : goal.returns-clause-room
-returns-clause-room g c = λ periods charge have. c.go_on.ensures.room periods charge (c.stop_all.ensures.room periods 0 charge have)
+returns-clause-room c = λ periods charge have. c.go_on.ensures.room periods charge (c.stop_all.ensures.room periods 0 charge have)
 
 pub returns-clause-keeps : goal.returns-clause-keeps
-returns-clause-keeps g c = λ most periods have. c.go_on.ensures.keeps most periods (c.stop_all.ensures.keeps most periods have)
+returns-clause-keeps c = λ most periods have. c.go_on.ensures.keeps most periods (c.stop_all.ensures.keeps most periods have)

@@ -1,77 +1,78 @@
+use Rattle.slope_list.specs.Slopes.{shown, count_of, room_of}
 use Rattle.unit_table.proofs.Common.{rules, ◌≡◌, ℕ, suc, ◌+◌, ◌<◌, pos, ◌+ℤ◌, ◌≤ℤ◌, Some, List, length, refl, ap, ◌∙◌, arith, length-set, FitsSigned, w64, ints, to_z-of_z, thermal_of, live_at, IsUnder, Going, scaled_Fits}
 use Rattle.unit_table.proofs.Lemmas.{roomy_begun, written_keeps, written_left, still_listed, begun_listed, item_at, start_undercut, start_beyond, started}
 use Rattle.unit_table.proofs.periods.start_after.Goals as goal
 
 pub returns-then-is_undercut-clause-stands : goal.returns-then-is_undercut-clause-stands
-returns-then-is_undercut-clause-stands g c = λ π limits ends here least now.
+returns-then-is_undercut-clause-stands c = λ π limits ends here least now.
     let fits_power : FitsSigned w64 c.args.unit.now.min_power = search rules in
     let fits_cost : FitsSigned w64 c.args.entry.now.cost = search rules in
-    let found : (f : ℕ) × (r : Going) × (live_at g.R.Running.function c.args.runners.now f ≡ Some r) × IsUnder c.args.unit.now.min_power c.args.entry.now.cost r = simp to_z-of_z at c.if-is_undercut.ensures in
-    start_undercut (thermal_of c.args.unit.now) π limits ends c.args.place (live_at g.R.Running.function c.args.runners.now) (live_at g.R.Running.function c.args.runners.now) now
+    let found : (f : ℕ) × (r : Going) × (live_at shown c.args.runners.now f ≡ Some r) × IsUnder c.args.unit.now.min_power c.args.entry.now.cost r = simp to_z-of_z at c.if-is_undercut.ensures in
+    start_undercut (thermal_of c.args.unit.now) π limits ends c.args.place (live_at shown c.args.runners.now) (live_at shown c.args.runners.now) now
     c.args.entry.now.last c.args.entry.now.cost least found.0 found.1 found.3.0 found.2 found.3.1 found.3.2
 
 pub returns-clause-stands : goal.returns-clause-stands
-returns-clause-stands g c = λ π limits ends here least now.
+returns-clause-stands c = λ π limits ends here least now.
     let end = c.requires.runners in
     let low : c.args.place + 1 < length c.args.runners.now = omega (arith, end) in
-    started g.R.Running.function (thermal_of c.args.unit.now) π limits ends c.args.place (c.args.place + 1) (omega arith) c.args.runners.now c.begin_runner.new.runner low
+    started shown (thermal_of c.args.unit.now) π limits ends c.args.place (c.args.place + 1) (omega arith) c.args.runners.now c.begin_runner.new.runner low
     c.args.entry.now.last c.args.entry.now.cost c.begin_runner.ensures.on c.begin_runner.ensures.cost c.begin_runner.ensures.before (c.begin_runner.ensures.frontier π) c.requires.bound least now
 
 pub returns-clause-room : goal.returns-clause-room
-returns-clause-room g c = λ periods charge roomy.
+returns-clause-room c = λ periods charge roomy.
     let end = c.requires.runners in
     let low : c.args.place + 1 < length c.args.runners.now = omega (arith, end) in
-    roomy_begun g.R.Running.function g.R.Running.count g.R.Running.room periods c.args.place charge c.args.runners.now _ (c.args.place + 1) c.begin_runner.new.runner low refl
-    _ (item_at g.R.Running.function c.args.runners.now (c.args.place + 1) low _) c.begin_runner.ensures.count c.begin_runner.ensures.room c.begin_runner.ensures.passed roomy
+    roomy_begun shown count_of room_of periods c.args.place charge c.args.runners.now _ (c.args.place + 1) c.begin_runner.new.runner low refl
+    _ (item_at shown c.args.runners.now (c.args.place + 1) low _) c.begin_runner.ensures.count c.begin_runner.ensures.room c.begin_runner.ensures.passed roomy
 
 pub returns-clause-keeps : goal.returns-clause-keeps
-returns-clause-keeps g c =
+returns-clause-keeps c =
     let end = c.requires.runners in
     let low : c.args.place + 1 < length c.args.runners.now = omega (arith, end) in
-    written_keeps g.R.Running.function g.R.Running.room c.args.runners.now _ (c.args.place + 1) c.begin_runner.new.runner low refl
-    _ (item_at g.R.Running.function c.args.runners.now (c.args.place + 1) low _) c.begin_runner.ensures.room (ap (λ p. length p.items + p.spare) c.begin_runner.ensures.passed)
+    written_keeps shown room_of c.args.runners.now _ (c.args.place + 1) c.begin_runner.new.runner low refl
+    _ (item_at shown c.args.runners.now (c.args.place + 1) low _) c.begin_runner.ensures.room (ap (λ p. length p.items + p.spare) c.begin_runner.ensures.passed)
 
 pub returns-clause-left : goal.returns-clause-left
-returns-clause-left g c =
+returns-clause-left c =
     let end = c.requires.runners in
     let low : c.args.place + 1 < length c.args.runners.now = omega (arith, end) in
-    written_left g.R.Running.function c.args.runners.now _ (c.args.place + 1) c.begin_runner.new.runner low refl
-    _ (item_at g.R.Running.function c.args.runners.now (c.args.place + 1) low _) c.begin_runner.ensures.passed
+    written_left shown c.args.runners.now _ (c.args.place + 1) c.begin_runner.new.runner low refl
+    _ (item_at shown c.args.runners.now (c.args.place + 1) low _) c.begin_runner.ensures.passed
 
 pub is_undercut-requires-clause-roster : goal.is_undercut-requires-clause-roster
-is_undercut-requires-clause-roster g c =
+is_undercut-requires-clause-roster c =
     let end = c.requires.runners in
-    still_listed (live_at g.R.Running.function c.args.runners.now) (live_at g.R.Running.function c.args.runners.now) (suc c.args.place) (length c.args.runners.now) c.args.roster.now (omega (arith, end)) (λ f off. off) c.requires.roster
+    still_listed (live_at shown c.args.runners.now) (live_at shown c.args.runners.now) (suc c.args.place) (length c.args.runners.now) c.args.roster.now (omega (arith, end)) (λ f off. off) c.requires.roster
 
 pub returns-then-is_undercut-clause-roster : goal.returns-then-is_undercut-clause-roster
-returns-then-is_undercut-clause-roster g c =
-    still_listed (live_at g.R.Running.function c.args.runners.now) (live_at g.R.Running.function c.args.runners.now) (suc c.args.place) (suc (suc c.args.place)) c.args.roster.now (omega arith) (λ f off. off) c.requires.roster
+returns-then-is_undercut-clause-roster c =
+    still_listed (live_at shown c.args.runners.now) (live_at shown c.args.runners.now) (suc c.args.place) (suc (suc c.args.place)) c.args.roster.now (omega arith) (λ f off. off) c.requires.roster
 
 pub returns-clause-roster : goal.returns-clause-roster
-returns-clause-roster g c =
+returns-clause-roster c =
     let end = c.requires.runners in
     let low : c.args.place + 1 < length c.args.runners.now = omega (arith, end) in
     let few = c.requires.roster.few in
     let room = c.requires.list in
-    begun_listed g.R.Running.function c.args.runners.now _ (suc c.args.place) (c.args.place + 1) (omega arith) c.begin_runner.new.runner low refl
+    begun_listed shown c.args.runners.now _ (suc c.args.place) (c.args.place + 1) (omega arith) c.begin_runner.new.runner low refl
     c.args.roster.now c.add.new.self c.requires.roster (omega (arith, few, room)) c.add.ensures.count c.add.ensures.firsts
 
 pub returns-clause-list : goal.returns-clause-list
-returns-clause-list g c = ap (λ (xs : List ℕ). length xs) c.add.ensures.firsts ∙ length-set c.args.roster.now.firsts.items c.args.roster.now.count (c.args.place + 1)
+returns-clause-list c = ap (λ (xs : List ℕ). length xs) c.add.ensures.firsts ∙ length-set c.args.roster.now.firsts.items c.args.roster.now.count (c.args.place + 1)
 
 pub returns-then-is_less-clause-stands : goal.returns-then-is_less-clause-stands
-returns-then-is_less-clause-stands g c = λ π limits ends here least now.
+returns-then-is_less-clause-stands c = λ π limits ends here least now.
     let fits_limit : FitsSigned w64 c.args.limit = search rules in
     let fits_cost : FitsSigned w64 c.args.entry.now.cost = search rules in
     let less : (c.args.limit +ℤ pos 1) ≤ℤ c.args.entry.now.cost = simp to_z-of_z at (c.is_less.ensures c.if-is_less.true) in
-    start_beyond (thermal_of c.args.unit.now) π limits ends c.args.place (live_at g.R.Running.function c.args.runners.now) (live_at g.R.Running.function c.args.runners.now) now
+    start_beyond (thermal_of c.args.unit.now) π limits ends c.args.place (live_at shown c.args.runners.now) (live_at shown c.args.runners.now) now
     c.args.entry.now.last c.args.entry.now.cost least (omega (arith, ints, less, here))
 
 pub returns-then-is_less-clause-roster : goal.returns-then-is_less-clause-roster
-returns-then-is_less-clause-roster g c =
-    still_listed (live_at g.R.Running.function c.args.runners.now) (live_at g.R.Running.function c.args.runners.now) (suc c.args.place) (suc (suc c.args.place)) c.args.roster.now (omega arith) (λ f off. off) c.requires.roster
+returns-then-is_less-clause-roster c =
+    still_listed (live_at shown c.args.runners.now) (live_at shown c.args.runners.now) (suc c.args.place) (suc (suc c.args.place)) c.args.roster.now (omega arith) (λ f off. off) c.requires.roster
 
 pub offset_bounds-runners-place : goal.offset_bounds-runners-place
-offset_bounds-runners-place g c =
+offset_bounds-runners-place c =
     let end = c.requires.runners in
     scaled_Fits (c.args.place + 1) (length c.args.runners.now) _ (omega (arith, end)) (search rules)

@@ -2,7 +2,7 @@ use Rattle.unit_table.proofs.Common.{◌∙◌, arith, refl, FitsSigned, w64, ru
 use Rattle.unit_table.proofs.runner.drop_beyond.Goals as goal
 
 pub drop_at-requires-clause-end : goal.drop_at-requires-clause-end
-drop_at-requires-clause-end g c =
+drop_at-requires-clause-end c =
     let low = c.loop-place-test.true in
     let below = c.requires.roster.below c.loop-place.place c.get.result.now (omega (arith, low)) c.get.ensures.item in
     let end = c.requires.end in
@@ -10,7 +10,7 @@ drop_at-requires-clause-end g c =
     omega (arith, below, end, same)
 
 pub loop-place-preserved : goal.loop-place-preserved
-loop-place-preserved g c = record {
+loop-place-preserved c = record {
   off = λ f is. c.drop_at.ensures.off f (c.loop-place.invariant.off f is);
   small = c.drop_at.ensures.small;
   stands = λ u π limits ends t n here now. c.drop_at.ensures.stands u π limits ends t n here (c.loop-place.invariant.stands u π limits ends t n here now);
@@ -21,13 +21,13 @@ loop-place-preserved g c = record {
 }
 
 pub get-requires : goal.get-requires
-get-requires g c =
+get-requires c =
     let low = c.loop-place-test.true in
     let room = c.requires.roster.room in
     omega (arith, low, room)
 
 pub loop-place-init : goal.loop-place-init
-loop-place-init g c = record {
+loop-place-init c = record {
   off = λ f is. is;
   small = c.requires.small;
   stands = λ u π limits ends t n here now. now;
@@ -38,6 +38,6 @@ loop-place-init g c = record {
 }
 
 pub returns-clause-stands : goal.returns-clause-stands
-returns-clause-stands g c = λ u π limits ends t n here now.
+returns-clause-stands c = λ u π limits ends t n here now.
     let fits : FitsSigned w64 c.args.limit = search rules in
     c.loop-place.invariant.stands u π limits ends t n (here ∙ sym (to_z-of_z w64 c.args.limit fits)) now

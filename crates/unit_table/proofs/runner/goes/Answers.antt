@@ -1,9 +1,10 @@
+use Rattle.slope_list.specs.Slopes.{shown}
 use Rattle.unit_table.proofs.Common.{rules, ◌≡◌, ◌-ℤ◌, ◌∙◌, to_z, of_z, FitsSigned, w64, OnTrue_at, OnTrue_from, to_z-of_z, IsBelow}
 use Rattle.unit_table.proofs.Lemmas.{below_of}
 use Rattle.unit_table.proofs.runner.goes.Goals as goal
 
 pub returns-then-is_long_enough-clause-below : goal.returns-then-is_long_enough-clause-below
-returns-then-is_long_enough-clause-below g c =
+returns-then-is_long_enough-clause-below c =
     let late = c.args.late.now in
     let early = c.args.early.now in
     let fits_late : FitsSigned w64 late.cost = search rules in
@@ -11,5 +12,5 @@ returns-then-is_long_enough-clause-below g c =
     let fits : FitsSigned w64 c.difference.result = search rules in
     let value : c.difference.result ≡ late.cost -ℤ early.cost = simp to_z-of_z at c.difference.ensures.value in
     let shift : to_z w64 (of_z w64 c.difference.result) ≡ late.cost -ℤ early.cost = to_z-of_z w64 _ fits ∙ value in
-    OnTrue_from c.is_below.result (IsBelow (g.R.Running.function late.running) late.cost (g.R.Running.function early.running) early.cost)
-    (λ t. below_of (g.R.Running.function late.running) (g.R.Running.function early.running) late.cost early.cost _ shift (OnTrue_at t c.is_below.ensures))
+    OnTrue_from c.is_below.result (IsBelow (shown late.running) late.cost (shown early.running) early.cost)
+    (λ t. below_of (shown late.running) (shown early.running) late.cost early.cost _ shift (OnTrue_at t c.is_below.ensures))

@@ -1,18 +1,19 @@
+use Rattle.slope_list.specs.Slopes.{shown}
 use Rattle.unit_table.proofs.Common.{arith, rules, ℤ, ◌+ℤ◌, FitsSigned, ◌<ℤ◌, ◌≡◌, Some, w64, OnTrue_at, OnTrue_from, ints, to_z-of_z, IsBeyond, value_of}
 use Rattle.unit_table.proofs.Lemmas.{beyond_of}
 use Rattle.unit_table.proofs.runner.is_beyond.Goals as goal
 
 pub is_above-requires : goal.is_above-requires
-is_above-requires g c =
+is_above-requires c =
     let fits_entry : FitsSigned w64 c.args.runner.now.cost = search rules in
     let b = c.requires.bound in
     rw (to_z-of_z w64 c.args.runner.now.cost fits_entry) (record { at_least = omega (arith, ints); at_most = omega (arith, ints) })
 
 pub returns : goal.returns
-returns g c =
+returns c =
     let fits_entry : FitsSigned w64 c.args.runner.now.cost = search rules in
     let fits_limit : FitsSigned w64 c.args.limit = search rules in
-    let f = g.R.Running.function c.args.runner.now.running in
+    let f = shown c.args.runner.now.running in
     let e = c.args.runner.now.cost in
     OnTrue_from c.is_above.result
     (IsBeyond c.args.limit e f)

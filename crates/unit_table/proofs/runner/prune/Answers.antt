@@ -1,16 +1,17 @@
+use Rattle.slope_list.specs.Slopes.{shown}
 use Rattle.unit_table.proofs.Common.{◌≡◌, ◌+◌, ◌-◌, ◌<◌, ◌≤◌, ℕ, Some, ◌∙◌, arith, slice_get, live_at, Going, refl}
 use Rattle.unit_table.proofs.Lemmas.{if_some_more}
 use Rattle.unit_table.proofs.runner.prune.Goals as goal
 
 pub loop-back-preserved : goal.loop-back-preserved
-loop-back-preserved g c =
+loop-back-preserved c =
     let low = c.loop-back-test.true in
     let list = c.requires.roster in
     let roster = c.args.roster.now in
     let first = c.get-first.result.now in
     record {
-      late = if_some_more (λ l. (first ≤ l) × (l ≤ c.args.period) × ((r : Going) × (live_at g.R.Running.function c.prune_one-late.new.runners l ≡ Some r)))
-          (λ l. ((j h : ℕ) → j + (c.loop-back.back + 1) < roster.count → slice_get roster.firsts.items j ≡ Some h → h < l) × (l ≤ c.args.period) × ((r : Going) × (live_at g.R.Running.function c.prune_one-late.new.runners l ≡ Some r)))
+      late = if_some_more (λ l. (first ≤ l) × (l ≤ c.args.period) × ((r : Going) × (live_at shown c.prune_one-late.new.runners l ≡ Some r)))
+          (λ l. ((j h : ℕ) → j + (c.loop-back.back + 1) < roster.count → slice_get roster.firsts.items j ≡ Some h → h < l) × (l ≤ c.args.period) × ((r : Going) × (live_at shown c.prune_one-late.new.runners l ≡ Some r)))
           (λ l h. (
             (λ j f before is. (let from = h.0 in let earlier = list.rising j (roster.count - c.loop-back.back - 1) f first (omega (arith, before)) (omega (arith, low)) is c.get-first.ensures.item in omega (arith, from, earlier))),
             h.1,
@@ -26,13 +27,13 @@ loop-back-preserved g c =
     }
 
 pub get-first-requires : goal.get-first-requires
-get-first-requires g c =
+get-first-requires c =
     let low = c.loop-back-test.true in
     let room = c.requires.roster.room in
     omega (arith, low, room)
 
 pub loop-back-init : goal.loop-back-init
-loop-back-init g c = record {
+loop-back-init c = record {
   late = tt;
   off = λ f is. is;
   small = c.requires.small;
@@ -44,22 +45,22 @@ loop-back-init g c = record {
 }
 
 pub prune_one-late-requires-clause-early : goal.prune_one-late-requires-clause-early
-prune_one-late-requires-clause-early g c =
+prune_one-late-requires-clause-early c =
     let low = c.loop-back-test.true in
     let below = c.requires.roster.below (c.args.roster.now.count - c.loop-back.back - 1) c.get-first.result.now (omega (arith, low)) c.get-first.ensures.item in
     omega (arith, below)
 
 pub prune_one-late-requires-clause-end : goal.prune_one-late-requires-clause-end
-prune_one-late-requires-clause-end g c =
+prune_one-late-requires-clause-end c =
     let end = c.requires.end in
     let same = c.loop-back.invariant.count_same in
     omega (arith, end, same)
 
 pub prune_one-late-requires-clause-late : goal.prune_one-late-requires-clause-late
-prune_one-late-requires-clause-late g c =
+prune_one-late-requires-clause-late c =
     let low = c.loop-back-test.true in
     let roster = c.args.roster.now in
     let first = c.get-first.result.now in
-    if_some_more (λ l. ((j h : ℕ) → j + c.loop-back.back < roster.count → slice_get roster.firsts.items j ≡ Some h → h < l) × (l ≤ c.args.period) × ((r : Going) × (live_at g.R.Running.function c.loop-back.runners l ≡ Some r)))
-    (λ l. (first < l) × (l ≤ c.args.period) × ((r : Going) × (live_at g.R.Running.function c.loop-back.runners l ≡ Some r)))
+    if_some_more (λ l. ((j h : ℕ) → j + c.loop-back.back < roster.count → slice_get roster.firsts.items j ≡ Some h → h < l) × (l ≤ c.args.period) × ((r : Going) × (live_at shown c.loop-back.runners l ≡ Some r)))
+    (λ l. (first < l) × (l ≤ c.args.period) × ((r : Going) × (live_at shown c.loop-back.runners l ≡ Some r)))
     (λ l h. (h.0 (roster.count - c.loop-back.back - 1) first (omega (arith, low)) c.get-first.ensures.item, h.1, h.2)) c.loop-back.late c.loop-back.invariant.late

@@ -1,38 +1,39 @@
+use Rattle.slope_list.specs.Slopes.{shown, count_of, room_of}
 use Rattle.unit_table.proofs.Common.{◌+◌, ◌≡◌, ◌<◌, ◌≤◌, true, get_or, Some, length, refl, ap, ◌∙◌, arith, OnTrue_at, thermal_of, live_at, Going, scaled_Fits, rules}
 use Rattle.unit_table.proofs.Lemmas.{if_some, live_here, live_other, going_off, small_stopped, off_stopped, roomy_stopped, written_keeps, written_left, item_at, item_same, item_live, read_live, read_on, on_of, early_goes}
 use Rattle.unit_table.proofs.runner.prune_one.Goals as goal
 
 pub goes-requires-clause-late : goal.goes-requires-clause-late
-goes-requires-clause-late g c =
-    let h = if_some (λ l. (c.args.early < l) × (l ≤ c.args.period) × ((r : Going) × (live_at g.R.Running.function c.args.runners.now l ≡ Some r))) c.args.late c.in-Some.first c.in-Some.is c.requires.late in
+goes-requires-clause-late c =
+    let h = if_some (λ l. (c.args.early < l) × (l ≤ c.args.period) × ((r : Going) × (live_at shown c.args.runners.now l ≡ Some r))) c.args.late c.in-Some.first c.in-Some.is c.requires.late in
     let until = h.1 in
     let end = c.requires.end in
     let low : c.in-Some.first < length c.args.runners.now = omega (arith, until, end) in
     let x = c.index-runners-first.result in
-    let on = read_on g.R.Running.function c.args.runners.now c.in-Some.first low x c.index-runners-first.is h.2.0 h.2.1 in
-    (c.requires.small c.in-Some.first _ (read_live g.R.Running.function c.args.runners.now c.in-Some.first low x c.index-runners-first.is on)).cost
+    let on = read_on shown c.args.runners.now c.in-Some.first low x c.index-runners-first.is h.2.0 h.2.1 in
+    (c.requires.small c.in-Some.first _ (read_live shown c.args.runners.now c.in-Some.first low x c.index-runners-first.is on)).cost
 
 pub goes-requires-clause-early : goal.goes-requires-clause-early
-goes-requires-clause-early g c =
+goes-requires-clause-early c =
     let end = c.requires.end in
     let under = c.requires.early in
     let low : c.args.early < length c.args.runners.now = omega (arith, under, end) in
     let x = c.index-runners-early-in-Some.result in
-    let on = on_of x _ c.index-runners-early-in-Some.is (item_same g.R.Running.function c.args.runners.now c.args.early low c.index-runners-early.result x true c.if-not-runners-early.false) in
-    (c.requires.small c.args.early _ (read_live g.R.Running.function c.args.runners.now c.args.early low x c.index-runners-early-in-Some.is on)).cost
+    let on = on_of x _ c.index-runners-early-in-Some.is (item_same shown c.args.runners.now c.args.early low c.index-runners-early.result x true c.if-not-runners-early.false) in
+    (c.requires.small c.args.early _ (read_live shown c.args.runners.now c.args.early low x c.index-runners-early-in-Some.is on)).cost
 
 pub returns-then-goes-clause-late : goal.returns-then-goes-clause-late
-returns-then-goes-clause-late g c =
-    let h = if_some (λ l. (c.args.early < l) × (l ≤ c.args.period) × ((r : Going) × (live_at g.R.Running.function c.args.runners.now l ≡ Some r))) c.args.late c.in-Some.first c.in-Some.is c.requires.late in
+returns-then-goes-clause-late c =
+    let h = if_some (λ l. (c.args.early < l) × (l ≤ c.args.period) × ((r : Going) × (live_at shown c.args.runners.now l ≡ Some r))) c.args.late c.in-Some.first c.in-Some.is c.requires.late in
     let above = h.0 in
     let end = c.requires.end in
     let under = c.requires.early in
     let low : c.args.early < length c.args.runners.now = omega (arith, under, end) in
-    (omega (arith, above), h.1, (h.2.0, live_other g.R.Running.function c.args.runners.now _ c.args.early c.stop.new.runner low refl c.in-Some.first (λ z. omega (arith, z, above)) ∙ h.2.1))
+    (omega (arith, above), h.1, (h.2.0, live_other shown c.args.runners.now _ c.args.early c.stop.new.runner low refl c.in-Some.first (λ z. omega (arith, z, above)) ∙ h.2.1))
 
 pub returns-then-goes-clause-stands : goal.returns-then-goes-clause-stands
-returns-then-goes-clause-stands g c = λ π limits ends n now.
-    let h = if_some (λ l. (c.args.early < l) × (l ≤ c.args.period) × ((r : Going) × (live_at g.R.Running.function c.args.runners.now l ≡ Some r))) c.args.late c.in-Some.first c.in-Some.is c.requires.late in
+returns-then-goes-clause-stands c = λ π limits ends n now.
+    let h = if_some (λ l. (c.args.early < l) × (l ≤ c.args.period) × ((r : Going) × (live_at shown c.args.runners.now l ≡ Some r))) c.args.late c.in-Some.first c.in-Some.is c.requires.late in
     let above = h.0 in
     let until = h.1 in
     let end = c.requires.end in
@@ -41,91 +42,91 @@ returns-then-goes-clause-stands g c = λ π limits ends n now.
     let low_late : c.in-Some.first < length c.args.runners.now = omega (arith, until, end) in
     let x = c.index-runners-early-in-Some.result in
     let y = c.index-runners-first.result in
-    let on = on_of x _ c.index-runners-early-in-Some.is (item_same g.R.Running.function c.args.runners.now c.args.early low c.index-runners-early.result x true c.if-not-runners-early.false) in
-    let on_late = read_on g.R.Running.function c.args.runners.now c.in-Some.first low_late y c.index-runners-first.is h.2.0 h.2.1 in
-    early_goes (thermal_of c.args.unit.now) π limits ends c.args.period (live_at g.R.Running.function c.args.runners.now) _ n c.args.early c.in-Some.first _ _ now
-    (read_live g.R.Running.function c.args.runners.now c.args.early low x c.index-runners-early-in-Some.is on)
-    (read_live g.R.Running.function c.args.runners.now c.in-Some.first low_late y c.index-runners-first.is on_late)
+    let on = on_of x _ c.index-runners-early-in-Some.is (item_same shown c.args.runners.now c.args.early low c.index-runners-early.result x true c.if-not-runners-early.false) in
+    let on_late = read_on shown c.args.runners.now c.in-Some.first low_late y c.index-runners-first.is h.2.0 h.2.1 in
+    early_goes (thermal_of c.args.unit.now) π limits ends c.args.period (live_at shown c.args.runners.now) _ n c.args.early c.in-Some.first _ _ now
+    (read_live shown c.args.runners.now c.args.early low x c.index-runners-early-in-Some.is on)
+    (read_live shown c.args.runners.now c.in-Some.first low_late y c.index-runners-first.is on_late)
     above until (OnTrue_at c.if-goes.true c.goes.ensures.long) (OnTrue_at c.if-goes.true c.goes.ensures.below)
-    (live_here g.R.Running.function c.args.runners.now _ c.args.early c.stop.new.runner low refl ∙ going_off g.R.Running.function c.stop.new.runner c.stop.ensures.off)
-    (λ f other. live_other g.R.Running.function c.args.runners.now _ c.args.early c.stop.new.runner low refl f other)
+    (live_here shown c.args.runners.now _ c.args.early c.stop.new.runner low refl ∙ going_off shown c.stop.new.runner c.stop.ensures.off)
+    (λ f other. live_other shown c.args.runners.now _ c.args.early c.stop.new.runner low refl f other)
 
 pub returns-then-goes-clause-small : goal.returns-then-goes-clause-small
-returns-then-goes-clause-small g c =
+returns-then-goes-clause-small c =
     let end = c.requires.end in
     let under = c.requires.early in
     let low : c.args.early < length c.args.runners.now = omega (arith, under, end) in
-    small_stopped g.R.Running.function c.args.runners.now _ c.args.early c.stop.new.runner low refl c.stop.ensures.off c.requires.small
+    small_stopped shown c.args.runners.now _ c.args.early c.stop.new.runner low refl c.stop.ensures.off c.requires.small
 
 pub returns-then-goes-clause-off : goal.returns-then-goes-clause-off
-returns-then-goes-clause-off g c =
+returns-then-goes-clause-off c =
     let end = c.requires.end in
     let under = c.requires.early in
     let low : c.args.early < length c.args.runners.now = omega (arith, under, end) in
-    off_stopped g.R.Running.function c.args.runners.now _ c.args.early c.stop.new.runner low refl c.stop.ensures.off
+    off_stopped shown c.args.runners.now _ c.args.early c.stop.new.runner low refl c.stop.ensures.off
 
 pub returns-then-goes-clause-room : goal.returns-then-goes-clause-room
-returns-then-goes-clause-room g c = λ periods t charge roomy.
+returns-then-goes-clause-room c = λ periods t charge roomy.
     let end = c.requires.end in
     let under = c.requires.early in
     let low : c.args.early < length c.args.runners.now = omega (arith, under, end) in
     let d = c.index-runners-early-then-goes.result in
-    roomy_stopped g.R.Running.function g.R.Running.count g.R.Running.room periods t charge c.args.runners.now _ c.args.early c.stop.new.runner low refl c.stop.ensures.off
-    (get_or c.args.runners.now c.args.early d) (item_at g.R.Running.function c.args.runners.now c.args.early low d) c.stop.ensures.running c.stop.ensures.passed roomy
+    roomy_stopped shown count_of room_of periods t charge c.args.runners.now _ c.args.early c.stop.new.runner low refl c.stop.ensures.off
+    (get_or c.args.runners.now c.args.early d) (item_at shown c.args.runners.now c.args.early low d) c.stop.ensures.running c.stop.ensures.passed roomy
 
 pub returns-else-goes-clause-late : goal.returns-else-goes-clause-late
-returns-else-goes-clause-late g c =
+returns-else-goes-clause-late c =
     let end = c.requires.end in
     let under = c.requires.early in
     let low : c.args.early < length c.args.runners.now = omega (arith, under, end) in
-    (omega arith, c.requires.early, (_, item_live g.R.Running.function c.args.runners.now c.args.early low c.index-runners-early.result c.if-not-runners-early.false))
+    (omega arith, c.requires.early, (_, item_live shown c.args.runners.now c.args.early low c.index-runners-early.result c.if-not-runners-early.false))
 
 pub returns-in_default-clause-late : goal.returns-in_default-clause-late
-returns-in_default-clause-late g c =
+returns-in_default-clause-late c =
     let end = c.requires.end in
     let under = c.requires.early in
     let low : c.args.early < length c.args.runners.now = omega (arith, under, end) in
-    (omega arith, c.requires.early, (_, item_live g.R.Running.function c.args.runners.now c.args.early low c.index-runners-early.result c.if-not-runners-early.false))
+    (omega arith, c.requires.early, (_, item_live shown c.args.runners.now c.args.early low c.index-runners-early.result c.if-not-runners-early.false))
 
 pub returns-then-goes-clause-keeps : goal.returns-then-goes-clause-keeps
-returns-then-goes-clause-keeps g c =
+returns-then-goes-clause-keeps c =
     let end = c.requires.end in
     let under = c.requires.early in
     let low : c.args.early < length c.args.runners.now = omega (arith, under, end) in
     let d = c.index-runners-early-then-goes.result in
-    written_keeps g.R.Running.function g.R.Running.room c.args.runners.now _ c.args.early c.stop.new.runner low refl
-    (get_or c.args.runners.now c.args.early d) (item_at g.R.Running.function c.args.runners.now c.args.early low d) (ap g.R.Running.room c.stop.ensures.running) (ap (λ p. length p.items + p.spare) c.stop.ensures.passed)
+    written_keeps shown room_of c.args.runners.now _ c.args.early c.stop.new.runner low refl
+    (get_or c.args.runners.now c.args.early d) (item_at shown c.args.runners.now c.args.early low d) (ap room_of c.stop.ensures.running) (ap (λ p. length p.items + p.spare) c.stop.ensures.passed)
 
 pub returns-then-goes-clause-left : goal.returns-then-goes-clause-left
-returns-then-goes-clause-left g c =
+returns-then-goes-clause-left c =
     let end = c.requires.end in
     let under = c.requires.early in
     let low : c.args.early < length c.args.runners.now = omega (arith, under, end) in
     let d = c.index-runners-early-then-goes.result in
-    written_left g.R.Running.function c.args.runners.now _ c.args.early c.stop.new.runner low refl
-    (get_or c.args.runners.now c.args.early d) (item_at g.R.Running.function c.args.runners.now c.args.early low d) c.stop.ensures.passed
+    written_left shown c.args.runners.now _ c.args.early c.stop.new.runner low refl
+    (get_or c.args.runners.now c.args.early d) (item_at shown c.args.runners.now c.args.early low d) c.stop.ensures.passed
 
 pub offset_bounds-runners-early : goal.offset_bounds-runners-early
-offset_bounds-runners-early g c =
+offset_bounds-runners-early c =
     let end = c.requires.end in
     let under = c.requires.early in
     scaled_Fits c.args.early (length c.args.runners.now) _ (omega (arith, under, end)) (search rules)
 
 pub offset_bounds-runners-first : goal.offset_bounds-runners-first
-offset_bounds-runners-first g c =
-    let h = if_some (λ l. (c.args.early < l) × (l ≤ c.args.period) × ((r : Going) × (live_at g.R.Running.function c.args.runners.now l ≡ Some r))) c.args.late c.in-Some.first c.in-Some.is c.requires.late in
+offset_bounds-runners-first c =
+    let h = if_some (λ l. (c.args.early < l) × (l ≤ c.args.period) × ((r : Going) × (live_at shown c.args.runners.now l ≡ Some r))) c.args.late c.in-Some.first c.in-Some.is c.requires.late in
     let until = h.1 in
     let end = c.requires.end in
     scaled_Fits c.in-Some.first (length c.args.runners.now) _ (omega (arith, until, end)) (search rules)
 
 pub offset_bounds-runners-early-in-Some : goal.offset_bounds-runners-early-in-Some
-offset_bounds-runners-early-in-Some g c =
+offset_bounds-runners-early-in-Some c =
     let end = c.requires.end in
     let under = c.requires.early in
     scaled_Fits c.args.early (length c.args.runners.now) _ (omega (arith, under, end)) (search rules)
 
 pub offset_bounds-runners-early-then-goes : goal.offset_bounds-runners-early-then-goes
-offset_bounds-runners-early-then-goes g c =
+offset_bounds-runners-early-then-goes c =
     let end = c.requires.end in
     let under = c.requires.early in
     scaled_Fits c.args.early (length c.args.runners.now) _ (omega (arith, under, end)) (search rules)

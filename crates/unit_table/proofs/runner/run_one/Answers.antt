@@ -1,9 +1,10 @@
+use Rattle.slope_list.specs.Slopes.{shown}
 use Rattle.unit_table.proofs.Common.{◌≡◌, ℕ, suc, ◌+◌, ◌<◌, ◌≤◌, length, subst, arith, thermal_of, on_time}
 use Rattle.unit_table.proofs.Lemmas.{always}
 use Rattle.unit_table.proofs.runner.run_one.Goals as goal
 
 pub returns-then-may_end-clause-may : goal.returns-then-may_end-clause-may
-returns-then-may_end-clause-may g c =
+returns-then-may_end-clause-may c =
     let u = thermal_of c.args.unit.now in
     let next : c.args.place + 1 ≡ suc c.args.place = omega arith in
     let periods = c.len.ensures in
@@ -11,7 +12,7 @@ returns-then-may_end-clause-may g c =
     (λ low. subst (λ (t : ℕ). u.min_up ≤ on_time u c.args.first t) next (c.may_end.ensures.yes c.if-may_end.true (omega (arith, low, periods))))
 
 pub returns-then-may_end-clause-noted : goal.returns-then-may_end-clause-noted
-returns-then-may_end-clause-noted g c = λ x v there. (g.R.Running.function c.end_and_run.new.running, c.end_and_run.ensures.noted x v there)
+returns-then-may_end-clause-noted c = λ x v there. (shown c.end_and_run.new.running, c.end_and_run.ensures.noted x v there)
 
 pub returns-else-may_end-clause-noted : goal.returns-else-may_end-clause-noted
-returns-else-may_end-clause-noted g c = λ x v there. (g.R.Running.function c.run_over-note.new.running, c.run_over-note.ensures.noted x v there)
+returns-else-may_end-clause-noted c = λ x v there. (shown c.run_over-note.new.running, c.run_over-note.ensures.noted x v there)

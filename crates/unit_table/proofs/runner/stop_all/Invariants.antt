@@ -1,5 +1,6 @@
+use Rattle.slope_list.specs.Slopes.{room_of}
 use Rattle.unit_table.proofs.Lemmas.{IsStopped}
 use Rattle.unit_table.proofs.runner.stop_all.Given as goal
 
 abbrev pub invariant-loop-place : goal.invariant-loop-place
-invariant-loop-place g l = IsStopped g.R.Running.room l.fn.runners l.place l.runners
+invariant-loop-place l = IsStopped room_of l.fn.runners l.place l.runners

@@ -1,22 +1,23 @@
+use Rattle.slope_list.specs.Slopes.{shown, count_of, room_of}
 use Rattle.unit_table.proofs.Common.{rules, ◌≡◌, ℕ, suc, ◌+◌, ◌-◌, ◌<◌, ◌≤◌, ◌+ℤ◌, ℤ, inl, inr, Some, length, sym, ap, ◌∙◌, subst, arith, to_z, of_z, FitsSigned, IfSome, w64, to_z-of_z, thermal_of, prices_of, Lowest, passed_at, IsOnNoted, IsPut, IsWithinTimes, on_time}
 use Rattle.unit_table.proofs.Lemmas.{room_more, room_next, going_on, row_end, end_some, end_left}
 use Rattle.unit_table.proofs.runner.take_runner.Goals as goal
 
 pub returns-clause-row : goal.returns-clause-row
-returns-clause-row g c = λ live is.
-    let on = is ∙ going_on g.R.Running.function c.args.runner.now c.requires.on in
+returns-clause-row c = λ live is.
+    let on = is ∙ going_on shown c.args.runner.now c.requires.on in
     let fits : FitsSigned w64 c.args.runner.now.cost = search rules in
     let cost : to_z w64 (of_z w64 c.args.runner.now.cost) ≡ c.args.runner.now.cost = to_z-of_z w64 _ fits in
     let next : c.args.place + 1 ≡ suc c.args.place = omega arith in
     let put = subst (λ (e : ℤ). IfSome c.cost_of.result (λ (x : ℤ). IsPut (c.args.place + 1) (record { cost = e +ℤ x; first = c.args.first; before = c.args.runner.now.before }) c.args.table.now.items c.put_end.new.table.items)) cost c.put_end.ensures.some in
     let put_next = subst (λ (l : ℕ). IfSome c.cost_of.result (λ (x : ℤ). IsPut l (record { cost = c.args.runner.now.cost +ℤ x; first = c.args.first; before = c.args.runner.now.before }) c.args.table.now.items c.put_end.new.table.items)) next put in
     row_end (thermal_of c.args.unit.now) (prices_of c.args.prices.now) live c.args.first c.args.place c.args.table.now.items c.put_end.new.table.items
-    (record { before = c.args.runner.now.before; cost = c.args.runner.now.cost; function = g.R.Running.function c.args.runner.now.running; left = passed_at c.args.runner.now.passed.items }) on
+    (record { before = c.args.runner.now.before; cost = c.args.runner.now.cost; function = shown c.args.runner.now.running; left = passed_at c.args.runner.now.passed.items }) on
     c.requires.place c.requires.order c.requires.may c.cost_of.result (rw c.cost_of.ensures c.run_one-passed.ensures.answer)
     (end_some c.run_one-passed.result.end c.cost_of.result (λ _. suc c.args.place < length c.args.prices.now.energy.items → (thermal_of c.args.unit.now).min_up ≤ on_time (thermal_of c.args.unit.now) c.args.first (suc c.args.place)) c.cost_of.ensures c.run_one-passed.ensures.may) c.put_end.ensures.none put_next
 
 pub returns-clause-ends : goal.returns-clause-ends
-returns-clause-ends g c =
+returns-clause-ends c =
     let fits : FitsSigned w64 c.args.runner.now.cost = search rules in
     let cost : to_z w64 (of_z w64 c.args.runner.now.cost) ≡ c.args.runner.now.cost = to_z-of_z w64 _ fits in
     let next : c.args.place + 1 ≡ suc c.args.place = omega arith in
@@ -26,20 +27,20 @@ returns-clause-ends g c =
     (passed_at c.retire.new.runner.passed.items c.args.place) c.cost_of.result same c.cost_of.ensures c.put_end.ensures.none put_next c.run_one-passed.ensures.ended
 
 pub put_end-requires-clause-net_bound : goal.put_end-requires-clause-net_bound
-put_end-requires-clause-net_bound g c =
+put_end-requires-clause-net_bound c =
     let next : suc c.args.place ≡ c.args.place + 1 = omega arith in
     end_some c.run_one-passed.result.end c.cost_of.result (IsWithinTimes (suc (c.args.place + 1) - c.args.first)) c.cost_of.ensures
     (subst (λ (l : ℕ). IfSome c.run_one-passed.result.end (λ (e : Lowest). IsWithinTimes (suc l - c.args.first) e.value)) next c.run_one-passed.ensures.within)
 
 pub returns-clause-goes : goal.returns-clause-goes
-returns-clause-goes g c =
+returns-clause-goes c =
     let unit = thermal_of c.args.unit.now in
     let prices = prices_of c.args.prices.now in
     let same = ap (λ l. passed_at l.items c.args.place) c.retire.ensures.passed ∙ c.leave_at.ensures.here in
-    let ran = going_on g.R.Running.function (record { is_on = c.args.runner.now.is_on; cost = c.args.runner.now.cost; before = c.args.runner.now.before; running = c.run_one-passed.new.running; passed = c.leave_at.new.list }) c.requires.on in
-    let left = ap (λ l. Some (record { before = c.args.runner.now.before; cost = c.args.runner.now.cost; function = g.R.Running.function c.run_one-passed.new.running; left = passed_at l.items })) c.retire.ensures.passed in
+    let ran = going_on shown (record { is_on = c.args.runner.now.is_on; cost = c.args.runner.now.cost; before = c.args.runner.now.before; running = c.run_one-passed.new.running; passed = c.leave_at.new.list }) c.requires.on in
+    let left = ap (λ l. Some (record { before = c.args.runner.now.before; cost = c.args.runner.now.cost; function = shown c.run_one-passed.new.running; left = passed_at l.items })) c.retire.ensures.passed in
     record {
-      function = g.R.Running.function c.run_one-passed.new.running;
+      function = shown c.run_one-passed.new.running;
       left = passed_at c.retire.new.runner.passed.items;
       frontier = c.run_one-passed.ensures.frontier;
       kept = λ k other. ap (λ l. passed_at l.items k) c.retire.ensures.passed ∙ c.leave_at.ensures.others k other;
@@ -51,39 +52,39 @@ returns-clause-goes g c =
     }
 
 pub run_one-passed-requires-clause-room : goal.run_one-passed-requires-clause-room
-run_one-passed-requires-clause-room g c =
-    room_more (g.R.Running.count c.args.runner.now.running) (length c.args.prices.now.energy.items) c.args.place (length c.args.curve.now.blocks.items + 3) (g.R.Running.room c.args.runner.now.running)
+run_one-passed-requires-clause-room c =
+    room_more (count_of c.args.runner.now.running) (length c.args.prices.now.energy.items) c.args.place (length c.args.curve.now.blocks.items + 3) (room_of c.args.runner.now.running)
     c.requires.place (c.requires.room.rest c.requires.on)
 
 pub leave_at-requires : goal.leave_at-requires
-leave_at-requires g c =
+leave_at-requires c =
     let low = c.requires.place in
     let places = c.requires.room.places in
     omega (arith, low, places)
 
 pub put_end-requires-clause-room : goal.put_end-requires-clause-room
-put_end-requires-clause-room g c =
+put_end-requires-clause-room c =
     let low = c.requires.place in
     let rows = c.requires.rows in
     omega (arith, low, rows)
 
 pub put_end-requires-clause-order : goal.put_end-requires-clause-order
-put_end-requires-clause-order g c =
+put_end-requires-clause-order c =
     let order = c.requires.order in
     omega (arith, order)
 
 pub returns-clause-room : goal.returns-clause-room
-returns-clause-room g c =
+returns-clause-room c =
     let old = c.args.runner.now in
     let charge = length c.args.curve.now.blocks.items + 3 in
     let periods = length c.args.prices.now.energy.items in
-    let same = ap g.R.Running.room c.retire.ensures.running ∙ c.run_one-passed.ensures.room in
-    let count_same = ap g.R.Running.count c.retire.ensures.running in
+    let same = ap room_of c.retire.ensures.running ∙ c.run_one-passed.ensures.room in
+    let count_same = ap count_of c.retire.ensures.running in
     let count = c.run_one-passed.ensures.count in
     let whole = c.requires.room.whole in
     let places = c.requires.room.places in
     let places_same = ap (λ l. length l.items + l.spare) c.retire.ensures.passed ∙ c.leave_at.ensures.room in
-    let rest = room_next (g.R.Running.count old.running) (g.R.Running.count c.run_one-passed.new.running) periods c.args.place charge (g.R.Running.room old.running) c.requires.place (c.requires.room.rest c.requires.on) count in
+    let rest = room_next (count_of old.running) (count_of c.run_one-passed.new.running) periods c.args.place charge (room_of old.running) c.requires.place (c.requires.room.rest c.requires.on) count in
     record {
       whole = omega (arith, whole, same);
       places = omega (arith, places, places_same);

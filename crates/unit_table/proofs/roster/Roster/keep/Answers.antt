@@ -1,18 +1,19 @@
+use Rattle.slope_list.specs.Slopes.{shown}
 use Rattle.unit_table.proofs.Common.{◌≡◌, ℕ, ◌<◌, false, List, length, refl, ap, ◌∙◌, arith, length-set, live_at}
 use Rattle.unit_table.proofs.Lemmas.{none_kept, one_kept, one_off, all_kept, first_inside, item_same, item_off}
 use Rattle.unit_table.proofs.roster.Roster.keep.Goals as goal
 use Rattle.unit_table.proofs.roster.Roster.keep.Goals.{then-runners-first, else-runners-first}
 
 pub loop-place-init : goal.loop-place-init
-loop-place-init g c = record {
-  kept = λ until list. none_kept (live_at g.R.Running.function c.args.runners.now) until c.args.self.now list;
+loop-place-init c = record {
+  kept = λ until list. none_kept (live_at shown c.args.runners.now) until c.args.self.now list;
   low = omega arith;
   same_length = refl;
   count_same = refl;
 }
 
 pub get-first-requires : goal.get-first-requires
-get-first-requires g c =
+get-first-requires c =
     let low = c.loop-place-test.true in
     let room = c.requires.roster.2.room in
     let count_same = c.loop-place.invariant.count_same in
@@ -20,37 +21,37 @@ get-first-requires g c =
     omega (arith, low, room, count_same, same)
 
 pub bounds-runners-first : goal.bounds-runners-first
-bounds-runners-first g c =
+bounds-runners-first c =
     let list = c.requires.roster in
     let low = c.loop-place-test.true in
     let count_same = c.loop-place.invariant.count_same in
-    let below = first_inside (live_at g.R.Running.function c.args.runners.now) list.0 c.args.self.now list.2 c.loop-place.place c.loop-place.kept c.loop-place.self.firsts.items
+    let below = first_inside (live_at shown c.args.runners.now) list.0 c.args.self.now list.2 c.loop-place.place c.loop-place.kept c.loop-place.self.firsts.items
     (c.loop-place.invariant.kept list.0 list.2) (omega (arith, low, count_same)) c.get-first.result.now c.get-first.ensures.item in
     let most = list.1 in
     omega (arith, below, most)
 
 pub offset_bounds-runners-first : goal.offset_bounds-runners-first
-offset_bounds-runners-first g c =
+offset_bounds-runners-first c =
     let list = c.requires.roster in
     let low = c.loop-place-test.true in
     let count_same = c.loop-place.invariant.count_same in
-    let below = first_inside (live_at g.R.Running.function c.args.runners.now) list.0 c.args.self.now list.2 c.loop-place.place c.loop-place.kept c.loop-place.self.firsts.items
+    let below = first_inside (live_at shown c.args.runners.now) list.0 c.args.self.now list.2 c.loop-place.place c.loop-place.kept c.loop-place.self.firsts.items
     (c.loop-place.invariant.kept list.0 list.2) (omega (arith, low, count_same)) c.get-first.result.now c.get-first.ensures.item in
     let most = list.1 in
     omega (arith, below, most)
 
 pub bounds-runners-first-in-loop-place : goal.bounds-runners-first-in-loop-place
-bounds-runners-first-in-loop-place g c =
+bounds-runners-first-in-loop-place c =
     let list = c.requires.roster in
     let low = c.loop-place-test.true in
     let count_same = c.loop-place.invariant.count_same in
-    let below = first_inside (live_at g.R.Running.function c.args.runners.now) list.0 c.args.self.now list.2 c.loop-place.place c.loop-place.kept c.loop-place.self.firsts.items
+    let below = first_inside (live_at shown c.args.runners.now) list.0 c.args.self.now list.2 c.loop-place.place c.loop-place.kept c.loop-place.self.firsts.items
     (c.loop-place.invariant.kept list.0 list.2) (omega (arith, low, count_same)) c.get-first.result.now c.get-first.ensures.item in
     let most = list.1 in
     omega (arith, below, most)
 
 pub set-requires : goal.set-requires
-set-requires g c =
+set-requires c =
     let low = c.loop-place-test.true in
     let room = c.requires.roster.2.room in
     let count_same = c.loop-place.invariant.count_same in
@@ -59,8 +60,8 @@ set-requires g c =
     omega (arith, low, room, count_same, same, kept)
 
 pub loop-place-preserved : goal.loop-place-preserved
-loop-place-preserved g c =
-    let live = live_at g.R.Running.function c.args.runners.now in
+loop-place-preserved c =
+    let live = live_at shown c.args.runners.now in
     let old = c.args.self.now in
     let p = c.loop-place.place in
     let q = c.loop-place.kept in
@@ -89,8 +90,8 @@ loop-place-preserved g c =
       | else-runners-first w ↦
           rw w.self-is (rw w.kept-is (record {
             kept = λ until list. one_off live until old list p q items (c.loop-place.invariant.kept until list) inside first c.get-first.ensures.item
-                (item_off g.R.Running.function c.args.runners.now first here c.index-runners-first.result
-                (item_same g.R.Running.function c.args.runners.now first here c.index-runners-first.result c.index-runners-first.result false w.if-runners-first.false));
+                (item_off shown c.args.runners.now first here c.index-runners-first.result
+                (item_same shown c.args.runners.now first here c.index-runners-first.result c.index-runners-first.result false w.if-runners-first.false));
             low = omega (arith, kept);
             same_length = same_length;
             count_same = count_same;
@@ -98,7 +99,7 @@ loop-place-preserved g c =
     ]
 
 pub returns-clause-roster : goal.returns-clause-roster
-returns-clause-roster g c = λ until list.
+returns-clause-roster c = λ until list.
     let same = c.loop-place.invariant.count_same in
     let end = c.loop-place-test.false in
-    all_kept (live_at g.R.Running.function c.args.runners.now) until c.args.self.now list c.loop-place.place _ (omega (arith, same, end)) (omega (arith, same)) (c.loop-place.invariant.kept until list)
+    all_kept (live_at shown c.args.runners.now) until c.args.self.now list c.loop-place.place _ (omega (arith, same, end)) (omega (arith, same)) (c.loop-place.invariant.kept until list)

@@ -1,6 +1,0 @@
-use Rattle.unit_program.proofs.Lemmas.{none_right}
-use Rattle.unit_program.proofs.laws.no_end_is_no_schedule.Goals as goal
-
-pub returns : goal.returns
-returns c g π periods ends horizon up down complete none =
-    none_right g π periods horizon ends up down complete none
