@@ -15,8 +15,8 @@ pub use Rattle.std.specs.Prelude.{min, IfOk, IfErr, ◌==◌, nat_le, slice_get,
 pub use Rattle.case_answers.specs.Tops.{IsBenchOver}
 pub use Rattle.audit_rows.specs.Jobs.{AreFor}
 pub use Rattle.audit_rows.specs.declared.answerer.Answerer.{Answerer}
-pub use Rattle.hull_report.specs.Laws.{OneRun, OneRightReport, RightReportHasForm}
-pub use Rattle.hull_report.specs.RightReport.{IsRightReport}
+pub use Rattle.right_report.specs.Laws.{OneRun, OneRightReport, RightReportHasForm}
+pub use Rattle.right_report.specs.RightReport.{IsRightReport}
 pub use Rattle.audit_check.specs.Compared.{Differ, DifferBehind, Compares, wrong_from, Judged, AreJudged}
 pub use Rattle.audit_check.specs.Heads.{right_opening, right_head}
 pub use Rattle.audit_check.specs.ReportLines.{count_line, amount_line, opening_lines, number_line, later_lines, report_lines, line, kind_word, row_lines, rows_lines, title_line, response_lines, unit_lines, head_lines, foot_lines, told_lines}

@@ -1,7 +1,7 @@
 -- The right report, and its lines in the order of the units' numbers.
 use Rattle.audit_check.proofs.Common.{◌≡◌, ℕ, suc, ◌+◌, ◌-◌, ◌<◌, ◌≤◌, ℤ, pos, Bool, true, false, cond, Some, List, [], ◌∷◌, ◌++◌, map, length, refl, sym, ap, ◌∙◌, subst, arith, append_assoc, length-append, slice_get, slice_index_or, AllZip, flat_map, range_with_len, get_or_default, same_lists, length-map, length-map-range_with_len, get_or-map-range_with_len, Kind, AnyUnit, Thermal, Flat, Bid, NamedThermalUnit, NamedRenewableUnit, NamedBidUnit, Schedule, Market, units, unit_count, thermal_names, renewable_names, bid_names, IsTop, Proposal, chosen_number, HasTotals, IsRun, Fits, plan_cost, IsSettled, UnitLine, IsRightReport, AreInOrder, Told, rank, same_kind, lines_of, unit_lines, told_lines, Title, titles_of, titles, Answers, idle, line_at, told_from, right_of}
 use Rattle.uc_model.specs.declared.kinds.Kind.TheVariants as kinds
-use Rattle.hull_report.specs.RecordReport.{lines_from}
+use Rattle.right_report.specs.RecordReport.{lines_from}
 
 -- ---- lines by numbers
 

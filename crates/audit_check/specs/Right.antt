@@ -2,7 +2,7 @@
 use Rattle.std.specs.Prelude.{ℕ, List}
 use Rattle.uc_model.specs.Data.{Schedule, Market}
 use Rattle.report_form.specs.ReportText.{Report, report_text}
-use Rattle.hull_report.specs.RightReport.{IsRightReport}
+use Rattle.right_report.specs.RightReport.{IsRightReport}
 use Rattle.report_read.specs.Differences.{DiffersAt}
 
 -- from the right report for the same budget and number of proposals ahead

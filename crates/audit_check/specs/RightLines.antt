@@ -9,7 +9,7 @@ use Rattle.uc_model.specs.PriceRule.{Proposal}
 use Rattle.plain_lists.specs.Sums.{int_at}
 use Rattle.uplift_settle.specs.declared.settlement.Settlement.{Settlement}
 use Rattle.report_form.specs.ReportText.{UnitLine, Report, chosen_text}
-use Rattle.hull_report.specs.RecordReport.{lines_from}
+use Rattle.right_report.specs.RecordReport.{lines_from}
 use Rattle.report_read.specs.Plain.{Told}
 use Rattle.audit_check.specs.ReportLines.{head_lines, rows_lines, foot_lines}
 

@@ -10,7 +10,7 @@ ghost use Rattle.uc_model.specs.Runs.{IsRun, Fits};
 ghost use Rattle.uc_model.specs.Systems.{IsFeasiblePlan, plan_cost};
 ghost use Rattle.plain_lists.specs.declared.limits.TheConstants.{MOST_PROPOSALS, MOST_UNITS};
 ghost use Rattle.case_answers.specs.Tops.{HasSchedules};
-ghost use Rattle.hull_report.specs.RightReport.{IsRightReport};
+ghost use Rattle.right_report.specs.RightReport.{IsRightReport};
 ghost use Rattle.report_read.specs.Bounds.{IsReport, AreInOrder};
 ghost use Rattle.report_read.specs.Plain.{report_of, told_of};
 ghost use Rattle.audit_check.specs.Compared.{Compares};
@@ -26,10 +26,12 @@ use crate::rows::rows_same;
 use crate::units::units_same;
 use crate::wrong::WrongLine;
 use case_answers::earn_all;
-use hull_report::laws::{one_report_is_right, right_report_has_form, settlements_are_of_all_units};
 use price_move::greatest;
 use report_form::laws::text_determines_the_report;
 use report_read::Report;
+use right_report::laws::{
+    one_report_is_right, right_report_has_form, settlements_are_of_all_units,
+};
 use uc_model::cases::{Case, Plan, Row};
 use uc_model::laws::{dual_values_are_within, plan_costs_are_within};
 use uplift_settle::settle;

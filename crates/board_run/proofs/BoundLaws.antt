@@ -3,7 +3,7 @@ use Rattle.board_run.proofs.Common.{◌≡◌, ◌-◌, ◌<◌, ℤ, pos, ◌�
 use Rattle.gap_proof.specs.Candidates.{RowRange, IsFirstLeast}
 use Rattle.gap_proof.specs.Laws.{RunBoundsHold}
 use Rattle.gap_proof.specs.Sums.{most_bound}
-use Rattle.hull_report.specs.BoundText.{IsTold}
+use Rattle.right_report.specs.Told.{IsTold}
 use Rattle.board_run.proofs.SettleLaws.{chosen_place}
 
 told_above : (value limit : ℤ) → IsWorth value → value ≤ℤ limit → limit ≤ℤ most_bound → IsTold limit

@@ -22,8 +22,8 @@ pub use Rattle.board_run.specs.Rounds.{setup_of, IsEnded}
 pub use Rattle.board_share.specs.Seats.{SeatValue, view_of, IsSeatOf, IsSameBoard, IsOwner}
 pub use Rattle.board_share.specs.Views.{BoardEvent, View, caller_of, content, cut_left, cut_right, first_view, without}
 pub use Rattle.case_answers.specs.Tops.{IsBenchOver, AreTops}
-pub use Rattle.hull_report.specs.Laws.{OneIsChosen}
-pub use Rattle.hull_report.specs.RecordReport.{chosen_of, SettlementsAreOfAllUnits, IsSettledRecord, AnswersAreTops}
+pub use Rattle.right_report.specs.Laws.{OneIsChosen}
+pub use Rattle.right_report.specs.RecordReport.{chosen_of, SettlementsAreOfAllUnits, IsSettledRecord, AnswersAreTops}
 pub use Rattle.uc_model.specs.Data.{AnyUnit, Thermal, Flat, Bid, Market, NamedThermalUnit, NamedRenewableUnit, NamedBidUnit, PriceLists, Schedule, unit_count, units}
 pub use Rattle.uc_model.specs.Limits.{IsWorth, IsMarket}
 pub use Rattle.uc_model.specs.PlainCases.{market_of, schedules_of, proposal_of}

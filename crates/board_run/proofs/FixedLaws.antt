@@ -10,9 +10,8 @@ use Rattle.unit_program.specs.Benches.{IsBenchFor}
 use Rattle.unit_program.specs.declared.bench.Bench.{Bench}
 use Rattle.fixed_price.specs.FixedCase.{fixed_market}
 use Rattle.fixed_price.specs.Laws.{CommitmentsAreFixed}
-use Rattle.hull_report.specs.FixedText.{told_of}
-use Rattle.hull_report.specs.RightSide.{IsRightSide, TellsChoice, SettledSidesAreRight}
-use Rattle.hull_report.specs.declared.fixed.Side.{Side}
+use Rattle.right_report.specs.RightSide.{told_of, IsRightSide, TellsChoice, SettledSidesAreRight}
+use Rattle.right_report.specs.declared.side.Side.{Side}
 use Rattle.board_run.specs.declared.input.Input.{Input}
 use Rattle.board_run.specs.declared.input.RunInput.{RunInput}
 use Rattle.board_run.specs.declared.input.RunSize.{RunSize}

@@ -3,8 +3,8 @@ use Rattle.std.specs.Prelude.{◌≡◌, ℤ}
 use Rattle.board_history.specs.Board.{Setup}
 use Rattle.board_history.specs.Calls.{own_rows}
 use Rattle.gap_proof.specs.Candidates.{IsFirstLeast}
-use Rattle.hull_report.specs.BoundText.{IsTold}
-use Rattle.hull_report.specs.RecordReport.{chosen_of}
+use Rattle.right_report.specs.Told.{IsTold}
+use Rattle.right_report.specs.RecordReport.{chosen_of}
 use Rattle.board_run.specs.declared.bound.Bounded.{Bounded}
 use Rattle.board_run.specs.Rounds.{IsEnded}
 

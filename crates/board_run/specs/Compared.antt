@@ -9,9 +9,9 @@ use Rattle.uc_model.specs.declared.cases.Case.{Case}
 use Rattle.uc_model.specs.declared.cases.Plan.{Plan}
 use Rattle.plain_lists.specs.declared.limits.TheConstants.{MOST_WORK}
 use Rattle.fixed_price.specs.FixedCase.{fixed_market}
-use Rattle.hull_report.specs.FixedText.{told_of}
-use Rattle.hull_report.specs.RightSide.{IsRightSide}
-use Rattle.hull_report.specs.declared.fixed.Side.{Side}
+use Rattle.right_report.specs.RightSide.{told_of}
+use Rattle.right_report.specs.RightSide.{IsRightSide}
+use Rattle.right_report.specs.declared.side.Side.{Side}
 use Rattle.board_run.specs.declared.fixed.Sides.{Sides}
 use Rattle.board_run.specs.declared.input.RunInput.{RunInput}
 use Rattle.board_run.specs.declared.input.RunSize.{RunSize}

@@ -4,7 +4,7 @@ use Rattle.board_history.specs.Board.{Setup}
 use Rattle.board_core.specs.Boards.{setup_for}
 use Rattle.uc_model.specs.PlainUnits.{schedule_of}
 use Rattle.uc_model.specs.PriceRule.{Proposal}
-use Rattle.hull_report.specs.RecordReport.{IsSettledRecord}
+use Rattle.right_report.specs.RecordReport.{IsSettledRecord}
 use Rattle.answer_workers.specs.Answers.{IsBenchOf}
 use Rattle.board_run.specs.declared.input.RunInput.{RunInput}
 use Rattle.board_run.specs.declared.run.Done.{Done}

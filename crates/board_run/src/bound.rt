@@ -1,10 +1,10 @@
 //! The best bound round the prices that a run chose.
-ghost use Rattle.std.specs.Prelude.{◌≡◌, ◌*◌, true, length, IfOk, IfErr};
+ghost use Rattle.std.specs.Prelude.{◌≡◌, ◌*◌, true, length, IfOk};
 ghost use Rattle.board_history.specs.Calls.{own_rows, has_finished};
 ghost use Rattle.gap_proof.specs.Candidates.{IsFirstLeast};
 ghost use Rattle.gap_proof.specs.Sums.{IsRadius};
-ghost use Rattle.hull_report.specs.BoundText.{IsTold};
-ghost use Rattle.hull_report.specs.RecordReport.{chosen_of};
+ghost use Rattle.right_report.specs.Told.{IsTold};
+ghost use Rattle.right_report.specs.RecordReport.{chosen_of};
 ghost use Rattle.board_run.specs.Bounded.{IsBounded};
 ghost use Rattle.board_run.specs.Inputs.{IsRunInput};
 ghost use Rattle.board_run.specs.Rounds.{setup_of};
@@ -16,9 +16,8 @@ use board_core::Closed;
 use board_history::laws::{finished_has_row, finished_is_run, rows_are_within};
 use gap_proof::laws::run_bounds_hold;
 use gap_proof::{Certified, best_range};
-use hull_report::TopFault;
-use hull_report::laws::one_row_is_chosen;
 use plain_lists::lists::Amounts;
+use right_report::laws::one_row_is_chosen;
 use std::alloc::{AllocError, Global};
 use std::sync::Wait;
 use std::thread::Threads;
@@ -50,9 +49,10 @@ fn certify(closed: &Closed, radius: i64, work: &mut Amounts) -> Certified
     best_range(closed.case(), closed.rows(), closed.chosen(), radius, work)
 }
 
-/// Runs the board of an input, and certifies its best bound. All memory for both is taken before
-/// the run, the room for the bound first.
-fn certified_run<R: Threads + Wait + Sync, G: Gate>(
+/// The run of an input to its end, and the best bound round its chosen prices. All memory for both
+/// is taken before the run, the room for the bound first. `AllocError` is want of it; the input is
+/// then dropped.
+pub fn bounded_run<R: Threads + Wait + Sync, G: Gate>(
     rt: &R,
     alloc: Global,
     run: RunInput,
@@ -72,23 +72,4 @@ fn certified_run<R: Threads + Wait + Sync, G: Gate>(
         radius,
         certified,
     })
-}
-
-/// The run of an input with its best bound, where there is the memory for it.
-pub fn bounded_run<R: Threads + Wait + Sync, G: Gate>(
-    rt: &R,
-    alloc: Global,
-    run: RunInput,
-    radius: i64,
-    gate: &G,
-) -> Result<Bounded, TopFault>
-    requires run { IsRunInput run }
-    requires radius { IsRadius radius }
-    ensures bounded { IfOk result (λ bounded. IsBounded (setup_of run) radius bounded) }
-    ensures starved { IfErr result (λ fault. fault ≡ TopFault.Memory) }
-{
-    match certified_run(rt, alloc, run, radius, gate) {
-        Ok(bounded) => Ok(bounded),
-        Err(AllocError) => Err(TopFault::Memory),
-    }
 }

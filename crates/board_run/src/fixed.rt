@@ -1,13 +1,13 @@
 //! The two runs of `hull fixed`: of a case, and of the case with each thermal unit held to its
 //! commitment in the schedule.
-ghost use Rattle.std.specs.Prelude.{◌≡◌, ◌+◌, ◌≤◌, length, IfOk, IfErr};
+ghost use Rattle.std.specs.Prelude.{◌≡◌, ◌+◌, ◌≤◌, length, IfOk};
 ghost use Rattle.uc_model.specs.Data.{unit_count as units_in};
 ghost use Rattle.uc_model.specs.PlainCases.{market_of, schedules_of};
 ghost use Rattle.uc_model.specs.PlainUnits.{prices_of};
 ghost use Rattle.uc_model.specs.Systems.{IsFeasiblePlan};
 ghost use Rattle.fixed_price.specs.FixedCase.{fixed_market};
-ghost use Rattle.hull_report.specs.FixedText.{told_of};
-ghost use Rattle.hull_report.specs.RightSide.{IsRightSide};
+ghost use Rattle.right_report.specs.RightSide.{told_of};
+ghost use Rattle.right_report.specs.RightSide.{IsRightSide};
 ghost use Rattle.board_run.specs.Compared.{IsHullSide, IsHeldInput, IsHeldRun, IsFixedSide};
 ghost use Rattle.board_run.specs.Compared.{AreSides};
 ghost use Rattle.board_run.specs.Inputs.{planned_in, planned_of, IsPlanned, IsRunInput};
@@ -19,9 +19,9 @@ use answer_workers::Gate;
 use case_answers::earn_all;
 use fixed_price::fix_case;
 use fixed_price::laws::commitments_are_fixed;
-use hull_report::laws::{settled_sides_are_right, settlements_are_of_all_units};
-use hull_report::{Side, TopFault, chosen_side};
 use plain_lists::lists::Numbers;
+use right_report::laws::{settled_sides_are_right, settlements_are_of_all_units};
+use right_report::{Side, chosen_side};
 use std::alloc::{AllocError, Global};
 use std::sync::Wait;
 use std::thread::Threads;
@@ -166,9 +166,10 @@ fn fixed_side<R: Threads + Wait + Sync, G: Gate>(
     Ok(settled_side(given, run_board(rt, opened, gate), room, earned))
 }
 
-/// Runs the board of an input, and then that with the commitments of its schedule held. The first
-/// board is gone before the second is opened.
-fn both_sides<R: Threads + Wait + Sync, G: Gate>(
+/// Both runs of an input to their ends: of the case, and of the case with the commitments of its
+/// schedule held. The first board is gone before the second is opened. `AllocError` is want of
+/// memory, for either; the input is then dropped.
+pub fn compared_runs<R: Threads + Wait + Sync, G: Gate>(
     rt: &R,
     alloc: Global,
     run: RunInput,
@@ -187,21 +188,4 @@ fn both_sides<R: Threads + Wait + Sync, G: Gate>(
         hull,
         fixed,
     })
-}
-
-/// Both runs of an input, where there is the memory for them.
-pub fn compared_runs<R: Threads + Wait + Sync, G: Gate>(
-    rt: &R,
-    alloc: Global,
-    run: RunInput,
-    gate: &G,
-) -> Result<Sides, TopFault>
-    requires { IsRunInput run }
-    ensures sides { IfOk result (AreSides run) }
-    ensures starved { IfErr result (λ fault. fault ≡ TopFault.Memory) }
-{
-    match both_sides(rt, alloc, run, gate) {
-        Ok(sides) => Ok(sides),
-        Err(AllocError) => Err(TopFault::Memory),
-    }
 }

@@ -9,7 +9,7 @@ ghost use Rattle.uc_model.specs.PlainCases.{market_of};
 ghost use Rattle.uc_model.specs.PlainUnits.{schedule_of};
 ghost use Rattle.uc_model.specs.PriceRule.{Proposal};
 ghost use Rattle.plain_lists.specs.Sums.{int_at};
-ghost use Rattle.hull_report.specs.RecordReport.{IsSettledRecord};
+ghost use Rattle.right_report.specs.RecordReport.{IsSettledRecord};
 ghost use Rattle.board_run.specs.Crews.{IsCrew};
 ghost use Rattle.board_run.specs.Rounds.{setup_of, IsEnded};
 
@@ -19,8 +19,8 @@ use answer_workers::{Gate, Worker, most_points};
 use board_core::{Board, Closed};
 use board_history::laws::{finished_has_row, rows_are_within};
 use board_share::SharedBoard;
-use hull_report::laws::{answers_are_tops, one_row_is_chosen};
 use plain_lists::lists::Numbers;
+use right_report::laws::{answers_are_tops, one_row_is_chosen};
 use slope_list::Slopes;
 use std::alloc::{AllocError, Global};
 use std::marker::Model;

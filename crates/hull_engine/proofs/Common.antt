@@ -17,7 +17,8 @@ pub use Rattle.hull_engine.specs.Answers.{HasStatus, IsRunText, IsFaultOf, IsCom
 pub use Rattle.hull_engine.specs.Outcome.{IsReportText, IsBoundText, IsFixedText, Command, command_for, Ends, IsReadOf, case_and_schedule, with_report, AreReads, no_files}
 pub use Rattle.hull_engine.specs.Steps.{Then, Reads, IsInput, IsWithinWork, IsReportFile, IsJudged, IsAudit, bytes_of, IsBytes, IsMade, IsPlanFile, IsChecked, IsCaseFile, IsReportIn, IsCase, IsPlan}
 pub use Rattle.hull_io.specs.Edge.{Gains, FallsShort, Rose}
-pub use Rattle.hull_report.specs.FixedText.{told_of, fixed_text}
+pub use Rattle.right_report.specs.RightSide.{told_of}
+pub use Rattle.hull_report.specs.FixedText.{fixed_text}
 pub use Rattle.hull_report.specs.TryText.{try_text}
 pub use Rattle.hull_report.specs.declared.fault.FileKind.TheVariants.{ReportFile, CaseFile, ScheduleFile}
 pub use Rattle.hull_report.specs.declared.fault.TopFault.{TopFault}

@@ -2,7 +2,7 @@
 use Rattle.hull_engine.proofs.Common.{◌≡◌, ℕ, inl, inr, List, Result, Ok, Err, length, unsigned_abs, refl, OnOk, OnErr, unit_count, Report, planned_in, IsRunText, IsBoundText, HasStatus, IsEnded}
 use Rattle.board_history.specs.Calls.{own_rows}
 use Rattle.hull_report.specs.BoundText.{bound_text}
-use Rattle.hull_report.specs.RecordReport.{chosen_of, value_of, report_of, RecordReportIsRight, SettlementsAreOfAllUnits}
+use Rattle.right_report.specs.RecordReport.{chosen_of, value_of, report_of, RecordReportIsRight, SettlementsAreOfAllUnits}
 use Rattle.board_run.specs.declared.run.Done.{Done}
 use Rattle.board_run.specs.declared.bound.Bounded.{Bounded}
 use Rattle.board_run.specs.Bounded.{IsBounded}

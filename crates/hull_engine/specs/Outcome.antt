@@ -15,12 +15,12 @@
 -- 'never'.
 --
 -- The steps of the commands are in Steps; a case with its schedule is in board_run's Inputs; the
--- text of a report in report_form's ReportText; the other texts, and what makes them right, in
--- hull_report: RightReport, CheckText, TryText, BoundText, FixedText and RightSide, AuditText,
--- FaultLines; a case with its schedule's commitments held in fixed_price's FixedCase; which reports
--- are read, and the first line in fault, in report_read's Bounds and Faults; the first line at
--- which a report differs from the right one in audit_check's Right; the bound round a row in
--- gap_proof's Candidates.
+-- text of a report in report_form's ReportText, and what makes it right in right_report's
+-- RightReport; the other texts in hull_report: CheckText, TryText, BoundText, FixedText (its sides
+-- in right_report's RightSide), AuditText, FaultLines; a case with its schedule's commitments held
+-- in fixed_price's FixedCase; which reports are read, and the first line in fault, in report_read's
+-- Bounds and Faults; the first line at which a report differs from the right one in audit_check's
+-- Right; the bound round a row in gap_proof's Candidates.
 use Rattle.std.specs.Prelude.{◌≡◌, ◌⊎◌, ℕ, ℤ, List, length, unsigned_abs, Option, None, Some}
 use Rattle.std.specs.Prelude.{Result, Ok, Err, IfSome}
 use Rattle.fixed_price.specs.FixedCase.{fixed_market}
@@ -32,10 +32,11 @@ use Rattle.hull_report.specs.AuditText.{audit_text}
 use Rattle.hull_report.specs.BoundText.{bound_text}
 use Rattle.hull_report.specs.CheckText.{check_text}
 use Rattle.hull_report.specs.FaultLines.{status_of, fault_line}
-use Rattle.hull_report.specs.FixedText.{ToldSide, fixed_text}
+use Rattle.right_report.specs.RightSide.{ToldSide}
+use Rattle.hull_report.specs.FixedText.{fixed_text}
 use Rattle.report_form.specs.ReportText.{Report, report_text}
-use Rattle.hull_report.specs.RightReport.{IsRightReport}
-use Rattle.hull_report.specs.RightSide.{IsRightSide}
+use Rattle.right_report.specs.RightReport.{IsRightReport}
+use Rattle.right_report.specs.RightSide.{IsRightSide}
 use Rattle.hull_report.specs.TryText.{try_text}
 use Rattle.hull_report.specs.declared.fault.FileKind.{FileKind}
 use Rattle.hull_report.specs.declared.fault.FileKind.TheVariants.{CaseFile, ScheduleFile}

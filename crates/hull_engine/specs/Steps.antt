@@ -1,6 +1,6 @@
 -- The steps of a command, in the order in which they refuse: each goes on with what it found, or
 -- ends in a refusal (this project's profile). What a file's bytes are is said in uc_case, uc_plan
--- and report_read, the rules of a schedule in uc_model, and what a right report is in hull_report.
+-- and report_read, the rules of a schedule in uc_model, and what a right report is in right_report.
 use Rattle.std.specs.Prelude.{◌≡◌, ℕ, ◌*◌, nat_lt, List, [], length, Option, None, Some, Result}
 use Rattle.std.specs.Prelude.{Ok, Err, slice_get, if◌then◌else◌}
 use Rattle.std.specs.Result.{result_map_both}
@@ -25,7 +25,7 @@ use Rattle.hull_report.specs.declared.fault.TopFault.TheVariants.{Read, CaseText
 use Rattle.hull_report.specs.declared.fault.TopFault.TheVariants.{PlanText, PlanShape, PlanRule}
 use Rattle.hull_report.specs.declared.fault.TopFault.TheVariants.{TooBig, Work, Report as Unfit}
 use Rattle.report_form.specs.ReportText.{Report, report_text}
-use Rattle.hull_report.specs.RightReport.{IsRightReport}
+use Rattle.right_report.specs.RightReport.{IsRightReport}
 use Rattle.report_read.specs.Bounds.{IsReport}
 use Rattle.report_read.specs.Faults.{IsFault}
 use Rattle.audit_check.specs.Right.{DiffersFromRight}

@@ -77,10 +77,8 @@ fn ended_run<R: Threads + Wait + Sync, G: Gate>(
     ensures ended { IfOk result (λ done. IsEnded (setup_of run) done) }
     ensures starved { IfErr result (λ fault. fault ≡ TopFault.Memory) }
 {
-    match open(alloc, run) {
-        Ok(opened) => Ok(run_board(rt, opened, gate)),
-        Err(AllocError) => Err(TopFault::Memory),
-    }
+    let opened = open(alloc, run)?;
+    Ok(run_board(rt, opened, gate))
 }
 
 /// What `hull check` answers.

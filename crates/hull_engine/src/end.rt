@@ -3,7 +3,7 @@ ghost use Rattle.std.specs.Prelude.{◌≡◌, ℕ, List, length, IfOk, OnOk, On
 ghost use Rattle.uc_model.specs.PlainUnits.{schedule_of};
 ghost use Rattle.hull_io.specs.Edge.{Writes, Gains, FallsShort};
 ghost use Rattle.report_form.specs.ReportText.{report_text};
-ghost use Rattle.hull_report.specs.RecordReport.{report_of, IsSettledRecord};
+ghost use Rattle.right_report.specs.RecordReport.{report_of, IsSettledRecord};
 ghost use Rattle.uc_model.specs.PriceRule.{Proposal};
 ghost use Rattle.uplift_settle.specs.declared.settlement.Settlement.{Settlement};
 ghost use Rattle.hull_engine.specs.Outcome.{status_at};
@@ -15,11 +15,8 @@ use answer_workers::Gate;
 use board_core::Closed;
 use board_run::{Bounded, Done, Run, run_board};
 use hull_io::{Sink, WriteFailed};
-use hull_report::laws::{record_report_is_right, settlements_are_of_all_units};
-use hull_report::{
-    TopFault, write_audit, write_bound, write_check, write_fault, write_fixed, write_report,
-    write_try,
-};
+use right_report::laws::{record_report_is_right, settlements_are_of_all_units};
+use hull_report::{TopFault, write_audit, write_bound, write_check, write_fault, write_fixed, write_report, write_try};
 use std::sync::Wait;
 use std::thread::Threads;
 

@@ -1,6 +1,6 @@
 -- The text of a record's report, part by part.
 use Rattle.hull_report.proofs.Common.{◌≡◌, ℕ, ◌+◌, ℤ, ◌-ℤ◌, List, ◌++◌, length, sym, ◌∙◌, append_assoc, length-map, flat_map, Content, own_rows, NamedThermalUnit, NamedRenewableUnit, unit_count, Settlement, head_text, rows_text, chosen_text, thermal_text, renewable_text, bid_text, foot_text, report_text, thermal_names, renewable_names, bid_names, line_of, lines_from, chosen_of, value_of, report_of, try_lines, try_text}
-use Rattle.hull_report.proofs.UnitLines.{length-lines}
+use Rattle.right_report.proofs.UnitLines.{length-lines}
 
 -- the lines up to the chosen value
 abbrev pub front_text : Content → (proposals chosen : ℕ) → ℤ → List ℕ

@@ -1,14 +1,7 @@
 -- The text of `hull bound` (this project's profile).
-use Rattle.std.specs.Prelude.{ℕ, ℤ, pos, neg_ℤ, ◌-ℤ◌, List, [], ◌∷◌, codes}
+use Rattle.std.specs.Prelude.{ℕ, ℤ, ◌-ℤ◌, List, [], ◌∷◌, codes}
 use Rattle.std.specs.List.{concat}
-use Rattle.plain_lists.specs.Ranges.{IsFrom}
 use Rattle.report_form.specs.Numerals.{numeral, signed_numeral}
-
--- a value or a bound, at most 10^35 in magnitude: any bound that is certified round a row
-abbrev pub IsTold : ℤ → Type 0
-IsTold x =
-    IsFrom (neg_ℤ (pos 100000000000000000000000000000000000))
-    (pos 100000000000000000000000000000000000) x
 
 -- how many proposals there are, the chosen one and its value, the radius round its prices, the
 -- rows whose mean gives the bound, the bound, and how far it is above the value

@@ -1,36 +1,12 @@
 -- The text of `hull fixed` (this project's profile).
 use Rattle.std.specs.Prelude.{ℕ, ◌+◌, ℤ, List, [], ◌∷◌, ◌++◌, length, codes}
 use Rattle.std.specs.List.{concat, flat_map}
-use Rattle.uc_model.specs.Data.{PriceLists, Market, thermal_names, renewable_names, bid_names}
-use Rattle.uc_model.specs.PlainUnits.{prices_of}
+use Rattle.uc_model.specs.Data.{Market, thermal_names, renewable_names, bid_names}
 use Rattle.plain_lists.specs.Sums.{int_at}
 use Rattle.report_form.specs.Numerals.{numeral, signed_numeral}
 use Rattle.report_form.specs.Parts.{spaced, quoted}
-use Rattle.hull_report.specs.RecordReport.{lines_from}
-use Rattle.hull_report.specs.declared.fixed.Side.{Side}
-
--- What is told of a run: how many proposals it has, the number from 1 of the chosen one, its dual
--- value and its prices, and at these the payment of each unit and bid, what surplus reserve is
--- worth, and the sum of the payments.
-pub record ToldSide : Type 0 where
-  pub proposals : ℕ
-  pub chosen : ℕ
-  pub value : ℤ
-  pub prices : PriceLists
-  pub payments : List ℤ
-  pub surplus : ℤ
-  pub total : ℤ
-
-abbrev pub told_of : Side → ToldSide
-told_of s = record {
-  proposals = s.proposals;
-  chosen = s.chosen;
-  value = s.value;
-  prices = prices_of s.prices;
-  payments = s.settlement.payments.items;
-  surplus = s.settlement.surplus;
-  total = s.settlement.total;
-}
+use Rattle.right_report.specs.RecordReport.{lines_from}
+use Rattle.right_report.specs.RightSide.{ToldSide}
 
 -- the first seven lines: what each run chose, and the prices
 unfoldable pub sides_text : ToldSide → ToldSide → List ℕ

@@ -2,10 +2,7 @@ pub mod BoundText
 pub mod Words
 pub mod FaultLines
 pub mod CheckText
-pub mod RightReport
 pub mod TryText
-pub mod Laws
-pub mod RecordReport
 pub mod FixedText
 pub mod AuditText
-pub mod RightSide
+pub mod RecordText

@@ -2,14 +2,15 @@
 ghost use Rattle.std.specs.Prelude.{◌≡◌, ◌-ℤ◌, true, length, unsigned_abs};
 ghost use Rattle.board_history.specs.Calls.{own_rows, has_finished};
 ghost use Rattle.hull_io.specs.Edge.{Writes};
-ghost use Rattle.hull_report.specs.BoundText.{bound_text, IsTold};
-ghost use Rattle.hull_report.specs.RecordReport.{chosen_of, value_of};
+ghost use Rattle.hull_report.specs.BoundText.{bound_text};
+ghost use Rattle.right_report.specs.Told.{IsTold};
+ghost use Rattle.right_report.specs.RecordReport.{chosen_of, value_of};
 
-use crate::record::choice_of;
 use board_core::Closed;
 use gap_proof::Certified;
 use hull_io::{Sink, WriteFailed};
 use report_form::{Part, write_parts};
+use right_report::choice_of;
 
 /// What the text tells: how many proposals there are, the number of the chosen one and its dual
 /// value, the radius round its prices, the rows from `first` to `last` whose mean gives the bound,

@@ -6,12 +6,14 @@ ghost use Rattle.hull_report.specs.FaultLines.{status_of, words_told, read_told,
 ghost use Rattle.hull_report.specs.FaultLines.{field_told, shape_told, rule_told, too_big_told};
 ghost use Rattle.hull_report.specs.FaultLines.{work_told, report_told, status_told, fault_told};
 ghost use Rattle.hull_report.specs.FaultLines.{fault_line};
+ghost use Rattle.hull_report.specs.declared.fault.TopFault.TheVariants.{Memory};
 
 use hull_io::{Sink, WriteFailed, write_whole};
 use hull_words::WordFault;
 use plan_check::RuleFault;
 use report_form::laws::texts_add_up;
 use report_form::{Part, write_parts};
+use std::alloc::AllocError;
 use uc_case::fault::FieldFault;
 use uc_model::kinds::Kind;
 use uc_plan::fault::ShapeFault;
@@ -57,6 +59,14 @@ pub enum TopFault {
         code: u32,
         line: u32,
     },
+}
+
+impl From<AllocError> for TopFault {
+    ghost from_gives = { λ _ fault. fault ≡ Memory };
+
+    fn from(_: AllocError) -> TopFault {
+        TopFault::Memory
+    }
 }
 
 fn kind_text(kind: Kind) -> &'static [u8]

@@ -6,12 +6,11 @@ pub mod bound;
 pub mod check;
 pub mod fault;
 mod fixed;
-pub mod laws;
 mod record;
 
 pub use audit::write_audit;
 pub use bound::{BoundLines, write_bound, write_bound_lines};
 pub use check::write_check;
 pub use fault::{FileKind, TopFault, write_fault};
-pub use fixed::{Side, chosen_side, write_fixed};
+pub use fixed::write_fixed;
 pub use record::{write_report, write_try};

@@ -3,19 +3,17 @@ ghost use Rattle.std.specs.Prelude.{◌≡◌, ℕ, ◌+◌, ◌<◌, ◌≤◌,
 ghost use Rattle.std.specs.List.{flat_map};
 ghost use Rattle.board_history.specs.Calls.{own_rows, has_finished};
 ghost use Rattle.hull_io.specs.Edge.{Writes};
-ghost use Rattle.uc_model.specs.Data.{unit_count};
+ghost use Rattle.uc_model.specs.Data.{unit_count, thermal_names, renewable_names, bid_names};
 ghost use Rattle.uc_model.specs.PlainUnits.{schedule_of};
 ghost use Rattle.plain_lists.specs.declared.limits.TheConstants.{MOST_PROPOSALS};
 ghost use Rattle.report_form.specs.ReportText.{rows_text, head_text, chosen_text, thermal_text};
 ghost use Rattle.report_form.specs.ReportText.{renewable_text, bid_text, report_text};
-ghost use Rattle.hull_report.specs.BoundText.{IsTold};
-ghost use Rattle.hull_report.specs.RecordReport.{line_of, lines_from, thermal_names};
-ghost use Rattle.hull_report.specs.RecordReport.{renewable_names, bid_names, chosen_of, value_of};
-ghost use Rattle.hull_report.specs.RecordReport.{report_of, HasNumbers};
+ghost use Rattle.right_report.specs.RecordReport.{line_of, lines_from, chosen_of, value_of};
+ghost use Rattle.right_report.specs.RecordReport.{report_of};
+ghost use Rattle.hull_report.specs.RecordText.{HasNumbers};
 ghost use Rattle.hull_report.specs.TryText.{try_text};
 
 use board_core::Closed;
-use board_history::laws::{finished_has_row, finished_is_run, rows_are_within};
 use hull_io::{Sink, WriteFailed};
 use report_form::laws::texts_add_up;
 use report_form::report::{
@@ -23,46 +21,9 @@ use report_form::report::{
     write_thermal,
 };
 use report_form::{Part, write_parts};
-use uc_model::laws::plan_costs_are_within;
+use right_report::{Choice, choice_of};
 use uc_model::units::Answered;
 use uplift_settle::Settlement;
-
-// How many rows there are, the number from 1 of the chosen one, its value, and what the plan costs
-// above it.
-#[derive(Clone, Copy)]
-pub(crate) struct Choice {
-    pub(crate) proposals: u32,
-    pub(crate) chosen: u32,
-    pub(crate) value: i128,
-    pub(crate) gap: i128,
-}
-
-// What the record of a finished board chooses. The value is at most 10^35 in magnitude.
-pub(crate) fn choice_of(closed: &Closed) -> Choice
-    requires { has_finished closed.now ≡ true }
-    ensures proposals { result.proposals ≡ length (own_rows closed.now) }
-    ensures most { result.proposals ≤ MOST_PROPOSALS }
-    ensures chosen { result.chosen ≡ chosen_of closed.now }
-    ensures first { 1 ≤ result.chosen }
-    ensures last { result.chosen ≤ length (own_rows closed.now) }
-    ensures value { result.value ≡ value_of closed.now }
-    ensures told { IsTold result.value }
-    ensures gap { result.gap ≡ closed.now.setup.cost -ℤ value_of closed.now }
-{
-    finished_has_row();
-    finished_is_run();
-    rows_are_within();
-    plan_costs_are_within();
-    let rows = closed.rows();
-    let chosen = closed.chosen();
-    let value = rows[chosen as usize - 1].value;
-    Choice {
-        proposals: rows.len() as u32,
-        chosen,
-        value,
-        gap: closed.cost() - value,
-    }
-}
 
 // The numbers of the first lines.
 fn head_of(closed: &Closed, proposals: u32) -> Head

@@ -2,7 +2,7 @@
 use Rattle.law_outcome.proofs.Common.{◌≡◌, ℕ, ◌<◌, ◌⊎◌, inl, inr, Bool, true, false, List, [], ◌∷◌, Option, None, Some, Result, Ok, Err, refl, sym, ap, ◌∙◌, subst, arith, length, nat_lt, if◌then◌else◌, ltb-true, MOST_BYTES, Asked, AuditAsked, audit, WordFault, status_of, fault_line, IsFlatLine, HasForm, TextDeterminesReport, RightReportHasForm, ReportPaymentsMakeUpTheGap, RunPricesAreWithin, NothingIsPaidBack, UnitLine, Report, report_text, CaseFile, ScheduleFile, ReportFile, TopFault, TooBig, Unfit, End, Done, Cut, Refused, Reads, bytes_of, IsInput, IsWithinWork, IsReportFile, IsAudit, PlannedCase, command_for, IsReadOf, AreReads, with_report, HasText, Ends, status_at, OverReads, IsAuditPromised, IsWrongAt, IsAuditRefused, BytesAreThoseRead, ReportBytesAreItsText}
 use Rattle.std.specs.List.{AllByRecursion}
 use Rattle.std.proofs.lemmas.List.Elements.{All-from_recursion}
-use Rattle.hull_report.specs.RightReport.{IsRightReport}
+use Rattle.right_report.specs.RightReport.{IsRightReport}
 use Rattle.report_read.specs.Bounds.{IsOtherLine, IsReport}
 use Rattle.report_read.specs.Faults.{IsFault}
 use Rattle.audit_check.specs.Right.{DiffersFromRight}

@@ -15,9 +15,9 @@ pub use Rattle.hull_engine.specs.declared.end.End.{End}
 pub use Rattle.hull_engine.specs.declared.end.End.TheVariants.{Done, Cut, Refused, Done as done_whole}
 pub use Rattle.plain_lists.specs.declared.limits.TheConstants.{MOST_BYTES}
 pub use Rattle.hull_report.specs.FaultLines.{status_of, fault_line}
-pub use Rattle.hull_report.specs.Laws.{RightReportHasForm, ReportPaymentsMakeUpTheGap, OneIsChosen, OneRightReport}
-pub use Rattle.hull_report.specs.RightReport.{unit_lines, IsRightReport}
-pub use Rattle.hull_report.specs.RightSide.{SidePaymentsMakeUpTheGap, OneRightSide}
+pub use Rattle.right_report.specs.Laws.{RightReportHasForm, ReportPaymentsMakeUpTheGap, OneIsChosen, OneRightReport}
+pub use Rattle.right_report.specs.RightReport.{unit_lines, IsRightReport}
+pub use Rattle.right_report.specs.RightSide.{SidePaymentsMakeUpTheGap, OneRightSide}
 pub use Rattle.hull_report.specs.declared.fault.FileKind.TheVariants.{CaseFile, ScheduleFile, ReportFile}
 pub use Rattle.hull_report.specs.declared.fault.TopFault.{TopFault}
 pub use Rattle.hull_report.specs.declared.fault.TopFault.TheVariants.{TooBig, Report as Unfit, PlanRule, Words, Read, CaseText, CaseField, PlanText, PlanShape, Work, Memory, Report as report_fault}

@@ -1,8 +1,8 @@
 -- What is promised of the two runs of `hull fixed`.
 use Rattle.law_outcome.proofs.Common.{◌≡◌, ℕ, ◌-◌, ◌≤◌, List, Option, Result, Ok, refl, sym, ◌∙◌, subst, arith, pos, Market, Schedule, RunPricesAreWithin, NothingIsPaidBack, WordsHaveSizes, IsFeasiblePlan, plan_cost, fixed_market, Asked, PriceAsked, fixed, words_of, WordFault, SidePaymentsMakeUpTheGap, End, done_whole, Cut, Refused, OverReads, IsFixedPromised, command_for, IsFixedText, AreReads, Ends, status_at, Reads, PlannedCase}
 use Rattle.uc_model.specs.Laws.{ReserveFrom0}
-use Rattle.hull_report.specs.FixedText.{ToldSide}
-use Rattle.hull_report.specs.RightSide.{IsRightSide}
+use Rattle.right_report.specs.RightSide.{ToldSide}
+use Rattle.right_report.specs.RightSide.{IsRightSide}
 use Rattle.law_outcome.specs.Laws.{PaysFrom0}
 use Rattle.law_outcome.proofs.OutcomeLaws.{status_within, accepted_is_feasible}
 

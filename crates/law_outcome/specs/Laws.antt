@@ -24,10 +24,11 @@ use Rattle.gap_proof.specs.Laws.{IsBoundRound}
 use Rattle.hull_report.specs.AuditText.{audit_text}
 use Rattle.hull_report.specs.BoundText.{bound_text}
 use Rattle.hull_report.specs.FaultLines.{status_of, fault_line}
-use Rattle.hull_report.specs.FixedText.{ToldSide, fixed_text}
+use Rattle.right_report.specs.RightSide.{ToldSide}
+use Rattle.hull_report.specs.FixedText.{fixed_text}
 use Rattle.report_form.specs.ReportText.{UnitLine, Report, report_text}
-use Rattle.hull_report.specs.RightReport.{IsRightReport, unit_lines}
-use Rattle.hull_report.specs.RightSide.{IsRightSide, IsMadeUp}
+use Rattle.right_report.specs.RightReport.{IsRightReport, unit_lines}
+use Rattle.right_report.specs.RightSide.{IsRightSide, IsMadeUp}
 use Rattle.hull_report.specs.declared.fault.FileKind.{FileKind}
 use Rattle.hull_report.specs.declared.fault.FileKind.TheVariants.{CaseFile, ScheduleFile}
 use Rattle.hull_report.specs.declared.fault.FileKind.TheVariants.{ReportFile}

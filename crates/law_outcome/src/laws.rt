@@ -9,10 +9,7 @@ ghost use Rattle.law_outcome.specs.Laws.{WorkersAreFree};
 use gap_proof::laws::{run_bounds_hold, run_prices_are_within};
 use hull_engine::laws::{bytes_are_those_read, report_bytes_are_its_text, words_have_sizes};
 use hull_io::{Shelf, Sink};
-use hull_report::laws::{
-    one_report_is_right, one_row_is_chosen, one_side_is_right, report_payments_make_up_the_gap,
-    right_report_has_form, side_payments_make_up_the_gap,
-};
+use right_report::laws::{one_report_is_right, one_row_is_chosen, one_side_is_right, report_payments_make_up_the_gap, right_report_has_form, side_payments_make_up_the_gap};
 use plan_check::laws::refusals_are_exact;
 use report_form::laws::text_determines_the_report;
 use report_read::laws::{one_line_differs, one_line_is_in_fault, one_report_has_a_text};

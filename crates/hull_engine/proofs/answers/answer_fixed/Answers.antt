@@ -1,4 +1,4 @@
-use Rattle.hull_engine.proofs.Common.{Result, Ok, Err, inr, ap, ◌∙◌, err_from_is_err_and, TopFault, RunInput, RunSize, planned_of, IsInput, IsWithinWork}
+use Rattle.hull_engine.proofs.Common.{refl, Result, Ok, Err, inr, ap, ◌∙◌, err_from_is_err_and, TopFault, RunInput, RunSize, planned_of, IsInput, IsWithinWork}
 use Rattle.hull_engine.proofs.Lemmas.{sides_paid, fixed_texts, refused_then, answer_then}
 use Rattle.hull_engine.proofs.answers.answer_fixed.Goals as goal
 
@@ -24,7 +24,7 @@ pub returns-in_err-compared_runs-clause-answers : goal.returns-in_err-compared_r
 returns-in_err-compared_runs-clause-answers g c =
     let p = err_from_is_err_and c.from_residual-in_err-compared_runs.result c.from_residual-in_err-compared_runs.ensures.1 in
     let h = rw (c.as_str-case_name.ensures, c.as_str-schedule_name.ensures) at c.in_ok-input.ensures.answers in
-    rw (p.1, p.2) (h.0, h.1, inr c.in_err-compared_runs.ensures.starved)
+    rw (p.1, p.2) (h.0, h.1, inr refl)
 
 pub returns-clause-answers : goal.returns-clause-answers
 returns-clause-answers g c =
@@ -38,10 +38,10 @@ returns-clause-answers g c =
         planned_of c.in_ok-run.run'.input,
         answer_then (IsInput h.0) (IsWithinWork words.proposals) (planned_of c.in_ok-input.input) (λ (r : RunInput). planned_of r.input) run h.2
             (rw c.price_size.ensures.proposals at c.in_ok-run.ensures.answers),
-        fixed_texts c.in_ok-run.run' c.in_ok-compared_runs.field-0 words.proposals words.ahead c.in_ok-compared_runs.ensures.sides
+        fixed_texts c.in_ok-run.run' c.in_ok-compared_runs.field-0 words.proposals words.ahead c.in_ok-compared_runs.ensures
             (ap (λ (s : RunSize). s.proposals) size ∙ c.price_size.ensures.proposals) (ap (λ (s : RunSize). s.ahead) size ∙ c.price_size.ensures.ahead),
       ),
     )
 
 pub returns-clause-answered : goal.returns-clause-answered
-returns-clause-answered g c = sides_paid c.in_ok-run.run' c.in_ok-compared_runs.field-0 c.in_ok-compared_runs.ensures.sides
+returns-clause-answered g c = sides_paid c.in_ok-run.run' c.in_ok-compared_runs.field-0 c.in_ok-compared_runs.ensures

@@ -1,5 +1,5 @@
 use Rattle.hull_engine.proofs.Common.{rules, refl, w64, w128, to_z-of_z, market_of, told_of, fixed_text, report_text, try_text}
-use Rattle.hull_report.specs.RecordReport.{report_of}
+use Rattle.right_report.specs.RecordReport.{report_of}
 use Rattle.hull_engine.proofs.Lemmas.{run_text, written_bound, bound_written}
 use Rattle.hull_engine.proofs.end.write_answer.Goals as goal
 

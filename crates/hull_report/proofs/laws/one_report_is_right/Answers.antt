@@ -1,5 +1,0 @@
-use Rattle.hull_report.proofs.Lemmas.{one_right_report}
-use Rattle.hull_report.proofs.laws.one_report_is_right.Goals as goal
-
-pub returns : goal.returns
-returns c = one_right_report c.one_schedule_is_least.ensures

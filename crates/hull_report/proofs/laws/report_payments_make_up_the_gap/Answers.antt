@@ -1,5 +1,0 @@
-use Rattle.hull_report.proofs.Lemmas.{report_payments}
-use Rattle.hull_report.proofs.laws.report_payments_make_up_the_gap.Goals as goal
-
-pub returns : goal.returns
-returns c = report_payments c.payments_make_up_the_gap.ensures

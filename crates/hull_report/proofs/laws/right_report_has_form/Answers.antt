@@ -1,5 +1,0 @@
-use Rattle.hull_report.proofs.RightForm.{right_has_form}
-use Rattle.hull_report.proofs.laws.right_report_has_form.Goals as goal
-
-pub returns : goal.returns
-returns c = right_has_form

@@ -1,2 +1,0 @@
--- what exists
-pub mod Laws

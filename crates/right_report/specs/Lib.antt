@@ -1,0 +1,6 @@
+pub mod Told
+pub mod RightReport
+pub mod RecordReport
+pub mod RightSide
+pub mod Laws
+pub mod Existence
