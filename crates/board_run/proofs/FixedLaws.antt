@@ -126,12 +126,12 @@ held_input run i ready planned same = record {
   feasible = planned.feasible;
   cost_is = planned.cost;
   within = ready.size;
-  work = subst (λ (p : PlannedCase). run.size.proposals * unit_count p.market * p.market.periods ≤ MOST_WORK) (sym same) ready.work;
+  work = subst (λ (p : PlannedCase). run.size.budget * unit_count p.market * p.market.periods ≤ MOST_WORK) (sym same) ready.work;
 }
 
 -- what its board is made for
 pub held_setup : CommitmentsAreFixed → (given : Case) (plan : Plan) (cost : ℤ) (size : RunSize) (held : Case) → IsHeldInput given plan cost size → market_of held ≡ fixed_market (market_of given) (schedules_of plan)
-    → IsSetup (setup_for held plan cost size.proposals size.ahead size.workers)
+    → IsSetup (setup_for held plan cost size.budget size.ahead size.callers)
 held_setup law given plan cost size held h same =
     let m = market_of given in
     let fixing = law m (schedules_of plan) given.valid h.feasible in
@@ -146,14 +146,14 @@ held_setup law given plan cost size held h same =
       ahead = h.within.ahead_in.at_most;
       some_caller = h.within.workers_in.at_least;
       callers = omega (arith, most);
-      size = subst (λ (x : Market). size.proposals * unit_count x * x.periods ≤ MOST_WORK) (sym same)
-          (subst (λ (k : ℕ). size.proposals * k * m.periods ≤ MOST_WORK) (sym fixing.count) h.work);
+      size = subst (λ (x : Market). size.budget * unit_count x * x.periods ≤ MOST_WORK) (sym same)
+          (subst (λ (k : ℕ). size.budget * k * m.periods ≤ MOST_WORK) (sym fixing.count) h.work);
     }
 
 -- and what that is
 pub held_opened : {E : Type 0} (given : Case) (plan : Plan) (cost shown : ℤ) (size : RunSize) (held : Case) → market_of held ≡ fixed_market (market_of given) (schedules_of plan) → shown ≡ cost
-    → (r : Result Setup E) → IfOk r (λ b. b ≡ setup_for held plan shown size.proposals size.ahead size.workers) → IfOk r (IsHeldRun given plan cost size)
-held_opened given plan cost shown size held same e (Ok b) is = (held, same, is ∙ ap (λ (k : ℤ). setup_for held plan k size.proposals size.ahead size.workers) e)
+    → (r : Result Setup E) → IfOk r (λ b. b ≡ setup_for held plan shown size.budget size.ahead size.callers) → IfOk r (IsHeldRun given plan cost size)
+held_opened given plan cost shown size held same e (Ok b) is = (held, same, is ∙ ap (λ (k : ℤ). setup_for held plan k size.budget size.ahead size.callers) e)
 held_opened given plan cost shown size held same e (Err f) is = tt
 
 -- the side of a run of that
@@ -167,7 +167,7 @@ module _ (given : Case) (plan : Plan) (cost : ℤ) (size : RunSize) (b : Setup) 
   pub fixed_right : (c : Setup) (s : Side) → c ≡ b → IsRightSide (market_of given) c.market c.plan c.budget c.ahead (told_of s) → length s.settlement.payments.items ≡ unit_count (market_of given)
       → IsFixedSide (market_of given) (schedules_of plan) size s
   fixed_right c s is right count = record {
-    right = subst (λ (m : Market). IsRightSide (market_of given) m (schedules_of plan) size.proposals size.ahead (told_of s)) run.1
+    right = subst (λ (m : Market). IsRightSide (market_of given) m (schedules_of plan) size.budget size.ahead (told_of s)) run.1
         (subst (λ (x : Setup). IsRightSide (market_of given) x.market x.plan x.budget x.ahead (told_of s)) (is ∙ run.2) right);
     count = count;
   }

@@ -20,7 +20,7 @@ use Rattle.board_run.specs.Sizes.{IsRunSize}
 -- a side that is right, with a payment for each unit and bid of the case as given
 pub record IsPaidSide (given ran : Market) (plan : List Schedule) (size : RunSize)
     (s : Side) : Type 0 where
-  pub right : IsRightSide given ran plan size.proposals size.ahead (told_of s)
+  pub right : IsRightSide given ran plan size.budget size.ahead (told_of s)
   pub count : length s.settlement.payments.items ≡ unit_count given
 
 -- the side of the run of an input
@@ -37,14 +37,14 @@ IsFixedSide given plan size s = IsPaidSide given (fixed_market given plan) plan 
 pub record IsHeldInput (given : Case) (plan : Plan) (cost : ℤ) (size : RunSize) : Type 0 where
   pub feasible : IsFeasiblePlan (market_of given) (schedules_of plan)
   pub cost_is : cost ≡ plan_cost (market_of given) (schedules_of plan)
-  pub within : IsRunSize size.proposals size.workers size.ahead
-  pub work : size.proposals * unit_count (market_of given) * (market_of given).periods ≤ MOST_WORK
+  pub within : IsRunSize size.budget size.callers size.ahead
+  pub work : size.budget * unit_count (market_of given) * (market_of given).periods ≤ MOST_WORK
 
 -- what its board is made for: a case that is the one with commitments held
 abbrev pub IsHeldRun : Case → Plan → ℤ → RunSize → Setup → Type 0
 IsHeldRun given plan cost size b =
     (held : Case) × (market_of held ≡ fixed_market (market_of given) (schedules_of plan))
-    × (b ≡ setup_for held plan cost size.proposals size.ahead size.workers)
+    × (b ≡ setup_for held plan cost size.budget size.ahead size.callers)
 
 -- both sides of an input
 pub record AreSides (run : RunInput) (s : Sides) : Type 0 where

@@ -32,6 +32,6 @@ pub record IsPlanned (input : Input) : Type 0 where
 -- and the numbers of the run are within their limits
 pub record IsRunInput (run : RunInput) : Type 0 where
   pub planned : IsPlanned run.input
-  pub size : IsRunSize run.size.proposals run.size.workers run.size.ahead
-  pub work : run.size.proposals * unit_count (market_of run.input.case)
+  pub size : IsRunSize run.size.budget run.size.callers run.size.ahead
+  pub work : run.size.budget * unit_count (market_of run.input.case)
       * (market_of run.input.case).periods ≤ MOST_WORK

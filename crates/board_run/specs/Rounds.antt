@@ -12,8 +12,8 @@ use Rattle.board_run.specs.declared.run.Done.{Done}
 -- what the run of an input is for: one caller for each worker
 abbrev pub setup_of : RunInput → Setup
 setup_of run =
-    setup_for run.input.case run.input.plan run.input.cost run.size.proposals run.size.ahead
-    run.size.workers
+    setup_for run.input.case run.input.plan run.input.cost run.size.budget run.size.ahead
+    run.size.callers
 
 -- a run that has ended: its record is finished and settled at the chosen prices
 pub record IsEnded (b : Setup) (d : Done) : Type 0 where

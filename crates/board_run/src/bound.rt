@@ -10,7 +10,7 @@ ghost use Rattle.board_run.specs.Inputs.{IsRunInput};
 ghost use Rattle.board_run.specs.Rounds.{setup_of};
 
 use crate::input::RunInput;
-use crate::run::{Done, open, run_board};
+use crate::run::{Done, open_run, run_board};
 use answer_workers::Gate;
 use board_core::Closed;
 use board_history::laws::{finished_has_row, finished_is_run, rows_are_within};
@@ -64,7 +64,7 @@ pub fn bounded_run<R: Threads + Wait + Sync, G: Gate>(
     ensures { IfOk result (λ bounded. IsBounded (setup_of run) radius bounded) }
 {
     let mut work = Amounts::filled(alloc, 2 * run.input.case.periods, 0)?;
-    let opened = open(alloc, run)?;
+    let opened = open_run(alloc, run)?;
     let done = run_board(rt, opened, gate);
     let certified = certify(&done.closed, radius, &mut work);
     Ok(Bounded {

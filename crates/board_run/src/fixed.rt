@@ -14,7 +14,7 @@ ghost use Rattle.board_run.specs.Inputs.{planned_in, planned_of, IsPlanned, IsRu
 ghost use Rattle.board_run.specs.Rounds.{IsEnded};
 
 use crate::input::{Input, RunInput, RunSize, unit_count};
-use crate::run::{Done, Run, open, run_board};
+use crate::run::{Done, Run, open_run, run_board};
 use answer_workers::Gate;
 use case_answers::earn_all;
 use fixed_price::fix_case;
@@ -79,7 +79,7 @@ fn hull_side<R: Threads + Wait + Sync, G: Gate>(
     ensures planned { IfOk result (λ r. IsPlanned r.1) }
 {
     let room = Prices::make(alloc, run.input.case.periods)?;
-    let opened = open(alloc, run)?;
+    let opened = open_run(alloc, run)?;
     Ok(own_side(run_board(rt, opened, gate), room))
 }
 
@@ -144,7 +144,7 @@ fn held_run(
     commitments_are_fixed();
     let case = fix_case(alloc, given, &plan)?;
     let input = Input { case, plan, cost };
-    open(alloc, RunInput { input, size })
+    open_run(alloc, RunInput { input, size })
 }
 
 /// Runs the board of a case with the commitments of its schedule held. The memory that is needed

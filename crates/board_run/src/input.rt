@@ -14,13 +14,13 @@ pub struct Input {
     pub cost: i128,
 }
 
-/// How large a run is: the most proposals, the number of workers, and how many proposals may be
-/// open ahead of the last answered one.
+/// How large a run is: the most proposals, how many of them may be open ahead of the last answered
+/// one, and how many callers its board has: one for each worker.
 #[derive(Clone, Copy)]
 pub struct RunSize {
-    pub proposals: u32,
-    pub workers: u32,
+    pub budget: u32,
     pub ahead: u32,
+    pub callers: u32,
 }
 
 /// An input, and how large its run is.

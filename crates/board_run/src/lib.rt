@@ -14,4 +14,4 @@ mod run;
 pub use bound::{Bounded, bounded_run};
 pub use fixed::{Sides, compared_runs};
 pub use input::{Input, RunInput, RunSize, unit_count};
-pub use run::{Done, Run, open, open_run, run_board};
+pub use run::{Done, Run, open_run, run_board};

@@ -2,7 +2,7 @@
 //! settlement at the prices that it chooses.
 ghost use Rattle.std.specs.Prelude.{◌≡◌, ◌+◌, ◌<◌, ◌≤◌, ℕ, true, length, IfOk};
 ghost use Rattle.board_history.specs.Calls.{own_rows, has_finished};
-ghost use Rattle.board_core.specs.Boards.{setup_for, kept_answer};
+ghost use Rattle.board_core.specs.Boards.{kept_answer};
 ghost use Rattle.board_core.specs.Setups.{IsSetup};
 ghost use Rattle.uc_model.specs.Data.{unit_count as units_in};
 ghost use Rattle.uc_model.specs.PlainCases.{market_of};
@@ -14,7 +14,7 @@ ghost use Rattle.board_run.specs.Crews.{IsCrew};
 ghost use Rattle.board_run.specs.Rounds.{setup_of, IsEnded};
 
 use crate::crew::{answer_board, hire};
-use crate::input::{Input, RunInput, RunSize, unit_count};
+use crate::input::{Input, RunInput, unit_count};
 use answer_workers::{Gate, Worker, most_points};
 use board_core::{Board, Closed};
 use board_history::laws::{finished_has_row, rows_are_within};
@@ -26,7 +26,7 @@ use std::alloc::{AllocError, Global};
 use std::marker::Model;
 use std::sync::Wait;
 use std::thread::Threads;
-use uc_model::cases::{Case, Plan};
+use uc_model::cases::Case;
 use uc_model::units::Answered;
 use unit_program::Bench;
 use uplift_settle::{Settlement, settle};
@@ -104,18 +104,18 @@ fn staff(alloc: Global, run: RunInput) -> Result<(SharedBoard, Vec<Worker>), All
         case,
         plan,
         cost,
-        size.proposals,
+        size.budget,
         size.ahead,
-        size.workers,
+        size.callers,
     )?;
     let (board, owner) = SharedBoard::make(alloc, board)?;
-    let workers = hire(alloc, &board, owner, size.workers, thermal, periods, points)?;
+    let workers = hire(alloc, &board, owner, size.callers, thermal, periods, points)?;
     Ok((board, workers))
 }
 
 /// Opens the run of an input: takes all memory that the run needs to its end. `AllocError` is want
 /// of memory; the input is then dropped.
-pub fn open(alloc: Global, run: RunInput) -> Result<Run, AllocError>
+pub fn open_run(alloc: Global, run: RunInput) -> Result<Run, AllocError>
     requires { IsSetup (setup_of run) }
     ensures { IfOk result (λ opened. opened ≡ setup_of run) }
 {
@@ -128,30 +128,6 @@ pub fn open(alloc: Global, run: RunInput) -> Result<Run, AllocError>
         settlement,
         earned,
     })
-}
-
-/// Opens a run for a case with a feasible schedule of that cost: at most so many proposals, of
-/// which `ahead` may be open ahead of the answered ones, and so many workers. All memory of the run
-/// is taken here. `AllocError` is want of it; the case and the schedule are then dropped.
-pub fn open_run(
-    alloc: Global,
-    case: Case,
-    plan: Plan,
-    cost: i128,
-    proposals: u32,
-    workers: u32,
-    ahead: u32,
-) -> Result<Run, AllocError>
-    requires { IsSetup (setup_for case plan cost proposals ahead workers) }
-    ensures { IfOk result (λ run. run ≡ setup_for case plan cost proposals ahead workers) }
-{
-    let size = RunSize {
-        proposals,
-        workers,
-        ahead,
-    };
-    let input = Input { case, plan, cost };
-    open(alloc, RunInput { input, size })
 }
 
 /// Leaves what each unit earns at best at the prices of a row, in money and in the order of the

@@ -5,7 +5,7 @@ use Rattle.board_run.specs.Compared.{AreSides, ArePaid}
 use Rattle.board_run.specs.declared.fixed.Sides.{Sides}
 
 -- the texts of a run are those of its input, with the numbers of the words
-pub run_texts : (text_of : Report → List ℕ) (run : RunInput) (b : Setup) (budget ahead : ℕ) → b ≡ setup_of run → run.size.proposals ≡ budget → run.size.ahead ≡ ahead
+pub run_texts : (text_of : Report → List ℕ) (run : RunInput) (b : Setup) (budget ahead : ℕ) → b ≡ setup_of run → run.size.budget ≡ budget → run.size.ahead ≡ ahead
     → (text : List ℕ) → IsRunText text_of b text → IsReportText text_of budget ahead (planned_of run.input) text
 run_texts text_of run b budget ahead same e f text is =
     subst (λ (n : ℕ). IsReportText text_of budget n (planned_of run.input) text) f
@@ -13,7 +13,7 @@ run_texts text_of run b budget ahead same e f text is =
     (subst (λ (x : Setup). IsRunText text_of x text) same is))
 
 -- and so are those of a bound round its chosen prices
-pub bound_texts : (run : RunInput) (b : Setup) (budget ahead : ℕ) (held radius : ℤ) → b ≡ setup_of run → run.size.proposals ≡ budget → run.size.ahead ≡ ahead → held ≡ radius
+pub bound_texts : (run : RunInput) (b : Setup) (budget ahead : ℕ) (held radius : ℤ) → b ≡ setup_of run → run.size.budget ≡ budget → run.size.ahead ≡ ahead → held ≡ radius
     → (text : List ℕ) → IsBoundText b.budget b.ahead held (planned_in b) text → IsBoundText budget ahead radius (planned_of run.input) text
 bound_texts run b budget ahead held radius same e f g text is =
     subst (λ (q : ℤ). IsBoundText budget ahead q (planned_of run.input) text) g
@@ -28,7 +28,7 @@ sides_paid run s h =
     let same = ap unit_count (sym h.case) in
     record { hull = h.hull.count ∙ same; fixed = h.fixed.count ∙ same }
 
-pub fixed_texts : (run : RunInput) (s : Sides) (budget ahead : ℕ) → AreSides run s → run.size.proposals ≡ budget → run.size.ahead ≡ ahead
+pub fixed_texts : (run : RunInput) (s : Sides) (budget ahead : ℕ) → AreSides run s → run.size.budget ≡ budget → run.size.ahead ≡ ahead
     → (text : List ℕ) → text ≡ fixed_text (market_of s.case) s.cost (told_of s.hull) (told_of s.fixed) → IsFixedText budget ahead (planned_of run.input) text
 fixed_texts run s budget ahead h e f text is =
     subst (λ (n : ℕ). IsFixedText budget n (planned_of run.input) text) f

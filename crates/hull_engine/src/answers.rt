@@ -21,7 +21,7 @@ use crate::input::within_work;
 use crate::workers::useful_workers;
 use answer_workers::Gate;
 use board_run::{
-    Bounded, Done, Input, RunInput, RunSize, Sides, bounded_run, compared_runs, open, run_board,
+    Bounded, Done, Input, RunInput, RunSize, Sides, bounded_run, compared_runs, open_run, run_board,
 };
 use case_make::make_case;
 use hull_io::Shelf;
@@ -77,7 +77,7 @@ fn ended_run<R: Threads + Wait + Sync, G: Gate>(
     ensures ended { IfOk result (λ done. IsEnded (setup_of run) done) }
     ensures starved { IfErr result (λ fault. fault ≡ TopFault.Memory) }
 {
-    let opened = open(alloc, run)?;
+    let opened = open_run(alloc, run)?;
     Ok(run_board(rt, opened, gate))
 }
 
@@ -101,13 +101,13 @@ fn answer_check<F: Shelf>(
 /// How large a run of `hull price` is, and of `hull fixed`.
 fn price_size<R: Threads>(rt: &R, words: &PriceWords) -> RunSize
     requires { IsWorkers words.now.workers }
-    ensures proposals { result.proposals ≡ words.now.proposals }
-    ensures workers { IsWorkers result.workers }
+    ensures proposals { result.budget ≡ words.now.proposals }
+    ensures workers { IsWorkers result.callers }
     ensures ahead { result.ahead ≡ words.now.ahead }
 {
     RunSize {
-        proposals: words.proposals,
-        workers: useful_workers(rt, words.workers),
+        budget: words.proposals,
+        callers: useful_workers(rt, words.workers),
         ahead: words.ahead,
     }
 }
@@ -203,8 +203,8 @@ fn answer_try<R: Threads + Wait + Sync, G: Gate>(
         return Err(TopFault::Memory);
     };
     let size = RunSize {
-        proposals: words.proposals,
-        workers: useful_workers(rt, words.workers),
+        budget: words.proposals,
+        callers: useful_workers(rt, words.workers),
         ahead: words.ahead,
     };
     let run = within_work(input, size)?;
@@ -230,8 +230,8 @@ fn answer_audit<R: Threads + Wait + Sync, F: Shelf>(
     let input = read_input(alloc, shelf, case_name, schedule_name)?;
     let report = read_report_file(alloc, shelf, report_name)?;
     let size = RunSize {
-        proposals: report.budget,
-        workers: useful_workers(rt, words.workers),
+        budget: report.budget,
+        callers: useful_workers(rt, words.workers),
         ahead: report.ahead,
     };
     let run = within_work(input, size)?;

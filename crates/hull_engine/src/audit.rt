@@ -71,7 +71,7 @@ pub fn right_proposals<R: Threads + Wait + Sync>(
 {
     let input = &run.input;
     let case = &input.case;
-    let jobs = job_count(case, run.size.workers);
+    let jobs = job_count(case, run.size.callers);
     let Ok(benches) = benches_for(alloc, case, jobs) else {
         return Err(TopFault::Memory);
     };

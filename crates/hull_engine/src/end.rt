@@ -15,8 +15,11 @@ use answer_workers::Gate;
 use board_core::Closed;
 use board_run::{Bounded, Done, Run, run_board};
 use hull_io::{Sink, WriteFailed};
+use hull_report::{
+    TopFault, write_audit, write_bound, write_check, write_fault, write_fixed, write_report,
+    write_try,
+};
 use right_report::laws::{record_report_is_right, settlements_are_of_all_units};
-use hull_report::{TopFault, write_audit, write_bound, write_check, write_fault, write_fixed, write_report, write_try};
 use std::sync::Wait;
 use std::thread::Threads;
 

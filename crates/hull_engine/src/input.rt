@@ -23,15 +23,15 @@ fn work_of(proposals: u32, units: u32, periods: u32) -> u64
 /// The input with the size of its run, where that is within the limit of work.
 pub fn within_work(input: Input, size: RunSize) -> Result<RunInput, TopFault>
     requires planned { IsPlanned input }
-    requires size { IsRunSize size.proposals size.workers size.ahead }
-    ensures answers { IsAnswer (IsWithinWork size.proposals (planned_of input))
+    requires size { IsRunSize size.budget size.callers size.ahead }
+    ensures answers { IsAnswer (IsWithinWork size.budget (planned_of input))
         (λ (run : RunInput). planned_of run.input) result }
     ensures ready { IfOk result (λ run. IsRunInput run) }
     ensures size { IfOk result (λ run. run.size ≡ size) }
 {
     let units = unit_count(&input.case);
     let periods = input.case.periods;
-    let proposals = size.proposals;
+    let proposals = size.budget;
     if work_of(proposals, units, periods) > MOST_WORK {
         return Err(TopFault::Work {
             proposals,

@@ -1,8 +1,23 @@
-use Rattle.board_run.proofs.Common.{rules, w128, to_z-of_z}
+use Rattle.board_run.proofs.Common.{◌+◌, sym, length, subst, Setup, IsCrew, setup_of}
+use Rattle.board_run.specs.Rooms.{HasRoom}
+use Rattle.board_run.proofs.Lemmas.{crew_names}
 use Rattle.board_run.proofs.run.open_run.Goals as goal
 
-pub open-requires : goal.open-requires
-open-requires c = rw (to_z-of_z w128 c.args.cost (search rules)) c.requires
+pub invariant_of-result : goal.invariant_of-result
+invariant_of-result c =
+    let board = c.in_ok-board.board in
+    let ws = c.in_ok-board.workers.items in
+    let names = crew_names (setup_of c.args.run) board ws c.in_ok-board.ensures in
+    let earned = length c.in_ok-buffer.earned.items + c.in_ok-buffer.earned.spare in
+    let rooms : HasRoom (setup_of c.args.run) c.in_ok-buffer.buffer c.in_ok-buffer.settlement earned = record {
+      horizon = c.in_ok-buffer.ensures.horizon;
+      scheduled = c.in_ok-buffer.ensures.scheduled;
+      payments = c.in_ok-buffer.ensures.payments;
+      numbers = c.in_ok-buffer.ensures.numbers;
+    } in (
+      subst (λ (b : Setup). IsCrew b board ws) (sym names) c.in_ok-board.ensures,
+      subst (λ (b : Setup). HasRoom b c.in_ok-buffer.buffer c.in_ok-buffer.settlement earned) (sym names) rooms,
+    )
 
 pub returns : goal.returns
-returns c = rw (to_z-of_z w128 c.args.cost (search rules)) at c.open.ensures
+returns c = crew_names (setup_of c.args.run) c.in_ok-board.board c.in_ok-board.workers.items c.in_ok-board.ensures

@@ -39,7 +39,7 @@ returns-clause-answers g c =
         answer_then (IsInput h.0) (IsWithinWork words.run.proposals) (planned_of c.in_ok-input.input) (λ (r : RunInput). planned_of r.input) run h.2
             (rw c.price_size.ensures.proposals at c.in_ok-run.ensures.answers),
         bound_texts c.in_ok-run.run' c.in_ok-bounded_run.field-0.done.closed.setup words.run.proposals words.run.ahead c.in_ok-bounded_run.field-0.radius words.radius c.in_ok-bounded_run.ensures.ended.setup
-            (ap (λ (s : RunSize). s.proposals) size ∙ c.price_size.ensures.proposals) (ap (λ (s : RunSize). s.ahead) size ∙ c.price_size.ensures.ahead)
+            (ap (λ (s : RunSize). s.budget) size ∙ c.price_size.ensures.proposals) (ap (λ (s : RunSize). s.ahead) size ∙ c.price_size.ensures.ahead)
             (rw (to_z-of_z w64 words.radius (search rules)) at c.in_ok-bounded_run.ensures.radius_is),
       ),
     )

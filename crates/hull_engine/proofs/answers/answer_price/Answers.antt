@@ -39,6 +39,6 @@ returns-clause-answers g c =
         answer_then (IsInput h.0) (IsWithinWork words.proposals) (planned_of c.in_ok-input.input) (λ (r : RunInput). planned_of r.input) run h.2
             (rw c.price_size.ensures.proposals at c.in_ok-run.ensures.answers),
         run_texts report_text c.in_ok-run.run' c.in_ok-ended_run.field-0.closed.setup words.proposals words.ahead c.in_ok-ended_run.ensures.ended.setup
-            (ap (λ (s : RunSize). s.proposals) size ∙ c.price_size.ensures.proposals) (ap (λ (s : RunSize). s.ahead) size ∙ c.price_size.ensures.ahead),
+            (ap (λ (s : RunSize). s.budget) size ∙ c.price_size.ensures.proposals) (ap (λ (s : RunSize). s.ahead) size ∙ c.price_size.ensures.ahead),
       ),
     )

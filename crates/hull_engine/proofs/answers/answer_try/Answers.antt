@@ -27,5 +27,5 @@ returns-clause-answers g c reads =
       answer_then (IsMade words.number) (IsWithinWork words.proposals) (planned_of c.in-Ok.input) (λ (r : RunInput). planned_of r.input) run
           (c.in-Ok.ensures.planned.feasible, c.in-Ok.ensures.made) c.in_ok-run.ensures.answers,
       run_texts (try_text words.number) c.in_ok-run.run' c.in_ok-ended_run.field-0.closed.setup words.proposals words.ahead c.in_ok-ended_run.ensures.ended.setup
-          (ap (λ (s : RunSize). s.proposals) size) (ap (λ (s : RunSize). s.ahead) size),
+          (ap (λ (s : RunSize). s.budget) size) (ap (λ (s : RunSize). s.ahead) size),
     )
