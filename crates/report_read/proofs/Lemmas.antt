@@ -5,4 +5,4 @@ pub use Rattle.report_read.proofs.Narrow.{below_least, above_most, within, count
 pub use Rattle.report_read.proofs.OneFault.{one_fault, one_difference}
 pub use Rattle.report_read.proofs.RowForms.{row_shortens, prices_are, totals_are, prices_valid, energy_zero, reserve_zero}
 pub use Rattle.report_read.proofs.UnitForms.{powers_are, length-replicate, flags_are}
-pub use Rattle.report_read.proofs.WholeForm.{has_form, head_is, head_shorter, units_order, all_takes, is_fault, left_within, never_both, one_read}
+pub use Rattle.report_read.proofs.WholeForm.{has_form, head_is, head_shorter, units_order, all_takes, is_fault, report_or_fault, left_within, never_both, one_read}

@@ -1,6 +1,6 @@
 -- The whole report: a report within the bounds is read from its text and from nothing else, and where reading stops stands
 -- the first line in fault.
-use Rattle.report_read.proofs.Common.{◌≡◌, ℕ, suc, ◌+◌, ◌-◌, ◌≤◌, true, false, cond, ℤ, pos, List, [], ◌∷◌, ◌++◌, length, map, take, replicate, codes, Ok, Err, refl, sym, ap, ◌∙◌, subst, arith, append_assoc, length-append, inl, inr, flat_map, AllByRecursion, append-nil, take_at, All-from_recursion, Kind, Proposal, Head, UnitLine, Report, head_text, rows_text, chosen_text, thermal_text, renewable_text, bid_text, foot_text, report_text, Foot, Told, rank, same_kind, lines_of, IsList, IsProposal, IsTold, IsThermalLine, IsOtherLine, IsReport, AreInOrder, IsLine, AreLines, line_feeds, Begins, IsFault, value_line, line, then_lines, head_at, rows_at, units_at, foot_at, made_report, report_at, if_no_more, all_of}
+use Rattle.report_read.proofs.Common.{◌≡◌, ℕ, suc, ◌+◌, ◌-◌, ◌≤◌, ◌⊎◌, true, false, cond, ℤ, pos, List, [], ◌∷◌, ◌++◌, length, map, take, replicate, codes, Ok, Err, refl, sym, ap, ◌∙◌, subst, arith, append_assoc, length-append, inl, inr, flat_map, AllByRecursion, append-nil, take_at, All-from_recursion, Kind, Proposal, Head, UnitLine, Report, head_text, rows_text, chosen_text, thermal_text, renewable_text, bid_text, foot_text, report_text, Foot, Told, rank, same_kind, lines_of, IsList, IsProposal, IsTold, IsThermalLine, IsOtherLine, IsReport, AreInOrder, IsLine, AreLines, line_feeds, Begins, IsFault, value_line, line, then_lines, head_at, rows_at, units_at, foot_at, made_report, report_at, if_no_more, all_of}
 use Rattle.uc_model.specs.declared.kinds.Kind.TheVariants as kinds
 use Rattle.report_form.specs.Laws.{HasForm, IsFlatLine}
 use Rattle.report_read.proofs.Forms.{bind_ok, bind_err, good, ok_is, Form, then_form, making_form}
@@ -418,6 +418,14 @@ is_fault bytes left e =
       begins = s.begins;
       fails = s.fails;
     }
+
+-- bytes are read or refused
+pub report_or_fault : (bytes : List ℕ) → ((r : Report) × IsReport r × (bytes ≡ report_text r)) ⊎ ((line : ℕ) × IsFault bytes line)
+report_or_fault bytes =
+    elim (all_of bytes) as (λ found. all_of bytes ≡ found → ((r : Report) × IsReport r × (bytes ≡ report_text r)) ⊎ ((line : ℕ) × IsFault bytes line)) [
+      | Ok r ↦ λ read. (let t = all_takes bytes r read in inl (r, t.1, t.0))
+      | Err left ↦ λ read. inr (suc (line_feeds (take (length bytes - left) bytes)), is_fault bytes left read)
+    ] refl
 
 pub left_within : (bytes : List ℕ) (left : ℕ) → all_of bytes ≡ Err left → left ≤ length bytes
 left_within bytes left e =

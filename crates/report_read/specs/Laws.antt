@@ -1,5 +1,5 @@
 -- What holds of every report within the bounds. Each law is the clause of a public function.
-use Rattle.std.specs.Prelude.{◌≡◌, ℕ, List}
+use Rattle.std.specs.Prelude.{◌≡◌, ◌⊎◌, ℕ, List}
 use Rattle.report_form.specs.ReportText.{Report, report_text}
 use Rattle.report_read.specs.Bounds.{IsReport}
 use Rattle.report_read.specs.Differences.{DiffersAt}
@@ -8,6 +8,12 @@ use Rattle.report_read.specs.Faults.{IsFault}
 -- no two have one text
 abbrev pub OneReport : Type 0
 OneReport = (a b : Report) → IsReport a → IsReport b → report_text a ≡ report_text b → a ≡ b
+
+-- each file is the text of one, or has a line in fault
+abbrev pub ReportOrFault : Type 0
+ReportOrFault =
+    (bytes : List ℕ) → ((r : Report) × IsReport r × (bytes ≡ report_text r))
+    ⊎ ((line : ℕ) × IsFault bytes line)
 
 -- a file has at most one line in fault
 abbrev pub OneFault : Type 0

@@ -1,5 +1,5 @@
 //! Laws over reports within the bounds: each is the contract of a function that does nothing.
-ghost use Rattle.report_read.specs.Laws.{OneReport, OneFault, OneDifference};
+ghost use Rattle.report_read.specs.Laws.{OneReport, ReportOrFault, OneFault, OneDifference};
 
 use report_form::laws::text_determines_the_report;
 
@@ -9,6 +9,11 @@ pub fn one_report_has_a_text()
 {
     text_determines_the_report();
 }
+
+/// Each file is the text of a report within the bounds, or has a line in fault.
+pub fn report_or_fault()
+    ensures { ReportOrFault }
+{}
 
 /// A file has at most one line in fault.
 pub fn one_line_is_in_fault()
