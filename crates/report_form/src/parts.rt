@@ -40,7 +40,7 @@ fn add_tally<S: Sink>(
     word: &[u8],
     n: u64,
 ) -> Result<(), WriteFailed>
-    ensures { Adds S.held S.faults S.last out.old out.new result piece.old.items piece.new.items
+    ensures { Adds S.held S.faults S.last out.old out.new result piece.old piece.new
         (tally word.now n) }
 {
     if n == 0 {
@@ -65,7 +65,7 @@ fn is_plain(byte: u8) -> bool
 }
 
 fn add_escaped<S: Sink>(out: &mut S, piece: &mut Piece, byte: u8) -> Result<(), WriteFailed>
-    ensures { Adds S.held S.faults S.last out.old out.new result piece.old.items piece.new.items
+    ensures { Adds S.held S.faults S.last out.old out.new result piece.old piece.new
         (escaped byte) }
 {
     if is_plain(byte) {
@@ -93,7 +93,7 @@ fn add_each_escaped<S: Sink>(
     piece: &mut Piece,
     bytes: &[u8],
 ) -> Result<(), WriteFailed>
-    ensures { Adds S.held S.faults S.last out.old out.new result piece.old.items piece.new.items
+    ensures { Adds S.held S.faults S.last out.old out.new result piece.old piece.new
         (flat_map escaped bytes.now) }
 {
     for byte in bytes {
@@ -110,7 +110,7 @@ fn is_all_plain(name: &[u8]) -> bool
 
 /// Most names need no escape and are added at once.
 fn add_inside<S: Sink>(out: &mut S, piece: &mut Piece, name: &[u8]) -> Result<(), WriteFailed>
-    ensures { Adds S.held S.faults S.last out.old out.new result piece.old.items piece.new.items
+    ensures { Adds S.held S.faults S.last out.old out.new result piece.old piece.new
         (flat_map escaped name.now) }
 {
     if is_all_plain(name) {
@@ -121,7 +121,7 @@ fn add_inside<S: Sink>(out: &mut S, piece: &mut Piece, name: &[u8]) -> Result<()
 }
 
 fn add_name<S: Sink>(out: &mut S, piece: &mut Piece, name: &[u8]) -> Result<(), WriteFailed>
-    ensures { Adds S.held S.faults S.last out.old out.new result piece.old.items piece.new.items
+    ensures { Adds S.held S.faults S.last out.old out.new result piece.old piece.new
         (quoted name.now) }
 {
     add_bytes(out, piece, b"\"")?;
@@ -130,7 +130,7 @@ fn add_name<S: Sink>(out: &mut S, piece: &mut Piece, name: &[u8]) -> Result<(), 
 }
 
 fn add_part<S: Sink>(out: &mut S, piece: &mut Piece, part: &Part<'_>) -> Result<(), WriteFailed>
-    ensures { Adds S.held S.faults S.last out.old out.new result piece.old.items piece.new.items
+    ensures { Adds S.held S.faults S.last out.old out.new result piece.old piece.new
         (part_text part.now) }
 {
     match *part {
