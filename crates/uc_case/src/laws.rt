@@ -1,5 +1,5 @@
 //! Laws over the definitions: each is the contract of a function that does nothing.
-ghost use Rattle.uc_case.specs.Laws.{SomeFile, OneFile, SomeCase, OneCase};
+ghost use Rattle.uc_case.specs.Laws.{SomeFile, OneFile, SomeCase, OneCase, CasesAreWithin};
 
 use uc_text::laws::{never_both, one_fault, one_value, text_or_fault};
 
@@ -27,3 +27,8 @@ pub fn one_case()
 {
     one_file();
 }
+
+/// A case that a list of bytes is keeps the limits of a case.
+pub fn cases_are_within()
+    ensures { CasesAreWithin }
+{}
