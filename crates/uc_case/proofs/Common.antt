@@ -11,7 +11,7 @@ pub use Rattle.std.specs.Prelude.{ℤ, pos, negsuc, neg_ℤ, unsigned_abs, nat_l
 pub use Rattle.uc_case.specs.Cases.{each_member, whole}
 unfoldable pub use Rattle.uc_case.specs.Cases.{units, thermal, renewable, bid, bids, with_units, case_of}
 pub use Rattle.uc_case.specs.CaseFiles.{IsCaseOf}
-pub use Rattle.uc_case.specs.EachLaws.{goes_on, ends, counted, is_done}
+pub use Rattle.uc_case.proofs.EachLaws.{goes_on, ends, counted, is_done}
 pub use Rattle.uc_case.specs.Files.{FileFault, text, value, IsFile, reading_of, of_value}
 pub use Rattle.uc_case.specs.Forms.{Read, items, Keys, keys, key, key_or_none, under, part, decimal}
 unfoldable pub use Rattle.uc_case.specs.Forms.{amount, cost, time_within, flag}

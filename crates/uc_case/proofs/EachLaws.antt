@@ -1,5 +1,4 @@
--- What `each` reads, item by item, as a loop does. These hold over all types, so that no clause can
--- state them, and stand here.
+-- What `each` reads, item by item, as a loop does. These hold over all types, so that no clause can state them.
 use Rattle.std.proofs.Common.{◌≡◌, ℕ, ◌+◌, ◌<◌, ◌≤◌, List, [], ◌∷◌, ◌++◌, length, map, get_or}
 use Rattle.std.proofs.Common.{drop, Result, Ok, Err, refl, sym, ap, ◌∙◌, drop-cons, add-one, arith}
 use Rattle.std.proofs.lemmas.Grind.{common_steps}

@@ -10,4 +10,3 @@ pub mod CaseFiles
 pub mod Given
 pub mod Kept
 pub mod Laws
-pub mod EachLaws

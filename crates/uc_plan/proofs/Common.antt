@@ -6,7 +6,7 @@ pub use Rattle.std.proofs.lemmas.Result.{err_from_is_err_and}
 pub use Rattle.std.specs.List.{All}
 pub use Rattle.std.specs.Option.{option_map}
 pub use Rattle.indexmap.specs.IndexSet.{contains_by}
-pub use Rattle.uc_case.specs.EachLaws.{goes_on, ends, is_done, counted}
+pub use Rattle.uc_case.proofs.EachLaws.{goes_on, ends, is_done, counted}
 pub use Rattle.uc_case.specs.Files.{FileFault, text, value, reading_of, of_value}
 pub use Rattle.uc_case.specs.Given.{Fails}
 unfoldable pub use Rattle.uc_case.specs.Inside.{value_of}
