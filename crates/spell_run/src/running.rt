@@ -88,7 +88,8 @@ pub fn run_over(
     ensures noted { (x v : ℤ) → value_of (shown running.old) x ≡ Some v →
         IsNoted (thermal_of unit.now) (prices_of prices.now) first place false result
         (shown running.new) }
-    ensures count { count_of running.new ≤ count_of running.old + length curve.now.blocks.items + 3 }
+    ensures count { count_of running.new
+        ≤ count_of running.old + length curve.now.blocks.items + 3 }
     ensures room { room_of running.new ≡ room_of running.old }
 {
     envelope_is_cost();
@@ -149,7 +150,8 @@ pub fn end_and_run(
     ensures noted { (x v : ℤ) → value_of (shown running.old) x ≡ Some v →
         IsNoted (thermal_of unit.now) (prices_of prices.now) first place false result.note
         (shown running.new) }
-    ensures count { count_of running.new ≤ count_of running.old + length curve.now.blocks.items + 3 }
+    ensures count { count_of running.new
+        ≤ count_of running.old + length curve.now.blocks.items + 3 }
     ensures room { room_of running.new ≡ room_of running.old }
 {
     envelope_is_cost();

@@ -1,5 +1,6 @@
 //! The step of a spell over one period, on the function of least costs by the power at its end.
-ghost use Rattle.std.specs.Prelude.{◌≡◌, suc, ◌==◌, ◌^◌, ◌<◌, ◌⊎◌, pos, ◌+ℤ◌, if◌then◌else◌, length};
+ghost use Rattle.std.specs.Prelude.{◌≡◌, suc, ◌==◌, ◌^◌, ◌<◌, ◌⊎◌, pos, ◌+ℤ◌, if◌then◌else◌};
+ghost use Rattle.std.specs.Prelude.{length};
 ghost use Rattle.std.specs.Bool.{OnTrue};
 ghost use Rattle.std.specs.Int.{int_min};
 ghost use Rattle.spell_run.specs.Steps.{cap_at, step_at, IsFairStep};

@@ -4,7 +4,8 @@
 
 ghost use Rattle.std.specs.Prelude.{◌≡◌, ℕ, ℤ, ◌+◌, ◌≤◌, pos, ◌*ℤ◌, ◌≤ℤ◌, List, [], Bool, true};
 ghost use Rattle.std.specs.Prelude.{false, IfOk, OnOk, OnErr, IsOk, MatchOption, length};
-ghost use Rattle.test_shapes.specs.Cell.{Cell, Frame, AreSameAt, IsAmong, IsUsed, IsUnchanged, Owns};
+ghost use Rattle.test_shapes.specs.Cell.{Cell, Frame, AreSameAt, IsAmong, IsUsed, IsUnchanged};
+ghost use Rattle.test_shapes.specs.Cell.{Owns};
 ghost use Rattle.test_shapes.specs.Cell.{Balance};
 ghost use Rattle.shape_law.specs.Curve.{curve_value, reserve_term, IsLimitedCurve};
 ghost use Rattle.shape_law.specs.Effect.{IsPoint, IsSame, IsSum, IsCurveSum, CanAddCurve, IsWindow};

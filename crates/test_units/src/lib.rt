@@ -1,5 +1,5 @@
-//! The least best response of a thermal unit, run by run over shapes of any representation: a second
-//! opinion on the program's own.
+//! The least best response of a thermal unit, run by run over shapes of any representation: a
+//! second opinion on the program's own.
 #![tactic(auto)]
 
 pub mod answer;

@@ -1,5 +1,6 @@
 //! The least end of the table, and what the way back from it needs.
-ghost use Rattle.std.specs.Prelude.{◌≡◌, ℕ, ◌<◌, ◌≤◌, neg_ℤ, false, IsTrue, IsFalse, IfSome, IfNone};
+ghost use Rattle.std.specs.Prelude.{◌≡◌, ℕ, ◌<◌, ◌≤◌, neg_ℤ, false, IsTrue, IsFalse, IfSome};
+ghost use Rattle.std.specs.Prelude.{IfNone};
 ghost use Rattle.std.specs.Prelude.{ℤ, Some, length, slice_index, slice_index_or};
 ghost use Rattle.uc_model.specs.PlainUnits.{thermal_of, schedule_of};
 ghost use Rattle.unit_table.specs.Rows.{cost_at, IsWithinTimes};

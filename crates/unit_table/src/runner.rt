@@ -185,7 +185,8 @@ fn run_one(
     requires order { first ≤ suc place }
     requires frontier { IsFrontier (thermal_of unit.now) (prices_of prices.now) first place
         (shown running.old) }
-    requires room { count_of running.old + (length curve.now.blocks.items + 3) ≤ room_of running.old }
+    requires room { count_of running.old + (length curve.now.blocks.items + 3)
+        ≤ room_of running.old }
     ensures answer { (suc place < length (prices_of prices.now).energy
         → (thermal_of unit.now).min_up ≤ on_time (thermal_of unit.now) first (suc place)) →
         IsSpellAnswer (thermal_of unit.now) (prices_of prices.now)
