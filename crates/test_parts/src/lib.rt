@@ -36,4 +36,6 @@ mod tree_values;
 #[cfg(test)]
 mod uc_num_tests;
 #[cfg(test)]
+mod uc_prices_tests;
+#[cfg(test)]
 mod uc_text_tests;

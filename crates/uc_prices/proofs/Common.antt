@@ -1,0 +1,23 @@
+-- The names that the proofs of this crate take from its specs and from other crates, passed on from one place.
+pub use Rattle.std.proofs.Common.{◌≡◌, ℕ, ◌+◌, ◌<◌, ◌≤◌, List, [], ◌∷◌, ◌++◌, length, map, get_or, drop, Result, Ok, Err, Some, None, refl, sym, ap, ◌∙◌, arith, subst, Bool, true, false, true≢false, w64, to_z, of_z, rules, ◌&&◌}
+pub use Rattle.std.proofs.lemmas.Bool.{ltb-false}
+pub use Rattle.std.proofs.lemmas.Int.{ints, to_z-of_z}
+pub use Rattle.std.proofs.lemmas.List.Elements.{All-nil, All-push}
+pub use Rattle.std.proofs.lemmas.Result.{err_from_is_err_and}
+pub use Rattle.std.specs.List.{All}
+pub use Rattle.std.specs.Prelude.{ℤ, pos, negsuc, neg_ℤ, unsigned_abs, nat_lt, int_lt, FitsSigned}
+pub use Rattle.text_tree.specs.View.{view, views}
+pub use Rattle.uc_case.proofs.EachLaws.{goes_on, ends, is_done, counted}
+pub use Rattle.uc_case.specs.Files.{FileFault, text, value, reading_of, of_value}
+pub use Rattle.uc_case.specs.Magnitudes.{most_price}
+pub use Rattle.uc_case.specs.Words.{position}
+unfoldable pub use Rattle.uc_case.specs.Words.{each}
+pub use Rattle.uc_model.specs.Data.{PriceLists}
+pub use Rattle.uc_model.specs.PlainUnits.{prices_of}
+pub use Rattle.uc_prices.specs.Faults.{item_at}
+pub use Rattle.uc_prices.specs.Kept.{IsPriceOf}
+pub use Rattle.uc_prices.specs.Tables.{Read, is_reserve, price, list, energy, reserve, prices_in}
+unfoldable pub use Rattle.uc_prices.specs.Tables.{prices}
+pub use Rattle.uc_prices.specs.declared.fault.PriceFault.{PriceFault}
+pub use Rattle.uc_prices.specs.declared.fault.PriceSite.{PriceSite}
+pub use Rattle.uc_text.specs.View.{tree_view}

@@ -1,0 +1,5 @@
+pub mod Faults
+pub mod Tables
+pub mod Kept
+pub mod PricesFiles
+pub mod Laws
