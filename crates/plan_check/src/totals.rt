@@ -63,8 +63,9 @@ fn totals_at(responses: &[Response], place: usize) -> Totals
     totals
 }
 
-// The power at a place that the thermal and renewable units give, less what the bids buy.
-fn net_power(case: &Case, plan: &Plan, place: usize) -> i64
+/// The power at a place that the thermal and renewable units give, less what the bids buy, in
+/// kilowatts.
+pub fn net_power(case: &Case, plan: &Plan, place: usize) -> i64
     requires shape { HasPlanShape (market_of case.now) (schedules_of plan.now) }
     requires within { place < (market_of case.now).periods }
     ensures value { result ≡ total_power (units (market_of case.now)) (schedules_of plan.now)

@@ -1,0 +1,60 @@
+//! The memory of a settlement, which is taken before the first answer.
+ghost use Rattle.std.specs.Prelude.{◌≡◌, ◌+◌, ◌≤◌, [], length, IfOk};
+ghost use Rattle.std.specs.List.{All};
+ghost use Rattle.uc_model.specs.declared.units.Answered.{Answered as PlainAnswered};
+ghost use Rattle.uc_model.specs.Data.{unit_count};
+ghost use Rattle.uc_model.specs.PlainCases.{market_of};
+ghost use Rattle.uc_model.specs.PlainUnits.{schedule_of};
+ghost use Rattle.price_settle.specs.Rooms.{HasRoom, AreOver};
+
+use plain_lists::lists::{Amounts, Numbers};
+use std::alloc::{AllocError, Global};
+use uc_model::cases::Case;
+use uc_model::units::{Answered, ResponseList};
+use uplift_settle::Settlement;
+
+/// Room for an answer of each unit, for what each earns, for totals over the periods, and for the
+/// settlement.
+#[derive(Drop)]
+pub struct Room {
+    pub spare: Vec<Answered>,
+    pub responses: ResponseList,
+    pub earned: Numbers,
+    pub supply: Amounts,
+    pub reserve: Amounts,
+    pub settlement: Settlement,
+}
+
+/// So many answers over so many periods, to be written over.
+fn spare_answers(alloc: Global, count: u32, periods: u32) -> Result<Vec<Answered>, AllocError>
+    ensures { IfOk result (λ answers. AreOver periods count answers.items) }
+{
+    let mut answers = Vec::with_capacity(alloc, count as usize)?;
+    for _ in 0..count {
+        answers.push(Answered::make(alloc, periods)?)?;
+    }
+    Ok(answers)
+}
+
+impl Room {
+    /// Room for a settlement of the units of a case.
+    pub fn make(alloc: Global, case: &Case) -> Result<Room, AllocError>
+        ensures { IfOk result (HasRoom (market_of case.now)) }
+    {
+        let units = case.unit_count();
+        let responses = ResponseList::make(alloc, units)?;
+        let earned = Numbers::make(alloc, units)?;
+        let supply = Amounts::make(alloc, case.periods)?;
+        let reserve = Amounts::make(alloc, case.periods)?;
+        let settlement = Settlement::make(alloc, units)?;
+        let spare = spare_answers(alloc, units, case.periods)?;
+        Ok(Room {
+            spare,
+            responses,
+            earned,
+            supply,
+            reserve,
+            settlement,
+        })
+    }
+}
