@@ -16,5 +16,7 @@ mod ReadBack
 mod ReadLines
 -- laws.rt: a report, read back block by block
 mod ReadReport
+-- laws.rt: a settlement, read back block by block
+mod ReadSettlement
 -- The lemmas that answers cite.
 pub mod Lemmas

@@ -3,3 +3,4 @@ pub mod Parts
 pub mod ReportText
 pub mod Pending
 pub mod Laws
+pub mod SettlementText

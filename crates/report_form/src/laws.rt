@@ -1,5 +1,6 @@
 //! Laws over texts: each is the contract of a function that does nothing.
 ghost use Rattle.report_form.specs.Laws.{GainsAddUp, TextDeterminesReport};
+ghost use Rattle.report_form.specs.SettlementText.{TextDeterminesSettlement};
 
 use hull_io::Sink;
 
@@ -13,4 +14,9 @@ pub fn texts_add_up<S: Sink>()
 /// and bids only the power is told: they are on in every period of it, with reserve 0.
 pub fn text_determines_the_report()
     ensures { TextDeterminesReport }
+{}
+
+/// Two settlements with equal texts are equal, in the same way.
+pub fn text_determines_the_settlement()
+    ensures { TextDeterminesSettlement }
 {}

@@ -5,5 +5,6 @@ pub mod laws;
 pub mod parts;
 mod pieces;
 pub mod report;
+pub mod settlement;
 
 pub use parts::{Part, write_parts};

@@ -1,0 +1,49 @@
+//! The first block of the text of `hull settle`; the others are blocks of a report.
+ghost use Rattle.hull_io.specs.Edge.{Writes};
+ghost use Rattle.uc_model.specs.PlainCases.{proposal_of};
+ghost use Rattle.report_form.specs.SettlementText.{priced_text};
+
+use crate::parts::{Part, write_parts};
+use hull_io::{Sink, WriteFailed};
+use uc_model::cases::Row;
+
+/// Writes the lines before the units: the number of periods and of units with bids, the cost of the
+/// plan in money, and the prices with their dual value and the totals of the best responses.
+#[tactic(auto, unfolding(crate::specs::SettlementText::priced_text))]
+pub fn write_priced<S: Sink>(
+    periods: u32,
+    units: u32,
+    cost: i128,
+    row: &Row,
+    out: &mut S,
+) -> Result<(), WriteFailed>
+    ensures { Writes S.held S.faults S.last out.old out.new result
+        (priced_text periods units cost (proposal_of row.now)) }
+{
+    let energy = row.prices.energy.as_slice();
+    let reserve = row.prices.reserve.as_slice();
+    let supplied = row.supply.as_slice();
+    let reserved = row.reserve.as_slice();
+    write_parts(
+        out,
+        &[
+            Part::Text(b"hull-settlement 1\nperiods "),
+            Part::Count(periods as u64),
+            Part::Text(b"\nunits "),
+            Part::Count(units as u64),
+            Part::Text(b"\ncost "),
+            Part::Amount(cost),
+            Part::Text(b"\nvalue "),
+            Part::Amount(row.value),
+            Part::Text(b"\nenergy"),
+            Part::Numbers(energy),
+            Part::Text(b"\nreserve"),
+            Part::Numbers(reserve),
+            Part::Text(b"\nsupplied"),
+            Part::Amounts(supplied),
+            Part::Text(b"\nreserved"),
+            Part::Amounts(reserved),
+            Part::Text(b"\n"),
+        ],
+    )
+}
