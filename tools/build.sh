@@ -13,7 +13,7 @@ say() {
 
 need_tools() {
     local tool
-    for tool in find readlink awk sort xargs sha256sum flock nproc; do
+    for tool in find readlink awk sort xargs sha256sum flock setsid nproc; do
         command -v "$tool" >/dev/null || fail "the program isn't built, and $tool, which the build needs, isn't on the path"
     done
     [[ $(find . --version 2>/dev/null) == *GNU* ]] || fail "the program isn't built, and the build needs GNU find"
@@ -151,6 +151,30 @@ library_of() {
     done
 }
 
+# Ends what run_apart has started in this shell.
+end_apart() {
+    local signal leader
+    for signal in TERM KILL; do
+        for leader in $(jobs -p); do
+            kill -"$signal" "$leader"
+            kill -"$signal" -- "-$leader"
+        done
+        sleep 0.1
+    done
+    exit 143
+} 2>/dev/null
+
+# Runs the words $@ in a session of their own, so that all that they start can be ended with them, as it is when this shell is told to end.
+run_apart() {
+    local status
+    trap end_apart INT TERM HUP
+    setsid -- "$@" &
+    wait "$!"
+    status=$?
+    trap - INT TERM HUP
+    return "$status"
+}
+
 # Proves the crate $1 with $2 processes, as a library for those above, where it isn't proved; what is said goes into its log. What the
 # crates above read are the library's statements: they need its proofs no more than a reader does.
 prove_crate() {
@@ -164,7 +188,7 @@ prove_crate() {
     rm -f "$libraries/$1.proved"
     tell_of "$1"
     {
-        cd "$home/crates/$1" && "$kit/bin/rattle" build "${words[@]}" --jobs "$2" --statements -o "$libraries/$1.rlib"
+        cd "$home/crates/$1" && run_apart "$kit/bin/rattle" build "${words[@]}" --jobs "$2" --statements -o "$libraries/$1.rlib"
     } >"$logs/$1" 2>&1 {lock}>&- || return
     # Where its files were changed meanwhile, the library is of no text that is known.
     [ "$looked" = "$(looks_of "$home" "${parts[@]}")" ] || library="changed $EPOCHREALTIME"
@@ -177,33 +201,23 @@ compile() {
     local words made=$program.made
     tell_of hull_cli
     cd "$home/crates/hull_cli" &&
-        "$kit/bin/rattle" build "${words[@]}" --jobs 1 --backend llvm --toolchain "$kit/toolchain" -o "$made.o" &&
-        "$kit/bin/rattle-link" --target x86_64-unknown-linux-gnu --toolchain "$kit/toolchain" -o "$made" "$made.o" "$kit"/c/lib{os,libc}_c.a &&
+        run_apart "$kit/bin/rattle" build "${words[@]}" --jobs 1 --backend llvm --toolchain "$kit/toolchain" -o "$made.o" &&
+        run_apart "$kit/bin/rattle-link" --target x86_64-unknown-linux-gnu --toolchain "$kit/toolchain" -o "$made" "$made.o" "$kit"/c/lib{os,libc}_c.a &&
         [ "$("$made" </dev/null)" = "fault 1 words 1 0" ] && sync "$made" && mv -f "$made" "$program"
 } >>"$log" 2>&1 {lock}>&-
 
-# Starts the words $@ as a process $! that leads a group of its own, so that all that it starts can be ended with it.
-start() {
-    set -m
-    "$@" &
-    set +m
-}
-
-# Ends all that was started, and with the status $1; what doesn't end when it is asked to is killed.
+# Ends all that was started, and with the status $1.
 stop_all() {
-    local groups group look
+    local jobs look
     trap '' INT TERM HUP
-    groups=$(jobs -p)
-    for group in $groups; do
-        kill -TERM -- "-$group"
-    done
-    for ((look = 0; look < 40; look++)); do
-        sleep 0.05
+    # shellcheck disable=SC2207 # numbers; and a shell in `< <()` would know of no jobs
+    jobs=($(jobs -p))
+    kill -TERM "${jobs[@]}"
+    for ((look = 0; look < 100; look++)); do
         [ -n "$(jobs -pr)" ] || break
+        sleep 0.05
     done
-    for group in $groups; do
-        kill -KILL -- "-$group"
-    done
+    kill -KILL "${jobs[@]}"
     exit "$1"
 } 2>/dev/null
 
@@ -218,7 +232,7 @@ deal() {
         crate=${ready[place]#* }
         share=$((free - (${#ready[@]} - place - 1)))
         [ "$share" -ge 1 ] || share=1
-        start prove_crate "$crate" "$share"
+        prove_crate "$crate" "$share" &
         crate_of[$!]=$crate share_of[$!]=$share
         begun="$begun $crate" busy=$((busy + share))
     done
@@ -246,7 +260,7 @@ try_again() {
     again=${again#"$crate"} again=${again# } bad=$crate
     [ -n "$crate" ] || return 1
     say "once more at $crate"
-    start prove_crate "$crate" 1
+    prove_crate "$crate" 1 &
     wait "$!" || return 1
     proved="$proved $crate" left=$((left - 1))
     news="$crate is proved, $left of $total are left"
@@ -284,9 +298,9 @@ build() {
     local -x MIMALLOC_PURGE_DELAY=-1
     prove "$(most_processes)" || end_badly "no program: ${bad:-the prover} failed; $logs/$bad says why" "$logs/$bad"
     say "proving hull_cli and compiling the program"
-    start compile
+    compile &
     if ! wait "$!"; then
-        start compile
+        compile &
         wait "$!" || end_badly "no program: its build failed; $log says why" "$log"
     fi
     note_what_it_is_made_of "$taken" || say "files changed while the program was built: it is built again at the next call"

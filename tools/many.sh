@@ -125,13 +125,13 @@ why_left() {
     fi
 } 2>/dev/null
 
-# Runs the verb in the folder of the day $1, on the host $2.
+# Runs the verb $1 on the host $2 by the program $3 in the folder of the day $4, with the words behind it.
 do_day() {
-    local host=$2
-    if ! cd -- "$1" 2>/dev/null; then
-        echo "many.sh: $1: there is no such folder" >&2
+    local verb=$1 host=$2 program=$3 day=$4 words=("${@:5}")
+    if ! cd -- "$day" 2>/dev/null; then
+        echo "many.sh: $day: there is no such folder" >&2
     elif ! { : >many.part && rm -f many.part; } 2>/dev/null; then
-        echo "many.sh: $1: cannot be written" >&2
+        echo "many.sh: $day: cannot be written" >&2
     elif [ "$verb" = price ]; then
         price_day
     else
@@ -139,16 +139,11 @@ do_day() {
     fi
 }
 
-# Starts the words $@ as a process $! that leads a group of its own, so that it can be ended with all that it starts.
-start() {
-    set -m
-    "$@" &
-    set +m
-}
-
+# Ends the days that are run, with all that they started, and with the status $1.
 stop_all() {
     local group
     for group in $(jobs -p); do
+        kill -TERM "$group"
         kill -TERM -- "-$group"
     done
     exit "$1"
@@ -173,7 +168,8 @@ deal() {
         fi
         place=${places[0]}
         places=("${places[@]:1}")
-        start do_day "$day" "$place"
+        # (a day leads a session of its own, so that it can be ended with all that it starts)
+        setsid -- "$BASH" "${BASH_SOURCE[0]}" day "$verb" "$place" "$program" "$day" "${words[@]}" &
         place_of[$!]=$place
     done
     wait
@@ -215,6 +211,10 @@ set_places() {
 main() {
     local verb=${1-} option program="" places=() days=() words=() here=$PWD
     shift || usage
+    if [ "$verb" = day ]; then
+        do_day "$@"
+        return
+    fi
     set_places ":$(nproc)"
     while getopts :j:s:p: option; do
         case $option in

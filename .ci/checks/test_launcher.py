@@ -15,7 +15,7 @@ from stub import BUILT, KIT, Repository
 
 WITHOUT_RT = {"PATH": "/usr/bin:/bin", "HOME": "/"}
 NOBODY = {"user": 65534, "group": 65534, "extra_groups": []}
-NEEDED = ("find", "readlink", "awk", "sort", "xargs", "sha256sum", "flock", "nproc")
+NEEDED = ("find", "readlink", "awk", "sort", "xargs", "sha256sum", "flock", "setsid", "nproc")
 DONE = ["hull: proving hull_cli and compiling the program", "hull: the program is built"]
 
 
