@@ -6,9 +6,7 @@ import subprocess
 import tempfile
 import unittest
 
-from tool import EXAMPLES, ROOT, python_with, run
-
-PROGRAM = f"{ROOT}/crates/hull_cli/out/hull_cli"
+from tool import EXAMPLES, PROGRAM, python_with, run
 
 
 class MakeSchedule(unittest.TestCase):
@@ -67,9 +65,72 @@ class MakeSchedule(unittest.TestCase):
         self.assertIn("can't be met: in period 3 the units give at most 165 MW, and demand is 230 MW", said)
         self.assertFalse(os.path.exists(f"{self.room}/schedule.json"))
         self.assertIn(
+            "can't be met: in period 2 the units can keep at most 100 MW in reserve, and 195 MW are required",
+            self.make(self.changed("evening", '"reserves":[0,5,5', '"reserves":[0,195,5'))[2],
+        )
+        self.assertIn(
             "can't be met: its rules over the periods",
             self.make(self.changed("evening", '"reserves":[0,5,5', '"reserves":[0,95,5'))[2],
         )
+
+    def test_rules_that_contradict_are_told(self):
+        window = '"must_run":1,"commitment":[null,null,0,null,null,null]'
+        self.assertIn(
+            'in period 3 unit "G1" can be neither on nor off: it is must-run, and its window says off',
+            self.make(self.changed("evening", '"must_run":1', window))[2],
+        )
+
+    def test_thirty_digits_are_read_as_hull_reads_them(self):
+        demand = '"demand":[65.000499999999999999999999999,100,130'
+        status, _, said = self.make(self.changed("evening", '"demand":[65,100,130', demand))
+        self.assertEqual(status, 0, said)
+
+    def test_the_case_is_not_replaced(self):
+        case = self.changed("evening", '"must_run":1', '"must_run": 1')
+        status, _, said = run("make_schedule.py", case, case, "--hull", PROGRAM, python=self.python)
+        self.assertEqual((status, said.count("\n")), (1, 1))
+        with open(case, encoding="utf-8") as it:
+            self.assertTrue(it.read().startswith('{"time_periods"'))
+
+    def test_numbers_that_are_none_are_refused(self):
+        for words in (["--gap", "nan"], ["--gap", "-1"], ["--seconds", "nan"], ["--seconds", "-1"]):
+            self.assertEqual(self.make(f"{EXAMPLES}/evening/case.json", *words)[0], 2)
+
+    def test_a_schedule_in_megawatts_is_followed(self):
+        case, followed = f"{EXAMPLES}/evening/case.json", f"{self.room}/followed"
+        with open(f"{EXAMPLES}/evening/schedule.json", encoding="utf-8") as it:
+            schedule = json.load(it)
+        for write in (self.write_csv, self.write_julia):
+            write(followed, schedule)
+            status, _, said = self.make(case, "--follow", followed)
+            self.assertEqual(status, 0, said)
+            self.assertIn("within 0.400 kW", said)
+            with open(f"{self.room}/schedule.json", encoding="utf-8") as it:
+                made = json.load(it)
+            for name, unit in schedule["thermal"].items():
+                self.assertEqual(made["thermal"][name]["on"], unit["on"])
+                self.assertEqual(made["thermal"][name]["power"], unit["power"])
+            self.assertEqual(made["bids"], schedule["bids"])
+
+    @staticmethod
+    def write_csv(name, schedule):
+        """The schedule in megawatts, each power off by less than half a kilowatt."""
+        rows = [("unit", "period", "on", "power", "reserve")]
+        for unit, it in schedule["thermal"].items():
+            for t, (on, power, reserve) in enumerate(zip(it["on"], it["power"], it["reserve"]), 1):
+                rows.append((unit, t, on, (power + 0.4 * on) / 1e3, reserve / 1e3))
+        for unit, powers in {**schedule["renewable"], **schedule["bids"]}.items():
+            rows += [(unit, t, "", power / 1e3, "") for t, power in enumerate(powers, 1)]
+        with open(name, "w", encoding="utf-8") as it:
+            it.writelines(",".join(map(str, row)) + "\n" for row in rows)
+
+    @staticmethod
+    def write_julia(name, schedule):
+        on = {unit: it["on"] for unit, it in schedule["thermal"].items()}
+        power = {unit: [(x + 0.4 * now) / 1e3 for x, now in zip(it["power"], it["on"])] for unit, it in schedule["thermal"].items()}
+        power.update({unit: [x / 1e3 for x in row] for unit, row in {**schedule["renewable"], **schedule["bids"]}.items()})
+        with open(name, "w", encoding="utf-8") as it:
+            json.dump({"Is on": on, "Production (MW)": power}, it)
 
     def test_a_window_is_kept(self):
         status, _, said = self.make(

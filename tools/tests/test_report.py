@@ -1,5 +1,6 @@
-"""tools/report.py: tables, picture and page of a report, and what it says of a text that is none."""
+"""tools/report.py: tables, pictures, pages and prices of the texts of hull, and what it says of a text that is none."""
 import csv
+import json
 import os
 import shutil
 import tempfile
@@ -28,6 +29,41 @@ gap 0
 end
 """
 
+SETTLED = """hull-settlement 1
+periods 1
+units 2
+cost 850000000
+value 686000000
+energy 98000
+reserve 0
+supplied 3000
+reserved 0
+unit thermal "G1" earned 0 scheduled -66000000 payment 66000000
+on 0
+power 0
+reserve 0
+unit renewable "W1" earned 294000000 scheduled 196000000 payment 98000000
+power 3000
+surplus 0
+payments 164000000
+gap 164000000
+end
+"""
+CERTIFIED = """hull-certificate 1
+periods 1
+units 2
+cost 850000000
+value 686000000
+surplus 0
+payments 164000000
+gap 164000000
+radius 1000
+bound 723000000
+distance 37000000
+least 127000000
+end
+"""
+
 
 class Report(unittest.TestCase):
     def setUp(self):
@@ -51,38 +87,137 @@ class Report(unittest.TestCase):
             return it.read()
 
     def test_tables_of_the_usual_unit(self):
-        self.assertEqual(self.report("csv", f"{EXAMPLES}/usual/price.output", "tables"), (0, "", ""))
+        report = f"{EXAMPLES}/usual/price.output"
+        self.assertEqual(self.report("csv", report, "tables"), (0, "", ""))
         self.assertEqual(
             self.table("proposals.csv"),
-            [["proposal", "value", "chosen"], ["1", "686000000", "1"], ["2", "466796000", "0"]],
-        )
-        self.assertEqual(
-            self.table("prices.csv")[1:],
-            [["1", "1", "98000", "0", "3000", "0"], ["2", "1", "119660", "6188", "23000", "0"]],
-        )
-        self.assertEqual(
-            self.table("units.csv")[1:],
             [
-                ["thermal", "G1", "0", "-66000000", "66000000"],
-                ["renewable", "W1", "294000000", "196000000", "98000000"],
+                ["report", "proposal", "value_millionths", "chosen"],
+                [report, "1", "686000000", "1"],
+                [report, "2", "466796000", "0"],
             ],
         )
         self.assertEqual(
-            self.table("responses.csv")[1:],
+            [it[2:9] for it in self.table("prices.csv")[1:]],
+            [["1", "1", "1", "98000", "0", "3000", "0"], ["2", "0", "1", "119660", "6188", "23000", "0"]],
+        )
+        self.assertEqual(
+            [it[2:] for it in self.table("units.csv")[1:]],
+            [
+                ["thermal", "G1", "0", "-66000000", "66000000", "66000000", "0"],
+                ["renewable", "W1", "294000000", "196000000", "98000000", "0", "98000000"],
+            ],
+        )
+        self.assertEqual(
+            [it[1:7] for it in self.table("responses.csv")[1:]],
             [["thermal", "G1", "1", "0", "0", "0"], ["renewable", "W1", "1", "1", "3000", "0"]],
         )
+
+    def row(self, name, place=0):
+        """A row of a table by its heads."""
+        head, *rows = self.table(name)
+        return dict(zip(head, rows[place]))
+
+    def test_several_texts_in_the_currency_beside_case_and_schedule(self):
+        texts = [self.write(SETTLED), f"{EXAMPLES}/usual/price.output"]
+        files = ["--case", f"{EXAMPLES}/usual/case.json", "--schedule", f"{EXAMPLES}/usual/schedule.json"]
+        ran = run("report.py", "csv", *texts, f"{self.room}/tables", *files, "--currency")
+        self.assertEqual(ran, (0, "", ""))
+        self.assertEqual([it[0] for it in self.table("runs.csv")[1:]], texts)
+        settled = self.row("runs.csv")
+        self.assertEqual([settled[it] for it in ("command", "chosen", "value_currency")], ["settle", "", "686"])
+        self.assertEqual(self.row("prices.csv")["energy_currency_per_mw"], "98")
+        self.assertEqual([self.row("prices.csv")[it] for it in ("demand_mw", "requirement_mw")], ["10", "2"])
+        response = self.row("responses.csv")
+        self.assertEqual(
+            [response[it] for it in ("power_mw", "scheduled_on", "scheduled_power_mw", "scheduled_reserve_mw")],
+            ["0", "1", "8", "2"],
+        )
+
+    def test_texts_of_fixed_bound_and_certify(self):
+        certified = self.write(CERTIFIED)
+        texts = [f"{EXAMPLES}/two_units/fixed-2.output", f"{EXAMPLES}/two_units/bound.output", certified]
+        self.assertEqual(run("report.py", "csv", *texts, f"{self.room}/tables"), (0, "", ""))
+        sides = [self.row("runs.csv", place) for place in range(4)]
+        self.assertEqual([it["command"] for it in sides], ["fixed", "fixed", "bound", "certify"])
+        self.assertEqual([it["payments_millionths"] for it in sides], ["1000", "2000", "", "164000000"])
+        self.assertEqual([it["distance_millionths"] for it in sides], ["", "", "500", "37000000"])
+        self.assertEqual(
+            [it[1:4] + it[6:7] for it in self.table("units.csv")[1:]],
+            [
+                ["hull", "thermal", "A", "1000"],
+                ["hull", "thermal", "B", "0"],
+                ["fixed", "thermal", "A", "0"],
+                ["fixed", "thermal", "B", "2000"],
+            ],
+        )
+
+    def test_page_of_a_settlement_with_a_certificate(self):
+        settled = self.write(SETTLED)
+        with open(f"{self.room}/certificate", "w", encoding="utf-8") as it:
+            it.write(CERTIFIED)
+        ran = run("report.py", "page", settled, f"{self.room}/page.html", "--certificate", f"{self.room}/certificate")
+        self.assertEqual(ran, (0, "", ""))
+        self.assertIn("within 1.00 per MWh of these need less than 127.00", self.read("page.html"))
+        self.assertIn("within 37.00 of the greatest", self.read("page.html"))
+        with open(f"{self.room}/certificate", "w", encoding="utf-8") as it:
+            it.write(CERTIFIED.replace("value 686", "value 687"))
+        ran = run("report.py", "page", settled, f"{self.room}/page.html", "--certificate", f"{self.room}/certificate")
+        self.assertEqual(ran[0], 1)
+        self.assertIn("of other prices", ran[2])
+
+    def test_prices_of_a_report_and_of_a_settlement(self):
+        for text in (f"{EXAMPLES}/usual/price.output", self.write(SETTLED)):
+            self.assertEqual(self.report("prices", text, "prices.json"), (0, "", ""))
+            self.assertEqual(json.loads(self.read("prices.json")), {"energy": [98], "reserve": [0]})
+
+    def test_names_that_a_spreadsheet_evaluates_are_told_apart(self):
+        for name, told in (("=1+1", "'=1+1"), ("'=1+1", "''=1+1"), ("@a", "'@a"), ("a=1", "a=1")):
+            text = self.write(SETTLED.replace('"W1"', json.dumps(name)))
+            self.assertEqual(self.report("csv", text, "tables")[0], 0)
+            self.assertEqual(self.table("units.csv")[2][3], told)
+            self.assertEqual(run("report.py", "csv", text, f"{self.room}/tables", "--names-as-they-are")[2], "")
+            self.assertEqual(self.table("units.csv")[2][3], name)
+
+    def test_a_line_ends_at_a_line_feed_alone(self):
+        name = "W\u2028i\u2029n\x85d"
+        self.assertEqual(self.report("csv", self.write(SETTLED.replace("W1", name)), "tables")[0], 0)
+        self.assertEqual(self.table("units.csv")[2][3], name)
+
+    def test_what_audit_calls_out_of_form_is_refused_in_one_line(self):
+        changes = [("energy 98000", "energy 098000"), ("reserve 0", "reserve -0"), ("end\n", "end"), ("end\n", "end\nmore\n")]
+        changes += [("\n", "\r\n"), ('"G1"', '"\\x"'), ('"G1"', '"\\ud800"'), ("periods 1", "periods 0"), ("units 2", "units 3")]
+        changes += [("gap 1", f"gap 1{'0' * 5000}"), ("earned 0", f"earned 1{'0' * 30}"), ("energy 98000", "energy 10000001")]
+        for old, new in changes:
+            status, _, said = self.report("csv", self.write(SETTLED.replace(old, new)), "tables")
+            self.assertEqual((status, said.count("\n")), (1, 1), (new, said))
+            self.assertIn("not a line of a ", said)
+
+    def test_a_report_with_large_amounts_has_a_page(self):
+        for cost in ("6900000000000001000000", "9" * 23, "-" + "9" * 38, "0"):
+            text = ODD.replace("cost -5", f"cost {cost}").replace("value -5", f"value {cost}")
+            self.assertEqual(self.report("page", self.write(text), "page.html"), (0, "", ""))
+
+    def test_no_text_is_replaced_and_no_file_is_cut(self):
+        text = self.write(SETTLED)
+        for verb in ("page", "prices", "plot"):
+            status, _, said = self.report(verb, text, "report.txt")
+            self.assertEqual((status, said.count("\n")), (1, 1))
+            self.assertEqual(self.read("report.txt"), SETTLED)
+        self.assertIn("No space left", run("report.py", "page", text, "/dev/full")[2])
+        self.assertEqual(os.listdir(self.room), ["report.txt"])
 
     def test_tables_of_the_day_have_a_row_each(self):
         self.assertEqual(self.report("csv", f"{EXAMPLES}/day/price.output", "tables")[0], 0)
         self.assertEqual(
-            [len(self.table(f"{it}.csv")) - 1 for it in ("proposals", "prices", "units", "responses")],
-            [100, 100 * 48, 154, 154 * 48],
+            [len(self.table(f"{it}.csv")) - 1 for it in ("runs", "proposals", "prices", "units", "responses")],
+            [1, 100, 100 * 48, 154, 154 * 48],
         )
 
     def test_odd_names_stay_themselves(self):
         name = self.write(ODD)
         self.assertEqual(self.report("csv", name, "tables")[0], 0)
-        self.assertEqual(self.table("units.csv")[1][1], '<b>"a\\\x01,$x$</b>')
+        self.assertEqual(self.table("units.csv")[1][3], '<b>"a\\\x01,$x$</b>')
         self.assertEqual(self.report("page", name, "page.html")[0], 0)
         self.assertNotIn("<b>&quot;", self.read("page.html"))
         self.assertIn("&lt;b&gt;&quot;a\\", self.read("page.html"))
@@ -93,8 +228,8 @@ class Report(unittest.TestCase):
                 self.report("page", f"{EXAMPLES}/{example}/price.output", "page.html"), (0, "", "")
             )
             page = self.read("page.html")
-            self.assertEqual(page.count("<tr><td>"), units)
-            self.assertEqual(page.count("<svg"), 2)
+            self.assertEqual(page.count("<tr data-unit="), units)
+            self.assertEqual(page.count("<svg") - page.count("`<svg"), 2)
             self.assertNotIn("http", page)
             self.assertNotIn(" src=", page)
 
@@ -137,7 +272,7 @@ class Report(unittest.TestCase):
         )
         self.assertEqual(
             self.report("csv", self.write(ODD.replace("energy -3", "energy -3 4")), "tables")[2],
-            f"report.py: {self.room}/report.txt, line 9: 2 numbers, and not 1\n",
+            f"report.py: {self.room}/report.txt, line 9: not a line of a report of `hull price`: it has 2 numbers, and not 1\n",
         )
         self.assertEqual(self.report("draw", "a", "b")[0], 2)
         os.makedirs(f"{self.room}/folder")

@@ -1,11 +1,17 @@
-"""How the tests run the tools: by a Python that has what a tool needs."""
+"""How the tests run the tools: within the tests' own Python, or by a Python that has what a tool needs."""
+import contextlib
 import functools
+import importlib
+import io
 import os
+import signal
 import subprocess
 import sys
 
 ROOT = os.path.dirname(os.path.dirname(os.path.dirname(os.path.abspath(__file__))))
 EXAMPLES = f"{ROOT}/examples"
+PROGRAM = f"{ROOT}/crates/hull_cli/out/hull_cli"
+sys.path.insert(0, f"{ROOT}/tools")
 
 
 @functools.lru_cache(None)
@@ -13,23 +19,47 @@ def python_with(module):
     """A Python of this machine that has the module, or None."""
     for it in (sys.executable, "/usr/bin/python3"):
         try:
-            if (
-                subprocess.run([it, "-c", f"import {module}"], capture_output=True, timeout=60).returncode
-                == 0
-            ):
+            if subprocess.run([it, "-c", f"import {module}"], capture_output=True, timeout=60).returncode == 0:
                 return it
         except OSError:
             pass
     return None
 
 
-def run(tool, *words, python=sys.executable, flags=(), **how):
+@functools.lru_cache(None)
+def program_has(command):
+    """Whether the built program has a command."""
+    ran = subprocess.run([PROGRAM, command], capture_output=True, stdin=subprocess.DEVNULL)
+    return ran.stdout != b"fault 1 words 2 1\n"
+
+
+def run_here(tool, words, text):
+    """Runs a tool's main as it is, without a Python of its own; an interrupt is the tests' again behind it."""
+    main = importlib.import_module(f"hulltools.mains.{tool.removesuffix('.py')}").main
+    output, said, handler = io.TextIOWrapper(io.BytesIO(), "utf-8"), io.StringIO(), signal.getsignal(signal.SIGINT)
+    stdin, sys.stdin = sys.stdin, io.TextIOWrapper(io.BytesIO(text.encode()), "utf-8")
+    try:
+        with contextlib.redirect_stdout(output), contextlib.redirect_stderr(said):
+            status = main(list(words))
+    except SystemExit as end:
+        status = end.code
+    finally:
+        sys.stdin = stdin
+        signal.signal(signal.SIGINT, handler)
+    output.flush()
+    return status, output.buffer.getvalue().decode(), said.getvalue()
+
+
+def run(tool, *words, python=sys.executable, flags=(), input="", **how):
     """Runs a tool to its end, and returns its status, standard output and standard error."""
+    if python == sys.executable and not flags and not how:
+        return run_here(tool, words, input)
     ended = subprocess.run(
         [python, "-B", *flags, f"{ROOT}/tools/{tool}", *words],
         capture_output=True,
         text=True,
         timeout=300,
+        input=input,
         **how,
     )
     return ended.returncode, ended.stdout, ended.stderr

@@ -1,0 +1,87 @@
+"""Pictures of lines and bars as SVG, which a page holds in itself."""
+import html
+import math
+
+WIDTH, HEIGHT, LEFT, RIGHT, TOP, BOTTOM = 720, 280, 104, 14, 14, 52
+
+
+def ticks(low, high, most=5):
+    """Round numbers from low to high, at most so many steps apart."""
+    step = 10.0 ** math.floor(math.log10((high - low) / most))
+    while (high - low) / step > most:
+        step *= 2.5 if f"{step:e}".startswith("2") else 2
+    first = math.ceil(low / step)
+    count = int(math.floor((high - first * step) / step + 1e-9)) + 1
+    return [(first + i) * step for i in range(min(max(count, 0), most + 2))]
+
+
+class Chart:
+    """A picture over a number axis."""
+
+    def __init__(self, title, low, high, first, last):
+        room = max((high - low) * 0.05, max(abs(low), abs(high)) * 1e-6, 1e-3)
+        self.low, self.high = low - room * (low != 0), high + room
+        self.first, self.last = first, max(last, first + 1)
+        self.parts = [f'<svg viewBox="0 0 {WIDTH} {HEIGHT}" role="img" aria-label="{html.escape(title)}">']
+        for at in ticks(self.low, self.high):
+            y = self.y(at)
+            self.parts.append(
+                f'<line class="grid" x1="{LEFT}" x2="{WIDTH - RIGHT}" y1="{y:.1f}" y2="{y:.1f}"/>'
+                f'<text x="{LEFT - 6}" y="{y + 4:.1f}" text-anchor="end">{self.told(at)}</text>'
+            )
+
+    def x(self, at):
+        return LEFT + (at - self.first) / (self.last - self.first) * (WIDTH - LEFT - RIGHT)
+
+    def y(self, at):
+        return TOP + (self.high - at) / (self.high - self.low) * (HEIGHT - TOP - BOTTOM)
+
+    def told(self, number):
+        most = max(abs(self.low), abs(self.high))
+        sizes = ((1e9, " bn"), (1e6, " M"), (1e3, " k"))
+        unit, name = next((it for it in sizes if most >= 10 * it[0] or most >= it[0] >= 1e6), (1, ""))
+        return f"{number / unit:.6g}{name if number else ''}"
+
+    def label_x(self, text, at):
+        self.parts.append(f'<text x="{self.x(at):.1f}" y="{HEIGHT - 30}" text-anchor="middle">{text}</text>')
+
+    def name_x(self, text):
+        middle = (LEFT + WIDTH - RIGHT) / 2
+        self.parts.append(f'<text x="{middle}" y="{HEIGHT - 6}" text-anchor="middle">{html.escape(text)}</text>')
+
+    def polyline(self, points, style):
+        told = " ".join(f"{self.x(at):.1f},{self.y(it):.1f}" for at, it in points)
+        self.parts.append(f'<polyline class="{style}" points="{told}"/>')
+
+    def steps(self, numbers, style):
+        """One level number for each place from `first` on."""
+        self.polyline(
+            [(self.first + i + more, it) for i, it in enumerate(numbers) for more in (0, 1)], style
+        )
+
+    def line(self, numbers, style):
+        self.polyline([(self.first + i, it) for i, it in enumerate(numbers)], style)
+
+    def level(self, at, style):
+        y = self.y(at)
+        self.parts.append(
+            f'<line class="{style}" x1="{LEFT}" x2="{WIDTH - RIGHT}" y1="{y:.1f}" y2="{y:.1f}"/>'
+        )
+
+    def dot(self, at, number, style):
+        self.parts.append(f'<circle class="{style}" cx="{self.x(at):.1f}" cy="{self.y(number):.1f}" r="4"/>')
+
+    def svg(self):
+        return "".join([*self.parts, "</svg>"])
+
+
+def steps_chart(title, series, periods, name_x="period"):
+    """Level numbers by period; `series` are (style, numbers)."""
+    numbers = [it for _, row in series for it in row]
+    chart = Chart(title, min(0, *numbers, 0), max(0, *numbers), 1, periods + 1)
+    for style, row in series:
+        chart.steps(row, style)
+    for t in range(1, periods + 1, max(1, periods // 12)):
+        chart.label_x(t, t + 0.5)
+    chart.name_x(name_x)
+    return chart.svg()

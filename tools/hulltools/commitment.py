@@ -1,0 +1,140 @@
+"""The unit commitment problem of a case as a mixed integer program: powers in megawatts, money in the currency.
+
+It is the three-variable form that pglib-uc has: on, start and stop of each unit and period, power above the least one, reserve.
+Between cost points it takes straight lines, where `hull` takes the whole-price envelope, which may be lower by a trifle.
+"""
+from .costs import lower_hull
+from .linear import INFINITY, Program
+
+
+def cost_blocks(unit):
+    """The cost at the least power, and (kilowatts, cost of one) from there to the greatest."""
+    corners, blocks = lower_hull(unit.points), []
+    least_cost = float(corners[0][1])
+    for (a, cost_a), (b, cost_b) in zip(corners, corners[1:]):
+        slope = (cost_b - cost_a) / (b - a)
+        least_cost += slope * max(0, min(b, unit.least) - a)
+        if min(b, unit.most) > max(a, unit.least):
+            blocks.append((min(b, unit.most) - max(a, unit.least), slope))
+    return least_cost, blocks
+
+
+class Unit:
+    """A thermal unit's variables: on, start, stop, power above the least one, reserve."""
+
+    def __init__(self, program, unit, periods, with_reserve):
+        self.unit, self.program, self.periods = unit, program, periods
+        low, high = unit.on_bounds()
+        least_cost, self.blocks = cost_blocks(unit)
+        every, room = range(periods), (unit.most - unit.least) / 1e3
+        self.on = [program.variable(low[t], high[t], least_cost / 1e6, True) for t in every]
+        # (these are 0 or 1 where the on flags are; a limit below the least power bars the start or stop)
+        self.start = [program.variable(0, int(unit.start_cap >= unit.least)) for _ in every]
+        self.stop = [program.variable(0, int(unit.stop_cap >= unit.least or t == 0)) for t in every]
+        self.power = [program.variable(0, room) for _ in every]
+        self.reserve = [program.variable(0, room if with_reserve else 0) for _ in every]
+        self.commitment()
+        self.start_costs()
+        self.dispatch(room)
+
+    def commitment(self):
+        row, unit = self.program.row, self.unit
+        for t in range(self.periods):
+            before, same = ([(self.on[t - 1], -1)], 0) if t else ([], unit.on0)
+            row([(self.on[t], 1), *before, (self.start[t], -1), (self.stop[t], 1)], same, same)
+            started = ((self.start[i], 1) for i in range(max(0, t - unit.min_up + 1), t + 1))
+            row([*started, (self.on[t], -1)], -INFINITY, 0)
+            stopped = ((self.stop[i], 1) for i in range(max(0, t - unit.min_down + 1), t + 1))
+            row([*stopped, (self.on[t], 1)], -INFINITY, 1)
+
+    def start_costs(self):
+        """A start takes one lag of the list; it may take an early one only after a stop, or a time off before period 1, so short."""
+        for t in range(self.periods if self.unit.lags else 0):
+            kinds = [self.program.variable(0, 1, cost / 1e6) for _, cost in self.unit.lags]
+            self.program.row([(self.start[t], 1), *((it, -1) for it in kinds)], 0, 0)
+            for i, kind in enumerate(kinds[:-1]):
+                self.early_start(t, i, kind)
+
+    def early_start(self, t, i, kind):
+        unit = self.unit
+        first, after = (1 if i == 0 else unit.lags[i][0]), unit.lags[i + 1][0]
+        stops = [(self.stop[t - down], -1) for down in range(max(first, 1), min(after, t + 1))]
+        self.program.at_most([(kind, 1), *stops], int(not unit.on0 and first <= unit.down0 + t < after))
+
+    def dispatch(self, room):
+        unit, at_most = self.unit, self.program.at_most
+        for t in range(self.periods):
+            both = [(self.power[t], 1), (self.reserve[t], 1)]
+            for more in self.caps(t):
+                at_most([*both, (self.on[t], -room), *more], 0)
+            before, at0 = ([(self.power[t - 1], 1)], 0) if t else ([], unit.above0 / 1e3)
+            at_most([*both, *((it, -one) for it, one in before)], unit.ramp_up / 1e3 + at0)
+            at_most([(self.power[t], -1), *before], unit.ramp_down / 1e3 - at0)
+            self.produce(t)
+
+    def caps(self, t):
+        """What a start in period t and a stop behind it take of the room, in one row or in two."""
+        unit = self.unit
+        starts = (self.start[t], (unit.most - max(unit.start_cap, unit.least)) / 1e3)
+        if t + 1 == self.periods:
+            return [[starts]]
+        stops = (self.stop[t + 1], (unit.most - max(unit.stop_cap, unit.least)) / 1e3)
+        # (where it has to stay on for longer, a period can't be the first and the last one)
+        return [[starts, stops]] if unit.min_up > 1 else [[starts], [stops]]
+
+    def produce(self, t):
+        """Power is the sum of blocks, each with its cost."""
+        blocks = [self.program.variable(0, width / 1e3, slope / 1e3) for width, slope in self.blocks]
+        self.program.row([(self.power[t], 1), *((it, -1) for it in blocks)], 0, 0)
+        for it, (width, _) in zip(blocks, self.blocks):
+            self.program.at_most([(it, 1), (self.on[t], -width / 1e3)], 0)
+
+
+class Commitment:
+    """The whole program of a case. `balance` and `reserve` are the numbers of these rows, the latter None where none is required."""
+
+    def __init__(self, case):
+        self.case, self.program = case, Program()
+        variable, periods = self.program.variable, range(case.periods)
+        self.units = [Unit(self.program, it, case.periods, any(case.reserves)) for it in case.thermal]
+        self.renewable = [
+            [variable(it.least[t] / 1e3, it.most[t] / 1e3) for t in periods] for it in case.renewable
+        ]
+        self.bids = [
+            [[variable(0, width / 1e3, -price / 1e3) for width, price in it.blocks[t]] for t in periods]
+            for it in case.bids
+        ]
+        self.balance = [self.balance_in(t) for t in periods]
+        self.reserve = [self.reserve_in(t) for t in periods]
+
+    def balance_in(self, t):
+        gives = [term for it in self.units for term in ((it.on[t], it.unit.least / 1e3), (it.power[t], 1))]
+        buys = [(block, -1) for bid in self.bids for block in bid[t]]
+        demand = self.case.demand[t] / 1e3
+        return self.program.row([*gives, *((it[t], 1) for it in self.renewable), *buys], demand, demand)
+
+    def reserve_in(self, t):
+        if not self.case.reserves[t]:
+            return None
+        return self.program.row([(it.reserve[t], 1) for it in self.units], self.case.reserves[t] / 1e3, INFINITY)
+
+    def flags(self, found):
+        """The on flags that the solver found."""
+        return [[round(found[column]) for column in it.on] for it in self.units]
+
+    def fix(self, flags):
+        """Holds each unit on or off by these flags."""
+        for it, on in zip(self.units, flags):
+            before = it.unit.on0
+            for t, now in enumerate(on):
+                ones = ((it.on[t], now), (it.start[t], now > before), (it.stop[t], now < before))
+                for column, is_one in ones:
+                    self.program.low[column] = self.program.high[column] = int(is_one)
+                before = now
+
+    def prices(self, duals):
+        """Energy and reserve prices, in currency per MW and period, that the duals of the rows are."""
+        return (
+            [duals[it] for it in self.balance],
+            [0.0 if it is None else max(0.0, duals[it]) for it in self.reserve],
+        )

@@ -1,0 +1,72 @@
+"""What a schedule costs, by the definitions of docs/DEFINITIONS.md, in millionths."""
+
+
+def lower_hull(points):
+    """The corners of the lower convex envelope of (power, cost) points in order of power."""
+    corners = []
+    for at, cost in points:
+        if corners and corners[-1][0] == at:
+            if corners[-1][1] <= cost:
+                continue
+            corners.pop()
+        while len(corners) > 1 and is_above(corners[-2], corners[-1], (at, cost)):
+            corners.pop()
+        corners.append((at, cost))
+    return corners
+
+
+def is_above(first, middle, last):
+    """Whether the middle point isn't below the line between the others."""
+    return (middle[1] - first[1]) * (last[0] - first[0]) >= (last[1] - first[1]) * (middle[0] - first[0])
+
+
+def envelope(points, power):
+    """The greatest, over whole prices k, of the least over the points of cost + k * (power - power of the point).
+
+    What the greatest is taken of is concave in k, and greatest at the slope of the envelope, so a whole k beside that reaches it.
+    """
+    corners = lower_hull(points)
+    slopes = [
+        (after[1] - before[1], after[0] - before[0])
+        for before, after in zip(corners, corners[1:])
+        if before[0] <= power <= after[0]
+    ] or [(0, 1)]
+    beside = {rise // run + more for rise, run in slopes for more in (0, 1)}
+    return max(min(cost + k * (power - at) for at, cost in corners) for k in beside)
+
+
+def start_cost(unit, down):
+    """What a start costs after so many periods down."""
+    reached = [cost for lag, cost in unit.lags if lag <= down]
+    return reached[-1] if reached else unit.lags[0][1] if unit.lags else 0
+
+
+class Costs:
+    """The cost of schedules of thermal units; what a power costs is worked out once."""
+
+    def __init__(self):
+        self.known = {}
+
+    def of_power(self, unit, power):
+        key = unit.name, power
+        if key not in self.known:
+            self.known[key] = envelope(unit.points, power)
+        return self.known[key]
+
+    def of_plan(self, unit, plan):
+        total, was_on, down = 0, unit.on0, unit.down0
+        for on, power in zip(plan.on, plan.power):
+            if on:
+                total += self.of_power(unit, power) + (0 if was_on else start_cost(unit, down))
+            down = 0 if on else 1 if was_on else down + 1
+            was_on = on
+        return total
+
+
+def worth(blocks, power):
+    """What the first so many kilowatts of a bid's blocks are worth."""
+    total = 0
+    for width, price in blocks:
+        total += min(width, power) * price
+        power -= min(width, power)
+    return total

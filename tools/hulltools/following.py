@@ -1,0 +1,108 @@
+"""Schedules in megawatts from elsewhere: what each unit is to do, by its name."""
+import csv
+import io
+from dataclasses import dataclass, field
+
+from .json_texts import Refused, is_number, parse
+from .trouble import Wrong, one_line, read_bytes
+
+JULIA = {"on": ("Is on",), "power": ("Production (MW)", "Thermal production (MW)", "Profiled production (MW)"), "reserve": ("Reserve (MW)",)}
+EGRET = {"on": ("commitment",), "power": ("pg", "p"), "reserve": ("rg", "headroom")}
+PLAIN = {"on": ("on",), "power": ("power",), "reserve": ("reserve",)}
+
+
+@dataclass
+class Followed:
+    """Lists over the periods by a unit's name: on flags, powers and reserves in megawatts."""
+
+    on: dict = field(default_factory=dict)
+    power: dict = field(default_factory=dict)
+    reserve: dict = field(default_factory=dict)
+
+
+def number(value, name, where):
+    if isinstance(value, bool):
+        return float(value)
+    if is_number(value):
+        return float(value)
+    raise Wrong(f"{name}: {one_line(where)}: a number is due")
+
+
+def numbers(value, periods, name, where):
+    """A list over the periods, plain or under `values` as egret has it, or by period as text."""
+    if isinstance(value, dict) and "values" in value:
+        value = value["values"]
+    if isinstance(value, dict):
+        value = list(value.values())
+    if not isinstance(value, list) or len(value) != periods:
+        raise Wrong(f"{name}: {one_line(where)}: a list of {periods} numbers is due")
+    return [number(it, name, where) for it in value]
+
+
+def units_of(value):
+    """By unit name an object of lists, whichever of the three forms the file has."""
+    if isinstance(value.get("elements"), dict):
+        return value["elements"].get("generator", {}), EGRET
+    if any(isinstance(value.get(key), dict) for keys in JULIA.values() for key in keys):
+        turned = {}
+        for key, by_name in value.items():
+            for unit, row in (by_name.items() if isinstance(by_name, dict) else ()):
+                turned.setdefault(unit, {})[key] = row
+        return turned, JULIA
+    found = {}
+    for group in ("thermal", "renewable", "bids"):
+        for unit, row in (value.get(group) or {}).items():
+            found[unit] = row if isinstance(row, dict) else {"power": row}
+    return found, PLAIN
+
+
+def followed_json(data, name, periods):
+    try:
+        value = parse(data)
+    except Refused as why:
+        raise Wrong(f"{name}: no JSON text: {why}") from None
+    if not isinstance(value, dict):
+        raise Wrong(f"{name}: an object is due")
+    units, keys = units_of(value)
+    found = Followed()
+    for unit, row in units.items():
+        for what, names in keys.items():
+            key = next((it for it in names if isinstance(row, dict) and it in row), None)
+            if key is not None and isinstance(row[key], (list, dict)):
+                getattr(found, what)[unit] = numbers(row[key], periods, name, f"{unit}, {key}")
+    return found
+
+
+def followed_csv(data, name, periods):
+    """Rows of unit, period from 1, on, power and reserve; the first row names the columns, in any order."""
+    rows = csv.DictReader(io.StringIO(data.decode("utf-8-sig")))
+    if not {"unit", "period", "power"} <= set(rows.fieldnames or ()):
+        raise Wrong(f"{name}: the first line has to name the columns unit, period, on, power, reserve")
+    found = Followed()
+    for line, row in enumerate(rows, 2):
+        try:
+            period = int(row["period"])
+            for what in ("on", "power", "reserve"):
+                if row.get(what) not in (None, ""):
+                    getattr(found, what).setdefault(row["unit"], [0.0] * periods)[period - 1] = float(row[what])
+        except (ValueError, IndexError, TypeError):
+            raise Wrong(f"{name}, line {line}: no row of unit, period from 1 to {periods}, and numbers") from None
+        if not 1 <= period <= periods:
+            raise Wrong(f"{name}, line {line}: period {period} isn't one of 1 to {periods}")
+    return found
+
+
+def read_followed(name, case):
+    """What a schedule from elsewhere says: JSON or csv. Units that the case hasn't are skipped."""
+    data = read_bytes(name, "a schedule")
+    try:
+        is_json = data.decode("utf-8-sig").lstrip().startswith("{")
+        found = (followed_json if is_json else followed_csv)(data, name, case.periods)
+    except UnicodeDecodeError:
+        raise Wrong(f"{name}: it isn't UTF-8") from None
+    for it in case.thermal:
+        if it.name not in found.on and it.name in found.power:
+            found.on[it.name] = [float(power > 1e-6) for power in found.power[it.name]]
+        if it.name not in found.on:
+            raise Wrong(f'{name}: it has no on flags of thermal unit "{one_line(it.name)}"')
+    return found

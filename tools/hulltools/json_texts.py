@@ -1,0 +1,88 @@
+"""JSON texts in the profile of docs/FORMATS.md; a number with a fraction or an exponent is a Decimal."""
+import json
+import re
+from decimal import Decimal
+
+from .trouble import Wrong, read_bytes
+
+MOST_DIGITS, MOST_EXPONENT, MOST_DEPTH = 30, 400, 32
+LONE = re.compile("[\ud800-\udfff]")
+
+
+class Refused(ValueError):
+    """Why a text isn't one of the profile."""
+
+
+def counted(text):
+    """Refuses the number's text where it has too many digits or too large an exponent."""
+    digits, _, exponent = text.lower().lstrip("-").partition("e")
+    if len(digits.replace(".", "").lstrip("0")) > MOST_DIGITS:
+        raise Refused(f"a number has more than {MOST_DIGITS} digits")
+    if len(exponent.lstrip("+-").lstrip("0")) > 3 or abs(int(exponent or 0)) > MOST_EXPONENT:
+        raise Refused(f"a number has an exponent above {MOST_EXPONENT}")
+    return text
+
+
+def whole_number(text):
+    return int(counted(text))
+
+
+def decimal_number(text):
+    return Decimal(counted(text))
+
+
+def constant(text):
+    raise Refused(f"{text} is no JSON")
+
+
+def pairs(members):
+    found = {}
+    for key, value in members:
+        if key in found:
+            raise Refused(f"the key {json.dumps(key)} stands twice in one object")
+        found[key] = value
+    return found
+
+
+def refuse_what_is_odd(value, depth=1):
+    """Refuses half a surrogate pair, and objects and lists that are too deep."""
+    if isinstance(value, str):
+        if LONE.search(value):
+            raise Refused("a string has half a surrogate pair")
+    elif isinstance(value, (list, dict)):
+        if depth > MOST_DEPTH:
+            raise Refused(f"it has more than {MOST_DEPTH} levels")
+        for it in value.items() if isinstance(value, dict) else value:
+            for part in it if isinstance(it, tuple) else (it,):
+                refuse_what_is_odd(part, depth + 1)
+
+
+def parse(data):
+    """The value of a JSON text, or Refused."""
+    try:
+        text = data.decode("utf-8")
+    except UnicodeDecodeError as error:
+        raise Refused(f"byte {error.start} isn't UTF-8") from None
+    if text.startswith("\ufeff"):
+        raise Refused("it begins with a byte order mark")
+    hooks = dict(parse_int=whole_number, parse_float=decimal_number, parse_constant=constant)
+    try:
+        value = json.loads(text, object_pairs_hook=pairs, **hooks)
+        refuse_what_is_odd(value)
+    except json.JSONDecodeError as error:
+        raise Refused(f"at byte {len(text[: error.pos].encode())}: {error.msg}") from None
+    except RecursionError:
+        raise Refused(f"it has more than {MOST_DEPTH} levels") from None
+    return value
+
+
+def read_json(name, what):
+    """The value of a file; `what` says what it is to be, as 'a case'."""
+    try:
+        return parse(read_bytes(name, what))
+    except Refused as why:
+        raise Wrong(f"{name}: no JSON text as {what} has it: {why}") from None
+
+
+def is_number(value):
+    return isinstance(value, (int, Decimal)) and not isinstance(value, bool)

@@ -1,0 +1,32 @@
+"""Says a fault line of `hull` as a sentence: which file and unit, what was found there, and what is due.
+
+usage: explain.py CASE SCHEDULE [--prices F] [--mixture F] [--report F] < LINE
+
+CASE and SCHEDULE are the files that the run was given, and so are those of the options. LINE is what the run printed: its first line
+that begins with `fault` is explained.
+"""
+import argparse
+import sys
+
+from ..faults import Files, sentence
+from ..trouble import Wrong, read_bytes, run_tool
+
+
+def body(words, tell):
+    ask = argparse.ArgumentParser(prog="explain.py", usage=__doc__.split("usage: ")[1])
+    ask.add_argument("case")
+    ask.add_argument("schedule")
+    for it in ("prices", "mixture", "report"):
+        ask.add_argument(f"--{it}")
+    given = vars(ask.parse_args(words))
+    lines = read_bytes("-", "a fault line").decode("utf-8", "replace").split("\n")
+    line = next((it.strip("\r") for it in lines if it.startswith("fault ")), None)
+    if line is None:
+        raise Wrong("standard input has no fault line")
+    text = sentence(line, Files({key: it for key, it in given.items() if it}))
+    sys.stdout.buffer.write(f"{text}\n".encode("utf-8", "replace"))
+    sys.stdout.buffer.flush()
+
+
+def main(words):
+    return run_tool("explain.py", body, words)

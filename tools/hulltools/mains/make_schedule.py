@@ -1,0 +1,97 @@
+"""Makes a feasible schedule in whole kilowatts for a case.
+
+usage: make_schedule.py CASE SCHEDULE [--gap G] [--seconds S] [--follow FILE] [--hull PROGRAM]
+
+  CASE            a case as `hull` reads it (docs/FORMATS.md)
+  SCHEDULE        where the schedule is written, once `hull check` has accepted it
+  --gap G         stop at a cost within this share of the solver's bound; 0.0001 if left out
+  --seconds S     stop the search after so many seconds, and take what it has; 240 if left out
+  --follow FILE   no search: the commitments of a schedule in megawatts from elsewhere, and whole kilowatts as near to its powers as
+                  can be: JSON as egret and UnitCommitment.jl write it, or as a schedule of hull in megawatts, or a csv with the columns
+                  unit, period, on, power and reserve
+  --hull PROGRAM  the program that checks; the launcher of this repository if left out
+
+Needs SciPy with its solver HiGHS (Debian: python3-scipy, with /usr/bin/python3). Nothing of this tool is proved, and nothing has to
+be: `hull check`, which is, holds the schedule against every rule. That no schedule costs less than the bound is the solver's word
+alone, and of costs that are straight between the points of a curve.
+
+Three steps: which units are on (a mixed integer program), what each gives (the same with those choices held), and the whole
+kilowatts next to that which balance exactly and cost least (a small integer program).
+"""
+import argparse
+import math
+
+from ..cases import read_case
+from ..following import read_followed
+from ..linear import need_scipy
+from ..numbers import money
+from ..program import Hull, as_file
+from ..scheduling import farthest, follow, make_schedule
+from ..trouble import Wrong, refuse_inputs, run_tool, write_whole
+
+
+def positive(text):
+    """A number of the command line that is at least 0."""
+    number = float(text)
+    if not 0 <= number < math.inf:
+        raise ValueError(text)
+    return number
+
+
+def arguments(words):
+    ask = argparse.ArgumentParser(prog="make_schedule.py", usage=__doc__.split("usage: ")[1])
+    ask.add_argument("case")
+    ask.add_argument("schedule")
+    ask.add_argument("--gap", type=positive, default=0.0001)
+    ask.add_argument("--seconds", type=positive, default=240.0)
+    ask.add_argument("--follow")
+    ask.add_argument("--hull")
+    return ask.parse_args(words)
+
+
+def checked_case(hull, name):
+    """The case of a file that `hull` accepts."""
+    why = hull.refusal_of_case(name)
+    if why:
+        raise Wrong(f"hull refuses the case: {why} (docs/FAULTS.md)")
+    return read_case(name)
+
+
+def made(given, case, tell):
+    if given.follow:
+        followed = read_followed(given.follow, case)
+        found = follow(case, followed, given.follow)
+        off, unit, period = farthest(case, found.schedule, followed)
+        near = f", in period {period} of {unit}" if unit is not None else ""
+        return found.schedule, f"its powers are within {off:.3f} kW of those of {given.follow}{near}"
+    sizes = f"{len(case.thermal)} thermal and {len(case.renewable)} renewable units, {len(case.bids)} bids, {case.periods} periods"
+    tell(f"{sizes}: searching for at most {given.seconds:g} s")
+    found = make_schedule(case, given.gap, given.seconds, tell)
+    reached = "within" if found.gap <= given.gap else "the time was over, and it is within"
+    return found.schedule, f"{reached} {found.gap * 100:.4f} % of the solver's bound of straight costs, {found.bound:,.2f}"
+
+
+def make(given, tell):
+    """Makes the schedule, has it checked, writes it; its cost in millionths and what was reached."""
+    hull = Hull(given.hull, tell)
+    case = checked_case(hull, given.case)
+    schedule, reached = made(given, case, tell)
+    try:
+        with as_file(schedule) as name:
+            cost = hull.check(given.case, name)
+    except Wrong as why:
+        raise Wrong(f"nothing is written, since what was found is refused: {why}") from None
+    write_whole(given.schedule, schedule.text(), [given.case])
+    return cost, reached
+
+
+def body(words, tell):
+    need_scipy()
+    given = arguments(words)
+    refuse_inputs(given.schedule, [it for it in (given.case, given.follow) if it])
+    cost, reached = make(given, tell)
+    tell(f"hull check accepts {given.schedule}: cost {money(cost)}; {reached}")
+
+
+def main(words):
+    return run_tool("make_schedule.py", body, words)

@@ -1,0 +1,94 @@
+"""A mixture: weighted schedules of each thermal unit, and the bound that they prove."""
+import json
+from dataclasses import dataclass
+
+from .json_texts import is_number, read_json
+from .numbers import PRICE_LIMIT, is_whole
+from .schedules import Plan, thermal_plan
+from .trouble import Wrong, one_line
+
+MOST_WEIGHT = 10**12
+
+
+@dataclass
+class Entry:
+    """A schedule of a thermal unit, and its weight."""
+
+    weight: int
+    plan: Plan
+
+
+@dataclass
+class Mixture:
+    """For each thermal unit, by name, entries whose weights sum to `weight`."""
+
+    weight: int
+    thermal: dict
+
+    def text(self):
+        of = lambda it: {"weight": it.weight, "on": it.plan.on, "power": it.plan.power, "reserve": it.plan.reserve}
+        thermal = {name: [of(it) for it in entries] for name, entries in self.thermal.items()}
+        return json.dumps({"weight": self.weight, "thermal": thermal}, ensure_ascii=False) + "\n"
+
+    def bound(self, case, costs, prices, radius=2 * PRICE_LIMIT):
+        """No prices within the radius of these have a greater dual value, where each entry is a schedule that its unit can run.
+
+        `costs` has the cost of each entry, in the units' order. The sum for each price is the greatest over the places where its
+        slope changes.
+        """
+        total = sum(it.weight * cost for it, cost in zip(self.entries(case), costs))
+        for t in range(case.periods):
+            lack = self.weight * case.demand[t] - sum(it.weight * it.plan.power[t] for it in self.entries(case))
+            short = self.weight * case.reserves[t] - sum(it.weight * it.plan.reserve[t] for it in self.entries(case))
+            low, high = max(-PRICE_LIMIT, prices.energy[t] - radius), min(PRICE_LIMIT, prices.energy[t] + radius)
+            total += max(at * lack - self.weight * flat_best(case, t, at) for at in turns(case, t, low, high))
+            low, high = max(0, prices.reserve[t] - radius), min(PRICE_LIMIT, prices.reserve[t] + radius)
+            total += max(low * short, high * short)
+        return total // self.weight
+
+    def entries(self, case):
+        return [entry for it in case.thermal for entry in self.thermal[it.name]]
+
+
+def flat_best(case, t, at):
+    """What renewable units and bids earn at best in a period at an energy price."""
+    sold = sum(max(at * it.least[t], at * it.most[t]) for it in case.renewable)
+    return sold + sum(width * max(0, price - at) for it in case.bids for width, price in it.blocks[t])
+
+
+def turns(case, t, low, high):
+    """The ends of the interval, and where within it what is earned changes its slope."""
+    places = {0, *(price for it in case.bids for _, price in it.blocks[t])}
+    return {low, high, *(it for it in places if low < it < high)}
+
+
+def weight_of(value, least, most, told):
+    if not is_number(value) or not is_whole(value) or not least <= value <= most:
+        raise told(f"weight is no whole number from {least} to {most:,}")
+    return int(value)
+
+
+def read_mixture(name, case):
+    """The mixture of a file for a case, in form; whether a unit can run an entry is for `hull certify` to say."""
+    value = read_json(name, "a mixture")
+    if not isinstance(value, dict) or not isinstance(value.get("thermal"), dict):
+        raise Wrong(f"{name}: no mixture: it isn't an object with `weight` and the object `thermal`")
+    weight = weight_of(value.get("weight"), 1, MOST_WEIGHT, lambda it: Wrong(f"{name}: {it}"))
+    names = {it.name for it in case.thermal}
+    for it in value["thermal"]:
+        if it not in names:
+            raise Wrong(f'{name}: the case has no thermal unit "{one_line(it)}"')
+    thermal = {}
+    for it in case.thermal:
+        told = lambda what, it=it: Wrong(f'{name}: thermal unit "{one_line(it.name)}": {what}')
+        rows = value["thermal"].get(it.name)
+        if not isinstance(rows, list) or not rows or not all(isinstance(row, dict) for row in rows):
+            raise told("has no list of entries")
+        entries = []
+        for row in rows:
+            plan = thermal_plan(row, case.periods, told)
+            entries.append(Entry(weight_of(row.get("weight"), 0, weight, told), plan))
+        if sum(entry.weight for entry in entries) != weight:
+            raise told(f"the weights don't sum to {weight}")
+        thermal[it.name] = entries
+    return Mixture(weight, thermal)

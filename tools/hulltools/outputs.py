@@ -1,0 +1,342 @@
+"""The texts that `hull` prints, read as strictly as `hull audit` reads a report: to the byte, within its bounds.
+
+A line ends at a line feed and at nothing else, so a name may hold any other character.
+"""
+import json
+import re
+from dataclasses import dataclass, field
+
+from .prices import Prices
+from .trouble import Wrong, one_line, read_bytes, shown_name
+
+COUNT = (0, 2**32 - 1)
+MONEY = (-(2**63), 2**63 - 1)
+SUM = (-(2**127), 2**127 - 1)
+PRICE = 10_000_000
+RADIUS = (0, 20_000_000)
+NUMBER = r"(0|-?[1-9][0-9]{0,38})"
+NAME = r'"(?:[^\x00-\x1f"\\]|\\["\\]|\\u00[01][0-9a-f])*"'
+KINDS = ("thermal", "renewable", "bid")
+
+
+@dataclass
+class Row:
+    """Prices of a proposal or of a settlement, with their dual value and the totals of the best responses."""
+
+    number: int
+    value: int
+    energy: list
+    reserve: list
+    supplied: list
+    reserved: list
+
+
+@dataclass
+class Owed:
+    """A unit or bid: what it earns at best and in the schedule, what it is owed, and its best response."""
+
+    kind: str
+    name: str
+    earned: int
+    scheduled: int
+    payment: int
+    on: list = field(default_factory=list)
+    power: list = field(default_factory=list)
+    reserve: list = field(default_factory=list)
+
+    @property
+    def make_whole(self):
+        """The part of the payment that brings a loss in the schedule up to 0."""
+        return min(self.payment, max(0, -self.scheduled))
+
+    @property
+    def lost_opportunity(self):
+        """The rest of the payment: the profit that the unit forgoes."""
+        return self.payment - self.make_whole
+
+
+@dataclass
+class Priced:
+    """What reports and settlements have in common: one list of prices, and what each unit is owed at it."""
+
+    name: str
+    periods: int
+    cost: int
+    best: Row
+    units: list
+    surplus: int
+    payments: int
+    gap: int
+
+    @property
+    def prices(self):
+        return Prices(self.best.energy, self.best.reserve)
+
+    @property
+    def make_whole(self):
+        return sum(it.make_whole for it in self.units)
+
+
+@dataclass
+class Report(Priced):
+    """The text of `hull price`."""
+
+    command = "price"
+    budget: int
+    ahead: int
+    proposals: list
+
+    @property
+    def chosen(self):
+        return self.best.number
+
+
+@dataclass
+class Settlement(Priced):
+    """The text of `hull settle`."""
+
+    command = "settle"
+
+    @property
+    def proposals(self):
+        return [self.best]
+
+
+@dataclass
+class Bound:
+    """The text of `hull bound`."""
+
+    command = "bound"
+    name: str
+    proposals: int
+    chosen: int
+    value: int
+    radius: int
+    first: int
+    last: int
+    bound: int
+    distance: int
+
+
+@dataclass
+class Side:
+    """One side of `hull fixed`: how many proposals, the chosen one, its value and prices, and the sums."""
+
+    proposals: int
+    chosen: int
+    value: int
+    prices: Prices = None
+    payments: int = 0
+    surplus: int = 0
+
+
+@dataclass
+class Fixed:
+    """The text of `hull fixed`: the sides `hull` and `fixed`, and (kind, name, payment, payment) of each unit."""
+
+    command = "fixed"
+    name: str
+    hull: Side
+    fixed: Side
+    units: list
+    cost: int
+
+
+@dataclass
+class Certificate:
+    """The text of `hull certify`."""
+
+    command = "certify"
+    name: str
+    periods: int
+    units: int
+    cost: int
+    value: int
+    surplus: int
+    payments: int
+    gap: int
+    radius: int
+    bound: int
+    distance: int
+    least: int
+
+
+class Lines:
+    """The lines of a text, taken one by one, each with the form and the ranges that are due there."""
+
+    def __init__(self, name, data, what):
+        self.name, self.what, self.read = shown_name(name), what, 0
+        *self.whole, self.rest = data.split(b"\n")
+
+    def wrong(self, more=""):
+        return Wrong(f"{self.name}, line {self.read + 1}: not a line of {self.what}{more}")
+
+    def next(self):
+        """The next line as a text, or None where there is no whole one."""
+        if self.read >= len(self.whole):
+            return None
+        try:
+            return self.whole[self.read].decode("utf-8")
+        except UnicodeDecodeError:
+            raise self.wrong(": it isn't UTF-8") from None
+
+    def take(self, pattern, *ranges):
+        """The groups of the next line; the last of them are numbers within the ranges, and come as such."""
+        line = self.next()
+        found = re.fullmatch(pattern, line) if line is not None else None
+        if not found:
+            raise self.wrong()
+        groups = list(found.groups())
+        for place, (low, high) in enumerate(ranges, len(groups) - len(ranges)):
+            groups[place] = int(groups[place])
+            if not low <= groups[place] <= high:
+                raise self.wrong(": a number is out of its range")
+        self.read += 1
+        return groups
+
+    def number(self, word, low, high):
+        return self.take(f"{word} {NUMBER}", (low, high))[0]
+
+    def numbers(self, word, length, low, high):
+        line = self.next()
+        first, *found = line.split(" ") if line is not None else [None]
+        if first != word.split(" ")[0] or not line.startswith(f"{word} "):
+            raise self.wrong()
+        found = found[len(word.split(" ")) - 1 :]
+        if len(found) != length:
+            raise self.wrong(f": it has {len(found)} numbers, and not {length}")
+        if not all(re.fullmatch(NUMBER, it) and low <= int(it) <= high for it in found):
+            raise self.wrong(": a number is out of form or of its range")
+        self.read += 1
+        return [int(it) for it in found]
+
+    def end(self):
+        self.take("end")
+        if self.read < len(self.whole) or self.rest:
+            raise self.wrong(": the text ended above")
+
+
+def name_of(text):
+    return json.loads(text)
+
+
+def read_lists(lines, periods):
+    energy = lines.numbers("energy", periods, -PRICE, PRICE)
+    reserve = lines.numbers("reserve", periods, 0, PRICE)
+    return [energy, reserve, *(lines.numbers(it, periods, *SUM) for it in ("supplied", "reserved"))]
+
+
+def read_units(lines, count, periods):
+    units, least = [], 0
+    for _ in range(count):
+        owed = "".join(f" {it} {NUMBER}" for it in ("earned", "scheduled", "payment"))
+        kind, name, *sums = lines.take(f"unit ({'|'.join(KINDS[least:])}) ({NAME}){owed}", MONEY, MONEY, MONEY)
+        least = KINDS.index(kind)
+        unit = Owed(kind, name_of(name), *sums)
+        unit.on = lines.numbers("on", periods, 0, 1) if kind == "thermal" else [1] * periods
+        unit.power = lines.numbers("power", periods, *COUNT)
+        unit.reserve = lines.numbers("reserve", periods, *COUNT) if kind == "thermal" else [0] * periods
+        units.append(unit)
+    return units
+
+
+def read_head(lines):
+    return lines.number("periods", 1, 168), lines.number("units", 1, 12_288)
+
+
+def read_sums(lines):
+    sums = [lines.number(it, *SUM) for it in ("surplus", "payments", "gap")]
+    lines.end()
+    return sums
+
+
+def read_report(lines):
+    lines.take("hull-report 1")
+    periods, count = read_head(lines)
+    budget, ahead = lines.number("budget", 1, 10_000), lines.number("ahead", 1, 16)
+    cost = lines.number("cost", *SUM)
+    rows = []
+    for number in range(1, lines.number("proposals", 1, COUNT[1]) + 1):
+        (value,) = lines.take(f"proposal {number} value {NUMBER}", SUM)
+        rows.append(Row(number, value, *read_lists(lines, periods)))
+    chosen, value = lines.take(f"chosen {NUMBER} value {NUMBER}", COUNT, SUM)
+    if not 1 <= chosen <= len(rows):
+        raise Wrong(f"{lines.name}, line {lines.read}: there is no proposal {chosen}")
+    if rows[chosen - 1].value != value:
+        raise Wrong(f"{lines.name}, line {lines.read}: proposal {chosen} has another value")
+    units = read_units(lines, count, periods)
+    return Report(lines.name, periods, cost, rows[chosen - 1], units, *read_sums(lines), budget, ahead, rows)
+
+
+def read_settlement(lines):
+    lines.take("hull-settlement 1")
+    periods, count = read_head(lines)
+    cost, value = lines.number("cost", *SUM), lines.number("value", *SUM)
+    row = Row(1, value, *read_lists(lines, periods))
+    units = read_units(lines, count, periods)
+    return Settlement(lines.name, periods, cost, row, units, *read_sums(lines))
+
+
+def read_bound(lines):
+    lines.take("hull-bound 1")
+    proposals = lines.number("proposals", 1, COUNT[1])
+    chosen, value = lines.take(f"chosen {NUMBER} value {NUMBER}", COUNT, SUM)
+    radius = lines.number("radius", *RADIUS)
+    first, last = lines.take(f"certificate first {NUMBER} last {NUMBER}", COUNT, COUNT)
+    bound, distance = lines.number("bound", *SUM), lines.number("distance", *SUM)
+    lines.end()
+    return Bound(lines.name, proposals, chosen, value, radius, first, last, bound, distance)
+
+
+def read_fixed(lines):
+    lines.take("hull-fixed 1")
+    run = f"proposals {NUMBER} chosen {NUMBER} value {NUMBER}"
+    hull, fixed = (Side(*lines.take(f"{it} {run}", COUNT, COUNT, SUM)) for it in ("hull", "fixed"))
+    periods = len((lines.next() or "").split(" ")) - 2
+    for word, side in (("hull", hull), ("fixed", fixed)):
+        energy = lines.numbers(f"{word} energy", periods, -PRICE, PRICE)
+        side.prices = Prices(energy, lines.numbers(f"{word} reserve", periods, 0, PRICE))
+    units = []
+    while (lines.next() or "").startswith("unit "):
+        kind, name, *sums = lines.take(
+            f"unit ({'|'.join(KINDS)}) ({NAME}) hull {NUMBER} fixed {NUMBER}", MONEY, MONEY
+        )
+        units.append((kind, name_of(name), *sums))
+    hull.payments, fixed.payments = lines.take(f"payments hull {NUMBER} fixed {NUMBER}", SUM, SUM)
+    hull.surplus, fixed.surplus = lines.take(f"surplus hull {NUMBER} fixed {NUMBER}", SUM, SUM)
+    cost = lines.number("cost", *SUM)
+    lines.end()
+    return Fixed(lines.name, hull, fixed, units, cost)
+
+
+def read_certificate(lines):
+    lines.take("hull-certificate 1")
+    head = read_head(lines)
+    sums = [lines.number(it, *SUM) for it in ("cost", "value", "surplus", "payments", "gap")]
+    radius = lines.number("radius", *RADIUS)
+    last = [lines.number(it, *SUM) for it in ("bound", "distance", "least")]
+    lines.end()
+    return Certificate(lines.name, *head, *sums, radius, *last)
+
+
+FORMS = {
+    "hull-report 1": ("a report of `hull price`", read_report),
+    "hull-settlement 1": ("a text of `hull settle`", read_settlement),
+    "hull-bound 1": ("a text of `hull bound`", read_bound),
+    "hull-fixed 1": ("a text of `hull fixed`", read_fixed),
+    "hull-certificate 1": ("a text of `hull certify`", read_certificate),
+}
+
+
+def parse_output(name, data, due=tuple(FORMS)):
+    """The text of `hull` that these bytes are, of the forms that are due."""
+    first = data.split(b"\n", 1)[0].decode("utf-8", "replace")
+    if first.startswith("fault "):
+        raise Wrong(f"{shown_name(name)}: this run was refused: {one_line(first)[:200]}")
+    what, read = FORMS[first if first in due else due[0]]
+    return read(Lines(name, data, what))
+
+
+def read_output(name, due=tuple(FORMS)):
+    """The text of `hull` in a file."""
+    return parse_output(name, read_bytes(name, "a text of hull", most=2**31), due)

@@ -1,0 +1,69 @@
+"""A picture of a report or a settlement by matplotlib."""
+import io
+import os
+
+from .pages import largest_payments, short
+from .trouble import Wrong
+
+
+def plain(name):
+    """A name that matplotlib doesn't read as a formula."""
+    return short(name).replace("$", r"\$")
+
+
+def draw_prices(axes, priced):
+    rows = [("prices", priced.best)]
+    if priced.command == "price":
+        rows = [("first proposal", priced.proposals[0]), (f"chosen (proposal {priced.chosen})", priced.best)]
+    for place, (name, row) in enumerate(rows):
+        is_last = place == len(rows) - 1
+        how = dict(linestyle="-" if is_last else "--", drawstyle="steps-mid", alpha=1 if is_last else 0.5)
+        for key, colour in (("energy", "tab:blue"), ("reserve", "tab:orange")):
+            numbers = [it / 1e3 for it in getattr(row, key)]
+            if key == "energy" or any(numbers):
+                axes.plot(range(1, priced.periods + 1), numbers, color=colour, label=f"{key}, {name}", **how)
+    axes.set(title="Prices by period", xlabel="period", ylabel="currency per MW and period")
+    axes.legend(fontsize="small")
+
+
+def draw_values(axes, report):
+    numbers = [it.number for it in report.proposals]
+    axes.axhline(report.cost / 1e6, color="tab:red", label="cost of the schedule")
+    axes.plot(numbers, [it.value / 1e6 for it in report.proposals], ".-", color="tab:blue", label="dual value")
+    axes.plot([report.chosen], [report.best.value / 1e6], "o", color="tab:blue", label="chosen")
+    axes.set(title="Dual value by proposal", xlabel="proposal", ylabel="currency")
+    axes.legend(fontsize="small")
+    axes.ticklabel_format(style="plain", axis="y", useOffset=False)
+
+
+def draw_payments(axes, priced):
+    shown, rest = largest_payments(priced.units)
+    places, whole = range(len(shown)), [it.make_whole / 1e6 for it in shown]
+    lost = [it.lost_opportunity / 1e6 for it in shown]
+    axes.bar(places, whole, color="tab:orange", label="make-whole")
+    axes.bar(places, lost, bottom=whole, color="tab:blue", label="lost opportunity")
+    axes.set_xticks(places, [plain(it.name) for it in shown], rotation=90, fontsize="small")
+    axes.set(title="Payments by unit" + (f" ({rest.rstrip('.')})" if rest else ""), ylabel="currency")
+    axes.legend(fontsize="small")
+
+
+def picture_of(priced, name):
+    """The bytes of a picture in the form that the name's end says."""
+    try:
+        import matplotlib
+    except ImportError:
+        raise Wrong("plot needs matplotlib (Debian: python3-matplotlib); page draws without it") from None
+    matplotlib.use("Agg")
+    import matplotlib.pyplot as plt
+
+    parts = [draw_prices, draw_values, draw_payments] if priced.command == "price" else [draw_prices, draw_payments]
+    figure, axes = plt.subplots(len(parts), 1, figsize=(9, 4 * len(parts)), constrained_layout=True)
+    for draw, it in zip(parts, axes):
+        draw(it, priced)
+    into = io.BytesIO()
+    try:
+        figure.savefig(into, dpi=110, format=os.path.splitext(name)[1].lstrip(".") or "png")
+    except ValueError as error:
+        raise Wrong(f"{name}: {error}") from None
+    plt.close(figure)
+    return into.getvalue()

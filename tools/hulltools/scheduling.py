@@ -1,0 +1,158 @@
+"""Feasible schedules in whole kilowatts: found by solving the unit commitment problem, or near one from elsewhere."""
+from dataclasses import dataclass
+
+from .commitment import Commitment
+from .following import Followed
+from .rounding import reserves_of, whole_powers
+from .schedules import Plan, Schedule, flat_plan
+from .trouble import Wrong, one_line
+
+
+@dataclass
+class Made:
+    """A schedule, and the solver's own cost and bound of it, in the currency; None where no search was made."""
+
+    schedule: Schedule
+    cost: float = None
+    bound: float = None
+
+    @property
+    def gap(self):
+        """By what share of its cost the solver's choice is above its bound."""
+        return max(0.0, self.cost - self.bound) / max(abs(self.cost), 1e-9)
+
+
+def refuse_contradictions(case):
+    """Says which two rules of a unit leave it no flag in a period."""
+    for unit in case.thermal:
+        low, high = unit.on_bounds()
+        t = next((t for t in range(case.periods) if low[t] > high[t]), None)
+        if t is None:
+            continue
+        on = "it is must-run" if unit.must_run else ""
+        if unit.on0 and t < unit.min_up - unit.up0:
+            on = "its minimum time up isn't over"
+        elif unit.on0 and t == 0 and unit.power0 > unit.stop_cap:
+            on = on or "its initial output is above its stop limit, so it can't stop in period 1"
+        on = on or "its window says on"
+        off = "its window says off" if unit.marks[t] == 0 else "its minimum time down isn't over"
+        raise Wrong(f'the case can\'t be met: in period {t + 1} unit "{one_line(unit.name)}" can be neither on nor off: {on}, and {off}')
+
+
+def why_not(case):
+    """Why the case can't be met, as far as one period alone shows; an empty text where it doesn't."""
+    bounds = [it.on_bounds() for it in case.thermal]
+    for t in range(case.periods):
+        at_most = sum(it.most * high[t] for it, (_, high) in zip(case.thermal, bounds))
+        at_least = sum(it.least * low[t] for it, (low, _) in zip(case.thermal, bounds))
+        most = at_most + sum(it.most[t] for it in case.renewable)
+        least = at_least + sum(it.least[t] for it in case.renewable)
+        buys = sum(width for it in case.bids for width, _ in it.blocks[t])
+        kept = sum((it.most - it.least) * high[t] for it, (_, high) in zip(case.thermal, bounds))
+        told = f": in period {t + 1} the units "
+        if most < case.demand[t]:
+            return f"{told}give at most {most / 1e3:g} MW, and demand is {case.demand[t] / 1e3:g} MW"
+        if least > case.demand[t] + buys:
+            return f"{told}give at least {least / 1e3:g} MW, and demand and bids take {(case.demand[t] + buys) / 1e3:g} MW"
+        if kept < case.reserves[t]:
+            return f"{told}can keep at most {kept / 1e3:g} MW in reserve, and {case.reserves[t] / 1e3:g} MW are required"
+    return ""
+
+
+def powers_found(model, x):
+    """The solver's powers in megawatts, by kind and place of the unit."""
+    every = range(model.case.periods)
+    found = {}
+    for i, it in enumerate(model.units):
+        found["thermal", i] = [x[it.on[t]] * it.unit.least / 1e3 + x[it.power[t]] for t in every]
+    for i, row in enumerate(model.renewable):
+        found["renewable", i] = [x[row[t]] for t in every]
+    for i, blocks in enumerate(model.bids):
+        found["bid", i] = [sum(x[it] for it in blocks[t]) for t in every]
+    return found
+
+
+def schedule_of(case, flags, lists, reserves):
+    powers, renewable, bids = lists
+    plans = {
+        ("thermal", it.name): Plan(on, power, reserve)
+        for it, on, power, reserve in zip(case.thermal, flags, powers, reserves)
+    }
+    for kind, units, rows in (("renewable", case.renewable, renewable), ("bid", case.bids, bids)):
+        plans.update({(kind, it.name): flat_plan(row) for it, row in zip(units, rows)})
+    return Schedule(plans)
+
+
+def dispatch(case, model, flags):
+    """The powers of least cost with the flags held, in whole kilowatts."""
+    model.fix(flags)
+    solved = model.program.solve_linear()
+    if solved is None:
+        raise Wrong("the solver's choice of units can't be met exactly: try another --gap")
+    lists = whole_powers(case, flags, powers_found(model, solved.x), solved.value)
+    if lists is None:
+        raise Wrong("no whole kilowatts near the solver's powers balance: try another --gap")
+    return schedule_of(case, flags, lists, reserves_of(case, flags, lists[0]))
+
+
+def make_schedule(case, gap, seconds, tell):
+    """A schedule of a cost near the least that the solver finds in the time."""
+    refuse_contradictions(case)
+    if why_not(case):
+        raise Wrong(f"the case can't be met{why_not(case)}")
+    model = Commitment(case)
+    found = model.program.solve(time_limit=float(seconds), mip_rel_gap=gap)
+    if found.status == 2:
+        raise Wrong("the solver finds that the case can't be met: its rules over the periods leave no schedule (ramps, minimum times, windows, reserves)")
+    if found.x is None:
+        raise Wrong(f"no schedule was found in {seconds:g} s: give --seconds more")
+    # (with no whole variable there is no bound beside the optimum)
+    bound = found.fun if found.mip_dual_bound is None else found.mip_dual_bound
+    return Made(dispatch(case, model, model.flags(found.x)), found.fun, bound)
+
+
+def wanted_powers(case, followed: Followed):
+    """What is wanted of each unit, by kind and place, as far as the file says it."""
+    kinds = (("thermal", case.thermal), ("renewable", case.renewable), ("bid", case.bids))
+    rows = ((kind, i, it.name) for kind, units in kinds for i, it in enumerate(units))
+    return {(kind, i): followed.power[name] for kind, i, name in rows if name in followed.power}
+
+
+def add_distances(model, wanted):
+    """Makes the program's cost the distance from the wanted powers, in kilowatts, with what it costs as the last word."""
+    program, every = model.program, range(model.case.periods)
+    program.cost = [it * 1e-6 for it in program.cost]
+    parts = {("thermal", i): lambda t, it=it: [(it.on[t], it.unit.least / 1e3), (it.power[t], 1)] for i, it in enumerate(model.units)}
+    parts.update({("renewable", i): lambda t, row=row: [(row[t], 1)] for i, row in enumerate(model.renewable)})
+    parts.update({("bid", i): lambda t, row=row: [(it, 1) for it in row[t]] for i, row in enumerate(model.bids)})
+    for key, powers in wanted.items():
+        for t in every:
+            more, less = (program.variable(0, float("inf"), 1e3) for _ in range(2))
+            program.row([*parts[key](t), (more, -1), (less, 1)], powers[t], powers[t])
+
+
+def follow(case, followed, name):
+    """A schedule with the commitments of one from elsewhere, in whole kilowatts, with powers as near as can be."""
+    flags = [[int(it > 0.5) for it in followed.on[unit.name]] for unit in case.thermal]
+    model, wanted = Commitment(case), wanted_powers(case, followed)
+    model.fix(flags)
+    add_distances(model, wanted)
+    solved = model.program.solve_linear()
+    if solved is None:
+        raise Wrong(f"{name}: its commitments can't be met in this case: hull check of a schedule with them says by which rule")
+    lists = whole_powers(case, flags, powers_found(model, solved.x), solved.value, wanted)
+    if lists is None:
+        raise Wrong(f"{name}: no whole kilowatts near its powers balance")
+    kept = {i: followed.reserve[it.name] for i, it in enumerate(case.thermal) if it.name in followed.reserve}
+    return Made(schedule_of(case, flags, lists, reserves_of(case, flags, lists[0], kept)))
+
+
+def farthest(case, schedule, followed):
+    """How far in kilowatts the schedule's powers are from those that were to be followed: the most, and of which unit and period."""
+    rows = (
+        (abs(plan.power[t] - followed.power[name][t] * 1e3), name, t + 1)
+        for (_, name), plan in schedule.plans.items()
+        if name in followed.power
+        for t in range(case.periods)
+    )
+    return max(rows, default=(0.0, None, 0))

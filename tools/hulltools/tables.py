@@ -1,0 +1,131 @@
+"""Tables of the texts that `hull` prints, for spreadsheets and data frames.
+
+Each table is a list of heads and a list of rows. A head ends with the unit of its numbers, which are the text's own, in kilowatts
+and millionths; or, with `currency`, megawatts and the currency, exact all the same.
+"""
+import csv
+import io
+from decimal import Decimal
+
+from .numbers import decimal_text
+
+UNITS = {  # how a number is told: the places that the point moves, and the ends of the heads
+    "kw": (3, "kw", "mw"),
+    "money": (6, "millionths", "currency"),
+    "price": (3, "millionths_per_kw", "currency_per_mw"),
+}
+FORMULA = tuple("=+-@\t\r'")  # what a spreadsheet may take a cell for, and the mark that tells it apart
+
+
+class Table:
+    """A table that is filled row by row. `heads` are names, with the unit behind a colon where there is one."""
+
+    def __init__(self, heads, currency):
+        self.units = [it.partition(":")[2] for it in heads]
+        place = 2 if currency else 1
+        named = (it.partition(":") for it in heads)
+        self.heads = [f"{name}_{UNITS[unit][place]}" if unit else name for name, _, unit in named]
+        self.currency, self.rows = currency, []
+
+    def add(self, *cells):
+        self.rows.append([self.cell(it, unit) for it, unit in zip(cells, self.units)])
+
+    def cell(self, it, unit):
+        if it is None or not unit or not self.currency:
+            return it
+        return Decimal(decimal_text(it, UNITS[unit][0]))
+
+    def text(self, names_as_they_are=False):
+        """The table as comma separated values."""
+        told = (lambda it: it) if names_as_they_are else told_apart
+        into = io.StringIO()
+        csv.writer(into).writerows([self.heads, *([told(it) for it in row] for row in self.rows)])
+        return into.getvalue()
+
+
+def told_apart(cell):
+    """The cell, with ' in front of a text that a spreadsheet would take for a formula, or that begins with ' itself."""
+    return f"'{cell}" if isinstance(cell, str) and cell.startswith(FORMULA) else cell
+
+
+def told_apart_count(tables):
+    """How many names begin so."""
+    cells = {it for table in tables.values() for row in table.rows for it in row if isinstance(it, str)}
+    return sum(it.startswith(FORMULA) for it in cells)
+
+
+HEADS = {
+    "runs": "report command side periods units budget ahead proposals chosen cost:money value:money payments:money "
+    "make_whole:money lost_opportunity:money surplus:money gap:money radius:price bound:money distance:money least:money",
+    "proposals": "report proposal value:money chosen",
+    "prices": "report side proposal chosen period energy:price reserve:price supplied:kw reserved:kw demand:kw requirement:kw",
+    "units": "report side kind name earned:money scheduled:money payment:money make_whole:money lost_opportunity:money",
+    "responses": "report kind name period on power:kw reserve:kw scheduled_on scheduled_power:kw scheduled_reserve:kw",
+}
+
+
+def tables_of(texts, case=None, schedule=None, currency=False):
+    """The tables of some texts by name; demand, requirement and the schedule stand beside where these are given."""
+    tables = {name: Table(heads.split(), currency) for name, heads in HEADS.items()}
+    for it in texts:
+        fill = {"price": add_priced, "settle": add_priced, "fixed": add_fixed}.get(it.command, add_sums)
+        fill(tables, it, case, schedule)
+    return {name: it for name, it in tables.items() if it.rows}
+
+
+def add_run(tables, it, side=None, **known):
+    keys = HEADS["runs"].replace(":money", "").replace(":price", "").split()[3:]
+    tables["runs"].add(it.name, it.command, side, *(known.get(key) for key in keys))
+
+
+def add_sums(tables, it, case, schedule):
+    """A text of `hull bound` or `hull certify`, which has sums alone."""
+    add_run(tables, it, **vars(it))
+
+
+def add_priced(tables, it, case, schedule):
+    searched = it.command == "price"
+    run = {key: value for key, value in vars(it).items() if key not in ("units", "proposals")}
+    run.update(units=len(it.units), value=it.best.value, make_whole=it.make_whole)
+    run.update(lost_opportunity=it.payments - it.make_whole)
+    if searched:
+        run.update(proposals=len(it.proposals), chosen=it.chosen)
+    add_run(tables, it, **run)
+    for row in it.proposals:
+        number, is_chosen = row.number if searched else None, int(row is it.best)
+        if searched:
+            tables["proposals"].add(it.name, number, row.value, is_chosen)
+        for t in range(it.periods):
+            due = (case.demand[t], case.reserves[t]) if case else (None, None)
+            lists = (row.energy[t], row.reserve[t], row.supplied[t], row.reserved[t])
+            tables["prices"].add(it.name, None, number, is_chosen, t + 1, *lists, *due)
+    for unit in it.units:
+        sums = (unit.earned, unit.scheduled, unit.payment, unit.make_whole, unit.lost_opportunity)
+        tables["units"].add(it.name, None, unit.kind, unit.name, *sums)
+        add_response(tables["responses"], it, unit, schedule)
+
+
+def add_response(table, it, unit, schedule):
+    plan = schedule.plan(unit.kind, unit.name) if schedule else None
+    for t in range(it.periods):
+        due = (plan.on[t], plan.power[t], plan.reserve[t]) if plan else (None, None, None)
+        table.add(it.name, unit.kind, unit.name, t + 1, unit.on[t], unit.power[t], unit.reserve[t], *due)
+
+
+def add_fixed(tables, it, case, schedule):
+    for name, side in (("hull", it.hull), ("fixed", it.fixed)):
+        gap = side.payments + side.surplus
+        add_run(tables, it, name, **{**vars(side), "cost": it.cost, "units": len(it.units), "gap": gap})
+        for t, (energy, reserve) in enumerate(zip(side.prices.energy, side.prices.reserve)):
+            due = (case.demand[t], case.reserves[t]) if case else (None, None)
+            tables["prices"].add(it.name, name, side.chosen, 1, t + 1, energy, reserve, None, None, *due)
+        for kind, unit, *payments in it.units:
+            payment = payments[name == "fixed"]
+            tables["units"].add(it.name, name, kind, unit, None, None, payment, None, None)
+
+
+def frames_of(tables):
+    """The tables as data frames of pandas."""
+    import pandas
+
+    return {name: pandas.DataFrame(it.rows, columns=it.heads) for name, it in tables.items()}

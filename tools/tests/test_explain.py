@@ -1,0 +1,75 @@
+"""tools/explain.py: fault lines in words, with the unit's name, what was found and what is due."""
+import os
+import shutil
+import tempfile
+import unittest
+
+from tool import EXAMPLES, run
+
+EVENING = f"{EXAMPLES}/evening"
+
+
+class Explain(unittest.TestCase):
+    def setUp(self):
+        self.room = tempfile.mkdtemp(prefix="hull-explain-")
+        self.addCleanup(shutil.rmtree, self.room)
+
+    def told(self, line, name=None, old="", new=""):
+        """The sentence for a line, with a change of one file of examples/evening."""
+        for it in ("case.json", "schedule.json"):
+            shutil.copy(f"{EVENING}/{it}", self.room)
+        if name:
+            with open(f"{self.room}/{name}", encoding="utf-8") as it:
+                text = it.read()
+            self.assertIn(old, text)
+            with open(f"{self.room}/{name}", "w", encoding="utf-8") as it:
+                it.write(text.replace(old, new, 1))
+        status, text, said = run("explain.py", f"{self.room}/case.json", f"{self.room}/schedule.json", input=f"{line}\n")
+        self.assertEqual((status, said, text.count("\n")), (0, "", 1))
+        return text.strip().replace(f"{self.room}/", "")
+
+    def test_a_rule_of_the_schedule(self):
+        self.assertEqual(
+            self.told("fault 4 schedule 49 kind thermal unit 2 period 2 left 31000 right 30000"),
+            'schedule.json: thermal unit "G2" (number 2) starts in period 2 with 31000 kW of power and reserve, '
+            "and its start limit is 30000 kW.",
+        )
+
+    def test_a_field_of_the_case(self):
+        self.assertEqual(
+            self.told(
+                "fault 3 case 23 field ramp_up_limit kind thermal unit 1 item 0",
+                "case.json",
+                '"ramp_up_limit":20',
+                '"ramp_up_limit":-20.50',
+            ),
+            'case.json: thermal unit "G1" (number 1), ramp_up_limit: it is below 0. Found: -20.50.',
+        )
+
+    def test_a_name_that_the_case_has_not(self):
+        line = "fault 4 schedule 40 kind thermal unit 2 item 0"
+        self.assertIn('"G\\u2028"', self.told(line, "schedule.json", '"G2"', '"G\\u2028"').replace("?", "\\u2028"))
+
+    def test_a_text_that_is_no_json(self):
+        told = self.told("fault 3 case 10 at 0", "case.json", "{", "\ufeff{")
+        self.assertIn("byte order mark", told)
+
+    def test_megawatts_and_swapped_files(self):
+        self.assertIn("megawatts?", self.told("fault 4 schedule 54 kind case unit 0 period 1 left 65 right 65000"))
+        shutil.copy(f"{EVENING}/case.json", f"{self.room}/both.json")
+        ran = run(
+            "explain.py",
+            f"{self.room}/both.json",
+            f"{self.room}/both.json",
+            input="fault 4 schedule 42 kind case unit 0 item 0\n",
+        )
+        self.assertIn("Are the files swapped?", ran[1])
+
+    def test_what_is_no_fault_line(self):
+        for line in ("right", "fault 3 case 99 at 0", "fault x"):
+            status, text, said = run("explain.py", os.devnull, os.devnull, input=f"{line}\n")
+            self.assertEqual((status, text, said.count("\n")), (1, "", 1))
+
+
+if __name__ == "__main__":
+    unittest.main()
