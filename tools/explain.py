@@ -2,7 +2,9 @@
 """Says a fault line of `hull` as a sentence; `explain.py --help` says how."""
 import sys
 
-from hulltools.mains.explain import main
+sys.dont_write_bytecode = True  # (the folder is the repository's)
+
+from hulltools.mains.explain import main  # noqa: E402
 
 if __name__ == "__main__":
-    sys.exit(main(sys.argv[1:]))
+    sys.exit(main())

@@ -2,7 +2,9 @@
 """Makes a feasible schedule in whole kilowatts for a case; `make_schedule.py --help` says how."""
 import sys
 
-from hulltools.mains.make_schedule import main
+sys.dont_write_bytecode = True  # (the folder is the repository's)
+
+from hulltools.mains.make_schedule import main  # noqa: E402
 
 if __name__ == "__main__":
-    sys.exit(main(sys.argv[1:]))
+    sys.exit(main())

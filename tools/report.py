@@ -2,7 +2,9 @@
 """Turns texts of `hull` into tables, a picture, a page or a prices file; `report.py --help` says how."""
 import sys
 
-from hulltools.mains.report import main
+sys.dont_write_bytecode = True  # (the folder is the repository's)
+
+from hulltools.mains.report import main  # noqa: E402
 
 if __name__ == "__main__":
-    sys.exit(main(sys.argv[1:]))
+    sys.exit(main())

@@ -1,1 +1,55 @@
-"""Tools around `hull`: cases, schedules, prices and mixtures, the program's texts, and optimisers. docs/PYTHON.md is the way in."""
+"""Tools around `hull`: files and texts, calls of the program, optimisers, tables and pages.
+
+    import hulltools
+    settled = hulltools.settle("case.json", "schedule.json", hulltools.per_mwh([98]))
+    settled.payments                # millionths of the currency
+    settled.frames()["units"]       # a data frame of pandas, in the currency and MW
+
+Calls of the program take names of files, and for prices and mixtures the things themselves too. What a file or a text has wrong, or the
+program refuses, is raised as `Wrong` with one line. docs/PYTHON.md is the way in.
+"""
+from .cases import Case, read_case
+from .faults import Files, sentence
+from .mixtures import Mixture, read_mixture
+from .outputs import read_output
+from .prices import Prices, prices_near, read_prices
+from .program import Hull
+from .schedules import Schedule, read_schedule
+from .trouble import Wrong
+
+__version__ = "1.0"
+__all__ = [
+    "Case", "Files", "Hull", "Mixture", "Prices", "Schedule", "Wrong", "certify", "check", "per_mwh", "price", "read_case",
+    "read_mixture", "read_output", "read_prices", "read_schedule", "sentence", "settle",
+]  # fmt: skip
+
+
+def per_mwh(energy, reserve=None):
+    """Prices in currency per MW and period, each rounded to the nearest thousandth."""
+    energy = list(energy)
+    reserve = [0] * len(energy) if reserve is None else list(reserve)
+    if len(reserve) != len(energy):
+        raise Wrong("there are not as many reserve prices as energy prices")
+    return prices_near([float(it) * 1e3 for it in energy], [float(it) * 1e3 for it in reserve])
+
+
+def check(case, schedule, hull=None):
+    """The cost of a schedule in millionths; `Wrong` with the fault line where it isn't feasible."""
+    return Hull(hull).check(case, schedule)
+
+
+def price(case, schedule, proposals=None, ahead=None, hull=None):
+    """The report of `hull price`."""
+    given = (("--proposals", proposals), ("--ahead", ahead))
+    return Hull(hull).price(case, schedule, *(str(it) for pair in given if pair[1] is not None for it in pair))
+
+
+def settle(case, schedule, prices, hull=None):
+    """The settlement at prices: a file's name or `Prices`."""
+    return Hull(hull).settle(case, schedule, prices)
+
+
+def certify(case, schedule, prices, mixture, radius=None, hull=None):
+    """The certificate of prices and a mixture: files' names, or `Prices` and `Mixture`."""
+    more = () if radius is None else ("--radius", str(radius))
+    return Hull(hull).certify(case, schedule, prices, mixture, *more)

@@ -55,8 +55,24 @@ class Owed:
         return self.payment - self.make_whole
 
 
+class Text:
+    """What every text of `hull` can be turned into."""
+
+    def tables(self, case=None, schedule=None, currency=True):
+        """The tables of the text by name; demand, requirement and the schedule stand beside where they are given."""
+        from .tables import tables_of
+
+        return tables_of([self], case, schedule, currency)
+
+    def frames(self, case=None, schedule=None, currency=True):
+        """The same as data frames of pandas."""
+        from .tables import frames_of
+
+        return frames_of(self.tables(case, schedule, currency))
+
+
 @dataclass
-class Priced:
+class Priced(Text):
     """What reports and settlements have in common: one list of prices, and what each unit is owed at it."""
 
     name: str
@@ -103,7 +119,7 @@ class Settlement(Priced):
 
 
 @dataclass
-class Bound:
+class Bound(Text):
     """The text of `hull bound`."""
 
     command = "bound"
@@ -131,7 +147,7 @@ class Side:
 
 
 @dataclass
-class Fixed:
+class Fixed(Text):
     """The text of `hull fixed`: the sides `hull` and `fixed`, and (kind, name, payment, payment) of each unit."""
 
     command = "fixed"
@@ -143,7 +159,7 @@ class Fixed:
 
 
 @dataclass
-class Certificate:
+class Certificate(Text):
     """The text of `hull certify`."""
 
     command = "certify"
@@ -159,6 +175,15 @@ class Certificate:
     bound: int
     distance: int
     least: int
+
+
+def numbers_of(text):
+    """The numbers of a list, or None where one isn't in form, as +1, 01 and -0 aren't."""
+    try:
+        found = [int(it) for it in text.split(" ")] if len(text) < 10_000 else None
+    except ValueError:
+        return None
+    return found if found and " ".join(map(str, found)) == text else None
 
 
 class Lines:
@@ -199,16 +224,16 @@ class Lines:
 
     def numbers(self, word, length, low, high):
         line = self.next()
-        first, *found = line.split(" ") if line is not None else [None]
-        if first != word.split(" ")[0] or not line.startswith(f"{word} "):
+        if line is None or not line.startswith(f"{word} "):
             raise self.wrong()
-        found = found[len(word.split(" ")) - 1 :]
-        if len(found) != length:
-            raise self.wrong(f": it has {len(found)} numbers, and not {length}")
-        if not all(re.fullmatch(NUMBER, it) and low <= int(it) <= high for it in found):
+        text = line[len(word) + 1 :]
+        if text.count(" ") + 1 != length:
+            raise self.wrong(f": it has {text.count(' ') + 1} numbers, and not {length}")
+        found = numbers_of(text)
+        if found is None or not low <= min(found) <= max(found) <= high:
             raise self.wrong(": a number is out of form or of its range")
         self.read += 1
-        return [int(it) for it in found]
+        return found
 
     def end(self):
         self.take("end")

@@ -7,6 +7,7 @@ import tempfile
 from .outputs import parse_output
 from .trouble import Wrong, one_line
 
+MOST_WORK = 50_000_000  # proposals times units times periods that `hull price` takes
 HOME = os.path.dirname(os.path.dirname(os.path.dirname(os.path.abspath(__file__))))
 
 
@@ -31,6 +32,8 @@ class Hull:
         self.commands = {}
         self.tell = tell or (lambda text: None)
         self.told = False
+        self.apart = False  # (whether calls don't hear an interrupt that is for the tool)
+        self.last_text = b""
 
     def say_if_unbuilt(self):
         """A launcher whose program isn't there builds it, and says on standard error how far it is."""
@@ -44,7 +47,10 @@ class Hull:
         """Status and standard output."""
         self.say_if_unbuilt()
         try:
-            ran = subprocess.run([self.program, *words], stdin=subprocess.DEVNULL, stdout=subprocess.PIPE)
+            # (in a session of its own: an interrupt is for the tool, which may want what the program says)
+            ran = subprocess.run(
+                [self.program, *words], stdin=subprocess.DEVNULL, stdout=subprocess.PIPE, start_new_session=self.apart
+            )
         except (OSError, ValueError) as error:
             raise Wrong(f"{self.program}: {getattr(error, 'strerror', None) or error}") from None
         return ran.returncode, ran.stdout
@@ -55,6 +61,7 @@ class Hull:
         if status:
             line = one_line(output.decode("utf-8", "replace").strip())[:300]
             raise Wrong(f"hull {words[0]} ended with status {status}" + (f": {line}" if line else ""))
+        self.last_text = output
         return output
 
     def has(self, command):

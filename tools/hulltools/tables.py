@@ -8,6 +8,7 @@ import io
 from decimal import Decimal
 
 from .numbers import decimal_text
+from .trouble import Wrong
 
 UNITS = {  # how a number is told: the places that the point moves, and the ends of the heads
     "kw": (3, "kw", "mw"),
@@ -125,7 +126,13 @@ def add_fixed(tables, it, case, schedule):
 
 
 def frames_of(tables):
-    """The tables as data frames of pandas."""
-    import pandas
-
-    return {name: pandas.DataFrame(it.rows, columns=it.heads) for name, it in tables.items()}
+    """The tables as data frames of pandas; numbers in the currency and MW are floating there."""
+    try:
+        import pandas
+    except ImportError:
+        raise Wrong("data frames need pandas (Debian: python3-pandas)") from None
+    cell = lambda it: float(it) if isinstance(it, Decimal) else it
+    return {
+        name: pandas.DataFrame([[cell(one) for one in row] for row in it.rows], columns=it.heads)
+        for name, it in tables.items()
+    }

@@ -28,7 +28,9 @@ def teller(tool):
 
 
 def run_tool(tool, body, words):
-    """Runs a tool to its exit status; each trouble is told in one line, and an interrupt ends it at once."""
+    """Runs a tool over its words, or those of the process, to its exit status; each trouble is told in one line, and an interrupt
+    ends it at once."""
+    words = sys.argv[1:] if words is None else words
     if hasattr(signal, "SIGINT"):
         # (the solver doesn't come back to Python before it has ended, and so wouldn't hear of it)
         signal.signal(signal.SIGINT, signal.SIG_DFL)

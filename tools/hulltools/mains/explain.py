@@ -5,15 +5,15 @@ usage: explain.py CASE SCHEDULE [--prices F] [--mixture F] [--report F] < LINE
 CASE and SCHEDULE are the files that the run was given, and so are those of the options. LINE is what the run printed: its first line
 that begins with `fault` is explained.
 """
-import argparse
 import sys
 
 from ..faults import Files, sentence
 from ..trouble import Wrong, read_bytes, run_tool
+from .words import asker
 
 
 def body(words, tell):
-    ask = argparse.ArgumentParser(prog="explain.py", usage=__doc__.split("usage: ")[1])
+    ask = asker("explain.py", __doc__)
     ask.add_argument("case")
     ask.add_argument("schedule")
     for it in ("prices", "mixture", "report"):
@@ -28,5 +28,5 @@ def body(words, tell):
     sys.stdout.buffer.flush()
 
 
-def main(words):
+def main(words=None):
     return run_tool("explain.py", body, words)

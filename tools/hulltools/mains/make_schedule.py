@@ -18,9 +18,6 @@ alone, and of costs that are straight between the points of a curve.
 Three steps: which units are on (a mixed integer program), what each gives (the same with those choices held), and the whole
 kilowatts next to that which balance exactly and cost least (a small integer program).
 """
-import argparse
-import math
-
 from ..cases import read_case
 from ..following import read_followed
 from ..linear import need_scipy
@@ -28,18 +25,11 @@ from ..numbers import money
 from ..program import Hull, as_file
 from ..scheduling import farthest, follow, make_schedule
 from ..trouble import Wrong, refuse_inputs, run_tool, write_whole
-
-
-def positive(text):
-    """A number of the command line that is at least 0."""
-    number = float(text)
-    if not 0 <= number < math.inf:
-        raise ValueError(text)
-    return number
+from .words import asker, positive
 
 
 def arguments(words):
-    ask = argparse.ArgumentParser(prog="make_schedule.py", usage=__doc__.split("usage: ")[1])
+    ask = asker("make_schedule.py", __doc__)
     ask.add_argument("case")
     ask.add_argument("schedule")
     ask.add_argument("--gap", type=positive, default=0.0001)
@@ -93,5 +83,5 @@ def body(words, tell):
     tell(f"hull check accepts {given.schedule}: cost {money(cost)}; {reached}")
 
 
-def main(words):
+def main(words=None):
     return run_tool("make_schedule.py", body, words)

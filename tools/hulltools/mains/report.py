@@ -18,7 +18,6 @@ usage: report.py csv TEXT.. FOLDER [--case F --schedule F] [--currency] [--names
 
 TEXT is a file, or - for standard input. A file is written whole or not at all, and never over a text.
 """
-import argparse
 import os
 
 from ..cases import read_case
@@ -28,12 +27,13 @@ from ..pictures import picture_of
 from ..schedules import read_schedule
 from ..tables import tables_of, told_apart_count
 from ..trouble import Wrong, refuse_inputs, run_tool, write_whole
+from .words import asker
 
 PRICED = ("hull-report 1", "hull-settlement 1")
 
 
 def arguments(words):
-    ask = argparse.ArgumentParser(prog="report.py", usage=__doc__.split("usage: ")[1], add_help=True)
+    ask = asker("report.py", __doc__)
     ask.add_argument("verb", choices=("csv", "plot", "page", "prices"))
     ask.add_argument("texts", nargs="+")
     ask.add_argument("to")
@@ -97,5 +97,5 @@ def body(words, tell):
     return 0
 
 
-def main(words):
+def main(words=None):
     return run_tool("report.py", body, words)

@@ -1,0 +1,223 @@
+"""Convex hull prices by column generation, and the mixture that certifies them.
+
+The dual value of prices is concave in them, and each call of `hull settle` gives its exact value and each unit's best response. The
+responses that were seen are the columns of a master problem (Dantzig and Wolfe; Andrianesis, Bertsimas, Caramanis and Hogan 2021). Its
+value is at least the greatest dual value, its duals are the next prices, and its shares are the mixture.
+"""
+import time
+from concurrent.futures import ThreadPoolExecutor
+from dataclasses import dataclass
+
+import numpy as np
+
+from .costs import Costs
+from .master import LIMIT, Columns, Master, Singles
+from .mixtures import Entry, Mixture
+from .numbers import money
+from .prices import Prices, prices_near
+from .schedules import Plan
+
+PARTS = 10**12  # how fine the weights of a mixture are
+IDLE = 4  # after how many rounds far from use a column is dropped
+CLOSER = 20  # how much nearer to its optimum than the prices are to theirs each master problem is solved
+STEPS = (1.0, 0.5, 0.25, 0.1)  # which shares of the way from the best prices to the master's are tried
+OPENING = (500, 24)  # how many proposals of `hull price` are made for a start, and how many of them are settled
+
+
+@dataclass
+class Column:
+    """A schedule of a unit that was seen: what it costs in millionths, and what it is."""
+
+    unit: int
+    cost: int
+    plan: Plan
+    gives: np.ndarray
+    idle: int = 0
+
+
+def key_of(unit, plan):
+    return unit, tuple(plan.power), tuple(plan.reserve), tuple(plan.on)
+
+
+class Search:
+    """What is known: the columns, and the prices of the greatest dual value."""
+
+    def __init__(self, case, settle):
+        self.case, self.settle, self.calls = case, settle, 0
+        self.columns, self.seen = [], set()
+        self.chance = np.random.default_rng(1)  # (the same in every run)
+        self.best, self.best_value, self.payments = None, None, None
+        periods = case.periods
+        self.due = np.array(case.demand + case.reserves) / 1e3
+        self.base = np.array([sum(it.least[t] for it in case.renewable) for t in range(periods)]) / 1e3
+        self.singles = singles_of(case)
+
+    def ask(self, *lists):
+        """Settles at each of the prices, side by side, and keeps what is new of it."""
+        with ThreadPoolExecutor(len(lists)) as pool:
+            for prices, found in zip(lists, pool.map(self.settle, lists)):
+                self.keep(prices, found)
+
+    def keep(self, prices, found):
+        self.calls += 1
+        if self.best is None or found.best.value > self.best_value:
+            self.best, self.best_value, self.payments = prices, found.best.value, found.payments
+        thermal = [it for it in found.units if it.kind == "thermal"]
+        for unit, it in enumerate(thermal):
+            plan = Plan(it.on, it.power, it.reserve)
+            key = key_of(unit, plan)
+            if key not in self.seen:
+                self.seen.add(key)
+                paid = sum(a * b for a, b in zip(prices.energy + prices.reserve, it.power + it.reserve))
+                gives = np.array(it.power + it.reserve) / 1e3
+                self.columns.append(Column(unit, paid - it.earned, plan, gives))
+
+    @property
+    def centre(self):
+        """The best prices so far, per MW."""
+        return np.array(self.best.energy + self.best.reserve) / 1e3
+
+    def master(self):
+        self.columns.sort(key=lambda it: it.unit)
+        columns = Columns(
+            np.array([it.cost for it in self.columns], dtype=float) / 1e6,
+            np.array([it.gives for it in self.columns]).T.copy(),
+            np.array([it.unit for it in self.columns]),
+        )
+        return Master(columns, self.singles, self.due - np.r_[self.base, np.zeros(self.case.periods)])
+
+    def drop(self, master, state, gap, within):
+        """Forgets columns that were far from use for some rounds; they come again where they are wanted. Near the end none is dropped."""
+        if gap < 5 * within:
+            return
+        reduced = master.columns.cost - state.price @ master.columns.gives
+        far = reduced - master.columns.least_per_unit(reduced)[master.columns.owner]
+        used = (state.share > 0.01) | (far < 2 * gap / max(1, len(self.case.thermal)))
+        for it, is_used in zip(self.columns, used):
+            it.idle = 0 if is_used else it.idle + 1
+        for it in self.columns:
+            if it.idle >= IDLE:
+                self.seen.discard(key_of(it.unit, it.plan))
+        self.columns = [it for it in self.columns if it.idle < IDLE]
+
+    def mixture(self, shares):
+        """The shares of the columns as whole weights."""
+        rows = [[] for _ in self.case.thermal]
+        for it, share in zip(self.columns, shares):
+            weight = int(round(max(0.0, share) * PARTS))
+            if weight:
+                rows[it.unit].append(Entry(weight, it.plan))
+        for entries in rows:
+            largest = max(entries, key=lambda it: it.weight)
+            largest.weight += PARTS - sum(it.weight for it in entries)
+        return Mixture(PARTS, {unit.name: entries for unit, entries in zip(self.case.thermal, rows)})
+
+
+def singles_of(case):
+    """Renewable power beyond the least, blocks of bids, reserve beyond the requirement, and what is lacking at the limits of prices."""
+    periods = case.periods
+    rows = []
+    for t in range(periods):
+        rows.append((t, 1, 0.0, sum(it.most[t] - it.least[t] for it in case.renewable) / 1e3))
+        rows += [(t, -1, -price / 1e3, width / 1e3) for it in case.bids for width, price in it.blocks[t]]
+        rows += [(t, 1, LIMIT, np.inf), (t, -1, LIMIT, np.inf)]
+        rows += [(periods + t, -1, 0.0, np.inf), (periods + t, 1, LIMIT, np.inf)]
+    return Singles(*(np.array(it) for it in zip(*(row for row in rows if row[3] > 0))))
+
+
+@dataclass
+class Found:
+    """Prices, the mixture that bounds how far they are from the best, the bound and their value in millionths, and why it ended."""
+
+    prices: Prices
+    mixture: Mixture
+    value: int
+    bound: int
+    payments: int
+    calls: int
+    ended: str
+    certified: bool
+
+    @property
+    def distance(self):
+        return self.bound - self.value
+
+
+class Limits:
+    """When to end: a distance that is asked for, a time, and an interrupt."""
+
+    def __init__(self, within=None, seconds=None, is_stopped=lambda: False):
+        self.asked, self.is_stopped = within, is_stopped
+        self.end = None if seconds is None else time.monotonic() + seconds
+
+    def within(self, payments):
+        """In the currency: 0.02 % of the payments or 1.00, whichever is more, where nothing is asked for."""
+        return self.asked if self.asked is not None else max(1.0, payments / 1e6 * 0.0002)
+
+    def over(self):
+        """Why it has to end now, or None."""
+        if self.is_stopped():
+            return "interrupted"
+        return "the time is over" if self.end is not None and time.monotonic() > self.end else None
+
+
+def first_prices(price):
+    """Lists of prices to start from: the best among the proposals of a run of `hull price`, as many as OPENING says."""
+    proposals, kept = OPENING
+    rows = sorted(price(proposals).proposals, key=lambda it: -it.value)[:kept]
+    return [Prices(it.energy, it.reserve) for it in rows]
+
+
+def certified(case, search, shares, certify):
+    """The mixture of the shares and the bound that it proves: by `hull certify`, or by our own reckoning where it is None."""
+    mixture = search.mixture(shares)
+    if certify is not None:
+        return mixture, certify(search.best, mixture).bound
+    costs = Costs()
+    rows = [costs.of_plan(it, entry.plan) for it in case.thermal for entry in mixture.thermal[it.name]]
+    return mixture, mixture.bound(case, rows, search.best)
+
+
+def trials(search, price, is_near):
+    """Whole prices to try: the master's, and on the way to them. Near the end what rounding takes counts, so some are rounded by chance."""
+    ways = [1e3 * (step * price + (1 - step) * search.centre) for step in STEPS]
+    if is_near:
+        ways += [np.floor(1e3 * price + search.chance.random(len(price))) for _ in range(2)]
+    return [prices_near(it[: search.case.periods], it[search.case.periods :]) for it in ways]
+
+
+def convex_prices(case, starts, settle, certify, limits, tell):
+    """Searches for prices of the greatest dual value. `settle` and `certify` call the program."""
+    search = Search(case, settle)
+    search.ask(*starts)
+    gap, finer, best = float("inf"), 1.0, None
+    for turn in range(1, 10_000):
+        within = limits.within(search.payments)
+        master = search.master()
+        accuracy = max(within / 10, min(gap, 1e6) / CLOSER) / finer
+        state = master.solve(search.centre, accuracy, 10 * min(gap, 1e6))
+        if best is None or master.value(state) < best[0]:
+            best = master.value(state), list(search.columns), state.share
+        search.ask(*trials(search, state.price, gap < 5 * within))
+        gap = max(0.0, best[0] - search.best_value / 1e6)
+        tell(f"round {turn}: within {gap:,.2f} of the best, {search.calls} calls of settle, {len(master.columns.cost)} columns")
+        ended = limits.over()
+        if ended or gap <= within:
+            mixture, bound = mixture_of(case, search, best, certify)
+            is_within = (bound - search.best_value) / 1e6 <= within
+            if ended or is_within or finer > 1e4:
+                told = "as near as was asked for" if is_within else ended or "it comes no nearer"
+                return Found(search.best, mixture, search.best_value, bound, search.payments, search.calls, told, certify is not None)
+            finer *= 10
+        search.drop(master, state, gap, within)
+    raise AssertionError("the search has no end")
+
+
+def mixture_of(case, search, best, certify):
+    """The mixture of the best master problem so far, with its bound."""
+    _, columns, shares = best
+    kept, search.columns = search.columns, columns
+    try:
+        return certified(case, search, shares, certify)
+    finally:
+        search.columns = kept

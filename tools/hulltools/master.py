@@ -1,0 +1,190 @@
+"""The restricted master problem of column generation, by a primal-dual interior point method.
+
+It is the Dantzig-Wolfe form of the Lagrangian dual: a share for each schedule of each unit that was seen, the shares of a unit summing
+to 1, with balance and reserve as rows. There are few rows beside those of the shares, so a step costs one matrix of that size. It
+stops in the middle of the optimal face and doesn't go to a corner, which makes its duals good next prices (Gondzio, Gonzalez-Brevis
+and Munari 2013). Powers are in megawatts, money in the currency.
+"""
+from dataclasses import dataclass
+
+import numpy as np
+from scipy.linalg import LinAlgError, cho_factor, cho_solve
+
+LIMIT = 10_000.0  # the greatest price per MW and period, in the currency
+
+
+@dataclass
+class Columns:
+    """Schedules of units, one unit's after another's: what each costs, what it gives (a row for energy and reserve of each
+    period), and whose it is. Every unit has one."""
+
+    cost: np.ndarray
+    gives: np.ndarray
+    owner: np.ndarray
+
+    def __post_init__(self):
+        self.starts = np.flatnonzero(np.r_[True, self.owner[1:] != self.owner[:-1]])
+        self.units = len(self.starts)
+
+    def per_unit(self, numbers):
+        """The sums of numbers over the columns of each unit."""
+        return np.add.reduceat(numbers, self.starts, axis=-1)
+
+    def least_per_unit(self, numbers):
+        return np.minimum.reduceat(numbers, self.starts)
+
+
+@dataclass
+class Singles:
+    """Variables that stand in one row alone: from 0 to `most`, with a cost."""
+
+    row: np.ndarray
+    sign: np.ndarray
+    cost: np.ndarray
+    most: np.ndarray
+
+    def totals(self, amounts, rows):
+        return np.bincount(self.row, self.sign * amounts, rows)
+
+
+@dataclass
+class State:
+    """An iterate: shares, singles and what is left to their limits; prices; what shares and singles cost beyond the prices."""
+
+    share: np.ndarray
+    single: np.ndarray
+    room: np.ndarray
+    price: np.ndarray
+    level: np.ndarray
+    over: np.ndarray
+    above: np.ndarray
+    below: np.ndarray
+
+
+class Master:
+    """Least cost of the columns and singles so that rows sum to `due` and the shares of each unit to 1."""
+
+    def __init__(self, columns, singles, due):
+        self.columns, self.singles, self.due = columns, singles, due
+        self.bounded = np.isfinite(singles.most)
+        self.most = np.where(self.bounded, singles.most, 1.0)
+
+    def begin(self, price, gap):
+        """A point inside all bounds at given prices, with all products alike, that is about so far from the optimum."""
+        c, s = self.columns, self.singles
+        aim = max(gap / self.count(), 1e-9)
+        reduced = c.cost - price @ c.gives
+        least = c.least_per_unit(reduced)
+        scale = aim * 2
+        over = reduced - least[c.owner] + scale
+        share = 1.0 / over
+        share /= c.per_unit(share)[c.owner]
+        left = s.cost - s.sign * price[s.row]
+        # (single * above = room * below = aim, with above - below = left and single + room = most)
+        half = 2.0 * aim / (left * self.most + 2.0 * aim + np.sqrt((left * self.most) ** 2 + 4.0 * aim**2))
+        single = np.where(self.bounded, self.most * half, aim / np.maximum(left, 1e-3))
+        room = np.where(self.bounded, self.most - single, 1.0)
+        above = np.where(self.bounded, aim / single, np.maximum(left, 1e-3))
+        below = np.where(self.bounded, aim / np.maximum(room, 1e-300), 0.0)
+        return State(share, single, room, price.copy(), least - scale, over, above, below)
+
+    def residuals(self, it):
+        c, s = self.columns, self.singles
+        return (
+            self.due - c.gives @ it.share - s.totals(it.single, len(self.due)),
+            1.0 - c.per_unit(it.share),
+            np.where(self.bounded, self.most - it.single - it.room, 0.0),
+            c.cost - it.price @ c.gives - it.level[c.owner] - it.over,
+            s.cost - s.sign * it.price[s.row] - it.above + it.below,
+        )
+
+    def gap(self, it):
+        return it.share @ it.over + it.single @ it.above + it.room @ it.below
+
+    def count(self):
+        return len(self.columns.cost) + len(self.singles.cost) + int(self.bounded.sum())
+
+    def value(self, it):
+        """The cost of the shares and singles."""
+        return float(self.columns.cost @ it.share + self.singles.cost @ it.single)
+
+    def factor(self, it):
+        """Weights of the step, and the matrix of the rows with the units' shares eliminated."""
+        c, s, rows = self.columns, self.singles, len(self.due)
+        weight = it.share / it.over
+        narrow = 1.0 / (it.above / it.single + np.where(self.bounded, it.below / it.room, 0.0))
+        of_unit = c.per_unit(weight)
+        mean = c.per_unit(c.gives * weight) / of_unit
+        centred = (c.gives - mean[:, c.owner]) * np.sqrt(weight)
+        matrix = centred @ centred.T
+        matrix[np.diag_indices(rows)] += np.bincount(s.row, narrow, rows) + 1e-12
+        return weight, narrow, of_unit, mean, cho_factor(matrix, lower=True, check_finite=False)
+
+    def step(self, it, parts, lack, products):
+        """The step that mends the residuals and brings the products to what is due."""
+        c, s, rows = self.columns, self.singles, len(self.due)
+        weight, narrow, of_unit, mean, root = parts
+        balance, shares, limits, column, single = lack
+        of_share, of_single, of_room = products
+        push = weight * (column - of_share / it.share)
+        room_push = np.where(self.bounded, (of_room - it.below * limits) / it.room, 0.0)
+        single_push = narrow * (single - of_single / it.single + room_push)
+        right = balance + c.gives @ push + s.totals(single_push, rows)
+        of_units = shares + c.per_unit(push)
+        right = right - mean @ of_units
+        price = cho_solve(root, right, check_finite=False)
+        level = of_units / of_unit - mean.T @ price
+        share = weight * (price @ c.gives + level[c.owner]) - push
+        over = of_share / it.share - share * it.over / it.share
+        single_step = narrow * (s.sign * price[s.row]) - single_push
+        room = limits - single_step
+        above = of_single / it.single - single_step * it.above / it.single
+        below = np.where(self.bounded, of_room / it.room - room * it.below / it.room, 0.0)
+        return State(share, single_step, np.where(self.bounded, room, 0.0), price, level, over, above, below)
+
+    def lengths(self, it, step):
+        """How far the step may go: for shares and singles, and for prices."""
+
+        def most(now, by, used=None):
+            down = by < 0 if used is None else (by < 0) & used
+            return float(np.min(-now[down] / by[down], initial=1e30))
+
+        primal = min(most(it.share, step.share), most(it.single, step.single), most(it.room, step.room, self.bounded))
+        dual = min(most(it.over, step.over), most(it.above, step.above), most(it.below, step.below, self.bounded))
+        return primal, dual
+
+    def solve(self, price, accuracy, gap, most_steps=60):
+        """An iterate whose gap is at most `accuracy`, and what is lacking too at the greatest price, from given prices on."""
+        it = self.begin(price, gap)
+        for self.steps in range(most_steps):
+            lack, gap = self.residuals(it), self.gap(it)
+            if gap <= accuracy and np.abs(lack[0]).sum() * LIMIT < accuracy and np.abs(lack[1]).max(initial=0) < 1e-9:
+                break
+            try:
+                parts = self.factor(it)
+            except LinAlgError:
+                break
+            it = self.advance(it, parts, lack, gap / self.count())
+        return it
+
+    def advance(self, it, parts, lack, mean):
+        """A predictor step, and the corrector that it calls for (Mehrotra 1992)."""
+        none = (-it.share * it.over, -it.single * it.above, -it.room * it.below)
+        first = self.step(it, parts, lack, none)
+        primal, dual = (min(1.0, at) for at in self.lengths(it, first))
+        share, single, room = it.share + primal * first.share, it.single + primal * first.single, it.room + primal * first.room
+        ahead = share @ (it.over + dual * first.over) + single @ (it.above + dual * first.above)
+        ahead += room @ (it.below + dual * first.below)
+        aim = mean * min(1.0, max(1e-6, ahead / (mean * self.count()))) ** 3
+        products = (
+            aim - it.share * it.over - first.share * first.over,
+            aim - it.single * it.above - first.single * first.above,
+            np.where(self.bounded, aim - it.room * it.below - first.room * first.below, 0.0),
+        )
+        step = self.step(it, parts, lack, products)
+        primal, dual = (min(1.0, 0.95 * at) for at in self.lengths(it, step))
+        for name in ("share", "single", "room"):
+            setattr(it, name, getattr(it, name) + primal * getattr(step, name))
+        for name in ("price", "level", "over", "above", "below"):
+            setattr(it, name, getattr(it, name) + dual * getattr(step, name))
+        return it

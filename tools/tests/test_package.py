@@ -1,0 +1,142 @@
+"""The package hulltools: readers, costs, the mixture's bound; what needs SciPy runs in a Python that has it (with_scipy.py)."""
+import doctest
+import os
+import re
+import subprocess
+import sys
+import tempfile
+import unittest
+
+from tool import EXAMPLES, PROGRAM, ROOT, program_has, python_with
+
+import hulltools
+from hulltools.costs import envelope
+from hulltools.json_texts import Refused, parse
+from hulltools.mixtures import Entry, Mixture
+from hulltools.numbers import decimal_text, kilowatts, money
+from hulltools.schedules import Plan
+
+
+class Numbers(unittest.TestCase):
+    def test_readings_worked_by_hand(self):
+        value = parse(b"[65.0004999999999999999999999999, -0.0005, -0.0006, 1e-400, 2.0e0, 12345678901234567890123.0005]")
+        self.assertEqual([kilowatts(it) for it in value], [65000, 0, -1, 0, 2000, 12345678901234567890123001])
+
+    def test_texts_that_are_refused(self):
+        texts = [b"\xef\xbb\xbf1", b"[1,]", b"NaN", b'{"a":1,"a":2}', b'"\\ud800"', b'"\t"', b"01", b"1e401", b"[" * 33 + b"]" * 33]
+        for text in [*texts, b"1" * 31, b"\xff", b"", b"1 2", b"Infinity", b"-", b"[" * 100_000, b"9" * 5000]:
+            with self.assertRaises(Refused, msg=text[:40]):
+                parse(text)
+        self.assertEqual(parse(b"[" * 32 + b"]" * 32 + b"\n").__len__(), 1)
+
+    def test_numbers_are_told_exactly(self):
+        self.assertEqual([decimal_text(it, 3) for it in (98000, -5, 0, 1500)], ["98", "-0.005", "0", "1.5"])
+        self.assertEqual([money(it) for it in (850_000_000, -66_000_000, 4_999, -4_999)], ["850.00", "-66.00", "0.00", "0.00"])
+
+
+class Costs(unittest.TestCase):
+    def test_the_envelope_is_its_definition(self):
+        """Beside all whole prices of a range, as docs/DEFINITIONS.md has it."""
+        for points in ([(0, 0), (3, 10), (7, 11)], [(2, 50), (5, 20), (9, 90)], [(1, 5)], [(0, 3), (0, 1), (4, 4)]):
+            for power in range(points[0][0], points[-1][0] + 1):
+                due = max(min(cost + k * (power - at) for at, cost in points) for k in range(-100, 101))
+                self.assertEqual(envelope(points, power), due, (points, power))
+
+
+class Bounds(unittest.TestCase):
+    """The bounds of a mixture that were worked by hand for the case of examples/usual at an energy price of 98.00."""
+
+    def bound(self, weight, entries, costs, radius):
+        case = hulltools.read_case(f"{EXAMPLES}/usual/case.json")
+        mixture = Mixture(weight, {"G1": [Entry(it, Plan([int(power > 0)], [power], [reserve])) for it, power, reserve in entries]})
+        return mixture.bound(case, costs, hulltools.per_mwh([98]), radius)
+
+    def test_bounds_worked_by_hand(self):
+        self.assertEqual(self.bound(1, [(1, 8000, 2000)], [850_000_000], 20_000_000), 850_000_000)
+        two = (10, [(7, 10000, 0), (3, 0, 0)], [1_030_000_000, 0])
+        self.assertEqual(self.bound(*two, 20_000_000), 20_721_000_000)
+        self.assertEqual(self.bound(*two, 1000), 723_000_000)
+
+
+class Readers(unittest.TestCase):
+    def test_the_examples_are_read(self):
+        for example in ("first", "usual", "evening", "windows", "day", "two_units"):
+            case = hulltools.read_case(f"{EXAMPLES}/{example}/case.json")
+            schedule = hulltools.read_schedule(f"{EXAMPLES}/{example}/schedule.json", case)
+            self.assertEqual(len(schedule.plans), len(case.units))
+
+    def test_the_cost_of_a_schedule_is_that_of_hull_check(self):
+        from hulltools.costs import Costs as Known
+        from hulltools.costs import worth
+
+        for example in ("usual", "evening", "windows", "day"):
+            case = hulltools.read_case(f"{EXAMPLES}/{example}/case.json")
+            schedule = hulltools.read_schedule(f"{EXAMPLES}/{example}/schedule.json", case)
+            known = Known()
+            cost = sum(known.of_plan(it, schedule.plan("thermal", it.name)) for it in case.thermal)
+            bought = [(it, schedule.plan("bid", it.name).power) for it in case.bids]
+            cost -= sum(worth(it.blocks[t], power[t]) for it, power in bought for t in range(case.periods))
+            self.assertEqual(cost, hulltools.check(f"{EXAMPLES}/{example}/case.json", f"{EXAMPLES}/{example}/schedule.json", PROGRAM))
+
+    def test_what_hull_refuses_of_a_case_is_refused(self):
+        """Each change of docs/FAULTS.md to a case of examples/."""
+        change = re.compile(r"\| `(\w+)/case\.json`: `(.+)` becomes `(.+)` \| `fault 3 ")
+        with open(f"{ROOT}/docs/FAULTS.md", encoding="utf-8") as page:
+            rows = [it.groups() for it in map(change.search, page) if it]
+        self.assertGreater(len(rows), 15)
+        with tempfile.TemporaryDirectory() as room:
+            for example, old, new in rows:
+                with open(f"{EXAMPLES}/{example}/case.json", encoding="utf-8") as it:
+                    text = it.read()
+                with open(f"{room}/case.json", "w", encoding="utf-8") as it:
+                    it.write(text.replace(old, new))
+                with self.assertRaises(hulltools.Wrong, msg=new) as found:
+                    hulltools.read_case(f"{room}/case.json")
+                self.assertNotIn("\n", str(found.exception))
+
+
+class Pages(unittest.TestCase):
+    def test_the_session_of_the_page_runs(self):
+        """docs/PYTHON.md, in the folder of the examples."""
+        if not program_has("settle"):
+            self.skipTest("the program has no command `settle`")
+        here, known = os.getcwd(), os.environ.get("HULL")
+        os.chdir(EXAMPLES)
+        os.environ["HULL"] = PROGRAM
+        try:
+            failed, tried = doctest.testfile(f"{ROOT}/docs/PYTHON.md", module_relative=False)
+        finally:
+            os.chdir(here)
+            os.environ.pop("HULL") if known is None else os.environ.update(HULL=known)
+        self.assertEqual(failed, 0)
+        self.assertGreater(tried, 5)
+
+    def test_data_frames(self):
+        python = python_with("pandas")
+        if not python:
+            self.skipTest("no Python here has pandas")
+        code = (
+            f"import sys; sys.path.insert(0, {ROOT + '/tools'!r}); import hulltools\n"
+            f"frames = hulltools.read_output({EXAMPLES + '/usual/price.output'!r}).frames()\n"
+            "print(frames['units']['payment_currency'].sum(), frames['prices'].shape)"
+        )
+        ran = subprocess.run([python, "-B", "-c", code], capture_output=True, text=True)
+        self.assertEqual((ran.stdout, ran.stderr), ("164.0 (2, 11)\n", ""))
+
+
+class WithSciPy(unittest.TestCase):
+    def test_all_that_needs_scipy(self):
+        python = python_with("scipy.optimize._milp")
+        if not python:
+            self.skipTest("no Python here has SciPy with milp")
+        ran = subprocess.run(
+            [python, "-B", "-m", "unittest", "-v", "with_scipy"], cwd=os.path.dirname(__file__), capture_output=True, text=True
+        )
+        self.assertEqual(ran.returncode, 0, ran.stderr[-3000:])
+        passed_over = re.findall(r"^(\w+) .*skipped '(.*)'$", ran.stderr, re.M)
+        if passed_over:
+            self.skipTest("; ".join(f"{name}: {why}" for name, why in passed_over))
+
+
+if __name__ == "__main__":
+    unittest.main()
