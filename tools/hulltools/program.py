@@ -12,11 +12,12 @@ HOME = os.path.dirname(os.path.dirname(os.path.dirname(os.path.abspath(__file__)
 
 
 def default_program():
-    """The program to call: $HULL, the launcher of the repository that these tools stand in, or `hull` on the path."""
+    """The program to call: $HULL, the launcher of the repository or release that these tools stand in, or `hull` on the path."""
     launcher = os.path.join(HOME, "hull")
     if os.environ.get("HULL"):
         return os.environ["HULL"]
-    if os.access(launcher, os.X_OK) and os.path.isfile(os.path.join(HOME, "crates.txt")):
+    beside = (os.path.join(HOME, it) for it in ("crates.txt", os.path.join("bin", "hull")))
+    if os.access(launcher, os.X_OK) and any(map(os.path.isfile, beside)):
         return launcher
     found = shutil.which("hull")
     if not found:

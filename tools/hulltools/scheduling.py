@@ -1,11 +1,14 @@
 """Feasible schedules in whole kilowatts: found by solving the unit commitment problem, or near one from elsewhere."""
-from dataclasses import dataclass
+from dataclasses import dataclass, replace
 
+from .cases import POWER
 from .commitment import Commitment
 from .following import Followed
 from .rounding import reserves_of, whole_powers
 from .schedules import Plan, Schedule, flat_plan
 from .trouble import Wrong, one_line
+
+SECONDS_A_RULE = 20.0  # how long the solver looks for a schedule without a rule
 
 
 @dataclass
@@ -59,6 +62,35 @@ def why_not(case):
     return ""
 
 
+def with_units(case, **changed):
+    """The case with members of each thermal unit changed; a callable is asked for each unit."""
+    new = lambda it: {key: value(it) if callable(value) else value for key, value in changed.items()}
+    return replace(case, thermal=[replace(it, **new(it)) for it in case.thermal])
+
+
+RULES = {  # a case without each rule that goes over periods or units
+    "the required reserve": lambda case: replace(case, reserves=[0] * case.periods),
+    "the ramps": lambda case: with_units(case, ramp_up=POWER, ramp_down=POWER),
+    "the start and stop limits": lambda case: with_units(case, start_limit=lambda it: it.most, stop_limit=lambda it: it.most),
+    "the minimum times": lambda case: with_units(case, min_up=1, min_down=1),
+    "the windows": lambda case: with_units(case, marks=[None] * case.periods),
+    "must-run": lambda case: with_units(case, must_run=0),
+}
+
+
+def rules_that_bar(case):
+    """In words, without which rule the solver finds a schedule; each is tried by itself, for some seconds."""
+    found = []
+    for name, without in RULES.items():
+        program = Commitment(without(case)).program
+        program.cost = [0.0] * len(program.cost)
+        if program.solve(time_limit=SECONDS_A_RULE).x is not None:
+            found.append(name)
+    if not found:
+        return ": each period can be met by itself, but no rule that is left out alone makes a schedule possible"
+    return f": each period can be met by itself; there would be a schedule without {', or without '.join(found)}"
+
+
 def powers_found(model, x):
     """The solver's powers in megawatts, by kind and place of the unit."""
     every = range(model.case.periods)
@@ -103,7 +135,7 @@ def make_schedule(case, gap, seconds, tell):
     model = Commitment(case)
     found = model.program.solve(time_limit=float(seconds), mip_rel_gap=gap)
     if found.status == 2:
-        raise Wrong("the solver finds that the case can't be met: its rules over the periods leave no schedule (ramps, minimum times, windows, reserves)")
+        raise Wrong(f"the solver finds that the case can't be met{rules_that_bar(case)}")
     if found.x is None:
         raise Wrong(f"no schedule was found in {seconds:g} s: give --seconds more")
     # (with no whole variable there is no bound beside the optimum)

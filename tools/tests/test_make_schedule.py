@@ -69,7 +69,7 @@ class MakeSchedule(unittest.TestCase):
             self.make(self.changed("evening", '"reserves":[0,5,5', '"reserves":[0,195,5'))[2],
         )
         self.assertIn(
-            "can't be met: its rules over the periods",
+            "can't be met: each period can be met by itself; there would be a schedule without the required reserve",
             self.make(self.changed("evening", '"reserves":[0,5,5', '"reserves":[0,95,5'))[2],
         )
 

@@ -7,7 +7,7 @@ import sys
 import tempfile
 import unittest
 
-from tool import EXAMPLES, PROGRAM, ROOT, program_has, python_with
+from tool import EXAMPLES, PROGRAM, ROOT, program_has, python_with, run
 
 import hulltools
 from hulltools.costs import envelope
@@ -15,6 +15,9 @@ from hulltools.json_texts import Refused, parse
 from hulltools.mixtures import Entry, Mixture
 from hulltools.numbers import decimal_text, kilowatts, money
 from hulltools.schedules import Plan
+
+
+SMALL = ("usual", "evening", "windows")
 
 
 class Numbers(unittest.TestCase):
@@ -93,6 +96,42 @@ class Readers(unittest.TestCase):
                 with self.assertRaises(hulltools.Wrong, msg=new) as found:
                     hulltools.read_case(f"{room}/case.json")
                 self.assertNotIn("\n", str(found.exception))
+
+
+def files(example):
+    return f"{EXAMPLES}/{example}/case.json", f"{EXAMPLES}/{example}/schedule.json"
+
+
+class Settled(unittest.TestCase):
+    """The prices of a text of hull, settled, owe each unit the same to the millionth."""
+
+    def setUp(self):
+        if not program_has("settle"):
+            self.skipTest("the program has no command `settle`")
+        folder = tempfile.TemporaryDirectory(prefix="hull-package-")
+        self.addCleanup(folder.cleanup)
+        self.room = folder.name
+
+    def settle(self, example, prices):
+        return hulltools.settle(*files(example), prices, hull=PROGRAM)
+
+    def test_the_prices_of_a_report_settle_to_the_same_payments(self):
+        for example in SMALL:
+            for more in ((), ("--ahead", "1", "--proposals", "40")):
+                report = hulltools.Hull(PROGRAM).price(*files(example), *more)
+                settled = self.settle(example, report.prices)
+                self.assertEqual(settled.units, report.units)
+                self.assertEqual([settled.surplus, settled.gap], [report.surplus, report.gap])
+
+    def test_the_prices_file_of_a_text_settles_to_the_same(self):
+        for example in SMALL:
+            text, prices = f"{self.room}/text", f"{self.room}/prices.json"
+            words = [PROGRAM, "price", "--case", files(example)[0], "--schedule", files(example)[1]]
+            for words in (words, [PROGRAM, "settle", *words[2:], "--prices", prices]):
+                with open(text, "wb") as it:
+                    subprocess.run(words, stdout=it, check=True)
+                self.assertEqual(run("report.py", "prices", text, prices), (0, "", ""))
+                self.assertEqual(self.settle(example, prices).units, hulltools.read_output(text).units)
 
 
 class Pages(unittest.TestCase):

@@ -79,28 +79,6 @@ class Settled(unittest.TestCase):
 
         return hulltools.settle(*files(example), prices, hull=PROGRAM)
 
-    def test_the_prices_of_a_report_settle_to_the_same_payments(self):
-        import hulltools
-
-        for example in SMALL:
-            for more in ((), ("--ahead", "1", "--proposals", "40")):
-                report = hulltools.Hull(PROGRAM).price(*files(example), *more)
-                settled = self.settle(example, report.prices)
-                self.assertEqual(settled.units, report.units)
-                self.assertEqual([settled.surplus, settled.gap], [report.surplus, report.gap])
-
-    def test_the_prices_file_of_a_text_settles_to_the_same(self):
-        for example in SMALL:
-            text, prices = f"{self.room}/text", f"{self.room}/prices.json"
-            words = [PROGRAM, "price", "--case", files(example)[0], "--schedule", files(example)[1]]
-            for words in (words, [PROGRAM, "settle", *words[2:], "--prices", prices]):
-                with open(text, "wb") as it:
-                    subprocess.run(words, stdout=it, check=True)
-                self.assertEqual(run("report.py", "prices", text, prices), (0, "", ""))
-                import hulltools
-
-                self.assertEqual(self.settle(example, prices).units, hulltools.read_output(text).units)
-
     def test_marginal_prices_leave_nothing_to_gain_with_commitments_held(self):
         """Examples/usual: wind is marginal, so the price is 0 (docs/REPORT.md's case, worked by hand)."""
         status, _, said = run("lmp.py", *files("usual"), f"{self.room}/prices.json", "--hull", PROGRAM)
