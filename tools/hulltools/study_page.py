@@ -91,10 +91,14 @@ def unit_part(study):
     )
 
 
+COUNTS = {1: "One price list", 2: "Two price lists", 3: "Three price lists", 4: "Four price lists", 5: "Five price lists"}
+
+
 def study_page(study):
+    title = f"{COUNTS[len(study.settlements)]}, one schedule"
     first = next(iter(study.settlements.values()))
     reserves = any(any(it.best.reserve) for it in study.settlements.values())
-    body = f"""<style>{STYLE}</style><h1>Five price lists, one schedule</h1>
+    body = f"""<style>{STYLE}</style><h1>{title}</h1>
 <p>{shown(study.case_name)}: {len(first.units)} units over {first.periods} periods, a schedule of cost {money(first.cost)}. Money is in the case's currency, prices are per MW and period: per MWh where a period is an hour. Each list is settled by hull settle.</p>
 <p class="said">{html.escape(sentence(study))}</p>
 {uplift_part(study)}
@@ -102,4 +106,4 @@ def study_page(study):
 {price_part(study, "reserve", "Reserve prices by period") if reserves else ""}
 {cost_part(study)}
 {unit_part(study)}"""
-    return document("Five price lists, one schedule", body, [SORT])
+    return document(title, body, [SORT])
