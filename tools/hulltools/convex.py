@@ -4,6 +4,7 @@ The dual value of prices is concave in them, and each call of `hull settle` give
 responses that were seen are the columns of a master problem (Dantzig and Wolfe; Andrianesis, Bertsimas, Caramanis and Hogan 2021). Its
 value is at least the greatest dual value, its duals are the next prices, and its shares are the mixture.
 """
+import itertools
 import time
 from concurrent.futures import ThreadPoolExecutor
 from dataclasses import dataclass
@@ -13,13 +14,14 @@ import numpy as np
 from .costs import Costs
 from .master import LIMIT, Columns, Master, Singles
 from .mixtures import Entry, Mixture
-from .numbers import money
 from .prices import Prices, prices_near
+from .relaxation import relaxed_prices
 from .schedules import Plan
 
 PARTS = 10**12  # how fine the weights of a mixture are
 IDLE = 4  # after how many rounds far from use a column is dropped
 CLOSER = 20  # how much nearer to its optimum than the prices are to theirs each master problem is solved
+STALE = 20  # after how many rounds that bring it no nearer the search ends
 STEPS = (1.0, 0.5, 0.25, 0.1)  # which shares of the way from the best prices to the master's are tried
 OPENING = (500, 24)  # how many proposals of `hull price` are made for a start, and how many of them are settled
 
@@ -54,7 +56,7 @@ class Search:
 
     def ask(self, *lists):
         """Settles at each of the prices, side by side, and keeps what is new of it."""
-        with ThreadPoolExecutor(len(lists)) as pool:
+        with ThreadPoolExecutor(min(4, len(lists))) as pool:
             for prices, found in zip(lists, pool.map(self.settle, lists)):
                 self.keep(prices, found)
 
@@ -100,10 +102,24 @@ class Search:
                 self.seen.discard(key_of(it.unit, it.plan))
         self.columns = [it for it in self.columns if it.idle < IDLE]
 
-    def mixture(self, shares):
-        """The shares of the columns as whole weights."""
+    def found(self, best, certify, ended):
+        """The best prices, and the mixture of the best master problem with the bound that it proves: by `hull certify`, or by our own
+        reckoning where that is None."""
+        _, columns, shares = best
+        mixture = self.mixture(columns, shares)
+        if certify is not None:
+            bound = certify(self.best, mixture).bound
+        else:
+            costs = Costs()
+            rows = [costs.of_plan(it, entry.plan) for it in self.case.thermal for entry in mixture.thermal[it.name]]
+            bound = mixture.bound(self.case, rows, self.best)
+        by = certify is not None
+        return Found(self.best, mixture, self.best_value, bound, self.payments, self.calls, ended, by)
+
+    def mixture(self, columns, shares):
+        """The shares of columns as whole weights."""
         rows = [[] for _ in self.case.thermal]
-        for it, share in zip(self.columns, shares):
+        for it, share in zip(columns, shares):
             weight = int(round(max(0.0, share) * PARTS))
             if weight:
                 rows[it.unit].append(Entry(weight, it.plan))
@@ -168,18 +184,10 @@ def first_prices(price):
     return [Prices(it.energy, it.reserve) for it in rows]
 
 
-def certified(case, search, shares, certify):
-    """The mixture of the shares and the bound that it proves: by `hull certify`, or by our own reckoning where it is None."""
-    mixture = search.mixture(shares)
-    if certify is not None:
-        return mixture, certify(search.best, mixture).bound
-    costs = Costs()
-    rows = [costs.of_plan(it, entry.plan) for it in case.thermal for entry in mixture.thermal[it.name]]
-    return mixture, mixture.bound(case, rows, search.best)
-
-
 def trials(search, price, is_near):
     """Whole prices to try: the master's, and on the way to them. Near the end what rounding takes counts, so some are rounded by chance."""
+    if not np.isfinite(price).all():  # (the master problem was solved badly)
+        price = search.centre + search.chance.normal(0, 0.1, len(search.centre))
     ways = [1e3 * (step * price + (1 - step) * search.centre) for step in STEPS]
     if is_near:
         ways += [np.floor(1e3 * price + search.chance.random(len(price))) for _ in range(2)]
@@ -189,35 +197,32 @@ def trials(search, price, is_near):
 def convex_prices(case, starts, settle, certify, limits, tell):
     """Searches for prices of the greatest dual value. `settle` and `certify` call the program."""
     search = Search(case, settle)
+    if not case.thermal:
+        return without_thermal(case, search, certify)
     search.ask(*starts)
-    gap, finer, best = float("inf"), 1.0, None
-    for turn in range(1, 10_000):
+    gap, finer, best, stale = float("inf"), 1.0, (float("inf"), None, None), 0
+    for turn in itertools.count(1):
         within = limits.within(search.payments)
         master = search.master()
         accuracy = max(within / 10, min(gap, 1e6) / CLOSER) / finer
         state = master.solve(search.centre, accuracy, 10 * min(gap, 1e6))
-        if best is None or master.value(state) < best[0]:
-            best = master.value(state), list(search.columns), state.share
+        if master.bound(state) < best[0]:
+            best = master.bound(state), list(search.columns), state.share
         search.ask(*trials(search, state.price, gap < 5 * within))
-        gap = max(0.0, best[0] - search.best_value / 1e6)
+        before, gap = gap, max(0.0, best[0] - search.best_value / 1e6)
+        stale = 0 if gap < 0.999 * before else stale + 1
         tell(f"round {turn}: within {gap:,.2f} of the best, {search.calls} calls of settle, {len(master.columns.cost)} columns")
-        ended = limits.over()
-        if ended or gap <= within:
-            mixture, bound = mixture_of(case, search, best, certify)
-            is_within = (bound - search.best_value) / 1e6 <= within
-            if ended or is_within or finer > 1e4:
-                told = "as near as was asked for" if is_within else ended or "it comes no nearer"
-                return Found(search.best, mixture, search.best_value, bound, search.payments, search.calls, told, certify is not None)
+        ended = limits.over() or ("it comes no nearer" if stale >= STALE or finer > 1e4 else None)
+        if best[1] and (ended or gap <= within):
+            found = search.found(best, certify, ended)
+            if ended or found.distance / 1e6 <= within:
+                found.ended = "as near as was asked for" if found.distance / 1e6 <= within else ended
+                return found
             finer *= 10
         search.drop(master, state, gap, within)
-    raise AssertionError("the search has no end")
 
 
-def mixture_of(case, search, best, certify):
-    """The mixture of the best master problem so far, with its bound."""
-    _, columns, shares = best
-    kept, search.columns = search.columns, columns
-    try:
-        return certified(case, search, shares, certify)
-    finally:
-        search.columns = kept
+def without_thermal(case, search, certify):
+    """Where nothing is on or off, the linear program has the answer, and the mixture is empty."""
+    search.ask(relaxed_prices(case))
+    return search.found((0.0, [], []), certify, "no thermal unit is there, so a linear program has it all")

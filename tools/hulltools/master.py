@@ -108,6 +108,13 @@ class Master:
         """The cost of the shares and singles."""
         return float(self.columns.cost @ it.share + self.singles.cost @ it.single)
 
+    def bound(self, it):
+        """The cost with what is lacking at the greatest price: no dual value is above it. Infinite where the shares are none."""
+        balance, shares, *_ = self.residuals(it)
+        bound = self.value(it) + LIMIT * float(np.abs(balance).sum())
+        is_one = np.isfinite(it.price).all() and np.abs(shares).max(initial=0) < 1e-7 and it.share.min(initial=0) >= 0
+        return bound if is_one and np.isfinite(bound) else float("inf")
+
     def factor(self, it):
         """Weights of the step, and the matrix of the rows with the units' shares eliminated."""
         c, s, rows = self.columns, self.singles, len(self.due)

@@ -3,7 +3,6 @@ import doctest
 import os
 import re
 import subprocess
-import sys
 import tempfile
 import unittest
 
