@@ -171,9 +171,9 @@ class WithSciPy(unittest.TestCase):
             [python, "-B", "-m", "unittest", "-v", "with_scipy"], cwd=os.path.dirname(__file__), capture_output=True, text=True
         )
         self.assertEqual(ran.returncode, 0, ran.stderr[-3000:])
-        passed_over = re.findall(r"^(\w+) .*skipped '(.*)'$", ran.stderr, re.M)
+        passed_over = re.findall(r"^(\w+) .*skipped (['\"])(.*)\2$", ran.stderr, re.M)
         if passed_over:
-            self.skipTest("; ".join(f"{name}: {why}" for name, why in passed_over))
+            self.skipTest("; ".join(f"{name}: {why}" for name, _, why in passed_over))
 
 
 if __name__ == "__main__":
