@@ -1,6 +1,6 @@
 //! What answers need, taken once: with a bench an answer takes no memory.
 ghost use Rattle.std.specs.Prelude.{◌≡◌, ℕ, ◌≤◌, ℤ, pos, neg_ℤ, ◌+ℤ◌, ◌≤ℤ◌, length, IfOk, IfSome};
-ghost use Rattle.std.specs.Prelude.{IfNone, Some};
+ghost use Rattle.std.specs.Prelude.{IfNone, OnErr, Some};
 ghost use Rattle.slope_list.specs.Slopes.{room_of};
 ghost use Rattle.uc_model.specs.Data.{Schedule};
 ghost use Rattle.plain_lists.specs.Ranges.{IsFrom};
@@ -121,10 +121,12 @@ impl Bench<Slopes> {
 
 impl<R> Bench<R> {
     /// Room for the last answers of so many units over so many periods, which takes memory. An
-    /// answer is found sooner where the last one of its unit is kept.
+    /// answer is found sooner where the last one of its unit is kept. After an error the bench is
+    /// as it was.
     pub fn keep_for(&mut self, alloc: Global, units: u32, periods: u32) -> Result<(), AllocError>
         ensures bench { (room : R → ℕ) (periods points : ℕ)
             → IsBenchFor room periods points self.old → IsBenchFor room periods points self.new }
+        ensures err { OnErr result (self.new ≡ self.old) }
     {
         let mut kept = Vec::with_capacity(alloc, units as usize)?;
         for _ in 0..units {
