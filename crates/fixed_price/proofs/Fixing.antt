@@ -7,7 +7,6 @@ use Rattle.uc_model.specs.Laws.{DualIsAtMostCost}
 use Rattle.uc_model.specs.Limits.{IsThermalUnit, IsMarket}
 use Rattle.uc_model.specs.Systems.{IsFeasiblePlan, plan_cost, IsDualValue}
 use Rattle.fixed_price.specs.Laws.{CommitmentsAreFixed}
-use Rattle.case_answers.specs.Tops.{points_of}
 use Rattle.fixed_price.proofs.Held.{held_feasible, given_feasible}
 
 abbrev pub any_thermal : NamedThermalUnit → AnyUnit
@@ -135,7 +134,7 @@ points_stay n [] rest plan h = refl
 points_stay n (t ∷ ts) rest [] h = absurd h
 points_stay n (t ∷ ts) rest (s ∷ ss) h = ap (λ l. t.unit.points ∷ l) (points_stay n ts rest ss h.1)
 
-count_stays : (m : Market) (plan : List Schedule) → points_of (fixed_market m plan) ≡ points_of m → unit_count (fixed_market m plan) ≡ unit_count m
+count_stays : (m : Market) (plan : List Schedule) → map (λ (n : NamedThermalUnit). n.unit.points) (fixed_market m plan).thermal ≡ map (λ (n : NamedThermalUnit). n.unit.points) m.thermal → unit_count (fixed_market m plan) ≡ unit_count m
 count_stays m plan e =
     let points = λ (t : NamedThermalUnit). t.unit.points in
     let long = sym (length-map (fixed_market m plan).thermal points) ∙ ap length e ∙ length-map m.thermal points in

@@ -1,12 +1,12 @@
 -- What holding the commitments of a plan does. Each law is the clause of a public function of its
 -- name.
-use Rattle.std.specs.Prelude.{◌≡◌, ◌↔◌, ℕ, ℤ, ◌≤ℤ◌, List, length}
-use Rattle.uc_model.specs.Data.{ThermalUnit, PriceLists, Schedule, Market, unit_count}
+use Rattle.std.specs.Prelude.{◌≡◌, ◌↔◌, ℕ, ℤ, ◌≤ℤ◌, List, length, map}
+use Rattle.uc_model.specs.Data.{ThermalUnit, NamedThermalUnit, PriceLists, Schedule, Market}
+use Rattle.uc_model.specs.Data.{unit_count}
 use Rattle.uc_model.specs.Limits.{ArePrices, IsMarket}
 use Rattle.uc_model.specs.Schedules.{IsThermalFeasible}
 use Rattle.uc_model.specs.Systems.{IsFeasiblePlan, plan_cost, IsDualValue}
 use Rattle.fixed_price.specs.FixedCase.{held_unit, fixed_market}
-use Rattle.case_answers.specs.Tops.{points_of}
 
 -- a schedule is feasible for the held unit exactly where it is feasible for the unit as given and
 -- has the commitment that is held
@@ -21,7 +21,8 @@ HeldSchedulesAreThose =
 pub record IsFixing (m : Market) (plan : List Schedule) : Type 0 where
   pub market : IsMarket (fixed_market m plan)
   pub count : unit_count (fixed_market m plan) ≡ unit_count m
-  pub points : points_of (fixed_market m plan) ≡ points_of m
+  pub points : map (λ (n : NamedThermalUnit). n.unit.points) (fixed_market m plan).thermal
+      ≡ map (λ (n : NamedThermalUnit). n.unit.points) m.thermal
   pub feasible : IsFeasiblePlan (fixed_market m plan) plan
   pub cost : plan_cost (fixed_market m plan) plan ≡ plan_cost m plan
   pub rises : (π : PriceLists) (value fixed : ℤ) → ArePrices π → length π.energy ≡ m.periods →

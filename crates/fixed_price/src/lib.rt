@@ -9,5 +9,4 @@ mod copies;
 mod fix;
 pub mod laws;
 
-pub use case_answers::earn_all;
 pub use fix::fix_case;
