@@ -2,11 +2,15 @@
 ghost use Rattle.std.specs.Prelude.{◌≡◌, ℕ, ◌+◌, ◌<◌, ◌≤◌, List, length, IfOk, IfSome, IsErrOf};
 ghost use Rattle.std.specs.Prelude.{vec_len};
 ghost use Rattle.hull_io.specs.Edge.{Rose};
+ghost use Rattle.hull_io.specs.declared.read.TheConstants.{PIECE};
 ghost use Rattle.plain_lists.specs.declared.limits.TheConstants.{MOST_BYTES};
 
 use crate::{ReadFailed, Shelf};
 use plain_lists::limits::MOST_BYTES;
-use std::alloc::Global;
+use std::alloc::{AllocError, Global};
+
+/// The most bytes that are asked for at once.
+const PIECE: usize = 65_536;
 
 /// Why a file wasn't read.
 #[derive(Debug, Clone, Copy, PartialEq, Eq)]
@@ -17,6 +21,13 @@ pub enum ReadFault {
     TooBig,
     /// Memory ran out.
     Memory,
+}
+
+/// Room for what is asked for at once: on the heap, since a caller's stack may be small.
+fn room_for_a_piece(alloc: Global) -> Result<Vec<u8>, AllocError>
+    ensures { IfOk result (λ room. vec_len room ≡ PIECE) }
+{
+    vec![in alloc; 0u8; PIECE]
 }
 
 /// The bytes of a file.
@@ -34,17 +45,20 @@ pub fn read_whole<F: Shelf>(alloc: Global, shelf: &mut F, name: &str) -> Result<
     ensures later { (any : List ℕ) → F.faults shelf.old any ≤ F.faults shelf.new any }
     ensures told { F.told shelf.new ≡ F.told shelf.old }
 {
-    let mut buffer = [0u8; 65_536];
+    let Ok(mut room) = room_for_a_piece(alloc) else {
+        return Err(ReadFault::Memory);
+    };
+    let room = room.as_mut_slice();
     let mut bytes = Vec::new(alloc);
     'reading: while bytes.len() <= MOST_BYTES {
-        let n = match shelf.read(name, bytes.len() as u64, &mut buffer) {
+        let n = match shelf.read(name, bytes.len() as u64, room) {
             Ok(n) => n,
             Err(ReadFailed) => return Err(ReadFault::Failed),
         };
         if n == 0 {
             return Ok(bytes);
         }
-        if bytes.extend_from_slice(&buffer[..n]).is_err() {
+        if bytes.extend_from_slice(&room[..n]).is_err() {
             return Err(ReadFault::Memory);
         }
     }

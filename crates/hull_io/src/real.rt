@@ -2,9 +2,9 @@
 ghost use Rattle.std.specs.Prelude.{◌≡◌, ◌≤◌, length, IfOk};
 
 use crate::{ReadFailed, Shelf, Sink, WriteFailed};
-use arrayvec::ArrayString;
-use std::io::{Read, Seek, SeekFrom, Write};
+use std::io::{ErrorKind, Read, Seek, SeekFrom, Write};
 use std::rt::Files;
+use std::thread::yield_now;
 use std::{fs, io};
 
 /// The most bytes of a path that is kept open: the system opens none that is longer.
@@ -13,12 +13,14 @@ const LONGEST: usize = 4096;
 /// Files by path, with one count of faults for every name.
 ///
 /// The file that was read last stays open, so that reads at rising offsets go on where the last
-/// one ended. A read at offset 0 opens its file anew. No read takes memory.
+/// one ended. A read at offset 0 opens its file anew. No read takes memory. A read that a signal
+/// interrupts, or that finds nothing yet in a pipe that doesn't wait, is made again.
 #[derive(Drop)]
 pub struct FileShelf<'a, R: Files> {
     rt: &'a R,
     open: Option<R::File>,
-    path: ArrayString<LONGEST>,
+    path: [u8; LONGEST],
+    length: usize,
     next: u64,
     faults: u64,
 }
@@ -31,7 +33,8 @@ impl<'a, R: Files> FileShelf<'a, R> {
         FileShelf {
             rt,
             open: None,
-            path: ArrayString::new(),
+            path: [0; LONGEST],
+            length: 0,
             next: 0,
             faults: 0,
         }
@@ -39,15 +42,17 @@ impl<'a, R: Files> FileShelf<'a, R> {
 
     /// Whether the file that was read last goes on with this read.
     fn goes_on(&self, name: &str, offset: u64) -> bool {
-        offset != 0 && offset == self.next && self.path.as_str() == name
+        offset != 0 && offset == self.next && self.path.get(..self.length) == Some(name.as_bytes())
     }
 
     /// Keeps a file open for the read that goes on at `next`.
     fn keep(&mut self, file: R::File, name: &str, next: u64)
         ensures { self.new.faults ≡ self.old.faults }
     {
-        self.path.clear();
-        if self.path.try_push_str(name).is_ok() {
+        let name = name.as_bytes();
+        if let Some(path) = self.path.get_mut(..name.len()) {
+            path.copy_from_slice(name);
+            self.length = name.len();
             self.next = next;
             self.open = Some(file);
         }
@@ -63,10 +68,42 @@ impl<'a, R: Files> FileShelf<'a, R> {
             Some(file) if goes_on => file,
             _ => open_at(self.rt, name, offset)?,
         };
-        let n = file.read(into)?;
+        let n = read_in_time(&mut file, into)?;
         self.keep(file, name, offset.saturating_add(n as u64));
         Ok(n)
     }
+}
+
+/// Whether a call that failed so may go through when it is made again: a signal interrupted it, or
+/// a pipe that doesn't wait had nothing yet, or no room.
+fn may_go_through(error: &io::Error) -> bool {
+    matches!(error.kind(), ErrorKind::Interrupted | ErrorKind::WouldBlock)
+}
+
+/// A read, made again for as long as it may yet go through.
+fn read_in_time<R: Read>(reader: &mut R, into: &mut [u8]) -> io::Result<usize>
+    ensures { IfOk result (λ n. n ≤ length into.old) }
+{
+    for _ in 0..u64::MAX {
+        match reader.read(into) {
+            Err(error) if may_go_through(&error) => yield_now(),
+            read => return read,
+        }
+    }
+    Err(io::Error::from(ErrorKind::WouldBlock))
+}
+
+/// A write, made again for as long as it may yet go through.
+fn write_in_time<W: Write>(writer: &mut W, piece: &[u8]) -> io::Result<usize>
+    ensures { IfOk result (λ n. n ≤ length piece.now) }
+{
+    for _ in 0..u64::MAX {
+        match writer.write(piece) {
+            Err(error) if may_go_through(&error) => yield_now(),
+            written => return written,
+        }
+    }
+    Err(io::Error::from(ErrorKind::WouldBlock))
 }
 
 /// Opens a file at an offset. At 0 there is no seek, so a pipe can be read too.
@@ -99,7 +136,8 @@ impl<'a, R: Files> Shelf for FileShelf<'a, R> {
 }
 
 /// A real output. `W` writes at once, as standard output by `std::io::writer` does: a writer that
-/// kept bytes back would keep back their failures too.
+/// kept bytes back would keep back their failures too. A write that a signal interrupts, or that
+/// finds no room yet in a pipe that doesn't wait, is made again.
 #[derive(Drop)]
 pub struct StdSink<W: Write + Drop> {
     out: W,
@@ -125,7 +163,7 @@ impl<W: Write + Drop> Sink for StdSink<W> {
     ghost last = { Some 0xffff_ffff_ffff_ffff };
 
     fn write(&mut self, piece: &[u8]) -> Result<usize, WriteFailed> {
-        match self.out.write(piece) {
+        match write_in_time(&mut self.out, piece) {
             Ok(n) => {
                 if n == 0 && !piece.is_empty() {
                     self.faults = self.faults.saturating_add(1);
