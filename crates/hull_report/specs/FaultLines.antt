@@ -36,7 +36,7 @@ status_of (faults.Report code line) = 8
 
 unfoldable pub words_told : WordFault → List ℕ
 words_told f =
-    concat (codes "words " ∷ numeral (word_code f.code) ∷ codes " " ∷ numeral f.place ∷ [])
+    concat (codes "words " ∷ numeral (word_code f.code) ∷ codes " " ∷ numeral f.position ∷ [])
 
 unfoldable pub read_told : FileKind → List ℕ
 read_told file = concat (codes "read " ∷ file_word file ∷ [])

@@ -132,7 +132,7 @@ fn write_words_fault<S: Sink>(fault: &WordFault, out: &mut S) -> Result<(), Writ
             Part::Text(b"words "),
             Part::Count(code as u64),
             Part::Text(b" "),
-            Part::Count(fault.place as u64),
+            Part::Count(fault.position as u64),
         ],
     )
 }

@@ -1,12 +1,14 @@
 -- A command with its words, with names as their bytes (this project's profile).
 use Rattle.std.specs.Prelude.{ℕ, ℤ, pos, List, Option, Some, None, option_map, unwrap_or}
+use Rattle.hull_words.specs.declared.defaults.TheConstants.{DEFAULT_PROPOSALS, DEFAULT_WORKERS}
+use Rattle.hull_words.specs.declared.defaults.TheConstants.{DEFAULT_AHEAD, DEFAULT_RADIUS}
 use Rattle.hull_words.specs.declared.command.PriceWords.{PriceWords}
 use Rattle.hull_words.specs.declared.command.CheckWords.{CheckWords}
 use Rattle.hull_words.specs.declared.command.Command.{Command}
 use Rattle.hull_words.specs.declared.command.Command.TheVariants as commands
 use Rattle.hull_words.specs.declared.kinds.CommandKind.{CommandKind}
 use Rattle.hull_words.specs.declared.kinds.CommandKind.TheVariants.{Price, Check, Try, Bound, Fixed}
-use Rattle.hull_words.specs.declared.kinds.CommandKind.TheVariants.{Audit}
+use Rattle.hull_words.specs.declared.kinds.CommandKind.TheVariants.{Audit, Settle}
 
 pub record PriceAsked : Type 0 where
   pub case_name : List ℕ
@@ -35,6 +37,11 @@ pub record AuditAsked : Type 0 where
   pub report_name : List ℕ
   pub workers : ℕ
 
+pub record SettleAsked : Type 0 where
+  pub case_name : List ℕ
+  pub schedule_name : List ℕ
+  pub prices_name : List ℕ
+
 pub data Asked : Type 0 where
   price : PriceAsked → Asked
   check : CheckAsked → Asked
@@ -42,6 +49,7 @@ pub data Asked : Type 0 where
   bound : BoundAsked → Asked
   fixed : PriceAsked → Asked
   audit : AuditAsked → Asked
+  settle : SettleAsked → Asked
 
 -- what a contract sees of a command
 abbrev pub price_asked : PriceWords → PriceAsked
@@ -76,12 +84,19 @@ asked (commands.Audit w) =
       report_name = w.report_name.items;
       workers = w.workers;
     })
+asked (commands.Settle w) =
+    settle (record {
+      case_name = w.case_name.items;
+      schedule_name = w.schedule_name.items;
+      prices_name = w.prices_name.items;
+    })
 
 -- the values that words give, each where it is given
 pub record Found : Type 0 where
   pub case_name : Option (List ℕ)
   pub schedule_name : Option (List ℕ)
   pub report_name : Option (List ℕ)
+  pub prices_name : Option (List ℕ)
   pub proposals : Option ℕ
   pub workers : Option ℕ
   pub ahead : Option ℕ
@@ -103,9 +118,9 @@ abbrev pub price_from : Found → Option PriceAsked
 price_from found = option_map (λ names. record {
   case_name = names.case_name;
   schedule_name = names.schedule_name;
-  proposals = unwrap_or found.proposals 100;
-  workers = unwrap_or found.workers 4;
-  ahead = unwrap_or found.ahead 4;
+  proposals = unwrap_or found.proposals DEFAULT_PROPOSALS;
+  workers = unwrap_or found.workers DEFAULT_WORKERS;
+  ahead = unwrap_or found.ahead DEFAULT_AHEAD;
 }) (names_from found)
 
 -- the command with its values, by default where absent; None where one that it requires is absent
@@ -114,13 +129,13 @@ asked_from Price found = option_map price (price_from found)
 asked_from Check found = option_map check (names_from found)
 asked_from Try found = option_map (λ number. try (record {
   number = number;
-  proposals = unwrap_or found.proposals 100;
-  workers = unwrap_or found.workers 4;
-  ahead = unwrap_or found.ahead 4;
+  proposals = unwrap_or found.proposals DEFAULT_PROPOSALS;
+  workers = unwrap_or found.workers DEFAULT_WORKERS;
+  ahead = unwrap_or found.ahead DEFAULT_AHEAD;
 })) found.number
 asked_from Bound found =
     option_map
-    (λ run. bound (record { run = run; radius = pos (unwrap_or found.radius 20_000_000) }))
+    (λ run. bound (record { run = run; radius = pos (unwrap_or found.radius DEFAULT_RADIUS) }))
     (price_from found)
 asked_from Fixed found = option_map fixed (price_from found)
 asked_from Audit found =
@@ -128,5 +143,11 @@ asked_from Audit found =
       case_name = names.case_name;
       schedule_name = names.schedule_name;
       report_name = report_name;
-      workers = unwrap_or found.workers 4;
+      workers = unwrap_or found.workers DEFAULT_WORKERS;
+    }))
+asked_from Settle found =
+    with_both (names_from found) found.prices_name (λ names prices_name. settle (record {
+      case_name = names.case_name;
+      schedule_name = names.schedule_name;
+      prices_name = prices_name;
     }))

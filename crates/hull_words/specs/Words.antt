@@ -14,7 +14,7 @@ use Rattle.hull_words.specs.declared.kinds.CommandKind.TheVariants.{Try}
 use Rattle.hull_words.specs.declared.kinds.OptionKind.{OptionKind}
 use Rattle.hull_words.specs.declared.kinds.OptionKind.TheVariants.{Case, Schedule, Report}
 use Rattle.hull_words.specs.declared.kinds.OptionKind.TheVariants.{Proposals, Workers, Ahead}
-use Rattle.hull_words.specs.declared.kinds.OptionKind.TheVariants.{Radius}
+use Rattle.hull_words.specs.declared.kinds.OptionKind.TheVariants.{Radius, Prices}
 use Rattle.hull_words.specs.declared.fault.WordCode.{WordCode}
 use Rattle.hull_words.specs.declared.fault.WordCode.TheVariants.{NoCommand, UnknownCommand}
 use Rattle.hull_words.specs.declared.fault.WordCode.TheVariants.{UnknownOption, RepeatedOption}
@@ -63,6 +63,7 @@ abbrev pub fits : OptionKind → List ℕ → Bool
 fits Case text = true
 fits Schedule text = true
 fits Report text = true
+fits Prices text = true
 fits o text = is_some (setting o text)
 
 -- what is wrong with an option that the command has, or not, that was given before, or not, and
@@ -114,7 +115,7 @@ first_of (word ∷ words) = Some word
 
 -- the fault of a code at a position
 abbrev pub fault : WordCode → ℕ → WordFault
-fault code position = record { code = code; place = position }
+fault code position = record { code = code; position = position }
 
 -- the fault at a position, or else that of the words after it
 abbrev pub or_later : Option WordCode → ℕ → Option WordFault → Option WordFault
@@ -146,6 +147,7 @@ found_in words = record {
   case_name = value_of (spelling Case) None words;
   schedule_name = value_of (spelling Schedule) None words;
   report_name = value_of (spelling Report) None words;
+  prices_name = value_of (spelling Prices) None words;
   proposals = option_and_then (setting Proposals) (value_of (spelling Proposals) None words);
   workers = option_and_then (setting Workers) (value_of (spelling Workers) None words);
   ahead = option_and_then (setting Ahead) (value_of (spelling Ahead) None words);

@@ -9,12 +9,13 @@ pub struct PriceWords {
     pub case_name: Name,
     /// The name of the file with the schedule.
     pub schedule_name: Name,
-    /// The most price vectors that are tried, 1 to 10,000; 100 where the words don't say.
-    pub proposals: u32,
-    /// The number of workers, 1 to 32; 4 where the words don't say.
-    pub workers: u32,
-    /// How many proposals may be open ahead of the last answered one, 1 to 16; 4 where the words
+    /// The most price vectors that are tried, 1 to 10,000; [`DEFAULT_PROPOSALS`] where the words
     /// don't say.
+    pub proposals: u32,
+    /// The number of workers, 1 to 32; [`DEFAULT_WORKERS`] where the words don't say.
+    pub workers: u32,
+    /// How many proposals may be open ahead of the last answered one, 1 to 16; [`DEFAULT_AHEAD`]
+    /// where the words don't say.
     pub ahead: u32,
 }
 
@@ -46,7 +47,7 @@ pub struct BoundWords {
     /// What the run needs, as for `hull price`.
     pub run: PriceWords,
     /// How far each price may be from the chosen one, in thousandths of the currency per MW and
-    /// period, 0 to 20,000,000; 20,000,000 where the words don't say.
+    /// period, 0 to 20,000,000; [`DEFAULT_RADIUS`] where the words don't say.
     pub radius: i64,
 }
 
@@ -59,8 +60,19 @@ pub struct AuditWords {
     pub schedule_name: Name,
     /// The name of the file with the report.
     pub report_name: Name,
-    /// The number of workers, 1 to 32; 4 where the words don't say.
+    /// The number of workers, 1 to 32; [`DEFAULT_WORKERS`] where the words don't say.
     pub workers: u32,
+}
+
+/// The words of `hull settle`.
+#[derive(Drop)]
+pub struct SettleWords {
+    /// The name of the file with the case.
+    pub case_name: Name,
+    /// The name of the file with the schedule.
+    pub schedule_name: Name,
+    /// The name of the file with the prices.
+    pub prices_name: Name,
 }
 
 /// A command with its words.
@@ -77,6 +89,8 @@ pub enum Command {
     Fixed(PriceWords),
     /// Says whether a report is right.
     Audit(AuditWords),
+    /// Settles given prices.
+    Settle(SettleWords),
 }
 
 // Written out, so that a drop of it is a call, and not one for each name of each command.
@@ -89,6 +103,7 @@ impl Drop for Command {
             Command::Bound(_words) => {}
             Command::Fixed(_words) => {}
             Command::Audit(_words) => {}
+            Command::Settle(_words) => {}
         }
     }
 }

@@ -43,13 +43,13 @@ pub struct WordFault {
     pub code: WordCode,
     /// The position of the word in fault, from 1; 0 where there is no word, and the number of words
     /// where something is missing.
-    pub place: u32,
+    pub position: u32,
 }
 
 /// Why no command was read.
 #[derive(Debug, Drop, Error)]
 pub enum WordError {
-    #[error("word {}: fault {}", .0.place, .0.code.number())]
+    #[error("word {}: fault {}", .0.position, .0.code.number())]
     Fault(WordFault),
     #[error("out of memory")]
     Memory,

@@ -13,6 +13,7 @@ pub enum CommandKind {
     Bound,
     Fixed,
     Audit,
+    Settle,
 }
 
 /// An option without its value.
@@ -21,6 +22,7 @@ pub enum OptionKind {
     Case,
     Schedule,
     Report,
+    Prices,
     Proposals,
     Workers,
     Ahead,
@@ -44,6 +46,8 @@ impl CommandKind {
             Some(CommandKind::Fixed)
         } else if word == "audit" {
             Some(CommandKind::Audit)
+        } else if word == "settle" {
+            Some(CommandKind::Settle)
         } else {
             None
         }
@@ -81,6 +85,7 @@ impl CommandKind {
                 OptionKind::Report,
                 OptionKind::Workers,
             ],
+            CommandKind::Settle => &[OptionKind::Case, OptionKind::Schedule, OptionKind::Prices],
         }
     }
 
@@ -104,6 +109,7 @@ impl OptionKind {
             OptionKind::Case => "case",
             OptionKind::Schedule => "schedule",
             OptionKind::Report => "report",
+            OptionKind::Prices => "prices",
             OptionKind::Proposals => "proposals",
             OptionKind::Workers => "workers",
             OptionKind::Ahead => "ahead",

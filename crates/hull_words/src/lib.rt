@@ -2,12 +2,13 @@
 #![tactic(auto)]
 
 mod command;
+pub mod defaults;
 mod fault;
 mod given;
 mod kinds;
 mod reading;
 mod text;
 
-pub use command::{AuditWords, BoundWords, CheckWords, Command, PriceWords, TryWords};
+pub use command::{AuditWords, BoundWords, CheckWords, Command, PriceWords, SettleWords, TryWords};
 pub use fault::{WordCode, WordError, WordFault};
 pub use reading::read_words;

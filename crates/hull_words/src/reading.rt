@@ -9,7 +9,10 @@ ghost use Rattle.hull_words.specs.Reading.{found_so_far, nothing, flag, option_s
 ghost use Rattle.hull_words.specs.Reading.{set_count, word_step, read_from, seen};
 ghost use Rattle.hull_words.specs.Words.{Gives, first_of, option_in, or_missing, texts, words_of};
 
-use crate::command::{AuditWords, BoundWords, CheckWords, Command, PriceWords, TryWords};
+use crate::command::{
+    AuditWords, BoundWords, CheckWords, Command, PriceWords, SettleWords, TryWords,
+};
+use crate::defaults::{DEFAULT_AHEAD, DEFAULT_PROPOSALS, DEFAULT_RADIUS, DEFAULT_WORKERS};
 use crate::fault::{WordCode, WordError, WordFault};
 use crate::given::Given;
 use crate::kinds::CommandKind;
@@ -102,7 +105,7 @@ fn pass_word<'a>(
     given: Given<'a>,
 ) -> Result<(Given<'a>, bool), WordFault>
     requires within { index < length words.now }
-    // Each word that is no value sets one of eight values.
+    // Each word that is no value sets one of nine values.
     requires few { index + flag is_value ≤ 2 * set_count (found_so_far given) }
     ensures ok { IfOk result (λ x. read_from command (index + 2) is_value
         (drop index (texts words.now)) (found_so_far given.entry)
@@ -120,7 +123,7 @@ fn pass_word<'a>(
         Ok(read) => Ok(read),
         Err(code) => Err(WordFault {
             code,
-            place: index as u32 + 2,
+            position: index as u32 + 2,
         }),
     }
 }
@@ -128,7 +131,7 @@ fn pass_word<'a>(
 /// The values that the words after the command give.
 fn read_later<'a>(command: CommandKind, words: &'a [String]) -> Result<Given<'a>, WordFault>
     ensures read { seen found_so_far result ≡ read_from command 2 false (texts words.now) nothing }
-    ensures few { OnOk result (length words.now ≤ 16) }
+    ensures few { OnOk result (length words.now ≤ 18) }
 {
     let mut given = Given::nothing();
     let mut is_value = false;
@@ -148,7 +151,7 @@ fn required<T: Drop>(value: Option<T>, count: u32) -> Result<T, WordError>
         Some(value) => Ok(value),
         None => Err(WordError::Fault(WordFault {
             code: WordCode::MissingOption,
-            place: count,
+            position: count,
         })),
     }
 }
@@ -174,9 +177,9 @@ fn price_words(alloc: Global, given: &Given, count: u32) -> Result<PriceWords, W
     Ok(PriceWords {
         case_name,
         schedule_name,
-        proposals: given.proposals.unwrap_or(100),
-        workers: given.workers.unwrap_or(4),
-        ahead: given.ahead.unwrap_or(4),
+        proposals: given.proposals.unwrap_or(DEFAULT_PROPOSALS),
+        workers: given.workers.unwrap_or(DEFAULT_WORKERS),
+        ahead: given.ahead.unwrap_or(DEFAULT_AHEAD),
     })
 }
 
@@ -193,7 +196,23 @@ fn audit_words(alloc: Global, given: &Given, count: u32) -> Result<AuditWords, W
         case_name,
         schedule_name,
         report_name: Name::copied(alloc, report_name)?,
-        workers: given.workers.unwrap_or(4),
+        workers: given.workers.unwrap_or(DEFAULT_WORKERS),
+    })
+}
+
+fn settle_words(alloc: Global, given: &Given, count: u32) -> Result<SettleWords, WordError>
+    ensures { Gives (λ words. asked (Command.Settle words)) result
+        (or_missing (asked_from CommandKind.Settle (found_so_far given.now)) count) }
+{
+    let CheckWords {
+        case_name,
+        schedule_name,
+    } = check_words(alloc, given, count)?;
+    let prices_name = required(given.prices_name, count)?;
+    Ok(SettleWords {
+        case_name,
+        schedule_name,
+        prices_name: Name::copied(alloc, prices_name)?,
     })
 }
 
@@ -211,22 +230,23 @@ fn command_of(
         CommandKind::Check => Ok(Command::Check(check_words(alloc, given, count)?)),
         CommandKind::Try => Ok(Command::Try(TryWords {
             number: required(given.number, count)?,
-            proposals: given.proposals.unwrap_or(100),
-            workers: given.workers.unwrap_or(4),
-            ahead: given.ahead.unwrap_or(4),
+            proposals: given.proposals.unwrap_or(DEFAULT_PROPOSALS),
+            workers: given.workers.unwrap_or(DEFAULT_WORKERS),
+            ahead: given.ahead.unwrap_or(DEFAULT_AHEAD),
         })),
         CommandKind::Bound => Ok(Command::Bound(BoundWords {
             run: price_words(alloc, given, count)?,
-            radius: i64::from(given.radius.unwrap_or(20_000_000)),
+            radius: i64::from(given.radius.unwrap_or(DEFAULT_RADIUS)),
         })),
         CommandKind::Fixed => Ok(Command::Fixed(price_words(alloc, given, count)?)),
         CommandKind::Audit => Ok(Command::Audit(audit_words(alloc, given, count)?)),
+        CommandKind::Settle => Ok(Command::Settle(settle_words(alloc, given, count)?)),
     }
 }
 
 /// The command that the words after the program's name give, or their first fault: the words are
-/// `price`, `check`, `try`, `bound`, `fixed` or `audit`, and then its options and, for `try`, its
-/// number. It takes memory for the names alone; a name of 4 GiB or more is answered as want of
+/// `price`, `check`, `try`, `bound`, `fixed`, `audit` or `settle`, and then its options and, for
+/// `try`, its number. It takes memory for the names alone; a name of 4 GiB or more is answered as want of
 /// memory.
 pub fn read_words(alloc: Global, words: &[String]) -> Result<Command, WordError>
     ensures { Gives asked result (words_of (texts words.now)) }
@@ -234,13 +254,13 @@ pub fn read_words(alloc: Global, words: &[String]) -> Result<Command, WordError>
     let Some((first, later)) = words.split_first() else {
         return Err(WordError::Fault(WordFault {
             code: WordCode::NoCommand,
-            place: 0,
+            position: 0,
         }));
     };
     let Some(command) = CommandKind::named(first.as_str()) else {
         return Err(WordError::Fault(WordFault {
             code: WordCode::UnknownCommand,
-            place: 1,
+            position: 1,
         }));
     };
     let given = read_later(command, later)?;

@@ -12,10 +12,10 @@ fn words_of(alloc: Global, line: &str) -> Result<Vec<String>, AllocError> {
     Ok(words)
 }
 
-/// The code and the place of the fault that words have, or two zeros.
+/// The code and the position of the fault that words have, or two zeros.
 fn fault_of(alloc: Global, words: &[String]) -> Result<(u32, u32), AllocError> {
     match read_words(alloc, words) {
-        Err(WordError::Fault(fault)) => Ok((fault.code.number(), fault.place)),
+        Err(WordError::Fault(fault)) => Ok((fault.code.number(), fault.position)),
         Err(WordError::Memory) => Err(AllocError),
         Ok(_) => Ok((0, 0)),
     }
@@ -75,10 +75,16 @@ fn command_text(alloc: Global, command: &Command) -> Result<String, AllocError> 
             let workers = words.workers;
             format!(in alloc; "audit {case_name} {schedule_name} {report_name} {workers}")
         }
+        Command::Settle(words) => {
+            let case_name = words.case_name.as_str();
+            let schedule_name = words.schedule_name.as_str();
+            let prices_name = words.prices_name.as_str();
+            format!(in alloc; "settle {case_name} {schedule_name} {prices_name}")
+        }
     }
 }
 
-/// Lines of words, each with the code and the place of its fault.
+/// Lines of words, each with the code and the position of its fault.
 const FAULTS: &[(&str, u32, u32)] = &[
     // 2: no command
     ("", 2, 1),
@@ -96,6 +102,9 @@ const FAULTS: &[(&str, u32, u32)] = &[
     ("bound --case a --report b", 3, 4),
     ("fixed --radius=1", 3, 2),
     ("audit --ahead 2", 3, 2),
+    ("audit --prices p", 3, 2),
+    ("settle --workers 1", 3, 2),
+    ("settle --radius=1", 3, 2),
     // 4: given before
     ("price --case a --case b", 4, 4),
     ("price --proposals=1 --proposals=0", 4, 3),
@@ -104,6 +113,7 @@ const FAULTS: &[(&str, u32, u32)] = &[
     ("bound --radius 0 --radius=0", 4, 4),
     ("fixed --workers 1 --workers -", 4, 4),
     ("audit --report=a --report", 4, 3),
+    ("settle --prices p --case a --prices=p", 4, 6),
     // 5: no value
     ("price --case", 5, 2),
     ("price --case= a", 5, 2),
@@ -114,6 +124,7 @@ const FAULTS: &[(&str, u32, u32)] = &[
     ("bound --radius=", 5, 2),
     ("fixed --case=missing --schedule=-", 5, 3),
     ("audit --report -b", 5, 2),
+    ("settle --case a --prices", 5, 4),
     // 6: no number of the range
     ("price --proposals 0", 6, 2),
     ("price --proposals 10001", 6, 2),
@@ -140,6 +151,8 @@ const FAULTS: &[(&str, u32, u32)] = &[
     ("fixed --case a", 7, 3),
     ("audit --case a --schedule b", 7, 5),
     ("audit --report missing --schedule missing", 7, 5),
+    ("settle --case a --schedule b", 7, 5),
+    ("settle --prices=p --schedule b", 7, 4),
     // 8: a word too much
     ("price 7", 8, 2),
     ("price --case=a --schedule=b -5", 8, 4),
@@ -153,14 +166,15 @@ const FAULTS: &[(&str, u32, u32)] = &[
     ),
     ("fixed --case a --schedule b ", 8, 6),
     ("audit --case a --workers 2 1 --schedule=b --report=c", 8, 6),
+    ("settle 7 --case a", 8, 2),
 ];
 
 #[test]
 fn faults(rt: HostRuntime) -> Result<(), Fail> {
     let alloc = rt.alloc();
     same(&rt, fault_of(alloc, &[])?, (1, 0));
-    for (line, code, place) in FAULTS {
-        same_of(&rt, &line, fault_of_line(alloc, line)?, (*code, *place));
+    for (line, code, position) in FAULTS {
+        same_of(&rt, &line, fault_of_line(alloc, line)?, (*code, *position));
     }
     Ok(())
 }
@@ -192,6 +206,7 @@ const COMMANDS: &[(&str, &str)] = &[
         "audit --workers=1 --case try --schedule 7 --report a--b",
         "audit try 7 a--b 1",
     ),
+    ("settle --prices p --case a --schedule b", "settle a b p"),
 ];
 
 fn command_of_line(alloc: Global, line: &str) -> Result<Command, WordError> {

@@ -1,0 +1,16 @@
+//! What a command takes where its words don't say.
+
+use plain_lists::limits::MOST_RADIUS;
+
+/// The most price vectors that a run tries.
+pub const DEFAULT_PROPOSALS: u32 = 100;
+
+/// The workers of a run.
+pub const DEFAULT_WORKERS: u32 = 4;
+
+/// The proposals that may be open ahead of the last answered one.
+pub const DEFAULT_AHEAD: u32 = 4;
+
+/// How far each price may be from a chosen one, in thousandths of the currency per MW and period:
+/// as far as prices can be from one another.
+pub const DEFAULT_RADIUS: u32 = MOST_RADIUS;
