@@ -1,5 +1,5 @@
 //! Laws over the definitions: each is the contract of a function that does nothing.
-ghost use Rattle.uc_prices.specs.Laws.{SomePrices, OnePrices};
+ghost use Rattle.uc_prices.specs.Laws.{SomePrices, OnePrices, PricesHaveForm};
 
 use uc_case::laws::one_file;
 
@@ -16,3 +16,8 @@ pub fn one_prices()
 {
     one_file();
 }
+
+/// The prices of a file are one for each period, and no reserve price is below 0.
+pub fn prices_have_form()
+    ensures { PricesHaveForm }
+{}
