@@ -1,5 +1,5 @@
 -- The text of a record's report, part by part.
-use Rattle.hull_report.proofs.Common.{◌≡◌, ℕ, ◌+◌, ℤ, ◌-ℤ◌, List, ◌++◌, length, sym, ◌∙◌, append_assoc, length-map, flat_map, Content, own_rows, NamedThermalUnit, NamedRenewableUnit, unit_count, Settlement, head_text, rows_text, chosen_text, thermal_text, renewable_text, bid_text, foot_text, report_text, thermal_names, renewable_names, bid_names, line_of, lines_from, chosen_of, value_of, report_of, try_lines, try_text}
+use Rattle.hull_report.proofs.Common.{◌≡◌, ℕ, ◌+◌, ℤ, ◌-ℤ◌, List, ◌++◌, length, sym, ◌∙◌, append_assoc, length-map, flat_map, Content, own_rows, NamedThermalUnit, NamedRenewableUnit, unit_count, Settlement, head_text, rows_text, chosen_text, thermal_text, renewable_text, bid_text, foot_text, report_text, thermal_names, renewable_names, bid_names, line_of, lines_from, chosen_of, value_of, report_of, try_lines, try_text, Market, Settled, settled_line, settlement_of, settlement_text, priced_text}
 use Rattle.right_report.proofs.UnitLines.{length-lines}
 
 -- the lines up to the chosen value
@@ -39,3 +39,14 @@ whole_try number c s =
     let flat : length m.flat ≡ length (lines_from line (length m.thermal) (renewable_names m)) =
     sym (length-lines line (length m.thermal) (renewable_names m) ∙ length-map m.flat (λ (n : NamedRenewableUnit). n.name)) in
     λ i. try_lines number m.periods (thermal i) (flat i) (length (own_rows c)) (chosen_of c) (value_of c) c.setup.cost s.total s.surplus (c.setup.cost -ℤ value_of c)
+
+-- the text of a settlement, of its three parts
+pub whole_settlement : (m : Market) (cost : ℤ) (s : Settled) → priced_text m.periods (unit_count m) cost s.row
+    ++ (flat_map thermal_text (lines_from (settled_line s) 0 (thermal_names m)) ++ flat_map renewable_text (lines_from (settled_line s) (length m.thermal) (renewable_names m))
+    ++ flat_map bid_text (lines_from (settled_line s) (length m.thermal + length m.flat) (bid_names m)))
+    ++ foot_text s.surplus s.sum (cost -ℤ s.row.value) ≡ settlement_text (settlement_of m cost s)
+unfolding settlement_text settlement_of
+whole_settlement m cost s =
+    let line = settled_line s in
+    nested (priced_text m.periods (unit_count m) cost s.row) (flat_map thermal_text (lines_from line 0 (thermal_names m))) (flat_map renewable_text (lines_from line (length m.thermal) (renewable_names m)))
+    (flat_map bid_text (lines_from line (length m.thermal + length m.flat) (bid_names m))) (foot_text s.surplus s.sum (cost -ℤ s.row.value))

@@ -9,11 +9,14 @@ use Rattle.uc_case.specs.declared.fault.FieldFault.{FieldFault}
 use Rattle.uc_case.specs.Sites.{key_of, code_number as field_code}
 use Rattle.uc_plan.specs.declared.fault.ShapeFault.{ShapeFault}
 use Rattle.uc_plan.specs.Shapes.{shape_number as shape_code}
+use Rattle.uc_prices.specs.declared.fault.PriceFault.{PriceFault}
+use Rattle.uc_prices.specs.Faults.{code_number as price_code, key_of as price_key}
 use Rattle.plan_check.specs.declared.RuleFault.{RuleFault}
 use Rattle.uc_model.specs.Refusals.{rule_number}
 use Rattle.report_form.specs.Numerals.{numeral, signed_numeral}
 use Rattle.hull_report.specs.declared.fault.FileKind.{FileKind}
 use Rattle.hull_report.specs.declared.fault.FileKind.TheVariants.{CaseFile, ScheduleFile}
+use Rattle.hull_report.specs.declared.fault.FileKind.TheVariants.{PricesFile}
 use Rattle.hull_report.specs.declared.fault.TopFault.{TopFault}
 use Rattle.hull_report.specs.declared.fault.TopFault.TheVariants as faults
 use Rattle.hull_report.specs.Words.{kind_word, file_word, file_status}
@@ -31,6 +34,8 @@ status_of (faults.TooBig file) = file_status file
 status_of (faults.Work proposals units periods) = 5
 status_of faults.Memory = 7
 status_of (faults.Report code line) = 8
+status_of (faults.PricesText f) = 9
+status_of (faults.PricesValue f) = 9
 
 -- ---- what the line tells behind the status
 
@@ -41,7 +46,7 @@ words_told f =
 unfoldable pub read_told : FileKind → List ℕ
 read_told file = concat (codes "read " ∷ file_word file ∷ [])
 
--- a fault of the text of a case or of a schedule
+-- a fault of the text of a case, of a schedule or of prices
 unfoldable pub text_told : FileKind → TextFault → List ℕ
 text_told file f = concat (
     file_word file ∷ codes " " ∷ numeral (text_code f.code) ∷ codes " at " ∷ numeral f.place ∷ [])
@@ -75,6 +80,11 @@ work_told proposals units periods = concat (
 unfoldable pub report_told : (code line : ℕ) → List ℕ
 report_told code line = concat (codes "report " ∷ numeral code ∷ codes " at " ∷ numeral line ∷ [])
 
+unfoldable pub price_told : PriceFault → List ℕ
+price_told f = concat (
+    codes "prices " ∷ numeral (price_code f.code) ∷ codes " field " ∷ price_key f.field
+    ∷ codes " item " ∷ numeral f.item ∷ [])
+
 abbrev pub fault_told : TopFault → List ℕ
 fault_told (faults.Words f) = words_told f
 fault_told (faults.Read file) = read_told file
@@ -87,6 +97,8 @@ fault_told (faults.TooBig file) = too_big_told file
 fault_told (faults.Work proposals units periods) = work_told proposals units periods
 fault_told faults.Memory = codes "memory"
 fault_told (faults.Report code line) = report_told code line
+fault_told (faults.PricesText f) = text_told PricesFile f
+fault_told (faults.PricesValue f) = price_told f
 
 -- ---- the line
 

@@ -6,3 +6,4 @@ pub mod TryText
 pub mod FixedText
 pub mod AuditText
 pub mod RecordText
+pub mod SettledText

@@ -4,7 +4,7 @@ use Rattle.uc_model.specs.declared.kinds.Kind.{Kind}
 use Rattle.uc_model.specs.declared.kinds.Kind.TheVariants as kinds
 use Rattle.hull_report.specs.declared.fault.FileKind.{FileKind}
 use Rattle.hull_report.specs.declared.fault.FileKind.TheVariants.{CaseFile, ScheduleFile}
-use Rattle.hull_report.specs.declared.fault.FileKind.TheVariants.{ReportFile}
+use Rattle.hull_report.specs.declared.fault.FileKind.TheVariants.{ReportFile, PricesFile}
 
 abbrev pub kind_word : Kind → List ℕ
 kind_word kinds.Case = codes "case"
@@ -16,9 +16,11 @@ abbrev pub file_word : FileKind → List ℕ
 file_word CaseFile = codes "case"
 file_word ScheduleFile = codes "schedule"
 file_word ReportFile = codes "report"
+file_word PricesFile = codes "prices"
 
 -- the status of a fault of such a file
 abbrev pub file_status : FileKind → ℕ
 file_status CaseFile = 3
 file_status ScheduleFile = 4
 file_status ReportFile = 8
+file_status PricesFile = 9

@@ -5,7 +5,7 @@ ghost use Rattle.hull_report.specs.Words.{kind_word, file_word, file_status};
 ghost use Rattle.hull_report.specs.FaultLines.{status_of, words_told, read_told, text_told};
 ghost use Rattle.hull_report.specs.FaultLines.{field_told, shape_told, rule_told, too_big_told};
 ghost use Rattle.hull_report.specs.FaultLines.{work_told, report_told, status_told, fault_told};
-ghost use Rattle.hull_report.specs.FaultLines.{fault_line};
+ghost use Rattle.hull_report.specs.FaultLines.{price_told, fault_line};
 ghost use Rattle.hull_report.specs.declared.fault.TopFault.TheVariants.{Memory};
 
 use hull_io::{Sink, WriteFailed, write_whole};
@@ -17,6 +17,7 @@ use std::alloc::AllocError;
 use uc_case::fault::FieldFault;
 use uc_model::kinds::Kind;
 use uc_plan::fault::ShapeFault;
+use uc_prices::fault::PriceFault;
 use uc_text::TextFault;
 
 /// A file that a command reads.
@@ -25,6 +26,7 @@ pub enum FileKind {
     CaseFile,
     ScheduleFile,
     ReportFile,
+    PricesFile,
 }
 
 /// Why a command ends without its text.
@@ -59,6 +61,10 @@ pub enum TopFault {
         code: u32,
         line: u32,
     },
+    /// The prices file is no JSON text.
+    PricesText(TextFault),
+    /// The prices file has no prices of the case.
+    PricesValue(PriceFault),
 }
 
 impl From<AllocError> for TopFault {
@@ -87,6 +93,7 @@ fn file_text(file: FileKind) -> &'static [u8]
         FileKind::CaseFile => b"case",
         FileKind::ScheduleFile => b"schedule",
         FileKind::ReportFile => b"report",
+        FileKind::PricesFile => b"prices",
     }
 }
 
@@ -99,6 +106,7 @@ impl FileKind {
             FileKind::CaseFile => 3,
             FileKind::ScheduleFile => 4,
             FileKind::ReportFile => 8,
+            FileKind::PricesFile => 9,
         }
     }
 }
@@ -117,6 +125,7 @@ impl TopFault {
             TopFault::Work { .. } => 5,
             TopFault::Memory => 7,
             TopFault::Report { .. } => 8,
+            TopFault::PricesText(_) | TopFault::PricesValue(_) => 9,
         }
     }
 }
@@ -283,6 +292,25 @@ fn write_report_fault<S: Sink>(code: u32, line: u32, out: &mut S) -> Result<(), 
     )
 }
 
+#[tactic(auto, unfolding(crate::specs::FaultLines::price_told))]
+fn write_price_fault<S: Sink>(fault: &PriceFault, out: &mut S) -> Result<(), WriteFailed>
+    ensures { Writes S.held S.faults S.last out.old out.new result (price_told fault.now) }
+{
+    let code = fault.code.number();
+    let key = fault.field.key().as_bytes();
+    write_parts(
+        out,
+        &[
+            Part::Text(b"prices "),
+            Part::Count(code as u64),
+            Part::Text(b" field "),
+            Part::Text(key),
+            Part::Text(b" item "),
+            Part::Count(fault.item as u64),
+        ],
+    )
+}
+
 /// Writes what the line of a fault tells behind its status.
 fn write_told<S: Sink>(fault: &TopFault, out: &mut S) -> Result<(), WriteFailed>
     ensures { Writes S.held S.faults S.last out.old out.new result (fault_told fault.now) }
@@ -303,6 +331,8 @@ fn write_told<S: Sink>(fault: &TopFault, out: &mut S) -> Result<(), WriteFailed>
         } => write_work_fault(*proposals, *units, *periods, out),
         TopFault::Memory => write_whole(out, b"memory"),
         TopFault::Report { code, line } => write_report_fault(*code, *line, out),
+        TopFault::PricesText(fault) => write_text_fault(FileKind::PricesFile, fault, out),
+        TopFault::PricesValue(fault) => write_price_fault(fault, out),
     }
 }
 

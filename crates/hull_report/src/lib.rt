@@ -7,6 +7,7 @@ pub mod check;
 pub mod fault;
 mod fixed;
 mod record;
+mod settled;
 
 pub use audit::write_audit;
 pub use bound::{BoundLines, write_bound, write_bound_lines};
@@ -14,3 +15,4 @@ pub use check::write_check;
 pub use fault::{FileKind, TopFault, write_fault};
 pub use fixed::write_fixed;
 pub use record::{write_report, write_try};
+pub use settled::write_settlement;
