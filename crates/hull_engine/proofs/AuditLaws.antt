@@ -1,13 +1,18 @@
 -- The steps of an audit, one after another.
-use Rattle.hull_engine.proofs.Common.{◌≡◌, ℕ, inl, inr, List, Option, Some, Result, Ok, Err, refl, ap, ◌∙◌, Report, report_text, ReportFile, TopFault, IsFaultOf, Then, Reads, IsInput, IsWithinWork, IsReportFile, IsJudged, IsAudit, PlannedCase}
+use Rattle.hull_engine.proofs.Common.{◌≡◌, ℕ, inl, inr, List, Option, Some, Result, Ok, Err, refl, sym, subst, ap, ◌∙◌, Report, report_text, ReportFile, TopFault, IsAuditText, IsFaultOf, Then, Reads, IsInput, IsWithinWork, IsReportFile, IsAudit, PlannedCase, Completes, command_for, audit, audit_asked, rest_with, report_of}
+use Rattle.hull_words.specs.declared.command.AuditWords.{AuditWords}
+use Rattle.report_read.specs.declared.report.Report.{Report as ReadReport}
+use Rattle.hull_engine.specs.declared.ready.Task.TheVariants.{Audit}
 use Rattle.hull_engine.proofs.ReadLaws.{got}
+
+-- the bytes of a report that was read are its text
+pub text_read : (read : Option (List ℕ)) (r : Report) → IsReportFile read (Ok r) → read ≡ Some (report_text r)
+text_read read r (Ok bytes, is, (bounds, text)) = got ReportFile read bytes is ∙ ap Some text
+text_read read r (Err f, is, e) = absurd cc
 
 -- ---- the steps
 
 module _ (reads : Reads) (c : PlannedCase) (input : IsInput reads (Ok c)) where
-  abbrev AfterReport : Report → Result PlannedCase TopFault → Type 0
-  AfterReport r = Then (IsWithinWork r.budget c) (IsJudged r)
-
   pub report_refused : (f : TopFault) → IsFaultOf (IsReportFile (reads ReportFile)) f → IsFaultOf (Then (IsInput reads) (IsAudit reads)) f
   report_refused f (inl due) = inl (Ok c, input, (Err f, due, refl))
   report_refused f (inr memory) = inr memory
@@ -17,14 +22,10 @@ module _ (reads : Reads) (c : PlannedCase) (input : IsInput reads (Ok c)) where
     work_refused f (inl due) = inl (Ok c, input, (Ok r, file, (Err f, due, refl)))
     work_refused f (inr memory) = inr memory
 
-    pub wrong_refused : (left : PlannedCase) (f : TopFault) → IsWithinWork r.budget c (Ok left) → IsFaultOf (IsJudged r left) f → IsFaultOf (Then (IsInput reads) (IsAudit reads)) f
-    wrong_refused left f work (inl due) = inl (Ok c, input, (Ok r, file, (Ok left, work, due)))
-    wrong_refused left f work (inr memory) = inr memory
-
-    pub right_left : (left : PlannedCase) → IsWithinWork r.budget c (Ok left) → IsJudged r left (Ok left) → Then (IsInput reads) (IsAudit reads) (Ok left)
-    right_left left work judged = (Ok c, input, (Ok r, file, (Ok left, work, judged)))
-
--- the bytes of a report that was read are its text
-pub text_read : (read : Option (List ℕ)) (r : Report) → IsReportFile read (Ok r) → read ≡ Some (report_text r)
-text_read read r (Ok bytes, is, (bounds, text)) = got ReportFile read bytes is ∙ ap Some text
-text_read read r (Err f, is, e) = absurd cc
+-- what judges the report completes the audit
+pub completes_audit : (words : AuditWords) (reads : Reads) (c left : PlannedCase) (report : ReadReport) (budget ahead : ℕ) → IsInput reads (Ok c) → IsReportFile (reads ReportFile) (Ok (report_of report))
+    → IsWithinWork (report_of report).budget c (Ok left) → Completes (command_for (Ok (audit (audit_asked words)))) reads (rest_with (Audit report) left budget ahead)
+completes_audit words reads c left report budget ahead input file work = record {
+  due = λ found judged. (Ok c, input, (Ok (report_of report), file, (Ok left, work, judged)));
+  text = λ i text printed. subst (λ (read : Option (List ℕ)). IsAuditText read i text) (sym (text_read (reads ReportFile) (report_of report) file)) printed;
+}

@@ -1,18 +1,24 @@
 -- The names from elsewhere that the proofs here cite.
 pub mod Common
--- files.rt, answers.rt: one step after another
+-- files.rt, prepare.rt: one step after another
 pub mod StepLaws
--- files.rt, answers.rt, laws.rt: what was read of a file
+-- files.rt, prepare.rt, laws.rt: what was read of a file
 pub mod ReadLaws
--- answers.rt: what the run of a command answers
+-- answers.rt: what a run leaves
 pub mod AnswerLaws
--- answers.rt: the numbers of a run that words give are within their limits
+-- prepare.rt: the numbers of a run that words give are within their limits
 pub mod WordSizes
--- answers.rt, laws.rt: the audit of a report
+-- prepare.rt, laws.rt: the audit of a report
 pub mod AuditLaws
+-- prepare.rt: a settlement at given prices
+pub mod SettleLaws
+-- prepare.rt, lib.rt: a run that is ready completes its command
+pub mod RestLaws
 -- end.rt: what is written of a run that has ended is the text of a right report
 pub mod WriteLaws
--- lib.rt, answers.rt: the end of a run is its outcome
+-- lib.rt, end.rt, prepare.rt: the end of a run is its outcome
 pub mod EndLaws
+-- lib.rt: how many workers a run has
+pub mod WorkerLaws
 -- The lemmas that answers cite.
 pub mod Lemmas

@@ -1,5 +1,5 @@
 -- What was read of a file, of the two files of an input, and of a report beside them.
-use Rattle.hull_engine.proofs.Common.{◌≡◌, ℕ, ◌+◌, ◌<◌, ◌≤◌, Bool, true, false, List, [], length, replicate, Option, None, Some, Ok, Err, refl, inl, inr, arith, IfSome, nat_lt, if◌then◌else◌, length-replicate, le-ltb, lt-ltb, Rose, CaseFile, ScheduleFile, ReportFile, TooBig, Reads, bytes_of, IsBytes, IsReadOf, case_and_schedule, with_report, AreReads, HasRead}
+use Rattle.hull_engine.proofs.Common.{◌≡◌, ℕ, ◌+◌, ◌<◌, ◌≤◌, Bool, true, false, List, [], length, replicate, Option, None, Some, Ok, Err, refl, inl, inr, arith, IfSome, nat_lt, if◌then◌else◌, length-replicate, le-ltb, lt-ltb, Rose, CaseFile, ScheduleFile, ReportFile, PricesFile, TooBig, Reads, bytes_of, IsBytes, IsReadOf, case_and_schedule, with_report, with_prices, AreReads, HasRead}
 use Rattle.plain_lists.specs.declared.limits.TheConstants.{MOST_BYTES}
 use Rattle.hull_report.specs.declared.fault.FileKind.{FileKind}
 
@@ -74,25 +74,48 @@ pub are_two_reads : (told : List ℕ → Option (List ℕ)) (rose : List ℕ →
 are_two_reads told rose case_name schedule_name case_read schedule_read p q CaseFile = p
 are_two_reads told rose case_name schedule_name case_read schedule_read p q ScheduleFile = q
 are_two_reads told rose case_name schedule_name case_read schedule_read p q ReportFile = tt
+are_two_reads told rose case_name schedule_name case_read schedule_read p q PricesFile = tt
 
 -- what was read of a report too
 abbrev pub report_added : Reads → Option (List ℕ) → Reads
 report_added reads read CaseFile = reads CaseFile
 report_added reads read ScheduleFile = reads ScheduleFile
 report_added reads read ReportFile = read
+report_added reads read PricesFile = reads PricesFile
 
--- a shelf counts the faults of a name before, between and after the reads of the input and of the report
-module _ (told : List ℕ → Option (List ℕ)) (last : Option ℕ) (before between after : List ℕ → ℕ) (case_name schedule_name report_name : List ℕ) where
-  pub are_report_added : (reads : Reads) (read : Option (List ℕ)) → ((any : List ℕ) → before any ≤ between any) → ((any : List ℕ) → between any ≤ after any)
-      → AreReads told (λ name. Rose last (before name) (between name)) (case_and_schedule case_name schedule_name) reads
-      → IsReadOf (told report_name) (Rose last (between report_name) (after report_name)) read
-      → AreReads told (λ name. Rose last (before name) (after name)) (with_report case_name schedule_name report_name) (report_added reads read)
-  are_report_added reads read early late are is CaseFile =
-      read_wider (told case_name) last (before case_name) (before case_name) (between case_name) (after case_name) (reads CaseFile) (omega arith) (late case_name) (are CaseFile)
-  are_report_added reads read early late are is ScheduleFile =
-      read_wider (told schedule_name) last (before schedule_name) (before schedule_name) (between schedule_name) (after schedule_name) (reads ScheduleFile) (omega arith) (late schedule_name) (are ScheduleFile)
-  are_report_added reads read early late are is ReportFile =
-      read_wider (told report_name) last (before report_name) (between report_name) (after report_name) (after report_name) read (early report_name) (omega arith) is
+-- what was read of prices too
+abbrev pub prices_added : Reads → Option (List ℕ) → Reads
+prices_added reads read CaseFile = reads CaseFile
+prices_added reads read ScheduleFile = reads ScheduleFile
+prices_added reads read ReportFile = reads ReportFile
+prices_added reads read PricesFile = read
+
+-- a shelf counts the faults of a name before, between and after the reads of the input and of the last file
+module _ (told : List ℕ → Option (List ℕ)) (last : Option ℕ) (before between after : List ℕ → ℕ) (case_name schedule_name last_name : List ℕ) where
+  module _ (reads : Reads) (read : Option (List ℕ)) (early : (any : List ℕ) → before any ≤ between any) (late : (any : List ℕ) → between any ≤ after any)
+      (are : AreReads told (λ name. Rose last (before name) (between name)) (case_and_schedule case_name schedule_name) reads)
+      (is : IsReadOf (told last_name) (Rose last (between last_name) (after last_name)) read) where
+    case_later : IsReadOf (told case_name) (Rose last (before case_name) (after case_name)) (reads CaseFile)
+    case_later = read_wider (told case_name) last (before case_name) (before case_name) (between case_name) (after case_name) (reads CaseFile) (omega arith) (late case_name) (are CaseFile)
+
+    schedule_later : IsReadOf (told schedule_name) (Rose last (before schedule_name) (after schedule_name)) (reads ScheduleFile)
+    schedule_later =
+        read_wider (told schedule_name) last (before schedule_name) (before schedule_name) (between schedule_name) (after schedule_name) (reads ScheduleFile) (omega arith) (late schedule_name) (are ScheduleFile)
+
+    last_earlier : IsReadOf (told last_name) (Rose last (before last_name) (after last_name)) read
+    last_earlier = read_wider (told last_name) last (before last_name) (between last_name) (after last_name) (after last_name) read (early last_name) (omega arith) is
+
+    pub are_report_added : AreReads told (λ name. Rose last (before name) (after name)) (with_report case_name schedule_name last_name) (report_added reads read)
+    are_report_added CaseFile = case_later
+    are_report_added ScheduleFile = schedule_later
+    are_report_added ReportFile = last_earlier
+    are_report_added PricesFile = tt
+
+    pub are_prices_added : AreReads told (λ name. Rose last (before name) (after name)) (with_prices case_name schedule_name last_name) (prices_added reads read)
+    are_prices_added CaseFile = case_later
+    are_prices_added ScheduleFile = schedule_later
+    are_prices_added ReportFile = tt
+    are_prices_added PricesFile = last_earlier
 
 -- what may have been read of all files, whatever is told of them
 abbrev pub any_of : (told : List ℕ → Option (List ℕ)) → Option (List ℕ) → Option (List ℕ)

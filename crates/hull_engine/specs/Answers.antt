@@ -1,32 +1,34 @@
 -- What the steps of a run answer, and what its end leaves.
 use Rattle.std.specs.Prelude.{◌≡◌, ◌⊎◌, ◌≤◌, ⊤, ℕ, List, Option, Result, Ok, Err}
+use Rattle.uc_model.specs.Limits.{IsSum, IsWorth}
 use Rattle.uc_model.specs.PlainCases.{market_of}
 use Rattle.board_history.specs.Board.{Setup}
-use Rattle.hull_io.specs.Edge.{Rose}
-use Rattle.hull_words.specs.Asked.{Asked}
-use Rattle.hull_words.specs.declared.fault.WordFault.{WordFault}
 use Rattle.hull_report.specs.AuditText.{audit_text}
 use Rattle.hull_report.specs.CheckText.{check_text}
 use Rattle.hull_report.specs.FaultLines.{fault_line}
 use Rattle.right_report.specs.RightSide.{told_of}
 use Rattle.hull_report.specs.FixedText.{fixed_text}
 use Rattle.report_form.specs.ReportText.{Report, report_text}
+use Rattle.hull_report.specs.SettledText.{settlement_of}
+use Rattle.report_form.specs.SettlementText.{settlement_text}
 use Rattle.hull_report.specs.TryText.{try_text}
 use Rattle.hull_report.specs.declared.fault.FileKind.{FileKind}
 use Rattle.hull_report.specs.declared.fault.TopFault.{TopFault}
 use Rattle.hull_report.specs.declared.fault.TopFault.TheVariants.{Memory}
-use Rattle.hull_engine.specs.declared.answers.Answer.{Answer}
-use Rattle.hull_engine.specs.declared.answers.Answer.TheVariants.{Check, Price, Try, Bound, Fixed}
-use Rattle.hull_engine.specs.declared.answers.Answer.TheVariants.{Audit}
+use Rattle.hull_engine.specs.declared.answer.Answer.{Answer}
+use Rattle.hull_engine.specs.declared.answer.Answer.TheVariants.{Check, Settle, Try, Bound, Fixed}
+use Rattle.hull_engine.specs.declared.answer.Answer.TheVariants.{Audit}
+use Rattle.hull_engine.specs.declared.answer.SettledInput.{SettledInput}
 use Rattle.hull_engine.specs.declared.end.End.{End}
 use Rattle.hull_engine.specs.declared.end.End.TheVariants.{Done, Cut, Refused}
 use Rattle.hull_engine.specs.Steps.{Reads}
 use Rattle.board_run.specs.Inputs.{PlannedCase, planned_in}
-use Rattle.hull_engine.specs.Outcome.{Command, command_for, IsReportText, IsBoundText, IsReadOf}
-use Rattle.hull_engine.specs.Outcome.{AreReads}
+use Rattle.hull_engine.specs.Outcome.{Command, IsReportText, IsBoundText, IsReadOf, AreReads}
 use Rattle.board_run.specs.Rounds.{IsEnded}
 use Rattle.board_run.specs.Bounded.{IsBounded}
 use Rattle.board_run.specs.Compared.{ArePaid}
+use Rattle.price_settle.specs.Laws.{HasEachUnit}
+use Rattle.price_settle.specs.Settled.{settled_of}
 
 -- ---- a step
 
@@ -66,7 +68,9 @@ IsRunText text_of b = IsReportText text_of b.budget b.ahead (planned_in b)
 -- the texts that may be printed of an answer
 abbrev pub IsTextOf : Answer → List ℕ → Type 0
 IsTextOf (Check input) text = text ≡ check_text (market_of input.case) input.cost
-IsTextOf (Price done) text = IsRunText report_text done.closed.setup text
+IsTextOf (Settle s) text =
+    text ≡ settlement_text
+    (settlement_of (market_of s.input.case) s.input.cost (settled_of s.settled))
 IsTextOf (Try number done) text = IsRunText (try_text number) done.closed.setup text
 IsTextOf (Bound b) text =
     IsBoundText b.done.closed.setup.budget b.done.closed.setup.ahead b.radius
@@ -75,10 +79,16 @@ IsTextOf (Fixed s) text =
     text ≡ fixed_text (market_of s.case) s.cost (told_of s.hull) (told_of s.fixed)
 IsTextOf (Audit proposals) text = text ≡ audit_text proposals
 
+-- a settlement has a number for each unit, and its sums are within their limits
+pub record HasSettled (s : SettledInput) : Type 0 where
+  pub cost : IsSum s.input.cost
+  pub value : IsWorth s.settled.row.value
+  pub each : HasEachUnit (market_of s.input.case) (settled_of s.settled)
+
 -- a run that is answered has ended, and each unit is paid
 abbrev pub IsAnswered : Answer → Type 0
 IsAnswered (Check input) = ⊤
-IsAnswered (Price done) = IsEnded done.closed.setup done
+IsAnswered (Settle s) = HasSettled s
 IsAnswered (Try number done) = IsEnded done.closed.setup done
 IsAnswered (Bound b) = IsBounded b.done.closed.setup b.radius b
 IsAnswered (Fixed s) = ArePaid s
@@ -91,15 +101,6 @@ IsCommandAnswer c reads (Ok answer) =
     (i : PlannedCase) × c.IsDue reads (Ok i)
     × ((text : List ℕ) → IsTextOf answer text → c.IsText reads i text)
 IsCommandAnswer c reads (Err f) = IsFaultOf (c.IsDue reads) f
-
--- a command of such words, or their refusal, is answered so over what was read of its files on a
--- shelf, which was left so
-module _ {F : Type 0} (told : F → List ℕ → Option (List ℕ)) (faults : F → List ℕ → ℕ)
-    (last : Option ℕ) (old new : F) where
-  abbrev pub HasAnswer : Result Asked WordFault → Result Answer TopFault → Type 0
-  HasAnswer words answer =
-      HasReads (told old) (λ name. Rose last (faults old name) (faults new name))
-      (command_for words).name_of (λ reads. IsCommandAnswer (command_for words) reads answer)
 
 -- ---- the end
 

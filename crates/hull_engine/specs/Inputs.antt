@@ -1,8 +1,11 @@
 -- What the words of a command ask for.
-use Rattle.hull_words.specs.Asked.{TryAsked, BoundAsked, AuditAsked, price_asked}
+use Rattle.hull_words.specs.Asked.{TryAsked, BoundAsked, AuditAsked, SettleAsked, price_asked}
+use Rattle.hull_words.specs.declared.command.PriceWords.{PriceWords}
 use Rattle.hull_words.specs.declared.command.TryWords.{TryWords}
 use Rattle.hull_words.specs.declared.command.BoundWords.{BoundWords}
 use Rattle.hull_words.specs.declared.command.AuditWords.{AuditWords}
+use Rattle.hull_words.specs.declared.command.SettleWords.{SettleWords}
+use Rattle.board_run.specs.declared.input.RunSize.{RunSize}
 
 abbrev pub try_asked : TryWords → TryAsked
 try_asked w =
@@ -18,3 +21,14 @@ audit_asked w = record {
   report_name = w.report_name.items;
   workers = w.workers;
 }
+
+abbrev pub settle_asked : SettleWords → SettleAsked
+settle_asked w = record {
+  case_name = w.case_name.items;
+  schedule_name = w.schedule_name.items;
+  prices_name = w.prices_name.items;
+}
+
+-- how large the run of `hull price` is
+abbrev pub size_asked : PriceWords → RunSize
+size_asked w = record { budget = w.proposals; ahead = w.ahead; callers = w.workers }

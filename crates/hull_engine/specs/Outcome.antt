@@ -15,17 +15,18 @@
 -- 'never'.
 --
 -- The steps of the commands are in Steps; a case with its schedule is in board_run's Inputs; the
--- text of a report in report_form's ReportText, and what makes it right in right_report's
--- RightReport; the other texts in hull_report: CheckText, TryText, BoundText, FixedText (its sides
--- in right_report's RightSide), AuditText, FaultLines; a case with its schedule's commitments held
--- in fixed_price's FixedCase; which reports are read, and the first line in fault, in report_read's
--- Bounds and Faults; the first line at which a report differs from the right one in audit_check's
--- Right; the bound round a row in gap_proof's Candidates.
+-- text of a report in report_form's ReportText; the other texts, and what makes them right, in
+-- hull_report: RightReport, CheckText, TryText, BoundText, FixedText and RightSide, AuditText,
+-- SettledText, FaultLines; a case with its schedule's commitments held in fixed_price's FixedCase; which reports
+-- are read, and the first line in fault, in report_read's Bounds and Faults; the first line at
+-- which a report differs from the right one in audit_check's Right; the bound round a row in
+-- gap_proof's Candidates; a settlement at any prices in price_settle's Settled.
 use Rattle.std.specs.Prelude.{◌≡◌, ◌⊎◌, ℕ, ℤ, List, length, unsigned_abs, Option, None, Some}
 use Rattle.std.specs.Prelude.{Result, Ok, Err, IfSome}
+use Rattle.uc_model.specs.Data.{PriceLists}
 use Rattle.fixed_price.specs.FixedCase.{fixed_market}
 use Rattle.gap_proof.specs.Candidates.{RowRange, IsFirstLeast}
-use Rattle.hull_words.specs.Asked.{Asked, check, price, try, bound, fixed, audit}
+use Rattle.hull_words.specs.Asked.{Asked, check, price, try, bound, fixed, audit, settle}
 use Rattle.hull_words.specs.Words.{words_of}
 use Rattle.hull_words.specs.declared.fault.WordFault.{WordFault}
 use Rattle.hull_report.specs.AuditText.{audit_text}
@@ -37,17 +38,20 @@ use Rattle.hull_report.specs.FixedText.{fixed_text}
 use Rattle.report_form.specs.ReportText.{Report, report_text}
 use Rattle.right_report.specs.RightReport.{IsRightReport}
 use Rattle.right_report.specs.RightSide.{IsRightSide}
+use Rattle.hull_report.specs.SettledText.{settlement_of}
+use Rattle.report_form.specs.SettlementText.{settlement_text}
 use Rattle.hull_report.specs.TryText.{try_text}
 use Rattle.hull_report.specs.declared.fault.FileKind.{FileKind}
 use Rattle.hull_report.specs.declared.fault.FileKind.TheVariants.{CaseFile, ScheduleFile}
-use Rattle.hull_report.specs.declared.fault.FileKind.TheVariants.{ReportFile}
+use Rattle.hull_report.specs.declared.fault.FileKind.TheVariants.{ReportFile, PricesFile}
 use Rattle.hull_report.specs.declared.fault.TopFault.{TopFault}
 use Rattle.hull_report.specs.declared.fault.TopFault.TheVariants.{Words, Memory}
 use Rattle.hull_engine.specs.declared.end.End.{End}
 use Rattle.hull_engine.specs.declared.end.End.TheVariants.{Done, Cut, Refused}
 use Rattle.hull_engine.specs.Steps.{Then, Reads, IsInput, IsMade, IsWithinWork}
 use Rattle.board_run.specs.Inputs.{PlannedCase}
-use Rattle.hull_engine.specs.Steps.{IsAudit}
+use Rattle.price_settle.specs.Settled.{Settled, IsSettledAt}
+use Rattle.hull_engine.specs.Steps.{IsAudit, IsPricesFile, IsPriced}
 
 -- ---- the commands
 
@@ -65,12 +69,21 @@ abbrev pub case_and_schedule : (case_name schedule_name : List ℕ) → FileKind
 case_and_schedule case_name schedule_name CaseFile = Some case_name
 case_and_schedule case_name schedule_name ScheduleFile = Some schedule_name
 case_and_schedule case_name schedule_name ReportFile = None
+case_and_schedule case_name schedule_name PricesFile = None
 
 abbrev pub with_report : (case_name schedule_name report_name : List ℕ) → FileKind →
     Option (List ℕ)
 with_report case_name schedule_name report_name CaseFile = Some case_name
 with_report case_name schedule_name report_name ScheduleFile = Some schedule_name
 with_report case_name schedule_name report_name ReportFile = Some report_name
+with_report case_name schedule_name report_name PricesFile = None
+
+abbrev pub with_prices : (case_name schedule_name prices_name : List ℕ) → FileKind →
+    Option (List ℕ)
+with_prices case_name schedule_name prices_name CaseFile = Some case_name
+with_prices case_name schedule_name prices_name ScheduleFile = Some schedule_name
+with_prices case_name schedule_name prices_name ReportFile = None
+with_prices case_name schedule_name prices_name PricesFile = Some prices_name
 
 -- what `text_of` writes of a right report for the input, with that budget and number of proposals
 -- ahead
@@ -101,6 +114,15 @@ abbrev pub IsAuditText : Option (List ℕ) → PlannedCase → List ℕ → Type
 IsAuditText read c text =
     (r : Report) × (read ≡ Some (report_text r))
     × IsRightReport c.market c.plan r.budget r.ahead r × (text ≡ audit_text (length r.rows))
+
+-- the text of what the schedule is settled at, at the prices that were read: their exact dual value,
+-- of each unit the least of its best responses with what it earns by that, in the schedule and
+-- beside the prices, and what surplus reserve is worth
+abbrev pub IsSettlementText : Option (List ℕ) → PlannedCase → List ℕ → Type 0
+IsSettlementText read c text =
+    (prices : PriceLists) × IsPricesFile c.market.periods read (Ok prices)
+    × (s : Settled) × IsSettledAt c.market c.plan prices s
+    × (text ≡ settlement_text (settlement_of c.market c.cost s))
 
 -- words that are refused at once
 abbrev pub refused : WordFault → Command
@@ -149,6 +171,12 @@ command_for (Ok (audit a)) = record {
   name_of = with_report a.case_name a.schedule_name a.report_name;
   IsDue = λ reads. Then (IsInput reads) (IsAudit reads);
   IsText = λ reads. IsAuditText (reads ReportFile);
+}
+-- what the schedule is settled at, at given prices
+command_for (Ok (settle a)) = record {
+  name_of = with_prices a.case_name a.schedule_name a.prices_name;
+  IsDue = λ reads. Then (IsInput reads) (IsPriced reads);
+  IsText = λ reads. IsSettlementText (reads PricesFile);
 }
 command_for (Err f) = refused f
 

@@ -2,7 +2,7 @@
 use Rattle.std.specs.Prelude.{⊤}
 use Rattle.board_run.specs.Sizes.{IsWorkers, IsRunSize}
 use Rattle.gap_proof.specs.Sums.{IsRadius}
-use Rattle.hull_words.specs.Asked.{Asked, price, check, try, bound, fixed, audit}
+use Rattle.hull_words.specs.Asked.{Asked, price, check, try, bound, fixed, audit, settle}
 
 abbrev pub HasSizes : Asked → Type 0
 HasSizes (price a) = IsRunSize a.proposals a.workers a.ahead
@@ -11,3 +11,4 @@ HasSizes (bound a) = IsRunSize a.run.proposals a.run.workers a.run.ahead × IsRa
 HasSizes (fixed a) = IsRunSize a.proposals a.workers a.ahead
 HasSizes (check a) = ⊤
 HasSizes (audit a) = IsWorkers a.workers
+HasSizes (settle a) = ⊤

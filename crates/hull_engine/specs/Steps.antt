@@ -1,10 +1,10 @@
 -- The steps of a command, in the order in which they refuse: each goes on with what it found, or
--- ends in a refusal (this project's profile). What a file's bytes are is said in uc_case, uc_plan
--- and report_read, the rules of a schedule in uc_model, and what a right report is in right_report.
+-- ends in a refusal (this project's profile). What a file's bytes are is said in uc_case, uc_plan,
+-- uc_prices and report_read, the rules of a schedule in uc_model, and what a right report is in hull_report.
 use Rattle.std.specs.Prelude.{◌≡◌, ℕ, ◌*◌, nat_lt, List, [], length, Option, None, Some, Result}
 use Rattle.std.specs.Prelude.{Ok, Err, slice_get, if◌then◌else◌}
 use Rattle.std.specs.Result.{result_map_both}
-use Rattle.uc_model.specs.Data.{Market, Schedule, unit_count}
+use Rattle.uc_model.specs.Data.{Market, PriceLists, Schedule, unit_count}
 use Rattle.uc_model.specs.Systems.{IsFeasiblePlan, plan_cost}
 use Rattle.uc_model.specs.Refusals.{refusals}
 use Rattle.plain_lists.specs.declared.limits.TheConstants.{MOST_BYTES, MOST_WORK}
@@ -15,15 +15,18 @@ use Rattle.uc_case.specs.declared.fault.FieldFault.{FieldFault}
 use Rattle.uc_plan.specs.PlanFiles.{IsPlanOf}
 use Rattle.uc_plan.specs.declared.fault.ShapeFault.{ShapeFault}
 use Rattle.board_run.specs.Inputs.{PlannedCase}
+use Rattle.uc_prices.specs.PricesFiles.{IsPricesOf}
+use Rattle.uc_prices.specs.declared.fault.PriceFault.{PriceFault}
 use Rattle.plan_check.specs.Checks.{refusal_of}
 use Rattle.plan_check.specs.declared.RuleFault.{RuleFault}
 use Rattle.hull_report.specs.declared.fault.FileKind.{FileKind}
 use Rattle.hull_report.specs.declared.fault.FileKind.TheVariants.{CaseFile, ScheduleFile}
-use Rattle.hull_report.specs.declared.fault.FileKind.TheVariants.{ReportFile}
+use Rattle.hull_report.specs.declared.fault.FileKind.TheVariants.{ReportFile, PricesFile}
 use Rattle.hull_report.specs.declared.fault.TopFault.{TopFault}
 use Rattle.hull_report.specs.declared.fault.TopFault.TheVariants.{Read, CaseText, CaseField}
 use Rattle.hull_report.specs.declared.fault.TopFault.TheVariants.{PlanText, PlanShape, PlanRule}
 use Rattle.hull_report.specs.declared.fault.TopFault.TheVariants.{TooBig, Work, Report as Unfit}
+use Rattle.hull_report.specs.declared.fault.TopFault.TheVariants.{PricesText, PricesValue}
 use Rattle.report_form.specs.ReportText.{Report, report_text}
 use Rattle.right_report.specs.RightReport.{IsRightReport}
 use Rattle.report_read.specs.Bounds.{IsReport}
@@ -155,3 +158,25 @@ IsJudged r c (Err f) =
 abbrev pub IsAudit : Reads → PlannedCase → Result PlannedCase TopFault → Type 0
 IsAudit reads c =
     Then (IsReportFile (reads ReportFile)) (λ r. Then (IsWithinWork r.budget c) (IsJudged r))
+
+-- ---- prices
+
+abbrev pub prices_fault : FileFault PriceFault → TopFault
+prices_fault (text f) = PricesText f
+prices_fault (value f) = PricesValue f
+
+-- the prices over so many periods that bytes are, or else the first fault of their text or of its
+-- values
+abbrev pub IsPrices : ℕ → List ℕ → Result PriceLists TopFault → Type 0
+IsPrices periods bytes due =
+    (found : Result PriceLists (FileFault PriceFault)) × IsPricesOf periods bytes found
+    × (due ≡ result_map_both (λ prices. prices) prices_fault found)
+
+-- the prices of their file
+abbrev pub IsPricesFile : ℕ → Option (List ℕ) → Result PriceLists TopFault → Type 0
+IsPricesFile periods read = Then (IsBytes PricesFile read) (IsPrices periods)
+
+-- an input is left by a file of prices over its periods, and refused by the first fault of any other
+abbrev pub IsPriced : Reads → PlannedCase → Result PlannedCase TopFault → Type 0
+IsPriced reads c =
+    Then (IsPricesFile c.market.periods (reads PricesFile)) (λ prices due. due ≡ Ok c)

@@ -9,10 +9,9 @@ ghost use Rattle.hull_engine.specs.Answers.{IsAnswer};
 ghost use Rattle.board_run.specs.Inputs.{planned_of, IsRunInput};
 ghost use Rattle.hull_engine.specs.Steps.{IsJudged};
 
-use answer_workers::most_points;
+use crate::settle::bench_for;
 use audit_check::{Audit, check_report};
 use board_run::{RunInput, unit_count};
-use case_answers::laws::benches_serve_all;
 use hull_report::TopFault;
 use report_read::Report;
 use slope_list::Slopes;
@@ -45,11 +44,9 @@ fn benches_for(alloc: Global, case: &Case, count: u32) -> Result<Vec<Bench<Slope
     ensures benches { IfOk result (λ benches.
         All (IsBenchOver (market_of case.now)) benches.items) }
 {
-    benches_serve_all();
-    let points = most_points(case);
     let mut benches = Vec::new(alloc);
     for _ in 0..count {
-        benches.push(Bench::make(alloc, case.periods, points)?)?;
+        benches.push(bench_for(alloc, case)?)?;
     }
     Ok(benches)
 }

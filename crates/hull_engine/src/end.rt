@@ -1,5 +1,5 @@
 //! The end of a run: the text, or the line of a fault.
-ghost use Rattle.std.specs.Prelude.{◌≡◌, ℕ, List, length, IfOk, OnOk, OnErr};
+ghost use Rattle.std.specs.Prelude.{◌≡◌, ◌≤◌, ℕ, List, length, IfOk, OnOk, OnErr};
 ghost use Rattle.uc_model.specs.PlainUnits.{schedule_of};
 ghost use Rattle.hull_io.specs.Edge.{Writes, Gains, FallsShort};
 ghost use Rattle.report_form.specs.ReportText.{report_text};
@@ -8,18 +8,27 @@ ghost use Rattle.uc_model.specs.PriceRule.{Proposal};
 ghost use Rattle.uplift_settle.specs.declared.settlement.Settlement.{Settlement};
 ghost use Rattle.hull_engine.specs.Outcome.{status_at};
 ghost use Rattle.hull_engine.specs.Answers.{HasStatus, IsTextOf, IsAnswered, IsEndOf};
+ghost use Rattle.board_run.specs.Inputs.{planned_of, IsRunInput};
 ghost use Rattle.board_run.specs.Rounds.{IsEnded};
+ghost use Rattle.board_run.specs.Sizes.{IsWorkers};
+ghost use Rattle.hull_engine.specs.Outcome.{Ends};
+ghost use Rattle.hull_engine.specs.Rest.{rest_of, rest_with, nothing_read, IsReady, IsFit};
+ghost use Rattle.hull_engine.specs.Rest.{IsBeforeOf, IsUntouched};
+ghost use Rattle.hull_engine.specs.declared.ready.Task.TheVariants as tasks;
 
-use crate::answers::Answer;
+use crate::answer::{Answer, SettledInput};
+use crate::answers::{answer_audit, answer_bound, answer_fixed, answer_try};
+use crate::ready::{Before, Prepared, Ready, Task, manned};
 use answer_workers::Gate;
 use board_core::Closed;
-use board_run::{Bounded, Done, Run, run_board};
+use board_run::{Bounded, Done, Run, RunInput, open_run, run_board};
 use hull_io::{Sink, WriteFailed};
 use hull_report::{
     TopFault, write_audit, write_bound, write_check, write_fault, write_fixed, write_report,
-    write_try,
+    write_settlement, write_try,
 };
 use right_report::laws::{record_report_is_right, settlements_are_of_all_units};
+use std::alloc::{AllocError, Global};
 use std::sync::Wait;
 use std::thread::Threads;
 
@@ -117,10 +126,9 @@ fn write_answer<S: Sink>(answer: Answer, out: &mut S) -> Result<(), WriteFailed>
     record_report_is_right();
     match answer {
         Answer::Check(input) => write_check(&input.case, input.cost, out),
-        Answer::Price(mut done) => {
-            let written = write_done(&mut done, out);
-            let_go(done);
-            written
+        Answer::Settle(settled) => {
+            let SettledInput { input, settled } = &settled;
+            write_settlement(&input.case, input.cost, settled, out)
         }
         Answer::Try(number, done) => {
             let written = write_try(number, &done.closed, &done.settlement, out);
@@ -159,5 +167,70 @@ pub fn finish<S: Sink>(answer: Result<Answer, TopFault>, out: &mut S) -> End
             let _ = write_fault(&fault, out);
             End::Refused(fault)
         }
+    }
+}
+
+/// Ends a command that calls for no run, or leaves the sink as it is for one that does.
+pub fn end_prepared<S: Sink>(prepared: Result<Prepared, TopFault>, out: &mut S) -> Before
+    requires { IfOk prepared IsFit }
+    ensures before { IsBeforeOf (Gains S.held S.faults out.old out.new)
+        (FallsShort S.held S.faults S.last out.old out.new) prepared result }
+    ensures sink { S.faults out.old ≤ S.faults out.new }
+    ensures unwritten { IsUntouched result (out.new ≡ out.old) }
+{
+    match prepared {
+        Ok(Prepared::Ready(ready)) => Before::Ready(ready),
+        Ok(Prepared::Answered(answer)) => Before::Ended(finish(Ok(answer), out).status()),
+        Err(fault) => Before::Ended(finish(Err(fault), out).status()),
+    }
+}
+
+/// Opens and runs the board of `hull price` and writes its report, or the line of the fault that
+/// there is no memory for it.
+fn finish_price<R: Threads + Wait + Sync, S: Sink, G: Gate>(
+    rt: &R,
+    alloc: Global,
+    run: RunInput,
+    out: &mut S,
+    gate: &G,
+) -> End
+    requires { IsRunInput run }
+    ensures { Ends (rest_with tasks.Price (planned_of run.input) run.size.budget run.size.ahead)
+        nothing_read (Gains S.held S.faults out.old out.new)
+        (FallsShort S.held S.faults S.last out.old out.new) result }
+{
+    record_report_is_right();
+    match open_run(alloc, run) {
+        Ok(opened) => {
+            let (status, _closed) = finish_run(rt, opened, out, gate);
+            if status == 0 { End::Done } else { End::Cut }
+        }
+        Err(AllocError) => finish(Err(TopFault::Memory), out),
+    }
+}
+
+/// Does what is left of a command with so many workers, and writes its text or the line of its
+/// fault. Takes memory where a run is opened, and none later.
+pub fn end_ready<R: Threads + Wait + Sync, S: Sink, G: Gate>(
+    rt: &R,
+    alloc: Global,
+    ready: Ready,
+    workers: u32,
+    out: &mut S,
+    gate: &G,
+) -> End
+    requires ready { IsReady ready }
+    requires workers { IsWorkers workers }
+    ensures { Ends (rest_of ready) nothing_read (Gains S.held S.faults out.old out.new)
+        (FallsShort S.held S.faults S.last out.old out.new) result }
+{
+    let Ready { task, run } = ready;
+    let run = manned(run, workers);
+    match task {
+        Task::Price => finish_price(rt, alloc, run, out, gate),
+        Task::Try(number) => finish(answer_try(rt, alloc, run, number, gate), out),
+        Task::Bound(radius) => finish(answer_bound(rt, alloc, run, radius, gate), out),
+        Task::Fixed => finish(answer_fixed(rt, alloc, run, gate), out),
+        Task::Audit(report) => finish(answer_audit(rt, alloc, run, report), out),
     }
 }

@@ -1,15 +1,18 @@
 //! The files of a command: the case and its schedule, read and judged in the order of their
-//! refusals, and a report.
+//! refusals, a report, and prices.
 ghost use Rattle.std.specs.Prelude.{◌≡◌, ◌≤◌, ℕ, true, List, Option};
 ghost use Rattle.std.specs.Prelude.{Vec, length, vec_len, map, IfOk};
 ghost use Rattle.std.specs.Global.{Global};
 ghost use Rattle.uc_model.specs.Laws.{HasPlanShape};
 ghost use Rattle.uc_model.specs.PlainCases.{market_of, schedules_of};
+ghost use Rattle.uc_model.specs.PlainUnits.{prices_of};
+ghost use Rattle.uc_model.specs.declared.limits.TheConstants.{MOST_PERIODS};
 ghost use Rattle.hull_io.specs.Edge.{Rose};
 ghost use Rattle.report_read.specs.Bounds.{IsReport, AreInOrder};
 ghost use Rattle.report_read.specs.Plain.{report_of, told_of};
 ghost use Rattle.hull_engine.specs.Steps.{Then, IsBytes, IsCase, IsCaseFile, IsPlan, IsPlanFile};
 ghost use Rattle.hull_engine.specs.Steps.{IsChecked, IsInput, IsReportIn, IsReportFile};
+ghost use Rattle.hull_engine.specs.Steps.{IsPrices, IsPricesFile};
 ghost use Rattle.hull_engine.specs.Outcome.{case_and_schedule};
 ghost use Rattle.hull_engine.specs.Answers.{IsAnswer, IsLaterShelf, HasRead, HasReads};
 ghost use Rattle.board_run.specs.Inputs.{planned_of, IsPlanned};
@@ -25,8 +28,11 @@ use std::alloc::Global;
 use uc_case::fault::CaseFault;
 use uc_case::read_case;
 use uc_model::cases::{Case, Plan};
+use uc_model::units::Prices;
 use uc_plan::fault::PlanFault;
 use uc_plan::read_plan;
+use uc_prices::fault::PricesFault;
+use uc_prices::read_prices;
 
 /// The code of a report that isn't in form.
 const OUT_OF_FORM: u32 = 60;
@@ -154,6 +160,40 @@ pub fn read_input<F: Shelf>(
 {
     let case = read_case_file(alloc, shelf, case_name)?;
     read_schedule(alloc, shelf, schedule_name, case)
+}
+
+/// The prices over so many periods that bytes are.
+fn prices_in(alloc: Global, bytes: &[u8], periods: u32) -> Result<Prices, TopFault>
+    requires bytes { length bytes.now ≤ MOST_BYTES }
+    requires some { 1 ≤ periods }
+    requires horizon { periods ≤ MOST_PERIODS }
+    ensures answers { IsAnswer (IsPrices periods bytes.now) prices_of result }
+    ensures horizon { IfOk result (λ prices. length (prices_of prices).energy ≡ periods) }
+{
+    match read_prices(alloc, bytes, periods) {
+        Ok(prices) => Ok(prices),
+        Err(PricesFault::Text(fault)) => Err(TopFault::PricesText(fault)),
+        Err(PricesFault::Price(fault)) => Err(TopFault::PricesValue(fault)),
+        Err(PricesFault::Memory) => Err(TopFault::Memory),
+    }
+}
+
+/// The prices of a file, for this case.
+pub fn read_prices_file<F: Shelf>(
+    alloc: Global,
+    shelf: &mut F,
+    name: &str,
+    case: &Case,
+) -> Result<Prices, TopFault>
+    ensures answers { HasRead (F.told shelf.old name.now)
+        (Rose F.last (F.faults shelf.old name.now) (F.faults shelf.new name.now))
+        (λ read. IsAnswer (IsPricesFile (market_of case.now).periods read) prices_of result) }
+    ensures horizon { IfOk result (λ prices. length (prices_of prices).energy
+        ≡ (market_of case.now).periods) }
+    ensures shelf { IsLaterShelf F.told F.faults shelf.old shelf.new }
+{
+    let bytes = read_bytes(alloc, shelf, name, FileKind::PricesFile)?;
+    prices_in(alloc, bytes.as_slice(), case.periods)
 }
 
 /// The report that bytes are the text of.

@@ -8,24 +8,76 @@ ghost use Rattle.hull_words.specs.Words.{texts, words_of};
 ghost use Rattle.hull_report.specs.declared.fault.FileKind.{FileKind};
 ghost use Rattle.hull_engine.specs.Outcome.{command_for, IsOutcome};
 ghost use Rattle.hull_engine.specs.Answers.{IsLaterShelf};
+ghost use Rattle.hull_engine.specs.Rest.{rest_of, IsReady, IsBefore, IsUntouched, EndsIn};
+ghost use Rattle.hull_engine.specs.Workers.{IsUseful};
 
+mod answer;
 mod answers;
 mod audit;
 mod end;
 mod files;
 mod input;
 pub mod laws;
+mod prepare;
+mod ready;
+mod settle;
 mod workers;
 
 use answer_workers::Gate;
-use answers::answer_run;
-pub use board_run::{Done, Run, open_run, run_board};
-use end::finish;
+pub use board_run::{Done, Run, RunInput, open_run, run_board};
 pub use end::finish_run;
+use end::{end_prepared, end_ready};
 use hull_io::{Shelf, Sink};
+use prepare::prepare;
+pub use ready::{Before, Ready, Task};
 use std::alloc::Global;
 use std::sync::Wait;
 use std::thread::Threads;
+pub use workers::useful_workers;
+
+/// Does all of a command that comes before a run: its words, its files and each refusal up to the
+/// opening of the run; of `hull check` and `hull settle` that is all. It answers the status with
+/// which the command has ended, or else what is left to be run, with nothing written yet. It starts
+/// no thread and waits for none, so it is proved to return.
+pub fn hull_before_run<F: Shelf, S: Sink>(
+    alloc: Global,
+    words: &[String],
+    shelf: &mut F,
+    out: &mut S,
+) -> Before
+    ensures before { IsBefore (texts words.now) (F.told shelf.old)
+        (λ name. Rose F.last (F.faults shelf.old name) (F.faults shelf.new name))
+        (Gains S.held S.faults out.old out.new)
+        (FallsShort S.held S.faults S.last out.old out.new) result }
+    ensures shelf { IsLaterShelf F.told F.faults shelf.old shelf.new }
+    ensures sink { S.faults out.old ≤ S.faults out.new }
+    ensures unread { ((file : FileKind)
+        → (command_for (words_of (texts words.now))).name_of file ≡ None)
+        → shelf.new ≡ shelf.old }
+    ensures unwritten { IsUntouched result (out.new ≡ out.old) }
+{
+    let prepared = prepare(alloc, words, shelf);
+    end_prepared(prepared, out)
+}
+
+/// Does what is left of a command with so many workers, which are those of the words that are
+/// useful, and answers its status as [`hull_run`] does.
+pub fn finish_ready<R: Threads + Wait + Sync, S: Sink, G: Gate>(
+    rt: &R,
+    alloc: Global,
+    ready: Ready,
+    workers: u32,
+    out: &mut S,
+    gate: &G,
+) -> u8
+    requires ready { IsReady ready }
+    requires workers { IsUseful ready.run.size.callers workers }
+    ensures ends { EndsIn (rest_of ready) (Gains S.held S.faults out.old out.new)
+        (FallsShort S.held S.faults S.last out.old out.new) result }
+    ensures sink { S.faults out.old ≤ S.faults out.new }
+{
+    end_ready(rt, alloc, ready, workers, out, gate).status()
+}
 
 /// Runs the command that the words give, and answers its status: 0 where its text was written
 /// whole, and otherwise the status of the one fault line that was written, or 6 where the sink
@@ -57,7 +109,11 @@ pub fn hull_run<R: Threads + Wait + Sync, F: Shelf, S: Sink, G: Gate>(
         → (command_for (words_of (texts words.now))).name_of file ≡ None)
         → shelf.new ≡ shelf.old }
 {
-    let answer = answer_run(rt, alloc, words, shelf, gate);
-    let end = finish(answer, out);
-    end.status()
+    match hull_before_run(alloc, words, shelf, out) {
+        Before::Ended(status) => status,
+        Before::Ready(ready) => {
+            let workers = useful_workers(rt, ready.run.size.callers);
+            finish_ready(rt, alloc, ready, workers, out, gate)
+        }
+    }
 }

@@ -1,5 +1,5 @@
-//! How many workers a run has.
-ghost use Rattle.std.specs.Prelude.{◌≤◌};
+//! How many workers a run has, and the processors of the machine.
+ghost use Rattle.hull_engine.specs.Workers.{IsUseful};
 ghost use Rattle.board_run.specs.Sizes.{IsWorkers};
 
 use plain_lists::limits::MOST_WORKERS;
@@ -8,7 +8,7 @@ use std::thread::Threads;
 
 /// So many workers are never too many, however few processors there are: a gate may let a few tasks
 /// wait for one another.
-const FEW_WORKERS: u32 = 4;
+pub const FEW_WORKERS: u32 = 4;
 
 /// How many processors there are, as far as it matters; as many as matter where that isn't known.
 fn processors<R: Threads>(rt: &R) -> u32 {
@@ -24,7 +24,7 @@ fn processors<R: Threads>(rt: &R) -> u32 {
 pub fn useful_workers<R: Threads>(rt: &R, asked: u32) -> u32
     requires { IsWorkers asked }
     ensures some { IsWorkers result }
-    ensures most { result ≤ asked }
+    ensures useful { IsUseful asked result }
 {
     if asked <= FEW_WORKERS {
         return asked;

@@ -1,18 +1,20 @@
-use Rattle.hull_engine.proofs.Common.{texts, words_of, command_for}
-use Rattle.hull_engine.proofs.Lemmas.{ends_as, sink_later}
+use Rattle.hull_engine.proofs.Common.{◌≡◌, subst, texts, words_of, command_for, planned_of}
+use Rattle.hull_engine.proofs.Lemmas.{ends_of_rest}
 use Rattle.hull_engine.proofs.hull_run.Goals as goal
 
-pub returns-clause-outcome : goal.returns-clause-outcome
-returns-clause-outcome g c =
-    let h = c.answer_run-answer.ensures.answers in
-    record {
-      reads = h.0;
-      are_reads = h.1;
-      end = c.finish-end.result;
-      ends = ends_as (command_for (words_of (texts c.args.words.now))) h.0 _ _ c.answer_run-answer.result c.finish-end.result h.2 c.finish-end.ensures;
-      status_is = c.status.ensures;
-    }
+pub returns-in-Ended-clause-outcome : goal.returns-in-Ended-clause-outcome
+returns-in-Ended-clause-outcome g c = rw c.in-Ended.is at c.hull_before_run.ensures.before
 
-pub returns-clause-sink : goal.returns-clause-sink
-returns-clause-sink g c =
-    sink_later g.S.Sink.held g.S.Sink.faults g.S.Sink.last c.args.out.now c.finish-end.new.out c.answer_run-answer.result c.finish-end.result c.finish-end.ensures
+pub returns-in-Ready-clause-outcome : goal.returns-in-Ready-clause-outcome
+returns-in-Ready-clause-outcome g c =
+    let ready = c.in-Ready.ready in
+    let before = rw c.in-Ready.is at c.hull_before_run.ensures.before in
+    let untouched = rw c.in-Ready.is at c.hull_before_run.ensures.unwritten in
+    let end = rw untouched at c.finish_ready.ensures.ends in
+    record {
+      reads = before.2.0;
+      are_reads = before.2.1;
+      end = end.end;
+      ends = ends_of_rest (command_for (words_of (texts c.args.words.now))) ready.task (planned_of ready.run.input) ready.run.size.budget ready.run.size.ahead before.2.0 before.2.2 _ _ end.end end.ends;
+      status_is = end.status_is;
+    }

@@ -6,9 +6,9 @@ use Rattle.hull_engine.proofs.audit.benches_for.Goals as goal
 pub loop-preserved : goal.loop-preserved
 loop-preserved c =
     let m = market_of c.args.case.now in
-    let bench = c.in_ok-make.field-0 in
+    let bench = c.in_ok-bench_for.field-0 in
     let known = c.loop.invariant in
-    let over = c.benches_serve_all.ensures m c.most_points-points.result bench (λ k d less. c.most_points-points.ensures.each k d less) c.in_ok-make.ensures in
+    let over = c.in_ok-bench_for.ensures in
     let pushed : c.push.new.self.items ≡ c.loop.benches.items ++ bench ∷ [] = c.in_ok-push.ensures.items in
     let long = ap (length {A = Bench Slopes}) pushed ∙ length-append c.loop.benches.items (bench ∷ []) in
     let was = known.count in

@@ -1,13 +1,19 @@
-use Rattle.hull_engine.proofs.Common.{rules, refl, w64, w128, to_z-of_z, market_of, told_of, fixed_text, report_text, try_text}
+use Rattle.hull_engine.proofs.Common.{rules, refl, w64, w128, to_z-of_z, market_of, told_of, fixed_text, try_text}
+use Rattle.hull_report.specs.SettledText.{settlement_of}
+use Rattle.report_form.specs.SettlementText.{settlement_text}
+use Rattle.price_settle.specs.Settled.{settled_of}
 use Rattle.right_report.specs.RecordReport.{report_of}
 use Rattle.hull_engine.proofs.Lemmas.{run_text, written_bound, bound_written}
 use Rattle.hull_engine.proofs.end.write_answer.Goals as goal
 
-pub returns-in-Price : goal.returns-in-Price
-returns-in-Price g c =
-    let done = c.in-Price.done in
-    let right = run_text c.record_report_is_right.ensures report_text done (rw c.in-Price.is at c.requires) in
-    rw c.in-Price.is (report_text (report_of done.closed done.settlement), right, c.write_done-written.ensures.text)
+pub returns-in-Settle : goal.returns-in-Settle
+returns-in-Settle g c =
+    let s = c.in-Settle.settled in
+    rw c.in-Settle.is (
+      settlement_text (settlement_of (market_of s.input.case) s.input.cost (settled_of s.settled)),
+      refl,
+      rw (to_z-of_z w128 s.input.cost (search rules)) at c.write_settlement.ensures,
+    )
 
 pub returns-in-Try : goal.returns-in-Try
 returns-in-Try g c =

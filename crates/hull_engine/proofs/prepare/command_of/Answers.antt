@@ -1,6 +1,6 @@
 use Rattle.hull_engine.proofs.Common.{inl, inr, refl, asked, texts, words_of}
 use Rattle.hull_engine.proofs.Lemmas.{refused_words, words_have_sizes}
-use Rattle.hull_engine.proofs.answers.command_of.Goals as goal
+use Rattle.hull_engine.proofs.prepare.command_of.Goals as goal
 
 pub returns-in-Ok-clause-sizes : goal.returns-in-Ok-clause-sizes
 returns-in-Ok-clause-sizes c = words_have_sizes (texts c.args.words.now) (asked c.in-Ok.command) c.in-Ok.ensures

@@ -1,0 +1,26 @@
+use Rattle.hull_engine.proofs.Common.{nothing_read}
+use Rattle.hull_engine.proofs.Lemmas.{ends_as}
+use Rattle.hull_engine.proofs.end.end_ready.Goals as goal
+
+pub returns-in-Price : goal.returns-in-Price
+returns-in-Price g c = rw c.in-Price.is (rw c.manned-run.ensures.same at c.finish_price.ensures)
+
+pub returns-in-Try : goal.returns-in-Try
+returns-in-Try g c =
+    let answers = rw c.manned-run.ensures.same at c.answer_try.ensures.answers in
+    rw c.in-Try.is (ends_as _ nothing_read _ _ c.answer_try.result c.finish.result answers c.finish.ensures)
+
+pub returns-in-Bound : goal.returns-in-Bound
+returns-in-Bound g c =
+    let answers = rw c.manned-run.ensures.same at c.answer_bound.ensures.answers in
+    rw c.in-Bound.is (ends_as _ nothing_read _ _ c.answer_bound.result c.finish-in-Bound.result answers c.finish-in-Bound.ensures)
+
+pub returns-in-Fixed : goal.returns-in-Fixed
+returns-in-Fixed g c =
+    let answers = rw c.manned-run.ensures.same at c.answer_fixed.ensures.answers in
+    rw c.in-Fixed.is (ends_as _ nothing_read _ _ c.answer_fixed.result c.finish-in-Fixed.result answers c.finish-in-Fixed.ensures)
+
+pub returns-in-Audit : goal.returns-in-Audit
+returns-in-Audit g c =
+    let answers = rw c.manned-run.ensures.same at c.answer_audit.ensures.answers in
+    rw c.in-Audit.is (ends_as _ nothing_read _ _ c.answer_audit.result c.finish-in-Audit.result answers c.finish-in-Audit.ensures)

@@ -1,0 +1,37 @@
+//! What is to be printed.
+
+use board_run::{Bounded, Done, Input, Sides};
+use price_settle::Settled;
+
+/// A case with its schedule, and what that is settled at.
+pub struct SettledInput {
+    pub input: Input,
+    pub settled: Settled,
+}
+
+// Written out, so that a drop of it is a call, and not one for each list.
+impl Drop for SettledInput {
+    fn drop(self) {
+        let SettledInput {
+            input: _,
+            settled: _,
+        } = self;
+    }
+}
+
+/// What a command is to print, but for the report of a run.
+#[derive(Drop)]
+pub enum Answer {
+    /// That a schedule is feasible, and what it costs.
+    Check(Input),
+    /// What a schedule is settled at, at given prices.
+    Settle(SettledInput),
+    /// The sums of a run on the case that a number stands for.
+    Try(u64, Done),
+    /// The best bound round the prices that a run chose.
+    Bound(Bounded),
+    /// What the runs with and without the schedule's commitments held chose, and pay.
+    Fixed(Sides),
+    /// That a report of so many proposals is right.
+    Audit(u32),
+}

@@ -1,0 +1,277 @@
+//! What a command needs before a run: its words, its files and its input, up to the first refusal.
+//! Nothing here starts a thread or waits.
+ghost use Rattle.std.specs.Prelude.{◌≡◌, ℕ, List, Ok, Err, None, IfOk, IfErr};
+ghost use Rattle.gap_proof.specs.Sums.{IsRadius};
+ghost use Rattle.hull_words.specs.Asked.{asked, check, price, try, bound, fixed};
+ghost use Rattle.hull_words.specs.Asked.{audit, settle, check_asked, price_asked};
+ghost use Rattle.hull_io.specs.Edge.{Rose};
+ghost use Rattle.hull_words.specs.Words.{texts, words_of};
+ghost use Rattle.hull_report.specs.declared.fault.FileKind.{FileKind};
+ghost use Rattle.hull_engine.specs.Steps.{Then, Reads, IsInput, IsWithinWork, made_case};
+ghost use Rattle.hull_engine.specs.Outcome.{command_for, case_and_schedule};
+ghost use Rattle.hull_engine.specs.Answers.{IsFaultOf, IsAnswer, IsLaterShelf, HasReads};
+ghost use Rattle.hull_engine.specs.Rest.{IsPrepared, HasPrepared, IsAsked, IsFit};
+ghost use Rattle.board_run.specs.Inputs.{planned_of, IsPlanned, IsRunInput};
+ghost use Rattle.board_run.specs.declared.input.RunInput.{RunInput as PlainRun};
+ghost use Rattle.hull_engine.specs.Inputs.{try_asked, bound_asked, audit_asked, settle_asked};
+ghost use Rattle.hull_engine.specs.Inputs.{size_asked};
+ghost use Rattle.board_run.specs.Sizes.{IsWorkers, IsRunSize};
+ghost use Rattle.hull_engine.specs.Sizes.{HasSizes};
+
+use crate::answer::Answer;
+use crate::files::{read_input, read_prices_file, read_report_file};
+use crate::input::within_work;
+use crate::ready::{Prepared, Ready, Task};
+use crate::settle::settled_input;
+use board_run::{Input, RunInput, RunSize};
+use case_make::make_case;
+use hull_io::Shelf;
+use hull_report::TopFault;
+use hull_words::{
+    AuditWords, BoundWords, CheckWords, Command, PriceWords, SettleWords, TryWords, WordError,
+    read_words,
+};
+use plan_check::costs::cost_of_plan;
+use std::alloc::{AllocError, Global};
+use uc_model::laws::feasible_plans_have_shape;
+
+/// The command that the words give.
+fn command_of(alloc: Global, words: &[String]) -> Result<Command, TopFault>
+    ensures given { IfOk result (λ c. words_of (texts words.now) ≡ Ok (asked c)) }
+    ensures sizes { IfOk result (λ c. HasSizes (asked c)) }
+    ensures refused { IfErr result (λ f. (reads : Reads)
+        → IsFaultOf ((command_for (words_of (texts words.now))).IsDue reads) f) }
+{
+    match read_words(alloc, words) {
+        Ok(command) => Ok(command),
+        Err(WordError::Fault(fault)) => Err(TopFault::Words(fault)),
+        Err(WordError::Memory) => Err(TopFault::Memory),
+    }
+}
+
+/// What `hull check` answers.
+fn prepare_check<F: Shelf>(
+    alloc: Global,
+    shelf: &mut F,
+    words: &CheckWords,
+) -> Result<Prepared, TopFault>
+    ensures prepared { HasPrepared F.told F.faults F.last shelf.old shelf.new
+        (Ok (check (check_asked words.now))) result }
+    ensures asked { IsAsked (Ok (check (check_asked words.now))) result }
+    ensures fit { IfOk result IsFit }
+    ensures shelf { IsLaterShelf F.told F.faults shelf.old shelf.new }
+{
+    let case_name = words.case_name.as_str();
+    let schedule_name = words.schedule_name.as_str();
+    let input = read_input(alloc, shelf, case_name, schedule_name)?;
+    Ok(Prepared::Answered(Answer::Check(input)))
+}
+
+/// The run that words ask for, over the case and the schedule of their files.
+fn read_run<F: Shelf>(
+    alloc: Global,
+    shelf: &mut F,
+    words: &PriceWords,
+) -> Result<RunInput, TopFault>
+    requires { IsRunSize words.now.proposals words.now.workers words.now.ahead }
+    ensures answers { HasReads (F.told shelf.old)
+        (λ name. Rose F.last (F.faults shelf.old name) (F.faults shelf.new name))
+        (case_and_schedule words.now.case_name.items words.now.schedule_name.items)
+        (λ reads. IsAnswer (Then (IsInput reads) (IsWithinWork words.now.proposals))
+        (λ (run : PlainRun). planned_of run.input) result) }
+    ensures run { IfOk result (λ run. IsRunInput run) }
+    ensures size { IfOk result (λ run. run.size ≡ size_asked words.now) }
+    ensures shelf { IsLaterShelf F.told F.faults shelf.old shelf.new }
+{
+    let case_name = words.case_name.as_str();
+    let schedule_name = words.schedule_name.as_str();
+    let input = read_input(alloc, shelf, case_name, schedule_name)?;
+    let size = RunSize {
+        budget: words.proposals,
+        callers: words.workers,
+        ahead: words.ahead,
+    };
+    within_work(input, size)
+}
+
+/// What `hull price` runs.
+fn prepare_price<F: Shelf>(
+    alloc: Global,
+    shelf: &mut F,
+    words: &PriceWords,
+) -> Result<Prepared, TopFault>
+    requires { IsRunSize words.now.proposals words.now.workers words.now.ahead }
+    ensures prepared { HasPrepared F.told F.faults F.last shelf.old shelf.new
+        (Ok (price (price_asked words.now))) result }
+    ensures asked { IsAsked (Ok (price (price_asked words.now))) result }
+    ensures fit { IfOk result IsFit }
+    ensures shelf { IsLaterShelf F.told F.faults shelf.old shelf.new }
+{
+    let run = read_run(alloc, shelf, words)?;
+    let task = Task::Price;
+    Ok(Prepared::Ready(Ready { task, run }))
+}
+
+/// What `hull bound` runs.
+fn prepare_bound<F: Shelf>(
+    alloc: Global,
+    shelf: &mut F,
+    words: &BoundWords,
+) -> Result<Prepared, TopFault>
+    requires size { IsRunSize words.now.run.proposals words.now.run.workers words.now.run.ahead }
+    requires radius { IsRadius words.now.radius }
+    ensures prepared { HasPrepared F.told F.faults F.last shelf.old shelf.new
+        (Ok (bound (bound_asked words.now))) result }
+    ensures asked { IsAsked (Ok (bound (bound_asked words.now))) result }
+    ensures fit { IfOk result IsFit }
+    ensures shelf { IsLaterShelf F.told F.faults shelf.old shelf.new }
+{
+    let run = read_run(alloc, shelf, &words.run)?;
+    let task = Task::Bound(words.radius);
+    Ok(Prepared::Ready(Ready { task, run }))
+}
+
+/// What `hull fixed` runs.
+fn prepare_fixed<F: Shelf>(
+    alloc: Global,
+    shelf: &mut F,
+    words: &PriceWords,
+) -> Result<Prepared, TopFault>
+    requires { IsRunSize words.now.proposals words.now.workers words.now.ahead }
+    ensures prepared { HasPrepared F.told F.faults F.last shelf.old shelf.new
+        (Ok (fixed (price_asked words.now))) result }
+    ensures asked { IsAsked (Ok (fixed (price_asked words.now))) result }
+    ensures fit { IfOk result IsFit }
+    ensures shelf { IsLaterShelf F.told F.faults shelf.old shelf.new }
+{
+    let run = read_run(alloc, shelf, words)?;
+    let task = Task::Fixed;
+    Ok(Prepared::Ready(Ready { task, run }))
+}
+
+/// The case and the feasible schedule that a number stands for.
+fn made_input(alloc: Global, number: u64) -> Result<Input, AllocError>
+    ensures made { IfOk result (λ input. planned_of input ≡ made_case number) }
+    ensures planned { IfOk result (λ input. IsPlanned input) }
+{
+    feasible_plans_have_shape();
+    let (case, plan) = make_case(alloc, number)?;
+    let cost = cost_of_plan(&case, &plan);
+    Ok(Input { case, plan, cost })
+}
+
+/// What `hull try` runs.
+fn prepare_try(alloc: Global, words: &TryWords) -> Result<Prepared, TopFault>
+    requires { IsRunSize words.now.proposals words.now.workers words.now.ahead }
+    ensures prepared { (reads : Reads)
+        → IsPrepared (command_for (Ok (try (try_asked words.now)))) reads result }
+    ensures asked { IsAsked (Ok (try (try_asked words.now))) result }
+    ensures fit { IfOk result IsFit }
+{
+    let Ok(input) = made_input(alloc, words.number) else {
+        return Err(TopFault::Memory);
+    };
+    let size = RunSize {
+        budget: words.proposals,
+        callers: words.workers,
+        ahead: words.ahead,
+    };
+    let run = within_work(input, size)?;
+    let task = Task::Try(words.number);
+    Ok(Prepared::Ready(Ready { task, run }))
+}
+
+/// What `hull audit` runs. The limit of work is that of a run with the report's own budget.
+fn prepare_audit<F: Shelf>(
+    alloc: Global,
+    shelf: &mut F,
+    words: &AuditWords,
+) -> Result<Prepared, TopFault>
+    requires { IsWorkers words.now.workers }
+    ensures prepared { HasPrepared F.told F.faults F.last shelf.old shelf.new
+        (Ok (audit (audit_asked words.now))) result }
+    ensures asked { IsAsked (Ok (audit (audit_asked words.now))) result }
+    ensures fit { IfOk result IsFit }
+    ensures shelf { IsLaterShelf F.told F.faults shelf.old shelf.new }
+{
+    let case_name = words.case_name.as_str();
+    let schedule_name = words.schedule_name.as_str();
+    let report_name = words.report_name.as_str();
+    let input = read_input(alloc, shelf, case_name, schedule_name)?;
+    let report = read_report_file(alloc, shelf, report_name)?;
+    let size = RunSize {
+        budget: report.budget,
+        callers: words.workers,
+        ahead: report.ahead,
+    };
+    let run = within_work(input, size)?;
+    let task = Task::Audit(report);
+    Ok(Prepared::Ready(Ready { task, run }))
+}
+
+/// What `hull settle` answers.
+fn prepare_settle<F: Shelf>(
+    alloc: Global,
+    shelf: &mut F,
+    words: &SettleWords,
+) -> Result<Prepared, TopFault>
+    ensures prepared { HasPrepared F.told F.faults F.last shelf.old shelf.new
+        (Ok (settle (settle_asked words.now))) result }
+    ensures asked { IsAsked (Ok (settle (settle_asked words.now))) result }
+    ensures fit { IfOk result IsFit }
+    ensures shelf { IsLaterShelf F.told F.faults shelf.old shelf.new }
+{
+    let case_name = words.case_name.as_str();
+    let schedule_name = words.schedule_name.as_str();
+    let prices_name = words.prices_name.as_str();
+    let input = read_input(alloc, shelf, case_name, schedule_name)?;
+    let prices = read_prices_file(alloc, shelf, prices_name, &input.case)?;
+    let settled = settled_input(alloc, input, prices)?;
+    Ok(Prepared::Answered(Answer::Settle(settled)))
+}
+
+/// What a command comes to before any run, or its first refusal.
+fn prepare_command<F: Shelf>(
+    alloc: Global,
+    shelf: &mut F,
+    command: &Command,
+) -> Result<Prepared, TopFault>
+    requires { HasSizes (asked command.now) }
+    ensures prepared { HasPrepared F.told F.faults F.last shelf.old shelf.new
+        (Ok (asked command.now)) result }
+    ensures asked { IsAsked (Ok (asked command.now)) result }
+    ensures fit { IfOk result IsFit }
+    ensures shelf { IsLaterShelf F.told F.faults shelf.old shelf.new }
+    ensures unread { ((file : FileKind)
+        → (command_for (Ok (asked command.now))).name_of file ≡ None)
+        → shelf.new ≡ shelf.old }
+{
+    match command {
+        Command::Check(words) => prepare_check(alloc, shelf, words),
+        Command::Price(words) => prepare_price(alloc, shelf, words),
+        Command::Try(words) => prepare_try(alloc, words),
+        Command::Bound(words) => prepare_bound(alloc, shelf, words),
+        Command::Fixed(words) => prepare_fixed(alloc, shelf, words),
+        Command::Audit(words) => prepare_audit(alloc, shelf, words),
+        Command::Settle(words) => prepare_settle(alloc, shelf, words),
+    }
+}
+
+/// What the words ask for, as far as it comes before any run, or the first refusal.
+pub fn prepare<F: Shelf>(
+    alloc: Global,
+    words: &[String],
+    shelf: &mut F,
+) -> Result<Prepared, TopFault>
+    ensures prepared { HasPrepared F.told F.faults F.last shelf.old shelf.new
+        (words_of (texts words.now)) result }
+    ensures asked { IsAsked (words_of (texts words.now)) result }
+    ensures fit { IfOk result IsFit }
+    ensures shelf { IsLaterShelf F.told F.faults shelf.old shelf.new }
+    ensures unread { ((file : FileKind)
+        → (command_for (words_of (texts words.now))).name_of file ≡ None)
+        → shelf.new ≡ shelf.old }
+{
+    let command = command_of(alloc, words)?;
+    prepare_command(alloc, shelf, &command)
+}
