@@ -12,5 +12,9 @@ pub mod BoundPromise
 pub mod FixedPromise
 -- what is promised of an audit
 pub mod AuditPromise
+-- what is promised of a settlement
+pub mod SettlePromise
+-- two runs of the same words print the same
+pub mod SameOutput
 -- The lemmas that answers cite.
 pub mod Lemmas

@@ -1,10 +1,13 @@
 -- Over what was read at most one thing is due, and at most one text may be printed.
-use Rattle.law_outcome.proofs.Common.{◌≡◌, ℕ, ◌<◌, ℤ, List, length, unsigned_abs, Option, Some, inl, inr, Result, Ok, Err, sym, ap, subst, ◌∙◌, arith, cases_lt, same_Some, slice_get, Market, Schedule, Proposal, Asked, price, check, try, bound, fixed, audit, WordFault, fixed_market, TextDeterminesReport, OneRightReport, RightReportHasForm, Report, report_text, OneRightSide, CaseFile, ScheduleFile, ReportFile, TopFault, PlanRule, Unfit, Goes, Then, Reads, IsBytes, case_fault, plan_fault, IsCase, IsCaseFile, IsPlan, IsPlanFile, IsChecked, IsInput, IsMade, IsWithinWork, IsReportIn, IsReportFile, IsJudged, IsAudit, PlannedCase, IsReportText, IsBoundText, IsFixedText, IsAuditText, command_for}
+use Rattle.law_outcome.proofs.Common.{◌≡◌, ℕ, ◌<◌, ℤ, List, length, unsigned_abs, Option, Some, inl, inr, Result, Ok, Err, sym, ap, subst, ◌∙◌, arith, cases_lt, same_Some, slice_get, Market, Schedule, Proposal, Asked, price, check, try, bound, fixed, audit, settle, WordFault, PriceLists, OneSettlement, Settled, IsSettledAt, PricesFile, prices_fault, IsPrices, IsPricesFile, IsPriced, IsSettlementText, fixed_market, TextDeterminesReport, OneRightReport, RightReportHasForm, Report, report_text, OneRightSide, CaseFile, ScheduleFile, ReportFile, TopFault, PlanRule, Unfit, Goes, Then, Reads, IsBytes, case_fault, plan_fault, IsCase, IsCaseFile, IsPlan, IsPlanFile, IsChecked, IsInput, IsMade, IsWithinWork, IsReportIn, IsReportFile, IsJudged, IsAudit, PlannedCase, IsReportText, IsBoundText, IsFixedText, IsAuditText, command_for}
 use Rattle.std.proofs.lemmas.Int.{ints}
 use Rattle.std.specs.Result.{result_map_both}
 use Rattle.uc_model.specs.Refusals.{Refusal}
 use Rattle.uc_case.specs.Laws.{OneCase}
 use Rattle.uc_plan.specs.Laws.{OnePlan}
+use Rattle.uc_prices.specs.Laws.{OnePrices}
+use Rattle.report_form.specs.SettlementText.{settlement_text}
+use Rattle.hull_report.specs.SettledText.{settlement_of}
 use Rattle.plan_check.specs.Checks.{refusal_of}
 use Rattle.plan_check.specs.declared.RuleFault.{RuleFault}
 use Rattle.gap_proof.specs.Candidates.{RowRange, candidates, range_bound, prices_of_row, IsFirstLeast}
@@ -45,6 +48,7 @@ pub record AreOne : Type 0 where
   pub fault : OneFault
   pub right : OneRightReport
   pub difference : OneDifference
+  pub prices : OnePrices
 
 -- at most one input is due
 module _ (case : OneCase) (plan : OnePlan) where
@@ -60,6 +64,17 @@ module _ (case : OneCase) (plan : OnePlan) where
       (one_then (IsBytes CaseFile (reads CaseFile)) IsCase (λ a b p q. p ∙ sym q) one_case_in)
       (λ m. one_then (IsPlanFile m (reads ScheduleFile)) (IsChecked m)
       (one_then (IsBytes ScheduleFile (reads ScheduleFile)) (IsPlan m) (λ a b p q. p ∙ sym q) (one_plan_in m)) (one_checked m))
+
+module _ (prices : OnePrices) where
+  one_prices_in : (periods : ℕ) (bytes : List ℕ) (a b : Result PriceLists TopFault) → IsPrices periods bytes a → IsPrices periods bytes b → a ≡ b
+  one_prices_in periods bytes a b (r, is_r, p) (s, is_s, q) = p ∙ ap (result_map_both (λ π. π) prices_fault) (prices periods bytes r s is_r is_s) ∙ sym q
+
+  pub one_prices_file : (periods : ℕ) (read : Option (List ℕ)) (a b : Result PriceLists TopFault) → IsPricesFile periods read a → IsPricesFile periods read b → a ≡ b
+  one_prices_file periods read = one_then (IsBytes PricesFile read) (IsPrices periods) (λ a b p q. p ∙ sym q) (one_prices_in periods)
+
+  one_priced : (reads : Reads) (c : PlannedCase) (a b : Result PlannedCase TopFault) → IsPriced reads c a → IsPriced reads c b → a ≡ b
+  one_priced reads c =
+      one_then (IsPricesFile c.market.periods (reads PricesFile)) (λ π due. due ≡ Ok c) (one_prices_file c.market.periods (reads PricesFile)) (λ π a b p q. p ∙ sym q)
 
 module _ (ones : AreOne) where
   one_made : (number : ℕ) (a b : Result PlannedCase TopFault) → IsMade number a → IsMade number b → a ≡ b
@@ -99,6 +114,7 @@ module _ (ones : AreOne) where
   one_due (Ok (fixed x)) reads a b p q =
       one_then (IsInput reads) (IsWithinWork x.proposals) (one_input ones.case ones.plan reads) (λ c a b p q. p ∙ sym q) a b p q
   one_due (Ok (audit x)) reads a b p q = one_then (IsInput reads) (IsAudit reads) (one_input ones.case ones.plan reads) (one_audit reads) a b p q
+  one_due (Ok (settle x)) reads a b p q = one_then (IsInput reads) (IsPriced reads) (one_input ones.case ones.plan reads) (one_priced ones.prices reads) a b p q
   one_due (Err f) reads a b p q = p ∙ sym q
 
 -- there is one first candidate with the least bound
@@ -127,7 +143,7 @@ module _ (m : Market) (rows : List Proposal) (centre : ℕ) (radius : ℤ) where
         ]
       ]
 
-module _ (one : OneRightReport) (one_side : OneRightSide) (determined : TextDeterminesReport) (has_form : RightReportHasForm) where
+module _ (one : OneRightReport) (one_side : OneRightSide) (determined : TextDeterminesReport) (has_form : RightReportHasForm) (prices : OnePrices) (settled : OneSettlement) where
   one_report_text : (text_of : Report → List ℕ) (budget ahead : ℕ) (c : PlannedCase) (text other : List ℕ)
       → IsReportText text_of budget ahead c text → IsReportText text_of budget ahead c other → text ≡ other
   one_report_text text_of budget ahead c text other (r, is_r, p) (s, is_s, q) =
@@ -154,6 +170,13 @@ module _ (one : OneRightReport) (one_side : OneRightSide) (determined : TextDete
       let same = determined r s form form_other (same_Some (report_text r) (report_text s) (sym read_r ∙ read_s)) in
       p ∙ ap (λ (x : Report). audit_text (length x.rows)) same ∙ sym q
 
+  one_settlement_text : (read : Option (List ℕ)) (c : PlannedCase) (text other : List ℕ) → IsSettlementText read c text → IsSettlementText read c other → text ≡ other
+  one_settlement_text read c text other (π, file, s, is_s, p) (ρ, file_other, t, is_t, q) =
+      let e = one_prices_file prices c.market.periods read (Ok π) (Ok ρ) file file_other in
+      let same : π ≡ ρ = cc in
+      let one_settled = settled c.market c.plan ρ s t (subst (λ (x : PriceLists). IsSettledAt c.market c.plan x s) same is_s) is_t in
+      p ∙ ap (λ (x : Settled). settlement_text (settlement_of c.market c.cost x)) one_settled ∙ sym q
+
   pub one_text : (w : Result Asked WordFault) (reads : Reads) (c : PlannedCase) (text other : List ℕ) → (command_for w).IsText reads c text → (command_for w).IsText reads c other → text ≡ other
   one_text (Ok (check x)) reads c text other p q = p ∙ sym q
   one_text (Ok (price x)) reads c text other p q = one_report_text report_text x.proposals x.ahead c text other p q
@@ -161,4 +184,5 @@ module _ (one : OneRightReport) (one_side : OneRightSide) (determined : TextDete
   one_text (Ok (bound x)) reads c text other p q = one_bound_text x.run.proposals x.run.ahead x.radius c text other p q
   one_text (Ok (fixed x)) reads c text other p q = one_fixed_text x.proposals x.ahead c text other p q
   one_text (Ok (audit x)) reads c text other p q = one_audit_text (reads ReportFile) c text other p q
+  one_text (Ok (settle x)) reads c text other p q = one_settlement_text (reads PricesFile) c text other p q
   one_text (Err f) reads c text other p q = absurd p

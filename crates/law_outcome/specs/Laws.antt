@@ -7,15 +7,20 @@ use Rattle.std.specs.List.{All}
 use Rattle.std.specs.Prelude.{◌≡◌, ◌≢◌, ◌⊎◌, ℕ, ◌<◌, ◌≤◌, ◌==◌, ◌||◌, Bool, ◌+ℤ◌, ◌-ℤ◌, List}
 use Rattle.std.specs.Prelude.{Option, None, Some, Result, Ok, Err, IsTrue, IfSome, IsSome, ℤ, ◌-◌}
 use Rattle.std.specs.Prelude.{pos, ◌≤ℤ◌, length, slice_get, unsigned_abs}
-use Rattle.uc_model.specs.Data.{Market, Schedule}
+use Rattle.uc_model.specs.Data.{Market, PriceLists, Schedule}
 use Rattle.uc_model.specs.PriceRule.{Proposal}
 use Rattle.uc_model.specs.Systems.{IsFeasiblePlan, plan_cost}
 use Rattle.uc_case.specs.CaseFiles.{IsCaseOf}
+use Rattle.uc_case.specs.Files.{FileFault}
 use Rattle.uc_plan.specs.PlanFiles.{IsPlanOf}
+use Rattle.uc_prices.specs.PricesFiles.{IsPricesOf}
+use Rattle.uc_prices.specs.declared.fault.PriceFault.{PriceFault}
+use Rattle.price_settle.specs.Laws.{AddsUp}
+use Rattle.price_settle.specs.Settled.{Settled, IsSettledAt}
 use Rattle.hull_io.specs.Edge.{Rose, Gains, FallsShort}
 use Rattle.plain_lists.specs.declared.limits.TheConstants.{MOST_BYTES}
 use Rattle.hull_words.specs.Asked.{Asked, CheckAsked, PriceAsked, TryAsked, BoundAsked, AuditAsked}
-use Rattle.hull_words.specs.Asked.{check, price, try, bound, fixed, audit}
+use Rattle.hull_words.specs.Asked.{SettleAsked, check, price, try, bound, fixed, audit, settle}
 use Rattle.hull_words.specs.Words.{words_of}
 use Rattle.hull_words.specs.declared.fault.WordFault.{WordFault}
 use Rattle.fixed_price.specs.FixedCase.{fixed_market}
@@ -27,18 +32,20 @@ use Rattle.hull_report.specs.FaultLines.{status_of, fault_line}
 use Rattle.right_report.specs.RightSide.{ToldSide}
 use Rattle.hull_report.specs.FixedText.{fixed_text}
 use Rattle.report_form.specs.ReportText.{UnitLine, Report, report_text}
+use Rattle.report_form.specs.SettlementText.{settlement_text}
+use Rattle.hull_report.specs.SettledText.{settlement_of}
 use Rattle.right_report.specs.RightReport.{IsRightReport, unit_lines}
 use Rattle.right_report.specs.RightSide.{IsRightSide, IsMadeUp}
 use Rattle.hull_report.specs.declared.fault.FileKind.{FileKind}
 use Rattle.hull_report.specs.declared.fault.FileKind.TheVariants.{CaseFile, ScheduleFile}
-use Rattle.hull_report.specs.declared.fault.FileKind.TheVariants.{ReportFile}
+use Rattle.hull_report.specs.declared.fault.FileKind.TheVariants.{ReportFile, PricesFile}
 use Rattle.hull_report.specs.declared.fault.TopFault.{TopFault}
 use Rattle.hull_report.specs.declared.fault.TopFault.TheVariants.{Words, Read, TooBig, Memory}
 use Rattle.hull_report.specs.declared.fault.TopFault.TheVariants.{Report as Unfit}
 use Rattle.report_read.specs.Bounds.{IsReport}
 use Rattle.report_read.specs.Faults.{IsFault}
 use Rattle.audit_check.specs.Right.{DiffersFromRight}
-use Rattle.hull_engine.specs.Steps.{Reads, IsInput, IsCaseFile}
+use Rattle.hull_engine.specs.Steps.{Reads, IsInput, IsCaseFile, prices_fault}
 use Rattle.board_run.specs.Inputs.{PlannedCase}
 use Rattle.hull_engine.specs.Outcome.{Command, command_for, AreReads, HasText, IsOutcome}
 
@@ -66,7 +73,7 @@ AcceptedIsFeasible = (words : List (List ℕ)) (reads : Reads) (i : PlannedCase)
 
 -- the statuses of the faults of words and of what was read
 abbrev pub is_refusal : ℕ → Bool
-is_refusal n = n == 1 || n == 3 || n == 4 || n == 5 || n == 8
+is_refusal n = n == 1 || n == 3 || n == 4 || n == 5 || n == 8 || n == 9
 
 -- there are reads of the command's files over which P holds
 abbrev pub OverReads : Command → (told : List ℕ → Option (List ℕ)) (rose : List ℕ → Type 0) →
@@ -90,7 +97,7 @@ module _ (c : Command) (told : List ℕ → Option (List ℕ))
       × c.IsDue reads (Err (Read file)) × IsWritten (Read file)
 
   pub record HasCause (n : ℕ) : Type 0 where
-    pub known : n ≤ 8
+    pub known : n ≤ 9
     pub done : n ≡ 0 → OverReads c told rose (λ reads. HasText c reads gained)
     pub cut : n ≡ 6 → OverReads c told rose (λ reads. HasText c reads short)
     pub refused : IsTrue (is_refusal n) → OverReads c told rose (IsRefused n)
@@ -115,15 +122,17 @@ abbrev pub word_fault : Result Asked WordFault → Option WordFault
 word_fault (Ok asked) = None
 word_fault (Err f) = Some f
 
--- What a status tells of words. Faulty words end in 1 or 7 and no other words end in 1; a check has
--- no limit of work; only an audit reads a report.
+-- What a status tells of words. Faulty words end in 1 or 7 and no other words end in 1; a check and
+-- a settlement have no limit of work; only an audit reads a report, and only a settlement prices.
 pub record FollowsFromWords (words : Result Asked WordFault) (gained short : List ℕ → Type 0)
     (n : ℕ) : Type 0 where
   pub faulty : (f : WordFault) → word_fault words ≡ Some f → (n ≡ 1) ⊎ (n ≡ 7)
   pub at_1 : n ≡ 1 → (f : WordFault) × (word_fault words ≡ Some f)
       × (gained (fault_line (Words f)) ⊎ short (fault_line (Words f)))
   pub check_at_5 : (a : CheckAsked) → words ≡ Ok (check a) → n ≢ 5
+  pub settle_at_5 : (a : SettleAsked) → words ≡ Ok (settle a) → n ≢ 5
   pub at_8 : n ≡ 8 → (a : AuditAsked) × (words ≡ Ok (audit a))
+  pub at_9 : n ≡ 9 → (a : SettleAsked) × (words ≡ Ok (settle a))
 
 -- ---- what the status of a refused schedule promises
 
@@ -269,6 +278,47 @@ pub record IsAuditRefused (c : Command) (gained short : List ℕ → Type 0) (re
   pub never : (line : ℕ) → fault ≡ Unfit 61 line → (r : Report) →
       IsRightReport i.market i.plan r.budget r.ahead r → bytes ≡ report_text r → ⊥
 
+-- THE PROMISE of `hull settle`, where it answers 0: there are bytes of the case, of the schedule and
+-- of the prices, those that are told where any are; they are a case, a feasible schedule of it, and
+-- prices over its periods; and what was printed is the text of what the schedule is settled at, at
+-- these prices: with their exact dual value, and of each unit the least of its best responses.
+-- Payments and surplus make up what the dual value lacks of the cost, and none of them is below 0.
+pub record IsSettlePromised (a : SettleAsked) (told : List ℕ → Option (List ℕ))
+    (gained : List ℕ → Type 0) : Type 0 where
+  pub case_bytes : List ℕ
+  pub case_told : IfSome (told a.case_name) (λ all. case_bytes ≡ all)
+  pub schedule_bytes : List ℕ
+  pub schedule_told : IfSome (told a.schedule_name) (λ all. schedule_bytes ≡ all)
+  pub prices_bytes : List ℕ
+  pub prices_told : IfSome (told a.prices_name) (λ all. prices_bytes ≡ all)
+  pub market : Market
+  pub is_case : IsCaseOf case_bytes (Ok market)
+  pub plan : List Schedule
+  pub is_plan : IsPlanOf market schedule_bytes (Ok plan)
+  pub feasible : IsFeasiblePlan market plan
+  pub prices : PriceLists
+  pub is_prices : IsPricesOf market.periods prices_bytes (Ok prices)
+  pub settlement : Settled
+  pub settled : IsSettledAt market plan prices settlement
+  pub adds_up : AddsUp market plan settlement
+  pub printed : gained (settlement_text (settlement_of market (plan_cost market plan) settlement))
+
+-- And where it answers 9, over an accepted input: the line of a fault that is due was written, as
+-- far as the sink took it. The prices file has more than 67,108,864 bytes; or the fault is the first
+-- of the file, and it has no prices over the periods of the case.
+pub record IsSettleRefused (c : Command) (gained short : List ℕ → Type 0) (reads : Reads)
+    (i : PlannedCase) : Type 0 where
+  pub fault : TopFault
+  pub status : status_of fault ≡ 9
+  pub due : c.IsDue reads (Err fault)
+  pub written : gained (fault_line fault) ⊎ short (fault_line fault)
+  pub input : IsInput reads (Ok i)
+  pub bytes : List ℕ
+  pub is_read : reads PricesFile ≡ Some bytes
+  pub cause : (MOST_BYTES < length bytes × (fault ≡ TooBig PricesFile))
+      ⊎ (first : FileFault PriceFault) × IsPricesOf i.market.periods bytes (Err first)
+      × (fault ≡ prices_fault first)
+
 -- ---- how many workers there are
 
 -- Two commands read the same files, and over them the same is due and the same texts may be
@@ -295,6 +345,22 @@ WorkersAreFree =
     (command_for (Ok (fixed (record a { workers = n })))))
     × ((a : AuditAsked) → AreAlike (command_for (Ok (audit a)))
     (command_for (Ok (audit (record a { workers = n })))))
+
+-- the same words with so many workers, where they have any
+abbrev pub with_workers : ℕ → Asked → Asked
+with_workers n (price a) = price (record a { workers = n })
+with_workers n (try a) = try (record a { workers = n })
+with_workers n (bound a) = bound (record a { run = record a.run { workers = n } })
+with_workers n (fixed a) = fixed (record a { workers = n })
+with_workers n (audit a) = audit (record a { workers = n })
+with_workers n (check a) = check a
+with_workers n (settle a) = settle a
+
+-- both tell the same bytes of each file that these words name
+abbrev pub TellTheSame : Asked → (told other : List ℕ → Option (List ℕ)) → Type 0
+TellTheSame a told other =
+    (file : FileKind) → IfSome ((command_for (Ok a)).name_of file)
+    (λ name. (bytes : List ℕ) × (told name ≡ Some bytes) × (other name ≡ Some bytes))
 
 -- ---- the laws, over a shelf and a sink before and after the run
 
@@ -349,3 +415,45 @@ module _ {F S : Type 0} (told : F → List ℕ → Option (List ℕ)) (faults : 
       (n ≡ 0 → IsAuditPromised a told gained)
       × (n ≡ 8 → OverReads (command_for (words_of words)) told rose (λ reads.
       (i : PlannedCase) × IsAuditRefused (command_for (words_of words)) gained short reads i)))
+
+  abbrev pub SettlementsHold : Type 0
+  SettlementsHold = OnRuns (λ words told rose gained short n.
+      (a : SettleAsked) → words_of words ≡ Ok (settle a) →
+      (n ≡ 0 → IsSettlePromised a told gained)
+      × (n ≡ 9 → OverReads (command_for (words_of words)) told rose (λ reads.
+      (i : PlannedCase) × IsSettleRefused (command_for (words_of words)) gained short reads i)))
+
+-- ---- two runs
+
+-- ONE OUTPUT: two runs of the same words but for the number of workers, over shelves that tell the
+-- same of the files that they name. Where both answer 0, their sinks gained one and the same text;
+-- and so they did where both are audits that answer 8 and no count of theirs rose.
+module _ {F S G T : Type 0} (told : F → List ℕ → Option (List ℕ)) (faults : F → List ℕ → ℕ)
+    (last : Option ℕ) (held : S → Option (List ℕ)) (counts : S → ℕ) (most : Option ℕ)
+    (told_other : G → List ℕ → Option (List ℕ)) (faults_other : G → List ℕ → ℕ)
+    (last_other : Option ℕ) (held_other : T → Option (List ℕ)) (counts_other : T → ℕ)
+    (most_other : Option ℕ) where
+  abbrev pub RunsPrintTheSame : Type 0
+  RunsPrintTheSame =
+      (words words_other : List (List ℕ)) (a : Asked) (workers : ℕ)
+      (old new : F) (before after : S) (n : ℕ)
+      (old_other new_other : G) (before_other after_other : T) (n_other : ℕ)
+      → words_of words ≡ Ok a → words_of words_other ≡ Ok (with_workers workers a)
+      → TellTheSame a (told old) (told_other old_other)
+      → IsOutcome words (told old) (λ name. Rose last (faults old name) (faults new name))
+      (Gains held counts before after) (FallsShort held counts most before after) n
+      → IsOutcome words_other (told_other old_other)
+      (λ name. Rose last_other (faults_other old_other name) (faults_other new_other name))
+      (Gains held_other counts_other before_other after_other)
+      (FallsShort held_other counts_other most_other before_other after_other) n_other
+      → (n ≡ 0) × (n_other ≡ 0)
+      ⊎ (n ≡ 8) × (n_other ≡ 8)
+      × IsQuiet (command_for (words_of words)) (told old)
+      (λ name. Rose last (faults old name) (faults new name))
+      (Gains held counts before after) (FallsShort held counts most before after)
+      × IsQuiet (command_for (words_of words_other)) (told_other old_other)
+      (λ name. Rose last_other (faults_other old_other name) (faults_other new_other name))
+      (Gains held_other counts_other before_other after_other)
+      (FallsShort held_other counts_other most_other before_other after_other)
+      → (text : List ℕ) × Gains held counts before after text
+      × Gains held_other counts_other before_other after_other text

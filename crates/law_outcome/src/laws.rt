@@ -4,18 +4,23 @@ ghost use Rattle.law_outcome.specs.Laws.{OneDue, OneText, AcceptedIsFeasible, Ea
 ghost use Rattle.law_outcome.specs.Laws.{WhatWasReadDecides, WordsFollow};
 ghost use Rattle.law_outcome.specs.Laws.{RefusedSchedulesAreInfeasible};
 ghost use Rattle.law_outcome.specs.Laws.{ReportsAreRight, BoundsHold, BothGapsAreMadeUp, AuditsHold};
-ghost use Rattle.law_outcome.specs.Laws.{WorkersAreFree};
+ghost use Rattle.law_outcome.specs.Laws.{SettlementsHold, WorkersAreFree, RunsPrintTheSame};
 
 use gap_proof::laws::{run_bounds_hold, run_prices_are_within};
 use hull_engine::laws::{bytes_are_those_read, report_bytes_are_its_text, words_have_sizes};
 use hull_io::{Shelf, Sink};
-use right_report::laws::{one_report_is_right, one_row_is_chosen, one_side_is_right, report_payments_make_up_the_gap, right_report_has_form, side_payments_make_up_the_gap};
 use plan_check::laws::refusals_are_exact;
+use price_settle::laws::{one_settlement, settlements_add_up};
 use report_form::laws::text_determines_the_report;
 use report_read::laws::{one_line_differs, one_line_is_in_fault, one_report_has_a_text};
+use right_report::laws::{
+    one_report_is_right, one_row_is_chosen, one_side_is_right, report_payments_make_up_the_gap,
+    right_report_has_form, side_payments_make_up_the_gap,
+};
 use uc_case::laws::one_case;
 use uc_model::laws::{feasible_plans_have_shape, nothing_is_paid_back};
 use uc_plan::laws::one_plan;
+use uc_prices::laws::{one_prices, prices_have_form};
 
 /// Over what was read, at most one input is accepted or one refusal is due. So
 /// `each_status_has_its_cause` also says that a status comes nowhere else.
@@ -28,6 +33,7 @@ pub fn one_thing_is_due()
     one_line_is_in_fault();
     one_report_is_right();
     one_line_differs();
+    one_prices();
 }
 
 /// At most one text may be printed of an input: what `hull price` prints is a function of the case,
@@ -39,6 +45,8 @@ pub fn one_text_is_right()
     one_side_is_right();
     text_determines_the_report();
     right_report_has_form();
+    one_prices();
+    one_settlement();
 }
 
 /// What a command accepts is a case with a feasible schedule and that schedule's cost.
@@ -62,6 +70,7 @@ pub fn what_was_read_decides<F: Shelf, S: Sink>()
     one_line_is_in_fault();
     one_report_is_right();
     one_line_differs();
+    one_prices();
 }
 
 /// What the words alone say of the status, whatever is told of the files.
@@ -135,3 +144,28 @@ pub fn audits_hold<F: Shelf, S: Sink>()
 pub fn workers_are_free()
     ensures { WorkersAreFree }
 {}
+
+/// What `hull settle` promises: where it answers 0, what it prints is what the schedule is settled
+/// at, at the prices of the file, and payments and surplus sum to the cost of the schedule less the
+/// dual value, none of them below 0; where it answers 9, the file has too many bytes, or the fault
+/// is its first.
+pub fn settlements_hold<F: Shelf, S: Sink>()
+    ensures { SettlementsHold F.told F.faults F.last S.held S.faults S.last }
+{
+    bytes_are_those_read();
+    settlements_add_up();
+    prices_have_form();
+}
+
+/// Two runs of the same words but for the number of workers, over shelves that tell the same of the
+/// files that they name, print the same bytes where both answer 0; and where both are audits that
+/// answer 8 and no count rose.
+pub fn runs_print_the_same<F: Shelf, S: Sink, G: Shelf, T: Sink>()
+    ensures { RunsPrintTheSame F.told F.faults F.last S.held S.faults S.last
+        G.told G.faults G.last T.held T.faults T.last }
+{
+    one_thing_is_due();
+    one_text_is_right();
+    bytes_are_those_read();
+    report_bytes_are_its_text();
+}

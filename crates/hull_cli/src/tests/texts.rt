@@ -95,6 +95,13 @@ chosen 1 value 686000000\nunit thermal \"G1\" earned 0 scheduled -66000000 payme
 power 0\nreserve 0\nunit renewable \"W1\" earned 294000000 scheduled 196000000 payment 98000000\n\
 power 3000\nsurplus 0\npayments 164000000\ngap 164000000\nend\n";
 
+// At a price of 98 G1 would earn nothing by being on, so it stays off and is owed what it loses.
+pub const USUAL_SETTLED: &[u8] = b"\
+hull-settlement 1\nperiods 1\nunits 2\ncost 850000000\nvalue 686000000\nenergy 98000\nreserve 0\n\
+supplied 3000\nreserved 0\nunit thermal \"G1\" earned 0 scheduled -66000000 payment 66000000\non 0\n\
+power 0\nreserve 0\nunit renewable \"W1\" earned 294000000 scheduled 196000000 payment 98000000\n\
+power 3000\nsurplus 0\npayments 164000000\ngap 164000000\nend\n";
+
 pub const NO_UNITS: &str =
     "{\"time_periods\":1,\"demand\":[100],\"reserves\":[0],\"thermal_generators\":{},\
 \"renewable_generators\":{}}";
@@ -215,6 +222,9 @@ pub const AUDIT: [&str; 7] = [
     "--workers",
     "2",
 ];
+
+// The prices stand in the file r.
+pub const SETTLE: [&str; 4] = ["settle", "--case=c", "--schedule=s", "--prices=r"];
 
 pub const PRICE: [&str; 8] = [
     "price",

@@ -2,11 +2,11 @@
 
 use crate::tests::runs::{Run, runs_end};
 use crate::tests::texts::{
-    AUDIT, BOUND, CHECK, FIXED, NO_UNITS, ONE_BID, ONE_BID_CHECK, PRICE, RIGHT, SMALLEST,
+    AUDIT, BOUND, CHECK, FIXED, NO_UNITS, ONE_BID, ONE_BID_CHECK, PRICE, RIGHT, SETTLE, SMALLEST,
     SMALLEST_REPORT, SMALLEST_SCHEDULE, TRY, TWO_BIDS, TWO_BIDS_REPORT, TWO_BIDS_SCHEDULE,
     TWO_PERIODS, TWO_PROPOSALS, TWO_PROPOSALS_BOUND, TWO_PROPOSALS_FIXED, TWO_UNITS,
     TWO_UNITS_CHECK, TWO_UNITS_FIXED, TWO_UNITS_PLANNED, TWO_UNITS_REPORT, TWO_UNITS_SCHEDULE,
-    USUAL, USUAL_REPORT, USUAL_SCHEDULE, WINDOW, WINDOW_REPORT, WINDOW_SCHEDULE,
+    USUAL, USUAL_REPORT, USUAL_SCHEDULE, USUAL_SETTLED, WINDOW, WINDOW_REPORT, WINDOW_SCHEDULE,
 };
 use std::test::Fail;
 
@@ -202,4 +202,57 @@ fn audits_answer_as_worked(rt: HostRuntime) -> Result<(), Fail> {
     let text = b"fault 8 report 60 at 25\n".as_slice();
     runs_end(&rt, rt.alloc(), &[(&AUDIT, texts, (8, text))])?;
     Ok(runs_end(&rt, rt.alloc(), AUDITED)?)
+}
+
+// Prices for the usual case, with the end that is due. 10,000.0004 is read as 10,000, the highest
+// price, and -0.0005 as 0.
+const SETTLED: &[(&[u8], u8, &[u8])] = &[
+    (b"{\"energy\":[98]}", 0, USUAL_SETTLED),
+    (
+        b"{\"reserve\":[-0.0005],\"energy\":[9.8e1]}",
+        0,
+        USUAL_SETTLED,
+    ),
+    (b"[1,]", 9, b"fault 9 prices 10 at 3\n"),
+    (b"[]", 9, b"fault 9 prices 21 field whole item 0\n"),
+    (b"{}", 9, b"fault 9 prices 20 field energy item 0\n"),
+    (
+        b"{\"energy\":[98,98]}",
+        9,
+        b"fault 9 prices 25 field energy item 0\n",
+    ),
+    (
+        b"{\"energy\":[\"98\"]}",
+        9,
+        b"fault 9 prices 21 field energy item 1\n",
+    ),
+    (
+        b"{\"energy\":[10000.0005]}",
+        9,
+        b"fault 9 prices 24 field energy item 1\n",
+    ),
+    (
+        b"{\"energy\":[10000.0004],\"reserve\":null}",
+        9,
+        b"fault 9 prices 21 field reserve item 0\n",
+    ),
+    (
+        b"{\"energy\":[1],\"reserve\":[-0.0006]}",
+        9,
+        b"fault 9 prices 23 field reserve item 1\n",
+    ),
+];
+
+// No file has this name.
+const UNTOLD: [&str; 4] = ["settle", "--case=c", "--schedule=s", "--prices=t"];
+
+#[test]
+fn settlements_answer_as_worked(rt: HostRuntime) -> Result<(), Fail> {
+    for (prices, status, text) in SETTLED {
+        let texts = (USUAL, USUAL_SCHEDULE, *prices);
+        runs_end(&rt, rt.alloc(), &[(&SETTLE, texts, (*status, *text))])?;
+    }
+    let texts = (USUAL, USUAL_SCHEDULE, b"{}".as_slice());
+    let text = b"fault 2 read prices\n".as_slice();
+    Ok(runs_end(&rt, rt.alloc(), &[(&UNTOLD, texts, (2, text))])?)
 }

@@ -11,4 +11,5 @@ returns c words reads a b =
       fault = c.one_line_is_in_fault.ensures;
       right = c.one_report_is_right.ensures;
       difference = c.one_line_differs.ensures;
+      prices = c.one_prices.ensures;
     }) (words_of words) reads a b

@@ -11,5 +11,6 @@ returns g c words old new before after n h quiet =
       fault = c.one_line_is_in_fault.ensures;
       right = c.one_report_is_right.ensures;
       difference = c.one_line_differs.ensures;
+      prices = c.one_prices.ensures;
     } in
     (h.reads, h.are_reads, is_decided (words_of words) _ _ _ _ ones n h.reads h.end h.are_reads quiet h.ends h.status_is)
