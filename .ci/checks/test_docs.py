@@ -6,6 +6,7 @@ import shutil
 import subprocess
 import unittest
 
+import calls
 from built import ROOT
 
 PAGES = sorted(it for it in glob.glob(f"{ROOT}/**/*.md", recursive=True) if "/out/" not in it)
@@ -51,6 +52,45 @@ class Docs(unittest.TestCase):
         ]
         self.assertGreater(len(lines), 30)
         self.assertEqual([it for it in lines if it not in printed], [])
+
+    def test_crates_stand_in_three_groups(self):
+        groups = calls.groups()
+        self.assertEqual(list(groups), ["program", "laws", "tests"])
+        seen = set()
+        for group in groups.values():
+            for crate, on in group.items():
+                ours = {it for it in on if os.path.isdir(f"{ROOT}/crates/{it}")}
+                self.assertEqual(sorted(ours - seen), [], f"{crate} stands on crates that come after it")
+                seen.add(crate)
+        self.assertEqual(sorted(seen), sorted(os.listdir(f"{ROOT}/crates")))
+
+    def test_crates_name_what_they_stand_on(self):
+        for group in calls.groups().values():
+            for crate, on in group.items():
+                text = "".join(
+                    self.read(name)
+                    for part in ("src/**/*.rt", "specs/**/*.antt", "proofs/**/*.antt")
+                    for name in glob.glob(f"{ROOT}/crates/{crate}/{part}", recursive=True)
+                )
+                self.assertEqual([it for it in on if not re.search(rf"\b{it}\b", text)], [], crate)
+
+    def test_architecture_says_which_wing_each_crate_is_in(self):
+        wings = {"program": "program", "laws": "law", "tests": "test"}
+        due = {crate: wings[name] for name, group in calls.groups().items() for crate in group}
+        told = {}
+        for line in self.read(f"{ROOT}/docs/ARCHITECTURE.md").split("\n"):
+            row = re.match(r"\| (`\w+`(?:, `\w+`)*) \| (program|law|test) \|", line)
+            if row:
+                told.update({crate: row.group(2) for crate in re.findall(r"\w+", row.group(1))})
+        self.assertEqual(told, due)
+
+    def test_architecture_says_how_long_the_longest_chain_is(self):
+        program = calls.groups()["program"]
+        depth = {}
+        for crate, on in program.items():
+            depth[crate] = 1 + max([depth[it] for it in on if it in program], default=0)
+        told = re.search(r"longest chain has (\d+) crates", self.read(f"{ROOT}/docs/ARCHITECTURE.md"))
+        self.assertEqual(int(told.group(1)), depth["hull_cli"])
 
     def test_manual_page_shows_without_a_warning(self):
         if not shutil.which("man"):
