@@ -11,7 +11,6 @@ from dataclasses import dataclass
 
 import numpy as np
 
-from .costs import Costs
 from .master import LIMIT, Columns, Master, Singles
 from .mixtures import Entry, Mixture
 from .prices import Prices, prices_near
@@ -106,27 +105,24 @@ class Search:
         """The best prices, and the mixture of the best master problem with the bound that it proves: by `hull certify`, or by our own
         reckoning where that is None."""
         _, columns, shares = best
-        mixture = self.mixture(columns, shares)
-        if certify is not None:
-            bound = certify(self.best, mixture).bound
-        else:
-            costs = Costs()
-            rows = [costs.of_plan(it, entry.plan) for it in self.case.thermal for entry in mixture.thermal[it.name]]
-            bound = mixture.bound(self.case, rows, self.best)
+        mixture, costs = self.mixture(columns, shares)
         by = certify is not None
+        bound = certify(self.best, mixture).bound if by else mixture.bound(self.case, costs, self.best)
         return Found(self.best, mixture, self.best_value, bound, self.payments, self.calls, ended, by)
 
     def mixture(self, columns, shares):
-        """The shares of columns as whole weights."""
-        rows = [[] for _ in self.case.thermal]
+        """The shares of columns as whole weights, and what each entry costs."""
+        rows, costs = [[] for _ in self.case.thermal], [[] for _ in self.case.thermal]
         for it, share in zip(columns, shares):
             weight = int(round(max(0.0, share) * PARTS))
             if weight:
                 rows[it.unit].append(Entry(weight, it.plan))
+                costs[it.unit].append(it.cost)
         for entries in rows:
             largest = max(entries, key=lambda it: it.weight)
             largest.weight += PARTS - sum(it.weight for it in entries)
-        return Mixture(PARTS, {unit.name: entries for unit, entries in zip(self.case.thermal, rows)})
+        mixture = Mixture(PARTS, {unit.name: entries for unit, entries in zip(self.case.thermal, rows)})
+        return mixture, [it for row in costs for it in row]
 
 
 def singles_of(case):
