@@ -167,6 +167,10 @@ def kind_due(key, kind):
     return "an object" if key == "whole" or key in GROUPS.values() else "a number"
 
 
+# Keys that only a file of another kind has.
+OF_OTHERS = {"case": ("thermal", "energy"), "prices": ("thermal", "time_periods")}
+
+
 def told_field(files, what, code, key, kind, number, item):
     """A fault of a field of the case or of the prices."""
     path = [] if key == "whole" else [key]
@@ -184,7 +188,8 @@ def told_field(files, what, code, key, kind, number, item):
     place = f", item {item}" if item else ""
     count = f"; it has {len(listed)} items" if code in (25, 33) and isinstance(listed, list) else ""
     value = f" Found: {written(found)}{count}." if code != 20 and found is not None else ""
-    return f"{where}{'the whole' if key == 'whole' else key}{place}: {FIELDS[code].format_map(Known(known))}.{value}"
+    swapped = " Are the files swapped?" if code == 20 and any(files.at(what, it) is not None for it in OF_OTHERS[what]) else ""
+    return f"{where}{'the whole' if key == 'whole' else key}{place}: {FIELDS[code].format_map(Known(known))}.{value}{swapped}"
 
 
 class Known(dict):
@@ -213,6 +218,8 @@ def told_shape(files, what, code, kind, number, item, entry=None):
     swapped = ""
     if code == 42 and kind == "case" and files.at(what, "time_periods") is not None:
         swapped = " Are the files swapped? This one is a case."
+    if code == 43:
+        swapped = " Powers are whole kilowatts: are these megawatts?"
     known = dict(who=name, item=item, found=found, file=files.names.get(what, f"the {what}"), periods=written(files.at("case", "time_periods")))
     return SHAPES[code].format_map(Known(known)) + "." + swapped
 

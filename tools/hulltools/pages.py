@@ -220,7 +220,7 @@ def nearness(priced, certificate):
     if certificate is None:
         return (
             f"Payments and surplus are {gap} together. How much of that other prices could save isn't said by this text: "
-            "a certificate of `hull certify` says it."
+            "`tools/convex_prices.py` reckons it."
         )
     if (certificate.cost, certificate.value) != (priced.cost, priced.best.value):
         raise Wrong(f"{certificate.name}: this certificate is of other prices or of another schedule")
