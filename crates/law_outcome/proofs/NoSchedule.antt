@@ -1,14 +1,15 @@
 -- Where a schedule is refused, no feasible one is in its file.
 use Rattle.law_outcome.proofs.Common.{◌≡◌, ℕ, ◌≤◌, ◌⊎◌, inl, inr, Bool, true, false, List, Option, None, Some, Result, Ok, Err, refl, sym, ap, ◌∙◌, subst, arith, length, nat_lt, if◌then◌else◌, ltb-true, Market, Schedule, IsFeasiblePlan, plan_cost, MOST_BYTES, CaseFile, ScheduleFile, TopFault, TooBig, CaseText, CaseField, Words, Read, Asked, check, price, try, bound, fixed, audit, settle, words_of, WordFault, End, done_whole, Cut, Refused, Reads, PlannedCase, bytes_of, Then, IsBytes, IsCaseFile, IsPlanFile, IsChecked, IsInput, status_of, fault_line, command_for, AreReads, Ends, status_at, OverReads}
 use Rattle.uc_case.specs.Files.{text, value}
-use Rattle.uc_case.specs.Laws.{OneCase}
+use Rattle.uc_case.specs.Laws.{CasesAreWithin, OneCase}
 use Rattle.uc_model.specs.Laws.{RefusalsAreExact}
+use Rattle.uc_model.specs.Limits.{IsMarket}
 use Rattle.uc_model.specs.PlanLaws.{FeasiblePlansHaveShape}
 use Rattle.uc_plan.specs.Laws.{OnePlan}
 use Rattle.uc_plan.specs.PlanFiles.{IsPlanOf}
 use Rattle.law_outcome.specs.Laws.{HasNoFeasibleSchedule}
 use Rattle.law_outcome.proofs.OneDue.{one_input}
-use Rattle.law_outcome.proofs.OutcomeLaws.{same_fault, bytes_fault, work_fault, audit_fault, priced_fault}
+use Rattle.law_outcome.proofs.OutcomeLaws.{case_found, same_fault, bytes_fault, work_fault, audit_fault, priced_fault}
 
 -- the fault of a case isn't one of a schedule
 case_is_read : (reads : Reads) (f : TopFault) → IsCaseFile (reads CaseFile) (Err f) → status_of f ≡ 4 → ⊥
@@ -75,7 +76,12 @@ there : (m : Market) (read : Option (List ℕ)) (f : TopFault) → Then (IsPlanF
 there m None f refused z = absurd (not_unread m f refused z)
 there m (Some bytes) f refused z = (bytes, refl)
 
-module _ (case : OneCase) (plan : OnePlan) (exact : RefusalsAreExact) (shape : FeasiblePlansHaveShape) where
+-- the case of a file keeps the limits of one
+within_limits : CasesAreWithin → (read : Option (List ℕ)) (m : Market) → IsCaseFile read (Ok m) → IsMarket m
+within_limits within read m (Ok bytes, is, found) = within bytes m (case_found m bytes found)
+within_limits within read m (Err g, is, e) = absurd cc
+
+module _ (case : OneCase) (within : CasesAreWithin) (plan : OnePlan) (exact : RefusalsAreExact) (shape : FeasiblePlansHaveShape) where
   -- over such reads another input would be accepted
   none_there : (reads : Reads) (f : TopFault) → IsInput reads (Err f) → (m : Market) → IsCaseFile (reads CaseFile) (Ok m) → (bytes : List ℕ) → reads ScheduleFile ≡ Some bytes → length bytes ≤ MOST_BYTES
       → (p : List Schedule) → IsPlanOf m bytes (Ok p) → IsFeasiblePlan m p → ⊥
@@ -98,6 +104,7 @@ module _ (case : OneCase) (plan : OnePlan) (exact : RefusalsAreExact) (shape : F
         written = lines;
         market = m;
         is_case = is_case;
+        limits = within_limits within (reads CaseFile) m is_case;
         bytes = file.0;
         is_read = file.1;
         none = none_there reads f (Ok m, is_case, more) m is_case file.0 file.1;

@@ -1,5 +1,5 @@
 -- Two runs of the same words over the same bytes print the same.
-use Rattle.law_outcome.proofs.Common.{◌≡◌, ℕ, ◌⊎◌, inl, inr, List, Option, None, Some, Result, Ok, Err, refl, sym, ap, ◌∙◌, subst, arith, IfSome, Asked, check, price, try, bound, fixed, audit, settle, status_of, fault_line, CaseFile, ScheduleFile, ReportFile, PricesFile, TopFault, End, Done, Cut, Refused, Reads, Then, IsCaseFile, IsPlanFile, IsChecked, IsInput, IsWithinWork, IsReportFile, IsJudged, IsPricesFile, IsAuditText, IsSettlementText, Market, Schedule, Report, PriceLists, PlannedCase, command_for, IsReadOf, AreReads, HasText, Ends, status_at, with_workers, TellTheSame, BytesAreThoseRead, ReportBytesAreItsText, report_text}
+use Rattle.law_outcome.proofs.Common.{◌≡◌, ℕ, inl, inr, List, Option, None, Some, Result, Ok, Err, refl, sym, ap, ◌∙◌, subst, arith, IfSome, Asked, check, price, try, bound, fixed, audit, settle, status_of, fault_line, CaseFile, ScheduleFile, ReportFile, PricesFile, TopFault, End, Done, Cut, Refused, Reads, Then, IsCaseFile, IsPlanFile, IsChecked, IsInput, IsWithinWork, IsReportFile, IsJudged, IsPricesFile, IsAuditText, IsSettlementText, Report, PriceLists, PlannedCase, command_for, IsReadOf, AreReads, HasText, Ends, status_at, with_workers, TellTheSame, BytesAreThoseRead, ReportBytesAreItsText, report_text}
 use Rattle.hull_report.specs.declared.fault.FileKind.{FileKind}
 use Rattle.law_outcome.proofs.OutcomeLaws.{status_within, same_fault, InputParts, input_parts}
 use Rattle.law_outcome.proofs.SettlePromise.{prices_parts}
@@ -11,7 +11,7 @@ abbrev InputOf : Option (List ℕ) → Option (List ℕ) → Result PlannedCase 
 InputOf case plan = Then (IsCaseFile case) (λ m. Then (IsPlanFile m plan) (IsChecked m))
 
 abbrev AuditOf : Option (List ℕ) → PlannedCase → Result PlannedCase TopFault → Type 0
-AuditOf read c = Then (IsReportFile read) (λ r. Then (IsWithinWork r.budget c) (IsJudged r c))
+AuditOf read c = Then (IsReportFile read) (λ r. Then (IsWithinWork r.budget c) (IsJudged r))
 
 abbrev PricedOf : Option (List ℕ) → PlannedCase → Result PlannedCase TopFault → Type 0
 PricedOf read c = Then (IsPricesFile c.market.periods read) (λ π due. due ≡ Ok c)

@@ -1,12 +1,12 @@
 -- What is promised of a settlement at given prices.
-use Rattle.law_outcome.proofs.Common.{◌≡◌, ℕ, ℤ, ◌<◌, ◌≤◌, ◌⊎◌, inl, inr, Bool, true, false, List, Option, None, Some, Result, Ok, Err, refl, sym, ap, ◌∙◌, subst, arith, length, nat_lt, if◌then◌else◌, ltb-true, MOST_BYTES, PriceLists, Asked, SettleAsked, settle, WordFault, status_of, fault_line, CaseFile, ScheduleFile, PricesFile, TopFault, TooBig, End, Done, Cut, Refused, Reads, bytes_of, IsInput, IsPricesFile, IsPriced, PlannedCase, command_for, IsReadOf, AreReads, with_prices, HasText, Ends, status_at, OverReads, IsSettlePromised, IsSettleRefused, BytesAreThoseRead, SettlementsAddUp, prices_fault}
+use Rattle.law_outcome.proofs.Common.{◌≡◌, ℕ, ℤ, ◌<◌, ◌⊎◌, inl, inr, Bool, true, false, List, Option, None, Some, Result, Ok, Err, refl, sym, ap, ◌∙◌, subst, arith, length, nat_lt, if◌then◌else◌, ltb-true, MOST_BYTES, PriceLists, Asked, SettleAsked, settle, WordFault, status_of, fault_line, CaseFile, ScheduleFile, PricesFile, TopFault, TooBig, End, Done, Cut, Refused, Reads, bytes_of, IsInput, IsPricesFile, PlannedCase, command_for, IsReadOf, AreReads, with_prices, HasText, Ends, status_at, OverReads, IsSettlePromised, IsSettleRefused, BytesAreThoseRead, SettlementsAddUp, prices_fault}
 use Rattle.uc_case.specs.Files.{text, value}
 use Rattle.uc_prices.specs.PricesFiles.{IsPricesOf}
 use Rattle.report_form.specs.SettlementText.{settlement_text}
 use Rattle.hull_report.specs.SettledText.{settlement_of}
 use Rattle.hull_report.specs.declared.fault.FileKind.{FileKind}
 use Rattle.uc_model.specs.Laws.{ReserveFrom0}
-use Rattle.uc_prices.specs.Laws.{PricesHaveForm}
+use Rattle.uc_prices.specs.Laws.{OnePrices, PricesHaveForm}
 use Rattle.law_outcome.proofs.OutcomeLaws.{status_within, same_fault, bytes_fault, input_fault, accepted_is_feasible, InputParts, input_parts}
 
 -- the bytes of prices that were read
@@ -74,7 +74,7 @@ too_many file (Some bytes) e = (bytes, refl, ltb-true MOST_BYTES (length bytes) 
     long true e = refl
     long false e = absurd cc
 
-module _ (got : BytesAreThoseRead) (a : SettleAsked) (gained short : List ℕ → Type 0) (reads : Reads) (f : TopFault) (lines : gained (fault_line f) ⊎ short (fault_line f))
+module _ (got : BytesAreThoseRead) (one : OnePrices) (a : SettleAsked) (gained short : List ℕ → Type 0) (reads : Reads) (f : TopFault) (lines : gained (fault_line f) ⊎ short (fault_line f))
     (nine : status_of f ≡ 9) (due_f : (command_for (Ok (settle a))).IsDue reads (Err f)) where
   abbrev IsSo : Type 0
   IsSo = (i : PlannedCase) × IsSettleRefused (command_for (Ok (settle a))) gained short reads i
@@ -92,6 +92,7 @@ module _ (got : BytesAreThoseRead) (a : SettleAsked) (gained short : List ℕ �
       bytes = bytes;
       is_read = got PricesFile (reads PricesFile) bytes is;
       cause = inr (first, found, same_fault f (prices_fault first) e);
+      none = λ fits π other. let same = one i.market.periods bytes (Err first) (Ok π) found other in absurd cc;
     },
   )
   of_file i input (Err g, is, e) =
@@ -110,6 +111,7 @@ module _ (got : BytesAreThoseRead) (a : SettleAsked) (gained short : List ℕ �
                 bytes = many.0;
                 is_read = many.1;
                 cause = inl (many.2, big);
+                none = λ fits π other. let long = many.2 in omega (arith, fits, long);
               },
             )
       ]
@@ -129,7 +131,7 @@ module _ (got : BytesAreThoseRead) (a : SettleAsked) (gained short : List ℕ �
 
 -- ---- both
 
-module _ (got : BytesAreThoseRead) (add_up : SettlementsAddUp) (form : PricesHaveForm) (a : SettleAsked) (told : List ℕ → Option (List ℕ)) (rose gained short : List ℕ → Type 0) where
+module _ (got : BytesAreThoseRead) (add_up : SettlementsAddUp) (form : PricesHaveForm) (one : OnePrices) (a : SettleAsked) (told : List ℕ → Option (List ℕ)) (rose gained short : List ℕ → Type 0) where
   abbrev Promise : Result Asked WordFault → ℕ → Type 0
   Promise w n =
       (n ≡ 0 → IsSettlePromised a told gained)
@@ -140,7 +142,7 @@ module _ (got : BytesAreThoseRead) (add_up : SettlementsAddUp) (form : PricesHav
   settled n reads Cut are ends is = (λ z. absurd (omega (arith, is, z)), λ z. absurd (omega (arith, is, z)))
   settled n reads (Refused f) are (inl due, lines) is = (
     λ z. absurd (omega (arith, is, z, (status_within f).0)),
-    λ z. (reads, are, settle_refused got a gained short reads f lines (sym is ∙ z) due),
+    λ z. (reads, are, settle_refused got one a gained short reads f lines (sym is ∙ z) due),
   )
   settled n reads (Refused f) are (inr memory, lines) is =
       let seven : n ≡ 7 = is ∙ ap status_of memory in (

@@ -8,6 +8,7 @@ use Rattle.std.specs.Prelude.{◌≡◌, ◌≢◌, ◌⊎◌, ℕ, ◌<◌, ◌
 use Rattle.std.specs.Prelude.{Option, None, Some, Result, Ok, Err, IsTrue, IfSome, IsSome, ℤ, ◌-◌}
 use Rattle.std.specs.Prelude.{pos, ◌≤ℤ◌, length, slice_get, unsigned_abs}
 use Rattle.uc_model.specs.Data.{Market, PriceLists, Schedule}
+use Rattle.uc_model.specs.Limits.{IsMarket}
 use Rattle.uc_model.specs.PriceRule.{Proposal}
 use Rattle.uc_model.specs.Systems.{IsFeasiblePlan, plan_cost}
 use Rattle.uc_case.specs.CaseFiles.{IsCaseOf}
@@ -137,8 +138,8 @@ pub record FollowsFromWords (words : Result Asked WordFault) (gained short : Lis
 -- ---- what the status of a refused schedule promises
 
 -- THE PROMISE of 4: the line of a fault that is due was written, as far as the sink took it; the
--- case's file is a case; and the schedule's file has more than 67,108,864 bytes, or no feasible
--- schedule of the case is in it.
+-- case's file is a case, which keeps the limits of one; and the schedule's file has more than
+-- 67,108,864 bytes, or no feasible schedule of the case is in it.
 pub record HasNoFeasibleSchedule (c : Command) (gained short : List ℕ → Type 0)
     (reads : Reads) : Type 0 where
   pub fault : TopFault
@@ -147,6 +148,7 @@ pub record HasNoFeasibleSchedule (c : Command) (gained short : List ℕ → Type
   pub written : gained (fault_line fault) ⊎ short (fault_line fault)
   pub market : Market
   pub is_case : IsCaseFile (reads CaseFile) (Ok market)
+  pub limits : IsMarket market
   pub bytes : List ℕ
   pub is_read : reads ScheduleFile ≡ Some bytes
   pub none : length bytes ≤ MOST_BYTES → (plan : List Schedule) → IsPlanOf market bytes (Ok plan) →
@@ -278,10 +280,10 @@ pub record IsAuditRefused (c : Command) (gained short : List ℕ → Type 0) (re
   pub never : (line : ℕ) → fault ≡ Unfit 61 line → (r : Report) →
       IsRightReport i.market i.plan r.budget r.ahead r → bytes ≡ report_text r → ⊥
 
--- THE PROMISE of `hull settle`, where it answers 0: there are bytes of the case, of the schedule and
--- of the prices, those that are told where any are; they are a case, a feasible schedule of it, and
--- prices over its periods; and what was printed is the text of what the schedule is settled at, at
--- these prices: with their exact dual value, and of each unit the least of its best responses.
+-- THE PROMISE of `hull settle`, where it answers 0: there are bytes of the case, of the schedule
+-- and of the prices, those that are told where any are; they are a case, a feasible schedule of it,
+-- and prices over its periods; and what was printed is the text of what the schedule is settled at,
+-- at these prices: with their exact dual value, and of each unit the least of its best responses.
 -- Payments and surplus make up what the dual value lacks of the cost, and none of them is below 0.
 pub record IsSettlePromised (a : SettleAsked) (told : List ℕ → Option (List ℕ))
     (gained : List ℕ → Type 0) : Type 0 where
@@ -304,8 +306,8 @@ pub record IsSettlePromised (a : SettleAsked) (told : List ℕ → Option (List 
   pub printed : gained (settlement_text (settlement_of market (plan_cost market plan) settlement))
 
 -- And where it answers 9, over an accepted input: the line of a fault that is due was written, as
--- far as the sink took it. The prices file has more than 67,108,864 bytes; or the fault is the first
--- of the file, and it has no prices over the periods of the case.
+-- far as the sink took it. The prices file has more than 67,108,864 bytes; or the fault is the
+-- first of the file. Unless its bytes are too many, it has no prices over the periods of the case.
 pub record IsSettleRefused (c : Command) (gained short : List ℕ → Type 0) (reads : Reads)
     (i : PlannedCase) : Type 0 where
   pub fault : TopFault
@@ -318,6 +320,8 @@ pub record IsSettleRefused (c : Command) (gained short : List ℕ → Type 0) (r
   pub cause : (MOST_BYTES < length bytes × (fault ≡ TooBig PricesFile))
       ⊎ (first : FileFault PriceFault) × IsPricesOf i.market.periods bytes (Err first)
       × (fault ≡ prices_fault first)
+  pub none : length bytes ≤ MOST_BYTES → (prices : PriceLists) →
+      IsPricesOf i.market.periods bytes (Ok prices) → ⊥
 
 -- ---- how many workers there are
 

@@ -1,9 +1,9 @@
 //! Laws over runs: each is the contract of a function that answers nothing. They follow from
 //! `IsOutcome`, which `hull_engine::hull_run` ensures of its run.
-ghost use Rattle.law_outcome.specs.Laws.{OneDue, OneText, AcceptedIsFeasible, EachStatusHasItsCause};
-ghost use Rattle.law_outcome.specs.Laws.{WhatWasReadDecides, WordsFollow};
-ghost use Rattle.law_outcome.specs.Laws.{RefusedSchedulesAreInfeasible};
-ghost use Rattle.law_outcome.specs.Laws.{ReportsAreRight, BoundsHold, BothGapsAreMadeUp, AuditsHold};
+ghost use Rattle.law_outcome.specs.Laws.{OneDue, OneText, AcceptedIsFeasible};
+ghost use Rattle.law_outcome.specs.Laws.{EachStatusHasItsCause, WhatWasReadDecides, WordsFollow};
+ghost use Rattle.law_outcome.specs.Laws.{RefusedSchedulesAreInfeasible, ReportsAreRight};
+ghost use Rattle.law_outcome.specs.Laws.{BoundsHold, BothGapsAreMadeUp, AuditsHold};
 ghost use Rattle.law_outcome.specs.Laws.{SettlementsHold, WorkersAreFree, RunsPrintTheSame};
 
 use gap_proof::laws::{run_bounds_hold, run_prices_are_within};
@@ -17,7 +17,7 @@ use right_report::laws::{
     one_report_is_right, one_row_is_chosen, one_side_is_right, report_payments_make_up_the_gap,
     right_report_has_form, side_payments_make_up_the_gap,
 };
-use uc_case::laws::one_case;
+use uc_case::laws::{cases_are_within, one_case};
 use uc_model::laws::{feasible_plans_have_shape, nothing_is_paid_back};
 use uc_plan::laws::one_plan;
 use uc_prices::laws::{one_prices, prices_have_form};
@@ -78,12 +78,13 @@ pub fn words_follow<F: Shelf, S: Sink>()
     ensures { WordsFollow F.told F.faults F.last S.held S.faults S.last }
 {}
 
-/// What a command promises where it answers 4: the case's file is a case, and the schedule's has too
-/// many bytes, or no feasible schedule of the case is in it.
+/// What a command promises where it answers 4: the case's file is a case within the limits, and the
+/// schedule's has too many bytes, or no feasible schedule of the case is in it.
 pub fn refused_schedules_are_infeasible<F: Shelf, S: Sink>()
     ensures { RefusedSchedulesAreInfeasible F.told F.faults F.last S.held S.faults S.last }
 {
     one_case();
+    cases_are_within();
     one_plan();
     refusals_are_exact();
     feasible_plans_have_shape();
@@ -148,13 +149,14 @@ pub fn workers_are_free()
 /// What `hull settle` promises: where it answers 0, what it prints is what the schedule is settled
 /// at, at the prices of the file, and payments and surplus sum to the cost of the schedule less the
 /// dual value, none of them below 0; where it answers 9, the file has too many bytes, or the fault
-/// is its first.
+/// is its first and no prices over the periods are in it.
 pub fn settlements_hold<F: Shelf, S: Sink>()
     ensures { SettlementsHold F.told F.faults F.last S.held S.faults S.last }
 {
     bytes_are_those_read();
     settlements_add_up();
     prices_have_form();
+    one_prices();
 }
 
 /// Two runs of the same words but for the number of workers, over shelves that tell the same of the

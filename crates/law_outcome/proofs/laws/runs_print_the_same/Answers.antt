@@ -1,6 +1,5 @@
 use Rattle.law_outcome.proofs.Common.{◌≡◌, ℕ, List, Option, Result, Ok, subst, inl, inr, Asked, WordFault, words_of, command_for, Reads, PlannedCase, TopFault, AreReads, Ends, IsQuiet}
 use Rattle.hull_engine.specs.Outcome.{IsOutcome}
-use Rattle.hull_report.specs.declared.fault.FileKind.{FileKind}
 use Rattle.law_outcome.proofs.SameOutput.{Shows, free_shows, free_quiet, same_at_0, same_at_8}
 use Rattle.law_outcome.proofs.laws.runs_print_the_same.Goals as goal
 
@@ -27,7 +26,7 @@ returns g c words words_other a workers old new before after n old_other new_oth
     elim at [
       | inl zeros ↦ same_at_0 got read a due text _ _ tell _ _ _ _ _ _ n n_other s t zeros.0 zeros.1
       | inr eights ↦
-          let quiet = still (words_of words) a _ _ _ _ same eights.2.0 in
-          let quiet_other = still (words_of words_other) _ _ _ _ _ same_other eights.2.1 in
+          let quiet = still (words_of words) a _ _ _ _ same eights.2 in
+          let quiet_other = still (words_of words_other) _ _ _ _ _ same_other eights.3 in
           same_at_8 got read a due text _ _ tell _ _ _ _ _ _ n n_other s t eights.0 eights.1 quiet.shelf (free_quiet a workers _ quiet_other.shelf) quiet.sink quiet_other.sink
     ]
