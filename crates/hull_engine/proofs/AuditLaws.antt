@@ -1,5 +1,5 @@
 -- The steps of an audit, one after another.
-use Rattle.hull_engine.proofs.Common.{◌≡◌, ℕ, inl, inr, List, Option, Some, Result, Ok, Err, refl, sym, subst, ap, ◌∙◌, Report, report_text, ReportFile, TopFault, IsAuditText, IsFaultOf, Then, Reads, IsInput, IsWithinWork, IsReportFile, IsAudit, PlannedCase, Completes, command_for, audit, audit_asked, rest_with, report_of}
+use Rattle.hull_engine.proofs.Common.{◌≡◌, ℕ, inl, inr, List, Option, Some, Ok, Err, refl, sym, subst, ap, ◌∙◌, Report, report_text, ReportFile, TopFault, IsAuditText, IsFaultOf, Then, Reads, IsInput, IsWithinWork, IsReportFile, IsAudit, PlannedCase, Completes, command_for, audit, audit_asked, rest_with, report_of}
 use Rattle.hull_words.specs.declared.command.AuditWords.{AuditWords}
 use Rattle.report_read.specs.declared.report.Report.{Report as ReadReport}
 use Rattle.hull_engine.specs.declared.ready.Task.TheVariants.{Audit}

@@ -1,5 +1,5 @@
 -- The end of a run is its outcome.
-use Rattle.hull_engine.proofs.Common.{◌≡◌, ℕ, ◌≤◌, List, Option, Result, Ok, Err, inl, inr, refl, sym, subst, Gains, FallsShort, Asked, WordFault, TopFault, Words, Memory, Reads, PlannedCase, Command, command_for, Ends, HasText, HasStatus, IsFaultOf, IsCommandAnswer, IsEndOf, IsReportText, Report, report_text, rest_with, nothing_read, IsPrepared, words_of}
+use Rattle.hull_engine.proofs.Common.{◌≡◌, ℕ, ◌≤◌, List, Option, Result, Ok, Err, inl, inr, refl, sym, subst, Gains, FallsShort, Asked, WordFault, TopFault, Words, Memory, Reads, PlannedCase, Command, command_for, Ends, HasStatus, IsFaultOf, IsCommandAnswer, IsEndOf, IsReportText, report_text, rest_with, nothing_read, IsPrepared, words_of}
 use Rattle.hull_engine.specs.declared.answer.Answer.{Answer}
 use Rattle.hull_engine.specs.declared.end.End.{End}
 use Rattle.hull_engine.specs.declared.end.End.TheVariants.{Done, Cut, Refused}

@@ -67,6 +67,7 @@ abbrev pub two_reads : (case_read schedule_read : Option (List ℕ)) → Reads
 two_reads case_read schedule_read CaseFile = case_read
 two_reads case_read schedule_read ScheduleFile = schedule_read
 two_reads case_read schedule_read ReportFile = None
+two_reads case_read schedule_read PricesFile = None
 
 pub are_two_reads : (told : List ℕ → Option (List ℕ)) (rose : List ℕ → Type 0) (case_name schedule_name : List ℕ) (case_read schedule_read : Option (List ℕ))
     → IsReadOf (told case_name) (rose case_name) case_read → IsReadOf (told schedule_name) (rose schedule_name) schedule_read

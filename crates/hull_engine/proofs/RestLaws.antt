@@ -1,5 +1,5 @@
 -- A run that is ready completes its command.
-use Rattle.hull_engine.proofs.Common.{◌≡◌, ℕ, List, Result, Ok, Err, refl, sym, subst, report_text, try_text, TopFault, RunInput, RunSize, planned_of, PlannedCase, IsReportText, IsBoundText, IsFixedText, IsInput, IsWithinWork, IsMade, Then, Reads, Completes, Ends, HasText, Command, command_for, price, try, bound, fixed, price_asked, try_asked, bound_asked, size_asked, rest_with, nothing_read, inl, inr}
+use Rattle.hull_engine.proofs.Common.{◌≡◌, ℕ, List, Ok, Err, sym, subst, report_text, try_text, RunInput, RunSize, planned_of, PlannedCase, IsReportText, IsBoundText, IsFixedText, IsInput, IsWithinWork, IsMade, Then, Reads, Completes, Ends, HasText, Command, command_for, price, try, bound, fixed, price_asked, try_asked, bound_asked, size_asked, rest_with, nothing_read, inl, inr}
 use Rattle.hull_words.specs.declared.command.PriceWords.{PriceWords}
 use Rattle.hull_words.specs.declared.command.TryWords.{TryWords}
 use Rattle.hull_words.specs.declared.command.BoundWords.{BoundWords}

@@ -1,5 +1,5 @@
 -- The steps of a settlement at given prices, one after another.
-use Rattle.hull_engine.proofs.Common.{◌≡◌, inl, inr, List, Result, Ok, Err, refl, sym, subst, ap, market_of, schedules_of, PricesFile, TopFault, IsFaultOf, Then, Reads, IsInput, IsPricesFile, IsPriced, planned_of, PlannedCase, IsCommandAnswer, command_for, settle, settle_asked}
+use Rattle.hull_engine.proofs.Common.{◌≡◌, inl, inr, Ok, Err, refl, subst, market_of, schedules_of, PricesFile, TopFault, IsFaultOf, Then, Reads, IsInput, IsPricesFile, IsPriced, planned_of, PlannedCase, IsCommandAnswer, command_for, settle, settle_asked}
 use Rattle.uc_model.specs.Data.{PriceLists}
 use Rattle.hull_words.specs.declared.command.SettleWords.{SettleWords}
 use Rattle.hull_report.specs.SettledText.{settlement_of}

@@ -8,7 +8,7 @@ use Rattle.hull_report.specs.CheckText.{check_text}
 use Rattle.hull_report.specs.FaultLines.{fault_line}
 use Rattle.right_report.specs.RightSide.{told_of}
 use Rattle.hull_report.specs.FixedText.{fixed_text}
-use Rattle.report_form.specs.ReportText.{Report, report_text}
+use Rattle.report_form.specs.ReportText.{Report}
 use Rattle.hull_report.specs.SettledText.{settlement_of}
 use Rattle.report_form.specs.SettlementText.{settlement_text}
 use Rattle.hull_report.specs.TryText.{try_text}

@@ -1,4 +1,4 @@
-use Rattle.hull_engine.proofs.Common.{◌≡◌, subst, texts, words_of, command_for, planned_of}
+use Rattle.hull_engine.proofs.Common.{texts, words_of, command_for, planned_of}
 use Rattle.hull_engine.proofs.Lemmas.{ends_of_rest}
 use Rattle.hull_engine.proofs.hull_run.Goals as goal
 

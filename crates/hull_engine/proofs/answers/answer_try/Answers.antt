@@ -1,4 +1,5 @@
-use Rattle.hull_engine.proofs.Common.{inr, refl, ◌∙◌, err_from_is_err_and, try_text, planned_of}
+use Rattle.hull_engine.proofs.Common.{inr, refl, sym, subst, ◌∙◌, err_from_is_err_and, try_text, planned_of, IsEnded}
+use Rattle.board_history.specs.Board.{Setup}
 use Rattle.hull_engine.proofs.Lemmas.{run_texts}
 use Rattle.hull_engine.proofs.answers.answer_try.Goals as goal
 
@@ -15,4 +16,4 @@ returns-clause-answers g c = (
 )
 
 pub returns-clause-answered : goal.returns-clause-answered
-returns-clause-answered g c = rw c.run_board.ensures.setup c.run_board.ensures
+returns-clause-answered g c = subst (λ (b : Setup). IsEnded b c.run_board.result) (sym c.run_board.ensures.setup) c.run_board.ensures

@@ -1,27 +1,34 @@
-use Rattle.hull_engine.proofs.Common.{refl, ◌∙◌, planned_of, report_text}
+use Rattle.hull_engine.proofs.Common.{refl, ◌∙◌, planned_of, report_text, Gains, FallsShort, rest_with, nothing_read, Err, Memory}
 use Rattle.right_report.specs.RecordReport.{report_of}
+use Rattle.hull_engine.specs.declared.ready.Task.TheVariants.{Price}
 use Rattle.hull_engine.proofs.Lemmas.{run_texts, price_done, price_cut, done_status, cut_status, starved_ends}
 use Rattle.hull_engine.proofs.end.finish_price.Goals as goal
 
 pub returns-then-status-eq0 : goal.returns-then-status-eq0
 returns-then-status-eq0 g c =
     let run = c.args.run in
-    let e = c.finish_run.ensures in
+    let e = c.finish_run-status.ensures in
     let h = e.report in
-    let closed = c.finish_run.result.1 in
-    let text = report_text (report_of closed h.0) in
-    let is = run_texts report_text run closed.setup run.size.budget run.size.ahead (e.setup ∙ c.in-Ok.ensures) refl refl text (report_of closed h.0, c.record_report_is_right.ensures closed h.0 h.1 h.2, refl) in
-    price_done (planned_of run.input) run.size.budget run.size.ahead _ _ text is (done_status _ _ _ h.3 c.if-status-eq0.true)
+    let closed = c.finish_run-status.result.1 in
+    let right = report_of closed h.0 in
+    let is = run_texts report_text run closed.setup run.size.budget run.size.ahead (e.setup ∙ c.in-Ok.ensures) refl refl (report_text right) (right, c.record_report_is_right.ensures closed h.0 h.1 h.2, refl) in
+    price_done (planned_of run.input) run.size.budget run.size.ahead _ (FallsShort g.S.Sink.held g.S.Sink.faults g.S.Sink.last c.args.out.now c.finish_run-status.new.out) (report_text right) is
+    (done_status _ _ _ h.3 c.if-status-eq0.true)
 
-pub returns-else-status-eq0 : goal.returns-else-status-eq0
-returns-else-status-eq0 g c =
+pub returns-in-Ok : goal.returns-in-Ok
+returns-in-Ok g c =
     let run = c.args.run in
-    let e = c.finish_run.ensures in
+    let e = c.finish_run-status.ensures in
     let h = e.report in
-    let closed = c.finish_run.result.1 in
-    let text = report_text (report_of closed h.0) in
-    let is = run_texts report_text run closed.setup run.size.budget run.size.ahead (e.setup ∙ c.in-Ok.ensures) refl refl text (report_of closed h.0, c.record_report_is_right.ensures closed h.0 h.1 h.2, refl) in
-    price_cut (planned_of run.input) run.size.budget run.size.ahead _ _ text is (cut_status _ _ _ h.3 c.if-status-eq0.false)
+    let closed = c.finish_run-status.result.1 in
+    let right = report_of closed h.0 in
+    let is = run_texts report_text run closed.setup run.size.budget run.size.ahead (e.setup ∙ c.in-Ok.ensures) refl refl (report_text right) (right, c.record_report_is_right.ensures closed h.0 h.1 h.2, refl) in
+    price_cut (planned_of run.input) run.size.budget run.size.ahead (Gains g.S.Sink.held g.S.Sink.faults c.args.out.now c.finish_run-status.new.out) _ (report_text right) is
+    (cut_status _ _ _ h.3 c.if-status-eq0.false)
 
-pub returns-in-Err : goal.returns-in-Err
-returns-in-Err g c = starved_ends _ _ _ _ _ c.finish.result refl c.finish.ensures
+pub returns : goal.returns
+returns g c =
+    let run = c.args.run in
+    let gained = Gains g.S.Sink.held g.S.Sink.faults c.args.out.now c.finish.new.out in
+    let short = FallsShort g.S.Sink.held g.S.Sink.faults g.S.Sink.last c.args.out.now c.finish.new.out in
+    starved_ends (rest_with Price (planned_of run.input) run.size.budget run.size.ahead) nothing_read gained short (Err Memory) c.finish.result refl c.finish.ensures

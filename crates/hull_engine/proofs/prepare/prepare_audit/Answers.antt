@@ -65,7 +65,7 @@ returns-clause-prepared g c =
       report_added h.0 k.0,
       are_report_added told g.F.Shelf.last _ _ _ words.case_name.items words.schedule_name.items words.report_name.items h.0 k.0
           c.in_ok-input.ensures.shelf.later c.in_ok-report.ensures.shelf.later h.1 k.1,
-      completes_audit words (report_added h.0 k.0) (planned_of c.in_ok-input.input) (planned_of c.in_ok-run.run'.input) c.in_ok-report.report _ _ h.2 k.2 c.in_ok-run.ensures.answers,
+      completes_audit words (report_added h.0 k.0) (planned_of c.in_ok-input.input) (planned_of c.in_ok-run.run'.input) c.in_ok-report.report c.in_ok-run.run'.size.budget c.in_ok-run.run'.size.ahead h.2 k.2 c.in_ok-run.ensures.answers,
     )
 
 pub returns-clause-shelf : goal.returns-clause-shelf

@@ -1,4 +1,4 @@
-use Rattle.hull_engine.proofs.Common.{err_from_is_err_and}
+use Rattle.hull_engine.proofs.Common.{rules, w64, to_z-of_z, err_from_is_err_and}
 use Rattle.hull_engine.proofs.Lemmas.{completes_bound}
 use Rattle.hull_engine.proofs.prepare.prepare_bound.Goals as goal
 
@@ -10,4 +10,4 @@ returns-in_err-run-clause-prepared g c =
 pub returns-clause-prepared : goal.returns-clause-prepared
 returns-clause-prepared g c =
     let h = c.in_ok-run.ensures.answers in
-    (h.0, h.1, completes_bound c.in_ok-run.run' c.args.words.now h.0 c.in_ok-run.ensures.size h.2)
+    rw (to_z-of_z w64 c.args.words.now.radius (search rules)) (h.0, h.1, completes_bound c.in_ok-run.run' c.args.words.now h.0 c.in_ok-run.ensures.size h.2)

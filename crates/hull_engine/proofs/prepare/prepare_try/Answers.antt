@@ -1,4 +1,4 @@
-use Rattle.hull_engine.proofs.Common.{Result, Ok, Err, inr, refl, err_from_is_err_and, TopFault, RunInput, RunSize, planned_of, IsMade, IsWithinWork}
+use Rattle.hull_engine.proofs.Common.{Result, Ok, Err, inr, refl, err_from_is_err_and, TopFault, RunInput, planned_of, IsMade, IsWithinWork}
 use Rattle.hull_engine.proofs.Lemmas.{completes_try, answer_then}
 use Rattle.hull_engine.proofs.prepare.prepare_try.Goals as goal
 
