@@ -236,6 +236,25 @@ def sums_of(path):
     return seen
 
 
+def settled_of(path):
+    """The sums of a settlement, and whether its lines agree."""
+    seen, payments = {}, 0
+    with open(path, encoding="utf-8") as lines:
+        for line in lines:
+            words = line.split()
+            if words[0] == "unit":
+                earned, scheduled, payment = map(int, words[-5::2])
+                assert payment == earned - scheduled >= 0, line
+                payments += payment
+            elif len(words) == 2 and words[0] in ("cost", "value", "surplus", "payments", "gap"):
+                seen[words[0]] = int(words[1])
+            last = line
+    assert last == "end\n", last
+    assert payments == seen["payments"] and seen["surplus"] >= 0
+    assert payments + seen["surplus"] == seen["gap"] == seen["cost"] - seen["value"]
+    return seen
+
+
 class Crowd:
     """The files of a market in a folder."""
 
@@ -280,6 +299,15 @@ class Crowd:
         assert (ran.status, ran.text()) == due, ran.text()
         return ran
 
+    def settle(self, energy, reserve):
+        """A settlement at the same prices in each period, whose sums agree."""
+        with open(f"{self.folder}/prices", "w", encoding="utf-8") as it:
+            json.dump({"energy": [energy] * self.periods, "reserve": [reserve] * self.periods}, it)
+        ran = self.run("settle", f"--prices={self.folder}/prices", output="settlement")
+        assert ran.status == 0, ran.text()[:200]
+        assert settled_of(ran.output)["cost"] == self.cost
+        return ran
+
     def bound(self, proposals, *words):
         ran = self.run("bound", f"--proposals={proposals}", *words)
         assert ran.status == 0, ran.text()[:200]
@@ -308,6 +336,9 @@ class Largest(unittest.TestCase):
         for command in (crowd.price, crowd.bound, crowd.fixed):
             command(proposals, *words)
         crowd.audit()
+        for energy in (PRICE // 1000, -PRICE // 1000):
+            for reserve in (0, PRICE // 1000):
+                crowd.settle(energy, reserve)
         return crowd
 
     def test_as_many_units_as_there_may_be(self):
@@ -339,6 +370,8 @@ def main():
                 *((crowd.price, it) for it in proposals[1:]),
                 (crowd.bound, proposals[0]),
                 (crowd.fixed, proposals[0]),
+                (crowd.settle, PRICE // 1000, PRICE // 1000),
+                (crowd.settle, -PRICE // 1000, 0),
             ):
                 ran = run[0](*run[1:])
                 what = " ".join([run[0].__name__, *map(str, run[1:])])

@@ -10,6 +10,7 @@ By itself it tries every page and every allocation, which takes minutes, and pri
 """
 import argparse
 import collections
+import json
 import os
 import resource
 import shutil
@@ -31,6 +32,10 @@ def commands(example, room, program):
     report = f"--report={room}/report"
     with open(f"{room}/report", "wb") as it:
         it.write(run(["price", *files, "--proposals=3"], program=program)[1])
+    with open(f"{EXAMPLES}/{example}/case.json", encoding="utf-8") as it:
+        periods = json.load(it)["time_periods"]
+    with open(f"{room}/prices", "w", encoding="utf-8") as it:
+        json.dump({"energy": [30] * periods, "reserve": [1] * periods}, it)
     return {
         "check": ["check", *files],
         "price": ["price", *files, "--proposals=3", "--workers=1"],
@@ -39,6 +44,7 @@ def commands(example, room, program):
         "fixed": ["fixed", *files, "--proposals=3", "--workers=1"],
         "audit": ["audit", *files, report, "--workers=1"],
         "audit by four": ["audit", *files, report, "--workers=4"],
+        "settle": ["settle", *files, f"--prices={room}/prices"],
         "try": ["try", "7", "--proposals=1", "--workers=1"],
     }
 
