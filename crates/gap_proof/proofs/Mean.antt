@@ -3,7 +3,7 @@ use Rattle.gap_proof.proofs.Common.{◌≡◌, ℕ, zero, suc, ◌*◌, ◌/◌,
 use Rattle.std.proofs.lemmas.Nat.{le-div}
 use Rattle.gap_proof.proofs.Subgradients.{plane_above}
 
-add-mul : (a b c : ℤ) → (a +ℤ b) *ℤ c ≡ (a *ℤ c) +ℤ (b *ℤ c)
+pub add-mul : (a b c : ℤ) → (a +ℤ b) *ℤ c ≡ (a *ℤ c) +ℤ (b *ℤ c)
 add-mul a b c =
     let e = *ℤ_comm (a +ℤ b) c in let f = mul-add c a b in let g = *ℤ_comm c a in let h = *ℤ_comm c b in
     omega (arith, ints, e, f, g, h)
@@ -22,7 +22,7 @@ neg-mul b c =
     let g = *ℤ_comm b c in
     omega (arith, ints, e, f, g)
 
-mul_assoc : (a b c : ℤ) → (a *ℤ b) *ℤ c ≡ a *ℤ (b *ℤ c)
+pub mul_assoc : (a b c : ℤ) → (a *ℤ b) *ℤ c ≡ a *ℤ (b *ℤ c)
 mul_assoc a b c =
     ℤ_ind (λ z. (z *ℤ b) *ℤ c ≡ z *ℤ (b *ℤ c))
     (ap (λ (z : ℤ). z *ℤ c) (zero-*ℤ b) ∙ zero-*ℤ c ∙ sym (zero-*ℤ (b *ℤ c)))
@@ -37,7 +37,7 @@ mul_assoc a b c =
     a
 
 -- so many times a sum
-sum_below-times : (w : ℤ) (n : ℕ) (f : ℕ → ℤ) → w *ℤ sum_below n f ≡ sum_below n (λ k. w *ℤ f k)
+pub sum_below-times : (w : ℤ) (n : ℕ) (f : ℕ → ℤ) → w *ℤ sum_below n f ≡ sum_below n (λ k. w *ℤ f k)
 sum_below-times w zero f = *ℤ-zero w
 sum_below-times w (suc n) f =
     let e = mul-add w (sum_below n f) (f n) in
@@ -72,7 +72,7 @@ mean_above n height slope x v (w ∷ ws) (r ∷ rows) e low above =
 -- ---- the greatest height over a box
 
 -- a multiple of a number in an interval is at most that of one of its ends
-at_an_end : (g a b x : ℤ) → IsFrom a b x → (g *ℤ x) ≤ℤ int_max (g *ℤ a) (g *ℤ b)
+pub at_an_end : (g a b x : ℤ) → IsFrom a b x → (g *ℤ x) ≤ℤ int_max (g *ℤ a) (g *ℤ b)
 at_an_end (pos n) a b x h =
     let most = h.at_most in
     let up = mul-mono_of (pos n) x b (omega (arith, ints)) most in
@@ -88,7 +88,7 @@ at_an_end (negsuc n) a b x h =
 -- ---- the quotient
 
 -- the least whole number above is above the quotient that is rounded down
-at_most_quotient : (v a : ℤ) (n : ℕ) → 0 < n → (pos n *ℤ v) ≤ℤ a → v ≤ℤ floor_div a n
+pub at_most_quotient : (v a : ℤ) (n : ℕ) → 0 < n → (pos n *ℤ v) ≤ℤ a → v ≤ℤ floor_div a n
 at_most_quotient (pos v) (pos a) n low h =
     let e = pos-*ℤ-pos n v in
     let le : n * v ≤ a = omega (arith, ints, e, h) in
@@ -104,11 +104,11 @@ at_most_quotient (negsuc v) (negsuc a) n low h =
     let q : a / n < suc v = (div-lt_iff_lt-mul {k = n} {x = a} {y = suc v} low).1 turned in
     omega (arith, ints, q)
 
-positive_is : (z : ℤ) → pos 0 <ℤ z → pos (unsigned_abs z) ≡ z
+pub positive_is : (z : ℤ) → pos 0 <ℤ z → pos (unsigned_abs z) ≡ z
 positive_is (pos n) h = refl
 positive_is (negsuc n) h = absurd (omega (arith, ints, h))
 
-positive_low : (z : ℤ) → pos 0 <ℤ z → 0 < unsigned_abs z
+pub positive_low : (z : ℤ) → pos 0 <ℤ z → 0 < unsigned_abs z
 positive_low (pos n) h = omega (arith, ints, h)
 positive_low (negsuc n) h = absurd (omega (arith, ints, h))
 

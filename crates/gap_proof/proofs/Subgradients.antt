@@ -30,10 +30,10 @@ reserve_slope m r k =
     (lt_false (m.periods + k) m.periods (omega arith))
     ∙ ap (λ (i : ℕ). int_at m.reserves i -ℤ int_at r.reserve i) place
 
-energy_price : (m : Market) (π : PriceLists) (k : ℕ) → k < m.periods → price_at m π k ≡ int_at π.energy k
+pub energy_price : (m : Market) (π : PriceLists) (k : ℕ) → k < m.periods → price_at m π k ≡ int_at π.energy k
 energy_price m π k h = ap (λ (b : Bool). if b then int_at π.energy k else int_at π.reserve (k - m.periods)) (lt_true k m.periods h)
 
-reserve_price : (m : Market) (π : PriceLists) (k : ℕ) → price_at m π (m.periods + k) ≡ int_at π.reserve k
+pub reserve_price : (m : Market) (π : PriceLists) (k : ℕ) → price_at m π (m.periods + k) ≡ int_at π.reserve k
 reserve_price m π k =
     let place : (m.periods + k) - m.periods ≡ k = omega arith in
     ap (λ (b : Bool). if b then int_at π.energy (m.periods + k) else int_at π.reserve ((m.periods + k) - m.periods)) (lt_false (m.periods + k) m.periods (omega arith))

@@ -16,3 +16,4 @@ mod sums;
 
 pub use bound::bound_of;
 pub use ranges::{Certified, best_range};
+pub use sums::{lower, upper};

@@ -86,8 +86,9 @@ fn lowest(case: &Case, place: usize) -> i64
     0
 }
 
-// The lower end of a price's interval.
-fn lower(case: &Case, centre: &Prices, radius: i64, place: usize) -> i64
+/// The lower end of a price's interval: within the radius of the centre's price, and within the
+/// limits. Places count the energy prices and then the reserve prices, from 0.
+pub fn lower(case: &Case, centre: &Prices, radius: i64, place: usize) -> i64
     requires horizon { length (prices_of centre.now).energy ≡ (market_of case.now).periods }
     requires radius { IsRadius radius }
     requires place { place < 2 * (market_of case.now).periods }
@@ -97,8 +98,8 @@ fn lower(case: &Case, centre: &Prices, radius: i64, place: usize) -> i64
     lowest(case, place).max(price(case, centre, place) - radius)
 }
 
-// The upper end of a price's interval.
-fn upper(case: &Case, centre: &Prices, radius: i64, place: usize) -> i64
+/// The upper end of a price's interval.
+pub fn upper(case: &Case, centre: &Prices, radius: i64, place: usize) -> i64
     requires horizon { length (prices_of centre.now).energy ≡ (market_of case.now).periods }
     requires radius { IsRadius radius }
     requires place { place < 2 * (market_of case.now).periods }

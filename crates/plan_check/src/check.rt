@@ -133,8 +133,9 @@ fn check_rules(
     Ok(())
 }
 
-// The first rule that a thermal unit breaks.
-fn check_thermal(unit: &Unit, response: &Response, number: u32) -> Result<(), RuleFault>
+/// The first rule that a schedule of a thermal unit breaks, in the order of its rules and for each
+/// over rising periods. `number` is the unit's position, from 1. Takes no memory.
+pub fn check_thermal(unit: &Unit, response: &Response, number: u32) -> Result<(), RuleFault>
     requires horizon { length (schedule_of response.now).on ≤ MOST_PERIODS }
     requires window { length (thermal_of unit.now).window ≡ length (schedule_of response.now).on }
     ensures { Finds (thermal_refusals (length (schedule_of response.now).on) number

@@ -8,7 +8,7 @@ mod rules;
 mod states;
 pub mod totals;
 
-pub use check::check_plan;
+pub use check::{check_plan, check_thermal};
 pub use uc_model::kinds::{Kind, RuleCode};
 
 /// Why a schedule isn't feasible: the first rule that it breaks.
