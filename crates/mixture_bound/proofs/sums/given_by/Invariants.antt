@@ -1,0 +1,12 @@
+use Rattle.mixture_bound.proofs.Common.{◌≡◌, suc, pos, ◌*ℤ◌, map, take, total, IsFrom, power_in, reserve_in, weighed}
+use Rattle.mixture_bound.specs.Mixtures.{entry_of}
+use Rattle.mixture_bound.proofs.SumLaws.{weight_of}
+use Rattle.mixture_bound.proofs.sums.given_by.Given as goal
+
+abbrev pub invariant-loop-entry : goal.invariant-loop-entry
+invariant-loop-entry l = record {
+  power : l.given.power ≡ weighed (λ s. power_in s (suc l.place)) (take l.entry-index (map entry_of l.entries));
+  reserve : l.given.reserve ≡ weighed (λ s. reserve_in s (suc l.place)) (take l.entry-index (map entry_of l.entries));
+  power_limit : IsFrom (pos 0) (pos 4294967296 *ℤ total (map weight_of (take l.entry-index (map entry_of l.entries)))) l.given.power;
+  reserve_limit : IsFrom (pos 0) (pos 4294967296 *ℤ total (map weight_of (take l.entry-index (map entry_of l.entries)))) l.given.reserve;
+}

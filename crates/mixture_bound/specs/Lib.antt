@@ -1,0 +1,5 @@
+pub mod Mixtures
+pub mod MixtureBound
+pub mod Refused
+pub mod Sizes
+pub mod Laws
