@@ -7,6 +7,7 @@ check to call ./hull would build it. The last line is 'N passed, M failed'; a ch
 counts for neither.
 """
 import os
+import signal
 import subprocess
 import sys
 import unittest
@@ -17,6 +18,10 @@ PROGRAM = os.path.join(ROOT, "crates", "hull_cli", "out", "hull_cli")
 
 def main():
     sys.dont_write_bytecode = True
+    # Who starts this in the background of a script, or by nohup, has some signals ignored, and what the checks start would inherit that.
+    signal.signal(signal.SIGINT, signal.default_int_handler)
+    for it in (signal.SIGHUP, signal.SIGQUIT, signal.SIGTERM):
+        signal.signal(it, signal.SIG_DFL)
     if subprocess.run(["bash", "-c", "home=$PWD; . tools/made_of.sh; is_current"], cwd=ROOT, check=False).returncode:
         print(f"{PROGRAM} isn't there, or isn't made of the files that are: .ci/run, or ./hull, builds it\n0 passed, 1 failed")
         return 1
