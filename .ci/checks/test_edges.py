@@ -3,6 +3,7 @@
 Each run ends by itself with its documented status, prints one fault line (or a front of it) and nothing else, writes
 nothing to standard error, and is stopped by no signal.
 """
+import json
 import os
 import shutil
 import subprocess
@@ -78,6 +79,46 @@ class Edges(unittest.TestCase):
         # (the schedule is refused before the report is read)
         shutil.copy(f"{self.room}/case.json", f"{self.room}/schedule.json")
         self.audited("fault 4 schedule 42 kind case unit 0 item 0", "none.txt")
+
+    def settled(self, line, prices, **how):
+        """The settlement at such a file of prices ends with the line's status and prints the line alone."""
+        words = ["settle", "--case", "case.json", "--schedule", "schedule.json", "--prices", prices]
+        self.assertEqual(self.hull(*words, **how), (int(line.split()[1]), f"{line}\n".encode(), b""))
+
+    def prices(self):
+        """Prices over the horizon of the case, as the bytes of a file."""
+        return json.dumps({"energy": [30] * json.loads(self.read("case.json"))["time_periods"]}).encode()
+
+    def test_prices_that_cannot_be_read(self):
+        self.settled("fault 2 read prices", "none.json")
+        self.settled("fault 2 read prices", ".")
+        self.settled("fault 9 prices 10 at 0", "/dev/null")
+        # (the schedule is refused before the prices are read)
+        shutil.copy(f"{self.room}/case.json", f"{self.room}/schedule.json")
+        self.settled("fault 4 schedule 42 kind case unit 0 item 0", "none.json")
+
+    def test_prices_from_a_fifo_and_into_a_full_output(self):
+        writer = self.fed(self.prices())
+        words = ["settle", "--case", "case.json", "--schedule", "schedule.json", "--prices"]
+        status, output, said = self.hull(*words, "pipe")
+        writer.join(10)
+        self.assertEqual((status, said), (0, b""))
+        self.assertTrue(output.startswith(b"hull-settlement 1\n") and output.endswith(b"\nend\n"))
+        self.write("prices.json", self.prices())
+        with open("/dev/full", "wb") as full:
+            self.assertEqual(self.hull(*words, "prices.json", stdout=full)[::2], (6, b""))
+            self.assertEqual(self.hull(*words, "none.json", stdout=full)[::2], (2, b""))
+
+    def test_largest_prices_and_one_byte_more(self):
+        prices = self.prices()
+        self.write("prices.json", prices)
+        self.write("large.json", prices + b" " * (LARGEST - len(prices)))
+        words = ["settle", "--case", "case.json", "--schedule", "schedule.json", "--prices"]
+        self.assertEqual(self.hull(*words, "large.json"), self.hull(*words, "prices.json"))
+        with open(f"{self.room}/large.json", "ab") as it:
+            it.write(b" ")
+        self.settled("fault 9 prices 32", "large.json")
+        self.settled("fault 9 prices 32", "/dev/zero")
 
     def test_report_that_is_no_report(self):
         self.write("empty.txt", b"")
