@@ -11,7 +11,7 @@ pub use Rattle.std.specs.List.{All, find, AllZip, zip, fold, flat_map}
 pub use Rattle.std.specs.Option.{option_map_or, option_map}
 pub use Rattle.std.specs.Prelude.{nat_le, slice_get, slice_index, slice_index_or, FitsSigned, IsFalse}
 pub use Rattle.uc_model.specs.BoundLaws.{GivesWithin, StartCostsAreWithin, PowerCostsAreWithin, OutputsAreWithin, CostsAreWithin, EarningsAreWithin, most_given, least_given, UnitsAreWithin, TotalsAreWithin, EarnedSumsAreWithin, PlanCostsAreWithin, DemandWorthIsWithin, DualValuesAreWithin}
-pub use Rattle.uc_model.specs.Data.{ThermalUnit, BidUnit, AnyUnit, Thermal, Flat, Bid, PriceLists, Schedule, Market, units, NamedThermalUnit, NamedRenewableUnit, NamedBidUnit, unit_count, RenewableUnit}
+pub use Rattle.uc_model.specs.Data.{ThermalUnit, BidUnit, AnyUnit, Thermal, Flat, Bid, PriceLists, Schedule, Market, units, NamedThermalUnit, NamedRenewableUnit, NamedBidUnit, unit_count, RenewableUnit, thermal_names, renewable_names, bid_names, unit_names, horizon_of}
 pub use Rattle.uc_model.specs.Earnings.{start_cost_of, worth_of, supply_in, revenue, cost_of, earnings, IsTop, start_costs}
 pub use Rattle.uc_model.specs.Envelope.{line_at, least_line, IsEnvelope, rises_after, best_price}
 unfoldable pub use Rattle.uc_model.specs.Envelope.{envelope}

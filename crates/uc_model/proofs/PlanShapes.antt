@@ -1,7 +1,8 @@
 -- Units by their numbers, and the lists of a feasible plan.
-use Rattle.uc_model.proofs.Common.{◌≡◌, ℕ, suc, ◌+◌, ◌<◌, false, IsTrue, List, [], ◌∷◌, ◌++◌, map, length, drop, sym, ap, ◌∙◌, subst, arith, length-append, append_assoc, length-map, get_or_default, All-append, All-map, All, AllZip, slice_get, slice_index_or, AnyUnit, Thermal, Flat, Bid, NamedThermalUnit, NamedRenewableUnit, NamedBidUnit, Schedule, Market, units, unit_count, IsFeasible}
+use Rattle.uc_model.proofs.Common.{◌≡◌, ℕ, suc, ◌+◌, ◌<◌, false, IsTrue, List, [], ◌∷◌, ◌++◌, map, length, drop, sym, ap, ◌∙◌, subst, arith, length-append, append_assoc, length-map, get_or_default, All-append, All-map, All, AllZip, slice_get, Some, slice_index_or, AnyUnit, Thermal, Flat, Bid, NamedThermalUnit, NamedRenewableUnit, NamedBidUnit, Schedule, Market, units, unit_count, IsFeasible, thermal_names, renewable_names, bid_names, unit_names, horizon_of, IsMarket, IsThermalUnit, IsBidUnit}
 use Rattle.uc_model.specs.PlanLaws.{UnitsAreNumbered, FeasiblePlansHaveShape}
-use Rattle.plain_lists.proofs.ListLaws.{map_item, front_item, back_item, length_same, all_nil, all_cons}
+use Rattle.uc_model.specs.Limits.{IsRenewableUnit}
+use Rattle.plain_lists.proofs.ListLaws.{item_of, map_item, front_item, back_item, length_same, all_nil, all_cons}
 
 module _ (m : Market) where
   abbrev thermal : List AnyUnit
@@ -30,6 +31,63 @@ units_numbered m = record {
       (ap (λ (j : ℕ). slice_get (thermal m ++ flat m) (j + i)) (sym (thermal_length m)) ∙ back_item (thermal m) (flat m) i ∙ map_item (λ (x : NamedRenewableUnit). Flat x.unit) m.flat i n e);
   bids = λ i n e. ap (λ (j : ℕ). slice_get (units m) (j + i)) (sym (producers_length m)) ∙ back_item (thermal m ++ flat m) (bids m) i ∙ map_item (λ (x : NamedBidUnit). Bid x.unit) m.bids i n e;
 }
+
+-- ---- the unit of a number, over the periods of its case, and its name
+
+-- what is told of a number
+pub record IsAt (m : Market) (number : ℕ) (u : AnyUnit) (called : List ℕ) : Type 0 where
+  pub unit : slice_get (units m) number ≡ Some u
+  pub horizon : horizon_of u ≡ m.periods
+  pub name : slice_get (unit_names m) number ≡ Some called
+
+module _ (m : Market) (whole : IsMarket m) where
+  abbrev producer_names : List (List ℕ)
+  producer_names = thermal_names m ++ renewable_names m
+
+  length-thermal_names : length (thermal_names m) ≡ length m.thermal
+  length-thermal_names = length-map m.thermal (λ (n : NamedThermalUnit). n.name)
+
+  length-producer_names : length producer_names ≡ length m.thermal + length m.flat
+  length-producer_names = omega (
+    arith,
+    length-append (thermal_names m) (renewable_names m),
+    length-thermal_names,
+    length-map m.flat (λ (n : NamedRenewableUnit). n.name),
+  )
+
+  pub thermal_is_at : (i : ℕ) (n : NamedThermalUnit) → slice_get m.thermal i ≡ Some n →
+      IsAt m i (Thermal n.unit) n.name
+  thermal_is_at i n e = record {
+    unit = (units_numbered m).thermal i n e;
+    horizon = (item_of (λ (x : NamedThermalUnit). IsThermalUnit x.unit × (length x.unit.window ≡ m.periods))
+        m.thermal i n whole.thermal e).1;
+    name = front_item producer_names (bid_names m) i n.name
+        (front_item (thermal_names m) (renewable_names m) i n.name
+        (map_item (λ (x : NamedThermalUnit). x.name) m.thermal i n e));
+  }
+
+  pub renewable_is_at : (i number : ℕ) (n : NamedRenewableUnit) → length m.thermal + i ≡ number →
+      slice_get m.flat i ≡ Some n → IsAt m number (Flat n.unit) n.name
+  renewable_is_at i number n place e = subst (λ (k : ℕ). IsAt m k (Flat n.unit) n.name) place (record {
+    unit = (units_numbered m).flat i n e;
+    horizon = (item_of (λ (x : NamedRenewableUnit). IsRenewableUnit x.unit × (length x.unit.least ≡ m.periods))
+        m.flat i n whole.flat e).1;
+    name = front_item producer_names (bid_names m) (length m.thermal + i) n.name
+        (ap (λ (j : ℕ). slice_get producer_names (j + i)) (sym length-thermal_names)
+        ∙ back_item (thermal_names m) (renewable_names m) i
+        ∙ map_item (λ (x : NamedRenewableUnit). x.name) m.flat i n e);
+  })
+
+  pub bid_is_at : (i number : ℕ) (n : NamedBidUnit) → (length m.thermal + length m.flat) + i ≡ number →
+      slice_get m.bids i ≡ Some n → IsAt m number (Bid n.unit) n.name
+  bid_is_at i number n place e = subst (λ (k : ℕ). IsAt m k (Bid n.unit) n.name) place (record {
+    unit = (units_numbered m).bids i n e;
+    horizon = (item_of (λ (x : NamedBidUnit). IsBidUnit x.unit × (length x.unit.blocks ≡ m.periods))
+        m.bids i n whole.bids e).1;
+    name = ap (λ (j : ℕ). slice_get (unit_names m) (j + i)) (sym length-producer_names)
+        ∙ back_item producer_names (bid_names m) i
+        ∙ map_item (λ (x : NamedBidUnit). x.name) m.bids i n e;
+  })
 
 -- ---- the shape of a feasible plan
 
