@@ -1,5 +1,7 @@
 """A fault line of `hull` as a sentence: which file and unit, what was found there, and what is due."""
+import difflib
 import json
+import os
 import re
 from dataclasses import dataclass, field
 
@@ -30,7 +32,7 @@ FIELDS = {
     21: "it is of the wrong kind: {kind_due} is due",
     22: "it isn't whole: a number of periods, or a flag, is due",
     23: "it is below 0",
-    24: "it is above the limit: {limit} is the most",
+    24: "it is above the limit, {limit}",
     25: "it hasn't an item for each of the {periods} periods",
     26: "its power is below that of the point before it: rising powers are due",
     27: "its points have to reach from the least power, {power_output_minimum}, to the greatest, {power_output_maximum}",
@@ -45,13 +47,13 @@ FIELDS = {
 LISTS = ("demand", "reserves", "startup", "piecewise_production", "blocks", "commitment", "energy", "reserve")
 LIMITS = {
     "time_periods": "168 periods",
-    "power_output_maximum": "10,000 MW for a thermal unit, 1,000,000 MW for another",
     "power_output_t0": "10,000 MW",
     "startup": "32 items, lags of 1,000,000 periods and costs of 10,000,000",
     "piecewise_production": "32 items, powers of 1,000,000 MW and costs of 10,000,000",
     "blocks": "8 blocks, 1,000,000 MW in sum and a price of 10,000",
     "energy": "10,000 per MWh either way",
     "reserve": "10,000 per MWh",
+    ("power_output_maximum", "thermal"): "10,000 MW",
     **{it: "4,096 members" for it in GROUPS.values()},
     **{it: "1,000,000 periods" for it in ("time_up_minimum", "time_down_minimum", "time_up_t0", "time_down_t0")},
 }
@@ -91,6 +93,12 @@ class Files:
                 return it.read(1 << 27)
         except (OSError, KeyError, ValueError):
             return b""
+
+    def is_empty(self, what):
+        try:
+            return os.path.getsize(self.names[what]) == 0
+        except (OSError, KeyError, ValueError):
+            return False
 
     def value(self, what):
         """The JSON value of a file with its numbers as they are written; None where it can't be read."""
@@ -152,10 +160,31 @@ def told_text(files, what, code, place):
     before = data[:place]
     line, column = before.count(b"\n") + 1, place - (before.rfind(b"\n") + 1) + 1
     near = before[-30:].decode("utf-8", "replace"), data[place : place + 30].decode("utf-8", "replace")
-    mark = " (a byte order mark: save the file as UTF-8 without one)" if data.startswith(b"\xef\xbb\xbf") and not place else ""
-    gzip = " (a compressed file: unpack it first)" if data.startswith(b"\x1f\x8b") else ""
-    end = " (the file ends there)" if data and place >= len(data) else ""
-    return f"byte {place}, line {line}, column {column}: {TEXTS[code]}{mark}{gzip}{end}; there stands {near[0]!r} and then {near[1]!r}"
+    return (
+        f"byte {place}, line {line}, column {column}: {TEXTS[code]}{known_mistake(files, what, place)}; "
+        f"there stands {near[0]!r} and then {near[1]!r}"
+    )
+
+
+BEGINNINGS = {
+    b"\xef\xbb\xbf": "a byte order mark: save the file as UTF-8 without one",
+    b"\xff\xfe": "UTF-16: save the file as UTF-8",
+    b"\xfe\xff": "UTF-16: save the file as UTF-8",
+    b"\x1f\x8b": "a compressed file: unpack it first",
+}
+
+
+def known_mistake(files, what, place):
+    """What a text's fault most likely is, by what stands at the place; an empty text where it isn't known."""
+    data = files.bytes_of(what)
+    told = next((it for mark, it in BEGINNINGS.items() if data.startswith(mark) and not place), None)
+    if files.is_empty(what):
+        told = "the file is empty"
+    elif data and re.fullmatch(rb'("([^"\\]|\\.)*\\?|[-+.\w]*)', data[place:], re.S):
+        told = "the file ends there"
+    elif re.search(rb"\d,\s*\Z", data[:place]) and data[place : place + 1].isdigit():
+        told = "a decimal comma? Numbers have a point"
+    return f" ({told})" if told else ""
 
 
 def kind_due(key, kind):
@@ -183,13 +212,25 @@ def told_field(files, what, code, key, kind, number, item):
     unit = files.at(what, GROUPS.get(kind, ""), number) or {}
     range_item = lambda it: written(it[item - 1] if isinstance(it, list) and 1 <= item <= len(it) else it)
     known = {name: range_item(unit.get(name)) for name in ("power_output_minimum", "power_output_maximum")} if isinstance(unit, dict) else {}
-    known.update(periods=written(files.at("case", "time_periods")), kind_due=kind_due(key, kind), limit=LIMITS.get(key, "1,000,000 MW"))
+    known.update(periods=written(files.at("case", "time_periods")), kind_due=kind_due(key, kind), limit=LIMITS.get((key, kind)) or LIMITS.get(key, "1,000,000 MW"))
     where = f"{who(files, kind, number)}, " if kind in GROUPS else ""
     place = f", item {item}" if item else ""
     count = f"; it has {len(listed)} items" if code in (25, 33) and isinstance(listed, list) else ""
     value = f" Found: {written(found)}{count}." if code != 20 and found is not None else ""
-    swapped = " Are the files swapped?" if code == 20 and any(files.at(what, it) is not None for it in OF_OTHERS[what]) else ""
-    return f"{where}{'the whole' if key == 'whole' else key}{place}: {FIELDS[code].format_map(Known(known))}.{value}{swapped}"
+    hint = hint_of_field(files, what, code, known["limit"], listed)
+    return f"{where}{'the whole' if key == 'whole' else key}{place}: {FIELDS[code].format_map(Known(known))}.{value}{hint}"
+
+
+def hint_of_field(files, what, code, limit, listed):
+    """What mistake a field's fault may come from."""
+    periods = files.at("case", "time_periods")
+    if code == 20 and any(files.at(what, it) is not None for it in OF_OTHERS[what]):
+        return " Are the files swapped?"
+    if code == 24 and limit.endswith(" MW"):
+        return " A case is in megawatts: are these kilowatts?"
+    if code == 25 and isinstance(listed, list) and isinstance(periods, str) and periods.isdigit() and len(listed) > int(periods):
+        return " A decimal comma makes two items of one."
+    return ""
 
 
 class Known(dict):
@@ -197,6 +238,13 @@ class Known(dict):
 
     def __missing__(self, key):
         return "what the case says"
+
+
+def nearest_name(files, given, kind):
+    """A question after the case's unit whose name is like the given one, where there is one."""
+    names = {it.casefold(): it for it in files.at("case", GROUPS.get(kind, "")) or ()}
+    near = difflib.get_close_matches((given or "").casefold(), names, 1)
+    return f" Is {json.dumps(names[near[0]], ensure_ascii=False)} meant?" if near else ""
 
 
 def told_shape(files, what, code, kind, number, item, entry=None):
@@ -207,21 +255,22 @@ def told_shape(files, what, code, kind, number, item, entry=None):
     unit = files.name_of("case", GROUPS.get(kind, ""), number)
     plan = files.at(what, PLAN_GROUPS.get(kind, "thermal"), unit) if unit is not None else None
     plan = plan[entry - 1] if entry and isinstance(plan, list) and entry <= len(plan) else plan
-    found = ""
-    if code == 43 and plan is not None:
+    found = hint = ""
+    if of_file:
+        hint = nearest_name(files, files.name_of(what, PLAN_GROUPS.get(kind, ""), number), kind)
+    elif code == 43 and plan is not None:
         lists = {key: plan.get(key) for key in ("on", "power", "reserve")} if isinstance(plan, dict) else {"power": plan}
         cells = {key: it[item - 1] for key, it in lists.items() if isinstance(it, list) and item <= len(it)}
         found = ". Found: " + ", ".join(f"{key} {written(it)}" for key, it in cells.items())
+        if any("." in written(it) for key, it in cells.items() if key != "on"):
+            hint = " Powers are whole kilowatts: are these megawatts?"
     elif code == 42 and plan is not None:
         lists = plan.items() if isinstance(plan, dict) else [("list", plan)]
         found = ". Found: " + ", ".join(f"{key} with {len(it)} items" for key, it in lists if isinstance(it, list))
-    swapped = ""
     if code == 42 and kind == "case" and files.at(what, "time_periods") is not None:
-        swapped = " Are the files swapped? This one is a case."
-    if code == 43:
-        swapped = " Powers are whole kilowatts: are these megawatts?"
+        hint = " Are the files swapped? This one is a case."
     known = dict(who=name, item=item, found=found, file=files.names.get(what, f"the {what}"), periods=written(files.at("case", "time_periods")))
-    return SHAPES[code].format_map(Known(known)) + "." + swapped
+    return SHAPES[code].format_map(Known(known)) + "." + hint
 
 
 def told_range(name, period, left, right, plan):
@@ -230,8 +279,13 @@ def told_range(name, period, left, right, plan):
     if on == "0":
         return f"{name} is off in period {period} with {left} kW of power or reserve, and 0 is due"
     if left > right and plan and written(plan("power")) == str(right):
-        return f"{name} gives {right} kW in period {period}, and its least power is {left} kW"
+        return f"{name} gives {right} kW in period {period}, and its least power is {left} kW{in_megawatts(right, left)}"
     return f"{name} has {left} kW of power and reserve in period {period}, or a least power of that, against {right} kW"
+
+
+def in_megawatts(given, due):
+    """A question, where what is given is about a thousandth of what is due."""
+    return " (schedules are in kilowatts: are these megawatts?)" if 0 < given <= due // 500 else ""
 
 
 def told_rule(files, what, code, kind, number, period, left, right, entry=None):
@@ -256,7 +310,7 @@ def told_rule(files, what, code, kind, number, period, left, right, entry=None):
     known = dict(who=name, period=period, left=left, right=right, difference=abs(right - left))
     known.update(left_is=state.get(left, left), right_is=state.get(right, right))
     known.update(lacking="are lacking" if left < right else "too much")
-    known["megawatts"] = " (schedules are in kilowatts: are these megawatts?)" if 0 < left <= right // 500 else ""
+    known["megawatts"] = in_megawatts(left, right)
     return RULES[code].format_map(Known(known)) + "."
 
 
@@ -329,6 +383,8 @@ def told_report(files, at, what):
     lines = files.bytes_of("report").split(b"\n")
     line = lines[int(at) - 1].decode("utf-8", "replace") if int(at) <= len(lines) else ""
     found = f" Found: {line[:160]!r}." if line else ""
+    if line.endswith("\r"):
+        found += " Carriage returns were put in since it was printed."
     return f"{of(files, 'report')}: line {at} {what}.{found}"
 
 

@@ -50,12 +50,41 @@ class Explain(unittest.TestCase):
         line = "fault 4 schedule 40 kind thermal unit 2 item 0"
         self.assertIn('"G\\u2028"', self.told(line, "schedule.json", '"G2"', '"G\\u2028"').replace("?", "\\u2028"))
 
+        line = "fault 4 schedule 40 kind thermal unit 1 item 0"
+        self.assertTrue(self.told(line, "schedule.json", '"G1"', '"g1"').endswith(' Is "G1" meant?'))
+
     def test_a_text_that_is_no_json(self):
         told = self.told("fault 3 case 10 at 0", "case.json", "{", "\ufeff{")
         self.assertIn("byte order mark", told)
+        told = self.told("fault 3 case 10 at 21", "case.json", "[65,100", "[65.5,100")
+        self.assertNotIn("(", told)
+        told = self.told("fault 3 case 10 at 18", "case.json", '"time_periods":6,', '"time_periods":6,5,')
+        self.assertIn("(a decimal comma? Numbers have a point)", told)
+        for data, line, hint in (
+            (b"", "fault 3 case 10 at 0", "the file is empty"),
+            (b"\xff\xfe{\0", "fault 3 case 10 at 0", "UTF-16: save the file as UTF-8"),
+            (b"\x1f\x8b\x08", "fault 3 case 10 at 0", "a compressed file: unpack it first"),
+            (b'{"time_per', "fault 3 case 10 at 1", "the file ends there"),
+            (b'{"time_periods":', "fault 3 case 10 at 16", "the file ends there"),
+        ):
+            with open(f"{self.room}/odd.json", "wb") as it:
+                it.write(data)
+            ran = run("explain.py", f"{self.room}/odd.json", f"{self.room}/odd.json", input=f"{line}\n")
+            self.assertIn(f"({hint})", ran[1])
 
     def test_megawatts_and_swapped_files(self):
         self.assertIn("megawatts?", self.told("fault 4 schedule 54 kind case unit 0 period 1 left 65 right 65000"))
+        line = "fault 4 schedule 48 kind thermal unit 2 period 2 left 10000 right 10"
+        self.assertIn("kilowatts: are these megawatts?", self.told(line, "schedule.json", '"power":[0,10000', '"power":[0,10'))
+        line = "fault 4 schedule 43 kind thermal unit 1 item 3"
+        self.assertIn("are these megawatts?", self.told(line, "schedule.json", "90000", "90.5"))
+        self.assertNotIn("megawatts", self.told(line, "schedule.json", '"on":[1,1,1', '"on":[1,1,true'))
+        line = "fault 3 case 24 field power_output_maximum kind thermal unit 1 item 0"
+        told = self.told(line, "case.json", '"power_output_maximum":100', '"power_output_maximum":100000')
+        self.assertIn("above the limit, 10,000 MW. Found: 100000. A case is in megawatts: are these kilowatts?", told)
+        line = "fault 3 case 25 field demand kind case unit 0 item 0"
+        told = self.told(line, "case.json", "[65,100,130,80,70,70]", "[65,100,130,5,80,70,70]")
+        self.assertIn("it has 7 items. A decimal comma makes two items of one.", told)
         shutil.copy(f"{EVENING}/case.json", f"{self.room}/both.json")
         ran = run(
             "explain.py",
