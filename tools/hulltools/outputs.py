@@ -358,6 +358,10 @@ def parse_output(name, data, due=tuple(FORMS)):
     first = data.split(b"\n", 1)[0].decode("utf-8", "replace")
     if first.startswith("fault "):
         raise Wrong(f"{shown_name(name)}: this run was refused: {one_line(first)[:200]}")
+    other = re.fullmatch(r"hull-(bound|fixed|check|try|audit|report|settlement|certificate) 1", first)
+    if other and first not in due:
+        is_a = FORMS[first][0] if first in FORMS else f"a text of `hull {other[1]}`"
+        raise Wrong(f"{shown_name(name)}: this is {is_a}, where {' or '.join(FORMS[it][0] for it in due)} is due")
     what, read = FORMS[first if first in due else due[0]]
     return read(Lines(name, data, what))
 

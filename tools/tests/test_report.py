@@ -274,6 +274,12 @@ class Report(unittest.TestCase):
             self.report("csv", self.write(ODD.replace("energy -3", "energy -3 4")), "tables")[2],
             f"report.py: {self.room}/report.txt, line 9: not a line of a report of `hull price`: it has 2 numbers, and not 1\n",
         )
+        self.assertEqual(
+            self.report("page", f"{EXAMPLES}/two_units/bound.output", "page.html")[2],
+            f"report.py: {EXAMPLES}/two_units/bound.output: this is a text of `hull bound`, where a report of `hull price` or a text of "
+            "`hull settle` is due\n",
+        )
+        self.assertIn("this is a text of `hull check`, where ", self.report("csv", f"{EXAMPLES}/evening/check.output", "tables")[2])
         self.assertEqual(self.report("draw", "a", "b")[0], 2)
         os.makedirs(f"{self.room}/folder")
         self.assertEqual(
