@@ -11,7 +11,7 @@ import unittest
 
 from built import EXAMPLES, PROGRAM, run
 
-FILES = ("case.json", "schedule.json", "report.txt")
+FILES = ("case.json", "schedule.json", "report.txt", "prices.json")
 SET_PIPE_SIZE = 1031  # (its name came with Python 3.10)
 # A close of standard output, or a flush of it, that tells an error.
 LATE = """
@@ -30,6 +30,8 @@ class Limits(unittest.TestCase):
         self.addCleanup(shutil.rmtree, self.room)
         for name in FILES[:2]:
             shutil.copy(f"{EXAMPLES}/usual/{name}", self.room)
+        with open(f"{self.room}/prices.json", "w", encoding="utf-8") as it:
+            it.write('{"energy": [98]}')
         self.words = ["price", "--case", "case.json", "--schedule", "schedule.json"]
         status, self.due, _ = self.hull(*self.words)
         self.assertEqual(status, 0)
@@ -41,6 +43,7 @@ class Limits(unittest.TestCase):
             "bound": ["bound", *self.words[1:]],
             "fixed": ["fixed", *self.words[1:]],
             "audit": ["audit", *self.words[1:], "--report", "report.txt"],
+            "settle": ["settle", *self.words[1:], "--prices", "prices.json"],
             "try": ["try", "7", "--proposals", "2"],
         }
 
@@ -74,7 +77,8 @@ class Limits(unittest.TestCase):
 
     def test_an_output_that_says_try_again(self):
         # (a pipe that is full tells a writer so where it doesn't wait; its reader here is slower than the program)
-        for words in (self.words, self.commands["audit"], self.commands["try"]):
+        for name in ("price", "audit", "settle", "try"):
+            words = self.commands[name]
             due = self.hull(*words)[:2]
             reading, writing = os.pipe()
             fcntl.fcntl(writing, SET_PIPE_SIZE, 4096)
