@@ -20,7 +20,7 @@ need_tools() {
     command -v rt >/dev/null || fail "the program isn't built, and rt, with whose kit it is proved and built, isn't on the path"
     kit=$(rt doc 2>/dev/null)
     kit=${kit%/*}
-    [[ $kit == /* ]] && [ -x "$kit/bin/rattle" ] || fail "the program isn't built, and rt is on the path, but the kit isn't there behind it"
+    { [[ $kit == /* ]] && [ -x "$kit/bin/rattle" ]; } || fail "the program isn't built, and rt is on the path, but the kit isn't there behind it"
 }
 
 # Refuses a user who may not see what there is: it was built for another alone.

@@ -1,4 +1,4 @@
-# shellcheck shell=bash
+# shellcheck shell=bash disable=SC2154 # $home is the reader's
 # What the program is made of, and whether the one that is there is made of what is there. Read by hull, tools/build.sh,
 # tools/release.sh and .ci/run, which set $home to the top of the repository.
 #
@@ -44,6 +44,7 @@ set_parts() {
 
 # The kit's line that README.md names.
 kit_of_readme() {
+    # shellcheck disable=SC2016 # the quotes are those of the page
     sed -n 's/.*\(rattle-kit-[^`]*\)`.*/\1/p;T;q' "$home/README.md" 2>/dev/null
 }
 

@@ -29,7 +29,7 @@ look() {
     grep -q "^## $version\b" "$home/CHANGELOG.md" || fail "CHANGELOG.md has no heading '## $version'"
     commit=$(git -C "$home" rev-parse HEAD) || fail "$home is no git repository"
     [ -z "$(git -C "$home" status --porcelain)" ] || fail "the files aren't those of a commit"
-    [ -s "$program" ] && [ -e "$made_of" ] && is_current || fail "the program isn't made of these files: .ci/run builds it"
+    { [ -s "$program" ] && [ -e "$made_of" ] && is_current; } || fail "the program isn't made of these files: .ci/run builds it"
     kit=$(noted kit)
     [ "$kit" = "$(kit_of_readme)" ] || fail "README.md names another kit than the program's, '$kit'"
 }
@@ -39,7 +39,7 @@ gather() {
     local names glibc
     mapfile -d '' -t names < <(git -C "$home" ls-files -z README.md CHANGELOG.md LICENSE NOTICE hull docs examples tools | grep -zvxE "$own")
     git -C "$home" archive HEAD -- "${names[@]}" | tar -xm -C "$1" -f - || fail "the files can't be copied"
-    mkdir "$1/bin" && cp -- "$program" "$1/bin/hull" || fail "the program can't be copied"
+    { mkdir "$1/bin" && cp -- "$program" "$1/bin/hull"; } || fail "the program can't be copied"
     glibc=$(grep -ao 'GLIBC_[0-9][0-9.]*' "$program" | sort -Vu | tail -n 1)
     cat >"$1/VERSION" <<END
 hull $version
@@ -47,6 +47,7 @@ kit $kit
 commit $commit
 needs Linux on $processor with glibc ${glibc#GLIBC_} or later
 END
+    # shellcheck disable=SC2094 # the list itself isn't found
     (cd "$1" && find . -type f ! -name SHA256SUMS -print0 | sort -z | sed -z 's|^\./||' | xargs -0 sha256sum >SHA256SUMS) ||
         fail "the sums can't be written"
 }
@@ -60,9 +61,9 @@ main() {
     trap "rm -rf '$room'" EXIT
     mkdir "$room/$name"
     gather "$room/$name"
-    tar -C "$room" --format=gnu --sort=name --mtime="@$(git -C "$home" log -1 --format=%ct)" --owner=0 --group=0 --numeric-owner \
-        --mode=u=rwX,go=rX -cf "$room/tar" "$name" && gzip -n -9 "$room/tar" || fail "the archive can't be written"
-    cp -- "$room/tar.gz" "$folder/$name.tar.gz.part" 2>/dev/null && mv -f -- "$folder/$name.tar.gz.part" "$folder/$name.tar.gz" ||
+    { tar -C "$room" --format=gnu --sort=name --mtime="@$(git -C "$home" log -1 --format=%ct)" --owner=0 --group=0 --numeric-owner \
+        --mode=u=rwX,go=rX -cf "$room/tar" "$name" && gzip -n -9 "$room/tar"; } || fail "the archive can't be written"
+    { cp -- "$room/tar.gz" "$folder/$name.tar.gz.part" 2>/dev/null && mv -f -- "$folder/$name.tar.gz.part" "$folder/$name.tar.gz"; } ||
         fail "$folder can't be written"
     (cd -- "$folder" && sha256sum "$name.tar.gz")
 }
