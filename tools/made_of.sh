@@ -123,16 +123,30 @@ holds_current() {
     note_what_it_is_made_of "${text%%$'\n'*}"$'\n'"kit $(noted kit)"$'\n'"${text##*$'\n'}" || :
 }
 
-# Whether the program is there, whole, and made of what is there. One beside which nothing is noted, as the gate leaves it where it was
-# called by itself, is taken where it is newer than every change.
+# Whether the gate, called by itself, has left the program, made of what is there, and given no words it says so. The gate makes the folder of
+# each crate's results anew before it reads the crate: so what was changed while it ran is newer than that folder. Notes what it finds.
+is_of_the_gate() {
+    local text name born parts
+    text=$(what_is_there)
+    for name in $(crates_of_program); do
+        parts=(crates.txt)
+        add_parts_of "$name"
+        # (0 where the disk doesn't keep it)
+        born=$(stat -c %.9W -- "$home/crates/$name/out" 2>/dev/null) && [ "${born%.*}" -gt 0 ] || return 1
+        # shellcheck disable=SC2164
+        [ -z "$(cd -- "$home/" && find -L "${parts[@]}" -newerct "@$born" -print -quit 2>&1)" ] || return 1
+    done
+    [ "$("$program" </dev/null 2>/dev/null)" = "fault 1 words 1 0" ] || return 1
+    # (without a kit on the path it isn't known which one it was)
+    ! command -v rt >/dev/null || note_what_it_is_made_of "$text" || :
+}
+
+# Whether the program is there, whole, and made of what is there.
 is_current() {
-    local parts
-    [ -s "$program" ] && [ -x "$program" ] || return 1
+    { [ -s "$program" ] && [ -x "$program" ]; } || return 1
     if [ -e "$made_of" ]; then
         looks_current || holds_current
     else
-        set_parts
-        # shellcheck disable=SC2164
-        [ -z "$(cd -- "$home/" && find -L "${parts[@]}" -cnewer "$program" -print -quit 2>&1)" ]
+        is_of_the_gate
     fi
 }

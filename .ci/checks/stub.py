@@ -66,8 +66,10 @@ case "$1" in
     version) cat "$kit/KIT-ID" ;;
     doc) echo "$kit/START-HERE.md" ;;
     ci)
-        rm -rf crates/hull_cli/out
+        rm -rf crates/*/out
+        mkdir crates/{low,for_tests,high,hull_cli}/out
         mkdir -p crates/hull_cli/out/libraries/low.rlib
+        sleep 0.02
         cp crates/low/src/lib.rt crates/hull_cli/out/libraries/low.rlib/text
         eval "${WHILE-}"
         "$kit/bin/rattle-link" -o crates/hull_cli/out/hull_cli

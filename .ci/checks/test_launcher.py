@@ -251,13 +251,34 @@ class Gate(Repository):
         status, output, _ = self.gate(CI_STATUS="3")
         self.assertEqual((status, output), (3, b""))
 
+    def gate_alone(self, **env):
+        subprocess.run(["rt", "ci"], cwd=self.room, env={**self.env, **env}, check=True)
+
     def test_a_program_that_the_gate_alone_has_built_is_taken_until_something_changes(self):
-        subprocess.run(["rt", "ci"], cwd=self.room, env=self.env, check=True)
-        self.assertEqual(self.hull("src"), (0, b"one\n", b""))
+        without_kit = {**self.env, "PATH": WITHOUT_RT["PATH"]}
+        self.gate_alone()
+        for env in (without_kit, self.env, without_kit):
+            self.assertEqual(run(["src"], program=f"{self.room}/hull", env=env), (0, b"one\n", b""))
         self.write("crates/low/src/lib.rt", "two\n")
         os.utime(f"{self.room}/crates/low/src/lib.rt", (10**9, 10**9))
         self.assertEqual(self.hull("src")[:2], (0, b"two\n"))
         self.assertEqual(self.asked(), BUILT)
+
+    def test_what_was_edited_while_the_gate_alone_ran_is_newer(self):
+        edit = "echo two > crates/low/src/lib.rt"
+        for change in (edit, f"{edit}; touch -d 2020-01-01 crates/low/src/lib.rt", f"rm crates/low/src/lib.rt; {edit}"):
+            self.write("crates/low/src/lib.rt", "one\n")
+            self.gate_alone(WHILE=change)
+            self.assertEqual(self.hull("src")[:2], (0, b"two\n"))
+            self.assertEqual(self.asked(), BUILT)
+
+    def test_a_program_of_the_gate_alone_that_is_damaged(self):
+        for damaged in (b"", b"\x7fELF\0", b"#!/bin/sh\necho otherwise\n"):
+            self.gate_alone()
+            with open(self.program, "wb") as it:
+                it.write(damaged)
+            self.assertEqual(self.hull("src")[:2], (0, b"one\n"))
+            self.assertEqual(self.asked(), BUILT)
 
 
 class Failing(Repository):
