@@ -75,6 +75,14 @@ take_lock() {
     fi
 }
 
+# Refuses a folder in which no program may run, before anything is proved in vain.
+try_to_run() {
+    local file=$out/runs
+    { printf '#!/bin/sh\n' >"$file" && chmod u+x "$file"; } 2>/dev/null || end_badly "cannot write $file, so the program cannot be built"
+    "$file" 2>/dev/null || end_badly "no program: none may run in $out, as where a disk is mounted with noexec"
+    rm -f "$file"
+}
+
 # As many processes as there are processors, each with 3 GB of memory to itself.
 most_processes() {
     local processors gigabytes limit
@@ -294,6 +302,7 @@ build() {
     [ -z "$line" ] || [ "$line" = "$(rt version)" ] ||
         say "README.md names the kit '$line', and rt is of '$(rt version)': proofs may fail with it"
     { : >"$log"; } 2>/dev/null || end_badly "cannot write $log, so the program cannot be built"
+    try_to_run
     # The prover asks for the memory again that it gives back: some hundredths of its time.
     local -x MIMALLOC_PURGE_DELAY=-1
     prove "$(most_processes)" || end_badly "no program: ${bad:-the prover} failed; $logs/$bad says why" "$logs/$bad"

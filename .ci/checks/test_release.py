@@ -158,6 +158,13 @@ class Using(unittest.TestCase):
         os.symlink(f"{self.home}/hull", f"{self.above}/link")
         self.assertEqual(run([], program=f"{self.above}/link", env=BARE), (1, b"fault 1 words 1 0\n", b""))
 
+    def test_a_program_that_is_empty(self):
+        with open(f"{self.home}/bin/hull", "wb"):
+            pass
+        status, output, said = self.hull("check")
+        self.assertEqual((status, output), (127, b""))
+        self.assertRegex(said.decode(), r"\Ahull: .*/bin/hull can't be run: it is empty, .*\n\Z")
+
     def test_the_program_in_a_root_with_the_c_library_alone(self):
         if os.geteuid() != 0:
             self.skipTest("only root can change the root")
