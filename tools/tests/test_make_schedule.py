@@ -2,11 +2,13 @@
 import json
 import os
 import shutil
+import signal
 import subprocess
 import tempfile
+import time
 import unittest
 
-from tool import EXAMPLES, PROGRAM, python_with, run
+from tool import EXAMPLES, PROGRAM, ROOT, python_with, run
 
 
 class MakeSchedule(unittest.TestCase):
@@ -131,6 +133,16 @@ class MakeSchedule(unittest.TestCase):
         power.update({unit: [x / 1e3 for x in row] for unit, row in {**schedule["renewable"], **schedule["bids"]}.items()})
         with open(name, "w", encoding="utf-8") as it:
             json.dump({"Is on": on, "Production (MW)": power}, it)
+
+    def test_an_interrupt_ends_the_search_at_once_and_writes_nothing(self):
+        words = [f"{EXAMPLES}/day/case.json", f"{self.room}/schedule.json", "--gap", "0", "--hull", PROGRAM]
+        tool = [self.python, "-B", f"{ROOT}/tools/make_schedule.py", *words]
+        with subprocess.Popen(tool, stdout=subprocess.DEVNULL, stderr=subprocess.PIPE, text=True) as ran:
+            self.assertIn("searching for at most", ran.stderr.readline())
+            time.sleep(1)
+            ran.send_signal(signal.SIGINT)
+            self.assertEqual(ran.stderr.read(), "")
+        self.assertEqual((ran.returncode, os.listdir(self.room)), (-signal.SIGINT, []))
 
     def test_a_window_is_kept(self):
         status, _, said = self.make(
