@@ -1,4 +1,3 @@
 -- The lemmas that answers cite, passed on from one place.
 pub use Rattle.board_task.proofs.Alike.{numbers_of, same_cons, same_under, count_in, count_none, count_more, same_periods_alike}
-pub use Rattle.board_task.proofs.AsOne.{same_lists, one_item, kind_is}
-pub use Rattle.board_task.proofs.UnitPlaces.{map_got, item_of, thermal_at, same_items, bid_at, flat_at}
+pub use Rattle.board_task.proofs.AsOne.{same_lists, one_item, same_items}

@@ -6,7 +6,5 @@ pub mod Alike
 pub mod AsOne
 -- how long the flat lists of a bid's blocks are
 pub mod Numbers
--- units of a case by their places
-pub mod UnitPlaces
 -- The lemmas that answers cite.
 pub mod Lemmas

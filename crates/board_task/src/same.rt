@@ -1,6 +1,6 @@
 //! Whether a task that comes back has the prices and the unit that were given out, compared where
 //! they lie.
-ghost use Rattle.std.specs.Prelude.{◌≡◌, ◌↔◌, ◌+◌, ◌<◌, ◌≤◌, IsTrue, Some, length, map, slice_get};
+ghost use Rattle.std.specs.Prelude.{◌≡◌, ◌↔◌, ◌<◌, ◌≤◌, IsTrue, Some, length, map, slice_get};
 ghost use Rattle.std.specs.List.{All, flat_map};
 ghost use Rattle.uc_model.specs.Data.{units, unit_count};
 ghost use Rattle.uc_model.specs.PlainCases.{market_of, task_unit};
@@ -10,7 +10,7 @@ ghost use Rattle.uc_model.specs.TaskLists.{period_numbers, task_numbers};
 ghost use Rattle.uc_model.specs.declared.limits.TheConstants.{MOST_BLOCKS, MOST_PERIODS};
 ghost use Rattle.board_task.specs.Same.{HaveSamePowers, HaveSameTimes, AreSame};
 
-use uc_model::cases::{Case, Task};
+use uc_model::cases::{Case, Task, UnitRef};
 use uc_model::units::{Block, BlockLists, Lag, Mark, Point, Prices, Renewable, Unit, UnitKind};
 
 fn same_numbers(a: &[i64], b: &[i64]) -> bool
@@ -191,54 +191,16 @@ pub fn same_prices(a: &Prices, b: &Prices) -> bool
         && same_numbers(a.reserve.as_slice(), b.reserve.as_slice())
 }
 
-fn is_thermal_of(case: &Case, number: usize, task: &Task) -> bool
-    requires { number < length (market_of case.now).thermal }
-    ensures { IsTrue result → slice_get (units (market_of case.now)) number
-        ≡ Some (task_unit task.now) }
-{
-    let UnitKind::Thermal = task.kind else {
-        return false;
-    };
-    same_thermal(&case.thermal.get(number).unit, &task.thermal)
-}
-
-fn is_flat_of(case: &Case, number: usize, task: &Task) -> bool
-    requires { number < length (market_of case.now).flat }
-    ensures { IsTrue result → slice_get (units (market_of case.now))
-        (length (market_of case.now).thermal + number) ≡ Some (task_unit task.now) }
-{
-    let UnitKind::Flat = task.kind else {
-        return false;
-    };
-    same_flat(&case.flat.get(number).flat, &task.flat)
-}
-
-fn is_bid_of(case: &Case, number: usize, task: &Task) -> bool
-    requires { number < length (market_of case.now).bids }
-    ensures { IsTrue result → slice_get (units (market_of case.now))
-        (length (market_of case.now).thermal + length (market_of case.now).flat + number)
-        ≡ Some (task_unit task.now) }
-{
-    let UnitKind::Bid = task.kind else {
-        return false;
-    };
-    same_periods(&case.bids.get(number).bid.blocks, &task.bid.blocks)
-}
-
 /// Whether a task's unit is the one of that number in the case: where it says so, it is.
 pub fn is_unit_of(case: &Case, unit: u32, task: &Task) -> bool
     requires { unit < unit_count (market_of case.now) }
     ensures { IsTrue result → slice_get (units (market_of case.now)) unit
         ≡ Some (task_unit task.now) }
 {
-    let number = unit as usize;
-    let thermal = case.thermal.len();
-    let producers = thermal + case.flat.len();
-    if number < thermal {
-        is_thermal_of(case, number, task)
-    } else if number < producers {
-        is_flat_of(case, number - thermal, task)
-    } else {
-        is_bid_of(case, number - producers, task)
+    match (case.unit_at(unit as usize).unit, task.kind) {
+        (UnitRef::Thermal(own), UnitKind::Thermal) => same_thermal(own, &task.thermal),
+        (UnitRef::Renewable(own), UnitKind::Flat) => same_flat(own, &task.flat),
+        (UnitRef::Bid(own), UnitKind::Bid) => same_periods(&own.blocks, &task.bid.blocks),
+        _ => false,
     }
 }

@@ -1,7 +1,7 @@
 //! The task of a unit, written into room that is there already.
-ghost use Rattle.std.specs.Prelude.{◌≡◌, ◌+◌, ◌<◌, ◌≤◌, length, map, Some, slice_get};
+ghost use Rattle.std.specs.Prelude.{◌≡◌, ◌<◌, ◌≤◌, length, map, Some, slice_get};
 ghost use Rattle.std.specs.List.{All};
-ghost use Rattle.uc_model.specs.Data.{units, unit_count};
+ghost use Rattle.uc_model.specs.Data.{units, unit_count, Thermal, Flat, Bid as BidOf};
 ghost use Rattle.uc_model.specs.PlainCases.{market_of, task_unit};
 ghost use Rattle.uc_model.specs.PlainUnits.{prices_of, thermal_of, renewable_of, bid_of};
 ghost use Rattle.plain_lists.specs.Reserved.{items_in};
@@ -10,9 +10,9 @@ ghost use Rattle.uc_model.specs.TaskRoom.{IsTaskFor};
 ghost use Rattle.uc_model.specs.declared.limits.TheConstants.{MOST_BLOCKS};
 
 use plain_lists::lists::copy_list;
-use uc_model::cases::{Case, Task};
+use uc_model::cases::{Case, Task, UnitRef};
 use uc_model::copies::copy_unit;
-use uc_model::units::{Bid, BlockLists, Prices, Renewable, UnitKind};
+use uc_model::units::{Bid, BlockLists, Prices, Renewable, Unit, UnitKind};
 
 /// Leaves prices in others over as many periods.
 pub fn copy_prices(from: &Prices, into: &mut Prices)
@@ -52,46 +52,43 @@ fn copy_bid(from: &Bid, into: &mut Bid)
     copy_blocks(&from.blocks, &mut into.blocks);
 }
 
-fn copy_thermal(case: &Case, number: usize, into: &mut Task)
-    requires number { number < length (market_of case.now).thermal }
-    requires room { IsTaskFor (market_of case.now).periods into.old }
-    ensures unit { slice_get (units (market_of case.now)) number ≡ Some (task_unit into.new) }
-    ensures room { IsTaskFor (market_of case.now).periods into.new }
+fn copy_thermal(from: &Unit, into: &mut Task)
+    requires horizon { length (thermal_of from.now).window ≡ length into.old.prices.energy.items }
+    requires room { IsTaskFor (length into.old.prices.energy.items) into.old }
+    ensures unit { task_unit into.new ≡ Thermal (thermal_of from.now) }
+    ensures room { IsTaskFor (length into.new.prices.energy.items) into.new }
     ensures prices { into.new.prices ≡ into.old.prices }
     ensures proposal { into.new.proposal ≡ into.old.proposal }
     ensures number { into.new.unit ≡ into.old.unit }
 {
     into.kind = UnitKind::Thermal;
-    copy_unit(&case.thermal.get(number).unit, &mut into.thermal);
+    copy_unit(from, &mut into.thermal);
 }
 
-fn copy_flat(case: &Case, number: usize, into: &mut Task)
-    requires number { number < length (market_of case.now).flat }
-    requires room { IsTaskFor (market_of case.now).periods into.old }
-    ensures unit { slice_get (units (market_of case.now))
-        (length (market_of case.now).thermal + number) ≡ Some (task_unit into.new) }
-    ensures room { IsTaskFor (market_of case.now).periods into.new }
+fn copy_flat(from: &Renewable, into: &mut Task)
+    requires horizon { length (renewable_of from.now).least ≡ length into.old.prices.energy.items }
+    requires room { IsTaskFor (length into.old.prices.energy.items) into.old }
+    ensures unit { task_unit into.new ≡ Flat (renewable_of from.now) }
+    ensures room { IsTaskFor (length into.new.prices.energy.items) into.new }
     ensures prices { into.new.prices ≡ into.old.prices }
     ensures proposal { into.new.proposal ≡ into.old.proposal }
     ensures number { into.new.unit ≡ into.old.unit }
 {
     into.kind = UnitKind::Flat;
-    copy_renewable(&case.flat.get(number).flat, &mut into.flat);
+    copy_renewable(from, &mut into.flat);
 }
 
-fn copy_bid_of(case: &Case, number: usize, into: &mut Task)
-    requires number { number < length (market_of case.now).bids }
-    requires room { IsTaskFor (market_of case.now).periods into.old }
-    ensures unit { slice_get (units (market_of case.now))
-        (length (market_of case.now).thermal + length (market_of case.now).flat + number)
-        ≡ Some (task_unit into.new) }
-    ensures room { IsTaskFor (market_of case.now).periods into.new }
+fn copy_bid_of(from: &Bid, into: &mut Task)
+    requires horizon { length (bid_of from.now).blocks ≡ length into.old.prices.energy.items }
+    requires room { IsTaskFor (length into.old.prices.energy.items) into.old }
+    ensures unit { task_unit into.new ≡ BidOf (bid_of from.now) }
+    ensures room { IsTaskFor (length into.new.prices.energy.items) into.new }
     ensures prices { into.new.prices ≡ into.old.prices }
     ensures proposal { into.new.proposal ≡ into.old.proposal }
     ensures number { into.new.unit ≡ into.old.unit }
 {
     into.kind = UnitKind::Bid;
-    copy_bid(&case.bids.get(number).bid, &mut into.bid);
+    copy_bid(from, &mut into.bid);
 }
 
 // Leaves the unit of a number in a task; the rest of the task stays.
@@ -104,15 +101,10 @@ fn copy_unit_of(case: &Case, unit: u32, into: &mut Task)
     ensures proposal { into.new.proposal ≡ into.old.proposal }
     ensures number { into.new.unit ≡ into.old.unit }
 {
-    let number = unit as usize;
-    let thermal = case.thermal.len();
-    let producers = thermal + case.flat.len();
-    if number < thermal {
-        copy_thermal(case, number, into);
-    } else if number < producers {
-        copy_flat(case, number - thermal, into);
-    } else {
-        copy_bid_of(case, number - producers, into);
+    match case.unit_at(unit as usize).unit {
+        UnitRef::Thermal(from) => copy_thermal(from, into),
+        UnitRef::Renewable(from) => copy_flat(from, into),
+        UnitRef::Bid(from) => copy_bid_of(from, into),
     }
 }
 
