@@ -138,7 +138,7 @@ pub fn advance(terms: &Terms, counts: &[u32], ledger: &mut Ledger, next: &mut Pr
     ensures horizon { length (prices_of next.new).energy ≡ (setup_of terms.now).market.periods }
 {
     board_laws();
-    let units = terms.units();
+    let units = terms.case.unit_count();
     while ledger.closed() < terms.budget as usize && counts[ledger.closed()] == units {
         close_next(terms, ledger);
         open_next(terms, ledger, next);

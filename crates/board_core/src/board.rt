@@ -145,7 +145,7 @@ impl Board {
             callers,
         };
         let periods = terms.case.periods;
-        let tasks = budget as usize * terms.units() as usize;
+        let tasks = budget as usize * terms.case.unit_count() as usize;
         let lists = no_events(alloc, tasks, budget as usize, callers as usize)?;
         let mut room = Room::make(alloc, periods)?;
         let ledger = open_ledger(alloc, &terms.case, budget, ahead, &mut room.next)?;
@@ -183,7 +183,7 @@ impl Board {
             return Claim::Halted;
         }
         let number = self.lists.takers.len();
-        let units = self.terms.units() as usize;
+        let units = self.terms.case.unit_count() as usize;
         let before = number / units;
         if open <= before {
             return Claim::NotYet;
@@ -235,7 +235,7 @@ impl Board {
         if let Some(refused) = refused {
             return refused;
         }
-        let units = self.terms.units();
+        let units = self.terms.case.unit_count();
         let before = task.proposal as usize - 1;
         let at = task_number(units, task.proposal, task.unit);
         self.lists.marks[at] = true;
@@ -336,7 +336,7 @@ impl Board {
     {
         board_laws();
         self.store
-            .earned(task_number(self.terms.units(), proposal, unit))
+            .earned(task_number(self.terms.case.unit_count(), proposal, unit))
     }
 
     fn answer_into(&self, proposal: u32, unit: u32, into: &mut Answered)
@@ -351,6 +351,6 @@ impl Board {
     {
         board_laws();
         self.store
-            .take(task_number(self.terms.units(), proposal, unit), into);
+            .take(task_number(self.terms.case.unit_count(), proposal, unit), into);
     }
 }

@@ -136,7 +136,7 @@ pub fn refusal(
             opened: opened as u32,
         }));
     }
-    let units = terms.units();
+    let units = terms.case.unit_count();
     if units <= task.unit {
         return Some(Posted::Stranger(Differs::Unit {
             task: task.unit,

@@ -1,6 +1,5 @@
 //! What a board is made for.
 ghost use Rattle.std.specs.Prelude.{◌≡◌, ◌+◌, ◌-◌, ◌*◌, ◌<◌, ◌≤◌, length};
-ghost use Rattle.uc_model.specs.Data.{unit_count};
 ghost use Rattle.uc_model.specs.PlainCases.{market_of, schedules_of};
 ghost use Rattle.plain_lists.specs.declared.limits.TheConstants.{MOST_PROPOSALS, MOST_UNITS};
 ghost use Rattle.board_core.specs.Events.{task_number};
@@ -34,13 +33,6 @@ impl Drop for Terms {
 }
 
 impl Terms {
-    /// The number of units, bids among them.
-    pub fn units(&self) -> u32
-        ensures { result ≡ unit_count (setup_of self.now).market }
-    {
-        (self.case.thermal.len() + self.case.flat.len() + self.case.bids.len()) as u32
-    }
-
     /// The case and the plan.
     pub fn into_parts(self) -> (Case, Plan)
         ensures case { market_of result.0 ≡ (setup_of self).market }

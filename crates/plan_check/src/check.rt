@@ -243,7 +243,7 @@ fn check_bids(case: &Case, plan: &Plan) -> Result<(), RuleFault>
         (drop (length (market_of case.now).thermal + length (market_of case.now).flat)
         (schedules_of plan.now))) result }
 {
-    let first = case.thermal.len() + case.flat.len();
+    let first = case.producer_count();
     for place in 0..case.bids.len() {
         let bid = case.bids.get(place);
         let response = plan.responses.get(first + place);

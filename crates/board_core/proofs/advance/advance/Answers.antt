@@ -13,7 +13,7 @@ close_next-requires-clause-more c =
     let now = c.closed.ensures in
     let within : l.closed < b.budget = omega (arith, test, now) in
     let full : is_full units counts (suc l.closed) ≡ true =
-    full_is units l.closed counts (subst (λ (k : ℕ). get_or counts k 0 ≡ units) c.closed-in-loop-ledger.ensures (c.if-counts-closed.true ∙ c.units-units.ensures)) in
+    full_is units l.closed counts (subst (λ (k : ℕ). get_or counts k 0 ≡ units) c.closed-in-loop-ledger.ensures (c.if-counts-closed.true ∙ c.unit_count-units.ensures.value)) in
     let first = c.requires.opened l.closed within full in
     let longer = I.opened in
     let more : l.closed < l.opened = omega (arith, first, longer) in
@@ -34,7 +34,7 @@ returns-else-counts-closed-clause-done c = λ _.
     let units = unit_count (setup_of c.args.terms.now).market in
     let counts = c.args.counts.now in
     not_full units c.loop-ledger.ledger.closed counts
-    (λ e. c.if-counts-closed.false (subst (λ (k : ℕ). get_or counts k 0 ≡ units) (sym c.closed-in-loop-ledger.ensures) e ∙ sym c.units-units.ensures))
+    (λ e. c.if-counts-closed.false (subst (λ (k : ℕ). get_or counts k 0 ≡ units) (sym c.closed-in-loop-ledger.ensures) e ∙ sym c.unit_count-units.ensures.value))
 
 pub open_next-requires-clause-rows : goal.open_next-requires-clause-rows
 open_next-requires-clause-rows c =
@@ -47,7 +47,7 @@ open_next-requires-clause-rows c =
     let now = c.closed.ensures in
     let within : l.closed < b.budget = omega (arith, test, now) in
     let full : is_full units counts (suc l.closed) ≡ true =
-    full_is units l.closed counts (subst (λ (k : ℕ). get_or counts k 0 ≡ units) c.closed-in-loop-ledger.ensures (c.if-counts-closed.true ∙ c.units-units.ensures)) in
+    full_is units l.closed counts (subst (λ (k : ℕ). get_or counts k 0 ≡ units) c.closed-in-loop-ledger.ensures (c.if-counts-closed.true ∙ c.unit_count-units.ensures.value)) in
     let first = c.requires.opened l.closed within full in
     let longer = I.opened in
     let more : l.closed < l.opened = omega (arith, first, longer) in
@@ -76,7 +76,7 @@ loop-ledger-preserved c =
     let now = c.closed.ensures in
     let within : l.closed < b.budget = omega (arith, test, now) in
     let full : is_full units counts (suc l.closed) ≡ true =
-    full_is units l.closed counts (subst (λ (k : ℕ). get_or counts k 0 ≡ units) c.closed-in-loop-ledger.ensures (c.if-counts-closed.true ∙ c.units-units.ensures)) in
+    full_is units l.closed counts (subst (λ (k : ℕ). get_or counts k 0 ≡ units) c.closed-in-loop-ledger.ensures (c.if-counts-closed.true ∙ c.unit_count-units.ensures.value)) in
     let first = c.requires.opened l.closed within full in
     let longer = I.opened in
     let more : l.closed < l.opened = omega (arith, first, longer) in

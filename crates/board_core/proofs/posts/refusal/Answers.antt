@@ -16,7 +16,7 @@ returns-in-Some-clause-refused c =
     let o = c.opened-opened.ensures in
     let early = c.if-opened-task.false in
     let within : n ≤ l.opened = omega (arith, o, early) in
-    let inside : u < unit_count b.market = subst (λ (m : ℕ). u < m) c.units-units.ensures c.if-units-task.false in
+    let inside : u < unit_count b.market = subst (λ (m : ℕ). u < m) c.unit_count-units.ensures.value c.if-units-task.false in
     differing (differs_from b u ρ v (own_prices_in l n)) c.in-Some.differs (held_refusal c.args.marks.now c.args.takers.now (task_number (unit_count b.market) n u) c.args.caller) (sym c.content.ensures.differs ∙ c.in-Some.is)
     ∙ sym (past_tests b l c.args.marks.now c.args.takers.now c.args.caller n u ρ v one within inside)
 
@@ -33,8 +33,8 @@ refusal_at-requires-clause-marks c =
     let o = c.opened-opened.ensures in
     let early = c.if-opened-task.false in
     let within : n ≤ l.opened = omega (arith, o, early) in
-    let inside : u < unit_count b.market = subst (λ (m : ℕ). u < m) c.units-units.ensures c.if-units-task.false in
-    let i = c.task_number-at.ensures ∙ ap (λ (m : ℕ). task_number m n u) c.units-units.ensures in
+    let inside : u < unit_count b.market = subst (λ (m : ℕ). u < m) c.unit_count-units.ensures.value c.if-units-task.false in
+    let i = c.task_number-at.ensures ∙ ap (λ (m : ℕ). task_number m n u) c.unit_count-units.ensures.value in
     subst (λ (j : ℕ). j < length c.args.marks.now) (sym i) (c.requires.marks n u one within inside)
 
 pub returns-clause-refused : goal.returns-clause-refused
@@ -50,8 +50,8 @@ returns-clause-refused c =
     let o = c.opened-opened.ensures in
     let early = c.if-opened-task.false in
     let within : n ≤ l.opened = omega (arith, o, early) in
-    let inside : u < unit_count b.market = subst (λ (m : ℕ). u < m) c.units-units.ensures c.if-units-task.false in
-    let i = c.task_number-at.ensures ∙ ap (λ (m : ℕ). task_number m n u) c.units-units.ensures in
+    let inside : u < unit_count b.market = subst (λ (m : ℕ). u < m) c.unit_count-units.ensures.value c.if-units-task.false in
+    let i = c.task_number-at.ensures ∙ ap (λ (m : ℕ). task_number m n u) c.unit_count-units.ensures.value in
     c.refusal_at.ensures ∙ ap (λ (j : ℕ). held_refusal c.args.marks.now c.args.takers.now j c.args.caller) i
     ∙ sym (not_differing (differs_from b u ρ v (own_prices_in l n)) (held_refusal c.args.marks.now c.args.takers.now (task_number (unit_count b.market) n u) c.args.caller) (sym c.content.ensures.differs ∙ c.in_default.is))
     ∙ sym (past_tests b l c.args.marks.now c.args.takers.now c.args.caller n u ρ v one within inside)
@@ -70,8 +70,8 @@ pub returns-then-units-task-clause-refused : goal.returns-then-units-task-clause
 returns-then-units-task-clause-refused c =
     let b = setup_of c.args.terms.now in
     let t = c.args.task.now in
-    no_unit b c.args.ledger.now c.args.marks.now c.args.takers.now c.args.caller t.proposal t.unit (prices_of t.prices) (task_unit t) c.units-units.result
-    (omega (arith, c.if-task-eq0.false)) (omega (arith, c.if-opened-task.false, c.opened-opened.ensures)) c.units-units.ensures c.if-units-task.true
+    no_unit b c.args.ledger.now c.args.marks.now c.args.takers.now c.args.caller t.proposal t.unit (prices_of t.prices) (task_unit t) c.unit_count-units.result
+    (omega (arith, c.if-task-eq0.false)) (omega (arith, c.if-opened-task.false, c.opened-opened.ensures)) c.unit_count-units.ensures.value c.if-units-task.true
 
 pub content-requires-clause-horizon : goal.content-requires-clause-horizon
 content-requires-clause-horizon c = λ d. c.requires.horizon (c.args.task.now.proposal - 1) d (omega (arith, c.if-task-eq0.false, c.if-opened-task.false, c.opened-opened.ensures))

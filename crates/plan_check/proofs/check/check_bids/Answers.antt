@@ -9,16 +9,16 @@ module _ (c : After-get-response) where
   unit_at : slice_get (map named_bid_of c.args.case.now.bids.items) c.loop-place.place ≡ Some (named_bid_of c.get-bid.result.now)
   unit_at = map_item named_bid_of c.args.case.now.bids.items c.loop-place.place c.get-bid.result.now c.get-bid.ensures.item
 
-  whole_at : slice_get (schedules_of c.args.plan.now) ((c.len.result + c.len-2.result) + c.loop-place.place) ≡ Some (schedule_of c.get-response.result.now)
-  whole_at = map_item schedule_of c.args.plan.now.responses.items ((c.len.result + c.len-2.result) + c.loop-place.place) c.get-response.result.now c.get-response.ensures.item
+  whole_at : slice_get (schedules_of c.args.plan.now) (c.producer_count-first.result + c.loop-place.place) ≡ Some (schedule_of c.get-response.result.now)
+  whole_at = map_item schedule_of c.args.plan.now.responses.items (c.producer_count-first.result + c.loop-place.place) c.get-response.result.now c.get-response.ensures.item
 
   plan_at : slice_get (drop (length (map named_thermal_of c.args.case.now.thermal.items) + length (map named_renewable_of c.args.case.now.flat.items)) (schedules_of c.args.plan.now)) c.loop-place.place ≡ Some (schedule_of c.get-response.result.now)
   plan_at =
-      let first_is : (length (map named_thermal_of c.args.case.now.thermal.items) + length (map named_renewable_of c.args.case.now.flat.items)) + c.loop-place.place ≡ (c.len.result + c.len-2.result) + c.loop-place.place = omega (arith, length-map c.args.case.now.thermal.items named_thermal_of, length-map c.args.case.now.flat.items named_renewable_of, c.len.ensures, c.len-2.ensures) in
+      let first_is : (length (map named_thermal_of c.args.case.now.thermal.items) + length (map named_renewable_of c.args.case.now.flat.items)) + c.loop-place.place ≡ c.producer_count-first.result + c.loop-place.place = omega (arith, c.producer_count-first.ensures) in
       drop_item ((length (map named_thermal_of c.args.case.now.thermal.items) + length (map named_renewable_of c.args.case.now.flat.items))) (schedules_of c.args.plan.now) c.loop-place.place ∙ ap (slice_get (schedules_of c.args.plan.now)) first_is ∙ whole_at
 
   lengths : HasLengths c.args.case.now.periods (schedule_of c.get-response.result.now)
-  lengths = item_of (HasLengths c.args.case.now.periods) (schedules_of c.args.plan.now) ((c.len.result + c.len-2.result) + c.loop-place.place) _ c.requires.lengths whole_at
+  lengths = item_of (HasLengths c.args.case.now.periods) (schedules_of c.args.plan.now) (c.producer_count-first.result + c.loop-place.place) _ c.requires.lengths whole_at
 
 pub check_bid-requires-clause-horizon : goal.check_bid-requires-clause-horizon
 check_bid-requires-clause-horizon c =

@@ -9,7 +9,7 @@ take-requires-clause-place c =
     let h = events_of (unit_count b.market) (answers_kept s.store) s.lists.history.items in
     let last = subst (λ (v : Content). c.args.proposal ≤ length (own_rows v)) (sym c.self.view_is) c.requires.last in
     let unit = subst (λ (v : Content). c.args.unit < unit_count v.setup.market) (sym c.self.view_is) c.requires.unit in
-    let i = c.task_number.ensures ∙ ap (λ (m : ℕ). task_number m c.args.proposal c.args.unit) c.units.ensures in
+    let i = c.task_number.ensures ∙ ap (λ (m : ℕ). task_number m c.args.proposal c.args.unit) c.unit_count.ensures.value in
     is_inside s.store c.task_number.result (subst (λ (j : ℕ). j < length (answers_kept s.store)) (sym i) (kept_inside b h _ s.ledger c.self.invariant.0 (c.board_laws.ensures.of b) c.args.proposal c.args.unit c.requires.first last unit))
 
 pub returns-clause-answer : goal.returns-clause-answer
@@ -19,7 +19,7 @@ returns-clause-answer c =
     let h = events_of (unit_count b.market) (answers_kept s.store) s.lists.history.items in
     let last = subst (λ (v : Content). c.args.proposal ≤ length (own_rows v)) (sym c.self.view_is) c.requires.last in
     let unit = subst (λ (v : Content). c.args.unit < unit_count v.setup.market) (sym c.self.view_is) c.requires.unit in
-    let i = c.task_number.ensures ∙ ap (λ (m : ℕ). task_number m c.args.proposal c.args.unit) c.units.ensures in
+    let i = c.task_number.ensures ∙ ap (λ (m : ℕ). task_number m c.args.proposal c.args.unit) c.unit_count.ensures.value in
     let inside = subst (λ (j : ℕ). j < length (answers_kept s.store)) (sym i) (kept_inside b h _ s.ledger c.self.invariant.0 (c.board_laws.ensures.of b) c.args.proposal c.args.unit c.requires.first last unit) in
     ap answer_kept c.take.ensures.answer ∙ kept_at s.store c.task_number.result inside
     ∙ ap (λ (j : ℕ). get_or (answers_kept s.store) j no_answer) i ∙ kept_is b h _ s.ledger c.self.invariant.0 (c.board_laws.ensures.of b) c.args.proposal c.args.unit c.requires.first last unit

@@ -5,7 +5,7 @@ use Rattle.board_core.specs.Tasks.{LeavesTask, IsOwnTask}
 use Rattle.board_core.proofs.Claims.{claim_finished, claim_halted, claim_not_yet, claim_given, price_is, count_within, claimed}
 use Rattle.board_core.proofs.Lemmas.{content, events_more, entries_more, partner, setup_in, events_in, lists_in}
 use Rattle.board_core.proofs.board.Board.claim.Goals as goal
-use Rattle.board_core.proofs.board.Board.claim.Goals.{Then-open-closed, Then-self, After-units-units}
+use Rattle.board_core.proofs.board.Board.claim.Goals.{Then-open-closed, Then-self, After-unit_count-units}
 
 -- what a claim says of the board's content, read off the reply to it
 module _ {b : Setup} {h : List (Event Answer)} {w : Content} {z : ClaimReply} (is : content b h ≡ w) (reply : claim_answer (content b h) ≡ z) where
@@ -35,7 +35,7 @@ halted c =
     claim_halted (setup_in s) (events_in s) (lists_in s) s.ledger c.self.invariant.0 c.board_laws.ensures (omega (arith, o, f, test)) c.if-self.true
 
 -- the numbers of a claim that finds neither a halt nor the end
-module _ (c : After-units-units) where
+module _ (c : After-unit_count-units) where
   abbrev b : Setup
   b = setup_in c.self.inside
 
@@ -63,16 +63,16 @@ module _ (c : After-units-units) where
   running : l.closed < l.opened
   running = let o = c.opened-open.ensures in let f = c.closed.ensures in let test = c.if-open-closed.false in omega (arith, o, f, test)
 
-  before_is : c.len-number.result / c.units-units.result ≡ before
-  before_is = let n : c.len-number.result ≡ length x.takers = omega arith in ap (λ (i : ℕ). i / c.units-units.result) n ∙ ap (λ (i : ℕ). length x.takers / i) c.units-units.ensures
+  before_is : c.len-number.result / c.unit_count-units.result ≡ before
+  before_is = let n : c.len-number.result ≡ length x.takers = omega arith in ap (λ (i : ℕ). i / c.unit_count-units.result) n ∙ ap (λ (i : ℕ). length x.takers / i) c.unit_count-units.ensures.value
 
-  unit_is : c.len-number.result % c.units-units.result ≡ unit
-  unit_is = let n : c.len-number.result ≡ length x.takers = omega arith in ap (λ (i : ℕ). i % c.units-units.result) n ∙ ap (λ (i : ℕ). length x.takers % i) c.units-units.ensures
+  unit_is : c.len-number.result % c.unit_count-units.result ≡ unit
+  unit_is = let n : c.len-number.result ≡ length x.takers = omega arith in ap (λ (i : ℕ). i % c.unit_count-units.result) n ∙ ap (λ (i : ℕ). length x.takers % i) c.unit_count-units.ensures.value
 
-  not_yet : c.opened-open.result ≤ c.len-number.result / c.units-units.result → claim_answer (content b h) ≡ NotYet
+  not_yet : c.opened-open.result ≤ c.len-number.result / c.unit_count-units.result → claim_answer (content b h) ≡ NotYet
   not_yet late = let d = before_is in let o = c.opened-open.ensures in claim_not_yet b h x l I c.board_laws.ensures running c.if-self.false (omega (arith, late, d, o))
 
-  module _ (early : c.len-number.result / c.units-units.result < c.opened-open.result) where
+  module _ (early : c.len-number.result / c.unit_count-units.result < c.opened-open.result) where
     more : before < l.opened
     more = let d = before_is in let o = c.opened-open.ensures in omega (arith, early, d, o)
 
@@ -83,13 +83,13 @@ module _ (c : After-units-units) where
     within = count_within b h x l I c.board_laws.ensures more
 
   abbrev entry : Entry
-  entry = record { caller = c.args.caller; call = calls.Claim; proposal = c.len-number.result / c.units-units.result + 1; unit = c.len-number.result % c.units-units.result; reply = replies.Given }
+  entry = record { caller = c.args.caller; call = calls.Claim; proposal = c.len-number.result / c.unit_count-units.result + 1; unit = c.len-number.result % c.unit_count-units.result; reply = replies.Given }
 
   abbrev event : Event Answer
   event = Given c.args.caller (before + 1) unit
 
   event_is : event_of units x.kept entry ≡ event
-  event_is = ap (λ (i : ℕ). Given c.args.caller (i + 1) (c.len-number.result % c.units-units.result)) before_is ∙ ap (Given c.args.caller (before + 1)) unit_is
+  event_is = ap (λ (i : ℕ). Given c.args.caller (i + 1) (c.len-number.result % c.unit_count-units.result)) before_is ∙ ap (Given c.args.caller (before + 1)) unit_is
 
   events_are : (entries : List Entry) → entries ≡ c.self.inside.lists.history.items ++ entry ∷ [] → events_of units x.kept entries ≡ h ++ event ∷ []
   events_are entries longer = events_more units x.kept c.self.inside.lists.history.items entries entry longer ∙ ap (λ (e : Event Answer). h ++ e ∷ []) event_is
@@ -113,38 +113,38 @@ pub returns-then-self-clause-task : goal.returns-then-self-clause-task
 returns-then-self-clause-task c = left c.self.view_is (halted (goal.at.returns-then-self-clause-task c).Then-self) c.args.into.now c.args.into.now refl
 
 pub returns-then-open-before-clause-answer : goal.returns-then-open-before-clause-answer
-returns-then-open-before-clause-answer c = answered c.self.view_is (not_yet (goal.at.returns-then-open-before-clause-answer c).After-units-units c.if-open-before.true)
+returns-then-open-before-clause-answer c = answered c.self.view_is (not_yet (goal.at.returns-then-open-before-clause-answer c).After-unit_count-units c.if-open-before.true)
 
 pub returns-then-open-before-clause-after : goal.returns-then-open-before-clause-after
-returns-then-open-before-clause-after c = sym c.self.view_is ∙ followed c.self.view_is (not_yet (goal.at.returns-then-open-before-clause-after c).After-units-units c.if-open-before.true) c.args.caller
+returns-then-open-before-clause-after c = sym c.self.view_is ∙ followed c.self.view_is (not_yet (goal.at.returns-then-open-before-clause-after c).After-unit_count-units c.if-open-before.true) c.args.caller
 
 pub returns-then-open-before-clause-task : goal.returns-then-open-before-clause-task
-returns-then-open-before-clause-task c = left c.self.view_is (not_yet (goal.at.returns-then-open-before-clause-task c).After-units-units c.if-open-before.true) c.args.into.now c.args.into.now refl
+returns-then-open-before-clause-task c = left c.self.view_is (not_yet (goal.at.returns-then-open-before-clause-task c).After-unit_count-units c.if-open-before.true) c.args.into.now c.args.into.now refl
 
 pub copy_task-requires-clause-horizon : goal.copy_task-requires-clause-horizon
 copy_task-requires-clause-horizon c =
-    let ledger = (I (goal.at.copy_task-requires-clause-horizon c).After-units-units).ledger in
+    let ledger = (I (goal.at.copy_task-requires-clause-horizon c).After-unit_count-units).ledger in
     let o = c.opened-open.ensures in
     let early = c.if-open-before.false in
     let count = ledger.count in
     let most = ledger.opened in
-    ap (λ (π : PriceLists). length π.energy) (c.prices-prices.ensures (blank 0)) ∙ ledger.horizon (c.len-number.result / c.units-units.result) (blank 0) (omega (arith, early, o, count, most))
+    ap (λ (π : PriceLists). length π.energy) (c.prices-prices.ensures (blank 0)) ∙ ledger.horizon (c.len-number.result / c.unit_count-units.result) (blank 0) (omega (arith, early, o, count, most))
 
 pub push_reserved-requires : goal.push_reserved-requires
 push_reserved-requires c =
-    let w = within (goal.at.push_reserved-requires c).After-units-units c.if-open-before.false in
+    let w = within (goal.at.push_reserved-requires c).After-unit_count-units c.if-open-before.false in
     let room = c.self.invariant.1.takers_room in
     omega (arith, w, room)
 
 pub push_reserved-requires-2 : goal.push_reserved-requires-2
 push_reserved-requires-2 c =
-    let w = within (goal.at.push_reserved-requires-2 c).After-units-units c.if-open-before.false in
+    let w = within (goal.at.push_reserved-requires-2 c).After-unit_count-units c.if-open-before.false in
     let room = c.self.invariant.1.room in
     omega (arith, w, room)
 
 pub invariant_of-self : goal.invariant_of-self
 invariant_of-self c =
-    let d = (goal.at.invariant_of-self c).After-units-units in
+    let d = (goal.at.invariant_of-self c).After-unit_count-units in
     let s = c.self.inside in
     let k = c.args.caller in
     let K = c.self.invariant.1 in
@@ -173,16 +173,16 @@ invariant_of-self c =
     )
 
 pub returns-clause-answer : goal.returns-clause-answer
-returns-clause-answer c = answered c.self.view_is (given (goal.at.returns-clause-answer c).After-units-units c.if-open-before.false)
+returns-clause-answer c = answered c.self.view_is (given (goal.at.returns-clause-answer c).After-unit_count-units c.if-open-before.false)
 
 pub returns-clause-after : goal.returns-clause-after
 returns-clause-after c =
-    let d = (goal.at.returns-clause-after c).After-units-units in
+    let d = (goal.at.returns-clause-after c).After-unit_count-units in
     ap (content (b d)) (events_are d c.push_reserved-2.new.self.items c.push_reserved-2.ensures.items) ∙ followed c.self.view_is (given d c.if-open-before.false) c.args.caller
 
 pub returns-clause-task : goal.returns-clause-task
 returns-clause-task c =
-    let d = (goal.at.returns-clause-task c).After-units-units in
+    let d = (goal.at.returns-clause-task c).After-unit_count-units in
     let b = setup_in c.self.inside in
     let early = c.if-open-before.false in
     let task = c.copy_task.new.into in

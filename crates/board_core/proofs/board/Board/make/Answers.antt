@@ -11,13 +11,13 @@ few : (b : Setup) (S : IsSetup b) (units : ℕ) → units ≡ unit_count b.marke
 few b S units is = rw is (within (b.budget * unit_count b.market) b.market.periods S.market.horizon.at_least S.size)
 
 pub no_events-requires-clause-tasks : goal.no_events-requires-clause-tasks
-no_events-requires-clause-tasks c = few (setup_for c.args.case c.args.plan c.args.cost c.args.budget c.args.ahead c.args.callers) c.requires c.units.result c.units.ensures
+no_events-requires-clause-tasks c = few (setup_for c.args.case c.args.plan c.args.cost c.args.budget c.args.ahead c.args.callers) c.requires c.unit_count.result c.unit_count.ensures.value
 
 pub make-requires-2-clause-few : goal.make-requires-2-clause-few
-make-requires-2-clause-few c = few (setup_for c.args.case c.args.plan c.args.cost c.args.budget c.args.ahead c.args.callers) c.requires c.units.result c.units.ensures
+make-requires-2-clause-few c = few (setup_for c.args.case c.args.plan c.args.cost c.args.budget c.args.ahead c.args.callers) c.requires c.unit_count.result c.unit_count.ensures.value
 
 pub make-requires-2-clause-size : goal.make-requires-2-clause-size
-make-requires-2-clause-size c = rw c.units.ensures c.requires.size
+make-requires-2-clause-size c = rw c.unit_count.ensures.value c.requires.size
 
 pub open_ledger-requires-clause-horizon : goal.open_ledger-requires-clause-horizon
 open_ledger-requires-clause-horizon c = c.in_ok-room.ensures.next
@@ -37,7 +37,7 @@ invariant_of-result c =
     let O = subst (IsOpened start b.budget (min b.budget b.ahead)) (sym is) (opened start b.budget (min b.budget b.ahead) (omega arith)) in
     let x = c.in_ok-lists.lists in
     let E = c.in_ok-lists.ensures in
-    let tasks : b.budget * c.units.result ≡ task_count b = ap (λ (n : ℕ). b.budget * n) c.units.ensures in
+    let tasks : b.budget * c.unit_count.result ≡ task_count b = ap (λ (n : ℕ). b.budget * n) c.unit_count.ensures.value in
     let kept = answers_kept c.in_ok-store.store in
     let new = starts b (c.board_laws.ensures.of b) c.requires l O kept (as_many c.in_ok-store.store ∙ c.in_ok-store.ensures.count ∙ tasks) in
     let e1 : x.marks.items ≡ replicate (task_count b) false = E.marks ∙ ap (λ (n : ℕ). replicate n false) tasks in

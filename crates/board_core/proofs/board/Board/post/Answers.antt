@@ -10,7 +10,7 @@ use Rattle.board_core.proofs.board.Board.post.Goals as goal
 use Rattle.board_core.proofs.board.Board.post.Goals.{In-Some, In_default, After-task_number-at, After-put, After-add, After-deref-3}
 
 number_is : (c : After-task_number-at) → c.task_number-at.result ≡ task_number (unit_count (setup_in c.self.inside).market) c.args.task.now.proposal c.args.task.now.unit
-number_is c = c.task_number-at.ensures ∙ ap (λ (m : ℕ). task_number m c.args.task.now.proposal c.args.task.now.unit) c.units-units.ensures
+number_is c = c.task_number-at.ensures ∙ ap (λ (m : ℕ). task_number m c.args.task.now.proposal c.args.task.now.unit) c.unit_count-units.ensures.value
 
 kept_is : (c : After-put) (i : ℕ) → c.task_number-at.result ≡ i → answers_kept c.put.new.self ≡ set (answers_kept c.self.inside.store) i (answer_of c.args.answer.now)
 kept_is c i at_ = put_kept c.self.inside.store c.put.new.self c.task_number-at.result (kept_of c.args.answer.now) c.put.ensures.answers ∙ ap (λ (j : ℕ). set (answers_kept c.self.inside.store) j (answer_of c.args.answer.now)) at_
@@ -209,12 +209,12 @@ task_number-at-requires-clause-proposals c =
 pub task_number-at-requires-clause-units : goal.task_number-at-requires-clause-units
 task_number-at-requires-clause-units c =
     let d = (goal.at.task_number-at-requires-clause-units c).In_default in
-    subst (λ (m : ℕ). m ≤ MOST_UNITS) (sym c.units-units.ensures) (units_few (b d) (I d).setup)
+    subst (λ (m : ℕ). m ≤ MOST_UNITS) (sym c.unit_count-units.ensures.value) (units_few (b d) (I d).setup)
 
 pub task_number-at-requires-clause-inside : goal.task_number-at-requires-clause-inside
 task_number-at-requires-clause-inside c =
     let d = (goal.at.task_number-at-requires-clause-inside c).In_default in
-    subst (λ (m : ℕ). u d < m) (sym c.units-units.ensures) (ok d).held.inside
+    subst (λ (m : ℕ). u d < m) (sym c.unit_count-units.ensures.value) (ok d).held.inside
 
 pub index_mut-requires : goal.index_mut-requires
 index_mut-requires c =
@@ -336,7 +336,7 @@ invariant_of-self-2 c =
     let l3 = c.advance.new.ledger in
     let kept : answers_kept c.put.new.self ≡ set (answers_kept s.store) (i d) (a d) = kept_is (goal.at.invariant_of-self-2 c).After-put (i d) at_ in
     let marks_is : set s.lists.marks.items c.task_number-at.result true ≡ set s.lists.marks.items (i d) true = ap (λ (j : ℕ). set s.lists.marks.items j true) at_ in
-    let events = events_so d c.count_up.result c.units-units.result c.count_up.ensures.count c.units-units.ensures c.post_entry.result c.push_reserved.new.self.items (answers_kept c.put.new.self) c.post_entry.ensures c.push_reserved.ensures.items kept in
+    let events = events_so d c.count_up.result c.unit_count-units.result c.count_up.ensures.count c.unit_count-units.ensures.value c.post_entry.result c.push_reserved.new.self.items (answers_kept c.put.new.self) c.post_entry.ensures c.push_reserved.ensures.items kept in
     let T3 = subst (λ (z : Sums). AreTallies (b d) (counts2 d) z (q d)) (sym c.advance.ensures.sums) T in
     let R3 = subst (λ (xs : List ℕ). IsRound (b d) (units d) xs (sums_of l3) (fronts_of l3)) cs c.advance.ensures.round in
     let done : l3.closed < (b d).budget → is_full (units d) (counts2 d) (suc l3.closed) ≡ false = λ lt. subst (λ (xs : List ℕ). is_full (units d) xs (suc l3.closed) ≡ false) cs (c.advance.ensures.done lt) in
@@ -351,7 +351,7 @@ invariant_of-self-2 c =
     let room = K.room in
     let longer = ap (λ (xs : List Entry). length xs) c.push_reserved.ensures.items in
     let entry_same : c.post_entry.result ≡ entry_of (event d) =
-    c.post_entry.ensures ∙ ap (λ (y : Bool). record { caller = k d; call = calls.Post; proposal = n d; unit = u d; reply = reply_of y }) (closes_so d c.count_up.result c.units-units.result c.count_up.ensures.count c.units-units.ensures) ∙ sym (entry_is (is_closed (rules_of (b d)) (q d) (n d)) (k d) (n d) (u d) (a d)) in (
+    c.post_entry.ensures ∙ ap (λ (y : Bool). record { caller = k d; call = calls.Post; proposal = n d; unit = u d; reply = reply_of y }) (closes_so d c.count_up.result c.unit_count-units.result c.count_up.ensures.count c.unit_count-units.ensures.value) ∙ sym (entry_is (is_closed (rules_of (b d)) (q d) (n d)) (k d) (n d) (u d) (a d)) in (
       n4,
       record {
         room = omega (arith, room, fewer, longer, unset_at, length-append s.lists.history.items (c.post_entry.result ∷ []), c.push_reserved.ensures.capacity);
@@ -366,12 +366,12 @@ invariant_of-self-2 c =
 pub returns-clause-answer : goal.returns-clause-answer
 returns-clause-answer c =
     let d = (goal.at.returns-clause-answer c).In_default in
-    ap (λ (y : Option ℕ). replies_of.Taken y) (c.closed_of.ensures ∙ ap (λ (y : Bool). closed_if y (n d)) (closes_so d c.count_up.result c.units-units.result c.count_up.ensures.count c.units-units.ensures))
+    ap (λ (y : Option ℕ). replies_of.Taken y) (c.closed_of.ensures ∙ ap (λ (y : Bool). closed_if y (n d)) (closes_so d c.count_up.result c.unit_count-units.result c.count_up.ensures.count c.unit_count-units.ensures.value))
     ∙ sym (ap posted_of (ok d).reply) ∙ ap (λ (z : Content). posted_of (post_answer z (k d) (n d) (u d) (ρ d) (v d) (a d))) c.self.view_is
 
 pub returns-clause-after : goal.returns-clause-after
 returns-clause-after c =
     let d = (goal.at.returns-clause-after c).In_default in
     let kept = kept_is (goal.at.returns-clause-after c).After-put (i d) (number_is (goal.at.returns-clause-after c).After-task_number-at) in
-    let events = events_so d c.count_up.result c.units-units.result c.count_up.ensures.count c.units-units.ensures c.post_entry.result c.push_reserved.new.self.items (answers_kept c.put.new.self) c.post_entry.ensures c.push_reserved.ensures.items kept in
+    let events = events_so d c.count_up.result c.unit_count-units.result c.count_up.ensures.count c.unit_count-units.ensures.value c.post_entry.result c.push_reserved.new.self.items (answers_kept c.put.new.self) c.post_entry.ensures c.push_reserved.ensures.items kept in
     ap (content (b d)) events ∙ sym (ap (λ r. content (b d) (with_answer (h d) (event d) r)) (ok d).reply) ∙ ap (λ (z : Content). after_post z (k d) (n d) (u d) (ρ d) (v d) (a d)) c.self.view_is
